@@ -1,1 +1,2 @@
 pub mod Condacts
+pub mod Piece

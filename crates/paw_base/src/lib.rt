@@ -3,4 +3,5 @@
 
 pub mod fault;
 pub mod parts;
+pub mod piece;
 pub mod rows;

@@ -1,0 +1,70 @@
+// The text of a piece.
+
+ghost use Rattle.std.specs.Prelude.{◌≡◌, ◌≤◌, [], IfOk, false, length};
+ghost use Rattle.paw_base.specs.Piece.{Puts};
+
+use crate::fault::NoRoom;
+use std::alloc::Global;
+use std::marker::Model;
+
+/// The most bytes that a piece may hold.
+pub const PIECE_LIMIT: usize = 65_535;
+
+/// What is shown between two prompts: a text of at most 65,535 bytes. It takes all its memory when it is made.
+#[derive(Drop)]
+pub struct Piece {
+    text: Vec<u8>,
+}
+
+impl Model for Piece {
+    ghost use Rattle.std.specs.Prelude.{◌≤◌, List, ℕ, length, vec_capacity};
+    ghost use Rattle.paw_base.specs.declared.piece.TheConstants.{PIECE_LIMIT};
+
+    ghost Value = { List ℕ };
+
+    ghost view = { λ p. p.text.items };
+
+    ghost invariant = { λ p. (length p.text.items ≤ PIECE_LIMIT) × (PIECE_LIMIT ≤ vec_capacity p.text) };
+}
+
+impl Piece {
+    /// An empty piece.
+    ///
+    /// # Errors
+    /// NoRoom where there is no memory for a whole piece.
+    pub fn new(alloc: Global) -> Result<Piece, NoRoom>
+        ensures { IfOk result (λ piece. piece ≡ []) }
+    {
+        let text = Vec::with_capacity(alloc, PIECE_LIMIT)?;
+        Ok(Piece { text })
+    }
+
+    /// Adds these bytes at the end and answers true. Where the piece would pass 65,535 bytes, it answers false, and
+    /// the piece is unchanged.
+    pub fn push(&mut self, bytes: &[u8]) -> bool
+        ensures puts { Puts self.old self.new result bytes.now }
+        ensures unchanged { result ≡ false → self.new ≡ self.old }
+    {
+        if bytes.len() > PIECE_LIMIT - self.text.len() {
+            return false;
+        }
+        // The memory was taken by `new`.
+        self.text.extend_from_slice(bytes).unwrap();
+        true
+    }
+
+    /// Takes all bytes out.
+    pub fn clear(&mut self)
+        ensures { self.new ≡ [] }
+    {
+        self.text.clear();
+    }
+
+    /// The bytes, of which there are at most 65,535.
+    pub fn bytes(&self) -> &[u8]
+        ensures value { result.now ≡ self.now }
+        ensures fits { length self.now ≤ PIECE_LIMIT }
+    {
+        self.text.as_slice()
+    }
+}
