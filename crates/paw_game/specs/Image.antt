@@ -1,0 +1,81 @@
+-- The image of a game: the bytes that stand for it in a file. Numbers of two bytes have the low one first.
+use Rattle.std.specs.Prelude.{ℕ, suc, ◌+◌, ◌*◌, Bool, true, false, List, [], ◌∷◌, ◌++◌, length, map, flat_map, zip, if◌then◌else◌}
+use Rattle.std.specs.Int.{w16, to_le_bytes}
+use Rattle.paw_base.specs.declared.parts.Condact.{Condact}
+use Rattle.paw_base.specs.declared.rows.ParamKind.{ParamKind}
+use Rattle.paw_base.specs.declared.rows.ParamKind.TheVariants as kind
+use Rattle.paw_base.specs.Condacts.{first_kind, second_kind}
+use Rattle.paw_game.specs.declared.parts.Word.{Word}
+use Rattle.paw_game.specs.declared.parts.ObjectRow.{ObjectRow}
+use Rattle.paw_game.specs.declared.parts.Exit.{Exit}
+use Rattle.paw_game.specs.declared.parts.Entry.{Entry}
+use Rattle.paw_game.specs.Game.{GameLists}
+
+-- a number of two bytes
+abbrev pub two_bytes : ℕ → List ℕ
+two_bytes n = to_le_bytes w16 n
+
+-- the mark PAWI, version 1, and how many words, system messages, messages, objects, locations and tables follow
+abbrev pub head_image : GameLists → List ℕ
+head_image g =
+    80 ∷ 65 ∷ 87 ∷ 73 ∷ 1 ∷ (two_bytes (length g.words) ++ two_bytes (length g.system) ++ two_bytes (length g.messages)
+    ++ two_bytes (length g.objects) ++ two_bytes (length g.locations) ++ two_bytes (length g.tables))
+
+-- five letters, value, class
+abbrev pub word_image : Word → List ℕ
+word_image w = w.letters ++ w.value ∷ w.class ∷ []
+
+-- a length of two bytes, and the text
+abbrev pub text_image : List ℕ → List ℕ
+text_image bytes = two_bytes (length bytes) ++ bytes
+
+-- bits 0 to 5 are the weight, bit 6 tells a container, bit 7 that it may be worn
+abbrev pub weight_byte : ℕ → Bool → Bool → ℕ
+weight_byte weight container wearable = weight + (if container then 64 else 0) + (if wearable then 128 else 0)
+
+-- text, noun, adjective, first place, weight
+abbrev pub object_image : ObjectRow → List ℕ
+object_image o =
+    text_image o.text ++ o.facts.noun ∷ o.facts.adjective ∷ o.facts.start
+    ∷ weight_byte o.facts.weight o.facts.container o.facts.wearable ∷ []
+
+abbrev pub exit_image : Exit → List ℕ
+exit_image x = x.verb ∷ x.to ∷ []
+
+-- how many exits, and each
+abbrev pub exits_image : List Exit → List ℕ
+exits_image xs = length xs ∷ flat_map exit_image xs
+
+-- a parameter that the code has takes one byte, another none
+abbrev pub parameter_image : ParamKind → ℕ → List ℕ
+parameter_image kind.Absent x = []
+parameter_image kind.Location x = x ∷ []
+parameter_image kind.Place x = x ∷ []
+parameter_image kind.Object x = x ∷ []
+parameter_image kind.Flag x = x ∷ []
+parameter_image kind.Number x = x ∷ []
+parameter_image kind.Message x = x ∷ []
+parameter_image kind.System x = x ∷ []
+parameter_image kind.Table x = x ∷ []
+parameter_image kind.Adverb x = x ∷ []
+parameter_image kind.Noun x = x ∷ []
+parameter_image kind.Adjective x = x ∷ []
+parameter_image kind.Preposition x = x ∷ []
+
+abbrev pub condact_image : Condact → List ℕ
+condact_image c = c.code ∷ (parameter_image (first_kind c.code) c.a ++ parameter_image (second_kind c.code) c.b)
+
+-- verb, noun, how many condacts, and each
+abbrev pub entry_image : Entry → List ℕ
+entry_image e = e.verb ∷ e.noun ∷ length e.condacts ∷ flat_map condact_image e.condacts
+
+-- how many entries, and each
+abbrev pub table_image : List Entry → List ℕ
+table_image es = two_bytes (length es) ++ flat_map entry_image es
+
+-- words, system messages, messages, objects, locations, exits and tables follow one another
+abbrev pub image : GameLists → List ℕ
+image g =
+    head_image g ++ flat_map word_image g.words ++ flat_map text_image g.system ++ flat_map text_image g.messages
+    ++ flat_map object_image g.objects ++ flat_map text_image g.locations ++ flat_map exits_image g.exits
+    ++ flat_map table_image g.tables

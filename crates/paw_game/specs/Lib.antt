@@ -1,0 +1,4 @@
+pub mod Game
+pub mod Valid
+pub mod Image
+pub mod Tables

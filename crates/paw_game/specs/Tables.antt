@@ -1,0 +1,111 @@
+-- What a game's lists hold at a number.
+use Rattle.std.specs.Prelude.{ℕ, zero, suc, ◌+◌, ◌==◌, ◌&&◌, ◌||◌, Bool, true, false, List, [], ◌∷◌, length, Option, Some, None, slice_get, find, drop, nat_lt, if◌then◌else◌}
+use Rattle.std.specs.Option.{option_and_then}
+use Rattle.std.specs.Str.{bytes_eq}
+use Rattle.paw_base.specs.declared.parts.Condact.{Condact}
+use Rattle.paw_base.specs.declared.parts.ObjectFacts.{ObjectFacts}
+use Rattle.paw_base.specs.declared.parts.Counts.{Counts}
+use Rattle.paw_game.specs.declared.parts.Word.{Word}
+use Rattle.paw_game.specs.declared.parts.ObjectRow.{ObjectRow}
+use Rattle.paw_game.specs.declared.parts.Exit.{Exit}
+use Rattle.paw_game.specs.declared.parts.Entry.{Entry}
+use Rattle.paw_game.specs.declared.parts.GamePart.{GamePart}
+use Rattle.paw_game.specs.declared.parts.GamePart.TheVariants as part
+use Rattle.paw_game.specs.Game.{GameLists}
+
+-- the list, or none
+abbrev pub or_empty : {A : Type 0} → Option (List A) → List A
+or_empty None = []
+or_empty (Some xs) = xs
+
+abbrev pub counts_of : GameLists → Counts
+counts_of g = record {
+  words = length g.words;
+  system = length g.system;
+  messages = length g.messages;
+  objects = length g.objects;
+  locations = length g.locations;
+  tables = length g.tables;
+}
+
+abbrev pub facts_of : Option ObjectRow → Option ObjectFacts
+facts_of None = None
+facts_of (Some o) = Some o.facts
+
+-- the facts of an object
+abbrev pub facts_at : GameLists → ℕ → Option ObjectFacts
+facts_at g o = facts_of (slice_get g.objects o)
+
+abbrev pub text_of : Option ObjectRow → Option (List ℕ)
+text_of None = None
+text_of (Some o) = Some o.text
+
+-- a text of one of the parts that have texts
+abbrev pub text_at : GameLists → GamePart → ℕ → Option (List ℕ)
+text_at g part.Words n = None
+text_at g part.System n = slice_get g.system n
+text_at g part.Messages n = slice_get g.messages n
+text_at g part.Objects n = text_of (slice_get g.objects n)
+text_at g part.Locations n = slice_get g.locations n
+text_at g part.Exits n = None
+text_at g part.Tables n = None
+
+-- where the exit of this verb leads; no two exits of a location have the same verb
+abbrev pub exit_of : List Exit → ℕ → Option ℕ
+exit_of [] verb = None
+exit_of (x ∷ xs) verb = if x.verb == verb then Some x.to else exit_of xs verb
+
+abbrev pub exit_at : GameLists → ℕ → ℕ → Option ℕ
+exit_at g location verb = exit_of (or_empty (slice_get g.exits location)) verb
+
+-- a table's entries; none where there is no such table
+abbrev pub table_at : GameLists → ℕ → List Entry
+table_at g t = or_empty (slice_get g.tables t)
+
+abbrev pub entry_at : GameLists → ℕ → ℕ → Option Entry
+entry_at g t e = slice_get (table_at g t) e
+
+abbrev pub condacts_of : Option Entry → List Condact
+condacts_of None = []
+condacts_of (Some e) = e.condacts
+
+abbrev pub head_of : Option Entry → Option (ℕ × ℕ)
+head_of None = None
+head_of (Some e) = Some (record { 0 = e.verb; 1 = e.noun })
+
+-- the verb and the noun of an entry
+abbrev pub head_at : GameLists → ℕ → ℕ → Option (ℕ × ℕ)
+head_at g t e = head_of (entry_at g t e)
+
+abbrev pub condact_at : GameLists → ℕ → ℕ → ℕ → Option Condact
+condact_at g t e k = slice_get (condacts_of (entry_at g t e)) k
+
+-- an entry's word matches: 1 and 255 match any
+abbrev pub is_for : ℕ → ℕ → Bool
+is_for word flag = (word == 1) || ((word == 255) || (word == flag))
+
+-- an entry matches these values of the verb and the noun
+abbrev pub matches : ℕ → ℕ → Entry → Bool
+matches verb noun e = is_for e.verb verb && is_for e.noun noun
+
+-- of these entries, numbered from e on, the first that matches
+abbrev pub first_match : ℕ → ℕ → ℕ → List Entry → Option ℕ
+first_match verb noun e [] = None
+first_match verb noun e (en ∷ es) = if matches verb noun en then Some e else first_match verb noun (suc e) es
+
+-- the least matching entry of a table that isn't below from
+abbrev pub match_at : GameLists → ℕ → ℕ → ℕ → ℕ → Option ℕ
+match_at g t from verb noun = first_match verb noun from (drop from (table_at g t))
+
+-- the word with these letters; no two words have the same
+abbrev pub word_of : List ℕ → List Word → Option Word
+word_of letters [] = None
+word_of letters (w ∷ ws) = if bytes_eq w.letters letters then Some w else word_of letters ws
+
+abbrev pub meaning_of : Option Word → Option (ℕ × ℕ)
+meaning_of None = None
+meaning_of (Some w) = Some (record { 0 = w.value; 1 = w.class })
+
+-- the value and the class of the word with these letters
+abbrev pub word_at : GameLists → List ℕ → Option (ℕ × ℕ)
+word_at g letters = meaning_of (word_of letters g.words)

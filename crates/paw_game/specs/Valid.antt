@@ -1,0 +1,164 @@
+-- The rules that a game's lists keep.
+use Rattle.std.specs.Prelude.{ℕ, suc, ◌+◌, ◌==◌, ◌&&◌, ◌||◌, Bool, true, false, not, List, [], ◌∷◌, length, nat_lt, nat_le, IsTrue, if◌then◌else◌}
+use Rattle.std.specs.List.{list_all, list_any}
+use Rattle.std.specs.Ordering.{nat_cmp}
+use Rattle.std.specs.Cmp.Lexicographic.{slice_cmp}
+use Rattle.std.specs.declared.cmp.Ordering.{Ordering}
+use Rattle.std.specs.declared.cmp.Ordering.TheVariants.{Less, Equal, Greater}
+use Rattle.paw_base.specs.declared.parts.Condact.{Condact}
+use Rattle.paw_base.specs.declared.rows.ParamKind.{ParamKind}
+use Rattle.paw_base.specs.declared.rows.ParamKind.TheVariants as kind
+use Rattle.paw_base.specs.Condacts.{first_kind, second_kind}
+use Rattle.paw_game.specs.declared.parts.Word.{Word}
+use Rattle.paw_game.specs.declared.parts.ObjectRow.{ObjectRow}
+use Rattle.paw_game.specs.declared.parts.Exit.{Exit}
+use Rattle.paw_game.specs.declared.parts.Entry.{Entry}
+use Rattle.paw_game.specs.Game.{GameLists}
+
+-- from one number to another, both included
+abbrev pub is_within : ℕ → ℕ → ℕ → Bool
+is_within low high n = nat_le low n && nat_le n high
+
+-- ---- words ----
+
+-- a capital or a digit
+abbrev pub is_letter : ℕ → Bool
+is_letter c = is_within 65 90 c || is_within 48 57 c
+
+-- capitals and digits, and then spaces alone
+abbrev pub is_filled : List ℕ → Bool
+is_filled [] = true
+is_filled (c ∷ cs) = if is_letter c then is_filled cs else list_all (λ d. d == 32) (c ∷ cs)
+
+-- five places, the first a letter, filled up with spaces
+abbrev pub are_letters : List ℕ → Bool
+are_letters [] = false
+are_letters (c ∷ cs) = (length (c ∷ cs) == 5) && (is_letter c && is_filled cs)
+
+-- a word by itself: its letters, a value from 2 to 254, a class from 0 to 6
+abbrev pub is_word : Word → Bool
+is_word w = are_letters w.letters && (is_within 2 254 w.value && nat_le w.class 6)
+
+abbrev pub is_less : Ordering → Bool
+is_less Less = true
+is_less Equal = false
+is_less Greater = false
+
+-- the words rise by their letters, byte by byte; so no two have the same letters
+abbrev pub words_rise : List Word → Bool
+words_rise [] = true
+words_rise (w ∷ []) = true
+words_rise (w ∷ v ∷ ws) = is_less (slice_cmp nat_cmp w.letters v.letters) && words_rise (v ∷ ws)
+
+abbrev pub words_kept : List Word → Bool
+words_kept ws = nat_le (length ws) 2000 && (list_all is_word ws && words_rise ws)
+
+-- a word of this class has this value
+abbrev pub has_word : List Word → ℕ → ℕ → Bool
+has_word ws class value = list_any (λ w. (w.class == class) && (w.value == value)) ws
+
+-- the value of a verb, or of a noun below 20
+abbrev pub is_verb_value : List Word → ℕ → Bool
+is_verb_value ws value = has_word ws 0 value || (nat_lt value 20 && has_word ws 2 value)
+
+-- ---- texts ----
+
+-- bytes that print and line ends, where no line begins with '/' or ';'; first tells that a line begins here
+abbrev pub is_printed : Bool → List ℕ → Bool
+is_printed first [] = true
+is_printed first (b ∷ bs) =
+    ((is_within 32 126 b || (b == 10)) && not (first && ((b == 47) || (b == 59)))) && is_printed (b == 10) bs
+
+-- a text has at most 4,095 bytes
+abbrev pub is_text : List ℕ → Bool
+is_text bytes = nat_le (length bytes) 4095 && is_printed true bytes
+
+abbrev pub texts_kept : ℕ → List (List ℕ) → Bool
+texts_kept most texts = nat_le (length texts) most && list_all is_text texts
+
+-- ---- places, objects, exits ----
+
+-- where an object may stand: a location, or not created (252), worn (253), carried (254)
+abbrev pub is_place : ℕ → ℕ → Bool
+is_place locations p = nat_lt p locations || is_within 252 254 p
+
+-- 255, or the value of a word of this class
+abbrev pub is_word_or_none : List Word → ℕ → ℕ → Bool
+is_word_or_none ws class value = (value == 255) || has_word ws class value
+
+abbrev pub is_object : List Word → ℕ → ObjectRow → Bool
+is_object ws locations o =
+    is_text o.text && (is_word_or_none ws 2 o.facts.noun && (is_word_or_none ws 3 o.facts.adjective
+    && (is_place locations o.facts.start && nat_le o.facts.weight 63)))
+
+abbrev pub objects_kept : List Word → ℕ → List ObjectRow → Bool
+objects_kept ws locations os = nat_le (length os) 255 && list_all (is_object ws locations) os
+
+-- 1 to 252 locations
+abbrev pub locations_kept : List (List ℕ) → Bool
+locations_kept ls = nat_le 1 (length ls) && texts_kept 252 ls
+
+-- each exit has a verb value that no exit after it has, and leads to a location
+abbrev pub are_exits : List Word → ℕ → List Exit → Bool
+are_exits ws locations [] = true
+are_exits ws locations (x ∷ xs) =
+    (is_verb_value ws x.verb && (nat_lt x.to locations && not (list_any (λ y. y.verb == x.verb) xs)))
+    && are_exits ws locations xs
+
+-- the exits of one location: at most 255, which distinct verb values give anyhow
+abbrev pub is_exits : List Word → ℕ → List Exit → Bool
+is_exits ws locations xs = nat_le (length xs) 255 && are_exits ws locations xs
+
+-- one list for each location
+abbrev pub exits_kept : List Word → ℕ → List (List Exit) → Bool
+exits_kept ws locations es = (length es == locations) && list_all (is_exits ws locations) es
+
+-- ---- tables ----
+
+-- a parameter keeps the rule of its kind
+abbrev pub is_parameter : GameLists → ParamKind → ℕ → Bool
+is_parameter g kind.Absent x = x == 0
+is_parameter g kind.Location x = nat_lt x (length g.locations)
+is_parameter g kind.Place x = nat_lt x (length g.locations) || is_within 252 255 x
+is_parameter g kind.Object x = nat_lt x (length g.objects)
+is_parameter g kind.Flag x = nat_lt x 256
+is_parameter g kind.Number x = nat_lt x 256
+is_parameter g kind.Message x = nat_lt x (length g.messages)
+is_parameter g kind.System x = nat_lt x (length g.system)
+is_parameter g kind.Table x = nat_lt x (length g.tables)
+is_parameter g kind.Adverb x = is_word_or_none g.words 1 x
+is_parameter g kind.Noun x = is_word_or_none g.words 2 x
+is_parameter g kind.Adjective x = is_word_or_none g.words 3 x
+is_parameter g kind.Preposition x = is_word_or_none g.words 4 x
+
+-- a condact: a code from 0 to 107, and the parameters that it has; one that it doesn't have is 0
+abbrev pub is_condact : GameLists → Condact → Bool
+is_condact g c = nat_le c.code 107 && (is_parameter g (first_kind c.code) c.a && is_parameter g (second_kind c.code) c.b)
+
+-- a word of an entry: 1 and 255 match any
+abbrev pub is_any : ℕ → Bool
+is_any value = (value == 1) || (value == 255)
+
+abbrev pub is_entry : GameLists → Entry → Bool
+is_entry g e =
+    (is_any e.verb || is_verb_value g.words e.verb) && ((is_any e.noun || has_word g.words 2 e.noun)
+    && (nat_le (length e.condacts) 255 && list_all (is_condact g) e.condacts))
+
+abbrev pub is_table : GameLists → List Entry → Bool
+is_table g es = nat_le (length es) 4000 && list_all (is_entry g) es
+
+-- 3 to 256 tables
+abbrev pub tables_kept : GameLists → Bool
+tables_kept g = is_within 3 256 (length g.tables) && list_all (is_table g) g.tables
+
+-- ---- the whole game ----
+
+-- a valid game: each of its lists keeps its rules
+pub record Valid (g : GameLists) : Type 0 where
+  pub words : IsTrue (words_kept g.words)
+  pub system : IsTrue (texts_kept 256 g.system)
+  pub messages : IsTrue (texts_kept 256 g.messages)
+  pub objects : IsTrue (objects_kept g.words (length g.locations) g.objects)
+  pub locations : IsTrue (locations_kept g.locations)
+  pub exits : IsTrue (exits_kept g.words (length g.locations) g.exits)
+  pub tables : IsTrue (tables_kept g)

@@ -1,0 +1,103 @@
+-- How a phrase becomes a sentence.
+use Rattle.std.specs.Prelude.{ℕ, ◌==◌, ◌&&◌, ◌||◌, Bool, true, false, not, List, [], ◌∷◌, Option, Some, None, nat_lt, nat_le, if◌then◌else◌}
+use Rattle.paw_game.specs.Game.{GameLists}
+use Rattle.paw_game.specs.Tables.{word_at}
+use Rattle.paw_phrase.specs.Phrase.{Phrase, phrase}
+use Rattle.paw_phrase.specs.declared.Sentence.{Sentence}
+
+-- no word yet; a pronoun stands for this noun and this adjective
+abbrev pub blank : ℕ → ℕ → Sentence
+blank noun adjective = record {
+  verb = 255;
+  noun = 255;
+  adjective = 255;
+  adverb = 255;
+  preposition = 255;
+  second_noun = 255;
+  second_adjective = 255;
+  pronoun_noun = noun;
+  pronoun_adjective = adjective;
+}
+
+abbrev pub is_none : ℕ → Bool
+is_none value = value == 255
+
+-- the value where there is none yet
+abbrev pub or_value : ℕ → ℕ → ℕ
+or_value old value = if is_none old then value else old
+
+-- a noun fills the first place that is free; with both filled it is ignored
+abbrev pub with_noun : ℕ → Sentence → Sentence
+with_noun value s =
+    if is_none s.noun then record s { noun = value } else record s { second_noun = or_value s.second_noun value }
+
+-- an adjective belongs to the first noun until that stands, and then to the second
+abbrev pub with_adjective : ℕ → Sentence → Sentence
+with_adjective value s =
+    if is_none s.noun then record s { adjective = or_value s.adjective value }
+    else record s { second_adjective = or_value s.second_adjective value }
+
+-- a pronoun stands for a noun and its adjective; where it stands for none, or both nouns are there, it is ignored
+abbrev pub with_pronoun : Sentence → Sentence
+with_pronoun s =
+    if is_none s.pronoun_noun then s else
+    if is_none s.noun then record s { noun = s.pronoun_noun; adjective = s.pronoun_adjective } else
+    if is_none s.second_noun then record s { second_noun = s.pronoun_noun; second_adjective = s.pronoun_adjective } else s
+
+-- a word of this value and class is added: a verb, an adverb and a preposition where there is none yet
+abbrev pub with_word : ℕ → ℕ → Sentence → Sentence
+with_word value class s =
+    if class == 0 then record s { verb = or_value s.verb value } else
+    if class == 1 then record s { adverb = or_value s.adverb value } else
+    if class == 2 then with_noun value s else
+    if class == 3 then with_adjective value s else
+    if class == 4 then record s { preposition = or_value s.preposition value } else
+    if class == 6 then with_pronoun s else s
+
+abbrev pub with_known : Option (ℕ × ℕ) → Sentence → Sentence
+with_known None s = s
+with_known (Some word) s = with_word word.0 word.1 s
+
+-- the tokens' words are added from left to right; an unknown token is skipped
+abbrev pub filled : GameLists → List (List ℕ) → Sentence → Sentence
+filled g [] s = s
+filled g (token ∷ tokens) s = filled g tokens (with_known (word_at g token) s)
+
+abbrev pub is_known : Option (ℕ × ℕ) → Bool
+is_known None = false
+is_known (Some word) = true
+
+-- a token is a word of the game
+abbrev pub has_known : GameLists → List (List ℕ) → Bool
+has_known g [] = false
+has_known g (token ∷ tokens) = is_known (word_at g token) || has_known g tokens
+
+-- where there is no verb, a first noun below 20 stands for it, and else the verb of the phrase before
+abbrev pub with_verb : ℕ → Sentence → Sentence
+with_verb earlier s =
+    if is_none s.verb then (if nat_lt s.noun 20 then record s { verb = s.noun } else record s { verb = earlier }) else s
+
+-- a first noun from 50 to 254 is what a pronoun stands for from now on
+abbrev pub with_meaning : Sentence → Sentence
+with_meaning s =
+    if nat_le 50 s.noun && nat_le s.noun 254 then record s { pronoun_noun = s.noun; pronoun_adjective = s.adjective } else s
+
+-- the sentence of these tokens
+abbrev pub sentence : GameLists → List (List ℕ) → ℕ → ℕ → ℕ → Sentence
+sentence g tokens earlier noun adjective = with_meaning (with_verb earlier (filled g tokens (blank noun adjective)))
+
+-- what the next phrase of the pending bytes is: a sentence, or a phrase with no known word, each with the bytes that
+-- stay pending; or no phrase
+pub data Parsed : Type 0 where
+  IsSentence : (s : Sentence) (rest : List ℕ) → Parsed
+  IsUnknown : (rest : List ℕ) → Parsed
+  IsNoPhrase : Parsed
+
+abbrev pub parsed_phrase : GameLists → ℕ → ℕ → ℕ → Option Phrase → Parsed
+parsed_phrase g earlier noun adjective None = IsNoPhrase
+parsed_phrase g earlier noun adjective (Some p) =
+    if has_known g p.tokens then IsSentence (sentence g p.tokens earlier noun adjective) p.rest else IsUnknown p.rest
+
+-- the next phrase of the pending bytes, after this verb, where a pronoun stands for this noun and adjective
+unfoldable pub parsed : GameLists → List ℕ → ℕ → ℕ → ℕ → Parsed
+parsed g pending earlier noun adjective = parsed_phrase g earlier noun adjective (phrase g pending)

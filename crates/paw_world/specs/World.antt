@@ -1,0 +1,111 @@
+-- The world of a game: what it changes while it is played.
+use Rattle.std.specs.Prelude.{◌≡◌, ℕ, suc, ◌+◌, ◌-◌, ◌==◌, ◌&&◌, ◌||◌, Bool, true, false, not, List, [], ◌∷◌, length, map, count_by, replicate, min, Option, None, Some, nat_lt, nat_le, slice_index, slice_set, if◌then◌else◌}
+use Rattle.paw_base.specs.declared.parts.ObjectFacts.{ObjectFacts}
+
+-- flags and places, as they are saved together
+pub record Position : Type 0 where
+  pub flags : List ℕ
+  pub places : List ℕ
+
+-- the facts of the objects and the number of locations, which never change; 256 flags; the place of each object; the
+-- saved position; the seed of the random words, and how many of them were drawn
+pub record World : Type 0 where
+  pub facts : List ObjectFacts
+  pub locations : ℕ
+  pub flags : List ℕ
+  pub places : List ℕ
+  pub saved : Option Position
+  pub seed : ℕ
+  pub draws : ℕ
+
+abbrev pub flag : World → ℕ → ℕ
+flag w f = slice_index w.flags f
+
+abbrev pub with_flag : World → ℕ → ℕ → World
+with_flag w f x = record w { flags = slice_set w.flags f x }
+
+abbrev pub place : World → ℕ → ℕ
+place w o = slice_index w.places o
+
+abbrev pub with_place : World → ℕ → ℕ → World
+with_place w o p = record w { places = slice_set w.places o p }
+
+-- how many objects begin carried
+abbrev pub first_carried : List ObjectFacts → ℕ
+first_carried facts = count_by (λ f. f.start == 254) facts
+
+-- all flags are 0 but these: flag 1 counts what is carried, the words of a sentence and the object last referred to are
+-- none (255), four objects and a weight of ten may be carried
+abbrev pub opening_flags : List ObjectFacts → List ℕ
+opening_flags facts =
+    let none : List ℕ → ℕ → List ℕ = λ flags f. slice_set flags f 255 in
+    let words = none (none (none (none (slice_set (replicate 256 0) 1 (first_carried facts)) 33) 34) 35) 36 in
+    let more = none (none (none (none (none (none words 43) 44) 45) 46) 47) 51 in
+    slice_set (slice_set more 37 4) 52 10
+
+-- each object stands where it begins
+abbrev pub opening_places : List ObjectFacts → List ℕ
+opening_places facts = map (λ f. f.start) facts
+
+-- the world at the start of a game
+abbrev pub opened : List ObjectFacts → ℕ → ℕ → World
+opened facts locations seed = record {
+  facts = facts;
+  locations = locations;
+  flags = opening_flags facts;
+  places = opening_places facts;
+  saved = None;
+  seed = seed;
+  draws = 0;
+}
+
+-- the world of a game that starts anew: the draws and the saved position stay
+abbrev pub restarted : World → World
+restarted w = record w { flags = opening_flags w.facts; places = opening_places w.facts }
+
+-- the current location is one of the game's
+abbrev pub is_somewhere : World → Bool
+is_somewhere w = nat_lt (flag w 38) w.locations
+
+-- the current location, or not created (252)
+abbrev pub here : World → ℕ
+here w = if is_somewhere w then flag w 38 else 252
+
+-- an object stands at the current location
+abbrev pub is_here : World → ℕ → Bool
+is_here w o = is_somewhere w && (place w o == flag w 38)
+
+-- an object is worn (253), carried (254) or here
+abbrev pub is_present : World → ℕ → Bool
+is_present w o = (place w o == 253) || ((place w o == 254) || is_here w o)
+
+-- the light source, object 0, is present; with no objects it isn't
+abbrev pub is_lit : World → Bool
+is_lit w = nat_lt 0 (length w.places) && is_present w 0
+
+-- it is dark: flag 0 isn't 0
+abbrev pub is_dark : World → Bool
+is_dark w = not (flag w 0 == 0)
+
+-- it is dark, and the light source isn't present
+abbrev pub is_unlit : World → Bool
+is_unlit w = is_dark w && not (is_lit w)
+
+-- a flag loses one unless it is 0
+abbrev pub fallen : ℕ → World → World
+fallen f w = with_flag w f (flag w f - 1)
+
+abbrev pub fallen_if : Bool → ℕ → World → World
+fallen_if b f w = if b then fallen f w else w
+
+-- one object less is carried where one leaves 254
+abbrev pub let_go : World → ℕ → World
+let_go w p = if p == 254 then with_flag w 1 (flag w 1 - 1) else w
+
+-- one object more is carried where one comes to 254; flag 1 stays at most 255
+abbrev pub taken_up : World → ℕ → World
+taken_up w p = if p == 254 then with_flag w 1 (min 255 (flag w 1 + 1)) else w
+
+-- an object moves to a place; nothing happens where it stands there
+abbrev pub moved : World → ℕ → ℕ → World
+moved w o p = if place w o == p then w else with_place (taken_up (let_go w (place w o)) p) o p

@@ -1,0 +1,5 @@
+//! What a game changes while it is played: flags, places of objects, a saved position, and random draws.
+#![tactic(auto)]
+
+/// Objects at most.
+pub const MOST_OBJECTS: usize = 255;
