@@ -1,0 +1,39 @@
+-- The texts that a game prints.
+use Rattle.std.specs.Prelude.{ℕ, ◌==◌, Bool, true, false, List, [], ◌∷◌, ◌++◌, Option, Some, None, slice_get, if◌then◌else◌}
+use Rattle.paw_game.specs.Game.{GameLists}
+use Rattle.paw_game.specs.Tables.{or_empty, text_of}
+use Rattle.paw_world.specs.World.{World, flag}
+
+-- the text of the object last referred to, flag 51; none where there is no such object
+abbrev pub referred_text : GameLists → World → List ℕ
+referred_text g w = or_empty (text_of (slice_get g.objects (flag w 51)))
+
+-- each underscore is replaced by the name; the name isn't searched again
+abbrev pub with_name : List ℕ → List ℕ → List ℕ
+with_name name [] = []
+with_name name (b ∷ bs) = if b == 95 then name ++ with_name name bs else b ∷ with_name name bs
+
+-- a text as it is printed
+abbrev pub printed_text : GameLists → World → List ℕ → List ℕ
+printed_text g w text = with_name (referred_text g w) text
+
+-- a text and a newline; nothing where the text is empty
+abbrev pub line_of : GameLists → World → List ℕ → List ℕ
+line_of g w [] = []
+line_of g w (b ∷ bs) = printed_text g w (b ∷ bs) ++ 10 ∷ []
+
+-- putting a system message prints it where there is one
+abbrev pub put_text : GameLists → World → ℕ → List ℕ
+put_text g w s = printed_text g w (or_empty (slice_get g.system s))
+
+-- saying a system message prints it with a newline, where there is one that isn't empty
+abbrev pub say_text : GameLists → World → ℕ → List ℕ
+say_text g w s = line_of g w (or_empty (slice_get g.system s))
+
+-- the description of a location, with a newline, where there is one that isn't empty
+abbrev pub location_text : GameLists → World → ℕ → List ℕ
+location_text g w l = line_of g w (or_empty (slice_get g.locations l))
+
+-- a message
+abbrev pub message_text : GameLists → World → ℕ → List ℕ
+message_text g w m = printed_text g w (or_empty (slice_get g.messages m))

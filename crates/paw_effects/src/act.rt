@@ -1,0 +1,43 @@
+// What a condact answers.
+
+/// Where a game waits: for a line, for an answer to QUIT, for an answer to END, for a key; or where it is over.
+#[derive(Clone, Copy, Drop, PartialEq, Eq, Debug)]
+pub enum Prompt {
+    Main,
+    Quit,
+    Again,
+    Key,
+    Over,
+}
+
+/// What a condition answers. QUIT alone asks.
+#[derive(Clone, Copy, Drop, PartialEq, Eq, Debug)]
+pub enum Truth {
+    Yes,
+    No,
+    Ask,
+}
+
+/// How reading goes on after an action: at the next condact; out of the table, with an action carried out or not; at
+/// the description of the location; in another table, one level deeper; in a loop over the objects at a place; at a
+/// prompt; with the next phrase; or not at all, since the piece would hold too much text.
+#[derive(Clone, Copy, Drop, PartialEq, Eq, Debug)]
+pub enum Effect {
+    Go,
+    Exit(bool),
+    Redescribe,
+    Call(u8),
+    Loop(u8),
+    Ask(Prompt),
+    Parse,
+    Spent,
+}
+
+/// What an action answers: how reading goes on, whether the rest of the line is dropped, and whether the open loop is
+/// cancelled.
+#[derive(Clone, Copy, Drop, PartialEq, Eq, Debug)]
+pub struct Act {
+    pub effect: Effect,
+    pub drop_line: bool,
+    pub cancel_loop: bool,
+}

@@ -1,0 +1,4 @@
+//! What one condact does: the conditions, the actions, and the texts that they print.
+#![tactic(auto)]
+
+pub mod act;

@@ -1,0 +1,4 @@
+pub mod Run
+pub mod Reading
+pub mod GoingOn
+pub mod Turn

@@ -1,0 +1,250 @@
+-- Reading tables in written order.
+use Rattle.std.specs.Prelude.{ℕ, zero, suc, ◌+◌, ◌-◌, ◌==◌, ◌&&◌, ◌||◌, Bool, true, false, not, List, [], ◌∷◌, ◌++◌, Option, Some, None, length, drop, slice_get, nat_lt, if◌then◌else◌}
+use Rattle.paw_base.specs.declared.parts.Condact.{Condact}
+use Rattle.paw_base.specs.declared.parts.ObjectFacts.{ObjectFacts}
+use Rattle.paw_base.specs.declared.fault.SpentKind.{SpentKind}
+use Rattle.paw_base.specs.declared.fault.SpentKind.TheVariants as spent
+use Rattle.paw_game.specs.declared.parts.Entry.{Entry}
+use Rattle.paw_game.specs.Game.{GameLists}
+use Rattle.paw_game.specs.Tables.{table_at, entry_at, condacts_of, facts_at, matches}
+use Rattle.paw_world.specs.World.{World, flag, place, with_flag}
+use Rattle.paw_phrase.specs.Sentence.{Parsed, IsSentence, IsUnknown, IsNoPhrase, parsed}
+use Rattle.paw_effects.specs.declared.act.Prompt.{Prompt}
+use Rattle.paw_effects.specs.declared.act.Prompt.TheVariants as prompt
+use Rattle.paw_effects.specs.declared.act.Truth.{Truth}
+use Rattle.paw_effects.specs.declared.act.Truth.TheVariants as truth
+use Rattle.paw_effects.specs.declared.act.Effect.{Effect}
+use Rattle.paw_effects.specs.declared.act.Effect.TheVariants as effect
+use Rattle.paw_effects.specs.Texts.{put_text, say_text}
+use Rattle.paw_effects.specs.Holds.{Tested, is_condition, holds}
+use Rattle.paw_effects.specs.Effects.{Done, effect_of, referred}
+use Rattle.paw_reading.specs.declared.places.Frame.{Frame}
+use Rattle.paw_reading.specs.declared.places.OpenLoop.{OpenLoop}
+use Rattle.paw_reading.specs.Run.{Run, Step, closed, fits, printed, with_world, without_loop, line_dropped, anew, is_ignored, heard, reply, is_yes, is_no, taken_phrase}
+
+-- What reading a table comes to: it was left, with an action carried out or not; no line is left at a prompt, with the
+-- places that are open, the outermost first; the location is described again; the game starts anew; the game is over; a
+-- piece would read or hold too much; or a call is too deep.
+pub data Out : Type 0 where
+  Left : (acted : Bool) (r : Run) → Out
+  Waits : (p : Prompt) (path : List Frame) (r : Run) → Out
+  Redescribes : (r : Run) → Out
+  Restarts : (r : Run) → Out
+  Ends : (r : Run) → Out
+  IsSpent : (kind : SpentKind) (r : Run) → Out
+  IsDeep : (table : ℕ) (r : Run) → Out
+
+-- ---- budget and text ----
+
+-- a piece reads at most 200,000 condacts
+abbrev pub within : Run → Out → Out
+within r x = if nat_lt (length r.read) 200000 then x else IsSpent spent.Condacts r
+
+-- the condact is noted, with yes or no
+abbrev pub noted : Frame → Condact → Bool → Run → Run
+noted f c passed r = record r { read = r.read ++ record { table = f.table; entry = f.entry; at = f.at; code = c.code; passed = passed } ∷ [] }
+
+-- the text is printed where it fits, and then reading goes on
+abbrev pub printing : List ℕ → (Run → Out) → Run → Out
+printing text go r = if fits r text then go (printed text r) else IsSpent spent.Text r
+
+-- ---- calls ----
+
+-- after a call: with what the called table was left with, or with a frame before the path of one that waits
+abbrev pub after_call : Frame → (Bool → Run → Out) → Out → Out
+after_call f go (Left b r) = go (f.acted || b) r
+after_call f go (Waits p path r) = Waits p (f ∷ path) r
+after_call f go (Redescribes r) = Redescribes r
+after_call f go (Restarts r) = Restarts r
+after_call f go (Ends r) = Ends r
+after_call f go (IsSpent kind r) = IsSpent kind r
+after_call f go (IsDeep u r) = IsDeep u r
+
+-- ---- the object loop ----
+
+-- the loop that is open at this level
+abbrev pub at_level : ℕ → Option OpenLoop → Option OpenLoop
+at_level lv None = None
+at_level lv (Some l) = if l.level == lv then Some l else None
+
+abbrev pub if_open : (OpenLoop → Out) → Out → Option OpenLoop → Out
+if_open next left None = left
+if_open next left (Some l) = next l
+
+-- a table that is left at the level of the open loop goes on with the loop's next object
+abbrev pub again : ℕ → (OpenLoop → Run → Out) → Out → Out
+again lv next (Left a r) = if_open (λ l. next l r) (Left a r) (at_level lv r.turning)
+again lv next (Waits p path r) = Waits p path r
+again lv next (Redescribes r) = Redescribes r
+again lv next (Restarts r) = Restarts r
+again lv next (Ends r) = Ends r
+again lv next (IsSpent kind r) = IsSpent kind r
+again lv next (IsDeep u r) = IsDeep u r
+
+-- the sentence excepts an object by its second noun, and by its second adjective where it has one
+abbrev pub is_excepted : World → ObjectFacts → Bool
+is_excepted w f =
+    not (flag w 44 == 255) && ((f.noun == flag w 44) && ((flag w 45 == 255) || (f.adjective == flag w 45)))
+
+abbrev pub may_be_taken : World → Option ObjectFacts → Bool
+may_be_taken w None = false
+may_be_taken w (Some f) = not (f.noun == 255) && not (is_excepted w f)
+
+-- the loop takes this object: it stands at the place now, has a noun, and isn't excepted
+abbrev pub is_taken : GameLists → World → OpenLoop → ℕ → Bool
+is_taken g w l o = (place w o == l.place) && may_be_taken w (facts_at g o)
+
+abbrev pub named : World → Option ObjectFacts → World
+named w None = w
+named w (Some f) = with_flag (with_flag w 34 f.noun) 35 f.adjective
+
+-- the loop's object stands in the sentence and in flag 50, and is referred to
+abbrev pub taken : GameLists → OpenLoop → ℕ → Run → Run
+taken g l o r = record r {
+  turning = Some (record l { last = o });
+  world = referred (with_flag (named r.world (facts_at g o)) 50 o) o;
+}
+
+-- the loop goes over the last n objects in rising number, and takes each that it may when its turn comes; with none left
+-- it is closed, and the table is left with an action carried out
+unfoldable pub turns : GameLists → ℕ → OpenLoop → (Run → Out) → ℕ → Run → Out
+turns g lv l body zero r = Left true (without_loop r)
+turns g lv l body (suc n) r =
+    if is_taken g r.world l (length g.objects - suc n)
+    then again lv (λ _. turns g lv l body n) (body (taken g l (length g.objects - suc n) r))
+    else turns g lv l body n r
+
+abbrev pub loop_of : ℕ → Frame → ℕ → OpenLoop
+loop_of lv f p = record { level = lv; table = f.table; entry = f.entry; at = f.at; place = p; last = 0 }
+
+-- ---- prompts ----
+
+-- END's question answered with no: the game says goodbye and is over
+abbrev pub over : GameLists → Run → Out
+over g r = printing (say_text g r.world 14) (λ r'. Ends (closed (without_loop (line_dropped r')))) r
+
+-- the answer to a prompt in a table: QUIT goes on at yes and leaves the table at no; END ends the game at no and starts
+-- it anew otherwise; a key goes on
+abbrev pub answered : GameLists → Prompt → Frame → (Bool → Run → Out) → List ℕ → Run → Out
+answered g prompt.Main f go line r = go f.acted r
+answered g prompt.Quit f go line r = if is_yes line then go f.acted r else Left true r
+answered g prompt.Again f go line r = if is_no line then over g r else Restarts (anew r)
+answered g prompt.Key f go line r = go true r
+answered g prompt.Over f go line r = go f.acted r
+
+-- at a prompt in a table, the piece closed: with no line left the run waits; an ignored line closes an empty piece, and
+-- the run waits on; any other is heard and answers
+unfoldable pub asked : GameLists → Prompt → Frame → (Bool → Run → Out) → Run → List (List ℕ) → Out
+asked g p f go r [] = Waits p (f ∷ []) (record r { events = [] })
+asked g p f go r (line ∷ lines) =
+    if is_ignored r.world line then asked g p f go (closed r) lines
+    else answered g p f go (reply line) (heard line (record r { events = lines }))
+
+-- the open piece is closed, and the run waits
+abbrev pub waits : GameLists → Prompt → Frame → (Bool → Run → Out) → Run → Out
+waits g p f go r = asked g p f go (closed r) r.events
+
+-- ---- one condact ----
+
+-- after a condition: go reads on at the next condact, next at the next entry
+abbrev pub after_test : GameLists → Frame → (Bool → Run → Out) → (Bool → Run → Out) → Condact → Run → Truth → Out
+after_test g f next go c r truth.Yes = go f.acted (noted f c true r)
+after_test g f next go c r truth.No = next f.acted (noted f c false r)
+after_test g f next go c r truth.Ask = printing (put_text g r.world 12) (waits g prompt.Quit f go) (noted f c true r)
+
+abbrev pub after_parse : Frame → (Bool → Run → Out) → (Bool → Run → Out) → Run → Parsed → Out
+after_parse f next go r (IsSentence s rest) = next f.acted (taken_phrase s rest r)
+after_parse f next go r (IsUnknown rest) = go f.acted (record r { pending = rest })
+after_parse f next go r IsNoPhrase = go f.acted r
+
+-- PARSE takes the next phrase: a sentence leads to the next entry
+abbrev pub parses : GameLists → Frame → (Bool → Run → Out) → (Bool → Run → Out) → Run → Out
+parses g f next go r = after_parse f next go r (parsed g r.pending r.earlier (flag r.world 46) (flag r.world 47))
+
+-- how reading goes on after an action; sub reads a table one level deeper
+abbrev pub after_action : GameLists → (ℕ → Run → Out) → ℕ → Frame → (Bool → Run → Out) → (Bool → Run → Out) → Effect → Run → Out
+after_action g sub lv f next go effect.Go r = go true r
+after_action g sub lv f next go (effect.Exit a) r = Left a r
+after_action g sub lv f next go effect.Redescribe r = Redescribes (without_loop r)
+after_action g sub lv f next go (effect.Call u) r = after_call f go (sub u r)
+after_action g sub lv f next go (effect.Loop p) r = turns g lv (loop_of lv f p) (go true) (length g.objects) r
+after_action g sub lv f next go (effect.Ask p) r = waits g p f go r
+after_action g sub lv f next go effect.Parse r = parses g f next go r
+after_action g sub lv f next go effect.Spent r = IsSpent spent.Text r
+
+-- the line is dropped and the loop cancelled where the action says so
+abbrev pub carried_out : Done → Run → Run
+carried_out d r = record r {
+  world = d.world;
+  pending = if d.act.drop_line then [] else r.pending;
+  turning = if d.act.cancel_loop then None else r.turning;
+}
+
+-- an action prints its text, and is carried out
+abbrev pub acts : GameLists → (ℕ → Run → Out) → ℕ → Frame → (Bool → Run → Out) → (Bool → Run → Out) → Done → Run → Out
+acts g sub lv f next go d r = printing d.text (λ r'. after_action g sub lv f next go d.act.effect (carried_out d r')) r
+
+abbrev pub tests : GameLists → Frame → (Bool → Run → Out) → (Bool → Run → Out) → Condact → Run → Tested → Out
+tests g f next go c r tested = after_test g f next go c (with_world tested.world r) tested.answer
+
+-- a condact is read
+abbrev pub reads_one : GameLists → List (List ℕ) → (ℕ → Run → Out) → ℕ → Frame → (Bool → Run → Out) → (Bool → Run → Out) → Condact → Run → Out
+reads_one g X sub lv f next go c r =
+    if is_condition c then tests g f next go c r (holds g r.world c)
+    else acts g sub lv f next go (effect_of g X r.world c) (noted f c true r)
+
+-- ---- entries, tables, levels ----
+
+-- the condacts of an entry from number k on; next goes on with the next entry
+unfoldable pub condacts : GameLists → List (List ℕ) → (ℕ → Run → Out) → ℕ → ℕ → ℕ → (Bool → Run → Out) → ℕ → List Condact → Bool → Run → Out
+condacts g X sub lv t e next k [] acted r = next acted r
+condacts g X sub lv t e next k (c ∷ cs) acted r =
+    within r (reads_one g X sub lv (record { table = t; entry = e; at = k; acted = acted }) next (condacts g X sub lv t e next (suc k) cs) c r)
+
+-- an entry is read where it matches flags 33 and 34 at the moment when it is reached
+abbrev pub is_for_now : Run → Entry → Bool
+is_for_now r en = matches (flag r.world 33) (flag r.world 34) en
+
+-- the entries of a table from number e on; past the last the table is left
+unfoldable pub entries : GameLists → List (List ℕ) → (ℕ → Run → Out) → ℕ → ℕ → ℕ → List Entry → Bool → Run → Out
+entries g X sub lv t e [] acted r = Left acted r
+entries g X sub lv t e (en ∷ es) acted r =
+    if is_for_now r en
+    then condacts g X sub lv t e (entries g X sub lv t (suc e) es) 0 en.condacts acted r
+    else entries g X sub lv t (suc e) es acted r
+
+-- from condact k of entry e on, past the test of the entry
+abbrev pub inside : GameLists → List (List ℕ) → (ℕ → Run → Out) → ℕ → ℕ → ℕ → ℕ → Bool → Run → Out
+inside g X sub lv t e k =
+    condacts g X sub lv t e (entries g X sub lv t (suc e) (drop (suc e) (table_at g t))) k (drop k (condacts_of (entry_at g t e)))
+
+-- from a place on, to the end of the table; condact 0 is before the test of the entry
+abbrev pub plain : GameLists → List (List ℕ) → (ℕ → Run → Out) → ℕ → ℕ → ℕ → ℕ → Bool → Run → Out
+plain g X sub lv t e zero = entries g X sub lv t e (drop e (table_at g t))
+plain g X sub lv t e (suc k) = inside g X sub lv t e (suc k)
+
+-- the open loop of the level goes on after the object that it took last
+abbrev pub looped : GameLists → List (List ℕ) → (ℕ → Run → Out) → ℕ → OpenLoop → Run → Out
+looped g X sub lv l =
+    turns g lv (record l { last = 0 }) (plain g X sub lv l.table l.entry (suc l.at) true) (length g.objects - suc l.last)
+
+-- reading on at a level, with the loop that may be open there
+abbrev pub reads : GameLists → List (List ℕ) → (ℕ → Run → Out) → ℕ → ℕ → ℕ → ℕ → Bool → Run → Out
+reads g X sub lv t e k acted r = again lv (looped g X sub lv) (plain g X sub lv t e k acted r)
+
+-- a table called from level lv, below which n levels are left
+unfoldable pub called : GameLists → List (List ℕ) → ℕ → ℕ → ℕ → Run → Out
+called g X zero lv u r = IsDeep u r
+called g X (suc n) lv u r = reads g X (called g X n (suc lv)) (suc lv) u 0 0 false r
+
+-- levels go from 0 to 10
+abbrev pub deeper : GameLists → List (List ℕ) → ℕ → ℕ → Run → Out
+deeper g X lv = called g X (10 - lv) lv
+
+-- reading on at level lv in table t from condact k of entry e
+abbrev pub rest : GameLists → List (List ℕ) → ℕ → ℕ → ℕ → ℕ → Bool → Run → Out
+rest g X lv = reads g X (deeper g X lv) lv
+
+-- reading a table at level 0 from its start
+abbrev pub table_read : GameLists → List (List ℕ) → ℕ → Run → Out
+table_read g X t = rest g X 0 t 0 0 false

@@ -1,0 +1,102 @@
+-- A run of a game.
+use Rattle.std.specs.Prelude.{ℕ, ◌+◌, ◌-◌, ◌%◌, ◌==◌, ◌&&◌, ◌||◌, Bool, true, false, not, List, [], ◌∷◌, ◌++◌, Option, Some, None, length, min, nat_lt, nat_le, if◌then◌else◌}
+use Rattle.std.specs.Str.{bytes_eq}
+use Rattle.paw_game.specs.Game.{GameLists}
+use Rattle.paw_world.specs.World.{World, flag, with_flag, restarted}
+use Rattle.paw_phrase.specs.declared.Sentence.{Sentence}
+use Rattle.paw_reading.specs.declared.places.OpenLoop.{OpenLoop}
+
+-- a condact that was read: where it stands, its code, and no for a condition that failed
+pub record Step : Type 0 where
+  pub table : ℕ
+  pub entry : ℕ
+  pub at : ℕ
+  pub code : ℕ
+  pub passed : Bool
+
+-- the world; the bytes of the line that are not yet read, and the verb of the phrase before; the open loop; the text of
+-- the open piece, and the condacts read in it; the texts and the condacts of the closed pieces; the lines not yet taken
+pub record Run : Type 0 where
+  pub world : World
+  pub pending : List ℕ
+  pub earlier : ℕ
+  pub turning : Option OpenLoop
+  pub current : List ℕ
+  pub read : List Step
+  pub pieces : List (List ℕ)
+  pub traces : List (List Step)
+  pub events : List (List ℕ)
+
+-- the open piece is closed, and the next one begins
+abbrev pub closed : Run → Run
+closed r = record r { current = []; read = []; pieces = r.pieces ++ r.current ∷ []; traces = r.traces ++ r.read ∷ [] }
+
+-- a piece holds at most 65,535 bytes
+abbrev pub fits : Run → List ℕ → Bool
+fits r text = nat_le (length r.current + length text) 65535
+
+-- the text is printed
+abbrev pub printed : List ℕ → Run → Run
+printed text r = record r { current = r.current ++ text }
+
+abbrev pub with_world : World → Run → Run
+with_world w r = record r { world = w }
+
+abbrev pub without_loop : Run → Run
+without_loop r = record r { turning = None }
+
+-- what is left of the line is dropped
+abbrev pub line_dropped : Run → Run
+line_dropped r = record r { pending = [] }
+
+-- the game starts anew: the draws, the saved position and the number of lines stay
+abbrev pub anew : Run → Run
+anew r = record r { world = restarted r.world; pending = []; earlier = 255; turning = None }
+
+-- ---- lines ----
+
+-- the line ~ stands for a timeout
+abbrev pub is_timeout : List ℕ → Bool
+is_timeout line = bytes_eq line (126 ∷ [])
+
+-- a timeout where flag 48 is 0 changes nothing
+abbrev pub is_ignored : World → List ℕ → Bool
+is_ignored w line = is_timeout line && (flag w 48 == 0)
+
+-- bit 7 of flag 49 tells that the last line was a timeout
+abbrev pub with_timeout : Bool → World → World
+with_timeout b w = with_flag w 49 (if b then 128 + flag w 49 % 128 else flag w 49 % 128)
+
+-- the line is heard
+abbrev pub heard : List ℕ → Run → Run
+heard line r = with_world (with_timeout (is_timeout line) r.world) r
+
+-- a timeout answers a question with an empty line
+abbrev pub reply : List ℕ → List ℕ
+reply line = if is_timeout line then [] else line
+
+-- the first byte that isn't a space is this letter, as a capital or a small one
+abbrev pub begins_with : ℕ → List ℕ → Bool
+begins_with capital [] = false
+begins_with capital (b ∷ bs) =
+    if b == 32 then begins_with capital bs else (b == capital) || (b == capital + 32)
+
+-- Y answers yes, N answers no
+abbrev pub is_yes : List ℕ → Bool
+is_yes line = begins_with 89 line
+
+abbrev pub is_no : List ℕ → Bool
+is_no line = begins_with 78 line
+
+-- ---- sentences ----
+
+-- the sentence stands in the flags
+abbrev pub spoken : Sentence → World → World
+spoken s w =
+    let first = with_flag (with_flag (with_flag (with_flag w 33 s.verb) 34 s.noun) 35 s.adjective) 36 s.adverb in
+    let second = with_flag (with_flag (with_flag first 43 s.preposition) 44 s.second_noun) 45 s.second_adjective in
+    with_flag (with_flag second 46 s.pronoun_noun) 47 s.pronoun_adjective
+
+-- the phrase is taken: its sentence stands in the flags, and its verb is the earlier one for the next
+abbrev pub taken_phrase : Sentence → List ℕ → Run → Run
+taken_phrase s rest r = record r { world = spoken s r.world; pending = rest; earlier = s.verb }

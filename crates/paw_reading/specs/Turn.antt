@@ -1,0 +1,232 @@
+-- The turn, and the reading of a list of lines.
+use Rattle.std.specs.Prelude.{◌≡◌, ◌≢◌, ℕ, zero, suc, ◌+◌, ◌-◌, ◌*◌, ◌/◌, ◌%◌, ◌<◌, ◌≤◌, ◌==◌, ◌&&◌, ◌||◌, Bool, true, false, not, List, [], ◌∷◌, ◌++◌, Option, Some, None, length, map, sum_by, flat_map, nat_lt, min, if◌then◌else◌}
+use Rattle.paw_base.specs.declared.fault.SpentKind.{SpentKind}
+use Rattle.paw_base.specs.declared.fault.SpentKind.TheVariants as spent
+use Rattle.paw_game.specs.Game.{GameLists}
+use Rattle.paw_game.specs.Tables.{exit_at}
+use Rattle.paw_world.specs.World.{World, flag, with_flag, opened, is_dark, is_unlit, fallen, fallen_if}
+use Rattle.paw_phrase.specs.Sentence.{Parsed, IsSentence, IsUnknown, IsNoPhrase, parsed}
+use Rattle.paw_effects.specs.declared.act.Prompt.{Prompt}
+use Rattle.paw_effects.specs.declared.act.Prompt.TheVariants as prompt
+use Rattle.paw_effects.specs.Texts.{put_text, say_text, location_text}
+use Rattle.paw_reading.specs.declared.places.Frame.{Frame}
+use Rattle.paw_reading.specs.Run.{Run, closed, fits, printed, with_world, line_dropped, anew, is_timeout, is_ignored, heard, with_timeout, taken_phrase}
+use Rattle.paw_reading.specs.Reading.{Out, Left, Waits, Redescribes, Restarts, Ends, IsSpent, IsDeep, table_read}
+use Rattle.paw_reading.specs.GoingOn.{on_path, with_lines}
+
+-- the four stages of a turn
+pub data Stage : Type 0 where
+  AtDescribe : Stage
+  AtFrame : Stage
+  AtPhrase : Stage
+  AtResponse : Stage
+
+-- How a reading ends: no line is left at a prompt, with the places that are open (none at the main prompt); the game is
+-- over; a piece would read or hold too much; a call is too deep. Unended comes only where too few stages were granted.
+pub data Ending : Type 0 where
+  WaitsAt : (p : Prompt) (path : List Frame) (r : Run) → Ending
+  IsOver : (r : Run) → Ending
+  RunsOut : (kind : SpentKind) (r : Run) → Ending
+  CallsTooDeep : (table : ℕ) (r : Run) → Ending
+  Unended : Ending
+
+-- the text is printed where it fits, and then the turn goes on
+abbrev pub saying : List ℕ → (Run → Ending) → Run → Ending
+saying text go r = if fits r text then go (printed text r) else RunsOut spent.Text r
+
+-- after a table at level 0: left with an action carried out or not, or described again
+abbrev pub after_table : (Run → Ending) → (Bool → Run → Ending) → Out → Ending
+after_table describe next (Left a r) = next a r
+after_table describe next (Redescribes r) = describe r
+after_table describe next (Restarts r) = describe r
+after_table describe next (Waits p path r) = WaitsAt p path r
+after_table describe next (Ends r) = IsOver r
+after_table describe next (IsSpent kind r) = RunsOut kind r
+after_table describe next (IsDeep u r) = CallsTooDeep u r
+
+-- flags that fall when a location is described: 2; 3 in the dark; 4 without light
+abbrev pub described : World → World
+described w = fallen_if (is_unlit w) 4 (fallen_if (is_dark w) 3 (fallen 2 w))
+
+-- flags that fall in each frame: 5 to 8; 9 in the dark; 10 without light
+abbrev pub framed : World → World
+framed w = fallen_if (is_unlit w) 10 (fallen_if (is_dark w) 9 (fallen 8 (fallen 7 (fallen 6 (fallen 5 w)))))
+
+-- in the dark without light message 0 is said; else the location is described
+abbrev pub view_text : GameLists → World → List ℕ
+view_text g w = if is_unlit w then say_text g w 0 else location_text g w (flag w 38)
+
+-- one more turn, up to 65,535; flag 31 is the low byte and flag 32 the high one
+abbrev pub turns_taken : World → ℕ
+turns_taken w = flag w 31 + 256 * flag w 32
+
+abbrev pub with_turns : ℕ → World → World
+with_turns n w = with_flag (with_flag w 31 (n % 256)) 32 (n / 256)
+
+abbrev pub counted : World → World
+counted w = with_turns (min 65535 (turns_taken w + 1)) w
+
+-- the prompt is message flag 42, or 2 where that is 0
+abbrev pub prompt_message : World → ℕ
+prompt_message w = if flag w 42 == 0 then 2 else flag w 42
+
+abbrev pub prompt_text : GameLists → World → List ℕ
+prompt_text g w = say_text g w (prompt_message w) ++ put_text g w 33
+
+-- a line at the main prompt: an ignored one closes an empty piece; a timeout says 35 and leads to the frame; any other
+-- becomes the pending bytes
+abbrev pub line_set : List ℕ → Run → Run
+line_set line r = record r { world = with_timeout false r.world; pending = line; earlier = 255 }
+
+unfoldable pub at_main : GameLists → (Run → Ending) → (Run → Ending) → Run → List (List ℕ) → Ending
+at_main g frame phrase r [] = WaitsAt prompt.Main [] (record r { events = [] })
+at_main g frame phrase r (line ∷ lines) =
+    if is_ignored r.world line then at_main g frame phrase (closed r) lines
+    else if is_timeout line then saying (say_text g (with_timeout true r.world) 35) frame (heard line (record r { events = lines }))
+    else phrase (line_set line (record r { events = lines }))
+
+-- the prompt is shown, the piece is closed, and the game waits for a line
+abbrev pub prompts : GameLists → (Run → Ending) → (Run → Ending) → Run → Ending
+prompts g frame phrase r = saying (prompt_text g r.world) (λ s. at_main g frame phrase (closed s) s.events) (line_dropped r)
+
+-- the next phrase: a sentence counts a turn and is responded to; at one with no known word message 6 is said, and the
+-- rest of the line is dropped; with none left comes the prompt
+abbrev pub after_phrase : GameLists → (Run → Ending) → (Run → Ending) → (Run → Ending) → Run → Parsed → Ending
+after_phrase g frame phrase response r (IsSentence s rest) =
+    response (with_world (counted (taken_phrase s rest r).world) (taken_phrase s rest r))
+after_phrase g frame phrase response r (IsUnknown rest) = saying (say_text g r.world 6) frame (line_dropped r)
+after_phrase g frame phrase response r IsNoPhrase = prompts g frame phrase r
+
+-- no entry answered: the exit for the verb is taken, or message 7 (a verb below 14) or 8 is said and the line is dropped
+abbrev pub refusal_text : GameLists → World → List ℕ
+refusal_text g w = say_text g w (if nat_lt (flag w 33) 14 then 7 else 8)
+
+abbrev pub connected : GameLists → (Run → Ending) → (Run → Ending) → Run → Option ℕ → Ending
+connected g describe frame r None = saying (refusal_text g r.world) frame (line_dropped r)
+connected g describe frame r (Some to) = describe (with_world (with_flag r.world 38 to) r)
+
+abbrev pub connections : GameLists → (Run → Ending) → (Run → Ending) → Run → Ending
+connections g describe frame r = connected g describe frame r (exit_at g (flag r.world 38) (flag r.world 33))
+
+-- after table 0: with an action carried out comes the frame, else the connections are tried
+abbrev pub responded : GameLists → (Run → Ending) → (Run → Ending) → Bool → Run → Ending
+responded g describe frame true r = frame r
+responded g describe frame false r = connections g describe frame r
+
+-- after table 0 comes the response's end, after table 1 the frame, after table 2 the fall of flags and the next phrase
+abbrev pub after_left : GameLists → (Stage → Run → Ending) → ℕ → Bool → Run → Ending
+after_left g go zero acted r = responded g (go AtDescribe) (go AtFrame) acted r
+after_left g go (suc zero) acted r = go AtFrame r
+after_left g go (suc (suc t)) acted r = go AtPhrase (with_world (framed r.world) r)
+
+-- how the turn goes on after a table
+abbrev pub table_done : GameLists → (Stage → Run → Ending) → ℕ → Out → Ending
+table_done g go t x = after_table (go AtDescribe) (after_left g go t) x
+
+-- at most n stages of the turn
+unfoldable pub turn : GameLists → List (List ℕ) → ℕ → Stage → Run → Ending
+turn g X zero s r = Unended
+turn g X (suc n) AtDescribe r =
+    saying (view_text g (described r.world)) (λ s. table_done g (turn g X n) 1 (table_read g X 1 s)) (with_world (described r.world) r)
+turn g X (suc n) AtFrame r = table_done g (turn g X n) 2 (table_read g X 2 r)
+turn g X (suc n) AtPhrase r =
+    after_phrase g (turn g X n AtFrame) (turn g X n AtPhrase) (turn g X n AtResponse) r
+    (parsed g r.pending r.earlier (flag r.world 46) (flag r.world 47))
+turn g X (suc n) AtResponse r = table_done g (turn g X n) 0 (table_read g X 0 r)
+
+-- how much a run may still read: what is left of the line, what the open piece may still read, and what each line brings
+abbrev pub left_to_read : Run → ℕ
+left_to_read r = length r.pending + (200000 - length r.read) + sum_by (λ line. length line + 200001) r.events
+
+-- so many stages are enough from a stage on
+abbrev pub stages_left : Stage → Run → ℕ
+stages_left AtPhrase r = 4 * left_to_read r + 1
+stages_left AtFrame r = 4 * left_to_read r + 2
+stages_left AtDescribe r = 4 * left_to_read r + 3
+stages_left AtResponse r = 4 * left_to_read r + 4
+
+-- the turns from a stage on, to the end of the reading
+abbrev pub turns_from : GameLists → List (List ℕ) → Stage → Run → Ending
+turns_from g X s r = turn g X (stages_left s r) s r
+
+-- ---- the reading ----
+
+-- the run at the start of a game, with these lines to come
+abbrev pub opening : GameLists → ℕ → List (List ℕ) → Run
+opening g seed es = record {
+  world = opened (map (λ o. o.facts) g.objects) (length g.locations) seed;
+  pending = [];
+  earlier = 255;
+  turning = None;
+  current = [];
+  read = [];
+  pieces = [];
+  traces = [];
+  events = es;
+}
+
+-- the reading of a game with these lines, each of at most 255 bytes
+abbrev pub reading : GameLists → List (List ℕ) → ℕ → List (List ℕ) → Ending
+reading g X seed es = turns_from g X AtDescribe (opening g seed es)
+
+-- the run in which a reading ended
+abbrev pub run_of : Ending → Option Run
+run_of (WaitsAt p path r) = Some r
+run_of (IsOver r) = Some r
+run_of (RunsOut kind r) = Some r
+run_of (CallsTooDeep u r) = Some r
+run_of Unended = None
+
+abbrev pub pieces_of : Option Run → List (List ℕ)
+pieces_of None = []
+pieces_of (Some r) = r.pieces
+
+-- the text of the closed pieces of a reading
+abbrev pub text_of : Ending → List ℕ
+text_of e = flat_map (λ piece. piece) (pieces_of (run_of e))
+
+-- ---- going on ----
+
+abbrev pub first_table : List Frame → ℕ
+first_table [] = 0
+first_table (f ∷ path) = f.table
+
+-- going on from a prompt inside tables, in at most n stages more
+abbrev pub in_table : GameLists → List (List ℕ) → ℕ → Prompt → List Frame → Run → Ending
+in_table g X n p path r = table_done g (turn g X n) (first_table path) (on_path g X p 0 path r)
+
+-- going on from a prompt with the run's lines, in at most n stages more; nothing is put again, and no piece is closed first
+abbrev pub goes_on : GameLists → List (List ℕ) → ℕ → Prompt → List Frame → Run → Ending
+goes_on g X n prompt.Main path r = at_main g (turn g X n AtFrame) (turn g X n AtPhrase) r r.events
+goes_on g X n prompt.Quit path r = in_table g X n prompt.Quit path r
+goes_on g X n prompt.Again path r = in_table g X n prompt.Again path r
+goes_on g X n prompt.Key path r = in_table g X n prompt.Key path r
+goes_on g X n prompt.Over path r = IsOver r
+
+-- going on from a prompt with the run's lines
+abbrev pub on : GameLists → List (List ℕ) → Prompt → List Frame → Run → Ending
+on g X p path r = goes_on g X (stages_left AtResponse r) p path r
+
+-- a reading that waits goes on with these lines; another stays as it ended, with the lines untaken
+abbrev pub followed : GameLists → List (List ℕ) → List (List ℕ) → Ending → Ending
+followed g X lines (WaitsAt p path r) = on g X p path (with_lines lines r)
+followed g X lines (IsOver r) = IsOver (with_lines lines r)
+followed g X lines (RunsOut kind r) = RunsOut kind (with_lines lines r)
+followed g X lines (CallsTooDeep u r) = CallsTooDeep u (with_lines lines r)
+followed g X lines Unended = Unended
+
+-- ---- the laws ----
+
+-- the turns from a stage on end
+abbrev pub TurnsEnd : Type 0
+TurnsEnd = (g : GameLists) (X : List (List ℕ)) (s : Stage) (r : Run) → turns_from g X s r ≢ Unended
+
+-- more stages change nothing where a turn has ended
+abbrev pub EndsOnce : Type 0
+EndsOnce = (g : GameLists) (X : List (List ℕ)) (n : ℕ) (s : Stage) (r : Run) →
+    turn g X n s r ≢ Unended → turn g X n s r ≡ turns_from g X s r
+
+-- reading more lines is reading some, and going on with the others
+abbrev pub GoingOnIsReading : Type 0
+GoingOnIsReading = (g : GameLists) (X : List (List ℕ)) (seed : ℕ) (es fs : List (List ℕ)) →
+    reading g X seed (es ++ fs) ≡ followed g X fs (reading g X seed es)
