@@ -1,2 +1,6 @@
-pub mod World
+pub mod Draws
+pub mod ObjectSet
+pub mod PlaceSets
+pub mod Places
 pub mod Weight
+pub mod World

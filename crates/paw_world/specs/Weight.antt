@@ -33,6 +33,10 @@ weight_down w (suc n) o =
 abbrev pub weight : World → ℕ → ℕ
 weight w o = weight_down w 10 o
 
+-- what all objects at a place weigh, at most 255
+abbrev pub weight_at : World → ℕ → ℕ
+weight_at w p = min 255 (sum_by (weight w) (objects_at w p))
+
 -- what is worn and carried weighs, at most 255
 abbrev pub carried_weight : World → ℕ
 carried_weight w = min 255 (sum_by (weight w) (objects_at w 253) + sum_by (weight w) (objects_at w 254))

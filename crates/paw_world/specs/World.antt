@@ -1,6 +1,7 @@
 -- The world of a game: what it changes while it is played.
-use Rattle.std.specs.Prelude.{◌≡◌, ℕ, suc, ◌+◌, ◌-◌, ◌==◌, ◌&&◌, ◌||◌, Bool, true, false, not, List, [], ◌∷◌, length, map, count_by, replicate, min, Option, None, Some, nat_lt, nat_le, slice_index, slice_set, if◌then◌else◌}
+use Rattle.std.specs.Prelude.{◌≡◌, ℕ, suc, ◌+◌, ◌-◌, ◌<◌, ◌≤◌, ◌==◌, ◌&&◌, ◌||◌, Bool, not, List, ◌++◌, length, map, take, drop, count_by, replicate, min, Option, None, Some, nat_lt, slice_index, slice_set, if◌then◌else◌, IfSome}
 use Rattle.paw_base.specs.declared.parts.ObjectFacts.{ObjectFacts}
+use Rattle.paw_world.specs.Places.{least_at, left_above}
 
 -- flags and places, as they are saved together
 pub record Position : Type 0 where
@@ -36,7 +37,7 @@ first_carried facts = count_by (λ f. f.start == 254) facts
 
 -- all flags are 0 but these: flag 1 counts what is carried, the words of a sentence and the object last referred to are
 -- none (255), four objects and a weight of ten may be carried
-abbrev pub opening_flags : List ObjectFacts → List ℕ
+unfoldable pub opening_flags : List ObjectFacts → List ℕ
 opening_flags facts =
     let none : List ℕ → ℕ → List ℕ = λ flags f. slice_set flags f 255 in
     let words = none (none (none (none (slice_set (replicate 256 0) 1 (first_carried facts)) 33) 34) 35) 36 in
@@ -109,3 +110,59 @@ taken_up w p = if p == 254 then with_flag w 1 (min 255 (flag w 1 + 1)) else w
 -- an object moves to a place; nothing happens where it stands there
 abbrev pub moved : World → ℕ → ℕ → World
 moved w o p = if place w o == p then w else with_place (taken_up (let_go w (place w o)) p) o p
+
+-- the least object above this one that stands at a place, or the least of all there; nothing where there is none
+abbrev pub first_at : World → ℕ → Option ℕ → Option ℕ
+first_at w p above = least_at w.places p (left_above w.places above)
+
+-- flags and places become the saved position
+abbrev pub ramsaved : World → World
+ramsaved w = record w { saved = Some (record { flags = w.flags; places = w.places }) }
+
+-- flags 0 to n and all places become those of a position
+abbrev pub at_position : World → ℕ → Position → World
+at_position w n q = record w { flags = take (suc n) q.flags ++ drop (suc n) w.flags; places = q.places }
+
+abbrev pub taken_from : World → ℕ → Option Position → World
+taken_from w n None = w
+taken_from w n (Some q) = at_position w n q
+
+-- the saved position's flags 0 to n and its places are taken; where nothing is saved nothing changes
+abbrev pub ramloaded : World → ℕ → World
+ramloaded w n = taken_from w n w.saved
+
+abbrev pub flag_in : Option Position → ℕ → ℕ
+flag_in None f = 0
+flag_in (Some q) f = slice_index q.flags f
+
+abbrev pub place_in : Option Position → ℕ → ℕ
+place_in None o = 0
+place_in (Some q) o = slice_index q.places o
+
+-- a flag of the saved position; 0 where nothing is saved
+abbrev pub saved_flag : World → ℕ → ℕ
+saved_flag w f = flag_in w.saved f
+
+-- the place of an object in the saved position; 0 where nothing is saved
+abbrev pub saved_place : World → ℕ → ℕ
+saved_place w o = place_in w.saved o
+
+-- n words more were drawn
+abbrev pub drawn_on : World → ℕ → World
+drawn_on w n = record w { draws = w.draws + n }
+
+-- a position has 256 flags and a place for each of so many objects
+pub record IsPosition (objects : ℕ) (q : Position) : Type 0 where
+  pub flags : length q.flags ≡ 256
+  pub places : length q.places ≡ objects
+
+-- a saved position, where there is one, is one for so many objects
+abbrev pub IsSavedFor : ℕ → Option Position → Type 0
+IsSavedFor objects saved = IfSome saved (IsPosition objects)
+
+-- what holds of every world: at most 255 objects, with facts and a place for each, and 256 flags; so in the saved position
+pub record IsWorld (w : World) : Type 0 where
+  pub objects : length w.places ≤ 255
+  pub facts : length w.facts ≡ length w.places
+  pub flags : length w.flags ≡ 256
+  pub saved : IsSavedFor (length w.places) w.saved

@@ -1,5 +1,10 @@
 //! What a game changes while it is played: flags, places of objects, a saved position, and random draws.
 #![tactic(auto)]
 
+mod draws;
+mod places;
+mod set;
+pub mod world;
+
 /// Objects at most.
 pub const MOST_OBJECTS: usize = 255;

@@ -1,0 +1,71 @@
+// Random words.
+
+ghost use Rattle.std.specs.Prelude.{◌≡◌, ◌+◌, ◌-◌, ◌<◌, ◌^◌};
+ghost use Rattle.paw_world.specs.Draws.{word};
+
+use rand_core::utils::NextWord;
+use rand_pcg::Lcg64Xsh32;
+use std::marker::Model;
+
+/// A generator, and how many words it gave since it was seeded.
+#[derive(Drop)]
+pub struct Draws {
+    generator: Lcg64Xsh32,
+    seed: u64,
+    count: u64,
+}
+
+impl Model for Draws {
+    ghost use Rattle.std.specs.Prelude.{◌≡◌};
+    ghost use Rattle.paw_world.specs.Draws.{Drawn, generator_after};
+
+    ghost Value = { Drawn };
+
+    ghost view = { λ d. record { seed = d.seed; count = d.count } };
+
+    ghost invariant = { λ d. d.generator ≡ generator_after d.seed d.count };
+}
+
+impl Draws {
+    /// No word is drawn yet.
+    pub fn new(seed: u64) -> Draws
+        ensures { result ≡ record { seed = seed; count = 0 } }
+    {
+        Draws {
+            generator: Lcg64Xsh32::new(seed, 0),
+            seed,
+            count: 0,
+        }
+    }
+
+    pub fn seed(&self) -> u64
+        ensures { result ≡ self.now.seed }
+    {
+        self.seed
+    }
+
+    pub fn count(&self) -> u64
+        ensures { result ≡ self.now.count }
+    {
+        self.count
+    }
+
+    /// The next word.
+    pub fn draw(&mut self) -> u32
+        requires { self.old.count < 2 ^ 64 - 1 }
+        ensures word { result ≡ word self.old.seed self.old.count }
+        ensures counts { self.new ≡ record self.old { count = self.old.count + 1 } }
+    {
+        self.count += 1;
+        self.generator.next_word()
+    }
+
+    /// Passes over n words.
+    pub fn skip(&mut self, n: u64)
+        requires { self.old.count + n < 2 ^ 64 }
+        ensures { self.new ≡ record self.old { count = self.old.count + n } }
+    {
+        self.count += n;
+        self.generator.advance(n);
+    }
+}

@@ -1,0 +1,107 @@
+// Where the objects stand.
+
+ghost use Rattle.std.specs.Prelude.{◌≡◌, ◌+◌, ◌<◌, ◌≤◌, [], ◌∷◌, ◌++◌, length, map, slice_index, slice_set};
+ghost use Rattle.paw_world.specs.Places.{least_at, left_above};
+
+use crate::set::ObjectSet;
+use paw_base::parts::ObjectFacts;
+use std::marker::Model;
+
+/// The place of each object, and for each place the set of the objects that stand there.
+#[derive(Drop)]
+pub struct Places {
+    places: [u8; 255],
+    sets: [ObjectSet; 256],
+    count: u8,
+}
+
+impl Model for Places {
+    ghost use Rattle.std.specs.Prelude.{◌≤◌, List, ℕ, take};
+    ghost use Rattle.paw_world.specs.PlaceSets.{AreSetsOf};
+
+    ghost Value = { List ℕ };
+
+    ghost view = { λ p. take p.count p.places };
+
+    ghost invariant = { λ p. (p.count ≤ 255) × AreSetsOf p.sets p.count p.places };
+}
+
+impl Places {
+    /// Each object stands where it begins.
+    pub fn opening(facts: &[ObjectFacts]) -> Places
+        requires { length facts.now ≤ 255 }
+        ensures { result ≡ map (λ f. f.start) facts.now }
+    {
+        let mut all = Places::empty();
+        for f in facts {
+            all.add(f.start);
+        }
+        all
+    }
+
+    fn empty() -> Places
+        ensures { result ≡ [] }
+    {
+        Places {
+            places: [0; 255],
+            sets: [ObjectSet::EMPTY; 256],
+            count: 0,
+        }
+    }
+
+    /// One object more, at this place.
+    fn add(&mut self, p: u8)
+        requires { length self.old < 255 }
+        ensures { self.new ≡ self.old ++ p ∷ [] }
+    {
+        self.places[self.count as usize] = p;
+        self.sets[p as usize] = self.sets[p as usize].with(self.count);
+        self.count += 1;
+    }
+
+    /// The same places once more.
+    pub fn copy(&self) -> Places
+        ensures { result ≡ self.now }
+    {
+        Places {
+            places: self.places,
+            sets: self.sets,
+            count: self.count,
+        }
+    }
+
+    /// How many objects there are.
+    pub fn count(&self) -> u8
+        ensures { result ≡ length self.now }
+    {
+        self.count
+    }
+
+    pub fn place(&self, o: u8) -> u8
+        requires { o < length self.now }
+        ensures { result ≡ slice_index self.now o }
+    {
+        self.places[o as usize]
+    }
+
+    pub fn set_place(&mut self, o: u8, p: u8)
+        requires { o < length self.old }
+        ensures { self.new ≡ slice_set self.old o p }
+    {
+        let old = self.places[o as usize];
+        self.sets[old as usize] = self.sets[old as usize].without(o);
+        self.sets[p as usize] = self.sets[p as usize].with(o);
+        self.places[o as usize] = p;
+    }
+
+    /// The least object above this one that stands at the place, or the least of all there.
+    pub fn first_at(&self, p: u8, above: Option<u8>) -> Option<u8>
+        ensures { result ≡ least_at self.now p (left_above self.now above) }
+    {
+        let from = match above {
+            None => 0,
+            Some(o) => o as usize + 1,
+        };
+        self.sets[p as usize].least_from(from)
+    }
+}

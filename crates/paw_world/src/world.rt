@@ -1,0 +1,334 @@
+// The world of a game.
+
+ghost use Rattle.std.specs.Prelude.{◌≡◌, ◌+◌, ◌-◌, ◌^◌, ◌<◌, ◌≤◌, length, take, slice_get, is_some, IsSome, IfSome};
+ghost use Rattle.paw_world.specs.Draws.{word};
+ghost use Rattle.paw_world.specs.World.{opened, flag, with_flag, place, moved, first_at, ramsaved, ramloaded, saved_flag, saved_place, restarted, drawn_on, opening_flags, IsWorld};
+ghost use Rattle.paw_world.specs.Weight.{weight, weight_down, weight_at, carried_weight};
+
+use crate::MOST_OBJECTS;
+use crate::draws::Draws;
+use crate::places::Places;
+use paw_base::parts::ObjectFacts;
+use std::marker::Model;
+
+// The places of what is worn and of what is carried.
+const WORN: u8 = 253;
+
+const CARRIED: u8 = 254;
+
+/// Flags and places, as they are saved together.
+#[derive(Drop)]
+struct Saved {
+    flags: [u8; 256],
+    places: Places,
+}
+
+impl Model for Saved {
+    ghost use Rattle.paw_world.specs.World.{Position};
+
+    ghost Value = { Position };
+
+    ghost view = { λ s. record { flags = s.flags; places = s.places } };
+}
+
+/// What a game changes while it is played, with the facts of its objects and the number of its locations.
+#[derive(Drop)]
+pub struct World {
+    facts: [ObjectFacts; MOST_OBJECTS],
+    locations: u8,
+    flags: [u8; 256],
+    places: Places,
+    saved: Option<Saved>,
+    draws: Draws,
+}
+
+impl Model for World {
+    ghost use Rattle.std.specs.Prelude.{◌≤◌, length, take};
+    ghost use Rattle.paw_world.specs.World.{World, IsSavedFor};
+
+    ghost Value = { World };
+
+    ghost view = { λ w. record {
+      facts = take (length w.places) w.facts;
+      locations = w.locations;
+      flags = w.flags;
+      places = w.places;
+      saved = w.saved;
+      seed = w.draws.seed;
+      draws = w.draws.count;
+    } };
+
+    ghost invariant = { λ w. (length w.places ≤ 255) × IsSavedFor (length w.places) w.saved };
+}
+
+impl World {
+    /// The world at the start of a game with these objects, so many locations and this seed.
+    pub fn new(facts: &[ObjectFacts], locations: u8, seed: u64) -> World
+        requires { length facts.now ≤ 255 }
+        ensures { result ≡ opened facts.now locations seed }
+    {
+        World {
+            facts: kept(facts),
+            locations,
+            flags: opening_flags(facts),
+            places: Places::opening(facts),
+            saved: None,
+            draws: Draws::new(seed),
+        }
+    }
+
+    /// The value of a flag.
+    pub fn flag(&self, f: u8) -> u8
+        ensures { result ≡ flag self.now f }
+    {
+        self.flags[f as usize]
+    }
+
+    /// Gives a flag a value.
+    pub fn set_flag(&mut self, f: u8, x: u8)
+        ensures { self.new ≡ with_flag self.old f x }
+    {
+        self.flags[f as usize] = x;
+    }
+
+    /// How many objects there are: 0 to 255.
+    pub fn objects(&self) -> u8
+        ensures value { result ≡ length self.now.places }
+        ensures sound { IsWorld self.now }
+    {
+        self.places.count()
+    }
+
+    /// How many locations there are.
+    pub fn locations(&self) -> u8
+        ensures { result ≡ self.now.locations }
+    {
+        self.locations
+    }
+
+    /// The facts of an object.
+    pub fn facts(&self, o: u8) -> ObjectFacts
+        requires { o < length self.now.places }
+        ensures { slice_get self.now.facts o ≡ Some result }
+    {
+        self.facts[o as usize]
+    }
+
+    /// The place of an object.
+    pub fn place(&self, o: u8) -> u8
+        requires { o < length self.now.places }
+        ensures { result ≡ place self.now o }
+    {
+        self.places.place(o)
+    }
+
+    /// Moves an object to a place. Where it stands there nothing happens. Otherwise flag 1 falls by one, but not
+    /// below 0, where the object was carried (254), and rises by one, but not above 255, where it becomes so.
+    pub fn move_to(&mut self, o: u8, p: u8)
+        requires { o < length self.old.places }
+        ensures { self.new ≡ moved self.old o p }
+    {
+        let old = self.places.place(o);
+        if old == p {
+            return;
+        }
+        if old == CARRIED {
+            self.flags[1] = self.flags[1].saturating_sub(1);
+        }
+        if p == CARRIED {
+            self.flags[1] = self.flags[1].saturating_add(1);
+        }
+        self.places.set_place(o, p);
+    }
+
+    /// The least object above `above` that stands at a place, or the least of all there without `above`. None exactly
+    /// where there is no such object.
+    pub fn first_at(&self, p: u8, above: Option<u8>) -> Option<u8>
+        ensures value { result ≡ first_at self.now p above }
+        ensures bound { IfSome result (λ o. o < length self.now.places) }
+        ensures stands { IfSome result (λ o. place self.now o ≡ p) }
+        ensures rises { IfSome result (λ o. IfSome above (λ a. a < o)) }
+    {
+        self.places.first_at(p, above)
+    }
+
+    /// Flags and places become the saved position.
+    pub fn ramsave(&mut self)
+        ensures { self.new ≡ ramsaved self.old }
+    {
+        self.saved = Some(Saved {
+            flags: self.flags,
+            places: self.places.copy(),
+        });
+    }
+
+    /// Takes flags 0 to n and all places from the saved position. Where nothing is saved nothing changes.
+    pub fn ramload(&mut self, n: u8)
+        ensures { self.new ≡ ramloaded self.old n }
+    {
+        let Some(saved) = &self.saved else {
+            return;
+        };
+        let end = n as usize + 1;
+        let flags = &mut self.flags[..];
+        flags[..end].copy_from_slice(&saved.flags[..end]);
+        self.places = saved.places.copy();
+    }
+
+    /// Whether there is a saved position.
+    pub fn saved(&self) -> bool
+        ensures { result ≡ is_some self.now.saved }
+    {
+        self.saved.is_some()
+    }
+
+    /// The value of a flag in the saved position.
+    pub fn saved_flag(&self, f: u8) -> u8
+        requires { IsSome self.now.saved }
+        ensures { result ≡ saved_flag self.now f }
+    {
+        match &self.saved {
+            Some(saved) => saved.flags[f as usize],
+            None => unreachable!(),
+        }
+    }
+
+    /// The place of an object in the saved position.
+    pub fn saved_place(&self, o: u8) -> u8
+        requires saved { IsSome self.now.saved }
+        requires object { o < length self.now.places }
+        ensures { result ≡ saved_place self.now o }
+    {
+        match &self.saved {
+            Some(saved) => saved.places.place(o),
+            None => unreachable!(),
+        }
+    }
+
+    /// The next random word: 32 bits.
+    pub fn draw(&mut self) -> u32
+        requires { self.old.draws < 2 ^ 64 - 1 }
+        ensures word { result ≡ word self.old.seed self.old.draws }
+        ensures counts { self.new ≡ drawn_on self.old 1 }
+    {
+        self.draws.draw()
+    }
+
+    /// How many random words were taken.
+    pub fn draws(&self) -> u64
+        ensures { result ≡ self.now.draws }
+    {
+        self.draws.count()
+    }
+
+    /// The seed of the random words.
+    pub fn seed(&self) -> u64
+        ensures { result ≡ self.now.seed }
+    {
+        self.draws.seed()
+    }
+
+    /// Passes over n random words, in a time that doesn't grow with n but by its digits.
+    pub fn skip(&mut self, n: u64)
+        requires { self.old.draws + n < 2 ^ 64 }
+        ensures { self.new ≡ drawn_on self.old n }
+    {
+        self.draws.skip(n)
+    }
+
+    /// Gives the flags and places of a game's start. Seed, draws and the saved position stay.
+    pub fn restart(&mut self)
+        ensures { self.new ≡ restarted self.old }
+    {
+        let objects = self.places.count() as usize;
+        let facts = &self.facts[..objects];
+        self.flags = opening_flags(facts);
+        self.places = Places::opening(facts);
+    }
+
+    /// What an object weighs, at most 255: its own weight, and for a container whose own weight isn't 0 that of what
+    /// stands in it, down to ten levels.
+    pub fn weight(&self, o: u8) -> u8
+        requires { o < length self.now.places }
+        ensures { result ≡ weight self.now o }
+    {
+        self.weight_down(o, 10)
+    }
+
+    fn weight_down(&self, o: u8, levels: u8) -> u8
+        requires { o < length self.now.places }
+        ensures { result ≡ weight_down self.now levels o }
+    {
+        let facts = self.facts(o);
+        if levels == 0 || !facts.container || facts.weight == 0 {
+            return facts.weight;
+        }
+        let mut total = facts.weight;
+        let mut last = None;
+        while let Some(x) = self.first_at(o, last) {
+            total = total.saturating_add(self.weight_down(x, levels - 1));
+            last = Some(x);
+        }
+        total
+    }
+
+    /// What all objects weigh that are worn or carried, at most 255.
+    pub fn carried_weight(&self) -> u8
+        ensures { result ≡ carried_weight self.now }
+    {
+        self.weight_at(WORN).saturating_add(self.weight_at(CARRIED))
+    }
+
+    /// What all objects weigh that stand at a place, at most 255.
+    fn weight_at(&self, p: u8) -> u8
+        ensures { result ≡ weight_at self.now p }
+    {
+        let mut total = 0u8;
+        let mut last = None;
+        while let Some(x) = self.first_at(p, last) {
+            total = total.saturating_add(self.weight(x));
+            last = Some(x);
+        }
+        total
+    }
+}
+
+/// These facts, followed by others up to the greatest number of objects.
+fn kept(facts: &[ObjectFacts]) -> [ObjectFacts; MOST_OBJECTS]
+    requires { length facts.now ≤ 255 }
+    ensures { take (length facts.now) result ≡ facts.now }
+{
+    let none = ObjectFacts {
+        noun: 255,
+        adjective: 255,
+        start: 252,
+        weight: 0,
+        container: false,
+        wearable: false,
+    };
+    let mut all = [none; MOST_OBJECTS];
+    all[..facts.len()].copy_from_slice(facts);
+    all
+}
+
+/// The flags at the start of a game.
+fn opening_flags(facts: &[ObjectFacts]) -> [u8; 256]
+    requires { length facts.now ≤ 255 }
+    ensures { result ≡ opening_flags facts.now }
+{
+    let mut flags = [0; 256];
+    flags[1] = facts.iter().filter(|f| f.start == CARRIED).count() as u8;
+    flags[33] = 255;
+    flags[34] = 255;
+    flags[35] = 255;
+    flags[36] = 255;
+    flags[43] = 255;
+    flags[44] = 255;
+    flags[45] = 255;
+    flags[46] = 255;
+    flags[47] = 255;
+    flags[51] = 255;
+    flags[37] = 4;
+    flags[52] = 10;
+    flags
+}
