@@ -1,0 +1,18 @@
+-- Files by name.
+use Rattle.std.proofs.Common.{◌≡◌, ◌≢◌, ℕ, Bool, true, false, List, refl, ap}
+use Rattle.std.specs.Prelude.{Option, if◌then◌else◌}
+use Rattle.std.specs.Str.{bytes_eq}
+use Rattle.std.proofs.lemmas.Slice.Eq.{bytes_eq-Decides}
+use Rattle.paw_stage.specs.Stage.{Files, holds}
+
+if_not : (b : Bool) (P : Type 0) (x y : Option (List ℕ)) → (b ≡ true → P) → (P → ⊥) → (if b then x else y) ≡ y
+if_not true P x y h n = absurd (n (h refl))
+if_not false P x y h n = refl
+
+-- another file is as it was
+pub holds_other : (name n : List ℕ) (bytes : Option (List ℕ)) (files : Files) → n ≢ name → holds name bytes files n ≡ files n
+holds_other name n bytes files ne = if_not (bytes_eq n name) (n ≡ name) bytes (files n) (bytes_eq-Decides n name).0 ne
+
+-- the file of this name is what it was made
+pub holds_same : (name : List ℕ) (bytes : Option (List ℕ)) (files : Files) → holds name bytes files name ≡ bytes
+holds_same name bytes files = ap (λ b. if b then bytes else files name) ((bytes_eq-Decides name name).1 refl)

@@ -1,0 +1,33 @@
+-- Counts of faults, one for each call.
+use Rattle.std.specs.Prelude.{ℕ, ◌+◌, ◌-◌, ◌^◌, min}
+use Rattle.paw_stage.specs.declared.StageCall.{StageCall}
+use Rattle.paw_stage.specs.declared.StageCall.TheVariants as call
+use Rattle.paw_stage.specs.declared.faults.FaultCounts.{FaultCounts}
+
+-- The count of a call.
+abbrev pub count_of : FaultCounts → StageCall → ℕ
+count_of c call.Load = c.load
+count_of c call.LoadAbsent = c.absent
+count_of c call.Save = c.save
+count_of c call.Attach = c.attach
+count_of c call.Read = c.read
+count_of c call.Write = c.write
+count_of c call.Sync = c.sync
+count_of c call.Ask = c.ask
+count_of c call.Show = c.show
+
+-- One more, up to the last value of a count.
+abbrev pub one_more : ℕ → ℕ
+one_more n = min (n + 1) (2 ^ 64 - 1)
+
+-- The counts after one more fault of a call: its own count alone rises.
+abbrev pub raised : StageCall → FaultCounts → FaultCounts
+raised call.Load c = record c { load = one_more c.load }
+raised call.LoadAbsent c = record c { absent = one_more c.absent }
+raised call.Save c = record c { save = one_more c.save }
+raised call.Attach c = record c { attach = one_more c.attach }
+raised call.Read c = record c { read = one_more c.read }
+raised call.Write c = record c { write = one_more c.write }
+raised call.Sync c = record c { sync = one_more c.sync }
+raised call.Ask c = record c { ask = one_more c.ask }
+raised call.Show c = record c { show = one_more c.show }

@@ -1,0 +1,59 @@
+// A count of faults for each call, kept by every stage.
+
+ghost use Rattle.std.specs.Prelude.{◌≡◌, ℕ};
+ghost use Rattle.paw_stage.specs.Faults.{count_of, raised};
+ghost use Rattle.paw_stage.specs.Stage.{Rose, Grows};
+
+use crate::StageCall;
+
+/// How often each call has failed. A count never falls, and stops at its last value, 2^64 - 1.
+#[derive(Clone, Copy, Drop, PartialEq, Eq, Debug)]
+pub struct FaultCounts {
+    pub load: u64,
+    pub absent: u64,
+    pub save: u64,
+    pub attach: u64,
+    pub read: u64,
+    pub write: u64,
+    pub sync: u64,
+    pub ask: u64,
+    pub show: u64,
+}
+
+impl FaultCounts {
+    /// No call has failed yet.
+    pub fn none() -> FaultCounts
+        ensures { result ≡ record { load = 0; absent = 0; save = 0; attach = 0; read = 0; write = 0; sync = 0; ask = 0; show = 0 } }
+    {
+        FaultCounts {
+            load: 0,
+            absent: 0,
+            save: 0,
+            attach: 0,
+            read: 0,
+            write: 0,
+            sync: 0,
+            ask: 0,
+            show: 0,
+        }
+    }
+
+    /// Counts one more fault of a call. Its own count rises, and no other changes.
+    pub fn raise(&mut self, call: StageCall)
+        ensures raised { self.new ≡ raised call self.old }
+        ensures rose { Rose (count_of self.old call) (count_of self.new call) }
+        ensures grows { Grows (count_of self.old) (count_of self.new) }
+    {
+        match call {
+            StageCall::Load => self.load = self.load.saturating_add(1),
+            StageCall::LoadAbsent => self.absent = self.absent.saturating_add(1),
+            StageCall::Save => self.save = self.save.saturating_add(1),
+            StageCall::Attach => self.attach = self.attach.saturating_add(1),
+            StageCall::Read => self.read = self.read.saturating_add(1),
+            StageCall::Write => self.write = self.write.saturating_add(1),
+            StageCall::Sync => self.sync = self.sync.saturating_add(1),
+            StageCall::Ask => self.ask = self.ask.saturating_add(1),
+            StageCall::Show => self.show = self.show.saturating_add(1),
+        }
+    }
+}
