@@ -16,6 +16,10 @@ count_of c call.Sync = c.sync
 count_of c call.Ask = c.ask
 count_of c call.Show = c.show
 
+-- No call has failed.
+abbrev pub no_faults : FaultCounts
+no_faults = record { load = 0; absent = 0; save = 0; attach = 0; read = 0; write = 0; sync = 0; ask = 0; show = 0 }
+
 -- One more, up to the last value of a count.
 abbrev pub one_more : ℕ → ℕ
 one_more n = min (n + 1) (2 ^ 64 - 1)

@@ -1,2 +1,6 @@
 pub mod Stage
 pub mod Faults
+pub mod Done
+pub mod Log
+pub mod LogInside
+pub mod Memory

@@ -1,7 +1,7 @@
 // A count of faults for each call, kept by every stage.
 
-ghost use Rattle.std.specs.Prelude.{◌≡◌, ℕ};
-ghost use Rattle.paw_stage.specs.Faults.{count_of, raised};
+ghost use Rattle.std.specs.Prelude.{◌≡◌};
+ghost use Rattle.paw_stage.specs.Faults.{count_of, no_faults, raised};
 ghost use Rattle.paw_stage.specs.Stage.{Rose, Grows};
 
 use crate::StageCall;
@@ -23,7 +23,7 @@ pub struct FaultCounts {
 impl FaultCounts {
     /// No call has failed yet.
     pub fn none() -> FaultCounts
-        ensures { result ≡ record { load = 0; absent = 0; save = 0; attach = 0; read = 0; write = 0; sync = 0; ask = 0; show = 0 } }
+        ensures { result ≡ no_faults }
     {
         FaultCounts {
             load: 0,

@@ -2,6 +2,7 @@
 #![tactic(auto)]
 
 mod faults;
+mod log;
 
 pub use faults::FaultCounts;
 use std::alloc::Global;

@@ -1,0 +1,29 @@
+-- A stage in memory: the lines that are left, its record of calls, and its counts of faults.
+use Rattle.std.specs.Prelude.{ℕ, List, []}
+use Rattle.paw_stage.specs.declared.StageCall.{StageCall}
+use Rattle.paw_stage.specs.declared.faults.FaultCounts.{FaultCounts}
+use Rattle.paw_stage.specs.Stage.{Standing}
+use Rattle.paw_stage.specs.Faults.{raised, no_faults}
+use Rattle.paw_stage.specs.Done.{Done, fresh, after}
+use Rattle.paw_stage.specs.Log.{Logged, logged, given}
+
+pub record Memory : Type 0 where
+  pub lines : List (List ℕ)
+  pub log : Logged
+  pub counts : FaultCounts
+
+-- With nothing in it, and spare room for so many calls and bytes.
+abbrev pub empty : ℕ → ℕ → Memory
+empty calls bytes = record { lines = []; log = record { calls = []; calls_left = calls; bytes_left = bytes }; counts = no_faults }
+
+-- What stands at it: what its calls, played again, make of nothing, and the lines that are left.
+abbrev pub standing_of : Memory → Standing
+standing_of m = record (after fresh m.log.calls) { lines = m.lines }
+
+-- With one call more in its record.
+abbrev pub noted : Done → Memory → Memory
+noted d m = record m { log = logged d m.log }
+
+-- With one fault more of a call, and all else as it was.
+abbrev pub failed : StageCall → Memory → Memory
+failed c m = record m { counts = raised c m.counts }

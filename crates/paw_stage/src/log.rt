@@ -1,0 +1,240 @@
+// A record of calls, kept in rooms that were taken beforehand.
+
+ghost use Rattle.std.specs.Prelude.{◌≡◌, ◌≤◌, ◌<◌, ◌+◌, ◌++◌, ◌∷◌, [], IsTrue, IsFalse, IfOk, OnOk, OnErr, length, slice_range, vec_len, vec_capacity, List, ℕ};
+ghost use Rattle.std.specs.Option.{option_copied};
+ghost use Rattle.paw_stage.specs.Stage.{Standing};
+ghost use Rattle.paw_stage.specs.Done.{fresh, step, stepped, after};
+ghost use Rattle.paw_stage.specs.Log.{has_room, logged, given, done_in, all_done, AreLaid};
+ghost use Rattle.paw_stage.specs.declared.log.Kind.TheVariants as kind;
+
+use paw_base::fault::NoRoom;
+use std::alloc::Global;
+use std::marker::Model;
+
+/// What was done: a file was put there between the calls, or a call loaded, saved, took a line, found no line left, or
+/// showed a text.
+#[derive(Clone, Copy, Drop, PartialEq, Eq, Debug)]
+pub enum Kind {
+    Add,
+    Load,
+    Save,
+    Take,
+    End,
+    Show,
+}
+
+/// One call. The name handed to it stands in the room from `from` to `mid`, and the bytes from there to `to`.
+#[derive(Clone, Copy, Drop, PartialEq, Eq, Debug)]
+pub struct Call {
+    pub kind: Kind,
+    pub from: usize,
+    pub mid: usize,
+    pub to: usize,
+}
+
+/// The calls so far with the bytes handed to them, the text shown, and spare room for more calls and bytes.
+#[derive(Drop)]
+pub struct Log {
+    calls: Vec<Call>,
+    room: Vec<u8>,
+    text: Vec<u8>,
+    calls_left: usize,
+    bytes_left: usize,
+}
+
+impl Model for Log {
+    ghost use Rattle.paw_stage.specs.Log.{Logged};
+
+    ghost Value = { Logged };
+
+    ghost use Rattle.paw_stage.specs.LogInside.{logged_in, IsKept};
+
+    ghost view = { logged_in };
+
+    ghost invariant = { IsKept };
+}
+
+impl Log {
+    /// No calls yet, and room for so many calls and bytes.
+    pub fn new(alloc: Global, calls: usize, bytes: usize) -> Result<Log, NoRoom>
+        ensures { IfOk result (λ l. l ≡ record { calls = []; calls_left = calls; bytes_left = bytes }) }
+    {
+        Ok(Log {
+            calls: Vec::with_capacity(alloc, calls)?,
+            room: Vec::with_capacity(alloc, bytes)?,
+            text: Vec::with_capacity(alloc, bytes)?,
+            calls_left: calls,
+            bytes_left: bytes,
+        })
+    }
+
+    /// Records a call, and answers whether there was room for it.
+    pub fn add(&mut self, kind: Kind, name: &[u8], bytes: &[u8]) -> bool
+        ensures exact { result ≡ has_room self.old (length name.now + length bytes.now) }
+        ensures kept { IsTrue result → self.new ≡ logged (record { kind = kind; name = name.now; bytes = bytes.now }) self.old }
+        ensures full { IsFalse result → self.new ≡ self.old }
+    {
+        let n = name.len() + bytes.len();
+        if self.calls_left == 0 || n > self.bytes_left {
+            return false;
+        }
+        record_call(&mut self.calls, &mut self.room, kind, name, bytes);
+        show_text(&mut self.text, kind, bytes);
+        self.calls_left -= 1;
+        self.bytes_left -= n;
+        true
+    }
+
+    /// Records that a file was put there, for which new room is taken. The spare room stays.
+    pub fn add_file(&mut self, name: &[u8], bytes: &[u8]) -> Result<(), NoRoom>
+        ensures ok { OnOk result (self.new ≡ given (record { kind = kind.Add; name = name.now; bytes = bytes.now }) self.old) }
+        ensures err { OnErr result (self.new ≡ self.old) }
+    {
+        let n = name.len() + bytes.len();
+        reserve_beside(&mut self.calls, self.calls_left, 1)?;
+        reserve_beside(&mut self.room, self.bytes_left, n)?;
+        record_call(&mut self.calls, &mut self.room, Kind::Add, name, bytes);
+        Ok(())
+    }
+
+    /// The text shown.
+    pub fn shown(&self) -> &[u8]
+        ensures { result.now ≡ (after fresh self.now.calls).shown }
+    {
+        self.text.as_slice()
+    }
+
+    /// The bytes of a file, where it is there.
+    pub fn file(&self, name: &[u8]) -> Option<&[u8]>
+        ensures { option_copied result ≡ (after fresh self.now.calls).files name.now }
+    {
+        last_file(self.calls.as_slice(), self.room.as_slice(), name)
+    }
+}
+
+// Makes room for so many elements more than the spare ones.
+fn reserve_beside<T>(v: &mut Vec<T>, spare: usize, more: usize) -> Result<(), NoRoom>
+    ensures items { v.new.items ≡ v.old.items }
+    ensures len { vec_len v.new ≡ vec_len v.old }
+    ensures ok { OnOk result (vec_len v.new + spare + more ≤ vec_capacity v.new) }
+    ensures capacity { vec_capacity v.old ≤ vec_capacity v.new }
+{
+    let n = spare.checked_add(more).ok_or(NoRoom)?;
+    v.reserve(n)?;
+    Ok(())
+}
+
+// Adds bytes for which there is room.
+fn append(v: &mut Vec<u8>, bytes: &[u8])
+    requires { vec_len v.old + length bytes.now ≤ vec_capacity v.old }
+    ensures items { v.new.items ≡ v.old.items ++ bytes.now }
+    ensures len { vec_len v.new ≡ vec_len v.old + length bytes.now }
+    ensures capacity { vec_capacity v.old ≤ vec_capacity v.new }
+{
+    let _ = v.extend_from_slice(bytes);
+}
+
+// Adds a call for which there is room.
+fn append_call(calls: &mut Vec<Call>, call: Call)
+    requires { vec_len calls.old < vec_capacity calls.old }
+    ensures items { calls.new.items ≡ calls.old.items ++ call ∷ [] }
+    ensures len { vec_len calls.new ≡ vec_len calls.old + 1 }
+    ensures capacity { vec_capacity calls.old ≤ vec_capacity calls.new }
+{
+    let _ = calls.push(call);
+}
+
+// Adds a call and its bytes, for which there is room.
+fn record_call(calls: &mut Vec<Call>, room: &mut Vec<u8>, kind: Kind, name: &[u8], bytes: &[u8])
+    requires call_fits { vec_len calls.old < vec_capacity calls.old }
+    requires bytes_fit { vec_len room.old + length name.now + length bytes.now ≤ vec_capacity room.old }
+    requires laid { AreLaid calls.old.items 0 (length room.old.items) }
+    ensures laid { AreLaid calls.new.items 0 (length room.new.items) }
+    ensures done { all_done room.new.items calls.new.items ≡ all_done room.old.items calls.old.items ++ record { kind = kind; name = name.now; bytes = bytes.now } ∷ [] }
+    ensures calls_len { vec_len calls.new ≡ vec_len calls.old + 1 }
+    ensures room_len { vec_len room.new ≡ vec_len room.old + length name.now + length bytes.now }
+    ensures calls_capacity { vec_capacity calls.old ≤ vec_capacity calls.new }
+    ensures room_capacity { vec_capacity room.old ≤ vec_capacity room.new }
+{
+    let from = room.len();
+    append(room, name);
+    let mid = room.len();
+    append(room, bytes);
+    let to = room.len();
+    append_call(
+        calls,
+        Call {
+            kind,
+            from,
+            mid,
+            to,
+        },
+    );
+}
+
+// Adds to the text what a call showed.
+fn show_text(text: &mut Vec<u8>, kind: Kind, bytes: &[u8])
+    requires { vec_len text.old + length bytes.now ≤ vec_capacity text.old }
+    ensures shown { (s : Standing) (name : List ℕ) → s.shown ≡ text.old.items → (stepped kind name bytes.now s).shown ≡ text.new.items }
+    ensures len { vec_len text.new ≤ vec_len text.old + length bytes.now }
+    ensures capacity { vec_capacity text.old ≤ vec_capacity text.new }
+{
+    match kind {
+        Kind::Show => append(text, bytes),
+        Kind::Add => {}
+        Kind::Load => {}
+        Kind::Save => {}
+        Kind::Take => {}
+        Kind::End => {}
+    }
+}
+
+// A part of the room.
+fn part(room: &[u8], from: usize, to: usize) -> &[u8]
+    requires order { from ≤ to }
+    requires within { to ≤ length room.now }
+    ensures { result.now ≡ slice_range room.now from to }
+{
+    &room[from..to]
+}
+
+// The bytes of a file after these calls, where it is there.
+fn last_file<'a>(calls: &[Call], room: &'a [u8], name: &[u8]) -> Option<&'a [u8]>
+    requires { AreLaid calls.now 0 (length room.now) }
+    ensures { option_copied result ≡ (after fresh (all_done room.now calls.now)).files name.now }
+{
+    let mut found = None;
+    for call in calls {
+        found = file_after(*call, room, name, found);
+    }
+    found
+}
+
+// The bytes of a file after one call more, where it is there.
+fn file_after<'a>(
+    call: Call,
+    room: &'a [u8],
+    name: &[u8],
+    found: Option<&'a [u8]>,
+) -> Option<&'a [u8]>
+    requires { (call.from ≤ call.mid) × (call.mid ≤ call.to) × (call.to ≤ length room.now) }
+    ensures { (s : Standing) → option_copied found.entry ≡ s.files name.now → option_copied result ≡ (step s (done_in room.now call)).files name.now }
+{
+    let bytes = part(room, call.mid, call.to);
+    match call.kind {
+        Kind::Add => if part(room, call.from, call.mid) == name {
+            Some(bytes)
+        } else {
+            found
+        },
+        Kind::Save => if part(room, call.from, call.mid) == name {
+            Some(bytes)
+        } else {
+            found
+        },
+        Kind::Load => found,
+        Kind::Take => found,
+        Kind::End => found,
+        Kind::Show => found,
+    }
+}
