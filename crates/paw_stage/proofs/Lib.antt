@@ -1,3 +1,4 @@
 pub mod Names
 pub mod Counted
 mod Logs
+mod Lines

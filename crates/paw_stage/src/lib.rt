@@ -3,8 +3,10 @@
 
 mod faults;
 mod log;
+mod memory;
 
 pub use faults::FaultCounts;
+pub use memory::MemoryStage;
 use std::alloc::Global;
 
 /// The calls of a stage, by which faults are counted. A load has two: `LoadAbsent` counts the loads that found no

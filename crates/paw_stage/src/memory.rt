@@ -1,0 +1,173 @@
+// A stage in memory.
+
+ghost use Rattle.std.specs.Prelude.{◌≡◌, ◌⊎◌, ◌<◌, ◌+◌, ◌++◌, ◌∷◌, ◌↔◌, [], List, ℕ, length, take, drop, min, IsTrue, IsFalse, IfOk, OnOk, OnErr, IfSome, IfNone, IsErr, Option};
+ghost use Rattle.paw_stage.specs.declared.StageCall.TheVariants as call;
+ghost use Rattle.paw_stage.specs.declared.LoadRefusal.TheVariants as refusal;
+ghost use Rattle.paw_stage.specs.declared.Asked.TheVariants as asked;
+ghost use Rattle.paw_stage.specs.declared.log.Kind.TheVariants as kind;
+ghost use Rattle.paw_stage.specs.Stage.{Rose, Grows, IsCut, AsksTo, Saves};
+ghost use Rattle.paw_stage.specs.Faults.{count_of};
+ghost use Rattle.paw_stage.specs.Log.{has_room, given};
+ghost use Rattle.paw_stage.specs.Memory.{empty, standing_of, noted, failed};
+
+use crate::log::{Kind, Log};
+use crate::{Asked, Failed, FaultCounts, LoadRefusal, Stage, StageCall};
+use paw_base::fault::NoRoom;
+use std::alloc::Global;
+use std::collections::VecDeque;
+use std::marker::Model;
+
+// A line that is left.
+#[derive(Drop)]
+struct Line {
+    bytes: Vec<u8>,
+}
+
+impl Model for Line {
+    ghost use Rattle.std.specs.Prelude.{List, ℕ};
+
+    ghost Value = { List ℕ };
+
+    ghost view = { λ l. l.bytes.items };
+}
+
+/// A stage in memory, which tells everything.
+///
+/// It keeps a record of its calls, and what stands at it is what that record, played again, makes of nothing. Its
+/// memory is taken in `new`, `add_file` and `add_line`, so of a stage's calls only `load` can want memory, for what it
+/// gives. Each of them takes one of the spare calls, and the length of the name, the bytes and the text handed to it
+/// from the spare bytes. Exactly where either is too small the call is Failed, and then its own count alone changes.
+#[derive(Drop)]
+pub struct MemoryStage {
+    lines: VecDeque<Line>,
+    log: Log,
+    counts: FaultCounts,
+}
+
+impl Model for MemoryStage {
+    ghost use Rattle.paw_stage.specs.Memory.{Memory};
+
+    ghost Value = { Memory };
+
+    ghost view = { λ s. record { lines = s.lines.items; log = s.log; counts = s.counts } };
+}
+
+impl MemoryStage {
+    /// A stage with no files, no lines and no text, with spare room for so many calls and bytes.
+    pub fn new(alloc: Global, calls: u64, bytes: u64) -> Result<MemoryStage, NoRoom>
+        ensures { IfOk result (λ s. s ≡ empty calls bytes) }
+    {
+        Ok(MemoryStage {
+            lines: VecDeque::new(alloc),
+            log: Log::new(alloc, calls as usize, bytes as usize)?,
+            counts: FaultCounts::none(),
+        })
+    }
+
+    /// Adds a file, in the place of one of the same name. The spare room stays as it is.
+    pub fn add_file(&mut self, name: &str, bytes: &[u8]) -> Result<(), NoRoom>
+        ensures ok { OnOk result (self.new ≡ record self.old { log = given (record { kind = kind.Add; name = name.now; bytes = bytes.now }) self.old.log }) }
+        ensures err { OnErr result (self.new ≡ self.old) }
+    {
+        self.log.add_file(name.as_bytes(), bytes)
+    }
+
+    /// Adds a line, without a line end, after those that are left. The spare room stays as it is.
+    pub fn add_line(&mut self, alloc: Global, line: &[u8]) -> Result<(), NoRoom>
+        ensures ok { OnOk result (self.new ≡ record self.old { lines = self.old.lines ++ line.now ∷ [] }) }
+        ensures err { OnErr result (self.new ≡ self.old) }
+    {
+        let bytes = Vec::from_slice(alloc, line)?;
+        self.lines.push_back(Line { bytes }).map_err(|_| NoRoom)
+    }
+
+    /// The text shown.
+    pub fn shown(&self) -> &[u8]
+        ensures { result.now ≡ (standing_of self.now).shown }
+    {
+        self.log.shown()
+    }
+}
+
+impl Stage for MemoryStage {
+    ghost Tells = { λ _. Unit {0} };
+
+    ghost standing = { standing_of };
+
+    ghost faults = { λ s. count_of s.counts };
+
+    fn load(&mut self, alloc: Global, name: &str, most: usize) -> Result<Vec<u8>, LoadRefusal> {
+        if !self.log.add(Kind::Load, name.as_bytes(), &[]) {
+            self.counts.raise(StageCall::Load);
+            return Err(LoadRefusal::Failed);
+        }
+        let Some(bytes) = self.log.file(name.as_bytes()) else {
+            self.counts.raise(StageCall::LoadAbsent);
+            return Err(LoadRefusal::Absent);
+        };
+        copy_first(alloc, bytes, most)
+    }
+
+    fn save(&mut self, name: &str, bytes: &[u8]) -> Result<(), Failed>
+        ensures tells { Unit {0} ↔ Unit {0} }
+        ensures counts { Grows (count_of self.old.counts) (count_of self.new.counts) }
+        ensures cause { IsErr result → Rose (count_of self.old.counts call.Save) (count_of self.new.counts call.Save) }
+        ensures saved { OnOk result (Saves (standing_of self.old) (standing_of self.new) name.now (Some bytes.now)) }
+        ensures part { OnErr result ((standing_of self.new ≡ standing_of self.old) ⊎ ((left : Option (List ℕ)) × Saves (standing_of self.old) (standing_of self.new) name.now left)) }
+        ensures exact { IsErr result ↔ IsFalse (has_room self.old.log (length name.now + length bytes.now)) }
+        ensures noted { OnOk result (self.new ≡ noted (record { kind = kind.Save; name = name.now; bytes = bytes.now }) self.old) }
+        ensures failed { OnErr result (self.new ≡ failed call.Save self.old) }
+    {
+        if !self.log.add(Kind::Save, name.as_bytes(), bytes) {
+            self.counts.raise(StageCall::Save);
+            return Err(Failed);
+        }
+        Ok(())
+    }
+
+    fn ask(&mut self, into: &mut [u8; 255]) -> Asked {
+        let kind = if self.lines.is_empty() {
+            Kind::End
+        } else {
+            Kind::Take
+        };
+        if !self.log.add(kind, &[], &[]) {
+            self.counts.raise(StageCall::Ask);
+            return Asked::Failed;
+        }
+        match self.lines.pop_front() {
+            None => Asked::End,
+            Some(line) => Asked::Line(copy_cut(line.bytes.as_slice(), into)),
+        }
+    }
+
+    fn show(&mut self, text: &[u8]) -> Result<(), Failed> {
+        if !self.log.add(Kind::Show, &[], text) {
+            self.counts.raise(StageCall::Show);
+            return Err(Failed);
+        }
+        Ok(())
+    }
+}
+
+// The first `most + 1` bytes.
+fn copy_first(alloc: Global, bytes: &[u8], most: usize) -> Result<Vec<u8>, LoadRefusal>
+    ensures ok { IfOk result (λ v. v.items ≡ take (most + 1) bytes.now) }
+    ensures err { OnErr result (result ≡ Err refusal.Memory) }
+{
+    let n = if most < bytes.len() {
+        most + 1
+    } else {
+        bytes.len()
+    };
+    Vec::from_slice(alloc, &bytes[..n]).map_err(|_| LoadRefusal::Memory)
+}
+
+// Gives the first 255 bytes of a line, and how many they are.
+fn copy_cut(line: &[u8], into: &mut [u8; 255]) -> u8
+    ensures { IsCut line.now into.new result }
+{
+    let n = line.len().min(255);
+    into[..n].copy_from_slice(&line[..n]);
+    n as u8
+}
