@@ -1,5 +1,5 @@
 -- The conditions of the condact table: what each answers, and the world after it.
-use Rattle.std.specs.Prelude.{ℕ, ◌==◌, Bool, true, false, not, nat_le, if◌then◌else◌}
+use Rattle.std.specs.Prelude.{◌==◌, Bool, true, not, nat_le, if◌then◌else◌}
 use Rattle.paw_base.specs.declared.parts.Condact.{Condact}
 use Rattle.paw_game.specs.Game.{GameLists}
 use Rattle.paw_world.specs.World.{World, flag}
@@ -15,8 +15,12 @@ pub record Tested : Type 0 where
 abbrev pub is_condition : Condact → Bool
 is_condition c = nat_le c.code 28
 
+-- a condition that holds answers yes
+abbrev pub truth_of : Bool → Truth
+truth_of b = if b then truth.Yes else truth.No
+
 abbrev pub answers : World → Bool → Tested
-answers w b = record { answer = if b then truth.Yes else truth.No; world = w }
+answers w b = record { answer = truth_of b; world = w }
 
 -- one line for each condition
 unfoldable pub holds : GameLists → World → Condact → Tested

@@ -1,3 +1,4 @@
+pub mod Built
 pub mod Texts
 pub mod Holds
 pub mod Effects

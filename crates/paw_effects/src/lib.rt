@@ -2,3 +2,5 @@
 #![tactic(auto)]
 
 pub mod act;
+pub mod does;
+pub mod text;

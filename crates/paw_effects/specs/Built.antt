@@ -1,0 +1,21 @@
+-- Which condacts can be read, and in which worlds.
+use Rattle.std.specs.Prelude.{◌≡◌, ℕ, ◌==◌, ◌||◌, Bool, true, length, map, Some}
+use Rattle.paw_base.specs.declared.parts.Condact.{Condact}
+use Rattle.paw_game.specs.Game.{GameLists}
+use Rattle.paw_game.specs.Tables.{condact_at}
+use Rattle.paw_world.specs.World.{World}
+
+-- the codes that are built
+abbrev pub is_built : ℕ → Bool
+is_built code = (code == 0) || ((code == 1) || ((code == 30) || ((code == 32) || ((code == 49) || (code == 50)))))
+
+-- each condact of the game is built
+abbrev pub AllBuilt : GameLists → Type 0
+AllBuilt g = (t e k : ℕ) (c : Condact) → condact_at g t e k ≡ Some c → is_built c.code ≡ true
+
+-- a world of this game
+pub record IsOf (g : GameLists) (w : World) : Type 0 where
+  pub facts : w.facts ≡ map (λ o. o.facts) g.objects
+  pub locations : w.locations ≡ length g.locations
+  pub flags : length w.flags ≡ 256
+  pub places : length w.places ≡ length g.objects

@@ -1,0 +1,125 @@
+// The texts that a game prints into a piece.
+
+ghost use Rattle.std.specs.Prelude.{◌≡◌, ◌++◌, ◌<◌, List, ℕ, length, IfSome, IfNone, ◌==◌, Some};
+ghost use Rattle.paw_base.specs.Piece.{Puts};
+ghost use Rattle.paw_effects.specs.Texts.{with_name, referred_text, printed_text, line_of, put_text, say_text, location_text, message_text};
+
+use paw_base::piece::Piece;
+use paw_game::parts::GamePart;
+use paw_game::tables::Tables;
+use paw_world::world::World;
+
+/// The text before the first underscore, and the text behind it; None where there is no underscore.
+fn parted(text: &[u8]) -> Option<(&[u8], &[u8])>
+    ensures none { IfNone result ((name : List ℕ) → with_name name text.now ≡ text.now) }
+    ensures some { IfSome result (λ p. (name : List ℕ) → with_name name text.now ≡ (p.0.now ++ name) ++ with_name name p.1.now) }
+    ensures shorter { IfSome result (λ p. length p.1.now < length text.now) }
+{
+    for (i, &b) in text.iter().enumerate() {
+        if b == b'_' {
+            return Some((&text[..i], &text[i + 1..]));
+        }
+    }
+    None
+}
+
+/// Prints two texts, and answers true; or false exactly where they don't fit.
+fn print_both(piece: &mut Piece, first: &[u8], second: &[u8]) -> bool
+    ensures puts { Puts piece.old piece.new result (first.now ++ second.now) }
+{
+    piece.push(first) && piece.push(second)
+}
+
+/// Prints a text, the name in place of each underscore, and answers true; or false exactly where it doesn't fit.
+fn print(piece: &mut Piece, name: &[u8], text: &[u8]) -> bool
+    ensures puts { Puts piece.old piece.new result (with_name name.now text.now) }
+{
+    let mut rest = text;
+    while let Some((before, after)) = parted(rest) {
+        if !print_both(piece, before, name) {
+            return false;
+        }
+        rest = after;
+    }
+    piece.push(rest)
+}
+
+/// The text of the object last referred to; empty where there is none.
+fn referred<'a, T: Tables>(tables: &'a T, world: &World) -> &'a [u8]
+    ensures value { result.now ≡ referred_text (T.game tables.now) world.now }
+{
+    match tables.text(GamePart::Objects, world.flag(51)) {
+        Some(text) => text,
+        None => &[],
+    }
+}
+
+/// Prints a text as a game prints it.
+pub(crate) fn print_text<T: Tables>(
+    tables: &T,
+    world: &World,
+    piece: &mut Piece,
+    text: &[u8],
+) -> bool
+    ensures puts { Puts piece.old piece.new result (printed_text (T.game tables.now) world.now text.now) }
+{
+    print(piece, referred(tables, world), text)
+}
+
+/// Prints a text and a newline; nothing where it is empty.
+pub(crate) fn print_line<T: Tables>(
+    tables: &T,
+    world: &World,
+    piece: &mut Piece,
+    text: &[u8],
+) -> bool
+    ensures puts { Puts piece.old piece.new result (line_of (T.game tables.now) world.now text.now) }
+{
+    if text.is_empty() {
+        return piece.push(&[]);
+    }
+    print_text(tables, world, piece, text) && piece.push(b"\n")
+}
+
+/// Puts a system message, where there is one. False exactly where the piece would pass its limit; what it holds then is
+/// open.
+pub fn put<T: Tables>(tables: &T, world: &World, piece: &mut Piece, s: u8) -> bool
+    ensures puts { Puts piece.old piece.new result (put_text (T.game tables.now) world.now s) }
+{
+    match tables.text(GamePart::System, s) {
+        Some(text) => print_text(tables, world, piece, text),
+        None => piece.push(&[]),
+    }
+}
+
+/// Says a system message: with a newline, where there is one that isn't empty. False exactly where the piece would pass
+/// its limit; what it holds then is open.
+pub fn say<T: Tables>(tables: &T, world: &World, piece: &mut Piece, s: u8) -> bool
+    ensures puts { Puts piece.old piece.new result (say_text (T.game tables.now) world.now s) }
+{
+    match tables.text(GamePart::System, s) {
+        Some(text) => print_line(tables, world, piece, text),
+        None => piece.push(&[]),
+    }
+}
+
+/// Describes a location: its text with a newline, where there is one that isn't empty. False exactly where the piece
+/// would pass its limit; what it holds then is open.
+pub fn place_text<T: Tables>(tables: &T, world: &World, piece: &mut Piece, location: u8) -> bool
+    ensures puts { Puts piece.old piece.new result (location_text (T.game tables.now) world.now location) }
+{
+    match tables.text(GamePart::Locations, location) {
+        Some(text) => print_line(tables, world, piece, text),
+        None => piece.push(&[]),
+    }
+}
+
+/// Prints a message, where there is one.
+pub(crate) fn message<T: Tables>(tables: &T, world: &World, piece: &mut Piece, m: u8) -> bool
+    ensures puts { Puts piece.old piece.new result (message_text (T.game tables.now) world.now m) }
+{
+    match tables.text(GamePart::Messages, m) {
+        Some(text) => print_text(tables, world, piece, text),
+        None => piece.push(&[]),
+    }
+}
