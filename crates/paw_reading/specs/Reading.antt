@@ -137,7 +137,7 @@ answered g prompt.Over f go line r = go f.acted r
 unfoldable pub asked : GameLists → Prompt → Frame → (Bool → Run → Out) → Run → List (List ℕ) → Out
 asked g p f go r [] = Waits p (f ∷ []) (record r { events = [] })
 asked g p f go r (line ∷ lines) =
-    if is_ignored r.world line then asked g p f go (closed r) lines
+    if is_ignored r.world line then asked g p f go (closed (record r { events = lines })) lines
     else answered g p f go (reply line) (heard line (record r { events = lines }))
 
 -- the open piece is closed, and the run waits

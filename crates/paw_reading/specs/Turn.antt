@@ -81,7 +81,7 @@ line_set line r = record r { world = with_timeout false r.world; pending = line;
 unfoldable pub at_main : GameLists → (Run → Ending) → (Run → Ending) → Run → List (List ℕ) → Ending
 at_main g frame phrase r [] = WaitsAt prompt.Main [] (record r { events = [] })
 at_main g frame phrase r (line ∷ lines) =
-    if is_ignored r.world line then at_main g frame phrase (closed r) lines
+    if is_ignored r.world line then at_main g frame phrase (closed (record r { events = lines })) lines
     else if is_timeout line then saying (say_text g (with_timeout true r.world) 35) frame (heard line (record r { events = lines }))
     else phrase (line_set line (record r { events = lines }))
 
@@ -217,14 +217,22 @@ followed g X lines Unended = Unended
 
 -- ---- the laws ----
 
--- the turns from a stage on end
+-- a reading ends: the stages that are granted are enough
 abbrev pub TurnsEnd : Type 0
 TurnsEnd = (g : GameLists) (X : List (List ℕ)) (s : Stage) (r : Run) → turns_from g X s r ≢ Unended
 
--- more stages change nothing where a turn has ended
+-- more stages, or fewer that are enough, change nothing
 abbrev pub EndsOnce : Type 0
 EndsOnce = (g : GameLists) (X : List (List ℕ)) (n : ℕ) (s : Stage) (r : Run) →
     turn g X n s r ≢ Unended → turn g X n s r ≡ turns_from g X s r
+
+-- so is it with going on from a prompt
+abbrev pub GoingOnEnds : Type 0
+GoingOnEnds = (g : GameLists) (X : List (List ℕ)) (p : Prompt) (path : List Frame) (r : Run) → on g X p path r ≢ Unended
+
+abbrev pub GoesOnOnce : Type 0
+GoesOnOnce = (g : GameLists) (X : List (List ℕ)) (n : ℕ) (p : Prompt) (path : List Frame) (r : Run) →
+    goes_on g X n p path r ≢ Unended → goes_on g X n p path r ≡ on g X p path r
 
 -- reading more lines is reading some, and going on with the others
 abbrev pub GoingOnIsReading : Type 0
