@@ -1,6 +1,6 @@
 -- The condacts: their codes, their names, and what their parameters name.
-use Rattle.std.specs.Prelude.{ℕ, ◌≤◌, ◌-◌, ◌+◌, ◌++◌, Bool, List, [], ◌∷◌, length, replicate, map, nat_le, Option, codes, bytes_eq}
-use Rattle.std.specs.List.{slice_index_or, position}
+use Rattle.std.specs.Prelude.{ℕ, ◌≡◌, ◌≤◌, ◌-◌, ◌+◌, ◌++◌, Bool, List, [], ◌∷◌, length, replicate, map, nat_le, Option, codes, bytes_eq, ◌==◌, ◌&&◌, not}
+use Rattle.std.specs.List.{slice_index_or, position, list_any, before_first}
 use Rattle.std.specs.Char.{to_ascii_uppercase}
 use Rattle.paw_base.specs.declared.rows.ParamKind.{ParamKind}
 use Rattle.paw_base.specs.declared.rows.ParamKind.TheVariants.{Absent, Location, Place, Object, Flag, Number, Message, System, Table, Adverb, Noun, Adjective, Preposition}
@@ -133,7 +133,7 @@ abbrev pub IsCode : ℕ → Type 0
 IsCode code = code ≤ 107
 
 -- the line of a code; above 107 one with no name and no parameters
-abbrev pub line_of : ℕ → CondactLine
+unfoldable pub line_of : ℕ → CondactLine
 line_of code = slice_index_or condact_lines code (condact [] Absent Absent)
 
 abbrev pub name_of : ℕ → List ℕ
@@ -147,13 +147,14 @@ first_kind code = (line_of code).first
 abbrev pub second_kind : ℕ → ParamKind
 second_kind code = (line_of code).second
 
-abbrev pub one_unless_absent : ParamKind → ℕ
-one_unless_absent Absent = 0
-one_unless_absent _ = 1
+-- a kind stands for one parameter, Absent for none
+abbrev pub param_count : ParamKind → ℕ
+param_count Absent = 0
+param_count _ = 1
 
 -- how many parameters a code has: 0 to 2
 abbrev pub params_of : ℕ → ℕ
-params_of code = one_unless_absent (first_kind code) + one_unless_absent (second_kind code)
+params_of code = param_count (first_kind code) + param_count (second_kind code)
 
 -- the codes from 29 on act; those below test
 abbrev pub acts : ℕ → Bool
@@ -163,6 +164,10 @@ acts code = nat_le 29 code
 abbrev pub filled_up : List ℕ → List ℕ
 filled_up name = name ++ replicate (8 - length name) 32
 
+-- what stands before the first space
+abbrev pub before_space : List ℕ → List ℕ
+before_space name = before_first (λ byte. byte == 32) name
+
 -- what the table says of a code
 abbrev pub row_of : ℕ → CondactRow
 row_of code = record { name = filled_up (name_of code); first = first_kind code; second = second_kind code; acts = acts code }
@@ -171,6 +176,14 @@ row_of code = record { name = filled_up (name_of code); first = first_kind code;
 abbrev pub capitals : List ℕ → List ℕ
 capitals name = map to_ascii_uppercase name
 
--- the code with this name, its letters read as capitals, where there is one
+-- the condact of this code has this name, its letters read as capitals
+abbrev pub HasName : ℕ → List ℕ → Type 0
+HasName code name = IsCode code × (name_of code ≡ capitals name)
+
+-- the least code with this name, its letters read as capitals, where there is one
 abbrev pub code_named : List ℕ → Option ℕ
-code_named name = position (λ l. bytes_eq l.name (capitals name)) condact_lines
+code_named name = position (λ line. bytes_eq line.name (capitals name)) condact_lines
+
+-- at most eight bytes, and no space among them
+abbrev pub is_plain : List ℕ → Bool
+is_plain name = nat_le (length name) 8 && not (list_any (λ byte. byte == 32) name)

@@ -1,0 +1,2 @@
+pub mod Condacts
+pub mod Filled

@@ -1,0 +1,9 @@
+use Rattle.std.proofs.Common.{◌∙◌, sym}
+use Rattle.paw_base.proofs.Condacts.{code_of_filled_up, no_code}
+use Rattle.paw_base.proofs.rows.code_of.Goals as goal
+
+pub returns-in_err-wanted : goal.returns-in_err-wanted
+returns-in_err-wanted c = c.from_residual.ensures ∙ sym (no_code c.args.name.now c.in_err-wanted.ensures.plain)
+
+pub returns : goal.returns
+returns c = c.place_of.ensures ∙ rw c.in_ok-wanted.ensures.value (code_of_filled_up c.args.name.now c.in_ok-wanted.ensures.plain)
