@@ -1,2 +1,3 @@
-pub mod Condacts
 pub mod Filled
+pub mod Table
+pub mod Named

@@ -1,6 +1,6 @@
 // Refusals and faults that several crates name.
 
-use std::alloc::AllocError;
+use std::alloc::{AllocError, AllocFailed};
 
 /// Want of memory.
 #[derive(Clone, Copy, Drop, PartialEq, Eq, Debug)]
@@ -8,6 +8,12 @@ pub struct NoRoom;
 
 impl From<AllocError> for NoRoom {
     fn from(_: AllocError) -> NoRoom {
+        NoRoom
+    }
+}
+
+impl<T: Drop> From<AllocFailed<T>> for NoRoom {
+    fn from(_: AllocFailed<T>) -> NoRoom {
         NoRoom
     }
 }

@@ -2,7 +2,7 @@
 
 ghost use Rattle.std.specs.Prelude.{◌≡◌, ◌+◌, ℕ, SomeIff, IfSome, is_some, bytes_eq, ◌==◌};
 ghost use Rattle.std.specs.List.{position};
-ghost use Rattle.paw_base.specs.Condacts.{IsCode, HasName, is_plain, param_count, before_space, row_of, capitals, filled_up, code_named};
+ghost use Rattle.paw_base.specs.Condacts.{IsCode, HasName, is_plain, param_count, before_space, row_of, name_of, capitals, filled_up, code_named};
 
 use ParamKind::{
     Absent, Adjective, Adverb, Flag, Location, Message, Noun, Number, Object, Place, Preposition,
@@ -47,12 +47,20 @@ impl CondactRow {
 
     /// The name without the spaces that fill it up.
     pub fn trimmed_name(&self) -> &[u8]
-        ensures { result.now ≡ before_space self.now.name }
+        ensures value { result.now ≡ before_space self.now.name }
+        ensures of_code { (code : ℕ) → IsCode code → self.now ≡ row_of code → result.now ≡ name_of code }
     {
-        match first_space(&self.name) {
-            Some(end) => &self.name[..end],
-            None => &self.name,
-        }
+        up_to_space(&self.name)
+    }
+}
+
+/// What stands before the first space.
+fn up_to_space(name: &[u8]) -> &[u8]
+    ensures { result.now ≡ before_space name.now }
+{
+    match first_space(name) {
+        Some(end) => &name[..end],
+        None => name,
     }
 }
 

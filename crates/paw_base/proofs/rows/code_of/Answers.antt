@@ -1,5 +1,5 @@
 use Rattle.std.proofs.Common.{◌∙◌, sym}
-use Rattle.paw_base.proofs.Condacts.{code_of_filled_up, no_code}
+use Rattle.paw_base.proofs.Named.{code_of_filled_up, no_code}
 use Rattle.paw_base.proofs.rows.code_of.Goals as goal
 
 pub returns-in_err-wanted : goal.returns-in_err-wanted

@@ -1,5 +1,5 @@
 use Rattle.std.proofs.Common.{◌≤◌, ◌∙◌, sym, arith}
-use Rattle.paw_base.proofs.Condacts.{code_named_found, code_named_only}
+use Rattle.paw_base.proofs.Named.{code_named_found, code_named_only}
 use Rattle.paw_base.proofs.rows.condact_named.Goals as goal
 
 pub returns-in_err-code-clause-only : goal.returns-in_err-code-clause-only

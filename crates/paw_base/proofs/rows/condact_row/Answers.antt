@@ -1,7 +1,7 @@
 use Rattle.std.proofs.Common.{◌<◌, arith, Some}
 use Rattle.std.specs.Slice.{IsItemAt}
 use Rattle.paw_base.specs.declared.rows.TheConstants.{CONDACTS}
-use Rattle.paw_base.proofs.Condacts.{row_is}
+use Rattle.paw_base.proofs.Table.{row_is}
 use Rattle.paw_base.proofs.rows.condact_row.Goals as goal
 
 pub returns : goal.returns

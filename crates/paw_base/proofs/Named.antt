@@ -1,0 +1,86 @@
+-- The code of a name.
+use Rattle.std.proofs.Common.{◌≡◌, ℕ, ◌<◌, ◌==◌, Bool, true, false, not, ◌&&◌, List, [], ◌∷◌, map, refl, sym, ap, ◌∙◌, Option, Some, None, option_map, unwrap_or, subst, bytes_eq, arith}
+use Rattle.std.specs.List.{position, prefix_len, list_all}
+use Rattle.std.proofs.lemmas.Bool.Decides.{Decides-eqb}
+use Rattle.std.proofs.lemmas.Slice.Eq.{bytes_eq-Decides}
+use Rattle.std.proofs.lemmas.List.Quantifiers.{position-Some}
+use Rattle.std.proofs.Math.ListN.{length-map}
+use Rattle.paw_base.proofs.Filled.{has_space, has_space-plain, bytes_eq-filled_up, is_plain-capitals}
+use Rattle.paw_base.proofs.Table.{held, CONDACTS_are, length-condact_lines, below, each_code, is_plain-name_of, HasName-name_of}
+use Rattle.paw_base.specs.declared.rows.ParamKind.TheVariants.{Absent}
+use Rattle.paw_base.specs.declared.rows.TheConstants.{CONDACTS}
+use Rattle.paw_base.specs.Condacts.{CondactLine, condact, condact_lines, filled_up, line_of, name_of, capitals, code_named, HasName, IsCode, is_plain}
+
+abbrev code_with : List ℕ → Option ℕ
+code_with name = position (λ line. bytes_eq line.name name) condact_lines
+
+-- ---- no two codes have one name
+
+is_own : ℕ → Bool
+is_own code = unwrap_or (option_map (λ found. found == code) (code_with (name_of code))) false
+
+own_names : below is_own 108 ≡ true
+unfolding condact_lines line_of below is_own
+own_names = refl
+
+own_from : (found : Option ℕ) (code : ℕ) → unwrap_or (option_map (λ n. n == code) found) false ≡ true → found ≡ Some code
+own_from None code h = cc
+own_from (Some n) code h = ap Some ((Decides-eqb n code).0 h)
+
+code_with-name_of : (code : ℕ) → IsCode code → code_with (name_of code) ≡ Some code
+unfolding is_own
+code_with-name_of code h = own_from (code_with (name_of code)) code (each_code is_own own_names code h)
+
+pub code_named_only : (code : ℕ) (name : List ℕ) → HasName code name → code_named name ≡ Some code
+code_named_only code name h = ap code_with (sym h.1) ∙ code_with-name_of code h.0
+
+pub code_named-name_of : (code : ℕ) → IsCode code → code_named (name_of code) ≡ Some code
+code_named-name_of code h = code_named_only code (name_of code) (HasName-name_of code h)
+
+pub code_named_found : (name : List ℕ) (code : ℕ) → code_named name ≡ Some code → HasName code name
+unfolding line_of
+code_named_found name code e =
+    let p = position-Some (λ line. bytes_eq line.name (capitals name)) condact_lines code (condact [] Absent Absent) e in
+    let within : code < 108 = subst (λ (n : ℕ). code < n) length-condact_lines p.0 in
+    (omega arith, (bytes_eq-Decides (line_of code).name (capitals name)).0 p.1)
+
+-- ---- the search among the names that are filled up
+
+both : (a b : Bool) → (a && b) ≡ true → (a ≡ true) × (b ≡ true)
+both true b h = (refl, h)
+both false b h = cc
+
+plain_lines : List CondactLine → Bool
+plain_lines lines = list_all (λ line. is_plain line.name) lines
+
+condact_lines_plain : plain_lines condact_lines ≡ true
+unfolding condact_lines plain_lines
+condact_lines_plain = refl
+
+prefix_len-held : (name : List ℕ) (lines : List CondactLine) → has_space name ≡ false → plain_lines lines ≡ true
+    → prefix_len (λ row. not (bytes_eq row.0 (filled_up name))) (map held lines) ≡ prefix_len (λ line. not (bytes_eq line.name name)) lines
+unfolding plain_lines
+prefix_len-held name [] h all = refl
+prefix_len-held name (line ∷ lines) h all =
+    let two = both (is_plain line.name) (plain_lines lines) all in
+    rw (bytes_eq-filled_up line.name name (has_space-plain line.name two.0) h, prefix_len-held name lines h two.1) refl
+
+pub code_of_filled_up : (name : List ℕ) → is_plain name ≡ true → position (λ row. bytes_eq row.0 (filled_up (capitals name))) CONDACTS ≡ code_named name
+code_of_filled_up name h =
+    let none = has_space-plain (capitals name) (is_plain-capitals name ∙ h) in
+    ap (λ rows. position (λ row. bytes_eq row.0 (filled_up (capitals name))) rows) CONDACTS_are
+    ∙ rw (prefix_len-held (capitals name) condact_lines none condact_lines_plain, length-map condact_lines held) refl
+
+none_unless : (found : Option ℕ) → ((code : ℕ) → found ≡ Some code → ⊥) → found ≡ None
+none_unless None h = refl
+none_unless (Some code) h = absurd (h code refl)
+
+has_no_code : (name : List ℕ) → is_plain name ≡ false → (code : ℕ) → code_named name ≡ Some code → ⊥
+has_no_code name h code e =
+    let has = code_named_found name code e in
+    let plain : is_plain (capitals name) ≡ true = subst (λ (s : List ℕ). is_plain s ≡ true) has.1 (is_plain-name_of code has.0) in
+    let capital = is_plain-capitals name in
+    cc
+
+pub no_code : (name : List ℕ) → is_plain name ≡ false → code_named name ≡ None
+no_code name h = none_unless (code_named name) (has_no_code name h)
