@@ -1,8 +1,10 @@
-//! The lines of a source, and the tokens of a line.
+//! The lines of a source, the tokens of a line, and the bytes that a line may hold.
 #![tactic(auto)]
 
+mod bytes;
 mod lines;
 mod tokens;
 
+pub use bytes::{LexFault, byte_fault};
 pub use lines::{Line, Lines, MAX_SOURCE_LEN};
 pub use tokens::{Token, next_token};

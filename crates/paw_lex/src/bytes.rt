@@ -1,0 +1,59 @@
+// The bytes that a line may hold.
+
+ghost use Rattle.std.specs.Prelude.{◌≡◌, not, true, false, MatchOption};
+ghost use Rattle.std.specs.List.{list_any};
+ghost use Rattle.paw_lex.specs.Lines.{bytes_of, LiesIn};
+ghost use Rattle.paw_lex.specs.Bytes.{is_comment, is_allowed, has_forbidden_byte};
+
+use crate::lines::Line;
+use paw_base::fault::SourceKind;
+
+/// A forbidden byte: the number of its line, and the kind of the fault.
+#[derive(Clone, Copy, Drop, PartialEq, Eq, Debug)]
+pub struct LexFault {
+    pub line: u32,
+    pub kind: SourceKind,
+}
+
+fn is_comment(line: &[u8]) -> bool
+    ensures { result ≡ is_comment line.now }
+{
+    line.first() == Some(&b';')
+}
+
+fn is_allowed(text: bool, byte: u8) -> bool
+    ensures { result ≡ is_allowed text byte }
+{
+    matches!(byte, b' '..=b'~') || !text && byte == b'\t'
+}
+
+fn any_is_forbidden(text: bool, line: &[u8]) -> bool
+    ensures { result ≡ list_any (λ b. not (is_allowed text b)) line.now }
+{
+    line.iter().any(|byte| !is_allowed(text, *byte))
+}
+
+fn has_forbidden_byte(text: bool, line: &[u8]) -> bool
+    ensures { result ≡ has_forbidden_byte text line.now }
+{
+    !is_comment(line) && any_is_forbidden(text, line)
+}
+
+/// The fault of a line that holds a forbidden byte. A comment, which is a line that begins with `;`, may hold any byte, a
+/// text line the bytes from the space to `~`, and any other line tabs too. `text` tells that it is a text line.
+pub fn byte_fault(source: &[u8], line: &Line, text: bool) -> Option<LexFault>
+    requires { LiesIn source.now line.now }
+    ensures { let forbidden = has_forbidden_byte text (bytes_of source.now line.now) in
+        MatchOption result (forbidden ≡ false)
+        (λ fault. (forbidden ≡ true)
+        × (fault ≡ record { line = line.now.number; kind = SourceKind.Text })) }
+{
+    if has_forbidden_byte(text, &source[line.from..line.to]) {
+        Some(LexFault {
+            line: line.number,
+            kind: SourceKind::Text,
+        })
+    } else {
+        None
+    }
+}
