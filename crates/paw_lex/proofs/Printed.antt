@@ -1,0 +1,92 @@
+-- Lines and tokens that were printed are read back.
+use Rattle.std.proofs.Common.{◌≡◌, ℕ, ◌<◌, ◌-◌, Bool, true, false, not, ◌&&◌, eqb, ltb, List, [], ◌∷◌, ◌++◌, length, get_or, refl, sym, ap, ◌∙◌, inl, inr, one-add, arith}
+use Rattle.std.specs.List.{before_first, position_or_len, slice_split, list_all, flat_map, join_with_byte, All}
+use Rattle.std.specs.Str.Lines.{lines, lines_of_parts, strip_carriage_return}
+use Rattle.std.proofs.lemmas.Bool.{leb-true, ltb-true, ne_eqb, and_parts, cases_lt}
+use Rattle.std.proofs.lemmas.List.{append-nil, append_assoc, take_at, drop_at, get_or_past}
+use Rattle.std.proofs.lemmas.List.Splits.{slice_split_at, length-slice_split}
+use Rattle.std.proofs.lemmas.List.Sums.{AllPass-from_list_all}
+use Rattle.paw_lex.specs.Bytes.{is_printed}
+use Rattle.paw_lex.specs.Lines.{lines_of}
+use Rattle.paw_lex.specs.Tokens.{ends_token, tokens_of}
+use Rattle.paw_lex.proofs.LineCuts.{lines_of_parts-cons}
+use Rattle.paw_lex.proofs.Slices.{before_first-cons}
+use Rattle.paw_lex.proofs.TokenCuts.{tokens_of-blank, token_first}
+
+-- no printed byte is below the space
+printed_is_not : (n b : ℕ) → n < 32 → is_printed b ≡ true → eqb b n ≡ false
+printed_is_not n b h e =
+    let above = leb-true 32 b (and_parts _ _ e).0 in
+    ne_eqb b n (λ same. omega arith)
+
+none_is : (n : ℕ) (line : List ℕ) → n < 32 → list_all is_printed line ≡ true → All (λ b. eqb b n ≡ false) line
+none_is n line h e = λ k d l. printed_is_not n (get_or line k d) h (AllPass-from_list_all is_printed line e k d l)
+
+-- the text of a source goes on past printed bytes
+text-append : (line rest : List ℕ) → list_all is_printed line ≡ true → before_first (λ b. eqb b 26) (line ++ rest) ≡ line ++ before_first (λ b. eqb b 26) rest
+text-append [] rest e = refl
+text-append (b ∷ bs) rest e =
+    let both = and_parts _ _ e in
+    before_first-cons (λ b. eqb b 26) b (bs ++ rest) (printed_is_not 26 b (omega arith) both.0) ∙ ap (λ (bytes : List ℕ). b ∷ bytes) (text-append bs rest both.1)
+
+no_return : (line : List ℕ) → list_all is_printed line ≡ true → strip_carriage_return line ≡ line
+no_return line e =
+    let last : eqb (get_or line (length line - 1) 0) 13 ≡ false = elim (cases_lt (length line - 1) (length line)) [
+      | inl h ↦ none_is 13 line (omega arith) e (length line - 1) 0 h
+      | inr h ↦ rw (get_or_past line (length line - 1) 0 h) refl
+    ] in
+    rw last refl
+
+-- a printed line and its LF
+pub lines_of-line : (line rest : List ℕ) → list_all is_printed line ≡ true → lines_of (line ++ 10 ∷ rest) ≡ line ∷ lines_of rest
+unfolding lines_of
+lines_of-line line rest e =
+    let text = before_first (λ b. eqb b 26) rest in
+    let more : 0 < length (slice_split (λ b. eqb b 10) text) = omega (arith, length-slice_split (λ b. eqb b 10) text) in
+    ap lines (text-append line (10 ∷ rest) e ∙ ap (λ (bytes : List ℕ). line ++ bytes) (before_first-cons (λ b. eqb b 26) 10 rest refl))
+    ∙ ap lines_of_parts (slice_split_at (λ b. eqb b 10) line 10 text (none_is 10 line (omega arith) e) refl)
+    ∙ lines_of_parts-cons line (slice_split (λ b. eqb b 10) text) more
+    ∙ ap (λ (bytes : List ℕ). bytes ∷ lines text) (no_return line e)
+
+-- each line with its LF
+abbrev pub printed_lines : List (List ℕ) → List ℕ
+printed_lines = flat_map (λ line. line ++ 10 ∷ [])
+
+pub lines_of-printed_lines : (ls : List (List ℕ)) → list_all (list_all is_printed) ls ≡ true → lines_of (printed_lines ls) ≡ ls
+unfolding lines_of
+lines_of-printed_lines [] e = refl
+lines_of-printed_lines (line ∷ ls) e =
+    let both = and_parts _ _ e in
+    ap lines_of (append_assoc line (10 ∷ []) (printed_lines ls))
+    ∙ lines_of-line line (printed_lines ls) both.0
+    ∙ ap (λ (rest : List (List ℕ)). line ∷ rest) (lines_of-printed_lines ls both.1)
+
+-- a token has a byte, and none that ends it
+abbrev pub is_token : List ℕ → Bool
+is_token token = ltb 0 (length token) && list_all (λ b. not (ends_token b)) token
+
+end_of_token : (token rest : List ℕ) → list_all (λ b. not (ends_token b)) token ≡ true → position_or_len ends_token rest ≡ 0 → position_or_len ends_token (token ++ rest) ≡ length token
+end_of_token [] rest e h = h
+end_of_token (b ∷ bs) rest e h =
+    let both = and_parts (not (ends_token b)) (list_all (λ c. not (ends_token c)) bs) e in
+    rw (both.0, end_of_token bs rest both.1 h, one-add) refl
+
+-- a token, where nothing or a byte that ends it follows
+pub tokens_of-token : (token rest : List ℕ) → is_token token ≡ true → position_or_len ends_token rest ≡ 0 → tokens_of (token ++ rest) ≡ token ∷ tokens_of rest
+tokens_of-token token rest e h =
+    let both = and_parts _ _ e in
+    let long = ltb-true 0 (length token) both.0 in
+    token_first (token ++ rest) (length token) (sym (end_of_token token rest both.1 h)) long
+    ∙ rw (take_at token rest (length token) refl, drop_at token rest (length token) refl) refl
+
+-- tokens with a space between each two
+pub tokens_of-join : (ts : List (List ℕ)) → list_all is_token ts ≡ true → tokens_of (join_with_byte 32 ts) ≡ ts
+unfolding tokens_of
+tokens_of-join [] e = refl
+tokens_of-join (t ∷ []) e =
+    let both = and_parts _ _ e in
+    ap tokens_of (sym (append-nil t)) ∙ tokens_of-token t [] both.0 refl
+tokens_of-join (t ∷ u ∷ ts) e =
+    let both = and_parts _ _ e in
+    tokens_of-token t (32 ∷ join_with_byte 32 (u ∷ ts)) both.0 refl
+    ∙ ap (λ (rest : List (List ℕ)). t ∷ rest) (tokens_of-blank 32 (join_with_byte 32 (u ∷ ts)) refl ∙ tokens_of-join (u ∷ ts) both.1)
