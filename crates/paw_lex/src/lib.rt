@@ -8,3 +8,6 @@ mod tokens;
 pub use bytes::{LexFault, byte_fault};
 pub use lines::{Line, Lines, MAX_SOURCE_LEN};
 pub use tokens::{Token, next_token};
+
+#[cfg(test)]
+mod tests;
