@@ -16,14 +16,14 @@ pub struct Places {
 }
 
 impl Model for Places {
-    ghost use Rattle.std.specs.Prelude.{◌≤◌, List, ℕ, take};
+    ghost use Rattle.std.specs.Prelude.{List, ℕ, take};
     ghost use Rattle.paw_world.specs.PlaceSets.{AreSetsOf};
 
     ghost Value = { List ℕ };
 
     ghost view = { λ p. take p.count p.places };
 
-    ghost invariant = { λ p. (p.count ≤ 255) × AreSetsOf p.sets p.count p.places };
+    ghost invariant = { λ p. AreSetsOf p.sets p.count p.places };
 }
 
 impl Places {

@@ -1,7 +1,9 @@
 // Sets of objects.
 
-ghost use Rattle.std.specs.Prelude.{◌≡◌, ◌≤◌, replicate};
-ghost use Rattle.paw_world.specs.ObjectSet.{Inserts, Removes, IsLeastFrom};
+ghost use Rattle.std.specs.Prelude.{◌<◌, ◌≤◌};
+ghost use Rattle.paw_world.specs.ObjectSet.{Inserts, Removes, IsLeastFrom, IsLowestFrom};
+
+use std::marker::Model;
 
 /// A set of numbers from 0 to 255: bit o % 64 of word o / 64 tells whether o is in it.
 #[derive(Clone, Copy, Drop)]
@@ -9,40 +11,65 @@ pub struct ObjectSet {
     words: [u64; 4],
 }
 
+impl Model for ObjectSet {
+    ghost use Rattle.std.specs.Prelude.{List, ℕ};
+
+    ghost Value = { List ℕ };
+
+    ghost view = { λ s. s.words };
+
+    ghost inverse = { λ words. record { words = words } };
+}
+
 impl ObjectSet {
     pub const EMPTY: ObjectSet = ObjectSet { words: [0; 4] };
 
     /// The set with this member too.
-    pub fn with(mut self, o: u8) -> ObjectSet
-        ensures { Inserts o self.words result.words }
+    pub fn with(&self, o: u8) -> ObjectSet
+        ensures { Inserts o self.now result }
     {
-        self.words[(o / 64) as usize] |= 1 << (o % 64);
-        self
+        let mut words = self.words;
+        words[(o / 64) as usize] |= 1 << (o % 64);
+        ObjectSet { words }
     }
 
     /// The set without this member.
-    pub fn without(mut self, o: u8) -> ObjectSet
-        ensures { Removes o self.words result.words }
+    pub fn without(&self, o: u8) -> ObjectSet
+        ensures { Removes o self.now result }
     {
-        self.words[(o / 64) as usize] &= !(1 << (o % 64));
-        self
+        let mut words = self.words;
+        words[(o / 64) as usize] &= !(1 << (o % 64));
+        ObjectSet { words }
     }
 
     /// The least member that isn't below `from`.
     pub fn least_from(&self, from: usize) -> Option<u8>
         requires { from ≤ 256 }
-        ensures { IsLeastFrom self.now.words from result }
+        ensures { IsLeastFrom self.now from result }
     {
         let mut word = from / 64;
-        let mut bit = from % 64;
+        let mut bit = (from % 64) as u8;
         while word < 4 {
-            let left = self.words[word] >> bit;
-            if left != 0 {
-                return Some((64 * word + bit) as u8 + left.trailing_zeros() as u8);
+            match lowest_from(self.words[word], bit) {
+                Some(one) => return Some(64 * word as u8 + one),
+                None => {
+                    word += 1;
+                    bit = 0;
+                }
             }
-            word += 1;
-            bit = 0;
         }
         None
     }
+}
+
+/// The lowest bit of a word that is 1 and isn't below `from`.
+fn lowest_from(word: u64, from: u8) -> Option<u8>
+    requires { from < 64 }
+    ensures { IsLowestFrom word from result }
+{
+    let left = word >> from;
+    if left == 0 {
+        return None;
+    }
+    Some(from + left.trailing_zeros() as u8)
 }

@@ -1,0 +1,6 @@
+use Rattle.std.proofs.Common.{arith, rules}
+use Rattle.paw_world.proofs.Bits.{inserts}
+use Rattle.paw_world.proofs.set.ObjectSet.with.Goals as goal
+
+pub returns : goal.returns
+returns c = rw (← c.self.view_is) (inserts c.self.inside.words c.args.o c.self.told (omega arith))
