@@ -1,4 +1,5 @@
 pub mod Bits
+pub mod DrawnOn
 pub mod Least
 pub mod Listed
 pub mod Sets
