@@ -37,12 +37,16 @@ first_carried facts = count_by (λ f. f.start == 254) facts
 
 -- all flags are 0 but these: flag 1 counts what is carried, the words of a sentence and the object last referred to are
 -- none (255), four objects and a weight of ten may be carried
-unfoldable pub opening_flags : List ObjectFacts → List ℕ
-opening_flags facts =
+unfoldable pub flags_with : ℕ → List ℕ
+flags_with carried =
     let none : List ℕ → ℕ → List ℕ = λ flags f. slice_set flags f 255 in
-    let words = none (none (none (none (slice_set (replicate 256 0) 1 (first_carried facts)) 33) 34) 35) 36 in
+    let words = none (none (none (none (slice_set (replicate 256 0) 1 carried) 33) 34) 35) 36 in
     let more = none (none (none (none (none (none words 43) 44) 45) 46) 47) 51 in
     slice_set (slice_set more 37 4) 52 10
+
+-- the flags at the start of a game with these objects
+abbrev pub opening_flags : List ObjectFacts → List ℕ
+opening_flags facts = flags_with (first_carried facts)
 
 -- each object stands where it begins
 abbrev pub opening_places : List ObjectFacts → List ℕ
@@ -159,6 +163,13 @@ pub record IsPosition (objects : ℕ) (q : Position) : Type 0 where
 -- a saved position, where there is one, is one for so many objects
 abbrev pub IsSavedFor : ℕ → Option Position → Type 0
 IsSavedFor objects saved = IfSome saved (IsPosition objects)
+
+-- what is kept of a world: 256 flags, at most 255 places, room for the facts of 255 objects, and a position of the same size
+pub record IsKept (facts : List ObjectFacts) (flags places : List ℕ) (saved : Option Position) : Type 0 where
+  pub objects : length places ≤ 255
+  pub facts_room : length facts ≡ 255
+  pub flags_all : length flags ≡ 256
+  pub saved_alike : IsSavedFor (length places) saved
 
 -- what holds of every world: at most 255 objects, with facts and a place for each, and 256 flags; so in the saved position
 pub record IsWorld (w : World) : Type 0 where

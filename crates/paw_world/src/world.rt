@@ -2,8 +2,8 @@
 
 ghost use Rattle.std.specs.Prelude.{◌≡◌, ◌+◌, ◌-◌, ◌^◌, ◌<◌, ◌≤◌, length, take, slice_get, is_some, IsSome, IfSome};
 ghost use Rattle.paw_world.specs.Draws.{word};
-ghost use Rattle.paw_world.specs.World.{opened, flag, with_flag, place, moved, first_at, ramsaved, ramloaded, saved_flag, saved_place, restarted, drawn_on, opening_flags, IsWorld};
-ghost use Rattle.paw_world.specs.Weight.{weight, weight_down, weight_at, carried_weight};
+ghost use Rattle.paw_world.specs.World.{opened, flag, with_flag, place, moved, first_at, ramsaved, ramloaded, saved_flag, saved_place, restarted, drawn_on, first_carried, opening_flags, IsWorld};
+ghost use Rattle.paw_world.specs.Weight.{weight, weight_down, weight_with, carried_weight};
 
 use crate::MOST_OBJECTS;
 use crate::draws::Draws;
@@ -15,6 +15,9 @@ use std::marker::Model;
 const WORN: u8 = 253;
 
 const CARRIED: u8 = 254;
+
+// How many levels below an object its contents count.
+const LEVELS: u8 = 10;
 
 /// Flags and places, as they are saved together.
 #[derive(Drop)]
@@ -43,8 +46,8 @@ pub struct World {
 }
 
 impl Model for World {
-    ghost use Rattle.std.specs.Prelude.{◌≤◌, length, take};
-    ghost use Rattle.paw_world.specs.World.{World, IsSavedFor};
+    ghost use Rattle.std.specs.Prelude.{length, take};
+    ghost use Rattle.paw_world.specs.World.{World, IsKept};
 
     ghost Value = { World };
 
@@ -58,7 +61,7 @@ impl Model for World {
       draws = w.draws.count;
     } };
 
-    ghost invariant = { λ w. (length w.places ≤ 255) × IsSavedFor (length w.places) w.saved };
+    ghost invariant = { λ w. IsKept w.facts w.flags w.places w.saved };
 }
 
 impl World {
@@ -170,8 +173,9 @@ impl World {
             return;
         };
         let end = n as usize + 1;
-        let flags = &mut self.flags[..];
+        let mut flags = self.flags;
         flags[..end].copy_from_slice(&saved.flags[..end]);
+        self.flags = flags;
         self.places = saved.places.copy();
     }
 
@@ -252,9 +256,11 @@ impl World {
         requires { o < length self.now.places }
         ensures { result ≡ weight self.now o }
     {
-        self.weight_down(o, 10)
+        self.weight_down(o, LEVELS)
     }
 
+    /// What an object weighs where contents count down to so many levels below it, at most 255.
+    #[cycle(weigh)]
     fn weight_down(&self, o: u8, levels: u8) -> u8
         requires { o < length self.now.places }
         ensures { result ≡ weight_down self.now levels o }
@@ -263,11 +269,19 @@ impl World {
         if levels == 0 || !facts.container || facts.weight == 0 {
             return facts.weight;
         }
-        let mut total = facts.weight;
+        self.weight_with(facts.weight, o, levels - 1)
+    }
+
+    /// A weight together with that of all objects at a place, at most 255.
+    #[cycle(weigh)]
+    fn weight_with(&self, own: u8, p: u8, levels: u8) -> u8
+        ensures { result ≡ weight_with self.now levels own p }
+    {
+        let mut total = own;
         let mut last = None;
-        while let Some(x) = self.first_at(o, last) {
-            total = total.saturating_add(self.weight_down(x, levels - 1));
-            last = Some(x);
+        while let Some(o) = self.first_at(p, last) {
+            total = total.saturating_add(self.weight_down(o, levels));
+            last = Some(o);
         }
         total
     }
@@ -276,20 +290,8 @@ impl World {
     pub fn carried_weight(&self) -> u8
         ensures { result ≡ carried_weight self.now }
     {
-        self.weight_at(WORN).saturating_add(self.weight_at(CARRIED))
-    }
-
-    /// What all objects weigh that stand at a place, at most 255.
-    fn weight_at(&self, p: u8) -> u8
-        ensures { result ≡ weight_at self.now p }
-    {
-        let mut total = 0u8;
-        let mut last = None;
-        while let Some(x) = self.first_at(p, last) {
-            total = total.saturating_add(self.weight(x));
-            last = Some(x);
-        }
-        total
+        let worn = self.weight_with(0, WORN, LEVELS);
+        self.weight_with(worn, CARRIED, LEVELS)
     }
 }
 
@@ -311,13 +313,21 @@ fn kept(facts: &[ObjectFacts]) -> [ObjectFacts; MOST_OBJECTS]
     all
 }
 
+/// How many objects begin carried.
+fn first_carried(facts: &[ObjectFacts]) -> u8
+    requires { length facts.now ≤ 255 }
+    ensures { result ≡ first_carried facts.now }
+{
+    facts.iter().filter(|f| f.start == CARRIED).count() as u8
+}
+
 /// The flags at the start of a game.
 fn opening_flags(facts: &[ObjectFacts]) -> [u8; 256]
     requires { length facts.now ≤ 255 }
     ensures { result ≡ opening_flags facts.now }
 {
     let mut flags = [0; 256];
-    flags[1] = facts.iter().filter(|f| f.start == CARRIED).count() as u8;
+    flags[1] = first_carried(facts);
     flags[33] = 255;
     flags[34] = 255;
     flags[35] = 255;

@@ -1,0 +1,133 @@
+-- The objects at a place, one after the other, and what they weigh.
+use Rattle.std.proofs.Common.{◌≡◌, ◌≢◌, ℕ, zero, suc, ◌+◌, ◌-◌, ◌<◌, ◌≤◌, inl, inr, List, [], ◌∷◌, length, drop, min, Some, None, Option, refl, sym, ap, ◌∙◌, arith, get_or}
+use Rattle.std.specs.Prelude.{if◌then◌else◌, ◌==◌, IfSome, sum_by}
+use Rattle.std.proofs.Math.Seq.{drop-cons}
+use Rattle.std.proofs.lemmas.List.{drop_all}
+use Rattle.std.proofs.lemmas.List.Sums.{sum_by-cons}
+use Rattle.std.proofs.lemmas.Bool.{cases_eq}
+use Rattle.std.proofs.lemmas.Bool.Decides.{nat_tests}
+use Rattle.paw_world.specs.Places.{least_at, left_above}
+use Rattle.paw_world.specs.World.{World, first_at}
+use Rattle.paw_world.specs.Weight.{at_from, objects_at, weight_down, weight_with}
+use Rattle.paw_world.proofs.Least.{least_at_here, least_at_pass, least_at_end, least_at_is}
+
+-- the objects at a place from one number on
+abbrev pub at_on : List ℕ → ℕ → ℕ → List ℕ
+at_on places p from = at_from p from (drop from places)
+
+at_from-cons : (p from q : ℕ) (qs : List ℕ)
+    → at_from p from (q ∷ qs) ≡ (if q == p then from ∷ at_from p (suc from) qs else at_from p (suc from) qs)
+at_from-cons p from q qs = refl
+
+at_on_here : (places : List ℕ) (p from : ℕ) → from < length places → get_or places from 0 ≡ p → at_on places p from ≡ from ∷ at_on places p (suc from)
+at_on_here places p from within here =
+    ap (at_from p from) (drop-cons places from 0 within) ∙ (at_from-cons p from (get_or places from 0) (drop (suc from) places) ∙ grind (arith, nat_tests))
+
+at_on_pass : (places : List ℕ) (p from : ℕ) → from < length places → get_or places from 0 ≢ p → at_on places p from ≡ at_on places p (suc from)
+at_on_pass places p from within other =
+    ap (at_from p from) (drop-cons places from 0 within) ∙ (at_from-cons p from (get_or places from 0) (drop (suc from) places) ∙ grind (arith, nat_tests))
+
+at_on_past : (places : List ℕ) (p from : ℕ) → length places ≤ from → at_on places p from ≡ []
+at_on_past places p from past = ap (at_from p from) (drop_all from places past)
+
+later : (places : List ℕ) (p from : ℕ) (found : Option ℕ) → from < length places → get_or places from 0 ≢ p
+    → least_at places p (length places - from) ≡ found → least_at places p (length places - suc from) ≡ found
+later places p from found within other is =
+    let same : length places - (from + 1) ≡ length places - suc from = omega arith in
+    sym (least_at_pass places p from within other ∙ ap (least_at places p) same) ∙ is
+
+-- where no least object is found there are none
+at_on_none : (n : ℕ) (places : List ℕ) (p from : ℕ) → n ≡ length places - from → least_at places p (length places - from) ≡ None
+    → at_on places p from ≡ []
+at_on_none zero places p from many is = at_on_past places p from (omega arith)
+at_on_none (suc n) places p from many is = elim (cases_eq (get_or places from 0) p) [
+  | inl here ↦ let found = least_at_here places p from (omega arith) here in cc
+  | inr other ↦ at_on_pass places p from (omega arith) other
+      ∙ at_on_none n places p (suc from) (omega arith) (later places p from None (omega arith) other is)
+]
+
+-- the least object is the first of them, and the others are those above it
+at_on_some : (n : ℕ) (places : List ℕ) (p from o : ℕ) → n ≡ length places - from → least_at places p (length places - from) ≡ Some o
+    → at_on places p from ≡ o ∷ at_on places p (suc o)
+at_on_some zero places p from o many is =
+    let nothing = least_at_end places p from (omega arith) in
+    cc
+at_on_some (suc n) places p from o many is = elim (cases_eq (get_or places from 0) p) [
+  | inl here ↦ let found = least_at_here places p from (omega arith) here in
+      let same : from ≡ o = cc in
+      at_on_here places p from (omega arith) here ∙ ap (λ (j : ℕ). j ∷ at_on places p (suc j)) same
+  | inr other ↦ at_on_pass places p from (omega arith) other
+      ∙ at_on_some n places p (suc from) o (omega arith) (later places p from (Some o) (omega arith) other is)
+]
+
+-- the first number above this one
+abbrev pub start : Option ℕ → ℕ
+start None = 0
+start (Some o) = suc o
+
+left_start : (places : List ℕ) (above : Option ℕ) → length places - start above ≡ left_above places above
+left_start places None = omega arith
+left_start places (Some o) = refl
+
+-- the objects at a place above this one
+abbrev pub above_at : World → ℕ → Option ℕ → List ℕ
+above_at w p above = at_on w.places p (start above)
+
+pub above_at_none : (w : World) (p : ℕ) (above : Option ℕ) → first_at w p above ≡ None → above_at w p above ≡ []
+above_at_none w p above is =
+    at_on_none (length w.places - start above) w.places p (start above) refl (ap (least_at w.places p) (left_start w.places above) ∙ is)
+
+pub above_at_some : (w : World) (p : ℕ) (above : Option ℕ) (o : ℕ) → first_at w p above ≡ Some o → above_at w p above ≡ o ∷ above_at w p (Some o)
+above_at_some w p above o is =
+    at_on_some (length w.places - start above) w.places p (start above) o refl (ap (least_at w.places p) (left_start w.places above) ∙ is)
+
+pub above_at_all : (w : World) (p : ℕ) → above_at w p None ≡ objects_at w p
+above_at_all w p = refl
+
+-- a weight together with that of the objects at a place above this one
+abbrev pub weights_above : World → ℕ → ℕ → Option ℕ → ℕ → ℕ
+weights_above w n p above total = min 255 (total + sum_by (weight_down w n) (above_at w p above))
+
+capped_once : (total one others : ℕ) → min 255 (total + (one + others)) ≡ min 255 (min 255 (total + one) + others)
+capped_once total one others = omega arith
+
+pub weights_above-some : (w : World) (n p : ℕ) (above : Option ℕ) (total o : ℕ) → first_at w p above ≡ Some o
+    → weights_above w n p above total ≡ weights_above w n p (Some o) (min 255 (total + weight_down w n o))
+weights_above-some w n p above total o is =
+    ap (λ (os : List ℕ). min 255 (total + sum_by (weight_down w n) os)) (above_at_some w p above o is)
+    ∙ ap (λ (others : ℕ). min 255 (total + others)) (sum_by-cons (weight_down w n) o (above_at w p (Some o)))
+    ∙ capped_once total (weight_down w n o) (sum_by (weight_down w n) (above_at w p (Some o)))
+
+pub weights_above-none : (w : World) (n p : ℕ) (above : Option ℕ) (total : ℕ) → total ≤ 255 → first_at w p above ≡ None
+    → weights_above w n p above total ≡ total
+weights_above-none w n p above total fits is =
+    ap (λ (os : List ℕ). min 255 (total + sum_by (weight_down w n) os)) (above_at_none w p above is) ∙ omega arith
+
+-- fewer objects are left above one that stands above another
+pub fewer_left : (places : List ℕ) (above : Option ℕ) (o : ℕ) → o < length places → IfSome above (λ a. a < o)
+    → left_above places (Some o) < left_above places above
+fewer_left places None o within higher = omega arith
+fewer_left places (Some a) o within higher = omega arith
+
+-- what is found is an object that stands at the place, above the one that was given
+left_fits : (places : List ℕ) (above : Option ℕ) → left_above places above ≤ length places
+left_fits places None = omega arith
+left_fits places (Some o) = omega arith
+
+pub found_known : (places : List ℕ) (p : ℕ) (above outcome : Option ℕ) → outcome ≡ least_at places p (left_above places above)
+    → IfSome outcome (λ o. o < length places)
+found_known places p above None is = tt
+found_known places p above (Some o) is = (least_at_is places p (left_above places above) o (left_fits places above) (sym is)).known
+
+pub found_stands : (places : List ℕ) (p : ℕ) (above outcome : Option ℕ) → outcome ≡ least_at places p (left_above places above)
+    → IfSome outcome (λ o. get_or places o 0 ≡ p)
+found_stands places p above None is = tt
+found_stands places p above (Some o) is = (least_at_is places p (left_above places above) o (left_fits places above) (sym is)).stands
+
+pub found_above : (places : List ℕ) (p : ℕ) (above outcome : Option ℕ) → outcome ≡ least_at places p (left_above places above)
+    → IfSome outcome (λ o. IfSome above (λ a. a < o))
+found_above places p above None is = tt
+found_above places p None (Some o) is = tt
+found_above places p (Some a) (Some o) is =
+    let f = least_at_is places p (left_above places (Some a)) o (left_fits places (Some a)) (sym is) in
+    omega (arith, f.known, f.above)
