@@ -1,12 +1,12 @@
 -- One bit set, cleared or found in a set of four words.
-use Rattle.std.proofs.Common.{◌≡◌, ◌≢◌, ℕ, zero, suc, ◌+◌, ◌-◌, ◌*◌, ◌/◌, ◌%◌, ◌^◌, ◌<◌, ◌≤◌, List, length, refl, sym, ap, ◌∙◌, subst, arith, inl, inr, bit_and, bit_or, slice_index, slice_set, set, get_or, Some, None, w64, lit<, lit≤}
-use Rattle.std.specs.Int.{bit_at, bit_not, trailing_zeros}
-use Rattle.std.proofs.lemmas.Nat.Bits.{bit_at_set_same, bit_at_set_other, bit_at_clear_same, bit_at_clear_other, bit_at-trailing_zeros, bit_at_above, bit_at-lt, bit_at-zero}
+use Rattle.std.proofs.Common.{◌≡◌, ◌≢◌, ℕ, ◌+◌, ◌-◌, ◌*◌, ◌/◌, ◌%◌, ◌^◌, ◌<◌, ◌≤◌, List, length, refl, sym, ap, ◌∙◌, arith, inl, inr, bit_and, bit_or, slice_index, slice_set, set, get_or, Some, None, w64}
+use Rattle.std.specs.Int.{bit_at, trailing_zeros}
+use Rattle.std.proofs.lemmas.Nat.Bits.{bit_at_set_same, bit_at_set_other, bit_at_clear_same, bit_at_clear_other, bit_at-trailing_zeros, bit_at_above, bit_at-zero}
 use Rattle.std.proofs.lemmas.List.{get_or-set_same, get_or-set_other}
 use Rattle.std.proofs.lemmas.Bool.{cases_eq, cases_lt}
 use Rattle.std.proofs.lemmas.Nat.{pow-add}
 use Rattle.std.proofs.Math.Nat.{div-div-eq-div-mul, div-le_self}
-use Rattle.paw_world.specs.ObjectSet.{member, Inserts, Removes, IsLeastFrom, found, none, IsLowestFrom, lowest, no_bit}
+use Rattle.paw_world.specs.ObjectSet.{member, Inserts, Removes, IsLeastFrom, found, IsLowestFrom, lowest, no_bit}
 
 -- a word of a set is written: the members of other words stay
 member-set_other : (words : List ℕ) (i v k : ℕ) → k / 64 ≢ i → member (set words i v) k ≡ member words k

@@ -8,7 +8,7 @@ use Rattle.std.proofs.lemmas.Bool.{cases_eq}
 use Rattle.std.proofs.lemmas.Bool.Decides.{nat_tests}
 use Rattle.paw_world.specs.Places.{least_at, left_above}
 use Rattle.paw_world.specs.World.{World, first_at}
-use Rattle.paw_world.specs.Weight.{at_from, objects_at, weight_down, weight_with}
+use Rattle.paw_world.specs.Weight.{at_from, objects_at, weight_down}
 use Rattle.paw_world.proofs.Least.{least_at_here, least_at_pass, least_at_end, least_at_is}
 
 -- the objects at a place from one number on

@@ -1,13 +1,13 @@
 -- The least object at a place.
-use Rattle.std.proofs.Common.{◌≡◌, ◌≢◌, ℕ, zero, suc, ◌+◌, ◌-◌, ◌<◌, ◌≤◌, inl, inr, Bool, true, false, List, [], ◌∷◌, length, take, Some, None, Option, refl, sym, ap, ◌∙◌, subst, arith, get_or, add-suc, add-zero, add-one}
-use Rattle.std.specs.Prelude.{if◌then◌else◌, ◌==◌, IfSome}
+use Rattle.std.proofs.Common.{◌≡◌, ◌≢◌, ℕ, zero, suc, ◌+◌, ◌-◌, ◌<◌, ◌≤◌, inl, inr, List, [], length, take, Some, None, Option, refl, sym, ap, ◌∙◌, arith, get_or, add-zero}
+use Rattle.std.specs.Prelude.{if◌then◌else◌, ◌==◌}
 use Rattle.std.proofs.lemmas.Bool.{cases_eq, cases_lt}
 use Rattle.std.proofs.lemmas.Bool.Decides.{nat_tests}
-use Rattle.paw_world.specs.ObjectSet.{member, IsLeastFrom, found, none}
+use Rattle.paw_world.specs.ObjectSet.{IsLeastFrom, found, none}
 use Rattle.paw_world.specs.PlaceSets.{stands_in, AreSetsOf}
 use Rattle.paw_world.specs.Places.{least_at, left_above}
 use Rattle.paw_world.proofs.Listed.{count_is, place_is}
-use Rattle.paw_world.proofs.Sets.{at_place, at_place_same, at_place_other}
+use Rattle.paw_world.proofs.Sets.{at_place_same, at_place_other}
 
 least_at_none : (places : List ℕ) (p : ℕ) → least_at places p 0 ≡ None
 unfolding least_at

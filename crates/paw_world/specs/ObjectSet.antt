@@ -1,5 +1,5 @@
 -- A set of numbers from 0 to 255, kept as four words of 64 bits.
-use Rattle.std.specs.Prelude.{◌≡◌, ℕ, ◌+◌, ◌/◌, ◌%◌, ◌<◌, ◌≤◌, List, Option, Some, None, slice_index}
+use Rattle.std.specs.Prelude.{◌≡◌, ℕ, ◌/◌, ◌%◌, ◌<◌, ◌≤◌, List, Option, Some, None, slice_index}
 use Rattle.std.specs.Int.{bit_at}
 
 -- the bit of a number: 1 where it is in the set

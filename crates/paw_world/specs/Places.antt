@@ -1,5 +1,5 @@
 -- Objects by their place.
-use Rattle.std.specs.Prelude.{◌≡◌, ℕ, zero, suc, ◌-◌, ◌==◌, ◌<◌, List, length, Option, Some, None, slice_index, if◌then◌else◌}
+use Rattle.std.specs.Prelude.{ℕ, zero, suc, ◌-◌, ◌==◌, List, length, Option, Some, None, slice_index, if◌then◌else◌}
 
 -- of the last n objects, the least that stands at this place; nothing where none does
 unfoldable pub least_at : List ℕ → ℕ → ℕ → Option ℕ

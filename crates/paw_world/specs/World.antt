@@ -1,5 +1,5 @@
 -- The world of a game: what it changes while it is played.
-use Rattle.std.specs.Prelude.{◌≡◌, ℕ, suc, ◌+◌, ◌-◌, ◌<◌, ◌≤◌, ◌==◌, ◌&&◌, ◌||◌, Bool, not, List, ◌++◌, length, map, take, drop, count_by, replicate, min, Option, None, Some, nat_lt, slice_index, slice_set, if◌then◌else◌, IfSome}
+use Rattle.std.specs.Prelude.{◌≡◌, ℕ, suc, ◌+◌, ◌-◌, ◌≤◌, ◌==◌, ◌&&◌, ◌||◌, Bool, not, List, ◌++◌, length, map, take, drop, count_by, replicate, min, Option, None, Some, nat_lt, slice_index, slice_set, if◌then◌else◌, IfSome}
 use Rattle.paw_base.specs.declared.parts.ObjectFacts.{ObjectFacts}
 use Rattle.paw_world.specs.Places.{least_at, left_above}
 

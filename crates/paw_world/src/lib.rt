@@ -2,6 +2,7 @@
 #![tactic(auto)]
 
 mod draws;
+pub mod flags;
 mod places;
 mod set;
 pub mod world;

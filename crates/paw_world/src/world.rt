@@ -5,16 +5,21 @@ ghost use Rattle.paw_world.specs.Draws.{word};
 ghost use Rattle.paw_world.specs.World.{opened, flag, with_flag, place, moved, first_at, ramsaved, ramloaded, saved_flag, saved_place, restarted, drawn_on, first_carried, opening_flags, IsWorld};
 ghost use Rattle.paw_world.specs.Weight.{weight, weight_down, weight_with, carried_weight};
 
-use crate::MOST_OBJECTS;
 use crate::draws::Draws;
 use crate::places::Places;
+use crate::{MOST_OBJECTS, flags};
 use paw_base::parts::ObjectFacts;
 use std::marker::Model;
 
-// The places of what is worn and of what is carried.
+// The places of what isn't created, of what is worn and of what is carried.
+const NOT_CREATED: u8 = 252;
+
 const WORN: u8 = 253;
 
 const CARRIED: u8 = 254;
+
+// No word, and no object.
+const NONE: u8 = 255;
 
 // How many levels below an object its contents count.
 const LEVELS: u8 = 10;
@@ -67,8 +72,8 @@ impl Model for World {
 impl World {
     /// The world at the start of a game with these objects, so many locations and this seed.
     pub fn new(facts: &[ObjectFacts], locations: u8, seed: u64) -> World
-        requires { length facts.now ≤ 255 }
-        ensures { result ≡ opened facts.now locations seed }
+        requires few { length facts.now ≤ 255 }
+        ensures value { result ≡ opened facts.now locations seed }
     {
         World {
             facts: kept(facts),
@@ -82,14 +87,14 @@ impl World {
 
     /// The value of a flag.
     pub fn flag(&self, f: u8) -> u8
-        ensures { result ≡ flag self.now f }
+        ensures value { result ≡ flag self.now f }
     {
         self.flags[f as usize]
     }
 
     /// Gives a flag a value.
     pub fn set_flag(&mut self, f: u8, x: u8)
-        ensures { self.new ≡ with_flag self.old f x }
+        ensures change { self.new ≡ with_flag self.old f x }
     {
         self.flags[f as usize] = x;
     }
@@ -104,23 +109,23 @@ impl World {
 
     /// How many locations there are.
     pub fn locations(&self) -> u8
-        ensures { result ≡ self.now.locations }
+        ensures value { result ≡ self.now.locations }
     {
         self.locations
     }
 
     /// The facts of an object.
     pub fn facts(&self, o: u8) -> ObjectFacts
-        requires { o < length self.now.places }
-        ensures { slice_get self.now.facts o ≡ Some result }
+        requires known { o < length self.now.places }
+        ensures value { slice_get self.now.facts o ≡ Some result }
     {
         self.facts[o as usize]
     }
 
     /// The place of an object.
     pub fn place(&self, o: u8) -> u8
-        requires { o < length self.now.places }
-        ensures { result ≡ place self.now o }
+        requires known { o < length self.now.places }
+        ensures value { result ≡ place self.now o }
     {
         self.places.place(o)
     }
@@ -128,18 +133,19 @@ impl World {
     /// Moves an object to a place. Where it stands there nothing happens. Otherwise flag 1 falls by one, but not
     /// below 0, where the object was carried (254), and rises by one, but not above 255, where it becomes so.
     pub fn move_to(&mut self, o: u8, p: u8)
-        requires { o < length self.old.places }
-        ensures { self.new ≡ moved self.old o p }
+        requires known { o < length self.old.places }
+        ensures change { self.new ≡ moved self.old o p }
     {
         let old = self.places.place(o);
         if old == p {
             return;
         }
+        let carried = self.flag(flags::CARRIED);
         if old == CARRIED {
-            self.flags[1] = self.flags[1].saturating_sub(1);
+            self.set_flag(flags::CARRIED, carried.saturating_sub(1));
         }
         if p == CARRIED {
-            self.flags[1] = self.flags[1].saturating_add(1);
+            self.set_flag(flags::CARRIED, carried.saturating_add(1));
         }
         self.places.set_place(o, p);
     }
@@ -157,7 +163,7 @@ impl World {
 
     /// Flags and places become the saved position.
     pub fn ramsave(&mut self)
-        ensures { self.new ≡ ramsaved self.old }
+        ensures change { self.new ≡ ramsaved self.old }
     {
         self.saved = Some(Saved {
             flags: self.flags,
@@ -167,7 +173,7 @@ impl World {
 
     /// Takes flags 0 to n and all places from the saved position. Where nothing is saved nothing changes.
     pub fn ramload(&mut self, n: u8)
-        ensures { self.new ≡ ramloaded self.old n }
+        ensures change { self.new ≡ ramloaded self.old n }
     {
         let Some(saved) = &self.saved else {
             return;
@@ -181,15 +187,15 @@ impl World {
 
     /// Whether there is a saved position.
     pub fn saved(&self) -> bool
-        ensures { result ≡ is_some self.now.saved }
+        ensures value { result ≡ is_some self.now.saved }
     {
         self.saved.is_some()
     }
 
     /// The value of a flag in the saved position.
     pub fn saved_flag(&self, f: u8) -> u8
-        requires { IsSome self.now.saved }
-        ensures { result ≡ saved_flag self.now f }
+        requires saved { IsSome self.now.saved }
+        ensures value { result ≡ saved_flag self.now f }
     {
         match &self.saved {
             Some(saved) => saved.flags[f as usize],
@@ -200,8 +206,8 @@ impl World {
     /// The place of an object in the saved position.
     pub fn saved_place(&self, o: u8) -> u8
         requires saved { IsSome self.now.saved }
-        requires object { o < length self.now.places }
-        ensures { result ≡ saved_place self.now o }
+        requires known { o < length self.now.places }
+        ensures value { result ≡ saved_place self.now o }
     {
         match &self.saved {
             Some(saved) => saved.places.place(o),
@@ -211,38 +217,38 @@ impl World {
 
     /// The next random word: 32 bits.
     pub fn draw(&mut self) -> u32
-        requires { self.old.draws < 2 ^ 64 - 1 }
-        ensures word { result ≡ word self.old.seed self.old.draws }
-        ensures counts { self.new ≡ drawn_on self.old 1 }
+        requires room { self.old.draws < 2 ^ 64 - 1 }
+        ensures value { result ≡ word self.old.seed self.old.draws }
+        ensures change { self.new ≡ drawn_on self.old 1 }
     {
         self.draws.draw()
     }
 
     /// How many random words were taken.
     pub fn draws(&self) -> u64
-        ensures { result ≡ self.now.draws }
+        ensures value { result ≡ self.now.draws }
     {
         self.draws.count()
     }
 
     /// The seed of the random words.
     pub fn seed(&self) -> u64
-        ensures { result ≡ self.now.seed }
+        ensures value { result ≡ self.now.seed }
     {
         self.draws.seed()
     }
 
     /// Passes over n random words, in a time that doesn't grow with n but by its digits.
     pub fn skip(&mut self, n: u64)
-        requires { self.old.draws + n < 2 ^ 64 }
-        ensures { self.new ≡ drawn_on self.old n }
+        requires room { self.old.draws + n < 2 ^ 64 }
+        ensures change { self.new ≡ drawn_on self.old n }
     {
         self.draws.skip(n)
     }
 
     /// Gives the flags and places of a game's start. Seed, draws and the saved position stay.
     pub fn restart(&mut self)
-        ensures { self.new ≡ restarted self.old }
+        ensures change { self.new ≡ restarted self.old }
     {
         let objects = self.places.count() as usize;
         let facts = &self.facts[..objects];
@@ -253,8 +259,8 @@ impl World {
     /// What an object weighs, at most 255: its own weight, and for a container whose own weight isn't 0 that of what
     /// stands in it, down to ten levels.
     pub fn weight(&self, o: u8) -> u8
-        requires { o < length self.now.places }
-        ensures { result ≡ weight self.now o }
+        requires known { o < length self.now.places }
+        ensures value { result ≡ weight self.now o }
     {
         self.weight_down(o, LEVELS)
     }
@@ -288,7 +294,7 @@ impl World {
 
     /// What all objects weigh that are worn or carried, at most 255.
     pub fn carried_weight(&self) -> u8
-        ensures { result ≡ carried_weight self.now }
+        ensures value { result ≡ carried_weight self.now }
     {
         let worn = self.weight_with(0, WORN, LEVELS);
         self.weight_with(worn, CARRIED, LEVELS)
@@ -301,9 +307,9 @@ fn kept(facts: &[ObjectFacts]) -> [ObjectFacts; MOST_OBJECTS]
     ensures { take (length facts.now) result ≡ facts.now }
 {
     let none = ObjectFacts {
-        noun: 255,
-        adjective: 255,
-        start: 252,
+        noun: NONE,
+        adjective: NONE,
+        start: NOT_CREATED,
         weight: 0,
         container: false,
         wearable: false,
@@ -326,19 +332,19 @@ fn opening_flags(facts: &[ObjectFacts]) -> [u8; 256]
     requires { length facts.now ≤ 255 }
     ensures { result ≡ opening_flags facts.now }
 {
-    let mut flags = [0; 256];
-    flags[1] = first_carried(facts);
-    flags[33] = 255;
-    flags[34] = 255;
-    flags[35] = 255;
-    flags[36] = 255;
-    flags[43] = 255;
-    flags[44] = 255;
-    flags[45] = 255;
-    flags[46] = 255;
-    flags[47] = 255;
-    flags[51] = 255;
-    flags[37] = 4;
-    flags[52] = 10;
-    flags
+    let mut all = [0; 256];
+    all[flags::CARRIED as usize] = first_carried(facts);
+    all[flags::VERB as usize] = NONE;
+    all[flags::NOUN as usize] = NONE;
+    all[flags::ADJECTIVE as usize] = NONE;
+    all[flags::ADVERB as usize] = NONE;
+    all[flags::PREPOSITION as usize] = NONE;
+    all[flags::SECOND_NOUN as usize] = NONE;
+    all[flags::SECOND_ADJECTIVE as usize] = NONE;
+    all[flags::PRONOUN_NOUN as usize] = NONE;
+    all[flags::PRONOUN_ADJECTIVE as usize] = NONE;
+    all[flags::REFERRED as usize] = NONE;
+    all[flags::MOST_CARRIED as usize] = 4;
+    all[flags::MOST_WEIGHT as usize] = 10;
+    all
 }

@@ -1,4 +1,4 @@
-use Rattle.std.proofs.Common.{ap, ◌∙◌, ◌≡◌, ℕ}
+use Rattle.std.proofs.Common.{ap, ◌∙◌}
 use Rattle.paw_world.specs.Draws.{word, Drawn}
 use Rattle.paw_world.proofs.DrawnOn.{word_on, word_is}
 use Rattle.paw_world.proofs.draws.Draws.draw.Goals as goal

@@ -1,4 +1,4 @@
-use Rattle.std.proofs.Common.{arith, ℕ}
+use Rattle.std.proofs.Common.{ℕ}
 use Rattle.std.proofs.lemmas.List.{length-replicate}
 use Rattle.paw_world.proofs.Sets.{no_sets}
 use Rattle.paw_world.proofs.places.Places.empty.Goals as goal

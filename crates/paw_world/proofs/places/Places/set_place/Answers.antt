@@ -1,4 +1,4 @@
-use Rattle.std.proofs.Common.{arith, ◌<◌, get_or, ◌∙◌, ap, refl, rules, set}
+use Rattle.std.proofs.Common.{arith, ◌<◌, ◌∙◌, ap, set}
 use Rattle.std.proofs.Math.Seq.{take-set-lt}
 use Rattle.paw_world.proofs.Listed.{count_is}
 use Rattle.paw_world.proofs.Sets.{relocated_at}

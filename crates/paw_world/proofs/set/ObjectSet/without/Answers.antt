@@ -1,4 +1,4 @@
-use Rattle.std.proofs.Common.{arith, rules}
+use Rattle.std.proofs.Common.{arith}
 use Rattle.paw_world.proofs.Bits.{removes}
 use Rattle.paw_world.proofs.set.ObjectSet.without.Goals as goal
 

@@ -1,4 +1,4 @@
-use Rattle.std.proofs.Common.{arith, ◌≡◌, ◌+◌, ◌∙◌, sym, ap, ℕ, min, Some}
+use Rattle.std.proofs.Common.{arith, ◌≡◌, ◌+◌, ◌∙◌, sym, ap, min, Some}
 use Rattle.paw_world.specs.Weight.{weight_down}
 use Rattle.paw_world.proofs.Weighed.{weight_own, weight_none_left, weight_contents, no_container, weightless, heavy_container}
 use Rattle.paw_world.proofs.Contents.{weights_above, weights_above-some, weights_above-none}
@@ -8,7 +8,7 @@ use Rattle.paw_world.proofs.world.World.+weigh.Goals.{weight_down-then-levels-eq
 pub weight_down-returns-then-levels-eq0 : goal.weight_down-returns-then-levels-eq0
 weight_down-returns-then-levels-eq0 t c =
     let f = c.facts-facts.result in
-    let is = c.facts-facts.ensures in
+    let is = c.facts-facts.ensures.value in
     elim c.then-levels-eq0.branch [
       | weight_down-then-levels-eq0-via-then-levels-eq0 w ↦ sym (weight_none_left c.args.self.now c.args.levels c.args.o f is w.if-levels-eq0.true)
       | weight_down-then-levels-eq0-via-else-levels-eq0+then-not-facts w ↦
@@ -19,7 +19,7 @@ weight_down-returns-then-levels-eq0 t c =
 
 pub weight_down-returns : goal.weight_down-returns
 weight_down-returns t c =
-    c.weight_with.ensures ∙ sym (weight_contents c.args.self.now c.args.levels c.args.o c.facts-facts.result c.facts-facts.ensures c.if-levels-eq0.false
+    c.weight_with.ensures ∙ sym (weight_contents c.args.self.now c.args.levels c.args.o c.facts-facts.result c.facts-facts.ensures.value c.if-levels-eq0.false
     (heavy_container c.facts-facts.result c.if-not-facts.false c.if-facts-eq0.false))
 
 pub weight_with-loop-o-preserved : goal.weight_with-loop-o-preserved

@@ -1,4 +1,4 @@
-use Rattle.std.proofs.Common.{◌≡◌, ◌+◌, ◌*◌, ◌≤◌, ℕ}
+use Rattle.std.proofs.Common.{◌≡◌, ◌+◌, ◌*◌, ◌≤◌}
 use Rattle.paw_world.specs.Places.{left_above}
 use Rattle.paw_world.specs.Weight.{weight_with}
 use Rattle.paw_world.proofs.Contents.{weights_above}

@@ -1,5 +1,5 @@
-use Rattle.std.proofs.Common.{arith, length, ap, ◌≡◌, ℕ, subst, refl}
-use Rattle.paw_world.specs.World.{World, IsWorld, IsKept}
+use Rattle.std.proofs.Common.{arith, length, subst, refl}
+use Rattle.paw_world.specs.World.{World, IsWorld}
 use Rattle.paw_world.proofs.Listed.{count_is}
 use Rattle.paw_world.proofs.world.World.objects.Goals as goal
 

@@ -1,15 +1,17 @@
-use Rattle.std.proofs.Common.{arith, ap, ◌≡◌, ◌∙◌, sym, take, List, ℕ, ◌+◌}
+use Rattle.std.proofs.Common.{arith, ap, ◌∙◌, take, ◌+◌}
 use Rattle.paw_world.specs.World.{World, Position, ramloaded}
 use Rattle.paw_world.proofs.Loaded.{kept_loaded, loaded_is}
 use Rattle.paw_world.proofs.world.World.ramload.Goals as goal
 
 pub returns : goal.returns
 returns c =
-    loaded_is c.self.inside.facts c.self.inside.locations c.self.inside.flags c.self.inside.places c.self.inside.saved c.self.inside.draws.seed
-    c.self.inside.draws.count c.in-Some.saved c.args.n _ _ c.self.invariant.saved_alike c.in-Some.is
-    (c.copy_from_slice.ensures.after ∙ ap (λ (q : Position). take (c.args.n + 1) q.flags) c.saved.view_is)
-    (c.copy-self-inside.ensures ∙ ap (λ (q : Position). q.places) c.saved.view_is)
-    ∙ ap (λ (w : World). ramloaded w c.args.n) c.self.view_is
+    record {
+      change = loaded_is c.self.inside.facts c.self.inside.locations c.self.inside.flags c.self.inside.places c.self.inside.saved c.self.inside.draws.seed
+          c.self.inside.draws.count c.in-Some.saved c.args.n _ _ c.self.invariant.saved_alike c.in-Some.is
+          (c.copy_from_slice.ensures.after ∙ ap (λ (q : Position). take (c.args.n + 1) q.flags) c.saved.view_is)
+          (c.copy-self-inside.ensures ∙ ap (λ (q : Position). q.places) c.saved.view_is)
+          ∙ ap (λ (w : World). ramloaded w c.args.n) c.self.view_is;
+    }
 
 pub invariant_of-self : goal.invariant_of-self
 invariant_of-self c =
