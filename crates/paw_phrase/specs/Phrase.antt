@@ -1,22 +1,13 @@
 -- How a line is cut into phrases.
-use Rattle.std.specs.Prelude.{ℕ, ◌+◌, ◌-◌, ◌==◌, ◌&&◌, ◌||◌, Bool, true, false, not, List, [], ◌∷◌, ◌++◌, Option, Some, None, length, take, map, replicate, nat_le, if◌then◌else◌}
+use Rattle.std.specs.Prelude.{ℕ, ◌-◌, ◌==◌, Bool, true, false, List, [], ◌∷◌, ◌++◌, Option, Some, None, length, take, replicate, codes, if◌then◌else◌}
+use Rattle.std.specs.Char.{to_ascii_uppercase, is_ascii_alphanumeric}
+use Rattle.std.specs.List.{list_any}
 use Rattle.paw_game.specs.Game.{GameLists}
 use Rattle.paw_game.specs.Tables.{word_at}
 
-abbrev pub is_between : ℕ → ℕ → ℕ → Bool
-is_between low high n = nat_le low n && nat_le n high
-
--- small letters are read as capitals
-abbrev pub capital : ℕ → ℕ
-capital b = if is_between 97 122 b then b - 32 else b
-
--- letters and digits make tokens
-abbrev pub is_token_byte : ℕ → Bool
-is_token_byte b = is_between 65 90 (capital b) || is_between 48 57 b
-
--- . , ; : ! ? " part phrases
+-- these bytes part phrases
 abbrev pub is_separator : ℕ → Bool
-is_separator b = (b == 46) || ((b == 44) || ((b == 59) || ((b == 58) || ((b == 33) || ((b == 63) || (b == 34))))))
+is_separator b = list_any (λ s. s == b) (codes ".,;:!?\"")
 
 -- a token cut to five letters, filled up with spaces
 abbrev pub five_letters : List ℕ → List ℕ
@@ -38,13 +29,15 @@ separator_mark b after = if is_separator b then record { token = None; after = a
 unfoldable pub marks_from : List ℕ → List ℕ → List Mark
 marks_from run [] = token_mark run []
 marks_from run (b ∷ bs) =
-    if is_token_byte b then marks_from (run ++ capital b ∷ []) bs
+    if is_ascii_alphanumeric b then marks_from (run ++ to_ascii_uppercase b ∷ []) bs
     else token_mark run (b ∷ bs) ++ separator_mark b bs ++ marks_from [] bs
 
--- a token is a longest run of letters and digits
+-- a token is a longest run of letters and digits; small letters are read as capitals, and a byte that is neither in a
+-- token nor a separator is a blank
 abbrev pub marks : List ℕ → List Mark
 marks bytes = marks_from [] bytes
 
+-- a known word, by its value and its class, is a conjunction
 abbrev pub is_conjunction : Option (ℕ × ℕ) → Bool
 is_conjunction None = false
 is_conjunction (Some word) = word.1 == 5

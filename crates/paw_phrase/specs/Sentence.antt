@@ -1,11 +1,11 @@
 -- How a phrase becomes a sentence.
-use Rattle.std.specs.Prelude.{ℕ, ◌==◌, ◌&&◌, ◌||◌, Bool, true, false, not, List, [], ◌∷◌, Option, Some, None, nat_lt, nat_le, if◌then◌else◌}
+use Rattle.std.specs.Prelude.{ℕ, ◌==◌, ◌&&◌, ◌||◌, Bool, true, false, List, [], ◌∷◌, Option, Some, None, nat_lt, nat_le, if◌then◌else◌}
 use Rattle.paw_game.specs.Game.{GameLists}
 use Rattle.paw_game.specs.Tables.{word_at}
 use Rattle.paw_phrase.specs.Phrase.{Phrase, phrase}
 use Rattle.paw_phrase.specs.declared.Sentence.{Sentence}
 
--- no word yet; a pronoun stands for this noun and this adjective
+-- no word yet (255); a pronoun stands for this noun and this adjective
 abbrev pub blank : ℕ → ℕ → Sentence
 blank noun adjective = record {
   verb = 255;
@@ -19,32 +19,33 @@ blank noun adjective = record {
   pronoun_adjective = adjective;
 }
 
-abbrev pub is_none : ℕ → Bool
-is_none value = value == 255
+abbrev pub is_absent : ℕ → Bool
+is_absent value = value == 255
 
 -- the value where there is none yet
 abbrev pub or_value : ℕ → ℕ → ℕ
-or_value old value = if is_none old then value else old
+or_value old value = if is_absent old then value else old
 
 -- a noun fills the first place that is free; with both filled it is ignored
 abbrev pub with_noun : ℕ → Sentence → Sentence
 with_noun value s =
-    if is_none s.noun then record s { noun = value } else record s { second_noun = or_value s.second_noun value }
+    if is_absent s.noun then record s { noun = value } else record s { second_noun = or_value s.second_noun value }
 
 -- an adjective belongs to the first noun until that stands, and then to the second
 abbrev pub with_adjective : ℕ → Sentence → Sentence
 with_adjective value s =
-    if is_none s.noun then record s { adjective = or_value s.adjective value }
+    if is_absent s.noun then record s { adjective = or_value s.adjective value }
     else record s { second_adjective = or_value s.second_adjective value }
 
 -- a pronoun stands for a noun and its adjective; where it stands for none, or both nouns are there, it is ignored
 abbrev pub with_pronoun : Sentence → Sentence
 with_pronoun s =
-    if is_none s.pronoun_noun then s else
-    if is_none s.noun then record s { noun = s.pronoun_noun; adjective = s.pronoun_adjective } else
-    if is_none s.second_noun then record s { second_noun = s.pronoun_noun; second_adjective = s.pronoun_adjective } else s
+    if is_absent s.pronoun_noun then s else
+    if is_absent s.noun then record s { noun = s.pronoun_noun; adjective = s.pronoun_adjective } else
+    if is_absent s.second_noun then record s { second_noun = s.pronoun_noun; second_adjective = s.pronoun_adjective } else s
 
--- a word of this value and class is added: a verb, an adverb and a preposition where there is none yet
+-- A word of this value and class is added: a verb (0), an adverb (1) or a preposition (4) where there is none yet, a noun
+-- (2), an adjective (3) or a pronoun (6). A conjunction (5) is in no phrase.
 abbrev pub with_word : ℕ → ℕ → Sentence → Sentence
 with_word value class s =
     if class == 0 then record s { verb = or_value s.verb value } else
@@ -75,16 +76,20 @@ has_known g (token ∷ tokens) = is_known (word_at g token) || has_known g token
 -- where there is no verb, a first noun below 20 stands for it, and else the verb of the phrase before
 abbrev pub with_verb : ℕ → Sentence → Sentence
 with_verb earlier s =
-    if is_none s.verb then (if nat_lt s.noun 20 then record s { verb = s.noun } else record s { verb = earlier }) else s
+    if is_absent s.verb then (if nat_lt s.noun 20 then record s { verb = s.noun } else record s { verb = earlier }) else s
 
 -- a first noun from 50 to 254 is what a pronoun stands for from now on
 abbrev pub with_meaning : Sentence → Sentence
 with_meaning s =
     if nat_le 50 s.noun && nat_le s.noun 254 then record s { pronoun_noun = s.noun; pronoun_adjective = s.adjective } else s
 
+-- the words of a phrase become its sentence, after this verb
+abbrev pub finished : ℕ → Sentence → Sentence
+finished earlier s = with_meaning (with_verb earlier s)
+
 -- the sentence of these tokens
 abbrev pub sentence : GameLists → List (List ℕ) → ℕ → ℕ → ℕ → Sentence
-sentence g tokens earlier noun adjective = with_meaning (with_verb earlier (filled g tokens (blank noun adjective)))
+sentence g tokens earlier noun adjective = finished earlier (filled g tokens (blank noun adjective))
 
 -- what the next phrase of the pending bytes is: a sentence, or a phrase with no known word, each with the bytes that
 -- stay pending; or no phrase
