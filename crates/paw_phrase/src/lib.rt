@@ -1,6 +1,11 @@
 //! Phrases: how a typed line is cut into phrases, and how a phrase becomes a sentence.
 #![tactic(auto)]
 
+mod line;
+pub mod words;
+
+pub use line::{LINE_LIMIT, Pending};
+
 /// A sentence: the values of its words, 255 where it has none, and the noun and adjective that a pronoun stands for
 /// afterwards.
 #[derive(Clone, Copy, Drop, PartialEq, Eq, Debug)]
