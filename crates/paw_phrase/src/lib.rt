@@ -2,6 +2,7 @@
 #![tactic(auto)]
 
 mod line;
+mod tokens;
 pub mod words;
 
 pub use line::{LINE_LIMIT, Pending};

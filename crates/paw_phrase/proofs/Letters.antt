@@ -1,0 +1,51 @@
+-- The letters of a token, one by one.
+use Rattle.std.proofs.Common.{◌≡◌, ◌<◌, ◌≤◌, ◌+◌, ◌-◌, ℕ, suc, List, [], ◌∷◌, ◌++◌, length, take, replicate, map, get_or, set, refl, sym, ap, ◌∙◌, arith, length-append, append_assoc, add-one}
+use Rattle.std.specs.Char.{to_ascii_uppercase}
+use Rattle.std.proofs.Math.Seq.{take-suc}
+use Rattle.std.proofs.lemmas.List.{length-take-le, length-map, map-append, take_all, take-append-le, set_at}
+use Rattle.paw_phrase.specs.Phrase.{five_letters}
+
+-- the first n bytes, with small letters read as capitals
+abbrev pub letters_of : ℕ → List ℕ → List ℕ
+letters_of n bytes = map to_ascii_uppercase (take n bytes)
+
+pub length-letters_of : (n : ℕ) (bytes : List ℕ) → n ≤ length bytes → length (letters_of n bytes) ≡ n
+length-letters_of n bytes h = length-map (take n bytes) to_ascii_uppercase ∙ length-take-le n bytes h
+
+pub letters_of-suc : (n : ℕ) (bytes : List ℕ) → n < length bytes → letters_of (suc n) bytes ≡ letters_of n bytes ++ to_ascii_uppercase (get_or bytes n 0) ∷ []
+letters_of-suc n bytes h =
+    ap (map to_ascii_uppercase) (take-suc bytes n 0 h) ∙ map-append to_ascii_uppercase (take n bytes) (get_or bytes n 0 ∷ [])
+
+letter_at : (run filling : List ℕ) (letter x : ℕ) → (run ++ letter ∷ []) ++ filling ≡ set (run ++ x ∷ filling) (length run) letter
+letter_at run filling letter x = append_assoc run (letter ∷ []) filling ∙ sym (set_at run x filling letter (length run) refl)
+
+-- a letter among the first five is kept
+five_letters-kept : (run : List ℕ) (letter : ℕ) → length run < 5 → five_letters (run ++ letter ∷ []) ≡ set (five_letters run) (length run) letter
+five_letters-kept run letter h =
+    let whole : take 5 (run ++ letter ∷ []) ≡ run ++ letter ∷ [] = take_all 5 (run ++ letter ∷ []) (omega (arith, length-append run (letter ∷ []))) in
+    let short : take 5 run ≡ run = take_all 5 run (omega arith) in
+    let spaces : 5 - length run ≡ suc (4 - length run) = omega arith in
+    let fewer : 5 - length (run ++ letter ∷ []) ≡ 4 - length run = omega (arith, length-append run (letter ∷ [])) in
+    rw (whole, fewer, short, spaces) (letter_at run (replicate (4 - length run) 32) letter 32)
+
+-- any other is not
+five_letters-cut : (run : List ℕ) (letter : ℕ) → 5 ≤ length run → five_letters (run ++ letter ∷ []) ≡ five_letters run
+five_letters-cut run letter h =
+    let cut : take 5 (run ++ letter ∷ []) ≡ take 5 run = take-append-le 5 run (letter ∷ []) h in
+    let none : 5 - length (run ++ letter ∷ []) ≡ 5 - length run = omega (arith, length-append run (letter ∷ [])) in
+    rw (cut, none) refl
+
+pub letter_kept : (bytes : List ℕ) (n : ℕ) → n < length bytes → n < 5 → set (five_letters (letters_of n bytes)) n (to_ascii_uppercase (get_or bytes n 0)) ≡ five_letters (letters_of (n + 1) bytes)
+letter_kept bytes n h five =
+    let run = letters_of n bytes in
+    let letter = to_ascii_uppercase (get_or bytes n 0) in
+    let long : length run ≡ n = length-letters_of n bytes (omega arith) in
+    let kept : five_letters (run ++ letter ∷ []) ≡ set (five_letters run) (length run) letter = five_letters-kept run letter (omega arith) in
+    rw add-one (sym (ap five_letters (letters_of-suc n bytes h) ∙ kept ∙ ap (λ k. set (five_letters run) k letter) long))
+
+pub letter_cut : (bytes : List ℕ) (n : ℕ) → n < length bytes → 5 ≤ n → five_letters (letters_of n bytes) ≡ five_letters (letters_of (n + 1) bytes)
+letter_cut bytes n h five =
+    let run = letters_of n bytes in
+    let letter = to_ascii_uppercase (get_or bytes n 0) in
+    let long : length run ≡ n = length-letters_of n bytes (omega arith) in
+    rw add-one (sym (ap five_letters (letters_of-suc n bytes h) ∙ five_letters-cut run letter (omega arith)))
