@@ -1,11 +1,20 @@
 //! Phrases: how a typed line is cut into phrases, and how a phrase becomes a sentence.
 #![tactic(auto)]
 
+ghost use Rattle.std.specs.Prelude.{◌≡◌};
+ghost use Rattle.paw_phrase.specs.Sentence.{or_value, blank, with_noun, with_adjective, with_pronoun, with_word, finished};
+
 mod line;
+mod next;
 mod tokens;
 pub mod words;
 
 pub use line::{LINE_LIMIT, Pending};
+pub use next::next_phrase;
+use words::{
+    ADJECTIVE, ADVERB, FIRST_NAMED_NOUN, FIRST_PLAIN_NOUN, NO_WORD, NOUN, PREPOSITION, PRONOUN,
+    VERB,
+};
 
 /// A sentence: the values of its words, 255 where it has none, and the noun and adjective that a pronoun stands for
 /// afterwards.
@@ -20,6 +29,101 @@ pub struct Sentence {
     pub second_adjective: u8,
     pub pronoun_noun: u8,
     pub pronoun_adjective: u8,
+}
+
+/// A value fills a part that has none yet.
+fn fill(part: &mut u8, value: u8)
+    ensures value { part.new ≡ or_value part.old value }
+{
+    if *part == NO_WORD {
+        *part = value;
+    }
+}
+
+impl Sentence {
+    /// No word yet; a pronoun stands for this noun and this adjective.
+    fn blank(noun: u8, adjective: u8) -> Sentence
+        ensures value { result ≡ blank noun adjective }
+    {
+        Sentence {
+            verb: NO_WORD,
+            noun: NO_WORD,
+            adjective: NO_WORD,
+            adverb: NO_WORD,
+            preposition: NO_WORD,
+            second_noun: NO_WORD,
+            second_adjective: NO_WORD,
+            pronoun_noun: noun,
+            pronoun_adjective: adjective,
+        }
+    }
+
+    fn add_noun(&mut self, value: u8)
+        ensures value { self.new ≡ with_noun value self.old }
+    {
+        if self.noun == NO_WORD {
+            self.noun = value;
+        } else {
+            fill(&mut self.second_noun, value);
+        }
+    }
+
+    fn add_adjective(&mut self, value: u8)
+        ensures value { self.new ≡ with_adjective value self.old }
+    {
+        if self.noun == NO_WORD {
+            fill(&mut self.adjective, value);
+        } else {
+            fill(&mut self.second_adjective, value);
+        }
+    }
+
+    fn add_pronoun(&mut self)
+        ensures value { self.new ≡ with_pronoun self.old }
+    {
+        if self.pronoun_noun == NO_WORD {
+            return;
+        }
+        if self.noun == NO_WORD {
+            self.noun = self.pronoun_noun;
+            self.adjective = self.pronoun_adjective;
+        } else if self.second_noun == NO_WORD {
+            self.second_noun = self.pronoun_noun;
+            self.second_adjective = self.pronoun_adjective;
+        }
+    }
+
+    /// A word of this value and class is added.
+    fn add(&mut self, value: u8, class: u8)
+        ensures value { self.new ≡ with_word value class self.old }
+    {
+        match class {
+            VERB => fill(&mut self.verb, value),
+            ADVERB => fill(&mut self.adverb, value),
+            NOUN => self.add_noun(value),
+            ADJECTIVE => self.add_adjective(value),
+            PREPOSITION => fill(&mut self.preposition, value),
+            PRONOUN => self.add_pronoun(),
+            _ => {}
+        }
+    }
+
+    /// The words of a phrase become its sentence, after this verb.
+    fn finish(&mut self, earlier: u8)
+        ensures value { self.new ≡ finished earlier self.old }
+    {
+        if self.verb == NO_WORD {
+            self.verb = if self.noun < FIRST_PLAIN_NOUN {
+                self.noun
+            } else {
+                earlier
+            };
+        }
+        if self.noun >= FIRST_NAMED_NOUN && self.noun != NO_WORD {
+            self.pronoun_noun = self.noun;
+            self.pronoun_adjective = self.adjective;
+        }
+    }
 }
 
 /// What the next phrase is: a sentence, one with no known word, or none at all.

@@ -1,0 +1,14 @@
+use Rattle.std.proofs.Common.{◌≡◌, ◌≤◌, ◌-◌, ℕ, length, drop}
+use Rattle.paw_phrase.specs.Phrase.{marks}
+use Rattle.paw_phrase.specs.Sentence.{parsed}
+use Rattle.paw_phrase.proofs.Drafts.{along}
+use Rattle.paw_phrase.proofs.next.read_phrase.Given as goal
+
+-- the draft, read on from here, comes to the phrase
+abbrev pub invariant-loop-mark : goal.invariant-loop-mark
+invariant-loop-mark g l =
+    (l.end ≤ length l.bytes)
+    × ((e : ℕ) → parsed (g.T.Tables.game l.tables) l.bytes e l.noun l.adjective ≡ along (g.T.Tables.game l.tables) e (marks (drop l.end l.bytes)) l.draft)
+
+abbrev pub decreases-loop-mark : goal.decreases-loop-mark
+decreases-loop-mark g l = length l.bytes - l.end
