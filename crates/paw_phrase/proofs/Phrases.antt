@@ -1,0 +1,127 @@
+-- What the next phrase leaves of the pending bytes.
+use Rattle.std.proofs.Common.{◌≡◌, ◌<◌, ◌≤◌, ◌+◌, ℕ, suc, Bool, true, false, cond, List, [], ◌∷◌, ◌++◌, None, length, drop, refl, sym, ap, subst, arith, length-drop}
+use Rattle.std.specs.List.{All}
+use Rattle.std.specs.Char.{to_ascii_uppercase, is_ascii_alphanumeric}
+use Rattle.std.proofs.lemmas.List.{drop_all}
+use Rattle.std.proofs.lemmas.List.Elements.{All-drop}
+use Rattle.paw_game.specs.Game.{GameLists}
+use Rattle.paw_phrase.specs.declared.Sentence.{Sentence}
+use Rattle.paw_phrase.specs.Phrase.{is_separator, Mark, token_mark, separator_mark, marks_from, marks, is_parting, from_phrase, tokens_of, bytes_after, phrase_of}
+use Rattle.paw_phrase.specs.Sentence.{has_known, sentence, Parsed, IsSentence, IsUnknown, IsNoPhrase, parsed_phrase, parsed}
+
+-- the bytes that stay pending: those behind the first few
+pub record IsRest (pending rest : List ℕ) : Type 0 where
+  pub from : ℕ
+  pub some : 0 < from
+  pub within : from ≤ length pending
+  pub is : rest ≡ drop from pending
+
+pub rest-shorter : (pending rest : List ℕ) → IsRest pending rest → length rest < length pending
+rest-shorter pending rest h = let long : length rest ≡ length (drop h.from pending) = ap length h.is in omega (arith, length-drop h.from pending, h.some, h.within)
+
+pub rest-all : (P : ℕ → Type 0) (pending rest : List ℕ) → IsRest pending rest → All P pending → All P rest
+rest-all P pending rest h all = subst (All P) (sym h.is) (All-drop P h.from pending all)
+
+-- a fact of the bytes that a phrase leaves
+abbrev pub Leaves : (List ℕ → Type 0) → Parsed → Type 0
+Leaves P (IsSentence s rest) = P rest
+Leaves P (IsUnknown rest) = P rest
+Leaves P IsNoPhrase = Unit {0}
+
+-- bytes behind a token or a separator, where a token's n bytes stand before s
+record IsBehind (n : ℕ) (s after : List ℕ) : Type 0 where
+  from : ℕ
+  some : 0 < n + from
+  within : from ≤ length s
+  is : after ≡ drop from s
+
+behind-more : (n m b : ℕ) (s after : List ℕ) → IsBehind n s after → IsBehind m (b ∷ s) after
+behind-more n m b s after h = record { from = suc h.from; some = omega arith; within = omega (arith, h.within); is = h.is }
+
+abbrev Each : (List ℕ → Type 0) → List Mark → Type 0
+Each P [] = Unit {0}
+Each P (m ∷ ms) = P m.after × Each P ms
+
+Each-append : (P : List ℕ → Type 0) (ms ns : List Mark) → Each P ms → Each P ns → Each P (ms ++ ns)
+Each-append P [] ns h k = k
+Each-append P (m ∷ ms) ns h k = (h.0, Each-append P ms ns h.1 k)
+
+Each-map : (P Q : List ℕ → Type 0) → ((after : List ℕ) → P after → Q after) → (ms : List Mark) → Each P ms → Each Q ms
+Each-map P Q f [] h = tt
+Each-map P Q f (m ∷ ms) h = (f m.after h.0, Each-map P Q f ms h.1)
+
+token_mark-behind : (run s : List ℕ) → Each (IsBehind (length run) s) (token_mark run s)
+token_mark-behind [] s = tt
+token_mark-behind (b ∷ bs) s = (record { from = 0; some = omega arith; within = omega arith; is = refl }, tt)
+
+separator_mark-behind : (n b : ℕ) (bs : List ℕ) → Each (IsBehind n (b ∷ bs)) (separator_mark b bs)
+separator_mark-behind n b bs =
+    elim (is_separator b) as (λ v. Each (IsBehind n (b ∷ bs)) (cond v (record { token = None; after = bs } ∷ []) [])) [
+      | true ↦ (record { from = 1; some = omega arith; within = omega arith; is = refl }, tt)
+      | false ↦ tt
+    ]
+
+marks_from-behind : (bs run : List ℕ) → Each (IsBehind (length run) bs) (marks_from run bs)
+unfolding marks_from
+marks_from-behind [] run = token_mark-behind run []
+marks_from-behind (b ∷ bs) run =
+    let longer = run ++ to_ascii_uppercase b ∷ [] in
+    elim (is_ascii_alphanumeric b) as (λ v. Each (IsBehind (length run) (b ∷ bs)) (cond v (marks_from longer bs) (token_mark run (b ∷ bs) ++ separator_mark b bs ++ marks_from [] bs))) [
+      | true ↦ Each-map (IsBehind (length longer) bs) (IsBehind (length run) (b ∷ bs)) (λ after. behind-more (length longer) (length run) b bs after) (marks_from longer bs) (marks_from-behind bs longer)
+      | false ↦
+          Each-append (IsBehind (length run) (b ∷ bs)) (token_mark run (b ∷ bs) ++ separator_mark b bs) (marks_from [] bs)
+          (Each-append (IsBehind (length run) (b ∷ bs)) (token_mark run (b ∷ bs)) (separator_mark b bs) (token_mark-behind run (b ∷ bs)) (separator_mark-behind (length run) b bs))
+          (Each-map (IsBehind 0 bs) (IsBehind (length run) (b ∷ bs)) (λ after. behind-more 0 (length run) b bs after) (marks_from [] bs) (marks_from-behind bs []))
+    ]
+
+rest_from : (s after : List ℕ) → IsBehind 0 s after → IsRest s after
+rest_from s after h = record { from = h.from; some = omega (arith, h.some); within = h.within; is = h.is }
+
+marks-rest : (s : List ℕ) → Each (IsRest s) (marks s)
+marks-rest s = Each-map (IsBehind 0 s) (IsRest s) (rest_from s) (marks s) (marks_from-behind s [])
+
+-- where something is left, nothing may be left too
+rest-none : (s after : List ℕ) → IsRest s after → IsRest s []
+rest-none s after h = record { from = length s; some = omega (arith, h.some, h.within); within = omega arith; is = sym (drop_all (length s) s (omega arith)) }
+
+from_phrase-each : (P : List ℕ → Type 0) (g : GameLists) (ms : List Mark) → Each P ms → Each P (from_phrase g ms)
+from_phrase-each P g [] h = tt
+from_phrase-each P g (m ∷ ms) h =
+    elim (is_parting g m.token) as (λ v. Each P (cond v (from_phrase g ms) (m ∷ ms))) [ true ↦ from_phrase-each P g ms h.1 | false ↦ h ]
+
+bytes_after-each : (P : List ℕ → Type 0) (g : GameLists) (ms : List Mark) → P [] → Each P ms → P (bytes_after g ms)
+bytes_after-each P g [] none h = none
+bytes_after-each P g (m ∷ ms) none h =
+    elim (is_parting g m.token) as (λ v. P (cond v m.after (bytes_after g ms))) [ true ↦ h.0 | false ↦ bytes_after-each P g ms none h.1 ]
+
+leaves : (P : List ℕ → Type 0) (b : Bool) (s : Sentence) (rest : List ℕ) → P rest → Leaves P (cond b (IsSentence s rest) (IsUnknown rest))
+leaves P true s rest h = h
+leaves P false s rest h = h
+
+parsed_phrase-rest : (g : GameLists) (pending : List ℕ) (e n a : ℕ) (ms : List Mark) → Each (IsRest pending) ms → Leaves (IsRest pending) (parsed_phrase g e n a (phrase_of g ms))
+parsed_phrase-rest g pending e n a [] h = tt
+parsed_phrase-rest g pending e n a (m ∷ ms) h =
+    leaves (IsRest pending) (has_known g (tokens_of g (m ∷ ms))) (sentence g (tokens_of g (m ∷ ms)) e n a) (bytes_after g (m ∷ ms))
+    (bytes_after-each (IsRest pending) g (m ∷ ms) (rest-none pending m.after h.0) h)
+
+-- what stays pending is what stands behind the first few bytes
+pub parsed-rest : (g : GameLists) (pending : List ℕ) (earlier noun adjective : ℕ) → Leaves (IsRest pending) (parsed g pending earlier noun adjective)
+unfolding parsed
+parsed-rest g pending e n a = parsed_phrase-rest g pending e n a (from_phrase g (marks pending)) (from_phrase-each (IsRest pending) g (marks pending) (marks-rest pending))
+
+leaves-map : (P Q : List ℕ → Type 0) → ((rest : List ℕ) → P rest → Q rest) → (p : Parsed) → Leaves P p → Leaves Q p
+leaves-map P Q f (IsSentence s rest) h = f rest h
+leaves-map P Q f (IsUnknown rest) h = f rest h
+leaves-map P Q f IsNoPhrase h = tt
+
+-- a phrase that is taken makes what is pending shorter
+pub parsed-shorter : (g : GameLists) (pending : List ℕ) (earlier noun adjective : ℕ) → Leaves (λ rest. length rest < length pending) (parsed g pending earlier noun adjective)
+parsed-shorter g pending e n a =
+    leaves-map (IsRest pending) (λ rest. length rest < length pending) (rest-shorter pending) (parsed g pending e n a) (parsed-rest g pending e n a)
+
+-- the same for a phrase that is known to be a sentence, or unknown
+pub sentence-rest : (g : GameLists) (pending : List ℕ) (earlier noun adjective : ℕ) (s : Sentence) (rest : List ℕ) → parsed g pending earlier noun adjective ≡ IsSentence s rest → IsRest pending rest
+sentence-rest g pending e n a s rest is = subst (Leaves (IsRest pending)) is (parsed-rest g pending e n a)
+
+pub unknown-rest : (g : GameLists) (pending : List ℕ) (earlier noun adjective : ℕ) (rest : List ℕ) → parsed g pending earlier noun adjective ≡ IsUnknown rest → IsRest pending rest
+unknown-rest g pending e n a rest is = subst (Leaves (IsRest pending)) is (parsed-rest g pending e n a)
