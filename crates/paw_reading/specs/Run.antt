@@ -1,7 +1,6 @@
 -- A run of a game.
-use Rattle.std.specs.Prelude.{ℕ, ◌+◌, ◌-◌, ◌%◌, ◌==◌, ◌&&◌, ◌||◌, Bool, true, false, not, List, [], ◌∷◌, ◌++◌, Option, Some, None, length, min, nat_lt, nat_le, if◌then◌else◌}
+use Rattle.std.specs.Prelude.{ℕ, ◌+◌, ◌%◌, ◌==◌, ◌&&◌, ◌||◌, Bool, false, List, [], ◌∷◌, ◌++◌, Option, None, length, nat_le, if◌then◌else◌}
 use Rattle.std.specs.Str.{bytes_eq}
-use Rattle.paw_game.specs.Game.{GameLists}
 use Rattle.paw_world.specs.World.{World, flag, with_flag, restarted}
 use Rattle.paw_phrase.specs.declared.Sentence.{Sentence}
 use Rattle.paw_reading.specs.declared.places.OpenLoop.{OpenLoop}

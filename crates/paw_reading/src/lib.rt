@@ -1,4 +1,5 @@
 //! The reading of a game's tables in written order, the turn, and the reading of a list of lines: what play means.
 #![tactic(auto)]
 
+pub mod laws;
 pub mod places;

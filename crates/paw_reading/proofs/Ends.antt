@@ -1,0 +1,254 @@
+-- Turns end, and more stages change nothing.
+use Rattle.std.proofs.Common.{◌≡◌, ◌≢◌, ℕ, zero, suc, ◌+◌, ◌-◌, ◌*◌, ◌≤◌, ◌<◌, Bool, true, false, List, [], ◌∷◌, ◌⊎◌, inl, inr, Option, Some, None, refl, sym, ◌∙◌, length, arith}
+use Rattle.std.specs.Prelude.{if◌then◌else◌}
+use Rattle.paw_base.specs.declared.fault.SpentKind.TheVariants as spent
+use Rattle.paw_game.specs.Game.{GameLists}
+use Rattle.paw_game.specs.Tables.{exit_at}
+use Rattle.paw_world.specs.World.{flag, with_flag}
+use Rattle.paw_phrase.specs.Sentence.{Parsed, IsSentence, IsUnknown, IsNoPhrase}
+use Rattle.paw_phrase.proofs.Phrases.{Leaves, parsed-shorter}
+use Rattle.paw_effects.specs.declared.act.Prompt.{Prompt}
+use Rattle.paw_effects.specs.declared.act.Prompt.TheVariants as prompt
+use Rattle.paw_effects.specs.Texts.{say_text}
+use Rattle.paw_reading.specs.declared.places.Frame.{Frame}
+use Rattle.paw_reading.specs.Run.{Run, closed, fits, printed, with_world, line_dropped, is_timeout, is_ignored, heard, with_timeout}
+use Rattle.paw_reading.specs.Reading.{Out, Left, Waits, Redescribes, Restarts, Ends, IsSpent, IsDeep, table_read}
+use Rattle.paw_reading.specs.Turn.{Stage, AtDescribe, AtFrame, AtPhrase, AtResponse, Ending, RunsOut, Unended, saying, described, framed, view_text, prompt_text, line_set, at_main, after_phrase, refusal_text, connected, responded, after_left, table_done, turn, left_to_read, stages_left, first_table, in_table, goes_on, TurnsEnd, EndsOnce, GoingOnEnds, GoesOnOnce}
+use Rattle.paw_reading.proofs.Spends.{brought, brought_more, Spends, table_spends, path_spends}
+
+-- ---- turns end ----
+
+-- from every stage that needs at most n stages the turn ends
+abbrev pub EndsWithin : ℕ → (Stage → Run → Ending) → Type 0
+EndsWithin n go = (s : Stage) (r : Run) → stages_left s r ≤ n → go s r ≢ Unended
+
+saying_ends : (text : List ℕ) (go : Run → Ending) (r : Run) → go (printed text r) ≢ Unended → saying text go r ≢ Unended
+saying_ends text go r h = by_test (fits r text)
+  where
+    by_test : (b : Bool) → (if b then go (printed text r) else RunsOut spent.Text r) ≢ Unended
+    by_test true = h
+    by_test false = λ e. cc
+
+connected_ends : (g : GameLists) (n : ℕ) (go : Stage → Run → Ending) → EndsWithin n go → (r : Run) → 4 * left_to_read r + 3 ≤ n → (to : Option ℕ) →
+    connected g (go AtDescribe) (go AtFrame) r to ≢ Unended
+connected_ends g n go h r k None =
+    saying_ends (refusal_text g r.world) (go AtFrame) (line_dropped r) (h AtFrame (printed (refusal_text g r.world) (line_dropped r)) (omega arith))
+connected_ends g n go h r k (Some to) = h AtDescribe (with_world (with_flag r.world 38 to) r) (omega arith)
+
+responded_ends : (g : GameLists) (n : ℕ) (go : Stage → Run → Ending) → EndsWithin n go → (r : Run) → 4 * left_to_read r + 3 ≤ n → (acted : Bool) →
+    responded g (go AtDescribe) (go AtFrame) acted r ≢ Unended
+responded_ends g n go h r k true = h AtFrame r (omega arith)
+responded_ends g n go h r k false = connected_ends g n go h r k (exit_at g (flag r.world 38) (flag r.world 33))
+
+-- how many stages a table needs after it
+abbrev pub rank_after : ℕ → ℕ
+rank_after zero = 3
+rank_after (suc zero) = 2
+rank_after (suc (suc t)) = 1
+
+after_left_ends : (g : GameLists) (n : ℕ) (go : Stage → Run → Ending) → EndsWithin n go → (t : ℕ) (acted : Bool) (r : Run) → 4 * left_to_read r + rank_after t ≤ n →
+    after_left g go t acted r ≢ Unended
+after_left_ends g n go h zero acted r k = responded_ends g n go h r k acted
+after_left_ends g n go h (suc zero) acted r k = h AtFrame r k
+after_left_ends g n go h (suc (suc t)) acted r k = h AtPhrase (with_world (framed r.world) r) k
+
+rank_after-pos : (t : ℕ) → 1 ≤ rank_after t
+rank_after-pos zero = omega arith
+rank_after-pos (suc zero) = omega arith
+rank_after-pos (suc (suc t)) = omega arith
+
+table_done_ends : (g : GameLists) (n : ℕ) (go : Stage → Run → Ending) → EndsWithin n go → (t v : ℕ) → 4 * v + rank_after t ≤ n → (x : Out) → Spends v x → table_done g go t x ≢ Unended
+table_done_ends g n go h t v k (Left a r) s = after_left_ends g n go h t a r (omega arith)
+table_done_ends g n go h t v k (Redescribes r) s = h AtDescribe r (omega (arith, rank_after-pos t))
+table_done_ends g n go h t v k (Restarts r) s = h AtDescribe r (omega (arith, rank_after-pos t))
+table_done_ends g n go h t v k (Waits p path r) s = λ e. cc
+table_done_ends g n go h t v k (Ends r) s = λ e. cc
+table_done_ends g n go h t v k (IsSpent kind r) s = λ e. cc
+table_done_ends g n go h t v k (IsDeep u r) s = λ e. cc
+
+at_main_ends : (g : GameLists) (n : ℕ) (go : Stage → Run → Ending) → EndsWithin n go → (r : Run) (lines : List (List ℕ)) → 4 * (length r.pending + brought lines) ≤ n →
+    at_main g (go AtFrame) (go AtPhrase) r lines ≢ Unended
+unfolding at_main
+at_main_ends g n go h r [] k = λ e. cc
+at_main_ends g n go h r (line ∷ lines) k =
+    let m : brought (line ∷ lines) ≡ length line + 200001 + brought lines = brought_more line lines in
+    let s : Run = record r { events = lines } in
+    let said : List ℕ = say_text g (with_timeout true r.world) 35 in
+    by_test (is_ignored r.world line) (is_timeout line)
+    (at_main_ends g n go h (closed s) lines (omega (arith, m, k)))
+    (saying_ends said (go AtFrame) (heard line s) (h AtFrame (printed said (heard line s)) (omega (arith, m, k))))
+    (h AtPhrase (line_set line s) (omega (arith, m, k)))
+  where
+    by_test : (ignored timeout : Bool) → {x y z : Ending} → x ≢ Unended → y ≢ Unended → z ≢ Unended → (if ignored then x else if timeout then y else z) ≢ Unended
+    by_test true timeout hx hy hz = hx
+    by_test false true hx hy hz = hy
+    by_test false false hx hy hz = hz
+
+after_phrase_ends : (g : GameLists) (n : ℕ) (go : Stage → Run → Ending) → EndsWithin n go → (r : Run) → 4 * left_to_read r ≤ n → (p : Parsed) →
+    Leaves (λ rest. length rest < length r.pending) p → after_phrase g (go AtFrame) (go AtPhrase) (go AtResponse) r p ≢ Unended
+after_phrase_ends g n go h r k (IsSentence s rest) less = h AtResponse _ (omega arith)
+after_phrase_ends g n go h r k (IsUnknown rest) less =
+    saying_ends (say_text g r.world 6) (go AtFrame) (line_dropped r) (h AtFrame (printed (say_text g r.world 6) (line_dropped r)) (omega arith))
+after_phrase_ends g n go h r k IsNoPhrase less =
+    let text : List ℕ = prompt_text g r.world in
+    let shown : Run = closed (printed text (line_dropped r)) in
+    saying_ends text (λ s. at_main g (go AtFrame) (go AtPhrase) (closed s) s.events) (line_dropped r)
+    (at_main_ends g n go h shown r.events (omega arith))
+
+-- with so many stages each turn ends
+turn_ends : (g : GameLists) (X : List (List ℕ)) (n : ℕ) → EndsWithin n (turn g X n)
+unfolding turn
+turn_ends g X zero AtDescribe r h = absurd (omega arith)
+turn_ends g X zero AtFrame r h = absurd (omega arith)
+turn_ends g X zero AtPhrase r h = absurd (omega arith)
+turn_ends g X zero AtResponse r h = absurd (omega arith)
+turn_ends g X (suc n) AtDescribe r h =
+    let text : List ℕ = view_text g (described r.world) in
+    let s : Run = with_world (described r.world) r in
+    saying_ends text (λ q. table_done g (turn g X n) 1 (table_read g X 1 q)) s
+    (table_done_ends g n (turn g X n) (turn_ends g X n) 1 (left_to_read r) (omega arith) _ (table_spends g X 1 (printed text s)))
+turn_ends g X (suc n) AtFrame r h =
+    table_done_ends g n (turn g X n) (turn_ends g X n) 2 (left_to_read r) (omega arith) _ (table_spends g X 2 r)
+turn_ends g X (suc n) AtPhrase r h =
+    after_phrase_ends g n (turn g X n) (turn_ends g X n) r (omega arith) _ (parsed-shorter g r.pending r.earlier (flag r.world 46) (flag r.world 47))
+turn_ends g X (suc n) AtResponse r h =
+    table_done_ends g n (turn g X n) (turn_ends g X n) 0 (left_to_read r) (omega arith) _ (table_spends g X 0 r)
+
+-- the stages that are granted are enough
+pub turns_end : TurnsEnd
+turns_end g X s r = turn_ends g X (stages_left s r) s r (omega arith)
+
+in_table_ends : (g : GameLists) (X : List (List ℕ)) (n : ℕ) (p : Prompt) (path : List Frame) (r : Run) → 4 * left_to_read r + 3 ≤ n → in_table g X n p path r ≢ Unended
+in_table_ends g X n p path r h =
+    table_done_ends g n (turn g X n) (turn_ends g X n) (first_table path) (left_to_read r) (omega (arith, h, rank_after-le (first_table path))) _ (path_spends g X p 0 path r)
+  where
+    rank_after-le : (t : ℕ) → rank_after t ≤ 3
+    rank_after-le zero = omega arith
+    rank_after-le (suc zero) = omega arith
+    rank_after-le (suc (suc t)) = omega arith
+
+goes_on_ends : (g : GameLists) (X : List (List ℕ)) (n : ℕ) (p : Prompt) (path : List Frame) (r : Run) → 4 * left_to_read r + 3 ≤ n → goes_on g X n p path r ≢ Unended
+goes_on_ends g X n prompt.Main path r h = at_main_ends g n (turn g X n) (turn_ends g X n) r r.events (omega arith)
+goes_on_ends g X n prompt.Quit path r h = in_table_ends g X n prompt.Quit path r h
+goes_on_ends g X n prompt.Again path r h = in_table_ends g X n prompt.Again path r h
+goes_on_ends g X n prompt.Key path r h = in_table_ends g X n prompt.Key path r h
+goes_on_ends g X n prompt.Over path r h = λ e. cc
+
+-- going on from a prompt ends
+pub going_on_ends : GoingOnEnds
+going_on_ends g X p path r = goes_on_ends g X (stages_left AtResponse r) p path r (omega arith)
+
+-- ---- more stages change nothing ----
+
+-- where one ends, the other is the same
+abbrev pub Refines : (Stage → Run → Ending) → (Stage → Run → Ending) → Type 0
+Refines go more = (s : Stage) (r : Run) → go s r ≢ Unended → more s r ≡ go s r
+
+saying_more : (text : List ℕ) (go more : Run → Ending) (r : Run) → ((s : Run) → go s ≢ Unended → more s ≡ go s) → saying text go r ≢ Unended →
+    saying text more r ≡ saying text go r
+saying_more text go more r h = by_test (fits r text)
+  where
+    by_test : (b : Bool) → (if b then go (printed text r) else RunsOut spent.Text r) ≢ Unended →
+        (if b then more (printed text r) else RunsOut spent.Text r) ≡ (if b then go (printed text r) else RunsOut spent.Text r)
+    by_test true k = h (printed text r) k
+    by_test false k = refl
+
+connected_more : (g : GameLists) (go more : Stage → Run → Ending) → Refines go more → (r : Run) (to : Option ℕ) →
+    connected g (go AtDescribe) (go AtFrame) r to ≢ Unended → connected g (more AtDescribe) (more AtFrame) r to ≡ connected g (go AtDescribe) (go AtFrame) r to
+connected_more g go more h r None k = saying_more _ (go AtFrame) (more AtFrame) _ (h AtFrame) k
+connected_more g go more h r (Some to) k = h AtDescribe _ k
+
+after_left_more : (g : GameLists) (go more : Stage → Run → Ending) → Refines go more → (t : ℕ) (acted : Bool) (r : Run) →
+    after_left g go t acted r ≢ Unended → after_left g more t acted r ≡ after_left g go t acted r
+after_left_more g go more h zero true r k = h AtFrame r k
+after_left_more g go more h zero false r k = connected_more g go more h r _ k
+after_left_more g go more h (suc zero) acted r k = h AtFrame r k
+after_left_more g go more h (suc (suc t)) acted r k = h AtPhrase _ k
+
+table_done_more : (g : GameLists) (go more : Stage → Run → Ending) → Refines go more → (t : ℕ) (x : Out) →
+    table_done g go t x ≢ Unended → table_done g more t x ≡ table_done g go t x
+table_done_more g go more h t (Left a r) k = after_left_more g go more h t a r k
+table_done_more g go more h t (Redescribes r) k = h AtDescribe r k
+table_done_more g go more h t (Restarts r) k = h AtDescribe r k
+table_done_more g go more h t (Waits p path r) k = refl
+table_done_more g go more h t (Ends r) k = refl
+table_done_more g go more h t (IsSpent kind r) k = refl
+table_done_more g go more h t (IsDeep u r) k = refl
+
+at_main_more : (g : GameLists) (go more : Stage → Run → Ending) → Refines go more → (r : Run) (lines : List (List ℕ)) →
+    at_main g (go AtFrame) (go AtPhrase) r lines ≢ Unended → at_main g (more AtFrame) (more AtPhrase) r lines ≡ at_main g (go AtFrame) (go AtPhrase) r lines
+unfolding at_main
+at_main_more g go more h r [] k = refl
+at_main_more g go more h r (line ∷ lines) k =
+    by_test (is_ignored r.world line) (is_timeout line)
+    (at_main_more g go more h (closed (record r { events = lines })) lines)
+    (saying_more _ (go AtFrame) (more AtFrame) _ (h AtFrame))
+    (h AtPhrase _) k
+  where
+    by_test : (ignored timeout : Bool) → {x y z x' y' z' : Ending} → (x ≢ Unended → x' ≡ x) → (y ≢ Unended → y' ≡ y) → (z ≢ Unended → z' ≡ z) →
+        (if ignored then x else if timeout then y else z) ≢ Unended →
+        (if ignored then x' else if timeout then y' else z') ≡ (if ignored then x else if timeout then y else z)
+    by_test true timeout hx hy hz = hx
+    by_test false true hx hy hz = hy
+    by_test false false hx hy hz = hz
+
+after_phrase_more : (g : GameLists) (go more : Stage → Run → Ending) → Refines go more → (r : Run) (p : Parsed) →
+    after_phrase g (go AtFrame) (go AtPhrase) (go AtResponse) r p ≢ Unended →
+    after_phrase g (more AtFrame) (more AtPhrase) (more AtResponse) r p ≡ after_phrase g (go AtFrame) (go AtPhrase) (go AtResponse) r p
+after_phrase_more g go more h r (IsSentence s rest) k = h AtResponse _ k
+after_phrase_more g go more h r (IsUnknown rest) k = saying_more _ (go AtFrame) (more AtFrame) _ (h AtFrame) k
+after_phrase_more g go more h r IsNoPhrase k =
+    saying_more _ (λ s. at_main g (go AtFrame) (go AtPhrase) (closed s) s.events) (λ s. at_main g (more AtFrame) (more AtPhrase) (closed s) s.events) _
+    (λ s. at_main_more g go more h (closed s) s.events) k
+
+turn_more : (g : GameLists) (X : List (List ℕ)) (n : ℕ) → Refines (turn g X n) (turn g X (suc n))
+unfolding turn
+turn_more g X zero s r k = absurd (k refl)
+turn_more g X (suc n) AtDescribe r k =
+    saying_more _ (λ q. table_done g (turn g X n) 1 (table_read g X 1 q)) (λ q. table_done g (turn g X (suc n)) 1 (table_read g X 1 q)) _
+    (λ q. table_done_more g (turn g X n) (turn g X (suc n)) (turn_more g X n) 1 (table_read g X 1 q)) k
+turn_more g X (suc n) AtFrame r k = table_done_more g (turn g X n) (turn g X (suc n)) (turn_more g X n) 2 (table_read g X 2 r) k
+turn_more g X (suc n) AtPhrase r k = after_phrase_more g (turn g X n) (turn g X (suc n)) (turn_more g X n) r _ k
+turn_more g X (suc n) AtResponse r k = table_done_more g (turn g X n) (turn g X (suc n)) (turn_more g X n) 0 (table_read g X 0 r) k
+
+-- any number of stages more
+many_more : (f : ℕ → Ending) → ((n : ℕ) → f n ≢ Unended → f (suc n) ≡ f n) → (k n : ℕ) → f n ≢ Unended → f (k + n) ≡ f n
+many_more f h zero n e = let z : 0 + n ≡ n = omega arith in rw z refl
+many_more f h (suc k) n e =
+    let before : f (k + n) ≡ f n = many_more f h k n e in
+    let s : suc k + n ≡ suc (k + n) = omega arith in
+    rw s (h (k + n) (λ u. e (sym before ∙ u)) ∙ before)
+
+suc_order : (n m : ℕ) → (n ≤ m) ⊎ (m < n) → (suc n ≤ suc m) ⊎ (suc m < suc n)
+suc_order n m (inl h) = inl (omega arith)
+suc_order n m (inr h) = inr (omega arith)
+
+in_order : (n m : ℕ) → (n ≤ m) ⊎ (m < n)
+in_order zero m = inl (omega arith)
+in_order (suc n) zero = inr (omega arith)
+in_order (suc n) (suc m) = suc_order n m (in_order n m)
+
+-- two numbers of stages at which it ends give the same
+same_ending : (f : ℕ → Ending) → ((n : ℕ) → f n ≢ Unended → f (suc n) ≡ f n) → (n m : ℕ) → f n ≢ Unended → f m ≢ Unended → f n ≡ f m
+same_ending f h n m en em = by_order (in_order n m)
+  where
+    by_order : (n ≤ m) ⊎ (m < n) → f n ≡ f m
+    by_order (inl le) = let s : m ≡ (m - n) + n = omega arith in sym (rw s (many_more f h (m - n) n en))
+    by_order (inr lt) = let s : n ≡ (n - m) + m = omega arith in rw s (many_more f h (n - m) m em)
+
+-- a turn that ends is the turn
+pub ends_once : EndsOnce
+ends_once g X n s r e = same_ending (λ m. turn g X m s r) (λ m. turn_more g X m s r) n (stages_left s r) e (turns_end g X s r)
+
+goes_on_more : (g : GameLists) (X : List (List ℕ)) (p : Prompt) (path : List Frame) (r : Run) (n : ℕ) → goes_on g X n p path r ≢ Unended →
+    goes_on g X (suc n) p path r ≡ goes_on g X n p path r
+goes_on_more g X prompt.Main path r n k = at_main_more g (turn g X n) (turn g X (suc n)) (turn_more g X n) r r.events k
+goes_on_more g X prompt.Quit path r n k = table_done_more g (turn g X n) (turn g X (suc n)) (turn_more g X n) (first_table path) _ k
+goes_on_more g X prompt.Again path r n k = table_done_more g (turn g X n) (turn g X (suc n)) (turn_more g X n) (first_table path) _ k
+goes_on_more g X prompt.Key path r n k = table_done_more g (turn g X n) (turn g X (suc n)) (turn_more g X n) (first_table path) _ k
+goes_on_more g X prompt.Over path r n k = refl
+
+-- going on that ends is going on
+pub goes_on_once : GoesOnOnce
+goes_on_once g X n p path r e =
+    same_ending (λ m. goes_on g X m p path r) (goes_on_more g X p path r) n (stages_left AtResponse r) e (going_on_ends g X p path r)

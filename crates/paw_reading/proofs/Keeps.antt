@@ -1,0 +1,221 @@
+-- A table that is left has the loop with which it was begun, or none.
+use Rattle.std.proofs.Common.{◌≡◌, ℕ, zero, suc, ◌-◌, Bool, true, false, ◌||◌, List, [], ◌∷◌, Option, Some, None, ◌⊎◌, inl, inr, refl, sym, ap, ◌∙◌, subst, length, drop, arith}
+use Rattle.std.specs.Prelude.{◌==◌, if◌then◌else◌, nat_lt}
+use Rattle.std.proofs.lemmas.Bool.Decides.{nat_tests}
+use Rattle.std.proofs.lemmas.Bool.{eqb-true}
+use Rattle.paw_base.specs.declared.parts.Condact.{Condact}
+use Rattle.paw_base.specs.declared.fault.SpentKind.TheVariants as spent
+use Rattle.paw_game.specs.declared.parts.Entry.{Entry}
+use Rattle.paw_game.specs.Game.{GameLists}
+use Rattle.paw_game.specs.Tables.{table_at, entry_at, condacts_of}
+use Rattle.paw_phrase.specs.Sentence.{Parsed, IsSentence, IsUnknown, IsNoPhrase}
+use Rattle.paw_effects.specs.declared.act.Prompt.{Prompt}
+use Rattle.paw_effects.specs.declared.act.Prompt.TheVariants as prompt
+use Rattle.paw_effects.specs.declared.act.Truth.{Truth}
+use Rattle.paw_effects.specs.declared.act.Truth.TheVariants as truth
+use Rattle.paw_effects.specs.declared.act.Effect.{Effect}
+use Rattle.paw_effects.specs.declared.act.Effect.TheVariants as effect
+use Rattle.paw_effects.specs.Texts.{put_text, say_text}
+use Rattle.paw_effects.specs.Holds.{is_condition, holds}
+use Rattle.paw_effects.specs.Effects.{Done, effect_of}
+use Rattle.paw_reading.specs.declared.places.Frame.{Frame}
+use Rattle.paw_reading.specs.declared.places.OpenLoop.{OpenLoop}
+use Rattle.paw_reading.specs.Run.{Run, closed, fits, printed, with_world, without_loop, line_dropped, anew, is_ignored, heard, reply, is_yes, is_no, taken_phrase}
+use Rattle.paw_reading.specs.Reading.{Out, Left, Waits, Redescribes, Restarts, Ends, IsSpent, IsDeep, noted, after_call, at_level, if_open, again, taken, turns, loop_of, over, answered, asked, after_test, after_parse, after_action, carried_out, acts, reads_one, condacts, is_for_now, entries, plain, looped, reads, called, deeper}
+
+-- the loop is this one, or there is none
+abbrev pub IsOrNone : Option OpenLoop → Option OpenLoop → Type 0
+IsOrNone o q = (q ≡ o) ⊎ (q ≡ None)
+
+abbrev pub Keeps : Option OpenLoop → Out → Type 0
+Keeps o (Left a r) = IsOrNone o r.turning
+Keeps o (Waits p path r) = Unit {0}
+Keeps o (Redescribes r) = Unit {0}
+Keeps o (Restarts r) = Unit {0}
+Keeps o (Ends r) = Unit {0}
+Keeps o (IsSpent kind r) = Unit {0}
+Keeps o (IsDeep u r) = Unit {0}
+
+-- reading on keeps the loop of each run
+abbrev pub GoesKeeping : (Bool → Run → Out) → Type 0
+GoesKeeping go = (a : Bool) (r : Run) → Keeps r.turning (go a r)
+
+-- calls keep the loop of each run
+abbrev pub CallsKeeping : (ℕ → Run → Out) → Type 0
+CallsKeeping sub = (u : ℕ) (r : Run) → Keeps r.turning (sub u r)
+
+-- what has closed the loop keeps any
+pub Keeps_none : (o : Option OpenLoop) (x : Out) → Keeps None x → Keeps o x
+Keeps_none o (Left a r) (inl h) = inr h
+Keeps_none o (Left a r) (inr h) = inr h
+Keeps_none o (Waits p path r) h = tt
+Keeps_none o (Redescribes r) h = tt
+Keeps_none o (Restarts r) h = tt
+Keeps_none o (Ends r) h = tt
+Keeps_none o (IsSpent kind r) h = tt
+Keeps_none o (IsDeep u r) h = tt
+
+pub Keeps_from : (o q : Option OpenLoop) (x : Out) → IsOrNone o q → Keeps q x → Keeps o x
+Keeps_from o q x (inl e) h = subst (λ p. Keeps p x) e h
+Keeps_from o q x (inr e) h = Keeps_none o x (subst (λ p. Keeps p x) e h)
+
+-- what holds in both cases
+pub either : (P : Out → Type 0) (b : Bool) (x y : Out) → P x → P y → P (if b then x else y)
+either P true x y h k = h
+either P false x y h k = k
+
+pub open_or_not : (P : Out → Type 0) (next : OpenLoop → Out) (x : Out) (o : Option OpenLoop) → ((l : OpenLoop) → o ≡ Some l → P (next l)) → (o ≡ None → P x) → P (if_open next x o)
+open_or_not P next x None h k = k refl
+open_or_not P next x (Some l) h k = h l refl
+
+pub at_level_own : (lv : ℕ) (l : OpenLoop) → l.level ≡ lv → at_level lv (Some l) ≡ Some l
+at_level_own lv l h = grind (arith, nat_tests)
+
+chosen : (b : Bool) (l l' : OpenLoop) → ◌≡◌ {A = Option OpenLoop} (if b then Some l else None) (Some l') → (b ≡ true) × (l ≡ l')
+chosen true l l' h = (refl, cc)
+chosen false l l' h = cc
+
+pub at_level_is : (lv : ℕ) (o : Option OpenLoop) (l : OpenLoop) → at_level lv o ≡ Some l → (l.level ≡ lv) × (o ≡ Some l)
+at_level_is lv None l h = cc
+at_level_is lv (Some l') l h =
+    let t = chosen (l'.level == lv) l' l h in (ap (λ x. x.level) (sym t.1) ∙ eqb-true _ _ t.0, ap Some t.1)
+
+-- ---- the loop ----
+
+-- a loop of the level that goes on by what closes it is closed
+again_closes : (lv : ℕ) (l : OpenLoop) (next : OpenLoop → Run → Out) → l.level ≡ lv → ((m : OpenLoop) (r : Run) → Keeps None (next m r)) → (x : Out) → Keeps (Some l) x → Keeps None (again lv next x)
+again_closes lv l next own h (Left a r) k =
+    open_or_not (Keeps None) (λ m. next m r) (Left a r) (at_level lv r.turning) (λ m e. h m r)
+    (λ none. elim k [ inl e ↦ let q : at_level lv r.turning ≡ Some l = rw e (at_level_own lv l own) in cc | inr e ↦ inr e ])
+again_closes lv l next own h (Waits p path r) k = tt
+again_closes lv l next own h (Redescribes r) k = tt
+again_closes lv l next own h (Restarts r) k = tt
+again_closes lv l next own h (Ends r) k = tt
+again_closes lv l next own h (IsSpent kind r) k = tt
+again_closes lv l next own h (IsDeep u r) k = tt
+
+pub turns_closes : (g : GameLists) (lv : ℕ) (l : OpenLoop) (body : Run → Out) → l.level ≡ lv → ((r : Run) → Keeps r.turning (body r)) → (n : ℕ) (r : Run) → Keeps None (turns g lv l body n r)
+unfolding turns
+turns_closes g lv l body own h zero r = inr refl
+turns_closes g lv l body own h (suc n) r =
+    let o : ℕ = length g.objects - suc n in
+    either (Keeps None) _ _ _
+    (again_closes lv (record l { last = o }) _ own (λ m s. turns_closes g lv l body own h n s) (body (taken g l o r)) (h (taken g l o r)))
+    (turns_closes g lv l body own h n r)
+
+-- ---- calls, prompts, phrases ----
+
+pub after_call_keeps : (f : Frame) (go : Bool → Run → Out) → GoesKeeping go → (o : Option OpenLoop) (x : Out) → Keeps o x → Keeps o (after_call f go x)
+after_call_keeps f go h o (Left b r) k = Keeps_from o r.turning _ k (h (f.acted || b) r)
+after_call_keeps f go h o (Waits p path r) k = tt
+after_call_keeps f go h o (Redescribes r) k = tt
+after_call_keeps f go h o (Restarts r) k = tt
+after_call_keeps f go h o (Ends r) k = tt
+after_call_keeps f go h o (IsSpent kind r) k = tt
+after_call_keeps f go h o (IsDeep u r) k = tt
+
+answered_keeps : (g : GameLists) (p : Prompt) (f : Frame) (go : Bool → Run → Out) → GoesKeeping go → (line : List ℕ) (r : Run) → Keeps r.turning (answered g p f go line r)
+answered_keeps g prompt.Main f go h line r = h f.acted r
+answered_keeps g prompt.Quit f go h line r = either (Keeps r.turning) (is_yes line) _ (Left true r) (h f.acted r) (inl refl)
+answered_keeps g prompt.Again f go h line r =
+    either (Keeps r.turning) (is_no line) (over g r) (Restarts (anew r)) (either (Keeps r.turning) (fits r (say_text g r.world 14)) (Ends (closed (without_loop (line_dropped (printed (say_text g r.world 14) r))))) (IsSpent spent.Text r) tt tt) tt
+answered_keeps g prompt.Key f go h line r = h true r
+answered_keeps g prompt.Over f go h line r = h f.acted r
+
+pub asked_keeps : (g : GameLists) (p : Prompt) (f : Frame) (go : Bool → Run → Out) → GoesKeeping go → (r : Run) (lines : List (List ℕ)) → Keeps r.turning (asked g p f go r lines)
+unfolding asked
+asked_keeps g p f go h r [] = tt
+asked_keeps g p f go h r (line ∷ lines) =
+    either (Keeps r.turning) (is_ignored r.world line) _ _ (asked_keeps g p f go h (closed (record r { events = lines })) lines)
+    (answered_keeps g p f go h (reply line) (heard line (record r { events = lines })))
+
+after_parse_keeps : (f : Frame) (next go : Bool → Run → Out) → GoesKeeping next → GoesKeeping go → (r : Run) (p : Parsed) → Keeps r.turning (after_parse f next go r p)
+after_parse_keeps f next go hn hg r (IsSentence s rest) = hn f.acted (taken_phrase s rest r)
+after_parse_keeps f next go hn hg r (IsUnknown rest) = hg f.acted (record r { pending = rest })
+after_parse_keeps f next go hn hg r IsNoPhrase = hg f.acted r
+
+-- ---- one condact ----
+
+module _ (g : GameLists) (X : List (List ℕ)) (sub : ℕ → Run → Out) (lv : ℕ) (calls : CallsKeeping sub) where
+  after_test_keeps : (f : Frame) (next go : Bool → Run → Out) → GoesKeeping next → GoesKeeping go → (c : Condact) (r : Run) (t : Truth) → Keeps r.turning (after_test g f next go c r t)
+  after_test_keeps f next go hn hg c r truth.Yes = hg f.acted (noted f c true r)
+  after_test_keeps f next go hn hg c r truth.No = hn f.acted (noted f c false r)
+  after_test_keeps f next go hn hg c r truth.Ask =
+      either (Keeps r.turning) (fits (noted f c true r) (put_text g r.world 12)) _ (IsSpent spent.Text (noted f c true r))
+      (asked_keeps g prompt.Quit f go hg (closed (printed (put_text g r.world 12) (noted f c true r))) r.events) tt
+
+  after_action_keeps : (f : Frame) (next go : Bool → Run → Out) → GoesKeeping next → GoesKeeping go → (e : Effect) (r : Run) → Keeps r.turning (after_action g sub lv f next go e r)
+  after_action_keeps f next go hn hg effect.Go r = hg true r
+  after_action_keeps f next go hn hg (effect.Exit a) r = inl refl
+  after_action_keeps f next go hn hg effect.Redescribe r = tt
+  after_action_keeps f next go hn hg (effect.Call u) r = after_call_keeps f go hg r.turning (sub u r) (calls u r)
+  after_action_keeps f next go hn hg (effect.Loop p) r =
+      Keeps_none r.turning _ (turns_closes g lv (loop_of lv f p) (go true) refl (hg true) (length g.objects) r)
+  after_action_keeps f next go hn hg (effect.Ask p) r = asked_keeps g p f go hg (closed r) r.events
+  after_action_keeps f next go hn hg effect.Parse r = after_parse_keeps f next go hn hg r _
+  after_action_keeps f next go hn hg effect.Spent r = tt
+
+  cancelled : (b : Bool) (o : Option OpenLoop) → IsOrNone o (if b then None else o)
+  cancelled true o = inr refl
+  cancelled false o = inl refl
+
+  acts_keeps : (f : Frame) (next go : Bool → Run → Out) → GoesKeeping next → GoesKeeping go → (d : Done) (r : Run) → Keeps r.turning (acts g sub lv f next go d r)
+  acts_keeps f next go hn hg d r =
+      let s : Run = carried_out d (printed d.text r) in
+      either (Keeps r.turning) (fits r d.text) _ (IsSpent spent.Text r)
+      (Keeps_from r.turning s.turning _ (cancelled d.act.cancel_loop r.turning) (after_action_keeps f next go hn hg d.act.effect s)) tt
+
+  reads_one_keeps : (f : Frame) (next go : Bool → Run → Out) → GoesKeeping next → GoesKeeping go → (c : Condact) (r : Run) → Keeps r.turning (reads_one g X sub lv f next go c r)
+  reads_one_keeps f next go hn hg c r =
+      either (Keeps r.turning) (is_condition c) _ _
+      (after_test_keeps f next go hn hg c (with_world (holds g r.world c).world r) (holds g r.world c).answer)
+      (acts_keeps f next go hn hg (effect_of g X r.world c) (noted f c true r))
+
+  -- ---- entries, tables ----
+
+  condacts_keeps : (t e : ℕ) (next : Bool → Run → Out) → GoesKeeping next → (k : ℕ) (cs : List Condact) → GoesKeeping (condacts g X sub lv t e next k cs)
+  unfolding condacts
+  condacts_keeps t e next hn k [] a r = hn a r
+  condacts_keeps t e next hn k (c ∷ cs) a r =
+      either (Keeps r.turning) (nat_lt (length r.read) 200000) _ (IsSpent spent.Condacts r)
+      (reads_one_keeps (record { table = t; entry = e; at = k; acted = a }) next _ hn (condacts_keeps t e next hn (suc k) cs) c r) tt
+
+  entries_keeps : (t e : ℕ) (es : List Entry) → GoesKeeping (entries g X sub lv t e es)
+  unfolding entries
+  entries_keeps t e [] a r = inl refl
+  entries_keeps t e (en ∷ es) a r =
+      either (Keeps r.turning) (is_for_now r en) _ _
+      (condacts_keeps t e (entries g X sub lv t (suc e) es) (entries_keeps t (suc e) es) 0 en.condacts a r)
+      (entries_keeps t (suc e) es a r)
+
+  pub plain_keeps : (t e k : ℕ) → GoesKeeping (plain g X sub lv t e k)
+  plain_keeps t e zero a r = entries_keeps t e (drop e (table_at g t)) a r
+  plain_keeps t e (suc k) a r =
+      condacts_keeps t e _ (entries_keeps t (suc e) (drop (suc e) (table_at g t))) (suc k) (drop (suc k) (condacts_of (entry_at g t e))) a r
+
+  pub looped_closes : (l : OpenLoop) (r : Run) → l.level ≡ lv → Keeps None (looped g X sub lv l r)
+  looped_closes l r own =
+      turns_closes g lv (record l { last = 0 }) _ own (plain_keeps l.table l.entry (suc l.at) true) (length g.objects - suc l.last) r
+
+  again_keeps : (o : Option OpenLoop) (x : Out) → Keeps o x → Keeps o (again lv (looped g X sub lv) x)
+  again_keeps o (Left a r) k =
+      open_or_not (Keeps o) (λ l. looped g X sub lv l r) (Left a r) (at_level lv r.turning)
+      (λ l e. Keeps_none o _ (looped_closes l r (at_level_is lv r.turning l e).0)) (λ none. k)
+  again_keeps o (Waits p path r) k = tt
+  again_keeps o (Redescribes r) k = tt
+  again_keeps o (Restarts r) k = tt
+  again_keeps o (Ends r) k = tt
+  again_keeps o (IsSpent kind r) k = tt
+  again_keeps o (IsDeep u r) k = tt
+
+  pub reads_keeps : (t e k : ℕ) → GoesKeeping (reads g X sub lv t e k)
+  reads_keeps t e k a r = again_keeps r.turning _ (plain_keeps t e k a r)
+
+-- a table that is called keeps the loop
+pub called_keeps : (g : GameLists) (X : List (List ℕ)) (n lv : ℕ) → CallsKeeping (called g X n lv)
+unfolding called
+called_keeps g X zero lv u r = tt
+called_keeps g X (suc n) lv u r = reads_keeps g X (called g X n (suc lv)) (suc lv) (called_keeps g X n (suc lv)) u 0 0 false r
+
+pub deeper_keeps : (g : GameLists) (X : List (List ℕ)) (lv : ℕ) → CallsKeeping (deeper g X lv)
+deeper_keeps g X lv = called_keeps g X (10 - lv) lv

@@ -1,0 +1,6 @@
+pub mod Lists
+pub mod Keeps
+pub mod Rules
+pub mod Along
+pub mod Spends
+pub mod Ends

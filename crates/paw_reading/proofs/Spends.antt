@@ -1,0 +1,237 @@
+-- Reading uses up what may still be read.
+use Rattle.std.proofs.Common.{◌≡◌, ℕ, zero, suc, ◌+◌, ◌-◌, ◌≤◌, ◌<◌, Bool, true, false, ◌||◌, List, [], ◌∷◌, refl, drop, length, arith, length-append}
+use Rattle.std.specs.Prelude.{if◌then◌else◌, nat_lt, sum_by}
+use Rattle.std.proofs.lemmas.Bool.Decides.{nat_tests}
+use Rattle.std.proofs.lemmas.List.Sums.{sum_by-cons}
+use Rattle.paw_base.specs.declared.parts.Condact.{Condact}
+use Rattle.paw_base.specs.declared.fault.SpentKind.TheVariants as spent
+use Rattle.paw_game.specs.declared.parts.Entry.{Entry}
+use Rattle.paw_game.specs.Game.{GameLists}
+use Rattle.paw_game.specs.Tables.{table_at, entry_at, condacts_of}
+use Rattle.paw_world.specs.World.{flag}
+use Rattle.paw_phrase.specs.Sentence.{Parsed, IsSentence, IsUnknown, IsNoPhrase, parsed}
+use Rattle.paw_phrase.proofs.Phrases.{Leaves, parsed-shorter}
+use Rattle.paw_effects.specs.declared.act.Prompt.{Prompt}
+use Rattle.paw_effects.specs.declared.act.Prompt.TheVariants as prompt
+use Rattle.paw_effects.specs.declared.act.Truth.{Truth}
+use Rattle.paw_effects.specs.declared.act.Truth.TheVariants as truth
+use Rattle.paw_effects.specs.declared.act.Effect.{Effect}
+use Rattle.paw_effects.specs.declared.act.Effect.TheVariants as effect
+use Rattle.paw_effects.specs.Texts.{put_text, say_text}
+use Rattle.paw_effects.specs.Holds.{is_condition, holds}
+use Rattle.paw_effects.specs.Effects.{Done, effect_of}
+use Rattle.paw_reading.specs.declared.places.Frame.{Frame}
+use Rattle.paw_reading.specs.declared.places.OpenLoop.{OpenLoop}
+use Rattle.paw_reading.specs.Run.{Run, closed, fits, printed, with_world, anew, is_ignored, heard, reply, is_yes, is_no, taken_phrase}
+use Rattle.paw_reading.specs.Reading.{Out, Left, Waits, Redescribes, Restarts, Ends, IsSpent, IsDeep, within, noted, after_call, at_level, again, is_taken, taken, turns, loop_of, over, answered, asked, after_test, after_parse, after_action, carried_out, acts, reads_one, condacts, is_for_now, entries, plain, looped, reads, called, deeper, rest, table_read}
+use Rattle.paw_reading.specs.GoingOn.{on_path}
+use Rattle.paw_reading.specs.Turn.{left_to_read}
+use Rattle.paw_reading.proofs.Keeps.{either, open_or_not}
+
+-- what lines bring
+abbrev pub brought : List (List ℕ) → ℕ
+brought lines = sum_by (λ line. length line + 200001) lines
+
+-- one line more brings so much more
+pub brought_more : (line : List ℕ) (lines : List (List ℕ)) → brought (line ∷ lines) ≡ length line + 200001 + brought lines
+brought_more line lines = sum_by-cons (λ l. length l + 200001) line lines
+
+-- what comes out leaves at most so much to read, and less where the turn begins anew
+abbrev pub Spends : ℕ → Out → Type 0
+Spends v (Left a r) = left_to_read r ≤ v
+Spends v (Waits p path r) = Unit {0}
+Spends v (Redescribes r) = left_to_read r < v
+Spends v (Restarts r) = left_to_read r < v
+Spends v (Ends r) = Unit {0}
+Spends v (IsSpent kind r) = Unit {0}
+Spends v (IsDeep u r) = Unit {0}
+
+pub Spends_up : (v w : ℕ) → v ≤ w → (x : Out) → Spends v x → Spends w x
+Spends_up v w h (Left a r) k = omega arith
+Spends_up v w h (Waits p path r) k = tt
+Spends_up v w h (Redescribes r) k = omega arith
+Spends_up v w h (Restarts r) k = omega arith
+Spends_up v w h (Ends r) k = tt
+Spends_up v w h (IsSpent kind r) k = tt
+Spends_up v w h (IsDeep u r) k = tt
+
+-- reading on from a run spends
+abbrev pub IsSpending : (Run → Out) → Type 0
+IsSpending f = (r : Run) → Spends (left_to_read r) (f r)
+
+abbrev pub AreSpending : (Bool → Run → Out) → Type 0
+AreSpending go = (a : Bool) → IsSpending (go a)
+
+abbrev pub CallsSpending : (ℕ → Run → Out) → Type 0
+CallsSpending sub = (u : ℕ) → IsSpending (sub u)
+
+-- ---- loops and calls ----
+
+again_spends : (lv : ℕ) (next : OpenLoop → Run → Out) → ((l : OpenLoop) → IsSpending (next l)) → (v : ℕ) (x : Out) → Spends v x → Spends v (again lv next x)
+again_spends lv next h v (Left a r) k =
+    open_or_not (Spends v) (λ l. next l r) (Left a r) (at_level lv r.turning) (λ l e. Spends_up (left_to_read r) v k (next l r) (h l r)) (λ e. k)
+again_spends lv next h v (Waits p path r) k = tt
+again_spends lv next h v (Redescribes r) k = k
+again_spends lv next h v (Restarts r) k = k
+again_spends lv next h v (Ends r) k = tt
+again_spends lv next h v (IsSpent kind r) k = tt
+again_spends lv next h v (IsDeep u r) k = tt
+
+turns_spend : (g : GameLists) (lv : ℕ) (l : OpenLoop) (body : Run → Out) → IsSpending body → (n : ℕ) → IsSpending (turns g lv l body n)
+unfolding turns
+turns_spend g lv l body h zero r = omega arith
+turns_spend g lv l body h (suc n) r =
+    let o : ℕ = length g.objects - suc n in
+    either (Spends (left_to_read r)) (is_taken g r.world l o) _ _
+    (again_spends lv (λ _. turns g lv l body n) (λ m s. turns_spend g lv l body h n s) (left_to_read r) (body (taken g l o r)) (h (taken g l o r)))
+    (turns_spend g lv l body h n r)
+
+after_call_spends : (f : Frame) (go : Bool → Run → Out) → AreSpending go → (v : ℕ) (x : Out) → Spends v x → Spends v (after_call f go x)
+after_call_spends f go h v (Left b r) k = Spends_up (left_to_read r) v k (go (f.acted || b) r) (h (f.acted || b) r)
+after_call_spends f go h v (Waits p path r) k = tt
+after_call_spends f go h v (Redescribes r) k = k
+after_call_spends f go h v (Restarts r) k = k
+after_call_spends f go h v (Ends r) k = tt
+after_call_spends f go h v (IsSpent kind r) k = tt
+after_call_spends f go h v (IsDeep u r) k = tt
+
+-- ---- prompts ----
+
+over_spends : (g : GameLists) (v : ℕ) (r : Run) → Spends v (over g r)
+over_spends g v r = either (Spends v) (fits r (say_text g r.world 14)) _ (IsSpent spent.Text r) tt tt
+
+answered_spends : (g : GameLists) (p : Prompt) (f : Frame) (go : Bool → Run → Out) → AreSpending go → (line : List ℕ) (r : Run) (v : ℕ) →
+    left_to_read r < v → brought r.events + 200000 < v → Spends v (answered g p f go line r)
+answered_spends g prompt.Main f go h line r v k n = Spends_up (left_to_read r) v (omega arith) _ (h f.acted r)
+answered_spends g prompt.Quit f go h line r v k n =
+    either (Spends v) (is_yes line) _ (Left true r) (Spends_up (left_to_read r) v (omega arith) _ (h f.acted r)) (omega arith)
+answered_spends g prompt.Again f go h line r v k n = either (Spends v) (is_no line) (over g r) (Restarts (anew r)) (over_spends g v r) (omega arith)
+answered_spends g prompt.Key f go h line r v k n = Spends_up (left_to_read r) v (omega arith) _ (h true r)
+answered_spends g prompt.Over f go h line r v k n = Spends_up (left_to_read r) v (omega arith) _ (h f.acted r)
+
+pub asked_spends : (g : GameLists) (p : Prompt) (f : Frame) (go : Bool → Run → Out) → AreSpending go → (r : Run) (lines : List (List ℕ)) →
+    Spends (length r.pending + brought lines) (asked g p f go r lines)
+unfolding asked
+asked_spends g p f go h r [] = tt
+asked_spends g p f go h r (line ∷ lines) =
+    let v : ℕ = length r.pending + brought (line ∷ lines) in
+    let m : brought (line ∷ lines) ≡ length line + 200001 + brought lines = brought_more line lines in
+    either (Spends v) (is_ignored r.world line) _ _
+    (Spends_up (length r.pending + brought lines) v (omega (arith, m)) _ (asked_spends g p f go h (closed (record r { events = lines })) lines))
+    (answered_spends g p f go h (reply line) (heard line (record r { events = lines })) v (omega (arith, m)) (omega (arith, m)))
+
+-- ---- one condact ----
+
+after_parse_spends : (f : Frame) (next go : Bool → Run → Out) → AreSpending next → AreSpending go → (r : Run) (p : Parsed) →
+    Leaves (λ rest. length rest < length r.pending) p → Spends (left_to_read r) (after_parse f next go r p)
+after_parse_spends f next go hn hg r (IsSentence s rest) k = Spends_up (left_to_read (taken_phrase s rest r)) _ (omega arith) _ (hn f.acted (taken_phrase s rest r))
+after_parse_spends f next go hn hg r (IsUnknown rest) k = Spends_up (left_to_read (record r { pending = rest })) _ (omega arith) _ (hg f.acted (record r { pending = rest }))
+after_parse_spends f next go hn hg r IsNoPhrase k = hg f.acted r
+
+module _ (g : GameLists) (X : List (List ℕ)) (sub : ℕ → Run → Out) (lv : ℕ) (calls : CallsSpending sub) where
+  after_test_spends : (f : Frame) (next go : Bool → Run → Out) → AreSpending next → AreSpending go → (c : Condact) (r : Run) (t : Truth) (v : ℕ) →
+      left_to_read (noted f c true r) ≤ v → left_to_read (noted f c false r) ≤ v → Spends v (after_test g f next go c r t)
+  after_test_spends f next go hn hg c r truth.Yes v k n = Spends_up (left_to_read (noted f c true r)) v k _ (hg f.acted (noted f c true r))
+  after_test_spends f next go hn hg c r truth.No v k n = Spends_up (left_to_read (noted f c false r)) v n _ (hn f.acted (noted f c false r))
+  after_test_spends f next go hn hg c r truth.Ask v k n =
+      either (Spends v) (fits (noted f c true r) (put_text g r.world 12)) _ (IsSpent spent.Text (noted f c true r))
+      (Spends_up (length r.pending + brought r.events) v (omega arith) _
+      (asked_spends g prompt.Quit f go hg (closed (printed (put_text g r.world 12) (noted f c true r))) r.events)) tt
+
+  -- redescribing leaves as much as there is, so it counts what was read before it
+  after_action_spends : (f : Frame) (next go : Bool → Run → Out) → AreSpending next → AreSpending go → (e : Effect) (r : Run) →
+      Spends (suc (left_to_read r)) (after_action g sub lv f next go e r)
+  after_action_spends f next go hn hg effect.Go r = Spends_up (left_to_read r) _ (omega arith) _ (hg true r)
+  after_action_spends f next go hn hg (effect.Exit a) r = omega arith
+  after_action_spends f next go hn hg effect.Redescribe r = omega arith
+  after_action_spends f next go hn hg (effect.Call u) r =
+      Spends_up (left_to_read r) _ (omega arith) _ (after_call_spends f go hg (left_to_read r) (sub u r) (calls u r))
+  after_action_spends f next go hn hg (effect.Loop p) r =
+      Spends_up (left_to_read r) _ (omega arith) _ (turns_spend g lv (loop_of lv f p) (go true) (hg true) (length g.objects) r)
+  after_action_spends f next go hn hg (effect.Ask p) r =
+      Spends_up (length r.pending + brought r.events) _ (omega arith) _ (asked_spends g p f go hg (closed r) r.events)
+  after_action_spends f next go hn hg effect.Parse r =
+      Spends_up (left_to_read r) _ (omega arith) _
+      (after_parse_spends f next go hn hg r (parsed g r.pending r.earlier (flag r.world 46) (flag r.world 47))
+      (parsed-shorter g r.pending r.earlier (flag r.world 46) (flag r.world 47)))
+  after_action_spends f next go hn hg effect.Spent r = tt
+
+  dropped_less : (b : Bool) (bytes : List ℕ) → length (if b then [] else bytes) ≤ length bytes
+  dropped_less true bytes = omega arith
+  dropped_less false bytes = omega arith
+
+  acts_spend : (f : Frame) (next go : Bool → Run → Out) → AreSpending next → AreSpending go → (d : Done) (r : Run) →
+      Spends (suc (left_to_read r)) (acts g sub lv f next go d r)
+  acts_spend f next go hn hg d r =
+      let s : Run = carried_out d (printed d.text r) in
+      let less : length s.pending ≤ length r.pending = dropped_less d.act.drop_line r.pending in
+      either (Spends (suc (left_to_read r))) (fits r d.text) _ (IsSpent spent.Text r)
+      (Spends_up (suc (left_to_read s)) _ (omega (arith, less)) _ (after_action_spends f next go hn hg d.act.effect s)) tt
+
+  reads_one_spends : (f : Frame) (next go : Bool → Run → Out) → AreSpending next → AreSpending go → (c : Condact) (r : Run) → length r.read < 200000 →
+      Spends (left_to_read r) (reads_one g X sub lv f next go c r)
+  reads_one_spends f next go hn hg c r low =
+      let more : (b : Bool) → length (noted f c b r).read ≡ length r.read + 1 = λ b. length-append r.read _ in
+      either (Spends (left_to_read r)) (is_condition c) _ _
+      (after_test_spends f next go hn hg c (with_world (holds g r.world c).world r) (holds g r.world c).answer (left_to_read r)
+      (omega (arith, more true)) (omega (arith, more false)))
+      (Spends_up (suc (left_to_read (noted f c true r))) _ (omega (arith, more true)) _ (acts_spend f next go hn hg (effect_of g X r.world c) (noted f c true r)))
+
+  -- ---- entries, tables ----
+
+  within_spends : (r : Run) (x : Out) → (length r.read < 200000 → Spends (left_to_read r) x) → Spends (left_to_read r) (within r x)
+  within_spends r x h = by_test (nat_lt (length r.read) 200000) refl
+    where
+      by_test : (b : Bool) → nat_lt (length r.read) 200000 ≡ b → Spends (left_to_read r) (if b then x else IsSpent spent.Condacts r)
+      by_test false q = tt
+      by_test true q = h (grind (arith, nat_tests))
+
+  condacts_spend : (t e : ℕ) (next : Bool → Run → Out) → AreSpending next → (k : ℕ) (cs : List Condact) → AreSpending (condacts g X sub lv t e next k cs)
+  unfolding condacts
+  condacts_spend t e next hn k [] a r = hn a r
+  condacts_spend t e next hn k (c ∷ cs) a r =
+      within_spends r _ (reads_one_spends (record { table = t; entry = e; at = k; acted = a }) next _ hn (condacts_spend t e next hn (suc k) cs) c r)
+
+  entries_spend : (t e : ℕ) (es : List Entry) → AreSpending (entries g X sub lv t e es)
+  unfolding entries
+  entries_spend t e [] a r = omega arith
+  entries_spend t e (en ∷ es) a r =
+      either (Spends (left_to_read r)) (is_for_now r en) _ _
+      (condacts_spend t e (entries g X sub lv t (suc e) es) (entries_spend t (suc e) es) 0 en.condacts a r)
+      (entries_spend t (suc e) es a r)
+
+  plain_spends : (t e k : ℕ) → AreSpending (plain g X sub lv t e k)
+  plain_spends t e zero a r = entries_spend t e (drop e (table_at g t)) a r
+  plain_spends t e (suc k) a r =
+      condacts_spend t e _ (entries_spend t (suc e) (drop (suc e) (table_at g t))) (suc k) (drop (suc k) (condacts_of (entry_at g t e))) a r
+
+  looped_spends : (l : OpenLoop) → IsSpending (looped g X sub lv l)
+  looped_spends l r = turns_spend g lv (record l { last = 0 }) _ (plain_spends l.table l.entry (suc l.at) true) (length g.objects - suc l.last) r
+
+  pub again_looped_spends : (v : ℕ) (x : Out) → Spends v x → Spends v (again lv (looped g X sub lv) x)
+  again_looped_spends v x k = again_spends lv (looped g X sub lv) looped_spends v x k
+
+  reads_spend : (t e k : ℕ) → AreSpending (reads g X sub lv t e k)
+  reads_spend t e k a r = again_looped_spends (left_to_read r) _ (plain_spends t e k a r)
+
+called_spend : (g : GameLists) (X : List (List ℕ)) (n lv : ℕ) → CallsSpending (called g X n lv)
+unfolding called
+called_spend g X zero lv u r = tt
+called_spend g X (suc n) lv u r = reads_spend g X (called g X n (suc lv)) (suc lv) (called_spend g X n (suc lv)) u 0 0 false r
+
+-- reading on at a level spends
+pub rest_spends : (g : GameLists) (X : List (List ℕ)) (lv t e k : ℕ) → AreSpending (rest g X lv t e k)
+rest_spends g X lv t e k a r = reads_spend g X (deeper g X lv) lv (called_spend g X (10 - lv) lv) t e k a r
+
+pub table_spends : (g : GameLists) (X : List (List ℕ)) (t : ℕ) → IsSpending (table_read g X t)
+table_spends g X t r = rest_spends g X 0 t 0 0 false r
+
+-- going on along a path spends
+pub path_spends : (g : GameLists) (X : List (List ℕ)) (p : Prompt) (lv : ℕ) (path : List Frame) → IsSpending (on_path g X p lv path)
+path_spends g X p lv [] r = omega arith
+path_spends g X p lv (f ∷ []) r =
+    Spends_up (length r.pending + brought r.events) _ (omega arith) _
+    (again_looped_spends g X (deeper g X lv) lv (called_spend g X (10 - lv) lv) (length r.pending + brought r.events) _
+    (asked_spends g p f _ (plain_spends g X (deeper g X lv) lv (called_spend g X (10 - lv) lv) f.table f.entry (suc f.at)) r r.events))
+path_spends g X p lv (f ∷ h ∷ path) r =
+    after_call_spends f _ (rest_spends g X lv f.table f.entry (suc f.at)) (left_to_read r) _ (path_spends g X p (suc lv) (h ∷ path) r)

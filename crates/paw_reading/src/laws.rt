@@ -1,0 +1,23 @@
+// The laws of reading.
+
+ghost use Rattle.paw_reading.specs.Turn.{TurnsEnd, EndsOnce, GoingOnEnds, GoesOnOnce};
+
+/// Every reading ends: the stages that a turn is granted are enough.
+pub fn turns_end()
+    ensures ends { TurnsEnd }
+{}
+
+/// Every reading has one ending, however many stages more are granted.
+pub fn ends_once()
+    ensures once { EndsOnce }
+{}
+
+/// Going on from a prompt ends.
+pub fn going_on_ends()
+    ensures ends { GoingOnEnds }
+{}
+
+/// Going on from a prompt has one ending, however many stages more are granted.
+pub fn goes_on_once()
+    ensures once { GoesOnOnce }
+{}
