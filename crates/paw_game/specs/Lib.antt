@@ -1,4 +1,6 @@
 pub mod Game
 pub mod Valid
+pub mod Fault
 pub mod Image
 pub mod Tables
+pub mod Values

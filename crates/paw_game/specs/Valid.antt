@@ -1,11 +1,10 @@
 -- The rules that a game's lists keep.
-use Rattle.std.specs.Prelude.{ℕ, suc, ◌+◌, ◌==◌, ◌&&◌, ◌||◌, Bool, true, false, not, List, [], ◌∷◌, length, nat_lt, nat_le, IsTrue, if◌then◌else◌}
+use Rattle.std.specs.Prelude.{ℕ, ◌==◌, ◌&&◌, ◌||◌, Bool, true, false, not, List, [], ◌∷◌, length, nat_lt, nat_le, IsTrue, if◌then◌else◌}
 use Rattle.std.specs.List.{list_all, list_any}
-use Rattle.std.specs.Ordering.{nat_cmp}
+use Rattle.std.specs.Ordering.{is_lt, nat_cmp}
 use Rattle.std.specs.Cmp.Lexicographic.{slice_cmp}
-use Rattle.std.specs.declared.cmp.Ordering.{Ordering}
-use Rattle.std.specs.declared.cmp.Ordering.TheVariants.{Less, Equal, Greater}
 use Rattle.paw_base.specs.declared.parts.Condact.{Condact}
+use Rattle.paw_base.specs.declared.parts.ObjectFacts.{ObjectFacts}
 use Rattle.paw_base.specs.declared.rows.ParamKind.{ParamKind}
 use Rattle.paw_base.specs.declared.rows.ParamKind.TheVariants as kind
 use Rattle.paw_base.specs.Condacts.{first_kind, second_kind}
@@ -39,16 +38,11 @@ are_letters (c ∷ cs) = (length (c ∷ cs) == 5) && (is_letter c && is_filled c
 abbrev pub is_word : Word → Bool
 is_word w = are_letters w.letters && (is_within 2 254 w.value && nat_le w.class 6)
 
-abbrev pub is_less : Ordering → Bool
-is_less Less = true
-is_less Equal = false
-is_less Greater = false
-
 -- the words rise by their letters, byte by byte; so no two have the same letters
 abbrev pub words_rise : List Word → Bool
 words_rise [] = true
 words_rise (w ∷ []) = true
-words_rise (w ∷ v ∷ ws) = is_less (slice_cmp nat_cmp w.letters v.letters) && words_rise (v ∷ ws)
+words_rise (w ∷ v ∷ ws) = is_lt (slice_cmp nat_cmp w.letters v.letters) && words_rise (v ∷ ws)
 
 abbrev pub words_kept : List Word → Bool
 words_kept ws = nat_le (length ws) 2000 && (list_all is_word ws && words_rise ws)
@@ -63,11 +57,18 @@ is_verb_value ws value = has_word ws 0 value || (nat_lt value 20 && has_word ws 
 
 -- ---- texts ----
 
--- bytes that print and line ends, where no line begins with '/' or ';'; first tells that a line begins here
+-- a byte that prints, or a line end
+abbrev pub is_text_byte : ℕ → Bool
+is_text_byte b = is_within 32 126 b || (b == 10)
+
+-- '/' and ';' begin no line of a text
+abbrev pub begins_no_line : ℕ → Bool
+begins_no_line b = (b == 47) || (b == 59)
+
+-- bytes that may stand in a text; first tells that a line begins here
 abbrev pub is_printed : Bool → List ℕ → Bool
 is_printed first [] = true
-is_printed first (b ∷ bs) =
-    ((is_within 32 126 b || (b == 10)) && not (first && ((b == 47) || (b == 59)))) && is_printed (b == 10) bs
+is_printed first (b ∷ bs) = (is_text_byte b && not (first && begins_no_line b)) && is_printed (b == 10) bs
 
 -- a text has at most 4,095 bytes
 abbrev pub is_text : List ℕ → Bool
@@ -86,10 +87,13 @@ is_place locations p = nat_lt p locations || is_within 252 254 p
 abbrev pub is_word_or_none : List Word → ℕ → ℕ → Bool
 is_word_or_none ws class value = (value == 255) || has_word ws class value
 
+-- what a game says of an object beside its text
+abbrev pub are_facts : List Word → ℕ → ObjectFacts → Bool
+are_facts ws locations f =
+    is_word_or_none ws 2 f.noun && (is_word_or_none ws 3 f.adjective && (is_place locations f.start && nat_le f.weight 63))
+
 abbrev pub is_object : List Word → ℕ → ObjectRow → Bool
-is_object ws locations o =
-    is_text o.text && (is_word_or_none ws 2 o.facts.noun && (is_word_or_none ws 3 o.facts.adjective
-    && (is_place locations o.facts.start && nat_le o.facts.weight 63)))
+is_object ws locations o = is_text o.text && are_facts ws locations o.facts
 
 abbrev pub objects_kept : List Word → ℕ → List ObjectRow → Bool
 objects_kept ws locations os = nat_le (length os) 255 && list_all (is_object ws locations) os

@@ -1,5 +1,11 @@
 //! Games: seven lists that keep the rules, the calls that tell them by number, and the image of a game.
 #![tactic(auto)]
 
+mod check;
+pub mod game;
+mod inspector;
 pub mod parts;
+mod rows;
 pub mod tables;
+mod texts;
+mod words;

@@ -1,0 +1,13 @@
+use Rattle.std.proofs.Common.{◌≤◌, ◌∙◌, List, ℕ, length, arith, sym, ap}
+use Rattle.paw_game.specs.Game.{GameLists}
+use Rattle.paw_game.specs.declared.parts.GamePart.TheVariants as part
+use Rattle.paw_game.specs.Fault.{fault_in}
+use Rattle.paw_game.proofs.Faults.{few_locations}
+use Rattle.paw_game.proofs.check.check.Goals as goal
+
+pub exits_fault-requires : goal.exits_fault-requires
+exits_fault-requires c =
+    let few : length c.as_slice-4.result.now ≤ 252 =
+    few_locations _ (ap (fault_in part.Locations) (sym c.texts_fault-3.ensures.value) ∙ sym c.in_ok-within-5.ensures.value) in
+    let locations = λ (g : GameLists). length g.locations in
+    omega (arith, few, ap (λ (ts : List (List ℕ)). length ts) c.as_slice-4.ensures.value, ap locations c.parts.view_is, ap locations c.new-inspector.ensures.value)

@@ -1,0 +1,60 @@
+-- The first rule that a game's lists break.
+use Rattle.std.specs.Prelude.{ℕ, suc, ◌&&◌, Bool, not, List, [], ◌∷◌, length, Option, Some, None, nat_lt, if◌then◌else◌}
+use Rattle.std.specs.List.{position}
+use Rattle.std.specs.Option.{option_or}
+use Rattle.std.specs.Ordering.{is_lt, nat_cmp}
+use Rattle.std.specs.Cmp.Lexicographic.{slice_cmp}
+use Rattle.paw_game.specs.declared.parts.Word.{Word}
+use Rattle.paw_game.specs.declared.parts.ObjectRow.{ObjectRow}
+use Rattle.paw_game.specs.declared.parts.Exit.{Exit}
+use Rattle.paw_game.specs.declared.parts.GamePart.{GamePart}
+use Rattle.paw_game.specs.declared.parts.GamePart.TheVariants as part
+use Rattle.paw_game.specs.declared.parts.GameFault.{GameFault}
+use Rattle.paw_game.specs.Game.{GameLists}
+use Rattle.paw_game.specs.Valid.{is_word, is_text, is_object, is_exits, is_table}
+
+-- of a part with this many rows: the most that it may have where it has more, their number where it has fewer than the
+-- least, and else the first bad row
+abbrev pub row_fault : ℕ → ℕ → ℕ → Option ℕ → Option ℕ
+row_fault least most count bad = if nat_lt most count then Some most else (if nat_lt count least then Some count else bad)
+
+-- the first row that breaks the rule
+abbrev pub first_bad : {X : Type 0} → (X → Bool) → List X → Option ℕ
+first_bad rule rows = position (λ row. not (rule row)) rows
+
+-- the first of these words, numbered from n on, that breaks a rule or doesn't stand above the letters before it
+abbrev pub bad_word : ℕ → List ℕ → List Word → Option ℕ
+bad_word n before [] = None
+bad_word n before (w ∷ ws) =
+    if is_word w && is_lt (slice_cmp nat_cmp before w.letters) then bad_word (suc n) w.letters ws else Some n
+
+-- no letters at all stand below all words, so the first word has only its own rule to keep
+unfoldable pub words_fault : List Word → Option ℕ
+words_fault ws = row_fault 0 2000 (length ws) (bad_word 0 [] ws)
+
+unfoldable pub texts_fault : ℕ → ℕ → List (List ℕ) → Option ℕ
+texts_fault least most texts = row_fault least most (length texts) (first_bad is_text texts)
+
+unfoldable pub objects_fault : List Word → ℕ → List ObjectRow → Option ℕ
+objects_fault ws locations os = row_fault 0 255 (length os) (first_bad (is_object ws locations) os)
+
+unfoldable pub exits_fault : List Word → ℕ → List (List Exit) → Option ℕ
+exits_fault ws locations es = row_fault locations locations (length es) (first_bad (is_exits ws locations) es)
+
+unfoldable pub tables_fault : GameLists → Option ℕ
+tables_fault g = row_fault 3 256 (length g.tables) (first_bad (is_table g) g.tables)
+
+abbrev pub fault_in : GamePart → Option ℕ → Option GameFault
+fault_in p None = None
+fault_in p (Some row) = Some (record { part = p; row = row })
+
+-- the first part that breaks a rule, and its row
+unfoldable pub game_fault : GameLists → Option GameFault
+game_fault g =
+    option_or (fault_in part.Words (words_fault g.words))
+    (option_or (fault_in part.System (texts_fault 0 256 g.system))
+    (option_or (fault_in part.Messages (texts_fault 0 256 g.messages))
+    (option_or (fault_in part.Objects (objects_fault g.words (length g.locations) g.objects))
+    (option_or (fault_in part.Locations (texts_fault 1 252 g.locations))
+    (option_or (fault_in part.Exits (exits_fault g.words (length g.locations) g.exits))
+    (fault_in part.Tables (tables_fault g)))))))

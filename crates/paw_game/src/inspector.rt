@@ -1,0 +1,279 @@
+// The rules that name words, locations or other rows of the game.
+
+ghost use Rattle.std.specs.Prelude.{◌≡◌, ◌&&◌, ◌||◌, ◌==◌, ◌<◌, ◌^◌, IfSome, false, length, nat_lt};
+ghost use Rattle.std.specs.List.{list_all, list_any, slice_index_or};
+ghost use Rattle.paw_game.specs.Fault.{exits_fault, first_bad, objects_fault, tables_fault};
+ghost use Rattle.paw_game.specs.Valid.{are_exits, are_facts, is_any, is_condact, is_entry, is_exits, is_object, is_parameter, is_place, is_table, is_verb_value};
+ghost use Rattle.paw_game.specs.Values.{Tells};
+
+use crate::parts::{Entry, Exit, Exits, GameParts, ObjectRow, Table, Word};
+use crate::rows::row_fault;
+use crate::texts::is_text;
+use paw_base::parts::{Condact, ObjectFacts};
+use paw_base::rows::{ParamKind, condact_row};
+use std::marker::Model;
+
+/// The most objects, the least and the most tables of a game.
+const OBJECT_LIMIT: usize = 255;
+
+const TABLE_LEAST: usize = 3;
+
+const TABLE_LIMIT: usize = 256;
+
+/// The most exits of a location, entries of a table, and condacts of an entry.
+const EXIT_LIMIT: usize = 255;
+
+const ENTRY_LIMIT: usize = 4000;
+
+const CONDACT_LIMIT: usize = 255;
+
+/// A game's lists, and which values its words have, by class. Contracts see the lists.
+#[derive(Drop)]
+pub(crate) struct Inspector<'a> {
+    parts: &'a GameParts,
+    verbs: [bool; 256],
+    adverbs: [bool; 256],
+    nouns: [bool; 256],
+    adjectives: [bool; 256],
+    prepositions: [bool; 256],
+}
+
+impl<'a> Model for Inspector<'a> {
+    ghost use Rattle.paw_game.specs.Game.{GameLists};
+    ghost use Rattle.paw_game.specs.Values.{Tells};
+
+    ghost Value = { GameLists };
+
+    ghost view = { λ i. i.parts.now };
+
+    ghost invariant = { λ i. Tells i.verbs i.parts.now.words 0 × Tells i.adverbs i.parts.now.words 1 × Tells i.nouns i.parts.now.words 2 × Tells i.adjectives i.parts.now.words 3 × Tells i.prepositions i.parts.now.words 4 };
+}
+
+impl<'a> Inspector<'a> {
+    pub(crate) fn new(parts: &'a GameParts) -> Inspector<'a>
+        ensures value { result ≡ parts.now }
+    {
+        let words = parts.words.as_slice();
+        Inspector {
+            parts,
+            verbs: values_of(words, 0),
+            adverbs: values_of(words, 1),
+            nouns: values_of(words, 2),
+            adjectives: values_of(words, 3),
+            prepositions: values_of(words, 4),
+        }
+    }
+
+    fn is_verb_value(&self, value: u8) -> bool
+        ensures value { result ≡ is_verb_value self.now.words value }
+    {
+        self.verbs[value as usize] || value < 20 && self.nouns[value as usize]
+    }
+
+    fn are_facts(&self, facts: &ObjectFacts) -> bool
+        ensures value { result ≡ are_facts self.now.words (length self.now.locations) facts.now }
+    {
+        is_in_or_none(&self.nouns, facts.noun)
+            && is_in_or_none(&self.adjectives, facts.adjective)
+            && self.is_place(facts.start)
+            && facts.weight <= 63
+    }
+
+    fn is_place(&self, place: u8) -> bool
+        ensures value { result ≡ is_place (length self.now.locations) place }
+    {
+        self.is_location(place) || matches!(place, 252..=254)
+    }
+
+    fn is_location(&self, place: u8) -> bool
+        ensures value { result ≡ nat_lt place (length self.now.locations) }
+    {
+        let parts = self.parts;
+        (place as usize) < parts.locations.len()
+    }
+
+    /// The row to name of the objects, where one breaks a rule or there are too many.
+    #[tactic(auto, unfolding(crate::specs::Fault::objects_fault))]
+    pub(crate) fn objects_fault(&self) -> Option<u32>
+        ensures value { result ≡ objects_fault self.now.words (length self.now.locations) self.now.objects }
+    {
+        let parts = self.parts;
+        row_fault(0, OBJECT_LIMIT, parts.objects.len(), self.bad_object())
+    }
+
+    /// The first object that breaks a rule.
+    fn bad_object(&self) -> Option<usize>
+        ensures value { result ≡ first_bad (is_object self.now.words (length self.now.locations)) self.now.objects }
+        ensures within { IfSome result (λ row. row < length self.now.objects) }
+    {
+        let parts = self.parts;
+        parts
+            .objects
+            .iter()
+            .position(|object| !self.is_object(object))
+    }
+
+    fn is_object(&self, object: &ObjectRow) -> bool
+        ensures value { result ≡ is_object self.now.words (length self.now.locations) object.now }
+    {
+        is_text(&object.text) && self.are_facts(&object.facts)
+    }
+
+    /// The row to name of the exits, where one breaks a rule or there are too many or too few.
+    #[tactic(auto, unfolding(crate::specs::Fault::exits_fault))]
+    pub(crate) fn exits_fault(&self) -> Option<u32>
+        requires { length self.now.locations < 2 ^ 32 }
+        ensures value { result ≡ exits_fault self.now.words (length self.now.locations) self.now.exits }
+    {
+        let parts = self.parts;
+        let locations = parts.locations.len();
+        row_fault(locations, locations, parts.exits.len(), self.bad_exits())
+    }
+
+    /// The first location whose exits break a rule.
+    fn bad_exits(&self) -> Option<usize>
+        ensures value { result ≡ first_bad (is_exits self.now.words (length self.now.locations)) self.now.exits }
+        ensures within { IfSome result (λ row. row < length self.now.exits) }
+    {
+        let parts = self.parts;
+        parts.exits.iter().position(|exits| !self.is_exits(exits))
+    }
+
+    fn is_exits(&self, exits: &Exits) -> bool
+        ensures value { result ≡ is_exits self.now.words (length self.now.locations) exits.now }
+    {
+        exits.rows.len() <= EXIT_LIMIT && self.are_exits(exits.rows.as_slice())
+    }
+
+    fn are_exits(&self, exits: &[Exit]) -> bool
+        ensures value { result ≡ are_exits self.now.words (length self.now.locations) exits.now }
+    {
+        for (row, exit) in exits.iter().enumerate() {
+            let later = &exits[row + 1..];
+            if !self.is_exit(exit) || has_verb(later, exit.verb) {
+                return false;
+            }
+        }
+        true
+    }
+
+    fn is_exit(&self, exit: &Exit) -> bool
+        ensures value { result ≡ (is_verb_value self.now.words exit.now.verb && nat_lt exit.now.to (length self.now.locations)) }
+    {
+        self.is_verb_value(exit.verb) && self.is_location(exit.to)
+    }
+
+    /// The row to name of the tables, where one breaks a rule or there are too many or too few.
+    #[tactic(auto, unfolding(crate::specs::Fault::tables_fault))]
+    pub(crate) fn tables_fault(&self) -> Option<u32>
+        ensures value { result ≡ tables_fault self.now }
+    {
+        let parts = self.parts;
+        row_fault(
+            TABLE_LEAST,
+            TABLE_LIMIT,
+            parts.tables.len(),
+            self.bad_table(),
+        )
+    }
+
+    /// The first table that breaks a rule.
+    fn bad_table(&self) -> Option<usize>
+        ensures value { result ≡ first_bad (is_table self.now) self.now.tables }
+        ensures within { IfSome result (λ row. row < length self.now.tables) }
+    {
+        let parts = self.parts;
+        parts.tables.iter().position(|table| !self.is_table(table))
+    }
+
+    fn is_table(&self, table: &Table) -> bool
+        ensures value { result ≡ is_table self.now table.now }
+    {
+        table.entries.len() <= ENTRY_LIMIT && self.are_entries(table.entries.as_slice())
+    }
+
+    fn are_entries(&self, entries: &[Entry]) -> bool
+        ensures value { result ≡ list_all (is_entry self.now) entries.now }
+    {
+        entries.iter().all(|entry| self.is_entry(entry))
+    }
+
+    fn is_entry(&self, entry: &Entry) -> bool
+        ensures value { result ≡ is_entry self.now entry.now }
+    {
+        let condacts = &entry.condacts;
+        (is_any(entry.verb) || self.is_verb_value(entry.verb))
+            && (is_any(entry.noun) || self.nouns[entry.noun as usize])
+            && condacts.rows.len() <= CONDACT_LIMIT
+            && self.are_condacts(condacts.rows.as_slice())
+    }
+
+    fn are_condacts(&self, condacts: &[Condact]) -> bool
+        ensures value { result ≡ list_all (is_condact self.now) condacts.now }
+    {
+        condacts.iter().all(|condact| self.is_condact(*condact))
+    }
+
+    fn is_condact(&self, condact: Condact) -> bool
+        ensures value { result ≡ is_condact self.now condact }
+    {
+        match condact_row(condact.code) {
+            Some(row) => self.is_parameter(row.first, condact.a)
+                && self.is_parameter(row.second, condact.b),
+            None => false,
+        }
+    }
+
+    fn is_parameter(&self, kind: ParamKind, value: u8) -> bool
+        ensures value { result ≡ is_parameter self.now kind value }
+    {
+        let parts = self.parts;
+        match kind {
+            ParamKind::Absent => value == 0,
+            ParamKind::Location => self.is_location(value),
+            ParamKind::Place => self.is_location(value) || value >= 252,
+            ParamKind::Object => (value as usize) < parts.objects.len(),
+            ParamKind::Flag | ParamKind::Number => true,
+            ParamKind::Message => (value as usize) < parts.messages.len(),
+            ParamKind::System => (value as usize) < parts.system.len(),
+            ParamKind::Table => (value as usize) < parts.tables.len(),
+            ParamKind::Adverb => is_in_or_none(&self.adverbs, value),
+            ParamKind::Noun => is_in_or_none(&self.nouns, value),
+            ParamKind::Adjective => is_in_or_none(&self.adjectives, value),
+            ParamKind::Preposition => is_in_or_none(&self.prepositions, value),
+        }
+    }
+}
+
+/// The words that match any word of a sentence.
+fn is_any(value: u8) -> bool
+    ensures value { result ≡ is_any value }
+{
+    value == 1 || value == 255
+}
+
+fn has_verb(exits: &[Exit], verb: u8) -> bool
+    ensures value { result ≡ list_any (λ x. x.verb == verb) exits.now }
+{
+    exits.iter().any(|exit| exit.verb == verb)
+}
+
+/// Whether a table of values has this one, or it is 255, which stands for no word.
+fn is_in_or_none(values: &[bool; 256], value: u8) -> bool
+    ensures value { result ≡ ((value == 255) || slice_index_or values.now value false) }
+{
+    value == 255 || values[value as usize]
+}
+
+/// Which values the words of a class have.
+fn values_of(words: &[Word], class: u8) -> [bool; 256]
+    ensures value { Tells result words.now class }
+{
+    let mut values = [false; 256];
+    for word in words {
+        if word.class == class {
+            values[word.value as usize] = true;
+        }
+    }
+    values
+}

@@ -1,0 +1,61 @@
+// The rules of texts.
+
+ghost use Rattle.std.specs.Prelude.{◌≡◌, ◌<◌, ◌^◌, IfSome, length, true};
+ghost use Rattle.paw_game.specs.Fault.{first_bad, texts_fault};
+ghost use Rattle.paw_game.specs.Valid.{begins_no_line, is_printed, is_text, is_text_byte};
+
+use crate::parts::Text;
+use crate::rows::row_fault;
+
+/// The most bytes of a text.
+const TEXT_LIMIT: usize = 4095;
+
+/// The row to name of these texts, where one breaks a rule or there are too few or too many.
+#[tactic(auto, unfolding(crate::specs::Fault::texts_fault))]
+pub(crate) fn texts_fault(least: usize, most: usize, texts: &[Text]) -> Option<u32>
+    requires { most < 2 ^ 32 }
+    ensures value { result ≡ texts_fault least most texts.now }
+{
+    row_fault(least, most, texts.len(), bad_text(texts))
+}
+
+/// The first of these texts that breaks the rules.
+fn bad_text(texts: &[Text]) -> Option<usize>
+    ensures value { result ≡ first_bad is_text texts.now }
+    ensures within { IfSome result (λ row. row < length texts.now) }
+{
+    texts.iter().position(|text| !is_text(text))
+}
+
+/// Whether a text keeps the rules of its length and its bytes.
+pub(crate) fn is_text(text: &Text) -> bool
+    ensures value { result ≡ is_text text.now }
+{
+    text.bytes.len() <= TEXT_LIMIT && is_printed(text.bytes.as_slice())
+}
+
+/// Bytes that print and line ends, where no line begins with '/' or ';'.
+fn is_printed(bytes: &[u8]) -> bool
+    ensures value { result ≡ is_printed true bytes.now }
+{
+    let mut line_begins = true;
+    for byte in bytes {
+        if !is_text_byte(*byte) || line_begins && begins_no_line(*byte) {
+            return false;
+        }
+        line_begins = *byte == b'\n';
+    }
+    true
+}
+
+fn is_text_byte(byte: u8) -> bool
+    ensures value { result ≡ is_text_byte byte }
+{
+    matches!(byte, b' '..=b'~' | b'\n')
+}
+
+fn begins_no_line(byte: u8) -> bool
+    ensures value { result ≡ begins_no_line byte }
+{
+    matches!(byte, b'/' | b';')
+}
