@@ -1,5 +1,6 @@
 -- What a game's lists hold at a number.
-use Rattle.std.specs.Prelude.{ℕ, suc, ◌==◌, ◌&&◌, ◌||◌, Bool, List, [], ◌∷◌, length, Option, Some, None, slice_get, drop, if◌then◌else◌}
+use Rattle.std.specs.Prelude.{ℕ, suc, ◌==◌, ◌&&◌, ◌||◌, Bool, false, List, [], ◌∷◌, length, Option, Some, None, slice_get, drop, if◌then◌else◌}
+use Rattle.std.specs.Option.{option_map_or}
 use Rattle.std.specs.Str.{bytes_eq}
 use Rattle.paw_base.specs.declared.parts.Condact.{Condact}
 use Rattle.paw_base.specs.declared.parts.ObjectFacts.{ObjectFacts}
@@ -86,6 +87,10 @@ is_for word flag = (word == 1) || ((word == 255) || (word == flag))
 -- an entry matches these values of the verb and the noun
 abbrev pub matches : ℕ → ℕ → Entry → Bool
 matches verb noun e = is_for e.verb verb && is_for e.noun noun
+
+-- the table has this entry, and it matches
+abbrev pub matches_at : GameLists → ℕ → ℕ → ℕ → ℕ → Bool
+matches_at g t e verb noun = option_map_or (matches verb noun) (entry_at g t e) false
 
 -- of these entries, numbered from e on, the first that matches
 abbrev pub first_match : ℕ → ℕ → ℕ → List Entry → Option ℕ

@@ -5,7 +5,10 @@ ghost use Rattle.paw_game.specs.Valid.{Valid};
 ghost use Rattle.paw_game.specs.Fault.{game_fault};
 
 use crate::check::check;
-use crate::parts::{GameFault, GameParts};
+use crate::lookup;
+use crate::parts::{GameFault, GamePart, GameParts};
+use crate::tables::Tables;
+use paw_base::parts::{Condact, Counts, ObjectFacts};
 use std::marker::Model;
 
 /// A valid game: seven lists that keep the rules. Contracts see them as `GameLists`.
@@ -49,5 +52,50 @@ impl Game {
         ensures valid { Valid self.now }
     {
         &self.parts
+    }
+}
+
+impl Tables for Game {
+    ghost game = { λ g. g };
+
+    fn counts(&self) -> Counts {
+        let parts = &self.parts;
+        Counts {
+            words: parts.words.len() as u16,
+            system: parts.system.len() as u16,
+            messages: parts.messages.len() as u16,
+            objects: parts.objects.len() as u16,
+            locations: parts.locations.len() as u16,
+            tables: parts.tables.len() as u16,
+        }
+    }
+
+    fn facts(&self, object: u8) -> Option<ObjectFacts> {
+        lookup::facts_at(&self.parts, object)
+    }
+
+    fn text(&self, part: GamePart, number: u8) -> Option<&[u8]> {
+        lookup::text_at(&self.parts, part, number)
+    }
+
+    fn exit(&self, location: u8, verb: u8) -> Option<u8> {
+        lookup::exit_at(&self.parts, location, verb)
+    }
+
+    fn head(&self, table: u8, entry: u16) -> Option<(u8, u8)> {
+        lookup::head_at(&self.parts, table, entry)
+    }
+
+    fn condact(&self, table: u8, entry: u16, at: u8) -> Option<Condact> {
+        lookup::condact_at(&self.parts, table, entry, at)
+    }
+
+    fn next_match(&self, table: u8, from: u16, verb: u8, noun: u8) -> Option<u16> {
+        let entry = lookup::match_at(&self.parts, table, from, verb, noun)?;
+        Some(entry as u16)
+    }
+
+    fn word(&self, letters: &[u8; 5]) -> Option<(u8, u8)> {
+        lookup::word_at(&self.parts, letters)
     }
 }

@@ -4,6 +4,7 @@
 mod check;
 pub mod game;
 mod inspector;
+mod lookup;
 pub mod parts;
 mod rows;
 pub mod tables;
