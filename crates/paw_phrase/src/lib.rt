@@ -6,6 +6,8 @@ ghost use Rattle.paw_phrase.specs.Sentence.{or_value, blank, with_noun, with_adj
 
 mod line;
 mod next;
+#[cfg(test)]
+mod tests;
 mod tokens;
 pub mod words;
 

@@ -1,0 +1,264 @@
+use crate::{Found, LINE_LIMIT, Pending, Sentence, next_phrase};
+use paw_game::game::Game;
+use paw_game::parts::{Exits, GameParts, Table, Text, Word};
+use std::alloc::{AllocError, Global};
+use std::process::Abort;
+use std::test::Fail;
+
+/// The words of a small game, by their letters.
+const WORDS: [([u8; 5], u8, u8); 38] = [
+    (*b"ALL  ", 20, 2),
+    (*b"AND  ", 2, 5),
+    (*b"BACK ", 41, 0),
+    (*b"BAG  ", 52, 2),
+    (*b"BRICK", 55, 2),
+    (*b"COAT ", 54, 2),
+    (*b"DEEP ", 45, 0),
+    (*b"DROP ", 31, 0),
+    (*b"EXCEP", 2, 4),
+    (*b"GET  ", 30, 0),
+    (*b"HALVE", 48, 0),
+    (*b"I    ", 36, 0),
+    (*b"IN   ", 3, 4),
+    (*b"IT   ", 2, 6),
+    (*b"LAMP ", 50, 2),
+    (*b"LOOK ", 35, 0),
+    (*b"N    ", 2, 2),
+    (*b"NEST ", 44, 0),
+    (*b"NORTH", 2, 2),
+    (*b"POUCH", 53, 2),
+    (*b"PUT  ", 34, 0),
+    (*b"QUICK", 2, 1),
+    (*b"QUIT ", 37, 0),
+    (*b"RED  ", 2, 3),
+    (*b"REMOV", 33, 0),
+    (*b"S    ", 3, 2),
+    (*b"SHAKE", 42, 0),
+    (*b"SOUTH", 3, 2),
+    (*b"STORE", 40, 0),
+    (*b"SWORD", 51, 2),
+    (*b"TAKE ", 30, 0),
+    (*b"THEN ", 2, 5),
+    (*b"TIME ", 39, 0),
+    (*b"TURNS", 47, 0),
+    (*b"TWIST", 43, 0),
+    (*b"WAIT ", 38, 0),
+    (*b"WEAK ", 46, 0),
+    (*b"WEAR ", 32, 0),
+];
+
+fn words(alloc: Global) -> Result<Vec<Word>, AllocError> {
+    let mut words = Vec::new(alloc);
+    for (letters, value, class) in WORDS {
+        words.push(Word {
+            letters,
+            value,
+            class,
+        })?;
+    }
+    Ok(words)
+}
+
+fn empty_tables(alloc: Global) -> Result<Vec<Table>, AllocError> {
+    let mut tables = Vec::new(alloc);
+    for _ in 0..3 {
+        tables.push(Table {
+            entries: Vec::new(alloc),
+        })?;
+    }
+    Ok(tables)
+}
+
+fn game(alloc: Global) -> Result<Game, Fail> {
+    let mut locations = Vec::new(alloc);
+    locations.push(Text {
+        bytes: Vec::new(alloc),
+    })?;
+    let mut exits = Vec::new(alloc);
+    exits.push(Exits {
+        rows: Vec::new(alloc),
+    })?;
+    let game = Game::new(GameParts {
+        words: words(alloc)?,
+        system: Vec::new(alloc),
+        messages: Vec::new(alloc),
+        objects: Vec::new(alloc),
+        locations,
+        exits,
+        tables: empty_tables(alloc)?,
+    })?;
+    Ok(game)
+}
+
+/// No word.
+const N: u8 = 255;
+
+/// The verb before each line of the tables.
+const EARLIER: u8 = 30;
+
+/// Before each line a pronoun stands for the noun 52 and the adjective 7.
+const BEFORE: Sentence = Sentence {
+    verb: 1,
+    noun: 2,
+    adjective: 3,
+    adverb: 4,
+    preposition: 5,
+    second_noun: 6,
+    second_adjective: 7,
+    pronoun_noun: 52,
+    pronoun_adjective: 7,
+};
+
+/// The next phrase of a line, the sentence then, and what stays pending.
+fn taken(rt: &impl Abort, game: &Game, line: &[u8]) -> (Found, Sentence, Pending) {
+    assert!(rt; line.len() <= LINE_LIMIT);
+    let mut pending = Pending::of(line, EARLIER);
+    let mut sentence = BEFORE;
+    let found = next_phrase(game, &mut pending, &mut sentence);
+    (found, sentence, pending)
+}
+
+/// Verb, noun, adjective, adverb, preposition, second noun, second adjective.
+fn words_of(s: &Sentence) -> [u8; 7] {
+    [
+        s.verb,
+        s.noun,
+        s.adjective,
+        s.adverb,
+        s.preposition,
+        s.second_noun,
+        s.second_adjective,
+    ]
+}
+
+#[test]
+fn words_fill_a_sentence(rt: HostRuntime) -> Result<(), Fail> {
+    let game = game(rt.alloc())?;
+    let cases: [(&[u8], [u8; 7]); 20] = [
+        // Small letters are read as capitals, and any byte but letters, digits and separators is a blank.
+        (b"wear\xffthe-lamp'", [32, 50, N, N, N, N, N]),
+        // Five letters tell a word, and digits are letters.
+        (b"REMOVALS LAMP", [33, 50, N, N, N, N, N]),
+        (b"WEAR LAMPS", [32, N, N, N, N, N, N]),
+        (b"WEAR2 LAMP", [30, 50, N, N, N, N, N]),
+        // A noun below 20 stands for a verb that is left out, and else the earlier verb does.
+        (b"N", [2, 2, N, N, N, N, N]),
+        (b"WAIT NORTHWARDS", [38, 2, N, N, N, N, N]),
+        (b"ALL", [30, 20, N, N, N, N, N]),
+        (b"RED", [30, N, 2, N, N, N, N]),
+        // The first verb counts, and the first two nouns.
+        (b"DROP GET LAMP SWORD BAG", [31, 50, N, N, N, 51, N]),
+        (b"DROP ALL EXCEPT SWORD", [31, 20, N, N, 2, 51, N]),
+        // An adjective belongs to the noun behind it, or to the second noun once the first stands.
+        (b"TAKE THE RED LAMP QUICKLY", [30, 50, 2, 2, N, N, N]),
+        (b"PUT LAMP RED IN BAG", [34, 50, N, N, 3, 52, 2]),
+        // A pronoun overwrites an adjective; behind two nouns it is ignored.
+        (b"DROP IT", [31, 52, 7, N, N, N, N]),
+        (b"DROP RED IT IN BAG", [31, 52, 7, N, 3, 52, N]),
+        (b"PUT LAMP IN IT", [34, 50, N, N, 3, 52, 7]),
+        (b"PUT LAMP IN RED IT", [34, 50, N, N, 3, 52, 7]),
+        (b"PUT IT IN IT", [34, 52, 7, N, 3, 52, 7]),
+        (b"PUT LAMP SWORD IT", [34, 50, N, N, N, 51, N]),
+        // Unknown tokens are skipped.
+        (b"PLEASE WAIT AROUND HERE", [38, N, N, N, N, N, N]),
+        (b"IN", [30, N, N, N, 3, N, N]),
+    ];
+    for (line, words) in cases {
+        let (found, sentence, pending) = taken(&rt, &game, line);
+        assert_eq!(rt; found, Found::Sentence, "{line:?}");
+        assert_eq!(rt; words_of(&sentence), words, "{line:?}");
+        assert!(rt; pending.bytes().is_empty(), "{line:?}");
+        assert_eq!(rt; pending.earlier(), sentence.verb, "{line:?}");
+    }
+    Ok(())
+}
+
+#[test]
+fn pronouns_stand_for_what_was_named(rt: HostRuntime) -> Result<(), Fail> {
+    let game = game(rt.alloc())?;
+    let cases: [(&[u8], [u8; 2]); 7] = [
+        (b"WAIT", [52, 7]),
+        (b"N", [52, 7]),
+        (b"GET ALL", [52, 7]),
+        (b"GET LAMP", [50, N]),
+        (b"GET RED LAMP", [50, 2]),
+        (b"GET LAMP RED SWORD", [50, N]),
+        (b"DROP IT", [52, 7]),
+    ];
+    for (line, [noun, adjective]) in cases {
+        let (_, sentence, _) = taken(&rt, &game, line);
+        assert_eq!(rt; sentence.pronoun_noun, noun, "{line:?}");
+        assert_eq!(rt; sentence.pronoun_adjective, adjective, "{line:?}");
+    }
+    // Where a pronoun stands for nothing it is ignored, and is a known word still.
+    let mut pending = Pending::new();
+    pending.set(b"DROP IT");
+    let mut sentence = Sentence {
+        pronoun_noun: N,
+        ..BEFORE
+    };
+    assert_eq!(rt;
+        next_phrase(&game, &mut pending, &mut sentence),
+        Found::Sentence
+    );
+    assert_eq!(rt; words_of(&sentence), [31, N, N, N, N, N, N]);
+    Ok(())
+}
+
+#[test]
+fn separators_and_conjunctions_part_phrases(rt: HostRuntime) -> Result<(), Fail> {
+    let game = game(rt.alloc())?;
+    let cases: [(&[u8], &[u8]); 8] = [
+        (b"GET LAMP AND SWORD THEN DROP IT", b" SWORD THEN DROP IT"),
+        (b" SWORD THEN DROP IT", b" DROP IT"),
+        (b"TURNS, WAIT", b" WAIT"),
+        (b"GET LAMP AND, SWORD", b", SWORD"),
+        (b", SWORD", b""),
+        (b"GET \"LAMP\"", b"LAMP\""),
+        (b"AND THEN .,;:!?\" WAIT!", b""),
+        (b"WAIT. ", b" "),
+    ];
+    for (line, rest) in cases {
+        let (found, _, pending) = taken(&rt, &game, line);
+        assert_eq!(rt; found, Found::Sentence, "{line:?}");
+        assert_eq!(rt; pending.bytes(), rest, "{line:?}");
+    }
+    Ok(())
+}
+
+#[test]
+fn other_phrases_change_little(rt: HostRuntime) -> Result<(), Fail> {
+    let game = game(rt.alloc())?;
+    let unknown: [(&[u8], &[u8]); 2] = [(b"XYZZY PLUGH; LOOK", b" LOOK"), (b"LAMPS", b"")];
+    for (line, rest) in unknown {
+        let (found, sentence, pending) = taken(&rt, &game, line);
+        assert_eq!(rt; found, Found::Nothing, "{line:?}");
+        assert_eq!(rt; sentence, BEFORE, "{line:?}");
+        assert_eq!(rt; pending.bytes(), rest, "{line:?}");
+        assert_eq!(rt; pending.earlier(), EARLIER, "{line:?}");
+    }
+    let spaces = [b' '; LINE_LIMIT];
+    let none: [&[u8]; 4] = [b"", b"AND THEN .,;:!?\"", b" - ", &spaces];
+    for line in none {
+        let (found, sentence, pending) = taken(&rt, &game, line);
+        assert_eq!(rt; found, Found::Empty, "{line:?}");
+        assert_eq!(rt; sentence, BEFORE, "{line:?}");
+        assert_eq!(rt; pending.bytes(), line, "{line:?}");
+        assert_eq!(rt; pending.earlier(), EARLIER, "{line:?}");
+    }
+    Ok(())
+}
+
+#[test]
+fn lines_are_set_and_dropped(rt: HostRuntime) -> Result<(), Fail> {
+    let mut pending = Pending::of(b"GET LAMP", 30);
+    pending.drop_line();
+    assert!(rt; pending.bytes().is_empty());
+    assert_eq!(rt; pending.earlier(), 30);
+    pending.set(b"WAIT");
+    assert_eq!(rt; pending.bytes(), b"WAIT".as_slice());
+    assert_eq!(rt; pending.earlier(), N);
+    assert!(rt; Pending::new().bytes().is_empty());
+    assert_eq!(rt; Pending::new().earlier(), N);
+    Ok(())
+}
