@@ -9,11 +9,11 @@ use Rattle.paw_world.specs.Places.{least_at, left_above}
 use Rattle.paw_world.proofs.Listed.{count_is, place_is}
 use Rattle.paw_world.proofs.Sets.{at_place_same, at_place_other}
 
-least_at_none : (places : List ℕ) (p : ℕ) → least_at places p 0 ≡ None
+pub least_at_none : (places : List ℕ) (p : ℕ) → least_at places p 0 ≡ None
 unfolding least_at
 least_at_none places p = refl
 
-least_at-suc : (places : List ℕ) (p n : ℕ)
+pub least_at-suc : (places : List ℕ) (p n : ℕ)
     → least_at places p (suc n) ≡ (if get_or places (length places - suc n) 0 == p then Some (length places - suc n) else least_at places p n)
 unfolding least_at
 least_at-suc places p n = refl

@@ -6,3 +6,4 @@ pub mod Listed
 pub mod Loaded
 pub mod Sets
 pub mod Weighed
+pub mod WorldLemmas
