@@ -10,9 +10,28 @@ pub record Done : Type 0 where
   pub name : List ℕ
   pub bytes : List ℕ
 
--- The bytes that were handed to a call.
+-- How many bytes were handed to a call.
 abbrev pub size_of : Done → ℕ
 size_of d = length d.name + length d.bytes
+
+-- A file was put there between the calls; a call loaded, saved, took a line, found no line left, showed a text.
+abbrev pub added : List ℕ → List ℕ → Done
+added name bytes = record { kind = kind.Add; name = name; bytes = bytes }
+
+abbrev pub loaded : List ℕ → Done
+loaded name = record { kind = kind.Load; name = name; bytes = [] }
+
+abbrev pub saved : List ℕ → List ℕ → Done
+saved name bytes = record { kind = kind.Save; name = name; bytes = bytes }
+
+abbrev pub took : Done
+took = record { kind = kind.Take; name = []; bytes = [] }
+
+abbrev pub ended : Done
+ended = record { kind = kind.End; name = []; bytes = [] }
+
+abbrev pub showed : List ℕ → Done
+showed text = record { kind = kind.Show; name = []; bytes = text }
 
 -- With nothing there.
 abbrev pub fresh : Standing

@@ -4,3 +4,4 @@ pub mod Done
 pub mod Log
 pub mod LogInside
 pub mod Memory
+pub mod Failing

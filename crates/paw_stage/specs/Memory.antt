@@ -1,11 +1,11 @@
 -- A stage in memory: the lines that are left, its record of calls, and its counts of faults.
-use Rattle.std.specs.Prelude.{ℕ, List, []}
+use Rattle.std.specs.Prelude.{ℕ, Bool, List, [], ◌∷◌, ◌++◌}
 use Rattle.paw_stage.specs.declared.StageCall.{StageCall}
 use Rattle.paw_stage.specs.declared.faults.FaultCounts.{FaultCounts}
 use Rattle.paw_stage.specs.Stage.{Standing}
 use Rattle.paw_stage.specs.Faults.{raised, no_faults}
-use Rattle.paw_stage.specs.Done.{Done, fresh, after}
-use Rattle.paw_stage.specs.Log.{Logged, logged, given}
+use Rattle.paw_stage.specs.Done.{Done, size_of, added, fresh, after}
+use Rattle.paw_stage.specs.Log.{Logged, has_room, logged, given}
 
 pub record Memory : Type 0 where
   pub lines : List (List ℕ)
@@ -20,9 +20,21 @@ empty calls bytes = record { lines = []; log = record { calls = []; calls_left =
 abbrev pub standing_of : Memory → Standing
 standing_of m = record (after fresh m.log.calls) { lines = m.lines }
 
+-- Whether there is room for a call with so many bytes.
+abbrev pub can_note : Done → Memory → Bool
+can_note d m = has_room m.log (size_of d)
+
 -- With one call more in its record.
 abbrev pub noted : Done → Memory → Memory
 noted d m = record m { log = logged d m.log }
+
+-- With a file put there, beside the spare room.
+abbrev pub with_file : List ℕ → List ℕ → Memory → Memory
+with_file name bytes m = record m { log = given (added name bytes) m.log }
+
+-- With one line more, after those that are left.
+abbrev pub with_line : List ℕ → Memory → Memory
+with_line line m = record m { lines = m.lines ++ line ∷ [] }
 
 -- With one fault more of a call, and all else as it was.
 abbrev pub failed : StageCall → Memory → Memory

@@ -1,10 +1,12 @@
 //! The outside as one trait: files, lines and the text shown, so that a clause can speak of all of them at once.
 #![tactic(auto)]
 
+mod failing;
 mod faults;
 mod log;
 mod memory;
 
+pub use failing::FailStage;
 pub use faults::FaultCounts;
 pub use memory::MemoryStage;
 use std::alloc::Global;

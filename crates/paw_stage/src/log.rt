@@ -3,9 +3,8 @@
 ghost use Rattle.std.specs.Prelude.{◌≡◌, ◌≤◌, ◌<◌, ◌+◌, ◌++◌, ◌∷◌, [], IsTrue, IsFalse, IfOk, OnOk, OnErr, length, slice_range, vec_len, vec_capacity, List, ℕ};
 ghost use Rattle.std.specs.Option.{option_copied};
 ghost use Rattle.paw_stage.specs.Stage.{Standing};
-ghost use Rattle.paw_stage.specs.Done.{fresh, step, stepped, after};
+ghost use Rattle.paw_stage.specs.Done.{added, fresh, step, stepped, after};
 ghost use Rattle.paw_stage.specs.Log.{has_room, logged, given, done_in, all_done, AreLaid};
-ghost use Rattle.paw_stage.specs.declared.log.Kind.TheVariants as kind;
 
 use paw_base::fault::NoRoom;
 use std::alloc::Global;
@@ -87,7 +86,7 @@ impl Log {
 
     /// Records that a file was put there, for which new room is taken. The spare room stays.
     pub fn add_file(&mut self, name: &[u8], bytes: &[u8]) -> Result<(), NoRoom>
-        ensures ok { OnOk result (self.new ≡ given (record { kind = kind.Add; name = name.now; bytes = bytes.now }) self.old) }
+        ensures ok { OnOk result (self.new ≡ given (added name.now bytes.now) self.old) }
         ensures err { OnErr result (self.new ≡ self.old) }
     {
         let n = name.len() + bytes.len();

@@ -4,11 +4,10 @@ ghost use Rattle.std.specs.Prelude.{◌≡◌, ◌⊎◌, ◌<◌, ◌+◌, ◌+
 ghost use Rattle.paw_stage.specs.declared.StageCall.TheVariants as call;
 ghost use Rattle.paw_stage.specs.declared.LoadRefusal.TheVariants as refusal;
 ghost use Rattle.paw_stage.specs.declared.Asked.TheVariants as asked;
-ghost use Rattle.paw_stage.specs.declared.log.Kind.TheVariants as kind;
 ghost use Rattle.paw_stage.specs.Stage.{Rose, Grows, IsCut, AsksTo, Saves};
 ghost use Rattle.paw_stage.specs.Faults.{count_of};
-ghost use Rattle.paw_stage.specs.Log.{has_room, given};
-ghost use Rattle.paw_stage.specs.Memory.{empty, standing_of, noted, failed};
+ghost use Rattle.paw_stage.specs.Done.{loaded, saved, took, ended, showed};
+ghost use Rattle.paw_stage.specs.Memory.{empty, standing_of, can_note, noted, with_file, with_line, failed};
 
 use crate::log::{Kind, Log};
 use crate::{Asked, Failed, FaultCounts, LoadRefusal, Stage, StageCall};
@@ -66,7 +65,7 @@ impl MemoryStage {
 
     /// Adds a file, in the place of one of the same name. The spare room stays as it is.
     pub fn add_file(&mut self, name: &str, bytes: &[u8]) -> Result<(), NoRoom>
-        ensures ok { OnOk result (self.new ≡ record self.old { log = given (record { kind = kind.Add; name = name.now; bytes = bytes.now }) self.old.log }) }
+        ensures ok { OnOk result (self.new ≡ with_file name.now bytes.now self.old) }
         ensures err { OnErr result (self.new ≡ self.old) }
     {
         self.log.add_file(name.as_bytes(), bytes)
@@ -74,7 +73,7 @@ impl MemoryStage {
 
     /// Adds a line, without a line end, after those that are left. The spare room stays as it is.
     pub fn add_line(&mut self, alloc: Global, line: &[u8]) -> Result<(), NoRoom>
-        ensures ok { OnOk result (self.new ≡ record self.old { lines = self.old.lines ++ line.now ∷ [] }) }
+        ensures ok { OnOk result (self.new ≡ with_line line.now self.old) }
         ensures err { OnErr result (self.new ≡ self.old) }
     {
         let bytes = Vec::from_slice(alloc, line)?;
@@ -96,7 +95,22 @@ impl Stage for MemoryStage {
 
     ghost faults = { λ s. count_of s.counts };
 
-    fn load(&mut self, alloc: Global, name: &str, most: usize) -> Result<Vec<u8>, LoadRefusal> {
+    fn load(&mut self, alloc: Global, name: &str, most: usize) -> Result<Vec<u8>, LoadRefusal>
+        ensures counts { Grows (count_of self.old.counts) (count_of self.new.counts) }
+        ensures absent { result ≡ Err refusal.Absent → Rose (count_of self.old.counts call.LoadAbsent) (count_of self.new.counts call.LoadAbsent) }
+        ensures cause { result ≡ Err refusal.Failed → Rose (count_of self.old.counts call.Load) (count_of self.new.counts call.Load) }
+        ensures still { standing_of self.new ≡ standing_of self.old }
+        ensures found { IfOk result (λ v. (bytes : List ℕ) × ((standing_of self.old).files name.now ≡ Some bytes) × (v.items ≡ take (most + 1) bytes)) }
+        ensures missing { result ≡ Err refusal.Absent → (standing_of self.old).files name.now ≡ None }
+        ensures nowhere { (standing_of self.old).files name.now ≡ None → (result ≡ Err refusal.Absent) ⊎ (result ≡ Err refusal.Failed) }
+
+        // It fails exactly for want of room, and leaves no trace then but its count.
+        ensures exact { (result ≡ Err refusal.Failed) ↔ IsFalse (can_note (loaded name.now) self.old) }
+        ensures failed { result ≡ Err refusal.Failed → self.new ≡ failed call.Load self.old }
+        ensures noted { OnOk result (self.new ≡ noted (loaded name.now) self.old) }
+        ensures noted_absent { result ≡ Err refusal.Absent → self.new ≡ failed call.LoadAbsent (noted (loaded name.now) self.old) }
+        ensures noted_memory { result ≡ Err refusal.Memory → self.new ≡ noted (loaded name.now) self.old }
+    {
         if !self.log.add(Kind::Load, name.as_bytes(), &[]) {
             self.counts.raise(StageCall::Load);
             return Err(LoadRefusal::Failed);
@@ -109,14 +123,15 @@ impl Stage for MemoryStage {
     }
 
     fn save(&mut self, name: &str, bytes: &[u8]) -> Result<(), Failed>
-        ensures tells { Unit {0} ↔ Unit {0} }
         ensures counts { Grows (count_of self.old.counts) (count_of self.new.counts) }
         ensures cause { IsErr result → Rose (count_of self.old.counts call.Save) (count_of self.new.counts call.Save) }
         ensures saved { OnOk result (Saves (standing_of self.old) (standing_of self.new) name.now (Some bytes.now)) }
         ensures part { OnErr result ((standing_of self.new ≡ standing_of self.old) ⊎ ((left : Option (List ℕ)) × Saves (standing_of self.old) (standing_of self.new) name.now left)) }
-        ensures exact { IsErr result ↔ IsFalse (has_room self.old.log (length name.now + length bytes.now)) }
-        ensures noted { OnOk result (self.new ≡ noted (record { kind = kind.Save; name = name.now; bytes = bytes.now }) self.old) }
+
+        // It fails exactly for want of room, and leaves no trace then but its count.
+        ensures exact { IsErr result ↔ IsFalse (can_note (saved name.now bytes.now) self.old) }
         ensures failed { OnErr result (self.new ≡ failed call.Save self.old) }
+        ensures noted { OnOk result (self.new ≡ noted (saved name.now bytes.now) self.old) }
     {
         if !self.log.add(Kind::Save, name.as_bytes(), bytes) {
             self.counts.raise(StageCall::Save);
@@ -125,7 +140,17 @@ impl Stage for MemoryStage {
         Ok(())
     }
 
-    fn ask(&mut self, into: &mut [u8; 255]) -> Asked {
+    fn ask(&mut self, into: &mut [u8; 255]) -> Asked
+        ensures counts { Grows (count_of self.old.counts) (count_of self.new.counts) }
+        ensures cause { result ≡ asked.Failed → Rose (count_of self.old.counts call.Ask) (count_of self.new.counts call.Ask) }
+        ensures answer { AsksTo (standing_of self.old) (standing_of self.new) result into.new }
+
+        // It fails exactly for want of room, and leaves no trace then but its count.
+        ensures exact { (result ≡ asked.Failed) ↔ IsFalse (can_note took self.old) }
+        ensures failed { result ≡ asked.Failed → self.new ≡ failed call.Ask self.old }
+        ensures noted { (n : ℕ) → result ≡ asked.Line n → self.new ≡ record (noted took self.old) { lines = drop 1 self.old.lines } }
+        ensures noted_end { result ≡ asked.End → self.new ≡ noted ended self.old }
+    {
         let kind = if self.lines.is_empty() {
             Kind::End
         } else {
@@ -141,7 +166,17 @@ impl Stage for MemoryStage {
         }
     }
 
-    fn show(&mut self, text: &[u8]) -> Result<(), Failed> {
+    fn show(&mut self, text: &[u8]) -> Result<(), Failed>
+        ensures counts { Grows (count_of self.old.counts) (count_of self.new.counts) }
+        ensures cause { IsErr result → Rose (count_of self.old.counts call.Show) (count_of self.new.counts call.Show) }
+        ensures shown { OnOk result (standing_of self.new ≡ record (standing_of self.old) { shown = (standing_of self.old).shown ++ text.now }) }
+        ensures part { OnErr result ((n : ℕ) × (standing_of self.new ≡ record (standing_of self.old) { shown = (standing_of self.old).shown ++ take n text.now })) }
+
+        // It fails exactly for want of room, and leaves no trace then but its count.
+        ensures exact { IsErr result ↔ IsFalse (can_note (showed text.now) self.old) }
+        ensures failed { OnErr result (self.new ≡ failed call.Show self.old) }
+        ensures noted { OnOk result (self.new ≡ noted (showed text.now) self.old) }
+    {
         if !self.log.add(Kind::Show, &[], text) {
             self.counts.raise(StageCall::Show);
             return Err(Failed);
