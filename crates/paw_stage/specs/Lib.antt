@@ -5,3 +5,4 @@ pub mod Log
 pub mod LogInside
 pub mod Memory
 pub mod Failing
+pub mod Input

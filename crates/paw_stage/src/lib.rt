@@ -1,8 +1,10 @@
 //! The outside as one trait: files, lines and the text shown, so that a clause can speak of all of them at once.
 #![tactic(auto)]
 
+mod ahead;
 mod failing;
 mod faults;
+mod input;
 mod log;
 mod memory;
 

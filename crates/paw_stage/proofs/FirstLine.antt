@@ -1,0 +1,87 @@
+-- The first line of some bytes.
+use Rattle.std.proofs.Common.{◌≡◌, ◌≢◌, ℕ, ◌+◌, ◌-◌, ◌<◌, zero, suc, ◌&&◌, Bool, true, false, List, [], ◌∷◌, ◌++◌, length, take, get_or, nat_lt, refl, sym, ap, ◌∙◌, arith, length-append}
+use Rattle.std.specs.Prelude.{if◌then◌else◌, ◌==◌}
+use Rattle.std.specs.Io.BufRead.{take_through, drop_through, ends_with_byte, strip_last, first_piece, first_line}
+use Rattle.std.proofs.Math.Seq.{take-append_seam}
+use Rattle.paw_stage.specs.Input.{HasNoEnd}
+
+not_same : (x y : ℕ) → x ≢ y → (x == y) ≡ false
+not_same x y h = grind arith
+
+take_through-end : (xs rest : List ℕ) → HasNoEnd xs → take_through 10 (xs ++ 10 ∷ rest) ≡ xs ++ 10 ∷ []
+take_through-end [] rest h = refl
+take_through-end (x ∷ xs) rest h = rw (not_same x 10 h.0) (ap (λ ys. x ∷ ys) (take_through-end xs rest h.1))
+
+pub drop_through-end : (xs rest : List ℕ) → HasNoEnd xs → drop_through 10 (xs ++ 10 ∷ rest) ≡ rest
+drop_through-end [] rest h = refl
+drop_through-end (x ∷ xs) rest h = rw (not_same x 10 h.0) (drop_through-end xs rest h.1)
+
+take_through-whole : (xs : List ℕ) → HasNoEnd xs → take_through 10 xs ≡ xs
+take_through-whole [] h = refl
+take_through-whole (x ∷ xs) h = rw (not_same x 10 h.0) (ap (λ ys. x ∷ ys) (take_through-whole xs h.1))
+
+pub drop_through-whole : (xs : List ℕ) → HasNoEnd xs → drop_through 10 xs ≡ []
+drop_through-whole [] h = refl
+drop_through-whole (x ∷ xs) h = rw (not_same x 10 h.0) (drop_through-whole xs h.1)
+
+pub HasNoEnd-push : (xs : List ℕ) (x : ℕ) → HasNoEnd xs → x ≢ 10 → HasNoEnd (xs ++ x ∷ [])
+HasNoEnd-push [] x h ne = (ne, tt)
+HasNoEnd-push (y ∷ xs) x h ne = (h.0, HasNoEnd-push xs x h.1 ne)
+
+get_last : (xs : List ℕ) (x : ℕ) → get_or (xs ++ x ∷ []) (length xs) 0 ≡ x
+get_last [] x = refl
+get_last (y ∷ xs) x = get_last xs x
+
+same : (x : ℕ) → (x == x) ≡ true
+same x = grind arith
+
+and_false : (b : Bool) → (b && false) ≡ false
+and_false true = refl
+and_false false = refl
+
+-- the last byte decides
+pub ends_with_byte-push : (b : ℕ) (xs : List ℕ) (x : ℕ) → ends_with_byte b (xs ++ x ∷ []) ≡ (x == b)
+ends_with_byte-push b xs x =
+    let n : length (xs ++ x ∷ []) - 1 ≡ length xs = omega (arith, length-append xs (x ∷ [])) in
+    let some : nat_lt 0 (length (xs ++ x ∷ [])) ≡ true = grind (arith, length-append xs (x ∷ [])) in
+    ap (λ t. t && (get_or (xs ++ x ∷ []) (length (xs ++ x ∷ []) - 1) 0 == b)) some ∙ (ap (λ k. get_or (xs ++ x ∷ []) k 0 == b) n ∙ ap (λ v. v == b) (get_last xs x))
+
+strip_last-push : (b : ℕ) (xs : List ℕ) → strip_last b (xs ++ b ∷ []) ≡ xs
+strip_last-push b xs =
+    let n : length (xs ++ b ∷ []) - 1 ≡ length xs = omega (arith, length-append xs (b ∷ [])) in
+    ap (λ t. if t then take (length (xs ++ b ∷ []) - 1) (xs ++ b ∷ []) else xs ++ b ∷ []) (ends_with_byte-push b xs b ∙ same b) ∙ (ap (λ k. take k (xs ++ b ∷ [])) n ∙ take-append_seam xs (b ∷ []))
+
+get_plain : (xs : List ℕ) (i : ℕ) → HasNoEnd xs → i < length xs → get_or xs i 0 ≢ 10
+get_plain [] i h low = absurd (omega arith)
+get_plain (x ∷ xs) zero h low = h.0
+get_plain (x ∷ xs) (suc i) h low = get_plain xs i h.1 (omega arith)
+
+not_ended : (xs : List ℕ) → HasNoEnd xs → ends_with_byte 10 xs ≡ false
+not_ended [] h = refl
+not_ended (x ∷ xs) h =
+    ap (λ t. nat_lt 0 (length (x ∷ xs)) && t) (not_same (get_or (x ∷ xs) (length (x ∷ xs) - 1) 0) 10 (get_plain (x ∷ xs) (length (x ∷ xs) - 1) h (omega arith))) ∙ and_false (nat_lt 0 (length (x ∷ xs)))
+
+-- the line in the bytes up to the first LF, or in all of them
+line_in : List ℕ → List ℕ
+line_in t = if ends_with_byte 10 t then strip_last 13 (strip_last 10 t) else strip_last 10 t
+
+line_in-end : (xs : List ℕ) → line_in (xs ++ 10 ∷ []) ≡ strip_last 13 xs
+unfolding line_in
+line_in-end xs =
+    ap (λ t. if t then strip_last 13 (strip_last 10 (xs ++ 10 ∷ [])) else strip_last 10 (xs ++ 10 ∷ [])) (ends_with_byte-push 10 xs 10)
+    ∙ ap (strip_last 13) (strip_last-push 10 xs)
+
+line_in-whole : (xs : List ℕ) → HasNoEnd xs → line_in xs ≡ xs
+unfolding line_in
+line_in-whole xs h =
+    ap (λ t. if t then strip_last 13 (if t then take (length xs - 1) xs else xs) else (if t then take (length xs - 1) xs else xs)) (not_ended xs h)
+
+-- a line up to its LF
+pub first_line-end : (xs rest : List ℕ) → HasNoEnd xs → first_line (xs ++ 10 ∷ rest) ≡ strip_last 13 xs
+unfolding line_in
+first_line-end xs rest h = ap line_in (take_through-end xs rest h) ∙ line_in-end xs
+
+-- a line that has no end
+pub first_line-whole : (xs : List ℕ) → HasNoEnd xs → first_line xs ≡ xs
+unfolding line_in
+first_line-whole xs h = ap line_in (take_through-whole xs h) ∙ line_in-whole xs h

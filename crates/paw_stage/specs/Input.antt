@@ -1,0 +1,41 @@
+-- What a reader of lines takes from its bytes.
+use Rattle.std.specs.Prelude.{◌≡◌, ◌≢◌, ℕ, ◌<◌, ◌≤◌, ⊤, Bool, List, [], ◌∷◌, length, take, min, Option, Some, None}
+use Rattle.std.specs.Io.KnownBytes.{prepend_known, Consumes}
+use Rattle.std.specs.Io.BufRead.{ends_with_byte, first_line, drop_through}
+use Rattle.paw_stage.specs.Stage.{IsCut}
+use Rattle.paw_stage.specs.declared.Asked.{Asked}
+use Rattle.paw_stage.specs.declared.Asked.TheVariants as asked
+use Rattle.paw_stage.specs.declared.input.LineReader.{LineReader}
+
+-- The bytes that are still to be taken, where they are known: those read ahead, and those that reads will give.
+abbrev pub unread : {R : Type 0} → (R → Option (List ℕ)) → LineReader R → Option (List ℕ)
+unread remaining s = prepend_known s.ahead (remaining s.reader)
+
+-- What an ask takes from these bytes, and what it leaves of them. It takes all bytes up to the first LF, or all of
+-- them where there is none, and gives the line without its LF or CR LF.
+abbrev pub TakesLine : List ℕ → Option (List ℕ) → Asked → List ℕ → Type 0
+TakesLine bytes left (asked.Line n) into =
+    (0 < length bytes) × (length (first_line bytes) ≤ 1048576) × IsCut (first_line bytes) into n × (left ≡ Some (drop_through 10 bytes))
+TakesLine bytes left asked.End into = (bytes ≡ []) × (left ≡ Some [])
+TakesLine bytes left asked.Failed into = ⊤
+
+-- What gathering a line from these bytes gives: its length, and its first 255 bytes in a buffer.
+abbrev pub GathersLine : List ℕ → Option (List ℕ) → Option ℕ → List ℕ → Type 0
+GathersLine bytes left None into = (bytes ≡ []) × (left ≡ Some [])
+GathersLine bytes left (Some len) into =
+    (0 < length bytes) × (len ≡ length (first_line bytes)) × (take (min len 255) into ≡ take 255 (first_line bytes)) × (left ≡ Some (drop_through 10 bytes))
+
+-- No byte of these is an LF.
+abbrev pub HasNoEnd : List ℕ → Type 0
+HasNoEnd [] = Unit {0}
+HasNoEnd (x ∷ xs) = (x ≢ 10) × HasNoEnd xs
+
+-- Of the line in work so many bytes were taken from the first bytes, with no LF among them. Their first 255 stand in
+-- a buffer, and returned says that the last of them is a CR.
+pub record Gathers (first left : Option (List ℕ)) (into : List ℕ) (len : ℕ) (returned : Bool) : Type 0 where
+  pub taken : List ℕ
+  pub consumed : Consumes first left taken
+  pub count : length taken ≡ len
+  pub plain : HasNoEnd taken
+  pub kept : take (min len 255) into ≡ take 255 taken
+  pub last : returned ≡ ends_with_byte 13 taken

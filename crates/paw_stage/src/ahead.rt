@@ -1,0 +1,84 @@
+// Bytes that were read ahead of what was taken.
+
+ghost use Rattle.std.specs.Prelude.{◌≡◌, [], ◌++◌, IfNone, OnOk, OnErr};
+ghost use Rattle.std.specs.Option.{option_to_list};
+ghost use Rattle.std.specs.Io.{ReadsAtMost};
+ghost use Rattle.std.specs.Io.KnownBytes.{Keeps, Consumes, IsAtEnd, ReadConsumes};
+
+use crate::Failed;
+use std::io::{ErrorKind, Read};
+use std::marker::Model;
+
+/// Bytes that a reader gave and that weren't taken yet, at most 4,096.
+#[derive(Drop)]
+pub struct Ahead {
+    buffer: [u8; 4096],
+    from: usize,
+    to: usize,
+}
+
+impl Model for Ahead {
+    ghost use Rattle.std.specs.Prelude.{◌≤◌, List, ℕ, slice_range};
+
+    ghost Value = { List ℕ };
+
+    ghost view = { λ a. slice_range a.buffer a.from a.to };
+
+    ghost invariant = { λ a. (a.from ≤ a.to) × (a.to ≤ 4096) };
+}
+
+impl Ahead {
+    /// No bytes yet.
+    pub fn new() -> Ahead
+        ensures { result ≡ [] }
+    {
+        Ahead {
+            buffer: [0; 4096],
+            from: 0,
+            to: 0,
+        }
+    }
+
+    /// Takes the first byte, if there is one.
+    pub fn pop(&mut self) -> Option<u8>
+        ensures taken { self.old ≡ option_to_list result ++ self.new }
+        ensures none { IfNone result (self.new ≡ []) }
+    {
+        if self.from == self.to {
+            return None;
+        }
+        let byte = self.buffer[self.from];
+        self.from += 1;
+        Some(byte)
+    }
+
+    /// Reads more bytes, which are none only at the reader's end. Nothing is taken from the reader where it fails.
+    pub fn fill<R: Read>(&mut self, reader: &mut R) -> Result<(), Failed>
+        requires { self.old ≡ [] }
+        ensures filled { OnOk result (Consumes (R.remaining reader.old) (R.remaining reader.new) self.new) }
+        ensures end { OnOk result (self.new ≡ [] → IsAtEnd (R.remaining reader.new)) }
+        ensures same { OnErr result (self.new ≡ []) }
+        ensures kept { OnErr result (Keeps (R.remaining reader.old) (R.remaining reader.new)) }
+    {
+        self.from = 0;
+        self.to = 0;
+        let n = read_some(reader, &mut self.buffer)?;
+        self.to = n;
+        Ok(())
+    }
+}
+
+// Reads once, and again where a signal interrupted the read.
+fn read_some<R: Read>(reader: &mut R, into: &mut [u8; 4096]) -> Result<usize, Failed>
+    ensures bound { ReadsAtMost result into.new }
+    ensures bytes { ReadConsumes (R.remaining reader.old) (R.remaining reader.new) result into.new }
+{
+    for _ in 0..u64::MAX {
+        match reader.read(into) {
+            Ok(n) => return Ok(n),
+            Err(e) if e.kind() == ErrorKind::Interrupted => {}
+            Err(_) => return Err(Failed),
+        }
+    }
+    Err(Failed)
+}

@@ -1,0 +1,111 @@
+// The lines of a reader.
+
+ghost use Rattle.std.specs.Prelude.{◌≡◌, ◌<◌, ◌≤◌, ◌-◌, ◌↔◌, nat_lt, if◌then◌else◌, slice_set, IsTrue, IsNone, IfOk, IfSome, Some};
+ghost use Rattle.std.specs.Option.{option_to_list};
+ghost use Rattle.std.specs.Io.KnownBytes.{Consumes, IsAtEnd};
+ghost use Rattle.paw_stage.specs.declared.Asked.TheVariants as asked;
+
+use crate::ahead::Ahead;
+use crate::{Asked, Failed};
+use std::io::Read;
+
+/// The greatest length of a line that is taken, in bytes, without its line end.
+const LONGEST_LINE: u32 = 1_048_576;
+
+/// The lines of a reader, which it reads through a buffer.
+///
+/// A line ends with LF or CR LF, and a last line that has no end is a line where it isn't empty. Once an ask has failed
+/// each later one fails, so that no rest of a line is taken for a line.
+#[derive(Drop)]
+pub struct LineReader<R: Drop> {
+    reader: R,
+    ahead: Ahead,
+    broken: bool,
+}
+
+impl<R: Read + Drop> LineReader<R> {
+    ghost use Rattle.paw_stage.specs.Input.{unread, GathersLine, TakesLine};
+
+    /// The lines of a reader, of which nothing was read yet.
+    pub fn new(reader: R) -> LineReader<R>
+        ensures { unread R.remaining result ≡ R.remaining reader }
+    {
+        LineReader {
+            reader,
+            ahead: Ahead::new(),
+            broken: false,
+        }
+    }
+
+    /// Takes the next line and gives its first 255 bytes, without its line end. A line of more than 1,048,576 bytes,
+    /// its end not counted, is Failed, and so is a fault of the reader.
+    pub fn next_line(&mut self, into: &mut [u8; 255]) -> Asked
+        ensures line { IfSome (unread R.remaining self.old) (λ bytes. TakesLine bytes (unread R.remaining self.new) result into.new) }
+        ensures breaks { (result ≡ asked.Failed) ↔ IsTrue self.new.broken }
+        ensures stays { IsTrue self.old.broken → result ≡ asked.Failed }
+    {
+        if self.broken {
+            return Asked::Failed;
+        }
+        match self.gather(into) {
+            Ok(None) => Asked::End,
+            Ok(Some(len)) if len <= LONGEST_LINE => Asked::Line(len.min(255) as u8),
+            _ => {
+                self.broken = true;
+                Asked::Failed
+            }
+        }
+    }
+
+    // Takes the next line, keeps its first 255 bytes, and gives its length, or nothing where no byte is
+    // left. It fails where the line and its CR are longer than the greatest length and one byte.
+    fn gather(&mut self, into: &mut [u8; 255]) -> Result<Option<u32>, Failed>
+        ensures line { IfSome (unread R.remaining self.old) (λ bytes. IfOk result (λ len. GathersLine bytes (unread R.remaining self.new) len into.new)) }
+        ensures rest { self.new.broken ≡ self.old.broken }
+    {
+        let mut returned = false;
+        for len in 0..LONGEST_LINE + 2 {
+            match self.next_byte()? {
+                None => return Ok(if len == 0 { None } else { Some(len) }),
+                Some(b'\n') => return Ok(Some(without_return(len, returned))),
+                Some(byte) => {
+                    keep(into, len, byte);
+                    returned = byte == b'\r';
+                }
+            }
+        }
+        Err(Failed)
+    }
+
+    // Takes the next byte, if there is one.
+    fn next_byte(&mut self) -> Result<Option<u8>, Failed>
+        ensures taken { IfOk result (λ byte. Consumes (unread R.remaining self.old) (unread R.remaining self.new) (option_to_list byte)) }
+        ensures end { IfOk result (λ byte. IsNone byte → IsAtEnd (unread R.remaining self.new)) }
+        ensures rest { self.new.broken ≡ self.old.broken }
+    {
+        match self.ahead.pop() {
+            Some(byte) => Ok(Some(byte)),
+            None => {
+                self.ahead.fill(&mut self.reader)?;
+                Ok(self.ahead.pop())
+            }
+        }
+    }
+}
+
+// The length of a line without the CR before its LF.
+fn without_return(len: u32, returned: bool) -> u32
+    requires { IsTrue returned → 0 < len }
+    ensures { result ≡ (if returned then len - 1 else len) }
+{
+    if returned { len - 1 } else { len }
+}
+
+// Keeps a byte of the line, if it is one of the first 255.
+fn keep(into: &mut [u8; 255], at: u32, byte: u8)
+    ensures { into.new ≡ (if nat_lt at 255 then slice_set into.old at byte else into.old) }
+{
+    if at < 255 {
+        into[at as usize] = byte;
+    }
+}
