@@ -5,3 +5,4 @@ mod Lines
 mod Consumed
 mod FirstLine
 mod Gathered
+mod Appended

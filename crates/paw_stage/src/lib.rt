@@ -7,10 +7,13 @@ mod faults;
 mod input;
 mod log;
 mod memory;
+mod real;
+mod streams;
 
 pub use failing::FailStage;
 pub use faults::FaultCounts;
 pub use memory::MemoryStage;
+pub use real::RealStage;
 use std::alloc::Global;
 
 /// The calls of a stage, by which faults are counted. A load has two: `LoadAbsent` counts the loads that found no

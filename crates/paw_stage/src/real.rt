@@ -1,0 +1,151 @@
+// Real files and the standard streams as a stage.
+
+ghost use Rattle.std.specs.Prelude.{◌≡◌, ◌≢◌, IsErr, OnOk, OnErr};
+ghost use Rattle.paw_stage.specs.declared.StageCall.TheVariants as call;
+ghost use Rattle.paw_stage.specs.declared.LoadRefusal.TheVariants as refusal;
+ghost use Rattle.paw_stage.specs.declared.Asked.TheVariants as asked;
+ghost use Rattle.paw_stage.specs.Stage.{Rose, Grows};
+ghost use Rattle.paw_stage.specs.Faults.{count_of, no_faults, raised};
+ghost use Rattle.paw_stage.specs.Done.{fresh};
+
+use crate::input::LineReader;
+use crate::streams::{read_first, write_whole};
+use crate::{Asked, Failed, FaultCounts, LoadRefusal, Stage, StageCall};
+use std::alloc::Global;
+use std::io::ErrorKind;
+use std::marker::Model;
+use std::rt::Files;
+use std::{fs, io};
+
+/// Real files, standard input and standard output, which tell nothing but how often each call has failed.
+///
+/// Standard input is read ahead through a buffer, so nothing else may read it. A line ends with LF or CR LF. One of more
+/// than 1,048,576 bytes, its end not counted, fails, and so does a fault of the system; once an ask has failed each
+/// later one fails, so that no rest of a line is taken for a line.
+#[derive(Drop)]
+pub struct RealStage<R: Files + Input + Print + Drop> {
+    rt: R,
+    input: LineReader<R::Reader>,
+    counts: FaultCounts,
+}
+
+impl<R: Files + Input + Print + Drop> Model for RealStage<R> {
+    ghost use Rattle.paw_stage.specs.declared.faults.FaultCounts.{FaultCounts};
+
+    ghost Value = { FaultCounts };
+
+    ghost view = { λ s. s.counts };
+}
+
+impl<R: Files + Input + Print + Drop> RealStage<R> {
+    /// The files and standard streams of this runtime. No call has failed yet.
+    pub fn new(rt: R) -> RealStage<R>
+        ensures { result ≡ no_faults }
+    {
+        let input = LineReader::new(rt.reader());
+        RealStage {
+            rt,
+            input,
+            counts: FaultCounts::none(),
+        }
+    }
+}
+
+impl<R: Files + Input + Print + Drop> Stage for RealStage<R> {
+    ghost Tells = { λ _. ⊥ };
+
+    ghost standing = { λ _. fresh };
+
+    ghost faults = { count_of };
+
+    // Only a name that is missing is Absent: a folder, or a file that may not be read, is Failed.
+    fn load(&mut self, alloc: Global, name: &str, most: usize) -> Result<Vec<u8>, LoadRefusal>
+        ensures counts { Grows (count_of self.old) (count_of self.new) }
+        ensures absent { result ≡ Err refusal.Absent → Rose (count_of self.old call.LoadAbsent) (count_of self.new call.LoadAbsent) }
+        ensures cause { result ≡ Err refusal.Failed → Rose (count_of self.old call.Load) (count_of self.new call.Load) }
+
+        // A count rises exactly at a failure.
+        ensures counted_absent { result ≡ Err refusal.Absent → self.new ≡ raised call.LoadAbsent self.old }
+        ensures counted { result ≡ Err refusal.Failed → self.new ≡ raised call.Load self.old }
+        ensures memory { result ≡ Err refusal.Memory → self.new ≡ self.old }
+        ensures fine { OnOk result (self.new ≡ self.old) }
+    {
+        let loaded = read_file(&self.rt, alloc, name, most);
+        match loaded {
+            Ok(_) => {}
+            Err(LoadRefusal::Absent) => self.counts.raise(StageCall::LoadAbsent),
+            Err(LoadRefusal::Failed) => self.counts.raise(StageCall::Load),
+            Err(LoadRefusal::Memory) => {}
+        }
+        loaded
+    }
+
+    fn save(&mut self, name: &str, bytes: &[u8]) -> Result<(), Failed>
+        ensures counts { Grows (count_of self.old) (count_of self.new) }
+        ensures cause { IsErr result → Rose (count_of self.old call.Save) (count_of self.new call.Save) }
+
+        // A count rises exactly at a failure.
+        ensures counted { OnErr result (self.new ≡ raised call.Save self.old) }
+        ensures fine { OnOk result (self.new ≡ self.old) }
+    {
+        match write_file(&self.rt, name, bytes) {
+            Ok(()) => Ok(()),
+            Err(_) => {
+                self.counts.raise(StageCall::Save);
+                Err(Failed)
+            }
+        }
+    }
+
+    fn ask(&mut self, into: &mut [u8; 255]) -> Asked
+        ensures counts { Grows (count_of self.old) (count_of self.new) }
+        ensures cause { result ≡ asked.Failed → Rose (count_of self.old call.Ask) (count_of self.new call.Ask) }
+
+        // A count rises exactly at a failure.
+        ensures counted { result ≡ asked.Failed → self.new ≡ raised call.Ask self.old }
+        ensures fine { result ≢ asked.Failed → self.new ≡ self.old }
+    {
+        let asked = self.input.next_line(into);
+        if asked == Asked::Failed {
+            self.counts.raise(StageCall::Ask);
+        }
+        asked
+    }
+
+    fn show(&mut self, text: &[u8]) -> Result<(), Failed>
+        ensures counts { Grows (count_of self.old) (count_of self.new) }
+        ensures cause { IsErr result → Rose (count_of self.old call.Show) (count_of self.new call.Show) }
+
+        // A count rises exactly at a failure.
+        ensures counted { OnErr result (self.new ≡ raised call.Show self.old) }
+        ensures fine { OnOk result (self.new ≡ self.old) }
+    {
+        match write_whole(&mut io::writer(&self.rt), text) {
+            Ok(()) => Ok(()),
+            Err(_) => {
+                self.counts.raise(StageCall::Show);
+                Err(Failed)
+            }
+        }
+    }
+}
+
+// The first `most + 1` bytes of a file.
+fn read_file<R: Files>(
+    rt: &R,
+    alloc: Global,
+    name: &str,
+    most: usize,
+) -> Result<Vec<u8>, LoadRefusal> {
+    match fs::open(rt, name) {
+        Ok(file) => read_first(alloc, file, most),
+        Err(e) if e.kind() == ErrorKind::NotFound => Err(LoadRefusal::Absent),
+        Err(_) => Err(LoadRefusal::Failed),
+    }
+}
+
+// Makes a file hold these bytes.
+fn write_file<R: Files>(rt: &R, name: &str, bytes: &[u8]) -> Result<(), Failed> {
+    let mut file = fs::create(rt, name).map_err(|_| Failed)?;
+    write_whole(&mut file, bytes)
+}
