@@ -9,3 +9,6 @@ pub mod world;
 
 /// Objects at most.
 pub const MOST_OBJECTS: usize = 255;
+
+#[cfg(test)]
+mod tests;

@@ -1,0 +1,165 @@
+use crate::flags;
+use crate::world::World;
+use paw_base::parts::ObjectFacts;
+use std::process::Abort;
+
+fn thing(start: u8, weight: u8, container: bool) -> ObjectFacts {
+    ObjectFacts {
+        noun: 255,
+        adjective: 255,
+        start,
+        weight,
+        container,
+        wearable: false,
+    }
+}
+
+fn move_to(rt: &impl Abort, world: &mut World, o: u8, p: u8) {
+    assert!(rt; o < world.objects());
+    world.move_to(o, p);
+}
+
+fn place(rt: &impl Abort, world: &World, o: u8) -> u8 {
+    assert!(rt; o < world.objects());
+    world.place(o)
+}
+
+fn weight(rt: &impl Abort, world: &World, o: u8) -> u8 {
+    assert!(rt; o < world.objects());
+    world.weight(o)
+}
+
+fn draw(rt: &impl Abort, world: &mut World) -> u32 {
+    assert!(rt; world.draws() < 1_000_000);
+    world.draw()
+}
+
+fn skip(rt: &impl Abort, world: &mut World, n: u32) {
+    assert!(rt; world.draws() < 1_000_000);
+    world.skip(n as u64);
+}
+
+// The words were computed by a program of its own, which gives the published first words of state 42 on stream 54.
+#[test]
+fn words_of_seed_42(rt: HostRuntime) {
+    let mut world = World::new(&[], 1, 42);
+    for word in [
+        0x21b7_56ee,
+        0xc15e_f750,
+        0x9548_a9bd,
+        0x35db_428d,
+        0xf007_1649,
+        0xa243_807f,
+        0xb4c5_bdd2,
+        0x103c_a9d2,
+    ] {
+        assert_eq!(rt; draw(&rt, &mut world), word);
+    }
+    assert_eq!(rt; world.draws(), 8);
+    assert_eq!(rt; world.seed(), 42);
+}
+
+#[test]
+fn chances_after_a_skip(rt: HostRuntime) {
+    let mut world = World::new(&[], 1, 42);
+    skip(&rt, &mut world, 1000);
+    for chance in [45, 39, 72, 96] {
+        assert_eq!(rt; 1 + draw(&rt, &mut world) % 100, chance);
+    }
+    world.restart();
+    assert_eq!(rt; world.draws(), 1004);
+}
+
+// Each of twelve containers of weight 1 is in the one before.
+#[test]
+fn nested_containers(rt: HostRuntime) {
+    let mut facts = [thing(252, 1, true); 12];
+    for k in 1u8..12 {
+        facts[k as usize].start = k - 1;
+    }
+    let mut world = World::new(&facts, 252, 0);
+    assert_eq!(rt; weight(&rt, &world, 11), 1);
+    assert_eq!(rt; weight(&rt, &world, 10), 2, "one level");
+    assert_eq!(rt; weight(&rt, &world, 1), 11, "ten levels");
+    assert_eq!(rt; weight(&rt, &world, 0), 11, "eleven levels");
+    move_to(&rt, &mut world, 0, 254);
+    move_to(&rt, &mut world, 5, 253);
+    assert_eq!(rt; world.carried_weight(), 5 + 7);
+    move_to(&rt, &mut world, 0, 11);
+    move_to(&rt, &mut world, 5, 4);
+    assert_eq!(rt; weight(&rt, &world, 0), 11, "round and round");
+}
+
+#[test]
+fn weightless_containers_and_great_weights(rt: HostRuntime) {
+    let facts = [
+        thing(254, 0, true),
+        thing(0, 63, true),
+        thing(1, 63, true),
+        thing(1, 63, false),
+        thing(2, 63, false),
+        thing(2, 63, false),
+        thing(254, 63, false),
+        thing(6, 63, false),
+    ];
+    let mut world = World::new(&facts, 252, 0);
+    assert_eq!(rt; weight(&rt, &world, 0), 0, "it weighs nothing");
+    assert_eq!(rt; weight(&rt, &world, 2), 3 * 63);
+    assert_eq!(rt; weight(&rt, &world, 1), 255, "capped");
+    assert_eq!(rt; weight(&rt, &world, 6), 63, "no container");
+    assert_eq!(rt; world.carried_weight(), 63);
+    move_to(&rt, &mut world, 2, 253);
+    assert_eq!(rt; world.carried_weight(), 4 * 63);
+    move_to(&rt, &mut world, 3, 254);
+    assert_eq!(rt; world.carried_weight(), 255);
+}
+
+#[test]
+fn the_least_object_at_a_place(rt: HostRuntime) {
+    let facts = [thing(254, 1, false); 200];
+    let mut world = World::new(&facts, 252, 7);
+    move_to(&rt, &mut world, 0, 3);
+    move_to(&rt, &mut world, 64, 3);
+    move_to(&rt, &mut world, 199, 3);
+    assert_eq!(rt; world.flag(flags::CARRIED), 197);
+    assert_eq!(rt; world.first_at(3, None), Some(0));
+    assert_eq!(rt; world.first_at(3, Some(0)), Some(64));
+    assert_eq!(rt; world.first_at(3, Some(64)), Some(199));
+    assert_eq!(rt; world.first_at(3, Some(199)), None);
+    assert_eq!(rt; world.first_at(254, Some(63)), Some(65));
+    assert_eq!(rt; world.first_at(254, Some(255)), None);
+}
+
+#[test]
+fn a_saved_position(rt: HostRuntime) {
+    let mut world = World::new(&[thing(254, 1, false)], 252, 7);
+    move_to(&rt, &mut world, 0, 3);
+    world.set_flag(30, 9);
+    world.set_flag(31, 8);
+    world.ramsave();
+    assert!(rt; world.saved());
+    assert_eq!(rt; world.saved_flag(31), 8);
+    move_to(&rt, &mut world, 0, 254);
+    world.set_flag(30, 0);
+    world.set_flag(31, 0);
+    world.ramload(30);
+    assert_eq!(rt; world.flag(flags::CARRIED), 0);
+    assert_eq!(rt; world.flag(30), 9);
+    assert_eq!(rt; world.flag(31), 0, "flags above 30 stay");
+    assert_eq!(rt; place(&rt, &world, 0), 3);
+}
+
+#[test]
+fn a_game_begun_anew(rt: HostRuntime) {
+    let mut world = World::new(&[thing(254, 1, false)], 252, 7);
+    world.ramload(255);
+    assert!(rt; !world.saved());
+    move_to(&rt, &mut world, 0, 3);
+    world.ramsave();
+    world.restart();
+    assert_eq!(rt; place(&rt, &world, 0), 254);
+    assert_eq!(rt; world.flag(flags::CARRIED), 1);
+    assert_eq!(rt; world.flag(flags::VERB), 255);
+    assert_eq!(rt; world.locations(), 252);
+    assert!(rt; world.saved());
+}
