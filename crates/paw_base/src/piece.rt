@@ -1,7 +1,7 @@
 // The text of a piece.
 
 ghost use Rattle.std.specs.Prelude.{◌≡◌, ◌≤◌, [], IfOk, false, length};
-ghost use Rattle.paw_base.specs.Piece.{Puts};
+ghost use Rattle.paw_base.specs.Piece.{Puts, piece_limit};
 
 use crate::fault::NoRoom;
 use std::alloc::Global;
@@ -18,13 +18,13 @@ pub struct Piece {
 
 impl Model for Piece {
     ghost use Rattle.std.specs.Prelude.{◌≤◌, List, ℕ, length, vec_capacity};
-    ghost use Rattle.paw_base.specs.declared.piece.TheConstants.{PIECE_LIMIT};
+    ghost use Rattle.paw_base.specs.Piece.{piece_limit};
 
     ghost Value = { List ℕ };
 
     ghost view = { λ p. p.text.items };
 
-    ghost invariant = { λ p. (length p.text.items ≤ PIECE_LIMIT) × (PIECE_LIMIT ≤ vec_capacity p.text) };
+    ghost invariant = { λ p. (length p.text.items ≤ piece_limit) × (piece_limit ≤ vec_capacity p.text) };
 }
 
 impl Piece {
@@ -63,8 +63,28 @@ impl Piece {
     /// The bytes, of which there are at most 65,535.
     pub fn bytes(&self) -> &[u8]
         ensures value { result.now ≡ self.now }
-        ensures fits { length self.now ≤ PIECE_LIMIT }
+        ensures fits { length self.now ≤ piece_limit }
     {
         self.text.as_slice()
+    }
+}
+
+#[cfg(test)]
+mod tests {
+    use super::*;
+    use std::test::Fail;
+
+    #[test]
+    fn a_piece_takes_65_535_bytes_and_no_more(rt: HostRuntime) -> Result<(), Fail> {
+        let full = vec![in rt.alloc(); b'x'; 65_535]?;
+        let mut piece = Piece::new(rt.alloc())?;
+        assert!(rt; piece.push(b"ab") && piece.push(b"") && piece.push(b"c"));
+        assert_eq!(rt; piece.bytes(), b"abc".as_slice());
+        assert!(rt; !piece.push(full.as_slice()));
+        assert_eq!(rt; piece.bytes(), b"abc".as_slice());
+        piece.clear();
+        assert!(rt; piece.push(full.as_slice()) && piece.push(b"") && !piece.push(b"y"));
+        assert_eq!(rt; piece.bytes(), full.as_slice());
+        Ok(())
     }
 }
