@@ -1,11 +1,11 @@
 -- One byte more of the line in work, and its end.
-use Rattle.std.proofs.Common.{◌≡◌, ◌≢◌, ◌≤◌, ◌<◌, ◌⊎◌, inl, inr, ℕ, ◌+◌, ◌-◌, Bool, true, false, List, [], ◌∷◌, ◌++◌, length, take, set, suc, min, nat_lt, refl, sym, ap, ◌∙◌, subst, arith, length-append}
+use Rattle.std.proofs.Common.{◌≡◌, ◌≢◌, ◌≤◌, ◌<◌, ◌⊎◌, inl, inr, ℕ, ◌+◌, ◌-◌, Bool, true, false, List, [], ◌∷◌, ◌++◌, length, take, set, suc, min, nat_lt, sym, ap, ◌∙◌, arith, length-append}
 use Rattle.std.specs.Prelude.{Option, Some, None, IfSome, if◌then◌else◌, ◌==◌}
 use Rattle.std.specs.Io.KnownBytes.{Consumes, IsAtEnd}
-use Rattle.std.specs.Io.BufRead.{ends_with_byte, strip_last, first_line, drop_through}
+use Rattle.std.specs.Io.BufRead.{strip_last, first_line, drop_through}
 use Rattle.std.proofs.lemmas.List.{take_all, take-append-le, take-take, length-take, append-nil}
 use Rattle.std.proofs.Math.Seq.{take-suc-set}
-use Rattle.paw_stage.specs.Input.{HasNoEnd, Gathers, GathersLine}
+use Rattle.paw_stage.specs.Input.{Gathers, GathersLine}
 use Rattle.paw_stage.proofs.Consumed.{Consumes_on}
 use Rattle.paw_stage.proofs.FirstLine.{HasNoEnd-push, ends_with_byte-push, drop_through-end, drop_through-whole, first_line-end, first_line-whole}
 

@@ -1,11 +1,11 @@
 -- One more call in a record of calls.
-use Rattle.std.proofs.Common.{◌≡◌, ◌≤◌, ◌<◌, ℕ, ◌+◌, ◌-◌, List, [], ◌∷◌, ◌++◌, length, take, drop, map, get_or, zero, suc, refl, sym, ap, ◌∙◌, arith, append_assoc, length-append}
-use Rattle.std.specs.Prelude.{slice_range, fold}
+use Rattle.std.proofs.Common.{◌≡◌, ◌≤◌, ◌<◌, ℕ, ◌+◌, ◌-◌, List, [], ◌∷◌, ◌++◌, length, take, drop, get_or, zero, suc, refl, sym, ap, ◌∙◌, arith, append_assoc, length-append}
+use Rattle.std.specs.Prelude.{slice_range}
 use Rattle.std.proofs.Math.Seq.{take-append_seam, drop-append_seam, take-length}
-use Rattle.std.proofs.lemmas.List.{take-append-le, drop-append-le, length-drop, map-append, take_more}
+use Rattle.std.proofs.lemmas.List.{take-append-le, drop-append-le, length-drop, map-append}
 use Rattle.std.proofs.lemmas.List.Sums.{fold-append}
 use Rattle.paw_stage.specs.Stage.{Standing}
-use Rattle.paw_stage.specs.Done.{Done, fresh, step, after}
+use Rattle.paw_stage.specs.Done.{Done, step, after}
 use Rattle.paw_stage.specs.Log.{done_in, all_done, AreLaid}
 use Rattle.paw_stage.specs.declared.log.Call.{Call}
 

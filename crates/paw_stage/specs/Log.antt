@@ -1,5 +1,5 @@
 -- A record of calls, kept in rooms that were taken beforehand.
-use Rattle.std.specs.Prelude.{◌≡◌, ℕ, ◌+◌, ◌-◌, ◌≤◌, nat_lt, nat_le, ◌&&◌, Bool, List, [], ◌∷◌, ◌++◌, length, map, slice_range}
+use Rattle.std.specs.Prelude.{◌≡◌, ℕ, ◌-◌, ◌≤◌, nat_lt, nat_le, ◌&&◌, Bool, List, [], ◌∷◌, ◌++◌, map, slice_range}
 use Rattle.paw_stage.specs.Done.{Done, size_of}
 use Rattle.paw_stage.specs.declared.log.Call.{Call}
 

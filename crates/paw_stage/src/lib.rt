@@ -9,6 +9,8 @@ mod log;
 mod memory;
 mod real;
 mod streams;
+#[cfg(test)]
+mod tests;
 
 pub use failing::FailStage;
 pub use faults::FaultCounts;

@@ -1,4 +1,4 @@
-use Rattle.std.proofs.Common.{◌≡◌, ◌+◌, length, arith}
+use Rattle.std.proofs.Common.{◌≡◌, length, arith}
 use Rattle.paw_stage.specs.declared.log.Call.{Call}
 use Rattle.paw_stage.proofs.Logs.{all_done-push, laid-push}
 use Rattle.paw_stage.proofs.log.record_call.Goals as goal

@@ -1,6 +1,4 @@
-use Rattle.std.proofs.Common.{◌≡◌, ◌∷◌, [], ◌<◌, length, refl, ◌∙◌, arith}
-use Rattle.std.specs.Io.KnownBytes.{Consumes, IsAtEnd}
-use Rattle.paw_stage.specs.Input.{unread}
+use Rattle.std.proofs.Common.{refl, ◌∙◌, arith}
 use Rattle.paw_stage.proofs.Gathered.{gathers_more, gathered_whole, gathered_end}
 use Rattle.paw_stage.proofs.input.LineReader.gather.Goals as goal
 
