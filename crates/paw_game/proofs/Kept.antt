@@ -1,11 +1,13 @@
--- What the rules say of what a valid game holds at a number.
-use Rattle.std.proofs.Common.{◌≡◌, ℕ, zero, suc, ◌+◌, ◌-◌, ◌<◌, ◌≤◌, ◌==◌, ◌&&◌, ◌||◌, Bool, true, false, Bor, List, [], ◌∷◌, length, drop, Option, Some, None, IfSome, IsTrue, nat_le, nat_lt, refl, sym, ap, ◌∙◌, inl, inr, zero-add, suc-add, arith, if◌then◌else◌}
+-- What the rules say of the objects, texts, exits and entries of a valid game.
+use Rattle.std.proofs.Common.{◌≡◌, ℕ, zero, suc, ◌+◌, ◌-◌, ◌<◌, ◌≤◌, ◌==◌, ◌&&◌, ◌||◌, Bool, true, false, not, Bor, List, [], ◌∷◌, length, drop, Option, Some, None, IfSome, IsTrue, nat_le, nat_lt, refl, sym, ap, ◌∙◌, inl, inr, zero-add, suc-add, arith, if◌then◌else◌}
 use Rattle.std.specs.Prelude.{slice_get}
-use Rattle.std.specs.List.{list_all}
+use Rattle.std.specs.List.{All, list_all, slice_index_or}
 use Rattle.std.specs.Option.{option_copied}
 use Rattle.std.specs.Str.{bytes_eq}
-use Rattle.std.proofs.lemmas.Option.{none-some, same_Some, slice_get_within}
-use Rattle.std.proofs.lemmas.Bool.{and_parts, cases_Bool, leb-true, ltb-true}
+use Rattle.std.proofs.lemmas.Option.{none-some, same_Some, slice_get_within, slice_get_past}
+use Rattle.std.proofs.lemmas.Bool.{and_parts, cases_lt, leb-true, ltb-true}
+use Rattle.std.proofs.lemmas.Bool.Decides.{nat_tests}
+use Rattle.paw_base.specs.Condacts.{first_kind, second_kind}
 use Rattle.paw_base.specs.declared.parts.Condact.{Condact}
 use Rattle.paw_base.specs.declared.parts.ObjectFacts.{ObjectFacts}
 use Rattle.paw_game.specs.declared.parts.Word.{Word}
@@ -15,7 +17,7 @@ use Rattle.paw_game.specs.declared.parts.Entry.{Entry}
 use Rattle.paw_game.specs.declared.parts.GamePart.{GamePart}
 use Rattle.paw_game.specs.declared.parts.GamePart.TheVariants as part
 use Rattle.paw_game.specs.Game.{GameLists}
-use Rattle.paw_game.specs.Valid.{Valid, are_exits, are_facts, is_condact, is_entry, is_exits, is_object, is_place, is_table, is_text, is_word, is_word_or_none, is_verb_value, is_within, is_any, are_letters, has_word, words_rise}
+use Rattle.paw_game.specs.Valid.{Valid, begins_no_line, is_parameter, is_printed, is_text_byte, are_exits, are_facts, is_condact, is_entry, is_exits, is_object, is_place, is_table, is_text, is_word, is_word_or_none, is_verb_value, is_within, is_any, are_letters, has_word, words_rise}
 use Rattle.paw_game.specs.Tables.{condact_at, condacts_of, entry_at, exit_at, exit_of, facts_at, facts_of, first_match, head_at, head_of, match_at, matches, matches_at, or_empty, table_at, text_at, text_of, word_of, word_at, meaning_of}
 
 -- ---- tests
@@ -36,32 +38,18 @@ pub IfSome-copied : {X : Type 0} (P : X → Type 0) (r : Option (Bor X)) (o : Op
 IfSome-copied P None o e h = tt
 IfSome-copied P (Some x) o e h = h x.now (sym e)
 
--- ---- how many rows there are
-
-pub few_words : (g : GameLists) → Valid g → length g.words ≤ 2000
-few_words g v = leb-true (length g.words) 2000 (first_of_and _ _ v.words)
-
-pub few_system : (g : GameLists) → Valid g → length g.system ≤ 256
-few_system g v = leb-true (length g.system) 256 (first_of_and _ _ v.system)
-
-pub few_messages : (g : GameLists) → Valid g → length g.messages ≤ 256
-few_messages g v = leb-true (length g.messages) 256 (first_of_and _ _ v.messages)
-
-pub few_objects : (g : GameLists) → Valid g → length g.objects ≤ 255
-few_objects g v = leb-true (length g.objects) 255 (first_of_and _ _ v.objects)
-
-pub few_locations : (g : GameLists) → Valid g → length g.locations ≤ 252
-few_locations g v = leb-true (length g.locations) 252 (first_of_and _ _ (second_of_and (nat_le 1 (length g.locations)) _ v.locations))
-
-pub some_location : (g : GameLists) → Valid g → 1 ≤ length g.locations
-some_location g v = leb-true 1 (length g.locations) (first_of_and (nat_le 1 (length g.locations)) _ v.locations)
-
 -- ---- rows
 
 pub list_all-at : {X : Type 0} (rule : X → Bool) (xs : List X) (i : ℕ) (x : X) → IsTrue (list_all rule xs) → slice_get xs i ≡ Some x → IsTrue (rule x)
 list_all-at rule [] i x h e = absurd (none-some x e)
 list_all-at rule (y ∷ ys) zero x h e = rw (← same_Some y x e) (first_of_and (rule y) _ h)
 list_all-at rule (y ∷ ys) (suc i) x h e = list_all-at rule ys i x (second_of_and (rule y) _ h) e
+
+-- a number within the list has a row
+pub row_at : {X : Type 0} (xs : List X) (i : ℕ) → i < length xs → (x : X) × (slice_get xs i ≡ Some x)
+row_at [] i h = absurd (omega arith)
+row_at (x ∷ xs) zero h = (x, refl)
+row_at (x ∷ xs) (suc i) h = row_at xs i (omega arith)
 
 -- ---- objects
 
@@ -111,6 +99,19 @@ text_kept g v part.Tables n t e = absurd (none-some t e)
 
 pub text-short : (t : List ℕ) → IsTrue (is_text t) → length t ≤ 4095
 text-short t h = leb-true (length t) 4095 (first_of_and _ _ h)
+
+printed_byte : (b : ℕ) → IsTrue (is_text_byte b) → b < 256
+printed_byte b h = grind (arith, nat_tests)
+
+printed-bytes : (first : Bool) (bs : List ℕ) (k d : ℕ) → IsTrue (is_printed first bs) → k < length bs → slice_index_or bs k d < 256
+printed-bytes first [] k d h l = absurd (omega arith)
+printed-bytes first (b ∷ bs) zero d h l =
+    printed_byte b (first_of_and (is_text_byte b) _ (first_of_and _ (is_printed (b == 10) bs) h))
+printed-bytes first (b ∷ bs) (suc k) d h l =
+    printed-bytes (b == 10) bs k d (second_of_and (is_text_byte b && not (first && begins_no_line b)) _ h) (omega arith)
+
+pub text-bytes : (t : List ℕ) → IsTrue (is_text t) → All (λ b. b < 256) t
+text-bytes t h = λ k d high. printed-bytes true t k d (second_of_and (nat_le (length t) 4095) _ h) high
 
 -- ---- exits
 
@@ -195,89 +196,43 @@ head-small g v t e h i =
     let at = head_of-Some (entry_at g t e) h i in
     entry-small g v t e at.0 at.1
 
--- ---- matching entries
+-- ---- where entries and condacts end
 
--- the entry that is found is one of these, and matches
-pub record IsFound (verb noun from : ℕ) (es : List Entry) (e : ℕ) : Type 0 where
-  pub reached : from ≤ e
-  pub entry : Entry
-  pub is : slice_get es (e - from) ≡ Some entry
-  pub matching : IsTrue (matches verb noun entry)
+pub head-within : (g : GameLists) (t e : ℕ) (h : ℕ × ℕ) → head_at g t e ≡ Some h → e < length (table_at g t)
+head-within g t e h i =
+    let at = head_of-Some (entry_at g t e) h i in
+    slice_get_within (table_at g t) e at.0 at.1
 
-found_here : (verb noun from : ℕ) (en : Entry) (es : List Entry) (e : ℕ) → IsTrue (matches verb noun en) → from ≡ e → IsFound verb noun from (en ∷ es) e
-found_here verb noun from en es e m h =
-    let first : e - from ≡ 0 = omega arith in
-    record { reached = omega arith; entry = en; is = rw first refl; matching = m }
+pub head-past : (g : GameLists) (t e : ℕ) → length (table_at g t) ≤ e → head_at g t e ≡ None
+head-past g t e h = rw (slice_get_past (table_at g t) e h) refl
 
-found_later : (verb noun from : ℕ) (en : Entry) (es : List Entry) (e : ℕ) → IsFound verb noun (suc from) es e → IsFound verb noun from (en ∷ es) e
-found_later verb noun from en es e f =
-    let later : e - from ≡ suc (e - suc from) = omega (arith, f.reached) in
-    record { reached = omega (arith, f.reached); entry = f.entry; is = rw later f.is; matching = f.matching }
-
-pub first_match-found : (verb noun from : ℕ) (es : List Entry) (e : ℕ) → first_match verb noun from es ≡ Some e → IsFound verb noun from es e
-first_match-found verb noun from [] e h = absurd (none-some e h)
-first_match-found verb noun from (en ∷ es) e h =
-    elim (cases_Bool (matches verb noun en)) [
-      | inl m ↦ found_here verb noun from en es e m (same_Some from e (rw m at h))
-      | inr m ↦ found_later verb noun from en es e (first_match-found verb noun (suc from) es e (rw m at h))
+pub head-none : (g : GameLists) (t e : ℕ) → head_at g t e ≡ None → length (table_at g t) ≤ e
+head-none g t e h =
+    elim (cases_lt e (length (table_at g t))) [
+      | inl l ↦ let at = row_at (table_at g t) e l in absurd (none-some (at.0.verb, at.0.noun) (sym h ∙ rw at.1 refl))
+      | inr l ↦ l
     ]
 
-slice_get-drop : {X : Type 0} (n : ℕ) (xs : List X) (k : ℕ) → slice_get (drop n xs) k ≡ slice_get xs (n + k)
-slice_get-drop zero xs k = rw zero-add refl
-slice_get-drop (suc n) [] k = refl
-slice_get-drop (suc n) (x ∷ xs) k = slice_get-drop n xs k ∙ rw suc-add refl
+pub condact-within : (g : GameLists) (t e k : ℕ) (c : Condact) → condact_at g t e k ≡ Some c → k < length (condacts_of (entry_at g t e))
+condact-within g t e k c h = slice_get_within (condacts_of (entry_at g t e)) k c h
 
-pub match-is : (g : GameLists) (t from verb noun e : ℕ) → match_at g t from verb noun ≡ Some e → (from ≤ e) × ((en : Entry) × (entry_at g t e ≡ Some en) × IsTrue (matches verb noun en))
-match-is g t from verb noun e h =
-    let f = first_match-found verb noun from (drop from (table_at g t)) e h in
-    let place : from + (e - from) ≡ e = omega (arith, f.reached) in
-    (f.reached, (f.entry, (rw (slice_get-drop from (table_at g t) (e - from), place) at f.is), f.matching))
+pub condact-past : (g : GameLists) (t e k : ℕ) → length (condacts_of (entry_at g t e)) ≤ k → condact_at g t e k ≡ None
+condact-past g t e k h = slice_get_past (condacts_of (entry_at g t e)) k h
 
-pub match-small : (g : GameLists) → Valid g → (t from verb noun e : ℕ) → match_at g t from verb noun ≡ Some e → e < 4000
-match-small g v t from verb noun e h =
-    let f = match-is g t from verb noun e h in
-    entry-small g v t e f.1.0 f.1.1
+pub condact-none : (g : GameLists) (t e k : ℕ) → condact_at g t e k ≡ None → length (condacts_of (entry_at g t e)) ≤ k
+condact-none g t e k h =
+    elim (cases_lt k (length (condacts_of (entry_at g t e)))) [
+      | inl l ↦ let at = row_at (condacts_of (entry_at g t e)) k l in absurd (none-some at.0 (sym h ∙ at.1))
+      | inr l ↦ l
+    ]
 
-pub match-matches : (g : GameLists) (t from verb noun e : ℕ) → match_at g t from verb noun ≡ Some e → IsTrue (matches_at g t e verb noun)
-match-matches g t from verb noun e h =
-    let f = match-is g t from verb noun e h in
-    rw f.1.1 f.1.2
+-- ---- the parts of a condact
 
--- ---- words
+pub condact-code : (g : GameLists) (c : Condact) → IsTrue (is_condact g c) → c.code ≤ 107
+condact-code g c h = leb-true c.code 107 (first_of_and (nat_le c.code 107) _ h)
 
-word_step : (b : Bool) (here w : Word) (later : Option Word) → IsTrue (is_word here) → (later ≡ Some w → IsTrue (is_word w)) → (if b then Some here else later) ≡ Some w → IsTrue (is_word w)
-word_step true here w later h k e = rw (← same_Some here w e) h
-word_step false here w later h k e = k e
+pub condact-first : (g : GameLists) (c : Condact) → IsTrue (is_condact g c) → IsTrue (is_parameter g (first_kind c.code) c.a)
+condact-first g c h = first_of_and (is_parameter g (first_kind c.code) c.a) _ (second_of_and (nat_le c.code 107) _ h)
 
-word_in : (letters : List ℕ) (ws : List Word) (w : Word) → IsTrue (list_all is_word ws) → word_of letters ws ≡ Some w → IsTrue (is_word w)
-word_in letters [] w h e = absurd (none-some w e)
-word_in letters (x ∷ xs) w h e =
-    word_step (bytes_eq x.letters letters) x w (word_of letters xs) (first_of_and (is_word x) _ h)
-    (word_in letters xs w (second_of_and (is_word x) _ h)) e
-
-pub word_kept : (g : GameLists) → Valid g → (letters : List ℕ) (w : Word) → word_of letters g.words ≡ Some w → IsTrue (is_word w)
-word_kept g v letters w e = word_in letters g.words w (first_of_and _ (words_rise g.words) (second_of_and (nat_le (length g.words) 2000) _ v.words)) e
-
-meaning_of-Some : (o : Option Word) (m : ℕ × ℕ) → meaning_of o ≡ Some m → (w : Word) × (o ≡ Some w) × (w.value ≡ m.0) × (w.class ≡ m.1)
-meaning_of-Some None m e = absurd (none-some m e)
-meaning_of-Some (Some w) m e = (w, refl, ap (λ p. p.0) (same_Some _ m e), ap (λ p. p.1) (same_Some _ m e))
-
--- what a word means: a value from 2 to 254, and a class up to 6
-pub record IsMeaning (m : ℕ × ℕ) : Type 0 where
-  pub low : 2 ≤ m.0
-  pub high : m.0 ≤ 254
-  pub class : m.1 ≤ 6
-
-pub meaning_kept : (g : GameLists) → Valid g → (letters : List ℕ) (m : ℕ × ℕ) → word_at g letters ≡ Some m → IsMeaning m
-meaning_kept g v letters m e =
-    let at = meaning_of-Some (word_of letters g.words) m e in
-    let kept = second_of_and (are_letters at.0.letters) _ (word_kept g v letters at.0 at.1) in
-    let value = first_of_and (is_within 2 254 at.0.value) (nat_le at.0.class 6) kept in
-    record {
-      low = rw (← at.2) (leb-true 2 at.0.value (first_of_and (nat_le 2 at.0.value) _ value));
-      high = rw (← at.2) (leb-true at.0.value 254 (second_of_and (nat_le 2 at.0.value) _ value));
-      class = rw (← at.3) (leb-true at.0.class 6 (second_of_and (is_within 2 254 at.0.value) _ kept));
-    }
-
-pub rising : (g : GameLists) → Valid g → IsTrue (words_rise g.words)
-rising g v = second_of_and (list_all is_word g.words) _ (second_of_and (nat_le (length g.words) 2000) _ v.words)
+pub condact-second : (g : GameLists) (c : Condact) → IsTrue (is_condact g c) → IsTrue (is_parameter g (second_kind c.code) c.b)
+condact-second g c h = second_of_and (is_parameter g (first_kind c.code) c.a) _ (second_of_and (nat_le c.code 107) _ h)

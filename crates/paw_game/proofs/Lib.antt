@@ -1,4 +1,7 @@
+pub mod Counts
 pub mod Faults
 pub mod Kept
+pub mod Matches
+pub mod Meanings
 pub mod Search
 pub mod TableOfValues

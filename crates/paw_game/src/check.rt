@@ -5,6 +5,7 @@ ghost use Rattle.std.specs.Result.{result_err};
 ghost use Rattle.paw_game.specs.Fault.{fault_in, game_fault};
 
 use crate::inspector::Inspector;
+use crate::limits::{LOCATION_LEAST, LOCATION_LIMIT, MESSAGE_LIMIT, SYSTEM_LIMIT};
 use crate::parts::{GameFault, GamePart, GameParts};
 use crate::texts::texts_fault;
 use crate::words::words_fault;
@@ -15,20 +16,14 @@ pub(crate) fn check(parts: &GameParts) -> Result<(), GameFault>
     ensures value { result_err result ≡ game_fault parts.now }
 {
     let inspector = Inspector::new(parts);
+    let system = texts_fault(0, SYSTEM_LIMIT, parts.system.as_slice());
+    let messages = texts_fault(0, MESSAGE_LIMIT, parts.messages.as_slice());
+    let locations = texts_fault(LOCATION_LEAST, LOCATION_LIMIT, parts.locations.as_slice());
     within(GamePart::Words, words_fault(parts.words.as_slice()))?;
-    within(
-        GamePart::System,
-        texts_fault(0, 256, parts.system.as_slice()),
-    )?;
-    within(
-        GamePart::Messages,
-        texts_fault(0, 256, parts.messages.as_slice()),
-    )?;
+    within(GamePart::System, system)?;
+    within(GamePart::Messages, messages)?;
     within(GamePart::Objects, inspector.objects_fault())?;
-    within(
-        GamePart::Locations,
-        texts_fault(1, 252, parts.locations.as_slice()),
-    )?;
+    within(GamePart::Locations, locations)?;
     within(GamePart::Exits, inspector.exits_fault())?;
     within(GamePart::Tables, inspector.tables_fault())
 }

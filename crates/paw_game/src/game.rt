@@ -32,18 +32,16 @@ impl Game {
     /// The game of these lists. Takes no memory, and hands nothing back with a refusal.
     ///
     /// # Errors
-    /// A GameFault exactly where the lists break a rule: the first part in the order of `GamePart` that does, and its
-    /// first row that does. A part with too many rows names its limit, one with too few its length.
+    /// A GameFault exactly where the lists break a rule: the first part in the order of `GamePart` that does, with its
+    /// limit where it has too many rows, its length where it has too few, and else its least row that breaks a rule.
     pub fn new(parts: GameParts) -> Result<Game, GameFault>
         ensures game { IfOk result (λ game. game ≡ parts) }
         ensures valid { OnOk result (Valid parts) }
         ensures fault { IfErr result (λ fault. game_fault parts ≡ Some fault) }
         ensures refused { OnErr result (¬ Valid parts) }
     {
-        match check(&parts) {
-            Err(fault) => Err(fault),
-            Ok(()) => Ok(Game { parts }),
-        }
+        check(&parts)?;
+        Ok(Game { parts })
     }
 
     /// The seven lists.

@@ -6,26 +6,15 @@ ghost use Rattle.paw_game.specs.Fault.{exits_fault, first_bad, objects_fault, ta
 ghost use Rattle.paw_game.specs.Valid.{are_exits, are_facts, is_any, is_condact, is_entry, is_exits, is_object, is_parameter, is_place, is_table, is_verb_value};
 ghost use Rattle.paw_game.specs.Values.{Tells};
 
+use crate::limits::{
+    CONDACT_LIMIT, ENTRY_LIMIT, EXIT_LIMIT, OBJECT_LIMIT, TABLE_LEAST, TABLE_LIMIT, WEIGHT_LIMIT,
+};
 use crate::parts::{Entry, Exit, Exits, GameParts, ObjectRow, Table, Word};
 use crate::rows::row_fault;
 use crate::texts::is_text;
 use paw_base::parts::{Condact, ObjectFacts};
 use paw_base::rows::{ParamKind, condact_row};
 use std::marker::Model;
-
-/// The most objects, the least and the most tables of a game.
-const OBJECT_LIMIT: usize = 255;
-
-const TABLE_LEAST: usize = 3;
-
-const TABLE_LIMIT: usize = 256;
-
-/// The most exits of a location, entries of a table, and condacts of an entry.
-const EXIT_LIMIT: usize = 255;
-
-const ENTRY_LIMIT: usize = 4000;
-
-const CONDACT_LIMIT: usize = 255;
 
 /// A game's lists, and which values its words have, by class. Contracts see the lists.
 #[derive(Drop)]
@@ -46,7 +35,11 @@ impl<'a> Model for Inspector<'a> {
 
     ghost view = { λ i. i.parts.now };
 
-    ghost invariant = { λ i. Tells i.verbs i.parts.now.words 0 × Tells i.adverbs i.parts.now.words 1 × Tells i.nouns i.parts.now.words 2 × Tells i.adjectives i.parts.now.words 3 × Tells i.prepositions i.parts.now.words 4 };
+    ghost invariant = { λ i. Tells i.verbs i.parts.now.words 0
+        × Tells i.adverbs i.parts.now.words 1
+        × Tells i.nouns i.parts.now.words 2
+        × Tells i.adjectives i.parts.now.words 3
+        × Tells i.prepositions i.parts.now.words 4 };
 }
 
 impl<'a> Inspector<'a> {
@@ -76,7 +69,7 @@ impl<'a> Inspector<'a> {
         is_in_or_none(&self.nouns, facts.noun)
             && is_in_or_none(&self.adjectives, facts.adjective)
             && self.is_place(facts.start)
-            && facts.weight <= 63
+            && facts.weight <= WEIGHT_LIMIT
     }
 
     fn is_place(&self, place: u8) -> bool

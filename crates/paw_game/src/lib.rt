@@ -4,9 +4,12 @@
 mod check;
 pub mod game;
 mod inspector;
+pub mod limits;
 mod lookup;
 pub mod parts;
 mod rows;
 pub mod tables;
+#[cfg(test)]
+mod tests;
 mod texts;
 mod words;

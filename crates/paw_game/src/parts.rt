@@ -134,8 +134,8 @@ pub enum GamePart {
     Tables,
 }
 
-/// The first part of a game, in the order of `GamePart`, that breaks a rule, and its least row that does. A part with
-/// too many rows names its limit, one with too few its length.
+/// The first part of a game, in the order of `GamePart`, that breaks a rule. The row is the part's limit where it has
+/// too many rows, its length where it has too few, and else its least row that breaks a rule.
 #[derive(Clone, Copy, Drop, PartialEq, Eq, Debug)]
 pub struct GameFault {
     pub part: GamePart,

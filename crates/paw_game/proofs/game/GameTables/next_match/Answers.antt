@@ -1,5 +1,5 @@
 use Rattle.std.proofs.Common.{arith, sym}
-use Rattle.paw_game.proofs.Kept.{match-is, match-matches, match-small}
+use Rattle.paw_game.proofs.Matches.{match-is, match-matches, match-small}
 use Rattle.paw_game.proofs.game.GameTables.next_match.Goals as goal
 
 pub overflow_cast-result : goal.overflow_cast-result

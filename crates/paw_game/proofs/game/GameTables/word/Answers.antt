@@ -1,5 +1,6 @@
 use Rattle.std.proofs.Common.{◌≤◌}
-use Rattle.paw_game.proofs.Kept.{IfSome-from, meaning_kept}
+use Rattle.paw_game.proofs.Kept.{IfSome-from}
+use Rattle.paw_game.proofs.Meanings.{meaning_kept}
 use Rattle.paw_game.proofs.game.GameTables.word.Goals as goal
 
 pub returns-clause-low : goal.returns-clause-low
