@@ -5,7 +5,7 @@ use Rattle.std.proofs.lemmas.List.{length-set, length-map, length-take-le, get_o
 use Rattle.std.proofs.lemmas.Bool.{cases_eq}
 use Rattle.std.proofs.lemmas.Bool.Decides.{nat_tests}
 use Rattle.paw_base.specs.declared.parts.ObjectFacts.{ObjectFacts}
-use Rattle.paw_world.specs.World.{World, Position, flag, with_flag, place, with_place, flags_with, opened, restarted, let_go, taken_up, moved, ramsaved, ramloaded, taken_from, drawn_on, IsSavedFor, IsWorld}
+use Rattle.paw_world.specs.World.{World, Position, flag, with_flag, place, with_place, flags_with, first_carried, opening_places, with_objects_returned, opened, restarted, let_go, taken_up, moved, ramsaved, ramloaded, taken_from, drawn_on, IsSavedFor, IsWorld}
 
 -- ---- a flag that was given a value
 pub flag-with_flag_same : (w : World) (f x : ℕ) → IsWorld w → f < 256 → flag (with_flag w f x) f ≡ x
@@ -94,6 +94,11 @@ IsWorld-restarted w sound =
       flags = length-flags_with _;
       saved = let P : ℕ → Type 0 = λ n. IsSavedFor n w.saved in subst P (sym (same ∙ sound.facts)) sound.saved;
     }
+
+pub IsWorld-with_objects_returned : (w : World) → IsWorld w → IsWorld (with_objects_returned w)
+IsWorld-with_objects_returned w sound =
+    same_count (with_flag w 1 (first_carried w.facts)) (opening_places w.facts) (length-map w.facts (λ (f : ObjectFacts). f.start) ∙ sound.facts)
+    (IsWorld-with_flag w 1 (first_carried w.facts) sound)
 
 -- ---- an object that was moved, and the others
 places-let_go : (w : World) (p : ℕ) → (let_go w p).places ≡ w.places

@@ -68,6 +68,10 @@ opened facts locations seed = record {
 abbrev pub restarted : World → World
 restarted w = record w { flags = opening_flags w.facts; places = opening_places w.facts }
 
+-- all objects go back to where they begin, and flag 1 counts those that begin carried; the other flags stay
+abbrev pub with_objects_returned : World → World
+with_objects_returned w = record w { flags = slice_set w.flags 1 (first_carried w.facts); places = opening_places w.facts }
+
 -- the current location is one of the game's
 abbrev pub is_somewhere : World → Bool
 is_somewhere w = nat_lt (flag w 38) w.locations

@@ -128,6 +128,9 @@ fn the_least_object_at_a_place(rt: HostRuntime) {
     assert_eq!(rt; world.first_at(3, Some(199)), None);
     assert_eq!(rt; world.first_at(254, Some(63)), Some(65));
     assert_eq!(rt; world.first_at(254, Some(255)), None);
+    world.return_objects();
+    assert_eq!(rt; world.first_at(3, None), None);
+    assert_eq!(rt; world.flag(flags::CARRIED), 200);
 }
 
 #[test]

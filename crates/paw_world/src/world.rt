@@ -2,7 +2,7 @@
 
 ghost use Rattle.std.specs.Prelude.{◌≡◌, ◌+◌, ◌-◌, ◌^◌, ◌<◌, ◌≤◌, length, take, slice_get, is_some, IsSome, IfSome};
 ghost use Rattle.paw_world.specs.Draws.{word};
-ghost use Rattle.paw_world.specs.World.{opened, flag, with_flag, place, moved, first_at, ramsaved, ramloaded, saved_flag, saved_place, restarted, drawn_on, first_carried, opening_flags, IsWorld};
+ghost use Rattle.paw_world.specs.World.{opened, flag, with_flag, place, moved, first_at, ramsaved, ramloaded, saved_flag, saved_place, restarted, with_objects_returned, drawn_on, first_carried, opening_flags, IsWorld};
 ghost use Rattle.paw_world.specs.Weight.{weight, weight_down, weight_with, carried_weight};
 
 use crate::draws::Draws;
@@ -253,6 +253,17 @@ impl World {
         let objects = self.places.count() as usize;
         let facts = &self.facts[..objects];
         self.flags = opening_flags(facts);
+        self.places = Places::opening(facts);
+    }
+
+    /// Puts all objects back to where they begin. Flag 1 becomes the number of those that begin carried; the other flags
+    /// stay.
+    pub fn return_objects(&mut self)
+        ensures change { self.new ≡ with_objects_returned self.old }
+    {
+        let objects = self.places.count() as usize;
+        let facts = &self.facts[..objects];
+        self.flags[flags::CARRIED as usize] = first_carried(facts);
         self.places = Places::opening(facts);
     }
 
