@@ -1,7 +1,7 @@
 // What the conditions test, and what the actions do.
 
 ghost use Rattle.std.specs.Prelude.{◌≡◌, ◌+◌, ◌-◌, ◌<◌, ◌≤◌, ◌^◌, ◌++◌, true, false, [], length};
-ghost use Rattle.paw_base.specs.declared.piece.TheConstants.{PIECE_LIMIT};
+ghost use Rattle.paw_base.specs.Piece.{piece_limit};
 ghost use Rattle.paw_game.specs.Valid.{is_condact};
 ghost use Rattle.paw_effects.specs.Built.{is_built, IsOf};
 ghost use Rattle.paw_effects.specs.Holds.{is_condition, holds, truth_of};
@@ -61,7 +61,7 @@ fn on(effect: Effect) -> Act
 // Nothing is printed: the piece holds what it held, which fits.
 fn print_nothing(piece: &Piece)
     ensures same { piece.now ≡ piece.now ++ [] }
-    ensures fits { length piece.now + 0 ≤ PIECE_LIMIT }
+    ensures fits { length piece.now + 0 ≤ piece_limit }
 {
     let _ = piece.bytes();
 }
