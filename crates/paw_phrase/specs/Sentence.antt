@@ -44,8 +44,8 @@ with_pronoun s =
     if is_absent s.noun then record s { noun = s.pronoun_noun; adjective = s.pronoun_adjective } else
     if is_absent s.second_noun then record s { second_noun = s.pronoun_noun; second_adjective = s.pronoun_adjective } else s
 
--- A word of this value and class is added: a verb (0), an adverb (1) or a preposition (4) where there is none yet, a noun
--- (2), an adjective (3) or a pronoun (6). A conjunction (5) is in no phrase.
+-- A word of this value and class is added: a verb (0), an adverb (1) or a preposition (4) where there is none yet, a
+-- noun (2), an adjective (3) or a pronoun (6). A conjunction (5) is in no phrase.
 abbrev pub with_word : ℕ → ℕ → Sentence → Sentence
 with_word value class s =
     if class == 0 then record s { verb = or_value s.verb value } else
@@ -73,7 +73,7 @@ abbrev pub has_known : GameLists → List (List ℕ) → Bool
 has_known g [] = false
 has_known g (token ∷ tokens) = is_known (word_at g token) || has_known g tokens
 
--- where there is no verb, a first noun below 20 stands for it, and else the verb of the phrase before
+-- where there is no verb, a first noun below 20 stands for it, and else the verb of the sentence before
 abbrev pub with_verb : ℕ → Sentence → Sentence
 with_verb earlier s =
     if is_absent s.verb then (if nat_lt s.noun 20 then record s { verb = s.noun } else record s { verb = earlier }) else s

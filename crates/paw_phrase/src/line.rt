@@ -9,8 +9,8 @@ use std::marker::Model;
 /// The most bytes that a line may have.
 pub const LINE_LIMIT: usize = 255;
 
-/// What is left of a line after the phrases that were taken from it, and the verb of the last one, which stands for a
-/// verb that is left out. Contracts see the bytes and that verb.
+/// What is left of a line after the phrases that were taken from it, and the verb of the last sentence, which stands
+/// for a verb that is left out. Contracts see the bytes and that verb.
 #[derive(Drop)]
 pub struct Pending {
     line: [u8; LINE_LIMIT],
@@ -44,7 +44,7 @@ impl Pending {
         }
     }
 
-    /// This line is pending, after a phrase with this verb (255: none).
+    /// This line is pending, after a sentence with this verb (255: none).
     pub fn of(line: &[u8], earlier: u8) -> Pending
         requires { length line.now ≤ LINE_LIMIT }
         ensures value { result ≡ record { bytes = line.now; earlier = earlier } }
@@ -82,7 +82,7 @@ impl Pending {
         &self.line[self.from..self.to]
     }
 
-    /// The verb of the phrase that was taken last, or 255.
+    /// The verb that stands for one that is left out: that of the sentence before, or 255 for none.
     pub fn earlier(&self) -> u8
         ensures value { result ≡ self.now.earlier }
     {
