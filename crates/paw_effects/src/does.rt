@@ -5,7 +5,7 @@ ghost use Rattle.paw_base.specs.Piece.{piece_limit};
 ghost use Rattle.paw_game.specs.Valid.{is_condact};
 ghost use Rattle.paw_effects.specs.Built.{is_built, IsOf};
 ghost use Rattle.paw_effects.specs.Holds.{is_condition, holds, truth_of};
-ghost use Rattle.paw_effects.specs.Effects.{effect_of, Does, referred};
+ghost use Rattle.paw_effects.specs.Effects.{effect_of, Does, referred, weight_class};
 
 use crate::act::{Act, Effect, Truth};
 use crate::text::message;
@@ -95,4 +95,31 @@ pub fn act<T: Tables>(tables: &T, world: &mut World, piece: &mut Piece, c: Conda
             }
         }
     }
+}
+
+/// Refers to an object: the flags 51 and 54 to 57 become its number, its place, its weight, and 128 where it is a
+/// container and where it may be worn, else 0.
+pub fn refer<T: Tables>(tables: &T, world: &mut World, o: u8)
+    requires game { IsOf (T.game tables.now) world.old }
+    requires object { o < length (T.game tables.now).objects }
+    ensures value { world.new ≡ referred world.old o }
+    ensures game { IsOf (T.game tables.now) world.new }
+    ensures draws { world.new.draws ≡ world.old.draws }
+{
+    let _ = tables;
+    let place = world.place(o);
+    world.set_flag(51, o);
+    world.set_flag(54, place);
+    let facts = world.facts(o);
+    let weight = world.weight(o);
+    world.set_flag(55, weight);
+    world.set_flag(56, class(facts.container));
+    world.set_flag(57, class(facts.wearable));
+}
+
+// What a flag says of whether an object is of a class.
+fn class(member: bool) -> u8
+    ensures { result ≡ weight_class member }
+{
+    if member { 128 } else { 0 }
 }
