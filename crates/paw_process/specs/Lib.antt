@@ -1,0 +1,7 @@
+pub mod OpenTables
+pub mod Meaning
+pub mod Moves
+pub mod Objects
+pub mod Phrases
+pub mod Work
+pub mod Running

@@ -1,0 +1,67 @@
+-- The tables that are open.
+use Rattle.std.specs.Prelude.{◌≡◌, ℕ, ◌<◌, ◌≤◌, List, [], ◌∷◌, Option, Some, None, length, IfSome}
+use Rattle.paw_effects.specs.declared.act.Prompt.{Prompt}
+use Rattle.paw_reading.specs.declared.places.Frame.{Frame}
+use Rattle.paw_reading.specs.declared.places.OpenLoop.{OpenLoop}
+
+-- what a machine holds: the places in the tables that are open, the innermost first; the open loop; the prompt at which
+-- it waits; and how many condacts the open piece may still read
+pub record OpenTables : Type 0 where
+  pub frames : List Frame
+  pub turning : Option OpenLoop
+  pub waiting : Option Prompt
+  pub left : ℕ
+
+-- the frames below the innermost
+abbrev pub below : List Frame → List Frame
+below [] = []
+below (f ∷ fs) = fs
+
+-- the frame stands at a condact
+pub record IsAtCondact (f : Frame) : Type 0 where
+  pub at : f.at < 255
+  pub entry : f.entry < 4000
+
+-- each of these frames stands at a condact
+abbrev pub AtCondacts : List Frame → Type 0
+AtCondacts [] = Unit {0}
+AtCondacts (f ∷ fs) = IsAtCondact f × AtCondacts fs
+
+-- the innermost frame stands before an entry, or in one
+abbrev pub InTable : List Frame → Type 0
+InTable [] = Unit {0}
+InTable (f ∷ fs) = 0 < f.at → f.entry < 4000
+
+-- the loop stands at a condact, and is one of these levels'
+pub record IsLoopIn (levels : ℕ) (l : OpenLoop) : Type 0 where
+  pub at : l.at < 255
+  pub entry : l.entry < 4000
+  pub level : l.level < levels
+
+abbrev pub LoopFits : ℕ → Option OpenLoop → Type 0
+LoopFits levels o = IfSome o (IsLoopIn levels)
+
+-- one to eleven tables are open, and each but the innermost stands at a condact
+pub record AreOpen (frames : List Frame) (turning : Option OpenLoop) : Type 0 where
+  pub some : 0 < length frames
+  pub depth : length frames ≤ 11
+  pub top : InTable frames
+  pub below : AtCondacts (below frames)
+  pub loop : LoopFits (length frames) turning
+
+-- the machine may read on
+pub record IsReading (m : OpenTables) : Type 0 where
+  pub tables : AreOpen m.frames m.turning
+  pub waiting : m.waiting ≡ None
+
+-- the machine waits at this prompt
+pub record IsWaiting (p : Prompt) (m : OpenTables) : Type 0 where
+  pub tables : AreOpen m.frames m.turning
+  pub condacts : AtCondacts m.frames
+  pub waiting : m.waiting ≡ Some p
+
+-- no table and no loop is open
+pub record IsClosed (m : OpenTables) : Type 0 where
+  pub frames : m.frames ≡ []
+  pub turning : m.turning ≡ None
+  pub waiting : m.waiting ≡ None

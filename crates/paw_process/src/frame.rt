@@ -1,0 +1,90 @@
+// Places in a table.
+
+ghost use Rattle.std.specs.Prelude.{◌≡◌, ◌+◌, ◌<◌, false, true, Some};
+ghost use Rattle.paw_process.specs.Moves.{after_quit, after_key, after_phrase};
+ghost use Rattle.paw_effects.specs.declared.act.Prompt.TheVariants as prompt;
+
+use paw_effects::act::Prompt;
+use paw_phrase::Found;
+use paw_reading::places::Frame;
+
+/// Past the last entry that a table may have.
+pub const PAST_ENTRIES: u16 = 4000;
+
+/// The start of a table.
+pub fn start_of(table: u8) -> Frame
+    ensures value { result ≡ record { table = table; entry = 0; at = 0; acted = false } }
+{
+    Frame {
+        table,
+        entry: 0,
+        at: 0,
+        acted: false,
+    }
+}
+
+/// The next condact.
+pub fn past(f: Frame, acted: bool) -> Frame
+    requires at { f.at < 255 }
+    ensures value { result ≡ record { table = f.table; entry = f.entry; at = f.at + 1; acted = acted } }
+{
+    Frame {
+        table: f.table,
+        entry: f.entry,
+        at: f.at + 1,
+        acted,
+    }
+}
+
+/// The next entry.
+pub fn next_entry(f: Frame) -> Frame
+    requires entry { f.entry < 4000 }
+    ensures value { result ≡ record { table = f.table; entry = f.entry + 1; at = 0; acted = f.acted } }
+{
+    Frame {
+        table: f.table,
+        entry: f.entry + 1,
+        at: 0,
+        acted: f.acted,
+    }
+}
+
+/// Past the table's last entry, with an action carried out: as DONE leaves the table.
+pub fn past_table(f: Frame) -> Frame
+    ensures value { result ≡ record { table = f.table; entry = 4000; at = 0; acted = true } }
+{
+    Frame {
+        table: f.table,
+        entry: PAST_ENTRIES,
+        at: 0,
+        acted: true,
+    }
+}
+
+/// Where reading goes on after an answer at this prompt: after QUIT at yes at the next condact, and at no past the
+/// table; after a key at the next condact, with an action carried out.
+pub fn answered(waiting: Option<Prompt>, f: Frame, yes: bool) -> Frame
+    requires at { f.at < 255 }
+    ensures quit { waiting ≡ Some prompt.Quit → result ≡ after_quit yes f }
+    ensures key { waiting ≡ Some prompt.Key → result ≡ after_key f }
+    ensures in_table { 0 < result.at → result.entry ≡ f.entry }
+{
+    match waiting {
+        Some(Prompt::Quit) if yes => past(f, f.acted),
+        Some(Prompt::Quit) => past_table(f),
+        _ => past(f, true),
+    }
+}
+
+/// Where reading goes on after PARSE: after a sentence at the next entry, else at the next condact.
+pub fn after_phrase(found: Found, f: Frame) -> Frame
+    requires at { f.at < 255 }
+    requires entry { f.entry < 4000 }
+    ensures value { result ≡ after_phrase found f }
+    ensures in_table { 0 < result.at → result.entry ≡ f.entry }
+{
+    match found {
+        Found::Sentence => next_entry(f),
+        Found::Nothing | Found::Empty => past(f, f.acted),
+    }
+}

@@ -1,0 +1,26 @@
+//! The machine that reads a game's tables in written order, from one stop to the next: calls of tables, the loop over
+//! objects, and the budget of condacts.
+#![tactic(auto)]
+
+mod frame;
+mod machine;
+mod objects;
+mod phrase;
+mod step;
+
+pub use machine::{BUDGET, MOST_FRAMES, Machine};
+use paw_base::fault::SpentKind;
+use paw_effects::act::Prompt;
+pub use phrase::take_phrase;
+
+/// Why the machine stopped: the outermost table was left, with an action carried out or not; the location is to be
+/// described again; the game waits at a prompt; the open piece would read or hold too much; or a table was called at
+/// the deepest level.
+#[derive(Clone, Copy, Drop, PartialEq, Eq, Debug)]
+pub enum Turned {
+    Left(bool),
+    Redescribe,
+    Waits(Prompt),
+    Spent(SpentKind),
+    TooDeep { table: u8 },
+}

@@ -1,0 +1,214 @@
+// The machine: which tables are open, and what it may still read.
+
+ghost use Rattle.std.specs.Prelude.{◌≡◌, ℕ, ◌+◌, ◌<◌, ◌≤◌, ◌^◌, List, [], ◌∷◌, length, true, false, Some, None};
+ghost use Rattle.paw_game.specs.Game.{GameLists};
+ghost use Rattle.paw_game.specs.Valid.{Valid};
+ghost use Rattle.paw_effects.specs.Built.{AllBuilt, IsOf};
+ghost use Rattle.paw_effects.specs.declared.act.Prompt.TheVariants as prompt;
+ghost use Rattle.paw_reading.specs.Run.{Run, is_ignored, heard, reply, is_yes};
+ghost use Rattle.paw_reading.specs.GoingOn.{on_path};
+ghost use Rattle.paw_process.specs.OpenTables.{OpenTables, below, IsReading, IsWaiting, IsClosed};
+ghost use Rattle.paw_process.specs.Meaning.{held, going_on, RunsTo, IsStopped, AwaitsAnswer, AnswersQuit, AnswersKey};
+
+use crate::Turned;
+use crate::frame::{answered, start_of};
+use paw_base::piece::Piece;
+use paw_effects::act::Prompt;
+use paw_game::tables::Tables;
+use paw_phrase::Pending;
+use paw_reading::places::{Frame, OpenLoop};
+use paw_world::world::World;
+use std::marker::Model;
+
+/// Tables that may be open at once: one, and ten levels of calls.
+pub const MOST_FRAMES: usize = 11;
+
+/// Condacts that a piece may read.
+pub const BUDGET: u32 = 200_000;
+
+/// Reads a game's tables in written order, up to the next stop. It holds the places in the tables that are open, the
+/// open loop, and how many condacts the open piece may still read; contracts see the places with the innermost first.
+#[derive(Drop)]
+pub struct Machine {
+    rows: [Frame; MOST_FRAMES],
+    count: usize,
+    turning: Option<OpenLoop>,
+    waiting: Option<Prompt>,
+    left: u32,
+}
+
+impl Model for Machine {
+    ghost use Rattle.paw_process.specs.declared.machine.TheConstants.{MOST_FRAMES};
+    ghost use Rattle.std.specs.Prelude.{◌≡◌, ◌≤◌, length, take, reverse};
+    ghost use Rattle.paw_process.specs.OpenTables.{OpenTables};
+
+    ghost Value = { OpenTables };
+
+    ghost view = { λ m. record { frames = reverse (take m.count m.rows); turning = m.turning; waiting = m.waiting; left = m.left } };
+
+    ghost invariant = { λ m. (m.count ≤ MOST_FRAMES) × (length m.rows ≡ MOST_FRAMES) };
+}
+
+impl Machine {
+    /// No table is open, and the budget is full.
+    pub fn new() -> Machine
+        ensures value { result ≡ record { frames = []; turning = None; waiting = None; left = BUDGET } }
+    {
+        Machine {
+            rows: [start_of(0); MOST_FRAMES],
+            count: 0,
+            turning: None,
+            waiting: None,
+            left: BUDGET,
+        }
+    }
+
+    /// Opens a table at its start, where no table is open.
+    pub fn begin(&mut self, table: u8)
+        requires closed { IsClosed self.old }
+        ensures value { self.new ≡ record self.old { frames = record { table = table; entry = 0; at = 0; acted = false } ∷ [] } }
+        ensures reading { IsReading self.new }
+    {
+        self.push(start_of(table));
+    }
+
+    /// The budget is full again, as it is for a new piece.
+    pub fn refill(&mut self)
+        ensures value { self.new ≡ record self.old { left = BUDGET } }
+    {
+        self.left = BUDGET;
+    }
+
+    /// Drops all tables that are open, and the open loop.
+    pub fn close(&mut self)
+        ensures value { self.new ≡ record { frames = []; turning = None; waiting = None; left = self.old.left } }
+        ensures closed { IsClosed self.new }
+    {
+        self.count = 0;
+        self.turning = None;
+        self.waiting = None;
+    }
+
+    /// Takes the answer to the question of QUIT (whether it is yes), or the key of ANYKEY (whatever the answer is). At
+    /// yes or a key reading goes on after the condact; at no QUIT's table is left as DONE leaves it. Nothing is read
+    /// here: `run` goes on.
+    pub fn answer(&mut self, yes: bool)
+        requires waits { AwaitsAnswer self.old }
+        ensures quit { self.old.waiting ≡ Some prompt.Quit → AnswersQuit yes self.old.frames self.new.frames }
+        ensures key { self.old.waiting ≡ Some prompt.Key → AnswersKey self.old.frames self.new.frames }
+        ensures reading { IsReading self.new }
+        ensures rest { (self.new.turning ≡ self.old.turning) × (self.new.left ≡ self.old.left) }
+    {
+        let f = self.top();
+        self.set_top(answered(self.waiting(), f, yes));
+        self.set_waiting(None);
+    }
+
+    /// Reads on to the next stop. Where it waits, the text of the open piece is complete, and the machine's frames tell
+    /// where it waits; otherwise no table and no loop is open. A piece reads at most 200,000 condacts and holds at most
+    /// 65,535 bytes: at more it is Spent, and what the world and the piece hold then is open, as where a call is too deep.
+    pub fn run<T: Tables>(
+        &mut self,
+        tables: &T,
+        world: &mut World,
+        pending: &mut Pending,
+        piece: &mut Piece,
+    ) -> Turned
+        requires reading { IsReading self.old }
+        requires game { IsOf (T.game tables.now) world.old }
+        requires built { AllBuilt (T.game tables.now) }
+        requires draws { world.old.draws + self.old.left < 2 ^ 64 }
+        ensures meaning { RunsTo (T.game tables.now) [] (held world.old pending.old self.old piece.old) result (held world.new pending.new self.new piece.new) }
+        ensures stopped { IsStopped result self.new }
+        ensures game { IsOf (T.game tables.now) world.new }
+        ensures draws { world.new.draws + self.new.left ≤ world.old.draws + self.old.left }
+    {
+        loop {
+            match self.step(tables, world, pending, piece) {
+                Some(turned) => return turned,
+                None => {}
+            }
+        }
+    }
+
+    /// How many tables are open.
+    pub(crate) fn depth(&self) -> usize
+        ensures value { result ≡ length self.now.frames }
+        ensures room { result ≤ 11 }
+    {
+        self.count
+    }
+
+    /// The innermost frame.
+    pub(crate) fn top(&self) -> Frame
+        requires some { 0 < length self.now.frames }
+        ensures value { self.now.frames ≡ result ∷ below self.now.frames }
+    {
+        self.rows[self.count - 1]
+    }
+
+    /// Another frame becomes the innermost in the place of the one that is.
+    pub(crate) fn set_top(&mut self, f: Frame)
+        requires some { 0 < length self.old.frames }
+        ensures value { self.new ≡ record self.old { frames = f ∷ below self.old.frames } }
+    {
+        self.rows[self.count - 1] = f;
+    }
+
+    /// A table is opened above the others.
+    pub(crate) fn push(&mut self, f: Frame)
+        requires room { length self.old.frames < 11 }
+        ensures value { self.new ≡ record self.old { frames = f ∷ self.old.frames } }
+    {
+        self.rows[self.count] = f;
+        self.count += 1;
+    }
+
+    /// The innermost table is closed.
+    pub(crate) fn pop(&mut self)
+        requires some { 0 < length self.old.frames }
+        ensures value { self.new ≡ record self.old { frames = below self.old.frames } }
+    {
+        self.count -= 1;
+    }
+
+    /// The open loop.
+    pub(crate) fn turning(&self) -> Option<OpenLoop>
+        ensures value { result ≡ self.now.turning }
+    {
+        self.turning
+    }
+
+    /// This loop is open from now on, or none.
+    pub(crate) fn set_turning(&mut self, turning: Option<OpenLoop>)
+        ensures value { self.new ≡ record self.old { turning = turning } }
+    {
+        self.turning = turning;
+    }
+
+    /// The prompt at which it waits.
+    pub(crate) fn waiting(&self) -> Option<Prompt>
+        ensures value { result ≡ self.now.waiting }
+    {
+        self.waiting
+    }
+
+    /// It waits at this prompt from now on, or at none.
+    pub(crate) fn set_waiting(&mut self, waiting: Option<Prompt>)
+        ensures value { self.new ≡ record self.old { waiting = waiting } }
+    {
+        self.waiting = waiting;
+    }
+
+    /// Counts a condact and answers true; or false where the open piece may read no more.
+    pub(crate) fn count_condact(&mut self) -> bool
+        ensures counted { result ≡ true → (self.old.left ≡ self.new.left + 1) × (self.new ≡ record self.old { left = self.new.left }) }
+        ensures spent { result ≡ false → (self.old.left ≡ 0) × (self.new ≡ self.old) }
+    {
+        if self.left == 0 {
+            return false;
+        }
+        self.left -= 1;
+        true
+    }
+}

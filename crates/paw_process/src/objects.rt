@@ -1,0 +1,75 @@
+// The objects that a loop takes.
+
+ghost use Rattle.std.specs.Prelude.{◌≡◌, ℕ, ◌<◌, ◌≤◌, ◌-◌, length, IfSome, Some, None};
+ghost use Rattle.paw_effects.specs.Built.{IsOf};
+ghost use Rattle.paw_game.specs.Tables.{facts_at};
+ghost use Rattle.paw_reading.specs.Reading.{may_be_taken, is_excepted, named};
+ghost use Rattle.paw_process.specs.Objects.{least_taken, with_taken};
+ghost use Rattle.paw_world.specs.Places.{left_above};
+
+use paw_base::parts::ObjectFacts;
+use paw_effects::does::refer;
+use paw_game::tables::Tables;
+use paw_world::world::World;
+
+/// The sentence excepts an object: by its second noun, and by its second adjective where it has one.
+fn is_excepted(world: &World, facts: ObjectFacts) -> bool
+    ensures value { result ≡ is_excepted world.now facts }
+{
+    let noun = world.flag(44);
+    let adjective = world.flag(45);
+    noun != 255 && facts.noun == noun && (adjective == 255 || facts.adjective == adjective)
+}
+
+/// A loop may take an object where it has a noun and isn't excepted.
+fn may_be_taken<T: Tables>(tables: &T, world: &World, o: u8) -> bool
+    ensures value { result ≡ may_be_taken world.now (facts_at (T.game tables.now) o) }
+{
+    match tables.facts(o) {
+        Some(facts) => facts.noun != 255 && !is_excepted(world, facts),
+        None => false,
+    }
+}
+
+/// The next object that a loop over a place takes: the least above this one, or of all, that stands there and may be
+/// taken.
+pub fn next_taken<T: Tables>(tables: &T, world: &World, place: u8, above: Option<u8>) -> Option<u8>
+    requires game { IsOf (T.game tables.now) world.now }
+    ensures value { result ≡ least_taken (T.game tables.now) world.now place (left_above world.now.places above) }
+    ensures bound { IfSome result (λ o. o < length (T.game tables.now).objects) }
+{
+    let mut last = above;
+    while let Some(o) = world.first_at(place, last) {
+        if may_be_taken(tables, world, o) {
+            return Some(o);
+        }
+        last = Some(o);
+    }
+    None
+}
+
+/// An object's noun and adjective become the sentence's.
+fn name<T: Tables>(tables: &T, world: &mut World, o: u8)
+    ensures value { world.new ≡ named world.old (facts_at (T.game tables.now) o) }
+{
+    match tables.facts(o) {
+        Some(facts) => {
+            world.set_flag(34, facts.noun);
+            world.set_flag(35, facts.adjective);
+        }
+        None => {}
+    }
+}
+
+/// A loop takes an object: it stands in the sentence and in flag 50, and is referred to.
+pub fn take<T: Tables>(tables: &T, world: &mut World, o: u8)
+    requires game { IsOf (T.game tables.now) world.old }
+    requires object { o < length (T.game tables.now).objects }
+    ensures value { world.new ≡ with_taken (T.game tables.now) world.old o }
+    ensures game { IsOf (T.game tables.now) world.new }
+    ensures draws { world.new.draws ≡ world.old.draws }
+{
+    name(tables, world, o);
+    world.set_flag(50, o);
+    refer(tables, world, o);
+}
