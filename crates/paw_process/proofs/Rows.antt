@@ -1,0 +1,37 @@
+-- The rows of the machine, as a list with the innermost first.
+use Rattle.std.proofs.Common.{◌≡◌, ℕ, zero, suc, ◌-◌, ◌≤◌, ◌<◌, false, List, [], ◌∷◌, ◌++◌, Option, length, take, reverse, slice_set, refl, ap, ◌∙◌, subst, arith}
+use Rattle.std.proofs.lemmas.List.{reverse-append}
+use Rattle.std.proofs.Math.Seq.{take-suc, take-suc-set}
+use Rattle.paw_effects.specs.declared.act.Prompt.{Prompt}
+use Rattle.paw_reading.specs.declared.places.Frame.{Frame}
+use Rattle.paw_reading.specs.declared.places.OpenLoop.{OpenLoop}
+use Rattle.paw_process.specs.OpenTables.{OpenTables, below}
+
+-- what the machine's parts are seen as
+abbrev pub seen : List Frame → ℕ → Option OpenLoop → Option Prompt → ℕ → OpenTables
+seen rows n turning waiting left = record { frames = reverse (take n rows); turning = turning; waiting = waiting; left = left }
+
+pop_rows : (rows : List Frame) (n : ℕ) → 0 < length (reverse (take n rows)) → n ≤ length rows → reverse (take (n - 1) rows) ≡ below (reverse (take n rows))
+pop_rows rows zero h low = absurd (omega arith)
+pop_rows rows (suc n) h low =
+    let e : suc n - 1 ≡ n = omega arith in
+    let x : Frame = record { table = 0; entry = 0; at = 0; acted = false } in
+    let q : take (suc n) rows ≡ take n rows ++ _ = take-suc rows n x (omega arith) in
+    rw (e, q, reverse-append (take n rows) _) refl
+
+top_rows : (rows : List Frame) (n : ℕ) (f : Frame) → 0 < length (reverse (take n rows)) → n ≤ length rows → reverse (take n (slice_set rows (n - 1) f)) ≡ f ∷ below (reverse (take n rows))
+top_rows rows zero f h low = absurd (omega arith)
+top_rows rows (suc n) f h low =
+    let e : suc n - 1 ≡ n = omega arith in
+    let q : reverse (take (suc n) (slice_set rows n f)) ≡ f ∷ reverse (take n rows) = ap (λ (s : List Frame). reverse s) (take-suc-set rows n f (omega arith)) ∙ reverse-append (take n rows) (f ∷ []) in
+    rw e (q ∙ ap (λ (s : List Frame). f ∷ s) (rw e at (pop_rows rows (suc n) h low)))
+
+pub popped : (v : OpenTables) (rows : List Frame) (n : ℕ) (turning : Option OpenLoop) (waiting : Option Prompt) (left : ℕ) → seen rows n turning waiting left ≡ v → 0 < length v.frames → n ≤ length rows → seen rows (n - 1) turning waiting left ≡ record v { frames = below v.frames }
+popped v rows n turning waiting left e h low =
+    subst (λ (u : OpenTables). 0 < length u.frames → seen rows (n - 1) turning waiting left ≡ record u { frames = below u.frames }) e
+    (λ k. ap (λ (s : List Frame). record { frames = s; turning = turning; waiting = waiting; left = left }) (pop_rows rows n k low)) h
+
+pub topped : (v : OpenTables) (rows : List Frame) (n : ℕ) (f : Frame) (turning : Option OpenLoop) (waiting : Option Prompt) (left : ℕ) → seen rows n turning waiting left ≡ v → 0 < length v.frames → n ≤ length rows → seen (slice_set rows (n - 1) f) n turning waiting left ≡ record v { frames = f ∷ below v.frames }
+topped v rows n f turning waiting left e h low =
+    subst (λ (u : OpenTables). 0 < length u.frames → seen (slice_set rows (n - 1) f) n turning waiting left ≡ record u { frames = f ∷ below u.frames }) e
+    (λ k. ap (λ (s : List Frame). record { frames = s; turning = turning; waiting = waiting; left = left }) (top_rows rows n f k low)) h

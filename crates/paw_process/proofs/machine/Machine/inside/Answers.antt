@@ -1,0 +1,27 @@
+use Rattle.std.proofs.Common.{sym, ap, [], None}
+use Rattle.paw_game.proofs.Kept.{condact-early, condact_kept}
+use Rattle.paw_process.proofs.Readings.{reads_nothing}
+use Rattle.paw_process.proofs.Steps.{reading_end}
+use Rattle.paw_process.specs.Meaning.{held, showing}
+use Rattle.paw_process.specs.Moves.{reading_at}
+use Rattle.paw_process.specs.OpenTables.{below}
+use Rattle.paw_process.proofs.machine.Machine.inside.Goals as goal
+
+pub read-requires-clause-place : goal.read-requires-clause-place
+read-requires-clause-place g c = record {
+  at = condact-early (g.T.Tables.game c.args.tables.now) c.requires.valid c.args.f.table c.args.f.entry c.args.f.at c.in-Some.c (sym c.in-Some.ensures.value);
+  entry = c.requires.entry;
+}
+
+pub read-requires-clause-condact : goal.read-requires-clause-condact
+read-requires-clause-condact g c =
+    condact_kept (g.T.Tables.game c.args.tables.now) c.requires.valid c.args.f.table c.args.f.entry c.args.f.at c.in-Some.c (sym c.in-Some.ensures.value)
+
+pub returns-in-None-clause-meaning : goal.returns-in-None-clause-meaning
+returns-in-None-clause-meaning g c =
+    let game = g.T.Tables.game c.args.tables.now in
+    let fs = below c.args.self.now.frames in
+    let old = held c.args.world.now c.args.pending.now c.args.self.now c.args.piece.now in
+    reads_nothing game [] (reading_at game [] fs c.args.f) old None
+    (held c.args.world.now c.args.pending.now c.set_top.new.self c.args.piece.now) (ap (λ m. m.left) c.set_top.ensures.value)
+    (λ r. rw (c.set_top.ensures.value, c.next_entry.ensures.value) (reading_end game [] fs c.args.f (showing old r) (sym c.in-None.ensures.value)))

@@ -1,0 +1,38 @@
+use Rattle.std.proofs.Common.{arith, sym, ap, ◌∙◌, ◌≡◌, add-one, Some, None, ℕ, ◌∷◌, List, true, ◌+◌}
+use Rattle.std.specs.Prelude.{Option}
+use Rattle.paw_reading.specs.declared.places.Frame.{Frame}
+use Rattle.paw_reading.specs.Reading.{Left}
+use Rattle.paw_reading.specs.GoingOn.{along}
+use Rattle.paw_process.proofs.Steps.{turning_some, turning_none}
+use Rattle.paw_process.proofs.Stops.{goes_from}
+use Rattle.paw_process.proofs.Taking.{left_above_low, taken_above}
+use Rattle.paw_process.proofs.Works.{taking_falls}
+use Rattle.paw_process.specs.Objects.{least_taken}
+use Rattle.paw_world.specs.Places.{left_above}
+use Rattle.paw_process.specs.Moves.{looping}
+use Rattle.paw_process.specs.OpenTables.{below}
+use Rattle.paw_process.proofs.machine.Machine.next_object.Goals as goal
+
+pub returns-in-Some-clause-meaning : goal.returns-in-Some-clause-meaning
+returns-in-Some-clause-meaning g c X r =
+    rw (c.set_top.ensures.value, c.set_turning.ensures.value, c.take.ensures.value, add-one)
+    (turning_some _ X (below c.args.self.now.frames) c.args.l _ (looping c.args.world.now c.args.self.now.turning r) c.in-Some.o c.requires.level (omega (arith, left_above_low c.args.world.now c.args.above, c.requires.game.places)) (sym c.in-Some.ensures.value))
+
+pub returns-in-Some-clause-falls : goal.returns-in-Some-clause-falls
+returns-in-Some-clause-falls g c is above =
+    let found : Some c.in-Some.o ≡ least_taken (g.T.Tables.game c.args.tables.now) c.args.world.now c.args.l.place (left_above c.args.world.now.places (Some c.args.l.last)) = c.in-Some.ensures.value ∙ ap (λ (a : Option ℕ). least_taken (g.T.Tables.game c.args.tables.now) c.args.world.now c.args.l.place (left_above c.args.world.now.places a)) above in
+    let f : Frame = record { table = c.args.l.table; entry = c.args.l.entry; at = c.args.l.at + 1; acted = true } in
+    taking_falls c.args.self.now c.set_top.new.self f c.args.l (record c.args.l { last = c.in-Some.o }) c.requires.reading.tables.some is
+    (ap (λ m. m.frames) c.set_top.ensures.value ∙ ap (λ m. f ∷ below m.frames) c.set_turning.ensures.value)
+    (ap (λ m. m.turning) c.set_top.ensures.value ∙ ap (λ m. m.turning) c.set_turning.ensures.value)
+    (taken_above _ c.args.world.now c.args.l.place c.args.l.last c.in-Some.o c.requires.game.places found) (omega arith)
+
+pub returns-in-None-clause-meaning : goal.returns-in-None-clause-meaning
+returns-in-None-clause-meaning g c X r =
+    let game = g.T.Tables.game c.args.tables.now in
+    let e : c.leave.new.self.turning ≡ None = ap (λ m. m.turning) c.leave.ensures.same ∙ ap (λ m. m.turning) c.set_turning-in-None.ensures.value in
+    rw e
+    (goes_from game X _ _ c.leave.result c.leave.new.self.frames (looping c.args.world.now None r)
+    (turning_none game X (below c.args.self.now.frames) c.args.l _ (looping c.args.world.now c.args.self.now.turning r) (sym c.in-None.ensures.value)
+    ∙ ap (λ (fs : List Frame). along game X (below fs) (Left true (looping c.args.world.now None r))) (sym (ap (λ m. m.frames) c.set_turning-in-None.ensures.value)))
+    (c.leave.ensures.meaning game X (looping c.args.world.now None r)))

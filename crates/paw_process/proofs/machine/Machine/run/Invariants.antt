@@ -1,0 +1,13 @@
+use Rattle.std.proofs.Common.{◌+◌, ◌*◌}
+use Rattle.paw_process.specs.Meaning.{held}
+use Rattle.paw_process.specs.Running.{IsRunning}
+use Rattle.paw_process.specs.Work.{work}
+use Rattle.paw_process.proofs.machine.Machine.run.Given as goal
+
+abbrev pub invariant-loop-turned : goal.invariant-loop-turned
+invariant-loop-turned g l =
+    IsRunning (g.T.Tables.game l.tables)
+    (held l.initial.world l.initial.pending l.initial.self l.initial.piece) (held l.world l.pending l.self l.piece)
+
+abbrev pub decreases-loop-turned : goal.decreases-loop-turned
+decreases-loop-turned g l = l.self.left * 134217728 + work l.self
