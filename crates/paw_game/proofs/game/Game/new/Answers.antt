@@ -1,4 +1,4 @@
-use Rattle.std.proofs.Common.{◌≡◌, OnErr, Result, Ok, Err, sym}
+use Rattle.std.proofs.Common.{OnErr, Result, Ok, Err, sym}
 use Rattle.paw_game.specs.Valid.{Valid}
 use Rattle.paw_game.proofs.Faults.{Valid-from_no_fault, no_fault-from_Valid}
 use Rattle.paw_game.proofs.game.Game.new.Goals as goal
