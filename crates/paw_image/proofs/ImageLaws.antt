@@ -1,0 +1,47 @@
+-- Which bytes are the image of a valid game.
+use Rattle.std.proofs.Common.{◌≡◌, ℕ, ◌≤◌, List, length, Ok, Err, refl, ap, subst, ◌∙◌}
+use Rattle.paw_game.specs.Game.{GameLists}
+use Rattle.paw_game.specs.Valid.{Valid}
+use Rattle.paw_game.specs.Image.{image}
+use Rattle.paw_image.specs.declared.fault.ReadFault.{ReadFault}
+use Rattle.paw_image.specs.declared.fault.ReadFault.TheVariants as fault
+use Rattle.paw_image.specs.declared.TheConstants.{IMAGE_LIMIT}
+use Rattle.paw_image.specs.Images.{IsImage, IfDamaged, refused}
+use Rattle.paw_image.specs.Reading.{Fails, all_of}
+use Rattle.paw_image.proofs.FieldLaws.{IsBytes, read_ok}
+use Rattle.paw_image.proofs.GameLaws.{all_takes, all_again}
+use Rattle.paw_image.proofs.ValidLaws.{valid_fits}
+
+-- bytes that are the image of a valid game are read as that game
+pub image_again : (bytes : List ℕ) (g : GameLists) → Valid g → bytes ≡ image g → all_of bytes ≡ read_ok g
+image_again bytes g valid e = ap all_of e ∙ all_again g (valid_fits g valid)
+
+-- two valid games with the same image are the same
+pub one_game : (g h : GameLists) → Valid g → Valid h → image g ≡ image h → g ≡ h
+one_game g h g_valid h_valid e =
+    let first = image_again (image g) g g_valid refl in
+    let second = image_again (image g) h h_valid e in
+    cc
+
+-- bytes that aren't read are no image
+pub unread_is_none : (bytes : List ℕ) (left : ℕ) → all_of bytes ≡ Err left → (g : GameLists) → IsImage bytes g → ⊥
+unread_is_none bytes left e g is = let again = image_again bytes g is.valid is.spelled in cc
+
+-- bytes that are read as lists that break a rule are no image
+pub invalid_is_none : (bytes : List ℕ) (parts : GameLists) → all_of bytes ≡ Ok parts → (Valid parts → ⊥) → (g : GameLists) → IsImage bytes g → ⊥
+invalid_is_none bytes parts e invalid g is =
+    let again = image_again bytes g is.valid is.spelled in
+    let same : g ≡ parts = cc in
+    invalid (subst Valid same is.valid)
+
+-- what the refusal that comes of a fault says
+pub fault_is_none : (bytes : List ℕ) (f : ReadFault) → Fails f (all_of bytes) → IfDamaged {T = GameLists} (Err (refused f)) (λ _. (g : GameLists) → IsImage bytes g → ⊥)
+fault_is_none bytes (fault.Damaged left) e = unread_is_none bytes left e
+fault_is_none bytes fault.Memory e = tt
+
+-- bytes that are read as the lists of a game are its image, and that of no other
+pub read_is_image : (bytes : List ℕ) (parts g : GameLists) → IsBytes bytes → length bytes ≤ IMAGE_LIMIT → all_of bytes ≡ Ok parts → g ≡ parts → Valid parts → IsImage bytes g
+read_is_image bytes parts g fits short e same valid = rw same (record { spelled = all_takes bytes parts fits e; valid = valid; short = short })
+
+pub read_is_only : (bytes : List ℕ) (parts g : GameLists) → all_of bytes ≡ Ok parts → g ≡ parts → (h : GameLists) → IsImage bytes h → g ≡ h
+read_is_only bytes parts g e same h is = let again = image_again bytes h is.valid is.spelled in cc

@@ -1,0 +1,268 @@
+-- The two laws of each row: what is read as a row stands there as its image, and the image of a row that fits is read as
+-- that row.
+use Rattle.std.proofs.Common.{◌≡◌, ℕ, zero, suc, ◌+◌, ◌*◌, ◌<◌, ◌≤◌, Bool, true, false, not, cond, leb, eqb, List, [], ◌∷◌, ◌++◌, length, Ok, refl, sym, ap, subst, ◌∙◌, append_assoc, arith}
+use Rattle.std.specs.Prelude.{bit_and}
+use Rattle.std.specs.Int.{bit_at}
+use Rattle.std.specs.List.{flat_map, AllByRecursion}
+use Rattle.std.proofs.lemmas.Bool.{le-leb}
+use Rattle.std.proofs.lemmas.Nat.{and_mask}
+use Rattle.std.proofs.lemmas.Nat.Bits.{and_pow}
+use Rattle.paw_base.specs.declared.parts.Condact.{Condact}
+use Rattle.paw_base.specs.declared.parts.ObjectFacts.{ObjectFacts}
+use Rattle.paw_base.specs.declared.rows.ParamKind.{ParamKind}
+use Rattle.paw_base.specs.declared.rows.ParamKind.TheVariants as kind
+use Rattle.paw_base.specs.Condacts.{first_kind, second_kind}
+use Rattle.paw_game.specs.declared.parts.Word.{Word}
+use Rattle.paw_game.specs.declared.parts.ObjectRow.{ObjectRow}
+use Rattle.paw_game.specs.declared.parts.Exit.{Exit}
+use Rattle.paw_game.specs.declared.parts.Entry.{Entry}
+use Rattle.paw_game.specs.Image.{two_bytes, word_image, text_image, weight_byte, object_image, exit_image, exits_image, parameter_image, condact_image, entry_image, table_image}
+use Rattle.paw_image.specs.Reading.{byte_at, bytes_at, number_at, rows_at, word_at, text_at, facts_with, facts_at, object_at, exit_at, exits_at, code_at, parameter_at, condact_at, entry_at, table_at}
+use Rattle.paw_image.specs.Sizes.{FitsWord, FitsText, FitsObject, FitsExit, FitsExits, FitsParameter, FitsCondact, FitsEntry, FitsTable}
+use Rattle.paw_image.proofs.FieldLaws.{IsBytes, Takes, Takes-then, bind_then, kept_ok, at_ok, byte_takes, bytes_take, bytes_again, number_takes, number_again}
+use Rattle.paw_image.proofs.ListLaws.{TakesRow, ReadsAgain, rows_take, rows_again}
+
+-- ---- words ----
+
+pub word_takes : TakesRow word_at word_image
+unfolding word_at
+word_takes bytes x fits e =
+    bind_then _ (bytes_at 5 bytes) _ x e (λ letters letters_ok e.
+    bind_then _ (byte_at letters.1) _ x e (λ value value_ok e.
+    bind_then _ (byte_at value.1) _ x e (λ class class_ok e.
+    let letters_taken = (bytes_take 5 bytes letters fits letters_ok).0 in
+    let value_taken = (byte_takes letters.1 value letters_taken.rest_fits value_ok).0 in
+    let class_taken = (byte_takes value.1 class value_taken.rest_fits class_ok).0 in
+    at_ok (λ (y : Word × List ℕ). Takes bytes (word_image y.0) y.1) _ x e
+    (Takes-then letters.0 (value.0 ∷ class.0 ∷ []) letters_taken (Takes-then (value.0 ∷ []) (class.0 ∷ []) value_taken class_taken)))))
+
+pub word_again : ReadsAgain word_at word_image FitsWord
+unfolding word_at
+word_again w rest fits =
+    let regrouped : word_image w ++ rest ≡ w.letters ++ (w.value ∷ w.class ∷ rest) = append_assoc w.letters (w.value ∷ w.class ∷ []) rest in
+    ap word_at regrouped ∙ rw (bytes_again 5 w.letters (w.value ∷ w.class ∷ rest) fits) refl
+
+-- ---- texts ----
+
+pub text_takes : TakesRow text_at text_image
+unfolding text_at
+text_takes bytes x fits e =
+    bind_then _ (number_at bytes) _ x e (λ len len_ok e.
+    let len_taken = (number_takes bytes len fits len_ok).0 in
+    let text_taken = bytes_take len.0 len.1 x len_taken.rest_fits e in
+    subst (λ (n : ℕ). Takes bytes (two_bytes n ++ x.0) x.1) (sym text_taken.1) (Takes-then (two_bytes len.0) x.0 len_taken text_taken.0))
+
+pub text_again : ReadsAgain text_at text_image FitsText
+unfolding text_at
+text_again text rest fits = rw (number_again (length text) (text ++ rest) fits, bytes_again (length text) text rest refl) refl
+
+-- ---- objects ----
+
+abbrev facts_image : ObjectFacts → List ℕ
+facts_image f = f.noun ∷ f.adjective ∷ f.start ∷ weight_byte f.weight f.container f.wearable ∷ []
+
+-- a bit that is 0 or 1, times its worth
+worth_64 : (bit : ℕ) → bit < 2 → cond (not (eqb (bit * 64) 0)) 64 0 ≡ bit * 64
+worth_64 zero lt = refl
+worth_64 (suc zero) lt = refl
+worth_64 (suc (suc bit)) lt = absurd (omega arith)
+
+worth_128 : (bit : ℕ) → bit < 2 → cond (not (eqb (bit * 128) 0)) 128 0 ≡ bit * 128
+worth_128 zero lt = refl
+worth_128 (suc zero) lt = refl
+worth_128 (suc (suc bit)) lt = absurd (omega arith)
+
+-- the three parts of a byte make up the byte
+weight_takes : (b : ℕ) → b < 256 → weight_byte (bit_and b 63) (not (eqb (bit_and b 64) 0)) (not (eqb (bit_and b 128) 0)) ≡ b
+weight_takes b lt =
+    rw (and_mask b 6, and_pow b 6, and_pow b 7)
+    (let h64 = worth_64 (bit_at b 6) (omega arith) in
+    let h128 = worth_128 (bit_at b 7) (omega arith) in
+    rw (h64, h128) (omega arith))
+
+set_64 : (b : ℕ) → bit_at b 6 ≡ 1 → not (eqb (bit_and b 64) 0) ≡ true
+set_64 b h = rw (and_pow b 6, h) refl
+
+clear_64 : (b : ℕ) → bit_at b 6 ≡ 0 → not (eqb (bit_and b 64) 0) ≡ false
+clear_64 b h = rw (and_pow b 6, h) refl
+
+set_128 : (b : ℕ) → bit_at b 7 ≡ 1 → not (eqb (bit_and b 128) 0) ≡ true
+set_128 b h = rw (and_pow b 7, h) refl
+
+clear_128 : (b : ℕ) → bit_at b 7 ≡ 0 → not (eqb (bit_and b 128) 0) ≡ false
+clear_128 b h = rw (and_pow b 7, h) refl
+
+-- the byte gives the three parts back
+facts_again_with : (noun adjective start weight : ℕ) (container wearable : Bool) → weight < 64
+    → facts_with noun adjective start (weight_byte weight container wearable) ≡ record { noun = noun; adjective = adjective; start = start; weight = weight; container = container; wearable = wearable }
+facts_again_with noun adjective start weight false false lt =
+    let w : bit_and (weight + 0 + 0) 63 ≡ weight = and_mask (weight + 0 + 0) 6 ∙ omega arith in
+    rw (w, clear_64 (weight + 0 + 0) (omega arith), clear_128 (weight + 0 + 0) (omega arith)) refl
+facts_again_with noun adjective start weight true false lt =
+    let w : bit_and (weight + 64 + 0) 63 ≡ weight = and_mask (weight + 64 + 0) 6 ∙ omega arith in
+    rw (w, set_64 (weight + 64 + 0) (omega arith), clear_128 (weight + 64 + 0) (omega arith)) refl
+facts_again_with noun adjective start weight false true lt =
+    let w : bit_and (weight + 0 + 128) 63 ≡ weight = and_mask (weight + 0 + 128) 6 ∙ omega arith in
+    rw (w, clear_64 (weight + 0 + 128) (omega arith), set_128 (weight + 0 + 128) (omega arith)) refl
+facts_again_with noun adjective start weight true true lt =
+    let w : bit_and (weight + 64 + 128) 63 ≡ weight = and_mask (weight + 64 + 128) 6 ∙ omega arith in
+    rw (w, set_64 (weight + 64 + 128) (omega arith), set_128 (weight + 64 + 128) (omega arith)) refl
+
+facts_take : TakesRow facts_at facts_image
+unfolding facts_at
+facts_take bytes x fits e =
+    bind_then _ (byte_at bytes) _ x e (λ noun noun_ok e.
+    bind_then _ (byte_at noun.1) _ x e (λ adjective adjective_ok e.
+    bind_then _ (byte_at adjective.1) _ x e (λ start start_ok e.
+    bind_then _ (byte_at start.1) _ x e (λ weight weight_ok e.
+    let noun_taken = (byte_takes bytes noun fits noun_ok).0 in
+    let adjective_taken = (byte_takes noun.1 adjective noun_taken.rest_fits adjective_ok).0 in
+    let start_taken = (byte_takes adjective.1 start adjective_taken.rest_fits start_ok).0 in
+    let weight_taken = byte_takes start.1 weight start_taken.rest_fits weight_ok in
+    at_ok (λ (y : ObjectFacts × List ℕ). Takes bytes (facts_image y.0) y.1) _ x e
+    (subst (λ (w : ℕ). Takes bytes (noun.0 ∷ adjective.0 ∷ start.0 ∷ w ∷ []) weight.1) (sym (weight_takes weight.0 weight_taken.1))
+    (Takes-then (noun.0 ∷ []) (adjective.0 ∷ start.0 ∷ weight.0 ∷ []) noun_taken
+    (Takes-then (adjective.0 ∷ []) (start.0 ∷ weight.0 ∷ []) adjective_taken (Takes-then (start.0 ∷ []) (weight.0 ∷ []) start_taken weight_taken.0))))))))
+
+facts_again : ReadsAgain facts_at facts_image (λ f. f.weight < 64)
+unfolding facts_at
+facts_again f rest lt = ap (λ (g : ObjectFacts). Ok (g, rest)) (facts_again_with f.noun f.adjective f.start f.weight f.container f.wearable lt)
+
+pub object_takes : TakesRow object_at object_image
+unfolding object_at
+object_takes bytes x fits e =
+    bind_then _ (text_at bytes) _ x e (λ text text_ok e.
+    bind_then _ (facts_at text.1) _ x e (λ facts facts_ok e.
+    let text_taken = text_takes bytes text fits text_ok in
+    let facts_taken = facts_take text.1 facts text_taken.rest_fits facts_ok in
+    at_ok (λ (y : ObjectRow × List ℕ). Takes bytes (object_image y.0) y.1) _ x e (Takes-then (text_image text.0) (facts_image facts.0) text_taken facts_taken)))
+
+pub object_again : ReadsAgain object_at object_image FitsObject
+unfolding object_at
+object_again o rest fits =
+    let regrouped : object_image o ++ rest ≡ text_image o.text ++ (facts_image o.facts ++ rest) = append_assoc (text_image o.text) (facts_image o.facts) rest in
+    ap object_at regrouped ∙ rw (text_again o.text (facts_image o.facts ++ rest) fits.text, facts_again o.facts rest fits.weight) refl
+
+-- ---- exits ----
+
+exit_takes : TakesRow exit_at exit_image
+unfolding exit_at
+exit_takes bytes x fits e =
+    bind_then _ (byte_at bytes) _ x e (λ verb verb_ok e.
+    bind_then _ (byte_at verb.1) _ x e (λ to to_ok e.
+    let verb_taken = (byte_takes bytes verb fits verb_ok).0 in
+    let to_taken = (byte_takes verb.1 to verb_taken.rest_fits to_ok).0 in
+    at_ok (λ (y : Exit × List ℕ). Takes bytes (exit_image y.0) y.1) _ x e (Takes-then (verb.0 ∷ []) (to.0 ∷ []) verb_taken to_taken)))
+
+exit_again : ReadsAgain exit_at exit_image FitsExit
+unfolding exit_at
+exit_again x rest fits = refl
+
+all_exits : (xs : List Exit) → AllByRecursion FitsExit xs
+all_exits [] = tt
+all_exits (x ∷ xs) = (tt, all_exits xs)
+
+pub exits_take : TakesRow exits_at exits_image
+unfolding exits_at
+exits_take bytes x fits e =
+    bind_then _ (byte_at bytes) _ x e (λ count count_ok e.
+    let count_taken = (byte_takes bytes count fits count_ok).0 in
+    let rows_taken = rows_take exit_at exit_image exit_takes count.0 count.1 x count_taken.rest_fits e in
+    subst (λ (n : ℕ). Takes bytes (n ∷ flat_map exit_image x.0) x.1) (sym rows_taken.1) (Takes-then (count.0 ∷ []) (flat_map exit_image x.0) count_taken rows_taken.0))
+
+pub exits_again : ReadsAgain exits_at exits_image FitsExits
+unfolding exits_at
+exits_again xs rest fits = rows_again exit_at exit_image FitsExit exit_again xs rest (all_exits xs)
+
+-- ---- tables ----
+
+parameter_takes : (k : ParamKind) → TakesRow (parameter_at k) (parameter_image k)
+parameter_takes kind.Absent bytes x fits e = at_ok (λ (y : ℕ × List ℕ). Takes bytes [] y.1) (0, bytes) x e (record { parts = refl; rest_fits = fits })
+parameter_takes kind.Location bytes x fits e = (byte_takes bytes x fits e).0
+parameter_takes kind.Place bytes x fits e = (byte_takes bytes x fits e).0
+parameter_takes kind.Object bytes x fits e = (byte_takes bytes x fits e).0
+parameter_takes kind.Flag bytes x fits e = (byte_takes bytes x fits e).0
+parameter_takes kind.Number bytes x fits e = (byte_takes bytes x fits e).0
+parameter_takes kind.Message bytes x fits e = (byte_takes bytes x fits e).0
+parameter_takes kind.System bytes x fits e = (byte_takes bytes x fits e).0
+parameter_takes kind.Table bytes x fits e = (byte_takes bytes x fits e).0
+parameter_takes kind.Adverb bytes x fits e = (byte_takes bytes x fits e).0
+parameter_takes kind.Noun bytes x fits e = (byte_takes bytes x fits e).0
+parameter_takes kind.Adjective bytes x fits e = (byte_takes bytes x fits e).0
+parameter_takes kind.Preposition bytes x fits e = (byte_takes bytes x fits e).0
+
+parameter_again : (k : ParamKind) → ReadsAgain (parameter_at k) (parameter_image k) (FitsParameter k)
+parameter_again kind.Absent x rest fits = ap (λ (y : ℕ). Ok (y, rest)) (sym fits)
+parameter_again kind.Location x rest fits = refl
+parameter_again kind.Place x rest fits = refl
+parameter_again kind.Object x rest fits = refl
+parameter_again kind.Flag x rest fits = refl
+parameter_again kind.Number x rest fits = refl
+parameter_again kind.Message x rest fits = refl
+parameter_again kind.System x rest fits = refl
+parameter_again kind.Table x rest fits = refl
+parameter_again kind.Adverb x rest fits = refl
+parameter_again kind.Noun x rest fits = refl
+parameter_again kind.Adjective x rest fits = refl
+parameter_again kind.Preposition x rest fits = refl
+
+code_takes : (bytes : List ℕ) (x : ℕ × List ℕ) → IsBytes bytes → code_at bytes ≡ Ok x → Takes bytes (x.0 ∷ []) x.1
+code_takes [] x fits e = absurd cc
+code_takes (code ∷ bytes) x fits e = (byte_takes (code ∷ bytes) x fits (kept_ok (leb code 107) (Ok (code, bytes)) (suc (length bytes)) x e).1).0
+
+code_again : (code : ℕ) (rest : List ℕ) → code ≤ 107 → code_at (code ∷ rest) ≡ Ok (code, rest)
+code_again code rest le = rw (le-leb code 107 le) refl
+
+condact_takes : TakesRow condact_at condact_image
+unfolding condact_at
+condact_takes bytes x fits e =
+    bind_then _ (code_at bytes) _ x e (λ code code_ok e.
+    bind_then _ (parameter_at (first_kind code.0) code.1) _ x e (λ a a_ok e.
+    bind_then _ (parameter_at (second_kind code.0) a.1) _ x e (λ b b_ok e.
+    let code_taken = code_takes bytes code fits code_ok in
+    let a_taken = parameter_takes (first_kind code.0) code.1 a code_taken.rest_fits a_ok in
+    let b_taken = parameter_takes (second_kind code.0) a.1 b a_taken.rest_fits b_ok in
+    let first = parameter_image (first_kind code.0) a.0 in
+    let second = parameter_image (second_kind code.0) b.0 in
+    at_ok (λ (y : Condact × List ℕ). Takes bytes (condact_image y.0) y.1) _ x e (Takes-then (code.0 ∷ []) (first ++ second) code_taken (Takes-then first second a_taken b_taken)))))
+
+condact_again : ReadsAgain condact_at condact_image FitsCondact
+unfolding condact_at
+condact_again c rest fits =
+    let first = parameter_image (first_kind c.code) c.a in
+    let second = parameter_image (second_kind c.code) c.b in
+    let regrouped : condact_image c ++ rest ≡ c.code ∷ (first ++ (second ++ rest)) = ap (λ (t : List ℕ). c.code ∷ t) (append_assoc first second rest) in
+    ap condact_at regrouped
+    ∙ rw (code_again c.code (first ++ (second ++ rest)) fits.code, parameter_again (first_kind c.code) c.a (second ++ rest) fits.a, parameter_again (second_kind c.code) c.b rest fits.b) refl
+
+entry_takes : TakesRow entry_at entry_image
+unfolding entry_at
+entry_takes bytes x fits e =
+    bind_then _ (byte_at bytes) _ x e (λ verb verb_ok e.
+    bind_then _ (byte_at verb.1) _ x e (λ noun noun_ok e.
+    bind_then _ (byte_at noun.1) _ x e (λ count count_ok e.
+    bind_then _ (rows_at condact_at count.0 count.1) _ x e (λ condacts condacts_ok e.
+    let verb_taken = (byte_takes bytes verb fits verb_ok).0 in
+    let noun_taken = (byte_takes verb.1 noun verb_taken.rest_fits noun_ok).0 in
+    let count_taken = (byte_takes noun.1 count noun_taken.rest_fits count_ok).0 in
+    let condacts_taken = rows_take condact_at condact_image condact_takes count.0 count.1 condacts count_taken.rest_fits condacts_ok in
+    let images = flat_map condact_image condacts.0 in
+    at_ok (λ (y : Entry × List ℕ). Takes bytes (entry_image y.0) y.1) _ x e
+    (subst (λ (n : ℕ). Takes bytes (verb.0 ∷ noun.0 ∷ n ∷ images) condacts.1) (sym condacts_taken.1)
+    (Takes-then (verb.0 ∷ []) (noun.0 ∷ count.0 ∷ images) verb_taken (Takes-then (noun.0 ∷ []) (count.0 ∷ images) noun_taken (Takes-then (count.0 ∷ []) images count_taken condacts_taken.0))))))))
+
+entry_again : ReadsAgain entry_at entry_image FitsEntry
+unfolding entry_at
+entry_again e rest fits = rw (rows_again condact_at condact_image FitsCondact condact_again e.condacts rest fits.condacts) refl
+
+pub table_takes : TakesRow table_at table_image
+unfolding table_at
+table_takes bytes x fits e =
+    bind_then _ (number_at bytes) _ x e (λ count count_ok e.
+    let count_taken = (number_takes bytes count fits count_ok).0 in
+    let entries_taken = rows_take entry_at entry_image entry_takes count.0 count.1 x count_taken.rest_fits e in
+    subst (λ (n : ℕ). Takes bytes (two_bytes n ++ flat_map entry_image x.0) x.1) (sym entries_taken.1) (Takes-then (two_bytes count.0) (flat_map entry_image x.0) count_taken entries_taken.0))
+
+pub table_again : ReadsAgain table_at table_image FitsTable
+unfolding table_at
+table_again es rest fits = rw (number_again (length es) (flat_map entry_image es ++ rest) fits.count, rows_again entry_at entry_image FitsEntry entry_again es rest fits.entries) refl

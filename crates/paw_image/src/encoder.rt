@@ -1,0 +1,30 @@
+// From a game to the bytes of its image.
+
+ghost use Rattle.std.specs.Prelude.{◌≡◌, ◌<◌, length, IfOk};
+ghost use Rattle.paw_game.specs.Image.{image};
+ghost use Rattle.paw_image.specs.Images.{IsImage, IfDamaged};
+
+use crate::IMAGE_LIMIT;
+use crate::parts::write_parts;
+use crate::refusal::ImageRefusal;
+use paw_game::game::Game;
+use std::alloc::Global;
+
+/// The image of a game.
+///
+/// # Errors
+/// Damaged exactly where the image would be longer than 4,194,304 bytes; the place is that limit. Memory only for want
+/// of memory.
+pub fn encode(alloc: Global, game: &Game) -> Result<Vec<u8>, ImageRefusal>
+    ensures found { IfOk result (λ v. IsImage v.items game.now) }
+    ensures damaged { IfDamaged result (λ _. IMAGE_LIMIT < length (image game.now)) }
+    ensures at { IfDamaged result (λ at. at ≡ IMAGE_LIMIT) }
+{
+    let mut out = Vec::new(alloc);
+    write_parts(game.parts(), &mut out)?;
+    if out.len() > IMAGE_LIMIT {
+        let at = IMAGE_LIMIT as u64;
+        return Err(ImageRefusal::Damaged { at });
+    }
+    Ok(out)
+}

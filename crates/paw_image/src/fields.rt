@@ -1,0 +1,55 @@
+// The fields of an image: bytes, numbers of two bytes, and runs of bytes.
+
+ghost use Rattle.std.specs.Prelude.{◌≡◌, ◌^◌, ◌<◌, ◌++◌, OnOk};
+ghost use Rattle.paw_game.specs.Image.{two_bytes};
+ghost use Rattle.paw_image.specs.Reading.{Gives, byte_at, bytes_at, number_at};
+
+use crate::fault::ReadFault;
+use std::alloc::AllocError;
+
+/// The byte at the front.
+pub fn read_byte(bytes: &[u8]) -> Result<(u8, &[u8]), ReadFault>
+    ensures gives { Gives (λ x. (x.0, x.1.now)) result (byte_at bytes.now) }
+{
+    match bytes {
+        [] => Err(ReadFault::Damaged { left: 0 }),
+        [byte, rest @ ..] => Ok((*byte, rest)),
+    }
+}
+
+/// The first `count` bytes.
+pub fn read_bytes(count: usize, bytes: &[u8]) -> Result<(&[u8], &[u8]), ReadFault>
+    ensures gives { Gives (λ x. (x.0.now, x.1.now)) result (bytes_at count bytes.now) }
+{
+    if bytes.len() < count {
+        return Err(ReadFault::Damaged { left: bytes.len() });
+    }
+    Ok(bytes.split_at(count))
+}
+
+/// The first N bytes.
+pub fn read_array<const N: usize>(bytes: &[u8]) -> Result<([u8; N], &[u8]), ReadFault>
+    ensures gives { Gives (λ x. (x.0, x.1.now)) result (bytes_at N bytes.now) }
+{
+    match bytes.split_first_chunk::<N>() {
+        Some((front, rest)) => Ok((*front, rest)),
+        None => Err(ReadFault::Damaged { left: bytes.len() }),
+    }
+}
+
+/// The number in the first two bytes, the low one first.
+#[tactic(auto, unfolding(crate::specs::Reading::number_at))]
+pub fn read_number(bytes: &[u8]) -> Result<(u16, &[u8]), ReadFault>
+    ensures gives { Gives (λ x. (x.0, x.1.now)) result (number_at bytes.now) }
+{
+    let (two, rest) = read_array(bytes)?;
+    Ok((u16::from_le_bytes(two), rest))
+}
+
+/// Writes a number as two bytes at the end, the low one first.
+pub fn write_number(number: usize, out: &mut Vec<u8>) -> Result<(), AllocError>
+    requires fits { number < 2 ^ 16 }
+    ensures writes { OnOk result (out.new.items ≡ out.old.items ++ two_bytes number) }
+{
+    out.extend_from_slice(&(number as u16).to_le_bytes())
+}

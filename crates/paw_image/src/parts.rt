@@ -1,0 +1,134 @@
+// The seven lists of a game, as an image has them.
+
+ghost use Rattle.std.specs.Prelude.{◌≡◌, ◌++◌, OnOk};
+ghost use Rattle.paw_game.specs.Image.{head_image, image};
+ghost use Rattle.paw_image.specs.Sizes.{FitsCounts, FitsGame};
+ghost use Rattle.paw_image.specs.Reading.{Gives, mark_at, version_at, counts_at, lists_at, all_of};
+
+use crate::fault::ReadFault;
+use crate::fields::{read_array, read_byte, read_number, write_number};
+use crate::rows::{read_rows, write_rows};
+use paw_base::parts::Counts;
+use paw_game::parts::GameParts;
+use std::alloc::{AllocError, Global};
+
+/// The first bytes of every image.
+const MARK: [u8; 4] = *b"PAWI";
+
+/// The version of an image.
+const VERSION: u8 = 1;
+
+/// The bytes after the mark.
+#[tactic(auto, unfolding(crate::specs::Reading::mark_at))]
+fn read_mark(bytes: &[u8]) -> Result<&[u8], ReadFault>
+    ensures gives { Gives (λ x. (tt, x.now)) result (mark_at bytes.now) }
+{
+    let (mark, rest) = read_array(bytes)?;
+    if mark != MARK {
+        return Err(ReadFault::Damaged { left: bytes.len() });
+    }
+    Ok(rest)
+}
+
+/// The bytes after the version.
+#[tactic(auto, unfolding(crate::specs::Reading::version_at))]
+fn read_version(bytes: &[u8]) -> Result<&[u8], ReadFault>
+    ensures gives { Gives (λ x. (tt, x.now)) result (version_at bytes.now) }
+{
+    let (version, rest) = read_byte(bytes)?;
+    if version != VERSION {
+        return Err(ReadFault::Damaged { left: bytes.len() });
+    }
+    Ok(rest)
+}
+
+/// How many rows each list has.
+#[tactic(auto, unfolding(crate::specs::Reading::counts_at))]
+fn read_counts(bytes: &[u8]) -> Result<(Counts, &[u8]), ReadFault>
+    ensures gives { Gives (λ x. (x.0, x.1.now)) result (counts_at bytes.now) }
+{
+    let (words, rest) = read_number(bytes)?;
+    let (system, rest) = read_number(rest)?;
+    let (messages, rest) = read_number(rest)?;
+    let (objects, rest) = read_number(rest)?;
+    let (locations, rest) = read_number(rest)?;
+    let (tables, rest) = read_number(rest)?;
+    let counts = Counts {
+        words,
+        system,
+        messages,
+        objects,
+        locations,
+        tables,
+    };
+    Ok((counts, rest))
+}
+
+/// The lists, with so many rows.
+#[tactic(auto, unfolding(crate::specs::Reading::lists_at))]
+fn read_lists(alloc: Global, counts: Counts, bytes: &[u8]) -> Result<(GameParts, &[u8]), ReadFault>
+    ensures gives { Gives (λ x. (x.0, x.1.now)) result (lists_at counts bytes.now) }
+{
+    let (words, rest) = read_rows(alloc, counts.words as usize, bytes)?;
+    let (system, rest) = read_rows(alloc, counts.system as usize, rest)?;
+    let (messages, rest) = read_rows(alloc, counts.messages as usize, rest)?;
+    let (objects, rest) = read_rows(alloc, counts.objects as usize, rest)?;
+    let (locations, rest) = read_rows(alloc, counts.locations as usize, rest)?;
+    let (exits, rest) = read_rows(alloc, counts.locations as usize, rest)?;
+    let (tables, rest) = read_rows(alloc, counts.tables as usize, rest)?;
+    let parts = GameParts {
+        words,
+        system,
+        messages,
+        objects,
+        locations,
+        exits,
+        tables,
+    };
+    Ok((parts, rest))
+}
+
+/// The lists that all of the bytes are the image of.
+#[tactic(auto, unfolding(crate::specs::Reading::all_of))]
+pub fn read_parts(alloc: Global, bytes: &[u8]) -> Result<GameParts, ReadFault>
+    ensures gives { Gives (λ x. x) result (all_of bytes.now) }
+{
+    let rest = read_mark(bytes)?;
+    let rest = read_version(rest)?;
+    let (counts, rest) = read_counts(rest)?;
+    let (parts, rest) = read_lists(alloc, counts, rest)?;
+    if !rest.is_empty() {
+        return Err(ReadFault::Damaged { left: rest.len() });
+    }
+    Ok(parts)
+}
+
+/// Writes the mark, the version and the counts at the end.
+fn write_head(parts: &GameParts, out: &mut Vec<u8>) -> Result<(), AllocError>
+    requires fits { FitsCounts parts.now }
+    ensures writes { OnOk result (out.new.items ≡ out.old.items ++ head_image parts.now) }
+{
+    out.extend_from_slice(&MARK)?;
+    out.push(VERSION)?;
+    write_number(parts.words.len(), out)?;
+    write_number(parts.system.len(), out)?;
+    write_number(parts.messages.len(), out)?;
+    write_number(parts.objects.len(), out)?;
+    write_number(parts.locations.len(), out)?;
+    write_number(parts.tables.len(), out)
+}
+
+/// Writes the image of the lists at the end.
+pub fn write_parts(parts: &GameParts, out: &mut Vec<u8>) -> Result<(), AllocError>
+    requires fits { FitsGame parts.now }
+    ensures writes { OnOk result (out.new.items ≡ out.old.items ++ image parts.now) }
+{
+    write_head(parts, out)?;
+    write_rows(&parts.words, out)?;
+    write_rows(&parts.system, out)?;
+    write_rows(&parts.messages, out)?;
+    write_rows(&parts.objects, out)?;
+    write_rows(&parts.locations, out)?;
+    write_rows(&parts.exits, out)?;
+    write_rows(&parts.tables, out)
+}

@@ -1,0 +1,119 @@
+// Tables, their entries and condacts, as rows of an image.
+
+ghost use Rattle.std.specs.Prelude.{◌≡◌, ◌++◌, IfOk, OnOk};
+ghost use Rattle.paw_game.specs.Image.{parameter_image, condact_image, entry_image, table_image};
+ghost use Rattle.paw_image.specs.Sizes.{FitsCondact, FitsEntry, FitsTable};
+ghost use Rattle.paw_image.specs.Reading.{Gives, code_at, parameter_at, condact_at, entry_at, table_at};
+ghost use Rattle.paw_base.specs.Condacts.{row_of};
+
+use crate::fault::ReadFault;
+use crate::fields::{read_byte, read_number, write_number};
+use crate::rows::{Row, read_rows, write_rows};
+use paw_base::parts::Condact;
+use paw_base::rows::{CondactRow, ParamKind, condact_row};
+use paw_game::parts::{Condacts, Entry, Table};
+use std::alloc::{AllocError, Global};
+
+/// A code of a condact, and what the table of condacts says of it.
+fn read_code(bytes: &[u8]) -> Result<((u8, CondactRow), &[u8]), ReadFault>
+    ensures gives { Gives (λ x. (x.0.0, x.1.now)) result (code_at bytes.now) }
+    ensures row { IfOk result (λ x. x.0.1 ≡ row_of x.0.0) }
+{
+    let (code, rest) = read_byte(bytes)?;
+    match condact_row(code) {
+        Some(row) => Ok(((code, row), rest)),
+        None => Err(ReadFault::Damaged { left: bytes.len() }),
+    }
+}
+
+/// A parameter of this kind; 0 where there is none.
+fn read_parameter(kind: ParamKind, bytes: &[u8]) -> Result<(u8, &[u8]), ReadFault>
+    ensures gives { Gives (λ x. (x.0, x.1.now)) result (parameter_at kind bytes.now) }
+{
+    match kind {
+        ParamKind::Absent => Ok((0, bytes)),
+        _ => read_byte(bytes),
+    }
+}
+
+/// Writes a parameter of this kind at the end; nothing where there is none.
+fn write_parameter(kind: ParamKind, value: u8, out: &mut Vec<u8>) -> Result<(), AllocError>
+    ensures writes { OnOk result (out.new.items ≡ out.old.items ++ parameter_image kind value) }
+{
+    match kind {
+        ParamKind::Absent => {}
+        _ => out.push(value)?,
+    }
+    Ok(())
+}
+
+impl Row for Condact {
+    ghost reading = { condact_at };
+
+    ghost spelling = { condact_image };
+
+    ghost fits = { FitsCondact };
+
+    #[tactic(auto, unfolding(crate::specs::Reading::condact_at))]
+    fn read(_: Global, bytes: &[u8]) -> Result<(Condact, &[u8]), ReadFault> {
+        let ((code, row), rest) = read_code(bytes)?;
+        let (a, rest) = read_parameter(row.first, rest)?;
+        let (b, rest) = read_parameter(row.second, rest)?;
+        Ok((Condact { code, a, b }, rest))
+    }
+
+    fn write(&self, out: &mut Vec<u8>) -> Result<(), AllocError> {
+        out.push(self.code)?;
+        let row = condact_row(self.code).unwrap();
+        write_parameter(row.first, self.a, out)?;
+        write_parameter(row.second, self.b, out)
+    }
+}
+
+impl Row for Entry {
+    ghost reading = { entry_at };
+
+    ghost spelling = { entry_image };
+
+    ghost fits = { FitsEntry };
+
+    #[tactic(auto, unfolding(crate::specs::Reading::entry_at))]
+    fn read(alloc: Global, bytes: &[u8]) -> Result<(Entry, &[u8]), ReadFault> {
+        let (verb, rest) = read_byte(bytes)?;
+        let (noun, rest) = read_byte(rest)?;
+        let (count, rest) = read_byte(rest)?;
+        let (rows, rest) = read_rows(alloc, count as usize, rest)?;
+        let entry = Entry {
+            verb,
+            noun,
+            condacts: Condacts { rows },
+        };
+        Ok((entry, rest))
+    }
+
+    fn write(&self, out: &mut Vec<u8>) -> Result<(), AllocError> {
+        let condacts = &self.condacts;
+        out.extend_from_slice(&[self.verb, self.noun, condacts.rows.len() as u8])?;
+        write_rows(&condacts.rows, out)
+    }
+}
+
+impl Row for Table {
+    ghost reading = { table_at };
+
+    ghost spelling = { table_image };
+
+    ghost fits = { FitsTable };
+
+    #[tactic(auto, unfolding(crate::specs::Reading::table_at))]
+    fn read(alloc: Global, bytes: &[u8]) -> Result<(Table, &[u8]), ReadFault> {
+        let (count, rest) = read_number(bytes)?;
+        let (entries, rest) = read_rows(alloc, count as usize, rest)?;
+        Ok((Table { entries }, rest))
+    }
+
+    fn write(&self, out: &mut Vec<u8>) -> Result<(), AllocError> {
+        write_number(self.entries.len(), out)?;
+        write_rows(&self.entries, out)
+    }
+}
