@@ -6,3 +6,4 @@ pub mod Readings
 pub mod Works
 pub mod Hearing
 pub mod Runs
+pub mod Restored

@@ -1,10 +1,11 @@
 -- The rows of the machine, as a list with the innermost first.
-use Rattle.std.proofs.Common.{◌≡◌, ℕ, zero, suc, ◌-◌, ◌≤◌, ◌<◌, false, List, [], ◌∷◌, ◌++◌, Option, length, take, reverse, slice_set, refl, ap, ◌∙◌, subst, arith}
-use Rattle.std.proofs.lemmas.List.{reverse-append}
+use Rattle.std.proofs.Common.{◌≡◌, ℕ, zero, suc, ◌-◌, ◌≤◌, ◌<◌, false, List, [], ◌∷◌, ◌++◌, Option, length, take, drop, replicate, reverse, slice_set, refl, ap, ◌∙◌, subst, arith}
+use Rattle.std.proofs.lemmas.List.{reverse-append, reverse-reverse, length-reverse, length-take}
 use Rattle.std.proofs.Math.Seq.{take-suc, take-suc-set}
 use Rattle.paw_effects.specs.declared.act.Prompt.{Prompt}
 use Rattle.paw_reading.specs.declared.places.Frame.{Frame}
 use Rattle.paw_reading.specs.declared.places.OpenLoop.{OpenLoop}
+use Rattle.paw_process.specs.Kept.{kept, unused}
 use Rattle.paw_process.specs.OpenTables.{OpenTables, below}
 
 -- what the machine's parts are seen as
@@ -35,3 +36,15 @@ pub topped : (v : OpenTables) (rows : List Frame) (n : ℕ) (f : Frame) (turning
 topped v rows n f turning waiting left e h low =
     subst (λ (u : OpenTables). 0 < length u.frames → seen (slice_set rows (n - 1) f) n turning waiting left ≡ record u { frames = f ∷ below u.frames }) e
     (λ k. ap (λ (s : List Frame). record { frames = s; turning = turning; waiting = waiting; left = left }) (top_rows rows n f k low)) h
+
+drop_replicate : (n m : ℕ) (f : Frame) → n ≤ m → drop n (replicate m f) ≡ replicate (m - n) f
+drop_replicate zero m f low = let e : m - 0 ≡ m = omega arith in rw e refl
+drop_replicate (suc n) zero f low = absurd (omega arith)
+drop_replicate (suc n) (suc m) f low = let e : suc m - suc n ≡ m - n = omega arith in rw e (drop_replicate n m f (omega arith))
+
+length_rows : (rows : List Frame) (n : ℕ) → n ≤ length rows → length (reverse (take n rows)) ≡ n
+length_rows rows n low = omega (arith, length-reverse (take n rows), length-take n rows)
+
+pub kept_rows : (v : OpenTables) (rows copied : List Frame) (n : ℕ) (turning : Option OpenLoop) (waiting : Option Prompt) (left : ℕ) → seen rows n turning waiting left ≡ v → copied ≡ take n rows → n ≤ 11 → length rows ≡ 11 → record { count = n; rows = copied ++ drop n (replicate 11 unused); turning = turning } ≡ kept v
+kept_rows v rows copied n turning waiting left e c low size =
+    rw (← e, c, length_rows rows n (omega arith), reverse-reverse (take n rows), drop_replicate n 11 unused low) refl

@@ -5,3 +5,4 @@ pub mod Objects
 pub mod Phrases
 pub mod Work
 pub mod Running
+pub mod Kept

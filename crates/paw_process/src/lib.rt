@@ -3,11 +3,13 @@
 #![tactic(auto)]
 
 mod frame;
+mod kept;
 mod machine;
 mod objects;
 mod phrase;
 mod step;
 
+pub use kept::{FrameFault, Frames};
 pub use machine::{BUDGET, MOST_FRAMES, Machine};
 use paw_base::fault::SpentKind;
 use paw_effects::act::Prompt;

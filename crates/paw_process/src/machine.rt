@@ -1,6 +1,6 @@
 // The machine: which tables are open, and what it may still read.
 
-ghost use Rattle.std.specs.Prelude.{◌≡◌, ℕ, ◌+◌, ◌<◌, ◌≤◌, ◌^◌, List, [], ◌∷◌, length, true, false, Some, None};
+ghost use Rattle.std.specs.Prelude.{◌≡◌, ℕ, ◌+◌, ◌<◌, ◌≤◌, ◌^◌, List, [], ◌∷◌, length, true, false, Some, None, IfOk, IfErr};
 ghost use Rattle.paw_game.specs.Game.{GameLists};
 ghost use Rattle.paw_game.specs.Valid.{Valid};
 ghost use Rattle.paw_effects.specs.Built.{AllBuilt, IsOf};
@@ -8,10 +8,12 @@ ghost use Rattle.paw_effects.specs.declared.act.Prompt.TheVariants as prompt;
 ghost use Rattle.paw_reading.specs.Run.{Run, is_ignored, heard, reply, is_yes};
 ghost use Rattle.paw_reading.specs.GoingOn.{on_path};
 ghost use Rattle.paw_process.specs.OpenTables.{OpenTables, below, IsReading, IsWaiting, IsClosed};
+ghost use Rattle.paw_process.specs.Kept.{kept, restored, waiting_at, frames_fault, StandsAt};
 ghost use Rattle.paw_process.specs.Meaning.{held, going_on, RunsTo, IsStopped, AwaitsAnswer, AnswersQuit, AnswersKey};
 
 use crate::Turned;
 use crate::frame::{answered, start_of};
+use crate::kept::{FrameFault, Frames, frames_fault, waiting_at};
 use paw_base::piece::Piece;
 use paw_effects::act::Prompt;
 use paw_game::tables::Tables;
@@ -129,6 +131,49 @@ impl Machine {
                 None => {}
             }
         }
+    }
+
+    /// The places of the machine, to be kept where it waits.
+    pub fn frames(&self) -> Frames
+        ensures value { result ≡ kept self.now }
+    {
+        let mut rows = [start_of(0); MOST_FRAMES];
+        rows[..self.count].copy_from_slice(&self.rows[..self.count]);
+        Frames {
+            count: self.count as u8,
+            rows,
+            turning: self.turning,
+        }
+    }
+
+    /// A machine of kept places, which waits at this prompt, with a full budget.
+    ///
+    /// # Errors
+    /// The least depth at which the places break a rule, exactly where they break one for this game: inside tables the
+    /// outermost table is 0, 1 or 2, each frame but the last is at a PROCESS that calls the next one's table, and the
+    /// last at the condact of the prompt; the open loop is at a DOALL of its level's table. At the other prompts no
+    /// table is open.
+    pub fn restore<T: Tables>(
+        tables: &T,
+        kept: &Frames,
+        prompt: Prompt,
+    ) -> Result<Machine, FrameFault>
+        ensures value { IfOk result (λ m. m ≡ restored kept.now (waiting_at prompt)) }
+        ensures stands { IfOk result (λ m. StandsAt prompt m) }
+        ensures sound { IfOk result (λ m. frames_fault (T.game tables.now) prompt kept.now ≡ None) }
+        ensures fault { IfErr result (λ e. frames_fault (T.game tables.now) prompt kept.now ≡ Some e.depth) }
+    {
+        let _counts = tables.counts();
+        if let Some(depth) = frames_fault(tables, prompt, kept) {
+            return Err(FrameFault { depth });
+        }
+        Ok(Machine {
+            rows: kept.rows,
+            count: kept.count as usize,
+            turning: kept.turning,
+            waiting: waiting_at(prompt),
+            left: BUDGET,
+        })
     }
 
     /// How many tables are open.

@@ -1,0 +1,134 @@
+-- What is kept of a machine that waits, and the rules that it keeps.
+use Rattle.std.specs.Prelude.{ℕ, suc, ◌-◌, ◌==◌, ◌&&◌, Bool, false, not, List, [], ◌∷◌, ◌++◌, Option, Some, None, length, reverse, replicate, take, slice_get, nat_lt, nat_le, if◌then◌else◌}
+use Rattle.paw_base.specs.declared.parts.Condact.{Condact}
+use Rattle.paw_game.specs.Game.{GameLists}
+use Rattle.paw_game.specs.Tables.{condact_at}
+use Rattle.paw_game.specs.Valid.{is_place}
+use Rattle.paw_effects.specs.declared.act.Prompt.{Prompt}
+use Rattle.paw_effects.specs.declared.act.Prompt.TheVariants as prompt
+use Rattle.paw_reading.specs.declared.places.Frame.{Frame}
+use Rattle.paw_reading.specs.declared.places.OpenLoop.{OpenLoop}
+use Rattle.paw_process.specs.OpenTables.{OpenTables, IsWaiting, IsClosed}
+use Rattle.paw_process.specs.declared.kept.Frames.{Frames}
+
+-- an unused row
+abbrev pub unused : Frame
+unused = record { table = 0; entry = 0; at = 0; acted = false }
+
+-- the frames with the outermost first, and unused rows up to eleven
+abbrev pub kept : OpenTables → Frames
+kept m = record {
+  count = length m.frames;
+  rows = reverse m.frames ++ replicate (11 - length m.frames) unused;
+  turning = m.turning;
+}
+
+-- the machine of what is kept, which waits at this prompt, with a full budget
+abbrev pub restored : Frames → Option Prompt → OpenTables
+restored k waiting = record {
+  frames = reverse (take k.count k.rows);
+  turning = k.turning;
+  waiting = waiting;
+  left = 200000;
+}
+
+-- ---- the rules ----
+
+-- the condact at which a machine waits for this prompt: QUIT, END or ANYKEY
+abbrev pub waiting_code : Prompt → Option ℕ
+waiting_code prompt.Main = None
+waiting_code prompt.Quit = Some 27
+waiting_code prompt.Again = Some 31
+waiting_code prompt.Key = Some 35
+waiting_code prompt.Over = None
+
+-- the outermost table is 0, 1 or 2; any other is the one that is called
+abbrev pub may_open : Option ℕ → ℕ → Bool
+may_open None t = nat_le t 2
+may_open (Some u) t = t == u
+
+abbrev pub has_code : ℕ → Option Condact → Bool
+has_code code None = false
+has_code code (Some c) = c.code == code
+
+abbrev pub parameter_of : Option Condact → ℕ
+parameter_of None = 0
+parameter_of (Some c) = c.a
+
+abbrev pub condact_of : GameLists → Frame → Option Condact
+condact_of g f = condact_at g f.table f.entry f.at
+
+abbrev pub is_unused : Frame → Bool
+is_unused f = (f.table == 0) && ((f.entry == 0) && ((f.at == 0) && not f.acted))
+
+-- a row stands where n rows are used from it on: each but the last at a PROCESS, the last at this condact
+abbrev pub row_stands : GameLists → ℕ → Option ℕ → ℕ → Frame → Bool
+row_stands g code caller n f =
+    if n == 0 then is_unused f
+    else may_open caller f.table && has_code (if n == 1 then code else 85) (condact_of g f)
+
+-- the depth of the first row that doesn't stand, counted from d on; each PROCESS calls the next row's table
+unfoldable pub rows_fault : GameLists → ℕ → Option ℕ → ℕ → ℕ → List Frame → Option ℕ
+rows_fault g code caller n d [] = None
+rows_fault g code caller n d (f ∷ fs) =
+    if row_stands g code caller n f
+    then rows_fault g code (Some (parameter_of (condact_of g f))) (n - 1) (suc d) fs else Some d
+
+abbrev pub table_of : Option Frame → Option ℕ
+table_of None = None
+table_of (Some f) = Some f.table
+
+abbrev pub is_table : Option ℕ → ℕ → Bool
+is_table None t = false
+is_table (Some u) t = t == u
+
+-- the open loop is at a DOALL of the table of its level, and its place and its last object are the game's
+abbrev pub loop_stands : GameLists → Frames → OpenLoop → Bool
+loop_stands g k l =
+    nat_lt l.level k.count && (is_table (table_of (slice_get k.rows l.level)) l.table
+    && (has_code 86 (condact_at g l.table l.entry l.at)
+    && (is_place (length g.locations) l.place && nat_lt l.last (length g.objects))))
+
+-- the depth of a loop that breaks its rule is 11
+abbrev pub loop_fault : GameLists → Frames → Option OpenLoop → Option ℕ
+loop_fault g k None = None
+loop_fault g k (Some l) = if loop_stands g k l then None else Some 11
+
+abbrev pub first_fault : Option ℕ → Option ℕ → Option ℕ
+first_fault None later = later
+first_fault (Some d) later = Some d
+
+-- one to eleven tables are open where a machine waits inside tables; else none is
+abbrev pub count_fits : Option ℕ → ℕ → Bool
+count_fits None n = n == 0
+count_fits (Some code) n = nat_lt 0 n && nat_le n 11
+
+abbrev pub or_none : Option ℕ → ℕ
+or_none None = 0
+or_none (Some code) = code
+
+abbrev pub fault_at : GameLists → Option ℕ → Frames → Option ℕ
+fault_at g code k =
+    if count_fits code k.count
+    then first_fault (rows_fault g (or_none code) None k.count 0 k.rows) (loop_fault g k k.turning) else Some 0
+
+-- the least depth at which what is kept of a machine that waits at this prompt breaks a rule: a frame, 11 for the loop, 0
+-- for the number of frames; nothing where it keeps them all
+abbrev pub frames_fault : GameLists → Prompt → Frames → Option ℕ
+frames_fault g p k = fault_at g (waiting_code p) k
+
+-- inside tables the machine waits at the prompt, and else nothing is open
+abbrev pub StandsAt : Prompt → OpenTables → Type 0
+StandsAt prompt.Main m = IsClosed m
+StandsAt prompt.Quit m = IsWaiting prompt.Quit m
+StandsAt prompt.Again m = IsWaiting prompt.Again m
+StandsAt prompt.Key m = IsWaiting prompt.Key m
+StandsAt prompt.Over m = IsClosed m
+
+-- the prompt inside tables
+abbrev pub waiting_at : Prompt → Option Prompt
+waiting_at prompt.Main = None
+waiting_at prompt.Quit = Some prompt.Quit
+waiting_at prompt.Again = Some prompt.Again
+waiting_at prompt.Key = Some prompt.Key
+waiting_at prompt.Over = None
