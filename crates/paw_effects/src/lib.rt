@@ -3,4 +3,5 @@
 
 pub mod act;
 pub mod does;
+pub mod presence;
 pub mod text;
