@@ -1,12 +1,13 @@
 // The machine: which tables are open, and what it may still read.
 
-ghost use Rattle.std.specs.Prelude.{◌≡◌, ℕ, ◌+◌, ◌<◌, ◌≤◌, ◌^◌, List, [], ◌∷◌, length, true, false, Some, None, IfOk, IfErr};
+ghost use Rattle.std.specs.Prelude.{◌≡◌, ℕ, ◌+◌, ◌<◌, ◌≤◌, ◌^◌, List, [], ◌∷◌, length, reverse, true, false, Some, None, IfOk, IfErr};
 ghost use Rattle.paw_game.specs.Game.{GameLists};
 ghost use Rattle.paw_game.specs.Valid.{Valid};
 ghost use Rattle.paw_effects.specs.Built.{AllBuilt, IsOf};
 ghost use Rattle.paw_effects.specs.declared.act.Prompt.TheVariants as prompt;
 ghost use Rattle.paw_reading.specs.Run.{Run, is_ignored, heard, reply, is_yes};
 ghost use Rattle.paw_reading.specs.GoingOn.{on_path};
+ghost use Rattle.paw_reading.specs.Turn.{first_table};
 ghost use Rattle.paw_process.specs.OpenTables.{OpenTables, below, IsReading, IsWaiting, IsClosed};
 ghost use Rattle.paw_process.specs.Kept.{kept, restored, waiting_at, frames_fault, StandsAt};
 ghost use Rattle.paw_process.specs.Meaning.{held, going_on, RunsTo, IsStopped, AwaitsAnswer, AnswersQuit, AnswersKey};
@@ -174,6 +175,14 @@ impl Machine {
             waiting: waiting_at(prompt),
             left: BUDGET,
         })
+    }
+
+    /// The outermost of the tables that are open.
+    pub fn first_table(&self) -> u8
+        requires some { 0 < length self.now.frames }
+        ensures value { result ≡ first_table (reverse self.now.frames) }
+    {
+        self.rows[0].table
     }
 
     /// How many tables are open.
