@@ -1,0 +1,73 @@
+-- What is left to do falls from stage to stage.
+use Rattle.std.proofs.Common.{◌≡◌, ℕ, zero, suc, ◌+◌, ◌-◌, ◌*◌, ◌<◌, ◌≤◌, false, List, [], ◌∷◌, ◌++◌, length, refl, sym, ap, ◌∙◌, subst, arith, lit≤, length-append}
+use Rattle.std.proofs.Math.ListN.{replicate}
+use Rattle.std.proofs.lemmas.List.{length-replicate}
+use Rattle.paw_game.specs.Game.{GameLists}
+use Rattle.paw_reading.specs.declared.places.Frame.{Frame}
+use Rattle.paw_reading.specs.Run.{Run, Step as Read}
+use Rattle.paw_reading.specs.Reading.{Out, table_read}
+use Rattle.paw_reading.specs.Turn.{left_to_read}
+use Rattle.paw_process.specs.Meaning.{ComesTo}
+use Rattle.paw_process.specs.declared.Turned.{Turned}
+use Rattle.paw_process.specs.declared.Turned.TheVariants as turned
+use Rattle.paw_turn.specs.declared.stage.Stage.TheVariants as stage
+use Rattle.paw_turn.specs.declared.stage.Next.{Next}
+use Rattle.paw_turn.specs.declared.stage.Next.TheVariants as next
+use Rattle.paw_turn.specs.declared.turn.Turn.{Turn}
+use Rattle.paw_turn.specs.Stages.{Past, run_of, HasRead, having_read, left_of, table_rank, work, Falls, FallsAfter, RunsAs, from_table, Leaves, Uses}
+use Rattle.paw_reading.proofs.Spends.{Spends, table_spends}
+
+pub falls_up : (a b : ℕ) (n : Next) (new : Turn) → a ≤ b → Falls a n new → Falls b n new
+falls_up a b (next.Go s) new h falls = omega arith
+falls_up a b (next.Stop step) new h falls = tt
+
+-- any condact
+some_read : Read
+some_read = record { table = 0; entry = 0; at = 0; code = 0; passed = false }
+
+-- some past of a machine with a budget
+pub some_past : (h : Turn) → h.machine.left ≤ 200000 → (past : Past) × HasRead past.read h
+some_past h low =
+    (record { read = replicate (200000 - h.machine.left) some_read; pieces = []; traces = [] },
+    omega (arith, length-replicate (200000 - h.machine.left) some_read))
+
+-- the run of a machine shows what may still be read
+left_shown : (h : Turn) (past : Past) → HasRead past.read h → left_to_read (run_of h past []) ≡ left_of h
+left_shown h past has = omega arith
+
+leaves_by : (g : GameLists) (turned : Turned) (fs : List Frame) (first r : Run) (x : Out) (old new : ℕ) → ComesTo g [] turned fs r x
+    → left_to_read first ≡ old → left_to_read r ≡ new → Spends (left_to_read first) x → Leaves turned old new
+leaves_by g (turned.Left acted) fs first r x old new comes e f spends =
+    let h : left_to_read r ≤ left_to_read first = subst (Spends (left_to_read first)) comes spends in omega arith
+leaves_by g turned.Redescribe fs first r x old new comes e f spends =
+    let h : left_to_read r < left_to_read first = subst (Spends (left_to_read first)) comes spends in omega arith
+leaves_by g (turned.Waits p) fs first r x old new comes e f spends = tt
+leaves_by g (turned.Spent kind) fs first r x old new comes e f spends = tt
+leaves_by g (turned.TooDeep u) fs first r x old new comes e f spends = tt
+
+pub uses : (g : GameLists) (t : ℕ) (old mid : Turn) (turned : Turned) → old.machine.left ≤ 200000 → RunsAs g (from_table g t old) old turned mid → Uses turned old mid
+uses g t old mid turned budget runs =
+    let some = some_past old budget in
+    let run = runs some.0 some.1 in
+    let read : List Read = some.0.read ++ run.0 in
+    let has : HasRead read mid = omega (arith, length-append some.0.read run.0, run.1.0, some.1) in
+    record {
+      left = omega (arith, run.1.0);
+      leaves = leaves_by g turned mid.machine.frames (run_of old some.0 []) (run_of mid (having_read read some.0) []) (table_read g [] t (run_of old some.0 []))
+          (left_of old) (left_of mid) (run.1.1 []) (left_shown old some.0 some.1) (left_shown mid (having_read read some.0) has) (table_spends g [] t (run_of old some.0 []));
+    }
+
+table_rank_low : (t : ℕ) → 2 ≤ table_rank t
+table_rank_low zero = lit≤ tt
+table_rank_low (suc zero) = lit≤ tt
+table_rank_low (suc (suc t)) = lit≤ tt
+
+-- with the stage after a table there is less to do
+pub table_falls : (t : ℕ) (turned : Turned) (old mid new : Turn) (n : Next) → Uses turned old mid → FallsAfter t turned mid n new → Falls (4 * left_of old + table_rank t) n new
+table_falls t (turned.Left acted) old mid new n used falls = falls_up _ _ n new (omega (arith, used.leaves)) falls
+table_falls t turned.Redescribe old mid new n used falls =
+    subst (λ (m : Next). Falls (4 * left_of old + table_rank t) m new) (sym falls.0)
+    (subst (λ (h : Turn). work stage.Describe h < 4 * left_of old + table_rank t) (sym falls.1) (omega (arith, used.leaves, table_rank_low t)))
+table_falls t (turned.Waits p) old mid new n used falls = falls _
+table_falls t (turned.Spent kind) old mid new n used falls = falls _
+table_falls t (turned.TooDeep u) old mid new n used falls = falls _

@@ -1,0 +1,12 @@
+pub mod Tables
+pub mod Says
+pub mod Prompts
+pub mod Describing
+pub mod Phrasing
+pub mod Reading
+pub mod Falling
+pub mod Playing
+pub mod Waiting
+pub mod Hearing
+pub mod Answering
+pub mod Renewing

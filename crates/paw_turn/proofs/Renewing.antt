@@ -1,0 +1,135 @@
+-- The answer to END's question.
+use Rattle.std.proofs.Common.{◌≡◌, ℕ, suc, ◌+◌, ◌<◌, ◌≤◌, Bool, true, false, List, [], ◌∷◌, ◌++◌, Option, None, length, reverse, map, refl, sym, ap, ◌∙◌, subst, arith}
+use Rattle.std.specs.Prelude.{if◌then◌else◌, nat_le}
+use Rattle.std.proofs.lemmas.List.{length-reverse, length-map}
+use Rattle.std.proofs.lemmas.Bool.Decides.{nat_tests}
+use Rattle.paw_base.specs.declared.fault.SpentKind.TheVariants as spent
+use Rattle.paw_base.specs.declared.parts.ObjectFacts.{ObjectFacts}
+use Rattle.paw_game.specs.Game.{GameLists}
+use Rattle.paw_world.specs.World.{World, flags_with, restarted}
+use Rattle.paw_effects.specs.Built.{IsOf}
+use Rattle.paw_effects.specs.declared.act.Prompt.TheVariants as prompt
+use Rattle.paw_effects.specs.Texts.{say_text}
+use Rattle.paw_reading.specs.declared.places.Frame.{Frame}
+use Rattle.paw_reading.specs.declared.places.OpenLoop.{OpenLoop}
+use Rattle.paw_reading.specs.Run.{Run, closed, fits, printed, without_loop, line_dropped, anew, is_timeout, is_ignored, heard, with_timeout, reply, is_no}
+use Rattle.paw_reading.specs.Reading.{Out, Restarts, Ends, IsSpent, after_call, again, asked, looped, deeper, plain, rest}
+use Rattle.paw_reading.specs.GoingOn.{on_path}
+use Rattle.paw_reading.specs.Turn.{Ending, IsOver, RunsOut, AtDescribe, Stage, table_done, turn, first_table}
+use Rattle.paw_process.specs.Meaning.{to_come}
+use Rattle.paw_turn.specs.declared.Step.TheVariants as step
+use Rattle.paw_turn.specs.declared.stage.Stage.TheVariants as stage
+use Rattle.paw_turn.specs.declared.stage.Next.TheVariants as next
+use Rattle.paw_turn.specs.declared.turn.Turn.{Turn}
+use Rattle.paw_turn.specs.Stages.{Past, run_of, PlaysAs, from_prompt, ChangesFlags}
+
+-- at no the game is over or the piece is spent, and else it starts anew
+abbrev final : Bool → Bool → Run → Run → Run → Out
+final declines fit e s d = if declines then (if fit then Ends e else IsSpent spent.Text s) else Restarts d
+
+-- the answer, once it is heard
+abbrev answer_of : GameLists → List ℕ → Run → Out
+answer_of g line r =
+    final (is_no (reply line)) (fits r (say_text g r.world 14)) (closed (without_loop (line_dropped (printed (say_text g r.world 14) r)))) r (anew r)
+
+final_again : (lv : ℕ) (next : OpenLoop → Run → Out) (declines fit : Bool) (e s d : Run) → again lv next (final declines fit e s d) ≡ final declines fit e s d
+final_again lv next true true e s d = refl
+final_again lv next true false e s d = refl
+final_again lv next false fit e s d = refl
+
+final_call : (f : Frame) (go : Bool → Run → Out) (declines fit : Bool) (e s d : Run) → after_call f go (final declines fit e s d) ≡ final declines fit e s d
+final_call f go true true e s d = refl
+final_call f go true false e s d = refl
+final_call f go false fit e s d = refl
+
+-- the answer is the same in all tables
+path_again : (g : GameLists) (X : List (List ℕ)) (lv : ℕ) (f : Frame) (path : List Frame) (r : Run) (line : List ℕ) (lines : List (List ℕ)) → is_ignored r.world line ≡ false
+    → on_path g X prompt.Again lv (f ∷ path) (to_come (line ∷ lines) r) ≡ answer_of g line (heard line (to_come lines r))
+unfolding asked
+path_again g X lv f [] r line lines hears = rw hears (final_again lv (looped g X (deeper g X lv) lv) _ _ _ _ _)
+path_again g X lv f (h ∷ path) r line lines hears =
+    ap (after_call f (rest g X lv f.table f.entry (suc f.at))) (path_again g X (suc lv) h path r line lines hears)
+    ∙ final_call f (rest g X lv f.table f.entry (suc f.at)) _ _ _ _ _
+
+some_again : (g : GameLists) (path : List Frame) (r : Run) (line : List ℕ) (lines : List (List ℕ)) → 0 < length path → is_ignored r.world line ≡ false
+    → on_path g [] prompt.Again 0 path (to_come (line ∷ lines) r) ≡ answer_of g line (heard line (to_come lines r))
+some_again g [] r line lines some hears = absurd (omega arith)
+some_again g (f ∷ path) r line lines some hears = path_again g [] 0 f path r line lines hears
+
+-- the whole is the answer
+again_is : (g : GameLists) (old : Turn) (line : List ℕ) → 0 < length old.machine.frames → is_ignored old.world line ≡ false → (n : ℕ) (past : Past) (lines : List (List ℕ))
+    → from_prompt g prompt.Again old line n past lines
+    ≡ table_done g (turn g [] n) (first_table (reverse old.machine.frames)) (answer_of g line (heard line (run_of old past lines)))
+again_is g old line some hears n past lines =
+    let many : 0 < length (reverse old.machine.frames) = omega (arith, length-reverse old.machine.frames) in
+    ap (table_done g (turn g [] n) (first_table (reverse old.machine.frames))) (some_again g (reverse old.machine.frames) (run_of old past []) line lines many hears)
+
+final_restarts : (g : GameLists) (go : Stage → Run → Ending) (t : ℕ) (declines fit : Bool) (e s d : Run) → declines ≡ false → table_done g go t (final declines fit e s d) ≡ go AtDescribe d
+final_restarts g go t declines fit e s d is = rw is refl
+
+final_ends : (g : GameLists) (go : Stage → Run → Ending) (t : ℕ) (declines fit : Bool) (e s d : Run) → declines ≡ true → fit ≡ true → table_done g go t (final declines fit e s d) ≡ IsOver e
+final_ends g go t declines fit e s d is fitting = rw (is, fitting) refl
+
+final_spends : (g : GameLists) (go : Stage → Run → Ending) (t : ℕ) (declines fit : Bool) (e s d : Run) → declines ≡ true → fit ≡ false → table_done g go t (final declines fit e s d) ≡ RunsOut spent.Text s
+final_spends g go t declines fit e s d is fitting = rw (is, fitting) refl
+
+-- at any answer but no the game starts anew
+pub again_restarts : (g : GameLists) (old new : Turn) (line : List ℕ) → 0 < length old.machine.frames → is_ignored old.world line ≡ false → is_no (reply line) ≡ false
+    → new.world ≡ restarted (with_timeout (is_timeout line) old.world) → new.pending.bytes ≡ [] → new.pending.earlier ≡ 255
+    → new.machine.turning ≡ None → new.machine.left ≡ old.machine.left → new.piece ≡ old.piece
+    → PlaysAs g (from_prompt g prompt.Again old line) old (next.Go stage.Describe) new
+again_restarts g old new line some hears declines world bytes earlier turning left piece past has = (past.read, (omega arith, λ n lines. (n,
+    again_is g old line some hears n past lines ∙ (final_restarts g (turn g [] n) _ _ _ _ _ _ declines ∙ ap (turn g [] n AtDescribe) (cc (world, bytes, earlier, turning, piece))))))
+
+-- at no the game is over
+pub again_ends : (g : GameLists) (old new : Turn) (line : List ℕ) (w : World) → 0 < length old.machine.frames → is_ignored old.world line ≡ false → is_no (reply line) ≡ true
+    → w ≡ with_timeout (is_timeout line) old.world → length old.piece + length (say_text g w 14) ≤ 65535 → new.piece ≡ old.piece ++ say_text g w 14
+    → new.machine.left ≡ old.machine.left
+    → PlaysAs g (from_prompt g prompt.Again old line) old (next.Stop step.Ended) new
+again_ends g old new line w some hears declines world fit piece left past has =
+    let fit' = subst (λ v. length old.piece + length (say_text g v 14) ≤ 65535) world fit in
+    let piece' = subst (λ v. new.piece ≡ old.piece ++ say_text g v 14) world piece in
+    let text : List ℕ = say_text g (with_timeout (is_timeout line) old.world) 14 in
+    let t : nat_le (length old.piece + length text) 65535 ≡ true = grind (arith, nat_tests, fit') in
+    (past.read, (omega arith, λ n lines. (n,
+    (closed (without_loop (line_dropped (printed text (heard line (run_of old past lines))))),
+    again_is g old line some hears n past lines ∙ final_ends g (turn g [] n) _ _ _ _ _ _ declines t,
+    ap (λ (x : List ℕ). past.pieces ++ x ∷ []) (sym piece'),
+    refl))))
+
+-- where the farewell doesn't fit the piece is spent
+pub again_spends : (g : GameLists) (old new : Turn) (line : List ℕ) (w : World) → 0 < length old.machine.frames → is_ignored old.world line ≡ false → is_no (reply line) ≡ true
+    → w ≡ with_timeout (is_timeout line) old.world → 65535 < length old.piece + length (say_text g w 14) → new.machine.left ≡ old.machine.left
+    → PlaysAs g (from_prompt g prompt.Again old line) old (next.Stop (step.Spent spent.Text)) new
+again_spends g old new line w some hears declines world full left past has =
+    let full' = subst (λ v. 65535 < length old.piece + length (say_text g v 14)) world full in
+    let text : List ℕ = say_text g (with_timeout (is_timeout line) old.world) 14 in
+    let t : nat_le (length old.piece + length text) 65535 ≡ false = grind (arith, nat_tests, full') in
+    (past.read, (omega arith, λ n lines. (n,
+    (heard line (run_of old past lines),
+    again_is g old line some hears n past lines ∙ final_spends g (turn g [] n) _ _ _ _ _ _ declines t,
+    record { pieces = refl; traces = refl; events = refl }))))
+
+-- ---- worlds ----
+
+length_flags : (carried : ℕ) → length (flags_with carried) ≡ 256
+unfolding flags_with
+length_flags carried = refl
+
+-- a game that starts anew has a world of its own
+pub restarted_of : (g : GameLists) (w : World) → IsOf g w → IsOf g (restarted w)
+restarted_of g w of = record {
+  facts = of.facts;
+  locations = of.locations;
+  flags = length_flags _;
+  places = length-map w.facts (λ (f : ObjectFacts). f.start) ∙ (ap length of.facts ∙ length-map g.objects (λ o. o.facts));
+}
+
+-- so has one of which at most flags were changed
+pub changed_of : (g : GameLists) (w v : World) → IsOf g w → ChangesFlags w v → IsOf g v
+changed_of g w v of only = record {
+  facts = only.facts ∙ of.facts;
+  locations = only.locations ∙ of.locations;
+  flags = only.flags ∙ of.flags;
+  places = ap length only.places ∙ of.places;
+}

@@ -1,0 +1,242 @@
+-- Where reading waits: the outermost of the tables that are open is the one that is read, and so is that of its loop.
+use Rattle.std.proofs.Common.{◌≡◌, ℕ, zero, suc, ◌-◌, Bool, true, false, ◌||◌, List, [], ◌∷◌, Option, Some, None, refl, sym, ap, ◌∙◌, subst, length, drop, arith}
+use Rattle.std.specs.Prelude.{◌==◌, if◌then◌else◌, nat_lt, IfSome}
+use Rattle.paw_base.specs.declared.parts.Condact.{Condact}
+use Rattle.paw_base.specs.declared.fault.SpentKind.TheVariants as spent
+use Rattle.paw_game.specs.declared.parts.Entry.{Entry}
+use Rattle.paw_game.specs.Game.{GameLists}
+use Rattle.paw_game.specs.Tables.{table_at, entry_at, condacts_of}
+use Rattle.paw_world.specs.World.{World}
+use Rattle.paw_phrase.specs.Sentence.{Parsed, IsSentence, IsUnknown, IsNoPhrase}
+use Rattle.paw_effects.specs.declared.act.Prompt.{Prompt}
+use Rattle.paw_effects.specs.declared.act.Prompt.TheVariants as prompt
+use Rattle.paw_effects.specs.declared.act.Truth.{Truth}
+use Rattle.paw_effects.specs.declared.act.Truth.TheVariants as truth
+use Rattle.paw_effects.specs.declared.act.Effect.{Effect}
+use Rattle.paw_effects.specs.declared.act.Effect.TheVariants as effect
+use Rattle.paw_effects.specs.Texts.{put_text, say_text}
+use Rattle.paw_effects.specs.Holds.{is_condition, holds}
+use Rattle.paw_effects.specs.Effects.{Done, effect_of}
+use Rattle.paw_reading.specs.declared.places.Frame.{Frame}
+use Rattle.paw_reading.specs.declared.places.OpenLoop.{OpenLoop}
+use Rattle.paw_reading.specs.Run.{Run, closed, fits, printed, with_world, without_loop, line_dropped, anew, is_ignored, heard, reply, is_yes, is_no, taken_phrase}
+use Rattle.paw_reading.specs.Reading.{Out, Left, Waits, Redescribes, Restarts, Ends, IsSpent, IsDeep, noted, after_call, at_level, if_open, again, is_taken, taken, turns, loop_of, over, answered, asked, after_test, after_parse, after_action, carried_out, acts, reads_one, condacts, is_for_now, entries, plain, looped, reads, called, deeper, rest, table_read}
+use Rattle.paw_reading.specs.GoingOn.{on_path}
+use Rattle.paw_reading.specs.Turn.{first_table}
+use Rattle.paw_reading.proofs.Keeps.{either, open_or_not, at_level_is}
+use Rattle.paw_turn.specs.Player.{IsLoopOf}
+
+-- the prompts in tables
+abbrev pub IsInner : Prompt → Type 0
+IsInner prompt.Main = ⊥
+IsInner prompt.Quit = Unit {0}
+IsInner prompt.Again = Unit {0}
+IsInner prompt.Key = Unit {0}
+IsInner prompt.Over = ⊥
+
+-- a wait at this level, where table t is the one at level 0
+pub record WaitsThere (t lv : ℕ) (p : Prompt) (path : List Frame) (turning : Option OpenLoop) : Type 0 where
+  pub inner : IsInner p
+  pub first : lv ≡ 0 → first_table path ≡ t
+  pub loop : IsLoopOf t turning
+
+abbrev pub Stays : ℕ → ℕ → Out → Type 0
+Stays t lv (Left a r) = IsLoopOf t r.turning
+Stays t lv (Waits p path r) = WaitsThere t lv p path r.turning
+Stays t lv (Redescribes r) = Unit {0}
+Stays t lv (Restarts r) = Unit {0}
+Stays t lv (Ends r) = Unit {0}
+Stays t lv (IsSpent kind r) = Unit {0}
+Stays t lv (IsDeep u r) = Unit {0}
+
+-- an action asks at prompts in tables alone
+abbrev pub AsksInner : Effect → Type 0
+AsksInner effect.Go = Unit {0}
+AsksInner (effect.Exit a) = Unit {0}
+AsksInner effect.Redescribe = Unit {0}
+AsksInner (effect.Call u) = Unit {0}
+AsksInner (effect.Loop p) = Unit {0}
+AsksInner (effect.Ask p) = IsInner p
+AsksInner effect.Parse = Unit {0}
+AsksInner effect.Spent = Unit {0}
+
+-- what an action does asks so
+record Asks (d : Done) : Type 0 where
+  inner : AsksInner d.act.effect
+
+-- what holds in both cases
+one_of : (b : Bool) (x y : Done) → Asks x → Asks y → Asks (if b then x else y)
+one_of true x y h k = h
+one_of false x y h k = k
+
+effect_asks : (g : GameLists) (X : List (List ℕ)) (w : World) (c : Condact) → Asks (effect_of g X w c)
+unfolding effect_of
+effect_asks g X w c =
+    one_of (c.code == 30) _ _ (record { inner = tt }) (one_of (c.code == 32) _ _ (record { inner = tt })
+    (one_of (c.code == 49) _ _ (record { inner = tt }) (one_of (c.code == 50) _ _ (record { inner = tt }) (record { inner = tt }))))
+
+module _ (t : ℕ) where
+  -- reading on at a level stays so
+  abbrev GoesStaying : ℕ → (Bool → Run → Out) → Type 0
+  GoesStaying lv go = (a : Bool) (r : Run) → IsLoopOf t r.turning → Stays t lv (go a r)
+
+  -- so do calls from a level
+  abbrev CallsStaying : ℕ → (ℕ → Run → Out) → Type 0
+  CallsStaying lv sub = (u : ℕ) (r : Run) → IsLoopOf t r.turning → Stays t (suc lv) (sub u r)
+
+  -- this table may be read at this level
+  abbrev IsOwn : ℕ → ℕ → Type 0
+  IsOwn lv u = lv ≡ 0 → u ≡ t
+
+  again_stays : (lv : ℕ) (next : OpenLoop → Run → Out) → ((l : OpenLoop) (r : Run) → at_level lv r.turning ≡ Some l → IsLoopOf t r.turning → Stays t lv (next l r))
+      → (x : Out) → Stays t lv x → Stays t lv (again lv next x)
+  again_stays lv next h (Left a r) k = open_or_not (Stays t lv) (λ l. next l r) (Left a r) (at_level lv r.turning) (λ l e. h l r e k) (λ none. k)
+  again_stays lv next h (Waits p path r) k = k
+  again_stays lv next h (Redescribes r) k = tt
+  again_stays lv next h (Restarts r) k = tt
+  again_stays lv next h (Ends r) k = tt
+  again_stays lv next h (IsSpent kind r) k = tt
+  again_stays lv next h (IsDeep u r) k = tt
+
+  turns_stays : (g : GameLists) (lv : ℕ) (l : OpenLoop) (body : Run → Out) → IsOwn l.level l.table → ((r : Run) → IsLoopOf t r.turning → Stays t lv (body r))
+      → (n : ℕ) (r : Run) → Stays t lv (turns g lv l body n r)
+  unfolding turns
+  turns_stays g lv l body own h zero r = tt
+  turns_stays g lv l body own h (suc n) r =
+      let o : ℕ = length g.objects - suc n in
+      either (Stays t lv) (is_taken g r.world l o) _ _
+      (again_stays lv _ (λ m s e k. turns_stays g lv l body own h n s) (body (taken g l o r)) (h (taken g l o r) own))
+      (turns_stays g lv l body own h n r)
+
+  -- ---- calls, prompts, phrases ----
+
+  after_call_stays : (lv : ℕ) (f : Frame) (go : Bool → Run → Out) → IsOwn lv f.table → GoesStaying lv go → (x : Out) → Stays t (suc lv) x → Stays t lv (after_call f go x)
+  after_call_stays lv f go own h (Left b r) k = h (f.acted || b) r k
+  after_call_stays lv f go own h (Waits p path r) k = record { inner = k.inner; first = own; loop = k.loop }
+  after_call_stays lv f go own h (Redescribes r) k = tt
+  after_call_stays lv f go own h (Restarts r) k = tt
+  after_call_stays lv f go own h (Ends r) k = tt
+  after_call_stays lv f go own h (IsSpent kind r) k = tt
+  after_call_stays lv f go own h (IsDeep u r) k = tt
+
+  answered_stays : (g : GameLists) (p : Prompt) (lv : ℕ) (f : Frame) (go : Bool → Run → Out) → GoesStaying lv go → (line : List ℕ) (r : Run) → IsLoopOf t r.turning
+      → Stays t lv (answered g p f go line r)
+  answered_stays g prompt.Main lv f go h line r k = h f.acted r k
+  answered_stays g prompt.Quit lv f go h line r k = either (Stays t lv) (is_yes line) _ (Left true r) (h f.acted r k) k
+  answered_stays g prompt.Again lv f go h line r k =
+      either (Stays t lv) (is_no line) (over g r) (Restarts (anew r))
+      (either (Stays t lv) (fits r (say_text g r.world 14)) (Ends (closed (without_loop (line_dropped (printed (say_text g r.world 14) r))))) (IsSpent spent.Text r) tt tt) tt
+  answered_stays g prompt.Key lv f go h line r k = h true r k
+  answered_stays g prompt.Over lv f go h line r k = h f.acted r k
+
+  asked_stays : (g : GameLists) (p : Prompt) (lv : ℕ) (f : Frame) (go : Bool → Run → Out) → IsInner p → IsOwn lv f.table → GoesStaying lv go
+      → (r : Run) (lines : List (List ℕ)) → IsLoopOf t r.turning → Stays t lv (asked g p f go r lines)
+  unfolding asked
+  asked_stays g p lv f go inner own h r [] k = record { inner = inner; first = own; loop = k }
+  asked_stays g p lv f go inner own h r (line ∷ lines) k =
+      either (Stays t lv) (is_ignored r.world line) _ _ (asked_stays g p lv f go inner own h (closed (record r { events = lines })) lines k)
+      (answered_stays g p lv f go h (reply line) (heard line (record r { events = lines })) k)
+
+  after_parse_stays : (lv : ℕ) (f : Frame) (next go : Bool → Run → Out) → GoesStaying lv next → GoesStaying lv go → (r : Run) (p : Parsed) → IsLoopOf t r.turning
+      → Stays t lv (after_parse f next go r p)
+  after_parse_stays lv f next go hn hg r (IsSentence s rest) k = hn f.acted (taken_phrase s rest r) k
+  after_parse_stays lv f next go hn hg r (IsUnknown rest) k = hg f.acted (record r { pending = rest }) k
+  after_parse_stays lv f next go hn hg r IsNoPhrase k = hg f.acted r k
+
+  cancelled : (b : Bool) (o : Option OpenLoop) → IsLoopOf t o → IsLoopOf t (if b then None else o)
+  cancelled true o k = tt
+  cancelled false o k = k
+
+  -- ---- one condact ----
+
+  module _ (g : GameLists) (X : List (List ℕ)) (sub : ℕ → Run → Out) (lv : ℕ) (calls : CallsStaying lv sub) where
+    after_test_stays : (f : Frame) (next go : Bool → Run → Out) → IsOwn lv f.table → GoesStaying lv next → GoesStaying lv go → (c : Condact) (r : Run) (v : Truth) → IsLoopOf t r.turning
+        → Stays t lv (after_test g f next go c r v)
+    after_test_stays f next go own hn hg c r truth.Yes k = hg f.acted (noted f c true r) k
+    after_test_stays f next go own hn hg c r truth.No k = hn f.acted (noted f c false r) k
+    after_test_stays f next go own hn hg c r truth.Ask k =
+        either (Stays t lv) (fits (noted f c true r) (put_text g r.world 12)) _ (IsSpent spent.Text (noted f c true r))
+        (asked_stays g prompt.Quit lv f go tt own hg (closed (printed (put_text g r.world 12) (noted f c true r))) r.events k) tt
+
+    after_action_stays : (f : Frame) (next go : Bool → Run → Out) → IsOwn lv f.table → GoesStaying lv next → GoesStaying lv go → (e : Effect) → AsksInner e → (r : Run) → IsLoopOf t r.turning
+        → Stays t lv (after_action g sub lv f next go e r)
+    after_action_stays f next go own hn hg effect.Go asks r k = hg true r k
+    after_action_stays f next go own hn hg (effect.Exit a) asks r k = k
+    after_action_stays f next go own hn hg effect.Redescribe asks r k = tt
+    after_action_stays f next go own hn hg (effect.Call u) asks r k = after_call_stays lv f go own hg (sub u r) (calls u r k)
+    after_action_stays f next go own hn hg (effect.Loop p) asks r k = turns_stays g lv (loop_of lv f p) (go true) own (hg true) (length g.objects) r
+    after_action_stays f next go own hn hg (effect.Ask p) asks r k = asked_stays g p lv f go asks own hg (closed r) r.events k
+    after_action_stays f next go own hn hg effect.Parse asks r k = after_parse_stays lv f next go hn hg r _ k
+    after_action_stays f next go own hn hg effect.Spent asks r k = tt
+
+    acts_stays : (f : Frame) (next go : Bool → Run → Out) → IsOwn lv f.table → GoesStaying lv next → GoesStaying lv go → (d : Done) → AsksInner d.act.effect → (r : Run) → IsLoopOf t r.turning
+        → Stays t lv (acts g sub lv f next go d r)
+    acts_stays f next go own hn hg d asks r k =
+        either (Stays t lv) (fits r d.text) _ (IsSpent spent.Text r)
+        (after_action_stays f next go own hn hg d.act.effect asks (carried_out d (printed d.text r)) (cancelled d.act.cancel_loop r.turning k)) tt
+
+    reads_one_stays : (f : Frame) (next go : Bool → Run → Out) → IsOwn lv f.table → GoesStaying lv next → GoesStaying lv go → (c : Condact) (r : Run) → IsLoopOf t r.turning
+        → Stays t lv (reads_one g X sub lv f next go c r)
+    reads_one_stays f next go own hn hg c r k =
+        either (Stays t lv) (is_condition c) _ _
+        (after_test_stays f next go own hn hg c (with_world (holds g r.world c).world r) (holds g r.world c).answer k)
+        (acts_stays f next go own hn hg (effect_of g X r.world c) (effect_asks g X r.world c).inner (noted f c true r) k)
+
+    -- ---- entries, tables ----
+
+    condacts_stay : (u e : ℕ) (next : Bool → Run → Out) → IsOwn lv u → GoesStaying lv next → (k : ℕ) (cs : List Condact) → GoesStaying lv (condacts g X sub lv u e next k cs)
+    unfolding condacts
+    condacts_stay u e next own hn k [] a r h = hn a r h
+    condacts_stay u e next own hn k (c ∷ cs) a r h =
+        either (Stays t lv) (nat_lt (length r.read) 200000) _ (IsSpent spent.Condacts r)
+        (reads_one_stays (record { table = u; entry = e; at = k; acted = a }) next _ own hn (condacts_stay u e next own hn (suc k) cs) c r h) tt
+
+    entries_stay : (u e : ℕ) (es : List Entry) → IsOwn lv u → GoesStaying lv (entries g X sub lv u e es)
+    unfolding entries
+    entries_stay u e [] own a r h = h
+    entries_stay u e (en ∷ es) own a r h =
+        either (Stays t lv) (is_for_now r en) _ _
+        (condacts_stay u e (entries g X sub lv u (suc e) es) own (entries_stay u (suc e) es own) 0 en.condacts a r h)
+        (entries_stay u (suc e) es own a r h)
+
+    plain_stays : (u e k : ℕ) → IsOwn lv u → GoesStaying lv (plain g X sub lv u e k)
+    plain_stays u e zero own a r h = entries_stay u e (drop e (table_at g u)) own a r h
+    plain_stays u e (suc k) own a r h =
+        condacts_stay u e _ own (entries_stay u (suc e) (drop (suc e) (table_at g u)) own) (suc k) (drop (suc k) (condacts_of (entry_at g u e))) a r h
+
+    looped_stays : (l : OpenLoop) (r : Run) → at_level lv r.turning ≡ Some l → IsLoopOf t r.turning → Stays t lv (looped g X sub lv l r)
+    looped_stays l r e h =
+        let at = at_level_is lv r.turning l e in
+        let own : IsOwn l.level l.table = subst (IsLoopOf t) at.1 h in
+        turns_stays g lv (record l { last = 0 }) _ own
+        (plain_stays l.table l.entry (suc l.at) (λ z. own (at.0 ∙ z)) true) (length g.objects - suc l.last) r
+
+    reads_stay : (u e k : ℕ) → IsOwn lv u → GoesStaying lv (reads g X sub lv u e k)
+    reads_stay u e k own a r h = again_stays lv (looped g X sub lv) looped_stays _ (plain_stays u e k own a r h)
+
+  called_stays : (g : GameLists) (X : List (List ℕ)) (n lv : ℕ) → CallsStaying lv (called g X n lv)
+  unfolding called
+  called_stays g X zero lv u r h = tt
+  called_stays g X (suc n) lv u r h = reads_stay g X (called g X n (suc lv)) (suc lv) (called_stays g X n (suc lv)) u 0 0 (λ z. cc) false r h
+
+  rest_stays : (g : GameLists) (X : List (List ℕ)) (lv u e k : ℕ) → IsOwn lv u → GoesStaying lv (rest g X lv u e k)
+  rest_stays g X lv u e k own a r h = reads_stay g X (deeper g X lv) lv (called_stays g X (10 - lv) lv) u e k own a r h
+
+  path_stays : (g : GameLists) (X : List (List ℕ)) (p : Prompt) (lv : ℕ) (f : Frame) (path : List Frame) (r : Run) → IsInner p → IsOwn lv f.table → IsLoopOf t r.turning
+      → Stays t lv (on_path g X p lv (f ∷ path) r)
+  path_stays g X p lv f [] r inner own h =
+      again_stays lv (looped g X (deeper g X lv) lv) (looped_stays g X (deeper g X lv) lv (called_stays g X (10 - lv) lv)) _
+      (asked_stays g p lv f _ inner own (plain_stays g X (deeper g X lv) lv (called_stays g X (10 - lv) lv) f.table f.entry (suc f.at) own) r r.events h)
+  path_stays g X p lv f (i ∷ path) r inner own h =
+      after_call_stays lv f _ own (rest_stays g X lv f.table f.entry (suc f.at) own) _ (path_stays g X p (suc lv) i path r inner (λ z. cc) h)
+
+-- a wait in a table that was read from its start is there
+pub table_waits : (g : GameLists) (X : List (List ℕ)) (t : ℕ) (r s : Run) (p : Prompt) (path : List Frame) → r.turning ≡ None
+    → table_read g X t r ≡ Waits p path s → WaitsThere t 0 p path s.turning
+table_waits g X t r s p path none is =
+    subst (Stays t 0) is (rest_stays t g X 0 t 0 0 (λ z. refl) false r (subst (IsLoopOf t) (sym none) tt))
+
+-- so is a wait that comes after a wait in a table
+pub path_waits : (g : GameLists) (X : List (List ℕ)) (q p : Prompt) (f : Frame) (from path : List Frame) (r s : Run) → IsInner q → IsLoopOf f.table r.turning
+    → on_path g X q 0 (f ∷ from) r ≡ Waits p path s → WaitsThere f.table 0 p path s.turning
+path_waits g X q p f from path r s inner h is = subst (Stays f.table 0) is (path_stays f.table g X q 0 f from r inner (λ z. refl) h)

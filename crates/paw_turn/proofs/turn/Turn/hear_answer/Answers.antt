@@ -1,0 +1,9 @@
+use Rattle.paw_turn.proofs.Answering.{answer_plays}
+use Rattle.paw_turn.proofs.turn.Turn.hear_answer.Goals as goal
+
+pub returns-clause-meaning : goal.returns-clause-meaning
+returns-clause-meaning g c =
+    let t = c.run_answered-turned in
+    let a = c.after_table in
+    answer_plays (g.T.Tables.game c.args.tables.now) c.args.prompt c.first_table-table.result c.args.self.now t.new.self a.new.self c.args.line.now t.result a.result
+    c.requires.awaits c.first_table-table.ensures.value t.ensures.runs a.ensures.meaning a.ensures.left

@@ -1,0 +1,5 @@
+use Rattle.paw_turn.proofs.Prompts.{prompt_unsaid}
+use Rattle.paw_turn.proofs.turn.Turn.prompt.Goals as goal
+
+pub returns-else-show_prompt-clause-meaning : goal.returns-else-show_prompt-clause-meaning
+returns-else-show_prompt-clause-meaning g c = prompt_unsaid _ c.args.self.now c.show_prompt.new.self c.if-show_prompt.ensures.puts

@@ -1,0 +1,93 @@
+-- What a player's answers mean in the reading.
+use Rattle.std.specs.Prelude.{◌≡◌, ℕ, ◌+◌, ◌<◌, ◌≤◌, List, [], ◌∷◌, ◌++◌, Option, Some, None, length, map, reverse, IfSome}
+use Rattle.paw_game.specs.Game.{GameLists}
+use Rattle.paw_game.specs.Valid.{Valid}
+use Rattle.paw_world.specs.World.{World, opened}
+use Rattle.paw_phrase.specs.Pending.{PendingLine}
+use Rattle.paw_effects.specs.declared.act.Prompt.{Prompt}
+use Rattle.paw_effects.specs.declared.act.Prompt.TheVariants as prompt
+use Rattle.paw_effects.specs.Built.{AllBuilt, IsOf}
+use Rattle.paw_reading.specs.declared.places.OpenLoop.{OpenLoop}
+use Rattle.paw_reading.specs.Run.{Run, Step as Read}
+use Rattle.paw_reading.specs.Turn.{Ending, IsOver, RunsOut, CallsTooDeep, first_table, on}
+use Rattle.paw_process.specs.OpenTables.{OpenTables, IsWaiting, IsClosed}
+use Rattle.paw_turn.specs.declared.Step.{Step}
+use Rattle.paw_turn.specs.declared.Step.TheVariants as step
+
+-- a player between two lines: its game, the world, what is left of the line, the tables that are open, the text of the
+-- last piece, and what it came to last
+pub record Seat : Type 0 where
+  pub game : GameLists
+  pub world : World
+  pub pending : PendingLine
+  pub machine : OpenTables
+  pub piece : List ℕ
+  pub last : Step
+
+-- the run that a player stands for, with these closed pieces, what was read in them, and these lines to come
+abbrev pub run_at : Seat → List (List ℕ) → List (List Read) → List (List ℕ) → Run
+run_at p pieces traces lines = record {
+  world = p.world; pending = p.pending.bytes; earlier = p.pending.earlier; turning = p.machine.turning;
+  current = []; read = []; pieces = pieces; traces = traces; events = lines }
+
+-- Playing on comes to this: whatever lines come after, the whole reading of them goes on from the player's prompt with
+-- one piece more; or is over with one piece more; or is spent, or a call is too deep, with no piece more and none to show
+abbrev pub PlaysTo : (List (List ℕ) → Ending) → Step → Seat → List (List ℕ) → List (List Read) → Type 0
+PlaysTo whole (step.Waits p) new pieces traces =
+    (steps : List Read) × ((lines : List (List ℕ)) →
+    whole lines ≡ on new.game [] p (reverse new.machine.frames) (run_at new (pieces ++ new.piece ∷ []) (traces ++ steps ∷ []) lines))
+PlaysTo whole step.Ended new pieces traces =
+    (lines : List (List ℕ)) → (r : Run) × (whole lines ≡ IsOver r) × (r.pieces ≡ pieces ++ new.piece ∷ []) × (r.events ≡ lines)
+PlaysTo whole (step.Spent kind) new pieces traces =
+    (new.piece ≡ []) × ((lines : List (List ℕ)) → (r : Run) × (whole lines ≡ RunsOut kind r) × (r.pieces ≡ pieces) × (r.events ≡ lines))
+PlaysTo whole (step.TooDeep u) new pieces traces =
+    (new.piece ≡ []) × ((lines : List (List ℕ)) → (r : Run) × (whole lines ≡ CallsTooDeep u r) × (r.pieces ≡ pieces) × (r.events ≡ lines))
+
+-- a loop of the outermost level belongs to this table
+abbrev pub IsLoopOf : ℕ → Option OpenLoop → Type 0
+IsLoopOf t turning = IfSome turning (λ l. l.level ≡ 0 → l.table ≡ t)
+
+-- the machine waits at this prompt in the tables that are open
+pub record WaitsIn (p : Prompt) (m : OpenTables) : Type 0 where
+  pub tables : IsWaiting p m
+  pub loop : IsLoopOf (first_table (reverse m.frames)) m.turning
+
+-- at the main prompt no table is open; at an inner one the machine waits there
+abbrev pub StandsAt : Prompt → OpenTables → Type 0
+StandsAt prompt.Main m = IsClosed m
+StandsAt prompt.Quit m = WaitsIn prompt.Quit m
+StandsAt prompt.Again m = WaitsIn prompt.Again m
+StandsAt prompt.Key m = WaitsIn prompt.Key m
+StandsAt prompt.Over m = ⊥
+
+-- a player that is finished has no table open
+abbrev pub Stands : Step → OpenTables → Type 0
+Stands (step.Waits p) m = StandsAt p m
+Stands step.Ended m = IsClosed m
+Stands (step.Spent kind) m = IsClosed m
+Stands (step.TooDeep u) m = IsClosed m
+
+-- a player that is over, spent or too deep takes no more lines
+abbrev pub IsFinished : Step → Type 0
+IsFinished (step.Waits p) = ⊥
+IsFinished step.Ended = Unit {0}
+IsFinished (step.Spent kind) = Unit {0}
+IsFinished (step.TooDeep u) = Unit {0}
+
+-- a player of a valid game whose condacts are built may take lines
+pub record IsSeated (p : Seat) : Type 0 where
+  pub valid : Valid p.game
+  pub built : AllBuilt p.game
+  pub world : IsOf p.game p.world
+  pub machine : Stands p.last p.machine
+
+-- the world at the start of a game
+abbrev pub opening_world : GameLists → ℕ → World
+opening_world g seed = opened (map (λ o. o.facts) g.objects) (length g.locations) seed
+
+-- a player that is new: the game is at its start, and no piece was made
+pub record IsNew (p : Seat) (seed : ℕ) : Type 0 where
+  pub world : p.world ≡ opening_world p.game seed
+  pub pending : p.pending ≡ record { bytes = []; earlier = 255 }
+  pub machine : p.machine ≡ record { frames = []; turning = None; waiting = None; left = 200000 }
+  pub piece : p.piece ≡ []

@@ -1,0 +1,20 @@
+//! Turns: a player takes lines one by one, and gives the piece of text that each brings.
+#![tactic(auto)]
+
+mod flags;
+mod lines;
+mod stage;
+mod turn;
+
+use paw_base::fault::SpentKind;
+use paw_effects::act::Prompt;
+
+/// What a player comes to with a line: it waits at a prompt; the game is over; the piece would read or hold too much;
+/// or a table was called at the deepest level.
+#[derive(Clone, Copy, Drop, PartialEq, Eq, Debug)]
+pub enum Step {
+    Waits(Prompt),
+    Ended,
+    Spent(SpentKind),
+    TooDeep { table: u8 },
+}

@@ -1,0 +1,184 @@
+// The lines that a player takes.
+
+ghost use Rattle.std.specs.Prelude.{◌≡◌, ◌+◌, ◌<◌, ◌≤◌, false, length, reverse};
+ghost use Rattle.paw_base.specs.Piece.{Puts};
+ghost use Rattle.paw_game.specs.Valid.{Valid};
+ghost use Rattle.paw_effects.specs.Built.{AllBuilt, IsOf};
+ghost use Rattle.paw_effects.specs.declared.act.Prompt.TheVariants as prompt;
+ghost use Rattle.paw_reading.specs.Run.{is_timeout, is_ignored, reply, begins_with};
+ghost use Rattle.paw_reading.specs.Turn.{first_table};
+ghost use Rattle.paw_process.specs.OpenTables.{IsClosed};
+ghost use Rattle.paw_turn.specs.declared.stage.Next.TheVariants as next;
+ghost use Rattle.paw_turn.specs.Player.{WaitsIn, StandsAt};
+ghost use Rattle.paw_turn.specs.Stages.{PlaysAs, RunsAs, from_prompt, from_path, IsPlayable, Keeps, StopsInTable, AwaitsAt};
+
+use crate::Step;
+use crate::flags::{self, TIMEOUT};
+use crate::stage::{Next, Stage};
+use crate::turn::Turn;
+use paw_base::fault::SpentKind;
+use paw_effects::act::Prompt;
+use paw_effects::text::say;
+use paw_game::tables::Tables;
+use paw_process::Turned;
+use paw_world::world::World;
+
+/// The system message where the game is over.
+const FAREWELL_MESSAGE: u8 = 14;
+
+/// The system message at a timeout.
+const TIMEOUT_MESSAGE: u8 = 35;
+
+/// Whether a line is ~, which stands for a timeout.
+fn is_timeout(line: &[u8]) -> bool
+    ensures value { result ≡ is_timeout line.now }
+{
+    line == b"~".as_slice()
+}
+
+/// Whether a line changes nothing: it is a timeout, and flag 48 is 0.
+fn is_ignored(world: &World, line: &[u8]) -> bool
+    ensures value { result ≡ is_ignored world.now line.now }
+{
+    is_timeout(line) && world.flag(TIMEOUT) == 0
+}
+
+/// What a line answers to a question: a timeout answers with an empty line.
+fn reply(line: &[u8]) -> &[u8]
+    ensures value { result.now ≡ reply line.now }
+{
+    if is_timeout(line) { &[] } else { line }
+}
+
+/// Whether the first byte that isn't a space is this letter, as a capital or a small one.
+fn begins_with(capital: u8, line: &[u8]) -> bool
+    requires letter { capital + 32 < 256 }
+    ensures value { result ≡ begins_with capital line.now }
+{
+    for &byte in line {
+        if byte != b' ' {
+            return byte == capital || byte == capital + 32;
+        }
+    }
+    false
+}
+
+impl Turn {
+    /// Takes a line at a prompt, and plays on to the next one or to the end.
+    pub(crate) fn take<T: Tables>(&mut self, tables: &T, prompt: Prompt, line: &[u8]) -> Step
+        requires line { length line.now ≤ 255 }
+        requires valid { Valid (T.game tables.now) }
+        requires built { AllBuilt (T.game tables.now) }
+        requires playable { IsPlayable (T.game tables.now) self.old }
+        requires stands { StandsAt prompt self.old.machine }
+        ensures meaning { PlaysAs (T.game tables.now) (from_prompt (T.game tables.now) prompt self.old line.now) self.old (next.Stop result) self.new }
+        ensures keeps { Keeps (T.game tables.now) self.old (next.Stop result) self.new }
+    {
+        match self.hear(tables, prompt, line) {
+            Next::Go(stage) => self.play(tables, stage),
+            Next::Stop(step) => step,
+        }
+    }
+
+    /// Takes a line at a prompt. One that is ignored changes nothing.
+    fn hear<T: Tables>(&mut self, tables: &T, prompt: Prompt, line: &[u8]) -> Next
+        requires line { length line.now ≤ 255 }
+        requires valid { Valid (T.game tables.now) }
+        requires built { AllBuilt (T.game tables.now) }
+        requires playable { IsPlayable (T.game tables.now) self.old }
+        requires stands { StandsAt prompt self.old.machine }
+        ensures meaning { PlaysAs (T.game tables.now) (from_prompt (T.game tables.now) prompt self.old line.now) self.old result self.new }
+        ensures keeps { Keeps (T.game tables.now) self.old result self.new }
+    {
+        if is_ignored(&self.world, line) {
+            return Next::Stop(Step::Waits(prompt));
+        }
+        match prompt {
+            Prompt::Main => self.hear_line(tables, line),
+            Prompt::Quit | Prompt::Key => self.hear_answer(tables, prompt, line),
+            Prompt::Again => self.hear_again(tables, line),
+            Prompt::Over => unreachable!(),
+        }
+    }
+
+    /// Takes a line that isn't ignored at the main prompt: at a timeout message 35 is said, and the frame comes; any other
+    /// line is pending now.
+    fn hear_line<T: Tables>(&mut self, tables: &T, line: &[u8]) -> Next
+        requires line { length line.now ≤ 255 }
+        requires heard { is_ignored self.old.world line.now ≡ false }
+        requires playable { IsPlayable (T.game tables.now) self.old }
+        requires closed { IsClosed self.old.machine }
+        ensures meaning { PlaysAs (T.game tables.now) (from_prompt (T.game tables.now) prompt.Main self.old line.now) self.old result self.new }
+        ensures keeps { Keeps (T.game tables.now) self.old result self.new }
+    {
+        if is_timeout(line) {
+            flags::tell_timeout(&mut self.world, true);
+            self.say(tables, TIMEOUT_MESSAGE, Stage::Frame)
+        } else {
+            flags::tell_timeout(&mut self.world, false);
+            self.pending.set(line);
+            Next::Go(Stage::Phrase)
+        }
+    }
+
+    /// Takes the answer to QUIT's question, or a key, that isn't ignored, and goes on where the tables wait.
+    fn hear_answer<T: Tables>(&mut self, tables: &T, prompt: Prompt, line: &[u8]) -> Next
+        requires heard { is_ignored self.old.world line.now ≡ false }
+        requires valid { Valid (T.game tables.now) }
+        requires built { AllBuilt (T.game tables.now) }
+        requires playable { IsPlayable (T.game tables.now) self.old }
+        requires awaits { AwaitsAt prompt self.old.machine }
+        ensures meaning { PlaysAs (T.game tables.now) (from_prompt (T.game tables.now) prompt self.old line.now) self.old result self.new }
+        ensures keeps { Keeps (T.game tables.now) self.old result self.new }
+    {
+        let table = self.machine.first_table();
+        let turned = self.run_answered(tables, prompt, line);
+        self.after_table(tables, table, turned)
+    }
+
+    /// Gives the machine an answer that isn't ignored, and lets it read on to its next stop.
+    fn run_answered<T: Tables>(&mut self, tables: &T, prompt: Prompt, line: &[u8]) -> Turned
+        requires heard { is_ignored self.old.world line.now ≡ false }
+        requires valid { Valid (T.game tables.now) }
+        requires built { AllBuilt (T.game tables.now) }
+        requires playable { IsPlayable (T.game tables.now) self.old }
+        requires awaits { AwaitsAt prompt self.old.machine }
+        ensures runs { RunsAs (T.game tables.now) (from_path (T.game tables.now) prompt self.old line.now) self.old result self.new }
+        ensures stops { StopsInTable (first_table (reverse self.old.machine.frames)) result self.new.machine }
+        ensures left { self.new.machine.left ≤ self.old.machine.left }
+        ensures world { IsOf (T.game tables.now) self.new.world }
+        ensures draws { self.new.world.draws + self.new.machine.left ≤ self.old.world.draws + self.old.machine.left }
+    {
+        flags::tell_timeout(&mut self.world, is_timeout(line));
+        self.machine.answer(begins_with(b'Y', reply(line)));
+        self.machine.run(
+            tables,
+            &mut self.world,
+            &mut self.pending,
+            &mut self.piece,
+        )
+    }
+
+    /// Takes the answer to END's question that isn't ignored: at no the game is over, and otherwise it starts anew.
+    fn hear_again<T: Tables>(&mut self, tables: &T, line: &[u8]) -> Next
+        requires heard { is_ignored self.old.world line.now ≡ false }
+        requires playable { IsPlayable (T.game tables.now) self.old }
+        requires waits { WaitsIn prompt.Again self.old.machine }
+        ensures meaning { PlaysAs (T.game tables.now) (from_prompt (T.game tables.now) prompt.Again self.old line.now) self.old result self.new }
+        ensures keeps { Keeps (T.game tables.now) self.old result self.new }
+    {
+        flags::tell_timeout(&mut self.world, is_timeout(line));
+        self.machine.close();
+        if !begins_with(b'N', reply(line)) {
+            self.world.restart();
+            self.pending.set(&[]);
+            return Next::Go(Stage::Describe);
+        }
+        self.pending.drop_line();
+        if say(tables, &self.world, &mut self.piece, FAREWELL_MESSAGE) {
+            Next::Stop(Step::Ended)
+        } else {
+            Next::Stop(Step::Spent(SpentKind::Text))
+        }
+    }
+}
