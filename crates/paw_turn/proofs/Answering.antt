@@ -90,10 +90,15 @@ pub answered_runs : (g : GameLists) (p : Prompt) (old mid : Turn) (line : List �
     → RunsAs g (from_path g p old line) old turned mid
 answered_runs g p old mid line w m agrees turned awaits valid hears same world quit key turning left runs past has =
     let h : Turn = record { world = w; pending = old.pending; machine = m; piece = old.piece } in
-    let t = runs (run_of h past []) (record { world = refl; pending = refl; earlier = refl; turning = refl; current = refl; read = omega arith }) in
-    (t.0, (omega (arith, t.1), λ lines.
-    subst (ComesTo g [] turned mid.machine.frames (run_of mid (having_read (past.read ++ t.0) past) lines))
-    (sym (answered_path g p old line w m agrees awaits valid hears same world quit key turning past lines)) (t.2 lines)))
+    let t = runs (run_of h past []) (record { world = refl; pending = refl; earlier = refl; turning = refl; current = refl; read = omega arith }) in (
+      t.0,
+      (
+        omega (arith, t.1),
+        λ lines.
+            subst (ComesTo g [] turned mid.machine.frames (run_of mid (having_read (past.read ++ t.0) past) lines))
+            (sym (answered_path g p old line w m agrees awaits valid hears same world quit key turning past lines)) (t.2 lines),
+      ),
+    )
 
 -- a prompt in tables from which going on is read
 awaited : (g : GameLists) (p : Prompt) (old : Turn) (line : List ℕ) → AwaitsAt p old.machine → (n : ℕ) (past : Past) (lines : List (List ℕ))
@@ -109,11 +114,18 @@ pub answer_plays : (g : GameLists) (p : Prompt) (t : ℕ) (old mid new : Turn) (
     → RunsAs g (from_path g p old line) old turned mid → MovesAfter g t turned mid nx new → new.machine.left ≡ mid.machine.left
     → PlaysAs g (from_prompt g p old line) old nx new
 answer_plays g p t old mid new line turned nx awaits first runs moves same past has =
-    let k = runs past has in
-    (past.read ++ k.0, (omega (arith, length-append past.read k.0, k.1.0), λ n lines.
-    (n, subst (GoesOnAs g n nx new.machine.frames (run_of new (having_read (past.read ++ k.0) past) lines))
-    (ap (λ (u : ℕ). table_done g (turn g [] n) u (from_path g p old line past lines)) first ∙ sym (awaited g p old line awaits n past lines))
-    (moves (having_read (past.read ++ k.0) past) n lines _ (k.1.1 lines)))))
+    let k = runs past has in (
+      past.read ++ k.0,
+      (
+        omega (arith, length-append past.read k.0, k.1.0),
+        λ n lines. (
+          n,
+          subst (GoesOnAs g n nx new.machine.frames (run_of new (having_read (past.read ++ k.0) past) lines))
+              (ap (λ (u : ℕ). table_done g (turn g [] n) u (from_path g p old line past lines)) first ∙ sym (awaited g p old line awaits n past lines))
+              (moves (having_read (past.read ++ k.0) past) n lines _ (k.1.1 lines)),
+        ),
+      ),
+    )
 
 pub runs_left : (g : GameLists) (x : Past → List (List ℕ) → Out) (old mid : Turn) (turned : Turned) → old.machine.left ≤ 200000 → RunsAs g x old turned mid
     → mid.machine.left ≤ old.machine.left

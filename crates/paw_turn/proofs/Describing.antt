@@ -24,11 +24,16 @@ described_reads g old mid new nx w world fits is reads past has =
     let full : World → Turn = λ v. record { world = v; pending = old.pending; machine = old.machine; piece = old.piece ++ view_text g v } in
     let fits' = subst (λ v. length old.piece + length (view_text g v) ≤ 65535) world fits in
     let from = subst (λ (m : Turn). Reads g (λ n r. table_done g (turn g [] n) 1 (table_read g [] 1 r)) m nx new) (is ∙ ap full world) reads in
-    let t = from past has in
-    (t.0, (t.1.0, λ n lines.
-    subst (GoesOnAs g n nx new.machine.frames (run_of new (having_read t.0 past) lines))
-    (sym (said (view_text g (described old.world)) (λ s. table_done g (turn g [] n) 1 (table_read g [] 1 s)) (with_world (described old.world) (run_of old past lines)) fits'))
-    (t.1.1 n lines)))
+    let t = from past has in (
+      t.0,
+      (
+        t.1.0,
+        λ n lines.
+            subst (GoesOnAs g n nx new.machine.frames (run_of new (having_read t.0 past) lines))
+            (sym (said (view_text g (described old.world)) (λ s. table_done g (turn g [] n) 1 (table_read g [] 1 s)) (with_world (described old.world) (run_of old past lines)) fits'))
+            (t.1.1 n lines),
+      ),
+    )
 
 -- a description that doesn't fit
 pub described_not : (g : GameLists) (old new : Turn) (w : World) → w ≡ described old.world
@@ -36,8 +41,14 @@ pub described_not : (g : GameLists) (old new : Turn) (w : World) → w ≡ descr
     → Reads g (λ n r. turn g [] (suc n) AtDescribe r) old (next.Stop (step.Spent spent.Text)) new
 unfolding turn
 described_not g old new w world past_fits same past has =
-    let past_fits' = subst (λ v. 65535 < length old.piece + length (view_text g v)) world past_fits in
-    (past.read, (subst (λ m. length past.read + m.left ≡ 200000) (sym same) has, λ n lines.
-    (with_world (described old.world) (run_of old past lines),
-    unsaid (view_text g (described old.world)) (λ s. table_done g (turn g [] n) 1 (table_read g [] 1 s)) (with_world (described old.world) (run_of old past lines)) past_fits',
-    record { pieces = refl; traces = refl; events = refl })))
+    let past_fits' = subst (λ v. 65535 < length old.piece + length (view_text g v)) world past_fits in (
+      past.read,
+      (
+        subst (λ m. length past.read + m.left ≡ 200000) (sym same) has,
+        λ n lines. (
+          with_world (described old.world) (run_of old past lines),
+          unsaid (view_text g (described old.world)) (λ s. table_done g (turn g [] n) 1 (table_read g [] 1 s)) (with_world (described old.world) (run_of old past lines)) past_fits',
+          record { pieces = refl; traces = refl; events = refl },
+        ),
+      ),
+    )

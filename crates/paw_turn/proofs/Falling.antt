@@ -27,9 +27,10 @@ some_read = record { table = 0; entry = 0; at = 0; code = 0; passed = false }
 
 -- some past of a machine with a budget
 pub some_past : (h : Turn) → h.machine.left ≤ 200000 → (past : Past) × HasRead past.read h
-some_past h low =
-    (record { read = replicate (200000 - h.machine.left) some_read; pieces = []; traces = [] },
-    omega (arith, length-replicate (200000 - h.machine.left) some_read))
+some_past h low = (
+  record { read = replicate (200000 - h.machine.left) some_read; pieces = []; traces = [] },
+  omega (arith, length-replicate (200000 - h.machine.left) some_read),
+)
 
 -- the run of a machine shows what may still be read
 left_shown : (h : Turn) (past : Past) → HasRead past.read h → left_to_read (run_of h past []) ≡ left_of h

@@ -18,9 +18,14 @@ use Rattle.paw_turn.specs.Stages.{Past, run_of, at_stage, GoesOnAs, Moves, Plays
 pub moves_play : (g : GameLists) (whole : ℕ → Past → List (List ℕ) → Ending) (x : ℕ → Run → Ending) (old mid new : Turn) (nx : Next)
     → ((m : ℕ) (past : Past) (lines : List (List ℕ)) → whole m past lines ≡ x m (run_of mid past lines))
     → Moves g x mid nx new → new.machine.left ≡ old.machine.left → PlaysAs g whole old nx new
-moves_play g whole x old mid new nx same moves left past has =
-    (past.read, (omega arith, λ n lines.
-    (n, subst (GoesOnAs g n nx new.machine.frames (run_of new past lines)) (sym (same n past lines)) (moves past n lines))))
+moves_play g whole x old mid new nx same moves left past has = (
+  past.read,
+  (
+    omega arith,
+    λ n lines.
+        (n, subst (GoesOnAs g n nx new.machine.frames (run_of new past lines)) (sym (same n past lines)) (moves past n lines)),
+  ),
+)
 
 -- a timeout says message 35, and the frame comes
 pub timeout_heard : (g : GameLists) (old new : Turn) (line : List ℕ) (w : World) (nx : Next) → is_ignored old.world line ≡ false → is_timeout line ≡ true

@@ -10,3 +10,5 @@ pub mod Waiting
 pub mod Hearing
 pub mod Answering
 pub mod Renewing
+pub mod Settling
+pub mod Facts

@@ -41,7 +41,7 @@ pub unknown_moves : (g : GameLists) (old new : Turn) (nx : Next) (rest : List �
 unfolding turn
 unknown_moves g old new nx rest w p is world pending moves past n lines =
     let M : World → PendingLine → Type 0 = λ w' p'. Moves g (λ n' r. saying (say_text g w' 6) (turn g [] n' (at_stage stage.Frame)) r)
-        (record { world = w'; pending = p'; machine = old.machine; piece = old.piece }) nx new in
+    (record { world = w'; pending = p'; machine = old.machine; piece = old.piece }) nx new in
     let from = subst (λ w'. M w' (record { bytes = []; earlier = old.pending.earlier })) world (subst (M w) pending moves) in
     subst (GoesOnAs g n nx new.machine.frames (run_of new past lines))
     (sym (ap (phrased g n (run_of old past lines)) is))
@@ -55,7 +55,7 @@ pub none_moves : (g : GameLists) (old new : Turn) (nx : Next) (w : World) (p : P
 unfolding turn
 none_moves g old new nx w p is world pending moves past n lines =
     let M : World → PendingLine → Type 0 = λ w' p'. Moves g (λ n' r. prompts g (turn g [] n' AtFrame) (turn g [] n' AtPhrase) r)
-        (record { world = w'; pending = p'; machine = old.machine; piece = old.piece }) nx new in
+    (record { world = w'; pending = p'; machine = old.machine; piece = old.piece }) nx new in
     let from = subst (λ w'. M w' old.pending) world (subst (M w) pending moves) in
     subst (GoesOnAs g n nx new.machine.frames (run_of new past lines))
     (sym (ap (phrased g n (run_of old past lines)) is))

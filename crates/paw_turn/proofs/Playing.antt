@@ -18,18 +18,28 @@ pub plays_on : (g : GameLists) (first s : Stage) (old mid new : Turn) (nx : Next
     → Plays g first old (next.Go s) mid → Reads g (λ n r. turn g [] (suc n) (at_stage s) r) mid nx new → Plays g first old nx new
 plays_on g first s old mid new nx plays reads past has =
     let a = plays past has in
-    let b = reads (having_read a.0 past) a.1.0 in
-    (b.0, (b.1.0, λ n lines.
-    let k = a.1.1 (suc n) lines in
-    (k.0, subst (GoesOnAs g n nx new.machine.frames (run_of new (having_read b.0 past) lines)) (sym k.1) (b.1.1 n lines))))
+    let b = reads (having_read a.0 past) a.1.0 in (
+      b.0,
+      (
+        b.1.0,
+        λ n lines.
+            let k = a.1.1 (suc n) lines in
+            (k.0, subst (GoesOnAs g n nx new.machine.frames (run_of new (having_read b.0 past) lines)) (sym k.1) (b.1.1 n lines)),
+      ),
+    )
 
 -- a whole that comes to a stage, and what is played from there
 pub plays_then : (g : GameLists) (whole : ℕ → Past → List (List ℕ) → Ending) (s : Stage) (old mid new : Turn) (nx : Next)
     → PlaysAs g whole old (next.Go s) mid → Plays g s mid nx new → PlaysAs g whole old nx new
 plays_then g whole s old mid new nx first plays past has =
     let a = first past has in
-    let b = plays (having_read a.0 past) a.1.0 in
-    (b.0, (b.1.0, λ n lines.
-    let j = b.1.1 n lines in
-    let k = a.1.1 j.0 lines in
-    (k.0, subst (GoesOnAs g n nx new.machine.frames (run_of new (having_read b.0 past) lines)) (sym k.1) j.1)))
+    let b = plays (having_read a.0 past) a.1.0 in (
+      b.0,
+      (
+        b.1.0,
+        λ n lines.
+            let j = b.1.1 n lines in
+            let k = a.1.1 j.0 lines in
+            (k.0, subst (GoesOnAs g n nx new.machine.frames (run_of new (having_read b.0 past) lines)) (sym k.1) j.1),
+      ),
+    )

@@ -32,9 +32,14 @@ pub read_on : (g : GameLists) (t : ℕ) (old mid new : Turn) (turned : Turned) (
     → RunsAs g (from_table g t old) old turned mid → MovesAfter g t turned mid nx new → new.machine.left ≡ mid.machine.left
     → Reads g (λ n r. table_done g (turn g [] n) t (table_read g [] t r)) old nx new
 read_on g t old mid new turned nx runs moves same past has =
-    let t = runs past has in
-    (past.read ++ t.0, (omega (arith, length-append past.read t.0, t.1.0), λ n lines.
-    moves (having_read (past.read ++ t.0) past) n lines _ (t.1.1 lines)))
+    let t = runs past has in (
+      past.read ++ t.0,
+      (
+        omega (arith, length-append past.read t.0, t.1.0),
+        λ n lines.
+            moves (having_read (past.read ++ t.0) past) n lines _ (t.1.1 lines),
+      ),
+    )
 
 -- a stage in which nothing is read
 pub moves_read : (g : GameLists) (x : ℕ → Run → Ending) (old new : Turn) (nx : Next) → Moves g x old nx new → new.machine ≡ old.machine → Reads g x old nx new

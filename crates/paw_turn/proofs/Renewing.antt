@@ -78,8 +78,16 @@ pub again_restarts : (g : GameLists) (old new : Turn) (line : List ℕ) → 0 < 
     → new.world ≡ restarted (with_timeout (is_timeout line) old.world) → new.pending.bytes ≡ [] → new.pending.earlier ≡ 255
     → new.machine.turning ≡ None → new.machine.left ≡ old.machine.left → new.piece ≡ old.piece
     → PlaysAs g (from_prompt g prompt.Again old line) old (next.Go stage.Describe) new
-again_restarts g old new line some hears declines world bytes earlier turning left piece past has = (past.read, (omega arith, λ n lines. (n,
-    again_is g old line some hears n past lines ∙ (final_restarts g (turn g [] n) _ _ _ _ _ _ declines ∙ ap (turn g [] n AtDescribe) (cc (world, bytes, earlier, turning, piece))))))
+again_restarts g old new line some hears declines world bytes earlier turning left piece past has = (
+  past.read,
+  (
+    omega arith,
+    λ n lines. (
+      n,
+      again_is g old line some hears n past lines ∙ (final_restarts g (turn g [] n) _ _ _ _ _ _ declines ∙ ap (turn g [] n AtDescribe) (cc (world, bytes, earlier, turning, piece))),
+    ),
+  ),
+)
 
 -- at no the game is over
 pub again_ends : (g : GameLists) (old new : Turn) (line : List ℕ) (w : World) → 0 < length old.machine.frames → is_ignored old.world line ≡ false → is_no (reply line) ≡ true
@@ -90,12 +98,21 @@ again_ends g old new line w some hears declines world fit piece left past has =
     let fit' = subst (λ v. length old.piece + length (say_text g v 14) ≤ 65535) world fit in
     let piece' = subst (λ v. new.piece ≡ old.piece ++ say_text g v 14) world piece in
     let text : List ℕ = say_text g (with_timeout (is_timeout line) old.world) 14 in
-    let t : nat_le (length old.piece + length text) 65535 ≡ true = grind (arith, nat_tests, fit') in
-    (past.read, (omega arith, λ n lines. (n,
-    (closed (without_loop (line_dropped (printed text (heard line (run_of old past lines))))),
-    again_is g old line some hears n past lines ∙ final_ends g (turn g [] n) _ _ _ _ _ _ declines t,
-    ap (λ (x : List ℕ). past.pieces ++ x ∷ []) (sym piece'),
-    refl))))
+    let t : nat_le (length old.piece + length text) 65535 ≡ true = grind (arith, nat_tests, fit') in (
+      past.read,
+      (
+        omega arith,
+        λ n lines. (
+          n,
+          (
+            closed (without_loop (line_dropped (printed text (heard line (run_of old past lines))))),
+            again_is g old line some hears n past lines ∙ final_ends g (turn g [] n) _ _ _ _ _ _ declines t,
+            ap (λ (x : List ℕ). past.pieces ++ x ∷ []) (sym piece'),
+            refl,
+          ),
+        ),
+      ),
+    )
 
 -- where the farewell doesn't fit the piece is spent
 pub again_spends : (g : GameLists) (old new : Turn) (line : List ℕ) (w : World) → 0 < length old.machine.frames → is_ignored old.world line ≡ false → is_no (reply line) ≡ true
@@ -104,11 +121,20 @@ pub again_spends : (g : GameLists) (old new : Turn) (line : List ℕ) (w : World
 again_spends g old new line w some hears declines world full left past has =
     let full' = subst (λ v. 65535 < length old.piece + length (say_text g v 14)) world full in
     let text : List ℕ = say_text g (with_timeout (is_timeout line) old.world) 14 in
-    let t : nat_le (length old.piece + length text) 65535 ≡ false = grind (arith, nat_tests, full') in
-    (past.read, (omega arith, λ n lines. (n,
-    (heard line (run_of old past lines),
-    again_is g old line some hears n past lines ∙ final_spends g (turn g [] n) _ _ _ _ _ _ declines t,
-    record { pieces = refl; traces = refl; events = refl }))))
+    let t : nat_le (length old.piece + length text) 65535 ≡ false = grind (arith, nat_tests, full') in (
+      past.read,
+      (
+        omega arith,
+        λ n lines. (
+          n,
+          (
+            heard line (run_of old past lines),
+            again_is g old line some hears n past lines ∙ final_spends g (turn g [] n) _ _ _ _ _ _ declines t,
+            record { pieces = refl; traces = refl; events = refl },
+          ),
+        ),
+      ),
+    )
 
 -- ---- worlds ----
 

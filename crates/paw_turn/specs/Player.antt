@@ -27,8 +27,16 @@ pub record Seat : Type 0 where
 -- the run that a player stands for, with these closed pieces, what was read in them, and these lines to come
 abbrev pub run_at : Seat → List (List ℕ) → List (List Read) → List (List ℕ) → Run
 run_at p pieces traces lines = record {
-  world = p.world; pending = p.pending.bytes; earlier = p.pending.earlier; turning = p.machine.turning;
-  current = []; read = []; pieces = pieces; traces = traces; events = lines }
+  world = p.world;
+  pending = p.pending.bytes;
+  earlier = p.pending.earlier;
+  turning = p.machine.turning;
+  current = [];
+  read = [];
+  pieces = pieces;
+  traces = traces;
+  events = lines;
+}
 
 -- Playing on comes to this: whatever lines come after, the whole reading of them goes on from the player's prompt with
 -- one piece more; or is over with one piece more; or is spent, or a call is too deep, with no piece more and none to show

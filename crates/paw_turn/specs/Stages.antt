@@ -23,7 +23,7 @@ use Rattle.paw_turn.specs.declared.stage.Stage.TheVariants as stage
 use Rattle.paw_turn.specs.declared.stage.Next.{Next}
 use Rattle.paw_turn.specs.declared.stage.Next.TheVariants as next
 use Rattle.paw_turn.specs.declared.turn.Turn.{Turn}
-use Rattle.paw_turn.specs.Player.{WaitsIn, Stands}
+use Rattle.paw_turn.specs.Player.{Seat, WaitsIn, Stands}
 
 -- ---- runs ----
 
@@ -36,8 +36,16 @@ pub record Past : Type 0 where
 -- the run that shows what is held, with this past and these lines to come
 abbrev pub run_of : Turn → Past → List (List ℕ) → Run
 run_of h past lines = record {
-  world = h.world; pending = h.pending.bytes; earlier = h.pending.earlier; turning = h.machine.turning;
-  current = h.piece; read = past.read; pieces = past.pieces; traces = past.traces; events = lines }
+  world = h.world;
+  pending = h.pending.bytes;
+  earlier = h.pending.earlier;
+  turning = h.machine.turning;
+  current = h.piece;
+  read = past.read;
+  pieces = past.pieces;
+  traces = past.traces;
+  events = lines;
+}
 
 -- the open piece may read 200,000 condacts
 abbrev pub HasRead : List Read → Turn → Type 0
@@ -227,3 +235,23 @@ AwaitsAt prompt.Quit m = WaitsIn prompt.Quit m
 AwaitsAt prompt.Again m = ⊥
 AwaitsAt prompt.Key m = WaitsIn prompt.Key m
 AwaitsAt prompt.Over m = ⊥
+
+-- ---- players ----
+
+-- what a player is seen as
+abbrev pub seat_of : GameLists → Turn → Step → Seat
+seat_of g h last = record { game = g; world = h.world; pending = h.pending; machine = h.machine; piece = h.piece; last = last }
+
+-- nothing is shown of a piece that is spent, or in which a call is too deep
+abbrev pub shown : Step → List ℕ → List ℕ
+shown (step.Waits p) piece = piece
+shown step.Ended piece = piece
+shown (step.Spent kind) piece = []
+shown (step.TooDeep u) piece = []
+
+abbrev pub settled : Step → Turn → Turn
+settled step h = record h { piece = shown step h.piece }
+
+-- a new piece may be read
+abbrev pub opened_piece : Turn → Turn
+opened_piece h = record h { piece = []; machine = record h.machine { left = 200000 } }

@@ -3,11 +3,13 @@
 
 mod flags;
 mod lines;
+mod player;
 mod stage;
 mod turn;
 
 use paw_base::fault::SpentKind;
 use paw_effects::act::Prompt;
+pub use player::Player;
 
 /// What a player comes to with a line: it waits at a prompt; the game is over; the piece would read or hold too much;
 /// or a table was called at the deepest level.

@@ -151,12 +151,7 @@ impl Turn {
     {
         flags::tell_timeout(&mut self.world, is_timeout(line));
         self.machine.answer(begins_with(b'Y', reply(line)));
-        self.machine.run(
-            tables,
-            &mut self.world,
-            &mut self.pending,
-            &mut self.piece,
-        )
+        self.machine.run(tables, &mut self.world, &mut self.pending, &mut self.piece)
     }
 
     /// Takes the answer to END's question that isn't ignored: at no the game is over, and otherwise it starts anew.

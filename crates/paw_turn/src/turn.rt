@@ -1,6 +1,6 @@
 // A turn in work, and its stages.
 
-ghost use Rattle.std.specs.Prelude.{◌≡◌, ℕ, suc, ◌+◌, ◌*◌, ◌<◌, ◌≤◌, ◌^◌, ◌++◌, List, [], length};
+ghost use Rattle.std.specs.Prelude.{◌≡◌, ℕ, suc, ◌+◌, ◌*◌, ◌<◌, ◌≤◌, ◌^◌, ◌++◌, List, [], length, map, None};
 ghost use Rattle.paw_base.specs.Piece.{Puts};
 ghost use Rattle.paw_game.specs.Valid.{Valid};
 ghost use Rattle.paw_effects.specs.Built.{AllBuilt, IsOf};
@@ -11,18 +11,21 @@ ghost use Rattle.paw_reading.specs.Turn.{saying, view_text, prompt_text, refusal
 ghost use Rattle.paw_process.specs.OpenTables.{IsClosed};
 ghost use Rattle.paw_turn.specs.declared.stage.Stage.TheVariants as stage;
 ghost use Rattle.paw_turn.specs.declared.stage.Next.TheVariants as next;
-ghost use Rattle.paw_turn.specs.Stages.{at_stage, Moves, Reads, Plays, MovesAfter, IsPlayable, Keeps, StopsInTable, left_of, work, Falls, or_spent, table_rank, FallsAfter, RunsAs, from_table, Uses};
+ghost use Rattle.paw_turn.specs.Player.{opening_world};
+ghost use Rattle.paw_turn.specs.Stages.{at_stage, settled, opened_piece, Moves, Reads, Plays, MovesAfter, IsPlayable, Keeps, StopsInTable, left_of, work, Falls, or_spent, table_rank, FallsAfter, RunsAs, from_table, Uses};
 
 use crate::Step;
 use crate::flags::{self, LOCATION, PROMPT};
 use crate::stage::{Next, Stage};
 use paw_base::fault::SpentKind;
+use paw_base::parts::ObjectFacts;
 use paw_base::piece::Piece;
 use paw_effects::act::Prompt;
 use paw_effects::text::{place_text, put, say};
 use paw_game::tables::Tables;
 use paw_phrase::{Found, Pending};
 use paw_process::{Machine, Turned, take_phrase};
+use paw_world::MOST_OBJECTS;
 use paw_world::flags::VERB;
 use paw_world::world::World;
 
@@ -76,7 +79,81 @@ fn or_spent(shown: bool, stage: Stage) -> Next
     }
 }
 
+/// Writes down the facts of a game's objects.
+fn take_facts<T: Tables>(tables: &T, facts: &mut [ObjectFacts])
+    requires few { length facts.old ≤ 255 }
+    requires all { length facts.old ≡ length (T.game tables.now).objects }
+    ensures value { facts.new ≡ map (λ o. o.facts) (T.game tables.now).objects }
+{
+    for o in 0..facts.len() {
+        match tables.facts(o as u8) {
+            Some(found) => facts[o] = found,
+            None => unreachable!(),
+        }
+    }
+}
+
 impl Turn {
+    /// A turn at the start of a game, with this piece.
+    pub(crate) fn new<T: Tables>(tables: &T, seed: u64, piece: Piece) -> Turn
+        ensures valid { Valid (T.game tables.now) }
+        ensures world { result.world ≡ opening_world (T.game tables.now) seed }
+        ensures pending { result.pending ≡ record { bytes = []; earlier = 255 } }
+        ensures machine { result.machine ≡ record { frames = []; turning = None; waiting = None; left = 200000 } }
+        ensures piece { result.piece ≡ piece }
+    {
+        let counts = tables.counts();
+        let none = ObjectFacts {
+            noun: 255,
+            adjective: 255,
+            start: 252,
+            weight: 0,
+            container: false,
+            wearable: false,
+        };
+        let mut facts = [none; MOST_OBJECTS];
+        let all = &mut facts[..counts.objects as usize];
+        take_facts(tables, all);
+        Turn {
+            world: World::new(all, counts.locations as u8, seed),
+            pending: Pending::new(),
+            machine: Machine::new(),
+            piece,
+        }
+    }
+
+    /// Begins a new piece: it is empty, and may read all condacts that a piece may.
+    pub(crate) fn open_piece(&mut self)
+        ensures value { self.new ≡ opened_piece self.old }
+    {
+        self.piece.clear();
+        self.machine.refill();
+    }
+
+    /// Takes the text out of the piece.
+    pub(crate) fn clear_piece(&mut self)
+        ensures value { self.new ≡ record self.old { piece = [] } }
+    {
+        self.piece.clear();
+    }
+
+    /// The text of the piece.
+    pub(crate) fn piece(&self) -> &[u8]
+        ensures value { result.now ≡ self.now.piece }
+    {
+        self.piece.bytes()
+    }
+
+    /// Takes the text out of a piece of which nothing is to be shown.
+    pub(crate) fn settle(&mut self, step: Step)
+        ensures value { self.new ≡ settled step self.old }
+    {
+        match step {
+            Step::Waits(_) | Step::Ended => {}
+            Step::Spent(_) | Step::TooDeep { .. } => self.piece.clear(),
+        }
+    }
+
     /// Says a system message, and goes on with a stage.
     pub(crate) fn say<T: Tables>(&mut self, tables: &T, message: u8, stage: Stage) -> Next
         requires playable { IsPlayable (T.game tables.now) self.old }
@@ -222,12 +299,7 @@ impl Turn {
         ensures draws { self.new.world.draws + self.new.machine.left ≤ self.old.world.draws + self.old.machine.left }
     {
         self.machine.begin(table);
-        self.machine.run(
-            tables,
-            &mut self.world,
-            &mut self.pending,
-            &mut self.piece,
-        )
+        self.machine.run(tables, &mut self.world, &mut self.pending, &mut self.piece)
     }
 
     /// Reads table 0, 1 or 2, and goes on after it.

@@ -4,7 +4,6 @@ use Rattle.paw_turn.proofs.Falling.{uses}
 use Rattle.paw_turn.proofs.Waiting.{table_stops}
 use Rattle.paw_turn.proofs.turn.Turn.run_table.Goals as goal
 
-
 pub returns-clause-runs : goal.returns-clause-runs
 returns-clause-runs g c =
     begun_runs (g.T.Tables.game c.args.tables.now) c.args.table c.args.self.now

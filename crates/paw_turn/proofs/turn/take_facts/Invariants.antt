@@ -1,0 +1,5 @@
+use Rattle.std.proofs.Common.{◌≡◌, length, take, map}
+use Rattle.paw_turn.proofs.turn.take_facts.Given as goal
+
+abbrev pub invariant-loop-o : goal.invariant-loop-o
+invariant-loop-o g l = take l.o l.facts ≡ take l.o (map (λ o. o.facts) (g.T.Tables.game l.tables).objects)

@@ -1,0 +1,112 @@
+// A player of a game.
+
+ghost use Rattle.std.specs.Prelude.{◌≡◌, ℕ, ◌+◌, ◌<◌, ◌≤◌, ◌^◌, List, [], ◌∷◌, length, reverse, IfOk};
+ghost use Rattle.paw_effects.specs.Built.{AllBuilt};
+ghost use Rattle.paw_effects.specs.declared.act.Prompt.{Prompt as AtPrompt};
+ghost use Rattle.paw_reading.specs.Run.{Step as Read};
+ghost use Rattle.paw_reading.specs.Turn.{reading, on};
+ghost use Rattle.paw_turn.specs.declared.Step.TheVariants as step;
+ghost use Rattle.paw_turn.specs.Player.{IsNew, IsSeated, IsFinished, PlaysTo, run_at};
+
+use crate::Step;
+use crate::stage::Stage;
+use crate::turn::Turn;
+use paw_base::fault::NoRoom;
+use paw_base::piece::Piece;
+use paw_effects::act::Prompt;
+use paw_game::tables::Tables;
+use std::alloc::Global;
+use std::marker::Model;
+
+/// A player of one game, which it borrows: it takes lines, and after each lends the piece of text that the line
+/// brought. It takes all its memory when it is made.
+#[derive(Drop)]
+pub struct Player<'a, T: Tables> {
+    tables: &'a T,
+    turn: Turn,
+    last: Step,
+}
+
+impl<'a, T: Tables> Model for Player<'a, T> {
+    ghost use Rattle.paw_turn.specs.Player.{Seat};
+
+    ghost Value = { Seat };
+
+    ghost view = { λ p. record {
+      game = T.game p.tables.now;
+      world = p.turn.world;
+      pending = p.turn.pending;
+      machine = p.turn.machine;
+      piece = p.turn.piece;
+      last = p.last;
+    } };
+}
+
+impl<'a, T: Tables> Player<'a, T> {
+    /// A player at the start of a game whose condacts are built, with the seed of its random draws.
+    ///
+    /// # Errors
+    /// NoRoom where there is no memory for a piece.
+    pub fn new(alloc: Global, tables: &'a T, seed: u64) -> Result<Player<'a, T>, NoRoom>
+        requires built { AllBuilt (T.game tables.now) }
+        ensures game { IfOk result (λ p. p.game ≡ T.game tables.now) }
+        ensures new { IfOk result (λ p. IsNew p seed) }
+        ensures seated { IfOk result IsSeated }
+    {
+        let piece = Piece::new(alloc)?;
+        Ok(Player {
+            tables,
+            turn: Turn::new(tables, seed, piece),
+            last: Step::Waits(Prompt::Main),
+        })
+    }
+
+    /// Plays the piece before the first line. It is asked for once, right after `new`.
+    pub fn start(&mut self) -> Step
+        requires seated { IsSeated self.old }
+        requires new { IsNew self.old self.old.world.seed }
+        ensures last { self.new.last ≡ result }
+        ensures game { self.new.game ≡ self.old.game }
+        ensures meaning { PlaysTo (reading self.old.game [] self.old.world.seed) result self.new [] [] }
+        ensures seated { IsSeated self.new }
+        ensures draws { self.new.world.draws ≤ self.old.world.draws + 200000 }
+    {
+        let step = self.turn.play(self.tables, Stage::Describe);
+        self.turn.settle(step);
+        self.last = step;
+        step
+    }
+
+    /// Takes a line of at most 255 bytes, and plays on to the next prompt or to the end. A finished player answers the
+    /// same again, with an empty piece.
+    pub fn take(&mut self, line: &[u8]) -> Step
+        requires seated { IsSeated self.old }
+        requires line { length line.now ≤ 255 }
+        requires draws { self.old.world.draws + 200000 < 2 ^ 64 }
+        ensures last { self.new.last ≡ result }
+        ensures game { self.new.game ≡ self.old.game }
+        ensures meaning { (p : AtPrompt) → self.old.last ≡ step.Waits p → (pieces : List (List ℕ)) (traces : List (List Read)) →
+            PlaysTo (λ lines. on self.old.game [] p (reverse self.old.machine.frames) (run_at self.old pieces traces (line.now ∷ lines)))
+            result self.new pieces traces }
+        ensures finished { IsFinished self.old.last → (result ≡ self.old.last) × (self.new ≡ record self.old { piece = [] }) }
+        ensures seated { IsSeated self.new }
+        ensures draws { self.new.world.draws ≤ self.old.world.draws + 200000 }
+    {
+        let Step::Waits(prompt) = self.last else {
+            self.turn.clear_piece();
+            return self.last;
+        };
+        self.turn.open_piece();
+        let step = self.turn.take(self.tables, prompt, line);
+        self.turn.settle(step);
+        self.last = step;
+        step
+    }
+
+    /// The last piece: what is to be shown before the next line is asked for. It is empty after Spent and TooDeep.
+    pub fn piece(&self) -> &[u8]
+        ensures value { result.now ≡ self.now.piece }
+    {
+        self.turn.piece()
+    }
+}
