@@ -1,0 +1,6 @@
+mod Found
+mod Images
+mod Numbers
+mod Parameters
+mod Refusals
+mod Walking

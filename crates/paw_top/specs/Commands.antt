@@ -1,0 +1,48 @@
+-- The words of a command.
+use Rattle.std.specs.Prelude.{◌≡◌, ℕ, ◌+◌, ◌-◌, ◌*◌, ◌^◌, Bool, true, false, ◌&&◌, not, List, [], ◌∷◌, length, Option, Some, None, nat_lt, nat_le, codes, if◌then◌else◌}
+use Rattle.std.specs.List.{list_all}
+use Rattle.std.specs.Str.{bytes_eq}
+use Rattle.paw_top.specs.declared.commands.Command.{Command as Given}
+use Rattle.paw_top.specs.declared.commands.Command.TheVariants as given
+
+-- what is asked for: to walk through the game of an image, with a seed
+pub data Command : Type 0 where
+  Walk : (image : List ℕ) (seed : ℕ) → Command
+
+abbrev pub is_digit : ℕ → Bool
+is_digit c = nat_le 48 c && nat_le c 57
+
+-- the number that digits spell, behind one that stands before them
+abbrev pub number_after : ℕ → List ℕ → ℕ
+number_after n [] = n
+number_after n (d ∷ ds) = number_after (10 * n + (d - 48)) ds
+
+-- 1 to 20 decimal digits
+abbrev pub has_seed_shape : List ℕ → Bool
+has_seed_shape word = nat_le 1 (length word) && (nat_le (length word) 20 && list_all is_digit word)
+
+-- a seed has 1 to 20 decimal digits, and a value below 2^64
+abbrev pub is_seed : List ℕ → Bool
+is_seed word = has_seed_shape word && nat_lt (number_after 0 word) (2 ^ 64)
+
+abbrev pub seed_of : List ℕ → Option ℕ
+seed_of word = if is_seed word then Some (number_after 0 word) else None
+
+-- a name has at least one byte
+abbrev pub is_name : List ℕ → Bool
+is_name word = nat_lt 0 (length word)
+
+abbrev pub walk_of : List ℕ → Option ℕ → Option Command
+walk_of image None = None
+walk_of image (Some seed) = Some (Walk image seed)
+
+-- walk IMAGE SEED
+abbrev pub command_of : List (List ℕ) → Option Command
+command_of (verb ∷ image ∷ seed ∷ []) =
+    if bytes_eq verb (codes "walk") && is_name image then walk_of image (seed_of seed) else None
+command_of _ = None
+
+-- the code's answer spells what is asked for
+abbrev pub Spells : Option Given → Option Command → Type 0
+Spells None asked = asked ≡ None
+Spells (Some (given.Walk image seed)) asked = asked ≡ Some (Walk image.now seed)

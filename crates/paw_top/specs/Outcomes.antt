@@ -1,0 +1,61 @@
+-- What an outcome says to the system and to a person.
+use Rattle.std.specs.Prelude.{ℕ, List, [], ◌∷◌, ◌++◌, codes}
+use Rattle.std.specs.Fmt.{decimal}
+use Rattle.paw_base.specs.declared.fault.SpentKind.{SpentKind}
+use Rattle.paw_base.specs.declared.fault.SpentKind.TheVariants as spent
+use Rattle.paw_stage.specs.declared.StageCall.{StageCall}
+use Rattle.paw_stage.specs.declared.StageCall.TheVariants as call
+use Rattle.paw_top.specs.declared.outcome.Outcome.{Outcome}
+use Rattle.paw_top.specs.declared.outcome.Outcome.TheVariants as outcome
+use Rattle.paw_top.specs.declared.outcome.MemoryAt.{MemoryAt}
+use Rattle.paw_top.specs.declared.outcome.MemoryAt.TheVariants as memory
+
+-- the exit status of the program
+abbrev pub status_of : Outcome → ℕ
+status_of outcome.Ended = 0
+status_of outcome.InputEnded = 0
+status_of outcome.Usage = 1
+status_of (outcome.ImageDamaged at) = 3
+status_of (outcome.Unbuilt at code) = 3
+status_of (outcome.Spent kind) = 5
+status_of (outcome.TooDeep table) = 6
+status_of (outcome.Outside c) = 7
+status_of (outcome.Memory at) = 8
+status_of (outcome.Long events) = 9
+
+-- every command of the tool, also those that aren't built yet
+unfoldable pub usage : List ℕ
+usage = codes "usage: paw compile S I | decompile I | walk I SEED | play I F SEED | resume I F | trace I SEED | trial N\n"
+
+abbrev pub spent_name : SpentKind → List ℕ
+spent_name spent.Condacts = codes "condacts"
+spent_name spent.Text = codes "text"
+
+abbrev pub call_name : StageCall → List ℕ
+call_name call.Load = codes "Load"
+call_name call.LoadAbsent = codes "LoadAbsent"
+call_name call.Save = codes "Save"
+call_name call.Attach = codes "Attach"
+call_name call.Read = codes "Read"
+call_name call.Write = codes "Write"
+call_name call.Sync = codes "Sync"
+call_name call.Ask = codes "Ask"
+call_name call.Show = codes "Show"
+
+abbrev pub memory_name : MemoryAt → List ℕ
+memory_name memory.Load = codes "Load"
+memory_name memory.Image = codes "Image"
+memory_name memory.Play = codes "Play"
+
+-- what is written to standard error
+abbrev pub text_of : Outcome → List ℕ
+text_of outcome.Ended = []
+text_of outcome.InputEnded = []
+text_of outcome.Usage = usage
+text_of (outcome.ImageDamaged at) = codes "image damaged at " ++ (decimal at ++ codes "\n")
+text_of (outcome.Unbuilt at code) = codes "not built: code " ++ (decimal code ++ (codes " at " ++ (decimal at ++ codes "\n")))
+text_of (outcome.Spent kind) = codes "piece spent its " ++ (spent_name kind ++ codes "\n")
+text_of (outcome.TooDeep table) = codes "too many calls at table " ++ (decimal table ++ codes "\n")
+text_of (outcome.Outside c) = codes "outside failed: " ++ (call_name c ++ codes "\n")
+text_of (outcome.Memory at) = codes "no memory: " ++ (memory_name at ++ codes "\n")
+text_of (outcome.Long events) = codes "session is full: " ++ (decimal events ++ codes " events\n")

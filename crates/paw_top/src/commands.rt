@@ -1,0 +1,80 @@
+// The words of a command.
+
+ghost use Rattle.std.specs.Prelude.{◌≡◌, ◌+◌, ◌-◌, ◌*◌, ◌<◌, ◌≤◌, ◌^◌, ℕ, map, Option, string_bytes, IfSome, IfNone};
+ghost use Rattle.paw_top.specs.Commands.{command_of, seed_of, has_seed_shape, is_digit, number_after, Spells};
+ghost use Rattle.std.specs.List.{list_all};
+
+/// What is asked for.
+#[derive(Clone, Copy, Drop)]
+pub(crate) enum Command<'a> {
+    Walk { image: &'a str, seed: u64 },
+}
+
+// A number with one digit more; None where it is 2^64 or more.
+fn with_digit(number: u64, digit: u8) -> Option<u64>
+    ensures some { IfSome result (λ n. n ≡ 10 * number + (digit - 48)) }
+    ensures below { IfSome result (λ n. n < 2 ^ 64) }
+    ensures none { IfNone result (2 ^ 64 ≤ 10 * number + (digit - 48)) }
+{
+    let value = u128::from(number) * 10 + u128::from(digit.saturating_sub(b'0'));
+    if value < 1 << 64 {
+        Some(value as u64)
+    } else {
+        None
+    }
+}
+
+// The number that digits spell; None where it is 2^64 or more.
+fn number_of(digits: &[u8]) -> Option<u64>
+    ensures some { IfSome result (λ n. n ≡ number_after 0 digits.now) }
+    ensures below { IfSome result (λ n. n < 2 ^ 64) }
+    ensures none { IfNone result (2 ^ 64 ≤ number_after 0 digits.now) }
+{
+    let mut number: u64 = 0;
+    for &digit in digits {
+        match with_digit(number, digit) {
+            Some(next) => number = next,
+            None => return None,
+        }
+    }
+    Some(number)
+}
+
+// Decimal digits alone.
+fn are_digits(word: &[u8]) -> bool
+    ensures value { result ≡ list_all is_digit word.now }
+{
+    word.iter().all(|&d| 48 <= d && d <= 57)
+}
+
+// 1 to 20 decimal digits.
+fn has_seed_shape(word: &[u8]) -> bool
+    ensures value { result ≡ has_seed_shape word.now }
+{
+    1 <= word.len() && (word.len() <= 20 && are_digits(word))
+}
+
+// A seed of 1 to 20 decimal digits with a value below 2^64.
+fn seed_of(word: &str) -> Option<u64>
+    ensures value { result ≡ seed_of word.now }
+{
+    let digits = word.as_bytes();
+    if !has_seed_shape(digits) {
+        return None;
+    }
+    number_of(digits)
+}
+
+/// What these words ask for; None where they have no form.
+pub(crate) fn command_of<'a>(words: &'a [String]) -> Option<Command<'a>>
+    ensures value { Spells result (command_of (map string_bytes words.now)) }
+{
+    if words.len() != 3 || words[0].as_str() != "walk" || words[1].is_empty() {
+        return None;
+    }
+    let seed = seed_of(words[2].as_str())?;
+    Some(Command::Walk {
+        image: words[1].as_str(),
+        seed,
+    })
+}

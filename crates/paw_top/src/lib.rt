@@ -1,0 +1,12 @@
+//! The top call: a command in words, over a stage.
+#![tactic(auto)]
+
+mod commands;
+pub mod outcome;
+mod show;
+pub mod top;
+pub mod unbuilt;
+mod walk;
+
+/// The most lines that one session takes.
+pub const MOST_EVENTS: u64 = 1_000_000_000;

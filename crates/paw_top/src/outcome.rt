@@ -1,0 +1,133 @@
+// What a command comes to.
+
+ghost use Rattle.std.specs.Prelude.{◌≡◌, IfOk, string_bytes};
+ghost use Rattle.paw_top.specs.Outcomes.{status_of, text_of, call_name, memory_name, spent_name};
+
+use paw_base::fault::{NoRoom, SpentKind};
+use paw_stage::StageCall;
+use std::alloc::Global;
+
+/// Where memory was wanting: in a load, or in making what a game is played with.
+#[derive(Clone, Copy, Drop, PartialEq, Eq, Debug)]
+pub enum MemoryAt {
+    Load,
+    Image,
+    Play,
+}
+
+/// What a command comes to. Ended: the game is over. InputEnded: no line is left at a prompt. Usage: the words have no
+/// form. ImageDamaged: the file is no image of a valid game. Unbuilt: the image has a condact that isn't built yet; the
+/// place and the code of the first are named. Spent: a piece would read or hold too much. TooDeep: a table was called
+/// at the deepest level. Outside: a call of the stage failed. Long: the session has all the lines that it may have.
+/// Memory: want of memory.
+#[derive(Clone, Copy, Drop, PartialEq, Eq, Debug)]
+pub enum Outcome {
+    Ended,
+    InputEnded,
+    Usage,
+    ImageDamaged { at: u64 },
+    Unbuilt { at: u64, code: u8 },
+    Spent(SpentKind),
+    TooDeep { table: u8 },
+    Outside(StageCall),
+    Long { events: u64 },
+    Memory(MemoryAt),
+}
+
+/// What stands on standard error where the words have no form: every command of the tool, built or not.
+const USAGE: &str =
+    "usage: paw compile S I | decompile I | walk I SEED | play I F SEED | resume I F | trace I SEED | trial N\n";
+
+// The name of a call.
+fn call_name(call: StageCall) -> &'static str
+    ensures { result.now ≡ call_name call }
+{
+    match call {
+        StageCall::Load => "Load",
+        StageCall::LoadAbsent => "LoadAbsent",
+        StageCall::Save => "Save",
+        StageCall::Attach => "Attach",
+        StageCall::Read => "Read",
+        StageCall::Write => "Write",
+        StageCall::Sync => "Sync",
+        StageCall::Ask => "Ask",
+        StageCall::Show => "Show",
+    }
+}
+
+// The name of a place where memory was wanting.
+fn memory_name(at: MemoryAt) -> &'static str
+    ensures { result.now ≡ memory_name at }
+{
+    match at {
+        MemoryAt::Load => "Load",
+        MemoryAt::Image => "Image",
+        MemoryAt::Play => "Play",
+    }
+}
+
+// What a piece has used up.
+fn spent_name(kind: SpentKind) -> &'static str
+    ensures { result.now ≡ spent_name kind }
+{
+    match kind {
+        SpentKind::Condacts => "condacts",
+        SpentKind::Text => "text",
+    }
+}
+
+impl Outcome {
+    /// The exit status of the program: 0 where the command did what it is for, 1 for words with no form, 3 for an image,
+    /// 5 and 6 for a piece that is spent and a call too deep, 7 for a failed call, 8 for want of memory, 9 for a session
+    /// that is full.
+    pub fn status(&self) -> u8
+        ensures value { result ≡ status_of self.now }
+    {
+        match self {
+            Outcome::Ended | Outcome::InputEnded => 0,
+            Outcome::Usage => 1,
+            Outcome::ImageDamaged { .. } | Outcome::Unbuilt { .. } => 3,
+            Outcome::Spent(_) => 5,
+            Outcome::TooDeep { .. } => 6,
+            Outcome::Outside(_) => 7,
+            Outcome::Memory(_) => 8,
+            Outcome::Long { .. } => 9,
+        }
+    }
+
+    /// The text for standard error: a line, or nothing where the command did what it is for.
+    ///
+    /// # Errors
+    /// NoRoom only for want of memory.
+    #[tactic(auto, unfolding(crate::specs::Outcomes::usage))]
+    pub fn text(&self, alloc: Global) -> Result<String, NoRoom>
+        ensures value { IfOk result (λ text. string_bytes text ≡ text_of self.now) }
+    {
+        match *self {
+            Outcome::Ended | Outcome::InputEnded => Ok(String::new(alloc)),
+            Outcome::Usage => Ok(String::from_str(alloc, USAGE)?),
+            Outcome::ImageDamaged { at } => Ok(format!(in alloc; "image damaged at {at}\n")?),
+            Outcome::Unbuilt { at, code } => Ok(format!(in alloc;
+                "not built: code {code} at {at}\n"
+            )?),
+            Outcome::Spent(kind) => {
+                let name = spent_name(kind);
+                Ok(format!(in alloc; "piece spent its {name}\n")?)
+            }
+            Outcome::TooDeep { table } => Ok(format!(in alloc;
+                "too many calls at table {table}\n"
+            )?),
+            Outcome::Outside(call) => {
+                let name = call_name(call);
+                Ok(format!(in alloc; "outside failed: {name}\n")?)
+            }
+            Outcome::Memory(at) => {
+                let name = memory_name(at);
+                Ok(format!(in alloc; "no memory: {name}\n")?)
+            }
+            Outcome::Long { events } => Ok(format!(in alloc;
+                "session is full: {events} events\n"
+            )?),
+        }
+    }
+}
