@@ -15,44 +15,49 @@ lines() {
     }'
 }
 
-# The greatest memory of the process named in the file pid, in KiB, as long as it runs.
-watch() {
-    while sleep 0.02; do
-        test -s "$room/pid" || continue
-        most=$(sed -n 's/^VmHWM:[^0-9]*\([0-9]*\).*/\1/p' "/proc/$(cat "$room/pid")/status" 2>/dev/null)
-        test -n "$most" || break
-        printf '%s\n' "$most" >"$room/memory"
-    done
+walk() {
+    "$program" walk "$image" 7
 }
 
-# Walks with the lines of standard input. The file memory then has the most memory, in KiB.
-walk() {
+# The seconds of a walk with the lines of the file lines. Its text goes to the file shown.
+seconds() {
+    begin=$(date +%s%N)
+    walk <"$room/lines" >"$room/shown" || return
+    end=$(date +%s%N)
+    awk -v t=$((end - begin)) 'BEGIN { printf "%.3f", t / 1e9 }'
+}
+
+# The most memory of such a walk, in KiB. Where nothing measures it, the input is held open, so that the system can
+# still be asked once all lines were taken.
+memory() {
     if test -x /usr/bin/time; then
-        /usr/bin/time -f %M -o "$room/memory" "$program" walk "$image" 7
+        /usr/bin/time -f %M -o "$room/memory" "$program" walk "$image" 7 <"$room/lines" >/dev/null || return
+        cat "$room/memory"
     else
-        rm -f "$room/pid"
-        watch &
-        sh -c 'echo $$ >"$1/pid"; exec "$2" walk "$3" 7' sh "$room" "$program" "$image"
-        walked=$?
+        mkfifo "$room/input" || return
+        "$program" walk "$image" 7 <"$room/input" >/dev/null &
+        exec 3>"$room/input"
+        cat "$room/lines" >&3
+        sleep 1
+        sed -n 's/^VmHWM:[^0-9]*\([0-9]*\).*/\1/p' "/proc/$!/status"
+        exec 3>&-
         wait
-        return "$walked"
+        rm "$room/input"
     fi
 }
 
-# One row of the table. Each piece that isn't empty ends with a prompt, which stands alone on a line.
+# One row of the table. Each piece ends with a prompt, which stands alone on a line.
 row() {
     lines "$1" >"$room/lines"
-    begin=$(date +%s%N)
-    walk <"$room/lines" >"$room/shown" || exit
-    end=$(date +%s%N)
+    took=$(seconds) || exit
+    most=$(memory) || exit
     pieces=$(grep -c '^>$' "$room/shown")
     if test "$pieces" -ne $(($1 + 1)); then
         printf 'lines.sh: %s pieces were shown for %s lines\n' "$pieces" "$1" >&2
         exit 1
     fi
-    seconds=$(awk -v t=$((end - begin)) 'BEGIN { printf "%.2f", t / 1e9 }')
-    rate=$(awk -v n="$1" -v t=$((end - begin)) 'BEGIN { printf "%.0f", n / (t / 1e9) }')
-    printf '%9s %9s %14s %12s\n' "$1" "$seconds" "$rate" "$(cat "$room/memory")"
+    rate=$(awk -v n="$1" -v t="$took" 'BEGIN { printf "%.0f", n / t }')
+    printf '%9s %9s %14s %12s\n' "$1" "$took" "$rate" "$most"
 }
 
 # Builds the program where it has to.
