@@ -3,11 +3,14 @@ use Rattle.std.specs.Prelude.{◌≡◌, ℕ, ◌==◌, ◌||◌, Bool, true, le
 use Rattle.paw_base.specs.declared.parts.Condact.{Condact}
 use Rattle.paw_game.specs.Game.{GameLists}
 use Rattle.paw_game.specs.Tables.{condact_at}
+use Rattle.paw_game.specs.Valid.{is_within}
 use Rattle.paw_world.specs.World.{World}
 
--- the codes that are built
-abbrev pub is_built : ℕ → Bool
-is_built code = (code == 0) || ((code == 1) || ((code == 30) || ((code == 32) || ((code == 49) || (code == 50)))))
+-- the codes that are built: all conditions, and of the actions these
+unfoldable pub is_built : ℕ → Bool
+is_built code =
+    is_within 0 28 code || is_within 30 35 code || is_within 38 39 code || is_within 49 51 code || is_within 66 73 code || (code == 77)
+    || is_within 84 86 code
 
 -- each condact of the game is built
 abbrev pub AllBuilt : GameLists → Type 0

@@ -1,10 +1,14 @@
 -- The conditions of the condact table: what each answers, and the world after it.
-use Rattle.std.specs.Prelude.{◌==◌, Bool, true, not, nat_le, if◌then◌else◌}
+use Rattle.std.specs.Prelude.{ℕ, ◌==◌, Bool, true, false, nat_le, Option, Some, None, if◌then◌else◌}
 use Rattle.paw_base.specs.declared.parts.Condact.{Condact}
 use Rattle.paw_game.specs.Game.{GameLists}
-use Rattle.paw_world.specs.World.{World, flag}
+use Rattle.paw_game.specs.Tables.{exit_at}
+use Rattle.paw_world.specs.World.{World, flag, with_flag, drawn_on}
 use Rattle.paw_effects.specs.declared.act.Truth.{Truth}
 use Rattle.paw_effects.specs.declared.act.Truth.TheVariants as truth
+use Rattle.paw_effects.specs.Chance.{rolled}
+use Rattle.paw_effects.specs.PlaceTests.{tests_place, place_holds}
+use Rattle.paw_effects.specs.FlagTests.{flag_holds}
 
 -- what a condition answers, and the world after it: CHANCE makes a draw, MOVE changes a flag
 pub record Tested : Type 0 where
@@ -22,9 +26,23 @@ truth_of b = if b then truth.Yes else truth.No
 abbrev pub answers : World → Bool → Tested
 answers w b = record { answer = truth_of b; world = w }
 
--- one line for each condition
+-- CHANCE makes a draw whatever n is
+abbrev pub takes_chance : World → ℕ → Tested
+takes_chance w n = answers (drawn_on w 1) (nat_le (rolled w) n)
+
+-- MOVE takes the exit for the verb, flag 33, from the location that a flag names, to where it leads
+abbrev pub moves_to : World → ℕ → Option ℕ → Tested
+moves_to w f None = answers w false
+moves_to w f (Some to) = answers (with_flag w f to) true
+
+abbrev pub moves : GameLists → World → ℕ → Tested
+moves g w f = moves_to w f (exit_at g (flag w f) (flag w 33))
+
+-- three by themselves, and the others by families
 unfoldable pub holds : GameLists → World → Condact → Tested
 holds g w c =
-    if c.code == 0 then answers w (flag w 38 == c.a) else
-    if c.code == 1 then answers w (not (flag w 38 == c.a)) else
-    if c.code == 27 then record { answer = truth.Ask; world = w } else answers w true
+    if tests_place c.code then answers w (place_holds w c) else
+    if c.code == 10 then takes_chance w c.a else  -- CHANCE
+    if c.code == 27 then record { answer = truth.Ask; world = w } else  -- QUIT
+    if c.code == 28 then moves g w c.a else  -- MOVE
+    answers w (flag_holds w c)

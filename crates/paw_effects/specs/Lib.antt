@@ -1,4 +1,13 @@
+pub mod Parameters
+pub mod Presence
+pub mod Chance
 pub mod Built
 pub mod Texts
+pub mod PlaceTests
+pub mod FlagTests
 pub mod Holds
+pub mod Done
+pub mod FlowActions
+pub mod TextActions
+pub mod FlagActions
 pub mod Effects

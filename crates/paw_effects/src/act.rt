@@ -1,5 +1,9 @@
 // What a condact answers.
 
+ghost use Rattle.std.specs.Prelude.{◌≡◌, if◌then◌else◌};
+ghost use Rattle.paw_effects.specs.declared.act.Effect.TheVariants as effect;
+ghost use Rattle.paw_effects.specs.Done.{on};
+
 /// Where a game waits: for a line, for an answer to QUIT, for an answer to END, for a key; or where it is over.
 #[derive(Clone, Copy, Drop, PartialEq, Eq, Debug)]
 pub enum Prompt {
@@ -40,4 +44,22 @@ pub struct Act {
     pub effect: Effect,
     pub drop_line: bool,
     pub cancel_loop: bool,
+}
+
+/// An action that goes on so, with the line and the loop as they are.
+pub(crate) fn on(effect: Effect) -> Act
+    ensures value { result ≡ on effect }
+{
+    Act {
+        effect,
+        drop_line: false,
+        cancel_loop: false,
+    }
+}
+
+/// An action that goes on so where its text fits, and else is spent.
+pub(crate) fn after(fits: bool, e: Effect) -> Act
+    ensures value { result ≡ on (if fits then e else effect.Spent) }
+{
+    on(if fits { e } else { Effect::Spent })
 }

@@ -4,21 +4,29 @@ ghost use Rattle.std.specs.Prelude.{◌≡◌, ◌+◌, ◌-◌, ◌<◌, ◌≤
 ghost use Rattle.paw_base.specs.Piece.{piece_limit};
 ghost use Rattle.paw_game.specs.Valid.{is_condact};
 ghost use Rattle.paw_effects.specs.Built.{is_built, IsOf};
-ghost use Rattle.paw_effects.specs.Holds.{is_condition, holds, truth_of};
+ghost use Rattle.paw_effects.specs.Holds.{is_condition, holds, truth_of, moves};
 ghost use Rattle.paw_effects.specs.Effects.{effect_of, Does, referred, weight_class};
 
-use crate::act::{Act, Effect, Truth};
-use crate::text::message;
+use crate::act::{Act, Effect, Truth, after, on};
+use crate::chance::roll;
+use crate::flag_actions::change;
+use crate::flag_tests::flag_holds;
+use crate::flow_actions::{flow, is_flow};
+use crate::place_tests::{place_holds, tests_place};
+use crate::text::print_nothing;
+use crate::text_actions::{is_print, print};
 use paw_base::parts::Condact;
 use paw_base::piece::Piece;
 use paw_game::tables::Tables;
+use paw_world::flags::VERB;
 use paw_world::world::World;
 
 /// Whether a condact of this code is built.
+#[tactic(auto, unfolding(crate::specs::Built::is_built))]
 pub fn is_built(code: u8) -> bool
     ensures value { result ≡ is_built code }
 {
-    matches!(code, 0 | 1 | 30 | 32 | 49 | 50)
+    matches!(code, 0..=28 | 30..=35 | 38..=39 | 49..=51 | 66..=73 | 77 | 84..=86)
 }
 
 // A condition's answer by whether it holds.
@@ -29,7 +37,7 @@ fn truth(holds: bool) -> Truth
 }
 
 /// What a condition of this game answers in this world, which it may change.
-#[tactic(auto, unfolding(crate::specs::Holds::holds))]
+#[tactic(auto, using(crate::proofs::Parameters::object_stands), unfolding(crate::specs::Holds::holds))]
 pub fn test<T: Tables>(tables: &T, world: &mut World, c: Condact) -> Truth
     requires kind { is_condition c ≡ true }
     requires built { is_built c.code ≡ true }
@@ -41,29 +49,33 @@ pub fn test<T: Tables>(tables: &T, world: &mut World, c: Condact) -> Truth
     ensures game { IsOf (T.game tables.now) world.new }
     ensures draws { world.new.draws ≤ world.old.draws + 1 }
 {
+    if tests_place(c.code) {
+        return truth(place_holds(world, c));
+    }
     match c.code {
-        0 => truth(world.flag(38) == c.a),
-        _ => truth(world.flag(38) != c.a),
+        10 => truth(roll(world) <= c.a),
+        27 => Truth::Ask,
+        28 => truth(moves(tables, world, c.a)),
+        _ => truth(flag_holds(world, c)),
     }
 }
 
-// An action that goes on so, with the line and the loop as they are.
-fn on(effect: Effect) -> Act
-    ensures { result ≡ record { effect = effect; drop_line = false; cancel_loop = false } }
+/// MOVE takes the exit for the verb from the location that a flag names, to where it leads. False exactly where there is
+/// no such exit.
+fn moves<T: Tables>(tables: &T, world: &mut World, f: u8) -> bool
+    requires game { IsOf (T.game tables.now) world.old }
+    ensures answer { truth_of result ≡ (moves (T.game tables.now) world.old f).answer }
+    ensures world { world.new ≡ (moves (T.game tables.now) world.old f).world }
+    ensures game { IsOf (T.game tables.now) world.new }
+    ensures draws { world.new.draws ≡ world.old.draws }
 {
-    Act {
-        effect,
-        drop_line: false,
-        cancel_loop: false,
+    match tables.exit(world.flag(f), world.flag(VERB)) {
+        Some(to) => {
+            world.set_flag(f, to);
+            true
+        }
+        None => false,
     }
-}
-
-// Nothing is printed: the piece holds what it held, which fits.
-fn print_nothing(piece: &Piece)
-    ensures same { piece.now ≡ piece.now ++ [] }
-    ensures fits { length piece.now + 0 ≤ piece_limit }
-{
-    let _ = piece.bytes();
 }
 
 /// Does an action of this game: changes the world, and prints into the piece. Spent exactly where the piece would pass
@@ -80,20 +92,13 @@ pub fn act<T: Tables>(tables: &T, world: &mut World, piece: &mut Piece, c: Conda
     ensures draws { world.new.draws ≤ world.old.draws + 1 }
 {
     print_nothing(piece);
-    match c.code {
-        30 => on(Effect::Redescribe),
-        32 => on(Effect::Exit(true)),
-        49 => {
-            world.set_flag(38, c.a);
-            on(Effect::Go)
-        }
-        _ => {
-            if message(tables, world, piece, c.a) {
-                on(Effect::Go)
-            } else {
-                on(Effect::Spent)
-            }
-        }
+    if is_flow(c.code) {
+        flow(tables, world, piece, c)
+    } else if is_print(c.code) {
+        after(print(tables, world, piece, c), Effect::Go)
+    } else {
+        change(world, c);
+        on(Effect::Go)
     }
 }
 

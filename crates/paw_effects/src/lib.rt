@@ -2,6 +2,12 @@
 #![tactic(auto)]
 
 pub mod act;
+mod chance;
 pub mod does;
+mod flag_actions;
+mod flag_tests;
+mod flow_actions;
+mod place_tests;
 pub mod presence;
 pub mod text;
+mod text_actions;

@@ -2,14 +2,25 @@
 
 ghost use Rattle.std.specs.Prelude.{◌≡◌, ◌<◌, length};
 ghost use Rattle.paw_world.specs.World.{here, is_somewhere, is_here, is_present, is_lit};
+ghost use Rattle.paw_effects.specs.Presence.{named_place};
 
 use paw_world::world::World;
+
+/// The flag of the current location.
+pub(crate) const LOCATION: u8 = 38;
+
+/// The places of what isn't created, of what is worn and of what is carried.
+const NOT_CREATED: u8 = 252;
+
+pub(crate) const WORN: u8 = 253;
+
+pub(crate) const CARRIED: u8 = 254;
 
 /// Whether the current location is one of the game's.
 pub fn is_somewhere(world: &World) -> bool
     ensures value { result ≡ is_somewhere world.now }
 {
-    world.flag(38) < world.locations()
+    world.flag(LOCATION) < world.locations()
 }
 
 /// The current location, or not created (252).
@@ -17,10 +28,17 @@ pub fn here(world: &World) -> u8
     ensures value { result ≡ here world.now }
 {
     if is_somewhere(world) {
-        world.flag(38)
+        world.flag(LOCATION)
     } else {
-        252
+        NOT_CREATED
     }
+}
+
+/// A place as a parameter names it: 255 stands for the current location.
+pub fn named_place(world: &World, p: u8) -> u8
+    ensures value { result ≡ named_place world.now p }
+{
+    if p == 255 { here(world) } else { p }
 }
 
 /// Whether an object stands at the current location.
@@ -28,7 +46,7 @@ pub fn is_here(world: &World, o: u8) -> bool
     requires object { o < length world.now.places }
     ensures value { result ≡ is_here world.now o }
 {
-    is_somewhere(world) && world.place(o) == world.flag(38)
+    is_somewhere(world) && world.place(o) == world.flag(LOCATION)
 }
 
 /// Whether an object is worn, carried or here.
@@ -37,7 +55,7 @@ pub fn is_present(world: &World, o: u8) -> bool
     ensures value { result ≡ is_present world.now o }
 {
     let place = world.place(o);
-    place == 253 || (place == 254 || is_here(world, o))
+    place == WORN || (place == CARRIED || is_here(world, o))
 }
 
 /// Whether the light source, object 0, is present.

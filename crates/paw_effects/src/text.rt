@@ -1,7 +1,7 @@
 // The texts that a game prints into a piece.
 
-ghost use Rattle.std.specs.Prelude.{◌≡◌, ◌++◌, ◌<◌, List, ℕ, length, IfSome, IfNone, ◌==◌, Some};
-ghost use Rattle.paw_base.specs.Piece.{Puts};
+ghost use Rattle.std.specs.Prelude.{◌≡◌, ◌+◌, ◌++◌, ◌<◌, ◌≤◌, List, [], ℕ, length, IfSome, IfNone, ◌==◌, Some};
+ghost use Rattle.paw_base.specs.Piece.{Puts, piece_limit};
 ghost use Rattle.paw_effects.specs.Texts.{with_name, referred_text, printed_text, line_of, put_text, say_text, location_text, message_text};
 
 use paw_base::piece::Piece;
@@ -112,6 +112,14 @@ pub fn place_text<T: Tables>(tables: &T, world: &World, piece: &mut Piece, locat
         Some(text) => print_line(tables, world, piece, text),
         None => piece.push(&[]),
     }
+}
+
+/// Prints nothing: the piece holds what it held, which fits.
+pub(crate) fn print_nothing(piece: &Piece)
+    ensures same { piece.now ≡ piece.now ++ [] }
+    ensures fits { length piece.now + 0 ≤ piece_limit }
+{
+    let _ = piece.bytes();
 }
 
 /// Prints a message, where there is one.

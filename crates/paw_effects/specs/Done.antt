@@ -1,0 +1,40 @@
+-- What an action does.
+use Rattle.std.specs.Prelude.{◌≡◌, ℕ, ◌+◌, ◌<◌, ◌≤◌, false, List, [], ◌++◌, length}
+use Rattle.paw_world.specs.World.{World}
+use Rattle.paw_effects.specs.declared.act.Effect.{Effect}
+use Rattle.paw_effects.specs.declared.act.Effect.TheVariants as effect
+use Rattle.paw_effects.specs.declared.act.Act.{Act}
+
+-- what an action prints, the world after it, and what it answers
+pub record Done : Type 0 where
+  pub text : List ℕ
+  pub world : World
+  pub act : Act
+
+-- reading goes on so, with the line and the loop as they are
+abbrev pub on : Effect → Act
+on e = record { effect = e; drop_line = false; cancel_loop = false }
+
+-- this is printed, and reading goes on so
+abbrev pub tells : World → List ℕ → Effect → Done
+tells w text e = record { text = text; world = w; act = on e }
+
+-- nothing is printed, and reading goes on so
+abbrev pub leads : World → Effect → Done
+leads w e = tells w [] e
+
+-- this is printed, and reading goes on at the next condact
+abbrev pub prints : World → List ℕ → Done
+prints w text = tells w text effect.Go
+
+-- reading goes on at the next condact with this world, and nothing is printed
+abbrev pub makes : World → Done
+makes w = leads w effect.Go
+
+-- an action was done in a piece: it holds its text too, or the text doesn't fit and the rest is open
+abbrev pub DoesAs : Done → List ℕ → List ℕ → World → Act → Effect → Type 0
+DoesAs d old new world act effect.Spent = 65535 < length old + length d.text
+DoesAs d old new world act e = (length old + length d.text ≤ 65535) × (new ≡ old ++ d.text) × (world ≡ d.world) × (act ≡ d.act)
+
+abbrev pub Does : Done → List ℕ → List ℕ → World → Act → Type 0
+Does d old new world act = DoesAs d old new world act act.effect

@@ -1,0 +1,40 @@
+// The actions that change flags, and those that save and load them.
+
+ghost use Rattle.std.specs.Prelude.{◌≡◌, ◌+◌, ◌-◌, ◌<◌, ◌≤◌, ◌^◌};
+ghost use Rattle.paw_game.specs.Game.{GameLists};
+ghost use Rattle.paw_effects.specs.Built.{IsOf};
+ghost use Rattle.paw_effects.specs.FlagActions.{change_of};
+
+use crate::chance::roll;
+use crate::presence::LOCATION;
+use paw_base::parts::Condact;
+use paw_world::world::World;
+
+/// Does an action that changes flags.
+#[tactic(auto, unfolding(crate::specs::FlagActions::change_of))]
+pub(crate) fn change(world: &mut World, c: Condact)
+    requires draws { world.old.draws < 2 ^ 64 - 1 }
+    ensures value { world.new ≡ change_of world.old c }
+    ensures game { (g : GameLists) → IsOf g world.old → IsOf g world.new }
+    ensures draws { world.new.draws ≤ world.old.draws + 1 }
+{
+    let _objects = world.objects();
+    match c.code {
+        38 => world.ramsave(),
+        39 => world.ramload(c.a),
+        49 => world.set_flag(LOCATION, c.a),
+        66 => world.set_flag(c.a, 255),
+        67 => world.set_flag(c.a, 0),
+        68 => world.set_flag(c.a, world.flag(c.a).saturating_add(c.b)),
+        69 => world.set_flag(c.a, world.flag(c.a).saturating_sub(c.b)),
+        70 => world.set_flag(c.a, c.b),
+        71 => world.set_flag(c.b, world.flag(c.b).saturating_add(world.flag(c.a))),
+        72 => world.set_flag(c.b, world.flag(c.b).saturating_sub(world.flag(c.a))),
+        73 => {
+            let x = roll(world);
+            world.set_flag(c.a, x)
+        }
+        77 => world.set_flag(c.b, world.flag(c.a)),
+        _ => {}
+    }
+}

@@ -1,0 +1,34 @@
+// The conditions that look at flags.
+
+ghost use Rattle.std.specs.Prelude.{◌≡◌};
+ghost use Rattle.paw_effects.specs.FlagTests.{flag_holds};
+
+use paw_base::parts::Condact;
+use paw_world::flags::{ADJECTIVE, ADVERB, PREPOSITION, SECOND_ADJECTIVE, SECOND_NOUN};
+use paw_world::world::World;
+
+/// Bit 7 tells that the last line was a timeout.
+const STATUS: u8 = 49;
+
+/// What a condition that looks at flags finds.
+#[tactic(auto, unfolding(crate::specs::FlagTests::flag_holds))]
+pub(crate) fn flag_holds(world: &World, c: Condact) -> bool
+    ensures value { result ≡ flag_holds world.now c }
+{
+    match c.code {
+        11 => world.flag(c.a) == 0,
+        12 => world.flag(c.a) != 0,
+        13 => world.flag(c.a) == c.b,
+        14 => world.flag(c.a) != c.b,
+        15 => world.flag(c.a) > c.b,
+        16 => world.flag(c.a) < c.b,
+        17 => world.flag(c.a) == world.flag(c.b),
+        18 => world.flag(c.a) != world.flag(c.b),
+        19 => world.flag(ADJECTIVE) == c.a,
+        20 => world.flag(ADVERB) == c.a,
+        21 => world.flag(PREPOSITION) == c.a,
+        22 => world.flag(SECOND_NOUN) == c.a,
+        23 => world.flag(SECOND_ADJECTIVE) == c.a,
+        _ => world.flag(STATUS) >= 128,
+    }
+}
