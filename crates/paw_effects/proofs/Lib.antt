@@ -1,2 +1,3 @@
 mod Printing
 mod Parameters
+pub mod Asking

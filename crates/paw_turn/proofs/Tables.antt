@@ -17,6 +17,8 @@ use Rattle.paw_effects.specs.declared.act.Effect.TheVariants as effect
 use Rattle.paw_effects.specs.Texts.{put_text, say_text}
 use Rattle.paw_effects.specs.Holds.{is_condition, holds}
 use Rattle.paw_effects.specs.Effects.{Done, effect_of}
+pub use Rattle.paw_effects.proofs.Asking.{IsInner}
+use Rattle.paw_effects.proofs.Asking.{AsksInner, effect_asks}
 use Rattle.paw_reading.specs.declared.places.Frame.{Frame}
 use Rattle.paw_reading.specs.declared.places.OpenLoop.{OpenLoop}
 use Rattle.paw_reading.specs.Run.{Run, closed, fits, printed, with_world, without_loop, line_dropped, anew, is_ignored, heard, reply, is_yes, is_no, taken_phrase}
@@ -25,14 +27,6 @@ use Rattle.paw_reading.specs.GoingOn.{on_path}
 use Rattle.paw_reading.specs.Turn.{first_table}
 use Rattle.paw_reading.proofs.Keeps.{either, open_or_not, at_level_is}
 use Rattle.paw_turn.specs.Player.{IsLoopOf}
-
--- the prompts in tables
-abbrev pub IsInner : Prompt → Type 0
-IsInner prompt.Main = ⊥
-IsInner prompt.Quit = Unit {0}
-IsInner prompt.Again = Unit {0}
-IsInner prompt.Key = Unit {0}
-IsInner prompt.Over = ⊥
 
 -- a wait at this level, where table t is the one at level 0
 pub record WaitsThere (t lv : ℕ) (p : Prompt) (path : List Frame) (turning : Option OpenLoop) : Type 0 where
@@ -48,32 +42,6 @@ Stays t lv (Restarts r) = Unit {0}
 Stays t lv (Ends r) = Unit {0}
 Stays t lv (IsSpent kind r) = Unit {0}
 Stays t lv (IsDeep u r) = Unit {0}
-
--- an action asks at prompts in tables alone
-abbrev pub AsksInner : Effect → Type 0
-AsksInner effect.Go = Unit {0}
-AsksInner (effect.Exit a) = Unit {0}
-AsksInner effect.Redescribe = Unit {0}
-AsksInner (effect.Call u) = Unit {0}
-AsksInner (effect.Loop p) = Unit {0}
-AsksInner (effect.Ask p) = IsInner p
-AsksInner effect.Parse = Unit {0}
-AsksInner effect.Spent = Unit {0}
-
--- what an action does asks so
-record Asks (d : Done) : Type 0 where
-  inner : AsksInner d.act.effect
-
--- what holds in both cases
-one_of : (b : Bool) (x y : Done) → Asks x → Asks y → Asks (if b then x else y)
-one_of true x y h k = h
-one_of false x y h k = k
-
-effect_asks : (g : GameLists) (X : List (List ℕ)) (w : World) (c : Condact) → Asks (effect_of g X w c)
-unfolding effect_of
-effect_asks g X w c =
-    one_of (c.code == 30) _ _ (record { inner = tt }) (one_of (c.code == 32) _ _ (record { inner = tt })
-    (one_of (c.code == 49) _ _ (record { inner = tt }) (one_of (c.code == 50) _ _ (record { inner = tt }) (record { inner = tt }))))
 
 module _ (t : ℕ) where
   -- reading on at a level stays so
@@ -180,7 +148,7 @@ module _ (t : ℕ) where
     reads_one_stays f next go own hn hg c r k =
         either (Stays t lv) (is_condition c) _ _
         (after_test_stays f next go own hn hg c (with_world (holds g r.world c).world r) (holds g r.world c).answer k)
-        (acts_stays f next go own hn hg (effect_of g X r.world c) (effect_asks g X r.world c).inner (noted f c true r) k)
+        (acts_stays f next go own hn hg (effect_of g X r.world c) (effect_asks g X r.world c) (noted f c true r) k)
 
     -- ---- entries, tables ----
 

@@ -1,0 +1,59 @@
+-- At which prompts an action may ask.
+use Rattle.std.proofs.Common.{ℕ, ◌==◌, Bool, true, false, List}
+use Rattle.std.specs.Prelude.{if◌then◌else◌}
+use Rattle.paw_base.specs.declared.parts.Condact.{Condact}
+use Rattle.paw_game.specs.Game.{GameLists}
+use Rattle.paw_world.specs.World.{World}
+use Rattle.paw_effects.specs.declared.act.Prompt.{Prompt}
+use Rattle.paw_effects.specs.declared.act.Prompt.TheVariants as prompt
+use Rattle.paw_effects.specs.declared.act.Effect.{Effect}
+use Rattle.paw_effects.specs.declared.act.Effect.TheVariants as effect
+use Rattle.paw_effects.specs.Done.{Done}
+use Rattle.paw_effects.specs.FlowActions.{is_flow, flow_of}
+use Rattle.paw_effects.specs.TextActions.{is_print}
+use Rattle.paw_effects.specs.Effects.{effect_of}
+
+-- the prompts in tables
+abbrev pub IsInner : Prompt → Type 0
+IsInner prompt.Main = ⊥
+IsInner prompt.Quit = Unit {0}
+IsInner prompt.Again = Unit {0}
+IsInner prompt.Key = Unit {0}
+IsInner prompt.Over = ⊥
+
+-- an action asks at prompts in tables alone
+abbrev pub AsksInner : Effect → Type 0
+AsksInner effect.Go = Unit {0}
+AsksInner (effect.Exit a) = Unit {0}
+AsksInner effect.Redescribe = Unit {0}
+AsksInner (effect.Call u) = Unit {0}
+AsksInner (effect.Loop p) = Unit {0}
+AsksInner (effect.Ask p) = IsInner p
+AsksInner effect.Parse = Unit {0}
+AsksInner effect.Spent = Unit {0}
+
+-- what an action does asks so
+record Asks (d : Done) : Type 0 where
+  inner : AsksInner d.act.effect
+
+-- what holds in both cases
+one_of : (b : Bool) (x y : Done) → Asks x → Asks y → Asks (if b then x else y)
+one_of true x y h k = h
+one_of false x y h k = k
+
+flow_asks : (g : GameLists) (w : World) (c : Condact) → Asks (flow_of g w c)
+unfolding flow_of
+flow_asks g w c =
+    let fine : Unit {0} = tt in
+    one_of (c.code == 30) _ _ (record { inner = fine }) (one_of (c.code == 31) _ _ (record { inner = fine })
+    (one_of (c.code == 32) _ _ (record { inner = fine }) (one_of (c.code == 33) _ _ (record { inner = fine })
+    (one_of (c.code == 34) _ _ (record { inner = fine }) (one_of (c.code == 35) _ _ (record { inner = fine })
+    (one_of (c.code == 84) _ _ (record { inner = fine }) (one_of (c.code == 85) _ _ (record { inner = fine }) (record { inner = fine }))))))))
+
+action_asks : (g : GameLists) (X : List (List ℕ)) (w : World) (c : Condact) → Asks (effect_of g X w c)
+unfolding effect_of
+action_asks g X w c =
+    one_of (is_flow c.code) _ _ (flow_asks g w c) (one_of (is_print c.code) _ _ (record { inner = tt }) (record { inner = tt }))
+
+pub effect_asks : (g : GameLists) (X : List (List ℕ)) (w : World) (c : Condact) → AsksInner (effect_of g X w c).act.effect
+effect_asks g X w c = (action_asks g X w c).inner
