@@ -53,9 +53,9 @@ pub fn test<T: Tables>(tables: &T, world: &mut World, c: Condact) -> Truth
         return truth(place_holds(world, c));
     }
     match c.code {
-        10 => truth(roll(world) <= c.a),
-        27 => Truth::Ask,
-        28 => truth(moves(tables, world, c.a)),
+        10 => truth(roll(world) <= c.a), // CHANCE
+        27 => Truth::Ask, // QUIT
+        28 => truth(moves(tables, world, c.a)), // MOVE
         _ => truth(flag_holds(world, c)),
     }
 }
@@ -91,12 +91,12 @@ pub fn act<T: Tables>(tables: &T, world: &mut World, piece: &mut Piece, c: Conda
     ensures game { IsOf (T.game tables.now) world.new }
     ensures draws { world.new.draws ≤ world.old.draws + 1 }
 {
-    print_nothing(piece);
     if is_flow(c.code) {
         flow(tables, world, piece, c)
     } else if is_print(c.code) {
         after(print(tables, world, piece, c), Effect::Go)
     } else {
+        print_nothing(piece);
         change(world, c);
         on(Effect::Go)
     }

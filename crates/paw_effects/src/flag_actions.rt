@@ -2,13 +2,24 @@
 
 ghost use Rattle.std.specs.Prelude.{◌≡◌, ◌+◌, ◌-◌, ◌<◌, ◌≤◌, ◌^◌};
 ghost use Rattle.paw_game.specs.Game.{GameLists};
+ghost use Rattle.paw_world.specs.World.{with_flag, drawn_on};
 ghost use Rattle.paw_effects.specs.Built.{IsOf};
+ghost use Rattle.paw_effects.specs.Chance.{rolled};
 ghost use Rattle.paw_effects.specs.FlagActions.{change_of};
 
 use crate::chance::roll;
 use crate::presence::LOCATION;
 use paw_base::parts::Condact;
 use paw_world::world::World;
+
+/// Gives a flag a number from 1 to 100, by the next random word.
+fn set_by_chance(world: &mut World, f: u8)
+    requires draws { world.old.draws < 2 ^ 64 - 1 }
+    ensures value { world.new ≡ with_flag (drawn_on world.old 1) f (rolled world.old) }
+{
+    let x = roll(world);
+    world.set_flag(f, x);
+}
 
 /// Does an action that changes flags.
 #[tactic(auto, unfolding(crate::specs::FlagActions::change_of))]
@@ -20,21 +31,18 @@ pub(crate) fn change(world: &mut World, c: Condact)
 {
     let _objects = world.objects();
     match c.code {
-        38 => world.ramsave(),
-        39 => world.ramload(c.a),
-        49 => world.set_flag(LOCATION, c.a),
-        66 => world.set_flag(c.a, 255),
-        67 => world.set_flag(c.a, 0),
-        68 => world.set_flag(c.a, world.flag(c.a).saturating_add(c.b)),
-        69 => world.set_flag(c.a, world.flag(c.a).saturating_sub(c.b)),
-        70 => world.set_flag(c.a, c.b),
-        71 => world.set_flag(c.b, world.flag(c.b).saturating_add(world.flag(c.a))),
-        72 => world.set_flag(c.b, world.flag(c.b).saturating_sub(world.flag(c.a))),
-        73 => {
-            let x = roll(world);
-            world.set_flag(c.a, x)
-        }
-        77 => world.set_flag(c.b, world.flag(c.a)),
+        38 => world.ramsave(), // RAMSAVE
+        39 => world.ramload(c.a), // RAMLOAD
+        49 => world.set_flag(LOCATION, c.a), // GOTO
+        66 => world.set_flag(c.a, 255), // SET
+        67 => world.set_flag(c.a, 0), // CLEAR
+        68 => world.set_flag(c.a, world.flag(c.a).saturating_add(c.b)), // PLUS
+        69 => world.set_flag(c.a, world.flag(c.a).saturating_sub(c.b)), // MINUS
+        70 => world.set_flag(c.a, c.b), // LET
+        71 => world.set_flag(c.b, world.flag(c.b).saturating_add(world.flag(c.a))), // ADD
+        72 => world.set_flag(c.b, world.flag(c.b).saturating_sub(world.flag(c.a))), // SUB
+        73 => set_by_chance(world, c.a), // RANDOM
+        77 => world.set_flag(c.b, world.flag(c.a)), // COPYFF
         _ => {}
     }
 }

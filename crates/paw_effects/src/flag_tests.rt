@@ -16,19 +16,19 @@ pub(crate) fn flag_holds(world: &World, c: Condact) -> bool
     ensures value { result ≡ flag_holds world.now c }
 {
     match c.code {
-        11 => world.flag(c.a) == 0,
-        12 => world.flag(c.a) != 0,
-        13 => world.flag(c.a) == c.b,
-        14 => world.flag(c.a) != c.b,
-        15 => world.flag(c.a) > c.b,
-        16 => world.flag(c.a) < c.b,
-        17 => world.flag(c.a) == world.flag(c.b),
-        18 => world.flag(c.a) != world.flag(c.b),
-        19 => world.flag(ADJECTIVE) == c.a,
-        20 => world.flag(ADVERB) == c.a,
-        21 => world.flag(PREPOSITION) == c.a,
-        22 => world.flag(SECOND_NOUN) == c.a,
-        23 => world.flag(SECOND_ADJECTIVE) == c.a,
-        _ => world.flag(STATUS) >= 128,
+        11 => world.flag(c.a) == 0, // ZERO
+        12 => world.flag(c.a) != 0, // NOTZERO
+        13 => world.flag(c.a) == c.b, // EQ
+        14 => world.flag(c.a) != c.b, // NOTEQ
+        15 => world.flag(c.a) > c.b, // GT
+        16 => world.flag(c.a) < c.b, // LT
+        17 => world.flag(c.a) == world.flag(c.b), // SAME
+        18 => world.flag(c.a) != world.flag(c.b), // NOTSAME
+        19 => world.flag(ADJECTIVE) == c.a, // ADJECT1
+        20 => world.flag(ADVERB) == c.a, // ADVERB
+        21 => world.flag(PREPOSITION) == c.a, // PREP
+        22 => world.flag(SECOND_NOUN) == c.a, // NOUN2
+        23 => world.flag(SECOND_ADJECTIVE) == c.a, // ADJECT2
+        _ => world.flag(STATUS) >= 128, // TIMEOUT
     }
 }

@@ -1,7 +1,9 @@
 // The actions that say where reading goes on.
 
 ghost use Rattle.std.specs.Prelude.{◌≡◌, true};
-ghost use Rattle.paw_effects.specs.Done.{on, Does};
+ghost use Rattle.paw_effects.specs.Done.{tells, Does};
+ghost use Rattle.paw_effects.specs.declared.act.Effect.TheVariants as effect;
+ghost use Rattle.paw_effects.specs.Texts.{put_text};
 ghost use Rattle.paw_effects.specs.FlowActions.{is_flow, flow_of};
 
 use crate::act::{Act, Effect, Prompt, after, on};
@@ -28,6 +30,13 @@ pub(crate) fn is_flow(code: u8) -> bool
     matches!(code, 30..=35 | 84..=86)
 }
 
+/// Puts a question, and waits for its answer.
+fn ask<T: Tables>(tables: &T, world: &World, piece: &mut Piece, question: u8, prompt: Prompt) -> Act
+    ensures does { Does (tells world.now (put_text (T.game tables.now) world.now question) (effect.Ask prompt)) piece.old piece.new world.now result }
+{
+    after(put(tables, world, piece, question), Effect::Ask(prompt))
+}
+
 /// Does such an action.
 #[tactic(auto, unfolding(crate::specs::FlowActions::flow_of))]
 pub(crate) fn flow<T: Tables>(tables: &T, world: &World, piece: &mut Piece, c: Condact) -> Act
@@ -36,20 +45,14 @@ pub(crate) fn flow<T: Tables>(tables: &T, world: &World, piece: &mut Piece, c: C
 {
     print_nothing(piece);
     match c.code {
-        30 => on(Effect::Redescribe),
-        31 => after(
-            put(tables, world, piece, AGAIN_QUESTION),
-            Effect::Ask(Prompt::Again),
-        ),
-        32 => on(Effect::Exit(true)),
-        33 => on(Effect::Exit(false)),
-        34 => after(say(tables, world, piece, AGREEMENT), Effect::Exit(true)),
-        35 => after(
-            put(tables, world, piece, KEY_QUESTION),
-            Effect::Ask(Prompt::Key),
-        ),
-        84 => on(Effect::Parse),
-        85 => on(Effect::Call(c.a)),
-        _ => on(Effect::Loop(named_place(world, c.a))),
+        30 => on(Effect::Redescribe), // DESC
+        31 => ask(tables, world, piece, AGAIN_QUESTION, Prompt::Again), // END
+        32 => on(Effect::Exit(true)), // DONE
+        33 => on(Effect::Exit(false)), // NOTDONE
+        34 => after(say(tables, world, piece, AGREEMENT), Effect::Exit(true)), // OK
+        35 => ask(tables, world, piece, KEY_QUESTION, Prompt::Key), // ANYKEY
+        84 => on(Effect::Parse), // PARSE
+        85 => on(Effect::Call(c.a)), // PROCESS
+        _ => on(Effect::Loop(named_place(world, c.a))), // DOALL
     }
 }

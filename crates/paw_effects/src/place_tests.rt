@@ -23,17 +23,17 @@ pub(crate) fn place_holds(world: &World, c: Condact) -> bool
     ensures value { result ≡ place_holds world.now c }
 {
     match c.code {
-        0 => world.flag(LOCATION) == c.a,
-        1 => world.flag(LOCATION) != c.a,
-        2 => world.flag(LOCATION) > c.a,
-        3 => world.flag(LOCATION) < c.a,
-        4 => is_present(world, c.a),
-        5 => !is_present(world, c.a),
-        6 => world.place(c.a) == WORN,
-        7 => world.place(c.a) != WORN,
-        8 => world.place(c.a) == CARRIED,
-        9 => world.place(c.a) != CARRIED,
-        24 => world.place(c.a) == named_place(world, c.b),
-        _ => world.place(c.a) != named_place(world, c.b),
+        0 => world.flag(LOCATION) == c.a, // AT
+        1 => world.flag(LOCATION) != c.a, // NOTAT
+        2 => world.flag(LOCATION) > c.a, // ATGT
+        3 => world.flag(LOCATION) < c.a, // ATLT
+        4 => is_present(world, c.a), // PRESENT
+        5 => !is_present(world, c.a), // ABSENT
+        6 => world.place(c.a) == WORN, // WORN
+        7 => world.place(c.a) != WORN, // NOTWORN
+        8 => world.place(c.a) == CARRIED, // CARRIED
+        9 => world.place(c.a) != CARRIED, // NOTCARR
+        24 => world.place(c.a) == named_place(world, c.b), // ISAT
+        _ => world.place(c.a) != named_place(world, c.b), // ISNOTAT
     }
 }

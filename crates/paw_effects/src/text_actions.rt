@@ -24,7 +24,7 @@ pub(crate) fn print<T: Tables>(tables: &T, world: &World, piece: &mut Piece, c: 
     ensures puts { Puts piece.old piece.new result (print_of (T.game tables.now) world.now c) }
 {
     match c.code {
-        50 => message(tables, world, piece, c.a),
-        _ => message(tables, world, piece, c.a) && piece.push(b"\n"),
+        50 => message(tables, world, piece, c.a), // MES
+        _ => message(tables, world, piece, c.a) && piece.push(b"\n"), // MESSAGE
     }
 }
