@@ -7,3 +7,4 @@ pub mod Works
 pub mod Hearing
 pub mod Runs
 pub mod Restored
+pub mod Again

@@ -40,11 +40,11 @@ coded g f code (Some c) v e h = record {
   entry = condact-small g v f.table f.entry f.at c e;
 }
 
-first_of : (a b : Bool) → (a && b) ≡ true → a ≡ true
+pub first_of : (a b : Bool) → (a && b) ≡ true → a ≡ true
 first_of true b h = refl
 first_of false b h = cc
 
-second : (a b : Bool) → (a && b) ≡ true → b ≡ true
+pub second : (a b : Bool) → (a && b) ≡ true → b ≡ true
 second true b h = h
 second false b h = cc
 
@@ -76,7 +76,7 @@ reverse_condacts fs h = onto_condacts fs [] h tt
 -- ---- the machine ----
 
 -- with no first fault there is none later
-no_first : (a b : Option ℕ) → first_fault a b ≡ None → (a ≡ None) × (b ≡ None)
+pub no_first : (a b : Option ℕ) → first_fault a b ≡ None → (a ≡ None) × (b ≡ None)
 no_first None b h = (refl, h)
 no_first (Some d) b h = cc
 

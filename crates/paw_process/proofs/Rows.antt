@@ -42,7 +42,7 @@ drop_replicate zero m f low = let e : m - 0 ≡ m = omega arith in rw e refl
 drop_replicate (suc n) zero f low = absurd (omega arith)
 drop_replicate (suc n) (suc m) f low = let e : suc m - suc n ≡ m - n = omega arith in rw e (drop_replicate n m f (omega arith))
 
-length_rows : (rows : List Frame) (n : ℕ) → n ≤ length rows → length (reverse (take n rows)) ≡ n
+pub length_rows : (rows : List Frame) (n : ℕ) → n ≤ length rows → length (reverse (take n rows)) ≡ n
 length_rows rows n low = omega (arith, length-reverse (take n rows), length-take n rows)
 
 pub kept_rows : (v : OpenTables) (rows copied : List Frame) (n : ℕ) (turning : Option OpenLoop) (waiting : Option Prompt) (left : ℕ) → seen rows n turning waiting left ≡ v → copied ≡ take n rows → n ≤ 11 → length rows ≡ 11 → record { count = n; rows = copied ++ drop n (replicate 11 unused); turning = turning } ≡ kept v

@@ -4,12 +4,13 @@ ghost use Rattle.std.specs.Prelude.{◌≡◌, ℕ, ◌+◌, ◌<◌, ◌≤◌,
 ghost use Rattle.paw_game.specs.Game.{GameLists};
 ghost use Rattle.paw_game.specs.Valid.{Valid};
 ghost use Rattle.paw_effects.specs.Built.{AllBuilt, IsOf};
+ghost use Rattle.paw_effects.specs.declared.act.Prompt.{Prompt as AtPrompt};
 ghost use Rattle.paw_effects.specs.declared.act.Prompt.TheVariants as prompt;
 ghost use Rattle.paw_reading.specs.Run.{Run, is_ignored, heard, reply, is_yes};
 ghost use Rattle.paw_reading.specs.GoingOn.{on_path};
 ghost use Rattle.paw_reading.specs.Turn.{first_table};
 ghost use Rattle.paw_process.specs.OpenTables.{OpenTables, below, IsReading, IsWaiting, IsClosed};
-ghost use Rattle.paw_process.specs.Kept.{kept, restored, waiting_at, frames_fault, StandsAt};
+ghost use Rattle.paw_process.specs.Kept.{kept as kept_of, restored, waiting_at, frames_fault, StandsAt};
 ghost use Rattle.paw_process.specs.Meaning.{held, going_on, RunsTo, IsStopped, AwaitsAnswer, AnswersQuit, AnswersKey};
 
 use crate::Turned;
@@ -134,9 +135,11 @@ impl Machine {
         }
     }
 
-    /// The places of the machine, to be kept where it waits.
+    /// The places of the machine, to be kept where it waits. Restored at the prompt at which it stands, they are the same
+    /// machine with a full budget.
     pub fn frames(&self) -> Frames
-        ensures value { result ≡ kept self.now }
+        ensures value { result ≡ kept_of self.now }
+        ensures again { (p : AtPrompt) → StandsAt p self.now → restored result (waiting_at p) ≡ record self.now { left = BUDGET } }
     {
         let mut rows = [start_of(0); MOST_FRAMES];
         rows[..self.count].copy_from_slice(&self.rows[..self.count]);
@@ -147,7 +150,7 @@ impl Machine {
         }
     }
 
-    /// A machine of kept places, which waits at this prompt, with a full budget.
+    /// A machine of kept places, which waits at this prompt, with a full budget. Its places are these again.
     ///
     /// # Errors
     /// The least depth at which the places break a rule, exactly where they break one for this game: inside tables the
@@ -161,6 +164,7 @@ impl Machine {
     ) -> Result<Machine, FrameFault>
         ensures value { IfOk result (λ m. m ≡ restored kept.now (waiting_at prompt)) }
         ensures stands { IfOk result (λ m. StandsAt prompt m) }
+        ensures again { IfOk result (λ m. kept_of m ≡ kept.now) }
         ensures sound { IfOk result (λ m. frames_fault (T.game tables.now) prompt kept.now ≡ None) }
         ensures fault { IfErr result (λ e. frames_fault (T.game tables.now) prompt kept.now ≡ Some e.depth) }
     {

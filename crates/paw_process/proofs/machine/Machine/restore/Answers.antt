@@ -1,4 +1,6 @@
 use Rattle.std.proofs.Common.{arith, sym, ◌∙◌}
+use Rattle.paw_process.specs.Kept.{waiting_at}
+use Rattle.paw_process.proofs.Again.{restored_kept}
 use Rattle.paw_process.proofs.Restored.{stands_at}
 use Rattle.paw_process.proofs.machine.Machine.restore.Goals as goal
 
@@ -6,3 +8,7 @@ pub returns-clause-stands : goal.returns-clause-stands
 returns-clause-stands g c =
     rw c.waiting_at.ensures.value
     (stands_at (g.T.Tables.game c.args.tables.now) c.args.prompt c.args.kept.now c.counts-counts.ensures.valid (omega arith) (sym c.frames_fault.ensures.value ∙ c.in_default.is))
+
+pub returns-clause-again : goal.returns-clause-again
+returns-clause-again g c =
+    restored_kept (g.T.Tables.game c.args.tables.now) c.args.prompt (waiting_at c.args.prompt) c.args.kept.now (omega arith) (sym c.frames_fault.ensures.value ∙ c.in_default.is)
