@@ -1,5 +1,5 @@
 -- The answer to END's question.
-use Rattle.std.proofs.Common.{◌≡◌, ℕ, suc, ◌+◌, ◌<◌, ◌≤◌, Bool, true, false, List, [], ◌∷◌, ◌++◌, Option, None, length, reverse, map, refl, sym, ap, ◌∙◌, subst, arith}
+use Rattle.std.proofs.Common.{◌≡◌, ℕ, suc, ◌+◌, ◌<◌, ◌≤◌, Bool, true, false, List, [], ◌∷◌, ◌++◌, None, length, reverse, refl, sym, ap, ◌∙◌, subst, arith}
 use Rattle.std.specs.Prelude.{if◌then◌else◌, nat_le}
 use Rattle.std.proofs.lemmas.List.{length-reverse, length-map}
 use Rattle.std.proofs.lemmas.Bool.Decides.{nat_tests}
@@ -13,7 +13,7 @@ use Rattle.paw_effects.specs.Texts.{say_text}
 use Rattle.paw_reading.specs.declared.places.Frame.{Frame}
 use Rattle.paw_reading.specs.declared.places.OpenLoop.{OpenLoop}
 use Rattle.paw_reading.specs.Run.{Run, closed, fits, printed, without_loop, line_dropped, anew, is_timeout, is_ignored, heard, with_timeout, reply, is_no}
-use Rattle.paw_reading.specs.Reading.{Out, Restarts, Ends, IsSpent, after_call, again, asked, looped, deeper, plain, rest}
+use Rattle.paw_reading.specs.Reading.{Out, Restarts, Ends, IsSpent, after_call, again, asked, looped, deeper, rest}
 use Rattle.paw_reading.specs.GoingOn.{on_path}
 use Rattle.paw_reading.specs.Turn.{Ending, IsOver, RunsOut, AtDescribe, Stage, table_done, turn, first_table}
 use Rattle.paw_process.specs.Meaning.{to_come}
@@ -138,7 +138,7 @@ again_spends g old new line w some hears declines world full left past has =
 
 -- ---- worlds ----
 
-length_flags : (carried : ℕ) → length (flags_with carried) ≡ 256
+pub length_flags : (carried : ℕ) → length (flags_with carried) ≡ 256
 unfolding flags_with
 length_flags carried = refl
 

@@ -2,11 +2,14 @@
 #![tactic(auto)]
 
 mod flags;
+pub mod laws;
 mod lines;
+mod parts;
 mod player;
 mod stage;
 mod turn;
 
+pub use parts::Parts;
 use paw_base::fault::SpentKind;
 use paw_effects::act::Prompt;
 pub use player::Player;

@@ -3,18 +3,24 @@
 ghost use Rattle.std.specs.Prelude.{◌≡◌, ℕ, ◌+◌, ◌<◌, ◌≤◌, ◌^◌, List, [], ◌∷◌, length, reverse, IfOk};
 ghost use Rattle.paw_effects.specs.Built.{AllBuilt};
 ghost use Rattle.paw_effects.specs.declared.act.Prompt.{Prompt as AtPrompt};
+ghost use Rattle.paw_effects.specs.declared.act.Prompt.TheVariants as prompt;
 ghost use Rattle.paw_reading.specs.Run.{Step as Read};
 ghost use Rattle.paw_reading.specs.Turn.{reading, on};
 ghost use Rattle.paw_turn.specs.declared.Step.TheVariants as step;
+ghost use Rattle.paw_turn.specs.Parts.{Fits, IsStanding, seat_at, step_at, prompt_at};
 ghost use Rattle.paw_turn.specs.Player.{IsNew, IsSeated, IsFinished, PlaysTo, run_at};
 
 use crate::Step;
+use crate::parts::{Parts, prompt_at, step_at};
 use crate::stage::Stage;
 use crate::turn::Turn;
 use paw_base::fault::NoRoom;
 use paw_base::piece::Piece;
 use paw_effects::act::Prompt;
 use paw_game::tables::Tables;
+use paw_phrase::Pending;
+use paw_process::Machine;
+use paw_world::world::World;
 use std::alloc::Global;
 use std::marker::Model;
 
@@ -51,6 +57,7 @@ impl<'a, T: Tables> Player<'a, T> {
         requires built { AllBuilt (T.game tables.now) }
         ensures game { IfOk result (λ p. p.game ≡ T.game tables.now) }
         ensures new { IfOk result (λ p. IsNew p seed) }
+        ensures last { IfOk result (λ p. p.last ≡ step.Waits prompt.Main) }
         ensures seated { IfOk result IsSeated }
     {
         let piece = Piece::new(alloc)?;
@@ -61,7 +68,62 @@ impl<'a, T: Tables> Player<'a, T> {
         })
     }
 
-    /// Plays the piece before the first line. It is asked for once, right after `new`.
+    /// A player of a game whose condacts are built that stands at a prompt with these parts, as they were lent or
+    /// restored. The next line goes on from there; where the game is over the player is finished.
+    ///
+    /// # Errors
+    /// NoRoom where there is no memory for a piece. The parts are gone then.
+    pub fn adopt(
+        alloc: Global,
+        tables: &'a T,
+        world: World,
+        machine: Machine,
+        pending: Pending,
+        prompt: Prompt,
+    ) -> Result<Player<'a, T>, NoRoom>
+        requires built { AllBuilt (T.game tables.now) }
+        requires fits { Fits (T.game tables.now) world machine prompt }
+        ensures value { IfOk result (λ p. p ≡ seat_at (T.game tables.now) world machine pending prompt) }
+        ensures seated { IfOk result IsSeated }
+    {
+        let _counts = tables.counts();
+        let piece = Piece::new(alloc)?;
+        Ok(Player {
+            tables,
+            turn: Turn {
+                world,
+                pending,
+                machine,
+                piece,
+            },
+            last: step_at(prompt),
+        })
+    }
+
+    /// Goes back to the start of the game, with another seed: the player is as `new` gives it. Takes no memory.
+    pub fn renew(&mut self, seed: u64)
+        requires seated { IsSeated self.old }
+        ensures game { self.new.game ≡ self.old.game }
+        ensures new { IsNew self.new seed }
+        ensures last { self.new.last ≡ step.Waits prompt.Main }
+        ensures seated { IsSeated self.new }
+    {
+        self.turn.renew(self.tables, seed);
+        self.last = Step::Waits(Prompt::Main);
+    }
+
+    /// Goes on with these parts at a prompt: the player is as `adopt` gives it. Takes no memory.
+    pub fn seat(&mut self, world: World, machine: Machine, pending: Pending, prompt: Prompt)
+        requires seated { IsSeated self.old }
+        requires fits { Fits self.old.game world machine prompt }
+        ensures value { self.new ≡ seat_at self.old.game world machine pending prompt }
+        ensures seated { IsSeated self.new }
+    {
+        self.turn.seat(world, machine, pending);
+        self.last = step_at(prompt);
+    }
+
+    /// Plays the piece before the first line. It is asked for once, right after `new` or `renew`.
     pub fn start(&mut self) -> Step
         requires seated { IsSeated self.old }
         requires new { IsNew self.old self.old.world.seed }
@@ -78,7 +140,7 @@ impl<'a, T: Tables> Player<'a, T> {
     }
 
     /// Takes a line of at most 255 bytes, and plays on to the next prompt or to the end. A finished player answers the
-    /// same again, with an empty piece.
+    /// same again, with an empty piece; its other parts stay as they are.
     pub fn take(&mut self, line: &[u8]) -> Step
         requires seated { IsSeated self.old }
         requires line { length line.now ≤ 255 }
@@ -108,5 +170,24 @@ impl<'a, T: Tables> Player<'a, T> {
         ensures value { result.now ≡ self.now.piece }
     {
         self.turn.piece()
+    }
+    /// Lends the world, the machine, what is pending, and the prompt at which the player stands: Over once the game is
+    /// over, or the player spent or too deep. Where it waits or the game is over, a player that is seated with them is
+    /// this one with an empty piece.
+    pub fn parts(&self) -> Parts<'_>
+        ensures world { result.world.now ≡ self.now.world }
+        ensures machine { result.machine.now ≡ self.now.machine }
+        ensures pending { result.pending.now ≡ self.now.pending }
+        ensures prompt { result.prompt ≡ prompt_at self.now.last }
+        ensures fits { IsSeated self.now → IsStanding self.now.last → Fits self.now.game self.now.world self.now.machine (prompt_at self.now.last) }
+        ensures same { IsSeated self.now → IsStanding self.now.last →
+            seat_at self.now.game self.now.world self.now.machine self.now.pending (prompt_at self.now.last) ≡ record self.now { piece = [] } }
+    {
+        Parts {
+            world: &self.turn.world,
+            machine: &self.turn.machine,
+            pending: &self.turn.pending,
+            prompt: prompt_at(self.last),
+        }
     }
 }

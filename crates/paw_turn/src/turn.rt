@@ -93,6 +93,26 @@ fn take_facts<T: Tables>(tables: &T, facts: &mut [ObjectFacts])
     }
 }
 
+/// The world at the start of a game.
+fn opening_world<T: Tables>(tables: &T, seed: u64) -> World
+    ensures valid { Valid (T.game tables.now) }
+    ensures value { result ≡ opening_world (T.game tables.now) seed }
+{
+    let counts = tables.counts();
+    let none = ObjectFacts {
+        noun: 255,
+        adjective: 255,
+        start: 252,
+        weight: 0,
+        container: false,
+        wearable: false,
+    };
+    let mut facts = [none; MOST_OBJECTS];
+    let all = &mut facts[..counts.objects as usize];
+    take_facts(tables, all);
+    World::new(all, counts.locations as u8, seed)
+}
+
 impl Turn {
     /// A turn at the start of a game, with this piece.
     pub(crate) fn new<T: Tables>(tables: &T, seed: u64, piece: Piece) -> Turn
@@ -102,24 +122,33 @@ impl Turn {
         ensures machine { result.machine ≡ record { frames = []; turning = None; waiting = None; left = 200000 } }
         ensures piece { result.piece ≡ piece }
     {
-        let counts = tables.counts();
-        let none = ObjectFacts {
-            noun: 255,
-            adjective: 255,
-            start: 252,
-            weight: 0,
-            container: false,
-            wearable: false,
-        };
-        let mut facts = [none; MOST_OBJECTS];
-        let all = &mut facts[..counts.objects as usize];
-        take_facts(tables, all);
         Turn {
-            world: World::new(all, counts.locations as u8, seed),
+            world: opening_world(tables, seed),
             pending: Pending::new(),
             machine: Machine::new(),
             piece,
         }
+    }
+
+    /// Goes back to the start of a game, with an empty piece.
+    pub(crate) fn renew<T: Tables>(&mut self, tables: &T, seed: u64)
+        ensures world { self.new.world ≡ opening_world (T.game tables.now) seed }
+        ensures pending { self.new.pending ≡ record { bytes = []; earlier = 255 } }
+        ensures machine { self.new.machine ≡ record { frames = []; turning = None; waiting = None; left = 200000 } }
+        ensures piece { self.new.piece ≡ [] }
+    {
+        let world = opening_world(tables, seed);
+        self.seat(world, Machine::new(), Pending::new());
+    }
+
+    /// Goes on with these parts in the place of its own, and with an empty piece.
+    pub(crate) fn seat(&mut self, world: World, machine: Machine, pending: Pending)
+        ensures value { self.new ≡ record { world = world; pending = pending; machine = machine; piece = [] } }
+    {
+        self.world = world;
+        self.machine = machine;
+        self.pending = pending;
+        self.piece.clear();
     }
 
     /// Begins a new piece: it is empty, and may read all condacts that a piece may.

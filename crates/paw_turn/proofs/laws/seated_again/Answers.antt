@@ -1,0 +1,5 @@
+use Rattle.paw_turn.proofs.Seating.{seated_as}
+use Rattle.paw_turn.proofs.laws.seated_again.Goals as goal
+
+pub returns : goal.returns
+returns c = record { same = seated_as }

@@ -1,0 +1,39 @@
+// What is lent of a player, and where a player stands.
+
+ghost use Rattle.std.specs.Prelude.{◌≡◌};
+ghost use Rattle.paw_turn.specs.Parts.{step_at, prompt_at};
+
+use crate::Step;
+use paw_effects::act::Prompt;
+use paw_phrase::Pending;
+use paw_process::Machine;
+use paw_world::world::World;
+
+/// What a player consists of between two lines, lent by it: with these a player goes on, now or later.
+#[derive(Drop)]
+pub struct Parts<'p> {
+    pub world: &'p World,
+    pub machine: &'p Machine,
+    pub pending: &'p Pending,
+    pub prompt: Prompt,
+}
+
+/// What a player came to that stands at this prompt.
+pub(crate) fn step_at(prompt: Prompt) -> Step
+    ensures value { result ≡ step_at prompt }
+{
+    match prompt {
+        Prompt::Main | Prompt::Quit | Prompt::Again | Prompt::Key => Step::Waits(prompt),
+        Prompt::Over => Step::Ended,
+    }
+}
+
+/// The prompt at which a player stands that came to this.
+pub(crate) fn prompt_at(step: Step) -> Prompt
+    ensures value { result ≡ prompt_at step }
+{
+    match step {
+        Step::Waits(prompt) => prompt,
+        Step::Ended | Step::Spent(_) | Step::TooDeep { .. } => Prompt::Over,
+    }
+}
