@@ -1,34 +1,29 @@
 -- A line at a prompt in tables.
-use Rattle.std.proofs.Common.{◌≡◌, ℕ, suc, ◌+◌, ◌-◌, ◌<◌, ◌≤◌, Bool, true, false, List, [], ◌∷◌, ◌++◌, Option, Some, None, length, reverse, refl, sym, ap, ◌∙◌, subst, arith, length-append}
-use Rattle.std.specs.Prelude.{if◌then◌else◌}
+use Rattle.std.proofs.Common.{◌≡◌, ℕ, suc, ◌<◌, ◌≤◌, Bool, true, false, List, [], ◌∷◌, ◌++◌, Some, length, reverse, refl, sym, ap, ◌∙◌, subst, arith, length-append}
 use Rattle.std.proofs.lemmas.List.{length-reverse}
-use Rattle.paw_base.specs.declared.fault.SpentKind.TheVariants as spent
 use Rattle.paw_game.specs.Game.{GameLists}
 use Rattle.paw_game.specs.Valid.{Valid}
-use Rattle.paw_world.specs.World.{World, restarted}
+use Rattle.paw_world.specs.World.{World}
 use Rattle.paw_effects.specs.declared.act.Prompt.{Prompt}
 use Rattle.paw_effects.specs.declared.act.Prompt.TheVariants as prompt
-use Rattle.paw_effects.specs.Texts.{say_text}
 use Rattle.paw_reading.specs.declared.places.Frame.{Frame}
-use Rattle.paw_reading.specs.Run.{Run, Step as Read, closed, fits, printed, without_loop, line_dropped, anew, is_timeout, is_ignored, heard, with_timeout, reply, is_yes, is_no}
-use Rattle.paw_reading.specs.Reading.{Out, Waits, Restarts, Ends, IsSpent, after_call, again, asked, answered, looped, deeper, plain, rest, over}
+use Rattle.paw_reading.specs.Run.{Run, closed, is_timeout, is_ignored, with_timeout, reply, is_yes}
+use Rattle.paw_reading.specs.Reading.{Out, Waits, after_call, asked, rest}
 use Rattle.paw_reading.specs.GoingOn.{on_path}
-use Rattle.paw_reading.specs.Turn.{Ending, IsOver, RunsOut, AtDescribe, AtFrame, AtPhrase, table_done, turn, first_table, goes_on}
+use Rattle.paw_reading.specs.Turn.{table_done, turn, first_table}
 use Rattle.paw_process.specs.OpenTables.{OpenTables}
 use Rattle.paw_process.specs.Meaning.{held, to_come, going_on, ComesTo, RunsTo, IsStopped, AnswersQuit, AnswersKey}
 use Rattle.paw_process.specs.declared.Turned.{Turned}
 use Rattle.paw_turn.specs.declared.Step.TheVariants as step
-use Rattle.paw_turn.specs.declared.stage.Stage.TheVariants as stage
 use Rattle.paw_turn.specs.declared.stage.Next.{Next}
 use Rattle.paw_turn.specs.declared.stage.Next.TheVariants as next
 use Rattle.paw_turn.specs.declared.turn.Turn.{Turn}
 use Rattle.paw_turn.specs.Player.{IsLoopOf, StandsAt}
-use Rattle.paw_turn.specs.Stages.{Past, run_of, HasRead, having_read, GoesOnAs, MovesAfter, PlaysAs, RunsAs, from_prompt, from_path, StopsInTable, AwaitsAt}
-use Rattle.paw_turn.proofs.Says.{said, unsaid}
+use Rattle.paw_turn.specs.Stages.{Past, run_of, having_read, GoesOnAs, MovesAfter, PlaysAs, RunsAs, from_prompt, from_path, StopsInTable, AwaitsAt}
 use Rattle.paw_turn.proofs.Falling.{some_past}
 use Rattle.paw_turn.proofs.Tables.{IsInner, WaitsThere, path_waits}
 use Rattle.paw_turn.proofs.Waiting.{stops_in}
-use Rattle.paw_turn.proofs.Hearing.{moves_play, main_ignored}
+use Rattle.paw_turn.proofs.Hearing.{main_ignored}
 
 -- ---- ignored lines ----
 

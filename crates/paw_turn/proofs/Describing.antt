@@ -1,9 +1,9 @@
 -- The description of a location.
-use Rattle.std.proofs.Common.{◌≡◌, ℕ, suc, ◌+◌, ◌<◌, ◌≤◌, List, [], ◌++◌, length, refl, sym, ap, ◌∙◌, subst}
+use Rattle.std.proofs.Common.{◌≡◌, suc, ◌+◌, ◌<◌, ◌≤◌, [], ◌++◌, length, refl, sym, ap, ◌∙◌, subst}
 use Rattle.paw_base.specs.declared.fault.SpentKind.TheVariants as spent
 use Rattle.paw_game.specs.Game.{GameLists}
 use Rattle.paw_world.specs.World.{World}
-use Rattle.paw_reading.specs.Run.{Run, with_world}
+use Rattle.paw_reading.specs.Run.{with_world}
 use Rattle.paw_reading.specs.Reading.{table_read}
 use Rattle.paw_reading.specs.Turn.{AtDescribe, described, view_text, table_done, turn}
 use Rattle.paw_turn.specs.declared.Step.TheVariants as step

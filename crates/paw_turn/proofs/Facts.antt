@@ -1,5 +1,5 @@
 -- The facts of a game's objects, one after the other.
-use Rattle.std.proofs.Common.{◌≡◌, ℕ, zero, suc, ◌+◌, ◌<◌, ◌≤◌, List, [], ◌∷◌, ◌++◌, Some, None, length, map, take, set, slice_get, refl, sym, ap, ◌∙◌, subst, arith, add-one}
+use Rattle.std.proofs.Common.{◌≡◌, ℕ, zero, suc, ◌+◌, ◌<◌, List, [], ◌∷◌, ◌++◌, Some, length, map, take, set, slice_get, sym, ap, ◌∙◌, add-one}
 use Rattle.std.proofs.Math.Seq.{take-suc-set}
 use Rattle.paw_base.specs.declared.parts.ObjectFacts.{ObjectFacts}
 use Rattle.paw_game.specs.declared.parts.ObjectRow.{ObjectRow}

@@ -1,13 +1,13 @@
 -- The next phrase.
-use Rattle.std.proofs.Common.{◌≡◌, ℕ, suc, ◌+◌, ◌*◌, ◌<◌, ◌≤◌, List, [], ◌++◌, length, refl, sym, ap, ◌∙◌, subst, arith}
+use Rattle.std.proofs.Common.{◌≡◌, ℕ, suc, ◌<◌, List, [], length, sym, ap, ◌∙◌, subst}
 use Rattle.paw_game.specs.Game.{GameLists}
 use Rattle.paw_world.specs.World.{World, flag}
 use Rattle.paw_phrase.specs.declared.Found.TheVariants as found
 use Rattle.paw_phrase.specs.Pending.{PendingLine}
-use Rattle.paw_phrase.specs.Sentence.{Parsed, IsSentence, IsUnknown, IsNoPhrase, parsed}
+use Rattle.paw_phrase.specs.Sentence.{Parsed, IsUnknown, IsNoPhrase, parsed}
 use Rattle.paw_phrase.proofs.Phrases.{Leaves, parsed-shorter}
 use Rattle.paw_effects.specs.Texts.{say_text}
-use Rattle.paw_reading.specs.Run.{Run, line_dropped}
+use Rattle.paw_reading.specs.Run.{Run}
 use Rattle.paw_reading.specs.Turn.{Ending, AtFrame, AtPhrase, AtResponse, saying, counted, prompts, after_phrase, turn}
 use Rattle.paw_process.specs.Phrases.{Speaks}
 use Rattle.paw_turn.specs.declared.stage.Next.{Next}

@@ -1,7 +1,6 @@
 -- One stage after the other.
-use Rattle.std.proofs.Common.{◌≡◌, ℕ, suc, ◌+◌, List, [], length, refl, sym, ap, ◌∙◌, subst}
+use Rattle.std.proofs.Common.{ℕ, suc, List, [], refl, sym, subst}
 use Rattle.paw_game.specs.Game.{GameLists}
-use Rattle.paw_reading.specs.Run.{Run}
 use Rattle.paw_reading.specs.Turn.{Ending, turn}
 use Rattle.paw_turn.specs.declared.stage.Stage.{Stage}
 use Rattle.paw_turn.specs.declared.stage.Next.{Next}

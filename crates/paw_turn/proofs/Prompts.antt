@@ -1,5 +1,5 @@
 -- The prompt.
-use Rattle.std.proofs.Common.{◌≡◌, ℕ, ◌+◌, ◌<◌, List, [], length, refl}
+use Rattle.std.proofs.Common.{◌+◌, ◌<◌, [], length, refl}
 use Rattle.paw_base.specs.declared.fault.SpentKind.TheVariants as spent
 use Rattle.paw_game.specs.Game.{GameLists}
 use Rattle.paw_reading.specs.Run.{line_dropped, closed}

@@ -1,17 +1,15 @@
 -- A table that is read.
-use Rattle.std.proofs.Common.{◌≡◌, ℕ, zero, suc, ◌+◌, ◌-◌, ◌*◌, ◌<◌, ◌≤◌, false, List, [], ◌∷◌, ◌++◌, Option, Some, None, length, replicate, refl, sym, ap, ◌∙◌, subst, arith, length-append}
+use Rattle.std.proofs.Common.{◌≡◌, ℕ, suc, ◌+◌, false, [], ◌∷◌, ◌++◌, length, refl, sym, subst, arith, length-append}
 use Rattle.paw_game.specs.Game.{GameLists}
-use Rattle.paw_reading.specs.Run.{Run, Step as Read}
-use Rattle.paw_reading.specs.Reading.{Out, table_read}
-use Rattle.paw_reading.specs.Turn.{Stage, AtDescribe, AtFrame, AtPhrase, AtResponse, Ending, table_done, turn}
-use Rattle.paw_process.specs.OpenTables.{OpenTables, IsClosed}
-use Rattle.paw_process.specs.Meaning.{held, ComesTo, RunsTo}
+use Rattle.paw_reading.specs.Run.{Run}
+use Rattle.paw_reading.specs.Reading.{table_read}
+use Rattle.paw_reading.specs.Turn.{AtFrame, AtResponse, Ending, table_done, turn}
+use Rattle.paw_process.specs.OpenTables.{OpenTables}
+use Rattle.paw_process.specs.Meaning.{held, RunsTo}
 use Rattle.paw_process.specs.declared.Turned.{Turned}
-use Rattle.paw_process.specs.declared.Turned.TheVariants as turned
 use Rattle.paw_turn.specs.declared.stage.Next.{Next}
-use Rattle.paw_turn.specs.declared.stage.Next.TheVariants as next
 use Rattle.paw_turn.specs.declared.turn.Turn.{Turn}
-use Rattle.paw_turn.specs.Stages.{Past, run_of, HasRead, having_read, GoesOnAs, Moves, Reads, MovesAfter, RunsAs, from_table}
+use Rattle.paw_turn.specs.Stages.{run_of, having_read, Moves, Reads, MovesAfter, RunsAs, from_table}
 
 -- what the machine has read, and how the turn goes on
 -- a machine that has opened a table

@@ -1,23 +1,21 @@
 -- Where a machine waits.
-use Rattle.std.proofs.Common.{◌≡◌, ℕ, suc, ◌+◌, ◌<◌, ◌≤◌, List, [], ◌∷◌, ◌++◌, Option, Some, None, length, reverse, refl, sym, ap, ◌∙◌, subst, arith}
+use Rattle.std.proofs.Common.{◌≡◌, ℕ, suc, ◌<◌, ◌≤◌, List, [], ◌∷◌, ◌++◌, length, reverse, refl, sym, ap, ◌∙◌, subst, arith}
 use Rattle.std.proofs.lemmas.List.{length-reverse}
 use Rattle.paw_game.specs.Game.{GameLists}
 use Rattle.paw_effects.specs.declared.act.Prompt.{Prompt}
 use Rattle.paw_effects.specs.declared.act.Prompt.TheVariants as prompt
 use Rattle.paw_reading.specs.declared.places.Frame.{Frame}
-use Rattle.paw_reading.specs.declared.places.OpenLoop.{OpenLoop}
 use Rattle.paw_reading.specs.Run.{Run, closed}
-use Rattle.paw_reading.specs.Reading.{Out, Waits, after_call, again, asked, looped, deeper, plain, rest, table_read}
+use Rattle.paw_reading.specs.Reading.{Out, Waits, after_call, asked, rest}
 use Rattle.paw_reading.specs.GoingOn.{on_path}
-use Rattle.paw_reading.specs.Turn.{first_table}
 use Rattle.paw_process.specs.OpenTables.{OpenTables, IsWaiting, IsClosed}
 use Rattle.paw_process.specs.Meaning.{IsStopped}
 use Rattle.paw_process.specs.declared.Turned.{Turned}
 use Rattle.paw_process.specs.declared.Turned.TheVariants as turned
 use Rattle.paw_turn.specs.declared.turn.Turn.{Turn}
-use Rattle.paw_turn.specs.Player.{IsLoopOf, WaitsIn}
+use Rattle.paw_turn.specs.Player.{IsLoopOf}
 use Rattle.paw_turn.specs.Stages.{Past, run_of, having_read, RunsAs, from_table, WaitsInTable, StopsInTable}
-use Rattle.paw_turn.proofs.Tables.{IsInner, WaitsThere, table_waits}
+use Rattle.paw_turn.proofs.Tables.{WaitsThere, table_waits}
 use Rattle.paw_turn.proofs.Falling.{some_past}
 
 -- with no line left a run waits where it is

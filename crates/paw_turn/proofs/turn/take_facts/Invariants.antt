@@ -1,4 +1,4 @@
-use Rattle.std.proofs.Common.{◌≡◌, length, take, map}
+use Rattle.std.proofs.Common.{◌≡◌, take, map}
 use Rattle.paw_turn.proofs.turn.take_facts.Given as goal
 
 abbrev pub invariant-loop-o : goal.invariant-loop-o

@@ -1,4 +1,4 @@
-use Rattle.std.proofs.Common.{◌≡◌, [], ◌∷◌, List, reverse, ap, sym, ◌∙◌, subst}
+use Rattle.std.proofs.Common.{◌≡◌, [], ◌∷◌, reverse, ap, sym, subst}
 use Rattle.paw_effects.specs.declared.act.Prompt.{Prompt}
 use Rattle.paw_reading.specs.Turn.{on}
 use Rattle.paw_turn.specs.declared.Step.{Step}
@@ -6,7 +6,7 @@ use Rattle.paw_turn.specs.declared.Step.TheVariants as step
 use Rattle.paw_turn.specs.declared.stage.Next.TheVariants as next
 use Rattle.paw_turn.specs.declared.turn.Turn.{Turn}
 use Rattle.paw_turn.specs.Player.{Seat, PlaysTo, run_at}
-use Rattle.paw_turn.specs.Stages.{PlaysAs, from_prompt, seat_of, settled, opened_piece}
+use Rattle.paw_turn.specs.Stages.{PlaysAs, from_prompt, seat_of, settled}
 use Rattle.paw_turn.proofs.Settling.{take_plays}
 use Rattle.paw_turn.proofs.player.Player.take.Goals as goal
 

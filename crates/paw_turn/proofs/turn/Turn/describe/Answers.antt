@@ -1,4 +1,3 @@
-use Rattle.std.proofs.Common.{refl}
 use Rattle.paw_turn.proofs.Describing.{described_reads, described_not}
 use Rattle.paw_turn.proofs.turn.Turn.describe.Goals as goal
 

@@ -1,4 +1,4 @@
-use Rattle.std.proofs.Common.{◌≡◌, ap, sym, ◌∙◌, refl, subst, arith}
+use Rattle.std.proofs.Common.{ap, sym, ◌∙◌, refl, subst, arith}
 use Rattle.paw_phrase.specs.Pending.{PendingLine}
 use Rattle.paw_world.specs.World.{World, restarted}
 use Rattle.paw_effects.specs.Built.{IsOf}

@@ -1,6 +1,5 @@
 use Rattle.std.proofs.Common.{◌≡◌, [], length, ap, ◌∙◌, refl, arith}
 use Rattle.paw_phrase.specs.Pending.{PendingLine}
-use Rattle.paw_turn.specs.Stages.{work, Falls}
 use Rattle.paw_turn.proofs.Phrasing.{sentence_moves, unknown_moves, none_moves, sentence_shorter, unknown_shorter}
 use Rattle.paw_turn.proofs.Falling.{falls_up}
 use Rattle.paw_turn.proofs.turn.Turn.phrase.Goals as goal

@@ -1,5 +1,3 @@
-use Rattle.std.proofs.Common.{ℕ}
-use Rattle.paw_process.specs.OpenTables.{IsClosed}
 use Rattle.paw_turn.specs.declared.stage.Next.TheVariants as next
 use Rattle.paw_turn.specs.Stages.{Plays, IsPlayable, Keeps, work}
 use Rattle.paw_turn.proofs.turn.Turn.play.Given as goal

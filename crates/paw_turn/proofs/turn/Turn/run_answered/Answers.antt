@@ -1,4 +1,4 @@
-use Rattle.std.proofs.Common.{◌≡◌, ap, sym, ◌∙◌}
+use Rattle.std.proofs.Common.{ap, sym, ◌∙◌}
 use Rattle.paw_reading.specs.Run.{begins_with, with_timeout}
 use Rattle.paw_turn.proofs.Answering.{answered_runs, answered_stops, runs_left}
 use Rattle.paw_turn.proofs.turn.Turn.run_answered.Goals as goal

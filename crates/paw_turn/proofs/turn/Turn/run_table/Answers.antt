@@ -1,4 +1,4 @@
-use Rattle.std.proofs.Common.{◌≡◌, ap, arith}
+use Rattle.std.proofs.Common.{ap, arith}
 use Rattle.paw_turn.proofs.Reading.{begun_runs}
 use Rattle.paw_turn.proofs.Falling.{uses}
 use Rattle.paw_turn.proofs.Waiting.{table_stops}
