@@ -1,4 +1,5 @@
 pub mod Run
 pub mod Reading
 pub mod GoingOn
+pub mod Rules
 pub mod Turn

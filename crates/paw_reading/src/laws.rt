@@ -1,5 +1,6 @@
 // The laws of reading.
 
+ghost use Rattle.paw_reading.specs.Rules.{ReadingOn};
 ghost use Rattle.paw_reading.specs.Turn.{TurnsEnd, EndsOnce, GoingOnEnds, GoesOnOnce};
 
 /// Every reading ends: the stages that a turn is granted are enough.
@@ -20,4 +21,9 @@ pub fn going_on_ends()
 /// Going on from a prompt has one ending, however many stages more are granted.
 pub fn goes_on_once()
     ensures once { GoesOnOnce }
+{}
+
+/// Reading on keeps its rules, one for each way in which it may go on.
+pub fn reading_on()
+    ensures rules { ReadingOn }
 {}
