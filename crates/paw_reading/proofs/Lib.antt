@@ -2,6 +2,9 @@ pub mod Lists
 pub mod Keeps
 pub mod Rules
 pub mod Onward
+pub mod Stops
+pub mod Extends
+pub mod Longer
 pub mod Along
 pub mod Spends
 pub mod Ends

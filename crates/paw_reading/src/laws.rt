@@ -1,5 +1,6 @@
 // The laws of reading.
 
+ghost use Rattle.paw_reading.specs.Longer.{TablesGoOn, PathsGoOn};
 ghost use Rattle.paw_reading.specs.Rules.{ReadingOn};
 ghost use Rattle.paw_reading.specs.Turn.{TurnsEnd, EndsOnce, GoingOnEnds, GoesOnOnce};
 
@@ -26,4 +27,10 @@ pub fn goes_on_once()
 /// Reading on keeps its rules, one for each way in which it may go on.
 pub fn reading_on()
     ensures rules { ReadingOn }
+{}
+
+/// A reading of tables that waits closes the same pieces where more lines come, and then goes on along its path.
+pub fn tables_go_on()
+    ensures tables { TablesGoOn }
+    ensures paths { PathsGoOn }
 {}

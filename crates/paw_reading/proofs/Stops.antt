@@ -1,0 +1,176 @@
+-- Where reading stops: a wait has a table open and has taken every line, and where the turn begins anew no loop is open.
+use Rattle.std.proofs.Common.{◌≡◌, ◌≢◌, ℕ, zero, suc, ◌-◌, Bool, true, false, ◌||◌, List, [], ◌∷◌, None, refl, drop, length}
+use Rattle.std.specs.Prelude.{nat_lt}
+use Rattle.paw_base.specs.declared.parts.Condact.{Condact}
+use Rattle.paw_base.specs.declared.fault.SpentKind.TheVariants as spent
+use Rattle.paw_game.specs.declared.parts.Entry.{Entry}
+use Rattle.paw_game.specs.Game.{GameLists}
+use Rattle.paw_game.specs.Tables.{table_at, entry_at, condacts_of}
+use Rattle.paw_phrase.specs.Sentence.{Parsed, IsSentence, IsUnknown, IsNoPhrase}
+use Rattle.paw_effects.specs.declared.act.Prompt.{Prompt}
+use Rattle.paw_effects.specs.declared.act.Prompt.TheVariants as prompt
+use Rattle.paw_effects.specs.declared.act.Truth.{Truth}
+use Rattle.paw_effects.specs.declared.act.Truth.TheVariants as truth
+use Rattle.paw_effects.specs.declared.act.Effect.{Effect}
+use Rattle.paw_effects.specs.declared.act.Effect.TheVariants as effect
+use Rattle.paw_effects.specs.Texts.{put_text, say_text}
+use Rattle.paw_effects.specs.Holds.{is_condition, holds}
+use Rattle.paw_effects.specs.Effects.{Done, effect_of}
+use Rattle.paw_reading.specs.declared.places.Frame.{Frame}
+use Rattle.paw_reading.specs.declared.places.OpenLoop.{OpenLoop}
+use Rattle.paw_reading.specs.Run.{Run, closed, fits, printed, with_world, anew, is_ignored, heard, reply, is_yes, is_no, taken_phrase}
+use Rattle.paw_reading.specs.Reading.{Out, Left, Waits, Redescribes, Restarts, Ends, IsSpent, IsDeep, noted, after_call, at_level, again, is_taken, taken, turns, loop_of, over, answered, asked, after_test, after_parse, after_action, carried_out, acts, reads_one, condacts, is_for_now, entries, plain, looped, reads, called, deeper, rest}
+use Rattle.paw_reading.specs.GoingOn.{on_path}
+use Rattle.paw_reading.proofs.Keeps.{either, open_or_not}
+
+-- a wait
+pub record WaitsOpen (path : List Frame) (r : Run) : Type 0 where
+  pub some : path ≢ []
+  pub none_left : r.events ≡ []
+
+abbrev pub Stops : Out → Type 0
+Stops (Left a r) = Unit {0}
+Stops (Waits p path r) = WaitsOpen path r
+Stops (Redescribes r) = r.turning ≡ None
+Stops (Restarts r) = r.turning ≡ None
+Stops (Ends r) = Unit {0}
+Stops (IsSpent kind r) = Unit {0}
+Stops (IsDeep u r) = Unit {0}
+
+abbrev pub AreStopping : (Bool → Run → Out) → Type 0
+AreStopping go = (a : Bool) (r : Run) → Stops (go a r)
+
+abbrev pub CallsStopping : (ℕ → Run → Out) → Type 0
+CallsStopping sub = (u : ℕ) (r : Run) → Stops (sub u r)
+
+-- ---- loops and calls ----
+
+again_stops : (lv : ℕ) (next : OpenLoop → Run → Out) → ((l : OpenLoop) (r : Run) → Stops (next l r)) → (x : Out) → Stops x → Stops (again lv next x)
+again_stops lv next h (Left a r) k = open_or_not Stops (λ l. next l r) (Left a r) (at_level lv r.turning) (λ l e. h l r) (λ e. tt)
+again_stops lv next h (Waits p path r) k = k
+again_stops lv next h (Redescribes r) k = k
+again_stops lv next h (Restarts r) k = k
+again_stops lv next h (Ends r) k = tt
+again_stops lv next h (IsSpent kind r) k = tt
+again_stops lv next h (IsDeep u r) k = tt
+
+turns_stop : (g : GameLists) (lv : ℕ) (l : OpenLoop) (body : Run → Out) → ((r : Run) → Stops (body r)) → (n : ℕ) (r : Run) → Stops (turns g lv l body n r)
+unfolding turns
+turns_stop g lv l body h zero r = tt
+turns_stop g lv l body h (suc n) r =
+    let o : ℕ = length g.objects - suc n in
+    either Stops (is_taken g r.world l o) _ _
+    (again_stops lv (λ _. turns g lv l body n) (λ m s. turns_stop g lv l body h n s) (body (taken g l o r)) (h (taken g l o r)))
+    (turns_stop g lv l body h n r)
+
+pub after_call_stops : (f : Frame) (go : Bool → Run → Out) → AreStopping go → (x : Out) → Stops x → Stops (after_call f go x)
+after_call_stops f go h (Left b r) k = h (f.acted || b) r
+after_call_stops f go h (Waits p path r) k = record { some = λ e. cc; none_left = k.none_left }
+after_call_stops f go h (Redescribes r) k = k
+after_call_stops f go h (Restarts r) k = k
+after_call_stops f go h (Ends r) k = tt
+after_call_stops f go h (IsSpent kind r) k = tt
+after_call_stops f go h (IsDeep u r) k = tt
+
+-- ---- prompts ----
+
+answered_stops : (g : GameLists) (p : Prompt) (f : Frame) (go : Bool → Run → Out) → AreStopping go → (line : List ℕ) (r : Run) → Stops (answered g p f go line r)
+answered_stops g prompt.Main f go h line r = h f.acted r
+answered_stops g prompt.Quit f go h line r = either Stops (is_yes line) _ (Left true r) (h f.acted r) tt
+answered_stops g prompt.Again f go h line r =
+    either Stops (is_no line) (over g r) (Restarts (anew r)) (either Stops (fits r (say_text g r.world 14)) _ (IsSpent spent.Text r) tt tt) refl
+answered_stops g prompt.Key f go h line r = h true r
+answered_stops g prompt.Over f go h line r = h f.acted r
+
+asked_stops : (g : GameLists) (p : Prompt) (f : Frame) (go : Bool → Run → Out) → AreStopping go → (r : Run) (lines : List (List ℕ)) → Stops (asked g p f go r lines)
+unfolding asked
+asked_stops g p f go h r [] = record { some = λ e. cc; none_left = refl }
+asked_stops g p f go h r (line ∷ lines) =
+    either Stops (is_ignored r.world line) _ _ (asked_stops g p f go h (closed (record r { events = lines })) lines)
+    (answered_stops g p f go h (reply line) (heard line (record r { events = lines })))
+
+-- ---- one condact ----
+
+after_parse_stops : (f : Frame) (next go : Bool → Run → Out) → AreStopping next → AreStopping go → (r : Run) (p : Parsed) → Stops (after_parse f next go r p)
+after_parse_stops f next go hn hg r (IsSentence s rest) = hn f.acted (taken_phrase s rest r)
+after_parse_stops f next go hn hg r (IsUnknown rest) = hg f.acted (record r { pending = rest })
+after_parse_stops f next go hn hg r IsNoPhrase = hg f.acted r
+
+module _ (g : GameLists) (X : List (List ℕ)) (sub : ℕ → Run → Out) (lv : ℕ) (calls : CallsStopping sub) where
+  after_test_stops : (f : Frame) (next go : Bool → Run → Out) → AreStopping next → AreStopping go → (c : Condact) (r : Run) (t : Truth) → Stops (after_test g f next go c r t)
+  after_test_stops f next go hn hg c r truth.Yes = hg f.acted (noted f c true r)
+  after_test_stops f next go hn hg c r truth.No = hn f.acted (noted f c false r)
+  after_test_stops f next go hn hg c r truth.Ask =
+      either Stops (fits (noted f c true r) (put_text g r.world 12)) _ (IsSpent spent.Text (noted f c true r))
+      (asked_stops g prompt.Quit f go hg (closed (printed (put_text g r.world 12) (noted f c true r))) r.events) tt
+
+  after_action_stops : (f : Frame) (next go : Bool → Run → Out) → AreStopping next → AreStopping go → (e : Effect) (r : Run) → Stops (after_action g sub lv f next go e r)
+  after_action_stops f next go hn hg effect.Go r = hg true r
+  after_action_stops f next go hn hg (effect.Exit a) r = tt
+  after_action_stops f next go hn hg effect.Redescribe r = refl
+  after_action_stops f next go hn hg (effect.Call u) r = after_call_stops f go hg (sub u r) (calls u r)
+  after_action_stops f next go hn hg (effect.Loop p) r = turns_stop g lv (loop_of lv f p) (go true) (hg true) (length g.objects) r
+  after_action_stops f next go hn hg (effect.Ask p) r = asked_stops g p f go hg (closed r) r.events
+  after_action_stops f next go hn hg effect.Parse r = after_parse_stops f next go hn hg r _
+  after_action_stops f next go hn hg effect.Spent r = tt
+
+  acts_stop : (f : Frame) (next go : Bool → Run → Out) → AreStopping next → AreStopping go → (d : Done) (r : Run) → Stops (acts g sub lv f next go d r)
+  acts_stop f next go hn hg d r =
+      either Stops (fits r d.text) _ (IsSpent spent.Text r) (after_action_stops f next go hn hg d.act.effect (carried_out d (printed d.text r))) tt
+
+  reads_one_stops : (f : Frame) (next go : Bool → Run → Out) → AreStopping next → AreStopping go → (c : Condact) (r : Run) → Stops (reads_one g X sub lv f next go c r)
+  reads_one_stops f next go hn hg c r =
+      either Stops (is_condition c) _ _
+      (after_test_stops f next go hn hg c (with_world (holds g r.world c).world r) (holds g r.world c).answer)
+      (acts_stop f next go hn hg (effect_of g X r.world c) (noted f c true r))
+
+  -- ---- entries, tables ----
+
+  condacts_stop : (t e : ℕ) (next : Bool → Run → Out) → AreStopping next → (k : ℕ) (cs : List Condact) → AreStopping (condacts g X sub lv t e next k cs)
+  unfolding condacts
+  condacts_stop t e next hn k [] a r = hn a r
+  condacts_stop t e next hn k (c ∷ cs) a r =
+      either Stops (nat_lt (length r.read) 200000) _ (IsSpent spent.Condacts r)
+      (reads_one_stops (record { table = t; entry = e; at = k; acted = a }) next _ hn (condacts_stop t e next hn (suc k) cs) c r) tt
+
+  entries_stop : (t e : ℕ) (es : List Entry) → AreStopping (entries g X sub lv t e es)
+  unfolding entries
+  entries_stop t e [] a r = tt
+  entries_stop t e (en ∷ es) a r =
+      either Stops (is_for_now r en) _ _
+      (condacts_stop t e (entries g X sub lv t (suc e) es) (entries_stop t (suc e) es) 0 en.condacts a r)
+      (entries_stop t (suc e) es a r)
+
+  plain_stops : (t e k : ℕ) → AreStopping (plain g X sub lv t e k)
+  plain_stops t e zero a r = entries_stop t e (drop e (table_at g t)) a r
+  plain_stops t e (suc k) a r =
+      condacts_stop t e _ (entries_stop t (suc e) (drop (suc e) (table_at g t))) (suc k) (drop (suc k) (condacts_of (entry_at g t e))) a r
+
+  looped_stops : (l : OpenLoop) (r : Run) → Stops (looped g X sub lv l r)
+  looped_stops l r = turns_stop g lv (record l { last = 0 }) _ (plain_stops l.table l.entry (suc l.at) true) (length g.objects - suc l.last) r
+
+  again_looped_stops : (x : Out) → Stops x → Stops (again lv (looped g X sub lv) x)
+  again_looped_stops x k = again_stops lv (looped g X sub lv) looped_stops x k
+
+  reads_stop : (t e k : ℕ) → AreStopping (reads g X sub lv t e k)
+  reads_stop t e k a r = again_looped_stops _ (plain_stops t e k a r)
+
+called_stops : (g : GameLists) (X : List (List ℕ)) (n lv : ℕ) → CallsStopping (called g X n lv)
+unfolding called
+called_stops g X zero lv u r = tt
+called_stops g X (suc n) lv u r = reads_stop g X (called g X n (suc lv)) (suc lv) (called_stops g X n (suc lv)) u 0 0 false r
+
+pub deeper_stops : (g : GameLists) (X : List (List ℕ)) (lv : ℕ) → CallsStopping (deeper g X lv)
+deeper_stops g X lv = called_stops g X (10 - lv) lv
+
+-- reading on at a level stops so
+pub rest_stops : (g : GameLists) (X : List (List ℕ)) (lv t e k : ℕ) → AreStopping (rest g X lv t e k)
+rest_stops g X lv t e k a r = reads_stop g X (deeper g X lv) lv (deeper_stops g X lv) t e k a r
+
+-- so does going on along a path
+pub path_stops : (g : GameLists) (X : List (List ℕ)) (p : Prompt) (lv : ℕ) (path : List Frame) (r : Run) → Stops (on_path g X p lv path r)
+path_stops g X p lv [] r = tt
+path_stops g X p lv (f ∷ []) r =
+    again_looped_stops g X (deeper g X lv) lv (deeper_stops g X lv) _
+    (asked_stops g p f _ (plain_stops g X (deeper g X lv) lv (deeper_stops g X lv) f.table f.entry (suc f.at)) r r.events)
+path_stops g X p lv (f ∷ h ∷ path) r = after_call_stops f _ (rest_stops g X lv f.table f.entry (suc f.at)) _ (path_stops g X p (suc lv) (h ∷ path) r)
