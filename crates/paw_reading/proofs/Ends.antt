@@ -165,7 +165,7 @@ after_left_more g go more h zero false r k = connected_more g go more h r _ k
 after_left_more g go more h (suc zero) acted r k = h AtFrame r k
 after_left_more g go more h (suc (suc t)) acted r k = h AtPhrase _ k
 
-table_done_more : (g : GameLists) (go more : Stage → Run → Ending) → Refines go more → (t : ℕ) (x : Out) →
+pub table_done_more : (g : GameLists) (go more : Stage → Run → Ending) → Refines go more → (t : ℕ) (x : Out) →
     table_done g go t x ≢ Unended → table_done g more t x ≡ table_done g go t x
 table_done_more g go more h t (Left a r) k = after_left_more g go more h t a r k
 table_done_more g go more h t (Redescribes r) k = h AtDescribe r k
@@ -175,7 +175,7 @@ table_done_more g go more h t (Ends r) k = refl
 table_done_more g go more h t (IsSpent kind r) k = refl
 table_done_more g go more h t (IsDeep u r) k = refl
 
-at_main_more : (g : GameLists) (go more : Stage → Run → Ending) → Refines go more → (r : Run) (lines : List (List ℕ)) →
+pub at_main_more : (g : GameLists) (go more : Stage → Run → Ending) → Refines go more → (r : Run) (lines : List (List ℕ)) →
     at_main g (go AtFrame) (go AtPhrase) r lines ≢ Unended → at_main g (more AtFrame) (more AtPhrase) r lines ≡ at_main g (go AtFrame) (go AtPhrase) r lines
 unfolding at_main
 at_main_more g go more h r [] k = refl
@@ -201,7 +201,7 @@ after_phrase_more g go more h r IsNoPhrase k =
     saying_more _ (λ s. at_main g (go AtFrame) (go AtPhrase) (closed s) s.events) (λ s. at_main g (more AtFrame) (more AtPhrase) (closed s) s.events) _
     (λ s. at_main_more g go more h (closed s) s.events) k
 
-turn_more : (g : GameLists) (X : List (List ℕ)) (n : ℕ) → Refines (turn g X n) (turn g X (suc n))
+pub turn_more : (g : GameLists) (X : List (List ℕ)) (n : ℕ) → Refines (turn g X n) (turn g X (suc n))
 unfolding turn
 turn_more g X zero s r k = absurd (k refl)
 turn_more g X (suc n) AtDescribe r k =
@@ -212,7 +212,7 @@ turn_more g X (suc n) AtPhrase r k = after_phrase_more g (turn g X n) (turn g X 
 turn_more g X (suc n) AtResponse r k = table_done_more g (turn g X n) (turn g X (suc n)) (turn_more g X n) 0 (table_read g X 0 r) k
 
 -- any number of stages more
-many_more : (f : ℕ → Ending) → ((n : ℕ) → f n ≢ Unended → f (suc n) ≡ f n) → (k n : ℕ) → f n ≢ Unended → f (k + n) ≡ f n
+pub many_more : (f : ℕ → Ending) → ((n : ℕ) → f n ≢ Unended → f (suc n) ≡ f n) → (k n : ℕ) → f n ≢ Unended → f (k + n) ≡ f n
 many_more f h zero n e = let z : 0 + n ≡ n = omega arith in rw z refl
 many_more f h (suc k) n e =
     let before : f (k + n) ≡ f n = many_more f h k n e in

@@ -5,6 +5,8 @@ pub mod Onward
 pub mod Stops
 pub mod Extends
 pub mod Longer
+pub mod Stays
 pub mod Along
 pub mod Spends
 pub mod Ends
+pub mod Followed

@@ -2,5 +2,5 @@ pub mod Run
 pub mod Reading
 pub mod GoingOn
 pub mod Rules
-pub mod Longer
 pub mod Turn
+pub mod Longer

@@ -1,8 +1,8 @@
 // The laws of reading.
 
-ghost use Rattle.paw_reading.specs.Longer.{TablesGoOn, PathsGoOn};
+ghost use Rattle.paw_reading.specs.Longer.{TablesGoOn, PathsGoOn, TurnsGoOn};
 ghost use Rattle.paw_reading.specs.Rules.{ReadingOn};
-ghost use Rattle.paw_reading.specs.Turn.{TurnsEnd, EndsOnce, GoingOnEnds, GoesOnOnce};
+ghost use Rattle.paw_reading.specs.Turn.{TurnsEnd, EndsOnce, GoingOnEnds, GoesOnOnce, GoingOnIsReading};
 
 /// Every reading ends: the stages that a turn is granted are enough.
 pub fn turns_end()
@@ -33,4 +33,10 @@ pub fn reading_on()
 pub fn tables_go_on()
     ensures tables { TablesGoOn }
     ensures paths { PathsGoOn }
+{}
+
+/// Going on from where the reading of some lines waits is the reading of the longer list.
+pub fn going_on_is_reading()
+    ensures turns { TurnsGoOn }
+    ensures readings { GoingOnIsReading }
 {}

@@ -21,7 +21,7 @@ use Rattle.paw_turn.specs.declared.turn.Turn.{Turn}
 use Rattle.paw_turn.specs.Player.{IsLoopOf, StandsAt}
 use Rattle.paw_turn.specs.Stages.{Past, run_of, having_read, GoesOnAs, MovesAfter, PlaysAs, RunsAs, from_prompt, from_path, StopsInTable, AwaitsAt}
 use Rattle.paw_turn.proofs.Falling.{some_past}
-use Rattle.paw_turn.proofs.Tables.{IsInner, WaitsThere, path_waits}
+use Rattle.paw_reading.proofs.Stays.{IsInner, WaitsThere, path_waits}
 use Rattle.paw_turn.proofs.Waiting.{stops_in}
 use Rattle.paw_turn.proofs.Hearing.{main_ignored}
 

@@ -1,4 +1,3 @@
-pub mod Tables
 pub mod Says
 pub mod Prompts
 pub mod Describing

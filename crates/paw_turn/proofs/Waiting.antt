@@ -15,7 +15,7 @@ use Rattle.paw_process.specs.declared.Turned.TheVariants as turned
 use Rattle.paw_turn.specs.declared.turn.Turn.{Turn}
 use Rattle.paw_turn.specs.Player.{IsLoopOf}
 use Rattle.paw_turn.specs.Stages.{Past, run_of, having_read, RunsAs, from_table, WaitsInTable, StopsInTable}
-use Rattle.paw_turn.proofs.Tables.{WaitsThere, table_waits}
+use Rattle.paw_reading.proofs.Stays.{WaitsThere, table_waits}
 use Rattle.paw_turn.proofs.Falling.{some_past}
 
 -- with no line left a run waits where it is

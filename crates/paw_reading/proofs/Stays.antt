@@ -1,6 +1,6 @@
 -- Where reading waits: the outermost of the tables that are open is the one that is read, and so is that of its loop.
 use Rattle.std.proofs.Common.{◌≡◌, ℕ, zero, suc, ◌-◌, Bool, true, false, ◌||◌, List, [], ◌∷◌, Option, Some, None, refl, sym, ◌∙◌, subst, length, drop}
-use Rattle.std.specs.Prelude.{◌==◌, if◌then◌else◌, nat_lt}
+use Rattle.std.specs.Prelude.{◌==◌, if◌then◌else◌, nat_lt, IfSome}
 use Rattle.paw_base.specs.declared.parts.Condact.{Condact}
 use Rattle.paw_base.specs.declared.fault.SpentKind.TheVariants as spent
 use Rattle.paw_game.specs.declared.parts.Entry.{Entry}
@@ -26,7 +26,10 @@ use Rattle.paw_reading.specs.Reading.{Out, Left, Waits, Redescribes, Restarts, E
 use Rattle.paw_reading.specs.GoingOn.{on_path}
 use Rattle.paw_reading.specs.Turn.{first_table}
 use Rattle.paw_reading.proofs.Keeps.{either, open_or_not, at_level_is}
-use Rattle.paw_turn.specs.Player.{IsLoopOf}
+
+-- a loop of the outermost level belongs to this table
+abbrev pub IsLoopOf : ℕ → Option OpenLoop → Type 0
+IsLoopOf t turning = IfSome turning (λ l. l.level ≡ 0 → l.table ≡ t)
 
 -- a wait at this level, where table t is the one at level 0
 pub record WaitsThere (t lv : ℕ) (p : Prompt) (path : List Frame) (turning : Option OpenLoop) : Type 0 where
@@ -187,7 +190,7 @@ module _ (t : ℕ) where
   called_stays g X zero lv u r h = tt
   called_stays g X (suc n) lv u r h = reads_stay g X (called g X n (suc lv)) (suc lv) (called_stays g X n (suc lv)) u 0 0 (λ z. cc) false r h
 
-  rest_stays : (g : GameLists) (X : List (List ℕ)) (lv u e k : ℕ) → IsOwn lv u → GoesStaying lv (rest g X lv u e k)
+  pub rest_stays : (g : GameLists) (X : List (List ℕ)) (lv u e k : ℕ) → IsOwn lv u → GoesStaying lv (rest g X lv u e k)
   rest_stays g X lv u e k own a r h = reads_stay g X (deeper g X lv) lv (called_stays g X (10 - lv) lv) u e k own a r h
 
   path_stays : (g : GameLists) (X : List (List ℕ)) (p : Prompt) (lv : ℕ) (f : Frame) (path : List Frame) (r : Run) → IsInner p → IsOwn lv f.table → IsLoopOf t r.turning
