@@ -10,3 +10,4 @@ pub mod Along
 pub mod Spends
 pub mod Ends
 pub mod Followed
+pub mod Past

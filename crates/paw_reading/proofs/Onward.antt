@@ -135,7 +135,7 @@ module _ (g : GameLists) (X : List (List ℕ)) (lv : ℕ) where
     none_left = λ l o r h. none_more l (length g.objects - o) r (omega arith);
   }
 
-  waits_on : (p : Prompt) (f : Frame) (r : Run) → r.events ≡ [] → on_path g X p lv (f ∷ []) r ≡ Waits p (f ∷ []) r
+  pub waits_on : (p : Prompt) (f : Frame) (r : Run) → r.events ≡ [] → on_path g X p lv (f ∷ []) r ≡ Waits p (f ∷ []) r
   unfolding asked
   waits_on p f r h =
       let here : on_path g X p lv (f ∷ []) r ≡ Waits p (f ∷ []) (record r { events = [] }) = rw h refl in

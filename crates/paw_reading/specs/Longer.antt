@@ -1,12 +1,12 @@
 -- Reading with more lines.
-use Rattle.std.specs.Prelude.{◌≡◌, ℕ, Bool, List, None}
+use Rattle.std.specs.Prelude.{◌≡◌, ℕ, Bool, List, [], ◌++◌, None}
 use Rattle.paw_game.specs.Game.{GameLists}
 use Rattle.paw_effects.specs.declared.act.Prompt.{Prompt}
 use Rattle.paw_reading.specs.declared.places.Frame.{Frame}
-use Rattle.paw_reading.specs.Run.{Run}
+use Rattle.paw_reading.specs.Run.{Run, Step}
 use Rattle.paw_reading.specs.Reading.{rest}
 use Rattle.paw_reading.specs.GoingOn.{on_path, with_lines, extended}
-use Rattle.paw_reading.specs.Turn.{Stage, turns_from, followed}
+use Rattle.paw_reading.specs.Turn.{Stage, Ending, WaitsAt, IsOver, RunsOut, CallsTooDeep, Unended, turns_from, reading, text_of, on, followed}
 
 -- Reading on with more lines is reading on, and then: a reading that waits has closed the same pieces, and goes on with
 -- the lines along its path; any other comes to the same, and leaves the lines
@@ -19,7 +19,43 @@ abbrev pub PathsGoOn : Type 0
 PathsGoOn = (g : GameLists) (X lines : List (List ℕ)) (p : Prompt) (lv : ℕ) (path : List Frame) (r : Run) →
     on_path g X p lv path (with_lines lines r) ≡ extended g X lines lv (on_path g X p lv path r)
 
--- so are the turns from a stage on, where no loop is open
+-- So are the turns from a stage on, where no loop is open
 abbrev pub TurnsGoOn : Type 0
 TurnsGoOn = (g : GameLists) (X lines : List (List ℕ)) (s : Stage) (r : Run) → r.turning ≡ None →
     turns_from g X s (with_lines lines r) ≡ followed g X lines (turns_from g X s r)
+
+-- ---- what was closed before ----
+
+-- the run without its closed pieces
+abbrev pub without_past : Run → Run
+without_past r = record r { pieces = []; traces = [] }
+
+-- the run with these closed pieces, and what was read in them, before its own
+abbrev pub with_past : List (List ℕ) → List (List Step) → Run → Run
+with_past pieces traces r = record r { pieces = pieces ++ r.pieces; traces = traces ++ r.traces }
+
+-- a reading that ends so, with these closed pieces before its own
+abbrev pub ending_with_past : List (List ℕ) → List (List Step) → Ending → Ending
+ending_with_past pieces traces (WaitsAt p path r) = WaitsAt p path (with_past pieces traces r)
+ending_with_past pieces traces (IsOver r) = IsOver (with_past pieces traces r)
+ending_with_past pieces traces (RunsOut kind r) = RunsOut kind (with_past pieces traces r)
+ending_with_past pieces traces (CallsTooDeep u r) = CallsTooDeep u (with_past pieces traces r)
+ending_with_past pieces traces Unended = Unended
+
+-- what was closed before changes nothing, and stays in front
+abbrev pub PastStays : Type 0
+PastStays = (g : GameLists) (X pieces : List (List ℕ)) (traces : List (List Step)) (p : Prompt) (path : List Frame) (r : Run) →
+    on g X p path (with_past pieces traces r) ≡ ending_with_past pieces traces (on g X p path r)
+
+-- Where the reading of some lines waits, the reading of more has its pieces, and then those of going on from there; it
+-- ends as going on does
+abbrev pub LongerReading : Type 0
+LongerReading = (g : GameLists) (X : List (List ℕ)) (seed : ℕ) (es fs : List (List ℕ)) (p : Prompt) (path : List Frame) (r : Run) →
+    reading g X seed es ≡ WaitsAt p path r →
+    reading g X seed (es ++ fs) ≡ ending_with_past r.pieces r.traces (on g X p path (with_lines fs (without_past r)))
+
+-- its text is theirs, one after the other
+abbrev pub LongerText : Type 0
+LongerText = (g : GameLists) (X : List (List ℕ)) (seed : ℕ) (es fs : List (List ℕ)) (p : Prompt) (path : List Frame) (r : Run) →
+    reading g X seed es ≡ WaitsAt p path r →
+    text_of (reading g X seed (es ++ fs)) ≡ text_of (reading g X seed es) ++ text_of (on g X p path (with_lines fs (without_past r)))

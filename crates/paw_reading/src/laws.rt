@@ -1,6 +1,6 @@
 // The laws of reading.
 
-ghost use Rattle.paw_reading.specs.Longer.{TablesGoOn, PathsGoOn, TurnsGoOn};
+ghost use Rattle.paw_reading.specs.Longer.{TablesGoOn, PathsGoOn, TurnsGoOn, PastStays, LongerReading, LongerText};
 ghost use Rattle.paw_reading.specs.Rules.{ReadingOn};
 ghost use Rattle.paw_reading.specs.Turn.{TurnsEnd, EndsOnce, GoingOnEnds, GoesOnOnce, GoingOnIsReading};
 
@@ -39,4 +39,12 @@ pub fn tables_go_on()
 pub fn going_on_is_reading()
     ensures turns { TurnsGoOn }
     ensures readings { GoingOnIsReading }
+{}
+
+/// The reading of more lines has the pieces of some of them, and then those of going on with the others, which see
+/// nothing of what was closed before.
+pub fn longer_reading()
+    ensures past { PastStays }
+    ensures pieces { LongerReading }
+    ensures text { LongerText }
 {}
