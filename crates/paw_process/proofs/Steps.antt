@@ -1,5 +1,5 @@
 -- What the machine's moves make of the reading.
-use Rattle.std.proofs.Common.{◌≡◌, ℕ, zero, suc, ◌+◌, ◌-◌, ◌≤◌, ◌<◌, Bool, true, false, List, ◌∷◌, Option, Some, None, inl, inr, refl, sym, ap, ◌∙◌, length, arith, add-one}
+use Rattle.std.proofs.Common.{◌≡◌, ℕ, zero, suc, ◌+◌, ◌-◌, ◌≤◌, ◌<◌, Bool, true, false, List, ◌∷◌, Option, Some, None, refl, sym, ap, ◌∙◌, length, arith, add-one}
 use Rattle.std.specs.Prelude.{if◌then◌else◌, reverse}
 use Rattle.paw_base.specs.declared.parts.Condact.{Condact}
 use Rattle.paw_base.specs.declared.fault.SpentKind.TheVariants as spent
@@ -11,9 +11,10 @@ use Rattle.paw_effects.specs.declared.act.Effect.TheVariants as effect
 use Rattle.paw_reading.specs.declared.places.Frame.{Frame}
 use Rattle.paw_reading.specs.declared.places.OpenLoop.{OpenLoop}
 use Rattle.paw_reading.specs.Run.{Run, closed, without_loop}
-use Rattle.paw_reading.specs.Reading.{Out, Left, Waits, Redescribes, Restarts, Ends, IsSpent, IsDeep, at_level, again, taken, turns, loop_of, waits, plain, looped, deeper, rest, reads_one}
+use Rattle.paw_reading.specs.Reading.{Out, Left, Redescribes, IsSpent, at_level, again, taken, turns, loop_of, waits, plain, looped, deeper, rest, reads_one}
 use Rattle.paw_reading.specs.GoingOn.{along, on_path}
-use Rattle.paw_reading.proofs.Keeps.{Keeps, at_level_own, plain_keeps, turns_closes, deeper_keeps}
+use Rattle.paw_reading.proofs.Onward.{taken_again}
+use Rattle.paw_reading.proofs.Keeps.{at_level_own, plain_keeps, turns_closes, deeper_keeps}
 use Rattle.paw_reading.proofs.Rules.{within_budget, within_none, inside_end, inside_condact, plain_left, plain_match, plain_inside, again_closed, after_call_again}
 use Rattle.paw_reading.proofs.Along.{along_spent, along_redescribes, on_path_reverse}
 use Rattle.paw_process.specs.Objects.{is_next, least_taken}
@@ -45,19 +46,6 @@ module _ (g : GameLists) (lv : ℕ) (l : OpenLoop) (body : Run → Out) where
       go : (least_taken g r.world l.place n ≡ Some o → turns g lv (record l { last = 0 }) body n r ≡ again lv (λ _. turns g lv (record l { last = 0 }) body (length g.objects - suc o)) (body (taken g l o r))) → (b : Bool) → ◌≡◌ {A = Option ℕ} (if b then Some (length g.objects - suc n) else least_taken g r.world l.place n) (Some o) → (if b then again lv (λ _. turns g lv (record l { last = 0 }) body n) (body (taken g l (length g.objects - suc n) r)) else turns g lv (record l { last = 0 }) body n r) ≡ again lv (λ _. turns g lv (record l { last = 0 }) body (length g.objects - suc o)) (body (taken g l o r))
       go later true q = let m : length g.objects - suc n ≡ o = cc in rw m (here o (sym m))
       go later false q = later q
-
--- the loop of which an object was taken is the one that is open
-taken_again : (g : GameLists) (X : List (List ℕ)) (sub : ℕ → Run → Out) (lv : ℕ) (l : OpenLoop) (o : ℕ) (x : Out) → l.level ≡ lv → Keeps (Some (record l { last = o })) x → again lv (λ _. turns g lv (record l { last = 0 }) (plain g X sub lv l.table l.entry (suc l.at) true) (length g.objects - suc o)) x ≡ again lv (looped g X sub lv) x
-taken_again g X sub lv l o (Left a r) own (inl k) =
-    let m : OpenLoop = record l { last = o } in
-    let q : at_level lv r.turning ≡ Some m = rw k (at_level_own lv m own) in rw q refl
-taken_again g X sub lv l o (Left a r) own (inr k) = rw k refl
-taken_again g X sub lv l o (Waits p path r) own k = refl
-taken_again g X sub lv l o (Redescribes r) own k = refl
-taken_again g X sub lv l o (Restarts r) own k = refl
-taken_again g X sub lv l o (Ends r) own k = refl
-taken_again g X sub lv l o (IsSpent kind r) own k = refl
-taken_again g X sub lv l o (IsDeep u r) own k = refl
 
 -- a loop with no object left
 pub turning_none : (g : GameLists) (X : List (List ℕ)) (fs : List Frame) (l : OpenLoop) (n : ℕ) (r : Run) → least_taken g r.world l.place n ≡ None → turning_at g X fs l n r ≡ along g X fs (Left true (without_loop r))

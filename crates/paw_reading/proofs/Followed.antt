@@ -15,9 +15,9 @@ use Rattle.paw_reading.specs.Reading.{Out, Left, Waits, Redescribes, Restarts, E
 use Rattle.paw_reading.specs.GoingOn.{on_path, with_lines, extended}
 use Rattle.paw_reading.specs.Turn.{Stage, AtDescribe, AtFrame, AtPhrase, AtResponse, Ending, WaitsAt, IsOver, RunsOut, CallsTooDeep, Unended, saying, described, framed, view_text, counted, prompt_text, line_set, at_main, after_phrase, refusal_text, connected, after_left, table_done, turn, stages_left, turns_from, opening, first_table, goes_on, followed, GoingOnIsReading}
 use Rattle.paw_reading.specs.Longer.{TurnsGoOn}
-use Rattle.paw_reading.proofs.Keeps.{Keeps, reads_keeps, deeper_keeps}
+use Rattle.paw_reading.proofs.Keeps.{Keeps, IsLoopOf, reads_keeps, deeper_keeps}
 use Rattle.paw_reading.proofs.Stops.{Stops, rest_stops}
-use Rattle.paw_reading.proofs.Stays.{IsInner, IsLoopOf, Stays, rest_stays}
+use Rattle.paw_reading.proofs.Stays.{IsInner, Stays, rest_stays}
 use Rattle.paw_reading.proofs.Longer.{tables_go_on}
 use Rattle.paw_reading.proofs.Ends.{Refines, table_done_more, at_main_more, turn_more, many_more, turns_end, ends_once, going_on_ends}
 

@@ -1,6 +1,6 @@
 -- Where reading waits: the outermost of the tables that are open is the one that is read, and so is that of its loop.
 use Rattle.std.proofs.Common.{◌≡◌, ℕ, zero, suc, ◌-◌, Bool, true, false, ◌||◌, List, [], ◌∷◌, Option, Some, None, refl, sym, ◌∙◌, subst, length, drop}
-use Rattle.std.specs.Prelude.{◌==◌, if◌then◌else◌, nat_lt, IfSome}
+use Rattle.std.specs.Prelude.{◌==◌, if◌then◌else◌, nat_lt}
 use Rattle.paw_base.specs.declared.parts.Condact.{Condact}
 use Rattle.paw_base.specs.declared.fault.SpentKind.TheVariants as spent
 use Rattle.paw_game.specs.declared.parts.Entry.{Entry}
@@ -25,11 +25,7 @@ use Rattle.paw_reading.specs.Run.{Run, closed, fits, printed, with_world, withou
 use Rattle.paw_reading.specs.Reading.{Out, Left, Waits, Redescribes, Restarts, Ends, IsSpent, IsDeep, noted, after_call, at_level, again, is_taken, taken, turns, loop_of, over, answered, asked, after_test, after_parse, after_action, carried_out, acts, reads_one, condacts, is_for_now, entries, plain, looped, reads, called, deeper, rest, table_read}
 use Rattle.paw_reading.specs.GoingOn.{on_path}
 use Rattle.paw_reading.specs.Turn.{first_table}
-use Rattle.paw_reading.proofs.Keeps.{either, open_or_not, at_level_is}
-
--- a loop of the outermost level belongs to this table
-abbrev pub IsLoopOf : ℕ → Option OpenLoop → Type 0
-IsLoopOf t turning = IfSome turning (λ l. l.level ≡ 0 → l.table ≡ t)
+use Rattle.paw_reading.proofs.Keeps.{either, open_or_not, at_level_is, IsLoopOf}
 
 -- a wait at this level, where table t is the one at level 0
 pub record WaitsThere (t lv : ℕ) (p : Prompt) (path : List Frame) (turning : Option OpenLoop) : Type 0 where
