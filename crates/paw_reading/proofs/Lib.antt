@@ -11,3 +11,4 @@ pub mod Spends
 pub mod Ends
 pub mod Followed
 pub mod Past
+pub mod Counts

@@ -4,3 +4,4 @@ pub mod GoingOn
 pub mod Rules
 pub mod Turn
 pub mod Longer
+pub mod Pieces

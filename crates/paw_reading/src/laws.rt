@@ -1,6 +1,7 @@
 // The laws of reading.
 
 ghost use Rattle.paw_reading.specs.Longer.{TablesGoOn, PathsGoOn, TurnsGoOn, PastStays, LongerReading, LongerText};
+ghost use Rattle.paw_reading.specs.Pieces.{PiecesOfLines};
 ghost use Rattle.paw_reading.specs.Rules.{ReadingOn};
 ghost use Rattle.paw_reading.specs.Turn.{TurnsEnd, EndsOnce, GoingOnEnds, GoesOnOnce, GoingOnIsReading};
 
@@ -47,4 +48,9 @@ pub fn longer_reading()
     ensures past { PastStays }
     ensures pieces { LongerReading }
     ensures text { LongerText }
+{}
+
+/// A reading closes one piece before its lines, and one for each line that it took.
+pub fn pieces_of_lines()
+    ensures counted { PiecesOfLines }
 {}
