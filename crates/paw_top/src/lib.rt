@@ -4,6 +4,8 @@
 mod commands;
 pub mod outcome;
 mod show;
+#[cfg(test)]
+mod tests;
 pub mod top;
 pub mod unbuilt;
 mod walk;

@@ -1,0 +1,442 @@
+// Walks over stages in memory, and each way in which a walk is refused.
+
+use crate::MOST_EVENTS;
+use crate::outcome::{MemoryAt, Outcome};
+use crate::top::paw;
+use paw_base::fault::SpentKind;
+use paw_stage::{Asked, FailStage, MemoryStage, Stage, StageCall};
+use std::alloc::{AllocError, Global};
+use std::process::Abort;
+use std::test::Fail;
+
+/// Two rooms: LOOK describes again; SING sings in the hall, and leads from the yard back to the hall.
+const TWO_ROOMS: [u8; 134] = [
+    80, 65, 87, 73, 1, 4, 0, 9, 0, 1, 0, 0, 0, 2, 0, 3, 0, 76, 79, 79, 75, 32, 30, 0, 78, 32, 32,
+    32, 32, 2, 2, 83, 32, 32, 32, 32, 3, 2, 83, 73, 78, 71, 32, 31, 0, 0, 0, 0, 0, 1, 0, 62, 0, 0,
+    0, 0, 0, 0, 5, 0, 87, 104, 97, 116, 63, 7, 0, 78, 111, 32, 119, 97, 121, 46, 3, 0, 78, 111, 46,
+    7, 0, 76, 97, 32, 108, 97, 46, 10, 5, 0, 72, 97, 108, 108, 46, 5, 0, 89, 97, 114, 100, 46, 1,
+    2, 1, 1, 3, 0, 3, 0, 30, 255, 1, 30, 31, 255, 3, 1, 1, 50, 0, 32, 31, 255, 3, 0, 1, 49, 0, 30,
+    0, 0, 0, 0,
+];
+
+/// Where the tables after the first begin in the image of the two rooms.
+const LATER_TABLES: usize = 130;
+
+/// One location with no text, which process 1 describes again.
+const SILENT: [u8; 30] = [
+    80, 65, 87, 73, 1, 0, 0, 0, 0, 0, 0, 0, 0, 1, 0, 3, 0, 0, 0, 0, 0, 0, 1, 0, 255, 255, 1, 30, 0,
+    0,
+];
+
+/// The same, where the location has the text `A cave.`.
+const CAVE: [u8; 37] = [
+    80, 65, 87, 73, 1, 0, 0, 0, 0, 0, 0, 0, 0, 1, 0, 3, 0, 7, 0, 65, 32, 99, 97, 118, 101, 46, 0,
+    0, 0, 1, 0, 255, 255, 1, 30, 0, 0,
+];
+
+/// What is shown before the first line.
+const FIRST: &str = "Hall.\n>\n";
+
+/// The words of a walk, one in each line.
+const WALK: &str = "walk\ngame\n7";
+
+// The words of a command, which stand in a line each.
+fn words_of(alloc: Global, lines: &str) -> Result<Vec<String>, AllocError> {
+    let mut words = Vec::new(alloc);
+    for word in lines.lines() {
+        words.push(String::from_str(alloc, word)?)?;
+    }
+    Ok(words)
+}
+
+// A stage with the image as the file `game`, a file that nobody names, and these lines.
+fn stage_of(alloc: Global, image: &[u8], lines: &str) -> Result<MemoryStage, Fail> {
+    let mut stage = MemoryStage::new(alloc, 100, 10_000)?;
+    stage.add_file("game", image)?;
+    stage.add_file("other", b"as it was")?;
+    for line in lines.lines() {
+        stage.add_line(alloc, line.as_bytes())?;
+    }
+    Ok(stage)
+}
+
+// Walks through the game of an image with these lines to the end of them, and compares what is shown.
+fn shows(
+    rt: &impl Abort,
+    alloc: Global,
+    image: &[u8],
+    lines: &str,
+    shown: &str,
+) -> Result<(), Fail> {
+    let mut stage = stage_of(alloc, image, lines)?;
+    let words = words_of(alloc, WALK)?;
+    let outcome = paw(alloc, &mut stage, words.as_slice());
+    assert_eq!(rt; outcome, Outcome::InputEnded, "{lines:?}");
+    assert_eq!(rt; stage.shown(), shown.as_bytes(), "{lines:?}");
+    Ok(())
+}
+
+// The image of the two rooms with one byte changed.
+fn two_rooms_with(place: usize, byte: u8) -> [u8; 134] {
+    let mut image = TWO_ROOMS;
+    if place < 134 {
+        image[place] = byte;
+    }
+    image
+}
+
+#[test]
+fn two_rooms_are_walked_piece_by_piece(rt: HostRuntime) -> Result<(), Fail> {
+    let alloc = rt.alloc();
+    let mut lines = String::new(alloc);
+    let mut shown = String::from_str(alloc, FIRST)?;
+    shows(&rt, alloc, &TWO_ROOMS, "", FIRST)?;
+    for (line, piece) in [
+        ("N", "Yard.\n>\n"),
+        ("SING", "Hall.\n>\n"),
+        ("SING", "La la.\n>\n"),
+        ("N. N", "Yard.\nNo way.\n>\n"),
+        ("XY", "What?\n>\n"),
+        ("~", ""),
+        ("", ">\n"),
+    ] {
+        lines.push_str(line)?;
+        lines.push_str("\n")?;
+        shown.push_str(piece)?;
+        shows(&rt, alloc, &TWO_ROOMS, lines.as_str(), shown.as_str())?;
+    }
+    Ok(())
+}
+
+#[test]
+fn lines_bring_their_pieces(rt: HostRuntime) -> Result<(), Fail> {
+    let alloc = rt.alloc();
+    for (lines, pieces) in [
+        // Small letters are capitals, five letters tell a word, unknown words are passed over.
+        ("look", "Hall.\n>\n"),
+        ("Please look at me", "Hall.\n>\n"),
+        ("LOOKS", "What?\n>\n"),
+        ("NORTH", "What?\n>\n"),
+        ("N1", "What?\n>\n"),
+        ("12", "What?\n>\n"),
+        // The first verb counts, and a noun stands for a verb only where there is none.
+        ("SING LOOK", "La la.\n>\n"),
+        ("LOOK SING", "Hall.\n>\n"),
+        ("N SING", "La la.\n>\n"),
+        ("N S", "Yard.\n>\n"),
+        ("S N", "No way.\n>\n"),
+        // Phrases of one line bring one piece.
+        ("N. S", "Yard.\nHall.\n>\n"),
+        ("SING: SING! S", "La la.\nLa la.\nNo way.\n>\n"),
+        ("SING? N\" SING", "La la.\nYard.\nHall.\n>\n"),
+        ("N.SING,LOOK", "Yard.\nHall.\nHall.\n>\n"),
+        (",, N ;", "Yard.\n>\n"),
+        // What is not understood, or leads nowhere, drops the rest of the line.
+        ("N, N, S", "Yard.\nNo way.\n>\n"),
+        ("N; XY; S", "Yard.\nWhat?\n>\n"),
+        // With no phrase the prompt alone is put; a mark of time that is not allowed brings nothing.
+        (".,;:!?\"", ">\n"),
+        ("  - ", ">\n"),
+        (" ~", ">\n"),
+        ("~~", ">\n"),
+        ("~ N", "Yard.\n>\n"),
+        // One line after another.
+        ("N\nN\nS\nS", "Yard.\n>\nNo way.\n>\nHall.\n>\nNo way.\n>\n"),
+        ("N\n~\nLOOK\n~", "Yard.\n>\nYard.\n>\n"),
+    ] {
+        let shown = format!(in alloc; "{FIRST}{pieces}")?;
+        shows(&rt, alloc, &TWO_ROOMS, lines, shown.as_str())?;
+    }
+    Ok(())
+}
+
+#[test]
+fn a_line_counts_to_its_255th_byte(rt: HostRuntime) -> Result<(), Fail> {
+    let alloc = rt.alloc();
+    for (spaces, end, piece) in [
+        (251, "LOOK", "Hall.\n>\n"),
+        (252, "LOOK", "What?\n>\n"),
+        (255, "LOOK", ">\n"),
+        (254, "N", "Yard.\n>\n"),
+        (254, "NORTH", "Yard.\n>\n"),
+        (255, "N", ">\n"),
+        (251, "N. N", "Yard.\nNo way.\n>\n"),
+        (252, "N. N", "Yard.\n>\n"),
+        (254, "~", ">\n"),
+        (255, "~", ">\n"),
+    ] {
+        let line = format!(in alloc; "{}{end}", " ".repeat(alloc, spaces)?)?;
+        let shown = format!(in alloc; "{FIRST}{piece}")?;
+        shows(&rt, alloc, &TWO_ROOMS, line.as_str(), shown.as_str())?;
+    }
+    Ok(())
+}
+
+#[test]
+fn games_with_one_byte_changed(rt: HostRuntime) -> Result<(), Fail> {
+    let alloc = rt.alloc();
+    for (place, byte, lines, shown) in [
+        // An underline stands for the object last named: for none.
+        (90, b'_', "", "all.\n>\n"),
+        // SING in the yard is for the hall now: nothing is done, and it is no way either.
+        (126, 0, "N\nSING", "Hall.\n>\nYard.\n>\nNo.\n>\n"),
+        // The first entry is for N: it comes before the way to the yard.
+        (110, 2, "N", "Hall.\n>\nHall.\n>\n"),
+        // The way leads from the hall to the hall.
+        (104, 0, "N", "Hall.\n>\nHall.\n>\n"),
+        // LOOK only ends the response.
+        (113, 32, "LOOK. N", "Hall.\n>\nYard.\n>\n"),
+        // SING in the hall describes it again.
+        (121, 30, "SING", "Hall.\n>\nLa la.\nHall.\n>\n"),
+    ] {
+        let image = two_rooms_with(place, byte);
+        shows(&rt, alloc, &image, lines, shown)?;
+    }
+    Ok(())
+}
+
+/// A command over a stage with the line `N`, what it comes to, what is shown, and what is asked for next.
+#[derive(Clone, Copy)]
+struct Case<'a> {
+    name: &'a str,
+    image: &'a [u8],
+    words: &'a str,
+    outcome: Outcome,
+    shown: &'a str,
+    next: Asked,
+}
+
+// The command comes to what the case says, and the files are as they were.
+fn comes_so(rt: &impl Abort, alloc: Global, case: &Case<'_>) -> Result<(), Fail> {
+    let mut stage = stage_of(alloc, case.image, "N")?;
+    let words = words_of(alloc, case.words)?;
+    let outcome = paw(alloc, &mut stage, words.as_slice());
+    assert_eq!(rt; outcome, case.outcome, "{}", case.name);
+    assert_eq!(rt; stage.shown(), case.shown.as_bytes(), "{}", case.name);
+    let mut line = [0u8; 255];
+    assert_eq!(rt; stage.ask(&mut line), case.next, "{}", case.name);
+    let game = stage.load(alloc, "game", 999)?;
+    assert_eq!(rt; game.as_slice(), case.image, "{}", case.name);
+    let other = stage.load(alloc, "other", 999)?;
+    assert_eq!(rt; other.as_slice(), b"as it was".as_slice(), "{}", case.name);
+    assert!(rt; stage.load(alloc, "missing", 999).is_err(), "{}", case.name);
+    Ok(())
+}
+
+// A refusal of an image: nothing is shown, and no line asked.
+fn refusal<'a>(name: &'a str, image: &'a [u8], outcome: Outcome) -> Case<'a> {
+    Case {
+        name,
+        image,
+        words: WALK,
+        outcome,
+        shown: "",
+        next: Asked::Line(1),
+    }
+}
+
+#[test]
+fn images_are_refused(rt: HostRuntime) -> Result<(), Fail> {
+    let alloc = rt.alloc();
+    let mut longer = TWO_ROOMS.to_vec(alloc)?;
+    longer.push(0)?;
+    let damaged = Outcome::ImageDamaged { at: 0 };
+    let unbuilt = Outcome::Unbuilt { at: 113, code: 29 };
+    for case in [
+        refusal("no byte", &[], damaged),
+        refusal("without its last byte", &TWO_ROOMS[..133], damaged),
+        refusal("with a byte more", longer.as_slice(), damaged),
+        refusal("another mark", &two_rooms_with(0, b'p'), damaged),
+        refusal("another version", &two_rooms_with(4, 2), damaged),
+        refusal("words out of order", &two_rooms_with(17, b'Z'), damaged),
+        refusal("a way to nowhere", &two_rooms_with(104, 2), damaged),
+        refusal("no such condact", &two_rooms_with(113, 108), damaged),
+        refusal(
+            "a condact that isn't built",
+            &two_rooms_with(113, 29),
+            unbuilt,
+        ),
+    ] {
+        comes_so(&rt, alloc, &case)?;
+    }
+    Ok(())
+}
+
+#[test]
+fn a_turn_that_never_ends_is_spent(rt: HostRuntime) -> Result<(), Fail> {
+    let alloc = rt.alloc();
+    // Process 1 describes the yard again and again.
+    let mut yard = Vec::from_slice(alloc, &TWO_ROOMS[..LATER_TABLES])?;
+    yard.extend_from_slice(&[1, 0, 255, 255, 2, 0, 1, 30, 0, 0])?;
+    let condacts = Outcome::Spent(SpentKind::Condacts);
+    let text = Outcome::Spent(SpentKind::Text);
+    comes_so(&rt, alloc, &refusal("no text", &SILENT, condacts))?;
+    comes_so(&rt, alloc, &refusal("a cave", &CAVE, text))?;
+    let later = Case {
+        shown: FIRST,
+        next: Asked::End,
+        ..refusal("the yard", yard.as_slice(), text)
+    };
+    comes_so(&rt, alloc, &later)
+}
+
+#[test]
+fn words_have_their_forms(rt: HostRuntime) -> Result<(), Fail> {
+    let alloc = rt.alloc();
+    for words in [
+        "",
+        "walk",
+        "walk\ngame",
+        "walk\n\n7",
+        "walk\ngame\n\n",
+        "walk\ngame\n7\n8",
+        "walk\ngame\n18446744073709551616",
+        "walk\ngame\n000000000000000000007",
+        "walk\ngame\n+7",
+        "walk\ngame\n-7",
+        "walk\ngame\n 7",
+        "walk\ngame\n7a",
+        "walk\ngame\nseven",
+        "Walk\ngame\n7",
+        "game\nwalk\n7",
+        "play\ngame\nf\nx",
+        "dance",
+    ] {
+        let case = Case {
+            words,
+            ..refusal(words, &TWO_ROOMS, Outcome::Usage)
+        };
+        comes_so(&rt, alloc, &case)?;
+    }
+    for words in [
+        "walk\ngame\n0",
+        "walk\ngame\n00000000000000000007",
+        "walk\ngame\n18446744073709551615",
+    ] {
+        let case = Case {
+            name: words,
+            image: &TWO_ROOMS,
+            words,
+            outcome: Outcome::InputEnded,
+            shown: "Hall.\n>\nYard.\n>\n",
+            next: Asked::End,
+        };
+        comes_so(&rt, alloc, &case)?;
+    }
+    let missing = Case {
+        words: "walk\nmissing\n7",
+        ..refusal(
+            "no such file",
+            &TWO_ROOMS,
+            Outcome::Outside(StageCall::LoadAbsent),
+        )
+    };
+    comes_so(&rt, alloc, &missing)
+}
+
+#[test]
+fn a_call_that_fails_ends_the_walk(rt: HostRuntime) -> Result<(), Fail> {
+    let alloc = rt.alloc();
+    let load = Outcome::Outside(StageCall::Load);
+    let ask = Outcome::Outside(StageCall::Ask);
+    let show = Outcome::Outside(StageCall::Show);
+    let words = words_of(alloc, WALK)?;
+    // The number of the call that fails; what is shown then; and what is asked for next.
+    for (lines, call, outcome, shown, next) in [
+        ("N\nLOOK", 0, load, "", Asked::Line(1)),
+        ("N\nLOOK", 1, show, "", Asked::Line(1)),
+        ("N\nLOOK", 2, ask, FIRST, Asked::Line(1)),
+        ("N\nLOOK", 3, show, FIRST, Asked::Line(4)),
+        ("N\nLOOK", 4, ask, "Hall.\n>\nYard.\n>\n", Asked::Line(4)),
+        ("N\nLOOK", 5, show, "Hall.\n>\nYard.\n>\n", Asked::End),
+        ("N", 4, ask, "Hall.\n>\nYard.\n>\n", Asked::End),
+        (
+            "N",
+            5,
+            Outcome::InputEnded,
+            "Hall.\n>\nYard.\n>\n",
+            Asked::Failed,
+        ),
+        // An empty piece takes no call.
+        ("~\nN", 3, ask, FIRST, Asked::Line(1)),
+    ] {
+        let listed = [call].to_vec(alloc)?;
+        let mut stage = FailStage::new(stage_of(alloc, &TWO_ROOMS, lines)?, listed);
+        let came = paw(alloc, &mut stage, words.as_slice());
+        assert_eq!(rt; came, outcome, "{lines:?}, call {call}");
+        assert_eq!(rt;
+            stage.inner().shown(),
+            shown.as_bytes(),
+            "{lines:?}, call {call}"
+        );
+        let mut line = [0u8; 255];
+        assert_eq!(rt; stage.ask(&mut line), next, "{lines:?}, call {call}");
+    }
+    Ok(())
+}
+
+#[test]
+fn outcomes_have_their_status_and_text(rt: HostRuntime) -> Result<(), Fail> {
+    for (outcome, status, text) in [
+        (Outcome::Ended, 0, ""),
+        (Outcome::InputEnded, 0, ""),
+        (
+            Outcome::Usage,
+            1,
+            "usage: paw compile S I | decompile I | walk I SEED | play I F SEED | resume I F | trace I SEED | trial N\n",
+        ),
+        (Outcome::ImageDamaged { at: 0 }, 3, "image damaged at 0\n"),
+        (
+            Outcome::ImageDamaged { at: u64::MAX },
+            3,
+            "image damaged at 18446744073709551615\n",
+        ),
+        (
+            Outcome::Unbuilt { at: 113, code: 29 },
+            3,
+            "not built: code 29 at 113\n",
+        ),
+        (
+            Outcome::Spent(SpentKind::Condacts),
+            5,
+            "piece spent its condacts\n",
+        ),
+        (Outcome::Spent(SpentKind::Text), 5, "piece spent its text\n"),
+        (
+            Outcome::TooDeep { table: 5 },
+            6,
+            "too many calls at table 5\n",
+        ),
+        (
+            Outcome::Outside(StageCall::Load),
+            7,
+            "outside failed: Load\n",
+        ),
+        (
+            Outcome::Outside(StageCall::LoadAbsent),
+            7,
+            "outside failed: LoadAbsent\n",
+        ),
+        (Outcome::Outside(StageCall::Ask), 7, "outside failed: Ask\n"),
+        (
+            Outcome::Outside(StageCall::Show),
+            7,
+            "outside failed: Show\n",
+        ),
+        (Outcome::Memory(MemoryAt::Load), 8, "no memory: Load\n"),
+        (Outcome::Memory(MemoryAt::Image), 8, "no memory: Image\n"),
+        (Outcome::Memory(MemoryAt::Play), 8, "no memory: Play\n"),
+        (
+            Outcome::Long {
+                events: MOST_EVENTS,
+            },
+            9,
+            "session is full: 1000000000 events\n",
+        ),
+    ] {
+        assert_eq!(rt; outcome.status(), status, "{text}");
+        let written = outcome.text(rt.alloc())?;
+        assert_eq!(rt; written.as_str(), text);
+    }
+    Ok(())
+}
