@@ -9,5 +9,7 @@ mod flag_tests;
 mod flow_actions;
 mod place_tests;
 pub mod presence;
+#[cfg(test)]
+mod tests;
 pub mod text;
 mod text_actions;

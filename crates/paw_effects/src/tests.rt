@@ -1,0 +1,350 @@
+// Condacts of a small game, read one after the other.
+
+ghost use Rattle.std.specs.Prelude.{◌≡◌, IfOk, map};
+ghost use Rattle.paw_effects.specs.Built.{IsOf};
+
+use crate::act::{Act, Effect, Prompt, Truth};
+use crate::does::{act, is_built, test};
+use paw_base::parts::{Condact, ObjectFacts};
+use paw_base::piece::Piece;
+use paw_game::game::Game;
+use paw_game::parts::{Condacts, Entry, Exit, Exits, GameParts, ObjectRow, Table, Text, Word};
+use paw_game::tables::Tables;
+use paw_world::world::World;
+use std::alloc::{AllocError, Global};
+use std::process::Abort;
+use std::test::Fail;
+
+/// What a condact answers: a condition, an action, or one that isn't there.
+#[derive(Clone, Copy, Drop, PartialEq, Eq, Debug)]
+enum Answer {
+    Tests(Truth),
+    Does(Effect),
+    Missing,
+}
+
+use Answer::{Does, Tests};
+
+/// A condact, and what it is to answer.
+type Case = (u8, u8, u8, Answer);
+
+const YES: Answer = Tests(Truth::Yes);
+
+const NO: Answer = Tests(Truth::No);
+
+const GO: Answer = Does(Effect::Go);
+
+/// Objects: 0 is carried, 1 worn, 2 in location 0, 3 not created, 4 in location 1.
+const PLACES: [u8; 5] = [254, 253, 0, 252, 1];
+
+/// At location 1, which has one exit, by verb 3 to location 0. There are three locations.
+const CONDITIONS: [Case; 62] = [
+    (49, 1, 0, GO),
+    (0, 1, 0, YES),
+    (0, 2, 0, NO),
+    (1, 1, 0, NO),
+    (2, 0, 0, YES),
+    (2, 1, 0, NO),
+    (3, 2, 0, YES),
+    (3, 1, 0, NO),
+    (4, 0, 0, YES),
+    (4, 1, 0, YES),
+    (4, 2, 0, NO),
+    (4, 4, 0, YES),
+    (5, 3, 0, YES),
+    (6, 1, 0, YES),
+    (6, 0, 0, NO),
+    (7, 0, 0, YES),
+    (8, 0, 0, YES),
+    (8, 1, 0, NO),
+    (9, 1, 0, YES),
+    (24, 4, 255, YES),
+    (24, 2, 0, YES),
+    (24, 3, 252, YES),
+    (24, 0, 255, NO),
+    (25, 0, 254, NO),
+    // The current location is none of the game's.
+    (70, 38, 200, GO),
+    (24, 3, 255, YES),
+    (25, 4, 255, YES),
+    (4, 3, 0, NO),
+    (49, 1, 0, GO),
+    (70, 60, 5, GO),
+    (77, 60, 61, GO),
+    (11, 60, 0, NO),
+    (11, 62, 0, YES),
+    (12, 60, 0, YES),
+    (13, 60, 5, YES),
+    (14, 60, 5, NO),
+    (15, 60, 4, YES),
+    (15, 60, 5, NO),
+    (16, 60, 6, YES),
+    (16, 60, 5, NO),
+    (17, 60, 61, YES),
+    (18, 60, 62, YES),
+    (19, 255, 0, YES),
+    (70, 35, 2, GO),
+    (19, 2, 0, YES),
+    (70, 36, 2, GO),
+    (20, 2, 0, YES),
+    (70, 43, 3, GO),
+    (21, 3, 0, YES),
+    (70, 44, 50, GO),
+    (22, 50, 0, YES),
+    (23, 255, 0, YES),
+    (70, 49, 127, GO),
+    (26, 0, 0, NO),
+    (70, 49, 128, GO),
+    (26, 0, 0, YES),
+    (27, 0, 0, Tests(Truth::Ask)),
+    (70, 33, 3, GO),
+    (28, 60, 0, NO),
+    (28, 38, 0, YES),
+    (0, 0, 0, YES),
+    (28, 38, 0, NO),
+];
+
+/// From 200 in flag 60 on; each sum ends at 255, and each difference at 0.
+const FLAGS: [Case; 27] = [
+    (66, 60, 0, GO),
+    (13, 60, 255, YES),
+    (67, 60, 0, GO),
+    (13, 60, 0, YES),
+    (70, 60, 200, GO),
+    (68, 60, 55, GO),
+    (13, 60, 255, YES),
+    (68, 60, 1, GO),
+    (13, 60, 255, YES),
+    (69, 60, 250, GO),
+    (13, 60, 5, YES),
+    (77, 60, 61, GO),
+    (69, 60, 6, GO),
+    (13, 60, 0, YES),
+    (71, 61, 60, GO),
+    (13, 60, 5, YES),
+    (38, 0, 0, GO),
+    (70, 59, 9, GO),
+    (70, 60, 251, GO),
+    (71, 60, 61, GO),
+    (13, 61, 255, YES),
+    (72, 60, 61, GO),
+    (13, 61, 4, YES),
+    (39, 60, 0, GO),
+    (13, 60, 5, YES),
+    (13, 61, 4, YES),
+    (11, 59, 0, YES),
+];
+
+/// How reading goes on, and the texts of END, OK, ANYKEY and of two messages, the second of them empty.
+const FLOW: [Case; 15] = [
+    (30, 0, 0, Does(Effect::Redescribe)),
+    (31, 0, 0, Does(Effect::Ask(Prompt::Again))),
+    (32, 0, 0, Does(Effect::Exit(true))),
+    (33, 0, 0, Does(Effect::Exit(false))),
+    (34, 0, 0, Does(Effect::Exit(true))),
+    (35, 0, 0, Does(Effect::Ask(Prompt::Key))),
+    (50, 0, 0, GO),
+    (51, 0, 0, GO),
+    (51, 1, 0, GO),
+    (84, 0, 0, Does(Effect::Parse)),
+    (85, 2, 0, Does(Effect::Call(2))),
+    (86, 254, 0, Does(Effect::Loop(254))),
+    (86, 255, 0, Does(Effect::Loop(0))),
+    (70, 38, 3, GO),
+    (86, 255, 0, Does(Effect::Loop(252))),
+];
+
+/// With seed 42: RANDOM twice, CHANCE of a number too small and of the least that is enough, and of 0, 50 and 100.
+const DRAWS: [Case; 10] = [
+    (73, 60, 0, GO),
+    (13, 60, 71, YES),
+    (73, 60, 0, GO),
+    (13, 60, 85, YES),
+    (10, 29, 0, NO),
+    (10, 70, 0, YES),
+    (10, 50, 0, NO),
+    (10, 99, 0, NO),
+    (10, 100, 0, YES),
+    (10, 0, 0, NO),
+];
+
+fn text(alloc: Global, bytes: &[u8]) -> Result<Text, AllocError> {
+    let bytes = Vec::from_slice(alloc, bytes)?;
+    Ok(Text { bytes })
+}
+
+fn word(letters: &[u8; 5], value: u8, class: u8) -> Word {
+    Word {
+        letters: *letters,
+        value,
+        class,
+    }
+}
+
+fn objects(alloc: Global) -> Result<Vec<ObjectRow>, AllocError> {
+    let mut rows = Vec::new(alloc);
+    for start in PLACES {
+        let facts = ObjectFacts {
+            noun: 255,
+            adjective: 255,
+            start,
+            weight: 1,
+            container: false,
+            wearable: false,
+        };
+        let text = text(alloc, b"thing")?;
+        rows.push(ObjectRow { text, facts })?;
+    }
+    Ok(rows)
+}
+
+/// The entry with these condacts.
+fn entry(alloc: Global, cases: &[Case]) -> Result<Entry, AllocError> {
+    let mut rows = Vec::new(alloc);
+    for (code, a, b, _) in cases {
+        rows.push(Condact {
+            code: *code,
+            a: *a,
+            b: *b,
+        })?;
+    }
+    Ok(Entry {
+        verb: 255,
+        noun: 255,
+        condacts: Condacts { rows },
+    })
+}
+
+/// A game in which table 0 has one entry, of these condacts.
+fn parts(alloc: Global, cases: &[Case]) -> Result<GameParts, AllocError> {
+    let mut system = Vec::new(alloc);
+    for letter in b'a'..=b'q' {
+        system.push(text(alloc, &[letter])?)?;
+    }
+    let back = vec![in alloc; Exit { verb: 3, to: 0 }]?;
+    Ok(GameParts {
+        words: vec![in alloc;
+            word(b"IN   ", 3, 4),
+            word(b"LAMP ", 50, 2),
+            word(b"RED  ", 2, 3),
+            word(b"S    ", 3, 2),
+            word(b"SOON ", 2, 1),
+        ]?,
+        system,
+        messages: vec![in alloc; text(alloc, b"Taken")?, text(alloc, b"")?]?,
+        objects: objects(alloc)?,
+        locations: vec![in alloc; text(alloc, b"")?, text(alloc, b"")?, text(alloc, b"")?]?,
+        exits: vec![in alloc;
+            Exits {
+                rows: Vec::new(alloc)
+            },
+            Exits { rows: back },
+            Exits {
+                rows: Vec::new(alloc)
+            },
+        ]?,
+        tables: vec![in alloc;
+            Table {
+                entries: vec![in alloc; entry(alloc, cases)?]?
+            },
+            Table {
+                entries: Vec::new(alloc)
+            },
+            Table {
+                entries: Vec::new(alloc)
+            },
+        ]?,
+    })
+}
+
+/// The facts of these objects.
+fn facts_of(alloc: Global, rows: &[ObjectRow]) -> Result<Vec<ObjectFacts>, AllocError>
+    ensures { IfOk result (λ facts. facts.items ≡ map (λ row. row.facts) rows.now) }
+{
+    rows.iter().map(|row| row.facts).collect(alloc)
+}
+
+/// The world at the start of this game.
+fn opened(rt: &impl Abort, alloc: Global, game: &Game) -> Result<World, AllocError>
+    ensures game { IfOk result (λ world. IsOf game.now world) }
+{
+    let parts = game.parts();
+    let facts = facts_of(alloc, parts.objects.as_slice())?;
+    assert!(rt; facts.len() <= 255 && parts.locations.len() <= 252);
+    let world = World::new(facts.as_slice(), parts.locations.len() as u8, 42);
+    let _objects = world.objects();
+    Ok(world)
+}
+
+/// Reads a condact of the game's entry.
+fn read(rt: &impl Abort, game: &Game, world: &mut World, piece: &mut Piece, at: u8) -> Answer
+    requires game { IsOf game.now world.old }
+    ensures game { IsOf game.now world.new }
+{
+    let Some(c) = game.condact(0, 0, at) else {
+        return Answer::Missing;
+    };
+    assert!(rt; is_built(c.code) && world.draws() < 1_000);
+    if c.code <= 28 {
+        return Tests(test(game, world, c));
+    }
+    let Act {
+        effect,
+        drop_line,
+        cancel_loop,
+    } = act(game, world, piece, c);
+    assert!(rt; !drop_line && !cancel_loop);
+    Does(effect)
+}
+
+/// Reads these condacts, which are those of the game's entry.
+fn read_all(rt: &impl Abort, game: &Game, world: &mut World, piece: &mut Piece, cases: &[Case])
+    requires game { IsOf game.now world.old }
+{
+    for (at, (code, a, b, answer)) in cases.iter().enumerate() {
+        assert!(rt; at < 255);
+        let found = read(rt, game, world, piece, at as u8);
+        assert_eq!(rt; found, *answer, "condact {at}: {code} {a} {b}");
+    }
+}
+
+/// Reads these condacts in this piece.
+fn run(rt: &impl Abort, alloc: Global, cases: &[Case], piece: &mut Piece) -> Result<(), Fail> {
+    let game = Game::new(parts(alloc, cases)?)?;
+    let mut world = opened(rt, alloc, &game)?;
+    read_all(rt, &game, &mut world, piece, cases);
+    Ok(())
+}
+
+#[test]
+fn conditions_and_actions(rt: HostRuntime) -> Result<(), Fail> {
+    let mut piece = Piece::new(rt.alloc())?;
+    run(&rt, rt.alloc(), &CONDITIONS, &mut piece)?;
+    run(&rt, rt.alloc(), &FLAGS, &mut piece)?;
+    run(&rt, rt.alloc(), &DRAWS, &mut piece)?;
+    assert_eq!(rt; piece.bytes(), b"".as_slice());
+    run(&rt, rt.alloc(), &FLOW, &mut piece)?;
+    assert_eq!(rt; piece.bytes(), b"np\nqTakenTaken\n\n".as_slice());
+    Ok(())
+}
+
+#[test]
+fn a_text_that_does_not_fit(rt: HostRuntime) -> Result<(), Fail> {
+    let most = vec![in rt.alloc(); b'x'; 65_530]?;
+    let mut piece = Piece::new(rt.alloc())?;
+    piece.push(most.as_slice());
+    run(
+        &rt,
+        rt.alloc(),
+        &[(51, 0, 0, Does(Effect::Spent))],
+        &mut piece,
+    )?;
+    piece.clear();
+    piece.push(most.as_slice());
+    run(
+        &rt,
+        rt.alloc(),
+        &[(50, 0, 0, GO), (34, 0, 0, Does(Effect::Spent))],
+        &mut piece,
+    )
+}
