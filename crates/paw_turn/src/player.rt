@@ -24,6 +24,9 @@ use paw_world::world::World;
 use std::alloc::Global;
 use std::marker::Model;
 
+#[cfg(test)]
+mod tests;
+
 /// A player of one game, which it borrows: it takes lines, and after each lends the piece of text that the line
 /// brought. It takes all its memory when it is made.
 #[derive(Drop)]
