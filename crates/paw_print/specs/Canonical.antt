@@ -1,0 +1,69 @@
+-- The canonical source of a game: one text for each game.
+use Rattle.std.specs.Prelude.{ℕ, suc, List, [], ◌∷◌, ◌++◌, map, flat_map, codes}
+use Rattle.paw_game.specs.declared.parts.Word.{Word}
+use Rattle.paw_game.specs.declared.parts.ObjectRow.{ObjectRow}
+use Rattle.paw_game.specs.declared.parts.Exit.{Exit}
+use Rattle.paw_game.specs.declared.parts.Entry.{Entry}
+use Rattle.paw_game.specs.Game.{GameLists}
+use Rattle.paw_print.specs.Lines.{spaced, word_tokens, item_token, text_lines, exit_tokens, object_tokens, condact_line, entry_tokens, table_tokens}
+
+-- the lines of rows that are numbered from n on
+abbrev pub numbered : {A : Type 0} → (ℕ → A → List (List ℕ)) → ℕ → List A → List (List ℕ)
+numbered lines n [] = []
+numbered lines n (x ∷ xs) = lines n x ++ numbered lines (suc n) xs
+
+-- the vocabulary: a line for each word, in order
+abbrev pub words_lines : List Word → List (List ℕ)
+words_lines ws = codes "/VOC" ∷ map (λ w. spaced (word_tokens w)) ws
+
+-- a section of texts: an item for each
+abbrev pub texts_lines : List ℕ → List (List ℕ) → List (List ℕ)
+texts_lines header texts = header ∷ numbered text_lines 0 texts
+
+-- a location: an item and a line for each exit; nothing where it has no exit
+abbrev pub location_lines : List Word → ℕ → List Exit → List (List ℕ)
+location_lines ws n [] = []
+location_lines ws n (x ∷ xs) = item_token n ∷ map (λ y. spaced (exit_tokens ws y)) (x ∷ xs)
+
+-- the connections of the locations
+abbrev pub exits_lines : List Word → List (List Exit) → List (List ℕ)
+exits_lines ws exits = codes "/CON" ∷ numbered (location_lines ws) 0 exits
+
+abbrev pub object_lines : List Word → ℕ → ObjectRow → List (List ℕ)
+object_lines ws n o = spaced (object_tokens ws n o.facts) ∷ []
+
+-- the objects: a line for each
+abbrev pub objects_lines : List Word → List ObjectRow → List (List ℕ)
+objects_lines ws objects = codes "/OBJ" ∷ numbered (object_lines ws) 0 objects
+
+-- an entry: its verb and its noun, and a line for each condact
+abbrev pub entry_lines : List Word → Entry → List (List ℕ)
+entry_lines ws e = spaced (entry_tokens ws e) ∷ map (condact_line ws) e.condacts
+
+-- a table: its header, and its entries
+abbrev pub table_lines : List Word → ℕ → List Entry → List (List ℕ)
+table_lines ws n entries = spaced (table_tokens n) ∷ flat_map (entry_lines ws) entries
+
+-- the lines of the canonical source: all sections in their order, and all tables
+unfoldable pub canonical_lines : GameLists → List (List ℕ)
+canonical_lines g =
+    words_lines g.words
+    ++ texts_lines (codes "/STX") g.system
+    ++ texts_lines (codes "/MTX") g.messages
+    ++ texts_lines (codes "/OTX") (map (λ o. o.text) g.objects)
+    ++ texts_lines (codes "/LTX") g.locations
+    ++ exits_lines g.words g.exits
+    ++ objects_lines g.words g.objects
+    ++ numbered (table_lines g.words) 0 g.tables
+
+-- a line and its end
+abbrev pub ended : List ℕ → List ℕ
+ended line = line ++ 10 ∷ []
+
+-- lines, each with its end
+abbrev pub written : List (List ℕ) → List ℕ
+written lines = flat_map ended lines
+
+-- the canonical source: its lines, each ended by LF
+unfoldable pub canonical_of : GameLists → List ℕ
+canonical_of g = written (canonical_lines g)

@@ -1,0 +1,4 @@
+pub mod Lines
+pub mod Canonical
+pub mod Words
+pub mod Known

@@ -1,0 +1,139 @@
+-- The rows of a source, as the canonical source has them: each the tokens that it is made of, one space between each two.
+use Rattle.std.specs.Prelude.{ℕ, ◌==◌, ◌&&◌, Bool, List, [], ◌∷◌, ◌++◌, codes, decimal, flat_map, Option, Some, None, if◌then◌else◌}
+use Rattle.std.specs.List.{before_first, find, join_with_byte, slice_split}
+use Rattle.std.specs.Option.{option_or}
+use Rattle.paw_base.specs.declared.parts.Condact.{Condact}
+use Rattle.paw_base.specs.declared.parts.ObjectFacts.{ObjectFacts}
+use Rattle.paw_base.specs.declared.rows.ParamKind.{ParamKind}
+use Rattle.paw_base.specs.declared.rows.ParamKind.TheVariants as kind
+use Rattle.paw_base.specs.Condacts.{name_of, first_kind, second_kind}
+use Rattle.paw_game.specs.declared.parts.Word.{Word}
+use Rattle.paw_game.specs.declared.parts.Exit.{Exit}
+use Rattle.paw_game.specs.declared.parts.Entry.{Entry}
+
+-- tokens, and a space between each two
+abbrev pub spaced : List (List ℕ) → List ℕ
+spaced tokens = join_with_byte 32 tokens
+
+-- tokens, each behind one space
+abbrev pub behind_spaces : List (List ℕ) → List ℕ
+behind_spaces tokens = flat_map (λ t. 32 ∷ t) tokens
+
+-- ---- words ----
+
+-- the letters of a word, without the spaces that fill them up
+abbrev pub letters_of : Word → List ℕ
+letters_of w = before_first (λ b. b == 32) w.letters
+
+-- a word of this class with this value
+abbrev pub means : ℕ → ℕ → Word → Bool
+means class value w = (w.class == class) && (w.value == value)
+
+-- the first word in order of this class with this value
+abbrev pub first_word : List Word → ℕ → ℕ → Option Word
+first_word ws class value = find (means class value) ws
+
+-- a verb value stands for the first verb with it, and where there is none for the first noun
+abbrev pub first_verb : List Word → ℕ → Option Word
+first_verb ws value = option_or (first_word ws 0 value) (first_word ws 2 value)
+
+-- the letters of a word; a game has a word for each of its values but 1 and 255
+abbrev pub letters_or_none : Option Word → List ℕ
+letters_or_none None = []
+letters_or_none (Some w) = letters_of w
+
+-- where a word stands, 1 is `*`, 255 is `_`, and any other value its word
+abbrev pub word_token : ℕ → Option Word → List ℕ
+word_token value word = if value == 1 then codes "*" else (if value == 255 then codes "_" else letters_or_none word)
+
+-- the token of a value of this class
+abbrev pub value_token : List Word → ℕ → ℕ → List ℕ
+value_token ws class value = word_token value (first_word ws class value)
+
+-- the token of a verb value
+abbrev pub verb_token : List Word → ℕ → List ℕ
+verb_token ws value = word_token value (first_verb ws value)
+
+-- 0 verb, 1 adverb, 2 noun, 3 adjective, 4 preposition, 5 conjunction, 6 pronoun
+abbrev pub class_name : ℕ → List ℕ
+class_name class =
+    if class == 0 then codes "verb"
+    else (if class == 1 then codes "adverb"
+    else (if class == 2 then codes "noun"
+    else (if class == 3 then codes "adjective"
+    else (if class == 4 then codes "preposition"
+    else (if class == 5 then codes "conjunction"
+    else codes "pronoun")))))
+
+-- letters, value, class
+abbrev pub word_tokens : Word → List (List ℕ)
+word_tokens w = letters_of w ∷ decimal w.value ∷ class_name w.class ∷ []
+
+-- ---- texts ----
+
+-- the number of an item behind its stroke
+abbrev pub item_token : ℕ → List ℕ
+item_token n = 47 ∷ decimal n
+
+-- the lines of a text: none where it is empty, and else the pieces between its line ends
+abbrev pub lines_of_text : List ℕ → List (List ℕ)
+lines_of_text [] = []
+lines_of_text (b ∷ bs) = slice_split (λ c. c == 10) (b ∷ bs)
+
+-- an item, and the lines of its text
+abbrev pub text_lines : ℕ → List ℕ → List (List ℕ)
+text_lines n text = item_token n ∷ lines_of_text text
+
+-- ---- exits ----
+
+-- verb, location
+abbrev pub exit_tokens : List Word → Exit → List (List ℕ)
+exit_tokens ws x = verb_token ws x.verb ∷ decimal x.to ∷ []
+
+-- ---- objects ----
+
+-- C tells a container, W that it may be worn; where it is neither, `-`
+abbrev pub kind_token : Bool → Bool → List ℕ
+kind_token container wearable =
+    if container then (if wearable then codes "CW" else codes "C") else (if wearable then codes "W" else codes "-")
+
+-- number, place, weight, kind, noun, adjective
+abbrev pub object_tokens : List Word → ℕ → ObjectFacts → List (List ℕ)
+object_tokens ws n f =
+    decimal n ∷ decimal f.start ∷ decimal f.weight ∷ kind_token f.container f.wearable
+    ∷ value_token ws 2 f.noun ∷ value_token ws 3 f.adjective ∷ []
+
+-- ---- tables ----
+
+-- a parameter that the condact has is one token: a word, or a number
+abbrev pub parameter_tokens : List Word → ParamKind → ℕ → List (List ℕ)
+parameter_tokens ws kind.Absent x = []
+parameter_tokens ws kind.Location x = decimal x ∷ []
+parameter_tokens ws kind.Place x = decimal x ∷ []
+parameter_tokens ws kind.Object x = decimal x ∷ []
+parameter_tokens ws kind.Flag x = decimal x ∷ []
+parameter_tokens ws kind.Number x = decimal x ∷ []
+parameter_tokens ws kind.Message x = decimal x ∷ []
+parameter_tokens ws kind.System x = decimal x ∷ []
+parameter_tokens ws kind.Table x = decimal x ∷ []
+parameter_tokens ws kind.Adverb x = value_token ws 1 x ∷ []
+parameter_tokens ws kind.Noun x = value_token ws 2 x ∷ []
+parameter_tokens ws kind.Adjective x = value_token ws 3 x ∷ []
+parameter_tokens ws kind.Preposition x = value_token ws 4 x ∷ []
+
+-- name, parameters
+abbrev pub condact_tokens : List Word → Condact → List (List ℕ)
+condact_tokens ws c =
+    name_of c.code ∷ (parameter_tokens ws (first_kind c.code) c.a ++ parameter_tokens ws (second_kind c.code) c.b)
+
+-- a condact stands on a line of its own behind one space, and so does each of its parameters
+abbrev pub condact_line : List Word → Condact → List ℕ
+condact_line ws c = behind_spaces (condact_tokens ws c)
+
+-- verb, noun
+abbrev pub entry_tokens : List Word → Entry → List (List ℕ)
+entry_tokens ws e = verb_token ws e.verb ∷ value_token ws 2 e.noun ∷ []
+
+-- the name of the header, and the number of the table
+abbrev pub table_tokens : ℕ → List (List ℕ)
+table_tokens n = codes "/PRO" ∷ decimal n ∷ []

@@ -1,0 +1,108 @@
+// The tables of a source.
+
+ghost use Rattle.std.specs.Prelude.{◌≡◌, ◌++◌, OnOk, flat_map, map};
+ghost use Rattle.std.specs.List.{AllByRecursion};
+ghost use Rattle.paw_print.specs.Lines.{behind_spaces, condact_line, entry_tokens, parameter_tokens, spaced, table_tokens};
+ghost use Rattle.paw_print.specs.Canonical.{ended, entry_lines, numbered, table_lines, written};
+ghost use Rattle.paw_print.specs.Known.{IsKnown, IsKnownEntry, IsKnownTable};
+
+use crate::rows::{write_behind_space, write_row};
+use crate::vocabulary::Vocabulary;
+use itoa::Buffer;
+use paw_base::parts::Condact;
+use paw_base::rows::{ParamKind, condact_row};
+use paw_game::parts::{Entry, Table};
+use std::alloc::AllocError;
+
+/// Writes a parameter behind a space; nothing where the condact has none.
+fn write_parameter(
+    vocabulary: &Vocabulary,
+    kind: ParamKind,
+    value: u8,
+    out: &mut Vec<u8>,
+) -> Result<(), AllocError>
+    ensures writes { OnOk result (out.new.items ≡ out.old.items ++ behind_spaces (parameter_tokens vocabulary.now kind value)) }
+{
+    match kind {
+        ParamKind::Absent => Ok(()),
+        ParamKind::Adverb => write_behind_space(vocabulary.adverb(value), out),
+        ParamKind::Noun => write_behind_space(vocabulary.noun(value), out),
+        ParamKind::Adjective => write_behind_space(vocabulary.adjective(value), out),
+        ParamKind::Preposition => write_behind_space(vocabulary.preposition(value), out),
+        _ => write_behind_space(Buffer::new().format(value).as_bytes(), out),
+    }
+}
+
+/// Writes a condact as a line behind a space.
+fn write_condact(
+    vocabulary: &Vocabulary,
+    condact: Condact,
+    out: &mut Vec<u8>,
+) -> Result<(), AllocError>
+    requires known { IsKnown condact }
+    ensures writes { OnOk result (out.new.items ≡ out.old.items ++ ended (condact_line vocabulary.now condact)) }
+{
+    let row = condact_row(condact.code).unwrap();
+    write_behind_space(row.trimmed_name(), out)?;
+    write_parameter(vocabulary, row.first, condact.a, out)?;
+    write_parameter(vocabulary, row.second, condact.b, out)?;
+    out.push(b'\n')?;
+    Ok(())
+}
+
+/// Writes condacts, a line for each.
+fn write_condacts(
+    vocabulary: &Vocabulary,
+    condacts: &[Condact],
+    out: &mut Vec<u8>,
+) -> Result<(), AllocError>
+    requires known { AllByRecursion IsKnown condacts.now }
+    ensures writes { OnOk result (out.new.items ≡ out.old.items ++ written (map (condact_line vocabulary.now) condacts.now)) }
+{
+    for condact in condacts {
+        write_condact(vocabulary, *condact, out)?;
+    }
+    Ok(())
+}
+
+/// Writes an entry: a line for its words, and its condacts.
+fn write_entry(vocabulary: &Vocabulary, entry: &Entry, out: &mut Vec<u8>) -> Result<(), AllocError>
+    requires known { IsKnownEntry entry.now }
+    ensures writes { OnOk result (out.new.items ≡ out.old.items ++ written (entry_lines vocabulary.now entry.now)) }
+{
+    let tokens = [vocabulary.verb(entry.verb), vocabulary.noun(entry.noun)];
+    write_row(&tokens, out)?;
+    write_condacts(vocabulary, &entry.condacts.rows, out)
+}
+
+/// Writes a table: its header, and its entries.
+fn write_table(
+    vocabulary: &Vocabulary,
+    number: usize,
+    entries: &[Entry],
+    out: &mut Vec<u8>,
+) -> Result<(), AllocError>
+    requires known { IsKnownTable entries.now }
+    ensures writes { OnOk result (out.new.items ≡ out.old.items ++ written (table_lines vocabulary.now number entries.now)) }
+{
+    write_row(&[b"/PRO", Buffer::new().format(number).as_bytes()], out)?;
+    for entry in entries {
+        write_entry(vocabulary, entry, out)?;
+    }
+    Ok(())
+}
+
+/// Writes the tables at the end.
+pub(crate) fn write_tables(
+    vocabulary: &Vocabulary,
+    tables: &[Table],
+    out: &mut Vec<u8>,
+) -> Result<(), AllocError>
+    requires known { AllByRecursion IsKnownTable tables.now }
+    ensures writes { OnOk result (out.new.items ≡ out.old.items ++ written (numbered (table_lines vocabulary.now) 0 tables.now)) }
+{
+    for (number, table) in tables.iter().enumerate() {
+        write_table(vocabulary, number, &table.entries, out)?;
+    }
+    Ok(())
+}

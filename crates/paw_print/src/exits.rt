@@ -1,0 +1,54 @@
+// The connections of a source.
+
+ghost use Rattle.std.specs.Prelude.{◌≡◌, ◌++◌, OnOk, map};
+ghost use Rattle.paw_print.specs.Lines.{exit_tokens, spaced};
+ghost use Rattle.paw_print.specs.Canonical.{ended, exits_lines, location_lines, written};
+
+use crate::rows::write_row;
+use crate::texts::write_item;
+use crate::vocabulary::Vocabulary;
+use itoa::Buffer;
+use paw_game::parts::{Exit, Exits};
+use std::alloc::AllocError;
+
+fn write_exit(vocabulary: &Vocabulary, exit: &Exit, out: &mut Vec<u8>) -> Result<(), AllocError>
+    ensures writes { OnOk result (out.new.items ≡ out.old.items ++ ended (spaced (exit_tokens vocabulary.now exit.now))) }
+{
+    let mut to = Buffer::new();
+    let tokens = [vocabulary.verb(exit.verb), to.format(exit.to).as_bytes()];
+    write_row(&tokens, out)
+}
+
+/// Writes the exits of a location; nothing where it has none.
+fn write_location(
+    vocabulary: &Vocabulary,
+    number: usize,
+    exits: &[Exit],
+    out: &mut Vec<u8>,
+) -> Result<(), AllocError>
+    ensures writes { OnOk result (out.new.items ≡ out.old.items ++ written (location_lines vocabulary.now number exits.now)) }
+{
+    if exits.is_empty() {
+        return Ok(());
+    }
+    write_item(number, out)?;
+    for exit in exits {
+        write_exit(vocabulary, exit, out)?;
+    }
+    Ok(())
+}
+
+/// Writes the connections at the end.
+pub(crate) fn write_exits(
+    vocabulary: &Vocabulary,
+    exits: &[Exits],
+    out: &mut Vec<u8>,
+) -> Result<(), AllocError>
+    ensures writes { OnOk result (out.new.items ≡ out.old.items ++ written (exits_lines vocabulary.now exits.now)) }
+{
+    write_row(&[b"/CON"], out)?;
+    for (number, row) in exits.iter().enumerate() {
+        write_location(vocabulary, number, &row.rows, out)?;
+    }
+    Ok(())
+}

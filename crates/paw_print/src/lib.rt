@@ -1,0 +1,13 @@
+//! The canonical source of a game: one text for each game.
+#![tactic(auto)]
+
+mod entries;
+mod exits;
+mod objects;
+pub mod printer;
+mod rows;
+#[cfg(test)]
+mod tests;
+mod texts;
+mod vocabulary;
+mod words;

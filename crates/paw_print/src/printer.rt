@@ -1,0 +1,46 @@
+// From a game to its canonical source.
+
+ghost use Rattle.std.specs.Prelude.{◌≡◌, IfOk, OnOk};
+ghost use Rattle.std.specs.List.{AllByRecursion};
+ghost use Rattle.paw_print.specs.Canonical.{canonical_lines, canonical_of, written};
+ghost use Rattle.paw_print.specs.Known.{IsKnownTable};
+
+use crate::entries::write_tables;
+use crate::exits::write_exits;
+use crate::objects::write_objects;
+use crate::texts::{write_object_texts, write_texts};
+use crate::vocabulary::Vocabulary;
+use crate::words::write_words;
+use paw_base::fault::NoRoom;
+use paw_game::game::Game;
+use paw_game::parts::GameParts;
+use std::alloc::{AllocError, Global};
+
+/// Writes the lines of a canonical source.
+fn write_game(parts: &GameParts, out: &mut Vec<u8>) -> Result<(), AllocError>
+    requires known { AllByRecursion IsKnownTable parts.now.tables }
+    ensures writes { OnOk result (out.new.items ≡ out.old.items ++ written (canonical_lines parts.now)) }
+{
+    let vocabulary = Vocabulary::new(&parts.words);
+    write_words(&parts.words, out)?;
+    write_texts(b"/STX", &parts.system, out)?;
+    write_texts(b"/MTX", &parts.messages, out)?;
+    write_object_texts(&parts.objects, out)?;
+    write_texts(b"/LTX", &parts.locations, out)?;
+    write_exits(&vocabulary, &parts.exits, out)?;
+    write_objects(&vocabulary, &parts.objects, out)?;
+    write_tables(&vocabulary, &parts.tables, out)
+}
+
+/// The canonical source of a game: all sections, a line for each word, text line, exit, object, entry and condact. Two
+/// calls with the same game give the same text.
+///
+/// # Errors
+/// Only for want of memory.
+pub fn canonical(alloc: Global, game: &Game) -> Result<Vec<u8>, NoRoom>
+    ensures value { IfOk result (λ text. text.items ≡ canonical_of game.now) }
+{
+    let mut out = Vec::new(alloc);
+    write_game(game.parts(), &mut out)?;
+    Ok(out)
+}
