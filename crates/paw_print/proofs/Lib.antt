@@ -1,0 +1,4 @@
+pub mod FirstWords
+pub mod Growing
+pub mod KnownCodes
+pub mod TextLines

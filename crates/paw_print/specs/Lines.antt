@@ -1,6 +1,6 @@
 -- The rows of a source, as the canonical source has them: each the tokens that it is made of, one space between each two.
 use Rattle.std.specs.Prelude.{ℕ, ◌==◌, ◌&&◌, Bool, List, [], ◌∷◌, ◌++◌, codes, decimal, flat_map, Option, Some, None, if◌then◌else◌}
-use Rattle.std.specs.List.{before_first, find, join_with_byte, slice_split}
+use Rattle.std.specs.List.{before_first, find, slice_split}
 use Rattle.std.specs.Option.{option_or}
 use Rattle.paw_base.specs.declared.parts.Condact.{Condact}
 use Rattle.paw_base.specs.declared.parts.ObjectFacts.{ObjectFacts}
@@ -11,13 +11,14 @@ use Rattle.paw_game.specs.declared.parts.Word.{Word}
 use Rattle.paw_game.specs.declared.parts.Exit.{Exit}
 use Rattle.paw_game.specs.declared.parts.Entry.{Entry}
 
--- tokens, and a space between each two
-abbrev pub spaced : List (List ℕ) → List ℕ
-spaced tokens = join_with_byte 32 tokens
-
 -- tokens, each behind one space
 abbrev pub behind_spaces : List (List ℕ) → List ℕ
 behind_spaces tokens = flat_map (λ t. 32 ∷ t) tokens
+
+-- tokens in a row: the first, and the others each behind one space
+abbrev pub spaced : List (List ℕ) → List ℕ
+spaced [] = []
+spaced (t ∷ ts) = t ++ behind_spaces ts
 
 -- ---- words ----
 

@@ -6,15 +6,14 @@ ghost use Rattle.paw_print.specs.Lines.{behind_spaces, condact_line, entry_token
 ghost use Rattle.paw_print.specs.Canonical.{ended, entry_lines, numbered, table_lines, written};
 ghost use Rattle.paw_print.specs.Known.{IsKnown, IsKnownEntry, IsKnownTable};
 
-use crate::rows::{write_behind_space, write_row};
+use crate::rows::{end_line, write_number, write_token};
 use crate::vocabulary::Vocabulary;
-use itoa::Buffer;
 use paw_base::parts::Condact;
 use paw_base::rows::{ParamKind, condact_row};
 use paw_game::parts::{Entry, Table};
 use std::alloc::AllocError;
 
-/// Writes a parameter behind a space; nothing where the condact has none.
+/// Writes a parameter behind one space; nothing where the condact has none.
 fn write_parameter(
     vocabulary: &Vocabulary,
     kind: ParamKind,
@@ -25,15 +24,15 @@ fn write_parameter(
 {
     match kind {
         ParamKind::Absent => Ok(()),
-        ParamKind::Adverb => write_behind_space(vocabulary.adverb(value), out),
-        ParamKind::Noun => write_behind_space(vocabulary.noun(value), out),
-        ParamKind::Adjective => write_behind_space(vocabulary.adjective(value), out),
-        ParamKind::Preposition => write_behind_space(vocabulary.preposition(value), out),
-        _ => write_behind_space(Buffer::new().format(value).as_bytes(), out),
+        ParamKind::Adverb => vocabulary.write_adverb(value, out),
+        ParamKind::Noun => vocabulary.write_noun(value, out),
+        ParamKind::Adjective => vocabulary.write_adjective(value, out),
+        ParamKind::Preposition => vocabulary.write_preposition(value, out),
+        _ => write_number(value as usize, out),
     }
 }
 
-/// Writes a condact as a line behind a space.
+/// Writes the line of a condact.
 fn write_condact(
     vocabulary: &Vocabulary,
     condact: Condact,
@@ -43,11 +42,10 @@ fn write_condact(
     ensures writes { OnOk result (out.new.items ≡ out.old.items ++ ended (condact_line vocabulary.now condact)) }
 {
     let row = condact_row(condact.code).unwrap();
-    write_behind_space(row.trimmed_name(), out)?;
+    write_token(row.trimmed_name(), out)?;
     write_parameter(vocabulary, row.first, condact.a, out)?;
     write_parameter(vocabulary, row.second, condact.b, out)?;
-    out.push(b'\n')?;
-    Ok(())
+    end_line(out)
 }
 
 /// Writes condacts, a line for each.
@@ -65,14 +63,31 @@ fn write_condacts(
     Ok(())
 }
 
-/// Writes an entry: a line for its words, and its condacts.
+/// Writes the line of an entry's words.
+fn write_head(vocabulary: &Vocabulary, entry: &Entry, out: &mut Vec<u8>) -> Result<(), AllocError>
+    ensures writes { OnOk result (out.new.items ≡ out.old.items ++ ended (spaced (entry_tokens vocabulary.now entry.now))) }
+{
+    vocabulary.write_verb(entry.verb, out)?;
+    vocabulary.write_noun(entry.noun, out)?;
+    end_line(out)
+}
+
+/// Writes an entry: its words, and its condacts.
 fn write_entry(vocabulary: &Vocabulary, entry: &Entry, out: &mut Vec<u8>) -> Result<(), AllocError>
     requires known { IsKnownEntry entry.now }
     ensures writes { OnOk result (out.new.items ≡ out.old.items ++ written (entry_lines vocabulary.now entry.now)) }
 {
-    let tokens = [vocabulary.verb(entry.verb), vocabulary.noun(entry.noun)];
-    write_row(&tokens, out)?;
+    write_head(vocabulary, entry, out)?;
     write_condacts(vocabulary, &entry.condacts.rows, out)
+}
+
+/// Writes the header of a table.
+fn write_table_header(number: usize, out: &mut Vec<u8>) -> Result<(), AllocError>
+    ensures writes { OnOk result (out.new.items ≡ out.old.items ++ ended (spaced (table_tokens number))) }
+{
+    out.extend_from_slice(b"/PRO")?;
+    write_number(number, out)?;
+    end_line(out)
 }
 
 /// Writes a table: its header, and its entries.
@@ -85,14 +100,14 @@ fn write_table(
     requires known { IsKnownTable entries.now }
     ensures writes { OnOk result (out.new.items ≡ out.old.items ++ written (table_lines vocabulary.now number entries.now)) }
 {
-    write_row(&[b"/PRO", Buffer::new().format(number).as_bytes()], out)?;
+    write_table_header(number, out)?;
     for entry in entries {
         write_entry(vocabulary, entry, out)?;
     }
     Ok(())
 }
 
-/// Writes the tables at the end.
+/// Writes the tables.
 pub(crate) fn write_tables(
     vocabulary: &Vocabulary,
     tables: &[Table],

@@ -4,19 +4,19 @@ ghost use Rattle.std.specs.Prelude.{◌≡◌, ◌++◌, OnOk, map};
 ghost use Rattle.paw_print.specs.Lines.{exit_tokens, spaced};
 ghost use Rattle.paw_print.specs.Canonical.{ended, exits_lines, location_lines, written};
 
-use crate::rows::write_row;
+use crate::rows::{end_line, write_header, write_number};
 use crate::texts::write_item;
 use crate::vocabulary::Vocabulary;
-use itoa::Buffer;
 use paw_game::parts::{Exit, Exits};
 use std::alloc::AllocError;
 
+/// Writes the line of an exit.
 fn write_exit(vocabulary: &Vocabulary, exit: &Exit, out: &mut Vec<u8>) -> Result<(), AllocError>
     ensures writes { OnOk result (out.new.items ≡ out.old.items ++ ended (spaced (exit_tokens vocabulary.now exit.now))) }
 {
-    let mut to = Buffer::new();
-    let tokens = [vocabulary.verb(exit.verb), to.format(exit.to).as_bytes()];
-    write_row(&tokens, out)
+    vocabulary.write_verb(exit.verb, out)?;
+    write_number(exit.to as usize, out)?;
+    end_line(out)
 }
 
 /// Writes the exits of a location; nothing where it has none.
@@ -38,7 +38,7 @@ fn write_location(
     Ok(())
 }
 
-/// Writes the connections at the end.
+/// Writes the section of the connections.
 pub(crate) fn write_exits(
     vocabulary: &Vocabulary,
     exits: &[Exits],
@@ -46,7 +46,7 @@ pub(crate) fn write_exits(
 ) -> Result<(), AllocError>
     ensures writes { OnOk result (out.new.items ≡ out.old.items ++ written (exits_lines vocabulary.now exits.now)) }
 {
-    write_row(&[b"/CON"], out)?;
+    write_header(b"/CON", out)?;
     for (number, row) in exits.iter().enumerate() {
         write_location(vocabulary, number, &row.rows, out)?;
     }

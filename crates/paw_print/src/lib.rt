@@ -4,10 +4,11 @@
 mod entries;
 mod exits;
 mod objects;
-pub mod printer;
+mod printer;
 mod rows;
 #[cfg(test)]
 mod tests;
 mod texts;
 mod vocabulary;
-mod words;
+
+pub use printer::canonical;

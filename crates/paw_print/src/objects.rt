@@ -1,12 +1,11 @@
 // The objects of a source.
 
-ghost use Rattle.std.specs.Prelude.{◌≡◌, ◌++◌, OnOk};
-ghost use Rattle.paw_print.specs.Lines.{kind_token, object_tokens, spaced};
+ghost use Rattle.std.specs.Prelude.{◌≡◌, ◌++◌, ◌∷◌, List, [], OnOk, decimal};
+ghost use Rattle.paw_print.specs.Lines.{behind_spaces, kind_token, object_tokens, spaced, value_token};
 ghost use Rattle.paw_print.specs.Canonical.{ended, objects_lines, written};
 
-use crate::rows::write_row;
+use crate::rows::{end_line, write_digits, write_header, write_number, write_token};
 use crate::vocabulary::Vocabulary;
-use itoa::Buffer;
 use paw_base::parts::ObjectFacts;
 use paw_game::parts::ObjectRow;
 use std::alloc::AllocError;
@@ -23,6 +22,17 @@ fn kind_token(container: bool, wearable: bool) -> &'static [u8]
     }
 }
 
+/// Writes the place, the weight and the kind of an object, each behind one space.
+fn write_place_and_kind(facts: &ObjectFacts, out: &mut Vec<u8>) -> Result<(), AllocError>
+    ensures writes { let kind = kind_token facts.now.container facts.now.wearable in
+        OnOk result (out.new.items ≡ out.old.items ++ behind_spaces (decimal facts.now.start ∷ decimal facts.now.weight ∷ kind ∷ [])) }
+{
+    write_number(facts.start as usize, out)?;
+    write_number(facts.weight as usize, out)?;
+    write_token(kind_token(facts.container, facts.wearable), out)
+}
+
+/// Writes the line of an object.
 fn write_object(
     vocabulary: &Vocabulary,
     number: usize,
@@ -31,21 +41,14 @@ fn write_object(
 ) -> Result<(), AllocError>
     ensures writes { OnOk result (out.new.items ≡ out.old.items ++ ended (spaced (object_tokens vocabulary.now number facts.now))) }
 {
-    let mut digits = Buffer::new();
-    let mut start = Buffer::new();
-    let mut weight = Buffer::new();
-    let tokens = [
-        digits.format(number).as_bytes(),
-        start.format(facts.start).as_bytes(),
-        weight.format(facts.weight).as_bytes(),
-        kind_token(facts.container, facts.wearable),
-        vocabulary.noun(facts.noun),
-        vocabulary.adjective(facts.adjective),
-    ];
-    write_row(&tokens, out)
+    write_digits(number, out)?;
+    write_place_and_kind(facts, out)?;
+    vocabulary.write_noun(facts.noun, out)?;
+    vocabulary.write_adjective(facts.adjective, out)?;
+    end_line(out)
 }
 
-/// Writes the objects at the end.
+/// Writes the section of the objects.
 pub(crate) fn write_objects(
     vocabulary: &Vocabulary,
     objects: &[ObjectRow],
@@ -53,7 +56,7 @@ pub(crate) fn write_objects(
 ) -> Result<(), AllocError>
     ensures writes { OnOk result (out.new.items ≡ out.old.items ++ written (objects_lines vocabulary.now objects.now)) }
 {
-    write_row(&[b"/OBJ"], out)?;
+    write_header(b"/OBJ", out)?;
     for (number, object) in objects.iter().enumerate() {
         write_object(vocabulary, number, &object.facts, out)?;
     }

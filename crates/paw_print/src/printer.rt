@@ -1,6 +1,6 @@
 // From a game to its canonical source.
 
-ghost use Rattle.std.specs.Prelude.{◌≡◌, IfOk, OnOk};
+ghost use Rattle.std.specs.Prelude.{◌≡◌, ◌++◌, IfOk, OnOk};
 ghost use Rattle.std.specs.List.{AllByRecursion};
 ghost use Rattle.paw_print.specs.Canonical.{canonical_lines, canonical_of, written};
 ghost use Rattle.paw_print.specs.Known.{IsKnownTable};
@@ -10,7 +10,6 @@ use crate::exits::write_exits;
 use crate::objects::write_objects;
 use crate::texts::{write_object_texts, write_texts};
 use crate::vocabulary::Vocabulary;
-use crate::words::write_words;
 use paw_base::fault::NoRoom;
 use paw_game::game::Game;
 use paw_game::parts::GameParts;
@@ -22,7 +21,7 @@ fn write_game(parts: &GameParts, out: &mut Vec<u8>) -> Result<(), AllocError>
     ensures writes { OnOk result (out.new.items ≡ out.old.items ++ written (canonical_lines parts.now)) }
 {
     let vocabulary = Vocabulary::new(&parts.words);
-    write_words(&parts.words, out)?;
+    vocabulary.write_words(out)?;
     write_texts(b"/STX", &parts.system, out)?;
     write_texts(b"/MTX", &parts.messages, out)?;
     write_object_texts(&parts.objects, out)?;

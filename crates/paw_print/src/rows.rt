@@ -1,37 +1,47 @@
-// Lines of tokens.
+// The parts of a line.
 
-ghost use Rattle.std.specs.Prelude.{◌≡◌, ◌++◌, ◌∷◌, OnOk, map};
-ghost use Rattle.paw_print.specs.Lines.{spaced};
+ghost use Rattle.std.specs.Prelude.{◌≡◌, ◌++◌, ◌∷◌, List, [], OnOk, decimal};
 ghost use Rattle.paw_print.specs.Canonical.{ended};
 
+use itoa::Buffer;
 use std::alloc::AllocError;
 
-/// Writes tokens at the end, a space between each two.
-fn write_spaced(tokens: &[&[u8]], out: &mut Vec<u8>) -> Result<(), AllocError>
-    ensures writes { OnOk result (out.new.items ≡ out.old.items ++ spaced (map (λ t. t.now) tokens.now)) }
+/// Ends a line.
+pub(crate) fn end_line(out: &mut Vec<u8>) -> Result<(), AllocError>
+    ensures writes { OnOk result (out.new.items ≡ out.old.items ++ 10 ∷ []) }
 {
-    for (i, token) in tokens.iter().enumerate() {
-        if i > 0 {
-            out.push(b' ')?;
-        }
-        out.extend_from_slice(token)?;
-    }
-    Ok(())
-}
-
-/// Writes a line of tokens at the end.
-pub(crate) fn write_row(tokens: &[&[u8]], out: &mut Vec<u8>) -> Result<(), AllocError>
-    ensures writes { OnOk result (out.new.items ≡ out.old.items ++ ended (spaced (map (λ t. t.now) tokens.now))) }
-{
-    write_spaced(tokens, out)?;
     out.push(b'\n')?;
     Ok(())
 }
 
-/// Writes a token at the end, behind one space.
-pub(crate) fn write_behind_space(token: &[u8], out: &mut Vec<u8>) -> Result<(), AllocError>
+/// Writes a line that is one token.
+pub(crate) fn write_header(token: &[u8], out: &mut Vec<u8>) -> Result<(), AllocError>
+    ensures writes { OnOk result (out.new.items ≡ out.old.items ++ ended token.now) }
+{
+    out.extend_from_slice(token)?;
+    end_line(out)
+}
+
+/// Writes a token behind one space.
+pub(crate) fn write_token(token: &[u8], out: &mut Vec<u8>) -> Result<(), AllocError>
     ensures writes { OnOk result (out.new.items ≡ out.old.items ++ 32 ∷ token.now) }
 {
     out.push(b' ')?;
     out.extend_from_slice(token)
+}
+
+/// Writes a number.
+pub(crate) fn write_digits(number: usize, out: &mut Vec<u8>) -> Result<(), AllocError>
+    ensures writes { OnOk result (out.new.items ≡ out.old.items ++ decimal number) }
+{
+    let mut digits = Buffer::new();
+    out.extend_from_slice(digits.format(number).as_bytes())
+}
+
+/// Writes a number behind one space.
+pub(crate) fn write_number(number: usize, out: &mut Vec<u8>) -> Result<(), AllocError>
+    ensures writes { OnOk result (out.new.items ≡ out.old.items ++ 32 ∷ decimal number) }
+{
+    out.push(b' ')?;
+    write_digits(number, out)
 }

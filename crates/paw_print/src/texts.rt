@@ -2,10 +2,9 @@
 
 ghost use Rattle.std.specs.Prelude.{◌≡◌, ◌++◌, OnOk, codes, map};
 ghost use Rattle.paw_print.specs.Lines.{item_token, lines_of_text, text_lines};
-ghost use Rattle.paw_print.specs.Canonical.{ended, numbered, texts_lines, written};
+ghost use Rattle.paw_print.specs.Canonical.{ended, texts_lines, written};
 
-use crate::rows::write_row;
-use itoa::Buffer;
+use crate::rows::{end_line, write_digits, write_header};
 use paw_game::parts::{ObjectRow, Text};
 use std::alloc::AllocError;
 
@@ -13,22 +12,19 @@ use std::alloc::AllocError;
 pub(crate) fn write_item(number: usize, out: &mut Vec<u8>) -> Result<(), AllocError>
     ensures writes { OnOk result (out.new.items ≡ out.old.items ++ ended (item_token number)) }
 {
-    let mut digits = Buffer::new();
     out.push(b'/')?;
-    out.extend_from_slice(digits.format(number).as_bytes())?;
-    out.push(b'\n')?;
-    Ok(())
+    write_digits(number, out)?;
+    end_line(out)
 }
 
 /// Writes the lines of a text; nothing where it is empty.
 fn write_lines(text: &[u8], out: &mut Vec<u8>) -> Result<(), AllocError>
     ensures writes { OnOk result (out.new.items ≡ out.old.items ++ written (lines_of_text text.now)) }
 {
-    if !text.is_empty() {
-        out.extend_from_slice(text)?;
-        out.push(b'\n')?;
+    if text.is_empty() {
+        return Ok(());
     }
-    Ok(())
+    write_header(text, out)
 }
 
 fn write_text(number: usize, text: &Text, out: &mut Vec<u8>) -> Result<(), AllocError>
@@ -38,7 +34,7 @@ fn write_text(number: usize, text: &Text, out: &mut Vec<u8>) -> Result<(), Alloc
     write_lines(&text.bytes, out)
 }
 
-/// Writes a section of texts at the end.
+/// Writes a section of texts.
 pub(crate) fn write_texts(
     header: &[u8],
     texts: &[Text],
@@ -46,18 +42,18 @@ pub(crate) fn write_texts(
 ) -> Result<(), AllocError>
     ensures writes { OnOk result (out.new.items ≡ out.old.items ++ written (texts_lines header.now texts.now)) }
 {
-    write_row(&[header], out)?;
+    write_header(header, out)?;
     for (number, text) in texts.iter().enumerate() {
         write_text(number, text, out)?;
     }
     Ok(())
 }
 
-/// Writes the section of the objects' texts at the end.
+/// Writes the section of the objects' texts.
 pub(crate) fn write_object_texts(objects: &[ObjectRow], out: &mut Vec<u8>) -> Result<(), AllocError>
     ensures writes { OnOk result (out.new.items ≡ out.old.items ++ written (texts_lines (codes "/OTX") (map (λ o. o.text) objects.now))) }
 {
-    write_row(&[b"/OTX"], out)?;
+    write_header(b"/OTX", out)?;
     for (number, object) in objects.iter().enumerate() {
         write_text(number, &object.text, out)?;
     }

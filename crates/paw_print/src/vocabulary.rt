@@ -1,12 +1,14 @@
 // The words of a game, and which of them stands for a value.
 
-ghost use Rattle.std.specs.Prelude.{◌≡◌, ◌≤◌, ◌==◌, length};
+ghost use Rattle.std.specs.Prelude.{◌≡◌, ◌≤◌, ◌++◌, ◌∷◌, ◌==◌, OnOk, length, map};
 ghost use Rattle.std.specs.List.{position_or_len};
-ghost use Rattle.std.specs.Option.{option_copied};
-ghost use Rattle.paw_print.specs.Lines.{letters_of, letters_or_none, value_token, verb_token, word_token};
+ghost use Rattle.paw_print.specs.Lines.{class_name, letters_of, letters_or_none, spaced, value_token, verb_token, word_token, word_tokens};
+ghost use Rattle.paw_print.specs.Canonical.{ended, words_lines, written};
 ghost use Rattle.paw_print.specs.Words.{TellsFirst};
 
+use crate::rows::{end_line, write_header, write_number, write_token};
 use paw_game::parts::Word;
+use std::alloc::AllocError;
 use std::marker::Model;
 
 /// The words of a game, and for each class and value the first of them. Contracts see the words.
@@ -52,42 +54,52 @@ impl<'a> Vocabulary<'a> {
         }
     }
 
-    /// The token of a verb value.
-    pub(crate) fn verb(&self, value: u8) -> &[u8]
-        ensures value { result.now ≡ verb_token self.now value }
+    /// Writes the section of the words.
+    pub(crate) fn write_words(&self, out: &mut Vec<u8>) -> Result<(), AllocError>
+        ensures writes { OnOk result (out.new.items ≡ out.old.items ++ written (words_lines self.now)) }
     {
-        match &self.verbs[value as usize] {
-            Some(word) => word_token(value, Some(word)),
-            None => word_token(value, self.nouns[value as usize].as_ref()),
+        write_header(b"/VOC", out)?;
+        let words = self.words;
+        for word in words {
+            write_word(word, out)?;
         }
+        Ok(())
     }
 
-    /// The token of an adverb's value.
-    pub(crate) fn adverb(&self, value: u8) -> &[u8]
-        ensures value { result.now ≡ value_token self.now 1 value }
+    /// Writes the token of a verb value.
+    pub(crate) fn write_verb(&self, value: u8, out: &mut Vec<u8>) -> Result<(), AllocError>
+        ensures writes { OnOk result (out.new.items ≡ out.old.items ++ verb_token self.now value) }
     {
-        word_token(value, self.adverbs[value as usize].as_ref())
+        let verb = self.verbs[value as usize];
+        write_value(value, verb.or(self.nouns[value as usize]), out)
     }
 
-    /// The token of a noun's value.
-    pub(crate) fn noun(&self, value: u8) -> &[u8]
-        ensures value { result.now ≡ value_token self.now 2 value }
+    /// Writes the token of an adverb's value behind one space.
+    pub(crate) fn write_adverb(&self, value: u8, out: &mut Vec<u8>) -> Result<(), AllocError>
+        ensures writes { OnOk result (out.new.items ≡ out.old.items ++ 32 ∷ value_token self.now 1 value) }
     {
-        word_token(value, self.nouns[value as usize].as_ref())
+        write_word_of(value, self.adverbs[value as usize], out)
     }
 
-    /// The token of an adjective's value.
-    pub(crate) fn adjective(&self, value: u8) -> &[u8]
-        ensures value { result.now ≡ value_token self.now 3 value }
+    /// Writes the token of a noun's value behind one space.
+    pub(crate) fn write_noun(&self, value: u8, out: &mut Vec<u8>) -> Result<(), AllocError>
+        ensures writes { OnOk result (out.new.items ≡ out.old.items ++ 32 ∷ value_token self.now 2 value) }
     {
-        word_token(value, self.adjectives[value as usize].as_ref())
+        write_word_of(value, self.nouns[value as usize], out)
     }
 
-    /// The token of a preposition's value.
-    pub(crate) fn preposition(&self, value: u8) -> &[u8]
-        ensures value { result.now ≡ value_token self.now 4 value }
+    /// Writes the token of an adjective's value behind one space.
+    pub(crate) fn write_adjective(&self, value: u8, out: &mut Vec<u8>) -> Result<(), AllocError>
+        ensures writes { OnOk result (out.new.items ≡ out.old.items ++ 32 ∷ value_token self.now 3 value) }
     {
-        word_token(value, self.prepositions[value as usize].as_ref())
+        write_word_of(value, self.adjectives[value as usize], out)
+    }
+
+    /// Writes the token of a preposition's value behind one space.
+    pub(crate) fn write_preposition(&self, value: u8, out: &mut Vec<u8>) -> Result<(), AllocError>
+        ensures writes { OnOk result (out.new.items ≡ out.old.items ++ 32 ∷ value_token self.now 4 value) }
+    {
+        write_word_of(value, self.prepositions[value as usize], out)
     }
 }
 
@@ -97,36 +109,45 @@ fn first_words(words: &[Word], class: u8) -> [Option<Word>; 256]
 {
     let mut first = [None; 256];
     for word in words {
-        let place = word.value as usize;
-        if word.class == class && first[place].is_none() {
-            first[place] = Some(*word);
+        if word.class == class {
+            let place = word.value as usize;
+            first[place] = first[place].or(Some(*word));
         }
     }
     first
 }
 
-/// How a value is written where a word stands: `*` for 1, `_` for 255, and else the letters of its word.
-fn word_token(value: u8, word: Option<&Word>) -> &[u8]
-    ensures value { result.now ≡ word_token value (option_copied word) }
+/// Writes what stands for a value where words stand: `*` for 1, `_` for 255, and else its word.
+fn write_value(value: u8, word: Option<Word>, out: &mut Vec<u8>) -> Result<(), AllocError>
+    ensures writes { OnOk result (out.new.items ≡ out.old.items ++ word_token value word) }
 {
     match value {
-        1 => b"*",
-        255 => b"_",
-        _ => letters_or_none(word),
+        1 => out.extend_from_slice(b"*"),
+        255 => out.extend_from_slice(b"_"),
+        _ => write_letters(word, out),
     }
 }
 
-fn letters_or_none(word: Option<&Word>) -> &[u8]
-    ensures value { result.now ≡ letters_or_none (option_copied word) }
+/// Writes what stands for a value behind one space.
+fn write_word_of(value: u8, word: Option<Word>, out: &mut Vec<u8>) -> Result<(), AllocError>
+    ensures writes { OnOk result (out.new.items ≡ out.old.items ++ 32 ∷ word_token value word) }
+{
+    out.push(b' ')?;
+    write_value(value, word, out)
+}
+
+/// Writes the letters of a word; nothing where there is none.
+fn write_letters(word: Option<Word>, out: &mut Vec<u8>) -> Result<(), AllocError>
+    ensures writes { OnOk result (out.new.items ≡ out.old.items ++ letters_or_none word) }
 {
     match word {
-        Some(word) => letters_of(word),
-        None => &[],
+        Some(word) => out.extend_from_slice(letters_of(&word)),
+        None => Ok(()),
     }
 }
 
 /// The letters of a word, without the spaces that fill them up.
-pub(crate) fn letters_of(word: &Word) -> &[u8]
+fn letters_of(word: &Word) -> &[u8]
     ensures value { result.now ≡ letters_of word.now }
 {
     let count = letter_count(&word.letters);
@@ -139,4 +160,29 @@ fn letter_count(letters: &[u8]) -> usize
     ensures within { result ≤ length letters.now }
 {
     letters.iter().take_while(|letter| **letter != b' ').count()
+}
+
+/// The name of a class of words.
+fn class_name(class: u8) -> &'static [u8]
+    ensures { result.now ≡ class_name class }
+{
+    match class {
+        0 => b"verb",
+        1 => b"adverb",
+        2 => b"noun",
+        3 => b"adjective",
+        4 => b"preposition",
+        5 => b"conjunction",
+        _ => b"pronoun",
+    }
+}
+
+/// Writes the line of a word.
+fn write_word(word: &Word, out: &mut Vec<u8>) -> Result<(), AllocError>
+    ensures writes { OnOk result (out.new.items ≡ out.old.items ++ ended (spaced (word_tokens word.now))) }
+{
+    out.extend_from_slice(letters_of(word))?;
+    write_number(word.value as usize, out)?;
+    write_token(class_name(word.class), out)?;
+    end_line(out)
 }

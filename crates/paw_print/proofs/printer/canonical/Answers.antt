@@ -1,0 +1,19 @@
+use Rattle.std.proofs.Common.{List, ℕ, ◌++◌, ◌∙◌, ap}
+use Rattle.paw_game.specs.Game.{GameLists}
+use Rattle.paw_print.specs.Canonical.{canonical_lines, canonical_of, written}
+use Rattle.paw_print.proofs.KnownCodes.{valid_known}
+use Rattle.paw_print.proofs.printer.canonical.Goals as goal
+
+pub write_game-requires : goal.write_game-requires
+write_game-requires c = record { known = rw c.parts.ensures.value (valid_known c.args.game.now c.parts.ensures.valid) }
+
+pub returns : goal.returns
+unfolding canonical_of
+returns c =
+    let out = c.new-out.ensures.items in
+    record {
+      value =
+          c.in_ok-write_game.ensures.writes
+          ∙ ap (λ (t : List ℕ). t ++ written (canonical_lines c.parts.result.now)) out
+          ∙ ap (λ (g : GameLists). written (canonical_lines g)) c.parts.ensures.value;
+    }
