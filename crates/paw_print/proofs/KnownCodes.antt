@@ -1,5 +1,5 @@
 -- A valid game has known condacts alone.
-use Rattle.std.proofs.Common.{◌≡◌, ℕ, Bool, true, leb, ◌||◌, List, [], ◌∷◌, length}
+use Rattle.std.proofs.Common.{◌≡◌, Bool, true, leb, ◌||◌, List, [], ◌∷◌, length}
 use Rattle.std.specs.List.{list_all, AllByRecursion}
 use Rattle.std.proofs.lemmas.Bool.{and_parts, leb-true}
 use Rattle.paw_base.specs.declared.parts.Condact.{Condact}

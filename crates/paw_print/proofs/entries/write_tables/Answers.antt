@@ -1,4 +1,4 @@
-use Rattle.std.proofs.Common.{ℕ, List, [], ◌++◌, ◌∙◌, ap, arith}
+use Rattle.std.proofs.Common.{List, [], ◌++◌, ◌∙◌, ap, arith}
 use Rattle.paw_game.specs.declared.parts.Entry.{Entry}
 use Rattle.paw_print.specs.Canonical.{table_lines, written}
 use Rattle.paw_print.proofs.Growing.{numbered_more}
