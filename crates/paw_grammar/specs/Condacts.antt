@@ -1,0 +1,105 @@
+-- The condacts of a line.
+use Rattle.std.specs.Prelude.{ℕ, ◌≤◌, zero, suc, ◌+◌, ◌||◌, List, [], ◌∷◌, ◌++◌, length, min, nat_lt, if◌then◌else◌, Option, Some, None, Result, Ok, Err, codes}
+use Rattle.std.specs.Option.{option_map}
+use Rattle.paw_base.specs.declared.parts.Condact.{Condact}
+use Rattle.paw_base.specs.declared.fault.SourceKind.{SourceKind}
+use Rattle.paw_base.specs.declared.fault.SourceKind.TheVariants as fault
+use Rattle.paw_base.specs.declared.rows.ParamKind.{ParamKind}
+use Rattle.paw_base.specs.declared.rows.ParamKind.TheVariants as kind
+use Rattle.paw_base.specs.Condacts.{code_named, first_kind, second_kind, params_of}
+use Rattle.paw_game.specs.declared.parts.Word.{Word}
+use Rattle.paw_game.specs.Valid.{is_within}
+use Rattle.paw_grammar.specs.declared.bounds.Bounds.{Bounds}
+use Rattle.paw_grammar.specs.Tokens.{◌>>=◌, or_fault, read_by}
+use Rattle.paw_grammar.specs.Numbers.{number, in_range, number_below}
+use Rattle.paw_grammar.specs.Vocabulary.{place_among, word_or_none}
+
+-- ---- places ----
+
+-- the places 252 to 254, where an object may be at first beside the locations
+abbrev pub place_names : List (List ℕ)
+place_names = codes "NOTCREATED" ∷ codes "WORN" ∷ codes "CARRIED" ∷ []
+
+-- a number, or else a place by its name: the names count from 252
+abbrev pub or_named : Option ℕ → Option ℕ → Option ℕ
+or_named None name = option_map (λ i. 252 + i) name
+or_named (Some n) name = Some n
+
+-- a place, by its number or by its name: a location, or one from 252 to the last
+abbrev pub place_up_to : ℕ → (List ℕ → Option ℕ) → ℕ → List (List ℕ) → Result (ℕ × List (List ℕ)) SourceKind
+place_up_to last named locations ts =
+    read_by fault.Number (λ t. or_named (number t) (named t)) ts
+    >>= in_range (λ n. nat_lt n locations || is_within 252 last n)
+
+-- the first place of an object
+abbrev pub first_place : ℕ → List (List ℕ) → Result (ℕ × List (List ℕ)) SourceKind
+first_place locations ts = place_up_to 254 (place_among place_names) locations ts
+
+-- the places 252 to 255, which a parameter may be
+abbrev pub parameter_names : List (List ℕ)
+parameter_names = place_names ++ codes "HERE" ∷ []
+
+-- a place that is a parameter
+abbrev pub place : ℕ → List (List ℕ) → Result (ℕ × List (List ℕ)) SourceKind
+place locations ts = place_up_to 255 (place_among parameter_names) locations ts
+
+-- ---- parameters ----
+
+-- a byte holds every number below these, but a table's
+pub record AreSmall (bounds : Bounds) : Type 0 where
+  pub system : bounds.system ≤ 256
+  pub messages : bounds.messages ≤ 256
+  pub objects : bounds.objects ≤ 256
+  pub locations : bounds.locations ≤ 256
+
+-- A table's number is below the number of headers of tables. 255 stands for one that no byte holds: there are then more
+-- than 256 headers, and one of them has a fault.
+abbrev pub table : ℕ → List (List ℕ) → Result (ℕ × List (List ℕ)) SourceKind
+table tables ts = number_below tables ts >>= λ n. Ok (min n.0 255, n.1)
+
+-- a parameter of each kind; one that isn't there takes no token, and is 0
+abbrev pub parameter : Bounds → List Word → ParamKind → List (List ℕ) → Result (ℕ × List (List ℕ)) SourceKind
+parameter bounds ws kind.Absent ts = Ok (0, ts)
+parameter bounds ws kind.Location ts = number_below bounds.locations ts
+parameter bounds ws kind.Place ts = place bounds.locations ts
+parameter bounds ws kind.Object ts = number_below bounds.objects ts
+parameter bounds ws kind.Flag ts = number_below 256 ts
+parameter bounds ws kind.Number ts = number_below 256 ts
+parameter bounds ws kind.Message ts = number_below bounds.messages ts
+parameter bounds ws kind.System ts = number_below bounds.system ts
+parameter bounds ws kind.Table ts = table bounds.tables ts
+parameter bounds ws kind.Adverb ts = word_or_none ws 1 ts
+parameter bounds ws kind.Noun ts = word_or_none ws 2 ts
+parameter bounds ws kind.Adjective ts = word_or_none ws 3 ts
+parameter bounds ws kind.Preposition ts = word_or_none ws 4 ts
+
+-- ---- condacts ----
+
+-- a condact: its name, which is Condact where none has it, and its parameters, which the next tokens are
+unfoldable pub condact : Bounds → List Word → List ℕ → List (List ℕ) → Result (Condact × List (List ℕ)) SourceKind
+condact bounds ws name ts = do
+  code ← or_fault fault.Condact ts (code_named name)
+  a ← parameter bounds ws (first_kind code.0) code.1
+  b ← parameter bounds ws (second_kind code.0) a.1
+  Ok (record { code = code.0; a = a.0; b = b.0 }, b.1)
+
+-- the condacts from here to the end of the line, where the next skip tokens are parameters of the one before
+unfoldable pub condacts : Bounds → List Word → ℕ → List (List ℕ) → Result (List Condact) SourceKind
+condacts bounds ws skip [] = Ok []
+condacts bounds ws (suc skip) (t ∷ ts) = condacts bounds ws skip ts
+condacts bounds ws zero (t ∷ ts) = do
+  c ← condact bounds ws t ts
+  cs ← condacts bounds ws (params_of c.0.code) ts
+  Ok (c.0 ∷ cs)
+
+-- the condacts of an entry, and those of a line of it after them
+abbrev pub joined : List Condact → Result (List Condact) SourceKind → Result (List Condact) SourceKind
+joined before cs = cs >>= λ more. Ok (before ++ more)
+
+-- an entry has at most 255 condacts
+abbrev pub at_most_255 : List Condact → Result (List Condact) SourceKind
+at_most_255 cs = if nat_lt 255 (length cs) then Err fault.TooBig else Ok cs
+
+-- an entry's condacts after a line of it
+unfoldable pub more_condacts : Bounds → List Word → List Condact → List (List ℕ) → Result (List Condact) SourceKind
+more_condacts bounds ws before ts = joined before (condacts bounds ws 0 ts) >>= at_most_255

@@ -1,0 +1,118 @@
+-- The rows of the sections that have rows.
+use Rattle.std.specs.Prelude.{ℕ, ◌==◌, Bool, List, [], ◌∷◌, ◌++◌, length, nat_lt, if◌then◌else◌, Result, Ok, Err}
+use Rattle.std.specs.List.{list_any}
+use Rattle.paw_base.specs.declared.fault.SourceKind.{SourceKind}
+use Rattle.paw_base.specs.declared.fault.SourceKind.TheVariants as fault
+use Rattle.paw_game.specs.declared.parts.Word.{Word}
+use Rattle.paw_game.specs.declared.parts.Exit.{Exit}
+use Rattle.paw_game.specs.declared.parts.Entry.{Entry}
+use Rattle.paw_base.specs.declared.parts.ObjectFacts.{ObjectFacts}
+use Rattle.paw_grammar.specs.declared.section.Section.{Section}
+use Rattle.paw_grammar.specs.declared.section.Section.TheVariants as section
+use Rattle.paw_grammar.specs.Tokens.{◌>>=◌, ended}
+use Rattle.paw_grammar.specs.Numbers.{number_within, number_below, row_number}
+use Rattle.paw_grammar.specs.Vocabulary.{word, class, object_kind, declared, word_or_none, verb_word, entry_verb, entry_noun}
+use Rattle.paw_grammar.specs.declared.bounds.Bounds.{Bounds}
+use Rattle.paw_grammar.specs.Condacts.{first_place, more_condacts}
+use Rattle.paw_grammar.specs.GrammarState.{Spelt, last_or, with_last}
+
+-- ---- /VOC ----
+
+-- `word value class`, the words with this one in its place
+unfoldable pub voc_row : List Word → List (List ℕ) → Result (List Word) SourceKind
+voc_row ws ts = do
+  w ← word ts
+  v ← number_within 2 254 w.1
+  c ← class v.1
+  end ← ended c.1
+  declared (record { letters = w.0; value = v.0; class = c.0 }) ws
+
+-- ---- /CON ----
+
+abbrev pub has_exit : ℕ → List Exit → Bool
+has_exit verb xs = list_any (λ x. x.verb == verb) xs
+
+-- `word location`, the exits of a location with this one
+unfoldable pub exit_row : List Word → ℕ → List Exit → List (List ℕ) → Result (List Exit) SourceKind
+exit_row ws locations xs ts = do
+  v ← verb_word ws ts
+  to ← number_below locations v.1
+  end ← ended to.1
+  if has_exit v.0 xs then Err fault.Duplicate
+      else Ok (xs ++ (record { verb = v.0; to = to.0 }) ∷ [])
+
+-- of the location of the last item
+abbrev pub con_row : Spelt → List (List ℕ) → Result Spelt SourceKind
+con_row d ts =
+    if length d.exits == 0 then Err fault.Section
+    else exit_row d.words (length d.locations) (last_or [] d.exits) ts >>= λ xs. Ok (record d { exits = with_last xs d.exits })
+
+-- ---- /OBJ ----
+
+-- `n place weight kind noun adjective`
+unfoldable pub object_row : List Word → ℕ → ℕ → ℕ → List (List ℕ) → Result ObjectFacts SourceKind
+object_row ws locations next count ts = do
+  n ← row_number next count ts
+  place ← first_place locations n.1
+  weight ← number_within 0 63 place.1
+  k ← object_kind weight.1
+  noun ← word_or_none ws 2 k.1
+  adjective ← word_or_none ws 3 noun.1
+  end ← ended adjective.1
+  Ok (record { noun = noun.0; adjective = adjective.0; start = place.0; weight = weight.0; container = k.0.0; wearable = k.0.1 })
+
+abbrev pub obj_row : Spelt → List (List ℕ) → Result Spelt SourceKind
+obj_row d ts =
+    object_row d.words (length d.locations) (length d.facts) (length d.names) ts
+    >>= λ f. Ok (record d { facts = d.facts ++ f ∷ [] })
+
+-- ---- /PRO ----
+
+-- what parameters may name; p is the number of tables
+abbrev pub bounds_of : ℕ → Spelt → Bounds
+bounds_of p d = record {
+  system = length d.system;
+  messages = length d.messages;
+  objects = length d.names;
+  locations = length d.locations;
+  tables = p;
+}
+
+-- `verb noun condacts`, the entries of a table with this one; an entry has at most 255 condacts, a table 4,000 entries
+unfoldable pub entry_row : Bounds → List Word → List Entry → List (List ℕ) → Result (List Entry) SourceKind
+entry_row bounds ws es ts = do
+  v ← entry_verb ws ts
+  n ← entry_noun ws v.1
+  cs ← more_condacts bounds ws [] n.1
+  if nat_lt (length es) 4000 then Ok (es ++ (record { verb = v.0; noun = n.0; condacts = cs }) ∷ [])
+      else Err fault.TooBig
+
+abbrev pub no_entry : Entry
+no_entry = record { verb = 0; noun = 0; condacts = [] }
+
+-- ` condacts`, more of the last entry, which has to be there
+unfoldable pub more_row : Bounds → List Word → List Entry → List (List ℕ) → Result (List Entry) SourceKind
+more_row bounds ws es ts =
+    if length es == 0 then Err fault.Section
+    else more_condacts bounds ws (last_or no_entry es).condacts ts
+    >>= λ cs. Ok (with_last (record (last_or no_entry es) { condacts = cs }) es)
+
+-- a line of the last table: more condacts where it begins with a blank, else an entry
+abbrev pub pro_row : ℕ → Spelt → Bool → List (List ℕ) → Result Spelt SourceKind
+pro_row p d more ts =
+    (if more then more_row (bounds_of p d) d.words (last_or [] d.tables) ts
+    else entry_row (bounds_of p d) d.words (last_or [] d.tables) ts)
+    >>= λ es. Ok (record d { tables = with_last es d.tables })
+
+-- ---- a row ----
+
+abbrev pub row_in : Section → ℕ → Spelt → Bool → List (List ℕ) → Result Spelt SourceKind
+row_in section.Before p d more ts = Err fault.Section
+row_in section.Voc p d more ts = voc_row d.words ts >>= λ ws. Ok (record d { words = ws })
+row_in section.Stx p d more ts = Err fault.Section
+row_in section.Mtx p d more ts = Err fault.Section
+row_in section.Otx p d more ts = Err fault.Section
+row_in section.Ltx p d more ts = Err fault.Section
+row_in section.Con p d more ts = con_row d ts
+row_in section.Obj p d more ts = obj_row d ts
+row_in section.Pro p d more ts = pro_row p d more ts

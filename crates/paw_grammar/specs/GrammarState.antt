@@ -1,0 +1,70 @@
+-- What the lines of a source spell, as far as they are read.
+use Rattle.std.specs.Prelude.{ℕ, ◌-◌, Bool, false, List, [], ◌∷◌, ◌++◌, length, replicate}
+use Rattle.std.specs.Prelude.{slice_set}
+use Rattle.std.specs.List.{slice_index_or}
+use Rattle.paw_base.specs.declared.parts.ObjectFacts.{ObjectFacts}
+use Rattle.paw_game.specs.declared.parts.Word.{Word}
+use Rattle.paw_game.specs.declared.parts.ObjectRow.{ObjectRow}
+use Rattle.paw_game.specs.declared.parts.Exit.{Exit}
+use Rattle.paw_game.specs.declared.parts.Entry.{Entry}
+use Rattle.paw_game.specs.Game.{GameLists}
+use Rattle.paw_grammar.specs.declared.section.Section.{Section}
+use Rattle.paw_grammar.specs.declared.section.Section.TheVariants as section
+
+-- the section that is open, and the rows that were read
+pub record Spelt : Type 0 where
+  pub section : Section
+  pub words : List Word  -- in the order of their letters
+  pub system : List (List ℕ)
+  pub messages : List (List ℕ)
+  pub names : List (List ℕ)  -- the texts of the objects
+  pub locations : List (List ℕ)
+  pub begun : Bool  -- the last text has a line
+  pub exits : List (List Exit)  -- of the locations up to the last item of /CON
+  pub facts : List ObjectFacts  -- of the objects up to the last row of /OBJ
+  pub tables : List (List Entry)
+
+-- nothing was read yet
+abbrev pub nothing_yet : Spelt
+nothing_yet = record {
+  section = section.Before;
+  words = [];
+  system = [];
+  messages = [];
+  names = [];
+  locations = [];
+  begun = false;
+  exits = [];
+  facts = [];
+  tables = [];
+}
+
+-- the last of a list; some other value where there is none
+abbrev pub last_or : {A : Type 0} → A → List A → A
+last_or other xs = slice_index_or xs (length xs - 1) other
+
+-- the list with this as its last
+abbrev pub with_last : {A : Type 0} → A → List A → List A
+with_last x xs = slice_set xs (length xs - 1) x
+
+-- each text with the facts of its row
+unfoldable pub objects_of : List (List ℕ) → List ObjectFacts → List ObjectRow
+objects_of [] fs = []
+objects_of (t ∷ ts) [] = []
+objects_of (t ∷ ts) (f ∷ fs) = record { text = t; facts = f } ∷ objects_of ts fs
+
+-- a list of exits for each of so many locations; those that have no item of /CON have none
+abbrev pub all_exits : ℕ → List (List Exit) → List (List Exit)
+all_exits locations es = es ++ replicate (locations - length es) []
+
+-- the game that the lines spell
+abbrev pub game_of : Spelt → GameLists
+game_of d = record {
+  words = d.words;
+  system = d.system;
+  messages = d.messages;
+  objects = objects_of d.names d.facts;
+  locations = d.locations;
+  exits = all_exits (length d.locations) d.exits;
+  tables = d.tables;
+}

@@ -1,0 +1,76 @@
+-- The four sections of texts: items and text lines.
+use Rattle.std.specs.Prelude.{ℕ, ◌==◌, ◌&&◌, Bool, true, false, not, List, [], ◌∷◌, ◌++◌, length, nat_lt, if◌then◌else◌, Result, Ok, Err}
+use Rattle.paw_base.specs.declared.fault.SourceKind.{SourceKind}
+use Rattle.paw_base.specs.declared.fault.SourceKind.TheVariants as kind
+use Rattle.paw_grammar.specs.declared.section.Section.{Section}
+use Rattle.paw_grammar.specs.declared.section.Section.TheVariants as section
+use Rattle.paw_grammar.specs.Tokens.{◌>>=◌}
+use Rattle.paw_grammar.specs.GrammarState.{Spelt, last_or, with_last}
+
+abbrev pub is_text_section : Section → Bool
+is_text_section section.Before = false
+is_text_section section.Voc = false
+is_text_section section.Stx = true
+is_text_section section.Mtx = true
+is_text_section section.Otx = true
+is_text_section section.Ltx = true
+is_text_section section.Con = false
+is_text_section section.Obj = false
+is_text_section section.Pro = false
+
+-- the texts of a section
+abbrev pub texts_of : Section → Spelt → List (List ℕ)
+texts_of section.Before d = []
+texts_of section.Voc d = []
+texts_of section.Stx d = d.system
+texts_of section.Mtx d = d.messages
+texts_of section.Otx d = d.names
+texts_of section.Ltx d = d.locations
+texts_of section.Con d = []
+texts_of section.Obj d = []
+texts_of section.Pro d = []
+
+-- a section's texts put in place of those that stood there; whether the last of them has a line
+abbrev pub with_texts : Section → Bool → List (List ℕ) → Spelt → Spelt
+with_texts section.Before begun ts d = d
+with_texts section.Voc begun ts d = d
+with_texts section.Stx begun ts d = record d { system = ts; begun = begun }
+with_texts section.Mtx begun ts d = record d { messages = ts; begun = begun }
+with_texts section.Otx begun ts d = record d { names = ts; begun = begun }
+with_texts section.Ltx begun ts d = record d { locations = ts; begun = begun }
+with_texts section.Con begun ts d = d
+with_texts section.Obj begun ts d = d
+with_texts section.Pro begun ts d = d
+
+-- the most items of a section
+abbrev pub text_limit : Section → ℕ
+text_limit section.Stx = 256
+text_limit section.Mtx = 256
+text_limit section.Otx = 255
+text_limit section.Ltx = 252
+text_limit _ = 0
+
+-- the texts with an empty one more: its number is how many there were before, and there may be no more than the limit
+abbrev pub text_item : ℕ → ℕ → List (List ℕ) → Result (List (List ℕ)) SourceKind
+text_item limit n ts =
+    if not (n == length ts) then Err kind.Range
+    else if not (nat_lt (length ts) limit) then Err kind.TooBig
+    else Ok (ts ++ [] ∷ [])
+
+-- A line that doesn't begin with `/` after an item of a section of texts. (A line that begins with `;` is none either, as
+-- it is a comment everywhere.)
+abbrev pub is_in_text : Spelt → Bool
+is_in_text d = is_text_section d.section && not (length (texts_of d.section d) == 0)
+
+-- a text and one line more: lines are joined by LF
+abbrev pub joined : Bool → List ℕ → List ℕ → List ℕ
+joined begun text line = text ++ (if begun then 10 ∷ line else line)
+
+-- at most 4,095 bytes
+abbrev pub joined_within : Bool → List ℕ → List ℕ → Result (List ℕ) SourceKind
+joined_within begun line text =
+    if nat_lt 4095 (length (joined begun text line)) then Err kind.TooBig else Ok (joined begun text line)
+
+-- the texts with one line more at the end of the last
+abbrev pub text_line : Bool → List ℕ → List (List ℕ) → Result (List (List ℕ)) SourceKind
+text_line begun line ts = joined_within begun line (last_or [] ts) >>= λ t. Ok (with_last t ts)

@@ -1,0 +1,48 @@
+-- Numbers.
+use Rattle.std.specs.Prelude.{ℕ, ◌+◌, ◌-◌, ◌*◌, ◌==◌, ◌&&◌, Bool, List, [], ◌∷◌, min, nat_lt, if◌then◌else◌, Option, Some, None, Result, Ok, Err}
+use Rattle.paw_base.specs.declared.fault.SourceKind.{SourceKind}
+use Rattle.paw_base.specs.declared.fault.SourceKind.TheVariants as kind
+use Rattle.paw_game.specs.Valid.{is_within}
+use Rattle.paw_grammar.specs.Tokens.{◌>>=◌, read_by}
+
+abbrev pub is_digit : ℕ → Bool
+is_digit b = is_within 48 57 b
+
+-- the number that these decimal digits make after the number n
+unfoldable pub number_from : ℕ → List ℕ → Option ℕ
+number_from n [] = Some n
+number_from n (d ∷ ds) = if is_digit d then number_from (n * 10 + (d - 48)) ds else None
+
+-- a number is one decimal digit or more, and counts by its value, however many zeros stand first
+abbrev pub number : List ℕ → Option ℕ
+number [] = None
+number (d ∷ ds) = number_from 0 (d ∷ ds)
+
+-- a number as four bytes hold it: 4,294,967,295 stands for every number above it too
+abbrev pub capped : Option ℕ → Option ℕ
+capped None = None
+capped (Some n) = Some (min n 4294967295)
+
+-- the next number, as four bytes hold it
+abbrev pub capped_number : List (List ℕ) → Result (ℕ × List (List ℕ)) SourceKind
+capped_number ts = read_by kind.Number (λ t. capped (number t)) ts
+
+-- a number that keeps its rule; Range where it doesn't
+abbrev pub in_range : (ℕ → Bool) → ℕ × List (List ℕ) → Result (ℕ × List (List ℕ)) SourceKind
+in_range rule n = if rule n.0 then Ok n else Err kind.Range
+
+-- a number that keeps a rule
+abbrev pub number_with : (ℕ → Bool) → List (List ℕ) → Result (ℕ × List (List ℕ)) SourceKind
+number_with rule ts = read_by kind.Number number ts >>= in_range rule
+
+-- a number from low to high
+abbrev pub number_within : ℕ → ℕ → List (List ℕ) → Result (ℕ × List (List ℕ)) SourceKind
+number_within low high ts = number_with (is_within low high) ts
+
+-- a number below a limit
+abbrev pub number_below : ℕ → List (List ℕ) → Result (ℕ × List (List ℕ)) SourceKind
+number_below limit ts = number_with (λ n. nat_lt n limit) ts
+
+-- the number of a row, n rows standing before it: n alone, and none where count rows are all that may come
+abbrev pub row_number : ℕ → ℕ → List (List ℕ) → Result (ℕ × List (List ℕ)) SourceKind
+row_number n count ts = number_with (λ m. (m == n) && nat_lt n count) ts

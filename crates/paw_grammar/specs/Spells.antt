@@ -1,0 +1,89 @@
+-- Which game a source spells, and which fault it has.
+use Rattle.std.specs.Prelude.{◌≡◌, ℕ, suc, ◌==◌, ◌&&◌, Bool, true, false, not, List, [], ◌∷◌, length, drop, nat_lt, if◌then◌else◌, Result, Ok, Err, codes}
+use Rattle.std.specs.List.{count_by}
+use Rattle.paw_base.specs.declared.fault.SourceKind.{SourceKind}
+use Rattle.paw_base.specs.declared.fault.SourceKind.TheVariants as kind
+use Rattle.paw_base.specs.declared.fault.SourceFault.{SourceFault}
+use Rattle.paw_game.specs.Game.{GameLists}
+use Rattle.paw_game.specs.Image.{image}
+use Rattle.paw_lex.specs.Bytes.{is_comment, has_forbidden_byte}
+use Rattle.paw_lex.specs.Lines.{lines_of}
+use Rattle.paw_lex.specs.Tokens.{is_blank, tokens_of}
+use Rattle.paw_grammar.specs.Tokens.{◌>>=◌, is_named}
+use Rattle.paw_grammar.specs.Numbers.{number}
+use Rattle.paw_grammar.specs.GrammarState.{Spelt, nothing_yet, game_of}
+use Rattle.paw_grammar.specs.GrammarTexts.{is_in_text, texts_of, with_texts, text_line}
+use Rattle.paw_grammar.specs.GrammarHeads.{slash_line}
+use Rattle.paw_grammar.specs.GrammarRows.{row_in}
+
+-- ---- one line ----
+
+-- a line that begins with `/`
+abbrev pub begins_with_slash : List ℕ → Bool
+begins_with_slash [] = false
+begins_with_slash (b ∷ bs) = b == 47
+
+-- a line that begins with a space or a tab
+abbrev pub begins_with_blank : List ℕ → Bool
+begins_with_blank [] = false
+begins_with_blank (b ∷ bs) = is_blank b
+
+-- a line of a text: not one that begins with `/`
+abbrev pub is_text_line : Spelt → List ℕ → Bool
+is_text_line d l = is_in_text d && not (begins_with_slash l)
+
+abbrev pub text_added : Spelt → List ℕ → Result Spelt SourceKind
+text_added d l = text_line d.begun l (texts_of d.section d) >>= λ ts. Ok (with_texts d.section true ts d)
+
+-- the tokens of a line; where there are none it is skipped
+abbrev pub tokens_added : ℕ → Spelt → Bool → Bool → List (List ℕ) → Result Spelt SourceKind
+tokens_added p d slash blank [] = Ok d
+tokens_added p d slash blank (t ∷ ts) =
+    if slash then slash_line d t (number (drop 1 t)) ts else row_in d.section p d blank (t ∷ ts)
+
+-- What is spelled after one line more, or the line's first fault. A comment spells nothing. A forbidden byte comes first.
+unfoldable pub step : ℕ → Spelt → List ℕ → Result Spelt SourceKind
+step p d l =
+    if is_comment l then Ok d
+    else if has_forbidden_byte (is_text_line d l) l then Err kind.Text
+    else if is_text_line d l then text_added d l
+    else tokens_added p d (begins_with_slash l) (begins_with_blank l) (tokens_of l)
+
+-- ---- all lines ----
+
+abbrev pub is_pro_token : List (List ℕ) → Bool
+is_pro_token [] = false
+is_pro_token (t ∷ ts) = is_named t (codes "/PRO")
+
+-- a line that begins with `/` and whose first token is `/PRO`
+abbrev pub begins_table : List ℕ → Bool
+begins_table l = begins_with_slash l && is_pro_token (tokens_of l)
+
+abbrev pub fault : ℕ → SourceKind → SourceFault
+fault line kind = record { line = line; kind = kind }
+
+abbrev pub at_line : ℕ → Result Spelt SourceKind → (Spelt → Result GameLists SourceFault) → Result GameLists SourceFault
+at_line n (Err k) go = Err (fault n k)
+at_line n (Ok d) go = go d
+
+-- what n lines spell, where no line has a fault: three tables at least, and an image of at most 4,194,304 bytes
+abbrev pub whole : ℕ → Spelt → Result GameLists SourceFault
+whole n d =
+    if nat_lt (length d.tables) 3 then Err (fault (suc n) kind.Missing)
+    else if nat_lt 4194304 (length (image (game_of d))) then Err (fault (suc n) kind.TooBig)
+    else Ok (game_of d)
+
+-- what is spelled by what n lines spell and the lines after them
+unfoldable pub reading : ℕ → ℕ → Spelt → List (List ℕ) → Result GameLists SourceFault
+reading p n d [] = whole n d
+reading p n d (l ∷ ls) = at_line (suc n) (step p d l) (λ e. reading p (suc n) e ls)
+
+-- The game that a source spells, or the line and the kind of its first fault. A parameter may name as many tables as lines
+-- begin one.
+unfoldable pub spelled : List ℕ → Result GameLists SourceFault
+spelled source =
+    if nat_lt 8388608 (length source) then Err (fault 0 kind.TooBig)
+    else reading (count_by begins_table (lines_of source)) 0 nothing_yet (lines_of source)
+
+abbrev pub Spells : List ℕ → GameLists → Type 0
+Spells source g = spelled source ≡ Ok g

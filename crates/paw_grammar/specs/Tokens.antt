@@ -1,0 +1,34 @@
+-- The tokens of a line, taken from left to right. What is read of them is a value, or the kind of the first fault.
+use Rattle.std.specs.Prelude.{ℕ, Bool, List, [], ◌∷◌, Option, Some, None, Result, Ok, Err}
+use Rattle.std.specs.Str.{str_eq_ignore_ascii_case}
+use Rattle.paw_base.specs.declared.fault.SourceKind.{SourceKind}
+use Rattle.paw_base.specs.declared.fault.SourceKind.TheVariants as kind
+
+-- what comes first has the first fault
+infixl 10 ◌>>=◌
+abbrev pub ◌>>=◌ : {A B : Type 0} → Result A SourceKind → (A → Result B SourceKind) → Result B SourceKind
+(Ok x) >>= f = f x
+(Err k) >>= f = Err k
+
+-- the next token, and those after it; Missing where the line ends
+abbrev pub token : List (List ℕ) → Result (List ℕ × List (List ℕ)) SourceKind
+token [] = Err kind.Missing
+token (t ∷ ts) = Ok (t, ts)
+
+-- the line ends; a token too many is Extra
+abbrev pub ended : List (List ℕ) → Result (Unit {0}) SourceKind
+ended [] = Ok tt
+ended (t ∷ ts) = Err kind.Extra
+
+-- what there is, beside the tokens that are left; where there is nothing, this fault
+abbrev pub or_fault : {A : Type 0} → SourceKind → List (List ℕ) → Option A → Result (A × List (List ℕ)) SourceKind
+or_fault k ts None = Err k
+or_fault k ts (Some x) = Ok (x, ts)
+
+-- what the next token means; where it means nothing, this fault
+abbrev pub read_by : {A : Type 0} → SourceKind → (List ℕ → Option A) → List (List ℕ) → Result (A × List (List ℕ)) SourceKind
+read_by k meaning ts = token ts >>= λ t. or_fault k t.1 (meaning t.0)
+
+-- the token is this name, in any case of letters
+abbrev pub is_named : List ℕ → List ℕ → Bool
+is_named t name = str_eq_ignore_ascii_case t name

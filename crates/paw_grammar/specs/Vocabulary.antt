@@ -1,0 +1,114 @@
+-- Words: how they are spelled, declared and looked up.
+use Rattle.std.specs.Prelude.{ℕ, ◌-◌, ◌==◌, ◌&&◌, ◌||◌, Bool, true, false, List, [], ◌∷◌, ◌++◌, length, take, replicate, nat_lt, is_some, if◌then◌else◌, Option, Some, None, Result, Ok, Err, codes, bytes_eq}
+use Rattle.std.specs.Char.{is_ascii_alphanumeric}
+use Rattle.std.specs.List.{list_all, position}
+use Rattle.std.specs.Ordering.{is_lt, nat_cmp}
+use Rattle.std.specs.Cmp.Lexicographic.{slice_cmp}
+use Rattle.paw_base.specs.declared.fault.SourceKind.{SourceKind}
+use Rattle.paw_base.specs.declared.fault.SourceKind.TheVariants as kind
+use Rattle.paw_base.specs.Condacts.{capitals}
+use Rattle.paw_game.specs.declared.parts.Word.{Word}
+use Rattle.paw_game.specs.Tables.{word_of}
+use Rattle.paw_grammar.specs.Tokens.{read_by, is_named}
+
+-- ---- spelling ----
+
+-- letters and digits; one at least
+abbrev pub is_word_token : List ℕ → Bool
+is_word_token t = nat_lt 0 (length t) && list_all is_ascii_alphanumeric t
+
+-- capitals, cut to five letters, filled up with spaces
+abbrev pub letters_of : List ℕ → List ℕ
+letters_of t = take 5 (capitals t) ++ replicate (5 - length t) 32
+
+-- the five letters of a token that spells a word
+abbrev pub letters_in : List ℕ → Option (List ℕ)
+letters_in t = if is_word_token t then Some (letters_of t) else None
+
+-- a word, declared or not
+abbrev pub word : List (List ℕ) → Result (List ℕ × List (List ℕ)) SourceKind
+word ts = read_by kind.Word letters_in ts
+
+-- the names of the classes 0 to 6
+abbrev pub class_names : List (List ℕ)
+class_names =
+    codes "VERB" ∷ codes "ADVERB" ∷ codes "NOUN" ∷ codes "ADJECTIVE" ∷ codes "PREPOSITION" ∷ codes "CONJUNCTION"
+    ∷ codes "PRONOUN" ∷ []
+
+-- the place of the name that the token is, in any case of letters
+abbrev pub place_among : List (List ℕ) → List ℕ → Option ℕ
+place_among names t = position (is_named t) names
+
+-- a class of words
+abbrev pub class : List (List ℕ) → Result (ℕ × List (List ℕ)) SourceKind
+class ts = read_by kind.Word (place_among class_names) ts
+
+-- what kind an object is: whether it is a container, and whether it may be worn
+abbrev pub kind_named : List ℕ → Option (Bool × Bool)
+kind_named t =
+    if is_named t (codes "-") then Some (false, false)
+    else if is_named t (codes "C") then Some (true, false)
+    else if is_named t (codes "W") then Some (false, true)
+    else if is_named t (codes "CW") then Some (true, true)
+    else None
+
+abbrev pub object_kind : List (List ℕ) → Result ((Bool × Bool) × List (List ℕ)) SourceKind
+object_kind ts = read_by kind.Word kind_named ts
+
+-- ---- declaring ----
+
+-- the words, which stand in order of their letters, with one more in its place
+unfoldable pub put : Word → List Word → List Word
+put w [] = w ∷ []
+put w (v ∷ vs) = if is_lt (slice_cmp nat_cmp w.letters v.letters) then w ∷ v ∷ vs else v ∷ put w vs
+
+-- some word has these letters, whatever its class
+abbrev pub is_declared : List ℕ → List Word → Bool
+is_declared letters ws = is_some (word_of letters ws)
+
+-- the words with one more: Duplicate where its letters are declared, TooBig where there are 2,000 words
+abbrev pub declared : Word → List Word → Result (List Word) SourceKind
+declared w ws =
+    if is_declared w.letters ws then Err kind.Duplicate
+    else if length ws == 2000 then Err kind.TooBig
+    else Ok (put w ws)
+
+-- ---- looking up ----
+
+-- the value of a word, where there is one and it has this class
+abbrev pub in_class : ℕ → Option Word → Option ℕ
+in_class class None = None
+in_class class (Some w) = if w.class == class then Some w.value else None
+
+-- a verb value: that of a verb, or of a noun below 20
+abbrev pub as_verb : Option Word → Option ℕ
+as_verb None = None
+as_verb (Some w) = if (w.class == 0) || ((w.class == 2) && nat_lt w.value 20) then Some w.value else None
+
+-- the declared word that a token spells
+abbrev pub known : List Word → List ℕ → Option Word
+known ws t = if is_word_token t then word_of (letters_of t) ws else None
+
+-- `_` is 255
+abbrev pub or_none : (List ℕ → Option ℕ) → List ℕ → Option ℕ
+or_none meaning t = if bytes_eq t (codes "_") then Some 255 else meaning t
+
+-- `*` is 1, and `_` is 255
+abbrev pub or_any : (List ℕ → Option ℕ) → List ℕ → Option ℕ
+or_any meaning t = if bytes_eq t (codes "*") then Some 1 else or_none meaning t
+
+-- an object's word, or one that is a parameter
+abbrev pub word_or_none : List Word → ℕ → List (List ℕ) → Result (ℕ × List (List ℕ)) SourceKind
+word_or_none ws class ts = read_by kind.Word (or_none (λ t. in_class class (known ws t))) ts
+
+-- the verb of an exit
+abbrev pub verb_word : List Word → List (List ℕ) → Result (ℕ × List (List ℕ)) SourceKind
+verb_word ws ts = read_by kind.Word (λ t. as_verb (known ws t)) ts
+
+-- the verb of an entry
+abbrev pub entry_verb : List Word → List (List ℕ) → Result (ℕ × List (List ℕ)) SourceKind
+entry_verb ws ts = read_by kind.Word (or_any (λ t. as_verb (known ws t))) ts
+
+-- the noun of an entry
+abbrev pub entry_noun : List Word → List (List ℕ) → Result (ℕ × List (List ℕ)) SourceKind
+entry_noun ws ts = read_by kind.Word (or_any (λ t. in_class 2 (known ws t))) ts

@@ -1,0 +1,10 @@
+-- The words that a map from letters to meanings holds.
+use Rattle.std.specs.Prelude.{ℕ, List, map}
+use Rattle.paw_game.specs.declared.parts.Word.{Word}
+use Rattle.paw_grammar.specs.declared.vocabulary.Meaning.{Meaning}
+
+abbrev pub word_from : List ℕ × Meaning → Word
+word_from e = record { letters = e.0; value = e.1.value; class = e.1.class }
+
+abbrev pub words_in : List (List ℕ × Meaning) → List Word
+words_in entries = map word_from entries
