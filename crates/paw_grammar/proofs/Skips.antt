@@ -1,0 +1,125 @@
+-- The condacts of a line, one after another.
+use Rattle.std.proofs.Common.{◌≡◌, ℕ, ◌≤◌, ◌+◌, min, nat_lt, Bool, List, [], ◌∷◌, ◌++◌, length, Option, Some, None, Result, Ok, Err, refl, sym, ap, subst, ◌∙◌, arith, append_assoc}
+use Rattle.std.proofs.lemmas.List.{append-nil}
+use Rattle.paw_base.specs.declared.fault.SourceKind.{SourceKind}
+use Rattle.paw_base.specs.declared.fault.SourceKind.TheVariants as fault
+use Rattle.paw_base.specs.declared.parts.Condact.{Condact}
+use Rattle.paw_base.specs.declared.rows.ParamKind.{ParamKind}
+use Rattle.paw_base.specs.declared.rows.ParamKind.TheVariants as kind
+use Rattle.paw_base.specs.Condacts.{code_named, first_kind, second_kind, param_count, params_of}
+use Rattle.paw_game.specs.declared.parts.Word.{Word}
+use Rattle.paw_grammar.specs.declared.bounds.Bounds.{Bounds}
+use Rattle.paw_grammar.specs.declared.refusal.ReadError.{ReadError}
+use Rattle.paw_grammar.specs.declared.refusal.ReadError.TheVariants as errors
+use Rattle.paw_grammar.specs.Gives.{Fails}
+use Rattle.paw_grammar.specs.Tokens.{◌>>=◌, or_fault, read_by}
+use Rattle.paw_grammar.specs.Numbers.{number, in_range, number_below}
+use Rattle.paw_grammar.specs.Vocabulary.{known, in_class, or_none}
+use Rattle.paw_grammar.proofs.Steps.{Reads, bound, pair_parts, meant, ranged}
+use Rattle.paw_grammar.specs.Condacts.{table, parameter, condact, condacts, joined}
+
+-- ---- each parameter that is there takes one token
+
+-- n tokens, none or one, stand before the rest
+data Takes (n : ℕ) (ts rest : List (List ℕ)) : Type 0 where
+  none : n ≡ 0 → ts ≡ rest → Takes n ts rest
+  one : (t : List ℕ) → n ≡ 1 → ts ≡ t ∷ rest → Takes n ts rest
+
+takes_meaning : {A : Type 0} (k : SourceKind) (meaning : List ℕ → Option A) (ts rest : List (List ℕ)) (x : A) → read_by k meaning ts ≡ Ok (x, rest) → Takes 1 ts rest
+takes_meaning {A} k meaning ts rest x e = let m = meant k meaning ts (x, rest) e in one m.first refl m.all
+
+takes_number : (rule : ℕ → Bool) (k : SourceKind) (meaning : List ℕ → Option ℕ) (ts rest : List (List ℕ)) (x : ℕ) → (read_by k meaning ts >>= in_range rule) ≡ Ok (x, rest) → Takes 1 ts rest
+takes_number rule k meaning ts rest x e = takes_meaning k meaning ts rest x (ranged rule (read_by k meaning ts) (x, rest) e).is
+
+takes_table : (tables : ℕ) (ts rest : List (List ℕ)) (x : ℕ) → table tables ts ≡ Ok (x, rest) → Takes 1 ts rest
+takes_table tables ts rest x e =
+    let b = bound (number_below tables ts) (λ n. Ok (min n.0 255, n.1)) (x, rest) e in
+    let same = (pair_parts (min b.value.0 255) x b.value.1 rest b.goes_on).1 in
+    takes_number (λ n. nat_lt n tables) fault.Number number ts rest b.value.0 (b.is ∙ ap (λ (us : List (List ℕ)). Ok (b.value.0, us)) same)
+
+takes : (bounds : Bounds) (ws : List Word) (k : ParamKind) (ts rest : List (List ℕ)) (x : ℕ) → parameter bounds ws k ts ≡ Ok (x, rest) → Takes (param_count k) ts rest
+takes bounds ws kind.Absent ts rest x e = none refl (pair_parts 0 x ts rest e).1
+takes bounds ws kind.Location ts rest x e = takes_number (λ n. nat_lt n bounds.locations) fault.Number number ts rest x e
+takes bounds ws kind.Place ts rest x e = takes_number _ fault.Number _ ts rest x e
+takes bounds ws kind.Object ts rest x e = takes_number (λ n. nat_lt n bounds.objects) fault.Number number ts rest x e
+takes bounds ws kind.Flag ts rest x e = takes_number (λ n. nat_lt n 256) fault.Number number ts rest x e
+takes bounds ws kind.Number ts rest x e = takes_number (λ n. nat_lt n 256) fault.Number number ts rest x e
+takes bounds ws kind.Message ts rest x e = takes_number (λ n. nat_lt n bounds.messages) fault.Number number ts rest x e
+takes bounds ws kind.System ts rest x e = takes_number (λ n. nat_lt n bounds.system) fault.Number number ts rest x e
+takes bounds ws kind.Table ts rest x e = takes_table bounds.tables ts rest x e
+takes bounds ws kind.Adverb ts rest x e = takes_meaning fault.Word (or_none (λ t. in_class 1 (known ws t))) ts rest x e
+takes bounds ws kind.Noun ts rest x e = takes_meaning fault.Word (or_none (λ t. in_class 2 (known ws t))) ts rest x e
+takes bounds ws kind.Adjective ts rest x e = takes_meaning fault.Word (or_none (λ t. in_class 3 (known ws t))) ts rest x e
+takes bounds ws kind.Preposition ts rest x e = takes_meaning fault.Word (or_none (λ t. in_class 4 (known ws t))) ts rest x e
+
+-- ---- a condact takes as many tokens as it has parameters
+
+-- the tokens rest are left of ts after n parameters
+pub record Left (bounds : Bounds) (ws : List Word) (n : ℕ) (ts rest : List (List ℕ)) : Type 0 where
+  pub same : condacts bounds ws n ts ≡ condacts bounds ws 0 rest
+  pub shorter : length rest ≤ length ts
+
+skips_two : (bounds : Bounds) (ws : List Word) (m n : ℕ) (ts us rest : List (List ℕ)) → Takes m ts us → Takes n us rest → Left bounds ws (m + n) ts rest
+unfolding condacts
+skips_two bounds ws m n ts us rest (none a b) (none c d) = record { same = rw (a, c, b, d) refl; shorter = rw (b, d) (omega arith) }
+skips_two bounds ws m n ts us rest (none a b) (one u c d) = record { same = rw (a, c, b, d) refl; shorter = rw (b, d) (omega arith) }
+skips_two bounds ws m n ts us rest (one t a b) (none c d) = record { same = rw (a, c, b, d) refl; shorter = rw (b, d) (omega arith) }
+skips_two bounds ws m n ts us rest (one t a b) (one u c d) = record { same = rw (a, c, b, d) refl; shorter = rw (b, d) (omega arith) }
+
+abbrev with_second : Bounds → List Word → ℕ → ℕ × List (List ℕ) → Reads Condact
+with_second bounds ws code a = parameter bounds ws (second_kind code) a.1 >>= λ b. Ok (record { code = code; a = a.0; b = b.0 }, b.1)
+
+abbrev with_first : Bounds → List Word → ℕ × List (List ℕ) → Reads Condact
+with_first bounds ws code = parameter bounds ws (first_kind code.0) code.1 >>= with_second bounds ws code.0
+
+rest_same : (k : SourceKind) (ts : List (List ℕ)) (o : Option ℕ) (x : ℕ × List (List ℕ)) → or_fault k ts o ≡ Ok x → ts ≡ x.1
+rest_same k ts None x e = absurd cc
+rest_same k ts (Some n) x e = (pair_parts n x.0 ts x.1 e).1
+
+pub skips : (bounds : Bounds) (ws : List Word) (name : List ℕ) (ts rest : List (List ℕ)) (c : Condact) → condact bounds ws name ts ≡ Ok (c, rest) → Left bounds ws (params_of c.code) ts rest
+unfolding condact
+skips bounds ws name ts rest c e =
+    let code = bound (or_fault fault.Condact ts (code_named name)) (with_first bounds ws) (c, rest) e in
+    let a = bound (parameter bounds ws (first_kind code.value.0) code.value.1) (with_second bounds ws code.value.0) (c, rest) code.goes_on in
+    let b = bound (parameter bounds ws (second_kind code.value.0) a.value.1) (λ b. Ok (record { code = code.value.0; a = a.value.0; b = b.0 }, b.1)) (c, rest) a.goes_on in
+    let made : Condact = record { code = code.value.0; a = a.value.0; b = b.value.0 } in
+    let parts = pair_parts made c b.value.1 rest b.goes_on in
+    let ts_same = rest_same fault.Condact ts (code_named name) code.value code.is in
+    let first = takes bounds ws (first_kind code.value.0) code.value.1 a.value.1 a.value.0 a.is in
+    let second = takes bounds ws (second_kind code.value.0) a.value.1 b.value.1 b.value.0 b.is in
+    let two = skips_two bounds ws (param_count (first_kind code.value.0)) (param_count (second_kind code.value.0)) code.value.1 a.value.1 b.value.1 first second in
+    subst (λ (us : List (List ℕ)). Left bounds ws (params_of c.code) us rest) (sym ts_same)
+    (subst (λ (d : Condact). Left bounds ws (params_of d.code) code.value.1 rest) parts.0
+    (subst (λ (us : List (List ℕ)). Left bounds ws (params_of code.value.0) code.value.1 us) parts.1 two))
+
+-- ---- the loop over the condacts
+
+-- one condact more
+one_more : (bounds : Bounds) (ws : List Word) (cs : List Condact) (name : List ℕ) (ts rest : List (List ℕ)) (c : Condact) → condact bounds ws name ts ≡ Ok (c, rest)
+    → joined cs (condacts bounds ws 0 (name ∷ ts)) ≡ joined (cs ++ c ∷ []) (condacts bounds ws 0 rest)
+unfolding condacts
+one_more bounds ws cs name ts rest c e =
+    rw (e, (skips bounds ws name ts rest c e).same)
+    (elim (condacts bounds ws 0 rest) as (λ r. joined cs (r >>= λ ds. Ok (c ∷ ds)) ≡ joined (cs ++ c ∷ []) r) [
+      | Ok ds ↦ ap Ok (sym (append_assoc cs (c ∷ []) ds))
+      | Err k ↦ refl
+    ])
+
+-- a condact with a fault
+one_fault : (bounds : Bounds) (ws : List Word) (cs : List Condact) (name : List ℕ) (ts : List (List ℕ)) (k : SourceKind) → condact bounds ws name ts ≡ Err k → joined cs (condacts bounds ws 0 (name ∷ ts)) ≡ Err k
+unfolding condacts
+one_fault bounds ws cs name ts k e = rw e refl
+
+pub fails_here : (bounds : Bounds) (ws : List Word) (cs : List Condact) (name : List ℕ) (ts old : List (List ℕ)) (whole : Result (List Condact) SourceKind) (e : ReadError) → old ≡ name ∷ ts → joined cs (condacts bounds ws 0 old) ≡ whole → Fails e (condact bounds ws name ts) → Fails e whole
+fails_here bounds ws cs name ts old whole errors.NoRoom next invariant fails = tt
+fails_here bounds ws cs name ts old whole (errors.Fault k) next invariant fails =
+    sym invariant ∙ ap (λ (x : List (List ℕ)). joined cs (condacts bounds ws 0 x)) next ∙ one_fault bounds ws cs name ts k fails
+
+pub goes_on : (bounds : Bounds) (ws : List Word) (cs more : List Condact) (name : List ℕ) (ts old rest : List (List ℕ)) (c : Condact) (whole : Result (List Condact) SourceKind) → old ≡ name ∷ ts → joined cs (condacts bounds ws 0 old) ≡ whole → condact bounds ws name ts ≡ Ok (c, rest) → more ≡ cs ++ c ∷ [] → joined more (condacts bounds ws 0 rest) ≡ whole
+goes_on bounds ws cs more name ts old rest c whole next invariant is pushed =
+    ap (λ (x : List Condact). joined x (condacts bounds ws 0 rest)) pushed ∙ sym (one_more bounds ws cs name ts rest c is) ∙ ap (λ (x : List (List ℕ)). joined cs (condacts bounds ws 0 x)) (sym next) ∙ invariant
+
+pub at_end : (bounds : Bounds) (ws : List Word) (cs : List Condact) (old : List (List ℕ)) (whole : Result (List Condact) SourceKind) → old ≡ [] → joined cs (condacts bounds ws 0 old) ≡ whole → whole ≡ Ok cs
+unfolding condacts
+at_end bounds ws cs old whole empty invariant =
+    sym invariant ∙ ap (λ (x : List (List ℕ)). joined cs (condacts bounds ws 0 x)) empty ∙ ap Ok (append-nil cs)

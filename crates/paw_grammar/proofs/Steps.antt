@@ -1,0 +1,55 @@
+-- What is read where it succeeds.
+use Rattle.std.proofs.Common.{◌≡◌, ℕ, Bool, true, false, cond, List, [], ◌∷◌, Option, Some, None, Result, Ok, Err, refl, sym, ap, ◌∙◌}
+use Rattle.paw_base.specs.declared.fault.SourceKind.{SourceKind}
+use Rattle.paw_base.specs.declared.fault.SourceKind.TheVariants as fault
+use Rattle.paw_grammar.specs.Tokens.{◌>>=◌, or_fault, read_by}
+use Rattle.paw_grammar.specs.Numbers.{in_range}
+
+-- a read value, and the tokens that are left
+abbrev pub Reads : Type 0 → Type 0
+Reads A = Result (A × List (List ℕ)) SourceKind
+
+-- where two steps succeed, the first gave a value, and the second went on from it
+pub record Bound {A B : Type 0} (r : Result A SourceKind) (f : A → Result B SourceKind) (y : B) : Type 0 where
+  pub value : A
+  pub is : r ≡ Ok value
+  pub goes_on : f value ≡ Ok y
+
+pub bound : {A B : Type 0} (r : Result A SourceKind) (f : A → Result B SourceKind) (y : B) → (r >>= f) ≡ Ok y → Bound r f y
+bound (Err k) f y e = absurd cc
+bound (Ok x) f y e = record { value = x; is = refl; goes_on = e }
+
+pub pair_parts : {A B : Type 0} (a c : A) (b d : B) → ◌≡◌ {A = Result (A × B) SourceKind} (Ok (a, b)) (Ok (c, d)) → (a ≡ c) × (b ≡ d)
+pair_parts {A} {B} a c b d e = let f : ◌≡◌ {A = A × B} (a, b) (c, d) = cc in (ap (λ x. x.0) f, ap (λ x. x.1) f)
+
+-- the first token means the value, and the others are left
+pub record Meant {A : Type 0} (meaning : List ℕ → Option A) (ts : List (List ℕ)) (x : A × List (List ℕ)) : Type 0 where
+  pub first : List ℕ
+  pub all : ts ≡ first ∷ x.1
+  pub means : meaning first ≡ Some x.0
+
+pub meant : {A : Type 0} (k : SourceKind) (meaning : List ℕ → Option A) (ts : List (List ℕ)) (x : A × List (List ℕ)) → read_by k meaning ts ≡ Ok x → Meant meaning ts x
+meant {A} k meaning [] x e = absurd cc
+meant {A} k meaning (t ∷ ts) x e =
+    elim (meaning t) as (λ o. meaning t ≡ o → or_fault k ts o ≡ Ok x → Meant meaning (t ∷ ts) x) [
+      | None ↦ λ m f. absurd cc
+      | Some y ↦ λ m f. let parts = pair_parts y x.0 ts x.1 f in record { first = t; all = ap (λ us. t ∷ us) parts.1; means = m ∙ ap Some parts.0 }
+    ] refl e
+
+kept_by : (rule : ℕ → Bool) (n m : ℕ × List (List ℕ)) → in_range rule n ≡ Ok m → (n ≡ m) × (rule n.0 ≡ true)
+kept_by rule n m e =
+    elim (rule n.0) as (λ b. rule n.0 ≡ b → ◌≡◌ {A = Reads ℕ} (cond b (Ok n) (Err fault.Range)) (Ok m) → (n ≡ m) × (rule n.0 ≡ true)) [
+      | true ↦ λ h f. (cc, h)
+      | false ↦ λ h f. absurd cc
+    ] refl e
+
+-- a value in range was read, and keeps the rule
+pub record Ranged (rule : ℕ → Bool) (r : Reads ℕ) (x : ℕ × List (List ℕ)) : Type 0 where
+  pub is : r ≡ Ok x
+  pub keeps : rule x.0 ≡ true
+
+pub ranged : (rule : ℕ → Bool) (r : Reads ℕ) (x : ℕ × List (List ℕ)) → (r >>= in_range rule) ≡ Ok x → Ranged rule r x
+ranged rule r x e =
+    let b = bound r (in_range rule) x e in
+    let two = kept_by rule b.value x b.goes_on in
+    record { is = b.is ∙ ap Ok two.0; keeps = ap (λ (n : ℕ × List (List ℕ)). rule n.0) (sym two.0) ∙ two.1 }

@@ -1,0 +1,9 @@
+use Rattle.std.proofs.Common.{◌≡◌, ◌≤◌, drop}
+use Rattle.paw_grammar.specs.Numbers.{number, number_from, capped}
+use Rattle.paw_grammar.proofs.numbers.number.Given as goal
+
+abbrev pub invariant-loop-byte : goal.invariant-loop-byte
+invariant-loop-byte l = record {
+  same : capped (number_from l.number (drop l.byte-index l.token)) ≡ capped (number l.token);
+  small : l.number ≤ 4294967295;
+}

@@ -1,0 +1,121 @@
+// The condacts of a line.
+
+ghost use Rattle.std.specs.Prelude.{◌≡◌, ◌≤◌, min};
+ghost use Rattle.paw_grammar.specs.Gives.{Gives};
+ghost use Rattle.paw_grammar.specs.Numbers.{number_below};
+ghost use Rattle.paw_grammar.specs.Vocabulary.{word_or_none};
+ghost use Rattle.paw_grammar.specs.Condacts.{AreSmall, table, parameter, condact, condacts, joined, at_most_255, more_condacts};
+
+use crate::bounds::Bounds;
+use crate::numbers::{byte_below, number_below};
+use crate::places::place;
+use crate::refusal::ReadError;
+use crate::tokens::Tokens;
+use crate::vocabulary::Vocabulary;
+use crate::words::{ADJECTIVE, ADVERB, NOUN, PREPOSITION};
+use paw_base::fault::SourceKind;
+use paw_base::parts::Condact;
+use paw_base::rows::{ParamKind, condact_named, condact_row};
+use paw_game::limits::CONDACT_LIMIT;
+
+/// How many values flags, and numbers, have.
+const BYTES: u16 = 256;
+
+/// Takes the number of a table; 255 stands for one that is above.
+fn table(tokens: &mut Tokens, tables: u32) -> Result<u8, ReadError>
+    ensures { Gives (λ n. (n, tokens.new)) result (table tables tokens.old) }
+{
+    let number = number_below(tokens, tables)?;
+    Ok(number.min(u32::from(u8::MAX)) as u8)
+}
+
+/// Takes a parameter of this kind.
+fn parameter(
+    bounds: &Bounds,
+    words: &Vocabulary,
+    kind: ParamKind,
+    tokens: &mut Tokens,
+) -> Result<u8, ReadError>
+    requires { AreSmall bounds.now }
+    ensures { Gives (λ n. (n, tokens.new)) result (parameter bounds.now words.now kind tokens.old) }
+{
+    match kind {
+        ParamKind::Absent => Ok(0),
+        ParamKind::Location => byte_below(tokens, bounds.locations),
+        ParamKind::Place => place(tokens, bounds.locations),
+        ParamKind::Object => byte_below(tokens, bounds.objects),
+        ParamKind::Flag => byte_below(tokens, BYTES),
+        ParamKind::Number => byte_below(tokens, BYTES),
+        ParamKind::Message => byte_below(tokens, bounds.messages),
+        ParamKind::System => byte_below(tokens, bounds.system),
+        ParamKind::Table => table(tokens, bounds.tables),
+        ParamKind::Adverb => words.word_or_none(ADVERB, tokens),
+        ParamKind::Noun => words.word_or_none(NOUN, tokens),
+        ParamKind::Adjective => words.word_or_none(ADJECTIVE, tokens),
+        ParamKind::Preposition => words.word_or_none(PREPOSITION, tokens),
+    }
+}
+
+/// Takes the parameters of the condact with this name.
+#[tactic(auto, unfolding(crate::specs::Condacts::condact))]
+fn condact(
+    bounds: &Bounds,
+    words: &Vocabulary,
+    name: &[u8],
+    tokens: &mut Tokens,
+) -> Result<Condact, ReadError>
+    requires { AreSmall bounds.now }
+    ensures { Gives (λ c. (c, tokens.new)) result (condact bounds.now words.now name.now tokens.old) }
+{
+    let Some(code) = condact_named(name) else {
+        return Err(ReadError::Fault(SourceKind::Condact));
+    };
+    let Some(row) = condact_row(code) else {
+        return Err(ReadError::Fault(SourceKind::Condact));
+    };
+    let a = parameter(bounds, words, row.first, tokens)?;
+    let b = parameter(bounds, words, row.second, tokens)?;
+    Ok(Condact { code, a, b })
+}
+
+/// Takes all condacts up to the end of the line, and adds them.
+fn add_condacts(
+    bounds: &Bounds,
+    words: &Vocabulary,
+    tokens: &mut Tokens,
+    rows: &mut Vec<Condact>,
+) -> Result<(), ReadError>
+    requires { AreSmall bounds.now }
+    ensures { Gives (λ _. rows.new.items) result (joined rows.old.items (condacts bounds.now words.now 0 tokens.old)) }
+{
+    while let Some(name) = tokens.next() {
+        match condact(bounds, words, name, tokens) {
+            Err(error) => return Err(error),
+            Ok(condact) => rows.push(condact)?,
+        }
+    }
+    Ok(())
+}
+
+/// Takes all condacts up to the end of the line, and adds them to those of their entry.
+///
+/// # Errors
+/// The line's first fault, token by token: Condact where a name is none of the 108, and of a parameter Missing, and Word,
+/// Number or Range by its kind. TooBig where no token has a fault and the entry would have more than 255 condacts. NoRoom
+/// where there is no memory. What the entry then holds is open.
+#[tactic(auto, unfolding(crate::specs::Condacts::more_condacts))]
+pub fn more_condacts(
+    bounds: &Bounds,
+    words: &Vocabulary,
+    tokens: &mut Tokens,
+    rows: &mut Vec<Condact>,
+) -> Result<(), ReadError>
+    requires { AreSmall bounds.now }
+    ensures { Gives (λ _. rows.new.items) result (more_condacts bounds.now words.now rows.old.items tokens.old) }
+{
+    add_condacts(bounds, words, tokens, rows)?;
+    if rows.len() > CONDACT_LIMIT {
+        return Err(ReadError::Fault(SourceKind::TooBig));
+    }
+    Ok(())
+}

@@ -1,0 +1,83 @@
+// Places, by number or by name.
+
+ghost use Rattle.std.specs.Prelude.{◌≡◌, ◌<◌, ◌≤◌, ◌+◌, length};
+ghost use Rattle.std.specs.List.{position};
+ghost use Rattle.paw_grammar.specs.Gives.{Gives};
+ghost use Rattle.paw_grammar.specs.Tokens.{is_named};
+ghost use Rattle.paw_grammar.specs.Numbers.{number, capped};
+ghost use Rattle.paw_grammar.specs.Condacts.{or_named, first_place, place, place_up_to};
+
+use crate::numbers::number;
+use crate::refusal::ReadError;
+use crate::tokens::Tokens;
+use crate::words::place_among;
+use paw_base::fault::SourceKind;
+
+/// The names of the places 252 to 255.
+static PLACE_NAMES: [&[u8]; 4] = [b"NOTCREATED", b"WORN", b"CARRIED", b"HERE"];
+
+/// The names of the places 252 to 254, where an object may be at first.
+static FIRST_PLACE_NAMES: [&[u8]; 3] = [b"NOTCREATED", b"WORN", b"CARRIED"];
+
+/// The place with the first of the names.
+const FIRST_NAMED: u32 = 252;
+
+/// The number that a token is, or the place with the name that it is.
+fn place_by(names: &[&[u8]], token: &[u8]) -> Option<u32>
+    requires { length names.now ≤ 4 }
+    ensures { result ≡ capped (or_named (number token.now) (position (λ name. is_named token.now name.now) names.now)) }
+{
+    match number(token) {
+        Some(number) => Some(number),
+        None => {
+            let name = place_among(names, token)?;
+            Some(FIRST_NAMED + name as u32)
+        }
+    }
+}
+
+/// Takes a place: a location, or one from 252 on that has one of these names, by number or by name.
+fn named_place(tokens: &mut Tokens, names: &[&[u8]], locations: u16) -> Result<u8, ReadError>
+    requires locations { locations ≤ 256 }
+    requires names { length names.now ≤ 4 }
+    requires some { 0 < length names.now }
+    ensures { Gives (λ place. (place, tokens.new)) result
+        (place_up_to (251 + length names.now) (λ t. position (λ name. is_named t name.now) names.now) locations tokens.old) }
+{
+    let token = tokens.token()?;
+    match place_by(names, token) {
+        None => Err(ReadError::Fault(SourceKind::Number)),
+        Some(place) => {
+            if place < u32::from(locations)
+                || FIRST_NAMED <= place && place < FIRST_NAMED + names.len() as u32
+            {
+                Ok(place as u8)
+            } else {
+                Err(ReadError::Fault(SourceKind::Range))
+            }
+        }
+    }
+}
+
+/// Takes the first place of an object: a location, or 252 to 254, which may be written `NOTCREATED`, `WORN`, `CARRIED`.
+///
+/// # Errors
+/// Missing, Number or Range, by this order, exactly where the line ends, the token is neither a number nor such a name, or it
+/// is the number of no such place.
+pub fn first_place(tokens: &mut Tokens, locations: u16) -> Result<u8, ReadError>
+    requires { locations ≤ 256 }
+    ensures { Gives (λ place. (place, tokens.new)) result (first_place locations tokens.old) }
+{
+    named_place(tokens, &FIRST_PLACE_NAMES, locations)
+}
+
+/// Takes a place that is a parameter: as a first place, or 255, which may be written `HERE`.
+///
+/// # Errors
+/// As `first_place`.
+pub fn place(tokens: &mut Tokens, locations: u16) -> Result<u8, ReadError>
+    requires { locations ≤ 256 }
+    ensures { Gives (λ place. (place, tokens.new)) result (place locations tokens.old) }
+{
+    named_place(tokens, &PLACE_NAMES, locations)
+}

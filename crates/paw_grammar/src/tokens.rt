@@ -1,0 +1,97 @@
+// The tokens of a line, taken from left to right.
+
+ghost use Rattle.std.specs.Prelude.{◌≡◌, ◌∷◌, [], MatchOption};
+ghost use Rattle.paw_lex.specs.Lines.{bytes_of, LiesIn};
+ghost use Rattle.paw_lex.specs.Tokens.{tokens_of, tokens_from};
+ghost use Rattle.paw_grammar.specs.Gives.{Gives};
+ghost use Rattle.paw_grammar.specs.Tokens.{token, ended, is_named};
+
+use crate::refusal::ReadError;
+use paw_base::fault::SourceKind;
+use paw_lex::{Line, next_token};
+use std::marker::Model;
+
+/// The tokens of a line that are left; contracts see their list.
+#[derive(Drop)]
+pub struct Tokens<'a> {
+    source: &'a [u8],
+    line: Line,
+    // the line's first place, or the place after the token that was taken last
+    at: usize,
+}
+
+impl<'a> Model for Tokens<'a> {
+    ghost use Rattle.std.specs.Prelude.{List, ℕ, ◌≤◌, length};
+    ghost use Rattle.paw_lex.specs.Lines.{LiesIn};
+    ghost use Rattle.paw_lex.specs.Tokens.{tokens_from};
+
+    ghost Value = { List (List ℕ) };
+
+    ghost view = { λ t. tokens_from t.source.now t.line t.at };
+
+    ghost invariant = { λ t. record {
+      span : LiesIn t.source.now t.line;
+      begun : t.line.from ≤ t.at;
+      inside : t.at ≤ t.line.to;
+    } };
+}
+
+impl<'a> Tokens<'a> {
+    /// All tokens of a line of the source.
+    pub fn new(source: &'a [u8], line: &Line) -> Tokens<'a>
+        requires { LiesIn source.now line.now }
+        ensures { result ≡ tokens_of (bytes_of source.now line.now) }
+    {
+        Tokens {
+            source,
+            line: *line,
+            at: line.from,
+        }
+    }
+
+    /// Takes the next token, or answers `None` exactly where none is left.
+    pub fn next(&mut self) -> Option<&'a [u8]>
+        ensures { MatchOption result ((self.old ≡ []) × (self.new ≡ [])) (λ t. self.old ≡ t.now ∷ self.new) }
+    {
+        match next_token(self.source, &self.line, self.at) {
+            None => None,
+            Some(token) => {
+                self.at = token.to;
+                Some(&self.source[token.from..token.to])
+            }
+        }
+    }
+
+    /// Takes the next token.
+    ///
+    /// # Errors
+    /// Missing exactly where none is left.
+    pub fn token(&mut self) -> Result<&'a [u8], ReadError>
+        ensures { Gives (λ t. (t.now, self.new)) result (token self.old) }
+    {
+        match self.next() {
+            None => Err(ReadError::Fault(SourceKind::Missing)),
+            Some(token) => Ok(token),
+        }
+    }
+
+    /// Ends the line.
+    ///
+    /// # Errors
+    /// Extra exactly where a token is left.
+    pub fn ended(&mut self) -> Result<(), ReadError>
+        ensures { Gives (λ _. tt) result (ended self.old) }
+    {
+        match self.next() {
+            None => Ok(()),
+            Some(_) => Err(ReadError::Fault(SourceKind::Extra)),
+        }
+    }
+}
+
+/// Whether a token is this name, in any case of letters.
+pub fn is_named(token: &[u8], name: &[u8]) -> bool
+    ensures { result ≡ is_named token.now name.now }
+{
+    token.eq_ignore_ascii_case(name)
+}

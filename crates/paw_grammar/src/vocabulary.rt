@@ -1,0 +1,245 @@
+// The words that were declared.
+
+ghost use Rattle.std.specs.Prelude.{◌≡◌, [], length, None, Ok, IfOk};
+ghost use Rattle.std.specs.Option.{ok_or};
+ghost use Rattle.paw_game.specs.Tables.{word_of};
+ghost use Rattle.paw_grammar.specs.Gives.{Gives};
+ghost use Rattle.paw_grammar.specs.Tokens.{read_by};
+ghost use Rattle.paw_grammar.specs.Vocabulary.{put, declared, known, in_class, as_verb, or_none, or_any, word_or_none, verb_word, entry_verb, entry_noun};
+ghost use Rattle.paw_grammar.specs.WordMap.{words_in};
+
+use crate::refusal::ReadError;
+use crate::tokens::Tokens;
+use crate::words::{LETTERS, NOUN, VERB, letters_in};
+use paw_base::fault::{NoRoom, SourceKind};
+use paw_game::limits::WORD_LIMIT;
+use paw_game::parts::Word;
+use std::alloc::Global;
+use std::collections::BTreeMap;
+use std::marker::Model;
+
+/// Nouns below this value are verbs too.
+const VERB_NOUN_LIMIT: u8 = 20;
+
+/// What stands for any word at all.
+const ANY: u8 = 1;
+
+/// What stands for no word.
+const NONE: u8 = 255;
+
+/// What a word means: its value, and its class.
+#[derive(Clone, Copy, Drop, PartialEq, Eq, Debug)]
+struct Meaning {
+    value: u8,
+    class: u8,
+}
+
+fn find(words: &BTreeMap<[u8; LETTERS], Meaning>, letters: [u8; LETTERS]) -> Option<Word>
+    ensures { result ≡ word_of letters (words_in words.now.entries) }
+{
+    match words.get(&letters) {
+        None => None,
+        Some(meaning) => Some(Word {
+            letters,
+            value: meaning.value,
+            class: meaning.class,
+        }),
+    }
+}
+
+fn count(words: &BTreeMap<[u8; LETTERS], Meaning>) -> usize
+    ensures { result ≡ length (words_in words.now.entries) }
+{
+    words.len()
+}
+
+/// Puts a word that isn't among the words in its place.
+fn put(words: &mut BTreeMap<[u8; LETTERS], Meaning>, word: Word) -> Result<(), ReadError>
+    requires { word_of word.letters (words_in words.old.entries) ≡ None }
+    ensures { Gives (λ _. words_in words.new.entries) result (Ok (put word (words_in words.old.entries))) }
+{
+    let meaning = Meaning {
+        value: word.value,
+        class: word.class,
+    };
+    match words.insert(word.letters, meaning) {
+        Ok(_) => Ok(()),
+        Err(_) => Err(ReadError::NoRoom),
+    }
+}
+
+/// The words in order of their letters.
+fn listed(alloc: Global, words: &BTreeMap<[u8; LETTERS], Meaning>) -> Result<Vec<Word>, NoRoom>
+    ensures { IfOk result (λ list. list.items ≡ words_in words.now.entries) }
+{
+    let mut list = Vec::with_capacity(alloc, words.len())?;
+    for (letters, meaning) in words {
+        list.push(Word {
+            letters: *letters,
+            value: meaning.value,
+            class: meaning.class,
+        })?;
+    }
+    Ok(list)
+}
+
+/// The value of a word, where there is one and it has this class.
+fn in_class(class: u8, word: Option<Word>) -> Option<u8>
+    ensures { result ≡ in_class class word }
+{
+    match word {
+        Some(word) if word.class == class => Some(word.value),
+        _ => None,
+    }
+}
+
+/// The value of a word, where there is one and it is a verb or a noun below 20.
+fn as_verb(word: Option<Word>) -> Option<u8>
+    ensures { result ≡ as_verb word }
+{
+    let word = word?;
+    if word.class == VERB || word.class == NOUN && word.value < VERB_NOUN_LIMIT {
+        Some(word.value)
+    } else {
+        None
+    }
+}
+
+/// The value, or Word where there is none.
+fn or_word_fault(value: Option<u8>) -> Result<u8, ReadError>
+    ensures { result ≡ ok_or value (ReadError.Fault SourceKind.Word) }
+{
+    match value {
+        Some(value) => Ok(value),
+        None => Err(ReadError::Fault(SourceKind::Word)),
+    }
+}
+
+/// The declared words, no two with the same letters; contracts see them as a list in order of their letters.
+#[derive(Drop)]
+pub struct Vocabulary {
+    words: BTreeMap<[u8; LETTERS], Meaning>,
+}
+
+impl Model for Vocabulary {
+    ghost use Rattle.std.specs.Prelude.{List};
+    ghost use Rattle.paw_game.specs.declared.parts.Word.{Word};
+    ghost use Rattle.paw_grammar.specs.WordMap.{words_in};
+
+    ghost Value = { List Word };
+
+    ghost view = { λ v. words_in v.words.entries };
+}
+
+impl Vocabulary {
+    /// No words.
+    pub fn new(alloc: Global) -> Vocabulary
+        ensures { result ≡ [] }
+    {
+        Vocabulary {
+            words: BTreeMap::new(alloc),
+        }
+    }
+
+    /// Declares a word.
+    ///
+    /// # Errors
+    /// Duplicate exactly where its letters are declared, of whatever class, and else TooBig exactly where there are 2,000
+    /// words. NoRoom where there is no memory.
+    pub fn declare(&mut self, word: Word) -> Result<(), ReadError>
+        ensures { Gives (λ _. self.new) result (declared word self.old) }
+    {
+        if find(&self.words, word.letters).is_some() {
+            return Err(ReadError::Fault(SourceKind::Duplicate));
+        }
+        if count(&self.words) == WORD_LIMIT {
+            return Err(ReadError::Fault(SourceKind::TooBig));
+        }
+        put(&mut self.words, word)
+    }
+
+    /// The words in order of their letters.
+    ///
+    /// # Errors
+    /// NoRoom where there is no memory.
+    pub fn into_words(self, alloc: Global) -> Result<Vec<Word>, NoRoom>
+        ensures { IfOk result (λ list. list.items ≡ self) }
+    {
+        listed(alloc, &self.words)
+    }
+
+    /// The declared word that a token spells.
+    fn known(&self, token: &[u8]) -> Option<Word>
+        ensures { result ≡ known self.now token.now }
+    {
+        let letters = letters_in(token)?;
+        find(&self.words, letters)
+    }
+
+    fn word_value(&self, class: u8, token: &[u8]) -> Option<u8>
+        ensures { result ≡ in_class class (known self.now token.now) }
+    {
+        in_class(class, self.known(token))
+    }
+
+    fn verb_value(&self, token: &[u8]) -> Option<u8>
+        ensures { result ≡ as_verb (known self.now token.now) }
+    {
+        as_verb(self.known(token))
+    }
+
+    /// Takes an object's word, or one that is a parameter: 255 for `_`, and else the value of the word of this class.
+    ///
+    /// # Errors
+    /// Missing exactly where the line ends, and Word exactly where the token is no such word.
+    pub fn word_or_none(&self, class: u8, tokens: &mut Tokens) -> Result<u8, ReadError>
+        ensures { Gives (λ value. (value, tokens.new)) result (word_or_none self.now class tokens.old) }
+    {
+        let token = tokens.token()?;
+        match token {
+            [b'_'] => Ok(NONE),
+            _ => or_word_fault(self.word_value(class, token)),
+        }
+    }
+
+    /// Takes the verb of an exit: the value of a verb, or of a noun below 20.
+    ///
+    /// # Errors
+    /// As `word_or_none`.
+    pub fn verb_word(&self, tokens: &mut Tokens) -> Result<u8, ReadError>
+        ensures { Gives (λ value. (value, tokens.new)) result (verb_word self.now tokens.old) }
+    {
+        let token = tokens.token()?;
+        or_word_fault(self.verb_value(token))
+    }
+
+    /// Takes the verb of an entry: 1 for `*`, 255 for `_`, and else the value of a verb, or of a noun below 20.
+    ///
+    /// # Errors
+    /// As `word_or_none`.
+    pub fn entry_verb(&self, tokens: &mut Tokens) -> Result<u8, ReadError>
+        ensures { Gives (λ value. (value, tokens.new)) result (entry_verb self.now tokens.old) }
+    {
+        let token = tokens.token()?;
+        match token {
+            [b'*'] => Ok(ANY),
+            [b'_'] => Ok(NONE),
+            _ => or_word_fault(self.verb_value(token)),
+        }
+    }
+
+    /// Takes the noun of an entry: 1 for `*`, 255 for `_`, and else the value of a noun.
+    ///
+    /// # Errors
+    /// As `word_or_none`.
+    pub fn entry_noun(&self, tokens: &mut Tokens) -> Result<u8, ReadError>
+        ensures { Gives (λ value. (value, tokens.new)) result (entry_noun self.now tokens.old) }
+    {
+        let token = tokens.token()?;
+        match token {
+            [b'*'] => Ok(ANY),
+            [b'_'] => Ok(NONE),
+            _ => or_word_fault(self.word_value(NOUN, token)),
+        }
+    }
+}
