@@ -1,0 +1,467 @@
+-- What the lines spell keeps the rules of a game, line by line.
+use Rattle.std.proofs.Common.{◌≡◌, ℕ, zero, suc, ◌+◌, ◌-◌, ◌<◌, ◌≤◌, Bool, true, false, cond, not, ◌&&◌, ◌||◌, eqb, ltb, List, [], ◌∷◌, ◌++◌, length, replicate, drop, Option, Some, None, Result, Ok, Err, refl, sym, ap, subst, ◌∙◌, arith}
+use Rattle.std.specs.Prelude.{nat_lt}
+use Rattle.std.specs.List.{list_all}
+use Rattle.std.proofs.lemmas.Bool.{eqb-false}
+use Rattle.std.proofs.lemmas.Bool.Decides.{nat_tests}
+use Rattle.std.proofs.lemmas.List.{length-append, length-set, length-replicate}
+use Rattle.std.proofs.lemmas.List.Folds.{list_all-append}
+use Rattle.paw_base.specs.declared.fault.SourceKind.{SourceKind}
+use Rattle.paw_base.specs.declared.fault.SourceKind.TheVariants as kind
+use Rattle.paw_game.specs.declared.parts.Word.{Word}
+use Rattle.paw_game.specs.declared.parts.Exit.{Exit}
+use Rattle.paw_game.specs.declared.parts.Entry.{Entry}
+use Rattle.paw_game.specs.Game.{GameLists}
+use Rattle.paw_game.specs.Valid.{words_kept, is_text, is_exits, are_facts, is_table}
+use Rattle.paw_lex.specs.Bytes.{is_comment, has_forbidden_byte}
+use Rattle.paw_lex.specs.Tokens.{tokens_of}
+use Rattle.paw_grammar.specs.declared.section.Section.{Section}
+use Rattle.paw_grammar.specs.declared.section.Section.TheVariants as section
+use Rattle.paw_grammar.specs.Tokens.{◌>>=◌, token, ended, is_named}
+use Rattle.paw_grammar.specs.Numbers.{number}
+use Rattle.paw_grammar.specs.GrammarState.{Spelt, last_or, with_last}
+use Rattle.paw_grammar.specs.GrammarTexts.{texts_of, with_texts, text_limit, text_item, text_line, is_in_text}
+use Rattle.paw_grammar.specs.GrammarHeads.{next_section, header_name, opened, plain_header, con_header, lacks_rows, table_header, pro_header, header_of, header, new_text, new_exits, item_in, is_letters, slash_line}
+use Rattle.paw_grammar.specs.GrammarRows.{voc_row, exit_row, con_row, object_row, obj_row, bounds_of, entry_row, more_row, pro_row, row_in}
+use Rattle.paw_grammar.specs.Spells.{begins_with_slash, begins_with_blank, is_text_line, text_added, tokens_added, step}
+use Rattle.paw_source.proofs.Faultless.{passes, holds, bound, ok_is, at_end}
+use Rattle.paw_source.proofs.TextLaws.{all_set, all_get, all_pushed, text_item_ok, text_line_ok}
+use Rattle.paw_source.proofs.RowLaws.{Has, voc_row_ok, exit_row_ok, object_row_ok, entry_row_ok, more_row_ok}
+
+-- ---- the rules
+
+pub record TextsKept (limit : ℕ) (ts : List (List ℕ)) : Type 0 where
+  pub all : list_all is_text ts ≡ true
+  pub few : length ts ≤ limit
+
+-- no section of rows was reached
+pub record NoRows (d : Spelt) : Type 0 where
+  pub exits : d.exits ≡ []
+  pub facts : d.facts ≡ []
+  pub tables : d.tables ≡ []
+
+pub record AtExits (d : Spelt) : Type 0 where
+  pub facts : d.facts ≡ []
+  pub tables : d.tables ≡ []
+  pub locations : 1 ≤ length d.locations
+
+pub record AtObjects (d : Spelt) : Type 0 where
+  pub tables : d.tables ≡ []
+  pub locations : 1 ≤ length d.locations
+
+pub record AtTables (d : Spelt) : Type 0 where
+  pub locations : 1 ≤ length d.locations
+  pub rows : length d.names ≤ length d.facts
+
+-- which lists have rows, by the section that is open
+abbrev pub InOrder : Section → Spelt → Type 0
+InOrder section.Before d = NoRows d
+InOrder section.Voc d = NoRows d
+InOrder section.Stx d = NoRows d
+InOrder section.Mtx d = NoRows d
+InOrder section.Otx d = NoRows d
+InOrder section.Ltx d = NoRows d
+InOrder section.Con d = AtExits d
+InOrder section.Obj d = AtObjects d
+InOrder section.Pro d = AtTables d
+
+pub record Keeps (p : ℕ) (d : Spelt) : Type 0 where
+  pub words : words_kept d.words ≡ true
+  pub system : TextsKept 256 d.system
+  pub messages : TextsKept 256 d.messages
+  pub names : TextsKept 255 d.names
+  pub locations : TextsKept 252 d.locations
+  pub exits : list_all (is_exits d.words (length d.locations)) d.exits ≡ true
+  pub few_exits : length d.exits ≤ length d.locations
+  pub facts : list_all (are_facts d.words (length d.locations)) d.facts ≡ true
+  pub few_facts : length d.facts ≤ length d.names
+  pub tables : (g : GameLists) → Has (bounds_of p d) d.words g → list_all (is_table g) d.tables ≡ true
+  pub few_tables : length d.tables ≤ 256
+  pub order : InOrder d.section d
+
+-- where there are no rows yet, words and texts have rules of their own
+pub record Heads (d : Spelt) : Type 0 where
+  pub words : words_kept d.words ≡ true
+  pub system : TextsKept 256 d.system
+  pub messages : TextsKept 256 d.messages
+  pub names : TextsKept 255 d.names
+  pub locations : TextsKept 252 d.locations
+
+no_rows : (p : ℕ) (d : Spelt) → Heads d → NoRows d → InOrder d.section d → Keeps p d
+no_rows p d heads none order =
+    let no_exits = ap length none.exits in
+    let no_facts = ap length none.facts in
+    let no_tables = ap length none.tables in
+    record {
+      words = heads.words;
+      system = heads.system;
+      messages = heads.messages;
+      names = heads.names;
+      locations = heads.locations;
+      exits = ap (list_all (is_exits d.words (length d.locations))) none.exits;
+      few_exits = omega (arith, no_exits);
+      facts = ap (list_all (are_facts d.words (length d.locations))) none.facts;
+      few_facts = omega (arith, no_facts);
+      tables = λ g has. ap (list_all (is_table g)) none.tables;
+      few_tables = omega (arith, no_tables);
+      order = order;
+    }
+
+-- ---- texts
+
+texts_keep : (p : ℕ) (s : Section) (begun : Bool) (ts : List (List ℕ)) (d : Spelt) → d.section ≡ s → Keeps p d → TextsKept (text_limit s) ts → Keeps p (with_texts s begun ts d)
+texts_keep p section.Before begun ts d e k new = k
+texts_keep p section.Voc begun ts d e k new = k
+texts_keep p section.Stx begun ts d e k new =
+    let none : NoRows d = subst (λ (s : Section). InOrder s d) e k.order in
+    let made : Spelt = record d { system = ts; begun = begun } in
+    let still : NoRows made = record { exits = none.exits; facts = none.facts; tables = none.tables } in
+    no_rows p made (record { words = k.words; system = new; messages = k.messages; names = k.names; locations = k.locations }) still (subst (λ (s : Section). InOrder s made) (sym e) still)
+texts_keep p section.Mtx begun ts d e k new =
+    let none : NoRows d = subst (λ (s : Section). InOrder s d) e k.order in
+    let made : Spelt = record d { messages = ts; begun = begun } in
+    let still : NoRows made = record { exits = none.exits; facts = none.facts; tables = none.tables } in
+    no_rows p made (record { words = k.words; system = k.system; messages = new; names = k.names; locations = k.locations }) still (subst (λ (s : Section). InOrder s made) (sym e) still)
+texts_keep p section.Otx begun ts d e k new =
+    let none : NoRows d = subst (λ (s : Section). InOrder s d) e k.order in
+    let made : Spelt = record d { names = ts; begun = begun } in
+    let still : NoRows made = record { exits = none.exits; facts = none.facts; tables = none.tables } in
+    no_rows p made (record { words = k.words; system = k.system; messages = k.messages; names = new; locations = k.locations }) still (subst (λ (s : Section). InOrder s made) (sym e) still)
+texts_keep p section.Ltx begun ts d e k new =
+    let none : NoRows d = subst (λ (s : Section). InOrder s d) e k.order in
+    let made : Spelt = record d { locations = ts; begun = begun } in
+    let still : NoRows made = record { exits = none.exits; facts = none.facts; tables = none.tables } in
+    no_rows p made (record { words = k.words; system = k.system; messages = k.messages; names = k.names; locations = new }) still (subst (λ (s : Section). InOrder s made) (sym e) still)
+texts_keep p section.Con begun ts d e k new = k
+texts_keep p section.Obj begun ts d e k new = k
+texts_keep p section.Pro begun ts d e k new = k
+
+none_kept : (limit : ℕ) → TextsKept limit []
+none_kept limit = record { all = refl; few = omega arith }
+
+texts_kept_in : (p : ℕ) (s : Section) (d : Spelt) → Keeps p d → TextsKept (text_limit s) (texts_of s d)
+texts_kept_in p section.Before d k = none_kept 0
+texts_kept_in p section.Voc d k = none_kept 0
+texts_kept_in p section.Stx d k = k.system
+texts_kept_in p section.Mtx d k = k.messages
+texts_kept_in p section.Otx d k = k.names
+texts_kept_in p section.Ltx d k = k.locations
+texts_kept_in p section.Con d k = none_kept 0
+texts_kept_in p section.Obj d k = none_kept 0
+texts_kept_in p section.Pro d k = none_kept 0
+
+text_keeps : (p : ℕ) (d e : Spelt) (l : List ℕ) → Keeps p d → is_comment l ≡ false → begins_with_slash l ≡ false → has_forbidden_byte true l ≡ false → text_added d l ≡ Ok e → Keeps p e
+text_keeps p d e l k comment slash bytes h =
+    let b = bound (text_line d.begun l (texts_of d.section d)) (λ ts. Ok (with_texts d.section true ts d)) e h in
+    let old = texts_kept_in p d.section d k in
+    let new = text_line_ok d.begun l (texts_of d.section d) b.0 old.all comment slash bytes b.1 in
+    let few = old.few in
+    let same = new.1 in
+    subst (Keeps p) (ok_is (with_texts d.section true b.0 d) e b.2) (texts_keep p d.section true b.0 d refl k (record { all = new.0; few = omega (arith, few, same) }))
+
+-- ---- items
+
+new_text_keeps : (p : ℕ) (s : Section) (n : ℕ) (d e : Spelt) → d.section ≡ s → Keeps p d → new_text s d n ≡ Ok e → Keeps p e
+new_text_keeps p s n d e here k h =
+    let b = bound (text_item (text_limit s) n (texts_of s d)) (λ ts. Ok (with_texts s false ts d)) e h in
+    let old = texts_kept_in p s d k in
+    let new = text_item_ok (text_limit s) n (texts_of s d) b.0 old.all b.1 in
+    subst (Keeps p) (ok_is (with_texts s false b.0 d) e b.2) (texts_keep p s false b.0 d here k (record { all = new.0; few = new.1 }))
+
+empty_exits : (ws : List Word) (locations n : ℕ) → list_all (is_exits ws locations) (replicate n []) ≡ true
+empty_exits ws locations zero = refl
+empty_exits ws locations (suc n) = empty_exits ws locations n
+
+pub filled_exits : (ws : List Word) (locations n : ℕ) (es : List (List Exit)) → list_all (is_exits ws locations) es ≡ true → list_all (is_exits ws locations) (es ++ replicate n []) ≡ true
+filled_exits ws locations n es all = rw (list_all-append (is_exits ws locations) es (replicate n []), all, empty_exits ws locations n) refl
+
+pub filled_length : (n : ℕ) (es : List (List Exit)) → length (es ++ replicate n []) ≡ length es + n
+filled_length n es =
+    let a = length-append es (replicate n []) in
+    let b = length-replicate {A = List Exit} n [] in
+    omega (arith, a, b)
+
+or_false : (a b : Bool) → (a || b) ≡ false → (a ≡ false) × (b ≡ false)
+or_false true b h = absurd cc
+or_false false b h = (refl, h)
+
+new_exits_keep : (p n : ℕ) (d e : Spelt) → d.section ≡ section.Con → Keeps p d → new_exits d n ≡ Ok e → Keeps p e
+new_exits_keep p n d e here k h =
+    let made : Spelt = record d { exits = d.exits ++ replicate (suc n - length d.exits) [] } in
+    let a = passes (nat_lt n (length d.exits) || not (nat_lt n (length d.locations))) kind.Range (Ok made) e h in
+    let o = or_false (nat_lt n (length d.exits)) (not (nat_lt n (length d.locations))) a.0 in
+    let low : n < length d.locations = grind (arith, nat_tests, o.1) in
+    let long = filled_length (suc n - length d.exits) d.exits in
+    let before = k.few_exits in
+    let at : AtExits d = subst (λ (s : Section). InOrder s d) here k.order in
+    let still : AtExits made = record { facts = at.facts; tables = at.tables; locations = at.locations } in
+    let new : Keeps p made = record {
+      words = k.words;
+      system = k.system;
+      messages = k.messages;
+      names = k.names;
+      locations = k.locations;
+      exits = filled_exits d.words (length d.locations) (suc n - length d.exits) d.exits k.exits;
+      few_exits = omega (arith, long, low, before);
+      facts = k.facts;
+      few_facts = k.few_facts;
+      tables = k.tables;
+      few_tables = k.few_tables;
+      order = subst (λ (s : Section). InOrder s made) (sym here) still;
+    } in
+    subst (Keeps p) (ok_is made e a.1) new
+
+item_keeps : (p : ℕ) (s : Section) (n : ℕ) (d e : Spelt) → d.section ≡ s → Keeps p d → item_in s d n ≡ Ok e → Keeps p e
+item_keeps p section.Before n d e here k h = absurd cc
+item_keeps p section.Voc n d e here k h = absurd cc
+item_keeps p section.Stx n d e here k h = new_text_keeps p section.Stx n d e here k h
+item_keeps p section.Mtx n d e here k h = new_text_keeps p section.Mtx n d e here k h
+item_keeps p section.Otx n d e here k h = new_text_keeps p section.Otx n d e here k h
+item_keeps p section.Ltx n d e here k h = new_text_keeps p section.Ltx n d e here k h
+item_keeps p section.Con n d e here k h = new_exits_keep p n d e here k h
+item_keeps p section.Obj n d e here k h = absurd cc
+item_keeps p section.Pro n d e here k h = absurd cc
+
+-- ---- headers
+
+-- a section that opens adds no row
+open_keeps : (p : ℕ) (s : Section) (d : Spelt) → Keeps p d → InOrder s (opened s d) → Keeps p (opened s d)
+open_keeps p s d k order = record {
+  words = k.words;
+  system = k.system;
+  messages = k.messages;
+  names = k.names;
+  locations = k.locations;
+  exits = k.exits;
+  few_exits = k.few_exits;
+  facts = k.facts;
+  few_facts = k.few_facts;
+  tables = k.tables;
+  few_tables = k.few_tables;
+  order = order;
+}
+
+plain_keeps : (p : ℕ) (s : Section) (d e : Spelt) (ts : List (List ℕ)) → Keeps p d → InOrder s (opened s d) → plain_header s d ts ≡ Ok e → Keeps p e
+plain_keeps p s d e ts k order h =
+    subst (Keeps p) (ok_is (opened s d) e (at_end ts (Ok (opened s d)) e h)) (open_keeps p s d k order)
+
+con_keeps : (p : ℕ) (d e : Spelt) (ts : List (List ℕ)) → Keeps p d → NoRows d → con_header d ts ≡ Ok e → Keeps p e
+con_keeps p d e ts k none h =
+    let a = at_end ts (cond (eqb (length d.locations) 0) (Err kind.Missing) (Ok (opened section.Con d))) e h in
+    let b = passes (eqb (length d.locations) 0) kind.Missing (Ok (opened section.Con d)) e a in
+    let some = eqb-false (length d.locations) 0 b.0 in
+    let order : AtExits (opened section.Con d) = record { facts = none.facts; tables = none.tables; locations = omega (arith, some) } in
+    subst (Keeps p) (ok_is (opened section.Con d) e b.1) (open_keeps p section.Con d k order)
+
+-- what a section has to bring for a table to begin
+pub record Ready (d : Spelt) : Type 0 where
+  pub locations : 1 ≤ length d.locations
+  pub rows : lacks_rows d ≡ false → length d.names ≤ length d.facts
+
+table_keeps : (p : ℕ) (d e : Spelt) (ts : List (List ℕ)) (o : Option ℕ) → Keeps p d → Ready d → table_header d ts o ≡ Ok e → Keeps p e
+table_keeps p d e ts None k ready h = absurd cc
+table_keeps p d e ts (Some n) k ready h =
+    let made : Spelt = record (opened section.Pro d) { tables = d.tables ++ [] ∷ [] } in
+    let a = passes (nat_lt 255 n) kind.Range (cond (not (eqb n (length d.tables))) (Err kind.Section) (ended ts >>= λ _. cond (lacks_rows d) (Err kind.Missing) (Ok made))) e h in
+    let b = passes (not (eqb n (length d.tables))) kind.Section (ended ts >>= λ _. cond (lacks_rows d) (Err kind.Missing) (Ok made)) e a.1 in
+    let c = at_end ts (cond (lacks_rows d) (Err kind.Missing) (Ok made)) e b.1 in
+    let f = passes (lacks_rows d) kind.Missing (Ok made) e c in
+    let low : n ≤ 255 = grind (arith, nat_tests, a.0) in
+    let same : n ≡ length d.tables = grind (arith, nat_tests, b.0) in
+    let long = length-append d.tables ([] ∷ []) in
+    let order : AtTables made = record { locations = ready.locations; rows = ready.rows f.0 } in
+    let new : Keeps p made = record {
+      words = k.words;
+      system = k.system;
+      messages = k.messages;
+      names = k.names;
+      locations = k.locations;
+      exits = k.exits;
+      few_exits = k.few_exits;
+      facts = k.facts;
+      few_facts = k.few_facts;
+      tables = λ g has. all_pushed (is_table g) d.tables [] (k.tables g (record { words = has.words; system = has.system; messages = has.messages; objects = has.objects; locations = has.locations; tables = has.tables })) refl;
+      few_tables = omega (arith, long, low, same);
+      order = order;
+    } in
+    subst (Keeps p) (ok_is made e f.1) new
+
+pro_keeps : (p : ℕ) (d e : Spelt) (ts : List (List ℕ)) → Keeps p d → Ready d → pro_header d ts ≡ Ok e → Keeps p e
+pro_keeps p d e ts k ready h =
+    let b = bound (token ts) (λ t. table_header d t.1 (number t.0)) e h in
+    table_keeps p d e b.0.1 (number b.0.0) k ready b.2
+
+first_table : (d : Spelt) → AtObjects d → lacks_rows d ≡ false → length d.names ≤ length d.facts
+first_table d at h =
+    let none = ap length at.tables in
+    let first : eqb (length d.tables) 0 ≡ true = rw at.tables refl in
+    let enough : ltb (length d.facts) (length d.names) ≡ false = ap (λ (b : Bool). b && ltb (length d.facts) (length d.names)) (sym first) ∙ h in
+    grind (arith, nat_tests, enough)
+
+header_of_keeps : (p : ℕ) (s : Section) (d e : Spelt) (ts : List (List ℕ)) → d.section ≡ s → Keeps p d → header_of (next_section s) d ts ≡ Ok e → Keeps p e
+header_of_keeps p section.Before d e ts here k h =
+    let none : NoRows d = subst (λ (s : Section). InOrder s d) here k.order in
+    plain_keeps p section.Voc d e ts k (record { exits = none.exits; facts = none.facts; tables = none.tables }) h
+header_of_keeps p section.Voc d e ts here k h =
+    let none : NoRows d = subst (λ (s : Section). InOrder s d) here k.order in
+    plain_keeps p section.Stx d e ts k (record { exits = none.exits; facts = none.facts; tables = none.tables }) h
+header_of_keeps p section.Stx d e ts here k h =
+    let none : NoRows d = subst (λ (s : Section). InOrder s d) here k.order in
+    plain_keeps p section.Mtx d e ts k (record { exits = none.exits; facts = none.facts; tables = none.tables }) h
+header_of_keeps p section.Mtx d e ts here k h =
+    let none : NoRows d = subst (λ (s : Section). InOrder s d) here k.order in
+    plain_keeps p section.Otx d e ts k (record { exits = none.exits; facts = none.facts; tables = none.tables }) h
+header_of_keeps p section.Otx d e ts here k h =
+    let none : NoRows d = subst (λ (s : Section). InOrder s d) here k.order in
+    plain_keeps p section.Ltx d e ts k (record { exits = none.exits; facts = none.facts; tables = none.tables }) h
+header_of_keeps p section.Ltx d e ts here k h =
+    let none : NoRows d = subst (λ (s : Section). InOrder s d) here k.order in
+    con_keeps p d e ts k none h
+header_of_keeps p section.Con d e ts here k h =
+    let at : AtExits d = subst (λ (s : Section). InOrder s d) here k.order in
+    plain_keeps p section.Obj d e ts k (record { tables = at.tables; locations = at.locations }) h
+header_of_keeps p section.Obj d e ts here k h =
+    let at : AtObjects d = subst (λ (s : Section). InOrder s d) here k.order in
+    pro_keeps p d e ts k (record { locations = at.locations; rows = λ f. first_table d at f }) h
+header_of_keeps p section.Pro d e ts here k h =
+    let at : AtTables d = subst (λ (s : Section). InOrder s d) here k.order in
+    pro_keeps p d e ts k (record { locations = at.locations; rows = λ f. at.rows }) h
+
+slash_keeps : (p : ℕ) (d e : Spelt) (name : List ℕ) (o : Option ℕ) (ts : List (List ℕ)) → Keeps p d → slash_line d name o ts ≡ Ok e → Keeps p e
+slash_keeps p d e name (Some n) ts k h = item_keeps p d.section n d e refl k (at_end ts (item_in d.section d n) e h)
+slash_keeps p d e name None ts k h =
+    let a = holds (is_letters (drop 1 name)) kind.Section (header d name ts) e h in
+    let b = holds (is_named name (header_name (next_section d.section))) kind.Section (header_of (next_section d.section) d ts) e a.1 in
+    header_of_keeps p d.section d e ts refl k b.1
+
+-- ---- rows
+
+voc_keeps : (p : ℕ) (d e : Spelt) (ts : List (List ℕ)) → d.section ≡ section.Voc → Keeps p d → (voc_row d.words ts >>= λ ws. Ok (record d { words = ws })) ≡ Ok e → Keeps p e
+voc_keeps p d e ts here k h =
+    let b = bound (voc_row d.words ts) (λ ws. Ok (record d { words = ws })) e h in
+    let made : Spelt = record d { words = b.0 } in
+    let none : NoRows d = subst (λ (s : Section). InOrder s d) here k.order in
+    let still : NoRows made = record { exits = none.exits; facts = none.facts; tables = none.tables } in
+    subst (Keeps p) (ok_is made e b.2) (no_rows p made (record { words = voc_row_ok d.words b.0 ts k.words b.1; system = k.system; messages = k.messages; names = k.names; locations = k.locations }) still (subst (λ (s : Section). InOrder s made) (sym here) still))
+
+con_row_keeps : (p : ℕ) (d e : Spelt) (ts : List (List ℕ)) → d.section ≡ section.Con → Keeps p d → con_row d ts ≡ Ok e → Keeps p e
+con_row_keeps p d e ts here k h =
+    let a = passes (eqb (length d.exits) 0) kind.Section (exit_row d.words (length d.locations) (last_or [] d.exits) ts >>= λ xs. Ok (record d { exits = with_last xs d.exits })) e h in
+    let b = bound (exit_row d.words (length d.locations) (last_or [] d.exits) ts) (λ xs. Ok (record d { exits = with_last xs d.exits })) e a.1 in
+    let made : Spelt = record d { exits = with_last b.0 d.exits } in
+    let old : is_exits d.words (length d.locations) (last_or [] d.exits) ≡ true = all_get (is_exits d.words (length d.locations)) d.exits (length d.exits - 1) [] k.exits refl in
+    let new = exit_row_ok d.words (length d.locations) (last_or [] d.exits) b.0 ts k.words old b.1 in
+    let long = length-set d.exits (length d.exits - 1) b.0 in
+    let few = k.few_exits in
+    let at : AtExits d = subst (λ (s : Section). InOrder s d) here k.order in
+    let still : AtExits made = record { facts = at.facts; tables = at.tables; locations = at.locations } in
+    let kept : Keeps p made = record {
+      words = k.words;
+      system = k.system;
+      messages = k.messages;
+      names = k.names;
+      locations = k.locations;
+      exits = all_set (is_exits d.words (length d.locations)) d.exits (length d.exits - 1) b.0 k.exits new;
+      few_exits = omega (arith, long, few);
+      facts = k.facts;
+      few_facts = k.few_facts;
+      tables = k.tables;
+      few_tables = k.few_tables;
+      order = subst (λ (s : Section). InOrder s made) (sym here) still;
+    } in
+    subst (Keeps p) (ok_is made e b.2) kept
+
+obj_row_keeps : (p : ℕ) (d e : Spelt) (ts : List (List ℕ)) → d.section ≡ section.Obj → Keeps p d → obj_row d ts ≡ Ok e → Keeps p e
+obj_row_keeps p d e ts here k h =
+    let b = bound (object_row d.words (length d.locations) (length d.facts) (length d.names) ts) (λ f. Ok (record d { facts = d.facts ++ f ∷ [] })) e h in
+    let made : Spelt = record d { facts = d.facts ++ b.0 ∷ [] } in
+    let new = object_row_ok d.words (length d.locations) (length d.facts) (length d.names) ts b.0 b.1 in
+    let room = new.room in
+    let long = length-append d.facts (b.0 ∷ []) in
+    let at : AtObjects d = subst (λ (s : Section). InOrder s d) here k.order in
+    let still : AtObjects made = record { tables = at.tables; locations = at.locations } in
+    let kept : Keeps p made = record {
+      words = k.words;
+      system = k.system;
+      messages = k.messages;
+      names = k.names;
+      locations = k.locations;
+      exits = k.exits;
+      few_exits = k.few_exits;
+      facts = all_pushed (are_facts d.words (length d.locations)) d.facts b.0 k.facts new.facts;
+      few_facts = omega (arith, long, room);
+      tables = k.tables;
+      few_tables = k.few_tables;
+      order = subst (λ (s : Section). InOrder s made) (sym here) still;
+    } in
+    subst (Keeps p) (ok_is made e b.2) kept
+
+table_row_ok : (p : ℕ) (d : Spelt) (more : Bool) (g : GameLists) (es fs : List Entry) (ts : List (List ℕ)) → Has (bounds_of p d) d.words g → is_table g es ≡ true → cond more (more_row (bounds_of p d) d.words es ts) (entry_row (bounds_of p d) d.words es ts) ≡ Ok fs → is_table g fs ≡ true
+table_row_ok p d true g es fs ts has kept h = more_row_ok (bounds_of p d) d.words g es fs ts has kept h
+table_row_ok p d false g es fs ts has kept h = entry_row_ok (bounds_of p d) d.words g es fs ts has kept h
+
+pro_row_keeps : (p : ℕ) (d e : Spelt) (more : Bool) (ts : List (List ℕ)) → d.section ≡ section.Pro → Keeps p d → pro_row p d more ts ≡ Ok e → Keeps p e
+pro_row_keeps p d e more ts here k h =
+    let b = bound (cond more (more_row (bounds_of p d) d.words (last_or [] d.tables) ts) (entry_row (bounds_of p d) d.words (last_or [] d.tables) ts)) (λ es. Ok (record d { tables = with_last es d.tables })) e h in
+    let made : Spelt = record d { tables = with_last b.0 d.tables } in
+    let long = length-set d.tables (length d.tables - 1) b.0 in
+    let few = k.few_tables in
+    let at : AtTables d = subst (λ (s : Section). InOrder s d) here k.order in
+    let still : AtTables made = record { locations = at.locations; rows = at.rows } in
+    let kept : Keeps p made = record {
+      words = k.words;
+      system = k.system;
+      messages = k.messages;
+      names = k.names;
+      locations = k.locations;
+      exits = k.exits;
+      few_exits = k.few_exits;
+      facts = k.facts;
+      few_facts = k.few_facts;
+      tables = λ g has.
+          let all = k.tables g has in
+          all_set (is_table g) d.tables (length d.tables - 1) b.0 all (table_row_ok p d more g (last_or [] d.tables) b.0 ts has (all_get (is_table g) d.tables (length d.tables - 1) [] all refl) b.1);
+      few_tables = omega (arith, long, few);
+      order = subst (λ (s : Section). InOrder s made) (sym here) still;
+    } in
+    subst (Keeps p) (ok_is made e b.2) kept
+
+row_keeps : (p : ℕ) (s : Section) (d e : Spelt) (more : Bool) (ts : List (List ℕ)) → d.section ≡ s → Keeps p d → row_in s p d more ts ≡ Ok e → Keeps p e
+row_keeps p section.Before d e more ts here k h = absurd cc
+row_keeps p section.Voc d e more ts here k h = voc_keeps p d e ts here k h
+row_keeps p section.Stx d e more ts here k h = absurd cc
+row_keeps p section.Mtx d e more ts here k h = absurd cc
+row_keeps p section.Otx d e more ts here k h = absurd cc
+row_keeps p section.Ltx d e more ts here k h = absurd cc
+row_keeps p section.Con d e more ts here k h = con_row_keeps p d e ts here k h
+row_keeps p section.Obj d e more ts here k h = obj_row_keeps p d e ts here k h
+row_keeps p section.Pro d e more ts here k h = pro_row_keeps p d e more ts here k h
+
+-- ---- a line
+
+tokens_keep : (p : ℕ) (d e : Spelt) (slash blank : Bool) (ts : List (List ℕ)) → Keeps p d → tokens_added p d slash blank ts ≡ Ok e → Keeps p e
+tokens_keep p d e slash blank [] k h = subst (Keeps p) (ok_is d e h) k
+tokens_keep p d e true blank (t ∷ ts) k h = slash_keeps p d e t (number (drop 1 t)) ts k h
+tokens_keep p d e false blank (t ∷ ts) k h = row_keeps p d.section d e blank (t ∷ ts) refl k h
+
+no_slash : (a b : Bool) → (a && not b) ≡ true → b ≡ false
+no_slash true true h = absurd cc
+no_slash true false h = refl
+no_slash false b h = absurd cc
+
+pub step_keeps : (p : ℕ) (d e : Spelt) (l : List ℕ) → Keeps p d → step p d l ≡ Ok e → Keeps p e
+unfolding step
+step_keeps p d e l k h =
+    let others : Result Spelt SourceKind = tokens_added p d (begins_with_slash l) (begins_with_blank l) (tokens_of l) in
+    elim (is_comment l) as (λ b. is_comment l ≡ b → cond b (Ok d) (cond (has_forbidden_byte (is_text_line d l) l) (Err kind.Text) (cond (is_text_line d l) (text_added d l) (tokens_added p d (begins_with_slash l) (begins_with_blank l) (tokens_of l)))) ≡ Ok e → Keeps p e) [
+      | true ↦ λ c f. subst (Keeps p) (ok_is d e f) k
+      | false ↦ λ c f.
+          elim (is_text_line d l) as (λ b. is_text_line d l ≡ b → cond (has_forbidden_byte b l) (Err kind.Text) (cond b (text_added d l) (tokens_added p d (begins_with_slash l) (begins_with_blank l) (tokens_of l))) ≡ Ok e → Keeps p e) [
+            | true ↦ λ t g.
+                let a = passes (has_forbidden_byte true l) kind.Text (text_added d l) e g in
+                text_keeps p d e l k c (no_slash (is_in_text d) (begins_with_slash l) t) a.0 a.1
+            | false ↦ λ t g.
+                let a = passes (has_forbidden_byte false l) kind.Text (tokens_added p d (begins_with_slash l) (begins_with_blank l) (tokens_of l)) e g in
+                tokens_keep p d e (begins_with_slash l) (begins_with_blank l) (tokens_of l) k a.1
+          ] refl f
+    ] refl h

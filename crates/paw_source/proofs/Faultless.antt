@@ -1,0 +1,52 @@
+-- What is known of a reading in which no fault was found.
+use Rattle.std.proofs.Common.{◌≡◌, ℕ, Bool, true, false, cond, ◌&&◌, List, [], ◌∷◌, Option, Some, None, Result, Ok, Err, refl, ap, ◌∙◌, sym}
+use Rattle.paw_base.specs.declared.fault.SourceKind.{SourceKind}
+use Rattle.paw_base.specs.declared.fault.SourceKind.TheVariants as kind
+use Rattle.paw_grammar.specs.Tokens.{◌>>=◌, ended, or_fault, read_by}
+use Rattle.paw_grammar.specs.Numbers.{number, in_range, number_with}
+
+-- no fault at a test
+pub passes : {A E : Type 0} (b : Bool) (k : E) (x : Result A E) (e : A) → cond b (Err k) x ≡ Ok e → (b ≡ false) × (x ≡ Ok e)
+passes {A} {E} true k x e h = absurd cc
+passes {A} {E} false k x e h = (refl, h)
+
+pub holds : {A : Type 0} (b : Bool) (k : SourceKind) (x : Result A SourceKind) (e : A) → cond b x (Err k) ≡ Ok e → (b ≡ true) × (x ≡ Ok e)
+holds {A} true k x e h = (refl, h)
+holds {A} false k x e h = absurd cc
+
+-- no fault in what is read first, nor in what is read then
+pub bound : {A B : Type 0} (r : Result A SourceKind) (f : A → Result B SourceKind) (e : B) → (r >>= f) ≡ Ok e → (x : A) × (r ≡ Ok x) × (f x ≡ Ok e)
+bound {A} {B} (Ok x) f e h = (x, refl, h)
+bound {A} {B} (Err k) f e h = absurd cc
+
+pub ok_is : {A E : Type 0} (x y : A) → ◌≡◌ {A = Result A E} (Ok x) (Ok y) → x ≡ y
+ok_is {A} {E} x y h = cc
+
+pub some_is : {A : Type 0} (x y : A) → ◌≡◌ {A = Option A} (Some x) (Some y) → x ≡ y
+some_is {A} x y h = cc
+
+pub and_true : (a b : Bool) → (a && b) ≡ true → (a ≡ true) × (b ≡ true)
+and_true true b h = (refl, h)
+and_true false b h = absurd cc
+
+-- the line ends
+pub at_end : {A : Type 0} (ts : List (List ℕ)) (x : Result A SourceKind) (e : A) → (ended ts >>= λ _. x) ≡ Ok e → x ≡ Ok e
+at_end {A} [] x e h = h
+at_end {A} (t ∷ ts) x e h = absurd cc
+
+or_fault_ok : {A : Type 0} (k : SourceKind) (ts : List (List ℕ)) (o : Option A) (x : A × List (List ℕ)) → or_fault k ts o ≡ Ok x → o ≡ Some x.0
+or_fault_ok {A} k ts None x h = absurd cc
+or_fault_ok {A} k ts (Some y) x h = ap (λ (z : A × List (List ℕ)). Some z.0) (ok_is (y, ts) x h)
+
+-- the token that was read means what was read
+pub read_ok : {A : Type 0} (k : SourceKind) (f : List ℕ → Option A) (ts : List (List ℕ)) (x : A × List (List ℕ)) → read_by k f ts ≡ Ok x → (t : List ℕ) × (f t ≡ Some x.0)
+read_ok {A} k f [] x h = absurd cc
+read_ok {A} k f (t ∷ ts) x h = (t, or_fault_ok k ts (f t) x h)
+
+pub in_range_ok : (rule : ℕ → Bool) (n x : ℕ × List (List ℕ)) → in_range rule n ≡ Ok x → rule x.0 ≡ true
+in_range_ok rule n x h =
+    let g = holds _ _ _ x h in
+    ap (λ (z : ℕ × List (List ℕ)). rule z.0) (sym (ok_is n x g.1)) ∙ g.0
+
+pub number_ok : (rule : ℕ → Bool) (ts : List (List ℕ)) (x : ℕ × List (List ℕ)) → number_with rule ts ≡ Ok x → rule x.0 ≡ true
+number_ok rule ts x h = let b = bound (read_by kind.Number number ts) (in_range rule) x h in in_range_ok rule b.0 x b.2

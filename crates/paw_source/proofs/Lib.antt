@@ -1,0 +1,9 @@
+pub mod Faultless
+pub mod WordLaws
+pub mod TextLaws
+pub mod RowLaws
+pub mod DraftLaws
+pub mod CountLaws
+pub mod GameLaws
+pub mod Capped
+pub mod Made

@@ -1,0 +1,24 @@
+-- What a refusal says of a source.
+use Rattle.std.specs.Prelude.{◌≡◌, ℕ, Result, Ok, Err}
+use Rattle.paw_base.specs.declared.fault.SourceFault.{SourceFault}
+use Rattle.paw_game.specs.Game.{GameLists}
+use Rattle.paw_grammar.specs.declared.refusal.ReadError.{ReadError}
+use Rattle.paw_grammar.specs.declared.refusal.ReadError.TheVariants as errors
+use Rattle.paw_grammar.specs.Spells.{fault}
+use Rattle.paw_source.specs.declared.refusal.SourceRefusal.{SourceRefusal}
+use Rattle.paw_source.specs.declared.refusal.SourceRefusal.TheVariants as refusal
+
+-- a fault is the one that the source has; want of memory says nothing
+abbrev pub Refuses : SourceRefusal → Result GameLists SourceFault → Type 0
+Refuses (refusal.Fault f) spelled = spelled ≡ Err f
+Refuses refusal.Memory spelled = Unit {0}
+
+-- the refusal of a source where a line is refused
+abbrev pub at_line : ℕ → ReadError → SourceRefusal
+at_line n errors.NoRoom = refusal.Memory
+at_line n (errors.Fault kind) = refusal.Fault (fault n kind)
+
+-- what was answered of a source is the game that it spells, or its fault
+abbrev pub Reads : Result GameLists SourceRefusal → Result GameLists SourceFault → Type 0
+Reads (Ok game) spelled = spelled ≡ Ok game
+Reads (Err refused) spelled = Refuses refused spelled

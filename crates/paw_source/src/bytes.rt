@@ -1,0 +1,59 @@
+// Tests of the bytes of a line and of a token.
+
+ghost use Rattle.std.specs.Prelude.{◌≡◌, drop};
+ghost use Rattle.std.specs.List.{list_all};
+ghost use Rattle.std.specs.Char.{is_ascii_alphabetic};
+ghost use Rattle.paw_lex.specs.Bytes.{is_comment, has_forbidden_byte};
+ghost use Rattle.paw_lex.specs.Lines.{bytes_of, LiesIn};
+ghost use Rattle.paw_grammar.specs.GrammarHeads.{is_letters};
+ghost use Rattle.paw_grammar.specs.Spells.{begins_with_blank, begins_with_slash};
+
+use paw_lex::{Line, byte_fault};
+
+pub(crate) fn is_comment(line: &[u8]) -> bool
+    ensures { result ≡ is_comment line.now }
+{
+    line.first() == Some(&b';')
+}
+
+pub(crate) fn begins_with_slash(line: &[u8]) -> bool
+    ensures { result ≡ begins_with_slash line.now }
+{
+    line.first() == Some(&b'/')
+}
+
+pub(crate) fn begins_with_blank(line: &[u8]) -> bool
+    ensures { result ≡ begins_with_blank line.now }
+{
+    matches!(line, [b' ' | b'\t', ..])
+}
+
+pub(crate) fn has_forbidden_byte(source: &[u8], line: &Line, text: bool) -> bool
+    requires { LiesIn source.now line.now }
+    ensures { result ≡ has_forbidden_byte text (bytes_of source.now line.now) }
+{
+    byte_fault(source, line, text).is_some()
+}
+
+/// A token without its first byte.
+pub(crate) fn without_first(token: &[u8]) -> &[u8]
+    ensures { result.now ≡ drop 1 token.now }
+{
+    match token {
+        [_, rest @ ..] => rest,
+        [] => token,
+    }
+}
+
+fn all_letters(token: &[u8]) -> bool
+    ensures { result ≡ list_all is_ascii_alphabetic token.now }
+{
+    token.iter().all(|byte| byte.is_ascii_alphabetic())
+}
+
+/// Letters alone, and one at least.
+pub(crate) fn is_letters(token: &[u8]) -> bool
+    ensures { result ≡ is_letters token.now }
+{
+    !token.is_empty() && all_letters(token)
+}

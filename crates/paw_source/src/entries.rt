@@ -1,0 +1,83 @@
+// The lines of a table.
+
+ghost use Rattle.std.specs.Prelude.{◌≡◌, ◌<◌, length};
+ghost use Rattle.paw_grammar.specs.Gives.{Gives};
+ghost use Rattle.paw_grammar.specs.Condacts.{AreSmall, more_condacts};
+ghost use Rattle.paw_grammar.specs.GrammarRows.{entry_row, more_row};
+
+use paw_base::fault::SourceKind;
+use paw_game::limits::ENTRY_LIMIT;
+use paw_game::parts::{Condacts, Entry, Table};
+use paw_grammar::bounds::Bounds;
+use paw_grammar::condacts::more_condacts;
+use paw_grammar::refusal::ReadError;
+use paw_grammar::tokens::Tokens;
+use paw_grammar::vocabulary::Vocabulary;
+use std::alloc::Global;
+
+/// Adds the entry of a line to a table.
+///
+/// # Errors
+/// The first fault of the line: those of its tokens, and TooBig where it has more than 255 condacts or the table has 4,000
+/// entries.
+#[tactic(auto, unfolding(paw_grammar::specs::GrammarRows::entry_row))]
+pub(crate) fn entry_row(
+    alloc: Global,
+    bounds: &Bounds,
+    words: &Vocabulary,
+    table: &mut Table,
+    tokens: &mut Tokens,
+) -> Result<(), ReadError>
+    requires { AreSmall bounds.now }
+    ensures { Gives (λ _. table.new) result (entry_row bounds.now words.now table.old tokens.old) }
+{
+    let verb = words.entry_verb(tokens)?;
+    let noun = words.entry_noun(tokens)?;
+    let mut rows = Vec::new(alloc);
+    more_condacts(bounds, words, tokens, &mut rows)?;
+    if table.entries.len() >= ENTRY_LIMIT {
+        return Err(ReadError::Fault(SourceKind::TooBig));
+    }
+    table.entries.push(Entry {
+        verb,
+        noun,
+        condacts: Condacts { rows },
+    })?;
+    Ok(())
+}
+
+/// Adds the condacts of a line to the last entry of a table.
+///
+/// # Errors
+/// Section where the table has no entry; else the first fault of the line, TooBig among them where the entry would have more
+/// than 255 condacts.
+#[tactic(auto, unfolding(paw_grammar::specs::GrammarRows::more_row))]
+pub(crate) fn more_row(
+    bounds: &Bounds,
+    words: &Vocabulary,
+    table: &mut Table,
+    tokens: &mut Tokens,
+) -> Result<(), ReadError>
+    requires { AreSmall bounds.now }
+    ensures { Gives (λ _. table.new) result (more_row bounds.now words.now table.old tokens.old) }
+{
+    if table.entries.is_empty() {
+        return Err(ReadError::Fault(SourceKind::Section));
+    }
+    let last = table.entries.len() - 1;
+    let entry = &mut table.entries[last];
+    add_condacts(bounds, words, &mut entry.condacts, tokens)
+}
+
+/// Adds the condacts of a line to those of an entry.
+fn add_condacts(
+    bounds: &Bounds,
+    words: &Vocabulary,
+    condacts: &mut Condacts,
+    tokens: &mut Tokens,
+) -> Result<(), ReadError>
+    requires { AreSmall bounds.now }
+    ensures { Gives (λ _. condacts.new) result (more_condacts bounds.now words.now condacts.old tokens.old) }
+{
+    more_condacts(bounds, words, tokens, &mut condacts.rows)
+}

@@ -1,0 +1,56 @@
+// The exits of locations.
+
+ghost use Rattle.std.specs.Prelude.{◌≡◌, ◌-◌, ◌++◌, ◌≤◌, [], length, replicate, OnOk};
+ghost use Rattle.paw_grammar.specs.Gives.{Gives};
+ghost use Rattle.paw_grammar.specs.GrammarRows.{exit_row, has_exit};
+
+use paw_base::fault::SourceKind;
+use paw_game::parts::{Exit, Exits};
+use paw_grammar::numbers::byte_below;
+use paw_grammar::refusal::ReadError;
+use paw_grammar::tokens::Tokens;
+use paw_grammar::vocabulary::Vocabulary;
+use std::alloc::{AllocError, Global};
+
+/// Adds locations without exits, up to so many locations.
+#[tactic(auto, using(crate::proofs::Made::one_filled, crate::proofs::Made::all_filled))]
+pub(crate) fn fill(alloc: Global, exits: &mut Vec<Exits>, count: usize) -> Result<(), AllocError>
+    ensures { OnOk result (exits.new.items ≡ exits.old.items ++ replicate (count - length exits.old.items) []) }
+{
+    while exits.len() < count {
+        exits.push(Exits {
+            rows: Vec::new(alloc),
+        })?;
+    }
+    Ok(())
+}
+
+fn has_exit(exits: &[Exit], verb: u8) -> bool
+    ensures { result ≡ has_exit verb exits.now }
+{
+    exits.iter().any(|exit| exit.verb == verb)
+}
+
+/// Adds the exit of a row of `/CON` to those of its location.
+///
+/// # Errors
+/// The first fault of the row: those of its two tokens, Extra, and Duplicate where the location has an exit for this verb.
+#[tactic(auto, unfolding(paw_grammar::specs::GrammarRows::exit_row))]
+pub(crate) fn exit_row(
+    words: &Vocabulary,
+    locations: u16,
+    exits: &mut Exits,
+    tokens: &mut Tokens,
+) -> Result<(), ReadError>
+    requires { locations ≤ 256 }
+    ensures { Gives (λ _. exits.new) result (exit_row words.now locations exits.old tokens.old) }
+{
+    let verb = words.verb_word(tokens)?;
+    let to = byte_below(tokens, locations)?;
+    tokens.ended()?;
+    if has_exit(&exits.rows, verb) {
+        return Err(ReadError::Fault(SourceKind::Duplicate));
+    }
+    exits.rows.push(Exit { verb, to })?;
+    Ok(())
+}

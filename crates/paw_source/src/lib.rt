@@ -1,0 +1,16 @@
+//! Sources: the text that spells a game, read line by line.
+#![tactic(auto)]
+
+mod bytes;
+mod draft;
+mod entries;
+mod exits;
+pub mod laws;
+mod lines;
+mod objects;
+pub mod refusal;
+mod rows;
+pub mod source;
+mod texts;
+
+pub use source::read_source;

@@ -1,0 +1,74 @@
+// The rows of words and objects.
+
+ghost use Rattle.std.specs.Prelude.{◌≡◌, ◌≤◌, ◌<◌, OnOk};
+ghost use Rattle.paw_grammar.specs.Gives.{Gives};
+ghost use Rattle.paw_grammar.specs.GrammarRows.{voc_row, object_row};
+
+use paw_base::parts::ObjectFacts;
+use paw_game::limits::WEIGHT_LIMIT;
+use paw_game::parts::Word;
+use paw_grammar::numbers::{number_within, row_number};
+use paw_grammar::places::first_place;
+use paw_grammar::refusal::ReadError;
+use paw_grammar::tokens::Tokens;
+use paw_grammar::vocabulary::Vocabulary;
+use paw_grammar::words::{class, object_kind, word};
+
+/// The class of nouns.
+const NOUN: u8 = 2;
+
+/// The class of adjectives.
+const ADJECTIVE: u8 = 3;
+
+/// Declares the word of a row of `/VOC`.
+///
+/// # Errors
+/// The first fault of the row: those of its three tokens, Extra, Duplicate where its letters are declared, and TooBig where
+/// there are 2,000 words.
+#[tactic(auto, unfolding(paw_grammar::specs::GrammarRows::voc_row))]
+pub(crate) fn voc_row(words: &mut Vocabulary, tokens: &mut Tokens) -> Result<(), ReadError>
+    ensures { Gives (λ _. words.new) result (voc_row words.old tokens.old) }
+{
+    let letters = word(tokens)?;
+    let value = number_within(tokens, 2, 254)?;
+    let class = class(tokens)?;
+    tokens.ended()?;
+    words.declare(Word {
+        letters,
+        value,
+        class,
+    })
+}
+
+/// The facts that a row of `/OBJ` tells, `row` rows standing before it, where there are `count` objects.
+///
+/// # Errors
+/// The first fault of the row: those of its six tokens, and Extra.
+#[tactic(auto, unfolding(paw_grammar::specs::GrammarRows::object_row))]
+pub(crate) fn object_row(
+    words: &Vocabulary,
+    locations: u16,
+    row: u16,
+    count: u16,
+    tokens: &mut Tokens,
+) -> Result<ObjectFacts, ReadError>
+    requires { locations ≤ 252 }
+    ensures value { Gives (λ facts. facts) result (object_row words.now locations row count tokens.old) }
+    ensures room { OnOk result (row < count) }
+{
+    row_number(tokens, row, count)?;
+    let start = first_place(tokens, locations)?;
+    let weight = number_within(tokens, 0, WEIGHT_LIMIT)?;
+    let (container, wearable) = object_kind(tokens)?;
+    let noun = words.word_or_none(NOUN, tokens)?;
+    let adjective = words.word_or_none(ADJECTIVE, tokens)?;
+    tokens.ended()?;
+    Ok(ObjectFacts {
+        noun,
+        adjective,
+        start,
+        weight,
+        container,
+        wearable,
+    })
+}

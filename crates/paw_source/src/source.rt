@@ -1,0 +1,133 @@
+// Sources.
+
+ghost use Rattle.std.specs.Prelude.{◌≡◌, ◌≤◌, ℕ, List, Ok, length, IfOk};
+ghost use Rattle.std.specs.List.{count_by};
+ghost use Rattle.paw_game.specs.Image.{image};
+ghost use Rattle.paw_game.specs.Valid.{Valid};
+ghost use Rattle.paw_lex.specs.Lines.{bytes_of, LiesIn, lines_of};
+ghost use Rattle.paw_lex.specs.declared.lines.TheConstants.{MAX_SOURCE_LEN};
+ghost use Rattle.paw_grammar.specs.GrammarState.{Spelt, game_of, nothing_yet};
+ghost use Rattle.paw_grammar.specs.Spells.{begins_table, is_pro_token, reading, spelled, whole};
+ghost use Rattle.paw_source.specs.Laws.{after_lines};
+ghost use Rattle.paw_source.specs.Refusals.{Reads, at_line};
+
+use crate::bytes::begins_with_slash;
+use crate::draft::Draft;
+use crate::laws::drafts_are_valid;
+use crate::refusal::SourceRefusal;
+use paw_base::fault::{SourceFault, SourceKind};
+use paw_game::game::Game;
+use paw_game::limits::TABLE_LEAST;
+use paw_grammar::refusal::ReadError;
+use paw_grammar::tokens::{Tokens, is_named};
+use paw_image::encoder::encode;
+use paw_image::refusal::ImageRefusal;
+use paw_lex::{Line, Lines, MAX_SOURCE_LEN};
+use std::alloc::Global;
+
+/// Whether the first token is the header of a table.
+fn is_pro(tokens: &mut Tokens) -> bool
+    ensures { result ≡ is_pro_token tokens.old }
+{
+    match tokens.next() {
+        None => false,
+        Some(token) => is_named(token, b"/PRO"),
+    }
+}
+
+/// Whether a line begins with `/` and its first token is `/PRO`.
+fn begins_table(source: &[u8], line: &Line) -> bool
+    requires { LiesIn source.now line.now }
+    ensures { result ≡ begins_table (bytes_of source.now line.now) }
+{
+    begins_with_slash(&source[line.from..line.to]) && is_pro(&mut Tokens::new(source, line))
+}
+
+/// How many lines begin a table.
+fn count_tables(source: &[u8]) -> u32
+    requires { length source.now ≤ MAX_SOURCE_LEN }
+    ensures { result ≡ count_by begins_table (lines_of source.now) }
+{
+    let mut lines = Lines::new(source);
+    let mut tables: u32 = 0;
+    while let Some(line) = lines.next() {
+        if begins_table(source, &line) {
+            tables += 1;
+        }
+    }
+    tables
+}
+
+/// The refusal of a source for a line that is refused.
+fn at_line(line: u32, refused: ReadError) -> SourceRefusal
+    ensures { result ≡ at_line line refused }
+{
+    match refused {
+        ReadError::NoRoom => SourceRefusal::Memory,
+        ReadError::Fault(kind) => SourceRefusal::Fault(SourceFault { line, kind }),
+    }
+}
+
+/// The game that a draft of so many lines is.
+fn whole(alloc: Global, lines: u32, draft: Draft) -> Result<Game, SourceRefusal>
+    requires count { lines ≤ MAX_SOURCE_LEN }
+    requires valid { 3 ≤ length draft.tables → Valid (game_of draft) }
+    ensures value { Reads result (whole lines draft) }
+    ensures small { IfOk result (λ game. length (image game) ≤ 4194304) }
+{
+    let line = lines + 1;
+    if draft.tables() < TABLE_LEAST {
+        return Err(at_line(line, ReadError::Fault(SourceKind::Missing)));
+    }
+    let parts = draft.into_parts(alloc)?;
+    // The lines of a draft keep the rules of a game.
+    let game = Game::new(parts).unwrap();
+    match encode(alloc, &game) {
+        Ok(_) => Ok(game),
+        Err(ImageRefusal::Damaged { .. }) => {
+            Err(at_line(line, ReadError::Fault(SourceKind::TooBig)))
+        }
+        Err(ImageRefusal::Memory) => Err(SourceRefusal::Memory),
+    }
+}
+
+/// The game of the lines of a source, of which so many begin a table.
+#[tactic(auto, unfolding(paw_grammar::specs::Spells::reading, crate::specs::Laws::after_lines))]
+fn read_lines(alloc: Global, tables: u32, source: &[u8]) -> Result<Game, SourceRefusal>
+    requires short { length source.now ≤ MAX_SOURCE_LEN }
+    requires valid { (d : Spelt) → after_lines tables nothing_yet (lines_of source.now) ≡ Ok d
+        → 3 ≤ length d.tables → Valid (game_of d) }
+    ensures value { Reads result (reading tables 0 nothing_yet (lines_of source.now)) }
+    ensures small { IfOk result (λ game. length (image game) ≤ 4194304) }
+{
+    let mut draft = Draft::new(alloc);
+    let mut lines = Lines::new(source);
+    let mut number: u32 = 0;
+    while let Some(line) = lines.next() {
+        number = line.number;
+        match draft.line(alloc, tables, source, &line) {
+            Ok(()) => {}
+            Err(refused) => return Err(at_line(number, refused)),
+        }
+    }
+    whole(alloc, number, draft)
+}
+
+/// The game that a source spells.
+///
+/// # Errors
+/// Fault exactly where the source spells none: the line and the kind of its first fault. Line 0 and TooBig tell of a source
+/// of more than 8,388,608 bytes; the number of lines plus one tells that table 2 is missing, or, by TooBig, that the image
+/// would have more than 4,194,304 bytes. Memory only for want of memory.
+#[tactic(auto, unfolding(paw_grammar::specs::Spells::spelled))]
+pub fn read_source(alloc: Global, bytes: &[u8]) -> Result<Game, SourceRefusal>
+    ensures value { Reads result (spelled bytes.now) }
+    ensures small { IfOk result (λ game. length (image game) ≤ 4194304) }
+{
+    if bytes.len() > MAX_SOURCE_LEN {
+        return Err(at_line(0, ReadError::Fault(SourceKind::TooBig)));
+    }
+    drafts_are_valid();
+    let tables = count_tables(bytes);
+    read_lines(alloc, tables, bytes)
+}

@@ -1,0 +1,72 @@
+// The texts of a section: items and text lines.
+
+ghost use Rattle.std.specs.Prelude.{◌≡◌, ◌<◌, ◌≤◌, ◌+◌, length, nat_le, suc, if◌then◌else◌};
+ghost use Rattle.paw_grammar.specs.Gives.{Gives};
+ghost use Rattle.paw_grammar.specs.GrammarTexts.{joined_within, text_item, text_line};
+
+use paw_base::fault::SourceKind;
+use paw_game::limits::TEXT_LIMIT;
+use paw_game::parts::Text;
+use paw_grammar::refusal::ReadError;
+use std::alloc::Global;
+
+/// Begins a text after the others of its section, which may have `limit` texts.
+///
+/// # Errors
+/// Range where this isn't the number of the next text, and else TooBig where the section is full.
+pub(crate) fn text_item(
+    alloc: Global,
+    texts: &mut Vec<Text>,
+    limit: usize,
+    number: u32,
+) -> Result<(), ReadError>
+    ensures meaning { Gives (λ _. texts.new.items) result (text_item limit number texts.old.items) }
+    ensures few { length texts.old.items ≤ limit → length texts.new.items ≤ limit }
+{
+    if number as usize != texts.len() {
+        return Err(ReadError::Fault(SourceKind::Range));
+    }
+    if texts.len() >= limit {
+        return Err(ReadError::Fault(SourceKind::TooBig));
+    }
+    texts.push(Text {
+        bytes: Vec::new(alloc),
+    })?;
+    Ok(())
+}
+
+/// Adds a line to the last text of a section; `begun` tells that the text has a line.
+///
+/// # Errors
+/// TooBig where the text would pass 4,095 bytes.
+pub(crate) fn text_line(texts: &mut Vec<Text>, begun: bool, line: &[u8]) -> Result<(), ReadError>
+    requires { 0 < length texts.old.items }
+    ensures meaning { Gives (λ _. texts.new.items) result (text_line begun line.now texts.old.items) }
+    ensures kept { length texts.new.items ≡ length texts.old.items }
+{
+    let last = texts.len() - 1;
+    let text = &mut texts[last];
+    join(text, begun, line)
+}
+
+/// Adds a line to a text.
+fn join(text: &mut Text, begun: bool, line: &[u8]) -> Result<(), ReadError>
+    ensures { Gives (λ _. text.new) result (joined_within begun line.now text.old) }
+{
+    if !has_room(text.bytes.len(), begun, line.len()) {
+        return Err(ReadError::Fault(SourceKind::TooBig));
+    }
+    if begun {
+        text.bytes.push(b'\n')?;
+    }
+    text.bytes.extend_from_slice(line)?;
+    Ok(())
+}
+
+/// Whether a line of this length fits after a text of this length.
+fn has_room(text: usize, begun: bool, line: usize) -> bool
+    ensures { result ≡ nat_le (text + (if begun then suc line else line)) 4095 }
+{
+    let room = TEXT_LIMIT.saturating_sub(text);
+    text <= TEXT_LIMIT && line <= room && (!begun || line < room)
+}
