@@ -11,6 +11,8 @@ mod objects;
 pub mod refusal;
 mod rows;
 pub mod source;
+#[cfg(test)]
+mod tests;
 mod texts;
 
 pub use source::read_source;
