@@ -5,7 +5,7 @@ use Rattle.paw_base.specs.declared.parts.Condact.{Condact}
 use Rattle.paw_game.specs.declared.parts.Entry.{Entry}
 use Rattle.paw_game.specs.Game.{GameLists}
 use Rattle.paw_game.specs.Image.{table_image, entry_image, condact_image}
-use Rattle.paw_game.specs.Tables.{or_empty, table_at, entry_at, condacts_of, condact_at}
+use Rattle.paw_game.specs.Tables.{or_empty, condacts_of}
 use Rattle.paw_effects.specs.Built.{is_built, AllBuilt}
 use Rattle.paw_top.specs.declared.unbuilt.Unbuilt.{Unbuilt}
 use Rattle.paw_top.specs.Unbuilt.{or_later, in_rows, in_condact, in_entry, in_table, before_tables, first_unbuilt}

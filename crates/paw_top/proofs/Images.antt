@@ -1,5 +1,5 @@
 -- What loading an image cuts off.
-use Rattle.std.proofs.Common.{◌≡◌, ℕ, ◌+◌, ◌≤◌, ◌<◌, List, length, take, sym, ◌∙◌, subst, arith, ◌⊎◌, inl, inr}
+use Rattle.std.proofs.Common.{◌≡◌, ℕ, ◌+◌, ◌≤◌, List, length, take, sym, ◌∙◌, subst, arith, ◌⊎◌, inl, inr}
 use Rattle.std.proofs.lemmas.List.{take_all, length-take-le}
 use Rattle.paw_game.specs.Game.{GameLists}
 use Rattle.std.specs.Prelude.{Result, Err}
@@ -14,7 +14,8 @@ short_enough : (bytes : List ℕ) → length (take 4194305 bytes) ≤ 4194304 �
 short_enough bytes h (inl k) = k
 short_enough bytes h (inr k) = absurd (omega (arith, h, length-take-le 4194305 bytes k))
 
-in_order : (n m : ℕ) → (n ≤ m) ⊎ (m + 1 ≤ n)
+-- a number is at most another, or above it
+pub in_order : (n m : ℕ) → (n ≤ m) ⊎ (m + 1 ≤ n)
 in_order n m = grind arith
 
 -- the image that was loaded is the file

@@ -1,3 +1,6 @@
+mod Completing
+mod Compiling
+mod Decompiling
 mod Found
 mod Images
 mod Numbers

@@ -1,8 +1,8 @@
 -- Numbers in digits.
-use Rattle.std.proofs.Common.{◌≡◌, ℕ, zero, suc, ◌+◌, ◌-◌, ◌*◌, ◌≤◌, ◌<◌, ◌^◌, Bool, true, false, List, [], ◌∷◌, Option, Some, None, length, get_or, drop, arith, refl, ap}
-use Rattle.std.specs.Prelude.{IfSome, IfNone, nat_lt, ◌&&◌, if◌then◌else◌}
+use Rattle.std.proofs.Common.{◌≡◌, ℕ, zero, suc, ◌+◌, ◌-◌, ◌*◌, ◌≤◌, ◌<◌, ◌^◌, true, false, List, [], ◌∷◌, Option, Some, None, length, get_or, drop, arith, refl, ap}
+use Rattle.std.specs.Prelude.{IfSome, IfNone, nat_lt}
 use Rattle.std.proofs.lemmas.Bool.Decides.{nat_tests}
-use Rattle.paw_top.specs.Commands.{number_after, has_seed_shape, is_seed, seed_of}
+use Rattle.paw_top.specs.Commands.{number_after, has_seed_shape, seed_of}
 
 -- digits never make a number smaller
 pub number_after-least : (n : ℕ) (ds : List ℕ) → n ≤ number_after n ds

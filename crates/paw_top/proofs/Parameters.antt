@@ -1,8 +1,7 @@
 -- The parameters of a code.
-use Rattle.std.proofs.Common.{◌≡◌, ℕ, ◌≤◌, ◌<◌, List, [], length, arith, refl, sym, subst, ◌∷◌, ◌++◌}
-use Rattle.std.specs.List.{slice_index_or}
+use Rattle.std.proofs.Common.{◌≡◌, ℕ, ◌<◌, [], length, arith, refl, sym, subst, ◌∷◌, ◌++◌}
 use Rattle.paw_base.specs.declared.rows.ParamKind.TheVariants.{Absent}
-use Rattle.paw_base.specs.Condacts.{IsCode, line_of, condact_lines, condact, first_kind, second_kind, CondactLine}
+use Rattle.paw_base.specs.Condacts.{IsCode, line_of, condact_lines, condact, CondactLine}
 use Rattle.paw_base.specs.declared.parts.Condact.{Condact}
 use Rattle.paw_game.specs.Image.{parameter_image, condact_image}
 use Rattle.paw_base.proofs.Table.{length-condact_lines}

@@ -1,18 +1,17 @@
 -- A walk, line by line.
-use Rattle.std.proofs.Common.{◌≡◌, ℕ, zero, suc, ◌+◌, ◌-◌, ◌≤◌, ◌<◌, Bool, true, false, List, [], ◌∷◌, ◌++◌, Option, Some, None, refl, sym, ap, ◌∙◌, subst, length, take, drop, map, arith, append_assoc}
+use Rattle.std.proofs.Common.{◌≡◌, ℕ, zero, suc, ◌+◌, ◌-◌, ◌≤◌, ◌<◌, List, [], ◌∷◌, ◌++◌, Option, Some, None, refl, sym, ap, ◌∙◌, subst, length, take, drop, map, arith, append_assoc}
 use Rattle.std.proofs.lemmas.Grind.{flat_map-append}
 use Rattle.std.proofs.lemmas.List.{append-nil, length-reverse, take-append-drop}
-use Rattle.std.specs.Prelude.{flat_map, reverse}
+use Rattle.std.specs.Prelude.{reverse}
 use Rattle.paw_game.specs.Game.{GameLists}
 use Rattle.paw_stage.specs.Stage.{Standing}
-use Rattle.paw_base.specs.declared.fault.SpentKind.{SpentKind}
 use Rattle.paw_effects.specs.declared.act.Prompt.{Prompt}
 use Rattle.paw_effects.specs.declared.act.Prompt.TheVariants as prompt
 use Rattle.paw_reading.specs.declared.places.Frame.{Frame}
 use Rattle.paw_reading.specs.Run.{Run, Step as Read}
 use Rattle.paw_reading.specs.Reading.{Waits, asked}
 use Rattle.paw_reading.specs.GoingOn.{on_path}
-use Rattle.paw_reading.specs.Turn.{Ending, WaitsAt, IsOver, RunsOut, CallsTooDeep, at_main, first_table, turn, table_done, reading, on, text_of}
+use Rattle.paw_reading.specs.Turn.{Ending, WaitsAt, at_main, reading, on, text_of}
 use Rattle.paw_process.specs.OpenTables.{OpenTables}
 use Rattle.paw_world.specs.World.{World}
 use Rattle.paw_turn.specs.Player.{Seat, run_at, PlaysTo, StandsAt, Stands, IsSeated, IsNew}

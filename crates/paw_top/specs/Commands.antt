@@ -1,12 +1,15 @@
 -- The words of a command.
-use Rattle.std.specs.Prelude.{◌≡◌, ℕ, ◌+◌, ◌-◌, ◌*◌, ◌^◌, Bool, true, false, ◌&&◌, not, List, [], ◌∷◌, length, Option, Some, None, nat_lt, nat_le, codes, if◌then◌else◌}
+use Rattle.std.specs.Prelude.{◌≡◌, ℕ, ◌+◌, ◌-◌, ◌*◌, ◌^◌, Bool, ◌&&◌, List, [], ◌∷◌, length, Option, Some, None, nat_lt, nat_le, codes, if◌then◌else◌}
 use Rattle.std.specs.List.{list_all}
 use Rattle.std.specs.Str.{bytes_eq}
 use Rattle.paw_top.specs.declared.commands.Command.{Command as Given}
 use Rattle.paw_top.specs.declared.commands.Command.TheVariants as given
 
--- what is asked for: to walk through the game of an image, with a seed
+-- what is asked for: to compile a source to an image; to show the source of an image; to walk through the game of an
+-- image, with a seed
 pub data Command : Type 0 where
+  Compile : (source image : List ℕ) → Command
+  Decompile : (image : List ℕ) → Command
   Walk : (image : List ℕ) (seed : ℕ) → Command
 
 abbrev pub is_digit : ℕ → Bool
@@ -32,17 +35,37 @@ seed_of word = if is_seed word then Some (number_after 0 word) else None
 abbrev pub is_name : List ℕ → Bool
 is_name word = nat_lt 0 (length word)
 
-abbrev pub walk_of : List ℕ → Option ℕ → Option Command
-walk_of image None = None
-walk_of image (Some seed) = Some (Walk image seed)
+-- compile SOURCE IMAGE
+abbrev pub compile_of : List (List ℕ) → Option Command
+compile_of (source ∷ image ∷ []) = if is_name source && is_name image then Some (Compile source image) else None
+compile_of _ = None
+
+-- decompile IMAGE
+abbrev pub decompile_of : List (List ℕ) → Option Command
+decompile_of (image ∷ []) = if is_name image then Some (Decompile image) else None
+decompile_of _ = None
+
+abbrev pub walk_with : List ℕ → Option ℕ → Option Command
+walk_with image None = None
+walk_with image (Some seed) = Some (Walk image seed)
 
 -- walk IMAGE SEED
+abbrev pub walk_of : List (List ℕ) → Option Command
+walk_of (image ∷ seed ∷ []) = if is_name image then walk_with image (seed_of seed) else None
+walk_of _ = None
+
+-- the first word says which form the words behind it must have
 abbrev pub command_of : List (List ℕ) → Option Command
-command_of (verb ∷ image ∷ seed ∷ []) =
-    if bytes_eq verb (codes "walk") && is_name image then walk_of image (seed_of seed) else None
-command_of _ = None
+command_of [] = None
+command_of (verb ∷ rest) =
+    if bytes_eq verb (codes "compile") then compile_of rest
+    else if bytes_eq verb (codes "decompile") then decompile_of rest
+    else if bytes_eq verb (codes "walk") then walk_of rest
+    else None
 
 -- the code's answer spells what is asked for
 abbrev pub Spells : Option Given → Option Command → Type 0
 Spells None asked = asked ≡ None
+Spells (Some (given.Compile source image)) asked = asked ≡ Some (Compile source.now image.now)
+Spells (Some (given.Decompile image)) asked = asked ≡ Some (Decompile image.now)
 Spells (Some (given.Walk image seed)) asked = asked ≡ Some (Walk image.now seed)

@@ -2,5 +2,9 @@ pub mod Commands
 pub mod Unbuilt
 pub mod Outcomes
 pub mod Answers
-pub mod Walk
 pub mod Loads
+pub mod Shows
+pub mod Compile
+pub mod Decompile
+pub mod Walk
+pub mod Completes

@@ -1,17 +1,33 @@
--- What loading an image comes to.
-use Rattle.std.specs.Prelude.{◌≡◌, ℕ, List, Result, Ok, Err, Some, None}
+-- What loading a file comes to.
+use Rattle.std.specs.Prelude.{◌≡◌, ℕ, ◌+◌, List, take, Result, Ok, Err, Some, None}
 use Rattle.paw_game.specs.Game.{GameLists}
+use Rattle.paw_image.specs.Images.{IsImage}
 use Rattle.paw_stage.specs.Stage.{Standing}
 use Rattle.paw_stage.specs.declared.StageCall.TheVariants as call
 use Rattle.paw_top.specs.declared.outcome.Outcome.{Outcome}
 use Rattle.paw_top.specs.declared.outcome.Outcome.TheVariants as outcome
-use Rattle.paw_top.specs.Walk.{Holds, HoldsNone}
+
+-- the file of this name holds the image of this game
+abbrev pub Holds : Standing → List ℕ → GameLists → Type 0
+Holds s name g = (bytes : List ℕ) × (s.files name ≡ Some bytes) × IsImage bytes g
+
+-- the file of this name holds no image of a valid game
+abbrev pub HoldsNone : Standing → List ℕ → Type 0
+HoldsNone s name = (bytes : List ℕ) × (s.files name ≡ Some bytes) × ((g : GameLists) → ¬ IsImage bytes g)
+
+-- a load that gave nothing, by its answer; nothing is changed
+abbrev pub LoadsNone : List ℕ → Standing → Standing → Outcome → Type 0
+LoadsNone name old new (outcome.Outside call.LoadAbsent) = (old.files name ≡ None) × (new ≡ old)
+LoadsNone name old new (outcome.Outside call.Load) = new ≡ old
+LoadsNone name old new (outcome.Memory at) = new ≡ old
+LoadsNone name old new _ = ⊥
+
+-- a load that gave these bytes: the whole file, or one more than the most where it has more; nothing is changed
+abbrev pub LoadsSome : List ℕ → ℕ → Standing → Standing → List ℕ → Type 0
+LoadsSome name most old new given = (bytes : List ℕ) × (old.files name ≡ Some bytes) × (given ≡ take (most + 1) bytes) × (new ≡ old)
 
 -- the game that the file holds, or why there is none; nothing is changed
 abbrev pub LoadsImage : List ℕ → Standing → Standing → Result GameLists Outcome → Type 0
 LoadsImage name old new (Ok g) = Holds old name g × (new ≡ old)
 LoadsImage name old new (Err (outcome.ImageDamaged at)) = (at ≡ 0) × HoldsNone old name × (new ≡ old)
-LoadsImage name old new (Err (outcome.Outside call.LoadAbsent)) = (old.files name ≡ None) × (new ≡ old)
-LoadsImage name old new (Err (outcome.Outside call.Load)) = new ≡ old
-LoadsImage name old new (Err (outcome.Memory at)) = new ≡ old
-LoadsImage name old new (Err _) = ⊥
+LoadsImage name old new (Err o) = LoadsNone name old new o

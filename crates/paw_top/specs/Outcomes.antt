@@ -1,6 +1,8 @@
 -- What an outcome says to the system and to a person.
-use Rattle.std.specs.Prelude.{ℕ, List, [], ◌∷◌, ◌++◌, codes}
+use Rattle.std.specs.Prelude.{ℕ, List, [], ◌++◌, codes}
 use Rattle.std.specs.Fmt.{decimal}
+use Rattle.paw_base.specs.declared.fault.SourceKind.{SourceKind}
+use Rattle.paw_base.specs.declared.fault.SourceKind.TheVariants as kind
 use Rattle.paw_base.specs.declared.fault.SpentKind.{SpentKind}
 use Rattle.paw_base.specs.declared.fault.SpentKind.TheVariants as spent
 use Rattle.paw_stage.specs.declared.StageCall.{StageCall}
@@ -12,9 +14,11 @@ use Rattle.paw_top.specs.declared.outcome.MemoryAt.TheVariants as memory
 
 -- the exit status of the program
 abbrev pub status_of : Outcome → ℕ
+status_of outcome.Done = 0
 status_of outcome.Ended = 0
 status_of outcome.InputEnded = 0
 status_of outcome.Usage = 1
+status_of (outcome.SourceRefused fault) = 2
 status_of (outcome.ImageDamaged at) = 3
 status_of (outcome.Unbuilt at code) = 3
 status_of (outcome.Spent kind) = 5
@@ -26,6 +30,18 @@ status_of (outcome.Long events) = 9
 -- every command of the tool, also those that aren't built yet
 unfoldable pub usage : List ℕ
 usage = codes "usage: paw compile S I | decompile I | walk I SEED | play I F SEED | resume I F | trace I SEED | trial N\n"
+
+abbrev pub kind_name : SourceKind → List ℕ
+kind_name kind.Section = codes "Section"
+kind_name kind.Word = codes "Word"
+kind_name kind.Number = codes "Number"
+kind_name kind.Range = codes "Range"
+kind_name kind.Duplicate = codes "Duplicate"
+kind_name kind.Missing = codes "Missing"
+kind_name kind.Extra = codes "Extra"
+kind_name kind.Condact = codes "Condact"
+kind_name kind.Text = codes "Text"
+kind_name kind.TooBig = codes "TooBig"
 
 abbrev pub spent_name : SpentKind → List ℕ
 spent_name spent.Condacts = codes "condacts"
@@ -44,14 +60,18 @@ call_name call.Show = codes "Show"
 
 abbrev pub memory_name : MemoryAt → List ℕ
 memory_name memory.Load = codes "Load"
+memory_name memory.Source = codes "Source"
+memory_name memory.Print = codes "Print"
 memory_name memory.Image = codes "Image"
 memory_name memory.Play = codes "Play"
 
 -- what is written to standard error
 abbrev pub text_of : Outcome → List ℕ
+text_of outcome.Done = []
 text_of outcome.Ended = []
 text_of outcome.InputEnded = []
 text_of outcome.Usage = usage
+text_of (outcome.SourceRefused fault) = codes "source line " ++ (decimal fault.line ++ (codes ": " ++ (kind_name fault.kind ++ codes "\n")))
 text_of (outcome.ImageDamaged at) = codes "image damaged at " ++ (decimal at ++ codes "\n")
 text_of (outcome.Unbuilt at code) = codes "not built: code " ++ (decimal code ++ (codes " at " ++ (decimal at ++ codes "\n")))
 text_of (outcome.Spent kind) = codes "piece spent its " ++ (spent_name kind ++ codes "\n")

@@ -1,12 +1,8 @@
 -- What a walk through a game comes to.
-use Rattle.std.specs.Prelude.{◌≡◌, ◌⊎◌, ℕ, suc, ◌+◌, ◌-◌, ◌<◌, ◌≤◌, List, [], ◌∷◌, ◌++◌, length, take, drop, map, flat_map, reverse, Option, Some, None}
-use Rattle.paw_base.specs.declared.fault.SpentKind.{SpentKind}
+use Rattle.std.specs.Prelude.{◌≡◌, ℕ, suc, ◌+◌, ◌-◌, ◌<◌, ◌≤◌, List, [], ◌++◌, length, take, drop, map, flat_map, reverse, Option, Some, None}
 use Rattle.paw_game.specs.Game.{GameLists}
 use Rattle.paw_stage.specs.Stage.{Standing}
-use Rattle.paw_stage.specs.declared.StageCall.{StageCall}
 use Rattle.paw_stage.specs.declared.StageCall.TheVariants as call
-use Rattle.paw_image.specs.Images.{IsImage}
-use Rattle.paw_effects.specs.Built.{AllBuilt}
 use Rattle.paw_effects.specs.declared.act.Prompt.{Prompt}
 use Rattle.paw_reading.specs.declared.places.Frame.{Frame}
 use Rattle.paw_reading.specs.Run.{Run, Step as Read}
@@ -18,6 +14,7 @@ use Rattle.paw_top.specs.declared.outcome.Outcome.{Outcome}
 use Rattle.paw_top.specs.declared.outcome.Outcome.TheVariants as outcome
 use Rattle.paw_top.specs.declared.outcome.MemoryAt.{MemoryAt}
 use Rattle.paw_top.specs.declared.TheConstants.{MOST_EVENTS}
+use Rattle.paw_top.specs.Loads.{Holds, HoldsNone}
 use Rattle.paw_top.specs.Unbuilt.{first_unbuilt}
 use Rattle.paw_top.specs.declared.unbuilt.Unbuilt.{Unbuilt}
 
@@ -58,14 +55,6 @@ Walks g seed old new (outcome.Outside call.Ask) =
 Walks g seed old new (outcome.Outside call.Show) = (n : ℕ) × ReadsPart g seed old new n
 Walks g seed old new (outcome.Memory at) = new ≡ old
 Walks g seed old new _ = ⊥
-
--- the file of this name holds the image of this game
-abbrev pub Holds : Standing → List ℕ → GameLists → Type 0
-Holds s name g = (bytes : List ℕ) × (s.files name ≡ Some bytes) × IsImage bytes g
-
--- the file of this name holds no image of a valid game
-abbrev pub HoldsNone : Standing → List ℕ → Type 0
-HoldsNone s name = (bytes : List ℕ) × (s.files name ≡ Some bytes) × ((g : GameLists) → ¬ IsImage bytes g)
 
 -- a walk through the game that this file holds, or why there is none, with nothing changed
 pub data WalksIn (name : List ℕ) (seed : ℕ) (old new : Standing) : Outcome → Type 0 where

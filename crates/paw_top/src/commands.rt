@@ -1,12 +1,14 @@
 // The words of a command.
 
 ghost use Rattle.std.specs.Prelude.{◌≡◌, ◌+◌, ◌-◌, ◌*◌, ◌<◌, ◌≤◌, ◌^◌, ℕ, map, Option, string_bytes, IfSome, IfNone};
-ghost use Rattle.paw_top.specs.Commands.{command_of, seed_of, has_seed_shape, is_digit, number_after, Spells};
+ghost use Rattle.paw_top.specs.Commands.{command_of, compile_of, decompile_of, walk_of, seed_of, has_seed_shape, is_digit, number_after, Spells};
 ghost use Rattle.std.specs.List.{list_all};
 
 /// What is asked for.
 #[derive(Clone, Copy, Drop)]
 pub(crate) enum Command<'a> {
+    Compile { source: &'a str, image: &'a str },
+    Decompile { image: &'a str },
     Walk { image: &'a str, seed: u64 },
 }
 
@@ -65,16 +67,54 @@ fn seed_of(word: &str) -> Option<u64>
     number_of(digits)
 }
 
+// SOURCE IMAGE, behind `compile`.
+fn compile_of<'a>(names: &'a [String]) -> Option<Command<'a>>
+    ensures value { Spells result (compile_of (map string_bytes names.now)) }
+{
+    if names.len() != 2 || names[0].is_empty() || names[1].is_empty() {
+        return None;
+    }
+    Some(Command::Compile {
+        source: names[0].as_str(),
+        image: names[1].as_str(),
+    })
+}
+
+// IMAGE, behind `decompile`.
+fn decompile_of<'a>(names: &'a [String]) -> Option<Command<'a>>
+    ensures value { Spells result (decompile_of (map string_bytes names.now)) }
+{
+    if names.len() != 1 || names[0].is_empty() {
+        return None;
+    }
+    Some(Command::Decompile {
+        image: names[0].as_str(),
+    })
+}
+
+// IMAGE SEED, behind `walk`.
+fn walk_of<'a>(names: &'a [String]) -> Option<Command<'a>>
+    ensures value { Spells result (walk_of (map string_bytes names.now)) }
+{
+    if names.len() != 2 || names[0].is_empty() {
+        return None;
+    }
+    let seed = seed_of(names[1].as_str())?;
+    Some(Command::Walk {
+        image: names[0].as_str(),
+        seed,
+    })
+}
+
 /// What these words ask for; None where they have no form.
 pub(crate) fn command_of<'a>(words: &'a [String]) -> Option<Command<'a>>
     ensures value { Spells result (command_of (map string_bytes words.now)) }
 {
-    if words.len() != 3 || words[0].as_str() != "walk" || words[1].is_empty() {
-        return None;
+    let (verb, names) = words.split_first()?;
+    match verb.as_str() {
+        "compile" => compile_of(names),
+        "decompile" => decompile_of(names),
+        "walk" => walk_of(names),
+        _ => None,
     }
-    let seed = seed_of(words[2].as_str())?;
-    Some(Command::Walk {
-        image: words[1].as_str(),
-        seed,
-    })
 }

@@ -2,6 +2,9 @@
 #![tactic(auto)]
 
 mod commands;
+mod compile;
+mod decompile;
+mod load;
 pub mod outcome;
 mod show;
 #[cfg(test)]

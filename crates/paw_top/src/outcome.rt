@@ -1,30 +1,35 @@
 // What a command comes to.
 
 ghost use Rattle.std.specs.Prelude.{◌≡◌, IfOk, string_bytes};
-ghost use Rattle.paw_top.specs.Outcomes.{status_of, text_of, call_name, memory_name, spent_name};
+ghost use Rattle.paw_top.specs.Outcomes.{status_of, text_of, call_name, kind_name, memory_name, spent_name};
 
-use paw_base::fault::{NoRoom, SpentKind};
+use paw_base::fault::{NoRoom, SourceFault, SourceKind, SpentKind};
 use paw_stage::StageCall;
 use std::alloc::Global;
 
-/// Where memory was wanting: in a load, or in making what a game is played with.
+/// Where memory was wanting: in a load, in reading a source, in printing one, in decoding or encoding an image, or in
+/// making what a game is played with.
 #[derive(Clone, Copy, Drop, PartialEq, Eq, Debug)]
 pub enum MemoryAt {
     Load,
+    Source,
+    Print,
     Image,
     Play,
 }
 
-/// What a command comes to. Ended: the game is over. InputEnded: no line is left at a prompt. Usage: the words have no
-/// form. ImageDamaged: the file is no image of a valid game. Unbuilt: the image has a condact that isn't built yet; the
+/// What a command comes to. Done: the command did what it is for. Ended: the game is over. InputEnded: no line is left at a prompt. Usage: the words have no
+/// form. SourceRefused: the source has a fault; its first is named. ImageDamaged: the file is no image of a valid game. Unbuilt: the image has a condact that isn't built yet; the
 /// place and the code of the first are named. Spent: a piece would read or hold too much. TooDeep: a table was called
 /// at the deepest level. Outside: a call of the stage failed. Long: the session has all the lines that it may have.
 /// Memory: want of memory.
 #[derive(Clone, Copy, Drop, PartialEq, Eq, Debug)]
 pub enum Outcome {
+    Done,
     Ended,
     InputEnded,
     Usage,
+    SourceRefused(SourceFault),
     ImageDamaged { at: u64 },
     Unbuilt { at: u64, code: u8 },
     Spent(SpentKind),
@@ -55,12 +60,32 @@ fn call_name(call: StageCall) -> &'static str
     }
 }
 
+// The name of a kind of fault.
+fn kind_name(kind: SourceKind) -> &'static str
+    ensures { result.now ≡ kind_name kind }
+{
+    match kind {
+        SourceKind::Section => "Section",
+        SourceKind::Word => "Word",
+        SourceKind::Number => "Number",
+        SourceKind::Range => "Range",
+        SourceKind::Duplicate => "Duplicate",
+        SourceKind::Missing => "Missing",
+        SourceKind::Extra => "Extra",
+        SourceKind::Condact => "Condact",
+        SourceKind::Text => "Text",
+        SourceKind::TooBig => "TooBig",
+    }
+}
+
 // The name of a place where memory was wanting.
 fn memory_name(at: MemoryAt) -> &'static str
     ensures { result.now ≡ memory_name at }
 {
     match at {
         MemoryAt::Load => "Load",
+        MemoryAt::Source => "Source",
+        MemoryAt::Print => "Print",
         MemoryAt::Image => "Image",
         MemoryAt::Play => "Play",
     }
@@ -77,15 +102,16 @@ fn spent_name(kind: SpentKind) -> &'static str
 }
 
 impl Outcome {
-    /// The exit status of the program: 0 where the command did what it is for, 1 for words with no form, 3 for an image,
-    /// 5 and 6 for a piece that is spent and a call too deep, 7 for a failed call, 8 for want of memory, 9 for a session
+    /// The exit status of the program: 0 where the command did what it is for, 1 for words with no form, 2 for a source, 3 for an
+    /// image, 5 and 6 for a piece that is spent and a call too deep, 7 for a failed call, 8 for want of memory, 9 for a session
     /// that is full.
     pub fn status(&self) -> u8
         ensures value { result ≡ status_of self.now }
     {
         match self {
-            Outcome::Ended | Outcome::InputEnded => 0,
+            Outcome::Done | Outcome::Ended | Outcome::InputEnded => 0,
             Outcome::Usage => 1,
+            Outcome::SourceRefused(_) => 2,
             Outcome::ImageDamaged { .. } | Outcome::Unbuilt { .. } => 3,
             Outcome::Spent(_) => 5,
             Outcome::TooDeep { .. } => 6,
@@ -104,8 +130,13 @@ impl Outcome {
         ensures value { IfOk result (λ text. string_bytes text ≡ text_of self.now) }
     {
         match *self {
-            Outcome::Ended | Outcome::InputEnded => Ok(String::new(alloc)),
+            Outcome::Done | Outcome::Ended | Outcome::InputEnded => Ok(String::new(alloc)),
             Outcome::Usage => Ok(String::from_str(alloc, USAGE)?),
+            Outcome::SourceRefused(fault) => {
+                let line = fault.line;
+                let kind = kind_name(fault.kind);
+                Ok(format!(in alloc; "source line {line}: {kind}\n")?)
+            }
             Outcome::ImageDamaged { at } => Ok(format!(in alloc; "image damaged at {at}\n")?),
             Outcome::Unbuilt { at, code } => Ok(format!(in alloc;
                 "not built: code {code} at {at}\n"

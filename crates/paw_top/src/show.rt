@@ -1,10 +1,14 @@
-// Showing pieces.
+// Showing pieces and other texts.
 
-ghost use Rattle.std.specs.Prelude.{◌≡◌, ◌++◌, ◌↔◌, ℕ, take, OnOk, OnErr, IsErr};
+ghost use Rattle.std.specs.Prelude.{◌≡◌, ◌≢◌, ◌++◌, ◌↔◌, ℕ, take, OnOk, OnErr, IsErr};
 ghost use Rattle.paw_stage.specs.Stage.{Standing, Rose, Grows};
 ghost use Rattle.paw_stage.specs.declared.StageCall.TheVariants as call;
+ghost use Rattle.paw_top.specs.Answers.{IfOutside};
+ghost use Rattle.paw_top.specs.Shows.{Shows};
+ghost use Rattle.paw_top.specs.declared.outcome.Outcome.TheVariants as outcome;
 
-use paw_stage::{Failed, Stage};
+use crate::outcome::Outcome;
+use paw_stage::{Failed, Stage, StageCall};
 
 /// Shows a piece; an empty one takes no call.
 pub(crate) fn show<S: Stage>(stage: &mut S, piece: &[u8]) -> Result<(), Failed>
@@ -18,4 +22,18 @@ pub(crate) fn show<S: Stage>(stage: &mut S, piece: &[u8]) -> Result<(), Failed>
         return Ok(());
     }
     stage.show(piece)
+}
+
+/// Shows the text that a command ends with.
+pub(crate) fn tell<S: Stage>(stage: &mut S, text: &[u8]) -> Outcome
+    ensures tells { S.Tells stage.old ↔ S.Tells stage.new }
+    ensures counts { Grows (S.faults stage.old) (S.faults stage.new) }
+    ensures outside { IfOutside result (λ c. (c ≡ call.Show) × Rose (S.faults stage.old c) (S.faults stage.new c)) }
+    ensures form { result ≢ outcome.Usage }
+    ensures shows { S.Tells stage.old → Shows text.now (S.standing stage.old) (S.standing stage.new) result }
+{
+    if show(stage, text).is_err() {
+        return Outcome::Outside(StageCall::Show);
+    }
+    Outcome::Done
 }

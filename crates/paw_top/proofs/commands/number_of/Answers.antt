@@ -1,4 +1,4 @@
-use Rattle.std.proofs.Common.{◌≤◌, arith}
+use Rattle.std.proofs.Common.{arith}
 use Rattle.paw_top.proofs.Numbers.{digit_more}
 use Rattle.paw_top.proofs.commands.number_of.Goals as goal
 

@@ -1,4 +1,4 @@
-use Rattle.std.proofs.Common.{◌≡◌, ◌≤◌, ◌<◌, arith, sym, subst}
+use Rattle.std.proofs.Common.{sym, subst}
 use Rattle.paw_top.specs.Walk.{Walks, walks, unbuilt}
 use Rattle.paw_top.proofs.Found.{all_built}
 use Rattle.paw_top.proofs.Refusals.{no_walk}

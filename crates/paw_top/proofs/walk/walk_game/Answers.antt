@@ -1,4 +1,4 @@
-use Rattle.std.proofs.Common.{◌≡◌, ◌∙◌, subst, Some, None}
+use Rattle.std.proofs.Common.{◌∙◌, subst, Some, None}
 use Rattle.paw_top.specs.Walk.{Walks}
 use Rattle.paw_top.proofs.Walking.{walk_starts}
 use Rattle.paw_top.proofs.walk.walk_game.Goals as goal

@@ -1,4 +1,3 @@
-use Rattle.std.proofs.Common.{◌≡◌, ◌∙◌, sym, refl, length}
 use Rattle.paw_top.proofs.Walking.{walks_on, none_left, none_asked}
 use Rattle.paw_top.proofs.walk.walk_line.Goals as goal
 

@@ -1,6 +1,5 @@
-use Rattle.std.proofs.Common.{◌≡◌, ◌∙◌, ◌+◌, ◌≤◌, suc, arith, subst, add-one}
-use Rattle.paw_stage.specs.Stage.{Standing}
-use Rattle.paw_top.specs.Walk.{Walks, IsWalking}
+use Rattle.std.proofs.Common.{◌≡◌, ◌∙◌, arith, subst, add-one}
+use Rattle.paw_top.specs.Walk.{Walks}
 use Rattle.paw_top.specs.declared.TheConstants.{MOST_EVENTS}
 use Rattle.paw_top.proofs.Walking.{long_walk}
 use Rattle.paw_top.proofs.walk.walk_lines.Goals as goal

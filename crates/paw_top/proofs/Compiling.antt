@@ -1,0 +1,62 @@
+-- A compiler, step by step.
+use Rattle.std.proofs.Common.{◌≡◌, ℕ, ◌≤◌, true, List, length, take, refl, sym, ap, ◌∙◌, subst, arith, ◌⊎◌, inl, inr}
+use Rattle.std.proofs.lemmas.Bool.Decides.{nat_tests}
+use Rattle.std.proofs.lemmas.List.{take_all, length-take-le}
+use Rattle.std.specs.Prelude.{nat_lt, Ok, Err}
+use Rattle.paw_base.specs.declared.fault.SourceKind.TheVariants as kind
+use Rattle.paw_game.specs.Game.{GameLists}
+use Rattle.paw_game.specs.Image.{image}
+use Rattle.paw_grammar.specs.Spells.{spelled}
+use Rattle.paw_stage.specs.Stage.{Standing}
+use Rattle.paw_stage.specs.declared.StageCall.TheVariants as call
+use Rattle.paw_top.specs.Compile.{Compiles, done, refused, absent, unloaded, unsaved, unshown, memory, HoldsSource, IsRefusal, Keeps, image_line}
+use Rattle.paw_top.specs.Loads.{LoadsSome, LoadsNone}
+use Rattle.paw_top.specs.declared.outcome.Outcome.{Outcome}
+use Rattle.paw_top.specs.declared.outcome.Outcome.TheVariants as outcome
+use Rattle.paw_top.proofs.Images.{in_order}
+
+-- ---- the source ----
+
+-- a source with too many bytes has its fault before its first line
+too_long : (bytes : List ℕ) → 8388609 ≤ length bytes → spelled bytes ≡ Err (record { line = 0; kind = kind.TooBig })
+unfolding spelled
+too_long bytes h = let t : nat_lt 8388608 (length bytes) ≡ true = grind (arith, nat_tests) in rw t refl
+
+first_bytes : (bytes : List ℕ) → (length bytes ≤ 8388608) ⊎ (8388609 ≤ length bytes) → spelled (take 8388609 bytes) ≡ spelled bytes
+first_bytes bytes (inl k) = ap spelled (take_all 8388609 bytes (omega (arith, k)))
+first_bytes bytes (inr k) = too_long (take 8388609 bytes) (omega (arith, length-take-le 8388609 bytes k)) ∙ sym (too_long bytes k)
+
+-- what was loaded of a source is read as the whole
+read_whole : (given bytes : List ℕ) → given ≡ take 8388609 bytes → spelled bytes ≡ spelled given
+read_whole given bytes e = sym (ap spelled e ∙ first_bytes bytes (in_order (length bytes) 8388608))
+
+-- ---- the answers ----
+
+-- a load that gives nothing says why nothing is compiled
+pub no_source : (source target : List ℕ) (old new : Standing) (o : Outcome) → LoadsNone source old new o → Compiles source target old new o
+no_source source target old new (outcome.Outside call.LoadAbsent) h = absent h.0 h.1
+no_source source target old new (outcome.Outside call.Load) h = unloaded h
+no_source source target old new (outcome.Memory at) h = memory at h
+no_source source target old new _ h = absurd h
+
+-- a source that gives no image says why nothing is compiled
+pub no_image : (source target given : List ℕ) (old new : Standing) (o : Outcome) → LoadsSome source 8388608 old new given → IsRefusal (spelled given) o →
+    Compiles source target old new o
+no_image source target given old new (outcome.SourceRefused fault) f h = refused fault (f.0, f.1, read_whole given f.0 f.2 ∙ h) f.3
+no_image source target given old new (outcome.Memory at) f h = memory at f.3
+no_image source target given old new _ f h = absurd h
+
+keeps_so : (source target : List ℕ) (g : GameLists) (old new : Standing) (o : Outcome) → HoldsSource old source g →
+    Keeps target (image g) (image_line (length (image g))) old new o → Compiles source target old new o
+keeps_so source target g old new outcome.Done s k = done g s k
+keeps_so source target g old new (outcome.Outside call.Save) s k = unsaved g s k
+keeps_so source target g old new (outcome.Outside call.Show) s k = unshown g k.0 s k.1
+keeps_so source target g old new _ s k = absurd k
+
+-- an image that is kept is compiled, as far as it was kept
+pub keeps_image : (source target given made line : List ℕ) (old mid new : Standing) (o : Outcome) → LoadsSome source 8388608 old mid given →
+    (g : GameLists) × (spelled given ≡ Ok g) × (made ≡ image g) → line ≡ image_line (length made) → Keeps target made line mid new o → Compiles source target old new o
+keeps_image source target given made line old mid new o f m l k =
+    keeps_so source target m.0 old new o (f.0, f.1, read_whole given f.0 f.2 ∙ m.1)
+    (subst (λ s. Keeps target (image m.0) (image_line (length (image m.0))) s new o) f.3
+    (subst (λ b. Keeps target b (image_line (length b)) mid new o) m.2 (subst (λ t. Keeps target made t mid new o) l k)))

@@ -1,0 +1,28 @@
+use Rattle.std.proofs.Common.{◌∙◌, ap, sym, subst, length}
+use Rattle.paw_grammar.specs.Spells.{spelled}
+use Rattle.paw_top.specs.Compile.{Compiles, IsRefusal, memory, image_line}
+use Rattle.paw_top.specs.declared.outcome.MemoryAt.TheVariants as at
+use Rattle.paw_top.proofs.Compiling.{no_source, no_image, keeps_image}
+use Rattle.paw_top.proofs.compile.compile.Goals as goal
+
+pub returns-in-Err-clause-compiles : goal.returns-in-Err-clause-compiles
+returns-in-Err-clause-compiles g c = λ tells. no_source c.args.source.now c.args.image.now _ _ c.in-Err.outcome (c.in-Err.ensures.none tells)
+
+pub returns-in-Err-image_of-clause-compiles : goal.returns-in-Err-image_of-clause-compiles
+returns-in-Err-image_of-clause-compiles g c = λ tells.
+    no_image c.args.source.now c.args.image.now c.in-Ok.bytes.items _ _ c.in-Err-image_of.refusal (c.in-Ok.ensures.some tells)
+    (subst (λ b. IsRefusal (spelled b) c.in-Err-image_of.refusal) c.as_slice.ensures.value c.in-Err-image_of.ensures.refusal)
+
+pub returns-in-Err-line_of-clause-compiles : goal.returns-in-Err-line_of-clause-compiles
+returns-in-Err-line_of-clause-compiles g c = λ tells.
+    let f = c.in-Ok.ensures.some tells in
+    subst (λ o. Compiles c.args.source.now c.args.image.now (g.S.Stage.standing c.args.stage.now) (g.S.Stage.standing c.load.new.stage) o)
+    (sym c.in-Err-line_of.ensures.memory) (memory at.Image f.3)
+
+pub returns-clause-compiles : goal.returns-clause-compiles
+returns-clause-compiles g c = λ tells.
+    let made = c.in-Ok-image_of.ensures.image in
+    keeps_image c.args.source.now c.args.image.now c.in-Ok.bytes.items c.as_slice-2.result.now c.as_bytes.result.now _ _ _ c.keep.result (c.in-Ok.ensures.some tells)
+    (made.0, ap spelled (sym c.as_slice.ensures.value) ∙ made.1, c.as_slice-2.ensures.value ∙ made.2)
+    (c.as_bytes.ensures.value ∙ c.in-Ok-line_of.ensures.line ∙ ap image_line (c.len.ensures ∙ c.in-Ok-image_of.made.ok.0 ∙ ap length (sym c.as_slice-2.ensures.value)))
+    (c.keep.ensures.keeps (c.load.ensures.tells.0 tells))

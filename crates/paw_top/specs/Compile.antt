@@ -1,0 +1,65 @@
+-- What compiling a source comes to.
+use Rattle.std.specs.Prelude.{◌≡◌, ◌⊎◌, ℕ, List, ◌++◌, length, take, Result, Ok, Err, Option, Some, None, codes}
+use Rattle.std.specs.Fmt.{decimal}
+use Rattle.paw_base.specs.declared.fault.SourceFault.{SourceFault}
+use Rattle.paw_game.specs.Game.{GameLists}
+use Rattle.paw_game.specs.Image.{image}
+use Rattle.paw_grammar.specs.Spells.{spelled}
+use Rattle.paw_stage.specs.Stage.{Standing, holds, Saves}
+use Rattle.paw_stage.specs.declared.StageCall.TheVariants as call
+use Rattle.paw_top.specs.Shows.{showing, Shows}
+use Rattle.paw_top.specs.declared.outcome.Outcome.{Outcome}
+use Rattle.paw_top.specs.declared.outcome.Outcome.TheVariants as outcome
+use Rattle.paw_top.specs.declared.outcome.MemoryAt.{MemoryAt}
+
+-- the file of this name holds a source that spells this game
+abbrev pub HoldsSource : Standing → List ℕ → GameLists → Type 0
+HoldsSource s name g = (bytes : List ℕ) × (s.files name ≡ Some bytes) × (spelled bytes ≡ Ok g)
+
+-- the file of this name holds a source whose first fault is this one
+abbrev pub HoldsFault : Standing → List ℕ → SourceFault → Type 0
+HoldsFault s name fault = (bytes : List ℕ) × (s.files name ≡ Some bytes) × (spelled bytes ≡ Err fault)
+
+-- the line that tells how many bytes an image has
+abbrev pub image_line : ℕ → List ℕ
+image_line size = codes "IMAGE " ++ (decimal size ++ codes " BYTES\n")
+
+-- the file of this name now holds these bytes, and then this text was shown; all else stands as it was
+abbrev pub kept : Standing → List ℕ → List ℕ → List ℕ → Standing
+kept old name bytes text = showing (record old { files = holds name (Some bytes) old.files }) text
+
+-- a save failed: the file of this name alone may hold any bytes, or be gone
+abbrev pub Unsaved : Standing → Standing → List ℕ → Type 0
+Unsaved old new name = (new ≡ old) ⊎ ((left : Option (List ℕ)) × Saves old new name left)
+
+-- how a compiler leaves what stands, by its answer
+pub data Compiles (source target : List ℕ) (old new : Standing) : Outcome → Type 0 where
+  -- the source spells a game, the target holds its image, and the line was shown
+  done : (g : GameLists) → HoldsSource old source g → new ≡ kept old target (image g) (image_line (length (image g))) →
+      Compiles source target old new outcome.Done
+  -- the source has a fault; nothing is changed
+  refused : (fault : SourceFault) → HoldsFault old source fault → new ≡ old → Compiles source target old new (outcome.SourceRefused fault)
+  -- there is no source; nothing is changed
+  absent : old.files source ≡ None → new ≡ old → Compiles source target old new (outcome.Outside call.LoadAbsent)
+  -- the source couldn't be loaded; nothing is changed
+  unloaded : new ≡ old → Compiles source target old new (outcome.Outside call.Load)
+  -- the image of the game couldn't be saved; nothing was shown
+  unsaved : (g : GameLists) → HoldsSource old source g → Unsaved old new target → Compiles source target old new (outcome.Outside call.Save)
+  -- the line couldn't be shown: the target holds the image, and a first part of the line was shown
+  unshown : (g : GameLists) (n : ℕ) → HoldsSource old source g → new ≡ kept old target (image g) (take n (image_line (length (image g)))) →
+      Compiles source target old new (outcome.Outside call.Show)
+  -- memory was wanting; nothing is changed
+  memory : (at : MemoryAt) → new ≡ old → Compiles source target old new (outcome.Memory at)
+
+-- ---- on the way ----
+
+-- why a source that is read so gives no image: its fault, or want of memory
+abbrev pub IsRefusal : Result GameLists SourceFault → Outcome → Type 0
+IsRefusal read (outcome.SourceRefused fault) = read ≡ Err fault
+IsRefusal read (outcome.Memory at) = Unit {0}
+IsRefusal read _ = ⊥
+
+-- how saving a file and then showing a line leave what stands, by the answer
+abbrev pub Keeps : List ℕ → List ℕ → List ℕ → Standing → Standing → Outcome → Type 0
+Keeps name bytes line old new (outcome.Outside call.Save) = Unsaved old new name
+Keeps name bytes line old new o = Shows line (record old { files = holds name (Some bytes) old.files }) new o

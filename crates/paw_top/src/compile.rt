@@ -1,0 +1,98 @@
+// From a source to an image.
+
+ghost use Rattle.std.specs.Prelude.{◌≡◌, ◌≢◌, ◌≤◌, ◌↔◌, length, string_bytes, Ok, IfOk, IfErr};
+ghost use Rattle.paw_game.specs.Game.{GameLists};
+ghost use Rattle.paw_game.specs.Image.{image};
+ghost use Rattle.paw_image.specs.declared.TheConstants.{IMAGE_LIMIT};
+ghost use Rattle.paw_grammar.specs.Spells.{spelled};
+ghost use Rattle.paw_stage.specs.Stage.{Standing, Rose, Grows};
+ghost use Rattle.paw_top.specs.Answers.{IfOutside, IsCompileCall};
+ghost use Rattle.paw_top.specs.Compile.{Compiles, IsRefusal, Keeps, image_line};
+ghost use Rattle.paw_top.specs.declared.outcome.Outcome.TheVariants as outcome;
+ghost use Rattle.paw_top.specs.declared.outcome.MemoryAt.TheVariants as memory;
+
+use crate::load::load;
+use crate::outcome::{MemoryAt, Outcome};
+use crate::show::tell;
+use paw_game::game::Game;
+use paw_image::encoder::encode;
+use paw_image::refusal::ImageRefusal;
+use paw_lex::MAX_SOURCE_LEN;
+use paw_source::read_source;
+use paw_source::refusal::SourceRefusal;
+use paw_stage::{Stage, StageCall};
+use std::alloc::Global;
+
+/// The game that a source spells, or why there is none.
+fn game_of(alloc: Global, source: &[u8]) -> Result<Game, Outcome>
+    ensures game { IfOk result (λ g. spelled source.now ≡ Ok g) }
+    ensures short { IfOk result (λ g. length (image g) ≤ IMAGE_LIMIT) }
+    ensures refusal { IfErr result (IsRefusal (spelled source.now)) }
+{
+    match read_source(alloc, source) {
+        Ok(game) => Ok(game),
+        Err(SourceRefusal::Fault(fault)) => Err(Outcome::SourceRefused(fault)),
+        Err(SourceRefusal::Memory) => Err(Outcome::Memory(MemoryAt::Source)),
+    }
+}
+
+/// The image of the game that a source spells, or why there is none.
+fn image_of(alloc: Global, source: &[u8]) -> Result<Vec<u8>, Outcome>
+    ensures image { IfOk result (λ v. (g : GameLists) × (spelled source.now ≡ Ok g) × (v.items ≡ image g)) }
+    ensures refusal { IfErr result (IsRefusal (spelled source.now)) }
+{
+    let game = game_of(alloc, source)?;
+    match encode(alloc, &game) {
+        Ok(bytes) => Ok(bytes),
+        Err(ImageRefusal::Memory) => Err(Outcome::Memory(MemoryAt::Image)),
+        Err(ImageRefusal::Damaged { .. }) => unreachable!(),
+    }
+}
+
+/// The line that tells how many bytes an image has.
+fn line_of(alloc: Global, size: usize) -> Result<String, Outcome>
+    ensures line { IfOk result (λ text. string_bytes text ≡ image_line size) }
+    ensures memory { IfErr result (λ o. o ≡ outcome.Memory memory.Image) }
+{
+    match format!(in alloc; "IMAGE {size} BYTES\n") {
+        Ok(line) => Ok(line),
+        Err(_) => Err(Outcome::Memory(MemoryAt::Image)),
+    }
+}
+
+/// Saves an image, and then shows a line.
+fn keep<S: Stage>(stage: &mut S, name: &str, image: &[u8], line: &[u8]) -> Outcome
+    ensures tells { S.Tells stage.old ↔ S.Tells stage.new }
+    ensures counts { Grows (S.faults stage.old) (S.faults stage.new) }
+    ensures outside { IfOutside result (λ c. IsCompileCall c × Rose (S.faults stage.old c) (S.faults stage.new c)) }
+    ensures form { result ≢ outcome.Usage }
+    ensures keeps { S.Tells stage.old → Keeps name.now image.now line.now (S.standing stage.old) (S.standing stage.new) result }
+{
+    if stage.save(name, image).is_err() {
+        return Outcome::Outside(StageCall::Save);
+    }
+    tell(stage, line)
+}
+
+/// Compiles a source file to an image file, and shows how many bytes the image has.
+pub(crate) fn compile<S: Stage>(alloc: Global, stage: &mut S, source: &str, image: &str) -> Outcome
+    ensures tells { S.Tells stage.old ↔ S.Tells stage.new }
+    ensures counts { Grows (S.faults stage.old) (S.faults stage.new) }
+    ensures outside { IfOutside result (λ c. IsCompileCall c × Rose (S.faults stage.old c) (S.faults stage.new c)) }
+    ensures form { result ≢ outcome.Usage }
+    ensures compiles { S.Tells stage.old → Compiles source.now image.now (S.standing stage.old) (S.standing stage.new) result }
+{
+    let bytes = match load(alloc, stage, source, MAX_SOURCE_LEN) {
+        Ok(bytes) => bytes,
+        Err(outcome) => return outcome,
+    };
+    let made = match image_of(alloc, bytes.as_slice()) {
+        Ok(made) => made,
+        Err(refusal) => return refusal,
+    };
+    let line = match line_of(alloc, made.len()) {
+        Ok(line) => line,
+        Err(outcome) => return outcome,
+    };
+    keep(stage, image, made.as_slice(), line.as_bytes())
+}

@@ -1,0 +1,32 @@
+// From an image to its source.
+
+ghost use Rattle.std.specs.Prelude.{◌≡◌, ◌≢◌, ◌↔◌};
+ghost use Rattle.paw_stage.specs.Stage.{Standing, Rose, Grows};
+ghost use Rattle.paw_top.specs.Answers.{IfOutside, IsDecompileCall};
+ghost use Rattle.paw_top.specs.Decompile.{Decompiles};
+ghost use Rattle.paw_top.specs.declared.outcome.Outcome.TheVariants as outcome;
+
+use crate::load::load_game;
+use crate::outcome::{MemoryAt, Outcome};
+use crate::show::tell;
+use paw_print::canonical;
+use paw_stage::Stage;
+use std::alloc::Global;
+
+/// Shows the canonical source of the game of an image file.
+pub(crate) fn decompile<S: Stage>(alloc: Global, stage: &mut S, image: &str) -> Outcome
+    ensures tells { S.Tells stage.old ↔ S.Tells stage.new }
+    ensures counts { Grows (S.faults stage.old) (S.faults stage.new) }
+    ensures outside { IfOutside result (λ c. IsDecompileCall c × Rose (S.faults stage.old c) (S.faults stage.new c)) }
+    ensures form { result ≢ outcome.Usage }
+    ensures decompiles { S.Tells stage.old → Decompiles image.now (S.standing stage.old) (S.standing stage.new) result }
+{
+    let game = match load_game(alloc, stage, image) {
+        Ok(game) => game,
+        Err(outcome) => return outcome,
+    };
+    let Ok(source) = canonical(alloc, &game) else {
+        return Outcome::Memory(MemoryAt::Print);
+    };
+    tell(stage, source.as_slice())
+}
