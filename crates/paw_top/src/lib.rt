@@ -3,6 +3,8 @@
 
 mod commands;
 mod compile;
+#[cfg(test)]
+mod compile_tests;
 mod decompile;
 mod load;
 pub mod outcome;

@@ -1,0 +1,349 @@
+// Sources that are compiled and images that are decompiled, over stages in memory, and each way in which one is refused.
+
+use crate::outcome::{MemoryAt, Outcome};
+use crate::tests::words_of;
+use crate::top::paw;
+use paw_base::fault::{SourceFault, SourceKind};
+use paw_stage::{Asked, FailStage, MemoryStage, Stage, StageCall};
+use std::alloc::{AllocError, Global};
+use std::process::Abort;
+use std::test::Fail;
+
+/// One location with no text.
+const SMALLEST: &str = "/VOC\n/STX\n/MTX\n/OTX\n/LTX\n/0\n/CON\n/OBJ\n/PRO 0\n/PRO 1\n/PRO 2\n";
+
+/// The image of that.
+const SMALLEST_IMAGE: [u8; 26] = [
+    80, 65, 87, 73, 1, 0, 0, 0, 0, 0, 0, 0, 0, 1, 0, 3, 0, 0, 0, 0, 0, 0, 0, 0, 0, 0,
+];
+
+/// A lamp in a cave, with words that mean the same, and one of seven letters.
+const LANTERN: &str =
+    "/VOC\nTAKE 30 verb\nGET 30 verb\nLANTERN 50 noun\nLAMP 50 noun\n/STX\n/MTX\n/0\nTaken.\n/OTX\n/0\na lamp\n/LTX\n/0\nA cave.\n/CON\n/OBJ\n0 0 1 - LANTERN _\n/PRO 0\ntake lantern MESSAGE 0 DONE\n/PRO 1\n/PRO 2\n";
+
+/// The canonical source of the same game.
+const LANTERN_CANONICAL: &str =
+    "/VOC\nGET 30 verb\nLAMP 50 noun\nLANTE 50 noun\nTAKE 30 verb\n/STX\n/MTX\n/0\nTaken.\n/OTX\n/0\na lamp\n/LTX\n/0\nA cave.\n/CON\n/OBJ\n0 0 1 - LAMP _\n/PRO 0\nGET LAMP\n MESSAGE 0\n DONE\n/PRO 1\n/PRO 2\n";
+
+/// The same game with notes, its words in another order, other line ends, and bytes behind the end of the text.
+const LANTERN_OTHERWISE: &str =
+    "; note\r\n/VOC\r\nTAKE 30 verb\r\n; note\r\nLANTE 50 noun\r\nLAMP 50 noun\r\nGET 30 verb\r\n/STX\r\n/MTX\r\n/0\r\nTaken.\r\n/OTX\r\n/0\r\na lamp\r\n/LTX\r\n/0\r\nA cave.\r\n/CON\r\n/OBJ\r\n0 0 1 - LAMP _\r\n/PRO 0\r\n; note\r\nGET LAMP\r\n MESSAGE 0\r\n DONE\r\n/PRO 1\r\n/PRO 2\r\n\u{1a}junk";
+
+/// The image of all three.
+const LANTERN_IMAGE: [u8; 87] = [
+    80, 65, 87, 73, 1, 4, 0, 0, 0, 1, 0, 1, 0, 1, 0, 3, 0, 71, 69, 84, 32, 32, 30, 0, 76, 65, 77,
+    80, 32, 50, 2, 76, 65, 78, 84, 69, 50, 2, 84, 65, 75, 69, 32, 30, 0, 6, 0, 84, 97, 107, 101,
+    110, 46, 6, 0, 97, 32, 108, 97, 109, 112, 50, 255, 0, 1, 7, 0, 65, 32, 99, 97, 118, 101, 46, 0,
+    1, 0, 30, 50, 2, 51, 0, 32, 0, 0, 0, 0,
+];
+
+/// Three messages, with 2 told in line 14.
+const THREE_MESSAGES: &str =
+    "/VOC\n/STX\n/MTX\n/0\n/1\n/2\n/OTX\n/LTX\n/0\n/CON\n/OBJ\n/PRO 0\n_ _ MES 2\n_ _ MES 2\n/PRO 1\n/PRO 2\n";
+
+/// The words that compile the file `source`.
+const COMPILE: &str = "compile\nsource\nimage";
+
+/// The words that decompile the file `image`.
+const DECOMPILE: &str = "decompile\nimage";
+
+/// What a command over the files `source` and `image` comes to.
+#[derive(Clone, Copy)]
+struct Case<'a> {
+    name: &'a str,
+    source: &'a [u8],
+    image: &'a [u8],
+    words: &'a str,
+    outcome: Outcome,
+    shown: &'a [u8],
+    /// The file `image` afterwards.
+    after: &'a [u8],
+}
+
+// A stage with the files of a case, another that nobody names, and a line.
+fn stage_of(alloc: Global, case: &Case<'_>) -> Result<MemoryStage, Fail> {
+    let mut stage = MemoryStage::new(alloc, 100, 10_000)?;
+    stage.add_file("source", case.source)?;
+    stage.add_file("image", case.image)?;
+    stage.add_file("other", b"as it was")?;
+    stage.add_line(alloc, b"N")?;
+    Ok(stage)
+}
+
+// The files are as the case says, no line was asked, and no file was made.
+fn is_left_so<S: Stage>(
+    rt: &impl Abort,
+    alloc: Global,
+    stage: &mut S,
+    case: &Case<'_>,
+) -> Result<(), Fail> {
+    for (file, bytes) in [
+        ("source", case.source),
+        ("image", case.after),
+        ("other", b"as it was".as_slice()),
+    ] {
+        let found = stage.load(alloc, file, 999)?;
+        assert_eq!(rt; found.as_slice(), bytes, "{}: {file}", case.name);
+    }
+    assert!(rt; stage.load(alloc, "missing", 999).is_err(), "{}", case.name);
+    let mut line = [0u8; 255];
+    assert_eq!(rt; stage.ask(&mut line), Asked::Line(1), "{}", case.name);
+    Ok(())
+}
+
+// The command comes to what the case says.
+fn comes_so(rt: &impl Abort, alloc: Global, case: &Case<'_>) -> Result<(), Fail> {
+    let mut stage = stage_of(alloc, case)?;
+    let words = words_of(alloc, case.words)?;
+    let outcome = paw(alloc, &mut stage, words.as_slice());
+    assert_eq!(rt; outcome, case.outcome, "{}", case.name);
+    assert_eq!(rt; stage.shown(), case.shown, "{}", case.name);
+    is_left_so(rt, alloc, &mut stage, case)
+}
+
+// A source that is compiled over another file.
+fn compiled<'a>(name: &'a str, source: &'a [u8], shown: &'a [u8], after: &'a [u8]) -> Case<'a> {
+    Case {
+        name,
+        source,
+        image: b"as it was",
+        words: COMPILE,
+        outcome: Outcome::Done,
+        shown,
+        after,
+    }
+}
+
+// An image that is decompiled.
+fn decompiled<'a>(name: &'a str, image: &'a [u8], shown: &'a [u8]) -> Case<'a> {
+    Case {
+        name,
+        source: b"as it was",
+        image,
+        words: DECOMPILE,
+        outcome: Outcome::Done,
+        shown,
+        after: image,
+    }
+}
+
+// The same case, where it comes to nothing.
+fn refused<'a>(case: Case<'a>, outcome: Outcome) -> Case<'a> {
+    Case {
+        outcome,
+        shown: b"",
+        after: case.image,
+        ..case
+    }
+}
+
+#[test]
+fn sources_are_compiled(rt: HostRuntime) -> Result<(), Fail> {
+    let alloc = rt.alloc();
+    let smallest = b"IMAGE 26 BYTES\n";
+    let lantern = b"IMAGE 87 BYTES\n";
+    for case in [
+        compiled(
+            "the smallest",
+            SMALLEST.as_bytes(),
+            smallest,
+            &SMALLEST_IMAGE,
+        ),
+        compiled("a lantern", LANTERN.as_bytes(), lantern, &LANTERN_IMAGE),
+        compiled(
+            "written otherwise",
+            LANTERN_OTHERWISE.as_bytes(),
+            lantern,
+            &LANTERN_IMAGE,
+        ),
+        compiled(
+            "as it is shown",
+            LANTERN_CANONICAL.as_bytes(),
+            lantern,
+            &LANTERN_IMAGE,
+        ),
+    ] {
+        comes_so(&rt, alloc, &case)?;
+    }
+    Ok(())
+}
+
+#[test]
+fn images_are_decompiled(rt: HostRuntime) -> Result<(), Fail> {
+    let alloc = rt.alloc();
+    let damaged = Outcome::ImageDamaged { at: 0 };
+    for case in [
+        decompiled("the smallest", &SMALLEST_IMAGE, SMALLEST.as_bytes()),
+        // It has a condact that isn't built.
+        decompiled("a lantern", &LANTERN_IMAGE, LANTERN_CANONICAL.as_bytes()),
+        refused(decompiled("no byte", b"", b""), damaged),
+        refused(
+            decompiled("without its last byte", &LANTERN_IMAGE[..86], b""),
+            damaged,
+        ),
+        refused(decompiled("a source", LANTERN.as_bytes(), b""), damaged),
+    ] {
+        comes_so(&rt, alloc, &case)?;
+    }
+    Ok(())
+}
+
+// The source with three messages, with one line in another form; None leaves it out.
+fn three_messages_with(
+    alloc: Global,
+    number: usize,
+    other: Option<&str>,
+) -> Result<String, AllocError> {
+    let mut source = String::new(alloc);
+    for (before, line) in THREE_MESSAGES.lines().enumerate() {
+        let line = if before + 1 == number {
+            other
+        } else {
+            Some(line)
+        };
+        if let Some(line) = line {
+            source.push_str(line)?;
+            source.push_str("\n")?;
+        }
+    }
+    Ok(source)
+}
+
+#[test]
+fn sources_are_refused_by_line_and_kind(rt: HostRuntime) -> Result<(), Fail> {
+    let alloc = rt.alloc();
+    for (number, other, kind) in [
+        (14, Some("_ _ MES 3"), SourceKind::Range),
+        (14, Some("_ _ MES"), SourceKind::Missing),
+        (14, Some("_ _ MES x"), SourceKind::Number),
+        (14, Some("_ _ MUS 2"), SourceKind::Condact),
+        (14, Some("_ _ DONE 2"), SourceKind::Condact),
+        (14, Some("FOO _ MES 2"), SourceKind::Word),
+        (2, Some("/MTX"), SourceKind::Section),
+        (4, Some("/1"), SourceKind::Range),
+        (16, None, SourceKind::Missing),
+    ] {
+        let source = three_messages_with(alloc, number, other)?;
+        let fault = SourceFault {
+            line: number as u32,
+            kind,
+        };
+        let case = compiled(other.unwrap_or("left out"), source.as_bytes(), b"", b"");
+        comes_so(&rt, alloc, &refused(case, Outcome::SourceRefused(fault)))?;
+    }
+    Ok(())
+}
+
+#[test]
+fn a_condact_line_has_two_forms(rt: HostRuntime) -> Result<(), Fail> {
+    let alloc = rt.alloc();
+    for line in ["_ _ MES 2 ; note", " MES 2"] {
+        let source = three_messages_with(alloc, 14, Some(line))?;
+        let mut stage = MemoryStage::new(alloc, 100, 10_000)?;
+        stage.add_file("source", source.as_bytes())?;
+        let words = words_of(alloc, COMPILE)?;
+        assert_eq!(rt;
+            paw(alloc, &mut stage, words.as_slice()),
+            Outcome::Done,
+            "{line}"
+        );
+    }
+    Ok(())
+}
+
+#[test]
+fn names_have_at_least_one_byte(rt: HostRuntime) -> Result<(), Fail> {
+    let alloc = rt.alloc();
+    for words in [
+        "compile",
+        "compile\nsource",
+        "compile\n\nimage",
+        "compile\nsource\n\n",
+        "compile\nsource\nimage\nimage",
+        "Compile\nsource\nimage",
+        "decompile",
+        "decompile\n\n",
+        "decompile\nimage\nsource",
+    ] {
+        let case = compiled(words, SMALLEST.as_bytes(), b"", b"");
+        comes_so(&rt, alloc, &refused(Case { words, ..case }, Outcome::Usage))?;
+    }
+    Ok(())
+}
+
+#[test]
+fn a_call_that_fails_ends_the_command(rt: HostRuntime) -> Result<(), Fail> {
+    let alloc = rt.alloc();
+    let compile = compiled("compile", SMALLEST.as_bytes(), b"", &SMALLEST_IMAGE);
+    let decompile = decompiled("decompile", &SMALLEST_IMAGE, b"");
+    for (case, call, failed) in [
+        (refused(compile, Outcome::Done), 0, StageCall::Load),
+        (refused(compile, Outcome::Done), 1, StageCall::Save),
+        (compile, 2, StageCall::Show),
+        (decompile, 0, StageCall::Load),
+        (decompile, 1, StageCall::Show),
+    ] {
+        let listed = [call].to_vec(alloc)?;
+        let mut stage = FailStage::new(stage_of(alloc, &case)?, listed);
+        let words = words_of(alloc, case.words)?;
+        let came = paw(alloc, &mut stage, words.as_slice());
+        assert_eq!(rt;
+            came,
+            Outcome::Outside(failed),
+            "{}, call {call}",
+            case.name
+        );
+        assert_eq!(rt;
+            stage.inner().shown(),
+            b"".as_slice(),
+            "{}, call {call}",
+            case.name
+        );
+        is_left_so(&rt, alloc, &mut stage, &case)?;
+    }
+    Ok(())
+}
+
+#[test]
+fn a_missing_file_is_named(rt: HostRuntime) -> Result<(), Fail> {
+    let alloc = rt.alloc();
+    let absent = Outcome::Outside(StageCall::LoadAbsent);
+    for words in ["compile\nmissing\nimage", "decompile\nmissing"] {
+        let case = compiled(words, b"", b"", b"");
+        comes_so(&rt, alloc, &refused(Case { words, ..case }, absent))?;
+    }
+    Ok(())
+}
+
+#[test]
+fn their_outcomes_have_a_status_and_a_text(rt: HostRuntime) -> Result<(), Fail> {
+    let range = SourceFault {
+        line: 14,
+        kind: SourceKind::Range,
+    };
+    let too_big = SourceFault {
+        line: 0,
+        kind: SourceKind::TooBig,
+    };
+    for (outcome, status, text) in [
+        (Outcome::Done, 0, ""),
+        (Outcome::SourceRefused(range), 2, "source line 14: Range\n"),
+        (
+            Outcome::SourceRefused(too_big),
+            2,
+            "source line 0: TooBig\n",
+        ),
+        (
+            Outcome::Outside(StageCall::Save),
+            7,
+            "outside failed: Save\n",
+        ),
+        (Outcome::Memory(MemoryAt::Source), 8, "no memory: Source\n"),
+        (Outcome::Memory(MemoryAt::Print), 8, "no memory: Print\n"),
+    ] {
+        assert_eq!(rt; outcome.status(), status, "{outcome:?}");
+        let said = outcome.text(rt.alloc())?;
+        assert_eq!(rt; said.as_str(), text, "{outcome:?}");
+    }
+    Ok(())
+}
