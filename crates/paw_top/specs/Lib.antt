@@ -8,3 +8,4 @@ pub mod Compile
 pub mod Decompile
 pub mod Walk
 pub mod Completes
+pub mod Round

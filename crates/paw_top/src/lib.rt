@@ -6,6 +6,7 @@ mod compile;
 #[cfg(test)]
 mod compile_tests;
 mod decompile;
+pub mod laws;
 mod load;
 pub mod outcome;
 mod show;

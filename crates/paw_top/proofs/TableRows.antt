@@ -1,0 +1,171 @@
+-- The printed tables of a game are read as its tables.
+use Rattle.std.proofs.Common.{◌≡◌, ℕ, suc, ◌<◌, ◌≤◌, true, false, ◌||◌, eqb, ltb, leb, List, [], ◌∷◌, ◌++◌, length, map, Result, Ok, refl, ap, ◌∙◌, arith, length-append}
+use Rattle.std.specs.Prelude.{codes}
+use Rattle.std.specs.List.{list_all, flat_map}
+use Rattle.std.specs.Fmt.{decimal}
+use Rattle.std.proofs.lemmas.Bool.{and_parts, leb-true, lt-ltb, le-ltb, eq-eqb, ne_eqb}
+use Rattle.std.proofs.lemmas.List.{append_assoc, append-nil}
+use Rattle.paw_base.specs.declared.fault.SourceKind.{SourceKind}
+use Rattle.paw_base.specs.declared.parts.Condact.{Condact}
+use Rattle.paw_game.specs.declared.parts.Word.{Word}
+use Rattle.paw_game.specs.declared.parts.Exit.{Exit}
+use Rattle.paw_game.specs.declared.parts.Entry.{Entry}
+use Rattle.paw_game.specs.Game.{GameLists}
+use Rattle.paw_game.specs.Valid.{has_word, is_verb_value, is_any, is_condact, is_entry, is_table}
+use Rattle.paw_grammar.specs.declared.section.Section.TheVariants as section
+use Rattle.paw_grammar.specs.Tokens.{◌>>=◌}
+use Rattle.paw_grammar.specs.Numbers.{number_from}
+use Rattle.paw_grammar.specs.Vocabulary.{entry_verb, entry_noun}
+use Rattle.paw_grammar.specs.Condacts.{condacts, more_condacts}
+use Rattle.paw_grammar.specs.GrammarState.{Spelt, with_last}
+use Rattle.paw_grammar.specs.GrammarHeads.{next_section, opened, lacks_rows, table_header}
+use Rattle.paw_grammar.specs.GrammarRows.{entry_row, no_entry, more_row}
+use Rattle.paw_print.specs.Lines.{verb_token, value_token, entry_tokens, condact_tokens, condact_line, table_tokens, spaced}
+use Rattle.paw_print.specs.Canonical.{numbered, entry_lines, table_lines}
+use Rattle.paw_top.proofs.After.{LineReads, Reads, reads_none, reads_line, reads_append}
+use Rattle.paw_top.proofs.Rows.{is_plain, row_step, more_step, slash_step, printed-spaced, printed-behind}
+use Rattle.paw_top.proofs.Digits.{number-decimal, plain-decimal}
+use Rattle.paw_top.proofs.Lasts.{last_or-push, with_last-push}
+use Rattle.paw_top.proofs.KnownWords.{ReadsBack, entry_verb_back, entry_noun_back}
+use Rattle.paw_top.proofs.CondactRows.{bounds, Small, CondactBack, condact_back, more_condacts-is}
+
+-- all of a game is spelled, but for its tables, of which these are
+abbrev pub spelt_of : GameLists → List (List Exit) → List (List Entry) → Spelt
+spelt_of g exits tables = record {
+  section = section.Pro;
+  words = g.words;
+  system = g.system;
+  messages = g.messages;
+  names = map (λ o. o.text) g.objects;
+  locations = g.locations;
+  begun = false;
+  exits = exits;
+  facts = map (λ o. o.facts) g.objects;
+  tables = tables;
+}
+
+-- ---- a condact ----
+
+-- an entry with these condacts
+abbrev with_condacts : Entry → List Condact → Entry
+with_condacts e cs = record e { condacts = cs }
+
+more_row-is : (p : ℕ) (g : GameLists) (es : List Entry) (e : Entry) (done : List Condact) (c : Condact) → CondactBack p g c → length done < 255
+    → more_row (bounds p g) g.words (es ++ with_condacts e done ∷ []) (condact_tokens g.words c) ≡ Ok (es ++ with_condacts e (done ++ c ∷ []) ∷ [])
+unfolding more_row
+more_row-is p g es e done c back few =
+    let now : Entry = with_condacts e done in
+    let some : eqb (length (es ++ now ∷ [])) 0 ≡ false = ne_eqb _ 0 (λ z. omega (arith, length-append es (now ∷ []))) in
+    rw (some, last_or-push no_entry es now)
+    (ap (λ (r : Result (List Condact) SourceKind). r >>= λ cs. Ok (with_last (with_condacts e cs) (es ++ now ∷ []))) (more_condacts-is p g done c back few)
+    ∙ ap (λ (xs : List Entry). Ok xs) (with_last-push (with_condacts e (done ++ c ∷ [])) es now))
+
+condact_step : (p : ℕ) (g : GameLists) (exits : List (List Exit)) (ts : List (List Entry)) (es : List Entry) (e : Entry) (done : List Condact) (c : Condact) → CondactBack p g c → length done < 255
+    → LineReads p (spelt_of g exits (ts ++ (es ++ with_condacts e done ∷ []) ∷ [])) (condact_line g.words c) (spelt_of g exits (ts ++ (es ++ with_condacts e (done ++ c ∷ []) ∷ []) ∷ []))
+condact_step p g exits ts es e done c back few =
+    let last : List Entry = es ++ with_condacts e done ∷ [] in
+    let d : Spelt = spelt_of g exits (ts ++ last ∷ []) in
+    record {
+      printed = printed-behind (condact_tokens g.words c) back.plain;
+      is =
+          more_step p d _ _ back.plain refl
+          ∙ ap (λ (xs : List Entry). more_row (bounds p g) g.words xs (condact_tokens g.words c) >>= λ us. Ok (spelt_of g exits (with_last us (ts ++ last ∷ [])))) (last_or-push [] ts last)
+          ∙ ap (λ (r : Result (List Entry) SourceKind). r >>= λ us. Ok (spelt_of g exits (with_last us (ts ++ last ∷ [])))) (more_row-is p g es e done c back few)
+          ∙ ap (λ (us : List (List Entry)). Ok (spelt_of g exits us)) (with_last-push (es ++ with_condacts e (done ++ c ∷ []) ∷ []) ts last);
+    }
+
+condacts_read : (p : ℕ) (g : GameLists) (exits : List (List Exit)) (ts : List (List Entry)) (es : List Entry) (e : Entry) (done cs : List Condact) → Small p g → length (done ++ cs) ≤ 255 → list_all (is_condact g) cs ≡ true
+    → Reads p (spelt_of g exits (ts ++ (es ++ with_condacts e done ∷ []) ∷ [])) (map (condact_line g.words) cs) (spelt_of g exits (ts ++ (es ++ with_condacts e (done ++ cs) ∷ []) ∷ []))
+condacts_read p g exits ts es e done [] s few h = rw (append-nil done) (reads_none p (spelt_of g exits (ts ++ (es ++ with_condacts e done ∷ []) ∷ [])))
+condacts_read p g exits ts es e done (c ∷ cs) s few h =
+    let both = and_parts (is_condact g c) (list_all (is_condact g) cs) h in
+    let room : length done < 255 = omega (arith, length-append done (c ∷ cs), few) in
+    let same : (done ++ c ∷ []) ++ cs ≡ done ++ c ∷ cs = append_assoc done (c ∷ []) cs in
+    let rest = condacts_read p g exits ts es e (done ++ c ∷ []) cs s (rw same few) both.1 in
+    reads_line p _ _ _ _ _ (condact_step p g exits ts es e done c (condact_back p g c s both.0) room) (rw same at rest)
+
+-- ---- an entry ----
+
+-- what the line of an entry needs
+record EntryRow (ws : List Word) (e : Entry) : Type 0 where
+  verb : ReadsBack (verb_token ws e.verb) (entry_verb ws) e.verb
+  noun : ReadsBack (value_token ws 2 e.noun) (entry_noun ws) e.noun
+
+entry_row-is : (p : ℕ) (g : GameLists) (es : List Entry) (e : Entry) → EntryRow g.words e → length es < 4000
+    → entry_row (bounds p g) g.words es (entry_tokens g.words e) ≡ Ok (es ++ with_condacts e [] ∷ [])
+unfolding entry_row more_condacts condacts
+entry_row-is p g es e r room =
+    let below : ltb (length es) 4000 ≡ true = lt-ltb (length es) 4000 room in
+    let few : ltb 255 0 ≡ false = refl in
+    rw (r.verb.is (value_token g.words 2 e.noun ∷ []), r.noun.is []) (rw below refl)
+
+entry_step : (p : ℕ) (g : GameLists) (exits : List (List Exit)) (ts : List (List Entry)) (es : List Entry) (e : Entry) → EntryRow g.words e → length es < 4000
+    → LineReads p (spelt_of g exits (ts ++ es ∷ [])) (spaced (entry_tokens g.words e)) (spelt_of g exits (ts ++ (es ++ with_condacts e [] ∷ []) ∷ []))
+entry_step p g exits ts es e r room =
+    let d : Spelt = spelt_of g exits (ts ++ es ∷ []) in
+    let plain : list_all is_plain (entry_tokens g.words e) ≡ true = rw (r.verb.plain, r.noun.plain) refl in
+    record {
+      printed = printed-spaced (verb_token g.words e.verb) (value_token g.words 2 e.noun ∷ []) plain;
+      is =
+          row_step p d (verb_token g.words e.verb) (value_token g.words 2 e.noun ∷ []) plain r.verb.slash refl
+          ∙ ap (λ (xs : List Entry). entry_row (bounds p g) g.words xs (entry_tokens g.words e) >>= λ us. Ok (spelt_of g exits (with_last us (ts ++ es ∷ [])))) (last_or-push [] ts es)
+          ∙ ap (λ (x : Result (List Entry) SourceKind). x >>= λ us. Ok (spelt_of g exits (with_last us (ts ++ es ∷ [])))) (entry_row-is p g es e r room)
+          ∙ ap (λ (us : List (List Entry)). Ok (spelt_of g exits us)) (with_last-push (es ++ with_condacts e [] ∷ []) ts es);
+    }
+
+entries_read : (p : ℕ) (g : GameLists) (exits : List (List Exit)) (ts : List (List Entry)) (done es : List Entry) → Small p g → length (done ++ es) ≤ 4000 → list_all (is_entry g) es ≡ true
+    → Reads p (spelt_of g exits (ts ++ done ∷ [])) (flat_map (entry_lines g.words) es) (spelt_of g exits (ts ++ (done ++ es) ∷ []))
+entries_read p g exits ts done [] s few h = rw (append-nil done) (reads_none p (spelt_of g exits (ts ++ done ∷ [])))
+entries_read p g exits ts done (e ∷ es) s few h =
+    let both = and_parts (is_entry g e) (list_all (is_entry g) es) h in
+    let verb = and_parts (is_any e.verb || is_verb_value g.words e.verb) _ both.0 in
+    let noun = and_parts (is_any e.noun || has_word g.words 2 e.noun) _ verb.1 in
+    let cs = and_parts (leb (length e.condacts) 255) (list_all (is_condact g) e.condacts) noun.1 in
+    let row : EntryRow g.words e = record { verb = entry_verb_back g.words e.verb s.words verb.0; noun = entry_noun_back g.words e.noun s.words noun.0 } in
+    let room : length done < 4000 = omega (arith, length-append done (e ∷ es), few) in
+    let same : (done ++ e ∷ []) ++ es ≡ done ++ e ∷ es = append_assoc done (e ∷ []) es in
+    let rows = condacts_read p g exits ts done e [] e.condacts s (leb-true (length e.condacts) 255 cs.0) cs.1 in
+    let rest = entries_read p g exits ts (done ++ e ∷ []) es s (rw same few) both.1 in
+    reads_append p _ _ _ (entry_lines g.words e) _ (reads_line p _ _ _ _ _ (entry_step p g exits ts done e row room) rows) (rw same at rest)
+
+-- ---- a table ----
+
+-- a table begins
+abbrev table_begun : Spelt → Spelt
+table_begun d = record (opened section.Pro d) { tables = d.tables ++ [] ∷ [] }
+
+header_step : (p : ℕ) (d : Spelt) (n : ℕ) → next_section d.section ≡ section.Pro → n ≡ length d.tables → n ≤ 255 → lacks_rows d ≡ false → LineReads p d (spaced (table_tokens n)) (table_begun d)
+unfolding number_from
+header_step p d n at is few rows =
+    let small : n ≤ 65535 = omega arith in
+    let within : ltb 255 n ≡ false = le-ltb 255 n few in
+    let next : eqb n (length d.tables) ≡ true = eq-eqb n (length d.tables) is in
+    let plain : list_all is_plain (table_tokens n) ≡ true = rw (plain-decimal n small) refl in
+    record {
+      is = slash_step p d (codes "PRO") (decimal n ∷ []) plain ∙ rw at (ap (λ x. table_header d [] x) (number-decimal n small) ∙ rw (within, next, rows) refl);
+      printed = printed-spaced (codes "/PRO") (decimal n ∷ []) plain;
+    }
+
+pub table_read : (p : ℕ) (g : GameLists) (exits : List (List Exit)) (d : Spelt) (ts : List (List Entry)) (n : ℕ) (es : List Entry) → Small p g → table_begun d ≡ spelt_of g exits (ts ++ [] ∷ [])
+    → next_section d.section ≡ section.Pro → n ≡ length d.tables → n ≤ 255 → lacks_rows d ≡ false → is_table g es ≡ true → Reads p d (table_lines g.words n es) (spelt_of g exits (ts ++ es ∷ []))
+table_read p g exits d ts n es s begun at is few rows h =
+    let both = and_parts (leb (length es) 4000) (list_all (is_entry g) es) h in
+    reads_line p _ _ _ _ _ (rw begun at (header_step p d n at is few rows)) (entries_read p g exits ts [] es s (leb-true (length es) 4000 both.0) both.1)
+
+no_row_lacks : (g : GameLists) (exits : List (List Exit)) (ts : List (List Entry)) → 0 < length ts → lacks_rows (spelt_of g exits ts) ≡ false
+no_row_lacks g exits ts some =
+    let more : eqb (length ts) 0 ≡ false = ne_eqb (length ts) 0 (λ e. omega arith) in
+    rw more refl
+
+-- the tables behind those that were read
+pub tables_read : (p : ℕ) (g : GameLists) (exits : List (List Exit)) (ts : List (List Entry)) (n : ℕ) (rest : List (List Entry)) → Small p g → n ≡ length ts → 0 < n → length (ts ++ rest) ≤ 256
+    → list_all (is_table g) rest ≡ true → Reads p (spelt_of g exits ts) (numbered (table_lines g.words) n rest) (spelt_of g exits (ts ++ rest))
+tables_read p g exits ts n [] s is some few h = rw (append-nil ts) (reads_none p (spelt_of g exits ts))
+tables_read p g exits ts n (es ∷ rest) s is some few h =
+    let both = and_parts (is_table g es) (list_all (is_table g) rest) h in
+    let room : n ≤ 255 = omega (arith, length-append ts (es ∷ rest), few) in
+    let next : suc n ≡ length (ts ++ es ∷ []) = omega (arith, length-append ts (es ∷ [])) in
+    let same : (ts ++ es ∷ []) ++ rest ≡ ts ++ es ∷ rest = append_assoc ts (es ∷ []) rest in
+    let first = table_read p g exits (spelt_of g exits ts) ts n es s refl refl is room (no_row_lacks g exits ts (omega arith)) both.0 in
+    let others = tables_read p g exits (ts ++ es ∷ []) (suc n) rest s next (omega arith) (rw same few) both.1 in
+    reads_append p _ _ _ (table_lines g.words n es) _ first (rw same at others)
