@@ -7,3 +7,4 @@ pub mod CountLaws
 pub mod GameLaws
 pub mod Capped
 pub mod Made
+pub mod FaultLaws

@@ -1,5 +1,5 @@
 -- Laws of the grammar.
-use Rattle.std.specs.Prelude.{◌≡◌, ◌≤◌, ℕ, ◌+◌, List, [], ◌∷◌, length, Result, Ok}
+use Rattle.std.specs.Prelude.{◌≡◌, ◌≤◌, ◌⊎◌, ℕ, suc, ◌+◌, List, [], ◌∷◌, ◌++◌, length, Result, Ok, Err}
 use Rattle.std.specs.List.{count_by}
 use Rattle.paw_base.specs.declared.fault.SourceKind.{SourceKind}
 use Rattle.paw_game.specs.Game.{GameLists}
@@ -7,12 +7,44 @@ use Rattle.paw_game.specs.Valid.{Valid}
 use Rattle.paw_grammar.specs.Tokens.{◌>>=◌}
 use Rattle.paw_lex.specs.Lines.{lines_of}
 use Rattle.paw_grammar.specs.GrammarState.{Spelt, nothing_yet, game_of}
-use Rattle.paw_grammar.specs.Spells.{step, begins_table, Spells}
+use Rattle.paw_base.specs.declared.fault.SourceFault.{SourceFault}
+use Rattle.paw_grammar.specs.Spells.{step, begins_table, fault, spelled, Spells}
 
 -- what the lines spell after what is spelled already, where none of them has a fault
 unfoldable pub after_lines : ℕ → Spelt → List (List ℕ) → Result Spelt SourceKind
 after_lines p d [] = Ok d
 after_lines p d (l ∷ ls) = step p d l >>= λ e. after_lines p e ls
+
+-- a line with a fault of this kind comes after n lines with none
+pub record HasFault (p : ℕ) (d : Spelt) (ls : List (List ℕ)) (n : ℕ) (k : SourceKind) : Type 0 where
+  pub before : List (List ℕ)
+  pub line : List ℕ
+  pub behind : List (List ℕ)
+  pub draft : Spelt
+  pub parts : ls ≡ before ++ line ∷ behind
+  pub place : length before ≡ n
+  pub no_fault : after_lines p d before ≡ Ok draft
+  pub fault : step p draft line ≡ Err k
+
+-- no line has a fault
+pub record HasNone (p : ℕ) (d : Spelt) (ls : List (List ℕ)) : Type 0 where
+  pub draft : Spelt
+  pub no_fault : after_lines p d ls ≡ Ok draft
+
+-- the lines of a source, read from the first on
+abbrev pub FirstFault : List ℕ → ℕ → SourceKind → Type 0
+FirstFault source n k = HasFault (count_by begins_table (lines_of source)) nothing_yet (lines_of source) n k
+
+abbrev pub NoFault : List ℕ → Type 0
+NoFault source = HasNone (count_by begins_table (lines_of source)) nothing_yet (lines_of source)
+
+-- of a source that isn't too long the first line with a fault is named, by its number
+abbrev pub NamesTheFirst : Type 0
+NamesTheFirst = (source : List ℕ) (n : ℕ) (k : SourceKind) → length source ≤ 8388608 → FirstFault source n k → spelled source ≡ Err (fault (suc n) k)
+
+-- what is named is the first line with a fault, or, where no line has one, the line after the last
+abbrev pub IsNamedRightly : Type 0
+IsNamedRightly = (source : List ℕ) (f : SourceFault) → length source ≤ 8388608 → spelled source ≡ Err f → ((n : ℕ) × (f.line ≡ suc n) × FirstFault source n f.kind) ⊎ ((f.line ≡ suc (length (lines_of source))) × NoFault source)
 
 -- lines without a fault begin as many tables as were counted
 abbrev pub CountsTables : Type 0

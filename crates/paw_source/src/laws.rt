@@ -1,6 +1,16 @@
 // Laws of the grammar of sources.
 
-ghost use Rattle.paw_source.specs.Laws.{CountsTables, DraftsAreValid, SpellsValidGames};
+ghost use Rattle.paw_source.specs.Laws.{CountsTables, DraftsAreValid, IsNamedRightly, NamesTheFirst, SpellsValidGames};
+
+/// The first line with a fault is named.
+pub fn the_first_is_named()
+    ensures { NamesTheFirst }
+{}
+
+/// What is named is the first line with a fault, or, where no line has one, the line after the last.
+pub fn faults_are_named_rightly()
+    ensures { IsNamedRightly }
+{}
 
 /// Lines without a fault begin as many tables as were counted in advance.
 pub fn tables_are_counted()

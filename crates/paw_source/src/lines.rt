@@ -31,6 +31,7 @@ impl Draft {
             Gives (λ _. self.new) result
             (tokens_added tables self.old (begins_with_slash bytes) (begins_with_blank bytes) (tokens_of bytes)) }
     {
+        // Tells the proof that the draft's lists are short.
         let _ = &self.section;
         let bytes = &source[line.from..line.to];
         let mut tokens = Tokens::new(source, line);
