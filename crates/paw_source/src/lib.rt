@@ -5,6 +5,8 @@ mod bytes;
 mod draft;
 mod entries;
 mod exits;
+#[cfg(test)]
+mod fault_tests;
 pub mod laws;
 mod lines;
 mod objects;
