@@ -11,6 +11,8 @@ mod load;
 pub mod outcome;
 mod show;
 #[cfg(test)]
+mod source_tests;
+#[cfg(test)]
 mod tests;
 pub mod top;
 pub mod unbuilt;

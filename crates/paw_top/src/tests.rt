@@ -41,7 +41,7 @@ const FIRST: &str = "Hall.\n>\n";
 const WALK: &str = "walk\ngame\n7";
 
 // The words of a command, which stand in a line each.
-fn words_of(alloc: Global, lines: &str) -> Result<Vec<String>, AllocError> {
+pub(crate) fn words_of(alloc: Global, lines: &str) -> Result<Vec<String>, AllocError> {
     let mut words = Vec::new(alloc);
     for word in lines.lines() {
         words.push(String::from_str(alloc, word)?)?;
