@@ -22,3 +22,4 @@ mod ObjectRows
 mod CondactRows
 mod TableRows
 mod Whole
+mod Back

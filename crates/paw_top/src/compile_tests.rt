@@ -10,7 +10,8 @@ use std::process::Abort;
 use std::test::Fail;
 
 /// One location with no text.
-const SMALLEST: &str = "/VOC\n/STX\n/MTX\n/OTX\n/LTX\n/0\n/CON\n/OBJ\n/PRO 0\n/PRO 1\n/PRO 2\n";
+pub(crate) const SMALLEST: &str =
+    "/VOC\n/STX\n/MTX\n/OTX\n/LTX\n/0\n/CON\n/OBJ\n/PRO 0\n/PRO 1\n/PRO 2\n";
 
 /// The image of that.
 const SMALLEST_IMAGE: [u8; 26] = [
@@ -18,7 +19,7 @@ const SMALLEST_IMAGE: [u8; 26] = [
 ];
 
 /// A lamp in a cave, with words that mean the same, and one of seven letters.
-const LANTERN: &str =
+pub(crate) const LANTERN: &str =
     "/VOC\nTAKE 30 verb\nGET 30 verb\nLANTERN 50 noun\nLAMP 50 noun\n/STX\n/MTX\n/0\nTaken.\n/OTX\n/0\na lamp\n/LTX\n/0\nA cave.\n/CON\n/OBJ\n0 0 1 - LANTERN _\n/PRO 0\ntake lantern MESSAGE 0 DONE\n/PRO 1\n/PRO 2\n";
 
 /// The canonical source of the same game.
@@ -174,7 +175,6 @@ fn images_are_decompiled(rt: HostRuntime) -> Result<(), Fail> {
     let damaged = Outcome::ImageDamaged { at: 0 };
     for case in [
         decompiled("the smallest", &SMALLEST_IMAGE, SMALLEST.as_bytes()),
-        // It has a condact that isn't built.
         decompiled("a lantern", &LANTERN_IMAGE, LANTERN_CANONICAL.as_bytes()),
         refused(decompiled("no byte", b"", b""), damaged),
         refused(

@@ -1,6 +1,6 @@
 // The canonical source of a game is read as that game.
 
-ghost use Rattle.paw_top.specs.Round.{SpellsItself};
+ghost use Rattle.paw_top.specs.Round.{ComesBack, SpellsItself};
 
 use paw_source::laws::tables_are_counted;
 
@@ -9,4 +9,12 @@ pub fn canonical_spells_its_game()
     ensures spells { SpellsItself }
 {
     tables_are_counted();
+}
+
+/// Compiling what was shown when an image was decompiled saves the bytes of that image, where the text is no longer than a
+/// source may be.
+pub fn decompiled_games_come_back()
+    ensures comes_back { ComesBack }
+{
+    canonical_spells_its_game();
 }

@@ -1,11 +1,12 @@
 // Sources that are compiled and played, over a stage in memory.
 
+use crate::compile_tests::{LANTERN, SMALLEST};
 use crate::outcome::Outcome;
 use crate::tests::words_of;
 use crate::top::paw;
 use paw_base::fault::SpentKind;
-use paw_stage::MemoryStage;
-use std::alloc::Global;
+use paw_stage::{LoadRefusal, MemoryStage, Stage};
+use std::alloc::{AllocError, Global};
 use std::process::Abort;
 use std::test::Fail;
 
@@ -382,6 +383,298 @@ fn time_passes_where_it_may(rt: HostRuntime) -> Result<(), Fail> {
         ("ASK\nNONE\nWAIT", "What now?\n> Well?\n> > > "),
     ] {
         shows(&rt, alloc, &[PROMPTS], lines, shown)?;
+    }
+    Ok(())
+}
+
+/// Two rooms, of which one is sung in.
+const ROOMS: &str = "/VOC
+LOOK 30 verb
+N 2 noun
+S 3 noun
+SING 31 verb
+/STX
+/0
+/1
+/2
+>
+/3
+/4
+/5
+/6
+What?
+/7
+No way.
+/8
+No.
+/MTX
+/0
+La la.
+
+/OTX
+/LTX
+/0
+Hall.
+/1
+Yard.
+/CON
+/0
+N 1
+/1
+S 0
+/OBJ
+/PRO 0
+LOOK _ DESC
+SING _ NOTAT 1 MES 0 DONE
+SING _ AT 1 GOTO 0 DESC
+/PRO 1
+/PRO 2
+";
+
+/// Six objects, and all kinds of words; some of its condacts aren't built.
+const HALL: &str = "/VOC
+N 2 noun
+NORTH 2 noun
+S 3 noun
+SOUTH 3 noun
+ALL 20 noun
+LAMP 50 noun
+SWORD 51 noun
+BAG 52 noun
+POUCH 53 noun
+COAT 54 noun
+BRICK 55 noun
+GET 30 verb
+TAKE 30 verb
+DROP 31 verb
+WEAR 32 verb
+REMOVE 33 verb
+PUT 34 verb
+LOOK 35 verb
+I 36 verb
+QUIT 37 verb
+WAIT 38 verb
+TIME 39 verb
+STORE 40 verb
+BACK 41 verb
+SHAKE 42 verb
+TWIST 43 verb
+NEST 44 verb
+DEEP 45 verb
+WEAK 46 verb
+TURNS 47 verb
+HALVE 48 verb
+RED 2 adjective
+AND 2 conjunction
+THEN 2 conjunction
+IT 2 pronoun
+EXCEPT 2 preposition
+IN 3 preposition
+/STX
+/0
+It is dark.
+/1
+I can also see:
+/2
+What now?
+/3
+/4
+/5
+/6
+I don't understand.
+/7
+I can't go that way.
+/8
+I can't do that.
+/9
+I have:
+/10
+ (worn)
+/11
+Nothing.
+/12
+Are you sure? 
+/13
+Another go? 
+/14
+Goodbye.
+/15
+OK.
+/16
+Press a key. 
+/17
+You have taken 
+/18
+ turn
+/19
+s
+/20
+.
+/21
+You have scored 
+/22
+ points.
+/23
+I'm not wearing that.
+/24
+I'm wearing the _.
+/25
+I already have the _.
+/26
+There isn't one here.
+/27
+I can't carry any more.
+/28
+I don't have one.
+/29
+I'm already wearing the _.
+/30
+/31
+/32
+/33
+> 
+/34
+/35
+Time passes.
+/36
+I take the _.
+/37
+I put on the _.
+/38
+I take off the _.
+/39
+I drop the _.
+/40
+I can't wear the _.
+/41
+I can't remove the _.
+/42
+My hands are full.
+/43
+The _ is too heavy.
+/44
+The _ is now in the 
+/45
+The _ isn't in the 
+/46
+/47
+/48
+/49
+I don't have the _.
+/50
+I'm not wearing the _.
+/51
+.
+/52
+There isn't one in the 
+/53
+Nothing.
+/MTX
+/0
+You shake the _.
+/1
+Done.
+/OTX
+/0
+lamp
+/1
+sword
+/2
+bag
+/3
+pouch
+/4
+coat
+/5
+brick
+/LTX
+/0
+A hall.
+/1
+A garden.
+/2
+/3
+/CON
+/0
+NORTH 1
+/1
+SOUTH 0
+/OBJ
+0 0 2 - LAMP RED
+1 0 3 - SWORD _
+2 0 1 C BAG _
+3 1 0 C POUCH _
+4 CARRIED 2 W COAT _
+5 1 4 - BRICK _
+/PRO 0
+GET ALL DOALL HERE
+GET _ AUTOG DONE
+DROP ALL DOALL CARRIED
+DROP _ AUTOD DONE
+WEAR _ AUTOW DONE
+REMOVE _ AUTOR DONE
+PUT _ NOUN2 BAG AUTOP 2 DONE
+PUT _ NOUN2 POUCH AUTOP 3 DONE
+LOOK _ DESC
+I _ INVEN DONE
+QUIT _ QUIT END
+WAIT _ OK
+TIME _ TIME 5 0 DONE
+STORE _ RAMSAVE OK
+BACK _ RAMLOAD 30 OK
+SHAKE ALL DOALL HERE
+SHAKE _ PROCESS 3 DONE
+TWIST ALL DOALL HERE
+TWIST _ PROCESS 4 MESSAGE 1
+NEST _ LET 60 9 PROCESS 5 OK
+DEEP _ LET 60 10 PROCESS 5 OK
+WEAK _ ABILITY 2 10 OK
+TURNS _ TURNS DONE
+HALVE _ LET 60 9 EXTERN 1 60
+ PRINT 60 NEWLINE DONE
+/PRO 1
+_ _ LISTOBJ
+/PRO 2
+/PRO 3
+_ _ QUIT MESSAGE 0
+/PRO 4
+_ _ DOALL CARRIED
+_ _ ANYKEY MESSAGE 0
+/PRO 5
+_ _ GT 60 0 MINUS 60 1 PROCESS 5
+";
+
+// What the file `image` holds; no bytes where it is missing.
+fn image_in(alloc: Global, stage: &mut MemoryStage) -> Result<Vec<u8>, AllocError> {
+    match stage.load(alloc, "image", 100_000) {
+        Ok(bytes) => Ok(bytes),
+        Err(LoadRefusal::Memory) => Err(AllocError),
+        Err(_) => Ok(Vec::new(alloc)),
+    }
+}
+
+// The image of a source, and the text that it is shown as when it is decompiled.
+fn printed(rt: &impl Abort, alloc: Global, source: &[u8]) -> Result<(Vec<u8>, Vec<u8>), Fail> {
+    let mut stage = MemoryStage::new(alloc, 1_000, 100_000)?;
+    stage.add_file("source", source)?;
+    let words = words_of(alloc, "compile\nsource\nimage")?;
+    assert_eq!(rt; paw(alloc, &mut stage, words.as_slice()), Outcome::Done);
+    let told = stage.shown().len();
+    let words = words_of(alloc, "decompile\nimage")?;
+    assert_eq!(rt; paw(alloc, &mut stage, words.as_slice()), Outcome::Done);
+    let text = Vec::from_slice(alloc, stage.shown().get(told..).unwrap_or(b""))?;
+    Ok((image_in(alloc, &mut stage)?, text))
+}
+
+#[test]
+fn games_go_there_and_back(rt: HostRuntime) -> Result<(), Fail> {
+    let alloc = rt.alloc();
+    for (source, length) in [(SMALLEST, 26), (LANTERN, 87), (ROOMS, 134), (HALL, 1_311)] {
+        let (image, text) = printed(&rt, alloc, source.as_bytes())?;
+        assert_eq!(rt; image.len(), length);
+        let (again, once_more) = printed(&rt, alloc, &text)?;
+        assert_eq!(rt; again, image);
+        assert_eq!(rt; once_more, text);
     }
     Ok(())
 }

@@ -1,0 +1,27 @@
+-- The way of a game from its image to its source and back.
+use Rattle.std.proofs.Common.{◌≡◌, ℕ, List, ◌++◌, ◌≤◌, length, Result, Ok, Err, Some, refl, sym, ap, ◌∙◌, subst}
+use Rattle.std.proofs.lemmas.List.{append_cancel_left}
+use Rattle.paw_base.specs.declared.fault.SourceFault.{SourceFault}
+use Rattle.paw_game.specs.Game.{GameLists}
+use Rattle.paw_game.specs.Image.{image}
+use Rattle.paw_grammar.specs.Spells.{spelled}
+use Rattle.paw_print.specs.Canonical.{canonical_of}
+use Rattle.paw_top.specs.Compile.{kept, image_line}
+use Rattle.paw_top.specs.Compile as compile
+use Rattle.paw_top.specs.Decompile as decompile
+use Rattle.paw_top.specs.Round.{SpellsItself, ComesBack}
+
+-- a source that holds the text of a game spells that game alone
+same_game : (text bytes : List ℕ) (g h : GameLists) → Some bytes ≡ Some text → spelled bytes ≡ Ok h → spelled text ≡ Ok g → g ≡ h
+same_game text bytes g h e k m =
+    let b : bytes ≡ text = cc in
+    let w : ◌≡◌ {A = Result GameLists SourceFault} (Ok g) (Ok h) = sym m ∙ ap spelled (sym b) ∙ k in cc
+
+pub comes_back : SpellsItself → ComesBack
+comes_back itself image_name source target bytes text old shown before after file (decompile.done g held e) t there short (compile.done h spells f) =
+    let b : held.0 ≡ bytes = cc in
+    let c : text ≡ canonical_of g = append_cancel_left old.shown text (canonical_of g) (sym t ∙ ap (λ s. s.shown) e) in
+    let i = held.2 in
+    let m : spelled text ≡ Ok g = ap spelled c ∙ itself g i.valid (subst (λ l. length l ≤ 4194304) i.spelled i.short) (subst (λ l. length l ≤ 8388608) c short) in
+    let same : image h ≡ bytes = ap image (sym (same_game text spells.0 g h (sym spells.1 ∙ there) spells.2 m)) ∙ sym i.spelled ∙ b in
+    subst (λ l. after ≡ kept before target l (image_line (length l))) same f
