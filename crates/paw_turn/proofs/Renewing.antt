@@ -1,5 +1,5 @@
 -- The answer to END's question.
-use Rattle.std.proofs.Common.{◌≡◌, ℕ, suc, ◌+◌, ◌<◌, ◌≤◌, Bool, true, false, List, [], ◌∷◌, ◌++◌, None, length, reverse, refl, sym, ap, ◌∙◌, subst, arith}
+use Rattle.std.proofs.Common.{◌≡◌, ℕ, suc, ◌+◌, ◌<◌, ◌≤◌, Bool, true, false, List, [], ◌∷◌, ◌++◌, Option, None, length, reverse, refl, ap, ◌∙◌, subst, arith}
 use Rattle.std.specs.Prelude.{if◌then◌else◌, nat_le}
 use Rattle.std.proofs.lemmas.List.{length-reverse, length-map}
 use Rattle.std.proofs.lemmas.Bool.Decides.{nat_tests}
@@ -89,14 +89,16 @@ again_restarts g old new line some hears declines world bytes earlier turning le
   ),
 )
 
--- at no the game is over
+-- at no the game is over, and the run is what is held
 pub again_ends : (g : GameLists) (old new : Turn) (line : List ℕ) (w : World) → 0 < length old.machine.frames → is_ignored old.world line ≡ false → is_no (reply line) ≡ true
     → w ≡ with_timeout (is_timeout line) old.world → length old.piece + length (say_text g w 14) ≤ 65535 → new.piece ≡ old.piece ++ say_text g w 14
+    → new.world ≡ w → new.pending.bytes ≡ [] → new.pending.earlier ≡ old.pending.earlier → new.machine.turning ≡ None
     → new.machine.left ≡ old.machine.left
     → PlaysAs g (from_prompt g prompt.Again old line) old (next.Stop step.Ended) new
-again_ends g old new line w some hears declines world fit piece left past has =
+again_ends g old new line w some hears declines world fit piece stays bytes earlier turning left past has =
     let fit' = subst (λ v. length old.piece + length (say_text g v 14) ≤ 65535) world fit in
     let piece' = subst (λ v. new.piece ≡ old.piece ++ say_text g v 14) world piece in
+    let world' = stays ∙ world in
     let text : List ℕ = say_text g (with_timeout (is_timeout line) old.world) 14 in
     let t : nat_le (length old.piece + length text) 65535 ≡ true = grind (arith, nat_tests, fit') in (
       past.read,
@@ -104,15 +106,17 @@ again_ends g old new line w some hears declines world fit piece left past has =
         omega arith,
         λ n lines. (
           n,
-          (
-            closed (without_loop (line_dropped (printed text (heard line (run_of old past lines))))),
-            again_is g old line some hears n past lines ∙ final_ends g (turn g [] n) _ _ _ _ _ _ declines t,
-            ap (λ (x : List ℕ). past.pieces ++ x ∷ []) (sym piece'),
-            refl,
-          ),
+          again_is g old line some hears n past lines ∙ (final_ends g (turn g [] n) _ _ _ _ _ _ declines t
+              ∙ ap IsOver (held_is past lines (with_timeout (is_timeout line) old.world) (old.piece ++ text) new.world new.pending.bytes new.pending.earlier new.machine.turning new.piece world' bytes earlier turning piece')),
         ),
       ),
     )
+  where
+    held_is : (past : Past) (lines : List (List ℕ)) (u : World) (text : List ℕ) (v : World) (b : List ℕ) (e : ℕ) (o : Option OpenLoop) (q : List ℕ)
+        → v ≡ u → b ≡ [] → e ≡ old.pending.earlier → o ≡ None → q ≡ text
+        → closed (record { world = u; pending = []; earlier = old.pending.earlier; turning = None; current = text; read = past.read; pieces = past.pieces; traces = past.traces; events = lines })
+        ≡ closed (record { world = v; pending = b; earlier = e; turning = o; current = q; read = past.read; pieces = past.pieces; traces = past.traces; events = lines })
+    held_is past lines u text v b e o q world bytes earlier turning piece = rw (world, bytes, earlier, turning, piece) refl
 
 -- where the farewell doesn't fit the piece is spent
 pub again_spends : (g : GameLists) (old new : Turn) (line : List ℕ) (w : World) → 0 < length old.machine.frames → is_ignored old.world line ≡ false → is_no (reply line) ≡ true

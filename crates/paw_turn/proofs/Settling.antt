@@ -33,10 +33,13 @@ settles g whole total once (step.Waits p) last new past stops = (
       let k = stops (stages_left AtResponse r) lines in
       sym (once k.0 lines (λ e. going_on_ends g [] p (reverse new.machine.frames) r (sym k.1 ∙ e))) ∙ k.1,
 )
-settles g whole total once step.Ended last new past stops = λ lines.
-    let k = stops 0 lines in
-    let e = k.1.1 in
-    (k.1.0, sym (once k.0 lines (λ u. cc (e, u))) ∙ e, k.1.2, k.1.3)
+settles g whole total once step.Ended last new past stops = (
+  past.read,
+  λ lines.
+      let k = stops 0 lines in
+      let e = k.1 in
+      sym (once k.0 lines (λ u. cc (e, u))) ∙ e,
+)
 settles g whole total once (step.Spent kind) last new past stops = (
   refl,
   λ lines.

@@ -39,13 +39,15 @@ run_at p pieces traces lines = record {
 }
 
 -- Playing on comes to this: whatever lines come after, the whole reading of them goes on from the player's prompt with
--- one piece more; or is over with one piece more; or is spent, or a call is too deep, with no piece more and none to show
+-- one piece more; or is over with one piece more, as the player stands; or is spent, or a call is too deep, with no piece
+-- more and none to show
 abbrev pub PlaysTo : (List (List ℕ) → Ending) → Step → Seat → List (List ℕ) → List (List Read) → Type 0
 PlaysTo whole (step.Waits p) new pieces traces =
     (steps : List Read) × ((lines : List (List ℕ)) →
     whole lines ≡ on new.game [] p (reverse new.machine.frames) (run_at new (pieces ++ new.piece ∷ []) (traces ++ steps ∷ []) lines))
 PlaysTo whole step.Ended new pieces traces =
-    (lines : List (List ℕ)) → (r : Run) × (whole lines ≡ IsOver r) × (r.pieces ≡ pieces ++ new.piece ∷ []) × (r.events ≡ lines)
+    (steps : List Read) × ((lines : List (List ℕ)) →
+    whole lines ≡ IsOver (run_at new (pieces ++ new.piece ∷ []) (traces ++ steps ∷ []) lines))
 PlaysTo whole (step.Spent kind) new pieces traces =
     (new.piece ≡ []) × ((lines : List (List ℕ)) → (r : Run) × (whole lines ≡ RunsOut kind r) × (r.pieces ≡ pieces) × (r.events ≡ lines))
 PlaysTo whole (step.TooDeep u) new pieces traces =

@@ -62,11 +62,11 @@ at_stage stage.Frame = AtFrame
 at_stage stage.Phrase = AtPhrase
 at_stage stage.Response = AtResponse
 
--- a turn stops here: it waits along the frames, with the piece closed; or it is over, with one piece more; or it is spent
--- or a call is too deep, with no piece more
+-- a turn stops here: it waits along the frames, or it is over, with the piece closed; or it is spent or a call is too deep,
+-- with no piece more
 abbrev pub StopsAs : GameLists → ℕ → Step → List Frame → Run → Ending → Type 0
 StopsAs g n (step.Waits p) fs r x = x ≡ goes_on g [] n p (reverse fs) (closed r)
-StopsAs g n step.Ended fs r x = (s : Run) × (x ≡ IsOver s) × (s.pieces ≡ r.pieces ++ r.current ∷ []) × (s.events ≡ r.events)
+StopsAs g n step.Ended fs r x = x ≡ IsOver (closed r)
 StopsAs g n (step.Spent kind) fs r x = (s : Run) × (x ≡ RunsOut kind s) × SamePast r s
 StopsAs g n (step.TooDeep u) fs r x = (s : Run) × (x ≡ CallsTooDeep u s) × SamePast r s
 

@@ -36,7 +36,9 @@ returns-then-say-clause-meaning g c =
     c.args.line.now c.tell_timeout.new.world c.requires.waits.tables.tables.some c.requires.heard
     (sym (c.if-not-begins_with.ensures.value ∙ ap (begins_with 78) c.reply.ensures.value))
     (c.tell_timeout.ensures.value ∙ ap (λ b. with_timeout b c.args.self.now.world) c.is_timeout.ensures.value)
-    c.if-say.ensures.puts.1 c.if-say.ensures.puts.0 (ap (λ (m : OpenTables). m.left) c.close.ensures.value)
+    c.if-say.ensures.puts.1 c.if-say.ensures.puts.0 refl (ap (λ (p : PendingLine). p.bytes) c.drop_line.ensures.value)
+    (ap (λ (p : PendingLine). p.earlier) c.drop_line.ensures.value) (ap (λ (m : OpenTables). m.turning) c.close.ensures.value)
+    (ap (λ (m : OpenTables). m.left) c.close.ensures.value)
 
 pub returns-else-say-clause-meaning : goal.returns-else-say-clause-meaning
 returns-else-say-clause-meaning g c =
