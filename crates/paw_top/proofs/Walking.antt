@@ -187,11 +187,11 @@ module _ (seed n : ℕ) (first now mid new : Standing) (seat next : Seat) (given
 
 -- one line more
 pub walks_on : (seed n : ℕ) (first now mid new : Standing) (seat next : Seat) (given line : List ℕ) (s : Step) (o : Option Outcome)
-    (w : IsWalking seed first now seat n) → IsSeated seat → IsSeated next → next.game ≡ seat.game → next.last ≡ s →
+    (w : IsWalking seed first now seat n) → n < MOST_EVENTS → IsSeated seat → IsSeated next → next.game ≡ seat.game → next.last ≡ s →
     now.lines ≡ line ∷ mid.lines → given ≡ take 255 line → mid ≡ record now { lines = mid.lines; asked = now.asked + 1 } →
     PlaysTo (λ more. on seat.game [] w.prompt (reverse seat.machine.frames) (run_at seat w.pieces w.traces (given ∷ more))) s next w.pieces w.traces →
     Told mid new next.piece s o → WalksOn seed first new next n o
-walks_on seed n first now mid new seat next given line s None w seated then_seated game last lines cut took plays told =
+walks_on seed n first now mid new seat next given line s None w few seated then_seated game last lines cut took plays told =
     let whole : List (List ℕ) → Ending = λ more. on seat.game [] w.prompt (reverse seat.machine.frames) (run_at seat w.pieces w.traces (given ∷ more)) in
     let at : PlaysTo whole (step.Waits told.0) next w.pieces w.traces = subst (λ q. PlaysTo whole q next w.pieces w.traces) told.1 plays in
     record {
@@ -204,11 +204,12 @@ walks_on seed n first now mid new seat next given line s None w seated then_seat
       stands = stands_with seed n first now mid new seat next given line s w seated then_seated game last lines cut took plays next.piece told.2
           ∙ ap (played first (suc n)) (sym (joined_more w.pieces next.piece));
     }
-walks_on seed n first now mid new seat next given line s (Some outcome.Ended) w seated then_seated game last lines cut took plays told =
+walks_on seed n first now mid new seat next given line s (Some outcome.Ended) w few seated then_seated game last lines cut took plays told =
     let whole : List (List ℕ) → Ending = λ more. on seat.game [] w.prompt (reverse seat.machine.frames) (run_at seat w.pieces w.traces (given ∷ more)) in
     let at : PlaysTo whole step.Ended next w.pieces w.traces = subst (λ q. PlaysTo whole q next w.pieces w.traces) told.0 plays in
     let e = at [] in (
       suc n,
+      omega (arith, few),
       e.0,
       record {
         reading = read_after seed n first now mid new seat next given line s w seated then_seated game last lines cut took plays ∙ e.1;
@@ -217,11 +218,12 @@ walks_on seed n first now mid new seat next given line s (Some outcome.Ended) w 
             ∙ ap (played first (suc n)) (sym (ap joined e.2 ∙ joined_more w.pieces next.piece));
       },
     )
-walks_on seed n first now mid new seat next given line s (Some (outcome.Spent kind)) w seated then_seated game last lines cut took plays told =
+walks_on seed n first now mid new seat next given line s (Some (outcome.Spent kind)) w few seated then_seated game last lines cut took plays told =
     let whole : List (List ℕ) → Ending = λ more. on seat.game [] w.prompt (reverse seat.machine.frames) (run_at seat w.pieces w.traces (given ∷ more)) in
     let at : PlaysTo whole (step.Spent kind) next w.pieces w.traces = subst (λ q. PlaysTo whole q next w.pieces w.traces) told.0 plays in
     let e = at.1 [] in (
       suc n,
+      omega (arith, few),
       e.0,
       record {
         reading = read_after seed n first now mid new seat next given line s w seated then_seated game last lines cut took plays ∙ e.1;
@@ -230,11 +232,12 @@ walks_on seed n first now mid new seat next given line s (Some (outcome.Spent ki
             ∙ ap (played first (suc n)) (append-nil (joined w.pieces) ∙ sym (ap joined e.2));
       },
     )
-walks_on seed n first now mid new seat next given line s (Some (outcome.TooDeep table)) w seated then_seated game last lines cut took plays told =
+walks_on seed n first now mid new seat next given line s (Some (outcome.TooDeep table)) w few seated then_seated game last lines cut took plays told =
     let whole : List (List ℕ) → Ending = λ more. on seat.game [] w.prompt (reverse seat.machine.frames) (run_at seat w.pieces w.traces (given ∷ more)) in
     let at : PlaysTo whole (step.TooDeep table) next w.pieces w.traces = subst (λ q. PlaysTo whole q next w.pieces w.traces) told.0 plays in
     let e = at.1 [] in (
       suc n,
+      omega (arith, few),
       e.0,
       record {
         reading = read_after seed n first now mid new seat next given line s w seated then_seated game last lines cut took plays ∙ e.1;
@@ -243,24 +246,24 @@ walks_on seed n first now mid new seat next given line s (Some (outcome.TooDeep 
             ∙ ap (played first (suc n)) (append-nil (joined w.pieces) ∙ sym (ap joined e.2));
       },
     )
-walks_on seed n first now mid new seat next given line s (Some (outcome.Outside call.Show)) w seated then_seated game last lines cut took plays told =
-    (suc n, shown_part seed n first now mid new seat next given line s w seated then_seated game last lines cut took plays told.0 told.1 told.2)
-walks_on seed n first now mid new seat next given line s (Some _) w seated then_seated game last lines cut took plays told = absurd told
+walks_on seed n first now mid new seat next given line s (Some (outcome.Outside call.Show)) w few seated then_seated game last lines cut took plays told =
+    (suc n, omega (arith, few), shown_part seed n first now mid new seat next given line s w seated then_seated game last lines cut took plays told.0 told.1 told.2)
+walks_on seed n first now mid new seat next given line s (Some _) w few seated then_seated game last lines cut took plays told = absurd told
 
 -- no line is left
-pub none_left : (seed n : ℕ) (first now new : Standing) (seat : Seat) → IsWalking seed first now seat n → IsSeated seat → (now.lines ≡ []) × (new ≡ now) →
-    (p : Prompt) × (path : List Frame) × (r : Run) × Reads seat.game seed first new (length first.lines) (WaitsAt p path r)
-none_left seed n first now new seat w seated e =
+pub none_left : (seed n : ℕ) (first now new : Standing) (seat : Seat) → IsWalking seed first now seat n → n < MOST_EVENTS → IsSeated seat → (now.lines ≡ []) × (new ≡ now) →
+    (length first.lines < MOST_EVENTS) × (p : Prompt) × (path : List Frame) × (r : Run) × Reads seat.game seed first new (length first.lines) (WaitsAt p path r)
+none_left seed n first now new seat w few seated e =
     let all : n ≡ length first.lines = drop_all first.lines n (ap (λ (q : Standing). q.lines) (sym w.stands) ∙ e.0) w.there in
     let at = waiting seed n first now seat w seated in
-    (at.0, at.1, at.2, rw (← all, e.1) at.3)
+    (omega (arith, all, few), at.0, at.1, at.2, rw (← all, e.1) at.3)
 
 -- the lines can't be asked for
-pub none_asked : (seed n : ℕ) (first now new : Standing) (seat : Seat) → IsWalking seed first now seat n → IsSeated seat → new ≡ now →
-    (m : ℕ) × (p : Prompt) × (path : List Frame) × (r : Run) × Reads seat.game seed first new m (WaitsAt p path r)
-none_asked seed n first now new seat w seated e =
+pub none_asked : (seed n : ℕ) (first now new : Standing) (seat : Seat) → IsWalking seed first now seat n → n < MOST_EVENTS → IsSeated seat → new ≡ now →
+    (m : ℕ) × (m < MOST_EVENTS) × (p : Prompt) × (path : List Frame) × (r : Run) × Reads seat.game seed first new m (WaitsAt p path r)
+none_asked seed n first now new seat w few seated e =
     let at = waiting seed n first now seat w seated in
-    (n, at.0, at.1, at.2, rw e at.3)
+    (n, few, at.0, at.1, at.2, rw e at.3)
 
 -- all the lines that a session may have were taken
 pub long_walk : (seed n : ℕ) (first now : Standing) (seat : Seat) (g : GameLists) → IsWalking seed first now seat n → IsSeated seat → seat.game ≡ g → n ≡ MOST_EVENTS →
@@ -292,6 +295,7 @@ walk_begins seed old new seat s (Some outcome.Ended) seated last plays told =
     let at : PlaysTo (reading seat.game [] seed) step.Ended seat [] [] = subst (λ q. PlaysTo (reading seat.game [] seed) q seat [] []) told.0 plays in
     let e = at [] in (
       0,
+      omega arith,
       e.0,
       record {
         reading = e.1;
@@ -302,13 +306,14 @@ walk_begins seed old new seat s (Some outcome.Ended) seated last plays told =
 walk_begins seed old new seat s (Some (outcome.Spent kind)) seated last plays told =
     let at : PlaysTo (reading seat.game [] seed) (step.Spent kind) seat [] [] = subst (λ q. PlaysTo (reading seat.game [] seed) q seat [] []) told.0 plays in
     let e = at.1 [] in
-    (0, e.0, record { reading = e.1; there = omega arith; stands = first_stands old new [] (told.1 ∙ shown_nothing old) ∙ ap (played old 0) (sym (ap joined e.2)) })
+    (0, omega arith, e.0, record { reading = e.1; there = omega arith; stands = first_stands old new [] (told.1 ∙ shown_nothing old) ∙ ap (played old 0) (sym (ap joined e.2)) })
 walk_begins seed old new seat s (Some (outcome.TooDeep table)) seated last plays told =
     let at : PlaysTo (reading seat.game [] seed) (step.TooDeep table) seat [] [] = subst (λ q. PlaysTo (reading seat.game [] seed) q seat [] []) told.0 plays in
     let e = at.1 [] in
-    (0, e.0, record { reading = e.1; there = omega arith; stands = first_stands old new [] (told.1 ∙ shown_nothing old) ∙ ap (played old 0) (sym (ap joined e.2)) })
+    (0, omega arith, e.0, record { reading = e.1; there = omega arith; stands = first_stands old new [] (told.1 ∙ shown_nothing old) ∙ ap (played old 0) (sym (ap joined e.2)) })
 walk_begins seed old new seat s (Some (outcome.Outside call.Show)) seated last plays told = (
   0,
+  omega arith,
   record {
     shown = take told.1 seat.piece;
     rest = drop told.1 seat.piece;

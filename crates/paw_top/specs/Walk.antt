@@ -41,18 +41,19 @@ pub record ReadsPart (g : GameLists) (seed : ℕ) (old new : Standing) (n : ℕ)
   pub there : n ≤ length old.lines
   pub stands : new ≡ played old n shown
 
--- what walking through a game whose condacts are built comes to
+-- what walking through a game whose condacts are built comes to: at most MOST_EVENTS lines are taken, and one more is asked
+-- for only where fewer were, so where the player still waits after that many the walk is Long
 abbrev pub Walks : GameLists → ℕ → Standing → Standing → Outcome → Type 0
-Walks g seed old new outcome.Ended = (n : ℕ) × (r : Run) × Reads g seed old new n (IsOver r)
+Walks g seed old new outcome.Ended = (n : ℕ) × (n ≤ MOST_EVENTS) × (r : Run) × Reads g seed old new n (IsOver r)
 Walks g seed old new outcome.InputEnded =
-    (p : Prompt) × (path : List Frame) × (r : Run) × Reads g seed old new (length old.lines) (WaitsAt p path r)
-Walks g seed old new (outcome.Spent kind) = (n : ℕ) × (r : Run) × Reads g seed old new n (RunsOut kind r)
-Walks g seed old new (outcome.TooDeep table) = (n : ℕ) × (r : Run) × Reads g seed old new n (CallsTooDeep table r)
+    (length old.lines < MOST_EVENTS) × (p : Prompt) × (path : List Frame) × (r : Run) × Reads g seed old new (length old.lines) (WaitsAt p path r)
+Walks g seed old new (outcome.Spent kind) = (n : ℕ) × (n ≤ MOST_EVENTS) × (r : Run) × Reads g seed old new n (RunsOut kind r)
+Walks g seed old new (outcome.TooDeep table) = (n : ℕ) × (n ≤ MOST_EVENTS) × (r : Run) × Reads g seed old new n (CallsTooDeep table r)
 Walks g seed old new (outcome.Long events) =
     (events ≡ MOST_EVENTS) × (p : Prompt) × (path : List Frame) × (r : Run) × Reads g seed old new MOST_EVENTS (WaitsAt p path r)
 Walks g seed old new (outcome.Outside call.Ask) =
-    (n : ℕ) × (p : Prompt) × (path : List Frame) × (r : Run) × Reads g seed old new n (WaitsAt p path r)
-Walks g seed old new (outcome.Outside call.Show) = (n : ℕ) × ReadsPart g seed old new n
+    (n : ℕ) × (n < MOST_EVENTS) × (p : Prompt) × (path : List Frame) × (r : Run) × Reads g seed old new n (WaitsAt p path r)
+Walks g seed old new (outcome.Outside call.Show) = (n : ℕ) × (n ≤ MOST_EVENTS) × ReadsPart g seed old new n
 Walks g seed old new (outcome.Memory at) = new ≡ old
 Walks g seed old new _ = ⊥
 

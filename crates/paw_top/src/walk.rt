@@ -7,6 +7,7 @@ ghost use Rattle.paw_turn.specs.Player.{IsSeated, IsNew};
 ghost use Rattle.paw_top.specs.Walk.{Walks, IsWalking, WalksOn, Told};
 ghost use Rattle.paw_top.specs.Answers.{IfOutside, IsWalkCall};
 ghost use Rattle.paw_top.specs.declared.outcome.Outcome.TheVariants as outcome;
+ghost use Rattle.paw_top.specs.declared.TheConstants.{MOST_EVENTS};
 
 use crate::MOST_EVENTS;
 use crate::outcome::{MemoryAt, Outcome};
@@ -52,7 +53,7 @@ fn walk_line<S: Stage, T: Tables>(stage: &mut S, player: &mut Player<'_, T>) -> 
     ensures form { IfSome result (λ o. o ≢ outcome.Usage) }
     ensures outside { IfSome result (λ o. IfOutside o (λ c. IsWalkCall c × Rose (S.faults stage.old c) (S.faults stage.new c))) }
     ensures meaning { S.Tells stage.old → (seed n : ℕ) (first : Standing) → IsWalking seed first (S.standing stage.old) player.old n →
-        WalksOn seed first (S.standing stage.new) player.new n result }
+        n < MOST_EVENTS → WalksOn seed first (S.standing stage.new) player.new n result }
 {
     let mut line = [0u8; 255];
     match stage.ask(&mut line) {

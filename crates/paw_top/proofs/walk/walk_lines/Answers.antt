@@ -1,4 +1,4 @@
-use Rattle.std.proofs.Common.{◌≡◌, ◌∙◌, arith, subst, add-one}
+use Rattle.std.proofs.Common.{◌≡◌, ◌<◌, ◌∙◌, arith, subst, add-one}
 use Rattle.paw_top.specs.Walk.{Walks}
 use Rattle.paw_top.specs.declared.TheConstants.{MOST_EVENTS}
 use Rattle.paw_top.proofs.Walking.{long_walk}
@@ -7,7 +7,8 @@ use Rattle.paw_top.proofs.walk.walk_lines.Goals as goal
 pub returns-in-Some-clause-meaning : goal.returns-in-Some-clause-meaning
 returns-in-Some-clause-meaning g c = λ tells seed first start.
     let w = c.loop.invariant.walking tells seed first start in
-    let on = c.in-Some.ensures.meaning (c.loop.invariant.tells.0 tells) seed c.loop.counter first w in
+    let few : c.loop.counter < MOST_EVENTS = omega (arith, c.loop-test.true) in
+    let on = c.in-Some.ensures.meaning (c.loop.invariant.tells.0 tells) seed c.loop.counter first w few in
     subst (λ q. Walks q seed first (g.S.Stage.standing c.walk_line.new.stage) c.in-Some.outcome) (c.walk_line.ensures.game ∙ c.loop.invariant.game) on
 
 pub loop-preserved : goal.loop-preserved
@@ -19,7 +20,8 @@ loop-preserved g c = record {
   counts = λ k. omega (arith, c.loop.invariant.counts k, c.walk_line.ensures.counts k);
   walking = λ tells seed first start.
       let w = c.loop.invariant.walking tells seed first start in
-      let on = c.in_default.ensures.meaning (c.loop.invariant.tells.0 tells) seed c.loop.counter first w in
+      let few : c.loop.counter < MOST_EVENTS = omega (arith, c.loop-test.true) in
+      let on = c.in_default.ensures.meaning (c.loop.invariant.tells.0 tells) seed c.loop.counter first w few in
       rw add-one on;
 }
 
