@@ -18,7 +18,7 @@ use Rattle.paw_top.proofs.Images.{in_order}
 -- ---- the source ----
 
 -- a source with too many bytes has its fault before its first line
-too_long : (bytes : List ℕ) → 8388609 ≤ length bytes → spelled bytes ≡ Err (record { line = 0; kind = kind.TooBig })
+pub too_long : (bytes : List ℕ) → 8388609 ≤ length bytes → spelled bytes ≡ Err (record { line = 0; kind = kind.TooBig })
 unfolding spelled
 too_long bytes h = let t : nat_lt 8388608 (length bytes) ≡ true = grind (arith, nat_tests) in rw t refl
 

@@ -1,5 +1,5 @@
 -- A walk, line by line.
-use Rattle.std.proofs.Common.{◌≡◌, ℕ, zero, suc, ◌+◌, ◌-◌, ◌≤◌, ◌<◌, List, [], ◌∷◌, ◌++◌, Option, Some, None, refl, sym, ap, ◌∙◌, subst, length, take, drop, map, arith, append_assoc}
+use Rattle.std.proofs.Common.{◌≡◌, ℕ, zero, suc, ◌+◌, ◌-◌, ◌≤◌, ◌<◌, List, [], ◌∷◌, ◌++◌, Option, Some, None, refl, sym, ap, ◌∙◌, subst, length, take, drop, map, arith, append_assoc, length-append}
 use Rattle.std.proofs.lemmas.Grind.{flat_map-append}
 use Rattle.std.proofs.lemmas.List.{append-nil, length-reverse, take-append-drop}
 use Rattle.std.specs.Prelude.{reverse}
@@ -131,7 +131,7 @@ text_shown : (whole : List (List ℕ) → Ending) (s : Step) (next : Seat) (piec
 text_shown whole (step.Waits p) next pieces traces h m plays =
     ap text_of (plays.1 [] ∙ on_waits next.game [] p next.machine (run_at next (pieces ++ next.piece ∷ []) (traces ++ plays.0 ∷ []) []) m) ∙ joined_more pieces next.piece
 text_shown whole step.Ended next pieces traces h m plays =
-    let e = plays [] in ap text_of e.1 ∙ ap joined e.2 ∙ joined_more pieces next.piece
+    ap text_of (plays.1 []) ∙ joined_more pieces next.piece
 text_shown whole (step.Spent kind) next pieces traces h m plays = absurd h
 text_shown whole (step.TooDeep u) next pieces traces h m plays = absurd h
 
@@ -169,21 +169,23 @@ module _ (seed n : ℕ) (first now mid new : Standing) (seat next : Seat) (given
   machine_stands = subst (λ q. Stands q next.machine) last then_seated.machine
 
   -- part of the piece was shown
-  shown_part : ShowsPiece s → (m : ℕ) → new ≡ record mid { shown = mid.shown ++ take m next.piece } → ReadsPart next.game seed first new (suc n)
-  shown_part shows m e = record {
+  shown_part : ShowsPiece s → 0 < length next.piece → (m : ℕ) → new ≡ record mid { shown = mid.shown ++ take m next.piece } → ReadsPart next.game seed first new (suc n)
+  shown_part shows some m e = record {
     shown = joined w.pieces ++ take m next.piece;
     rest = drop m next.piece;
-    part = append_assoc (joined w.pieces) (take m next.piece) (drop m next.piece) ∙ ap (λ t. joined w.pieces ++ t) (take-append-drop m next.piece)
-        ∙ sym (ap text_of read_after ∙ text_shown _ s next w.pieces w.traces shows machine_stands plays);
-    before = λ _. (take m next.piece, ap (λ t. t ++ take m next.piece) (sym earlier));
+    part = append_assoc (joined w.pieces) (take m next.piece) (drop m next.piece) ∙ ap (λ t. joined w.pieces ++ t) (take-append-drop m next.piece) ∙ sym all;
+    last = take m next.piece;
+    before = ap (λ t. t ++ take m next.piece) (sym earlier);
+    grows = omega (arith, some, ap length earlier, ap length all ∙ length-append (joined w.pieces) next.piece);
     there = one_more;
     stands = stands_with (take m next.piece) e;
   }
     where
-      earlier : text_of (reading next.game [] seed (first_lines (suc n - 1) first.lines)) ≡ joined w.pieces
-      earlier =
-          let k : suc n - 1 ≡ n = omega arith in
-          rw k (ap (λ g. text_of (reading g [] seed (first_lines n first.lines))) game ∙ text_so_far seed n first now seat w seated)
+      all : text_of (reading next.game [] seed (first_lines (suc n) first.lines)) ≡ joined w.pieces ++ next.piece
+      all = ap text_of read_after ∙ text_shown _ s next w.pieces w.traces shows machine_stands plays
+
+      earlier : text_of (reading next.game [] seed (first_lines n first.lines)) ≡ joined w.pieces
+      earlier = ap (λ g. text_of (reading g [] seed (first_lines n first.lines))) game ∙ text_so_far seed n first now seat w seated
 
 -- one line more
 pub walks_on : (seed n : ℕ) (first now mid new : Standing) (seat next : Seat) (given line : List ℕ) (s : Step) (o : Option Outcome)
@@ -206,16 +208,16 @@ walks_on seed n first now mid new seat next given line s None w few seated then_
     }
 walks_on seed n first now mid new seat next given line s (Some outcome.Ended) w few seated then_seated game last lines cut took plays told =
     let whole : List (List ℕ) → Ending = λ more. on seat.game [] w.prompt (reverse seat.machine.frames) (run_at seat w.pieces w.traces (given ∷ more)) in
-    let at : PlaysTo whole step.Ended next w.pieces w.traces = subst (λ q. PlaysTo whole q next w.pieces w.traces) told.0 plays in
-    let e = at [] in (
+    let at : PlaysTo whole step.Ended next w.pieces w.traces = subst (λ q. PlaysTo whole q next w.pieces w.traces) told.0 plays in (
       suc n,
       omega (arith, few),
-      e.0,
+      run_at next (w.pieces ++ next.piece ∷ []) (w.traces ++ at.0 ∷ []) [],
+      refl,
       record {
-        reading = read_after seed n first now mid new seat next given line s w seated then_seated game last lines cut took plays ∙ e.1;
+        reading = read_after seed n first now mid new seat next given line s w seated then_seated game last lines cut took plays ∙ at.1 [];
         there = one_more seed n first now mid new seat next given line s w seated then_seated game last lines cut took plays;
         stands = stands_with seed n first now mid new seat next given line s w seated then_seated game last lines cut took plays next.piece told.1
-            ∙ ap (played first (suc n)) (sym (ap joined e.2 ∙ joined_more w.pieces next.piece));
+            ∙ ap (played first (suc n)) (sym (joined_more w.pieces next.piece));
       },
     )
 walks_on seed n first now mid new seat next given line s (Some (outcome.Spent kind)) w few seated then_seated game last lines cut took plays told =
@@ -225,6 +227,7 @@ walks_on seed n first now mid new seat next given line s (Some (outcome.Spent ki
       suc n,
       omega (arith, few),
       e.0,
+      e.3,
       record {
         reading = read_after seed n first now mid new seat next given line s w seated then_seated game last lines cut took plays ∙ e.1;
         there = one_more seed n first now mid new seat next given line s w seated then_seated game last lines cut took plays;
@@ -239,6 +242,7 @@ walks_on seed n first now mid new seat next given line s (Some (outcome.TooDeep 
       suc n,
       omega (arith, few),
       e.0,
+      e.3,
       record {
         reading = read_after seed n first now mid new seat next given line s w seated then_seated game last lines cut took plays ∙ e.1;
         there = one_more seed n first now mid new seat next given line s w seated then_seated game last lines cut took plays;
@@ -247,7 +251,7 @@ walks_on seed n first now mid new seat next given line s (Some (outcome.TooDeep 
       },
     )
 walks_on seed n first now mid new seat next given line s (Some (outcome.Outside call.Show)) w few seated then_seated game last lines cut took plays told =
-    (suc n, omega (arith, few), shown_part seed n first now mid new seat next given line s w seated then_seated game last lines cut took plays told.0 told.1 told.2)
+    (suc n, omega (arith, few), shown_part seed n first now mid new seat next given line s w seated then_seated game last lines cut took plays told.0 told.1 told.2 told.3)
 walks_on seed n first now mid new seat next given line s (Some _) w few seated then_seated game last lines cut took plays told = absurd told
 
 -- no line is left
@@ -292,37 +296,41 @@ walk_begins seed old new seat s None seated last plays told =
       stands = first_stands old new seat.piece told.2 ∙ ap (played old 0) (sym (joined_more [] seat.piece));
     }
 walk_begins seed old new seat s (Some outcome.Ended) seated last plays told =
-    let at : PlaysTo (reading seat.game [] seed) step.Ended seat [] [] = subst (λ q. PlaysTo (reading seat.game [] seed) q seat [] []) told.0 plays in
-    let e = at [] in (
+    let at : PlaysTo (reading seat.game [] seed) step.Ended seat [] [] = subst (λ q. PlaysTo (reading seat.game [] seed) q seat [] []) told.0 plays in (
       0,
       omega arith,
-      e.0,
+      run_at seat (seat.piece ∷ []) (at.0 ∷ []) [],
+      refl,
       record {
-        reading = e.1;
+        reading = at.1 [];
         there = omega arith;
-        stands = first_stands old new seat.piece told.1 ∙ ap (played old 0) (sym (ap joined e.2 ∙ joined_more [] seat.piece));
+        stands = first_stands old new seat.piece told.1 ∙ ap (played old 0) (sym (joined_more [] seat.piece));
       },
     )
 walk_begins seed old new seat s (Some (outcome.Spent kind)) seated last plays told =
     let at : PlaysTo (reading seat.game [] seed) (step.Spent kind) seat [] [] = subst (λ q. PlaysTo (reading seat.game [] seed) q seat [] []) told.0 plays in
     let e = at.1 [] in
-    (0, omega arith, e.0, record { reading = e.1; there = omega arith; stands = first_stands old new [] (told.1 ∙ shown_nothing old) ∙ ap (played old 0) (sym (ap joined e.2)) })
+    (0, omega arith, e.0, e.3, record { reading = e.1; there = omega arith; stands = first_stands old new [] (told.1 ∙ shown_nothing old) ∙ ap (played old 0) (sym (ap joined e.2)) })
 walk_begins seed old new seat s (Some (outcome.TooDeep table)) seated last plays told =
     let at : PlaysTo (reading seat.game [] seed) (step.TooDeep table) seat [] [] = subst (λ q. PlaysTo (reading seat.game [] seed) q seat [] []) told.0 plays in
     let e = at.1 [] in
-    (0, omega arith, e.0, record { reading = e.1; there = omega arith; stands = first_stands old new [] (told.1 ∙ shown_nothing old) ∙ ap (played old 0) (sym (ap joined e.2)) })
-walk_begins seed old new seat s (Some (outcome.Outside call.Show)) seated last plays told = (
-  0,
-  omega arith,
-  record {
-    shown = take told.1 seat.piece;
-    rest = drop told.1 seat.piece;
-    part = take-append-drop told.1 seat.piece ∙ sym (text_shown (reading seat.game [] seed) s seat [] [] told.0 (subst (λ q. Stands q seat.machine) last seated.machine) plays);
-    before = λ h. absurd (omega arith);
-    there = omega arith;
-    stands = first_stands old new (take told.1 seat.piece) told.2;
-  },
-)
+    (0, omega arith, e.0, e.3, record { reading = e.1; there = omega arith; stands = first_stands old new [] (told.1 ∙ shown_nothing old) ∙ ap (played old 0) (sym (ap joined e.2)) })
+walk_begins seed old new seat s (Some (outcome.Outside call.Show)) seated last plays told =
+    let all : text_of (reading seat.game [] seed []) ≡ seat.piece
+    = text_shown (reading seat.game [] seed) s seat [] [] told.0 (subst (λ q. Stands q seat.machine) last seated.machine) plays in (
+      0,
+      omega arith,
+      record {
+        shown = take told.2 seat.piece;
+        rest = drop told.2 seat.piece;
+        part = take-append-drop told.2 seat.piece ∙ sym all;
+        last = take told.2 seat.piece;
+        before = refl;
+        grows = omega (arith, told.1, ap length all);
+        there = omega arith;
+        stands = first_stands old new (take told.2 seat.piece) told.3;
+      },
+    )
 walk_begins seed old new seat s (Some _) seated last plays told = absurd told
 
 -- a player that was new has played piece 0

@@ -1,9 +1,10 @@
 -- What the canonical source of a game spells.
-use Rattle.std.specs.Prelude.{◌≡◌, ◌≤◌, ℕ, List, ◌++◌, length, Some}
+use Rattle.std.specs.Prelude.{◌≡◌, ◌≤◌, ◌<◌, ℕ, List, ◌++◌, length, Some, Err}
+use Rattle.paw_base.specs.declared.fault.SourceKind.TheVariants as kind
 use Rattle.paw_game.specs.Game.{GameLists}
 use Rattle.paw_game.specs.Valid.{Valid}
 use Rattle.paw_game.specs.Image.{image}
-use Rattle.paw_grammar.specs.Spells.{Spells}
+use Rattle.paw_grammar.specs.Spells.{Spells, spelled, fault}
 use Rattle.paw_print.specs.Canonical.{canonical_of}
 use Rattle.paw_stage.specs.Stage.{Standing}
 use Rattle.paw_top.specs.Compile.{Compiles, kept, image_line}
@@ -23,3 +24,7 @@ ComesBack =
     → Decompiles image_name old shown outcome.Done → shown.shown ≡ old.shown ++ text → before.files source ≡ Some text
     → length text ≤ 8388608 → Compiles source target before after outcome.Done
     → after ≡ kept before target bytes (image_line (length bytes))
+
+-- A canonical source that is longer than a source may be spells nothing: it is TooBig at line 0.
+abbrev pub LongIsTooBig : Type 0
+LongIsTooBig = (g : GameLists) → 8388608 < length (canonical_of g) → spelled (canonical_of g) ≡ Err (fault 0 kind.TooBig)

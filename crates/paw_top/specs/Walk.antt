@@ -1,5 +1,5 @@
 -- What a walk through a game comes to.
-use Rattle.std.specs.Prelude.{◌≡◌, ℕ, suc, ◌+◌, ◌-◌, ◌<◌, ◌≤◌, List, [], ◌++◌, length, take, drop, map, flat_map, reverse, Option, Some, None}
+use Rattle.std.specs.Prelude.{◌≡◌, ℕ, zero, suc, ◌+◌, ◌<◌, ◌≤◌, List, [], ◌++◌, length, take, drop, map, flat_map, reverse, Option, Some, None}
 use Rattle.paw_game.specs.Game.{GameLists}
 use Rattle.paw_stage.specs.Stage.{Standing}
 use Rattle.paw_stage.specs.declared.StageCall.TheVariants as call
@@ -32,23 +32,35 @@ pub record Reads (g : GameLists) (seed : ℕ) (old new : Standing) (n : ℕ) (e 
   pub there : n ≤ length old.lines
   pub stands : new ≡ played old n (text_of e)
 
--- n lines were taken, and a first part of the text of their reading was shown: at least the text for all but the last
+-- the text for all but the last of n lines; before the first line no text was shown
+abbrev pub text_before : GameLists → ℕ → List (List ℕ) → ℕ → List ℕ
+text_before g seed lines zero = []
+text_before g seed lines (suc n) = text_of (reading g [] seed (first_lines n lines))
+
+-- n lines were taken, and a first part of the text of their reading was shown: the text for all but the last, and a part of
+-- the piece that the last one brings, which isn't empty
 pub record ReadsPart (g : GameLists) (seed : ℕ) (old new : Standing) (n : ℕ) : Type 0 where
   pub shown : List ℕ
   pub rest : List ℕ
   pub part : shown ++ rest ≡ text_of (reading g [] seed (first_lines n old.lines))
-  pub before : 0 < n → (last : List ℕ) × (shown ≡ text_of (reading g [] seed (first_lines (n - 1) old.lines)) ++ last)
+  pub last : List ℕ
+  pub before : shown ≡ text_before g seed old.lines n ++ last
+  pub grows : length (text_before g seed old.lines n) < length (text_of (reading g [] seed (first_lines n old.lines)))
   pub there : n ≤ length old.lines
   pub stands : new ≡ played old n shown
 
--- what walking through a game whose condacts are built comes to: at most MOST_EVENTS lines are taken, and one more is asked
--- for only where fewer were, so where the player still waits after that many the walk is Long
+-- What walking through a game whose condacts are built comes to. No line is taken behind the one that ends it. At most
+-- MOST_EVENTS lines are taken, and one more is asked for only where fewer were, so where the player still waits after that
+-- many the walk is Long.
 abbrev pub Walks : GameLists → ℕ → Standing → Standing → Outcome → Type 0
-Walks g seed old new outcome.Ended = (n : ℕ) × (n ≤ MOST_EVENTS) × (r : Run) × Reads g seed old new n (IsOver r)
+Walks g seed old new outcome.Ended =
+    (n : ℕ) × (n ≤ MOST_EVENTS) × (r : Run) × (r.events ≡ []) × Reads g seed old new n (IsOver r)
 Walks g seed old new outcome.InputEnded =
     (length old.lines < MOST_EVENTS) × (p : Prompt) × (path : List Frame) × (r : Run) × Reads g seed old new (length old.lines) (WaitsAt p path r)
-Walks g seed old new (outcome.Spent kind) = (n : ℕ) × (n ≤ MOST_EVENTS) × (r : Run) × Reads g seed old new n (RunsOut kind r)
-Walks g seed old new (outcome.TooDeep table) = (n : ℕ) × (n ≤ MOST_EVENTS) × (r : Run) × Reads g seed old new n (CallsTooDeep table r)
+Walks g seed old new (outcome.Spent kind) =
+    (n : ℕ) × (n ≤ MOST_EVENTS) × (r : Run) × (r.events ≡ []) × Reads g seed old new n (RunsOut kind r)
+Walks g seed old new (outcome.TooDeep table) =
+    (n : ℕ) × (n ≤ MOST_EVENTS) × (r : Run) × (r.events ≡ []) × Reads g seed old new n (CallsTooDeep table r)
 Walks g seed old new (outcome.Long events) =
     (events ≡ MOST_EVENTS) × (p : Prompt) × (path : List Frame) × (r : Run) × Reads g seed old new MOST_EVENTS (WaitsAt p path r)
 Walks g seed old new (outcome.Outside call.Ask) =
@@ -93,14 +105,15 @@ ShowsPiece (step.Spent kind) = ⊥
 ShowsPiece (step.TooDeep table) = ⊥
 
 -- what showing a step's piece does: it is shown where the player waits or is over, and then no other line may be asked for
--- where it is over; nothing is shown of a piece that is spent or of a call too deep; or a part is shown, and the call failed
+-- where it is over; nothing is shown of a piece that is spent or of a call too deep; or a part is shown of a piece that isn't
+-- empty, and the call failed
 abbrev pub Told : Standing → Standing → List ℕ → Step → Option Outcome → Type 0
 Told old new piece s None = (p : Prompt) × (s ≡ step.Waits p) × (new ≡ record old { shown = old.shown ++ piece })
 Told old new piece s (Some outcome.Ended) = (s ≡ step.Ended) × (new ≡ record old { shown = old.shown ++ piece })
 Told old new piece s (Some (outcome.Spent kind)) = (s ≡ step.Spent kind) × (new ≡ old)
 Told old new piece s (Some (outcome.TooDeep table)) = (s ≡ step.TooDeep table) × (new ≡ old)
 Told old new piece s (Some (outcome.Outside call.Show)) =
-    ShowsPiece s × (n : ℕ) × (new ≡ record old { shown = old.shown ++ take n piece })
+    ShowsPiece s × (0 < length piece) × (n : ℕ) × (new ≡ record old { shown = old.shown ++ take n piece })
 Told old new piece s (Some _) = ⊥
 
 -- after one line more: the walk is at the next prompt, or has come to this

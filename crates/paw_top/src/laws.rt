@@ -1,6 +1,6 @@
 // The canonical source of a game is read as that game.
 
-ghost use Rattle.paw_top.specs.Round.{ComesBack, SpellsItself};
+ghost use Rattle.paw_top.specs.Round.{ComesBack, LongIsTooBig, SpellsItself};
 
 use paw_source::laws::tables_are_counted;
 
@@ -18,3 +18,8 @@ pub fn decompiled_games_come_back()
 {
     canonical_spells_its_game();
 }
+
+/// A canonical source that is longer than a source may be spells nothing.
+pub fn long_canonical_sources_are_too_big()
+    ensures { LongIsTooBig }
+{}
