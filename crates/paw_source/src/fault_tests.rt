@@ -79,7 +79,7 @@ const OF_WORDS: [Case; 24] = [
 ];
 
 /// After the header of the system messages.
-const OF_TEXTS: [Case; 17] = [
+const OF_TEXTS: [Case; 20] = [
     ("words\n", 1, Section),
     (" \t; note\n\nwords\n", 3, Section),
     ("/1\n", 1, Range),
@@ -97,6 +97,9 @@ const OF_TEXTS: [Case; 17] = [
     ("/00\n/1x\n", 2, Section),
     ("/0\nx\n/MTX\nx\n", 4, Section),
     ("/0\n/1\n/MTX\n/0\n/OTX\n/LTX\n/CON\n", 7, Missing),
+    ("/MTX\n/OTX\n/LTX\n/con ; none\n", 4, Missing),
+    ("/MTX\n/OTX\n/LTX\n/CON\n/LTX\n", 4, Missing),
+    ("/MTX\n/OTX\n/LTX\n/CON 0\n", 4, Extra),
 ];
 
 /// After the header of the exits, with two locations.
@@ -124,7 +127,7 @@ const OF_EXITS: [Case; 20] = [
 ];
 
 /// After the header of the objects' rows, with two objects and two locations.
-const OF_OBJECTS: [Case; 29] = [
+const OF_OBJECTS: [Case; 36] = [
     ("/0\n", 1, Section),
     ("0\n", 1, Missing),
     ("x\n", 1, Number),
@@ -152,8 +155,15 @@ const OF_OBJECTS: [Case; 29] = [
     ("0 0 1 - LAMP _\n/PRO 0\n", 2, Missing),
     ("0 0 1 - LAMP _\n/PRO 0 x\n", 2, Extra),
     ("/PRO\n", 1, Missing),
+    ("/pro ; 0\n", 1, Missing),
     ("/PRO x\n", 1, Number),
+    ("/PRO 0x\n", 1, Number),
+    ("/PRO _\n", 1, Number),
     ("/PRO 256\n", 1, Range),
+    ("/PRO 300 x\n", 1, Range),
+    ("/PRO 99999999999999999999\n", 1, Range),
+    ("/PRO 0\n", 1, Missing),
+    ("/PRO 00\n", 1, Missing),
     ("/PRO 255\n", 1, Section),
     ("/PRO 1\n", 1, Section),
     ("/PROX 0\n", 1, Section),
@@ -325,6 +335,7 @@ fn too_much_is_too_big(rt: HostRuntime) -> Result<(), Fail> {
     for (source, line, kind) in [
         (with_words(alloc, 2_001)?, 2_002, TooBig),
         (with_items(alloc, messages, 256)?, 260, Missing),
+        (with_items(alloc, "/VOC\n/STX\n", 257)?, 259, TooBig),
         (with_items(alloc, messages, 257)?, 260, TooBig),
         (with_items(alloc, objects, 256)?, 260, TooBig),
         (with_items(alloc, locations, 253)?, 258, TooBig),
