@@ -20,6 +20,8 @@ use std::alloc::{AllocError, Global};
 use std::process::Abort;
 use std::test::Fail;
 
+mod kept;
+
 const VERB: u8 = 0;
 
 const NOUN: u8 = 2;
@@ -620,5 +622,18 @@ fn finished_players_answer_the_same(rt: HostRuntime) -> Result<(), Fail> {
         let player = take_all(&rt, alloc, &game, player, Between::Nothing, &lines)?;
         assert_eq!(rt; player.parts().prompt, Prompt::Over);
     }
+    Ok(())
+}
+
+#[test]
+fn a_player_waits_where_its_tables_stand(rt: HostRuntime) -> Result<(), Fail> {
+    let alloc = rt.alloc();
+    let game = asking_game(alloc)?;
+    assert!(rt; is_ready(&game));
+    let mut player = Player::new(alloc, &game, 7)?;
+    assert_eq!(rt; player.start(), MAIN);
+    let lines = [("TWIST ALL", KEY, "Press a key. ")];
+    let player = take_all(&rt, alloc, &game, player, Between::Nothing, &lines)?;
+    assert_eq!(rt; player.parts().machine.frames(), kept::waiting());
     Ok(())
 }
