@@ -253,6 +253,12 @@ fn outcomes_of_tables(rt: HostRuntime) -> Result<(), Fail> {
             "A hall.\nWhat now?\n> Are you sure? Another go? Goodbye.\n",
         ),
         (
+            [QUESTIONS, ""],
+            "AWAY\nQUIT\nn\nQUIT\n y\n\nQUIT\ny\n  no\nLOOK",
+            Outcome::Ended,
+            "A hall.\nWhat now?\n> A garden.\nA wind blows.\nWhat now?\n> Are you sure? What now?\n> Are you sure? Another go? A hall.\nWhat now?\n> Are you sure? Another go? Goodbye.\n",
+        ),
+        (
             [BEFORE_TABLE_1, "_ _\n DESC\n/PRO 2\n"],
             "",
             Outcome::Spent(SpentKind::Condacts),
@@ -268,6 +274,55 @@ fn outcomes_of_tables(rt: HostRuntime) -> Result<(), Fail> {
         let (outcome, shown) = walked(&rt, alloc, source.as_slice(), lines)?;
         assert_eq!(rt; outcome, wanted, "{lines:?}");
         assert_eq!(rt; shown.as_slice(), pieces.as_bytes(), "{lines:?}");
+    }
+    Ok(())
+}
+
+/// Two rooms with a way between them; some verbs are left as not done after a message.
+const UNDONE: &str =
+    "/VOC\nNORTH 2 verb\nEAST 3 verb\nUP 4 verb\nIN 5 verb\nDOWN 13 verb\nSING 14 verb\nDANCE 30 verb\nHUM 31 verb\n\
+SWIM 32 verb\nCLAP 33 verb\nHOP 34 verb\n/STX\n/0\n/1\n/2\nWhat now?\n/3\n/4\n/5\n/6\nEh?\n/7\nI can't go that way.\n/8\nI can't do that.\n\
+/9\n/10\n/11\n/12\n/13\n/14\n/15\n/16\n/17\n/18\n/19\n/20\n/21\n/22\n/23\n/24\n/25\n/26\n/27\n/28\n/29\n/30\n/31\n/32\n/33\n> \n\
+/MTX\n/0\n/1\nHm.\n/OTX\n/LTX\n/0\nA hall.\n/1\nA garden.\n/CON\n/0\nNORTH 1\nUP 1\nIN 1\nDANCE 1\n/1\n/OBJ\n/PRO 0\n\
+EAST _ MESSAGE 1 NOTDONE\nUP _ MESSAGE 1 NOTDONE\nIN _ PROCESS 3\nDOWN _ PROCESS 3\nSING _ MESSAGE 1 NOTDONE\n\
+DANCE _ MESSAGE 1 NOTDONE\nHUM _ PROCESS 3\nCLAP _ PROCESS 4\nHOP _ MESSAGE 1 PROCESS 3\n/PRO 1\n/PRO 2\n/PRO 3\n_ _ MESSAGE 1 NOTDONE\n\
+/PRO 4\n_ _ PROCESS 3\n_ _ MESSAGE 1\n";
+
+#[test]
+fn not_done_leads_on_to_the_exits(rt: HostRuntime) -> Result<(), Fail> {
+    let alloc = rt.alloc();
+    let start = "A hall.\nWhat now?\n> ";
+    for (lines, pieces) in [
+        // Nothing answers the verb.
+        ("SWIM", "I can't do that.\nWhat now?\n> "),
+        ("NORTH", "A garden.\nWhat now?\n> "),
+        // It is left as not done, here and in a called table.
+        ("SING", "Hm.\nI can't do that.\nWhat now?\n> "),
+        ("HUM", "Hm.\nI can't do that.\nWhat now?\n> "),
+        ("EAST", "Hm.\nI can't go that way.\nWhat now?\n> "),
+        ("DOWN", "Hm.\nI can't go that way.\nWhat now?\n> "),
+        // What the rest of the line says is dropped.
+        ("SING. NORTH", "Hm.\nI can't do that.\nWhat now?\n> "),
+        // There is a way.
+        ("UP", "Hm.\nA garden.\nWhat now?\n> "),
+        ("IN", "Hm.\nA garden.\nWhat now?\n> "),
+        (
+            "DANCE\nDANCE",
+            "Hm.\nA garden.\nWhat now?\n> Hm.\nI can't do that.\nWhat now?\n> ",
+        ),
+        (
+            "UP. IN",
+            "Hm.\nA garden.\nHm.\nI can't go that way.\nWhat now?\n> ",
+        ),
+        // The caller has done something, behind the call or before it.
+        ("CLAP", "Hm.\nHm.\nWhat now?\n> "),
+        ("HOP", "Hm.\nHm.\nWhat now?\n> "),
+    ] {
+        let (outcome, shown) = walked(&rt, alloc, &[UNDONE], lines)?;
+        assert_eq!(rt; outcome, Outcome::InputEnded, "{lines:?}");
+        assert!(rt; shown.starts_with(start.as_bytes()), "{lines:?}");
+        let later = shown.get(start.len()..).unwrap_or(b"");
+        assert_eq!(rt; later, pieces.as_bytes(), "{lines:?}");
     }
     Ok(())
 }
