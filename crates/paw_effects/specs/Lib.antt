@@ -8,6 +8,7 @@ pub mod FlagTests
 pub mod Holds
 pub mod Done
 pub mod FlowActions
+pub mod Counts
 pub mod TextActions
 pub mod FlagActions
 pub mod Effects

@@ -1,16 +1,22 @@
 -- The actions that print texts.
-use Rattle.std.specs.Prelude.{ℕ, ◌==◌, Bool, List, [], ◌∷◌, ◌++◌, if◌then◌else◌}
+use Rattle.std.specs.Prelude.{ℕ, ◌==◌, ◌||◌, Bool, List, [], ◌∷◌, ◌++◌, decimal, if◌then◌else◌}
 use Rattle.paw_base.specs.declared.parts.Condact.{Condact}
 use Rattle.paw_game.specs.Game.{GameLists}
 use Rattle.paw_game.specs.Valid.{is_within}
-use Rattle.paw_world.specs.World.{World}
-use Rattle.paw_effects.specs.Texts.{message_text}
+use Rattle.paw_world.specs.World.{World, flag}
+use Rattle.paw_effects.specs.Texts.{message_text, put_text}
+use Rattle.paw_effects.specs.Counts.{turns_text, score_text}
 
 abbrev pub is_print : ℕ → Bool
-is_print code = is_within 50 51 code
+is_print code = is_within 40 41 code || is_within 50 54 code
 
 -- one line for each of them
 unfoldable pub print_of : GameLists → World → Condact → List ℕ
 print_of g w c =
+    if c.code == 40 then turns_text g w else  -- TURNS
+    if c.code == 41 then score_text g w else  -- SCORE
     if c.code == 50 then message_text g w c.a else  -- MES
-    message_text g w c.a ++ 10 ∷ []  -- MESSAGE
+    if c.code == 51 then message_text g w c.a ++ 10 ∷ [] else  -- MESSAGE
+    if c.code == 52 then put_text g w c.a else  -- SYSMESS
+    if c.code == 53 then 10 ∷ [] else  -- NEWLINE
+    decimal (flag w c.a)  -- PRINT

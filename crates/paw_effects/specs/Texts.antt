@@ -4,9 +4,13 @@ use Rattle.paw_game.specs.Game.{GameLists}
 use Rattle.paw_game.specs.Tables.{or_empty, text_of}
 use Rattle.paw_world.specs.World.{World, flag}
 
--- the text of the object last referred to, flag 51; none where there is no such object
+-- the text of an object, as it is; none where there is no such object
+abbrev pub object_text : GameLists → ℕ → List ℕ
+object_text g o = or_empty (text_of (slice_get g.objects o))
+
+-- the text of the object last referred to, flag 51
 abbrev pub referred_text : GameLists → World → List ℕ
-referred_text g w = or_empty (text_of (slice_get g.objects (flag w 51)))
+referred_text g w = object_text g (flag w 51)
 
 -- each underscore is replaced by the name; the name isn't searched again
 abbrev pub with_name : List ℕ → List ℕ → List ℕ

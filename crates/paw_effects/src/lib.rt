@@ -3,6 +3,7 @@
 
 pub mod act;
 mod chance;
+pub mod counts;
 pub mod does;
 mod flag_actions;
 mod flag_tests;

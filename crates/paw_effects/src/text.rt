@@ -1,12 +1,14 @@
 // The texts that a game prints into a piece.
 
-ghost use Rattle.std.specs.Prelude.{◌≡◌, ◌+◌, ◌++◌, ◌<◌, ◌≤◌, List, [], ℕ, length, IfSome, IfNone, ◌==◌, Some};
+ghost use Rattle.std.specs.Prelude.{◌≡◌, ◌+◌, ◌++◌, ◌<◌, ◌≤◌, List, [], ℕ, length, IfSome, IfNone, ◌==◌, Some, decimal};
 ghost use Rattle.paw_base.specs.Piece.{Puts, piece_limit};
-ghost use Rattle.paw_effects.specs.Texts.{with_name, referred_text, printed_text, line_of, put_text, say_text, location_text, message_text};
+ghost use Rattle.paw_effects.specs.Texts.{with_name, object_text, printed_text, line_of, put_text, say_text, location_text, message_text};
 
+use itoa::Buffer;
 use paw_base::piece::Piece;
 use paw_game::parts::GamePart;
 use paw_game::tables::Tables;
+use paw_world::flags::REFERRED;
 use paw_world::world::World;
 
 /// The text before the first underscore, and the text behind it; None where there is no underscore.
@@ -44,11 +46,11 @@ fn print(piece: &mut Piece, name: &[u8], text: &[u8]) -> bool
     piece.push(rest)
 }
 
-/// The text of the object last referred to; empty where there is none.
-fn referred<'a, T: Tables>(tables: &'a T, world: &World) -> &'a [u8]
-    ensures value { result.now ≡ referred_text (T.game tables.now) world.now }
+/// The text of an object, as it is; empty where there is no such object.
+fn object_text<T: Tables>(tables: &T, o: u8) -> &[u8]
+    ensures value { result.now ≡ object_text (T.game tables.now) o }
 {
-    match tables.text(GamePart::Objects, world.flag(51)) {
+    match tables.text(GamePart::Objects, o) {
         Some(text) => text,
         None => &[],
     }
@@ -63,7 +65,7 @@ pub(crate) fn print_text<T: Tables>(
 ) -> bool
     ensures puts { Puts piece.old piece.new result (printed_text (T.game tables.now) world.now text.now) }
 {
-    print(piece, referred(tables, world), text)
+    print(piece, object_text(tables, world.flag(REFERRED)), text)
 }
 
 /// Prints a text and a newline; nothing where it is empty.
@@ -120,6 +122,21 @@ pub(crate) fn print_nothing(piece: &Piece)
     ensures fits { length piece.now + 0 ≤ piece_limit }
 {
     let _ = piece.bytes();
+}
+
+/// Prints the text of an object, where there is one, as it is.
+pub(crate) fn print_object<T: Tables>(tables: &T, piece: &mut Piece, o: u8) -> bool
+    ensures puts { Puts piece.old piece.new result (object_text (T.game tables.now) o) }
+{
+    piece.push(object_text(tables, o))
+}
+
+/// Prints a number in decimal.
+pub(crate) fn print_number(piece: &mut Piece, number: u16) -> bool
+    ensures puts { Puts piece.old piece.new result (decimal number) }
+{
+    let mut digits = Buffer::new();
+    piece.push(digits.format(number).as_bytes())
 }
 
 /// Prints a message, where there is one.
