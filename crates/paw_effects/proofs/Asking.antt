@@ -3,6 +3,7 @@ use Rattle.std.proofs.Common.{ℕ, ◌==◌, Bool, true, false, List}
 use Rattle.std.specs.Prelude.{if◌then◌else◌}
 use Rattle.paw_base.specs.declared.parts.Condact.{Condact}
 use Rattle.paw_game.specs.Game.{GameLists}
+use Rattle.paw_game.specs.Valid.{is_within}
 use Rattle.paw_world.specs.World.{World}
 use Rattle.paw_effects.specs.declared.act.Prompt.{Prompt}
 use Rattle.paw_effects.specs.declared.act.Prompt.TheVariants as prompt
@@ -48,7 +49,8 @@ flow_asks g w c =
     one_of (c.code == 30) _ _ (record { inner = fine }) (one_of (c.code == 31) _ _ (record { inner = fine })
     (one_of (c.code == 32) _ _ (record { inner = fine }) (one_of (c.code == 33) _ _ (record { inner = fine })
     (one_of (c.code == 34) _ _ (record { inner = fine }) (one_of (c.code == 35) _ _ (record { inner = fine })
-    (one_of (c.code == 84) _ _ (record { inner = fine }) (one_of (c.code == 85) _ _ (record { inner = fine }) (record { inner = fine }))))))))
+    (one_of (is_within 36 37 c.code) _ _ (record { inner = fine }) (one_of (c.code == 84) _ _ (record { inner = fine })
+    (one_of (c.code == 85) _ _ (record { inner = fine }) (record { inner = fine })))))))))
 
 action_asks : (g : GameLists) (X : List (List ℕ)) (w : World) (c : Condact) → Asks (effect_of g X w c)
 unfolding effect_of

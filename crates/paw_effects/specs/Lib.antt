@@ -7,8 +7,9 @@ pub mod PlaceTests
 pub mod FlagTests
 pub mod Holds
 pub mod Done
-pub mod FlowActions
 pub mod Counts
+pub mod Marks
+pub mod FlowActions
 pub mod TextActions
 pub mod FlagActions
 pub mod Effects

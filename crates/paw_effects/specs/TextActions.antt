@@ -6,9 +6,10 @@ use Rattle.paw_game.specs.Valid.{is_within}
 use Rattle.paw_world.specs.World.{World, flag}
 use Rattle.paw_effects.specs.Texts.{message_text, put_text}
 use Rattle.paw_effects.specs.Counts.{turns_text, score_text}
+use Rattle.paw_effects.specs.Marks.{mark_text}
 
 abbrev pub is_print : ℕ → Bool
-is_print code = is_within 40 41 code || is_within 50 54 code
+is_print code = is_within 40 41 code || is_within 50 54 code || is_within 92 107 code
 
 -- one line for each of them
 unfoldable pub print_of : GameLists → World → Condact → List ℕ
@@ -19,4 +20,5 @@ print_of g w c =
     if c.code == 51 then message_text g w c.a ++ 10 ∷ [] else  -- MESSAGE
     if c.code == 52 then put_text g w c.a else  -- SYSMESS
     if c.code == 53 then 10 ∷ [] else  -- NEWLINE
-    decimal (flag w c.a)  -- PRINT
+    if c.code == 54 then decimal (flag w c.a) else  -- PRINT
+    mark_text c  -- PICTURE to INPUT

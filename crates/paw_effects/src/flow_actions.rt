@@ -7,6 +7,7 @@ ghost use Rattle.paw_effects.specs.Texts.{put_text};
 ghost use Rattle.paw_effects.specs.FlowActions.{is_flow, flow_of};
 
 use crate::act::{Act, Effect, Prompt, after, on};
+use crate::marks::print_mark;
 use crate::presence::named_place;
 use crate::text::{print_nothing, put, say};
 use paw_base::parts::Condact;
@@ -27,7 +28,7 @@ const KEY_QUESTION: u8 = 16;
 pub(crate) fn is_flow(code: u8) -> bool
     ensures value { result ≡ is_flow code }
 {
-    matches!(code, 30..=35 | 84..=86)
+    matches!(code, 30..=37 | 84..=86)
 }
 
 /// Puts a question, and waits for its answer.
@@ -51,6 +52,7 @@ pub(crate) fn flow<T: Tables>(tables: &T, world: &World, piece: &mut Piece, c: C
         33 => on(Effect::Exit(false)), // NOTDONE
         34 => after(say(tables, world, piece, AGREEMENT), Effect::Exit(true)), // OK
         35 => ask(tables, world, piece, KEY_QUESTION, Prompt::Key), // ANYKEY
+        36..=37 => after(print_mark(piece, c), Effect::Redescribe), // SAVE, LOAD
         84 => on(Effect::Parse), // PARSE
         85 => on(Effect::Call(c.a)), // PROCESS
         _ => on(Effect::Loop(named_place(world, c.a))), // DOALL

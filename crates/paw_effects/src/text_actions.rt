@@ -5,6 +5,7 @@ ghost use Rattle.paw_base.specs.Piece.{Puts};
 ghost use Rattle.paw_effects.specs.TextActions.{is_print, print_of};
 
 use crate::counts::{tell_score, tell_turns};
+use crate::marks::print_mark;
 use crate::text::{message, print_number, put};
 use paw_base::parts::Condact;
 use paw_base::piece::Piece;
@@ -15,7 +16,7 @@ use paw_world::world::World;
 pub(crate) fn is_print(code: u8) -> bool
     ensures value { result ≡ is_print code }
 {
-    matches!(code, 40..=41 | 50..=54)
+    matches!(code, 40..=41 | 50..=54 | 92..=107)
 }
 
 /// Prints the text of such an action.
@@ -31,6 +32,7 @@ pub(crate) fn print<T: Tables>(tables: &T, world: &World, piece: &mut Piece, c: 
         51 => message(tables, world, piece, c.a) && piece.push(b"\n"), // MESSAGE
         52 => put(tables, world, piece, c.a), // SYSMESS
         53 => piece.push(b"\n"), // NEWLINE
-        _ => print_number(piece, u16::from(world.flag(c.a))), // PRINT
+        54 => print_number(piece, u16::from(world.flag(c.a))), // PRINT
+        _ => print_mark(piece, c), // PICTURE to INPUT
     }
 }

@@ -1,0 +1,36 @@
+// The marks that stand for what a game shows or plays beside its text.
+
+ghost use Rattle.std.specs.Prelude.{◌≡◌};
+ghost use Rattle.paw_base.specs.Condacts.{IsCode};
+ghost use Rattle.paw_base.specs.Piece.{Puts};
+ghost use Rattle.paw_effects.specs.Marks.{parameter_text, mark_text};
+
+use crate::text::print_number;
+use paw_base::parts::Condact;
+use paw_base::piece::Piece;
+use paw_base::rows::{ParamKind, condact_row};
+
+/// Prints a space and the number, where there is a parameter of this kind.
+fn print_parameter(piece: &mut Piece, kind: ParamKind, number: u8) -> bool
+    ensures puts { Puts piece.old piece.new result (parameter_text kind number) }
+{
+    match kind {
+        ParamKind::Absent => piece.push(&[]),
+        _ => piece.push(b" ") && print_number(piece, u16::from(number)),
+    }
+}
+
+/// Prints the mark of a condact.
+pub(crate) fn print_mark(piece: &mut Piece, c: Condact) -> bool
+    requires code { IsCode c.code }
+    ensures puts { Puts piece.old piece.new result (mark_text c) }
+{
+    let Some(row) = condact_row(c.code) else {
+        unreachable!();
+    };
+    piece.push(b"[")
+        && piece.push(row.trimmed_name())
+        && print_parameter(piece, row.first, c.a)
+        && print_parameter(piece, row.second, c.b)
+        && piece.push(b"]\n")
+}
