@@ -1,3 +1,4 @@
 mod Printing
 mod Parameters
 pub mod Asking
+mod NextListed

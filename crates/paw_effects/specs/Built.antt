@@ -1,5 +1,5 @@
 -- Which condacts can be read, and in which worlds.
-use Rattle.std.specs.Prelude.{◌≡◌, ℕ, ◌==◌, ◌||◌, Bool, true, length, map, Some}
+use Rattle.std.specs.Prelude.{◌≡◌, ℕ, ◌||◌, Bool, true, length, map, Some}
 use Rattle.paw_base.specs.declared.parts.Condact.{Condact}
 use Rattle.paw_game.specs.Game.{GameLists}
 use Rattle.paw_game.specs.Tables.{condact_at}
@@ -9,7 +9,7 @@ use Rattle.paw_world.specs.World.{World}
 -- the codes that are built: all conditions, and of the actions these
 unfoldable pub is_built : ℕ → Bool
 is_built code =
-    is_within 0 28 code || is_within 30 41 code || is_within 49 54 code || is_within 66 73 code || (code == 77)
+    is_within 0 41 code || is_within 49 54 code || is_within 66 73 code || is_within 77 79 code
     || is_within 84 86 code || is_within 92 107 code
 
 -- each condact of the game is built

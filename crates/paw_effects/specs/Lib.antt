@@ -9,6 +9,8 @@ pub mod Holds
 pub mod Done
 pub mod Counts
 pub mod Marks
+pub mod Lists
+pub mod Listing
 pub mod FlowActions
 pub mod TextActions
 pub mod FlagActions

@@ -26,7 +26,7 @@ use paw_world::world::World;
 pub fn is_built(code: u8) -> bool
     ensures value { result ≡ is_built code }
 {
-    matches!(code, 0..=28 | 30..=41 | 49..=54 | 66..=73 | 77 | 84..=86 | 92..=107)
+    matches!(code, 0..=41 | 49..=54 | 66..=73 | 77..=79 | 84..=86 | 92..=107)
 }
 
 // A condition's answer by whether it holds.

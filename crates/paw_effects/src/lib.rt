@@ -8,6 +8,7 @@ pub mod does;
 mod flag_actions;
 mod flag_tests;
 mod flow_actions;
+mod lists;
 mod marks;
 mod place_tests;
 pub mod presence;

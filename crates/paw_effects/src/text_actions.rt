@@ -5,7 +5,9 @@ ghost use Rattle.paw_base.specs.Piece.{Puts};
 ghost use Rattle.paw_effects.specs.TextActions.{is_print, print_of};
 
 use crate::counts::{tell_score, tell_turns};
+use crate::lists::{print_here, print_inventory, print_place};
 use crate::marks::print_mark;
+use crate::presence::named_place;
 use crate::text::{message, print_number, put};
 use paw_base::parts::Condact;
 use paw_base::piece::Piece;
@@ -16,7 +18,7 @@ use paw_world::world::World;
 pub(crate) fn is_print(code: u8) -> bool
     ensures value { result ≡ is_print code }
 {
-    matches!(code, 40..=41 | 50..=54 | 92..=107)
+    matches!(code, 29 | 40..=41 | 50..=54 | 78..=79 | 92..=107)
 }
 
 /// Prints the text of such an action.
@@ -26,6 +28,7 @@ pub(crate) fn print<T: Tables>(tables: &T, world: &World, piece: &mut Piece, c: 
     ensures puts { Puts piece.old piece.new result (print_of (T.game tables.now) world.now c) }
 {
     match c.code {
+        29 => print_inventory(tables, world, piece), // INVEN
         40 => tell_turns(tables, world, piece), // TURNS
         41 => tell_score(tables, world, piece), // SCORE
         50 => message(tables, world, piece, c.a), // MES
@@ -33,6 +36,8 @@ pub(crate) fn print<T: Tables>(tables: &T, world: &World, piece: &mut Piece, c: 
         52 => put(tables, world, piece, c.a), // SYSMESS
         53 => piece.push(b"\n"), // NEWLINE
         54 => print_number(piece, u16::from(world.flag(c.a))), // PRINT
+        78 => print_here(tables, world, piece), // LISTOBJ
+        79 => print_place(tables, world, piece, named_place(world, c.a)), // LISTAT
         _ => print_mark(piece, c), // PICTURE to INPUT
     }
 }

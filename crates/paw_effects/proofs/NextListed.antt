@@ -1,0 +1,139 @@
+-- The next object of a list.
+use Rattle.std.proofs.Common.{◌≡◌, ◌≢◌, ℕ, zero, suc, ◌+◌, ◌-◌, ◌<◌, ◌≤◌, inl, inr, List, [], ◌∷◌, length, drop, min, Option, Some, None, refl, sym, ap, subst, ◌∙◌, arith, get_or, IfSome, IfNone}
+use Rattle.std.specs.Prelude.{if◌then◌else◌, ◌==◌, ◌||◌}
+use Rattle.std.proofs.Math.Seq.{drop-cons}
+use Rattle.std.proofs.lemmas.List.{drop_all}
+use Rattle.std.proofs.lemmas.Bool.{cases_eq}
+use Rattle.std.proofs.lemmas.Bool.Decides.{nat_tests}
+use Rattle.paw_world.specs.Places.{least_at, left_above}
+use Rattle.paw_world.specs.World.{World, first_at}
+use Rattle.paw_world.proofs.Least.{least_at_here, least_at_pass, least_at_end, least_at_is}
+use Rattle.paw_world.proofs.Contents.{above_at_none, above_at_some}
+use Rattle.paw_effects.specs.declared.lists.Listed.TheVariants as listed
+use Rattle.paw_effects.specs.Lists.{held_from}
+use Rattle.paw_effects.specs.Listing.{lesser, first_above, listed_above}
+
+-- the objects at a place above one, where none is found
+pub at_ends : (w : World) (p : ℕ) (above found : Option ℕ) → found ≡ first_at w p above → IfNone found (listed_above w (listed.At p) above ≡ [])
+at_ends w p None None is = above_at_none w p None (sym is)
+at_ends w p (Some a) None is = above_at_none w p (Some a) (sym is)
+at_ends w p above (Some o) is = tt
+
+-- and where one is found
+pub at_goes_on : (w : World) (p : ℕ) (above found : Option ℕ) → found ≡ first_at w p above
+    → IfSome found (λ o. listed_above w (listed.At p) above ≡ o ∷ listed_above w (listed.At p) (Some o))
+at_goes_on w p above None is = tt
+at_goes_on w p None (Some o) is = above_at_some w p None o (sym is)
+at_goes_on w p (Some a) (Some o) is = above_at_some w p (Some a) o (sym is)
+
+-- what is worn or carried from one number on
+abbrev held_on : List ℕ → ℕ → List ℕ
+held_on places from = held_from from (drop from places)
+
+held_from-cons : (from p : ℕ) (ps : List ℕ)
+    → held_from from (p ∷ ps) ≡ (if (p == 253) || (p == 254) then from ∷ held_from (suc from) ps else held_from (suc from) ps)
+held_from-cons from p ps = refl
+
+at_first : (places : List ℕ) (from : ℕ) → from < length places
+    → held_on places from ≡ (if (get_or places from 0 == 253) || (get_or places from 0 == 254) then from ∷ held_on places (suc from) else held_on places (suc from))
+at_first places from within = ap (held_from from) (drop-cons places from 0 within) ∙ held_from-cons from (get_or places from 0) (drop (suc from) places)
+
+worn_here : (places : List ℕ) (from : ℕ) → from < length places → get_or places from 0 ≡ 253 → held_on places from ≡ from ∷ held_on places (suc from)
+worn_here places from within here = at_first places from within ∙ grind (arith, nat_tests)
+
+carried_here : (places : List ℕ) (from : ℕ) → from < length places → get_or places from 0 ≡ 254 → held_on places from ≡ from ∷ held_on places (suc from)
+carried_here places from within here = at_first places from within ∙ grind (arith, nat_tests)
+
+neither_here : (places : List ℕ) (from : ℕ) → from < length places → get_or places from 0 ≢ 253 → get_or places from 0 ≢ 254
+    → held_on places from ≡ held_on places (suc from)
+neither_here places from within worn carried = at_first places from within ∙ grind (arith, nat_tests)
+
+held_past : (places : List ℕ) (from : ℕ) → length places ≤ from → held_on places from ≡ []
+held_past places from past = ap (held_from from) (drop_all from places past)
+
+later : (places : List ℕ) (p from : ℕ) (found : Option ℕ) → from < length places → get_or places from 0 ≢ p
+    → found ≡ least_at places p (length places - from) → found ≡ least_at places p (length places - suc from)
+later places p from found within other is =
+    let same : length places - (from + 1) ≡ length places - suc from = omega arith in
+    is ∙ (least_at_pass places p from within other ∙ ap (least_at places p) same)
+
+-- nothing is found before the number from which one looks
+not_before : (places : List ℕ) (p from : ℕ) (found : Option ℕ) → from ≤ length places → found ≡ least_at places p (length places - from)
+    → IfSome found (λ o. from ≤ o)
+not_before places p from None low is = tt
+not_before places p from (Some o) low is =
+    let f = least_at_is places p (length places - from) o (omega arith) (sym is) in
+    omega (arith, f.above)
+
+lesser_first : (from : ℕ) (b : Option ℕ) → IfSome b (λ o. from ≤ o) → lesser (Some from) b ≡ Some from
+lesser_first from None low = refl
+lesser_first from (Some o) low = let least : min from o ≡ from = omega arith in ap (λ (n : ℕ). Some n) least
+
+lesser_second : (from : ℕ) (a : Option ℕ) → IfSome a (λ o. from ≤ o) → lesser a (Some from) ≡ Some from
+lesser_second from None low = refl
+lesser_second from (Some o) low = let least : min o from ≡ from = omega arith in ap (λ (n : ℕ). Some n) least
+
+-- what there is from a number on, by the lesser of what is found
+data Found (places : List ℕ) (from : ℕ) : Option ℕ → Type 0 where
+  nothing : held_on places from ≡ [] → Found places from None
+  object : (o : ℕ) → held_on places from ≡ o ∷ held_on places (suc o) → Found places from (Some o)
+
+-- an object is passed by
+passed : (places : List ℕ) (from : ℕ) (found : Option ℕ) → held_on places from ≡ held_on places (suc from)
+    → Found places (suc from) found → Found places from found
+passed places from _ same (nothing e) = nothing (same ∙ e)
+passed places from _ same (object o e) = object o (same ∙ e)
+
+found_on : (n : ℕ) (places : List ℕ) (from : ℕ) (a b : Option ℕ) → n ≡ length places - from
+    → a ≡ least_at places 253 (length places - from) → b ≡ least_at places 254 (length places - from) → Found places from (lesser a b)
+found_on zero places from a b many worn carried =
+    let no_worn : None ≡ a = sym (worn ∙ least_at_end places 253 from (omega arith)) in
+    let no_carried : None ≡ b = sym (carried ∙ least_at_end places 254 from (omega arith)) in
+    subst (λ (x : Option ℕ). Found places from (lesser x b)) no_worn
+    (subst (λ (x : Option ℕ). Found places from x) no_carried (nothing (held_past places from (omega arith))))
+found_on (suc n) places from a b many worn carried = elim (cases_eq (get_or places from 0) 253) [
+  | inl here ↦
+      let is : a ≡ Some from = worn ∙ least_at_here places 253 from (omega arith) here in
+      let least : lesser a b ≡ Some from = ap (λ (x : Option ℕ). lesser x b) is ∙ lesser_first from b (not_before places 254 from b (omega arith) carried) in
+      subst (λ (x : Option ℕ). Found places from x) (sym least) (object from (worn_here places from (omega arith) here))
+  | inr not_worn ↦ elim (cases_eq (get_or places from 0) 254) [
+    | inl here ↦
+        let is : b ≡ Some from = carried ∙ least_at_here places 254 from (omega arith) here in
+        let least : lesser a b ≡ Some from = ap (lesser a) is ∙ lesser_second from a (not_before places 253 from a (omega arith) worn) in
+        subst (λ (x : Option ℕ). Found places from x) (sym least) (object from (carried_here places from (omega arith) here))
+    | inr not_carried ↦
+        passed places from (lesser a b) (neither_here places from (omega arith) not_worn not_carried)
+        (found_on n places (suc from) a b (omega arith) (later places 253 from a (omega arith) not_worn worn) (later places 254 from b (omega arith) not_carried carried))
+  ]
+]
+
+found_ends : (places : List ℕ) (from : ℕ) (found : Option ℕ) → Found places from found → IfNone found (held_on places from ≡ [])
+found_ends places from _ (nothing e) = e
+found_ends places from _ (object o e) = tt
+
+found_goes_on : (places : List ℕ) (from : ℕ) (found : Option ℕ) → Found places from found → IfSome found (λ o. held_on places from ≡ o ∷ held_on places (suc o))
+found_goes_on places from _ (nothing e) = tt
+found_goes_on places from _ (object o e) = e
+
+left_on : (places : List ℕ) (above : Option ℕ) → left_above places above ≡ length places - first_above above
+left_on places None = omega arith
+left_on places (Some o) = refl
+
+found_held : (w : World) (above a b : Option ℕ) → a ≡ first_at w 253 above → b ≡ first_at w 254 above → Found w.places (first_above above) (lesser a b)
+found_held w above a b worn carried =
+    found_on (length w.places - first_above above) w.places (first_above above) a b refl
+    (worn ∙ ap (least_at w.places 253) (left_on w.places above)) (carried ∙ ap (least_at w.places 254) (left_on w.places above))
+
+-- what is worn or carried above an object, where none is found
+pub held_ends : (w : World) (above a b found : Option ℕ) → a ≡ first_at w 253 above → b ≡ first_at w 254 above → found ≡ lesser a b
+    → IfNone found (listed_above w listed.Held above ≡ [])
+held_ends w above a b found worn carried is =
+    subst (λ (x : Option ℕ). IfNone x (listed_above w listed.Held above ≡ [])) (sym is)
+    (found_ends w.places (first_above above) (lesser a b) (found_held w above a b worn carried))
+
+-- and where one is found
+pub held_goes_on : (w : World) (above a b found : Option ℕ) → a ≡ first_at w 253 above → b ≡ first_at w 254 above → found ≡ lesser a b
+    → IfSome found (λ o. listed_above w listed.Held above ≡ o ∷ listed_above w listed.Held (Some o))
+held_goes_on w above a b found worn carried is =
+    subst (λ (x : Option ℕ). IfSome x (λ o. listed_above w listed.Held above ≡ o ∷ listed_above w listed.Held (Some o))) (sym is)
+    (found_goes_on w.places (first_above above) (lesser a b) (found_held w above a b worn carried))

@@ -1,0 +1,14 @@
+use Rattle.std.proofs.Common.{◌≡◌, ◌++◌, None}
+use Rattle.paw_world.specs.Places.{left_above}
+use Rattle.paw_effects.specs.Lists.{as_lines}
+use Rattle.paw_effects.specs.Listing.{texts_above}
+use Rattle.paw_effects.proofs.lists.print_lines.Given as goal
+
+-- what the piece holds, and the lines that are still to print, are the whole
+abbrev pub invariant-loop-o : goal.invariant-loop-o
+invariant-loop-o g l =
+    l.piece ++ as_lines (texts_above (g.T.Tables.game l.tables) l.world l.listed l.last)
+    ≡ l.fn.piece ++ as_lines (texts_above (g.T.Tables.game l.tables) l.world l.listed None)
+
+abbrev pub decreases-loop-o : goal.decreases-loop-o
+decreases-loop-o g l = left_above l.world.places l.last

@@ -1,0 +1,38 @@
+-- How the code of lists goes from object to object.
+use Rattle.std.specs.Prelude.{ℕ, suc, min, List, drop, map, Option, Some, None}
+use Rattle.paw_game.specs.Game.{GameLists}
+use Rattle.paw_world.specs.World.{World}
+use Rattle.paw_world.specs.Weight.{at_from}
+use Rattle.paw_effects.specs.declared.lists.Listed.{Listed}
+use Rattle.paw_effects.specs.declared.lists.Listed.TheVariants as listed
+use Rattle.paw_effects.specs.Texts.{object_text}
+use Rattle.paw_effects.specs.Lists.{held_from, held_text}
+
+-- the lesser of two numbers; where one of them isn't there the other
+abbrev pub lesser : Option ℕ → Option ℕ → Option ℕ
+lesser None b = b
+lesser (Some a) None = Some a
+lesser (Some a) (Some b) = Some (min a b)
+
+-- the least number above this one, or of all
+abbrev pub first_above : Option ℕ → ℕ
+first_above None = 0
+first_above (Some o) = suc o
+
+-- the objects of a list from a number on, in rising number
+abbrev pub listed_from : World → Listed → ℕ → List ℕ
+listed_from w (listed.At p) o = at_from p o (drop o w.places)
+listed_from w listed.Held o = held_from o (drop o w.places)
+
+-- the objects of a list above this one, or all of them
+abbrev pub listed_above : World → Listed → Option ℕ → List ℕ
+listed_above w l above = listed_from w l (first_above above)
+
+-- the text of an object in a list
+abbrev pub listed_text : GameLists → World → Listed → ℕ → List ℕ
+listed_text g w (listed.At p) = object_text g
+listed_text g w listed.Held = held_text g w
+
+-- the texts of the objects of a list above this one, or of all
+abbrev pub texts_above : GameLists → World → Listed → Option ℕ → List (List ℕ)
+texts_above g w l above = map (listed_text g w l) (listed_above w l above)

@@ -1,0 +1,77 @@
+-- Lists of objects, as a game prints them.
+use Rattle.std.specs.Prelude.{ℕ, suc, ◌==◌, ◌||◌, Bool, not, List, [], ◌∷◌, ◌++◌, map, codes, bit_and, if◌then◌else◌}
+use Rattle.std.specs.List.{flat_map}
+use Rattle.paw_game.specs.Game.{GameLists}
+use Rattle.paw_world.specs.World.{World, flag, place, is_somewhere}
+use Rattle.paw_world.specs.Weight.{objects_at}
+use Rattle.paw_effects.specs.Texts.{object_text, put_text, say_text}
+
+-- each text in a line of its own
+abbrev pub as_lines : List (List ℕ) → List ℕ
+as_lines texts = flat_map (λ text. text ++ 10 ∷ []) texts
+
+-- what joins a text to the one before it, by what follows it
+abbrev pub joint : {A : Type 0} → List A → List ℕ
+joint [] = codes " and "
+joint (_ ∷ _) = codes ", "
+
+-- the texts behind the first one, and the end of the sentence
+abbrev pub joined : List (List ℕ) → List ℕ
+joined [] = codes ".\n"
+joined (text ∷ texts) = joint texts ++ (text ++ joined texts)
+
+-- the texts joined by `, `, the last one by ` and `, and `.` and a newline
+abbrev pub as_sentence : List (List ℕ) → List ℕ
+as_sentence [] = []
+as_sentence (text ∷ texts) = text ++ joined texts
+
+-- lists are sentences: bit 6 of flag 53 is set
+abbrev pub lists_are_sentences : World → Bool
+lists_are_sentences w = not (bit_and (flag w 53) 64 == 0)
+
+-- texts as a list
+abbrev pub list_of : World → List (List ℕ) → List ℕ
+list_of w texts = if lists_are_sentences w then as_sentence texts else as_lines texts
+
+-- a list, or a message where there is nothing to list
+abbrev pub list_or_say : GameLists → World → ℕ → List (List ℕ) → List ℕ
+list_or_say g w s [] = say_text g w s
+list_or_say g w s (text ∷ texts) = list_of w (text ∷ texts)
+
+-- message 1 and a list, where there is something to list
+abbrev pub seen_text : GameLists → World → List (List ℕ) → List ℕ
+seen_text g w [] = []
+seen_text g w (text ∷ texts) = say_text g w 1 ++ list_of w (text ∷ texts)
+
+-- the texts of the objects at a place, in rising number
+abbrev pub texts_at : GameLists → World → ℕ → List (List ℕ)
+texts_at g w p = map (object_text g) (objects_at w p)
+
+-- the objects that are worn (253) or carried (254), in rising number; the first of these places is that of object o
+abbrev pub held_from : ℕ → List ℕ → List ℕ
+held_from o [] = []
+held_from o (p ∷ ps) = if (p == 253) || (p == 254) then o ∷ held_from (suc o) ps else held_from (suc o) ps
+
+-- the objects that are worn or carried, in rising number
+abbrev pub objects_held : World → List ℕ
+objects_held w = held_from 0 w.places
+
+-- message 10 tells what is worn
+abbrev pub worn_text : GameLists → World → ℕ → List ℕ
+worn_text g w o = if place w o == 253 then put_text g w 10 else []
+
+-- the text of an object that is worn or carried
+abbrev pub held_text : GameLists → World → ℕ → List ℕ
+held_text g w o = object_text g o ++ worn_text g w o
+
+-- INVEN: message 9, and what is worn and carried, or message 11 where that is nothing
+abbrev pub inventory_text : GameLists → World → List ℕ
+inventory_text g w = say_text g w 9 ++ list_or_say g w 11 (map (held_text g w) (objects_held w))
+
+-- LISTAT: what stands at a place, or message 53 where that is nothing
+abbrev pub place_list_text : GameLists → World → ℕ → List ℕ
+place_list_text g w p = list_or_say g w 53 (texts_at g w p)
+
+-- LISTOBJ: message 1 and what stands at the current location; nothing where that is none of the game's
+abbrev pub here_list_text : GameLists → World → List ℕ
+here_list_text g w = if is_somewhere w then seen_text g w (texts_at g w (flag w 38)) else []

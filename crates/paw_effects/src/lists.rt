@@ -1,0 +1,239 @@
+// Lists of objects.
+
+ghost use Rattle.std.specs.Prelude.{◌≡◌, ◌<◌, ◌++◌, ◌∷◌, [], length, IfSome, IfNone, Some, None};
+ghost use Rattle.paw_base.specs.Piece.{Puts};
+ghost use Rattle.paw_effects.specs.Lists.{lists_are_sentences, worn_text, as_lines, joint, joined, list_of, list_or_say, inventory_text, place_list_text, here_list_text};
+ghost use Rattle.paw_effects.specs.Listing.{lesser, listed_above, listed_text, texts_above};
+
+use crate::presence::{CARRIED, LOCATION, WORN, is_somewhere};
+use crate::text::{print_object, put, say};
+use paw_base::piece::Piece;
+use paw_game::tables::Tables;
+use paw_world::world::World;
+
+/// Bit 6 tells that lists are sentences.
+const LISTING: u8 = 53;
+
+const SENTENCES: u8 = 64;
+
+/// The system message before the objects at the current location.
+const SEEN: u8 = 1;
+
+/// The system message before the inventory.
+const INVENTORY: u8 = 9;
+
+/// The system message behind what is worn.
+const IS_WORN: u8 = 10;
+
+/// The system message of an empty inventory.
+const EMPTY_INVENTORY: u8 = 11;
+
+/// The system message of a place where nothing stands.
+const EMPTY_PLACE: u8 = 53;
+
+/// The objects of a list: those at a place, or those that are worn or carried.
+#[derive(Clone, Copy, Drop, PartialEq, Eq, Debug)]
+pub(crate) enum Listed {
+    At(u8),
+    Held,
+}
+
+/// The lesser of two numbers; where one of them isn't there the other.
+fn lesser(a: Option<u8>, b: Option<u8>) -> Option<u8>
+    ensures value { result ≡ lesser a b }
+{
+    match (a, b) {
+        (Some(a), Some(b)) => Some(a.min(b)),
+        (Some(a), None) => Some(a),
+        (None, b) => b,
+    }
+}
+
+/// The least object of a list above `above`, or the least of all without `above`. None exactly where there is no such
+/// object.
+fn next(world: &World, listed: Listed, above: Option<u8>) -> Option<u8>
+    ensures none { IfNone result (listed_above world.now listed above ≡ []) }
+    ensures some { IfSome result (λ o. listed_above world.now listed above ≡ o ∷ listed_above world.now listed (Some o)) }
+    ensures known { IfSome result (λ o. o < length world.now.places) }
+    ensures rises { IfSome result (λ o. IfSome above (λ a. a < o)) }
+{
+    match listed {
+        Listed::At(p) => world.first_at(p, above),
+        Listed::Held => lesser(world.first_at(WORN, above), world.first_at(CARRIED, above)),
+    }
+}
+
+/// Whether lists are sentences.
+fn lists_are_sentences(world: &World) -> bool
+    ensures value { result ≡ lists_are_sentences world.now }
+{
+    world.flag(LISTING) & SENTENCES != 0
+}
+
+/// Puts the message behind what is worn, where the object is.
+fn put_if_worn<T: Tables>(tables: &T, world: &World, piece: &mut Piece, o: u8) -> bool
+    requires known { o < length world.now.places }
+    ensures puts { Puts piece.old piece.new result (worn_text (T.game tables.now) world.now o) }
+{
+    if world.place(o) == WORN {
+        put(tables, world, piece, IS_WORN)
+    } else {
+        piece.push(&[])
+    }
+}
+
+/// Prints the text of an object of a list.
+fn print_listed<T: Tables>(
+    tables: &T,
+    world: &World,
+    piece: &mut Piece,
+    listed: Listed,
+    o: u8,
+) -> bool
+    requires known { o < length world.now.places }
+    ensures puts { Puts piece.old piece.new result (listed_text (T.game tables.now) world.now listed o) }
+{
+    match listed {
+        Listed::At(_) => print_object(tables, piece, o),
+        Listed::Held => { print_object(tables, piece, o) && put_if_worn(tables, world, piece, o) }
+    }
+}
+
+/// Prints the text of an object of a list in a line of its own.
+fn print_in_line<T: Tables>(
+    tables: &T,
+    world: &World,
+    piece: &mut Piece,
+    listed: Listed,
+    o: u8,
+) -> bool
+    requires known { o < length world.now.places }
+    ensures puts { Puts piece.old piece.new result (listed_text (T.game tables.now) world.now listed o ++ 10 ∷ []) }
+{
+    print_listed(tables, world, piece, listed, o) && piece.push(b"\n")
+}
+
+/// Prints the objects of a list, each in a line of its own.
+fn print_lines<T: Tables>(tables: &T, world: &World, piece: &mut Piece, listed: Listed) -> bool
+    ensures puts { Puts piece.old piece.new result (as_lines (texts_above (T.game tables.now) world.now listed None)) }
+{
+    let mut last = None;
+    while let Some(o) = next(world, listed, last) {
+        if !print_in_line(tables, world, piece, listed, o) {
+            return false;
+        }
+        last = Some(o);
+    }
+    piece.push(&[])
+}
+
+/// What joins the text of an object to the one before it.
+fn joint(world: &World, listed: Listed, o: u8) -> &'static [u8]
+    ensures value { result.now ≡ joint (listed_above world.now listed (Some o)) }
+{
+    match next(world, listed, Some(o)) {
+        Some(_) => b", ",
+        None => b" and ",
+    }
+}
+
+/// Prints the text of an object of a list behind another one.
+fn print_joined<T: Tables>(
+    tables: &T,
+    world: &World,
+    piece: &mut Piece,
+    listed: Listed,
+    o: u8,
+) -> bool
+    requires known { o < length world.now.places }
+    ensures puts { Puts piece.old piece.new result (joint (texts_above (T.game tables.now) world.now listed (Some o)) ++ listed_text (T.game tables.now) world.now listed o) }
+{
+    piece.push(joint(world, listed, o)) && print_listed(tables, world, piece, listed, o)
+}
+
+/// Prints the objects of a list above this one, each behind the one before it, and ends the sentence.
+fn print_others<T: Tables>(
+    tables: &T,
+    world: &World,
+    piece: &mut Piece,
+    listed: Listed,
+    first: u8,
+) -> bool
+    ensures puts { Puts piece.old piece.new result (joined (texts_above (T.game tables.now) world.now listed (Some first))) }
+{
+    let mut last = first;
+    while let Some(o) = next(world, listed, Some(last)) {
+        if !print_joined(tables, world, piece, listed, o) {
+            return false;
+        }
+        last = o;
+    }
+    piece.push(b".\n")
+}
+
+/// Prints a list that begins with this object.
+fn print_list<T: Tables>(
+    tables: &T,
+    world: &World,
+    piece: &mut Piece,
+    listed: Listed,
+    first: u8,
+) -> bool
+    requires known { first < length world.now.places }
+    requires first { listed_above world.now listed None ≡ first ∷ listed_above world.now listed (Some first) }
+    ensures puts { Puts piece.old piece.new result (list_of world.now (texts_above (T.game tables.now) world.now listed None)) }
+{
+    if lists_are_sentences(world) {
+        print_listed(tables, world, piece, listed, first)
+            && print_others(tables, world, piece, listed, first)
+    } else {
+        print_lines(tables, world, piece, listed)
+    }
+}
+
+/// Prints a list, or says a system message where there is nothing to list.
+fn list_or_say<T: Tables>(
+    tables: &T,
+    world: &World,
+    piece: &mut Piece,
+    listed: Listed,
+    s: u8,
+) -> bool
+    ensures puts { Puts piece.old piece.new result (list_or_say (T.game tables.now) world.now s (texts_above (T.game tables.now) world.now listed None)) }
+{
+    match next(world, listed, None) {
+        Some(first) => print_list(tables, world, piece, listed, first),
+        None => say(tables, world, piece, s),
+    }
+}
+
+/// Prints what is worn and carried.
+pub(crate) fn print_inventory<T: Tables>(tables: &T, world: &World, piece: &mut Piece) -> bool
+    ensures puts { Puts piece.old piece.new result (inventory_text (T.game tables.now) world.now) }
+{
+    say(tables, world, piece, INVENTORY)
+        && list_or_say(tables, world, piece, Listed::Held, EMPTY_INVENTORY)
+}
+
+/// Prints what stands at a place.
+pub(crate) fn print_place<T: Tables>(tables: &T, world: &World, piece: &mut Piece, p: u8) -> bool
+    ensures puts { Puts piece.old piece.new result (place_list_text (T.game tables.now) world.now p) }
+{
+    list_or_say(tables, world, piece, Listed::At(p), EMPTY_PLACE)
+}
+
+/// Prints what stands at the current location, where anything does.
+pub(crate) fn print_here<T: Tables>(tables: &T, world: &World, piece: &mut Piece) -> bool
+    ensures puts { Puts piece.old piece.new result (here_list_text (T.game tables.now) world.now) }
+{
+    if !is_somewhere(world) {
+        return piece.push(&[]);
+    }
+    let here = Listed::At(world.flag(LOCATION));
+    match next(world, here, None) {
+        Some(first) => {
+            say(tables, world, piece, SEEN) && print_list(tables, world, piece, here, first)
+        }
+        None => piece.push(&[]),
+    }
+}
