@@ -1,3 +1,4 @@
 mod Printing
 mod Parameters
+mod Moves
 pub mod Asking

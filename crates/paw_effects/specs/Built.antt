@@ -9,8 +9,8 @@ use Rattle.paw_world.specs.World.{World}
 -- the codes that are built: all conditions, and of the actions these
 unfoldable pub is_built : ℕ → Bool
 is_built code =
-    is_within 0 28 code || is_within 30 35 code || is_within 38 39 code || is_within 49 51 code || is_within 66 73 code || (code == 77)
-    || is_within 84 86 code
+    is_within 0 28 code || is_within 30 35 code || is_within 38 39 code || (code == 42) || is_within 49 51 code || is_within 61 77 code
+    || is_within 81 90 code
 
 -- each condact of the game is built
 abbrev pub AllBuilt : GameLists → Type 0

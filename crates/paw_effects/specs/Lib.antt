@@ -10,4 +10,5 @@ pub mod Done
 pub mod FlowActions
 pub mod TextActions
 pub mod FlagActions
+pub mod MoveActions
 pub mod Effects

@@ -7,6 +7,7 @@ pub mod does;
 mod flag_actions;
 mod flag_tests;
 mod flow_actions;
+mod move_actions;
 mod place_tests;
 pub mod presence;
 #[cfg(test)]
