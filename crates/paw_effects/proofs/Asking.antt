@@ -12,6 +12,7 @@ use Rattle.paw_effects.specs.declared.act.Effect.TheVariants as effect
 use Rattle.paw_effects.specs.Done.{Done}
 use Rattle.paw_effects.specs.FlowActions.{is_flow, flow_of}
 use Rattle.paw_effects.specs.TextActions.{is_print}
+use Rattle.paw_effects.specs.MoveActions.{is_move}
 use Rattle.paw_effects.specs.Effects.{effect_of}
 
 -- the prompts in tables
@@ -55,7 +56,9 @@ flow_asks g w c =
 action_asks : (g : GameLists) (X : List (List ℕ)) (w : World) (c : Condact) → Asks (effect_of g X w c)
 unfolding effect_of
 action_asks g X w c =
-    one_of (is_flow c.code) _ _ (flow_asks g w c) (one_of (is_print c.code) _ _ (record { inner = tt }) (record { inner = tt }))
+    let fine : Unit {0} = tt in
+    one_of (is_flow c.code) _ _ (flow_asks g w c) (one_of (is_print c.code) _ _ (record { inner = fine }) (one_of (is_move c.code) _ _ (record { inner = fine })
+    (one_of (c.code == 89) _ _ (record { inner = fine }) (one_of (c.code == 90) _ _ (record { inner = fine }) (record { inner = fine })))))
 
 pub effect_asks : (g : GameLists) (X : List (List ℕ)) (w : World) (c : Condact) → AsksInner (effect_of g X w c).act.effect
 effect_asks g X w c = (action_asks g X w c).inner

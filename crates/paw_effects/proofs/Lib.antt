@@ -1,4 +1,5 @@
 mod Printing
 mod Parameters
+mod Moves
 pub mod Asking
 mod NextListed

@@ -4,14 +4,14 @@ use Rattle.std.proofs.lemmas.Bool.{ltb-true}
 use Rattle.paw_base.specs.declared.parts.Condact.{Condact}
 use Rattle.paw_base.specs.declared.rows.ParamKind.{ParamKind}
 use Rattle.paw_base.specs.declared.rows.ParamKind.TheVariants as kind
-use Rattle.paw_base.specs.Condacts.{condact_lines, line_of, first_kind}
+use Rattle.paw_base.specs.Condacts.{condact_lines, line_of, first_kind, second_kind, IsCode}
 use Rattle.paw_base.proofs.Table.{below, each_code}
 use Rattle.paw_game.specs.Game.{GameLists}
 use Rattle.paw_game.specs.Valid.{is_condact, is_parameter}
-use Rattle.paw_game.proofs.Kept.{condact-code, condact-first}
+use Rattle.paw_game.proofs.Kept.{condact-code, condact-first, condact-second}
 use Rattle.paw_world.specs.World.{World}
 use Rattle.paw_effects.specs.Built.{IsOf}
-use Rattle.paw_effects.specs.Parameters.{takes_object}
+use Rattle.paw_effects.specs.Parameters.{takes_object, takes_second_object}
 
 is_object : ParamKind → Bool
 is_object kind.Absent = false
@@ -27,10 +27,6 @@ is_object kind.Adverb = false
 is_object kind.Noun = false
 is_object kind.Adjective = false
 is_object kind.Preposition = false
-
-takers : below (λ code. not (takes_object code) || is_object (first_kind code)) 108 ≡ true
-unfolding condact_lines line_of below is_object
-takers = refl
 
 object_below : (g : GameLists) (k : ParamKind) (x : ℕ) → is_object k ≡ true → IsTrue (is_parameter g k x) → x < length g.objects
 unfolding is_object
@@ -52,9 +48,27 @@ implied : (a b : Bool) → (not a || b) ≡ true → a ≡ true → b ≡ true
 implied true b h e = h
 implied false b h e = cc
 
--- in a world of the game the object of a condact is one of the world's
+-- each code that takes an object has a parameter of that kind
+abbrev AreObjects : (ℕ → Bool) → (ℕ → ParamKind) → Type 0
+AreObjects takes kind_of = below (λ code. not (takes code) || is_object (kind_of code)) 108 ≡ true
+
+firsts : AreObjects takes_object first_kind
+unfolding condact_lines line_of below is_object
+firsts = refl
+
+seconds : AreObjects takes_second_object second_kind
+unfolding condact_lines line_of below is_object
+seconds = refl
+
+-- in a world of the game the object that a parameter names is one of the world's
+stands : (g : GameLists) (w : World) (takes : ℕ → Bool) (kind_of : ℕ → ParamKind) (code x : ℕ) → AreObjects takes kind_of → IsOf g w → IsCode code
+    → IsTrue (is_parameter g (kind_of code) x) → IsTrue (takes code) → x < length w.places
+stands g w takes kind_of code x all of small kept taken =
+    let kind : is_object (kind_of code) ≡ true = implied (takes code) _ (each_code (λ k. not (takes k) || is_object (kind_of k)) all code small) taken in
+    subst (λ n. x < n) (sym of.places) (object_below g (kind_of code) x kind kept)
+
 pub object_stands : (g : GameLists) (w : World) (c : Condact) → IsOf g w → is_condact g c ≡ true → IsTrue (takes_object c.code) → c.a < length w.places
-object_stands g w c of kept takes =
-    let kind : is_object (first_kind c.code) ≡ true =
-    implied (takes_object c.code) _ (each_code (λ code. not (takes_object code) || is_object (first_kind code)) takers c.code (condact-code g c kept)) takes in
-    subst (λ n. c.a < n) (sym of.places) (object_below g (first_kind c.code) c.a kind (condact-first g c kept))
+object_stands g w c of kept = stands g w takes_object first_kind c.code c.a firsts of (condact-code g c kept) (condact-first g c kept)
+
+pub second_object_stands : (g : GameLists) (w : World) (c : Condact) → IsOf g w → is_condact g c ≡ true → IsTrue (takes_second_object c.code) → c.b < length w.places
+second_object_stands g w c of kept = stands g w takes_second_object second_kind c.code c.b seconds of (condact-code g c kept) (condact-second g c kept)

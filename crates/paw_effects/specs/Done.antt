@@ -1,5 +1,5 @@
 -- What an action does.
-use Rattle.std.specs.Prelude.{◌≡◌, ℕ, ◌+◌, ◌<◌, ◌≤◌, false, List, [], ◌++◌, length}
+use Rattle.std.specs.Prelude.{◌≡◌, ℕ, ◌+◌, ◌<◌, ◌≤◌, true, false, List, [], ◌++◌, length}
 use Rattle.paw_world.specs.World.{World}
 use Rattle.paw_effects.specs.declared.act.Effect.{Effect}
 use Rattle.paw_effects.specs.declared.act.Effect.TheVariants as effect
@@ -14,6 +14,10 @@ pub record Done : Type 0 where
 -- reading goes on so, with the line and the loop as they are
 abbrev pub on : Effect → Act
 on e = record { effect = e; drop_line = false; cancel_loop = false }
+
+-- reading goes on so, and the rest of the line is dropped
+abbrev pub dropping : Effect → Act
+dropping e = record { effect = e; drop_line = true; cancel_loop = false }
 
 -- this is printed, and reading goes on so
 abbrev pub tells : World → List ℕ → Effect → Done

@@ -14,4 +14,5 @@ pub mod Listing
 pub mod FlowActions
 pub mod TextActions
 pub mod FlagActions
+pub mod MoveActions
 pub mod Effects

@@ -2,7 +2,7 @@
 
 ghost use Rattle.std.specs.Prelude.{◌≡◌, if◌then◌else◌};
 ghost use Rattle.paw_effects.specs.declared.act.Effect.TheVariants as effect;
-ghost use Rattle.paw_effects.specs.Done.{on};
+ghost use Rattle.paw_effects.specs.Done.{on, dropping};
 
 /// Where a game waits: for a line, for an answer to QUIT, for an answer to END, for a key; or where it is over.
 #[derive(Clone, Copy, Drop, PartialEq, Eq, Debug)]
@@ -53,6 +53,17 @@ pub(crate) fn on(effect: Effect) -> Act
     Act {
         effect,
         drop_line: false,
+        cancel_loop: false,
+    }
+}
+
+/// An action that goes on so, with the rest of the line dropped and the loop as it is.
+pub(crate) fn dropping(effect: Effect) -> Act
+    ensures value { result ≡ dropping effect }
+{
+    Act {
+        effect,
+        drop_line: true,
         cancel_loop: false,
     }
 }

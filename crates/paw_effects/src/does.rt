@@ -7,11 +7,12 @@ ghost use Rattle.paw_effects.specs.Built.{is_built, IsOf};
 ghost use Rattle.paw_effects.specs.Holds.{is_condition, holds, truth_of, moves};
 ghost use Rattle.paw_effects.specs.Effects.{effect_of, Does, referred, weight_class};
 
-use crate::act::{Act, Effect, Truth, after, on};
+use crate::act::{Act, Effect, Truth, after, dropping, on};
 use crate::chance::roll;
 use crate::flag_actions::change;
 use crate::flag_tests::flag_holds;
 use crate::flow_actions::{flow, is_flow};
+use crate::move_actions::{is_move, move_objects, reset};
 use crate::place_tests::{place_holds, tests_place};
 use crate::text::print_nothing;
 use crate::text_actions::{is_print, print};
@@ -26,7 +27,7 @@ use paw_world::world::World;
 pub fn is_built(code: u8) -> bool
     ensures value { result ≡ is_built code }
 {
-    matches!(code, 0..=41 | 49..=54 | 66..=73 | 77..=79 | 84..=86 | 92..=107)
+    matches!(code, 0..=42 | 49..=54 | 61..=79 | 81..=90 | 92..=107)
 }
 
 // A condition's answer by whether it holds.
@@ -80,7 +81,7 @@ fn moves<T: Tables>(tables: &T, world: &mut World, f: u8) -> bool
 
 /// Does an action of this game: changes the world, and prints into the piece. Spent exactly where the piece would pass
 /// its limit; what the piece and the world then hold is open.
-#[tactic(auto, unfolding(crate::specs::Effects::effect_of))]
+#[tactic(auto, using(crate::proofs::Parameters::object_stands, crate::proofs::Parameters::second_object_stands), unfolding(crate::specs::Effects::effect_of))]
 pub fn act<T: Tables>(tables: &T, world: &mut World, piece: &mut Piece, c: Condact) -> Act
     requires kind { is_condition c ≡ false }
     requires built { is_built c.code ≡ true }
@@ -92,13 +93,26 @@ pub fn act<T: Tables>(tables: &T, world: &mut World, piece: &mut Piece, c: Conda
     ensures draws { world.new.draws ≤ world.old.draws + 1 }
 {
     if is_flow(c.code) {
-        flow(tables, world, piece, c)
-    } else if is_print(c.code) {
-        after(print(tables, world, piece, c), Effect::Go)
-    } else {
-        print_nothing(piece);
-        change(world, c);
-        on(Effect::Go)
+        return flow(tables, world, piece, c);
+    }
+    if is_print(c.code) {
+        return after(print(tables, world, piece, c), Effect::Go);
+    }
+    print_nothing(piece);
+    if is_move(c.code) {
+        move_objects(world, c);
+        return on(Effect::Go);
+    }
+    match c.code {
+        89 => dropping(Effect::Go), // NEWTEXT
+        90 => {
+            reset(world, c.a); // RESET
+            on(Effect::Redescribe)
+        }
+        _ => {
+            change(world, c);
+            on(Effect::Go)
+        }
     }
 }
 

@@ -1,16 +1,25 @@
 // The actions that change flags, and those that save and load them.
 
-ghost use Rattle.std.specs.Prelude.{◌≡◌, ◌+◌, ◌-◌, ◌<◌, ◌≤◌, ◌^◌};
+ghost use Rattle.std.specs.Prelude.{◌≡◌, ◌+◌, ◌-◌, ◌<◌, ◌≤◌, ◌^◌, length, IsTrue};
 ghost use Rattle.paw_game.specs.Game.{GameLists};
 ghost use Rattle.paw_world.specs.World.{with_flag, drawn_on};
 ghost use Rattle.paw_effects.specs.Built.{IsOf};
 ghost use Rattle.paw_effects.specs.Chance.{rolled};
+ghost use Rattle.paw_effects.specs.Parameters.{takes_object};
 ghost use Rattle.paw_effects.specs.FlagActions.{change_of};
 
 use crate::chance::roll;
+use crate::flag_tests::STATUS;
 use crate::presence::LOCATION;
 use paw_base::parts::Condact;
+use paw_world::flags::{MOST_CARRIED, MOST_WEIGHT};
 use paw_world::world::World;
+
+/// The flag of the message that is the prompt.
+const PROMPT: u8 = 42;
+
+/// The flag of how many seconds a line may take.
+const TIMEOUT: u8 = 48;
 
 /// Gives a flag a number from 1 to 100, by the next random word.
 fn set_by_chance(world: &mut World, f: u8)
@@ -25,6 +34,7 @@ fn set_by_chance(world: &mut World, f: u8)
 #[tactic(auto, unfolding(crate::specs::FlagActions::change_of))]
 pub(crate) fn change(world: &mut World, c: Condact)
     requires draws { world.old.draws < 2 ^ 64 - 1 }
+    requires object { IsTrue (takes_object c.code) → c.a < length world.old.places }
     ensures value { world.new ≡ change_of world.old c }
     ensures game { (g : GameLists) → IsOf g world.old → IsOf g world.new }
     ensures draws { world.new.draws ≤ world.old.draws + 1 }
@@ -43,6 +53,17 @@ pub(crate) fn change(world: &mut World, c: Condact)
         72 => world.set_flag(c.b, world.flag(c.b).saturating_sub(world.flag(c.a))), // SUB
         73 => set_by_chance(world, c.a), // RANDOM
         77 => world.set_flag(c.b, world.flag(c.a)), // COPYFF
+        81 => world.set_flag(c.b, world.weight(c.a)), // WEIGH
+        82 => world.set_flag(c.a, world.carried_weight()), // WEIGHT
+        83 => {
+            world.set_flag(MOST_CARRIED, c.a); // ABILITY
+            world.set_flag(MOST_WEIGHT, c.b);
+        }
+        87 => world.set_flag(PROMPT, c.a), // PROMPT
+        88 => {
+            world.set_flag(TIMEOUT, c.a); // TIME
+            world.set_flag(STATUS, c.b);
+        }
         _ => {}
     }
 }

@@ -8,7 +8,7 @@ use paw_world::flags::{ADJECTIVE, ADVERB, PREPOSITION, SECOND_ADJECTIVE, SECOND_
 use paw_world::world::World;
 
 /// Bit 7 tells that the last line was a timeout.
-const STATUS: u8 = 49;
+pub(crate) const STATUS: u8 = 49;
 
 /// What a condition that looks at flags finds.
 #[tactic(auto, unfolding(crate::specs::FlagTests::flag_holds))]

@@ -10,6 +10,7 @@ mod flag_tests;
 mod flow_actions;
 mod lists;
 mod marks;
+mod move_actions;
 mod place_tests;
 pub mod presence;
 #[cfg(test)]

@@ -2,7 +2,7 @@
 
 ghost use Rattle.std.specs.Prelude.{◌≡◌, ◌<◌, length};
 ghost use Rattle.paw_world.specs.World.{here, is_somewhere, is_here, is_present, is_lit};
-ghost use Rattle.paw_effects.specs.Presence.{named_place};
+ghost use Rattle.paw_effects.specs.Presence.{named_place, is_held};
 
 use paw_world::world::World;
 
@@ -10,7 +10,7 @@ use paw_world::world::World;
 pub(crate) const LOCATION: u8 = 38;
 
 /// The places of what isn't created, of what is worn and of what is carried.
-const NOT_CREATED: u8 = 252;
+pub(crate) const NOT_CREATED: u8 = 252;
 
 pub(crate) const WORN: u8 = 253;
 
@@ -39,6 +39,14 @@ pub fn named_place(world: &World, p: u8) -> u8
     ensures value { result ≡ named_place world.now p }
 {
     if p == 255 { here(world) } else { p }
+}
+
+/// Whether an object is worn or carried.
+pub(crate) fn is_held(world: &World, o: u8) -> bool
+    requires object { o < length world.now.places }
+    ensures value { result ≡ is_held world.now o }
+{
+    matches!(world.place(o), WORN | CARRIED)
 }
 
 /// Whether an object stands at the current location.

@@ -15,15 +15,16 @@ use std::alloc::{AllocError, Global};
 use std::process::Abort;
 use std::test::Fail;
 
-/// What a condact answers: a condition, an action, or one that isn't there.
+/// What a condact answers: a condition, an action, one that drops the rest of the line, or one that isn't there.
 #[derive(Clone, Copy, Drop, PartialEq, Eq, Debug)]
 enum Answer {
     Tests(Truth),
     Does(Effect),
+    Drops(Effect),
     Missing,
 }
 
-use Answer::{Does, Tests};
+use Answer::{Does, Drops, Tests};
 
 /// A condact, and what it is to answer.
 type Case = (u8, u8, u8, Answer);
@@ -104,8 +105,9 @@ const CONDITIONS: [Case; 62] = [
     (28, 38, 0, NO),
 ];
 
-/// From 200 in flag 60 on; each sum ends at 255, and each difference at 0.
-const FLAGS: [Case; 27] = [
+/// From 200 in flag 60 on; each sum ends at 255, and each difference at 0. Then weights, and the flags that the turn looks
+/// at.
+const FLAGS: [Case; 40] = [
     (66, 60, 0, GO),
     (13, 60, 255, YES),
     (67, 60, 0, GO),
@@ -133,6 +135,83 @@ const FLAGS: [Case; 27] = [
     (13, 60, 5, YES),
     (13, 61, 4, YES),
     (11, 59, 0, YES),
+    (81, 0, 60, GO),
+    (13, 60, 1, YES),
+    (82, 61, 0, GO),
+    (13, 61, 2, YES),
+    (83, 7, 70, GO),
+    (13, 37, 7, YES),
+    (13, 52, 70, YES),
+    (87, 9, 0, GO),
+    (13, 42, 9, YES),
+    (88, 5, 3, GO),
+    (13, 48, 5, YES),
+    (13, 49, 3, YES),
+    (89, 0, 0, Drops(Effect::Go)),
+];
+
+/// Objects are moved, the last time by RESET.
+const MOVES: [Case; 57] = [
+    (49, 1, 0, GO),
+    (63, 0, 1, GO),
+    (6, 0, 0, YES),
+    (8, 1, 0, YES),
+    (13, 1, 1, YES),
+    (61, 3, 0, GO),
+    (24, 3, 1, YES),
+    (62, 1, 0, GO),
+    (24, 1, 252, YES),
+    (11, 1, 0, YES),
+    (64, 1, 254, GO),
+    (13, 1, 1, YES),
+    (64, 2, 255, GO),
+    (24, 2, 1, YES),
+    // The object last referred to is 2, and then none.
+    (70, 51, 2, GO),
+    (65, 0, 0, GO),
+    (24, 2, 0, YES),
+    (65, 255, 0, GO),
+    (24, 2, 1, YES),
+    (70, 51, 5, GO),
+    (65, 0, 0, GO),
+    (24, 2, 1, YES),
+    (74, 1, 3, GO),
+    (8, 3, 0, YES),
+    (13, 1, 2, YES),
+    (75, 0, 60, GO),
+    (13, 60, 253, YES),
+    (76, 60, 2, GO),
+    (6, 2, 0, YES),
+    (70, 60, 2, GO),
+    (76, 60, 2, GO),
+    (24, 2, 2, YES),
+    (70, 60, 3, GO),
+    (76, 60, 2, GO),
+    (24, 2, 2, YES),
+    (70, 60, 255, GO),
+    (76, 60, 2, GO),
+    (24, 2, 1, YES),
+    // 0 is worn, 1 and 3 are carried.
+    (42, 0, 0, GO),
+    (24, 0, 1, YES),
+    (24, 1, 1, YES),
+    (24, 3, 1, YES),
+    (11, 1, 0, YES),
+    // The current location is none of the game's.
+    (64, 0, 253, GO),
+    (70, 38, 200, GO),
+    (42, 0, 0, GO),
+    (24, 0, 252, YES),
+    (64, 1, 254, GO),
+    (61, 1, 0, GO),
+    (24, 1, 252, YES),
+    (90, 2, 0, Does(Effect::Redescribe)),
+    (0, 2, 0, YES),
+    (13, 1, 1, YES),
+    (8, 0, 0, YES),
+    (6, 1, 0, YES),
+    (24, 4, 1, YES),
+    (13, 60, 255, YES),
 ];
 
 /// How reading goes on, and the texts of END, OK, ANYKEY and of two messages, the second of them empty.
@@ -293,8 +372,12 @@ fn read(rt: &impl Abort, game: &Game, world: &mut World, piece: &mut Piece, at: 
         drop_line,
         cancel_loop,
     } = act(game, world, piece, c);
-    assert!(rt; !drop_line && !cancel_loop);
-    Does(effect)
+    assert!(rt; !cancel_loop);
+    if drop_line {
+        Drops(effect)
+    } else {
+        Does(effect)
+    }
 }
 
 /// Reads these condacts, which are those of the game's entry.
@@ -321,6 +404,7 @@ fn conditions_and_actions(rt: HostRuntime) -> Result<(), Fail> {
     let mut piece = Piece::new(rt.alloc())?;
     run(&rt, rt.alloc(), &CONDITIONS, &mut piece)?;
     run(&rt, rt.alloc(), &FLAGS, &mut piece)?;
+    run(&rt, rt.alloc(), &MOVES, &mut piece)?;
     run(&rt, rt.alloc(), &DRAWS, &mut piece)?;
     assert_eq!(rt; piece.bytes(), b"".as_slice());
     run(&rt, rt.alloc(), &FLOW, &mut piece)?;

@@ -1,0 +1,104 @@
+// The actions that move objects, and the one that tells a place.
+
+ghost use Rattle.std.specs.Prelude.{◌≡◌, ◌<◌, true, length, IsTrue};
+ghost use Rattle.paw_game.specs.Game.{GameLists};
+ghost use Rattle.paw_effects.specs.Built.{IsOf};
+ghost use Rattle.paw_effects.specs.Parameters.{takes_object, takes_second_object};
+ghost use Rattle.paw_effects.specs.MoveActions.{is_move, move_of, all_dropped, swapped, referred_moved, moved_if_place, names_place, reset};
+
+use crate::presence::{LOCATION, NOT_CREATED, here, is_held, named_place};
+use paw_base::parts::Condact;
+use paw_world::flags::REFERRED;
+use paw_world::world::World;
+
+/// Whether a code is an action that moves objects, or the one that tells a place.
+pub(crate) fn is_move(code: u8) -> bool
+    ensures value { result ≡ is_move code }
+{
+    matches!(code, 42 | 61..=65 | 74..=76)
+}
+
+/// Moves all that is worn or carried to the current location.
+fn drop_all(world: &mut World)
+    ensures value { world.new ≡ all_dropped world.old }
+{
+    let to = here(world);
+    for o in 0..world.objects() {
+        if is_held(world, o) {
+            world.move_to(o, to);
+        }
+    }
+}
+
+/// Moves each of two objects to where the other stands.
+fn swap(world: &mut World, o: u8, k: u8)
+    requires first { o < length world.old.places }
+    requires second { k < length world.old.places }
+    ensures value { world.new ≡ swapped world.old o k }
+{
+    let first = world.place(o);
+    let second = world.place(k);
+    world.move_to(o, second);
+    world.move_to(k, first);
+}
+
+/// Moves the object last referred to, where there is such an object.
+fn move_referred(world: &mut World, p: u8)
+    ensures value { world.new ≡ referred_moved world.old p }
+{
+    let o = world.flag(REFERRED);
+    if o < world.objects() {
+        world.move_to(o, p);
+    }
+}
+
+/// Whether a number names a place.
+fn names_place(world: &World, p: u8) -> bool
+    ensures value { result ≡ names_place world.now p }
+{
+    p < world.locations() || p >= NOT_CREATED
+}
+
+/// Moves an object to the place that a number names, where it names one.
+fn move_if_place(world: &mut World, o: u8, p: u8)
+    requires object { o < length world.old.places }
+    ensures value { world.new ≡ moved_if_place world.old o p }
+{
+    if names_place(world, p) {
+        world.move_to(o, named_place(world, p));
+    }
+}
+
+/// Does such an action.
+#[tactic(auto, unfolding(crate::specs::MoveActions::move_of))]
+pub(crate) fn move_objects(world: &mut World, c: Condact)
+    requires family { is_move c.code ≡ true }
+    requires object { IsTrue (takes_object c.code) → c.a < length world.old.places }
+    requires second_object { IsTrue (takes_second_object c.code) → c.b < length world.old.places }
+    ensures value { world.new ≡ move_of world.old c }
+    ensures game { (g : GameLists) → IsOf g world.old → IsOf g world.new }
+    ensures draws { world.new.draws ≡ world.old.draws }
+{
+    match c.code {
+        42 => drop_all(world), // DROPALL
+        61 => world.move_to(c.a, here(world)), // CREATE
+        62 => world.move_to(c.a, NOT_CREATED), // DESTROY
+        63 => swap(world, c.a, c.b), // SWAP
+        64 => world.move_to(c.a, named_place(world, c.b)), // PLACE
+        65 => move_referred(world, named_place(world, c.a)), // PUTO
+        74 => world.move_to(c.b, world.place(c.a)), // COPYOO
+        75 => world.set_flag(c.b, world.place(c.a)), // COPYOF
+        _ => move_if_place(world, c.b, world.flag(c.a)), // COPYFO
+    }
+}
+
+/// Puts all objects back to where they begin, with flag 1 the number of those that begin carried, and makes a location
+/// the current one.
+pub(crate) fn reset(world: &mut World, location: u8)
+    ensures value { world.new ≡ reset world.old location }
+    ensures game { (g : GameLists) → IsOf g world.old → IsOf g world.new }
+    ensures draws { world.new.draws ≡ world.old.draws }
+{
+    world.return_objects();
+    world.set_flag(LOCATION, location);
+}
