@@ -1,8 +1,10 @@
 -- The next object of a list.
-use Rattle.std.proofs.Common.{◌≡◌, ◌≢◌, ℕ, zero, suc, ◌+◌, ◌-◌, ◌<◌, ◌≤◌, inl, inr, List, [], ◌∷◌, length, drop, min, Option, Some, None, refl, sym, ap, subst, ◌∙◌, arith, get_or, IfSome, IfNone}
-use Rattle.std.specs.Prelude.{if◌then◌else◌, ◌==◌, ◌||◌}
+use Rattle.std.proofs.Common.{◌≡◌, ◌≢◌, ℕ, zero, suc, ◌+◌, ◌-◌, ◌<◌, ◌≤◌, inl, inr, List, [], ◌∷◌, length, drop, min, Bool, Option, Some, None, refl, sym, ap, subst, ◌∙◌, arith, get_or, zero-add, IfSome, IfNone}
+use Rattle.std.specs.Prelude.{if◌then◌else◌, filter}
+use Rattle.std.specs.List.{range_with_len}
 use Rattle.std.proofs.Math.Seq.{drop-cons}
 use Rattle.std.proofs.lemmas.List.{drop_all}
+use Rattle.std.proofs.lemmas.List.FromFn.{length-range_with_len, get_or-range_with_len}
 use Rattle.std.proofs.lemmas.Bool.{cases_eq}
 use Rattle.std.proofs.lemmas.Bool.Decides.{nat_tests}
 use Rattle.paw_world.specs.Places.{least_at, left_above}
@@ -10,8 +12,8 @@ use Rattle.paw_world.specs.World.{World, first_at}
 use Rattle.paw_world.proofs.Least.{least_at_here, least_at_pass, least_at_end, least_at_is}
 use Rattle.paw_world.proofs.Contents.{above_at_none, above_at_some}
 use Rattle.paw_effects.specs.declared.lists.Listed.TheVariants as listed
-use Rattle.paw_effects.specs.Lists.{held_from}
-use Rattle.paw_effects.specs.Listing.{lesser, first_above, listed_above}
+use Rattle.paw_effects.specs.Listing.{lesser, first_above, listed_from, listed_above}
+use Rattle.paw_effects.specs.Presence.{is_held}
 
 -- the objects at a place above one, where none is found
 pub at_ends : (w : World) (p : ℕ) (above found : Option ℕ) → found ≡ first_at w p above → IfNone found (listed_above w (listed.At p) above ≡ [])
@@ -27,29 +29,36 @@ at_goes_on w p None (Some o) is = above_at_some w p None o (sym is)
 at_goes_on w p (Some a) (Some o) is = above_at_some w p (Some a) o (sym is)
 
 -- what is worn or carried from one number on
-abbrev held_on : List ℕ → ℕ → List ℕ
-held_on places from = held_from from (drop from places)
+abbrev held_on : World → ℕ → List ℕ
+held_on w from = listed_from w listed.Held from
 
-held_from-cons : (from p : ℕ) (ps : List ℕ)
-    → held_from from (p ∷ ps) ≡ (if (p == 253) || (p == 254) then from ∷ held_from (suc from) ps else held_from (suc from) ps)
-held_from-cons from p ps = refl
+filter-cons : (test : ℕ → Bool) (x : ℕ) (xs : List ℕ) → filter test (x ∷ xs) ≡ (if test x then x ∷ filter test xs else filter test xs)
+filter-cons test x xs = refl
 
-at_first : (places : List ℕ) (from : ℕ) → from < length places
-    → held_on places from ≡ (if (get_or places from 0 == 253) || (get_or places from 0 == 254) then from ∷ held_on places (suc from) else held_on places (suc from))
-at_first places from within = ap (held_from from) (drop-cons places from 0 within) ∙ held_from-cons from (get_or places from 0) (drop (suc from) places)
+at_first : (w : World) (from : ℕ) → from < length w.places
+    → held_on w from ≡ (if is_held w from then from ∷ held_on w (suc from) else held_on w (suc from))
+at_first w from within =
+    let all : List ℕ = range_with_len 0 (length w.places) in
+    let many : length all ≡ length w.places = length-range_with_len 0 (length w.places) in
+    let number : get_or all from 0 ≡ from = get_or-range_with_len 0 (length w.places) from 0 within ∙ zero-add from in
+    ap (filter (is_held w)) (drop-cons all from 0 (omega (arith, many)) ∙ ap (λ (o : ℕ). o ∷ drop (suc from) all) number)
+    ∙ filter-cons (is_held w) from (drop (suc from) all)
 
-worn_here : (places : List ℕ) (from : ℕ) → from < length places → get_or places from 0 ≡ 253 → held_on places from ≡ from ∷ held_on places (suc from)
-worn_here places from within here = at_first places from within ∙ grind (arith, nat_tests)
+worn_here : (w : World) (from : ℕ) → from < length w.places → get_or w.places from 0 ≡ 253 → held_on w from ≡ from ∷ held_on w (suc from)
+worn_here w from within here = at_first w from within ∙ grind (arith, nat_tests)
 
-carried_here : (places : List ℕ) (from : ℕ) → from < length places → get_or places from 0 ≡ 254 → held_on places from ≡ from ∷ held_on places (suc from)
-carried_here places from within here = at_first places from within ∙ grind (arith, nat_tests)
+carried_here : (w : World) (from : ℕ) → from < length w.places → get_or w.places from 0 ≡ 254 → held_on w from ≡ from ∷ held_on w (suc from)
+carried_here w from within here = at_first w from within ∙ grind (arith, nat_tests)
 
-neither_here : (places : List ℕ) (from : ℕ) → from < length places → get_or places from 0 ≢ 253 → get_or places from 0 ≢ 254
-    → held_on places from ≡ held_on places (suc from)
-neither_here places from within worn carried = at_first places from within ∙ grind (arith, nat_tests)
+neither_here : (w : World) (from : ℕ) → from < length w.places → get_or w.places from 0 ≢ 253 → get_or w.places from 0 ≢ 254
+    → held_on w from ≡ held_on w (suc from)
+neither_here w from within worn carried = at_first w from within ∙ grind (arith, nat_tests)
 
-held_past : (places : List ℕ) (from : ℕ) → length places ≤ from → held_on places from ≡ []
-held_past places from past = ap (held_from from) (drop_all from places past)
+held_past : (w : World) (from : ℕ) → length w.places ≤ from → held_on w from ≡ []
+held_past w from past =
+    let all : List ℕ = range_with_len 0 (length w.places) in
+    let many : length all ≡ length w.places = length-range_with_len 0 (length w.places) in
+    ap (filter (is_held w)) (drop_all from all (omega (arith, many)))
 
 later : (places : List ℕ) (p from : ℕ) (found : Option ℕ) → from < length places → get_or places from 0 ≢ p
     → found ≡ least_at places p (length places - from) → found ≡ least_at places p (length places - suc from)
@@ -74,66 +83,65 @@ lesser_second from None low = refl
 lesser_second from (Some o) low = let least : min o from ≡ from = omega arith in ap (λ (n : ℕ). Some n) least
 
 -- what there is from a number on, by the lesser of what is found
-data Found (places : List ℕ) (from : ℕ) : Option ℕ → Type 0 where
-  nothing : held_on places from ≡ [] → Found places from None
-  object : (o : ℕ) → held_on places from ≡ o ∷ held_on places (suc o) → Found places from (Some o)
+data Found (w : World) (from : ℕ) : Option ℕ → Type 0 where
+  nothing : held_on w from ≡ [] → Found w from None
+  object : (o : ℕ) → held_on w from ≡ o ∷ held_on w (suc o) → Found w from (Some o)
 
 -- an object is passed by
-passed : (places : List ℕ) (from : ℕ) (found : Option ℕ) → held_on places from ≡ held_on places (suc from)
-    → Found places (suc from) found → Found places from found
-passed places from _ same (nothing e) = nothing (same ∙ e)
-passed places from _ same (object o e) = object o (same ∙ e)
+passed : (w : World) (from : ℕ) (found : Option ℕ) → held_on w from ≡ held_on w (suc from) → Found w (suc from) found → Found w from found
+passed w from _ same (nothing e) = nothing (same ∙ e)
+passed w from _ same (object o e) = object o (same ∙ e)
 
-found_on : (n : ℕ) (places : List ℕ) (from : ℕ) (a b : Option ℕ) → n ≡ length places - from
-    → a ≡ least_at places 253 (length places - from) → b ≡ least_at places 254 (length places - from) → Found places from (lesser a b)
-found_on zero places from a b many worn carried =
-    let no_worn : None ≡ a = sym (worn ∙ least_at_end places 253 from (omega arith)) in
-    let no_carried : None ≡ b = sym (carried ∙ least_at_end places 254 from (omega arith)) in
-    subst (λ (x : Option ℕ). Found places from (lesser x b)) no_worn
-    (subst (λ (x : Option ℕ). Found places from x) no_carried (nothing (held_past places from (omega arith))))
-found_on (suc n) places from a b many worn carried = elim (cases_eq (get_or places from 0) 253) [
+-- n objects are left to look at
+found_on : (n : ℕ) (w : World) (from : ℕ) (a b : Option ℕ) → n ≡ length w.places - from
+    → a ≡ least_at w.places 253 (length w.places - from) → b ≡ least_at w.places 254 (length w.places - from) → Found w from (lesser a b)
+found_on zero w from a b many worn carried =
+    let no_worn : None ≡ a = sym (worn ∙ least_at_end w.places 253 from (omega arith)) in
+    let no_carried : None ≡ b = sym (carried ∙ least_at_end w.places 254 from (omega arith)) in
+    subst (λ (x : Option ℕ). Found w from (lesser x b)) no_worn
+    (subst (λ (x : Option ℕ). Found w from x) no_carried (nothing (held_past w from (omega arith))))
+found_on (suc n) w from a b many worn carried = elim (cases_eq (get_or w.places from 0) 253) [
   | inl here ↦
-      let is : a ≡ Some from = worn ∙ least_at_here places 253 from (omega arith) here in
-      let least : lesser a b ≡ Some from = ap (λ (x : Option ℕ). lesser x b) is ∙ lesser_first from b (not_before places 254 from b (omega arith) carried) in
-      subst (λ (x : Option ℕ). Found places from x) (sym least) (object from (worn_here places from (omega arith) here))
-  | inr not_worn ↦ elim (cases_eq (get_or places from 0) 254) [
+      let is : a ≡ Some from = worn ∙ least_at_here w.places 253 from (omega arith) here in
+      let least : lesser a b ≡ Some from = ap (λ (x : Option ℕ). lesser x b) is ∙ lesser_first from b (not_before w.places 254 from b (omega arith) carried) in
+      subst (λ (x : Option ℕ). Found w from x) (sym least) (object from (worn_here w from (omega arith) here))
+  | inr not_worn ↦ elim (cases_eq (get_or w.places from 0) 254) [
     | inl here ↦
-        let is : b ≡ Some from = carried ∙ least_at_here places 254 from (omega arith) here in
-        let least : lesser a b ≡ Some from = ap (lesser a) is ∙ lesser_second from a (not_before places 253 from a (omega arith) worn) in
-        subst (λ (x : Option ℕ). Found places from x) (sym least) (object from (carried_here places from (omega arith) here))
+        let is : b ≡ Some from = carried ∙ least_at_here w.places 254 from (omega arith) here in
+        let least : lesser a b ≡ Some from = ap (lesser a) is ∙ lesser_second from a (not_before w.places 253 from a (omega arith) worn) in
+        subst (λ (x : Option ℕ). Found w from x) (sym least) (object from (carried_here w from (omega arith) here))
     | inr not_carried ↦
-        passed places from (lesser a b) (neither_here places from (omega arith) not_worn not_carried)
-        (found_on n places (suc from) a b (omega arith) (later places 253 from a (omega arith) not_worn worn) (later places 254 from b (omega arith) not_carried carried))
+        passed w from (lesser a b) (neither_here w from (omega arith) not_worn not_carried)
+        (found_on n w (suc from) a b (omega arith) (later w.places 253 from a (omega arith) not_worn worn)
+        (later w.places 254 from b (omega arith) not_carried carried))
   ]
 ]
 
-found_ends : (places : List ℕ) (from : ℕ) (found : Option ℕ) → Found places from found → IfNone found (held_on places from ≡ [])
-found_ends places from _ (nothing e) = e
-found_ends places from _ (object o e) = tt
+found_ends : (w : World) (from : ℕ) (found : Option ℕ) → Found w from found → IfNone found (held_on w from ≡ [])
+found_ends w from _ (nothing e) = e
+found_ends w from _ (object o e) = tt
 
-found_goes_on : (places : List ℕ) (from : ℕ) (found : Option ℕ) → Found places from found → IfSome found (λ o. held_on places from ≡ o ∷ held_on places (suc o))
-found_goes_on places from _ (nothing e) = tt
-found_goes_on places from _ (object o e) = e
+found_goes_on : (w : World) (from : ℕ) (found : Option ℕ) → Found w from found → IfSome found (λ o. held_on w from ≡ o ∷ held_on w (suc o))
+found_goes_on w from _ (nothing e) = tt
+found_goes_on w from _ (object o e) = e
 
 left_on : (places : List ℕ) (above : Option ℕ) → left_above places above ≡ length places - first_above above
 left_on places None = omega arith
 left_on places (Some o) = refl
 
-found_held : (w : World) (above a b : Option ℕ) → a ≡ first_at w 253 above → b ≡ first_at w 254 above → Found w.places (first_above above) (lesser a b)
-found_held w above a b worn carried =
-    found_on (length w.places - first_above above) w.places (first_above above) a b refl
-    (worn ∙ ap (least_at w.places 253) (left_on w.places above)) (carried ∙ ap (least_at w.places 254) (left_on w.places above))
+found_held : (w : World) (above a b found : Option ℕ) → a ≡ first_at w 253 above → b ≡ first_at w 254 above → found ≡ lesser a b
+    → Found w (first_above above) found
+found_held w above a b found worn carried is =
+    subst (λ (x : Option ℕ). Found w (first_above above) x) (sym is)
+    (found_on (length w.places - first_above above) w (first_above above) a b refl
+    (worn ∙ ap (least_at w.places 253) (left_on w.places above)) (carried ∙ ap (least_at w.places 254) (left_on w.places above)))
 
 -- what is worn or carried above an object, where none is found
 pub held_ends : (w : World) (above a b found : Option ℕ) → a ≡ first_at w 253 above → b ≡ first_at w 254 above → found ≡ lesser a b
     → IfNone found (listed_above w listed.Held above ≡ [])
-held_ends w above a b found worn carried is =
-    subst (λ (x : Option ℕ). IfNone x (listed_above w listed.Held above ≡ [])) (sym is)
-    (found_ends w.places (first_above above) (lesser a b) (found_held w above a b worn carried))
+held_ends w above a b found worn carried is = found_ends w (first_above above) found (found_held w above a b found worn carried is)
 
 -- and where one is found
 pub held_goes_on : (w : World) (above a b found : Option ℕ) → a ≡ first_at w 253 above → b ≡ first_at w 254 above → found ≡ lesser a b
     → IfSome found (λ o. listed_above w listed.Held above ≡ o ∷ listed_above w listed.Held (Some o))
-held_goes_on w above a b found worn carried is =
-    subst (λ (x : Option ℕ). IfSome x (λ o. listed_above w listed.Held above ≡ o ∷ listed_above w listed.Held (Some o))) (sym is)
-    (found_goes_on w.places (first_above above) (lesser a b) (found_held w above a b worn carried))
+held_goes_on w above a b found worn carried is = found_goes_on w (first_above above) found (found_held w above a b found worn carried is)

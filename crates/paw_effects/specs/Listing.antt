@@ -1,12 +1,14 @@
 -- How the code of lists goes from object to object.
-use Rattle.std.specs.Prelude.{ℕ, suc, min, List, drop, map, Option, Some, None}
+use Rattle.std.specs.Prelude.{ℕ, suc, min, List, length, drop, filter, map, Option, Some, None}
+use Rattle.std.specs.List.{range_with_len}
 use Rattle.paw_game.specs.Game.{GameLists}
 use Rattle.paw_world.specs.World.{World}
 use Rattle.paw_world.specs.Weight.{at_from}
 use Rattle.paw_effects.specs.declared.lists.Listed.{Listed}
 use Rattle.paw_effects.specs.declared.lists.Listed.TheVariants as listed
 use Rattle.paw_effects.specs.Texts.{object_text}
-use Rattle.paw_effects.specs.Lists.{held_from, held_text}
+use Rattle.paw_effects.specs.Lists.{held_text}
+use Rattle.paw_effects.specs.Presence.{is_held}
 
 -- the lesser of two numbers; where one of them isn't there the other
 abbrev pub lesser : Option ℕ → Option ℕ → Option ℕ
@@ -22,7 +24,7 @@ first_above (Some o) = suc o
 -- the objects of a list from a number on, in rising number
 abbrev pub listed_from : World → Listed → ℕ → List ℕ
 listed_from w (listed.At p) o = at_from p o (drop o w.places)
-listed_from w listed.Held o = held_from o (drop o w.places)
+listed_from w listed.Held o = filter (is_held w) (drop o (range_with_len 0 (length w.places)))
 
 -- the objects of a list above this one, or all of them
 abbrev pub listed_above : World → Listed → Option ℕ → List ℕ

@@ -1,9 +1,10 @@
 -- Lists of objects, as a game prints them.
-use Rattle.std.specs.Prelude.{ℕ, suc, ◌==◌, ◌||◌, Bool, not, List, [], ◌∷◌, ◌++◌, map, codes, bit_and, if◌then◌else◌}
+use Rattle.std.specs.Prelude.{ℕ, ◌==◌, Bool, not, List, [], ◌∷◌, ◌++◌, map, codes, bit_and, if◌then◌else◌}
 use Rattle.std.specs.List.{flat_map}
 use Rattle.paw_game.specs.Game.{GameLists}
 use Rattle.paw_world.specs.World.{World, flag, place, is_somewhere}
 use Rattle.paw_world.specs.Weight.{objects_at}
+use Rattle.paw_effects.specs.Presence.{held_objects}
 use Rattle.paw_effects.specs.Texts.{object_text, put_text, say_text}
 
 -- each text in a line of its own
@@ -47,15 +48,6 @@ seen_text g w (text ∷ texts) = say_text g w 1 ++ list_of w (text ∷ texts)
 abbrev pub texts_at : GameLists → World → ℕ → List (List ℕ)
 texts_at g w p = map (object_text g) (objects_at w p)
 
--- the objects that are worn (253) or carried (254), in rising number; the first of these places is that of object o
-abbrev pub held_from : ℕ → List ℕ → List ℕ
-held_from o [] = []
-held_from o (p ∷ ps) = if (p == 253) || (p == 254) then o ∷ held_from (suc o) ps else held_from (suc o) ps
-
--- the objects that are worn or carried, in rising number
-abbrev pub objects_held : World → List ℕ
-objects_held w = held_from 0 w.places
-
 -- message 10 tells what is worn
 abbrev pub worn_text : GameLists → World → ℕ → List ℕ
 worn_text g w o = if place w o == 253 then put_text g w 10 else []
@@ -66,7 +58,7 @@ held_text g w o = object_text g o ++ worn_text g w o
 
 -- INVEN: message 9, and what is worn and carried, or message 11 where that is nothing
 abbrev pub inventory_text : GameLists → World → List ℕ
-inventory_text g w = say_text g w 9 ++ list_or_say g w 11 (map (held_text g w) (objects_held w))
+inventory_text g w = say_text g w 9 ++ list_or_say g w 11 (map (held_text g w) (held_objects w))
 
 -- LISTAT: what stands at a place, or message 53 where that is nothing
 abbrev pub place_list_text : GameLists → World → ℕ → List ℕ
