@@ -39,6 +39,18 @@ impl Places {
         all
     }
 
+    /// Each object stands at its place of these.
+    pub fn at(places: &[u8]) -> Places
+        requires { length places.now ≤ 255 }
+        ensures { result ≡ places.now }
+    {
+        let mut all = Places::empty();
+        for p in places {
+            all.add(*p);
+        }
+        all
+    }
+
     fn empty() -> Places
         ensures { result ≡ [] }
     {
@@ -68,6 +80,13 @@ impl Places {
             sets: self.sets,
             count: self.count,
         }
+    }
+
+    /// The places of all objects, in the order of their numbers.
+    pub fn all(&self) -> &[u8]
+        ensures { result.now ≡ self.now }
+    {
+        &self.places[..self.count as usize]
     }
 
     /// How many objects there are.

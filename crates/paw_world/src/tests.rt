@@ -166,3 +166,23 @@ fn a_game_begun_anew(rt: HostRuntime) {
     assert_eq!(rt; world.locations(), 252);
     assert!(rt; world.saved());
 }
+
+#[test]
+fn a_position_that_is_put_back(rt: HostRuntime) {
+    let mut world = World::new(&[thing(254, 1, false); 3], 252, 7);
+    assert!(rt; world.saved_position().is_none());
+    let mut flags = [0; 256];
+    flags[1] = 9;
+    flags[255] = 8;
+    assert_eq!(rt; world.objects(), 3);
+    world.set_position(&flags, &[2, 254, 2]);
+    assert_eq!(rt; world.flags()[1], 9, "nothing is counted");
+    assert_eq!(rt; world.flags()[255], 8);
+    assert_eq!(rt; world.places(), [2, 254, 2].as_slice());
+    assert_eq!(rt; world.first_at(2, Some(0)), Some(2));
+    assert_eq!(rt; world.first_at(254, None), Some(1));
+    world.ramsave();
+    world.restart();
+    let (_, kept) = world.saved_position().expect(&rt, "a saved position");
+    assert_eq!(rt; kept, [2, 254, 2].as_slice());
+}

@@ -1,6 +1,6 @@
 // The world of a game.
 
-ghost use Rattle.std.specs.Prelude.{◌≡◌, ◌+◌, ◌-◌, ◌^◌, ◌<◌, ◌≤◌, length, take, slice_get, is_some, IsSome, IfSome};
+ghost use Rattle.std.specs.Prelude.{◌≡◌, ◌+◌, ◌-◌, ◌^◌, ◌<◌, ◌≤◌, length, take, slice_get, is_some, IsSome, IfSome, MatchOption};
 ghost use Rattle.paw_world.specs.Draws.{word};
 ghost use Rattle.paw_world.specs.World.{opened, flag, with_flag, place, moved, first_at, ramsaved, ramloaded, saved_flag, saved_place, restarted, with_objects_returned, drawn_on, first_carried, opening_flags, IsWorld};
 ghost use Rattle.paw_world.specs.Weight.{weight, weight_down, weight_with, carried_weight};
@@ -92,6 +92,13 @@ impl World {
         self.flags[f as usize]
     }
 
+    /// The values of all flags.
+    pub fn flags(&self) -> &[u8; 256]
+        ensures value { result.now ≡ self.now.flags }
+    {
+        &self.flags
+    }
+
     /// Gives a flag a value.
     pub fn set_flag(&mut self, f: u8, x: u8)
         ensures change { self.new ≡ with_flag self.old f x }
@@ -128,6 +135,22 @@ impl World {
         ensures value { result ≡ place self.now o }
     {
         self.places.place(o)
+    }
+
+    /// The places of all objects, in the order of their numbers.
+    pub fn places(&self) -> &[u8]
+        ensures value { result.now ≡ self.now.places }
+    {
+        self.places.all()
+    }
+
+    /// All flags and the places of all objects become these, as they were kept. No object is moved, so no flag counts it.
+    pub fn set_position(&mut self, flags: &[u8; 256], places: &[u8])
+        requires each { length places.now ≡ length self.old.places }
+        ensures change { self.new ≡ record self.old { flags = flags.now; places = places.now } }
+    {
+        self.flags = *flags;
+        self.places = Places::at(places);
     }
 
     /// Moves an object to a place. Where it stands there nothing happens. Otherwise flag 1 falls by one, but not
@@ -212,6 +235,16 @@ impl World {
         match &self.saved {
             Some(saved) => saved.places.place(o),
             None => unreachable!(),
+        }
+    }
+
+    /// The flags and the places of the saved position; None where nothing is saved.
+    pub fn saved_position(&self) -> Option<(&[u8; 256], &[u8])>
+        ensures value { MatchOption result (self.now.saved ≡ None) (λ p. self.now.saved ≡ Some (record { flags = p.0.now; places = p.1.now })) }
+    {
+        match &self.saved {
+            None => None,
+            Some(saved) => Some((&saved.flags, saved.places.all())),
         }
     }
 
