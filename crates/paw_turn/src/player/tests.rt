@@ -8,182 +8,21 @@ ghost use Rattle.paw_turn.specs.Player.{IsSeated};
 use super::Player;
 use crate::Step;
 use crate::turn::Turn;
-use paw_base::parts::{Condact, ObjectFacts};
+use game::{asking_game, endless_game};
+use paw_base::fault::SpentKind;
+use paw_base::parts::Condact;
 use paw_effects::act::Prompt;
 use paw_effects::does::is_built;
 use paw_game::game::Game;
-use paw_game::parts::{Condacts, Entry, Exits, GameParts, ObjectRow, Table, Text, Word};
+use paw_game::parts::{Entry, Table};
 use paw_phrase::{LINE_LIMIT, Pending};
 use paw_process::Machine;
-use std::alloc::{AllocError, Global};
+use std::alloc::Global;
 use std::process::Abort;
 use std::test::Fail;
 
-const VERB: u8 = 0;
-
-const NOUN: u8 = 2;
-
-/// The words, by their letters.
-const WORDS: [([u8; 5], u8, u8); 9] = [
-    (*b"ALL  ", 20, NOUN),
-    (*b"COAT ", 54, NOUN),
-    (*b"LAMP ", 50, NOUN),
-    (*b"LOOK ", 36, VERB),
-    (*b"QUIT ", 35, VERB),
-    (*b"SHAKE", 31, VERB),
-    (*b"SWORD", 51, NOUN),
-    (*b"TWIST", 32, VERB),
-    (*b"WAIT ", 37, VERB),
-];
-
-const QUIT: u8 = 27;
-
-const DESC: u8 = 30;
-
-const END: u8 = 31;
-
-const DONE: u8 = 32;
-
-const OK: u8 = 34;
-
-const ANYKEY: u8 = 35;
-
-const MESSAGE: u8 = 51;
-
-const PROCESS: u8 = 85;
-
-const DOALL: u8 = 86;
-
-/// Any word.
-const ANY: u8 = 255;
-
-/// The current location, as a parameter.
-const HERE: u8 = 255;
-
-const CARRIED: u8 = 254;
-
-/// The system message of a number; the others are empty.
-fn system_text(number: u8) -> &'static str {
-    match number {
-        2 => "What now?",
-        12 => "Are you sure? ",
-        13 => "Another go? ",
-        14 => "Goodbye.",
-        15 => "OK.",
-        16 => "Press a key. ",
-        33 => "> ",
-        _ => "",
-    }
-}
-
-fn text(alloc: Global, text: &str) -> Result<Text, AllocError> {
-    let bytes = Vec::from_slice(alloc, text.as_bytes())?;
-    Ok(Text { bytes })
-}
-
-fn words(alloc: Global) -> Result<Vec<Word>, AllocError> {
-    let mut words = Vec::new(alloc);
-    for (letters, value, class) in WORDS {
-        words.push(Word {
-            letters,
-            value,
-            class,
-        })?;
-    }
-    Ok(words)
-}
-
-fn system(alloc: Global) -> Result<Vec<Text>, AllocError> {
-    let mut texts = Vec::new(alloc);
-    for number in 0..34 {
-        texts.push(text(alloc, system_text(number))?)?;
-    }
-    Ok(texts)
-}
-
-fn object(alloc: Global, name: &str, noun: u8, start: u8) -> Result<ObjectRow, AllocError> {
-    Ok(ObjectRow {
-        text: text(alloc, name)?,
-        facts: ObjectFacts {
-            noun,
-            adjective: 255,
-            start,
-            weight: 1,
-            container: false,
-            wearable: false,
-        },
-    })
-}
-
-fn entry(alloc: Global, verb: u8, noun: u8, codes: &[(u8, u8)]) -> Result<Entry, AllocError> {
-    let mut rows = Vec::new(alloc);
-    for (code, a) in codes {
-        rows.push(Condact {
-            code: *code,
-            a: *a,
-            b: 0,
-        })?;
-    }
-    Ok(Entry {
-        verb,
-        noun,
-        condacts: Condacts { rows },
-    })
-}
-
-fn no_entries(alloc: Global) -> Table {
-    Table {
-        entries: Vec::new(alloc),
-    }
-}
-
-/// SHAKE ALL asks for each object in a called table; TWIST ALL calls a table with a loop of its own that waits for a key;
-/// QUIT asks twice.
-fn tables(alloc: Global) -> Result<Vec<Table>, AllocError> {
-    let responses = vec![in alloc;
-        entry(alloc, 31, 20, &[(DOALL, HERE)])?,
-        entry(alloc, 31, ANY, &[(PROCESS, 3), (DONE, 0)])?,
-        entry(alloc, 32, 20, &[(DOALL, HERE)])?,
-        entry(alloc, 32, ANY, &[(PROCESS, 4), (MESSAGE, 1)])?,
-        entry(alloc, 35, ANY, &[(QUIT, 0), (END, 0)])?,
-        entry(alloc, 36, ANY, &[(DESC, 0)])?,
-        entry(alloc, 37, ANY, &[(OK, 0)])?,
-    ]?;
-    let shakes = vec![in alloc; entry(alloc, ANY, ANY, &[(QUIT, 0), (MESSAGE, 0)])?]?;
-    let twists = vec![in alloc;
-        entry(alloc, ANY, ANY, &[(DOALL, CARRIED)])?,
-        entry(alloc, ANY, ANY, &[(ANYKEY, 0), (MESSAGE, 0)])?,
-    ]?;
-    let tables = vec![in alloc;
-        Table { entries: responses },
-        no_entries(alloc),
-        no_entries(alloc),
-        Table { entries: shakes },
-        Table { entries: twists },
-    ]?;
-    Ok(tables)
-}
-
-fn asking_game(alloc: Global) -> Result<Game, Fail> {
-    let game = Game::new(GameParts {
-        words: words(alloc)?,
-        system: system(alloc)?,
-        messages: vec![in alloc; text(alloc, "You shake the _.")?, text(alloc, "Done.")?]?,
-        objects: vec![in alloc;
-            object(alloc, "lamp", 50, 0)?,
-            object(alloc, "sword", 51, 0)?,
-            object(alloc, "coat", 54, CARRIED)?,
-        ]?,
-        locations: vec![in alloc; text(alloc, "A hall.")?]?,
-        exits: vec![in alloc;
-            Exits {
-                rows: Vec::new(alloc)
-            },
-        ]?,
-        tables: tables(alloc)?,
-    })?;
-    Ok(game)
-}
+mod game;
+mod kept;
 
 // Whether these condacts are built.
 fn are_built(condacts: &[Condact]) -> bool
@@ -240,36 +79,121 @@ const KEY: Step = Step::Waits(Prompt::Key);
 /// The first piece.
 const FIRST: &str = "A hall.\nWhat now?\n> ";
 
+/// The piece where nothing but the prompt is shown.
+const PROMPT: &str = "What now?\n> ";
+
 /// Lines that lead to each prompt, and from each on.
-const CASES: [[Taken; 4]; 4] = [
+const CASES: [&[Taken]; 14] = [
     // The loop of the outer table goes on behind the question in the called one.
-    [
+    &[
         ("SHAKE ALL", SURE, "Are you sure? "),
         ("N", SURE, "Are you sure? "),
         ("Y", MAIN, "You shake the sword.\nWhat now?\n> "),
         ("WAIT", MAIN, "OK.\nWhat now?\n> "),
     ],
     // The loop of the called table has replaced the outer one.
-    [
+    &[
         ("TWIST ALL. WAIT", KEY, "Press a key. "),
         ("~", KEY, ""),
         ("", MAIN, "You shake the coat.\nDone.\nOK.\nWhat now?\n> "),
         ("LOOK", MAIN, FIRST),
     ],
     // The game starts anew.
-    [
+    &[
         ("QUIT", SURE, "Are you sure? "),
         (" y", AGAIN, "Another go? "),
         ("yes", MAIN, FIRST),
         ("SHAKE COAT", SURE, "Are you sure? "),
     ],
     // The game is over, and no line changes that.
-    [
+    &[
         ("QUIT", SURE, "Are you sure? "),
         ("Y", AGAIN, "Another go? "),
         ("  no", Step::Ended, "Goodbye.\n"),
         ("LOOK", Step::Ended, ""),
     ],
+    // Ten calls are open at most; the eleventh isn't made.
+    &[
+        ("NEST", MAIN, "OK.\nWhat now?\n> "),
+        ("DEEP", Step::TooDeep { table: 5 }, ""),
+    ],
+    // A called table that is left as not done leaves its caller to go on.
+    &[
+        ("NO", MAIN, "Here the  is.\nDone.\nWhat now?\n> "),
+        ("WAIT", MAIN, "OK.\nWhat now?\n> "),
+    ],
+    // Describing inside a call drops the calls.
+    &[
+        ("AWAY", MAIN, "A garden.\nA wind blows.\nWhat now?\n> "),
+        ("LOOK", MAIN, "A garden.\nA wind blows.\nWhat now?\n> "),
+    ],
+    // A loop without objects leaves its table as done.
+    &[
+        ("WHERE ALL", MAIN, PROMPT),
+        ("WHERE", MAIN, "Done.\nWhat now?\n> "),
+    ],
+    // What is excepted is left out of the loop, with its adjective and without.
+    &[
+        ("SHAKE ALL EXCEPT RED LAMP", SURE, "Are you sure? "),
+        ("Y", MAIN, "You shake the sword.\nWhat now?\n> "),
+    ],
+    &[
+        ("SHAKE ALL EXCEPT LAMP", SURE, "Are you sure? "),
+        ("y", MAIN, "You shake the sword.\nWhat now?\n> "),
+    ],
+    // The next phrase is taken inside a loop: its verb matches no entry that follows; where there is none reading goes on.
+    &[
+        ("TURN ALL AND WAIT", MAIN, PROMPT),
+        (
+            "TURN ALL",
+            MAIN,
+            "Here the lamp is.\nHere the sword is.\nWhat now?\n> ",
+        ),
+    ],
+    // A game that starts anew starts in the hall again, and may be over later.
+    &[
+        ("AWAY", MAIN, "A garden.\nA wind blows.\nWhat now?\n> "),
+        ("QUIT", SURE, "Are you sure? "),
+        ("n", MAIN, PROMPT),
+        ("QUIT", SURE, "Are you sure? "),
+        (" y", AGAIN, "Another go? "),
+        ("", MAIN, FIRST),
+        ("QUIT", SURE, "Are you sure? "),
+        ("y", AGAIN, "Another go? "),
+        ("  no", Step::Ended, "Goodbye.\n"),
+        ("LOOK", Step::Ended, ""),
+    ],
+    // A line may be late, or not, at each prompt.
+    &[
+        ("QUIT", SURE, "Are you sure? "),
+        ("~", SURE, ""),
+        ("n", MAIN, PROMPT),
+        ("TIME", MAIN, PROMPT),
+        ("~", MAIN, "Time passes.\nWhat now?\n> "),
+        ("QUIT", SURE, "Are you sure? "),
+        ("~", MAIN, PROMPT),
+        ("TWIST ALL", KEY, "Press a key. "),
+        ("~", MAIN, "You shake the coat.\nDone.\nWhat now?\n> "),
+    ],
+    // A late line lets the game start anew, and then no line may be late.
+    &[
+        ("QUIT", SURE, "Are you sure? "),
+        ("y", AGAIN, "Another go? "),
+        ("~", AGAIN, ""),
+        ("", MAIN, FIRST),
+        ("TIME", MAIN, PROMPT),
+        ("QUIT", SURE, "Are you sure? "),
+        ("y", AGAIN, "Another go? "),
+        ("~", MAIN, FIRST),
+        ("~", MAIN, ""),
+    ],
+];
+
+/// Lines after which a player goes on no more, and what it answers then.
+const FINISHING: [(&str, Step); 3] = [
+    ("DEEP", Step::TooDeep { table: 5 }),
+    ("SPIN", Step::Spent(SpentKind::Condacts)),
+    ("FALL", Step::Spent(SpentKind::Text)),
 ];
 
 // A player that goes on where another stood.
@@ -346,7 +270,7 @@ fn players_go_on_from_what_was_kept(rt: HostRuntime) -> Result<(), Fail> {
     let game = asking_game(alloc)?;
     assert!(rt; is_ready(&game));
     for between in [Between::Nothing, Between::Adopting, Between::Seating] {
-        for case in &CASES {
+        for case in CASES {
             let mut player = Player::new(alloc, &game, 7)?;
             assert_eq!(rt; player.start(), MAIN);
             assert_eq!(rt; player.piece(), FIRST.as_bytes());
@@ -361,8 +285,8 @@ fn renewed_players_begin_again(rt: HostRuntime) -> Result<(), Fail> {
     let alloc = rt.alloc();
     let game = asking_game(alloc)?;
     assert!(rt; is_ready(&game));
-    for case in &CASES {
-        for before in &CASES {
+    for case in CASES {
+        for before in CASES {
             let player = Player::new(alloc, &game, 7)?;
             let mut player = take_all(&rt, alloc, &game, player, Between::Nothing, before)?;
             player.renew(7);
@@ -371,6 +295,56 @@ fn renewed_players_begin_again(rt: HostRuntime) -> Result<(), Fail> {
             assert_eq!(rt; player.piece(), FIRST.as_bytes());
             take_all(&rt, alloc, &game, player, Between::Nothing, case)?;
         }
+    }
+    Ok(())
+}
+
+#[test]
+fn finished_players_answer_the_same(rt: HostRuntime) -> Result<(), Fail> {
+    let alloc = rt.alloc();
+    let game = asking_game(alloc)?;
+    assert!(rt; is_ready(&game));
+    for (line, step) in FINISHING {
+        let mut player = Player::new(alloc, &game, 7)?;
+        assert_eq!(rt; player.start(), MAIN);
+        let lines = [(line, step, ""), ("LOOK", step, ""), ("~", step, "")];
+        let player = take_all(&rt, alloc, &game, player, Between::Nothing, &lines)?;
+        assert_eq!(rt; player.parts().prompt, Prompt::Over);
+    }
+    Ok(())
+}
+
+#[test]
+fn a_player_waits_where_its_tables_stand(rt: HostRuntime) -> Result<(), Fail> {
+    let alloc = rt.alloc();
+    let game = asking_game(alloc)?;
+    assert!(rt; is_ready(&game));
+    let mut player = Player::new(alloc, &game, 7)?;
+    assert_eq!(rt; player.start(), MAIN);
+    let lines = [("TWIST ALL", KEY, "Press a key. ")];
+    let player = take_all(&rt, alloc, &game, player, Between::Nothing, &lines)?;
+    assert_eq!(rt; player.parts().machine.frames(), kept::waiting());
+    Ok(())
+}
+
+#[test]
+fn players_that_never_come_to_a_prompt_are_spent(rt: HostRuntime) -> Result<(), Fail> {
+    let alloc = rt.alloc();
+    for (location, kind) in [("", SpentKind::Condacts), ("A cave.", SpentKind::Text)] {
+        let game = endless_game(alloc, location)?;
+        assert!(rt; is_ready(&game));
+        let step = Step::Spent(kind);
+        let mut player = Player::new(alloc, &game, 7)?;
+        assert_eq!(rt; player.start(), step);
+        assert!(rt; player.piece().is_empty());
+        take_all(
+            &rt,
+            alloc,
+            &game,
+            player,
+            Between::Nothing,
+            &[("LOOK", step, ""), ("~", step, "")],
+        )?;
     }
     Ok(())
 }

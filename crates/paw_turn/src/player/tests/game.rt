@@ -1,0 +1,335 @@
+// The games of the tests: one that asks inside calls and loops, and one that never comes to a prompt.
+
+use paw_base::parts::{Condact, ObjectFacts};
+use paw_game::game::Game;
+use paw_game::parts::{Condacts, Entry, Exits, GameParts, ObjectRow, Table, Text, Word};
+use std::alloc::{AllocError, Global};
+use std::test::Fail;
+
+const VERB: u8 = 0;
+
+const NOUN: u8 = 2;
+
+const ADJECTIVE: u8 = 3;
+
+const PREPOSITION: u8 = 4;
+
+const CONJUNCTION: u8 = 5;
+
+const PRONOUN: u8 = 6;
+
+/// The words, by their letters.
+const WORDS: [([u8; 5], u8, u8); 23] = [
+    (*b"ALL  ", 20, NOUN),
+    (*b"AND  ", 2, CONJUNCTION),
+    (*b"AWAY ", 41, VERB),
+    (*b"COAT ", 54, NOUN),
+    (*b"DEEP ", 34, VERB),
+    (*b"EXCEP", 2, PREPOSITION),
+    (*b"FALL ", 44, VERB),
+    (*b"GO   ", 30, VERB),
+    (*b"IT   ", 2, PRONOUN),
+    (*b"LAMP ", 50, NOUN),
+    (*b"LOOK ", 36, VERB),
+    (*b"NEST ", 33, VERB),
+    (*b"NO   ", 40, VERB),
+    (*b"QUIT ", 35, VERB),
+    (*b"RED  ", 2, ADJECTIVE),
+    (*b"SHAKE", 31, VERB),
+    (*b"SPIN ", 43, VERB),
+    (*b"SWORD", 51, NOUN),
+    (*b"TIME ", 38, VERB),
+    (*b"TURN ", 39, VERB),
+    (*b"TWIST", 32, VERB),
+    (*b"WAIT ", 37, VERB),
+    (*b"WHERE", 42, VERB),
+];
+
+const AT: u8 = 0;
+
+const ATGT: u8 = 2;
+
+const GT: u8 = 15;
+
+const QUIT: u8 = 27;
+
+const DESC: u8 = 30;
+
+const END: u8 = 31;
+
+const DONE: u8 = 32;
+
+const NOTDONE: u8 = 33;
+
+const OK: u8 = 34;
+
+const ANYKEY: u8 = 35;
+
+const MESSAGE: u8 = 51;
+
+const MINUS: u8 = 69;
+
+const LET: u8 = 70;
+
+const PARSE: u8 = 84;
+
+const PROCESS: u8 = 85;
+
+const DOALL: u8 = 86;
+
+/// Any word.
+const ANY: u8 = 255;
+
+/// The current location, as a parameter.
+const HERE: u8 = 255;
+
+const CARRIED: u8 = 254;
+
+const WORN: u8 = 253;
+
+/// The flag of the current location.
+const LOCATION: u8 = 38;
+
+/// The flag that allows a line to be late.
+const TIMEOUT: u8 = 48;
+
+/// A flag that counts calls.
+const CALLS: u8 = 60;
+
+/// How many system messages there are.
+const SYSTEM_TEXTS: usize = 36;
+
+/// The system message of a number; the others are empty.
+fn system_text(number: usize) -> &'static str {
+    match number {
+        2 => "What now?",
+        6 => "I don't understand.",
+        7 => "I can't go that way.",
+        8 => "I can't do that.",
+        12 => "Are you sure? ",
+        13 => "Another go? ",
+        14 => "Goodbye.",
+        15 => "OK.",
+        16 => "Press a key. ",
+        33 => "> ",
+        35 => "Time passes.",
+        _ => "",
+    }
+}
+
+const MESSAGES: [&str; 4] = [
+    "You shake the _.",
+    "Done.",
+    "Here the _ is.",
+    "A wind blows.",
+];
+
+/// The locations; that of SPIN has no text.
+const LOCATIONS: [&str; 4] = ["A hall.", "A garden.", "", "A well."];
+
+/// The objects: the text, the noun, the adjective, and the place at the start.
+const OBJECTS: [(&str, u8, u8, u8); 3] = [
+    ("lamp", 50, 2, 0),
+    ("sword", 51, ANY, 0),
+    ("coat", 54, ANY, CARRIED),
+];
+
+/// A condact's code and its parameters.
+type Code = (u8, u8, u8);
+
+/// An entry: verb, noun and condacts.
+type Row = (u8, u8, &'static [Code]);
+
+/// SHAKE, TWIST and TURN go round the objects here; NEST calls as deep as it may, and DEEP deeper; QUIT asks twice; SPIN
+/// and FALL never come to an end.
+const RESPONSES: [Row; 19] = [
+    (31, 20, &[(DOALL, HERE, 0)]),
+    (31, ANY, &[(PROCESS, 3, 0), (DONE, 0, 0)]),
+    (32, 20, &[(DOALL, HERE, 0)]),
+    (32, ANY, &[(PROCESS, 4, 0), (MESSAGE, 1, 0)]),
+    (33, ANY, &[(LET, CALLS, 9), (PROCESS, 5, 0), (OK, 0, 0)]),
+    (34, ANY, &[(LET, CALLS, 10), (PROCESS, 5, 0), (OK, 0, 0)]),
+    (35, ANY, &[(QUIT, 0, 0), (END, 0, 0)]),
+    (36, ANY, &[(DESC, 0, 0)]),
+    (37, ANY, &[(OK, 0, 0)]),
+    (38, ANY, &[(LET, TIMEOUT, 5), (DONE, 0, 0)]),
+    (39, 20, &[(DOALL, HERE, 0)]),
+    (39, ANY, &[(PARSE, 0, 0), (MESSAGE, 2, 0), (DONE, 0, 0)]),
+    (40, ANY, &[(PROCESS, 6, 0)]),
+    (40, ANY, &[(MESSAGE, 1, 0), (DONE, 0, 0)]),
+    (41, ANY, &[(PROCESS, 7, 0), (MESSAGE, 1, 0)]),
+    (42, 20, &[(DOALL, WORN, 0)]),
+    (42, ANY, &[(MESSAGE, 1, 0), (DONE, 0, 0)]),
+    (43, ANY, &[(LET, LOCATION, 2), (DESC, 0, 0)]),
+    (44, ANY, &[(LET, LOCATION, 3), (DESC, 0, 0)]),
+];
+
+const CALLS_8: [Row; 1] = [(ANY, ANY, &[(PROCESS, 8, 0)])];
+
+const ASKS: [Row; 1] = [(ANY, ANY, &[(QUIT, 0, 0), (MESSAGE, 0, 0)])];
+
+const WAITS_IN_A_LOOP: [Row; 2] = [
+    (ANY, ANY, &[(DOALL, CARRIED, 0)]),
+    (ANY, ANY, &[(ANYKEY, 0, 0), (MESSAGE, 0, 0)]),
+];
+
+const CALLS_ITSELF: [Row; 1] = [(
+    ANY,
+    ANY,
+    &[(GT, CALLS, 0), (MINUS, CALLS, 1), (PROCESS, 5, 0)],
+)];
+
+const IS_NOT_DONE: [Row; 2] = [
+    (ANY, ANY, &[(MESSAGE, 2, 0), (NOTDONE, 0, 0)]),
+    (ANY, ANY, &[(MESSAGE, 1, 0)]),
+];
+
+const GOES_AWAY: [Row; 1] = [(
+    ANY,
+    ANY,
+    &[(LET, LOCATION, 1), (DESC, 0, 0), (MESSAGE, 2, 0)],
+)];
+
+/// Describes the locations of SPIN and FALL again.
+const WAS_DESCRIBED: [Row; 4] = [
+    (ANY, ANY, &[(AT, 1, 0), (MESSAGE, 3, 0)]),
+    (ANY, ANY, &[(ATGT, 1, 0), (DESC, 0, 0)]),
+    (ANY, ANY, &[(DONE, 0, 0)]),
+    (ANY, ANY, &[(MESSAGE, 2, 0)]),
+];
+
+const TABLES: [&[Row]; 9] = [
+    &RESPONSES,
+    &CALLS_8,
+    &[],
+    &ASKS,
+    &WAITS_IN_A_LOOP,
+    &CALLS_ITSELF,
+    &IS_NOT_DONE,
+    &GOES_AWAY,
+    &WAS_DESCRIBED,
+];
+
+/// Describes each location again.
+const DESCRIBES_AGAIN: [&[Row]; 3] = [&[], &[(ANY, ANY, &[(DESC, 0, 0)])], &[]];
+
+fn text(alloc: Global, text: &str) -> Result<Text, AllocError> {
+    let bytes = Vec::from_slice(alloc, text.as_bytes())?;
+    Ok(Text { bytes })
+}
+
+fn texts(alloc: Global, rows: &[&str]) -> Result<Vec<Text>, AllocError> {
+    let mut texts = Vec::new(alloc);
+    for row in rows {
+        texts.push(text(alloc, row)?)?;
+    }
+    Ok(texts)
+}
+
+fn words(alloc: Global) -> Result<Vec<Word>, AllocError> {
+    let mut words = Vec::new(alloc);
+    for (letters, value, class) in WORDS {
+        words.push(Word {
+            letters,
+            value,
+            class,
+        })?;
+    }
+    Ok(words)
+}
+
+fn system(alloc: Global) -> Result<Vec<Text>, AllocError> {
+    let mut texts = Vec::new(alloc);
+    for number in 0..SYSTEM_TEXTS {
+        texts.push(text(alloc, system_text(number))?)?;
+    }
+    Ok(texts)
+}
+
+fn objects(alloc: Global) -> Result<Vec<ObjectRow>, AllocError> {
+    let mut objects = Vec::new(alloc);
+    for (name, noun, adjective, start) in OBJECTS {
+        objects.push(ObjectRow {
+            text: text(alloc, name)?,
+            facts: ObjectFacts {
+                noun,
+                adjective,
+                start,
+                weight: 1,
+                container: false,
+                wearable: false,
+            },
+        })?;
+    }
+    Ok(objects)
+}
+
+fn no_exits(alloc: Global, count: usize) -> Result<Vec<Exits>, AllocError> {
+    let mut exits = Vec::new(alloc);
+    for _ in 0..count {
+        exits.push(Exits {
+            rows: Vec::new(alloc),
+        })?;
+    }
+    Ok(exits)
+}
+
+fn condacts(alloc: Global, codes: &[Code]) -> Result<Condacts, AllocError> {
+    let mut rows = Vec::new(alloc);
+    for (code, a, b) in codes {
+        rows.push(Condact {
+            code: *code,
+            a: *a,
+            b: *b,
+        })?;
+    }
+    Ok(Condacts { rows })
+}
+
+fn table(alloc: Global, rows: &[Row]) -> Result<Table, AllocError> {
+    let mut entries = Vec::new(alloc);
+    for (verb, noun, codes) in rows {
+        entries.push(Entry {
+            verb: *verb,
+            noun: *noun,
+            condacts: condacts(alloc, codes)?,
+        })?;
+    }
+    Ok(Table { entries })
+}
+
+fn tables(alloc: Global, rows: &[&[Row]]) -> Result<Vec<Table>, AllocError> {
+    let mut tables = Vec::new(alloc);
+    for of_table in rows {
+        tables.push(table(alloc, of_table)?)?;
+    }
+    Ok(tables)
+}
+
+/// A game that asks inside calls and loops.
+pub(super) fn asking_game(alloc: Global) -> Result<Game, Fail> {
+    let game = Game::new(GameParts {
+        words: words(alloc)?,
+        system: system(alloc)?,
+        messages: texts(alloc, &MESSAGES)?,
+        objects: objects(alloc)?,
+        locations: texts(alloc, &LOCATIONS)?,
+        exits: no_exits(alloc, LOCATIONS.len())?,
+        tables: tables(alloc, &TABLES)?,
+    })?;
+    Ok(game)
+}
+
+/// A game of one location with this text, which is described again each time that it was.
+pub(super) fn endless_game(alloc: Global, location: &str) -> Result<Game, Fail> {
+    let game = Game::new(GameParts {
+        words: Vec::new(alloc),
+        system: Vec::new(alloc),
+        messages: Vec::new(alloc),
+        objects: Vec::new(alloc),
+        locations: texts(alloc, &[location])?,
+        exits: no_exits(alloc, 1)?,
+        tables: tables(alloc, &DESCRIBES_AGAIN)?,
+    })?;
+    Ok(game)
+}

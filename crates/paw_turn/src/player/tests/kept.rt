@@ -1,0 +1,219 @@
+// What is kept of a machine that waits inside calls and a loop, whole and with a fault at each place.
+
+use super::game::asking_game;
+use paw_effects::act::Prompt;
+use paw_game::game::Game;
+use paw_process::{Frames, Machine};
+use paw_reading::places::{Frame, OpenLoop};
+use std::test::Fail;
+
+fn row(table: u8, entry: u16, at: u8, acted: bool) -> Frame {
+    Frame {
+        table,
+        entry,
+        at,
+        acted,
+    }
+}
+
+fn turning(level: u8, table: u8, entry: u16, at: u8, place: u8, last: u8) -> OpenLoop {
+    OpenLoop {
+        level,
+        table,
+        entry,
+        at,
+        place,
+        last,
+    }
+}
+
+const UNUSED: Frame = Frame {
+    table: 0,
+    entry: 0,
+    at: 0,
+    acted: false,
+};
+
+/// The key is waited for in a called table, inside its loop over what is carried.
+pub(super) fn waiting() -> Frames {
+    let mut rows = [UNUSED; 11];
+    rows[0] = row(0, 3, 0, true);
+    rows[1] = row(4, 1, 0, true);
+    Frames {
+        count: 2,
+        rows,
+        turning: Some(turning(1, 4, 0, 0, 254, 2)),
+    }
+}
+
+/// So many tables are open, of which these are the first, and no loop is.
+fn opened(count: u8, first: Frame, second: Frame) -> Frames {
+    let mut rows = [UNUSED; 11];
+    rows[0] = first;
+    rows[1] = second;
+    Frames {
+        count,
+        rows,
+        turning: None,
+    }
+}
+
+/// The depth of the fault with which places are refused.
+fn refused_at(game: &Game, kept: &Frames, prompt: Prompt) -> Option<u8> {
+    match Machine::restore(game, kept, prompt) {
+        Ok(_) => None,
+        Err(fault) => Some(fault.depth),
+    }
+}
+
+/// A depth, the row that is put there, and where that is refused.
+const ROWS: [(usize, (u8, u16, u8, bool), Option<u8>); 19] = [
+    // Whether an action was carried out is free.
+    (0, (0, 3, 0, false), None),
+    (1, (4, 1, 0, false), None),
+    // The outermost table is 0, 1 or 2, and calls the next.
+    (0, (3, 0, 0, true), Some(0)),
+    (0, (9, 0, 0, true), Some(0)),
+    (0, (0, 1, 0, true), Some(1)),
+    // The condact isn't there, or is another.
+    (0, (0, 3, 2, true), Some(0)),
+    (0, (0, 19, 0, true), Some(0)),
+    (0, (0, 3, 1, true), Some(0)),
+    (0, (0, 259, 0, true), Some(0)),
+    (1, (4, 1, 2, true), Some(1)),
+    (1, (4, 2, 0, true), Some(1)),
+    (1, (4, 1, 1, true), Some(1)),
+    // The table isn't the one that is called.
+    (1, (3, 0, 0, true), Some(1)),
+    (1, (5, 0, 0, true), Some(1)),
+    // The rows behind them are unused.
+    (2, (4, 0, 0, false), Some(2)),
+    (3, (0, 256, 0, false), Some(3)),
+    (4, (0, 0, 1, false), Some(4)),
+    (5, (0, 0, 0, true), Some(5)),
+    (10, (4, 1, 0, true), Some(10)),
+];
+
+#[test]
+fn rows_are_refused_by_their_depth(rt: HostRuntime) -> Result<(), Fail> {
+    let alloc = rt.alloc();
+    let game = asking_game(alloc)?;
+    for (depth, (table, entry, at, acted), fault) in ROWS {
+        let row = row(table, entry, at, acted);
+        let mut kept = waiting();
+        if let Some(place) = kept.rows.get_mut(depth) {
+            *place = row;
+        }
+        assert_eq!(rt;
+            refused_at(&game, &kept, Prompt::Key),
+            fault,
+            "{depth}: {row:?}"
+        );
+        // The least depth is named.
+        kept.rows[10] = row;
+        let least = fault.unwrap_or(10);
+        assert_eq!(rt;
+            refused_at(&game, &kept, Prompt::Key),
+            Some(least),
+            "{depth}: {row:?}"
+        );
+    }
+    Ok(())
+}
+
+/// Open loops, and where they are refused.
+const LOOPS: [((u8, u8, u16, u8, u8, u8), Option<u8>); 17] = [
+    ((1, 4, 0, 0, 254, 2), None),
+    ((1, 4, 0, 0, 3, 0), None),
+    ((1, 4, 0, 0, 252, 1), None),
+    ((0, 0, 2, 0, 0, 1), None),
+    // The level isn't open, or is of another table.
+    ((2, 0, 2, 0, 0, 1), Some(11)),
+    ((11, 4, 0, 0, 254, 2), Some(11)),
+    ((0, 4, 0, 0, 254, 2), Some(11)),
+    ((1, 0, 2, 0, 0, 1), Some(11)),
+    // The condact isn't there, or is another.
+    ((1, 4, 2, 0, 254, 2), Some(11)),
+    ((1, 4, 0, 1, 254, 2), Some(11)),
+    ((1, 4, 1, 0, 254, 2), Some(11)),
+    ((0, 0, 3, 0, 0, 1), Some(11)),
+    // No object stands at such a place.
+    ((1, 4, 0, 0, 4, 2), Some(11)),
+    ((1, 4, 0, 0, 251, 2), Some(11)),
+    ((1, 4, 0, 0, 255, 2), Some(11)),
+    // There is no such object.
+    ((1, 4, 0, 0, 254, 3), Some(11)),
+    ((1, 4, 0, 0, 254, 255), Some(11)),
+];
+
+#[test]
+fn loops_are_refused_behind_the_rows(rt: HostRuntime) -> Result<(), Fail> {
+    let alloc = rt.alloc();
+    let game = asking_game(alloc)?;
+    for ((level, table, entry, at, place, last), fault) in LOOPS {
+        let turning = turning(level, table, entry, at, place, last);
+        let mut kept = waiting();
+        kept.turning = Some(turning);
+        assert_eq!(rt; refused_at(&game, &kept, Prompt::Key), fault, "{turning:?}");
+        // A row that breaks a rule comes first.
+        kept.rows[1] = UNUSED;
+        assert_eq!(rt;
+            refused_at(&game, &kept, Prompt::Key),
+            Some(1),
+            "{turning:?}"
+        );
+    }
+    Ok(())
+}
+
+#[test]
+fn prompts_want_their_condact_and_their_number_of_rows(rt: HostRuntime) -> Result<(), Fail> {
+    let alloc = rt.alloc();
+    let game = asking_game(alloc)?;
+    let quit = row(0, 6, 0, false);
+    let end = row(0, 6, 1, false);
+    let called = row(3, 0, 0, false);
+    for (prompt, kept, fault) in [
+        (Prompt::Main, opened(0, UNUSED, UNUSED), None),
+        (Prompt::Over, opened(0, UNUSED, UNUSED), None),
+        (Prompt::Quit, opened(1, quit, UNUSED), None),
+        (Prompt::Again, opened(1, end, UNUSED), None),
+        (Prompt::Quit, opened(2, row(0, 1, 0, false), called), None),
+        // The outermost table may not be one that is only called.
+        (Prompt::Quit, opened(1, called, UNUSED), Some(0)),
+        // Another prompt's condact.
+        (Prompt::Again, opened(1, quit, UNUSED), Some(0)),
+        (Prompt::Key, opened(1, quit, UNUSED), Some(0)),
+        (Prompt::Quit, opened(1, end, UNUSED), Some(0)),
+        (Prompt::Quit, waiting(), Some(1)),
+        // Another number of rows.
+        (Prompt::Quit, opened(0, quit, UNUSED), Some(0)),
+        (Prompt::Quit, opened(2, quit, UNUSED), Some(0)),
+        (Prompt::Quit, opened(12, quit, UNUSED), Some(0)),
+        (
+            Prompt::Quit,
+            opened(1, row(0, 1, 0, false), called),
+            Some(0),
+        ),
+        (
+            Prompt::Quit,
+            opened(3, row(0, 1, 0, false), called),
+            Some(1),
+        ),
+        (Prompt::Main, opened(1, quit, UNUSED), Some(0)),
+        (Prompt::Over, waiting(), Some(0)),
+        // Rows where none is used.
+        (Prompt::Main, opened(0, quit, UNUSED), Some(0)),
+        (Prompt::Over, opened(0, UNUSED, called), Some(1)),
+    ] {
+        assert_eq!(rt;
+            refused_at(&game, &kept, prompt),
+            fault,
+            "{prompt:?}, {kept:?}"
+        );
+    }
+    let mut kept = opened(0, UNUSED, UNUSED);
+    kept.turning = Some(turning(0, 0, 2, 0, 0, 1));
+    assert_eq!(rt; refused_at(&game, &kept, Prompt::Main), Some(11));
+    Ok(())
+}
