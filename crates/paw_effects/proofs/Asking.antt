@@ -9,7 +9,6 @@ use Rattle.paw_game.specs.Valid.{is_within}
 use Rattle.paw_world.specs.World.{World}
 use Rattle.paw_effects.specs.declared.act.Prompt.{Prompt}
 use Rattle.paw_effects.specs.declared.act.Prompt.TheVariants as prompt
-use Rattle.paw_effects.specs.declared.act.Truth.{Truth}
 use Rattle.paw_effects.specs.declared.act.Truth.TheVariants as truth
 use Rattle.paw_effects.specs.declared.act.Effect.{Effect}
 use Rattle.paw_effects.specs.declared.act.Effect.TheVariants as effect

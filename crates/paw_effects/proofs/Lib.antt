@@ -3,3 +3,4 @@ mod Parameters
 mod Moves
 pub mod Asking
 mod NextListed
+pub mod Locations

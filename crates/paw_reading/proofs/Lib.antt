@@ -12,3 +12,6 @@ pub mod Ends
 pub mod Followed
 pub mod Past
 pub mod Counts
+pub mod Doall
+pub mod Held
+pub mod Rightly

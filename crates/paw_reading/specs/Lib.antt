@@ -5,3 +5,4 @@ pub mod Rules
 pub mod Turn
 pub mod Longer
 pub mod Pieces
+pub mod Places

@@ -2,6 +2,7 @@
 
 ghost use Rattle.paw_reading.specs.Longer.{TablesGoOn, PathsGoOn, TurnsGoOn, PastStays, LongerReading, LongerText};
 ghost use Rattle.paw_reading.specs.Pieces.{PiecesOfLines};
+ghost use Rattle.paw_reading.specs.Places.{ReadingsStopRightly, GoingOnStopsRightly};
 ghost use Rattle.paw_reading.specs.Rules.{ReadingOn};
 ghost use Rattle.paw_reading.specs.Turn.{TurnsEnd, EndsOnce, GoingOnEnds, GoesOnOnce, GoingOnIsReading};
 
@@ -53,4 +54,11 @@ pub fn longer_reading()
 /// A reading closes one piece before its lines, and one for each line that it took.
 pub fn pieces_of_lines()
     ensures counted { PiecesOfLines }
+{}
+
+/// A reading of a valid game waits where it may: the open tables lead from one to the next, each by its PROCESS, to QUIT,
+/// END or ANYKEY, and the open loop is one of theirs; at the main prompt nothing is open and nothing is left of the line.
+pub fn stops_rightly()
+    ensures readings { ReadingsStopRightly }
+    ensures going_on { GoingOnStopsRightly }
 {}

@@ -1,0 +1,76 @@
+-- No condact changes the number of locations.
+use Rattle.std.proofs.Common.{◌≡◌, ℕ, ◌==◌, Bool, true, false, List, Option, Some, None, refl, slice_get}
+use Rattle.std.specs.Prelude.{if◌then◌else◌}
+use Rattle.paw_base.specs.declared.parts.Condact.{Condact}
+use Rattle.paw_base.specs.declared.parts.ObjectFacts.{ObjectFacts}
+use Rattle.paw_game.specs.Game.{GameLists}
+use Rattle.paw_world.specs.World.{World, Position, taken_from, with_flag, place}
+use Rattle.paw_effects.specs.Done.{Done}
+use Rattle.paw_effects.specs.FlowActions.{is_flow, flow_of}
+use Rattle.paw_effects.specs.TextActions.{is_print}
+use Rattle.paw_effects.specs.FlagActions.{change_of}
+use Rattle.paw_effects.specs.Effects.{effect_of, facts_written, referred}
+use Rattle.paw_effects.specs.Holds.{Tested, moves_to, holds}
+use Rattle.paw_effects.specs.PlaceTests.{tests_place}
+
+-- ---- what holds in both cases ----
+
+pub world_of : (n : ℕ) (b : Bool) (x y : World) → x.locations ≡ n → y.locations ≡ n → (if b then x else y).locations ≡ n
+world_of n true x y h k = h
+world_of n false x y h k = k
+
+done_of : (n : ℕ) (b : Bool) (x y : Done) → x.world.locations ≡ n → y.world.locations ≡ n → (if b then x else y).world.locations ≡ n
+done_of n true x y h k = h
+done_of n false x y h k = k
+
+tested_of : (n : ℕ) (b : Bool) (x y : Tested) → x.world.locations ≡ n → y.world.locations ≡ n → (if b then x else y).world.locations ≡ n
+tested_of n true x y h k = h
+tested_of n false x y h k = k
+
+-- ---- actions ----
+
+flow_stays : (g : GameLists) (w : World) (c : Condact) → (flow_of g w c).world.locations ≡ w.locations
+unfolding flow_of
+flow_stays g w c =
+    let n : ℕ = w.locations in
+    done_of n (c.code == 30) _ _ refl (done_of n (c.code == 31) _ _ refl (done_of n (c.code == 32) _ _ refl (done_of n (c.code == 33) _ _ refl
+    (done_of n (c.code == 34) _ _ refl (done_of n (c.code == 35) _ _ refl (done_of n (c.code == 84) _ _ refl (done_of n (c.code == 85) _ _ refl refl)))))))
+
+loaded_stays : (w : World) (n : ℕ) (saved : Option Position) → (taken_from w n saved).locations ≡ w.locations
+loaded_stays w n None = refl
+loaded_stays w n (Some q) = refl
+
+change_stays : (w : World) (c : Condact) → (change_of w c).locations ≡ w.locations
+unfolding change_of
+change_stays w c =
+    let n : ℕ = w.locations in
+    world_of n (c.code == 38) _ _ refl (world_of n (c.code == 39) _ _ (loaded_stays w c.a w.saved) (world_of n (c.code == 49) _ _ refl
+    (world_of n (c.code == 66) _ _ refl (world_of n (c.code == 67) _ _ refl (world_of n (c.code == 68) _ _ refl (world_of n (c.code == 69) _ _ refl
+    (world_of n (c.code == 70) _ _ refl (world_of n (c.code == 71) _ _ refl (world_of n (c.code == 72) _ _ refl (world_of n (c.code == 73) _ _ refl
+    (world_of n (c.code == 77) _ _ refl refl)))))))))))
+
+pub effect_stays : (g : GameLists) (X : List (List ℕ)) (w : World) (c : Condact) → (effect_of g X w c).world.locations ≡ w.locations
+unfolding effect_of
+effect_stays g X w c =
+    let n : ℕ = w.locations in
+    done_of n (is_flow c.code) _ _ (flow_stays g w c) (done_of n (is_print c.code) _ _ refl (change_stays w c))
+
+facts_stay : (w : World) (o : ℕ) (f : Option ObjectFacts) → (facts_written w o f).locations ≡ w.locations
+facts_stay w o None = refl
+facts_stay w o (Some f) = refl
+
+pub referred_stays : (w : World) (o : ℕ) → (referred w o).locations ≡ w.locations
+referred_stays w o = facts_stay (with_flag (with_flag w 51 o) 54 (place w o)) o (slice_get w.facts o)
+
+-- ---- conditions ----
+
+moves_stay : (w : World) (f : ℕ) (to : Option ℕ) → (moves_to w f to).world.locations ≡ w.locations
+moves_stay w f None = refl
+moves_stay w f (Some to) = refl
+
+pub condition_stays : (g : GameLists) (w : World) (c : Condact) → (holds g w c).world.locations ≡ w.locations
+unfolding holds
+condition_stays g w c =
+    let n : ℕ = w.locations in
+    tested_of n (tests_place c.code) _ _ refl (tested_of n (c.code == 10) _ _ refl (tested_of n (c.code == 27) _ _ refl
+    (tested_of n (c.code == 28) _ _ (moves_stay w c.a _) refl)))

@@ -1,0 +1,164 @@
+-- Each reading of a valid game stops rightly.
+use Rattle.std.proofs.Common.{◌≡◌, ℕ, zero, suc, ◌≤◌, Bool, true, false, List, [], ◌∷◌, Option, Some, None, refl, sym, ◌∙◌, subst, length, arith}
+use Rattle.std.specs.Prelude.{if◌then◌else◌}
+use Rattle.paw_base.specs.declared.fault.SpentKind.TheVariants as spent
+use Rattle.paw_game.specs.Game.{GameLists}
+use Rattle.paw_game.specs.Tables.{exit_at}
+use Rattle.paw_game.specs.Valid.{Valid}
+use Rattle.paw_world.specs.World.{World, flag, with_flag, is_dark, is_unlit, fallen, fallen_if}
+use Rattle.paw_phrase.specs.Sentence.{Parsed, IsSentence, IsUnknown, IsNoPhrase, parsed}
+use Rattle.paw_effects.specs.declared.act.Prompt.{Prompt}
+use Rattle.paw_effects.specs.declared.act.Prompt.TheVariants as prompt
+use Rattle.paw_effects.specs.Texts.{say_text}
+use Rattle.paw_effects.proofs.Asking.{AsksAt}
+use Rattle.paw_reading.specs.declared.places.Frame.{Frame}
+use Rattle.paw_reading.specs.declared.places.OpenLoop.{OpenLoop}
+use Rattle.paw_reading.specs.Run.{Run, closed, fits, printed, with_world, line_dropped, is_timeout, is_ignored, heard, with_timeout, taken_phrase}
+use Rattle.paw_reading.specs.Reading.{Out, Left, Waits, Redescribes, Restarts, Ends, IsSpent, IsDeep, table_read}
+use Rattle.paw_reading.specs.Turn.{Stage, AtDescribe, AtFrame, AtPhrase, AtResponse, Ending, RunsOut, saying, described, framed, view_text, counted, prompt_text, line_set, at_main, after_phrase, refusal_text, connected, after_left, table_done, turn, stages_left, opening, first_table, in_table, goes_on}
+use Rattle.paw_reading.specs.Places.{LeadsTo, tables_of, AreOpenTo, MayWait, LineTaken, StopsRightly, ReadingsStopRightly, GoingOnStopsRightly}
+use Rattle.paw_reading.proofs.Held.{Sound, Held, none_open, table_held, path_held}
+
+-- ---- worlds ----
+
+fallen_stays : (b : Bool) (n : ℕ) (w : World) → (fallen_if b n w).locations ≡ w.locations
+fallen_stays true n w = refl
+fallen_stays false n w = refl
+
+described_stays : (w : World) → (described w).locations ≡ w.locations
+described_stays w =
+    let dark : World = fallen_if (is_dark w) 3 (fallen 2 w) in
+    fallen_stays (is_unlit w) 4 dark ∙ fallen_stays (is_dark w) 3 (fallen 2 w)
+
+framed_stays : (w : World) → (framed w).locations ≡ w.locations
+framed_stays w =
+    let first : World = fallen 8 (fallen 7 (fallen 6 (fallen 5 w))) in
+    fallen_stays (is_unlit w) 10 (fallen_if (is_dark w) 9 first) ∙ fallen_stays (is_dark w) 9 first
+
+-- ---- waits in tables ----
+
+open_to : (g : GameLists) (code t : ℕ) (path : List Frame) (n : ℕ) (o : Option OpenLoop) → t ≤ 2 → length path ≤ 11 → first_table path ≡ t → LeadsTo g code path
+    → Sound g (tables_of path) n o → AreOpenTo g code path o
+open_to g code t path n o low few first leads k = record { few = few; outermost = subst (λ u. u ≤ 2) (sym first) low; leads = leads; loop = k.loop }
+
+may_wait : (g : GameLists) (t code : ℕ) (p : Prompt) (path : List Frame) (n : ℕ) (o : Option OpenLoop) → t ≤ 2 → AsksAt code p → length path ≤ 11 → first_table path ≡ t
+    → LeadsTo g code path → Sound g (tables_of path) n o → MayWait g p path o
+may_wait g t code prompt.Main path n o low asks few first leads k = absurd asks
+may_wait g t code prompt.Quit path n o low asks few first leads k = open_to g 27 t path n o low few first (subst (λ c. LeadsTo g c path) asks leads) k
+may_wait g t code prompt.Again path n o low asks few first leads k = open_to g 31 t path n o low few first (subst (λ c. LeadsTo g c path) asks leads) k
+may_wait g t code prompt.Key path n o low asks few first leads k = open_to g 35 t path n o low few first (subst (λ c. LeadsTo g c path) asks leads) k
+may_wait g t code prompt.Over path n o low asks few first leads k = absurd asks
+
+some_path : (g : GameLists) (code : ℕ) (path : List Frame) (r : Run) → LeadsTo g code path → LineTaken path r
+some_path g code [] r leads = absurd leads
+some_path g code (f ∷ path) r leads = λ e. cc
+
+-- ---- turns ----
+
+-- what holds in both cases
+one_of : (P : Ending → Type 0) (b : Bool) (x y : Ending) → P x → P y → P (if b then x else y)
+one_of P true x y h k = h
+one_of P false x y h k = k
+
+module _ (g : GameLists) (v : Valid g) (X : List (List ℕ)) where
+  abbrev IsRightly : Ending → Type 0
+  IsRightly e = StopsRightly g e
+
+  -- the world is the game's, and no loop is open
+  record IsBetween (r : Run) : Type 0 where
+    of : r.world.locations ≡ length g.locations
+    none : r.turning ≡ None
+
+  abbrev GoRightly : (Run → Ending) → Type 0
+  GoRightly go = (r : Run) → IsBetween r → IsRightly (go r)
+
+  saying_rightly : (text : List ℕ) (go : Run → Ending) → GoRightly go → GoRightly (saying text go)
+  saying_rightly text go h r k =
+      one_of IsRightly (fits r text) _ (RunsOut spent.Text r) (h (printed text r) (record { of = k.of; none = k.none })) tt
+
+  module _ (go : Stage → Run → Ending) (goes : (s : Stage) → GoRightly (go s)) where
+    connected_rightly : (to : Option ℕ) → GoRightly (λ r. connected g (go AtDescribe) (go AtFrame) r to)
+    connected_rightly None r k =
+        saying_rightly (refusal_text g r.world) (go AtFrame) (goes AtFrame) (line_dropped r) (record { of = k.of; none = k.none })
+    connected_rightly (Some to) r k = goes AtDescribe (with_world (with_flag r.world 38 to) r) (record { of = k.of; none = k.none })
+
+    after_left_rightly : (t : ℕ) (a : Bool) → GoRightly (after_left g go t a)
+    after_left_rightly zero true r k = goes AtFrame r k
+    after_left_rightly zero false r k = connected_rightly (exit_at g (flag r.world 38) (flag r.world 33)) r k
+    after_left_rightly (suc zero) a r k = goes AtFrame r k
+    after_left_rightly (suc (suc t)) a r k =
+        goes AtPhrase (with_world (framed r.world) r) (record { of = framed_stays r.world ∙ k.of; none = k.none })
+
+    between : (r : Run) → Sound g [] r.world.locations r.turning → IsBetween r
+    between r k = record { of = k.of; none = none_open g r.world.locations r.turning k }
+
+    table_done_rightly : (t : ℕ) → t ≤ 2 → (x : Out) → Held g [] [] t x → IsRightly (table_done g go t x)
+    table_done_rightly t low (Left a r) k = after_left_rightly t a r (between r k)
+    table_done_rightly t low (Waits p path r) k =
+        (may_wait g t k.code p path r.world.locations r.turning low k.asks (omega (arith, k.few)) k.first k.leads k.sound, some_path g k.code path r k.leads)
+    table_done_rightly t low (Redescribes r) k = goes AtDescribe r (between r k)
+    table_done_rightly t low (Restarts r) k = goes AtDescribe r (between r k)
+    table_done_rightly t low (Ends r) k = k
+    table_done_rightly t low (IsSpent kind r) k = tt
+    table_done_rightly t low (IsDeep u r) k = tt
+
+    read_rightly : (t : ℕ) → t ≤ 2 → GoRightly (λ r. table_done g go t (table_read g X t r))
+    read_rightly t low r k = table_done_rightly t low (table_read g X t r) (table_held g v X t r k.of k.none)
+
+    at_main_rightly : (r : Run) (lines : List (List ℕ)) → IsBetween r → r.pending ≡ [] → IsRightly (at_main g (go AtFrame) (go AtPhrase) r lines)
+    unfolding at_main
+    at_main_rightly r [] k empty = ((refl, k.none), λ e. empty)
+    at_main_rightly r (line ∷ lines) k empty =
+        let s : Run = record r { events = lines } in
+        one_of IsRightly (is_ignored r.world line) _ _
+        (at_main_rightly (closed s) lines (record { of = k.of; none = k.none }) empty)
+        (one_of IsRightly (is_timeout line) _ _
+        (saying_rightly (say_text g (with_timeout true r.world) 35) (go AtFrame) (goes AtFrame) (heard line s) (record { of = k.of; none = k.none }))
+        (goes AtPhrase (line_set line s) (record { of = k.of; none = k.none })))
+
+    after_phrase_rightly : (p : Parsed) → GoRightly (λ r. after_phrase g (go AtFrame) (go AtPhrase) (go AtResponse) r p)
+    after_phrase_rightly (IsSentence s rest) r k =
+        goes AtResponse (with_world (counted (taken_phrase s rest r).world) (taken_phrase s rest r)) (record { of = k.of; none = k.none })
+    after_phrase_rightly (IsUnknown rest) r k =
+        saying_rightly (say_text g r.world 6) (go AtFrame) (goes AtFrame) (line_dropped r) (record { of = k.of; none = k.none })
+    after_phrase_rightly IsNoPhrase r k =
+        one_of IsRightly (fits (line_dropped r) (prompt_text g r.world)) _ (RunsOut spent.Text (line_dropped r))
+        (at_main_rightly (closed (printed (prompt_text g r.world) (line_dropped r))) r.events (record { of = k.of; none = k.none }) refl) tt
+
+  turn_rightly : (n : ℕ) (s : Stage) → GoRightly (turn g X n s)
+  unfolding turn
+  turn_rightly zero s r k = tt
+  turn_rightly (suc n) AtDescribe r k =
+      saying_rightly (view_text g (described r.world)) (λ q. table_done g (turn g X n) 1 (table_read g X 1 q)) (read_rightly (turn g X n) (turn_rightly n) 1 (omega arith))
+      (with_world (described r.world) r) (record { of = described_stays r.world ∙ k.of; none = k.none })
+  turn_rightly (suc n) AtFrame r k = read_rightly (turn g X n) (turn_rightly n) 2 (omega arith) r k
+  turn_rightly (suc n) AtPhrase r k =
+      after_phrase_rightly (turn g X n) (turn_rightly n) (parsed g r.pending r.earlier (flag r.world 46) (flag r.world 47)) r k
+  turn_rightly (suc n) AtResponse r k = read_rightly (turn g X n) (turn_rightly n) 0 (omega arith) r k
+
+  -- ---- going on ----
+
+  in_table_rightly : (n : ℕ) (p : Prompt) (code : ℕ) (path : List Frame) (r : Run) → r.world.locations ≡ length g.locations → AsksAt code p → AreOpenTo g code path r.turning
+      → IsRightly (in_table g X n p path r)
+  in_table_rightly n p code [] r of asks at = absurd at.leads
+  in_table_rightly n p code (f ∷ path) r of asks at =
+      table_done_rightly (turn g X n) (turn_rightly n) f.table at.outermost _
+      (path_held g v X p code [] 0 f path r refl asks (omega (arith, at.few)) at.leads (record { of = of; loop = at.loop }))
+
+  goes_on_rightly : (n : ℕ) (p : Prompt) (path : List Frame) (r : Run) → r.world.locations ≡ length g.locations → MayWait g p path r.turning → LineTaken path r
+      → IsRightly (goes_on g X n p path r)
+  goes_on_rightly n prompt.Main path r of at empty =
+      at_main_rightly (turn g X n) (turn_rightly n) r r.events (record { of = of; none = at.1 }) (empty at.0)
+  goes_on_rightly n prompt.Quit path r of at empty = in_table_rightly n prompt.Quit 27 path r of refl at
+  goes_on_rightly n prompt.Again path r of at empty = in_table_rightly n prompt.Again 31 path r of refl at
+  goes_on_rightly n prompt.Key path r of at empty = in_table_rightly n prompt.Key 35 path r of refl at
+  goes_on_rightly n prompt.Over path r of at empty = absurd at
+
+-- each reading
+pub readings_stop_rightly : ReadingsStopRightly
+readings_stop_rightly g X seed es v =
+    turn_rightly g v X (stages_left AtDescribe (opening g seed es)) AtDescribe (opening g seed es) (record { of = refl; none = refl })
+
+-- and going on
+pub going_on_stops_rightly : GoingOnStopsRightly
+going_on_stops_rightly g X p path r v of at empty = goes_on_rightly g v X (stages_left AtResponse r) p path r of at empty

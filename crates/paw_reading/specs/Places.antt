@@ -1,0 +1,81 @@
+-- Where a run may wait: the tables that are open, the condacts at which they stand, and the object loop.
+use Rattle.std.specs.Prelude.{◌≡◌, ℕ, ◌<◌, ◌≤◌, List, [], ◌∷◌, Option, Some, None, length, map, slice_get, IfSome, IsTrue}
+use Rattle.paw_base.specs.declared.parts.Condact.{Condact}
+use Rattle.paw_game.specs.Game.{GameLists}
+use Rattle.paw_game.specs.Tables.{condact_at}
+use Rattle.paw_game.specs.Valid.{Valid, is_place}
+use Rattle.paw_effects.specs.declared.act.Prompt.{Prompt}
+use Rattle.paw_effects.specs.declared.act.Prompt.TheVariants as prompt
+use Rattle.paw_reading.specs.declared.places.Frame.{Frame}
+use Rattle.paw_reading.specs.declared.places.OpenLoop.{OpenLoop}
+use Rattle.paw_reading.specs.Run.{Run}
+use Rattle.paw_reading.specs.Turn.{Ending, WaitsAt, IsOver, RunsOut, CallsTooDeep, Unended, reading, first_table, on}
+
+-- a condact with this code stands there
+pub record IsAt (g : GameLists) (code t e k : ℕ) : Type 0 where
+  pub condact : Condact
+  pub stands : condact_at g t e k ≡ Some condact
+  pub is : condact.code ≡ code
+
+-- a PROCESS stands at the frame, and calls this table
+pub record IsCallOf (g : GameLists) (u : ℕ) (f : Frame) : Type 0 where
+  pub condact : Condact
+  pub stands : condact_at g f.table f.entry f.at ≡ Some condact
+  pub process : condact.code ≡ 85
+  pub called : condact.a ≡ u
+
+-- each frame but the last stands at a call of the next one's table, and the last at a condact with this code
+abbrev pub LeadsTo : GameLists → ℕ → List Frame → Type 0
+LeadsTo g code [] = ⊥
+LeadsTo g code (f ∷ []) = IsAt g code f.table f.entry f.at
+LeadsTo g code (f ∷ h ∷ path) = IsCallOf g h.table f × LeadsTo g code (h ∷ path)
+
+-- the tables that are open, the outermost first
+abbrev pub tables_of : List Frame → List ℕ
+tables_of path = map (λ f. f.table) path
+
+-- a loop of one of these tables, by its level: it was opened by a DOALL, goes over the objects at a place of the game, and
+-- took one of the game's objects last
+pub record IsLoopIn (g : GameLists) (tables : List ℕ) (l : OpenLoop) : Type 0 where
+  pub level : slice_get tables l.level ≡ Some l.table
+  pub doall : IsAt g 86 l.table l.entry l.at
+  pub place : IsTrue (is_place (length g.locations) l.place)
+  pub last : l.last < length g.objects
+
+-- tables are open from 0, 1 or 2 to a condact with this code, eleven at most, and the loop is one of theirs
+pub record AreOpenTo (g : GameLists) (code : ℕ) (path : List Frame) (turning : Option OpenLoop) : Type 0 where
+  pub few : length path ≤ 11
+  pub outermost : first_table path ≤ 2
+  pub leads : LeadsTo g code path
+  pub loop : IfSome turning (IsLoopIn g (tables_of path))
+
+-- the places at which a run may wait: at the main prompt nothing is open; in tables it waits at QUIT, END or ANYKEY
+abbrev pub MayWait : GameLists → Prompt → List Frame → Option OpenLoop → Type 0
+MayWait g prompt.Main path turning = (path ≡ []) × (turning ≡ None)
+MayWait g prompt.Quit path turning = AreOpenTo g 27 path turning
+MayWait g prompt.Again path turning = AreOpenTo g 31 path turning
+MayWait g prompt.Key path turning = AreOpenTo g 35 path turning
+MayWait g prompt.Over path turning = ⊥
+
+-- nothing is left of the line at the main prompt
+abbrev pub LineTaken : List Frame → Run → Type 0
+LineTaken path r = path ≡ [] → r.pending ≡ []
+
+-- a reading stops rightly: it waits where it may; or it is over, with no loop open and nothing left of the line
+abbrev pub StopsRightly : GameLists → Ending → Type 0
+StopsRightly g (WaitsAt p path r) = MayWait g p path r.turning × LineTaken path r
+StopsRightly g (IsOver r) = (r.turning ≡ None) × (r.pending ≡ [])
+StopsRightly g (RunsOut kind r) = Unit {0}
+StopsRightly g (CallsTooDeep u r) = Unit {0}
+StopsRightly g Unended = Unit {0}
+
+-- ---- the laws ----
+
+-- each reading of a valid game stops rightly
+abbrev pub ReadingsStopRightly : Type 0
+ReadingsStopRightly = (g : GameLists) (X : List (List ℕ)) (seed : ℕ) (es : List (List ℕ)) → Valid g → StopsRightly g (reading g X seed es)
+
+-- so does going on from where a run may wait
+abbrev pub GoingOnStopsRightly : Type 0
+GoingOnStopsRightly = (g : GameLists) (X : List (List ℕ)) (p : Prompt) (path : List Frame) (r : Run) → Valid g →
+    r.world.locations ≡ length g.locations → MayWait g p path r.turning → LineTaken path r → StopsRightly g (on g X p path r)
