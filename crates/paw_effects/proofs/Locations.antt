@@ -1,14 +1,17 @@
 -- No condact changes the number of locations.
-use Rattle.std.proofs.Common.{◌≡◌, ℕ, ◌==◌, Bool, true, false, List, Option, Some, None, refl, slice_get}
-use Rattle.std.specs.Prelude.{if◌then◌else◌}
+use Rattle.std.proofs.Common.{◌≡◌, ℕ, ◌==◌, ◌+◌, ◌-◌, ◌∙◌, Bool, true, false, List, [], ◌∷◌, Option, Some, None, refl, length, slice_get}
+use Rattle.std.specs.Prelude.{min, fold, nat_lt, if◌then◌else◌}
 use Rattle.paw_base.specs.declared.parts.Condact.{Condact}
 use Rattle.paw_base.specs.declared.parts.ObjectFacts.{ObjectFacts}
 use Rattle.paw_game.specs.Game.{GameLists}
-use Rattle.paw_world.specs.World.{World, Position, taken_from, with_flag, place}
+use Rattle.paw_game.specs.Valid.{is_within}
+use Rattle.paw_world.specs.World.{World, Position, taken_from, flag, with_flag, place, here, let_go, moved}
 use Rattle.paw_effects.specs.Done.{Done}
 use Rattle.paw_effects.specs.FlowActions.{is_flow, flow_of}
 use Rattle.paw_effects.specs.TextActions.{is_print}
 use Rattle.paw_effects.specs.FlagActions.{change_of}
+use Rattle.paw_effects.specs.MoveActions.{is_move, move_of, names_place}
+use Rattle.paw_effects.specs.Presence.{named_place, held_objects}
 use Rattle.paw_effects.specs.Effects.{effect_of, facts_written, referred}
 use Rattle.paw_effects.specs.Holds.{Tested, moves_to, holds}
 use Rattle.paw_effects.specs.PlaceTests.{tests_place}
@@ -34,7 +37,8 @@ unfolding flow_of
 flow_stays g w c =
     let n : ℕ = w.locations in
     done_of n (c.code == 30) _ _ refl (done_of n (c.code == 31) _ _ refl (done_of n (c.code == 32) _ _ refl (done_of n (c.code == 33) _ _ refl
-    (done_of n (c.code == 34) _ _ refl (done_of n (c.code == 35) _ _ refl (done_of n (c.code == 84) _ _ refl (done_of n (c.code == 85) _ _ refl refl)))))))
+    (done_of n (c.code == 34) _ _ refl (done_of n (c.code == 35) _ _ refl (done_of n (is_within 36 37 c.code) _ _ refl (done_of n (c.code == 84) _ _ refl
+    (done_of n (c.code == 85) _ _ refl refl))))))))
 
 loaded_stays : (w : World) (n : ℕ) (saved : Option Position) → (taken_from w n saved).locations ≡ w.locations
 loaded_stays w n None = refl
@@ -47,13 +51,39 @@ change_stays w c =
     world_of n (c.code == 38) _ _ refl (world_of n (c.code == 39) _ _ (loaded_stays w c.a w.saved) (world_of n (c.code == 49) _ _ refl
     (world_of n (c.code == 66) _ _ refl (world_of n (c.code == 67) _ _ refl (world_of n (c.code == 68) _ _ refl (world_of n (c.code == 69) _ _ refl
     (world_of n (c.code == 70) _ _ refl (world_of n (c.code == 71) _ _ refl (world_of n (c.code == 72) _ _ refl (world_of n (c.code == 73) _ _ refl
-    (world_of n (c.code == 77) _ _ refl refl)))))))))))
+    (world_of n (c.code == 77) _ _ refl (world_of n (c.code == 81) _ _ refl (world_of n (c.code == 82) _ _ refl (world_of n (c.code == 83) _ _ refl
+    (world_of n (c.code == 87) _ _ refl (world_of n (c.code == 88) _ _ refl refl))))))))))))))))
+
+let_go_stays : (w : World) (b : Bool) (x : ℕ) → (if b then with_flag w 1 x else w).locations ≡ w.locations
+let_go_stays w true x = refl
+let_go_stays w false x = refl
+
+pub moved_stays : (w : World) (o p : ℕ) → (moved w o p).locations ≡ w.locations
+moved_stays w o p =
+    let free : World = let_go w (place w o) in
+    world_of w.locations (place w o == p) _ _ refl
+    (let_go_stays free (p == 254) (min 255 (flag free 1 + 1)) ∙ let_go_stays w (place w o == 254) (flag w 1 - 1))
+
+all_stay : (w : World) (p : ℕ) (objects : List ℕ) → (fold (λ v o. moved v o p) w objects).locations ≡ w.locations
+all_stay w p [] = refl
+all_stay w p (o ∷ objects) = all_stay (moved w o p) p objects ∙ moved_stays w o p
+
+move_stays : (w : World) (c : Condact) → (move_of w c).locations ≡ w.locations
+unfolding move_of
+move_stays w c =
+    let n : ℕ = w.locations in
+    world_of n (c.code == 42) _ _ (all_stay w (here w) (held_objects w)) (world_of n (c.code == 61) _ _ (moved_stays w c.a (here w)) (world_of n (c.code == 62) _ _ (moved_stays w c.a 252)
+    (world_of n (c.code == 63) _ _ (moved_stays (moved w c.a (place w c.b)) c.b (place w c.a) ∙ moved_stays w c.a (place w c.b)) (world_of n (c.code == 64) _ _ (moved_stays w c.a (named_place w c.b))
+    (world_of n (c.code == 65) _ _ (world_of n (nat_lt (flag w 51) (length w.places)) _ _ (moved_stays w (flag w 51) (named_place w c.a)) refl)
+    (world_of n (c.code == 74) _ _ (moved_stays w c.b (place w c.a)) (world_of n (c.code == 75) _ _ refl
+    (world_of n (names_place w (flag w c.a)) _ _ (moved_stays w c.b (named_place w (flag w c.a))) refl))))))))
 
 pub effect_stays : (g : GameLists) (X : List (List ℕ)) (w : World) (c : Condact) → (effect_of g X w c).world.locations ≡ w.locations
 unfolding effect_of
 effect_stays g X w c =
     let n : ℕ = w.locations in
-    done_of n (is_flow c.code) _ _ (flow_stays g w c) (done_of n (is_print c.code) _ _ refl (change_stays w c))
+    done_of n (is_flow c.code) _ _ (flow_stays g w c) (done_of n (is_print c.code) _ _ refl (done_of n (is_move c.code) _ _ (move_stays w c)
+    (done_of n (c.code == 89) _ _ refl (done_of n (c.code == 90) _ _ refl (change_stays w c)))))
 
 facts_stay : (w : World) (o : ℕ) (f : Option ObjectFacts) → (facts_written w o f).locations ≡ w.locations
 facts_stay w o None = refl
