@@ -4,3 +4,4 @@ mod Moves
 pub mod Asking
 mod NextListed
 pub mod Locations
+mod Facts

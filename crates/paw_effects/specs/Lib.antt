@@ -2,6 +2,7 @@ pub mod Parameters
 pub mod Presence
 pub mod Chance
 pub mod Built
+pub mod Opening
 pub mod Texts
 pub mod PlaceTests
 pub mod FlagTests

@@ -11,6 +11,7 @@ mod flow_actions;
 mod lists;
 mod marks;
 mod move_actions;
+pub mod opening;
 mod place_tests;
 pub mod presence;
 #[cfg(test)]

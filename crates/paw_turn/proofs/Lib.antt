@@ -10,6 +10,5 @@ pub mod Hearing
 pub mod Answering
 pub mod Renewing
 pub mod Settling
-pub mod Facts
 pub mod Seating
 pub mod Ready

@@ -9,6 +9,7 @@ use Rattle.paw_game.specs.Valid.{Valid}
 use Rattle.paw_effects.specs.declared.act.Prompt.{Prompt}
 use Rattle.paw_effects.specs.declared.act.Prompt.TheVariants as prompt
 use Rattle.paw_effects.specs.Built.{AllBuilt, IsOf}
+use Rattle.paw_effects.specs.Opening.{opening_world}
 use Rattle.paw_reading.specs.declared.places.Frame.{Frame}
 use Rattle.paw_reading.specs.declared.places.OpenLoop.{OpenLoop}
 use Rattle.paw_reading.specs.Turn.{first_table}
@@ -20,7 +21,7 @@ use Rattle.paw_process.proofs.Restored.{first_of, second, no_first}
 use Rattle.paw_process.proofs.Again.{restored_again}
 use Rattle.paw_turn.specs.declared.Step.{Step}
 use Rattle.paw_turn.specs.declared.Step.TheVariants as step
-use Rattle.paw_turn.specs.Player.{Seat, IsLoopOf, WaitsIn, Stands, IsSeated, opening_world}
+use Rattle.paw_turn.specs.Player.{Seat, IsLoopOf, WaitsIn, Stands, IsSeated}
 use Rattle.paw_turn.proofs.Renewing.{length_flags}
 use Rattle.paw_turn.specs.Parts.{step_at, prompt_at, IsStanding, Fits, seat_at, RestoredFits, SeatedAgain}
 

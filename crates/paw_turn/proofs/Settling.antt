@@ -4,6 +4,7 @@ use Rattle.paw_game.specs.Game.{GameLists}
 use Rattle.paw_world.specs.World.{World}
 use Rattle.paw_phrase.specs.Pending.{PendingLine}
 use Rattle.paw_effects.specs.declared.act.Prompt.{Prompt}
+use Rattle.paw_effects.specs.Opening.{opening_world}
 use Rattle.paw_reading.specs.declared.places.OpenLoop.{OpenLoop}
 use Rattle.paw_reading.specs.Run.{Run, Step as Read, closed}
 use Rattle.paw_reading.specs.Turn.{Ending, Unended, AtDescribe, AtResponse, turns_from, stages_left, opening, reading, on}
@@ -14,7 +15,7 @@ use Rattle.paw_turn.specs.declared.Step.TheVariants as step
 use Rattle.paw_turn.specs.declared.stage.Stage.TheVariants as stage
 use Rattle.paw_turn.specs.declared.stage.Next.TheVariants as next
 use Rattle.paw_turn.specs.declared.turn.Turn.{Turn}
-use Rattle.paw_turn.specs.Player.{PlaysTo, IsNew, run_at, opening_world}
+use Rattle.paw_turn.specs.Player.{PlaysTo, IsNew, run_at}
 use Rattle.paw_turn.specs.Stages.{Past, run_of, having_read, StopsAs, PlaysAs, Plays, from_stage, from_prompt, seat_of, settled, opened_piece}
 
 -- an ending that comes once is the whole's

@@ -1,12 +1,13 @@
 -- What a player's answers mean in the reading.
-use Rattle.std.specs.Prelude.{◌≡◌, ℕ, List, [], ◌∷◌, ◌++◌, Option, None, length, map, reverse, IfSome}
+use Rattle.std.specs.Prelude.{◌≡◌, ℕ, List, [], ◌∷◌, ◌++◌, Option, None, length, reverse, IfSome}
 use Rattle.paw_game.specs.Game.{GameLists}
 use Rattle.paw_game.specs.Valid.{Valid}
-use Rattle.paw_world.specs.World.{World, opened}
+use Rattle.paw_world.specs.World.{World}
 use Rattle.paw_phrase.specs.Pending.{PendingLine}
 use Rattle.paw_effects.specs.declared.act.Prompt.{Prompt}
 use Rattle.paw_effects.specs.declared.act.Prompt.TheVariants as prompt
 use Rattle.paw_effects.specs.Built.{AllBuilt, IsOf}
+use Rattle.paw_effects.specs.Opening.{opening_world}
 use Rattle.paw_reading.specs.declared.places.OpenLoop.{OpenLoop}
 use Rattle.paw_reading.specs.Run.{Run, Step as Read}
 use Rattle.paw_reading.specs.Turn.{Ending, IsOver, RunsOut, CallsTooDeep, first_table, on}
@@ -90,10 +91,6 @@ pub record IsSeated (p : Seat) : Type 0 where
   pub built : AllBuilt p.game
   pub world : IsOf p.game p.world
   pub machine : Stands p.last p.machine
-
--- the world at the start of a game
-abbrev pub opening_world : GameLists → ℕ → World
-opening_world g seed = opened (map (λ o. o.facts) g.objects) (length g.locations) seed
 
 -- a player that is new: the game is at its start, and no piece was made
 pub record IsNew (p : Seat) (seed : ℕ) : Type 0 where

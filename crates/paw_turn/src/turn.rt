@@ -4,6 +4,7 @@ ghost use Rattle.std.specs.Prelude.{◌≡◌, ℕ, suc, ◌+◌, ◌*◌, ◌<�
 ghost use Rattle.paw_base.specs.Piece.{Puts};
 ghost use Rattle.paw_game.specs.Valid.{Valid};
 ghost use Rattle.paw_effects.specs.Built.{AllBuilt, IsOf};
+ghost use Rattle.paw_effects.specs.Opening.{opening_world};
 ghost use Rattle.paw_effects.specs.Texts.{say_text};
 ghost use Rattle.paw_reading.specs.Run.{line_dropped};
 ghost use Rattle.paw_reading.specs.Reading.{table_read};
@@ -11,21 +12,19 @@ ghost use Rattle.paw_reading.specs.Turn.{saying, view_text, prompt_text, refusal
 ghost use Rattle.paw_process.specs.OpenTables.{IsClosed};
 ghost use Rattle.paw_turn.specs.declared.stage.Stage.TheVariants as stage;
 ghost use Rattle.paw_turn.specs.declared.stage.Next.TheVariants as next;
-ghost use Rattle.paw_turn.specs.Player.{opening_world};
 ghost use Rattle.paw_turn.specs.Stages.{at_stage, settled, opened_piece, Moves, Reads, Plays, MovesAfter, IsPlayable, Keeps, StopsInTable, left_of, work, Falls, or_spent, table_rank, FallsAfter, RunsAs, from_table, Uses};
 
 use crate::Step;
 use crate::flags::{self, LOCATION, PROMPT};
 use crate::stage::{Next, Stage};
 use paw_base::fault::SpentKind;
-use paw_base::parts::ObjectFacts;
 use paw_base::piece::Piece;
 use paw_effects::act::Prompt;
+use paw_effects::opening::opening_world;
 use paw_effects::text::{place_text, put, say};
 use paw_game::tables::Tables;
 use paw_phrase::{Found, Pending};
 use paw_process::{Machine, Turned, take_phrase};
-use paw_world::MOST_OBJECTS;
 use paw_world::flags::VERB;
 use paw_world::world::World;
 
@@ -77,40 +76,6 @@ fn or_spent(shown: bool, stage: Stage) -> Next
     } else {
         Next::Stop(Step::Spent(SpentKind::Text))
     }
-}
-
-/// Writes down the facts of a game's objects.
-fn take_facts<T: Tables>(tables: &T, facts: &mut [ObjectFacts])
-    requires few { length facts.old ≤ 255 }
-    requires all { length facts.old ≡ length (T.game tables.now).objects }
-    ensures value { facts.new ≡ map (λ o. o.facts) (T.game tables.now).objects }
-{
-    for o in 0..facts.len() {
-        match tables.facts(o as u8) {
-            Some(found) => facts[o] = found,
-            None => unreachable!(),
-        }
-    }
-}
-
-/// The world at the start of a game.
-fn opening_world<T: Tables>(tables: &T, seed: u64) -> World
-    ensures valid { Valid (T.game tables.now) }
-    ensures value { result ≡ opening_world (T.game tables.now) seed }
-{
-    let counts = tables.counts();
-    let none = ObjectFacts {
-        noun: 255,
-        adjective: 255,
-        start: 252,
-        weight: 0,
-        container: false,
-        wearable: false,
-    };
-    let mut facts = [none; MOST_OBJECTS];
-    let all = &mut facts[..counts.objects as usize];
-    take_facts(tables, all);
-    World::new(all, counts.locations as u8, seed)
 }
 
 impl Turn {

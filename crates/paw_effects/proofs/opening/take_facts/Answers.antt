@@ -1,6 +1,6 @@
 use Rattle.std.proofs.Common.{sym, arith}
-use Rattle.paw_turn.proofs.Facts.{taken_more}
-use Rattle.paw_turn.proofs.turn.take_facts.Goals as goal
+use Rattle.paw_effects.proofs.Facts.{taken_more}
+use Rattle.paw_effects.proofs.opening.take_facts.Goals as goal
 
 pub loop-o-preserved : goal.loop-o-preserved
 loop-o-preserved g c =

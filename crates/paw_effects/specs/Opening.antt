@@ -1,0 +1,8 @@
+-- The start of a game.
+use Rattle.std.specs.Prelude.{ℕ, length, map}
+use Rattle.paw_game.specs.Game.{GameLists}
+use Rattle.paw_world.specs.World.{World, opened}
+
+-- the world at the start of a game
+abbrev pub opening_world : GameLists → ℕ → World
+opening_world g seed = opened (map (λ o. o.facts) g.objects) (length g.locations) seed

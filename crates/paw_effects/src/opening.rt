@@ -1,0 +1,44 @@
+// The start of a game.
+
+ghost use Rattle.std.specs.Prelude.{◌≡◌, ◌≤◌, length, map};
+ghost use Rattle.paw_game.specs.Valid.{Valid};
+ghost use Rattle.paw_effects.specs.Opening.{opening_world};
+
+use paw_base::parts::ObjectFacts;
+use paw_game::tables::Tables;
+use paw_world::MOST_OBJECTS;
+use paw_world::world::World;
+
+/// Writes down the facts of a game's objects.
+fn take_facts<T: Tables>(tables: &T, facts: &mut [ObjectFacts])
+    requires few { length facts.old ≤ 255 }
+    requires all { length facts.old ≡ length (T.game tables.now).objects }
+    ensures value { facts.new ≡ map (λ o. o.facts) (T.game tables.now).objects }
+{
+    for o in 0..facts.len() {
+        match tables.facts(o as u8) {
+            Some(found) => facts[o] = found,
+            None => unreachable!(),
+        }
+    }
+}
+
+/// The world at the start of a game, with the seed of its random draws.
+pub fn opening_world<T: Tables>(tables: &T, seed: u64) -> World
+    ensures valid { Valid (T.game tables.now) }
+    ensures value { result ≡ opening_world (T.game tables.now) seed }
+{
+    let counts = tables.counts();
+    let none = ObjectFacts {
+        noun: 255,
+        adjective: 255,
+        start: 252,
+        weight: 0,
+        container: false,
+        wearable: false,
+    };
+    let mut facts = [none; MOST_OBJECTS];
+    let all = &mut facts[..counts.objects as usize];
+    take_facts(tables, all);
+    World::new(all, counts.locations as u8, seed)
+}
