@@ -33,7 +33,7 @@ pub struct FrameFault {
 }
 
 /// The condact at which a machine waits for a prompt inside tables; None for the others.
-fn waiting_code(prompt: Prompt) -> Option<u8>
+pub fn waiting_code(prompt: Prompt) -> Option<u8>
     ensures value { result ≡ waiting_code prompt }
 {
     match prompt {
@@ -55,7 +55,7 @@ pub(crate) fn waiting_at(prompt: Prompt) -> Option<Prompt>
 }
 
 /// Whether a table may be open here: the outermost is 0, 1 or 2, and any other is the one that is called.
-fn may_open(caller: Option<u8>, table: u8) -> bool
+pub fn may_open(caller: Option<u8>, table: u8) -> bool
     ensures value { result ≡ may_open caller table }
 {
     match caller {
@@ -65,7 +65,7 @@ fn may_open(caller: Option<u8>, table: u8) -> bool
 }
 
 /// Whether a condact is there and has this code.
-fn has_code(code: u8, condact: Option<Condact>) -> bool
+pub fn has_code(code: u8, condact: Option<Condact>) -> bool
     ensures value { result ≡ has_code code condact }
 {
     match condact {
@@ -75,7 +75,7 @@ fn has_code(code: u8, condact: Option<Condact>) -> bool
 }
 
 /// A condact's first parameter.
-fn parameter_of(condact: Option<Condact>) -> u8
+pub fn parameter_of(condact: Option<Condact>) -> u8
     ensures value { result ≡ parameter_of condact }
 {
     match condact {
@@ -128,7 +128,7 @@ fn rows_fault<T: Tables>(
 }
 
 /// Whether an object may stand at this place.
-fn is_place(locations: u16, place: u8) -> bool
+pub fn is_place(locations: u16, place: u8) -> bool
     ensures value { result ≡ is_place locations place }
 {
     u16::from(place) < locations || (252 <= place && place <= 254)
@@ -167,7 +167,7 @@ fn loop_fault<T: Tables>(tables: &T, kept: &Frames) -> Option<u8>
 }
 
 /// Whether so many tables are open where a machine waits at this condact, or at none.
-fn count_fits(code: Option<u8>, count: u8) -> bool
+pub fn count_fits(code: Option<u8>, count: u8) -> bool
     ensures value { result ≡ count_fits code count }
 {
     match code {
