@@ -15,4 +15,5 @@ pub mod FlowActions
 pub mod TextActions
 pub mod FlagActions
 pub mod MoveActions
+pub mod Referring
 pub mod Effects

@@ -1,11 +1,11 @@
 // What the conditions test, and what the actions do.
 
-ghost use Rattle.std.specs.Prelude.{◌≡◌, ◌+◌, ◌-◌, ◌<◌, ◌≤◌, ◌^◌, ◌++◌, true, false, [], length};
+ghost use Rattle.std.specs.Prelude.{◌≡◌, ◌+◌, ◌-◌, ◌<◌, ◌≤◌, ◌^◌, ◌++◌, true, false, []};
 ghost use Rattle.paw_base.specs.Piece.{piece_limit};
 ghost use Rattle.paw_game.specs.Valid.{is_condact};
 ghost use Rattle.paw_effects.specs.Built.{is_built, IsOf};
 ghost use Rattle.paw_effects.specs.Holds.{is_condition, holds, truth_of, moves};
-ghost use Rattle.paw_effects.specs.Effects.{effect_of, Does, referred, weight_class};
+ghost use Rattle.paw_effects.specs.Effects.{effect_of, Does};
 
 use crate::act::{Act, Effect, Truth, after, dropping, on};
 use crate::chance::roll;
@@ -14,6 +14,7 @@ use crate::flag_tests::flag_holds;
 use crate::flow_actions::{flow, is_flow};
 use crate::move_actions::{is_move, move_objects, reset};
 use crate::place_tests::{place_holds, tests_place};
+pub use crate::referring::refer;
 use crate::text::print_nothing;
 use crate::text_actions::{is_print, print};
 use paw_base::parts::Condact;
@@ -114,31 +115,4 @@ pub fn act<T: Tables>(tables: &T, world: &mut World, piece: &mut Piece, c: Conda
             on(Effect::Go)
         }
     }
-}
-
-/// Refers to an object: the flags 51 and 54 to 57 become its number, its place, its weight, and 128 where it is a
-/// container and where it may be worn, else 0.
-pub fn refer<T: Tables>(tables: &T, world: &mut World, o: u8)
-    requires game { IsOf (T.game tables.now) world.old }
-    requires object { o < length (T.game tables.now).objects }
-    ensures value { world.new ≡ referred world.old o }
-    ensures game { IsOf (T.game tables.now) world.new }
-    ensures draws { world.new.draws ≡ world.old.draws }
-{
-    let _ = tables;
-    let place = world.place(o);
-    world.set_flag(51, o);
-    world.set_flag(54, place);
-    let facts = world.facts(o);
-    let weight = world.weight(o);
-    world.set_flag(55, weight);
-    world.set_flag(56, class(facts.container));
-    world.set_flag(57, class(facts.wearable));
-}
-
-// What a flag says of whether an object is of a class.
-fn class(member: bool) -> u8
-    ensures { result ≡ weight_class member }
-{
-    if member { 128 } else { 0 }
 }

@@ -13,6 +13,7 @@ mod marks;
 mod move_actions;
 mod place_tests;
 pub mod presence;
+mod referring;
 #[cfg(test)]
 mod tests;
 pub mod text;
