@@ -1,5 +1,6 @@
 mod Printing
 mod Parameters
 mod Moves
+mod Searching
 pub mod Asking
 mod NextListed

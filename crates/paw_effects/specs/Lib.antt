@@ -6,6 +6,7 @@ pub mod Texts
 pub mod PlaceTests
 pub mod FlagTests
 pub mod Holds
+pub mod ObjectSearch
 pub mod Done
 pub mod Counts
 pub mod Marks

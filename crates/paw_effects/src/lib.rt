@@ -11,6 +11,7 @@ mod flow_actions;
 mod lists;
 mod marks;
 mod move_actions;
+mod object_search;
 mod place_tests;
 pub mod presence;
 mod referring;
