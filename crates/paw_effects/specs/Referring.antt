@@ -16,3 +16,7 @@ facts_written w o (Some f) =
 -- worn by 128
 abbrev pub referred : World → ℕ → World
 referred w o = facts_written (with_flag (with_flag w 51 o) 54 (place w o)) o (slice_get w.facts o)
+
+-- referring to no object: flag 51 is none (255), 54 is not created (252), and the others are 0
+abbrev pub referred_to_none : World → World
+referred_to_none w = with_flag (with_flag (with_flag (with_flag (with_flag w 51 255) 54 252) 55 0) 56 0) 57 0

@@ -8,6 +8,7 @@ ghost use Rattle.paw_effects.specs.Holds.{is_condition, holds, truth_of, moves};
 ghost use Rattle.paw_effects.specs.Effects.{effect_of, Does};
 
 use crate::act::{Act, Effect, Truth, after, dropping, on};
+use crate::auto_actions::{act_on_object, is_object_action};
 use crate::chance::roll;
 use crate::flag_actions::change;
 use crate::flag_tests::flag_holds;
@@ -28,7 +29,7 @@ use paw_world::world::World;
 pub fn is_built(code: u8) -> bool
     ensures value { result ≡ is_built code }
 {
-    matches!(code, 0..=42 | 49..=54 | 61..=79 | 81..=90 | 92..=107)
+    matches!(code, 0..=90 | 92..=107)
 }
 
 // A condition's answer by whether it holds.
@@ -98,6 +99,9 @@ pub fn act<T: Tables>(tables: &T, world: &mut World, piece: &mut Piece, c: Conda
     }
     if is_print(c.code) {
         return after(print(tables, world, piece, c), Effect::Go);
+    }
+    if is_object_action(c.code) {
+        return act_on_object(tables, world, piece, c);
     }
     print_nothing(piece);
     if is_move(c.code) {

@@ -2,11 +2,15 @@
 
 ghost use Rattle.std.specs.Prelude.{◌≡◌, ◌<◌, length};
 ghost use Rattle.paw_effects.specs.Built.{IsOf};
-ghost use Rattle.paw_effects.specs.Referring.{weight_class, referred};
+ghost use Rattle.paw_effects.specs.Referring.{weight_class, referred, referred_to_none};
 
+use crate::presence::NOT_CREATED;
 use paw_game::tables::Tables;
 use paw_world::flags::REFERRED;
 use paw_world::world::World;
+
+/// No object.
+const NONE: u8 = 255;
 
 /// The flags of the place and of the weight of the object last referred to, and those that tell whether it is a
 /// container, and whether it may be worn.
@@ -43,4 +47,15 @@ fn class(member: bool) -> u8
     ensures { result ≡ weight_class member }
 {
     if member { 128 } else { 0 }
+}
+
+/// Refers to no object: flag 51 becomes none (255), flag 54 not created (252), and the flags 55 to 57 become 0.
+pub(crate) fn refer_to_none(world: &mut World)
+    ensures value { world.new ≡ referred_to_none world.old }
+{
+    world.set_flag(REFERRED, NONE);
+    world.set_flag(PLACE, NOT_CREATED);
+    world.set_flag(WEIGHT, 0);
+    world.set_flag(CONTAINER, 0);
+    world.set_flag(WEARABLE, 0);
 }
