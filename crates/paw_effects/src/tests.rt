@@ -3,6 +3,7 @@
 ghost use Rattle.std.specs.Prelude.{◌≡◌, IfOk, map};
 ghost use Rattle.paw_effects.specs.Built.{IsOf};
 
+mod object_actions;
 mod prints;
 
 use crate::act::{Act, Effect, Prompt, Truth};
@@ -291,11 +292,16 @@ fn entry(alloc: Global, cases: &[Case]) -> Result<Entry, AllocError> {
             b: *b,
         })?;
     }
-    Ok(Entry {
+    Ok(entry_of(rows))
+}
+
+/// The entry of these condacts, whatever the sentence is.
+fn entry_of(rows: Vec<Condact>) -> Entry {
+    Entry {
         verb: 255,
         noun: 255,
         condacts: Condacts { rows },
-    })
+    }
 }
 
 /// A game in which table 0 has one entry, of these condacts. System message n is the letter that stands n bytes after A.
