@@ -12,10 +12,16 @@ use Rattle.paw_effects.specs.declared.act.Prompt.TheVariants as prompt
 use Rattle.paw_effects.specs.declared.act.Truth.TheVariants as truth
 use Rattle.paw_effects.specs.declared.act.Effect.{Effect}
 use Rattle.paw_effects.specs.declared.act.Effect.TheVariants as effect
+use Rattle.paw_effects.specs.declared.object_actions.Action.{Action}
+use Rattle.paw_effects.specs.declared.object_words.Words.{Words}
 use Rattle.paw_effects.specs.Done.{Done}
 use Rattle.paw_effects.specs.FlowActions.{is_flow, flow_of}
 use Rattle.paw_effects.specs.TextActions.{is_print}
 use Rattle.paw_effects.specs.MoveActions.{is_move}
+use Rattle.paw_effects.specs.Referring.{referred}
+use Rattle.paw_effects.specs.ObjectSearch.{first_fitting}
+use Rattle.paw_effects.specs.ObjectActions.{first_that_holds, hindrances, tried}
+use Rattle.paw_effects.specs.AutoActions.{looks_at, action_of, acts_on_given, acts_by_name, acted_on_found, is_object_action, object_action_of}
 use Rattle.paw_effects.specs.Effects.{effect_of}
 use Rattle.paw_effects.specs.Holds.{truth_of, moves_to, Tested, holds}
 use Rattle.paw_effects.specs.PlaceTests.{tests_place}
@@ -43,13 +49,28 @@ one_of : (b : Bool) (x y : Done) → Plain x → Plain y → Plain (if b then x 
 one_of true x y h k = h
 one_of false x y h k = k
 
+-- an action on an object is done or refused
+tried_plain : (g : GameLists) (w : World) (o : ℕ) (a : Action) (said : Option Words) → Plain (tried g w o a said)
+tried_plain g w o a (Some said) = record { plain = tt }
+tried_plain g w o a None = record { plain = tt }
+
+found_plain : (g : GameLists) (w : World) (a : Action) (found : Option ℕ) → Plain (acted_on_found g w a found)
+found_plain g w a (Some o) = tried_plain g (referred w o) o a (first_that_holds (hindrances (referred w o) o a))
+found_plain g w a None = record { plain = tt }
+
+object_plain : (g : GameLists) (w : World) (c : Condact) → Plain (object_action_of g w c)
+unfolding object_action_of
+object_plain g w c =
+    one_of (acts_on_given c.code) _ _ (tried_plain g (referred w c.a) c.a (action_of c.code c.b) (first_that_holds (hindrances (referred w c.a) c.a (action_of c.code c.b))))
+    (one_of (acts_by_name c.code) _ _ (found_plain g w (action_of c.code c.a) (first_fitting w (looks_at (action_of c.code c.a)))) (record { plain = tt }))
+
 -- the actions that aren't of flow are plain, family by family
 other_plain : (g : GameLists) (X : List (List ℕ)) (w : World) (c : Condact) → is_flow c.code ≡ false → Plain (effect_of g X w c)
 unfolding effect_of
 other_plain g X w c other =
     let fine : Unit {0} = tt in
-    rw other (one_of (is_print c.code) _ _ (record { plain = fine }) (one_of (is_move c.code) _ _ (record { plain = fine })
-    (one_of (c.code == 89) _ _ (record { plain = fine }) (one_of (c.code == 90) _ _ (record { plain = fine }) (record { plain = fine })))))
+    rw other (one_of (is_print c.code) _ _ (record { plain = fine }) (one_of (is_object_action c.code) _ _ (object_plain g w c)
+    (one_of (is_move c.code) _ _ (record { plain = fine }) (one_of (c.code == 89) _ _ (record { plain = fine }) (one_of (c.code == 90) _ _ (record { plain = fine }) (record { plain = fine }))))))
 
 -- ---- codes ----
 

@@ -1,6 +1,7 @@
 mod Printing
 mod Parameters
 mod Moves
+mod Searching
 pub mod Asking
 mod NextListed
 pub mod Locations

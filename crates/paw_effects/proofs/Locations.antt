@@ -12,7 +12,14 @@ use Rattle.paw_effects.specs.TextActions.{is_print}
 use Rattle.paw_effects.specs.FlagActions.{change_of}
 use Rattle.paw_effects.specs.MoveActions.{is_move, move_of, names_place}
 use Rattle.paw_effects.specs.Presence.{named_place, held_objects}
-use Rattle.paw_effects.specs.Effects.{effect_of, facts_written, referred}
+use Rattle.paw_effects.specs.declared.object_actions.Action.{Action}
+use Rattle.paw_effects.specs.declared.object_search.Spot.TheVariants.{Here, At}
+use Rattle.paw_effects.specs.declared.object_words.Words.{Words}
+use Rattle.paw_effects.specs.Referring.{facts_written, referred}
+use Rattle.paw_effects.specs.ObjectSearch.{first_fitting}
+use Rattle.paw_effects.specs.ObjectActions.{first_that_holds, hindrances, tried, acted_on, destination}
+use Rattle.paw_effects.specs.AutoActions.{looks_at, action_of, acts_on_given, acts_by_name, acted_on_found, referred_to_found, is_object_action, object_action_of}
+use Rattle.paw_effects.specs.Effects.{effect_of}
 use Rattle.paw_effects.specs.Holds.{Tested, moves_to, holds}
 use Rattle.paw_effects.specs.PlaceTests.{tests_place}
 
@@ -78,19 +85,42 @@ move_stays w c =
     (world_of n (c.code == 74) _ _ (moved_stays w c.b (place w c.a)) (world_of n (c.code == 75) _ _ refl
     (world_of n (names_place w (flag w c.a)) _ _ (moved_stays w c.b (named_place w (flag w c.a))) refl))))))))
 
-pub effect_stays : (g : GameLists) (X : List (List ℕ)) (w : World) (c : Condact) → (effect_of g X w c).world.locations ≡ w.locations
-unfolding effect_of
-effect_stays g X w c =
-    let n : ℕ = w.locations in
-    done_of n (is_flow c.code) _ _ (flow_stays g w c) (done_of n (is_print c.code) _ _ refl (done_of n (is_move c.code) _ _ (move_stays w c)
-    (done_of n (c.code == 89) _ _ refl (done_of n (c.code == 90) _ _ refl (change_stays w c)))))
-
 facts_stay : (w : World) (o : ℕ) (f : Option ObjectFacts) → (facts_written w o f).locations ≡ w.locations
 facts_stay w o None = refl
 facts_stay w o (Some f) = refl
 
 pub referred_stays : (w : World) (o : ℕ) → (referred w o).locations ≡ w.locations
 referred_stays w o = facts_stay (with_flag (with_flag w 51 o) 54 (place w o)) o (slice_get w.facts o)
+
+tried_stays : (g : GameLists) (w : World) (o : ℕ) (a : Action) (said : Option Words) → (tried g w o a said).world.locations ≡ w.locations
+tried_stays g w o a (Some said) = refl
+tried_stays g w o a None = moved_stays w o (destination w a)
+
+acted_stays : (g : GameLists) (w : World) (o : ℕ) (a : Action) → (acted_on g w o a).world.locations ≡ w.locations
+acted_stays g w o a = tried_stays g (referred w o) o a (first_that_holds (hindrances (referred w o) o a)) ∙ referred_stays w o
+
+found_stays : (g : GameLists) (w : World) (a : Action) (found : Option ℕ) → (acted_on_found g w a found).world.locations ≡ w.locations
+found_stays g w a (Some o) = acted_stays g w o a
+found_stays g w a None = refl
+
+meant_stays : (w : World) (found : Option ℕ) → (referred_to_found w found).locations ≡ w.locations
+meant_stays w (Some o) = referred_stays w o
+meant_stays w None = refl
+
+object_stays : (g : GameLists) (w : World) (c : Condact) → (object_action_of g w c).world.locations ≡ w.locations
+unfolding object_action_of
+object_stays g w c =
+    let n : ℕ = w.locations in
+    done_of n (acts_on_given c.code) _ _ (acted_stays g w c.a (action_of c.code c.b))
+    (done_of n (acts_by_name c.code) _ _ (found_stays g w (action_of c.code c.a) (first_fitting w (looks_at (action_of c.code c.a))))
+    (meant_stays w (first_fitting w (At 254 ∷ At 253 ∷ Here ∷ []))))
+
+pub effect_stays : (g : GameLists) (X : List (List ℕ)) (w : World) (c : Condact) → (effect_of g X w c).world.locations ≡ w.locations
+unfolding effect_of
+effect_stays g X w c =
+    let n : ℕ = w.locations in
+    done_of n (is_flow c.code) _ _ (flow_stays g w c) (done_of n (is_print c.code) _ _ refl (done_of n (is_object_action c.code) _ _ (object_stays g w c)
+    (done_of n (is_move c.code) _ _ (move_stays w c) (done_of n (c.code == 89) _ _ refl (done_of n (c.code == 90) _ _ refl (change_stays w c))))))
 
 -- ---- conditions ----
 

@@ -9,7 +9,7 @@ use Rattle.paw_world.specs.World.{World}
 -- the codes that are built: all conditions, and of the actions these
 unfoldable pub is_built : ℕ → Bool
 is_built code =
-    is_within 0 42 code || is_within 49 54 code || is_within 61 79 code || is_within 81 90 code || is_within 92 107 code
+    is_within 0 90 code || is_within 92 107 code
 
 -- each condact of the game is built
 abbrev pub AllBuilt : GameLists → Type 0

@@ -1,36 +1,24 @@
 -- The actions of the condact table: what each prints, the world after it, and how reading goes on.
-use Rattle.std.specs.Prelude.{ℕ, ◌==◌, Bool, List, [], Option, Some, None, slice_get, if◌then◌else◌}
+use Rattle.std.specs.Prelude.{ℕ, ◌==◌, List, [], if◌then◌else◌}
 use Rattle.paw_base.specs.declared.parts.Condact.{Condact}
-use Rattle.paw_base.specs.declared.parts.ObjectFacts.{ObjectFacts}
 use Rattle.paw_game.specs.Game.{GameLists}
-use Rattle.paw_world.specs.World.{World, place, with_flag}
-use Rattle.paw_world.specs.Weight.{weight}
+use Rattle.paw_world.specs.World.{World}
 use Rattle.paw_effects.specs.declared.act.Effect.TheVariants as effect
 pub use Rattle.paw_effects.specs.Done.{Done, on, dropping, leads, prints, makes, DoesAs, Does}
+pub use Rattle.paw_effects.specs.Referring.{referred}
 use Rattle.paw_effects.specs.FlowActions.{is_flow, flow_of}
 use Rattle.paw_effects.specs.TextActions.{is_print, print_of}
 use Rattle.paw_effects.specs.FlagActions.{change_of}
 use Rattle.paw_effects.specs.MoveActions.{is_move, move_of, reset}
+use Rattle.paw_effects.specs.AutoActions.{is_object_action, object_action_of}
 
 -- two by themselves, and the others by families; X are the rows of the routines, 256 values each
 unfoldable pub effect_of : GameLists → List (List ℕ) → World → Condact → Done
 effect_of g X w c =
     if is_flow c.code then flow_of g w c else
     if is_print c.code then prints w (print_of g w c) else
+    if is_object_action c.code then object_action_of g w c else
     if is_move c.code then makes (move_of w c) else
     if c.code == 89 then record { text = []; world = w; act = dropping effect.Go } else  -- NEWTEXT
     if c.code == 90 then leads (reset w c.a) effect.Redescribe else  -- RESET
     makes (change_of w c)
-
-abbrev pub weight_class : Bool → ℕ
-weight_class b = if b then 128 else 0
-
-abbrev pub facts_written : World → ℕ → Option ObjectFacts → World
-facts_written w o None = w
-facts_written w o (Some f) =
-    with_flag (with_flag (with_flag w 55 (weight w o)) 56 (weight_class f.container)) 57 (weight_class f.wearable)
-
--- referring to an object: flag 51 is its number, 54 its place, 55 its weight, 56 and 57 tell a container and what may be
--- worn by 128
-abbrev pub referred : World → ℕ → World
-referred w o = facts_written (with_flag (with_flag w 51 o) 54 (place w o)) o (slice_get w.facts o)

@@ -7,6 +7,8 @@ pub mod Texts
 pub mod PlaceTests
 pub mod FlagTests
 pub mod Holds
+pub mod ObjectWords
+pub mod ObjectSearch
 pub mod Done
 pub mod Counts
 pub mod Marks
@@ -16,4 +18,7 @@ pub mod FlowActions
 pub mod TextActions
 pub mod FlagActions
 pub mod MoveActions
+pub mod Referring
+pub mod ObjectActions
+pub mod AutoActions
 pub mod Effects

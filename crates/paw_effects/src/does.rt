@@ -1,19 +1,21 @@
 // What the conditions test, and what the actions do.
 
-ghost use Rattle.std.specs.Prelude.{◌≡◌, ◌+◌, ◌-◌, ◌<◌, ◌≤◌, ◌^◌, ◌++◌, true, false, [], length};
+ghost use Rattle.std.specs.Prelude.{◌≡◌, ◌+◌, ◌-◌, ◌<◌, ◌≤◌, ◌^◌, ◌++◌, true, false, []};
 ghost use Rattle.paw_base.specs.Piece.{piece_limit};
 ghost use Rattle.paw_game.specs.Valid.{is_condact};
 ghost use Rattle.paw_effects.specs.Built.{is_built, IsOf};
 ghost use Rattle.paw_effects.specs.Holds.{is_condition, holds, truth_of, moves};
-ghost use Rattle.paw_effects.specs.Effects.{effect_of, Does, referred, weight_class};
+ghost use Rattle.paw_effects.specs.Effects.{effect_of, Does};
 
 use crate::act::{Act, Effect, Truth, after, dropping, on};
+use crate::auto_actions::{act_on_object, is_object_action};
 use crate::chance::roll;
 use crate::flag_actions::change;
 use crate::flag_tests::flag_holds;
 use crate::flow_actions::{flow, is_flow};
 use crate::move_actions::{is_move, move_objects, reset};
 use crate::place_tests::{place_holds, tests_place};
+pub use crate::referring::refer;
 use crate::text::print_nothing;
 use crate::text_actions::{is_print, print};
 use paw_base::parts::Condact;
@@ -27,7 +29,7 @@ use paw_world::world::World;
 pub fn is_built(code: u8) -> bool
     ensures value { result ≡ is_built code }
 {
-    matches!(code, 0..=42 | 49..=54 | 61..=79 | 81..=90 | 92..=107)
+    matches!(code, 0..=90 | 92..=107)
 }
 
 // A condition's answer by whether it holds.
@@ -98,6 +100,9 @@ pub fn act<T: Tables>(tables: &T, world: &mut World, piece: &mut Piece, c: Conda
     if is_print(c.code) {
         return after(print(tables, world, piece, c), Effect::Go);
     }
+    if is_object_action(c.code) {
+        return act_on_object(tables, world, piece, c);
+    }
     print_nothing(piece);
     if is_move(c.code) {
         move_objects(world, c);
@@ -114,31 +119,4 @@ pub fn act<T: Tables>(tables: &T, world: &mut World, piece: &mut Piece, c: Conda
             on(Effect::Go)
         }
     }
-}
-
-/// Refers to an object: the flags 51 and 54 to 57 become its number, its place, its weight, and 128 where it is a
-/// container and where it may be worn, else 0.
-pub fn refer<T: Tables>(tables: &T, world: &mut World, o: u8)
-    requires game { IsOf (T.game tables.now) world.old }
-    requires object { o < length (T.game tables.now).objects }
-    ensures value { world.new ≡ referred world.old o }
-    ensures game { IsOf (T.game tables.now) world.new }
-    ensures draws { world.new.draws ≡ world.old.draws }
-{
-    let _ = tables;
-    let place = world.place(o);
-    world.set_flag(51, o);
-    world.set_flag(54, place);
-    let facts = world.facts(o);
-    let weight = world.weight(o);
-    world.set_flag(55, weight);
-    world.set_flag(56, class(facts.container));
-    world.set_flag(57, class(facts.wearable));
-}
-
-// What a flag says of whether an object is of a class.
-fn class(member: bool) -> u8
-    ensures { result ≡ weight_class member }
-{
-    if member { 128 } else { 0 }
 }

@@ -2,18 +2,24 @@
 #![tactic(auto)]
 
 pub mod act;
+mod auto_actions;
 mod chance;
 pub mod counts;
 pub mod does;
 mod flag_actions;
 mod flag_tests;
 mod flow_actions;
+mod hindrances;
 mod lists;
 mod marks;
 mod move_actions;
 pub mod opening;
+mod object_actions;
+mod object_search;
+mod object_words;
 mod place_tests;
 pub mod presence;
+mod referring;
 #[cfg(test)]
 mod tests;
 pub mod text;

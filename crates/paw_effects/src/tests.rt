@@ -3,6 +3,9 @@
 ghost use Rattle.std.specs.Prelude.{◌≡◌, IfOk, map};
 ghost use Rattle.paw_effects.specs.Built.{IsOf};
 
+mod object_actions;
+mod prints;
+
 use crate::act::{Act, Effect, Prompt, Truth};
 use crate::does::{act, is_built, test};
 use paw_base::parts::{Condact, ObjectFacts};
@@ -37,6 +40,8 @@ const GO: Answer = Does(Effect::Go);
 
 /// Objects: 0 is carried, 1 worn, 2 in location 0, 3 not created, 4 in location 1.
 const PLACES: [u8; 5] = [254, 253, 0, 252, 1];
+
+const NAMES: [[u8; 4]; 5] = [*b"lamp", *b"coat", *b"bag_", *b"rock", *b"nail"];
 
 /// At location 1, which has one exit, by verb 3 to location 0. There are three locations.
 const CONDITIONS: [Case; 62] = [
@@ -262,7 +267,7 @@ fn word(letters: &[u8; 5], value: u8, class: u8) -> Word {
 
 fn objects(alloc: Global) -> Result<Vec<ObjectRow>, AllocError> {
     let mut rows = Vec::new(alloc);
-    for start in PLACES {
+    for (name, start) in NAMES.iter().zip(PLACES) {
         let facts = ObjectFacts {
             noun: 255,
             adjective: 255,
@@ -271,7 +276,7 @@ fn objects(alloc: Global) -> Result<Vec<ObjectRow>, AllocError> {
             container: false,
             wearable: false,
         };
-        let text = text(alloc, b"thing")?;
+        let text = text(alloc, name)?;
         rows.push(ObjectRow { text, facts })?;
     }
     Ok(rows)
@@ -287,17 +292,22 @@ fn entry(alloc: Global, cases: &[Case]) -> Result<Entry, AllocError> {
             b: *b,
         })?;
     }
-    Ok(Entry {
+    Ok(entry_of(rows))
+}
+
+/// The entry of these condacts, whatever the sentence is.
+fn entry_of(rows: Vec<Condact>) -> Entry {
+    Entry {
         verb: 255,
         noun: 255,
         condacts: Condacts { rows },
-    })
+    }
 }
 
-/// A game in which table 0 has one entry, of these condacts.
+/// A game in which table 0 has one entry, of these condacts. System message n is the letter that stands n bytes after A.
 fn parts(alloc: Global, cases: &[Case]) -> Result<GameParts, AllocError> {
     let mut system = Vec::new(alloc);
-    for letter in b'a'..=b'q' {
+    for letter in b'A'..=b'v' {
         system.push(text(alloc, &[letter])?)?;
     }
     let back = vec![in alloc; Exit { verb: 3, to: 0 }]?;
@@ -408,7 +418,7 @@ fn conditions_and_actions(rt: HostRuntime) -> Result<(), Fail> {
     run(&rt, rt.alloc(), &DRAWS, &mut piece)?;
     assert_eq!(rt; piece.bytes(), b"".as_slice());
     run(&rt, rt.alloc(), &FLOW, &mut piece)?;
-    assert_eq!(rt; piece.bytes(), b"np\nqTakenTaken\n\n".as_slice());
+    assert_eq!(rt; piece.bytes(), b"NP\nQTakenTaken\n\n".as_slice());
     Ok(())
 }
 

@@ -1,0 +1,6 @@
+use Rattle.paw_effects.specs.Built.{IsOf}
+use Rattle.paw_effects.proofs.tests.object_actions.read_all.Given as goal
+
+-- the world is the game's
+abbrev pub invariant-loop-at : goal.invariant-loop-at
+invariant-loop-at g l = IsOf l.game l.world

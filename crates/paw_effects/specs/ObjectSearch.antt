@@ -1,0 +1,39 @@
+-- The object that a sentence means.
+use Rattle.std.specs.Prelude.{ℕ, ◌==◌, ◌&&◌, ◌||◌, Bool, false, not, List, [], ◌∷◌, Option, Some, None, find, slice_get, if◌then◌else◌}
+use Rattle.std.specs.List.{list_any}
+use Rattle.std.specs.Option.{option_or}
+use Rattle.paw_base.specs.declared.parts.ObjectFacts.{ObjectFacts}
+use Rattle.paw_world.specs.World.{World, flag, is_somewhere}
+use Rattle.paw_world.specs.Weight.{objects_at}
+use Rattle.paw_effects.specs.declared.object_search.Spot.{Spot}
+use Rattle.paw_effects.specs.declared.object_search.Spot.TheVariants as spot
+
+-- the sentence has a noun (flag 34), which is the object's, and its adjective (flag 35) is the object's where it has one
+abbrev pub names : World → ObjectFacts → Bool
+names w f = not (flag w 34 == 255) && ((f.noun == flag w 34) && ((flag w 35 == 255) || (f.adjective == flag w 35)))
+
+abbrev pub has_names : World → Option ObjectFacts → Bool
+has_names w None = false
+has_names w (Some f) = names w f
+
+-- an object fits the sentence
+abbrev pub fits : World → ℕ → Bool
+fits w o = has_names w (slice_get w.facts o)
+
+-- some object of the game fits the sentence, wherever it is
+abbrev pub some_fits : World → Bool
+some_fits w = list_any (names w) w.facts
+
+-- the least object at a place that fits; nothing where none does
+abbrev pub least_fitting : World → ℕ → Option ℕ
+least_fitting w p = find (fits w) (objects_at w p)
+
+-- the same at the current location, where there is one
+abbrev pub fitting_at : World → Spot → Option ℕ
+fitting_at w spot.Here = if is_somewhere w then least_fitting w (flag w 38) else None
+fitting_at w (spot.At p) = least_fitting w p
+
+-- the least object that fits at the first of these places that has one; nothing where none has
+abbrev pub first_fitting : World → List Spot → Option ℕ
+first_fitting w [] = None
+first_fitting w (s ∷ ss) = option_or (fitting_at w s) (first_fitting w ss)

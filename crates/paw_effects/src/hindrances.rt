@@ -1,0 +1,155 @@
+// What hinders an action on an object.
+
+ghost use Rattle.std.specs.Prelude.{◌≡◌, ◌<◌, length};
+ghost use Rattle.paw_effects.specs.ObjectActions.{is_worn, is_carried, can_be_worn, is_too_heavy, is_laden, holds_place, first_that_holds, hindrances};
+ghost use Rattle.paw_effects.specs.declared.object_actions.Action.TheVariants as action;
+
+use crate::object_actions::Action;
+use crate::object_words::Words;
+use crate::presence::{CARRIED, WORN, is_held, is_here};
+use paw_world::flags;
+use paw_world::world::World;
+
+fn is_worn(world: &World, o: u8) -> bool
+    requires known { o < length world.now.places }
+    ensures value { result ≡ is_worn world.now o }
+{
+    world.place(o) == WORN
+}
+
+fn is_carried(world: &World, o: u8) -> bool
+    requires known { o < length world.now.places }
+    ensures value { result ≡ is_carried world.now o }
+{
+    world.place(o) == CARRIED
+}
+
+fn can_be_worn(world: &World, o: u8) -> bool
+    requires known { o < length world.now.places }
+    ensures value { result ≡ can_be_worn world.now o }
+{
+    world.facts(o).wearable
+}
+
+/// Whether more would be carried, with this object, than may be.
+fn is_too_heavy(world: &World, o: u8) -> bool
+    requires known { o < length world.now.places }
+    ensures value { result ≡ is_too_heavy world.now o }
+{
+    let total = u16::from(world.carried_weight()) + u16::from(world.weight(o));
+    total > u16::from(world.flag(flags::MOST_WEIGHT))
+}
+
+/// Whether as many objects are carried as may be.
+fn is_laden(world: &World) -> bool
+    ensures value { result ≡ is_laden world.now }
+{
+    world.flag(flags::CARRIED) >= world.flag(flags::MOST_CARRIED)
+}
+
+/// Whether the object whose number is that of a place is worn or carried.
+fn holds_place(world: &World, place: u8) -> bool
+    ensures value { result ≡ holds_place world.now place }
+{
+    place < world.objects() && is_held(world, place)
+}
+
+/// What hinders an action on an object that was referred to: what the first test that holds says.
+pub(crate) fn hindrance(world: &World, o: u8, action: Action) -> Option<Words>
+    requires known { o < length world.now.places }
+    ensures value { result ≡ first_that_holds (hindrances world.now o action) }
+{
+    match action {
+        Action::Get => at_getting(world, o),
+        Action::Drop => at_dropping(world, o),
+        Action::Wear => at_wearing(world, o),
+        Action::Remove => at_removing(world, o),
+        Action::PutIn(_) => at_dropping(world, o),
+        Action::TakeOut(place) => at_taking_out(world, o, place),
+    }
+}
+
+fn at_getting(world: &World, o: u8) -> Option<Words>
+    requires known { o < length world.now.places }
+    ensures value { result ≡ first_that_holds (hindrances world.now o action.Get) }
+{
+    if is_held(world, o) {
+        Some(Words::HELD)
+    } else if !is_here(world, o) {
+        Some(Words::NOT_HERE)
+    } else if is_too_heavy(world, o) {
+        Some(Words::TOO_HEAVY)
+    } else if is_laden(world) {
+        Some(Words::TOO_MANY)
+    } else {
+        None
+    }
+}
+
+fn at_dropping(world: &World, o: u8) -> Option<Words>
+    requires known { o < length world.now.places }
+    ensures value { result ≡ first_that_holds (hindrances world.now o action.Drop) }
+{
+    if is_worn(world, o) {
+        Some(Words::WORN)
+    } else if is_here(world, o) {
+        Some(Words::NOT_HELD)
+    } else if !is_carried(world, o) {
+        Some(Words::NOT_CARRIED)
+    } else {
+        None
+    }
+}
+
+fn at_wearing(world: &World, o: u8) -> Option<Words>
+    requires known { o < length world.now.places }
+    ensures value { result ≡ first_that_holds (hindrances world.now o action.Wear) }
+{
+    if is_here(world, o) {
+        Some(Words::NOT_HELD)
+    } else if is_worn(world, o) {
+        Some(Words::WORN_ALREADY)
+    } else if !is_carried(world, o) {
+        Some(Words::NOT_CARRIED)
+    } else if !can_be_worn(world, o) {
+        Some(Words::NOT_WEARABLE)
+    } else {
+        None
+    }
+}
+
+fn at_removing(world: &World, o: u8) -> Option<Words>
+    requires known { o < length world.now.places }
+    ensures value { result ≡ first_that_holds (hindrances world.now o action.Remove) }
+{
+    if is_carried(world, o) || is_here(world, o) {
+        Some(Words::NOT_PUT_ON)
+    } else if !is_worn(world, o) {
+        Some(Words::NOT_WORN)
+    } else if !can_be_worn(world, o) {
+        Some(Words::NOT_REMOVABLE)
+    } else if is_laden(world) {
+        Some(Words::HANDS_FULL)
+    } else {
+        None
+    }
+}
+
+fn at_taking_out(world: &World, o: u8, place: u8) -> Option<Words>
+    requires known { o < length world.now.places }
+    ensures value { result ≡ first_that_holds (hindrances world.now o (action.TakeOut place)) }
+{
+    if is_held(world, o) {
+        Some(Words::HELD)
+    } else if is_here(world, o) {
+        Some(Words::outside(place))
+    } else if world.place(o) != place {
+        Some(Words::not_in(place))
+    } else if !holds_place(world, place) && is_too_heavy(world, o) {
+        Some(Words::TOO_HEAVY)
+    } else if is_laden(world) {
+        Some(Words::TOO_MANY)
+    } else {
+        None
+    }
+}

@@ -1,0 +1,91 @@
+// The actions on an object.
+
+ghost use Rattle.std.specs.Prelude.{◌≡◌, ◌<◌, length};
+ghost use Rattle.paw_effects.specs.Built.{IsOf};
+ghost use Rattle.paw_effects.specs.Done.{Does};
+ghost use Rattle.paw_effects.specs.ObjectActions.{destination, outcome, refuses, acted_on};
+
+use crate::act::{Act, Effect, after, on};
+use crate::hindrances::hindrance;
+use crate::object_words::{Words, speak};
+use crate::presence::{CARRIED, WORN, here};
+use crate::referring::refer;
+use paw_base::piece::Piece;
+use paw_game::tables::Tables;
+use paw_world::world::World;
+
+/// An action on an object. Two of them know a container, by the number of its place.
+#[derive(Clone, Copy, Drop, PartialEq, Eq, Debug)]
+pub(crate) enum Action {
+    Get,
+    Drop,
+    Wear,
+    Remove,
+    PutIn(u8),
+    TakeOut(u8),
+}
+
+impl Action {
+    /// Where the object moves.
+    fn destination(self, world: &World) -> u8
+        ensures value { result ≡ destination world.now self }
+    {
+        match self {
+            Action::Get | Action::Remove | Action::TakeOut(_) => CARRIED,
+            Action::Drop => here(world),
+            Action::Wear => WORN,
+            Action::PutIn(place) => place,
+        }
+    }
+
+    /// What is said once it is done.
+    fn outcome(self) -> Words
+        ensures value { result ≡ outcome self }
+    {
+        match self {
+            Action::Get | Action::TakeOut(_) => Words::TAKEN,
+            Action::Drop => Words::DROPPED,
+            Action::Wear => Words::PUT_ON,
+            Action::Remove => Words::TAKEN_OFF,
+            Action::PutIn(place) => Words::now_in(place),
+        }
+    }
+}
+
+/// Refuses an action: says why, drops the rest of the line, and leaves the table as one in which an action was carried
+/// out.
+pub(crate) fn refuse<T: Tables>(tables: &T, world: &World, piece: &mut Piece, words: Words) -> Act
+    ensures does { Does (refuses (T.game tables.now) world.now words) piece.old piece.new world.now result }
+{
+    if !speak(tables, world, piece, words) {
+        return on(Effect::Spent);
+    }
+    Act {
+        effect: Effect::Exit(true),
+        drop_line: true,
+        cancel_loop: words.ends_loop(),
+    }
+}
+
+/// Does an action on an object, which is referred to first.
+pub(crate) fn act_on<T: Tables>(
+    tables: &T,
+    world: &mut World,
+    piece: &mut Piece,
+    o: u8,
+    action: Action,
+) -> Act
+    requires game { IsOf (T.game tables.now) world.old }
+    requires object { o < length (T.game tables.now).objects }
+    ensures does { Does (acted_on (T.game tables.now) world.old o action) piece.old piece.new world.new result }
+    ensures game { IsOf (T.game tables.now) world.new }
+    ensures draws { world.new.draws ≡ world.old.draws }
+{
+    refer(tables, world, o);
+    if let Some(words) = hindrance(world, o, action) {
+        return refuse(tables, world, piece, words);
+    }
+    let place = action.destination(world);
+    world.move_to(o, place);
+    after(speak(tables, world, piece, action.outcome()), Effect::Go)
+}

@@ -1,0 +1,118 @@
+// What is said of an action on an object.
+
+ghost use Rattle.std.specs.Prelude.{◌≡◌};
+ghost use Rattle.paw_base.specs.Piece.{Puts};
+ghost use Rattle.paw_effects.specs.ObjectWords.{spoken, ends_loop};
+
+use crate::text::{print_object, put, say};
+use paw_base::piece::Piece;
+use paw_game::tables::Tables;
+use paw_world::world::World;
+
+/// The system message that ends a sentence which names a container.
+const END_OF_NAMING: u8 = 51;
+
+/// What is said of an action: a system message; or a system message and then the name of a container.
+#[derive(Clone, Copy, Drop, PartialEq, Eq, Debug)]
+pub(crate) enum Words {
+    Says(u8),
+    Names(u8, u8),
+}
+
+impl Words {
+    /// Nothing of the game is meant.
+    pub(crate) const NO_SUCH_OBJECT: Words = Words::Says(8);
+
+    /// It isn't worn.
+    pub(crate) const NOT_WORN: Words = Words::Says(23);
+
+    /// It is worn, so it can't be dropped or put away.
+    pub(crate) const WORN: Words = Words::Says(24);
+
+    /// It is worn or carried already.
+    pub(crate) const HELD: Words = Words::Says(25);
+
+    /// It isn't here.
+    pub(crate) const NOT_HERE: Words = Words::Says(26);
+
+    /// No more objects can be carried. It ends the loop over objects.
+    pub(crate) const TOO_MANY: Words = Words::Says(27);
+
+    /// It isn't carried.
+    pub(crate) const NOT_CARRIED: Words = Words::Says(28);
+
+    /// It is worn already.
+    pub(crate) const WORN_ALREADY: Words = Words::Says(29);
+
+    /// It was taken.
+    pub(crate) const TAKEN: Words = Words::Says(36);
+
+    /// It was put on.
+    pub(crate) const PUT_ON: Words = Words::Says(37);
+
+    /// It was taken off.
+    pub(crate) const TAKEN_OFF: Words = Words::Says(38);
+
+    /// It was dropped.
+    pub(crate) const DROPPED: Words = Words::Says(39);
+
+    /// It can't be worn.
+    pub(crate) const NOT_WEARABLE: Words = Words::Says(40);
+
+    /// It can't be taken off.
+    pub(crate) const NOT_REMOVABLE: Words = Words::Says(41);
+
+    /// No more objects can be carried once it is taken off. It ends the loop over objects.
+    pub(crate) const HANDS_FULL: Words = Words::Says(42);
+
+    /// It is too heavy.
+    pub(crate) const TOO_HEAVY: Words = Words::Says(43);
+
+    /// It is here, and not carried.
+    pub(crate) const NOT_HELD: Words = Words::Says(49);
+
+    /// It is carried or here, and not worn.
+    pub(crate) const NOT_PUT_ON: Words = Words::Says(50);
+
+    /// It was put into this container.
+    pub(crate) fn now_in(container: u8) -> Words
+        ensures value { result ≡ Words.Names 44 container }
+    {
+        Words::Names(44, container)
+    }
+
+    /// It is here, and not in this container.
+    pub(crate) fn outside(container: u8) -> Words
+        ensures value { result ≡ Words.Names 45 container }
+    {
+        Words::Names(45, container)
+    }
+
+    /// It isn't in this container.
+    pub(crate) fn not_in(container: u8) -> Words
+        ensures value { result ≡ Words.Names 52 container }
+    {
+        Words::Names(52, container)
+    }
+
+    /// Whether the loop over objects ends once this was said.
+    pub(crate) fn ends_loop(self) -> bool
+        ensures value { result ≡ ends_loop self }
+    {
+        self == Words::TOO_MANY || self == Words::HANDS_FULL
+    }
+}
+
+/// Says this. False exactly where it doesn't fit; what the piece holds then is open.
+pub(crate) fn speak<T: Tables>(tables: &T, world: &World, piece: &mut Piece, words: Words) -> bool
+    ensures puts { Puts piece.old piece.new result (spoken (T.game tables.now) world.now words) }
+{
+    match words {
+        Words::Says(message) => say(tables, world, piece, message),
+        Words::Names(message, container) => {
+            put(tables, world, piece, message)
+                && print_object(tables, piece, container)
+                && say(tables, world, piece, END_OF_NAMING)
+        }
+    }
+}
