@@ -1,5 +1,5 @@
 -- Each reading of a valid game stops rightly.
-use Rattle.std.proofs.Common.{◌≡◌, ℕ, zero, suc, ◌≤◌, Bool, true, false, List, [], ◌∷◌, Option, Some, None, refl, sym, ◌∙◌, subst, length, arith}
+use Rattle.std.proofs.Common.{◌≡◌, ◌≢◌, ℕ, zero, suc, ◌≤◌, Bool, true, false, List, [], ◌∷◌, Option, Some, None, refl, sym, ◌∙◌, subst, length, arith}
 use Rattle.std.specs.Prelude.{if◌then◌else◌}
 use Rattle.paw_base.specs.declared.fault.SpentKind.TheVariants as spent
 use Rattle.paw_game.specs.Game.{GameLists}
@@ -16,7 +16,7 @@ use Rattle.paw_reading.specs.declared.places.OpenLoop.{OpenLoop}
 use Rattle.paw_reading.specs.Run.{Run, closed, fits, printed, with_world, line_dropped, is_timeout, is_ignored, heard, with_timeout, taken_phrase}
 use Rattle.paw_reading.specs.Reading.{Out, Left, Waits, Redescribes, Restarts, Ends, IsSpent, IsDeep, table_read}
 use Rattle.paw_reading.specs.Turn.{Stage, AtDescribe, AtFrame, AtPhrase, AtResponse, Ending, RunsOut, saying, described, framed, view_text, counted, prompt_text, line_set, at_main, after_phrase, refusal_text, connected, after_left, table_done, turn, stages_left, opening, first_table, in_table, goes_on}
-use Rattle.paw_reading.specs.Places.{LeadsTo, tables_of, AreOpenTo, MayWait, LineTaken, StopsRightly, ReadingsStopRightly, GoingOnStopsRightly}
+use Rattle.paw_reading.specs.Places.{LeadsTo, tables_of, AreOpenTo, ArePlaces, IsLineTaken, StandsRightly, StopsRightly, ReadingsStopRightly, GoingOnStopsRightly}
 use Rattle.paw_reading.proofs.Held.{Sound, Held, none_open, table_held, path_held}
 
 -- ---- worlds ----
@@ -41,15 +41,19 @@ open_to : (g : GameLists) (code t : ℕ) (path : List Frame) (n : ℕ) (o : Opti
     → Sound g (tables_of path) n o → AreOpenTo g code path o
 open_to g code t path n o low few first leads k = record { few = few; outermost = subst (λ u. u ≤ 2) (sym first) low; leads = leads; loop = k.loop }
 
-may_wait : (g : GameLists) (t code : ℕ) (p : Prompt) (path : List Frame) (n : ℕ) (o : Option OpenLoop) → t ≤ 2 → AsksAt code p → length path ≤ 11 → first_table path ≡ t
-    → LeadsTo g code path → Sound g (tables_of path) n o → MayWait g p path o
-may_wait g t code prompt.Main path n o low asks few first leads k = absurd asks
-may_wait g t code prompt.Quit path n o low asks few first leads k = open_to g 27 t path n o low few first (subst (λ c. LeadsTo g c path) asks leads) k
-may_wait g t code prompt.Again path n o low asks few first leads k = open_to g 31 t path n o low few first (subst (λ c. LeadsTo g c path) asks leads) k
-may_wait g t code prompt.Key path n o low asks few first leads k = open_to g 35 t path n o low few first (subst (λ c. LeadsTo g c path) asks leads) k
-may_wait g t code prompt.Over path n o low asks few first leads k = absurd asks
+-- a wait in tables
+waits_rightly : (g : GameLists) (t code : ℕ) (p : Prompt) (path : List Frame) (r : Run) → t ≤ 2 → AsksAt code p → length path ≤ 11 → first_table path ≡ t
+    → LeadsTo g code path → Sound g (tables_of path) r.world.locations r.turning → (p ≢ prompt.Over) × ArePlaces g p path r.turning
+waits_rightly g t code prompt.Main path r low asks few first leads k = absurd asks
+waits_rightly g t code prompt.Quit path r low asks few first leads k =
+    (λ e. cc, open_to g 27 t path r.world.locations r.turning low few first (subst (λ c. LeadsTo g c path) asks leads) k)
+waits_rightly g t code prompt.Again path r low asks few first leads k =
+    (λ e. cc, open_to g 31 t path r.world.locations r.turning low few first (subst (λ c. LeadsTo g c path) asks leads) k)
+waits_rightly g t code prompt.Key path r low asks few first leads k =
+    (λ e. cc, open_to g 35 t path r.world.locations r.turning low few first (subst (λ c. LeadsTo g c path) asks leads) k)
+waits_rightly g t code prompt.Over path r low asks few first leads k = absurd asks
 
-some_path : (g : GameLists) (code : ℕ) (path : List Frame) (r : Run) → LeadsTo g code path → LineTaken path r
+some_path : (g : GameLists) (code : ℕ) (path : List Frame) (r : Run) → LeadsTo g code path → IsLineTaken path r
 some_path g code [] r leads = absurd leads
 some_path g code (f ∷ path) r leads = λ e. cc
 
@@ -95,10 +99,11 @@ module _ (g : GameLists) (v : Valid g) (X : List (List ℕ)) where
     table_done_rightly : (t : ℕ) → t ≤ 2 → (x : Out) → Held g [] [] t x → IsRightly (table_done g go t x)
     table_done_rightly t low (Left a r) k = after_left_rightly t a r (between r k)
     table_done_rightly t low (Waits p path r) k =
-        (may_wait g t k.code p path r.world.locations r.turning low k.asks (omega (arith, k.few)) k.first k.leads k.sound, some_path g k.code path r k.leads)
+        let rightly = waits_rightly g t k.code p path r low k.asks (omega (arith, k.few)) k.first k.leads k.sound in
+        (rightly.0, record { places = rightly.1; line = some_path g k.code path r k.leads })
     table_done_rightly t low (Redescribes r) k = goes AtDescribe r (between r k)
     table_done_rightly t low (Restarts r) k = goes AtDescribe r (between r k)
-    table_done_rightly t low (Ends r) k = k
+    table_done_rightly t low (Ends r) k = record { places = (refl, k.0); line = λ e. k.1 }
     table_done_rightly t low (IsSpent kind r) k = tt
     table_done_rightly t low (IsDeep u r) k = tt
 
@@ -107,7 +112,7 @@ module _ (g : GameLists) (v : Valid g) (X : List (List ℕ)) where
 
     at_main_rightly : (r : Run) (lines : List (List ℕ)) → IsBetween r → r.pending ≡ [] → IsRightly (at_main g (go AtFrame) (go AtPhrase) r lines)
     unfolding at_main
-    at_main_rightly r [] k empty = ((refl, k.none), λ e. empty)
+    at_main_rightly r [] k empty = (λ e. cc, record { places = (refl, k.none); line = λ e. empty })
     at_main_rightly r (line ∷ lines) k empty =
         let s : Run = record r { events = lines } in
         one_of IsRightly (is_ignored r.world line) _ _
@@ -145,14 +150,13 @@ module _ (g : GameLists) (v : Valid g) (X : List (List ℕ)) where
       table_done_rightly (turn g X n) (turn_rightly n) f.table at.outermost _
       (path_held g v X p code [] 0 f path r refl asks (omega (arith, at.few)) at.leads (record { of = of; loop = at.loop }))
 
-  goes_on_rightly : (n : ℕ) (p : Prompt) (path : List Frame) (r : Run) → r.world.locations ≡ length g.locations → MayWait g p path r.turning → LineTaken path r
-      → IsRightly (goes_on g X n p path r)
-  goes_on_rightly n prompt.Main path r of at empty =
-      at_main_rightly (turn g X n) (turn_rightly n) r r.events (record { of = of; none = at.1 }) (empty at.0)
-  goes_on_rightly n prompt.Quit path r of at empty = in_table_rightly n prompt.Quit 27 path r of refl at
-  goes_on_rightly n prompt.Again path r of at empty = in_table_rightly n prompt.Again 31 path r of refl at
-  goes_on_rightly n prompt.Key path r of at empty = in_table_rightly n prompt.Key 35 path r of refl at
-  goes_on_rightly n prompt.Over path r of at empty = absurd at
+  goes_on_rightly : (n : ℕ) (p : Prompt) (path : List Frame) (r : Run) → r.world.locations ≡ length g.locations → StandsRightly g p path r → IsRightly (goes_on g X n p path r)
+  goes_on_rightly n prompt.Main path r of at =
+      at_main_rightly (turn g X n) (turn_rightly n) r r.events (record { of = of; none = at.places.1 }) (at.line at.places.0)
+  goes_on_rightly n prompt.Quit path r of at = in_table_rightly n prompt.Quit 27 path r of refl at.places
+  goes_on_rightly n prompt.Again path r of at = in_table_rightly n prompt.Again 31 path r of refl at.places
+  goes_on_rightly n prompt.Key path r of at = in_table_rightly n prompt.Key 35 path r of refl at.places
+  goes_on_rightly n prompt.Over path r of at = record { places = (refl, at.places.1); line = λ e. at.line at.places.0 }
 
 -- each reading
 pub readings_stop_rightly : ReadingsStopRightly
@@ -161,4 +165,4 @@ readings_stop_rightly g X seed es v =
 
 -- and going on
 pub going_on_stops_rightly : GoingOnStopsRightly
-going_on_stops_rightly g X p path r v of at empty = goes_on_rightly g v X (stages_left AtResponse r) p path r of at empty
+going_on_stops_rightly g X p path r v of at = goes_on_rightly g v X (stages_left AtResponse r) p path r of at

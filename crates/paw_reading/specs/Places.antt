@@ -1,5 +1,5 @@
 -- Where a run may wait: the tables that are open, the condacts at which they stand, and the object loop.
-use Rattle.std.specs.Prelude.{◌≡◌, ℕ, ◌<◌, ◌≤◌, List, [], ◌∷◌, Option, Some, None, length, map, slice_get, IfSome, IsTrue}
+use Rattle.std.specs.Prelude.{◌≡◌, ◌≢◌, ℕ, ◌<◌, ◌≤◌, List, [], ◌∷◌, Option, Some, None, length, map, slice_get, IfSome, IsTrue}
 use Rattle.paw_base.specs.declared.parts.Condact.{Condact}
 use Rattle.paw_game.specs.Game.{GameLists}
 use Rattle.paw_game.specs.Tables.{condact_at}
@@ -49,22 +49,36 @@ pub record AreOpenTo (g : GameLists) (code : ℕ) (path : List Frame) (turning :
   pub leads : LeadsTo g code path
   pub loop : IfSome turning (IsLoopIn g (tables_of path))
 
--- the places at which a run may wait: at the main prompt nothing is open; in tables it waits at QUIT, END or ANYKEY
-abbrev pub MayWait : GameLists → Prompt → List Frame → Option OpenLoop → Type 0
-MayWait g prompt.Main path turning = (path ≡ []) × (turning ≡ None)
-MayWait g prompt.Quit path turning = AreOpenTo g 27 path turning
-MayWait g prompt.Again path turning = AreOpenTo g 31 path turning
-MayWait g prompt.Key path turning = AreOpenTo g 35 path turning
-MayWait g prompt.Over path turning = ⊥
+-- the condact at which a run waits for this prompt: QUIT, END or ANYKEY
+abbrev pub waiting_code : Prompt → Option ℕ
+waiting_code prompt.Main = None
+waiting_code prompt.Quit = Some 27
+waiting_code prompt.Again = Some 31
+waiting_code prompt.Key = Some 35
+waiting_code prompt.Over = None
 
--- nothing is left of the line at the main prompt
-abbrev pub LineTaken : List Frame → Run → Type 0
-LineTaken path r = path ≡ [] → r.pending ≡ []
+-- open to this condact; without one nothing is open
+abbrev pub AreOpenAt : GameLists → Option ℕ → List Frame → Option OpenLoop → Type 0
+AreOpenAt g None path turning = (path ≡ []) × (turning ≡ None)
+AreOpenAt g (Some code) path turning = AreOpenTo g code path turning
 
--- a reading stops rightly: it waits where it may; or it is over, with no loop open and nothing left of the line
+-- the places of a run that waits at this prompt, or is over: in tables it waits at the prompt's condact
+abbrev pub ArePlaces : GameLists → Prompt → List Frame → Option OpenLoop → Type 0
+ArePlaces g p path turning = AreOpenAt g (waiting_code p) path turning
+
+-- with no table open nothing is left of the line
+abbrev pub IsLineTaken : List Frame → Run → Type 0
+IsLineTaken path r = path ≡ [] → r.pending ≡ []
+
+-- a run stands at its prompt as it may
+pub record StandsRightly (g : GameLists) (p : Prompt) (path : List Frame) (r : Run) : Type 0 where
+  pub places : ArePlaces g p path r.turning
+  pub line : IsLineTaken path r
+
+-- so does a reading that waits, or is over
 abbrev pub StopsRightly : GameLists → Ending → Type 0
-StopsRightly g (WaitsAt p path r) = MayWait g p path r.turning × LineTaken path r
-StopsRightly g (IsOver r) = (r.turning ≡ None) × (r.pending ≡ [])
+StopsRightly g (WaitsAt p path r) = (p ≢ prompt.Over) × StandsRightly g p path r
+StopsRightly g (IsOver r) = StandsRightly g prompt.Over [] r
 StopsRightly g (RunsOut kind r) = Unit {0}
 StopsRightly g (CallsTooDeep u r) = Unit {0}
 StopsRightly g Unended = Unit {0}
@@ -75,7 +89,7 @@ StopsRightly g Unended = Unit {0}
 abbrev pub ReadingsStopRightly : Type 0
 ReadingsStopRightly = (g : GameLists) (X : List (List ℕ)) (seed : ℕ) (es : List (List ℕ)) → Valid g → StopsRightly g (reading g X seed es)
 
--- so does going on from where a run may wait
+-- so does going on from where a run stands as it may
 abbrev pub GoingOnStopsRightly : Type 0
 GoingOnStopsRightly = (g : GameLists) (X : List (List ℕ)) (p : Prompt) (path : List Frame) (r : Run) → Valid g →
-    r.world.locations ≡ length g.locations → MayWait g p path r.turning → LineTaken path r → StopsRightly g (on g X p path r)
+    r.world.locations ≡ length g.locations → StandsRightly g p path r → StopsRightly g (on g X p path r)

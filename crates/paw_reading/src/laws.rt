@@ -56,8 +56,9 @@ pub fn pieces_of_lines()
     ensures counted { PiecesOfLines }
 {}
 
-/// A reading of a valid game waits where it may: the open tables lead from one to the next, each by its PROCESS, to QUIT,
-/// END or ANYKEY, and the open loop is one of theirs; at the main prompt nothing is open and nothing is left of the line.
+/// A reading of a valid game waits only where it may: the open tables lead from one to the next, each by its PROCESS, to
+/// QUIT, END or ANYKEY, and the open loop is one of theirs. At the main prompt, and where the game is over, nothing is open
+/// and nothing is left of the line.
 pub fn stops_rightly()
     ensures readings { ReadingsStopRightly }
     ensures going_on { GoingOnStopsRightly }
