@@ -8,3 +8,4 @@ pub mod Hearing
 pub mod Runs
 pub mod Restored
 pub mod Again
+pub mod Fitting

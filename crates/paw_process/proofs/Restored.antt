@@ -125,7 +125,7 @@ waits_at g p code k v size h = go (count_fits (Some code) k.count) refl h
     go false e q = cc
 
 -- places with no frame are those of a machine with nothing open
-none_open : (g : GameLists) (k : Frames) → fault_at g None k ≡ None → IsClosed (restored k None)
+pub none_open : (g : GameLists) (k : Frames) → fault_at g None k ≡ None → IsClosed (restored k None)
 none_open g k h = go (count_fits None k.count) refl h
   where
     loop_gone : (o : Option OpenLoop) → k.count ≡ 0 → loop_fault g k o ≡ None → o ≡ None

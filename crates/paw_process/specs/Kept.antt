@@ -8,6 +8,7 @@ use Rattle.paw_effects.specs.declared.act.Prompt.{Prompt}
 use Rattle.paw_effects.specs.declared.act.Prompt.TheVariants as prompt
 use Rattle.paw_reading.specs.declared.places.Frame.{Frame}
 use Rattle.paw_reading.specs.declared.places.OpenLoop.{OpenLoop}
+pub use Rattle.paw_reading.specs.Places.{waiting_code}
 use Rattle.paw_process.specs.OpenTables.{OpenTables, IsWaiting, IsClosed}
 use Rattle.paw_process.specs.declared.kept.Frames.{Frames}
 
@@ -33,14 +34,6 @@ restored k waiting = record {
 }
 
 -- ---- the rules ----
-
--- the condact at which a machine waits for this prompt: QUIT, END or ANYKEY
-abbrev pub waiting_code : Prompt → Option ℕ
-waiting_code prompt.Main = None
-waiting_code prompt.Quit = Some 27
-waiting_code prompt.Again = Some 31
-waiting_code prompt.Key = Some 35
-waiting_code prompt.Over = None
 
 -- the outermost table is 0, 1 or 2; any other is the one that is called
 abbrev pub may_open : Option ℕ → ℕ → Bool

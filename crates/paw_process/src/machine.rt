@@ -9,6 +9,7 @@ ghost use Rattle.paw_effects.specs.declared.act.Prompt.TheVariants as prompt;
 ghost use Rattle.paw_reading.specs.Run.{Run, is_ignored, heard, reply, is_yes};
 ghost use Rattle.paw_reading.specs.GoingOn.{on_path};
 ghost use Rattle.paw_reading.specs.Turn.{first_table};
+ghost use Rattle.paw_reading.specs.Places.{ArePlaces};
 ghost use Rattle.paw_process.specs.OpenTables.{OpenTables, below, IsReading, IsWaiting, IsClosed};
 ghost use Rattle.paw_process.specs.Kept.{kept as kept_of, restored, waiting_at, frames_fault, StandsAt};
 ghost use Rattle.paw_process.specs.Meaning.{held, going_on, RunsTo, IsStopped, AwaitsAnswer, AnswersQuit, AnswersKey};
@@ -136,10 +137,11 @@ impl Machine {
     }
 
     /// The places of the machine, to be kept where it waits. Restored at the prompt at which it stands, they are the same
-    /// machine with a full budget.
+    /// machine with a full budget; and they are restored wherever they are places of a run.
     pub fn frames(&self) -> Frames
         ensures value { result ≡ kept_of self.now }
         ensures again { (p : AtPrompt) → StandsAt p self.now → restored result (waiting_at p) ≡ record self.now { left = BUDGET } }
+        ensures sound { (g : GameLists) (p : AtPrompt) → StandsAt p self.now → ArePlaces g p (reverse self.now.frames) self.now.turning → frames_fault g p result ≡ None }
     {
         let mut rows = [start_of(0); MOST_FRAMES];
         rows[..self.count].copy_from_slice(&self.rows[..self.count]);
@@ -164,6 +166,7 @@ impl Machine {
     ) -> Result<Machine, FrameFault>
         ensures value { IfOk result (λ m. m ≡ restored kept.now (waiting_at prompt)) }
         ensures stands { IfOk result (λ m. StandsAt prompt m) }
+        ensures places { IfOk result (λ m. ArePlaces (T.game tables.now) prompt (reverse m.frames) m.turning) }
         ensures again { IfOk result (λ m. kept_of m ≡ kept.now) }
         ensures sound { IfOk result (λ m. frames_fault (T.game tables.now) prompt kept.now ≡ None) }
         ensures fault { IfErr result (λ e. frames_fault (T.game tables.now) prompt kept.now ≡ Some e.depth) }

@@ -1,6 +1,7 @@
 use Rattle.std.proofs.Common.{arith, sym, ◌∙◌}
 use Rattle.paw_process.specs.Kept.{waiting_at}
 use Rattle.paw_process.proofs.Again.{restored_kept}
+use Rattle.paw_process.proofs.Fitting.{kept_places}
 use Rattle.paw_process.proofs.Restored.{stands_at}
 use Rattle.paw_process.proofs.machine.Machine.restore.Goals as goal
 
@@ -12,3 +13,7 @@ returns-clause-stands g c =
 pub returns-clause-again : goal.returns-clause-again
 returns-clause-again g c =
     restored_kept (g.T.Tables.game c.args.tables.now) c.args.prompt (waiting_at c.args.prompt) c.args.kept.now (omega arith) (sym c.frames_fault.ensures.value ∙ c.in_default.is)
+
+pub returns-clause-places : goal.returns-clause-places
+returns-clause-places g c =
+    kept_places (g.T.Tables.game c.args.tables.now) c.args.prompt c.args.kept.now (omega arith) (sym c.frames_fault.ensures.value ∙ c.in_default.is)

@@ -1,0 +1,204 @@
+-- Kept places keep their rules exactly where they are places of a run.
+use Rattle.std.proofs.Common.{◌≡◌, ℕ, zero, suc, ◌-◌, ◌≤◌, ◌<◌, Bool, true, false, ◌&&◌, List, [], ◌∷◌, ◌++◌, Option, Some, None, refl, sym, ap, ◌∙◌, subst, length, take, replicate, reverse, slice_get, arith}
+use Rattle.std.specs.Prelude.{◌==◌, if◌then◌else◌, nat_lt, IfSome}
+use Rattle.std.proofs.lemmas.Bool.Decides.{nat_tests}
+use Rattle.std.proofs.lemmas.Bool.{eqb-true, ltb-true, leb-true}
+use Rattle.std.proofs.lemmas.List.{length-reverse, length-take, reverse-reverse}
+use Rattle.paw_base.specs.declared.parts.Condact.{Condact}
+use Rattle.paw_game.specs.Game.{GameLists}
+use Rattle.paw_game.specs.Tables.{condact_at}
+use Rattle.paw_game.specs.Valid.{is_place}
+use Rattle.paw_effects.specs.declared.act.Prompt.{Prompt}
+use Rattle.paw_effects.specs.declared.act.Prompt.TheVariants as prompt
+use Rattle.paw_reading.specs.declared.places.Frame.{Frame}
+use Rattle.paw_reading.specs.declared.places.OpenLoop.{OpenLoop}
+use Rattle.paw_reading.specs.Turn.{first_table}
+use Rattle.paw_reading.specs.Places.{LeadsTo, tables_of, IsLoopIn, AreOpenTo, ArePlaces}
+use Rattle.paw_process.specs.OpenTables.{OpenTables, IsClosed}
+use Rattle.paw_process.specs.Kept.{unused, kept, condact_of, has_code, may_open, parameter_of, row_stands, rows_fault, table_of, is_table, loop_stands, loop_fault, first_fault, count_fits, fault_at, frames_fault, StandsAt}
+use Rattle.paw_process.specs.declared.kept.Frames.{Frames}
+use Rattle.paw_process.proofs.Restored.{first_of, second, no_first, none_open}
+
+-- ---- of places their rows stand ----
+
+-- rows that aren't used stand
+unused_stand : (g : GameLists) (code : ℕ) (caller : Option ℕ) (d k : ℕ) → rows_fault g code caller 0 d (replicate k unused) ≡ None
+unfolding rows_fault
+unused_stand g code caller d zero = refl
+unused_stand g code caller d (suc k) = unused_stand g code (Some (parameter_of (condact_of g unused))) (suc d) k
+
+has : (code : ℕ) (c : Condact) (o : Option Condact) → o ≡ Some c → c.code ≡ code → has_code code o ≡ true
+has code c o at is = rw (at, is) (grind (arith, nat_tests))
+
+names : (c : Condact) (u : ℕ) (o : Option Condact) → o ≡ Some c → c.a ≡ u → may_open (Some (parameter_of o)) u ≡ true
+names c u o at called = rw (at, called) (grind (arith, nat_tests))
+
+row_goes : (g : GameLists) (code : ℕ) (caller : Option ℕ) (n d : ℕ) (f : Frame) (fs : List Frame) → row_stands g code caller (suc n) f ≡ true
+    → rows_fault g code (Some (parameter_of (condact_of g f))) n (suc d) fs ≡ None → rows_fault g code caller (suc n) d (f ∷ fs) ≡ None
+unfolding rows_fault
+row_goes g code caller n d f fs stands later = let m : suc n - 1 ≡ n = omega arith in rw (stands, m) later
+
+-- a row before the last that is used
+row_calls : (g : GameLists) (code : ℕ) (caller : Option ℕ) (n : ℕ) (f : Frame) → row_stands g code caller (suc (suc n)) f ≡ (may_open caller f.table && has_code 85 (condact_of g f))
+row_calls g code caller n f =
+    let some : (suc (suc n) == 0) ≡ false = grind (arith, nat_tests) in
+    let more : (suc (suc n) == 1) ≡ false = grind (arith, nat_tests) in
+    rw (some, more) refl
+
+path_stands : (g : GameLists) (code : ℕ) (caller : Option ℕ) (path : List Frame) (d k : ℕ) → LeadsTo g code path → may_open caller (first_table path) ≡ true
+    → rows_fault g code caller (length path) d (path ++ replicate k unused) ≡ None
+path_stands g code caller [] d k leads opens = absurd leads
+path_stands g code caller (f ∷ []) d k leads opens =
+    row_goes g code caller 0 d f (replicate k unused) (rw (opens, has code leads.condact (condact_of g f) leads.stands leads.is) refl)
+    (unused_stand g code (Some (parameter_of (condact_of g f))) (suc d) k)
+path_stands g code caller (f ∷ h ∷ path) d k leads opens =
+    row_goes g code caller (suc (length path)) d f ((h ∷ path) ++ replicate k unused)
+    (row_calls g code caller (length path) f ∙ rw (opens, has 85 leads.0.condact (condact_of g f) leads.0.stands leads.0.process) refl)
+    (path_stands g code (Some (parameter_of (condact_of g f))) (h ∷ path) (suc d) k leads.1 (names leads.0.condact h.table (condact_of g f) leads.0.stands leads.0.called))
+
+-- ---- and their loop ----
+
+row_of : (path rows : List Frame) (i t : ℕ) → slice_get (tables_of path) i ≡ Some t → is_table (table_of (slice_get (path ++ rows) i)) t ≡ true
+row_of [] rows i t h = cc
+row_of (f ∷ path) rows zero t h = let e : f.table ≡ t = cc in rw e (grind (arith, nat_tests))
+row_of (f ∷ path) rows (suc i) t h = row_of path rows i t h
+
+level_low : (path : List Frame) (i t : ℕ) → slice_get (tables_of path) i ≡ Some t → i < length path
+level_low [] i t h = cc
+level_low (f ∷ path) zero t h = omega arith
+level_low (f ∷ path) (suc i) t h = let low : i < length path = level_low path i t h in omega arith
+
+loop_fits : (g : GameLists) (path rows : List Frame) (count : ℕ) (o p : Option OpenLoop) → count ≡ length path → IfSome o (IsLoopIn g (tables_of path))
+    → loop_fault g (record { count = count; rows = path ++ rows; turning = p }) o ≡ None
+loop_fits g path rows count None p size k = refl
+loop_fits g path rows count (Some l) p size k =
+    let low : l.level < length path = level_low path l.level l.table k.level in
+    let level : nat_lt l.level count ≡ true = grind (arith, nat_tests) in
+    let last : nat_lt l.last (length g.objects) ≡ true = let few = k.last in grind (arith, nat_tests) in
+    rw (level, row_of path rows l.level l.table k.level, has 86 k.doall.condact (condact_at g l.table l.entry l.at) k.doall.stands k.doall.is, k.place, last) refl
+
+-- ---- places that are kept ----
+
+both_none : (a b : Option ℕ) → a ≡ None → b ≡ None → first_fault a b ≡ None
+both_none None b h k = k
+both_none (Some d) b h k = cc
+
+open_fit : (g : GameLists) (code : ℕ) (m : OpenTables) → 0 < length m.frames → AreOpenTo g code (reverse m.frames) m.turning → fault_at g (Some code) (kept m) ≡ None
+open_fit g code m some at =
+    let size : length m.frames ≡ length (reverse m.frames) = sym (length-reverse m.frames) in
+    let few : length m.frames ≤ 11 = omega (arith, size, at.few) in
+    let fits : count_fits (Some code) (length m.frames) ≡ true = grind (arith, nat_tests) in
+    let opens : may_open None (first_table (reverse m.frames)) ≡ true = let low = at.outermost in grind (arith, nat_tests) in
+    let rows : List Frame = reverse m.frames ++ replicate (11 - length m.frames) unused in
+    rw fits
+    (both_none (rows_fault g code None (length m.frames) 0 rows) (loop_fault g (kept m) m.turning)
+    (subst (λ n. rows_fault g code None n 0 rows ≡ None) (sym size) (path_stands g code None (reverse m.frames) 0 (11 - length m.frames) at.leads opens))
+    (loop_fits g (reverse m.frames) (replicate (11 - length m.frames) unused) (length m.frames) m.turning m.turning size at.loop))
+
+none_fit : (g : GameLists) (m : OpenTables) → IsClosed m → fault_at g None (kept m) ≡ None
+none_fit g m closed = rw (closed.frames, closed.turning) (both_none (rows_fault g 0 None 0 0 (replicate 11 unused)) None (unused_stand g 0 None 0 11) refl)
+
+pub places_fit : (g : GameLists) (p : Prompt) (m : OpenTables) → StandsAt p m → ArePlaces g p (reverse m.frames) m.turning → frames_fault g p (kept m) ≡ None
+places_fit g prompt.Main m stands at = none_fit g m stands
+places_fit g prompt.Quit m stands at = open_fit g 27 m stands.tables.some at
+places_fit g prompt.Again m stands at = open_fit g 31 m stands.tables.some at
+places_fit g prompt.Key m stands at = open_fit g 35 m stands.tables.some at
+places_fit g prompt.Over m stands at = none_fit g m stands
+
+-- ---- rows that stand are places ----
+
+coded : (code : ℕ) (o : Option Condact) → has_code code o ≡ true → (c : Condact) × ((o ≡ Some c) × (c.code ≡ code))
+coded code None h = cc
+coded code (Some c) h = (c, (refl, eqb-true c.code code h))
+
+opened_by : (c : Condact) (u : ℕ) (o : Option Condact) → o ≡ Some c → may_open (Some (parameter_of o)) u ≡ true → c.a ≡ u
+opened_by c u o at h = sym (eqb-true u c.a (rw at at h))
+
+-- what a row that stands says
+record Row (g : GameLists) (code : ℕ) (caller : Option ℕ) (f : Frame) : Type 0 where
+  opens : may_open caller f.table ≡ true
+  condact : Condact
+  stands : condact_of g f ≡ Some condact
+  is : condact.code ≡ code
+
+row_says : (g : GameLists) (code : ℕ) (caller : Option ℕ) (f : Frame) → (may_open caller f.table && has_code code (condact_of g f)) ≡ true → Row g code caller f
+row_says g code caller f h =
+    let at = coded code (condact_of g f) (second (may_open caller f.table) _ h) in
+    record { opens = first_of (may_open caller f.table) _ h; condact = at.0; stands = at.1.0; is = at.1.1 }
+
+later_rows : (g : GameLists) (code : ℕ) (caller : Option ℕ) (n d : ℕ) (f : Frame) (fs : List Frame) → rows_fault g code caller (suc n) d (f ∷ fs) ≡ None
+    → (row_stands g code caller (suc n) f ≡ true) × (rows_fault g code (Some (parameter_of (condact_of g f))) n (suc d) fs ≡ None)
+unfolding rows_fault
+later_rows g code caller n d f fs h = go (row_stands g code caller (suc n) f) refl h
+  where
+    go : (b : Bool) → row_stands g code caller (suc n) f ≡ b → ◌≡◌ {A = Option ℕ} (if b then rows_fault g code (Some (parameter_of (condact_of g f))) (suc n - 1) (suc d) fs else Some d) None
+        → (row_stands g code caller (suc n) f ≡ true) × (rows_fault g code (Some (parameter_of (condact_of g f))) n (suc d) fs ≡ None)
+    go true e q = let m : suc n - 1 ≡ n = omega arith in (e, rw m at q)
+    go false e q = cc
+
+-- the rows that are used lead to the condact
+rows_lead : (g : GameLists) (code : ℕ) (caller : Option ℕ) (n d : ℕ) (rows : List Frame) → suc n ≤ length rows → rows_fault g code caller (suc n) d rows ≡ None
+    → LeadsTo g code (take (suc n) rows) × (may_open caller (first_table (take (suc n) rows)) ≡ true)
+rows_lead g code caller n d [] size h = absurd (omega arith)
+rows_lead g code caller zero d (f ∷ fs) size h =
+    let row = row_says g code caller f (later_rows g code caller 0 d f fs h).0 in
+    (record { condact = row.condact; stands = row.stands; is = row.is }, row.opens)
+rows_lead g code caller (suc n) d (f ∷ []) size h = absurd (omega arith)
+rows_lead g code caller (suc n) d (f ∷ i ∷ fs) size h =
+    let rows = later_rows g code caller (suc n) d f (i ∷ fs) h in
+    let row = row_says g 85 caller f (sym (row_calls g code caller n f) ∙ rows.0) in
+    let rest = rows_lead g code (Some (parameter_of (condact_of g f))) n (suc d) (i ∷ fs) (omega arith) rows.1 in
+    ((record { condact = row.condact; stands = row.stands; process = row.is; called = opened_by row.condact i.table (condact_of g f) row.stands rest.1 }, rest.0), row.opens)
+
+table_in : (rows : List Frame) (count i t : ℕ) → i < count → is_table (table_of (slice_get rows i)) t ≡ true → slice_get (tables_of (take count rows)) i ≡ Some t
+table_in [] count i t low h = cc
+table_in (f ∷ rows) zero i t low h = absurd (omega arith)
+table_in (f ∷ rows) (suc count) zero t low h = ap Some (sym (eqb-true t f.table h))
+table_in (f ∷ rows) (suc count) (suc i) t low h = table_in rows count i t (omega arith) h
+
+loop_in : (g : GameLists) (k : Frames) (o : Option OpenLoop) → loop_fault g k o ≡ None → IfSome o (IsLoopIn g (tables_of (take k.count k.rows)))
+loop_in g k None h = tt
+loop_in g k (Some l) h = go (loop_stands g k l) refl h
+  where
+    go : (b : Bool) → loop_stands g k l ≡ b → ◌≡◌ {A = Option ℕ} (if b then None else Some 11) None → IsLoopIn g (tables_of (take k.count k.rows)) l
+    go true e q =
+        let own = second (nat_lt l.level k.count) _ e in
+        let later = second (is_table (table_of (slice_get k.rows l.level)) l.table) _ own in
+        let last = second (has_code 86 (condact_at g l.table l.entry l.at)) _ later in
+        let at = coded 86 (condact_at g l.table l.entry l.at) (first_of (has_code 86 (condact_at g l.table l.entry l.at)) _ later) in
+        record {
+          level = table_in k.rows k.count l.level l.table (ltb-true l.level k.count (first_of (nat_lt l.level k.count) _ e)) (first_of (is_table (table_of (slice_get k.rows l.level)) l.table) _ own);
+          doall = record { condact = at.0; stands = at.1.0; is = at.1.1 };
+          place = first_of (is_place (length g.locations) l.place) _ last;
+          last = ltb-true l.last (length g.objects) (second (is_place (length g.locations) l.place) _ last);
+        }
+    go false e q = cc
+
+open_places : (g : GameLists) (code : ℕ) (k : Frames) → length k.rows ≡ 11 → fault_at g (Some code) k ≡ None → AreOpenTo g code (take k.count k.rows) k.turning
+open_places g code k size h = go (count_fits (Some code) k.count) refl h
+  where
+    at : (n : ℕ) → 0 < n → n ≤ 11 → n ≡ k.count → rows_fault g code None n 0 k.rows ≡ None → loop_fault g k k.turning ≡ None → AreOpenTo g code (take k.count k.rows) k.turning
+    at zero some few is rows loop = absurd (omega arith)
+    at (suc n) some few is rows loop =
+        let lead = rows_lead g code None n 0 k.rows (omega (arith, size)) rows in
+        record {
+          few = omega (arith, few, is, length-take k.count k.rows);
+          outermost = leb-true (first_table (take k.count k.rows)) 2 (subst (λ m. may_open None (first_table (take m k.rows)) ≡ true) is lead.1);
+          leads = subst (λ m. LeadsTo g code (take m k.rows)) is lead.0;
+          loop = loop_in g k k.turning loop;
+        }
+
+    go : (b : Bool) → count_fits (Some code) k.count ≡ b → ◌≡◌ {A = Option ℕ} (if b then first_fault (rows_fault g code None k.count 0 k.rows) (loop_fault g k k.turning) else Some 0) None
+        → AreOpenTo g code (take k.count k.rows) k.turning
+    go true e q =
+        let fits = no_first (rows_fault g code None k.count 0 k.rows) (loop_fault g k k.turning) q in
+        at k.count (ltb-true 0 k.count (first_of (nat_lt 0 k.count) _ e)) (leb-true k.count 11 (second (nat_lt 0 k.count) _ e)) refl fits.0 fits.1
+    go false e q = cc
+
+-- the other way round: kept places that keep their rules are those of a run
+pub kept_places : (g : GameLists) (p : Prompt) (k : Frames) → length k.rows ≡ 11 → frames_fault g p k ≡ None → ArePlaces g p (reverse (reverse (take k.count k.rows))) k.turning
+kept_places g prompt.Main k size h = let closed = none_open g k h in (ap (λ (s : List Frame). reverse s) closed.frames, closed.turning)
+kept_places g prompt.Quit k size h = rw (reverse-reverse (take k.count k.rows)) (open_places g 27 k size h)
+kept_places g prompt.Again k size h = rw (reverse-reverse (take k.count k.rows)) (open_places g 31 k size h)
+kept_places g prompt.Key k size h = rw (reverse-reverse (take k.count k.rows)) (open_places g 35 k size h)
+kept_places g prompt.Over k size h = let closed = none_open g k h in (ap (λ (s : List Frame). reverse s) closed.frames, closed.turning)
