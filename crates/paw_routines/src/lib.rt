@@ -1,0 +1,6 @@
+//! Routines that a game may call: code from outside, known by the values that it gives.
+#![tactic(auto)]
+
+pub mod routines;
+#[cfg(test)]
+mod tests;

@@ -1,0 +1,36 @@
+// Routines: code from outside that gives a value for a value.
+
+ghost use Rattle.std.specs.Prelude.{◌≡◌, ℕ, List, nat_lt, is_some};
+ghost use Rattle.paw_routines.specs.Rows.{StandFor, value_at};
+ghost use Rattle.paw_routines.specs.Routines.{AreRowsOf, HaveRows};
+
+/// So many routines, numbered from 0, each of which gives a value for a value.
+#[derive(Drop)]
+pub struct Routines<F> {
+    count: u8,
+    f: F,
+}
+
+impl<F: Fn(u8, u8) -> u8> Routines<F> {
+    /// The routines below `count`, where routine n gives for x what the closure gives for n and x.
+    pub fn new(count: u8, f: F) -> Routines<F>
+        requires rows { (X : List (List ℕ)) × StandFor F.Fn f count X }
+        ensures rows { (X : List (List ℕ)) → StandFor F.Fn f count X → AreRowsOf F.Fn result X }
+        ensures some { HaveRows F.Fn result }
+    {
+        Routines { count, f }
+    }
+
+    /// What routine n gives for x. None exactly where there is no routine n.
+    pub fn call(&self, n: u8, x: u8) -> Option<u8>
+        requires rows { HaveRows F.Fn self.now }
+        ensures value { (X : List (List ℕ)) → AreRowsOf F.Fn self.now X → result ≡ value_at X n x }
+        ensures none { is_some result ≡ nat_lt n self.now.count }
+    {
+        if n < self.count {
+            Some((self.f)(n, x))
+        } else {
+            None
+        }
+    }
+}
