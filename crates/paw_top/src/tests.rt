@@ -241,7 +241,10 @@ fn images_are_refused(rt: HostRuntime) -> Result<(), Fail> {
     let mut longer = TWO_ROOMS.to_vec(alloc)?;
     longer.push(0)?;
     let damaged = Outcome::ImageDamaged { at: 0 };
-    let unbuilt = Outcome::Unbuilt { at: 113, code: 29 };
+    // The second entry of table 0 reads NOTAT 1 and then EXTERN 0 32.
+    let mut external = two_rooms_with(116, 2);
+    external[119] = 91;
+    let unbuilt = Outcome::Unbuilt { at: 119, code: 91 };
     for case in [
         refusal("no byte", &[], damaged),
         refusal("without its last byte", &TWO_ROOMS[..133], damaged),
@@ -251,11 +254,7 @@ fn images_are_refused(rt: HostRuntime) -> Result<(), Fail> {
         refusal("words out of order", &two_rooms_with(17, b'Z'), damaged),
         refusal("a way to nowhere", &two_rooms_with(104, 2), damaged),
         refusal("no such condact", &two_rooms_with(113, 108), damaged),
-        refusal(
-            "a condact that isn't built",
-            &two_rooms_with(113, 29),
-            unbuilt,
-        ),
+        refusal("a condact that isn't built", &external, unbuilt),
     ] {
         comes_so(&rt, alloc, &case)?;
     }
@@ -392,9 +391,9 @@ fn outcomes_have_their_status_and_text(rt: HostRuntime) -> Result<(), Fail> {
             "image damaged at 18446744073709551615\n",
         ),
         (
-            Outcome::Unbuilt { at: 113, code: 29 },
+            Outcome::Unbuilt { at: 119, code: 91 },
             3,
-            "not built: code 29 at 113\n",
+            "not built: code 91 at 119\n",
         ),
         (
             Outcome::Spent(SpentKind::Condacts),
