@@ -1,6 +1,14 @@
+pub mod Time
 pub mod Names
 pub mod Counted
 mod Logs
+mod Replays
+mod Writes
+mod Disks
+mod Sees
+mod Stores
+mod Leaves
+mod Calls
 mod Lines
 mod Consumed
 mod FirstLine

@@ -1,8 +1,8 @@
 -- One more call in a record of calls.
-use Rattle.std.proofs.Common.{◌≡◌, ◌≤◌, ◌<◌, ℕ, ◌+◌, ◌-◌, List, [], ◌∷◌, ◌++◌, length, take, drop, get_or, zero, suc, refl, sym, ap, ◌∙◌, arith, append_assoc, length-append}
+use Rattle.std.proofs.Common.{◌≡◌, ◌≤◌, ◌<◌, ℕ, ◌+◌, ◌-◌, List, [], ◌∷◌, ◌++◌, length, take, drop, get_or, zero, suc, refl, ap, ◌∙◌, subst, arith, append_assoc, length-append}
 use Rattle.std.specs.Prelude.{slice_range}
 use Rattle.std.proofs.Math.Seq.{take-append_seam, drop-append_seam, take-length}
-use Rattle.std.proofs.lemmas.List.{take-append-le, drop-append-le, length-drop, map-append}
+use Rattle.std.proofs.lemmas.List.{take-append-le, drop-append-le, length-drop, map-append, take_more, drop_more}
 use Rattle.std.proofs.lemmas.List.Sums.{fold-append}
 use Rattle.paw_stage.specs.Stage.{Standing}
 use Rattle.paw_stage.specs.Done.{Done, step, after}
@@ -55,7 +55,7 @@ all_done-push room name bytes calls c start h from mid to =
     map-append (done_in ((room ++ name) ++ bytes)) calls (c ∷ []) ∙ (ap (λ ds. ds ++ done_in ((room ++ name) ++ bytes) c ∷ []) old ∙ ap (λ x. all_done room calls ++ x ∷ []) d)
 
 pub laid-push : (calls : List Call) (c : Call) (start mid end : ℕ) → AreLaid calls start mid → c.from ≡ mid → c.from ≤ c.mid → c.mid ≤ c.to → c.to ≡ end → AreLaid (calls ++ c ∷ []) start end
-laid-push [] c start mid end h from low high to = (from ∙ sym h, low, high, to)
+laid-push [] c start mid end h from low high to = (omega arith, low, high, omega arith)
 laid-push (x ∷ calls) c start mid end h from low high to = (h.0, h.1, h.2, laid-push calls c x.to mid end h.3 from low high to)
 
 -- each of the calls lies in the room
@@ -63,3 +63,28 @@ pub laid-at : (calls : List Call) (start end k : ℕ) (d : Call) → AreLaid cal
 laid-at [] start end k d h low = absurd (omega arith)
 laid-at (c ∷ calls) start end zero d h low = (h.1, h.2, laid_low calls c.to end h.3)
 laid-at (c ∷ calls) start end (suc k) d h low = laid-at calls c.to end k d h.3 (omega arith)
+
+-- one call more of those in the room
+pub done-next : (room : List ℕ) (calls : List Call) (k : ℕ) (d : Call) → k < length calls → all_done room (take (k + 1) calls) ≡ all_done room (take k calls) ++ done_in room (get_or calls k d) ∷ []
+done-next room calls k d low =
+    ap (all_done room) (take_more calls k d low) ∙ map-append (done_in room) (take k calls) (get_or calls k d ∷ [])
+
+-- the next call lies behind those before it
+pub laid-next : (calls : List Call) (k start end : ℕ) (d : Call) → k < length calls → AreLaid (drop k calls) start end → AreLaid (get_or calls k d ∷ drop (k + 1) calls) start end
+laid-next calls k start end d low h = subst (λ l. AreLaid l start end) (drop_more calls k d low) h
+
+-- the calls lie behind any earlier place too
+pub laid-from : (calls : List Call) (start low end : ℕ) → low ≤ start → AreLaid calls start end → AreLaid calls low end
+laid-from [] start low end l h = omega arith
+laid-from (c ∷ calls) start low end l h = (omega (arith, h.0), h.1, h.2, h.3)
+
+-- so do the first of them, and the last
+pub laid-take : (calls : List Call) (n start end : ℕ) → AreLaid calls start end → AreLaid (take n calls) start end
+laid-take calls zero start end h = laid_low calls start end h
+laid-take [] (suc n) start end h = h
+laid-take (c ∷ calls) (suc n) start end h = (h.0, h.1, h.2, laid-take calls n c.to end h.3)
+
+pub laid-drop : (calls : List Call) (n start end : ℕ) → AreLaid calls start end → AreLaid (drop n calls) start end
+laid-drop calls zero start end h = h
+laid-drop [] (suc n) start end h = h
+laid-drop (c ∷ calls) (suc n) start end h = laid-from (drop n calls) c.to start end (omega (arith, h.0, h.1, h.2)) (laid-drop calls n c.to end h.3)

@@ -1,6 +1,8 @@
 -- What a stage in memory was asked to do, and what stands after it.
-use Rattle.std.specs.Prelude.{ℕ, ◌+◌, List, [], ◌++◌, length, fold, Some, None}
-use Rattle.paw_stage.specs.Stage.{Standing, holds}
+use Rattle.std.specs.Prelude.{ℕ, ◌+◌, List, [], ◌++◌, length, fold, Option, Some, None, Bool, false, if◌then◌else◌}
+use Rattle.std.specs.Str.{bytes_eq}
+use Rattle.paw_stage.specs.Disk.{touched, stable}
+use Rattle.paw_stage.specs.Stage.{Standing, holds, bytes_or_none, made_if_missing, wrote}
 use Rattle.paw_stage.specs.declared.log.Kind.{Kind}
 use Rattle.paw_stage.specs.declared.log.Kind.TheVariants as kind
 
@@ -33,15 +35,57 @@ ended = record { kind = kind.End; name = []; bytes = [] }
 abbrev pub showed : List ℕ → Done
 showed text = record { kind = kind.Show; name = []; bytes = text }
 
+-- A call attached a store, read it, wrote bytes to it from a place on, synced it.
+abbrev pub attached_store : List ℕ → Done
+attached_store name = record { kind = kind.Attach; name = name; bytes = [] }
+
+abbrev pub read_store : Done
+read_store = record { kind = kind.Read; name = []; bytes = [] }
+
+abbrev pub wrote_store : ℕ → List ℕ → Done
+wrote_store at bytes = record { kind = kind.Write at; name = []; bytes = bytes }
+
+abbrev pub synced_store : Done
+synced_store = record { kind = kind.Sync; name = []; bytes = [] }
+
 -- With nothing there.
 abbrev pub fresh : Standing
-fresh = record { files = λ n. None; lines = []; asked = 0; shown = [] }
+fresh = record { files = λ n. None; lines = []; asked = 0; shown = []; attached = None; disk = stable []; written = 0 }
+
+-- Whether the attached store is the file of this name.
+abbrev pub is_attached : Option (List ℕ) → List ℕ → Bool
+is_attached None name = false
+is_attached (Some n) name = bytes_eq n name
+
+-- What stands once the file of this name holds these bytes, or is gone where there are none. Where it is that of the
+-- attached store, the store has these bytes, and all of them are synced.
+abbrev pub filed : List ℕ → Option (List ℕ) → Standing → Standing
+filed name bytes s = record s {
+  files = holds name bytes s.files;
+  disk = if is_attached s.attached name then stable (bytes_or_none bytes) else s.disk;
+}
+
+-- What stands once the file of this name is the attached store. It was made empty where it was missing.
+abbrev pub opened : List ℕ → Standing → Standing
+opened name s = record s {
+  files = made_if_missing name (s.files name) s.files;
+  attached = Some name;
+  disk = stable (bytes_or_none (s.files name));
+}
+
+-- What stands once the store is synced.
+abbrev pub settled : Standing → Standing
+settled s = record s { disk = stable s.disk.bytes }
 
 -- What a call of a kind makes of what stands. The lines that are left stand elsewhere.
 abbrev pub stepped : Kind → List ℕ → List ℕ → Standing → Standing
-stepped kind.Add name bytes s = record s { files = holds name (Some bytes) s.files }
+stepped kind.Add name bytes s = filed name (Some bytes) s
 stepped kind.Load name bytes s = s
-stepped kind.Save name bytes s = record s { files = holds name (Some bytes) s.files }
+stepped kind.Save name bytes s = filed name (Some bytes) s
+stepped kind.Attach name bytes s = opened name s
+stepped kind.Read name bytes s = s
+stepped (kind.Write at) name bytes s = wrote s (touched at (length bytes) bytes s.disk) (length bytes)
+stepped kind.Sync name bytes s = settled s
 stepped kind.Take name bytes s = record s { asked = s.asked + 1 }
 stepped kind.End name bytes s = s
 stepped kind.Show name bytes s = record s { shown = s.shown ++ bytes }

@@ -1,5 +1,5 @@
 -- A record of calls, kept in rooms that were taken beforehand.
-use Rattle.std.specs.Prelude.{◌≡◌, ℕ, ◌-◌, ◌≤◌, nat_lt, nat_le, ◌&&◌, Bool, List, [], ◌∷◌, ◌++◌, map, slice_range}
+use Rattle.std.specs.Prelude.{ℕ, ◌-◌, ◌≤◌, nat_lt, nat_le, ◌&&◌, Bool, List, [], ◌∷◌, ◌++◌, map, slice_range}
 use Rattle.paw_stage.specs.Done.{Done, size_of}
 use Rattle.paw_stage.specs.declared.log.Call.{Call}
 
@@ -28,7 +28,7 @@ done_in room c = record { kind = c.kind; name = slice_range room c.from c.mid; b
 abbrev pub all_done : List ℕ → List Call → List Done
 all_done room calls = map (done_in room) calls
 
--- The places of calls that lie one after the other, from start to end.
+-- The places of calls that lie one after the other, between start and end.
 abbrev pub AreLaid : List Call → ℕ → ℕ → Type 0
-AreLaid [] start end = start ≡ end
-AreLaid (c ∷ cs) start end = (c.from ≡ start) × (c.from ≤ c.mid) × (c.mid ≤ c.to) × AreLaid cs c.to end
+AreLaid [] start end = start ≤ end
+AreLaid (c ∷ cs) start end = (start ≤ c.from) × (c.from ≤ c.mid) × (c.mid ≤ c.to) × AreLaid cs c.to end

@@ -8,10 +8,13 @@ use Rattle.paw_stage.specs.declared.log.Log.TheInside.{Inside}
 abbrev pub logged_in : Inside → Logged
 logged_in l = record { calls = all_done l.room.items l.calls.items; calls_left = l.calls_left; bytes_left = l.bytes_left }
 
--- The calls lie one after the other in the room, the text is what they showed, and the spare calls and bytes have room.
+-- The calls lie one after the other in the room, the text is what they showed, so many bytes were written to stores, and
+-- the spare calls and bytes have room.
 pub record IsKept (l : Inside) : Type 0 where
   pub laid : AreLaid l.calls.items 0 (length l.room.items)
   pub text : l.text.items ≡ (after fresh (all_done l.room.items l.calls.items)).shown
+  pub written : l.written ≡ (after fresh (all_done l.room.items l.calls.items)).written
   pub calls_fit : vec_len l.calls + l.calls_left ≤ vec_capacity l.calls
   pub bytes_fit : vec_len l.room + l.bytes_left ≤ vec_capacity l.room
+  pub written_fits : l.written ≤ vec_len l.room
   pub text_fits : vec_len l.text + l.bytes_left ≤ vec_capacity l.text

@@ -1,10 +1,12 @@
 -- A stage in memory: the lines that are left, its record of calls, and its counts of faults.
-use Rattle.std.specs.Prelude.{ℕ, Bool, List, [], ◌∷◌, ◌++◌}
+use Rattle.std.specs.Prelude.{◌≡◌, ℕ, Bool, List, [], ◌∷◌, ◌++◌, length}
 use Rattle.paw_stage.specs.declared.StageCall.{StageCall}
 use Rattle.paw_stage.specs.declared.faults.FaultCounts.{FaultCounts}
 use Rattle.paw_stage.specs.Stage.{Standing}
+use Rattle.paw_stage.specs.Moments.{Moment, moment_of}
 use Rattle.paw_stage.specs.Faults.{raised, no_faults}
 use Rattle.paw_stage.specs.Done.{Done, size_of, added, fresh, after}
+use Rattle.paw_stage.specs.Replay.{since_of, only_now}
 use Rattle.paw_stage.specs.Log.{Logged, has_room, logged, given}
 
 pub record Memory : Type 0 where
@@ -19,6 +21,17 @@ empty calls bytes = record { lines = []; log = record { calls = []; calls_left =
 -- What stands at it: what its calls, played again, make of nothing, and the lines that are left.
 abbrev pub standing_of : Memory → Standing
 standing_of m = record (after fresh m.log.calls) { lines = m.lines }
+
+-- The time is the number of calls that were recorded.
+abbrev pub clock_of : Memory → ℕ
+clock_of m = length m.log.calls
+
+-- The moments since a time.
+abbrev pub moments_of : Memory → ℕ → Moment → Type 0
+moments_of m = since_of m.log.calls
+
+pub only_moment : (m : Memory) (x : Moment) → moments_of m (clock_of m) x → x ≡ moment_of (standing_of m)
+only_moment m x h = only_now m.log.calls x h
 
 -- Whether there is room for a call with so many bytes.
 abbrev pub can_note : Done → Memory → Bool

@@ -1,7 +1,9 @@
 -- What a stage tells, and what its calls do to it.
-use Rattle.std.specs.Prelude.{◌≡◌, ◌⊎◌, ℕ, ◌+◌, ◌-◌, ◌<◌, ◌≤◌, ◌^◌, List, [], ◌∷◌, take, Option, if◌then◌else◌}
+use Rattle.std.specs.Prelude.{◌≡◌, ◌≢◌, ◌⊎◌, ℕ, ◌+◌, ◌-◌, ◌<◌, ◌≤◌, ◌^◌, List, [], ◌∷◌, length, take, Option, Some, None, Result, Ok, Err, if◌then◌else◌}
 use Rattle.std.specs.Str.{bytes_eq}
+use Rattle.paw_stage.specs.Disk.{Disk, stable, IsInWrite}
 use Rattle.paw_stage.specs.declared.StageCall.{StageCall}
+use Rattle.paw_stage.specs.declared.Failed.{Failed}
 use Rattle.paw_stage.specs.declared.Asked.{Asked}
 use Rattle.paw_stage.specs.declared.Asked.TheVariants as asked
 
@@ -13,13 +15,32 @@ Files = List ℕ → Option (List ℕ)
 abbrev pub holds : List ℕ → Option (List ℕ) → Files → Files
 holds name bytes files = λ n. if bytes_eq n name then bytes else files n
 
+-- The bytes of a file; none where it is missing.
+abbrev pub bytes_or_none : Option (List ℕ) → List ℕ
+bytes_or_none None = []
+bytes_or_none (Some bytes) = bytes
+
+-- The files, once the file of this name is there: it was made empty where it was missing.
+abbrev pub made_if_missing : List ℕ → Option (List ℕ) → Files → Files
+made_if_missing name None files = holds name (Some []) files
+made_if_missing name (Some bytes) files = files
+
+-- The files, once the attached store holds these bytes: they are those of its file.
+abbrev pub held : Option (List ℕ) → List ℕ → Files → Files
+held None bytes files = files
+held (Some name) bytes files = holds name (Some bytes) files
+
 -- What stands at a stage: the files, the lines that are left (the next one first), the number of lines that were
--- taken, and the whole text shown.
+-- taken, the whole text shown, the name of the attached store, its bytes with what a crash may leave of them, and the
+-- number of bytes written to stores.
 pub record Standing : Type 0 where
   pub files : Files
   pub lines : List (List ℕ)
   pub asked : ℕ
   pub shown : List ℕ
+  pub attached : Option (List ℕ)
+  pub disk : Disk
+  pub written : ℕ
 
 -- A count of faults rose in a call. Once a count stands at its last value, it counts as having risen.
 abbrev pub Rose : ℕ → ℕ → Type 0
@@ -42,6 +63,34 @@ AsksTo old new (asked.Line n) into =
 AsksTo old new asked.End into = (old.lines ≡ []) × (new ≡ old)
 AsksTo old new asked.Failed into = new ≡ old
 
--- What a save does: the file of this name now holds these bytes, or is gone where there are none.
+-- What a save does: the file of this name now holds these bytes, or is gone where there are none. Where it is that of
+-- the attached store, the store has these bytes, and what a crash may leave of it is open.
 pub record Saves (old new : Standing) (name : List ℕ) (bytes : Option (List ℕ)) : Type 0 where
-  pub stands : new ≡ record old { files = holds name bytes old.files }
+  pub disk : Disk
+  pub apart : old.attached ≢ Some name → disk ≡ old.disk
+  pub store : old.attached ≡ Some name → disk.bytes ≡ bytes_or_none bytes
+  pub stands : new ≡ record old { files = holds name bytes old.files; disk = disk }
+
+-- What an attach does. The file of this name is the store, and was made empty where it was missing; its bytes are stable.
+-- Where it failed, nothing changed, or no store is attached any more.
+abbrev pub AttachesTo : Standing → Standing → List ℕ → Result ℕ Failed → Type 0
+AttachesTo old new name (Ok n) =
+    (n ≡ length (bytes_or_none (old.files name)))
+    × (new ≡ record old {
+      files = made_if_missing name (old.files name) old.files;
+      attached = Some name;
+      disk = stable (bytes_or_none (old.files name));
+    })
+AttachesTo old new name (Err e) = (new ≡ old) ⊎ (new ≡ record old { attached = None; disk = stable [] })
+
+-- What stands once the store's bytes are those of this disk, and n bytes more were written.
+abbrev pub wrote : Standing → Disk → ℕ → Standing
+wrote old d n = record old { files = held old.attached d.bytes old.files; disk = d; written = old.written + n }
+
+-- What a write of n bytes leaves where it failed in the middle.
+pub record WritesPart (old new : Standing) (at n : ℕ) : Type 0 where
+  pub disk : Disk
+  pub count : ℕ
+  pub inside : IsInWrite at n old.disk disk
+  pub no_more : count ≤ n
+  pub stands : new ≡ wrote old disk count

@@ -1,10 +1,10 @@
 // A count of faults for each call, kept by every stage.
 
-ghost use Rattle.std.specs.Prelude.{◌≡◌};
+ghost use Rattle.std.specs.Prelude.{◌≡◌, IsErr, OnOk, OnErr};
 ghost use Rattle.paw_stage.specs.Faults.{count_of, no_faults, raised};
 ghost use Rattle.paw_stage.specs.Stage.{Rose, Grows};
 
-use crate::StageCall;
+use crate::{Failed, StageCall};
 
 /// How often each call has failed. A count never falls, and stops at its last value, 2^64 - 1.
 #[derive(Clone, Copy, Drop, PartialEq, Eq, Debug)]
@@ -55,5 +55,19 @@ impl FaultCounts {
             StageCall::Ask => self.ask = self.ask.saturating_add(1),
             StageCall::Show => self.show = self.show.saturating_add(1),
         }
+    }
+
+    /// Counts one more fault of a call where it failed, and hands on what it answered.
+    pub fn answered<T>(&mut self, call: StageCall, answer: Result<T, Failed>) -> Result<T, Failed>
+        ensures same { result ≡ answer }
+        ensures fine { OnOk result (self.new ≡ self.old) }
+        ensures raised { OnErr result (self.new ≡ raised call self.old) }
+        ensures rose { IsErr result → Rose (count_of self.old call) (count_of self.new call) }
+        ensures grows { Grows (count_of self.old) (count_of self.new) }
+    {
+        if answer.is_err() {
+            self.raise(call);
+        }
+        answer
     }
 }

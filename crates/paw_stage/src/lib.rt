@@ -4,19 +4,25 @@
 mod ahead;
 mod failing;
 mod faults;
+mod files;
 mod input;
 mod log;
 mod memory;
 mod real;
+mod refusing;
+mod replay;
+mod stopping;
 mod streams;
 #[cfg(test)]
 mod tests;
 
-pub use failing::FailStage;
+pub use failing::{FailStage, Listed};
 pub use faults::FaultCounts;
 pub use memory::MemoryStage;
 pub use real::RealStage;
+pub use refusing::{Refusals, RefusingStage};
 use std::alloc::Global;
+pub use stopping::{StopStage, Stopping};
 
 /// The calls of a stage, by which faults are counted. A load has two: `LoadAbsent` counts the loads that found no
 /// file, and `Load` those that failed otherwise.
@@ -53,28 +59,40 @@ pub enum Asked {
     Failed,
 }
 
-/// The outside: files by name, the lines of a player and the text shown to them.
+/// The outside: files by name, one of which may be attached as a store, the lines of a player and the text shown to them.
 ///
-/// A stage that *tells* says what stands at it; every stage tells how often each call has failed. A call that fails
-/// always raises its own count. What a clause doesn't name stays as it was before the call.
+/// A stage that *tells* says what stands at it, and what stood at each moment, inside its calls too; every stage tells how
+/// often each call has failed. A call that fails always raises its own count. What a clause doesn't name stays as it was
+/// before the call.
+///
+/// A store is a file. What a crash leaves of it follows the disk of `specs/Disk.antt`: any bytes wherever it was written
+/// since the last sync, and all others as they were.
 pub trait Stage {
-    ghost use Rattle.std.specs.Prelude.{◌≡◌, ◌⊎◌, ◌+◌, ◌++◌, ◌↔◌, List, ℕ, take, Option, Some, None, Ok, Err, OnOk, OnErr, IfOk, IsErr};
+    ghost use Rattle.std.specs.Prelude.{◌≡◌, ◌⊎◌, ◌≤◌, ◌+◌, ◌++◌, ◌↔◌, List, ℕ, length, take, drop, Option, Some, None, Ok, Err, IsSome, OnOk, OnErr, IfOk, IsErr};
     ghost use Rattle.paw_stage.specs.declared.StageCall.{StageCall};
     ghost use Rattle.paw_stage.specs.declared.StageCall.TheVariants as call;
     ghost use Rattle.paw_stage.specs.declared.LoadRefusal.TheVariants as refusal;
     ghost use Rattle.paw_stage.specs.declared.Asked.TheVariants as asked;
-    ghost use Rattle.paw_stage.specs.Stage.{Standing, Rose, Grows, AsksTo, Saves};
+    ghost use Rattle.paw_stage.specs.Disk.{IsStable, stable, touched};
+    ghost use Rattle.paw_stage.specs.Stage.{Standing, Rose, Grows, AsksTo, Saves, AttachesTo, WritesPart, wrote};
+    ghost use Rattle.paw_stage.specs.Moments.{Moment, moment_of, Passes, Still, InAsk, InShow, InSave, InAttach, InWrite, InSync};
 
     /// Whether the stage tells what stands at it. The clauses on what stands hold only of a stage that does; one
     /// over a real system tells nothing but its counts. No call changes whether a stage tells.
     ghost Tells: { Self → Type 0 };
 
-    /// What stands now: the files by name, the lines that are left, the number of lines taken, and the text shown.
-    /// It means something only of a stage that tells.
+    /// What stands now: the files by name, the lines that are left, the number of lines taken, the text shown, the
+    /// attached store and what a crash may leave of it. It means something only of a stage that tells.
     ghost standing: { Self → Standing };
 
     /// How often each call has failed so far. A count never falls, and 2^64 - 1 is its last value.
     ghost faults: { Self → StageCall → ℕ };
+
+    /// The time: a number that never falls. One clock runs for files, store, lines and text.
+    ghost clock: { Self → ℕ };
+
+    /// The moments since a time, those inside calls among them.
+    ghost since: { Self → ℕ → Moment → Type 0 };
 
     /// Gives the whole file of a name, or its first `most + 1` bytes where it is longer, so that a caller sees that
     /// it is too long.
@@ -89,7 +107,8 @@ pub trait Stage {
         ensures still { Tells self.old → standing self.new ≡ standing self.old }
         ensures found { Tells self.old → IfOk result (λ v. (bytes : List ℕ) × ((standing self.old).files name.now ≡ Some bytes) × (v.items ≡ take (most + 1) bytes)) }
         ensures missing { Tells self.old → result ≡ Err refusal.Absent → (standing self.old).files name.now ≡ None }
-        ensures nowhere { Tells self.old → (standing self.old).files name.now ≡ None → (result ≡ Err refusal.Absent) ⊎ (result ≡ Err refusal.Failed) };
+        ensures nowhere { Tells self.old → (standing self.old).files name.now ≡ None → (result ≡ Err refusal.Absent) ⊎ (result ≡ Err refusal.Failed) }
+        ensures time { Tells self.old → Passes (clock self.old) (clock self.new) (since self.old) (since self.new) (Still (standing self.old)) };
 
     /// Makes the file of a name hold these bytes. After Failed the file may hold any bytes, or be gone.
     fn save(&mut self, name: &str, bytes: &[u8]) -> Result<(), Failed>
@@ -97,7 +116,53 @@ pub trait Stage {
         ensures counts { Grows (faults self.old) (faults self.new) }
         ensures cause { IsErr result → Rose (faults self.old call.Save) (faults self.new call.Save) }
         ensures saved { Tells self.old → OnOk result (Saves (standing self.old) (standing self.new) name.now (Some bytes.now)) }
-        ensures part { Tells self.old → OnErr result ((standing self.new ≡ standing self.old) ⊎ ((left : Option (List ℕ)) × Saves (standing self.old) (standing self.new) name.now left)) };
+        ensures part { Tells self.old → OnErr result ((standing self.new ≡ standing self.old) ⊎ ((left : Option (List ℕ)) × Saves (standing self.old) (standing self.new) name.now left)) }
+        ensures time { Tells self.old → Passes (clock self.old) (clock self.new) (since self.old) (since self.new) (InSave (standing self.old) name.now) };
+
+    /// Makes the file of a name the attached store, and answers its length in bytes. A missing file is made empty. It is
+    /// asked for only while all that was written to the store before is synced.
+    ///
+    /// After Failed the store attached before is still attached, or none is.
+    fn attach(&mut self, name: &str) -> Result<u64, Failed>
+        requires synced { Tells self.old → IsStable (standing self.old).disk }
+        ensures tells { Tells self.old ↔ Tells self.new }
+        ensures counts { Grows (faults self.old) (faults self.new) }
+        ensures cause { IsErr result → Rose (faults self.old call.Attach) (faults self.new call.Attach) }
+        ensures answer { Tells self.old → AttachesTo (standing self.old) (standing self.new) name.now result }
+        ensures time { Tells self.old → Passes (clock self.old) (clock self.new) (since self.old) (since self.new) (InAttach (standing self.old) (standing self.new) name.now) };
+
+    /// Reads bytes of the attached store, as many as `into` has, from a place on. All of them lie in the store. After
+    /// Failed the bytes of `into` may be any.
+    fn read_at(&mut self, at: u64, into: &mut [u8]) -> Result<(), Failed>
+        requires attached { Tells self.old → IsSome (standing self.old).attached }
+        requires within { Tells self.old → at + length into.old ≤ length (standing self.old).disk.bytes }
+        ensures tells { Tells self.old ↔ Tells self.new }
+        ensures counts { Grows (faults self.old) (faults self.new) }
+        ensures cause { IsErr result → Rose (faults self.old call.Read) (faults self.new call.Read) }
+        ensures still { Tells self.old → standing self.new ≡ standing self.old }
+        ensures read { Tells self.old → OnOk result (into.new ≡ take (length into.old) (drop at (standing self.old).disk.bytes)) }
+        ensures time { Tells self.old → Passes (clock self.old) (clock self.new) (since self.old) (since self.new) (Still (standing self.old)) };
+
+    /// Writes bytes to the attached store from a place on, which lies in the store or right behind it. After Failed any
+    /// part of the range may hold any bytes, and as many bytes as were handed in, or fewer, count as written.
+    fn write_at(&mut self, at: u64, bytes: &[u8]) -> Result<(), Failed>
+        requires attached { Tells self.old → IsSome (standing self.old).attached }
+        requires within { Tells self.old → at ≤ length (standing self.old).disk.bytes }
+        ensures tells { Tells self.old ↔ Tells self.new }
+        ensures counts { Grows (faults self.old) (faults self.new) }
+        ensures cause { IsErr result → Rose (faults self.old call.Write) (faults self.new call.Write) }
+        ensures written { Tells self.old → OnOk result (standing self.new ≡ wrote (standing self.old) (touched at (length bytes.now) bytes.now (standing self.old).disk) (length bytes.now)) }
+        ensures part { Tells self.old → OnErr result ((standing self.new ≡ standing self.old) ⊎ WritesPart (standing self.old) (standing self.new) at (length bytes.now)) }
+        ensures time { Tells self.old → Passes (clock self.old) (clock self.new) (since self.old) (since self.new) (InWrite (standing self.old) at (length bytes.now)) };
+
+    /// Makes what was written to the attached store last: a crash leaves just what a read gives.
+    fn sync(&mut self) -> Result<(), Failed>
+        ensures tells { Tells self.old ↔ Tells self.new }
+        ensures counts { Grows (faults self.old) (faults self.new) }
+        ensures cause { IsErr result → Rose (faults self.old call.Sync) (faults self.new call.Sync) }
+        ensures synced { Tells self.old → OnOk result (standing self.new ≡ record (standing self.old) { disk = stable (standing self.old).disk.bytes }) }
+        ensures part { Tells self.old → OnErr result (standing self.new ≡ standing self.old) }
+        ensures time { Tells self.old → Passes (clock self.old) (clock self.new) (since self.old) (since self.new) (InSync (standing self.old)) };
 
     /// Takes the next line and gives its first 255 bytes, without its line end. The bytes of `into` past the answered
     /// length may be any.
@@ -107,7 +172,8 @@ pub trait Stage {
         ensures tells { Tells self.old ↔ Tells self.new }
         ensures counts { Grows (faults self.old) (faults self.new) }
         ensures cause { result ≡ asked.Failed → Rose (faults self.old call.Ask) (faults self.new call.Ask) }
-        ensures answer { Tells self.old → AsksTo (standing self.old) (standing self.new) result into.new };
+        ensures answer { Tells self.old → AsksTo (standing self.old) (standing self.new) result into.new }
+        ensures time { Tells self.old → Passes (clock self.old) (clock self.new) (since self.old) (since self.new) (InAsk (standing self.old) result) };
 
     /// Shows a text after the text shown before. After Failed some first part of the text was shown, maybe nothing.
     fn show(&mut self, text: &[u8]) -> Result<(), Failed>
@@ -115,5 +181,12 @@ pub trait Stage {
         ensures counts { Grows (faults self.old) (faults self.new) }
         ensures cause { IsErr result → Rose (faults self.old call.Show) (faults self.new call.Show) }
         ensures shown { Tells self.old → OnOk result (standing self.new ≡ record (standing self.old) { shown = (standing self.old).shown ++ text.now }) }
-        ensures part { Tells self.old → OnErr result ((n : ℕ) × (standing self.new ≡ record (standing self.old) { shown = (standing self.old).shown ++ take n text.now })) };
+        ensures part { Tells self.old → OnErr result ((n : ℕ) × (standing self.new ≡ record (standing self.old) { shown = (standing self.old).shown ++ take n text.now })) }
+        ensures time { Tells self.old → Passes (clock self.old) (clock self.new) (since self.old) (since self.new) (InShow (standing self.old) text.now) };
+
+    /// Since now there is no moment but this.
+    ghost only_now: { (s : Self) (m : Moment) → Tells s → since s (clock s) m → m ≡ moment_of (standing s) };
+
+    /// This moment is one of those since any earlier time.
+    ghost counts_now: { (s : Self) (t : ℕ) → Tells s → t ≤ clock s → since s t (moment_of (standing s)) };
 }

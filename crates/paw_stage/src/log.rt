@@ -1,22 +1,27 @@
 // A record of calls, kept in rooms that were taken beforehand.
 
-ghost use Rattle.std.specs.Prelude.{◌≡◌, ◌≤◌, ◌<◌, ◌+◌, ◌++◌, ◌∷◌, [], IsTrue, IsFalse, IfOk, OnOk, OnErr, length, slice_range, vec_len, vec_capacity, List, ℕ};
-ghost use Rattle.std.specs.Option.{option_copied};
-ghost use Rattle.paw_stage.specs.Stage.{Standing};
-ghost use Rattle.paw_stage.specs.Done.{added, fresh, step, stepped, after};
-ghost use Rattle.paw_stage.specs.Log.{has_room, logged, given, done_in, all_done, AreLaid};
+ghost use Rattle.std.specs.Prelude.{◌≡◌, ◌≤◌, ◌<◌, ◌+◌, ◌++◌, ◌∷◌, [], IsTrue, IsFalse, IfOk, IfSome, IfNone, IsSome, Some, None, OnOk, OnErr, length, take, drop, vec_len, vec_capacity, List, ℕ};
+ghost use Rattle.paw_stage.specs.Stage.{Standing, bytes_or_none};
+ghost use Rattle.paw_stage.specs.Done.{added, fresh, stepped, after};
+ghost use Rattle.paw_stage.specs.Crash.{crashed};
+ghost use Rattle.paw_stage.specs.Log.{has_room, logged, given, all_done, AreLaid};
 
+use crate::replay::{crash, file_len, first_bytes, read_store, store_len};
 use paw_base::fault::NoRoom;
 use std::alloc::Global;
 use std::marker::Model;
 
-/// What was done: a file was put there between the calls, or a call loaded, saved, took a line, found no line left, or
-/// showed a text.
+/// What was done: a file was put there between the calls, or a call loaded, saved, attached a store, read it, wrote to it
+/// from a place on, synced it, took a line, found no line left, or showed a text.
 #[derive(Clone, Copy, Drop, PartialEq, Eq, Debug)]
 pub enum Kind {
     Add,
     Load,
     Save,
+    Attach,
+    Read,
+    Write(u64),
+    Sync,
     Take,
     End,
     Show,
@@ -31,12 +36,14 @@ pub struct Call {
     pub to: usize,
 }
 
-/// The calls so far with the bytes handed to them, the text shown, and spare room for more calls and bytes.
+/// The calls so far with the bytes handed to them, the text shown, the number of bytes written to stores, and spare room
+/// for more calls and bytes.
 #[derive(Drop)]
 pub struct Log {
     calls: Vec<Call>,
     room: Vec<u8>,
     text: Vec<u8>,
+    written: usize,
     calls_left: usize,
     bytes_left: usize,
 }
@@ -62,6 +69,7 @@ impl Log {
             calls: Vec::with_capacity(alloc, calls)?,
             room: Vec::with_capacity(alloc, bytes)?,
             text: Vec::with_capacity(alloc, bytes)?,
+            written: 0,
             calls_left: calls,
             bytes_left: bytes,
         })
@@ -79,6 +87,7 @@ impl Log {
         }
         record_call(&mut self.calls, &mut self.room, kind, name, bytes);
         show_text(&mut self.text, kind, bytes);
+        self.written += bytes_written(kind, bytes);
         self.calls_left -= 1;
         self.bytes_left -= n;
         true
@@ -103,11 +112,52 @@ impl Log {
         self.text.as_slice()
     }
 
-    /// The bytes of a file, where it is there.
-    pub fn file(&self, name: &[u8]) -> Option<&[u8]>
-        ensures { option_copied result ≡ (after fresh self.now.calls).files name.now }
+    /// The number of bytes that were written to stores.
+    pub fn written(&self) -> usize
+        ensures { result ≡ (after fresh self.now.calls).written }
     {
-        last_file(self.calls.as_slice(), self.room.as_slice(), name)
+        self.written
+    }
+
+    /// The length of a file, where it is there.
+    pub fn file_len(&self, name: &[u8]) -> Option<usize>
+        ensures some { IfSome result (λ n. (bytes : List ℕ) × ((after fresh self.now.calls).files name.now ≡ Some bytes) × (n ≡ length bytes)) }
+        ensures none { IfNone result ((after fresh self.now.calls).files name.now ≡ None) }
+    {
+        file_len(self.calls.as_slice(), self.room.as_slice(), name)
+    }
+
+    /// The first bytes of a file, so many that it has them.
+    pub fn first_bytes(&self, alloc: Global, name: &[u8], n: usize) -> Result<Vec<u8>, NoRoom>
+        requires { n ≤ length (bytes_or_none ((after fresh self.now.calls).files name.now)) }
+        ensures { IfOk result (λ v. v.items ≡ take n (bytes_or_none ((after fresh self.now.calls).files name.now))) }
+    {
+        first_bytes(self.calls.as_slice(), self.room.as_slice(), alloc, name, n)
+    }
+
+    /// The length of the attached store.
+    pub fn store_len(&self) -> usize
+        requires { IsSome (after fresh self.now.calls).attached }
+        ensures { result ≡ length (after fresh self.now.calls).disk.bytes }
+    {
+        store_len(self.calls.as_slice(), self.room.as_slice())
+    }
+
+    /// Fills a slice with bytes of the attached store from a place on.
+    pub fn read_store(&self, at: usize, into: &mut [u8])
+        requires attached { IsSome (after fresh self.now.calls).attached }
+        requires within { at + length into.old ≤ length (after fresh self.now.calls).disk.bytes }
+        ensures { into.new ≡ take (length into.old) (drop at (after fresh self.now.calls).disk.bytes) }
+    {
+        read_store(self.calls.as_slice(), self.room.as_slice(), at, into)
+    }
+
+    /// The attached store as a crash may leave it, by a pick, and no bytes where none is attached.
+    pub fn crash(&self, alloc: Global, pick: u8) -> Result<Vec<u8>, NoRoom>
+        ensures made { IsSome (after fresh self.now.calls).attached → IfOk result (λ v. v.items ≡ crashed (after fresh self.now.calls).disk pick) }
+        ensures none { (after fresh self.now.calls).attached ≡ None → IfOk result (λ v. v.items ≡ []) }
+    {
+        crash(self.calls.as_slice(), self.room.as_slice(), alloc, pick)
     }
 }
 
@@ -183,57 +233,30 @@ fn show_text(text: &mut Vec<u8>, kind: Kind, bytes: &[u8])
         Kind::Add => {}
         Kind::Load => {}
         Kind::Save => {}
+        Kind::Attach => {}
+        Kind::Read => {}
+        Kind::Write(_) => {}
+        Kind::Sync => {}
         Kind::Take => {}
         Kind::End => {}
     }
 }
 
-// A part of the room.
-fn part(room: &[u8], from: usize, to: usize) -> &[u8]
-    requires order { from ≤ to }
-    requires within { to ≤ length room.now }
-    ensures { result.now ≡ slice_range room.now from to }
+// How many bytes a call wrote to the store.
+fn bytes_written(kind: Kind, bytes: &[u8]) -> usize
+    ensures counted { (s : Standing) (name : List ℕ) → (stepped kind name bytes.now s).written ≡ s.written + result }
+    ensures most { result ≤ length bytes.now }
 {
-    &room[from..to]
-}
-
-// The bytes of a file after these calls, where it is there.
-fn last_file<'a>(calls: &[Call], room: &'a [u8], name: &[u8]) -> Option<&'a [u8]>
-    requires { AreLaid calls.now 0 (length room.now) }
-    ensures { option_copied result ≡ (after fresh (all_done room.now calls.now)).files name.now }
-{
-    let mut found = None;
-    for call in calls {
-        found = file_after(*call, room, name, found);
-    }
-    found
-}
-
-// The bytes of a file after one call more, where it is there.
-fn file_after<'a>(
-    call: Call,
-    room: &'a [u8],
-    name: &[u8],
-    found: Option<&'a [u8]>,
-) -> Option<&'a [u8]>
-    requires { (call.from ≤ call.mid) × (call.mid ≤ call.to) × (call.to ≤ length room.now) }
-    ensures { (s : Standing) → option_copied found.entry ≡ s.files name.now → option_copied result ≡ (step s (done_in room.now call)).files name.now }
-{
-    let bytes = part(room, call.mid, call.to);
-    match call.kind {
-        Kind::Add => if part(room, call.from, call.mid) == name {
-            Some(bytes)
-        } else {
-            found
-        },
-        Kind::Save => if part(room, call.from, call.mid) == name {
-            Some(bytes)
-        } else {
-            found
-        },
-        Kind::Load => found,
-        Kind::Take => found,
-        Kind::End => found,
-        Kind::Show => found,
+    match kind {
+        Kind::Write(_) => bytes.len(),
+        Kind::Add => 0,
+        Kind::Load => 0,
+        Kind::Save => 0,
+        Kind::Attach => 0,
+        Kind::Read => 0,
+        Kind::Sync => 0,
+        Kind::Take => 0,
+        Kind::End => 0,
+        Kind::Show => 0,
     }
 }

@@ -1,13 +1,17 @@
 // A stage in memory.
 
-ghost use Rattle.std.specs.Prelude.{◌≡◌, ◌⊎◌, ◌<◌, ◌+◌, ◌++◌, ◌∷◌, ◌↔◌, [], List, ℕ, length, take, drop, min, IsTrue, IsFalse, IfOk, OnOk, OnErr, IfSome, IfNone, IsErr, Option};
+ghost use Rattle.std.specs.Prelude.{◌≡◌, ◌⊎◌, ◌<◌, ◌≤◌, ◌+◌, ◌++◌, ◌∷◌, ◌↔◌, [], List, ℕ, length, take, drop, min, IsTrue, IsFalse, IfOk, OnOk, OnErr, IfSome, IfNone, IsSome, IsErr, Option, Some, None};
+ghost use Rattle.std.proofs.Common.{inl, refl};
 ghost use Rattle.paw_stage.specs.declared.StageCall.TheVariants as call;
 ghost use Rattle.paw_stage.specs.declared.LoadRefusal.TheVariants as refusal;
 ghost use Rattle.paw_stage.specs.declared.Asked.TheVariants as asked;
-ghost use Rattle.paw_stage.specs.Stage.{Rose, Grows, IsCut, AsksTo, Saves};
+ghost use Rattle.paw_stage.specs.Disk.{MayLeave, IsStable, stable, touched};
+ghost use Rattle.paw_stage.specs.Stage.{Rose, Grows, IsCut, AsksTo, Saves, AttachesTo, WritesPart, wrote};
+ghost use Rattle.paw_stage.specs.Moments.{Passes, Still, InAsk, InShow, InSave, InAttach, InWrite, InSync};
 ghost use Rattle.paw_stage.specs.Faults.{count_of};
-ghost use Rattle.paw_stage.specs.Done.{loaded, saved, took, ended, showed};
-ghost use Rattle.paw_stage.specs.Memory.{empty, standing_of, can_note, noted, with_file, with_line, failed};
+ghost use Rattle.paw_stage.specs.Crash.{crashed};
+ghost use Rattle.paw_stage.specs.Done.{loaded, saved, attached_store, read_store, wrote_store, synced_store, took, ended, showed};
+ghost use Rattle.paw_stage.specs.Memory.{empty, standing_of, clock_of, moments_of, only_moment, can_note, noted, with_file, with_line, failed};
 
 use crate::log::{Kind, Log};
 use crate::{Asked, Failed, FaultCounts, LoadRefusal, Stage, StageCall};
@@ -15,6 +19,9 @@ use paw_base::fault::NoRoom;
 use std::alloc::Global;
 use std::collections::VecDeque;
 use std::marker::Model;
+
+#[cfg(test)]
+mod tests;
 
 // A line that is left.
 #[derive(Drop)]
@@ -86,6 +93,24 @@ impl MemoryStage {
     {
         self.log.shown()
     }
+
+    /// The number of bytes that were written to stores.
+    pub fn written(&self) -> u64
+        ensures { result ≡ (standing_of self.now).written }
+    {
+        self.log.written() as u64
+    }
+
+    /// The attached store as a crash may leave it, and no bytes where none is attached. Pick 0 gives the bytes at the last
+    /// sync, pick 1 those that a read gives, and any other pick these with 255 for each that was written since the last
+    /// sync.
+    pub fn crash(&self, alloc: Global, pick: u8) -> Result<Vec<u8>, NoRoom>
+        ensures made { IsSome (standing_of self.now).attached → IfOk result (λ v. v.items ≡ crashed (standing_of self.now).disk pick) }
+        ensures among { IsSome (standing_of self.now).attached → IfOk result (λ v. MayLeave (standing_of self.now).disk v.items) }
+        ensures none { (standing_of self.now).attached ≡ None → IfOk result (λ v. v.items ≡ []) }
+    {
+        self.log.crash(alloc, pick)
+    }
 }
 
 impl Stage for MemoryStage {
@@ -95,6 +120,10 @@ impl Stage for MemoryStage {
 
     ghost faults = { λ s. count_of s.counts };
 
+    ghost clock = { clock_of };
+
+    ghost since = { moments_of };
+
     fn load(&mut self, alloc: Global, name: &str, most: usize) -> Result<Vec<u8>, LoadRefusal>
         ensures counts { Grows (count_of self.old.counts) (count_of self.new.counts) }
         ensures absent { result ≡ Err refusal.Absent → Rose (count_of self.old.counts call.LoadAbsent) (count_of self.new.counts call.LoadAbsent) }
@@ -103,6 +132,7 @@ impl Stage for MemoryStage {
         ensures found { IfOk result (λ v. (bytes : List ℕ) × ((standing_of self.old).files name.now ≡ Some bytes) × (v.items ≡ take (most + 1) bytes)) }
         ensures missing { result ≡ Err refusal.Absent → (standing_of self.old).files name.now ≡ None }
         ensures nowhere { (standing_of self.old).files name.now ≡ None → (result ≡ Err refusal.Absent) ⊎ (result ≡ Err refusal.Failed) }
+        ensures time { Passes (clock_of self.old) (clock_of self.new) (moments_of self.old) (moments_of self.new) (Still (standing_of self.old)) }
 
         // It fails exactly for want of room, and leaves no trace then but its count.
         ensures exact { (result ≡ Err refusal.Failed) ↔ IsFalse (can_note (loaded name.now) self.old) }
@@ -115,11 +145,13 @@ impl Stage for MemoryStage {
             self.counts.raise(StageCall::Load);
             return Err(LoadRefusal::Failed);
         }
-        let Some(bytes) = self.log.file(name.as_bytes()) else {
+        let Some(len) = self.log.file_len(name.as_bytes()) else {
             self.counts.raise(StageCall::LoadAbsent);
             return Err(LoadRefusal::Absent);
         };
-        copy_first(alloc, bytes, most)
+        self.log
+            .first_bytes(alloc, name.as_bytes(), first_len(len, most))
+            .map_err(|_| LoadRefusal::Memory)
     }
 
     fn save(&mut self, name: &str, bytes: &[u8]) -> Result<(), Failed>
@@ -127,6 +159,7 @@ impl Stage for MemoryStage {
         ensures cause { IsErr result → Rose (count_of self.old.counts call.Save) (count_of self.new.counts call.Save) }
         ensures saved { OnOk result (Saves (standing_of self.old) (standing_of self.new) name.now (Some bytes.now)) }
         ensures part { OnErr result ((standing_of self.new ≡ standing_of self.old) ⊎ ((left : Option (List ℕ)) × Saves (standing_of self.old) (standing_of self.new) name.now left)) }
+        ensures time { Passes (clock_of self.old) (clock_of self.new) (moments_of self.old) (moments_of self.new) (InSave (standing_of self.old) name.now) }
 
         // It fails exactly for want of room, and leaves no trace then but its count.
         ensures exact { IsErr result ↔ IsFalse (can_note (saved name.now bytes.now) self.old) }
@@ -140,10 +173,92 @@ impl Stage for MemoryStage {
         Ok(())
     }
 
+    fn attach(&mut self, name: &str) -> Result<u64, Failed>
+        requires synced { IsStable (standing_of self.old).disk }
+        ensures counts { Grows (count_of self.old.counts) (count_of self.new.counts) }
+        ensures cause { IsErr result → Rose (count_of self.old.counts call.Attach) (count_of self.new.counts call.Attach) }
+        ensures answer { AttachesTo (standing_of self.old) (standing_of self.new) name.now result }
+        ensures time { Passes (clock_of self.old) (clock_of self.new) (moments_of self.old) (moments_of self.new) (InAttach (standing_of self.old) (standing_of self.new) name.now) }
+
+        // It fails exactly for want of room, and leaves no trace then but its count.
+        ensures exact { IsErr result ↔ IsFalse (can_note (attached_store name.now) self.old) }
+        ensures failed { OnErr result (self.new ≡ failed call.Attach self.old) }
+        ensures noted { OnOk result (self.new ≡ noted (attached_store name.now) self.old) }
+    {
+        if !self.log.add(Kind::Attach, name.as_bytes(), &[]) {
+            self.counts.raise(StageCall::Attach);
+            return Err(Failed);
+        }
+        Ok(self.log.store_len() as u64)
+    }
+
+    fn read_at(&mut self, at: u64, into: &mut [u8]) -> Result<(), Failed>
+        requires attached { IsSome (standing_of self.old).attached }
+        requires within { at + length into.old ≤ length (standing_of self.old).disk.bytes }
+        ensures counts { Grows (count_of self.old.counts) (count_of self.new.counts) }
+        ensures cause { IsErr result → Rose (count_of self.old.counts call.Read) (count_of self.new.counts call.Read) }
+        ensures still { standing_of self.new ≡ standing_of self.old }
+        ensures read { OnOk result (into.new ≡ take (length into.old) (drop at (standing_of self.old).disk.bytes)) }
+        ensures time { Passes (clock_of self.old) (clock_of self.new) (moments_of self.old) (moments_of self.new) (Still (standing_of self.old)) }
+
+        // It fails exactly for want of room, and leaves no trace then but its count.
+        ensures exact { IsErr result ↔ IsFalse (can_note read_store self.old) }
+        ensures failed { OnErr result (self.new ≡ failed call.Read self.old) }
+        ensures noted { OnOk result (self.new ≡ noted read_store self.old) }
+    {
+        if !self.log.add(Kind::Read, &[], &[]) {
+            self.counts.raise(StageCall::Read);
+            return Err(Failed);
+        }
+        self.log.read_store(at as usize, into);
+        Ok(())
+    }
+
+    fn write_at(&mut self, at: u64, bytes: &[u8]) -> Result<(), Failed>
+        requires attached { IsSome (standing_of self.old).attached }
+        requires within { at ≤ length (standing_of self.old).disk.bytes }
+        ensures counts { Grows (count_of self.old.counts) (count_of self.new.counts) }
+        ensures cause { IsErr result → Rose (count_of self.old.counts call.Write) (count_of self.new.counts call.Write) }
+        ensures written { OnOk result (standing_of self.new ≡ wrote (standing_of self.old) (touched at (length bytes.now) bytes.now (standing_of self.old).disk) (length bytes.now)) }
+        ensures part { OnErr result ((standing_of self.new ≡ standing_of self.old) ⊎ WritesPart (standing_of self.old) (standing_of self.new) at (length bytes.now)) }
+        ensures time { Passes (clock_of self.old) (clock_of self.new) (moments_of self.old) (moments_of self.new) (InWrite (standing_of self.old) at (length bytes.now)) }
+
+        // It fails exactly for want of room, and leaves no trace then but its count.
+        ensures exact { IsErr result ↔ IsFalse (can_note (wrote_store at bytes.now) self.old) }
+        ensures failed { OnErr result (self.new ≡ failed call.Write self.old) }
+        ensures noted { OnOk result (self.new ≡ noted (wrote_store at bytes.now) self.old) }
+    {
+        if !self.log.add(Kind::Write(at), &[], bytes) {
+            self.counts.raise(StageCall::Write);
+            return Err(Failed);
+        }
+        Ok(())
+    }
+
+    fn sync(&mut self) -> Result<(), Failed>
+        ensures counts { Grows (count_of self.old.counts) (count_of self.new.counts) }
+        ensures cause { IsErr result → Rose (count_of self.old.counts call.Sync) (count_of self.new.counts call.Sync) }
+        ensures synced { OnOk result (standing_of self.new ≡ record (standing_of self.old) { disk = stable (standing_of self.old).disk.bytes }) }
+        ensures part { OnErr result (standing_of self.new ≡ standing_of self.old) }
+        ensures time { Passes (clock_of self.old) (clock_of self.new) (moments_of self.old) (moments_of self.new) (InSync (standing_of self.old)) }
+
+        // It fails exactly for want of room, and leaves no trace then but its count.
+        ensures exact { IsErr result ↔ IsFalse (can_note synced_store self.old) }
+        ensures failed { OnErr result (self.new ≡ failed call.Sync self.old) }
+        ensures noted { OnOk result (self.new ≡ noted synced_store self.old) }
+    {
+        if !self.log.add(Kind::Sync, &[], &[]) {
+            self.counts.raise(StageCall::Sync);
+            return Err(Failed);
+        }
+        Ok(())
+    }
+
     fn ask(&mut self, into: &mut [u8; 255]) -> Asked
         ensures counts { Grows (count_of self.old.counts) (count_of self.new.counts) }
         ensures cause { result ≡ asked.Failed → Rose (count_of self.old.counts call.Ask) (count_of self.new.counts call.Ask) }
         ensures answer { AsksTo (standing_of self.old) (standing_of self.new) result into.new }
+        ensures time { Passes (clock_of self.old) (clock_of self.new) (moments_of self.old) (moments_of self.new) (InAsk (standing_of self.old) result) }
 
         // It fails exactly for want of room, and leaves no trace then but its count.
         ensures exact { (result ≡ asked.Failed) ↔ IsFalse (can_note took self.old) }
@@ -171,6 +286,7 @@ impl Stage for MemoryStage {
         ensures cause { IsErr result → Rose (count_of self.old.counts call.Show) (count_of self.new.counts call.Show) }
         ensures shown { OnOk result (standing_of self.new ≡ record (standing_of self.old) { shown = (standing_of self.old).shown ++ text.now }) }
         ensures part { OnErr result ((n : ℕ) × (standing_of self.new ≡ record (standing_of self.old) { shown = (standing_of self.old).shown ++ take n text.now })) }
+        ensures time { Passes (clock_of self.old) (clock_of self.new) (moments_of self.old) (moments_of self.new) (InShow (standing_of self.old) text.now) }
 
         // It fails exactly for want of room, and leaves no trace then but its count.
         ensures exact { IsErr result ↔ IsFalse (can_note (showed text.now) self.old) }
@@ -183,19 +299,17 @@ impl Stage for MemoryStage {
         }
         Ok(())
     }
+
+    ghost only_now = { λ s m _ h. only_moment s m h };
+
+    ghost counts_now = { λ s t _ _. inl refl };
 }
 
-// The first `most + 1` bytes.
-fn copy_first(alloc: Global, bytes: &[u8], most: usize) -> Result<Vec<u8>, LoadRefusal>
-    ensures ok { IfOk result (λ v. v.items ≡ take (most + 1) bytes.now) }
-    ensures err { OnErr result (result ≡ Err refusal.Memory) }
+// How many bytes a load gives of a file of this length.
+fn first_len(len: usize, most: usize) -> usize
+    ensures { result ≡ min (most + 1) len }
 {
-    let n = if most < bytes.len() {
-        most + 1
-    } else {
-        bytes.len()
-    };
-    Vec::from_slice(alloc, &bytes[..n]).map_err(|_| LoadRefusal::Memory)
+    if most < len { most + 1 } else { len }
 }
 
 // Gives the first 255 bytes of a line, and how many they are.

@@ -8,24 +8,32 @@ ghost use Rattle.paw_stage.specs.Stage.{Rose, Grows};
 ghost use Rattle.paw_stage.specs.Faults.{count_of, no_faults, raised};
 ghost use Rattle.paw_stage.specs.Done.{fresh};
 
+use crate::files::{open_store, read_file, read_part, sync_bytes, write_file, write_part};
 use crate::input::LineReader;
-use crate::streams::{read_first, write_whole};
+use crate::streams::write_whole;
 use crate::{Asked, Failed, FaultCounts, LoadRefusal, Stage, StageCall};
 use std::alloc::Global;
-use std::io::ErrorKind;
+use std::io;
 use std::marker::Model;
 use std::rt::Files;
-use std::{fs, io};
+
+#[cfg(test)]
+mod tests;
 
 /// Real files, standard input and standard output, which tell nothing but how often each call has failed.
 ///
 /// Standard input is read ahead through a buffer, so nothing else may read it. A line ends with LF or CR LF. One of more
 /// than 1,048,576 bytes, its end not counted, fails, and so does a fault of the system; once an ask has failed each
 /// later one fails, so that no rest of a line is taken for a line.
+///
+/// The attached store is a file that is kept open. An attach syncs it and its folder, so that what it answers is there
+/// after a crash too. Once a sync has failed the store is let go, since a system may drop what it failed to write and
+/// still answer that a later sync succeeded: every call to the store fails until one is attached again.
 #[derive(Drop)]
 pub struct RealStage<R: Files + Input + Print + Drop> {
     rt: R,
     input: LineReader<R::Reader>,
+    store: Option<R::File>,
     counts: FaultCounts,
 }
 
@@ -46,6 +54,7 @@ impl<R: Files + Input + Print + Drop> RealStage<R> {
         RealStage {
             rt,
             input,
+            store: None,
             counts: FaultCounts::none(),
         }
     }
@@ -57,6 +66,10 @@ impl<R: Files + Input + Print + Drop> Stage for RealStage<R> {
     ghost standing = { λ _. fresh };
 
     ghost faults = { count_of };
+
+    ghost clock = { λ _. 0 };
+
+    ghost since = { λ _ _ _. ⊥ };
 
     // Only a name that is missing is Absent: a folder, or a file that may not be read, is Failed.
     fn load(&mut self, alloc: Global, name: &str, most: usize) -> Result<Vec<u8>, LoadRefusal>
@@ -88,13 +101,70 @@ impl<R: Files + Input + Print + Drop> Stage for RealStage<R> {
         ensures counted { OnErr result (self.new ≡ raised call.Save self.old) }
         ensures fine { OnOk result (self.new ≡ self.old) }
     {
-        match write_file(&self.rt, name, bytes) {
-            Ok(()) => Ok(()),
-            Err(_) => {
-                self.counts.raise(StageCall::Save);
-                Err(Failed)
-            }
+        let saved = write_file(&self.rt, name, bytes);
+        self.counts.answered(StageCall::Save, saved)
+    }
+
+    fn attach(&mut self, name: &str) -> Result<u64, Failed>
+        ensures counts { Grows (count_of self.old) (count_of self.new) }
+        ensures cause { IsErr result → Rose (count_of self.old call.Attach) (count_of self.new call.Attach) }
+
+        // A count rises exactly at a failure.
+        ensures counted { OnErr result (self.new ≡ raised call.Attach self.old) }
+        ensures fine { OnOk result (self.new ≡ self.old) }
+    {
+        let opened = open_store(&self.rt, name);
+        let (file, length) = self.counts.answered(StageCall::Attach, opened)?;
+        self.store = Some(file);
+        Ok(length)
+    }
+
+    fn read_at(&mut self, at: u64, into: &mut [u8]) -> Result<(), Failed>
+        ensures counts { Grows (count_of self.old) (count_of self.new) }
+        ensures cause { IsErr result → Rose (count_of self.old call.Read) (count_of self.new call.Read) }
+
+        // A count rises exactly at a failure.
+        ensures counted { OnErr result (self.new ≡ raised call.Read self.old) }
+        ensures fine { OnOk result (self.new ≡ self.old) }
+    {
+        let read = match &mut self.store {
+            Some(file) => read_part(file, at, into),
+            None => Err(Failed),
+        };
+        self.counts.answered(StageCall::Read, read)
+    }
+
+    fn write_at(&mut self, at: u64, bytes: &[u8]) -> Result<(), Failed>
+        ensures counts { Grows (count_of self.old) (count_of self.new) }
+        ensures cause { IsErr result → Rose (count_of self.old call.Write) (count_of self.new call.Write) }
+
+        // A count rises exactly at a failure.
+        ensures counted { OnErr result (self.new ≡ raised call.Write self.old) }
+        ensures fine { OnOk result (self.new ≡ self.old) }
+    {
+        let written = match &mut self.store {
+            Some(file) => write_part(file, at, bytes),
+            None => Err(Failed),
+        };
+        self.counts.answered(StageCall::Write, written)
+    }
+
+    fn sync(&mut self) -> Result<(), Failed>
+        ensures counts { Grows (count_of self.old) (count_of self.new) }
+        ensures cause { IsErr result → Rose (count_of self.old call.Sync) (count_of self.new call.Sync) }
+
+        // A count rises exactly at a failure.
+        ensures counted { OnErr result (self.new ≡ raised call.Sync self.old) }
+        ensures fine { OnOk result (self.new ≡ self.old) }
+    {
+        let synced = match &self.store {
+            Some(file) => sync_bytes(file),
+            None => Err(Failed),
+        };
+        if synced.is_err() {
+            self.store = None;
         }
+        self.counts.answered(StageCall::Sync, synced)
     }
 
     fn ask(&mut self, into: &mut [u8; 255]) -> Asked
@@ -120,32 +190,11 @@ impl<R: Files + Input + Print + Drop> Stage for RealStage<R> {
         ensures counted { OnErr result (self.new ≡ raised call.Show self.old) }
         ensures fine { OnOk result (self.new ≡ self.old) }
     {
-        match write_whole(&mut io::writer(&self.rt), text) {
-            Ok(()) => Ok(()),
-            Err(_) => {
-                self.counts.raise(StageCall::Show);
-                Err(Failed)
-            }
-        }
+        let shown = write_whole(&mut io::writer(&self.rt), text);
+        self.counts.answered(StageCall::Show, shown)
     }
-}
 
-// The first `most + 1` bytes of a file.
-fn read_file<R: Files>(
-    rt: &R,
-    alloc: Global,
-    name: &str,
-    most: usize,
-) -> Result<Vec<u8>, LoadRefusal> {
-    match fs::open(rt, name) {
-        Ok(file) => read_first(alloc, file, most),
-        Err(e) if e.kind() == ErrorKind::NotFound => Err(LoadRefusal::Absent),
-        Err(_) => Err(LoadRefusal::Failed),
-    }
-}
+    ghost only_now = { λ s m no. absurd no };
 
-// Makes a file hold these bytes.
-fn write_file<R: Files>(rt: &R, name: &str, bytes: &[u8]) -> Result<(), Failed> {
-    let mut file = fs::create(rt, name).map_err(|_| Failed)?;
-    write_whole(&mut file, bytes)
+    ghost counts_now = { λ s t no. absurd no };
 }

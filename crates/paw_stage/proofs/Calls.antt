@@ -1,0 +1,109 @@
+-- What each call of the stage in memory does, by its record.
+use Rattle.std.proofs.Common.{◌≡◌, ◌≢◌, ◌⊎◌, ℕ, List, [], ◌∷◌, ◌++◌, length, inl, inr, refl, sym, ap, ◌∙◌, subst}
+use Rattle.std.specs.Prelude.{Option, Some, None, if◌then◌else◌, Bool, true, false}
+use Rattle.std.specs.Str.{bytes_eq}
+use Rattle.std.proofs.lemmas.Slice.Eq.{bytes_eq-Decides}
+use Rattle.paw_stage.specs.Disk.{Disk, MayLeave, put, stable}
+use Rattle.paw_stage.specs.Stage.{Standing, Saves, bytes_or_none}
+use Rattle.paw_stage.specs.Moments.{Moment, Passes, InAsk, InSave, InAttach, InWrite, InSync}
+use Rattle.paw_stage.specs.Done.{Done, fresh, step, after, filed, opened, is_attached, saved, attached_store, wrote_store, synced_store}
+use Rattle.paw_stage.specs.Replay.{StandsIn, StandsInside, since_of}
+use Rattle.paw_stage.specs.declared.log.Kind.{Kind}
+use Rattle.paw_stage.specs.declared.log.Kind.TheVariants as kind
+use Rattle.paw_stage.specs.declared.Asked.{Asked}
+use Rattle.paw_stage.specs.declared.Asked.TheVariants as asked
+use Rattle.paw_stage.specs.Log.{Logged, logged}
+use Rattle.paw_stage.specs.Memory.{Memory, standing_of, clock_of, moments_of}
+use Rattle.paw_stage.proofs.Logs.{after-push}
+use Rattle.paw_stage.proofs.Replays.{passes}
+use Rattle.paw_stage.proofs.Disks.{IsDisk, after_disk, synced_leaves}
+
+-- what stands at a stage that has these lines and had these calls
+standing_with : List (List ℕ) → List Done → Standing
+standing_with lines ds = record (after fresh ds) { lines = lines }
+
+-- what stands after a call that was recorded
+pub stood : (m n : Memory) (l : Logged) (d : Done) → m.log ≡ l → n.log ≡ logged d l → n.lines ≡ m.lines → standing_of n ≡ record (step (after fresh m.log.calls) d) { lines = m.lines }
+unfolding standing_with
+stood m n l d em en el =
+    let calls : n.log.calls ≡ m.log.calls ++ d ∷ [] = ap (λ (k : Logged). k.calls) en ∙ ap (λ (k : Logged). k.calls ++ d ∷ []) (sym em) in
+    let a : standing_with n.lines n.log.calls ≡ standing_with m.lines n.log.calls = ap (λ k. standing_with k n.log.calls) el in
+    let b : standing_with m.lines n.log.calls ≡ standing_with m.lines (m.log.calls ++ d ∷ []) = ap (standing_with m.lines) calls in
+    let last : after fresh (m.log.calls ++ d ∷ []) ≡ step (after fresh m.log.calls) d = after-push fresh m.log.calls d in
+    a ∙ (b ∙ ap {A = Standing} (λ s. record s { lines = m.lines }) last)
+
+-- the moments of a call that was recorded
+pub passed : (m n : Memory) (l : Logged) (d : Done) → m.log ≡ l → n.log ≡ logged d l → Passes (clock_of m) (clock_of n) (moments_of m) (moments_of n) (StandsInside (after fresh m.log.calls) d)
+passed m n l d em en =
+    let calls : n.log.calls ≡ m.log.calls ++ d ∷ [] = ap (λ (k : Logged). k.calls) en ∙ ap (λ (k : Logged). k.calls ++ d ∷ []) (sym em) in
+    subst (λ ds. Passes (length m.log.calls) (length ds) (since_of m.log.calls) (since_of ds) (StandsInside (after fresh m.log.calls) d)) (sym calls) (passes m.log.calls d)
+
+not_attached : (a : Option (List ℕ)) (name : List ℕ) (x y : Disk) → a ≢ Some name → (if is_attached a name then x else y) ≡ y
+not_attached None name x y ne = refl
+not_attached (Some n) name x y ne = other (bytes_eq n name) (λ e. ne (ap Some ((bytes_eq-Decides n name).0 e)))
+  where
+    other : (b : Bool) → (b ≡ true → ⊥) → (if b then x else y) ≡ y
+    other true h = absurd (h refl)
+    other false h = refl
+
+attached_yes : (a : Option (List ℕ)) (name : List ℕ) (x y : Disk) → a ≡ Some name → (if is_attached a name then x else y) ≡ x
+attached_yes a name x y e = ap (λ o. if is_attached o name then x else y) e ∙ ap (λ b. if b then x else y) ((bytes_eq-Decides name name).1 refl)
+
+pub saves : (s new : Standing) (name : List ℕ) (bytes : Option (List ℕ)) → new ≡ filed name bytes s → Saves s new name bytes
+saves s new name bytes e =
+    record {
+      disk = (filed name bytes s).disk;
+      apart = λ ne. not_attached s.attached name (stable (bytes_or_none bytes)) s.disk ne;
+      store = λ h. ap (λ d. d.bytes) (attached_yes s.attached name (stable (bytes_or_none bytes)) s.disk h);
+      stands = e;
+    }
+
+pub in_save : (old : Standing) (name bytes : List ℕ) (m : Moment) → StandsInside old (saved name bytes) m → InSave old name m
+in_save old name bytes m (inl e) =
+    record { asked = ap (λ x. x.asked) e; shown = ap (λ x. x.shown) e; attached = ap (λ x. x.attached) e; files = inl (ap (λ x. x.files) e); disk = λ ne. ap (λ x. x.disk) e }
+in_save old name bytes m (inr h) =
+    record {
+      asked = ap (λ x. x.asked) h.1;
+      shown = ap (λ x. x.shown) h.1;
+      attached = ap (λ x. x.attached) h.1;
+      files = inr (h.0, ap (λ x. x.files) h.1);
+      disk = λ ne. ap (λ x. x.disk) h.1 ∙ not_attached old.attached name (stable (bytes_or_none h.0)) old.disk ne;
+    }
+
+pub in_attach : (old new : Standing) (name : List ℕ) (m : Moment) → new.attached ≡ (opened name old).attached → new.disk ≡ (opened name old).disk → StandsInside old (attached_store name) m → InAttach old new name m
+in_attach old new name m ea ed (inl e) =
+    record { asked = ap (λ x. x.asked) e; shown = ap (λ x. x.shown) e; files = inr (ap (λ x. x.files) e); store = inl (ap (λ x. x.attached) e, ap (λ x. x.disk) e) }
+in_attach old new name m ea ed (inr (inl e)) =
+    record { asked = ap (λ x. x.asked) e; shown = ap (λ x. x.shown) e; files = inl (ap (λ x. x.files) e); store = inl (ap (λ x. x.attached) e, ap (λ x. x.disk) e) }
+in_attach old new name m ea ed (inr (inr e)) =
+    record { asked = ap (λ x. x.asked) e; shown = ap (λ x. x.shown) e; files = inr (ap (λ x. x.files) e); store = inr (ap (λ x. x.attached) e ∙ sym ea, ap (λ x. x.disk) e ∙ sym ed) }
+
+pub in_write : (old : Standing) (at : ℕ) (bytes : List ℕ) (m : Moment) → StandsInside old (wrote_store at bytes) m → InWrite old at (length bytes) m
+in_write old at bytes m (inl e) =
+    record { asked = ap (λ x. x.asked) e; shown = ap (λ x. x.shown) e; attached = ap (λ x. x.attached) e; files = inl (ap (λ x. x.files) e); disk = inl (ap (λ x. x.disk) e) }
+in_write old at bytes m (inr h) =
+    record {
+      asked = ap (λ x. x.asked) h.2;
+      shown = ap (λ x. x.shown) h.2;
+      attached = ap (λ x. x.attached) h.2;
+      files = inr (put at h.0 old.disk.bytes, ap (λ x. x.files) h.2);
+      disk = inr (h.0, h.1, ap (λ x. x.disk) h.2);
+    }
+
+pub in_sync : (old : Standing) (m : Moment) → IsDisk old.disk → StandsInside old synced_store m → InSync old m
+in_sync old m k (inl e) =
+    record { asked = ap (λ x. x.asked) e; shown = ap (λ x. x.shown) e; attached = ap (λ x. x.attached) e; files = ap (λ x. x.files) e; disk = λ image l. subst (λ d. MayLeave d image) (ap (λ x. x.disk) e) l }
+in_sync old m k (inr e) =
+    record { asked = ap (λ x. x.asked) e; shown = ap (λ x. x.shown) e; attached = ap (λ x. x.attached) e; files = ap (λ x. x.files) e; disk = λ image l. synced_leaves old.disk k image (subst (λ d. MayLeave d image) (ap (λ x. x.disk) e) l) }
+
+-- the disk that the calls of a stage leave
+pub is_disk : (m : Memory) → IsDisk (standing_of m).disk
+is_disk m = after_disk m.log.calls
+
+-- an ask takes a line, or finds none left
+abbrev pub Takes : Kind → Asked → Type 0
+Takes k answer = ((n : ℕ) × (k ≡ kind.Take) × (answer ≡ asked.Line n)) ⊎ ((k ≡ kind.End) × (answer ≡ asked.End))
+
+pub in_ask : (s : Standing) (lines : List (List ℕ)) (k : Kind) (answer : Asked) (m : Moment) → Takes k answer → StandsIn k [] [] s m → InAsk (record s { lines = lines }) answer m
+in_ask s lines k answer m (inl t) h = subst (λ a. InAsk (record s { lines = lines }) a m) (sym t.2) (subst (λ x. StandsIn x [] [] s m) t.1 h)
+in_ask s lines k answer m (inr t) h = subst (λ a. InAsk (record s { lines = lines }) a m) (sym t.1) (subst (λ x. StandsIn x [] [] s m) t.0 h)

@@ -1,0 +1,97 @@
+-- What calls leave of a store: its lengths lie in order, and each pick of a crash is among what a crash may leave.
+use Rattle.std.proofs.Common.{◌≡◌, ℕ, zero, suc, ◌+◌, ◌-◌, ◌≤◌, ◌<◌, Bool, true, false, List, [], ◌∷◌, length, min, max, refl, sym, ap, ◌∙◌, arith, slice_index}
+use Rattle.std.specs.Prelude.{nat_le, nat_lt, ◌&&◌, ◌||◌, ◌==◌, if◌then◌else◌}
+use Rattle.std.proofs.lemmas.Bool.Decides.{nat_tests}
+use Rattle.paw_stage.specs.Disk.{Disk, Range, is_dirty, MayLeave, LeavesNoMore, put, touched, stable}
+use Rattle.paw_stage.specs.Stage.{Standing, bytes_or_none}
+use Rattle.paw_stage.specs.Done.{Done, step, stepped, fresh, after, is_attached}
+use Rattle.paw_stage.specs.Crash.{spoiled_if, spoiled, crashed}
+use Rattle.paw_stage.specs.declared.log.Kind.{Kind}
+use Rattle.paw_stage.specs.declared.log.Kind.TheVariants as kind
+use Rattle.paw_stage.proofs.Writes.{length-put, index-put}
+
+pub record IsDisk (d : Disk) : Type 0 where
+  pub low : length d.synced ≤ length d.bytes
+  pub high : length d.bytes ≤ d.longest
+  pub same : (i : ℕ) → i < length d.synced → is_dirty d.dirty i ≡ false → slice_index d.synced i ≡ slice_index d.bytes i
+
+stable_is : (bytes : List ℕ) → IsDisk (stable bytes)
+stable_is bytes = record { low = omega arith; high = omega arith; same = λ i l c. refl }
+
+either_is : (b : Bool) (x y : Disk) → IsDisk x → IsDisk y → IsDisk (if b then x else y)
+either_is true x y h k = h
+either_is false x y h k = k
+
+or_left : (a b : Bool) → (a || b) ≡ false → a ≡ false
+or_left true b h = h
+or_left false b h = refl
+
+or_right : (a b : Bool) → (a || b) ≡ false → b ≡ false
+or_right true b h = cc
+or_right false b h = h
+
+outside : (at n len i : ℕ) → (nat_le at i && nat_lt i (at + n)) ≡ false → i < len → (nat_le (min at len) i && nat_lt i (min at len + n)) ≡ false
+outside at n len i h low = grind (arith, nat_tests)
+
+written_is : (d : Disk) (at : ℕ) (bytes : List ℕ) → IsDisk d → IsDisk (touched at (length bytes) bytes d)
+written_is d at bytes h =
+    let n : length (put at bytes d.bytes) ≡ max (length d.bytes) (min at (length d.bytes) + length bytes) = length-put at bytes d.bytes in
+    record {
+      low = omega (arith, n, h.low);
+      high = omega (arith, n, h.high);
+      same = λ i low clean.
+          let t : (nat_le (min at (length d.bytes)) i && nat_lt i (min at (length d.bytes) + length bytes)) ≡ false = outside at (length bytes) (length d.bytes) i (or_left (nat_le at i && nat_lt i (at + length bytes)) (is_dirty d.dirty i) clean) (omega (arith, h.low, low)) in
+          h.same i low (or_right (nat_le at i && nat_lt i (at + length bytes)) (is_dirty d.dirty i) clean)
+          ∙ sym (index-put at bytes d.bytes i ∙ ap (λ b. if b then slice_index bytes (i - min at (length d.bytes)) else slice_index d.bytes i) t);
+    }
+
+stepped_is : (k : Kind) (name bytes : List ℕ) (s : Standing) → IsDisk s.disk → IsDisk (stepped k name bytes s).disk
+stepped_is kind.Add name bytes s h = either_is (is_attached s.attached name) (stable bytes) s.disk (stable_is bytes) h
+stepped_is kind.Load name bytes s h = h
+stepped_is kind.Save name bytes s h = either_is (is_attached s.attached name) (stable bytes) s.disk (stable_is bytes) h
+stepped_is kind.Attach name bytes s h = stable_is (bytes_or_none (s.files name))
+stepped_is kind.Read name bytes s h = h
+stepped_is (kind.Write at) name bytes s h = written_is s.disk at bytes h
+stepped_is kind.Sync name bytes s h = stable_is s.disk.bytes
+stepped_is kind.Take name bytes s h = h
+stepped_is kind.End name bytes s h = h
+stepped_is kind.Show name bytes s h = h
+
+later_disk : (s : Standing) (ds : List Done) → IsDisk s.disk → IsDisk (after s ds).disk
+later_disk s [] h = h
+later_disk s (d ∷ ds) h = later_disk (step s d) ds (stepped_is d.kind d.name d.bytes s h)
+
+pub after_disk : (ds : List Done) → IsDisk (after fresh ds).disk
+after_disk ds = later_disk fresh ds (stable_is [])
+
+-- once the bytes are synced a crash leaves no more than before
+pub synced_leaves : (d : Disk) → IsDisk d → LeavesNoMore d (stable d.bytes)
+synced_leaves d h image l =
+    record { no_shorter = omega (arith, h.low, l.no_shorter); no_longer = omega (arith, h.high, l.no_longer); clean = λ i low clean. l.clean i (omega (arith, h.low, low)) refl }
+
+pub length-spoiled : (dirty : List Range) (k : ℕ) (xs : List ℕ) → length (spoiled dirty k xs) ≡ length xs
+length-spoiled dirty k [] = refl
+length-spoiled dirty k (x ∷ xs) = ap suc (length-spoiled dirty (k + 1) xs)
+
+pub index-spoiled : (dirty : List Range) (k : ℕ) (xs : List ℕ) (i : ℕ) → i < length xs → slice_index (spoiled dirty k xs) i ≡ spoiled_if (is_dirty dirty (k + i)) (slice_index xs i)
+index-spoiled dirty k [] i h = absurd (omega arith)
+index-spoiled dirty k (x ∷ xs) zero h = let e : k ≡ k + 0 = omega arith in ap (λ j. spoiled_if (is_dirty dirty j) x) e
+index-spoiled dirty k (x ∷ xs) (suc i) h =
+    let e : k + 1 + i ≡ k + suc i = omega arith in index-spoiled dirty (k + 1) xs i (omega arith) ∙ ap (λ j. spoiled_if (is_dirty dirty j) (slice_index xs i)) e
+
+leaves : (a b : Bool) (d : Disk) → IsDisk d → MayLeave d (if a then d.synced else if b then d.bytes else spoiled d.dirty 0 d.bytes)
+leaves true b d h = record { no_shorter = omega arith; no_longer = omega (arith, h.low, h.high); clean = λ i low c. h.same i low c }
+leaves false true d h = record { no_shorter = h.low; no_longer = h.high; clean = λ i low c. refl }
+leaves false false d h =
+    let n : length (spoiled d.dirty 0 d.bytes) ≡ length d.bytes = length-spoiled d.dirty 0 d.bytes in
+    record {
+      no_shorter = omega (arith, n, h.low);
+      no_longer = omega (arith, n, h.high);
+      clean = λ i low c. index-spoiled d.dirty 0 d.bytes i (omega (arith, h.low, low)) ∙ ap (λ b. spoiled_if b (slice_index d.bytes i)) (ap (is_dirty d.dirty) (zero_plus i) ∙ c);
+    }
+  where
+    zero_plus : (i : ℕ) → 0 + i ≡ i
+    zero_plus i = omega arith
+
+pub crash_leaves : (ds : List Done) (pick : ℕ) → MayLeave (after fresh ds).disk (crashed (after fresh ds).disk pick)
+crash_leaves ds pick = leaves (pick == 0) (pick == 1) (after fresh ds).disk (after_disk ds)

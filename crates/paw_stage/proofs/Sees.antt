@@ -1,0 +1,104 @@
+-- What is seen of a file after one call more.
+use Rattle.std.proofs.Common.{◌≡◌, inl, inr, ℕ, ◌+◌, ◌≤◌, ◌<◌, Bool, true, false, List, [], ◌∷◌, length, take, drop, max, min, refl, sym, ap, ◌∙◌, subst, arith, slice_index}
+use Rattle.std.specs.Prelude.{Option, Some, None, is_some, if◌then◌else◌}
+use Rattle.std.specs.Str.{bytes_eq}
+use Rattle.std.proofs.lemmas.Slice.Eq.{bytes_eq-Decides}
+use Rattle.std.proofs.lemmas.List.{ext_get_or, get_or-take, get_or-drop, length-take, length-drop}
+use Rattle.paw_stage.specs.Disk.{Disk, put, stable, touched}
+use Rattle.paw_stage.specs.Stage.{Standing, Files, held, made_if_missing, bytes_or_none, wrote}
+use Rattle.paw_stage.specs.Done.{Done, fresh, step, stepped, after, is_attached}
+use Rattle.paw_stage.specs.Seen.{Sees, IsFiled, laid_over}
+use Rattle.paw_stage.specs.declared.log.Kind.{Kind}
+use Rattle.paw_stage.specs.declared.log.Kind.TheVariants as kind
+use Rattle.paw_stage.specs.declared.replay.Seen.{Seen}
+use Rattle.paw_stage.proofs.Names.{holds_same}
+use Rattle.paw_stage.proofs.Writes.{length-put, index-put, where_is, laid_before, laid_in, laid_behind}
+
+-- the store's bytes stay those of its file
+either_filed : (b : Bool) (o : Option (List ℕ)) (bytes : List ℕ) (d : Disk) → o ≡ Some d.bytes → (if b then Some bytes else o) ≡ Some (if b then stable bytes else d).bytes
+either_filed true o bytes d h = refl
+either_filed false o bytes d h = h
+
+saved_filed : (s : Standing) (name bytes : List ℕ) → IsFiled s → IsFiled (stepped kind.Save name bytes s)
+saved_filed s name bytes h n e =
+    let k : is_attached s.attached name ≡ bytes_eq n name = ap (λ a. is_attached a name) e in
+    either_filed (bytes_eq n name) (s.files n) bytes s.disk (h n e) ∙ sym (ap (λ b. Some (if b then stable bytes else s.disk).bytes) k)
+
+made_gives : (o : Option (List ℕ)) (files : Files) (name : List ℕ) → files name ≡ o → made_if_missing name o files name ≡ Some (bytes_or_none o)
+made_gives None files name h = holds_same name (Some []) files
+made_gives (Some b) files name h = h
+
+some_same : (a b : List ℕ) → Some a ≡ Some b → a ≡ b
+some_same a b e = cc
+
+stepped_filed : (k : Kind) (name bytes : List ℕ) (s : Standing) → IsFiled s → IsFiled (stepped k name bytes s)
+stepped_filed kind.Add name bytes s h n e = saved_filed s name bytes h n e
+stepped_filed kind.Load name bytes s h n e = h n e
+stepped_filed kind.Save name bytes s h n e = saved_filed s name bytes h n e
+stepped_filed kind.Attach name bytes s h n e =
+    subst (λ m. made_if_missing name (s.files name) s.files m ≡ Some (bytes_or_none (s.files name))) (some_same name n e) (made_gives (s.files name) s.files name refl)
+stepped_filed kind.Read name bytes s h n e = h n e
+stepped_filed (kind.Write at) name bytes s h n e =
+    ap (λ a. held a (put at bytes s.disk.bytes) s.files n) e ∙ holds_same n (Some (put at bytes s.disk.bytes)) s.files
+stepped_filed kind.Sync name bytes s h n e = h n e
+stepped_filed kind.Take name bytes s h n e = h n e
+stepped_filed kind.End name bytes s h n e = h n e
+stepped_filed kind.Show name bytes s h n e = h n e
+
+later_filed : (s : Standing) (ds : List Done) → IsFiled s → IsFiled (after s ds)
+later_filed s [] h = h
+later_filed s (d ∷ ds) h = later_filed (step s d) ds (stepped_filed d.kind d.name d.bytes s h)
+
+pub after_filed : (ds : List Done) → IsFiled (after fresh ds)
+after_filed ds = later_filed fresh ds (λ n e. cc)
+
+attached_is : (a : Option (List ℕ)) (name : List ℕ) → is_attached a name ≡ true → a ≡ Some name
+attached_is None name h = cc
+attached_is (Some n) name h = ap Some ((bytes_eq-Decides n name).0 h)
+
+-- bytes of a store that was written to
+written_bytes : (place at : ℕ) (bytes old into new : List ℕ) (j : ℕ) → j < length into → at + j < max (length old) (min place (length old) + length bytes)
+    → (at + j < length old → slice_index into j ≡ slice_index old (at + j))
+    → slice_index new j ≡ laid_over (min place (length old)) bytes (at + j) (slice_index into j)
+    → slice_index new j ≡ slice_index (put place bytes old) (at + j)
+written_bytes place at bytes old into new j low within seen e =
+    let p : ℕ = min place (length old) in
+    e ∙ (elim (where_is (at + j) p (length bytes)) [
+      | inl h ↦
+          laid_before p bytes (at + j) (slice_index into j) h ∙ (seen (omega arith) ∙ sym (laid_before p bytes (at + j) (slice_index old (at + j)) h))
+      | inr (inl h) ↦
+          laid_in p bytes (at + j) (slice_index into j) h.0 h.1 ∙ sym (laid_in p bytes (at + j) (slice_index old (at + j)) h.0 h.1)
+      | inr (inr h) ↦
+          laid_behind p bytes (at + j) (slice_index into j) h ∙ (seen (omega arith) ∙ sym (laid_behind p bytes (at + j) (slice_index old (at + j)) h))
+    ] ∙ sym (index-put place bytes old (at + j)))
+
+pub sees_written : (s : Standing) (name : List ℕ) (at place : ℕ) (bytes into new : List ℕ) (seen now : Seen) → IsFiled s → Sees s name at seen into → seen.attached ≡ true
+    → now ≡ record { here = seen.here; attached = seen.attached; len = max seen.len (min place seen.len + length bytes) }
+    → length new ≡ length into
+    → ((j : ℕ) → j < length into → slice_index new j ≡ laid_over (min place seen.len) bytes (at + j) (slice_index into j))
+    → Sees (wrote s (touched place (length bytes) bytes s.disk) (length bytes)) name at now new
+sees_written s name at place bytes into new seen now filed h on is same laid =
+    let old : List ℕ = s.disk.bytes in
+    let a : s.attached ≡ Some name = attached_is s.attached name (sym h.attached ∙ on) in
+    let f : s.files name ≡ Some old = filed name a in
+    let g : held s.attached (put place bytes old) s.files name ≡ Some (put place bytes old) = ap (λ o. held o (put place bytes old) s.files name) a ∙ holds_same name (Some (put place bytes old)) s.files in
+    let n : seen.len ≡ length old = h.len ∙ ap (λ o. length (bytes_or_none o)) f in
+    let len : now.len ≡ max (length old) (min place (length old) + length bytes) = ap (λ (x : Seen). x.len) is ∙ ap (λ k. max k (min place k + length bytes)) n in
+    record {
+      here = ap (λ (x : Seen). x.here) is ∙ (h.here ∙ (ap is_some f ∙ sym (ap is_some g)));
+      attached = ap (λ (x : Seen). x.attached) is ∙ h.attached;
+      len = len ∙ (sym (length-put place bytes old) ∙ sym (ap (λ o. length (bytes_or_none o)) g));
+      bytes = λ j low within.
+          written_bytes place at bytes old into new j (omega (arith, low, same)) (omega (arith, within, len))
+          (λ short. h.bytes j (omega (arith, low, same)) (omega (arith, short, n)) ∙ ap (λ o. slice_index (bytes_or_none o) (at + j)) f)
+          (laid j (omega (arith, low, same)) ∙ ap (λ k. laid_over (min place k) bytes (at + j) (slice_index into j)) n)
+          ∙ sym (ap (λ o. slice_index (bytes_or_none o) (at + j)) g);
+    }
+
+-- a slice that the file's bytes fill
+pub filled : (s : Standing) (name : List ℕ) (at n : ℕ) (seen : Seen) (into : List ℕ) → Sees s name at seen into → length into ≡ n → at + n ≤ length (bytes_or_none (s.files name)) → into ≡ take n (drop at (bytes_or_none (s.files name)))
+filled s name at n seen into h size within =
+    let bytes : List ℕ = bytes_or_none (s.files name) in
+    let long : length (take n (drop at bytes)) ≡ n = omega (arith, length-take n (drop at bytes), length-drop at bytes) in
+    ext_get_or 0 into (take n (drop at bytes)) (omega (arith, long, size)) (λ j low.
+    h.bytes j low (omega (arith, low, size, h.len)) ∙ sym (get_or-take n (drop at bytes) j 0 (omega (arith, low, size)) ∙ get_or-drop at bytes j 0))

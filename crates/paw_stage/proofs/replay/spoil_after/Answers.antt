@@ -1,0 +1,12 @@
+use Rattle.std.proofs.Common.{◌≡◌, length, slice_index, sym, subst}
+use Rattle.std.specs.Prelude.{slice_range}
+use Rattle.paw_stage.specs.Crash.{spoiled_if}
+use Rattle.paw_stage.specs.Seen.{writes}
+use Rattle.paw_stage.proofs.Writes.{spoils}
+use Rattle.paw_stage.proofs.replay.spoil_after.Goals as goal
+
+pub returns-in-Write : goal.returns-in-Write
+returns-in-Write c j low =
+    let n = length (slice_range c.args.room.now c.args.call.mid c.args.call.to) in
+    let e = rw c.part-bytes.ensures at c.spoil_range.ensures in
+    subst (λ k. slice_index c.spoil_range.new.store j ≡ spoiled_if (writes k n j) (slice_index c.args.store.now j)) (sym c.in-Write.is) (spoils c.in-Write.place c.min-place.result n c.args.store.now c.spoil_range.new.store j c.min-place.ensures e low)

@@ -1,0 +1,17 @@
+-- What a crash makes of a store, by a pick.
+use Rattle.std.specs.Prelude.{ℕ, ◌+◌, ◌==◌, Bool, List, [], ◌∷◌, if◌then◌else◌}
+use Rattle.paw_stage.specs.Disk.{Disk, Range, is_dirty}
+
+-- A byte, or 255 where it is spoiled.
+abbrev pub spoiled_if : Bool → ℕ → ℕ
+spoiled_if spoiled x = if spoiled then 255 else x
+
+-- The bytes that stand from a place on, with 255 for each that was written since the last sync.
+abbrev pub spoiled : List Range → ℕ → List ℕ → List ℕ
+spoiled dirty i [] = []
+spoiled dirty i (x ∷ xs) = spoiled_if (is_dirty dirty i) x ∷ spoiled dirty (i + 1) xs
+
+-- By pick 0 the bytes at the last sync are left, by pick 1 those that a read gives, and by any other these with 255 for
+-- each that was written since the last sync.
+abbrev pub crashed : Disk → ℕ → List ℕ
+crashed d pick = if pick == 0 then d.synced else if pick == 1 then d.bytes else spoiled d.dirty 0 d.bytes

@@ -1,0 +1,70 @@
+-- What may stand at each moment inside the calls of a stage.
+use Rattle.std.specs.Prelude.{◌≡◌, ◌≢◌, ◌⊎◌, ℕ, ◌+◌, ◌≤◌, List, ◌++◌, take, Option, Some}
+use Rattle.paw_stage.specs.Disk.{Disk, LeavesNoMore, IsInWrite}
+use Rattle.paw_stage.specs.Stage.{Files, Standing, holds, held, made_if_missing}
+use Rattle.paw_stage.specs.declared.Asked.{Asked}
+use Rattle.paw_stage.specs.declared.Asked.TheVariants as asked
+
+-- What stands at one moment: all that a crash then leaves, and what was asked and shown by then.
+pub record Moment : Type 0 where
+  pub files : Files
+  pub asked : ℕ
+  pub shown : List ℕ
+  pub attached : Option (List ℕ)
+  pub disk : Disk
+
+abbrev pub moment_of : Standing → Moment
+moment_of s = record { files = s.files; asked = s.asked; shown = s.shown; attached = s.attached; disk = s.disk }
+
+-- The moments since a time, before a call and after it. Those after it are those before and those inside the call.
+pub record Passes (before now : ℕ) (past since : ℕ → Moment → Type 0) (Inside : Moment → Type 0) : Type 0 where
+  pub later : before ≤ now
+  pub nothing_else : (t : ℕ) (m : Moment) → t ≤ before → since t m → past t m ⊎ Inside m
+  pub keeps : (t : ℕ) (m : Moment) → t ≤ before → past t m → since t m
+
+-- Inside a call that changes nothing.
+abbrev pub Still : Standing → Moment → Type 0
+Still old m = m ≡ moment_of old
+
+-- Inside an ask: one line more is asked only where it takes one.
+abbrev pub InAsk : Standing → Asked → Moment → Type 0
+InAsk old (asked.Line n) m = (m ≡ moment_of old) ⊎ (m ≡ record (moment_of old) { asked = old.asked + 1 })
+InAsk old asked.End m = m ≡ moment_of old
+InAsk old asked.Failed m = m ≡ moment_of old
+
+-- Inside a show: a first part of the text was shown.
+abbrev pub InShow : Standing → List ℕ → Moment → Type 0
+InShow old text m = (n : ℕ) × (m ≡ record (moment_of old) { shown = old.shown ++ take n text })
+
+-- Inside a save: the named file may hold any bytes, or be missing. What a crash leaves of the store is open where it is
+-- the store's file.
+pub record InSave (old : Standing) (name : List ℕ) (m : Moment) : Type 0 where
+  pub asked : m.asked ≡ old.asked
+  pub shown : m.shown ≡ old.shown
+  pub attached : m.attached ≡ old.attached
+  pub files : (m.files ≡ old.files) ⊎ ((bytes : Option (List ℕ)) × (m.files ≡ holds name bytes old.files))
+  pub disk : old.attached ≢ Some name → m.disk ≡ old.disk
+
+-- Inside an attach: a missing file may be there already, and the store is that before the call or that after it.
+pub record InAttach (old new : Standing) (name : List ℕ) (m : Moment) : Type 0 where
+  pub asked : m.asked ≡ old.asked
+  pub shown : m.shown ≡ old.shown
+  pub files : (m.files ≡ old.files) ⊎ (m.files ≡ made_if_missing name (old.files name) old.files)
+  pub store : ((m.attached ≡ old.attached) × (m.disk ≡ old.disk)) ⊎ ((m.attached ≡ new.attached) × (m.disk ≡ new.disk))
+
+-- Inside a write of n bytes: the store's file may hold any bytes, and a crash leaves what it left before, or any bytes in
+-- the range.
+pub record InWrite (old : Standing) (at n : ℕ) (m : Moment) : Type 0 where
+  pub asked : m.asked ≡ old.asked
+  pub shown : m.shown ≡ old.shown
+  pub attached : m.attached ≡ old.attached
+  pub files : (m.files ≡ old.files) ⊎ ((bytes : List ℕ) × (m.files ≡ held old.attached bytes old.files))
+  pub disk : IsInWrite at n old.disk m.disk
+
+-- Inside a sync: a crash leaves no more than before it.
+pub record InSync (old : Standing) (m : Moment) : Type 0 where
+  pub asked : m.asked ≡ old.asked
+  pub shown : m.shown ≡ old.shown
+  pub attached : m.attached ≡ old.attached
+  pub files : m.files ≡ old.files
+  pub disk : LeavesNoMore old.disk m.disk

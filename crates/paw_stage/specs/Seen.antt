@@ -1,0 +1,54 @@
+-- What is found of a file, and of the attached store, by playing calls again.
+use Rattle.std.specs.Prelude.{◌≡◌, ℕ, ◌+◌, ◌-◌, ◌<◌, ◌≤◌, nat_le, nat_lt, ◌&&◌, ◌||◌, Bool, false, List, [], ◌∷◌, length, take, drop, slice_index, slice_range, Option, Some, None, is_some, if◌then◌else◌}
+use Rattle.paw_stage.specs.Disk.{is_dirty}
+use Rattle.paw_stage.specs.Stage.{Standing, bytes_or_none}
+use Rattle.paw_stage.specs.Done.{Done, fresh, after, is_attached}
+use Rattle.paw_stage.specs.declared.log.Kind.{Kind}
+use Rattle.paw_stage.specs.declared.log.Kind.TheVariants as kind
+use Rattle.paw_stage.specs.declared.replay.Seen.{Seen}
+use Rattle.paw_stage.specs.declared.replay.Store.{Store}
+
+-- The file of this name is as seen, and a buffer holds its bytes from a place on, as far as they go.
+pub record Sees (s : Standing) (name : List ℕ) (at : ℕ) (seen : Seen) (into : List ℕ) : Type 0 where
+  pub here : seen.here ≡ is_some (s.files name)
+  pub attached : seen.attached ≡ is_attached s.attached name
+  pub len : seen.len ≡ length (bytes_or_none (s.files name))
+  pub bytes : (j : ℕ) → j < length into → at + j < seen.len → slice_index into j ≡ slice_index (bytes_or_none (s.files name)) (at + j)
+
+-- The bytes of the attached store are those of its file.
+abbrev pub IsFiled : Standing → Type 0
+IsFiled s = (name : List ℕ) → s.attached ≡ Some name → s.files name ≡ Some s.disk.bytes
+
+-- The byte at place i, once bytes were laid over those from a place on.
+abbrev pub laid_over : ℕ → List ℕ → ℕ → ℕ → ℕ
+laid_over place bytes i old = if nat_le place i && nat_lt i (place + length bytes) then slice_index bytes (i - place) else old
+
+-- Whether a call of this kind, with so many bytes, wrote at place i of the store.
+abbrev pub writes : Kind → ℕ → ℕ → Bool
+writes (kind.Write at) n i = nat_le at i && nat_lt i (at + n)
+writes _ n i = false
+
+-- Whether one of these calls wrote at place i of the store.
+abbrev pub is_written : List Done → ℕ → Bool
+is_written [] i = false
+is_written (d ∷ ds) i = writes d.kind (length d.bytes) i || is_written ds i
+
+-- The store of this name was attached by then, its bytes were last synced after n of these calls, and what is dirty was
+-- written by the later ones.
+pub record IsStore (ds : List Done) (name : List ℕ) (n : ℕ) : Type 0 where
+  pub within : n ≤ length ds
+  pub attached : (after fresh ds).attached ≡ Some name
+  pub before : (after fresh (take n ds)).attached ≡ Some name
+  pub synced : (after fresh (take n ds)).disk.bytes ≡ (after fresh ds).disk.synced
+  pub dirty : (i : ℕ) → is_dirty (after fresh ds).disk.dirty i ≡ is_written (drop n ds) i
+
+-- The name of the store stands in the room, where there is a store.
+abbrev pub IsNamed : List ℕ → Option Store → Type 0
+IsNamed room None = Unit {0}
+IsNamed room (Some store) = (store.opened.from ≤ store.opened.mid) × (store.opened.mid ≤ length room)
+
+-- The attached store of these calls, where one is attached.
+abbrev pub FindsStore : List ℕ → List Done → Option Store → Type 0
+FindsStore room ds None = (after fresh ds).attached ≡ None
+FindsStore room ds (Some store) =
+    IsNamed room (Some store) × IsStore ds (slice_range room store.opened.from store.opened.mid) store.synced

@@ -1,0 +1,86 @@
+// Stages of which some calls are made to fail.
+
+ghost use Rattle.std.specs.Prelude.{IfOk};
+ghost use Rattle.paw_stage.specs.Disk.{IsStable};
+ghost use Rattle.paw_stage.specs.Memory.{standing_of};
+
+use crate::{Asked, FailStage, MemoryStage, Stage, StopStage};
+use paw_base::fault::NoRoom;
+use std::alloc::Global;
+use std::test::Fail;
+
+// How many of these calls in a row are answered well: attach a store, write three bytes to it, sync it, and read them.
+fn calls_done<S: Stage>(stage: &mut S) -> u64
+    requires { S.Tells stage.old → IsStable (S.standing stage.old).disk }
+{
+    if stage.attach("store").is_err() {
+        return 0;
+    }
+    if stage.write_at(0, b"abc").is_err() {
+        return 1;
+    }
+    if stage.sync().is_err() {
+        return 2;
+    }
+    let mut bytes = [0u8; 3];
+    if stage.read_at(0, &mut bytes).is_err() || bytes != *b"abc" {
+        return 3;
+    }
+    4
+}
+
+// How many of these calls are answered well: ask for a line, show a text, save a file, and load it.
+fn others_done<S: Stage>(stage: &mut S, alloc: Global) -> u64 {
+    let mut line = [0u8; 255];
+    let asked = stage.ask(&mut line) == Asked::Line(4);
+    let shown = stage.show(b"Hall.").is_ok();
+    let saved = stage.save("game", b"bytes").is_ok();
+    let loaded = stage.load(alloc, "game", 9).is_ok();
+    u64::from(asked) + u64::from(shown) + u64::from(saved) + u64::from(loaded)
+}
+
+fn with_line(alloc: Global) -> Result<MemoryStage, NoRoom>
+    ensures { IfOk result (λ s. IsStable (standing_of s).disk) }
+{
+    let mut stage = MemoryStage::new(alloc, 20, 100)?;
+    stage.add_line(alloc, b"look")?;
+    Ok(stage)
+}
+
+#[test]
+fn a_stage_stops_after_so_many_calls(rt: HostRuntime) -> Result<(), Fail> {
+    for (passes, written, others) in [
+        (0, 0, 0),
+        (1, 0, 0),
+        (2, 3, 0),
+        (3, 3, 0),
+        (4, 3, 0),
+        (6, 3, 2),
+        (8, 3, 4),
+        (u64::MAX, 3, 4),
+    ] {
+        let mut stage = StopStage::new(with_line(rt.alloc())?, passes);
+        assert_eq!(rt; calls_done(&mut stage), passes.min(4), "{passes}");
+        assert_eq!(rt; stage.inner().written(), written, "{passes}");
+        assert_eq!(rt; others_done(&mut stage, rt.alloc()), others, "{passes}");
+        assert_eq!(rt; stage.inner().written(), written, "{passes}");
+    }
+    Ok(())
+}
+
+#[test]
+fn one_listed_call_fails_and_later_ones_pass(rt: HostRuntime) -> Result<(), Fail> {
+    for (listed, done, others) in [
+        (0, 0, 4),
+        (1, 1, 4),
+        (2, 2, 4),
+        (3, 3, 4),
+        (5, 4, 3),
+        (9, 4, 4),
+    ] {
+        let mut stage = FailStage::new(with_line(rt.alloc())?, [listed].to_vec(rt.alloc())?);
+        assert_eq!(rt; calls_done(&mut stage), done, "{listed}");
+        assert_eq!(rt; others_done(&mut stage, rt.alloc()), others, "{listed}");
+    }
+    Ok(())
+}

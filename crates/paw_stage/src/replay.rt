@@ -1,0 +1,374 @@
+// What a record of calls makes of a file and of the attached store, found by playing the calls again.
+
+ghost use Rattle.std.specs.Prelude.{◌≡◌, ◌⊎◌, ◌≤◌, ◌<◌, ◌+◌, ◌-◌, ◌^◌, ◌++◌, ◌∷◌, ◌&&◌, ◌||◌, nat_le, nat_lt, min, max, true, [], IfOk, IfSome, IfNone, IsSome, Some, None, length, take, drop, slice_index, slice_range, replicate, List, ℕ};
+ghost use Rattle.paw_stage.specs.declared.log.Kind.TheVariants as kind;
+ghost use Rattle.paw_stage.specs.Disk.{put};
+ghost use Rattle.paw_stage.specs.Stage.{Standing, bytes_or_none};
+ghost use Rattle.paw_stage.specs.Done.{Done, fresh, step, after};
+ghost use Rattle.paw_stage.specs.Crash.{crashed, spoiled, spoiled_if};
+ghost use Rattle.paw_stage.specs.Log.{done_in, all_done, AreLaid};
+ghost use Rattle.paw_stage.specs.Seen.{Sees, IsFiled, IsNamed, FindsStore, laid_over, writes, is_written};
+
+use crate::log::{Call, Kind};
+use paw_base::fault::NoRoom;
+use std::alloc::Global;
+
+// What a crash may leave of a byte that was written.
+const SPOILED: u8 = 255;
+
+// What is seen of a file: whether it is there, whether it is the attached store, and its length.
+#[derive(Clone, Copy, Drop, PartialEq, Eq, Debug)]
+pub struct Seen {
+    pub here: bool,
+    pub attached: bool,
+    pub len: usize,
+}
+
+// The attached store: the call that attached it, and the number of calls after which its bytes were last synced.
+#[derive(Clone, Copy, Drop, PartialEq, Eq, Debug)]
+pub struct Store {
+    pub opened: Call,
+    pub synced: usize,
+}
+
+/// The length of a file, where it is there.
+pub fn file_len(calls: &[Call], room: &[u8], name: &[u8]) -> Option<usize>
+    requires { AreLaid calls.now 0 (length room.now) }
+    ensures some { IfSome result (λ n. (bytes : List ℕ) × ((after fresh (all_done room.now calls.now)).files name.now ≡ Some bytes) × (n ≡ length bytes)) }
+    ensures none { IfNone result ((after fresh (all_done room.now calls.now)).files name.now ≡ None) }
+{
+    let seen = see(calls, room, name, 0, &mut []);
+    if seen.here { Some(seen.len) } else { None }
+}
+
+/// The first bytes of a file, so many that it has them.
+pub fn first_bytes(
+    calls: &[Call],
+    room: &[u8],
+    alloc: Global,
+    name: &[u8],
+    n: usize,
+) -> Result<Vec<u8>, NoRoom>
+    requires laid { AreLaid calls.now 0 (length room.now) }
+    requires within { n ≤ length (bytes_or_none ((after fresh (all_done room.now calls.now)).files name.now)) }
+    ensures { IfOk result (λ v. v.items ≡ take n (bytes_or_none ((after fresh (all_done room.now calls.now)).files name.now))) }
+{
+    let mut bytes = vec![in alloc; 0u8; n]?;
+    read_file(calls, room, name, 0, bytes.as_mut_slice());
+    Ok(bytes)
+}
+
+/// The length of the attached store.
+pub fn store_len(calls: &[Call], room: &[u8]) -> usize
+    requires laid { AreLaid calls.now 0 (length room.now) }
+    requires attached { IsSome (after fresh (all_done room.now calls.now)).attached }
+    ensures { result ≡ length (after fresh (all_done room.now calls.now)).disk.bytes }
+{
+    match find_store(calls, room) {
+        None => 0,
+        Some(store) => see(calls, room, name_of(room, store), 0, &mut []).len,
+    }
+}
+
+/// Fills a slice with bytes of the attached store from a place on.
+pub fn read_store(calls: &[Call], room: &[u8], at: usize, into: &mut [u8])
+    requires laid { AreLaid calls.now 0 (length room.now) }
+    requires attached { IsSome (after fresh (all_done room.now calls.now)).attached }
+    requires within { at + length into.old ≤ length (after fresh (all_done room.now calls.now)).disk.bytes }
+    ensures { into.new ≡ take (length into.old) (drop at (after fresh (all_done room.now calls.now)).disk.bytes) }
+{
+    match find_store(calls, room) {
+        None => {}
+        Some(store) => read_file(calls, room, name_of(room, store), at, into),
+    }
+}
+
+/// The attached store as a crash may leave it, by a pick, and no bytes where none is attached.
+pub fn crash(calls: &[Call], room: &[u8], alloc: Global, pick: u8) -> Result<Vec<u8>, NoRoom>
+    requires { AreLaid calls.now 0 (length room.now) }
+    ensures made { IsSome (after fresh (all_done room.now calls.now)).attached → IfOk result (λ v. v.items ≡ crashed (after fresh (all_done room.now calls.now)).disk pick) }
+    ensures none { (after fresh (all_done room.now calls.now)).attached ≡ None → IfOk result (λ v. v.items ≡ []) }
+{
+    match find_store(calls, room) {
+        None => Ok(Vec::new(alloc)),
+        Some(store) => leave(calls, room, alloc, store, pick),
+    }
+}
+
+// The attached store as a crash may leave it, by a pick.
+fn leave(
+    calls: &[Call],
+    room: &[u8],
+    alloc: Global,
+    store: Store,
+    pick: u8,
+) -> Result<Vec<u8>, NoRoom>
+    requires laid { AreLaid calls.now 0 (length room.now) }
+    requires found { FindsStore room.now (all_done room.now calls.now) (Some store) }
+    ensures { IfOk result (λ v. v.items ≡ crashed (after fresh (all_done room.now calls.now)).disk pick) }
+{
+    let name = name_of(room, store);
+    if pick == 0 {
+        return whole_file(&calls[..store.synced], room, alloc, name);
+    }
+    if pick == 1 {
+        return whole_file(calls, room, alloc, name);
+    }
+    spoiled_store(calls, room, alloc, store)
+}
+
+// The bytes of the attached store, with another value for each that was written since the last sync.
+fn spoiled_store(
+    calls: &[Call],
+    room: &[u8],
+    alloc: Global,
+    store: Store,
+) -> Result<Vec<u8>, NoRoom>
+    requires laid { AreLaid calls.now 0 (length room.now) }
+    requires found { FindsStore room.now (all_done room.now calls.now) (Some store) }
+    ensures { IfOk result (λ v. v.items ≡ spoiled (after fresh (all_done room.now calls.now)).disk.dirty 0 (after fresh (all_done room.now calls.now)).disk.bytes) }
+{
+    let mut bytes = whole_file(calls, room, alloc, name_of(room, store))?;
+    spoil(&calls[store.synced..], room, bytes.as_mut_slice());
+    Ok(bytes)
+}
+
+// Gives another value to each byte of a store that one of these calls wrote.
+fn spoil(calls: &[Call], room: &[u8], store: &mut [u8])
+    requires { AreLaid calls.now 0 (length room.now) }
+    ensures { (j : ℕ) → j < length store.old → slice_index store.new j ≡ spoiled_if (is_written (all_done room.now calls.now) j) (slice_index store.old j) }
+{
+    for call in calls {
+        spoil_after(*call, room, store);
+    }
+}
+
+// Gives another value to each byte of a store that a call wrote.
+fn spoil_after(call: Call, room: &[u8], store: &mut [u8])
+    requires { (call.from ≤ call.mid) × (call.mid ≤ call.to) × (call.to ≤ length room.now) }
+    ensures { (j : ℕ) → j < length store.old → slice_index store.new j ≡ spoiled_if (writes call.kind (length (done_in room.now call).bytes) j) (slice_index store.old j) }
+{
+    let bytes = part(room, call.mid, call.to);
+    if let Kind::Write(place) = call.kind {
+        let place = (place as usize).min(store.len());
+        spoil_range(place, bytes.len(), store);
+    }
+}
+
+// Gives another value to so many bytes of a store from a place on, as far as it goes.
+fn spoil_range(place: usize, n: usize, store: &mut [u8])
+    requires { place ≤ length store.old }
+    ensures { store.new ≡ put place (replicate (min n (length store.old - place)) SPOILED) store.old }
+{
+    let to = place + n.min(store.len() - place);
+    store[place..to].fill(SPOILED);
+}
+
+// All bytes of a file; none where it is missing.
+fn whole_file(calls: &[Call], room: &[u8], alloc: Global, name: &[u8]) -> Result<Vec<u8>, NoRoom>
+    requires { AreLaid calls.now 0 (length room.now) }
+    ensures { IfOk result (λ v. v.items ≡ bytes_or_none ((after fresh (all_done room.now calls.now)).files name.now)) }
+{
+    let n = see(calls, room, name, 0, &mut []).len;
+    first_bytes(calls, room, alloc, name, n)
+}
+
+// Fills a slice with bytes of a file from a place on.
+fn read_file(calls: &[Call], room: &[u8], name: &[u8], at: usize, into: &mut [u8])
+    requires laid { AreLaid calls.now 0 (length room.now) }
+    requires within { at + length into.old ≤ length (bytes_or_none ((after fresh (all_done room.now calls.now)).files name.now)) }
+    ensures { into.new ≡ take (length into.old) (drop at (bytes_or_none ((after fresh (all_done room.now calls.now)).files name.now))) }
+{
+    let _ = see(calls, room, name, at, into);
+}
+
+// What is seen of a file. A slice is filled with its bytes from a place on, as far as they go.
+fn see(calls: &[Call], room: &[u8], name: &[u8], at: usize, into: &mut [u8]) -> Seen
+    requires { AreLaid calls.now 0 (length room.now) }
+    ensures { Sees (after fresh (all_done room.now calls.now)) name.now at result into.new }
+{
+    let mut seen = Seen {
+        here: false,
+        attached: false,
+        len: 0,
+    };
+    for call in calls {
+        seen = seen_after(*call, room, name, at, into, seen);
+    }
+    seen
+}
+
+// What is seen of a file after one call more.
+fn seen_after(call: Call, room: &[u8], name: &[u8], at: usize, into: &mut [u8], seen: Seen) -> Seen
+    requires order { (call.from ≤ call.mid) × (call.mid ≤ call.to) × (call.to ≤ length room.now) }
+    requires small { seen.len ≤ call.from }
+    ensures sees { (s : Standing) → IsFiled s → Sees s name.now at seen into.old → Sees (step s (done_in room.now call)) name.now at result into.new }
+    ensures small { result.len ≤ call.to }
+{
+    let named = part(room, call.from, call.mid) == name;
+    let bytes = part(room, call.mid, call.to);
+    match call.kind {
+        Kind::Add => if named {
+            seen_filed(bytes, at, into, seen)
+        } else {
+            seen
+        },
+        Kind::Save => if named {
+            seen_filed(bytes, at, into, seen)
+        } else {
+            seen
+        },
+        Kind::Attach => seen_opened(named, seen),
+        Kind::Write(place) => if seen.attached {
+            seen_written(place, bytes, at, into, seen)
+        } else {
+            seen
+        },
+        Kind::Load => seen,
+        Kind::Read => seen,
+        Kind::Sync => seen,
+        Kind::Take => seen,
+        Kind::End => seen,
+        Kind::Show => seen,
+    }
+}
+
+// What is seen of a file once it holds these bytes.
+fn seen_filed(bytes: &[u8], at: usize, into: &mut [u8], seen: Seen) -> Seen
+    ensures seen { result ≡ record { here = true; attached = seen.attached; len = length bytes.now } }
+    ensures laid { (j : ℕ) → j < length into.old → slice_index into.new j ≡ laid_over 0 bytes.now (at + j) (slice_index into.old j) }
+{
+    lay_over(0, bytes, at, into);
+    Seen {
+        here: true,
+        attached: seen.attached,
+        len: bytes.len(),
+    }
+}
+
+// What is seen of a file once it, or another, was attached.
+fn seen_opened(named: bool, seen: Seen) -> Seen
+    ensures { result ≡ record { here = named || seen.here; attached = named; len = seen.len } }
+{
+    Seen {
+        here: named || seen.here,
+        attached: named,
+        len: seen.len,
+    }
+}
+
+// What is seen of the attached store once bytes were written to it, or behind it where the place lies past its end.
+fn seen_written(place: u64, bytes: &[u8], at: usize, into: &mut [u8], seen: Seen) -> Seen
+    requires { seen.len + length bytes.now < 2 ^ 64 }
+    ensures seen { result ≡ record { here = seen.here; attached = seen.attached; len = max seen.len (min place seen.len + length bytes.now) } }
+    ensures laid { (j : ℕ) → j < length into.old → slice_index into.new j ≡ laid_over (min place seen.len) bytes.now (at + j) (slice_index into.old j) }
+{
+    let place = (place as usize).min(seen.len);
+    lay_over(place, bytes, at, into);
+    Seen {
+        here: seen.here,
+        attached: seen.attached,
+        len: seen.len.max(place + bytes.len()),
+    }
+}
+
+// Lays bytes that stand from a place on over those in a slice, which stand from `at` on.
+fn lay_over(place: usize, bytes: &[u8], at: usize, into: &mut [u8])
+    ensures { (j : ℕ) → j < length into.old → slice_index into.new j ≡ laid_over place bytes.now (at + j) (slice_index into.old j) }
+{
+    let from = at.saturating_sub(place).min(bytes.len());
+    let to = place.saturating_sub(at).min(into.len());
+    copy_over(&bytes[from..], into, to);
+}
+
+// Copies bytes over those of a slice from a place on, as many as it has.
+fn copy_over(bytes: &[u8], into: &mut [u8], to: usize)
+    requires { to ≤ length into.old }
+    ensures { into.new ≡ put to (take (length into.old - to) bytes.now) into.old }
+{
+    let n = bytes.len().min(into.len() - to);
+    into[to..to + n].copy_from_slice(&bytes[..n]);
+}
+
+// The name of a store.
+fn name_of(room: &[u8], store: Store) -> &[u8]
+    requires order { store.opened.from ≤ store.opened.mid }
+    requires within { store.opened.mid ≤ length room.now }
+    ensures { result.now ≡ slice_range room.now store.opened.from store.opened.mid }
+{
+    part(room, store.opened.from, store.opened.mid)
+}
+
+// The attached store, where one is attached.
+fn find_store(calls: &[Call], room: &[u8]) -> Option<Store>
+    requires { AreLaid calls.now 0 (length room.now) }
+    ensures { FindsStore room.now (all_done room.now calls.now) result }
+{
+    let mut store = None;
+    for k in 0..calls.len() {
+        store = store_after(calls[k], room, k + 1, store);
+    }
+    store
+}
+
+// The attached store after one call more, with which so many are done.
+fn store_after(call: Call, room: &[u8], done: usize, store: Option<Store>) -> Option<Store>
+    requires order { (call.from ≤ call.mid) × (call.mid ≤ call.to) × (call.to ≤ length room.now) }
+    requires named { IsNamed room.now store }
+    ensures { (ds : List Done) → done ≡ length ds + 1 → FindsStore room.now ds store → FindsStore room.now (ds ++ done_in room.now call ∷ []) result }
+{
+    match call.kind {
+        Kind::Add => store_filed(call, room, done, store),
+        Kind::Save => store_filed(call, room, done, store),
+        Kind::Attach => Some(Store {
+            opened: call,
+            synced: done,
+        }),
+        Kind::Sync => store_synced(done, store),
+        Kind::Load => store,
+        Kind::Read => store,
+        Kind::Write(_) => store,
+        Kind::Take => store,
+        Kind::End => store,
+        Kind::Show => store,
+    }
+}
+
+// The attached store once so many calls are done, and its bytes are synced.
+fn store_synced(done: usize, store: Option<Store>) -> Option<Store>
+    ensures none { store ≡ None → result ≡ None }
+    ensures some { (s : Store) → store ≡ Some s → result ≡ Some (record { opened = s.opened; synced = done }) }
+{
+    match store {
+        None => None,
+        Some(store) => Some(Store {
+            opened: store.opened,
+            synced: done,
+        }),
+    }
+}
+
+// The attached store once so many calls are done, the last of which gave a file new bytes.
+fn store_filed(call: Call, room: &[u8], done: usize, store: Option<Store>) -> Option<Store>
+    requires order { (call.from ≤ call.mid) × (call.mid ≤ call.to) × (call.to ≤ length room.now) }
+    requires named { IsNamed room.now store }
+    ensures { (ds : List Done) → done ≡ length ds + 1 → FindsStore room.now ds store → (call.kind ≡ kind.Add) ⊎ (call.kind ≡ kind.Save) → FindsStore room.now (ds ++ done_in room.now call ∷ []) result }
+{
+    match store {
+        None => None,
+        Some(s) => if part(room, call.from, call.mid) == name_of(room, s) {
+            store_synced(done, store)
+        } else {
+            store
+        },
+    }
+}
+
+// A part of the room.
+fn part(room: &[u8], from: usize, to: usize) -> &[u8]
+    requires order { from ≤ to }
+    requires within { to ≤ length room.now }
+    ensures { result.now ≡ slice_range room.now from to }
+{
+    &room[from..to]
+}

@@ -1,0 +1,37 @@
+// A stage in memory that stops after so many calls.
+
+ghost use Rattle.std.specs.Prelude.{◌≡◌, ◌-◌, ◌==◌};
+ghost use Rattle.paw_stage.specs.Faults.{no_faults};
+
+use crate::MemoryStage;
+use crate::refusing::{Refusals, RefusingStage};
+
+/// A stage in memory that passes so many calls and then fails every one.
+pub type StopStage = RefusingStage<Stopping>;
+
+/// The rule that all calls fail once so many have passed.
+#[derive(Drop)]
+pub struct Stopping {
+    passes: u64,
+}
+
+impl Refusals for Stopping {
+    ghost refuses = { λ s. s.passes == 0 };
+
+    ghost later = { λ s. record s { passes = s.passes - 1 } };
+
+    fn refuses_next(&mut self) -> bool {
+        let stopped = self.passes == 0;
+        self.passes = self.passes.saturating_sub(1);
+        stopped
+    }
+}
+
+impl RefusingStage<Stopping> {
+    /// A stage over this one, which passes so many calls and then fails every one.
+    pub fn new(inner: MemoryStage, passes: u64) -> StopStage
+        ensures { result ≡ record { inner = inner; rule = record { passes = passes }; counts = no_faults } }
+    {
+        RefusingStage::over(inner, Stopping { passes })
+    }
+}
