@@ -49,7 +49,7 @@ one_of : (b : Bool) (x y : Done) → Plain x → Plain y → Plain (if b then x 
 one_of true x y h k = h
 one_of false x y h k = k
 
--- an action on an object is done or refused
+-- an action on an object that is found and done, or refused
 tried_plain : (g : GameLists) (w : World) (o : ℕ) (a : Action) (said : Option Words) → Plain (tried g w o a said)
 tried_plain g w o a (Some said) = record { plain = tt }
 tried_plain g w o a None = record { plain = tt }
@@ -70,7 +70,8 @@ unfolding effect_of
 other_plain g X w c other =
     let fine : Unit {0} = tt in
     rw other (one_of (is_print c.code) _ _ (record { plain = fine }) (one_of (is_object_action c.code) _ _ (object_plain g w c)
-    (one_of (is_move c.code) _ _ (record { plain = fine }) (one_of (c.code == 89) _ _ (record { plain = fine }) (one_of (c.code == 90) _ _ (record { plain = fine }) (record { plain = fine }))))))
+    (one_of (is_move c.code) _ _ (record { plain = fine }) (one_of (c.code == 89) _ _ (record { plain = fine })
+    (one_of (c.code == 90) _ _ (record { plain = fine }) (record { plain = fine }))))))
 
 -- ---- codes ----
 

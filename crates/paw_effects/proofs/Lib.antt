@@ -3,6 +3,6 @@ mod Parameters
 mod Moves
 mod Searching
 pub mod Asking
+pub mod Placed
 mod NextListed
-pub mod Locations
 mod Facts

@@ -13,10 +13,10 @@ use paw_world::world::World;
 const SCORE: u8 = 30;
 
 /// The number of turns, its low byte.
-const TURNS_LOW: u8 = 31;
+pub const TURNS_LOW: u8 = 31;
 
 /// The number of turns, its high byte.
-const TURNS_HIGH: u8 = 32;
+pub const TURNS_HIGH: u8 = 32;
 
 /// The system messages round the number of turns.
 const BEFORE_TURNS: u8 = 17;

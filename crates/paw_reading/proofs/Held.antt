@@ -10,6 +10,7 @@ use Rattle.paw_game.specs.declared.parts.Entry.{Entry}
 use Rattle.paw_game.specs.Game.{GameLists}
 use Rattle.paw_game.specs.Tables.{table_at, entry_at, condacts_of, condact_at, facts_at}
 use Rattle.paw_game.specs.Valid.{Valid, is_place}
+use Rattle.paw_game.proofs.Kept.{condact_kept}
 use Rattle.paw_world.specs.World.{World, with_flag}
 use Rattle.paw_phrase.specs.Sentence.{Parsed, IsSentence, IsUnknown, IsNoPhrase}
 use Rattle.paw_effects.specs.declared.act.Prompt.{Prompt}
@@ -22,7 +23,7 @@ use Rattle.paw_effects.specs.Texts.{put_text, say_text}
 use Rattle.paw_effects.specs.Holds.{is_condition, holds}
 use Rattle.paw_effects.specs.Effects.{Done, effect_of}
 use Rattle.paw_effects.proofs.Asking.{AsksAt, Leads, effect_leads, condition_asks}
-use Rattle.paw_effects.proofs.Locations.{effect_stays, condition_stays, referred_stays}
+use Rattle.paw_effects.proofs.Placed.{IsPlaced, doall_place, effect_placed, condition_placed, referred_placed, restarted_placed}
 use Rattle.paw_reading.specs.declared.places.Frame.{Frame}
 use Rattle.paw_reading.specs.declared.places.OpenLoop.{OpenLoop}
 use Rattle.paw_reading.specs.Run.{Run, closed, fits, printed, with_world, without_loop, line_dropped, anew, is_ignored, heard, reply, is_yes, is_no, taken_phrase}
@@ -32,7 +33,6 @@ use Rattle.paw_reading.specs.Turn.{first_table}
 use Rattle.paw_reading.specs.Places.{IsAt, LeadsTo, tables_of, IsLoopIn}
 use Rattle.paw_reading.proofs.Lists.{drop_more}
 use Rattle.paw_reading.proofs.Keeps.{either, open_or_not, at_level_is}
-use Rattle.paw_reading.proofs.Doall.{doall_place}
 
 -- ---- lists ----
 
@@ -57,43 +57,43 @@ all_left (x ∷ xs) = refl
 
 -- ---- what is open ----
 
--- the world is the game's, and the loop is one of these tables'
-pub record Sound (g : GameLists) (tables : List ℕ) (locations : ℕ) (turning : Option OpenLoop) : Type 0 where
-  pub of : locations ≡ length g.locations
+-- the objects of the world stand at places of the game, and the loop is one of these tables'
+pub record Sound (g : GameLists) (tables : List ℕ) (w : World) (turning : Option OpenLoop) : Type 0 where
+  pub of : IsPlaced g w
   pub loop : IfSome turning (IsLoopIn g tables)
 
 -- a wait above these tables, whose first table is this one
-pub record WaitsAbove (g : GameLists) (ts : List ℕ) (u : ℕ) (p : Prompt) (path : List Frame) (locations : ℕ) (turning : Option OpenLoop) : Type 0 where
+pub record WaitsAbove (g : GameLists) (ts : List ℕ) (u : ℕ) (p : Prompt) (path : List Frame) (w : World) (turning : Option OpenLoop) : Type 0 where
   pub code : ℕ
   pub asks : AsksAt code p
   pub few : length ts + length path ≤ 11
   pub first : first_table path ≡ u
   pub leads : LeadsTo g code path
-  pub sound : Sound g (ts ++ tables_of path) locations turning
+  pub sound : Sound g (ts ++ tables_of path) w turning
 
 -- what reading a table above these comes to; once it is left these are open
 abbrev pub Held : GameLists → List ℕ → List ℕ → ℕ → Out → Type 0
-Held g left ts u (Left a r) = Sound g left r.world.locations r.turning
-Held g left ts u (Waits p path r) = WaitsAbove g ts u p path r.world.locations r.turning
-Held g left ts u (Redescribes r) = Sound g [] r.world.locations r.turning
-Held g left ts u (Restarts r) = Sound g [] r.world.locations r.turning
-Held g left ts u (Ends r) = (r.turning ≡ None) × (r.pending ≡ [])
+Held g left ts u (Left a r) = Sound g left r.world r.turning
+Held g left ts u (Waits p path r) = WaitsAbove g ts u p path r.world r.turning
+Held g left ts u (Redescribes r) = Sound g [] r.world r.turning
+Held g left ts u (Restarts r) = Sound g [] r.world r.turning
+Held g left ts u (Ends r) = (r.turning ≡ None) × ((r.pending ≡ []) × IsPlaced g r.world)
 Held g left ts u (IsSpent kind r) = Unit {0}
 Held g left ts u (IsDeep t r) = Unit {0}
 
 in_front : (g : GameLists) (ts us : List ℕ) (l : OpenLoop) → IsLoopIn g ts l → IsLoopIn g (ts ++ us) l
 in_front g ts us l k = record { level = get_front ts us l.level l.table k.level; doall = k.doall; place = k.place; last = k.last }
 
-widened : (g : GameLists) (ts : List ℕ) (u n : ℕ) (o : Option OpenLoop) → Sound g ts n o → Sound g (ts ++ u ∷ []) n o
-widened g ts u n None k = record { of = k.of; loop = tt }
-widened g ts u n (Some l) k = record { of = k.of; loop = in_front g ts (u ∷ []) l k.loop }
+widened : (g : GameLists) (ts : List ℕ) (u : ℕ) (w : World) (o : Option OpenLoop) → Sound g ts w o → Sound g (ts ++ u ∷ []) w o
+widened g ts u w None k = record { of = k.of; loop = tt }
+widened g ts u w (Some l) k = record { of = k.of; loop = in_front g ts (u ∷ []) l k.loop }
 
 elsewhere : (lv : ℕ) (l : OpenLoop) → at_level lv (Some l) ≡ None → l.level ≡ lv → ⊥
 elsewhere lv l none e = grind (arith, nat_tests)
 
-narrowed : (g : GameLists) (ts : List ℕ) (lv u n : ℕ) (o : Option OpenLoop) → length ts ≡ lv → at_level lv o ≡ None → Sound g (ts ++ u ∷ []) n o → Sound g ts n o
-narrowed g ts lv u n None deep none k = record { of = k.of; loop = tt }
-narrowed g ts lv u n (Some l) deep none k =
+narrowed : (g : GameLists) (ts : List ℕ) (lv u : ℕ) (w : World) (o : Option OpenLoop) → length ts ≡ lv → at_level lv o ≡ None → Sound g (ts ++ u ∷ []) w o → Sound g ts w o
+narrowed g ts lv u w None deep none k = record { of = k.of; loop = tt }
+narrowed g ts lv u w (Some l) deep none k =
     record {
       of = k.of;
       loop = record {
@@ -105,12 +105,12 @@ narrowed g ts lv u n (Some l) deep none k =
     }
 
 -- with no table open there is no loop
-pub none_open : (g : GameLists) (n : ℕ) (o : Option OpenLoop) → Sound g [] n o → o ≡ None
-none_open g n None k = refl
-none_open g n (Some l) k = let at = k.loop.level in cc
+pub none_open : (g : GameLists) (w : World) (o : Option OpenLoop) → Sound g [] w o → o ≡ None
+none_open g w None k = refl
+none_open g w (Some l) k = let at = k.loop.level in cc
 
 left_wider : (g : GameLists) (ts : List ℕ) (u : ℕ) (x : Out) → Held g ts ts u x → Held g (ts ++ u ∷ []) ts u x
-left_wider g ts u (Left a r) k = widened g ts u r.world.locations r.turning k
+left_wider g ts u (Left a r) k = widened g ts u r.world r.turning k
 left_wider g ts u (Waits p path r) k = k
 left_wider g ts u (Redescribes r) k = k
 left_wider g ts u (Restarts r) k = k
@@ -118,12 +118,12 @@ left_wider g ts u (Ends r) k = k
 left_wider g ts u (IsSpent kind r) k = tt
 left_wider g ts u (IsDeep t r) k = tt
 
-named_stays : (w : World) (f : Option ObjectFacts) → (named w f).locations ≡ w.locations
-named_stays w None = refl
-named_stays w (Some f) = refl
+named_placed : (g : GameLists) (w : World) (f : Option ObjectFacts) → IsPlaced g w → IsPlaced g (named w f)
+named_placed g w None k = k
+named_placed g w (Some f) k = k
 
-taken_stays : (g : GameLists) (l : OpenLoop) (o : ℕ) (r : Run) → (taken g l o r).world.locations ≡ r.world.locations
-taken_stays g l o r = referred_stays (with_flag (named r.world (facts_at g o)) 50 o) o ∙ named_stays r.world (facts_at g o)
+taken_placed : (g : GameLists) (l : OpenLoop) (o : ℕ) (r : Run) → IsPlaced g r.world → IsPlaced g (taken g l o r).world
+taken_placed g l o r k = referred_placed g (with_flag (named r.world (facts_at g o)) 50 o) o (named_placed g r.world (facts_at g o) k)
 
 -- what an action of a condact leads to in a game
 abbrev LeadsIn : GameLists → Condact → Effect → Type 0
@@ -141,14 +141,14 @@ leads_in g w t e k c effect.Go v of at h = tt
 leads_in g w t e k c (effect.Exit a) v of at h = tt
 leads_in g w t e k c effect.Redescribe v of at h = tt
 leads_in g w t e k c (effect.Call u) v of at h = h
-leads_in g w t e k c (effect.Loop p) v of at h = (h.0, subst (λ q. IsTrue (is_place (length g.locations) q)) (sym h.1) (doall_place g w t e k c v of at h.0))
+leads_in g w t e k c (effect.Loop p) v of at h = (h.0, subst (λ q. IsTrue (is_place (length g.locations) q)) (sym h.1) (doall_place g w c of (condact_kept g v t e k c at) h.0))
 leads_in g w t e k c (effect.Ask p) v of at h = h
 leads_in g w t e k c effect.Parse v of at h = tt
 leads_in g w t e k c effect.Spent v of at h = tt
 
-cancelled : (g : GameLists) (ts : List ℕ) (n : ℕ) (b : Bool) (o : Option OpenLoop) → Sound g ts n o → Sound g ts n (if b then None else o)
-cancelled g ts n true o k = record { of = k.of; loop = tt }
-cancelled g ts n false o k = k
+cancelled : (g : GameLists) (ts : List ℕ) (w : World) (b : Bool) (o : Option OpenLoop) → Sound g ts w o → Sound g ts w (if b then None else o)
+cancelled g ts w true o k = record { of = k.of; loop = tt }
+cancelled g ts w false o k = k
 
 -- ---- one table ----
 
@@ -156,7 +156,7 @@ cancelled g ts n false o k = k
 module _ (g : GameLists) (v : Valid g) (ts : List ℕ) (lv : ℕ) (deep : length ts ≡ lv) (low : lv ≤ 10) (u : ℕ) where
   -- with these tables and this one
   abbrev IsSound : Run → Type 0
-  IsSound r = Sound g (ts ++ u ∷ []) r.world.locations r.turning
+  IsSound r = Sound g (ts ++ u ∷ []) r.world r.turning
 
   -- reading on in the table
   abbrev GoesHeld : List ℕ → (Bool → Run → Out) → Type 0
@@ -168,7 +168,7 @@ module _ (g : GameLists) (v : Valid g) (ts : List ℕ) (lv : ℕ) (deep : length
   again_held : (next : OpenLoop → Run → Out) → ((l : OpenLoop) (r : Run) → at_level lv r.turning ≡ Some l → IsSound r → Held g ts ts u (next l r))
       → (x : Out) → Inside x → Held g ts ts u (again lv next x)
   again_held next h (Left a r) k =
-      open_or_not (Held g ts ts u) (λ l. next l r) (Left a r) (at_level lv r.turning) (λ l e. h l r e k) (λ none. narrowed g ts lv u r.world.locations r.turning deep none k)
+      open_or_not (Held g ts ts u) (λ l. next l r) (Left a r) (at_level lv r.turning) (λ l e. h l r e k) (λ none. narrowed g ts lv u r.world r.turning deep none k)
   again_held next h (Waits p path r) k = k
   again_held next h (Redescribes r) k = k
   again_held next h (Restarts r) k = k
@@ -177,7 +177,7 @@ module _ (g : GameLists) (v : Valid g) (ts : List ℕ) (lv : ℕ) (deep : length
   again_held next h (IsDeep t r) k = tt
 
   turns_held : (l : OpenLoop) (body : Run → Out) → ((o : ℕ) → o < length g.objects → IsLoopIn g (ts ++ u ∷ []) (record l { last = o }))
-      → ((r : Run) → IsSound r → Inside (body r)) → (n : ℕ) → n ≤ length g.objects → (r : Run) → r.world.locations ≡ length g.locations
+      → ((r : Run) → IsSound r → Inside (body r)) → (n : ℕ) → n ≤ length g.objects → (r : Run) → IsPlaced g r.world
       → Held g ts ts u (turns g lv l body n r)
   unfolding turns
   turns_held l body at h zero few r of = record { of = of; loop = tt }
@@ -185,7 +185,7 @@ module _ (g : GameLists) (v : Valid g) (ts : List ℕ) (lv : ℕ) (deep : length
       let o : ℕ = length g.objects - suc n in
       either (Held g ts ts u) (is_taken g r.world l o) _ _
       (again_held (λ _. turns g lv l body n) (λ m s e k. turns_held l body at h n (omega arith) s k.of) (body (taken g l o r))
-      (h (taken g l o r) (record { of = taken_stays g l o r ∙ of; loop = at o (omega arith) })))
+      (h (taken g l o r) (record { of = taken_placed g l o r of; loop = at o (omega arith) })))
       (turns_held l body at h n (omega arith) r of)
 
   -- ---- calls, prompts, phrases ----
@@ -197,9 +197,9 @@ module _ (g : GameLists) (v : Valid g) (ts : List ℕ) (lv : ℕ) (deep : length
   call_leads f c t code (h ∷ path) at is called first leads =
       (record { condact = c; stands = at; process = is; called = sym called ∙ sym first }, leads)
 
-  below : (f : Frame) (path : List Frame) (n : ℕ) (o : Option OpenLoop) → f.table ≡ u → Sound g ((ts ++ u ∷ []) ++ tables_of path) n o → Sound g (ts ++ tables_of (f ∷ path)) n o
-  below f path n o own k =
-      subst (λ s. Sound g s n o) (append_assoc ts (u ∷ []) (tables_of path) ∙ ap (λ t. ts ++ (t ∷ tables_of path)) (sym own)) k
+  below : (f : Frame) (path : List Frame) (w : World) (o : Option OpenLoop) → f.table ≡ u → Sound g ((ts ++ u ∷ []) ++ tables_of path) w o → Sound g (ts ++ tables_of (f ∷ path)) w o
+  below f path w o own k =
+      subst (λ s. Sound g s w o) (append_assoc ts (u ∷ []) (tables_of path) ∙ ap (λ t. ts ++ (t ∷ tables_of path)) (sym own)) k
 
   after_call_held : (left : List ℕ) (f : Frame) (go : Bool → Run → Out) (c : Condact) (t : ℕ) → f.table ≡ u → condact_at g f.table f.entry f.at ≡ Some c → c.code ≡ 85 → t ≡ c.a
       → GoesHeld left go → (x : Out) → Held g (ts ++ u ∷ []) (ts ++ u ∷ []) t x → Held g left ts u (after_call f go x)
@@ -210,7 +210,7 @@ module _ (g : GameLists) (v : Valid g) (ts : List ℕ) (lv : ℕ) (deep : length
     few = omega (arith, k.few, length-append ts (u ∷ []));
     first = own;
     leads = call_leads f c t k.code path at is called k.first k.leads;
-    sound = below f path r.world.locations r.turning own k.sound;
+    sound = below f path r.world r.turning own k.sound;
   }
   after_call_held left f go c t own at is called h (Redescribes r) k = k
   after_call_held left f go c t own at is called h (Restarts r) k = k
@@ -224,8 +224,8 @@ module _ (g : GameLists) (v : Valid g) (ts : List ℕ) (lv : ℕ) (deep : length
   answered_held prompt.Quit f go h line r k = either Inside (is_yes line) _ (Left true r) (h f.acted r k) k
   answered_held prompt.Again f go h line r k =
       either Inside (is_no line) (over g r) (Restarts (anew r))
-      (either Inside (fits r (say_text g r.world 14)) (Ends (closed (without_loop (line_dropped (printed (say_text g r.world 14) r))))) (IsSpent spent.Text r) (refl, refl) tt)
-      (record { of = k.of; loop = tt })
+      (either Inside (fits r (say_text g r.world 14)) (Ends (closed (without_loop (line_dropped (printed (say_text g r.world 14) r))))) (IsSpent spent.Text r) (refl, (refl, k.of)) tt)
+      (record { of = restarted_placed g r.world v k.of; loop = tt })
   answered_held prompt.Key f go h line r k = h true r k
   answered_held prompt.Over f go h line r k = h f.acted r k
 
@@ -238,15 +238,15 @@ module _ (g : GameLists) (v : Valid g) (ts : List ℕ) (lv : ℕ) (deep : length
     few = omega (arith, deep);
     first = own;
     leads = at;
-    sound = subst (λ t. Sound g (ts ++ t ∷ []) r.world.locations r.turning) (sym own) k;
+    sound = subst (λ t. Sound g (ts ++ t ∷ []) r.world r.turning) (sym own) k;
   }
   asked_held p f code go asks own at h r (line ∷ lines) k =
       either Inside (is_ignored r.world line) _ _ (asked_held p f code go asks own at h (closed (record r { events = lines })) lines k)
-      (answered_held p f go h (reply line) (heard line (record r { events = lines })) k)
+      (answered_held p f go h (reply line) (heard line (record r { events = lines })) (record { of = k.of; loop = k.loop }))
 
   after_parse_held : (f : Frame) (next go : Bool → Run → Out) → GoesHeld (ts ++ u ∷ []) next → GoesHeld (ts ++ u ∷ []) go → (r : Run) (p : Parsed) → IsSound r
       → Inside (after_parse f next go r p)
-  after_parse_held f next go hn hg r (IsSentence s rest) k = hn f.acted (taken_phrase s rest r) k
+  after_parse_held f next go hn hg r (IsSentence s rest) k = hn f.acted (taken_phrase s rest r) (record { of = k.of; loop = k.loop })
   after_parse_held f next go hn hg r (IsUnknown rest) k = hg f.acted (record r { pending = rest }) k
   after_parse_held f next go hn hg r IsNoPhrase k = hg f.acted r k
 
@@ -289,20 +289,20 @@ module _ (g : GameLists) (v : Valid g) (ts : List ℕ) (lv : ℕ) (deep : length
     after_action_held f next go c own at hn hg effect.Spent leads r k = tt
 
     acts_held : (f : Frame) (next go : Bool → Run → Out) (c : Condact) → f.table ≡ u → condact_at g f.table f.entry f.at ≡ Some c
-        → GoesHeld (ts ++ u ∷ []) next → GoesHeld (ts ++ u ∷ []) go → (d : Done) → LeadsIn g c d.act.effect → (r : Run) → Sound g (ts ++ u ∷ []) d.world.locations r.turning
+        → GoesHeld (ts ++ u ∷ []) next → GoesHeld (ts ++ u ∷ []) go → (d : Done) → LeadsIn g c d.act.effect → (r : Run) → Sound g (ts ++ u ∷ []) d.world r.turning
         → Inside (acts g sub lv f next go d r)
     acts_held f next go c own at hn hg d leads r k =
         either Inside (fits r d.text) _ (IsSpent spent.Text r)
-        (after_action_held f next go c own at hn hg d.act.effect leads (carried_out d (printed d.text r)) (cancelled g (ts ++ u ∷ []) d.world.locations d.act.cancel_loop r.turning k)) tt
+        (after_action_held f next go c own at hn hg d.act.effect leads (carried_out d (printed d.text r)) (cancelled g (ts ++ u ∷ []) d.world d.act.cancel_loop r.turning k)) tt
 
     reads_one_held : (f : Frame) (next go : Bool → Run → Out) (c : Condact) → f.table ≡ u → condact_at g f.table f.entry f.at ≡ Some c
         → GoesHeld (ts ++ u ∷ []) next → GoesHeld (ts ++ u ∷ []) go → (r : Run) → IsSound r → Inside (reads_one g X sub lv f next go c r)
     reads_one_held f next go c own at hn hg r k =
         either Inside (is_condition c) _ _
         (after_test_held f next go c own at hn hg (with_world (holds g r.world c).world r) (holds g r.world c).answer (condition_asks g r.world c)
-        (record { of = condition_stays g r.world c ∙ k.of; loop = k.loop }))
-        (acts_held f next go c own at hn hg (effect_of g X r.world c) (leads_in g r.world f.table f.entry f.at c _ v k.of at (effect_leads g X r.world c)) (noted f c true r)
-        (record { of = effect_stays g X r.world c ∙ k.of; loop = k.loop }))
+        (record { of = condition_placed g r.world c k.of; loop = k.loop }))
+        (acts_held f next go c own at hn hg (effect_of g X r.world c) (leads_in g r.world f.table f.entry f.at c _ v k.of.1.0 at (effect_leads g X r.world c)) (noted f c true r)
+        (record { of = effect_placed g X r.world c v (condact_kept g v f.table f.entry f.at c at) k.of; loop = k.loop }))
 
     -- ---- entries, tables ----
 
@@ -348,30 +348,30 @@ one_more : (ts : List ℕ) (u lv : ℕ) → length ts ≡ lv → length (ts ++ u
 one_more ts u lv h = omega (arith, length-append ts (u ∷ []), h)
 
 called_held : (g : GameLists) (v : Valid g) (X : List (List ℕ)) (n lv : ℕ) (ts : List ℕ) → length ts ≡ suc lv → n + lv ≡ 10
-    → (u : ℕ) (r : Run) → Sound g ts r.world.locations r.turning → Held g ts ts u (called g X n lv u r)
+    → (u : ℕ) (r : Run) → Sound g ts r.world r.turning → Held g ts ts u (called g X n lv u r)
 unfolding called
 called_held g v X zero lv ts deep levels u r h = tt
 called_held g v X (suc n) lv ts deep levels u r h =
     reads_held g v ts (suc lv) deep (omega arith) u X (called g X n (suc lv))
-    (called_held g v X n (suc lv) (ts ++ u ∷ []) (one_more ts u (suc lv) deep) (omega arith)) 0 0 false r (widened g ts u r.world.locations r.turning h)
+    (called_held g v X n (suc lv) (ts ++ u ∷ []) (one_more ts u (suc lv) deep) (omega arith)) 0 0 false r (widened g ts u r.world r.turning h)
 
 deeper_held : (g : GameLists) (v : Valid g) (X : List (List ℕ)) (ts : List ℕ) (lv u : ℕ) → length ts ≡ lv → lv ≤ 10
-    → (t : ℕ) (r : Run) → Sound g (ts ++ u ∷ []) r.world.locations r.turning → Held g (ts ++ u ∷ []) (ts ++ u ∷ []) t (deeper g X lv t r)
+    → (t : ℕ) (r : Run) → Sound g (ts ++ u ∷ []) r.world r.turning → Held g (ts ++ u ∷ []) (ts ++ u ∷ []) t (deeper g X lv t r)
 deeper_held g v X ts lv u deep low = called_held g v X (10 - lv) lv (ts ++ u ∷ []) (one_more ts u lv deep) (omega arith)
 
 rest_held : (g : GameLists) (v : Valid g) (X : List (List ℕ)) (ts : List ℕ) (lv u e k : ℕ) → length ts ≡ lv → lv ≤ 10
-    → (a : Bool) (r : Run) → Sound g (ts ++ u ∷ []) r.world.locations r.turning → Held g ts ts u (rest g X lv u e k a r)
+    → (a : Bool) (r : Run) → Sound g (ts ++ u ∷ []) r.world r.turning → Held g ts ts u (rest g X lv u e k a r)
 rest_held g v X ts lv u e k deep low a r h = reads_held g v ts lv deep low u X (deeper g X lv) (deeper_held g v X ts lv u deep low) e k a r h
 
 -- a table that is read from its start
-pub table_held : (g : GameLists) (v : Valid g) (X : List (List ℕ)) (t : ℕ) (r : Run) → r.world.locations ≡ length g.locations → r.turning ≡ None
+pub table_held : (g : GameLists) (v : Valid g) (X : List (List ℕ)) (t : ℕ) (r : Run) → IsPlaced g r.world → r.turning ≡ None
     → Held g [] [] t (table_read g X t r)
 table_held g v X t r of none =
     rest_held g v X [] 0 t 0 0 refl (omega arith) false r (record { of = of; loop = subst (λ o. IfSome o (IsLoopIn g (t ∷ []))) (sym none) tt })
 
 -- going on along a path
 pub path_held : (g : GameLists) (v : Valid g) (X : List (List ℕ)) (p : Prompt) (code : ℕ) (ts : List ℕ) (lv : ℕ) (f : Frame) (path : List Frame) (r : Run)
-    → length ts ≡ lv → AsksAt code p → length ts + length (f ∷ path) ≤ 11 → LeadsTo g code (f ∷ path) → Sound g (ts ++ tables_of (f ∷ path)) r.world.locations r.turning
+    → length ts ≡ lv → AsksAt code p → length ts + length (f ∷ path) ≤ 11 → LeadsTo g code (f ∷ path) → Sound g (ts ++ tables_of (f ∷ path)) r.world r.turning
     → Held g ts ts f.table (on_path g X p lv (f ∷ path) r)
 path_held g v X p code ts lv f [] r deep asks few leads k =
     again_held g v ts lv deep (omega arith) f.table (looped g X (deeper g X lv) lv)
@@ -382,4 +382,4 @@ path_held g v X p code ts lv f (h ∷ path) r deep asks few leads k =
     after_call_held g v ts lv deep (omega arith) f.table ts f _ leads.0.condact h.table refl leads.0.stands leads.0.process (sym leads.0.called)
     (rest_held g v X ts lv f.table f.entry (suc f.at) deep (omega arith)) _
     (path_held g v X p code (ts ++ f.table ∷ []) (suc lv) h path r (one_more ts f.table lv deep) asks (omega (arith, few, length-append ts (f.table ∷ []))) leads.1
-    (subst (λ s. Sound g s r.world.locations r.turning) (sym (append_assoc ts (f.table ∷ []) (tables_of (h ∷ path)))) k))
+    (subst (λ s. Sound g s r.world r.turning) (sym (append_assoc ts (f.table ∷ []) (tables_of (h ∷ path)))) k))

@@ -12,6 +12,5 @@ pub mod Ends
 pub mod Followed
 pub mod Past
 pub mod Counts
-pub mod Doall
 pub mod Held
 pub mod Rightly

@@ -1,5 +1,5 @@
 -- Each reading of a valid game stops rightly.
-use Rattle.std.proofs.Common.{◌≡◌, ◌≢◌, ℕ, zero, suc, ◌≤◌, Bool, true, false, List, [], ◌∷◌, Option, Some, None, refl, sym, ◌∙◌, subst, length, arith}
+use Rattle.std.proofs.Common.{◌≡◌, ◌≢◌, ℕ, zero, suc, ◌≤◌, Bool, true, false, List, [], ◌∷◌, Option, Some, None, refl, sym, subst, length, arith}
 use Rattle.std.specs.Prelude.{if◌then◌else◌}
 use Rattle.paw_base.specs.declared.fault.SpentKind.TheVariants as spent
 use Rattle.paw_game.specs.Game.{GameLists}
@@ -11,6 +11,7 @@ use Rattle.paw_effects.specs.declared.act.Prompt.{Prompt}
 use Rattle.paw_effects.specs.declared.act.Prompt.TheVariants as prompt
 use Rattle.paw_effects.specs.Texts.{say_text}
 use Rattle.paw_effects.proofs.Asking.{AsksAt}
+use Rattle.paw_effects.proofs.Placed.{IsPlaced, opened_placed}
 use Rattle.paw_reading.specs.declared.places.Frame.{Frame}
 use Rattle.paw_reading.specs.declared.places.OpenLoop.{OpenLoop}
 use Rattle.paw_reading.specs.Run.{Run, closed, fits, printed, with_world, line_dropped, is_timeout, is_ignored, heard, with_timeout, taken_phrase}
@@ -21,36 +22,34 @@ use Rattle.paw_reading.proofs.Held.{Sound, Held, none_open, table_held, path_hel
 
 -- ---- worlds ----
 
-fallen_stays : (b : Bool) (n : ℕ) (w : World) → (fallen_if b n w).locations ≡ w.locations
-fallen_stays true n w = refl
-fallen_stays false n w = refl
+fallen_placed : (g : GameLists) (b : Bool) (n : ℕ) (w : World) → IsPlaced g w → IsPlaced g (fallen_if b n w)
+fallen_placed g true n w k = k
+fallen_placed g false n w k = k
 
-described_stays : (w : World) → (described w).locations ≡ w.locations
-described_stays w =
-    let dark : World = fallen_if (is_dark w) 3 (fallen 2 w) in
-    fallen_stays (is_unlit w) 4 dark ∙ fallen_stays (is_dark w) 3 (fallen 2 w)
+described_placed : (g : GameLists) (w : World) → IsPlaced g w → IsPlaced g (described w)
+described_placed g w k = fallen_placed g (is_unlit w) 4 (fallen_if (is_dark w) 3 (fallen 2 w)) (fallen_placed g (is_dark w) 3 (fallen 2 w) k)
 
-framed_stays : (w : World) → (framed w).locations ≡ w.locations
-framed_stays w =
+framed_placed : (g : GameLists) (w : World) → IsPlaced g w → IsPlaced g (framed w)
+framed_placed g w k =
     let first : World = fallen 8 (fallen 7 (fallen 6 (fallen 5 w))) in
-    fallen_stays (is_unlit w) 10 (fallen_if (is_dark w) 9 first) ∙ fallen_stays (is_dark w) 9 first
+    fallen_placed g (is_unlit w) 10 (fallen_if (is_dark w) 9 first) (fallen_placed g (is_dark w) 9 first k)
 
 -- ---- waits in tables ----
 
-open_to : (g : GameLists) (code t : ℕ) (path : List Frame) (n : ℕ) (o : Option OpenLoop) → t ≤ 2 → length path ≤ 11 → first_table path ≡ t → LeadsTo g code path
-    → Sound g (tables_of path) n o → AreOpenTo g code path o
-open_to g code t path n o low few first leads k = record { few = few; outermost = subst (λ u. u ≤ 2) (sym first) low; leads = leads; loop = k.loop }
+open_to : (g : GameLists) (code t : ℕ) (path : List Frame) (w : World) (o : Option OpenLoop) → t ≤ 2 → length path ≤ 11 → first_table path ≡ t → LeadsTo g code path
+    → Sound g (tables_of path) w o → AreOpenTo g code path o
+open_to g code t path w o low few first leads k = record { few = few; outermost = subst (λ u. u ≤ 2) (sym first) low; leads = leads; loop = k.loop }
 
 -- a wait in tables
 waits_rightly : (g : GameLists) (t code : ℕ) (p : Prompt) (path : List Frame) (r : Run) → t ≤ 2 → AsksAt code p → length path ≤ 11 → first_table path ≡ t
-    → LeadsTo g code path → Sound g (tables_of path) r.world.locations r.turning → (p ≢ prompt.Over) × ArePlaces g p path r.turning
+    → LeadsTo g code path → Sound g (tables_of path) r.world r.turning → (p ≢ prompt.Over) × ArePlaces g p path r.turning
 waits_rightly g t code prompt.Main path r low asks few first leads k = absurd asks
 waits_rightly g t code prompt.Quit path r low asks few first leads k =
-    (λ e. cc, open_to g 27 t path r.world.locations r.turning low few first (subst (λ c. LeadsTo g c path) asks leads) k)
+    (λ e. cc, open_to g 27 t path r.world r.turning low few first (subst (λ c. LeadsTo g c path) asks leads) k)
 waits_rightly g t code prompt.Again path r low asks few first leads k =
-    (λ e. cc, open_to g 31 t path r.world.locations r.turning low few first (subst (λ c. LeadsTo g c path) asks leads) k)
+    (λ e. cc, open_to g 31 t path r.world r.turning low few first (subst (λ c. LeadsTo g c path) asks leads) k)
 waits_rightly g t code prompt.Key path r low asks few first leads k =
-    (λ e. cc, open_to g 35 t path r.world.locations r.turning low few first (subst (λ c. LeadsTo g c path) asks leads) k)
+    (λ e. cc, open_to g 35 t path r.world r.turning low few first (subst (λ c. LeadsTo g c path) asks leads) k)
 waits_rightly g t code prompt.Over path r low asks few first leads k = absurd asks
 
 some_path : (g : GameLists) (code : ℕ) (path : List Frame) (r : Run) → LeadsTo g code path → IsLineTaken path r
@@ -68,9 +67,9 @@ module _ (g : GameLists) (v : Valid g) (X : List (List ℕ)) where
   abbrev IsRightly : Ending → Type 0
   IsRightly e = StopsRightly g e
 
-  -- the world is the game's, and no loop is open
+  -- the objects of the world stand at places of the game, and no loop is open
   record IsBetween (r : Run) : Type 0 where
-    of : r.world.locations ≡ length g.locations
+    of : IsPlaced g r.world
     none : r.turning ≡ None
 
   abbrev GoRightly : (Run → Ending) → Type 0
@@ -91,19 +90,19 @@ module _ (g : GameLists) (v : Valid g) (X : List (List ℕ)) where
     after_left_rightly zero false r k = connected_rightly (exit_at g (flag r.world 38) (flag r.world 33)) r k
     after_left_rightly (suc zero) a r k = goes AtFrame r k
     after_left_rightly (suc (suc t)) a r k =
-        goes AtPhrase (with_world (framed r.world) r) (record { of = framed_stays r.world ∙ k.of; none = k.none })
+        goes AtPhrase (with_world (framed r.world) r) (record { of = framed_placed g r.world k.of; none = k.none })
 
-    between : (r : Run) → Sound g [] r.world.locations r.turning → IsBetween r
-    between r k = record { of = k.of; none = none_open g r.world.locations r.turning k }
+    between : (r : Run) → Sound g [] r.world r.turning → IsBetween r
+    between r k = record { of = k.of; none = none_open g r.world r.turning k }
 
     table_done_rightly : (t : ℕ) → t ≤ 2 → (x : Out) → Held g [] [] t x → IsRightly (table_done g go t x)
     table_done_rightly t low (Left a r) k = after_left_rightly t a r (between r k)
     table_done_rightly t low (Waits p path r) k =
         let rightly = waits_rightly g t k.code p path r low k.asks (omega (arith, k.few)) k.first k.leads k.sound in
-        (rightly.0, record { places = rightly.1; line = some_path g k.code path r k.leads })
+        (rightly.0, record { places = rightly.1; line = some_path g k.code path r k.leads; objects = k.sound.of.1.1 })
     table_done_rightly t low (Redescribes r) k = goes AtDescribe r (between r k)
     table_done_rightly t low (Restarts r) k = goes AtDescribe r (between r k)
-    table_done_rightly t low (Ends r) k = record { places = (refl, k.0); line = λ e. k.1 }
+    table_done_rightly t low (Ends r) k = record { places = (refl, k.0); line = λ e. k.1.0; objects = k.1.1.1.1 }
     table_done_rightly t low (IsSpent kind r) k = tt
     table_done_rightly t low (IsDeep u r) k = tt
 
@@ -112,7 +111,7 @@ module _ (g : GameLists) (v : Valid g) (X : List (List ℕ)) where
 
     at_main_rightly : (r : Run) (lines : List (List ℕ)) → IsBetween r → r.pending ≡ [] → IsRightly (at_main g (go AtFrame) (go AtPhrase) r lines)
     unfolding at_main
-    at_main_rightly r [] k empty = (λ e. cc, record { places = (refl, k.none); line = λ e. empty })
+    at_main_rightly r [] k empty = (λ e. cc, record { places = (refl, k.none); line = λ e. empty; objects = k.of.1.1 })
     at_main_rightly r (line ∷ lines) k empty =
         let s : Run = record r { events = lines } in
         one_of IsRightly (is_ignored r.world line) _ _
@@ -135,7 +134,7 @@ module _ (g : GameLists) (v : Valid g) (X : List (List ℕ)) where
   turn_rightly zero s r k = tt
   turn_rightly (suc n) AtDescribe r k =
       saying_rightly (view_text g (described r.world)) (λ q. table_done g (turn g X n) 1 (table_read g X 1 q)) (read_rightly (turn g X n) (turn_rightly n) 1 (omega arith))
-      (with_world (described r.world) r) (record { of = described_stays r.world ∙ k.of; none = k.none })
+      (with_world (described r.world) r) (record { of = described_placed g r.world k.of; none = k.none })
   turn_rightly (suc n) AtFrame r k = read_rightly (turn g X n) (turn_rightly n) 2 (omega arith) r k
   turn_rightly (suc n) AtPhrase r k =
       after_phrase_rightly (turn g X n) (turn_rightly n) (parsed g r.pending r.earlier (flag r.world 46) (flag r.world 47)) r k
@@ -143,26 +142,26 @@ module _ (g : GameLists) (v : Valid g) (X : List (List ℕ)) where
 
   -- ---- going on ----
 
-  in_table_rightly : (n : ℕ) (p : Prompt) (code : ℕ) (path : List Frame) (r : Run) → r.world.locations ≡ length g.locations → AsksAt code p → AreOpenTo g code path r.turning
+  in_table_rightly : (n : ℕ) (p : Prompt) (code : ℕ) (path : List Frame) (r : Run) → IsPlaced g r.world → AsksAt code p → AreOpenTo g code path r.turning
       → IsRightly (in_table g X n p path r)
   in_table_rightly n p code [] r of asks at = absurd at.leads
   in_table_rightly n p code (f ∷ path) r of asks at =
       table_done_rightly (turn g X n) (turn_rightly n) f.table at.outermost _
       (path_held g v X p code [] 0 f path r refl asks (omega (arith, at.few)) at.leads (record { of = of; loop = at.loop }))
 
-  goes_on_rightly : (n : ℕ) (p : Prompt) (path : List Frame) (r : Run) → r.world.locations ≡ length g.locations → StandsRightly g p path r → IsRightly (goes_on g X n p path r)
+  goes_on_rightly : (n : ℕ) (p : Prompt) (path : List Frame) (r : Run) → IsPlaced g r.world → StandsRightly g p path r → IsRightly (goes_on g X n p path r)
   goes_on_rightly n prompt.Main path r of at =
       at_main_rightly (turn g X n) (turn_rightly n) r r.events (record { of = of; none = at.places.1 }) (at.line at.places.0)
   goes_on_rightly n prompt.Quit path r of at = in_table_rightly n prompt.Quit 27 path r of refl at.places
   goes_on_rightly n prompt.Again path r of at = in_table_rightly n prompt.Again 31 path r of refl at.places
   goes_on_rightly n prompt.Key path r of at = in_table_rightly n prompt.Key 35 path r of refl at.places
-  goes_on_rightly n prompt.Over path r of at = record { places = (refl, at.places.1); line = λ e. at.line at.places.0 }
+  goes_on_rightly n prompt.Over path r of at = record { places = (refl, at.places.1); line = λ e. at.line at.places.0; objects = at.objects }
 
 -- each reading
 pub readings_stop_rightly : ReadingsStopRightly
 readings_stop_rightly g X seed es v =
-    turn_rightly g v X (stages_left AtDescribe (opening g seed es)) AtDescribe (opening g seed es) (record { of = refl; none = refl })
+    turn_rightly g v X (stages_left AtDescribe (opening g seed es)) AtDescribe (opening g seed es) (record { of = opened_placed g seed v; none = refl })
 
 -- and going on
 pub going_on_stops_rightly : GoingOnStopsRightly
-going_on_stops_rightly g X p path r v of at = goes_on_rightly g v X (stages_left AtResponse r) p path r of at
+going_on_stops_rightly g X p path r v of at = goes_on_rightly g v X (stages_left AtResponse r) p path r (of.facts, (of.locations, at.objects)) at

@@ -6,6 +6,7 @@ use Rattle.paw_game.specs.Tables.{condact_at}
 use Rattle.paw_game.specs.Valid.{Valid, is_place}
 use Rattle.paw_effects.specs.declared.act.Prompt.{Prompt}
 use Rattle.paw_effects.specs.declared.act.Prompt.TheVariants as prompt
+use Rattle.paw_effects.specs.Built.{IsOf, StandAtPlaces}
 use Rattle.paw_reading.specs.declared.places.Frame.{Frame}
 use Rattle.paw_reading.specs.declared.places.OpenLoop.{OpenLoop}
 use Rattle.paw_reading.specs.Run.{Run}
@@ -70,10 +71,11 @@ ArePlaces g p path turning = AreOpenAt g (waiting_code p) path turning
 abbrev pub IsLineTaken : List Frame → Run → Type 0
 IsLineTaken path r = path ≡ [] → r.pending ≡ []
 
--- a run stands at its prompt as it may
+-- a run stands at its prompt as it may, and each object at a place of the game
 pub record StandsRightly (g : GameLists) (p : Prompt) (path : List Frame) (r : Run) : Type 0 where
   pub places : ArePlaces g p path r.turning
   pub line : IsLineTaken path r
+  pub objects : StandAtPlaces g r.world
 
 -- so does a reading that waits, or is over
 abbrev pub StopsRightly : GameLists → Ending → Type 0
@@ -92,4 +94,4 @@ ReadingsStopRightly = (g : GameLists) (X : List (List ℕ)) (seed : ℕ) (es : L
 -- so does going on from where a run stands as it may
 abbrev pub GoingOnStopsRightly : Type 0
 GoingOnStopsRightly = (g : GameLists) (X : List (List ℕ)) (p : Prompt) (path : List Frame) (r : Run) → Valid g →
-    r.world.locations ≡ length g.locations → StandsRightly g p path r → StopsRightly g (on g X p path r)
+    IsOf g r.world → StandsRightly g p path r → StopsRightly g (on g X p path r)

@@ -8,6 +8,7 @@ use Rattle.paw_world.specs.World.{World, flag, with_flag, opened, is_dark, is_un
 use Rattle.paw_phrase.specs.Sentence.{Parsed, IsSentence, IsUnknown, IsNoPhrase, parsed}
 use Rattle.paw_effects.specs.declared.act.Prompt.{Prompt}
 use Rattle.paw_effects.specs.declared.act.Prompt.TheVariants as prompt
+use Rattle.paw_effects.specs.Counts.{turns_taken}
 use Rattle.paw_effects.specs.Texts.{put_text, say_text, location_text}
 use Rattle.paw_reading.specs.declared.places.Frame.{Frame}
 use Rattle.paw_reading.specs.Run.{Run, closed, fits, printed, with_world, line_dropped, is_timeout, is_ignored, heard, with_timeout, taken_phrase}
@@ -56,13 +57,11 @@ framed w = fallen_if (is_unlit w) 10 (fallen_if (is_dark w) 9 (fallen 8 (fallen 
 abbrev pub view_text : GameLists → World → List ℕ
 view_text g w = if is_unlit w then say_text g w 0 else location_text g w (flag w 38)
 
--- one more turn, up to 65,535; flag 31 is the low byte and flag 32 the high one
-abbrev pub turns_taken : World → ℕ
-turns_taken w = flag w 31 + 256 * flag w 32
-
+-- the number of turns; flag 31 is its low byte and flag 32 the high one
 abbrev pub with_turns : ℕ → World → World
 with_turns n w = with_flag (with_flag w 31 (n % 256)) 32 (n / 256)
 
+-- one more turn, up to 65,535
 abbrev pub counted : World → World
 counted w = with_turns (min 65535 (turns_taken w + 1)) w
 

@@ -58,7 +58,7 @@ pub fn pieces_of_lines()
 
 /// A reading of a valid game waits only where it may: the open tables lead from one to the next, each by its PROCESS, to
 /// QUIT, END or ANYKEY, and the open loop is one of theirs. At the main prompt, and where the game is over, nothing is open
-/// and nothing is left of the line.
+/// and nothing is left of the line. Each object stands at a place of the game, now and in the saved position.
 pub fn stops_rightly()
     ensures readings { ReadingsStopRightly }
     ensures going_on { GoingOnStopsRightly }
