@@ -12,3 +12,4 @@ pub mod Renewing
 pub mod Settling
 pub mod Seating
 pub mod Ready
+pub mod Standing

@@ -10,15 +10,19 @@ use Rattle.paw_effects.specs.declared.act.Prompt.{Prompt}
 use Rattle.paw_effects.specs.declared.act.Prompt.TheVariants as prompt
 use Rattle.paw_effects.specs.Built.{AllBuilt, IsOf}
 use Rattle.paw_effects.specs.Opening.{opening_world}
+use Rattle.paw_effects.proofs.Placed.{opened_placed}
 use Rattle.paw_reading.specs.declared.places.Frame.{Frame}
 use Rattle.paw_reading.specs.declared.places.OpenLoop.{OpenLoop}
 use Rattle.paw_reading.specs.Turn.{first_table}
+use Rattle.paw_reading.specs.Places.{ArePlaces}
+use Rattle.paw_phrase.specs.Pending.{PendingLine}
 use Rattle.paw_process.specs.OpenTables.{OpenTables, IsWaiting}
-use Rattle.paw_process.specs.Kept.{restored, waiting_at, rows_fault, table_of, is_table, loop_stands, loop_fault, first_fault, count_fits, fault_at, frames_fault}
+use Rattle.paw_process.specs.Kept.{kept, restored, waiting_at, rows_fault, table_of, is_table, loop_stands, loop_fault, first_fault, count_fits, fault_at, frames_fault}
 use Rattle.paw_process.specs.Kept.{StandsAt as MachineStandsAt}
 use Rattle.paw_process.specs.declared.kept.Frames.{Frames}
 use Rattle.paw_process.proofs.Restored.{first_of, second, no_first}
 use Rattle.paw_process.proofs.Again.{restored_again}
+use Rattle.paw_process.proofs.Fitting.{places_fit, kept_places}
 use Rattle.paw_turn.specs.declared.Step.{Step}
 use Rattle.paw_turn.specs.declared.Step.TheVariants as step
 use Rattle.paw_turn.specs.Player.{Seat, IsLoopOf, WaitsIn, Stands, IsSeated}
@@ -64,7 +68,12 @@ stands_again g prompt.Key k m is stands sound = waits_again g prompt.Key 35 k m 
 stands_again g prompt.Over k m is stands sound = stands
 
 pub restored_fits : RestoredFits
-restored_fits g at k w m of is stands sound = record { world = of; machine = stands_again g at k m is stands sound }
+restored_fits g at k w m of placed size is stands sound = record {
+  world = of;
+  objects = placed;
+  machine = stands_again g at k m is stands sound;
+  places = subst (λ (n : OpenTables). ArePlaces g at (reverse n.frames) n.turning) (sym is) (kept_places g at k size sound);
+}
 
 -- ---- a player that stands ----
 
@@ -93,8 +102,15 @@ machine_stands (step.TooDeep u) m stands standing = absurd standing
 pub parts_fit : (p : Seat) → IsSeated p → IsStanding p.last → Fits p.game p.world p.machine (prompt_at p.last)
 parts_fit p seated standing = record {
   world = seated.world;
+  objects = seated.objects standing;
   machine = subst (λ s. Stands s p.machine) (sym (step_again p.last p.machine seated.machine standing)) seated.machine;
+  places = seated.places;
 }
+
+-- its places are never refused
+pub places_kept : (p : Seat) → IsSeated p → IsStanding p.last → frames_fault p.game (prompt_at p.last) (kept p.machine) ≡ None
+places_kept p seated standing =
+    places_fit p.game (prompt_at p.last) p.machine (machine_stands p.last p.machine seated.machine standing) seated.places
 
 -- and a player that stands with them is the same but for the piece
 pub same_seat : (p : Seat) → IsSeated p → IsStanding p.last → seat_at p.game p.world p.machine p.pending (prompt_at p.last) ≡ record p { piece = [] }
@@ -119,11 +135,18 @@ opening_of g seed = record {
   places = length-map (map (λ o. o.facts) g.objects) (λ (f : ObjectFacts). f.start) ∙ length-map g.objects (λ o. o.facts);
 }
 
-pub renewed : (p q : Seat) (seed : ℕ) → IsSeated p → q.game ≡ p.game → q.world ≡ opening_world q.game seed
-    → q.machine ≡ record { frames = []; turning = None; waiting = None; left = 200000 } → q.last ≡ step.Waits prompt.Main → IsSeated q
-renewed p q seed seated game world machine last = record {
-  valid = subst Valid (sym game) seated.valid;
-  built = subst AllBuilt (sym game) seated.built;
-  world = subst (IsOf q.game) (sym world) (opening_of q.game seed);
+pub begun : (p : Seat) (seed : ℕ) → Valid p.game → AllBuilt p.game → p.world ≡ opening_world p.game seed → p.pending ≡ record { bytes = []; earlier = 255 }
+    → p.machine ≡ record { frames = []; turning = None; waiting = None; left = 200000 } → p.last ≡ step.Waits prompt.Main → IsSeated p
+begun p seed valid built world pending machine last = record {
+  valid = valid;
+  built = built;
+  world = subst (IsOf p.game) (sym world) (opening_of p.game seed);
   machine = rw (last, machine) (record { frames = refl; turning = refl; waiting = refl });
+  places = rw (last, machine) (refl, refl);
+  line = λ standing none. ap (λ (s : PendingLine). s.bytes) pending;
+  objects = λ standing. rw world (opened_placed p.game seed valid).1.1;
 }
+
+pub renewed : (p q : Seat) (seed : ℕ) → IsSeated p → q.game ≡ p.game → q.world ≡ opening_world q.game seed
+    → q.pending ≡ record { bytes = []; earlier = 255 } → q.machine ≡ record { frames = []; turning = None; waiting = None; left = 200000 } → q.last ≡ step.Waits prompt.Main → IsSeated q
+renewed p q seed seated game = begun q seed (subst Valid (sym game) seated.valid) (subst AllBuilt (sym game) seated.built)

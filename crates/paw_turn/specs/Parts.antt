@@ -1,19 +1,21 @@
 -- The parts of a player: what is lent of it, and a player that stands with such parts.
-use Rattle.std.specs.Prelude.{◌≡◌, ℕ, List, [], None, reverse}
+use Rattle.std.specs.Prelude.{◌≡◌, ℕ, List, [], None, length, reverse}
 use Rattle.paw_game.specs.Game.{GameLists}
 use Rattle.paw_world.specs.World.{World}
 use Rattle.paw_phrase.specs.Pending.{PendingLine}
 use Rattle.paw_effects.specs.declared.act.Prompt.{Prompt}
 use Rattle.paw_effects.specs.declared.act.Prompt.TheVariants as prompt
-use Rattle.paw_effects.specs.Built.{IsOf}
+use Rattle.paw_effects.specs.Built.{IsOf, StandAtPlaces}
 use Rattle.paw_reading.specs.Run.{Step as Read}
 use Rattle.paw_reading.specs.Turn.{on}
+use Rattle.paw_reading.specs.Places.{ArePlaces}
 use Rattle.paw_process.specs.OpenTables.{OpenTables}
 use Rattle.paw_process.specs.Kept.{kept, restored, waiting_at, frames_fault}
 use Rattle.paw_process.specs.Kept.{StandsAt as MachineStandsAt}
 use Rattle.paw_process.specs.declared.kept.Frames.{Frames}
 use Rattle.paw_turn.specs.declared.Step.{Step}
 use Rattle.paw_turn.specs.declared.Step.TheVariants as step
+pub use Rattle.paw_turn.specs.Player.{prompt_at, IsStanding}
 use Rattle.paw_turn.specs.Player.{Seat, IsSeated, Stands, run_at}
 
 -- a player waits at its prompt, and where the game is over it has ended
@@ -24,25 +26,13 @@ step_at prompt.Again = step.Waits prompt.Again
 step_at prompt.Key = step.Waits prompt.Key
 step_at prompt.Over = step.Ended
 
--- the prompt at which a player stands; one that is spent or too deep takes no more lines, as where the game is over
-abbrev pub prompt_at : Step → Prompt
-prompt_at (step.Waits p) = p
-prompt_at step.Ended = prompt.Over
-prompt_at (step.Spent kind) = prompt.Over
-prompt_at (step.TooDeep u) = prompt.Over
-
--- a player that is neither spent nor too deep stands at its prompt
-abbrev pub IsStanding : Step → Type 0
-IsStanding (step.Waits p) = Unit {0}
-IsStanding step.Ended = Unit {0}
-IsStanding (step.Spent kind) = ⊥
-IsStanding (step.TooDeep u) = ⊥
-
--- World and machine fit a game at a prompt: the world is the game's; at the main prompt and where the game is over no table
--- is open, and at any other the machine waits there
+-- World and machine fit a game at a prompt: the world is the game's, and its objects stand at places of the game; at the
+-- main prompt and where the game is over no table is open, and at any other the machine waits there, at places of the game
 pub record Fits (g : GameLists) (w : World) (m : OpenTables) (at : Prompt) : Type 0 where
   pub world : IsOf g w
+  pub objects : StandAtPlaces g w
   pub machine : Stands (step_at at) m
+  pub places : ArePlaces g at (reverse m.frames) m.turning
 
 -- the player of a game that stands at a prompt with these parts, and shows no piece
 abbrev pub seat_at : GameLists → World → OpenTables → PendingLine → Prompt → Seat
@@ -50,11 +40,11 @@ seat_at g w m p at = record { game = g; world = w; pending = p; machine = m; pie
 
 -- ---- laws ----
 
--- a world of the game and a machine that was restored for it fit the game
+-- a world of the game, with its objects at places, and a machine that was restored for it fit the game
 abbrev pub RestoredFits : Type 0
 RestoredFits =
-    (g : GameLists) (at : Prompt) (k : Frames) (w : World) (m : OpenTables) → IsOf g w →
-    m ≡ restored k (waiting_at at) → MachineStandsAt at m → frames_fault g at k ≡ None → Fits g w m at
+    (g : GameLists) (at : Prompt) (k : Frames) (w : World) (m : OpenTables) → IsOf g w → StandAtPlaces g w →
+    length k.rows ≡ 11 → m ≡ restored k (waiting_at at) → MachineStandsAt at m → frames_fault g at k ≡ None → Fits g w m at
 
 -- the player that stands with what is kept of a player's machine, and with its other parts
 abbrev pub seated_again : Seat → Seat

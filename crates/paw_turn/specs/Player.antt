@@ -6,11 +6,12 @@ use Rattle.paw_world.specs.World.{World}
 use Rattle.paw_phrase.specs.Pending.{PendingLine}
 use Rattle.paw_effects.specs.declared.act.Prompt.{Prompt}
 use Rattle.paw_effects.specs.declared.act.Prompt.TheVariants as prompt
-use Rattle.paw_effects.specs.Built.{AllBuilt, IsOf}
+use Rattle.paw_effects.specs.Built.{AllBuilt, IsOf, StandAtPlaces}
 use Rattle.paw_effects.specs.Opening.{opening_world}
 use Rattle.paw_reading.specs.declared.places.OpenLoop.{OpenLoop}
 use Rattle.paw_reading.specs.Run.{Run, Step as Read}
 use Rattle.paw_reading.specs.Turn.{Ending, IsOver, RunsOut, CallsTooDeep, first_table, on}
+use Rattle.paw_reading.specs.Places.{ArePlaces}
 use Rattle.paw_process.specs.OpenTables.{OpenTables, IsWaiting, IsClosed}
 use Rattle.paw_turn.specs.declared.Step.{Step}
 use Rattle.paw_turn.specs.declared.Step.TheVariants as step
@@ -85,12 +86,34 @@ IsFinished step.Ended = Unit {0}
 IsFinished (step.Spent kind) = Unit {0}
 IsFinished (step.TooDeep u) = Unit {0}
 
--- a player of a valid game whose condacts are built may take lines
+-- the prompt at which a player stands; one that is spent or too deep takes no more lines, as where the game is over
+abbrev pub prompt_at : Step → Prompt
+prompt_at (step.Waits p) = p
+prompt_at step.Ended = prompt.Over
+prompt_at (step.Spent kind) = prompt.Over
+prompt_at (step.TooDeep u) = prompt.Over
+
+-- a player that is neither spent nor too deep stands at its prompt
+abbrev pub IsStanding : Step → Type 0
+IsStanding (step.Waits p) = Unit {0}
+IsStanding step.Ended = Unit {0}
+IsStanding (step.Spent kind) = ⊥
+IsStanding (step.TooDeep u) = ⊥
+
+-- with no table open nothing is left of the line
+abbrev pub IsLineTaken : OpenTables → PendingLine → Type 0
+IsLineTaken m pending = m.frames ≡ [] → pending.bytes ≡ []
+
+-- a player of a valid game whose condacts are built may take lines; the tables that are open, the loop and the objects stand
+-- at places of the game
 pub record IsSeated (p : Seat) : Type 0 where
   pub valid : Valid p.game
   pub built : AllBuilt p.game
   pub world : IsOf p.game p.world
   pub machine : Stands p.last p.machine
+  pub places : ArePlaces p.game (prompt_at p.last) (reverse p.machine.frames) p.machine.turning
+  pub line : IsStanding p.last → IsLineTaken p.machine p.pending
+  pub objects : IsStanding p.last → StandAtPlaces p.game p.world
 
 -- a player that is new: the game is at its start, and no piece was made
 pub record IsNew (p : Seat) (seed : ℕ) : Type 0 where

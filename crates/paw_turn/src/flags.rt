@@ -6,6 +6,7 @@ ghost use Rattle.paw_reading.specs.Run.{with_timeout};
 ghost use Rattle.paw_reading.specs.Turn.{described, framed, counted};
 ghost use Rattle.paw_turn.specs.Stages.{ChangesFlags};
 
+use paw_effects::counts::{TURNS_HIGH, TURNS_LOW, turns_taken};
 use paw_effects::presence::is_lit;
 use paw_world::world::World;
 
@@ -29,12 +30,6 @@ const DARK_FRAMES: u8 = 9;
 
 /// Falls in each frame in the dark without light.
 const UNLIT_FRAMES: u8 = 10;
-
-/// The number of turns, its low byte.
-const TURNS_LOW: u8 = 31;
-
-/// The number of turns, its high byte.
-const TURNS_HIGH: u8 = 32;
 
 /// The current location.
 pub(crate) const LOCATION: u8 = 38;
@@ -107,8 +102,7 @@ pub(crate) fn count_turn(world: &mut World)
     ensures value { world.new ≡ counted world.old }
     ensures only { ChangesFlags world.old world.new }
 {
-    let turns = u16::from(world.flag(TURNS_LOW)) + 256 * u16::from(world.flag(TURNS_HIGH));
-    let next = turns.saturating_add(1);
+    let next = turns_taken(world).saturating_add(1);
     world.set_flag(TURNS_LOW, (next % 256) as u8);
     world.set_flag(TURNS_HIGH, (next / 256) as u8);
 }

@@ -2,7 +2,8 @@
 
 ghost use Rattle.paw_turn.specs.Parts.{RestoredFits, SeatedAgain, GoesOnAlike};
 
-/// A world of the game and a machine that was restored for it are what a player is seated with.
+/// A world of the game, with its objects at places, and a machine that was restored for it are what a player is seated
+/// with.
 pub fn restored_fits()
     ensures fits { RestoredFits }
 {}

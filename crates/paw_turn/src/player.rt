@@ -1,14 +1,16 @@
 // A player of a game.
 
-ghost use Rattle.std.specs.Prelude.{◌≡◌, ℕ, ◌+◌, ◌<◌, ◌≤◌, ◌^◌, List, [], ◌∷◌, length, reverse, IfOk};
+ghost use Rattle.std.specs.Prelude.{◌≡◌, ℕ, ◌+◌, ◌<◌, ◌≤◌, ◌^◌, List, [], ◌∷◌, None, length, reverse, IfOk};
+ghost use Rattle.paw_base.specs.Piece.{piece_limit};
 ghost use Rattle.paw_effects.specs.Built.{AllBuilt};
 ghost use Rattle.paw_effects.specs.declared.act.Prompt.{Prompt as AtPrompt};
 ghost use Rattle.paw_effects.specs.declared.act.Prompt.TheVariants as prompt;
 ghost use Rattle.paw_reading.specs.Run.{Step as Read};
 ghost use Rattle.paw_reading.specs.Turn.{reading, on};
+ghost use Rattle.paw_process.specs.Kept.{kept, frames_fault};
 ghost use Rattle.paw_turn.specs.declared.Step.TheVariants as step;
 ghost use Rattle.paw_turn.specs.Parts.{Fits, IsStanding, seat_at, step_at, prompt_at};
-ghost use Rattle.paw_turn.specs.Player.{IsNew, IsSeated, IsFinished, PlaysTo, run_at};
+ghost use Rattle.paw_turn.specs.Player.{IsNew, IsSeated, IsFinished, IsLineTaken, PlaysTo, run_at};
 
 use crate::Step;
 use crate::parts::{Parts, prompt_at, step_at};
@@ -72,7 +74,8 @@ impl<'a, T: Tables> Player<'a, T> {
     }
 
     /// A player of a game whose condacts are built that stands at a prompt with these parts, as they were lent or
-    /// restored. The next line goes on from there; where the game is over the player is finished.
+    /// restored: objects and open tables stand at places of the game, and with no table open nothing is left of the line.
+    /// The next line goes on from there; where the game is over the player is finished.
     ///
     /// # Errors
     /// NoRoom where there is no memory for a piece. The parts are gone then.
@@ -86,6 +89,7 @@ impl<'a, T: Tables> Player<'a, T> {
     ) -> Result<Player<'a, T>, NoRoom>
         requires built { AllBuilt (T.game tables.now) }
         requires fits { Fits (T.game tables.now) world machine prompt }
+        requires line { IsLineTaken machine pending }
         ensures value { IfOk result (λ p. p ≡ seat_at (T.game tables.now) world machine pending prompt) }
         ensures seated { IfOk result IsSeated }
     {
@@ -119,6 +123,7 @@ impl<'a, T: Tables> Player<'a, T> {
     pub fn seat(&mut self, world: World, machine: Machine, pending: Pending, prompt: Prompt)
         requires seated { IsSeated self.old }
         requires fits { Fits self.old.game world machine prompt }
+        requires line { IsLineTaken machine pending }
         ensures value { self.new ≡ seat_at self.old.game world machine pending prompt }
         ensures seated { IsSeated self.new }
     {
@@ -168,15 +173,18 @@ impl<'a, T: Tables> Player<'a, T> {
         step
     }
 
-    /// The last piece: what is to be shown before the next line is asked for. It is empty after Spent and TooDeep.
+    /// The last piece: what is to be shown before the next line is asked for. It is empty after Spent and TooDeep, and has
+    /// at most 65,535 bytes.
     pub fn piece(&self) -> &[u8]
         ensures value { result.now ≡ self.now.piece }
+        ensures short { length result.now ≤ piece_limit }
     {
         self.turn.piece()
     }
+
     /// Lends the world, the machine, what is pending, and the prompt at which the player stands: Over once the game is
     /// over, or the player spent or too deep. Where it waits or the game is over, a player that is seated with them is
-    /// this one with an empty piece.
+    /// this one with an empty piece, and the machine's places are never refused when they are restored.
     pub fn parts(&self) -> Parts<'_>
         ensures world { result.world.now ≡ self.now.world }
         ensures machine { result.machine.now ≡ self.now.machine }
@@ -185,6 +193,9 @@ impl<'a, T: Tables> Player<'a, T> {
         ensures fits { IsSeated self.now → IsStanding self.now.last → Fits self.now.game self.now.world self.now.machine (prompt_at self.now.last) }
         ensures same { IsSeated self.now → IsStanding self.now.last →
             seat_at self.now.game self.now.world self.now.machine self.now.pending (prompt_at self.now.last) ≡ record self.now { piece = [] } }
+        ensures line { IsSeated self.now → IsStanding self.now.last → IsLineTaken self.now.machine self.now.pending }
+        ensures kept { IsSeated self.now → IsStanding self.now.last →
+            frames_fault self.now.game (prompt_at self.now.last) (kept self.now.machine) ≡ None }
     {
         Parts {
             world: &self.turn.world,

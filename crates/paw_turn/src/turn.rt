@@ -1,7 +1,7 @@
 // A turn in work, and its stages.
 
 ghost use Rattle.std.specs.Prelude.{◌≡◌, ℕ, suc, ◌+◌, ◌*◌, ◌<◌, ◌≤◌, ◌^◌, ◌++◌, List, [], length, map, None};
-ghost use Rattle.paw_base.specs.Piece.{Puts};
+ghost use Rattle.paw_base.specs.Piece.{Puts, piece_limit};
 ghost use Rattle.paw_game.specs.Valid.{Valid};
 ghost use Rattle.paw_effects.specs.Built.{AllBuilt, IsOf};
 ghost use Rattle.paw_effects.specs.Opening.{opening_world};
@@ -134,6 +134,7 @@ impl Turn {
     /// The text of the piece.
     pub(crate) fn piece(&self) -> &[u8]
         ensures value { result.now ≡ self.now.piece }
+        ensures short { length result.now ≤ piece_limit }
     {
         self.piece.bytes()
     }

@@ -3,7 +3,7 @@
 ghost use Rattle.std.specs.Prelude.{◌≡◌, true, IfOk};
 ghost use Rattle.std.specs.List.{list_all};
 ghost use Rattle.paw_effects.specs.Built.{is_built, AllBuilt};
-ghost use Rattle.paw_turn.specs.Player.{IsSeated};
+ghost use Rattle.paw_turn.specs.Player.{IsSeated, IsStanding};
 
 use super::Player;
 use crate::Step;
@@ -196,7 +196,17 @@ const FINISHING: [(&str, Step); 3] = [
     ("FALL", Step::Spent(SpentKind::Text)),
 ];
 
-// A player that goes on where another stood.
+// Whether a player that came to this is neither spent nor too deep.
+fn is_standing(step: Step) -> bool
+    ensures standing { result ≡ true → IsStanding step }
+{
+    match step {
+        Step::Waits(_) | Step::Ended => true,
+        Step::Spent(_) | Step::TooDeep { .. } => false,
+    }
+}
+
+// A player that goes on where another stood; one that is spent or too deep stays.
 fn taken_up<'a>(
     alloc: Global,
     game: &'a Game,
@@ -209,7 +219,7 @@ fn taken_up<'a>(
     ensures game { IfOk result (λ p. p.game ≡ game.now) }
     ensures seated { IfOk result IsSeated }
 {
-    if between == Between::Nothing {
+    if between == Between::Nothing || !is_standing(player.last) {
         return Ok(player);
     }
     let prompt = player.parts().prompt;
