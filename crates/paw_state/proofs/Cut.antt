@@ -1,0 +1,238 @@
+-- The fields that stand in the bytes of fields are these fields.
+use Rattle.std.proofs.Common.{◌≡◌, ℕ, suc, ◌+◌, ◌*◌, ◌<◌, ◌^◌, List, [], ◌∷◌, ◌++◌, length, drop, refl, sym, ap, ◌∙◌, arith}
+use Rattle.std.specs.Prelude.{All, flat_map, slice_index, slice_range}
+use Rattle.std.specs.Int.{w16, w64, from_le_bytes}
+use Rattle.std.proofs.lemmas.Nat.{from_le_bytes-to_le_bytes_2, from_le_bytes-to_le_bytes_8}
+use Rattle.std.proofs.lemmas.List.{append_assoc, length-append}
+use Rattle.paw_game.specs.Image.{two_bytes}
+use Rattle.paw_reading.specs.declared.places.OpenLoop.{OpenLoop}
+use Rattle.paw_state.specs.declared.fields.Row.{Row}
+use Rattle.paw_state.specs.declared.fields.Fields.{Fields}
+use Rattle.paw_state.specs.Fields.{joined, eight_bytes, row_bytes, loop_bytes, two_at, eight_at, row_at, rows_at, fields_at, world_bytes, number_bytes, table_bytes, pending_bytes, field_bytes}
+use Rattle.paw_state.proofs.Pieces.{range_is, behind, byte_is}
+use Rattle.paw_state.proofs.Written.{length-rows}
+
+-- the arrays have their lengths, and the numbers fit
+pub record AreSized (f : Fields) : Type 0 where
+  pub flags : length f.flags ≡ 256
+  pub places : length f.places ≡ 255
+  pub saved_flags : length f.saved_flags ≡ 256
+  pub saved_places : length f.saved_places ≡ 255
+  pub seed : f.seed < 2 ^ 64
+  pub draws : f.draws < 2 ^ 64
+  pub events : f.events < 2 ^ 64
+  pub rows : length f.rows ≡ 11
+  pub entries : All (λ r. r.entry < 2 ^ 16) f.rows
+  pub loop_entry : f.turning.entry < 2 ^ 16
+  pub pending : f.pending < 256
+  pub line : length f.line ≡ 255
+  pub piece : f.piece < 2 ^ 16
+
+-- a field stands where it is, and the others behind it
+here : (bytes x q : List ℕ) (xs : List (List ℕ)) (at n : ℕ) → drop at bytes ≡ joined (x ∷ xs) ++ q → length x ≡ n → slice_range bytes at (at + n) ≡ x
+here bytes x q xs at n h k = range_is bytes x (joined xs ++ q) at n (h ∙ append_assoc x (joined xs) q) k
+
+later : (bytes x q : List ℕ) (xs : List (List ℕ)) (at n : ℕ) → drop at bytes ≡ joined (x ∷ xs) ++ q → length x ≡ n → drop (at + n) bytes ≡ joined xs ++ q
+later bytes x q xs at n h k = behind bytes x (joined xs ++ q) at n (h ∙ append_assoc x (joined xs) q) k
+
+-- numbers
+two_cut : (bytes : List ℕ) (at n : ℕ) → slice_range bytes at (at + 2) ≡ two_bytes n → n < 2 ^ 16 → two_at bytes at ≡ n
+two_cut bytes at n h low = ap (from_le_bytes w16) h ∙ from_le_bytes-to_le_bytes_2 n low
+
+eight_cut : (bytes : List ℕ) (at n : ℕ) → slice_range bytes at (at + 8) ≡ eight_bytes n → n < 2 ^ 64 → eight_at bytes at ≡ n
+eight_cut bytes at n h low = ap (from_le_bytes w64) h ∙ from_le_bytes-to_le_bytes_8 n low
+
+-- ---- flags and places ----
+
+record HasWorld (bytes : List ℕ) (f : Fields) (q : List ℕ) : Type 0 where
+  flags : slice_range bytes 0 256 ≡ f.flags
+  places : slice_range bytes 256 511 ≡ f.places
+  saved : slice_index bytes 511 ≡ f.saved
+  saved_flags : slice_range bytes 512 768 ≡ f.saved_flags
+  saved_places : slice_range bytes 768 1023 ≡ f.saved_places
+  after : drop 1023 bytes ≡ q
+
+world_cut : (bytes : List ℕ) (f : Fields) (q : List ℕ) → AreSized f → drop 0 bytes ≡ world_bytes f ++ q → HasWorld bytes f q
+unfolding world_bytes
+world_cut bytes f q s h0 =
+    let xs1 = f.places ∷ (f.saved ∷ []) ∷ f.saved_flags ∷ f.saved_places ∷ [] in
+    let h1 : drop 256 bytes ≡ joined xs1 ++ q = later bytes f.flags q xs1 0 256 h0 s.flags in
+    let xs2 = (f.saved ∷ []) ∷ f.saved_flags ∷ f.saved_places ∷ [] in
+    let h2 : drop 511 bytes ≡ joined xs2 ++ q = later bytes f.places q xs2 256 255 h1 s.places in
+    let xs3 = f.saved_flags ∷ f.saved_places ∷ [] in
+    let h3 : drop 512 bytes ≡ joined xs3 ++ q = later bytes (f.saved ∷ []) q xs3 511 1 h2 refl in
+    let h4 : drop 768 bytes ≡ joined (f.saved_places ∷ []) ++ q = later bytes f.saved_flags q (f.saved_places ∷ []) 512 256 h3 s.saved_flags in
+    record {
+      flags = here bytes f.flags q xs1 0 256 h0 s.flags;
+      places = here bytes f.places q xs2 256 255 h1 s.places;
+      saved = byte_is bytes (joined xs3 ++ q) 511 f.saved h2;
+      saved_flags = here bytes f.saved_flags q (f.saved_places ∷ []) 512 256 h3 s.saved_flags;
+      saved_places = here bytes f.saved_places q [] 768 255 h4 s.saved_places;
+      after = later bytes f.saved_places q [] 768 255 h4 s.saved_places;
+    }
+
+-- ---- numbers ----
+
+record HasNumbers (bytes : List ℕ) (f : Fields) (q : List ℕ) : Type 0 where
+  seed : eight_at bytes 1023 ≡ f.seed
+  draws : eight_at bytes 1031 ≡ f.draws
+  events : eight_at bytes 1039 ≡ f.events
+  after : drop 1047 bytes ≡ q
+
+-- three numbers, whatever their bytes are
+numbers_cut : (bytes : List ℕ) (x y z q : List ℕ) → length x ≡ 8 → length y ≡ 8 → length z ≡ 8 → drop 1023 bytes ≡ joined (x ∷ y ∷ z ∷ []) ++ q
+    → (slice_range bytes 1023 1031 ≡ x) × (slice_range bytes 1031 1039 ≡ y) × (slice_range bytes 1039 1047 ≡ z) × (drop 1047 bytes ≡ q)
+numbers_cut bytes x y z q kx ky kz h0 =
+    let h1 : drop 1031 bytes ≡ joined (y ∷ z ∷ []) ++ q = later bytes x q (y ∷ z ∷ []) 1023 8 h0 kx in
+    let h2 : drop 1039 bytes ≡ joined (z ∷ []) ++ q = later bytes y q (z ∷ []) 1031 8 h1 ky in (
+      here bytes x q (y ∷ z ∷ []) 1023 8 h0 kx,
+      here bytes y q (z ∷ []) 1031 8 h1 ky,
+      here bytes z q [] 1039 8 h2 kz,
+      later bytes z q [] 1039 8 h2 kz,
+    )
+
+number_cut : (bytes : List ℕ) (f : Fields) (q : List ℕ) → AreSized f → drop 1023 bytes ≡ number_bytes f ++ q → HasNumbers bytes f q
+unfolding number_bytes
+number_cut bytes f q s h =
+    let n = numbers_cut bytes (eight_bytes f.seed) (eight_bytes f.draws) (eight_bytes f.events) q refl refl refl h in
+    record {
+      seed = eight_cut bytes 1023 f.seed n.0 s.seed;
+      draws = eight_cut bytes 1031 f.draws n.1 s.draws;
+      events = eight_cut bytes 1039 f.events n.2 s.events;
+      after = n.3;
+    }
+
+-- ---- tables ----
+
+row_cut : (r : Row) (q : List ℕ) → r.entry < 2 ^ 16 → row_at (row_bytes r ++ q) ≡ r
+row_cut r q low = let e = two_cut (row_bytes r ++ q) 1 r.entry refl low in rw e refl
+
+pub rows_cut : (rows : List Row) (q : List ℕ) → All (λ r. r.entry < 2 ^ 16) rows → rows_at (length rows) (flat_map row_bytes rows ++ q) ≡ rows
+unfolding rows_at
+rows_cut [] q low = refl
+rows_cut (r ∷ rs) q low =
+    ap (λ (l : List ℕ). rows_at (suc (length rs)) l) (append_assoc (row_bytes r) (flat_map row_bytes rs) q)
+    ∙ (ap (λ (x : Row). x ∷ rows_at (length rs) (flat_map row_bytes rs ++ q)) (row_cut r (flat_map row_bytes rs ++ q) (low 0 r (omega arith)))
+    ∙ ap (λ (xs : List Row). r ∷ xs) (rows_cut rs q (λ k d h. low (suc k) d (omega (arith, h)))))
+
+same_loop : (k l : OpenLoop) → k.level ≡ l.level → k.table ≡ l.table → k.entry ≡ l.entry → k.at ≡ l.at → k.place ≡ l.place → k.last ≡ l.last → k ≡ l
+same_loop k l level table entry at place last =
+    let a : ◌≡◌ {A = OpenLoop} (record { level = k.level; table = k.table; entry = k.entry; at = k.at; place = k.place; last = k.last })
+    (record { level = l.level; table = l.table; entry = l.entry; at = l.at; place = l.place; last = l.last }) = cc in a
+
+loop_cut : (bytes : List ℕ) (l : OpenLoop) (q : List ℕ) → l.entry < 2 ^ 16 → drop 1105 bytes ≡ loop_bytes l ++ q → (fields_at bytes).turning ≡ l
+loop_cut bytes l q low h0 =
+    let two = two_bytes l.entry in
+    let t5 = l.last ∷ q in
+    let t4 = l.place ∷ t5 in
+    let t3 = l.at ∷ t4 in
+    let h1 : drop 1106 bytes ≡ l.table ∷ (two ++ t3) = behind bytes (l.level ∷ []) (l.table ∷ (two ++ t3)) 1105 1 h0 refl in
+    let h2 : drop 1107 bytes ≡ two ++ t3 = behind bytes (l.table ∷ []) (two ++ t3) 1106 1 h1 refl in
+    let h3 : drop 1109 bytes ≡ t3 = behind bytes two t3 1107 2 h2 refl in
+    let h4 : drop 1110 bytes ≡ t4 = behind bytes (l.at ∷ []) t4 1109 1 h3 refl in
+    let h5 : drop 1111 bytes ≡ t5 = behind bytes (l.place ∷ []) t5 1110 1 h4 refl in
+    let level : slice_index bytes 1105 ≡ l.level = byte_is bytes (l.table ∷ (two ++ t3)) 1105 l.level h0 in
+    let table : slice_index bytes 1106 ≡ l.table = byte_is bytes (two ++ t3) 1106 l.table h1 in
+    let entry : two_at bytes 1107 ≡ l.entry = two_cut bytes 1107 l.entry (range_is bytes two t3 1107 2 h2 refl) low in
+    let at : slice_index bytes 1109 ≡ l.at = byte_is bytes t4 1109 l.at h3 in
+    let place : slice_index bytes 1110 ≡ l.place = byte_is bytes t5 1110 l.place h4 in
+    let last : slice_index bytes 1111 ≡ l.last = byte_is bytes q 1111 l.last h5 in
+    same_loop _ l level table entry at place last
+
+record HasTables (bytes : List ℕ) (f : Fields) (q : List ℕ) : Type 0 where
+  prompt : slice_index bytes 1047 ≡ f.prompt
+  count : slice_index bytes 1048 ≡ f.count
+  rows : rows_at 11 (drop 1049 bytes) ≡ f.rows
+  looping : slice_index bytes 1104 ≡ f.looping
+  turning : (fields_at bytes).turning ≡ f.turning
+  after : drop 1112 bytes ≡ q
+
+tables_cut : (bytes : List ℕ) (f : Fields) (q : List ℕ) → AreSized f → drop 1047 bytes ≡ table_bytes f ++ q → HasTables bytes f q
+unfolding table_bytes
+tables_cut bytes f q s h0 =
+    let rows = flat_map row_bytes f.rows in
+    let xs1 = (f.count ∷ []) ∷ rows ∷ (f.looping ∷ []) ∷ loop_bytes f.turning ∷ [] in
+    let h1 : drop 1048 bytes ≡ joined xs1 ++ q = later bytes (f.prompt ∷ []) q xs1 1047 1 h0 refl in
+    let xs2 = rows ∷ (f.looping ∷ []) ∷ loop_bytes f.turning ∷ [] in
+    let h2 : drop 1049 bytes ≡ joined xs2 ++ q = later bytes (f.count ∷ []) q xs2 1048 1 h1 refl in
+    let n : length rows ≡ 55 = length-rows f.rows ∙ ap (λ k. 5 * k) s.rows in
+    let xs3 = (f.looping ∷ []) ∷ loop_bytes f.turning ∷ [] in
+    let h3 : drop 1104 bytes ≡ joined xs3 ++ q = later bytes rows q xs3 1049 55 h2 n in
+    let h4 : drop 1105 bytes ≡ joined (loop_bytes f.turning ∷ []) ++ q = later bytes (f.looping ∷ []) q (loop_bytes f.turning ∷ []) 1104 1 h3 refl in
+    record {
+      prompt = byte_is bytes (joined xs1 ++ q) 1047 f.prompt h0;
+      count = byte_is bytes (joined xs2 ++ q) 1048 f.count h1;
+      rows = ap (rows_at 11) (h2 ∙ append_assoc rows (joined xs3) q)
+          ∙ (ap (λ k. rows_at k (rows ++ (joined xs3 ++ q))) (sym s.rows) ∙ rows_cut f.rows (joined xs3 ++ q) s.entries);
+      looping = byte_is bytes (joined (loop_bytes f.turning ∷ []) ++ q) 1104 f.looping h3;
+      turning = loop_cut bytes f.turning q s.loop_entry (h4 ∙ append_assoc (loop_bytes f.turning) [] q);
+      after = later bytes (loop_bytes f.turning) q [] 1105 7 h4 refl;
+    }
+
+-- ---- what is pending ----
+
+record HasPending (bytes : List ℕ) (f : Fields) : Type 0 where
+  earlier : slice_index bytes 1112 ≡ f.earlier
+  pending : slice_index bytes 1113 ≡ f.pending
+  line : slice_range bytes 1114 1369 ≡ f.line
+  piece : two_at bytes 1369 ≡ f.piece
+
+pending_cut : (bytes : List ℕ) (f : Fields) (q : List ℕ) → AreSized f → drop 1112 bytes ≡ pending_bytes f ++ q → HasPending bytes f
+unfolding pending_bytes
+pending_cut bytes f q s h0 =
+    let two = two_bytes f.piece in
+    let xs1 = (f.pending ∷ []) ∷ f.line ∷ two ∷ [] in
+    let h1 : drop 1113 bytes ≡ joined xs1 ++ q = later bytes (f.earlier ∷ []) q xs1 1112 1 h0 refl in
+    let xs2 = f.line ∷ two ∷ [] in
+    let h2 : drop 1114 bytes ≡ joined xs2 ++ q = later bytes (f.pending ∷ []) q xs2 1113 1 h1 refl in
+    let h3 : drop 1369 bytes ≡ joined (two ∷ []) ++ q = later bytes f.line q (two ∷ []) 1114 255 h2 s.line in
+    record {
+      earlier = byte_is bytes (joined xs1 ++ q) 1112 f.earlier h0;
+      pending = byte_is bytes (joined xs2 ++ q) 1113 f.pending h1;
+      line = here bytes f.line q (two ∷ []) 1114 255 h2 s.line;
+      piece = two_cut bytes 1369 f.piece (here bytes two q [] 1369 2 h3 refl) s.piece;
+    }
+
+-- ---- all fields ----
+
+pub same_fields : (a b : Fields) → a.flags ≡ b.flags → a.places ≡ b.places → a.saved ≡ b.saved → a.saved_flags ≡ b.saved_flags → a.saved_places ≡ b.saved_places
+    → a.seed ≡ b.seed → a.draws ≡ b.draws → a.events ≡ b.events → a.prompt ≡ b.prompt → a.count ≡ b.count → a.rows ≡ b.rows → a.looping ≡ b.looping
+    → a.turning ≡ b.turning → a.earlier ≡ b.earlier → a.pending ≡ b.pending → a.line ≡ b.line → a.piece ≡ b.piece → a ≡ b
+same_fields a b flags places saved saved_flags saved_places seed draws events prompt count rows looping turning earlier pending line piece =
+    let e : ◌≡◌ {A = Fields}
+    (record { flags = a.flags; places = a.places; saved = a.saved; saved_flags = a.saved_flags; saved_places = a.saved_places; seed = a.seed; draws = a.draws; events = a.events; prompt = a.prompt; count = a.count; rows = a.rows; looping = a.looping; turning = a.turning; earlier = a.earlier; pending = a.pending; line = a.line; piece = a.piece })
+    (record { flags = b.flags; places = b.places; saved = b.saved; saved_flags = b.saved_flags; saved_places = b.saved_places; seed = b.seed; draws = b.draws; events = b.events; prompt = b.prompt; count = b.count; rows = b.rows; looping = b.looping; turning = b.turning; earlier = b.earlier; pending = b.pending; line = b.line; piece = b.piece }) = cc in e
+
+pub fields_cut : (f : Fields) (q : List ℕ) → AreSized f → fields_at (field_bytes f ++ q) ≡ f
+fields_cut f q s =
+    let bytes = field_bytes f ++ q in
+    let xs1 = number_bytes f ∷ table_bytes f ∷ pending_bytes f ∷ [] in
+    let xs2 = table_bytes f ∷ pending_bytes f ∷ [] in
+    let xs3 = pending_bytes f ∷ [] in
+    let w = world_cut bytes f (joined xs1 ++ q) s (append_assoc (world_bytes f) (joined xs1) q) in
+    let n = number_cut bytes f (joined xs2 ++ q) s (w.after ∙ append_assoc (number_bytes f) (joined xs2) q) in
+    let t = tables_cut bytes f (joined xs3 ++ q) s (n.after ∙ append_assoc (table_bytes f) (joined xs3) q) in
+    let p = pending_cut bytes f q s (t.after ∙ (append_assoc (pending_bytes f) [] q)) in
+    same_fields (fields_at bytes) f w.flags w.places w.saved w.saved_flags w.saved_places n.seed n.draws n.events t.prompt t.count t.rows t.looping t.turning
+    p.earlier p.pending p.line p.piece
+
+-- ---- how many bytes they are ----
+
+world-length : (f : Fields) → AreSized f → length (world_bytes f) ≡ 1023
+unfolding world_bytes
+world-length f s = simp length-append (omega (arith, s.flags, s.places, s.saved_flags, s.saved_places))
+
+number-length : (f : Fields) → length (number_bytes f) ≡ 24
+unfolding number_bytes
+number-length f = refl
+
+table-length : (f : Fields) → AreSized f → length (table_bytes f) ≡ 65
+unfolding table_bytes
+table-length f s = simp length-append (omega (arith, length-rows f.rows, s.rows))
+
+pending-length : (f : Fields) → AreSized f → length (pending_bytes f) ≡ 259
+unfolding pending_bytes
+pending-length f s = simp length-append (omega (arith, s.line))
+
+pub length-fields : (f : Fields) → AreSized f → length (field_bytes f) ≡ 1371
+length-fields f s = simp length-append (omega (arith, world-length f s, number-length f, table-length f s, pending-length f s))

@@ -1,0 +1,139 @@
+-- Rules of states, and faults of fields.
+use Rattle.std.proofs.Common.{◌≡◌, ℕ, ◌+◌, ◌-◌, ◌*◌, ◌==◌, ◌||◌, Bool, true, false, List, [], ◌∷◌, Option, Some, None, length, map, take, drop, is_some, nat_le, refl, sym, ap, ◌∙◌, subst, arith}
+use Rattle.std.specs.Prelude.{IfSome, IfNone, if◌then◌else◌}
+use Rattle.std.proofs.lemmas.List.{length-map, length-take}
+use Rattle.std.proofs.lemmas.Bool.{eqb-true, le-leb, leb-true}
+use Rattle.paw_game.specs.Game.{GameLists}
+use Rattle.paw_game.specs.Valid.{Valid, is_place}
+use Rattle.paw_game.proofs.Counts.{few_objects}
+use Rattle.paw_world.specs.World.{Position}
+use Rattle.paw_effects.specs.declared.act.Prompt.{Prompt}
+use Rattle.paw_effects.specs.declared.act.Prompt.TheVariants as prompt
+use Rattle.paw_process.specs.declared.kept.Frames.{Frames}
+use Rattle.paw_process.specs.Kept.{waiting_code, or_none, count_fits, fault_at, first_fault}
+use Rattle.paw_process.specs.Kept.{rows_fault as machine_rows, loop_fault as machine_loop}
+use Rattle.paw_process.proofs.Restored.{no_first}
+use Rattle.paw_state.specs.declared.fields.Fields.{Fields}
+use Rattle.paw_effects.specs.Built.{ArePlacesOf}
+use Rattle.paw_state.specs.State.{State, IsSavedIn, Keeps}
+use Rattle.paw_state.specs.Fields.{filled, presence, saved_flags, saved_places, prompt_code, row_of, fields_of}
+use Rattle.paw_state.specs.Faults.{first, first_not, is_zero, places_fault, saved_fault, prompt_of, rows_fault}
+use Rattle.paw_state.specs.Parts.{position_in, saved_in, frame_in, frames_in, state_in}
+use Rattle.paw_state.proofs.Cut.{AreSized}
+use Rattle.paw_state.proofs.Found.{all_so, none_not, none_in_zeros, take_filled, drop_filled}
+use Rattle.paw_state.proofs.Sound.{AreSound, two_none}
+use Rattle.paw_state.proofs.Rows.{rows_sound, frames_sound}
+use Rattle.paw_state.proofs.Loops.{loop_sound, loop_found, loop_counted}
+use Rattle.paw_state.proofs.Back.{objects_stand, prompt_again}
+
+-- ---- the machine's rules ----
+
+no_machine_fault : (g : GameLists) (code : Option ℕ) (k : Frames) → count_fits code k.count ≡ true → machine_rows g (or_none code) None k.count 0 k.rows ≡ None
+    → machine_loop g k k.turning ≡ None → fault_at g code k ≡ None
+no_machine_fault g code k counts rows turns = rw (counts, rows, turns) refl
+
+pub record MachineSound (g : GameLists) (code : Option ℕ) (k : Frames) : Type 0 where
+  pub count : count_fits code k.count ≡ true
+  pub rows : machine_rows g (or_none code) None k.count 0 k.rows ≡ None
+  pub turning : machine_loop g k k.turning ≡ None
+
+pub machine_sound : (g : GameLists) (code : Option ℕ) (k : Frames) → fault_at g code k ≡ None → MachineSound g code k
+machine_sound g code k h = go (count_fits code k.count) refl h
+  where
+    go : (b : Bool) → count_fits code k.count ≡ b
+        → ◌≡◌ {A = Option ℕ} (if b then first_fault (machine_rows g (or_none code) None k.count 0 k.rows) (machine_loop g k k.turning) else Some 0) None
+        → MachineSound g code k
+    go true e q =
+        let p = no_first (machine_rows g (or_none code) None k.count 0 k.rows) (machine_loop g k k.turning) q in
+        record { count = e; rows = p.0; turning = p.1 }
+    go false e q = cc
+
+-- ---- fields without a fault say a state that keeps its rules ----
+
+objects_length : (g : GameLists) (places : List ℕ) → Valid g → length places ≡ 255 → length (take (length g.objects) places) ≡ length g.objects
+objects_length g places v size = omega (arith, length-take (length g.objects) places, few_objects g v)
+
+saved_kept : (g : GameLists) (f : Fields) → Valid g → AreSized f → saved_fault g f ≡ None → IfSome (saved_in g f) (IsSavedIn g)
+saved_kept g f v z h = go (f.saved == 0) h
+  where
+    go : (b : Bool) → (if b then first (first_not is_zero 512 f.saved_flags ∷ first_not is_zero 768 f.saved_places ∷ []) else places_fault g 768 f.saved_places) ≡ None
+        → IfSome (if b then None else Some (position_in g f.saved_flags f.saved_places)) (IsSavedIn g)
+    go true q = tt
+    go false q = record {
+      flags = z.saved_flags;
+      each = objects_length g f.saved_places v z.saved_places;
+      places = all_so (is_place (length g.locations)) 768 (take (length g.objects) f.saved_places) (objects_stand g 768 f.saved_places q);
+    }
+
+line_kept : (code : Option ℕ) (n : ℕ) (line : List ℕ) → (is_some code || (n == 0)) ≡ true → IfNone code (take n line ≡ [])
+line_kept None n line h = let z : n ≡ 0 = eqb-true n 0 h in rw z refl
+line_kept (Some code) n line h = tt
+
+pub frames_kept : (g : GameLists) (f : Fields) → AreSound g f → fault_at g (waiting_code (prompt_of f.prompt)) (frames_in f) ≡ None
+frames_kept g f s =
+    no_machine_fault g (waiting_code (prompt_of f.prompt)) (frames_in f) s.count
+    (rows_sound g (or_none (waiting_code (prompt_of f.prompt))) None f.count 1049 0 f.rows s.frames) (loop_sound g f s.turning)
+
+pub keeps_in : (g : GameLists) (f : Fields) → Valid g → AreSized f → AreSound g f → Keeps g (state_in g f)
+keeps_in g f v z s = record {
+  world = record { facts = refl; locations = refl; flags = z.flags; places = objects_length g f.places v z.places };
+  places = all_so (is_place (length g.locations)) 256 (take (length g.objects) f.places) (objects_stand g 256 f.places s.places);
+  saved = saved_kept g f v z s.saved;
+  events = leb-true f.events 1000000000 s.events;
+  draws = leb-true f.draws (200000 * (f.events + 1)) s.draws;
+  rows = length-map f.rows frame_in ∙ z.rows;
+  frames = frames_kept g f s;
+  line = omega (arith, length-take f.pending f.line, z.line);
+  pending = line_kept (waiting_code (prompt_of f.prompt)) f.pending f.line s.pending;
+}
+
+-- ---- the fields of a state that keeps its rules have no fault ----
+
+places_sound : (g : GameLists) (at : ℕ) (places : List ℕ) → length places ≡ length g.objects → ArePlacesOf g places → places_fault g at (filled 255 places) ≡ None
+places_sound g at places size h =
+    two_none (first_not (is_place (length g.locations)) at (take (length g.objects) (filled 255 places)))
+    (first_not is_zero (at + length g.objects) (drop (length g.objects) (filled 255 places)))
+    (ap (first_not (is_place (length g.locations)) at) (take_filled (length g.objects) places size) ∙ none_not (is_place (length g.locations)) at places h)
+    (ap (first_not is_zero (at + length g.objects)) (drop_filled (length g.objects) places size) ∙ none_in_zeros (at + length g.objects) (255 - length places))
+
+saved_sound : (g : GameLists) (o : Option Position) → IfSome o (IsSavedIn g)
+    → (if presence o == 0 then first (first_not is_zero 512 (saved_flags o) ∷ first_not is_zero 768 (saved_places o) ∷ []) else places_fault g 768 (saved_places o)) ≡ None
+saved_sound g None h = two_none (first_not is_zero 512 (saved_flags None)) (first_not is_zero 768 (saved_places None)) (none_in_zeros 512 256) (none_in_zeros 768 255)
+saved_sound g (Some q) h = places_sound g 768 q.places h.each h.places
+
+presence_low : {A : Type 0} → (o : Option A) → nat_le (presence o) 1 ≡ true
+presence_low None = refl
+presence_low (Some x) = refl
+
+code_low : (p : Prompt) → nat_le (prompt_code p) 4 ≡ true
+code_low prompt.Main = refl
+code_low prompt.Quit = refl
+code_low prompt.Again = refl
+code_low prompt.Key = refl
+code_low prompt.Over = refl
+
+line_sound : (code : Option ℕ) (bytes : List ℕ) → IfNone code (bytes ≡ []) → (is_some code || (length bytes == 0)) ≡ true
+line_sound None bytes h = rw h refl
+line_sound (Some code) bytes h = refl
+
+pub sound_fields : (g : GameLists) (s : State) → Keeps g s → AreSound g (fields_of s)
+sound_fields g s k =
+    let m = machine_sound g (waiting_code s.prompt) s.frames k.frames in
+    let again = sym (prompt_again s.prompt) in
+    record {
+      places = places_sound g 256 s.world.places k.world.places k.places;
+      is_saved = presence_low s.world.saved;
+      saved = saved_sound g s.world.saved k.saved;
+      events = le-leb s.events 1000000000 k.events;
+      draws = le-leb s.world.draws (200000 * (s.events + 1)) k.draws;
+      prompt = code_low s.prompt;
+      count = subst (λ (p : Prompt). count_fits (waiting_code p) s.frames.count ≡ true) again m.count;
+      frames = subst (λ (p : Prompt). rows_fault g (or_none (waiting_code p)) None s.frames.count 1049 (map row_of s.frames.rows) ≡ None) again
+          (frames_sound g (or_none (waiting_code s.prompt)) None s.frames.count 1049 0 s.frames.rows m.rows);
+      looping = loop_counted g s.frames m.turning;
+      turning = loop_found g s.frames (fields_of s) refl refl m.turning;
+      pending = subst (λ (p : Prompt). (is_some (waiting_code p) || (length s.pending.bytes == 0)) ≡ true) again
+          (line_sound (waiting_code s.prompt) s.pending.bytes k.pending);
+      line = ap (first_not is_zero (1114 + length s.pending.bytes)) (drop_filled (length s.pending.bytes) s.pending.bytes refl)
+          ∙ none_in_zeros (1114 + length s.pending.bytes) (255 - length s.pending.bytes);
+    }

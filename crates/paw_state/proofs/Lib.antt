@@ -1,0 +1,15 @@
+pub mod Pieces
+pub mod Written
+pub mod Joined
+pub mod Cut
+pub mod Found
+pub mod Scans
+pub mod Sound
+pub mod Rows
+pub mod Loops
+pub mod Back
+pub mod Keeping
+pub mod Sizes
+pub mod Lawful
+pub mod Told
+pub mod Recorded

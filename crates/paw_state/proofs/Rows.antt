@@ -1,0 +1,173 @@
+-- The rows of a state, and the frames of a machine.
+use Rattle.std.proofs.Common.{◌≡◌, ℕ, zero, suc, ◌+◌, ◌-◌, ◌≤◌, ◌&&◌, ◌==◌, Bool, true, false, not, List, [], ◌∷◌, Option, Some, None, map, is_some, nat_le, refl, ap, arith}
+use Rattle.std.specs.Prelude.{if◌then◌else◌, slice_get}
+use Rattle.std.proofs.lemmas.Bool.{eqb-true, leb-true}
+use Rattle.paw_game.specs.declared.parts.Entry.{Entry}
+use Rattle.paw_game.specs.Game.{GameLists}
+use Rattle.paw_game.specs.Tables.{condacts_of, entry_at, head_of, head_at, condact_at}
+use Rattle.paw_reading.specs.declared.places.Frame.{Frame}
+use Rattle.paw_process.specs.Kept.{may_open, has_code, parameter_of, condact_of, is_unused, row_stands}
+use Rattle.paw_process.specs.Kept.{rows_fault as machine_fault}
+use Rattle.paw_process.proofs.Restored.{first_of, second}
+use Rattle.paw_state.specs.declared.fields.Row.{Row}
+use Rattle.paw_state.specs.Fields.{row_of}
+use Rattle.paw_state.specs.Parts.{frame_in}
+use Rattle.paw_state.specs.Faults.{rule, or_first, first, unused_fault, used_fault, row_fault, rows_fault, called}
+use Rattle.paw_state.proofs.Found.{rule_holds, no_rule, no_first, none_first}
+
+pub both : (a b : Bool) → a ≡ true → b ≡ true → (a && b) ≡ true
+both a b h k = rw (h, k) refl
+
+pub four : (a b c d : Option ℕ) → first (a ∷ b ∷ c ∷ d ∷ []) ≡ None → (a ≡ None) × (b ≡ None) × (c ≡ None) × (d ≡ None)
+four a b c d h =
+    let p0 = no_first a (first (b ∷ c ∷ d ∷ [])) h in
+    let p1 = no_first b (first (c ∷ d ∷ [])) p0.1 in
+    let p2 = no_first c (or_first d None) p1.1 in
+    (p0.0, p1.0, p2.0, (no_first d None p2.1).0)
+
+pub four_none : (a b c d : Option ℕ) → a ≡ None → b ≡ None → c ≡ None → d ≡ None → first (a ∷ b ∷ c ∷ d ∷ []) ≡ None
+four_none a b c d ka kb kc kd =
+    none_first a (first (b ∷ c ∷ d ∷ [])) ka (none_first b (first (c ∷ d ∷ [])) kb (none_first c (or_first d None) kc (none_first d None kd refl)))
+
+-- ---- rows without a fault ----
+
+record IsUnusedRow (r : Row) : Type 0 where
+  table : (r.table == 0) ≡ true
+  entry : (r.entry == 0) ≡ true
+  at : (r.at == 0) ≡ true
+  acted : (r.acted == 0) ≡ true
+
+unused_row : (at : ℕ) (r : Row) → unused_fault at r ≡ None → IsUnusedRow r
+unused_row at r h =
+    let p = four (rule at (r.table == 0)) (rule (at + 1) (r.entry == 0)) (rule (at + 3) (r.at == 0)) (rule (at + 4) (r.acted == 0)) h in
+    record {
+      table = rule_holds at (r.table == 0) p.0;
+      entry = rule_holds (at + 1) (r.entry == 0) p.1;
+      at = rule_holds (at + 3) (r.at == 0) p.2;
+      acted = rule_holds (at + 4) (r.acted == 0) p.3;
+    }
+
+record IsUsedRow (g : GameLists) (code : ℕ) (caller : Option ℕ) (r : Row) : Type 0 where
+  table : may_open caller r.table ≡ true
+  condact : has_code code (condact_at g r.table r.entry r.at) ≡ true
+  acted : nat_le r.acted 1 ≡ true
+
+used_row : (g : GameLists) (code : ℕ) (caller : Option ℕ) (at : ℕ) (r : Row) → used_fault g code caller at r ≡ None → IsUsedRow g code caller r
+used_row g code caller at r h =
+    let p = four (rule at (may_open caller r.table)) (rule (at + 1) (is_some (head_at g r.table r.entry)))
+    (rule (at + 3) (has_code code (condact_at g r.table r.entry r.at))) (rule (at + 4) (nat_le r.acted 1)) h in
+    record {
+      table = rule_holds at (may_open caller r.table) p.0;
+      condact = rule_holds (at + 3) (has_code code (condact_at g r.table r.entry r.at)) p.2;
+      acted = rule_holds (at + 4) (nat_le r.acted 1) p.3;
+    }
+
+no_action : (acted : ℕ) → (acted == 0) ≡ true → not (acted == 1) ≡ true
+no_action acted h = let z : acted ≡ 0 = eqb-true acted 0 h in rw z refl
+
+-- a row without a fault stands as a frame
+row_sound : (g : GameLists) (code : ℕ) (caller : Option ℕ) (n at : ℕ) (r : Row) → row_fault g code caller n at r ≡ None → row_stands g code caller n (frame_in r) ≡ true
+row_sound g code caller n at r h = go (n == 0) h
+  where
+    go : (b : Bool) → (if b then unused_fault at r else used_fault g (if n == 1 then code else 85) caller at r) ≡ None
+        → (if b then is_unused (frame_in r) else may_open caller r.table && has_code (if n == 1 then code else 85) (condact_of g (frame_in r))) ≡ true
+    go true k =
+        let u = unused_row at r k in
+        both (r.table == 0) _ u.table (both (r.entry == 0) _ u.entry (both (r.at == 0) _ u.at (no_action r.acted u.acted)))
+    go false k =
+        let u = used_row g (if n == 1 then code else 85) caller at r k in
+        both (may_open caller r.table) _ u.table u.condact
+
+-- and its byte for an action is 0 or 1
+row_acted : (g : GameLists) (code : ℕ) (caller : Option ℕ) (n at : ℕ) (r : Row) → row_fault g code caller n at r ≡ None → r.acted ≤ 1
+row_acted g code caller n at r h = go (n == 0) h
+  where
+    go : (b : Bool) → (if b then unused_fault at r else used_fault g (if n == 1 then code else 85) caller at r) ≡ None → r.acted ≤ 1
+    go true k = let z : r.acted ≡ 0 = eqb-true r.acted 0 (unused_row at r k).acted in omega arith
+    go false k = leb-true r.acted 1 (used_row g (if n == 1 then code else 85) caller at r k).acted
+
+acted_back : (acted : ℕ) → acted ≤ 1 → (if acted == 1 then 1 else 0) ≡ acted
+acted_back zero low = refl
+acted_back (suc zero) low = refl
+acted_back (suc (suc n)) low = absurd (omega (arith, low))
+
+row_back : (r : Row) → r.acted ≤ 1 → row_of (frame_in r) ≡ r
+row_back r low = ap (λ (acted : ℕ). record { table = r.table; entry = r.entry; at = r.at; acted = acted }) (acted_back r.acted low)
+
+pub rows_sound : (g : GameLists) (code : ℕ) (caller : Option ℕ) (n at d : ℕ) (rows : List Row) → rows_fault g code caller n at rows ≡ None
+    → machine_fault g code caller n d (map frame_in rows) ≡ None
+unfolding rows_fault machine_fault
+rows_sound g code caller n at d [] h = refl
+rows_sound g code caller n at d (r ∷ rs) h =
+    let p = no_first (row_fault g code caller n at r) (rows_fault g code (called g r) (n - 1) (at + 5) rs) h in
+    rw (row_sound g code caller n at r p.0) (rows_sound g code (called g r) (n - 1) (at + 5) (suc d) rs p.1)
+
+pub rows_back : (g : GameLists) (code : ℕ) (caller : Option ℕ) (n at : ℕ) (rows : List Row) → rows_fault g code caller n at rows ≡ None
+    → map row_of (map frame_in rows) ≡ rows
+unfolding rows_fault
+rows_back g code caller n at [] h = refl
+rows_back g code caller n at (r ∷ rs) h =
+    let p = no_first (row_fault g code caller n at r) (rows_fault g code (called g r) (n - 1) (at + 5) rs) h in
+    let e : row_of (frame_in r) ≡ r = row_back r (row_acted g code caller n at r p.0) in
+    let q = rows_back g code (called g r) (n - 1) (at + 5) rs p.1 in
+    cc
+
+-- ---- frames that stand ----
+
+-- a condact that is there stands in an entry
+pub head_there : (g : GameLists) (code t e k : ℕ) → has_code code (condact_at g t e k) ≡ true → is_some (head_at g t e) ≡ true
+head_there g code t e k h = go (entry_at g t e) h
+  where
+    go : (o : Option Entry) → has_code code (slice_get (condacts_of o) k) ≡ true → is_some (head_of o) ≡ true
+    go None q = cc
+    go (Some en) q = refl
+
+acted_low : (acted : Bool) → nat_le (if acted then 1 else 0) 1 ≡ true
+acted_low true = refl
+acted_low false = refl
+
+acted_zero : (acted : Bool) → not acted ≡ true → ((if acted then 1 else 0) == 0) ≡ true
+acted_zero true h = cc
+acted_zero false h = refl
+
+frame_sound : (g : GameLists) (code : ℕ) (caller : Option ℕ) (n at : ℕ) (f : Frame) → row_stands g code caller n f ≡ true → row_fault g code caller n at (row_of f) ≡ None
+frame_sound g code caller n at f h = go (n == 0) h
+  where
+    go : (b : Bool) → (if b then is_unused f else may_open caller f.table && has_code (if n == 1 then code else 85) (condact_of g f)) ≡ true
+        → (if b then unused_fault at (row_of f) else used_fault g (if n == 1 then code else 85) caller at (row_of f)) ≡ None
+    go true k =
+        let l1 = second (f.table == 0) _ k in
+        let l2 = second (f.entry == 0) _ l1 in
+        four_none (rule at (f.table == 0)) (rule (at + 1) (f.entry == 0)) (rule (at + 3) (f.at == 0)) (rule (at + 4) ((if f.acted then 1 else 0) == 0))
+        (no_rule at _ (first_of (f.table == 0) _ k)) (no_rule (at + 1) _ (first_of (f.entry == 0) _ l1)) (no_rule (at + 3) _ (first_of (f.at == 0) _ l2))
+        (no_rule (at + 4) _ (acted_zero f.acted (second (f.at == 0) _ l2)))
+    go false k =
+        let c = second (may_open caller f.table) _ k in
+        four_none (rule at (may_open caller f.table)) (rule (at + 1) (is_some (head_at g f.table f.entry)))
+        (rule (at + 3) (has_code (if n == 1 then code else 85) (condact_at g f.table f.entry f.at))) (rule (at + 4) (nat_le (if f.acted then 1 else 0) 1))
+        (no_rule at _ (first_of (may_open caller f.table) _ k)) (no_rule (at + 1) _ (head_there g (if n == 1 then code else 85) f.table f.entry f.at c))
+        (no_rule (at + 3) _ c) (no_rule (at + 4) _ (acted_low f.acted))
+
+pub frames_sound : (g : GameLists) (code : ℕ) (caller : Option ℕ) (n at d : ℕ) (frames : List Frame) → machine_fault g code caller n d frames ≡ None
+    → rows_fault g code caller n at (map row_of frames) ≡ None
+unfolding rows_fault machine_fault
+frames_sound g code caller n at d [] h = refl
+frames_sound g code caller n at d (f ∷ fs) h = go (frames_sound g code (Some (parameter_of (condact_of g f))) (n - 1) (at + 5) (suc d) fs) (row_stands g code caller n f) refl h
+  where
+    go : (machine_fault g code (Some (parameter_of (condact_of g f))) (n - 1) (suc d) fs ≡ None → rows_fault g code (Some (parameter_of (condact_of g f))) (n - 1) (at + 5) (map row_of fs) ≡ None)
+        → (b : Bool) → row_stands g code caller n f ≡ b
+        → ◌≡◌ {A = Option ℕ} (if b then machine_fault g code (Some (parameter_of (condact_of g f))) (n - 1) (suc d) fs else Some d) None
+        → or_first (row_fault g code caller n at (row_of f)) (rows_fault g code (called g (row_of f)) (n - 1) (at + 5) (map row_of fs)) ≡ None
+    go later true e q = none_first (row_fault g code caller n at (row_of f)) _ (frame_sound g code caller n at f e) (later q)
+    go later false e q = cc
+
+acted_again : (acted : Bool) → ((if acted then 1 else 0) == 1) ≡ acted
+acted_again true = refl
+acted_again false = refl
+
+pub frames_back : (frames : List Frame) → map frame_in (map row_of frames) ≡ frames
+frames_back [] = refl
+frames_back (f ∷ fs) =
+    let e : frame_in (row_of f) ≡ f = ap (λ (acted : Bool). record { table = f.table; entry = f.entry; at = f.at; acted = acted }) (acted_again f.acted) in
+    let q = frames_back fs in
+    cc

@@ -1,0 +1,95 @@
+-- Looking through bytes and rows one by one.
+use Rattle.std.proofs.Common.{◌≡◌, ℕ, zero, suc, ◌+◌, ◌-◌, ◌*◌, ◌<◌, ◌≤◌, Bool, true, false, List, [], ◌∷◌, ◌++◌, Option, Some, None, length, take, drop, set, get_or, refl, sym, ap, ◌∙◌, add-one, subst, arith}
+use Rattle.std.specs.Prelude.{if◌then◌else◌}
+use Rattle.std.proofs.Math.Seq.{drop-cons, take-suc-set}
+use Rattle.std.proofs.lemmas.List.{drop-drop, drop_all, take_all}
+use Rattle.paw_game.specs.Game.{GameLists}
+use Rattle.paw_state.specs.declared.fields.Row.{Row}
+use Rattle.paw_state.specs.Fields.{row_at, rows_at}
+use Rattle.paw_state.specs.Faults.{rule, or_first, first_not, row_fault, rows_fault, called}
+
+-- ---- bytes ----
+
+-- the bytes from number i on have the first fault of all
+abbrev pub Looked : (ℕ → Bool) → ℕ → ℕ → List ℕ → Type 0
+Looked p at i bytes = first_not p (at + i) (drop i bytes) ≡ first_not p at bytes
+
+one : (p : ℕ → Bool) (at b : ℕ) (bs : List ℕ) → first_not p at (b ∷ bs) ≡ (if p b then first_not p (suc at) bs else Some at)
+unfolding first_not
+one p at b bs = refl
+
+next : (p : ℕ → Bool) (at i : ℕ) (bytes : List ℕ) → i < length bytes → Looked p at i bytes
+    → (if p (get_or bytes i 0) then first_not p (suc (at + i)) (drop (suc i) bytes) else Some (at + i)) ≡ first_not p at bytes
+next p at i bytes low h =
+    sym (one p (at + i) (get_or bytes i 0) (drop (suc i) bytes))
+    ∙ (ap (first_not p (at + i)) (sym (drop-cons bytes i 0 low)) ∙ h)
+
+pub stops : (p : ℕ → Bool) (at i x : ℕ) (bytes : List ℕ) → i < length bytes → Looked p at i bytes
+    → Some x ≡ rule (at + i) (p (get_or bytes i 0)) → Some x ≡ first_not p at bytes
+stops p at i x bytes low h e = go (p (get_or bytes i 0)) (next p at i bytes low h) e
+  where
+    go : (t : Bool) → (if t then first_not p (suc (at + i)) (drop (suc i) bytes) else Some (at + i)) ≡ first_not p at bytes
+        → Some x ≡ rule (at + i) t → Some x ≡ first_not p at bytes
+    go true q k = cc
+    go false q k = k ∙ q
+
+pub goes_on : (p : ℕ → Bool) (at i : ℕ) (bytes : List ℕ) → i < length bytes → Looked p at i bytes
+    → None ≡ rule (at + i) (p (get_or bytes i 0)) → Looked p at (i + 1) bytes
+goes_on p at i bytes low h e = go (p (get_or bytes i 0)) (next p at i bytes low h) e
+  where
+    go : (t : Bool) → (if t then first_not p (suc (at + i)) (drop (suc i) bytes) else Some (at + i)) ≡ first_not p at bytes
+        → ◌≡◌ {A = Option ℕ} None (rule (at + i) t) → Looked p at (i + 1) bytes
+    go true q k = let a : at + (i + 1) ≡ suc (at + i) = omega arith in rw (a, add-one) q
+    go false q k = cc
+
+none_left : (p : ℕ → Bool) (at : ℕ) → first_not p at [] ≡ None
+unfolding first_not
+none_left p at = refl
+
+pub at_end : (p : ℕ → Bool) (at i : ℕ) (bytes : List ℕ) → length bytes ≤ i → Looked p at i bytes → None ≡ first_not p at bytes
+at_end p at i bytes low h = sym (none_left p (at + i)) ∙ (ap (first_not p (at + i)) (sym (drop_all i bytes low)) ∙ h)
+
+-- ---- rows ----
+
+pub no_rows : (g : GameLists) (code : ℕ) (caller : Option ℕ) (n at : ℕ) (rows : List Row) → length rows ≡ 0 → None ≡ rows_fault g code caller n at rows
+unfolding rows_fault
+no_rows g code caller n at [] h = refl
+no_rows g code caller n at (r ∷ rs) h = absurd (omega arith)
+
+first_row : (g : GameLists) (code : ℕ) (caller : Option ℕ) (n at : ℕ) (rows : List Row) (r : Row) (rs : List Row) → rows ≡ r ∷ rs
+    → or_first (row_fault g code caller n at r) (rows_fault g code (called g r) (n - 1) (at + 5) rs) ≡ rows_fault g code caller n at rows
+unfolding rows_fault
+first_row g code caller n at rows r rs e = rw e refl
+
+pub row_stops : (g : GameLists) (code : ℕ) (caller : Option ℕ) (n at x : ℕ) (rows : List Row) (r : Row) (rs : List Row) → rows ≡ r ∷ rs
+    → Some x ≡ row_fault g code caller n at r → Some x ≡ rows_fault g code caller n at rows
+row_stops g code caller n at x rows r rs e h =
+    ap (λ (o : Option ℕ). or_first o (rows_fault g code (called g r) (n - 1) (at + 5) rs)) h ∙ first_row g code caller n at rows r rs e
+
+pub row_passes : (g : GameLists) (code : ℕ) (caller : Option ℕ) (n at : ℕ) (rows : List Row) (r : Row) (rs : List Row) → rows ≡ r ∷ rs
+    → None ≡ row_fault g code caller n at r → rows_fault g code (called g r) (n - 1) (at + 5) rs ≡ rows_fault g code caller n at rows
+row_passes g code caller n at rows r rs e h =
+    ap (λ (o : Option ℕ). or_first o (rows_fault g code (called g r) (n - 1) (at + 5) rs)) h ∙ first_row g code caller n at rows r rs e
+
+pub rows_none : (bytes : List ℕ) → [] ≡ rows_at 0 bytes
+unfolding rows_at
+rows_none bytes = refl
+
+pub rows_more : (n : ℕ) (bytes : List ℕ) → rows_at (suc n) bytes ≡ rows_at n bytes ++ row_at (drop (5 * n) bytes) ∷ []
+unfolding rows_at
+rows_more zero bytes = refl
+rows_more (suc n) bytes =
+    let k : 5 + 5 * n ≡ 5 * suc n = omega arith in
+    let e : drop (5 * n) (drop 5 bytes) ≡ drop (5 * suc n) bytes = drop-drop (5 * n) 5 bytes ∙ ap (λ (i : ℕ). drop i bytes) k in
+    ap (λ (rs : List Row). row_at bytes ∷ rs) (rows_more n (drop 5 bytes) ∙ ap (λ (l : List ℕ). rows_at n (drop 5 bytes) ++ row_at l ∷ []) e)
+
+-- one row more is read
+pub row_read : (rows : List Row) (n : ℕ) (r : Row) (bytes : List ℕ) → n < length rows → take n rows ≡ rows_at n (drop 1049 bytes)
+    → r ≡ row_at (drop (1049 + 5 * n) bytes) → take (n + 1) (set rows n r) ≡ rows_at (n + 1) (drop 1049 bytes)
+row_read rows n r bytes low h e =
+    let d : drop (5 * n) (drop 1049 bytes) ≡ drop (1049 + 5 * n) bytes = drop-drop (5 * n) 1049 bytes in
+    rw (add-one, e, sym d) (take-suc-set rows n (row_at (drop (5 * n) (drop 1049 bytes))) low
+    ∙ (ap (λ (rs : List Row). rs ++ row_at (drop (5 * n) (drop 1049 bytes)) ∷ []) h ∙ sym (rows_more n (drop 1049 bytes))))
+
+pub rows_read : (rows : List Row) (n : ℕ) (bytes : List ℕ) → length rows ≡ 11 → n ≡ 11 → take n rows ≡ rows_at n (drop 1049 bytes) → rows ≡ rows_at 11 (drop 1049 bytes)
+rows_read rows n bytes k e h = sym (take_all 11 rows (omega arith)) ∙ subst (λ (i : ℕ). take i rows ≡ rows_at i (drop 1049 bytes)) e h

@@ -1,0 +1,162 @@
+-- Arrays have their lengths, and numbers fit their fields.
+use Rattle.std.proofs.Common.{◌≡◌, ℕ, zero, suc, ◌+◌, ◌-◌, ◌<◌, ◌≤◌, ◌^◌, ◌==◌, ◌&&◌, Bool, true, false, List, [], ◌∷◌, Option, Some, None, length, map, drop, nat_lt, refl, ap, ◌∙◌, lit<, arith}
+use Rattle.std.specs.Prelude.{All, IfSome, slice_get, slice_index, slice_range, if◌then◌else◌}
+use Rattle.std.proofs.lemmas.List.{length-map}
+use Rattle.std.proofs.lemmas.List.Elements.{All-cons, All-take}
+use Rattle.std.proofs.lemmas.Bool.{eqb-true}
+use Rattle.paw_base.specs.declared.parts.Condact.{Condact}
+use Rattle.paw_game.specs.Game.{GameLists}
+use Rattle.paw_game.specs.Valid.{Valid}
+use Rattle.paw_game.specs.Tables.{condact_at}
+use Rattle.paw_game.proofs.Counts.{few_objects}
+use Rattle.paw_game.proofs.Kept.{condact-small}
+use Rattle.paw_world.specs.World.{Position}
+use Rattle.paw_reading.specs.declared.places.Frame.{Frame}
+use Rattle.paw_reading.specs.declared.places.OpenLoop.{OpenLoop}
+use Rattle.paw_process.specs.declared.kept.Frames.{Frames}
+use Rattle.paw_process.specs.Kept.{may_open, has_code, parameter_of, condact_of, is_unused, row_stands, table_of, is_table, loop_stands, waiting_code, or_none}
+use Rattle.paw_process.specs.Kept.{rows_fault as machine_rows, loop_fault as machine_loop}
+use Rattle.paw_process.proofs.Restored.{first_of, second}
+use Rattle.paw_state.specs.declared.fields.Row.{Row}
+use Rattle.paw_state.specs.declared.fields.Fields.{Fields}
+use Rattle.paw_state.specs.State.{State, AreBytes, FitsFields, IsSavedIn, Keeps}
+use Rattle.paw_state.specs.Fields.{saved_flags, saved_places, row_of, loop_or_zeros, fields_of, two_at, eight_at, row_at, rows_at, fields_at}
+use Rattle.paw_state.specs.Parts.{position_in, saved_in, state_in}
+use Rattle.paw_state.proofs.Pieces.{length_range, range_bytes, drop_bytes, each_byte}
+use Rattle.paw_state.proofs.Cut.{AreSized}
+use Rattle.paw_state.proofs.Found.{length-zeros, length-filled}
+use Rattle.paw_state.proofs.Keeping.{machine_sound}
+
+-- ---- numbers that are read ----
+
+two_low : (bytes : List ℕ) (at : ℕ) → AreBytes bytes → two_at bytes at < 2 ^ 16
+two_low bytes at h =
+    let e = each_byte (slice_range bytes at (at + 2)) (range_bytes bytes at (at + 2) h) in
+    omega (arith, e 0, e 1)
+
+eight_low : (bytes : List ℕ) (at : ℕ) → AreBytes bytes → eight_at bytes at < 2 ^ 64
+eight_low bytes at h =
+    let e = each_byte (slice_range bytes at (at + 8)) (range_bytes bytes at (at + 8) h) in
+    omega (arith, e 0, e 1, e 2, e 3, e 4, e 5, e 6, e 7)
+
+length-rows_at : (n : ℕ) (bytes : List ℕ) → length (rows_at n bytes) ≡ n
+unfolding rows_at
+length-rows_at zero bytes = refl
+length-rows_at (suc n) bytes = ap suc (length-rows_at n (drop 5 bytes))
+
+entries_low : (n : ℕ) (bytes : List ℕ) → AreBytes bytes → All (λ r. r.entry < 2 ^ 16) (rows_at n bytes)
+unfolding rows_at
+entries_low zero bytes h = λ k d low. absurd (omega (arith, low))
+entries_low (suc n) bytes h =
+    All-cons (λ (r : Row). r.entry < 2 ^ 16) (row_at bytes) (rows_at n (drop 5 bytes)) (two_low bytes 1 h) (entries_low n (drop 5 bytes) (drop_bytes 5 bytes h))
+
+pub sized_at : (bytes : List ℕ) → 1371 ≤ length bytes → AreBytes bytes → AreSized (fields_at bytes)
+sized_at bytes n h = record {
+  flags = length_range bytes 0 256 (omega arith) (omega arith);
+  places = length_range bytes 256 511 (omega arith) (omega arith);
+  saved_flags = length_range bytes 512 768 (omega arith) (omega arith);
+  saved_places = length_range bytes 768 1023 (omega arith) (omega arith);
+  seed = eight_low bytes 1023 h;
+  draws = eight_low bytes 1031 h;
+  events = eight_low bytes 1039 h;
+  rows = length-rows_at 11 (drop 1049 bytes);
+  entries = entries_low 11 (drop 1049 bytes) (drop_bytes 1049 bytes h);
+  loop_entry = two_low bytes 1107 h;
+  pending = each_byte bytes h 1113;
+  line = length_range bytes 1114 1369 (omega arith) (omega arith);
+  piece = two_low bytes 1369 h;
+}
+
+-- ---- the state that is read ----
+
+saved_flags_fit : (g : GameLists) (f : Fields) → AreBytes f.saved_flags → IfSome (saved_in g f) (λ q. AreBytes q.flags)
+saved_flags_fit g f h = go (f.saved == 0)
+  where
+    go : (b : Bool) → IfSome (if b then None else Some (position_in g f.saved_flags f.saved_places)) (λ q. AreBytes q.flags)
+    go true = tt
+    go false = h
+
+saved_places_fit : (g : GameLists) (f : Fields) → AreBytes f.saved_places → IfSome (saved_in g f) (λ q. AreBytes q.places)
+saved_places_fit g f h = go (f.saved == 0)
+  where
+    go : (b : Bool) → IfSome (if b then None else Some (position_in g f.saved_flags f.saved_places)) (λ q. AreBytes q.places)
+    go true = tt
+    go false = All-take (λ (b : ℕ). b < 256) (length g.objects) f.saved_places h
+
+pub fits_at : (g : GameLists) (bytes : List ℕ) → 1371 ≤ length bytes → AreBytes bytes → FitsFields (state_in g (fields_at bytes))
+fits_at g bytes n h = record {
+  flags = range_bytes bytes 0 256 h;
+  places = All-take (λ (b : ℕ). b < 256) (length g.objects) (slice_range bytes 256 511) (range_bytes bytes 256 511 h);
+  saved_flags = saved_flags_fit g (fields_at bytes) (range_bytes bytes 512 768 h);
+  saved_places = saved_places_fit g (fields_at bytes) (range_bytes bytes 768 1023 h);
+  seed = eight_low bytes 1023 h;
+  draws = eight_low bytes 1031 h;
+  events = eight_low bytes 1039 h;
+  earlier = each_byte bytes h 1112;
+  line = All-take (λ (b : ℕ). b < 256) (slice_index bytes 1113) (slice_range bytes 1114 1369) (range_bytes bytes 1114 1369 h);
+  piece = two_low bytes 1369 h;
+}
+
+-- ---- the fields of a state ----
+
+coded : (g : GameLists) (t e k code : ℕ) (o : Option Condact) → Valid g → condact_at g t e k ≡ o → has_code code o ≡ true → e < 2 ^ 16
+coded g t e k code None v is h = cc
+coded g t e k code (Some c) v is h = let low = condact-small g v t e k c is in omega (arith, low)
+
+row_entry : (g : GameLists) (code : ℕ) (caller : Option ℕ) (n : ℕ) (f : Frame) → Valid g → row_stands g code caller n f ≡ true → f.entry < 2 ^ 16
+row_entry g code caller n f v h = go (n == 0) h
+  where
+    go : (b : Bool) → (if b then is_unused f else may_open caller f.table && has_code (if n == 1 then code else 85) (condact_of g f)) ≡ true → f.entry < 2 ^ 16
+    go true q = let z : f.entry ≡ 0 = eqb-true f.entry 0 (first_of (f.entry == 0) _ (second (f.table == 0) _ q)) in omega arith
+    go false q = coded g f.table f.entry f.at (if n == 1 then code else 85) (condact_of g f) v refl (second (may_open caller f.table) _ q)
+
+entries_fit : (g : GameLists) (code : ℕ) (caller : Option ℕ) (n d : ℕ) (frames : List Frame) → Valid g → machine_rows g code caller n d frames ≡ None
+    → All (λ r. r.entry < 2 ^ 16) (map row_of frames)
+unfolding machine_rows
+entries_fit g code caller n d [] v h = λ k e low. absurd (omega (arith, low))
+entries_fit g code caller n d (f ∷ fs) v h = go (entries_fit g code (Some (parameter_of (condact_of g f))) (n - 1) (suc d) fs v) (row_stands g code caller n f) refl h
+  where
+    go : (machine_rows g code (Some (parameter_of (condact_of g f))) (n - 1) (suc d) fs ≡ None → All (λ r. r.entry < 2 ^ 16) (map row_of fs))
+        → (b : Bool) → row_stands g code caller n f ≡ b
+        → ◌≡◌ {A = Option ℕ} (if b then machine_rows g code (Some (parameter_of (condact_of g f))) (n - 1) (suc d) fs else Some d) None
+        → All (λ r. r.entry < 2 ^ 16) (map row_of (f ∷ fs))
+    go later true e q = All-cons (λ (r : Row). r.entry < 2 ^ 16) (row_of f) (map row_of fs) (row_entry g code caller n f v e) (later q)
+    go later false e q = cc
+
+loop_fits : (g : GameLists) (k : Frames) (o : Option OpenLoop) → Valid g → machine_loop g k o ≡ None → (loop_or_zeros o).entry < 2 ^ 16
+loop_fits g k None v h = lit< tt
+loop_fits g k (Some l) v h = go (loop_stands g k l) refl h
+  where
+    go : (b : Bool) → loop_stands g k l ≡ b → ◌≡◌ {A = Option ℕ} (if b then None else Some 11) None → l.entry < 2 ^ 16
+    go true e q =
+        let s1 = second (nat_lt l.level k.count) _ e in
+        let s2 = second (is_table (table_of (slice_get k.rows l.level)) l.table) _ s1 in
+        coded g l.table l.entry l.at 86 (condact_at g l.table l.entry l.at) v refl (first_of (has_code 86 (condact_at g l.table l.entry l.at)) _ s2)
+    go false e q = cc
+
+saved_flags_size : (g : GameLists) (o : Option Position) → IfSome o (IsSavedIn g) → length (saved_flags o) ≡ 256
+saved_flags_size g None h = length-zeros 256
+saved_flags_size g (Some q) h = h.flags
+
+saved_places_size : (g : GameLists) (o : Option Position) → Valid g → IfSome o (IsSavedIn g) → length (saved_places o) ≡ 255
+saved_places_size g None v h = length-zeros 255
+saved_places_size g (Some q) v h = length-filled q.places (omega (arith, h.each, few_objects g v))
+
+pub sized_of : (g : GameLists) (s : State) → Valid g → Keeps g s → FitsFields s → AreSized (fields_of s)
+sized_of g s v k h =
+    let m = machine_sound g (waiting_code s.prompt) s.frames k.frames in
+    record {
+      flags = k.world.flags;
+      places = length-filled s.world.places (omega (arith, k.world.places, few_objects g v));
+      saved_flags = saved_flags_size g s.world.saved k.saved;
+      saved_places = saved_places_size g s.world.saved v k.saved;
+      seed = h.seed;
+      draws = h.draws;
+      events = h.events;
+      rows = length-map s.frames.rows row_of ∙ k.rows;
+      entries = entries_fit g (or_none (waiting_code s.prompt)) None s.frames.count 0 s.frames.rows v m.rows;
+      loop_entry = loop_fits g s.frames s.frames.turning v m.turning;
+      pending = omega (arith, k.line);
+      line = length-filled s.pending.bytes k.line;
+      piece = h.piece;
+    }

@@ -1,0 +1,84 @@
+-- Fields that are written one after the other.
+use Rattle.std.proofs.Common.{◌≡◌, ℕ, ◌+◌, ◌-◌, ◌*◌, ◌<◌, ◌≤◌, List, [], ◌∷◌, ◌++◌, length, map, take, drop, set, get_or, replicate, refl, sym, ap, ◌∙◌, add-one, arith}
+use Rattle.std.specs.Prelude.{flat_map}
+use Rattle.std.proofs.Math.Seq.{take-suc, take-suc-set}
+use Rattle.std.proofs.lemmas.List.{append_assoc, append-nil, take_all, length-append, length-map, get_or-map, drop-drop, drop-replicate, length-take}
+use Rattle.std.proofs.lemmas.Slice.{take-put_mid, drop-put_mid}
+use borrow.Rule.Slice.PartMut.{put_mid}
+use Rattle.paw_state.specs.declared.fields.Row.{Row}
+use Rattle.paw_state.specs.Fields.{zeros, filled, joined, row_bytes}
+
+-- ---- zeros ----
+
+pub zeros_all : (n : ℕ) → replicate n 0 ≡ zeros n
+unfolding zeros
+zeros_all n = refl
+
+pub drop-zeros : (n m : ℕ) → drop n (zeros m) ≡ zeros (m - n)
+unfolding zeros
+drop-zeros n m = drop-replicate n m 0
+
+-- ---- a field more ----
+
+pub zeros_behind : (bytes field : List ℕ) (count : ℕ) → count + length field ≤ 4096 → length bytes ≡ 4096 → drop count bytes ≡ zeros (4096 - count)
+    → drop (count + length field) (put_mid count (count + length field - count) bytes field) ≡ zeros (4096 - (count + length field))
+zeros_behind bytes field count room size behind =
+    let k : count + length field - count ≡ length field = omega arith in
+    let n : 4096 - count - length field ≡ 4096 - (count + length field) = omega arith in
+    drop-put_mid count (count + length field - count) bytes field (count + length field) (omega arith) (omega arith) (sym k)
+    ∙ (sym (drop-drop (length field) count bytes)
+    ∙ (ap (drop (length field)) behind ∙ (drop-zeros (length field) (4096 - count) ∙ ap zeros n)))
+
+pub one_more : (bytes field old : List ℕ) (count : ℕ) → count + length field ≤ 4096 → length bytes ≡ 4096 → take count bytes ≡ old
+    → take (count + length field) (put_mid count (count + length field - count) bytes field) ≡ old ++ field
+one_more bytes field old count room size h =
+    take-put_mid count (count + length field - count) bytes field (count + length field) refl (omega arith)
+    ∙ ap (λ (l : List ℕ). l ++ field) h
+
+-- what was written has its count of bytes
+pub count_of : (bytes old : List ℕ) (count : ℕ) → count ≤ 4096 → length bytes ≡ 4096 → take count bytes ≡ old → length old ≡ count
+count_of bytes old count low size h = ap length (sym h) ∙ omega (arith, length-take count bytes)
+
+-- ---- three fields, and more ----
+
+pub three : (w0 w1 w2 w3 x y z : List ℕ) → w1 ≡ w0 ++ x → w2 ≡ w1 ++ y → w3 ≡ w2 ++ z → w3 ≡ w0 ++ joined (x ∷ y ∷ z ∷ [])
+three w0 w1 w2 w3 x y z e f g = rw (g, f, e) (simp (append_assoc, append-nil))
+
+-- bytes in front of 255 zeros
+pub filled_behind : (bytes new : List ℕ) → new ≡ bytes → new ++ drop (length bytes) (replicate 255 0) ≡ filled 255 bytes
+filled_behind bytes new h = rw (h, zeros_all 255) (ap (λ (l : List ℕ). bytes ++ l) (drop-zeros (length bytes) 255))
+
+-- ---- rows ----
+
+pub length-rows : (rows : List Row) → length (flat_map row_bytes rows) ≡ 5 * length rows
+length-rows [] = refl
+length-rows (r ∷ rs) = length-append (row_bytes r) (flat_map row_bytes rs) ∙ (ap (λ n. 5 + n) (length-rows rs) ∙ omega arith)
+
+pub room_for_row : (rows : List Row) (old new : List ℕ) (i : ℕ) → i < length rows → length rows ≡ 11 → new ≡ old ++ flat_map row_bytes (take i rows)
+    → length old + 55 ≤ 4096 → length new + 5 ≤ 4096
+room_for_row rows old new i low size h room =
+    let n : length new ≡ length old + 5 * length (take i rows) =
+    ap length h ∙ (length-append old (flat_map row_bytes (take i rows)) ∙ ap (λ k. length old + k) (length-rows (take i rows))) in
+    omega (arith, n, length-take i rows)
+
+-- ---- lists that are mapped one by one ----
+
+pub mapped_more : {A B : Type 0} → (f : A → B) (xs : List A) (ys : List B) (i : ℕ) (y : B) (x : A) → i < length xs → i < length ys
+    → take i ys ≡ take i (map f xs) → y ≡ f (get_or xs i x) → take (i + 1) (set ys i y) ≡ take (i + 1) (map f xs)
+mapped_more {B = B} f xs ys i y x low room h e =
+    let k : i < length (map f xs) = omega (arith, length-map xs f) in
+    rw add-one (take-suc-set ys i y room ∙ (ap (λ (l : List B). l ++ y ∷ []) h ∙ (ap (λ (z : B). take i (map f xs) ++ z ∷ []) e
+    ∙ (ap (λ (z : B). take i (map f xs) ++ z ∷ []) (sym (get_or-map f xs i x (f x) low)) ∙ sym (take-suc (map f xs) i (f x) k)))))
+
+pub mapped_all : {A B : Type 0} → (f : A → B) (xs : List A) (ys : List B) (i : ℕ) → length xs ≡ 11 → length ys ≡ 11 → 11 ≤ i
+    → take i ys ≡ take i (map f xs) → ys ≡ map f xs
+mapped_all f xs ys i kx ky low h =
+    sym (take_all i ys (omega arith)) ∙ (h ∙ take_all i (map f xs) (omega (arith, length-map xs f)))
+
+-- ---- all fields ----
+
+pub all_written : (w0 w1 w2 w3 w4 last x y z t : List ℕ) → w0 ≡ [] → w1 ≡ w0 ++ x → w2 ≡ w1 ++ y → w3 ≡ w2 ++ z → w4 ≡ w3 ++ t → length w4 ≡ 1371
+    → last ≡ w4 ++ zeros (4096 - length w4) → last ≡ joined (x ∷ y ∷ z ∷ t ∷ []) ++ zeros 2725
+all_written w0 w1 w2 w3 w4 last x y z t e0 e1 e2 e3 e4 n e =
+    let all : w4 ≡ joined (x ∷ y ∷ z ∷ t ∷ []) = rw (e4, e3, e2, e1, e0) (simp (append_assoc, append-nil)) in
+    e ∙ (ap (λ (k : ℕ). w4 ++ zeros (4096 - k)) n ∙ ap (λ (l : List ℕ). l ++ zeros 2725) all)

@@ -1,0 +1,5 @@
+use Rattle.paw_state.proofs.Recorded.{state_of_parts}
+use Rattle.paw_state.proofs.laws.state_of_parts.Goals as goal
+
+pub returns : goal.returns
+returns c = record { same = state_of_parts }

@@ -1,0 +1,19 @@
+use Rattle.std.proofs.Common.{◌∙◌, arith}
+use Rattle.std.proofs.lemmas.List.{length-set}
+use Rattle.paw_state.specs.declared.fields.Row.{Row}
+use Rattle.paw_state.specs.Parts.{frame_in}
+use Rattle.paw_state.proofs.Written.{mapped_more, mapped_all}
+use Rattle.paw_state.proofs.read.frame_rows.Goals as goal
+
+-- what stands for a row past the last
+abbrev empty : Row
+empty = record { table = 0; entry = 0; at = 0; acted = 0 }
+
+pub loop-i-preserved : goal.loop-i-preserved
+loop-i-preserved c = (
+  length-set c.loop-i.frames c.loop-i.i c.frame_in.result ∙ c.loop-i.invariant.0,
+  mapped_more frame_in c.args.rows.now c.loop-i.frames c.loop-i.i c.frame_in.result empty (omega arith) (omega arith) c.loop-i.invariant.1 c.frame_in.ensures.value,
+)
+
+pub returns : goal.returns
+returns c = record { value = mapped_all frame_in c.args.rows.now c.loop-i.frames c.loop-i.i (omega arith) c.loop-i.invariant.0 (omega arith) c.loop-i.invariant.1 }

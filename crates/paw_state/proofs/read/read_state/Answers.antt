@@ -1,0 +1,53 @@
+use Rattle.std.proofs.Common.{◌≡◌, ℕ, refl, sym, ap, ◌∙◌, Option, Some, None}
+use Rattle.std.specs.Prelude.{Result, Ok, Err, IsOk, IsErr, IfErr}
+use Rattle.std.proofs.lemmas.Result.{err_from_is_err_and}
+use Rattle.paw_state.specs.declared.StateFault.{StateFault}
+use Rattle.paw_state.specs.Faults.{fields_fault}
+use Rattle.paw_state.specs.Parts.{state_in}
+use Rattle.paw_state.specs.Fit.{unfit, state_read}
+use Rattle.paw_state.proofs.Told.{piece_read}
+use Rattle.paw_state.proofs.Lawful.{fit_has_none, none_is_fit, is_read}
+use Rattle.paw_state.proofs.read.read_state.Goals as goal
+
+not_both : {A E : Type 0} → (r : Result A E) → IsErr r → IsOk r → ⊥
+not_both (Ok x) h k = cc
+not_both (Err e) h k = cc
+
+named : {A : Type 0} → (r : Result A StateFault) (e : StateFault) (o : Option ℕ) → r ≡ Err e → o ≡ Some e.at → IfErr r (λ f. o ≡ Some f.at)
+named r e o is h = rw is h
+
+pub returns-in_err-check-clause-fit : goal.returns-in_err-check-clause-fit
+returns-in_err-check-clause-fit g c =
+    let game = g.T.Tables.game c.args.tables.now in
+    let e : Some c.in_err-check.field-0.0.at ≡ unfit game c.args.bytes.now = c.in_err-check.ensures.value ∙ ap (fields_fault game) c.at-fields.ensures.value in (
+      λ ok. absurd (not_both c.from_residual.result c.from_residual.ensures.0 ok),
+      λ fit. let none = fit_has_none game c.args.bytes.now c.check.ensures.valid fit in cc,
+    )
+
+pub returns-in_err-check-clause-fault : goal.returns-in_err-check-clause-fault
+returns-in_err-check-clause-fault g c =
+    let game = g.T.Tables.game c.args.tables.now in
+    let e : Some c.in_err-check.field-0.0.at ≡ unfit game c.args.bytes.now = c.in_err-check.ensures.value ∙ ap (fields_fault game) c.at-fields.ensures.value in
+    let p = err_from_is_err_and c.from_residual.result c.from_residual.ensures.1 in
+    named c.from_residual.result p.0 (unfit game c.args.bytes.now) p.1 (sym e ∙ ap (λ (f : StateFault). Some f.at) (sym p.2))
+
+pub returns-clause-read : goal.returns-clause-read
+returns-clause-read g c =
+    let game = g.T.Tables.game c.args.tables.now in
+    let none : unfit game c.args.bytes.now ≡ None = sym (c.in_ok-check.ensures.value ∙ ap (fields_fault game) c.at-fields.ensures.value) in
+    is_read game c.args.bytes.now c.restored.result c.check.ensures.valid c.at-fields.ensures.room c.at-fields.ensures.bytes none
+    (c.restored.ensures.state ∙ ap (state_in game) c.at-fields.ensures.value) c.restored.ensures.machine c.restored.ensures.stands
+
+pub returns-clause-fit : goal.returns-clause-fit
+returns-clause-fit g c =
+    let game = g.T.Tables.game c.args.tables.now in
+    let none : unfit game c.args.bytes.now ≡ None = sym (c.in_ok-check.ensures.value ∙ ap (fields_fault game) c.at-fields.ensures.value) in
+    (λ ok. none_is_fit game c.args.bytes.now c.check.ensures.valid c.at-fields.ensures.room c.at-fields.ensures.bytes none, λ fit. refl)
+
+pub returns-clause-piece : goal.returns-clause-piece
+returns-clause-piece g c =
+    let game = g.T.Tables.game c.args.tables.now in
+    let none : unfit game c.args.bytes.now ≡ None = sym (c.in_ok-check.ensures.value ∙ ap (fields_fault game) c.at-fields.ensures.value) in
+    let r = is_read game c.args.bytes.now c.restored.result c.check.ensures.valid c.at-fields.ensures.room c.at-fields.ensures.bytes none
+    (c.restored.ensures.state ∙ ap (state_in game) c.at-fields.ensures.value) c.restored.ensures.machine c.restored.ensures.stands in
+    piece_read (state_read c.restored.result) c.args.bytes.now r.are c.at-fields.ensures.room r.fits.piece

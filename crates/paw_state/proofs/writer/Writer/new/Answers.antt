@@ -1,0 +1,6 @@
+use Rattle.std.proofs.Common.{lit≤}
+use Rattle.paw_state.proofs.Written.{zeros_all}
+use Rattle.paw_state.proofs.writer.Writer.new.Goals as goal
+
+pub invariant_of-result : goal.invariant_of-result
+invariant_of-result c = (lit≤ tt, zeros_all 4096)

@@ -1,0 +1,165 @@
+-- The first field of a state that breaks its rule.
+use Rattle.std.specs.Prelude.{ℕ, suc, ◌+◌, ◌-◌, ◌*◌, ◌==◌, ◌||◌, Bool, List, [], ◌∷◌, Option, Some, None, length, take, drop, is_some, nat_lt, nat_le, slice_get, Result, Ok, Err, if◌then◌else◌}
+use Rattle.paw_game.specs.Game.{GameLists}
+use Rattle.paw_game.specs.Tables.{head_at, condact_at}
+use Rattle.paw_game.specs.Valid.{is_place}
+use Rattle.paw_effects.specs.declared.act.Prompt.{Prompt}
+use Rattle.paw_effects.specs.declared.act.Prompt.TheVariants as prompt
+use Rattle.paw_reading.specs.declared.places.OpenLoop.{OpenLoop}
+use Rattle.paw_process.specs.Kept.{waiting_code, may_open, has_code, parameter_of, is_table, count_fits, or_none}
+use Rattle.paw_state.specs.declared.StateFault.{StateFault}
+use Rattle.paw_state.specs.declared.fields.Row.{Row}
+use Rattle.paw_state.specs.declared.fields.Fields.{Fields}
+
+-- ---- rules and faults ----
+
+-- a fault is the place of the field that breaks a rule
+abbrev pub fault_of : Result (Unit {0}) StateFault → Option ℕ
+fault_of (Ok u) = None
+fault_of (Err e) = Some e.at
+
+-- the field at this place has a rule, which holds or not
+abbrev pub rule : ℕ → Bool → Option ℕ
+rule at holds = if holds then None else Some at
+
+-- the first of these that is a fault
+abbrev pub or_first : Option ℕ → Option ℕ → Option ℕ
+or_first None later = later
+or_first (Some at) later = Some at
+
+abbrev pub first : List (Option ℕ) → Option ℕ
+first [] = None
+first (o ∷ later) = or_first o (first later)
+
+-- of bytes from this place on, the first that isn't so
+unfoldable pub first_not : (ℕ → Bool) → ℕ → List ℕ → Option ℕ
+first_not p at [] = None
+first_not p at (b ∷ bs) = if p b then first_not p (suc at) bs else Some at
+
+-- ---- the rules of the fields ----
+
+abbrev pub is_zero : ℕ → Bool
+is_zero b = b == 0
+
+-- of 255 places the first are those of the objects, each a place of the game; the others are 0
+abbrev pub places_fault : GameLists → ℕ → List ℕ → Option ℕ
+places_fault g at places = first (
+    first_not (is_place (length g.locations)) at (take (length g.objects) places)
+    ∷ first_not is_zero (at + length g.objects) (drop (length g.objects) places)
+    ∷ [])
+
+-- with nothing saved the bytes of the saved position are 0; else its places are as those now
+abbrev pub saved_fault : GameLists → Fields → Option ℕ
+saved_fault g f =
+    if f.saved == 0 then first (first_not is_zero 512 f.saved_flags ∷ first_not is_zero 768 f.saved_places ∷ [])
+    else places_fault g 768 f.saved_places
+
+-- at most 1,000,000,000 lines were taken, and each piece drew at most 200,000 words
+abbrev pub numbers_fault : Fields → Option ℕ
+numbers_fault f = first (
+    rule 1039 (nat_le f.events 1000000000)
+    ∷ rule 1031 (nat_le f.draws (200000 * (f.events + 1)))
+    ∷ [])
+
+-- the prompt of a code from 0 to 4
+abbrev pub prompt_of : ℕ → Prompt
+prompt_of n =
+    if n == 0 then prompt.Main else if n == 1 then prompt.Quit else if n == 2 then prompt.Again else if n == 3 then prompt.Key else prompt.Over
+
+-- one to eleven tables are open at the prompts inside tables, and none at the others
+abbrev pub prompt_fault : Fields → Option ℕ
+prompt_fault f = first (
+    rule 1047 (nat_le f.prompt 4)
+    ∷ rule 1048 (count_fits (waiting_code (prompt_of f.prompt)) f.count)
+    ∷ [])
+
+-- a row that is not used is 0
+abbrev pub unused_fault : ℕ → Row → Option ℕ
+unused_fault at r = first (
+    rule at (r.table == 0)
+    ∷ rule (at + 1) (r.entry == 0)
+    ∷ rule (at + 3) (r.at == 0)
+    ∷ rule (at + 4) (r.acted == 0)
+    ∷ [])
+
+-- one that is used is of the table that was called (the outermost of table 0, 1 or 2), and stands at a condact of this code
+abbrev pub used_fault : GameLists → ℕ → Option ℕ → ℕ → Row → Option ℕ
+used_fault g code caller at r = first (
+    rule at (may_open caller r.table)
+    ∷ rule (at + 1) (is_some (head_at g r.table r.entry))
+    ∷ rule (at + 3) (has_code code (condact_at g r.table r.entry r.at))
+    ∷ rule (at + 4) (nat_le r.acted 1)
+    ∷ [])
+
+-- of n rows that are used from this one on, each but the last is at a PROCESS (85), and the last at the prompt's condact
+abbrev pub row_fault : GameLists → ℕ → Option ℕ → ℕ → ℕ → Row → Option ℕ
+row_fault g code caller n at r =
+    if n == 0 then unused_fault at r else used_fault g (if n == 1 then code else 85) caller at r
+
+-- the table that the PROCESS of a row calls
+abbrev pub called : GameLists → Row → Option ℕ
+called g r = Some (parameter_of (condact_at g r.table r.entry r.at))
+
+unfoldable pub rows_fault : GameLists → ℕ → Option ℕ → ℕ → ℕ → List Row → Option ℕ
+rows_fault g code caller n at [] = None
+rows_fault g code caller n at (r ∷ rs) =
+    or_first (row_fault g code caller n at r) (rows_fault g code (called g r) (n - 1) (at + 5) rs)
+
+-- without an open loop its bytes are 0
+abbrev pub no_loop_fault : OpenLoop → Option ℕ
+no_loop_fault l = first (
+    rule 1105 (l.level == 0)
+    ∷ rule 1106 (l.table == 0)
+    ∷ rule 1107 (l.entry == 0)
+    ∷ rule 1109 (l.at == 0)
+    ∷ rule 1110 (l.place == 0)
+    ∷ rule 1111 (l.last == 0)
+    ∷ [])
+
+-- the table of a row
+abbrev pub row_table : Option Row → Option ℕ
+row_table None = None
+row_table (Some r) = Some r.table
+
+-- an open loop is at a DOALL (86) of the table of its level, and its place and its last object are the game's
+abbrev pub loop_fault : GameLists → Fields → OpenLoop → Option ℕ
+loop_fault g f l = first (
+    rule 1105 (nat_lt l.level f.count)
+    ∷ rule 1106 (is_table (row_table (slice_get f.rows l.level)) l.table)
+    ∷ rule 1107 (is_some (head_at g l.table l.entry))
+    ∷ rule 1109 (has_code 86 (condact_at g l.table l.entry l.at))
+    ∷ rule 1110 (is_place (length g.locations) l.place)
+    ∷ rule 1111 (nat_lt l.last (length g.objects))
+    ∷ [])
+
+-- no loop is open where no table is
+abbrev pub turning_fault : GameLists → Fields → Option ℕ
+turning_fault g f = first (
+    rule 1104 (nat_le f.looping (if f.count == 0 then 0 else 1))
+    ∷ (if f.looping == 0 then no_loop_fault f.turning else loop_fault g f f.turning)
+    ∷ [])
+
+-- the condact of the prompt, and which tables are open
+abbrev pub frames_fault : GameLists → Fields → Option ℕ
+frames_fault g f = rows_fault g (or_none (waiting_code (prompt_of f.prompt))) None f.count 1049 f.rows
+
+-- nothing is pending where no table is open; the bytes behind what is pending are 0
+abbrev pub pending_fault : Fields → Option ℕ
+pending_fault f = first (
+    rule 1113 (is_some (waiting_code (prompt_of f.prompt)) || (f.pending == 0))
+    ∷ first_not is_zero (1114 + f.pending) (drop f.pending f.line)
+    ∷ [])
+
+-- The place of the first field that breaks its rule, in the order of the fields, but for one: how many lines were taken is
+-- looked at before how many words were drawn
+abbrev pub fields_fault : GameLists → Fields → Option ℕ
+fields_fault g f = first (
+    places_fault g 256 f.places
+    ∷ rule 511 (nat_le f.saved 1)
+    ∷ saved_fault g f
+    ∷ numbers_fault f
+    ∷ prompt_fault f
+    ∷ frames_fault g f
+    ∷ turning_fault g f
+    ∷ pending_fault f
+    ∷ [])

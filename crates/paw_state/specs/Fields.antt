@@ -1,0 +1,159 @@
+-- The fields of a state's bytes. Numbers of several bytes have the low one first.
+use Rattle.std.specs.Prelude.{ℕ, zero, suc, ◌+◌, ◌-◌, List, [], ◌∷◌, ◌++◌, Option, Some, None, length, map, flat_map, drop, replicate, slice_index, slice_range, if◌then◌else◌}
+use Rattle.std.specs.Int.{w16, w64, to_le_bytes, from_le_bytes}
+use Rattle.paw_game.specs.Image.{two_bytes}
+use Rattle.paw_world.specs.World.{Position}
+use Rattle.paw_effects.specs.declared.act.Prompt.{Prompt}
+use Rattle.paw_effects.specs.declared.act.Prompt.TheVariants as prompt
+use Rattle.paw_reading.specs.declared.places.Frame.{Frame}
+use Rattle.paw_reading.specs.declared.places.OpenLoop.{OpenLoop}
+use Rattle.paw_state.specs.declared.fields.Row.{Row}
+use Rattle.paw_state.specs.declared.fields.Fields.{Fields}
+use Rattle.paw_state.specs.State.{State}
+
+-- ---- from a state to its bytes ----
+
+-- so many bytes that are 0
+unfoldable pub zeros : ℕ → List ℕ
+zeros n = replicate n 0
+
+-- these bytes, filled up with zeros to so many
+abbrev pub filled : ℕ → List ℕ → List ℕ
+filled n bytes = bytes ++ zeros (n - length bytes)
+
+-- a number of eight bytes
+abbrev pub eight_bytes : ℕ → List ℕ
+eight_bytes n = to_le_bytes w64 n
+
+-- a frame: table, entry, condact, and 1 where an action was carried out
+abbrev pub row_bytes : Row → List ℕ
+row_bytes r = r.table ∷ (two_bytes r.entry ++ r.at ∷ r.acted ∷ [])
+
+-- the open loop: level, table, entry, condact, place, last object
+abbrev pub loop_bytes : OpenLoop → List ℕ
+loop_bytes l = l.level ∷ l.table ∷ (two_bytes l.entry ++ l.at ∷ l.place ∷ l.last ∷ [])
+
+-- fields one after the other
+abbrev pub joined : List (List ℕ) → List ℕ
+joined [] = []
+joined (field ∷ fields) = field ++ joined fields
+
+-- flags and places, now and in the saved position
+unfoldable pub world_bytes : Fields → List ℕ
+world_bytes f = joined (f.flags ∷ f.places ∷ (f.saved ∷ []) ∷ f.saved_flags ∷ f.saved_places ∷ [])
+
+-- the seed, how many words were drawn, and how many lines were taken
+unfoldable pub number_bytes : Fields → List ℕ
+number_bytes f = joined (eight_bytes f.seed ∷ eight_bytes f.draws ∷ eight_bytes f.events ∷ [])
+
+-- the prompt, the rows of the open tables, and the open loop
+unfoldable pub table_bytes : Fields → List ℕ
+table_bytes f = joined ((f.prompt ∷ f.count ∷ []) ∷ flat_map row_bytes f.rows ∷ (f.looping ∷ []) ∷ loop_bytes f.turning ∷ [])
+
+-- what is pending, and how many bytes the last piece has
+unfoldable pub pending_bytes : Fields → List ℕ
+pending_bytes f = joined ((f.earlier ∷ f.pending ∷ []) ∷ f.line ∷ two_bytes f.piece ∷ [])
+
+-- the 1,371 bytes of a state's fields
+abbrev pub field_bytes : Fields → List ℕ
+field_bytes f = joined (world_bytes f ∷ number_bytes f ∷ table_bytes f ∷ pending_bytes f ∷ [])
+
+-- 1 for what is there, 0 for what isn't
+abbrev pub presence : {A : Type 0} → Option A → ℕ
+presence None = 0
+presence (Some x) = 1
+
+-- the flags and the places of a saved position; all 0 where there is none
+abbrev pub saved_flags : Option Position → List ℕ
+saved_flags None = zeros 256
+saved_flags (Some q) = q.flags
+
+abbrev pub saved_places : Option Position → List ℕ
+saved_places None = zeros 255
+saved_places (Some q) = filled 255 q.places
+
+abbrev pub prompt_code : Prompt → ℕ
+prompt_code prompt.Main = 0
+prompt_code prompt.Quit = 1
+prompt_code prompt.Again = 2
+prompt_code prompt.Key = 3
+prompt_code prompt.Over = 4
+
+abbrev pub row_of : Frame → Row
+row_of f = record { table = f.table; entry = f.entry; at = f.at; acted = (if f.acted then 1 else 0) }
+
+abbrev pub loop_or_zeros : Option OpenLoop → OpenLoop
+loop_or_zeros None = record { level = 0; table = 0; entry = 0; at = 0; place = 0; last = 0 }
+loop_or_zeros (Some l) = l
+
+-- the fields of a state
+abbrev pub fields_of : State → Fields
+fields_of s = record {
+  flags = s.world.flags;
+  places = filled 255 s.world.places;
+  saved = presence s.world.saved;
+  saved_flags = saved_flags s.world.saved;
+  saved_places = saved_places s.world.saved;
+  seed = s.world.seed;
+  draws = s.world.draws;
+  events = s.events;
+  prompt = prompt_code s.prompt;
+  count = s.frames.count;
+  rows = map row_of s.frames.rows;
+  looping = presence s.frames.turning;
+  turning = loop_or_zeros s.frames.turning;
+  earlier = s.pending.earlier;
+  pending = length s.pending.bytes;
+  line = filled 255 s.pending.bytes;
+  piece = s.piece;
+}
+
+-- the bytes of a state
+abbrev pub state_bytes : State → List ℕ
+state_bytes s = field_bytes (fields_of s)
+
+-- ---- from bytes to the fields that they are ----
+
+-- the number in the two bytes, or in the eight, from a place on
+abbrev pub two_at : List ℕ → ℕ → ℕ
+two_at bytes at = from_le_bytes w16 (slice_range bytes at (at + 2))
+
+abbrev pub eight_at : List ℕ → ℕ → ℕ
+eight_at bytes at = from_le_bytes w64 (slice_range bytes at (at + 8))
+
+abbrev pub row_at : List ℕ → Row
+row_at bytes = record { table = slice_index bytes 0; entry = two_at bytes 1; at = slice_index bytes 3; acted = slice_index bytes 4 }
+
+-- so many rows of five bytes
+unfoldable pub rows_at : ℕ → List ℕ → List Row
+rows_at zero bytes = []
+rows_at (suc n) bytes = row_at bytes ∷ rows_at n (drop 5 bytes)
+
+-- where each field stands
+abbrev pub fields_at : List ℕ → Fields
+fields_at bytes = record {
+  flags = slice_range bytes 0 256;
+  places = slice_range bytes 256 511;
+  saved = slice_index bytes 511;
+  saved_flags = slice_range bytes 512 768;
+  saved_places = slice_range bytes 768 1023;
+  seed = eight_at bytes 1023;
+  draws = eight_at bytes 1031;
+  events = eight_at bytes 1039;
+  prompt = slice_index bytes 1047;
+  count = slice_index bytes 1048;
+  rows = rows_at 11 (drop 1049 bytes);
+  looping = slice_index bytes 1104;
+  turning = record {
+    level = slice_index bytes 1105;
+    table = slice_index bytes 1106;
+    entry = two_at bytes 1107;
+    at = slice_index bytes 1109;
+    place = slice_index bytes 1110;
+    last = slice_index bytes 1111;
+  };
+  earlier = slice_index bytes 1112;
+  pending = slice_index bytes 1113;
+  line = slice_range bytes 1114 1369;
+  piece = two_at bytes 1369;
+}

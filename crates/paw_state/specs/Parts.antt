@@ -1,0 +1,63 @@
+-- What the fields of a state say.
+use Rattle.std.specs.Prelude.{◌≡◌, ℕ, ◌==◌, List, Option, Some, None, length, map, take, if◌then◌else◌}
+use Rattle.paw_game.specs.Game.{GameLists}
+use Rattle.paw_world.specs.World.{World, Position}
+use Rattle.paw_phrase.specs.Pending.{PendingLine}
+use Rattle.paw_reading.specs.declared.places.Frame.{Frame}
+use Rattle.paw_reading.specs.declared.places.OpenLoop.{OpenLoop}
+use Rattle.paw_process.specs.declared.kept.Frames.{Frames}
+use Rattle.paw_state.specs.declared.fields.Row.{Row}
+use Rattle.paw_state.specs.declared.fields.Fields.{Fields}
+use Rattle.paw_state.specs.State.{State}
+use Rattle.paw_state.specs.Faults.{prompt_of}
+
+-- a position: the flags, and the places of the game's objects
+abbrev pub position_in : GameLists → List ℕ → List ℕ → Position
+position_in g flags places = record { flags = flags; places = take (length g.objects) places }
+
+abbrev pub saved_in : GameLists → Fields → Option Position
+saved_in g f = if f.saved == 0 then None else Some (position_in g f.saved_flags f.saved_places)
+
+-- the world of the game with these flags, places, saved position and draws
+abbrev pub world_in : GameLists → Fields → World
+world_in g f = record {
+  facts = map (λ o. o.facts) g.objects;
+  locations = length g.locations;
+  flags = f.flags;
+  places = take (length g.objects) f.places;
+  saved = saved_in g f;
+  seed = f.seed;
+  draws = f.draws;
+}
+
+abbrev pub frame_in : Row → Frame
+frame_in r = record { table = r.table; entry = r.entry; at = r.at; acted = (r.acted == 1) }
+
+abbrev pub turning_in : Fields → Option OpenLoop
+turning_in f = if f.looping == 0 then None else Some f.turning
+
+abbrev pub frames_in : Fields → Frames
+frames_in f = record { count = f.count; rows = map frame_in f.rows; turning = turning_in f }
+
+abbrev pub pending_in : Fields → PendingLine
+pending_in f = record { bytes = take f.pending f.line; earlier = f.earlier }
+
+-- the state of these fields
+abbrev pub state_in : GameLists → Fields → State
+state_in g f = record {
+  world = world_in g f;
+  frames = frames_in f;
+  pending = pending_in f;
+  prompt = prompt_of f.prompt;
+  events = f.events;
+  piece = f.piece;
+}
+
+-- the flags and the places of the fields' saved position are the world's, now and saved
+abbrev pub SetsSaved : Fields → World → World → Type 0
+SetsSaved f old new =
+    new ≡ record old {
+      flags = f.saved_flags;
+      places = take (length old.places) f.saved_places;
+      saved = Some (record { flags = f.saved_flags; places = take (length old.places) f.saved_places });
+    }

@@ -1,0 +1,276 @@
+// The rules of a state's fields.
+
+ghost use Rattle.std.specs.Prelude.{◌≡◌, ◌+◌, ◌<◌, ◌≤◌, ◌^◌, ◌*◌, length, slice_get};
+ghost use Rattle.paw_game.specs.Valid.{Valid, is_place};
+ghost use Rattle.paw_process.specs.Kept.{is_table};
+ghost use Rattle.paw_state.specs.Faults.{fault_of, rule, first_not, is_zero, places_fault, saved_fault, numbers_fault, prompt_of, prompt_fault, unused_fault, used_fault, row_fault, rows_fault, no_loop_fault, row_table, loop_fault, turning_fault, frames_fault, pending_fault, fields_fault};
+
+use crate::StateFault;
+use crate::fields::{Fields, Row};
+use crate::layout::{
+    COUNT, DRAWS, EVENTS, LINE, LOOP_AT, LOOP_ENTRY, LOOP_LAST, LOOP_LEVEL, LOOP_PLACE, LOOP_TABLE,
+    LOOPING, PENDING, PLACES, PROMPT, ROW_ACTED, ROW_AT, ROW_ENTRY, ROW_LENGTH, ROWS, SAVED,
+    SAVED_FLAGS, SAVED_PLACES,
+};
+use paw_effects::act::Prompt;
+use paw_game::tables::Tables;
+use paw_process::{count_fits, has_code, is_place, may_open, parameter_of, waiting_code};
+use paw_reading::places::OpenLoop;
+
+/// Lines that a session may take.
+const MOST_EVENTS: u64 = 1_000_000_000;
+
+/// Random words that may be drawn in a piece.
+const MOST_DRAWS: u64 = 200_000;
+
+/// The code of PROCESS.
+const PROCESS: u8 = 85;
+
+/// The code of DOALL.
+const DOALL: u8 = 86;
+
+/// A fault at this place where the rule doesn't hold.
+fn rule(at: usize, holds: bool) -> Result<(), StateFault>
+    ensures value { fault_of result ≡ rule at holds }
+{
+    if holds {
+        Ok(())
+    } else {
+        Err(StateFault { at: at as u64 })
+    }
+}
+
+/// The first byte that isn't 0 is at fault.
+fn all_zero(at: usize, bytes: &[u8]) -> Result<(), StateFault>
+    requires near { at + length bytes.now < 2 ^ 64 }
+    ensures value { fault_of result ≡ first_not is_zero at bytes.now }
+{
+    for (i, byte) in bytes.iter().enumerate() {
+        rule(at + i, *byte == 0)?;
+    }
+    Ok(())
+}
+
+/// The first byte that is no place of a game with so many locations is at fault.
+fn all_places(locations: u16, at: usize, places: &[u8]) -> Result<(), StateFault>
+    requires near { at + length places.now < 2 ^ 64 }
+    ensures value { fault_of result ≡ first_not (is_place locations) at places.now }
+{
+    for (i, place) in places.iter().enumerate() {
+        rule(at + i, is_place(locations, *place))?;
+    }
+    Ok(())
+}
+
+/// The places of the objects, and zeros behind them.
+fn check_places<T: Tables>(tables: &T, at: usize, places: &[u8; 255]) -> Result<(), StateFault>
+    requires near { at < 4096 }
+    ensures value { fault_of result ≡ places_fault (T.game tables.now) at places.now }
+    ensures valid { Valid (T.game tables.now) }
+{
+    let counts = tables.counts();
+    let objects = counts.objects as usize;
+    all_places(counts.locations, at, &places[..objects])?;
+    all_zero(at + objects, &places[objects..])
+}
+
+/// The saved position.
+fn check_saved<T: Tables>(tables: &T, fields: &Fields) -> Result<(), StateFault>
+    ensures value { fault_of result ≡ saved_fault (T.game tables.now) fields.now }
+{
+    if fields.saved == 0 {
+        all_zero(SAVED_FLAGS, &fields.saved_flags)?;
+        all_zero(SAVED_PLACES, &fields.saved_places)
+    } else {
+        check_places(tables, SAVED_PLACES, &fields.saved_places)
+    }
+}
+
+/// The numbers of lines and of draws.
+fn check_numbers(fields: &Fields) -> Result<(), StateFault>
+    ensures value { fault_of result ≡ numbers_fault fields.now }
+{
+    rule(EVENTS, fields.events <= MOST_EVENTS)?;
+    rule(DRAWS, fields.draws <= MOST_DRAWS * (fields.events + 1))
+}
+
+/// The prompt of a code from 0 to 4.
+pub(crate) fn prompt_of(code: u8) -> Prompt
+    ensures value { result ≡ prompt_of code }
+{
+    match code {
+        0 => Prompt::Main,
+        1 => Prompt::Quit,
+        2 => Prompt::Again,
+        3 => Prompt::Key,
+        _ => Prompt::Over,
+    }
+}
+
+/// The prompt, and how many tables are turning.
+fn check_prompt(fields: &Fields) -> Result<(), StateFault>
+    ensures value { fault_of result ≡ prompt_fault fields.now }
+{
+    rule(PROMPT, fields.prompt <= 4)?;
+    rule(
+        COUNT,
+        count_fits(waiting_code(prompt_of(fields.prompt)), fields.count),
+    )
+}
+
+/// A row that isn't used.
+fn check_unused(at: usize, row: &Row) -> Result<(), StateFault>
+    requires near { at < 4096 }
+    ensures value { fault_of result ≡ unused_fault at row.now }
+{
+    rule(at, row.table == 0)?;
+    rule(at + ROW_ENTRY, row.entry == 0)?;
+    rule(at + ROW_AT, row.at == 0)?;
+    rule(at + ROW_ACTED, row.acted == 0)
+}
+
+/// A row that is used, at a condact of this code.
+fn check_used<T: Tables>(
+    tables: &T,
+    code: u8,
+    caller: Option<u8>,
+    at: usize,
+    row: &Row,
+) -> Result<(), StateFault>
+    requires near { at < 4096 }
+    ensures value { fault_of result ≡ used_fault (T.game tables.now) code caller at row.now }
+{
+    let condact = tables.condact(row.table, row.entry, row.at);
+    rule(at, may_open(caller, row.table))?;
+    rule(at + ROW_ENTRY, tables.head(row.table, row.entry).is_some())?;
+    rule(at + ROW_AT, has_code(code, condact))?;
+    rule(at + ROW_ACTED, row.acted <= 1)
+}
+
+/// A row where so many are used from it on: the last of these at this condact.
+fn check_row<T: Tables>(
+    tables: &T,
+    code: u8,
+    caller: Option<u8>,
+    used: u8,
+    at: usize,
+    row: &Row,
+) -> Result<(), StateFault>
+    requires near { at < 4096 }
+    ensures value { fault_of result ≡ row_fault (T.game tables.now) code caller used at row.now }
+{
+    match used {
+        0 => check_unused(at, row),
+        1 => check_used(tables, code, caller, at, row),
+        _ => check_used(tables, PROCESS, caller, at, row),
+    }
+}
+
+/// These rows, the first of which stands at this place.
+fn check_rows<T: Tables>(
+    tables: &T,
+    code: u8,
+    caller: Option<u8>,
+    used: u8,
+    at: usize,
+    rows: &[Row],
+) -> Result<(), StateFault>
+    requires near { at + 5 * length rows.now < 4096 }
+    ensures value { fault_of result ≡ rows_fault (T.game tables.now) code caller used at rows.now }
+{
+    let Some((row, rest)) = rows.split_first() else {
+        return Ok(());
+    };
+    check_row(tables, code, caller, used, at, row)?;
+    let called = parameter_of(tables.condact(row.table, row.entry, row.at));
+    let left = used.saturating_sub(1);
+    check_rows(tables, code, Some(called), left, at + ROW_LENGTH, rest)
+}
+
+/// The rows of the open tables, and the unused ones behind them.
+fn check_frames<T: Tables>(tables: &T, fields: &Fields) -> Result<(), StateFault>
+    ensures value { fault_of result ≡ frames_fault (T.game tables.now) fields.now }
+{
+    let code = waiting_code(prompt_of(fields.prompt)).unwrap_or(0);
+    check_rows(tables, code, None, fields.count, ROWS, &fields.rows)
+}
+
+/// The bytes of a loop where none is turning.
+fn check_no_loop(turning: &OpenLoop) -> Result<(), StateFault>
+    ensures value { fault_of result ≡ no_loop_fault turning.now }
+{
+    rule(LOOP_LEVEL, turning.level == 0)?;
+    rule(LOOP_TABLE, turning.table == 0)?;
+    rule(LOOP_ENTRY, turning.entry == 0)?;
+    rule(LOOP_AT, turning.at == 0)?;
+    rule(LOOP_PLACE, turning.place == 0)?;
+    rule(LOOP_LAST, turning.last == 0)
+}
+
+/// An open loop.
+fn check_loop<T: Tables>(tables: &T, fields: &Fields, turning: &OpenLoop) -> Result<(), StateFault>
+    ensures value { fault_of result ≡ loop_fault (T.game tables.now) fields.now turning.now }
+{
+    let counts = tables.counts();
+    let condact = tables.condact(turning.table, turning.entry, turning.at);
+    rule(LOOP_LEVEL, turning.level < fields.count)?;
+    rule(
+        LOOP_TABLE,
+        is_table_at(&fields.rows, turning.level, turning.table),
+    )?;
+    rule(
+        LOOP_ENTRY,
+        tables.head(turning.table, turning.entry).is_some(),
+    )?;
+    rule(LOOP_AT, has_code(DOALL, condact))?;
+    rule(LOOP_PLACE, is_place(counts.locations, turning.place))?;
+    rule(LOOP_LAST, u16::from(turning.last) < counts.objects)
+}
+
+/// Whether the row of this level is of this table.
+fn is_table_at(rows: &[Row], level: u8, table: u8) -> bool
+    ensures value { result ≡ is_table (row_table (slice_get rows.now level)) table }
+{
+    match rows.get(level as usize) {
+        None => false,
+        Some(row) => table == row.table,
+    }
+}
+
+/// Whether a loop is open, and its bytes.
+fn check_turning<T: Tables>(tables: &T, fields: &Fields) -> Result<(), StateFault>
+    ensures value { fault_of result ≡ turning_fault (T.game tables.now) fields.now }
+{
+    let most = if fields.count == 0 { 0 } else { 1 };
+    rule(LOOPING, fields.looping <= most)?;
+    if fields.looping == 0 {
+        check_no_loop(&fields.turning)
+    } else {
+        check_loop(tables, fields, &fields.turning)
+    }
+}
+
+/// What is pending.
+fn check_pending(fields: &Fields) -> Result<(), StateFault>
+    ensures value { fault_of result ≡ pending_fault fields.now }
+{
+    let inside = waiting_code(prompt_of(fields.prompt)).is_some();
+    rule(PENDING, inside || fields.pending == 0)?;
+    let pending = fields.pending as usize;
+    all_zero(LINE + pending, &fields.line[pending..])
+}
+
+/// The first field that breaks its rule in this game is at fault.
+pub(crate) fn check<T: Tables>(tables: &T, fields: &Fields) -> Result<(), StateFault>
+    ensures value { fault_of result ≡ fields_fault (T.game tables.now) fields.now }
+    ensures valid { Valid (T.game tables.now) }
+{
+    check_places(tables, PLACES, &fields.places)?;
+    rule(SAVED, fields.saved <= 1)?;
+    check_saved(tables, fields)?;
+    check_numbers(fields)?;
+    check_prompt(fields)?;
+    check_frames(tables, fields)?;
+    check_turning(tables, fields)?;
+    check_pending(fields)
+}

@@ -1,0 +1,236 @@
+// The fields of a state, as they stand in its bytes.
+
+ghost use Rattle.std.specs.Prelude.{◌≡◌, ◌+◌, ◌≤◌, ◌++◌, length, drop, flat_map, slice_range};
+ghost use Rattle.paw_state.specs.State.{AreBytes};
+ghost use Rattle.paw_state.specs.Fields.{zeros, two_at, eight_at, row_at, rows_at, row_bytes, loop_bytes, fields_at, world_bytes, number_bytes, table_bytes, pending_bytes, field_bytes};
+
+use crate::layout::{
+    COUNT, DRAWS, EARLIER, EVENTS, FLAGS, LINE, LOOP_AT, LOOP_ENTRY, LOOP_LAST, LOOP_LEVEL,
+    LOOP_PLACE, LOOP_TABLE, LOOPING, PENDING, PIECE, PLACES, PROMPT, ROW_ACTED, ROW_AT, ROW_ENTRY,
+    ROW_LENGTH, ROWS, SAVED, SAVED_FLAGS, SAVED_PLACES, SEED, STATE_ROOM,
+};
+use crate::writer::Writer;
+use paw_process::MOST_FRAMES;
+use paw_reading::places::OpenLoop;
+
+/// A frame, as it is kept: whether an action was carried out is a byte.
+#[derive(Clone, Copy, Drop)]
+pub(crate) struct Row {
+    pub(crate) table: u8,
+    pub(crate) entry: u16,
+    pub(crate) at: u8,
+    pub(crate) acted: u8,
+}
+
+impl Row {
+    /// A row that isn't used.
+    pub(crate) const EMPTY: Row = Row {
+        table: 0,
+        entry: 0,
+        at: 0,
+        acted: 0,
+    };
+}
+
+/// The fields of a state in the order of their bytes. What they say is not looked at here.
+#[derive(Drop)]
+pub(crate) struct Fields {
+    pub(crate) flags: [u8; 256],
+    pub(crate) places: [u8; 255],
+    pub(crate) saved: u8,
+    pub(crate) saved_flags: [u8; 256],
+    pub(crate) saved_places: [u8; 255],
+    pub(crate) seed: u64,
+    pub(crate) draws: u64,
+    pub(crate) events: u64,
+    pub(crate) prompt: u8,
+    pub(crate) count: u8,
+    pub(crate) rows: [Row; MOST_FRAMES],
+    pub(crate) looping: u8,
+    pub(crate) turning: OpenLoop,
+    pub(crate) earlier: u8,
+    pub(crate) pending: u8,
+    pub(crate) line: [u8; 255],
+    pub(crate) piece: u16,
+}
+
+/// The N bytes from a place on.
+fn array_at<const N: usize>(bytes: &[u8; STATE_ROOM], at: usize) -> [u8; N]
+    requires inside { at + N ≤ 4096 }
+    ensures value { result ≡ slice_range bytes.now at (at + N) }
+{
+    let mut array = [0; N];
+    array.copy_from_slice(&bytes[at..at + N]);
+    array
+}
+
+/// The number of two bytes at a place.
+fn two_at(bytes: &[u8; STATE_ROOM], at: usize) -> u16
+    requires inside { at + 2 ≤ 4096 }
+    ensures value { result ≡ two_at bytes.now at }
+{
+    u16::from_le_bytes(array_at(bytes, at))
+}
+
+/// The number of eight bytes at a place.
+fn eight_at(bytes: &[u8; STATE_ROOM], at: usize) -> u64
+    requires inside { at + 8 ≤ 4096 }
+    ensures value { result ≡ eight_at bytes.now at }
+{
+    u64::from_le_bytes(array_at(bytes, at))
+}
+
+/// The row at a place.
+fn row_at(bytes: &[u8; STATE_ROOM], at: usize) -> Row
+    requires inside { at + 5 ≤ 4096 }
+    ensures value { result ≡ row_at (drop at bytes.now) }
+{
+    Row {
+        table: bytes[at],
+        entry: two_at(bytes, at + ROW_ENTRY),
+        at: bytes[at + ROW_AT],
+        acted: bytes[at + ROW_ACTED],
+    }
+}
+
+/// All rows.
+fn rows_at(bytes: &[u8; STATE_ROOM]) -> [Row; MOST_FRAMES]
+    ensures value { result ≡ rows_at 11 (drop 1049 bytes.now) }
+{
+    let mut rows = [Row::EMPTY; MOST_FRAMES];
+    for i in 0..MOST_FRAMES {
+        rows[i] = row_at(bytes, ROWS + ROW_LENGTH * i);
+    }
+    rows
+}
+
+/// The bytes of the open loop.
+fn loop_at(bytes: &[u8; STATE_ROOM]) -> OpenLoop
+    ensures value { result ≡ (fields_at bytes.now).turning }
+{
+    OpenLoop {
+        level: bytes[LOOP_LEVEL],
+        table: bytes[LOOP_TABLE],
+        entry: two_at(bytes, LOOP_ENTRY),
+        at: bytes[LOOP_AT],
+        place: bytes[LOOP_PLACE],
+        last: bytes[LOOP_LAST],
+    }
+}
+
+impl Fields {
+    /// The fields that these bytes are.
+    pub(crate) fn at(bytes: &[u8; STATE_ROOM]) -> Fields
+        ensures value { result ≡ fields_at bytes.now }
+        ensures bytes { AreBytes bytes.now }
+        ensures room { 1371 ≤ length bytes.now }
+    {
+        Fields {
+            flags: array_at(bytes, FLAGS),
+            places: array_at(bytes, PLACES),
+            saved: bytes[SAVED],
+            saved_flags: array_at(bytes, SAVED_FLAGS),
+            saved_places: array_at(bytes, SAVED_PLACES),
+            seed: eight_at(bytes, SEED),
+            draws: eight_at(bytes, DRAWS),
+            events: eight_at(bytes, EVENTS),
+            prompt: bytes[PROMPT],
+            count: bytes[COUNT],
+            rows: rows_at(bytes),
+            looping: bytes[LOOPING],
+            turning: loop_at(bytes),
+            earlier: bytes[EARLIER],
+            pending: bytes[PENDING],
+            line: array_at(bytes, LINE),
+            piece: two_at(bytes, PIECE),
+        }
+    }
+
+    /// The bytes of these fields, and zeros behind them.
+    pub(crate) fn bytes(&self) -> [u8; STATE_ROOM]
+        ensures value { result ≡ field_bytes self.now ++ zeros 2725 }
+        ensures room { length result ≡ 4096 }
+    {
+        let mut writer = Writer::new();
+        self.put_world(&mut writer);
+        self.put_numbers(&mut writer);
+        self.put_tables(&mut writer);
+        self.put_pending(&mut writer);
+        writer.finish()
+    }
+
+    /// Flags and places, now and in the saved position.
+    #[tactic(auto, unfolding(crate::specs::Fields::world_bytes))]
+    fn put_world(&self, writer: &mut Writer)
+        requires room { length writer.old + 1023 ≤ 4096 }
+        ensures puts { writer.new ≡ writer.old ++ world_bytes self.now }
+        ensures length { length writer.new ≡ length writer.old + 1023 }
+    {
+        writer.put(&self.flags);
+        writer.put(&self.places);
+        writer.put(&[self.saved]);
+        writer.put(&self.saved_flags);
+        writer.put(&self.saved_places);
+    }
+
+    /// The seed, the draws and the lines.
+    #[tactic(auto, unfolding(crate::specs::Fields::number_bytes))]
+    fn put_numbers(&self, writer: &mut Writer)
+        requires room { length writer.old + 24 ≤ 4096 }
+        ensures puts { writer.new ≡ writer.old ++ number_bytes self.now }
+        ensures length { length writer.new ≡ length writer.old + 24 }
+    {
+        writer.put(&self.seed.to_le_bytes());
+        writer.put(&self.draws.to_le_bytes());
+        writer.put(&self.events.to_le_bytes());
+    }
+
+    /// The prompt, the rows of the open tables, and the open loop.
+    #[tactic(auto, unfolding(crate::specs::Fields::table_bytes))]
+    fn put_tables(&self, writer: &mut Writer)
+        requires room { length writer.old + 65 ≤ 4096 }
+        ensures puts { writer.new ≡ writer.old ++ table_bytes self.now }
+        ensures length { length writer.new ≡ length writer.old + 65 }
+    {
+        writer.put(&[self.prompt, self.count]);
+        self.put_rows(writer);
+        writer.put(&[self.looping]);
+        self.put_loop(writer);
+    }
+
+    /// The rows of the open tables.
+    fn put_rows(&self, writer: &mut Writer)
+        requires room { length writer.old + 55 ≤ 4096 }
+        ensures puts { writer.new ≡ writer.old ++ flat_map row_bytes self.now.rows }
+        ensures length { length writer.new ≡ length writer.old + 55 }
+    {
+        for row in &self.rows {
+            let [low, high] = row.entry.to_le_bytes();
+            writer.put(&[row.table, low, high, row.at, row.acted]);
+        }
+    }
+
+    /// The open loop.
+    fn put_loop(&self, writer: &mut Writer)
+        requires room { length writer.old + 7 ≤ 4096 }
+        ensures puts { writer.new ≡ writer.old ++ loop_bytes self.now.turning }
+        ensures length { length writer.new ≡ length writer.old + 7 }
+    {
+        let turning = &self.turning;
+        writer.put(&[turning.level, turning.table]);
+        writer.put(&turning.entry.to_le_bytes());
+        writer.put(&[turning.at, turning.place, turning.last]);
+    }
+
+    /// What is pending, and how many bytes the last piece has.
+    #[tactic(auto, unfolding(crate::specs::Fields::pending_bytes))]
+    fn put_pending(&self, writer: &mut Writer)
+        requires room { length writer.old + 259 ≤ 4096 }
+        ensures puts { writer.new ≡ writer.old ++ pending_bytes self.now }
+        ensures length { length writer.new ≡ length writer.old + 259 }
+    {
+        writer.put(&[self.earlier, self.pending]);
+        writer.put(&self.line);
+        writer.put(&self.piece.to_le_bytes());
+    }
+}

@@ -1,0 +1,78 @@
+// Where the fields of a state stand, from its first byte on.
+
+/// The bytes of a state.
+pub const STATE_LENGTH: usize = 1371;
+
+/// The room in which a state is kept. The bytes behind the state are 0.
+pub const STATE_ROOM: usize = 4096;
+
+/// 256 flags.
+pub const FLAGS: usize = 0;
+
+/// 255 places of objects.
+pub const PLACES: usize = 256;
+
+/// Whether there is a saved position: 0 or 1.
+pub const SAVED: usize = 511;
+
+/// Its 256 flags.
+pub const SAVED_FLAGS: usize = 512;
+
+/// Its 255 places.
+pub const SAVED_PLACES: usize = 768;
+
+/// The seed of the random words: eight bytes, as for the next two.
+pub const SEED: usize = 1023;
+
+/// How many of them were drawn.
+pub const DRAWS: usize = 1031;
+
+/// How many lines were taken.
+pub const EVENTS: usize = 1039;
+
+/// The prompt: 0 to 4.
+pub const PROMPT: usize = 1047;
+
+/// How many tables are open: 0 to 11.
+pub const COUNT: usize = 1048;
+
+/// Eleven rows of five bytes: table, entry (two bytes), condact, and whether an action was carried out.
+pub const ROWS: usize = 1049;
+
+/// The bytes of a row.
+pub const ROW_LENGTH: usize = 5;
+
+/// From the start of a row to its entry, its condact, and whether an action was carried out.
+pub const ROW_ENTRY: usize = 1;
+
+pub const ROW_AT: usize = 3;
+
+pub const ROW_ACTED: usize = 4;
+
+/// Whether a loop is open: 0 or 1.
+pub const LOOPING: usize = 1104;
+
+/// Its level, table, entry (two bytes), condact, place and last object.
+pub const LOOP_LEVEL: usize = 1105;
+
+pub const LOOP_TABLE: usize = 1106;
+
+pub const LOOP_ENTRY: usize = 1107;
+
+pub const LOOP_AT: usize = 1109;
+
+pub const LOOP_PLACE: usize = 1110;
+
+pub const LOOP_LAST: usize = 1111;
+
+/// The verb of the sentence before.
+pub const EARLIER: usize = 1112;
+
+/// How many bytes are pending.
+pub const PENDING: usize = 1113;
+
+/// These bytes, with room for 255.
+pub const LINE: usize = 1114;
+
+/// How many bytes the last piece has: two bytes.
+pub const PIECE: usize = 1369;

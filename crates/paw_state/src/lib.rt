@@ -1,0 +1,41 @@
+//! The bytes that a session keeps of a game that is played, and what comes back of them.
+#![tactic(auto)]
+
+ghost use Rattle.std.specs.Prelude.{◌≡◌};
+
+mod checks;
+mod fields;
+pub mod laws;
+mod layout;
+mod read;
+#[cfg(test)]
+mod tests;
+mod write;
+mod writer;
+
+pub use layout::{STATE_LENGTH, STATE_ROOM};
+use paw_effects::act::Prompt;
+use paw_phrase::Pending;
+use paw_process::Machine;
+use paw_world::world::World;
+pub use read::read_state;
+pub use write::write_state;
+
+/// What comes back of a state's bytes: the parts with which a player goes on, how many lines were taken (at most
+/// 1,000,000,000), and how many bytes the last piece has.
+#[derive(Drop)]
+pub struct Restored {
+    pub world: World,
+    pub machine: Machine,
+    pub pending: Pending,
+    pub prompt: Prompt,
+    pub events: u64,
+    pub piece: u16,
+}
+
+/// The place in a state's bytes of the first field that breaks its rule: 0 to 1,370. A field of several bytes is named
+/// at its first byte; each byte of an array is a field of its own.
+#[derive(Clone, Copy, Drop, PartialEq, Eq, Debug)]
+pub struct StateFault {
+    pub at: u64,
+}

@@ -1,0 +1,131 @@
+// From the bytes of a state to the parts of a game.
+
+ghost use Rattle.std.specs.Prelude.{◌+◌, ◌*◌, slice_index, ◌≡◌, ◌≢◌, ◌≤◌, ◌↔◌, None, length, map, IsOk, IfOk, IfErr};
+ghost use Rattle.paw_process.specs.Kept.{kept, restored, waiting_at, frames_fault, StandsAt};
+ghost use Rattle.paw_state.specs.Faults.{fields_fault};
+ghost use Rattle.paw_state.specs.Parts.{SetsSaved, world_in, frame_in, frames_in, state_in};
+ghost use Rattle.paw_state.specs.Fit.{Fit, unfit, state_read, IsRead};
+
+use crate::checks::{check, prompt_of};
+use crate::fields::{Fields, Row};
+use crate::layout::STATE_ROOM;
+use crate::{Restored, StateFault};
+use paw_effects::act::Prompt;
+use paw_effects::opening::opening_world;
+use paw_game::tables::Tables;
+use paw_phrase::Pending;
+use paw_process::{Frames, MOST_FRAMES, Machine};
+use paw_reading::places::Frame;
+use paw_world::world::World;
+
+/// What a state's bytes are of: the parts with which a player of this game goes on. The bytes from 1,371 on aren't read.
+/// Takes no memory.
+///
+/// # Errors
+/// The place of the first field that breaks its rule, exactly where the bytes are no state of this game.
+pub fn read_state<T: Tables>(tables: &T, bytes: &[u8; STATE_ROOM]) -> Result<Restored, StateFault>
+    ensures read { IfOk result (IsRead (T.game tables.now) bytes.now) }
+    ensures fit { IsOk result ↔ Fit (T.game tables.now) bytes.now }
+    ensures fault { IfErr result (λ e. unfit (T.game tables.now) bytes.now ≡ Some e.at) }
+    ensures piece { IfOk result (λ r. slice_index bytes.now 1369 + 256 * slice_index bytes.now 1370 ≡ r.piece) }
+{
+    let fields = Fields::at(bytes);
+    check(tables, &fields)?;
+    Ok(restored(tables, &fields))
+}
+
+/// The saved position, where there is one, becomes that of the fields.
+fn put_saved(world: &mut World, fields: &Fields)
+    requires few { length world.old.places ≤ 255 }
+    ensures none { fields.now.saved ≡ 0 → world.new ≡ world.old }
+    ensures saved { fields.now.saved ≢ 0 → SetsSaved fields.now world.old world.new }
+{
+    if fields.saved == 0 {
+        return;
+    }
+    let objects = world.objects() as usize;
+    world.set_position(&fields.saved_flags, &fields.saved_places[..objects]);
+    world.ramsave();
+}
+
+/// The world of a game that these fields say.
+fn world_in<T: Tables>(tables: &T, fields: &Fields) -> World
+    ensures value { result ≡ world_in (T.game tables.now) fields.now }
+{
+    let mut world = opening_world(tables, fields.seed);
+    let objects = world.objects() as usize;
+    put_saved(&mut world, fields);
+    world.set_position(&fields.flags, &fields.places[..objects]);
+    world.skip(fields.draws);
+    world
+}
+
+/// A row as a frame.
+fn frame_in(row: &Row) -> Frame
+    ensures value { result ≡ frame_in row.now }
+{
+    Frame {
+        table: row.table,
+        entry: row.entry,
+        at: row.at,
+        acted: row.acted == 1,
+    }
+}
+
+/// The places in the tables that these fields say.
+fn frames_in(fields: &Fields) -> Frames
+    ensures value { result ≡ frames_in fields.now }
+{
+    Frames {
+        count: fields.count,
+        rows: frame_rows(&fields.rows),
+        turning: if fields.looping == 0 {
+            None
+        } else {
+            Some(fields.turning)
+        },
+    }
+}
+
+/// Rows as frames.
+fn frame_rows(rows: &[Row; MOST_FRAMES]) -> [Frame; MOST_FRAMES]
+    ensures value { result ≡ map frame_in rows.now }
+{
+    let mut frames = [frame_in(&rows[0]); MOST_FRAMES];
+    for i in 0..MOST_FRAMES {
+        frames[i] = frame_in(&rows[i]);
+    }
+    frames
+}
+
+/// The parts of a game that these fields say, which keep their rules.
+fn restored<T: Tables>(tables: &T, fields: &Fields) -> Restored
+    requires sound { fields_fault (T.game tables.now) fields.now ≡ None }
+    ensures state { state_read result ≡ state_in (T.game tables.now) fields.now }
+    ensures machine { result.machine ≡ restored (kept result.machine) (waiting_at result.prompt) }
+    ensures stands { StandsAt result.prompt result.machine }
+{
+    let prompt = prompt_of(fields.prompt);
+    let pending = fields.pending as usize;
+    Restored {
+        world: world_in(tables, fields),
+        machine: machine_in(tables, fields, prompt),
+        pending: Pending::of(&fields.line[..pending], fields.earlier),
+        prompt,
+        events: fields.events,
+        piece: fields.piece,
+    }
+}
+
+/// The machine that waits at this prompt in the tables that these fields say.
+fn machine_in<T: Tables>(tables: &T, fields: &Fields, prompt: Prompt) -> Machine
+    requires sound { frames_fault (T.game tables.now) prompt (frames_in fields.now) ≡ None }
+    ensures value { result ≡ restored (kept result) (waiting_at prompt) }
+    ensures kept { kept result ≡ frames_in fields.now }
+    ensures stands { StandsAt prompt result }
+{
+    match Machine::restore(tables, &frames_in(fields), prompt) {
+        Ok(machine) => machine,
+        Err(_) => unreachable!(),
+    }
+}

@@ -1,0 +1,398 @@
+// Tests of a state's bytes: where each field stands, which one is named, and what comes back.
+
+use crate::{Restored, STATE_LENGTH, STATE_ROOM, read_state, write_state};
+use paw_base::parts::{Condact, ObjectFacts};
+use paw_effects::act::Prompt;
+use paw_effects::opening::opening_world;
+use paw_game::game::Game;
+use paw_game::parts::{Condacts, Entry, Exits, GameParts, ObjectRow, Table, Text, Word};
+use paw_phrase::Pending;
+use paw_process::Machine;
+use std::alloc::{AllocError, Global};
+use std::process::Abort;
+use std::test::Fail;
+
+const QUIT: u8 = 27;
+
+const DONE: u8 = 32;
+
+const PROCESS: u8 = 85;
+
+const DOALL: u8 = 86;
+
+/// Any word, and the current location.
+const ANY: u8 = 255;
+
+const CARRIED: u8 = 254;
+
+/// The condacts of the tables: each entry is of any words.
+const LOOPS: [(u8, u8); 1] = [(DOALL, ANY)];
+
+const CALLS: [(u8, u8); 2] = [(PROCESS, 3), (DONE, 0)];
+
+const ASKS: [(u8, u8); 1] = [(QUIT, 0)];
+
+fn text(alloc: Global) -> Text {
+    Text {
+        bytes: Vec::new(alloc),
+    }
+}
+
+fn object(alloc: Global, start: u8) -> ObjectRow {
+    ObjectRow {
+        text: text(alloc),
+        facts: ObjectFacts {
+            noun: ANY,
+            adjective: ANY,
+            start,
+            weight: 1,
+            container: false,
+            wearable: false,
+        },
+    }
+}
+
+fn entry(alloc: Global, codes: &[(u8, u8)]) -> Result<Entry, AllocError> {
+    let mut rows = Vec::new(alloc);
+    for (code, a) in codes {
+        rows.push(Condact {
+            code: *code,
+            a: *a,
+            b: 0,
+        })?;
+    }
+    Ok(Entry {
+        verb: ANY,
+        noun: ANY,
+        condacts: Condacts { rows },
+    })
+}
+
+fn responses(alloc: Global) -> Result<Table, AllocError> {
+    let mut entries = Vec::new(alloc);
+    entries.push(entry(alloc, &LOOPS)?)?;
+    entries.push(entry(alloc, &CALLS)?)?;
+    Ok(Table { entries })
+}
+
+fn questions(alloc: Global) -> Result<Table, AllocError> {
+    let mut entries = Vec::new(alloc);
+    entries.push(entry(alloc, &ASKS)?)?;
+    Ok(Table { entries })
+}
+
+fn no_entries(alloc: Global) -> Table {
+    Table {
+        entries: Vec::new(alloc),
+    }
+}
+
+/// A response table with a loop and with a call of table 3, which asks.
+fn tables(alloc: Global) -> Result<Vec<Table>, AllocError> {
+    let mut tables = Vec::new(alloc);
+    tables.push(responses(alloc)?)?;
+    tables.push(no_entries(alloc))?;
+    tables.push(no_entries(alloc))?;
+    tables.push(questions(alloc)?)?;
+    Ok(tables)
+}
+
+fn objects(alloc: Global) -> Result<Vec<ObjectRow>, AllocError> {
+    let mut objects = Vec::new(alloc);
+    objects.push(object(alloc, 0))?;
+    objects.push(object(alloc, CARRIED))?;
+    Ok(objects)
+}
+
+/// A game of two locations and two objects, of which the second is carried.
+fn small_game(alloc: Global) -> Result<Game, Fail> {
+    let mut locations = Vec::new(alloc);
+    let mut exits = Vec::new(alloc);
+    for _ in 0..2 {
+        locations.push(text(alloc))?;
+        exits.push(Exits {
+            rows: Vec::new(alloc),
+        })?;
+    }
+    let words: Vec<Word> = Vec::new(alloc);
+    let game = Game::new(GameParts {
+        words,
+        system: Vec::new(alloc),
+        messages: Vec::new(alloc),
+        objects: objects(alloc)?,
+        locations,
+        exits,
+        tables: tables(alloc)?,
+    })?;
+    Ok(game)
+}
+
+/// The state at the start of a game with seed 7, whose first piece has 300 bytes.
+fn opened(game: &Game) -> [u8; STATE_ROOM] {
+    let mut bytes = [255; STATE_ROOM];
+    let world = opening_world(game, 7);
+    let machine = Machine::new();
+    write_state(
+        &world,
+        &machine,
+        &Pending::new(),
+        Prompt::Main,
+        0,
+        300,
+        &mut bytes,
+    );
+    bytes
+}
+
+/// What makes of that a state that waits for an answer inside a call inside a loop, after two lines, with `N` pending.
+const WAITING: [(usize, u8); 13] = [
+    (1039, 2),
+    (1047, 1),
+    (1048, 2),
+    (1050, 1),
+    (1053, 1),
+    (1054, 3),
+    (1104, 1),
+    (1111, 1),
+    (1112, 42),
+    (1113, 1),
+    (1114, b'N'),
+    (1369, 0),
+    (1370, 0),
+];
+
+/// These bytes with a byte changed.
+fn with_byte(rt: &impl Abort, bytes: &[u8; STATE_ROOM], at: usize, byte: u8) -> [u8; STATE_ROOM] {
+    assert!(rt; at < STATE_ROOM);
+    let mut changed = *bytes;
+    changed[at] = byte;
+    changed
+}
+
+fn waiting(rt: &impl Abort, game: &Game) -> [u8; STATE_ROOM] {
+    let mut bytes = opened(game);
+    for (at, byte) in &WAITING {
+        bytes = with_byte(rt, &bytes, *at, *byte);
+    }
+    bytes
+}
+
+/// The place that is named, or none.
+fn fault(game: &Game, bytes: &[u8; STATE_ROOM]) -> Option<u64> {
+    match read_state(game, bytes) {
+        Ok(_) => None,
+        Err(fault) => Some(fault.at),
+    }
+}
+
+/// The bytes of what was read.
+fn written(read: &Restored) -> [u8; STATE_ROOM] {
+    let mut bytes = [255; STATE_ROOM];
+    write_state(
+        &read.world,
+        &read.machine,
+        &read.pending,
+        read.prompt,
+        read.events,
+        read.piece,
+        &mut bytes,
+    );
+    bytes
+}
+
+/// A byte that is changed in the state at the start, and the place that is named then.
+const NAMED: [(usize, u8, u64); 28] = [
+    (256, 2, 256),
+    (257, 255, 257),
+    (258, 1, 258),
+    (510, 252, 510),
+    (511, 2, 511),
+    (512, 1, 512),
+    (767, 9, 767),
+    (768, 1, 768),
+    (1022, 252, 1022),
+    (1034, 1, 1031),
+    (1042, 60, 1039),
+    (1047, 5, 1047),
+    (1047, 3, 1048),
+    (1048, 1, 1048),
+    (1049, 1, 1049),
+    (1050, 1, 1050),
+    (1051, 1, 1050),
+    (1052, 1, 1052),
+    (1053, 1, 1053),
+    (1054, 3, 1054),
+    (1103, 1, 1103),
+    (1104, 1, 1104),
+    (1105, 1, 1105),
+    (1108, 1, 1107),
+    (1111, 1, 1111),
+    (1113, 1, 1113),
+    (1114, 65, 1114),
+    (1368, 65, 1368),
+];
+
+/// The same of the state that waits.
+const NAMED_WAITING: [(usize, u8, u64); 25] = [
+    (1047, 0, 1048),
+    (1047, 2, 1057),
+    (1047, 4, 1048),
+    (1048, 0, 1048),
+    (1048, 1, 1052),
+    (1048, 3, 1057),
+    (1048, 12, 1048),
+    (1049, 3, 1049),
+    (1050, 2, 1050),
+    (1051, 16, 1050),
+    (1052, 1, 1052),
+    (1053, 2, 1053),
+    (1054, 4, 1054),
+    (1055, 1, 1055),
+    (1057, 1, 1057),
+    (1058, 2, 1058),
+    (1059, 1, 1059),
+    (1104, 0, 1111),
+    (1104, 2, 1104),
+    (1105, 2, 1105),
+    (1106, 3, 1106),
+    (1107, 1, 1109),
+    (1109, 1, 1109),
+    (1110, 2, 1110),
+    (1113, 0, 1114),
+];
+
+/// Bytes that may be anything: a flag, the seed, the earlier verb, the length of the piece, and what isn't read.
+const FREE: [(usize, u8); 6] = [
+    (0, 255),
+    (255, 1),
+    (1030, 255),
+    (1112, 255),
+    (1370, 255),
+    (1371, 2),
+];
+
+/// A number of eight bytes at a place of the state at the start, and the place that is named then.
+const LIMITS: [(usize, u64, Option<u64>); 4] = [
+    (1031, 200_000, None),
+    (1031, 200_001, Some(1031)),
+    (1039, 1_000_000_000, None),
+    (1039, 1_000_000_001, Some(1039)),
+];
+
+/// These bytes with a number of eight bytes changed.
+fn with_number(
+    rt: &impl Abort,
+    bytes: &[u8; STATE_ROOM],
+    at: usize,
+    number: u64,
+) -> [u8; STATE_ROOM] {
+    assert!(rt; at < STATE_LENGTH);
+    let mut changed = *bytes;
+    changed[at..at + 8].copy_from_slice(&number.to_le_bytes());
+    changed
+}
+
+#[test]
+fn draws_and_lines_at_their_limits(rt: HostRuntime) -> Result<(), Fail> {
+    let game = small_game(rt.alloc())?;
+    let bytes = opened(&game);
+    for (at, number, named) in &LIMITS {
+        let changed = with_number(&rt, &bytes, *at, *number);
+        assert_eq!(rt; fault(&game, &changed), *named, "{number}");
+    }
+    Ok(())
+}
+
+#[test]
+fn the_first_broken_rule_is_named(rt: HostRuntime) -> Result<(), Fail> {
+    let game = small_game(rt.alloc())?;
+    let bytes = opened(&game);
+    assert_eq!(rt; fault(&game, &bytes), None);
+    for (at, byte, named) in &NAMED {
+        let changed = with_byte(&rt, &bytes, *at, *byte);
+        assert_eq!(rt; fault(&game, &changed), Some(*named), "{at}");
+    }
+    for (at, byte) in &FREE {
+        let changed = with_byte(&rt, &bytes, *at, *byte);
+        assert_eq!(rt; fault(&game, &changed), None, "{at}");
+    }
+    Ok(())
+}
+
+#[test]
+fn a_state_that_waits_names_its_frames_and_loop(rt: HostRuntime) -> Result<(), Fail> {
+    let game = small_game(rt.alloc())?;
+    let bytes = waiting(&rt, &game);
+    assert_eq!(rt; fault(&game, &bytes), None);
+    for (at, byte, named) in &NAMED_WAITING {
+        let changed = with_byte(&rt, &bytes, *at, *byte);
+        assert_eq!(rt; fault(&game, &changed), Some(*named), "{at}");
+    }
+    Ok(())
+}
+
+#[test]
+fn what_is_read_is_written_again(rt: HostRuntime) -> Result<(), Fail> {
+    let game = small_game(rt.alloc())?;
+    for bytes in [opened(&game), waiting(&rt, &game)] {
+        let read = read_state(&game, &bytes)?;
+        assert_eq!(rt; written(&read), bytes);
+    }
+    Ok(())
+}
+
+#[test]
+fn the_parts_of_a_state_that_waits(rt: HostRuntime) -> Result<(), Fail> {
+    let game = small_game(rt.alloc())?;
+    let read = read_state(&game, &waiting(&rt, &game))?;
+    assert_eq!(rt; read.prompt, Prompt::Quit);
+    assert_eq!(rt; read.events, 2);
+    assert_eq!(rt; read.piece, 0);
+    assert_eq!(rt; read.world.seed(), 7);
+    assert_eq!(rt; read.world.places(), [0, CARRIED].as_slice());
+    assert_eq!(rt; read.world.flags()[1], 1);
+    assert!(rt; !read.world.saved());
+    assert_eq!(rt; read.pending.bytes(), b"N".as_slice());
+    assert_eq!(rt; read.pending.earlier(), 42);
+    let frames = read.machine.frames();
+    assert_eq!(rt; frames.count, 2);
+    assert_eq!(rt; frames.rows[0].entry, 1);
+    assert!(rt; frames.rows[0].acted && !frames.rows[1].acted);
+    assert_eq!(rt; frames.rows[1].table, 3);
+    Ok(())
+}
+
+#[test]
+fn a_saved_position_and_draws_come_back(rt: HostRuntime) -> Result<(), Fail> {
+    let game = small_game(rt.alloc())?;
+    let mut world = opening_world(&game, 7);
+    let flags = *world.flags();
+    assert_eq!(rt; world.objects(), 2);
+    world.set_flag(100, 9);
+    world.move_to(0, 1);
+    world.ramsave();
+    world.set_position(&flags, &[252, 253]);
+    assert_eq!(rt; world.draws(), 0);
+    world.skip(400_000);
+    let mut bytes = [0; STATE_ROOM];
+    write_state(
+        &world,
+        &Machine::new(),
+        &Pending::new(),
+        Prompt::Over,
+        1,
+        9,
+        &mut bytes,
+    );
+    let mut read = read_state(&game, &bytes)?;
+    assert_eq!(rt; written(&read), bytes);
+    assert_eq!(rt; read.prompt, Prompt::Over);
+    assert_eq!(rt; read.world.places(), [252, 253].as_slice());
+    assert_eq!(rt; read.world.draws(), 400_000);
+    assert!(rt; world.draws() < 1_000_000);
+    assert_eq!(rt; read.world.draw(), world.draw());
+    let (saved_flags, saved_places) = read.world.saved_position().expect(&rt, "a saved position");
+    assert_eq!(rt; saved_flags[100], 9);
+    assert_eq!(rt; saved_places, [1, CARRIED].as_slice());
+    Ok(())
+}

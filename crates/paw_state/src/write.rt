@@ -1,0 +1,162 @@
+// From a game that is played to the bytes of its state.
+
+ghost use Rattle.std.specs.Prelude.{◌+◌, ◌*◌, slice_index, ◌≡◌, ◌≤◌, ◌++◌, length, map, IfSome};
+ghost use Rattle.paw_world.specs.World.{IsWorld};
+ghost use Rattle.paw_state.specs.State.{state_of, AreBytes, FitsFields};
+ghost use Rattle.paw_state.specs.Fields.{zeros, filled, presence, saved_flags, saved_places, prompt_code, row_of, loop_or_zeros, fields_of, state_bytes};
+
+use crate::fields::{Fields, Row};
+use crate::layout::STATE_ROOM;
+use paw_effects::act::Prompt;
+use paw_phrase::Pending;
+use paw_process::{Frames, MOST_FRAMES, Machine};
+use paw_reading::places::{Frame, OpenLoop};
+use paw_world::world::World;
+
+/// Writes the state of a game that waits at a prompt, or is over, with these parts: so many lines were taken, and the
+/// last piece has so many bytes. The bytes behind the state become 0. Takes no memory.
+pub fn write_state(
+    world: &World,
+    machine: &Machine,
+    pending: &Pending,
+    prompt: Prompt,
+    events: u64,
+    piece: u16,
+    into: &mut [u8; STATE_ROOM],
+)
+    ensures value { into.new ≡ state_bytes (state_of world.now machine.now pending.now prompt events piece) ++ zeros 2725 }
+    ensures fits { FitsFields (state_of world.now machine.now pending.now prompt events piece) }
+    ensures length { length (state_bytes (state_of world.now machine.now pending.now prompt events piece)) ≡ 1371 }
+    ensures piece { slice_index into.new 1369 + 256 * slice_index into.new 1370 ≡ piece }
+{
+    // A world has at most 255 objects.
+    let _objects = world.objects();
+    let frames = machine.frames();
+    let fields = fields_of(world, &frames, pending, prompt, events, piece);
+    *into = fields.bytes();
+}
+
+/// The same flags.
+fn copied(flags: &[u8]) -> [u8; 256]
+    requires all { length flags.now ≡ 256 }
+    ensures value { result ≡ flags.now }
+    ensures bytes { AreBytes flags.now }
+{
+    let mut all = [0; 256];
+    all.copy_from_slice(flags);
+    all
+}
+
+/// These bytes, filled up with zeros to 255.
+fn filled(bytes: &[u8]) -> [u8; 255]
+    requires few { length bytes.now ≤ 255 }
+    ensures value { result ≡ filled 255 bytes.now }
+    ensures bytes { AreBytes bytes.now }
+{
+    let mut all = [0; 255];
+    all[..bytes.len()].copy_from_slice(bytes);
+    all
+}
+
+/// The byte of a prompt.
+fn prompt_code(prompt: Prompt) -> u8
+    ensures value { result ≡ prompt_code prompt }
+{
+    match prompt {
+        Prompt::Main => 0,
+        Prompt::Quit => 1,
+        Prompt::Again => 2,
+        Prompt::Key => 3,
+        Prompt::Over => 4,
+    }
+}
+
+/// A frame as a row.
+fn row_of(frame: &Frame) -> Row
+    ensures value { result ≡ row_of frame.now }
+{
+    Row {
+        table: frame.table,
+        entry: frame.entry,
+        at: frame.at,
+        acted: u8::from(frame.acted),
+    }
+}
+
+/// Frames as rows.
+fn rows_of(frames: &[Frame; MOST_FRAMES]) -> [Row; MOST_FRAMES]
+    ensures value { result ≡ map row_of frames.now }
+{
+    let mut rows = [Row::EMPTY; MOST_FRAMES];
+    for i in 0..MOST_FRAMES {
+        rows[i] = row_of(&frames[i]);
+    }
+    rows
+}
+
+/// The open loop, or zeros where none is open.
+fn loop_or_zeros(turning: Option<OpenLoop>) -> OpenLoop
+    ensures value { result ≡ loop_or_zeros turning }
+{
+    match turning {
+        Some(found) => found,
+        None => OpenLoop {
+            level: 0,
+            table: 0,
+            entry: 0,
+            at: 0,
+            place: 0,
+            last: 0,
+        },
+    }
+}
+
+/// The flags and the places of the saved position, or zeros where there is none.
+fn saved_of(world: &World) -> ([u8; 256], [u8; 255])
+    requires few { IsWorld world.now }
+    ensures flags { result.0 ≡ saved_flags world.now.saved }
+    ensures places { result.1 ≡ saved_places world.now.saved }
+    ensures flag_bytes { IfSome world.now.saved (λ q. AreBytes q.flags) }
+    ensures place_bytes { IfSome world.now.saved (λ q. AreBytes q.places) }
+{
+    match world.saved_position() {
+        None => ([0; 256], [0; 255]),
+        Some((flags, places)) => (copied(flags), filled(places)),
+    }
+}
+
+/// The fields of a state.
+fn fields_of(
+    world: &World,
+    frames: &Frames,
+    pending: &Pending,
+    prompt: Prompt,
+    events: u64,
+    piece: u16,
+) -> Fields
+    requires few { IsWorld world.now }
+    ensures value { result ≡ fields_of (record { world = world.now; frames = frames.now; pending = pending.now; prompt = prompt; events = events; piece = piece }) }
+    ensures fits { FitsFields (record { world = world.now; frames = frames.now; pending = pending.now; prompt = prompt; events = events; piece = piece }) }
+{
+    let (saved_flags, saved_places) = saved_of(world);
+    let line = pending.bytes();
+    Fields {
+        flags: copied(world.flags()),
+        places: filled(world.places()),
+        saved: u8::from(world.saved()),
+        saved_flags,
+        saved_places,
+        seed: world.seed(),
+        draws: world.draws(),
+        events,
+        prompt: prompt_code(prompt),
+        count: frames.count,
+        rows: rows_of(&frames.rows),
+        looping: u8::from(frames.turning.is_some()),
+        turning: loop_or_zeros(frames.turning),
+        earlier: pending.earlier(),
+        pending: line.len() as u8,
+        line: filled(line),
+        piece,
+    }
+}

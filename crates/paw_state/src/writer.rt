@@ -1,0 +1,56 @@
+// Writing one field after the other.
+
+ghost use Rattle.std.specs.Prelude.{◌≡◌, ◌+◌, ◌-◌, ◌≤◌, [], ◌++◌, length};
+ghost use Rattle.paw_state.specs.Fields.{zeros};
+
+use crate::layout::STATE_ROOM;
+use std::marker::Model;
+
+/// The room of a state, of which so many bytes are written, from the first on. Contracts see these bytes.
+#[derive(Drop)]
+pub(crate) struct Writer {
+    bytes: [u8; STATE_ROOM],
+    count: usize,
+}
+
+impl Model for Writer {
+    ghost use Rattle.std.specs.Prelude.{◌≡◌, ◌-◌, ◌≤◌, List, ℕ, take, drop};
+    ghost use Rattle.paw_state.specs.Fields.{zeros};
+
+    ghost Value = { List ℕ };
+
+    ghost view = { λ w. take w.count w.bytes };
+
+    ghost invariant = { λ w. (w.count ≤ 4096) × (drop w.count w.bytes ≡ zeros (4096 - w.count)) };
+}
+
+impl Writer {
+    /// Nothing is written.
+    pub(crate) fn new() -> Writer
+        ensures value { result ≡ [] }
+    {
+        Writer {
+            bytes: [0; STATE_ROOM],
+            count: 0,
+        }
+    }
+
+    /// Writes a field behind the others.
+    pub(crate) fn put(&mut self, field: &[u8])
+        requires room { length self.old + length field.now ≤ 4096 }
+        ensures puts { self.new ≡ self.old ++ field.now }
+        ensures length { length self.new ≡ length self.old + length field.now }
+    {
+        let end = self.count + field.len();
+        self.bytes[self.count..end].copy_from_slice(field);
+        self.count = end;
+    }
+
+    /// What was written, and zeros behind it.
+    pub(crate) fn finish(self) -> [u8; STATE_ROOM]
+        ensures value { result ≡ self ++ zeros (4096 - length self) }
+        ensures room { length result ≡ 4096 }
+    {
+        self.bytes
+    }
+}
