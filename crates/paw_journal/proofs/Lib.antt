@@ -1,0 +1,11 @@
+pub mod Parts
+pub mod Recovers
+pub mod Disks
+pub mod Moved
+pub mod Applies
+pub mod Chooses
+pub mod Fills
+pub mod Headers
+pub mod Makes
+pub mod Slots
+pub mod Sessions

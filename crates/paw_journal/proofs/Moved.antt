@@ -1,0 +1,94 @@
+-- Calls that move a stretch of the attached store alone.
+use Rattle.std.proofs.Common.{◌≡◌, ℕ, ◌+◌, ◌≤◌, List, length, inl, inr, ◌⊎◌, refl, sym, ap, subst, ◌∙◌}
+use Rattle.std.specs.Prelude.{Option, Some}
+use Rattle.paw_stage.specs.Disk.{Disk, IsInWrite, IsStable, touched, stable}
+use Rattle.paw_stage.specs.Stage.{Standing, WritesPart, Files, held, wrote}
+use Rattle.paw_stage.specs.Moments.{Moment, InWrite, InSync}
+use Rattle.paw_stage.proofs.Names.{held_other, holds_same}
+use Rattle.paw_journal.specs.Session.{Recovered}
+use Rattle.paw_journal.specs.Store.{IsBeside, InStore, Leaves}
+use Rattle.paw_journal.proofs.Disks.{IsWithin, within_stable, within_write}
+
+held_same : (attached : Option (List ℕ)) (n bytes : List ℕ) (files : Files) → attached ≡ Some n → held attached bytes files n ≡ Some bytes
+held_same attached n bytes files e = ap (λ a. held a bytes files n) e ∙ holds_same n (Some bytes) files
+
+pub beside_none : (s : Standing) → IsBeside s s
+beside_none s = record { lines = refl; asked = refl; shown = refl; attached = refl; files = λ n ne. refl; file = λ n e h. h }
+
+pub beside_wrote : (s t : Standing) (d : Disk) (n : ℕ) → t ≡ wrote s d n → IsBeside s t
+beside_wrote s t d n e = subst (λ x. IsBeside s x) (sym e) (record {
+  lines = refl;
+  asked = refl;
+  shown = refl;
+  attached = refl;
+  files = λ k ne. held_other s.attached k d.bytes s.files ne;
+  file = λ k a h. held_same s.attached k d.bytes s.files a;
+})
+
+pub beside_part : (s t : Standing) (at n : ℕ) → (t ≡ s) ⊎ WritesPart s t at n → IsBeside s t
+beside_part s t at n (inl e) = subst (λ x. IsBeside s x) (sym e) (beside_none s)
+beside_part s t at n (inr q) = beside_wrote s t q.disk q.count q.stands
+
+pub beside_sync : (s t : Standing) → t ≡ record s { disk = stable s.disk.bytes } → IsBeside s t
+beside_sync s t e = subst (λ x. IsBeside s x) (sym e) (record { lines = refl; asked = refl; shown = refl; attached = refl; files = λ n ne. refl; file = λ n a h. h })
+
+pub beside_same : (s t : Standing) → t ≡ s → IsBeside s t
+beside_same s t e = subst (λ x. IsBeside s x) (sym e) (beside_none s)
+
+pub beside_on : (s t u : Standing) → IsBeside s t → IsBeside t u → IsBeside s u
+beside_on s t u h k =
+    record {
+      lines = k.lines ∙ h.lines;
+      asked = k.asked ∙ h.asked;
+      shown = k.shown ∙ h.shown;
+      attached = k.attached ∙ h.attached;
+      files = λ n ne. k.files n (λ e. ne (sym h.attached ∙ e)) ∙ h.files n ne;
+      file = λ n a f. k.file n (h.attached ∙ a) (h.file n a f);
+    }
+
+pub in_write : (s : Standing) (at n : ℕ) (P : Disk → Type 0) (m : Moment) → ((d : Disk) → IsInWrite at n s.disk d → P d) → InWrite s at n m → InStore s P m
+in_write s at n P m f h =
+    record {
+      asked = h.asked;
+      shown = h.shown;
+      attached = h.attached;
+      files = λ k ne. elim h.files [ inl e ↦ ap (λ x. x k) e | inr e ↦ ap (λ x. x k) e.1 ∙ held_other s.attached k e.0 s.files ne ];
+      disk = f m.disk h.disk;
+    }
+
+-- inside a sync a crash leaves no more than before it
+pub in_sync : (s : Standing) (P : Recovered → Type 0) (m : Moment) → Leaves P s.disk → InSync s m → InStore s (Leaves P) m
+in_sync s P m f h = record { asked = h.asked; shown = h.shown; attached = h.attached; files = λ k ne. ap (λ x. x k) h.files; disk = λ image l. f image (h.disk image l) }
+
+pub in_later : (s t : Standing) (P Q : Disk → Type 0) (m : Moment) → IsBeside s t → ((d : Disk) → P d → Q d) → InStore t P m → InStore s Q m
+in_later s t P Q m b f h =
+    record {
+      asked = h.asked ∙ b.asked;
+      shown = h.shown ∙ b.shown;
+      attached = h.attached ∙ b.attached;
+      files = λ n ne. h.files n (λ e. ne (sym b.attached ∙ e)) ∙ b.files n ne;
+      disk = f m.disk h.disk;
+    }
+
+-- All but a stretch of the attached store stands as it did.
+pub record IsMoved (lo hi : ℕ) (s t : Standing) : Type 0 where
+  pub beside : IsBeside s t
+  pub within : IsWithin lo hi s.disk.bytes t.disk
+
+pub moved_none : (lo hi : ℕ) (s : Standing) → IsStable s.disk → IsMoved lo hi s s
+moved_none lo hi s h = record { beside = beside_none s; within = within_stable lo hi s.disk h }
+
+pub moved_wrote : (lo hi at n c : ℕ) (new : List ℕ) (s t u : Standing) → IsMoved lo hi s t → lo ≤ at → at + n ≤ hi → hi ≤ length s.disk.bytes → length new ≤ n → u ≡ wrote t (touched at n new t.disk) c → IsMoved lo hi s u
+moved_wrote lo hi at n c new s t u h low high long short e =
+    record {
+      beside = beside_on s t u h.beside (beside_wrote t u _ c e);
+      within = within_write lo hi at n s.disk.bytes t.disk u.disk h.within low high long (inr (new, short, ap (λ x. x.disk) e));
+    }
+
+-- at a moment inside a write to the stretch, and inside a sync behind it
+pub in_moved_write : (lo hi at n : ℕ) (s t : Standing) (P : Disk → Type 0) (m : Moment) → IsMoved lo hi s t → lo ≤ at → at + n ≤ hi → hi ≤ length s.disk.bytes → ((d : Disk) → IsWithin lo hi s.disk.bytes d → P d) → InWrite t at n m → InStore s P m
+in_moved_write lo hi at n s t P m h low high long f w =
+    in_later s t P P m h.beside (λ d p. p) (in_write t at n P m (λ d i. f d (within_write lo hi at n s.disk.bytes t.disk d h.within low high long i)) w)
+
+pub in_moved_sync : (lo hi : ℕ) (s t : Standing) (P : Recovered → Type 0) (m : Moment) → IsMoved lo hi s t → ((d : Disk) → IsWithin lo hi s.disk.bytes d → Leaves P d) → InSync t m → InStore s (Leaves P) m
+in_moved_sync lo hi s t P m h f w = in_later s t (Leaves P) (Leaves P) m h.beside (λ d p. p) (in_sync t P m (f t.disk h.within) w)

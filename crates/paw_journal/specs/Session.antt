@@ -1,0 +1,139 @@
+-- How a session lies in the bytes of a store, and what bytes of a store stand for.
+use Rattle.std.specs.Prelude.{◌==◌, ◌&&◌, ℕ, ◌+◌, ◌-◌, ◌*◌, ◌%◌, Bool, not, nat_lt, nat_le, List, [], ◌∷◌, ◌++◌, length, take, drop, replicate, slice_index, slice_set, position, Option, Some, None, if◌then◌else◌}
+use Rattle.paw_journal.specs.declared.refusal.SessionPart.{SessionPart}
+use Rattle.paw_journal.specs.declared.refusal.SessionPart.TheVariants as part
+
+-- A session is a header and then two slots, 0 and 1.
+abbrev pub header_length : ℕ
+header_length = 128
+
+abbrev pub slot_length : ℕ
+slot_length = 86080
+
+abbrev pub session_length : ℕ
+session_length = 172288
+
+-- So many bytes from a place on.
+abbrev pub stretch : ℕ → ℕ → List ℕ → List ℕ
+stretch at n bytes = take n (drop at bytes)
+
+-- The number of 16 bits at a place, its low byte first.
+abbrev pub number_at : ℕ → List ℕ → ℕ
+number_at at bytes = slice_index bytes at + 256 * slice_index bytes (at + 1)
+
+-- The header. The session is made where byte 0 is the mark; the low bit of byte 1 chooses a slot.
+abbrev pub made_mark : ℕ
+made_mark = 80
+
+abbrev pub mark : List ℕ → ℕ
+mark bytes = slice_index bytes 0
+
+abbrev pub chosen : List ℕ → ℕ
+chosen bytes = slice_index bytes 1 % 2
+
+abbrev pub version : List ℕ → ℕ
+version bytes = slice_index bytes 2
+
+abbrev pub kept_digest : List ℕ → List ℕ
+kept_digest bytes = stretch 32 32 bytes
+
+-- The bytes of a slot: the number of its change records (at 0), its base (at 64), a piece (at 4,160) and the change
+-- records (at 69,696).
+abbrev pub slot : ℕ → List ℕ → List ℕ
+slot k bytes = stretch (header_length + slot_length * k) slot_length bytes
+
+abbrev pub base_length : ℕ
+base_length = 4096
+
+abbrev pub most_changes : ℕ
+most_changes = 4096
+
+abbrev pub base : List ℕ → List ℕ
+base bytes = stretch 64 base_length bytes
+
+-- A change record: the place of a byte of the base, the byte that stands there from then on, and a byte that is 0.
+pub record Change : Type 0 where
+  pub at : ℕ
+  pub byte : ℕ
+  pub last : ℕ
+
+abbrev pub is_sound : Change → Bool
+is_sound c = nat_lt c.at base_length && (c.last == 0)
+
+-- The change records that stand one after the other, each in four bytes.
+abbrev pub changes : List ℕ → List Change
+changes (a ∷ b ∷ c ∷ d ∷ bytes) = record { at = a + 256 * b; byte = c; last = d } ∷ changes bytes
+changes bytes = []
+
+-- The change records of a slot.
+abbrev pub slot_changes : List ℕ → List Change
+slot_changes bytes = changes (stretch 69696 (4 * number_at 0 bytes) bytes)
+
+-- The number of the first change that isn't sound.
+abbrev pub first_unsound : List Change → Option ℕ
+first_unsound all = position (λ c. not (is_sound c)) all
+
+-- The bytes with changes applied in order.
+abbrev pub changed : List Change → List ℕ → List ℕ
+changed [] bytes = bytes
+changed (c ∷ more) bytes = changed more (slice_set bytes c.at c.byte)
+
+-- A slot's state is its base with its change records applied. The last two bytes of a state tell the length of the piece.
+abbrev pub slot_state : List ℕ → List ℕ
+slot_state bytes = changed (slot_changes bytes) (base bytes)
+
+abbrev pub state_length : ℕ
+state_length = 1371
+
+abbrev pub piece_length : List ℕ → ℕ
+piece_length state = number_at 1369 state
+
+abbrev pub slot_piece : List ℕ → List ℕ
+slot_piece bytes = stretch 4160 (piece_length (slot_state bytes)) bytes
+
+-- What the bytes of a store stand for: no session, with their length and mark; one that is damaged, with the place of
+-- the first broken rule; or one that shows a state and a piece of the game with this digest.
+pub data Recovered : Type 0 where
+  Unmade : (length mark : ℕ) → Recovered
+  Damaged : (part : SessionPart) (at : ℕ) → Recovered
+  Shown : (digest state piece : List ℕ) → Recovered
+
+-- What a slot shows. It is damaged where it has too many change records, or at the first one that isn't sound.
+abbrev pub shown_unless : List ℕ → List ℕ → Option ℕ → Recovered
+shown_unless digest bytes (Some n) = Damaged part.Slot (69696 + 4 * n)
+shown_unless digest bytes None = Shown digest (take state_length (slot_state bytes)) (slot_piece bytes)
+
+unfoldable pub slot_shows : List ℕ → List ℕ → Recovered
+slot_shows digest bytes =
+    if nat_le (number_at 0 bytes) most_changes
+    then shown_unless digest bytes (first_unsound (slot_changes bytes))
+    else Damaged part.Slot 0
+
+-- What the bytes stand for if they choose this slot.
+unfoldable pub recover_by : ℕ → List ℕ → Recovered
+recover_by k bytes =
+    if (length bytes == session_length) && (mark bytes == made_mark)
+    then (if version bytes == 1 then slot_shows (kept_digest bytes) (slot k bytes) else Damaged part.Header 2)
+    else Unmade (length bytes) (mark bytes)
+
+unfoldable pub recover : List ℕ → Recovered
+recover bytes = recover_by (chosen bytes) bytes
+
+-- The bytes do not hold a session.
+abbrev pub IsUnmade : Recovered → Type 0
+IsUnmade (Unmade n m) = Unit {0}
+IsUnmade (Damaged p at) = ⊥
+IsUnmade (Shown d s p) = ⊥
+
+unfoldable pub zeros : ℕ → List ℕ
+zeros n = replicate n 0
+
+-- A slot, and a session, as they are made. Both slots show the same.
+abbrev pub made_slot : List ℕ → List ℕ → List ℕ
+made_slot state piece = zeros 64 ++ state ++ piece ++ zeros (81920 - length piece)
+
+abbrev pub made_header : ℕ → List ℕ → List ℕ
+made_header mark digest = mark ∷ 0 ∷ 1 ∷ zeros 29 ++ digest ++ zeros 64
+
+abbrev pub made_session : List ℕ → List ℕ → List ℕ → List ℕ
+made_session digest state piece = made_header made_mark digest ++ made_slot state piece ++ made_slot state piece

@@ -1,0 +1,101 @@
+// What the header of a session tells.
+
+ghost use Rattle.std.specs.Prelude.{◌≡◌, ◌≢◌, ◌↔◌, ℕ, List, length, take, IfOk, IfErr, IsSome};
+ghost use Rattle.paw_stage.specs.declared.StageCall.{StageCall};
+ghost use Rattle.paw_stage.specs.Stage.{Grows};
+ghost use Rattle.paw_stage.specs.Moments.{Passes, Still};
+ghost use Rattle.paw_journal.specs.Session.{recover, header_length, session_length};
+ghost use Rattle.paw_journal.specs.Steps.{Introduces};
+ghost use Rattle.paw_journal.specs.Journal.{slot_number, IsRefused, IsCaused};
+
+use crate::layout::{
+    DIGEST_AT, DIGEST_LENGTH, HEADER_LENGTH, MADE, MARK_AT, SELECTOR_AT, SESSION_LENGTH, Slot,
+    VERSION, VERSION_AT,
+};
+use crate::refusal::{JournalRefusal, SessionPart};
+use crate::store::read;
+use paw_stage::Stage;
+
+/// What the header of a session tells: the slot in use, and the digest of the game.
+#[derive(Drop)]
+pub(crate) struct Header {
+    pub(crate) slot: Slot,
+    pub(crate) digest: [u8; 32],
+}
+
+/// Reads the header of the attached store, which has so many bytes.
+///
+/// # Errors
+/// Unmade where no session is made, Damaged where its version isn't known, Outside(Read) where a read failed.
+pub(crate) fn read_header<S: Stage>(stage: &mut S, size: u64) -> Result<Header, JournalRefusal>
+    requires attached { S.Tells stage.old → IsSome (S.standing stage.old).attached }
+    requires size { S.Tells stage.old → size ≡ length (S.standing stage.old).disk.bytes }
+    ensures tells { S.Tells stage.old ↔ S.Tells stage.new }
+    ensures counts { Grows (S.faults stage.old) (S.faults stage.new) }
+    ensures cause { IfErr result (IsCaused (S.faults stage.old) (S.faults stage.new)) }
+    ensures still { S.Tells stage.old → S.standing stage.new ≡ S.standing stage.old }
+    ensures introduced { S.Tells stage.old → IfOk result (λ header. Introduces (slot_number header.slot) header.digest (S.standing stage.old).disk.bytes) }
+    ensures refused { S.Tells stage.old → (game : List ℕ) → IfErr result (IsRefused (recover (S.standing stage.old).disk.bytes) game) }
+    ensures time { S.Tells stage.old → Passes (S.clock stage.old) (S.clock stage.new) (S.since stage.old) (S.since stage.new) (Still (S.standing stage.old)) }
+{
+    if size != SESSION_LENGTH {
+        return Err(unmade(stage, size));
+    }
+    let mut bytes = [0; HEADER_LENGTH];
+    match read(stage, 0, &mut bytes) {
+        Ok(_) => header_in(&bytes),
+        Err(call) => Err(JournalRefusal::Outside(call)),
+    }
+}
+
+// Why a store of another length holds no session: its length, and its first byte if it has one.
+fn unmade<S: Stage>(stage: &mut S, size: u64) -> JournalRefusal
+    requires attached { S.Tells stage.old → IsSome (S.standing stage.old).attached }
+    requires size { S.Tells stage.old → size ≡ length (S.standing stage.old).disk.bytes }
+    requires other { size ≢ session_length }
+    ensures tells { S.Tells stage.old ↔ S.Tells stage.new }
+    ensures counts { Grows (S.faults stage.old) (S.faults stage.new) }
+    ensures cause { IsCaused (S.faults stage.old) (S.faults stage.new) result }
+    ensures still { S.Tells stage.old → S.standing stage.new ≡ S.standing stage.old }
+    ensures refused { S.Tells stage.old → (game : List ℕ) → IsRefused (recover (S.standing stage.old).disk.bytes) game result }
+    ensures time { S.Tells stage.old → Passes (S.clock stage.old) (S.clock stage.new) (S.since stage.old) (S.since stage.new) (Still (S.standing stage.old)) }
+{
+    let mut first = [0];
+    if size == 0 {
+        return JournalRefusal::Unmade { length: 0, mark: 0 };
+    }
+    match read(stage, MARK_AT, &mut first) {
+        Ok(_) => JournalRefusal::Unmade {
+            length: size,
+            mark: first[0],
+        },
+        Err(call) => JournalRefusal::Outside(call),
+    }
+}
+
+// What these bytes tell of each session whose header they are.
+fn header_in(bytes: &[u8; HEADER_LENGTH]) -> Result<Header, JournalRefusal>
+    ensures introduced { (whole : List ℕ) → length whole ≡ session_length → bytes.now ≡ take header_length whole → IfOk result (λ header. Introduces (slot_number header.slot) header.digest whole) }
+    ensures refused { (whole game : List ℕ) → length whole ≡ session_length → bytes.now ≡ take header_length whole → IfErr result (IsRefused (recover whole) game) }
+    ensures cause { (old new : StageCall → ℕ) → IfErr result (IsCaused old new) }
+{
+    let mark = bytes[MARK_AT as usize];
+    if mark != MADE {
+        return Err(JournalRefusal::Unmade {
+            length: SESSION_LENGTH,
+            mark,
+        });
+    }
+    if bytes[VERSION_AT as usize] != VERSION {
+        return Err(JournalRefusal::Damaged {
+            part: SessionPart::Header,
+            at: VERSION_AT,
+        });
+    }
+    let mut digest = [0; DIGEST_LENGTH];
+    digest.copy_from_slice(&bytes[DIGEST_AT..DIGEST_AT + DIGEST_LENGTH]);
+    Ok(Header {
+        slot: Slot::chosen_by(bytes[SELECTOR_AT as usize]),
+        digest,
+    })
+}

@@ -1,0 +1,142 @@
+// A session: making one, finding one, and committing to it.
+
+ghost use Rattle.std.specs.Prelude.{◌≡◌, ◌⊎◌, ◌↔◌, length, take, OnOk, IfOk, IfErr};
+ghost use Rattle.paw_stage.specs.Stage.{Rose, Grows};
+ghost use Rattle.paw_stage.specs.Moments.{Passes, Still};
+ghost use Rattle.paw_journal.specs.Session.{recover, Shown, IsUnmade, kept_digest, piece_length, state_length, made_session};
+ghost use Rattle.paw_journal.specs.Store.{IsBeside, InStore, Leaves, IsEither};
+ghost use Rattle.paw_journal.specs.Journal.{IsAtRest, Keeps, Finds, IsCaused, IsWriting};
+
+use crate::committing::{choose, write_slot};
+use crate::finding::read_header;
+use crate::layout::Slot;
+use crate::making::{lay_out, mark};
+use crate::refusal::{JournalRefusal, SessionPart};
+use crate::room::Room;
+use crate::store::Attached;
+use paw_stage::{Stage, StageCall};
+
+/// A session that stands in the attached store. It knows which slot is in use.
+///
+/// After a call that failed the journal is gone; the session is attached and found again.
+#[derive(Drop)]
+pub struct Journal {
+    slot: Slot,
+}
+
+impl Journal {
+    /// Makes a session of the game with this digest in the attached store, which is empty. It shows this state, whose last
+    /// two bytes tell the piece's length, and this piece.
+    ///
+    /// # Errors
+    /// Write or Sync where that call of the stage failed. The store then stands for no session, or for that one.
+    pub fn create<S: Stage>(
+        stage: &mut S,
+        room: &mut Room,
+        at: Attached,
+        game: &[u8; 32],
+        state: &[u8; 4096],
+        piece: &[u8],
+    ) -> Result<Journal, StageCall>
+        requires rests { S.Tells stage.old → IsAtRest (S.standing stage.old) }
+        requires attached { S.Tells stage.old → at.length ≡ length (S.standing stage.old).disk.bytes }
+        requires empty { at.length ≡ 0 }
+        requires piece_length { piece_length state.now ≡ length piece.now }
+        ensures tells { S.Tells stage.old ↔ S.Tells stage.new }
+        ensures counts { Grows (S.faults stage.old) (S.faults stage.new) }
+        ensures cause { IfErr result (λ c. IsWriting c × Rose (S.faults stage.old c) (S.faults stage.new c)) }
+        ensures state { OnOk result (room.new.state ≡ state.now) }
+        ensures piece { OnOk result (room.new.piece ≡ piece.now) }
+        ensures made { S.Tells stage.old → OnOk result ((S.standing stage.new).disk.bytes ≡ made_session game.now state.now piece.now) }
+        ensures shown { S.Tells stage.old → OnOk result (recover (S.standing stage.new).disk.bytes ≡ Shown game.now (take state_length state.now) piece.now) }
+        ensures kept { S.Tells stage.old → IfOk result (λ journal. Keeps journal room.new (S.standing stage.new)) }
+        ensures digest { S.Tells stage.old → OnOk result (kept_digest (S.standing stage.new).disk.bytes ≡ game.now) }
+        ensures beside { S.Tells stage.old → IsBeside (S.standing stage.old) (S.standing stage.new) }
+        ensures any_moment { S.Tells stage.old → Passes (S.clock stage.old) (S.clock stage.new) (S.since stage.old) (S.since stage.new) (InStore (S.standing stage.old) (Leaves (λ r. IsUnmade r ⊎ (r ≡ Shown game.now (take state_length state.now) piece.now)))) }
+    {
+        room.hold(state, piece);
+        room.lay_slot();
+        lay_out(stage, game, room.slot())?;
+        mark(stage)?;
+        Ok(Journal { slot: Slot::First })
+    }
+
+    /// Finds the session of the game with this digest in the attached store, and writes nothing. Its state and its piece
+    /// then stand in the room.
+    ///
+    /// # Errors
+    /// Unmade where there is no session, Damaged at its first broken rule, WrongGame where its digest is another one. These
+    /// come in this order. Outside(Read) where a read failed.
+    pub fn find<S: Stage>(
+        stage: &mut S,
+        room: &mut Room,
+        at: Attached,
+        game: &[u8; 32],
+    ) -> Result<Journal, JournalRefusal>
+        requires rests { S.Tells stage.old → IsAtRest (S.standing stage.old) }
+        requires attached { S.Tells stage.old → at.length ≡ length (S.standing stage.old).disk.bytes }
+        ensures tells { S.Tells stage.old ↔ S.Tells stage.new }
+        ensures counts { Grows (S.faults stage.old) (S.faults stage.new) }
+        ensures cause { IfErr result (IsCaused (S.faults stage.old) (S.faults stage.new)) }
+        ensures still { S.Tells stage.old → S.standing stage.new ≡ S.standing stage.old }
+        ensures found { S.Tells stage.old → Finds (recover (S.standing stage.old).disk.bytes) game.now room.new result }
+        ensures kept { S.Tells stage.old → IfOk result (λ journal. Keeps journal room.new (S.standing stage.new)) }
+        ensures digest { S.Tells stage.old → OnOk result (kept_digest (S.standing stage.new).disk.bytes ≡ game.now) }
+        ensures time { S.Tells stage.old → Passes (S.clock stage.old) (S.clock stage.new) (S.since stage.old) (S.since stage.new) (Still (S.standing stage.old)) }
+    {
+        let header = read_header(stage, at.length)?;
+        match room.read_slot(stage, header.slot) {
+            Ok(_) => {}
+            Err(call) => return Err(JournalRefusal::Outside(call)),
+        }
+        match room.unpack() {
+            Ok(_) => {}
+            Err(at) => {
+                return Err(JournalRefusal::Damaged {
+                    part: SessionPart::Slot,
+                    at,
+                });
+            }
+        }
+        if header.digest != *game {
+            return Err(JournalRefusal::WrongGame {
+                kept: header.digest,
+                found: *game,
+            });
+        }
+        Ok(Journal { slot: header.slot })
+    }
+
+    /// Makes the session show this state, whose last two bytes tell the piece's length, and this piece. Whatever a crash
+    /// leaves in the meantime shows the old pair or the new one.
+    ///
+    /// # Errors
+    /// Write or Sync where that call of the stage failed.
+    pub fn commit<S: Stage>(
+        self,
+        stage: &mut S,
+        room: &mut Room,
+        state: &[u8; 4096],
+        piece: &[u8],
+    ) -> Result<Journal, StageCall>
+        requires kept { S.Tells stage.old → Keeps self room.old (S.standing stage.old) }
+        requires piece_length { piece_length state.now ≡ length piece.now }
+        ensures tells { S.Tells stage.old ↔ S.Tells stage.new }
+        ensures counts { Grows (S.faults stage.old) (S.faults stage.new) }
+        ensures cause { IfErr result (λ c. IsWriting c × Rose (S.faults stage.old c) (S.faults stage.new c)) }
+        ensures state { OnOk result (room.new.state ≡ state.now) }
+        ensures piece { OnOk result (room.new.piece ≡ piece.now) }
+        ensures shown { S.Tells stage.old → OnOk result (recover (S.standing stage.new).disk.bytes ≡ Shown (kept_digest (S.standing stage.old).disk.bytes) (take state_length state.now) piece.now) }
+        ensures kept { S.Tells stage.old → IfOk result (λ journal. Keeps journal room.new (S.standing stage.new)) }
+        ensures digest { S.Tells stage.old → OnOk result (kept_digest (S.standing stage.new).disk.bytes ≡ kept_digest (S.standing stage.old).disk.bytes) }
+        ensures beside { S.Tells stage.old → IsBeside (S.standing stage.old) (S.standing stage.new) }
+        ensures any_moment { S.Tells stage.old → Passes (S.clock stage.old) (S.clock stage.new) (S.since stage.old) (S.since stage.new) (InStore (S.standing stage.old) (Leaves (IsEither (recover (S.standing stage.old).disk.bytes) (Shown (kept_digest (S.standing stage.old).disk.bytes) (take state_length state.now) piece.now)))) }
+    {
+        let slot = self.slot.other();
+        room.hold(state, piece);
+        room.lay_body();
+        write_slot(stage, slot, room)?;
+        choose(stage, slot)?;
+        Ok(Journal { slot })
+    }
+}

@@ -1,0 +1,99 @@
+// Where things stand in a session, in bytes.
+
+ghost use Rattle.std.specs.Prelude.{◌≡◌, ◌+◌, ◌-◌, ◌*◌, ◌%◌, ◌<◌, ◌≤◌, length};
+ghost use Rattle.paw_journal.specs.Session.{number_at, header_length, slot_length};
+ghost use Rattle.paw_journal.specs.Journal.{slot_number};
+
+/// The length of a session: a header and two slots.
+pub(crate) const SESSION_LENGTH: u64 = 172_288;
+
+pub(crate) const HEADER_LENGTH: usize = 128;
+
+pub(crate) const SLOT_LENGTH: usize = 86_080;
+
+/// The header's bytes: the mark of a session that is made, the selector, the version, and the digest of the game.
+pub(crate) const MARK_AT: u64 = 0;
+
+pub(crate) const SELECTOR_AT: u64 = 1;
+
+pub(crate) const VERSION_AT: u64 = 2;
+
+pub(crate) const DIGEST_AT: usize = 32;
+
+pub(crate) const DIGEST_LENGTH: usize = 32;
+
+pub(crate) const MADE: u8 = 0x50;
+
+pub(crate) const VERSION: u8 = 1;
+
+/// A slot's bytes: the number of its change records, the base, the piece, and the change records.
+pub(crate) const BASE_AT: usize = 64;
+
+pub(crate) const PIECE_AT: usize = 4_160;
+
+pub(crate) const CHANGES_AT: usize = 69_696;
+
+pub(crate) const BASE_LENGTH: usize = 4_096;
+
+pub(crate) const MOST_CHANGES: usize = 4_096;
+
+pub(crate) const CHANGE_LENGTH: usize = 4;
+
+/// Where a state tells the length of its piece.
+pub(crate) const PIECE_LENGTH_AT: usize = 1_369;
+
+/// The number of 16 bits at a place, its low byte first.
+pub(crate) fn number_at(bytes: &[u8], at: usize) -> usize
+    requires { at + 1 < length bytes.now }
+    ensures value { result ≡ number_at at bytes.now }
+    ensures small { result ≤ 65535 }
+{
+    usize::from(bytes[at]) + 256 * usize::from(bytes[at + 1])
+}
+
+/// One of the two slots.
+#[derive(Clone, Copy, Drop, PartialEq, Eq, Debug)]
+pub enum Slot {
+    First,
+    Second,
+}
+
+impl Slot {
+    /// The slot that a selector chooses: its low bit alone tells.
+    pub(crate) fn chosen_by(selector: u8) -> Slot
+        ensures { slot_number result ≡ selector % 2 }
+    {
+        if selector % 2 == 0 {
+            Slot::First
+        } else {
+            Slot::Second
+        }
+    }
+
+    /// The selector that chooses it: 0 or 1.
+    pub(crate) fn selector(self) -> u8
+        ensures { result ≡ slot_number self }
+    {
+        match self {
+            Slot::First => 0,
+            Slot::Second => 1,
+        }
+    }
+
+    /// The slot beside it.
+    pub(crate) fn other(self) -> Slot
+        ensures { slot_number result ≡ 1 - slot_number self }
+    {
+        match self {
+            Slot::First => Slot::Second,
+            Slot::Second => Slot::First,
+        }
+    }
+
+    /// Its first byte in the session.
+    pub(crate) fn start(self) -> u64
+        ensures { result ≡ header_length + slot_length * slot_number self }
+    {
+        HEADER_LENGTH as u64 + SLOT_LENGTH as u64 * u64::from(self.selector())
+    }
+}

@@ -1,0 +1,111 @@
+// The steps of making a session: a store with byte 0 as 0, the rest of it, and then its mark.
+
+ghost use Rattle.std.specs.Prelude.{◌≡◌, ◌⊎◌, ◌↔◌, [], ◌∷◌, ◌++◌, length, drop, IsSome, OnOk, IfErr};
+ghost use Rattle.paw_stage.specs.Disk.{IsStable, stable};
+ghost use Rattle.paw_stage.specs.Stage.{Rose, Grows};
+ghost use Rattle.paw_stage.specs.Moments.{Passes};
+ghost use Rattle.paw_journal.specs.Session.{recover, IsUnmade, session_length, header_length, slot_length, made_mark, made_header};
+ghost use Rattle.paw_journal.specs.Store.{IsBeside, InStore, Leaves};
+ghost use Rattle.paw_journal.specs.Steps.{IsBlank};
+ghost use Rattle.paw_journal.specs.Journal.{IsAtRest, IsWriting};
+
+use crate::layout::{
+    DIGEST_AT, DIGEST_LENGTH, HEADER_LENGTH, MADE, MARK_AT, SELECTOR_AT, Slot, VERSION, VERSION_AT,
+};
+use crate::store::{sync, write};
+use paw_stage::{Stage, StageCall};
+
+// Begins a session in the attached store, which is empty: its first byte is 0, and stable.
+fn begin<S: Stage>(stage: &mut S) -> Result<(), StageCall>
+    requires rests { S.Tells stage.old → IsAtRest (S.standing stage.old) }
+    requires empty { S.Tells stage.old → length (S.standing stage.old).disk.bytes ≡ 0 }
+    ensures tells { S.Tells stage.old ↔ S.Tells stage.new }
+    ensures counts { Grows (S.faults stage.old) (S.faults stage.new) }
+    ensures cause { IfErr result (λ c. IsWriting c × Rose (S.faults stage.old c) (S.faults stage.new c)) }
+    ensures blank { S.Tells stage.old → OnOk result (IsBlank (0 ∷ []) (S.standing stage.new).disk) }
+    ensures beside { S.Tells stage.old → IsBeside (S.standing stage.old) (S.standing stage.new) }
+    ensures any_moment { S.Tells stage.old → Passes (S.clock stage.old) (S.clock stage.new) (S.since stage.old) (S.since stage.new) (InStore (S.standing stage.old) (Leaves IsUnmade)) }
+{
+    write(stage, MARK_AT, &[0])?;
+    sync(stage)
+}
+
+// Writes the header's other bytes behind the first one: the digest of the game, and a selector that chooses slot 0.
+fn write_header<S: Stage>(stage: &mut S, game: &[u8; 32]) -> Result<(), StageCall>
+    requires attached { S.Tells stage.old → IsSome (S.standing stage.old).attached }
+    requires blank { S.Tells stage.old → IsBlank (0 ∷ []) (S.standing stage.old).disk }
+    ensures tells { S.Tells stage.old ↔ S.Tells stage.new }
+    ensures counts { Grows (S.faults stage.old) (S.faults stage.new) }
+    ensures cause { IfErr result (λ c. IsWriting c × Rose (S.faults stage.old c) (S.faults stage.new c)) }
+    ensures blank { S.Tells stage.old → OnOk result (IsBlank (made_header 0 game.now) (S.standing stage.new).disk) }
+    ensures beside { S.Tells stage.old → IsBeside (S.standing stage.old) (S.standing stage.new) }
+    ensures any_moment { S.Tells stage.old → Passes (S.clock stage.old) (S.clock stage.new) (S.since stage.old) (S.since stage.new) (InStore (S.standing stage.old) (Leaves IsUnmade)) }
+{
+    let header = header_of(game);
+    write(stage, SELECTOR_AT, &header[1..])
+}
+
+// The header of a session of this game, with byte 0 as 0.
+#[tactic(auto, unfolding(crate::specs::Session::zeros))]
+fn header_of(game: &[u8; 32]) -> [u8; HEADER_LENGTH]
+    ensures value { result ≡ made_header 0 game.now }
+{
+    let mut header = [0; HEADER_LENGTH];
+    header[VERSION_AT as usize] = VERSION;
+    header[DIGEST_AT..DIGEST_AT + DIGEST_LENGTH].copy_from_slice(game);
+    header
+}
+
+// Writes these bytes into both slots, behind the header, and makes the store stable.
+fn write_slots<S: Stage>(stage: &mut S, bytes: &[u8]) -> Result<(), StageCall>
+    requires attached { S.Tells stage.old → IsSome (S.standing stage.old).attached }
+    requires blank { S.Tells stage.old → IsBlank (S.standing stage.old).disk.bytes (S.standing stage.old).disk }
+    requires header { S.Tells stage.old → length (S.standing stage.old).disk.bytes ≡ header_length }
+    requires slot { length bytes.now ≡ slot_length }
+    ensures tells { S.Tells stage.old ↔ S.Tells stage.new }
+    ensures counts { Grows (S.faults stage.old) (S.faults stage.new) }
+    ensures cause { IfErr result (λ c. IsWriting c × Rose (S.faults stage.old c) (S.faults stage.new c)) }
+    ensures written { S.Tells stage.old → OnOk result ((S.standing stage.new).disk ≡ stable ((S.standing stage.old).disk.bytes ++ bytes.now ++ bytes.now)) }
+    ensures beside { S.Tells stage.old → IsBeside (S.standing stage.old) (S.standing stage.new) }
+    ensures any_moment { S.Tells stage.old → Passes (S.clock stage.old) (S.clock stage.new) (S.since stage.old) (S.since stage.new) (InStore (S.standing stage.old) (Leaves IsUnmade)) }
+{
+    write(stage, Slot::First.start(), bytes)?;
+    write(stage, Slot::Second.start(), bytes)?;
+    sync(stage)
+}
+
+/// Lays out a session of this game in the attached store, which is empty: all but its mark, with these bytes in both slots.
+pub(crate) fn lay_out<S: Stage>(
+    stage: &mut S,
+    game: &[u8; 32],
+    bytes: &[u8],
+) -> Result<(), StageCall>
+    requires rests { S.Tells stage.old → IsAtRest (S.standing stage.old) }
+    requires empty { S.Tells stage.old → length (S.standing stage.old).disk.bytes ≡ 0 }
+    requires slot { length bytes.now ≡ slot_length }
+    ensures tells { S.Tells stage.old ↔ S.Tells stage.new }
+    ensures counts { Grows (S.faults stage.old) (S.faults stage.new) }
+    ensures cause { IfErr result (λ c. IsWriting c × Rose (S.faults stage.old c) (S.faults stage.new c)) }
+    ensures laid { S.Tells stage.old → OnOk result ((S.standing stage.new).disk ≡ stable (made_header 0 game.now ++ bytes.now ++ bytes.now)) }
+    ensures beside { S.Tells stage.old → IsBeside (S.standing stage.old) (S.standing stage.new) }
+    ensures any_moment { S.Tells stage.old → Passes (S.clock stage.old) (S.clock stage.new) (S.since stage.old) (S.since stage.new) (InStore (S.standing stage.old) (Leaves IsUnmade)) }
+{
+    begin(stage)?;
+    write_header(stage, game)?;
+    write_slots(stage, bytes)
+}
+
+/// Marks a session as made.
+pub(crate) fn mark<S: Stage>(stage: &mut S) -> Result<(), StageCall>
+    requires rests { S.Tells stage.old → IsAtRest (S.standing stage.old) }
+    requires long { S.Tells stage.old → length (S.standing stage.old).disk.bytes ≡ session_length }
+    ensures tells { S.Tells stage.old ↔ S.Tells stage.new }
+    ensures counts { Grows (S.faults stage.old) (S.faults stage.new) }
+    ensures cause { IfErr result (λ c. IsWriting c × Rose (S.faults stage.old c) (S.faults stage.new c)) }
+    ensures marked { S.Tells stage.old → OnOk result ((S.standing stage.new).disk ≡ stable (made_mark ∷ drop 1 (S.standing stage.old).disk.bytes)) }
+    ensures beside { S.Tells stage.old → IsBeside (S.standing stage.old) (S.standing stage.new) }
+    ensures any_moment { S.Tells stage.old → Passes (S.clock stage.old) (S.clock stage.new) (S.since stage.old) (S.since stage.new) (InStore (S.standing stage.old) (Leaves (λ r. IsUnmade r ⊎ (r ≡ recover (made_mark ∷ drop 1 (S.standing stage.old).disk.bytes))))) }
+{
+    write(stage, MARK_AT, &[MADE])?;
+    sync(stage)
+}

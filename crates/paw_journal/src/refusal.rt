@@ -1,0 +1,24 @@
+// Why a store gives no session.
+
+use paw_stage::StageCall;
+
+/// A part of a session that can be damaged.
+#[derive(Clone, Copy, Drop, PartialEq, Eq, Debug)]
+pub enum SessionPart {
+    Header,
+    Slot,
+    State,
+}
+
+/// Why a store gives no session of a game.
+#[derive(Clone, Copy, Drop, PartialEq, Eq, Debug)]
+pub enum JournalRefusal {
+    /// No session is made: the length of the store in bytes, and its first byte (0 where there is none).
+    Unmade { length: u64, mark: u8 },
+    /// A rule is broken: the first one is at this place in its part, in bytes.
+    Damaged { part: SessionPart, at: u64 },
+    /// The session belongs to a game with another digest: that which is kept, and that which was asked for.
+    WrongGame { kept: [u8; 32], found: [u8; 32] },
+    /// A call of the stage failed.
+    Outside(StageCall),
+}
