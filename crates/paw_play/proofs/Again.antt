@@ -1,0 +1,79 @@
+-- The attach of the store of a session that is taken up again.
+use Rattle.std.proofs.Common.{◌≡◌, ◌≢◌, ℕ, ◌+◌, List, [], ◌++◌, Some, refl, sym, ap, ◌∙◌, subst, arith, inl, inr, ◌⊎◌}
+use Rattle.std.proofs.lemmas.List.{append-nil}
+use Rattle.paw_game.specs.Game.{GameLists}
+use Rattle.paw_game.specs.Valid.{Valid}
+use Rattle.paw_stage.specs.Disk.{MayLeave, stable}
+use Rattle.paw_stage.specs.Stage.{Standing}
+use Rattle.paw_stage.specs.Moments.{Moment, moment_of, InAttach, Still}
+use Rattle.paw_reading.specs.Turn.{text_of}
+use Rattle.paw_journal.specs.Session.{recover}
+use Rattle.paw_state.specs.State.{State}
+use Rattle.paw_stage.specs.Stage.{Rose, Grows}
+use Rattle.paw_stage.specs.declared.StageCall.{StageCall}
+use Rattle.paw_journal.specs.Journal.{IsRefused, IsCaused}
+use Rattle.paw_journal.specs.declared.refusal.JournalRefusal.{JournalRefusal}
+use Rattle.paw_journal.specs.declared.refusal.JournalRefusal.TheVariants as refusal
+use Rattle.paw_stage.proofs.Counted.{Rose_after}
+use Rattle.paw_play.specs.Calls.{IfOutside, IsSessionCall}
+use Rattle.paw_play.specs.Session.{IsKept}
+use Rattle.paw_play.specs.Play.{InPlay, InAgain, ShowsState, attached_to, store_bytes, going_on, kept_session, PlaysAgain, refused, unread, end_of}
+use Rattle.paw_play.proofs.Settled.{stable_leaves}
+use Rattle.paw_play.proofs.Attaching.{stable_is, files_so, other_file, playing_from}
+use Rattle.paw_play.proofs.Showing.{state_kept}
+
+module _ (g : GameLists) (digest name : List ℕ) (st : State) (piece : List ℕ) (old : Standing) (valid : Valid g) (shows : ShowsState g digest (store_bytes old name) st piece) where
+  -- the store is attached, and nothing was asked or shown
+  at_attached : (m : Moment) → m.asked ≡ old.asked → m.shown ≡ old.shown → m.attached ≡ Some name → ((n : List ℕ) → n ≢ name → m.files n ≡ old.files n) → m.disk ≡ stable (store_bytes old name) →
+      InPlay (kept_session g st piece digest name) old m
+  at_attached m asked shown attached files disk = record {
+    taken = 0;
+    text = [];
+    last = [];
+    there = omega arith;
+    asked = asked ∙ omega arith;
+    shown = shown ∙ sym (append-nil old.shown);
+    before = refl;
+    attached = attached;
+    files = files;
+    leaves = λ image may. (
+      subst (λ b. IsKept digest (st.events + 0) (going_on g st piece []) (recover b))
+          (sym (stable_leaves (stable (store_bytes old name)) image (stable_is (store_bytes old name)) (subst (λ d. MayLeave d image) disk may)))
+          (state_kept g digest (store_bytes old name) st piece valid shows),
+      (text_of (going_on g st piece []), refl),
+    );
+  }
+
+  -- inside the attach
+  pub in_again_attach : (new : Standing) (m : Moment) → new ≡ attached_to old name → InAttach old new name m → InAgain (kept_session g st piece digest name) old m
+  in_again_attach new m is i =
+      elim i.store [
+        | inl before ↦ inl (record { asked = i.asked; shown = i.shown; files = i.files; store = inl before })
+        | inr after ↦ inr (at_attached m i.asked i.shown (after.0 ∙ ap (λ (q : Standing). q.attached) is) (λ n ne. files_so old name m.files n ne i.files) (after.1 ∙ ap (λ (q : Standing). q.disk) is))
+      ]
+
+  -- while the session is found
+  pub in_finding : (new : Standing) (m : Moment) → new ≡ attached_to old name → Still new m → InAgain (kept_session g st piece digest name) old m
+  in_finding new m is e =
+      let k : m ≡ moment_of (attached_to old name) = e ∙ ap moment_of is in
+      inr (at_attached m (ap (λ (q : Moment). q.asked) k) (ap (λ (q : Moment). q.shown) k) (ap (λ (q : Moment). q.attached) k) (λ n ne. ap (λ (q : Moment). q.files n) k ∙ other_file old name n ne)
+      (ap (λ (q : Moment). q.disk) k))
+
+  -- once it is found
+  pub in_taking_up : (m : Moment) → InPlay (kept_session g st piece digest name) (attached_to old name) m → InAgain (kept_session g st piece digest name) old m
+  in_taking_up m i = inr (playing_from (kept_session g st piece digest name) old m i)
+
+-- ---- where there is no session ----
+
+pub refused_again : (g : GameLists) (digest name : List ℕ) (old new : Standing) (before after : StageCall → ℕ) (r : JournalRefusal) → IsRefused (recover (store_bytes old name)) digest r → IsCaused before after r →
+    new ≡ attached_to old name → PlaysAgain g digest name old new (end_of r)
+refused_again g digest name old new before after (refusal.Unmade n mark) h c e = refused (refusal.Unmade n mark) h e
+refused_again g digest name old new before after (refusal.Damaged part at) h c e = refused (refusal.Damaged part at) h e
+refused_again g digest name old new before after (refusal.WrongGame kept found) h c e = refused (refusal.WrongGame kept found) h e
+refused_again g digest name old new before after (refusal.Outside q) h c e = rw c.0 (unread e)
+
+pub outside_again : (first before after : StageCall → ℕ) (r : JournalRefusal) → Grows first before → IsCaused before after r → IfOutside (end_of r) (λ c. IsSessionCall c × Rose (first c) (after c))
+outside_again first before after (refusal.Unmade n mark) grows c = tt
+outside_again first before after (refusal.Damaged part at) grows c = tt
+outside_again first before after (refusal.WrongGame kept found) grows c = tt
+outside_again first before after (refusal.Outside q) grows c = (rw c.0 tt, Rose_after (first q) (before q) (after q) (grows q) c.1)

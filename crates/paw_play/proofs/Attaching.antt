@@ -1,0 +1,89 @@
+-- The attach of a session's store.
+use Rattle.std.proofs.Common.{◌≡◌, ◌≢◌, ℕ, zero, suc, ◌<◌, ◌≤◌, List, [], ◌∷◌, Option, Some, None, Ok, refl, sym, ap, ◌∙◌, subst, length, arith, inl, inr, ◌⊎◌}
+use Rattle.paw_stage.specs.Disk.{MayLeave, IsStable, stable}
+use Rattle.paw_stage.specs.Stage.{Standing, Files, bytes_or_none, made_if_missing, AttachesTo}
+use Rattle.paw_stage.specs.Moments.{Moment, InAttach}
+use Rattle.paw_stage.proofs.Names.{holds_same, holds_other}
+use Rattle.paw_play.proofs.Settled.{stable_leaves}
+use Rattle.paw_journal.specs.Session.{IsUnmade, recover, recover_by}
+use Rattle.paw_play.specs.Play.{Played, InPlay, InMaking, InNewPlay, NotYet, IsStore, attached_to, store_bytes}
+
+no_bytes : (bytes : List ℕ) → length bytes ≡ 0 → bytes ≡ []
+no_bytes [] h = refl
+no_bytes (b ∷ bytes) h = cc
+
+-- ---- files ----
+
+there_by : (name : List ℕ) (files : Files) (file : Option (List ℕ)) → files name ≡ file → made_if_missing name file files name ≡ Some (bytes_or_none file)
+there_by name files None e = holds_same name (Some []) files
+there_by name files (Some bytes) e = e
+
+is_there : (name : List ℕ) (files : Files) → made_if_missing name (files name) files name ≡ Some (bytes_or_none (files name))
+is_there name files = there_by name files (files name) refl
+
+other_by : (name n : List ℕ) (files : Files) (file : Option (List ℕ)) → n ≢ name → made_if_missing name file files n ≡ files n
+other_by name n files None ne = holds_other name n (Some []) files ne
+other_by name n files (Some bytes) ne = refl
+
+-- another file than the store's is as it was
+pub other_file : (old : Standing) (name n : List ℕ) → n ≢ name → (attached_to old name).files n ≡ old.files n
+other_file old name n ne = other_by name n old.files (old.files name) ne
+
+-- ---- the store ----
+
+pub stable_is : (bytes : List ℕ) → IsStable (stable bytes)
+stable_is bytes = record { kept = refl; longest = refl; dirty = refl }
+
+pub store_attached : (old : Standing) (name : List ℕ) → IsStore name (attached_to old name)
+store_attached old name = record { attached = refl; stable = stable_is (store_bytes old name); file = is_there name old.files }
+
+pub store_empty : (old new : Standing) (name : List ℕ) (n : ℕ) → AttachesTo old new name (Ok n) → n ≡ 0 → store_bytes old name ≡ []
+store_empty old new name n a e = no_bytes (store_bytes old name) (sym a.0 ∙ e)
+
+-- no bytes are no session
+none_unmade : (image : List ℕ) → image ≡ [] → IsUnmade (recover image)
+unfolding recover recover_by
+none_unmade image e = rw e tt
+
+-- ---- moments ----
+
+pub files_so : (old : Standing) (name : List ℕ) (files : Files) (n : List ℕ) → n ≢ name → (files ≡ old.files) ⊎ (files ≡ made_if_missing name (old.files name) old.files) → files n ≡ old.files n
+files_so old name files n ne (inl e) = ap (λ (f : Files). f n) e
+files_so old name files n ne (inr e) = ap (λ (f : Files). f n) e ∙ other_file old name n ne
+
+-- inside the attach of an empty store
+pub in_new_attach : (s : Played) (old new : Standing) (m : Moment) → new ≡ attached_to old s.name → store_bytes old s.name ≡ [] → InAttach old new s.name m → InNewPlay s old m
+in_new_attach s old new m is empty i =
+    elim i.store [
+      | inl before ↦ inl (record { asked = i.asked; shown = i.shown; files = i.files; store = inl before })
+      | inr after ↦ inr (inl (record {
+        asked = i.asked;
+        shown = i.shown;
+        attached = after.0 ∙ ap (λ (q : Standing). q.attached) is;
+        files = λ n ne. files_so old s.name m.files n ne i.files;
+        leaves = λ image may. inl (none_unmade image
+            (stable_leaves (stable (store_bytes old s.name)) image (stable_is (store_bytes old s.name)) (subst (λ d. MayLeave d image) (after.1 ∙ ap (λ (q : Standing). q.disk) is) may) ∙ empty));
+      }))
+    ]
+
+-- what holds from the attached store on holds from before the attach
+pub making_from : (s : Played) (old : Standing) (m : Moment) → InMaking s (attached_to old s.name) m → InMaking s old m
+making_from s old m i = record { asked = i.asked; shown = i.shown; attached = i.attached; files = λ n ne. i.files n ne ∙ other_file old s.name n ne; leaves = i.leaves }
+
+pub playing_from : (s : Played) (old : Standing) (m : Moment) → InPlay s (attached_to old s.name) m → InPlay s old m
+playing_from s old m i = record {
+  taken = i.taken;
+  text = i.text;
+  last = i.last;
+  there = i.there;
+  asked = i.asked;
+  shown = i.shown;
+  before = i.before;
+  attached = i.attached;
+  files = λ n ne. i.files n ne ∙ other_file old s.name n ne;
+  leaves = i.leaves;
+}
+
+pub new_from : (s : Played) (old : Standing) (m : Moment) → InMaking s (attached_to old s.name) m ⊎ InPlay s (attached_to old s.name) m → InNewPlay s old m
+new_from s old m (inl i) = inr (inl (making_from s old m i))
+new_from s old m (inr i) = inr (inr (playing_from s old m i))

@@ -1,0 +1,328 @@
+-- A session, line by line.
+use Rattle.std.proofs.Common.{◌≡◌, ◌≢◌, ℕ, zero, suc, ◌+◌, ◌-◌, ◌≤◌, ◌<◌, List, [], ◌∷◌, ◌++◌, Option, Some, None, refl, sym, ap, ◌∙◌, subst, length, take, drop, arith, append_assoc, inl, inr, ◌⊎◌, Ok, Err}
+use Rattle.std.proofs.lemmas.List.{append-nil, take-append-drop}
+use Rattle.std.specs.Prelude.{reverse, Result}
+use Rattle.paw_stage.specs.Disk.{MayLeave, IsStable}
+use Rattle.paw_stage.specs.Stage.{Standing, AsksTo}
+use Rattle.paw_stage.specs.Moments.{Moment, moment_of, InAsk, InShow}
+use Rattle.paw_stage.specs.declared.StageCall.TheVariants as call
+use Rattle.paw_stage.specs.declared.StageCall.{StageCall}
+use Rattle.paw_stage.specs.declared.Asked.{Asked}
+use Rattle.paw_stage.specs.declared.Asked.TheVariants as asked
+use Rattle.paw_play.proofs.Settled.{stable_leaves}
+use Rattle.paw_reading.specs.Turn.{Ending, on, text_of}
+use Rattle.paw_turn.specs.Player.{Seat, run_at, IsSeated, Stands}
+use Rattle.paw_turn.specs.Player.{PlaysTo as StepsTo}
+use Rattle.paw_turn.specs.declared.Step.{Step}
+use Rattle.paw_turn.specs.declared.Step.TheVariants as step
+use Rattle.paw_journal.specs.Session.{Recovered, Shown, recover, kept_digest}
+use Rattle.paw_journal.specs.Store.{IsBeside, InStore, Leaves, IsEither}
+use Rattle.paw_journal.specs.Journal.{Keeps, IsAtRest, IsWriting}
+use Rattle.paw_play.specs.declared.PlayEnd.{PlayEnd}
+use Rattle.paw_play.specs.declared.PlayEnd.TheVariants as end
+use Rattle.paw_play.specs.Walk.{Reading, first_lines, played, text_before, joined, IsWalking, Walks, WalksOn, Told, ShowsPiece, refusal_of}
+use Rattle.paw_play.specs.Session.{seat_state, IsKept}
+use Rattle.paw_play.specs.Play.{Played, KeepsLines, IsTextOf, Agrees, KeepsUp, InPlay, Rests, with_store, RestsAfterAll, RestsBeforeLast, Uncommitted, LeavesSession, ShowsAs, PlaysOn, IsPlaying, PlaysTo}
+use Rattle.paw_play.proofs.Kept.{step_kept}
+use Rattle.paw_play.proofs.Walking.{walks_on, long_walk, none_left, none_asked, text_so_far, text_shown, read_after, one_more, joined_more, drop_more, stands_after, shown_nothing}
+
+-- ---- at a prompt ----
+
+keeps_all : (s : Played) (lines : List (List ℕ)) (n : ℕ) (text : List ℕ) (r : Recovered) → Agrees s lines n text r → KeepsUp s lines n text r
+keeps_all s lines zero text r h = h
+keeps_all s lines (suc n) text r h = inl h
+
+whole_text : (s : Played) (lines : List (List ℕ)) (n : ℕ) (text : List ℕ) → text_of (s.whole (first_lines n lines)) ≡ text → IsTextOf s lines n text
+whole_text s lines n text e = ([], append-nil text ∙ sym e)
+
+-- the text so far
+text_is : (s : Played) (first now : Standing) (seat : Seat) (n : ℕ) (w : IsPlaying s first now seat n) → IsSeated seat → text_of (s.whole (first_lines n first.lines)) ≡ joined w.walking.pieces
+text_is s first now seat n w seated = text_so_far s.whole n (with_store now first) now seat w.walking seated
+
+asked_is : (s : Played) (first now : Standing) (seat : Seat) (n : ℕ) → IsPlaying s first now seat n → now.asked ≡ first.asked + n
+asked_is s first now seat n w = ap (λ (q : Standing). q.asked) w.walking.stands
+
+shown_is : (s : Played) (first now : Standing) (seat : Seat) (n : ℕ) (w : IsPlaying s first now seat n) → now.shown ≡ first.shown ++ joined w.walking.pieces
+shown_is s first now seat n w = ap (λ (q : Standing). q.shown) w.walking.stands
+
+agrees_now : (s : Played) (first now : Standing) (seat : Seat) (n : ℕ) (w : IsPlaying s first now seat n) → IsSeated seat → (image : List ℕ) → MayLeave now.disk image →
+    Agrees s first.lines n (joined w.walking.pieces) (recover image)
+agrees_now s first now seat n w seated image may = (
+  subst (λ b. KeepsLines s first.lines n (recover b)) (sym (stable_leaves now.disk image w.rests.stable may)) w.rests.keeps,
+  whole_text s first.lines n (joined w.walking.pieces) (text_is s first now seat n w seated),
+)
+
+-- at a prompt
+pub at_prompt : (s : Played) (first now : Standing) (seat : Seat) (n : ℕ) → IsPlaying s first now seat n → IsSeated seat → InPlay s first (moment_of now)
+at_prompt s first now seat n w seated = record {
+  taken = n;
+  text = joined w.walking.pieces;
+  last = w.last;
+  there = w.walking.there;
+  asked = asked_is s first now seat n w;
+  shown = shown_is s first now seat n w;
+  before = sym (text_is s first now seat n w seated) ∙ w.grown;
+  attached = w.rests.attached;
+  files = w.rests.others;
+  leaves = λ image may. keeps_all s first.lines n (joined w.walking.pieces) (recover image) (agrees_now s first now seat n w seated image may);
+}
+
+-- inside an ask that takes a line
+line_asked : (s : Played) (first now : Standing) (seat : Seat) (n : ℕ) → IsPlaying s first now seat n → IsSeated seat → suc n ≤ length first.lines →
+    InPlay s first (record (moment_of now) { asked = now.asked + 1 })
+line_asked s first now seat n w seated there = record {
+  taken = suc n;
+  text = joined w.walking.pieces;
+  last = [];
+  there = there;
+  asked = let a = asked_is s first now seat n w in omega (arith, a);
+  shown = shown_is s first now seat n w;
+  before = sym (append-nil (text_of (s.whole (first_lines n first.lines))) ∙ text_is s first now seat n w seated);
+  attached = w.rests.attached;
+  files = w.rests.others;
+  leaves = λ image may. inr (agrees_now s first now seat n w seated image may);
+}
+
+is_there : (s : Played) (first now mid : Standing) (seat : Seat) (n : ℕ) (line : List ℕ) → IsPlaying s first now seat n → now.lines ≡ line ∷ mid.lines → suc n ≤ length first.lines
+is_there s first now mid seat n line w e =
+    (drop_more first.lines n line mid.lines (ap (λ (q : Standing). q.lines) (sym w.walking.stands) ∙ e)).1
+
+-- inside an ask
+pub in_ask : (s : Played) (first now mid : Standing) (seat : Seat) (n : ℕ) (a : Asked) (into : List ℕ) (m : Moment) → IsPlaying s first now seat n → IsSeated seat →
+    AsksTo now mid a into → InAsk now a m → InPlay s first m
+in_ask s first now mid seat n (asked.Line k) into m w seated asks (inl e) = subst (InPlay s first) (sym e) (at_prompt s first now seat n w seated)
+in_ask s first now mid seat n (asked.Line k) into m w seated asks (inr e) =
+    subst (InPlay s first) (sym e) (line_asked s first now seat n w seated (is_there s first now mid seat n asks.0 w asks.1))
+in_ask s first now mid seat n asked.End into m w seated asks e = subst (InPlay s first) (sym e) (at_prompt s first now seat n w seated)
+in_ask s first now mid seat n asked.Failed into m w seated asks e = subst (InPlay s first) (sym e) (at_prompt s first now seat n w seated)
+
+-- ---- the store after a commit ----
+
+-- after the ask that took a line
+mid_attached : (s : Played) (first now mid : Standing) (seat : Seat) (n : ℕ) → IsPlaying s first now seat n → mid ≡ record now { lines = mid.lines; asked = now.asked + 1 } → mid.attached ≡ Some s.name
+mid_attached s first now mid seat n w e = ap (λ (q : Standing). q.attached) e ∙ w.rests.attached
+
+module _ (s : Played) (most n events : ℕ) (first now mid kept : Standing) (seat next : Seat) (given line : List ℕ) (step : Step)
+    (w : IsPlaying s first now seat n) (seated : IsSeated seat) (then_seated : IsSeated next) (game : next.game ≡ seat.game) (last : next.last ≡ step)
+    (lines : now.lines ≡ line ∷ mid.lines) (cut : given ≡ take 255 line) (took : mid ≡ record now { lines = mid.lines; asked = now.asked + 1 })
+    (plays : StepsTo (λ more. on seat.game [] w.walking.prompt (reverse seat.machine.frames) (run_at seat w.walking.pieces w.walking.traces (given ∷ more))) step next w.walking.pieces w.walking.traces)
+    (shows : ShowsPiece step) (counts : events ≡ s.before + suc n) where
+  -- the text of all lines that were taken
+  whole_is : s.whole (first_lines (suc n) first.lines) ≡ on seat.game [] w.walking.prompt (reverse seat.machine.frames) (run_at seat w.walking.pieces w.walking.traces (given ∷ []))
+  whole_is = read_after s.whole n (with_store now first) now mid kept seat next given line step w.walking seated then_seated game last lines cut took plays
+
+  machine_stands : Stands step next.machine
+  machine_stands = subst (λ q. Stands q next.machine) last then_seated.machine
+
+  text_more : text_of (s.whole (first_lines (suc n) first.lines)) ≡ joined w.walking.pieces ++ next.piece
+  text_more = ap text_of whole_is ∙ text_shown _ step next w.walking.pieces w.walking.traces shows machine_stands plays
+
+  -- the session that is committed keeps them
+  keeps_more : KeepsLines s first.lines (suc n) (Shown s.digest (seat_state events next) next.piece)
+  keeps_more = rw (← counts, whole_is) (step_kept s.digest events _ step next w.walking.pieces w.walking.traces shows last machine_stands plays)
+
+  there : suc n ≤ length first.lines
+  there = is_there s first now mid seat n line w lines
+
+  asked_more : mid.asked ≡ first.asked + suc n
+  asked_more = let a = asked_is s first now seat n w in let b = ap (λ (q : Standing). q.asked) took in omega (arith, a, b)
+
+  shown_so_far : mid.shown ≡ first.shown ++ joined w.walking.pieces
+  shown_so_far = ap (λ (q : Standing). q.shown) took ∙ shown_is s first now seat n w
+
+  attached_still : mid.attached ≡ Some s.name
+  attached_still = mid_attached s first now mid seat n w took
+
+  not_this : (f : List ℕ) → f ≢ s.name → mid.attached ≢ Some f
+  not_this f other e = let a : Some s.name ≡ Some f = sym attached_still ∙ e in other (cc)
+
+  others_still : (f : List ℕ) → f ≢ s.name → mid.files f ≡ first.files f
+  others_still f other = ap (λ (q : Standing). q.files f) took ∙ w.rests.others f other
+
+  -- inside the commit
+  pub in_commit : (m : Moment) → InStore mid (Leaves (IsEither (recover mid.disk.bytes) (Shown (kept_digest mid.disk.bytes) (seat_state events next) next.piece))) m → InPlay s first m
+  in_commit m i = record {
+    taken = suc n;
+    text = joined w.walking.pieces;
+    last = [];
+    there = there;
+    asked = i.asked ∙ asked_more;
+    shown = i.shown ∙ shown_so_far;
+    before = sym (append-nil (text_of (s.whole (first_lines n first.lines))) ∙ text_is s first now seat n w seated);
+    attached = i.attached ∙ attached_still;
+    files = λ f other. i.files f (not_this f other) ∙ others_still f other;
+    leaves = λ image may. elim (i.disk image may) [
+      | inl e ↦ inr (subst (λ r. KeepsLines s first.lines n r) (sym e) before_it, whole_text s first.lines n (joined w.walking.pieces) (text_is s first now seat n w seated))
+      | inr e ↦ inl (subst (λ r. KeepsLines s first.lines (suc n) r) (sym (e ∙ ap (λ d. Shown d (seat_state events next) next.piece) digest_is)) keeps_more, (next.piece, sym text_more))
+    ];
+  }
+    where
+      before_it : KeepsLines s first.lines n (recover mid.disk.bytes)
+      before_it = subst (λ (q : Standing). KeepsLines s first.lines n (recover q.disk.bytes)) (sym took) w.rests.keeps
+
+      digest_is : kept_digest mid.disk.bytes ≡ s.digest
+      digest_is = ap (λ (q : Standing). kept_digest q.disk.bytes) took ∙ w.digest
+
+  digest_still : kept_digest mid.disk.bytes ≡ s.digest
+  digest_still = ap (λ (q : Standing). kept_digest q.disk.bytes) took ∙ w.digest
+
+  -- once it is committed the store is at rest, and keeps all lines
+  pub rests_more : IsBeside mid kept → IsStable kept.disk → recover kept.disk.bytes ≡ Shown (kept_digest mid.disk.bytes) (seat_state events next) next.piece → Rests s first kept (suc n)
+  rests_more beside stable is = record {
+    attached = beside.attached ∙ attached_still;
+    stable = stable;
+    file = beside.file s.name attached_still (subst (λ (q : Standing). q.files s.name ≡ Some q.disk.bytes) (sym took) w.rests.file);
+    others = λ f other. beside.files f (not_this f other) ∙ others_still f other;
+    keeps = subst (λ r. KeepsLines s first.lines (suc n) r) (sym (is ∙ ap (λ d. Shown d (seat_state events next) next.piece) digest_still)) keeps_more;
+  }
+
+  -- inside the show of its piece
+  pub in_show : (m : Moment) → Rests s first kept (suc n) → IsBeside mid kept → InShow kept next.piece m → InPlay s first m
+  in_show m rests beside i = subst (InPlay s first) (sym i.1) (record {
+    taken = suc n;
+    text = joined w.walking.pieces ++ take i.0 next.piece;
+    last = take i.0 next.piece;
+    there = there;
+    asked = beside.asked ∙ asked_more;
+    shown = ap (λ t. t ++ take i.0 next.piece) (beside.shown ∙ shown_so_far) ∙ append_assoc first.shown (joined w.walking.pieces) (take i.0 next.piece);
+    before = ap (λ t. t ++ take i.0 next.piece) (sym (text_is s first now seat n w seated));
+    attached = rests.attached;
+    files = rests.others;
+    leaves = λ image may. inl (
+      subst (λ b. KeepsLines s first.lines (suc n) (recover b)) (sym (stable_leaves kept.disk image rests.stable may)) rests.keeps,
+      (
+        drop i.0 next.piece,
+        append_assoc (joined w.walking.pieces) (take i.0 next.piece) (drop i.0 next.piece) ∙ ap (λ t. joined w.walking.pieces ++ t) (take-append-drop i.0 next.piece) ∙ sym text_more,
+      ),
+    );
+  })
+
+  -- the walk, with the store as it stands after the commit
+  walking_with : IsWalking s.whole (with_store kept first) (with_store kept now) seat n
+  walking_with = record {
+    prompt = w.walking.prompt;
+    waits = w.walking.waits;
+    pieces = w.walking.pieces;
+    traces = w.walking.traces;
+    goes_on = w.walking.goes_on;
+    there = w.walking.there;
+    stands = ap (with_store kept) w.walking.stands;
+  }
+
+  kept_is : IsBeside mid kept → kept ≡ record (with_store kept now) { lines = kept.lines; asked = (with_store kept now).asked + 1 }
+  kept_is beside =
+      let a : kept.asked ≡ now.asked + 1 = beside.asked ∙ ap (λ (q : Standing). q.asked) took in
+      let b : kept.shown ≡ now.shown = beside.shown ∙ ap (λ (q : Standing). q.shown) took in
+      ap (λ x. record kept { asked = x }) a ∙ ap (λ x. record kept { asked = now.asked + 1; shown = x }) b
+
+  -- what comes of showing it
+  pub told_as : (new : Standing) (o : Option PlayEnd) → n < most → IsBeside mid kept → Told kept new next.piece step o → WalksOn s.whole most (with_store kept first) new next n o
+  unfolding walking_with
+  told_as new o few beside told =
+      walks_on s.whole most n (with_store kept first) (with_store kept now) kept new seat next given line step o walking_with few seated then_seated game last
+      (lines ∙ ap (λ xs. line ∷ xs) (sym beside.lines)) cut (kept_is beside) plays told
+
+  -- showing leaves the store at rest
+  rests_shown : (text : List ℕ) → Rests s first kept (suc n) → Rests s first (record kept { shown = text }) (suc n)
+  rests_shown text rests = record { attached = rests.attached; stable = rests.stable; file = rests.file; others = rests.others; keeps = rests.keeps }
+
+  rests_then : (new : Standing) (text : List ℕ) → new ≡ record kept { shown = text } → Rests s first kept (suc n) → Rests s first new (suc n)
+  rests_then new text e rests = subst (λ q. Rests s first q (suc n)) (sym e) (rests_shown text rests)
+
+  asked_then : (new : Standing) (text : List ℕ) → new ≡ record kept { shown = text } → IsBeside mid kept → new.asked ≡ first.asked + suc n
+  asked_then new text e beside = ap (λ (q : Standing). q.asked) e ∙ beside.asked ∙ asked_more
+
+  -- the session is at the next prompt
+  pub plays_next : (new : Standing) → n < most → IsBeside mid kept → Rests s first kept (suc n) → kept_digest kept.disk.bytes ≡ kept_digest mid.disk.bytes →
+      Told kept new next.piece step None → IsPlaying s first new next (suc n)
+  plays_next new few beside rests digest told = record {
+    walking = subst (λ (q : Standing). IsWalking s.whole (with_store q first) new next (suc n)) (sym told.2) (told_as new None few beside told);
+    rests = rests_then new (kept.shown ++ next.piece) told.2 rests;
+    digest = ap (λ (q : Standing). kept_digest q.disk.bytes) told.2 ∙ digest ∙ digest_still;
+    last = next.piece;
+    grown = text_more ∙ ap (λ t. t ++ next.piece) (sym (text_is s first now seat n w seated));
+  }
+
+  -- or playing on has come to its end, with the piece shown or not
+  pub plays_last : (new : Standing) (o : PlayEnd) → n < most → IsBeside mid kept → Rests s first kept (suc n) → Told kept new next.piece step (Some o) → PlaysOn s most first new o
+  plays_last new end.Ended few beside rests told = record {
+    shows = subst (λ (q : Standing). Walks s.whole most (with_store q first) new end.Ended) (sym told.1) (told_as new (Some end.Ended) few beside told);
+    session = (suc n, asked_then new (kept.shown ++ next.piece) told.1 beside, rests_then new (kept.shown ++ next.piece) told.1 rests);
+  }
+  plays_last new (end.Outside call.Show) few beside rests told = record {
+    shows = subst (λ (q : Standing). Walks s.whole most (with_store q first) new (end.Outside call.Show)) (sym told.3) (told_as new (Some (end.Outside call.Show)) few beside told);
+    session = (suc n, asked_then new (kept.shown ++ take told.2 next.piece) told.3 beside, rests_then new (kept.shown ++ take told.2 next.piece) told.3 rests);
+  }
+  plays_last new (end.Spent kind) few beside rests told = absurd (subst ShowsPiece told.0 shows)
+  plays_last new (end.TooDeep table) few beside rests told = absurd (subst ShowsPiece told.0 shows)
+  plays_last new _ few beside rests told = absurd told
+
+  -- a commit that failed
+  uncommitted : n < most → IsBeside mid kept → Uncommitted s.whole most first kept
+  unfolding walking_with
+  uncommitted few beside = (
+    n,
+    few,
+    there,
+    stands_after (with_store kept first) (with_store kept now) kept kept n (joined w.walking.pieces) [] line walking_with.stands
+        (lines ∙ ap (λ xs. line ∷ xs) (sym beside.lines)) (kept_is beside) (shown_nothing kept)
+        ∙ ap (played (with_store kept first) (suc n)) (append-nil (joined w.walking.pieces) ∙ sym (text_is s first now seat n w seated)),
+  )
+
+  pub plays_not : (c : StageCall) → n < most → IsBeside mid kept → IsWriting c → PlaysOn s most first kept (end.Outside c)
+  plays_not c few beside (inl e) = rw e (record { shows = uncommitted few beside; session = tt })
+  plays_not c few beside (inr e) = rw e (record { shows = uncommitted few beside; session = tt })
+
+-- all the lines that a session may have were taken
+pub long_play : (s : Played) (most n : ℕ) (first now : Standing) (seat : Seat) → IsPlaying s first now seat n → IsSeated seat → n ≡ most → PlaysOn s most first now (end.Long 1000000000)
+long_play s most n first now seat w seated all = record {
+  shows = long_walk s.whole most n (with_store now first) now seat w.walking seated all;
+  session = (n, asked_is s first now seat n w, w.rests);
+}
+
+-- a step that isn't refused brings a piece
+pub shows_piece : (found : Step) → None ≡ refusal_of found → ShowsPiece found
+shows_piece (step.Waits p) h = tt
+shows_piece step.Ended h = tt
+shows_piece (step.Spent kind) h = cc
+shows_piece (step.TooDeep table) h = cc
+
+-- ---- where nothing is committed ----
+
+module _ (s : Played) (most n : ℕ) (first now : Standing) (seat : Seat) (w : IsPlaying s first now seat n) (seated : IsSeated seat) (few : n < most) where
+  -- no line is left
+  pub no_line : (new : Standing) → AsksTo now new asked.End [] → PlaysOn s most first new end.InputEnded
+  no_line new e = rw e.1 (record {
+    shows = none_left s.whole most n (with_store now first) now now seat w.walking few seated (e.0, refl);
+    session = (n, asked_is s first now seat n w, w.rests);
+  })
+
+  pub no_ask : (new : Standing) → new ≡ now → PlaysOn s most first new (end.Outside call.Ask)
+  no_ask new e = rw e (record {
+    shows = none_asked s.whole most n (with_store now first) now now seat w.walking few seated refl;
+    session = (n, asked_is s first now seat n w, w.rests);
+  })
+
+  module _ (mid : Standing) (next : Seat) (given line : List ℕ) (found : Step) (then_seated : IsSeated next) (game : next.game ≡ seat.game) (last : next.last ≡ found)
+      (lines : now.lines ≡ line ∷ mid.lines) (cut : given ≡ take 255 line) (took : mid ≡ record now { lines = mid.lines; asked = now.asked + 1 })
+      (plays : StepsTo (λ more. on seat.game [] w.walking.prompt (reverse seat.machine.frames) (run_at seat w.walking.pieces w.walking.traces (given ∷ more))) found next w.walking.pieces w.walking.traces) where
+    refused_rests : RestsBeforeLast s first mid
+    refused_rests = (
+      n,
+      let a = asked_is s first now seat n w in let b = ap (λ (q : Standing). q.asked) took in omega (arith, a, b),
+      subst (λ q. Rests s first q n) (sym took) (record { attached = w.rests.attached; stable = w.rests.stable; file = w.rests.file; others = w.rests.others; keeps = w.rests.keeps }),
+    )
+
+    refused_shows : (o : PlayEnd) → Told mid mid next.piece found (Some o) → Walks s.whole most (with_store mid first) mid o
+    refused_shows o told =
+        subst (λ (q : Standing). Walks s.whole most (with_store q first) mid o) (sym took)
+        (walks_on s.whole most n (with_store now first) now mid mid seat next given line found (Some o) w.walking few seated then_seated game last lines cut took plays told)
+
+    -- the piece is spent, or a call is too deep
+    pub plays_refused : (o : PlayEnd) → refusal_of found ≡ Some o → PlaysOn s most first mid o
+    plays_refused o e = elim found as (λ q. found ≡ q → refusal_of q ≡ Some o → PlaysOn s most first mid o) [
+      | step.Waits p ↦ λ is e. cc
+      | step.Ended ↦ λ is e. cc
+      | step.Spent kind ↦ λ is e. let k : o ≡ end.Spent kind = cc in rw k (record { shows = refused_shows (end.Spent kind) (is, refl); session = refused_rests })
+      | step.TooDeep table ↦ λ is e. let k : o ≡ end.TooDeep table = cc in rw k (record { shows = refused_shows (end.TooDeep table) (is, refl); session = refused_rests })
+    ] refl e

@@ -1,0 +1,203 @@
+-- A session that is taken up again, up to its prompt.
+use Rattle.std.proofs.Common.{◌≡◌, ◌≢◌, ℕ, ◌+◌, ◌-◌, ◌≤◌, ◌<◌, List, [], ◌∷◌, ◌++◌, Option, Some, None, refl, sym, ap, ◌∙◌, subst, length, take, drop, arith}
+use Rattle.std.specs.Prelude.{reverse, replicate}
+use Rattle.std.proofs.lemmas.List.{append-nil, take-append-drop, length-reverse}
+use Rattle.std.proofs.Math.Seq.{take-append_seam}
+use Rattle.paw_game.specs.Game.{GameLists}
+use Rattle.paw_world.specs.World.{World}
+use Rattle.paw_phrase.specs.Pending.{PendingLine}
+use Rattle.paw_stage.specs.Disk.{MayLeave}
+use Rattle.paw_stage.specs.Stage.{Standing}
+use Rattle.paw_stage.specs.Moments.{Moment, InShow}
+use Rattle.paw_stage.specs.declared.StageCall.TheVariants as call
+use Rattle.paw_play.proofs.Settled.{stable_leaves}
+use Rattle.paw_effects.specs.declared.act.Prompt.{Prompt}
+use Rattle.paw_effects.specs.declared.act.Prompt.TheVariants as prompt
+use Rattle.paw_reading.specs.declared.places.Frame.{Frame}
+use Rattle.paw_reading.specs.Run.{Run}
+use Rattle.paw_reading.specs.Turn.{Ending, WaitsAt, IsOver, on, text_of}
+use Rattle.paw_process.specs.OpenTables.{OpenTables}
+use Rattle.paw_process.specs.Kept.{kept, unused}
+use Rattle.paw_turn.specs.Player.{Seat, IsSeated, Stands, StandsAt, run_at}
+use Rattle.paw_turn.specs.Parts.{step_at, seat_at}
+use Rattle.paw_turn.specs.declared.Step.TheVariants as step
+use Rattle.paw_journal.specs.Session.{Shown, recover, kept_digest}
+use Rattle.paw_state.specs.State.{State, state_of}
+use Rattle.paw_play.specs.declared.PlayEnd.{PlayEnd}
+use Rattle.paw_play.specs.declared.PlayEnd.TheVariants as end
+use Rattle.paw_play.specs.Walk.{first_lines, played, joined}
+use Rattle.paw_play.specs.Session.{kept_bytes, frames_at, state_at, IsKept}
+use Rattle.paw_play.specs.Play.{Played, KeepsLines, InPlay, Rests, with_store, PlaysOn, IsPlaying, IsStore, ShowsState, ShowsAgain, going_on, kept_session}
+use Rattle.paw_play.proofs.Kept.{kept_is}
+use Rattle.paw_play.proofs.Walking.{on_waits, first_stands}
+
+-- the run of a state whose last piece was this
+abbrev pub run_from : World → OpenTables → PendingLine → List ℕ → List (List ℕ) → Run
+run_from w m p piece lines = record {
+  world = w;
+  pending = p.bytes;
+  earlier = p.earlier;
+  turning = m.turning;
+  current = [];
+  read = [];
+  pieces = piece ∷ [];
+  traces = [];
+  events = lines;
+}
+
+-- the path of what is kept of a machine
+path_is : (m : OpenTables) → take (length m.frames) (reverse m.frames ++ replicate (11 - length m.frames) unused) ≡ reverse m.frames
+path_is m = ap (λ n. take n (reverse m.frames ++ replicate (11 - length m.frames) unused)) (sym (length-reverse m.frames)) ∙ take-append_seam (reverse m.frames) _
+
+pub goes_on_from : (g : GameLists) (w : World) (m : OpenTables) (p : PendingLine) (at : Prompt) (events n : ℕ) (piece : List ℕ) (lines : List (List ℕ)) →
+    going_on g (state_of w m p at events n) piece lines ≡ on g [] at (reverse m.frames) (run_from w m p piece lines)
+goes_on_from g w m p at events n piece lines = ap (λ path. on g [] at path (run_from w m p piece lines)) (path_is m)
+
+-- ---- by the prompt ----
+
+module _ (digest : List ℕ) (g : GameLists) (w : World) (m : OpenTables) (p : PendingLine) (events n : ℕ) (piece : List ℕ) (long : length piece ≡ n) where
+  same_state : (at : Prompt) → state_of w m p at events n ≡ state_at (events + 0) at (reverse m.frames) (run_from w m p piece [])
+  same_state at =
+      let e : events ≡ events + 0 = omega arith in
+      ap (λ k. record { world = w; frames = k; pending = p; prompt = at; events = events; piece = n }) (kept_is m)
+      ∙ ap (λ k. record { world = w; frames = frames_at (reverse m.frames) m.turning; pending = p; prompt = at; events = k; piece = n }) e
+      ∙ ap (λ k. record { world = w; frames = frames_at (reverse m.frames) m.turning; pending = p; prompt = at; events = events + 0; piece = k }) (sym long)
+
+  waits_kept : (at : Prompt) (e : Ending) → e ≡ WaitsAt at (reverse m.frames) (run_from w m p piece []) → IsKept digest (events + 0) e (Shown digest (kept_bytes (state_of w m p at events n)) piece)
+  waits_kept at e is = rw is (record { played = tt; shown = ap (λ q. Shown digest (kept_bytes q) piece) (same_state at) })
+
+  pub kept_at : (at : Prompt) → Stands (step_at at) m → IsKept digest (events + 0) (on g [] at (reverse m.frames) (run_from w m p piece [])) (Shown digest (kept_bytes (state_of w m p at events n)) piece)
+  kept_at prompt.Main h = waits_kept prompt.Main _ (on_waits g [] prompt.Main m (run_from w m p piece []) h)
+  kept_at prompt.Quit h = waits_kept prompt.Quit _ (on_waits g [] prompt.Quit m (run_from w m p piece []) h)
+  kept_at prompt.Again h = waits_kept prompt.Again _ (on_waits g [] prompt.Again m (run_from w m p piece []) h)
+  kept_at prompt.Key h = waits_kept prompt.Key _ (on_waits g [] prompt.Key m (run_from w m p piece []) h)
+  kept_at prompt.Over h = record {
+    played = refl;
+    shown = ap (λ q. Shown digest (kept_bytes q) piece) (same_state prompt.Over ∙ ap (λ fs. state_at (events + 0) prompt.Over (reverse fs) (run_from w m p piece [])) h.frames);
+  }
+
+  pub text_at : (at : Prompt) → Stands (step_at at) m → text_of (on g [] at (reverse m.frames) (run_from w m p piece [])) ≡ piece
+  text_at prompt.Main h = ap text_of (on_waits g [] prompt.Main m (run_from w m p piece []) h) ∙ append-nil piece
+  text_at prompt.Quit h = ap text_of (on_waits g [] prompt.Quit m (run_from w m p piece []) h) ∙ append-nil piece
+  text_at prompt.Again h = ap text_of (on_waits g [] prompt.Again m (run_from w m p piece []) h) ∙ append-nil piece
+  text_at prompt.Key h = ap text_of (on_waits g [] prompt.Key m (run_from w m p piece []) h) ∙ append-nil piece
+  text_at prompt.Over h = append-nil piece
+
+waits_at : (at : Prompt) → at ≢ prompt.Over → step_at at ≡ step.Waits at
+waits_at prompt.Main h = refl
+waits_at prompt.Quit h = refl
+waits_at prompt.Again h = refl
+waits_at prompt.Key h = refl
+waits_at prompt.Over h = absurd (h refl)
+
+-- ---- the session ----
+
+module _ (g : GameLists) (digest name : List ℕ) (w : World) (m : OpenTables) (p : PendingLine) (at : Prompt) (events n most : ℕ) (piece : List ℕ) (first : Standing) (seat : Seat)
+    (long : length piece ≡ n) (is : seat ≡ seat_at g w m p at) (seated : IsSeated seat) (store : IsStore name first) (own : kept_digest first.disk.bytes ≡ digest)
+    (shows : recover first.disk.bytes ≡ Shown digest (kept_bytes (state_of w m p at events n)) piece) where
+  session : Played
+  session = kept_session g (state_of w m p at events n) piece digest name
+
+  machine_stands : Stands (step_at at) m
+  machine_stands = subst (λ (q : Seat). Stands q.last q.machine) is seated.machine
+
+  text_is : text_of (going_on g (state_of w m p at events n) piece []) ≡ piece
+  text_is = ap text_of (goes_on_from g w m p at events n piece []) ∙ text_at digest g w m p events n piece long at machine_stands
+
+  keeps_now : IsKept digest (events + 0) (going_on g (state_of w m p at events n) piece []) (recover first.disk.bytes)
+  keeps_now =
+      subst (IsKept digest (events + 0) (going_on g (state_of w m p at events n) piece [])) (sym shows)
+      (subst (λ e. IsKept digest (events + 0) e (Shown digest (kept_bytes (state_of w m p at events n)) piece)) (sym (goes_on_from g w m p at events n piece []))
+      (kept_at digest g w m p events n piece long at machine_stands))
+
+  rests_first : Rests session first first 0
+  unfolding session
+  rests_first = record { attached = store.attached; stable = store.stable; file = store.file; others = λ f other. refl; keeps = keeps_now }
+
+  rests_shown : (new : Standing) (text : List ℕ) → new ≡ record first { shown = text } → Rests session first new 0
+  unfolding session
+  rests_shown new text e =
+      subst (λ q. Rests session first q 0) (sym e)
+      (record { attached = store.attached; stable = store.stable; file = store.file; others = λ f other. refl; keeps = keeps_now })
+
+  store_is : (new : Standing) (text : List ℕ) → new ≡ record first { shown = text } → first ≡ with_store new first
+  store_is new text e = ap (λ (q : Standing). with_store q first) (sym e)
+
+  stands_with : (new : Standing) (part : List ℕ) → new ≡ record first { shown = first.shown ++ part } → new ≡ played (with_store new first) 0 part
+  stands_with new part e = subst (λ q. new ≡ played q 0 part) (store_is new (first.shown ++ part) e) (first_stands first new part e)
+
+  asked_is : (new : Standing) (text : List ℕ) → new ≡ record first { shown = text } → new.asked ≡ first.asked + 0
+  asked_is new text e = ap (λ (q : Standing). q.asked) e ∙ omega arith
+
+  -- inside the show of the piece
+  pub in_again_show : (mo : Moment) → InShow first piece mo → InPlay (kept_session g (state_of w m p at events n) piece digest name) first mo
+  in_again_show mo i = subst (InPlay (kept_session g (state_of w m p at events n) piece digest name) first) (sym i.1) (record {
+    taken = 0;
+    text = take i.0 piece;
+    last = take i.0 piece;
+    there = omega arith;
+    asked = omega arith;
+    shown = refl;
+    before = refl;
+    attached = store.attached;
+    files = λ f other. refl;
+    leaves = λ image may. (
+      subst (λ b. IsKept digest (events + 0) (going_on g (state_of w m p at events n) piece []) (recover b)) (sym (stable_leaves first.disk image store.stable may)) keeps_now,
+      (drop i.0 piece, take-append-drop i.0 piece ∙ sym text_is),
+    );
+  })
+
+  -- the session is at its prompt
+  pub again_next : (new : Standing) → ShowsAgain first new piece at None → IsPlaying (kept_session g (state_of w m p at events n) piece digest name) first new seat 0
+  unfolding session
+  again_next new told = rw is (record {
+    walking = record {
+      prompt = at;
+      waits = waits_at at told.0;
+      pieces = piece ∷ [];
+      traces = [];
+      goes_on = λ more. goes_on_from g w m p at events n piece more;
+      there = omega arith;
+      stands = stands_with new piece told.1 ∙ ap (played (with_store new first) 0) (sym (append-nil piece));
+    };
+    rests = rests_shown new (first.shown ++ piece) told.1;
+    digest = ap (λ (q : Standing). kept_digest q.disk.bytes) told.1 ∙ own;
+    last = piece;
+    grown = text_is;
+  })
+
+  -- or playing it has come to its end
+  pub again_last : (new : Standing) (o : PlayEnd) → ShowsAgain first new piece at (Some o) → PlaysOn (kept_session g (state_of w m p at events n) piece digest name) most first new o
+  unfolding session
+  again_last new end.Ended told = record {
+    shows = (
+      0,
+      omega arith,
+      run_from w m p piece [],
+      refl,
+      record {
+        reading = goes_on_from g w m p at events n piece [] ∙ ap (λ q. on g [] q (reverse m.frames) (run_from w m p piece [])) told.0;
+        there = omega arith;
+        stands = stands_with new piece told.1 ∙ ap (played (with_store new first) 0) (sym (append-nil piece));
+      },
+    );
+    session = (0, asked_is new (first.shown ++ piece) told.1, rests_shown new (first.shown ++ piece) told.1);
+  }
+  again_last new (end.Outside call.Show) told = record {
+    shows = (
+      0,
+      omega arith,
+      record {
+        shown = take told.1 piece;
+        rest = drop told.1 piece;
+        part = take-append-drop told.1 piece ∙ sym text_is;
+        last = take told.1 piece;
+        before = refl;
+        grows = omega (arith, told.0, ap length text_is);
+        there = omega arith;
+        stands = stands_with new (take told.1 piece) told.2;
+      },
+    );
+    session = (0, asked_is new (first.shown ++ take told.1 piece) told.2, rests_shown new (first.shown ++ take told.1 piece) told.2);
+  }
+  again_last new _ told = absurd told

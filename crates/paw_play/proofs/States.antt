@@ -1,0 +1,20 @@
+-- The bytes of a state, as they are committed.
+use Rattle.std.proofs.Common.{◌≡◌, ℕ, List, ◌++◌, length, take, refl, sym, ap, ◌∙◌, subst}
+use Rattle.std.proofs.Math.Seq.{take-append_seam}
+use Rattle.paw_world.specs.World.{World}
+use Rattle.paw_phrase.specs.Pending.{PendingLine}
+use Rattle.paw_effects.specs.declared.act.Prompt.{Prompt}
+use Rattle.paw_process.specs.OpenTables.{OpenTables}
+use Rattle.paw_state.specs.State.{state_of}
+use Rattle.paw_play.specs.Session.{kept_bytes}
+
+-- the first bytes of a buffer
+pub cut : (bytes rest into : List ℕ) (n : ℕ) → into ≡ bytes ++ rest → length bytes ≡ n → take n into ≡ bytes
+cut bytes rest into n e l = ap (take n) e ∙ ap (λ k. take k (bytes ++ rest)) (sym l) ∙ take-append_seam bytes rest
+
+-- states of the same parts
+pub same_parts : (v w : World) (m k : OpenTables) (p q : PendingLine) (a b : Prompt) (events n l : ℕ) → v ≡ w → m ≡ k → p ≡ q → a ≡ b → n ≡ l →
+    kept_bytes (state_of v m p a events n) ≡ kept_bytes (state_of w k q b events l)
+same_parts v w m k p q a b events n l e f g h i =
+    ap (λ x. kept_bytes (state_of x m p a events n)) e ∙ ap (λ x. kept_bytes (state_of w x p a events n)) f ∙ ap (λ x. kept_bytes (state_of w k x a events n)) g
+    ∙ ap (λ x. kept_bytes (state_of w k q x events n)) h ∙ ap (λ x. kept_bytes (state_of w k q b events x)) i

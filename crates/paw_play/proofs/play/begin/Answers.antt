@@ -1,0 +1,65 @@
+use Rattle.std.proofs.Common.{◌≡◌, ◌⊎◌, refl, sym, ap, ◌∙◌, subst, inl, inr}
+use Rattle.paw_stage.proofs.Time.{Passes_map, Passes_on, Passes_none}
+use Rattle.paw_journal.specs.Session.{Shown, IsUnmade}
+use Rattle.paw_journal.specs.Store.{InStore, Leaves}
+use Rattle.paw_play.specs.Session.{seat_state}
+use Rattle.paw_play.specs.Play.{InPlay, InMaking, new_session}
+use Rattle.paw_play.proofs.Playing.{shows_piece}
+use Rattle.paw_play.proofs.Beginning.{begin_refused, in_making, rests_first, in_first_show, begins_next, begins_last}
+use Rattle.paw_play.proofs.play.begin.Goals as goal
+
+pub returns-in-Some-clause-meaning : goal.returns-in-Some-clause-meaning
+returns-in-Some-clause-meaning g c = λ tells name store.
+    begin_refused (new_session c.args.player.now.game c.args.player.now.world.seed c.args.game.now name) _ c.start-step.result c.start-step.new.self c.in-Some.end c.start-step.ensures.meaning
+    (sym c.in-Some.ensures.value)
+
+pub returns-in-Err-clause-any_moment : goal.returns-in-Err-clause-any_moment
+returns-in-Err-clause-any_moment g c = λ tells name store.
+    (Passes_map _ _ _ _ _ (λ m. InMaking (new_session c.args.player.now.game c.args.player.now.world.seed c.args.game.now name) (g.S.Stage.standing c.args.stage.now) m ⊎ InPlay (new_session c.args.player.now.game c.args.player.now.world.seed c.args.game.now name) (g.S.Stage.standing c.args.stage.now) m)
+    (c.create.ensures.any_moment tells)
+    (λ m i. inl (in_making (new_session c.args.player.now.game c.args.player.now.world.seed c.args.game.now name) _ (g.S.Stage.standing c.create.new.stage) c.start-step.new.self c.start-step.result refl store c.start-step.ensures.seated c.start-step.ensures.last c.start-step.ensures.meaning (shows_piece c.start-step.result c.in_default.ensures.value) (c.create.ensures.beside tells) m
+    (subst (λ x. InStore (g.S.Stage.standing c.args.stage.now) (Leaves (λ r. IsUnmade r ⊎ (r ≡ x))) m) (ap (λ x. Shown c.args.game.now x c.piece.result.now) c.put_state.ensures.state ∙ ap (λ x. Shown c.args.game.now (seat_state 0 c.start-step.new.self) x) c.piece.ensures.value) i))))
+
+pub returns-in-Some-told-clause-meaning : goal.returns-in-Some-told-clause-meaning
+returns-in-Some-told-clause-meaning g c = λ tells name store.
+    let rests = rests_first (new_session c.args.player.now.game c.args.player.now.world.seed c.args.game.now name) _ (g.S.Stage.standing c.create.new.stage) c.start-step.new.self c.start-step.result refl store c.start-step.ensures.seated
+    c.start-step.ensures.last c.start-step.ensures.meaning (shows_piece c.start-step.result c.in_default.ensures.value) (c.create.ensures.beside tells)
+    (c.in-Ok.ensures.kept tells).rests.stable (c.in-Ok.ensures.shown tells ∙ ap (λ x. Shown c.args.game.now x c.piece.result.now) c.put_state.ensures.state ∙ ap (λ x. Shown c.args.game.now (seat_state 0 c.start-step.new.self) x) c.piece.ensures.value) in
+    begins_last (new_session c.args.player.now.game c.args.player.now.world.seed c.args.game.now name) _ (g.S.Stage.standing c.create.new.stage) c.start-step.new.self c.start-step.result refl store c.start-step.ensures.seated
+    c.start-step.ensures.last c.start-step.ensures.meaning (shows_piece c.start-step.result c.in_default.ensures.value) (c.create.ensures.beside tells)
+    _ c.in-Some-told.end rests (c.in-Some-told.ensures.meaning (c.create.ensures.tells.0 tells))
+
+pub returns-in-None-clause-meaning : goal.returns-in-None-clause-meaning
+returns-in-None-clause-meaning g c = λ tells name store.
+    let rests = rests_first (new_session c.args.player.now.game c.args.player.now.world.seed c.args.game.now name) _ (g.S.Stage.standing c.create.new.stage) c.start-step.new.self c.start-step.result refl store c.start-step.ensures.seated
+    c.start-step.ensures.last c.start-step.ensures.meaning (shows_piece c.start-step.result c.in_default.ensures.value) (c.create.ensures.beside tells)
+    (c.in-Ok.ensures.kept tells).rests.stable (c.in-Ok.ensures.shown tells ∙ ap (λ x. Shown c.args.game.now x c.piece.result.now) c.put_state.ensures.state ∙ ap (λ x. Shown c.args.game.now (seat_state 0 c.start-step.new.self) x) c.piece.ensures.value) in
+    begins_next (new_session c.args.player.now.game c.args.player.now.world.seed c.args.game.now name) _ (g.S.Stage.standing c.create.new.stage) c.start-step.new.self c.start-step.result refl store c.start-step.ensures.seated
+    c.start-step.ensures.last c.start-step.ensures.meaning (shows_piece c.start-step.result c.in_default.ensures.value) (c.create.ensures.beside tells)
+    _ rests (c.in-Ok.ensures.digest tells) (c.in-None.ensures.meaning (c.create.ensures.tells.0 tells))
+
+pub returns-in-Some-told-clause-any_moment : goal.returns-in-Some-told-clause-any_moment
+returns-in-Some-told-clause-any_moment g c = λ tells name store.
+    let rests = rests_first (new_session c.args.player.now.game c.args.player.now.world.seed c.args.game.now name) _ (g.S.Stage.standing c.create.new.stage) c.start-step.new.self c.start-step.result refl store c.start-step.ensures.seated
+    c.start-step.ensures.last c.start-step.ensures.meaning (shows_piece c.start-step.result c.in_default.ensures.value) (c.create.ensures.beside tells)
+    (c.in-Ok.ensures.kept tells).rests.stable (c.in-Ok.ensures.shown tells ∙ ap (λ x. Shown c.args.game.now x c.piece.result.now) c.put_state.ensures.state ∙ ap (λ x. Shown c.args.game.now (seat_state 0 c.start-step.new.self) x) c.piece.ensures.value) in
+    Passes_on _ _ _ _ _ _ _ _
+    (Passes_map _ _ _ _ _ (λ m. InMaking (new_session c.args.player.now.game c.args.player.now.world.seed c.args.game.now name) (g.S.Stage.standing c.args.stage.now) m ⊎ InPlay (new_session c.args.player.now.game c.args.player.now.world.seed c.args.game.now name) (g.S.Stage.standing c.args.stage.now) m)
+    (c.create.ensures.any_moment tells)
+    (λ m i. inl (in_making (new_session c.args.player.now.game c.args.player.now.world.seed c.args.game.now name) _ (g.S.Stage.standing c.create.new.stage) c.start-step.new.self c.start-step.result refl store c.start-step.ensures.seated c.start-step.ensures.last c.start-step.ensures.meaning (shows_piece c.start-step.result c.in_default.ensures.value) (c.create.ensures.beside tells) m
+    (subst (λ x. InStore (g.S.Stage.standing c.args.stage.now) (Leaves (λ r. IsUnmade r ⊎ (r ≡ x))) m) (ap (λ x. Shown c.args.game.now x c.piece.result.now) c.put_state.ensures.state ∙ ap (λ x. Shown c.args.game.now (seat_state 0 c.start-step.new.self) x) c.piece.ensures.value) i))))
+    (c.told.ensures.time (c.create.ensures.tells.0 tells))
+    (λ m i. inr (in_first_show (new_session c.args.player.now.game c.args.player.now.world.seed c.args.game.now name) _ (g.S.Stage.standing c.create.new.stage) c.start-step.new.self c.start-step.result refl store c.start-step.ensures.seated c.start-step.ensures.last c.start-step.ensures.meaning (shows_piece c.start-step.result c.in_default.ensures.value) (c.create.ensures.beside tells) m rests i))
+
+pub returns-in-None-clause-any_moment : goal.returns-in-None-clause-any_moment
+returns-in-None-clause-any_moment g c = λ tells name store.
+    let rests = rests_first (new_session c.args.player.now.game c.args.player.now.world.seed c.args.game.now name) _ (g.S.Stage.standing c.create.new.stage) c.start-step.new.self c.start-step.result refl store c.start-step.ensures.seated
+    c.start-step.ensures.last c.start-step.ensures.meaning (shows_piece c.start-step.result c.in_default.ensures.value) (c.create.ensures.beside tells)
+    (c.in-Ok.ensures.kept tells).rests.stable (c.in-Ok.ensures.shown tells ∙ ap (λ x. Shown c.args.game.now x c.piece.result.now) c.put_state.ensures.state ∙ ap (λ x. Shown c.args.game.now (seat_state 0 c.start-step.new.self) x) c.piece.ensures.value) in
+    Passes_on _ _ _ _ _ _ _ _
+    (Passes_map _ _ _ _ _ (λ m. InMaking (new_session c.args.player.now.game c.args.player.now.world.seed c.args.game.now name) (g.S.Stage.standing c.args.stage.now) m ⊎ InPlay (new_session c.args.player.now.game c.args.player.now.world.seed c.args.game.now name) (g.S.Stage.standing c.args.stage.now) m)
+    (c.create.ensures.any_moment tells)
+    (λ m i. inl (in_making (new_session c.args.player.now.game c.args.player.now.world.seed c.args.game.now name) _ (g.S.Stage.standing c.create.new.stage) c.start-step.new.self c.start-step.result refl store c.start-step.ensures.seated c.start-step.ensures.last c.start-step.ensures.meaning (shows_piece c.start-step.result c.in_default.ensures.value) (c.create.ensures.beside tells) m
+    (subst (λ x. InStore (g.S.Stage.standing c.args.stage.now) (Leaves (λ r. IsUnmade r ⊎ (r ≡ x))) m) (ap (λ x. Shown c.args.game.now x c.piece.result.now) c.put_state.ensures.state ∙ ap (λ x. Shown c.args.game.now (seat_state 0 c.start-step.new.self) x) c.piece.ensures.value) i))))
+    (c.told.ensures.time (c.create.ensures.tells.0 tells))
+    (λ m i. inr (in_first_show (new_session c.args.player.now.game c.args.player.now.world.seed c.args.game.now name) _ (g.S.Stage.standing c.create.new.stage) c.start-step.new.self c.start-step.result refl store c.start-step.ensures.seated c.start-step.ensures.last c.start-step.ensures.meaning (shows_piece c.start-step.result c.in_default.ensures.value) (c.create.ensures.beside tells) m rests i))

@@ -1,0 +1,52 @@
+use Rattle.std.proofs.Common.{◌≡◌, ◌+◌, ◌-◌, ◌<◌, ◌≤◌, ◌∙◌, suc, arith, subst}
+use Rattle.paw_stage.proofs.Time.{Passes_on}
+use Rattle.paw_play.specs.Play.{InPlay, IsPlaying}
+use Rattle.paw_play.specs.declared.TheConstants.{MOST_EVENTS}
+use Rattle.paw_play.proofs.Playing.{long_play}
+use Rattle.paw_play.proofs.play.play_lines.Goals as goal
+
+pub returns-in-Err-clause-meaning : goal.returns-in-Err-clause-meaning
+returns-in-Err-clause-meaning g c = λ tells s first start events.
+    let i = c.loop.invariant in
+    let few : c.loop.counter - s.before < MOST_EVENTS - s.before = omega (arith, c.loop-test.true, i.from, events) in
+    let at : c.loop.session.events ≡ s.before + (c.loop.counter - s.before) = omega (arith, i.events, i.from, events) in
+    c.in-Err.ensures.meaning (i.tells.0 tells) s (MOST_EVENTS - s.before) (c.loop.counter - s.before) first (i.playing tells s first start events) at few
+
+pub returns-in-Err-clause-any_moment : goal.returns-in-Err-clause-any_moment
+returns-in-Err-clause-any_moment g c = λ tells s first start events.
+    let i = c.loop.invariant in
+    let few : c.loop.counter - s.before < MOST_EVENTS - s.before = omega (arith, c.loop-test.true, i.from, events) in
+    let at : c.loop.session.events ≡ s.before + (c.loop.counter - s.before) = omega (arith, i.events, i.from, events) in
+    Passes_on _ _ _ _ _ _ (InPlay s first) _ (i.passes tells s first start events)
+    (c.in-Err.ensures.any_moment (i.tells.0 tells) s (MOST_EVENTS - s.before) (c.loop.counter - s.before) first (i.playing tells s first start events) at few) (λ m j. j)
+
+pub loop-preserved : goal.loop-preserved
+loop-preserved g c =
+    let i = c.loop.invariant in
+    record {
+      seated = c.play_line.ensures.seated;
+      events = c.in-Ok.ensures.events ∙ omega (arith, i.events);
+      from = omega (arith, i.from);
+      few = omega (arith, c.loop-test.true);
+      draws = omega (arith, c.play_line.ensures.draws, i.draws);
+      tells = (λ t. c.play_line.ensures.tells.0 (i.tells.0 t), λ t. i.tells.1 (c.play_line.ensures.tells.1 t));
+      counts = λ k. omega (arith, i.counts k, c.play_line.ensures.counts k);
+      kept = λ tells. c.in-Ok.ensures.kept (i.tells.0 tells);
+      playing = λ tells s first start events.
+          let few : c.loop.counter - s.before < MOST_EVENTS - s.before = omega (arith, c.loop-test.true, i.from, events) in
+          let at : c.loop.session.events ≡ s.before + (c.loop.counter - s.before) = omega (arith, i.events, i.from, events) in
+          let next = c.in-Ok.ensures.meaning (i.tells.0 tells) s (MOST_EVENTS - s.before) (c.loop.counter - s.before) first (i.playing tells s first start events) at few in
+          let n : suc (c.loop.counter - s.before) ≡ c.loop.counter + 1 - s.before = omega (arith, i.from, events) in
+          subst (λ k. IsPlaying s first (g.S.Stage.standing c.play_line.new.stage) c.play_line.new.player k) n next;
+      passes = λ tells s first start events.
+          let few : c.loop.counter - s.before < MOST_EVENTS - s.before = omega (arith, c.loop-test.true, i.from, events) in
+          let at : c.loop.session.events ≡ s.before + (c.loop.counter - s.before) = omega (arith, i.events, i.from, events) in
+          Passes_on _ _ _ _ _ _ (InPlay s first) _ (i.passes tells s first start events)
+          (c.in-Ok.ensures.any_moment (i.tells.0 tells) s (MOST_EVENTS - s.before) (c.loop.counter - s.before) first (i.playing tells s first start events) at few) (λ m j. j);
+    }
+
+pub returns-clause-meaning : goal.returns-clause-meaning
+returns-clause-meaning g c = λ tells s first start events.
+    let i = c.loop.invariant in
+    let all : c.loop.counter - s.before ≡ MOST_EVENTS - s.before = omega (arith, c.loop-test.false, i.few) in
+    long_play s (MOST_EVENTS - s.before) (c.loop.counter - s.before) first (g.S.Stage.standing c.loop.stage) c.loop.player (i.playing tells s first start events) i.seated all

@@ -1,0 +1,25 @@
+use Rattle.std.proofs.Common.{◌≡◌, ◌+◌, ◌-◌, ◌*◌, ◌≤◌, ◌↔◌}
+use Rattle.paw_stage.specs.Stage.{Standing, Grows}
+use Rattle.paw_stage.specs.Moments.{Passes}
+use Rattle.paw_turn.specs.Player.{IsSeated}
+use Rattle.paw_journal.specs.Journal.{Keeps}
+use Rattle.paw_play.specs.Play.{Played, InPlay, IsPlaying}
+use Rattle.paw_play.specs.declared.TheConstants.{MOST_EVENTS}
+use Rattle.paw_play.proofs.play.play_lines.Given as goal
+
+-- as many lines were taken as the session says
+abbrev pub invariant-loop : goal.invariant-loop
+invariant-loop g l = record {
+  seated : IsSeated l.player;
+  events : l.session.events ≡ l.counter;
+  from : l.fn.session.events ≤ l.counter;
+  few : l.counter ≤ MOST_EVENTS;
+  draws : l.player.world.draws ≤ 200000 * (l.counter + 1);
+  tells : g.S.Stage.Tells l.fn.stage ↔ g.S.Stage.Tells l.stage;
+  counts : Grows (g.S.Stage.faults l.fn.stage) (g.S.Stage.faults l.stage);
+  kept : g.S.Stage.Tells l.fn.stage → Keeps l.session.journal l.room (g.S.Stage.standing l.stage);
+  playing : g.S.Stage.Tells l.fn.stage → (s : Played) (first : Standing) → IsPlaying s first (g.S.Stage.standing l.fn.stage) l.fn.player 0 → l.fn.session.events ≡ s.before →
+      IsPlaying s first (g.S.Stage.standing l.stage) l.player (l.counter - s.before);
+  passes : g.S.Stage.Tells l.fn.stage → (s : Played) (first : Standing) → IsPlaying s first (g.S.Stage.standing l.fn.stage) l.fn.player 0 → l.fn.session.events ≡ s.before →
+      Passes (g.S.Stage.clock l.fn.stage) (g.S.Stage.clock l.stage) (g.S.Stage.since l.fn.stage) (g.S.Stage.since l.stage) (InPlay s first);
+}

@@ -1,0 +1,17 @@
+use Rattle.std.proofs.Common.{◌≡◌, ◌+◌, ◌*◌, ◌≤◌, ◌↔◌, ℕ}
+use Rattle.paw_stage.specs.Stage.{Standing, Grows}
+use Rattle.paw_turn.specs.Player.{IsSeated}
+use Rattle.paw_play.specs.Walk.{Reading, IsWalking}
+use Rattle.paw_play.proofs.walk.walk_lines.Given as goal
+
+-- so many lines were taken
+abbrev pub invariant-loop : goal.invariant-loop
+invariant-loop g l = record {
+  seated : IsSeated l.player;
+  game : l.player.game ≡ l.fn.player.game;
+  draws : l.player.world.draws ≤ 200000 * (l.counter + 1);
+  tells : g.S.Stage.Tells l.fn.stage ↔ g.S.Stage.Tells l.stage;
+  counts : Grows (g.S.Stage.faults l.fn.stage) (g.S.Stage.faults l.stage);
+  walking : g.S.Stage.Tells l.fn.stage → (whole : Reading) (first : Standing) → IsWalking whole first (g.S.Stage.standing l.fn.stage) l.fn.player 0 →
+      IsWalking whole first (g.S.Stage.standing l.stage) l.player l.counter;
+}

@@ -1,0 +1,116 @@
+// Playing with a session: each line is taken, committed and then shown.
+
+ghost use Rattle.std.specs.Prelude.{◌≡◌, ◌+◌, ◌*◌, ◌<◌, ◌≤◌, ◌^◌, ◌↔◌, ℕ, take, length, OnOk, IfOk, IfErr};
+ghost use Rattle.paw_stage.specs.Stage.{Standing, Rose, Grows};
+ghost use Rattle.paw_stage.specs.Moments.{Passes};
+ghost use Rattle.paw_turn.specs.Player.{Seat, IsSeated};
+ghost use Rattle.paw_turn.specs.Parts.{IsStanding};
+ghost use Rattle.paw_journal.specs.Session.{recover, Shown, kept_digest, state_length, piece_length};
+ghost use Rattle.paw_journal.specs.Store.{IsBeside, InStore, Leaves, IsEither};
+ghost use Rattle.paw_journal.specs.Journal.{Keeps, IsWriting};
+ghost use Rattle.paw_play.specs.Session.{seat_state};
+ghost use Rattle.paw_play.specs.Play.{Played, InPlay, IsPlaying, PlaysTo};
+ghost use Rattle.paw_play.specs.Calls.{IfOutside, IsPlayCall};
+ghost use Rattle.paw_play.specs.declared.TheConstants.{MOST_EVENTS};
+
+use crate::walk::{refused, told};
+use crate::{MOST_EVENTS, PlayEnd};
+use paw_game::tables::Tables;
+use paw_journal::{Journal, Room};
+use paw_stage::{Asked, Stage, StageCall};
+use paw_state::{STATE_ROOM, write_state};
+use paw_turn::Player;
+
+/// A session in play: its journal, and how many lines it has taken.
+#[derive(Drop)]
+pub(crate) struct Session {
+    pub journal: Journal,
+    pub events: u64,
+}
+
+/// Puts the bytes of the player's state, after so many lines.
+pub(crate) fn put_state<T: Tables>(player: &Player<'_, T>, events: u64, into: &mut [u8; STATE_ROOM])
+    ensures state { take state_length into.new ≡ seat_state events player.now }
+    ensures piece { piece_length into.new ≡ length player.now.piece }
+{
+    let parts = player.parts();
+    write_state(
+        parts.world,
+        parts.machine,
+        parts.pending,
+        parts.prompt,
+        events,
+        player.piece().len() as u16,
+        into,
+    );
+}
+
+/// Commits the player's state and its last piece, after so many lines.
+fn commit<S: Stage, T: Tables>(
+    stage: &mut S,
+    player: &Player<'_, T>,
+    room: &mut Room,
+    journal: Journal,
+    events: u64,
+) -> Result<Journal, StageCall>
+    requires seated { IsSeated player.now }
+    requires standing { IsStanding player.now.last }
+    requires kept { S.Tells stage.old → Keeps journal room.old (S.standing stage.old) }
+    ensures tells { S.Tells stage.old ↔ S.Tells stage.new }
+    ensures counts { Grows (S.faults stage.old) (S.faults stage.new) }
+    ensures cause { IfErr result (λ c. IsWriting c × Rose (S.faults stage.old c) (S.faults stage.new c)) }
+    ensures shown { S.Tells stage.old → OnOk result (recover (S.standing stage.new).disk.bytes ≡ Shown (kept_digest (S.standing stage.old).disk.bytes) (seat_state events player.now) player.now.piece) }
+    ensures kept { S.Tells stage.old → IfOk result (λ kept. Keeps kept room.new (S.standing stage.new)) }
+    ensures digest { S.Tells stage.old → OnOk result (kept_digest (S.standing stage.new).disk.bytes ≡ kept_digest (S.standing stage.old).disk.bytes) }
+    ensures beside { S.Tells stage.old → IsBeside (S.standing stage.old) (S.standing stage.new) }
+    ensures any_moment { S.Tells stage.old → Passes (S.clock stage.old) (S.clock stage.new) (S.since stage.old) (S.since stage.new) (InStore (S.standing stage.old)
+        (Leaves (IsEither (recover (S.standing stage.old).disk.bytes) (Shown (kept_digest (S.standing stage.old).disk.bytes) (seat_state events player.now) player.now.piece)))) }
+{
+    let mut state = [0u8; STATE_ROOM];
+    put_state(player, events, &mut state);
+    journal.commit(stage, room, &state, player.piece())
+}
+
+/// Asks for a line and takes it; where it brings a piece, commits that and shows it.
+pub(crate) fn play_line<S: Stage, T: Tables>(
+    stage: &mut S,
+    player: &mut Player<'_, T>,
+    room: &mut Room,
+    session: Session,
+) -> Result<Session, PlayEnd>
+    requires seated { IsSeated player.old }
+    requires draws { player.old.world.draws + 200000 < 2 ^ 64 }
+    requires few { session.events < MOST_EVENTS }
+    requires kept { S.Tells stage.old → Keeps session.journal room.old (S.standing stage.old) }
+    ensures seated { IsSeated player.new }
+    ensures game { player.new.game ≡ player.old.game }
+    ensures draws { player.new.world.draws ≤ player.old.world.draws + 200000 }
+    ensures tells { S.Tells stage.old ↔ S.Tells stage.new }
+    ensures counts { Grows (S.faults stage.old) (S.faults stage.new) }
+    ensures outside { IfErr result (λ o. IfOutside o (λ c. IsPlayCall c × Rose (S.faults stage.old c) (S.faults stage.new c))) }
+    ensures events { IfOk result (λ next. next.events ≡ session.events + 1) }
+    ensures kept { S.Tells stage.old → IfOk result (λ next. Keeps next.journal room.new (S.standing stage.new)) }
+    ensures meaning { S.Tells stage.old → (s : Played) (most n : ℕ) (first : Standing) → IsPlaying s first (S.standing stage.old) player.old n → session.events ≡ s.before + n → n < most →
+        PlaysTo s most first (S.standing stage.new) player.new n result }
+    ensures any_moment { S.Tells stage.old → (s : Played) (most n : ℕ) (first : Standing) → IsPlaying s first (S.standing stage.old) player.old n → session.events ≡ s.before + n → n < most →
+        Passes (S.clock stage.old) (S.clock stage.new) (S.since stage.old) (S.since stage.new) (InPlay s first) }
+{
+    let mut line = [0u8; 255];
+    let step = match stage.ask(&mut line) {
+        Asked::Line(n) => player.take(&line[..n as usize]),
+        Asked::End => return Err(PlayEnd::InputEnded),
+        Asked::Failed => return Err(PlayEnd::Outside(StageCall::Ask)),
+    };
+    if let Some(end) = refused(step) {
+        return Err(end);
+    }
+    let events = session.events + 1;
+    let journal = match commit(stage, player, room, session.journal, events) {
+        Ok(journal) => journal,
+        Err(call) => return Err(PlayEnd::Outside(call)),
+    };
+    match told(stage, player, step) {
+        Some(end) => Err(end),
+        None => Ok(Session { journal, events }),
+    }
+}

@@ -1,0 +1,135 @@
+// Taking up a session again.
+
+ghost use Rattle.std.specs.Prelude.{◌≡◌, ◌⊎◌, ◌+◌, ◌-◌, ◌*◌, ◌<◌, ◌≤◌, ◌^◌, ◌↔◌, ℕ, [], List, length, take, IfOk, IfErr, IfSome, Some};
+ghost use Rattle.sha2.specs.Sha256.{sha256};
+ghost use Rattle.paw_game.specs.Image.{image};
+ghost use Rattle.paw_stage.specs.Disk.{IsStable};
+ghost use Rattle.paw_stage.specs.Stage.{Standing, Rose, Grows};
+ghost use Rattle.paw_stage.specs.Moments.{Passes, InShow};
+ghost use Rattle.paw_effects.specs.Built.{AllBuilt};
+ghost use Rattle.paw_state.specs.State.{State};
+ghost use Rattle.paw_turn.specs.Player.{IsSeated};
+ghost use Rattle.paw_journal.specs.Session.{kept_digest};
+ghost use Rattle.paw_journal.specs.Journal.{IsAtRest, Keeps};
+ghost use Rattle.paw_play.specs.Play.{Played, InPlay, InAgain, IsPlaying, IsStore, PlaysUp, PlaysAgain, ShowsState, ShowsAgain, end_of, kept_session, store_bytes};
+ghost use Rattle.paw_play.specs.Calls.{IfOutside, IsPlayCall, IsSessionCall};
+ghost use Rattle.paw_play.specs.declared.TheConstants.{MOST_EVENTS};
+
+use crate::PlayEnd;
+use crate::line::Session;
+use crate::play::play_lines;
+use crate::show::show;
+use paw_effects::act::Prompt;
+use paw_game::tables::Tables;
+use paw_journal::{Journal, JournalRefusal, Room, attach};
+use paw_stage::{Stage, StageCall};
+use paw_state::read_state;
+use paw_turn::Player;
+use std::alloc::Global;
+
+/// Shows the last piece of a session again. None where the session waits for a line; else what playing it comes to.
+fn show_again<S: Stage>(stage: &mut S, piece: &[u8], prompt: Prompt) -> Option<PlayEnd>
+    ensures tells { S.Tells stage.old ↔ S.Tells stage.new }
+    ensures counts { Grows (S.faults stage.old) (S.faults stage.new) }
+    ensures outside { IfSome result (λ o. IfOutside o (λ c. IsPlayCall c × Rose (S.faults stage.old c) (S.faults stage.new c))) }
+    ensures meaning { S.Tells stage.old → ShowsAgain (S.standing stage.old) (S.standing stage.new) piece.now prompt result }
+    ensures time { S.Tells stage.old → Passes (S.clock stage.old) (S.clock stage.new) (S.since stage.old) (S.since stage.new) (InShow (S.standing stage.old) piece.now) }
+{
+    if show(stage, piece).is_err() {
+        return Some(PlayEnd::Outside(StageCall::Show));
+    }
+    if prompt == Prompt::Over {
+        Some(PlayEnd::Ended)
+    } else {
+        None
+    }
+}
+
+/// What playing comes to where a session isn't found.
+fn not_found(refusal: JournalRefusal) -> PlayEnd
+    ensures value { result ≡ end_of refusal }
+{
+    match refusal {
+        JournalRefusal::Outside(call) => PlayEnd::Outside(call),
+        JournalRefusal::Unmade { .. }
+        | JournalRefusal::Damaged { .. }
+        | JournalRefusal::WrongGame { .. } => PlayEnd::Refused(refusal),
+    }
+}
+
+/// Takes up the session of the attached store, whose state and piece stand in the room.
+fn take_up<S: Stage, T: Tables>(
+    alloc: Global,
+    stage: &mut S,
+    tables: &T,
+    room: &mut Room,
+    journal: Journal,
+) -> PlayEnd
+    requires built { AllBuilt (T.game tables.now) }
+    requires kept { S.Tells stage.old → Keeps journal room.old (S.standing stage.old) }
+    ensures tells { S.Tells stage.old ↔ S.Tells stage.new }
+    ensures counts { Grows (S.faults stage.old) (S.faults stage.new) }
+    ensures outside { IfOutside result (λ c. IsPlayCall c × Rose (S.faults stage.old c) (S.faults stage.new c)) }
+    ensures plays { S.Tells stage.old → (name : List ℕ) → IsStore name (S.standing stage.old) →
+        PlaysUp (T.game tables.now) (kept_digest (S.standing stage.old).disk.bytes) name (S.standing stage.old) (S.standing stage.new) result }
+    ensures any_moment { S.Tells stage.old → (name : List ℕ) → IsStore name (S.standing stage.old) → (st : State) (piece : List ℕ) →
+        ShowsState (T.game tables.now) (kept_digest (S.standing stage.old).disk.bytes) (S.standing stage.old).disk.bytes st piece →
+        Passes (S.clock stage.old) (S.clock stage.new) (S.since stage.old) (S.since stage.new)
+        (InPlay (kept_session (T.game tables.now) st piece (kept_digest (S.standing stage.old).disk.bytes) name) (S.standing stage.old)) }
+{
+    let restored = match read_state(tables, room.state()) {
+        Ok(restored) => restored,
+        Err(fault) => return PlayEnd::State { at: fault.at },
+    };
+    let prompt = restored.prompt;
+    let events = restored.events;
+    let Ok(mut player) = Player::adopt(
+        alloc,
+        tables,
+        restored.world,
+        restored.machine,
+        restored.pending,
+        prompt,
+    ) else {
+        return PlayEnd::Memory;
+    };
+    if let Some(end) = show_again(stage, room.piece(), prompt) {
+        return end;
+    }
+    play_lines(stage, &mut player, room, Session { journal, events })
+}
+
+/// Takes up the session of a game that stands in the file of this name: shows its last piece again, and goes on from its
+/// prompt as `play_loop` does; a session that is over asks nothing. `game` is the digest of the game's image.
+pub fn resume_loop<S: Stage, T: Tables>(
+    alloc: Global,
+    stage: &mut S,
+    tables: &T,
+    game: &[u8; 32],
+    name: &str,
+) -> PlayEnd
+    requires built { AllBuilt (T.game tables.now) }
+    requires game { game.now ≡ sha256 (image (T.game tables.now)) }
+    requires synced { S.Tells stage.old → IsStable (S.standing stage.old).disk }
+    ensures tells { S.Tells stage.old ↔ S.Tells stage.new }
+    ensures counts { Grows (S.faults stage.old) (S.faults stage.new) }
+    ensures outside { IfOutside result (λ c. IsSessionCall c × Rose (S.faults stage.old c) (S.faults stage.new c)) }
+    ensures plays { S.Tells stage.old → PlaysAgain (T.game tables.now) game.now name.now (S.standing stage.old) (S.standing stage.new) result }
+    ensures any_moment { S.Tells stage.old → (st : State) (piece : List ℕ) → ShowsState (T.game tables.now) game.now (store_bytes (S.standing stage.old) name.now) st piece →
+        Passes (S.clock stage.old) (S.clock stage.new) (S.since stage.old) (S.since stage.new)
+        (InAgain (kept_session (T.game tables.now) st piece game.now name.now) (S.standing stage.old)) }
+{
+    let _counts = tables.counts();
+    let at = match attach(stage, name) {
+        Ok(at) => at,
+        Err(call) => return PlayEnd::Outside(call),
+    };
+    let Ok(mut room) = Room::new(alloc) else {
+        return PlayEnd::Memory;
+    };
+    let journal = match Journal::find(stage, &mut room, at, game) {
+        Ok(journal) => journal,
+        Err(refusal) => return not_found(refusal),
+    };
+    take_up(alloc, stage, tables, &mut room, journal)
+}
