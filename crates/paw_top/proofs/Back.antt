@@ -1,12 +1,12 @@
 -- The way of a game from its image to its source and back.
-use Rattle.std.proofs.Common.{◌≡◌, ℕ, List, ◌++◌, ◌≤◌, length, Result, Ok, Err, Some, refl, sym, ap, ◌∙◌, subst}
+use Rattle.std.proofs.Common.{◌≡◌, ℕ, List, ◌≤◌, length, Result, Ok, Some, sym, ap, ◌∙◌, subst}
 use Rattle.std.proofs.lemmas.List.{append_cancel_left}
 use Rattle.paw_base.specs.declared.fault.SourceFault.{SourceFault}
 use Rattle.paw_game.specs.Game.{GameLists}
 use Rattle.paw_game.specs.Image.{image}
 use Rattle.paw_grammar.specs.Spells.{spelled}
 use Rattle.paw_print.specs.Canonical.{canonical_of}
-use Rattle.paw_top.specs.Compile.{kept, image_line}
+use Rattle.paw_top.specs.Compile.{Kept, image_line}
 use Rattle.paw_top.specs.Compile as compile
 use Rattle.paw_top.specs.Decompile as decompile
 use Rattle.paw_top.specs.Round.{SpellsItself, ComesBack}
@@ -24,4 +24,4 @@ comes_back itself image_name source target bytes text old shown before after fil
     let i = held.2 in
     let m : spelled text ≡ Ok g = ap spelled c ∙ itself g i.valid (subst (λ l. length l ≤ 4194304) i.spelled i.short) (subst (λ l. length l ≤ 8388608) c short) in
     let same : image h ≡ bytes = ap image (sym (same_game text spells.0 g h (sym spells.1 ∙ there) spells.2 m)) ∙ sym i.spelled ∙ b in
-    subst (λ l. after ≡ kept before target l (image_line (length l))) same f
+    subst (λ l. Kept before after target l (image_line (length l))) same f

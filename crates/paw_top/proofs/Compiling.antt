@@ -50,8 +50,8 @@ keeps_so : (source target : List ℕ) (g : GameLists) (old new : Standing) (o : 
     Keeps target (image g) (image_line (length (image g))) old new o → Compiles source target old new o
 keeps_so source target g old new outcome.Done s k = done g s k
 keeps_so source target g old new (outcome.Outside call.Save) s k = unsaved g s k
-keeps_so source target g old new (outcome.Outside call.Show) s k = unshown g k.0 s k.1
-keeps_so source target g old new _ s k = absurd k
+keeps_so source target g old new (outcome.Outside call.Show) s k = unshown g k.2.0 s (k.0, k.1, k.2.1)
+keeps_so source target g old new _ s k = absurd k.2
 
 -- an image that is kept is compiled, as far as it was kept
 pub keeps_image : (source target given made line : List ℕ) (old mid new : Standing) (o : Outcome) → LoadsSome source 8388608 old mid given →

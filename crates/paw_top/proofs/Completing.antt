@@ -1,5 +1,5 @@
 -- A command whose calls don't fail.
-use Rattle.std.proofs.Common.{◌≡◌, ℕ, List, Option, Some, None, refl, sym, ap, ◌∙◌, subst}
+use Rattle.std.proofs.Common.{[], ◌≡◌, ℕ, List, Option, Some, None, refl, sym, ap, ◌∙◌, subst}
 use Rattle.std.specs.Prelude.{Result, Ok, Err}
 use Rattle.paw_base.specs.declared.fault.SourceFault.{SourceFault}
 use Rattle.paw_game.specs.Game.{GameLists}
@@ -12,12 +12,18 @@ use Rattle.paw_stage.specs.declared.StageCall.TheVariants as call
 use Rattle.paw_stage.specs.Stage.{Rose}
 use Rattle.paw_top.specs.Answers.{IfOutside, IsCall, IsCompileCall, IsDecompileCall}
 use Rattle.paw_top.specs.Compile as compile
-use Rattle.paw_top.specs.Completes.{NoFault, IsWalked, CompletesSource, CompletesCompile, CompletesDecompile, CompletesGame, CompletesWalk}
+use Rattle.paw_top.specs.Completes.{NoFault, IsWalked, CompletesSource, CompletesCompile, CompletesDecompile, CompletesGame, CompletesPlay}
 use Rattle.paw_top.specs.Decompile as decompile
 use Rattle.paw_top.specs.Loads.{Holds, HoldsNone}
 use Rattle.paw_top.specs.Unbuilt.{first_unbuilt}
 use Rattle.paw_top.specs.Walk as walk
-use Rattle.paw_top.specs.Walk.{Walks}
+use Rattle.paw_top.specs.Ends.{outcome_of}
+use Rattle.paw_top.specs.Opens.{HoldsBuilt, Unopened, unbuilt, damaged, absent, failed, wanting}
+use Rattle.paw_play.specs.Walk.{Reading, Walks}
+use Rattle.paw_play.specs.declared.PlayEnd.{PlayEnd}
+use Rattle.paw_play.specs.declared.PlayEnd.TheVariants as end
+use Rattle.paw_play.specs.declared.TheConstants.{MOST_EVENTS}
+use Rattle.paw_reading.specs.Turn.{reading}
 use Rattle.paw_top.specs.declared.unbuilt.Unbuilt.{Unbuilt}
 use Rattle.paw_top.specs.declared.outcome.Outcome.{Outcome}
 use Rattle.paw_top.specs.declared.outcome.Outcome.TheVariants as outcome
@@ -67,41 +73,57 @@ completes_decompile name old new first last _ (decompile.unshown g n s e) out no
     let fault : ⊥ = none call.Show (λ q. cc) out.1 in record { image = λ h k. absurd fault; other = λ k. absurd fault }
 completes_decompile name old new first last _ (decompile.memory at e) out none = record { image = λ h k. tt; other = λ k. tt }
 
--- ---- a walk ----
+-- ---- a game that is played ----
 
 -- a file is the image of one game
-same_game : (s : Standing) (name : List ℕ) (g k : GameLists) → Holds s name g → Holds s name k → g ≡ k
+pub same_game : (s : Standing) (name : List ℕ) (g k : GameLists) → Holds s name g → Holds s name k → g ≡ k
 same_game s name g k h i = one_game g k h.2.valid i.2.valid (sym h.2.spelled ∙ same_file _ h.0 i.0 h.1 i.1 ∙ i.2.spelled)
 
-game_memory : (place : Option Unbuilt) (at : MemoryAt) → CompletesGame place (outcome.Memory at)
-game_memory None at = tt
-game_memory (Some place) at = tt
+-- the file holds a game that is played, with an answer such as it is to be
+pub completes_game : (name : List ℕ) (Such : GameLists → Outcome → Type 0) (old : Standing) (g : GameLists) (o : Outcome) → HoldsBuilt old name g → Such g o →
+    CompletesPlay name Such old o
+completes_game name Such old g o s such = record {
+  image = λ h k. subst (λ x. CompletesGame (first_unbuilt x) (Such x) o) (sym (same_game old name h g k s.0)) (subst (λ u. CompletesGame u (Such g) o) (sym s.1) such);
+  other = λ k. absurd (is_some old name g s.0 k);
+}
 
-is_walked : (g : GameLists) (seed : ℕ) (old new : Standing) (first last : StageCall → ℕ) (o : Outcome) → Walks g seed old new o →
-    IfOutside o (λ c. IsCall c × Rose (first c) (last c)) → NoFault first last → IsWalked o
-is_walked g seed old new first last outcome.Ended w out none = tt
-is_walked g seed old new first last outcome.InputEnded w out none = tt
-is_walked g seed old new first last (outcome.Spent kind) w out none = tt
-is_walked g seed old new first last (outcome.TooDeep table) w out none = tt
-is_walked g seed old new first last (outcome.Long events) w out none = tt
-is_walked g seed old new first last (outcome.Memory at) w out none = tt
-is_walked g seed old new first last (outcome.Outside call.Ask) w out none = absurd (none call.Ask (λ q. cc) out.1)
-is_walked g seed old new first last (outcome.Outside call.Show) w out none = absurd (none call.Show (λ q. cc) out.1)
-is_walked g seed old new first last _ w out none = absurd w
+-- memory may be wanting for any game
+game_memory : (place : Option Unbuilt) (Such : Outcome → Type 0) (at : MemoryAt) → Such (outcome.Memory at) → CompletesGame place Such (outcome.Memory at)
+game_memory None Such at such = such
+game_memory (Some place) Such at such = tt
+
+-- the game isn't played
+pub completes_unopened : (name : List ℕ) (Such : GameLists → Outcome → Type 0) (Is : StageCall → Type 0) (old new : Standing) (first last : StageCall → ℕ) (o : Outcome) →
+    ((g : GameLists) (at : MemoryAt) → Such g (outcome.Memory at)) → Unopened name old new o → IfOutside o (λ c. Is c × Rose (first c) (last c)) → NoFault first last →
+    CompletesPlay name Such old o
+completes_unopened name Such Is old new first last _ memory (unbuilt g place s is e) out none = record {
+  image = λ h k. subst (λ u. CompletesGame u (Such h) (outcome.Unbuilt place.at place.code)) (sym (ap first_unbuilt (same_game old name h g k s) ∙ is)) (refl, refl);
+  other = λ k. absurd (is_some old name g s k);
+}
+completes_unopened name Such Is old new first last _ memory (damaged s e) out none =
+    record { image = λ h k. absurd (is_some old name h k s); other = λ k. refl }
+completes_unopened name Such Is old new first last _ memory (absent s e) out none =
+    record { image = λ h k. absurd (is_missing _ k.0 s k.1); other = λ k. absurd (is_missing _ k.0 s k.1) }
+completes_unopened name Such Is old new first last _ memory (failed e) out none =
+    let fault : ⊥ = none call.Load (λ q. cc) out.1 in record { image = λ h k. absurd fault; other = λ k. absurd fault }
+completes_unopened name Such Is old new first last _ memory (wanting at e) out none =
+    record { image = λ h k. game_memory (first_unbuilt h) (Such h) at (memory h at); other = λ k. tt }
+
+-- a walk comes to its end
+pub is_walked : (Is : StageCall → Type 0) (whole : Reading) (most : ℕ) (old new : Standing) (first last : StageCall → ℕ) (o : PlayEnd) → Walks whole most old new o →
+    IfOutside (outcome_of o) (λ c. Is c × Rose (first c) (last c)) → NoFault first last → IsWalked (outcome_of o)
+is_walked Is whole most old new first last end.Ended w out none = tt
+is_walked Is whole most old new first last end.InputEnded w out none = tt
+is_walked Is whole most old new first last (end.Spent kind) w out none = tt
+is_walked Is whole most old new first last (end.TooDeep table) w out none = tt
+is_walked Is whole most old new first last (end.Long events) w out none = tt
+is_walked Is whole most old new first last end.Memory w out none = tt
+is_walked Is whole most old new first last (end.Outside call.Ask) w out none = absurd (none call.Ask (λ q. cc) out.1)
+is_walked Is whole most old new first last (end.Outside call.Show) w out none = absurd (none call.Show (λ q. cc) out.1)
+is_walked Is whole most old new first last _ w out none = absurd w
 
 pub completes_walk : (name : List ℕ) (seed : ℕ) (old new : Standing) (first last : StageCall → ℕ) (o : Outcome) → walk.WalksIn name seed old new o →
-    IfOutside o (λ c. IsCall c × Rose (first c) (last c)) → NoFault first last → CompletesWalk name old o
-completes_walk name seed old new first last _ (walk.walks g o s built w) out none = record {
-  image = λ h k. subst (λ u. CompletesGame u o) (sym (ap first_unbuilt (same_game old name h g k s) ∙ built)) (is_walked g seed old new first last o w out none);
-  other = λ k. absurd (is_some old name g s k);
-}
-completes_walk name seed old new first last _ (walk.unbuilt g place s is e) out none = record {
-  image = λ h k. subst (λ u. CompletesGame u (outcome.Unbuilt place.at place.code)) (sym (ap first_unbuilt (same_game old name h g k s) ∙ is)) (refl, refl);
-  other = λ k. absurd (is_some old name g s k);
-}
-completes_walk name seed old new first last _ (walk.damaged s e) out none = record { image = λ h k. absurd (is_some old name h k s); other = λ k. refl }
-completes_walk name seed old new first last _ (walk.absent s e) out none =
-    record { image = λ h k. absurd (is_missing _ k.0 s k.1); other = λ k. absurd (is_missing _ k.0 s k.1) }
-completes_walk name seed old new first last _ (walk.failed e) out none =
-    let fault : ⊥ = none call.Load (λ q. cc) out.1 in record { image = λ h k. absurd fault; other = λ k. absurd fault }
-completes_walk name seed old new first last _ (walk.memory at e) out none = record { image = λ h k. game_memory (first_unbuilt h) at; other = λ k. tt }
+    IfOutside o (λ c. IsCall c × Rose (first c) (last c)) → NoFault first last → CompletesPlay name (λ g. IsWalked) old o
+completes_walk name seed old new first last _ (walk.walks g o s w) out none =
+    completes_game name (λ g. IsWalked) old g (outcome_of o) s (is_walked IsCall (reading g [] seed) MOST_EVENTS old new first last o w out none)
+completes_walk name seed old new first last _ (walk.unopened o u) out none = completes_unopened name (λ g. IsWalked) IsCall old new first last o (λ g at. tt) u out none

@@ -1,4 +1,7 @@
 mod Completing
+mod CompletingSessions
+mod OpenedSessions
+mod Answering
 mod Compiling
 mod Decompiling
 mod Found
@@ -6,7 +9,6 @@ mod Images
 mod Numbers
 mod Parameters
 mod Refusals
-mod Walking
 mod After
 mod Rows
 mod Digits

@@ -2,7 +2,8 @@
 use Rattle.std.specs.Prelude.{Option, Some, None}
 use Rattle.paw_stage.specs.declared.StageCall.{StageCall}
 use Rattle.paw_stage.specs.declared.StageCall.TheVariants as call
-use Rattle.paw_top.specs.Commands.{Command, Compile, Decompile, Walk}
+use Rattle.paw_play.specs.Calls.{IsWalkCall, IsSessionCall}
+use Rattle.paw_top.specs.Commands.{Command, Compile, Decompile, Walk, Play, Resume}
 use Rattle.paw_top.specs.declared.outcome.Outcome.{Outcome}
 use Rattle.paw_top.specs.declared.outcome.Outcome.TheVariants as outcome
 
@@ -17,17 +18,17 @@ IsLoadCall call.Load = Unit {0}
 IsLoadCall call.LoadAbsent = Unit {0}
 IsLoadCall _ = ⊥
 
--- the calls that a walk makes, beside the load
-abbrev pub IsWalkCall : StageCall → Type 0
-IsWalkCall call.Ask = Unit {0}
-IsWalkCall call.Show = Unit {0}
-IsWalkCall _ = ⊥
-
 -- the calls that the command walk makes
 abbrev pub IsCall : StageCall → Type 0
 IsCall call.Load = Unit {0}
 IsCall call.LoadAbsent = Unit {0}
 IsCall c = IsWalkCall c
+
+-- the calls that the commands play and resume make: a load, and those that a session needs
+abbrev pub IsKeptCall : StageCall → Type 0
+IsKeptCall call.Load = Unit {0}
+IsKeptCall call.LoadAbsent = Unit {0}
+IsKeptCall c = IsSessionCall c
 
 -- the calls that the command compile makes: a load, a save, and one text shown
 abbrev pub IsCompileCall : StageCall → Type 0
@@ -46,3 +47,5 @@ Makes None c = ⊥
 Makes (Some (Compile source image)) c = IsCompileCall c
 Makes (Some (Decompile image)) c = IsDecompileCall c
 Makes (Some (Walk image seed)) c = IsCall c
+Makes (Some (Play image store seed)) c = IsKeptCall c
+Makes (Some (Resume image store)) c = IsKeptCall c

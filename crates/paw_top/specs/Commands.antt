@@ -6,11 +6,13 @@ use Rattle.paw_top.specs.declared.commands.Command.{Command as Given}
 use Rattle.paw_top.specs.declared.commands.Command.TheVariants as given
 
 -- what is asked for: to compile a source to an image; to show the source of an image; to walk through the game of an
--- image, with a seed
+-- image, with a seed; to play it so, with a new session in a store; to go on with the session in a store
 pub data Command : Type 0 where
   Compile : (source image : List ℕ) → Command
   Decompile : (image : List ℕ) → Command
   Walk : (image : List ℕ) (seed : ℕ) → Command
+  Play : (image store : List ℕ) (seed : ℕ) → Command
+  Resume : (image store : List ℕ) → Command
 
 abbrev pub is_digit : ℕ → Bool
 is_digit c = nat_le 48 c && nat_le c 57
@@ -45,14 +47,25 @@ abbrev pub decompile_of : List (List ℕ) → Option Command
 decompile_of (image ∷ []) = if is_name image then Some (Decompile image) else None
 decompile_of _ = None
 
-abbrev pub walk_with : List ℕ → Option ℕ → Option Command
-walk_with image None = None
-walk_with image (Some seed) = Some (Walk image seed)
+-- a command with a seed, where there is one
+abbrev pub with_seed : (ℕ → Command) → Option ℕ → Option Command
+with_seed command None = None
+with_seed command (Some seed) = Some (command seed)
 
 -- walk IMAGE SEED
 abbrev pub walk_of : List (List ℕ) → Option Command
-walk_of (image ∷ seed ∷ []) = if is_name image then walk_with image (seed_of seed) else None
+walk_of (image ∷ seed ∷ []) = if is_name image then with_seed (Walk image) (seed_of seed) else None
 walk_of _ = None
+
+-- play IMAGE STORE SEED
+abbrev pub play_of : List (List ℕ) → Option Command
+play_of (image ∷ store ∷ seed ∷ []) = if is_name image && is_name store then with_seed (Play image store) (seed_of seed) else None
+play_of _ = None
+
+-- resume IMAGE STORE
+abbrev pub resume_of : List (List ℕ) → Option Command
+resume_of (image ∷ store ∷ []) = if is_name image && is_name store then Some (Resume image store) else None
+resume_of _ = None
 
 -- the first word says which form the words behind it must have
 abbrev pub command_of : List (List ℕ) → Option Command
@@ -61,6 +74,8 @@ command_of (verb ∷ rest) =
     if bytes_eq verb (codes "compile") then compile_of rest
     else if bytes_eq verb (codes "decompile") then decompile_of rest
     else if bytes_eq verb (codes "walk") then walk_of rest
+    else if bytes_eq verb (codes "play") then play_of rest
+    else if bytes_eq verb (codes "resume") then resume_of rest
     else None
 
 -- the code's answer spells what is asked for
@@ -69,3 +84,5 @@ Spells None asked = asked ≡ None
 Spells (Some (given.Compile source image)) asked = asked ≡ Some (Compile source.now image.now)
 Spells (Some (given.Decompile image)) asked = asked ≡ Some (Decompile image.now)
 Spells (Some (given.Walk image seed)) asked = asked ≡ Some (Walk image.now seed)
+Spells (Some (given.Play image store seed)) asked = asked ≡ Some (Play image.now store.now seed)
+Spells (Some (given.Resume image store)) asked = asked ≡ Some (Resume image.now store.now)

@@ -5,7 +5,7 @@ use Rattle.paw_base.specs.declared.fault.SourceFault.{SourceFault}
 use Rattle.paw_game.specs.Game.{GameLists}
 use Rattle.paw_game.specs.Image.{image}
 use Rattle.paw_grammar.specs.Spells.{spelled}
-use Rattle.paw_stage.specs.Stage.{Standing, holds, Saves}
+use Rattle.paw_stage.specs.Stage.{Standing, Saves}
 use Rattle.paw_stage.specs.declared.StageCall.TheVariants as call
 use Rattle.paw_top.specs.Shows.{showing, Shows}
 use Rattle.paw_top.specs.declared.outcome.Outcome.{Outcome}
@@ -25,8 +25,8 @@ abbrev pub image_line : ℕ → List ℕ
 image_line size = codes "IMAGE " ++ (decimal size ++ codes " BYTES\n")
 
 -- the file of this name now holds these bytes, and then this text was shown; all else stands as it was
-abbrev pub kept : Standing → List ℕ → List ℕ → List ℕ → Standing
-kept old name bytes text = showing (record old { files = holds name (Some bytes) old.files }) text
+abbrev pub Kept : Standing → Standing → List ℕ → List ℕ → List ℕ → Type 0
+Kept old new name bytes text = (mid : Standing) × Saves old mid name (Some bytes) × (new ≡ showing mid text)
 
 -- a save failed: the file of this name alone may hold any bytes, or be gone
 abbrev pub Unsaved : Standing → Standing → List ℕ → Type 0
@@ -35,7 +35,7 @@ Unsaved old new name = (new ≡ old) ⊎ ((left : Option (List ℕ)) × Saves ol
 -- how a compiler leaves what stands, by its answer
 pub data Compiles (source target : List ℕ) (old new : Standing) : Outcome → Type 0 where
   -- the source spells a game, the target holds its image, and the line was shown
-  done : (g : GameLists) → HoldsSource old source g → new ≡ kept old target (image g) (image_line (length (image g))) →
+  done : (g : GameLists) → HoldsSource old source g → Kept old new target (image g) (image_line (length (image g))) →
       Compiles source target old new outcome.Done
   -- the source has a fault; nothing is changed
   refused : (fault : SourceFault) → HoldsFault old source fault → new ≡ old → Compiles source target old new (outcome.SourceRefused fault)
@@ -46,7 +46,7 @@ pub data Compiles (source target : List ℕ) (old new : Standing) : Outcome → 
   -- the image of the game couldn't be saved; nothing was shown
   unsaved : (g : GameLists) → HoldsSource old source g → Unsaved old new target → Compiles source target old new (outcome.Outside call.Save)
   -- the line couldn't be shown: the target holds the image, and a first part of the line was shown
-  unshown : (g : GameLists) (n : ℕ) → HoldsSource old source g → new ≡ kept old target (image g) (take n (image_line (length (image g)))) →
+  unshown : (g : GameLists) (n : ℕ) → HoldsSource old source g → Kept old new target (image g) (take n (image_line (length (image g)))) →
       Compiles source target old new (outcome.Outside call.Show)
   -- memory was wanting; nothing is changed
   memory : (at : MemoryAt) → new ≡ old → Compiles source target old new (outcome.Memory at)
@@ -62,4 +62,4 @@ IsRefusal read _ = ⊥
 -- how saving a file and then showing a line leave what stands, by the answer
 abbrev pub Keeps : List ℕ → List ℕ → List ℕ → Standing → Standing → Outcome → Type 0
 Keeps name bytes line old new (outcome.Outside call.Save) = Unsaved old new name
-Keeps name bytes line old new o = Shows line (record old { files = holds name (Some bytes) old.files }) new o
+Keeps name bytes line old new o = (mid : Standing) × Saves old mid name (Some bytes) × Shows line mid new o

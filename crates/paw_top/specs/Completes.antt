@@ -1,13 +1,20 @@
 -- What a command comes to where nothing outside stands in its way.
-use Rattle.std.specs.Prelude.{◌≡◌, ◌≢◌, ℕ, List, Result, Ok, Err, Option, Some, None}
+use Rattle.std.specs.Prelude.{◌≡◌, ◌≢◌, ℕ, List, [], ◌∷◌, length, Result, Ok, Err, Option, Some, None}
 use Rattle.paw_base.specs.declared.fault.SourceFault.{SourceFault}
 use Rattle.paw_game.specs.Game.{GameLists}
 use Rattle.paw_grammar.specs.Spells.{spelled}
 use Rattle.paw_stage.specs.Stage.{Standing, Rose}
 use Rattle.paw_stage.specs.declared.StageCall.{StageCall}
 use Rattle.paw_stage.specs.declared.StageCall.TheVariants as call
-use Rattle.paw_top.specs.Commands.{Command, Compile, Decompile, Walk}
+use Rattle.paw_state.specs.State.{State}
+use Rattle.paw_journal.specs.Session.{Shown, recover}
+use Rattle.paw_journal.specs.declared.refusal.SessionPart.TheVariants as part
+use Rattle.paw_journal.specs.declared.refusal.JournalRefusal.{JournalRefusal}
+use Rattle.paw_play.specs.Play.{ShowsState, Refuses, store_bytes}
+use Rattle.paw_top.specs.Commands.{Command, Compile, Decompile, Walk, Play, Resume}
+use Rattle.paw_top.specs.Ends.{refused_as}
 use Rattle.paw_top.specs.Loads.{Holds, HoldsNone}
+use Rattle.paw_top.specs.Sessions.{digest_of}
 use Rattle.paw_top.specs.Unbuilt.{first_unbuilt}
 use Rattle.paw_top.specs.declared.unbuilt.Unbuilt.{Unbuilt}
 use Rattle.paw_top.specs.declared.outcome.Outcome.{Outcome}
@@ -49,7 +56,7 @@ pub record CompletesDecompile (name : List ℕ) (old : Standing) (o : Outcome) :
   pub image : (g : GameLists) → Holds old name g → IsDone o
   pub other : HoldsNone old name → IsDamaged o
 
--- a walk came to its end, or memory was wanting
+-- playing came to its end, or memory was wanting
 abbrev pub IsWalked : Outcome → Type 0
 IsWalked outcome.Ended = Unit {0}
 IsWalked outcome.InputEnded = Unit {0}
@@ -65,14 +72,36 @@ IsUnbuilt place (outcome.Unbuilt at code) = (at ≡ place.at) × (code ≡ place
 IsUnbuilt place (outcome.Memory at) = Unit {0}
 IsUnbuilt place _ = ⊥
 
--- a game whose condacts are built is walked through, and any other is refused for its first condact that isn't
-abbrev pub CompletesGame : Option Unbuilt → Outcome → Type 0
-CompletesGame None o = IsWalked o
-CompletesGame (Some place) o = IsUnbuilt place o
+-- this is the answer that is due, or memory was wanting
+abbrev pub Comes : Outcome → Outcome → Type 0
+Comes due (outcome.Memory at) = Unit {0}
+Comes due o = o ≡ due
 
--- where the image is there, its game is walked through or refused; where the file is no image, that is refused
-pub record CompletesWalk (name : List ℕ) (old : Standing) (o : Outcome) : Type 0 where
-  pub image : (g : GameLists) → Holds old name g → CompletesGame (first_unbuilt g) o
+-- the session was refused since it shows no state of the game, or memory was wanting
+abbrev pub IsNoState : Outcome → Type 0
+IsNoState (outcome.SessionDamaged p at) = p ≡ part.State
+IsNoState (outcome.Memory at) = Unit {0}
+IsNoState _ = ⊥
+
+-- a new session is played in an empty store, and a store with bytes is refused
+abbrev pub CompletesNew : List ℕ → Outcome → Type 0
+CompletesNew [] o = IsWalked o
+CompletesNew (b ∷ bytes) o = Comes (outcome.Occupied (length (b ∷ bytes))) o
+
+-- a session that shows a state of the game is played on, and any other store is refused
+pub record CompletesAgain (g : GameLists) (digest bytes : List ℕ) (o : Outcome) : Type 0 where
+  pub shown : (st : State) (piece : List ℕ) → ShowsState g digest bytes st piece → IsWalked o
+  pub refused : (r : JournalRefusal) → Refuses digest bytes r → Comes (refused_as r) o
+  pub no_state : (state piece : List ℕ) → recover bytes ≡ Shown digest state piece → ((st : State) → ¬ ShowsState g digest bytes st piece) → IsNoState o
+
+-- a game whose condacts are built is played, with such an answer, and any other is refused for its first condact that isn't
+abbrev pub CompletesGame : Option Unbuilt → (Outcome → Type 0) → Outcome → Type 0
+CompletesGame None Such o = Such o
+CompletesGame (Some place) Such o = IsUnbuilt place o
+
+-- where the image is there, its game is played, with such an answer, or refused; where the file is no image, that is refused
+pub record CompletesPlay (name : List ℕ) (Such : GameLists → Outcome → Type 0) (old : Standing) (o : Outcome) : Type 0 where
+  pub image : (g : GameLists) → Holds old name g → CompletesGame (first_unbuilt g) (Such g) o
   pub other : HoldsNone old name → IsDamaged o
 
 -- what a command comes to where the file that it loads is there
@@ -80,4 +109,6 @@ abbrev pub Completes : Standing → Option Command → Outcome → Type 0
 Completes old None o = Unit {0}
 Completes old (Some (Compile source image)) o = CompletesCompile source old o
 Completes old (Some (Decompile image)) o = CompletesDecompile image old o
-Completes old (Some (Walk image seed)) o = CompletesWalk image old o
+Completes old (Some (Walk image seed)) o = CompletesPlay image (λ g. IsWalked) old o
+Completes old (Some (Play image store seed)) o = CompletesPlay image (λ g. CompletesNew (store_bytes old store)) old o
+Completes old (Some (Resume image store)) o = CompletesPlay image (λ g. CompletesAgain g (digest_of g) (store_bytes old store)) old o

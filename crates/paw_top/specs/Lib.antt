@@ -1,11 +1,14 @@
 pub mod Commands
 pub mod Unbuilt
+pub mod Ends
 pub mod Outcomes
 pub mod Answers
 pub mod Loads
+pub mod Opens
 pub mod Shows
 pub mod Compile
 pub mod Decompile
 pub mod Walk
+pub mod Sessions
 pub mod Completes
 pub mod Round

@@ -4,6 +4,7 @@ use Rattle.paw_game.specs.Game.{GameLists}
 use Rattle.paw_image.specs.Images.{IsImage}
 use Rattle.paw_stage.specs.Stage.{Standing}
 use Rattle.paw_stage.specs.declared.StageCall.TheVariants as call
+use Rattle.paw_top.specs.declared.load.Image.{Image}
 use Rattle.paw_top.specs.declared.outcome.Outcome.{Outcome}
 use Rattle.paw_top.specs.declared.outcome.Outcome.TheVariants as outcome
 
@@ -26,8 +27,8 @@ LoadsNone name old new _ = ⊥
 abbrev pub LoadsSome : List ℕ → ℕ → Standing → Standing → List ℕ → Type 0
 LoadsSome name most old new given = (bytes : List ℕ) × (old.files name ≡ Some bytes) × (given ≡ take (most + 1) bytes) × (new ≡ old)
 
--- the game that the file holds, or why there is none; nothing is changed
-abbrev pub LoadsImage : List ℕ → Standing → Standing → Result GameLists Outcome → Type 0
-LoadsImage name old new (Ok g) = Holds old name g × (new ≡ old)
+-- the image that the file holds, or why there is none; nothing is changed
+abbrev pub LoadsImage : List ℕ → Standing → Standing → Result Image Outcome → Type 0
+LoadsImage name old new (Ok i) = Holds old name i.game × (new ≡ old)
 LoadsImage name old new (Err (outcome.ImageDamaged at)) = (at ≡ 0) × HoldsNone old name × (new ≡ old)
 LoadsImage name old new (Err o) = LoadsNone name old new o

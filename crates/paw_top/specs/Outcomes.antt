@@ -1,12 +1,15 @@
 -- What an outcome says to the system and to a person.
 use Rattle.std.specs.Prelude.{ℕ, List, [], ◌++◌, codes}
 use Rattle.std.specs.Fmt.{decimal}
+use Rattle.hex.specs.Hex.{encode_lower}
 use Rattle.paw_base.specs.declared.fault.SourceKind.{SourceKind}
 use Rattle.paw_base.specs.declared.fault.SourceKind.TheVariants as kind
 use Rattle.paw_base.specs.declared.fault.SpentKind.{SpentKind}
 use Rattle.paw_base.specs.declared.fault.SpentKind.TheVariants as spent
 use Rattle.paw_stage.specs.declared.StageCall.{StageCall}
 use Rattle.paw_stage.specs.declared.StageCall.TheVariants as call
+use Rattle.paw_journal.specs.declared.refusal.SessionPart.{SessionPart}
+use Rattle.paw_journal.specs.declared.refusal.SessionPart.TheVariants as part
 use Rattle.paw_top.specs.declared.outcome.Outcome.{Outcome}
 use Rattle.paw_top.specs.declared.outcome.Outcome.TheVariants as outcome
 use Rattle.paw_top.specs.declared.outcome.MemoryAt.{MemoryAt}
@@ -21,6 +24,10 @@ status_of outcome.Usage = 1
 status_of (outcome.SourceRefused fault) = 2
 status_of (outcome.ImageDamaged at) = 3
 status_of (outcome.Unbuilt at code) = 3
+status_of (outcome.Occupied n) = 4
+status_of (outcome.Unmade n mark) = 4
+status_of (outcome.SessionDamaged p at) = 4
+status_of (outcome.WrongGame kept found) = 4
 status_of (outcome.Spent kind) = 5
 status_of (outcome.TooDeep table) = 6
 status_of (outcome.Outside c) = 7
@@ -42,6 +49,11 @@ kind_name kind.Extra = codes "Extra"
 kind_name kind.Condact = codes "Condact"
 kind_name kind.Text = codes "Text"
 kind_name kind.TooBig = codes "TooBig"
+
+abbrev pub part_name : SessionPart → List ℕ
+part_name part.Header = codes "Header"
+part_name part.Slot = codes "Slot"
+part_name part.State = codes "State"
 
 abbrev pub spent_name : SpentKind → List ℕ
 spent_name spent.Condacts = codes "condacts"
@@ -74,6 +86,11 @@ text_of outcome.Usage = usage
 text_of (outcome.SourceRefused fault) = codes "source line " ++ (decimal fault.line ++ (codes ": " ++ (kind_name fault.kind ++ codes "\n")))
 text_of (outcome.ImageDamaged at) = codes "image damaged at " ++ (decimal at ++ codes "\n")
 text_of (outcome.Unbuilt at code) = codes "not built: code " ++ (decimal code ++ (codes " at " ++ (decimal at ++ codes "\n")))
+text_of (outcome.Occupied n) = codes "session has " ++ (decimal n ++ codes " bytes already\n")
+text_of (outcome.Unmade n mark) = codes "no session: length " ++ (decimal n ++ (codes ", mark " ++ (decimal mark ++ codes "\n")))
+text_of (outcome.SessionDamaged p at) = codes "session damaged: " ++ (part_name p ++ (codes " at " ++ (decimal at ++ codes "\n")))
+text_of (outcome.WrongGame kept found) =
+    codes "session is of another game: kept " ++ (encode_lower kept ++ (codes " found " ++ (encode_lower found ++ codes "\n")))
 text_of (outcome.Spent kind) = codes "piece spent its " ++ (spent_name kind ++ codes "\n")
 text_of (outcome.TooDeep table) = codes "too many calls at table " ++ (decimal table ++ codes "\n")
 text_of (outcome.Outside c) = codes "outside failed: " ++ (call_name c ++ codes "\n")

@@ -1,15 +1,32 @@
 // The words of a command.
 
 ghost use Rattle.std.specs.Prelude.{◌≡◌, ◌+◌, ◌-◌, ◌*◌, ◌<◌, ◌≤◌, ◌^◌, ℕ, map, Option, string_bytes, IfSome, IfNone};
-ghost use Rattle.paw_top.specs.Commands.{command_of, compile_of, decompile_of, walk_of, seed_of, has_seed_shape, is_digit, number_after, Spells};
+ghost use Rattle.paw_top.specs.Commands.{command_of, compile_of, decompile_of, walk_of, play_of, resume_of, seed_of, has_seed_shape, is_digit, number_after, Spells};
 ghost use Rattle.std.specs.List.{list_all};
 
 /// What is asked for.
 #[derive(Clone, Copy, Drop)]
 pub(crate) enum Command<'a> {
-    Compile { source: &'a str, image: &'a str },
-    Decompile { image: &'a str },
-    Walk { image: &'a str, seed: u64 },
+    Compile {
+        source: &'a str,
+        image: &'a str,
+    },
+    Decompile {
+        image: &'a str,
+    },
+    Walk {
+        image: &'a str,
+        seed: u64,
+    },
+    Play {
+        image: &'a str,
+        store: &'a str,
+        seed: u64,
+    },
+    Resume {
+        image: &'a str,
+        store: &'a str,
+    },
 }
 
 // A number with one digit more; None where it is 2^64 or more.
@@ -106,6 +123,34 @@ fn walk_of<'a>(names: &'a [String]) -> Option<Command<'a>>
     })
 }
 
+// IMAGE STORE SEED, behind `play`.
+fn play_of<'a>(names: &'a [String]) -> Option<Command<'a>>
+    ensures value { Spells result (play_of (map string_bytes names.now)) }
+{
+    if names.len() != 3 || names[0].is_empty() || names[1].is_empty() {
+        return None;
+    }
+    let seed = seed_of(names[2].as_str())?;
+    Some(Command::Play {
+        image: names[0].as_str(),
+        store: names[1].as_str(),
+        seed,
+    })
+}
+
+// IMAGE STORE, behind `resume`.
+fn resume_of<'a>(names: &'a [String]) -> Option<Command<'a>>
+    ensures value { Spells result (resume_of (map string_bytes names.now)) }
+{
+    if names.len() != 2 || names[0].is_empty() || names[1].is_empty() {
+        return None;
+    }
+    Some(Command::Resume {
+        image: names[0].as_str(),
+        store: names[1].as_str(),
+    })
+}
+
 /// What these words ask for; None where they have no form.
 pub(crate) fn command_of<'a>(words: &'a [String]) -> Option<Command<'a>>
     ensures value { Spells result (command_of (map string_bytes words.now)) }
@@ -115,6 +160,8 @@ pub(crate) fn command_of<'a>(words: &'a [String]) -> Option<Command<'a>>
         "compile" => compile_of(names),
         "decompile" => decompile_of(names),
         "walk" => walk_of(names),
+        "play" => play_of(names),
+        "resume" => resume_of(names),
         _ => None,
     }
 }

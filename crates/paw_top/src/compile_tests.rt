@@ -1,6 +1,7 @@
 // Sources that are compiled and images that are decompiled, over stages in memory, and each way in which one is refused.
 
 use crate::outcome::{MemoryAt, Outcome};
+use crate::settled::settle;
 use crate::tests::words_of;
 use crate::top::paw;
 use paw_base::fault::{SourceFault, SourceKind};
@@ -95,6 +96,7 @@ fn is_left_so<S: Stage>(
 // The command comes to what the case says.
 fn comes_so(rt: &impl Abort, alloc: Global, case: &Case<'_>) -> Result<(), Fail> {
     let mut stage = stage_of(alloc, case)?;
+    settle(rt, &mut stage);
     let words = words_of(alloc, case.words)?;
     let outcome = paw(alloc, &mut stage, words.as_slice());
     assert_eq!(rt; outcome, case.outcome, "{}", case.name);
@@ -242,6 +244,7 @@ fn a_condact_line_has_two_forms(rt: HostRuntime) -> Result<(), Fail> {
         let mut stage = MemoryStage::new(alloc, 100, 10_000)?;
         stage.add_file("source", source.as_bytes())?;
         let words = words_of(alloc, COMPILE)?;
+        settle(&rt, &mut stage);
         assert_eq!(rt;
             paw(alloc, &mut stage, words.as_slice()),
             Outcome::Done,
@@ -284,7 +287,9 @@ fn a_call_that_fails_ends_the_command(rt: HostRuntime) -> Result<(), Fail> {
         (decompile, 1, StageCall::Show),
     ] {
         let listed = [call].to_vec(alloc)?;
-        let mut stage = FailStage::new(stage_of(alloc, &case)?, listed);
+        let mut settled = stage_of(alloc, &case)?;
+        settle(&rt, &mut settled);
+        let mut stage = FailStage::new(settled, listed);
         let words = words_of(alloc, case.words)?;
         let came = paw(alloc, &mut stage, words.as_slice());
         assert_eq!(rt;

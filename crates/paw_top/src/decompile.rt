@@ -6,7 +6,7 @@ ghost use Rattle.paw_top.specs.Answers.{IfOutside, IsDecompileCall};
 ghost use Rattle.paw_top.specs.Decompile.{Decompiles};
 ghost use Rattle.paw_top.specs.declared.outcome.Outcome.TheVariants as outcome;
 
-use crate::load::load_game;
+use crate::load::load_image;
 use crate::outcome::{MemoryAt, Outcome};
 use crate::show::tell;
 use paw_print::canonical;
@@ -21,11 +21,11 @@ pub(crate) fn decompile<S: Stage>(alloc: Global, stage: &mut S, image: &str) -> 
     ensures form { result ≢ outcome.Usage }
     ensures decompiles { S.Tells stage.old → Decompiles image.now (S.standing stage.old) (S.standing stage.new) result }
 {
-    let game = match load_game(alloc, stage, image) {
-        Ok(game) => game,
+    let image = match load_image(alloc, stage, image) {
+        Ok(image) => image,
         Err(outcome) => return outcome,
     };
-    let Ok(source) = canonical(alloc, &game) else {
+    let Ok(source) = canonical(alloc, &image.game) else {
         return Outcome::Memory(MemoryAt::Print);
     };
     tell(stage, source.as_slice())

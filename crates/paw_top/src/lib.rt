@@ -8,7 +8,13 @@ mod compile_tests;
 mod decompile;
 pub mod laws;
 mod load;
+mod open;
 pub mod outcome;
+#[cfg(test)]
+mod session_tests;
+mod sessions;
+#[cfg(test)]
+mod settled;
 mod show;
 #[cfg(test)]
 mod source_tests;
@@ -16,7 +22,3 @@ mod source_tests;
 mod tests;
 pub mod top;
 pub mod unbuilt;
-mod walk;
-
-/// The most lines that one session takes.
-pub const MOST_EVENTS: u64 = 1_000_000_000;

@@ -3,6 +3,7 @@
 ghost use Rattle.std.specs.Prelude.{◌≡◌, ◌≢◌, ◌≤◌, ◌↔◌, ℕ, length, IfOk, IfErr};
 ghost use Rattle.paw_game.specs.Image.{image};
 ghost use Rattle.paw_image.specs.declared.TheConstants.{IMAGE_LIMIT};
+ghost use Rattle.paw_stage.specs.Moments.{Passes, Still};
 ghost use Rattle.paw_stage.specs.Stage.{Standing, Rose, Grows};
 ghost use Rattle.paw_top.specs.Answers.{IfOutside, IsLoadCall};
 ghost use Rattle.paw_top.specs.Loads.{LoadsSome, LoadsNone, LoadsImage};
@@ -29,6 +30,7 @@ pub(crate) fn load<S: Stage>(
     ensures form { IfErr result (λ o. o ≢ outcome.Usage) }
     ensures some { S.Tells stage.old → IfOk result (λ v. LoadsSome name.now most (S.standing stage.old) (S.standing stage.new) v.items) }
     ensures none { S.Tells stage.old → IfErr result (LoadsNone name.now (S.standing stage.old) (S.standing stage.new)) }
+    ensures time { S.Tells stage.old → Passes (S.clock stage.old) (S.clock stage.new) (S.since stage.old) (S.since stage.new) (Still (S.standing stage.old)) }
 {
     match stage.load(alloc, name, most) {
         Ok(bytes) => Ok(bytes),
@@ -38,18 +40,31 @@ pub(crate) fn load<S: Stage>(
     }
 }
 
-/// The game of an image file, or why there is none.
-pub(crate) fn load_game<S: Stage>(alloc: Global, stage: &mut S, name: &str) -> Result<Game, Outcome>
+/// The image of a game: its bytes, and the game.
+#[derive(Drop)]
+pub(crate) struct Image {
+    pub bytes: Vec<u8>,
+    pub game: Game,
+}
+
+/// The image that a file holds, or why there is none.
+pub(crate) fn load_image<S: Stage>(
+    alloc: Global,
+    stage: &mut S,
+    name: &str,
+) -> Result<Image, Outcome>
     ensures tells { S.Tells stage.old ↔ S.Tells stage.new }
     ensures counts { Grows (S.faults stage.old) (S.faults stage.new) }
     ensures outside { IfErr result (λ o. IfOutside o (λ c. IsLoadCall c × Rose (S.faults stage.old c) (S.faults stage.new c))) }
     ensures form { IfErr result (λ o. o ≢ outcome.Usage) }
-    ensures short { IfOk result (λ g. length (image g) ≤ IMAGE_LIMIT) }
+    ensures bytes { IfOk result (λ i. i.bytes.items ≡ image i.game) }
+    ensures short { IfOk result (λ i. length (image i.game) ≤ IMAGE_LIMIT) }
     ensures loads { S.Tells stage.old → LoadsImage name.now (S.standing stage.old) (S.standing stage.new) result }
+    ensures time { S.Tells stage.old → Passes (S.clock stage.old) (S.clock stage.new) (S.since stage.old) (S.since stage.new) (Still (S.standing stage.old)) }
 {
     let bytes = load(alloc, stage, name, IMAGE_LIMIT)?;
     match decode(alloc, bytes.as_slice()) {
-        Ok(game) => Ok(game),
+        Ok(game) => Ok(Image { bytes, game }),
         Err(ImageRefusal::Damaged { at }) => Err(Outcome::ImageDamaged { at }),
         Err(ImageRefusal::Memory) => Err(Outcome::Memory(MemoryAt::Image)),
     }

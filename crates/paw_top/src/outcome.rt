@@ -1,9 +1,13 @@
 // What a command comes to.
 
 ghost use Rattle.std.specs.Prelude.{◌≡◌, IfOk, string_bytes};
-ghost use Rattle.paw_top.specs.Outcomes.{status_of, text_of, call_name, kind_name, memory_name, spent_name};
+ghost use Rattle.paw_top.specs.Ends.{outcome_of, refused_as};
+ghost use Rattle.paw_top.specs.declared.outcome.Outcome.TheVariants as outcome;
+ghost use Rattle.paw_top.specs.Outcomes.{status_of, text_of, call_name, kind_name, memory_name, part_name, spent_name};
 
 use paw_base::fault::{NoRoom, SourceFault, SourceKind, SpentKind};
+use paw_journal::{JournalRefusal, SessionPart};
+use paw_play::PlayEnd;
 use paw_stage::StageCall;
 use std::alloc::Global;
 
@@ -18,11 +22,17 @@ pub enum MemoryAt {
     Play,
 }
 
-/// What a command comes to. Done: the command did what it is for. Ended: the game is over. InputEnded: no line is left at a prompt. Usage: the words have no
-/// form. SourceRefused: the source has a fault; its first is named. ImageDamaged: the file is no image of a valid game. Unbuilt: the image has a condact that isn't built yet; the
-/// place and the code of the first are named. Spent: a piece would read or hold too much. TooDeep: a table was called
-/// at the deepest level. Outside: a call of the stage failed. Long: the session has all the lines that it may have.
-/// Memory: want of memory.
+/// What a command comes to. Done: the command did what it is for. Ended: the game is over. InputEnded: no line is left at a
+/// prompt. Usage: the words have no form. SourceRefused: the source has a fault; its first is named. ImageDamaged: the file
+/// is no image of a valid game. Unbuilt: the image has a condact that isn't built yet; the place and the code of the first
+/// are named.
+///
+/// Of a store. Occupied: a new session was asked for, and the store has so many bytes already. Unmade: it has no session; its
+/// length in bytes, and its first byte (0 where there is none). SessionDamaged: a rule of the session is broken, first at
+/// this place in this part. WrongGame: the session is of another game; the digest that it keeps, and that of the image.
+///
+/// Spent: a piece would read or hold too much. TooDeep: a table was called at the deepest level. Outside: a call of the stage
+/// failed. Long: the session has all the lines that it may have. Memory: want of memory.
 #[derive(Clone, Copy, Drop, PartialEq, Eq, Debug)]
 pub enum Outcome {
     Done,
@@ -32,11 +42,48 @@ pub enum Outcome {
     SourceRefused(SourceFault),
     ImageDamaged { at: u64 },
     Unbuilt { at: u64, code: u8 },
+    Occupied { length: u64 },
+    Unmade { length: u64, mark: u8 },
+    SessionDamaged { part: SessionPart, at: u64 },
+    WrongGame { kept: [u8; 32], found: [u8; 32] },
     Spent(SpentKind),
     TooDeep { table: u8 },
     Outside(StageCall),
     Long { events: u64 },
     Memory(MemoryAt),
+}
+
+/// The answer for a store that gives no session of the game.
+fn refused_as(refusal: JournalRefusal) -> Outcome
+    ensures value { result ≡ refused_as refusal }
+{
+    match refusal {
+        JournalRefusal::Unmade { length, mark } => Outcome::Unmade { length, mark },
+        JournalRefusal::Damaged { part, at } => Outcome::SessionDamaged { part, at },
+        JournalRefusal::WrongGame { kept, found } => Outcome::WrongGame { kept, found },
+        JournalRefusal::Outside(call) => Outcome::Outside(call),
+    }
+}
+
+/// The answer for what playing comes to.
+pub(crate) fn outcome_of(end: PlayEnd) -> Outcome
+    ensures value { result ≡ outcome_of end }
+{
+    match end {
+        PlayEnd::Ended => Outcome::Ended,
+        PlayEnd::InputEnded => Outcome::InputEnded,
+        PlayEnd::Occupied { length } => Outcome::Occupied { length },
+        PlayEnd::Refused(refusal) => refused_as(refusal),
+        PlayEnd::State { at } => Outcome::SessionDamaged {
+            part: SessionPart::State,
+            at,
+        },
+        PlayEnd::Spent(kind) => Outcome::Spent(kind),
+        PlayEnd::TooDeep { table } => Outcome::TooDeep { table },
+        PlayEnd::Long { events } => Outcome::Long { events },
+        PlayEnd::Outside(call) => Outcome::Outside(call),
+        PlayEnd::Memory => Outcome::Memory(MemoryAt::Play),
+    }
 }
 
 /// What stands on standard error where the words have no form: every command of the tool, built or not.
@@ -91,6 +138,17 @@ fn memory_name(at: MemoryAt) -> &'static str
     }
 }
 
+// The name of a part of a session.
+fn part_name(part: SessionPart) -> &'static str
+    ensures { result.now ≡ part_name part }
+{
+    match part {
+        SessionPart::Header => "Header",
+        SessionPart::Slot => "Slot",
+        SessionPart::State => "State",
+    }
+}
+
 // What a piece has used up.
 fn spent_name(kind: SpentKind) -> &'static str
     ensures { result.now ≡ spent_name kind }
@@ -101,9 +159,18 @@ fn spent_name(kind: SpentKind) -> &'static str
     }
 }
 
+// The text that names two digests, in hexadecimal digits.
+fn wrong_game_text(alloc: Global, kept: &[u8; 32], found: &[u8; 32]) -> Result<String, NoRoom>
+    ensures value { IfOk result (λ text. string_bytes text ≡ text_of (outcome.WrongGame kept.now found.now)) }
+{
+    let kept = hex::encode(alloc, kept.as_slice())?;
+    let found = hex::encode(alloc, found.as_slice())?;
+    Ok(format!(in alloc; "session is of another game: kept {kept} found {found}\n")?)
+}
+
 impl Outcome {
     /// The exit status of the program: 0 where the command did what it is for, 1 for words with no form, 2 for a source, 3 for an
-    /// image, 5 and 6 for a piece that is spent and a call too deep, 7 for a failed call, 8 for want of memory, 9 for a session
+    /// image, 4 for a store, 5 and 6 for a piece that is spent and a call too deep, 7 for a failed call, 8 for want of memory, 9 for a session
     /// that is full.
     pub fn status(&self) -> u8
         ensures value { result ≡ status_of self.now }
@@ -113,6 +180,10 @@ impl Outcome {
             Outcome::Usage => 1,
             Outcome::SourceRefused(_) => 2,
             Outcome::ImageDamaged { .. } | Outcome::Unbuilt { .. } => 3,
+            Outcome::Occupied { .. }
+            | Outcome::Unmade { .. }
+            | Outcome::SessionDamaged { .. }
+            | Outcome::WrongGame { .. } => 4,
             Outcome::Spent(_) => 5,
             Outcome::TooDeep { .. } => 6,
             Outcome::Outside(_) => 7,
@@ -141,6 +212,17 @@ impl Outcome {
             Outcome::Unbuilt { at, code } => Ok(format!(in alloc;
                 "not built: code {code} at {at}\n"
             )?),
+            Outcome::Occupied { length } => Ok(format!(in alloc;
+                "session has {length} bytes already\n"
+            )?),
+            Outcome::Unmade { length, mark } => Ok(format!(in alloc;
+                "no session: length {length}, mark {mark}\n"
+            )?),
+            Outcome::SessionDamaged { part, at } => {
+                let name = part_name(part);
+                Ok(format!(in alloc; "session damaged: {name} at {at}\n")?)
+            }
+            Outcome::WrongGame { kept, found } => wrong_game_text(alloc, &kept, &found),
             Outcome::Spent(kind) => {
                 let name = spent_name(kind);
                 Ok(format!(in alloc; "piece spent its {name}\n")?)

@@ -2,6 +2,7 @@
 
 use crate::compile_tests::{LANTERN, SMALLEST};
 use crate::outcome::Outcome;
+use crate::settled::settle;
 use crate::tests::words_of;
 use crate::top::paw;
 use paw_base::fault::SpentKind;
@@ -167,10 +168,12 @@ fn walked(
         stage.add_line(alloc, line.as_bytes())?;
     }
     let words = words_of(alloc, "compile\nsource\ngame")?;
+    settle(rt, &mut stage);
     let outcome = paw(alloc, &mut stage, words.as_slice());
     assert_eq!(rt; outcome, Outcome::Done);
     let compiled = stage.shown().len();
     let words = words_of(alloc, "walk\ngame\n7")?;
+    settle(rt, &mut stage);
     let outcome = paw(alloc, &mut stage, words.as_slice());
     let shown = stage.shown().get(compiled..).unwrap_or(b"");
     Ok((outcome, Vec::from_slice(alloc, shown)?))
@@ -713,9 +716,11 @@ fn printed(rt: &impl Abort, alloc: Global, source: &[u8]) -> Result<(Vec<u8>, Ve
     let mut stage = MemoryStage::new(alloc, 1_000, 100_000)?;
     stage.add_file("source", source)?;
     let words = words_of(alloc, "compile\nsource\nimage")?;
+    settle(rt, &mut stage);
     assert_eq!(rt; paw(alloc, &mut stage, words.as_slice()), Outcome::Done);
     let told = stage.shown().len();
     let words = words_of(alloc, "decompile\nimage")?;
+    settle(rt, &mut stage);
     assert_eq!(rt; paw(alloc, &mut stage, words.as_slice()), Outcome::Done);
     let text = Vec::from_slice(alloc, stage.shown().get(told..).unwrap_or(b""))?;
     Ok((image_in(alloc, &mut stage)?, text))

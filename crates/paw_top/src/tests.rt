@@ -1,9 +1,10 @@
 // Walks over stages in memory, and each way in which a walk is refused.
 
-use crate::MOST_EVENTS;
 use crate::outcome::{MemoryAt, Outcome};
+use crate::settled::settle;
 use crate::top::paw;
 use paw_base::fault::SpentKind;
+use paw_play::MOST_EVENTS;
 use paw_stage::{Asked, FailStage, MemoryStage, Stage, StageCall};
 use std::alloc::{AllocError, Global};
 use std::process::Abort;
@@ -70,6 +71,7 @@ fn shows(
 ) -> Result<(), Fail> {
     let mut stage = stage_of(alloc, image, lines)?;
     let words = words_of(alloc, WALK)?;
+    settle(rt, &mut stage);
     let outcome = paw(alloc, &mut stage, words.as_slice());
     assert_eq!(rt; outcome, Outcome::InputEnded, "{lines:?}");
     assert_eq!(rt; stage.shown(), shown.as_bytes(), "{lines:?}");
@@ -210,6 +212,7 @@ struct Case<'a> {
 fn comes_so(rt: &impl Abort, alloc: Global, case: &Case<'_>) -> Result<(), Fail> {
     let mut stage = stage_of(alloc, case.image, "N")?;
     let words = words_of(alloc, case.words)?;
+    settle(rt, &mut stage);
     let outcome = paw(alloc, &mut stage, words.as_slice());
     assert_eq!(rt; outcome, case.outcome, "{}", case.name);
     assert_eq!(rt; stage.shown(), case.shown.as_bytes(), "{}", case.name);
@@ -360,7 +363,9 @@ fn a_call_that_fails_ends_the_walk(rt: HostRuntime) -> Result<(), Fail> {
         ("~\nN", 3, ask, FIRST, Asked::Line(1)),
     ] {
         let listed = [call].to_vec(alloc)?;
-        let mut stage = FailStage::new(stage_of(alloc, &TWO_ROOMS, lines)?, listed);
+        let mut settled = stage_of(alloc, &TWO_ROOMS, lines)?;
+        settle(&rt, &mut settled);
+        let mut stage = FailStage::new(settled, listed);
         let came = paw(alloc, &mut stage, words.as_slice());
         assert_eq!(rt; came, outcome, "{lines:?}, call {call}");
         assert_eq!(rt;

@@ -1,11 +1,18 @@
 // The top call.
 
-ghost use Rattle.std.specs.Prelude.{◌≡◌, ◌≢◌, ◌↔◌, ℕ, List, map, string_bytes, Option, Some, None};
+ghost use Rattle.std.specs.Prelude.{◌≡◌, ◌≢◌, ◌↔◌, ℕ, List, [], map, string_bytes, Option, Some, None};
+ghost use Rattle.paw_game.specs.Game.{GameLists};
+ghost use Rattle.paw_stage.specs.Disk.{IsStable};
+ghost use Rattle.paw_stage.specs.Moments.{Passes};
 ghost use Rattle.paw_stage.specs.Stage.{Standing, Rose, Grows};
-ghost use Rattle.paw_top.specs.Commands.{Compile as CompileOf, Decompile as DecompileOf, Walk as WalkOf, command_of};
+ghost use Rattle.paw_state.specs.State.{State};
+ghost use Rattle.paw_play.specs.Play.{InNewPlay, InAgain, ShowsState, store_bytes};
+ghost use Rattle.paw_top.specs.Commands.{Compile as CompileOf, Decompile as DecompileOf, Walk as WalkOf, Play as PlayOf, Resume as ResumeOf, command_of};
 ghost use Rattle.paw_top.specs.Compile.{Compiles};
 ghost use Rattle.paw_top.specs.Decompile.{Decompiles};
+ghost use Rattle.paw_top.specs.Loads.{Holds};
 ghost use Rattle.paw_top.specs.Walk.{WalksIn};
+ghost use Rattle.paw_top.specs.Sessions.{PlaysNewIn, PlaysAgainIn, digest_of, session_in, session_from};
 ghost use Rattle.paw_top.specs.Answers.{IfOutside, IsCall, Makes};
 ghost use Rattle.paw_top.specs.Completes.{NoFault, Completes};
 ghost use Rattle.paw_top.specs.declared.outcome.Outcome.TheVariants as outcome;
@@ -13,10 +20,10 @@ ghost use Rattle.paw_top.specs.declared.outcome.Outcome.TheVariants as outcome;
 use crate::commands::{Command, command_of};
 use crate::compile::compile;
 use crate::decompile::decompile;
-use crate::load::load_game;
-use crate::outcome::Outcome;
-use crate::unbuilt::first_unbuilt;
-use crate::walk::walk_game;
+use crate::open::open_image;
+use crate::outcome::{Outcome, outcome_of};
+use crate::sessions::{play, resume};
+use paw_play::walk::walk_loop;
 use paw_stage::Stage;
 use std::alloc::Global;
 
@@ -28,31 +35,29 @@ fn walk<S: Stage>(alloc: Global, stage: &mut S, image: &str, seed: u64) -> Outco
     ensures outside { IfOutside result (λ c. IsCall c × Rose (S.faults stage.old c) (S.faults stage.new c)) }
     ensures walks { S.Tells stage.old → WalksIn image.now seed (S.standing stage.old) (S.standing stage.new) result }
 {
-    let game = match load_game(alloc, stage, image) {
-        Ok(game) => game,
-        Err(outcome) => return outcome,
-    };
-    if let Some(place) = first_unbuilt(&game) {
-        return Outcome::Unbuilt {
-            at: place.at,
-            code: place.code,
-        };
+    match open_image(alloc, stage, image) {
+        Ok(image) => outcome_of(walk_loop(alloc, stage, &image.game, seed)),
+        Err(outcome) => outcome,
     }
-    walk_game(alloc, stage, &game, seed)
 }
 
-/// Does what the words ask for, over a stage.
+/// Does what the words ask for, over a stage at which nothing is unsynced.
 ///
 /// `compile SOURCE IMAGE` loads the source, saves the image of the game that it spells, and shows how many bytes that
 /// has. `decompile IMAGE` loads the image and shows the canonical source of its game. `walk IMAGE SEED` loads the image,
 /// shows the piece before the first line, and then takes lines and shows the piece that each brings, until the game is
-/// over or no line is left; nothing is kept.
+/// over or no line is left; nothing is kept. `play IMAGE STORE SEED` does the same with a new session in the store, a file
+/// that is missing or empty: each piece is committed there before it is shown. `resume IMAGE STORE` shows the last piece of
+/// the session in the store again, and goes on from its prompt.
 ///
 /// The answer is Usage exactly where the words have no form, and then nothing at the stage is touched. Each other answer
-/// comes as `Compiles`, `Decompiles` and `WalksIn` say. A call of the stage fails only with a fault that it counted, and
-/// is one that the command makes. Where the file to load is there and no call fails, the command does what it is for or
-/// refuses the file, as `Completes` says, or memory was wanting.
+/// comes as `Compiles`, `Decompiles`, `WalksIn`, `PlaysNewIn` and `PlaysAgainIn` say. What a crash leaves of the store at any
+/// moment is said by `InNewPlay` and `InAgain`: a session that keeps all lines that were taken, or all but the last. A call of
+/// the stage fails only with a fault that it counted, and is one that the command makes. Where the file to load is there and
+/// no call fails, the command does what it is for or refuses the file or the store, as `Completes` says, or memory was
+/// wanting.
 pub fn paw<S: Stage>(alloc: Global, stage: &mut S, words: &[String]) -> Outcome
+    requires synced { S.Tells stage.old → IsStable (S.standing stage.old).disk }
     ensures tells { S.Tells stage.old ↔ S.Tells stage.new }
     ensures counts { Grows (S.faults stage.old) (S.faults stage.new) }
     ensures usage { (result ≡ outcome.Usage) ↔ (command_of (map string_bytes words.now) ≡ None) }
@@ -64,6 +69,17 @@ pub fn paw<S: Stage>(alloc: Global, stage: &mut S, words: &[String]) -> Outcome
         Decompiles image (S.standing stage.old) (S.standing stage.new) result }
     ensures walks { S.Tells stage.old → (image : List ℕ) (seed : ℕ) → command_of (map string_bytes words.now) ≡ Some (WalkOf image seed) →
         WalksIn image seed (S.standing stage.old) (S.standing stage.new) result }
+    ensures plays { S.Tells stage.old → (image store : List ℕ) (seed : ℕ) → command_of (map string_bytes words.now) ≡ Some (PlayOf image store seed) →
+        PlaysNewIn image store seed (S.standing stage.old) (S.standing stage.new) result }
+    ensures any_moment_of_play { S.Tells stage.old → (image store : List ℕ) (seed : ℕ) → command_of (map string_bytes words.now) ≡ Some (PlayOf image store seed) →
+        (g : GameLists) → Holds (S.standing stage.old) image g → store_bytes (S.standing stage.old) store ≡ [] →
+        Passes (S.clock stage.old) (S.clock stage.new) (S.since stage.old) (S.since stage.new) (InNewPlay (session_in g store seed) (S.standing stage.old)) }
+    ensures resumes { S.Tells stage.old → (image store : List ℕ) → command_of (map string_bytes words.now) ≡ Some (ResumeOf image store) →
+        PlaysAgainIn image store (S.standing stage.old) (S.standing stage.new) result }
+    ensures any_moment_of_resume { S.Tells stage.old → (image store : List ℕ) → command_of (map string_bytes words.now) ≡ Some (ResumeOf image store) →
+        (g : GameLists) (st : State) (piece : List ℕ) → Holds (S.standing stage.old) image g →
+        ShowsState g (digest_of g) (store_bytes (S.standing stage.old) store) st piece →
+        Passes (S.clock stage.old) (S.clock stage.new) (S.since stage.old) (S.since stage.new) (InAgain (session_from g store st piece) (S.standing stage.old)) }
     ensures completes { S.Tells stage.old → NoFault (S.faults stage.old) (S.faults stage.new) →
         Completes (S.standing stage.old) (command_of (map string_bytes words.now)) result }
 {
@@ -71,6 +87,8 @@ pub fn paw<S: Stage>(alloc: Global, stage: &mut S, words: &[String]) -> Outcome
         Some(Command::Compile { source, image }) => compile(alloc, stage, source, image),
         Some(Command::Decompile { image }) => decompile(alloc, stage, image),
         Some(Command::Walk { image, seed }) => walk(alloc, stage, image, seed),
+        Some(Command::Play { image, store, seed }) => play(alloc, stage, image, store, seed),
+        Some(Command::Resume { image, store }) => resume(alloc, stage, image, store),
         None => Outcome::Usage,
     }
 }

@@ -13,5 +13,5 @@ returns-in_default-clause-decompiles g c = λ tells. let f = c.in-Ok.ensures.loa
 pub returns-clause-decompiles : goal.returns-clause-decompiles
 returns-clause-decompiles g c = λ tells.
     let f = c.in-Ok.ensures.loads tells in
-    shows_source c.args.image.now c.as_slice.result.now c.in-Ok.game _ _ _ c.tell.result f.0 f.1 (c.as_slice.ensures.value ∙ c.in-Ok-canonical.ensures.value)
-    (c.tell.ensures.shows (c.load_game.ensures.tells.0 tells))
+    shows_source c.args.image.now c.as_slice.result.now c.in-Ok.image.game _ _ _ c.tell.result f.0 f.1 (c.as_slice.ensures.value ∙ c.in-Ok-canonical.ensures.value)
+    (c.tell.ensures.shows (c.load_image.ensures.tells.0 tells))

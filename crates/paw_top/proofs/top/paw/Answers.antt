@@ -1,6 +1,14 @@
-use Rattle.std.proofs.Common.{sym, subst}
+use Rattle.std.proofs.Common.{◌≡◌, ℕ, List, [], sym, subst}
+use Rattle.paw_game.specs.Game.{GameLists}
+use Rattle.paw_stage.specs.Moments.{Passes}
+use Rattle.paw_state.specs.State.{State}
+use Rattle.paw_play.specs.Play.{InNewPlay, InAgain, ShowsState, store_bytes}
+use Rattle.paw_top.specs.Loads.{Holds}
+use Rattle.paw_top.specs.Sessions.{digest_of, session_in, session_from}
 use Rattle.paw_top.specs.Completes.{Completes}
 use Rattle.paw_top.proofs.Completing.{completes_compile, completes_decompile, completes_walk}
+use Rattle.paw_top.proofs.CompletingSessions.{completes_play, completes_resume}
+use Rattle.paw_top.proofs.OpenedSessions.{for_play, for_resume}
 use Rattle.paw_top.proofs.top.paw.Goals as goal
 
 pub returns-in-Some-Compile-clause-completes : goal.returns-in-Some-Compile-clause-completes
@@ -20,3 +28,30 @@ returns-in-Some-Walk-clause-completes g c = λ tells none.
     let asked = rw c.in-Some-Walk.field-0-is at c.in-Some-Walk.ensures.value in
     subst (λ q. Completes (g.S.Stage.standing c.args.stage.now) q c.walk.result) (sym asked)
     (completes_walk c.in-Some-Walk.image.now c.in-Some-Walk.seed _ _ _ _ c.walk.result (c.walk.ensures.walks tells) c.walk.ensures.outside none)
+
+pub returns-in-Some-Play-clause-completes : goal.returns-in-Some-Play-clause-completes
+returns-in-Some-Play-clause-completes g c = λ tells none.
+    let asked = rw c.in-Some-Play.field-0-is at c.in-Some-Play.ensures.value in
+    subst (λ q. Completes (g.S.Stage.standing c.args.stage.now) q c.play.result) (sym asked)
+    (completes_play c.in-Some-Play.image.now c.in-Some-Play.store.now c.in-Some-Play.seed _ _ _ _ c.play.result (c.play.ensures.plays tells) c.play.ensures.outside none)
+
+pub returns-in-Some-Resume-clause-completes : goal.returns-in-Some-Resume-clause-completes
+returns-in-Some-Resume-clause-completes g c = λ tells none.
+    let asked = rw c.in-Some-Resume.field-0-is at c.in-Some-Resume.ensures.value in
+    subst (λ q. Completes (g.S.Stage.standing c.args.stage.now) q c.resume.result) (sym asked)
+    (completes_resume c.in-Some-Resume.image.now c.in-Some-Resume.store.now _ _ _ _ c.resume.result (c.resume.ensures.plays tells) c.resume.ensures.outside none)
+
+pub returns-in-Some-Play-clause-any_moment_of_play : goal.returns-in-Some-Play-clause-any_moment_of_play
+returns-in-Some-Play-clause-any_moment_of_play g c = λ tells image store seed asked.
+    for_play (λ i s n. (game : GameLists) → Holds (g.S.Stage.standing c.args.stage.now) i game → store_bytes (g.S.Stage.standing c.args.stage.now) s ≡ [] →
+    Passes (g.S.Stage.clock c.args.stage.now) (g.S.Stage.clock c.play.new.stage) (g.S.Stage.since c.args.stage.now) (g.S.Stage.since c.play.new.stage)
+    (InNewPlay (session_in game s n) (g.S.Stage.standing c.args.stage.now))) _ _ _ _ image store seed
+    (rw c.in-Some-Play.field-0-is at c.in-Some-Play.ensures.value) asked (c.play.ensures.any_moment tells)
+
+pub returns-in-Some-Resume-clause-any_moment_of_resume : goal.returns-in-Some-Resume-clause-any_moment_of_resume
+returns-in-Some-Resume-clause-any_moment_of_resume g c = λ tells image store asked.
+    for_resume (λ i s. (game : GameLists) (st : State) (piece : List ℕ) → Holds (g.S.Stage.standing c.args.stage.now) i game →
+    ShowsState game (digest_of game) (store_bytes (g.S.Stage.standing c.args.stage.now) s) st piece →
+    Passes (g.S.Stage.clock c.args.stage.now) (g.S.Stage.clock c.resume.new.stage) (g.S.Stage.since c.args.stage.now) (g.S.Stage.since c.resume.new.stage)
+    (InAgain (session_from game s st piece) (g.S.Stage.standing c.args.stage.now))) _ _ _ image store
+    (rw c.in-Some-Resume.field-0-is at c.in-Some-Resume.ensures.value) asked (c.resume.ensures.any_moment tells)

@@ -1,22 +1,25 @@
 use Rattle.std.proofs.Common.{sym, subst}
-use Rattle.paw_top.specs.Walk.{Walks, walks, unbuilt}
+use Rattle.std.specs.Prelude.{[]}
+use Rattle.paw_reading.specs.Turn.{reading}
+use Rattle.paw_play.specs.Walk.{Walks}
+use Rattle.paw_play.specs.declared.TheConstants.{MOST_EVENTS}
+use Rattle.paw_top.specs.Walk.{WalksIn, walks, unopened}
+use Rattle.paw_top.proofs.Answering.{walk_outside}
 use Rattle.paw_top.proofs.Found.{all_built}
-use Rattle.paw_top.proofs.Refusals.{no_walk}
 use Rattle.paw_top.proofs.top.walk.Goals as goal
 
+pub walk_loop-requires : goal.walk_loop-requires
+walk_loop-requires g c = record { built = all_built c.in-Ok.image.game c.in-Ok.ensures.built }
+
+pub returns-in-Ok-clause-outside : goal.returns-in-Ok-clause-outside
+returns-in-Ok-clause-outside g c = walk_outside _ _ _ c.walk_loop.result c.outcome_of.result c.open_image.ensures.counts c.outcome_of.ensures.value c.walk_loop.ensures.outside
+
+pub returns-in-Ok-clause-walks : goal.returns-in-Ok-clause-walks
+returns-in-Ok-clause-walks g c = λ tells.
+    subst (WalksIn c.args.image.now c.args.seed (g.S.Stage.standing c.args.stage.now) (g.S.Stage.standing c.walk_loop.new.stage)) (sym c.outcome_of.ensures.value)
+    (walks c.in-Ok.image.game c.walk_loop.result (c.in-Ok.ensures.holds tells, c.in-Ok.ensures.built)
+    (subst (λ s. Walks (reading c.in-Ok.image.game [] c.args.seed) MOST_EVENTS s (g.S.Stage.standing c.walk_loop.new.stage) c.walk_loop.result) (c.in-Ok.ensures.still tells)
+    (c.walk_loop.ensures.walks (c.open_image.ensures.tells.0 tells))))
+
 pub returns-in-Err-clause-walks : goal.returns-in-Err-clause-walks
-returns-in-Err-clause-walks g c = λ tells. no_walk c.args.image.now c.args.seed _ _ c.in-Err.outcome (c.in-Err.ensures.loads tells)
-
-pub returns-in-Some-clause-walks : goal.returns-in-Some-clause-walks
-returns-in-Some-clause-walks g c = λ tells.
-    let f = c.in-Ok.ensures.loads tells in
-    unbuilt c.in-Ok.game c.in-Some.place f.0 (sym c.in-Some.ensures.value) f.1
-
-pub walk_game-requires : goal.walk_game-requires
-walk_game-requires g c = record { built = all_built c.in-Ok.game (sym c.in_default.ensures.value) }
-
-pub returns-clause-walks : goal.returns-clause-walks
-returns-clause-walks g c = λ tells.
-    let f = c.in-Ok.ensures.loads tells in
-    walks c.in-Ok.game c.walk_game.result f.0 (sym c.in_default.ensures.value)
-    (subst (λ s. Walks c.in-Ok.game c.args.seed s (g.S.Stage.standing c.walk_game.new.stage) c.walk_game.result) f.1 (c.walk_game.ensures.walks (c.load_game.ensures.tells.0 tells)))
+returns-in-Err-clause-walks g c = λ tells. unopened c.in-Err.outcome (c.in-Err.ensures.unopened tells)

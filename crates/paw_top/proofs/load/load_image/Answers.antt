@@ -2,7 +2,7 @@ use Rattle.std.proofs.Common.{◌≡◌, ◌∙◌}
 use Rattle.paw_game.specs.Game.{GameLists}
 use Rattle.paw_image.specs.Images.{IsImage}
 use Rattle.paw_top.proofs.Images.{loaded_image, loaded_none, at_damage, short_image}
-use Rattle.paw_top.proofs.load.load_game.Goals as goal
+use Rattle.paw_top.proofs.load.load_image.Goals as goal
 
 pub returns-in-Ok-clause-loads : goal.returns-in-Ok-clause-loads
 returns-in-Ok-clause-loads g c = λ tells.

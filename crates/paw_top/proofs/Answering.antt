@@ -1,0 +1,61 @@
+-- Answers that name a call that failed.
+use Rattle.std.proofs.Common.{◌≡◌, ℕ, ◌≤◌, inl, inr, arith, sym, subst}
+use Rattle.paw_stage.specs.Stage.{Rose, Grows}
+use Rattle.paw_stage.specs.declared.StageCall.{StageCall}
+use Rattle.paw_stage.specs.declared.StageCall.TheVariants as call
+use Rattle.paw_journal.specs.declared.refusal.JournalRefusal.TheVariants as refusal
+use Rattle.paw_play.specs.Calls as play
+use Rattle.paw_play.specs.declared.PlayEnd.{PlayEnd}
+use Rattle.paw_play.specs.declared.PlayEnd.TheVariants as end
+use Rattle.paw_top.specs.Answers.{IfOutside, IsCall, IsKeptCall}
+use Rattle.paw_top.specs.Ends.{outcome_of}
+use Rattle.paw_top.specs.declared.outcome.Outcome.{Outcome}
+
+-- the call that playing ended for is the one that is answered
+answers_so : (o : PlayEnd) (P Q : StageCall → Type 0) → ((c : StageCall) → P c → Q c) → play.IfOutside o P → IfOutside (outcome_of o) Q
+answers_so end.Ended P Q f h = tt
+answers_so end.InputEnded P Q f h = tt
+answers_so (end.Occupied n) P Q f h = tt
+answers_so (end.Refused (refusal.Unmade n mark)) P Q f h = tt
+answers_so (end.Refused (refusal.Damaged p at)) P Q f h = tt
+answers_so (end.Refused (refusal.WrongGame kept found)) P Q f h = tt
+answers_so (end.Refused (refusal.Outside c)) P Q f h = absurd h
+answers_so (end.State at) P Q f h = tt
+answers_so (end.Spent kind) P Q f h = tt
+answers_so (end.TooDeep table) P Q f h = tt
+answers_so (end.Long events) P Q f h = tt
+answers_so (end.Outside c) P Q f h = f c h
+answers_so end.Memory P Q f h = tt
+
+-- a count that rose later rose
+rose_later : (a b c : ℕ) → a ≤ b → Rose b c → Rose a c
+rose_later a b c h (inl k) = inl (omega (arith, h, k))
+rose_later a b c h (inr k) = inr k
+
+walk_call : (c : StageCall) → play.IsWalkCall c → IsCall c
+walk_call call.Ask h = tt
+walk_call call.Show h = tt
+walk_call _ h = absurd h
+
+kept_call : (c : StageCall) → play.IsSessionCall c → IsKeptCall c
+kept_call call.Load h = tt
+kept_call call.LoadAbsent h = tt
+kept_call call.Attach h = tt
+kept_call call.Read h = tt
+kept_call call.Write h = tt
+kept_call call.Sync h = tt
+kept_call call.Ask h = tt
+kept_call call.Show h = tt
+kept_call call.Save h = absurd h
+
+pub walk_outside : (first mid last : StageCall → ℕ) (end : PlayEnd) (o : Outcome) → Grows first mid → o ≡ outcome_of end →
+    play.IfOutside end (λ c. play.IsWalkCall c × Rose (mid c) (last c)) → IfOutside o (λ c. IsCall c × Rose (first c) (last c))
+walk_outside first mid last end o grows is h = subst (λ q. IfOutside q (λ c. IsCall c × Rose (first c) (last c))) (sym is)
+    (answers_so end (λ c. play.IsWalkCall c × Rose (mid c) (last c)) (λ c. IsCall c × Rose (first c) (last c))
+    (λ c k. (walk_call c k.0, rose_later (first c) (mid c) (last c) (grows c) k.1)) h)
+
+pub kept_outside : (first mid last : StageCall → ℕ) (end : PlayEnd) (o : Outcome) → Grows first mid → o ≡ outcome_of end →
+    play.IfOutside end (λ c. play.IsSessionCall c × Rose (mid c) (last c)) → IfOutside o (λ c. IsKeptCall c × Rose (first c) (last c))
+kept_outside first mid last end o grows is h = subst (λ q. IfOutside q (λ c. IsKeptCall c × Rose (first c) (last c))) (sym is)
+    (answers_so end (λ c. play.IsSessionCall c × Rose (mid c) (last c)) (λ c. IsKeptCall c × Rose (first c) (last c))
+    (λ c k. (kept_call c k.0, rose_later (first c) (mid c) (last c) (grows c) k.1)) h)

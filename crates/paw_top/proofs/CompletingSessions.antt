@@ -1,0 +1,181 @@
+-- A session whose calls don't fail.
+use Rattle.std.proofs.Common.{◌≡◌, ◌≢◌, ℕ, ◌<◌, List, [], ◌∷◌, length, take, refl, sym, ◌∙◌, subst, arith, inl, inr}
+use Rattle.paw_game.specs.Game.{GameLists}
+use Rattle.paw_state.specs.State.{State}
+use Rattle.paw_state.specs.Fit.{Fit}
+use Rattle.paw_stage.specs.Stage.{Standing, Rose}
+use Rattle.paw_stage.specs.declared.StageCall.{StageCall}
+use Rattle.paw_stage.specs.declared.StageCall.TheVariants as call
+use Rattle.paw_journal.specs.Session.{Recovered, Unmade, Damaged, Shown, recover, state_length}
+use Rattle.paw_journal.specs.Journal.{IsWriting}
+use Rattle.paw_journal.specs.declared.refusal.JournalRefusal.{JournalRefusal}
+use Rattle.paw_journal.specs.declared.refusal.JournalRefusal.TheVariants as refusal
+use Rattle.paw_play.specs.Session.{kept_bytes}
+use Rattle.paw_play.specs.Walk.{Reading}
+use Rattle.paw_play.specs.Play as session
+use Rattle.paw_play.specs.Play.{Played, PlaysOn, ShowsAs, PlaysIn, PlaysNew, PlaysUp, PlaysAgain, ShowsState, Refuses, attached_to, store_bytes, with_store}
+use Rattle.paw_play.specs.declared.PlayEnd.{PlayEnd}
+use Rattle.paw_play.specs.declared.PlayEnd.TheVariants as end
+use Rattle.paw_top.specs.Answers.{IfOutside, IsKeptCall}
+use Rattle.paw_top.specs.Completes.{NoFault, IsWalked, Comes, CompletesNew, CompletesAgain, CompletesPlay}
+use Rattle.paw_top.specs.Ends.{outcome_of, refused_as}
+use Rattle.paw_top.specs.Sessions.{digest_of, PlaysNewIn, PlaysAgainIn}
+use Rattle.paw_top.specs.Sessions as top
+use Rattle.paw_top.specs.declared.outcome.Outcome.{Outcome}
+use Rattle.paw_top.specs.declared.outcome.Outcome.TheVariants as outcome
+use Rattle.paw_top.specs.declared.outcome.MemoryAt.{MemoryAt}
+use Rattle.paw_top.specs.declared.outcome.MemoryAt.TheVariants as memory
+use Rattle.paw_top.proofs.Completing.{completes_game, completes_unopened}
+
+-- playing on comes to its end
+plays_on : (whole : Reading) (most : ℕ) (old new : Standing) (first last : StageCall → ℕ) (o : PlayEnd) → ShowsAs whole most old new o →
+    IfOutside (outcome_of o) (λ c. IsKeptCall c × Rose (first c) (last c)) → NoFault first last → IsWalked (outcome_of o)
+plays_on whole most old new first last (end.Outside call.Write) s out none = absurd (none call.Write (λ q. cc) out.1)
+plays_on whole most old new first last (end.Outside call.Sync) s out none = absurd (none call.Sync (λ q. cc) out.1)
+plays_on whole most old new first last end.Ended s out none = tt
+plays_on whole most old new first last end.InputEnded s out none = tt
+plays_on whole most old new first last (end.Occupied n) s out none = absurd s
+plays_on whole most old new first last (end.Refused r) s out none = absurd s
+plays_on whole most old new first last (end.State at) s out none = absurd s
+plays_on whole most old new first last (end.Spent kind) s out none = tt
+plays_on whole most old new first last (end.TooDeep table) s out none = tt
+plays_on whole most old new first last (end.Long events) s out none = tt
+plays_on whole most old new first last end.Memory s out none = tt
+plays_on whole most old new first last (end.Outside call.Ask) s out none = absurd (none call.Ask (λ q. cc) out.1)
+plays_on whole most old new first last (end.Outside call.Show) s out none = absurd (none call.Show (λ q. cc) out.1)
+plays_on whole most old new first last (end.Outside call.Load) s out none = absurd s
+plays_on whole most old new first last (end.Outside call.LoadAbsent) s out none = absurd s
+plays_on whole most old new first last (end.Outside call.Save) s out none = absurd s
+plays_on whole most old new first last (end.Outside call.Attach) s out none = absurd s
+plays_on whole most old new first last (end.Outside call.Read) s out none = absurd s
+
+-- ---- a new session ----
+
+-- a session isn't made where a write or a sync fails
+no_writing : (c : StageCall) → IsWriting c → c ≢ call.LoadAbsent
+no_writing c (inl h) = λ q. cc
+no_writing c (inr h) = λ q. cc
+
+plays_in : (s : Played) (old new : Standing) (first last : StageCall → ℕ) (o : PlayEnd) → PlaysIn s old new o →
+    IfOutside (outcome_of o) (λ c. IsKeptCall c × Rose (first c) (last c)) → NoFault first last → IsWalked (outcome_of o)
+plays_in s old new first last _ (session.memory e) out none = tt
+plays_in s old new first last _ (session.spent kind r is e) out none = tt
+plays_in s old new first last _ (session.too_deep table r is e) out none = tt
+plays_in s old new first last _ (session.unmade c w e) out none = absurd (none c (no_writing c w) out.1)
+plays_in s old new first last _ (session.plays o p) out none = plays_on _ _ old new first last o p.shows out none
+
+-- a store with bytes is refused for their number
+occupied_so : (bytes : List ℕ) → 0 < length bytes → CompletesNew bytes (outcome.Occupied (length bytes))
+occupied_so [] h = absurd (omega (arith, h))
+occupied_so (b ∷ bytes) h = refl
+
+plays_new : (s : Played) (old new : Standing) (first last : StageCall → ℕ) (o : PlayEnd) → PlaysNew s old new o →
+    IfOutside (outcome_of o) (λ c. IsKeptCall c × Rose (first c) (last c)) → NoFault first last → CompletesNew (store_bytes old s.name) (outcome_of o)
+plays_new s old new first last _ (session.unattached u) out none = absurd (none call.Attach (λ q. cc) out.1)
+plays_new s old new first last _ (session.occupied h e) out none = occupied_so (store_bytes old s.name) h
+plays_new s old new first last _ (session.plays_in o e p) out none =
+    subst (λ bytes. CompletesNew bytes (outcome_of o)) (sym e) (plays_in s _ new first last o p out none)
+
+new_memory : (bytes : List ℕ) (at : MemoryAt) → CompletesNew bytes (outcome.Memory at)
+new_memory [] at = tt
+new_memory (b ∷ bytes) at = tt
+
+pub completes_play : (name store : List ℕ) (seed : ℕ) (old new : Standing) (first last : StageCall → ℕ) (o : Outcome) → PlaysNewIn name store seed old new o →
+    IfOutside o (λ c. IsKeptCall c × Rose (first c) (last c)) → NoFault first last → CompletesPlay name (λ g. CompletesNew (store_bytes old store)) old o
+completes_play name store seed old new first last _ (top.plays g o s p) out none =
+    completes_game name (λ g. CompletesNew (store_bytes old store)) old g (outcome_of o) s (plays_new _ old new first last o p out none)
+completes_play name store seed old new first last _ (top.unopened o u) out none =
+    completes_unopened name (λ g. CompletesNew (store_bytes old store)) IsKeptCall old new first last o (λ g at. new_memory (store_bytes old store) at) u out none
+
+-- ---- a session that is taken up again ----
+
+-- bytes show one digest
+no_game : (kept digest s t p q : List ℕ) (r : Recovered) → r ≡ Shown kept s p → r ≡ Shown digest t q → kept ≢ digest → ⊥
+no_game kept digest s t p q r h is other = other cc
+
+-- bytes that give no session of the game show none
+not_shown : (digest bytes state piece : List ℕ) (r : JournalRefusal) → Refuses digest bytes r → recover bytes ≡ Shown digest state piece → ⊥
+not_shown digest bytes state piece (refusal.Unmade n mark) h is = let e : Unmade n mark ≡ Shown digest state piece = sym h ∙ is in cc
+not_shown digest bytes state piece (refusal.Damaged p at) h is = let e : Damaged p at ≡ Shown digest state piece = sym h ∙ is in cc
+not_shown digest bytes state piece (refusal.WrongGame kept found) h is = no_game kept digest h.0 state h.1 piece (recover bytes) h.2 is h.3
+not_shown digest bytes state piece (refusal.Outside c) h is = h
+
+-- bytes are refused in one way
+one_refusal : (digest bytes : List ℕ) (r q : JournalRefusal) → Refuses digest bytes r → Refuses digest bytes q → r ≡ q
+one_refusal digest bytes (refusal.Unmade n mark) (refusal.Unmade m other) h k = let e : Unmade n mark ≡ Unmade m other = sym h ∙ k in cc
+one_refusal digest bytes (refusal.Unmade n mark) (refusal.Damaged p at) h k = let e : Unmade n mark ≡ Damaged p at = sym h ∙ k in cc
+one_refusal digest bytes (refusal.Unmade n mark) (refusal.WrongGame kept found) h k = let e : Unmade n mark ≡ Shown kept k.0 k.1 = sym h ∙ k.2 in cc
+one_refusal digest bytes (refusal.Damaged p at) (refusal.Unmade m other) h k = let e : Damaged p at ≡ Unmade m other = sym h ∙ k in cc
+one_refusal digest bytes (refusal.Damaged p at) (refusal.Damaged q place) h k = let e : Damaged p at ≡ Damaged q place = sym h ∙ k in cc
+one_refusal digest bytes (refusal.Damaged p at) (refusal.WrongGame kept found) h k = let e : Damaged p at ≡ Shown kept k.0 k.1 = sym h ∙ k.2 in cc
+one_refusal digest bytes (refusal.WrongGame kept found) (refusal.Unmade m other) h k = let e : Shown kept h.0 h.1 ≡ Unmade m other = sym h.2 ∙ k in cc
+one_refusal digest bytes (refusal.WrongGame kept found) (refusal.Damaged q place) h k = let e : Shown kept h.0 h.1 ≡ Damaged q place = sym h.2 ∙ k in cc
+one_refusal digest bytes (refusal.WrongGame kept found) (refusal.WrongGame other place) h k =
+    let e : Shown kept h.0 h.1 ≡ Shown other k.0 k.1 = sym h.2 ∙ k.2 in
+    let f : found ≡ place = h.4 ∙ sym k.4 in
+    cc
+one_refusal digest bytes (refusal.Outside c) q h k = absurd h
+one_refusal digest bytes r (refusal.Outside c) h k = absurd k
+
+-- a refusal that is due came
+comes_so : (r q : JournalRefusal) → r ≡ q → Comes (refused_as q) (refused_as r)
+comes_so r (refusal.Unmade n mark) e = rw e refl
+comes_so r (refusal.Damaged p at) e = rw e refl
+comes_so r (refusal.WrongGame kept found) e = rw e refl
+comes_so r (refusal.Outside c) e = rw e refl
+
+again_memory : (g : GameLists) (digest bytes : List ℕ) (at : MemoryAt) → CompletesAgain g digest bytes (outcome.Memory at)
+again_memory g digest bytes at = record { shown = λ st piece h. tt; refused = λ r h. tt; no_state = λ state piece is not. tt }
+
+-- a session of no state of the game shows none
+is_unfit : (g : GameLists) (digest bytes state piece : List ℕ) → recover bytes ≡ Shown digest (take state_length state) piece → ¬ Fit g state →
+    (st : State) (p : List ℕ) → ShowsState g digest bytes st p → ⊥
+unfolding kept_bytes
+is_unfit g digest bytes state piece is not st p h =
+    let e : Shown digest (take state_length state) piece ≡ Shown digest (kept_bytes st) p = sym is ∙ h.shown in
+    not (record { state = st; keeps = h.keeps; fits = h.fits; are = same_state _ _ _ _ _ _ e })
+  where
+    same_state : (d c s t p q : List ℕ) → Shown d s p ≡ Shown c t q → s ≡ t
+    same_state d c s t p q h = cc
+
+-- a session that shows a state shows no other bytes
+shows_other : (g : GameLists) (digest bytes state p q : List ℕ) (st : State) → recover bytes ≡ Shown digest state q → ShowsState g digest bytes st p →
+    ((s : State) → ¬ ShowsState g digest bytes s q) → ⊥
+shows_other g digest bytes state p q st is h not = not st (subst (λ x. ShowsState g digest bytes st x) (same_piece _ _ _ _ _ _ (sym h.shown ∙ is)) h)
+  where
+    same_piece : (d c s t x y : List ℕ) → Shown d s x ≡ Shown c t y → x ≡ y
+    same_piece d c s t x y e = cc
+
+plays_up : (g : GameLists) (digest name : List ℕ) (old new : Standing) (first last : StageCall → ℕ) (o : PlayEnd) → PlaysUp g digest name old new o →
+    IfOutside (outcome_of o) (λ c. IsKeptCall c × Rose (first c) (last c)) → NoFault first last → CompletesAgain g digest old.disk.bytes (outcome_of o)
+plays_up g digest name old new first last _ (session.memory e) out none = again_memory g digest old.disk.bytes memory.Play
+plays_up g digest name old new first last _ (session.no_state at state piece is not fault e) out none = record {
+  shown = λ st p h. absurd (is_unfit g digest old.disk.bytes state piece is not st p h);
+  refused = λ r h. absurd (not_shown digest old.disk.bytes (take state_length state) piece r h is);
+  no_state = λ s p h k. refl;
+}
+plays_up g digest name old new first last _ (session.plays_on o st piece h p) out none = record {
+  shown = λ s q k. plays_on _ _ old new first last o p.shows out none;
+  refused = λ r k. absurd (not_shown digest old.disk.bytes (kept_bytes st) piece r k h.shown);
+  no_state = λ s q is k. absurd (shows_other g digest old.disk.bytes s piece q st is h k);
+}
+
+plays_again : (g : GameLists) (digest name : List ℕ) (old new : Standing) (first last : StageCall → ℕ) (o : PlayEnd) → PlaysAgain g digest name old new o →
+    IfOutside (outcome_of o) (λ c. IsKeptCall c × Rose (first c) (last c)) → NoFault first last → CompletesAgain g digest (store_bytes old name) (outcome_of o)
+plays_again g digest name old new first last _ (session.unattached u) out none = absurd (none call.Attach (λ q. cc) out.1)
+plays_again g digest name old new first last _ (session.unread e) out none = absurd (none call.Read (λ q. cc) out.1)
+plays_again g digest name old new first last _ (session.wanting e) out none = again_memory g digest (store_bytes old name) memory.Play
+plays_again g digest name old new first last _ (session.refused r h e) out none = record {
+  shown = λ st piece k. absurd (not_shown digest (store_bytes old name) (kept_bytes st) piece r h k.shown);
+  refused = λ q k. comes_so r q (one_refusal digest (store_bytes old name) r q h k);
+  no_state = λ state piece is k. absurd (not_shown digest (store_bytes old name) state piece r h is);
+}
+plays_again g digest name old new first last _ (session.plays_up o p) out none = plays_up g digest name (attached_to old name) new first last o p out none
+
+pub completes_resume : (name store : List ℕ) (old new : Standing) (first last : StageCall → ℕ) (o : Outcome) → PlaysAgainIn name store old new o →
+    IfOutside o (λ c. IsKeptCall c × Rose (first c) (last c)) → NoFault first last → CompletesPlay name (λ g. CompletesAgain g (digest_of g) (store_bytes old store)) old o
+completes_resume name store old new first last _ (top.plays g o s p) out none =
+    completes_game name (λ h. CompletesAgain h (digest_of h) (store_bytes old store)) old g (outcome_of o) s (plays_again g (digest_of g) store old new first last o p out none)
+completes_resume name store old new first last _ (top.unopened o u) out none =
+    completes_unopened name (λ h. CompletesAgain h (digest_of h) (store_bytes old store)) IsKeptCall old new first last o
+    (λ h at. again_memory h (digest_of h) (store_bytes old store) at) u out none

@@ -1,0 +1,69 @@
+-- A session that is opened: what is loaded before changes nothing.
+use Rattle.std.proofs.Common.{◌≡◌, ℕ, List, Option, Some, refl, sym, subst, inl}
+use Rattle.sha2.specs.Sha256.{sha256}
+use Rattle.paw_game.specs.Game.{GameLists}
+use Rattle.paw_game.specs.Image.{image}
+use Rattle.paw_stage.specs.Stage.{Standing}
+use Rattle.paw_stage.specs.Moments.{Moment, Still}
+use Rattle.paw_state.specs.State.{State}
+use Rattle.paw_play.specs.declared.PlayEnd.{PlayEnd}
+use Rattle.paw_play.specs.Play.{Played, NotYet, InNewPlay, InAgain, PlaysNew, PlaysAgain, ShowsState, new_session, kept_session, store_bytes}
+use Rattle.paw_top.specs.Commands.{Command, Play, Resume}
+use Rattle.paw_top.specs.Sessions.{session_in, session_from}
+
+-- where nothing has changed, the store isn't attached yet
+not_yet : (name : List ℕ) (old : Standing) (m : Moment) → Still old m → NotYet name old m
+not_yet name old m e = subst (NotYet name old) (sym e) (record { asked = refl; shown = refl; files = inl refl; store = inl (refl, refl) })
+
+pub still_new : (s : Played) (old : Standing) (m : Moment) → Still old m → InNewPlay s old m
+still_new s old m e = inl (not_yet s.name old m e)
+
+pub still_again : (s : Played) (old : Standing) (m : Moment) → Still old m → InAgain s old m
+still_again s old m e = inl (not_yet s.name old m e)
+
+-- the session that is played is the one of the image
+pub one_session : (g k : GameLists) (seed : ℕ) (store kept : List ℕ) → k ≡ g → kept ≡ sha256 (image k) → new_session k seed kept store ≡ session_in g store seed
+one_session g k seed store kept same is = rw (is, same) refl
+
+pub one_kept_session : (g k : GameLists) (st : State) (piece store kept : List ℕ) → k ≡ g → kept ≡ sha256 (image k) →
+    kept_session k st piece kept store ≡ session_from g store st piece
+one_kept_session g k st piece store kept same is = rw (is, same) refl
+
+-- what playing comes to at a stage where nothing has changed since
+pub plays_new : (s k : Played) (old mid new : Standing) (o : PlayEnd) → mid ≡ old → k ≡ s → PlaysNew k mid new o → PlaysNew s old new o
+plays_new s k old mid new o still same p = subst (λ q. PlaysNew s q new o) still (subst (λ q. PlaysNew q mid new o) same p)
+
+pub plays_again : (g : GameLists) (digest kept store : List ℕ) (old mid new : Standing) (o : PlayEnd) → mid ≡ old → kept ≡ digest →
+    PlaysAgain g kept store mid new o → PlaysAgain g digest store old new o
+plays_again g digest kept store old mid new o still same p =
+    subst (λ q. PlaysAgain g digest store q new o) still (subst (λ q. PlaysAgain g q store mid new o) same p)
+
+-- the store shows the same state to the game of the image
+pub shows_same : (g k : GameLists) (kept store : List ℕ) (old mid : Standing) (st : State) (piece : List ℕ) → mid ≡ old → k ≡ g → kept ≡ sha256 (image k) →
+    ShowsState g (sha256 (image g)) (store_bytes old store) st piece → ShowsState k kept (store_bytes mid store) st piece
+shows_same g k kept store old mid st piece still same is h =
+    subst (λ q. ShowsState k q (store_bytes mid store) st piece) (sym is) (subst (λ q. ShowsState q (sha256 (image q)) (store_bytes mid store) st piece) (sym same)
+    (subst (λ q. ShowsState g (sha256 (image g)) (store_bytes q store) st piece) (sym still) h))
+
+-- a new session at a stage where nothing has changed since
+pub new_moment : (s k : Played) (old mid : Standing) (m : Moment) → mid ≡ old → k ≡ s → InNewPlay k mid m → InNewPlay s old m
+new_moment s k old mid m still same i = subst (λ q. InNewPlay s q m) still (subst (λ q. InNewPlay q mid m) same i)
+
+pub again_moment : (s k : Played) (old mid : Standing) (m : Moment) → mid ≡ old → k ≡ s → InAgain k mid m → InAgain s old m
+again_moment s k old mid m still same i = subst (λ q. InAgain s q m) still (subst (λ q. InAgain q mid m) same i)
+
+-- what is said of the words of a command is said of what they ask for
+pub for_play : (P : List ℕ → List ℕ → ℕ → Type 0) (asked : Option Command) (i s : List ℕ) (n : ℕ) (j t : List ℕ) (k : ℕ) →
+    asked ≡ Some (Play i s n) → asked ≡ Some (Play j t k) → P i s n → P j t k
+for_play P asked i s n j t k h q p =
+    let e : i ≡ j = cc in
+    let f : s ≡ t = cc in
+    let g : n ≡ k = cc in
+    subst (λ x. P x t k) e (subst (λ x. P i x k) f (subst (λ x. P i s x) g p))
+
+pub for_resume : (P : List ℕ → List ℕ → Type 0) (asked : Option Command) (i s j t : List ℕ) →
+    asked ≡ Some (Resume i s) → asked ≡ Some (Resume j t) → P i s → P j t
+for_resume P asked i s j t h q p =
+    let e : i ≡ j = cc in
+    let f : s ≡ t = cc in
+    subst (λ x. P x t) e (subst (λ x. P i x) f p)

@@ -1,0 +1,28 @@
+-- The answer for what playing comes to.
+use Rattle.paw_journal.specs.declared.refusal.JournalRefusal.{JournalRefusal}
+use Rattle.paw_journal.specs.declared.refusal.JournalRefusal.TheVariants as refusal
+use Rattle.paw_journal.specs.declared.refusal.SessionPart.TheVariants as part
+use Rattle.paw_play.specs.declared.PlayEnd.{PlayEnd}
+use Rattle.paw_play.specs.declared.PlayEnd.TheVariants as end
+use Rattle.paw_top.specs.declared.outcome.Outcome.{Outcome}
+use Rattle.paw_top.specs.declared.outcome.Outcome.TheVariants as outcome
+use Rattle.paw_top.specs.declared.outcome.MemoryAt.TheVariants as memory
+
+-- the answer for a store that gives no session of the game
+abbrev pub refused_as : JournalRefusal → Outcome
+refused_as (refusal.Unmade n mark) = outcome.Unmade n mark
+refused_as (refusal.Damaged p at) = outcome.SessionDamaged p at
+refused_as (refusal.WrongGame kept found) = outcome.WrongGame kept found
+refused_as (refusal.Outside c) = outcome.Outside c
+
+abbrev pub outcome_of : PlayEnd → Outcome
+outcome_of end.Ended = outcome.Ended
+outcome_of end.InputEnded = outcome.InputEnded
+outcome_of (end.Occupied n) = outcome.Occupied n
+outcome_of (end.Refused r) = refused_as r
+outcome_of (end.State at) = outcome.SessionDamaged part.State at
+outcome_of (end.Spent kind) = outcome.Spent kind
+outcome_of (end.TooDeep table) = outcome.TooDeep table
+outcome_of (end.Long events) = outcome.Long events
+outcome_of (end.Outside c) = outcome.Outside c
+outcome_of end.Memory = outcome.Memory memory.Play

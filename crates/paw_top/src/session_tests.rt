@@ -1,0 +1,305 @@
+// Sessions over stages in memory: rounds of one session, stores that give none, and calls that fail.
+
+use crate::outcome::Outcome;
+use crate::settled::settle;
+use crate::tests::words_of;
+use crate::top::paw;
+use paw_journal::{SessionPart, digest};
+use paw_stage::{FailStage, MemoryStage, Stage, StageCall};
+use std::alloc::Global;
+use std::process::Abort;
+use std::test::Fail;
+
+/// A hall with a lamp and a sword. SHAKE ALL asks for each of them, in a called table; TWIST ALL wants a key for each; ROLL
+/// prints a random number; DEEP calls a table that calls itself.
+const HALL: &str =
+    "/VOC\nALL 20 noun\nLAMP 50 noun\nSWORD 51 noun\nSHAKE 30 verb\nTWIST 31 verb\nWAIT 32 verb\nQUIT 33 verb\nROLL 34 verb\nDEEP 35 verb\n/STX\n/0\n/1\n/2\n>\n/3\n/4\n/5\n/6\nWhat?\n/7\nNo way.\n/8\nNo.\n/9\n/10\n/11\n/12\nSure? \n/13\nAgain? \n/14\nBye.\n/15\nOK.\n/16\nKey. \n/MTX\n/0\nDone.\n/OTX\n/0\nlamp\n/1\nsword\n/LTX\n/0\nHall.\n/CON\n/OBJ\n0 0 1 - LAMP _\n1 0 1 - SWORD _\n/PRO 0\nSHAKE ALL DOALL HERE\nSHAKE _ PROCESS 3 DONE\nTWIST ALL DOALL HERE\nTWIST _ ANYKEY MESSAGE 0 DONE\nWAIT _ OK\nQUIT _ QUIT END\nROLL _ CHANCE 50 MESSAGE 0 DONE\nROLL _ OK\nDEEP _ PROCESS 4\n/PRO 1\n/PRO 2\n/PRO 3\n_ _ QUIT MESSAGE 0\n/PRO 4\n_ _ PROCESS 4\n";
+
+/// Another game.
+const CAVE: &str =
+    "/VOC\n/STX\n/MTX\n/OTX\n/LTX\n/0\nA cave.\n/CON\n/OBJ\n/PRO 0\n/PRO 1\n/PRO 2\n";
+
+/// What is shown before the first line in the hall.
+const FIRST: &str = "Hall.\n>\n";
+
+/// The words that play, and those that take the session up again.
+const PLAY: &str = "play\nhall\nstore\n7";
+
+const RESUME: &str = "resume\nhall\nstore";
+
+/// How many bytes a session has.
+const SESSION_LEN: u64 = 172_288;
+
+/// Where a session keeps its version.
+const VERSION_AT: usize = 2;
+
+/// Where the place of the first object stands in slot 0 and in slot 1.
+const FIRST_PLACES: [usize; 2] = [128 + 64 + 256, 86_208 + 64 + 256];
+
+/// More bytes than any file here has.
+const MOST: usize = 200_000;
+
+/// One command, over the store that the one before it left.
+#[derive(Clone, Copy)]
+struct Round<'a> {
+    words: &'a str,
+    lines: &'a str,
+    outcome: Outcome,
+    shown: &'a str,
+}
+
+// A stage with the two games, a store with these bytes, and these lines.
+fn stage_of(
+    rt: &impl Abort,
+    alloc: Global,
+    store: &[u8],
+    lines: &str,
+) -> Result<MemoryStage, Fail> {
+    let mut stage = MemoryStage::new(alloc, 400, 8_000_000)?;
+    stage.add_file("hall source", HALL.as_bytes())?;
+    stage.add_file("cave source", CAVE.as_bytes())?;
+    stage.add_file("store", store)?;
+    for line in lines.lines() {
+        stage.add_line(alloc, line.as_bytes())?;
+    }
+    for words in ["compile\nhall source\nhall", "compile\ncave source\ncave"] {
+        let words = words_of(alloc, words)?;
+        settle(rt, &mut stage);
+        let _ = paw(alloc, &mut stage, words.as_slice());
+    }
+    Ok(stage)
+}
+
+// What is shown once a stage is made: two images were compiled.
+fn shown_before(rt: &impl Abort, alloc: Global) -> Result<usize, Fail> {
+    Ok(stage_of(rt, alloc, b"", "")?.shown().len())
+}
+
+// One round over these bytes of a store; what it leaves of them.
+fn plays_round(
+    rt: &impl Abort,
+    alloc: Global,
+    store: &[u8],
+    round: &Round<'_>,
+) -> Result<Vec<u8>, Fail> {
+    let mut stage = stage_of(rt, alloc, store, round.lines)?;
+    settle(rt, &mut stage);
+    let words = words_of(alloc, round.words)?;
+    let outcome = paw(alloc, &mut stage, words.as_slice());
+    assert_eq!(rt; outcome, round.outcome, "{} {:?}", round.words, round.lines);
+    let before = shown_before(rt, alloc)?;
+    assert_eq!(rt;
+        stage.shown().get(before..).unwrap_or(b""),
+        round.shown.as_bytes(),
+        "{:?}",
+        round.lines
+    );
+    Ok(stage.load(alloc, "store", MOST)?)
+}
+
+// Rounds of one session, the first with an empty store; what they leave of it.
+fn plays_rounds(rt: &impl Abort, alloc: Global, rounds: &[Round<'_>]) -> Result<Vec<u8>, Fail> {
+    let mut store = Vec::new(alloc);
+    for round in rounds {
+        store = plays_round(rt, alloc, store.as_slice(), round)?;
+    }
+    Ok(store)
+}
+
+// A round that comes to the end of its lines.
+fn round_to_end<'a>(words: &'a str, lines: &'a str, shown: &'a str) -> Round<'a> {
+    Round {
+        words,
+        lines,
+        outcome: Outcome::InputEnded,
+        shown,
+    }
+}
+
+#[test]
+fn sessions_are_taken_up_where_they_stood(rt: HostRuntime) -> Result<(), Fail> {
+    let alloc = rt.alloc();
+    let deep = Round {
+        outcome: Outcome::TooDeep { table: 4 },
+        ..round_to_end(PLAY, "WAIT\nDEEP", "Hall.\n>\nOK.\n>\n")
+    };
+    let over = Round {
+        outcome: Outcome::Ended,
+        ..round_to_end(PLAY, "QUIT\nY\nn\nWAIT", "Hall.\n>\nSure? Again? Bye.\n")
+    };
+    let still_over = Round {
+        outcome: Outcome::Ended,
+        ..round_to_end(RESUME, "WAIT", "Bye.\n")
+    };
+    for rounds in [
+        // A question in a called table, inside a loop.
+        [
+            round_to_end(PLAY, "SHAKE ALL", "Hall.\n>\nSure? "),
+            round_to_end(RESUME, "N", "Sure? Sure? "),
+            round_to_end(RESUME, "Y", "Sure? Done.\n>\n"),
+        ],
+        [
+            round_to_end(PLAY, "TWIST ALL", "Hall.\n>\nKey. "),
+            round_to_end(RESUME, "", "Key. "),
+            round_to_end(RESUME, "x\ny", "Key. Done.\nKey. Done.\n>\n"),
+        ],
+        [
+            deep,
+            round_to_end(RESUME, "", "OK.\n>\n"),
+            round_to_end(RESUME, "WAIT", "OK.\n>\nOK.\n>\n"),
+        ],
+        [over, still_over, still_over],
+    ] {
+        plays_rounds(&rt, alloc, &rounds)?;
+    }
+    Ok(())
+}
+
+#[test]
+fn random_words_go_on_after_a_resume(rt: HostRuntime) -> Result<(), Fail> {
+    let alloc = rt.alloc();
+    let lines = "ROLL\nROLL\nROLL\nROLL\nROLL\nROLL\nROLL\nROLL";
+    let mut whole = stage_of(&rt, alloc, b"", lines)?;
+    let words = words_of(alloc, PLAY)?;
+    settle(&rt, &mut whole);
+    assert_eq!(rt;
+        paw(alloc, &mut whole, words.as_slice()),
+        Outcome::InputEnded
+    );
+    let mut store: Vec<u8> = Vec::new(alloc);
+    for (number, line) in lines.lines().enumerate() {
+        let mut stage = stage_of(&rt, alloc, store.as_slice(), line)?;
+        settle(&rt, &mut stage);
+        let words = words_of(alloc, if number == 0 { PLAY } else { RESUME })?;
+        assert_eq!(rt;
+            paw(alloc, &mut stage, words.as_slice()),
+            Outcome::InputEnded
+        );
+        store = stage.load(alloc, "store", MOST)?;
+    }
+    assert_eq!(rt;
+        whole.load(alloc, "store", MOST)?.as_slice(),
+        store.as_slice()
+    );
+    Ok(())
+}
+
+// The same bytes with some changed to one byte.
+fn with_bytes(alloc: Global, bytes: &[u8], places: &[usize], byte: u8) -> Result<Vec<u8>, Fail> {
+    let mut changed = Vec::new(alloc);
+    changed.extend_from_slice(bytes)?;
+    for &place in places {
+        if let Some(old) = changed.as_mut_slice().get_mut(place) {
+            *old = byte;
+        }
+    }
+    Ok(changed)
+}
+
+// The digest of the image of a source.
+fn digest_of(rt: &impl Abort, alloc: Global, file: &str) -> Result<[u8; 32], Fail> {
+    let mut stage = stage_of(rt, alloc, b"", "")?;
+    Ok(digest(stage.load(alloc, file, MOST)?.as_slice()))
+}
+
+#[test]
+fn stores_that_give_no_session_are_refused(rt: HostRuntime) -> Result<(), Fail> {
+    let alloc = rt.alloc();
+    let store = plays_rounds(
+        &rt,
+        alloc,
+        &[round_to_end(PLAY, "WAIT", "Hall.\n>\nOK.\n>\n")],
+    )?;
+    let other = Outcome::WrongGame {
+        kept: digest_of(&rt, alloc, "hall")?,
+        found: digest_of(&rt, alloc, "cave")?,
+    };
+    for (words, places, byte, outcome) in [
+        (
+            PLAY,
+            [].as_slice(),
+            0,
+            Outcome::Occupied {
+                length: SESSION_LEN,
+            },
+        ),
+        (
+            RESUME,
+            [0].as_slice(),
+            0,
+            Outcome::Unmade {
+                length: SESSION_LEN,
+                mark: 0,
+            },
+        ),
+        (
+            RESUME,
+            [VERSION_AT].as_slice(),
+            3,
+            Outcome::SessionDamaged {
+                part: SessionPart::Header,
+                at: 2,
+            },
+        ),
+        ("resume\ncave\nstore", [].as_slice(), 0, other),
+        (
+            RESUME,
+            FIRST_PLACES.as_slice(),
+            200,
+            Outcome::SessionDamaged {
+                part: SessionPart::State,
+                at: 256,
+            },
+        ),
+    ] {
+        let changed = with_bytes(alloc, store.as_slice(), places, byte)?;
+        let refused = Round {
+            words,
+            lines: "WAIT",
+            outcome,
+            shown: "",
+        };
+        let left = plays_round(&rt, alloc, changed.as_slice(), &refused)?;
+        assert_eq!(rt; left.as_slice(), changed.as_slice(), "{outcome:?}");
+    }
+    // A store that is missing has no session, nor has an empty one; that may be played in.
+    let unmade = Outcome::Unmade { length: 0, mark: 0 };
+    let missing = Round {
+        outcome: unmade,
+        ..round_to_end("resume\nhall\nnone", "WAIT", "")
+    };
+    let empty = Round {
+        outcome: unmade,
+        ..round_to_end(RESUME, "WAIT", "")
+    };
+    plays_rounds(&rt, alloc, &[missing, empty, round_to_end(PLAY, "", FIRST)])?;
+    Ok(())
+}
+
+#[test]
+fn a_piece_that_was_not_shown_is_shown_again(rt: HostRuntime) -> Result<(), Fail> {
+    let alloc = rt.alloc();
+    let words = words_of(alloc, PLAY)?;
+    // Of the calls, the show of the first piece and that of the piece of WAIT.
+    let mut seen = 0u64;
+    for call in 0..40u64 {
+        let listed = [call].to_vec(alloc)?;
+        let mut settled = stage_of(&rt, alloc, b"", "WAIT")?;
+        settle(&rt, &mut settled);
+        let mut stage = FailStage::new(settled, listed);
+        if paw(alloc, &mut stage, words.as_slice()) != Outcome::Outside(StageCall::Show) {
+            continue;
+        }
+        seen = seen.saturating_add(1);
+        let store = stage.load(alloc, "store", MOST)?;
+        let shown = if seen == 1 { FIRST } else { "OK.\n>\n" };
+        plays_round(
+            &rt,
+            alloc,
+            store.as_slice(),
+            &round_to_end(RESUME, "", shown),
+        )?;
+    }
+    assert_eq!(rt; seen, 2);
+    Ok(())
+}

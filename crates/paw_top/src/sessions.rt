@@ -1,0 +1,66 @@
+// Playing with a session.
+
+ghost use Rattle.std.specs.Prelude.{◌≡◌, ◌≢◌, ◌↔◌, ℕ, List, []};
+ghost use Rattle.paw_game.specs.Game.{GameLists};
+ghost use Rattle.paw_stage.specs.Disk.{IsStable};
+ghost use Rattle.paw_stage.specs.Moments.{Passes};
+ghost use Rattle.paw_stage.specs.Stage.{Standing, Rose, Grows};
+ghost use Rattle.paw_state.specs.State.{State};
+ghost use Rattle.paw_play.specs.Play.{InNewPlay, InAgain, ShowsState, store_bytes};
+ghost use Rattle.paw_top.specs.Answers.{IfOutside, IsKeptCall};
+ghost use Rattle.paw_top.specs.Loads.{Holds};
+ghost use Rattle.paw_top.specs.Sessions.{PlaysNewIn, PlaysAgainIn, digest_of, session_in, session_from};
+ghost use Rattle.paw_top.specs.declared.outcome.Outcome.TheVariants as outcome;
+
+use crate::open::open_image;
+use crate::outcome::{Outcome, outcome_of};
+use paw_journal::digest;
+use paw_play::play::play_loop;
+use paw_play::resume::resume_loop;
+use paw_stage::Stage;
+use std::alloc::Global;
+
+/// Plays the game of an image file from its start, with a new session in the store.
+pub(crate) fn play<S: Stage>(
+    alloc: Global,
+    stage: &mut S,
+    image: &str,
+    store: &str,
+    seed: u64,
+) -> Outcome
+    requires synced { S.Tells stage.old → IsStable (S.standing stage.old).disk }
+    ensures tells { S.Tells stage.old ↔ S.Tells stage.new }
+    ensures counts { Grows (S.faults stage.old) (S.faults stage.new) }
+    ensures form { result ≢ outcome.Usage }
+    ensures outside { IfOutside result (λ c. IsKeptCall c × Rose (S.faults stage.old c) (S.faults stage.new c)) }
+    ensures plays { S.Tells stage.old → PlaysNewIn image.now store.now seed (S.standing stage.old) (S.standing stage.new) result }
+    ensures any_moment { S.Tells stage.old → (g : GameLists) → Holds (S.standing stage.old) image.now g → store_bytes (S.standing stage.old) store.now ≡ [] →
+        Passes (S.clock stage.old) (S.clock stage.new) (S.since stage.old) (S.since stage.new) (InNewPlay (session_in g store.now seed) (S.standing stage.old)) }
+{
+    let image = match open_image(alloc, stage, image) {
+        Ok(image) => image,
+        Err(outcome) => return outcome,
+    };
+    let kept = digest(image.bytes.as_slice());
+    outcome_of(play_loop(alloc, stage, &image.game, &kept, store, seed))
+}
+
+/// Goes on with the session in the store, of the game of an image file.
+pub(crate) fn resume<S: Stage>(alloc: Global, stage: &mut S, image: &str, store: &str) -> Outcome
+    requires synced { S.Tells stage.old → IsStable (S.standing stage.old).disk }
+    ensures tells { S.Tells stage.old ↔ S.Tells stage.new }
+    ensures counts { Grows (S.faults stage.old) (S.faults stage.new) }
+    ensures form { result ≢ outcome.Usage }
+    ensures outside { IfOutside result (λ c. IsKeptCall c × Rose (S.faults stage.old c) (S.faults stage.new c)) }
+    ensures plays { S.Tells stage.old → PlaysAgainIn image.now store.now (S.standing stage.old) (S.standing stage.new) result }
+    ensures any_moment { S.Tells stage.old → (g : GameLists) (st : State) (piece : List ℕ) → Holds (S.standing stage.old) image.now g →
+        ShowsState g (digest_of g) (store_bytes (S.standing stage.old) store.now) st piece →
+        Passes (S.clock stage.old) (S.clock stage.new) (S.since stage.old) (S.since stage.new) (InAgain (session_from g store.now st piece) (S.standing stage.old)) }
+{
+    let image = match open_image(alloc, stage, image) {
+        Ok(image) => image,
+        Err(outcome) => return outcome,
+    };
+    let kept = digest(image.bytes.as_slice());
+    outcome_of(resume_loop(alloc, stage, &image.game, &kept, store))
+}
