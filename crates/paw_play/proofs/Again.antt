@@ -17,9 +17,10 @@ use Rattle.paw_journal.specs.declared.refusal.JournalRefusal.TheVariants as refu
 use Rattle.paw_stage.proofs.Counted.{Rose_after}
 use Rattle.paw_play.specs.Calls.{IfOutside, IsSessionCall}
 use Rattle.paw_play.specs.Session.{IsKept}
-use Rattle.paw_play.specs.Play.{InPlay, InAgain, ShowsState, attached_to, store_bytes, going_on, kept_session, PlaysAgain, refused, unread, end_of}
-use Rattle.paw_play.proofs.Settled.{stable_leaves}
-use Rattle.paw_play.proofs.Attaching.{stable_is, files_so, other_file, playing_from}
+use Rattle.paw_play.specs.Play.{InPlay, InAgain, ShowsState, attached_to, store_bytes, going_on, kept_session, PlaysAgain, refused, unread}
+use Rattle.paw_play.specs.OnTheWay.{end_of}
+use Rattle.paw_journal.proofs.Disks.{stable_is, stable_leaves}
+use Rattle.paw_play.proofs.Attaching.{files_so, other_file, playing_from}
 use Rattle.paw_play.proofs.Showing.{state_kept}
 
 module _ (g : GameLists) (digest name : List ℕ) (st : State) (piece : List ℕ) (old : Standing) (valid : Valid g) (shows : ShowsState g digest (store_bytes old name) st piece) where
@@ -31,6 +32,7 @@ module _ (g : GameLists) (digest name : List ℕ) (st : State) (piece : List ℕ
     text = [];
     last = [];
     there = omega arith;
+    few = omega (arith, shows.keeps.events);
     asked = asked ∙ omega arith;
     shown = shown ∙ sym (append-nil old.shown);
     before = refl;
@@ -61,7 +63,7 @@ module _ (g : GameLists) (digest name : List ℕ) (st : State) (piece : List ℕ
 
   -- once it is found
   pub in_taking_up : (m : Moment) → InPlay (kept_session g st piece digest name) (attached_to old name) m → InAgain (kept_session g st piece digest name) old m
-  in_taking_up m i = inr (playing_from (kept_session g st piece digest name) old m i)
+  in_taking_up m i = inr (playing_from _ _ st.events name old m i)
 
 -- ---- where there is no session ----
 

@@ -1,12 +1,15 @@
 -- The attach of a session's store.
 use Rattle.std.proofs.Common.{◌≡◌, ◌≢◌, ℕ, zero, suc, ◌<◌, ◌≤◌, List, [], ◌∷◌, Option, Some, None, Ok, refl, sym, ap, ◌∙◌, subst, length, arith, inl, inr, ◌⊎◌}
+use Rattle.paw_game.specs.Game.{GameLists}
 use Rattle.paw_stage.specs.Disk.{MayLeave, IsStable, stable}
 use Rattle.paw_stage.specs.Stage.{Standing, Files, bytes_or_none, made_if_missing, AttachesTo}
 use Rattle.paw_stage.specs.Moments.{Moment, InAttach}
 use Rattle.paw_stage.proofs.Names.{holds_same, holds_other}
-use Rattle.paw_play.proofs.Settled.{stable_leaves}
+use Rattle.paw_journal.proofs.Disks.{stable_is, stable_leaves}
 use Rattle.paw_journal.specs.Session.{IsUnmade, recover, recover_by}
-use Rattle.paw_play.specs.Play.{Played, InPlay, InMaking, InNewPlay, NotYet, IsStore, attached_to, store_bytes}
+use Rattle.paw_play.specs.Keeping.{InSession, InMakingOf}
+use Rattle.paw_play.specs.Play.{InGame, NotYet, attached_to, store_bytes}
+use Rattle.paw_play.specs.OnTheWay.{IsStore}
 
 no_bytes : (bytes : List ℕ) → length bytes ≡ 0 → bytes ≡ []
 no_bytes [] h = refl
@@ -31,9 +34,6 @@ other_file old name n ne = other_by name n old.files (old.files name) ne
 
 -- ---- the store ----
 
-pub stable_is : (bytes : List ℕ) → IsStable (stable bytes)
-stable_is bytes = record { kept = refl; longest = refl; dirty = refl }
-
 pub store_attached : (old : Standing) (name : List ℕ) → IsStore name (attached_to old name)
 store_attached old name = record { attached = refl; stable = stable_is (store_bytes old name); file = is_there name old.files }
 
@@ -52,38 +52,38 @@ files_so old name files n ne (inl e) = ap (λ (f : Files). f n) e
 files_so old name files n ne (inr e) = ap (λ (f : Files). f n) e ∙ other_file old name n ne
 
 -- inside the attach of an empty store
-pub in_new_attach : (s : Played) (old new : Standing) (m : Moment) → new ≡ attached_to old s.name → store_bytes old s.name ≡ [] → InAttach old new s.name m → InNewPlay s old m
-in_new_attach s old new m is empty i =
+pub in_new_attach : (g : GameLists) (seed : ℕ) (name : List ℕ) (old new : Standing) (m : Moment) → new ≡ attached_to old name → store_bytes old name ≡ [] → InAttach old new name m →
+    InGame g seed name old m
+in_new_attach g seed name old new m is empty i =
     elim i.store [
       | inl before ↦ inl (record { asked = i.asked; shown = i.shown; files = i.files; store = inl before })
       | inr after ↦ inr (inl (record {
         asked = i.asked;
         shown = i.shown;
         attached = after.0 ∙ ap (λ (q : Standing). q.attached) is;
-        files = λ n ne. files_so old s.name m.files n ne i.files;
+        files = λ n ne. files_so old name m.files n ne i.files;
         leaves = λ image may. inl (none_unmade image
-            (stable_leaves (stable (store_bytes old s.name)) image (stable_is (store_bytes old s.name)) (subst (λ d. MayLeave d image) (after.1 ∙ ap (λ (q : Standing). q.disk) is) may) ∙ empty));
+            (stable_leaves (stable (store_bytes old name)) image (stable_is (store_bytes old name)) (subst (λ d. MayLeave d image) (after.1 ∙ ap (λ (q : Standing). q.disk) is) may) ∙ empty));
       }))
     ]
 
 -- what holds from the attached store on holds from before the attach
-pub making_from : (s : Played) (old : Standing) (m : Moment) → InMaking s (attached_to old s.name) m → InMaking s old m
-making_from s old m i = record { asked = i.asked; shown = i.shown; attached = i.attached; files = λ n ne. i.files n ne ∙ other_file old s.name n ne; leaves = i.leaves }
+pub making_from : (Kept : ℕ → List ℕ → Type 0) (name : List ℕ) (old : Standing) (m : Moment) → InMakingOf Kept name (attached_to old name) m → InMakingOf Kept name old m
+making_from Kept name old m i =
+    record { asked = i.asked; shown = i.shown; attached = i.attached; files = λ n ne. i.files n ne ∙ other_file old name n ne; leaves = i.leaves }
 
-pub playing_from : (s : Played) (old : Standing) (m : Moment) → InPlay s (attached_to old s.name) m → InPlay s old m
-playing_from s old m i = record {
+pub playing_from : (Kept : ℕ → List ℕ → Type 0) (told : ℕ → List ℕ) (past : ℕ) (name : List ℕ) (old : Standing) (m : Moment) → InSession Kept told past name (attached_to old name) m →
+    InSession Kept told past name old m
+playing_from Kept told past name old m i = record {
   taken = i.taken;
   text = i.text;
   last = i.last;
   there = i.there;
+  few = i.few;
   asked = i.asked;
   shown = i.shown;
   before = i.before;
   attached = i.attached;
-  files = λ n ne. i.files n ne ∙ other_file old s.name n ne;
+  files = λ n ne. i.files n ne ∙ other_file old name n ne;
   leaves = i.leaves;
 }
-
-pub new_from : (s : Played) (old : Standing) (m : Moment) → InMaking s (attached_to old s.name) m ⊎ InPlay s (attached_to old s.name) m → InNewPlay s old m
-new_from s old m (inl i) = inr (inl (making_from s old m i))
-new_from s old m (inr i) = inr (inr (playing_from s old m i))

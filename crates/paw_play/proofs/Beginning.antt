@@ -6,7 +6,7 @@ use Rattle.paw_stage.specs.Stage.{Standing}
 use Rattle.paw_stage.specs.Moments.{Moment, InShow}
 use Rattle.paw_stage.specs.declared.StageCall.{StageCall}
 use Rattle.paw_stage.specs.declared.StageCall.TheVariants as call
-use Rattle.paw_play.proofs.Settled.{stable_leaves}
+use Rattle.paw_journal.proofs.Disks.{stable_leaves}
 use Rattle.paw_reading.specs.Turn.{text_of}
 use Rattle.paw_turn.specs.Player.{Seat, IsSeated, Stands}
 use Rattle.paw_turn.specs.Player.{PlaysTo as StepsTo}
@@ -18,9 +18,9 @@ use Rattle.paw_journal.specs.Journal.{IsWriting}
 use Rattle.paw_play.specs.declared.PlayEnd.{PlayEnd}
 use Rattle.paw_play.specs.declared.PlayEnd.TheVariants as end
 use Rattle.paw_play.specs.declared.TheConstants.{MOST_EVENTS}
-use Rattle.paw_play.specs.Walk.{WalksFrom, Walks, IsWalking, Told, ShowsPiece, refusal_of}
-use Rattle.paw_play.specs.Session.{seat_state}
-use Rattle.paw_play.specs.Play.{Played, KeepsLines, InPlay, InMaking, Rests, with_store, PlaysOn, IsPlaying, IsStore, BegunAs}
+use Rattle.paw_play.specs.Walk.{Walks}
+use Rattle.paw_play.specs.Play.{Played, KeepsLines, InPlay, with_store, PlaysOn}
+use Rattle.paw_play.specs.OnTheWay.{WalksFrom, IsWalking, Told, ShowsPiece, refusal_of, seat_state, InMaking, Rests, IsPlaying, IsStore, BegunAs}
 use Rattle.paw_play.proofs.Kept.{step_kept}
 use Rattle.paw_play.proofs.Walking.{walk_begins, text_shown}
 
@@ -66,6 +66,8 @@ module _ (s : Played) (first kept : Standing) (next : Seat) (found : Step) (new_
 
   pub rests_first : IsStable kept.disk → recover kept.disk.bytes ≡ Shown s.digest (seat_state 0 next) next.piece → Rests s first kept 0
   rests_first stable is = record {
+    there = omega arith;
+    few = omega (arith, new_one);
     attached = beside.attached ∙ store.attached;
     stable = stable;
     file = beside.file s.name store.attached store.file;
@@ -80,6 +82,7 @@ module _ (s : Played) (first kept : Standing) (next : Seat) (found : Step) (new_
     text = take i.0 next.piece;
     last = take i.0 next.piece;
     there = omega arith;
+    few = omega (arith, new_one);
     asked = beside.asked ∙ omega arith;
     shown = ap (λ t. t ++ take i.0 next.piece) beside.shown;
     before = refl;
@@ -93,7 +96,7 @@ module _ (s : Played) (first kept : Standing) (next : Seat) (found : Step) (new_
 
   rests_shown : (new : Standing) (text : List ℕ) → new ≡ record kept { shown = text } → Rests s first kept 0 → Rests s first new 0
   rests_shown new text e rests =
-      subst (λ q. Rests s first q 0) (sym e) (record { attached = rests.attached; stable = rests.stable; file = rests.file; others = rests.others; keeps = rests.keeps })
+      subst (λ q. Rests s first q 0) (sym e) (record { there = rests.there; few = rests.few; attached = rests.attached; stable = rests.stable; file = rests.file; others = rests.others; keeps = rests.keeps })
 
   store_is : (new : Standing) (text : List ℕ) → new ≡ record kept { shown = text } → kept ≡ with_store new first
   store_is new text e = beside_is first kept beside ∙ ap (λ (q : Standing). with_store q first) (sym e)

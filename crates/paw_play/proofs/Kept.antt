@@ -14,11 +14,13 @@ use Rattle.std.proofs.lemmas.List.{length-reverse}
 use Rattle.paw_process.specs.Kept.{kept, unused}
 use Rattle.paw_process.specs.OpenTables.{OpenTables}
 use Rattle.paw_process.specs.declared.kept.Frames.{Frames}
-use Rattle.paw_play.specs.Walk.{Reading, ShowsPiece}
-use Rattle.paw_play.specs.Session.{last_piece, kept_bytes, frames_at, state_after, seat_state, IsKept}
+use Rattle.paw_state.specs.Record.{last_of}
+use Rattle.paw_play.specs.Session.{kept_bytes, state_after, IsKept}
+use Rattle.paw_play.specs.Walk.{Reading}
+use Rattle.paw_play.specs.OnTheWay.{ShowsPiece, seat_state, frames_at}
 use Rattle.paw_play.proofs.Walking.{on_waits}
 
-pub last_more : (pieces : List (List ℕ)) (piece : List ℕ) → last_piece (pieces ++ piece ∷ []) ≡ piece
+pub last_more : (pieces : List (List ℕ)) (piece : List ℕ) → last_of (pieces ++ piece ∷ []) ≡ piece
 last_more [] piece = refl
 last_more (p ∷ []) piece = refl
 last_more (p ∷ q ∷ pieces) piece = last_more (q ∷ pieces) piece

@@ -9,7 +9,7 @@ use Rattle.paw_stage.specs.declared.StageCall.TheVariants as call
 use Rattle.paw_stage.specs.declared.StageCall.{StageCall}
 use Rattle.paw_stage.specs.declared.Asked.{Asked}
 use Rattle.paw_stage.specs.declared.Asked.TheVariants as asked
-use Rattle.paw_play.proofs.Settled.{stable_leaves}
+use Rattle.paw_journal.proofs.Disks.{stable_leaves}
 use Rattle.paw_reading.specs.Turn.{Ending, on, text_of}
 use Rattle.paw_turn.specs.Player.{Seat, run_at, IsSeated, Stands}
 use Rattle.paw_turn.specs.Player.{PlaysTo as StepsTo}
@@ -20,19 +20,28 @@ use Rattle.paw_journal.specs.Store.{IsBeside, InStore, Leaves, IsEither}
 use Rattle.paw_journal.specs.Journal.{Keeps, IsAtRest, IsWriting}
 use Rattle.paw_play.specs.declared.PlayEnd.{PlayEnd}
 use Rattle.paw_play.specs.declared.PlayEnd.TheVariants as end
-use Rattle.paw_play.specs.Walk.{Reading, first_lines, played, text_before, joined, IsWalking, Walks, WalksOn, Told, ShowsPiece, refusal_of}
-use Rattle.paw_play.specs.Session.{seat_state, IsKept}
-use Rattle.paw_play.specs.Play.{Played, KeepsLines, IsTextOf, Agrees, KeepsUp, InPlay, Rests, with_store, RestsAfterAll, RestsBeforeLast, Uncommitted, LeavesSession, ShowsAs, PlaysOn, IsPlaying, PlaysTo}
+use Rattle.paw_play.specs.declared.TheConstants.{MOST_EVENTS}
+use Rattle.paw_play.specs.Session.{IsKept}
+use Rattle.paw_play.specs.Walk.{Reading, first_lines, played, text_before, joined, Walks}
+use Rattle.paw_play.specs.Keeping.{IsPart, AgreesWith, KeepsUpWith, KeepsAllButLast}
+use Rattle.paw_play.specs.Play.{Played, KeepsLines, KeptBy, InPlay, with_store, Uncommitted, PlaysOn}
+use Rattle.paw_play.specs.OnTheWay.{IsWalking, WalksOn, Told, ShowsPiece, refusal_of, seat_state, Rests, IsPlaying, PlaysTo}
 use Rattle.paw_play.proofs.Kept.{step_kept}
 use Rattle.paw_play.proofs.Walking.{walks_on, long_walk, none_left, none_asked, text_so_far, text_shown, read_after, one_more, joined_more, drop_more, stands_after, shown_nothing}
 
 -- ---- at a prompt ----
 
-keeps_all : (s : Played) (lines : List (List ℕ)) (n : ℕ) (text : List ℕ) (r : Recovered) → Agrees s lines n text r → KeepsUp s lines n text r
-keeps_all s lines zero text r h = h
-keeps_all s lines (suc n) text r h = inl h
+-- the bytes keep n lines of the session, and the text is a first part of theirs
+abbrev Agrees : Played → List (List ℕ) → ℕ → List ℕ → List ℕ → Type 0
+Agrees s lines n text bytes = AgreesWith (KeptBy s lines) (λ k. text_of (s.whole (first_lines k lines))) n text bytes
 
-whole_text : (s : Played) (lines : List (List ℕ)) (n : ℕ) (text : List ℕ) → text_of (s.whole (first_lines n lines)) ≡ text → IsTextOf s lines n text
+keeps_all : (s : Played) (lines : List (List ℕ)) (n : ℕ) (text bytes : List ℕ) → Agrees s lines n text bytes →
+    KeepsUpWith (KeptBy s lines) (λ k. text_of (s.whole (first_lines k lines))) n text bytes
+keeps_all s lines zero text bytes h = h
+keeps_all s lines (suc n) text bytes h = inl h
+
+whole_text : (s : Played) (lines : List (List ℕ)) (n : ℕ) (text : List ℕ) → text_of (s.whole (first_lines n lines)) ≡ text →
+    IsPart text (text_of (s.whole (first_lines n lines)))
 whole_text s lines n text e = ([], append-nil text ∙ sym e)
 
 -- the text so far
@@ -46,7 +55,7 @@ shown_is : (s : Played) (first now : Standing) (seat : Seat) (n : ℕ) (w : IsPl
 shown_is s first now seat n w = ap (λ (q : Standing). q.shown) w.walking.stands
 
 agrees_now : (s : Played) (first now : Standing) (seat : Seat) (n : ℕ) (w : IsPlaying s first now seat n) → IsSeated seat → (image : List ℕ) → MayLeave now.disk image →
-    Agrees s first.lines n (joined w.walking.pieces) (recover image)
+    Agrees s first.lines n (joined w.walking.pieces) image
 agrees_now s first now seat n w seated image may = (
   subst (λ b. KeepsLines s first.lines n (recover b)) (sym (stable_leaves now.disk image w.rests.stable may)) w.rests.keeps,
   whole_text s first.lines n (joined w.walking.pieces) (text_is s first now seat n w seated),
@@ -59,22 +68,24 @@ at_prompt s first now seat n w seated = record {
   text = joined w.walking.pieces;
   last = w.last;
   there = w.walking.there;
+  few = w.rests.few;
   asked = asked_is s first now seat n w;
   shown = shown_is s first now seat n w;
   before = sym (text_is s first now seat n w seated) ∙ w.grown;
   attached = w.rests.attached;
   files = w.rests.others;
-  leaves = λ image may. keeps_all s first.lines n (joined w.walking.pieces) (recover image) (agrees_now s first now seat n w seated image may);
+  leaves = λ image may. keeps_all s first.lines n (joined w.walking.pieces) image (agrees_now s first now seat n w seated image may);
 }
 
 -- inside an ask that takes a line
-line_asked : (s : Played) (first now : Standing) (seat : Seat) (n : ℕ) → IsPlaying s first now seat n → IsSeated seat → suc n ≤ length first.lines →
+line_asked : (s : Played) (first now : Standing) (seat : Seat) (n : ℕ) → IsPlaying s first now seat n → IsSeated seat → suc n ≤ length first.lines → s.before + suc n ≤ MOST_EVENTS →
     InPlay s first (record (moment_of now) { asked = now.asked + 1 })
-line_asked s first now seat n w seated there = record {
+line_asked s first now seat n w seated there few = record {
   taken = suc n;
   text = joined w.walking.pieces;
   last = [];
   there = there;
+  few = few;
   asked = let a = asked_is s first now seat n w in omega (arith, a);
   shown = shown_is s first now seat n w;
   before = sym (append-nil (text_of (s.whole (first_lines n first.lines))) ∙ text_is s first now seat n w seated);
@@ -89,12 +100,12 @@ is_there s first now mid seat n line w e =
 
 -- inside an ask
 pub in_ask : (s : Played) (first now mid : Standing) (seat : Seat) (n : ℕ) (a : Asked) (into : List ℕ) (m : Moment) → IsPlaying s first now seat n → IsSeated seat →
-    AsksTo now mid a into → InAsk now a m → InPlay s first m
-in_ask s first now mid seat n (asked.Line k) into m w seated asks (inl e) = subst (InPlay s first) (sym e) (at_prompt s first now seat n w seated)
-in_ask s first now mid seat n (asked.Line k) into m w seated asks (inr e) =
-    subst (InPlay s first) (sym e) (line_asked s first now seat n w seated (is_there s first now mid seat n asks.0 w asks.1))
-in_ask s first now mid seat n asked.End into m w seated asks e = subst (InPlay s first) (sym e) (at_prompt s first now seat n w seated)
-in_ask s first now mid seat n asked.Failed into m w seated asks e = subst (InPlay s first) (sym e) (at_prompt s first now seat n w seated)
+    s.before + suc n ≤ MOST_EVENTS → AsksTo now mid a into → InAsk now a m → InPlay s first m
+in_ask s first now mid seat n (asked.Line k) into m w seated few asks (inl e) = subst (InPlay s first) (sym e) (at_prompt s first now seat n w seated)
+in_ask s first now mid seat n (asked.Line k) into m w seated few asks (inr e) =
+    subst (InPlay s first) (sym e) (line_asked s first now seat n w seated (is_there s first now mid seat n asks.0 w asks.1) few)
+in_ask s first now mid seat n asked.End into m w seated few asks e = subst (InPlay s first) (sym e) (at_prompt s first now seat n w seated)
+in_ask s first now mid seat n asked.Failed into m w seated few asks e = subst (InPlay s first) (sym e) (at_prompt s first now seat n w seated)
 
 -- ---- the store after a commit ----
 
@@ -106,7 +117,7 @@ module _ (s : Played) (most n events : ℕ) (first now mid kept : Standing) (sea
     (w : IsPlaying s first now seat n) (seated : IsSeated seat) (then_seated : IsSeated next) (game : next.game ≡ seat.game) (last : next.last ≡ step)
     (lines : now.lines ≡ line ∷ mid.lines) (cut : given ≡ take 255 line) (took : mid ≡ record now { lines = mid.lines; asked = now.asked + 1 })
     (plays : StepsTo (λ more. on seat.game [] w.walking.prompt (reverse seat.machine.frames) (run_at seat w.walking.pieces w.walking.traces (given ∷ more))) step next w.walking.pieces w.walking.traces)
-    (shows : ShowsPiece step) (counts : events ≡ s.before + suc n) where
+    (shows : ShowsPiece step) (counts : events ≡ s.before + suc n) (fit : events ≤ MOST_EVENTS) where
   -- the text of all lines that were taken
   whole_is : s.whole (first_lines (suc n) first.lines) ≡ on seat.game [] w.walking.prompt (reverse seat.machine.frames) (run_at seat w.walking.pieces w.walking.traces (given ∷ []))
   whole_is = read_after s.whole n (with_store now first) now mid kept seat next given line step w.walking seated then_seated game last lines cut took plays
@@ -123,6 +134,9 @@ module _ (s : Played) (most n events : ℕ) (first now mid kept : Standing) (sea
 
   there : suc n ≤ length first.lines
   there = is_there s first now mid seat n line w lines
+
+  all_few : s.before + suc n ≤ MOST_EVENTS
+  all_few = omega (arith, counts, fit)
 
   asked_more : mid.asked ≡ first.asked + suc n
   asked_more = let a = asked_is s first now seat n w in let b = ap (λ (q : Standing). q.asked) took in omega (arith, a, b)
@@ -146,6 +160,7 @@ module _ (s : Played) (most n events : ℕ) (first now mid kept : Standing) (sea
     text = joined w.walking.pieces;
     last = [];
     there = there;
+    few = all_few;
     asked = i.asked ∙ asked_more;
     shown = i.shown ∙ shown_so_far;
     before = sym (append-nil (text_of (s.whole (first_lines n first.lines))) ∙ text_is s first now seat n w seated);
@@ -169,6 +184,8 @@ module _ (s : Played) (most n events : ℕ) (first now mid kept : Standing) (sea
   -- once it is committed the store is at rest, and keeps all lines
   pub rests_more : IsBeside mid kept → IsStable kept.disk → recover kept.disk.bytes ≡ Shown (kept_digest mid.disk.bytes) (seat_state events next) next.piece → Rests s first kept (suc n)
   rests_more beside stable is = record {
+    there = there;
+    few = all_few;
     attached = beside.attached ∙ attached_still;
     stable = stable;
     file = beside.file s.name attached_still (subst (λ (q : Standing). q.files s.name ≡ Some q.disk.bytes) (sym took) w.rests.file);
@@ -183,6 +200,7 @@ module _ (s : Played) (most n events : ℕ) (first now mid kept : Standing) (sea
     text = joined w.walking.pieces ++ take i.0 next.piece;
     last = take i.0 next.piece;
     there = there;
+    few = all_few;
     asked = beside.asked ∙ asked_more;
     shown = ap (λ t. t ++ take i.0 next.piece) (beside.shown ∙ shown_so_far) ∙ append_assoc first.shown (joined w.walking.pieces) (take i.0 next.piece);
     before = ap (λ t. t ++ take i.0 next.piece) (sym (text_is s first now seat n w seated));
@@ -224,7 +242,7 @@ module _ (s : Played) (most n events : ℕ) (first now mid kept : Standing) (sea
 
   -- showing leaves the store at rest
   rests_shown : (text : List ℕ) → Rests s first kept (suc n) → Rests s first (record kept { shown = text }) (suc n)
-  rests_shown text rests = record { attached = rests.attached; stable = rests.stable; file = rests.file; others = rests.others; keeps = rests.keeps }
+  rests_shown text rests = record { there = rests.there; few = rests.few; attached = rests.attached; stable = rests.stable; file = rests.file; others = rests.others; keeps = rests.keeps }
 
   rests_then : (new : Standing) (text : List ℕ) → new ≡ record kept { shown = text } → Rests s first kept (suc n) → Rests s first new (suc n)
   rests_then new text e rests = subst (λ q. Rests s first q (suc n)) (sym e) (rests_shown text rests)
@@ -306,11 +324,11 @@ module _ (s : Played) (most n : ℕ) (first now : Standing) (seat : Seat) (w : I
   module _ (mid : Standing) (next : Seat) (given line : List ℕ) (found : Step) (then_seated : IsSeated next) (game : next.game ≡ seat.game) (last : next.last ≡ found)
       (lines : now.lines ≡ line ∷ mid.lines) (cut : given ≡ take 255 line) (took : mid ≡ record now { lines = mid.lines; asked = now.asked + 1 })
       (plays : StepsTo (λ more. on seat.game [] w.walking.prompt (reverse seat.machine.frames) (run_at seat w.walking.pieces w.walking.traces (given ∷ more))) found next w.walking.pieces w.walking.traces) where
-    refused_rests : RestsBeforeLast s first mid
+    refused_rests : KeepsAllButLast (KeptBy s first.lines) s.before s.name first mid
     refused_rests = (
       n,
       let a = asked_is s first now seat n w in let b = ap (λ (q : Standing). q.asked) took in omega (arith, a, b),
-      subst (λ q. Rests s first q n) (sym took) (record { attached = w.rests.attached; stable = w.rests.stable; file = w.rests.file; others = w.rests.others; keeps = w.rests.keeps }),
+      subst (λ q. Rests s first q n) (sym took) (record { there = w.rests.there; few = w.rests.few; attached = w.rests.attached; stable = w.rests.stable; file = w.rests.file; others = w.rests.others; keeps = w.rests.keeps }),
     )
 
     refused_shows : (o : PlayEnd) → Told mid mid next.piece found (Some o) → Walks s.whole most (with_store mid first) mid o

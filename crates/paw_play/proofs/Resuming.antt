@@ -10,7 +10,7 @@ use Rattle.paw_stage.specs.Disk.{MayLeave}
 use Rattle.paw_stage.specs.Stage.{Standing}
 use Rattle.paw_stage.specs.Moments.{Moment, InShow}
 use Rattle.paw_stage.specs.declared.StageCall.TheVariants as call
-use Rattle.paw_play.proofs.Settled.{stable_leaves}
+use Rattle.paw_journal.proofs.Disks.{stable_leaves}
 use Rattle.paw_effects.specs.declared.act.Prompt.{Prompt}
 use Rattle.paw_effects.specs.declared.act.Prompt.TheVariants as prompt
 use Rattle.paw_reading.specs.declared.places.Frame.{Frame}
@@ -25,9 +25,12 @@ use Rattle.paw_journal.specs.Session.{Shown, recover, kept_digest}
 use Rattle.paw_state.specs.State.{State, state_of}
 use Rattle.paw_play.specs.declared.PlayEnd.{PlayEnd}
 use Rattle.paw_play.specs.declared.PlayEnd.TheVariants as end
+use Rattle.paw_play.specs.declared.TheConstants.{MOST_EVENTS}
+use Rattle.paw_state.specs.Record.{state_at}
+use Rattle.paw_play.specs.Session.{kept_bytes, IsKept}
 use Rattle.paw_play.specs.Walk.{first_lines, played, joined}
-use Rattle.paw_play.specs.Session.{kept_bytes, frames_at, state_at, IsKept}
-use Rattle.paw_play.specs.Play.{Played, KeepsLines, InPlay, Rests, with_store, PlaysOn, IsPlaying, IsStore, ShowsState, ShowsAgain, going_on, kept_session}
+use Rattle.paw_play.specs.Play.{Played, KeepsLines, InPlay, with_store, PlaysOn, ShowsState, going_on, kept_session}
+use Rattle.paw_play.specs.OnTheWay.{Rests, IsPlaying, IsStore, ShowsAgain, frames_at}
 use Rattle.paw_play.proofs.Kept.{kept_is}
 use Rattle.paw_play.proofs.Walking.{on_waits, first_stands}
 
@@ -94,7 +97,7 @@ waits_at prompt.Over h = absurd (h refl)
 
 module _ (g : GameLists) (digest name : List ℕ) (w : World) (m : OpenTables) (p : PendingLine) (at : Prompt) (events n most : ℕ) (piece : List ℕ) (first : Standing) (seat : Seat)
     (long : length piece ≡ n) (is : seat ≡ seat_at g w m p at) (seated : IsSeated seat) (store : IsStore name first) (own : kept_digest first.disk.bytes ≡ digest)
-    (shows : recover first.disk.bytes ≡ Shown digest (kept_bytes (state_of w m p at events n)) piece) where
+    (shows : recover first.disk.bytes ≡ Shown digest (kept_bytes (state_of w m p at events n)) piece) (fit : events ≤ MOST_EVENTS) where
   session : Played
   session = kept_session g (state_of w m p at events n) piece digest name
 
@@ -112,13 +115,13 @@ module _ (g : GameLists) (digest name : List ℕ) (w : World) (m : OpenTables) (
 
   rests_first : Rests session first first 0
   unfolding session
-  rests_first = record { attached = store.attached; stable = store.stable; file = store.file; others = λ f other. refl; keeps = keeps_now }
+  rests_first = record { there = omega arith; few = omega (arith, fit); attached = store.attached; stable = store.stable; file = store.file; others = λ f other. refl; keeps = keeps_now }
 
   rests_shown : (new : Standing) (text : List ℕ) → new ≡ record first { shown = text } → Rests session first new 0
   unfolding session
   rests_shown new text e =
       subst (λ q. Rests session first q 0) (sym e)
-      (record { attached = store.attached; stable = store.stable; file = store.file; others = λ f other. refl; keeps = keeps_now })
+      (record { there = omega arith; few = omega (arith, fit); attached = store.attached; stable = store.stable; file = store.file; others = λ f other. refl; keeps = keeps_now })
 
   store_is : (new : Standing) (text : List ℕ) → new ≡ record first { shown = text } → first ≡ with_store new first
   store_is new text e = ap (λ (q : Standing). with_store q first) (sym e)
@@ -136,6 +139,7 @@ module _ (g : GameLists) (digest name : List ℕ) (w : World) (m : OpenTables) (
     text = take i.0 piece;
     last = take i.0 piece;
     there = omega arith;
+    few = omega (arith, fit);
     asked = omega arith;
     shown = refl;
     before = refl;

@@ -20,7 +20,8 @@ use Rattle.paw_turn.specs.declared.Step.TheVariants as step
 use Rattle.paw_play.specs.declared.PlayEnd.{PlayEnd}
 use Rattle.paw_play.specs.declared.PlayEnd.TheVariants as end
 use Rattle.paw_stage.specs.declared.StageCall.TheVariants as call
-use Rattle.paw_play.specs.Walk.{Reading, first_lines, played, Reads, ReadsPart, IsWalking, joined, ShowsPiece, Told, WalksOn, WalksFrom}
+use Rattle.paw_play.specs.Walk.{Reading, first_lines, played, Reads, ReadsPart, joined}
+use Rattle.paw_play.specs.OnTheWay.{IsWalking, ShowsPiece, Told, WalksOn, WalksFrom}
 use Rattle.paw_play.specs.declared.TheConstants.{MOST_EVENTS}
 
 -- ---- lines ----

@@ -1,6 +1,7 @@
 //! Playing over a stage: lines are taken, and the pieces that they bring are shown.
 #![tactic(auto)]
 
+pub mod laws;
 mod line;
 pub mod play;
 pub mod resume;

@@ -8,8 +8,8 @@ ghost use Rattle.paw_turn.specs.Parts.{IsStanding};
 ghost use Rattle.paw_journal.specs.Session.{recover, Shown, kept_digest, state_length, piece_length};
 ghost use Rattle.paw_journal.specs.Store.{IsBeside, InStore, Leaves, IsEither};
 ghost use Rattle.paw_journal.specs.Journal.{Keeps, IsWriting};
-ghost use Rattle.paw_play.specs.Session.{seat_state};
-ghost use Rattle.paw_play.specs.Play.{Played, InPlay, IsPlaying, PlaysTo};
+ghost use Rattle.paw_play.specs.Play.{Played, InPlay};
+ghost use Rattle.paw_play.specs.OnTheWay.{seat_state, IsPlaying, PlaysTo};
 ghost use Rattle.paw_play.specs.Calls.{IfOutside, IsPlayCall};
 ghost use Rattle.paw_play.specs.declared.TheConstants.{MOST_EVENTS};
 

@@ -10,7 +10,8 @@ ghost use Rattle.paw_effects.specs.Built.{AllBuilt};
 ghost use Rattle.paw_reading.specs.Turn.{reading};
 ghost use Rattle.paw_turn.specs.Player.{IsSeated, IsNew};
 ghost use Rattle.paw_journal.specs.Journal.{IsAtRest, Keeps};
-ghost use Rattle.paw_play.specs.Play.{Played, InPlay, InMaking, InNewPlay, IsPlaying, PlaysOn, PlaysNew, Begins, IsStore, PlaysIn, new_session, store_bytes};
+ghost use Rattle.paw_play.specs.Play.{Played, InPlay, InGame, PlaysOn, PlaysGame, store_bytes};
+ghost use Rattle.paw_play.specs.OnTheWay.{InMaking, IsPlaying, PlaysInStore, Begins, IsStore, new_session};
 ghost use Rattle.paw_play.specs.Calls.{IfOutside, IsPlayCall, IsSessionCall};
 ghost use Rattle.paw_play.specs.declared.TheConstants.{MOST_EVENTS};
 
@@ -115,7 +116,7 @@ fn play_in<S: Stage, T: Tables>(
     ensures counts { Grows (S.faults stage.old) (S.faults stage.new) }
     ensures outside { IfOutside result (λ c. IsPlayCall c × Rose (S.faults stage.old c) (S.faults stage.new c)) }
     ensures plays { S.Tells stage.old → (name : List ℕ) → IsStore name (S.standing stage.old) →
-        PlaysIn (new_session (T.game tables.now) seed game.now name) (S.standing stage.old) (S.standing stage.new) result }
+        PlaysInStore (new_session (T.game tables.now) seed game.now name) (S.standing stage.old) (S.standing stage.new) result }
     ensures any_moment { S.Tells stage.old → (name : List ℕ) → IsStore name (S.standing stage.old) →
         Passes (S.clock stage.old) (S.clock stage.new) (S.since stage.old) (S.since stage.new)
         (λ m. InMaking (new_session (T.game tables.now) seed game.now name) (S.standing stage.old) m
@@ -150,10 +151,10 @@ pub fn play_loop<S: Stage, T: Tables>(
     ensures tells { S.Tells stage.old ↔ S.Tells stage.new }
     ensures counts { Grows (S.faults stage.old) (S.faults stage.new) }
     ensures outside { IfOutside result (λ c. IsSessionCall c × Rose (S.faults stage.old c) (S.faults stage.new c)) }
-    ensures plays { S.Tells stage.old → PlaysNew (new_session (T.game tables.now) seed game.now name.now) (S.standing stage.old) (S.standing stage.new) result }
+    ensures plays { S.Tells stage.old → PlaysGame (T.game tables.now) seed name.now (S.standing stage.old) (S.standing stage.new) result }
     ensures any_moment { S.Tells stage.old → store_bytes (S.standing stage.old) name.now ≡ [] →
         Passes (S.clock stage.old) (S.clock stage.new) (S.since stage.old) (S.since stage.new)
-        (InNewPlay (new_session (T.game tables.now) seed game.now name.now) (S.standing stage.old)) }
+        (InGame (T.game tables.now) seed name.now (S.standing stage.old)) }
 {
     let at = match attach(stage, name) {
         Ok(at) => at,

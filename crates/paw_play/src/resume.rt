@@ -11,7 +11,8 @@ ghost use Rattle.paw_state.specs.State.{State};
 ghost use Rattle.paw_turn.specs.Player.{IsSeated};
 ghost use Rattle.paw_journal.specs.Session.{kept_digest};
 ghost use Rattle.paw_journal.specs.Journal.{IsAtRest, Keeps};
-ghost use Rattle.paw_play.specs.Play.{Played, InPlay, InAgain, IsPlaying, IsStore, PlaysUp, PlaysAgain, ShowsState, ShowsAgain, end_of, kept_session, store_bytes};
+ghost use Rattle.paw_play.specs.Play.{Played, InPlay, InAgain, PlaysUp, PlaysAgain, ShowsState, kept_session, store_bytes};
+ghost use Rattle.paw_play.specs.OnTheWay.{IsPlaying, IsStore, ShowsAgain, end_of};
 ghost use Rattle.paw_play.specs.Calls.{IfOutside, IsPlayCall, IsSessionCall};
 ghost use Rattle.paw_play.specs.declared.TheConstants.{MOST_EVENTS};
 

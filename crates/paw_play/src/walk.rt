@@ -6,7 +6,8 @@ ghost use Rattle.paw_stage.specs.Stage.{Standing, Rose, Grows};
 ghost use Rattle.paw_reading.specs.Turn.{reading};
 ghost use Rattle.paw_stage.specs.Moments.{Passes, InShow};
 ghost use Rattle.paw_turn.specs.Player.{IsSeated};
-ghost use Rattle.paw_play.specs.Walk.{Reading, Walks, IsWalking, WalksOn, Told, refusal_of};
+ghost use Rattle.paw_play.specs.Walk.{Reading, Walks};
+ghost use Rattle.paw_play.specs.OnTheWay.{IsWalking, WalksOn, Told, refusal_of};
 ghost use Rattle.paw_play.specs.Calls.{IfOutside, IsWalkCall};
 ghost use Rattle.paw_play.specs.declared.TheConstants.{MOST_EVENTS};
 

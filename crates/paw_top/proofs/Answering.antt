@@ -7,9 +7,12 @@ use Rattle.paw_journal.specs.declared.refusal.JournalRefusal.TheVariants as refu
 use Rattle.paw_play.specs.Calls as play
 use Rattle.paw_play.specs.declared.PlayEnd.{PlayEnd}
 use Rattle.paw_play.specs.declared.PlayEnd.TheVariants as end
-use Rattle.paw_top.specs.Answers.{IfOutside, IsCall, IsKeptCall}
+use Rattle.paw_top.specs.Answers.{IfOutside, IfMemory, IsCall, IsKeptCall, IsLoadMemory, IsPlayMemory, IsCompileMemory, IsDecompileMemory}
 use Rattle.paw_top.specs.Ends.{outcome_of}
 use Rattle.paw_top.specs.declared.outcome.Outcome.{Outcome}
+use Rattle.paw_top.specs.declared.outcome.Outcome.TheVariants as outcome
+use Rattle.paw_top.specs.declared.outcome.MemoryAt.{MemoryAt}
+use Rattle.paw_top.specs.declared.outcome.MemoryAt.TheVariants as memory
 
 -- the call that playing ended for is the one that is answered
 answers_so : (o : PlayEnd) (P Q : StageCall → Type 0) → ((c : StageCall) → P c → Q c) → play.IfOutside o P → IfOutside (outcome_of o) Q
@@ -59,3 +62,61 @@ pub kept_outside : (first mid last : StageCall → ℕ) (end : PlayEnd) (o : Out
 kept_outside first mid last end o grows is h = subst (λ q. IfOutside q (λ c. IsKeptCall c × Rose (first c) (last c))) (sym is)
     (answers_so end (λ c. play.IsSessionCall c × Rose (mid c) (last c)) (λ c. IsKeptCall c × Rose (first c) (last c))
     (λ c k. (kept_call c k.0, rose_later (first c) (mid c) (last c) (grows c) k.1)) h)
+
+-- ---- memory ----
+
+memory_so : (o : Outcome) (P Q : MemoryAt → Type 0) → ((at : MemoryAt) → P at → Q at) → IfMemory o P → IfMemory o Q
+memory_so (outcome.Memory at) P Q f h = f at h
+memory_so _ P Q f h = tt
+
+compile_loads : (at : MemoryAt) → IsLoadMemory at → IsCompileMemory at
+compile_loads memory.Source h = tt
+compile_loads memory.Load h = tt
+compile_loads memory.Image h = tt
+compile_loads memory.Print h = h
+compile_loads memory.Play h = h
+
+decompile_loads : (at : MemoryAt) → IsLoadMemory at → IsDecompileMemory at
+decompile_loads memory.Print h = tt
+decompile_loads memory.Load h = tt
+decompile_loads memory.Image h = tt
+decompile_loads memory.Source h = h
+decompile_loads memory.Play h = h
+
+play_loads : (at : MemoryAt) → IsLoadMemory at → IsPlayMemory at
+play_loads memory.Play h = tt
+play_loads memory.Load h = tt
+play_loads memory.Image h = tt
+play_loads memory.Source h = h
+play_loads memory.Print h = h
+
+pub compile_memory : (o : Outcome) → IfMemory o IsLoadMemory → IfMemory o IsCompileMemory
+compile_memory o h = memory_so o IsLoadMemory IsCompileMemory compile_loads h
+
+pub decompile_memory : (o : Outcome) → IfMemory o IsLoadMemory → IfMemory o IsDecompileMemory
+decompile_memory o h = memory_so o IsLoadMemory IsDecompileMemory decompile_loads h
+
+pub play_memory : (o : Outcome) → IfMemory o IsLoadMemory → IfMemory o IsPlayMemory
+play_memory o h = memory_so o IsLoadMemory IsPlayMemory play_loads h
+
+pub no_memory : (o : Outcome) (P : MemoryAt → Type 0) → IfMemory o (λ at. ⊥) → IfMemory o P
+no_memory o P h = memory_so o (λ at. ⊥) P (λ at. absurd) h
+
+-- what playing comes to wants memory to play alone
+ended_memory : (o : PlayEnd) → IfMemory (outcome_of o) IsPlayMemory
+ended_memory end.Ended = tt
+ended_memory end.InputEnded = tt
+ended_memory (end.Occupied n) = tt
+ended_memory (end.Refused (refusal.Unmade n mark)) = tt
+ended_memory (end.Refused (refusal.Damaged p at)) = tt
+ended_memory (end.Refused (refusal.WrongGame kept found)) = tt
+ended_memory (end.Refused (refusal.Outside c)) = tt
+ended_memory (end.State at) = tt
+ended_memory (end.Spent kind) = tt
+ended_memory (end.TooDeep table) = tt
+ended_memory (end.Long events) = tt
+ended_memory (end.Outside c) = tt
+ended_memory end.Memory = tt
+
+pub played_memory : (o : PlayEnd) (p : Outcome) → p ≡ outcome_of o → IfMemory p IsPlayMemory
+played_memory o p e = subst (λ q. IfMemory q IsPlayMemory) (sym e) (ended_memory o)

@@ -13,7 +13,7 @@ use Rattle.paw_journal.specs.declared.refusal.JournalRefusal.TheVariants as refu
 use Rattle.paw_play.specs.Session.{kept_bytes}
 use Rattle.paw_play.specs.Walk.{Reading}
 use Rattle.paw_play.specs.Play as session
-use Rattle.paw_play.specs.Play.{Played, PlaysOn, ShowsAs, PlaysIn, PlaysNew, PlaysUp, PlaysAgain, ShowsState, Refuses, attached_to, store_bytes, with_store}
+use Rattle.paw_play.specs.Play.{ShowsAs, PlaysIn, PlaysFirst, PlaysUp, PlaysAgain, ShowsState, Refuses, attached_to, store_bytes, with_store}
 use Rattle.paw_play.specs.declared.PlayEnd.{PlayEnd}
 use Rattle.paw_play.specs.declared.PlayEnd.TheVariants as end
 use Rattle.paw_top.specs.Answers.{IfOutside, IsKeptCall}
@@ -56,25 +56,25 @@ no_writing : (c : StageCall) → IsWriting c → c ≢ call.LoadAbsent
 no_writing c (inl h) = λ q. cc
 no_writing c (inr h) = λ q. cc
 
-plays_in : (s : Played) (old new : Standing) (first last : StageCall → ℕ) (o : PlayEnd) → PlaysIn s old new o →
+plays_in : (Kept : ℕ → List ℕ → Type 0) (whole : Reading) (name : List ℕ) (old new : Standing) (first last : StageCall → ℕ) (o : PlayEnd) → PlaysIn Kept whole name old new o →
     IfOutside (outcome_of o) (λ c. IsKeptCall c × Rose (first c) (last c)) → NoFault first last → IsWalked (outcome_of o)
-plays_in s old new first last _ (session.memory e) out none = tt
-plays_in s old new first last _ (session.spent kind r is e) out none = tt
-plays_in s old new first last _ (session.too_deep table r is e) out none = tt
-plays_in s old new first last _ (session.unmade c w e) out none = absurd (none c (no_writing c w) out.1)
-plays_in s old new first last _ (session.plays o p) out none = plays_on _ _ old new first last o p.shows out none
+plays_in Kept whole name old new first last _ (session.memory e) out none = tt
+plays_in Kept whole name old new first last _ (session.spent kind r is e) out none = tt
+plays_in Kept whole name old new first last _ (session.too_deep table r is e) out none = tt
+plays_in Kept whole name old new first last _ (session.unmade c w e) out none = absurd (none c (no_writing c w) out.1)
+plays_in Kept whole name old new first last _ (session.plays o p) out none = plays_on _ _ old new first last o p.shows out none
 
 -- a store with bytes is refused for their number
 occupied_so : (bytes : List ℕ) → 0 < length bytes → CompletesNew bytes (outcome.Occupied (length bytes))
 occupied_so [] h = absurd (omega (arith, h))
 occupied_so (b ∷ bytes) h = refl
 
-plays_new : (s : Played) (old new : Standing) (first last : StageCall → ℕ) (o : PlayEnd) → PlaysNew s old new o →
-    IfOutside (outcome_of o) (λ c. IsKeptCall c × Rose (first c) (last c)) → NoFault first last → CompletesNew (store_bytes old s.name) (outcome_of o)
-plays_new s old new first last _ (session.unattached u) out none = absurd (none call.Attach (λ q. cc) out.1)
-plays_new s old new first last _ (session.occupied h e) out none = occupied_so (store_bytes old s.name) h
-plays_new s old new first last _ (session.plays_in o e p) out none =
-    subst (λ bytes. CompletesNew bytes (outcome_of o)) (sym e) (plays_in s _ new first last o p out none)
+plays_new : (Kept : ℕ → List ℕ → Type 0) (whole : Reading) (name : List ℕ) (old new : Standing) (first last : StageCall → ℕ) (o : PlayEnd) → PlaysFirst Kept whole name old new o →
+    IfOutside (outcome_of o) (λ c. IsKeptCall c × Rose (first c) (last c)) → NoFault first last → CompletesNew (store_bytes old name) (outcome_of o)
+plays_new Kept whole name old new first last _ (session.unattached u) out none = absurd (none call.Attach (λ q. cc) out.1)
+plays_new Kept whole name old new first last _ (session.occupied h e) out none = occupied_so (store_bytes old name) h
+plays_new Kept whole name old new first last _ (session.plays_in o e p) out none =
+    subst (λ bytes. CompletesNew bytes (outcome_of o)) (sym e) (plays_in _ _ _ _ new first last o p out none)
 
 new_memory : (bytes : List ℕ) (at : MemoryAt) → CompletesNew bytes (outcome.Memory at)
 new_memory [] at = tt
@@ -83,7 +83,7 @@ new_memory (b ∷ bytes) at = tt
 pub completes_play : (name store : List ℕ) (seed : ℕ) (old new : Standing) (first last : StageCall → ℕ) (o : Outcome) → PlaysNewIn name store seed old new o →
     IfOutside o (λ c. IsKeptCall c × Rose (first c) (last c)) → NoFault first last → CompletesPlay name (λ g. CompletesNew (store_bytes old store)) old o
 completes_play name store seed old new first last _ (top.plays g o s p) out none =
-    completes_game name (λ g. CompletesNew (store_bytes old store)) old g (outcome_of o) s (plays_new _ old new first last o p out none)
+    completes_game name (λ g. CompletesNew (store_bytes old store)) old g (outcome_of o) s (plays_new _ _ store old new first last o p out none)
 completes_play name store seed old new first last _ (top.unopened o u) out none =
     completes_unopened name (λ g. CompletesNew (store_bytes old store)) IsKeptCall old new first last o (λ g at. new_memory (store_bytes old store) at) u out none
 

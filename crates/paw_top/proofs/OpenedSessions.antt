@@ -7,36 +7,47 @@ use Rattle.paw_stage.specs.Stage.{Standing}
 use Rattle.paw_stage.specs.Moments.{Moment, Still}
 use Rattle.paw_state.specs.State.{State}
 use Rattle.paw_play.specs.declared.PlayEnd.{PlayEnd}
-use Rattle.paw_play.specs.Play.{Played, NotYet, InNewPlay, InAgain, PlaysNew, PlaysAgain, ShowsState, new_session, kept_session, store_bytes}
+use Rattle.paw_play.specs.Stands.{Stands, IsPlayedWith}
+use Rattle.paw_play.specs.Play.{Played, NotYet, InGame, InAgain, InGoingOn, PlaysGame, PlaysAgain, ShowsState, kept_session, store_bytes}
+use Rattle.paw_play.proofs.Standing.{standing_again}
 use Rattle.paw_top.specs.Commands.{Command, Play, Resume}
-use Rattle.paw_top.specs.Sessions.{session_in, session_from}
+use Rattle.paw_top.specs.Ends.{outcome_of}
+use Rattle.paw_top.specs.Opens.{HoldsBuilt}
+use Rattle.paw_top.specs.Sessions.{session_from, digest_of, GoesOnIn, goes}
 
 -- where nothing has changed, the store isn't attached yet
 not_yet : (name : List ℕ) (old : Standing) (m : Moment) → Still old m → NotYet name old m
 not_yet name old m e = subst (NotYet name old) (sym e) (record { asked = refl; shown = refl; files = inl refl; store = inl (refl, refl) })
 
-pub still_new : (s : Played) (old : Standing) (m : Moment) → Still old m → InNewPlay s old m
-still_new s old m e = inl (not_yet s.name old m e)
+pub still_new : (g : GameLists) (seed : ℕ) (name : List ℕ) (old : Standing) (m : Moment) → Still old m → InGame g seed name old m
+still_new g seed name old m e = inl (not_yet name old m e)
 
 pub still_again : (s : Played) (old : Standing) (m : Moment) → Still old m → InAgain s old m
 still_again s old m e = inl (not_yet s.name old m e)
 
--- the session that is played is the one of the image
-pub one_session : (g k : GameLists) (seed : ℕ) (store kept : List ℕ) → k ≡ g → kept ≡ sha256 (image k) → new_session k seed kept store ≡ session_in g store seed
-one_session g k seed store kept same is = rw (is, same) refl
+pub still_on : (g : GameLists) (seed : ℕ) (es : List (List ℕ)) (name : List ℕ) (old : Standing) (m : Moment) → Still old m → InGoingOn g seed es name old m
+still_on g seed es name old m e = inl (not_yet name old m e)
 
+-- the session that is played is the one of the image
 pub one_kept_session : (g k : GameLists) (st : State) (piece store kept : List ℕ) → k ≡ g → kept ≡ sha256 (image k) →
     kept_session k st piece kept store ≡ session_from g store st piece
 one_kept_session g k st piece store kept same is = rw (is, same) refl
 
 -- what playing comes to at a stage where nothing has changed since
-pub plays_new : (s k : Played) (old mid new : Standing) (o : PlayEnd) → mid ≡ old → k ≡ s → PlaysNew k mid new o → PlaysNew s old new o
-plays_new s k old mid new o still same p = subst (λ q. PlaysNew s q new o) still (subst (λ q. PlaysNew q mid new o) same p)
+pub plays_game : (g : GameLists) (seed : ℕ) (store : List ℕ) (old mid new : Standing) (o : PlayEnd) → mid ≡ old → PlaysGame g seed store mid new o → PlaysGame g seed store old new o
+plays_game g seed store old mid new o still p = subst (λ q. PlaysGame g seed store q new o) still p
 
 pub plays_again : (g : GameLists) (digest kept store : List ℕ) (old mid new : Standing) (o : PlayEnd) → mid ≡ old → kept ≡ digest →
     PlaysAgain g kept store mid new o → PlaysAgain g digest store old new o
 plays_again g digest kept store old mid new o still same p =
     subst (λ q. PlaysAgain g digest store q new o) still (subst (λ q. PlaysAgain g q store mid new o) same p)
+
+-- and where its store stands for some lines
+pub goes_on_in : (name store : List ℕ) (g k : GameLists) (seed : ℕ) (es : List (List ℕ)) (old new : Standing) (o : PlayEnd) → k ≡ g → HoldsBuilt old name k →
+    PlaysAgain k (digest_of k) store old new o → IsPlayedWith g seed es → Stands g seed es (store_bytes old store) → GoesOnIn name store g seed es old new (outcome_of o)
+goes_on_in name store g k seed es old new o same holds p =
+    subst (λ h. IsPlayedWith h seed es → Stands h seed es (store_bytes old store) → GoesOnIn name store h seed es old new (outcome_of o)) same
+    (λ played stands. goes o holds (standing_again k seed es store old new played stands o p))
 
 -- the store shows the same state to the game of the image
 pub shows_same : (g k : GameLists) (kept store : List ℕ) (old mid : Standing) (st : State) (piece : List ℕ) → mid ≡ old → k ≡ g → kept ≡ sha256 (image k) →
@@ -46,8 +57,8 @@ shows_same g k kept store old mid st piece still same is h =
     (subst (λ q. ShowsState g (sha256 (image g)) (store_bytes q store) st piece) (sym still) h))
 
 -- a new session at a stage where nothing has changed since
-pub new_moment : (s k : Played) (old mid : Standing) (m : Moment) → mid ≡ old → k ≡ s → InNewPlay k mid m → InNewPlay s old m
-new_moment s k old mid m still same i = subst (λ q. InNewPlay s q m) still (subst (λ q. InNewPlay q mid m) same i)
+pub game_moment : (g k : GameLists) (seed : ℕ) (store : List ℕ) (old mid : Standing) (m : Moment) → mid ≡ old → k ≡ g → InGame k seed store mid m → InGame g seed store old m
+game_moment g k seed store old mid m still same i = subst (λ q. InGame g seed store q m) still (subst (λ q. InGame q seed store mid m) same i)
 
 pub again_moment : (s k : Played) (old mid : Standing) (m : Moment) → mid ≡ old → k ≡ s → InAgain k mid m → InAgain s old m
 again_moment s k old mid m still same i = subst (λ q. InAgain s q m) still (subst (λ q. InAgain q mid m) same i)

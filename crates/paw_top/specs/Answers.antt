@@ -6,6 +6,8 @@ use Rattle.paw_play.specs.Calls.{IsWalkCall, IsSessionCall}
 use Rattle.paw_top.specs.Commands.{Command, Compile, Decompile, Walk, Play, Resume}
 use Rattle.paw_top.specs.declared.outcome.Outcome.{Outcome}
 use Rattle.paw_top.specs.declared.outcome.Outcome.TheVariants as outcome
+use Rattle.paw_top.specs.declared.outcome.MemoryAt.{MemoryAt}
+use Rattle.paw_top.specs.declared.outcome.MemoryAt.TheVariants as memory
 
 -- a fact for the answer Outside, of the call that failed
 abbrev pub IfOutside : Outcome → (StageCall → Type 0) → Type 0
@@ -49,3 +51,40 @@ Makes (Some (Decompile image)) c = IsDecompileCall c
 Makes (Some (Walk image seed)) c = IsCall c
 Makes (Some (Play image store seed)) c = IsKeptCall c
 Makes (Some (Resume image store)) c = IsKeptCall c
+
+-- ---- memory ----
+
+-- a fact for the answer Memory, of the place where memory was wanting
+abbrev pub IfMemory : Outcome → (MemoryAt → Type 0) → Type 0
+IfMemory (outcome.Memory at) P = P at
+IfMemory _ P = Unit {0}
+
+-- where memory may be wanting when an image is loaded
+abbrev pub IsLoadMemory : MemoryAt → Type 0
+IsLoadMemory memory.Load = Unit {0}
+IsLoadMemory memory.Image = Unit {0}
+IsLoadMemory _ = ⊥
+
+-- when the game of an image is played
+abbrev pub IsPlayMemory : MemoryAt → Type 0
+IsPlayMemory memory.Play = Unit {0}
+IsPlayMemory at = IsLoadMemory at
+
+-- when a source is compiled
+abbrev pub IsCompileMemory : MemoryAt → Type 0
+IsCompileMemory memory.Source = Unit {0}
+IsCompileMemory at = IsLoadMemory at
+
+-- when an image is decompiled
+abbrev pub IsDecompileMemory : MemoryAt → Type 0
+IsDecompileMemory memory.Print = Unit {0}
+IsDecompileMemory at = IsLoadMemory at
+
+-- where memory may be wanting for a command; words with no form need none
+abbrev pub Needs : Option Command → MemoryAt → Type 0
+Needs None at = ⊥
+Needs (Some (Compile source image)) at = IsCompileMemory at
+Needs (Some (Decompile image)) at = IsDecompileMemory at
+Needs (Some (Walk image seed)) at = IsPlayMemory at
+Needs (Some (Play image store seed)) at = IsPlayMemory at
+Needs (Some (Resume image store)) at = IsPlayMemory at

@@ -6,7 +6,7 @@ ghost use Rattle.paw_game.specs.Image.{image};
 ghost use Rattle.paw_image.specs.declared.TheConstants.{IMAGE_LIMIT};
 ghost use Rattle.paw_grammar.specs.Spells.{spelled};
 ghost use Rattle.paw_stage.specs.Stage.{Standing, Rose, Grows};
-ghost use Rattle.paw_top.specs.Answers.{IfOutside, IsCompileCall};
+ghost use Rattle.paw_top.specs.Answers.{IfOutside, IfMemory, IsCompileCall, IsCompileMemory};
 ghost use Rattle.paw_top.specs.Compile.{Compiles, IsRefusal, Keeps, image_line};
 ghost use Rattle.paw_top.specs.declared.outcome.Outcome.TheVariants as outcome;
 ghost use Rattle.paw_top.specs.declared.outcome.MemoryAt.TheVariants as memory;
@@ -28,6 +28,7 @@ fn game_of(alloc: Global, source: &[u8]) -> Result<Game, Outcome>
     ensures game { IfOk result (λ g. spelled source.now ≡ Ok g) }
     ensures short { IfOk result (λ g. length (image g) ≤ IMAGE_LIMIT) }
     ensures refusal { IfErr result (IsRefusal (spelled source.now)) }
+    ensures memory { IfErr result (λ o. IfMemory o IsCompileMemory) }
 {
     match read_source(alloc, source) {
         Ok(game) => Ok(game),
@@ -40,6 +41,7 @@ fn game_of(alloc: Global, source: &[u8]) -> Result<Game, Outcome>
 fn image_of(alloc: Global, source: &[u8]) -> Result<Vec<u8>, Outcome>
     ensures image { IfOk result (λ v. (g : GameLists) × (spelled source.now ≡ Ok g) × (v.items ≡ image g)) }
     ensures refusal { IfErr result (IsRefusal (spelled source.now)) }
+    ensures memory { IfErr result (λ o. IfMemory o IsCompileMemory) }
 {
     let game = game_of(alloc, source)?;
     match encode(alloc, &game) {
@@ -66,6 +68,7 @@ fn keep<S: Stage>(stage: &mut S, name: &str, image: &[u8], line: &[u8]) -> Outco
     ensures counts { Grows (S.faults stage.old) (S.faults stage.new) }
     ensures outside { IfOutside result (λ c. IsCompileCall c × Rose (S.faults stage.old c) (S.faults stage.new c)) }
     ensures form { result ≢ outcome.Usage }
+    ensures memory { IfMemory result IsCompileMemory }
     ensures keeps { S.Tells stage.old → Keeps name.now image.now line.now (S.standing stage.old) (S.standing stage.new) result }
 {
     if stage.save(name, image).is_err() {
@@ -80,6 +83,7 @@ pub(crate) fn compile<S: Stage>(alloc: Global, stage: &mut S, source: &str, imag
     ensures counts { Grows (S.faults stage.old) (S.faults stage.new) }
     ensures outside { IfOutside result (λ c. IsCompileCall c × Rose (S.faults stage.old c) (S.faults stage.new c)) }
     ensures form { result ≢ outcome.Usage }
+    ensures memory { IfMemory result IsCompileMemory }
     ensures compiles { S.Tells stage.old → Compiles source.now image.now (S.standing stage.old) (S.standing stage.new) result }
 {
     let bytes = match load(alloc, stage, source, MAX_SOURCE_LEN) {

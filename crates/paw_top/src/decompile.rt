@@ -2,7 +2,7 @@
 
 ghost use Rattle.std.specs.Prelude.{◌≡◌, ◌≢◌, ◌↔◌};
 ghost use Rattle.paw_stage.specs.Stage.{Standing, Rose, Grows};
-ghost use Rattle.paw_top.specs.Answers.{IfOutside, IsDecompileCall};
+ghost use Rattle.paw_top.specs.Answers.{IfOutside, IfMemory, IsDecompileCall, IsDecompileMemory};
 ghost use Rattle.paw_top.specs.Decompile.{Decompiles};
 ghost use Rattle.paw_top.specs.declared.outcome.Outcome.TheVariants as outcome;
 
@@ -19,6 +19,7 @@ pub(crate) fn decompile<S: Stage>(alloc: Global, stage: &mut S, image: &str) -> 
     ensures counts { Grows (S.faults stage.old) (S.faults stage.new) }
     ensures outside { IfOutside result (λ c. IsDecompileCall c × Rose (S.faults stage.old c) (S.faults stage.new c)) }
     ensures form { result ≢ outcome.Usage }
+    ensures memory { IfMemory result IsDecompileMemory }
     ensures decompiles { S.Tells stage.old → Decompiles image.now (S.standing stage.old) (S.standing stage.new) result }
 {
     let image = match load_image(alloc, stage, image) {

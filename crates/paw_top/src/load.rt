@@ -5,7 +5,7 @@ ghost use Rattle.paw_game.specs.Image.{image};
 ghost use Rattle.paw_image.specs.declared.TheConstants.{IMAGE_LIMIT};
 ghost use Rattle.paw_stage.specs.Moments.{Passes, Still};
 ghost use Rattle.paw_stage.specs.Stage.{Standing, Rose, Grows};
-ghost use Rattle.paw_top.specs.Answers.{IfOutside, IsLoadCall};
+ghost use Rattle.paw_top.specs.Answers.{IfOutside, IfMemory, IsLoadCall, IsLoadMemory};
 ghost use Rattle.paw_top.specs.Loads.{LoadsSome, LoadsNone, LoadsImage};
 ghost use Rattle.paw_top.specs.declared.outcome.Outcome.TheVariants as outcome;
 
@@ -28,6 +28,7 @@ pub(crate) fn load<S: Stage>(
     ensures counts { Grows (S.faults stage.old) (S.faults stage.new) }
     ensures outside { IfErr result (λ o. IfOutside o (λ c. IsLoadCall c × Rose (S.faults stage.old c) (S.faults stage.new c))) }
     ensures form { IfErr result (λ o. o ≢ outcome.Usage) }
+    ensures memory { IfErr result (λ o. IfMemory o IsLoadMemory) }
     ensures some { S.Tells stage.old → IfOk result (λ v. LoadsSome name.now most (S.standing stage.old) (S.standing stage.new) v.items) }
     ensures none { S.Tells stage.old → IfErr result (LoadsNone name.now (S.standing stage.old) (S.standing stage.new)) }
     ensures time { S.Tells stage.old → Passes (S.clock stage.old) (S.clock stage.new) (S.since stage.old) (S.since stage.new) (Still (S.standing stage.old)) }
@@ -57,6 +58,7 @@ pub(crate) fn load_image<S: Stage>(
     ensures counts { Grows (S.faults stage.old) (S.faults stage.new) }
     ensures outside { IfErr result (λ o. IfOutside o (λ c. IsLoadCall c × Rose (S.faults stage.old c) (S.faults stage.new c))) }
     ensures form { IfErr result (λ o. o ≢ outcome.Usage) }
+    ensures memory { IfErr result (λ o. IfMemory o IsLoadMemory) }
     ensures bytes { IfOk result (λ i. i.bytes.items ≡ image i.game) }
     ensures short { IfOk result (λ i. length (image i.game) ≤ IMAGE_LIMIT) }
     ensures loads { S.Tells stage.old → LoadsImage name.now (S.standing stage.old) (S.standing stage.new) result }

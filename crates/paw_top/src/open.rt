@@ -4,7 +4,7 @@ ghost use Rattle.std.specs.Prelude.{◌≡◌, ◌≢◌, ◌↔◌, None, IfOk,
 ghost use Rattle.paw_game.specs.Image.{image};
 ghost use Rattle.paw_stage.specs.Moments.{Passes, Still};
 ghost use Rattle.paw_stage.specs.Stage.{Standing, Rose, Grows};
-ghost use Rattle.paw_top.specs.Answers.{IfOutside, IsLoadCall};
+ghost use Rattle.paw_top.specs.Answers.{IfOutside, IfMemory, IsLoadCall, IsLoadMemory};
 ghost use Rattle.paw_top.specs.Loads.{Holds};
 ghost use Rattle.paw_top.specs.Opens.{Unopened};
 ghost use Rattle.paw_top.specs.Unbuilt.{first_unbuilt};
@@ -26,6 +26,7 @@ pub(crate) fn open_image<S: Stage>(
     ensures counts { Grows (S.faults stage.old) (S.faults stage.new) }
     ensures outside { IfErr result (λ o. IfOutside o (λ c. IsLoadCall c × Rose (S.faults stage.old c) (S.faults stage.new c))) }
     ensures form { IfErr result (λ o. o ≢ outcome.Usage) }
+    ensures memory { IfErr result (λ o. IfMemory o IsLoadMemory) }
     ensures bytes { IfOk result (λ i. i.bytes.items ≡ image i.game) }
     ensures built { IfOk result (λ i. first_unbuilt i.game ≡ None) }
     ensures holds { S.Tells stage.old → IfOk result (λ i. Holds (S.standing stage.old) name.now i.game) }

@@ -6,10 +6,11 @@ ghost use Rattle.paw_stage.specs.Disk.{IsStable};
 ghost use Rattle.paw_stage.specs.Moments.{Passes};
 ghost use Rattle.paw_stage.specs.Stage.{Standing, Rose, Grows};
 ghost use Rattle.paw_state.specs.State.{State};
-ghost use Rattle.paw_play.specs.Play.{InNewPlay, InAgain, ShowsState, store_bytes};
-ghost use Rattle.paw_top.specs.Answers.{IfOutside, IsKeptCall};
+ghost use Rattle.paw_play.specs.Play.{InGame, InAgain, InGoingOn, ShowsState, store_bytes};
+ghost use Rattle.paw_play.specs.Stands.{Stands, IsPlayedWith};
+ghost use Rattle.paw_top.specs.Answers.{IfOutside, IfMemory, IsKeptCall, IsPlayMemory};
 ghost use Rattle.paw_top.specs.Loads.{Holds};
-ghost use Rattle.paw_top.specs.Sessions.{PlaysNewIn, PlaysAgainIn, digest_of, session_in, session_from};
+ghost use Rattle.paw_top.specs.Sessions.{PlaysNewIn, PlaysAgainIn, GoesOnIn, digest_of, session_from};
 ghost use Rattle.paw_top.specs.declared.outcome.Outcome.TheVariants as outcome;
 
 use crate::open::open_image;
@@ -32,10 +33,11 @@ pub(crate) fn play<S: Stage>(
     ensures tells { S.Tells stage.old ↔ S.Tells stage.new }
     ensures counts { Grows (S.faults stage.old) (S.faults stage.new) }
     ensures form { result ≢ outcome.Usage }
+    ensures memory { IfMemory result IsPlayMemory }
     ensures outside { IfOutside result (λ c. IsKeptCall c × Rose (S.faults stage.old c) (S.faults stage.new c)) }
     ensures plays { S.Tells stage.old → PlaysNewIn image.now store.now seed (S.standing stage.old) (S.standing stage.new) result }
     ensures any_moment { S.Tells stage.old → (g : GameLists) → Holds (S.standing stage.old) image.now g → store_bytes (S.standing stage.old) store.now ≡ [] →
-        Passes (S.clock stage.old) (S.clock stage.new) (S.since stage.old) (S.since stage.new) (InNewPlay (session_in g store.now seed) (S.standing stage.old)) }
+        Passes (S.clock stage.old) (S.clock stage.new) (S.since stage.old) (S.since stage.new) (InGame g seed store.now (S.standing stage.old)) }
 {
     let image = match open_image(alloc, stage, image) {
         Ok(image) => image,
@@ -51,11 +53,17 @@ pub(crate) fn resume<S: Stage>(alloc: Global, stage: &mut S, image: &str, store:
     ensures tells { S.Tells stage.old ↔ S.Tells stage.new }
     ensures counts { Grows (S.faults stage.old) (S.faults stage.new) }
     ensures form { result ≢ outcome.Usage }
+    ensures memory { IfMemory result IsPlayMemory }
     ensures outside { IfOutside result (λ c. IsKeptCall c × Rose (S.faults stage.old c) (S.faults stage.new c)) }
     ensures plays { S.Tells stage.old → PlaysAgainIn image.now store.now (S.standing stage.old) (S.standing stage.new) result }
     ensures any_moment { S.Tells stage.old → (g : GameLists) (st : State) (piece : List ℕ) → Holds (S.standing stage.old) image.now g →
         ShowsState g (digest_of g) (store_bytes (S.standing stage.old) store.now) st piece →
         Passes (S.clock stage.old) (S.clock stage.new) (S.since stage.old) (S.since stage.new) (InAgain (session_from g store.now st piece) (S.standing stage.old)) }
+    ensures goes_on { S.Tells stage.old → (g : GameLists) (seed : ℕ) (es : List (List ℕ)) → Holds (S.standing stage.old) image.now g → IsPlayedWith g seed es →
+        Stands g seed es (store_bytes (S.standing stage.old) store.now) → GoesOnIn image.now store.now g seed es (S.standing stage.old) (S.standing stage.new) result }
+    ensures any_moment_on { S.Tells stage.old → (g : GameLists) (seed : ℕ) (es : List (List ℕ)) → Holds (S.standing stage.old) image.now g → IsPlayedWith g seed es →
+        Stands g seed es (store_bytes (S.standing stage.old) store.now) →
+        Passes (S.clock stage.old) (S.clock stage.new) (S.since stage.old) (S.since stage.new) (InGoingOn g seed es store.now (S.standing stage.old)) }
 {
     let image = match open_image(alloc, stage, image) {
         Ok(image) => image,

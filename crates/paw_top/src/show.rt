@@ -3,7 +3,7 @@
 ghost use Rattle.std.specs.Prelude.{◌≡◌, ◌≢◌, ◌<◌, ◌++◌, ◌↔◌, ℕ, length, take, OnOk, OnErr, IsErr};
 ghost use Rattle.paw_stage.specs.Stage.{Standing, Rose, Grows};
 ghost use Rattle.paw_stage.specs.declared.StageCall.TheVariants as call;
-ghost use Rattle.paw_top.specs.Answers.{IfOutside};
+ghost use Rattle.paw_top.specs.Answers.{IfOutside, IfMemory};
 ghost use Rattle.paw_top.specs.Shows.{Shows};
 ghost use Rattle.paw_top.specs.declared.outcome.Outcome.TheVariants as outcome;
 
@@ -17,6 +17,7 @@ pub(crate) fn tell<S: Stage>(stage: &mut S, text: &[u8]) -> Outcome
     ensures counts { Grows (S.faults stage.old) (S.faults stage.new) }
     ensures outside { IfOutside result (λ c. (c ≡ call.Show) × Rose (S.faults stage.old c) (S.faults stage.new c)) }
     ensures form { result ≢ outcome.Usage }
+    ensures memory { IfMemory result (λ at. ⊥) }
     ensures shows { S.Tells stage.old → Shows text.now (S.standing stage.old) (S.standing stage.new) result }
 {
     if show(stage, text).is_err() {

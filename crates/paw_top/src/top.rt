@@ -6,14 +6,15 @@ ghost use Rattle.paw_stage.specs.Disk.{IsStable};
 ghost use Rattle.paw_stage.specs.Moments.{Passes};
 ghost use Rattle.paw_stage.specs.Stage.{Standing, Rose, Grows};
 ghost use Rattle.paw_state.specs.State.{State};
-ghost use Rattle.paw_play.specs.Play.{InNewPlay, InAgain, ShowsState, store_bytes};
+ghost use Rattle.paw_play.specs.Play.{InGame, InAgain, InGoingOn, ShowsState, store_bytes};
+ghost use Rattle.paw_play.specs.Stands.{Stands, IsPlayedWith};
 ghost use Rattle.paw_top.specs.Commands.{Compile as CompileOf, Decompile as DecompileOf, Walk as WalkOf, Play as PlayOf, Resume as ResumeOf, command_of};
 ghost use Rattle.paw_top.specs.Compile.{Compiles};
 ghost use Rattle.paw_top.specs.Decompile.{Decompiles};
 ghost use Rattle.paw_top.specs.Loads.{Holds};
 ghost use Rattle.paw_top.specs.Walk.{WalksIn};
-ghost use Rattle.paw_top.specs.Sessions.{PlaysNewIn, PlaysAgainIn, digest_of, session_in, session_from};
-ghost use Rattle.paw_top.specs.Answers.{IfOutside, IsCall, Makes};
+ghost use Rattle.paw_top.specs.Sessions.{PlaysNewIn, PlaysAgainIn, GoesOnIn, digest_of, session_from};
+ghost use Rattle.paw_top.specs.Answers.{IfOutside, IfMemory, IsCall, IsPlayMemory, Makes, Needs};
 ghost use Rattle.paw_top.specs.Completes.{NoFault, Completes};
 ghost use Rattle.paw_top.specs.declared.outcome.Outcome.TheVariants as outcome;
 
@@ -32,6 +33,7 @@ fn walk<S: Stage>(alloc: Global, stage: &mut S, image: &str, seed: u64) -> Outco
     ensures tells { S.Tells stage.old ↔ S.Tells stage.new }
     ensures counts { Grows (S.faults stage.old) (S.faults stage.new) }
     ensures form { result ≢ outcome.Usage }
+    ensures memory { IfMemory result IsPlayMemory }
     ensures outside { IfOutside result (λ c. IsCall c × Rose (S.faults stage.old c) (S.faults stage.new c)) }
     ensures walks { S.Tells stage.old → WalksIn image.now seed (S.standing stage.old) (S.standing stage.new) result }
 {
@@ -51,11 +53,16 @@ fn walk<S: Stage>(alloc: Global, stage: &mut S, image: &str, seed: u64) -> Outco
 /// the session in the store again, and goes on from its prompt.
 ///
 /// The answer is Usage exactly where the words have no form, and then nothing at the stage is touched. Each other answer
-/// comes as `Compiles`, `Decompiles`, `WalksIn`, `PlaysNewIn` and `PlaysAgainIn` say. What a crash leaves of the store at any
-/// moment is said by `InNewPlay` and `InAgain`: a session that keeps all lines that were taken, or all but the last. A call of
-/// the stage fails only with a fault that it counted, and is one that the command makes. Where the file to load is there and
-/// no call fails, the command does what it is for or refuses the file or the store, as `Completes` says, or memory was
-/// wanting.
+/// comes as `Compiles`, `Decompiles`, `WalksIn`, `PlaysNewIn` and `PlaysAgainIn` say.
+///
+/// Whatever a crash leaves of the store at any moment of `play` stands for all lines that were taken, or for all but the last
+/// (`InGame`). Where the store stands for some lines, `resume` never refuses it and goes on as the reading of these lines and
+/// more (`GoesOnIn`), and whatever a crash leaves at any moment stands for them and all that were taken since, or for all but
+/// the last (`InGoingOn`).
+///
+/// A call of the stage fails only with a fault that it counted, and is one that the command makes. Where the file to load is
+/// there and no call fails, the command does what it is for or refuses the file or the store, as `Completes` says, or memory
+/// was wanting.
 pub fn paw<S: Stage>(alloc: Global, stage: &mut S, words: &[String]) -> Outcome
     requires synced { S.Tells stage.old → IsStable (S.standing stage.old).disk }
     ensures tells { S.Tells stage.old ↔ S.Tells stage.new }
@@ -63,6 +70,7 @@ pub fn paw<S: Stage>(alloc: Global, stage: &mut S, words: &[String]) -> Outcome
     ensures usage { (result ≡ outcome.Usage) ↔ (command_of (map string_bytes words.now) ≡ None) }
     ensures idle { command_of (map string_bytes words.now) ≡ None → stage.new ≡ stage.old }
     ensures outside { IfOutside result (λ c. Makes (command_of (map string_bytes words.now)) c × Rose (S.faults stage.old c) (S.faults stage.new c)) }
+    ensures memory { IfMemory result (Needs (command_of (map string_bytes words.now))) }
     ensures compiles { S.Tells stage.old → (source image : List ℕ) → command_of (map string_bytes words.now) ≡ Some (CompileOf source image) →
         Compiles source image (S.standing stage.old) (S.standing stage.new) result }
     ensures decompiles { S.Tells stage.old → (image : List ℕ) → command_of (map string_bytes words.now) ≡ Some (DecompileOf image) →
@@ -73,13 +81,19 @@ pub fn paw<S: Stage>(alloc: Global, stage: &mut S, words: &[String]) -> Outcome
         PlaysNewIn image store seed (S.standing stage.old) (S.standing stage.new) result }
     ensures any_moment_of_play { S.Tells stage.old → (image store : List ℕ) (seed : ℕ) → command_of (map string_bytes words.now) ≡ Some (PlayOf image store seed) →
         (g : GameLists) → Holds (S.standing stage.old) image g → store_bytes (S.standing stage.old) store ≡ [] →
-        Passes (S.clock stage.old) (S.clock stage.new) (S.since stage.old) (S.since stage.new) (InNewPlay (session_in g store seed) (S.standing stage.old)) }
+        Passes (S.clock stage.old) (S.clock stage.new) (S.since stage.old) (S.since stage.new) (InGame g seed store (S.standing stage.old)) }
     ensures resumes { S.Tells stage.old → (image store : List ℕ) → command_of (map string_bytes words.now) ≡ Some (ResumeOf image store) →
         PlaysAgainIn image store (S.standing stage.old) (S.standing stage.new) result }
-    ensures any_moment_of_resume { S.Tells stage.old → (image store : List ℕ) → command_of (map string_bytes words.now) ≡ Some (ResumeOf image store) →
+    ensures any_moment_from_a_state { S.Tells stage.old → (image store : List ℕ) → command_of (map string_bytes words.now) ≡ Some (ResumeOf image store) →
         (g : GameLists) (st : State) (piece : List ℕ) → Holds (S.standing stage.old) image g →
         ShowsState g (digest_of g) (store_bytes (S.standing stage.old) store) st piece →
         Passes (S.clock stage.old) (S.clock stage.new) (S.since stage.old) (S.since stage.new) (InAgain (session_from g store st piece) (S.standing stage.old)) }
+    ensures goes_on { S.Tells stage.old → (image store : List ℕ) → command_of (map string_bytes words.now) ≡ Some (ResumeOf image store) →
+        (g : GameLists) (seed : ℕ) (es : List (List ℕ)) → Holds (S.standing stage.old) image g → IsPlayedWith g seed es → Stands g seed es (store_bytes (S.standing stage.old) store) →
+        GoesOnIn image store g seed es (S.standing stage.old) (S.standing stage.new) result }
+    ensures any_moment_of_resume { S.Tells stage.old → (image store : List ℕ) → command_of (map string_bytes words.now) ≡ Some (ResumeOf image store) →
+        (g : GameLists) (seed : ℕ) (es : List (List ℕ)) → Holds (S.standing stage.old) image g → IsPlayedWith g seed es → Stands g seed es (store_bytes (S.standing stage.old) store) →
+        Passes (S.clock stage.old) (S.clock stage.new) (S.since stage.old) (S.since stage.new) (InGoingOn g seed es store (S.standing stage.old)) }
     ensures completes { S.Tells stage.old → NoFault (S.faults stage.old) (S.faults stage.new) →
         Completes (S.standing stage.old) (command_of (map string_bytes words.now)) result }
 {

@@ -11,7 +11,7 @@ returns-in-End-clause-meaning g c = λ tells s most n first w events few.
 
 pub returns-in-End-clause-any_moment : goal.returns-in-End-clause-any_moment
 returns-in-End-clause-any_moment g c = λ tells s most n first w events few.
-    Passes_map _ _ _ _ _ (InPlay s first) (c.in-End.ensures.time tells) (λ m i. in_ask s first _ (g.S.Stage.standing c.ask.new.self) c.args.player.now n asked.End c.ask.new.into m w c.requires.seated (c.in-End.ensures.answer tells) i)
+    Passes_map _ _ _ _ _ (InPlay s first) (c.in-End.ensures.time tells) (λ m i. in_ask s first _ (g.S.Stage.standing c.ask.new.self) c.args.player.now n asked.End c.ask.new.into m w c.requires.seated (omega (arith, events, c.requires.few)) (c.in-End.ensures.answer tells) i)
 
 pub returns-in-Failed-clause-meaning : goal.returns-in-Failed-clause-meaning
 returns-in-Failed-clause-meaning g c = λ tells s most n first w events few.
@@ -19,7 +19,7 @@ returns-in-Failed-clause-meaning g c = λ tells s most n first w events few.
 
 pub returns-in-Failed-clause-any_moment : goal.returns-in-Failed-clause-any_moment
 returns-in-Failed-clause-any_moment g c = λ tells s most n first w events few.
-    Passes_map _ _ _ _ _ (InPlay s first) (c.in-Failed.ensures.time tells) (λ m i. in_ask s first _ (g.S.Stage.standing c.ask.new.self) c.args.player.now n asked.Failed c.ask.new.into m w c.requires.seated (c.in-Failed.ensures.answer tells) i)
+    Passes_map _ _ _ _ _ (InPlay s first) (c.in-Failed.ensures.time tells) (λ m i. in_ask s first _ (g.S.Stage.standing c.ask.new.self) c.args.player.now n asked.Failed c.ask.new.into m w c.requires.seated (omega (arith, events, c.requires.few)) (c.in-Failed.ensures.answer tells) i)
 
 pub returns-in-Some-clause-meaning : goal.returns-in-Some-clause-meaning
 returns-in-Some-clause-meaning g c = λ tells s most n first w events few.
@@ -29,7 +29,7 @@ returns-in-Some-clause-meaning g c = λ tells s most n first w events few.
 
 pub returns-in-Some-clause-any_moment : goal.returns-in-Some-clause-any_moment
 returns-in-Some-clause-any_moment g c = λ tells s most n first w events few.
-    Passes_map _ _ _ _ _ (InPlay s first) (c.in-Line.ensures.time tells) (λ m i. in_ask s first _ (g.S.Stage.standing c.ask.new.self) c.args.player.now n (asked.Line c.in-Line.n) c.ask.new.into m w c.requires.seated (c.in-Line.ensures.answer tells) i)
+    Passes_map _ _ _ _ _ (InPlay s first) (c.in-Line.ensures.time tells) (λ m i. in_ask s first _ (g.S.Stage.standing c.ask.new.self) c.args.player.now n (asked.Line c.in-Line.n) c.ask.new.into m w c.requires.seated (omega (arith, events, c.requires.few)) (c.in-Line.ensures.answer tells) i)
 
 pub returns-in-Err-clause-meaning : goal.returns-in-Err-clause-meaning
 returns-in-Err-clause-meaning g c = λ tells s most n first w events few.
@@ -38,7 +38,7 @@ returns-in-Err-clause-meaning g c = λ tells s most n first w events few.
     let counts : c.args.session.events + 1 ≡ s.before + suc n = omega (arith, events) in
     plays_not s most n (c.args.session.events + 1) first _ _ (g.S.Stage.standing c.commit.new.stage) c.args.player.now c.take-step.new.self _ a.0 c.take-step.result w
     c.requires.seated c.take-step.ensures.seated c.take-step.ensures.game c.take-step.ensures.last a.1 a.2.same a.3
-    (c.take-step.ensures.meaning w.walking.prompt w.walking.waits w.walking.pieces w.walking.traces) (shows_piece c.take-step.result c.in_default.ensures.value) counts
+    (c.take-step.ensures.meaning w.walking.prompt w.walking.waits w.walking.pieces w.walking.traces) (shows_piece c.take-step.result c.in_default.ensures.value) counts (omega (arith, c.requires.few))
     c.in-Err.call few (c.commit.ensures.beside now) c.in-Err.ensures.cause.0
 
 pub returns-in-Err-clause-any_moment : goal.returns-in-Err-clause-any_moment
@@ -47,11 +47,11 @@ returns-in-Err-clause-any_moment g c = λ tells s most n first w events few.
     let now = c.ask.ensures.tells.0 tells in
     let counts : c.args.session.events + 1 ≡ s.before + suc n = omega (arith, events) in
     Passes_on _ _ _ _ _ _ (InPlay s first) _
-    (Passes_map _ _ _ _ _ (InPlay s first) (c.in-Line.ensures.time tells) (λ m i. in_ask s first _ (g.S.Stage.standing c.ask.new.self) c.args.player.now n (asked.Line c.in-Line.n) c.ask.new.into m w c.requires.seated (c.in-Line.ensures.answer tells) i))
+    (Passes_map _ _ _ _ _ (InPlay s first) (c.in-Line.ensures.time tells) (λ m i. in_ask s first _ (g.S.Stage.standing c.ask.new.self) c.args.player.now n (asked.Line c.in-Line.n) c.ask.new.into m w c.requires.seated (omega (arith, events, c.requires.few)) (c.in-Line.ensures.answer tells) i))
     (c.commit.ensures.any_moment now)
     (in_commit s most n (c.args.session.events + 1) first _ _ (g.S.Stage.standing c.commit.new.stage) c.args.player.now c.take-step.new.self _ a.0 c.take-step.result w
     c.requires.seated c.take-step.ensures.seated c.take-step.ensures.game c.take-step.ensures.last a.1 a.2.same a.3
-    (c.take-step.ensures.meaning w.walking.prompt w.walking.waits w.walking.pieces w.walking.traces) (shows_piece c.take-step.result c.in_default.ensures.value) counts)
+    (c.take-step.ensures.meaning w.walking.prompt w.walking.waits w.walking.pieces w.walking.traces) (shows_piece c.take-step.result c.in_default.ensures.value) counts (omega (arith, c.requires.few)))
 
 pub returns-in-Some-told-clause-meaning : goal.returns-in-Some-told-clause-meaning
 returns-in-Some-told-clause-meaning g c = λ tells s most n first w events few.
@@ -60,11 +60,11 @@ returns-in-Some-told-clause-meaning g c = λ tells s most n first w events few.
     let counts : c.args.session.events + 1 ≡ s.before + suc n = omega (arith, events) in
     let rests = rests_more s most n (c.args.session.events + 1) first _ _ (g.S.Stage.standing c.commit.new.stage) c.args.player.now c.take-step.new.self _ a.0 c.take-step.result w
     c.requires.seated c.take-step.ensures.seated c.take-step.ensures.game c.take-step.ensures.last a.1 a.2.same a.3
-    (c.take-step.ensures.meaning w.walking.prompt w.walking.waits w.walking.pieces w.walking.traces) (shows_piece c.take-step.result c.in_default.ensures.value) counts
+    (c.take-step.ensures.meaning w.walking.prompt w.walking.waits w.walking.pieces w.walking.traces) (shows_piece c.take-step.result c.in_default.ensures.value) counts (omega (arith, c.requires.few))
     (c.commit.ensures.beside now) (c.in-Ok.ensures.kept now).rests.stable (c.in-Ok.ensures.shown now) in
     plays_last s most n (c.args.session.events + 1) first _ _ (g.S.Stage.standing c.commit.new.stage) c.args.player.now c.take-step.new.self _ a.0 c.take-step.result w
     c.requires.seated c.take-step.ensures.seated c.take-step.ensures.game c.take-step.ensures.last a.1 a.2.same a.3
-    (c.take-step.ensures.meaning w.walking.prompt w.walking.waits w.walking.pieces w.walking.traces) (shows_piece c.take-step.result c.in_default.ensures.value) counts
+    (c.take-step.ensures.meaning w.walking.prompt w.walking.waits w.walking.pieces w.walking.traces) (shows_piece c.take-step.result c.in_default.ensures.value) counts (omega (arith, c.requires.few))
     _ c.in-Some-told.end few (c.commit.ensures.beside now) rests (c.in-Some-told.ensures.meaning (c.commit.ensures.tells.0 now))
 
 pub returns-in-None-clause-meaning : goal.returns-in-None-clause-meaning
@@ -74,11 +74,11 @@ returns-in-None-clause-meaning g c = λ tells s most n first w events few.
     let counts : c.args.session.events + 1 ≡ s.before + suc n = omega (arith, events) in
     let rests = rests_more s most n (c.args.session.events + 1) first _ _ (g.S.Stage.standing c.commit.new.stage) c.args.player.now c.take-step.new.self _ a.0 c.take-step.result w
     c.requires.seated c.take-step.ensures.seated c.take-step.ensures.game c.take-step.ensures.last a.1 a.2.same a.3
-    (c.take-step.ensures.meaning w.walking.prompt w.walking.waits w.walking.pieces w.walking.traces) (shows_piece c.take-step.result c.in_default.ensures.value) counts
+    (c.take-step.ensures.meaning w.walking.prompt w.walking.waits w.walking.pieces w.walking.traces) (shows_piece c.take-step.result c.in_default.ensures.value) counts (omega (arith, c.requires.few))
     (c.commit.ensures.beside now) (c.in-Ok.ensures.kept now).rests.stable (c.in-Ok.ensures.shown now) in
     plays_next s most n (c.args.session.events + 1) first _ _ (g.S.Stage.standing c.commit.new.stage) c.args.player.now c.take-step.new.self _ a.0 c.take-step.result w
     c.requires.seated c.take-step.ensures.seated c.take-step.ensures.game c.take-step.ensures.last a.1 a.2.same a.3
-    (c.take-step.ensures.meaning w.walking.prompt w.walking.waits w.walking.pieces w.walking.traces) (shows_piece c.take-step.result c.in_default.ensures.value) counts
+    (c.take-step.ensures.meaning w.walking.prompt w.walking.waits w.walking.pieces w.walking.traces) (shows_piece c.take-step.result c.in_default.ensures.value) counts (omega (arith, c.requires.few))
     _ few (c.commit.ensures.beside now) rests (c.in-Ok.ensures.digest now) (c.in-None.ensures.meaning (c.commit.ensures.tells.0 now))
 
 pub returns-in-Some-told-clause-any_moment : goal.returns-in-Some-told-clause-any_moment
@@ -88,19 +88,19 @@ returns-in-Some-told-clause-any_moment g c = λ tells s most n first w events fe
     let counts : c.args.session.events + 1 ≡ s.before + suc n = omega (arith, events) in
     let rests = rests_more s most n (c.args.session.events + 1) first _ _ (g.S.Stage.standing c.commit.new.stage) c.args.player.now c.take-step.new.self _ a.0 c.take-step.result w
     c.requires.seated c.take-step.ensures.seated c.take-step.ensures.game c.take-step.ensures.last a.1 a.2.same a.3
-    (c.take-step.ensures.meaning w.walking.prompt w.walking.waits w.walking.pieces w.walking.traces) (shows_piece c.take-step.result c.in_default.ensures.value) counts
+    (c.take-step.ensures.meaning w.walking.prompt w.walking.waits w.walking.pieces w.walking.traces) (shows_piece c.take-step.result c.in_default.ensures.value) counts (omega (arith, c.requires.few))
     (c.commit.ensures.beside now) (c.in-Ok.ensures.kept now).rests.stable (c.in-Ok.ensures.shown now) in
     Passes_on _ _ _ _ _ _ (InPlay s first) _
     (Passes_on _ _ _ _ _ _ (InPlay s first) _
-    (Passes_map _ _ _ _ _ (InPlay s first) (c.in-Line.ensures.time tells) (λ m i. in_ask s first _ (g.S.Stage.standing c.ask.new.self) c.args.player.now n (asked.Line c.in-Line.n) c.ask.new.into m w c.requires.seated (c.in-Line.ensures.answer tells) i))
+    (Passes_map _ _ _ _ _ (InPlay s first) (c.in-Line.ensures.time tells) (λ m i. in_ask s first _ (g.S.Stage.standing c.ask.new.self) c.args.player.now n (asked.Line c.in-Line.n) c.ask.new.into m w c.requires.seated (omega (arith, events, c.requires.few)) (c.in-Line.ensures.answer tells) i))
     (c.commit.ensures.any_moment now)
     (in_commit s most n (c.args.session.events + 1) first _ _ (g.S.Stage.standing c.commit.new.stage) c.args.player.now c.take-step.new.self _ a.0 c.take-step.result w
     c.requires.seated c.take-step.ensures.seated c.take-step.ensures.game c.take-step.ensures.last a.1 a.2.same a.3
-    (c.take-step.ensures.meaning w.walking.prompt w.walking.waits w.walking.pieces w.walking.traces) (shows_piece c.take-step.result c.in_default.ensures.value) counts))
+    (c.take-step.ensures.meaning w.walking.prompt w.walking.waits w.walking.pieces w.walking.traces) (shows_piece c.take-step.result c.in_default.ensures.value) counts (omega (arith, c.requires.few))))
     (c.told.ensures.time (c.commit.ensures.tells.0 now))
     (λ m. in_show s most n (c.args.session.events + 1) first _ _ (g.S.Stage.standing c.commit.new.stage) c.args.player.now c.take-step.new.self _ a.0 c.take-step.result w
     c.requires.seated c.take-step.ensures.seated c.take-step.ensures.game c.take-step.ensures.last a.1 a.2.same a.3
-    (c.take-step.ensures.meaning w.walking.prompt w.walking.waits w.walking.pieces w.walking.traces) (shows_piece c.take-step.result c.in_default.ensures.value) counts
+    (c.take-step.ensures.meaning w.walking.prompt w.walking.waits w.walking.pieces w.walking.traces) (shows_piece c.take-step.result c.in_default.ensures.value) counts (omega (arith, c.requires.few))
     m rests (c.commit.ensures.beside now))
 
 pub returns-in-None-clause-any_moment : goal.returns-in-None-clause-any_moment
@@ -110,17 +110,17 @@ returns-in-None-clause-any_moment g c = λ tells s most n first w events few.
     let counts : c.args.session.events + 1 ≡ s.before + suc n = omega (arith, events) in
     let rests = rests_more s most n (c.args.session.events + 1) first _ _ (g.S.Stage.standing c.commit.new.stage) c.args.player.now c.take-step.new.self _ a.0 c.take-step.result w
     c.requires.seated c.take-step.ensures.seated c.take-step.ensures.game c.take-step.ensures.last a.1 a.2.same a.3
-    (c.take-step.ensures.meaning w.walking.prompt w.walking.waits w.walking.pieces w.walking.traces) (shows_piece c.take-step.result c.in_default.ensures.value) counts
+    (c.take-step.ensures.meaning w.walking.prompt w.walking.waits w.walking.pieces w.walking.traces) (shows_piece c.take-step.result c.in_default.ensures.value) counts (omega (arith, c.requires.few))
     (c.commit.ensures.beside now) (c.in-Ok.ensures.kept now).rests.stable (c.in-Ok.ensures.shown now) in
     Passes_on _ _ _ _ _ _ (InPlay s first) _
     (Passes_on _ _ _ _ _ _ (InPlay s first) _
-    (Passes_map _ _ _ _ _ (InPlay s first) (c.in-Line.ensures.time tells) (λ m i. in_ask s first _ (g.S.Stage.standing c.ask.new.self) c.args.player.now n (asked.Line c.in-Line.n) c.ask.new.into m w c.requires.seated (c.in-Line.ensures.answer tells) i))
+    (Passes_map _ _ _ _ _ (InPlay s first) (c.in-Line.ensures.time tells) (λ m i. in_ask s first _ (g.S.Stage.standing c.ask.new.self) c.args.player.now n (asked.Line c.in-Line.n) c.ask.new.into m w c.requires.seated (omega (arith, events, c.requires.few)) (c.in-Line.ensures.answer tells) i))
     (c.commit.ensures.any_moment now)
     (in_commit s most n (c.args.session.events + 1) first _ _ (g.S.Stage.standing c.commit.new.stage) c.args.player.now c.take-step.new.self _ a.0 c.take-step.result w
     c.requires.seated c.take-step.ensures.seated c.take-step.ensures.game c.take-step.ensures.last a.1 a.2.same a.3
-    (c.take-step.ensures.meaning w.walking.prompt w.walking.waits w.walking.pieces w.walking.traces) (shows_piece c.take-step.result c.in_default.ensures.value) counts))
+    (c.take-step.ensures.meaning w.walking.prompt w.walking.waits w.walking.pieces w.walking.traces) (shows_piece c.take-step.result c.in_default.ensures.value) counts (omega (arith, c.requires.few))))
     (c.told.ensures.time (c.commit.ensures.tells.0 now))
     (λ m. in_show s most n (c.args.session.events + 1) first _ _ (g.S.Stage.standing c.commit.new.stage) c.args.player.now c.take-step.new.self _ a.0 c.take-step.result w
     c.requires.seated c.take-step.ensures.seated c.take-step.ensures.game c.take-step.ensures.last a.1 a.2.same a.3
-    (c.take-step.ensures.meaning w.walking.prompt w.walking.waits w.walking.pieces w.walking.traces) (shows_piece c.take-step.result c.in_default.ensures.value) counts
+    (c.take-step.ensures.meaning w.walking.prompt w.walking.waits w.walking.pieces w.walking.traces) (shows_piece c.take-step.result c.in_default.ensures.value) counts (omega (arith, c.requires.few))
     m rests (c.commit.ensures.beside now))

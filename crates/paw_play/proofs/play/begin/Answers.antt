@@ -2,8 +2,8 @@ use Rattle.std.proofs.Common.{◌≡◌, ◌⊎◌, refl, sym, ap, ◌∙◌, su
 use Rattle.paw_stage.proofs.Time.{Passes_map, Passes_on, Passes_none}
 use Rattle.paw_journal.specs.Session.{Shown, IsUnmade}
 use Rattle.paw_journal.specs.Store.{InStore, Leaves}
-use Rattle.paw_play.specs.Session.{seat_state}
-use Rattle.paw_play.specs.Play.{InPlay, InMaking, new_session}
+use Rattle.paw_play.specs.Play.{InPlay}
+use Rattle.paw_play.specs.OnTheWay.{seat_state, InMaking, new_session}
 use Rattle.paw_play.proofs.Playing.{shows_piece}
 use Rattle.paw_play.proofs.Beginning.{begin_refused, in_making, rests_first, in_first_show, begins_next, begins_last}
 use Rattle.paw_play.proofs.play.begin.Goals as goal

@@ -1,6 +1,7 @@
 use Rattle.std.proofs.Common.{◌≡◌, refl, sym, ap, ◌∙◌, subst}
 use Rattle.paw_world.specs.World.{World}
-use Rattle.paw_play.specs.Play.{Played, PlaysIn, memory, plays, new_session}
+use Rattle.paw_play.specs.Play.{Played, memory, plays}
+use Rattle.paw_play.specs.OnTheWay.{PlaysInStore, new_session}
 use Rattle.paw_play.proofs.Begun.{begun_plays}
 use Rattle.paw_play.proofs.play.play_in.Goals as goal
 
@@ -16,7 +17,7 @@ returns-in-Ok-begin-clause-plays g c = λ tells name store.
     let same : s ≡ new_session (g.T.Tables.game c.args.tables.now) c.args.seed c.args.game.now name =
     ap (λ k. new_session k c.in-Ok-new.player.world.seed c.args.game.now name) c.in-Ok-new.ensures.game
     ∙ ap (λ (w : World). new_session (g.T.Tables.game c.args.tables.now) w.seed c.args.game.now name) c.in-Ok-new.ensures.new.world in
-    subst (λ q. PlaysIn q (g.S.Stage.standing c.args.stage.now) (g.S.Stage.standing c.play_lines.new.stage) c.play_lines.result) same
+    subst (λ q. PlaysInStore q (g.S.Stage.standing c.args.stage.now) (g.S.Stage.standing c.play_lines.new.stage) c.play_lines.result) same
     (plays c.play_lines.result (c.play_lines.ensures.meaning (c.begin.ensures.tells.0 tells) s (g.S.Stage.standing c.args.stage.now) (c.in-Ok-begin.ensures.meaning tells name store) c.in-Ok-begin.ensures.events))
 
 pub returns-clause-plays : goal.returns-clause-plays
@@ -25,5 +26,5 @@ returns-clause-plays g c = λ tells name store.
     let same : s ≡ new_session (g.T.Tables.game c.args.tables.now) c.args.seed c.args.game.now name =
     ap (λ k. new_session k c.in-Ok-new.player.world.seed c.args.game.now name) c.in-Ok-new.ensures.game
     ∙ ap (λ (w : World). new_session (g.T.Tables.game c.args.tables.now) w.seed c.args.game.now name) c.in-Ok-new.ensures.new.world in
-    subst (λ q. PlaysIn q (g.S.Stage.standing c.args.stage.now) (g.S.Stage.standing c.begin.new.stage) c.in-Err.end) same
-    (begun_plays s (g.S.Stage.standing c.args.stage.now) (g.S.Stage.standing c.begin.new.stage) c.in-Err.end (c.in-Err.ensures.meaning tells name store))
+    subst (λ q. PlaysInStore q (g.S.Stage.standing c.args.stage.now) (g.S.Stage.standing c.begin.new.stage) c.in-Err.end) same
+    (begun_plays c.in-Ok-new.player.game c.in-Ok-new.player.world.seed c.args.game.now name (g.S.Stage.standing c.args.stage.now) (g.S.Stage.standing c.begin.new.stage) c.in-Err.end (c.in-Err.ensures.meaning tells name store))

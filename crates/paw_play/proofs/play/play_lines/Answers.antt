@@ -1,6 +1,7 @@
 use Rattle.std.proofs.Common.{◌≡◌, ◌+◌, ◌-◌, ◌<◌, ◌≤◌, ◌∙◌, suc, arith, subst}
 use Rattle.paw_stage.proofs.Time.{Passes_on}
-use Rattle.paw_play.specs.Play.{InPlay, IsPlaying}
+use Rattle.paw_play.specs.Play.{InPlay}
+use Rattle.paw_play.specs.OnTheWay.{IsPlaying}
 use Rattle.paw_play.specs.declared.TheConstants.{MOST_EVENTS}
 use Rattle.paw_play.proofs.Playing.{long_play}
 use Rattle.paw_play.proofs.play.play_lines.Goals as goal

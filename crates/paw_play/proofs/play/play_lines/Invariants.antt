@@ -3,7 +3,8 @@ use Rattle.paw_stage.specs.Stage.{Standing, Grows}
 use Rattle.paw_stage.specs.Moments.{Passes}
 use Rattle.paw_turn.specs.Player.{IsSeated}
 use Rattle.paw_journal.specs.Journal.{Keeps}
-use Rattle.paw_play.specs.Play.{Played, InPlay, IsPlaying}
+use Rattle.paw_play.specs.Play.{Played, InPlay}
+use Rattle.paw_play.specs.OnTheWay.{IsPlaying}
 use Rattle.paw_play.specs.declared.TheConstants.{MOST_EVENTS}
 use Rattle.paw_play.proofs.play.play_lines.Given as goal
 

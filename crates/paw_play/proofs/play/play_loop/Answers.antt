@@ -2,8 +2,10 @@ use Rattle.std.proofs.Common.{◌≡◌, ◌<◌, ◌⊎◌, ◌∙◌, sym, sub
 use Rattle.paw_stage.proofs.Time.{Passes_map, Passes_on}
 use Rattle.paw_stage.specs.Stage.{Standing}
 use Rattle.paw_play.specs.declared.PlayEnd.TheVariants as end
-use Rattle.paw_play.specs.Play.{Played, PlaysNew, PlaysIn, InNewPlay, InMaking, InPlay, IsStore, unattached, occupied, plays_in, attached_to, store_bytes, new_session}
-use Rattle.paw_play.proofs.Attaching.{store_attached, store_empty, in_new_attach, new_from}
+use Rattle.paw_play.specs.Play.{Played, InGame, InPlay, unattached, occupied, plays_in, attached_to, store_bytes}
+use Rattle.paw_play.specs.OnTheWay.{InMaking, PlaysInStore, IsStore, new_session}
+use Rattle.paw_play.proofs.Attaching.{store_attached, store_empty, in_new_attach}
+use Rattle.paw_play.proofs.Games.{game_plays, in_game}
 use Rattle.paw_play.proofs.play.play_loop.Goals as goal
 
 pub returns-in-Err-clause-plays : goal.returns-in-Err-clause-plays
@@ -21,7 +23,8 @@ returns-clause-plays g c = λ tells.
     let s : Played = new_session (g.T.Tables.game c.args.tables.now) c.args.seed c.args.game.now c.args.name.now in
     let store : IsStore c.args.name.now (g.S.Stage.standing c.attach.new.stage) = subst (IsStore c.args.name.now) (sym a.1) (store_attached old c.args.name.now) in
     plays_in c.play_in.result (store_empty old _ c.args.name.now c.in-Ok.at.length a (omega (arith, c.if-at-ne0.false)))
-    (subst (λ q. PlaysIn s q (g.S.Stage.standing c.play_in.new.stage) c.play_in.result) a.1 (c.play_in.ensures.plays (c.attach.ensures.tells.0 tells) c.args.name.now store))
+    (game_plays (g.T.Tables.game c.args.tables.now) c.args.seed c.args.game.now c.args.name.now c.requires.game old (g.S.Stage.standing c.play_in.new.stage) c.play_in.result
+    (subst (λ q. PlaysInStore s q (g.S.Stage.standing c.play_in.new.stage) c.play_in.result) a.1 (c.play_in.ensures.plays (c.attach.ensures.tells.0 tells) c.args.name.now store)))
 
 pub returns-clause-any_moment : goal.returns-clause-any_moment
 returns-clause-any_moment g c = λ tells empty.
@@ -29,7 +32,8 @@ returns-clause-any_moment g c = λ tells empty.
     let old : Standing = g.S.Stage.standing c.args.stage.now in
     let s : Played = new_session (g.T.Tables.game c.args.tables.now) c.args.seed c.args.game.now c.args.name.now in
     let store : IsStore c.args.name.now (g.S.Stage.standing c.attach.new.stage) = subst (IsStore c.args.name.now) (sym a.1) (store_attached old c.args.name.now) in
-    Passes_on _ _ _ _ _ _ (InNewPlay s old) _
-    (Passes_map _ _ _ _ _ (InNewPlay s old) (c.in-Ok.ensures.time tells) (λ m i. in_new_attach s old (g.S.Stage.standing c.attach.new.stage) m a.1 empty i))
+    Passes_on _ _ _ _ _ _ (InGame (g.T.Tables.game c.args.tables.now) c.args.seed c.args.name.now old) _
+    (Passes_map _ _ _ _ _ (InGame (g.T.Tables.game c.args.tables.now) c.args.seed c.args.name.now old) (c.in-Ok.ensures.time tells)
+    (λ m i. in_new_attach (g.T.Tables.game c.args.tables.now) c.args.seed c.args.name.now old (g.S.Stage.standing c.attach.new.stage) m a.1 empty i))
     (c.play_in.ensures.any_moment (c.attach.ensures.tells.0 tells) c.args.name.now store)
-    (λ m i. new_from s old m (subst (λ q. InMaking s q m ⊎ InPlay s q m) a.1 i))
+    (λ m i. in_game (g.T.Tables.game c.args.tables.now) c.args.seed c.args.game.now c.args.name.now c.requires.game old m (subst (λ q. InMaking s q m ⊎ InPlay s q m) a.1 i))

@@ -5,7 +5,8 @@ use Rattle.paw_stage.specs.Moments.{Passes}
 use Rattle.paw_journal.specs.Session.{kept_digest, recover}
 use Rattle.paw_journal.specs.Journal.{Finds, IsRefused}
 use Rattle.paw_play.specs.Calls.{IfOutside, IsSessionCall}
-use Rattle.paw_play.specs.Play.{InAgain, InPlay, PlaysAgain, PlaysUp, ShowsState, IsStore, unattached, wanting, plays_up, attached_to, store_bytes, kept_session}
+use Rattle.paw_play.specs.Play.{InAgain, InPlay, PlaysAgain, PlaysUp, ShowsState, unattached, wanting, plays_up, attached_to, store_bytes, kept_session}
+use Rattle.paw_play.specs.OnTheWay.{IsStore}
 use Rattle.paw_play.proofs.Attaching.{store_attached}
 use Rattle.paw_play.proofs.Again.{in_again_attach, in_finding, in_taking_up, refused_again, outside_again}
 use Rattle.paw_play.proofs.resume.resume_loop.Goals as goal

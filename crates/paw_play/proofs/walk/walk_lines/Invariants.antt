@@ -1,7 +1,8 @@
 use Rattle.std.proofs.Common.{◌≡◌, ◌+◌, ◌*◌, ◌≤◌, ◌↔◌, ℕ}
 use Rattle.paw_stage.specs.Stage.{Standing, Grows}
 use Rattle.paw_turn.specs.Player.{IsSeated}
-use Rattle.paw_play.specs.Walk.{Reading, IsWalking}
+use Rattle.paw_play.specs.Walk.{Reading}
+use Rattle.paw_play.specs.OnTheWay.{IsWalking}
 use Rattle.paw_play.proofs.walk.walk_lines.Given as goal
 
 -- so many lines were taken

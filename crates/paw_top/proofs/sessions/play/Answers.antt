@@ -2,12 +2,12 @@ use Rattle.std.proofs.Common.{◌≡◌, ◌∙◌, [], refl, sym, subst, ap}
 use Rattle.sha2.specs.Sha256.{sha256}
 use Rattle.paw_stage.specs.Stage.{Standing}
 use Rattle.paw_stage.proofs.Time.{Passes_map, Passes_on}
-use Rattle.paw_play.specs.Play.{Played, InNewPlay, new_session, store_bytes}
-use Rattle.paw_top.specs.Sessions.{PlaysNewIn, plays, unopened, session_in}
+use Rattle.paw_play.specs.Play.{InGame, store_bytes}
+use Rattle.paw_top.specs.Sessions.{PlaysNewIn, plays, unopened}
 use Rattle.paw_top.proofs.Answering.{kept_outside}
 use Rattle.paw_top.proofs.Completing.{same_game}
 use Rattle.paw_top.proofs.Found.{all_built}
-use Rattle.paw_top.proofs.OpenedSessions.{still_new, new_moment, plays_new, one_session}
+use Rattle.paw_top.proofs.OpenedSessions.{still_new, game_moment, plays_game}
 use Rattle.paw_top.proofs.sessions.play.Goals as goal
 
 pub returns-in-Err-clause-plays : goal.returns-in-Err-clause-plays
@@ -15,8 +15,8 @@ returns-in-Err-clause-plays g c = λ tells. unopened c.in-Err.outcome (c.in-Err.
 
 pub returns-in-Err-clause-any_moment : goal.returns-in-Err-clause-any_moment
 returns-in-Err-clause-any_moment g c = λ tells game holds empty.
-    Passes_map _ _ _ _ _ (InNewPlay (session_in game c.args.store.now c.args.seed) (g.S.Stage.standing c.args.stage.now)) (c.in-Err.ensures.time tells)
-    (λ m e. still_new (session_in game c.args.store.now c.args.seed) (g.S.Stage.standing c.args.stage.now) m e)
+    Passes_map _ _ _ _ _ (InGame game c.args.seed c.args.store.now (g.S.Stage.standing c.args.stage.now)) (c.in-Err.ensures.time tells)
+    (λ m e. still_new game c.args.seed c.args.store.now (g.S.Stage.standing c.args.stage.now) m e)
 
 pub play_loop-requires-clause-built : goal.play_loop-requires-clause-built
 play_loop-requires-clause-built g c = all_built c.in-Ok.image.game c.in-Ok.ensures.built
@@ -27,23 +27,16 @@ returns-clause-outside g c = kept_outside _ _ _ c.play_loop.result c.outcome_of.
 pub returns-clause-plays : goal.returns-clause-plays
 returns-clause-plays g c = λ tells.
     let game = c.in-Ok.image.game in
-    let kept = c.digest-kept.ensures.value ∙ ap sha256 (c.as_slice.ensures.value ∙ c.in-Ok.ensures.bytes) in
-    let s : Played = session_in game c.args.store.now c.args.seed in
     subst (PlaysNewIn c.args.image.now c.args.store.now c.args.seed (g.S.Stage.standing c.args.stage.now) (g.S.Stage.standing c.play_loop.new.stage)) (sym c.outcome_of.ensures.value)
     (plays game c.play_loop.result (c.in-Ok.ensures.holds tells, c.in-Ok.ensures.built)
-    (plays_new s (new_session game c.args.seed c.digest-kept.result c.args.store.now) _ _ _ c.play_loop.result (c.in-Ok.ensures.still tells)
-    (one_session game game c.args.seed c.args.store.now c.digest-kept.result refl kept) (c.play_loop.ensures.plays (c.open_image.ensures.tells.0 tells))))
+    (plays_game game c.args.seed c.args.store.now _ _ _ c.play_loop.result (c.in-Ok.ensures.still tells) (c.play_loop.ensures.plays (c.open_image.ensures.tells.0 tells))))
 
 pub returns-clause-any_moment : goal.returns-clause-any_moment
 returns-clause-any_moment g c = λ tells game holds empty.
-    let kept = c.digest-kept.ensures.value ∙ ap sha256 (c.as_slice.ensures.value ∙ c.in-Ok.ensures.bytes) in
     let old : Standing = g.S.Stage.standing c.args.stage.now in
     let still = c.in-Ok.ensures.still tells in
-    let s : Played = session_in game c.args.store.now c.args.seed in
-    let k : Played = new_session c.in-Ok.image.game c.args.seed c.digest-kept.result c.args.store.now in
-    let same = one_session game c.in-Ok.image.game c.args.seed c.args.store.now c.digest-kept.result
-    (same_game old c.args.image.now c.in-Ok.image.game game (c.in-Ok.ensures.holds tells) holds) kept in
-    Passes_on _ _ _ _ _ _ (InNewPlay s old) _
-    (Passes_map _ _ _ _ _ (InNewPlay s old) (c.in-Ok.ensures.time tells) (λ m e. still_new s old m e))
+    let same = same_game old c.args.image.now c.in-Ok.image.game game (c.in-Ok.ensures.holds tells) holds in
+    Passes_on _ _ _ _ _ _ (InGame game c.args.seed c.args.store.now old) _
+    (Passes_map _ _ _ _ _ (InGame game c.args.seed c.args.store.now old) (c.in-Ok.ensures.time tells) (λ m e. still_new game c.args.seed c.args.store.now old m e))
     (c.play_loop.ensures.any_moment (c.open_image.ensures.tells.0 tells) (subst (λ q. store_bytes q c.args.store.now ≡ []) (sym still) empty))
-    (λ m i. new_moment s k old (g.S.Stage.standing c.open_image.new.stage) m still same i)
+    (λ m i. game_moment game c.in-Ok.image.game c.args.seed c.args.store.now old (g.S.Stage.standing c.open_image.new.stage) m still same i)

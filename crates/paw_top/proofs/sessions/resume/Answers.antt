@@ -2,12 +2,13 @@ use Rattle.std.proofs.Common.{◌∙◌, sym, subst, ap}
 use Rattle.sha2.specs.Sha256.{sha256}
 use Rattle.paw_stage.specs.Stage.{Standing}
 use Rattle.paw_stage.proofs.Time.{Passes_map, Passes_on}
-use Rattle.paw_play.specs.Play.{Played, InAgain, kept_session}
-use Rattle.paw_top.specs.Sessions.{PlaysAgainIn, plays, unopened, session_from, digest_of}
+use Rattle.paw_play.specs.Play.{Played, InAgain, InGoingOn, kept_session, store_bytes}
+use Rattle.paw_play.proofs.Standing.{standing_shows, in_going_on}
+use Rattle.paw_top.specs.Sessions.{PlaysAgainIn, GoesOnIn, plays, unopened, session_from, digest_of}
 use Rattle.paw_top.proofs.Answering.{kept_outside}
 use Rattle.paw_top.proofs.Completing.{same_game}
 use Rattle.paw_top.proofs.Found.{all_built}
-use Rattle.paw_top.proofs.OpenedSessions.{still_again, again_moment, plays_again, shows_same, one_kept_session}
+use Rattle.paw_top.proofs.OpenedSessions.{still_again, still_on, again_moment, plays_again, goes_on_in, shows_same, one_kept_session}
 use Rattle.paw_top.proofs.sessions.resume.Goals as goal
 
 pub returns-in-Err-clause-plays : goal.returns-in-Err-clause-plays
@@ -48,3 +49,29 @@ returns-clause-any_moment g c = λ tells game st piece holds shows.
     (c.resume_loop.ensures.any_moment (c.open_image.ensures.tells.0 tells) st piece
     (shows_same game c.in-Ok.image.game c.digest-kept.result c.args.store.now old mid st piece still one kept shows))
     (λ m i. again_moment s k old mid m still same i)
+
+pub returns-in-Err-clause-goes_on : goal.returns-in-Err-clause-goes_on
+returns-in-Err-clause-goes_on g c = λ tells game seed es holds played stands. unopened c.in-Err.outcome (c.in-Err.ensures.unopened tells)
+
+pub returns-in-Err-clause-any_moment_on : goal.returns-in-Err-clause-any_moment_on
+returns-in-Err-clause-any_moment_on g c = λ tells game seed es holds played stands.
+    Passes_map _ _ _ _ _ (InGoingOn game seed es c.args.store.now (g.S.Stage.standing c.args.stage.now)) (c.in-Err.ensures.time tells)
+    (λ m e. still_on game seed es c.args.store.now (g.S.Stage.standing c.args.stage.now) m e)
+
+pub returns-clause-goes_on : goal.returns-clause-goes_on
+returns-clause-goes_on g c = λ tells game seed es holds played stands.
+    let mine = c.in-Ok.image.game in
+    let kept = c.digest-kept.ensures.value ∙ ap sha256 (c.as_slice.ensures.value ∙ c.in-Ok.ensures.bytes) in
+    let old : Standing = g.S.Stage.standing c.args.stage.now in
+    subst (GoesOnIn c.args.image.now c.args.store.now game seed es old (g.S.Stage.standing c.resume_loop.new.stage)) (sym c.outcome_of.ensures.value)
+    (goes_on_in c.args.image.now c.args.store.now game mine seed es old (g.S.Stage.standing c.resume_loop.new.stage) c.resume_loop.result
+    (same_game old c.args.image.now mine game (c.in-Ok.ensures.holds tells) holds) (c.in-Ok.ensures.holds tells, c.in-Ok.ensures.built)
+    (plays_again mine (digest_of mine) c.digest-kept.result c.args.store.now _ _ _ c.resume_loop.result (c.in-Ok.ensures.still tells) kept
+    (c.resume_loop.ensures.plays (c.open_image.ensures.tells.0 tells))) played stands)
+
+pub returns-clause-any_moment_on : goal.returns-clause-any_moment_on
+returns-clause-any_moment_on g c = λ tells game seed es holds played stands.
+    let old : Standing = g.S.Stage.standing c.args.stage.now in
+    let shown = standing_shows game seed es (store_bytes old c.args.store.now) played stands in
+    Passes_map _ _ _ _ _ (InGoingOn game seed es c.args.store.now old) (returns-clause-any_moment g c tells game shown.state shown.piece holds shown.shows)
+    (λ m i. in_going_on game seed es (store_bytes old c.args.store.now) shown.state shown.piece c.args.store.now played stands shown.shows old m i)

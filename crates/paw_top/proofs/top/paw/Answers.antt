@@ -2,9 +2,10 @@ use Rattle.std.proofs.Common.{◌≡◌, ℕ, List, [], sym, subst}
 use Rattle.paw_game.specs.Game.{GameLists}
 use Rattle.paw_stage.specs.Moments.{Passes}
 use Rattle.paw_state.specs.State.{State}
-use Rattle.paw_play.specs.Play.{InNewPlay, InAgain, ShowsState, store_bytes}
+use Rattle.paw_play.specs.Play.{InGame, InAgain, InGoingOn, ShowsState, store_bytes}
+use Rattle.paw_play.specs.Stands.{Stands, IsPlayedWith}
 use Rattle.paw_top.specs.Loads.{Holds}
-use Rattle.paw_top.specs.Sessions.{digest_of, session_in, session_from}
+use Rattle.paw_top.specs.Sessions.{digest_of, session_from, GoesOnIn}
 use Rattle.paw_top.specs.Completes.{Completes}
 use Rattle.paw_top.proofs.Completing.{completes_compile, completes_decompile, completes_walk}
 use Rattle.paw_top.proofs.CompletingSessions.{completes_play, completes_resume}
@@ -45,13 +46,28 @@ pub returns-in-Some-Play-clause-any_moment_of_play : goal.returns-in-Some-Play-c
 returns-in-Some-Play-clause-any_moment_of_play g c = λ tells image store seed asked.
     for_play (λ i s n. (game : GameLists) → Holds (g.S.Stage.standing c.args.stage.now) i game → store_bytes (g.S.Stage.standing c.args.stage.now) s ≡ [] →
     Passes (g.S.Stage.clock c.args.stage.now) (g.S.Stage.clock c.play.new.stage) (g.S.Stage.since c.args.stage.now) (g.S.Stage.since c.play.new.stage)
-    (InNewPlay (session_in game s n) (g.S.Stage.standing c.args.stage.now))) _ _ _ _ image store seed
+    (InGame game n s (g.S.Stage.standing c.args.stage.now))) _ _ _ _ image store seed
     (rw c.in-Some-Play.field-0-is at c.in-Some-Play.ensures.value) asked (c.play.ensures.any_moment tells)
 
-pub returns-in-Some-Resume-clause-any_moment_of_resume : goal.returns-in-Some-Resume-clause-any_moment_of_resume
-returns-in-Some-Resume-clause-any_moment_of_resume g c = λ tells image store asked.
+pub returns-in-Some-Resume-clause-any_moment_from_a_state : goal.returns-in-Some-Resume-clause-any_moment_from_a_state
+returns-in-Some-Resume-clause-any_moment_from_a_state g c = λ tells image store asked.
     for_resume (λ i s. (game : GameLists) (st : State) (piece : List ℕ) → Holds (g.S.Stage.standing c.args.stage.now) i game →
     ShowsState game (digest_of game) (store_bytes (g.S.Stage.standing c.args.stage.now) s) st piece →
     Passes (g.S.Stage.clock c.args.stage.now) (g.S.Stage.clock c.resume.new.stage) (g.S.Stage.since c.args.stage.now) (g.S.Stage.since c.resume.new.stage)
     (InAgain (session_from game s st piece) (g.S.Stage.standing c.args.stage.now))) _ _ _ image store
     (rw c.in-Some-Resume.field-0-is at c.in-Some-Resume.ensures.value) asked (c.resume.ensures.any_moment tells)
+
+pub returns-in-Some-Resume-clause-goes_on : goal.returns-in-Some-Resume-clause-goes_on
+returns-in-Some-Resume-clause-goes_on g c = λ tells image store asked.
+    for_resume (λ i s. (game : GameLists) (seed : ℕ) (es : List (List ℕ)) → Holds (g.S.Stage.standing c.args.stage.now) i game → IsPlayedWith game seed es →
+    Stands game seed es (store_bytes (g.S.Stage.standing c.args.stage.now) s) →
+    GoesOnIn i s game seed es (g.S.Stage.standing c.args.stage.now) (g.S.Stage.standing c.resume.new.stage) c.resume.result) _ _ _ image store
+    (rw c.in-Some-Resume.field-0-is at c.in-Some-Resume.ensures.value) asked (c.resume.ensures.goes_on tells)
+
+pub returns-in-Some-Resume-clause-any_moment_of_resume : goal.returns-in-Some-Resume-clause-any_moment_of_resume
+returns-in-Some-Resume-clause-any_moment_of_resume g c = λ tells image store asked.
+    for_resume (λ i s. (game : GameLists) (seed : ℕ) (es : List (List ℕ)) → Holds (g.S.Stage.standing c.args.stage.now) i game → IsPlayedWith game seed es →
+    Stands game seed es (store_bytes (g.S.Stage.standing c.args.stage.now) s) →
+    Passes (g.S.Stage.clock c.args.stage.now) (g.S.Stage.clock c.resume.new.stage) (g.S.Stage.since c.args.stage.now) (g.S.Stage.since c.resume.new.stage)
+    (InGoingOn game seed es s (g.S.Stage.standing c.args.stage.now))) _ _ _ image store
+    (rw c.in-Some-Resume.field-0-is at c.in-Some-Resume.ensures.value) asked (c.resume.ensures.any_moment_on tells)

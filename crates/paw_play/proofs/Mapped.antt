@@ -1,0 +1,97 @@
+-- What is said of a session by what its store keeps, in other words.
+use Rattle.std.proofs.Common.{◌≡◌, ◌≢◌, ◌⊎◌, inl, inr, ℕ, zero, suc, ◌+◌, ◌≤◌, List, [], ◌++◌, length, refl, sym, ap, ◌∙◌, subst, arith}
+use Rattle.paw_stage.specs.Stage.{Standing}
+use Rattle.paw_stage.specs.Moments.{Moment}
+use Rattle.paw_stage.specs.declared.StageCall.TheVariants as call
+use Rattle.paw_play.specs.declared.PlayEnd.{PlayEnd}
+use Rattle.paw_play.specs.declared.PlayEnd.TheVariants as end
+use Rattle.paw_play.specs.declared.TheConstants.{MOST_EVENTS}
+use Rattle.paw_play.specs.Walk.{Reading, told_before}
+use Rattle.paw_play.specs.Keeping.{AgreesWith, KeepsUpWith, InSession, InMakingOf, RestsWith, KeepsAll, KeepsAllButLast, LeavesStore}
+use Rattle.paw_play.specs.Play.{PlaysWith, PlaysIn, memory, spent, too_deep, unmade, plays}
+
+-- the text for all but the last line
+told_same : (told by : ℕ → List ℕ) → ((n : ℕ) → told n ≡ by n) → (n : ℕ) → told_before told n ≡ told_before by n
+told_same told by same zero = refl
+told_same told by same (suc n) = same n
+
+module _ (Kept By : ℕ → List ℕ → Type 0) (past : ℕ) (name : List ℕ) (old : Standing)
+    (so : (n : ℕ) (bytes : List ℕ) → n ≤ length old.lines → past + n ≤ MOST_EVENTS → Kept n bytes → By n bytes) where
+  rests_by : (new : Standing) (n : ℕ) → RestsWith Kept past name old new n → RestsWith By past name old new n
+  rests_by new n r = record {
+    there = r.there;
+    few = r.few;
+    attached = r.attached;
+    stable = r.stable;
+    file = r.file;
+    others = r.others;
+    keeps = so n new.disk.bytes r.there r.few r.keeps;
+  }
+
+  all_by : (new : Standing) → KeepsAll Kept past name old new → KeepsAll By past name old new
+  all_by new k = (k.0, k.1, rests_by new k.0 k.2)
+
+  but_last_by : (new : Standing) → KeepsAllButLast Kept past name old new → KeepsAllButLast By past name old new
+  but_last_by new k = (k.0, k.1, rests_by new k.0 k.2)
+
+  leaves_by : (new : Standing) (o : PlayEnd) → LeavesStore Kept past name old new o → LeavesStore By past name old new o
+  leaves_by new end.Ended k = all_by new k
+  leaves_by new end.InputEnded k = all_by new k
+  leaves_by new (end.Long events) k = all_by new k
+  leaves_by new (end.Outside call.Ask) k = all_by new k
+  leaves_by new (end.Outside call.Show) k = all_by new k
+  leaves_by new (end.Spent kind) k = but_last_by new k
+  leaves_by new (end.TooDeep table) k = but_last_by new k
+  leaves_by new _ k = tt
+
+  pub plays_by : (whole : Reading) (most : ℕ) (new : Standing) (o : PlayEnd) → PlaysWith Kept whole past name most old new o → PlaysWith By whole past name most old new o
+  plays_by whole most new o p = record { shows = p.shows; session = leaves_by new o p.session }
+
+  -- ---- moments ----
+
+  module _ (told by : ℕ → List ℕ) (same : (n : ℕ) → told n ≡ by n) where
+    agrees_by : (n : ℕ) (text bytes : List ℕ) → n ≤ length old.lines → past + n ≤ MOST_EVENTS → AgreesWith Kept told n text bytes → AgreesWith By by n text bytes
+    agrees_by n text bytes there few a = (so n bytes there few a.0, (a.1.0, a.1.1 ∙ same n))
+
+    keeps_up_by : (n : ℕ) (text bytes : List ℕ) → n ≤ length old.lines → past + n ≤ MOST_EVENTS → KeepsUpWith Kept told n text bytes → KeepsUpWith By by n text bytes
+    keeps_up_by zero text bytes there few k = agrees_by zero text bytes there few k
+    keeps_up_by (suc n) text bytes there few (inl k) = inl (agrees_by (suc n) text bytes there few k)
+    keeps_up_by (suc n) text bytes there few (inr k) = inr (agrees_by n text bytes (omega arith) (omega arith) k)
+
+    pub in_session_by : (m : Moment) → InSession Kept told past name old m → InSession By by past name old m
+    in_session_by m i = record {
+      taken = i.taken;
+      text = i.text;
+      last = i.last;
+      there = i.there;
+      few = i.few;
+      asked = i.asked;
+      shown = i.shown;
+      before = i.before ∙ ap (λ t. t ++ i.last) (told_same told by same i.taken);
+      attached = i.attached;
+      files = i.files;
+      leaves = λ image may. keeps_up_by i.taken i.text image i.there i.few (i.leaves image may);
+    }
+
+-- ---- a new session ----
+
+module _ (Kept By : ℕ → List ℕ → Type 0) (name : List ℕ) (old : Standing)
+    (so : (n : ℕ) (bytes : List ℕ) → n ≤ length old.lines → 0 + n ≤ MOST_EVENTS → Kept n bytes → By n bytes) where
+  pub making_by : (m : Moment) → InMakingOf Kept name old m → InMakingOf By name old m
+  making_by m i = record {
+    asked = i.asked;
+    shown = i.shown;
+    attached = i.attached;
+    files = i.files;
+    leaves = λ image may. elim (i.leaves image may) [
+      | inl none ↦ inl none
+      | inr kept ↦ inr (so 0 image (omega arith) (omega arith) kept)
+    ];
+  }
+
+  pub plays_in_by : (whole : Reading) (new : Standing) (o : PlayEnd) → PlaysIn Kept whole name old new o → PlaysIn By whole name old new o
+  plays_in_by whole new _ (memory e) = memory e
+  plays_in_by whole new _ (spent kind r is e) = spent kind r is e
+  plays_in_by whole new _ (too_deep table r is e) = too_deep table r is e
+  plays_in_by whole new _ (unmade c writes e) = unmade c writes e
+  plays_in_by whole new _ (plays o p) = plays o (plays_by Kept By 0 name old so whole MOST_EVENTS new o p)

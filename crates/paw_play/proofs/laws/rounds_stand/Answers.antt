@@ -1,0 +1,5 @@
+use Rattle.paw_play.proofs.Standing.{rounds_stand}
+use Rattle.paw_play.proofs.laws.rounds_stand.Goals as goal
+
+pub returns : goal.returns
+returns c = record { rounds = rounds_stand }

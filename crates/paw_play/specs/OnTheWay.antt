@@ -1,0 +1,153 @@
+-- What stands on the way, inside a call.
+use Rattle.std.specs.Prelude.{◌≡◌, ◌≢◌, ℕ, suc, ◌-◌, ◌<◌, ◌≤◌, List, [], ◌++◌, length, take, replicate, reverse, Option, Some, None, Result, Ok, Err}
+use Rattle.paw_stage.specs.Disk.{IsStable}
+use Rattle.paw_stage.specs.Stage.{Standing}
+use Rattle.paw_stage.specs.Moments.{Moment}
+use Rattle.paw_stage.specs.declared.StageCall.TheVariants as call
+use Rattle.paw_game.specs.Game.{GameLists}
+use Rattle.paw_effects.specs.declared.act.Prompt.{Prompt}
+use Rattle.paw_effects.specs.declared.act.Prompt.TheVariants as prompt
+use Rattle.paw_process.specs.Kept.{unused}
+use Rattle.paw_process.specs.declared.kept.Frames.{Frames}
+use Rattle.paw_reading.specs.declared.places.Frame.{Frame}
+use Rattle.paw_reading.specs.declared.places.OpenLoop.{OpenLoop}
+use Rattle.paw_reading.specs.Run.{Run, Step as Read}
+use Rattle.paw_reading.specs.Turn.{RunsOut, CallsTooDeep, reading, on, text_of}
+use Rattle.paw_turn.specs.Player.{Seat, run_at}
+use Rattle.paw_turn.specs.Parts.{prompt_at}
+use Rattle.paw_turn.specs.declared.Step.{Step}
+use Rattle.paw_turn.specs.declared.Step.TheVariants as step
+use Rattle.paw_journal.specs.Session.{kept_digest}
+use Rattle.paw_journal.specs.declared.refusal.JournalRefusal.{JournalRefusal}
+use Rattle.paw_journal.specs.declared.refusal.JournalRefusal.TheVariants as refusal
+use Rattle.paw_state.specs.State.{state_of}
+use Rattle.paw_play.specs.declared.PlayEnd.{PlayEnd}
+use Rattle.paw_play.specs.declared.PlayEnd.TheVariants as end
+use Rattle.paw_play.specs.declared.TheConstants.{MOST_EVENTS}
+use Rattle.paw_play.specs.Session.{kept_bytes}
+use Rattle.paw_play.specs.Walk.{Reading, first_lines, played, joined, text_before, Walks}
+use Rattle.paw_play.specs.Keeping.{InMakingOf, RestsWith, LeavesStore}
+use Rattle.paw_play.specs.Play.{Played, KeptBy, PlaysOn, PlaysIn, with_store}
+
+-- ---- a walk ----
+
+-- the places of a path, outermost first, with unused rows up to eleven
+abbrev pub frames_at : List Frame → Option OpenLoop → Frames
+frames_at path turning = record { count = length path; rows = path ++ replicate (11 - length path) unused; turning = turning }
+
+-- the bytes of the state of a player, after so many lines of its session
+abbrev pub seat_state : ℕ → Seat → List ℕ
+seat_state events p = kept_bytes (state_of p.world p.machine p.pending (prompt_at p.last) events (length p.piece))
+
+-- the walk is at a prompt: n lines were taken, these pieces were shown, and whatever lines come, the reading of all goes
+-- on from the player
+pub record IsWalking (whole : Reading) (old now : Standing) (seat : Seat) (n : ℕ) : Type 0 where
+  pub prompt : Prompt
+  pub waits : seat.last ≡ step.Waits prompt
+  pub pieces : List (List ℕ)
+  pub traces : List (List Read)
+  pub goes_on : (more : List (List ℕ)) →
+      whole (first_lines n old.lines ++ more) ≡ on seat.game [] prompt (reverse seat.machine.frames) (run_at seat pieces traces more)
+  pub there : n ≤ length old.lines
+  pub stands : now ≡ played old n (joined pieces)
+
+-- a step that brings a piece
+abbrev pub ShowsPiece : Step → Type 0
+ShowsPiece (step.Waits p) = Unit {0}
+ShowsPiece step.Ended = Unit {0}
+ShowsPiece (step.Spent kind) = ⊥
+ShowsPiece (step.TooDeep table) = ⊥
+
+-- what a step comes to that brings no piece
+abbrev pub refusal_of : Step → Option PlayEnd
+refusal_of (step.Waits p) = None
+refusal_of step.Ended = None
+refusal_of (step.Spent kind) = Some (end.Spent kind)
+refusal_of (step.TooDeep table) = Some (end.TooDeep table)
+
+-- what showing a step's piece does: it is shown where the player waits or is over, and then no other line may be asked for
+-- where it is over; nothing is shown of a piece that is spent or of a call too deep; or a part is shown of a piece that isn't
+-- empty, and the call failed
+abbrev pub Told : Standing → Standing → List ℕ → Step → Option PlayEnd → Type 0
+Told old new piece s None = (p : Prompt) × (s ≡ step.Waits p) × (new ≡ record old { shown = old.shown ++ piece })
+Told old new piece s (Some end.Ended) = (s ≡ step.Ended) × (new ≡ record old { shown = old.shown ++ piece })
+Told old new piece s (Some (end.Spent kind)) = (s ≡ step.Spent kind) × (new ≡ old)
+Told old new piece s (Some (end.TooDeep table)) = (s ≡ step.TooDeep table) × (new ≡ old)
+Told old new piece s (Some (end.Outside call.Show)) =
+    ShowsPiece s × (0 < length piece) × (n : ℕ) × (new ≡ record old { shown = old.shown ++ take n piece })
+Told old new piece s (Some _) = ⊥
+
+-- after one line more: the walk is at the next prompt, or has come to this
+abbrev pub WalksOn : Reading → ℕ → Standing → Standing → Seat → ℕ → Option PlayEnd → Type 0
+WalksOn whole most first now seat n None = IsWalking whole first now seat (suc n)
+WalksOn whole most first now seat n (Some o) = Walks whole most first now o
+
+-- after piece 0
+abbrev pub WalksFrom : Reading → ℕ → Standing → Standing → Seat → Option PlayEnd → Type 0
+WalksFrom whole most old now seat None = IsWalking whole old now seat 0
+WalksFrom whole most old now seat (Some o) = Walks whole most old now o
+
+-- ---- a session ----
+
+-- the session of a game that is played from its start
+abbrev pub new_session : GameLists → ℕ → List ℕ → List ℕ → Played
+new_session g seed digest name = record { whole = reading g [] seed; before = 0; digest = digest; name = name }
+
+-- the store is at rest, and keeps the first n lines
+abbrev pub Rests : Played → Standing → Standing → ℕ → Type 0
+Rests s old new n = RestsWith (KeptBy s old.lines) s.before s.name old new n
+
+-- a moment at which the session is made
+abbrev pub InMaking : Played → Standing → Moment → Type 0
+InMaking s old m = InMakingOf (KeptBy s old.lines) s.name old m
+
+-- what making a new session in the attached store and playing it comes to
+abbrev pub PlaysInStore : Played → Standing → Standing → PlayEnd → Type 0
+PlaysInStore s old new o = PlaysIn (KeptBy s old.lines) s.whole s.name old new o
+
+-- The session is at a prompt: the walk is, the store keeps all lines that were taken, and the text of the last piece came
+-- last.
+pub record IsPlaying (s : Played) (first now : Standing) (seat : Seat) (n : ℕ) : Type 0 where
+  pub walking : IsWalking s.whole (with_store now first) now seat n
+  pub rests : Rests s first now n
+  pub digest : kept_digest now.disk.bytes ≡ s.digest
+  pub last : List ℕ
+  pub grown : text_of (s.whole (first_lines n first.lines)) ≡ text_before s.whole first.lines n ++ last
+
+-- after one line more: the session is at the next prompt, or playing on has come to this
+abbrev pub PlaysTo : {A : Type 0} → Played → ℕ → Standing → Standing → Seat → ℕ → Result A PlayEnd → Type 0
+PlaysTo s most first now seat n (Ok a) = IsPlaying s first now seat (suc n)
+PlaysTo s most first now seat n (Err o) = PlaysOn s most first now o
+
+-- the store of this name is attached and at rest, and its file holds its bytes
+pub record IsStore (name : List ℕ) (s : Standing) : Type 0 where
+  pub attached : s.attached ≡ Some name
+  pub stable : IsStable s.disk
+  pub file : s.files name ≡ Some s.disk.bytes
+
+-- what making a new session comes to, once its store is attached
+abbrev pub BegunAs : Played → Standing → Standing → PlayEnd → Type 0
+BegunAs s first now (end.Spent kind) = (r : Run) × (s.whole [] ≡ RunsOut kind r) × (now ≡ first)
+BegunAs s first now (end.TooDeep table) = (r : Run) × (s.whole [] ≡ CallsTooDeep table r) × (now ≡ first)
+BegunAs s first now (end.Outside call.Write) = now ≡ with_store now first
+BegunAs s first now (end.Outside call.Sync) = now ≡ with_store now first
+BegunAs s first now o = PlaysOn s MOST_EVENTS first now o
+
+-- the session is at its first prompt, or making it has come to this
+abbrev pub Begins : {A : Type 0} → Played → Standing → Standing → Seat → Result A PlayEnd → Type 0
+Begins s first now seat (Ok a) = IsPlaying s first now seat 0
+Begins s first now seat (Err o) = BegunAs s first now o
+
+-- what showing a piece again does: the session waits at its prompt, or is over, or a part was shown and the call failed
+abbrev pub ShowsAgain : Standing → Standing → List ℕ → Prompt → Option PlayEnd → Type 0
+ShowsAgain old new piece p None = (p ≢ prompt.Over) × (new ≡ record old { shown = old.shown ++ piece })
+ShowsAgain old new piece p (Some end.Ended) = (p ≡ prompt.Over) × (new ≡ record old { shown = old.shown ++ piece })
+ShowsAgain old new piece p (Some (end.Outside call.Show)) = (0 < length piece) × (n : ℕ) × (new ≡ record old { shown = old.shown ++ take n piece })
+ShowsAgain old new piece p (Some _) = ⊥
+
+-- what playing comes to where a session isn't found
+abbrev pub end_of : JournalRefusal → PlayEnd
+end_of (refusal.Unmade n mark) = end.Refused (refusal.Unmade n mark)
+end_of (refusal.Damaged part at) = end.Refused (refusal.Damaged part at)
+end_of (refusal.WrongGame kept found) = end.Refused (refusal.WrongGame kept found)
+end_of (refusal.Outside c) = end.Outside c

@@ -1,0 +1,20 @@
+// The laws of sessions.
+
+ghost use Rattle.paw_play.specs.Laws.{StandingShows, StandingGoesOn, RoundsStand};
+
+/// A store that stands for lines of a game shows a state that keeps all rules, so it is never refused.
+pub fn standing_shows()
+    ensures shows { StandingShows }
+{}
+
+/// A session that is taken up again goes on as the reading of all lines, those that its store stands for and those that
+/// follow, from the last piece of the former on.
+pub fn standing_goes_on()
+    ensures goes_on { StandingGoesOn }
+{}
+
+/// After any number of rounds, each over what the one before left, the store stands for the lines of all rounds, with the
+/// last line of each kept or left out.
+pub fn rounds_stand()
+    ensures rounds { RoundsStand }
+{}
