@@ -1,0 +1,243 @@
+"""What the scripts here share: the program, what it shows for lines typed, and the parts of a source."""
+import os
+import subprocess
+import sys
+
+TOP = os.path.dirname(os.path.dirname(os.path.abspath(__file__)))
+PROGRAM = os.path.join(TOP, "crates", "paw", "out", "paw")
+
+
+def program(named=None):
+    """The program to run: the one named, or that of the variable PAW, or the one that ./paw has built."""
+    found = named or os.environ.get("PAW") or PROGRAM
+    if not os.access(found, os.X_OK):
+        sys.exit("no program at %s: build it with ./paw, or name one with --paw" % found)
+    return os.path.abspath(found)
+
+
+def run(words, lines=()):
+    """Runs the program with the words and the lines typed; gives its status, what it shows, and what it says."""
+    typed = "".join(line + "\n" for line in lines)
+    done = subprocess.run(words, input=typed.encode("latin-1"), stdout=subprocess.PIPE, stderr=subprocess.PIPE)
+    return done.returncode, done.stdout.decode("latin-1"), done.stderr.decode("latin-1")
+
+
+def pieces(paw, image, lines, seed="7"):
+    """The text before the first line, and the text that answers each line that was taken.
+
+    What is shown for some lines is the beginning of what is shown for more, so each piece is what one more line
+    adds. Also gives the status and the words of the whole walk. Lines behind the end of the game answer nothing.
+    """
+    status, whole, said = run([paw, "walk", image, seed], lines)
+    shown = [run([paw, "walk", image, seed], lines[:n])[1] for n in range(len(lines))] + [whole]
+    parts = [shown[0]]
+    for before, after in zip(shown, shown[1:]):
+        if not after.startswith(before):
+            sys.exit("the text of a longer walk doesn't begin with that of a shorter one")
+        parts.append(after[len(before):])
+    return parts, status, said
+
+
+def transcript(parts, lines):
+    """The text as a player sees it: each line stands where it was typed."""
+    return parts[0] + "".join(line + "\n" + part for line, part in zip(lines, parts[1:]))
+
+
+def lines_of(path):
+    """The lines of a file."""
+    with open(path, encoding="latin-1", newline="") as file:
+        return file.read().replace("\r\n", "\n").splitlines()
+
+
+# --- The table of condacts, as docs/LANGUAGE.md has it -------------------------------------------------------------
+
+def condact_rows(path=None):
+    """For each condact in the order of codes: its name, and the letters of what its parameters name."""
+    rows = []
+    with open(path or os.path.join(TOP, "docs", "LANGUAGE.md"), encoding="utf-8") as file:
+        for line in file:
+            cells = [cell.strip() for cell in line.split("|")]
+            if len(cells) == 6 and cells[1].isdigit() and cells[2].isupper() and int(cells[1]) == len(rows):
+                rows.append((cells[2], cells[3].split()))
+    return rows
+
+
+CONDITIONS = 29  # the codes below are conditions, the others act
+
+
+# --- Sources -------------------------------------------------------------------------------------------------------
+
+class Fault(Exception):
+    """A source that these scripts can't read; the program itself names its faults better."""
+
+
+class Item:
+    """A numbered text, with the line of its number."""
+
+    def __init__(self, number, line):
+        self.number, self.line, self.rows = number, line, []
+
+    @property
+    def text(self):
+        return "\n".join(self.rows)
+
+
+class Word:
+    def __init__(self, letters, value, kind, line):
+        self.letters, self.value, self.kind, self.line = letters, value, kind, line
+
+
+class Exit:
+    def __init__(self, verb, to, line):
+        self.verb, self.to, self.line = verb, to, line
+
+
+class Thing:
+    """An object: its place is a number, its words are values, 255 for none."""
+
+    def __init__(self, number, place, weight, kind, noun, adjective, line):
+        self.number, self.place, self.weight, self.kind = number, place, weight, kind
+        self.noun, self.adjective, self.line = noun, adjective, line
+
+
+class Step:
+    """One condact: its name, its parameters as numbers, whether it acts, and its line."""
+
+    def __init__(self, name, values, acts, line):
+        self.name, self.values, self.acts, self.line = name, values, acts, line
+
+
+class Entry:
+    def __init__(self, verb, noun, written, line):
+        self.verb, self.noun, self.written, self.line, self.steps = verb, noun, written, line, []
+
+
+PLACES = {"NOTCREATED": 252, "WORN": 253, "CARRIED": 254, "HERE": 255}
+CLASSES = {"A": "adverb", "B": "noun", "J": "adjective", "R": "preposition"}
+HEADERS = ["/VOC", "/STX", "/MTX", "/OTX", "/LTX", "/CON", "/OBJ"]
+
+
+class Source:
+    """The parts of a source, each with the line that it stands in."""
+
+    def __init__(self, path):
+        self.path = path
+        self.words, self.exits, self.things, self.tables = [], {}, [], []
+        self.texts = {"/STX": [], "/MTX": [], "/OTX": [], "/LTX": []}
+        self.codes = {name: (code, kinds) for code, (name, kinds) in enumerate(condact_rows())}
+        self.section, self.place = None, None
+        with open(path, encoding="latin-1", newline="") as file:
+            text = file.read().split("\x1a")[0].replace("\r\n", "\n")
+        lines = text.split("\n")
+        for number, line in enumerate(lines[:-1] if lines and not lines[-1] else lines, 1):
+            self.number = number
+            if not line.startswith(";"):
+                self.read(line)
+
+    def fault(self, why):
+        raise Fault("%s:%d: %s" % (self.path, self.number, why))
+
+    def read(self, line):
+        texts = self.texts.get(self.section)
+        if texts and not line.startswith("/"):
+            texts[-1].rows.append(line)
+            return
+        tokens = line.split(";")[0].upper().split()
+        if not tokens:
+            return
+        if line.startswith("/"):
+            self.header(tokens)
+        elif self.section == "/VOC":
+            self.words.append(Word(tokens[0][:5], self.number_of(tokens[1]), tokens[2].lower(), self.number))
+        elif self.section == "/CON":
+            row = Exit(self.value(tokens[0], "verb"), self.number_of(tokens[1]), self.number)
+            self.exits.setdefault(self.place, []).append(row)
+        elif self.section == "/OBJ":
+            number, place, weight, kind, noun, adjective = tokens
+            self.things.append(Thing(self.number_of(number), self.number_of(place), self.number_of(weight), kind,
+                                     self.value(noun, "noun"), self.value(adjective, "adjective"), self.number))
+        elif self.section == "/PRO":
+            self.entry(line, tokens)
+        else:
+            self.fault("a line outside the sections")
+
+    def header(self, tokens):
+        if tokens[0][1:].isdigit():
+            number = int(tokens[0][1:])
+            if self.section in self.texts:
+                self.texts[self.section].append(Item(number, self.number))
+            self.place = number
+        elif tokens[0] == "/PRO":
+            self.section = "/PRO"
+            self.tables.append([])
+        elif tokens[0] in HEADERS:
+            self.section = tokens[0]
+        else:
+            self.fault("no section of that name")
+
+    def entry(self, line, tokens):
+        if line[0] not in " \t":
+            verb, noun = self.value(tokens[0], "verb"), self.value(tokens[1], "noun")
+            self.tables[-1].append(Entry(verb, noun, " ".join(tokens[:2]), self.number))
+            tokens = tokens[2:]
+        while tokens:
+            name = tokens.pop(0)
+            if name not in self.codes:
+                self.fault("no condact of the name " + name)
+            code, kinds = self.codes[name]
+            if len(tokens) < len(kinds):
+                self.fault(name + " wants more parameters")
+            values = [self.value(tokens.pop(0), CLASSES[kind]) if kind in CLASSES else self.number_of(tokens.pop(0))
+                      for kind in kinds]
+            self.tables[-1][-1].steps.append(Step(name, values, code >= CONDITIONS, self.number))
+
+    def number_of(self, token):
+        if token in PLACES:
+            return PLACES[token]
+        if not token.isdigit():
+            self.fault("no number: " + token)
+        return int(token)
+
+    def value(self, token, kind):
+        """The value of a word; a noun below 20 stands for a verb. * and _ match any word."""
+        if token == "_" or token == "*":
+            return 255 if token == "_" else 1
+        for word in self.words:
+            if word.letters == token[:5] and (word.kind == kind or kind == "verb" and word.kind == "noun"
+                                              and word.value < 20):
+                return word.value
+        self.fault("no %s of the name %s" % (kind, token))
+
+    def name(self, value, kind):
+        """The first word with the value, as the canonical source would have it."""
+        kinds = [kind, "noun"] if kind == "verb" else [kind]
+        for wanted in kinds:
+            found = sorted(word.letters for word in self.words if word.value == value and word.kind == wanted)
+            if found:
+                return found[0]
+        return {1: "*", 255: "_"}.get(value, str(value))
+
+    def title(self, location):
+        """The first line of the location's text."""
+        texts = self.texts["/LTX"]
+        text = texts[location].text if location < len(texts) else ""
+        return text.split("\n")[0].strip()
+
+    def text_of(self, thing):
+        texts = self.texts["/OTX"]
+        return texts[thing].text if thing < len(texts) else ""
+
+    def steps(self):
+        """All condacts, each with the number of its table and its entry."""
+        for number, table in enumerate(self.tables):
+            for entry in table:
+                for step in entry.steps:
+                    yield number, entry, step
+
+    def read_or_exit(path):
+        try:
+            return Source(path)
+        except Fault as fault:
+            sys.exit(str(fault))
+        except (ValueError, IndexError) as fault:
+            sys.exit("%s: not read: %s; ./paw compile names the fault" % (path, fault))
