@@ -1,5 +1,5 @@
 -- What the calls of a journal answer, and what they leave.
-use Rattle.std.specs.Prelude.{◌≡◌, ◌≢◌, ◌⊎◌, ℕ, List, take, Result, Ok, Err, IsSome}
+use Rattle.std.specs.Prelude.{◌≡◌, ◌≢◌, ◌⊎◌, ℕ, List, take, Option, Some, None, Result, Ok, Err, IsSome}
 use Rattle.paw_stage.specs.declared.StageCall.{StageCall}
 use Rattle.paw_stage.specs.declared.StageCall.TheVariants as call
 use Rattle.paw_stage.specs.Disk.{IsStable}
@@ -49,6 +49,21 @@ IsCaused old new (refusal.Outside c) = (c ≡ call.Read) × Rose (old c) (new c)
 IsCaused old new (refusal.Unmade n mark) = Unit {0}
 IsCaused old new (refusal.Damaged part at) = Unit {0}
 IsCaused old new (refusal.WrongGame kept found) = Unit {0}
+
+-- The stage call that failed, by what a call answers.
+abbrev pub failed_call : {A : Type 0} → Result A StageCall → Option StageCall
+failed_call (Ok answer) = None
+failed_call (Err c) = Some c
+
+abbrev pub outside : JournalRefusal → Option StageCall
+outside (refusal.Outside c) = Some c
+outside (refusal.Unmade n mark) = None
+outside (refusal.Damaged part at) = None
+outside (refusal.WrongGame kept found) = None
+
+abbrev pub refused_call : {A : Type 0} → Result A JournalRefusal → Option StageCall
+refused_call (Ok answer) = None
+refused_call (Err e) = outside e
 
 -- A call that writes to the store and syncs it fails by these alone.
 abbrev pub IsWriting : StageCall → Type 0

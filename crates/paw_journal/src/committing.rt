@@ -2,12 +2,12 @@
 
 ghost use Rattle.std.specs.Prelude.{◌≡◌, ◌-◌, ◌≤◌, ◌↔◌, ◌++◌, length, take, OnOk, IfErr};
 ghost use Rattle.paw_base.specs.Piece.{piece_limit};
-ghost use Rattle.paw_stage.specs.Stage.{Rose, Grows};
+ghost use Rattle.paw_stage.specs.Stage.{Rose, Grows, Faulted};
 ghost use Rattle.paw_stage.specs.Moments.{Passes};
 ghost use Rattle.paw_journal.specs.Session.{recover, recover_by, chosen, kept_digest, session_length, state_length, piece_length, Shown};
 ghost use Rattle.paw_journal.specs.Store.{IsBeside, InStore, Leaves, IsEither};
 ghost use Rattle.paw_journal.specs.Steps.{IsMade};
-ghost use Rattle.paw_journal.specs.Journal.{slot_number, IsAtRest, IsWriting};
+ghost use Rattle.paw_journal.specs.Journal.{slot_number, IsAtRest, IsWriting, failed_call};
 
 use crate::layout::{BASE_AT, SELECTOR_AT, Slot};
 use crate::room::Room;
@@ -26,6 +26,7 @@ pub(crate) fn write_slot<S: Stage>(stage: &mut S, which: Slot, room: &Room) -> R
     requires short { length room.now.piece ≤ piece_limit }
     ensures tells { S.Tells stage.old ↔ S.Tells stage.new }
     ensures counts { Grows (S.faults stage.old) (S.faults stage.new) }
+    ensures faulted { Faulted (failed_call result) (S.faults stage.old) (S.faults stage.new) }
     ensures cause { IfErr result (λ c. IsWriting c × Rose (S.faults stage.old c) (S.faults stage.new c)) }
     ensures rests { S.Tells stage.old → OnOk result (IsAtRest (S.standing stage.new)) }
     ensures long { S.Tells stage.old → OnOk result (length (S.standing stage.new).disk.bytes ≡ session_length) }
@@ -46,6 +47,7 @@ pub(crate) fn choose<S: Stage>(stage: &mut S, which: Slot) -> Result<(), StageCa
     requires long { S.Tells stage.old → length (S.standing stage.old).disk.bytes ≡ session_length }
     ensures tells { S.Tells stage.old ↔ S.Tells stage.new }
     ensures counts { Grows (S.faults stage.old) (S.faults stage.new) }
+    ensures faulted { Faulted (failed_call result) (S.faults stage.old) (S.faults stage.new) }
     ensures cause { IfErr result (λ c. IsWriting c × Rose (S.faults stage.old c) (S.faults stage.new c)) }
     ensures rests { S.Tells stage.old → OnOk result (IsAtRest (S.standing stage.new)) }
     ensures chosen { S.Tells stage.old → OnOk result (chosen (S.standing stage.new).disk.bytes ≡ slot_number which) }

@@ -1,12 +1,12 @@
 // What the header of a session tells.
 
-ghost use Rattle.std.specs.Prelude.{◌≡◌, ◌≢◌, ◌↔◌, ℕ, List, length, take, IfOk, IfErr, IsSome};
+ghost use Rattle.std.specs.Prelude.{None, ◌≡◌, ◌≢◌, ◌↔◌, ℕ, List, length, take, IfOk, IfErr, IsSome};
 ghost use Rattle.paw_stage.specs.declared.StageCall.{StageCall};
-ghost use Rattle.paw_stage.specs.Stage.{Grows};
+ghost use Rattle.paw_stage.specs.Stage.{Grows, Faulted};
 ghost use Rattle.paw_stage.specs.Moments.{Passes, Still};
 ghost use Rattle.paw_journal.specs.Session.{recover, header_length, session_length};
 ghost use Rattle.paw_journal.specs.Steps.{Introduces};
-ghost use Rattle.paw_journal.specs.Journal.{slot_number, IsRefused, IsCaused};
+ghost use Rattle.paw_journal.specs.Journal.{slot_number, IsRefused, IsCaused, refused_call, outside};
 
 use crate::layout::{
     DIGEST_AT, DIGEST_LENGTH, HEADER_LENGTH, MADE, MARK_AT, SELECTOR_AT, SESSION_LENGTH, Slot,
@@ -32,6 +32,7 @@ pub(crate) fn read_header<S: Stage>(stage: &mut S, size: u64) -> Result<Header, 
     requires size { S.Tells stage.old → size ≡ length (S.standing stage.old).disk.bytes }
     ensures tells { S.Tells stage.old ↔ S.Tells stage.new }
     ensures counts { Grows (S.faults stage.old) (S.faults stage.new) }
+    ensures faulted { Faulted (refused_call result) (S.faults stage.old) (S.faults stage.new) }
     ensures cause { IfErr result (IsCaused (S.faults stage.old) (S.faults stage.new)) }
     ensures still { S.Tells stage.old → S.standing stage.new ≡ S.standing stage.old }
     ensures introduced { S.Tells stage.old → IfOk result (λ header. Introduces (slot_number header.slot) header.digest (S.standing stage.old).disk.bytes) }
@@ -55,6 +56,7 @@ fn unmade<S: Stage>(stage: &mut S, size: u64) -> JournalRefusal
     requires other { size ≢ session_length }
     ensures tells { S.Tells stage.old ↔ S.Tells stage.new }
     ensures counts { Grows (S.faults stage.old) (S.faults stage.new) }
+    ensures faulted { Faulted (outside result) (S.faults stage.old) (S.faults stage.new) }
     ensures cause { IsCaused (S.faults stage.old) (S.faults stage.new) result }
     ensures still { S.Tells stage.old → S.standing stage.new ≡ S.standing stage.old }
     ensures refused { S.Tells stage.old → (game : List ℕ) → IsRefused (recover (S.standing stage.old).disk.bytes) game result }
@@ -78,6 +80,7 @@ fn header_in(bytes: &[u8; HEADER_LENGTH]) -> Result<Header, JournalRefusal>
     ensures introduced { (whole : List ℕ) → length whole ≡ session_length → bytes.now ≡ take header_length whole → IfOk result (λ header. Introduces (slot_number header.slot) header.digest whole) }
     ensures refused { (whole game : List ℕ) → length whole ≡ session_length → bytes.now ≡ take header_length whole → IfErr result (IsRefused (recover whole) game) }
     ensures cause { (old new : StageCall → ℕ) → IfErr result (IsCaused old new) }
+    ensures fine { refused_call result ≡ None }
 {
     let mark = bytes[MARK_AT as usize];
     if mark != MADE {

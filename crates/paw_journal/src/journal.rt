@@ -1,11 +1,11 @@
 // A session: making one, finding one, and committing to it.
 
 ghost use Rattle.std.specs.Prelude.{◌≡◌, ◌⊎◌, ◌↔◌, length, take, OnOk, IfOk, IfErr};
-ghost use Rattle.paw_stage.specs.Stage.{Rose, Grows};
+ghost use Rattle.paw_stage.specs.Stage.{Rose, Grows, Faulted};
 ghost use Rattle.paw_stage.specs.Moments.{Passes, Still};
 ghost use Rattle.paw_journal.specs.Session.{recover, Shown, IsUnmade, kept_digest, piece_length, state_length, made_session};
 ghost use Rattle.paw_journal.specs.Store.{IsBeside, InStore, Leaves, IsEither};
-ghost use Rattle.paw_journal.specs.Journal.{IsAtRest, Keeps, Finds, IsCaused, IsWriting};
+ghost use Rattle.paw_journal.specs.Journal.{IsAtRest, Keeps, Finds, IsCaused, IsWriting, failed_call, refused_call};
 
 use crate::committing::{choose, write_slot};
 use crate::finding::read_header;
@@ -44,6 +44,7 @@ impl Journal {
         requires piece_length { piece_length state.now ≡ length piece.now }
         ensures tells { S.Tells stage.old ↔ S.Tells stage.new }
         ensures counts { Grows (S.faults stage.old) (S.faults stage.new) }
+        ensures faulted { Faulted (failed_call result) (S.faults stage.old) (S.faults stage.new) }
         ensures cause { IfErr result (λ c. IsWriting c × Rose (S.faults stage.old c) (S.faults stage.new c)) }
         ensures state { OnOk result (room.new.state ≡ state.now) }
         ensures piece { OnOk result (room.new.piece ≡ piece.now) }
@@ -77,6 +78,7 @@ impl Journal {
         requires attached { S.Tells stage.old → at.length ≡ length (S.standing stage.old).disk.bytes }
         ensures tells { S.Tells stage.old ↔ S.Tells stage.new }
         ensures counts { Grows (S.faults stage.old) (S.faults stage.new) }
+        ensures faulted { Faulted (refused_call result) (S.faults stage.old) (S.faults stage.new) }
         ensures cause { IfErr result (IsCaused (S.faults stage.old) (S.faults stage.new)) }
         ensures still { S.Tells stage.old → S.standing stage.new ≡ S.standing stage.old }
         ensures found { S.Tells stage.old → Finds (recover (S.standing stage.old).disk.bytes) game.now room.new result }
@@ -123,6 +125,7 @@ impl Journal {
         requires piece_length { piece_length state.now ≡ length piece.now }
         ensures tells { S.Tells stage.old ↔ S.Tells stage.new }
         ensures counts { Grows (S.faults stage.old) (S.faults stage.new) }
+        ensures faulted { Faulted (failed_call result) (S.faults stage.old) (S.faults stage.new) }
         ensures cause { IfErr result (λ c. IsWriting c × Rose (S.faults stage.old c) (S.faults stage.new c)) }
         ensures state { OnOk result (room.new.state ≡ state.now) }
         ensures piece { OnOk result (room.new.piece ≡ piece.now) }

@@ -2,12 +2,12 @@
 
 ghost use Rattle.std.specs.Prelude.{◌≡◌, ◌⊎◌, ◌↔◌, [], ◌∷◌, ◌++◌, length, drop, IsSome, OnOk, IfErr};
 ghost use Rattle.paw_stage.specs.Disk.{IsStable, stable};
-ghost use Rattle.paw_stage.specs.Stage.{Rose, Grows};
+ghost use Rattle.paw_stage.specs.Stage.{Rose, Grows, Faulted};
 ghost use Rattle.paw_stage.specs.Moments.{Passes};
 ghost use Rattle.paw_journal.specs.Session.{recover, IsUnmade, session_length, header_length, slot_length, made_mark, made_header};
 ghost use Rattle.paw_journal.specs.Store.{IsBeside, InStore, Leaves};
 ghost use Rattle.paw_journal.specs.Steps.{IsBlank};
-ghost use Rattle.paw_journal.specs.Journal.{IsAtRest, IsWriting};
+ghost use Rattle.paw_journal.specs.Journal.{IsAtRest, IsWriting, failed_call};
 
 use crate::layout::{
     DIGEST_AT, DIGEST_LENGTH, HEADER_LENGTH, MADE, MARK_AT, SELECTOR_AT, Slot, VERSION, VERSION_AT,
@@ -21,6 +21,7 @@ fn begin<S: Stage>(stage: &mut S) -> Result<(), StageCall>
     requires empty { S.Tells stage.old → length (S.standing stage.old).disk.bytes ≡ 0 }
     ensures tells { S.Tells stage.old ↔ S.Tells stage.new }
     ensures counts { Grows (S.faults stage.old) (S.faults stage.new) }
+    ensures faulted { Faulted (failed_call result) (S.faults stage.old) (S.faults stage.new) }
     ensures cause { IfErr result (λ c. IsWriting c × Rose (S.faults stage.old c) (S.faults stage.new c)) }
     ensures blank { S.Tells stage.old → OnOk result (IsBlank (0 ∷ []) (S.standing stage.new).disk) }
     ensures beside { S.Tells stage.old → IsBeside (S.standing stage.old) (S.standing stage.new) }
@@ -36,6 +37,7 @@ fn write_header<S: Stage>(stage: &mut S, game: &[u8; 32]) -> Result<(), StageCal
     requires blank { S.Tells stage.old → IsBlank (0 ∷ []) (S.standing stage.old).disk }
     ensures tells { S.Tells stage.old ↔ S.Tells stage.new }
     ensures counts { Grows (S.faults stage.old) (S.faults stage.new) }
+    ensures faulted { Faulted (failed_call result) (S.faults stage.old) (S.faults stage.new) }
     ensures cause { IfErr result (λ c. IsWriting c × Rose (S.faults stage.old c) (S.faults stage.new c)) }
     ensures blank { S.Tells stage.old → OnOk result (IsBlank (made_header 0 game.now) (S.standing stage.new).disk) }
     ensures beside { S.Tells stage.old → IsBeside (S.standing stage.old) (S.standing stage.new) }
@@ -64,6 +66,7 @@ fn write_slots<S: Stage>(stage: &mut S, bytes: &[u8]) -> Result<(), StageCall>
     requires slot { length bytes.now ≡ slot_length }
     ensures tells { S.Tells stage.old ↔ S.Tells stage.new }
     ensures counts { Grows (S.faults stage.old) (S.faults stage.new) }
+    ensures faulted { Faulted (failed_call result) (S.faults stage.old) (S.faults stage.new) }
     ensures cause { IfErr result (λ c. IsWriting c × Rose (S.faults stage.old c) (S.faults stage.new c)) }
     ensures written { S.Tells stage.old → OnOk result ((S.standing stage.new).disk ≡ stable ((S.standing stage.old).disk.bytes ++ bytes.now ++ bytes.now)) }
     ensures beside { S.Tells stage.old → IsBeside (S.standing stage.old) (S.standing stage.new) }
@@ -85,6 +88,7 @@ pub(crate) fn lay_out<S: Stage>(
     requires slot { length bytes.now ≡ slot_length }
     ensures tells { S.Tells stage.old ↔ S.Tells stage.new }
     ensures counts { Grows (S.faults stage.old) (S.faults stage.new) }
+    ensures faulted { Faulted (failed_call result) (S.faults stage.old) (S.faults stage.new) }
     ensures cause { IfErr result (λ c. IsWriting c × Rose (S.faults stage.old c) (S.faults stage.new c)) }
     ensures laid { S.Tells stage.old → OnOk result ((S.standing stage.new).disk ≡ stable (made_header 0 game.now ++ bytes.now ++ bytes.now)) }
     ensures beside { S.Tells stage.old → IsBeside (S.standing stage.old) (S.standing stage.new) }
@@ -101,6 +105,7 @@ pub(crate) fn mark<S: Stage>(stage: &mut S) -> Result<(), StageCall>
     requires long { S.Tells stage.old → length (S.standing stage.old).disk.bytes ≡ session_length }
     ensures tells { S.Tells stage.old ↔ S.Tells stage.new }
     ensures counts { Grows (S.faults stage.old) (S.faults stage.new) }
+    ensures faulted { Faulted (failed_call result) (S.faults stage.old) (S.faults stage.new) }
     ensures cause { IfErr result (λ c. IsWriting c × Rose (S.faults stage.old c) (S.faults stage.new c)) }
     ensures marked { S.Tells stage.old → OnOk result ((S.standing stage.new).disk ≡ stable (made_mark ∷ drop 1 (S.standing stage.old).disk.bytes)) }
     ensures beside { S.Tells stage.old → IsBeside (S.standing stage.old) (S.standing stage.new) }

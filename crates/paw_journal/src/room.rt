@@ -3,11 +3,11 @@
 ghost use Rattle.std.specs.Prelude.{◌≡◌, ◌+◌, ◌≤◌, ◌↔◌, ◌++◌, ℕ, List, length, take, IsSome, OnOk, IfErr};
 ghost use Rattle.paw_base.specs.Piece.{piece_limit};
 ghost use Rattle.paw_stage.specs.declared.StageCall.TheVariants as call;
-ghost use Rattle.paw_stage.specs.Stage.{Rose, Grows};
+ghost use Rattle.paw_stage.specs.Stage.{Rose, Grows, Faulted};
 ghost use Rattle.paw_stage.specs.Moments.{Passes, Still};
 ghost use Rattle.paw_journal.specs.declared.refusal.SessionPart.TheVariants as part;
 ghost use Rattle.paw_journal.specs.Session.{slot, slot_length, session_length, slot_shows, state_length, Damaged, Shown, slot_state, slot_piece, piece_length, stretch, zeros, made_slot};
-ghost use Rattle.paw_journal.specs.Journal.{slot_number};
+ghost use Rattle.paw_journal.specs.Journal.{slot_number, failed_call};
 
 use crate::changes::apply;
 use crate::layout::{
@@ -151,6 +151,7 @@ impl Room {
         requires whole { S.Tells stage.old → length (S.standing stage.old).disk.bytes ≡ session_length }
         ensures tells { S.Tells stage.old ↔ S.Tells stage.new }
         ensures counts { Grows (S.faults stage.old) (S.faults stage.new) }
+        ensures faulted { Faulted (failed_call result) (S.faults stage.old) (S.faults stage.new) }
         ensures cause { IfErr result (λ c. (c ≡ call.Read) × Rose (S.faults stage.old c) (S.faults stage.new c)) }
         ensures still { S.Tells stage.old → S.standing stage.new ≡ S.standing stage.old }
         ensures read { S.Tells stage.old → OnOk result (self.new.slot ≡ slot (slot_number which) (S.standing stage.old).disk.bytes) }

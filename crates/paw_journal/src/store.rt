@@ -3,9 +3,9 @@
 ghost use Rattle.std.specs.Prelude.{◌≡◌, ◌⊎◌, ◌↔◌, ◌+◌, ◌≤◌, [], length, take, drop, Ok, None, IsSome, OnOk, OnErr, IfOk, IfErr};
 ghost use Rattle.paw_stage.specs.declared.StageCall.TheVariants as call;
 ghost use Rattle.paw_stage.specs.Disk.{IsStable, stable, touched};
-ghost use Rattle.paw_stage.specs.Stage.{Rose, Grows, AttachesTo, WritesPart, wrote};
+ghost use Rattle.paw_stage.specs.Stage.{Rose, Grows, AttachesTo, WritesPart, wrote, Faulted};
 ghost use Rattle.paw_stage.specs.Moments.{Passes, Still, InAttach, InWrite, InSync};
-ghost use Rattle.paw_journal.specs.Journal.{IsAtRest};
+ghost use Rattle.paw_journal.specs.Journal.{IsAtRest, failed_call};
 
 use paw_stage::{Stage, StageCall};
 
@@ -23,6 +23,7 @@ pub fn attach<S: Stage>(stage: &mut S, name: &str) -> Result<Attached, StageCall
     requires synced { S.Tells stage.old → IsStable (S.standing stage.old).disk }
     ensures tells { S.Tells stage.old ↔ S.Tells stage.new }
     ensures counts { Grows (S.faults stage.old) (S.faults stage.new) }
+    ensures faulted { Faulted (failed_call result) (S.faults stage.old) (S.faults stage.new) }
     ensures cause { IfErr result (λ c. (c ≡ call.Attach) × Rose (S.faults stage.old c) (S.faults stage.new c)) }
     ensures attached { S.Tells stage.old → IfOk result (λ at. AttachesTo (S.standing stage.old) (S.standing stage.new) name.now (Ok at.length)) }
     ensures length { S.Tells stage.old → IfOk result (λ at. at.length ≡ length (S.standing stage.new).disk.bytes) }
@@ -45,6 +46,7 @@ pub(crate) fn read<S: Stage>(stage: &mut S, at: u64, into: &mut [u8]) -> Result<
     requires within { S.Tells stage.old → at + length into.old ≤ length (S.standing stage.old).disk.bytes }
     ensures tells { S.Tells stage.old ↔ S.Tells stage.new }
     ensures counts { Grows (S.faults stage.old) (S.faults stage.new) }
+    ensures faulted { Faulted (failed_call result) (S.faults stage.old) (S.faults stage.new) }
     ensures cause { IfErr result (λ c. (c ≡ call.Read) × Rose (S.faults stage.old c) (S.faults stage.new c)) }
     ensures still { S.Tells stage.old → S.standing stage.new ≡ S.standing stage.old }
     ensures read { S.Tells stage.old → OnOk result (into.new ≡ take (length into.old) (drop at (S.standing stage.old).disk.bytes)) }
@@ -65,6 +67,7 @@ pub(crate) fn write<S: Stage>(stage: &mut S, at: u64, bytes: &[u8]) -> Result<()
     requires within { S.Tells stage.old → at ≤ length (S.standing stage.old).disk.bytes }
     ensures tells { S.Tells stage.old ↔ S.Tells stage.new }
     ensures counts { Grows (S.faults stage.old) (S.faults stage.new) }
+    ensures faulted { Faulted (failed_call result) (S.faults stage.old) (S.faults stage.new) }
     ensures cause { IfErr result (λ c. (c ≡ call.Write) × Rose (S.faults stage.old c) (S.faults stage.new c)) }
     ensures written { S.Tells stage.old → OnOk result (S.standing stage.new ≡ wrote (S.standing stage.old) (touched at (length bytes.now) bytes.now (S.standing stage.old).disk) (length bytes.now)) }
     ensures part { S.Tells stage.old → OnErr result ((S.standing stage.new ≡ S.standing stage.old) ⊎ WritesPart (S.standing stage.old) (S.standing stage.new) at (length bytes.now)) }
@@ -83,6 +86,7 @@ pub(crate) fn write<S: Stage>(stage: &mut S, at: u64, bytes: &[u8]) -> Result<()
 pub(crate) fn sync<S: Stage>(stage: &mut S) -> Result<(), StageCall>
     ensures tells { S.Tells stage.old ↔ S.Tells stage.new }
     ensures counts { Grows (S.faults stage.old) (S.faults stage.new) }
+    ensures faulted { Faulted (failed_call result) (S.faults stage.old) (S.faults stage.new) }
     ensures cause { IfErr result (λ c. (c ≡ call.Sync) × Rose (S.faults stage.old c) (S.faults stage.new c)) }
     ensures synced { S.Tells stage.old → OnOk result (S.standing stage.new ≡ record (S.standing stage.old) { disk = stable (S.standing stage.old).disk.bytes }) }
     ensures part { S.Tells stage.old → OnErr result (S.standing stage.new ≡ S.standing stage.old) }

@@ -9,13 +9,13 @@ use Rattle.paw_stage.specs.Moments.{Moment, moment_of, InAttach, Still}
 use Rattle.paw_reading.specs.Turn.{text_of}
 use Rattle.paw_journal.specs.Session.{recover}
 use Rattle.paw_state.specs.State.{State}
-use Rattle.paw_stage.specs.Stage.{Rose, Grows}
+use Rattle.paw_stage.specs.Stage.{Rose, Grows, Faulted}
 use Rattle.paw_stage.specs.declared.StageCall.{StageCall}
-use Rattle.paw_journal.specs.Journal.{IsRefused, IsCaused}
+use Rattle.paw_journal.specs.Journal.{IsRefused, IsCaused, outside}
 use Rattle.paw_journal.specs.declared.refusal.JournalRefusal.{JournalRefusal}
 use Rattle.paw_journal.specs.declared.refusal.JournalRefusal.TheVariants as refusal
 use Rattle.paw_stage.proofs.Counted.{Rose_after}
-use Rattle.paw_play.specs.Calls.{IfOutside, IsSessionCall}
+use Rattle.paw_play.specs.Calls.{IfOutside, IsSessionCall, failed_call}
 use Rattle.paw_play.specs.Session.{IsKept}
 use Rattle.paw_play.specs.Play.{InPlay, InAgain, ShowsState, attached_to, store_bytes, going_on, kept_session, PlaysAgain, refused, unread}
 use Rattle.paw_play.specs.OnTheWay.{end_of}
@@ -79,3 +79,10 @@ outside_again first before after (refusal.Unmade n mark) grows c = tt
 outside_again first before after (refusal.Damaged part at) grows c = tt
 outside_again first before after (refusal.WrongGame kept found) grows c = tt
 outside_again first before after (refusal.Outside q) grows c = (rw c.0 tt, Rose_after (first q) (before q) (after q) (grows q) c.1)
+
+-- a search that found no session came to its end by the call that failed
+pub refused_faults : (r : JournalRefusal) (before after : StageCall → ℕ) → Faulted (outside r) before after → Faulted (failed_call (end_of r)) before after
+refused_faults (refusal.Unmade n mark) before after h = h
+refused_faults (refusal.Damaged part at) before after h = h
+refused_faults (refusal.WrongGame kept found) before after h = h
+refused_faults (refusal.Outside q) before after h = h

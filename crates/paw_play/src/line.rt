@@ -1,16 +1,16 @@
 // Playing with a session: each line is taken, committed and then shown.
 
 ghost use Rattle.std.specs.Prelude.{◌≡◌, ◌+◌, ◌*◌, ◌<◌, ◌≤◌, ◌^◌, ◌↔◌, ℕ, take, length, OnOk, IfOk, IfErr};
-ghost use Rattle.paw_stage.specs.Stage.{Standing, Rose, Grows};
+ghost use Rattle.paw_stage.specs.Stage.{Standing, Rose, Grows, Faulted};
 ghost use Rattle.paw_stage.specs.Moments.{Passes};
 ghost use Rattle.paw_turn.specs.Player.{Seat, IsSeated};
 ghost use Rattle.paw_turn.specs.Parts.{IsStanding};
 ghost use Rattle.paw_journal.specs.Session.{recover, Shown, kept_digest, state_length, piece_length};
 ghost use Rattle.paw_journal.specs.Store.{IsBeside, InStore, Leaves, IsEither};
-ghost use Rattle.paw_journal.specs.Journal.{Keeps, IsWriting};
+ghost use Rattle.paw_journal.specs.Journal.{Keeps, IsWriting, failed_call};
 ghost use Rattle.paw_play.specs.Play.{Played, InPlay};
 ghost use Rattle.paw_play.specs.OnTheWay.{seat_state, IsPlaying, PlaysTo};
-ghost use Rattle.paw_play.specs.Calls.{IfOutside, IsPlayCall};
+ghost use Rattle.paw_play.specs.Calls.{IfOutside, IsPlayCall, failed_or};
 ghost use Rattle.paw_play.specs.declared.TheConstants.{MOST_EVENTS};
 
 use crate::walk::{refused, told};
@@ -58,6 +58,7 @@ fn commit<S: Stage, T: Tables>(
     requires kept { S.Tells stage.old → Keeps journal room.old (S.standing stage.old) }
     ensures tells { S.Tells stage.old ↔ S.Tells stage.new }
     ensures counts { Grows (S.faults stage.old) (S.faults stage.new) }
+    ensures faulted { Faulted (failed_call result) (S.faults stage.old) (S.faults stage.new) }
     ensures cause { IfErr result (λ c. IsWriting c × Rose (S.faults stage.old c) (S.faults stage.new c)) }
     ensures shown { S.Tells stage.old → OnOk result (recover (S.standing stage.new).disk.bytes ≡ Shown (kept_digest (S.standing stage.old).disk.bytes) (seat_state events player.now) player.now.piece) }
     ensures kept { S.Tells stage.old → IfOk result (λ kept. Keeps kept room.new (S.standing stage.new)) }
@@ -87,6 +88,7 @@ pub(crate) fn play_line<S: Stage, T: Tables>(
     ensures draws { player.new.world.draws ≤ player.old.world.draws + 200000 }
     ensures tells { S.Tells stage.old ↔ S.Tells stage.new }
     ensures counts { Grows (S.faults stage.old) (S.faults stage.new) }
+    ensures faulted { Faulted (failed_or result) (S.faults stage.old) (S.faults stage.new) }
     ensures outside { IfErr result (λ o. IfOutside o (λ c. IsPlayCall c × Rose (S.faults stage.old c) (S.faults stage.new c))) }
     ensures events { IfOk result (λ next. next.events ≡ session.events + 1) }
     ensures kept { S.Tells stage.old → IfOk result (λ next. Keeps next.journal room.new (S.standing stage.new)) }

@@ -4,7 +4,7 @@ ghost use Rattle.std.specs.Prelude.{◌≡◌, ◌⊎◌, ◌+◌, ◌-◌, ◌*
 ghost use Rattle.sha2.specs.Sha256.{sha256};
 ghost use Rattle.paw_game.specs.Image.{image};
 ghost use Rattle.paw_stage.specs.Disk.{IsStable};
-ghost use Rattle.paw_stage.specs.Stage.{Standing, Rose, Grows};
+ghost use Rattle.paw_stage.specs.Stage.{Standing, Rose, Grows, Faulted};
 ghost use Rattle.paw_stage.specs.Moments.{Moment, Passes};
 ghost use Rattle.paw_effects.specs.Built.{AllBuilt};
 ghost use Rattle.paw_reading.specs.Turn.{reading};
@@ -12,7 +12,7 @@ ghost use Rattle.paw_turn.specs.Player.{IsSeated, IsNew};
 ghost use Rattle.paw_journal.specs.Journal.{IsAtRest, Keeps};
 ghost use Rattle.paw_play.specs.Play.{Played, InPlay, InGame, PlaysOn, PlaysGame, store_bytes};
 ghost use Rattle.paw_play.specs.OnTheWay.{InMaking, IsPlaying, PlaysInStore, Begins, IsStore, new_session};
-ghost use Rattle.paw_play.specs.Calls.{IfOutside, IsPlayCall, IsSessionCall};
+ghost use Rattle.paw_play.specs.Calls.{IfOutside, IsPlayCall, IsSessionCall, failed_call, failed_or};
 ghost use Rattle.paw_play.specs.declared.TheConstants.{MOST_EVENTS};
 
 use crate::line::{Session, play_line, put_state};
@@ -38,6 +38,7 @@ pub(crate) fn play_lines<S: Stage, T: Tables>(
     requires kept { S.Tells stage.old → Keeps session.journal room.old (S.standing stage.old) }
     ensures tells { S.Tells stage.old ↔ S.Tells stage.new }
     ensures counts { Grows (S.faults stage.old) (S.faults stage.new) }
+    ensures faulted { Faulted (failed_call result) (S.faults stage.old) (S.faults stage.new) }
     ensures outside { IfOutside result (λ c. IsPlayCall c × Rose (S.faults stage.old c) (S.faults stage.new c)) }
     ensures meaning { S.Tells stage.old → (s : Played) (first : Standing) → IsPlaying s first (S.standing stage.old) player.old 0 → session.events ≡ s.before →
         PlaysOn s (MOST_EVENTS - s.before) first (S.standing stage.new) result }
@@ -73,6 +74,7 @@ fn begin<S: Stage, T: Tables>(
     ensures draws { player.new.world.draws ≤ 200000 }
     ensures tells { S.Tells stage.old ↔ S.Tells stage.new }
     ensures counts { Grows (S.faults stage.old) (S.faults stage.new) }
+    ensures faulted { Faulted (failed_or result) (S.faults stage.old) (S.faults stage.new) }
     ensures outside { IfErr result (λ o. IfOutside o (λ c. IsPlayCall c × Rose (S.faults stage.old c) (S.faults stage.new c))) }
     ensures events { IfOk result (λ session. session.events ≡ 0) }
     ensures kept { S.Tells stage.old → IfOk result (λ session. Keeps session.journal room.new (S.standing stage.new)) }
@@ -114,6 +116,7 @@ fn play_in<S: Stage, T: Tables>(
     requires attached { S.Tells stage.old → at.length ≡ length (S.standing stage.old).disk.bytes }
     ensures tells { S.Tells stage.old ↔ S.Tells stage.new }
     ensures counts { Grows (S.faults stage.old) (S.faults stage.new) }
+    ensures faulted { Faulted (failed_call result) (S.faults stage.old) (S.faults stage.new) }
     ensures outside { IfOutside result (λ c. IsPlayCall c × Rose (S.faults stage.old c) (S.faults stage.new c)) }
     ensures plays { S.Tells stage.old → (name : List ℕ) → IsStore name (S.standing stage.old) →
         PlaysInStore (new_session (T.game tables.now) seed game.now name) (S.standing stage.old) (S.standing stage.new) result }
@@ -150,6 +153,7 @@ pub fn play_loop<S: Stage, T: Tables>(
     requires synced { S.Tells stage.old → IsStable (S.standing stage.old).disk }
     ensures tells { S.Tells stage.old ↔ S.Tells stage.new }
     ensures counts { Grows (S.faults stage.old) (S.faults stage.new) }
+    ensures faulted { Faulted (failed_call result) (S.faults stage.old) (S.faults stage.new) }
     ensures outside { IfOutside result (λ c. IsSessionCall c × Rose (S.faults stage.old c) (S.faults stage.new c)) }
     ensures plays { S.Tells stage.old → PlaysGame (T.game tables.now) seed name.now (S.standing stage.old) (S.standing stage.new) result }
     ensures any_moment { S.Tells stage.old → store_bytes (S.standing stage.old) name.now ≡ [] →

@@ -4,7 +4,7 @@ ghost use Rattle.std.specs.Prelude.{◌≡◌, ◌⊎◌, ◌+◌, ◌-◌, ◌*
 ghost use Rattle.sha2.specs.Sha256.{sha256};
 ghost use Rattle.paw_game.specs.Image.{image};
 ghost use Rattle.paw_stage.specs.Disk.{IsStable};
-ghost use Rattle.paw_stage.specs.Stage.{Standing, Rose, Grows};
+ghost use Rattle.paw_stage.specs.Stage.{Standing, Rose, Grows, Faulted};
 ghost use Rattle.paw_stage.specs.Moments.{Passes, InShow};
 ghost use Rattle.paw_effects.specs.Built.{AllBuilt};
 ghost use Rattle.paw_state.specs.State.{State};
@@ -13,7 +13,7 @@ ghost use Rattle.paw_journal.specs.Session.{kept_digest};
 ghost use Rattle.paw_journal.specs.Journal.{IsAtRest, Keeps};
 ghost use Rattle.paw_play.specs.Play.{Played, InPlay, InAgain, PlaysUp, PlaysAgain, ShowsState, kept_session, store_bytes};
 ghost use Rattle.paw_play.specs.OnTheWay.{IsPlaying, IsStore, ShowsAgain, end_of};
-ghost use Rattle.paw_play.specs.Calls.{IfOutside, IsPlayCall, IsSessionCall};
+ghost use Rattle.paw_play.specs.Calls.{IfOutside, IsPlayCall, IsSessionCall, failed_call, failed_so_far};
 ghost use Rattle.paw_play.specs.declared.TheConstants.{MOST_EVENTS};
 
 use crate::PlayEnd;
@@ -32,6 +32,7 @@ use std::alloc::Global;
 fn show_again<S: Stage>(stage: &mut S, piece: &[u8], prompt: Prompt) -> Option<PlayEnd>
     ensures tells { S.Tells stage.old ↔ S.Tells stage.new }
     ensures counts { Grows (S.faults stage.old) (S.faults stage.new) }
+    ensures faulted { Faulted (failed_so_far result) (S.faults stage.old) (S.faults stage.new) }
     ensures outside { IfSome result (λ o. IfOutside o (λ c. IsPlayCall c × Rose (S.faults stage.old c) (S.faults stage.new c))) }
     ensures meaning { S.Tells stage.old → ShowsAgain (S.standing stage.old) (S.standing stage.new) piece.now prompt result }
     ensures time { S.Tells stage.old → Passes (S.clock stage.old) (S.clock stage.new) (S.since stage.old) (S.since stage.new) (InShow (S.standing stage.old) piece.now) }
@@ -70,6 +71,7 @@ fn take_up<S: Stage, T: Tables>(
     requires kept { S.Tells stage.old → Keeps journal room.old (S.standing stage.old) }
     ensures tells { S.Tells stage.old ↔ S.Tells stage.new }
     ensures counts { Grows (S.faults stage.old) (S.faults stage.new) }
+    ensures faulted { Faulted (failed_call result) (S.faults stage.old) (S.faults stage.new) }
     ensures outside { IfOutside result (λ c. IsPlayCall c × Rose (S.faults stage.old c) (S.faults stage.new c)) }
     ensures plays { S.Tells stage.old → (name : List ℕ) → IsStore name (S.standing stage.old) →
         PlaysUp (T.game tables.now) (kept_digest (S.standing stage.old).disk.bytes) name (S.standing stage.old) (S.standing stage.new) result }
@@ -114,6 +116,7 @@ pub fn resume_loop<S: Stage, T: Tables>(
     requires synced { S.Tells stage.old → IsStable (S.standing stage.old).disk }
     ensures tells { S.Tells stage.old ↔ S.Tells stage.new }
     ensures counts { Grows (S.faults stage.old) (S.faults stage.new) }
+    ensures faulted { Faulted (failed_call result) (S.faults stage.old) (S.faults stage.new) }
     ensures outside { IfOutside result (λ c. IsSessionCall c × Rose (S.faults stage.old c) (S.faults stage.new c)) }
     ensures plays { S.Tells stage.old → PlaysAgain (T.game tables.now) game.now name.now (S.standing stage.old) (S.standing stage.new) result }
     ensures any_moment { S.Tells stage.old → (st : State) (piece : List ℕ) → ShowsState (T.game tables.now) game.now (store_bytes (S.standing stage.old) name.now) st piece →

@@ -1,7 +1,7 @@
 // Showing texts.
 
-ghost use Rattle.std.specs.Prelude.{◌≡◌, ◌<◌, ◌++◌, ◌↔◌, ℕ, length, take, OnOk, OnErr, IsErr};
-ghost use Rattle.paw_stage.specs.Stage.{Rose, Grows};
+ghost use Rattle.std.specs.Prelude.{◌≡◌, ◌<◌, ◌++◌, ◌↔◌, ℕ, length, take, OnOk, OnErr, IsErr, Some, None};
+ghost use Rattle.paw_stage.specs.Stage.{Rose, Grows, Faulted};
 ghost use Rattle.paw_stage.specs.Moments.{Passes, InShow};
 ghost use Rattle.paw_stage.specs.declared.StageCall.TheVariants as call;
 
@@ -14,6 +14,8 @@ use paw_stage::{Failed, Stage};
 pub fn show<S: Stage>(stage: &mut S, text: &[u8]) -> Result<(), Failed>
     ensures tells { S.Tells stage.old ↔ S.Tells stage.new }
     ensures counts { Grows (S.faults stage.old) (S.faults stage.new) }
+    ensures fine { OnOk result (Faulted None (S.faults stage.old) (S.faults stage.new)) }
+    ensures failed { OnErr result (Faulted (Some call.Show) (S.faults stage.old) (S.faults stage.new)) }
     ensures cause { IsErr result → Rose (S.faults stage.old call.Show) (S.faults stage.new call.Show) }
     ensures some { IsErr result → 0 < length text.now }
     ensures shown { S.Tells stage.old → OnOk result (S.standing stage.new ≡ record (S.standing stage.old) { shown = (S.standing stage.old).shown ++ text.now }) }

@@ -1,14 +1,14 @@
 // A walk through a game.
 
-ghost use Rattle.std.specs.Prelude.{◌≡◌, ◌+◌, ◌<◌, ◌≤◌, ◌^◌, ◌↔◌, ℕ, [], IfSome};
+ghost use Rattle.std.specs.Prelude.{◌≡◌, ◌+◌, ◌<◌, ◌≤◌, ◌^◌, ◌↔◌, ℕ, [], IfSome, None};
 ghost use Rattle.paw_effects.specs.Built.{AllBuilt};
-ghost use Rattle.paw_stage.specs.Stage.{Standing, Rose, Grows};
+ghost use Rattle.paw_stage.specs.Stage.{Standing, Rose, Grows, Faulted};
 ghost use Rattle.paw_reading.specs.Turn.{reading};
 ghost use Rattle.paw_stage.specs.Moments.{Passes, InShow};
 ghost use Rattle.paw_turn.specs.Player.{IsSeated};
 ghost use Rattle.paw_play.specs.Walk.{Reading, Walks};
 ghost use Rattle.paw_play.specs.OnTheWay.{IsWalking, WalksOn, Told, refusal_of};
-ghost use Rattle.paw_play.specs.Calls.{IfOutside, IsWalkCall};
+ghost use Rattle.paw_play.specs.Calls.{IfOutside, IsWalkCall, failed_call, failed_so_far};
 ghost use Rattle.paw_play.specs.declared.TheConstants.{MOST_EVENTS};
 
 use crate::show::show;
@@ -21,6 +21,7 @@ use std::alloc::Global;
 /// What a step comes to that brings no piece: the piece was spent, or a call was too deep. None where it brings one.
 pub(crate) fn refused(step: Step) -> Option<PlayEnd>
     ensures value { result ≡ refusal_of step }
+    ensures fine { failed_so_far result ≡ None }
 {
     match step {
         Step::Waits(_) | Step::Ended => None,
@@ -38,6 +39,7 @@ pub(crate) fn told<S: Stage, T: Tables>(
     requires last { player.now.last ≡ step }
     ensures tells { S.Tells stage.old ↔ S.Tells stage.new }
     ensures counts { Grows (S.faults stage.old) (S.faults stage.new) }
+    ensures faulted { Faulted (failed_so_far result) (S.faults stage.old) (S.faults stage.new) }
     ensures outside { IfSome result (λ o. IfOutside o (λ c. IsWalkCall c × Rose (S.faults stage.old c) (S.faults stage.new c))) }
     ensures meaning { S.Tells stage.old → Told (S.standing stage.old) (S.standing stage.new) player.now.piece step result }
     ensures time { S.Tells stage.old → Passes (S.clock stage.old) (S.clock stage.new) (S.since stage.old) (S.since stage.new) (InShow (S.standing stage.old) player.now.piece) }
@@ -64,6 +66,7 @@ fn walk_line<S: Stage, T: Tables>(stage: &mut S, player: &mut Player<'_, T>) -> 
     ensures draws { player.new.world.draws ≤ player.old.world.draws + 200000 }
     ensures tells { S.Tells stage.old ↔ S.Tells stage.new }
     ensures counts { Grows (S.faults stage.old) (S.faults stage.new) }
+    ensures faulted { Faulted (failed_so_far result) (S.faults stage.old) (S.faults stage.new) }
     ensures outside { IfSome result (λ o. IfOutside o (λ c. IsWalkCall c × Rose (S.faults stage.old c) (S.faults stage.new c))) }
     ensures meaning { S.Tells stage.old → (whole : Reading) (most n : ℕ) (first : Standing) → IsWalking whole first (S.standing stage.old) player.old n →
         n < most → WalksOn whole most first (S.standing stage.new) player.new n result }
@@ -85,6 +88,7 @@ fn walk_lines<S: Stage, T: Tables>(stage: &mut S, player: &mut Player<'_, T>) ->
     requires draws { player.old.world.draws ≤ 200000 }
     ensures tells { S.Tells stage.old ↔ S.Tells stage.new }
     ensures counts { Grows (S.faults stage.old) (S.faults stage.new) }
+    ensures faulted { Faulted (failed_call result) (S.faults stage.old) (S.faults stage.new) }
     ensures outside { IfOutside result (λ c. IsWalkCall c × Rose (S.faults stage.old c) (S.faults stage.new c)) }
     ensures meaning { S.Tells stage.old → (whole : Reading) (first : Standing) → IsWalking whole first (S.standing stage.old) player.old 0 →
         Walks whole MOST_EVENTS first (S.standing stage.new) result }
@@ -110,6 +114,7 @@ pub fn walk_loop<S: Stage, T: Tables>(
     requires built { AllBuilt (T.game tables.now) }
     ensures tells { S.Tells stage.old ↔ S.Tells stage.new }
     ensures counts { Grows (S.faults stage.old) (S.faults stage.new) }
+    ensures faulted { Faulted (failed_call result) (S.faults stage.old) (S.faults stage.new) }
     ensures outside { IfOutside result (λ c. IsWalkCall c × Rose (S.faults stage.old c) (S.faults stage.new c)) }
     ensures walks { S.Tells stage.old → Walks (reading (T.game tables.now) [] seed) MOST_EVENTS (S.standing stage.old) (S.standing stage.new) result }
 {

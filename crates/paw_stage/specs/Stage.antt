@@ -3,6 +3,9 @@ use Rattle.std.specs.Prelude.{◌≡◌, ◌≢◌, ◌⊎◌, ℕ, ◌+◌, ◌
 use Rattle.std.specs.Str.{bytes_eq}
 use Rattle.paw_stage.specs.Disk.{Disk, stable, IsInWrite}
 use Rattle.paw_stage.specs.declared.StageCall.{StageCall}
+use Rattle.paw_stage.specs.declared.StageCall.TheVariants as call
+use Rattle.paw_stage.specs.declared.LoadRefusal.{LoadRefusal}
+use Rattle.paw_stage.specs.declared.LoadRefusal.TheVariants as refusal
 use Rattle.paw_stage.specs.declared.Failed.{Failed}
 use Rattle.paw_stage.specs.declared.Asked.{Asked}
 use Rattle.paw_stage.specs.declared.Asked.TheVariants as asked
@@ -49,6 +52,30 @@ Rose old new = (old < new) ⊎ (new ≡ 2 ^ 64 - 1)
 -- No count of faults falls.
 abbrev pub Grows : (StageCall → ℕ) → (StageCall → ℕ) → Type 0
 Grows old new = (c : StageCall) → old c ≤ new c
+
+-- What a call did to the counts, or several calls one after the other, by which one of them failed: its count rose, and
+-- no other changed. Where none failed, none changed.
+abbrev pub Faulted : Option StageCall → (StageCall → ℕ) → (StageCall → ℕ) → Type 0
+Faulted None old new = (c : StageCall) → new c ≡ old c
+Faulted (Some failed) old new = Rose (old failed) (new failed) × ((c : StageCall) → c ≢ failed → new c ≡ old c)
+
+-- Whether a call failed, by its answer.
+abbrev pub failed_in : {A : Type 0} → StageCall → Result A Failed → Option StageCall
+failed_in call (Ok answer) = None
+failed_in call (Err e) = Some call
+
+-- Whether a load failed, by its answer, and as which of its two calls that counts. Want of memory is no fault of it.
+abbrev pub failed_load : {A : Type 0} → Result A LoadRefusal → Option StageCall
+failed_load (Ok bytes) = None
+failed_load (Err refusal.Absent) = Some call.LoadAbsent
+failed_load (Err refusal.Failed) = Some call.Load
+failed_load (Err refusal.Memory) = None
+
+-- Whether an ask failed, by its answer.
+abbrev pub failed_ask : Asked → Option StageCall
+failed_ask (asked.Line n) = None
+failed_ask asked.End = None
+failed_ask asked.Failed = Some call.Ask
 
 -- The first n bytes are a line's, at most 255 of them.
 pub record IsCut (line bytes : List ℕ) (n : ℕ) : Type 0 where

@@ -1,8 +1,8 @@
 // A count of faults for each call, kept by every stage.
 
-ghost use Rattle.std.specs.Prelude.{◌≡◌, IsErr, OnOk, OnErr};
+ghost use Rattle.std.specs.Prelude.{◌≡◌, IsErr, OnOk, OnErr, Some};
 ghost use Rattle.paw_stage.specs.Faults.{count_of, no_faults, raised};
-ghost use Rattle.paw_stage.specs.Stage.{Rose, Grows};
+ghost use Rattle.paw_stage.specs.Stage.{Rose, Grows, Faulted, failed_in};
 
 use crate::{Failed, StageCall};
 
@@ -43,6 +43,7 @@ impl FaultCounts {
         ensures raised { self.new ≡ raised call self.old }
         ensures rose { Rose (count_of self.old call) (count_of self.new call) }
         ensures grows { Grows (count_of self.old) (count_of self.new) }
+        ensures faulted { Faulted (Some call) (count_of self.old) (count_of self.new) }
     {
         match call {
             StageCall::Load => self.load = self.load.saturating_add(1),
@@ -64,6 +65,7 @@ impl FaultCounts {
         ensures raised { OnErr result (self.new ≡ raised call self.old) }
         ensures rose { IsErr result → Rose (count_of self.old call) (count_of self.new call) }
         ensures grows { Grows (count_of self.old) (count_of self.new) }
+        ensures faulted { Faulted (failed_in call result) (count_of self.old) (count_of self.new) }
     {
         if answer.is_err() {
             self.raise(call);

@@ -27,15 +27,18 @@ pub fn read_file<R: Files>(
     }
 }
 
-/// Makes a file hold these bytes. Where it fails the file may hold a first part of them.
+/// Makes a file hold these bytes, and syncs it before it is closed, so that a fault of the disk that comes late fails
+/// too. Where it fails the file may hold a first part of them.
 pub fn write_file<R: Files>(rt: &R, name: &str, bytes: &[u8]) -> Result<(), Failed> {
     let mut file = fs::create(rt, name).map_err(|_| Failed)?;
-    write_whole(&mut file, bytes)
+    write_whole(&mut file, bytes)?;
+    file.sync_all().map_err(|_| Failed)
 }
 
 /// Opens a file to be read and written in parts, and gives its length in bytes. A missing file is made empty.
 ///
-/// The file and its folder are synced, so that a crash leaves just what a read gives.
+/// The file and its folder are synced, so that a crash leaves just what a read gives. The file's descriptor is none of
+/// those of the standard streams.
 pub fn open_store<R: Files>(rt: &R, name: &str) -> Result<(R::File, u64), Failed> {
     let file = open_synced(rt, name).map_err(|_| Failed)?;
     let length = file.metadata().map_err(|_| Failed)?.len();
@@ -43,6 +46,9 @@ pub fn open_store<R: Files>(rt: &R, name: &str) -> Result<(R::File, u64), Failed
 }
 
 // Opens a file, makes it where it is missing, and syncs it and its folder.
+//
+// A file that is opened takes the lowest free descriptor. Where the program was started with a standard stream closed, that
+// is the stream's, and what is shown would be written to the file. A copy has a descriptor above those three.
 fn open_synced<R: Files>(rt: &R, name: &str) -> io::Result<R::File> {
     let file = File::options()
         .read(true)
@@ -51,7 +57,7 @@ fn open_synced<R: Files>(rt: &R, name: &str) -> io::Result<R::File> {
         .open(rt, name)?;
     file.sync_all()?;
     fs::open(rt, folder_of(name))?.sync_all()?;
-    Ok(file)
+    file.try_clone()
 }
 
 // The folder that the file of a name lies in.

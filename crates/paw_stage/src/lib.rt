@@ -62,8 +62,8 @@ pub enum Asked {
 /// The outside: files by name, one of which may be attached as a store, the lines of a player and the text shown to them.
 ///
 /// A stage that *tells* says what stands at it, and what stood at each moment, inside its calls too; every stage tells how
-/// often each call has failed. A call that fails always raises its own count. What a clause doesn't name stays as it was
-/// before the call.
+/// often each call has failed. A call that fails raises its own count and no other, and one that doesn't fail raises none.
+/// What a clause doesn't name stays as it was before the call.
 ///
 /// A store is a file. What a crash leaves of it follows the disk of `specs/Disk.antt`: any bytes wherever it was written
 /// since the last sync, and all others as they were.
@@ -74,7 +74,7 @@ pub trait Stage {
     ghost use Rattle.paw_stage.specs.declared.LoadRefusal.TheVariants as refusal;
     ghost use Rattle.paw_stage.specs.declared.Asked.TheVariants as asked;
     ghost use Rattle.paw_stage.specs.Disk.{IsStable, stable, touched};
-    ghost use Rattle.paw_stage.specs.Stage.{Standing, Rose, Grows, AsksTo, Saves, AttachesTo, WritesPart, wrote};
+    ghost use Rattle.paw_stage.specs.Stage.{Standing, Rose, Grows, Faulted, failed_in, failed_load, failed_ask, AsksTo, Saves, AttachesTo, WritesPart, wrote};
     ghost use Rattle.paw_stage.specs.Moments.{Moment, moment_of, Passes, Still, InAsk, InShow, InSave, InAttach, InWrite, InSync};
 
     /// Whether the stage tells what stands at it. The clauses on what stands hold only of a stage that does; one
@@ -104,6 +104,7 @@ pub trait Stage {
         ensures counts { Grows (faults self.old) (faults self.new) }
         ensures absent { result ≡ Err refusal.Absent → Rose (faults self.old call.LoadAbsent) (faults self.new call.LoadAbsent) }
         ensures cause { result ≡ Err refusal.Failed → Rose (faults self.old call.Load) (faults self.new call.Load) }
+        ensures faulted { Faulted (failed_load result) (faults self.old) (faults self.new) }
         ensures still { Tells self.old → standing self.new ≡ standing self.old }
         ensures found { Tells self.old → IfOk result (λ v. (bytes : List ℕ) × ((standing self.old).files name.now ≡ Some bytes) × (v.items ≡ take (most + 1) bytes)) }
         ensures missing { Tells self.old → result ≡ Err refusal.Absent → (standing self.old).files name.now ≡ None }
@@ -115,6 +116,7 @@ pub trait Stage {
         ensures tells { Tells self.old ↔ Tells self.new }
         ensures counts { Grows (faults self.old) (faults self.new) }
         ensures cause { IsErr result → Rose (faults self.old call.Save) (faults self.new call.Save) }
+        ensures faulted { Faulted (failed_in call.Save result) (faults self.old) (faults self.new) }
         ensures saved { Tells self.old → OnOk result (Saves (standing self.old) (standing self.new) name.now (Some bytes.now)) }
         ensures part { Tells self.old → OnErr result ((standing self.new ≡ standing self.old) ⊎ ((left : Option (List ℕ)) × Saves (standing self.old) (standing self.new) name.now left)) }
         ensures time { Tells self.old → Passes (clock self.old) (clock self.new) (since self.old) (since self.new) (InSave (standing self.old) name.now) };
@@ -128,6 +130,7 @@ pub trait Stage {
         ensures tells { Tells self.old ↔ Tells self.new }
         ensures counts { Grows (faults self.old) (faults self.new) }
         ensures cause { IsErr result → Rose (faults self.old call.Attach) (faults self.new call.Attach) }
+        ensures faulted { Faulted (failed_in call.Attach result) (faults self.old) (faults self.new) }
         ensures answer { Tells self.old → AttachesTo (standing self.old) (standing self.new) name.now result }
         ensures time { Tells self.old → Passes (clock self.old) (clock self.new) (since self.old) (since self.new) (InAttach (standing self.old) (standing self.new) name.now) };
 
@@ -139,6 +142,7 @@ pub trait Stage {
         ensures tells { Tells self.old ↔ Tells self.new }
         ensures counts { Grows (faults self.old) (faults self.new) }
         ensures cause { IsErr result → Rose (faults self.old call.Read) (faults self.new call.Read) }
+        ensures faulted { Faulted (failed_in call.Read result) (faults self.old) (faults self.new) }
         ensures still { Tells self.old → standing self.new ≡ standing self.old }
         ensures read { Tells self.old → OnOk result (into.new ≡ take (length into.old) (drop at (standing self.old).disk.bytes)) }
         ensures time { Tells self.old → Passes (clock self.old) (clock self.new) (since self.old) (since self.new) (Still (standing self.old)) };
@@ -151,6 +155,7 @@ pub trait Stage {
         ensures tells { Tells self.old ↔ Tells self.new }
         ensures counts { Grows (faults self.old) (faults self.new) }
         ensures cause { IsErr result → Rose (faults self.old call.Write) (faults self.new call.Write) }
+        ensures faulted { Faulted (failed_in call.Write result) (faults self.old) (faults self.new) }
         ensures written { Tells self.old → OnOk result (standing self.new ≡ wrote (standing self.old) (touched at (length bytes.now) bytes.now (standing self.old).disk) (length bytes.now)) }
         ensures part { Tells self.old → OnErr result ((standing self.new ≡ standing self.old) ⊎ WritesPart (standing self.old) (standing self.new) at (length bytes.now)) }
         ensures time { Tells self.old → Passes (clock self.old) (clock self.new) (since self.old) (since self.new) (InWrite (standing self.old) at (length bytes.now)) };
@@ -160,6 +165,7 @@ pub trait Stage {
         ensures tells { Tells self.old ↔ Tells self.new }
         ensures counts { Grows (faults self.old) (faults self.new) }
         ensures cause { IsErr result → Rose (faults self.old call.Sync) (faults self.new call.Sync) }
+        ensures faulted { Faulted (failed_in call.Sync result) (faults self.old) (faults self.new) }
         ensures synced { Tells self.old → OnOk result (standing self.new ≡ record (standing self.old) { disk = stable (standing self.old).disk.bytes }) }
         ensures part { Tells self.old → OnErr result (standing self.new ≡ standing self.old) }
         ensures time { Tells self.old → Passes (clock self.old) (clock self.new) (since self.old) (since self.new) (InSync (standing self.old)) };
@@ -172,6 +178,7 @@ pub trait Stage {
         ensures tells { Tells self.old ↔ Tells self.new }
         ensures counts { Grows (faults self.old) (faults self.new) }
         ensures cause { result ≡ asked.Failed → Rose (faults self.old call.Ask) (faults self.new call.Ask) }
+        ensures faulted { Faulted (failed_ask result) (faults self.old) (faults self.new) }
         ensures answer { Tells self.old → AsksTo (standing self.old) (standing self.new) result into.new }
         ensures time { Tells self.old → Passes (clock self.old) (clock self.new) (since self.old) (since self.new) (InAsk (standing self.old) result) };
 
@@ -180,6 +187,7 @@ pub trait Stage {
         ensures tells { Tells self.old ↔ Tells self.new }
         ensures counts { Grows (faults self.old) (faults self.new) }
         ensures cause { IsErr result → Rose (faults self.old call.Show) (faults self.new call.Show) }
+        ensures faulted { Faulted (failed_in call.Show result) (faults self.old) (faults self.new) }
         ensures shown { Tells self.old → OnOk result (standing self.new ≡ record (standing self.old) { shown = (standing self.old).shown ++ text.now }) }
         ensures part { Tells self.old → OnErr result ((n : ℕ) × (standing self.new ≡ record (standing self.old) { shown = (standing self.old).shown ++ take n text.now })) }
         ensures time { Tells self.old → Passes (clock self.old) (clock self.new) (since self.old) (since self.new) (InShow (standing self.old) text.now) };

@@ -6,7 +6,7 @@ ghost use Rattle.paw_stage.specs.declared.StageCall.TheVariants as call;
 ghost use Rattle.paw_stage.specs.declared.LoadRefusal.TheVariants as refusal;
 ghost use Rattle.paw_stage.specs.declared.Asked.TheVariants as asked;
 ghost use Rattle.paw_stage.specs.Disk.{MayLeave, IsStable, stable, touched};
-ghost use Rattle.paw_stage.specs.Stage.{Rose, Grows, IsCut, AsksTo, Saves, AttachesTo, WritesPart, wrote};
+ghost use Rattle.paw_stage.specs.Stage.{Rose, Grows, Faulted, failed_in, failed_load, failed_ask, IsCut, AsksTo, Saves, AttachesTo, WritesPart, wrote};
 ghost use Rattle.paw_stage.specs.Moments.{Passes, Still, InAsk, InShow, InSave, InAttach, InWrite, InSync};
 ghost use Rattle.paw_stage.specs.Faults.{count_of};
 ghost use Rattle.paw_stage.specs.Crash.{crashed};
@@ -128,6 +128,7 @@ impl Stage for MemoryStage {
         ensures counts { Grows (count_of self.old.counts) (count_of self.new.counts) }
         ensures absent { result ≡ Err refusal.Absent → Rose (count_of self.old.counts call.LoadAbsent) (count_of self.new.counts call.LoadAbsent) }
         ensures cause { result ≡ Err refusal.Failed → Rose (count_of self.old.counts call.Load) (count_of self.new.counts call.Load) }
+        ensures faulted { Faulted (failed_load result) (count_of self.old.counts) (count_of self.new.counts) }
         ensures still { standing_of self.new ≡ standing_of self.old }
         ensures found { IfOk result (λ v. (bytes : List ℕ) × ((standing_of self.old).files name.now ≡ Some bytes) × (v.items ≡ take (most + 1) bytes)) }
         ensures missing { result ≡ Err refusal.Absent → (standing_of self.old).files name.now ≡ None }
@@ -157,6 +158,7 @@ impl Stage for MemoryStage {
     fn save(&mut self, name: &str, bytes: &[u8]) -> Result<(), Failed>
         ensures counts { Grows (count_of self.old.counts) (count_of self.new.counts) }
         ensures cause { IsErr result → Rose (count_of self.old.counts call.Save) (count_of self.new.counts call.Save) }
+        ensures faulted { Faulted (failed_in call.Save result) (count_of self.old.counts) (count_of self.new.counts) }
         ensures saved { OnOk result (Saves (standing_of self.old) (standing_of self.new) name.now (Some bytes.now)) }
         ensures part { OnErr result ((standing_of self.new ≡ standing_of self.old) ⊎ ((left : Option (List ℕ)) × Saves (standing_of self.old) (standing_of self.new) name.now left)) }
         ensures time { Passes (clock_of self.old) (clock_of self.new) (moments_of self.old) (moments_of self.new) (InSave (standing_of self.old) name.now) }
@@ -177,6 +179,7 @@ impl Stage for MemoryStage {
         requires synced { IsStable (standing_of self.old).disk }
         ensures counts { Grows (count_of self.old.counts) (count_of self.new.counts) }
         ensures cause { IsErr result → Rose (count_of self.old.counts call.Attach) (count_of self.new.counts call.Attach) }
+        ensures faulted { Faulted (failed_in call.Attach result) (count_of self.old.counts) (count_of self.new.counts) }
         ensures answer { AttachesTo (standing_of self.old) (standing_of self.new) name.now result }
         ensures time { Passes (clock_of self.old) (clock_of self.new) (moments_of self.old) (moments_of self.new) (InAttach (standing_of self.old) (standing_of self.new) name.now) }
 
@@ -197,6 +200,7 @@ impl Stage for MemoryStage {
         requires within { at + length into.old ≤ length (standing_of self.old).disk.bytes }
         ensures counts { Grows (count_of self.old.counts) (count_of self.new.counts) }
         ensures cause { IsErr result → Rose (count_of self.old.counts call.Read) (count_of self.new.counts call.Read) }
+        ensures faulted { Faulted (failed_in call.Read result) (count_of self.old.counts) (count_of self.new.counts) }
         ensures still { standing_of self.new ≡ standing_of self.old }
         ensures read { OnOk result (into.new ≡ take (length into.old) (drop at (standing_of self.old).disk.bytes)) }
         ensures time { Passes (clock_of self.old) (clock_of self.new) (moments_of self.old) (moments_of self.new) (Still (standing_of self.old)) }
@@ -219,6 +223,7 @@ impl Stage for MemoryStage {
         requires within { at ≤ length (standing_of self.old).disk.bytes }
         ensures counts { Grows (count_of self.old.counts) (count_of self.new.counts) }
         ensures cause { IsErr result → Rose (count_of self.old.counts call.Write) (count_of self.new.counts call.Write) }
+        ensures faulted { Faulted (failed_in call.Write result) (count_of self.old.counts) (count_of self.new.counts) }
         ensures written { OnOk result (standing_of self.new ≡ wrote (standing_of self.old) (touched at (length bytes.now) bytes.now (standing_of self.old).disk) (length bytes.now)) }
         ensures part { OnErr result ((standing_of self.new ≡ standing_of self.old) ⊎ WritesPart (standing_of self.old) (standing_of self.new) at (length bytes.now)) }
         ensures time { Passes (clock_of self.old) (clock_of self.new) (moments_of self.old) (moments_of self.new) (InWrite (standing_of self.old) at (length bytes.now)) }
@@ -238,6 +243,7 @@ impl Stage for MemoryStage {
     fn sync(&mut self) -> Result<(), Failed>
         ensures counts { Grows (count_of self.old.counts) (count_of self.new.counts) }
         ensures cause { IsErr result → Rose (count_of self.old.counts call.Sync) (count_of self.new.counts call.Sync) }
+        ensures faulted { Faulted (failed_in call.Sync result) (count_of self.old.counts) (count_of self.new.counts) }
         ensures synced { OnOk result (standing_of self.new ≡ record (standing_of self.old) { disk = stable (standing_of self.old).disk.bytes }) }
         ensures part { OnErr result (standing_of self.new ≡ standing_of self.old) }
         ensures time { Passes (clock_of self.old) (clock_of self.new) (moments_of self.old) (moments_of self.new) (InSync (standing_of self.old)) }
@@ -257,6 +263,7 @@ impl Stage for MemoryStage {
     fn ask(&mut self, into: &mut [u8; 255]) -> Asked
         ensures counts { Grows (count_of self.old.counts) (count_of self.new.counts) }
         ensures cause { result ≡ asked.Failed → Rose (count_of self.old.counts call.Ask) (count_of self.new.counts call.Ask) }
+        ensures faulted { Faulted (failed_ask result) (count_of self.old.counts) (count_of self.new.counts) }
         ensures answer { AsksTo (standing_of self.old) (standing_of self.new) result into.new }
         ensures time { Passes (clock_of self.old) (clock_of self.new) (moments_of self.old) (moments_of self.new) (InAsk (standing_of self.old) result) }
 
@@ -284,6 +291,7 @@ impl Stage for MemoryStage {
     fn show(&mut self, text: &[u8]) -> Result<(), Failed>
         ensures counts { Grows (count_of self.old.counts) (count_of self.new.counts) }
         ensures cause { IsErr result → Rose (count_of self.old.counts call.Show) (count_of self.new.counts call.Show) }
+        ensures faulted { Faulted (failed_in call.Show result) (count_of self.old.counts) (count_of self.new.counts) }
         ensures shown { OnOk result (standing_of self.new ≡ record (standing_of self.old) { shown = (standing_of self.old).shown ++ text.now }) }
         ensures part { OnErr result ((n : ℕ) × (standing_of self.new ≡ record (standing_of self.old) { shown = (standing_of self.old).shown ++ take n text.now })) }
         ensures time { Passes (clock_of self.old) (clock_of self.new) (moments_of self.old) (moments_of self.new) (InShow (standing_of self.old) text.now) }

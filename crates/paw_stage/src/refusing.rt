@@ -6,7 +6,7 @@ ghost use Rattle.paw_stage.specs.declared.StageCall.TheVariants as call;
 ghost use Rattle.paw_stage.specs.declared.LoadRefusal.TheVariants as refusal;
 ghost use Rattle.paw_stage.specs.declared.Asked.TheVariants as asked;
 ghost use Rattle.paw_stage.specs.Disk.{IsStable, stable, touched};
-ghost use Rattle.paw_stage.specs.Stage.{Rose, Grows, AsksTo, Saves, AttachesTo, WritesPart, wrote};
+ghost use Rattle.paw_stage.specs.Stage.{Rose, Grows, Faulted, failed_in, failed_load, failed_ask, AsksTo, Saves, AttachesTo, WritesPart, wrote};
 ghost use Rattle.paw_stage.specs.Moments.{Passes, Still, InAsk, InShow, InSave, InAttach, InWrite, InSync};
 ghost use Rattle.paw_stage.specs.Faults.{no_faults};
 ghost use Rattle.paw_stage.specs.Done.{loaded, saved, attached_store, read_store, wrote_store, synced_store, took, ended, showed};
@@ -90,6 +90,7 @@ impl<R: Refusals + Drop> Stage for RefusingStage<R> {
         ensures counts { Grows (faults_of self.old) (faults_of self.new) }
         ensures absent { result ≡ Err refusal.Absent → Rose (faults_of self.old call.LoadAbsent) (faults_of self.new call.LoadAbsent) }
         ensures cause { result ≡ Err refusal.Failed → Rose (faults_of self.old call.Load) (faults_of self.new call.Load) }
+        ensures faulted { Faulted (failed_load result) (faults_of self.old) (faults_of self.new) }
         ensures still { standing_of self.new.inner ≡ standing_of self.old.inner }
         ensures found { IfOk result (λ v. (bytes : List ℕ) × ((standing_of self.old.inner).files name.now ≡ Some bytes) × (v.items ≡ take (most + 1) bytes)) }
         ensures missing { result ≡ Err refusal.Absent → (standing_of self.old.inner).files name.now ≡ None }
@@ -114,6 +115,7 @@ impl<R: Refusals + Drop> Stage for RefusingStage<R> {
     fn save(&mut self, name: &str, bytes: &[u8]) -> Result<(), Failed>
         ensures counts { Grows (faults_of self.old) (faults_of self.new) }
         ensures cause { IsErr result → Rose (faults_of self.old call.Save) (faults_of self.new call.Save) }
+        ensures faulted { Faulted (failed_in call.Save result) (faults_of self.old) (faults_of self.new) }
         ensures saved { OnOk result (Saves (standing_of self.old.inner) (standing_of self.new.inner) name.now (Some bytes.now)) }
         ensures part { OnErr result ((standing_of self.new.inner ≡ standing_of self.old.inner) ⊎ ((left : Option (List ℕ)) × Saves (standing_of self.old.inner) (standing_of self.new.inner) name.now left)) }
         ensures time { Passes (clock_of self.old.inner) (clock_of self.new.inner) (moments_of self.old.inner) (moments_of self.new.inner) (InSave (standing_of self.old.inner) name.now) }
@@ -135,6 +137,7 @@ impl<R: Refusals + Drop> Stage for RefusingStage<R> {
         requires synced { IsStable (standing_of self.old.inner).disk }
         ensures counts { Grows (faults_of self.old) (faults_of self.new) }
         ensures cause { IsErr result → Rose (faults_of self.old call.Attach) (faults_of self.new call.Attach) }
+        ensures faulted { Faulted (failed_in call.Attach result) (faults_of self.old) (faults_of self.new) }
         ensures answer { AttachesTo (standing_of self.old.inner) (standing_of self.new.inner) name.now result }
         ensures time { Passes (clock_of self.old.inner) (clock_of self.new.inner) (moments_of self.old.inner) (moments_of self.new.inner) (InAttach (standing_of self.old.inner) (standing_of self.new.inner) name.now) }
 
@@ -156,6 +159,7 @@ impl<R: Refusals + Drop> Stage for RefusingStage<R> {
         requires within { at + length into.old ≤ length (standing_of self.old.inner).disk.bytes }
         ensures counts { Grows (faults_of self.old) (faults_of self.new) }
         ensures cause { IsErr result → Rose (faults_of self.old call.Read) (faults_of self.new call.Read) }
+        ensures faulted { Faulted (failed_in call.Read result) (faults_of self.old) (faults_of self.new) }
         ensures still { standing_of self.new.inner ≡ standing_of self.old.inner }
         ensures read { OnOk result (into.new ≡ take (length into.old) (drop at (standing_of self.old.inner).disk.bytes)) }
         ensures time { Passes (clock_of self.old.inner) (clock_of self.new.inner) (moments_of self.old.inner) (moments_of self.new.inner) (Still (standing_of self.old.inner)) }
@@ -178,6 +182,7 @@ impl<R: Refusals + Drop> Stage for RefusingStage<R> {
         requires within { at ≤ length (standing_of self.old.inner).disk.bytes }
         ensures counts { Grows (faults_of self.old) (faults_of self.new) }
         ensures cause { IsErr result → Rose (faults_of self.old call.Write) (faults_of self.new call.Write) }
+        ensures faulted { Faulted (failed_in call.Write result) (faults_of self.old) (faults_of self.new) }
         ensures written { OnOk result (standing_of self.new.inner ≡ wrote (standing_of self.old.inner) (touched at (length bytes.now) bytes.now (standing_of self.old.inner).disk) (length bytes.now)) }
         ensures part { OnErr result ((standing_of self.new.inner ≡ standing_of self.old.inner) ⊎ WritesPart (standing_of self.old.inner) (standing_of self.new.inner) at (length bytes.now)) }
         ensures time { Passes (clock_of self.old.inner) (clock_of self.new.inner) (moments_of self.old.inner) (moments_of self.new.inner) (InWrite (standing_of self.old.inner) at (length bytes.now)) }
@@ -198,6 +203,7 @@ impl<R: Refusals + Drop> Stage for RefusingStage<R> {
     fn sync(&mut self) -> Result<(), Failed>
         ensures counts { Grows (faults_of self.old) (faults_of self.new) }
         ensures cause { IsErr result → Rose (faults_of self.old call.Sync) (faults_of self.new call.Sync) }
+        ensures faulted { Faulted (failed_in call.Sync result) (faults_of self.old) (faults_of self.new) }
         ensures synced { OnOk result (standing_of self.new.inner ≡ record (standing_of self.old.inner) { disk = stable (standing_of self.old.inner).disk.bytes }) }
         ensures part { OnErr result (standing_of self.new.inner ≡ standing_of self.old.inner) }
         ensures time { Passes (clock_of self.old.inner) (clock_of self.new.inner) (moments_of self.old.inner) (moments_of self.new.inner) (InSync (standing_of self.old.inner)) }
@@ -218,6 +224,7 @@ impl<R: Refusals + Drop> Stage for RefusingStage<R> {
     fn ask(&mut self, into: &mut [u8; 255]) -> Asked
         ensures counts { Grows (faults_of self.old) (faults_of self.new) }
         ensures cause { result ≡ asked.Failed → Rose (faults_of self.old call.Ask) (faults_of self.new call.Ask) }
+        ensures faulted { Faulted (failed_ask result) (faults_of self.old) (faults_of self.new) }
         ensures answer { AsksTo (standing_of self.old.inner) (standing_of self.new.inner) result into.new }
         ensures time { Passes (clock_of self.old.inner) (clock_of self.new.inner) (moments_of self.old.inner) (moments_of self.new.inner) (InAsk (standing_of self.old.inner) result) }
 
@@ -238,6 +245,7 @@ impl<R: Refusals + Drop> Stage for RefusingStage<R> {
     fn show(&mut self, text: &[u8]) -> Result<(), Failed>
         ensures counts { Grows (faults_of self.old) (faults_of self.new) }
         ensures cause { IsErr result → Rose (faults_of self.old call.Show) (faults_of self.new call.Show) }
+        ensures faulted { Faulted (failed_in call.Show result) (faults_of self.old) (faults_of self.new) }
         ensures shown { OnOk result (standing_of self.new.inner ≡ record (standing_of self.old.inner) { shown = (standing_of self.old.inner).shown ++ text.now }) }
         ensures part { OnErr result ((n : ℕ) × (standing_of self.new.inner ≡ record (standing_of self.old.inner) { shown = (standing_of self.old.inner).shown ++ take n text.now })) }
         ensures time { Passes (clock_of self.old.inner) (clock_of self.new.inner) (moments_of self.old.inner) (moments_of self.new.inner) (InShow (standing_of self.old.inner) text.now) }

@@ -1,13 +1,18 @@
 -- Answers that name a call that failed.
-use Rattle.std.proofs.Common.{◌≡◌, ℕ, ◌≤◌, inl, inr, arith, sym, subst}
-use Rattle.paw_stage.specs.Stage.{Rose, Grows}
+use Rattle.std.proofs.Common.{◌≡◌, ℕ, ◌≤◌, None, inl, inr, refl, arith, sym, subst}
+use Rattle.std.specs.Prelude.{Result}
+use Rattle.paw_base.specs.declared.fault.SourceFault.{SourceFault}
+use Rattle.paw_game.specs.Game.{GameLists}
+use Rattle.paw_stage.specs.Stage.{Rose, Grows, Faulted}
+use Rattle.paw_stage.proofs.Counted.{Faulted_on}
 use Rattle.paw_stage.specs.declared.StageCall.{StageCall}
 use Rattle.paw_stage.specs.declared.StageCall.TheVariants as call
 use Rattle.paw_journal.specs.declared.refusal.JournalRefusal.TheVariants as refusal
 use Rattle.paw_play.specs.Calls as play
 use Rattle.paw_play.specs.declared.PlayEnd.{PlayEnd}
 use Rattle.paw_play.specs.declared.PlayEnd.TheVariants as end
-use Rattle.paw_top.specs.Answers.{IfOutside, IfMemory, IsCall, IsKeptCall, IsLoadMemory, IsPlayMemory, IsCompileMemory, IsDecompileMemory}
+use Rattle.paw_top.specs.Answers.{IfOutside, IfMemory, failed_call, IsCall, IsKeptCall, IsLoadMemory, IsPlayMemory, IsCompileMemory, IsDecompileMemory}
+use Rattle.paw_top.specs.Compile.{IsRefusal}
 use Rattle.paw_top.specs.Ends.{outcome_of}
 use Rattle.paw_top.specs.declared.outcome.Outcome.{Outcome}
 use Rattle.paw_top.specs.declared.outcome.Outcome.TheVariants as outcome
@@ -120,3 +125,31 @@ ended_memory end.Memory = tt
 
 pub played_memory : (o : PlayEnd) (p : Outcome) → p ≡ outcome_of o → IfMemory p IsPlayMemory
 played_memory o p e = subst (λ q. IfMemory q IsPlayMemory) (sym e) (ended_memory o)
+
+-- ---- counts of faults ----
+
+-- the call that failed is the one that is answered
+failed_same : (o : PlayEnd) → failed_call (outcome_of o) ≡ play.failed_call o
+failed_same end.Ended = refl
+failed_same end.InputEnded = refl
+failed_same (end.Occupied n) = refl
+failed_same (end.Refused (refusal.Unmade n mark)) = refl
+failed_same (end.Refused (refusal.Damaged p at)) = refl
+failed_same (end.Refused (refusal.WrongGame kept found)) = refl
+failed_same (end.Refused (refusal.Outside c)) = refl
+failed_same (end.State at) = refl
+failed_same (end.Spent kind) = refl
+failed_same (end.TooDeep table) = refl
+failed_same (end.Long events) = refl
+failed_same (end.Outside c) = refl
+failed_same end.Memory = refl
+
+pub played_faulted : (o : PlayEnd) (p : Outcome) (first mid last : StageCall → ℕ) → p ≡ outcome_of o → Faulted None first mid → Faulted (play.failed_call o) mid last →
+    Faulted (failed_call p) first last
+played_faulted o p first mid last e f g = rw (e, failed_same o) (Faulted_on (play.failed_call o) first mid last f g)
+
+-- a source that is refused made no call fail
+pub refused_faulted : (read : Result GameLists SourceFault) (o : Outcome) → IsRefusal read o → failed_call o ≡ None
+refused_faulted read (outcome.SourceRefused fault) h = refl
+refused_faulted read (outcome.Memory at) h = refl
+refused_faulted read _ h = absurd h

@@ -3,8 +3,8 @@
 ghost use Rattle.std.specs.Prelude.{◌≡◌, ◌≢◌, ◌↔◌, None, IfOk, IfErr};
 ghost use Rattle.paw_game.specs.Image.{image};
 ghost use Rattle.paw_stage.specs.Moments.{Passes, Still};
-ghost use Rattle.paw_stage.specs.Stage.{Standing, Rose, Grows};
-ghost use Rattle.paw_top.specs.Answers.{IfOutside, IfMemory, IsLoadCall, IsLoadMemory};
+ghost use Rattle.paw_stage.specs.Stage.{Standing, Rose, Grows, Faulted};
+ghost use Rattle.paw_top.specs.Answers.{IfOutside, IfMemory, IsLoadCall, IsLoadMemory, failed_or};
 ghost use Rattle.paw_top.specs.Loads.{Holds};
 ghost use Rattle.paw_top.specs.Opens.{Unopened};
 ghost use Rattle.paw_top.specs.Unbuilt.{first_unbuilt};
@@ -24,6 +24,7 @@ pub(crate) fn open_image<S: Stage>(
 ) -> Result<Image, Outcome>
     ensures tells { S.Tells stage.old ↔ S.Tells stage.new }
     ensures counts { Grows (S.faults stage.old) (S.faults stage.new) }
+    ensures faulted { Faulted (failed_or result) (S.faults stage.old) (S.faults stage.new) }
     ensures outside { IfErr result (λ o. IfOutside o (λ c. IsLoadCall c × Rose (S.faults stage.old c) (S.faults stage.new c))) }
     ensures form { IfErr result (λ o. o ≢ outcome.Usage) }
     ensures memory { IfErr result (λ o. IfMemory o IsLoadMemory) }

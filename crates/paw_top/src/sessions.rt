@@ -4,11 +4,11 @@ ghost use Rattle.std.specs.Prelude.{◌≡◌, ◌≢◌, ◌↔◌, ℕ, List, 
 ghost use Rattle.paw_game.specs.Game.{GameLists};
 ghost use Rattle.paw_stage.specs.Disk.{IsStable};
 ghost use Rattle.paw_stage.specs.Moments.{Passes};
-ghost use Rattle.paw_stage.specs.Stage.{Standing, Rose, Grows};
+ghost use Rattle.paw_stage.specs.Stage.{Standing, Rose, Grows, Faulted};
 ghost use Rattle.paw_state.specs.State.{State};
 ghost use Rattle.paw_play.specs.Play.{InGame, InAgain, InGoingOn, ShowsState, store_bytes};
 ghost use Rattle.paw_play.specs.Stands.{Stands, IsPlayedWith};
-ghost use Rattle.paw_top.specs.Answers.{IfOutside, IfMemory, IsKeptCall, IsPlayMemory};
+ghost use Rattle.paw_top.specs.Answers.{IfOutside, IfMemory, IsKeptCall, IsPlayMemory, failed_call};
 ghost use Rattle.paw_top.specs.Loads.{Holds};
 ghost use Rattle.paw_top.specs.Sessions.{PlaysNewIn, PlaysAgainIn, GoesOnIn, digest_of, session_from};
 ghost use Rattle.paw_top.specs.declared.outcome.Outcome.TheVariants as outcome;
@@ -32,6 +32,7 @@ pub(crate) fn play<S: Stage>(
     requires synced { S.Tells stage.old → IsStable (S.standing stage.old).disk }
     ensures tells { S.Tells stage.old ↔ S.Tells stage.new }
     ensures counts { Grows (S.faults stage.old) (S.faults stage.new) }
+    ensures faulted { Faulted (failed_call result) (S.faults stage.old) (S.faults stage.new) }
     ensures form { result ≢ outcome.Usage }
     ensures memory { IfMemory result IsPlayMemory }
     ensures outside { IfOutside result (λ c. IsKeptCall c × Rose (S.faults stage.old c) (S.faults stage.new c)) }
@@ -52,6 +53,7 @@ pub(crate) fn resume<S: Stage>(alloc: Global, stage: &mut S, image: &str, store:
     requires synced { S.Tells stage.old → IsStable (S.standing stage.old).disk }
     ensures tells { S.Tells stage.old ↔ S.Tells stage.new }
     ensures counts { Grows (S.faults stage.old) (S.faults stage.new) }
+    ensures faulted { Faulted (failed_call result) (S.faults stage.old) (S.faults stage.new) }
     ensures form { result ≢ outcome.Usage }
     ensures memory { IfMemory result IsPlayMemory }
     ensures outside { IfOutside result (λ c. IsKeptCall c × Rose (S.faults stage.old c) (S.faults stage.new c)) }

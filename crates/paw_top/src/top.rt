@@ -4,7 +4,7 @@ ghost use Rattle.std.specs.Prelude.{◌≡◌, ◌≢◌, ◌↔◌, ℕ, List, 
 ghost use Rattle.paw_game.specs.Game.{GameLists};
 ghost use Rattle.paw_stage.specs.Disk.{IsStable};
 ghost use Rattle.paw_stage.specs.Moments.{Passes};
-ghost use Rattle.paw_stage.specs.Stage.{Standing, Rose, Grows};
+ghost use Rattle.paw_stage.specs.Stage.{Standing, Rose, Grows, Faulted};
 ghost use Rattle.paw_state.specs.State.{State};
 ghost use Rattle.paw_play.specs.Play.{InGame, InAgain, InGoingOn, ShowsState, store_bytes};
 ghost use Rattle.paw_play.specs.Stands.{Stands, IsPlayedWith};
@@ -14,7 +14,7 @@ ghost use Rattle.paw_top.specs.Decompile.{Decompiles};
 ghost use Rattle.paw_top.specs.Loads.{Holds};
 ghost use Rattle.paw_top.specs.Walk.{WalksIn};
 ghost use Rattle.paw_top.specs.Sessions.{PlaysNewIn, PlaysAgainIn, GoesOnIn, digest_of, session_from};
-ghost use Rattle.paw_top.specs.Answers.{IfOutside, IfMemory, IsCall, IsPlayMemory, Makes, Needs};
+ghost use Rattle.paw_top.specs.Answers.{IfOutside, IfMemory, IsCall, IsPlayMemory, Makes, Needs, failed_call};
 ghost use Rattle.paw_top.specs.Completes.{NoFault, Completes};
 ghost use Rattle.paw_top.specs.declared.outcome.Outcome.TheVariants as outcome;
 
@@ -32,6 +32,7 @@ use std::alloc::Global;
 fn walk<S: Stage>(alloc: Global, stage: &mut S, image: &str, seed: u64) -> Outcome
     ensures tells { S.Tells stage.old ↔ S.Tells stage.new }
     ensures counts { Grows (S.faults stage.old) (S.faults stage.new) }
+    ensures faulted { Faulted (failed_call result) (S.faults stage.old) (S.faults stage.new) }
     ensures form { result ≢ outcome.Usage }
     ensures memory { IfMemory result IsPlayMemory }
     ensures outside { IfOutside result (λ c. IsCall c × Rose (S.faults stage.old c) (S.faults stage.new c)) }
@@ -60,13 +61,14 @@ fn walk<S: Stage>(alloc: Global, stage: &mut S, image: &str, seed: u64) -> Outco
 /// more (`GoesOnIn`), and whatever a crash leaves at any moment stands for them and all that were taken since, or for all but
 /// the last (`InGoingOn`).
 ///
-/// A call of the stage fails only with a fault that it counted, and is one that the command makes. Where the file to load is
-/// there and no call fails, the command does what it is for or refuses the file or the store, as `Completes` says, or memory
-/// was wanting.
+/// Where the answer is Outside the count of the call that it names rose, which is one that the command makes, and no other
+/// count did; where it isn't, no count of faults rose at all. Where the file to load is there and no call fails, the command
+/// does what it is for or refuses the file or the store, as `Completes` says, or memory was wanting.
 pub fn paw<S: Stage>(alloc: Global, stage: &mut S, words: &[String]) -> Outcome
     requires synced { S.Tells stage.old → IsStable (S.standing stage.old).disk }
     ensures tells { S.Tells stage.old ↔ S.Tells stage.new }
     ensures counts { Grows (S.faults stage.old) (S.faults stage.new) }
+    ensures faulted { Faulted (failed_call result) (S.faults stage.old) (S.faults stage.new) }
     ensures usage { (result ≡ outcome.Usage) ↔ (command_of (map string_bytes words.now) ≡ None) }
     ensures idle { command_of (map string_bytes words.now) ≡ None → stage.new ≡ stage.old }
     ensures outside { IfOutside result (λ c. Makes (command_of (map string_bytes words.now)) c × Rose (S.faults stage.old c) (S.faults stage.new c)) }

@@ -1,8 +1,10 @@
-use Rattle.std.proofs.Common.{◌≡◌, suc, ◌+◌, sym, ◌∙◌, arith}
+use Rattle.std.proofs.Common.{Some, None, ◌≡◌, suc, ◌+◌, sym, ◌∙◌, arith}
 use Rattle.paw_stage.specs.declared.Asked.TheVariants as asked
 use Rattle.paw_stage.proofs.Time.{Passes_map, Passes_on}
 use Rattle.paw_play.specs.Play.{InPlay}
 use Rattle.paw_play.proofs.Playing.{in_ask, no_line, no_ask, plays_refused, plays_not, plays_next, plays_last, in_commit, in_show, rests_more, shows_piece}
+use Rattle.paw_stage.proofs.Counted.{Faulted_on}
+use Rattle.paw_play.specs.Calls.{failed_call}
 use Rattle.paw_play.proofs.line.play_line.Goals as goal
 
 pub returns-in-End-clause-meaning : goal.returns-in-End-clause-meaning
@@ -124,3 +126,16 @@ returns-in-None-clause-any_moment g c = λ tells s most n first w events few.
     c.requires.seated c.take-step.ensures.seated c.take-step.ensures.game c.take-step.ensures.last a.1 a.2.same a.3
     (c.take-step.ensures.meaning w.walking.prompt w.walking.waits w.walking.pieces w.walking.traces) (shows_piece c.take-step.result c.in_default.ensures.value) counts (omega (arith, c.requires.few))
     m rests (c.commit.ensures.beside now))
+
+pub returns-in-Some-clause-faulted : goal.returns-in-Some-clause-faulted
+returns-in-Some-clause-faulted g c = rw c.in-Some.ensures.fine c.in-Line.ensures.faulted
+
+pub returns-in-Err-clause-faulted : goal.returns-in-Err-clause-faulted
+returns-in-Err-clause-faulted g c = Faulted_on (Some c.in-Err.call) _ _ _ c.in-Line.ensures.faulted c.in-Err.ensures.faulted
+
+pub returns-in-Some-told-clause-faulted : goal.returns-in-Some-told-clause-faulted
+returns-in-Some-told-clause-faulted g c =
+    Faulted_on (failed_call c.in-Some-told.end) _ _ _ (Faulted_on None _ _ _ c.in-Line.ensures.faulted c.in-Ok.ensures.faulted) c.in-Some-told.ensures.faulted
+
+pub returns-in-None-clause-faulted : goal.returns-in-None-clause-faulted
+returns-in-None-clause-faulted g c = Faulted_on None _ _ _ (Faulted_on None _ _ _ c.in-Line.ensures.faulted c.in-Ok.ensures.faulted) c.in-None.ensures.faulted

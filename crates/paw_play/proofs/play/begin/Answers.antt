@@ -1,4 +1,4 @@
-use Rattle.std.proofs.Common.{◌≡◌, ◌⊎◌, refl, sym, ap, ◌∙◌, subst, inl, inr}
+use Rattle.std.proofs.Common.{None, ◌≡◌, ◌⊎◌, refl, sym, ap, ◌∙◌, subst, inl, inr}
 use Rattle.paw_stage.proofs.Time.{Passes_map, Passes_on, Passes_none}
 use Rattle.paw_journal.specs.Session.{Shown, IsUnmade}
 use Rattle.paw_journal.specs.Store.{InStore, Leaves}
@@ -6,6 +6,8 @@ use Rattle.paw_play.specs.Play.{InPlay}
 use Rattle.paw_play.specs.OnTheWay.{seat_state, InMaking, new_session}
 use Rattle.paw_play.proofs.Playing.{shows_piece}
 use Rattle.paw_play.proofs.Beginning.{begin_refused, in_making, rests_first, in_first_show, begins_next, begins_last}
+use Rattle.paw_stage.proofs.Counted.{Faulted_on}
+use Rattle.paw_play.specs.Calls.{failed_call}
 use Rattle.paw_play.proofs.play.begin.Goals as goal
 
 pub returns-in-Some-clause-meaning : goal.returns-in-Some-clause-meaning
@@ -63,3 +65,12 @@ returns-in-None-clause-any_moment g c = λ tells name store.
     (subst (λ x. InStore (g.S.Stage.standing c.args.stage.now) (Leaves (λ r. IsUnmade r ⊎ (r ≡ x))) m) (ap (λ x. Shown c.args.game.now x c.piece.result.now) c.put_state.ensures.state ∙ ap (λ x. Shown c.args.game.now (seat_state 0 c.start-step.new.self) x) c.piece.ensures.value) i))))
     (c.told.ensures.time (c.create.ensures.tells.0 tells))
     (λ m i. inr (in_first_show (new_session c.args.player.now.game c.args.player.now.world.seed c.args.game.now name) _ (g.S.Stage.standing c.create.new.stage) c.start-step.new.self c.start-step.result refl store c.start-step.ensures.seated c.start-step.ensures.last c.start-step.ensures.meaning (shows_piece c.start-step.result c.in_default.ensures.value) (c.create.ensures.beside tells) m rests i))
+
+pub returns-in-Some-clause-faulted : goal.returns-in-Some-clause-faulted
+returns-in-Some-clause-faulted g c = rw c.in-Some.ensures.fine (λ k. refl)
+
+pub returns-in-Some-told-clause-faulted : goal.returns-in-Some-told-clause-faulted
+returns-in-Some-told-clause-faulted g c = Faulted_on (failed_call c.in-Some-told.end) _ _ _ c.in-Ok.ensures.faulted c.in-Some-told.ensures.faulted
+
+pub returns-in-None-clause-faulted : goal.returns-in-None-clause-faulted
+returns-in-None-clause-faulted g c = Faulted_on None _ _ _ c.in-Ok.ensures.faulted c.in-None.ensures.faulted

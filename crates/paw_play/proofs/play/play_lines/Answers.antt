@@ -1,9 +1,11 @@
-use Rattle.std.proofs.Common.{◌≡◌, ◌+◌, ◌-◌, ◌<◌, ◌≤◌, ◌∙◌, suc, arith, subst}
+use Rattle.std.proofs.Common.{◌≡◌, ◌+◌, ◌-◌, ◌<◌, ◌≤◌, ◌∙◌, suc, arith, subst, None}
 use Rattle.paw_stage.proofs.Time.{Passes_on}
 use Rattle.paw_play.specs.Play.{InPlay}
 use Rattle.paw_play.specs.OnTheWay.{IsPlaying}
 use Rattle.paw_play.specs.declared.TheConstants.{MOST_EVENTS}
 use Rattle.paw_play.proofs.Playing.{long_play}
+use Rattle.paw_stage.proofs.Counted.{Faulted_on}
+use Rattle.paw_play.specs.Calls.{failed_call}
 use Rattle.paw_play.proofs.play.play_lines.Goals as goal
 
 pub returns-in-Err-clause-meaning : goal.returns-in-Err-clause-meaning
@@ -32,6 +34,7 @@ loop-preserved g c =
       draws = omega (arith, c.play_line.ensures.draws, i.draws);
       tells = (λ t. c.play_line.ensures.tells.0 (i.tells.0 t), λ t. i.tells.1 (c.play_line.ensures.tells.1 t));
       counts = λ k. omega (arith, i.counts k, c.play_line.ensures.counts k);
+      faulted = Faulted_on None _ _ _ i.faulted c.in-Ok.ensures.faulted;
       kept = λ tells. c.in-Ok.ensures.kept (i.tells.0 tells);
       playing = λ tells s first start events.
           let few : c.loop.counter - s.before < MOST_EVENTS - s.before = omega (arith, c.loop-test.true, i.from, events) in
@@ -51,3 +54,6 @@ returns-clause-meaning g c = λ tells s first start events.
     let i = c.loop.invariant in
     let all : c.loop.counter - s.before ≡ MOST_EVENTS - s.before = omega (arith, c.loop-test.false, i.few) in
     long_play s (MOST_EVENTS - s.before) (c.loop.counter - s.before) first (g.S.Stage.standing c.loop.stage) c.loop.player (i.playing tells s first start events) i.seated all
+
+pub returns-in-Err-clause-faulted : goal.returns-in-Err-clause-faulted
+returns-in-Err-clause-faulted g c = Faulted_on (failed_call c.in-Err.end) _ _ _ c.loop.invariant.faulted c.in-Err.ensures.faulted

@@ -1,5 +1,5 @@
-use Rattle.std.proofs.Common.{◌≡◌, ◌+◌, ◌-◌, ◌*◌, ◌≤◌, ◌↔◌}
-use Rattle.paw_stage.specs.Stage.{Standing, Grows}
+use Rattle.std.proofs.Common.{◌≡◌, ◌+◌, ◌-◌, ◌*◌, ◌≤◌, ◌↔◌, None}
+use Rattle.paw_stage.specs.Stage.{Standing, Grows, Faulted}
 use Rattle.paw_stage.specs.Moments.{Passes}
 use Rattle.paw_turn.specs.Player.{IsSeated}
 use Rattle.paw_journal.specs.Journal.{Keeps}
@@ -18,6 +18,7 @@ invariant-loop g l = record {
   draws : l.player.world.draws ≤ 200000 * (l.counter + 1);
   tells : g.S.Stage.Tells l.fn.stage ↔ g.S.Stage.Tells l.stage;
   counts : Grows (g.S.Stage.faults l.fn.stage) (g.S.Stage.faults l.stage);
+  faulted : Faulted None (g.S.Stage.faults l.fn.stage) (g.S.Stage.faults l.stage);
   kept : g.S.Stage.Tells l.fn.stage → Keeps l.session.journal l.room (g.S.Stage.standing l.stage);
   playing : g.S.Stage.Tells l.fn.stage → (s : Played) (first : Standing) → IsPlaying s first (g.S.Stage.standing l.fn.stage) l.fn.player 0 → l.fn.session.events ≡ s.before →
       IsPlaying s first (g.S.Stage.standing l.stage) l.player (l.counter - s.before);

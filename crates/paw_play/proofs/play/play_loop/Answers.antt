@@ -6,6 +6,8 @@ use Rattle.paw_play.specs.Play.{Played, InGame, InPlay, unattached, occupied, pl
 use Rattle.paw_play.specs.OnTheWay.{InMaking, PlaysInStore, IsStore, new_session}
 use Rattle.paw_play.proofs.Attaching.{store_attached, store_empty, in_new_attach}
 use Rattle.paw_play.proofs.Games.{game_plays, in_game}
+use Rattle.paw_stage.proofs.Counted.{Faulted_on}
+use Rattle.paw_play.specs.Calls.{failed_call}
 use Rattle.paw_play.proofs.play.play_loop.Goals as goal
 
 pub returns-in-Err-clause-plays : goal.returns-in-Err-clause-plays
@@ -37,3 +39,6 @@ returns-clause-any_moment g c = λ tells empty.
     (λ m i. in_new_attach (g.T.Tables.game c.args.tables.now) c.args.seed c.args.name.now old (g.S.Stage.standing c.attach.new.stage) m a.1 empty i))
     (c.play_in.ensures.any_moment (c.attach.ensures.tells.0 tells) c.args.name.now store)
     (λ m i. in_game (g.T.Tables.game c.args.tables.now) c.args.seed c.args.game.now c.args.name.now c.requires.game old m (subst (λ q. InMaking s q m ⊎ InPlay s q m) a.1 i))
+
+pub returns-clause-faulted : goal.returns-clause-faulted
+returns-clause-faulted g c = Faulted_on (failed_call c.play_in.result) _ _ _ c.in-Ok.ensures.faulted c.play_in.ensures.faulted

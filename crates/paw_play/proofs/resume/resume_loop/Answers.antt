@@ -1,14 +1,15 @@
-use Rattle.std.proofs.Common.{◌≡◌, refl, sym, ap, ◌∙◌, subst}
+use Rattle.std.proofs.Common.{None, ◌≡◌, refl, sym, ap, ◌∙◌, subst}
 use Rattle.paw_stage.specs.Stage.{Standing, Rose}
 use Rattle.paw_stage.proofs.Time.{Passes_map, Passes_on}
 use Rattle.paw_stage.specs.Moments.{Passes}
 use Rattle.paw_journal.specs.Session.{kept_digest, recover}
 use Rattle.paw_journal.specs.Journal.{Finds, IsRefused}
-use Rattle.paw_play.specs.Calls.{IfOutside, IsSessionCall}
+use Rattle.paw_play.specs.Calls.{IfOutside, IsSessionCall, failed_call}
 use Rattle.paw_play.specs.Play.{InAgain, InPlay, PlaysAgain, PlaysUp, ShowsState, unattached, wanting, plays_up, attached_to, store_bytes, kept_session}
 use Rattle.paw_play.specs.OnTheWay.{IsStore}
 use Rattle.paw_play.proofs.Attaching.{store_attached}
-use Rattle.paw_play.proofs.Again.{in_again_attach, in_finding, in_taking_up, refused_again, outside_again}
+use Rattle.paw_play.proofs.Again.{in_again_attach, in_finding, in_taking_up, refused_again, outside_again, refused_faults}
+use Rattle.paw_stage.proofs.Counted.{Faulted_on}
 use Rattle.paw_play.proofs.resume.resume_loop.Goals as goal
 
 pub returns-in-Err-clause-plays : goal.returns-in-Err-clause-plays
@@ -74,3 +75,12 @@ returns-clause-any_moment g c = λ tells st piece shows.
     up
     (λ m i. in_taking_up (g.T.Tables.game c.args.tables.now) c.args.game.now c.args.name.now st piece (g.S.Stage.standing c.args.stage.now) c.counts-counts.ensures.valid shows m
     (subst (λ q. InPlay (kept_session (g.T.Tables.game c.args.tables.now) st piece c.args.game.now c.args.name.now) q m) is (subst (λ d. InPlay (kept_session (g.T.Tables.game c.args.tables.now) st piece d c.args.name.now) (g.S.Stage.standing c.find.new.stage) m) (c.in-Ok-find.ensures.digest now) i)))
+
+pub returns-in-Err-find-clause-faulted : goal.returns-in-Err-find-clause-faulted
+returns-in-Err-find-clause-faulted g c =
+    Faulted_on (failed_call c.not_found.result) _ _ _ c.in-Ok.ensures.faulted
+    (rw c.not_found.ensures.value (refused_faults c.in-Err-find.refusal _ _ c.in-Err-find.ensures.faulted))
+
+pub returns-clause-faulted : goal.returns-clause-faulted
+returns-clause-faulted g c =
+    Faulted_on (failed_call c.take_up.result) _ _ _ (Faulted_on None _ _ _ c.in-Ok.ensures.faulted c.in-Ok-find.ensures.faulted) c.take_up.ensures.faulted

@@ -13,6 +13,8 @@ use Rattle.paw_play.specs.Play.{InPlay, ShowsState, kept_session, memory, no_sta
 use Rattle.paw_play.specs.OnTheWay.{ShowsAgain}
 use Rattle.paw_play.proofs.Showing.{shows_kept, buffer_long, one_state, read_fits, read_line}
 use Rattle.paw_play.proofs.Resuming.{in_again_show, again_next, again_last}
+use Rattle.paw_stage.proofs.Counted.{Faulted_on}
+use Rattle.paw_play.specs.Calls.{failed_call}
 use Rattle.paw_play.proofs.resume.take_up.Goals as goal
 
 not_ok : (r : Result Restored StateFault) (e : StateFault) → r ≡ Err e → IsOk r → ⊥
@@ -88,3 +90,6 @@ returns-clause-any_moment g c = λ tells name store st piece shows.
     subst (λ q. Passes (g.S.Stage.clock c.args.stage.now) (g.S.Stage.clock c.play_lines.new.stage) (g.S.Stage.since c.args.stage.now) (g.S.Stage.since c.play_lines.new.stage) (InPlay (kept_session (g.T.Tables.game c.args.tables.now) q piece (kept_digest (g.S.Stage.standing c.args.stage.now).disk.bytes) name) (g.S.Stage.standing c.args.stage.now))) one.0
     (subst (λ q. Passes (g.S.Stage.clock c.args.stage.now) (g.S.Stage.clock c.play_lines.new.stage) (g.S.Stage.since c.args.stage.now) (g.S.Stage.since c.play_lines.new.stage) (InPlay (kept_session (g.T.Tables.game c.args.tables.now) (state_read c.in-Ok.restored) q (kept_digest (g.S.Stage.standing c.args.stage.now).disk.bytes) name) (g.S.Stage.standing c.args.stage.now))) one.1
     (Passes_on _ _ _ _ _ _ (InPlay (kept_session (g.T.Tables.game c.args.tables.now) (state_read c.in-Ok.restored) c.args.room.now.piece (kept_digest (g.S.Stage.standing c.args.stage.now).disk.bytes) name) (g.S.Stage.standing c.args.stage.now)) _ (Passes_map _ _ _ _ _ (InPlay (kept_session (g.T.Tables.game c.args.tables.now) (state_read c.in-Ok.restored) c.args.room.now.piece (kept_digest (g.S.Stage.standing c.args.stage.now).disk.bytes) name) (g.S.Stage.standing c.args.stage.now)) (c.in_default-show_again.ensures.time tells) (λ m i. in_again_show (g.T.Tables.game c.args.tables.now) (kept_digest (g.S.Stage.standing c.args.stage.now).disk.bytes) name c.in-Ok.restored.world c.in-Ok.restored.machine c.in-Ok.restored.pending c.in-Ok.restored.prompt c.in-Ok.restored.events c.in-Ok.restored.piece (MOST_EVENTS - c.in-Ok.restored.events) c.args.room.now.piece (g.S.Stage.standing c.args.stage.now) c.in-Ok-adopt.player long c.in-Ok-adopt.ensures.value c.in-Ok-adopt.ensures.seated store refl kept is.keeps.events m (subst (λ x. InShow (g.S.Stage.standing c.args.stage.now) x m) c.piece.ensures.value i))) (c.play_lines.ensures.any_moment (c.show_again.ensures.tells.0 tells) (kept_session (g.T.Tables.game c.args.tables.now) (state_read c.in-Ok.restored) c.args.room.now.piece (kept_digest (g.S.Stage.standing c.args.stage.now).disk.bytes) name) (g.S.Stage.standing c.args.stage.now) start refl) (λ m j. j)))
+
+pub returns-clause-faulted : goal.returns-clause-faulted
+returns-clause-faulted g c = Faulted_on (failed_call c.play_lines.result) _ _ _ c.in_default-show_again.ensures.faulted c.play_lines.ensures.faulted

@@ -1,4 +1,6 @@
 use Rattle.paw_play.proofs.Walking.{walks_on, none_left, none_asked}
+use Rattle.paw_stage.proofs.Counted.{Faulted_on}
+use Rattle.paw_play.specs.Calls.{failed_so_far}
 use Rattle.paw_play.proofs.walk.walk_line.Goals as goal
 
 pub returns-in-Line-clause-meaning : goal.returns-in-Line-clause-meaning
@@ -13,3 +15,6 @@ returns-in-End-clause-meaning g c = λ tells whole most n first w few. none_left
 
 pub returns-in-Failed-clause-meaning : goal.returns-in-Failed-clause-meaning
 returns-in-Failed-clause-meaning g c = λ tells whole most n first w few. none_asked whole most n first _ _ c.args.player.now w few c.requires.seated (c.in-Failed.ensures.answer tells)
+
+pub returns-in-Line-clause-faulted : goal.returns-in-Line-clause-faulted
+returns-in-Line-clause-faulted g c = Faulted_on (failed_so_far c.told.result) _ _ _ c.in-Line.ensures.faulted c.told.ensures.faulted

@@ -1,6 +1,8 @@
-use Rattle.std.proofs.Common.{◌≡◌, ◌<◌, ◌∙◌, arith, add-one}
+use Rattle.std.proofs.Common.{◌≡◌, ◌<◌, ◌∙◌, arith, add-one, None}
 use Rattle.paw_play.specs.declared.TheConstants.{MOST_EVENTS}
 use Rattle.paw_play.proofs.Walking.{long_walk}
+use Rattle.paw_stage.proofs.Counted.{Faulted_on}
+use Rattle.paw_play.specs.Calls.{failed_call}
 use Rattle.paw_play.proofs.walk.walk_lines.Goals as goal
 
 pub returns-in-Some-clause-meaning : goal.returns-in-Some-clause-meaning
@@ -16,6 +18,7 @@ loop-preserved g c = record {
   draws = omega (arith, c.walk_line.ensures.draws, c.loop.invariant.draws);
   tells = (λ t. c.walk_line.ensures.tells.0 (c.loop.invariant.tells.0 t), λ t. c.loop.invariant.tells.1 (c.walk_line.ensures.tells.1 t));
   counts = λ k. omega (arith, c.loop.invariant.counts k, c.walk_line.ensures.counts k);
+  faulted = Faulted_on None _ _ _ c.loop.invariant.faulted c.in_default.ensures.faulted;
   walking = λ tells whole first start.
       let w = c.loop.invariant.walking tells whole first start in
       let few : c.loop.counter < MOST_EVENTS = omega (arith, c.loop-test.true) in
@@ -28,3 +31,6 @@ returns-clause-meaning g c = λ tells whole first start.
     let all : c.loop.counter ≡ MOST_EVENTS = omega (arith, c.loop-test.false, c.loop.auto.counter-end) in
     long_walk whole MOST_EVENTS c.loop.counter first (g.S.Stage.standing c.loop.stage) c.loop.player
     (c.loop.invariant.walking tells whole first start) c.loop.invariant.seated all
+
+pub returns-in-Some-clause-faulted : goal.returns-in-Some-clause-faulted
+returns-in-Some-clause-faulted g c = Faulted_on (failed_call c.in-Some.end) _ _ _ c.loop.invariant.faulted c.in-Some.ensures.faulted

@@ -1,5 +1,5 @@
-use Rattle.std.proofs.Common.{◌≡◌, ◌+◌, ◌*◌, ◌≤◌, ◌↔◌, ℕ}
-use Rattle.paw_stage.specs.Stage.{Standing, Grows}
+use Rattle.std.proofs.Common.{◌≡◌, ◌+◌, ◌*◌, ◌≤◌, ◌↔◌, ℕ, None}
+use Rattle.paw_stage.specs.Stage.{Standing, Grows, Faulted}
 use Rattle.paw_turn.specs.Player.{IsSeated}
 use Rattle.paw_play.specs.Walk.{Reading}
 use Rattle.paw_play.specs.OnTheWay.{IsWalking}
@@ -13,6 +13,7 @@ invariant-loop g l = record {
   draws : l.player.world.draws ≤ 200000 * (l.counter + 1);
   tells : g.S.Stage.Tells l.fn.stage ↔ g.S.Stage.Tells l.stage;
   counts : Grows (g.S.Stage.faults l.fn.stage) (g.S.Stage.faults l.stage);
+  faulted : Faulted None (g.S.Stage.faults l.fn.stage) (g.S.Stage.faults l.stage);
   walking : g.S.Stage.Tells l.fn.stage → (whole : Reading) (first : Standing) → IsWalking whole first (g.S.Stage.standing l.fn.stage) l.fn.player 0 →
       IsWalking whole first (g.S.Stage.standing l.stage) l.player l.counter;
 }

@@ -4,7 +4,7 @@ use Rattle.paw_stage.specs.Stage.{Standing}
 use Rattle.paw_stage.proofs.Time.{Passes_map, Passes_on}
 use Rattle.paw_play.specs.Play.{InGame, store_bytes}
 use Rattle.paw_top.specs.Sessions.{PlaysNewIn, plays, unopened}
-use Rattle.paw_top.proofs.Answering.{kept_outside}
+use Rattle.paw_top.proofs.Answering.{kept_outside, played_faulted}
 use Rattle.paw_top.proofs.Completing.{same_game}
 use Rattle.paw_top.proofs.Found.{all_built}
 use Rattle.paw_top.proofs.OpenedSessions.{still_new, game_moment, plays_game}
@@ -40,3 +40,6 @@ returns-clause-any_moment g c = λ tells game holds empty.
     (Passes_map _ _ _ _ _ (InGame game c.args.seed c.args.store.now old) (c.in-Ok.ensures.time tells) (λ m e. still_new game c.args.seed c.args.store.now old m e))
     (c.play_loop.ensures.any_moment (c.open_image.ensures.tells.0 tells) (subst (λ q. store_bytes q c.args.store.now ≡ []) (sym still) empty))
     (λ m i. game_moment game c.in-Ok.image.game c.args.seed c.args.store.now old (g.S.Stage.standing c.open_image.new.stage) m still same i)
+
+pub returns-clause-faulted : goal.returns-clause-faulted
+returns-clause-faulted g c = played_faulted c.play_loop.result c.outcome_of.result _ _ _ c.outcome_of.ensures.value c.in-Ok.ensures.faulted c.play_loop.ensures.faulted

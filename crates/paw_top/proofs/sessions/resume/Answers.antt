@@ -5,7 +5,7 @@ use Rattle.paw_stage.proofs.Time.{Passes_map, Passes_on}
 use Rattle.paw_play.specs.Play.{Played, InAgain, InGoingOn, kept_session, store_bytes}
 use Rattle.paw_play.proofs.Standing.{standing_shows, in_going_on}
 use Rattle.paw_top.specs.Sessions.{PlaysAgainIn, GoesOnIn, plays, unopened, session_from, digest_of}
-use Rattle.paw_top.proofs.Answering.{kept_outside}
+use Rattle.paw_top.proofs.Answering.{kept_outside, played_faulted}
 use Rattle.paw_top.proofs.Completing.{same_game}
 use Rattle.paw_top.proofs.Found.{all_built}
 use Rattle.paw_top.proofs.OpenedSessions.{still_again, still_on, again_moment, plays_again, goes_on_in, shows_same, one_kept_session}
@@ -75,3 +75,6 @@ returns-clause-any_moment_on g c = λ tells game seed es holds played stands.
     let shown = standing_shows game seed es (store_bytes old c.args.store.now) played stands in
     Passes_map _ _ _ _ _ (InGoingOn game seed es c.args.store.now old) (returns-clause-any_moment g c tells game shown.state shown.piece holds shown.shows)
     (λ m i. in_going_on game seed es (store_bytes old c.args.store.now) shown.state shown.piece c.args.store.now played stands shown.shows old m i)
+
+pub returns-clause-faulted : goal.returns-clause-faulted
+returns-clause-faulted g c = played_faulted c.resume_loop.result c.outcome_of.result _ _ _ c.outcome_of.ensures.value c.in-Ok.ensures.faulted c.resume_loop.ensures.faulted

@@ -4,7 +4,7 @@ use Rattle.paw_reading.specs.Turn.{reading}
 use Rattle.paw_play.specs.Walk.{Walks}
 use Rattle.paw_play.specs.declared.TheConstants.{MOST_EVENTS}
 use Rattle.paw_top.specs.Walk.{WalksIn, walks, unopened}
-use Rattle.paw_top.proofs.Answering.{walk_outside}
+use Rattle.paw_top.proofs.Answering.{walk_outside, played_faulted}
 use Rattle.paw_top.proofs.Found.{all_built}
 use Rattle.paw_top.proofs.top.walk.Goals as goal
 
@@ -23,3 +23,6 @@ returns-in-Ok-clause-walks g c = λ tells.
 
 pub returns-in-Err-clause-walks : goal.returns-in-Err-clause-walks
 returns-in-Err-clause-walks g c = λ tells. unopened c.in-Err.outcome (c.in-Err.ensures.unopened tells)
+
+pub returns-in-Ok-clause-faulted : goal.returns-in-Ok-clause-faulted
+returns-in-Ok-clause-faulted g c = played_faulted c.walk_loop.result c.outcome_of.result _ _ _ c.outcome_of.ensures.value c.in-Ok.ensures.faulted c.walk_loop.ensures.faulted

@@ -33,3 +33,8 @@ returns-clause-any_moment g c tells =
     (Passes_map _ _ _ _ _ _ (c.write_slot.ensures.any_moment tells) (λ m. in_first_of s _ _ m (beside_none s)))
     (c.choose.ensures.any_moment (c.write_slot.ensures.tells.0 tells))
     (λ m. in_either s t _ _ _ _ m (c.in_ok-write_slot.ensures.beside tells) (c.in_ok-write_slot.ensures.before tells) (c.in_ok-write_slot.ensures.after tells ∙ new))
+
+pub returns-in_err-write_slot-clause-any_moment : goal.returns-in_err-write_slot-clause-any_moment
+returns-in_err-write_slot-clause-any_moment g c tells =
+    let s = g.S.Stage.standing c.args.stage.now in
+    Passes_map _ _ _ _ _ _ (c.write_slot.ensures.any_moment tells) (λ m. in_first_of s _ _ m (beside_none s))
