@@ -1,3 +1,4 @@
 pub mod Filled
 pub mod Table
 pub mod Named
+pub mod Noted

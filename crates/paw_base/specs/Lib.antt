@@ -1,2 +1,3 @@
 pub mod Condacts
 pub mod Piece
+pub mod Steps

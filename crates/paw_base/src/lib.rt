@@ -1,7 +1,15 @@
-//! Plain types that every other crate of the workspace speaks of, the table of condacts, and the piece.
+//! Plain types that every other crate of the workspace speaks of, the numbers that have names, the table of condacts,
+//! the piece, and the steps of a piece.
 #![tactic(auto)]
 
+pub mod codes;
 pub mod fault;
+pub mod flags;
+pub mod limits;
+pub mod messages;
 pub mod parts;
 pub mod piece;
+pub mod places;
 pub mod rows;
+pub mod steps;
+pub mod words;

@@ -4,11 +4,9 @@ ghost use Rattle.std.specs.Prelude.{◌≡◌, ◌≤◌, [], IfOk, false, lengt
 ghost use Rattle.paw_base.specs.Piece.{Puts, piece_limit};
 
 use crate::fault::NoRoom;
+pub use crate::limits::PIECE_LIMIT;
 use std::alloc::Global;
 use std::marker::Model;
-
-/// The most bytes that a piece may hold.
-pub const PIECE_LIMIT: usize = 65_535;
 
 /// What is shown between two prompts: a text of at most 65,535 bytes. It takes all its memory when it is made.
 #[derive(Drop)]

@@ -1,12 +1,11 @@
 -- Which actions ask, call tables and open loops: those of flow alone.
-use Rattle.std.proofs.Common.{◌≡◌, ℕ, ◌==◌, Bool, true, false, List, Option, Some, None, refl, arith}
+use Rattle.std.proofs.Common.{◌≡◌, ℕ, ◌==◌, Bool, true, false, Option, Some, None, refl, arith}
 use Rattle.std.specs.Prelude.{if◌then◌else◌}
 use Rattle.std.proofs.lemmas.Bool.{eqb-true}
 use Rattle.std.proofs.lemmas.Bool.Decides.{nat_tests}
 use Rattle.paw_base.specs.declared.parts.Condact.{Condact}
 use Rattle.paw_game.specs.Game.{GameLists}
-use Rattle.paw_game.specs.Valid.{is_within}
-use Rattle.paw_world.specs.World.{World}
+use Rattle.paw_world.specs.World.{World, Position, kept_position}
 use Rattle.paw_effects.specs.declared.act.Prompt.{Prompt}
 use Rattle.paw_effects.specs.declared.act.Prompt.TheVariants as prompt
 use Rattle.paw_effects.specs.declared.act.Truth.TheVariants as truth
@@ -15,7 +14,9 @@ use Rattle.paw_effects.specs.declared.act.Effect.TheVariants as effect
 use Rattle.paw_effects.specs.declared.object_actions.Action.{Action}
 use Rattle.paw_effects.specs.declared.object_words.Words.{Words}
 use Rattle.paw_effects.specs.Done.{Done}
+use Rattle.paw_effects.specs.Story.{Story}
 use Rattle.paw_effects.specs.FlowActions.{is_flow, flow_of}
+use Rattle.paw_effects.specs.Positions.{is_keeping, keeping_of, loaded, position_number}
 use Rattle.paw_effects.specs.TextActions.{is_print}
 use Rattle.paw_effects.specs.MoveActions.{is_move}
 use Rattle.paw_effects.specs.Referring.{referred}
@@ -64,14 +65,22 @@ object_plain g w c =
     one_of (acts_on_given c.code) _ _ (tried_plain g (referred w c.a) c.a (action_of c.code c.b) (first_that_holds (hindrances (referred w c.a) c.a (action_of c.code c.b))))
     (one_of (acts_by_name c.code) _ _ (found_plain g w (action_of c.code c.a) (first_fitting w (looks_at (action_of c.code c.a)))) (record { plain = tt }))
 
+loaded_plain : (g : GameLists) (w : World) (kept : Option Position) → Plain (loaded g w kept)
+loaded_plain g w None = record { plain = tt }
+loaded_plain g w (Some q) = record { plain = tt }
+
+keeping_plain : (g : GameLists) (w : World) (c : Condact) → Plain (keeping_of g w c)
+unfolding keeping_of
+keeping_plain g w c = one_of (c.code == 36) _ _ (record { plain = tt }) (loaded_plain g w (kept_position w (position_number w)))
+
 -- the actions that aren't of flow are plain, family by family
-other_plain : (g : GameLists) (X : List (List ℕ)) (w : World) (c : Condact) → is_flow c.code ≡ false → Plain (effect_of g X w c)
+other_plain : (s : Story) (w : World) (c : Condact) → is_flow c.code ≡ false → Plain (effect_of s w c)
 unfolding effect_of
-other_plain g X w c other =
+other_plain s w c other =
     let fine : Unit {0} = tt in
-    rw other (one_of (is_print c.code) _ _ (record { plain = fine }) (one_of (is_object_action c.code) _ _ (object_plain g w c)
+    rw other (one_of (is_keeping c.code) _ _ (keeping_plain s.game w c) (one_of (is_print c.code) _ _ (record { plain = fine }) (one_of (is_object_action c.code) _ _ (object_plain s.game w c)
     (one_of (is_move c.code) _ _ (record { plain = fine }) (one_of (c.code == 89) _ _ (record { plain = fine })
-    (one_of (c.code == 90) _ _ (record { plain = fine }) (record { plain = fine }))))))
+    (one_of (c.code == 90) _ _ (record { plain = fine }) (one_of (c.code == 91) _ _ (record { plain = fine }) (record { plain = fine }))))))))
 
 -- ---- codes ----
 
@@ -113,8 +122,8 @@ by_code w c true x y h k = h refl
 by_code w c false x y h k = k refl
 
 last_flow : (code : ℕ) → is_flow code ≡ true → (code == 30) ≡ false → (code == 31) ≡ false → (code == 32) ≡ false → (code == 33) ≡ false → (code == 34) ≡ false
-    → (code == 35) ≡ false → is_within 36 37 code ≡ false → (code == 84) ≡ false → (code == 85) ≡ false → code ≡ 86
-last_flow code flow a b d e f h m i j = grind (arith, nat_tests)
+    → (code == 35) ≡ false → (code == 84) ≡ false → (code == 85) ≡ false → code ≡ 86
+last_flow code flow a b d e f h i j = grind (arith, nat_tests)
 
 flow_leads : (g : GameLists) (w : World) (c : Condact) → is_flow c.code ≡ true → DoneBy w c (flow_of g w c)
 unfolding flow_of
@@ -125,18 +134,17 @@ flow_leads g w c flow =
     by_code w c (c.code == 33) _ _ (λ own. record { leads = tt }) (λ e.
     by_code w c (c.code == 34) _ _ (λ own. record { leads = tt }) (λ f.
     by_code w c (c.code == 35) _ _ (λ own. record { leads = eqb-true c.code 35 own }) (λ h.
-    by_code w c (is_within 36 37 c.code) _ _ (λ own. record { leads = tt }) (λ m.
     by_code w c (c.code == 84) _ _ (λ own. record { leads = tt }) (λ i.
     by_code w c (c.code == 85) _ _ (λ own. record { leads = (eqb-true c.code 85 own, refl) }) (λ j.
-    record { leads = (last_flow c.code flow a b d e f h m i j, refl) })))))))))
+    record { leads = (last_flow c.code flow a b d e f h i j, refl) }))))))))
 
-effect_done : (g : GameLists) (X : List (List ℕ)) (w : World) (c : Condact) (flow : Bool) → is_flow c.code ≡ flow → DoneBy w c (effect_of g X w c)
+effect_done : (s : Story) (w : World) (c : Condact) (flow : Bool) → is_flow c.code ≡ flow → DoneBy w c (effect_of s w c)
 unfolding effect_of
-effect_done g X w c true flow = rw flow (flow_leads g w c flow)
-effect_done g X w c false other = record { leads = plain_leads w c (effect_of g X w c).act.effect (other_plain g X w c other).plain }
+effect_done s w c true flow = rw flow (flow_leads s.game w c flow)
+effect_done s w c false other = record { leads = plain_leads w c (effect_of s w c).act.effect (other_plain s w c other).plain }
 
-pub effect_leads : (g : GameLists) (X : List (List ℕ)) (w : World) (c : Condact) → Leads w c (effect_of g X w c).act.effect
-effect_leads g X w c = (effect_done g X w c (is_flow c.code) refl).leads
+pub effect_leads : (s : Story) (w : World) (c : Condact) → Leads w c (effect_of s w c).act.effect
+effect_leads s w c = (effect_done s w c (is_flow c.code) refl).leads
 
 -- ---- prompts ----
 
@@ -176,8 +184,8 @@ leads_inner w c (effect.Ask p) h = asks_inner c.code p h
 leads_inner w c effect.Parse h = tt
 leads_inner w c effect.Spent h = tt
 
-pub effect_asks : (g : GameLists) (X : List (List ℕ)) (w : World) (c : Condact) → AsksInner (effect_of g X w c).act.effect
-effect_asks g X w c = leads_inner w c (effect_of g X w c).act.effect (effect_leads g X w c)
+pub effect_asks : (s : Story) (w : World) (c : Condact) → AsksInner (effect_of s w c).act.effect
+effect_asks s w c = leads_inner w c (effect_of s w c).act.effect (effect_leads s w c)
 
 -- ---- conditions ----
 

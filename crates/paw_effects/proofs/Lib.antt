@@ -4,5 +4,8 @@ mod Moves
 mod Searching
 pub mod Asking
 pub mod Placed
+mod Families
 mod NextListed
 mod Facts
+pub mod Worlds
+pub mod Changes

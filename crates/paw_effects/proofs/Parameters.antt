@@ -7,8 +7,8 @@ use Rattle.paw_base.specs.declared.rows.ParamKind.TheVariants as kind
 use Rattle.paw_base.specs.Condacts.{condact_lines, line_of, first_kind, second_kind, IsCode}
 use Rattle.paw_base.proofs.Table.{below, each_code}
 use Rattle.paw_game.specs.Game.{GameLists}
-use Rattle.paw_game.specs.Valid.{is_condact, is_parameter}
-use Rattle.paw_game.proofs.Kept.{condact-code, condact-first, condact-second}
+use Rattle.paw_game.specs.Valid.{is_right, is_argument}
+use Rattle.paw_game.proofs.Right.{right-code, right-first, right-second}
 use Rattle.paw_world.specs.World.{World}
 use Rattle.paw_effects.specs.Built.{IsOf}
 use Rattle.paw_effects.specs.Parameters.{takes_object, takes_second_object}
@@ -28,7 +28,7 @@ is_object kind.Noun = false
 is_object kind.Adjective = false
 is_object kind.Preposition = false
 
-object_below : (g : GameLists) (k : ParamKind) (x : ℕ) → is_object k ≡ true → IsTrue (is_parameter g k x) → x < length g.objects
+object_below : (g : GameLists) (k : ParamKind) (x : ℕ) → is_object k ≡ true → IsTrue (is_argument g k x) → x < length g.objects
 unfolding is_object
 object_below g kind.Absent x h p = cc
 object_below g kind.Location x h p = cc
@@ -62,13 +62,13 @@ seconds = refl
 
 -- in a world of the game the object that a parameter names is one of the world's
 stands : (g : GameLists) (w : World) (takes : ℕ → Bool) (kind_of : ℕ → ParamKind) (code x : ℕ) → AreObjects takes kind_of → IsOf g w → IsCode code
-    → IsTrue (is_parameter g (kind_of code) x) → IsTrue (takes code) → x < length w.places
+    → IsTrue (is_argument g (kind_of code) x) → IsTrue (takes code) → x < length w.places
 stands g w takes kind_of code x all of small kept taken =
     let kind : is_object (kind_of code) ≡ true = implied (takes code) _ (each_code (λ k. not (takes k) || is_object (kind_of k)) all code small) taken in
     subst (λ n. x < n) (sym of.places) (object_below g (kind_of code) x kind kept)
 
-pub object_stands : (g : GameLists) (w : World) (c : Condact) → IsOf g w → is_condact g c ≡ true → IsTrue (takes_object c.code) → c.a < length w.places
-object_stands g w c of kept = stands g w takes_object first_kind c.code c.a firsts of (condact-code g c kept) (condact-first g c kept)
+pub object_stands : (g : GameLists) (w : World) (c : Condact) → IsOf g w → is_right g c ≡ true → IsTrue (takes_object c.code) → c.a < length w.places
+object_stands g w c of kept = stands g w takes_object first_kind c.code c.a firsts of (right-code g c kept) (right-first g c kept)
 
-pub second_object_stands : (g : GameLists) (w : World) (c : Condact) → IsOf g w → is_condact g c ≡ true → IsTrue (takes_second_object c.code) → c.b < length w.places
-second_object_stands g w c of kept = stands g w takes_second_object second_kind c.code c.b seconds of (condact-code g c kept) (condact-second g c kept)
+pub second_object_stands : (g : GameLists) (w : World) (c : Condact) → IsOf g w → is_right g c ≡ true → IsTrue (takes_second_object c.code) → c.b < length w.places
+second_object_stands g w c of kept = stands g w takes_second_object second_kind c.code c.b seconds of (right-code g c kept) (right-second g c kept)

@@ -1,10 +1,10 @@
 -- Each condact leaves the objects of a world at places of the game.
-use Rattle.std.proofs.Common.{◌≡◌, ℕ, ◌==◌, ◌||◌, Bool, true, false, not, List, [], ◌∷◌, Option, Some, None, refl, sym, ap, ◌∙◌, subst, map, length, slice_get, arith, inl, inr, nat_lt, IsTrue, IfSome}
+use Rattle.std.proofs.Common.{◌≡◌, ℕ, ◌==◌, ◌||◌, Bool, true, false, not, List, [], ◌∷◌, Option, Some, None, refl, sym, ap, ◌∙◌, subst, map, length, slice_get, arith, inl, inr, nat_lt, IsTrue}
 use Rattle.std.specs.Prelude.{if◌then◌else◌, fold, slice_index}
 use Rattle.std.proofs.lemmas.Bool.{cases_lt, eqb-true, leb-true}
 use Rattle.std.proofs.lemmas.Bool.Decides.{nat_tests}
 use Rattle.std.proofs.lemmas.List.{get_or_past}
-use Rattle.std.proofs.lemmas.List.Elements.{All-set, All-map}
+use Rattle.std.proofs.lemmas.List.Elements.{All-set, All-map, All-replicate}
 use Rattle.std.proofs.lemmas.Option.{slice_get-get_or}
 use Rattle.paw_base.specs.declared.parts.Condact.{Condact}
 use Rattle.paw_base.specs.declared.parts.ObjectFacts.{ObjectFacts}
@@ -14,17 +14,21 @@ use Rattle.paw_base.specs.Condacts.{condact_lines, line_of, first_kind, second_k
 use Rattle.paw_base.proofs.Table.{below, each_code}
 use Rattle.paw_game.specs.Game.{GameLists}
 use Rattle.paw_game.specs.Tables.{facts_of}
-use Rattle.paw_game.specs.Valid.{Valid, is_within, is_place, is_condact, is_parameter, texts_kept}
-use Rattle.paw_game.proofs.Kept.{first_of_and, facts-start, condact-code, condact-first, condact-second}
-use Rattle.paw_world.specs.World.{World, Position, flag, with_flag, place, with_place, here, let_go, taken_up, moved, opening_places, opened, restarted, with_objects_returned, taken_from}
+use Rattle.paw_game.specs.Valid.{Valid, is_within, is_place, is_right, is_argument, texts_kept}
+use Rattle.paw_game.proofs.Kept.{first_of_and, facts-start}
+use Rattle.paw_game.proofs.Right.{right-code, right-first, right-second}
+use Rattle.paw_world.specs.World.{World, Position, flag, with_flag, place, with_place, here, let_go, taken_up, moved, opening_places, opened, restarted, with_objects_returned, taken_from, position_of, kept_position}
 use Rattle.paw_effects.specs.declared.object_actions.Action.{Action}
 use Rattle.paw_effects.specs.declared.object_actions.Action.TheVariants as action
 use Rattle.paw_effects.specs.declared.object_words.Words.{Words}
-use Rattle.paw_effects.specs.Built.{ArePlacesOf, StandAtPlaces}
+use Rattle.paw_effects.specs.Built.{ArePlacesOf, StandsIn, StandAtPlaces}
 use Rattle.paw_effects.specs.Done.{Done}
+use Rattle.paw_effects.specs.Story.{Story}
+use Rattle.paw_routines.specs.Rows.{value_at}
 use Rattle.paw_effects.specs.FlowActions.{is_flow, flow_of}
+use Rattle.paw_effects.specs.Positions.{is_keeping, keeping_of, loaded, position_number}
 use Rattle.paw_effects.specs.TextActions.{is_print}
-use Rattle.paw_effects.specs.FlagActions.{change_of}
+use Rattle.paw_effects.specs.FlagActions.{change_of, answered}
 use Rattle.paw_effects.specs.Presence.{named_place, held_objects}
 use Rattle.paw_effects.specs.MoveActions.{is_move, names_place, moved_if_place, move_of}
 use Rattle.paw_effects.specs.Referring.{facts_written, referred}
@@ -82,7 +86,7 @@ place_of : (locations here p : ℕ) → is_place locations here ≡ true → (na
 place_of locations here p h k = grind (arith, nat_tests)
 
 -- a place that a parameter names
-pub named_is_place : (g : GameLists) (w : World) (p : ℕ) → w.locations ≡ length g.locations → IsTrue (is_parameter g kind.Place p) → is_place (length g.locations) (named_place w p) ≡ true
+pub named_is_place : (g : GameLists) (w : World) (p : ℕ) → w.locations ≡ length g.locations → IsTrue (is_argument g kind.Place p) → is_place (length g.locations) (named_place w p) ≡ true
 named_is_place g w p of h = place_of (length g.locations) (here w) p (here_place g w of) h
 
 -- ---- moves ----
@@ -111,7 +115,7 @@ begins_placed : (g : GameLists) (facts : List ObjectFacts) → Valid g → facts
 begins_placed g facts v is = subst (λ fs. ArePlacesOf g (opening_places fs)) (sym is) (opening_at g v)
 
 pub opened_placed : (g : GameLists) (seed : ℕ) → Valid g → IsPlaced g (opened (map (λ o. o.facts) g.objects) (length g.locations) seed)
-opened_placed g seed v = (refl, (refl, (opening_at g v, tt)))
+opened_placed g seed v = (refl, (refl, (opening_at g v, (tt, All-replicate (StandsIn g) 4 None tt))))
 
 pub restarted_placed : (g : GameLists) (w : World) → Valid g → IsPlaced g w → IsPlaced g (restarted w)
 restarted_placed g w v k = (k.0, (k.1.0, (begins_placed g w.facts v k.0, k.1.1.1)))
@@ -140,7 +144,7 @@ low_place : (locations x : ℕ) → nat_lt x locations ≡ true → is_place loc
 low_place locations x h = grind (arith, nat_tests)
 
 -- a parameter that is absent is 0, and one that is a location is a place
-bound_place : (g : GameLists) (k : ParamKind) (x : ℕ) → Valid g → is_bound k ≡ true → IsTrue (is_parameter g k x) → is_place (length g.locations) x ≡ true
+bound_place : (g : GameLists) (k : ParamKind) (x : ℕ) → Valid g → is_bound k ≡ true → IsTrue (is_argument g k x) → is_place (length g.locations) x ≡ true
 unfolding is_bound
 bound_place g kind.Absent x v h p = rw (eqb-true x 0 p) (first_place g v)
 bound_place g kind.Location x v h p = low_place (length g.locations) x p
@@ -168,17 +172,17 @@ found_bound : below (λ code. not (acts_by_name code) || is_bound (first_kind co
 unfolding condact_lines line_of below is_bound
 found_bound = refl
 
-given_place : (g : GameLists) (c : Condact) → Valid g → IsTrue (is_condact g c) → acts_on_given c.code ≡ true → is_place (length g.locations) c.b ≡ true
+given_place : (g : GameLists) (c : Condact) → Valid g → IsTrue (is_right g c) → acts_on_given c.code ≡ true → is_place (length g.locations) c.b ≡ true
 given_place g c v kept own =
     bound_place g (second_kind c.code) c.b v
-    (implied (acts_on_given c.code) _ (each_code (λ code. not (acts_on_given code) || is_bound (second_kind code)) given_bound c.code (condact-code g c kept)) own)
-    (condact-second g c kept)
+    (implied (acts_on_given c.code) _ (each_code (λ code. not (acts_on_given code) || is_bound (second_kind code)) given_bound c.code (right-code g c kept)) own)
+    (right-second g c kept)
 
-found_place : (g : GameLists) (c : Condact) → Valid g → IsTrue (is_condact g c) → acts_by_name c.code ≡ true → is_place (length g.locations) c.a ≡ true
+found_place : (g : GameLists) (c : Condact) → Valid g → IsTrue (is_right g c) → acts_by_name c.code ≡ true → is_place (length g.locations) c.a ≡ true
 found_place g c v kept own =
     bound_place g (first_kind c.code) c.a v
-    (implied (acts_by_name c.code) _ (each_code (λ code. not (acts_by_name code) || is_bound (first_kind code)) found_bound c.code (condact-code g c kept)) own)
-    (condact-first g c kept)
+    (implied (acts_by_name c.code) _ (each_code (λ code. not (acts_by_name code) || is_bound (first_kind code)) found_bound c.code (right-code g c kept)) own)
+    (right-first g c kept)
 
 -- the first parameters of PUTO and DOALL, and the second of PLACE, are places
 puto_takes : first_kind 65 ≡ kind.Place
@@ -193,18 +197,18 @@ doall_takes : first_kind 86 ≡ kind.Place
 unfolding condact_lines line_of
 doall_takes = refl
 
-first_named : (g : GameLists) (w : World) (c : Condact) (code : ℕ) → first_kind code ≡ kind.Place → w.locations ≡ length g.locations → IsTrue (is_condact g c) → c.code ≡ code
+first_named : (g : GameLists) (w : World) (c : Condact) (code : ℕ) → first_kind code ≡ kind.Place → w.locations ≡ length g.locations → IsTrue (is_right g c) → c.code ≡ code
     → is_place (length g.locations) (named_place w c.a) ≡ true
 first_named g w c code takes of kept is =
-    named_is_place g w c.a of (subst (λ k. IsTrue (is_parameter g k c.a)) (ap first_kind is ∙ takes) (condact-first g c kept))
+    named_is_place g w c.a of (subst (λ k. IsTrue (is_argument g k c.a)) (ap first_kind is ∙ takes) (right-first g c kept))
 
-second_named : (g : GameLists) (w : World) (c : Condact) (code : ℕ) → second_kind code ≡ kind.Place → w.locations ≡ length g.locations → IsTrue (is_condact g c) → c.code ≡ code
+second_named : (g : GameLists) (w : World) (c : Condact) (code : ℕ) → second_kind code ≡ kind.Place → w.locations ≡ length g.locations → IsTrue (is_right g c) → c.code ≡ code
     → is_place (length g.locations) (named_place w c.b) ≡ true
 second_named g w c code takes of kept is =
-    named_is_place g w c.b of (subst (λ k. IsTrue (is_parameter g k c.b)) (ap second_kind is ∙ takes) (condact-second g c kept))
+    named_is_place g w c.b of (subst (λ k. IsTrue (is_argument g k c.b)) (ap second_kind is ∙ takes) (right-second g c kept))
 
 -- a loop goes over the objects at a place
-pub doall_place : (g : GameLists) (w : World) (c : Condact) → w.locations ≡ length g.locations → IsTrue (is_condact g c) → c.code ≡ 86 → IsTrue (is_place (length g.locations) (named_place w c.a))
+pub doall_place : (g : GameLists) (w : World) (c : Condact) → w.locations ≡ length g.locations → IsTrue (is_right g c) → c.code ≡ 86 → IsTrue (is_place (length g.locations) (named_place w c.a))
 doall_place g w c = first_named g w c 86 doall_takes
 
 -- ---- actions that move objects ----
@@ -218,7 +222,7 @@ if_place g w o p k =
     by_test g (names_place w p) (moved w o (named_place w p)) w
     (λ names. moved_placed g w o (named_place w p) (named_is_place g w p k.1.0 (subst (λ n. (nat_lt p n || is_within 252 255 p) ≡ true) k.1.0 names)) k) (λ none. k)
 
-move_placed : (g : GameLists) (w : World) (c : Condact) → Valid g → IsTrue (is_condact g c) → IsPlaced g w → IsPlaced g (move_of w c)
+move_placed : (g : GameLists) (w : World) (c : Condact) → Valid g → IsTrue (is_right g c) → IsPlaced g w → IsPlaced g (move_of w c)
 unfolding move_of
 move_placed g w c v kept k =
     let at : (o : ℕ) → is_place (length g.locations) (place w o) ≡ true = λ o. at_place g v w.places o k.1.1.0 in
@@ -287,7 +291,7 @@ referred_found : (g : GameLists) (w : World) (found : Option ℕ) → IsPlaced g
 referred_found g w (Some o) k = referred_placed g w o k
 referred_found g w None k = k
 
-object_placed : (g : GameLists) (w : World) (c : Condact) → Valid g → IsTrue (is_condact g c) → IsPlaced g w → IsPlaced g (object_action_of g w c).world
+object_placed : (g : GameLists) (w : World) (c : Condact) → Valid g → IsTrue (is_right g c) → IsPlaced g w → IsPlaced g (object_action_of g w c).world
 unfolding object_action_of
 object_placed g w c v kept k =
     done_placed g (acts_on_given c.code) _ _
@@ -303,13 +307,13 @@ unfolding flow_of
 flow_placed g w c k =
     done_placed g (c.code == 30) _ _ (λ own. k) (λ a. done_placed g (c.code == 31) _ _ (λ own. k) (λ b. done_placed g (c.code == 32) _ _ (λ own. k) (λ d.
     done_placed g (c.code == 33) _ _ (λ own. k) (λ e. done_placed g (c.code == 34) _ _ (λ own. k) (λ f. done_placed g (c.code == 35) _ _ (λ own. k) (λ h.
-    done_placed g (is_within 36 37 c.code) _ _ (λ own. k) (λ i. done_placed g (c.code == 84) _ _ (λ own. k) (λ j.
-    done_placed g (c.code == 85) _ _ (λ own. k) (λ m. k)))))))))
+    done_placed g (c.code == 84) _ _ (λ own. k) (λ j.
+    done_placed g (c.code == 85) _ _ (λ own. k) (λ m. k))))))))
 
 loaded_placed : (g : GameLists) (w : World) (n : ℕ) (saved : Option Position) → w.saved ≡ saved → IsPlaced g w → IsPlaced g (taken_from w n saved)
 loaded_placed g w n None is k = k
 loaded_placed g w n (Some q) is k =
-    (k.0, (k.1.0, (subst (λ s. IfSome s (λ (p : Position). ArePlacesOf g p.places)) is k.1.1.1, k.1.1.1)))
+    (k.0, (k.1.0, (subst (λ s. StandsIn g s) is k.1.1.1.0, k.1.1.1)))
 
 -- the same by name, which keeps long definitions closed
 record Placed (g : GameLists) (w : World) : Type 0 where
@@ -322,23 +326,50 @@ one_of g false x y h k = k
 change_kept : (g : GameLists) (w : World) (c : Condact) → IsPlaced g w → Placed g (change_of w c)
 unfolding change_of
 change_kept g w c k =
-    one_of g (c.code == 38) _ _ (record { is = (k.0, (k.1.0, (k.1.1.0, k.1.1.0))) }) (one_of g (c.code == 39) _ _ (record { is = loaded_placed g w c.a w.saved refl k })
+    one_of g (c.code == 38) _ _ (record { is = (k.0, (k.1.0, (k.1.1.0, (k.1.1.0, k.1.1.1.1)))) }) (one_of g (c.code == 39) _ _ (record { is = loaded_placed g w c.a w.saved refl k })
     (one_of g (c.code == 49) _ _ (record { is = k }) (one_of g (c.code == 66) _ _ (record { is = k }) (one_of g (c.code == 67) _ _ (record { is = k })
     (one_of g (c.code == 68) _ _ (record { is = k }) (one_of g (c.code == 69) _ _ (record { is = k }) (one_of g (c.code == 70) _ _ (record { is = k })
     (one_of g (c.code == 71) _ _ (record { is = k }) (one_of g (c.code == 72) _ _ (record { is = k }) (one_of g (c.code == 73) _ _ (record { is = k })
     (one_of g (c.code == 77) _ _ (record { is = k }) (one_of g (c.code == 81) _ _ (record { is = k }) (one_of g (c.code == 82) _ _ (record { is = k })
-    (one_of g (c.code == 83) _ _ (record { is = k }) (one_of g (c.code == 87) _ _ (record { is = k }) (one_of g (c.code == 88) _ _ (record { is = k }) (record { is = k })))))))))))))))))
+    (one_of g (c.code == 83) _ _ (record { is = k }) (one_of g (c.code == 87) _ _ (record { is = k }) (record { is = k }))))))))))))))))
 
 change_placed : (g : GameLists) (w : World) (c : Condact) → IsPlaced g w → IsPlaced g (change_of w c)
 change_placed g w c k = (change_kept g w c k).is
 
-pub effect_placed : (g : GameLists) (X : List (List ℕ)) (w : World) (c : Condact) → Valid g → IsTrue (is_condact g c) → IsPlaced g w → IsPlaced g (effect_of g X w c).world
+-- ---- positions that are kept ----
+
+taken_placed : (g : GameLists) (w : World) (kept : Option Position) → StandsIn g kept → IsPlaced g w → IsPlaced g (loaded g w kept).world
+taken_placed g w None at k = k
+taken_placed g w (Some q) at k = (k.0, (k.1.0, (at, k.1.1.1)))
+
+-- where the number is none of the four there is nothing to take
+kept_stands : (g : GameLists) (w : World) (n : ℕ) → IsPlaced g w → StandsIn g (kept_position w n)
+kept_stands g w n k =
+    elim (cases_lt n (length w.kept)) [
+      | inl low ↦ k.1.1.1.1 n None low
+      | inr past ↦ subst (λ q. StandsIn g q) (sym (get_or_past w.kept n None past)) tt
+    ]
+
+keeping_placed : (g : GameLists) (w : World) (c : Condact) → IsPlaced g w → IsPlaced g (keeping_of g w c).world
+unfolding keeping_of
+keeping_placed g w c k =
+    done_placed g (c.code == 36) _ _
+    (λ own. (k.0, (k.1.0, (k.1.1.0, (k.1.1.1.0, All-set (StandsIn g) w.kept (position_number w) (Some (position_of w)) k.1.1.0 k.1.1.1.1)))))
+    (λ other. taken_placed g w (kept_position w (position_number w)) (kept_stands g w (position_number w) k) k)
+
+answered_placed : (g : GameLists) (w : World) (f : ℕ) (answer : Option ℕ) → IsPlaced g w → IsPlaced g (answered w f answer)
+answered_placed g w f None k = k
+answered_placed g w f (Some y) k = k
+
+pub effect_placed : (s : Story) (w : World) (c : Condact) → Valid s.game → IsTrue (is_right s.game c) → IsPlaced s.game w → IsPlaced s.game (effect_of s w c).world
 unfolding effect_of
-effect_placed g X w c v kept k =
-    done_placed g (is_flow c.code) _ _ (λ own. flow_placed g w c k) (λ a. done_placed g (is_print c.code) _ _ (λ own. k) (λ b.
+effect_placed s w c v kept k =
+    let g = s.game in
+    done_placed g (is_flow c.code) _ _ (λ own. flow_placed g w c k) (λ a. done_placed g (is_keeping c.code) _ _ (λ own. keeping_placed g w c k) (λ z. done_placed g (is_print c.code) _ _ (λ own. k) (λ b.
     done_placed g (is_object_action c.code) _ _ (λ own. object_placed g w c v kept k) (λ d.
     done_placed g (is_move c.code) _ _ (λ own. move_placed g w c v kept k) (λ e.
-    done_placed g (c.code == 89) _ _ (λ own. k) (λ f. done_placed g (c.code == 90) _ _ (λ own. returned_placed g w v k) (λ h. change_placed g w c k))))))
+    done_placed g (c.code == 89) _ _ (λ own. k) (λ f. done_placed g (c.code == 90) _ _ (λ own. returned_placed g w v k) (λ h.
+    done_placed g (c.code == 91) _ _ (λ own. answered_placed g w c.b (value_at s.rows c.a (flag w c.b)) k) (λ i. change_placed g w c k))))))))
 
 -- ---- conditions ----
 

@@ -1,27 +1,39 @@
 -- The actions that change flags, and those that save and load them.
-use Rattle.std.specs.Prelude.{◌+◌, ◌-◌, ◌==◌, min, if◌then◌else◌}
+use Rattle.std.specs.Prelude.{ℕ, ◌+◌, ◌-◌, ◌==◌, ◌||◌, Bool, min, Option, None, Some, if◌then◌else◌}
+use Rattle.paw_base.specs.declared.codes.TheConstants.{RAMSAVE, RAMLOAD, GOTO, SET, CLEAR, PLUS, MINUS, LET, ADD, SUB, RANDOM, COPYFF, WEIGH, WEIGHT, ABILITY, PROMPT}
+use Rattle.paw_base.specs.declared.flags.TheConstants.{MOST_CARRIED_FLAG, MOST_WEIGHT_FLAG, LOCATION_FLAG, PROMPT_FLAG, TIMEOUT_FLAG, TIMED_OUT_FLAG}
 use Rattle.paw_base.specs.declared.parts.Condact.{Condact}
+use Rattle.paw_game.specs.Valid.{is_within}
 use Rattle.paw_world.specs.World.{World, flag, with_flag, ramsaved, ramloaded, drawn_on}
 use Rattle.paw_world.specs.Weight.{weight, carried_weight}
 use Rattle.paw_effects.specs.Chance.{rolled}
 
+abbrev pub is_change : ℕ → Bool
+is_change code =
+    is_within 38 39 code || (code == 49) || is_within 66 73 code || (code == 77) || is_within 81 83 code || is_within 87 88 code
+
 -- one line for each of them; a flag is at most 255 and at least 0, and RANDOM makes a draw
 unfoldable pub change_of : World → Condact → World
 change_of w c =
-    if c.code == 38 then ramsaved w else  -- RAMSAVE
-    if c.code == 39 then ramloaded w c.a else  -- RAMLOAD
-    if c.code == 49 then with_flag w 38 c.a else  -- GOTO
-    if c.code == 66 then with_flag w c.a 255 else  -- SET
-    if c.code == 67 then with_flag w c.a 0 else  -- CLEAR
-    if c.code == 68 then with_flag w c.a (min 255 (flag w c.a + c.b)) else  -- PLUS
-    if c.code == 69 then with_flag w c.a (flag w c.a - c.b) else  -- MINUS
-    if c.code == 70 then with_flag w c.a c.b else  -- LET
-    if c.code == 71 then with_flag w c.b (min 255 (flag w c.b + flag w c.a)) else  -- ADD
-    if c.code == 72 then with_flag w c.b (flag w c.b - flag w c.a) else  -- SUB
-    if c.code == 73 then with_flag (drawn_on w 1) c.a (rolled w) else  -- RANDOM
-    if c.code == 77 then with_flag w c.b (flag w c.a) else  -- COPYFF
-    if c.code == 81 then with_flag w c.b (weight w c.a) else  -- WEIGH
-    if c.code == 82 then with_flag w c.a (carried_weight w) else  -- WEIGHT
-    if c.code == 83 then with_flag (with_flag w 37 c.a) 52 c.b else  -- ABILITY
-    if c.code == 87 then with_flag w 42 c.a else  -- PROMPT
-    if c.code == 88 then with_flag (with_flag w 48 c.a) 49 c.b else w  -- TIME
+    if c.code == RAMSAVE then ramsaved w else
+    if c.code == RAMLOAD then ramloaded w c.a else
+    if c.code == GOTO then with_flag w LOCATION_FLAG c.a else
+    if c.code == SET then with_flag w c.a 255 else
+    if c.code == CLEAR then with_flag w c.a 0 else
+    if c.code == PLUS then with_flag w c.a (min 255 (flag w c.a + c.b)) else
+    if c.code == MINUS then with_flag w c.a (flag w c.a - c.b) else
+    if c.code == LET then with_flag w c.a c.b else
+    if c.code == ADD then with_flag w c.b (min 255 (flag w c.b + flag w c.a)) else
+    if c.code == SUB then with_flag w c.b (flag w c.b - flag w c.a) else
+    if c.code == RANDOM then with_flag (drawn_on w 1) c.a (rolled w) else
+    if c.code == COPYFF then with_flag w c.b (flag w c.a) else
+    if c.code == WEIGH then with_flag w c.b (weight w c.a) else
+    if c.code == WEIGHT then with_flag w c.a (carried_weight w) else
+    if c.code == ABILITY then with_flag (with_flag w MOST_CARRIED_FLAG c.a) MOST_WEIGHT_FLAG c.b else
+    if c.code == PROMPT then with_flag w PROMPT_FLAG c.a else
+    with_flag (with_flag w TIMEOUT_FLAG c.a) TIMED_OUT_FLAG c.b  -- TIME
+
+-- a flag becomes the answer of a routine; it stays where there is no such routine
+abbrev pub answered : World → ℕ → Option ℕ → World
+answered w f None = w
+answered w f (Some y) = with_flag w f y

@@ -1,5 +1,7 @@
 -- The conditions of the condact table: what each answers, and the world after it.
 use Rattle.std.specs.Prelude.{ℕ, ◌==◌, Bool, true, false, nat_le, Option, Some, None, if◌then◌else◌}
+use Rattle.paw_base.specs.declared.codes.TheConstants.{CHANCE, QUIT, MOVE}
+use Rattle.paw_base.specs.declared.flags.TheConstants.{VERB_FLAG}
 use Rattle.paw_base.specs.declared.parts.Condact.{Condact}
 use Rattle.paw_game.specs.Game.{GameLists}
 use Rattle.paw_game.specs.Tables.{exit_at}
@@ -30,19 +32,19 @@ answers w b = record { answer = truth_of b; world = w }
 abbrev pub takes_chance : World → ℕ → Tested
 takes_chance w n = answers (drawn_on w 1) (nat_le (rolled w) n)
 
--- MOVE takes the exit for the verb, flag 33, from the location that a flag names, to where it leads
+-- MOVE takes the exit for the sentence's verb from the location that a flag names, to where it leads
 abbrev pub moves_to : World → ℕ → Option ℕ → Tested
 moves_to w f None = answers w false
 moves_to w f (Some to) = answers (with_flag w f to) true
 
 abbrev pub moves : GameLists → World → ℕ → Tested
-moves g w f = moves_to w f (exit_at g (flag w f) (flag w 33))
+moves g w f = moves_to w f (exit_at g (flag w f) (flag w VERB_FLAG))
 
 -- three by themselves, and the others by families
 unfoldable pub holds : GameLists → World → Condact → Tested
 holds g w c =
     if tests_place c.code then answers w (place_holds w c) else
-    if c.code == 10 then takes_chance w c.a else  -- CHANCE
-    if c.code == 27 then record { answer = truth.Ask; world = w } else  -- QUIT
-    if c.code == 28 then moves g w c.a else  -- MOVE
+    if c.code == CHANCE then takes_chance w c.a else
+    if c.code == QUIT then record { answer = truth.Ask; world = w } else
+    if c.code == MOVE then moves g w c.a else
     answers w (flag_holds w c)

@@ -9,12 +9,15 @@ pub mod FlagTests
 pub mod Holds
 pub mod ObjectWords
 pub mod ObjectSearch
+pub mod Story
+pub mod Standing
 pub mod Done
 pub mod Counts
 pub mod Marks
 pub mod Lists
 pub mod Listing
 pub mod FlowActions
+pub mod Positions
 pub mod TextActions
 pub mod FlagActions
 pub mod MoveActions
@@ -22,3 +25,4 @@ pub mod Referring
 pub mod ObjectActions
 pub mod AutoActions
 pub mod Effects
+pub mod Families

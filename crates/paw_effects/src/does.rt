@@ -1,11 +1,17 @@
 // What the conditions test, and what the actions do.
 
-ghost use Rattle.std.specs.Prelude.{◌≡◌, ◌+◌, ◌-◌, ◌<◌, ◌≤◌, ◌^◌, ◌++◌, true, false, []};
+ghost use Rattle.std.specs.Prelude.{◌≡◌, ◌+◌, ◌-◌, ◌<◌, ◌≤◌, ◌^◌, ◌++◌, ℕ, List, true, false, []};
 ghost use Rattle.paw_base.specs.Piece.{piece_limit};
-ghost use Rattle.paw_game.specs.Valid.{is_condact};
-ghost use Rattle.paw_effects.specs.Built.{is_built, IsOf};
+ghost use Rattle.paw_game.specs.Valid.{is_right};
+ghost use Rattle.paw_effects.specs.Built.{IsOf};
 ghost use Rattle.paw_effects.specs.Holds.{is_condition, holds, truth_of, moves};
 ghost use Rattle.paw_effects.specs.Effects.{effect_of, Does};
+ghost use Rattle.paw_effects.specs.FlagActions.{answered};
+ghost use Rattle.paw_effects.specs.Story.{story_of};
+ghost use Rattle.paw_game.specs.Game.{GameLists};
+ghost use Rattle.paw_routines.specs.Routines.{AreRowsOf, HaveRows};
+ghost use Rattle.paw_routines.specs.Rows.{value_at};
+ghost use Rattle.paw_world.specs.World.{flag};
 
 use crate::act::{Act, Effect, Truth, after, dropping, on};
 use crate::auto_actions::{act_on_object, is_object_action};
@@ -15,22 +21,17 @@ use crate::flag_tests::flag_holds;
 use crate::flow_actions::{flow, is_flow};
 use crate::move_actions::{is_move, move_objects, reset};
 use crate::place_tests::{place_holds, tests_place};
+use crate::positions::{is_keeping, keep_or_load};
 pub use crate::referring::refer;
 use crate::text::print_nothing;
 use crate::text_actions::{is_print, print};
+use paw_base::codes::{CHANCE, EXTERN, MOVE, NEWTEXT, QUIT, RESET};
+use paw_base::flags::VERB_FLAG;
 use paw_base::parts::Condact;
 use paw_base::piece::Piece;
 use paw_game::tables::Tables;
-use paw_world::flags::VERB;
+use paw_routines::routines::Routines;
 use paw_world::world::World;
-
-/// Whether a condact of this code is built.
-#[tactic(auto, unfolding(crate::specs::Built::is_built))]
-pub fn is_built(code: u8) -> bool
-    ensures value { result ≡ is_built code }
-{
-    matches!(code, 0..=90 | 92..=107)
-}
 
 // A condition's answer by whether it holds.
 fn truth(holds: bool) -> Truth
@@ -43,9 +44,8 @@ fn truth(holds: bool) -> Truth
 #[tactic(auto, using(crate::proofs::Parameters::object_stands), unfolding(crate::specs::Holds::holds))]
 pub fn test<T: Tables>(tables: &T, world: &mut World, c: Condact) -> Truth
     requires kind { is_condition c ≡ true }
-    requires built { is_built c.code ≡ true }
     requires game { IsOf (T.game tables.now) world.old }
-    requires condact { is_condact (T.game tables.now) c ≡ true }
+    requires condact { is_right (T.game tables.now) c ≡ true }
     requires draws { world.old.draws < 2 ^ 64 - 1 }
     ensures answer { result ≡ (holds (T.game tables.now) world.old c).answer }
     ensures world { world.new ≡ (holds (T.game tables.now) world.old c).world }
@@ -56,9 +56,9 @@ pub fn test<T: Tables>(tables: &T, world: &mut World, c: Condact) -> Truth
         return truth(place_holds(world, c));
     }
     match c.code {
-        10 => truth(roll(world) <= c.a), // CHANCE
-        27 => Truth::Ask, // QUIT
-        28 => truth(moves(tables, world, c.a)), // MOVE
+        CHANCE => truth(roll(world) <= c.a),
+        QUIT => Truth::Ask,
+        MOVE => truth(moves(tables, world, c.a)),
         _ => truth(flag_holds(world, c)),
     }
 }
@@ -72,7 +72,7 @@ fn moves<T: Tables>(tables: &T, world: &mut World, f: u8) -> bool
     ensures game { IsOf (T.game tables.now) world.new }
     ensures draws { world.new.draws ≡ world.old.draws }
 {
-    match tables.exit(world.flag(f), world.flag(VERB)) {
+    match tables.exit(world.flag(f), world.flag(VERB_FLAG)) {
         Some(to) => {
             world.set_flag(f, to);
             true
@@ -81,21 +81,42 @@ fn moves<T: Tables>(tables: &T, world: &mut World, f: u8) -> bool
     }
 }
 
+/// EXTERN gives a flag the answer of a routine on the flag's value. Nothing changes where there is no such routine.
+fn answer_by_routine<F: Fn(u8, u8) -> u8>(world: &mut World, routines: &Routines<F>, n: u8, f: u8)
+    requires rows { HaveRows F.Fn routines.now }
+    ensures value { (X : List (List ℕ)) → AreRowsOf F.Fn routines.now X → world.new ≡ answered world.old f (value_at X n (flag world.old f)) }
+    ensures game { (g : GameLists) → IsOf g world.old → IsOf g world.new }
+    ensures draws { world.new.draws ≡ world.old.draws }
+{
+    if let Some(answer) = routines.call(n, world.flag(f)) {
+        world.set_flag(f, answer);
+    }
+}
+
 /// Does an action of this game: changes the world, and prints into the piece. Spent exactly where the piece would pass
 /// its limit; what the piece and the world then hold is open.
 #[tactic(auto, using(crate::proofs::Parameters::object_stands, crate::proofs::Parameters::second_object_stands), unfolding(crate::specs::Effects::effect_of))]
-pub fn act<T: Tables>(tables: &T, world: &mut World, piece: &mut Piece, c: Condact) -> Act
+pub fn act<T: Tables, F: Fn(u8, u8) -> u8>(
+    tables: &T,
+    world: &mut World,
+    routines: &Routines<F>,
+    piece: &mut Piece,
+    c: Condact,
+) -> Act
     requires kind { is_condition c ≡ false }
-    requires built { is_built c.code ≡ true }
     requires game { IsOf (T.game tables.now) world.old }
-    requires condact { is_condact (T.game tables.now) c ≡ true }
+    requires condact { is_right (T.game tables.now) c ≡ true }
+    requires rows { HaveRows F.Fn routines.now }
     requires draws { world.old.draws < 2 ^ 64 - 1 }
-    ensures does { Does (effect_of (T.game tables.now) [] world.old c) piece.old piece.new world.new result }
+    ensures does { (X : List (List ℕ)) → AreRowsOf F.Fn routines.now X → Does (effect_of (story_of (T.game tables.now) X) world.old c) piece.old piece.new world.new result }
     ensures game { IsOf (T.game tables.now) world.new }
     ensures draws { world.new.draws ≤ world.old.draws + 1 }
 {
     if is_flow(c.code) {
         return flow(tables, world, piece, c);
+    }
+    if is_keeping(c.code) {
+        return keep_or_load(tables, world, piece, c);
     }
     if is_print(c.code) {
         return after(print(tables, world, piece, c), Effect::Go);
@@ -109,10 +130,14 @@ pub fn act<T: Tables>(tables: &T, world: &mut World, piece: &mut Piece, c: Conda
         return on(Effect::Go);
     }
     match c.code {
-        89 => dropping(Effect::Go), // NEWTEXT
-        90 => {
-            reset(world, c.a); // RESET
+        NEWTEXT => dropping(Effect::Go),
+        RESET => {
+            reset(world, c.a);
             on(Effect::Redescribe)
+        }
+        EXTERN => {
+            answer_by_routine(world, routines, c.a, c.b);
+            on(Effect::Go)
         }
         _ => {
             change(world, c);

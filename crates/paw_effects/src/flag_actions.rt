@@ -9,17 +9,15 @@ ghost use Rattle.paw_effects.specs.Parameters.{takes_object};
 ghost use Rattle.paw_effects.specs.FlagActions.{change_of};
 
 use crate::chance::roll;
-use crate::flag_tests::STATUS;
-use crate::presence::LOCATION;
+use paw_base::codes::{
+    ABILITY, ADD, CLEAR, COPYFF, GOTO, LET, MINUS, PLUS, PROMPT, RAMLOAD, RAMSAVE, RANDOM, SET,
+    SUB, WEIGH, WEIGHT,
+};
+use paw_base::flags::{
+    LOCATION_FLAG, MOST_CARRIED_FLAG, MOST_WEIGHT_FLAG, PROMPT_FLAG, TIMED_OUT_FLAG, TIMEOUT_FLAG,
+};
 use paw_base::parts::Condact;
-use paw_world::flags::{MOST_CARRIED, MOST_WEIGHT};
 use paw_world::world::World;
-
-/// The flag of the message that is the prompt.
-const PROMPT: u8 = 42;
-
-/// The flag of how many seconds a line may take.
-const TIMEOUT: u8 = 48;
 
 /// Gives a flag a number from 1 to 100, by the next random word.
 fn set_by_chance(world: &mut World, f: u8)
@@ -41,29 +39,29 @@ pub(crate) fn change(world: &mut World, c: Condact)
 {
     let _objects = world.objects();
     match c.code {
-        38 => world.ramsave(), // RAMSAVE
-        39 => world.ramload(c.a), // RAMLOAD
-        49 => world.set_flag(LOCATION, c.a), // GOTO
-        66 => world.set_flag(c.a, 255), // SET
-        67 => world.set_flag(c.a, 0), // CLEAR
-        68 => world.set_flag(c.a, world.flag(c.a).saturating_add(c.b)), // PLUS
-        69 => world.set_flag(c.a, world.flag(c.a).saturating_sub(c.b)), // MINUS
-        70 => world.set_flag(c.a, c.b), // LET
-        71 => world.set_flag(c.b, world.flag(c.b).saturating_add(world.flag(c.a))), // ADD
-        72 => world.set_flag(c.b, world.flag(c.b).saturating_sub(world.flag(c.a))), // SUB
-        73 => set_by_chance(world, c.a), // RANDOM
-        77 => world.set_flag(c.b, world.flag(c.a)), // COPYFF
-        81 => world.set_flag(c.b, world.weight(c.a)), // WEIGH
-        82 => world.set_flag(c.a, world.carried_weight()), // WEIGHT
-        83 => {
-            world.set_flag(MOST_CARRIED, c.a); // ABILITY
-            world.set_flag(MOST_WEIGHT, c.b);
+        RAMSAVE => world.ramsave(),
+        RAMLOAD => world.ramload(c.a),
+        GOTO => world.set_flag(LOCATION_FLAG, c.a),
+        SET => world.set_flag(c.a, 255),
+        CLEAR => world.set_flag(c.a, 0),
+        PLUS => world.set_flag(c.a, world.flag(c.a).saturating_add(c.b)),
+        MINUS => world.set_flag(c.a, world.flag(c.a).saturating_sub(c.b)),
+        LET => world.set_flag(c.a, c.b),
+        ADD => world.set_flag(c.b, world.flag(c.b).saturating_add(world.flag(c.a))),
+        SUB => world.set_flag(c.b, world.flag(c.b).saturating_sub(world.flag(c.a))),
+        RANDOM => set_by_chance(world, c.a),
+        COPYFF => world.set_flag(c.b, world.flag(c.a)),
+        WEIGH => world.set_flag(c.b, world.weight(c.a)),
+        WEIGHT => world.set_flag(c.a, world.carried_weight()),
+        ABILITY => {
+            world.set_flag(MOST_CARRIED_FLAG, c.a);
+            world.set_flag(MOST_WEIGHT_FLAG, c.b);
         }
-        87 => world.set_flag(PROMPT, c.a), // PROMPT
-        88 => {
-            world.set_flag(TIMEOUT, c.a); // TIME
-            world.set_flag(STATUS, c.b);
+        PROMPT => world.set_flag(PROMPT_FLAG, c.a),
+        // TIME
+        _ => {
+            world.set_flag(TIMEOUT_FLAG, c.a);
+            world.set_flag(TIMED_OUT_FLAG, c.b);
         }
-        _ => {}
     }
 }

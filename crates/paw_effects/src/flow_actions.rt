@@ -7,28 +7,20 @@ ghost use Rattle.paw_effects.specs.Texts.{put_text};
 ghost use Rattle.paw_effects.specs.FlowActions.{is_flow, flow_of};
 
 use crate::act::{Act, Effect, Prompt, after, on};
-use crate::marks::print_mark;
 use crate::presence::named_place;
 use crate::text::{print_nothing, put, say};
+use paw_base::codes::{ANYKEY, DESC, DOALL, DONE, END, NOTDONE, OK, PARSE, PROCESS};
+use paw_base::messages::{AGAIN_MESSAGE, KEY_MESSAGE, OK_MESSAGE};
 use paw_base::parts::Condact;
 use paw_base::piece::Piece;
 use paw_game::tables::Tables;
 use paw_world::world::World;
 
-/// The system message with the question of END.
-const AGAIN_QUESTION: u8 = 13;
-
-/// The system message of OK.
-const AGREEMENT: u8 = 15;
-
-/// The system message of ANYKEY.
-const KEY_QUESTION: u8 = 16;
-
 /// Whether a code is an action that says where reading goes on.
 pub(crate) fn is_flow(code: u8) -> bool
     ensures value { result ≡ is_flow code }
 {
-    matches!(code, 30..=37 | 84..=86)
+    matches!(code, DESC..=ANYKEY | PARSE..=DOALL)
 }
 
 /// Puts a question, and waits for its answer.
@@ -46,15 +38,14 @@ pub(crate) fn flow<T: Tables>(tables: &T, world: &World, piece: &mut Piece, c: C
 {
     print_nothing(piece);
     match c.code {
-        30 => on(Effect::Redescribe), // DESC
-        31 => ask(tables, world, piece, AGAIN_QUESTION, Prompt::Again), // END
-        32 => on(Effect::Exit(true)), // DONE
-        33 => on(Effect::Exit(false)), // NOTDONE
-        34 => after(say(tables, world, piece, AGREEMENT), Effect::Exit(true)), // OK
-        35 => ask(tables, world, piece, KEY_QUESTION, Prompt::Key), // ANYKEY
-        36..=37 => after(print_mark(piece, c), Effect::Redescribe), // SAVE, LOAD
-        84 => on(Effect::Parse), // PARSE
-        85 => on(Effect::Call(c.a)), // PROCESS
+        DESC => on(Effect::Redescribe),
+        END => ask(tables, world, piece, AGAIN_MESSAGE, Prompt::Again),
+        DONE => on(Effect::Exit(true)),
+        NOTDONE => on(Effect::Exit(false)),
+        OK => after(say(tables, world, piece, OK_MESSAGE), Effect::Exit(true)),
+        ANYKEY => ask(tables, world, piece, KEY_MESSAGE, Prompt::Key),
+        PARSE => on(Effect::Parse),
+        PROCESS => on(Effect::Call(c.a)),
         _ => on(Effect::Loop(named_place(world, c.a))), // DOALL
     }
 }

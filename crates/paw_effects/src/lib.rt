@@ -10,6 +10,7 @@ mod flag_actions;
 mod flag_tests;
 mod flow_actions;
 mod hindrances;
+pub mod laws;
 mod lists;
 mod marks;
 mod move_actions;
@@ -18,6 +19,7 @@ mod object_search;
 mod object_words;
 pub mod opening;
 mod place_tests;
+mod positions;
 pub mod presence;
 mod referring;
 #[cfg(test)]

@@ -1,18 +1,22 @@
 // Condacts of a small game, read one after the other.
 
-ghost use Rattle.std.specs.Prelude.{◌≡◌, IfOk, map};
+ghost use Rattle.std.specs.Prelude.{◌≡◌, ◌-◌, ◌/◌, ◌==◌, ◌<◌, ◌^◌, IfOk, count_ones, map, if◌then◌else◌};
 ghost use Rattle.paw_effects.specs.Built.{IsOf};
+ghost use Rattle.paw_routines.specs.Routines.{HaveRows};
 
 mod object_actions;
 mod prints;
 
 use crate::act::{Act, Effect, Prompt, Truth};
-use crate::does::{act, is_built, test};
+use crate::does::{act, test};
+use paw_base::codes::NOUN2;
+use paw_base::flags::SECOND_NOUN_FLAG;
 use paw_base::parts::{Condact, ObjectFacts};
 use paw_base::piece::Piece;
 use paw_game::game::Game;
 use paw_game::parts::{Condacts, Entry, Exit, Exits, GameParts, ObjectRow, Table, Text, Word};
 use paw_game::tables::Tables;
+use paw_routines::routines::Routines;
 use paw_world::world::World;
 use std::alloc::{AllocError, Global};
 use std::process::Abort;
@@ -37,6 +41,8 @@ const YES: Answer = Tests(Truth::Yes);
 const NO: Answer = Tests(Truth::No);
 
 const GO: Answer = Does(Effect::Go);
+
+const REDESCRIBE: Answer = Does(Effect::Redescribe);
 
 /// Objects: 0 is carried, 1 worn, 2 in location 0, 3 not created, 4 in location 1.
 const PLACES: [u8; 5] = [254, 253, 0, 252, 1];
@@ -238,6 +244,63 @@ const FLOW: [Case; 15] = [
     (86, 255, 0, Does(Effect::Loop(252))),
 ];
 
+/// Three routines: the complement, the half, and the number of one bits. There is no fourth.
+const ROUTINES: [Case; 24] = [
+    (70, 100, 9, GO),
+    (91, 3, 100, GO),
+    (13, 100, 9, YES),
+    (91, 0, 100, GO),
+    (13, 100, 246, YES),
+    (91, 2, 100, GO),
+    (13, 100, 6, YES),
+    (70, 60, 9, GO),
+    (91, 1, 60, GO),
+    (13, 60, 4, YES),
+    (91, 0, 60, GO),
+    (13, 60, 251, YES),
+    (91, 2, 60, GO),
+    (13, 60, 7, YES),
+    (91, 3, 60, GO),
+    (91, 60, 60, GO),
+    (91, 255, 60, GO),
+    (13, 60, 7, YES),
+    (11, 0, 0, YES),
+    (11, 1, 0, NO),
+    (11, 3, 0, YES),
+    (91, 0, 0, GO),
+    (13, 0, 255, YES),
+    (13, 60, 7, YES),
+];
+
+/// Positions 1 (of flag 58 at 1 and 5) and 3 are kept; the other two can't be taken back, which message 8 says.
+const POSITIONS: [Case; 25] = [
+    (37, 0, 0, REDESCRIBE),
+    (70, 58, 1, GO),
+    (70, 60, 11, GO),
+    (64, 4, 2, GO),
+    (36, 0, 0, REDESCRIBE),
+    (70, 58, 7, GO),
+    (70, 60, 13, GO),
+    (64, 4, 254, GO),
+    (36, 0, 0, REDESCRIBE),
+    (70, 60, 0, GO),
+    (70, 58, 2, GO),
+    (37, 0, 0, REDESCRIBE),
+    (13, 60, 0, YES),
+    (8, 4, 0, YES),
+    (70, 58, 5, GO),
+    (37, 0, 0, REDESCRIBE),
+    (13, 60, 11, YES),
+    (13, 58, 1, YES),
+    (24, 4, 2, YES),
+    (13, 1, 1, YES),
+    (70, 58, 3, GO),
+    (37, 0, 0, REDESCRIBE),
+    (13, 60, 13, YES),
+    (13, 58, 7, YES),
+    (8, 4, 0, YES),
+];
+
 /// With seed 42: RANDOM twice, CHANCE of a number too small and of the least that is enough, and of 0, 50 and 100.
 const DRAWS: [Case; 10] = [
     (73, 60, 0, GO),
@@ -365,15 +428,34 @@ fn opened(rt: &impl Abort, alloc: Global, game: &Game) -> Result<World, AllocErr
     Ok(world)
 }
 
+/// What the three routines give.
+fn give(n: u8, x: u8) -> u8
+    ensures value { result ≡ (if n == 0 then 255 - x else if n == 1 then x / 2 else count_ones x) }
+{
+    match n {
+        0 => 255 - x,
+        1 => x / 2,
+        _ => x.count_ones() as u8,
+    }
+}
+
 /// Reads a condact of the game's entry.
-fn read(rt: &impl Abort, game: &Game, world: &mut World, piece: &mut Piece, at: u8) -> Answer
+fn read<F: Fn(u8, u8) -> u8>(
+    rt: &impl Abort,
+    game: &Game,
+    world: &mut World,
+    routines: &Routines<F>,
+    piece: &mut Piece,
+    at: u8,
+) -> Answer
     requires game { IsOf game.now world.old }
+    requires rows { HaveRows F.Fn routines.now }
     ensures game { IsOf game.now world.new }
 {
     let Some(c) = game.condact(0, 0, at) else {
         return Answer::Missing;
     };
-    assert!(rt; is_built(c.code) && world.draws() < 1_000);
+    assert!(rt; world.draws() < 1_000);
     if c.code <= 28 {
         return Tests(test(game, world, c));
     }
@@ -381,7 +463,7 @@ fn read(rt: &impl Abort, game: &Game, world: &mut World, piece: &mut Piece, at: 
         effect,
         drop_line,
         cancel_loop,
-    } = act(game, world, piece, c);
+    } = act(game, world, routines, piece, c);
     assert!(rt; !cancel_loop);
     if drop_line {
         Drops(effect)
@@ -391,12 +473,20 @@ fn read(rt: &impl Abort, game: &Game, world: &mut World, piece: &mut Piece, at: 
 }
 
 /// Reads these condacts, which are those of the game's entry.
-fn read_all(rt: &impl Abort, game: &Game, world: &mut World, piece: &mut Piece, cases: &[Case])
+fn read_all<F: Fn(u8, u8) -> u8>(
+    rt: &impl Abort,
+    game: &Game,
+    world: &mut World,
+    routines: &Routines<F>,
+    piece: &mut Piece,
+    cases: &[Case],
+)
     requires game { IsOf game.now world.old }
+    requires rows { HaveRows F.Fn routines.now }
 {
     for (at, (code, a, b, answer)) in cases.iter().enumerate() {
         assert!(rt; at < 255);
-        let found = read(rt, game, world, piece, at as u8);
+        let found = read(rt, game, world, routines, piece, at as u8);
         assert_eq!(rt; found, *answer, "condact {at}: {code} {a} {b}");
     }
 }
@@ -405,7 +495,8 @@ fn read_all(rt: &impl Abort, game: &Game, world: &mut World, piece: &mut Piece, 
 fn run(rt: &impl Abort, alloc: Global, cases: &[Case], piece: &mut Piece) -> Result<(), Fail> {
     let game = Game::new(parts(alloc, cases)?)?;
     let mut world = opened(rt, alloc, &game)?;
-    read_all(rt, &game, &mut world, piece, cases);
+    let routines = Routines::new(3, give);
+    read_all(rt, &game, &mut world, &routines, piece, cases);
     Ok(())
 }
 
@@ -416,9 +507,13 @@ fn conditions_and_actions(rt: HostRuntime) -> Result<(), Fail> {
     run(&rt, rt.alloc(), &FLAGS, &mut piece)?;
     run(&rt, rt.alloc(), &MOVES, &mut piece)?;
     run(&rt, rt.alloc(), &DRAWS, &mut piece)?;
+    run(&rt, rt.alloc(), &ROUTINES, &mut piece)?;
     assert_eq!(rt; piece.bytes(), b"".as_slice());
     run(&rt, rt.alloc(), &FLOW, &mut piece)?;
     assert_eq!(rt; piece.bytes(), b"NP\nQTakenTaken\n\n".as_slice());
+    piece.clear();
+    run(&rt, rt.alloc(), &POSITIONS, &mut piece)?;
+    assert_eq!(rt; piece.bytes(), b"I\nI\n".as_slice());
     Ok(())
 }
 
@@ -441,4 +536,42 @@ fn a_text_that_does_not_fit(rt: HostRuntime) -> Result<(), Fail> {
         &[(50, 0, 0, GO), (34, 0, 0, Does(Effect::Spent))],
         &mut piece,
     )
+}
+
+/// What NOUN2 answers for a word, which may be any byte.
+fn second_noun_is(game: &Game, world: &mut World, value: u8) -> Truth
+    requires game { IsOf game.now world.old }
+    requires draws { world.old.draws < 2 ^ 64 - 1 }
+    ensures game { IsOf game.now world.new }
+{
+    let c = Condact {
+        code: NOUN2,
+        a: value,
+        b: 0,
+    };
+    test(game, world, c)
+}
+
+/// What NOUN2 answers for a word before it becomes the second noun, and then.
+fn become_second_noun(rt: &impl Abort, game: &Game, world: &mut World, value: u8) -> (Truth, Truth)
+    requires game { IsOf game.now world.old }
+    ensures game { IsOf game.now world.new }
+{
+    assert!(rt; world.draws() < 1_000);
+    let before = second_noun_is(game, world, value);
+    world.set_flag(SECOND_NOUN_FLAG, value);
+    assert!(rt; world.draws() < 1_000);
+    (before, second_noun_is(game, world, value))
+}
+
+#[test]
+fn a_word_that_the_game_does_not_have(rt: HostRuntime) -> Result<(), Fail> {
+    let game = Game::new(parts(rt.alloc(), &[])?)?;
+    let mut world = opened(&rt, rt.alloc(), &game)?;
+    let found = (Truth::No, Truth::Yes);
+    assert_eq!(rt; become_second_noun(&rt, &game, &mut world, 200), found);
+    assert_eq!(rt; become_second_noun(&rt, &game, &mut world, 50), found);
+    assert_eq!(rt; become_second_noun(&rt, &game, &mut world, 0), found);
+    assert_eq!(rt; become_second_noun(&rt, &game, &mut world, 1), found);
+    Ok(())
 }

@@ -43,7 +43,7 @@ is_none-first_bad rule (x ∷ xs) =
 -- ---- words
 
 -- the words rise after these letters
-rise_after : List ℕ → List Word → Bool
+unfoldable pub rise_after : List ℕ → List Word → Bool
 rise_after before [] = true
 rise_after before (w ∷ ws) = is_lt (slice_cmp nat_cmp before w.letters) && rise_after w.letters ws
 
@@ -69,7 +69,7 @@ no_letters_stand_below : (letters : List ℕ) → are_letters letters ≡ true �
 no_letters_stand_below [] h = absurd (false≢true h)
 no_letters_stand_below (c ∷ cs) h = refl
 
-rise_after-none : (ws : List Word) → (list_all is_word ws && rise_after [] ws) ≡ (list_all is_word ws && words_rise ws)
+pub rise_after-none : (ws : List Word) → (list_all is_word ws && rise_after [] ws) ≡ (list_all is_word ws && words_rise ws)
 unfolding rise_after
 rise_after-none [] = refl
 rise_after-none (w ∷ ws) =

@@ -1,17 +1,18 @@
 // The rules that name words, locations or other rows of the game.
 
-ghost use Rattle.std.specs.Prelude.{◌≡◌, ◌&&◌, ◌||◌, ◌==◌, ◌<◌, ◌^◌, IfSome, false, length, nat_lt};
-ghost use Rattle.std.specs.List.{list_all, list_any, slice_index_or};
+ghost use Rattle.std.specs.Prelude.{◌≡◌, ◌&&◌, ◌==◌, ◌<◌, ◌^◌, IfSome, length, nat_lt};
+ghost use Rattle.std.specs.List.{list_all, list_any};
 ghost use Rattle.paw_game.specs.Fault.{exits_fault, first_bad, objects_fault, tables_fault};
-ghost use Rattle.paw_game.specs.Valid.{are_exits, are_facts, is_any, is_condact, is_entry, is_exits, is_object, is_parameter, is_place, is_table, is_verb_value};
+ghost use Rattle.paw_game.specs.Valid.{are_exits, are_facts, is_condact, is_entry, is_exits, is_object, is_parameter, is_place, is_table, is_verb_value};
 ghost use Rattle.paw_game.specs.Values.{Tells};
 
 use crate::limits::{
     CONDACT_LIMIT, ENTRY_LIMIT, EXIT_LIMIT, OBJECT_LIMIT, TABLE_LEAST, TABLE_LIMIT, WEIGHT_LIMIT,
 };
-use crate::parts::{Entry, Exit, Exits, GameParts, ObjectRow, Table, Word};
+use crate::parts::{Entry, Exit, Exits, GameParts, ObjectRow, Table};
 use crate::rows::row_fault;
 use crate::texts::is_text;
+use crate::values::{is_any, is_in_or_none, values_of};
 use paw_base::parts::{Condact, ObjectFacts};
 use paw_base::rows::{ParamKind, condact_row};
 use std::marker::Model;
@@ -238,35 +239,8 @@ impl<'a> Inspector<'a> {
     }
 }
 
-/// The words that match any word of a sentence.
-fn is_any(value: u8) -> bool
-    ensures value { result ≡ is_any value }
-{
-    value == 1 || value == 255
-}
-
 fn has_verb(exits: &[Exit], verb: u8) -> bool
     ensures value { result ≡ list_any (λ x. x.verb == verb) exits.now }
 {
     exits.iter().any(|exit| exit.verb == verb)
-}
-
-/// Whether a table of values has this one, or it is 255, which stands for no word.
-fn is_in_or_none(values: &[bool; 256], value: u8) -> bool
-    ensures value { result ≡ ((value == 255) || slice_index_or values.now value false) }
-{
-    value == 255 || values[value as usize]
-}
-
-/// Which values the words of a class have.
-fn values_of(words: &[Word], class: u8) -> [bool; 256]
-    ensures value { Tells result words.now class }
-{
-    let mut values = [false; 256];
-    for word in words {
-        if word.class == class {
-            values[word.value as usize] = true;
-        }
-    }
-    values
 }

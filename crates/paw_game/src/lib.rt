@@ -5,11 +5,12 @@ mod check;
 pub mod game;
 mod inspector;
 pub mod limits;
-mod lookup;
+pub mod lookup;
 pub mod parts;
 mod rows;
 pub mod tables;
 #[cfg(test)]
 mod tests;
-mod texts;
-mod words;
+pub mod texts;
+pub mod values;
+pub mod words;

@@ -108,7 +108,7 @@ fn matches(entry: &Entry, verb: u8, noun: u8) -> bool
 }
 
 /// Whether an entry's word matches this one; 1 and 255 match any.
-fn is_for(word: u8, flag: u8) -> bool
+pub fn is_for(word: u8, flag: u8) -> bool
     ensures value { result ≡ is_for word flag }
 {
     word == 1 || word == 255 || word == flag
@@ -123,7 +123,7 @@ pub(crate) fn word_at(parts: &GameParts, letters: &[u8; 5]) -> Option<(u8, u8)>
 }
 
 /// The word with these letters, of words that rise by their letters.
-fn word_of<'a>(letters: &[u8; 5], words: &'a [Word]) -> Option<&'a Word>
+pub fn word_of<'a>(letters: &[u8; 5], words: &'a [Word]) -> Option<&'a Word>
     requires { IsTrue (words_rise words.now) }
     ensures value { option_copied result ≡ word_of letters.now words.now }
 {

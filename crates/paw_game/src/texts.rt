@@ -32,8 +32,8 @@ pub(crate) fn is_text(text: &Text) -> bool
     text.bytes.len() <= TEXT_LIMIT && is_printed(text.bytes.as_slice())
 }
 
-/// Bytes that print and line ends, where no line begins with '/' or ';'.
-fn is_printed(bytes: &[u8]) -> bool
+/// Whether bytes print or end a line, where no line begins with '/' or ';'.
+pub fn is_printed(bytes: &[u8]) -> bool
     ensures value { result ≡ is_printed true bytes.now }
 {
     let mut line_begins = true;

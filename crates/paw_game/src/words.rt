@@ -38,7 +38,8 @@ fn is_word(word: &Word) -> bool
     are_letters(&word.letters) && word.value >= 2 && word.value <= 254 && word.class <= 6
 }
 
-fn are_letters(letters: &[u8; 5]) -> bool
+/// Capitals and digits, one at least, and then spaces alone.
+pub fn are_letters(letters: &[u8; 5]) -> bool
     ensures value { result ≡ are_letters letters.now }
 {
     is_letter(letters[0]) && is_filled(letters.as_slice())

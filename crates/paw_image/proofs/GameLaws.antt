@@ -17,7 +17,7 @@ use Rattle.paw_image.proofs.FieldLaws.{IsBytes, Takes, Takes-then, bind_then, ke
 use Rattle.paw_image.proofs.ListLaws.{rows_take, rows_again}
 use Rattle.paw_image.proofs.RowLaws.{word_takes, word_again, text_takes, text_again, object_takes, object_again, exits_take, exits_again, table_takes, table_again}
 
-mark_takes : (bytes : List ℕ) (x : Unit {0} × List ℕ) → IsBytes bytes → mark_at bytes ≡ Ok x → Takes bytes (codes "PAWI") x.1
+pub mark_takes : (bytes : List ℕ) (x : Unit {0} × List ℕ) → IsBytes bytes → mark_at bytes ≡ Ok x → Takes bytes (codes "PAWI") x.1
 unfolding mark_at
 mark_takes bytes x fits e =
     bind_then _ (bytes_at 4 bytes) _ x e (λ mark mark_ok e.
@@ -26,7 +26,7 @@ mark_takes bytes x fits e =
     at_ok (λ (y : Unit {0} × List ℕ). Takes bytes (codes "PAWI") y.1) _ x kept.1
     (subst (λ (m : List ℕ). Takes bytes m mark.1) ((bytes_eq-Decides mark.0 (codes "PAWI")).0 kept.0) taken.0))
 
-version_takes : (bytes : List ℕ) (x : Unit {0} × List ℕ) → IsBytes bytes → version_at bytes ≡ Ok x → Takes bytes (1 ∷ []) x.1
+pub version_takes : (bytes : List ℕ) (x : Unit {0} × List ℕ) → IsBytes bytes → version_at bytes ≡ Ok x → Takes bytes (1 ∷ []) x.1
 unfolding version_at
 version_takes bytes x fits e =
     bind_then _ (byte_at bytes) _ x e (λ version version_ok e.
@@ -44,10 +44,10 @@ unfolding version_at
 version_again rest = refl
 
 -- the six counts
-abbrev counts_image : Counts → List ℕ
+abbrev pub counts_image : Counts → List ℕ
 counts_image c = two_bytes c.words ++ two_bytes c.system ++ two_bytes c.messages ++ two_bytes c.objects ++ two_bytes c.locations ++ two_bytes c.tables
 
-counts_take : (bytes : List ℕ) (x : Counts × List ℕ) → IsBytes bytes → counts_at bytes ≡ Ok x → Takes bytes (counts_image x.0) x.1
+pub counts_take : (bytes : List ℕ) (x : Counts × List ℕ) → IsBytes bytes → counts_at bytes ≡ Ok x → Takes bytes (counts_image x.0) x.1
 unfolding counts_at
 counts_take bytes x fits e =
     bind_then _ (number_at bytes) _ x e (λ words words_ok e.
@@ -80,7 +80,7 @@ counts_again g rest fits =
     rw (number_again (length g.words) after_words fits.words, number_again (length g.system) after_system fits.system, number_again (length g.messages) after_messages fits.messages, number_again (length g.objects) after_objects fits.objects, number_again (length g.locations) after_locations fits.locations, number_again (length g.tables) rest fits.tables) refl
 
 -- the lists one after another, and what follows them
-abbrev lists_image : GameLists → List ℕ → List ℕ
+abbrev pub lists_image : GameLists → List ℕ → List ℕ
 lists_image g rest =
     flat_map word_image g.words ++ (flat_map text_image g.system ++ (flat_map text_image g.messages ++ (flat_map object_image g.objects
     ++ (flat_map text_image g.locations ++ (flat_map exits_image g.exits ++ (flat_map table_image g.tables ++ rest))))))
@@ -133,7 +133,7 @@ lists_again g rest fits =
       rows_again table_at table_image FitsTable table_again g.tables rest fits.tables,
     ) refl
 
-image_is : (g : GameLists) → image g ≡ codes "PAWI" ++ (1 ∷ (counts_image (counts_of g) ++ lists_image g []))
+pub image_is : (g : GameLists) → image g ≡ codes "PAWI" ++ (1 ∷ (counts_image (counts_of g) ++ lists_image g []))
 image_is g = simp (append_assoc, append-nil)
 
 pub all_takes : (bytes : List ℕ) (g : GameLists) → IsBytes bytes → all_of bytes ≡ Ok g → bytes ≡ image g

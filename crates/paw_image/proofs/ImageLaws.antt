@@ -1,12 +1,11 @@
 -- Which bytes are the image of a valid game.
-use Rattle.std.proofs.Common.{◌≡◌, ℕ, ◌≤◌, List, length, Ok, Err, refl, ap, subst, ◌∙◌}
+use Rattle.std.proofs.Common.{◌≡◌, ℕ, ◌≤◌, List, length, Ok, Err, refl, sym, ap, subst, ◌∙◌}
 use Rattle.paw_game.specs.Game.{GameLists}
 use Rattle.paw_game.specs.Valid.{Valid}
 use Rattle.paw_game.specs.Image.{image}
-use Rattle.paw_image.specs.declared.fault.ReadFault.{ReadFault}
 use Rattle.paw_image.specs.declared.fault.ReadFault.TheVariants as fault
 use Rattle.paw_image.specs.declared.TheConstants.{IMAGE_LIMIT}
-use Rattle.paw_image.specs.Images.{IsImage, IfDamaged, refused}
+use Rattle.paw_image.specs.Images.{IsImage}
 use Rattle.paw_image.specs.Reading.{Fails, all_of}
 use Rattle.paw_image.proofs.FieldLaws.{IsBytes, read_ok}
 use Rattle.paw_image.proofs.GameLaws.{all_takes, all_again}
@@ -34,10 +33,9 @@ invalid_is_none bytes parts e invalid g is =
     let same : g ≡ parts = cc in
     invalid (subst Valid same is.valid)
 
--- what the refusal that comes of a fault says
-pub fault_is_none : (bytes : List ℕ) (f : ReadFault) → Fails f (all_of bytes) → IfDamaged {T = GameLists} (Err (refused f)) (λ _. (g : GameLists) → IsImage bytes g → ⊥)
-fault_is_none bytes (fault.Damaged left) e = unread_is_none bytes left e
-fault_is_none bytes fault.Memory e = tt
+-- what a refusal says of bytes that aren't read
+pub fault_is_none : (bytes : List ℕ) (left : ℕ) → Fails (fault.Damaged left) (all_of bytes) → (g : GameLists) → IsImage bytes g → ⊥
+fault_is_none bytes left e = unread_is_none bytes left e
 
 -- bytes that are read as the lists of a game are its image, and that of no other
 pub read_is_image : (bytes : List ℕ) (parts g : GameLists) → IsBytes bytes → length bytes ≤ IMAGE_LIMIT → all_of bytes ≡ Ok parts → g ≡ parts → Valid parts → IsImage bytes g
@@ -45,3 +43,6 @@ read_is_image bytes parts g fits short e same valid = rw same (record { spelled 
 
 pub read_is_only : (bytes : List ℕ) (parts g : GameLists) → all_of bytes ≡ Ok parts → g ≡ parts → (h : GameLists) → IsImage bytes h → g ≡ h
 read_is_only bytes parts g e same h is = let again = image_again bytes h is.valid is.spelled in cc
+
+pub one_image : (bytes : List ℕ) (g h : GameLists) → IsImage bytes g → IsImage bytes h → g ≡ h
+one_image bytes g h is also = one_game g h is.valid also.valid (sym is.spelled ∙ also.spelled)

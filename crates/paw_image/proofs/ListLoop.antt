@@ -9,7 +9,7 @@ use Rattle.paw_image.specs.Reading.{◌>>=◌, Reading, Fails, rows_at}
 abbrev pub with_front : {A : Type 0} → List A → Reading (List A) → Reading (List A)
 with_front front reading = reading >>= λ x. Ok (front ++ x.0, x.1)
 
-regroup : {A : Type 0} (front : List A) (x : A) (reading : Reading (List A)) → with_front front (reading >>= λ y. Ok (x ∷ y.0, y.1)) ≡ with_front (front ++ x ∷ []) reading
+pub regroup : {A : Type 0} (front : List A) (x : A) (reading : Reading (List A)) → with_front front (reading >>= λ y. Ok (x ∷ y.0, y.1)) ≡ with_front (front ++ x ∷ []) reading
 regroup {A} front x (Ok y) = ap (λ (xs : List A). Ok (xs, y.1)) (simp append_assoc)
 regroup front x (Err left) = refl
 

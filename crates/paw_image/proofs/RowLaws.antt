@@ -58,7 +58,7 @@ text_again text rest fits = rw (number_again (length text) (text ++ rest) fits, 
 
 -- ---- objects ----
 
-abbrev facts_image : ObjectFacts → List ℕ
+abbrev pub facts_image : ObjectFacts → List ℕ
 facts_image f = f.noun ∷ f.adjective ∷ f.start ∷ weight_byte f.weight f.container f.wearable ∷ []
 
 -- a bit that is 0 or 1, times its worth
@@ -124,7 +124,7 @@ facts_take bytes x fits e =
     (Takes-then (noun.0 ∷ []) (adjective.0 ∷ start.0 ∷ weight.0 ∷ []) noun_taken
     (Takes-then (adjective.0 ∷ []) (start.0 ∷ weight.0 ∷ []) adjective_taken (Takes-then (start.0 ∷ []) (weight.0 ∷ []) start_taken weight_taken.0))))))))
 
-facts_again : ReadsAgain facts_at facts_image (λ f. f.weight < 64)
+pub facts_again : ReadsAgain facts_at facts_image (λ f. f.weight < 64)
 unfolding facts_at
 facts_again f rest lt = ap (λ (g : ObjectFacts). Ok (g, rest)) (facts_again_with f.noun f.adjective f.start f.weight f.container f.wearable lt)
 
@@ -145,7 +145,7 @@ object_again o rest fits =
 
 -- ---- exits ----
 
-exit_takes : TakesRow exit_at exit_image
+pub exit_takes : TakesRow exit_at exit_image
 unfolding exit_at
 exit_takes bytes x fits e =
     bind_then _ (byte_at bytes) _ x e (λ verb verb_ok e.
@@ -176,7 +176,7 @@ exits_again xs rest fits = rows_again exit_at exit_image FitsExit exit_again xs 
 
 -- ---- tables ----
 
-parameter_takes : (k : ParamKind) → TakesRow (parameter_at k) (parameter_image k)
+pub parameter_takes : (k : ParamKind) → TakesRow (parameter_at k) (parameter_image k)
 parameter_takes kind.Absent bytes x fits e = at_ok (λ (y : ℕ × List ℕ). Takes bytes [] y.1) (0, bytes) x e (record { parts = refl; rest_fits = fits })
 parameter_takes kind.Location bytes x fits e = (byte_takes bytes x fits e).0
 parameter_takes kind.Place bytes x fits e = (byte_takes bytes x fits e).0
@@ -213,7 +213,7 @@ code_takes (code ∷ bytes) x fits e = (byte_takes (code ∷ bytes) x fits (kept
 code_again : (code : ℕ) (rest : List ℕ) → code ≤ 107 → code_at (code ∷ rest) ≡ Ok (code, rest)
 code_again code rest le = rw (le-leb code 107 le) refl
 
-condact_takes : TakesRow condact_at condact_image
+pub condact_takes : TakesRow condact_at condact_image
 unfolding condact_at
 condact_takes bytes x fits e =
     bind_then _ (code_at bytes) _ x e (λ code code_ok e.
@@ -226,7 +226,7 @@ condact_takes bytes x fits e =
     let second = parameter_image (second_kind code.0) b.0 in
     at_ok (λ (y : Condact × List ℕ). Takes bytes (condact_image y.0) y.1) _ x e (Takes-then (code.0 ∷ []) (first ++ second) code_taken (Takes-then first second a_taken b_taken)))))
 
-condact_again : ReadsAgain condact_at condact_image FitsCondact
+pub condact_again : ReadsAgain condact_at condact_image FitsCondact
 unfolding condact_at
 condact_again c rest fits =
     let first = parameter_image (first_kind c.code) c.a in
@@ -235,7 +235,7 @@ condact_again c rest fits =
     ap condact_at regrouped
     ∙ rw (code_again c.code (first ++ (second ++ rest)) fits.code, parameter_again (first_kind c.code) c.a (second ++ rest) fits.a, parameter_again (second_kind c.code) c.b rest fits.b) refl
 
-entry_takes : TakesRow entry_at entry_image
+pub entry_takes : TakesRow entry_at entry_image
 unfolding entry_at
 entry_takes bytes x fits e =
     bind_then _ (byte_at bytes) _ x e (λ verb verb_ok e.

@@ -19,11 +19,11 @@ all_give : {A : Type 0} (p : A → Bool) (P : A → Type 0) → ((x : A) → p x
 all_give p P gives [] e = tt
 all_give p P gives (x ∷ xs) e = let both = and_parts (p x) (list_all p xs) e in (gives x both.0, all_give p P gives xs both.1)
 
-letters_fit : (letters : List ℕ) → are_letters letters ≡ true → length letters ≡ 5
+pub letters_fit : (letters : List ℕ) → are_letters letters ≡ true → length letters ≡ 5
 letters_fit [] e = absurd cc
 letters_fit (c ∷ cs) e = eqb-true _ _ (and_parts (eqb (length (c ∷ cs)) 5) _ e).0
 
-word_fits : (w : Word) → is_word w ≡ true → FitsWord w
+pub word_fits : (w : Word) → is_word w ≡ true → FitsWord w
 word_fits w e = letters_fit w.letters (and_parts (are_letters w.letters) _ e).0
 
 text_fits : (text : List ℕ) → is_text text ≡ true → FitsText text

@@ -39,6 +39,11 @@ abbrev pub Gives : {X Y : Type 0} → (X → Y) → Result X ReadFault → Resul
 Gives view (Ok x) reading = reading ≡ Ok (view x)
 Gives view (Err e) reading = Fails e reading
 
+-- there is no value
+abbrev pub IsFault : {A : Type 0} → Result A ℕ → Type 0
+IsFault (Ok x) = ⊥
+IsFault (Err left) = Unit {0}
+
 -- ---- numbers and bytes ----
 
 -- one byte

@@ -5,10 +5,17 @@ ghost use Rattle.paw_game.specs.Image.{image};
 ghost use Rattle.paw_image.specs.Images.{IsImage, IfDamaged};
 
 use crate::IMAGE_LIMIT;
-use crate::parts::write_parts;
+use crate::parts::{length_of_parts, write_parts};
 use crate::refusal::ImageRefusal;
 use paw_game::game::Game;
 use std::alloc::Global;
+
+/// How many bytes the image of a game has. Nothing is written for it.
+pub fn image_length(game: &Game) -> u64
+    ensures value { result ≡ length (image game.now) }
+{
+    length_of_parts(game.parts()) as u64
+}
 
 /// The image of a game.
 ///
@@ -20,11 +27,12 @@ pub fn encode(alloc: Global, game: &Game) -> Result<Vec<u8>, ImageRefusal>
     ensures damaged { IfDamaged result (λ _. IMAGE_LIMIT < length (image game.now)) }
     ensures at { IfDamaged result (λ at. at ≡ IMAGE_LIMIT) }
 {
-    let mut out = Vec::new(alloc);
-    write_parts(game.parts(), &mut out)?;
-    if out.len() > IMAGE_LIMIT {
+    let length = image_length(game) as usize;
+    if length > IMAGE_LIMIT {
         let at = IMAGE_LIMIT as u64;
         return Err(ImageRefusal::Damaged { at });
     }
+    let mut out = Vec::with_capacity(alloc, length)?;
+    write_parts(game.parts(), &mut out)?;
     Ok(out)
 }

@@ -1,12 +1,17 @@
 // Exits, as rows of an image.
 
 ghost use Rattle.paw_game.specs.Image.{exit_image, exits_image};
-ghost use Rattle.paw_image.specs.Reading.{exit_at, exits_at};
+ghost use Rattle.std.specs.Prelude.{◌≡◌, ℕ, List, [], ◌∷◌, OnOk};
+ghost use Rattle.paw_image.specs.Damage.{exit_kept, after_exits_of, after_exits};
+ghost use Rattle.paw_image.specs.Marks.{Marks};
+ghost use Rattle.paw_image.specs.Reading.{Gives, exit_at, exits_at};
 ghost use Rattle.paw_image.specs.Sizes.{FitsExit, FitsExits};
 
 use crate::fault::ReadFault;
-use crate::fields::read_byte;
-use crate::rows::{Row, read_rows, write_rows};
+use crate::fields::{fault_at, read_byte};
+use crate::in_place::InPlace;
+use crate::rows::{Row, length_of_rows, read_rows, write_rows};
+use crate::rules::Rules;
 use paw_game::parts::{Exit, Exits};
 use std::alloc::{AllocError, Global};
 
@@ -22,6 +27,10 @@ impl Row for Exit {
         let (verb, rest) = read_byte(bytes)?;
         let (to, rest) = read_byte(rest)?;
         Ok((Exit { verb, to }, rest))
+    }
+
+    fn length(&self) -> usize {
+        2
     }
 
     fn write(&self, out: &mut Vec<u8>) -> Result<(), AllocError> {
@@ -43,8 +52,56 @@ impl Row for Exits {
         Ok((Exits { rows }, rest))
     }
 
+    fn length(&self) -> usize {
+        1 + length_of_rows(&self.rows)
+    }
+
     fn write(&self, out: &mut Vec<u8>) -> Result<(), AllocError> {
         out.push(self.rows.len() as u8)?;
         write_rows(&self.rows, out)
+    }
+}
+
+/// The verb of the exit at the front, which none of the marked verbs is, and the bytes after the exit.
+#[tactic(auto, unfolding(crate::specs::Damage::exit_kept))]
+fn read_exit<'a>(
+    rules: &Rules,
+    marks: &[bool; 256],
+    bytes: &'a [u8],
+) -> Result<(u8, &'a [u8]), ReadFault>
+    ensures gives { (verbs : List ℕ) → Marks marks.now verbs → Gives (λ x. (x.0, x.1.now)) result (exit_kept rules.now verbs bytes.now) }
+{
+    let (verb, places) = read_byte(bytes)?;
+    if !rules.is_verb_value(verb) || marks[verb as usize] {
+        return Err(fault_at(bytes));
+    }
+    let (to, rest) = read_byte(places)?;
+    if !rules.is_location(to) {
+        return Err(fault_at(places));
+    }
+    Ok((verb, rest))
+}
+
+/// The bytes after so many exits of one location.
+fn pass_exits<'a>(rules: &Rules, count: u8, bytes: &'a [u8]) -> Result<&'a [u8], ReadFault>
+    ensures gives { Gives (λ x. x.now) result (after_exits_of rules.now [] count bytes.now) }
+{
+    let mut marks = [false; 256];
+    let mut rest = bytes;
+    for _ in 0..count {
+        let (verb, after) = read_exit(rules, &marks, rest)?;
+        marks[verb as usize] = true;
+        rest = after;
+    }
+    Ok(rest)
+}
+
+impl InPlace for Exits {
+    ghost passing = { after_exits };
+
+    #[tactic(auto, unfolding(crate::specs::Damage::after_exits))]
+    fn pass<'a>(rules: &Rules, bytes: &'a [u8]) -> Result<&'a [u8], ReadFault> {
+        let (count, rest) = read_byte(bytes)?;
+        pass_exits(rules, count, rest)
     }
 }

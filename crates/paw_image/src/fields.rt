@@ -1,8 +1,10 @@
 // The fields of an image: bytes, numbers of two bytes, and runs of bytes.
 
-ghost use Rattle.std.specs.Prelude.{◌≡◌, ◌^◌, ◌<◌, ◌++◌, OnOk};
+ghost use Rattle.std.specs.Prelude.{◌≡◌, ◌^◌, ◌<◌, ◌++◌, length, OnErr, OnOk};
 ghost use Rattle.paw_game.specs.Image.{two_bytes};
-ghost use Rattle.paw_image.specs.Reading.{Gives, byte_at, bytes_at, number_at};
+ghost use Rattle.paw_image.specs.Damage.{number_within};
+ghost use Rattle.paw_image.specs.Reading.{Gives, IsFault, byte_at, bytes_at, number_at};
+ghost use Rattle.paw_image.specs.declared.fault.ReadFault.TheVariants as fault;
 
 use crate::fault::ReadFault;
 use std::alloc::AllocError;
@@ -10,6 +12,7 @@ use std::alloc::AllocError;
 /// The byte at the front.
 pub fn read_byte(bytes: &[u8]) -> Result<(u8, &[u8]), ReadFault>
     ensures gives { Gives (λ x. (x.0, x.1.now)) result (byte_at bytes.now) }
+    ensures fails { OnErr result (IsFault (byte_at bytes.now)) }
 {
     match bytes {
         [] => Err(ReadFault::Damaged { left: 0 }),
@@ -20,6 +23,7 @@ pub fn read_byte(bytes: &[u8]) -> Result<(u8, &[u8]), ReadFault>
 /// The first `count` bytes.
 pub fn read_bytes(count: usize, bytes: &[u8]) -> Result<(&[u8], &[u8]), ReadFault>
     ensures gives { Gives (λ x. (x.0.now, x.1.now)) result (bytes_at count bytes.now) }
+    ensures fails { OnErr result (IsFault (bytes_at count bytes.now)) }
 {
     if bytes.len() < count {
         return Err(ReadFault::Damaged { left: bytes.len() });
@@ -30,6 +34,7 @@ pub fn read_bytes(count: usize, bytes: &[u8]) -> Result<(&[u8], &[u8]), ReadFaul
 /// The first N bytes.
 pub fn read_array<const N: usize>(bytes: &[u8]) -> Result<([u8; N], &[u8]), ReadFault>
     ensures gives { Gives (λ x. (x.0, x.1.now)) result (bytes_at N bytes.now) }
+    ensures fails { OnErr result (IsFault (bytes_at N bytes.now)) }
 {
     match bytes.split_first_chunk::<N>() {
         Some((front, rest)) => Ok((*front, rest)),
@@ -38,12 +43,31 @@ pub fn read_array<const N: usize>(bytes: &[u8]) -> Result<([u8; N], &[u8]), Read
 }
 
 /// The number in the first two bytes, the low one first.
-#[tactic(auto, unfolding(crate::specs::Reading::number_at))]
+#[tactic(auto, using(crate::proofs::Faults::fault_first), unfolding(crate::specs::Reading::number_at))]
 pub fn read_number(bytes: &[u8]) -> Result<(u16, &[u8]), ReadFault>
     ensures gives { Gives (λ x. (x.0, x.1.now)) result (number_at bytes.now) }
+    ensures fails { OnErr result (IsFault (number_at bytes.now)) }
 {
     let (two, rest) = read_array(bytes)?;
     Ok((u16::from_le_bytes(two), rest))
+}
+
+/// The number at the front, which is none below the one and none above the other.
+pub fn read_within(least: usize, most: usize, bytes: &[u8]) -> Result<(u16, &[u8]), ReadFault>
+    ensures gives { Gives (λ x. (x.0, x.1.now)) result (number_within least most bytes.now) }
+{
+    let (number, rest) = read_number(bytes)?;
+    if (number as usize) < least || number as usize > most {
+        return Err(fault_at(bytes));
+    }
+    Ok((number, rest))
+}
+
+/// A fault in the field that these bytes begin with.
+pub fn fault_at(bytes: &[u8]) -> ReadFault
+    ensures value { result ≡ fault.Damaged (length bytes.now) }
+{
+    ReadFault::Damaged { left: bytes.len() }
 }
 
 /// Writes a number as two bytes at the end, the low one first.

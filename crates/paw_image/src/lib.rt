@@ -1,20 +1,28 @@
 //! The image of a game: the bytes that stand for it in a file, read and written.
 #![tactic(auto)]
 
+mod at_place;
+mod damage;
 pub mod decoder;
 pub mod encoder;
 mod exits;
 mod fault;
 mod fields;
+mod head;
+mod in_place;
 pub mod laws;
 mod objects;
+mod order;
 mod parts;
+mod places;
 pub mod refusal;
 mod rows;
+mod rules;
 mod tables;
 #[cfg(test)]
 mod tests;
 mod texts;
+pub mod view;
 mod words;
 
 /// The most bytes that an image may have.

@@ -1,13 +1,18 @@
 // Objects, as rows of an image.
 
-ghost use Rattle.std.specs.Prelude.{◌≡◌, ◌<◌};
+ghost use Rattle.std.specs.Prelude.{◌≡◌, ◌<◌, OnErr};
 ghost use Rattle.paw_game.specs.Image.{weight_byte, object_image};
-ghost use Rattle.paw_image.specs.Reading.{Gives, facts_at, object_at};
+ghost use Rattle.paw_image.specs.Damage.{after_facts, after_object};
+ghost use Rattle.paw_image.specs.Reading.{Gives, IsFault, facts_at, object_at};
+ghost use Rattle.paw_image.specs.Rows.{after_text_facts};
 ghost use Rattle.paw_image.specs.Sizes.{FitsObject};
 
 use crate::fault::ReadFault;
-use crate::fields::read_byte;
+use crate::fields::{fault_at, read_byte};
+use crate::in_place::InPlace;
 use crate::rows::Row;
+use crate::rules::Rules;
+use crate::texts::read_text;
 use paw_base::parts::ObjectFacts;
 use paw_game::parts::{ObjectRow, Text};
 use std::alloc::{AllocError, Global};
@@ -22,9 +27,10 @@ const CONTAINER_BIT: u8 = 0b0100_0000;
 const WEARABLE_BIT: u8 = 0b1000_0000;
 
 /// What is said of an object beside its text.
-#[tactic(auto, unfolding(crate::specs::Reading::facts_at))]
-fn read_facts(bytes: &[u8]) -> Result<(ObjectFacts, &[u8]), ReadFault>
+#[tactic(auto, using(crate::proofs::Faults::fault_first, crate::proofs::Faults::fault_next), unfolding(crate::specs::Reading::facts_at))]
+pub fn read_facts(bytes: &[u8]) -> Result<(ObjectFacts, &[u8]), ReadFault>
     ensures gives { Gives (λ x. (x.0, x.1.now)) result (facts_at bytes.now) }
+    ensures fails { OnErr result (IsFault (facts_at bytes.now)) }
 {
     let (noun, rest) = read_byte(bytes)?;
     let (adjective, rest) = read_byte(rest)?;
@@ -39,6 +45,16 @@ fn read_facts(bytes: &[u8]) -> Result<(ObjectFacts, &[u8]), ReadFault>
         wearable: weight & WEARABLE_BIT != 0,
     };
     Ok((facts, rest))
+}
+
+/// What is said of the object at the front.
+#[tactic(auto, using(crate::proofs::Faults::fault_first, crate::proofs::Faults::fault_next))]
+pub fn read_after_text(bytes: &[u8]) -> Result<(ObjectFacts, &[u8]), ReadFault>
+    ensures gives { Gives (λ x. (x.0, x.1.now)) result (after_text_facts bytes.now) }
+    ensures fails { OnErr result (IsFault (after_text_facts bytes.now)) }
+{
+    let (_, rest) = read_text(bytes)?;
+    read_facts(rest)
 }
 
 /// The last byte of an object: its weight, and a bit for each of a container and what may be worn.
@@ -65,9 +81,43 @@ impl Row for ObjectRow {
         Ok((ObjectRow { text, facts }, rest))
     }
 
+    fn length(&self) -> usize {
+        self.text.length() + 4
+    }
+
     fn write(&self, out: &mut Vec<u8>) -> Result<(), AllocError> {
         self.text.write(out)?;
         let facts = self.facts;
         out.extend_from_slice(&[facts.noun, facts.adjective, facts.start, last_byte(facts)])
+    }
+}
+
+/// The bytes after what is said of an object beside its text.
+#[tactic(auto, unfolding(crate::specs::Damage::after_facts))]
+fn pass_facts<'a>(rules: &Rules, bytes: &'a [u8]) -> Result<&'a [u8], ReadFault>
+    ensures gives { Gives (λ x. x.now) result (after_facts rules.now bytes.now) }
+{
+    let (noun, adjectives) = read_byte(bytes)?;
+    if !rules.is_noun_or_none(noun) {
+        return Err(fault_at(bytes));
+    }
+    let (adjective, starts) = read_byte(adjectives)?;
+    if !rules.is_adjective_or_none(adjective) {
+        return Err(fault_at(adjectives));
+    }
+    let (start, weights) = read_byte(starts)?;
+    if !rules.is_place(start) {
+        return Err(fault_at(starts));
+    }
+    let (_, rest) = read_byte(weights)?;
+    Ok(rest)
+}
+
+impl InPlace for ObjectRow {
+    ghost passing = { after_object };
+
+    fn pass<'a>(rules: &Rules, bytes: &'a [u8]) -> Result<&'a [u8], ReadFault> {
+        let facts = Text::pass(rules, bytes)?;
+        pass_facts(rules, facts)
     }
 }

@@ -1,22 +1,25 @@
 // The seven lists of a game, as an image has them.
 
-ghost use Rattle.std.specs.Prelude.{◌≡◌, ◌++◌, OnOk};
+ghost use Rattle.std.specs.Prelude.{◌≡◌, ◌<◌, ◌^◌, ◌++◌, length, OnOk};
 ghost use Rattle.paw_game.specs.Image.{head_image, image};
 ghost use Rattle.paw_image.specs.Sizes.{FitsCounts, FitsGame};
 ghost use Rattle.paw_image.specs.Reading.{Gives, mark_at, version_at, counts_at, lists_at, all_of};
 
 use crate::fault::ReadFault;
 use crate::fields::{read_array, read_byte, read_number, write_number};
-use crate::rows::{read_rows, write_rows};
+use crate::rows::{length_of_rows, read_rows, write_rows};
 use paw_base::parts::Counts;
 use paw_game::parts::GameParts;
 use std::alloc::{AllocError, Global};
 
 /// The first bytes of every image.
-const MARK: [u8; 4] = *b"PAWI";
+pub const MARK: [u8; 4] = *b"PAWI";
 
 /// The version of an image.
-const VERSION: u8 = 1;
+pub const VERSION: u8 = 1;
+
+/// The bytes of the mark, the version and the six counts.
+const HEAD_LENGTH: usize = 17;
 
 /// The bytes after the mark.
 #[tactic(auto, unfolding(crate::specs::Reading::mark_at))]
@@ -101,6 +104,22 @@ pub fn read_parts(alloc: Global, bytes: &[u8]) -> Result<GameParts, ReadFault>
         return Err(ReadFault::Damaged { left: rest.len() });
     }
     Ok(parts)
+}
+
+/// How many bytes the image of the lists has.
+pub fn length_of_parts(parts: &GameParts) -> usize
+    requires fits { FitsGame parts.now }
+    requires short { length (image parts.now) < 2 ^ 32 }
+    ensures value { result ≡ length (image parts.now) }
+{
+    HEAD_LENGTH
+        + length_of_rows(&parts.words)
+        + length_of_rows(&parts.system)
+        + length_of_rows(&parts.messages)
+        + length_of_rows(&parts.objects)
+        + length_of_rows(&parts.locations)
+        + length_of_rows(&parts.exits)
+        + length_of_rows(&parts.tables)
 }
 
 /// Writes the mark, the version and the counts at the end.

@@ -1,7 +1,5 @@
 // Why bytes are no image of a game, or a game has no image.
 
-use crate::fault::ReadFault;
-use paw_game::parts::GameFault;
 use std::alloc::AllocError;
 use thiserror::Error;
 
@@ -27,30 +25,5 @@ impl From<AllocError> for ImageRefusal {
 
     fn from(_: AllocError) -> ImageRefusal {
         ImageRefusal::Memory
-    }
-}
-
-impl From<ReadFault> for ImageRefusal {
-    ghost use Rattle.std.specs.Prelude.{◌≡◌};
-    ghost use Rattle.paw_image.specs.Images.{refused};
-
-    ghost from_gives = { λ fault refusal. refusal ≡ refused fault };
-
-    fn from(fault: ReadFault) -> ImageRefusal {
-        match fault {
-            ReadFault::Damaged { .. } => ImageRefusal::Damaged { at: 0 },
-            ReadFault::Memory => ImageRefusal::Memory,
-        }
-    }
-}
-
-impl From<GameFault> for ImageRefusal {
-    ghost use Rattle.std.specs.Prelude.{◌≡◌};
-    ghost use Rattle.paw_image.specs.declared.refusal.ImageRefusal.TheVariants.{Damaged};
-
-    ghost from_gives = { λ _ refusal. refusal ≡ Damaged 0 };
-
-    fn from(_: GameFault) -> ImageRefusal {
-        ImageRefusal::Damaged { at: 0 }
     }
 }

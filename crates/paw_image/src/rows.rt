@@ -1,6 +1,6 @@
 // The rows of an image, one after another.
 
-ghost use Rattle.std.specs.Prelude.{◌≡◌, ◌++◌, OnOk, flat_map};
+ghost use Rattle.std.specs.Prelude.{◌≡◌, ◌<◌, ◌^◌, ◌++◌, length, OnOk, flat_map};
 ghost use Rattle.std.specs.List.{AllByRecursion};
 ghost use Rattle.paw_image.specs.Reading.{Gives, rows_at};
 
@@ -9,7 +9,7 @@ use std::alloc::{AllocError, Global};
 
 /// What an image has a list of: a row is spelled by some bytes, and stands at the front of them.
 pub trait Row: Drop {
-    ghost use Rattle.std.specs.Prelude.{◌≡◌, ◌++◌, List, ℕ, OnOk};
+    ghost use Rattle.std.specs.Prelude.{◌≡◌, ◌<◌, ◌^◌, ◌++◌, List, ℕ, length, OnOk};
     ghost use Rattle.paw_image.specs.Reading.{Gives, Reading};
 
     /// The row at the front of these bytes, and the bytes after it.
@@ -24,6 +24,12 @@ pub trait Row: Drop {
     /// Reads the row at the front of the bytes, and gives the bytes after it.
     fn read(alloc: Global, bytes: &[u8]) -> Result<(Self, &[u8]), ReadFault>
         ensures gives { Gives (λ x. (x.0, x.1.now)) result (reading bytes.now) };
+
+    /// How many bytes spell the row.
+    fn length(&self) -> usize
+        requires fits { fits self.now }
+        requires short { length (spelling self.now) < 2 ^ 32 }
+        ensures value { result ≡ length (spelling self.now) };
 
     /// Writes the row at the end.
     fn write(&self, out: &mut Vec<u8>) -> Result<(), AllocError>
@@ -47,6 +53,19 @@ pub fn read_rows<R: Row>(
         rest = after;
     }
     Ok((rows, rest))
+}
+
+/// How many bytes spell the rows.
+pub fn length_of_rows<R: Row>(rows: &[R]) -> usize
+    requires fits { AllByRecursion R.fits rows.now }
+    requires short { length (flat_map R.spelling rows.now) < 2 ^ 32 }
+    ensures value { result ≡ length (flat_map R.spelling rows.now) }
+{
+    let mut total = 0;
+    for row in rows {
+        total += row.length();
+    }
+    total
 }
 
 /// Writes the rows at the end, one after another.

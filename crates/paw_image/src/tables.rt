@@ -1,22 +1,28 @@
 // Tables, their entries and condacts, as rows of an image.
 
-ghost use Rattle.std.specs.Prelude.{◌≡◌, ◌++◌, IfOk, OnOk};
+ghost use Rattle.std.specs.Prelude.{◌≡◌, ◌++◌, IfOk, OnErr, OnOk};
 ghost use Rattle.paw_game.specs.Image.{parameter_image, condact_image, entry_image, table_image};
 ghost use Rattle.paw_image.specs.Sizes.{FitsCondact, FitsEntry, FitsTable};
-ghost use Rattle.paw_image.specs.Reading.{Gives, code_at, parameter_at, condact_at, entry_at, table_at};
+ghost use Rattle.paw_image.specs.Damage.{after_parameter, after_condact, after_entry, after_table};
+ghost use Rattle.paw_image.specs.Reading.{Gives, IsFault, code_at, parameter_at, condact_at, entry_at, table_at};
 ghost use Rattle.paw_base.specs.Condacts.{row_of};
 
 use crate::fault::ReadFault;
-use crate::fields::{read_byte, read_number, write_number};
-use crate::rows::{Row, read_rows, write_rows};
+use crate::fields::{fault_at, read_byte, read_number, read_within, write_number};
+use crate::in_place::{InPlace, pass_each};
+use crate::rows::{Row, length_of_rows, read_rows, write_rows};
+use crate::rules::Rules;
 use paw_base::parts::Condact;
 use paw_base::rows::{CondactRow, ParamKind, condact_row};
+use paw_game::limits::ENTRY_LIMIT;
 use paw_game::parts::{Condacts, Entry, Table};
+use paw_game::values::is_any;
 use std::alloc::{AllocError, Global};
 
 /// A code of a condact, and what the table of condacts says of it.
 fn read_code(bytes: &[u8]) -> Result<((u8, CondactRow), &[u8]), ReadFault>
     ensures gives { Gives (λ x. (x.0.0, x.1.now)) result (code_at bytes.now) }
+    ensures fails { OnErr result (IsFault (code_at bytes.now)) }
     ensures row { IfOk result (λ x. x.0.1 ≡ row_of x.0.0) }
 {
     let (code, rest) = read_byte(bytes)?;
@@ -29,6 +35,7 @@ fn read_code(bytes: &[u8]) -> Result<((u8, CondactRow), &[u8]), ReadFault>
 /// A parameter of this kind; 0 where there is none.
 fn read_parameter(kind: ParamKind, bytes: &[u8]) -> Result<(u8, &[u8]), ReadFault>
     ensures gives { Gives (λ x. (x.0, x.1.now)) result (parameter_at kind bytes.now) }
+    ensures fails { OnErr result (IsFault (parameter_at kind bytes.now)) }
 {
     match kind {
         ParamKind::Absent => Ok((0, bytes)),
@@ -47,6 +54,18 @@ fn write_parameter(kind: ParamKind, value: u8, out: &mut Vec<u8>) -> Result<(), 
     Ok(())
 }
 
+/// The condact at the front.
+#[tactic(auto, using(crate::proofs::Faults::fault_first, crate::proofs::Faults::fault_next), unfolding(crate::specs::Reading::condact_at))]
+pub fn read_condact(bytes: &[u8]) -> Result<(Condact, &[u8]), ReadFault>
+    ensures gives { Gives (λ x. (x.0, x.1.now)) result (condact_at bytes.now) }
+    ensures fails { OnErr result (IsFault (condact_at bytes.now)) }
+{
+    let ((code, row), rest) = read_code(bytes)?;
+    let (a, rest) = read_parameter(row.first, rest)?;
+    let (b, rest) = read_parameter(row.second, rest)?;
+    Ok((Condact { code, a, b }, rest))
+}
+
 impl Row for Condact {
     ghost reading = { condact_at };
 
@@ -54,12 +73,13 @@ impl Row for Condact {
 
     ghost fits = { FitsCondact };
 
-    #[tactic(auto, unfolding(crate::specs::Reading::condact_at))]
     fn read(_: Global, bytes: &[u8]) -> Result<(Condact, &[u8]), ReadFault> {
-        let ((code, row), rest) = read_code(bytes)?;
-        let (a, rest) = read_parameter(row.first, rest)?;
-        let (b, rest) = read_parameter(row.second, rest)?;
-        Ok((Condact { code, a, b }, rest))
+        read_condact(bytes)
+    }
+
+    fn length(&self) -> usize {
+        let row = condact_row(self.code).unwrap();
+        1 + row.params()
     }
 
     fn write(&self, out: &mut Vec<u8>) -> Result<(), AllocError> {
@@ -91,6 +111,10 @@ impl Row for Entry {
         Ok((entry, rest))
     }
 
+    fn length(&self) -> usize {
+        3 + length_of_rows(&self.condacts.rows)
+    }
+
     fn write(&self, out: &mut Vec<u8>) -> Result<(), AllocError> {
         let condacts = &self.condacts;
         out.extend_from_slice(&[self.verb, self.noun, condacts.rows.len() as u8])?;
@@ -112,8 +136,72 @@ impl Row for Table {
         Ok((Table { entries }, rest))
     }
 
+    fn length(&self) -> usize {
+        2 + length_of_rows(&self.entries)
+    }
+
     fn write(&self, out: &mut Vec<u8>) -> Result<(), AllocError> {
         write_number(self.entries.len(), out)?;
         write_rows(&self.entries, out)
+    }
+}
+
+/// The bytes after a parameter of this kind.
+fn pass_parameter<'a>(
+    rules: &Rules,
+    kind: ParamKind,
+    bytes: &'a [u8],
+) -> Result<&'a [u8], ReadFault>
+    ensures gives { Gives (λ x. x.now) result (after_parameter rules.now kind bytes.now) }
+{
+    if matches!(kind, ParamKind::Absent) {
+        return Ok(bytes);
+    }
+    let (value, rest) = read_byte(bytes)?;
+    if !rules.keeps_kind(kind, value) {
+        return Err(fault_at(bytes));
+    }
+    Ok(rest)
+}
+
+impl InPlace for Condact {
+    ghost passing = { after_condact };
+
+    #[tactic(auto, unfolding(crate::specs::Damage::after_condact))]
+    fn pass<'a>(rules: &Rules, bytes: &'a [u8]) -> Result<&'a [u8], ReadFault> {
+        let (code, rest) = read_byte(bytes)?;
+        let Some(row) = condact_row(code) else {
+            return Err(fault_at(bytes));
+        };
+        let rest = pass_parameter(rules, row.first, rest)?;
+        pass_parameter(rules, row.second, rest)
+    }
+}
+
+impl InPlace for Entry {
+    ghost passing = { after_entry };
+
+    #[tactic(auto, unfolding(crate::specs::Damage::after_entry))]
+    fn pass<'a>(rules: &Rules, bytes: &'a [u8]) -> Result<&'a [u8], ReadFault> {
+        let (verb, nouns) = read_byte(bytes)?;
+        if !is_any(verb) && !rules.is_verb_value(verb) {
+            return Err(fault_at(bytes));
+        }
+        let (noun, counts) = read_byte(nouns)?;
+        if !is_any(noun) && !rules.is_noun(noun) {
+            return Err(fault_at(nouns));
+        }
+        let (count, rest) = read_byte(counts)?;
+        pass_each::<Condact>(rules, count as usize, rest)
+    }
+}
+
+impl InPlace for Table {
+    ghost passing = { after_table };
+
+    #[tactic(auto, unfolding(crate::specs::Damage::after_table))]
+    fn pass<'a>(rules: &Rules, bytes: &'a [u8]) -> Result<&'a [u8], ReadFault> {
+        let (count, rest) = read_within(0, ENTRY_LIMIT, bytes)?;
+        pass_each::<Entry>(rules, count as usize, rest)
     }
 }

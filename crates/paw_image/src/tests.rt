@@ -1,7 +1,11 @@
 use crate::decoder::decode;
-use crate::encoder::encode;
+use crate::encoder::{encode, image_length};
 use crate::refusal::ImageRefusal;
-use paw_base::parts::Condact;
+use crate::view::View;
+use paw_base::parts::{Condact, Counts, ObjectFacts};
+use paw_game::parts::GamePart;
+use paw_game::tables::Tables;
+use std::alloc::{AllocError, Global};
 use std::test::Fail;
 
 /// Two rooms, four words, nine system messages, a message, and no object.
@@ -88,35 +92,292 @@ fn a_table_of_the_lantern_game(rt: HostRuntime) -> Result<(), Fail> {
     Ok(())
 }
 
-/// The image of the two rooms with one byte changed.
-fn two_rooms_with(place: usize, byte: u8) -> [u8; 134] {
-    let mut image = TWO_ROOMS;
-    if place < 134 {
-        image[place] = byte;
+/// The place at which bytes are damaged, as both readers name it; None where they differ.
+fn damaged_at(alloc: Global, bytes: &[u8]) -> Option<u64> {
+    let seen = View::new(alloc, bytes).err()?;
+    let read = decode(alloc, bytes).err()?;
+    match (seen, read) {
+        (ImageRefusal::Damaged { at }, ImageRefusal::Damaged { at: same }) if at == same => Some(
+            at,
+        ),
+        _ => None,
     }
-    image
 }
 
 #[test]
-fn other_bytes_are_damaged(rt: HostRuntime) -> Result<(), Fail> {
-    let damaged = Some(ImageRefusal::Damaged { at: 0 });
-    assert_eq!(rt; decode(rt.alloc(), &[]).err(), damaged, "no byte");
-    assert_eq!(rt;
-        decode(rt.alloc(), &TWO_ROOMS[..133]).err(),
-        damaged,
-        "cut by one byte"
-    );
-    let mut longer = TWO_ROOMS.to_vec(rt.alloc())?;
-    longer.push(0)?;
-    assert_eq!(rt; decode(rt.alloc(), &longer).err(), damaged, "a byte more");
-    // The version, the first letter of the first word, a destination, and the code of a condact.
-    for (place, byte) in [(4, 2), (17, b'Z'), (104, 2), (113, 108)] {
-        let image = two_rooms_with(place, byte);
+fn every_damaged_byte_is_named(rt: HostRuntime) -> Result<(), Fail> {
+    // The first changed place, what stands there, and the place of the fault.
+    let changes: [(usize, &[u8], u64); 14] = [
+        (0, b"Q", 0),
+        (4, &[2], 4),
+        (5, &[0xD1, 0x07], 5),
+        (24, b"GET  ", 24),
+        (22, &[1], 22),
+        (45, &[0, 16], 45),
+        (47, b"/", 47),
+        (61, &[51], 61),
+        (63, &[1], 63),
+        (75, &[0xA1, 0x0F], 75),
+        (77, &[31], 77),
+        (80, &[108], 80),
+        (81, &[1], 81),
+        (85, &[161, 15], 85),
+    ];
+    for (place, bytes, at) in changes {
+        let mut image = LANTERN;
+        for (step, byte) in bytes.iter().enumerate() {
+            let here = place.saturating_add(step);
+            if here < image.len() {
+                image[here] = *byte;
+            }
+        }
         assert_eq!(rt;
-            decode(rt.alloc(), &image).err(),
-            damaged,
-            "{byte} at {place}"
+            damaged_at(rt.alloc(), &image),
+            Some(at),
+            "changed at {place}"
         );
     }
+    Ok(())
+}
+
+#[test]
+fn cuts_and_bytes_too_many_are_named(rt: HostRuntime) -> Result<(), Fail> {
+    let alloc = rt.alloc();
+    assert_eq!(rt; damaged_at(alloc, &[]), Some(0));
+    assert_eq!(rt; damaged_at(alloc, &LANTERN[..50]), Some(47));
+    assert_eq!(rt; damaged_at(alloc, &SMALLEST[..25]), Some(24));
+    assert_eq!(rt; damaged_at(alloc, &TWO_ROOMS[..133]), Some(132));
+    let mut longer = SMALLEST.to_vec(alloc)?;
+    longer.push(0)?;
+    assert_eq!(rt; damaged_at(alloc, &longer), Some(26));
+    // Two exits of a location with one verb: the later one's verb.
+    let mut twice = TWO_ROOMS[..102].to_vec(alloc)?;
+    twice.extend_from_slice(&[2, 2, 1, 2, 0])?;
+    twice.extend_from_slice(&TWO_ROOMS[105..])?;
+    assert_eq!(rt; damaged_at(alloc, &twice), Some(105));
+    Ok(())
+}
+
+#[test]
+fn an_image_of_thousands_of_bytes(rt: HostRuntime) -> Result<(), Fail> {
+    let mut image = b"PAWI\x01\x00\x00\x00\x00\xC8\x00\x00\x00\x01\x00\x03\x00".to_vec(rt.alloc())?;
+    for _ in 0..200 {
+        image.extend_from_slice(b"\x15\x00You shake the lantern")?;
+    }
+    image.extend_from_slice(&[0; 9])?;
+    let game = decode(rt.alloc(), &image)?;
+    assert_eq!(rt; image_length(&game), 4626);
+    let again = encode(rt.alloc(), &game)?;
+    assert_eq!(rt; again.as_slice(), image.as_slice());
+    Ok(())
+}
+
+/// Two words, a location, and a table whose entries have a verb, any verb, or none.
+const MATCHES: [u8; 55] = [
+    80, 65, 87, 73, 1, 2, 0, 0, 0, 0, 0, 0, 0, 1, 0, 3, 0, 71, 69, 84, 32, 32, 30, 0, 76, 65, 77,
+    80, 32, 50, 2, 0, 0, 0, 5, 0, 30, 50, 0, 255, 50, 0, 30, 255, 0, 1, 50, 0, 30, 50, 0, 0, 0, 0,
+    0,
+];
+
+/// The next matches of the table, for places, verbs and nouns.
+fn next_matches<T: Tables>(tables: &T) -> [Option<u16>; 10] {
+    [
+        tables.next_match(0, 0, 30, 50),
+        tables.next_match(0, 1, 30, 50),
+        tables.next_match(0, 2, 30, 50),
+        tables.next_match(0, 4, 30, 50),
+        tables.next_match(0, 5, 30, 50),
+        tables.next_match(0, 0, 99, 50),
+        tables.next_match(0, 2, 99, 50),
+        tables.next_match(0, 4, 99, 50),
+        tables.next_match(0, 0, 30, 60),
+        tables.next_match(3, 0, 30, 50),
+    ]
+}
+
+#[test]
+fn both_find_the_next_match(rt: HostRuntime) -> Result<(), Fail> {
+    let want = [
+        Some(0),
+        Some(1),
+        Some(2),
+        Some(4),
+        None,
+        Some(1),
+        Some(3),
+        None,
+        Some(2),
+        None,
+    ];
+    let game = decode(rt.alloc(), &MATCHES)?;
+    assert_eq!(rt; next_matches(&game), want);
+    let view = View::new(rt.alloc(), &MATCHES)?;
+    assert_eq!(rt; next_matches(&view), want);
+    Ok(())
+}
+
+/// Whether a game is that of the lantern.
+fn is_lantern<T: Tables>(tables: &T) -> bool {
+    let counts = Counts {
+        words: 4,
+        system: 0,
+        messages: 1,
+        objects: 1,
+        locations: 1,
+        tables: 3,
+    };
+    let facts = ObjectFacts {
+        noun: 50,
+        adjective: 255,
+        start: 0,
+        weight: 1,
+        container: false,
+        wearable: false,
+    };
+    tables.counts() == counts
+        && tables.facts(0) == Some(facts)
+        && tables.facts(1).is_none()
+        && tables.text(GamePart::Messages, 0) == Some(b"Taken.".as_slice())
+        && tables.text(GamePart::Objects, 0) == Some(b"a lamp".as_slice())
+        && tables.text(GamePart::Locations, 1).is_none()
+        && tables.head(0, 0) == Some((30, 50))
+        && tables.word(b"TAKE ") == Some((30, 0))
+        && tables.word(b"DROP ").is_none()
+}
+
+/// The condacts of the first entry.
+fn condacts<T: Tables>(tables: &T) -> [Option<Condact>; 3] {
+    [
+        tables.condact(0, 0, 0),
+        tables.condact(0, 0, 1),
+        tables.condact(0, 0, 2),
+    ]
+}
+
+#[test]
+fn both_tell_the_lantern(rt: HostRuntime) -> Result<(), Fail> {
+    let game = decode(rt.alloc(), &LANTERN)?;
+    let view = View::new(rt.alloc(), &LANTERN)?;
+    assert!(rt; is_lantern(&game));
+    assert!(rt; is_lantern(&view));
+    let message = Condact {
+        code: 51,
+        a: 0,
+        b: 0,
+    };
+    let done = Condact {
+        code: 32,
+        a: 0,
+        b: 0,
+    };
+    assert_eq!(rt; condacts(&game), [Some(message), Some(done), None]);
+    assert_eq!(rt; condacts(&view), [Some(message), Some(done), None]);
+    Ok(())
+}
+
+#[test]
+fn a_view_lends_its_bytes(rt: HostRuntime) -> Result<(), Fail> {
+    let view = View::new(rt.alloc(), &LANTERN)?;
+    assert_eq!(rt; view.span(GamePart::Messages, 0), Some((47, 53)));
+    assert_eq!(rt; view.span(GamePart::Objects, 0), Some((55, 61)));
+    assert_eq!(rt; view.span(GamePart::Messages, 1), None);
+    assert_eq!(rt;
+        view.entry(0, 0),
+        Some([0x1E, 0x32, 2, 0x33, 0, 0x20].as_slice())
+    );
+    assert_eq!(rt; view.entry(0, 1), None);
+    assert_eq!(rt; view.bytes(), LANTERN.as_slice());
+    let rooms = View::new(rt.alloc(), &TWO_ROOMS)?;
+    assert_eq!(rt; rooms.exit(1, 3), Some(0));
+    assert_eq!(rt; rooms.exit(1, 2), None);
+    Ok(())
+}
+
+/// An image with all seven classes of words, a text of 300 bytes, a container, a thing that may be worn, an entry with
+/// 255 condacts, and a condact with two parameters.
+fn every_kind(alloc: Global) -> Result<Vec<u8>, AllocError> {
+    let mut image = b"PAWI\x01\x07\x00\x00\x00\x01\x00\x02\x00\x01\x00\x03\x00".to_vec(alloc)?;
+    image.extend_from_slice(b"ABLE \x1E\x00BADLY\x1F\x01COAT \x32\x02DARK \x28\x03")?;
+    image.extend_from_slice(b"EX   \x3C\x04FOR  \x3D\x05IT   \x3E\x06")?;
+    image.extend_from_slice(&[44, 1])?;
+    image.extend_from_slice(&[b'm'; 300])?;
+    image.extend_from_slice(b"\x04\x00sack\x32\x28\x00\x45\x04\x00coat\x32\xFF\xFD\xBF")?;
+    image.extend_from_slice(b"\x05\x00Here.\x00")?;
+    image.extend_from_slice(&[2, 0, 30, 50, 255])?;
+    image.extend_from_slice(&[32; 255])?;
+    image.extend_from_slice(&[1, 255, 1, 70, 60, 9, 0, 0, 0, 0])?;
+    Ok(image)
+}
+
+/// The classes of the seven words.
+fn classes<T: Tables>(tables: &T) -> [Option<(u8, u8)>; 7] {
+    [
+        tables.word(b"ABLE "),
+        tables.word(b"BADLY"),
+        tables.word(b"COAT "),
+        tables.word(b"DARK "),
+        tables.word(b"EX   "),
+        tables.word(b"FOR  "),
+        tables.word(b"IT   "),
+    ]
+}
+
+/// Whether the objects and the condacts of the game are as they were written.
+fn has_every_kind<T: Tables>(tables: &T) -> bool {
+    let sack = ObjectFacts {
+        noun: 50,
+        adjective: 40,
+        start: 0,
+        weight: 5,
+        container: true,
+        wearable: false,
+    };
+    let coat = ObjectFacts {
+        noun: 50,
+        adjective: 255,
+        start: 253,
+        weight: 63,
+        container: false,
+        wearable: true,
+    };
+    let done = Condact {
+        code: 32,
+        a: 0,
+        b: 0,
+    };
+    let set = Condact {
+        code: 70,
+        a: 60,
+        b: 9,
+    };
+    tables.facts(0) == Some(sack)
+        && tables.facts(1) == Some(coat)
+        && tables.text(GamePart::Messages, 0) == Some([b'm'; 300].as_slice())
+        && tables.condact(0, 0, 254) == Some(done)
+        && tables.condact(0, 0, 255).is_none()
+        && tables.condact(0, 1, 0) == Some(set)
+        && tables.head(0, 1) == Some((1, 255))
+}
+
+#[test]
+fn both_tell_every_kind_of_row(rt: HostRuntime) -> Result<(), Fail> {
+    let image = every_kind(rt.alloc())?;
+    let game = decode(rt.alloc(), &image)?;
+    let view = View::new(rt.alloc(), &image)?;
+    let want = [
+        Some((30, 0)),
+        Some((31, 1)),
+        Some((50, 2)),
+        Some((40, 3)),
+        Some((60, 4)),
+        Some((61, 5)),
+        Some((62, 6)),
+    ];
+    assert_eq!(rt; classes(&game), want);
+    assert_eq!(rt; classes(&view), want);
+    assert!(rt; has_every_kind(&game));
+    assert!(rt; has_every_kind(&view));
+    let again = encode(rt.alloc(), &game)?;
+    assert_eq!(rt; again.as_slice(), image.as_slice());
     Ok(())
 }

@@ -1,14 +1,30 @@
 // Texts, as rows of an image.
 
+ghost use Rattle.std.specs.Prelude.{OnErr};
 ghost use Rattle.paw_game.specs.Image.{text_image};
-ghost use Rattle.paw_image.specs.Reading.{text_at};
+ghost use Rattle.paw_image.specs.Damage.{after_text};
+ghost use Rattle.paw_image.specs.Reading.{Gives, IsFault, text_at};
 ghost use Rattle.paw_image.specs.Sizes.{FitsText};
 
 use crate::fault::ReadFault;
-use crate::fields::{read_bytes, read_number, write_number};
+use crate::fields::{fault_at, read_bytes, read_number, read_within, write_number};
+use crate::in_place::InPlace;
 use crate::rows::Row;
+use crate::rules::Rules;
+use paw_game::limits::TEXT_LIMIT;
 use paw_game::parts::Text;
+use paw_game::texts::is_printed;
 use std::alloc::{AllocError, Global};
+
+/// The text at the front, lent.
+#[tactic(auto, using(crate::proofs::Faults::fault_first, crate::proofs::Faults::fault_next), unfolding(crate::specs::Reading::text_at))]
+pub fn read_text(bytes: &[u8]) -> Result<(&[u8], &[u8]), ReadFault>
+    ensures gives { Gives (λ x. (x.0.now, x.1.now)) result (text_at bytes.now) }
+    ensures fails { OnErr result (IsFault (text_at bytes.now)) }
+{
+    let (length, rest) = read_number(bytes)?;
+    read_bytes(length as usize, rest)
+}
 
 impl Row for Text {
     ghost reading = { text_at };
@@ -17,16 +33,32 @@ impl Row for Text {
 
     ghost fits = { FitsText };
 
-    #[tactic(auto, unfolding(crate::specs::Reading::text_at))]
     fn read(alloc: Global, bytes: &[u8]) -> Result<(Text, &[u8]), ReadFault> {
-        let (length, rest) = read_number(bytes)?;
-        let (text, rest) = read_bytes(length as usize, rest)?;
+        let (text, rest) = read_text(bytes)?;
         let bytes = Vec::from_slice(alloc, text)?;
         Ok((Text { bytes }, rest))
+    }
+
+    fn length(&self) -> usize {
+        2 + self.bytes.len()
     }
 
     fn write(&self, out: &mut Vec<u8>) -> Result<(), AllocError> {
         write_number(self.bytes.len(), out)?;
         out.extend_from_slice(&self.bytes)
+    }
+}
+
+impl InPlace for Text {
+    ghost passing = { λ _. after_text };
+
+    #[tactic(auto, unfolding(crate::specs::Damage::after_text))]
+    fn pass<'a>(_: &Rules, bytes: &'a [u8]) -> Result<&'a [u8], ReadFault> {
+        let (length, rest) = read_within(0, TEXT_LIMIT, bytes)?;
+        let (text, after) = read_bytes(length as usize, rest)?;
+        if !is_printed(text) {
+            return Err(fault_at(rest));
+        }
+        Ok(after)
     }
 }

@@ -5,12 +5,13 @@ use Rattle.paw_stage.specs.Stage.{Standing, wrote}
 use Rattle.paw_stage.specs.Moments.{Moment, InWrite, InSync}
 use Rattle.paw_journal.specs.declared.layout.Slot.{Slot}
 use Rattle.paw_journal.specs.declared.layout.Slot.TheVariants as which
-use Rattle.paw_journal.specs.Session.{recover, recover_by, chosen, kept_digest, session_length}
+use Rattle.paw_journal.specs.Session.{recover, recover_by, chosen, kept_digest, slot, session_length, slot_length}
+use Rattle.paw_journal.specs.Steps.{IsWithin}
 use Rattle.paw_journal.specs.Store.{InStore, Leaves, IsEither}
 use Rattle.paw_journal.specs.Journal.{slot_number}
 use Rattle.paw_journal.proofs.Parts.{put_one, stretch_same}
 use Rattle.paw_journal.proofs.Recovers.{recover_is, recover_by_same}
-use Rattle.paw_journal.proofs.Disks.{IsWithin, within_long, within_same}
+use Rattle.paw_journal.proofs.Disks.{within_long, within_same}
 use Rattle.paw_journal.proofs.Moved.{IsMoved, moved_none, moved_wrote, in_moved_write, in_moved_sync}
 
 pub slot_small : (w : Slot) → slot_number w < 2
@@ -65,3 +66,8 @@ pub chosen_digest : (x n : ℕ) (s t u : Standing) → length s.disk.bytes ≡ s
 chosen_digest x n s t u long h w q =
     let m : IsMoved 1 2 s t = chose x s t n long h w in
     ap (λ y. kept_digest y.disk.bytes) q ∙ stretch_same 32 32 t.disk.bytes s.disk.bytes m.within.long (λ i l u. m.within.same i (inr (omega arith)))
+
+pub chosen_slot : (k x n : ℕ) (s t u : Standing) → k < 2 → length s.disk.bytes ≡ session_length → IsStable s.disk → t ≡ wrote s (touched 1 1 (x ∷ []) s.disk) n → u ≡ record t { disk = stable t.disk.bytes } → slot k u.disk.bytes ≡ slot k s.disk.bytes
+chosen_slot k x n s t u low long h w q =
+    let m : IsMoved 1 2 s t = chose x s t n long h w in
+    ap (λ y. slot k y.disk.bytes) q ∙ stretch_same _ slot_length t.disk.bytes s.disk.bytes m.within.long (λ i l u. m.within.same i (inr (omega arith)))

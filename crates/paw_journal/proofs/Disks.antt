@@ -3,15 +3,8 @@ use Rattle.std.proofs.Common.{◌≡◌, ℕ, ◌+◌, ◌≤◌, ◌<◌, false
 use Rattle.std.proofs.lemmas.Bool.Decides.{nat_tests}
 use Rattle.std.proofs.lemmas.List.{ext_get_or}
 use Rattle.paw_stage.specs.Disk.{Range, Disk, is_dirty, MayLeave, touched, stable, IsStable, IsInWrite}
+use Rattle.paw_journal.specs.Steps.{IsWithin}
 use Rattle.paw_journal.proofs.Parts.{length_put, put_below, put_above}
-
--- The store is as long as it was, and of its bytes only those from one place up to another may differ.
-pub record IsWithin (lo hi : ℕ) (old : List ℕ) (d : Disk) : Type 0 where
-  pub long : length d.bytes ≡ length old
-  pub synced : length d.synced ≡ length old
-  pub longest : d.longest ≡ length old
-  pub same : (i : ℕ) → (i < lo) ⊎ (hi ≤ i) → get_or d.bytes i 0 ≡ get_or old i 0
-  pub clean : (i : ℕ) → (i < lo) ⊎ (hi ≤ i) → is_dirty d.dirty i ≡ false
 
 pub within_stable : (lo hi : ℕ) (d : Disk) → IsStable d → IsWithin lo hi d.bytes d
 within_stable lo hi d h = record { long = refl; synced = ap length h.kept; longest = h.longest; same = λ i o. refl; clean = λ i o. ap (λ r. is_dirty r i) h.dirty }

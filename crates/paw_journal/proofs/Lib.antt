@@ -1,11 +1,16 @@
 pub mod Parts
+pub mod Puts
 pub mod Recovers
 pub mod Disks
 pub mod Moved
 pub mod Applies
+pub mod Turning
+pub mod Kept
 pub mod Chooses
 pub mod Fills
 pub mod Headers
 pub mod Makes
 pub mod Slots
+pub mod ShownPieces
 pub mod Sessions
+pub mod Commits

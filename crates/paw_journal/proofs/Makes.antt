@@ -8,10 +8,10 @@ use Rattle.paw_stage.specs.Stage.{Standing, wrote}
 use Rattle.paw_stage.specs.Moments.{Moment, InWrite, InSync}
 use Rattle.paw_journal.specs.Session.{IsUnmade, recover, mark, zeros, made_mark, made_header, session_length}
 use Rattle.paw_journal.specs.Store.{IsBeside, InStore, Leaves}
-use Rattle.paw_journal.specs.Steps.{IsBlank}
+use Rattle.paw_journal.specs.Steps.{IsBlank, IsWithin}
 use Rattle.paw_journal.proofs.Parts.{put_below, put_end}
 use Rattle.paw_journal.proofs.Recovers.{unmade}
-use Rattle.paw_journal.proofs.Disks.{IsWithin, within_long, within_same}
+use Rattle.paw_journal.proofs.Disks.{within_long, within_same}
 use Rattle.paw_journal.proofs.Moved.{beside_wrote, in_write, in_sync, in_later, moved_none, moved_wrote, in_moved_write, in_moved_sync}
 
 -- a store that can't be longer than one byte holds no session
@@ -73,7 +73,7 @@ length_zeros n = length-replicate n 0
 
 pub length_header : (first : ℕ) (game : List ℕ) → length game ≡ 32 → length (made_header first game) ≡ 128
 length_header first game n =
-    omega (arith, length-append ((first ∷ 0 ∷ 1 ∷ zeros 29) ++ game) (zeros 64), length-append (first ∷ 0 ∷ 1 ∷ zeros 29) game, length_zeros 29, length_zeros 64)
+    omega (arith, length-append ((first ∷ 0 ∷ 2 ∷ zeros 29) ++ game) (zeros 64), length-append (first ∷ 0 ∷ 2 ∷ zeros 29) game, length_zeros 29, length_zeros 64)
 
 -- the header without its first byte, behind that byte
 pub header_written : (game header old : List ℕ) → length game ≡ 32 → header ≡ made_header 0 game → old ≡ 0 ∷ [] → put 1 (take 127 (drop 1 header)) old ≡ made_header 0 game

@@ -6,8 +6,9 @@ use Rattle.paw_stage.specs.Stage.{Standing, WritesPart, Files, held, wrote}
 use Rattle.paw_stage.specs.Moments.{Moment, InWrite, InSync}
 use Rattle.paw_stage.proofs.Names.{held_other, holds_same}
 use Rattle.paw_journal.specs.Session.{Recovered}
+use Rattle.paw_journal.specs.Steps.{IsWithin}
 use Rattle.paw_journal.specs.Store.{IsBeside, InStore, Leaves}
-use Rattle.paw_journal.proofs.Disks.{IsWithin, within_stable, within_write}
+use Rattle.paw_journal.proofs.Disks.{within_stable, within_write}
 
 held_same : (attached : Option (List ℕ)) (n bytes : List ℕ) (files : Files) → attached ≡ Some n → held attached bytes files n ≡ Some bytes
 held_same attached n bytes files e = ap (λ a. held a bytes files n) e ∙ holds_same n (Some bytes) files

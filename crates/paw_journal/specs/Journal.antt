@@ -10,7 +10,7 @@ use Rattle.paw_journal.specs.declared.journal.Journal.{Journal}
 use Rattle.paw_journal.specs.declared.refusal.JournalRefusal.{JournalRefusal}
 use Rattle.paw_journal.specs.declared.refusal.JournalRefusal.TheVariants as refusal
 use Rattle.paw_journal.specs.Session.{Recovered, Unmade, Damaged, Shown, recover, chosen, kept_digest, state_length}
-use Rattle.paw_journal.specs.Room.{Room}
+use Rattle.paw_journal.specs.Room.{Room, KeepsSlots}
 
 -- The number of a slot.
 abbrev pub slot_number : Slot → ℕ
@@ -22,11 +22,13 @@ pub record IsAtRest (s : Standing) : Type 0 where
   pub attached : IsSome s.attached
   pub stable : IsStable s.disk
 
--- The attached store is at rest and holds the session of this journal, whose state and piece stand in the room.
+-- The attached store is at rest and holds the session of this journal, whose state and piece stand in the room beside the
+-- states of both slots.
 pub record Keeps (journal : Journal) (room : Room) (s : Standing) : Type 0 where
   pub rests : IsAtRest s
   pub chosen : chosen s.disk.bytes ≡ slot_number journal.slot
   pub shown : recover s.disk.bytes ≡ Shown (kept_digest s.disk.bytes) (take state_length room.state) room.piece
+  pub slots : KeepsSlots room s.disk.bytes
 
 -- Why there is no session of this game, by what the store's bytes stand for. A stage call that failed tells nothing of
 -- the store.

@@ -1,5 +1,5 @@
 -- How a session lies in the bytes of a store, and what bytes of a store stand for.
-use Rattle.std.specs.Prelude.{◌==◌, ◌&&◌, ℕ, ◌+◌, ◌-◌, ◌*◌, ◌%◌, Bool, not, nat_lt, nat_le, List, [], ◌∷◌, ◌++◌, length, take, drop, replicate, slice_index, slice_set, position, Option, Some, None, if◌then◌else◌}
+use Rattle.std.specs.Prelude.{◌==◌, ◌&&◌, ◌||◌, ℕ, ◌+◌, ◌-◌, ◌*◌, ◌%◌, Bool, not, is_none, nat_lt, nat_le, List, [], ◌∷◌, ◌++◌, length, take, drop, replicate, slice_index, slice_set, position, Option, Some, None, if◌then◌else◌}
 use Rattle.paw_journal.specs.declared.refusal.SessionPart.{SessionPart}
 use Rattle.paw_journal.specs.declared.refusal.SessionPart.TheVariants as part
 
@@ -16,6 +16,9 @@ session_length = 172288
 -- So many bytes from a place on.
 abbrev pub stretch : ℕ → ℕ → List ℕ → List ℕ
 stretch at n bytes = take n (drop at bytes)
+
+unfoldable pub zeros : ℕ → List ℕ
+zeros n = replicate n 0
 
 -- The number of 16 bits at a place, its low byte first.
 abbrev pub number_at : ℕ → List ℕ → ℕ
@@ -34,11 +37,15 @@ chosen bytes = slice_index bytes 1 % 2
 abbrev pub version : List ℕ → ℕ
 version bytes = slice_index bytes 2
 
+-- The versions of a session. Each slot has one of its own, and the session's decides nothing else.
+abbrev pub is_known : ℕ → Bool
+is_known n = (n == 1) || (n == 2)
+
 abbrev pub kept_digest : List ℕ → List ℕ
 kept_digest bytes = stretch 32 32 bytes
 
--- The bytes of a slot: the number of its change records (at 0), its base (at 64), a piece (at 4,160) and the change
--- records (at 69,696).
+-- The bytes of a slot: the number of its change records (at 0), its version (at 2), its base (at 64), a piece (at 4,160)
+-- and the change records (at 69,696).
 abbrev pub slot : ℕ → List ℕ → List ℕ
 slot k bytes = stretch (header_length + slot_length * k) slot_length bytes
 
@@ -47,6 +54,10 @@ base_length = 4096
 
 abbrev pub most_changes : ℕ
 most_changes = 4096
+
+-- A slot is of version 2 where its byte 2 is 2, and of version 1 otherwise.
+abbrev pub is_second : List ℕ → Bool
+is_second bytes = slice_index bytes 2 == 2
 
 abbrev pub base : List ℕ → List ℕ
 base bytes = stretch 64 base_length bytes
@@ -78,12 +89,25 @@ abbrev pub changed : List Change → List ℕ → List ℕ
 changed [] bytes = bytes
 changed (c ∷ more) bytes = changed more (slice_set bytes c.at c.byte)
 
--- A slot's state is its base with its change records applied. The last two bytes of a state tell the length of the piece.
+-- A slot's state is its base with its change records applied. It has one where these are few enough, and each is sound.
+abbrev pub has_state : List ℕ → Bool
+has_state bytes = nat_le (number_at 0 bytes) most_changes && is_none (first_unsound (slot_changes bytes))
+
 abbrev pub slot_state : List ℕ → List ℕ
 slot_state bytes = changed (slot_changes bytes) (base bytes)
 
+-- The bytes of a state, and how many of them version 1 has. Bytes 1,369 and 1,370 tell the length of the piece; behind them
+-- stand the positions that are kept, which version 1 has not.
 abbrev pub state_length : ℕ
-state_length = 1371
+state_length = 3419
+
+abbrev pub first_length : ℕ
+first_length = 1371
+
+-- The state that a slot shows. Where it is of version 1, no position is kept, whatever stands behind its state.
+abbrev pub shown_state : List ℕ → List ℕ
+shown_state bytes =
+    if is_second bytes then take state_length (slot_state bytes) else take first_length (slot_state bytes) ++ zeros 2048
 
 abbrev pub piece_length : List ℕ → ℕ
 piece_length state = number_at 1369 state
@@ -101,7 +125,7 @@ pub data Recovered : Type 0 where
 -- What a slot shows. It is damaged where it has too many change records, or at the first one that isn't sound.
 abbrev pub shown_unless : List ℕ → List ℕ → Option ℕ → Recovered
 shown_unless digest bytes (Some n) = Damaged part.Slot (69696 + 4 * n)
-shown_unless digest bytes None = Shown digest (take state_length (slot_state bytes)) (slot_piece bytes)
+shown_unless digest bytes None = Shown digest (shown_state bytes) (slot_piece bytes)
 
 unfoldable pub slot_shows : List ℕ → List ℕ → Recovered
 slot_shows digest bytes =
@@ -113,7 +137,7 @@ slot_shows digest bytes =
 unfoldable pub recover_by : ℕ → List ℕ → Recovered
 recover_by k bytes =
     if (length bytes == session_length) && (mark bytes == made_mark)
-    then (if version bytes == 1 then slot_shows (kept_digest bytes) (slot k bytes) else Damaged part.Header 2)
+    then (if is_known (version bytes) then slot_shows (kept_digest bytes) (slot k bytes) else Damaged part.Header 2)
     else Unmade (length bytes) (mark bytes)
 
 unfoldable pub recover : List ℕ → Recovered
@@ -125,15 +149,12 @@ IsUnmade (Unmade n m) = Unit {0}
 IsUnmade (Damaged p at) = ⊥
 IsUnmade (Shown d s p) = ⊥
 
-unfoldable pub zeros : ℕ → List ℕ
-zeros n = replicate n 0
-
 -- A slot, and a session, as they are made. Both slots show the same.
 abbrev pub made_slot : List ℕ → List ℕ → List ℕ
-made_slot state piece = zeros 64 ++ state ++ piece ++ zeros (81920 - length piece)
+made_slot state piece = 0 ∷ 0 ∷ 2 ∷ zeros 61 ++ state ++ piece ++ zeros (81920 - length piece)
 
 abbrev pub made_header : ℕ → List ℕ → List ℕ
-made_header mark digest = mark ∷ 0 ∷ 1 ∷ zeros 29 ++ digest ++ zeros 64
+made_header mark digest = mark ∷ 0 ∷ 2 ∷ zeros 29 ++ digest ++ zeros 64
 
 abbrev pub made_session : List ℕ → List ℕ → List ℕ → List ℕ
 made_session digest state piece = made_header made_mark digest ++ made_slot state piece ++ made_slot state piece

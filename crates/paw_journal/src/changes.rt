@@ -1,7 +1,8 @@
 // The change records of a slot.
 
-ghost use Rattle.std.specs.Prelude.{◌≡◌, ◌*◌, ◌<◌, length, None, IfSome};
+ghost use Rattle.std.specs.Prelude.{◌≡◌, ◌+◌, ◌*◌, ◌/◌, ◌%◌, ◌<◌, ◌≤◌, [], ◌∷◌, ◌++◌, length, None, IfSome, vec_capacity};
 ghost use Rattle.paw_journal.specs.Session.{changes, changed, first_unsound};
+ghost use Rattle.paw_journal.specs.Steps.{Turns};
 
 use crate::layout::BASE_LENGTH;
 
@@ -23,4 +24,31 @@ pub(crate) fn apply(records: &[u8], state: &mut [u8; 4096]) -> Option<usize>
         number += 1;
     }
     None
+}
+
+/// Adds the change records that make one state of another to a list that has none, in rising position.
+pub(crate) fn add_changes(old: &[u8; 4096], new: &[u8; 4096], records: &mut Vec<u8>)
+    requires room { 4 * 4096 ≤ vec_capacity records.old }
+    requires empty { records.old.items ≡ [] }
+    ensures turned { Turns old.now new.now records.new.items }
+    ensures few { length records.new.items ≤ 4 * 4096 }
+    ensures capacity { vec_capacity records.old ≤ vec_capacity records.new }
+{
+    for at in 0..BASE_LENGTH {
+        if old[at] != new[at] {
+            add_change(at, new[at], records);
+        }
+    }
+}
+
+// Adds a change record to a list.
+fn add_change(at: usize, byte: u8, records: &mut Vec<u8>)
+    requires place { at < 4096 }
+    requires room { length records.old.items + 4 ≤ vec_capacity records.old }
+    ensures added { records.new.items ≡ records.old.items ++ (at % 256) ∷ (at / 256) ∷ byte ∷ 0 ∷ [] }
+    ensures capacity { vec_capacity records.old ≤ vec_capacity records.new }
+{
+    let change = [(at % 256) as u8, (at / 256) as u8, byte, 0];
+    // The memory was taken before.
+    records.extend_from_slice(&change).unwrap();
 }

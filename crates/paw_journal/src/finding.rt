@@ -1,16 +1,16 @@
 // What the header of a session tells.
 
-ghost use Rattle.std.specs.Prelude.{None, ◌≡◌, ◌≢◌, ◌↔◌, ℕ, List, length, take, IfOk, IfErr, IsSome};
+ghost use Rattle.std.specs.Prelude.{◌≡◌, ◌≢◌, ◌↔◌, ℕ, None, List, length, take, IfOk, IfErr, IsSome};
 ghost use Rattle.paw_stage.specs.declared.StageCall.{StageCall};
 ghost use Rattle.paw_stage.specs.Stage.{Grows, Faulted};
 ghost use Rattle.paw_stage.specs.Moments.{Passes, Still};
-ghost use Rattle.paw_journal.specs.Session.{recover, header_length, session_length};
+ghost use Rattle.paw_journal.specs.Session.{recover, is_known, header_length, session_length};
 ghost use Rattle.paw_journal.specs.Steps.{Introduces};
 ghost use Rattle.paw_journal.specs.Journal.{slot_number, IsRefused, IsCaused, refused_call, outside};
 
 use crate::layout::{
-    DIGEST_AT, DIGEST_LENGTH, HEADER_LENGTH, MADE, MARK_AT, SELECTOR_AT, SESSION_LENGTH, Slot,
-    VERSION, VERSION_AT,
+    DIGEST_AT, DIGEST_LENGTH, FIRST_VERSION, HEADER_LENGTH, MADE, MARK_AT, SELECTOR_AT,
+    SESSION_LENGTH, Slot, VERSION, VERSION_AT,
 };
 use crate::refusal::{JournalRefusal, SessionPart};
 use crate::store::read;
@@ -32,8 +32,8 @@ pub(crate) fn read_header<S: Stage>(stage: &mut S, size: u64) -> Result<Header, 
     requires size { S.Tells stage.old → size ≡ length (S.standing stage.old).disk.bytes }
     ensures tells { S.Tells stage.old ↔ S.Tells stage.new }
     ensures counts { Grows (S.faults stage.old) (S.faults stage.new) }
-    ensures faulted { Faulted (refused_call result) (S.faults stage.old) (S.faults stage.new) }
     ensures cause { IfErr result (IsCaused (S.faults stage.old) (S.faults stage.new)) }
+    ensures faulted { Faulted (refused_call result) (S.faults stage.old) (S.faults stage.new) }
     ensures still { S.Tells stage.old → S.standing stage.new ≡ S.standing stage.old }
     ensures introduced { S.Tells stage.old → IfOk result (λ header. Introduces (slot_number header.slot) header.digest (S.standing stage.old).disk.bytes) }
     ensures refused { S.Tells stage.old → (game : List ℕ) → IfErr result (IsRefused (recover (S.standing stage.old).disk.bytes) game) }
@@ -56,8 +56,8 @@ fn unmade<S: Stage>(stage: &mut S, size: u64) -> JournalRefusal
     requires other { size ≢ session_length }
     ensures tells { S.Tells stage.old ↔ S.Tells stage.new }
     ensures counts { Grows (S.faults stage.old) (S.faults stage.new) }
-    ensures faulted { Faulted (outside result) (S.faults stage.old) (S.faults stage.new) }
     ensures cause { IsCaused (S.faults stage.old) (S.faults stage.new) result }
+    ensures faulted { Faulted (outside result) (S.faults stage.old) (S.faults stage.new) }
     ensures still { S.Tells stage.old → S.standing stage.new ≡ S.standing stage.old }
     ensures refused { S.Tells stage.old → (game : List ℕ) → IsRefused (recover (S.standing stage.old).disk.bytes) game result }
     ensures time { S.Tells stage.old → Passes (S.clock stage.old) (S.clock stage.new) (S.since stage.old) (S.since stage.new) (Still (S.standing stage.old)) }
@@ -80,7 +80,7 @@ fn header_in(bytes: &[u8; HEADER_LENGTH]) -> Result<Header, JournalRefusal>
     ensures introduced { (whole : List ℕ) → length whole ≡ session_length → bytes.now ≡ take header_length whole → IfOk result (λ header. Introduces (slot_number header.slot) header.digest whole) }
     ensures refused { (whole game : List ℕ) → length whole ≡ session_length → bytes.now ≡ take header_length whole → IfErr result (IsRefused (recover whole) game) }
     ensures cause { (old new : StageCall → ℕ) → IfErr result (IsCaused old new) }
-    ensures fine { refused_call result ≡ None }
+    ensures inside { refused_call result ≡ None }
 {
     let mark = bytes[MARK_AT as usize];
     if mark != MADE {
@@ -89,7 +89,7 @@ fn header_in(bytes: &[u8; HEADER_LENGTH]) -> Result<Header, JournalRefusal>
             mark,
         });
     }
-    if bytes[VERSION_AT as usize] != VERSION {
+    if !is_known_version(bytes[VERSION_AT as usize]) {
         return Err(JournalRefusal::Damaged {
             part: SessionPart::Header,
             at: VERSION_AT,
@@ -101,4 +101,11 @@ fn header_in(bytes: &[u8; HEADER_LENGTH]) -> Result<Header, JournalRefusal>
         slot: Slot::chosen_by(bytes[SELECTOR_AT as usize]),
         digest,
     })
+}
+
+// Whether a session may have this version.
+fn is_known_version(version: u8) -> bool
+    ensures { result ≡ is_known version }
+{
+    version == FIRST_VERSION || version == VERSION
 }

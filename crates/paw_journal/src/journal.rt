@@ -1,13 +1,16 @@
 // A session: making one, finding one, and committing to it.
 
-ghost use Rattle.std.specs.Prelude.{◌≡◌, ◌⊎◌, ◌↔◌, length, take, OnOk, IfOk, IfErr};
+ghost use Rattle.std.specs.Prelude.{◌≡◌, ◌⊎◌, ◌↔◌, ◌+◌, ◌-◌, ◌≤◌, length, take, OnOk, IfOk, IfErr};
 ghost use Rattle.paw_stage.specs.Stage.{Rose, Grows, Faulted};
 ghost use Rattle.paw_stage.specs.Moments.{Passes, Still};
-ghost use Rattle.paw_journal.specs.Session.{recover, Shown, IsUnmade, kept_digest, piece_length, state_length, made_session};
+ghost use Rattle.paw_journal.specs.Session.{recover, Shown, IsUnmade, kept_digest, slot, piece_length, state_length, made_session};
+ghost use Rattle.paw_journal.specs.Room.{kept_slot};
+ghost use Rattle.paw_journal.specs.Written.{most_written};
 ghost use Rattle.paw_journal.specs.Store.{IsBeside, InStore, Leaves, IsEither};
-ghost use Rattle.paw_journal.specs.Journal.{IsAtRest, Keeps, Finds, IsCaused, IsWriting, failed_call, refused_call};
+ghost use Rattle.paw_journal.specs.Journal.{slot_number, IsAtRest, Keeps, Finds, IsCaused, IsWriting, failed_call, refused_call};
 
 use crate::committing::{choose, write_slot};
+use crate::drafting::SlotState;
 use crate::finding::read_header;
 use crate::layout::Slot;
 use crate::making::{lay_out, mark};
@@ -44,8 +47,8 @@ impl Journal {
         requires piece_length { piece_length state.now ≡ length piece.now }
         ensures tells { S.Tells stage.old ↔ S.Tells stage.new }
         ensures counts { Grows (S.faults stage.old) (S.faults stage.new) }
-        ensures faulted { Faulted (failed_call result) (S.faults stage.old) (S.faults stage.new) }
         ensures cause { IfErr result (λ c. IsWriting c × Rose (S.faults stage.old c) (S.faults stage.new c)) }
+        ensures faulted { Faulted (failed_call result) (S.faults stage.old) (S.faults stage.new) }
         ensures state { OnOk result (room.new.state ≡ state.now) }
         ensures piece { OnOk result (room.new.piece ≡ piece.now) }
         ensures made { S.Tells stage.old → OnOk result ((S.standing stage.new).disk.bytes ≡ made_session game.now state.now piece.now) }
@@ -59,6 +62,7 @@ impl Journal {
         room.lay_slot();
         lay_out(stage, game, room.slot())?;
         mark(stage)?;
+        room.keep_made(state);
         Ok(Journal { slot: Slot::First })
     }
 
@@ -78,8 +82,8 @@ impl Journal {
         requires attached { S.Tells stage.old → at.length ≡ length (S.standing stage.old).disk.bytes }
         ensures tells { S.Tells stage.old ↔ S.Tells stage.new }
         ensures counts { Grows (S.faults stage.old) (S.faults stage.new) }
-        ensures faulted { Faulted (refused_call result) (S.faults stage.old) (S.faults stage.new) }
         ensures cause { IfErr result (IsCaused (S.faults stage.old) (S.faults stage.new)) }
+        ensures faulted { Faulted (refused_call result) (S.faults stage.old) (S.faults stage.new) }
         ensures still { S.Tells stage.old → S.standing stage.new ≡ S.standing stage.old }
         ensures found { S.Tells stage.old → Finds (recover (S.standing stage.old).disk.bytes) game.now room.new result }
         ensures kept { S.Tells stage.old → IfOk result (λ journal. Keeps journal room.new (S.standing stage.new)) }
@@ -91,7 +95,7 @@ impl Journal {
             Ok(_) => {}
             Err(call) => return Err(JournalRefusal::Outside(call)),
         }
-        match room.unpack() {
+        match room.unpack(header.slot) {
             Ok(_) => {}
             Err(at) => {
                 return Err(JournalRefusal::Damaged {
@@ -106,11 +110,18 @@ impl Journal {
                 found: *game,
             });
         }
+        let other = header.slot.other();
+        match room.read_slot(stage, other) {
+            Ok(_) => {}
+            Err(call) => return Err(JournalRefusal::Outside(call)),
+        }
+        room.look(other);
         Ok(Journal { slot: header.slot })
     }
 
     /// Makes the session show this state, whose last two bytes tell the piece's length, and this piece. Whatever a crash
-    /// leaves in the meantime shows the old pair or the new one.
+    /// leaves in the meantime shows the old pair or the new one. It writes little: what differs from the state of the slot
+    /// that isn't in use, and the piece.
     ///
     /// # Errors
     /// Write or Sync where that call of the stage failed.
@@ -125,8 +136,9 @@ impl Journal {
         requires piece_length { piece_length state.now ≡ length piece.now }
         ensures tells { S.Tells stage.old ↔ S.Tells stage.new }
         ensures counts { Grows (S.faults stage.old) (S.faults stage.new) }
-        ensures faulted { Faulted (failed_call result) (S.faults stage.old) (S.faults stage.new) }
         ensures cause { IfErr result (λ c. IsWriting c × Rose (S.faults stage.old c) (S.faults stage.new c)) }
+        ensures faulted { Faulted (failed_call result) (S.faults stage.old) (S.faults stage.new) }
+        ensures few { S.Tells stage.old → (S.standing stage.new).written ≤ (S.standing stage.old).written + most_written (kept_slot (slot (1 - slot_number self.slot) (S.standing stage.old).disk.bytes)) state.now piece.now }
         ensures state { OnOk result (room.new.state ≡ state.now) }
         ensures piece { OnOk result (room.new.piece ≡ piece.now) }
         ensures shown { S.Tells stage.old → OnOk result (recover (S.standing stage.new).disk.bytes ≡ Shown (kept_digest (S.standing stage.old).disk.bytes) (take state_length state.now) piece.now) }
@@ -136,10 +148,17 @@ impl Journal {
         ensures any_moment { S.Tells stage.old → Passes (S.clock stage.old) (S.clock stage.new) (S.since stage.old) (S.since stage.new) (InStore (S.standing stage.old) (Leaves (IsEither (recover (S.standing stage.old).disk.bytes) (Shown (kept_digest (S.standing stage.old).disk.bytes) (take state_length state.now) piece.now)))) }
     {
         let slot = self.slot.other();
-        room.hold(state, piece);
-        room.lay_body();
-        write_slot(stage, slot, room)?;
+        let draft = room.draft(slot, state);
+        write_slot(stage, slot, draft, room.slot(), piece)?;
         choose(stage, slot)?;
+        room.hold(state, piece);
+        room.keep(
+            slot,
+            Some(SlotState {
+                records: draft.records,
+                state: *state,
+            }),
+        );
         Ok(Journal { slot })
     }
 }

@@ -24,9 +24,14 @@ pub(crate) const DIGEST_LENGTH: usize = 32;
 
 pub(crate) const MADE: u8 = 0x50;
 
-pub(crate) const VERSION: u8 = 1;
+/// The versions of a session and of a slot: the first, and that which is written.
+pub(crate) const FIRST_VERSION: u8 = 1;
 
-/// A slot's bytes: the number of its change records, the base, the piece, and the change records.
+pub(crate) const VERSION: u8 = 2;
+
+/// A slot's bytes: the number of its change records, the version, the base, the piece, and the change records.
+pub(crate) const SLOT_VERSION_AT: usize = 2;
+
 pub(crate) const BASE_AT: usize = 64;
 
 pub(crate) const PIECE_AT: usize = 4_160;
@@ -38,6 +43,9 @@ pub(crate) const BASE_LENGTH: usize = 4_096;
 pub(crate) const MOST_CHANGES: usize = 4_096;
 
 pub(crate) const CHANGE_LENGTH: usize = 4;
+
+/// How many bytes a state has in a slot of the first version.
+pub(crate) const FIRST_LENGTH: usize = 1_371;
 
 /// Where a state tells the length of its piece.
 pub(crate) const PIECE_LENGTH_AT: usize = 1_369;

@@ -4,11 +4,13 @@
 
 mod changes;
 mod committing;
+mod drafting;
 mod finding;
 mod hash;
 mod journal;
 mod layout;
 mod making;
+mod reading;
 mod refusal;
 mod room;
 mod store;

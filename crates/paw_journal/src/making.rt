@@ -21,8 +21,8 @@ fn begin<S: Stage>(stage: &mut S) -> Result<(), StageCall>
     requires empty { S.Tells stage.old → length (S.standing stage.old).disk.bytes ≡ 0 }
     ensures tells { S.Tells stage.old ↔ S.Tells stage.new }
     ensures counts { Grows (S.faults stage.old) (S.faults stage.new) }
-    ensures faulted { Faulted (failed_call result) (S.faults stage.old) (S.faults stage.new) }
     ensures cause { IfErr result (λ c. IsWriting c × Rose (S.faults stage.old c) (S.faults stage.new c)) }
+    ensures faulted { Faulted (failed_call result) (S.faults stage.old) (S.faults stage.new) }
     ensures blank { S.Tells stage.old → OnOk result (IsBlank (0 ∷ []) (S.standing stage.new).disk) }
     ensures beside { S.Tells stage.old → IsBeside (S.standing stage.old) (S.standing stage.new) }
     ensures any_moment { S.Tells stage.old → Passes (S.clock stage.old) (S.clock stage.new) (S.since stage.old) (S.since stage.new) (InStore (S.standing stage.old) (Leaves IsUnmade)) }
@@ -37,8 +37,8 @@ fn write_header<S: Stage>(stage: &mut S, game: &[u8; 32]) -> Result<(), StageCal
     requires blank { S.Tells stage.old → IsBlank (0 ∷ []) (S.standing stage.old).disk }
     ensures tells { S.Tells stage.old ↔ S.Tells stage.new }
     ensures counts { Grows (S.faults stage.old) (S.faults stage.new) }
-    ensures faulted { Faulted (failed_call result) (S.faults stage.old) (S.faults stage.new) }
     ensures cause { IfErr result (λ c. IsWriting c × Rose (S.faults stage.old c) (S.faults stage.new c)) }
+    ensures faulted { Faulted (failed_call result) (S.faults stage.old) (S.faults stage.new) }
     ensures blank { S.Tells stage.old → OnOk result (IsBlank (made_header 0 game.now) (S.standing stage.new).disk) }
     ensures beside { S.Tells stage.old → IsBeside (S.standing stage.old) (S.standing stage.new) }
     ensures any_moment { S.Tells stage.old → Passes (S.clock stage.old) (S.clock stage.new) (S.since stage.old) (S.since stage.new) (InStore (S.standing stage.old) (Leaves IsUnmade)) }
@@ -66,8 +66,8 @@ fn write_slots<S: Stage>(stage: &mut S, bytes: &[u8]) -> Result<(), StageCall>
     requires slot { length bytes.now ≡ slot_length }
     ensures tells { S.Tells stage.old ↔ S.Tells stage.new }
     ensures counts { Grows (S.faults stage.old) (S.faults stage.new) }
-    ensures faulted { Faulted (failed_call result) (S.faults stage.old) (S.faults stage.new) }
     ensures cause { IfErr result (λ c. IsWriting c × Rose (S.faults stage.old c) (S.faults stage.new c)) }
+    ensures faulted { Faulted (failed_call result) (S.faults stage.old) (S.faults stage.new) }
     ensures written { S.Tells stage.old → OnOk result ((S.standing stage.new).disk ≡ stable ((S.standing stage.old).disk.bytes ++ bytes.now ++ bytes.now)) }
     ensures beside { S.Tells stage.old → IsBeside (S.standing stage.old) (S.standing stage.new) }
     ensures any_moment { S.Tells stage.old → Passes (S.clock stage.old) (S.clock stage.new) (S.since stage.old) (S.since stage.new) (InStore (S.standing stage.old) (Leaves IsUnmade)) }
@@ -88,8 +88,8 @@ pub(crate) fn lay_out<S: Stage>(
     requires slot { length bytes.now ≡ slot_length }
     ensures tells { S.Tells stage.old ↔ S.Tells stage.new }
     ensures counts { Grows (S.faults stage.old) (S.faults stage.new) }
-    ensures faulted { Faulted (failed_call result) (S.faults stage.old) (S.faults stage.new) }
     ensures cause { IfErr result (λ c. IsWriting c × Rose (S.faults stage.old c) (S.faults stage.new c)) }
+    ensures faulted { Faulted (failed_call result) (S.faults stage.old) (S.faults stage.new) }
     ensures laid { S.Tells stage.old → OnOk result ((S.standing stage.new).disk ≡ stable (made_header 0 game.now ++ bytes.now ++ bytes.now)) }
     ensures beside { S.Tells stage.old → IsBeside (S.standing stage.old) (S.standing stage.new) }
     ensures any_moment { S.Tells stage.old → Passes (S.clock stage.old) (S.clock stage.new) (S.since stage.old) (S.since stage.new) (InStore (S.standing stage.old) (Leaves IsUnmade)) }
@@ -105,8 +105,8 @@ pub(crate) fn mark<S: Stage>(stage: &mut S) -> Result<(), StageCall>
     requires long { S.Tells stage.old → length (S.standing stage.old).disk.bytes ≡ session_length }
     ensures tells { S.Tells stage.old ↔ S.Tells stage.new }
     ensures counts { Grows (S.faults stage.old) (S.faults stage.new) }
-    ensures faulted { Faulted (failed_call result) (S.faults stage.old) (S.faults stage.new) }
     ensures cause { IfErr result (λ c. IsWriting c × Rose (S.faults stage.old c) (S.faults stage.new c)) }
+    ensures faulted { Faulted (failed_call result) (S.faults stage.old) (S.faults stage.new) }
     ensures marked { S.Tells stage.old → OnOk result ((S.standing stage.new).disk ≡ stable (made_mark ∷ drop 1 (S.standing stage.old).disk.bytes)) }
     ensures beside { S.Tells stage.old → IsBeside (S.standing stage.old) (S.standing stage.new) }
     ensures any_moment { S.Tells stage.old → Passes (S.clock stage.old) (S.clock stage.new) (S.since stage.old) (S.since stage.new) (InStore (S.standing stage.old) (Leaves (λ r. IsUnmade r ⊎ (r ≡ recover (made_mark ∷ drop 1 (S.standing stage.old).disk.bytes))))) }

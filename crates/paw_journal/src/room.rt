@@ -1,19 +1,21 @@
 // The buffers of a journal.
 
-ghost use Rattle.std.specs.Prelude.{◌≡◌, ◌+◌, ◌≤◌, ◌↔◌, ◌++◌, ℕ, List, length, take, IsSome, OnOk, IfErr};
+ghost use Rattle.std.specs.Prelude.{true, ◌≡◌, ◌+◌, ◌≤◌, ◌↔◌, [], ◌∷◌, ◌++◌, ℕ, List, length, take, IsSome, OnOk, IfErr};
 ghost use Rattle.paw_base.specs.Piece.{piece_limit};
 ghost use Rattle.paw_stage.specs.declared.StageCall.TheVariants as call;
 ghost use Rattle.paw_stage.specs.Stage.{Rose, Grows, Faulted};
 ghost use Rattle.paw_stage.specs.Moments.{Passes, Still};
 ghost use Rattle.paw_journal.specs.declared.refusal.SessionPart.TheVariants as part;
-ghost use Rattle.paw_journal.specs.Session.{slot, slot_length, session_length, slot_shows, state_length, Damaged, Shown, slot_state, slot_piece, piece_length, stretch, zeros, made_slot};
+ghost use Rattle.paw_journal.specs.Session.{slot, slot_length, session_length, number_at, has_state, slot_state, slot_shows, state_length, Damaged, Shown, piece_length, stretch, zeros, made_slot};
+ghost use Rattle.paw_journal.specs.Room.{kept_slot, kept_of, with_kept};
+ghost use Rattle.paw_journal.specs.Steps.{Drafts};
 ghost use Rattle.paw_journal.specs.Journal.{slot_number, failed_call};
 
-use crate::changes::apply;
+use crate::drafting::{Draft, SlotState, draft_over};
 use crate::layout::{
-    BASE_AT, BASE_LENGTH, CHANGE_LENGTH, CHANGES_AT, MOST_CHANGES, PIECE_AT, PIECE_LENGTH_AT,
-    SLOT_LENGTH, Slot, number_at,
+    BASE_AT, PIECE_AT, PIECE_LENGTH_AT, SLOT_LENGTH, SLOT_VERSION_AT, Slot, VERSION, number_at,
 };
+use crate::reading::{brought_up, is_current, kept_in, state_in};
 use crate::store::read;
 use paw_base::fault::NoRoom;
 use paw_base::piece::PIECE_LIMIT;
@@ -21,12 +23,14 @@ use paw_stage::{Stage, StageCall};
 use std::alloc::Global;
 use std::marker::Model;
 
-/// All the memory that a journal needs, and the state and the piece that its session shows.
+/// All the memory that a journal needs, the state and the piece that its session shows, and the states of both slots.
 #[derive(Drop)]
 pub struct Room {
     slot: Vec<u8>,
     state: [u8; 4096],
     piece: Vec<u8>,
+    first: Option<SlotState>,
+    second: Option<SlotState>,
 }
 
 impl Model for Room {
@@ -37,7 +41,7 @@ impl Model for Room {
 
     ghost Value = { Room };
 
-    ghost view = { λ r. record { slot = r.slot.items; state = r.state; piece = r.piece.items } };
+    ghost view = { λ r. record { slot = r.slot.items; state = r.state; piece = r.piece.items; first = r.first; second = r.second } };
 
     ghost invariant = { λ r. (slot_length ≤ vec_capacity r.slot) × (piece_limit ≤ vec_capacity r.piece) };
 }
@@ -54,10 +58,12 @@ impl Room {
             slot,
             state: [0; 4096],
             piece,
+            first: None,
+            second: None,
         })
     }
 
-    /// The state that the session shows, in its first 1,371 bytes.
+    /// The state that the session shows, in its first 3,419 bytes.
     pub fn state(&self) -> &[u8; 4096]
         ensures value { result.now ≡ self.now.state }
     {
@@ -74,7 +80,7 @@ impl Room {
     /// Holds this state and this piece from now on.
     pub(crate) fn hold(&mut self, state: &[u8; 4096], piece: &[u8])
         requires { length piece.now ≤ piece_limit }
-        ensures value { self.new ≡ record { slot = self.old.slot; state = state.now; piece = piece.now } }
+        ensures value { self.new ≡ record self.old { state = state.now; piece = piece.now } }
     {
         self.state = *state;
         self.hold_piece(piece);
@@ -97,13 +103,39 @@ impl Room {
         self.slot.as_slice()
     }
 
-    /// Puts base and piece of a slot together, from its byte 64 on.
-    pub(crate) fn lay_body(&mut self)
-        requires { length self.old.piece ≤ piece_limit }
-        ensures value { self.new ≡ record self.old { slot = self.old.state ++ self.old.piece } }
+    /// Keeps this state of a slot from now on.
+    pub(crate) fn keep(&mut self, which: Slot, kept: Option<SlotState>)
+        ensures value { self.new ≡ with_kept which kept self.old }
     {
-        self.slot.clear();
-        self.add_body();
+        match which {
+            Slot::First => self.first = kept,
+            Slot::Second => self.second = kept,
+        }
+    }
+
+    /// Keeps this state of both slots from now on, which are made with it.
+    pub(crate) fn keep_made(&mut self, state: &[u8; 4096])
+        ensures value { self.new ≡ record self.old { first = Some (record { records = 0; state = state.now }); second = Some (record { records = 0; state = state.now }) } }
+    {
+        self.first = Some(SlotState {
+            records: 0,
+            state: *state,
+        });
+        self.second = Some(SlotState {
+            records: 0,
+            state: *state,
+        });
+    }
+
+    /// Puts together what a commit of this state writes into a slot beside its head and the piece.
+    pub(crate) fn draft(&mut self, which: Slot, state: &[u8; 4096]) -> Draft
+        ensures drafts { Drafts (kept_of which self.old) state.now self.new.slot result }
+        ensures same { self.new ≡ record self.old { slot = self.new.slot } }
+    {
+        match which {
+            Slot::First => draft_over(&self.first, state, &mut self.slot),
+            Slot::Second => draft_over(&self.second, state, &mut self.slot),
+        }
     }
 
     /// Puts a whole slot together, as it is made.
@@ -113,9 +145,19 @@ impl Room {
     {
         let behind = SLOT_LENGTH - PIECE_AT - self.piece.len();
         self.slot.clear();
-        self.add_zeros(BASE_AT);
+        self.add_head();
+        self.add_zeros(BASE_AT - SLOT_VERSION_AT - 1);
         self.add_body();
         self.add_zeros(behind);
+    }
+
+    // Adds the first bytes of a slot with no change records.
+    fn add_head(&mut self)
+        requires { self.old.slot ≡ [] }
+        ensures value { self.new ≡ record self.old { slot = 0 ∷ 0 ∷ 2 ∷ [] } }
+    {
+        // The memory was taken by `new`.
+        self.slot.extend_from_slice(&[0, 0, VERSION]).unwrap();
     }
 
     // Adds so many zeros to the slot.
@@ -151,9 +193,10 @@ impl Room {
         requires whole { S.Tells stage.old → length (S.standing stage.old).disk.bytes ≡ session_length }
         ensures tells { S.Tells stage.old ↔ S.Tells stage.new }
         ensures counts { Grows (S.faults stage.old) (S.faults stage.new) }
-        ensures faulted { Faulted (failed_call result) (S.faults stage.old) (S.faults stage.new) }
         ensures cause { IfErr result (λ c. (c ≡ call.Read) × Rose (S.faults stage.old c) (S.faults stage.new c)) }
+        ensures faulted { Faulted (failed_call result) (S.faults stage.old) (S.faults stage.new) }
         ensures still { S.Tells stage.old → S.standing stage.new ≡ S.standing stage.old }
+        ensures same { self.new ≡ record self.old { slot = self.new.slot } }
         ensures read { S.Tells stage.old → OnOk result (self.new.slot ≡ slot (slot_number which) (S.standing stage.old).disk.bytes) }
         ensures length { length self.new.slot ≡ slot_length }
         ensures time { S.Tells stage.old → Passes (S.clock stage.old) (S.clock stage.new) (S.since stage.old) (S.since stage.new) (Still (S.standing stage.old)) }
@@ -163,47 +206,54 @@ impl Room {
         read(stage, which.start(), self.slot.as_mut_slice())
     }
 
-    /// Takes state and piece out of the slot that was read.
+    /// Takes state and piece out of this slot, which was read, and keeps its state.
     ///
     /// # Errors
     /// The place in the slot of its first broken rule.
-    pub(crate) fn unpack(&mut self) -> Result<(), u64>
+    pub(crate) fn unpack(&mut self, which: Slot) -> Result<(), u64>
         requires whole { length self.old.slot ≡ slot_length }
         ensures shown { (digest : List ℕ) → OnOk result (slot_shows digest self.old.slot ≡ Shown digest (take state_length self.new.state) self.new.piece) }
+        ensures kept { OnOk result (self.new ≡ with_kept which (kept_slot self.old.slot) (record self.old { state = self.new.state; piece = self.new.piece })) }
         ensures damaged { (digest : List ℕ) → IfErr result (λ at. slot_shows digest self.old.slot ≡ Damaged part.Slot at) }
     {
-        self.unpack_state()?;
-        self.unpack_piece();
+        let kept = state_in(self.slot())?;
+        self.take_slot(which, kept);
         Ok(())
     }
 
-    // Takes the state out of the slot: its base with its change records applied.
-    fn unpack_state(&mut self) -> Result<(), u64>
+    // Shows the state that was taken out of this slot, and keeps it where the slot is of the version that is written.
+    fn take_slot(&mut self, which: Slot, kept: SlotState)
         requires whole { length self.old.slot ≡ slot_length }
-        ensures slot { self.new.slot ≡ self.old.slot }
-        ensures state { (digest : List ℕ) → OnOk result (slot_shows digest self.old.slot ≡ Shown digest (take state_length (slot_state self.old.slot)) (slot_piece self.old.slot)) }
-        ensures value { OnOk result (self.new.state ≡ slot_state self.old.slot) }
-        ensures damaged { (digest : List ℕ) → IfErr result (λ at. slot_shows digest self.old.slot ≡ Damaged part.Slot at) }
+        requires sound { has_state self.old.slot ≡ true }
+        requires taken { kept ≡ record { records = number_at 0 self.old.slot; state = slot_state self.old.slot } }
+        ensures shown { (digest : List ℕ) → slot_shows digest self.old.slot ≡ Shown digest (take state_length self.new.state) self.new.piece }
+        ensures kept { self.new ≡ with_kept which (kept_slot self.old.slot) (record self.old { state = self.new.state; piece = self.new.piece }) }
     {
-        let count = number_at(&self.slot, 0);
-        if count > MOST_CHANGES {
-            return Err(0);
+        if is_current(self.slot()) {
+            self.show(&kept.state);
+            self.keep(which, Some(kept));
+        } else {
+            self.show(&brought_up(&kept.state));
+            self.keep(which, None);
         }
-        self.state
-            .copy_from_slice(&self.slot[BASE_AT..BASE_AT + BASE_LENGTH]);
-        let records = &self.slot[CHANGES_AT..CHANGES_AT + CHANGE_LENGTH * count];
-        if let Some(number) = apply(records, &mut self.state) {
-            return Err((CHANGES_AT + CHANGE_LENGTH * number) as u64);
-        }
-        Ok(())
     }
 
-    // Takes the piece out of the slot, whose length the state tells.
-    fn unpack_piece(&mut self)
+    /// Keeps the state of this slot, which was read, where it has one.
+    pub(crate) fn look(&mut self, which: Slot)
         requires whole { length self.old.slot ≡ slot_length }
-        ensures value { self.new ≡ record self.old { piece = stretch 4160 (piece_length self.old.state) self.old.slot } }
+        ensures kept { self.new ≡ with_kept which (kept_slot self.old.slot) self.old }
     {
-        let length = number_at(&self.state, PIECE_LENGTH_AT);
+        let kept = kept_in(self.slot());
+        self.keep(which, kept);
+    }
+
+    // Shows this state of the slot, and the slot's piece, whose length the state tells.
+    fn show(&mut self, state: &[u8; 4096])
+        requires whole { length self.old.slot ≡ slot_length }
+        ensures value { self.new ≡ record self.old { state = state.now; piece = stretch 4160 (piece_length state.now) self.old.slot } }
+    {
+        let length = number_at(state, PIECE_LENGTH_AT);
+        self.state = *state;
         self.piece.clear();
         // The memory was taken by `new`.
         self.piece

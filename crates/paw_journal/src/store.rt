@@ -5,6 +5,7 @@ ghost use Rattle.paw_stage.specs.declared.StageCall.TheVariants as call;
 ghost use Rattle.paw_stage.specs.Disk.{IsStable, stable, touched};
 ghost use Rattle.paw_stage.specs.Stage.{Rose, Grows, AttachesTo, WritesPart, wrote, Faulted};
 ghost use Rattle.paw_stage.specs.Moments.{Passes, Still, InAttach, InWrite, InSync};
+ghost use Rattle.paw_journal.specs.Store.{IsBeside};
 ghost use Rattle.paw_journal.specs.Journal.{IsAtRest, failed_call};
 
 use paw_stage::{Stage, StageCall};
@@ -23,8 +24,8 @@ pub fn attach<S: Stage>(stage: &mut S, name: &str) -> Result<Attached, StageCall
     requires synced { S.Tells stage.old → IsStable (S.standing stage.old).disk }
     ensures tells { S.Tells stage.old ↔ S.Tells stage.new }
     ensures counts { Grows (S.faults stage.old) (S.faults stage.new) }
-    ensures faulted { Faulted (failed_call result) (S.faults stage.old) (S.faults stage.new) }
     ensures cause { IfErr result (λ c. (c ≡ call.Attach) × Rose (S.faults stage.old c) (S.faults stage.new c)) }
+    ensures faulted { Faulted (failed_call result) (S.faults stage.old) (S.faults stage.new) }
     ensures attached { S.Tells stage.old → IfOk result (λ at. AttachesTo (S.standing stage.old) (S.standing stage.new) name.now (Ok at.length)) }
     ensures length { S.Tells stage.old → IfOk result (λ at. at.length ≡ length (S.standing stage.new).disk.bytes) }
     ensures rests { S.Tells stage.old → OnOk result (IsAtRest (S.standing stage.new)) }
@@ -46,8 +47,8 @@ pub(crate) fn read<S: Stage>(stage: &mut S, at: u64, into: &mut [u8]) -> Result<
     requires within { S.Tells stage.old → at + length into.old ≤ length (S.standing stage.old).disk.bytes }
     ensures tells { S.Tells stage.old ↔ S.Tells stage.new }
     ensures counts { Grows (S.faults stage.old) (S.faults stage.new) }
-    ensures faulted { Faulted (failed_call result) (S.faults stage.old) (S.faults stage.new) }
     ensures cause { IfErr result (λ c. (c ≡ call.Read) × Rose (S.faults stage.old c) (S.faults stage.new c)) }
+    ensures faulted { Faulted (failed_call result) (S.faults stage.old) (S.faults stage.new) }
     ensures still { S.Tells stage.old → S.standing stage.new ≡ S.standing stage.old }
     ensures read { S.Tells stage.old → OnOk result (into.new ≡ take (length into.old) (drop at (S.standing stage.old).disk.bytes)) }
     ensures time { S.Tells stage.old → Passes (S.clock stage.old) (S.clock stage.new) (S.since stage.old) (S.since stage.new) (Still (S.standing stage.old)) }
@@ -67,8 +68,9 @@ pub(crate) fn write<S: Stage>(stage: &mut S, at: u64, bytes: &[u8]) -> Result<()
     requires within { S.Tells stage.old → at ≤ length (S.standing stage.old).disk.bytes }
     ensures tells { S.Tells stage.old ↔ S.Tells stage.new }
     ensures counts { Grows (S.faults stage.old) (S.faults stage.new) }
-    ensures faulted { Faulted (failed_call result) (S.faults stage.old) (S.faults stage.new) }
     ensures cause { IfErr result (λ c. (c ≡ call.Write) × Rose (S.faults stage.old c) (S.faults stage.new c)) }
+    ensures faulted { Faulted (failed_call result) (S.faults stage.old) (S.faults stage.new) }
+    ensures few { S.Tells stage.old → (S.standing stage.new).written ≤ (S.standing stage.old).written + length bytes.now }
     ensures written { S.Tells stage.old → OnOk result (S.standing stage.new ≡ wrote (S.standing stage.old) (touched at (length bytes.now) bytes.now (S.standing stage.old).disk) (length bytes.now)) }
     ensures part { S.Tells stage.old → OnErr result ((S.standing stage.new ≡ S.standing stage.old) ⊎ WritesPart (S.standing stage.old) (S.standing stage.new) at (length bytes.now)) }
     ensures time { S.Tells stage.old → Passes (S.clock stage.old) (S.clock stage.new) (S.since stage.old) (S.since stage.new) (InWrite (S.standing stage.old) at (length bytes.now)) }
@@ -86,10 +88,12 @@ pub(crate) fn write<S: Stage>(stage: &mut S, at: u64, bytes: &[u8]) -> Result<()
 pub(crate) fn sync<S: Stage>(stage: &mut S) -> Result<(), StageCall>
     ensures tells { S.Tells stage.old ↔ S.Tells stage.new }
     ensures counts { Grows (S.faults stage.old) (S.faults stage.new) }
-    ensures faulted { Faulted (failed_call result) (S.faults stage.old) (S.faults stage.new) }
     ensures cause { IfErr result (λ c. (c ≡ call.Sync) × Rose (S.faults stage.old c) (S.faults stage.new c)) }
+    ensures faulted { Faulted (failed_call result) (S.faults stage.old) (S.faults stage.new) }
+    ensures few { S.Tells stage.old → (S.standing stage.new).written ≡ (S.standing stage.old).written }
     ensures synced { S.Tells stage.old → OnOk result (S.standing stage.new ≡ record (S.standing stage.old) { disk = stable (S.standing stage.old).disk.bytes }) }
     ensures part { S.Tells stage.old → OnErr result (S.standing stage.new ≡ S.standing stage.old) }
+    ensures beside { S.Tells stage.old → IsBeside (S.standing stage.old) (S.standing stage.new) }
     ensures time { S.Tells stage.old → Passes (S.clock stage.old) (S.clock stage.new) (S.since stage.old) (S.since stage.new) (InSync (S.standing stage.old)) }
 {
     match stage.sync() {

@@ -1,9 +1,10 @@
 // Sessions in stores in memory: damaged ones, and those that a crash leaves.
 
-ghost use Rattle.std.specs.Prelude.{◌≡◌, ◌<◌, true, length, IfOk};
+ghost use Rattle.std.specs.Prelude.{◌≡◌, ◌↔◌, ◌<◌, ◌≤◌, true, length, IfOk};
 ghost use Rattle.paw_stage.specs.Disk.{IsStable};
 ghost use Rattle.paw_stage.specs.Memory.{standing_of};
 ghost use Rattle.paw_journal.specs.Session.{piece_length};
+ghost use Rattle.paw_journal.specs.Journal.{Keeps};
 
 use crate::layout::{PIECE_LENGTH_AT, number_at};
 use crate::{Journal, JournalRefusal, Room, SessionPart, attach, digest};
@@ -44,7 +45,7 @@ fn tells(state: &[u8; 4096], piece: &[u8]) -> bool
 fn memory(alloc: Global, bytes: &[u8]) -> Result<MemoryStage, NoRoom>
     ensures { IfOk result (λ s. IsStable (standing_of s).disk) }
 {
-    let mut stage = MemoryStage::new(alloc, 40, 400_000)?;
+    let mut stage = MemoryStage::new(alloc, 20_000, 2_000_000)?;
     if !bytes.is_empty() {
         stage.add_file("S", bytes)?;
     }
@@ -114,9 +115,9 @@ fn a_crash_leaves_the_prompt_before_or_the_one_after(rt: HostRuntime) -> Result<
         (12, 1, [first, first, first]),
         (13, 1, [first, second, second]),
         (14, 2, [second, second, second]),
-        (17, 2, [second, second, second]),
-        (18, 2, [second, third, second]),
-        (19, 3, [third, third, third]),
+        (18, 2, [second, second, second]),
+        (19, 2, [second, third, second]),
+        (20, 3, [third, third, third]),
     ] {
         let mut stage = StopStage::new(memory(rt.alloc(), b"")?, passes);
         assert_eq!(rt; sessions(&mut stage, &mut room), done, "{passes}");
@@ -151,6 +152,11 @@ fn the_first_broken_rule_is_named(rt: HostRuntime) -> Result<(), Fail> {
             [(2, 3), (128, 255), (129, 255)],
             damaged(SessionPart::Header, 2),
         ),
+        ([(2, 1), (2, 1), (2, 1)], Ok((2, 8))),
+        (
+            [(2, 0), (130, 0), (130, 0)],
+            damaged(SessionPart::Header, 2),
+        ),
         ([(1, 0xfe), (1, 0xfe), (1, 0xfe)], Ok((2, 8))),
         ([(1, 0xa7), (1, 0xa7), (1, 0xa7)], Ok((1, 0))),
         (
@@ -158,7 +164,7 @@ fn the_first_broken_rule_is_named(rt: HostRuntime) -> Result<(), Fail> {
             damaged(SessionPart::Slot, 0),
         ),
         ([(128, 0), (129, 0x10), (129, 0x10)], Ok((0, 8))),
-        ([(128, 1), (69_826, 9), (69_826, 9)], Ok((9, 8))),
+        ([(128, 2), (69_826, 9), (69_826, 9)], Ok((9, 8))),
         (
             [(128, 2), (69_826, 9), (69_829, 0x10)],
             damaged(SessionPart::Slot, 69_700),
@@ -167,7 +173,7 @@ fn the_first_broken_rule_is_named(rt: HostRuntime) -> Result<(), Fail> {
             [(128, 1), (69_827, 1), (69_829, 0x10)],
             damaged(SessionPart::Slot, 69_696),
         ),
-        ([(128, 1), (69_827, 0), (69_829, 0x10)], Ok((0, 8))),
+        ([(128, 1), (69_827, 0), (69_829, 0x10)], Ok((2, 5))),
     ] {
         let mut bytes = Vec::from_slice(rt.alloc(), whole.as_slice())?;
         for (place, byte) in changes {
@@ -206,5 +212,188 @@ fn other_stores_hold_no_session_of_the_game(rt: HostRuntime) -> Result<(), Fail>
         found(rt.alloc(), whole.as_slice(), &mut room, &GAME)?,
         Ok((2, 8))
     );
+    Ok(())
+}
+
+// Whether all is done: a session is made, and so many turns are committed, each with its number in so many bytes.
+fn plays<S: Stage>(stage: &mut S, room: &mut Room, turns: u32, many: usize) -> bool
+    requires stable { S.Tells stage.old → IsStable (S.standing stage.old).disk }
+    requires many { many ≤ 1000 }
+{
+    let first = state_of(0, b"Hall.");
+    if !tells(&first, b"Hall.") {
+        return false;
+    }
+    let Ok(at) = attach(stage, "S") else {
+        return false;
+    };
+    if at.length != 0 {
+        return false;
+    }
+    match Journal::create(stage, room, at, &GAME, &first, b"Hall.") {
+        Ok(journal) => goes_on(stage, room, journal, 0, turns, many),
+        Err(_) => false,
+    }
+}
+
+// Whether so many turns more are committed.
+fn goes_on<S: Stage>(
+    stage: &mut S,
+    room: &mut Room,
+    made: Journal,
+    before: u32,
+    turns: u32,
+    many: usize,
+) -> bool
+    requires kept { S.Tells stage.old → Keeps made room.old (S.standing stage.old) }
+    requires many { many ≤ 1000 }
+{
+    let mut journal = made;
+    for turn in before..turns {
+        match takes(stage, room, journal, turn + 1, many) {
+            Ok(next) => journal = next,
+            Err(_) => return false,
+        }
+    }
+    true
+}
+
+// Commits one turn.
+fn takes<S: Stage>(
+    stage: &mut S,
+    room: &mut Room,
+    journal: Journal,
+    turn: u32,
+    many: usize,
+) -> Result<Journal, StageCall>
+    requires kept { S.Tells stage.old → Keeps journal room.old (S.standing stage.old) }
+    requires many { many ≤ 1000 }
+    ensures tells { S.Tells stage.old ↔ S.Tells stage.new }
+    ensures kept { S.Tells stage.old → IfOk result (λ next. Keeps next room.new (S.standing stage.new)) }
+{
+    let mut state = state_of(0, b"OK.");
+    for i in 0..many {
+        state[i] = (turn % 256) as u8;
+    }
+    if !tells(&state, b"OK.") {
+        return Err(StageCall::Show);
+    }
+    journal.commit(stage, room, &state, b"OK.")
+}
+
+#[test]
+fn a_commit_writes_what_differs(rt: HostRuntime) -> Result<(), Fail> {
+    let mut room = Room::new(rt.alloc())?;
+    // The turns, how many bytes of the state change in each, how much is written in all, with the making, and what is found
+    // then. In two thousand turns the slots fill up, and a base is written whole 24 times in each.
+    for (turns, many, written, first) in [(100, 1, 173_397, 100), (2_000, 100, 1_163_705, 208)] {
+        let mut stage = memory(rt.alloc(), b"")?;
+        assert!(rt; many <= 1_000);
+        assert!(rt; plays(&mut stage, &mut room, turns, many));
+        assert_eq!(rt; stage.written(), written);
+        let bytes = stage.crash(rt.alloc(), 0)?;
+        let seen = found(rt.alloc(), bytes.as_slice(), &mut room, &GAME)?;
+        assert_eq!(rt; seen, Ok((first, 3)));
+    }
+    Ok(())
+}
+
+// Whether the session in the store, which had one turn, is found, and so many turns more are committed.
+fn takes_up<S: Stage>(stage: &mut S, room: &mut Room, turns: u32) -> bool
+    requires stable { S.Tells stage.old → IsStable (S.standing stage.old).disk }
+    requires few { turns < 1000 }
+{
+    let Ok(at) = attach(stage, "S") else {
+        return false;
+    };
+    match Journal::find(stage, room, at, &GAME) {
+        Ok(journal) => goes_on(stage, room, journal, 1, 1 + turns, 1),
+        Err(_) => false,
+    }
+}
+
+#[test]
+fn a_slot_without_a_state_is_written_whole(rt: HostRuntime) -> Result<(), Fail> {
+    let mut room = Room::new(rt.alloc())?;
+    let mut stage = memory(rt.alloc(), b"")?;
+    assert!(rt; plays(&mut stage, &mut room, 1, 1));
+    let whole = stage.crash(rt.alloc(), 0)?;
+    // Slot 0, which begins at 128, isn't chosen: with 5,000 change records, and with one that isn't sound.
+    for changes in [[(128, 0x88), (129, 0x13)], [(128, 1), (69_827, 1)]] {
+        let mut bytes = Vec::from_slice(rt.alloc(), whole.as_slice())?;
+        for (place, byte) in changes {
+            assert!(rt; place < bytes.len());
+            bytes[place] = byte;
+        }
+        let mut stage = memory(rt.alloc(), bytes.as_slice())?;
+        assert!(rt; takes_up(&mut stage, &mut room, 1));
+        assert_eq!(rt; stage.written(), 4_096 + 3 + 4);
+        let after = stage.crash(rt.alloc(), 0)?;
+        assert!(rt; after.len() > 129);
+        assert_eq!(rt; (after[128], after[129]), (0, 0));
+        let seen = found(rt.alloc(), after.as_slice(), &mut room, &GAME)?;
+        assert_eq!(rt; seen, Ok((2, 3)));
+    }
+    Ok(())
+}
+
+// The bytes of a session as it was made and played once in version 1: no slot tells a version, and anything may stand
+// behind the states.
+fn first_version(alloc: Global, room: &mut Room) -> Result<Vec<u8>, NoRoom> {
+    let mut stage = memory(alloc, b"")?;
+    plays(&mut stage, room, 1, 1);
+    let mut bytes = stage.crash(alloc, 0)?;
+    for (place, byte) in [(2, 1), (130, 0), (86_210, 0), (1_563, 7), (87_643, 9)] {
+        if place < bytes.len() {
+            bytes[place] = byte;
+        }
+    }
+    Ok(bytes)
+}
+
+#[test]
+fn a_session_of_version_1_goes_on(rt: HostRuntime) -> Result<(), Fail> {
+    let mut room = Room::new(rt.alloc())?;
+    let old = first_version(rt.alloc(), &mut room)?;
+    let (first, second) = (Ok((1, 3)), Ok((2, 3)));
+    // The calls that pass, and what a search finds after a crash with each pick. A resume makes ten.
+    for (passes, left) in [
+        (1, [first, first, first]),
+        (3, [first, first, first]),
+        (4, [first, first, first]),
+        (5, [first, first, first]),
+        (6, [first, first, first]),
+        (7, [first, first, first]),
+        (8, [first, first, first]),
+        (9, [first, second, first]),
+        (10, [second, second, second]),
+    ] {
+        let mut stage = StopStage::new(memory(rt.alloc(), old.as_slice())?, passes);
+        assert_eq!(rt;
+            takes_up(&mut stage, &mut room, 1),
+            passes == 10,
+            "{passes}"
+        );
+        for pick in 0..3u8 {
+            let bytes = stage.inner().crash(rt.alloc(), pick)?;
+            let seen = found(rt.alloc(), bytes.as_slice(), &mut room, &GAME)?;
+            assert_eq!(rt; seen, left[pick as usize], "{passes} {pick}");
+            assert_eq!(rt; room.state()[1_371], 0, "{passes} {pick}");
+        }
+    }
+    // Each slot is moved over by the first commit into it.
+    for (turns, versions, written) in [
+        (1, (1, 2, 0), 4_103),
+        (2, (1, 2, 2), 8_206),
+        (3, (1, 2, 2), 8_217),
+    ] {
+        let mut stage = memory(rt.alloc(), old.as_slice())?;
+        assert!(rt; turns < 1_000);
+        assert!(rt; takes_up(&mut stage, &mut room, turns));
+        assert_eq!(rt; stage.written(), written);
+        let bytes = stage.crash(rt.alloc(), 0)?;
+        assert!(rt; bytes.len() == 172_288);
+        assert_eq!(rt; (bytes[2], bytes[130], bytes[86_210]), versions);
+    }
     Ok(())
 }

@@ -1,7 +1,7 @@
 -- The attach of the store of a session that is taken up again.
 use Rattle.std.proofs.Common.{◌≡◌, ◌≢◌, ℕ, ◌+◌, List, [], ◌++◌, Some, refl, sym, ap, ◌∙◌, subst, arith, inl, inr, ◌⊎◌}
 use Rattle.std.proofs.lemmas.List.{append-nil}
-use Rattle.paw_game.specs.Game.{GameLists}
+use Rattle.paw_effects.specs.Story.{Story}
 use Rattle.paw_game.specs.Valid.{Valid}
 use Rattle.paw_stage.specs.Disk.{MayLeave, stable}
 use Rattle.paw_stage.specs.Stage.{Standing}
@@ -23,7 +23,7 @@ use Rattle.paw_journal.proofs.Disks.{stable_is, stable_leaves}
 use Rattle.paw_play.proofs.Attaching.{files_so, other_file, playing_from}
 use Rattle.paw_play.proofs.Showing.{state_kept}
 
-module _ (g : GameLists) (digest name : List ℕ) (st : State) (piece : List ℕ) (old : Standing) (valid : Valid g) (shows : ShowsState g digest (store_bytes old name) st piece) where
+module _ (g : Story) (digest name : List ℕ) (st : State) (piece : List ℕ) (old : Standing) (valid : Valid g.game) (shows : ShowsState g.game digest (store_bytes old name) st piece) where
   -- the store is attached, and nothing was asked or shown
   at_attached : (m : Moment) → m.asked ≡ old.asked → m.shown ≡ old.shown → m.attached ≡ Some name → ((n : List ℕ) → n ≢ name → m.files n ≡ old.files n) → m.disk ≡ stable (store_bytes old name) →
       InPlay (kept_session g st piece digest name) old m
@@ -67,7 +67,7 @@ module _ (g : GameLists) (digest name : List ℕ) (st : State) (piece : List ℕ
 
 -- ---- where there is no session ----
 
-pub refused_again : (g : GameLists) (digest name : List ℕ) (old new : Standing) (before after : StageCall → ℕ) (r : JournalRefusal) → IsRefused (recover (store_bytes old name)) digest r → IsCaused before after r →
+pub refused_again : (g : Story) (digest name : List ℕ) (old new : Standing) (before after : StageCall → ℕ) (r : JournalRefusal) → IsRefused (recover (store_bytes old name)) digest r → IsCaused before after r →
     new ≡ attached_to old name → PlaysAgain g digest name old new (end_of r)
 refused_again g digest name old new before after (refusal.Unmade n mark) h c e = refused (refusal.Unmade n mark) h e
 refused_again g digest name old new before after (refusal.Damaged part at) h c e = refused (refusal.Damaged part at) h e

@@ -1,6 +1,6 @@
 -- The attach of a session's store.
 use Rattle.std.proofs.Common.{◌≡◌, ◌≢◌, ℕ, zero, suc, ◌<◌, ◌≤◌, List, [], ◌∷◌, Option, Some, None, Ok, refl, sym, ap, ◌∙◌, subst, length, arith, inl, inr, ◌⊎◌}
-use Rattle.paw_game.specs.Game.{GameLists}
+use Rattle.paw_effects.specs.Story.{Story}
 use Rattle.paw_stage.specs.Disk.{MayLeave, IsStable, stable}
 use Rattle.paw_stage.specs.Stage.{Standing, Files, bytes_or_none, made_if_missing, AttachesTo}
 use Rattle.paw_stage.specs.Moments.{Moment, InAttach}
@@ -52,7 +52,7 @@ files_so old name files n ne (inl e) = ap (λ (f : Files). f n) e
 files_so old name files n ne (inr e) = ap (λ (f : Files). f n) e ∙ other_file old name n ne
 
 -- inside the attach of an empty store
-pub in_new_attach : (g : GameLists) (seed : ℕ) (name : List ℕ) (old new : Standing) (m : Moment) → new ≡ attached_to old name → store_bytes old name ≡ [] → InAttach old new name m →
+pub in_new_attach : (g : Story) (seed : ℕ) (name : List ℕ) (old new : Standing) (m : Moment) → new ≡ attached_to old name → store_bytes old name ≡ [] → InAttach old new name m →
     InGame g seed name old m
 in_new_attach g seed name old new m is empty i =
     elim i.store [

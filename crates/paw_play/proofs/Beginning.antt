@@ -23,6 +23,7 @@ use Rattle.paw_play.specs.Play.{Played, KeepsLines, InPlay, with_store, PlaysOn}
 use Rattle.paw_play.specs.OnTheWay.{WalksFrom, IsWalking, Told, ShowsPiece, refusal_of, seat_state, InMaking, Rests, IsPlaying, IsStore, BegunAs}
 use Rattle.paw_play.proofs.Kept.{step_kept}
 use Rattle.paw_play.proofs.Walking.{walk_begins, text_shown}
+use Rattle.paw_effects.specs.Story.{Story}
 
 -- all but the store stands as it did
 pub beside_is : (first kept : Standing) → IsBeside first kept → kept ≡ with_store kept first
@@ -31,22 +32,22 @@ beside_is first kept b =
     ∙ ap (λ x. record kept { lines = first.lines; asked = first.asked; shown = x }) b.shown
 
 -- the piece before the first line is spent, or calls too deep
-pub begin_refused : (s : Played) (first : Standing) (found : Step) (next : Seat) (o : PlayEnd) → StepsTo s.whole found next [] [] → refusal_of found ≡ Some o → BegunAs s first first o
-begin_refused s first (step.Waits p) next o plays e = cc
-begin_refused s first step.Ended next o plays e = cc
-begin_refused s first (step.Spent kind) next o plays e = let k : o ≡ end.Spent kind = cc in let r = plays.1 [] in rw k (r.0, r.1, refl)
-begin_refused s first (step.TooDeep table) next o plays e = let k : o ≡ end.TooDeep table = cc in let r = plays.1 [] in rw k (r.0, r.1, refl)
+pub begin_refused : {F : Type 0} (g : Story) (s : Played) (first : Standing) (found : Step) (next : Seat F) (o : PlayEnd) → StepsTo g s.whole found next [] [] → refusal_of found ≡ Some o → BegunAs s first first o
+begin_refused g s first (step.Waits p) next o plays e = cc
+begin_refused g s first step.Ended next o plays e = cc
+begin_refused g s first (step.Spent kind) next o plays e = let k : o ≡ end.Spent kind = cc in let r = plays.1 [] in rw k (r.0, r.1, refl)
+begin_refused g s first (step.TooDeep table) next o plays e = let k : o ≡ end.TooDeep table = cc in let r = plays.1 [] in rw k (r.0, r.1, refl)
 
-module _ (s : Played) (first kept : Standing) (next : Seat) (found : Step) (new_one : s.before ≡ 0) (store : IsStore s.name first) (seated : IsSeated next) (last : next.last ≡ found)
-    (plays : StepsTo s.whole found next [] []) (shows : ShowsPiece found) (beside : IsBeside first kept) where
+module _ {F : Type 0} (g : Story) (s : Played) (first kept : Standing) (next : Seat F) (found : Step) (new_one : s.before ≡ 0) (store : IsStore s.name first) (seated : IsSeated next) (last : next.last ≡ found)
+    (plays : StepsTo g s.whole found next [] []) (shows : ShowsPiece found) (beside : IsBeside first kept) where
   machine_stands : Stands found next.machine
   machine_stands = subst (λ q. Stands q next.machine) last seated.machine
 
   text_is : text_of (s.whole []) ≡ next.piece
-  text_is = text_shown s.whole found next [] [] shows machine_stands plays
+  text_is = text_shown g s.whole found next [] [] shows machine_stands plays
 
   keeps_none : KeepsLines s first.lines 0 (Shown s.digest (seat_state 0 next) next.piece)
-  keeps_none = rw new_one (step_kept s.digest 0 s.whole found next [] [] shows last machine_stands plays)
+  keeps_none = rw new_one (step_kept g s.digest 0 s.whole found next [] [] shows last machine_stands plays)
 
   not_this : (f : List ℕ) → f ≢ s.name → first.attached ≢ Some f
   not_this f other e = let a : Some s.name ≡ Some f = sym store.attached ∙ e in other (cc)
@@ -105,9 +106,9 @@ module _ (s : Played) (first kept : Standing) (next : Seat) (found : Step) (new_
   asked_is new text e = ap (λ (q : Standing). q.asked) e ∙ beside.asked ∙ omega arith
 
   -- the session is at its first prompt
-  pub begins_next : (new : Standing) → Rests s first kept 0 → kept_digest kept.disk.bytes ≡ s.digest → Told kept new next.piece found None → IsPlaying s first new next 0
+  pub begins_next : (new : Standing) → Rests s first kept 0 → kept_digest kept.disk.bytes ≡ s.digest → Told kept new next.piece found None → IsPlaying g s first new next 0
   begins_next new rests digest told = record {
-    walking = subst (λ (q : Standing). IsWalking s.whole q new next 0) (store_is new (kept.shown ++ next.piece) told.2) (walk_begins s.whole MOST_EVENTS kept new next found None seated last plays told);
+    walking = subst (λ (q : Standing). IsWalking g s.whole q new next 0) (store_is new (kept.shown ++ next.piece) told.2) (walk_begins g s.whole MOST_EVENTS kept new next found None seated last plays told);
     rests = rests_shown new (kept.shown ++ next.piece) told.2 rests;
     digest = ap (λ (q : Standing). kept_digest q.disk.bytes) told.2 ∙ digest;
     last = next.piece;
@@ -117,12 +118,12 @@ module _ (s : Played) (first kept : Standing) (next : Seat) (found : Step) (new_
   -- or playing it has come to its end
   pub begins_last : (new : Standing) (o : PlayEnd) → Rests s first kept 0 → Told kept new next.piece found (Some o) → BegunAs s first new o
   begins_last new end.Ended rests told = record {
-    shows = subst (λ (q : Standing). Walks s.whole MOST_EVENTS q new end.Ended) (store_is new (kept.shown ++ next.piece) told.1) (walk_begins s.whole MOST_EVENTS kept new next found (Some end.Ended) seated last plays told);
+    shows = subst (λ (q : Standing). Walks s.whole MOST_EVENTS q new end.Ended) (store_is new (kept.shown ++ next.piece) told.1) (walk_begins g s.whole MOST_EVENTS kept new next found (Some end.Ended) seated last plays told);
     session = (0, asked_is new (kept.shown ++ next.piece) told.1, rests_shown new (kept.shown ++ next.piece) told.1 rests);
   }
   begins_last new (end.Outside call.Show) rests told = record {
     shows = subst (λ (q : Standing). Walks s.whole MOST_EVENTS q new (end.Outside call.Show)) (store_is new (kept.shown ++ take told.2 next.piece) told.3)
-        (walk_begins s.whole MOST_EVENTS kept new next found (Some (end.Outside call.Show)) seated last plays told);
+        (walk_begins g s.whole MOST_EVENTS kept new next found (Some (end.Outside call.Show)) seated last plays told);
     session = (0, asked_is new (kept.shown ++ take told.2 next.piece) told.3, rests_shown new (kept.shown ++ take told.2 next.piece) told.3 rests);
   }
   begins_last new (end.Spent kind) rests told = absurd (subst ShowsPiece told.0 shows)

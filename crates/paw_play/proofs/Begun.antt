@@ -1,6 +1,6 @@
 -- Making a new session is part of playing it.
 use Rattle.std.proofs.Common.{ℕ, List, refl, inl, inr}
-use Rattle.paw_game.specs.Game.{GameLists}
+use Rattle.paw_effects.specs.Story.{Story}
 use Rattle.paw_stage.specs.Stage.{Standing}
 use Rattle.paw_stage.specs.declared.StageCall.TheVariants as call
 use Rattle.paw_play.specs.declared.PlayEnd.{PlayEnd}
@@ -9,7 +9,7 @@ use Rattle.paw_play.specs.Play.{spent, too_deep, unmade, plays}
 use Rattle.paw_play.specs.OnTheWay.{BegunAs, PlaysInStore, new_session}
 
 -- what making a session came to is what playing it came to
-pub begun_plays : (g : GameLists) (seed : ℕ) (digest name : List ℕ) (first now : Standing) (o : PlayEnd) → BegunAs (new_session g seed digest name) first now o →
+pub begun_plays : (g : Story) (seed : ℕ) (digest name : List ℕ) (first now : Standing) (o : PlayEnd) → BegunAs (new_session g seed digest name) first now o →
     PlaysInStore (new_session g seed digest name) first now o
 begun_plays g seed digest name first now (end.Spent kind) b = spent kind b.0 b.1 b.2
 begun_plays g seed digest name first now (end.TooDeep table) b = too_deep table b.0 b.1 b.2

@@ -5,6 +5,7 @@ use Rattle.std.proofs.Math.Seq.{take-append_seam}
 use Rattle.sha2.specs.Sha256.{sha256}
 use Rattle.paw_game.specs.Game.{GameLists}
 use Rattle.paw_game.specs.Valid.{Valid}
+use Rattle.paw_effects.specs.Story.{Story}
 use Rattle.paw_game.specs.Image.{image}
 use Rattle.paw_effects.specs.declared.act.Prompt.{Prompt}
 use Rattle.paw_effects.specs.declared.act.Prompt.TheVariants as prompt
@@ -22,7 +23,7 @@ use Rattle.paw_journal.specs.Session.{Recovered, Shown, recover}
 use Rattle.paw_state.specs.State.{State, Keeps, FitsFields}
 use Rattle.paw_state.specs.Fields.{state_bytes}
 use Rattle.paw_state.proofs.Lawful.{bytes_tell_the_state}
-use Rattle.paw_state.specs.Record.{last_of, state_at}
+use Rattle.paw_state.specs.Record.{last_piece, state_at}
 use Rattle.paw_play.specs.Session.{kept_bytes, IsKept}
 use Rattle.paw_play.specs.Walk.{joined}
 use Rattle.paw_play.specs.Stands.{Stands, since_piece, ending_since, reading_since}
@@ -45,7 +46,7 @@ IsSettled g n Unended = Unit {0}
 
 -- ---- a reading from one of its pieces on ----
 
-from_last : (n : ℕ) (ps qs : List (List ℕ)) → length ps ≡ suc n → drop n (ps ++ qs) ≡ last_of ps ∷ qs
+from_last : (n : ℕ) (ps qs : List (List ℕ)) → length ps ≡ suc n → drop n (ps ++ qs) ≡ last_piece ps ∷ qs
 from_last n [] qs all = absurd (omega arith)
 from_last zero (p ∷ []) qs all = refl
 from_last (suc n) (p ∷ []) qs all = absurd (omega arith)
@@ -58,20 +59,20 @@ behind zero (t ∷ ts) us all = absurd (omega arith)
 behind (suc n) [] us all = absurd (omega arith)
 behind (suc n) (t ∷ ts) us all = behind n ts us (omega arith)
 
-last_dropped : (n : ℕ) (ps : List (List ℕ)) → n < length ps → last_of (drop n ps) ≡ last_of ps
+last_dropped : (n : ℕ) (ps : List (List ℕ)) → n < length ps → last_piece (drop n ps) ≡ last_piece ps
 last_dropped n [] low = absurd (omega arith)
 last_dropped zero (p ∷ ps) low = refl
 last_dropped (suc n) (p ∷ []) low = absurd (omega arith)
 last_dropped (suc n) (p ∷ q ∷ ps) low = last_dropped n (q ∷ ps) (omega arith)
 
 module _ (n : ℕ) (ps : List (List ℕ)) (ts : List (List Step)) (all : length ps ≡ suc n) (each : length ts ≡ suc n) where
-  run_since : (r : Run) → since_piece n (with_past ps ts r) ≡ with_past (last_of ps ∷ []) [] r
+  run_since : (r : Run) → since_piece n (with_past ps ts r) ≡ with_past (last_piece ps ∷ []) [] r
   run_since r =
       ap (λ q. record r { pieces = q; traces = drop (suc n) (ts ++ r.traces) }) (from_last n ps r.pieces all)
-      ∙ ap (λ q. record r { pieces = last_of ps ∷ r.pieces; traces = q }) (behind (suc n) ts r.traces each)
+      ∙ ap (λ q. record r { pieces = last_piece ps ∷ r.pieces; traces = q }) (behind (suc n) ts r.traces each)
 
   -- an ending with closed pieces before it, from the last of those on
-  since_past : (e : Ending) → ending_since n (ending_with_past ps ts e) ≡ ending_with_past (last_of ps ∷ []) [] e
+  since_past : (e : Ending) → ending_since n (ending_with_past ps ts e) ≡ ending_with_past (last_piece ps ∷ []) [] e
   since_past (WaitsAt p path r) = ap (WaitsAt p path) (run_since r)
   since_past (IsOver r) = ap IsOver (run_since r)
   since_past (RunsOut kind r) = ap (RunsOut kind) (run_since r)
@@ -105,9 +106,9 @@ whole_kept digest n m lines Unended r counted few k = absurd k.played
 abbrev taken_up : Run → List ℕ → List (List ℕ) → Run
 taken_up r piece fs = record r { current = []; read = []; pieces = piece ∷ []; traces = []; events = fs }
 
-goes_from : (g : GameLists) (n : ℕ) (p : Prompt) (path : List Frame) (r : Run) (piece : List ℕ) (fs : List (List ℕ)) →
-    going_on g (state_at n p path r) piece fs ≡ on g [] p path (taken_up r piece fs)
-goes_from g n p path r piece fs = ap (λ (q : List Frame). on g [] p q (taken_up r piece fs)) (take-append_seam path (replicate (11 - length path) unused))
+goes_from : (g : Story) (n : ℕ) (p : Prompt) (path : List Frame) (r : Run) (piece : List ℕ) (fs : List (List ℕ)) →
+    going_on g (state_at n p path r) piece fs ≡ on g p path (taken_up r piece fs)
+goes_from g n p path r piece fs = ap (λ (q : List Frame). on g p q (taken_up r piece fs)) (take-append_seam path (replicate (11 - length path) unused))
 
 taken_past : (r : Run) (piece : List ℕ) (fs : List (List ℕ)) → r.current ≡ [] → r.read ≡ [] → r.events ≡ [] →
     taken_up r piece fs ≡ with_past (piece ∷ []) [] (with_lines fs (without_past r))
@@ -121,60 +122,60 @@ abbrev traces_of : Option Run → List (List Step)
 traces_of None = []
 traces_of (Some r) = r.traces
 
-module _ (g : GameLists) (seed : ℕ) (es fs : List (List ℕ)) where
+module _ (g : Story) (seed : ℕ) (es fs : List (List ℕ)) where
   -- a reading that ended so ends with more lines as going on from its state and last piece does
   abbrev GoesOnFrom : Ending → State → List ℕ → Type 0
   GoesOnFrom e st piece =
       (length (pieces_of (run_of e)) ≡ suc (length es)) × (length (traces_of (run_of e)) ≡ suc (length es)) × (x : Ending)
-      × (reading g [] seed (es ++ fs) ≡ ending_with_past (pieces_of (run_of e)) (traces_of (run_of e)) x)
-      × (going_on g st piece fs ≡ ending_with_past (last_of (pieces_of (run_of e)) ∷ []) [] x)
+      × (reading g seed (es ++ fs) ≡ ending_with_past (pieces_of (run_of e)) (traces_of (run_of e)) x)
+      × (going_on g st piece fs ≡ ending_with_past (last_piece (pieces_of (run_of e)) ∷ []) [] x)
 
-  waiting_goes : (p : Prompt) (path : List Frame) (r : Run) → reading g [] seed es ≡ WaitsAt p path r → Settles g (length es) p path r →
-      Counted (length es) (WaitsAt p path r) → GoesOnFrom (WaitsAt p path r) (state_at (length es) p path r) (last_of r.pieces)
+  waiting_goes : (p : Prompt) (path : List Frame) (r : Run) → reading g seed es ≡ WaitsAt p path r → Settles g.game (length es) p path r →
+      Counted (length es) (WaitsAt p path r) → GoesOnFrom (WaitsAt p path r) (state_at (length es) p path r) (last_piece r.pieces)
   waiting_goes p path r is k counted = (
     all_pieces (length es) r.pieces r.events counted.1 counted.0,
     k.traced ∙ all_pieces (length es) r.pieces r.events counted.1 counted.0,
-    on g [] p path (with_lines fs (without_past r)),
-    longer_reading g [] seed es fs p path r is,
-    goes_from g (length es) p path r (last_of r.pieces) fs
-        ∙ ap (on g [] p path) (taken_past r (last_of r.pieces) fs k.current k.read counted.0)
-        ∙ past_stays g [] (last_of r.pieces ∷ []) [] p path (with_lines fs (without_past r)),
+    on g p path (with_lines fs (without_past r)),
+    longer_reading g seed es fs p path r is,
+    goes_from g (length es) p path r (last_piece r.pieces) fs
+        ∙ ap (on g p path) (taken_past r (last_piece r.pieces) fs k.current k.read counted.0)
+        ∙ past_stays g (last_piece r.pieces ∷ []) [] p path (with_lines fs (without_past r)),
   )
 
-  over_goes : (r : Run) → reading g [] seed es ≡ IsOver r → Settles g (length es) prompt.Over [] r → r.events ≡ [] →
-      Counted (length es) (IsOver r) → GoesOnFrom (IsOver r) (state_at (length es) prompt.Over [] r) (last_of r.pieces)
+  over_goes : (r : Run) → reading g seed es ≡ IsOver r → Settles g.game (length es) prompt.Over [] r → r.events ≡ [] →
+      Counted (length es) (IsOver r) → GoesOnFrom (IsOver r) (state_at (length es) prompt.Over [] r) (last_piece r.pieces)
   over_goes r is k none counted = (
     all_pieces (length es) r.pieces r.events counted none,
     k.traced ∙ all_pieces (length es) r.pieces r.events counted none,
     IsOver (with_lines fs (without_past r)),
-    rw is at (going_on_is_reading g [] seed es fs) ∙ ap IsOver (rw (append-nil r.pieces, append-nil r.traces) refl),
-    ap IsOver (taken_past r (last_of r.pieces) fs k.current k.read none),
+    rw is at (going_on_is_reading g seed es fs) ∙ ap IsOver (rw (append-nil r.pieces, append-nil r.traces) refl),
+    ap IsOver (taken_past r (last_piece r.pieces) fs k.current k.read none),
   )
 
-  ended_goes : (e : Ending) → reading g [] seed es ≡ e → IsSettled g (length es) e → Counted (length es) e → (digest : List ℕ) (r : Recovered) (kept : IsKept digest (length es) e r)
-      → (st : State) (piece : List ℕ) → Valid g → Keeps g st → FitsFields st → r ≡ Shown digest (kept_bytes st) piece
+  ended_goes : (e : Ending) → reading g seed es ≡ e → IsSettled g.game (length es) e → Counted (length es) e → (digest : List ℕ) (r : Recovered) (kept : IsKept digest (length es) e r)
+      → (st : State) (piece : List ℕ) → Valid g.game → Keeps g.game st → FitsFields st → r ≡ Shown digest (kept_bytes st) piece
       → (st.events ≡ length es) × GoesOnFrom e st piece
   unfolding kept_bytes
   ended_goes (WaitsAt p path s) is k counted digest r kept st piece v keeps fits shown =
-      let both : Shown digest (kept_bytes st) piece ≡ Shown digest (state_bytes (state_at (length es) p path s)) (last_of s.pieces) = sym shown ∙ kept.shown in
-      let same : st ≡ state_at (length es) p path s = bytes_tell_the_state g st (state_at (length es) p path s) v keeps fits k.keeps k.fits cc in
-      let piece_is : piece ≡ last_of s.pieces = cc in
+      let both : Shown digest (kept_bytes st) piece ≡ Shown digest (state_bytes (state_at (length es) p path s)) (last_piece s.pieces) = sym shown ∙ kept.shown in
+      let same : st ≡ state_at (length es) p path s = bytes_tell_the_state g.game st (state_at (length es) p path s) v keeps fits k.keeps k.fits cc in
+      let piece_is : piece ≡ last_piece s.pieces = cc in
       rw (same, piece_is) (refl, waiting_goes p path s is k counted)
   ended_goes (IsOver s) is k counted digest r kept st piece v keeps fits shown =
-      let both : Shown digest (kept_bytes st) piece ≡ Shown digest (state_bytes (state_at (length es) prompt.Over [] s)) (last_of s.pieces) = sym shown ∙ kept.shown in
-      let same : st ≡ state_at (length es) prompt.Over [] s = bytes_tell_the_state g st (state_at (length es) prompt.Over [] s) v keeps fits k.keeps k.fits cc in
-      let piece_is : piece ≡ last_of s.pieces = cc in
+      let both : Shown digest (kept_bytes st) piece ≡ Shown digest (state_bytes (state_at (length es) prompt.Over [] s)) (last_piece s.pieces) = sym shown ∙ kept.shown in
+      let same : st ≡ state_at (length es) prompt.Over [] s = bytes_tell_the_state g.game st (state_at (length es) prompt.Over [] s) v keeps fits k.keeps k.fits cc in
+      let piece_is : piece ≡ last_piece s.pieces = cc in
       rw (same, piece_is) (refl, over_goes s is k kept.played counted)
   ended_goes (RunsOut kind s) is k counted digest r kept st piece v keeps fits shown = absurd kept.played
   ended_goes (CallsTooDeep u s) is k counted digest r kept st piece v keeps fits shown = absurd kept.played
   ended_goes Unended is k counted digest r kept st piece v keeps fits shown = absurd kept.played
 
   -- going on from the state that a store shows is reading the longer list
-  pub goes_on : IsSettled g (length es) (reading g [] seed es) → (bytes : List ℕ) (st : State) (piece : List ℕ) → Valid g
-      → Stands g seed es bytes → ShowsState g (sha256 (image g)) bytes st piece → (st.events ≡ length es) × (going_on g st piece fs ≡ reading_since g seed es fs)
+  pub goes_on : IsSettled g.game (length es) (reading g seed es) → (bytes : List ℕ) (st : State) (piece : List ℕ) → Valid g.game
+      → Stands g seed es bytes → ShowsState g.game (sha256 (image g.game)) bytes st piece → (st.events ≡ length es) × (going_on g st piece fs ≡ reading_since g seed es fs)
   goes_on settled bytes st piece v stands shows =
-      let e : Ending = reading g [] seed es in
-      let goes = ended_goes e refl settled (pieces_of_lines g [] seed es) (sha256 (image g)) (recover bytes) stands.keeps st piece v shows.keeps shows.fits shows.shown in
+      let e : Ending = reading g seed es in
+      let goes = ended_goes e refl settled (pieces_of_lines g seed es) (sha256 (image g.game)) (recover bytes) stands.keeps st piece v shows.keeps shows.fits shows.shown in
       let ps : List (List ℕ) = pieces_of (run_of e) in
       let ts : List (List Step) = traces_of (run_of e) in
       (goes.0, goes.1.4 ∙ sym (ap (ending_since (length es)) goes.1.3 ∙ since_past (length es) ps ts goes.1.0 goes.1.1 goes.1.2))

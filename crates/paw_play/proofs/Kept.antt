@@ -14,13 +14,14 @@ use Rattle.std.proofs.lemmas.List.{length-reverse}
 use Rattle.paw_process.specs.Kept.{kept, unused}
 use Rattle.paw_process.specs.OpenTables.{OpenTables}
 use Rattle.paw_process.specs.declared.kept.Frames.{Frames}
-use Rattle.paw_state.specs.Record.{last_of}
+use Rattle.paw_state.specs.Record.{last_piece, frames_at}
 use Rattle.paw_play.specs.Session.{kept_bytes, state_after, IsKept}
 use Rattle.paw_play.specs.Walk.{Reading}
-use Rattle.paw_play.specs.OnTheWay.{ShowsPiece, seat_state, frames_at}
+use Rattle.paw_play.specs.OnTheWay.{ShowsPiece, seat_state}
 use Rattle.paw_play.proofs.Walking.{on_waits}
+use Rattle.paw_effects.specs.Story.{Story}
 
-pub last_more : (pieces : List (List ℕ)) (piece : List ℕ) → last_of (pieces ++ piece ∷ []) ≡ piece
+pub last_more : (pieces : List (List ℕ)) (piece : List ℕ) → last_piece (pieces ++ piece ∷ []) ≡ piece
 last_more [] piece = refl
 last_more (p ∷ []) piece = refl
 last_more (p ∷ q ∷ pieces) piece = last_more (q ∷ pieces) piece
@@ -30,29 +31,29 @@ pub kept_is : (m : OpenTables) → kept m ≡ frames_at (reverse m.frames) m.tur
 kept_is m = ap (λ (n : ℕ). record { count = n; rows = reverse m.frames ++ replicate (11 - n) unused; turning = m.turning }) (sym (length-reverse m.frames))
 
 -- where a player waits, its session keeps the reading
-waits_kept : (digest : List ℕ) (events : ℕ) (e : Ending) (p : Prompt) (next : Seat) (pieces : List (List ℕ)) (traces : List (List Read)) → next.last ≡ step.Waits p →
+waits_kept : {F : Type 0} (g : Story) (digest : List ℕ) (events : ℕ) (e : Ending) (p : Prompt) (next : Seat F) (pieces : List (List ℕ)) (traces : List (List Read)) → next.last ≡ step.Waits p →
     e ≡ WaitsAt p (reverse next.machine.frames) (run_at next (pieces ++ next.piece ∷ []) traces []) → IsKept digest events e (Shown digest (seat_state events next) next.piece)
-waits_kept digest events e p next pieces traces last is = rw (is, last) (record {
+waits_kept g digest events e p next pieces traces last is = rw (is, last) (record {
   played = tt;
   shown = ap (λ (k : Frames). Shown digest (kept_bytes (record { world = next.world; frames = k; pending = next.pending; prompt = p; events = events; piece = length next.piece })) next.piece) (kept_is next.machine)
       ∙ ap (λ (q : List ℕ). Shown digest (kept_bytes (record { world = next.world; frames = frames_at (reverse next.machine.frames) next.machine.turning; pending = next.pending; prompt = p; events = events; piece = length q })) q) (sym (last_more pieces next.piece));
 })
 
-over_kept : (digest : List ℕ) (events : ℕ) (e : Ending) (next : Seat) (pieces : List (List ℕ)) (traces : List (List Read)) → next.last ≡ step.Ended → next.machine.frames ≡ [] →
+over_kept : {F : Type 0} (g : Story) (digest : List ℕ) (events : ℕ) (e : Ending) (next : Seat F) (pieces : List (List ℕ)) (traces : List (List Read)) → next.last ≡ step.Ended → next.machine.frames ≡ [] →
     e ≡ IsOver (run_at next (pieces ++ next.piece ∷ []) traces []) → IsKept digest events e (Shown digest (seat_state events next) next.piece)
-over_kept digest events e next pieces traces last closed is = rw (is, last) (record {
+over_kept g digest events e next pieces traces last closed is = rw (is, last) (record {
   played = refl;
   shown = ap (λ (k : Frames). Shown digest (kept_bytes (record { world = next.world; frames = k; pending = next.pending; prompt = prompt.Over; events = events; piece = length next.piece })) next.piece) (kept_is next.machine ∙ ap (λ fs. frames_at (reverse fs) next.machine.turning) closed)
       ∙ ap (λ (q : List ℕ). Shown digest (kept_bytes (record { world = next.world; frames = frames_at [] next.machine.turning; pending = next.pending; prompt = prompt.Over; events = events; piece = length q })) q) (sym (last_more pieces next.piece));
 })
 
 -- a step that brings a piece leads to a player whose session keeps the reading
-pub step_kept : (digest : List ℕ) (events : ℕ) (whole : Reading) (s : Step) (next : Seat) (pieces : List (List ℕ)) (traces : List (List Read)) → ShowsPiece s → next.last ≡ s →
-    Stands s next.machine → PlaysTo whole s next pieces traces → IsKept digest events (whole []) (Shown digest (seat_state events next) next.piece)
-step_kept digest events whole (step.Waits p) next pieces traces shows last stands plays =
-    waits_kept digest events (whole []) p next pieces (traces ++ plays.0 ∷ []) last
-    (plays.1 [] ∙ on_waits next.game [] p next.machine (run_at next (pieces ++ next.piece ∷ []) (traces ++ plays.0 ∷ []) []) stands)
-step_kept digest events whole step.Ended next pieces traces shows last stands plays =
-    over_kept digest events (whole []) next pieces (traces ++ plays.0 ∷ []) last stands.frames (plays.1 [])
-step_kept digest events whole (step.Spent kind) next pieces traces shows last stands plays = absurd shows
-step_kept digest events whole (step.TooDeep u) next pieces traces shows last stands plays = absurd shows
+pub step_kept : {F : Type 0} (g : Story) (digest : List ℕ) (events : ℕ) (whole : Reading) (s : Step) (next : Seat F) (pieces : List (List ℕ)) (traces : List (List Read)) → ShowsPiece s → next.last ≡ s →
+    Stands s next.machine → PlaysTo g whole s next pieces traces → IsKept digest events (whole []) (Shown digest (seat_state events next) next.piece)
+step_kept g digest events whole (step.Waits p) next pieces traces shows last stands plays =
+    waits_kept g digest events (whole []) p next pieces (traces ++ plays.0 ∷ []) last
+    (plays.1.1 [] ∙ on_waits g p next.machine (run_at next (pieces ++ next.piece ∷ []) (traces ++ plays.0 ∷ []) []) stands)
+step_kept g digest events whole step.Ended next pieces traces shows last stands plays =
+    over_kept g digest events (whole []) next pieces (traces ++ plays.0 ∷ []) last stands.frames (plays.1.1 [])
+step_kept g digest events whole (step.Spent kind) next pieces traces shows last stands plays = absurd shows
+step_kept g digest events whole (step.TooDeep u) next pieces traces shows last stands plays = absurd shows

@@ -1,6 +1,7 @@
 pub mod Walking
 mod States
 mod Kept
+mod Following
 mod Playing
 mod Beginning
 mod Begun
@@ -11,9 +12,6 @@ mod Resuming
 mod Showing
 mod Again
 mod Placing
-mod Worlds
-mod Effects
-mod Sounding
-mod Going
-mod Settling
+pub mod Going
+pub mod Settling
 pub mod Standing

@@ -28,6 +28,7 @@ use Rattle.paw_play.specs.Play.{Played, KeepsLines, KeptBy, InPlay, with_store, 
 use Rattle.paw_play.specs.OnTheWay.{IsWalking, WalksOn, Told, ShowsPiece, refusal_of, seat_state, Rests, IsPlaying, PlaysTo}
 use Rattle.paw_play.proofs.Kept.{step_kept}
 use Rattle.paw_play.proofs.Walking.{walks_on, long_walk, none_left, none_asked, text_so_far, text_shown, read_after, one_more, joined_more, drop_more, stands_after, shown_nothing}
+use Rattle.paw_effects.specs.Story.{Story}
 
 -- ---- at a prompt ----
 
@@ -45,107 +46,107 @@ whole_text : (s : Played) (lines : List (List ℕ)) (n : ℕ) (text : List ℕ) 
 whole_text s lines n text e = ([], append-nil text ∙ sym e)
 
 -- the text so far
-text_is : (s : Played) (first now : Standing) (seat : Seat) (n : ℕ) (w : IsPlaying s first now seat n) → IsSeated seat → text_of (s.whole (first_lines n first.lines)) ≡ joined w.walking.pieces
-text_is s first now seat n w seated = text_so_far s.whole n (with_store now first) now seat w.walking seated
+text_is : {F : Type 0} (g : Story) (s : Played) (first now : Standing) (seat : Seat F) (n : ℕ) (w : IsPlaying g s first now seat n) → IsSeated seat → text_of (s.whole (first_lines n first.lines)) ≡ joined w.walking.pieces
+text_is g s first now seat n w seated = text_so_far g s.whole n (with_store now first) now seat w.walking seated
 
-asked_is : (s : Played) (first now : Standing) (seat : Seat) (n : ℕ) → IsPlaying s first now seat n → now.asked ≡ first.asked + n
-asked_is s first now seat n w = ap (λ (q : Standing). q.asked) w.walking.stands
+asked_is : {F : Type 0} (g : Story) (s : Played) (first now : Standing) (seat : Seat F) (n : ℕ) → IsPlaying g s first now seat n → now.asked ≡ first.asked + n
+asked_is g s first now seat n w = ap (λ (q : Standing). q.asked) w.walking.stands
 
-shown_is : (s : Played) (first now : Standing) (seat : Seat) (n : ℕ) (w : IsPlaying s first now seat n) → now.shown ≡ first.shown ++ joined w.walking.pieces
-shown_is s first now seat n w = ap (λ (q : Standing). q.shown) w.walking.stands
+shown_is : {F : Type 0} (g : Story) (s : Played) (first now : Standing) (seat : Seat F) (n : ℕ) (w : IsPlaying g s first now seat n) → now.shown ≡ first.shown ++ joined w.walking.pieces
+shown_is g s first now seat n w = ap (λ (q : Standing). q.shown) w.walking.stands
 
-agrees_now : (s : Played) (first now : Standing) (seat : Seat) (n : ℕ) (w : IsPlaying s first now seat n) → IsSeated seat → (image : List ℕ) → MayLeave now.disk image →
+agrees_now : {F : Type 0} (g : Story) (s : Played) (first now : Standing) (seat : Seat F) (n : ℕ) (w : IsPlaying g s first now seat n) → IsSeated seat → (image : List ℕ) → MayLeave now.disk image →
     Agrees s first.lines n (joined w.walking.pieces) image
-agrees_now s first now seat n w seated image may = (
+agrees_now g s first now seat n w seated image may = (
   subst (λ b. KeepsLines s first.lines n (recover b)) (sym (stable_leaves now.disk image w.rests.stable may)) w.rests.keeps,
-  whole_text s first.lines n (joined w.walking.pieces) (text_is s first now seat n w seated),
+  whole_text s first.lines n (joined w.walking.pieces) (text_is g s first now seat n w seated),
 )
 
 -- at a prompt
-pub at_prompt : (s : Played) (first now : Standing) (seat : Seat) (n : ℕ) → IsPlaying s first now seat n → IsSeated seat → InPlay s first (moment_of now)
-at_prompt s first now seat n w seated = record {
+pub at_prompt : {F : Type 0} (g : Story) (s : Played) (first now : Standing) (seat : Seat F) (n : ℕ) → IsPlaying g s first now seat n → IsSeated seat → InPlay s first (moment_of now)
+at_prompt g s first now seat n w seated = record {
   taken = n;
   text = joined w.walking.pieces;
   last = w.last;
   there = w.walking.there;
   few = w.rests.few;
-  asked = asked_is s first now seat n w;
-  shown = shown_is s first now seat n w;
-  before = sym (text_is s first now seat n w seated) ∙ w.grown;
+  asked = asked_is g s first now seat n w;
+  shown = shown_is g s first now seat n w;
+  before = sym (text_is g s first now seat n w seated) ∙ w.grown;
   attached = w.rests.attached;
   files = w.rests.others;
-  leaves = λ image may. keeps_all s first.lines n (joined w.walking.pieces) image (agrees_now s first now seat n w seated image may);
+  leaves = λ image may. keeps_all s first.lines n (joined w.walking.pieces) image (agrees_now g s first now seat n w seated image may);
 }
 
 -- inside an ask that takes a line
-line_asked : (s : Played) (first now : Standing) (seat : Seat) (n : ℕ) → IsPlaying s first now seat n → IsSeated seat → suc n ≤ length first.lines → s.before + suc n ≤ MOST_EVENTS →
+line_asked : {F : Type 0} (g : Story) (s : Played) (first now : Standing) (seat : Seat F) (n : ℕ) → IsPlaying g s first now seat n → IsSeated seat → suc n ≤ length first.lines → s.before + suc n ≤ MOST_EVENTS →
     InPlay s first (record (moment_of now) { asked = now.asked + 1 })
-line_asked s first now seat n w seated there few = record {
+line_asked g s first now seat n w seated there few = record {
   taken = suc n;
   text = joined w.walking.pieces;
   last = [];
   there = there;
   few = few;
-  asked = let a = asked_is s first now seat n w in omega (arith, a);
-  shown = shown_is s first now seat n w;
-  before = sym (append-nil (text_of (s.whole (first_lines n first.lines))) ∙ text_is s first now seat n w seated);
+  asked = let a = asked_is g s first now seat n w in omega (arith, a);
+  shown = shown_is g s first now seat n w;
+  before = sym (append-nil (text_of (s.whole (first_lines n first.lines))) ∙ text_is g s first now seat n w seated);
   attached = w.rests.attached;
   files = w.rests.others;
-  leaves = λ image may. inr (agrees_now s first now seat n w seated image may);
+  leaves = λ image may. inr (agrees_now g s first now seat n w seated image may);
 }
 
-is_there : (s : Played) (first now mid : Standing) (seat : Seat) (n : ℕ) (line : List ℕ) → IsPlaying s first now seat n → now.lines ≡ line ∷ mid.lines → suc n ≤ length first.lines
-is_there s first now mid seat n line w e =
+is_there : {F : Type 0} (g : Story) (s : Played) (first now mid : Standing) (seat : Seat F) (n : ℕ) (line : List ℕ) → IsPlaying g s first now seat n → now.lines ≡ line ∷ mid.lines → suc n ≤ length first.lines
+is_there g s first now mid seat n line w e =
     (drop_more first.lines n line mid.lines (ap (λ (q : Standing). q.lines) (sym w.walking.stands) ∙ e)).1
 
 -- inside an ask
-pub in_ask : (s : Played) (first now mid : Standing) (seat : Seat) (n : ℕ) (a : Asked) (into : List ℕ) (m : Moment) → IsPlaying s first now seat n → IsSeated seat →
+pub in_ask : {F : Type 0} (g : Story) (s : Played) (first now mid : Standing) (seat : Seat F) (n : ℕ) (a : Asked) (into : List ℕ) (m : Moment) → IsPlaying g s first now seat n → IsSeated seat →
     s.before + suc n ≤ MOST_EVENTS → AsksTo now mid a into → InAsk now a m → InPlay s first m
-in_ask s first now mid seat n (asked.Line k) into m w seated few asks (inl e) = subst (InPlay s first) (sym e) (at_prompt s first now seat n w seated)
-in_ask s first now mid seat n (asked.Line k) into m w seated few asks (inr e) =
-    subst (InPlay s first) (sym e) (line_asked s first now seat n w seated (is_there s first now mid seat n asks.0 w asks.1) few)
-in_ask s first now mid seat n asked.End into m w seated few asks e = subst (InPlay s first) (sym e) (at_prompt s first now seat n w seated)
-in_ask s first now mid seat n asked.Failed into m w seated few asks e = subst (InPlay s first) (sym e) (at_prompt s first now seat n w seated)
+in_ask g s first now mid seat n (asked.Line k) into m w seated few asks (inl e) = subst (InPlay s first) (sym e) (at_prompt g s first now seat n w seated)
+in_ask g s first now mid seat n (asked.Line k) into m w seated few asks (inr e) =
+    subst (InPlay s first) (sym e) (line_asked g s first now seat n w seated (is_there g s first now mid seat n asks.0 w asks.1) few)
+in_ask g s first now mid seat n asked.End into m w seated few asks e = subst (InPlay s first) (sym e) (at_prompt g s first now seat n w seated)
+in_ask g s first now mid seat n asked.Failed into m w seated few asks e = subst (InPlay s first) (sym e) (at_prompt g s first now seat n w seated)
 
 -- ---- the store after a commit ----
 
 -- after the ask that took a line
-mid_attached : (s : Played) (first now mid : Standing) (seat : Seat) (n : ℕ) → IsPlaying s first now seat n → mid ≡ record now { lines = mid.lines; asked = now.asked + 1 } → mid.attached ≡ Some s.name
-mid_attached s first now mid seat n w e = ap (λ (q : Standing). q.attached) e ∙ w.rests.attached
+mid_attached : {F : Type 0} (g : Story) (s : Played) (first now mid : Standing) (seat : Seat F) (n : ℕ) → IsPlaying g s first now seat n → mid ≡ record now { lines = mid.lines; asked = now.asked + 1 } → mid.attached ≡ Some s.name
+mid_attached g s first now mid seat n w e = ap (λ (q : Standing). q.attached) e ∙ w.rests.attached
 
-module _ (s : Played) (most n events : ℕ) (first now mid kept : Standing) (seat next : Seat) (given line : List ℕ) (step : Step)
-    (w : IsPlaying s first now seat n) (seated : IsSeated seat) (then_seated : IsSeated next) (game : next.game ≡ seat.game) (last : next.last ≡ step)
+module _ {F : Type 0} (g : Story) (s : Played) (most n events : ℕ) (first now mid kept : Standing) (seat next : Seat F) (given line : List ℕ) (step : Step)
+    (w : IsPlaying g s first now seat n) (seated : IsSeated seat) (then_seated : IsSeated next) (game : next.game ≡ seat.game) (last : next.last ≡ step)
     (lines : now.lines ≡ line ∷ mid.lines) (cut : given ≡ take 255 line) (took : mid ≡ record now { lines = mid.lines; asked = now.asked + 1 })
-    (plays : StepsTo (λ more. on seat.game [] w.walking.prompt (reverse seat.machine.frames) (run_at seat w.walking.pieces w.walking.traces (given ∷ more))) step next w.walking.pieces w.walking.traces)
+    (plays : StepsTo g (λ more. on g w.walking.prompt (reverse seat.machine.frames) (run_at seat w.walking.pieces w.walking.traces (given ∷ more))) step next w.walking.pieces w.walking.traces)
     (shows : ShowsPiece step) (counts : events ≡ s.before + suc n) (fit : events ≤ MOST_EVENTS) where
   -- the text of all lines that were taken
-  whole_is : s.whole (first_lines (suc n) first.lines) ≡ on seat.game [] w.walking.prompt (reverse seat.machine.frames) (run_at seat w.walking.pieces w.walking.traces (given ∷ []))
-  whole_is = read_after s.whole n (with_store now first) now mid kept seat next given line step w.walking seated then_seated game last lines cut took plays
+  whole_is : s.whole (first_lines (suc n) first.lines) ≡ on g w.walking.prompt (reverse seat.machine.frames) (run_at seat w.walking.pieces w.walking.traces (given ∷ []))
+  whole_is = read_after g s.whole n (with_store now first) now mid kept seat next given line step w.walking seated then_seated game last lines cut took plays
 
   machine_stands : Stands step next.machine
   machine_stands = subst (λ q. Stands q next.machine) last then_seated.machine
 
   text_more : text_of (s.whole (first_lines (suc n) first.lines)) ≡ joined w.walking.pieces ++ next.piece
-  text_more = ap text_of whole_is ∙ text_shown _ step next w.walking.pieces w.walking.traces shows machine_stands plays
+  text_more = ap text_of whole_is ∙ text_shown g _ step next w.walking.pieces w.walking.traces shows machine_stands plays
 
   -- the session that is committed keeps them
   keeps_more : KeepsLines s first.lines (suc n) (Shown s.digest (seat_state events next) next.piece)
-  keeps_more = rw (← counts, whole_is) (step_kept s.digest events _ step next w.walking.pieces w.walking.traces shows last machine_stands plays)
+  keeps_more = rw (← counts, whole_is) (step_kept g s.digest events _ step next w.walking.pieces w.walking.traces shows last machine_stands plays)
 
   there : suc n ≤ length first.lines
-  there = is_there s first now mid seat n line w lines
+  there = is_there g s first now mid seat n line w lines
 
   all_few : s.before + suc n ≤ MOST_EVENTS
   all_few = omega (arith, counts, fit)
 
   asked_more : mid.asked ≡ first.asked + suc n
-  asked_more = let a = asked_is s first now seat n w in let b = ap (λ (q : Standing). q.asked) took in omega (arith, a, b)
+  asked_more = let a = asked_is g s first now seat n w in let b = ap (λ (q : Standing). q.asked) took in omega (arith, a, b)
 
   shown_so_far : mid.shown ≡ first.shown ++ joined w.walking.pieces
-  shown_so_far = ap (λ (q : Standing). q.shown) took ∙ shown_is s first now seat n w
+  shown_so_far = ap (λ (q : Standing). q.shown) took ∙ shown_is g s first now seat n w
 
   attached_still : mid.attached ≡ Some s.name
-  attached_still = mid_attached s first now mid seat n w took
+  attached_still = mid_attached g s first now mid seat n w took
 
   not_this : (f : List ℕ) → f ≢ s.name → mid.attached ≢ Some f
   not_this f other e = let a : Some s.name ≡ Some f = sym attached_still ∙ e in other (cc)
@@ -163,11 +164,11 @@ module _ (s : Played) (most n events : ℕ) (first now mid kept : Standing) (sea
     few = all_few;
     asked = i.asked ∙ asked_more;
     shown = i.shown ∙ shown_so_far;
-    before = sym (append-nil (text_of (s.whole (first_lines n first.lines))) ∙ text_is s first now seat n w seated);
+    before = sym (append-nil (text_of (s.whole (first_lines n first.lines))) ∙ text_is g s first now seat n w seated);
     attached = i.attached ∙ attached_still;
     files = λ f other. i.files f (not_this f other) ∙ others_still f other;
     leaves = λ image may. elim (i.disk image may) [
-      | inl e ↦ inr (subst (λ r. KeepsLines s first.lines n r) (sym e) before_it, whole_text s first.lines n (joined w.walking.pieces) (text_is s first now seat n w seated))
+      | inl e ↦ inr (subst (λ r. KeepsLines s first.lines n r) (sym e) before_it, whole_text s first.lines n (joined w.walking.pieces) (text_is g s first now seat n w seated))
       | inr e ↦ inl (subst (λ r. KeepsLines s first.lines (suc n) r) (sym (e ∙ ap (λ d. Shown d (seat_state events next) next.piece) digest_is)) keeps_more, (next.piece, sym text_more))
     ];
   }
@@ -203,7 +204,7 @@ module _ (s : Played) (most n events : ℕ) (first now mid kept : Standing) (sea
     few = all_few;
     asked = beside.asked ∙ asked_more;
     shown = ap (λ t. t ++ take i.0 next.piece) (beside.shown ∙ shown_so_far) ∙ append_assoc first.shown (joined w.walking.pieces) (take i.0 next.piece);
-    before = ap (λ t. t ++ take i.0 next.piece) (sym (text_is s first now seat n w seated));
+    before = ap (λ t. t ++ take i.0 next.piece) (sym (text_is g s first now seat n w seated));
     attached = rests.attached;
     files = rests.others;
     leaves = λ image may. inl (
@@ -216,7 +217,7 @@ module _ (s : Played) (most n events : ℕ) (first now mid kept : Standing) (sea
   })
 
   -- the walk, with the store as it stands after the commit
-  walking_with : IsWalking s.whole (with_store kept first) (with_store kept now) seat n
+  walking_with : IsWalking g s.whole (with_store kept first) (with_store kept now) seat n
   walking_with = record {
     prompt = w.walking.prompt;
     waits = w.walking.waits;
@@ -234,10 +235,10 @@ module _ (s : Played) (most n events : ℕ) (first now mid kept : Standing) (sea
       ap (λ x. record kept { asked = x }) a ∙ ap (λ x. record kept { asked = now.asked + 1; shown = x }) b
 
   -- what comes of showing it
-  pub told_as : (new : Standing) (o : Option PlayEnd) → n < most → IsBeside mid kept → Told kept new next.piece step o → WalksOn s.whole most (with_store kept first) new next n o
+  pub told_as : (new : Standing) (o : Option PlayEnd) → n < most → IsBeside mid kept → Told kept new next.piece step o → WalksOn g s.whole most (with_store kept first) new next n o
   unfolding walking_with
   told_as new o few beside told =
-      walks_on s.whole most n (with_store kept first) (with_store kept now) kept new seat next given line step o walking_with few seated then_seated game last
+      walks_on g s.whole most n (with_store kept first) (with_store kept now) kept new seat next given line step o walking_with few seated then_seated game last
       (lines ∙ ap (λ xs. line ∷ xs) (sym beside.lines)) cut (kept_is beside) plays told
 
   -- showing leaves the store at rest
@@ -252,13 +253,13 @@ module _ (s : Played) (most n events : ℕ) (first now mid kept : Standing) (sea
 
   -- the session is at the next prompt
   pub plays_next : (new : Standing) → n < most → IsBeside mid kept → Rests s first kept (suc n) → kept_digest kept.disk.bytes ≡ kept_digest mid.disk.bytes →
-      Told kept new next.piece step None → IsPlaying s first new next (suc n)
+      Told kept new next.piece step None → IsPlaying g s first new next (suc n)
   plays_next new few beside rests digest told = record {
-    walking = subst (λ (q : Standing). IsWalking s.whole (with_store q first) new next (suc n)) (sym told.2) (told_as new None few beside told);
+    walking = subst (λ (q : Standing). IsWalking g s.whole (with_store q first) new next (suc n)) (sym told.2) (told_as new None few beside told);
     rests = rests_then new (kept.shown ++ next.piece) told.2 rests;
     digest = ap (λ (q : Standing). kept_digest q.disk.bytes) told.2 ∙ digest ∙ digest_still;
     last = next.piece;
-    grown = text_more ∙ ap (λ t. t ++ next.piece) (sym (text_is s first now seat n w seated));
+    grown = text_more ∙ ap (λ t. t ++ next.piece) (sym (text_is g s first now seat n w seated));
   }
 
   -- or playing on has come to its end, with the piece shown or not
@@ -284,7 +285,7 @@ module _ (s : Played) (most n events : ℕ) (first now mid kept : Standing) (sea
     there,
     stands_after (with_store kept first) (with_store kept now) kept kept n (joined w.walking.pieces) [] line walking_with.stands
         (lines ∙ ap (λ xs. line ∷ xs) (sym beside.lines)) (kept_is beside) (shown_nothing kept)
-        ∙ ap (played (with_store kept first) (suc n)) (append-nil (joined w.walking.pieces) ∙ sym (text_is s first now seat n w seated)),
+        ∙ ap (played (with_store kept first) (suc n)) (append-nil (joined w.walking.pieces) ∙ sym (text_is g s first now seat n w seated)),
   )
 
   pub plays_not : (c : StageCall) → n < most → IsBeside mid kept → IsWriting c → PlaysOn s most first kept (end.Outside c)
@@ -292,10 +293,10 @@ module _ (s : Played) (most n events : ℕ) (first now mid kept : Standing) (sea
   plays_not c few beside (inr e) = rw e (record { shows = uncommitted few beside; session = tt })
 
 -- all the lines that a session may have were taken
-pub long_play : (s : Played) (most n : ℕ) (first now : Standing) (seat : Seat) → IsPlaying s first now seat n → IsSeated seat → n ≡ most → PlaysOn s most first now (end.Long 1000000000)
-long_play s most n first now seat w seated all = record {
-  shows = long_walk s.whole most n (with_store now first) now seat w.walking seated all;
-  session = (n, asked_is s first now seat n w, w.rests);
+pub long_play : {F : Type 0} (g : Story) (s : Played) (most n : ℕ) (first now : Standing) (seat : Seat F) → IsPlaying g s first now seat n → IsSeated seat → n ≡ most → PlaysOn s most first now (end.Long 1000000000)
+long_play g s most n first now seat w seated all = record {
+  shows = long_walk g s.whole most n (with_store now first) now seat w.walking seated all;
+  session = (n, asked_is g s first now seat n w, w.rests);
 }
 
 -- a step that isn't refused brings a piece
@@ -307,34 +308,34 @@ shows_piece (step.TooDeep table) h = cc
 
 -- ---- where nothing is committed ----
 
-module _ (s : Played) (most n : ℕ) (first now : Standing) (seat : Seat) (w : IsPlaying s first now seat n) (seated : IsSeated seat) (few : n < most) where
+module _ {F : Type 0} (g : Story) (s : Played) (most n : ℕ) (first now : Standing) (seat : Seat F) (w : IsPlaying g s first now seat n) (seated : IsSeated seat) (few : n < most) where
   -- no line is left
   pub no_line : (new : Standing) → AsksTo now new asked.End [] → PlaysOn s most first new end.InputEnded
   no_line new e = rw e.1 (record {
-    shows = none_left s.whole most n (with_store now first) now now seat w.walking few seated (e.0, refl);
-    session = (n, asked_is s first now seat n w, w.rests);
+    shows = none_left g s.whole most n (with_store now first) now now seat w.walking few seated (e.0, refl);
+    session = (n, asked_is g s first now seat n w, w.rests);
   })
 
   pub no_ask : (new : Standing) → new ≡ now → PlaysOn s most first new (end.Outside call.Ask)
   no_ask new e = rw e (record {
-    shows = none_asked s.whole most n (with_store now first) now now seat w.walking few seated refl;
-    session = (n, asked_is s first now seat n w, w.rests);
+    shows = none_asked g s.whole most n (with_store now first) now now seat w.walking few seated refl;
+    session = (n, asked_is g s first now seat n w, w.rests);
   })
 
-  module _ (mid : Standing) (next : Seat) (given line : List ℕ) (found : Step) (then_seated : IsSeated next) (game : next.game ≡ seat.game) (last : next.last ≡ found)
+  module _ (mid : Standing) (next : Seat F) (given line : List ℕ) (found : Step) (then_seated : IsSeated next) (game : next.game ≡ seat.game) (last : next.last ≡ found)
       (lines : now.lines ≡ line ∷ mid.lines) (cut : given ≡ take 255 line) (took : mid ≡ record now { lines = mid.lines; asked = now.asked + 1 })
-      (plays : StepsTo (λ more. on seat.game [] w.walking.prompt (reverse seat.machine.frames) (run_at seat w.walking.pieces w.walking.traces (given ∷ more))) found next w.walking.pieces w.walking.traces) where
+      (plays : StepsTo g (λ more. on g w.walking.prompt (reverse seat.machine.frames) (run_at seat w.walking.pieces w.walking.traces (given ∷ more))) found next w.walking.pieces w.walking.traces) where
     refused_rests : KeepsAllButLast (KeptBy s first.lines) s.before s.name first mid
     refused_rests = (
       n,
-      let a = asked_is s first now seat n w in let b = ap (λ (q : Standing). q.asked) took in omega (arith, a, b),
+      let a = asked_is g s first now seat n w in let b = ap (λ (q : Standing). q.asked) took in omega (arith, a, b),
       subst (λ q. Rests s first q n) (sym took) (record { there = w.rests.there; few = w.rests.few; attached = w.rests.attached; stable = w.rests.stable; file = w.rests.file; others = w.rests.others; keeps = w.rests.keeps }),
     )
 
     refused_shows : (o : PlayEnd) → Told mid mid next.piece found (Some o) → Walks s.whole most (with_store mid first) mid o
     refused_shows o told =
         subst (λ (q : Standing). Walks s.whole most (with_store q first) mid o) (sym took)
-        (walks_on s.whole most n (with_store now first) now mid mid seat next given line found (Some o) w.walking few seated then_seated game last lines cut took plays told)
+        (walks_on g s.whole most n (with_store now first) now mid mid seat next given line found (Some o) w.walking few seated then_seated game last lines cut took plays told)
 
     -- the piece is spent, or a call is too deep
     pub plays_refused : (o : PlayEnd) → refusal_of found ≡ Some o → PlaysOn s most first mid o

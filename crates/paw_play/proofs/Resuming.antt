@@ -26,13 +26,15 @@ use Rattle.paw_state.specs.State.{State, state_of}
 use Rattle.paw_play.specs.declared.PlayEnd.{PlayEnd}
 use Rattle.paw_play.specs.declared.PlayEnd.TheVariants as end
 use Rattle.paw_play.specs.declared.TheConstants.{MOST_EVENTS}
-use Rattle.paw_state.specs.Record.{state_at}
+use Rattle.paw_state.specs.Record.{frames_at, state_at}
 use Rattle.paw_play.specs.Session.{kept_bytes, IsKept}
 use Rattle.paw_play.specs.Walk.{first_lines, played, joined}
 use Rattle.paw_play.specs.Play.{Played, KeepsLines, InPlay, with_store, PlaysOn, ShowsState, going_on, kept_session}
-use Rattle.paw_play.specs.OnTheWay.{Rests, IsPlaying, IsStore, ShowsAgain, frames_at}
+use Rattle.paw_play.specs.OnTheWay.{Rests, IsPlaying, IsStore, ShowsAgain}
 use Rattle.paw_play.proofs.Kept.{kept_is}
 use Rattle.paw_play.proofs.Walking.{on_waits, first_stands}
+use Rattle.paw_effects.specs.Story.{Story}
+use Rattle.paw_routines.specs.declared.routines.Routines.{Routines}
 
 -- the run of a state whose last piece was this
 abbrev pub run_from : World → OpenTables → PendingLine → List ℕ → List (List ℕ) → Run
@@ -52,13 +54,13 @@ run_from w m p piece lines = record {
 path_is : (m : OpenTables) → take (length m.frames) (reverse m.frames ++ replicate (11 - length m.frames) unused) ≡ reverse m.frames
 path_is m = ap (λ n. take n (reverse m.frames ++ replicate (11 - length m.frames) unused)) (sym (length-reverse m.frames)) ∙ take-append_seam (reverse m.frames) _
 
-pub goes_on_from : (g : GameLists) (w : World) (m : OpenTables) (p : PendingLine) (at : Prompt) (events n : ℕ) (piece : List ℕ) (lines : List (List ℕ)) →
-    going_on g (state_of w m p at events n) piece lines ≡ on g [] at (reverse m.frames) (run_from w m p piece lines)
-goes_on_from g w m p at events n piece lines = ap (λ path. on g [] at path (run_from w m p piece lines)) (path_is m)
+pub goes_on_from : (g : Story) (w : World) (m : OpenTables) (p : PendingLine) (at : Prompt) (events n : ℕ) (piece : List ℕ) (lines : List (List ℕ)) →
+    going_on g (state_of w m p at events n) piece lines ≡ on g at (reverse m.frames) (run_from w m p piece lines)
+goes_on_from g w m p at events n piece lines = ap (λ path. on g at path (run_from w m p piece lines)) (path_is m)
 
 -- ---- by the prompt ----
 
-module _ (digest : List ℕ) (g : GameLists) (w : World) (m : OpenTables) (p : PendingLine) (events n : ℕ) (piece : List ℕ) (long : length piece ≡ n) where
+module _ (digest : List ℕ) (g : Story) (w : World) (m : OpenTables) (p : PendingLine) (events n : ℕ) (piece : List ℕ) (long : length piece ≡ n) where
   same_state : (at : Prompt) → state_of w m p at events n ≡ state_at (events + 0) at (reverse m.frames) (run_from w m p piece [])
   same_state at =
       let e : events ≡ events + 0 = omega arith in
@@ -69,22 +71,30 @@ module _ (digest : List ℕ) (g : GameLists) (w : World) (m : OpenTables) (p : P
   waits_kept : (at : Prompt) (e : Ending) → e ≡ WaitsAt at (reverse m.frames) (run_from w m p piece []) → IsKept digest (events + 0) e (Shown digest (kept_bytes (state_of w m p at events n)) piece)
   waits_kept at e is = rw is (record { played = tt; shown = ap (λ q. Shown digest (kept_bytes q) piece) (same_state at) })
 
-  pub kept_at : (at : Prompt) → Stands (step_at at) m → IsKept digest (events + 0) (on g [] at (reverse m.frames) (run_from w m p piece [])) (Shown digest (kept_bytes (state_of w m p at events n)) piece)
-  kept_at prompt.Main h = waits_kept prompt.Main _ (on_waits g [] prompt.Main m (run_from w m p piece []) h)
-  kept_at prompt.Quit h = waits_kept prompt.Quit _ (on_waits g [] prompt.Quit m (run_from w m p piece []) h)
-  kept_at prompt.Again h = waits_kept prompt.Again _ (on_waits g [] prompt.Again m (run_from w m p piece []) h)
-  kept_at prompt.Key h = waits_kept prompt.Key _ (on_waits g [] prompt.Key m (run_from w m p piece []) h)
+  pub kept_at : (at : Prompt) → Stands (step_at at) m → IsKept digest (events + 0) (on g at (reverse m.frames) (run_from w m p piece [])) (Shown digest (kept_bytes (state_of w m p at events n)) piece)
+  kept_at prompt.Main h = waits_kept prompt.Main _ (on_waits g prompt.Main m (run_from w m p piece []) h)
+  kept_at prompt.Quit h = waits_kept prompt.Quit _ (on_waits g prompt.Quit m (run_from w m p piece []) h)
+  kept_at prompt.Again h = waits_kept prompt.Again _ (on_waits g prompt.Again m (run_from w m p piece []) h)
+  kept_at prompt.Key h = waits_kept prompt.Key _ (on_waits g prompt.Key m (run_from w m p piece []) h)
   kept_at prompt.Over h = record {
     played = refl;
     shown = ap (λ q. Shown digest (kept_bytes q) piece) (same_state prompt.Over ∙ ap (λ fs. state_at (events + 0) prompt.Over (reverse fs) (run_from w m p piece [])) h.frames);
   }
 
-  pub text_at : (at : Prompt) → Stands (step_at at) m → text_of (on g [] at (reverse m.frames) (run_from w m p piece [])) ≡ piece
-  text_at prompt.Main h = ap text_of (on_waits g [] prompt.Main m (run_from w m p piece []) h) ∙ append-nil piece
-  text_at prompt.Quit h = ap text_of (on_waits g [] prompt.Quit m (run_from w m p piece []) h) ∙ append-nil piece
-  text_at prompt.Again h = ap text_of (on_waits g [] prompt.Again m (run_from w m p piece []) h) ∙ append-nil piece
-  text_at prompt.Key h = ap text_of (on_waits g [] prompt.Key m (run_from w m p piece []) h) ∙ append-nil piece
+  pub text_at : (at : Prompt) → Stands (step_at at) m → text_of (on g at (reverse m.frames) (run_from w m p piece [])) ≡ piece
+  text_at prompt.Main h = ap text_of (on_waits g prompt.Main m (run_from w m p piece []) h) ∙ append-nil piece
+  text_at prompt.Quit h = ap text_of (on_waits g prompt.Quit m (run_from w m p piece []) h) ∙ append-nil piece
+  text_at prompt.Again h = ap text_of (on_waits g prompt.Again m (run_from w m p piece []) h) ∙ append-nil piece
+  text_at prompt.Key h = ap text_of (on_waits g prompt.Key m (run_from w m p piece []) h) ∙ append-nil piece
   text_at prompt.Over h = append-nil piece
+
+-- ---- a player of these parts ----
+
+pub seat_game : {F : Type 0} (g : GameLists) (routines : Routines F) (w : World) (m : OpenTables) (p : PendingLine) (at : Prompt) (seat : Seat F) → seat ≡ seat_at g routines w m p at → seat.game ≡ g
+seat_game {F} g routines w m p at seat is = ap (λ (q : Seat F). q.game) is
+
+pub seat_routines : {F : Type 0} (g : GameLists) (routines : Routines F) (w : World) (m : OpenTables) (p : PendingLine) (at : Prompt) (seat : Seat F) → seat ≡ seat_at g routines w m p at → seat.routines ≡ routines
+seat_routines {F} g routines w m p at seat is = ap (λ (q : Seat F). q.routines) is
 
 waits_at : (at : Prompt) → at ≢ prompt.Over → step_at at ≡ step.Waits at
 waits_at prompt.Main h = refl
@@ -95,14 +105,14 @@ waits_at prompt.Over h = absurd (h refl)
 
 -- ---- the session ----
 
-module _ (g : GameLists) (digest name : List ℕ) (w : World) (m : OpenTables) (p : PendingLine) (at : Prompt) (events n most : ℕ) (piece : List ℕ) (first : Standing) (seat : Seat)
-    (long : length piece ≡ n) (is : seat ≡ seat_at g w m p at) (seated : IsSeated seat) (store : IsStore name first) (own : kept_digest first.disk.bytes ≡ digest)
+module _ {F : Type 0} (g : Story) (digest name : List ℕ) (w : World) (m : OpenTables) (p : PendingLine) (at : Prompt) (events n most : ℕ) (piece : List ℕ) (first : Standing) (routines : Routines F) (seat : Seat F)
+    (long : length piece ≡ n) (is : seat ≡ seat_at g.game routines w m p at) (seated : IsSeated seat) (store : IsStore name first) (own : kept_digest first.disk.bytes ≡ digest)
     (shows : recover first.disk.bytes ≡ Shown digest (kept_bytes (state_of w m p at events n)) piece) (fit : events ≤ MOST_EVENTS) where
   session : Played
   session = kept_session g (state_of w m p at events n) piece digest name
 
   machine_stands : Stands (step_at at) m
-  machine_stands = subst (λ (q : Seat). Stands q.last q.machine) is seated.machine
+  machine_stands = subst (λ (q : Seat F). Stands q.last q.machine) is seated.machine
 
   text_is : text_of (going_on g (state_of w m p at events n) piece []) ≡ piece
   text_is = ap text_of (goes_on_from g w m p at events n piece []) ∙ text_at digest g w m p events n piece long at machine_stands
@@ -152,7 +162,7 @@ module _ (g : GameLists) (digest name : List ℕ) (w : World) (m : OpenTables) (
   })
 
   -- the session is at its prompt
-  pub again_next : (new : Standing) → ShowsAgain first new piece at None → IsPlaying (kept_session g (state_of w m p at events n) piece digest name) first new seat 0
+  pub again_next : (new : Standing) → ShowsAgain first new piece at None → IsPlaying g (kept_session g (state_of w m p at events n) piece digest name) first new seat 0
   unfolding session
   again_next new told = rw is (record {
     walking = record {
@@ -180,7 +190,7 @@ module _ (g : GameLists) (digest name : List ℕ) (w : World) (m : OpenTables) (
       run_from w m p piece [],
       refl,
       record {
-        reading = goes_on_from g w m p at events n piece [] ∙ ap (λ q. on g [] q (reverse m.frames) (run_from w m p piece [])) told.0;
+        reading = goes_on_from g w m p at events n piece [] ∙ ap (λ q. on g q (reverse m.frames) (run_from w m p piece [])) told.0;
         there = omega arith;
         stands = stands_with new piece told.1 ∙ ap (played (with_store new first) 0) (sym (append-nil piece));
       },

@@ -1,101 +1,119 @@
 -- Where a reading stops its state keeps the rules.
-use Rattle.std.proofs.Common.{◌≡◌, ℕ, suc, ◌+◌, ◌*◌, ◌^◌, ◌<◌, ◌≤◌, List, [], Option, Some, None, refl, sym, ap, subst, length, arith}
-use Rattle.std.specs.Prelude.{IfSome, IfNone}
+use Rattle.std.proofs.Common.{◌≡◌, ℕ, zero, suc, ◌+◌, ◌*◌, ◌^◌, ◌<◌, ◌≤◌, List, [], ◌∷◌, Option, Some, None, refl, sym, ap, ◌∙◌, subst, length, arith}
+use Rattle.std.specs.Prelude.{IfNone, All}
+use Rattle.std.proofs.lemmas.List.{length-map}
 use Rattle.paw_game.specs.Game.{GameLists}
+use Rattle.paw_game.specs.declared.parts.ObjectRow.{ObjectRow}
 use Rattle.paw_game.specs.Valid.{Valid}
-use Rattle.paw_world.specs.World.{Position}
+use Rattle.paw_world.specs.World.{World, Position, IsSavedFor, IsWorld}
 use Rattle.paw_effects.specs.declared.act.Prompt.{Prompt}
 use Rattle.paw_effects.specs.declared.act.Prompt.TheVariants as prompt
+use Rattle.paw_effects.specs.Story.{Story}
+use Rattle.paw_effects.specs.Built.{ArePlacesOf, StandsIn}
+use Rattle.paw_effects.specs.Standing.{AreBytes, MayBePosition, IsWorldOf}
+use Rattle.paw_effects.proofs.Worlds.{few_objects, place_small}
 use Rattle.paw_reading.specs.declared.places.Frame.{Frame}
 use Rattle.paw_reading.specs.Run.{Run}
 use Rattle.paw_reading.specs.Turn.{Ending, WaitsAt, IsOver, RunsOut, CallsTooDeep, Unended, reading}
+use Rattle.paw_reading.specs.Bounds.{IsBounded}
 use Rattle.paw_reading.specs.Pieces.{Counted}
-use Rattle.paw_reading.specs.Places.{waiting_code, AreOpenAt, StandsRightly, StopsRightly}
+use Rattle.paw_reading.specs.Places.{waiting_code, AreOpenAt, StandsRightly, StopsRightly, StopsBounded}
 use Rattle.paw_reading.proofs.Counts.{pieces_of_lines}
-use Rattle.paw_reading.proofs.Rightly.{readings_stop_rightly}
-use Rattle.paw_effects.specs.Built.{ArePlacesOf}
-use Rattle.paw_state.specs.State.{IsSavedIn, AreBytes}
+use Rattle.paw_reading.proofs.Rightly.{readings_stop_rightly, readings_are_bounded}
+use Rattle.paw_state.specs.Record.{last_piece}
+use Rattle.paw_state.specs.State.{HoldsBytes}
 use Rattle.paw_play.specs.Stands.{IsPlayedWith}
 use Rattle.paw_play.proofs.Placing.{places_fit, eleven_rows}
-use Rattle.paw_play.proofs.Worlds.{IsPositionOf, place_small}
-use Rattle.paw_play.proofs.Sounding.{IsResting, EndsSound, are_lines, reading_sounds}
 use Rattle.paw_play.proofs.Going.{Settles, IsSettled}
 
--- a run stands at its prompt as it may
-record StandsAs (g : GameLists) (p : Prompt) (path : List Frame) (r : Run) : Type 0 where
-  open_at : AreOpenAt g (waiting_code p) path r.turning
-  line : IfNone (waiting_code p) (r.pending ≡ [])
-
 -- no line is left where no table is open
-stands_as : (g : GameLists) (p : Prompt) (path : List Frame) (r : Run) → StandsRightly g p path r → StandsAs g p path r
-stands_as g p path r k = at (waiting_code p) refl k.places
+closed_line : (g : GameLists) (p : Prompt) (path : List Frame) (r : Run) → StandsRightly g p path r → IfNone (waiting_code p) (r.pending ≡ [])
+closed_line g p path r k = at (waiting_code p) k.places
   where
-    at : (code : Option ℕ) → waiting_code p ≡ code → AreOpenAt g code path r.turning → StandsAs g p path r
-    at None e places = record { open_at = k.places; line = rw e (k.line places.0) }
-    at (Some n) e places = record { open_at = k.places; line = rw e tt }
+    at : (code : Option ℕ) → AreOpenAt g code path r.turning → IfNone code (r.pending ≡ [])
+    at None places = k.line places.0
+    at (Some n) places = tt
+
+-- the last piece is as short as each
+last_short : (pieces : List (List ℕ)) → All (λ piece. length piece ≤ 65535) pieces → length (last_piece pieces) ≤ 65535
+last_short [] all = omega arith
+last_short (p ∷ []) all = all 0 [] (omega arith)
+last_short (p ∷ q ∷ pieces) all = last_short (q ∷ pieces) (λ k d low. all (suc k) d (omega arith))
+
+-- ---- worlds ----
 
 places_are_bytes : (g : GameLists) → Valid g → (places : List ℕ) → ArePlacesOf g places → AreBytes places
 places_are_bytes g v places at = λ k d low. place_small g v _ (at k d low)
 
+saved_stands : (g : GameLists) (saved : Option Position) → MayBePosition g saved → StandsIn g saved
+saved_stands g None k = tt
+saved_stands g (Some q) k = k.places
+
+saved_fits : (g : GameLists) → Valid g → (saved : Option Position) → MayBePosition g saved → HoldsBytes saved
+saved_fits g v None k = tt
+saved_fits g v (Some q) k = (k.bytes, places_are_bytes g v q.places k.places)
+
+saved_alike : (g : GameLists) (n : ℕ) (saved : Option Position) → n ≡ length g.objects → MayBePosition g saved → IsSavedFor n saved
+saved_alike g n None same k = tt
+saved_alike g n (Some q) same k = record { flags = k.flags; places = k.each ∙ sym same }
+
+-- a world of the game has the sizes of a world
+world_sound : (g : GameLists) → Valid g → (w : World) → IsWorldOf g w → IsWorld w
+world_sound g v w k = record {
+  objects = omega (arith, k.of.places, few_objects g v);
+  facts = ap length k.of.facts ∙ length-map g.objects (λ (o : ObjectRow). o.facts) ∙ sym k.of.places;
+  flags = k.of.flags;
+  saved = saved_alike g (length w.places) w.saved k.of.places k.saved;
+  kept = record { four = k.four; each = λ i d low. saved_alike g (length w.places) _ k.of.places (k.kept i d low) };
+}
+
+-- ---- readings ----
+
 module _ (g : GameLists) (v : Valid g) (seed : ℕ) (n : ℕ) (fits : seed < 2 ^ 64) (few : n ≤ 1000000000) where
-  saved_kept : (saved : Option Position) → IfSome saved (IsPositionOf g) → IfSome saved (IsSavedIn g)
-  saved_kept None k = tt
-  saved_kept (Some q) k = k.is
-
-  saved_flags_fit : (saved : Option Position) → IfSome saved (IsPositionOf g) → IfSome saved (λ q. AreBytes q.flags)
-  saved_flags_fit None k = tt
-  saved_flags_fit (Some q) k = k.flags
-
-  saved_places_fit : (saved : Option Position) → IfSome saved (IsPositionOf g) → IfSome saved (λ q. AreBytes q.places)
-  saved_places_fit None k = tt
-  saved_places_fit (Some q) k = places_are_bytes g v q.places k.is.places
-
   -- one piece was closed for each line, and one before them
-  drawn : (r : Run) → IsResting g seed r → length r.pieces + length r.events ≡ suc n → r.world.draws ≤ 200000 * (n + 1)
-  drawn r k count =
-      let none : length r.read ≡ 0 = ap length k.read in
-      let most : r.world.draws ≤ 200000 * length r.pieces + length r.read = k.sound.world.draws in
-      omega (arith, none, most, count)
+  drawn : (r : Run) → IsBounded seed 0 r → length r.pieces + length r.events ≡ suc n → r.world.draws ≤ 200000 * (n + 1)
+  drawn r bound count = let most : r.world.draws ≤ 0 + 200000 * length r.pieces = bound.draws in omega (arith, most, count)
 
-  settles : (p : Prompt) (path : List Frame) (r : Run) → IsResting g seed r → StandsAs g p path r → length r.pieces + length r.events ≡ suc n → Settles g n p path r
-  settles p path r k at count = record {
+  settles : (p : Prompt) (path : List Frame) (r : Run) → StandsRightly g p path r → IsBounded seed 0 r → length r.pieces + length r.events ≡ suc n → Settles g n p path r
+  settles p path r k bound count = record {
     keeps = record {
-      world = k.sound.world.of;
-      places = k.sound.world.places;
-      saved = saved_kept r.world.saved k.sound.world.saved;
+      world = k.world.of;
+      sound = world_sound g v r.world k.world;
+      places = (k.world.places, (saved_stands g r.world.saved k.world.saved, λ i d low. saved_stands g _ (k.world.kept i d low)));
       events = few;
-      draws = drawn r k count;
-      rows = eleven_rows g (waiting_code p) path r.turning at.open_at;
-      frames = places_fit g (waiting_code p) path r.turning at.open_at;
-      line = k.sound.line.short;
-      pending = at.line;
+      draws = drawn r bound count;
+      rows = eleven_rows g (waiting_code p) path r.turning k.places;
+      frames = places_fit g (waiting_code p) path r.turning k.places;
+      line = k.pending.short;
+      pending = closed_line g p path r k;
     };
     fits = record {
-      flags = k.sound.world.flags;
-      places = places_are_bytes g v r.world.places k.sound.world.places;
-      saved_flags = saved_flags_fit r.world.saved k.sound.world.saved;
-      saved_places = saved_places_fit r.world.saved k.sound.world.saved;
-      seed = subst (λ s. s < 2 ^ 64) (sym k.sound.world.seeded) fits;
-      draws = omega (arith, drawn r k count, few);
+      flags = k.world.flags;
+      places = places_are_bytes g v r.world.places k.world.places;
+      saved = saved_fits g v r.world.saved k.world.saved;
+      kept = λ i d low. saved_fits g v _ (k.world.kept i d low);
+      seed = subst (λ s. s < 2 ^ 64) (sym bound.seeded) fits;
+      draws = omega (arith, drawn r bound count, few);
       events = omega (arith, few);
-      earlier = k.sound.earlier;
-      line = k.sound.line.bytes;
-      piece = omega (arith, k.sound.last);
+      earlier = k.earlier;
+      line = k.pending.bytes;
+      piece = omega (arith, last_short r.pieces bound.pieces);
     };
-    current = k.current;
+    current = k.piece;
     read = k.read;
-    traced = k.sound.traced;
+    traced = bound.traced;
   }
 
-  ending_settles : (e : Ending) → EndsSound g v seed e → StopsRightly g e → Counted n e → IsSettled g n e
-  ending_settles (WaitsAt p path r) k at count = settles p path r k (stands_as g p path r at.1) count.1
-  ending_settles (IsOver r) k at count = settles prompt.Over [] r k (stands_as g prompt.Over [] r at) count
-  ending_settles (RunsOut kind r) k at count = tt
-  ending_settles (CallsTooDeep u r) k at count = tt
-  ending_settles Unended k at count = tt
+  ending_settles : (e : Ending) → StopsRightly g e → StopsBounded seed 0 e → Counted n e → IsSettled g n e
+  ending_settles (WaitsAt p path r) at bound count = settles p path r at.1 bound count.1
+  ending_settles (IsOver r) at bound count = settles prompt.Over [] r at bound count
+  ending_settles (RunsOut kind r) at bound count = tt
+  ending_settles (CallsTooDeep u r) at bound count = tt
+  ending_settles Unended at bound count = tt
 
-pub reading_settles : (g : GameLists) (seed : ℕ) (es : List (List ℕ)) → IsPlayedWith g seed es → length es ≤ 1000000000 → IsSettled g (length es) (reading g [] seed es)
+pub reading_settles : (g : Story) (seed : ℕ) (es : List (List ℕ)) → IsPlayedWith g seed es → length es ≤ 1000000000 → IsSettled g.game (length es) (reading g seed es)
 reading_settles g seed es played few =
-    ending_settles g played.valid seed (length es) played.fits few (reading g [] seed es)
-    (reading_sounds g played.valid seed [] es (are_lines es played.lines))
-    (readings_stop_rightly g [] seed es played.valid) (pieces_of_lines g [] seed es)
+    ending_settles g.game played.valid.game seed (length es) played.fits few (reading g seed es)
+    (readings_stop_rightly g seed es played.valid played.lines)
+    (readings_are_bounded g seed es played.valid played.lines)
+    (pieces_of_lines g seed es)

@@ -12,18 +12,20 @@ use Rattle.paw_stage.specs.Moments.{Moment}
 use Rattle.paw_effects.specs.declared.act.Prompt.TheVariants as prompt
 use Rattle.paw_reading.specs.Turn.{Ending, WaitsAt, IsOver, RunsOut, CallsTooDeep, Unended, reading, text_of}
 use Rattle.paw_reading.proofs.Counts.{pieces_of_lines}
-use Rattle.paw_state.specs.State.{State, AreBytes}
+use Rattle.paw_effects.specs.Standing.{AreBytes}
+use Rattle.paw_reading.specs.Bounds.{IsLine}
+use Rattle.paw_state.specs.State.{State}
 use Rattle.paw_state.specs.Fields.{state_bytes}
 use Rattle.paw_state.specs.Fit.{Fit}
-use Rattle.paw_journal.specs.Session.{Shown, recover}
+use Rattle.paw_journal.specs.Session.{Shown, recover, state_length}
 use Rattle.paw_journal.specs.declared.refusal.JournalRefusal.{JournalRefusal}
 use Rattle.paw_journal.specs.declared.refusal.JournalRefusal.TheVariants as refusal
 use Rattle.paw_play.specs.declared.PlayEnd.{PlayEnd}
 use Rattle.paw_play.specs.declared.TheConstants.{MOST_EVENTS}
-use Rattle.paw_state.specs.Record.{last_of, state_at}
+use Rattle.paw_state.specs.Record.{last_piece, state_at}
 use Rattle.paw_play.specs.Session.{kept_bytes, state_after, IsKept}
 use Rattle.paw_play.specs.Walk.{first_lines}
-use Rattle.paw_play.specs.Stands.{Stands, StandsFor, IsLine, IsPlayedWith, text_since, reading_since}
+use Rattle.paw_play.specs.Stands.{Stands, StandsFor, IsPlayedWith, text_since, reading_since}
 use Rattle.paw_play.specs.Keeping.{KeepsUpWith, InSession}
 use Rattle.paw_play.specs.Play.{PlaysWith, PlaysOn, KeptBy, ShowsState, Refuses, PlaysUp, no_state, plays_on, PlaysAgain, refused, wanting, plays_up, GoesOn, memory, unattached, unread, plays, InAgain, InGoingOn, going_on, kept_session, attached_to, store_bytes}
 use Rattle.paw_play.specs.Laws.{ShowsSome, StandingShows, StandingGoesOn, Round, AreKept, left_after, RoundsStand}
@@ -31,30 +33,31 @@ use Rattle.paw_play.proofs.Games.{count_lines}
 use Rattle.paw_play.proofs.Going.{IsSettled, goes_on, text_since_is, whole_kept}
 use Rattle.paw_play.proofs.Mapped.{plays_by, in_session_by}
 use Rattle.paw_play.proofs.Settling.{reading_settles}
+use Rattle.paw_effects.specs.Story.{Story}
 
 -- ---- what a store shows ----
 
 ending_shows : (g : GameLists) (n : ℕ) (bytes : List ℕ) (e : Ending) → IsSettled g n e → IsKept (sha256 (image g)) n e (recover bytes) → ShowsSome g bytes
 ending_shows g n bytes (WaitsAt p path r) k kept =
-    record { state = state_at n p path r; piece = last_of r.pieces; shows = record { keeps = k.keeps; fits = k.fits; shown = kept.shown } }
+    record { state = state_at n p path r; piece = last_piece r.pieces; shows = record { keeps = k.keeps; fits = k.fits; shown = kept.shown } }
 ending_shows g n bytes (IsOver r) k kept =
-    record { state = state_at n prompt.Over [] r; piece = last_of r.pieces; shows = record { keeps = k.keeps; fits = k.fits; shown = kept.shown } }
+    record { state = state_at n prompt.Over [] r; piece = last_piece r.pieces; shows = record { keeps = k.keeps; fits = k.fits; shown = kept.shown } }
 ending_shows g n bytes (RunsOut kind r) k kept = absurd kept.played
 ending_shows g n bytes (CallsTooDeep u r) k kept = absurd kept.played
 ending_shows g n bytes Unended k kept = absurd kept.played
 
 pub standing_shows : StandingShows
 standing_shows g seed es bytes played stands =
-    ending_shows g (length es) bytes (reading g [] seed es) (reading_settles g seed es played stands.few) stands.keeps
+    ending_shows g.game (length es) bytes (reading g seed es) (reading_settles g seed es played stands.few) stands.keeps
 
 pub standing_goes_on : StandingGoesOn
 standing_goes_on g seed es fs bytes st piece played stands shows =
-    goes_on g seed es fs (reading_settles g seed es played stands.few) bytes st piece played.valid stands shows
+    goes_on g seed es fs (reading_settles g seed es played stands.few) bytes st piece played.valid.game stands shows
 
 -- ---- taking it up again ----
 
-module _ (g : GameLists) (seed : ℕ) (es : List (List ℕ)) (bytes : List ℕ) (st : State) (piece name : List ℕ) (played : IsPlayedWith g seed es) (stands : Stands g seed es bytes)
-    (shows : ShowsState g (sha256 (image g)) bytes st piece) where
+module _ (g : Story) (seed : ℕ) (es : List (List ℕ)) (bytes : List ℕ) (st : State) (piece name : List ℕ) (played : IsPlayedWith g seed es) (stands : Stands g seed es bytes)
+    (shows : ShowsState g.game (sha256 (image g.game)) bytes st piece) where
   counts : st.events ≡ length es
   counts = (standing_goes_on g seed es [] bytes st piece played stands shows).0
 
@@ -63,34 +66,34 @@ module _ (g : GameLists) (seed : ℕ) (es : List (List ℕ)) (bytes : List ℕ) 
 
   -- what the session keeps stands for the lines before and those since
   kept_stands : (lines : List (List ℕ)) (n : ℕ) (left : List ℕ) → n ≤ length lines → st.events + n ≤ MOST_EVENTS →
-      KeptBy (kept_session g st piece (sha256 (image g)) name) lines n left → StandsFor g seed es lines n left
+      KeptBy (kept_session g st piece (sha256 (image g.game)) name) lines n left → StandsFor g seed es lines n left
   kept_stands lines n left there few kept =
       let fs : List (List ℕ) = first_lines n lines in
       let all : length (es ++ fs) ≡ st.events + n = omega (arith, length-append es fs, count_lines n lines there, counts) in
       record {
         few = omega (arith, all, few);
-        keeps = whole_kept (sha256 (image g)) (length es) (length (es ++ fs)) (length (es ++ fs)) (reading g [] seed (es ++ fs)) (recover left) (pieces_of_lines g [] seed (es ++ fs))
+        keeps = whole_kept (sha256 (image g.game)) (length es) (length (es ++ fs)) (length (es ++ fs)) (reading g seed (es ++ fs)) (recover left) (pieces_of_lines g seed (es ++ fs))
             (omega (arith, length-append es fs))
-            (subst (λ m. IsKept (sha256 (image g)) m (reading_since g seed es fs) (recover left)) (sym all)
-            (subst (λ e. IsKept (sha256 (image g)) (st.events + n) e (recover left)) (goes fs) kept));
+            (subst (λ m. IsKept (sha256 (image g.game)) m (reading_since g seed es fs) (recover left)) (sym all)
+            (subst (λ e. IsKept (sha256 (image g.game)) (st.events + n) e (recover left)) (goes fs) kept));
       }
 
   text_is : (lines : List (List ℕ)) (n : ℕ) → text_of (going_on g st piece (first_lines n lines)) ≡ text_since g seed es lines n
-  text_is lines n = ap text_of (goes (first_lines n lines)) ∙ text_since_is (length es) (reading g [] seed (es ++ first_lines n lines))
+  text_is lines n = ap text_of (goes (first_lines n lines)) ∙ text_since_is (length es) (reading g seed (es ++ first_lines n lines))
 
-  pub in_going_on : (old : Standing) (m : Moment) → InAgain (kept_session g st piece (sha256 (image g)) name) old m → InGoingOn g seed es name old m
+  pub in_going_on : (old : Standing) (m : Moment) → InAgain (kept_session g st piece (sha256 (image g.game)) name) old m → InGoingOn g seed es name old m
   in_going_on old m (inl i) = inl i
   in_going_on old m (inr i) =
       inr (subst (λ past. InSession (StandsFor g seed es old.lines) (text_since g seed es old.lines) past name old m) counts
-      (in_session_by (KeptBy (kept_session g st piece (sha256 (image g)) name) old.lines) (StandsFor g seed es old.lines) st.events name old (kept_stands old.lines)
+      (in_session_by (KeptBy (kept_session g st piece (sha256 (image g.game)) name) old.lines) (StandsFor g seed es old.lines) st.events name old (kept_stands old.lines)
       (λ n. text_of (going_on g st piece (first_lines n old.lines))) (text_since g seed es old.lines) (text_is old.lines) m i))
 
-  going_plays : (old new : Standing) (o : PlayEnd) → PlaysOn (kept_session g st piece (sha256 (image g)) name) (MOST_EVENTS - st.events) old new o →
+  going_plays : (old new : Standing) (o : PlayEnd) → PlaysOn (kept_session g st piece (sha256 (image g.game)) name) (MOST_EVENTS - st.events) old new o →
       PlaysWith (StandsFor g seed es old.lines) (reading_since g seed es) (length es) name (MOST_EVENTS - length es) old new o
   going_plays old new o p =
       subst (λ whole. PlaysWith (StandsFor g seed es old.lines) whole (length es) name (MOST_EVENTS - length es) old new o) (fun_ext goes)
       (subst (λ past. PlaysWith (StandsFor g seed es old.lines) (going_on g st piece) past name (MOST_EVENTS - past) old new o) counts
-      (plays_by (KeptBy (kept_session g st piece (sha256 (image g)) name) old.lines) (StandsFor g seed es old.lines) st.events name old (kept_stands old.lines)
+      (plays_by (KeptBy (kept_session g st piece (sha256 (image g.game)) name) old.lines) (StandsFor g seed es old.lines) st.events name old (kept_stands old.lines)
       (going_on g st piece) (MOST_EVENTS - st.events) new o p))
 
 -- ---- it is never refused ----
@@ -108,28 +111,28 @@ same_state : (digest s p t q : List ℕ) → Shown digest s p ≡ Shown digest t
 same_state digest s p t q e = cc
 
 -- a buffer that begins with the bytes of a state is fit
-is_fit : (g : GameLists) (digest bytes buffer piece q : List ℕ) (st : State) → ShowsState g digest bytes st q → recover bytes ≡ Shown digest (take 1371 buffer) piece → Fit g buffer
+is_fit : (g : GameLists) (digest bytes buffer piece q : List ℕ) (st : State) → ShowsState g digest bytes st q → recover bytes ≡ Shown digest (take state_length buffer) piece → Fit g buffer
 unfolding kept_bytes
 is_fit g digest bytes buffer piece q st shows is =
-    record { state = st; keeps = shows.keeps; fits = shows.fits; are = same_state digest (take 1371 buffer) piece (state_bytes st) q (sym is ∙ shows.shown) }
+    record { state = st; keeps = shows.keeps; fits = shows.fits; are = same_state digest (take state_length buffer) piece (state_bytes st) q (sym is ∙ shows.shown) }
 
-module _ (g : GameLists) (seed : ℕ) (es : List (List ℕ)) (name : List ℕ) (old new : Standing) (played : IsPlayedWith g seed es) (stands : Stands g seed es (store_bytes old name)) where
-  state_shown : ShowsSome g (store_bytes old name)
+module _ (g : Story) (seed : ℕ) (es : List (List ℕ)) (name : List ℕ) (old new : Standing) (played : IsPlayedWith g seed es) (stands : Stands g seed es (store_bytes old name)) where
+  state_shown : ShowsSome g.game (store_bytes old name)
   state_shown = standing_shows g seed es (store_bytes old name) played stands
 
-  goes_up : (o : PlayEnd) → PlaysUp g (sha256 (image g)) name (attached_to old name) new o → GoesOn g seed es name old new o
+  goes_up : (o : PlayEnd) → PlaysUp g (sha256 (image g.game)) name (attached_to old name) new o → GoesOn g seed es name old new o
   goes_up _ (memory e) = memory e
   goes_up _ (no_state at state piece is unfit fault e) =
-      absurd (unfit (is_fit g (sha256 (image g)) (store_bytes old name) state piece state_shown.piece state_shown.state state_shown.shows is))
+      absurd (unfit (is_fit g.game (sha256 (image g.game)) (store_bytes old name) state piece state_shown.piece state_shown.state state_shown.shows is))
   goes_up _ (plays_on o st piece shows p) = plays o (going_plays g seed es (store_bytes old name) st piece name played stands shows (attached_to old name) new o p)
 
   -- what taking up the session comes to
-  pub standing_again : (o : PlayEnd) → PlaysAgain g (sha256 (image g)) name old new o → GoesOn g seed es name old new o
+  pub standing_again : (o : PlayEnd) → PlaysAgain g (sha256 (image g.game)) name old new o → GoesOn g seed es name old new o
   standing_again _ (unattached u) = unattached u
   standing_again _ (unread e) = unread e
   standing_again _ (wanting e) = memory e
   standing_again _ (refused r h e) =
-      absurd (never_refused (sha256 (image g)) (store_bytes old name) (state_after (length es) (reading g [] seed es)) _ r stands.keeps.shown h)
+      absurd (never_refused (sha256 (image g.game)) (store_bytes old name) (state_after (length es) (reading g seed es)) _ r stands.keeps.shown h)
   standing_again _ (plays_up o up) = goes_up o up
 
 -- ---- rounds ----
@@ -141,7 +144,7 @@ first_are_lines : (n : ℕ) (lines : List (List ℕ)) → All AreBytes lines →
 first_are_lines n lines are = All-map IsLine (take 255) (take n lines) (λ k d low. cut_is_line _ (All-take AreBytes n lines are k d low))
 
 -- so many lines of a round are kept
-round_keeps : (g : GameLists) (seed : ℕ) (es : List (List ℕ)) (r : Round) (n : ℕ) (text : List ℕ) → r.moment.asked ≡ r.old.asked + n →
+round_keeps : (g : Story) (seed : ℕ) (es : List (List ℕ)) (r : Round) (n : ℕ) (text : List ℕ) → r.moment.asked ≡ r.old.asked + n →
     KeepsUpWith (StandsFor g seed es r.old.lines) (text_since g seed es r.old.lines) n text r.left → (k : ℕ) × AreKept r k × StandsFor g seed es r.old.lines k r.left
 round_keeps g seed es r zero text asked kept = (0, inl asked, kept.0)
 round_keeps g seed es r (suc n) text asked (inl kept) = (suc n, inl asked, kept.0)

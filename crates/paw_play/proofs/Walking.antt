@@ -3,7 +3,6 @@ use Rattle.std.proofs.Common.{◌≡◌, ℕ, zero, suc, ◌+◌, ◌-◌, ◌�
 use Rattle.std.proofs.lemmas.Grind.{flat_map-append}
 use Rattle.std.proofs.lemmas.List.{append-nil, length-reverse, take-append-drop}
 use Rattle.std.specs.Prelude.{reverse}
-use Rattle.paw_game.specs.Game.{GameLists}
 use Rattle.paw_stage.specs.Stage.{Standing}
 use Rattle.paw_effects.specs.declared.act.Prompt.{Prompt}
 use Rattle.paw_effects.specs.declared.act.Prompt.TheVariants as prompt
@@ -23,6 +22,7 @@ use Rattle.paw_stage.specs.declared.StageCall.TheVariants as call
 use Rattle.paw_play.specs.Walk.{Reading, first_lines, played, Reads, ReadsPart, joined}
 use Rattle.paw_play.specs.OnTheWay.{IsWalking, ShowsPiece, Told, WalksOn, WalksFrom}
 use Rattle.paw_play.specs.declared.TheConstants.{MOST_EVENTS}
+use Rattle.paw_effects.specs.Story.{Story}
 
 -- ---- lines ----
 
@@ -82,70 +82,70 @@ stands_after first now mid new n text part line e l m s =
 
 -- ---- prompts with no line left ----
 
-path_waits : (g : GameLists) (X : List (List ℕ)) (p : Prompt) (lv : ℕ) (path : List Frame) (r : Run) → 0 < length path →
-    on_path g X p lv path (record r { events = [] }) ≡ Waits p path (record r { events = [] })
+path_waits : (g : Story) (p : Prompt) (lv : ℕ) (path : List Frame) (r : Run) → 0 < length path →
+    on_path g p lv path (record r { events = [] }) ≡ Waits p path (record r { events = [] })
 unfolding asked
-path_waits g X p lv [] r h = absurd (omega arith)
-path_waits g X p lv (f ∷ []) r h = refl
-path_waits g X p lv (f ∷ b ∷ path) r h = rw (path_waits g X p (suc lv) (b ∷ path) r (omega arith)) refl
+path_waits g p lv [] r h = absurd (omega arith)
+path_waits g p lv (f ∷ []) r h = refl
+path_waits g p lv (f ∷ b ∷ path) r h = rw (path_waits g p (suc lv) (b ∷ path) r (omega arith)) refl
 
 some_path : (frames : List Frame) → 0 < length frames → 0 < length (reverse frames)
 some_path frames h = omega (arith, length-reverse frames)
 
 -- a player that waits, with no line left
-pub on_waits : (g : GameLists) (X : List (List ℕ)) (p : Prompt) (m : OpenTables) (r : Run) → StandsAt p m →
-    on g X p (reverse m.frames) (record r { events = [] }) ≡ WaitsAt p (reverse m.frames) (record r { events = [] })
+pub on_waits : (g : Story) (p : Prompt) (m : OpenTables) (r : Run) → StandsAt p m →
+    on g p (reverse m.frames) (record r { events = [] }) ≡ WaitsAt p (reverse m.frames) (record r { events = [] })
 unfolding at_main
-on_waits g X prompt.Main m r h = ap (λ fs. on g X prompt.Main (reverse fs) (record r { events = [] })) h.frames ∙ ap (λ fs. WaitsAt prompt.Main (reverse fs) (record r { events = [] })) (sym h.frames)
-on_waits g X prompt.Quit m r h = rw (path_waits g X prompt.Quit 0 (reverse m.frames) r (some_path m.frames h.tables.tables.some)) refl
-on_waits g X prompt.Again m r h = rw (path_waits g X prompt.Again 0 (reverse m.frames) r (some_path m.frames h.tables.tables.some)) refl
-on_waits g X prompt.Key m r h = rw (path_waits g X prompt.Key 0 (reverse m.frames) r (some_path m.frames h.tables.tables.some)) refl
-on_waits g X prompt.Over m r h = absurd h
+on_waits g prompt.Main m r h = ap (λ fs. on g prompt.Main (reverse fs) (record r { events = [] })) h.frames ∙ ap (λ fs. WaitsAt prompt.Main (reverse fs) (record r { events = [] })) (sym h.frames)
+on_waits g prompt.Quit m r h = rw (path_waits g prompt.Quit 0 (reverse m.frames) r (some_path m.frames h.tables.tables.some)) refl
+on_waits g prompt.Again m r h = rw (path_waits g prompt.Again 0 (reverse m.frames) r (some_path m.frames h.tables.tables.some)) refl
+on_waits g prompt.Key m r h = rw (path_waits g prompt.Key 0 (reverse m.frames) r (some_path m.frames h.tables.tables.some)) refl
+on_waits g prompt.Over m r h = absurd h
 
 -- ---- a walk at a prompt ----
 
 -- what was read of the lines so far waits, and its text was shown
-pub waiting : (whole : Reading) (n : ℕ) (first now : Standing) (seat : Seat) → IsWalking whole first now seat n → IsSeated seat →
+pub waiting : {F : Type 0} (g : Story) (whole : Reading) (n : ℕ) (first now : Standing) (seat : Seat F) → IsWalking g whole first now seat n → IsSeated seat →
     (p : Prompt) × (path : List Frame) × (r : Run) × Reads whole first now n (WaitsAt p path r)
-waiting whole n first now seat w seated =
+waiting g whole n first now seat w seated =
     let stands : StandsAt w.prompt seat.machine = subst (λ s. Stands s seat.machine) w.waits seated.machine in
     let r : Run = run_at seat w.pieces w.traces [] in (
       w.prompt,
       reverse seat.machine.frames,
       r,
       record {
-        reading = ap whole (sym (append-nil (first_lines n first.lines))) ∙ w.goes_on [] ∙ on_waits seat.game [] w.prompt seat.machine r stands;
+        reading = ap whole (sym (append-nil (first_lines n first.lines))) ∙ w.goes_on [] ∙ on_waits g w.prompt seat.machine r stands;
         there = w.there;
         stands = w.stands;
       },
     )
 
 -- the text of what was read of the lines so far
-pub text_so_far : (whole : Reading) (n : ℕ) (first now : Standing) (seat : Seat) (w : IsWalking whole first now seat n) → IsSeated seat →
+pub text_so_far : {F : Type 0} (g : Story) (whole : Reading) (n : ℕ) (first now : Standing) (seat : Seat F) (w : IsWalking g whole first now seat n) → IsSeated seat →
     text_of (whole (first_lines n first.lines)) ≡ joined w.pieces
 unfolding waiting
-text_so_far whole n first now seat w seated = ap text_of (waiting whole n first now seat w seated).3.reading
+text_so_far g whole n first now seat w seated = ap text_of (waiting g whole n first now seat w seated).3.reading
 
 -- the text of a step that brings a piece
-pub text_shown : (whole : List (List ℕ) → Ending) (s : Step) (next : Seat) (pieces : List (List ℕ)) (traces : List (List Read)) → ShowsPiece s → Stands s next.machine →
-    PlaysTo whole s next pieces traces → text_of (whole []) ≡ joined pieces ++ next.piece
-text_shown whole (step.Waits p) next pieces traces h m plays =
-    ap text_of (plays.1 [] ∙ on_waits next.game [] p next.machine (run_at next (pieces ++ next.piece ∷ []) (traces ++ plays.0 ∷ []) []) m) ∙ joined_more pieces next.piece
-text_shown whole step.Ended next pieces traces h m plays =
-    ap text_of (plays.1 []) ∙ joined_more pieces next.piece
-text_shown whole (step.Spent kind) next pieces traces h m plays = absurd h
-text_shown whole (step.TooDeep u) next pieces traces h m plays = absurd h
+pub text_shown : {F : Type 0} (g : Story) (whole : List (List ℕ) → Ending) (s : Step) (next : Seat F) (pieces : List (List ℕ)) (traces : List (List Read)) → ShowsPiece s → Stands s next.machine →
+    PlaysTo g whole s next pieces traces → text_of (whole []) ≡ joined pieces ++ next.piece
+text_shown g whole (step.Waits p) next pieces traces h m plays =
+    ap text_of (plays.1.1 [] ∙ on_waits g p next.machine (run_at next (pieces ++ next.piece ∷ []) (traces ++ plays.0 ∷ []) []) m) ∙ joined_more pieces next.piece
+text_shown g whole step.Ended next pieces traces h m plays =
+    ap text_of (plays.1.1 []) ∙ joined_more pieces next.piece
+text_shown g whole (step.Spent kind) next pieces traces h m plays = absurd h
+text_shown g whole (step.TooDeep u) next pieces traces h m plays = absurd h
 
 -- nothing more is shown
 pub shown_nothing : (mid : Standing) → mid ≡ record mid { shown = mid.shown ++ [] }
 shown_nothing mid = ap (λ t. record mid { shown = t }) (sym (append-nil mid.shown))
 
-module _ (whole : Reading) (n : ℕ) (first now mid new : Standing) (seat next : Seat) (given line : List ℕ) (s : Step)
-    (w : IsWalking whole first now seat n) (seated : IsSeated seat) (then_seated : IsSeated next) (game : next.game ≡ seat.game) (last : next.last ≡ s)
+module _ {F : Type 0} (g : Story) (whole : Reading) (n : ℕ) (first now mid new : Standing) (seat next : Seat F) (given line : List ℕ) (s : Step)
+    (w : IsWalking g whole first now seat n) (seated : IsSeated seat) (then_seated : IsSeated next) (game : next.game ≡ seat.game) (last : next.last ≡ s)
     (lines : now.lines ≡ line ∷ mid.lines) (cut : given ≡ take 255 line) (took : mid ≡ record now { lines = mid.lines; asked = now.asked + 1 })
-    (plays : PlaysTo (λ more. on seat.game [] w.prompt (reverse seat.machine.frames) (run_at seat w.pieces w.traces (given ∷ more))) s next w.pieces w.traces) where
+    (plays : PlaysTo g (λ more. on g w.prompt (reverse seat.machine.frames) (run_at seat w.pieces w.traces (given ∷ more))) s next w.pieces w.traces) where
   after : List (List ℕ) → Ending
-  after more = on seat.game [] w.prompt (reverse seat.machine.frames) (run_at seat w.pieces w.traces (given ∷ more))
+  after more = on g w.prompt (reverse seat.machine.frames) (run_at seat w.pieces w.traces (given ∷ more))
 
   line_stands : drop n first.lines ≡ line ∷ mid.lines
   line_stands = ap (λ (q : Standing). q.lines) (sym w.stands) ∙ lines
@@ -153,13 +153,13 @@ module _ (whole : Reading) (n : ℕ) (first now mid new : Standing) (seat next :
   pub one_more : suc n ≤ length first.lines
   one_more = (drop_more first.lines n line mid.lines line_stands).1
 
-  whole_after : (more : List (List ℕ)) → whole (first_lines (suc n) first.lines ++ more) ≡ on seat.game [] w.prompt (reverse seat.machine.frames) (run_at seat w.pieces w.traces (given ∷ more))
+  whole_after : (more : List (List ℕ)) → whole (first_lines (suc n) first.lines ++ more) ≡ on g w.prompt (reverse seat.machine.frames) (run_at seat w.pieces w.traces (given ∷ more))
   whole_after more =
       ap whole (lines_more first.lines n line mid.lines more line_stands)
       ∙ w.goes_on (take 255 line ∷ more)
-      ∙ ap (λ l. on seat.game [] w.prompt (reverse seat.machine.frames) (run_at seat w.pieces w.traces (l ∷ more))) (sym cut)
+      ∙ ap (λ l. on g w.prompt (reverse seat.machine.frames) (run_at seat w.pieces w.traces (l ∷ more))) (sym cut)
 
-  pub read_after : whole (first_lines (suc n) first.lines) ≡ on seat.game [] w.prompt (reverse seat.machine.frames) (run_at seat w.pieces w.traces (given ∷ []))
+  pub read_after : whole (first_lines (suc n) first.lines) ≡ on g w.prompt (reverse seat.machine.frames) (run_at seat w.pieces w.traces (given ∷ []))
   read_after = ap whole (sym (append-nil (first_lines (suc n) first.lines))) ∙ whole_after []
 
   stands_with : (part : List ℕ) → new ≡ record mid { shown = mid.shown ++ part } → new ≡ played first (suc n) (joined w.pieces ++ part)
@@ -182,98 +182,98 @@ module _ (whole : Reading) (n : ℕ) (first now mid new : Standing) (seat next :
   }
     where
       all : text_of (whole (first_lines (suc n) first.lines)) ≡ joined w.pieces ++ next.piece
-      all = ap text_of read_after ∙ text_shown _ s next w.pieces w.traces shows machine_stands plays
+      all = ap text_of read_after ∙ text_shown g _ s next w.pieces w.traces shows machine_stands plays
 
       earlier : text_of (whole (first_lines n first.lines)) ≡ joined w.pieces
-      earlier = text_so_far whole n first now seat w seated
+      earlier = text_so_far g whole n first now seat w seated
 
 -- one line more
-pub walks_on : (whole : Reading) (most n : ℕ) (first now mid new : Standing) (seat next : Seat) (given line : List ℕ) (s : Step) (o : Option PlayEnd)
-    (w : IsWalking whole first now seat n) → n < most → IsSeated seat → IsSeated next → next.game ≡ seat.game → next.last ≡ s →
+pub walks_on : {F : Type 0} (g : Story) (whole : Reading) (most n : ℕ) (first now mid new : Standing) (seat next : Seat F) (given line : List ℕ) (s : Step) (o : Option PlayEnd)
+    (w : IsWalking g whole first now seat n) → n < most → IsSeated seat → IsSeated next → next.game ≡ seat.game → next.last ≡ s →
     now.lines ≡ line ∷ mid.lines → given ≡ take 255 line → mid ≡ record now { lines = mid.lines; asked = now.asked + 1 } →
-    PlaysTo (λ more. on seat.game [] w.prompt (reverse seat.machine.frames) (run_at seat w.pieces w.traces (given ∷ more))) s next w.pieces w.traces →
-    Told mid new next.piece s o → WalksOn whole most first new next n o
-walks_on whole most n first now mid new seat next given line s None w few seated then_seated game last lines cut took plays told =
-    let after_line : Reading = λ more. on seat.game [] w.prompt (reverse seat.machine.frames) (run_at seat w.pieces w.traces (given ∷ more)) in
-    let at : PlaysTo after_line (step.Waits told.0) next w.pieces w.traces = subst (λ q. PlaysTo after_line q next w.pieces w.traces) told.1 plays in
+    PlaysTo g (λ more. on g w.prompt (reverse seat.machine.frames) (run_at seat w.pieces w.traces (given ∷ more))) s next w.pieces w.traces →
+    Told mid new next.piece s o → WalksOn g whole most first new next n o
+walks_on g whole most n first now mid new seat next given line s None w few seated then_seated game last lines cut took plays told =
+    let after_line : Reading = λ more. on g w.prompt (reverse seat.machine.frames) (run_at seat w.pieces w.traces (given ∷ more)) in
+    let at : PlaysTo g after_line (step.Waits told.0) next w.pieces w.traces = subst (λ q. PlaysTo g after_line q next w.pieces w.traces) told.1 plays in
     record {
       prompt = told.0;
       waits = last ∙ told.1;
       pieces = w.pieces ++ next.piece ∷ [];
       traces = w.traces ++ at.0 ∷ [];
-      goes_on = λ more. whole_after whole n first now mid new seat next given line s w seated then_seated game last lines cut took plays more ∙ at.1 more;
-      there = one_more whole n first now mid new seat next given line s w seated then_seated game last lines cut took plays;
-      stands = stands_with whole n first now mid new seat next given line s w seated then_seated game last lines cut took plays next.piece told.2
+      goes_on = λ more. whole_after g whole n first now mid new seat next given line s w seated then_seated game last lines cut took plays more ∙ at.1.1 more;
+      there = one_more g whole n first now mid new seat next given line s w seated then_seated game last lines cut took plays;
+      stands = stands_with g whole n first now mid new seat next given line s w seated then_seated game last lines cut took plays next.piece told.2
           ∙ ap (played first (suc n)) (sym (joined_more w.pieces next.piece));
     }
-walks_on whole most n first now mid new seat next given line s (Some end.Ended) w few seated then_seated game last lines cut took plays told =
-    let after_line : Reading = λ more. on seat.game [] w.prompt (reverse seat.machine.frames) (run_at seat w.pieces w.traces (given ∷ more)) in
-    let at : PlaysTo after_line step.Ended next w.pieces w.traces = subst (λ q. PlaysTo after_line q next w.pieces w.traces) told.0 plays in (
+walks_on g whole most n first now mid new seat next given line s (Some end.Ended) w few seated then_seated game last lines cut took plays told =
+    let after_line : Reading = λ more. on g w.prompt (reverse seat.machine.frames) (run_at seat w.pieces w.traces (given ∷ more)) in
+    let at : PlaysTo g after_line step.Ended next w.pieces w.traces = subst (λ q. PlaysTo g after_line q next w.pieces w.traces) told.0 plays in (
       suc n,
       omega (arith, few),
       run_at next (w.pieces ++ next.piece ∷ []) (w.traces ++ at.0 ∷ []) [],
       refl,
       record {
-        reading = read_after whole n first now mid new seat next given line s w seated then_seated game last lines cut took plays ∙ at.1 [];
-        there = one_more whole n first now mid new seat next given line s w seated then_seated game last lines cut took plays;
-        stands = stands_with whole n first now mid new seat next given line s w seated then_seated game last lines cut took plays next.piece told.1
+        reading = read_after g whole n first now mid new seat next given line s w seated then_seated game last lines cut took plays ∙ at.1.1 [];
+        there = one_more g whole n first now mid new seat next given line s w seated then_seated game last lines cut took plays;
+        stands = stands_with g whole n first now mid new seat next given line s w seated then_seated game last lines cut took plays next.piece told.1
             ∙ ap (played first (suc n)) (sym (joined_more w.pieces next.piece));
       },
     )
-walks_on whole most n first now mid new seat next given line s (Some (end.Spent kind)) w few seated then_seated game last lines cut took plays told =
-    let after_line : Reading = λ more. on seat.game [] w.prompt (reverse seat.machine.frames) (run_at seat w.pieces w.traces (given ∷ more)) in
-    let at : PlaysTo after_line (step.Spent kind) next w.pieces w.traces = subst (λ q. PlaysTo after_line q next w.pieces w.traces) told.0 plays in
+walks_on g whole most n first now mid new seat next given line s (Some (end.Spent kind)) w few seated then_seated game last lines cut took plays told =
+    let after_line : Reading = λ more. on g w.prompt (reverse seat.machine.frames) (run_at seat w.pieces w.traces (given ∷ more)) in
+    let at : PlaysTo g after_line (step.Spent kind) next w.pieces w.traces = subst (λ q. PlaysTo g after_line q next w.pieces w.traces) told.0 plays in
     let e = at.1 [] in (
       suc n,
       omega (arith, few),
       e.0,
       e.3,
       record {
-        reading = read_after whole n first now mid new seat next given line s w seated then_seated game last lines cut took plays ∙ e.1;
-        there = one_more whole n first now mid new seat next given line s w seated then_seated game last lines cut took plays;
-        stands = stands_with whole n first now mid new seat next given line s w seated then_seated game last lines cut took plays [] (told.1 ∙ shown_nothing mid)
+        reading = read_after g whole n first now mid new seat next given line s w seated then_seated game last lines cut took plays ∙ e.1;
+        there = one_more g whole n first now mid new seat next given line s w seated then_seated game last lines cut took plays;
+        stands = stands_with g whole n first now mid new seat next given line s w seated then_seated game last lines cut took plays [] (told.1 ∙ shown_nothing mid)
             ∙ ap (played first (suc n)) (append-nil (joined w.pieces) ∙ sym (ap joined e.2));
       },
     )
-walks_on whole most n first now mid new seat next given line s (Some (end.TooDeep table)) w few seated then_seated game last lines cut took plays told =
-    let after_line : Reading = λ more. on seat.game [] w.prompt (reverse seat.machine.frames) (run_at seat w.pieces w.traces (given ∷ more)) in
-    let at : PlaysTo after_line (step.TooDeep table) next w.pieces w.traces = subst (λ q. PlaysTo after_line q next w.pieces w.traces) told.0 plays in
+walks_on g whole most n first now mid new seat next given line s (Some (end.TooDeep table)) w few seated then_seated game last lines cut took plays told =
+    let after_line : Reading = λ more. on g w.prompt (reverse seat.machine.frames) (run_at seat w.pieces w.traces (given ∷ more)) in
+    let at : PlaysTo g after_line (step.TooDeep table) next w.pieces w.traces = subst (λ q. PlaysTo g after_line q next w.pieces w.traces) told.0 plays in
     let e = at.1 [] in (
       suc n,
       omega (arith, few),
       e.0,
       e.3,
       record {
-        reading = read_after whole n first now mid new seat next given line s w seated then_seated game last lines cut took plays ∙ e.1;
-        there = one_more whole n first now mid new seat next given line s w seated then_seated game last lines cut took plays;
-        stands = stands_with whole n first now mid new seat next given line s w seated then_seated game last lines cut took plays [] (told.1 ∙ shown_nothing mid)
+        reading = read_after g whole n first now mid new seat next given line s w seated then_seated game last lines cut took plays ∙ e.1;
+        there = one_more g whole n first now mid new seat next given line s w seated then_seated game last lines cut took plays;
+        stands = stands_with g whole n first now mid new seat next given line s w seated then_seated game last lines cut took plays [] (told.1 ∙ shown_nothing mid)
             ∙ ap (played first (suc n)) (append-nil (joined w.pieces) ∙ sym (ap joined e.2));
       },
     )
-walks_on whole most n first now mid new seat next given line s (Some (end.Outside call.Show)) w few seated then_seated game last lines cut took plays told =
-    (suc n, omega (arith, few), shown_part whole n first now mid new seat next given line s w seated then_seated game last lines cut took plays told.0 told.1 told.2 told.3)
-walks_on whole most n first now mid new seat next given line s (Some _) w few seated then_seated game last lines cut took plays told = absurd told
+walks_on g whole most n first now mid new seat next given line s (Some (end.Outside call.Show)) w few seated then_seated game last lines cut took plays told =
+    (suc n, omega (arith, few), shown_part g whole n first now mid new seat next given line s w seated then_seated game last lines cut took plays told.0 told.1 told.2 told.3)
+walks_on g whole most n first now mid new seat next given line s (Some _) w few seated then_seated game last lines cut took plays told = absurd told
 
 -- no line is left
-pub none_left : (whole : Reading) (most n : ℕ) (first now new : Standing) (seat : Seat) → IsWalking whole first now seat n → n < most → IsSeated seat → (now.lines ≡ []) × (new ≡ now) →
+pub none_left : {F : Type 0} (g : Story) (whole : Reading) (most n : ℕ) (first now new : Standing) (seat : Seat F) → IsWalking g whole first now seat n → n < most → IsSeated seat → (now.lines ≡ []) × (new ≡ now) →
     (length first.lines < most) × (p : Prompt) × (path : List Frame) × (r : Run) × Reads whole first new (length first.lines) (WaitsAt p path r)
-none_left whole most n first now new seat w few seated e =
+none_left g whole most n first now new seat w few seated e =
     let all : n ≡ length first.lines = drop_all first.lines n (ap (λ (q : Standing). q.lines) (sym w.stands) ∙ e.0) w.there in
-    let at = waiting whole n first now seat w seated in
+    let at = waiting g whole n first now seat w seated in
     (omega (arith, all, few), at.0, at.1, at.2, rw (← all, e.1) at.3)
 
 -- the lines can't be asked for
-pub none_asked : (whole : Reading) (most n : ℕ) (first now new : Standing) (seat : Seat) → IsWalking whole first now seat n → n < most → IsSeated seat → new ≡ now →
+pub none_asked : {F : Type 0} (g : Story) (whole : Reading) (most n : ℕ) (first now new : Standing) (seat : Seat F) → IsWalking g whole first now seat n → n < most → IsSeated seat → new ≡ now →
     (m : ℕ) × (m < most) × (p : Prompt) × (path : List Frame) × (r : Run) × Reads whole first new m (WaitsAt p path r)
-none_asked whole most n first now new seat w few seated e =
-    let at = waiting whole n first now seat w seated in
+none_asked g whole most n first now new seat w few seated e =
+    let at = waiting g whole n first now seat w seated in
     (n, few, at.0, at.1, at.2, rw e at.3)
 
 -- all the lines that a session may have were taken
-pub long_walk : (whole : Reading) (most n : ℕ) (first now : Standing) (seat : Seat) → IsWalking whole first now seat n → IsSeated seat → n ≡ most →
+pub long_walk : {F : Type 0} (g : Story) (whole : Reading) (most n : ℕ) (first now : Standing) (seat : Seat F) → IsWalking g whole first now seat n → IsSeated seat → n ≡ most →
     (1000000000 ≡ MOST_EVENTS) × (p : Prompt) × (path : List Frame) × (r : Run) × Reads whole first now most (WaitsAt p path r)
-long_walk whole most n first now seat w seated all =
-    let at = waiting whole n first now seat w seated in
+long_walk g whole most n first now seat w seated all =
+    let at = waiting g whole n first now seat w seated in
     (refl, at.0, at.1, at.2, rw (← all) at.3)
 
 -- ---- the first piece ----
@@ -282,42 +282,42 @@ pub first_stands : (old new : Standing) (part : List ℕ) → new ≡ record old
 first_stands old new part e = let a : old.asked + 0 ≡ old.asked = omega arith in e ∙ rw a refl
 
 -- after piece 0 the walk is at the first prompt, or has come to this
-pub walk_begins : (whole : Reading) (most : ℕ) (old new : Standing) (seat : Seat) (s : Step) (o : Option PlayEnd) → IsSeated seat → seat.last ≡ s →
-    PlaysTo whole s seat [] [] → Told old new seat.piece s o → WalksFrom whole most old new seat o
-walk_begins whole most old new seat s None seated last plays told =
-    let at : PlaysTo whole (step.Waits told.0) seat [] [] = subst (λ q. PlaysTo whole q seat [] []) told.1 plays in
+pub walk_begins : {F : Type 0} (g : Story) (whole : Reading) (most : ℕ) (old new : Standing) (seat : Seat F) (s : Step) (o : Option PlayEnd) → IsSeated seat → seat.last ≡ s →
+    PlaysTo g whole s seat [] [] → Told old new seat.piece s o → WalksFrom g whole most old new seat o
+walk_begins g whole most old new seat s None seated last plays told =
+    let at : PlaysTo g whole (step.Waits told.0) seat [] [] = subst (λ q. PlaysTo g whole q seat [] []) told.1 plays in
     record {
       prompt = told.0;
       waits = last ∙ told.1;
       pieces = seat.piece ∷ [];
       traces = at.0 ∷ [];
-      goes_on = at.1;
+      goes_on = at.1.1;
       there = omega arith;
       stands = first_stands old new seat.piece told.2 ∙ ap (played old 0) (sym (joined_more [] seat.piece));
     }
-walk_begins whole most old new seat s (Some end.Ended) seated last plays told =
-    let at : PlaysTo whole step.Ended seat [] [] = subst (λ q. PlaysTo whole q seat [] []) told.0 plays in (
+walk_begins g whole most old new seat s (Some end.Ended) seated last plays told =
+    let at : PlaysTo g whole step.Ended seat [] [] = subst (λ q. PlaysTo g whole q seat [] []) told.0 plays in (
       0,
       omega arith,
       run_at seat (seat.piece ∷ []) (at.0 ∷ []) [],
       refl,
       record {
-        reading = at.1 [];
+        reading = at.1.1 [];
         there = omega arith;
         stands = first_stands old new seat.piece told.1 ∙ ap (played old 0) (sym (joined_more [] seat.piece));
       },
     )
-walk_begins whole most old new seat s (Some (end.Spent kind)) seated last plays told =
-    let at : PlaysTo whole (step.Spent kind) seat [] [] = subst (λ q. PlaysTo whole q seat [] []) told.0 plays in
+walk_begins g whole most old new seat s (Some (end.Spent kind)) seated last plays told =
+    let at : PlaysTo g whole (step.Spent kind) seat [] [] = subst (λ q. PlaysTo g whole q seat [] []) told.0 plays in
     let e = at.1 [] in
     (0, omega arith, e.0, e.3, record { reading = e.1; there = omega arith; stands = first_stands old new [] (told.1 ∙ shown_nothing old) ∙ ap (played old 0) (sym (ap joined e.2)) })
-walk_begins whole most old new seat s (Some (end.TooDeep table)) seated last plays told =
-    let at : PlaysTo whole (step.TooDeep table) seat [] [] = subst (λ q. PlaysTo whole q seat [] []) told.0 plays in
+walk_begins g whole most old new seat s (Some (end.TooDeep table)) seated last plays told =
+    let at : PlaysTo g whole (step.TooDeep table) seat [] [] = subst (λ q. PlaysTo g whole q seat [] []) told.0 plays in
     let e = at.1 [] in
     (0, omega arith, e.0, e.3, record { reading = e.1; there = omega arith; stands = first_stands old new [] (told.1 ∙ shown_nothing old) ∙ ap (played old 0) (sym (ap joined e.2)) })
-walk_begins whole most old new seat s (Some (end.Outside call.Show)) seated last plays told =
+walk_begins g whole most old new seat s (Some (end.Outside call.Show)) seated last plays told =
     let all : text_of (whole []) ≡ seat.piece
-    = text_shown whole s seat [] [] told.0 (subst (λ q. Stands q seat.machine) last seated.machine) plays in (
+    = text_shown g whole s seat [] [] told.0 (subst (λ q. Stands q seat.machine) last seated.machine) plays in (
       0,
       omega arith,
       record {
@@ -331,12 +331,11 @@ walk_begins whole most old new seat s (Some (end.Outside call.Show)) seated last
         stands = first_stands old new (take told.2 seat.piece) told.3;
       },
     )
-walk_begins whole most old new seat s (Some _) seated last plays told = absurd told
+walk_begins g whole most old new seat s (Some _) seated last plays told = absurd told
 
 -- a player that was new has played piece 0
-pub walk_starts : (g : GameLists) (seed most : ℕ) (old new : Standing) (fresh seat : Seat) (s : Step) (o : Option PlayEnd) → IsNew fresh seed → fresh.game ≡ g → IsSeated seat → seat.last ≡ s →
-    PlaysTo (reading fresh.game [] fresh.world.seed) s seat [] [] → Told old new seat.piece s o → WalksFrom (reading g [] seed) most old new seat o
-walk_starts g seed most old new fresh seat s o is game seated last plays told =
+pub walk_starts : {F : Type 0} (g : Story) (seed most : ℕ) (old new : Standing) (fresh seat : Seat F) (s : Step) (o : Option PlayEnd) → IsNew fresh seed → IsSeated seat → seat.last ≡ s →
+    PlaysTo g (reading g fresh.world.seed) s seat [] [] → Told old new seat.piece s o → WalksFrom g (reading g seed) most old new seat o
+walk_starts g seed most old new fresh seat s o is seated last plays told =
     let at : fresh.world.seed ≡ seed = ap (λ (w : World). w.seed) is.world in
-    walk_begins (reading g [] seed) most old new seat s o seated last
-    (subst (λ k. PlaysTo (reading k [] seed) s seat [] []) game (subst (λ n. PlaysTo (reading fresh.game [] n) s seat [] []) at plays)) told
+    walk_begins g (reading g seed) most old new seat s o seated last (subst (λ n. PlaysTo g (reading g n) s seat [] []) at plays) told

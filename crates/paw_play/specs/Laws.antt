@@ -2,11 +2,13 @@
 use Rattle.std.specs.Prelude.{◌≡◌, ◌⊎◌, ℕ, suc, ◌+◌, List, [], ◌∷◌, ◌++◌, length, All}
 use Rattle.sha2.specs.Sha256.{sha256}
 use Rattle.paw_game.specs.Game.{GameLists}
+use Rattle.paw_effects.specs.Story.{Story}
 use Rattle.paw_game.specs.Image.{image}
 use Rattle.paw_stage.specs.Disk.{MayLeave}
 use Rattle.paw_stage.specs.Stage.{Standing}
 use Rattle.paw_stage.specs.Moments.{Moment}
-use Rattle.paw_state.specs.State.{State, AreBytes}
+use Rattle.paw_effects.specs.Standing.{AreBytes}
+use Rattle.paw_state.specs.State.{State}
 use Rattle.paw_play.specs.Walk.{first_lines}
 use Rattle.paw_play.specs.Stands.{Stands, StandsFor, IsPlayedWith, text_since, reading_since}
 use Rattle.paw_play.specs.Keeping.{InSession}
@@ -20,13 +22,13 @@ pub record ShowsSome (g : GameLists) (bytes : List ℕ) : Type 0 where
 
 -- a store that stands for some lines shows a state of the game that keeps all its rules
 abbrev pub StandingShows : Type 0
-StandingShows = (g : GameLists) (seed : ℕ) (es : List (List ℕ)) (bytes : List ℕ) → IsPlayedWith g seed es → Stands g seed es bytes → ShowsSome g bytes
+StandingShows = (g : Story) (seed : ℕ) (es : List (List ℕ)) (bytes : List ℕ) → IsPlayedWith g seed es → Stands g seed es bytes → ShowsSome g.game bytes
 
 -- going on from the state that it shows is reading the longer list of lines, from the last piece of the former on
 abbrev pub StandingGoesOn : Type 0
 StandingGoesOn =
-    (g : GameLists) (seed : ℕ) (es fs : List (List ℕ)) (bytes : List ℕ) (st : State) (piece : List ℕ) →
-    IsPlayedWith g seed es → Stands g seed es bytes → ShowsState g (sha256 (image g)) bytes st piece →
+    (g : Story) (seed : ℕ) (es fs : List (List ℕ)) (bytes : List ℕ) (st : State) (piece : List ℕ) →
+    IsPlayedWith g seed es → Stands g seed es bytes → ShowsState g.game (sha256 (image g.game)) bytes st piece →
     (st.events ≡ length es) × (going_on g st piece fs ≡ reading_since g seed es fs)
 
 -- ---- rounds ----
@@ -40,7 +42,7 @@ pub record Round : Type 0 where
   pub left : List ℕ
 
 -- a round over a store of some bytes is such that its moment is one of a session, for whatever lines the store stands for
-pub record IsRound (g : GameLists) (seed : ℕ) (bytes : List ℕ) (r : Round) : Type 0 where
+pub record IsRound (g : Story) (seed : ℕ) (bytes : List ℕ) (r : Round) : Type 0 where
   pub over : store_bytes r.old r.name ≡ bytes
   pub lines : All AreBytes r.old.lines
   pub session : (es : List (List ℕ)) → IsPlayedWith g seed es → Stands g seed es (store_bytes r.old r.name) →
@@ -48,7 +50,7 @@ pub record IsRound (g : GameLists) (seed : ℕ) (bytes : List ℕ) (r : Round) :
   pub leaves : MayLeave r.moment.disk r.left
 
 -- rounds one after the other, each over what the one before left
-abbrev pub AreRounds : GameLists → ℕ → List ℕ → List Round → Type 0
+abbrev pub AreRounds : Story → ℕ → List ℕ → List Round → Type 0
 AreRounds g seed bytes [] = Unit {0}
 AreRounds g seed bytes (r ∷ rounds) = IsRound g seed bytes r × AreRounds g seed r.left rounds
 
@@ -69,6 +71,6 @@ AreKeptOf (r ∷ rounds) lines = (n : ℕ) × (more : List (List ℕ)) × AreKep
 -- After any rounds the store stands for the lines before and those that are kept of each round, and for no other
 abbrev pub RoundsStand : Type 0
 RoundsStand =
-    (g : GameLists) (seed : ℕ) (es : List (List ℕ)) (bytes : List ℕ) (rounds : List Round) →
+    (g : Story) (seed : ℕ) (es : List (List ℕ)) (bytes : List ℕ) (rounds : List Round) →
     IsPlayedWith g seed es → Stands g seed es bytes → AreRounds g seed bytes rounds →
     (kept : List (List ℕ)) × AreKeptOf rounds kept × Stands g seed (es ++ kept) (left_after bytes rounds)

@@ -4,13 +4,9 @@ use Rattle.paw_stage.specs.Disk.{IsStable}
 use Rattle.paw_stage.specs.Stage.{Standing}
 use Rattle.paw_stage.specs.Moments.{Moment}
 use Rattle.paw_stage.specs.declared.StageCall.TheVariants as call
-use Rattle.paw_game.specs.Game.{GameLists}
+use Rattle.paw_effects.specs.Story.{Story}
 use Rattle.paw_effects.specs.declared.act.Prompt.{Prompt}
 use Rattle.paw_effects.specs.declared.act.Prompt.TheVariants as prompt
-use Rattle.paw_process.specs.Kept.{unused}
-use Rattle.paw_process.specs.declared.kept.Frames.{Frames}
-use Rattle.paw_reading.specs.declared.places.Frame.{Frame}
-use Rattle.paw_reading.specs.declared.places.OpenLoop.{OpenLoop}
 use Rattle.paw_reading.specs.Run.{Run, Step as Read}
 use Rattle.paw_reading.specs.Turn.{RunsOut, CallsTooDeep, reading, on, text_of}
 use Rattle.paw_turn.specs.Player.{Seat, run_at}
@@ -31,23 +27,19 @@ use Rattle.paw_play.specs.Play.{Played, KeptBy, PlaysOn, PlaysIn, with_store}
 
 -- ---- a walk ----
 
--- the places of a path, outermost first, with unused rows up to eleven
-abbrev pub frames_at : List Frame → Option OpenLoop → Frames
-frames_at path turning = record { count = length path; rows = path ++ replicate (11 - length path) unused; turning = turning }
-
 -- the bytes of the state of a player, after so many lines of its session
-abbrev pub seat_state : ℕ → Seat → List ℕ
+abbrev pub seat_state : {F : Type 0} → ℕ → Seat F → List ℕ
 seat_state events p = kept_bytes (state_of p.world p.machine p.pending (prompt_at p.last) events (length p.piece))
 
 -- the walk is at a prompt: n lines were taken, these pieces were shown, and whatever lines come, the reading of all goes
 -- on from the player
-pub record IsWalking (whole : Reading) (old now : Standing) (seat : Seat) (n : ℕ) : Type 0 where
+pub record IsWalking {F : Type 0} (g : Story) (whole : Reading) (old now : Standing) (seat : Seat F) (n : ℕ) : Type 0 where
   pub prompt : Prompt
   pub waits : seat.last ≡ step.Waits prompt
   pub pieces : List (List ℕ)
   pub traces : List (List Read)
   pub goes_on : (more : List (List ℕ)) →
-      whole (first_lines n old.lines ++ more) ≡ on seat.game [] prompt (reverse seat.machine.frames) (run_at seat pieces traces more)
+      whole (first_lines n old.lines ++ more) ≡ on g prompt (reverse seat.machine.frames) (run_at seat pieces traces more)
   pub there : n ≤ length old.lines
   pub stands : now ≡ played old n (joined pieces)
 
@@ -78,20 +70,20 @@ Told old new piece s (Some (end.Outside call.Show)) =
 Told old new piece s (Some _) = ⊥
 
 -- after one line more: the walk is at the next prompt, or has come to this
-abbrev pub WalksOn : Reading → ℕ → Standing → Standing → Seat → ℕ → Option PlayEnd → Type 0
-WalksOn whole most first now seat n None = IsWalking whole first now seat (suc n)
-WalksOn whole most first now seat n (Some o) = Walks whole most first now o
+abbrev pub WalksOn : {F : Type 0} → Story → Reading → ℕ → Standing → Standing → Seat F → ℕ → Option PlayEnd → Type 0
+WalksOn g whole most first now seat n None = IsWalking g whole first now seat (suc n)
+WalksOn g whole most first now seat n (Some o) = Walks whole most first now o
 
 -- after piece 0
-abbrev pub WalksFrom : Reading → ℕ → Standing → Standing → Seat → Option PlayEnd → Type 0
-WalksFrom whole most old now seat None = IsWalking whole old now seat 0
-WalksFrom whole most old now seat (Some o) = Walks whole most old now o
+abbrev pub WalksFrom : {F : Type 0} → Story → Reading → ℕ → Standing → Standing → Seat F → Option PlayEnd → Type 0
+WalksFrom g whole most old now seat None = IsWalking g whole old now seat 0
+WalksFrom g whole most old now seat (Some o) = Walks whole most old now o
 
 -- ---- a session ----
 
 -- the session of a game that is played from its start
-abbrev pub new_session : GameLists → ℕ → List ℕ → List ℕ → Played
-new_session g seed digest name = record { whole = reading g [] seed; before = 0; digest = digest; name = name }
+abbrev pub new_session : Story → ℕ → List ℕ → List ℕ → Played
+new_session g seed digest name = record { whole = reading g seed; before = 0; digest = digest; name = name }
 
 -- the store is at rest, and keeps the first n lines
 abbrev pub Rests : Played → Standing → Standing → ℕ → Type 0
@@ -107,17 +99,17 @@ PlaysInStore s old new o = PlaysIn (KeptBy s old.lines) s.whole s.name old new o
 
 -- The session is at a prompt: the walk is, the store keeps all lines that were taken, and the text of the last piece came
 -- last.
-pub record IsPlaying (s : Played) (first now : Standing) (seat : Seat) (n : ℕ) : Type 0 where
-  pub walking : IsWalking s.whole (with_store now first) now seat n
+pub record IsPlaying {F : Type 0} (g : Story) (s : Played) (first now : Standing) (seat : Seat F) (n : ℕ) : Type 0 where
+  pub walking : IsWalking g s.whole (with_store now first) now seat n
   pub rests : Rests s first now n
   pub digest : kept_digest now.disk.bytes ≡ s.digest
   pub last : List ℕ
   pub grown : text_of (s.whole (first_lines n first.lines)) ≡ text_before s.whole first.lines n ++ last
 
 -- after one line more: the session is at the next prompt, or playing on has come to this
-abbrev pub PlaysTo : {A : Type 0} → Played → ℕ → Standing → Standing → Seat → ℕ → Result A PlayEnd → Type 0
-PlaysTo s most first now seat n (Ok a) = IsPlaying s first now seat (suc n)
-PlaysTo s most first now seat n (Err o) = PlaysOn s most first now o
+abbrev pub PlaysTo : {A F : Type 0} → Story → Played → ℕ → Standing → Standing → Seat F → ℕ → Result A PlayEnd → Type 0
+PlaysTo g s most first now seat n (Ok a) = IsPlaying g s first now seat (suc n)
+PlaysTo g s most first now seat n (Err o) = PlaysOn s most first now o
 
 -- the store of this name is attached and at rest, and its file holds its bytes
 pub record IsStore (name : List ℕ) (s : Standing) : Type 0 where
@@ -134,9 +126,9 @@ BegunAs s first now (end.Outside call.Sync) = now ≡ with_store now first
 BegunAs s first now o = PlaysOn s MOST_EVENTS first now o
 
 -- the session is at its first prompt, or making it has come to this
-abbrev pub Begins : {A : Type 0} → Played → Standing → Standing → Seat → Result A PlayEnd → Type 0
-Begins s first now seat (Ok a) = IsPlaying s first now seat 0
-Begins s first now seat (Err o) = BegunAs s first now o
+abbrev pub Begins : {A F : Type 0} → Story → Played → Standing → Standing → Seat F → Result A PlayEnd → Type 0
+Begins g s first now seat (Ok a) = IsPlaying g s first now seat 0
+Begins g s first now seat (Err o) = BegunAs s first now o
 
 -- what showing a piece again does: the session waits at its prompt, or is over, or a part was shown and the call failed
 abbrev pub ShowsAgain : Standing → Standing → List ℕ → Prompt → Option PlayEnd → Type 0

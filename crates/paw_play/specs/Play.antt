@@ -7,6 +7,7 @@ use Rattle.paw_stage.specs.declared.StageCall.{StageCall}
 use Rattle.paw_stage.specs.declared.StageCall.TheVariants as call
 use Rattle.paw_base.specs.declared.fault.SpentKind.{SpentKind}
 use Rattle.paw_game.specs.Game.{GameLists}
+use Rattle.paw_effects.specs.Story.{Story}
 use Rattle.paw_reading.specs.Run.{Run}
 use Rattle.paw_reading.specs.Turn.{RunsOut, CallsTooDeep, reading, on, text_of}
 use Rattle.paw_journal.specs.Session.{Recovered, Unmade, Damaged, Shown, recover, state_length}
@@ -93,11 +94,11 @@ pub data PlaysFirst (Kept : ℕ → List ℕ → Type 0) (whole : Reading) (name
   plays_in : (o : PlayEnd) → store_bytes old name ≡ [] → PlaysIn Kept whole name (attached_to old name) new o → PlaysFirst Kept whole name old new o
 
 -- what playing a game from its start comes to
-abbrev pub PlaysGame : GameLists → ℕ → List ℕ → Standing → Standing → PlayEnd → Type 0
-PlaysGame g seed name old new o = PlaysFirst (StandsFor g seed [] old.lines) (reading g [] seed) name old new o
+abbrev pub PlaysGame : Story → ℕ → List ℕ → Standing → Standing → PlayEnd → Type 0
+PlaysGame g seed name old new o = PlaysFirst (StandsFor g seed [] old.lines) (reading g seed) name old new o
 
 -- a moment of it: its store isn't attached yet, or its session is being made, or it is played
-abbrev pub InGame : GameLists → ℕ → List ℕ → Standing → Moment → Type 0
+abbrev pub InGame : Story → ℕ → List ℕ → Standing → Moment → Type 0
 InGame g seed name old m =
     NotYet name old m ⊎ (InMakingOf (StandsFor g seed [] old.lines) name old m ⊎ InSession (StandsFor g seed [] old.lines) (text_since g seed [] old.lines) 0 name old m)
 
@@ -105,7 +106,7 @@ InGame g seed name old m =
 
 -- What taking up a session again comes to where its store stands for these lines of its game. It is never refused: its last piece
 -- is shown again, and it goes on as the reading of those lines and more.
-pub data GoesOn (g : GameLists) (seed : ℕ) (es : List (List ℕ)) (name : List ℕ) (old new : Standing) : PlayEnd → Type 0 where
+pub data GoesOn (g : Story) (seed : ℕ) (es : List (List ℕ)) (name : List ℕ) (old new : Standing) : PlayEnd → Type 0 where
   unattached : Unattached old new → GoesOn g seed es name old new (end.Outside call.Attach)
   unread : new ≡ attached_to old name → GoesOn g seed es name old new (end.Outside call.Read)
   memory : new ≡ attached_to old name → GoesOn g seed es name old new end.Memory
@@ -113,7 +114,7 @@ pub data GoesOn (g : GameLists) (seed : ℕ) (es : List (List ℕ)) (name : List
       GoesOn g seed es name old new o
 
 -- a moment of it: its store isn't attached yet, or it is played
-abbrev pub InGoingOn : GameLists → ℕ → List (List ℕ) → List ℕ → Standing → Moment → Type 0
+abbrev pub InGoingOn : Story → ℕ → List (List ℕ) → List ℕ → Standing → Moment → Type 0
 InGoingOn g seed es name old m = NotYet name old m ⊎ InSession (StandsFor g seed es old.lines) (text_since g seed es old.lines) (length es) name old m
 
 -- ---- a session that is taken up again, by the state that its store shows ----
@@ -141,8 +142,8 @@ abbrev pub PlaysOn : Played → ℕ → Standing → Standing → PlayEnd → Ty
 PlaysOn s most old new o = PlaysWith (KeptBy s old.lines) s.whole s.before s.name most old new o
 
 -- going on from a state whose last piece was this
-abbrev pub going_on : GameLists → State → List ℕ → Reading
-going_on g st piece lines = on g [] st.prompt (take st.frames.count st.frames.rows) (record {
+abbrev pub going_on : Story → State → List ℕ → Reading
+going_on g st piece lines = on g st.prompt (take st.frames.count st.frames.rows) (record {
   world = st.world;
   pending = st.pending.bytes;
   earlier = st.pending.earlier;
@@ -155,7 +156,7 @@ going_on g st piece lines = on g [] st.prompt (take st.frames.count st.frames.ro
 })
 
 -- the session of a game that goes on from a state
-abbrev pub kept_session : GameLists → State → List ℕ → List ℕ → List ℕ → Played
+abbrev pub kept_session : Story → State → List ℕ → List ℕ → List ℕ → Played
 kept_session g st piece digest name = record { whole = going_on g st piece; before = st.events; digest = digest; name = name }
 
 -- the bytes of a store show this state of the game, and this piece
@@ -174,16 +175,16 @@ Refuses digest bytes (refusal.Outside c) = ⊥
 
 -- What taking up the session of the attached store comes to. Where it shows a state of the game, its piece is shown again and
 -- it is played on.
-pub data PlaysUp (g : GameLists) (digest name : List ℕ) (old new : Standing) : PlayEnd → Type 0 where
+pub data PlaysUp (g : Story) (digest name : List ℕ) (old new : Standing) : PlayEnd → Type 0 where
   memory : new ≡ old → PlaysUp g digest name old new end.Memory
   -- the bytes that the session shows, and any behind them, are no state of the game
-  no_state : (at : ℕ) (state piece : List ℕ) → recover old.disk.bytes ≡ Shown digest (take state_length state) piece → ¬ Fit g state → unfit g state ≡ Some at → new ≡ old →
+  no_state : (at : ℕ) (state piece : List ℕ) → recover old.disk.bytes ≡ Shown digest (take state_length state) piece → ¬ Fit g.game state → unfit g.game state ≡ Some at → new ≡ old →
       PlaysUp g digest name old new (end.State at)
-  plays_on : (o : PlayEnd) (st : State) (piece : List ℕ) → ShowsState g digest old.disk.bytes st piece →
+  plays_on : (o : PlayEnd) (st : State) (piece : List ℕ) → ShowsState g.game digest old.disk.bytes st piece →
       PlaysOn (kept_session g st piece digest name) (MOST_EVENTS - st.events) old new o → PlaysUp g digest name old new o
 
 -- what taking up a session again comes to
-pub data PlaysAgain (g : GameLists) (digest name : List ℕ) (old new : Standing) : PlayEnd → Type 0 where
+pub data PlaysAgain (g : Story) (digest name : List ℕ) (old new : Standing) : PlayEnd → Type 0 where
   unattached : Unattached old new → PlaysAgain g digest name old new (end.Outside call.Attach)
   unread : new ≡ attached_to old name → PlaysAgain g digest name old new (end.Outside call.Read)
   wanting : new ≡ attached_to old name → PlaysAgain g digest name old new end.Memory

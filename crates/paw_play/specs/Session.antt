@@ -5,7 +5,7 @@ use Rattle.paw_reading.specs.Turn.{Ending, WaitsAt, IsOver, RunsOut, CallsTooDee
 use Rattle.paw_journal.specs.Session.{Recovered, Shown}
 use Rattle.paw_state.specs.State.{State}
 use Rattle.paw_state.specs.Fields.{state_bytes}
-use Rattle.paw_state.specs.Record.{last_of, state_at}
+use Rattle.paw_state.specs.Record.{last_piece, state_at}
 
 -- the bytes by which a session keeps a state
 unfoldable pub kept_bytes : State → List ℕ
@@ -31,4 +31,4 @@ IsPlayed Unended = ⊥
 -- the last piece
 pub record IsKept (digest : List ℕ) (events : ℕ) (e : Ending) (r : Recovered) : Type 0 where
   pub played : IsPlayed e
-  pub shown : r ≡ Shown digest (state_after events e) (last_of (pieces_of (run_of e)))
+  pub shown : r ≡ Shown digest (state_after events e) (last_piece (pieces_of (run_of e)))

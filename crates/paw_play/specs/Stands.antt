@@ -1,12 +1,11 @@
 -- What the bytes of a store stand for, and a reading told from one of its pieces on.
 use Rattle.std.specs.Prelude.{ℕ, suc, ◌+◌, ◌^◌, ◌<◌, ◌≤◌, List, [], ◌++◌, length, drop, All}
 use Rattle.sha2.specs.Sha256.{sha256}
-use Rattle.paw_game.specs.Game.{GameLists}
-use Rattle.paw_game.specs.Valid.{Valid}
+use Rattle.paw_effects.specs.Story.{Story}
 use Rattle.paw_game.specs.Image.{image}
 use Rattle.paw_reading.specs.Run.{Run}
 use Rattle.paw_reading.specs.Turn.{Ending, WaitsAt, IsOver, RunsOut, CallsTooDeep, Unended, reading, run_of, pieces_of}
-use Rattle.paw_state.specs.State.{AreBytes}
+use Rattle.paw_reading.specs.Bounds.{IsLine, ValidStory}
 use Rattle.paw_journal.specs.Session.{recover}
 use Rattle.paw_play.specs.declared.TheConstants.{MOST_EVENTS}
 use Rattle.paw_play.specs.Session.{IsKept}
@@ -14,28 +13,23 @@ use Rattle.paw_play.specs.Walk.{Reading, first_lines, joined}
 
 -- The bytes of a store stand for these lines of a game that was begun with this seed: a session has room for them, and it
 -- keeps the reading of them all
-pub record Stands (g : GameLists) (seed : ℕ) (es : List (List ℕ)) (bytes : List ℕ) : Type 0 where
+pub record Stands (g : Story) (seed : ℕ) (es : List (List ℕ)) (bytes : List ℕ) : Type 0 where
   pub few : length es ≤ MOST_EVENTS
-  pub keeps : IsKept (sha256 (image g)) (length es) (reading g [] seed es) (recover bytes)
+  pub keeps : IsKept (sha256 (image g.game)) (length es) (reading g seed es) (recover bytes)
 
--- a line as it is taken: at most 255 bytes
-pub record IsLine (line : List ℕ) : Type 0 where
-  pub short : length line ≤ 255
-  pub bytes : AreBytes line
-
--- a valid game is played with a seed of 64 bits and these lines
-pub record IsPlayedWith (g : GameLists) (seed : ℕ) (es : List (List ℕ)) : Type 0 where
-  pub valid : Valid g
+-- a valid story is played with a seed of 64 bits and these lines, each of at most 255 bytes
+pub record IsPlayedWith (g : Story) (seed : ℕ) (es : List (List ℕ)) : Type 0 where
+  pub valid : ValidStory g
   pub fits : seed < 2 ^ 64
   pub lines : All IsLine es
 
 -- the bytes stand for the lines es and the first n of others
-abbrev pub StandsFor : GameLists → ℕ → List (List ℕ) → List (List ℕ) → ℕ → List ℕ → Type 0
+abbrev pub StandsFor : Story → ℕ → List (List ℕ) → List (List ℕ) → ℕ → List ℕ → Type 0
 StandsFor g seed es lines n bytes = Stands g seed (es ++ first_lines n lines) bytes
 
 -- the text of these, from the last piece of es on
-abbrev pub text_since : GameLists → ℕ → List (List ℕ) → List (List ℕ) → ℕ → List ℕ
-text_since g seed es lines n = joined (drop (length es) (pieces_of (run_of (reading g [] seed (es ++ first_lines n lines)))))
+abbrev pub text_since : Story → ℕ → List (List ℕ) → List (List ℕ) → ℕ → List ℕ
+text_since g seed es lines n = joined (drop (length es) (pieces_of (run_of (reading g seed (es ++ first_lines n lines)))))
 
 -- ---- a reading from one of its pieces on ----
 
@@ -51,5 +45,5 @@ ending_since n (CallsTooDeep u r) = CallsTooDeep u (since_piece n r)
 ending_since n Unended = Unended
 
 -- the reading of the lines es and others, from the last piece of es on
-abbrev pub reading_since : GameLists → ℕ → List (List ℕ) → Reading
-reading_since g seed es lines = ending_since (length es) (reading g [] seed (es ++ lines))
+abbrev pub reading_since : Story → ℕ → List (List ℕ) → Reading
+reading_since g seed es lines = ending_since (length es) (reading g seed (es ++ lines))

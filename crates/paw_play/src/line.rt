@@ -1,8 +1,10 @@
 // Playing with a session: each line is taken, committed and then shown.
 
-ghost use Rattle.std.specs.Prelude.{◌≡◌, ◌+◌, ◌*◌, ◌<◌, ◌≤◌, ◌^◌, ◌↔◌, ℕ, take, length, OnOk, IfOk, IfErr};
+ghost use Rattle.std.specs.Prelude.{◌≡◌, ◌+◌, ◌*◌, ◌<◌, ◌≤◌, ◌^◌, ◌↔◌, ℕ, List, take, length, OnOk, IfOk, IfErr};
 ghost use Rattle.paw_stage.specs.Stage.{Standing, Rose, Grows, Faulted};
 ghost use Rattle.paw_stage.specs.Moments.{Passes};
+ghost use Rattle.paw_routines.specs.Routines.{AreRowsOf, HaveRows};
+ghost use Rattle.paw_effects.specs.Story.{story_of};
 ghost use Rattle.paw_turn.specs.Player.{Seat, IsSeated};
 ghost use Rattle.paw_turn.specs.Parts.{IsStanding};
 ghost use Rattle.paw_journal.specs.Session.{recover, Shown, kept_digest, state_length, piece_length};
@@ -29,7 +31,11 @@ pub(crate) struct Session {
 }
 
 /// Puts the bytes of the player's state, after so many lines.
-pub(crate) fn put_state<T: Tables>(player: &Player<'_, T>, events: u64, into: &mut [u8; STATE_ROOM])
+pub(crate) fn put_state<T: Tables, F: Fn(u8, u8) -> u8>(
+    player: &Player<'_, T, F>,
+    events: u64,
+    into: &mut [u8; STATE_ROOM],
+)
     ensures state { take state_length into.new ≡ seat_state events player.now }
     ensures piece { piece_length into.new ≡ length player.now.piece }
 {
@@ -46,9 +52,9 @@ pub(crate) fn put_state<T: Tables>(player: &Player<'_, T>, events: u64, into: &m
 }
 
 /// Commits the player's state and its last piece, after so many lines.
-fn commit<S: Stage, T: Tables>(
+fn commit<S: Stage, T: Tables, F: Fn(u8, u8) -> u8>(
     stage: &mut S,
-    player: &Player<'_, T>,
+    player: &Player<'_, T, F>,
     room: &mut Room,
     journal: Journal,
     events: u64,
@@ -73,18 +79,20 @@ fn commit<S: Stage, T: Tables>(
 }
 
 /// Asks for a line and takes it; where it brings a piece, commits that and shows it.
-pub(crate) fn play_line<S: Stage, T: Tables>(
+pub(crate) fn play_line<S: Stage, T: Tables, F: Fn(u8, u8) -> u8>(
     stage: &mut S,
-    player: &mut Player<'_, T>,
+    player: &mut Player<'_, T, F>,
     room: &mut Room,
     session: Session,
 ) -> Result<Session, PlayEnd>
     requires seated { IsSeated player.old }
+    requires rows { HaveRows F.Fn player.old.routines }
     requires draws { player.old.world.draws + 200000 < 2 ^ 64 }
     requires few { session.events < MOST_EVENTS }
     requires kept { S.Tells stage.old → Keeps session.journal room.old (S.standing stage.old) }
     ensures seated { IsSeated player.new }
     ensures game { player.new.game ≡ player.old.game }
+    ensures routines { player.new.routines ≡ player.old.routines }
     ensures draws { player.new.world.draws ≤ player.old.world.draws + 200000 }
     ensures tells { S.Tells stage.old ↔ S.Tells stage.new }
     ensures counts { Grows (S.faults stage.old) (S.faults stage.new) }
@@ -92,9 +100,11 @@ pub(crate) fn play_line<S: Stage, T: Tables>(
     ensures outside { IfErr result (λ o. IfOutside o (λ c. IsPlayCall c × Rose (S.faults stage.old c) (S.faults stage.new c))) }
     ensures events { IfOk result (λ next. next.events ≡ session.events + 1) }
     ensures kept { S.Tells stage.old → IfOk result (λ next. Keeps next.journal room.new (S.standing stage.new)) }
-    ensures meaning { S.Tells stage.old → (s : Played) (most n : ℕ) (first : Standing) → IsPlaying s first (S.standing stage.old) player.old n → session.events ≡ s.before + n → n < most →
-        PlaysTo s most first (S.standing stage.new) player.new n result }
-    ensures any_moment { S.Tells stage.old → (s : Played) (most n : ℕ) (first : Standing) → IsPlaying s first (S.standing stage.old) player.old n → session.events ≡ s.before + n → n < most →
+    ensures meaning { S.Tells stage.old → (X : List (List ℕ)) → AreRowsOf F.Fn player.old.routines X → (s : Played) (most n : ℕ) (first : Standing) →
+        IsPlaying (story_of player.old.game X) s first (S.standing stage.old) player.old n → session.events ≡ s.before + n → n < most →
+        PlaysTo (story_of player.old.game X) s most first (S.standing stage.new) player.new n result }
+    ensures any_moment { S.Tells stage.old → (X : List (List ℕ)) → AreRowsOf F.Fn player.old.routines X → (s : Played) (most n : ℕ) (first : Standing) →
+        IsPlaying (story_of player.old.game X) s first (S.standing stage.old) player.old n → session.events ≡ s.before + n → n < most →
         Passes (S.clock stage.old) (S.clock stage.new) (S.since stage.old) (S.since stage.new) (InPlay s first) }
 {
     let mut line = [0u8; 255];

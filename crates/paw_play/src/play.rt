@@ -6,7 +6,8 @@ ghost use Rattle.paw_game.specs.Image.{image};
 ghost use Rattle.paw_stage.specs.Disk.{IsStable};
 ghost use Rattle.paw_stage.specs.Stage.{Standing, Rose, Grows, Faulted};
 ghost use Rattle.paw_stage.specs.Moments.{Moment, Passes};
-ghost use Rattle.paw_effects.specs.Built.{AllBuilt};
+ghost use Rattle.paw_routines.specs.Routines.{AreRowsOf, HaveRows};
+ghost use Rattle.paw_effects.specs.Story.{story_of};
 ghost use Rattle.paw_reading.specs.Turn.{reading};
 ghost use Rattle.paw_turn.specs.Player.{IsSeated, IsNew};
 ghost use Rattle.paw_journal.specs.Journal.{IsAtRest, Keeps};
@@ -20,19 +21,21 @@ use crate::walk::{refused, told};
 use crate::{MOST_EVENTS, PlayEnd};
 use paw_game::tables::Tables;
 use paw_journal::{Attached, Journal, Room, attach};
+use paw_routines::routines::Routines;
 use paw_stage::Stage;
 use paw_state::STATE_ROOM;
 use paw_turn::Player;
 use std::alloc::Global;
 
 /// Takes lines until the game is over or no line is left, at most as many as a session may have.
-pub(crate) fn play_lines<S: Stage, T: Tables>(
+pub(crate) fn play_lines<S: Stage, T: Tables, F: Fn(u8, u8) -> u8>(
     stage: &mut S,
-    player: &mut Player<'_, T>,
+    player: &mut Player<'_, T, F>,
     room: &mut Room,
     session: Session,
 ) -> PlayEnd
     requires seated { IsSeated player.old }
+    requires rows { HaveRows F.Fn player.old.routines }
     requires few { session.events ≤ MOST_EVENTS }
     requires draws { player.old.world.draws ≤ 200000 * (session.events + 1) }
     requires kept { S.Tells stage.old → Keeps session.journal room.old (S.standing stage.old) }
@@ -40,9 +43,11 @@ pub(crate) fn play_lines<S: Stage, T: Tables>(
     ensures counts { Grows (S.faults stage.old) (S.faults stage.new) }
     ensures faulted { Faulted (failed_call result) (S.faults stage.old) (S.faults stage.new) }
     ensures outside { IfOutside result (λ c. IsPlayCall c × Rose (S.faults stage.old c) (S.faults stage.new c)) }
-    ensures meaning { S.Tells stage.old → (s : Played) (first : Standing) → IsPlaying s first (S.standing stage.old) player.old 0 → session.events ≡ s.before →
+    ensures meaning { S.Tells stage.old → (X : List (List ℕ)) → AreRowsOf F.Fn player.old.routines X → (s : Played) (first : Standing) →
+        IsPlaying (story_of player.old.game X) s first (S.standing stage.old) player.old 0 → session.events ≡ s.before →
         PlaysOn s (MOST_EVENTS - s.before) first (S.standing stage.new) result }
-    ensures any_moment { S.Tells stage.old → (s : Played) (first : Standing) → IsPlaying s first (S.standing stage.old) player.old 0 → session.events ≡ s.before →
+    ensures any_moment { S.Tells stage.old → (X : List (List ℕ)) → AreRowsOf F.Fn player.old.routines X → (s : Played) (first : Standing) →
+        IsPlaying (story_of player.old.game X) s first (S.standing stage.old) player.old 0 → session.events ≡ s.before →
         Passes (S.clock stage.old) (S.clock stage.new) (S.since stage.old) (S.since stage.new) (InPlay s first) }
 {
     let mut session = session;
@@ -58,19 +63,22 @@ pub(crate) fn play_lines<S: Stage, T: Tables>(
 }
 
 /// Plays the piece before the first line; makes a session with it in the attached store, which is empty, and shows it.
-fn begin<S: Stage, T: Tables>(
+fn begin<S: Stage, T: Tables, F: Fn(u8, u8) -> u8>(
     stage: &mut S,
-    player: &mut Player<'_, T>,
+    player: &mut Player<'_, T, F>,
     room: &mut Room,
     at: Attached,
     game: &[u8; 32],
 ) -> Result<Session, PlayEnd>
     requires seated { IsSeated player.old }
+    requires rows { HaveRows F.Fn player.old.routines }
     requires new { IsNew player.old player.old.world.seed }
     requires empty { at.length ≡ 0 }
     requires rests { S.Tells stage.old → IsAtRest (S.standing stage.old) }
     requires attached { S.Tells stage.old → at.length ≡ length (S.standing stage.old).disk.bytes }
     ensures seated { IsSeated player.new }
+    ensures game { player.new.game ≡ player.old.game }
+    ensures routines { player.new.routines ≡ player.old.routines }
     ensures draws { player.new.world.draws ≤ 200000 }
     ensures tells { S.Tells stage.old ↔ S.Tells stage.new }
     ensures counts { Grows (S.faults stage.old) (S.faults stage.new) }
@@ -78,12 +86,12 @@ fn begin<S: Stage, T: Tables>(
     ensures outside { IfErr result (λ o. IfOutside o (λ c. IsPlayCall c × Rose (S.faults stage.old c) (S.faults stage.new c))) }
     ensures events { IfOk result (λ session. session.events ≡ 0) }
     ensures kept { S.Tells stage.old → IfOk result (λ session. Keeps session.journal room.new (S.standing stage.new)) }
-    ensures meaning { S.Tells stage.old → (name : List ℕ) → IsStore name (S.standing stage.old) →
-        Begins (new_session player.old.game player.old.world.seed game.now name) (S.standing stage.old) (S.standing stage.new) player.new result }
-    ensures any_moment { S.Tells stage.old → (name : List ℕ) → IsStore name (S.standing stage.old) →
+    ensures meaning { S.Tells stage.old → (X : List (List ℕ)) → AreRowsOf F.Fn player.old.routines X → (name : List ℕ) → IsStore name (S.standing stage.old) →
+        Begins (story_of player.old.game X) (new_session (story_of player.old.game X) player.old.world.seed game.now name) (S.standing stage.old) (S.standing stage.new) player.new result }
+    ensures any_moment { S.Tells stage.old → (X : List (List ℕ)) → AreRowsOf F.Fn player.old.routines X → (name : List ℕ) → IsStore name (S.standing stage.old) →
         Passes (S.clock stage.old) (S.clock stage.new) (S.since stage.old) (S.since stage.new)
-        (λ m. InMaking (new_session player.old.game player.old.world.seed game.now name) (S.standing stage.old) m
-        ⊎ InPlay (new_session player.old.game player.old.world.seed game.now name) (S.standing stage.old) m) }
+        (λ m. InMaking (new_session (story_of player.old.game X) player.old.world.seed game.now name) (S.standing stage.old) m
+        ⊎ InPlay (new_session (story_of player.old.game X) player.old.world.seed game.now name) (S.standing stage.old) m) }
 {
     let step = player.start();
     if let Some(end) = refused(step) {
@@ -102,15 +110,16 @@ fn begin<S: Stage, T: Tables>(
 }
 
 /// Makes what a new session is played with, and plays it in the attached store, which is empty.
-fn play_in<S: Stage, T: Tables>(
+fn play_in<S: Stage, T: Tables, F: Fn(u8, u8) -> u8>(
     alloc: Global,
     stage: &mut S,
     tables: &T,
+    routines: &Routines<F>,
     at: Attached,
     game: &[u8; 32],
     seed: u64,
 ) -> PlayEnd
-    requires built { AllBuilt (T.game tables.now) }
+    requires rows { HaveRows F.Fn routines.now }
     requires empty { at.length ≡ 0 }
     requires rests { S.Tells stage.old → IsAtRest (S.standing stage.old) }
     requires attached { S.Tells stage.old → at.length ≡ length (S.standing stage.old).disk.bytes }
@@ -118,17 +127,17 @@ fn play_in<S: Stage, T: Tables>(
     ensures counts { Grows (S.faults stage.old) (S.faults stage.new) }
     ensures faulted { Faulted (failed_call result) (S.faults stage.old) (S.faults stage.new) }
     ensures outside { IfOutside result (λ c. IsPlayCall c × Rose (S.faults stage.old c) (S.faults stage.new c)) }
-    ensures plays { S.Tells stage.old → (name : List ℕ) → IsStore name (S.standing stage.old) →
-        PlaysInStore (new_session (T.game tables.now) seed game.now name) (S.standing stage.old) (S.standing stage.new) result }
-    ensures any_moment { S.Tells stage.old → (name : List ℕ) → IsStore name (S.standing stage.old) →
+    ensures plays { S.Tells stage.old → (X : List (List ℕ)) → AreRowsOf F.Fn routines.now X → (name : List ℕ) → IsStore name (S.standing stage.old) →
+        PlaysInStore (new_session (story_of (T.game tables.now) X) seed game.now name) (S.standing stage.old) (S.standing stage.new) result }
+    ensures any_moment { S.Tells stage.old → (X : List (List ℕ)) → AreRowsOf F.Fn routines.now X → (name : List ℕ) → IsStore name (S.standing stage.old) →
         Passes (S.clock stage.old) (S.clock stage.new) (S.since stage.old) (S.since stage.new)
-        (λ m. InMaking (new_session (T.game tables.now) seed game.now name) (S.standing stage.old) m
-        ⊎ InPlay (new_session (T.game tables.now) seed game.now name) (S.standing stage.old) m) }
+        (λ m. InMaking (new_session (story_of (T.game tables.now) X) seed game.now name) (S.standing stage.old) m
+        ⊎ InPlay (new_session (story_of (T.game tables.now) X) seed game.now name) (S.standing stage.old) m) }
 {
     let Ok(mut room) = Room::new(alloc) else {
         return PlayEnd::Memory;
     };
-    let Ok(mut player) = Player::new(alloc, tables, seed) else {
+    let Ok(mut player) = Player::new(alloc, tables, routines, seed) else {
         return PlayEnd::Memory;
     };
     match begin(stage, &mut player, &mut room, at, game) {
@@ -140,25 +149,27 @@ fn play_in<S: Stage, T: Tables>(
 /// Plays a game from its start, with a session of it in the file of this name, which is missing or empty: shows the piece
 /// before the first line, and then a piece for each line, until the game is over or no line is left. Each piece is committed
 /// before it is shown. `game` is the digest of the game's image. Memory is taken before anything is written.
-pub fn play_loop<S: Stage, T: Tables>(
+pub fn play_loop<S: Stage, T: Tables, F: Fn(u8, u8) -> u8>(
     alloc: Global,
     stage: &mut S,
     tables: &T,
+    routines: &Routines<F>,
     game: &[u8; 32],
     name: &str,
     seed: u64,
 ) -> PlayEnd
-    requires built { AllBuilt (T.game tables.now) }
+    requires rows { HaveRows F.Fn routines.now }
     requires game { game.now ≡ sha256 (image (T.game tables.now)) }
     requires synced { S.Tells stage.old → IsStable (S.standing stage.old).disk }
     ensures tells { S.Tells stage.old ↔ S.Tells stage.new }
     ensures counts { Grows (S.faults stage.old) (S.faults stage.new) }
     ensures faulted { Faulted (failed_call result) (S.faults stage.old) (S.faults stage.new) }
     ensures outside { IfOutside result (λ c. IsSessionCall c × Rose (S.faults stage.old c) (S.faults stage.new c)) }
-    ensures plays { S.Tells stage.old → PlaysGame (T.game tables.now) seed name.now (S.standing stage.old) (S.standing stage.new) result }
-    ensures any_moment { S.Tells stage.old → store_bytes (S.standing stage.old) name.now ≡ [] →
+    ensures plays { S.Tells stage.old → (X : List (List ℕ)) → AreRowsOf F.Fn routines.now X →
+        PlaysGame (story_of (T.game tables.now) X) seed name.now (S.standing stage.old) (S.standing stage.new) result }
+    ensures any_moment { S.Tells stage.old → (X : List (List ℕ)) → AreRowsOf F.Fn routines.now X → store_bytes (S.standing stage.old) name.now ≡ [] →
         Passes (S.clock stage.old) (S.clock stage.new) (S.since stage.old) (S.since stage.new)
-        (InGame (T.game tables.now) seed name.now (S.standing stage.old)) }
+        (InGame (story_of (T.game tables.now) X) seed name.now (S.standing stage.old)) }
 {
     let at = match attach(stage, name) {
         Ok(at) => at,
@@ -167,5 +178,5 @@ pub fn play_loop<S: Stage, T: Tables>(
     if at.length != 0 {
         return PlayEnd::Occupied { length: at.length };
     }
-    play_in(alloc, stage, tables, at, game, seed)
+    play_in(alloc, stage, tables, routines, at, game, seed)
 }

@@ -6,7 +6,8 @@ ghost use Rattle.paw_game.specs.Image.{image};
 ghost use Rattle.paw_stage.specs.Disk.{IsStable};
 ghost use Rattle.paw_stage.specs.Stage.{Standing, Rose, Grows, Faulted};
 ghost use Rattle.paw_stage.specs.Moments.{Passes, InShow};
-ghost use Rattle.paw_effects.specs.Built.{AllBuilt};
+ghost use Rattle.paw_routines.specs.Routines.{AreRowsOf, HaveRows};
+ghost use Rattle.paw_effects.specs.Story.{story_of};
 ghost use Rattle.paw_state.specs.State.{State};
 ghost use Rattle.paw_turn.specs.Player.{IsSeated};
 ghost use Rattle.paw_journal.specs.Session.{kept_digest};
@@ -23,6 +24,7 @@ use crate::show::show;
 use paw_effects::act::Prompt;
 use paw_game::tables::Tables;
 use paw_journal::{Journal, JournalRefusal, Room, attach};
+use paw_routines::routines::Routines;
 use paw_stage::{Stage, StageCall};
 use paw_state::read_state;
 use paw_turn::Player;
@@ -60,25 +62,27 @@ fn not_found(refusal: JournalRefusal) -> PlayEnd
 }
 
 /// Takes up the session of the attached store, whose state and piece stand in the room.
-fn take_up<S: Stage, T: Tables>(
+fn take_up<S: Stage, T: Tables, F: Fn(u8, u8) -> u8>(
     alloc: Global,
     stage: &mut S,
     tables: &T,
+    routines: &Routines<F>,
     room: &mut Room,
     journal: Journal,
 ) -> PlayEnd
-    requires built { AllBuilt (T.game tables.now) }
+    requires rows { HaveRows F.Fn routines.now }
     requires kept { S.Tells stage.old → Keeps journal room.old (S.standing stage.old) }
     ensures tells { S.Tells stage.old ↔ S.Tells stage.new }
     ensures counts { Grows (S.faults stage.old) (S.faults stage.new) }
     ensures faulted { Faulted (failed_call result) (S.faults stage.old) (S.faults stage.new) }
     ensures outside { IfOutside result (λ c. IsPlayCall c × Rose (S.faults stage.old c) (S.faults stage.new c)) }
-    ensures plays { S.Tells stage.old → (name : List ℕ) → IsStore name (S.standing stage.old) →
-        PlaysUp (T.game tables.now) (kept_digest (S.standing stage.old).disk.bytes) name (S.standing stage.old) (S.standing stage.new) result }
-    ensures any_moment { S.Tells stage.old → (name : List ℕ) → IsStore name (S.standing stage.old) → (st : State) (piece : List ℕ) →
+    ensures plays { S.Tells stage.old → (X : List (List ℕ)) → AreRowsOf F.Fn routines.now X → (name : List ℕ) → IsStore name (S.standing stage.old) →
+        PlaysUp (story_of (T.game tables.now) X) (kept_digest (S.standing stage.old).disk.bytes) name (S.standing stage.old) (S.standing stage.new) result }
+    ensures any_moment { S.Tells stage.old → (X : List (List ℕ)) → AreRowsOf F.Fn routines.now X → (name : List ℕ) → IsStore name (S.standing stage.old) →
+        (st : State) (piece : List ℕ) →
         ShowsState (T.game tables.now) (kept_digest (S.standing stage.old).disk.bytes) (S.standing stage.old).disk.bytes st piece →
         Passes (S.clock stage.old) (S.clock stage.new) (S.since stage.old) (S.since stage.new)
-        (InPlay (kept_session (T.game tables.now) st piece (kept_digest (S.standing stage.old).disk.bytes) name) (S.standing stage.old)) }
+        (InPlay (kept_session (story_of (T.game tables.now) X) st piece (kept_digest (S.standing stage.old).disk.bytes) name) (S.standing stage.old)) }
 {
     let restored = match read_state(tables, room.state()) {
         Ok(restored) => restored,
@@ -89,6 +93,7 @@ fn take_up<S: Stage, T: Tables>(
     let Ok(mut player) = Player::adopt(
         alloc,
         tables,
+        routines,
         restored.world,
         restored.machine,
         restored.pending,
@@ -104,24 +109,27 @@ fn take_up<S: Stage, T: Tables>(
 
 /// Takes up the session of a game that stands in the file of this name: shows its last piece again, and goes on from its
 /// prompt as `play_loop` does; a session that is over asks nothing. `game` is the digest of the game's image.
-pub fn resume_loop<S: Stage, T: Tables>(
+pub fn resume_loop<S: Stage, T: Tables, F: Fn(u8, u8) -> u8>(
     alloc: Global,
     stage: &mut S,
     tables: &T,
+    routines: &Routines<F>,
     game: &[u8; 32],
     name: &str,
 ) -> PlayEnd
-    requires built { AllBuilt (T.game tables.now) }
+    requires rows { HaveRows F.Fn routines.now }
     requires game { game.now ≡ sha256 (image (T.game tables.now)) }
     requires synced { S.Tells stage.old → IsStable (S.standing stage.old).disk }
     ensures tells { S.Tells stage.old ↔ S.Tells stage.new }
     ensures counts { Grows (S.faults stage.old) (S.faults stage.new) }
     ensures faulted { Faulted (failed_call result) (S.faults stage.old) (S.faults stage.new) }
     ensures outside { IfOutside result (λ c. IsSessionCall c × Rose (S.faults stage.old c) (S.faults stage.new c)) }
-    ensures plays { S.Tells stage.old → PlaysAgain (T.game tables.now) game.now name.now (S.standing stage.old) (S.standing stage.new) result }
-    ensures any_moment { S.Tells stage.old → (st : State) (piece : List ℕ) → ShowsState (T.game tables.now) game.now (store_bytes (S.standing stage.old) name.now) st piece →
+    ensures plays { S.Tells stage.old → (X : List (List ℕ)) → AreRowsOf F.Fn routines.now X →
+        PlaysAgain (story_of (T.game tables.now) X) game.now name.now (S.standing stage.old) (S.standing stage.new) result }
+    ensures any_moment { S.Tells stage.old → (X : List (List ℕ)) → AreRowsOf F.Fn routines.now X → (st : State) (piece : List ℕ) →
+        ShowsState (T.game tables.now) game.now (store_bytes (S.standing stage.old) name.now) st piece →
         Passes (S.clock stage.old) (S.clock stage.new) (S.since stage.old) (S.since stage.new)
-        (InAgain (kept_session (T.game tables.now) st piece game.now name.now) (S.standing stage.old)) }
+        (InAgain (kept_session (story_of (T.game tables.now) X) st piece game.now name.now) (S.standing stage.old)) }
 {
     let _counts = tables.counts();
     let at = match attach(stage, name) {
@@ -135,5 +143,5 @@ pub fn resume_loop<S: Stage, T: Tables>(
         Ok(journal) => journal,
         Err(refusal) => return not_found(refusal),
     };
-    take_up(alloc, stage, tables, &mut room, journal)
+    take_up(alloc, stage, tables, routines, &mut room, journal)
 }

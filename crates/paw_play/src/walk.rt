@@ -1,7 +1,8 @@
 // A walk through a game.
 
-ghost use Rattle.std.specs.Prelude.{◌≡◌, ◌+◌, ◌<◌, ◌≤◌, ◌^◌, ◌↔◌, ℕ, [], IfSome, None};
-ghost use Rattle.paw_effects.specs.Built.{AllBuilt};
+ghost use Rattle.std.specs.Prelude.{◌≡◌, ◌+◌, ◌<◌, ◌≤◌, ◌^◌, ◌↔◌, ℕ, List, IfSome, None};
+ghost use Rattle.paw_routines.specs.Routines.{AreRowsOf, HaveRows};
+ghost use Rattle.paw_effects.specs.Story.{story_of};
 ghost use Rattle.paw_stage.specs.Stage.{Standing, Rose, Grows, Faulted};
 ghost use Rattle.paw_reading.specs.Turn.{reading};
 ghost use Rattle.paw_stage.specs.Moments.{Passes, InShow};
@@ -14,6 +15,7 @@ ghost use Rattle.paw_play.specs.declared.TheConstants.{MOST_EVENTS};
 use crate::show::show;
 use crate::{MOST_EVENTS, PlayEnd};
 use paw_game::tables::Tables;
+use paw_routines::routines::Routines;
 use paw_stage::{Asked, Stage, StageCall};
 use paw_turn::{Player, Step};
 use std::alloc::Global;
@@ -31,9 +33,9 @@ pub(crate) fn refused(step: Step) -> Option<PlayEnd>
 }
 
 /// Shows what a step brought. None where the player waits for the next line; else what playing comes to.
-pub(crate) fn told<S: Stage, T: Tables>(
+pub(crate) fn told<S: Stage, T: Tables, F: Fn(u8, u8) -> u8>(
     stage: &mut S,
-    player: &Player<'_, T>,
+    player: &Player<'_, T, F>,
     step: Step,
 ) -> Option<PlayEnd>
     requires last { player.now.last ≡ step }
@@ -58,8 +60,12 @@ pub(crate) fn told<S: Stage, T: Tables>(
 }
 
 /// Asks for a line, takes it, and shows the piece that it brings.
-fn walk_line<S: Stage, T: Tables>(stage: &mut S, player: &mut Player<'_, T>) -> Option<PlayEnd>
+fn walk_line<S: Stage, T: Tables, F: Fn(u8, u8) -> u8>(
+    stage: &mut S,
+    player: &mut Player<'_, T, F>,
+) -> Option<PlayEnd>
     requires seated { IsSeated player.old }
+    requires rows { HaveRows F.Fn player.old.routines }
     requires draws { player.old.world.draws + 200000 < 2 ^ 64 }
     ensures seated { IsSeated player.new }
     ensures game { player.new.game ≡ player.old.game }
@@ -68,8 +74,10 @@ fn walk_line<S: Stage, T: Tables>(stage: &mut S, player: &mut Player<'_, T>) -> 
     ensures counts { Grows (S.faults stage.old) (S.faults stage.new) }
     ensures faulted { Faulted (failed_so_far result) (S.faults stage.old) (S.faults stage.new) }
     ensures outside { IfSome result (λ o. IfOutside o (λ c. IsWalkCall c × Rose (S.faults stage.old c) (S.faults stage.new c))) }
-    ensures meaning { S.Tells stage.old → (whole : Reading) (most n : ℕ) (first : Standing) → IsWalking whole first (S.standing stage.old) player.old n →
-        n < most → WalksOn whole most first (S.standing stage.new) player.new n result }
+    ensures routines { player.new.routines ≡ player.old.routines }
+    ensures meaning { S.Tells stage.old → (X : List (List ℕ)) → AreRowsOf F.Fn player.old.routines X → (whole : Reading) (most n : ℕ) (first : Standing) →
+        IsWalking (story_of player.old.game X) whole first (S.standing stage.old) player.old n → n < most →
+        WalksOn (story_of player.old.game X) whole most first (S.standing stage.new) player.new n result }
 {
     let mut line = [0u8; 255];
     match stage.ask(&mut line) {
@@ -83,14 +91,19 @@ fn walk_line<S: Stage, T: Tables>(stage: &mut S, player: &mut Player<'_, T>) -> 
 }
 
 /// Takes lines until the game is over or no line is left, at most so many.
-fn walk_lines<S: Stage, T: Tables>(stage: &mut S, player: &mut Player<'_, T>) -> PlayEnd
+fn walk_lines<S: Stage, T: Tables, F: Fn(u8, u8) -> u8>(
+    stage: &mut S,
+    player: &mut Player<'_, T, F>,
+) -> PlayEnd
     requires seated { IsSeated player.old }
+    requires rows { HaveRows F.Fn player.old.routines }
     requires draws { player.old.world.draws ≤ 200000 }
     ensures tells { S.Tells stage.old ↔ S.Tells stage.new }
     ensures counts { Grows (S.faults stage.old) (S.faults stage.new) }
     ensures faulted { Faulted (failed_call result) (S.faults stage.old) (S.faults stage.new) }
     ensures outside { IfOutside result (λ c. IsWalkCall c × Rose (S.faults stage.old c) (S.faults stage.new c)) }
-    ensures meaning { S.Tells stage.old → (whole : Reading) (first : Standing) → IsWalking whole first (S.standing stage.old) player.old 0 →
+    ensures meaning { S.Tells stage.old → (X : List (List ℕ)) → AreRowsOf F.Fn player.old.routines X → (whole : Reading) (first : Standing) →
+        IsWalking (story_of player.old.game X) whole first (S.standing stage.old) player.old 0 →
         Walks whole MOST_EVENTS first (S.standing stage.new) result }
 {
     for _ in 0..MOST_EVENTS {
@@ -105,20 +118,22 @@ fn walk_lines<S: Stage, T: Tables>(stage: &mut S, player: &mut Player<'_, T>) ->
 
 /// Walks through a game with a seed: shows the piece before the first line, and then a piece for each line, until the game
 /// is over or no line is left. Nothing is kept. It takes memory before anything else.
-pub fn walk_loop<S: Stage, T: Tables>(
+pub fn walk_loop<S: Stage, T: Tables, F: Fn(u8, u8) -> u8>(
     alloc: Global,
     stage: &mut S,
     tables: &T,
+    routines: &Routines<F>,
     seed: u64,
 ) -> PlayEnd
-    requires built { AllBuilt (T.game tables.now) }
+    requires rows { HaveRows F.Fn routines.now }
     ensures tells { S.Tells stage.old ↔ S.Tells stage.new }
     ensures counts { Grows (S.faults stage.old) (S.faults stage.new) }
     ensures faulted { Faulted (failed_call result) (S.faults stage.old) (S.faults stage.new) }
     ensures outside { IfOutside result (λ c. IsWalkCall c × Rose (S.faults stage.old c) (S.faults stage.new c)) }
-    ensures walks { S.Tells stage.old → Walks (reading (T.game tables.now) [] seed) MOST_EVENTS (S.standing stage.old) (S.standing stage.new) result }
+    ensures walks { S.Tells stage.old → (X : List (List ℕ)) → AreRowsOf F.Fn routines.now X →
+        Walks (reading (story_of (T.game tables.now) X) seed) MOST_EVENTS (S.standing stage.old) (S.standing stage.new) result }
 {
-    let Ok(mut player) = Player::new(alloc, tables, seed) else {
+    let Ok(mut player) = Player::new(alloc, tables, routines, seed) else {
         return PlayEnd::Memory;
     };
     let step = player.start();

@@ -4,6 +4,7 @@ use Rattle.std.specs.Prelude.{◌==◌, if◌then◌else◌, not, nat_lt}
 use Rattle.std.proofs.Math.Seq.{take-append_seam}
 use Rattle.std.proofs.lemmas.Bool.{eqb-true, leb-true}
 use Rattle.std.proofs.lemmas.List.{length-reverse, reverse-reverse}
+use Rattle.paw_base.specs.Steps.{no_steps}
 use Rattle.paw_game.specs.Game.{GameLists}
 use Rattle.paw_effects.specs.declared.act.Prompt.{Prompt}
 use Rattle.paw_effects.specs.declared.act.Prompt.TheVariants as prompt
@@ -23,19 +24,19 @@ all_again fs unread =
     subst (λ n. take n (reverse fs ++ unread) ≡ reverse fs) (length-reverse fs) (take-append_seam (reverse fs) unread) in
     ap (λ (s : List Frame). reverse s) front ∙ reverse-reverse fs
 
-again_at : (m : OpenTables) (waiting : Option Prompt) → m.waiting ≡ waiting → restored (kept m) waiting ≡ record m { left = 200000 }
+again_at : (m : OpenTables) (waiting : Option Prompt) → m.waiting ≡ waiting → restored (kept m) waiting ≡ record m { left = 200000; steps = no_steps }
 again_at m waiting is =
-    ap (λ (fs : List Frame). record { frames = fs; turning = m.turning; waiting = waiting; left = 200000 }) (all_again m.frames (replicate (11 - length m.frames) unused))
-    ∙ ap (λ (w : Option Prompt). record { frames = m.frames; turning = m.turning; waiting = w; left = 200000 }) (sym is)
+    ap (λ (fs : List Frame). record { frames = fs; turning = m.turning; waiting = waiting; left = 200000; steps = no_steps }) (all_again m.frames (replicate (11 - length m.frames) unused))
+    ∙ ap (λ (w : Option Prompt). record { frames = m.frames; turning = m.turning; waiting = w; left = 200000; steps = no_steps }) (sym is)
 
-pub restored_again : (p : Prompt) (m : OpenTables) → StandsAt p m → restored (kept m) (waiting_at p) ≡ record m { left = 200000 }
+pub restored_again : (p : Prompt) (m : OpenTables) → StandsAt p m → restored (kept m) (waiting_at p) ≡ record m { left = 200000; steps = no_steps }
 restored_again prompt.Main m stands = again_at m None stands.waiting
 restored_again prompt.Quit m stands = again_at m (Some prompt.Quit) stands.waiting
 restored_again prompt.Again m stands = again_at m (Some prompt.Again) stands.waiting
 restored_again prompt.Key m stands = again_at m (Some prompt.Key) stands.waiting
 restored_again prompt.Over m stands = again_at m None stands.waiting
 
-pub kept_again : (p : Prompt) (k : Frames) (m : OpenTables) → k ≡ kept m → StandsAt p m → restored k (waiting_at p) ≡ record m { left = 200000 }
+pub kept_again : (p : Prompt) (k : Frames) (m : OpenTables) → k ≡ kept m → StandsAt p m → restored k (waiting_at p) ≡ record m { left = 200000; steps = no_steps }
 kept_again p k m is stands = ap (λ (u : Frames). restored u (waiting_at p)) is ∙ restored_again p m stands
 
 -- ---- the same places again ----

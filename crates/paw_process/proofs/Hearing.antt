@@ -1,6 +1,6 @@
 -- Answers at the prompts inside tables.
 use Rattle.std.proofs.Common.{◌≡◌, ℕ, Bool, true, false, List, ◌∷◌, refl, sym, ap, ◌∙◌, length, reverse, add-one}
-use Rattle.paw_game.specs.Game.{GameLists}
+use Rattle.paw_effects.specs.Story.{Story}
 use Rattle.paw_game.specs.Valid.{Valid}
 use Rattle.paw_game.proofs.Kept.{table-short}
 use Rattle.paw_effects.specs.declared.act.Prompt.{Prompt}
@@ -16,25 +16,25 @@ use Rattle.paw_process.specs.Meaning.{to_come, going_on, AnswersQuit, AnswersKey
 use Rattle.paw_process.specs.Moves.{settled, past_of, after_quit, after_key}
 
 -- a line that isn't ignored is heard, and answers
-hears : (g : GameLists) (p : Prompt) (f : Frame) (go : Bool → Run → Out) (r : Run) (line : List ℕ) (lines : List (List ℕ)) → is_ignored r.world line ≡ false → asked g p f go (to_come (line ∷ lines) r) (line ∷ lines) ≡ answered g p f go (reply line) (heard line (to_come lines r))
+hears : (g : Story) (p : Prompt) (f : Frame) (go : Bool → Run → Out) (r : Run) (line : List ℕ) (lines : List (List ℕ)) → is_ignored r.world line ≡ false → asked g p f go (to_come (line ∷ lines) r) (line ∷ lines) ≡ answered g p f go (reply line) (heard line (to_come lines r))
 unfolding asked
 hears g p f go r line lines h = rw h refl
 
-heard_at : (g : GameLists) (X : List (List ℕ)) (p : Prompt) (f : Frame) (fs : List Frame) (r : Run) (line : List ℕ) (lines : List (List ℕ)) → is_ignored r.world line ≡ false → on_path g X p 0 (reverse (f ∷ fs)) (to_come (line ∷ lines) r) ≡ settled g X fs (answered g p f (past_of g X fs f) (reply line) (heard line (to_come lines r)))
-heard_at g X p f fs r line lines h =
-    on_path_reverse g X p f fs (to_come (line ∷ lines) r) ∙ ap (settled g X fs) (hears g p f (past_of g X fs f) r line lines h)
+heard_at : (g : Story) (p : Prompt) (f : Frame) (fs : List Frame) (r : Run) (line : List ℕ) (lines : List (List ℕ)) → is_ignored r.world line ≡ false → on_path g p 0 (reverse (f ∷ fs)) (to_come (line ∷ lines) r) ≡ settled g fs (answered g p f (past_of g fs f) (reply line) (heard line (to_come lines r)))
+heard_at g p f fs r line lines h =
+    on_path_reverse g p f fs (to_come (line ∷ lines) r) ∙ ap (settled g fs) (hears g p f (past_of g fs f) r line lines h)
 
-quits : (g : GameLists) (X : List (List ℕ)) (f : Frame) (fs : List Frame) (line : List ℕ) (r : Run) (agrees : Bool) → Valid g → is_yes (reply line) ≡ agrees → settled g X fs (answered g prompt.Quit f (past_of g X fs f) (reply line) r) ≡ going_on g X (after_quit agrees f ∷ fs) r
-quits g X f fs line r true v h = rw (h, add-one) refl
-quits g X f fs line r false v h =
-    rw h (ap (settled g X fs) (sym (plain_past g X (deeper g X (length fs)) (length fs) f.table 4000 true r (table-short g v f.table))))
+quits : (g : Story) (f : Frame) (fs : List Frame) (line : List ℕ) (r : Run) (agrees : Bool) → Valid g.game → is_yes (reply line) ≡ agrees → settled g fs (answered g prompt.Quit f (past_of g fs f) (reply line) r) ≡ going_on g (after_quit agrees f ∷ fs) r
+quits g f fs line r true v h = rw (h, add-one) refl
+quits g f fs line r false v h =
+    rw h (ap (settled g fs) (sym (plain_past g (deeper g (length fs)) (length fs) f.table 4000 true r (table-short g.game v f.table))))
 
 pub answers_quit : (agrees : Bool) (old new : List Frame) (f : Frame) → old ≡ f ∷ below old → new ≡ after_quit agrees f ∷ below old → AnswersQuit agrees old new
-answers_quit agrees old new f top e g X line lines r v ignored h =
-    rw e (ap (λ (s : List Frame). on_path g X prompt.Quit 0 (reverse s) (to_come (line ∷ lines) r)) top
-    ∙ (heard_at g X prompt.Quit f (below old) r line lines ignored ∙ quits g X f (below old) line (heard line (to_come lines r)) agrees v h))
+answers_quit agrees old new f top e g line lines r v ignored h =
+    rw e (ap (λ (s : List Frame). on_path g prompt.Quit 0 (reverse s) (to_come (line ∷ lines) r)) top
+    ∙ (heard_at g prompt.Quit f (below old) r line lines ignored ∙ quits g f (below old) line (heard line (to_come lines r)) agrees v h))
 
 pub answers_key : (old new : List Frame) (f : Frame) → old ≡ f ∷ below old → new ≡ after_key f ∷ below old → AnswersKey old new
-answers_key old new f top e g X line lines r ignored =
-    rw e (ap (λ (s : List Frame). on_path g X prompt.Key 0 (reverse s) (to_come (line ∷ lines) r)) top
-    ∙ (heard_at g X prompt.Key f (below old) r line lines ignored ∙ rw add-one refl))
+answers_key old new f top e g line lines r ignored =
+    rw e (ap (λ (s : List Frame). on_path g prompt.Key 0 (reverse s) (to_come (line ∷ lines) r)) top
+    ∙ (heard_at g prompt.Key f (below old) r line lines ignored ∙ rw add-one refl))

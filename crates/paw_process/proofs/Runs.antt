@@ -1,7 +1,11 @@
 -- A run, step by step.
-use Rattle.std.proofs.Common.{◌+◌, ◌≤◌, [], Some, None, refl, arith}
+use Rattle.std.proofs.Common.{ℕ, ◌+◌, ◌≤◌, List, Some, None, refl, arith}
+use Rattle.std.specs.Fn.{Shared}
 use Rattle.paw_game.specs.Game.{GameLists}
+use Rattle.paw_routines.specs.declared.routines.Routines.{Routines}
+use Rattle.paw_routines.specs.Routines.{AreRowsOf}
 use Rattle.paw_effects.specs.Built.{IsOf}
+use Rattle.paw_effects.specs.Story.{story_of}
 use Rattle.paw_process.specs.OpenTables.{IsReading}
 use Rattle.paw_process.specs.Meaning.{Held, going_on, RunsTo}
 use Rattle.paw_process.specs.Moves.{Reads}
@@ -9,22 +13,26 @@ use Rattle.paw_process.specs.Running.{IsRunning}
 use Rattle.paw_process.specs.declared.Turned.{Turned}
 use Rattle.paw_process.proofs.Readings.{reads_nothing, reads_on, runs_to}
 
-pub running_starts : (g : GameLists) (h : Held) → IsReading h.machine → IsOf g h.world → IsRunning g h h
-running_starts g h reading game = record {
-  reads = reads_nothing g [] (going_on g [] h.machine.frames) h None h refl (λ r. refl);
-  reading = reading;
-  game = game;
-  draws = omega arith;
-}
+module _ {F : Type 0} (calls : Shared F (ℕ × (ℕ × Unit {0})) ℕ) (routines : Routines F) (g : GameLists) where
+  pub running_starts : (h : Held) → IsReading h.machine → IsOf g h.world → IsRunning calls routines g h h
+  running_starts h reading game = record {
+    reads = λ X rows. reads_nothing (story_of g X) (going_on (story_of g X) h.machine.frames) h None h (record { left = refl; steps = refl }) (λ r. refl);
+    reading = reading;
+    game = game;
+    draws = omega arith;
+  }
 
-pub running_on : (g : GameLists) (first now new : Held) → IsRunning g first now → Reads g [] (going_on g [] now.machine.frames) now None new → IsReading new.machine → IsOf g new.world → new.world.draws + new.machine.left ≤ now.world.draws + now.machine.left → IsRunning g first new
-running_on g first now new h reads reading game draws = record {
-  reads = reads_on g [] (going_on g [] first.machine.frames) first now None new h.reads reads;
-  reading = reading;
-  game = game;
-  draws = omega (arith, h.draws);
-}
+  pub running_on : (first now new : Held) → IsRunning calls routines g first now
+      → ((X : List (List ℕ)) → AreRowsOf calls routines X → Reads (story_of g X) (going_on (story_of g X) now.machine.frames) now None new)
+      → IsReading new.machine → IsOf g new.world → new.world.draws + new.machine.left ≤ now.world.draws + now.machine.left → IsRunning calls routines g first new
+  running_on first now new h reads reading game draws = record {
+    reads = λ X rows. reads_on (story_of g X) (going_on (story_of g X) first.machine.frames) first now None new (h.reads X rows) (reads X rows);
+    reading = reading;
+    game = game;
+    draws = omega (arith, h.draws);
+  }
 
-pub running_ends : (g : GameLists) (first now : Held) (t : Turned) (new : Held) → IsRunning g first now → Reads g [] (going_on g [] now.machine.frames) now (Some t) new → RunsTo g [] first t new
-running_ends g first now t new h reads =
-    runs_to g [] first t new (reads_on g [] (going_on g [] first.machine.frames) first now (Some t) new h.reads reads)
+  pub running_ends : (first now : Held) (t : Turned) (new : Held) → IsRunning calls routines g first now → (X : List (List ℕ)) → AreRowsOf calls routines X
+      → Reads (story_of g X) (going_on (story_of g X) now.machine.frames) now (Some t) new → RunsTo (story_of g X) first t new
+  running_ends first now t new h X rows reads =
+      runs_to (story_of g X) first t new (reads_on (story_of g X) (going_on (story_of g X) first.machine.frames) first now (Some t) new (h.reads X rows) reads)

@@ -3,7 +3,7 @@ use Rattle.std.proofs.Common.{◌≡◌, ℕ, zero, suc, ◌+◌, ◌-◌, ◌�
 use Rattle.std.specs.Prelude.{if◌then◌else◌, reverse}
 use Rattle.paw_base.specs.declared.parts.Condact.{Condact}
 use Rattle.paw_base.specs.declared.fault.SpentKind.TheVariants as spent
-use Rattle.paw_game.specs.Game.{GameLists}
+use Rattle.paw_effects.specs.Story.{Story}
 use Rattle.paw_game.specs.Tables.{condact_at, match_at}
 use Rattle.paw_world.specs.World.{flag}
 use Rattle.paw_effects.specs.declared.act.Prompt.{Prompt}
@@ -23,109 +23,109 @@ use Rattle.paw_process.specs.Moves.{settled, next_of, past_of, reading_at, acted
 
 -- ---- the loop ----
 
-module _ (g : GameLists) (lv : ℕ) (l : OpenLoop) (body : Run → Out) where
+module _ (g : Story) (lv : ℕ) (l : OpenLoop) (body : Run → Out) where
   -- no object is left
-  turns_none : (n : ℕ) (r : Run) → least_taken g r.world l.place n ≡ None → turns g lv (record l { last = 0 }) body n r ≡ Left true (without_loop r)
+  turns_none : (n : ℕ) (r : Run) → least_taken g.game r.world l.place n ≡ None → turns g lv (record l { last = 0 }) body n r ≡ Left true (without_loop r)
   unfolding turns least_taken
   turns_none zero r h = refl
-  turns_none (suc n) r h = go (turns_none n r) (is_next g r.world l.place (length g.objects - suc n)) h
+  turns_none (suc n) r h = go (turns_none n r) (is_next g.game r.world l.place (length g.game.objects - suc n)) h
     where
-      go : (least_taken g r.world l.place n ≡ None → turns g lv (record l { last = 0 }) body n r ≡ Left true (without_loop r)) → (b : Bool) → ◌≡◌ {A = Option ℕ} (if b then Some (length g.objects - suc n) else least_taken g r.world l.place n) None → (if b then again lv (λ _. turns g lv (record l { last = 0 }) body n) (body (taken g l (length g.objects - suc n) r)) else turns g lv (record l { last = 0 }) body n r) ≡ Left true (without_loop r)
+      go : (least_taken g.game r.world l.place n ≡ None → turns g lv (record l { last = 0 }) body n r ≡ Left true (without_loop r)) → (b : Bool) → ◌≡◌ {A = Option ℕ} (if b then Some (length g.game.objects - suc n) else least_taken g.game r.world l.place n) None → (if b then again lv (λ _. turns g lv (record l { last = 0 }) body n) (body (taken g.game l (length g.game.objects - suc n) r)) else turns g lv (record l { last = 0 }) body n r) ≡ Left true (without_loop r)
       go later true q = cc
       go later false q = later q
 
   -- the next object
-  turns_some : (n : ℕ) (r : Run) (o : ℕ) → n ≤ length g.objects → least_taken g r.world l.place n ≡ Some o → turns g lv (record l { last = 0 }) body n r ≡ again lv (λ _. turns g lv (record l { last = 0 }) body (length g.objects - suc o)) (body (taken g l o r))
+  turns_some : (n : ℕ) (r : Run) (o : ℕ) → n ≤ length g.game.objects → least_taken g.game r.world l.place n ≡ Some o → turns g lv (record l { last = 0 }) body n r ≡ again lv (λ _. turns g lv (record l { last = 0 }) body (length g.game.objects - suc o)) (body (taken g.game l o r))
   unfolding turns least_taken
   turns_some zero r o low h = cc
-  turns_some (suc n) r o low h = go (turns_some n r o (omega arith)) (is_next g r.world l.place (length g.objects - suc n)) h
+  turns_some (suc n) r o low h = go (turns_some n r o (omega arith)) (is_next g.game r.world l.place (length g.game.objects - suc n)) h
     where
-      here : (j : ℕ) → j ≡ length g.objects - suc n → again lv (λ _. turns g lv (record l { last = 0 }) body n) (body (taken g l j r)) ≡ again lv (λ _. turns g lv (record l { last = 0 }) body (length g.objects - suc j)) (body (taken g l j r))
-      here j q = let m : length g.objects - suc j ≡ n = omega arith in rw m refl
+      here : (j : ℕ) → j ≡ length g.game.objects - suc n → again lv (λ _. turns g lv (record l { last = 0 }) body n) (body (taken g.game l j r)) ≡ again lv (λ _. turns g lv (record l { last = 0 }) body (length g.game.objects - suc j)) (body (taken g.game l j r))
+      here j q = let m : length g.game.objects - suc j ≡ n = omega arith in rw m refl
 
-      go : (least_taken g r.world l.place n ≡ Some o → turns g lv (record l { last = 0 }) body n r ≡ again lv (λ _. turns g lv (record l { last = 0 }) body (length g.objects - suc o)) (body (taken g l o r))) → (b : Bool) → ◌≡◌ {A = Option ℕ} (if b then Some (length g.objects - suc n) else least_taken g r.world l.place n) (Some o) → (if b then again lv (λ _. turns g lv (record l { last = 0 }) body n) (body (taken g l (length g.objects - suc n) r)) else turns g lv (record l { last = 0 }) body n r) ≡ again lv (λ _. turns g lv (record l { last = 0 }) body (length g.objects - suc o)) (body (taken g l o r))
-      go later true q = let m : length g.objects - suc n ≡ o = cc in rw m (here o (sym m))
+      go : (least_taken g.game r.world l.place n ≡ Some o → turns g lv (record l { last = 0 }) body n r ≡ again lv (λ _. turns g lv (record l { last = 0 }) body (length g.game.objects - suc o)) (body (taken g.game l o r))) → (b : Bool) → ◌≡◌ {A = Option ℕ} (if b then Some (length g.game.objects - suc n) else least_taken g.game r.world l.place n) (Some o) → (if b then again lv (λ _. turns g lv (record l { last = 0 }) body n) (body (taken g.game l (length g.game.objects - suc n) r)) else turns g lv (record l { last = 0 }) body n r) ≡ again lv (λ _. turns g lv (record l { last = 0 }) body (length g.game.objects - suc o)) (body (taken g.game l o r))
+      go later true q = let m : length g.game.objects - suc n ≡ o = cc in rw m (here o (sym m))
       go later false q = later q
 
 -- a loop with no object left
-pub turning_none : (g : GameLists) (X : List (List ℕ)) (fs : List Frame) (l : OpenLoop) (n : ℕ) (r : Run) → least_taken g r.world l.place n ≡ None → turning_at g X fs l n r ≡ along g X fs (Left true (without_loop r))
-turning_none g X fs l n r h = ap (along g X fs) (turns_none g (length fs) l _ n r h)
+pub turning_none : (g : Story) (fs : List Frame) (l : OpenLoop) (n : ℕ) (r : Run) → least_taken g.game r.world l.place n ≡ None → turning_at g fs l n r ≡ along g fs (Left true (without_loop r))
+turning_none g fs l n r h = ap (along g fs) (turns_none g (length fs) l _ n r h)
 
 -- a loop takes the next object
-pub turning_some : (g : GameLists) (X : List (List ℕ)) (fs : List Frame) (l : OpenLoop) (n : ℕ) (r : Run) (o : ℕ) → l.level ≡ length fs → n ≤ length g.objects → least_taken g r.world l.place n ≡ Some o → turning_at g X fs l n r ≡ along g X fs (rest g X (length fs) l.table l.entry (suc l.at) true (taken g l o r))
-turning_some g X fs l n r o own low h =
-    ap (along g X fs) (turns_some g (length fs) l _ n r o low h
-    ∙ taken_again g X (deeper g X (length fs)) (length fs) l o _ own (plain_keeps g X (deeper g X (length fs)) (length fs) (deeper_keeps g X (length fs)) l.table l.entry (suc l.at) true (taken g l o r)))
+pub turning_some : (g : Story) (fs : List Frame) (l : OpenLoop) (n : ℕ) (r : Run) (o : ℕ) → l.level ≡ length fs → n ≤ length g.game.objects → least_taken g.game r.world l.place n ≡ Some o → turning_at g fs l n r ≡ along g fs (rest g (length fs) l.table l.entry (suc l.at) true (taken g.game l o r))
+turning_some g fs l n r o own low h =
+    ap (along g fs) (turns_some g (length fs) l _ n r o low h
+    ∙ taken_again g (deeper g (length fs)) (length fs) l o _ own (plain_keeps g (deeper g (length fs)) (length fs) (deeper_keeps g (length fs)) l.table l.entry (suc l.at) true (taken g.game l o r)))
 
 -- ---- a table is left ----
 
 -- at a level with no loop of its own
-pub settled_left : (g : GameLists) (X : List (List ℕ)) (fs : List Frame) (a : Bool) (r : Run) → at_level (length fs) r.turning ≡ None → settled g X fs (Left a r) ≡ along g X fs (Left a r)
-settled_left g X fs a r h = rw h refl
+pub settled_left : (g : Story) (fs : List Frame) (a : Bool) (r : Run) → at_level (length fs) r.turning ≡ None → settled g fs (Left a r) ≡ along g fs (Left a r)
+settled_left g fs a r h = rw h refl
 
 -- at the level of the open loop
-pub settled_looped : (g : GameLists) (X : List (List ℕ)) (fs : List Frame) (a : Bool) (r : Run) (l : OpenLoop) → r.turning ≡ Some l → l.level ≡ length fs → settled g X fs (Left a r) ≡ turning_at g X fs l (length g.objects - suc l.last) r
-settled_looped g X fs a r l h own =
+pub settled_looped : (g : Story) (fs : List Frame) (a : Bool) (r : Run) (l : OpenLoop) → r.turning ≡ Some l → l.level ≡ length fs → settled g fs (Left a r) ≡ turning_at g fs l (length g.game.objects - suc l.last) r
+settled_looped g fs a r l h own =
     let q : at_level (length fs) r.turning ≡ Some l = rw h (at_level_own (length fs) l own) in rw q refl
 
 -- ---- actions ----
 
-pub acted_go : (g : GameLists) (X : List (List ℕ)) (fs : List Frame) (f : Frame) (r : Run) → acted_at g X fs f effect.Go r ≡ along g X fs (rest g X (length fs) f.table f.entry (f.at + 1) true r)
-acted_go g X fs f r = rw add-one refl
+pub acted_go : (g : Story) (fs : List Frame) (f : Frame) (r : Run) → acted_at g fs f effect.Go r ≡ along g fs (rest g (length fs) f.table f.entry (f.at + 1) true r)
+acted_go g fs f r = rw add-one refl
 
-pub acted_call : (g : GameLists) (X : List (List ℕ)) (fs : List Frame) (f : Frame) (u : ℕ) (r : Run) → acted_at g X fs f (effect.Call u) r ≡ along g X (f ∷ fs) (deeper g X (length fs) u r)
-acted_call g X fs f u r = ap (along g X fs) (after_call_again g X (deeper g X (length fs)) (length fs) f (past_of g X fs f) (deeper g X (length fs) u r))
+pub acted_call : (g : Story) (fs : List Frame) (f : Frame) (u : ℕ) (r : Run) → acted_at g fs f (effect.Call u) r ≡ along g (f ∷ fs) (deeper g (length fs) u r)
+acted_call g fs f u r = ap (along g fs) (after_call_again g (deeper g (length fs)) (length fs) f (past_of g fs f) (deeper g (length fs) u r))
 
-pub acted_loop : (g : GameLists) (X : List (List ℕ)) (fs : List Frame) (f : Frame) (p : ℕ) (r : Run) → acted_at g X fs f (effect.Loop p) r ≡ turning_at g X fs (loop_of (length fs) f p) (length g.objects) r
-acted_loop g X fs f p r =
-    let sub : ℕ → Run → Out = deeper g X (length fs) in
-    ap (along g X fs) (again_closed g X sub (length fs) (looped g X sub (length fs)) _
-    (turns_closes g (length fs) (loop_of (length fs) f p) (past_of g X fs f true) refl
-    (plain_keeps g X sub (length fs) (deeper_keeps g X (length fs)) f.table f.entry (suc f.at) true) (length g.objects) r))
+pub acted_loop : (g : Story) (fs : List Frame) (f : Frame) (p : ℕ) (r : Run) → acted_at g fs f (effect.Loop p) r ≡ turning_at g fs (loop_of (length fs) f p) (length g.game.objects) r
+acted_loop g fs f p r =
+    let sub : ℕ → Run → Out = deeper g (length fs) in
+    ap (along g fs) (again_closed g sub (length fs) (looped g sub (length fs)) _
+    (turns_closes g (length fs) (loop_of (length fs) f p) (past_of g fs f true) refl
+    (plain_keeps g sub (length fs) (deeper_keeps g (length fs)) f.table f.entry (suc f.at) true) (length g.game.objects) r))
 
-pub acted_redescribes : (g : GameLists) (X : List (List ℕ)) (fs : List Frame) (f : Frame) (r : Run) → acted_at g X fs f effect.Redescribe r ≡ Redescribes (without_loop r)
-acted_redescribes g X fs f r = along_redescribes g X fs (without_loop r)
+pub acted_redescribes : (g : Story) (fs : List Frame) (f : Frame) (r : Run) → acted_at g fs f effect.Redescribe r ≡ Redescribes (without_loop r)
+acted_redescribes g fs f r = along_redescribes g fs (without_loop r)
 
-pub acted_spent : (g : GameLists) (X : List (List ℕ)) (fs : List Frame) (f : Frame) (r : Run) → acted_at g X fs f effect.Spent r ≡ IsSpent spent.Text r
-acted_spent g X fs f r = along_spent g X fs spent.Text r
+pub acted_spent : (g : Story) (fs : List Frame) (f : Frame) (r : Run) → acted_at g fs f effect.Spent r ≡ IsSpent spent.Text r
+acted_spent g fs f r = along_spent g fs spent.Text r
 
 -- the piece is closed, and the run goes on at the prompt along the frames
-pub settled_waits : (g : GameLists) (X : List (List ℕ)) (fs : List Frame) (f : Frame) (p : Prompt) (r : Run) → settled g X fs (waits g p f (past_of g X fs f) r) ≡ on_path g X p 0 (reverse (f ∷ fs)) (closed r)
-settled_waits g X fs f p r = sym (on_path_reverse g X p f fs (closed r))
+pub settled_waits : (g : Story) (fs : List Frame) (f : Frame) (p : Prompt) (r : Run) → settled g fs (waits g p f (past_of g fs f) r) ≡ on_path g p 0 (reverse (f ∷ fs)) (closed r)
+settled_waits g fs f p r = sym (on_path_reverse g p f fs (closed r))
 
 -- ---- places ----
 
 -- in an entry
-pub going_inside : (g : GameLists) (X : List (List ℕ)) (fs : List Frame) (f : Frame) (r : Run) → 0 < f.at → going_on g X (f ∷ fs) r ≡ reading_at g X fs f r
-going_inside g X fs f r h =
-    ap (settled g X fs) (plain_inside g X (deeper g X (length fs)) (length fs) f.table f.entry f.at f.acted r h)
+pub going_inside : (g : Story) (fs : List Frame) (f : Frame) (r : Run) → 0 < f.at → going_on g (f ∷ fs) r ≡ reading_at g fs f r
+going_inside g fs f r h =
+    ap (settled g fs) (plain_inside g (deeper g (length fs)) (length fs) f.table f.entry f.at f.acted r h)
 
 -- before an entry
-going_before : (g : GameLists) (X : List (List ℕ)) (fs : List Frame) (f : Frame) (r : Run) → f.at ≡ 0 → going_on g X (f ∷ fs) r ≡ settled g X fs (plain g X (deeper g X (length fs)) (length fs) f.table f.entry 0 f.acted r)
-going_before g X fs f r h = rw h refl
+going_before : (g : Story) (fs : List Frame) (f : Frame) (r : Run) → f.at ≡ 0 → going_on g (f ∷ fs) r ≡ settled g fs (plain g (deeper g (length fs)) (length fs) f.table f.entry 0 f.acted r)
+going_before g fs f r h = rw h refl
 
-pub going_left : (g : GameLists) (X : List (List ℕ)) (fs : List Frame) (f : Frame) (r : Run) → f.at ≡ 0 → match_at g f.table f.entry (flag r.world 33) (flag r.world 34) ≡ None → going_on g X (f ∷ fs) r ≡ settled g X fs (Left f.acted r)
-going_left g X fs f r zero_at h =
-    going_before g X fs f r zero_at
-    ∙ ap (settled g X fs) (plain_left g X (deeper g X (length fs)) (length fs) f.table f.entry f.acted r h)
+pub going_left : (g : Story) (fs : List Frame) (f : Frame) (r : Run) → f.at ≡ 0 → match_at g.game f.table f.entry (flag r.world 33) (flag r.world 34) ≡ None → going_on g (f ∷ fs) r ≡ settled g fs (Left f.acted r)
+going_left g fs f r zero_at h =
+    going_before g fs f r zero_at
+    ∙ ap (settled g fs) (plain_left g (deeper g (length fs)) (length fs) f.table f.entry f.acted r h)
 
-pub going_match : (g : GameLists) (X : List (List ℕ)) (fs : List Frame) (f : Frame) (r : Run) (found : ℕ) → f.at ≡ 0 → match_at g f.table f.entry (flag r.world 33) (flag r.world 34) ≡ Some found → going_on g X (f ∷ fs) r ≡ reading_at g X fs (record { table = f.table; entry = found; at = 0; acted = f.acted }) r
-going_match g X fs f r found zero_at h =
-    going_before g X fs f r zero_at
-    ∙ ap (settled g X fs) (plain_match g X (deeper g X (length fs)) (length fs) f.table f.entry found f.acted r h)
+pub going_match : (g : Story) (fs : List Frame) (f : Frame) (r : Run) (found : ℕ) → f.at ≡ 0 → match_at g.game f.table f.entry (flag r.world 33) (flag r.world 34) ≡ Some found → going_on g (f ∷ fs) r ≡ reading_at g fs (record { table = f.table; entry = found; at = 0; acted = f.acted }) r
+going_match g fs f r found zero_at h =
+    going_before g fs f r zero_at
+    ∙ ap (settled g fs) (plain_match g (deeper g (length fs)) (length fs) f.table f.entry found f.acted r h)
 
 -- past the last condact of an entry
-pub reading_end : (g : GameLists) (X : List (List ℕ)) (fs : List Frame) (f : Frame) (r : Run) → condact_at g f.table f.entry f.at ≡ None → reading_at g X fs f r ≡ along g X fs (rest g X (length fs) f.table (f.entry + 1) 0 f.acted r)
-reading_end g X fs f r h =
-    ap (settled g X fs) (inside_end g X (deeper g X (length fs)) (length fs) f.table f.entry f.at f.acted r h) ∙ rw add-one refl
+pub reading_end : (g : Story) (fs : List Frame) (f : Frame) (r : Run) → condact_at g.game f.table f.entry f.at ≡ None → reading_at g fs f r ≡ along g fs (rest g (length fs) f.table (f.entry + 1) 0 f.acted r)
+reading_end g fs f r h =
+    ap (settled g fs) (inside_end g (deeper g (length fs)) (length fs) f.table f.entry f.at f.acted r h) ∙ rw add-one refl
 
 -- at a condact
-pub reading_condact : (g : GameLists) (X : List (List ℕ)) (fs : List Frame) (f : Frame) (r : Run) (c : Condact) → condact_at g f.table f.entry f.at ≡ Some c → length r.read < 200000 → reading_at g X fs f r ≡ settled g X fs (reads_one g X (deeper g X (length fs)) (length fs) f (next_of g X fs f) (past_of g X fs f) c r)
-reading_condact g X fs f r c h low =
-    ap (settled g X fs) (inside_condact g X (deeper g X (length fs)) (length fs) f.table f.entry f.at f.acted r c h ∙ within_budget r _ low)
+pub reading_condact : (g : Story) (fs : List Frame) (f : Frame) (r : Run) (c : Condact) → condact_at g.game f.table f.entry f.at ≡ Some c → length r.read < 200000 → reading_at g fs f r ≡ settled g fs (reads_one g (deeper g (length fs)) (length fs) f (next_of g fs f) (past_of g fs f) c r)
+reading_condact g fs f r c h low =
+    ap (settled g fs) (inside_condact g (deeper g (length fs)) (length fs) f.table f.entry f.at f.acted r c h ∙ within_budget r _ low)
 
 -- the budget is used up
-pub reading_none : (g : GameLists) (X : List (List ℕ)) (fs : List Frame) (f : Frame) (r : Run) (c : Condact) → condact_at g f.table f.entry f.at ≡ Some c → 200000 ≤ length r.read → reading_at g X fs f r ≡ IsSpent spent.Condacts r
-reading_none g X fs f r c h low =
-    ap (settled g X fs) (inside_condact g X (deeper g X (length fs)) (length fs) f.table f.entry f.at f.acted r c h ∙ within_none r _ low)
-    ∙ along_spent g X fs spent.Condacts r
+pub reading_none : (g : Story) (fs : List Frame) (f : Frame) (r : Run) (c : Condact) → condact_at g.game f.table f.entry f.at ≡ Some c → 200000 ≤ length r.read → reading_at g fs f r ≡ IsSpent spent.Condacts r
+reading_none g fs f r c h low =
+    ap (settled g fs) (inside_condact g (deeper g (length fs)) (length fs) f.table f.entry f.at f.acted r c h ∙ within_none r _ low)
+    ∙ along_spent g fs spent.Condacts r

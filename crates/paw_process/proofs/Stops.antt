@@ -5,7 +5,7 @@ use Rattle.std.proofs.lemmas.Bool.Decides.{nat_tests}
 use Rattle.paw_base.specs.declared.fault.SpentKind.{SpentKind}
 use Rattle.paw_base.specs.declared.fault.SpentKind.TheVariants as spent
 use Rattle.paw_base.specs.Piece.{Puts}
-use Rattle.paw_game.specs.Game.{GameLists}
+use Rattle.paw_effects.specs.Story.{Story}
 use Rattle.paw_effects.specs.declared.act.Prompt.{Prompt}
 use Rattle.paw_reading.specs.declared.places.Frame.{Frame}
 use Rattle.paw_reading.specs.Run.{Run, closed, printed}
@@ -25,24 +25,24 @@ length_below [] h = absurd (omega arith)
 length_below (f ∷ fs) h = refl
 
 -- the piece is spent in a run with the same past
-pub stops_spent : (g : GameLists) (X : List (List ℕ)) (x : Out) (t : Option Turned) (kind : SpentKind) (fs : List Frame) (r s : Run) → t ≡ Some (turned.Spent kind) → x ≡ IsSpent kind s → SamePast r s → Continues g X x t fs r
-stops_spent g X x t kind fs r s e h past = rw e (s, h, past)
+pub stops_spent : (g : Story) (x : Out) (t : Option Turned) (kind : SpentKind) (fs : List Frame) (r s : Run) → t ≡ Some (turned.Spent kind) → x ≡ IsSpent kind s → SamePast r s → Continues g x t fs r
+stops_spent g x t kind fs r s e h past = rw e (s, h, past)
 
 -- a call is too deep in a run with the same past
-pub stops_deep : (g : GameLists) (X : List (List ℕ)) (x : Out) (t : Option Turned) (u : ℕ) (fs : List Frame) (r s : Run) → t ≡ Some (turned.TooDeep u) → x ≡ IsDeep u s → SamePast r s → Continues g X x t fs r
-stops_deep g X x t u fs r s e h past = rw e (s, h, past)
+pub stops_deep : (g : Story) (x : Out) (t : Option Turned) (u : ℕ) (fs : List Frame) (r s : Run) → t ≡ Some (turned.TooDeep u) → x ≡ IsDeep u s → SamePast r s → Continues g x t fs r
+stops_deep g x t u fs r s e h past = rw e (s, h, past)
 
 -- ---- calls ----
 
-pub call_deep : (g : GameLists) (X : List (List ℕ)) (fs : List Frame) (u : ℕ) (r : Run) → 11 ≤ length fs → along g X fs (deeper g X (length (below fs)) u r) ≡ IsDeep u r
-call_deep g X fs u r h =
+pub call_deep : (g : Story) (fs : List Frame) (u : ℕ) (r : Run) → 11 ≤ length fs → along g fs (deeper g (length (below fs)) u r) ≡ IsDeep u r
+call_deep g fs u r h =
     let low : 10 ≤ length (below fs) = omega (arith, length_below fs (omega arith)) in
-    ap (along g X fs) (deeper_none g X (length (below fs)) u r low) ∙ along_deep g X fs u r
+    ap (along g fs) (deeper_none g (length (below fs)) u r low) ∙ along_deep g fs u r
 
-pub call_goes : (g : GameLists) (X : List (List ℕ)) (fs : List Frame) (u : ℕ) (r : Run) → 0 < length fs → length fs < 11 → along g X fs (deeper g X (length (below fs)) u r) ≡ going_on g X (record { table = u; entry = 0; at = 0; acted = false } ∷ fs) r
-call_goes g X fs u r some low =
+pub call_goes : (g : Story) (fs : List Frame) (u : ℕ) (r : Run) → 0 < length fs → length fs < 11 → along g fs (deeper g (length (below fs)) u r) ≡ going_on g (record { table = u; entry = 0; at = 0; acted = false } ∷ fs) r
+call_goes g fs u r some low =
     let deep : length (below fs) < 10 = omega (arith, length_below fs some) in
-    ap (along g X fs) (deeper_rest g X (length (below fs)) u r deep) ∙ rw (length_below fs some) refl
+    ap (along g fs) (deeper_rest g (length (below fs)) u r deep) ∙ rw (length_below fs some) refl
 
 -- ---- prompts ----
 
@@ -55,14 +55,14 @@ fit r text go h =
     let t : nat_le (length r.current + length text) 65535 ≡ true = grind (arith, nat_tests) in rw t refl
 
 -- the question doesn't fit
-pub ask_spent : (g : GameLists) (X : List (List ℕ)) (fs : List Frame) (text : List ℕ) (go : Run → Out) (r : Run) → 65535 < length r.current + length text → settled g X fs (printing text go r) ≡ IsSpent spent.Text r
-ask_spent g X fs text go r h = ap (settled g X fs) (no_fit r text go h) ∙ along_spent g X fs spent.Text r
+pub ask_spent : (g : Story) (fs : List Frame) (text : List ℕ) (go : Run → Out) (r : Run) → 65535 < length r.current + length text → settled g fs (printing text go r) ≡ IsSpent spent.Text r
+ask_spent g fs text go r h = ap (settled g fs) (no_fit r text go h) ∙ along_spent g fs spent.Text r
 
 -- the question is put, and the run goes on at the prompt along the frames
-pub ask_waits : (g : GameLists) (X : List (List ℕ)) (fs old : List Frame) (f : Frame) (p : Prompt) (text piece : List ℕ) (r : Run) → old ≡ f ∷ fs → length r.current + length text ≤ 65535 → piece ≡ r.current ++ text → settled g X fs (printing text (waits g p f (past_of g X fs f)) r) ≡ on_path g X p 0 (reverse old) (closed (record r { current = piece }))
-ask_waits g X fs old f p text piece r top h is =
-    ap (settled g X fs) (fit r text (waits g p f (past_of g X fs f)) h)
-    ∙ (settled_waits g X fs f p (printed text r) ∙ rw (top, is) refl)
+pub ask_waits : (g : Story) (fs old : List Frame) (f : Frame) (p : Prompt) (text piece : List ℕ) (r : Run) → old ≡ f ∷ fs → length r.current + length text ≤ 65535 → piece ≡ r.current ++ text → settled g fs (printing text (waits g p f (past_of g fs f)) r) ≡ on_path g p 0 (reverse old) (closed (record r { current = piece }))
+ask_waits g fs old f p text piece r top h is =
+    ap (settled g fs) (fit r text (waits g p f (past_of g fs f)) h)
+    ∙ (settled_waits g fs f p (printed text r) ∙ rw (top, is) refl)
 
 -- what stands where text was put or not
 pub put_no : (old new text : List ℕ) (ok : Bool) → Puts old new ok text → ok ≡ false → 65535 < length old + length text
@@ -72,13 +72,13 @@ pub put_yes : (old new text : List ℕ) (ok : Bool) → Puts old new ok text →
 put_yes old new text ok h e = rw e at h
 
 -- what goes on to the same goes on
-pub goes_from : (g : GameLists) (X : List (List ℕ)) (x y : Out) (t : Option Turned) (fs : List Frame) (r : Run) → x ≡ y → Continues g X y t fs r → Continues g X x t fs r
-goes_from g X x y None fs r e h = e ∙ h
-goes_from g X x y (Some (turned.Left a)) fs r e h = e ∙ h
-goes_from g X x y (Some turned.Redescribe) fs r e h = e ∙ h
-goes_from g X x y (Some (turned.Waits p)) fs r e h = e ∙ h
-goes_from g X x y (Some (turned.Spent kind)) fs r e (s, h, past) = (s, e ∙ h, past)
-goes_from g X x y (Some (turned.TooDeep u)) fs r e (s, h, past) = (s, e ∙ h, past)
+pub goes_from : (g : Story) (x y : Out) (t : Option Turned) (fs : List Frame) (r : Run) → x ≡ y → Continues g y t fs r → Continues g x t fs r
+goes_from g x y None fs r e h = e ∙ h
+goes_from g x y (Some (turned.Left a)) fs r e h = e ∙ h
+goes_from g x y (Some turned.Redescribe) fs r e h = e ∙ h
+goes_from g x y (Some (turned.Waits p)) fs r e h = e ∙ h
+goes_from g x y (Some (turned.Spent kind)) fs r e (s, h, past) = (s, e ∙ h, past)
+goes_from g x y (Some (turned.TooDeep u)) fs r e (s, h, past) = (s, e ∙ h, past)
 
-pub ask_stops : (g : GameLists) (X : List (List ℕ)) (fs : List Frame) (text : List ℕ) (go : Run → Out) (r : Run) (t : Option Turned) (fs' : List Frame) (s : Run) → t ≡ Some (turned.Spent spent.Text) → 65535 < length r.current + length text → SamePast s r → Continues g X (settled g X fs (printing text go r)) t fs' s
-ask_stops g X fs text go r t fs' s e h past = stops_spent g X (settled g X fs (printing text go r)) t spent.Text fs' s r e (ask_spent g X fs text go r h) past
+pub ask_stops : (g : Story) (fs : List Frame) (text : List ℕ) (go : Run → Out) (r : Run) (t : Option Turned) (fs' : List Frame) (s : Run) → t ≡ Some (turned.Spent spent.Text) → 65535 < length r.current + length text → SamePast s r → Continues g (settled g fs (printing text go r)) t fs' s
+ask_stops g fs text go r t fs' s e h past = stops_spent g (settled g fs (printing text go r)) t spent.Text fs' s r e (ask_spent g fs text go r h) past

@@ -1,6 +1,7 @@
 -- What is kept of a machine that waits, and the rules that it keeps.
 use Rattle.std.specs.Prelude.{ℕ, suc, ◌-◌, ◌==◌, ◌&&◌, Bool, false, not, List, [], ◌∷◌, ◌++◌, Option, Some, None, length, reverse, replicate, take, slice_get, nat_lt, nat_le, if◌then◌else◌}
 use Rattle.paw_base.specs.declared.parts.Condact.{Condact}
+use Rattle.paw_base.specs.Steps.{no_steps}
 use Rattle.paw_game.specs.Game.{GameLists}
 use Rattle.paw_game.specs.Tables.{condact_at}
 use Rattle.paw_game.specs.Valid.{is_place}
@@ -24,13 +25,14 @@ kept m = record {
   turning = m.turning;
 }
 
--- the machine of what is kept, which waits at this prompt, with a full budget
+-- the machine of what is kept, which waits at this prompt, with a full budget and no steps
 abbrev pub restored : Frames → Option Prompt → OpenTables
 restored k waiting = record {
   frames = reverse (take k.count k.rows);
   turning = k.turning;
   waiting = waiting;
   left = 200000;
+  steps = no_steps;
 }
 
 -- ---- the rules ----

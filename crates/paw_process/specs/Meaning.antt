@@ -1,6 +1,6 @@
 -- What a machine's answers mean in the reading.
 use Rattle.std.specs.Prelude.{◌≡◌, ◌⊎◌, ℕ, ◌+◌, Bool, false, List, [], ◌∷◌, ◌++◌, length, reverse}
-use Rattle.paw_game.specs.Game.{GameLists}
+use Rattle.paw_effects.specs.Story.{Story}
 use Rattle.paw_game.specs.Valid.{Valid}
 use Rattle.paw_world.specs.World.{World}
 use Rattle.paw_phrase.specs.Pending.{PendingLine}
@@ -9,7 +9,7 @@ use Rattle.paw_reading.specs.declared.places.Frame.{Frame}
 use Rattle.paw_reading.specs.Run.{Run, Step, closed, is_ignored, heard, reply, is_yes}
 use Rattle.paw_reading.specs.Reading.{Out, Left, Redescribes, IsSpent, IsDeep, rest}
 use Rattle.paw_reading.specs.GoingOn.{on_path, along}
-use Rattle.paw_process.specs.OpenTables.{OpenTables, IsWaiting, IsClosed}
+use Rattle.paw_process.specs.OpenTables.{OpenTables, HasRead, IsWaiting, IsClosed}
 use Rattle.paw_process.specs.declared.Turned.{Turned}
 use Rattle.paw_process.specs.declared.Turned.TheVariants as turned
 
@@ -25,14 +25,14 @@ pub record Held : Type 0 where
 abbrev pub held : World → PendingLine → OpenTables → List ℕ → Held
 held w p m piece = record { world = w; pending = p; machine = m; piece = piece }
 
--- a run shows what is held, where the open piece may read 200,000 condacts
+-- a run shows what is held, with the condacts that the open piece has read
 pub record Shows (r : Run) (h : Held) : Type 0 where
   pub world : r.world ≡ h.world
   pub pending : r.pending ≡ h.pending.bytes
   pub earlier : r.earlier ≡ h.pending.earlier
   pub turning : r.turning ≡ h.machine.turning
   pub current : r.current ≡ h.piece
-  pub read : length r.read + h.machine.left ≡ 200000
+  pub read : HasRead r.read h.machine
 
 -- the run with what is held now
 abbrev pub showing : Held → Run → Run
@@ -55,9 +55,9 @@ to_come lines r = record r { events = lines }
 -- ---- going on ----
 
 -- going on in the tables that are open, the innermost first
-abbrev pub going_on : GameLists → List (List ℕ) → List Frame → Run → Out
-going_on g X [] r = Left false r
-going_on g X (f ∷ fs) r = along g X fs (rest g X (length fs) f.table f.entry f.at f.acted r)
+abbrev pub going_on : Story → List Frame → Run → Out
+going_on g [] r = Left false r
+going_on g (f ∷ fs) r = along g fs (rest g (length fs) f.table f.entry f.at f.acted r)
 
 -- the closed pieces, what was read in them, and the lines to come are the same
 pub record SamePast (old new : Run) : Type 0 where
@@ -68,20 +68,20 @@ pub record SamePast (old new : Run) : Type 0 where
 -- What a reading comes to, where the machine turned out so, with these frames and this run: the outermost table was left;
 -- the location is described again; the piece is closed, and the run goes on at the prompt along the frames; or the piece
 -- is spent or a call too deep, and what world and piece then hold is open
-abbrev pub ComesTo : GameLists → List (List ℕ) → Turned → List Frame → Run → Out → Type 0
-ComesTo g X (turned.Left acted) fs r x = x ≡ Left acted r
-ComesTo g X turned.Redescribe fs r x = x ≡ Redescribes r
-ComesTo g X (turned.Waits p) fs r x = x ≡ on_path g X p 0 (reverse fs) (closed r)
-ComesTo g X (turned.Spent kind) fs r x = (s : Run) × (x ≡ IsSpent kind s) × SamePast r s
-ComesTo g X (turned.TooDeep u) fs r x = (s : Run) × (x ≡ IsDeep u s) × SamePast r s
+abbrev pub ComesTo : Story → Turned → List Frame → Run → Out → Type 0
+ComesTo g (turned.Left acted) fs r x = x ≡ Left acted r
+ComesTo g turned.Redescribe fs r x = x ≡ Redescribes r
+ComesTo g (turned.Waits p) fs r x = x ≡ on_path g p 0 (reverse fs) (closed r)
+ComesTo g (turned.Spent kind) fs r x = (s : Run) × (x ≡ IsSpent kind s) × SamePast r s
+ComesTo g (turned.TooDeep u) fs r x = (s : Run) × (x ≡ IsDeep u s) × SamePast r s
 
 -- Running on from what was held to what is held now: for every run that shows what was held there are the condacts that
--- were read, so that whatever lines come, going on comes to what is said
-abbrev pub RunsTo : GameLists → List (List ℕ) → Held → Turned → Held → Type 0
-RunsTo g X old t new =
-    (r : Run) → Shows r old → (steps : List Step) × (length steps + new.machine.left ≡ old.machine.left)
+-- were read besides, of which the machine keeps the steps, so that whatever lines come, going on comes to what is said
+abbrev pub RunsTo : Story → Held → Turned → Held → Type 0
+RunsTo g old t new =
+    (r : Run) → Shows r old → (steps : List Step) × HasRead (r.read ++ steps) new.machine
     × ((lines : List (List ℕ)) →
-    ComesTo g X t new.machine.frames (to_come lines (showing new (with_steps steps r))) (going_on g X old.machine.frames (to_come lines r)))
+    ComesTo g t new.machine.frames (to_come lines (showing new (with_steps steps r))) (going_on g old.machine.frames (to_come lines r)))
 
 -- after a stop the machine waits, or nothing is open
 abbrev pub IsStopped : Turned → OpenTables → Type 0
@@ -101,13 +101,13 @@ AwaitsAnswer m = IsWaiting prompt.Quit m ⊎ IsWaiting prompt.Key m
 -- new frames once the line is heard
 abbrev pub AnswersQuit : Bool → List Frame → List Frame → Type 0
 AnswersQuit agrees old new =
-    (g : GameLists) (X : List (List ℕ)) (line : List ℕ) (lines : List (List ℕ)) (r : Run) →
-    Valid g → is_ignored r.world line ≡ false → is_yes (reply line) ≡ agrees →
-    on_path g X prompt.Quit 0 (reverse old) (to_come (line ∷ lines) r) ≡ going_on g X new (heard line (to_come lines r))
+    (g : Story) (line : List ℕ) (lines : List (List ℕ)) (r : Run) →
+    Valid g.game → is_ignored r.world line ≡ false → is_yes (reply line) ≡ agrees →
+    on_path g prompt.Quit 0 (reverse old) (to_come (line ∷ lines) r) ≡ going_on g new (heard line (to_come lines r))
 
 -- so is going on from a key with any line
 abbrev pub AnswersKey : List Frame → List Frame → Type 0
 AnswersKey old new =
-    (g : GameLists) (X : List (List ℕ)) (line : List ℕ) (lines : List (List ℕ)) (r : Run) →
+    (g : Story) (line : List ℕ) (lines : List (List ℕ)) (r : Run) →
     is_ignored r.world line ≡ false →
-    on_path g X prompt.Key 0 (reverse old) (to_come (line ∷ lines) r) ≡ going_on g X new (heard line (to_come lines r))
+    on_path g prompt.Key 0 (reverse old) (to_come (line ∷ lines) r) ≡ going_on g new (heard line (to_come lines r))

@@ -1,16 +1,34 @@
 -- The tables that are open.
-use Rattle.std.specs.Prelude.{◌≡◌, ℕ, ◌<◌, ◌≤◌, List, [], ◌∷◌, Option, Some, None, length, IfSome}
+use Rattle.std.specs.Prelude.{◌≡◌, ℕ, ◌+◌, ◌<◌, ◌≤◌, List, [], ◌∷◌, Option, Some, None, length, IfSome}
+use Rattle.paw_base.specs.Steps.{KeptSteps, kept_steps, noted}
 use Rattle.paw_effects.specs.declared.act.Prompt.{Prompt}
 use Rattle.paw_reading.specs.declared.places.Frame.{Frame}
 use Rattle.paw_reading.specs.declared.places.OpenLoop.{OpenLoop}
+use Rattle.paw_reading.specs.Run.{Step}
 
 -- what a machine holds: the places in the tables that are open, the innermost first; the open loop; the prompt at which
--- it waits; and how many condacts the open piece may still read
+-- it waits; how many condacts the open piece may still read; and what is kept of the steps of the piece
 pub record OpenTables : Type 0 where
   pub frames : List Frame
   pub turning : Option OpenLoop
   pub waiting : Option Prompt
   pub left : ℕ
+  pub steps : KeptSteps
+
+-- the open piece has read these condacts, and may read 200,000 in all
+pub record HasRead (read : List Step) (m : OpenTables) : Type 0 where
+  pub left : length read + m.left ≡ 200000
+  pub steps : m.steps ≡ kept_steps read
+
+-- no condact was read
+pub record ReadsNone (old new : OpenTables) : Type 0 where
+  pub left : new.left ≡ old.left
+  pub steps : new.steps ≡ old.steps
+
+-- one was read, with this step
+pub record ReadsStep (step : Step) (old new : OpenTables) : Type 0 where
+  pub left : old.left ≡ new.left + 1
+  pub steps : new.steps ≡ noted step old.steps
 
 -- the frames below the innermost
 abbrev pub below : List Frame → List Frame

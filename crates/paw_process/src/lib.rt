@@ -12,7 +12,7 @@ mod step;
 pub use kept::{
     FrameFault, Frames, count_fits, has_code, is_place, may_open, parameter_of, waiting_code,
 };
-pub use machine::{BUDGET, MOST_FRAMES, Machine};
+pub use machine::{MOST_FRAMES, Machine};
 use paw_base::fault::SpentKind;
 use paw_effects::act::Prompt;
 pub use phrase::take_phrase;

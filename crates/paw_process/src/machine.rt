@@ -1,38 +1,44 @@
 // The machine: which tables are open, and what it may still read.
 
-ghost use Rattle.std.specs.Prelude.{◌≡◌, ℕ, ◌+◌, ◌<◌, ◌≤◌, ◌^◌, List, [], ◌∷◌, length, reverse, true, false, Some, None, IfOk, IfErr};
+ghost use Rattle.std.specs.Prelude.{◌≡◌, ℕ, ◌+◌, ◌<◌, ◌≤◌, ◌^◌, List, [], ◌∷◌, length, reverse, nat_lt, true, false, Some, None, IfOk, IfErr};
 ghost use Rattle.paw_game.specs.Game.{GameLists};
 ghost use Rattle.paw_game.specs.Valid.{Valid};
-ghost use Rattle.paw_effects.specs.Built.{AllBuilt, IsOf};
+ghost use Rattle.paw_base.specs.Steps.{no_steps};
+ghost use Rattle.paw_routines.specs.Routines.{AreRowsOf, HaveRows};
+ghost use Rattle.paw_effects.specs.Built.{IsOf};
+ghost use Rattle.paw_effects.specs.Story.{story_of};
 ghost use Rattle.paw_effects.specs.declared.act.Prompt.{Prompt as AtPrompt};
 ghost use Rattle.paw_effects.specs.declared.act.Prompt.TheVariants as prompt;
 ghost use Rattle.paw_reading.specs.Run.{Run, is_ignored, heard, reply, is_yes};
+ghost use Rattle.paw_reading.specs.Reading.{step_at};
 ghost use Rattle.paw_reading.specs.GoingOn.{on_path};
 ghost use Rattle.paw_reading.specs.Turn.{first_table};
 ghost use Rattle.paw_reading.specs.Places.{ArePlaces};
-ghost use Rattle.paw_process.specs.OpenTables.{OpenTables, below, IsReading, IsWaiting, IsClosed};
+ghost use Rattle.paw_process.specs.OpenTables.{OpenTables, below, ReadsStep, IsReading, IsWaiting, IsClosed};
 ghost use Rattle.paw_process.specs.Kept.{kept as kept_of, restored, waiting_at, frames_fault, StandsAt};
 ghost use Rattle.paw_process.specs.Meaning.{held, going_on, RunsTo, IsStopped, AwaitsAnswer, AnswersQuit, AnswersKey};
 
 use crate::Turned;
 use crate::frame::{answered, start_of};
 use crate::kept::{FrameFault, Frames, frames_fault, waiting_at};
+use paw_base::limits::READ_LIMIT;
+use paw_base::parts::Condact;
 use paw_base::piece::Piece;
+use paw_base::steps::{StepRow, Steps};
 use paw_effects::act::Prompt;
 use paw_game::tables::Tables;
 use paw_phrase::Pending;
 use paw_reading::places::{Frame, OpenLoop};
+use paw_routines::routines::Routines;
 use paw_world::world::World;
 use std::marker::Model;
 
 /// Tables that may be open at once: one, and ten levels of calls.
 pub const MOST_FRAMES: usize = 11;
 
-/// Condacts that a piece may read.
-pub const BUDGET: u32 = 200_000;
-
 /// Reads a game's tables in written order, up to the next stop. It holds the places in the tables that are open, the
-/// open loop, and how many condacts the open piece may still read; contracts see the places with the innermost first.
+/// open loop, how many condacts the open piece may still read, and the steps of that piece; contracts see the places with
+/// the innermost first.
 #[derive(Drop)]
 pub struct Machine {
     rows: [Frame; MOST_FRAMES],
@@ -40,31 +46,34 @@ pub struct Machine {
     turning: Option<OpenLoop>,
     waiting: Option<Prompt>,
     left: u32,
+    steps: Steps,
 }
 
 impl Model for Machine {
+    ghost use Rattle.paw_base.specs.declared.limits.TheConstants.{READ_LIMIT};
     ghost use Rattle.paw_process.specs.declared.machine.TheConstants.{MOST_FRAMES};
-    ghost use Rattle.std.specs.Prelude.{◌≡◌, ◌≤◌, length, take, reverse};
+    ghost use Rattle.std.specs.Prelude.{◌≡◌, ◌+◌, ◌≤◌, length, take, reverse};
     ghost use Rattle.paw_process.specs.OpenTables.{OpenTables};
 
     ghost Value = { OpenTables };
 
-    ghost view = { λ m. record { frames = reverse (take m.count m.rows); turning = m.turning; waiting = m.waiting; left = m.left } };
+    ghost view = { λ m. record { frames = reverse (take m.count m.rows); turning = m.turning; waiting = m.waiting; left = m.left; steps = m.steps } };
 
-    ghost invariant = { λ m. (m.count ≤ MOST_FRAMES) × (length m.rows ≡ MOST_FRAMES) };
+    ghost invariant = { λ m. (m.count ≤ MOST_FRAMES) × (length m.rows ≡ MOST_FRAMES) × (m.steps.count + m.left ≡ READ_LIMIT) };
 }
 
 impl Machine {
-    /// No table is open, and the budget is full.
+    /// No table is open, the budget is full, and there are no steps.
     pub fn new() -> Machine
-        ensures value { result ≡ record { frames = []; turning = None; waiting = None; left = BUDGET } }
+        ensures value { result ≡ record { frames = []; turning = None; waiting = None; left = READ_LIMIT; steps = no_steps } }
     {
         Machine {
             rows: [start_of(0); MOST_FRAMES],
             count: 0,
             turning: None,
             waiting: None,
-            left: BUDGET,
+            left: READ_LIMIT,
+            steps: Steps::new(),
         }
     }
 
@@ -77,16 +86,17 @@ impl Machine {
         self.push(start_of(table));
     }
 
-    /// The budget is full again, as it is for a new piece.
+    /// The budget is full again and there are no steps, as it is for a new piece.
     pub fn refill(&mut self)
-        ensures value { self.new ≡ record self.old { left = BUDGET } }
+        ensures value { self.new ≡ record self.old { left = READ_LIMIT; steps = no_steps } }
     {
-        self.left = BUDGET;
+        self.left = READ_LIMIT;
+        self.steps.clear();
     }
 
     /// Drops all tables that are open, and the open loop.
     pub fn close(&mut self)
-        ensures value { self.new ≡ record { frames = []; turning = None; waiting = None; left = self.old.left } }
+        ensures value { self.new ≡ record self.old { frames = []; turning = None; waiting = None } }
         ensures closed { IsClosed self.new }
     {
         self.count = 0;
@@ -102,7 +112,7 @@ impl Machine {
         ensures quit { self.old.waiting ≡ Some prompt.Quit → AnswersQuit yes self.old.frames self.new.frames }
         ensures key { self.old.waiting ≡ Some prompt.Key → AnswersKey self.old.frames self.new.frames }
         ensures reading { IsReading self.new }
-        ensures rest { (self.new.turning ≡ self.old.turning) × (self.new.left ≡ self.old.left) }
+        ensures rest { self.new ≡ record self.old { frames = self.new.frames; waiting = None } }
     {
         let f = self.top();
         self.set_top(answered(self.waiting(), f, yes));
@@ -112,24 +122,26 @@ impl Machine {
     /// Reads on to the next stop. Where it waits, the text of the open piece is complete, and the machine's frames tell
     /// where it waits; otherwise no table and no loop is open. A piece reads at most 200,000 condacts and holds at most
     /// 65,535 bytes: at more it is Spent, and what the world and the piece hold then is open, as where a call is too deep.
-    pub fn run<T: Tables>(
+    pub fn run<T: Tables, F: Fn(u8, u8) -> u8>(
         &mut self,
         tables: &T,
         world: &mut World,
         pending: &mut Pending,
+        routines: &Routines<F>,
         piece: &mut Piece,
     ) -> Turned
         requires reading { IsReading self.old }
+        requires rows { HaveRows F.Fn routines.now }
         requires game { IsOf (T.game tables.now) world.old }
-        requires built { AllBuilt (T.game tables.now) }
         requires draws { world.old.draws + self.old.left < 2 ^ 64 }
-        ensures meaning { RunsTo (T.game tables.now) [] (held world.old pending.old self.old piece.old) result (held world.new pending.new self.new piece.new) }
+        ensures meaning { (X : List (List ℕ)) → AreRowsOf F.Fn routines.now X →
+            RunsTo (story_of (T.game tables.now) X) (held world.old pending.old self.old piece.old) result (held world.new pending.new self.new piece.new) }
         ensures stopped { IsStopped result self.new }
         ensures game { IsOf (T.game tables.now) world.new }
         ensures draws { world.new.draws + self.new.left ≤ world.old.draws + self.old.left }
     {
         loop {
-            match self.step(tables, world, pending, piece) {
+            match self.step(tables, world, pending, routines, piece) {
                 Some(turned) => return turned,
                 None => {}
             }
@@ -137,10 +149,10 @@ impl Machine {
     }
 
     /// The places of the machine, to be kept where it waits. Restored at the prompt at which it stands, they are the same
-    /// machine with a full budget; and they are restored wherever they are places of a run.
+    /// machine with a full budget and no steps; and they are restored wherever they are places of a run.
     pub fn frames(&self) -> Frames
         ensures value { result ≡ kept_of self.now }
-        ensures again { (p : AtPrompt) → StandsAt p self.now → restored result (waiting_at p) ≡ record self.now { left = BUDGET } }
+        ensures again { (p : AtPrompt) → StandsAt p self.now → restored result (waiting_at p) ≡ record self.now { left = READ_LIMIT; steps = no_steps } }
         ensures sound { (g : GameLists) (p : AtPrompt) → StandsAt p self.now → ArePlaces g p (reverse self.now.frames) self.now.turning → frames_fault g p result ≡ None }
     {
         let mut rows = [start_of(0); MOST_FRAMES];
@@ -152,7 +164,7 @@ impl Machine {
         }
     }
 
-    /// A machine of kept places, which waits at this prompt, with a full budget. Its places are these again.
+    /// A machine of kept places, which waits at this prompt, with a full budget and no steps. Its places are these again.
     ///
     /// # Errors
     /// The least depth at which the places break a rule, exactly where they break one for this game: inside tables the
@@ -180,8 +192,17 @@ impl Machine {
             count: kept.count as usize,
             turning: kept.turning,
             waiting: waiting_at(prompt),
-            left: BUDGET,
+            left: READ_LIMIT,
+            steps: Steps::new(),
         })
+    }
+
+    /// The steps of the open piece, or of the piece that was closed last: the first 1,000 condacts that were read for it,
+    /// and how many there were.
+    pub fn steps(&self) -> &Steps
+        ensures value { result.now ≡ self.now.steps }
+    {
+        &self.steps
     }
 
     /// The outermost of the tables that are open.
@@ -261,15 +282,27 @@ impl Machine {
         self.waiting = waiting;
     }
 
-    /// Counts a condact and answers true; or false where the open piece may read no more.
-    pub(crate) fn count_condact(&mut self) -> bool
-        ensures counted { result ≡ true → (self.old.left ≡ self.new.left + 1) × (self.new ≡ record self.old { left = self.new.left }) }
-        ensures spent { result ≡ false → (self.old.left ≡ 0) × (self.new ≡ self.old) }
+    /// Whether the open piece may read one condact more.
+    pub(crate) fn may_read(&self) -> bool
+        ensures value { result ≡ nat_lt 0 self.now.left }
     {
-        if self.left == 0 {
-            return false;
-        }
+        self.left > 0
+    }
+
+    /// Notes that the condact of a frame was read, with yes, or no where it is a condition that failed.
+    pub(crate) fn note(&mut self, f: Frame, c: Condact, yes: bool)
+        requires may { 0 < self.old.left }
+        ensures reads { ReadsStep (step_at f c yes) self.old self.new }
+        ensures same { self.new ≡ record self.old { left = self.new.left; steps = self.new.steps } }
+    {
+        let step = StepRow {
+            table: f.table,
+            entry: f.entry,
+            at: f.at,
+            code: c.code,
+            yes,
+        };
+        self.steps.note(step);
         self.left -= 1;
-        true
     }
 }

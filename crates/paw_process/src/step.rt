@@ -1,21 +1,22 @@
 // One step of reading.
 
 ghost use Rattle.std.specs.Prelude.{◌≡◌, ◌≢◌, ℕ, ◌+◌, ◌-◌, ◌<◌, ◌≤◌, ◌^◌, List, [], ◌∷◌, length, true, false, Some, None, IsNone, if◌then◌else◌};
-ghost use Rattle.paw_game.specs.Game.{GameLists};
 ghost use Rattle.paw_game.specs.Valid.{Valid};
 ghost use Rattle.paw_game.specs.Tables.{condact_at};
-ghost use Rattle.paw_effects.specs.Built.{AllBuilt, IsOf, is_built};
+ghost use Rattle.paw_routines.specs.Routines.{AreRowsOf, HaveRows};
+ghost use Rattle.paw_effects.specs.Built.{IsOf};
+ghost use Rattle.paw_effects.specs.Story.{Story, story_of};
 ghost use Rattle.paw_effects.specs.Holds.{is_condition, holds};
 ghost use Rattle.paw_effects.specs.Effects.{effect_of};
 ghost use Rattle.paw_effects.specs.Texts.{put_text};
 ghost use Rattle.paw_effects.specs.declared.act.Prompt.TheVariants as prompt;
 ghost use Rattle.paw_phrase.specs.Pending.{PendingLine};
 ghost use Rattle.paw_reading.specs.declared.places.Frame.{Frame};
-ghost use Rattle.paw_game.specs.Valid.{is_condact};
+ghost use Rattle.paw_game.specs.Valid.{is_right};
 ghost use Rattle.paw_reading.specs.Run.{Run};
 ghost use Rattle.paw_reading.specs.Reading.{Left, deeper, noted, acts, tests, parses, printing, waits, loop_of};
 ghost use Rattle.paw_reading.specs.GoingOn.{along};
-ghost use Rattle.paw_process.specs.OpenTables.{below, IsAtCondact, AtCondacts, IsLoopIn, LoopFits, IsReading};
+ghost use Rattle.paw_process.specs.OpenTables.{below, ReadsNone, IsAtCondact, AtCondacts, IsLoopIn, LoopFits, IsReading};
 ghost use Rattle.paw_process.specs.Meaning.{held, going_on, showing};
 ghost use Rattle.paw_process.specs.Moves.{Continues, Stands, turning_as, reading_with, looping, running, settled, acted_at, next_of, past_of, turning_at, reading_at, Reads, ReadsOne};
 ghost use Rattle.paw_process.specs.Work.{work, frames_work, Progress};
@@ -26,7 +27,9 @@ use crate::frame::{after_phrase, next_entry, past, start_of};
 use crate::machine::{MOST_FRAMES, Machine};
 use crate::objects::{next_taken, take};
 use crate::phrase::take_phrase;
+use paw_base::codes::MOVE;
 use paw_base::fault::SpentKind;
+use paw_base::messages::QUIT_MESSAGE;
 use paw_base::parts::Condact;
 use paw_base::piece::Piece;
 use paw_effects::act::{Act, Effect, Prompt, Truth};
@@ -35,13 +38,8 @@ use paw_effects::text::put;
 use paw_game::tables::Tables;
 use paw_phrase::Pending;
 use paw_reading::places::{Frame, OpenLoop};
+use paw_routines::routines::Routines;
 use paw_world::world::World;
-
-/// The codes up to this are conditions.
-const LAST_CONDITION: u8 = 28;
-
-/// The system message with the question of QUIT.
-const QUIT_QUESTION: u8 = 12;
 
 /// The rest of the line is dropped where the action says so.
 fn drop_line(pending: &mut Pending, done: Act)
@@ -57,8 +55,8 @@ impl Machine {
     fn leave(&mut self, acted: bool) -> Option<Turned>
         requires reading { IsReading self.old }
         requires no_loop { LoopFits (length (below self.old.frames)) self.old.turning }
-        ensures meaning { (g : GameLists) (X : List (List ℕ)) (r : Run) →
-            Continues g X (along g X (below self.old.frames) (Left acted r)) result self.new.frames r }
+        ensures meaning { (g : Story) (r : Run) →
+            Continues g (along g (below self.old.frames) (Left acted r)) result self.new.frames r }
         ensures stands { Stands result self.new }
         ensures same { self.new ≡ record self.old { frames = self.new.frames } }
         ensures falls { frames_work self.new.frames < frames_work self.old.frames }
@@ -75,7 +73,7 @@ impl Machine {
     /// The piece is spent, or a call too deep: nothing is open any more.
     fn stop(&mut self, turned: Turned) -> Option<Turned>
         ensures value { result ≡ Some turned }
-        ensures closed { self.new ≡ record { frames = []; turning = None; waiting = None; left = self.old.left } }
+        ensures closed { self.new ≡ record self.old { frames = []; turning = None; waiting = None } }
     {
         self.close();
         Some(turned)
@@ -94,11 +92,11 @@ impl Machine {
         requires game { IsOf (T.game tables.now) world.old }
         requires own { IsLoopIn (length self.old.frames) l }
         requires level { l.level ≡ length (below self.old.frames) }
-        ensures meaning { (X : List (List ℕ)) (r : Run) →
-            Continues (T.game tables.now) X (turning_at (T.game tables.now) X (below self.old.frames) l (left_above world.old.places above) (looping world.old self.old.turning r))
+        ensures meaning { (X : List (List ℕ)) (r : Run) → let g = story_of (T.game tables.now) X in
+            Continues g (turning_at g (below self.old.frames) l (left_above world.old.places above) (looping world.old self.old.turning r))
             result self.new.frames (looping world.new self.new.turning r) }
         ensures stands { Stands result self.new }
-        ensures left { self.new.left ≡ self.old.left }
+        ensures left { ReadsNone self.old self.new }
         ensures game { IsOf (T.game tables.now) world.new }
         ensures draws { world.new.draws ≡ world.old.draws }
         ensures falls { self.old.turning ≡ Some l → above ≡ Some l.last → work self.new < work self.old }
@@ -138,11 +136,11 @@ impl Machine {
     ) -> Option<Turned>
         requires reading { IsReading self.old }
         requires game { IsOf (T.game tables.now) world.old }
-        ensures meaning { (X : List (List ℕ)) (r : Run) →
-            Continues (T.game tables.now) X (settled (T.game tables.now) X (below self.old.frames) (Left acted (looping world.old self.old.turning r)))
+        ensures meaning { (X : List (List ℕ)) (r : Run) → let g = story_of (T.game tables.now) X in
+            Continues g (settled g (below self.old.frames) (Left acted (looping world.old self.old.turning r)))
             result self.new.frames (looping world.new self.new.turning r) }
         ensures stands { Stands result self.new }
-        ensures left { self.new.left ≡ self.old.left }
+        ensures left { ReadsNone self.old self.new }
         ensures game { IsOf (T.game tables.now) world.new }
         ensures draws { world.new.draws ≡ world.old.draws }
         ensures falls { work self.new < work self.old }
@@ -163,11 +161,11 @@ impl Machine {
     fn call(&mut self, table: u8) -> Option<Turned>
         requires reading { IsReading self.old }
         requires place { AtCondacts self.old.frames }
-        ensures meaning { (g : GameLists) (X : List (List ℕ)) (r : Run) →
-            Continues g X (along g X self.old.frames (deeper g X (length (below self.old.frames)) table (turning_as self.old.turning r)))
+        ensures meaning { (g : Story) (r : Run) →
+            Continues g (along g self.old.frames (deeper g (length (below self.old.frames)) table (turning_as self.old.turning r)))
             result self.new.frames (turning_as self.new.turning r) }
         ensures stands { Stands result self.new }
-        ensures left { self.new.left ≡ self.old.left }
+        ensures left { ReadsNone self.old self.new }
     {
         if self.depth() == MOST_FRAMES {
             return self.stop(Turned::TooDeep { table });
@@ -182,9 +180,10 @@ impl Machine {
         requires top { self.old.frames ≡ f ∷ below self.old.frames }
         requires place { IsAtCondact f }
         requires game { IsOf (T.game tables.now) world.old }
-        ensures meaning { (X : List (List ℕ)) (r : Run) →
-            settled (T.game tables.now) X (below self.old.frames) (parses (T.game tables.now) f (next_of (T.game tables.now) X (below self.old.frames) f) (past_of (T.game tables.now) X (below self.old.frames) f) (running world.old pending.old self.old.turning r))
-            ≡ going_on (T.game tables.now) X self.new.frames (running world.new pending.new self.new.turning r) }
+        ensures meaning { (X : List (List ℕ)) (r : Run) → let g = story_of (T.game tables.now) X in
+            settled g (below self.old.frames)
+            (parses g f (next_of g (below self.old.frames) f) (past_of g (below self.old.frames) f) (running world.old pending.old self.old.turning r))
+            ≡ going_on g self.new.frames (running world.new pending.new self.new.turning r) }
         ensures same { self.new ≡ record self.old { frames = self.new.frames } }
         ensures reading { IsReading self.new }
         ensures game { IsOf (T.game tables.now) world.new }
@@ -207,11 +206,11 @@ impl Machine {
         requires top { self.old.frames ≡ f ∷ below self.old.frames }
         requires place { IsAtCondact f }
         requires game { IsOf (T.game tables.now) world.old }
-        ensures meaning { (X : List (List ℕ)) (r : Run) →
-            Continues (T.game tables.now) X (acted_at (T.game tables.now) X (below self.old.frames) f effect (running world.old pending.old self.old.turning r))
+        ensures meaning { (X : List (List ℕ)) (r : Run) → let g = story_of (T.game tables.now) X in
+            Continues g (acted_at g (below self.old.frames) f effect (running world.old pending.old self.old.turning r))
             result self.new.frames (running world.new pending.new self.new.turning r) }
         ensures stands { Stands result self.new }
-        ensures left { self.new.left ≡ self.old.left }
+        ensures left { ReadsNone self.old self.new }
         ensures game { IsOf (T.game tables.now) world.new }
         ensures draws { world.new.draws ≡ world.old.draws }
     {
@@ -254,7 +253,7 @@ impl Machine {
         }
     }
 
-    /// A condition of the innermost frame, which is counted already.
+    /// A condition of the innermost frame.
     fn test<T: Tables>(
         &mut self,
         tables: &T,
@@ -267,27 +266,32 @@ impl Machine {
         requires top { self.old.frames ≡ f ∷ below self.old.frames }
         requires place { IsAtCondact f }
         requires game { IsOf (T.game tables.now) world.old }
+        requires may { 0 < self.old.left }
         requires kind { is_condition c ≡ true }
-        requires built { is_built c.code ≡ true }
-        requires condact { is_condact (T.game tables.now) c ≡ true }
+        requires condact { is_right (T.game tables.now) c ≡ true }
         requires draws { world.old.draws < 2 ^ 64 - 1 }
-        ensures meaning { (p : PendingLine) →
-            ReadsOne (T.game tables.now) [] (below self.old.frames) f c (held world.old p self.old piece.old) result (held world.new p self.new piece.new) }
+        ensures meaning { (X : List (List ℕ)) (p : PendingLine) → let g = story_of (T.game tables.now) X in
+            ReadsOne g (below self.old.frames) f c (held world.old p self.old piece.old) result (held world.new p self.new piece.new) }
         ensures stands { Stands result self.new }
-        ensures left { self.new.left ≡ self.old.left }
+        ensures counts { self.old.left ≡ self.new.left + 1 }
         ensures game { IsOf (T.game tables.now) world.new }
         ensures draws { world.new.draws ≤ world.old.draws + 1 }
     {
         match test(tables, world, c) {
             Truth::Yes => {
+                self.note(f, c, true);
                 self.set_top(past(f, f.acted));
                 None
             }
             Truth::No => {
+                self.note(f, c, false);
                 self.set_top(next_entry(f));
                 None
             }
-            Truth::Ask => self.ask(tables, world, piece),
+            Truth::Ask => {
+                self.note(f, c, true);
+                self.ask(tables, world, piece)
+            }
         }
     }
 
@@ -297,45 +301,51 @@ impl Machine {
         requires place { AtCondacts self.old.frames }
         requires game { IsOf (T.game tables.now) world.now }
         ensures meaning { (X : List (List ℕ)) (f : Frame) (r : Run) → self.old.frames ≡ f ∷ below self.old.frames →
-            Continues (T.game tables.now) X (settled (T.game tables.now) X (below self.old.frames)
-            (printing (put_text (T.game tables.now) world.now 12) (waits (T.game tables.now) prompt.Quit f (past_of (T.game tables.now) X (below self.old.frames) f)) (reading_with piece.old self.old.turning r)))
+            let g = story_of (T.game tables.now) X in
+            Continues g (settled g (below self.old.frames)
+            (printing (put_text (T.game tables.now) world.now 12) (waits g prompt.Quit f (past_of g (below self.old.frames) f))
+            (reading_with piece.old self.old.turning r)))
             result self.new.frames (reading_with piece.new self.new.turning r) }
         ensures stands { Stands result self.new }
-        ensures left { self.new.left ≡ self.old.left }
+        ensures left { ReadsNone self.old self.new }
     {
-        if !put(tables, world, piece, QUIT_QUESTION) {
+        if !put(tables, world, piece, QUIT_MESSAGE) {
             return self.stop(Turned::Spent(SpentKind::Text));
         }
         self.set_waiting(Some(Prompt::Quit));
         Some(Turned::Waits(Prompt::Quit))
     }
 
-    /// An action of the innermost frame, which is counted already.
-    fn act<T: Tables>(
+    /// An action of the innermost frame.
+    fn act<T: Tables, F: Fn(u8, u8) -> u8>(
         &mut self,
         tables: &T,
         world: &mut World,
         pending: &mut Pending,
+        routines: &Routines<F>,
         piece: &mut Piece,
         f: Frame,
         c: Condact,
     ) -> Option<Turned>
         requires reading { IsReading self.old }
+        requires rows { HaveRows F.Fn routines.now }
         requires top { self.old.frames ≡ f ∷ below self.old.frames }
         requires place { IsAtCondact f }
         requires game { IsOf (T.game tables.now) world.old }
+        requires may { 0 < self.old.left }
         requires kind { is_condition c ≡ false }
-        requires built { is_built c.code ≡ true }
-        requires condact { is_condact (T.game tables.now) c ≡ true }
+        requires condact { is_right (T.game tables.now) c ≡ true }
         requires draws { world.old.draws < 2 ^ 64 - 1 }
-        ensures meaning { ReadsOne (T.game tables.now) [] (below self.old.frames) f c
+        ensures meaning { (X : List (List ℕ)) → AreRowsOf F.Fn routines.now X → let g = story_of (T.game tables.now) X in
+            ReadsOne g (below self.old.frames) f c
             (held world.old pending.old self.old piece.old) result (held world.new pending.new self.new piece.new) }
         ensures stands { Stands result self.new }
-        ensures left { self.new.left ≡ self.old.left }
+        ensures counts { self.old.left ≡ self.new.left + 1 }
         ensures game { IsOf (T.game tables.now) world.new }
         ensures draws { world.new.draws ≤ world.old.draws + 1 }
     {
-        let done = act(tables, world, piece, c);
+        self.note(f, c, true);
+        let done = act(tables, world, routines, piece, c);
         match done.effect {
             Effect::Spent => self.stop(Turned::Spent(SpentKind::Text)),
             effect => {
@@ -355,58 +365,62 @@ impl Machine {
         }
     }
 
-    /// The condact of the innermost frame is counted and read.
-    fn read<T: Tables>(
+    /// The condact of the innermost frame is read, where the piece may read one more.
+    fn read<T: Tables, F: Fn(u8, u8) -> u8>(
         &mut self,
         tables: &T,
         world: &mut World,
         pending: &mut Pending,
+        routines: &Routines<F>,
         piece: &mut Piece,
         f: Frame,
         c: Condact,
     ) -> Option<Turned>
         requires reading { IsReading self.old }
+        requires rows { HaveRows F.Fn routines.now }
         requires top { self.old.frames ≡ f ∷ below self.old.frames }
         requires place { IsAtCondact f }
         requires game { IsOf (T.game tables.now) world.old }
         requires found { condact_at (T.game tables.now) f.table f.entry f.at ≡ Some c }
-        requires built { is_built c.code ≡ true }
-        requires condact { is_condact (T.game tables.now) c ≡ true }
+        requires condact { is_right (T.game tables.now) c ≡ true }
         requires draws { world.old.draws + self.old.left < 2 ^ 64 }
-        ensures meaning { Reads (T.game tables.now) [] (reading_at (T.game tables.now) [] (below self.old.frames) f)
+        ensures meaning { (X : List (List ℕ)) → AreRowsOf F.Fn routines.now X → let g = story_of (T.game tables.now) X in
+            Reads g (reading_at g (below self.old.frames) f)
             (held world.old pending.old self.old piece.old) result (held world.new pending.new self.new piece.new) }
         ensures stands { Stands result self.new }
         ensures counts { IsNone result → self.old.left ≡ self.new.left + 1 }
         ensures game { IsOf (T.game tables.now) world.new }
         ensures draws { world.new.draws + self.new.left ≤ world.old.draws + self.old.left }
     {
-        if !self.count_condact() {
+        if !self.may_read() {
             return self.stop(Turned::Spent(SpentKind::Condacts));
         }
-        if c.code <= LAST_CONDITION {
+        if c.code <= MOVE {
             self.test(tables, world, piece, f, c)
         } else {
-            self.act(tables, world, pending, piece, f, c)
+            self.act(tables, world, pending, routines, piece, f, c)
         }
     }
 
     /// The condacts of the innermost frame's entry go on.
-    fn inside<T: Tables>(
+    fn inside<T: Tables, F: Fn(u8, u8) -> u8>(
         &mut self,
         tables: &T,
         world: &mut World,
         pending: &mut Pending,
+        routines: &Routines<F>,
         piece: &mut Piece,
         f: Frame,
     ) -> Option<Turned>
         requires reading { IsReading self.old }
+        requires rows { HaveRows F.Fn routines.now }
         requires top { self.old.frames ≡ f ∷ below self.old.frames }
         requires entry { f.entry < 4000 }
         requires valid { Valid (T.game tables.now) }
         requires game { IsOf (T.game tables.now) world.old }
-        requires built { AllBuilt (T.game tables.now) }
         requires draws { world.old.draws + self.old.left < 2 ^ 64 }
-        ensures meaning { Reads (T.game tables.now) [] (reading_at (T.game tables.now) [] (below self.old.frames) f)
+        ensures meaning { (X : List (List ℕ)) → AreRowsOf F.Fn routines.now X → let g = story_of (T.game tables.now) X in
+            Reads g (reading_at g (below self.old.frames) f)
             (held world.old pending.old self.old piece.old) result (held world.new pending.new self.new piece.new) }
         ensures stands { Stands result self.new }
         ensures progress { IsNone result → Progress self.old self.new }
@@ -418,23 +432,25 @@ impl Machine {
                 self.set_top(next_entry(f));
                 None
             }
-            Some(c) => self.read(tables, world, pending, piece, f, c),
+            Some(c) => self.read(tables, world, pending, routines, piece, f, c),
         }
     }
 
     /// One step of reading: from the start of an entry to the next that matches, and a condact there.
-    pub(crate) fn step<T: Tables>(
+    pub(crate) fn step<T: Tables, F: Fn(u8, u8) -> u8>(
         &mut self,
         tables: &T,
         world: &mut World,
         pending: &mut Pending,
+        routines: &Routines<F>,
         piece: &mut Piece,
     ) -> Option<Turned>
         requires reading { IsReading self.old }
+        requires rows { HaveRows F.Fn routines.now }
         requires game { IsOf (T.game tables.now) world.old }
-        requires built { AllBuilt (T.game tables.now) }
         requires draws { world.old.draws + self.old.left < 2 ^ 64 }
-        ensures meaning { Reads (T.game tables.now) [] (going_on (T.game tables.now) [] self.old.frames)
+        ensures meaning { (X : List (List ℕ)) → AreRowsOf F.Fn routines.now X → let g = story_of (T.game tables.now) X in
+            Reads g (going_on g self.old.frames)
             (held world.old pending.old self.old piece.old) result (held world.new pending.new self.new piece.new) }
         ensures stands { Stands result self.new }
         ensures progress { IsNone result → Progress self.old self.new }
@@ -444,7 +460,7 @@ impl Machine {
         let _counts = tables.counts();
         let f = self.top();
         if f.at > 0 {
-            return self.inside(tables, world, pending, piece, f);
+            return self.inside(tables, world, pending, routines, piece, f);
         }
         match tables.next_match(f.table, f.entry, world.flag(33), world.flag(34)) {
             None => self.leave_level(tables, world, f.acted),
@@ -456,7 +472,7 @@ impl Machine {
                     acted: f.acted,
                 };
                 self.set_top(f);
-                self.inside(tables, world, pending, piece, f)
+                self.inside(tables, world, pending, routines, piece, f)
             }
         }
     }

@@ -4,7 +4,7 @@ use Rattle.std.specs.Prelude.{nat_lt, if◌then◌else◌}
 use Rattle.paw_base.specs.declared.parts.Condact.{Condact}
 use Rattle.paw_base.specs.declared.fault.SpentKind.TheVariants as spent
 use Rattle.paw_game.specs.declared.parts.Entry.{Entry}
-use Rattle.paw_game.specs.Game.{GameLists}
+use Rattle.paw_effects.specs.Story.{Story}
 use Rattle.paw_game.specs.Tables.{table_at, entry_at, condacts_of, exit_at}
 use Rattle.paw_world.specs.World.{flag, with_flag}
 use Rattle.paw_phrase.specs.Sentence.{Parsed, IsSentence, IsUnknown, IsNoPhrase, parsed}
@@ -59,13 +59,13 @@ again_counts lv next h v (Ends r) k = k
 again_counts lv next h v (IsSpent kind r) k = k
 again_counts lv next h v (IsDeep u r) k = k
 
-turns_count : (g : GameLists) (lv : ℕ) (l : OpenLoop) (body : Run → Out) → IsCounting body → (n : ℕ) → IsCounting (turns g lv l body n)
+turns_count : (g : Story) (lv : ℕ) (l : OpenLoop) (body : Run → Out) → IsCounting body → (n : ℕ) → IsCounting (turns g lv l body n)
 unfolding turns
 turns_count g lv l body h zero v r k = k
 turns_count g lv l body h (suc n) v r k =
-    let o : ℕ = length g.objects - suc n in
-    either (Counts v) (is_taken g r.world l o) _ _
-    (again_counts lv (λ _. turns g lv l body n) (λ m. turns_count g lv l body h n) v (body (taken g l o r)) (h v (taken g l o r) k))
+    let o : ℕ = length g.game.objects - suc n in
+    either (Counts v) (is_taken g.game r.world l o) _ _
+    (again_counts lv (λ _. turns g lv l body n) (λ m. turns_count g lv l body h n) v (body (taken g.game l o r)) (h v (taken g.game l o r) k))
     (turns_count g lv l body h n v r k)
 
 after_call_counts : (f : Frame) (go : Bool → Run → Out) → AreCounting go → (v : ℕ) (x : Out) → Counts v x → Counts v (after_call f go x)
@@ -79,19 +79,19 @@ after_call_counts f go h v (IsDeep u r) k = k
 
 -- ---- prompts ----
 
-over_counts : (g : GameLists) → IsCounting (over g)
+over_counts : (g : Story) → IsCounting (over g)
 over_counts g v r k =
-    either (Counts v) (fits r (say_text g r.world 14)) (Ends (closed (without_loop (line_dropped (printed (say_text g r.world 14) r))))) (IsSpent spent.Text r)
-    (omega (arith, closed_counts (without_loop (line_dropped (printed (say_text g r.world 14) r))), k)) k
+    either (Counts v) (fits r (say_text g.game r.world 14)) (Ends (closed (without_loop (line_dropped (printed (say_text g.game r.world 14) r))))) (IsSpent spent.Text r)
+    (omega (arith, closed_counts (without_loop (line_dropped (printed (say_text g.game r.world 14) r))), k)) k
 
-answered_counts : (g : GameLists) (p : Prompt) (f : Frame) (go : Bool → Run → Out) → AreCounting go → (line : List ℕ) → IsCounting (answered g p f go line)
+answered_counts : (g : Story) (p : Prompt) (f : Frame) (go : Bool → Run → Out) → AreCounting go → (line : List ℕ) → IsCounting (answered g p f go line)
 answered_counts g prompt.Main f go h line v r k = h f.acted v r k
 answered_counts g prompt.Quit f go h line v r k = either (Counts v) (is_yes line) _ (Left true r) (h f.acted v r k) k
 answered_counts g prompt.Again f go h line v r k = either (Counts v) (is_no line) (over g r) (Restarts (anew r)) (over_counts g v r k) k
 answered_counts g prompt.Key f go h line v r k = h true v r k
 answered_counts g prompt.Over f go h line v r k = h f.acted v r k
 
-asked_counts : (g : GameLists) (p : Prompt) (f : Frame) (go : Bool → Run → Out) → AreCounting go → (v : ℕ) (r : Run) (lines : List (List ℕ)) →
+asked_counts : (g : Story) (p : Prompt) (f : Frame) (go : Bool → Run → Out) → AreCounting go → (v : ℕ) (r : Run) (lines : List (List ℕ)) →
     length r.pieces + length lines ≡ suc v → Counts v (asked g p f go r lines)
 unfolding asked
 asked_counts g p f go h v r [] k = (refl, k)
@@ -102,7 +102,7 @@ asked_counts g p f go h v r (line ∷ lines) k =
     (asked_counts g p f go h v (closed s) lines (omega (arith, closed_counts s, k')))
     (answered_counts g p f go h (reply line) v (heard line s) k')
 
-waits_counts : (g : GameLists) (p : Prompt) (f : Frame) (go : Bool → Run → Out) → AreCounting go → IsCounting (waits g p f go)
+waits_counts : (g : Story) (p : Prompt) (f : Frame) (go : Bool → Run → Out) → AreCounting go → IsCounting (waits g p f go)
 waits_counts g p f go h v r k = asked_counts g p f go h v (closed r) r.events (omega (arith, closed_counts r, k))
 
 -- ---- one condact ----
@@ -112,70 +112,70 @@ after_parse_counts f next go hn hg (IsSentence s rest) v r k = hn f.acted v (tak
 after_parse_counts f next go hn hg (IsUnknown rest) v r k = hg f.acted v (record r { pending = rest }) k
 after_parse_counts f next go hn hg IsNoPhrase v r k = hg f.acted v r k
 
-module _ (g : GameLists) (X : List (List ℕ)) (sub : ℕ → Run → Out) (lv : ℕ) (calls : CallsCounting sub) where
+module _ (g : Story) (sub : ℕ → Run → Out) (lv : ℕ) (calls : CallsCounting sub) where
   after_test_counts : (f : Frame) (next go : Bool → Run → Out) → AreCounting next → AreCounting go → (c : Condact) (t : Truth) → IsCounting (λ r. after_test g f next go c r t)
   after_test_counts f next go hn hg c truth.Yes v r k = hg f.acted v (noted f c true r) k
   after_test_counts f next go hn hg c truth.No v r k = hn f.acted v (noted f c false r) k
   after_test_counts f next go hn hg c truth.Ask v r k =
-      either (Counts v) (fits (noted f c true r) (put_text g r.world 12)) _ (IsSpent spent.Text (noted f c true r))
-      (waits_counts g prompt.Quit f go hg v (printed (put_text g r.world 12) (noted f c true r)) k) k
+      either (Counts v) (fits (noted f c true r) (put_text g.game r.world 12)) _ (IsSpent spent.Text (noted f c true r))
+      (waits_counts g prompt.Quit f go hg v (printed (put_text g.game r.world 12) (noted f c true r)) k) k
 
   after_action_counts : (f : Frame) (next go : Bool → Run → Out) → AreCounting next → AreCounting go → (e : Effect) → IsCounting (after_action g sub lv f next go e)
   after_action_counts f next go hn hg effect.Go v r k = hg true v r k
   after_action_counts f next go hn hg (effect.Exit a) v r k = k
   after_action_counts f next go hn hg effect.Redescribe v r k = k
   after_action_counts f next go hn hg (effect.Call u) v r k = after_call_counts f go hg v (sub u r) (calls u v r k)
-  after_action_counts f next go hn hg (effect.Loop p) v r k = turns_count g lv (loop_of lv f p) (go true) (hg true) (length g.objects) v r k
+  after_action_counts f next go hn hg (effect.Loop p) v r k = turns_count g lv (loop_of lv f p) (go true) (hg true) (length g.game.objects) v r k
   after_action_counts f next go hn hg (effect.Ask p) v r k = waits_counts g p f go hg v r k
   after_action_counts f next go hn hg effect.Parse v r k =
-      after_parse_counts f next go hn hg (parsed g r.pending r.earlier (flag r.world 46) (flag r.world 47)) v r k
+      after_parse_counts f next go hn hg (parsed g.game r.pending r.earlier (flag r.world 46) (flag r.world 47)) v r k
   after_action_counts f next go hn hg effect.Spent v r k = k
 
   acts_count : (f : Frame) (next go : Bool → Run → Out) → AreCounting next → AreCounting go → (d : Done) → IsCounting (acts g sub lv f next go d)
   acts_count f next go hn hg d v r k =
       either (Counts v) (fits r d.text) _ (IsSpent spent.Text r) (after_action_counts f next go hn hg d.act.effect v (carried_out d (printed d.text r)) k) k
 
-  reads_one_counts : (f : Frame) (next go : Bool → Run → Out) → AreCounting next → AreCounting go → (c : Condact) → IsCounting (reads_one g X sub lv f next go c)
+  reads_one_counts : (f : Frame) (next go : Bool → Run → Out) → AreCounting next → AreCounting go → (c : Condact) → IsCounting (reads_one g sub lv f next go c)
   reads_one_counts f next go hn hg c v r k =
       either (Counts v) (is_condition c) _ _
-      (after_test_counts f next go hn hg c (holds g r.world c).answer v (with_world (holds g r.world c).world r) k)
-      (acts_count f next go hn hg (effect_of g X r.world c) v (noted f c true r) k)
+      (after_test_counts f next go hn hg c (holds g.game r.world c).answer v (with_world (holds g.game r.world c).world r) k)
+      (acts_count f next go hn hg (effect_of g r.world c) v (noted f c true r) k)
 
   -- ---- entries, tables ----
 
-  condacts_count : (t e : ℕ) (next : Bool → Run → Out) → AreCounting next → (k : ℕ) (cs : List Condact) → AreCounting (condacts g X sub lv t e next k cs)
+  condacts_count : (t e : ℕ) (next : Bool → Run → Out) → AreCounting next → (k : ℕ) (cs : List Condact) → AreCounting (condacts g sub lv t e next k cs)
   unfolding condacts
   condacts_count t e next hn k [] a v r h = hn a v r h
   condacts_count t e next hn k (c ∷ cs) a v r h =
       either (Counts v) (nat_lt (length r.read) 200000) _ (IsSpent spent.Condacts r)
       (reads_one_counts (record { table = t; entry = e; at = k; acted = a }) next _ hn (condacts_count t e next hn (suc k) cs) c v r h) h
 
-  entries_count : (t e : ℕ) (es : List Entry) → AreCounting (entries g X sub lv t e es)
+  entries_count : (t e : ℕ) (es : List Entry) → AreCounting (entries g sub lv t e es)
   unfolding entries
   entries_count t e [] a v r h = h
   entries_count t e (en ∷ es) a v r h =
       either (Counts v) (is_for_now r en) _ _
-      (condacts_count t e (entries g X sub lv t (suc e) es) (entries_count t (suc e) es) 0 en.condacts a v r h)
+      (condacts_count t e (entries g sub lv t (suc e) es) (entries_count t (suc e) es) 0 en.condacts a v r h)
       (entries_count t (suc e) es a v r h)
 
-  plain_counts : (t e k : ℕ) → AreCounting (plain g X sub lv t e k)
-  plain_counts t e zero a v r h = entries_count t e (drop e (table_at g t)) a v r h
+  plain_counts : (t e k : ℕ) → AreCounting (plain g sub lv t e k)
+  plain_counts t e zero a v r h = entries_count t e (drop e (table_at g.game t)) a v r h
   plain_counts t e (suc k) a v r h =
-      condacts_count t e _ (entries_count t (suc e) (drop (suc e) (table_at g t))) (suc k) (drop (suc k) (condacts_of (entry_at g t e))) a v r h
+      condacts_count t e _ (entries_count t (suc e) (drop (suc e) (table_at g.game t))) (suc k) (drop (suc k) (condacts_of (entry_at g.game t e))) a v r h
 
-  looped_counts : (l : OpenLoop) → IsCounting (looped g X sub lv l)
-  looped_counts l = turns_count g lv (record l { last = 0 }) _ (plain_counts l.table l.entry (suc l.at) true) (length g.objects - suc l.last)
+  looped_counts : (l : OpenLoop) → IsCounting (looped g sub lv l)
+  looped_counts l = turns_count g lv (record l { last = 0 }) _ (plain_counts l.table l.entry (suc l.at) true) (length g.game.objects - suc l.last)
 
-  reads_count : (t e k : ℕ) → AreCounting (reads g X sub lv t e k)
-  reads_count t e k a v r h = again_counts lv (looped g X sub lv) looped_counts v _ (plain_counts t e k a v r h)
+  reads_count : (t e k : ℕ) → AreCounting (reads g sub lv t e k)
+  reads_count t e k a v r h = again_counts lv (looped g sub lv) looped_counts v _ (plain_counts t e k a v r h)
 
-called_counts : (g : GameLists) (X : List (List ℕ)) (n lv : ℕ) → CallsCounting (called g X n lv)
+called_counts : (g : Story) (n lv : ℕ) → CallsCounting (called g n lv)
 unfolding called
-called_counts g X zero lv u v r h = h
-called_counts g X (suc n) lv u v r h = reads_count g X (called g X n (suc lv)) (suc lv) (called_counts g X n (suc lv)) u 0 0 false v r h
+called_counts g zero lv u v r h = h
+called_counts g (suc n) lv u v r h = reads_count g (called g n (suc lv)) (suc lv) (called_counts g n (suc lv)) u 0 0 false v r h
 
-table_counts : (g : GameLists) (X : List (List ℕ)) (t : ℕ) → IsCounting (table_read g X t)
-table_counts g X t = reads_count g X (deeper g X 0) 0 (called_counts g X 10 0) t 0 0 false
+table_counts : (g : Story) (t : ℕ) → IsCounting (table_read g t)
+table_counts g t = reads_count g (deeper g 0) 0 (called_counts g 10 0) t 0 0 false
 
 -- ---- turns ----
 
@@ -190,14 +190,14 @@ one_of P false x y h k = k
 saying_counts : (text : List ℕ) (go : Run → Ending) → TurnsCounting go → TurnsCounting (saying text go)
 saying_counts text go h v r k = one_of (Counted v) (fits r text) _ (RunsOut spent.Text r) (h v (printed text r) k) k
 
-module _ (g : GameLists) (X : List (List ℕ)) (go : Stage → Run → Ending) (counts : (s : Stage) → TurnsCounting (go s)) where
+module _ (g : Story) (go : Stage → Run → Ending) (counts : (s : Stage) → TurnsCounting (go s)) where
   connected_counts : (to : Option ℕ) → TurnsCounting (λ r. connected g (go AtDescribe) (go AtFrame) r to)
-  connected_counts None v r k = saying_counts (refusal_text g r.world) (go AtFrame) (counts AtFrame) v (line_dropped r) k
+  connected_counts None v r k = saying_counts (refusal_text g.game r.world) (go AtFrame) (counts AtFrame) v (line_dropped r) k
   connected_counts (Some to) v r k = counts AtDescribe v (with_world (with_flag r.world 38 to) r) k
 
   after_left_counts : (t : ℕ) (a : Bool) → TurnsCounting (after_left g go t a)
   after_left_counts zero true v r k = counts AtFrame v r k
-  after_left_counts zero false v r k = connected_counts (exit_at g (flag r.world 38) (flag r.world 33)) v r k
+  after_left_counts zero false v r k = connected_counts (exit_at g.game (flag r.world 38) (flag r.world 33)) v r k
   after_left_counts (suc zero) a v r k = counts AtFrame v r k
   after_left_counts (suc (suc t)) a v r k = counts AtPhrase v (with_world (framed r.world) r) k
 
@@ -210,8 +210,8 @@ module _ (g : GameLists) (X : List (List ℕ)) (go : Stage → Run → Ending) (
   table_done_counts t v (IsSpent kind r) k = k
   table_done_counts t v (IsDeep u r) k = k
 
-  read_counts : (t : ℕ) → TurnsCounting (λ r. table_done g go t (table_read g X t r))
-  read_counts t v r k = table_done_counts t v (table_read g X t r) (table_counts g X t v r k)
+  read_counts : (t : ℕ) → TurnsCounting (λ r. table_done g go t (table_read g t r))
+  read_counts t v r k = table_done_counts t v (table_read g t r) (table_counts g t v r k)
 
   at_main_counts : (v : ℕ) (r : Run) (lines : List (List ℕ)) → length r.pieces + length lines ≡ suc v → Counted v (at_main g (go AtFrame) (go AtPhrase) r lines)
   unfolding at_main
@@ -222,28 +222,28 @@ module _ (g : GameLists) (X : List (List ℕ)) (go : Stage → Run → Ending) (
       one_of (Counted v) (is_ignored r.world line) _ _
       (at_main_counts v (closed s) lines (omega (arith, closed_counts s, k')))
       (one_of (Counted v) (is_timeout line) _ _
-      (saying_counts (say_text g (with_timeout true r.world) 35) (go AtFrame) (counts AtFrame) v (heard line s) k')
+      (saying_counts (say_text g.game (with_timeout true r.world) 35) (go AtFrame) (counts AtFrame) v (heard line s) k')
       (counts AtPhrase v (line_set line s) k'))
 
   after_phrase_counts : (p : Parsed) → TurnsCounting (λ r. after_phrase g (go AtFrame) (go AtPhrase) (go AtResponse) r p)
   after_phrase_counts (IsSentence s rest) v r k = counts AtResponse v (with_world (counted (taken_phrase s rest r).world) (taken_phrase s rest r)) k
-  after_phrase_counts (IsUnknown rest) v r k = saying_counts (say_text g r.world 6) (go AtFrame) (counts AtFrame) v (line_dropped r) k
+  after_phrase_counts (IsUnknown rest) v r k = saying_counts (say_text g.game r.world 6) (go AtFrame) (counts AtFrame) v (line_dropped r) k
   after_phrase_counts IsNoPhrase v r k =
-      saying_counts (prompt_text g r.world) (λ s. at_main g (go AtFrame) (go AtPhrase) (closed s) s.events)
+      saying_counts (prompt_text g.game r.world) (λ s. at_main g (go AtFrame) (go AtPhrase) (closed s) s.events)
       (λ w s h. at_main_counts w (closed s) s.events (omega (arith, closed_counts s, h))) v (line_dropped r) k
 
-turn_counts : (g : GameLists) (X : List (List ℕ)) (n : ℕ) (s : Stage) → TurnsCounting (turn g X n s)
+turn_counts : (g : Story) (n : ℕ) (s : Stage) → TurnsCounting (turn g n s)
 unfolding turn
-turn_counts g X zero s v r k = tt
-turn_counts g X (suc n) AtDescribe v r k =
-    saying_counts (view_text g (described r.world)) (λ q. table_done g (turn g X n) 1 (table_read g X 1 q)) (read_counts g X (turn g X n) (turn_counts g X n) 1) v
+turn_counts g zero s v r k = tt
+turn_counts g (suc n) AtDescribe v r k =
+    saying_counts (view_text g.game (described r.world)) (λ q. table_done g (turn g n) 1 (table_read g 1 q)) (read_counts g (turn g n) (turn_counts g n) 1) v
     (with_world (described r.world) r) k
-turn_counts g X (suc n) AtFrame v r k = read_counts g X (turn g X n) (turn_counts g X n) 2 v r k
-turn_counts g X (suc n) AtPhrase v r k =
-    after_phrase_counts g X (turn g X n) (turn_counts g X n) (parsed g r.pending r.earlier (flag r.world 46) (flag r.world 47)) v r k
-turn_counts g X (suc n) AtResponse v r k = read_counts g X (turn g X n) (turn_counts g X n) 0 v r k
+turn_counts g (suc n) AtFrame v r k = read_counts g (turn g n) (turn_counts g n) 2 v r k
+turn_counts g (suc n) AtPhrase v r k =
+    after_phrase_counts g (turn g n) (turn_counts g n) (parsed g.game r.pending r.earlier (flag r.world 46) (flag r.world 47)) v r k
+turn_counts g (suc n) AtResponse v r k = read_counts g (turn g n) (turn_counts g n) 0 v r k
 
 pub pieces_of_lines : PiecesOfLines
-pieces_of_lines g X seed es =
+pieces_of_lines g seed es =
     let o : Run = opening g seed es in
-    turn_counts g X (stages_left AtDescribe o) AtDescribe (length es) o (omega arith)
+    turn_counts g (stages_left AtDescribe o) AtDescribe (length es) o (omega arith)

@@ -2,7 +2,7 @@
 use Rattle.std.proofs.Common.{◌≡◌, ◌≢◌, ℕ, zero, suc, ◌+◌, ◌-◌, ◌*◌, ◌≤◌, ◌<◌, Bool, true, false, List, [], ◌∷◌, ◌⊎◌, inl, inr, Option, Some, None, refl, sym, ◌∙◌, length, arith}
 use Rattle.std.specs.Prelude.{if◌then◌else◌}
 use Rattle.paw_base.specs.declared.fault.SpentKind.TheVariants as spent
-use Rattle.paw_game.specs.Game.{GameLists}
+use Rattle.paw_effects.specs.Story.{Story}
 use Rattle.paw_game.specs.Tables.{exit_at}
 use Rattle.paw_world.specs.World.{flag, with_flag}
 use Rattle.paw_phrase.specs.Sentence.{Parsed, IsSentence, IsUnknown, IsNoPhrase}
@@ -29,16 +29,16 @@ saying_ends text go r h = by_test (fits r text)
     by_test true = h
     by_test false = λ e. cc
 
-connected_ends : (g : GameLists) (n : ℕ) (go : Stage → Run → Ending) → EndsWithin n go → (r : Run) → 4 * left_to_read r + 3 ≤ n → (to : Option ℕ) →
+connected_ends : (g : Story) (n : ℕ) (go : Stage → Run → Ending) → EndsWithin n go → (r : Run) → 4 * left_to_read r + 3 ≤ n → (to : Option ℕ) →
     connected g (go AtDescribe) (go AtFrame) r to ≢ Unended
 connected_ends g n go h r k None =
-    saying_ends (refusal_text g r.world) (go AtFrame) (line_dropped r) (h AtFrame (printed (refusal_text g r.world) (line_dropped r)) (omega arith))
+    saying_ends (refusal_text g.game r.world) (go AtFrame) (line_dropped r) (h AtFrame (printed (refusal_text g.game r.world) (line_dropped r)) (omega arith))
 connected_ends g n go h r k (Some to) = h AtDescribe (with_world (with_flag r.world 38 to) r) (omega arith)
 
-responded_ends : (g : GameLists) (n : ℕ) (go : Stage → Run → Ending) → EndsWithin n go → (r : Run) → 4 * left_to_read r + 3 ≤ n → (acted : Bool) →
+responded_ends : (g : Story) (n : ℕ) (go : Stage → Run → Ending) → EndsWithin n go → (r : Run) → 4 * left_to_read r + 3 ≤ n → (acted : Bool) →
     responded g (go AtDescribe) (go AtFrame) acted r ≢ Unended
 responded_ends g n go h r k true = h AtFrame r (omega arith)
-responded_ends g n go h r k false = connected_ends g n go h r k (exit_at g (flag r.world 38) (flag r.world 33))
+responded_ends g n go h r k false = connected_ends g n go h r k (exit_at g.game (flag r.world 38) (flag r.world 33))
 
 -- how many stages a table needs after it
 abbrev pub rank_after : ℕ → ℕ
@@ -46,7 +46,7 @@ rank_after zero = 3
 rank_after (suc zero) = 2
 rank_after (suc (suc t)) = 1
 
-after_left_ends : (g : GameLists) (n : ℕ) (go : Stage → Run → Ending) → EndsWithin n go → (t : ℕ) (acted : Bool) (r : Run) → 4 * left_to_read r + rank_after t ≤ n →
+after_left_ends : (g : Story) (n : ℕ) (go : Stage → Run → Ending) → EndsWithin n go → (t : ℕ) (acted : Bool) (r : Run) → 4 * left_to_read r + rank_after t ≤ n →
     after_left g go t acted r ≢ Unended
 after_left_ends g n go h zero acted r k = responded_ends g n go h r k acted
 after_left_ends g n go h (suc zero) acted r k = h AtFrame r k
@@ -57,7 +57,7 @@ rank_after-pos zero = omega arith
 rank_after-pos (suc zero) = omega arith
 rank_after-pos (suc (suc t)) = omega arith
 
-table_done_ends : (g : GameLists) (n : ℕ) (go : Stage → Run → Ending) → EndsWithin n go → (t v : ℕ) → 4 * v + rank_after t ≤ n → (x : Out) → Spends v x → table_done g go t x ≢ Unended
+table_done_ends : (g : Story) (n : ℕ) (go : Stage → Run → Ending) → EndsWithin n go → (t v : ℕ) → 4 * v + rank_after t ≤ n → (x : Out) → Spends v x → table_done g go t x ≢ Unended
 table_done_ends g n go h t v k (Left a r) s = after_left_ends g n go h t a r (omega arith)
 table_done_ends g n go h t v k (Redescribes r) s = h AtDescribe r (omega (arith, rank_after-pos t))
 table_done_ends g n go h t v k (Restarts r) s = h AtDescribe r (omega (arith, rank_after-pos t))
@@ -66,14 +66,14 @@ table_done_ends g n go h t v k (Ends r) s = λ e. cc
 table_done_ends g n go h t v k (IsSpent kind r) s = λ e. cc
 table_done_ends g n go h t v k (IsDeep u r) s = λ e. cc
 
-at_main_ends : (g : GameLists) (n : ℕ) (go : Stage → Run → Ending) → EndsWithin n go → (r : Run) (lines : List (List ℕ)) → 4 * (length r.pending + brought lines) ≤ n →
+at_main_ends : (g : Story) (n : ℕ) (go : Stage → Run → Ending) → EndsWithin n go → (r : Run) (lines : List (List ℕ)) → 4 * (length r.pending + brought lines) ≤ n →
     at_main g (go AtFrame) (go AtPhrase) r lines ≢ Unended
 unfolding at_main
 at_main_ends g n go h r [] k = λ e. cc
 at_main_ends g n go h r (line ∷ lines) k =
     let m : brought (line ∷ lines) ≡ length line + 200001 + brought lines = brought_more line lines in
     let s : Run = record r { events = lines } in
-    let said : List ℕ = say_text g (with_timeout true r.world) 35 in
+    let said : List ℕ = say_text g.game (with_timeout true r.world) 35 in
     by_test (is_ignored r.world line) (is_timeout line)
     (at_main_ends g n go h (closed s) lines (omega (arith, m, k)))
     (saying_ends said (go AtFrame) (heard line s) (h AtFrame (printed said (heard line s)) (omega (arith, m, k))))
@@ -84,59 +84,59 @@ at_main_ends g n go h r (line ∷ lines) k =
     by_test false true hx hy hz = hy
     by_test false false hx hy hz = hz
 
-after_phrase_ends : (g : GameLists) (n : ℕ) (go : Stage → Run → Ending) → EndsWithin n go → (r : Run) → 4 * left_to_read r ≤ n → (p : Parsed) →
+after_phrase_ends : (g : Story) (n : ℕ) (go : Stage → Run → Ending) → EndsWithin n go → (r : Run) → 4 * left_to_read r ≤ n → (p : Parsed) →
     Leaves (λ rest. length rest < length r.pending) p → after_phrase g (go AtFrame) (go AtPhrase) (go AtResponse) r p ≢ Unended
 after_phrase_ends g n go h r k (IsSentence s rest) less = h AtResponse _ (omega arith)
 after_phrase_ends g n go h r k (IsUnknown rest) less =
-    saying_ends (say_text g r.world 6) (go AtFrame) (line_dropped r) (h AtFrame (printed (say_text g r.world 6) (line_dropped r)) (omega arith))
+    saying_ends (say_text g.game r.world 6) (go AtFrame) (line_dropped r) (h AtFrame (printed (say_text g.game r.world 6) (line_dropped r)) (omega arith))
 after_phrase_ends g n go h r k IsNoPhrase less =
-    let text : List ℕ = prompt_text g r.world in
+    let text : List ℕ = prompt_text g.game r.world in
     let shown : Run = closed (printed text (line_dropped r)) in
     saying_ends text (λ s. at_main g (go AtFrame) (go AtPhrase) (closed s) s.events) (line_dropped r)
     (at_main_ends g n go h shown r.events (omega arith))
 
 -- with so many stages each turn ends
-turn_ends : (g : GameLists) (X : List (List ℕ)) (n : ℕ) → EndsWithin n (turn g X n)
+turn_ends : (g : Story) (n : ℕ) → EndsWithin n (turn g n)
 unfolding turn
-turn_ends g X zero AtDescribe r h = absurd (omega arith)
-turn_ends g X zero AtFrame r h = absurd (omega arith)
-turn_ends g X zero AtPhrase r h = absurd (omega arith)
-turn_ends g X zero AtResponse r h = absurd (omega arith)
-turn_ends g X (suc n) AtDescribe r h =
-    let text : List ℕ = view_text g (described r.world) in
+turn_ends g zero AtDescribe r h = absurd (omega arith)
+turn_ends g zero AtFrame r h = absurd (omega arith)
+turn_ends g zero AtPhrase r h = absurd (omega arith)
+turn_ends g zero AtResponse r h = absurd (omega arith)
+turn_ends g (suc n) AtDescribe r h =
+    let text : List ℕ = view_text g.game (described r.world) in
     let s : Run = with_world (described r.world) r in
-    saying_ends text (λ q. table_done g (turn g X n) 1 (table_read g X 1 q)) s
-    (table_done_ends g n (turn g X n) (turn_ends g X n) 1 (left_to_read r) (omega arith) _ (table_spends g X 1 (printed text s)))
-turn_ends g X (suc n) AtFrame r h =
-    table_done_ends g n (turn g X n) (turn_ends g X n) 2 (left_to_read r) (omega arith) _ (table_spends g X 2 r)
-turn_ends g X (suc n) AtPhrase r h =
-    after_phrase_ends g n (turn g X n) (turn_ends g X n) r (omega arith) _ (parsed-shorter g r.pending r.earlier (flag r.world 46) (flag r.world 47))
-turn_ends g X (suc n) AtResponse r h =
-    table_done_ends g n (turn g X n) (turn_ends g X n) 0 (left_to_read r) (omega arith) _ (table_spends g X 0 r)
+    saying_ends text (λ q. table_done g (turn g n) 1 (table_read g 1 q)) s
+    (table_done_ends g n (turn g n) (turn_ends g n) 1 (left_to_read r) (omega arith) _ (table_spends g 1 (printed text s)))
+turn_ends g (suc n) AtFrame r h =
+    table_done_ends g n (turn g n) (turn_ends g n) 2 (left_to_read r) (omega arith) _ (table_spends g 2 r)
+turn_ends g (suc n) AtPhrase r h =
+    after_phrase_ends g n (turn g n) (turn_ends g n) r (omega arith) _ (parsed-shorter g.game r.pending r.earlier (flag r.world 46) (flag r.world 47))
+turn_ends g (suc n) AtResponse r h =
+    table_done_ends g n (turn g n) (turn_ends g n) 0 (left_to_read r) (omega arith) _ (table_spends g 0 r)
 
 -- the stages that are granted are enough
 pub turns_end : TurnsEnd
-turns_end g X s r = turn_ends g X (stages_left s r) s r (omega arith)
+turns_end g s r = turn_ends g (stages_left s r) s r (omega arith)
 
-in_table_ends : (g : GameLists) (X : List (List ℕ)) (n : ℕ) (p : Prompt) (path : List Frame) (r : Run) → 4 * left_to_read r + 3 ≤ n → in_table g X n p path r ≢ Unended
-in_table_ends g X n p path r h =
-    table_done_ends g n (turn g X n) (turn_ends g X n) (first_table path) (left_to_read r) (omega (arith, h, rank_after-le (first_table path))) _ (path_spends g X p 0 path r)
+in_table_ends : (g : Story) (n : ℕ) (p : Prompt) (path : List Frame) (r : Run) → 4 * left_to_read r + 3 ≤ n → in_table g n p path r ≢ Unended
+in_table_ends g n p path r h =
+    table_done_ends g n (turn g n) (turn_ends g n) (first_table path) (left_to_read r) (omega (arith, h, rank_after-le (first_table path))) _ (path_spends g p 0 path r)
   where
     rank_after-le : (t : ℕ) → rank_after t ≤ 3
     rank_after-le zero = omega arith
     rank_after-le (suc zero) = omega arith
     rank_after-le (suc (suc t)) = omega arith
 
-goes_on_ends : (g : GameLists) (X : List (List ℕ)) (n : ℕ) (p : Prompt) (path : List Frame) (r : Run) → 4 * left_to_read r + 3 ≤ n → goes_on g X n p path r ≢ Unended
-goes_on_ends g X n prompt.Main path r h = at_main_ends g n (turn g X n) (turn_ends g X n) r r.events (omega arith)
-goes_on_ends g X n prompt.Quit path r h = in_table_ends g X n prompt.Quit path r h
-goes_on_ends g X n prompt.Again path r h = in_table_ends g X n prompt.Again path r h
-goes_on_ends g X n prompt.Key path r h = in_table_ends g X n prompt.Key path r h
-goes_on_ends g X n prompt.Over path r h = λ e. cc
+goes_on_ends : (g : Story) (n : ℕ) (p : Prompt) (path : List Frame) (r : Run) → 4 * left_to_read r + 3 ≤ n → goes_on g n p path r ≢ Unended
+goes_on_ends g n prompt.Main path r h = at_main_ends g n (turn g n) (turn_ends g n) r r.events (omega arith)
+goes_on_ends g n prompt.Quit path r h = in_table_ends g n prompt.Quit path r h
+goes_on_ends g n prompt.Again path r h = in_table_ends g n prompt.Again path r h
+goes_on_ends g n prompt.Key path r h = in_table_ends g n prompt.Key path r h
+goes_on_ends g n prompt.Over path r h = λ e. cc
 
 -- going on from a prompt ends
 pub going_on_ends : GoingOnEnds
-going_on_ends g X p path r = goes_on_ends g X (stages_left AtResponse r) p path r (omega arith)
+going_on_ends g p path r = goes_on_ends g (stages_left AtResponse r) p path r (omega arith)
 
 -- ---- more stages change nothing ----
 
@@ -153,19 +153,19 @@ saying_more text go more r h = by_test (fits r text)
     by_test true k = h (printed text r) k
     by_test false k = refl
 
-connected_more : (g : GameLists) (go more : Stage → Run → Ending) → Refines go more → (r : Run) (to : Option ℕ) →
+connected_more : (g : Story) (go more : Stage → Run → Ending) → Refines go more → (r : Run) (to : Option ℕ) →
     connected g (go AtDescribe) (go AtFrame) r to ≢ Unended → connected g (more AtDescribe) (more AtFrame) r to ≡ connected g (go AtDescribe) (go AtFrame) r to
 connected_more g go more h r None k = saying_more _ (go AtFrame) (more AtFrame) _ (h AtFrame) k
 connected_more g go more h r (Some to) k = h AtDescribe _ k
 
-after_left_more : (g : GameLists) (go more : Stage → Run → Ending) → Refines go more → (t : ℕ) (acted : Bool) (r : Run) →
+after_left_more : (g : Story) (go more : Stage → Run → Ending) → Refines go more → (t : ℕ) (acted : Bool) (r : Run) →
     after_left g go t acted r ≢ Unended → after_left g more t acted r ≡ after_left g go t acted r
 after_left_more g go more h zero true r k = h AtFrame r k
 after_left_more g go more h zero false r k = connected_more g go more h r _ k
 after_left_more g go more h (suc zero) acted r k = h AtFrame r k
 after_left_more g go more h (suc (suc t)) acted r k = h AtPhrase _ k
 
-pub table_done_more : (g : GameLists) (go more : Stage → Run → Ending) → Refines go more → (t : ℕ) (x : Out) →
+pub table_done_more : (g : Story) (go more : Stage → Run → Ending) → Refines go more → (t : ℕ) (x : Out) →
     table_done g go t x ≢ Unended → table_done g more t x ≡ table_done g go t x
 table_done_more g go more h t (Left a r) k = after_left_more g go more h t a r k
 table_done_more g go more h t (Redescribes r) k = h AtDescribe r k
@@ -175,7 +175,7 @@ table_done_more g go more h t (Ends r) k = refl
 table_done_more g go more h t (IsSpent kind r) k = refl
 table_done_more g go more h t (IsDeep u r) k = refl
 
-pub at_main_more : (g : GameLists) (go more : Stage → Run → Ending) → Refines go more → (r : Run) (lines : List (List ℕ)) →
+pub at_main_more : (g : Story) (go more : Stage → Run → Ending) → Refines go more → (r : Run) (lines : List (List ℕ)) →
     at_main g (go AtFrame) (go AtPhrase) r lines ≢ Unended → at_main g (more AtFrame) (more AtPhrase) r lines ≡ at_main g (go AtFrame) (go AtPhrase) r lines
 unfolding at_main
 at_main_more g go more h r [] k = refl
@@ -192,7 +192,7 @@ at_main_more g go more h r (line ∷ lines) k =
     by_test false true hx hy hz = hy
     by_test false false hx hy hz = hz
 
-after_phrase_more : (g : GameLists) (go more : Stage → Run → Ending) → Refines go more → (r : Run) (p : Parsed) →
+after_phrase_more : (g : Story) (go more : Stage → Run → Ending) → Refines go more → (r : Run) (p : Parsed) →
     after_phrase g (go AtFrame) (go AtPhrase) (go AtResponse) r p ≢ Unended →
     after_phrase g (more AtFrame) (more AtPhrase) (more AtResponse) r p ≡ after_phrase g (go AtFrame) (go AtPhrase) (go AtResponse) r p
 after_phrase_more g go more h r (IsSentence s rest) k = h AtResponse _ k
@@ -201,15 +201,15 @@ after_phrase_more g go more h r IsNoPhrase k =
     saying_more _ (λ s. at_main g (go AtFrame) (go AtPhrase) (closed s) s.events) (λ s. at_main g (more AtFrame) (more AtPhrase) (closed s) s.events) _
     (λ s. at_main_more g go more h (closed s) s.events) k
 
-pub turn_more : (g : GameLists) (X : List (List ℕ)) (n : ℕ) → Refines (turn g X n) (turn g X (suc n))
+pub turn_more : (g : Story) (n : ℕ) → Refines (turn g n) (turn g (suc n))
 unfolding turn
-turn_more g X zero s r k = absurd (k refl)
-turn_more g X (suc n) AtDescribe r k =
-    saying_more _ (λ q. table_done g (turn g X n) 1 (table_read g X 1 q)) (λ q. table_done g (turn g X (suc n)) 1 (table_read g X 1 q)) _
-    (λ q. table_done_more g (turn g X n) (turn g X (suc n)) (turn_more g X n) 1 (table_read g X 1 q)) k
-turn_more g X (suc n) AtFrame r k = table_done_more g (turn g X n) (turn g X (suc n)) (turn_more g X n) 2 (table_read g X 2 r) k
-turn_more g X (suc n) AtPhrase r k = after_phrase_more g (turn g X n) (turn g X (suc n)) (turn_more g X n) r _ k
-turn_more g X (suc n) AtResponse r k = table_done_more g (turn g X n) (turn g X (suc n)) (turn_more g X n) 0 (table_read g X 0 r) k
+turn_more g zero s r k = absurd (k refl)
+turn_more g (suc n) AtDescribe r k =
+    saying_more _ (λ q. table_done g (turn g n) 1 (table_read g 1 q)) (λ q. table_done g (turn g (suc n)) 1 (table_read g 1 q)) _
+    (λ q. table_done_more g (turn g n) (turn g (suc n)) (turn_more g n) 1 (table_read g 1 q)) k
+turn_more g (suc n) AtFrame r k = table_done_more g (turn g n) (turn g (suc n)) (turn_more g n) 2 (table_read g 2 r) k
+turn_more g (suc n) AtPhrase r k = after_phrase_more g (turn g n) (turn g (suc n)) (turn_more g n) r _ k
+turn_more g (suc n) AtResponse r k = table_done_more g (turn g n) (turn g (suc n)) (turn_more g n) 0 (table_read g 0 r) k
 
 -- any number of stages more
 pub many_more : (f : ℕ → Ending) → ((n : ℕ) → f n ≢ Unended → f (suc n) ≡ f n) → (k n : ℕ) → f n ≢ Unended → f (k + n) ≡ f n
@@ -238,17 +238,17 @@ same_ending f h n m en em = by_order (in_order n m)
 
 -- a turn that ends is the turn
 pub ends_once : EndsOnce
-ends_once g X n s r e = same_ending (λ m. turn g X m s r) (λ m. turn_more g X m s r) n (stages_left s r) e (turns_end g X s r)
+ends_once g n s r e = same_ending (λ m. turn g m s r) (λ m. turn_more g m s r) n (stages_left s r) e (turns_end g s r)
 
-goes_on_more : (g : GameLists) (X : List (List ℕ)) (p : Prompt) (path : List Frame) (r : Run) (n : ℕ) → goes_on g X n p path r ≢ Unended →
-    goes_on g X (suc n) p path r ≡ goes_on g X n p path r
-goes_on_more g X prompt.Main path r n k = at_main_more g (turn g X n) (turn g X (suc n)) (turn_more g X n) r r.events k
-goes_on_more g X prompt.Quit path r n k = table_done_more g (turn g X n) (turn g X (suc n)) (turn_more g X n) (first_table path) _ k
-goes_on_more g X prompt.Again path r n k = table_done_more g (turn g X n) (turn g X (suc n)) (turn_more g X n) (first_table path) _ k
-goes_on_more g X prompt.Key path r n k = table_done_more g (turn g X n) (turn g X (suc n)) (turn_more g X n) (first_table path) _ k
-goes_on_more g X prompt.Over path r n k = refl
+goes_on_more : (g : Story) (p : Prompt) (path : List Frame) (r : Run) (n : ℕ) → goes_on g n p path r ≢ Unended →
+    goes_on g (suc n) p path r ≡ goes_on g n p path r
+goes_on_more g prompt.Main path r n k = at_main_more g (turn g n) (turn g (suc n)) (turn_more g n) r r.events k
+goes_on_more g prompt.Quit path r n k = table_done_more g (turn g n) (turn g (suc n)) (turn_more g n) (first_table path) _ k
+goes_on_more g prompt.Again path r n k = table_done_more g (turn g n) (turn g (suc n)) (turn_more g n) (first_table path) _ k
+goes_on_more g prompt.Key path r n k = table_done_more g (turn g n) (turn g (suc n)) (turn_more g n) (first_table path) _ k
+goes_on_more g prompt.Over path r n k = refl
 
 -- going on that ends is going on
 pub goes_on_once : GoesOnOnce
-goes_on_once g X n p path r e =
-    same_ending (λ m. goes_on g X m p path r) (goes_on_more g X p path r) n (stages_left AtResponse r) e (going_on_ends g X p path r)
+goes_on_once g n p path r e =
+    same_ending (λ m. goes_on g m p path r) (goes_on_more g p path r) n (stages_left AtResponse r) e (going_on_ends g p path r)

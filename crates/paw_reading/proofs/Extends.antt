@@ -5,7 +5,7 @@ use Rattle.std.proofs.lemmas.Option.{slice_get_past}
 use Rattle.paw_base.specs.declared.parts.Condact.{Condact}
 use Rattle.paw_base.specs.declared.fault.SpentKind.TheVariants as spent
 use Rattle.paw_game.specs.declared.parts.Entry.{Entry}
-use Rattle.paw_game.specs.Game.{GameLists}
+use Rattle.paw_effects.specs.Story.{Story}
 use Rattle.paw_game.specs.Tables.{table_at, entry_at, condacts_of, condact_at}
 use Rattle.paw_phrase.specs.Sentence.{Parsed, IsSentence, IsUnknown, IsNoPhrase, parsed}
 use Rattle.paw_world.specs.World.{flag}
@@ -35,11 +35,11 @@ around ps ts lines r = record r { pieces = ps ++ r.pieces; traces = ts ++ r.trac
 closed_around : (ps : List (List ℕ)) (ts : List (List Step)) (lines : List (List ℕ)) (r : Run) → closed (around ps ts lines r) ≡ around ps ts lines (closed r)
 closed_around ps ts lines r = rw (append_assoc ps r.pieces (r.current ∷ []), append_assoc ts r.traces (r.read ∷ [])) refl
 
-module _ (g : GameLists) (X : List (List ℕ)) (ps : List (List ℕ)) (ts : List (List Step)) (lines : List (List ℕ)) where
+module _ (g : Story) (ps : List (List ℕ)) (ts : List (List Step)) (lines : List (List ℕ)) where
   -- what a reading at a level comes to around
   abbrev pub extends : ℕ → Out → Out
   extends lv (Left a r) = Left a (around ps ts lines r)
-  extends lv (Waits p path r) = on_path g X p lv path (around ps ts lines r)
+  extends lv (Waits p path r) = on_path g p lv path (around ps ts lines r)
   extends lv (Redescribes r) = Redescribes (around ps ts lines r)
   extends lv (Restarts r) = Restarts (around ps ts lines r)
   extends lv (Ends r) = Ends (around ps ts lines r)
@@ -48,19 +48,19 @@ module _ (g : GameLists) (X : List (List ℕ)) (ps : List (List ℕ)) (ts : List
 
   -- reading on at the entry after a frame's, and at the condact after it
   abbrev next_of : ℕ → Frame → Bool → Run → Out
-  next_of lv f = plain g X (deeper g X lv) lv f.table (suc f.entry) 0
+  next_of lv f = plain g (deeper g lv) lv f.table (suc f.entry) 0
 
   abbrev past_of : ℕ → Frame → Bool → Run → Out
-  past_of lv f = plain g X (deeper g X lv) lv f.table f.entry (suc f.at)
+  past_of lv f = plain g (deeper g lv) lv f.table f.entry (suc f.at)
 
   -- a level's open loop goes on
   abbrev loops : ℕ → Out → Out
-  loops lv x = again lv (looped g X (deeper g X lv) lv) x
+  loops lv x = again lv (looped g (deeper g lv) lv) x
 
   -- what a reading comes to around, where the level's open loop is yet to go on
   abbrev settles : ℕ → Out → Out
   settles lv (Left a r) = loops lv (Left a (around ps ts lines r))
-  settles lv (Waits p path r) = on_path g X p lv path (around ps ts lines r)
+  settles lv (Waits p path r) = on_path g p lv path (around ps ts lines r)
   settles lv (Redescribes r) = Redescribes (around ps ts lines r)
   settles lv (Restarts r) = Restarts (around ps ts lines r)
   settles lv (Ends r) = Ends (around ps ts lines r)
@@ -72,7 +72,7 @@ module _ (g : GameLists) (X : List (List ℕ)) (ps : List (List ℕ)) (ts : List
 
   -- calls from a level
   abbrev AreExtending : ℕ → Type 0
-  AreExtending lv = (u : ℕ) (r : Run) → deeper g X lv u (around ps ts lines r) ≡ extends (suc lv) (deeper g X lv u r)
+  AreExtending lv = (u : ℕ) (r : Run) → deeper g lv u (around ps ts lines r) ≡ extends (suc lv) (deeper g lv u r)
 
   module _ (lv : ℕ) where
     settles_or : (b : Bool) (x x' y y' : Out) → loops lv x ≡ settles lv y → loops lv x' ≡ settles lv y' →
@@ -93,7 +93,7 @@ module _ (g : GameLists) (X : List (List ℕ)) (ps : List (List ℕ)) (ts : List
     settles_call f hg (Left b r) k = hg (f.acted || b) r
     settles_call f hg (Waits p [] r) k = absurd (k.some refl)
     settles_call f hg (Waits p (h ∷ path) r) k =
-        after_call_again g X (deeper g X lv) lv f (past_of lv f) (on_path g X p (suc lv) (h ∷ path) (around ps ts lines r))
+        after_call_again g (deeper g lv) lv f (past_of lv f) (on_path g p (suc lv) (h ∷ path) (around ps ts lines r))
     settles_call f hg (Redescribes r) k = refl
     settles_call f hg (Restarts r) k = refl
     settles_call f hg (Ends r) k = refl
@@ -104,8 +104,8 @@ module _ (g : GameLists) (X : List (List ℕ)) (ps : List (List ℕ)) (ts : List
 
     settles_over : IsSettling lv (over g)
     settles_over r =
-        settles_printing (say_text g r.world 14) (λ s. Ends (closed (without_loop (line_dropped s)))) r
-        (ap Ends (closed_around ps ts lines (without_loop (line_dropped (printed (say_text g r.world 14) r)))))
+        settles_printing (say_text g.game r.world 14) (λ s. Ends (closed (without_loop (line_dropped s)))) r
+        (ap Ends (closed_around ps ts lines (without_loop (line_dropped (printed (say_text g.game r.world 14) r)))))
 
     settles_answered : (p : Prompt) (f : Frame) (go : Bool → Run → Out) → ((a : Bool) → IsSettling lv (go a)) → (line : List ℕ) → IsSettling lv (answered g p f go line)
     settles_answered prompt.Main f go hg line r = hg f.acted r
@@ -138,30 +138,30 @@ module _ (g : GameLists) (X : List (List ℕ)) (ps : List (List ℕ)) (ts : List
 
     -- ---- the loop ----
 
-    settles_turns : (l : OpenLoop) → l.level ≡ lv → IsSettling lv (plain g X (deeper g X lv) lv l.table l.entry (suc l.at) true) → (n : ℕ) → n ≤ length g.objects →
-        IsSettling lv (turns g lv (record l { last = 0 }) (plain g X (deeper g X lv) lv l.table l.entry (suc l.at) true) n)
+    settles_turns : (l : OpenLoop) → l.level ≡ lv → IsSettling lv (plain g (deeper g lv) lv l.table l.entry (suc l.at) true) → (n : ℕ) → n ≤ length g.game.objects →
+        IsSettling lv (turns g lv (record l { last = 0 }) (plain g (deeper g lv) lv l.table l.entry (suc l.at) true) n)
     unfolding turns
     settles_turns l own hb zero low r = refl
     settles_turns l own hb (suc n) low r =
-        settles_or (is_taken g r.world l (length g.objects - suc n)) _ _ _ _
-        (takes (length g.objects - suc n) (omega arith) (settles_turns l own hb n (omega arith)))
+        settles_or (is_taken g.game r.world l (length g.game.objects - suc n)) _ _ _ _
+        (takes (length g.game.objects - suc n) (omega arith) (settles_turns l own hb n (omega arith)))
         (settles_turns l own hb n (omega arith) r)
       where
         body : Run → Out
-        body = plain g X (deeper g X lv) lv l.table l.entry (suc l.at) true
+        body = plain g (deeper g lv) lv l.table l.entry (suc l.at) true
 
         more : Run → Out
         more = turns g lv (record l { last = 0 }) body n
 
-        keeps : (o : ℕ) (s : Run) → Keeps (Some (record l { last = o })) (body (taken g l o s))
-        keeps o s = plain_keeps g X (deeper g X lv) lv (deeper_keeps g X lv) l.table l.entry (suc l.at) true (taken g l o s)
+        keeps : (o : ℕ) (s : Run) → Keeps (Some (record l { last = o })) (body (taken g.game l o s))
+        keeps o s = plain_keeps g (deeper g lv) lv (deeper_keeps g lv) l.table l.entry (suc l.at) true (taken g.game l o s)
 
-        after : (o : ℕ) → length g.objects - suc o ≡ n → IsSettling lv more → (y : Out) → Keeps (Some (record l { last = o })) y → settles lv y ≡ settles lv (again lv (λ _. more) y)
+        after : (o : ℕ) → length g.game.objects - suc o ≡ n → IsSettling lv more → (y : Out) → Keeps (Some (record l { last = o })) y → settles lv y ≡ settles lv (again lv (λ _. more) y)
         after o e ih (Left a s) (inl k) =
             let q : at_level lv s.turning ≡ Some (record l { last = o }) = rw k (at_level_own lv (record l { last = o }) own) in
             rw (q, e)
-            (sym (again_closed g X (deeper g X lv) lv (looped g X (deeper g X lv) lv) (more (around ps ts lines s))
-            (turns_closes g lv (record l { last = 0 }) body own (plain_keeps g X (deeper g X lv) lv (deeper_keeps g X lv) l.table l.entry (suc l.at) true) n (around ps ts lines s)))
+            (sym (again_closed g (deeper g lv) lv (looped g (deeper g lv) lv) (more (around ps ts lines s))
+            (turns_closes g lv (record l { last = 0 }) body own (plain_keeps g (deeper g lv) lv (deeper_keeps g lv) l.table l.entry (suc l.at) true) n (around ps ts lines s)))
             ∙ ih s)
         after o e ih (Left a s) (inr k) = rw k refl
         after o e ih (Waits p path s) k = refl
@@ -171,35 +171,35 @@ module _ (g : GameLists) (X : List (List ℕ)) (ps : List (List ℕ)) (ts : List
         after o e ih (IsSpent kind s) k = refl
         after o e ih (IsDeep u s) k = refl
 
-        takes : (o : ℕ) → length g.objects - suc o ≡ n → IsSettling lv more →
-            loops lv (again lv (λ _. more) (body (taken g l o (around ps ts lines r)))) ≡ settles lv (again lv (λ _. more) (body (taken g l o r)))
+        takes : (o : ℕ) → length g.game.objects - suc o ≡ n → IsSettling lv more →
+            loops lv (again lv (λ _. more) (body (taken g.game l o (around ps ts lines r)))) ≡ settles lv (again lv (λ _. more) (body (taken g.game l o r)))
         takes o e ih =
-            let p : again lv (λ _. turns g lv (record l { last = 0 }) body (length g.objects - suc o)) (body (taken g l o (around ps ts lines r))) ≡ loops lv (body (taken g l o (around ps ts lines r))) =
-            taken_again g X (deeper g X lv) lv l o _ own (keeps o (around ps ts lines r)) in
-            let q : again lv (λ _. more) (body (taken g l o (around ps ts lines r))) ≡ loops lv (body (taken g l o (around ps ts lines r))) = rw e at p in
-            ap (λ x. loops lv x) q ∙ again_again g X (deeper g X lv) lv (deeper_keeps g X lv) (body (taken g l o (around ps ts lines r))) ∙ hb (taken g l o r)
-            ∙ after o e ih (body (taken g l o r)) (keeps o r)
+            let p : again lv (λ _. turns g lv (record l { last = 0 }) body (length g.game.objects - suc o)) (body (taken g.game l o (around ps ts lines r))) ≡ loops lv (body (taken g.game l o (around ps ts lines r))) =
+            taken_again g (deeper g lv) lv l o _ own (keeps o (around ps ts lines r)) in
+            let q : again lv (λ _. more) (body (taken g.game l o (around ps ts lines r))) ≡ loops lv (body (taken g.game l o (around ps ts lines r))) = rw e at p in
+            ap (λ x. loops lv x) q ∙ again_again g (deeper g lv) lv (deeper_keeps g lv) (body (taken g.game l o (around ps ts lines r))) ∙ hb (taken g.game l o r)
+            ∙ after o e ih (body (taken g.game l o r)) (keeps o r)
 
     -- ---- one condact ----
 
     module _ (calls : AreExtending lv) where
       settles_action : (f : Frame) → ((a : Bool) → IsSettling lv (next_of lv f a)) →
           ((a : Bool) → IsSettling lv (past_of lv f a)) → (e : Effect) →
-          IsSettling lv (after_action g (deeper g X lv) lv f (next_of lv f) (past_of lv f) e)
+          IsSettling lv (after_action g (deeper g lv) lv f (next_of lv f) (past_of lv f) e)
       settles_action f hn hg effect.Go r = hg true r
       settles_action f hn hg (effect.Exit a) r = refl
       settles_action f hn hg effect.Redescribe r = refl
-      settles_action f hn hg (effect.Call u) r = rw (calls u r) (settles_call f hg (deeper g X lv u r) (deeper_stops g X lv u r))
-      settles_action f hn hg (effect.Loop p) r = settles_turns (loop_of lv f p) refl (hg true) (length g.objects) (omega arith) r
+      settles_action f hn hg (effect.Call u) r = rw (calls u r) (settles_call f hg (deeper g lv u r) (deeper_stops g lv u r))
+      settles_action f hn hg (effect.Loop p) r = settles_turns (loop_of lv f p) refl (hg true) (length g.game.objects) (omega arith) r
       settles_action f hn hg (effect.Ask p) r = settles_waits p f hg r
-      settles_action f hn hg effect.Parse r = settles_parse f (next_of lv f) (past_of lv f) hn hg r (parsed g r.pending r.earlier (flag r.world 46) (flag r.world 47))
+      settles_action f hn hg effect.Parse r = settles_parse f (next_of lv f) (past_of lv f) hn hg r (parsed g.game r.pending r.earlier (flag r.world 46) (flag r.world 47))
       settles_action f hn hg effect.Spent r = refl
 
       settles_acts : (f : Frame) → ((a : Bool) → IsSettling lv (next_of lv f a)) →
           ((a : Bool) → IsSettling lv (past_of lv f a)) → (d : Done) →
-          IsSettling lv (acts g (deeper g X lv) lv f (next_of lv f) (past_of lv f) d)
+          IsSettling lv (acts g (deeper g lv) lv f (next_of lv f) (past_of lv f) d)
       settles_acts f hn hg d r =
-          settles_printing d.text (λ s. after_action g (deeper g X lv) lv f (next_of lv f) (past_of lv f) d.act.effect (carried_out d s)) r (settles_action f hn hg d.act.effect (carried_out d (printed d.text r)))
+          settles_printing d.text (λ s. after_action g (deeper g lv) lv f (next_of lv f) (past_of lv f) d.act.effect (carried_out d s)) r (settles_action f hn hg d.act.effect (carried_out d (printed d.text r)))
 
       settles_test : (f : Frame) → ((a : Bool) → IsSettling lv (next_of lv f a)) →
           ((a : Bool) → IsSettling lv (past_of lv f a)) → (c : Condact) (r : Run) (t : Truth) →
@@ -208,50 +208,50 @@ module _ (g : GameLists) (X : List (List ℕ)) (ps : List (List ℕ)) (ts : List
       settles_test f hn hg c r truth.Yes = hg f.acted (noted f c true r)
       settles_test f hn hg c r truth.No = hn f.acted (noted f c false r)
       settles_test f hn hg c r truth.Ask =
-          settles_printing (put_text g r.world 12) (waits g prompt.Quit f (past_of lv f)) (noted f c true r) (settles_waits prompt.Quit f hg (printed (put_text g r.world 12) (noted f c true r)))
+          settles_printing (put_text g.game r.world 12) (waits g prompt.Quit f (past_of lv f)) (noted f c true r) (settles_waits prompt.Quit f hg (printed (put_text g.game r.world 12) (noted f c true r)))
 
       settles_one : (f : Frame) → ((a : Bool) → IsSettling lv (next_of lv f a)) →
           ((a : Bool) → IsSettling lv (past_of lv f a)) → (c : Condact) →
-          IsSettling lv (reads_one g X (deeper g X lv) lv f (next_of lv f) (past_of lv f) c)
+          IsSettling lv (reads_one g (deeper g lv) lv f (next_of lv f) (past_of lv f) c)
       settles_one f hn hg c r =
           settles_or (is_condition c) _ _ _ _
-          (settles_test f hn hg c (with_world (holds g r.world c).world r) (holds g r.world c).answer)
-          (settles_acts f hn hg (effect_of g X r.world c) (noted f c true r))
+          (settles_test f hn hg c (with_world (holds g.game r.world c).world r) (holds g.game r.world c).answer)
+          (settles_acts f hn hg (effect_of g r.world c) (noted f c true r))
 
       -- ---- entries, tables ----
 
-      settles_inside : (t e : ℕ) → ((a : Bool) → IsSettling lv (plain g X (deeper g X lv) lv t (suc e) 0 a)) → (m k : ℕ) → length (condacts_of (entry_at g t e)) ≤ k + m →
-          (a : Bool) → IsSettling lv (inside g X (deeper g X lv) lv t e k a)
+      settles_inside : (t e : ℕ) → ((a : Bool) → IsSettling lv (plain g (deeper g lv) lv t (suc e) 0 a)) → (m k : ℕ) → length (condacts_of (entry_at g.game t e)) ≤ k + m →
+          (a : Bool) → IsSettling lv (inside g (deeper g lv) lv t e k a)
       settles_inside t e hn zero k low a r =
-          let n : condact_at g t e k ≡ None = slice_get_past (condacts_of (entry_at g t e)) k (omega arith) in
-          rw (inside_end g X (deeper g X lv) lv t e k a (around ps ts lines r) n, inside_end g X (deeper g X lv) lv t e k a r n) (hn a r)
-      settles_inside t e hn (suc m) k low a r = at_condact (condact_at g t e k) refl (settles_inside t e hn m (suc k) (omega arith))
+          let n : condact_at g.game t e k ≡ None = slice_get_past (condacts_of (entry_at g.game t e)) k (omega arith) in
+          rw (inside_end g (deeper g lv) lv t e k a (around ps ts lines r) n, inside_end g (deeper g lv) lv t e k a r n) (hn a r)
+      settles_inside t e hn (suc m) k low a r = at_condact (condact_at g.game t e k) refl (settles_inside t e hn m (suc k) (omega arith))
         where
-          at_condact : (o : Option Condact) → condact_at g t e k ≡ o → ((b : Bool) → IsSettling lv (inside g X (deeper g X lv) lv t e (suc k) b)) →
-              loops lv (inside g X (deeper g X lv) lv t e k a (around ps ts lines r)) ≡ settles lv (inside g X (deeper g X lv) lv t e k a r)
-          at_condact None n ih = rw (inside_end g X (deeper g X lv) lv t e k a (around ps ts lines r) n, inside_end g X (deeper g X lv) lv t e k a r n) (hn a r)
+          at_condact : (o : Option Condact) → condact_at g.game t e k ≡ o → ((b : Bool) → IsSettling lv (inside g (deeper g lv) lv t e (suc k) b)) →
+              loops lv (inside g (deeper g lv) lv t e k a (around ps ts lines r)) ≡ settles lv (inside g (deeper g lv) lv t e k a r)
+          at_condact None n ih = rw (inside_end g (deeper g lv) lv t e k a (around ps ts lines r) n, inside_end g (deeper g lv) lv t e k a r n) (hn a r)
           at_condact (Some c) n ih =
-              rw (inside_condact g X (deeper g X lv) lv t e k a (around ps ts lines r) c n, inside_condact g X (deeper g X lv) lv t e k a r c n)
+              rw (inside_condact g (deeper g lv) lv t e k a (around ps ts lines r) c n, inside_condact g (deeper g lv) lv t e k a r c n)
               (settles_or (nat_lt (length r.read) 200000) _ (IsSpent spent.Condacts (around ps ts lines r)) _ (IsSpent spent.Condacts r)
               (settles_one (record { table = t; entry = e; at = k; acted = a }) hn ih c r) refl)
 
-      settles_entries : (t m e : ℕ) → length (table_at g t) ≤ e + m → (a : Bool) → IsSettling lv (plain g X (deeper g X lv) lv t e 0 a)
+      settles_entries : (t m e : ℕ) → length (table_at g.game t) ≤ e + m → (a : Bool) → IsSettling lv (plain g (deeper g lv) lv t e 0 a)
       settles_entries t zero e low a r =
-          let n : entry_at g t e ≡ None = slice_get_past (table_at g t) e (omega arith) in
-          rw (plain_end g X (deeper g X lv) lv t e a (around ps ts lines r) n, plain_end g X (deeper g X lv) lv t e a r n) refl
-      settles_entries t (suc m) e low a r = at_entry (entry_at g t e) refl (settles_entries t m (suc e) (omega arith))
+          let n : entry_at g.game t e ≡ None = slice_get_past (table_at g.game t) e (omega arith) in
+          rw (plain_end g (deeper g lv) lv t e a (around ps ts lines r) n, plain_end g (deeper g lv) lv t e a r n) refl
+      settles_entries t (suc m) e low a r = at_entry (entry_at g.game t e) refl (settles_entries t m (suc e) (omega arith))
         where
-          at_entry : (o : Option Entry) → entry_at g t e ≡ o → ((b : Bool) → IsSettling lv (plain g X (deeper g X lv) lv t (suc e) 0 b)) →
-              loops lv (plain g X (deeper g X lv) lv t e 0 a (around ps ts lines r)) ≡ settles lv (plain g X (deeper g X lv) lv t e 0 a r)
-          at_entry None n ih = rw (plain_end g X (deeper g X lv) lv t e a (around ps ts lines r) n, plain_end g X (deeper g X lv) lv t e a r n) refl
+          at_entry : (o : Option Entry) → entry_at g.game t e ≡ o → ((b : Bool) → IsSettling lv (plain g (deeper g lv) lv t (suc e) 0 b)) →
+              loops lv (plain g (deeper g lv) lv t e 0 a (around ps ts lines r)) ≡ settles lv (plain g (deeper g lv) lv t e 0 a r)
+          at_entry None n ih = rw (plain_end g (deeper g lv) lv t e a (around ps ts lines r) n, plain_end g (deeper g lv) lv t e a r n) refl
           at_entry (Some en) n ih =
-              rw (plain_entry g X (deeper g X lv) lv t e en a (around ps ts lines r) n, plain_entry g X (deeper g X lv) lv t e en a r n)
-              (settles_or (is_for_now r en) _ _ _ _ (settles_inside t e ih (length (condacts_of (entry_at g t e))) 0 (omega arith) a r) (ih a r))
+              rw (plain_entry g (deeper g lv) lv t e en a (around ps ts lines r) n, plain_entry g (deeper g lv) lv t e en a r n)
+              (settles_or (is_for_now r en) _ _ _ _ (settles_inside t e ih (length (condacts_of (entry_at g.game t e))) 0 (omega arith) a r) (ih a r))
 
-      settles_plain : (t e k : ℕ) (a : Bool) → IsSettling lv (plain g X (deeper g X lv) lv t e k a)
-      settles_plain t e zero a = settles_entries t (length (table_at g t)) e (omega arith) a
+      settles_plain : (t e k : ℕ) (a : Bool) → IsSettling lv (plain g (deeper g lv) lv t e k a)
+      settles_plain t e zero a = settles_entries t (length (table_at g.game t)) e (omega arith) a
       settles_plain t e (suc k) a =
-          settles_inside t e (settles_entries t (length (table_at g t)) (suc e) (omega arith)) (length (condacts_of (entry_at g t e))) (suc k) (omega arith) a
+          settles_inside t e (settles_entries t (length (table_at g.game t)) (suc e) (omega arith)) (length (condacts_of (entry_at g.game t e))) (suc k) (omega arith) a
 
       settles_closed : (x : Out) → Keeps None x → settles lv x ≡ extends lv x
       settles_closed (Left a r) (inl k) = rw k refl
@@ -268,15 +268,15 @@ module _ (g : GameLists) (X : List (List ℕ)) (ps : List (List ℕ)) (ts : List
       settles_extends (Left a r) = by_loop (at_level lv r.turning) refl
         where
           by_loop : (o : Option OpenLoop) → at_level lv r.turning ≡ o →
-              loops lv (Left a (around ps ts lines r)) ≡ extends lv (if_open (λ l. looped g X (deeper g X lv) lv l r) (Left a r) o)
+              loops lv (Left a (around ps ts lines r)) ≡ extends lv (if_open (λ l. looped g (deeper g lv) lv l r) (Left a r) o)
           by_loop None e = rw e refl
           by_loop (Some l) e =
               let own : l.level ≡ lv = (at_level_is lv r.turning l e).0 in
               rw e
-              (sym (again_closed g X (deeper g X lv) lv (looped g X (deeper g X lv) lv) (looped g X (deeper g X lv) lv l (around ps ts lines r))
-              (looped_closes g X (deeper g X lv) lv (deeper_keeps g X lv) l (around ps ts lines r) own))
-              ∙ settles_turns l own (settles_plain l.table l.entry (suc l.at) true) (length g.objects - suc l.last) (omega arith) r
-              ∙ settles_closed (looped g X (deeper g X lv) lv l r) (looped_closes g X (deeper g X lv) lv (deeper_keeps g X lv) l r own))
+              (sym (again_closed g (deeper g lv) lv (looped g (deeper g lv) lv) (looped g (deeper g lv) lv l (around ps ts lines r))
+              (looped_closes g (deeper g lv) lv (deeper_keeps g lv) l (around ps ts lines r) own))
+              ∙ settles_turns l own (settles_plain l.table l.entry (suc l.at) true) (length g.game.objects - suc l.last) (omega arith) r
+              ∙ settles_closed (looped g (deeper g lv) lv l r) (looped_closes g (deeper g lv) lv (deeper_keeps g lv) l r own))
       settles_extends (Waits p path r) = refl
       settles_extends (Redescribes r) = refl
       settles_extends (Restarts r) = refl
@@ -284,10 +284,10 @@ module _ (g : GameLists) (X : List (List ℕ)) (ps : List (List ℕ)) (ts : List
       settles_extends (IsSpent kind r) = refl
       settles_extends (IsDeep u r) = refl
 
-      reads_extend : (t e k : ℕ) (a : Bool) (r : Run) → rest g X lv t e k a (around ps ts lines r) ≡ extends lv (rest g X lv t e k a r)
-      reads_extend t e k a r = settles_plain t e k a r ∙ settles_extends (plain g X (deeper g X lv) lv t e k a r)
+      reads_extend : (t e k : ℕ) (a : Bool) (r : Run) → rest g lv t e k a (around ps ts lines r) ≡ extends lv (rest g lv t e k a r)
+      reads_extend t e k a r = settles_plain t e k a r ∙ settles_extends (plain g (deeper g lv) lv t e k a r)
 
-      asked_extends : (p : Prompt) (f : Frame) (r : Run) → on_path g X p lv (f ∷ []) (around ps ts lines r) ≡ extends lv (on_path g X p lv (f ∷ []) r)
+      asked_extends : (p : Prompt) (f : Frame) (r : Run) → on_path g p lv (f ∷ []) (around ps ts lines r) ≡ extends lv (on_path g p lv (f ∷ []) r)
       asked_extends p f r =
           settles_asked p f (settles_plain f.table f.entry (suc f.at)) r r.events
           ∙ settles_extends (asked g p f (past_of lv f) r r.events)
@@ -297,16 +297,16 @@ module _ (g : GameLists) (X : List (List ℕ)) (ps : List (List ℕ)) (ts : List
   -- n levels are left
   calls_extend : (n lv : ℕ) → 10 - lv ≡ n → AreExtending lv
   calls_extend zero lv e u r =
-      let deep : 10 ≤ lv = omega arith in rw (deeper_none g X lv u (around ps ts lines r) deep, deeper_none g X lv u r deep) refl
+      let deep : 10 ≤ lv = omega arith in rw (deeper_none g lv u (around ps ts lines r) deep, deeper_none g lv u r deep) refl
   calls_extend (suc n) lv e u r =
       let low : lv < 10 = omega arith in
-      rw (deeper_rest g X lv u (around ps ts lines r) low, deeper_rest g X lv u r low) (reads_extend (suc lv) (calls_extend n (suc lv) (omega arith)) u 0 0 false r)
+      rw (deeper_rest g lv u (around ps ts lines r) low, deeper_rest g lv u r low) (reads_extend (suc lv) (calls_extend n (suc lv) (omega arith)) u 0 0 false r)
 
-  pub rest_extends : (lv t e k : ℕ) (a : Bool) (r : Run) → rest g X lv t e k a (around ps ts lines r) ≡ extends lv (rest g X lv t e k a r)
+  pub rest_extends : (lv t e k : ℕ) (a : Bool) (r : Run) → rest g lv t e k a (around ps ts lines r) ≡ extends lv (rest g lv t e k a r)
   rest_extends lv = reads_extend lv (calls_extend (10 - lv) lv refl)
 
   after_call_extends : (lv : ℕ) (f : Frame) (x : Out) → Stops x →
-      after_call f (rest g X lv f.table f.entry (suc f.at)) (extends (suc lv) x) ≡ extends lv (after_call f (rest g X lv f.table f.entry (suc f.at)) x)
+      after_call f (rest g lv f.table f.entry (suc f.at)) (extends (suc lv) x) ≡ extends lv (after_call f (rest g lv f.table f.entry (suc f.at)) x)
   after_call_extends lv f (Left b r) k = rest_extends lv f.table f.entry (suc f.at) (f.acted || b) r
   after_call_extends lv f (Waits p [] r) k = absurd (k.some refl)
   after_call_extends lv f (Waits p (h ∷ path) r) k = refl
@@ -317,8 +317,8 @@ module _ (g : GameLists) (X : List (List ℕ)) (ps : List (List ℕ)) (ts : List
   after_call_extends lv f (IsDeep u r) k = refl
 
   -- so does going on along a path
-  pub path_extends : (p : Prompt) (lv : ℕ) (path : List Frame) (r : Run) → on_path g X p lv path (around ps ts lines r) ≡ extends lv (on_path g X p lv path r)
+  pub path_extends : (p : Prompt) (lv : ℕ) (path : List Frame) (r : Run) → on_path g p lv path (around ps ts lines r) ≡ extends lv (on_path g p lv path r)
   path_extends p lv [] r = refl
   path_extends p lv (f ∷ []) r = asked_extends lv (calls_extend (10 - lv) lv refl) p f r
   path_extends p lv (f ∷ h ∷ path) r =
-      rw (path_extends p (suc lv) (h ∷ path) r) (after_call_extends lv f (on_path g X p (suc lv) (h ∷ path) r) (path_stops g X p (suc lv) (h ∷ path) r))
+      rw (path_extends p (suc lv) (h ∷ path) r) (after_call_extends lv f (on_path g p (suc lv) (h ∷ path) r) (path_stops g p (suc lv) (h ∷ path) r))

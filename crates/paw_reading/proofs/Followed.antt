@@ -2,7 +2,7 @@
 use Rattle.std.proofs.Common.{◌≡◌, ◌≢◌, ℕ, zero, suc, ◌+◌, Bool, true, false, List, [], ◌∷◌, ◌++◌, inl, inr, Option, Some, None, refl, sym, ◌∙◌, subst, arith}
 use Rattle.std.specs.Prelude.{if◌then◌else◌}
 use Rattle.paw_base.specs.declared.fault.SpentKind.TheVariants as spent
-use Rattle.paw_game.specs.Game.{GameLists}
+use Rattle.paw_effects.specs.Story.{Story}
 use Rattle.paw_game.specs.Tables.{exit_at}
 use Rattle.paw_world.specs.World.{flag, with_flag}
 use Rattle.paw_phrase.specs.Sentence.{Parsed, IsSentence, IsUnknown, IsNoPhrase, parsed}
@@ -26,10 +26,10 @@ left_none : (a : Bool) (r : Run) → Keeps None (Left a r) → r.turning ≡ Non
 left_none a r (inl h) = h
 left_none a r (inr h) = h
 
-module _ (g : GameLists) (X lines : List (List ℕ)) where
+module _ (g : Story) (lines : List (List ℕ)) where
   -- going on with these lines, in at most m stages more
   abbrev pub goes_from : ℕ → Ending → Ending
-  goes_from m (WaitsAt p path r) = goes_on g X m p path (with_lines lines r)
+  goes_from m (WaitsAt p path r) = goes_on g m p path (with_lines lines r)
   goes_from m (IsOver r) = IsOver (with_lines lines r)
   goes_from m (RunsOut kind r) = RunsOut kind (with_lines lines r)
   goes_from m (CallsTooDeep u r) = CallsTooDeep u (with_lines lines r)
@@ -51,35 +51,35 @@ module _ (g : GameLists) (X lines : List (List ℕ)) where
       by_test true k = h k
       by_test false k = refl
 
-  module _ (m : ℕ) (go more : Stage → Run → Ending) (follows : AreFollowing m go more) (refines : Refines (turn g X m) more) where
+  module _ (m : ℕ) (go more : Stage → Run → Ending) (follows : AreFollowing m go more) (refines : Refines (turn g m) more) where
     connected_follows : (r : Run) → r.turning ≡ None → (to : Option ℕ) →
         Follows m (connected g (go AtDescribe) (go AtFrame) r to) (connected g (more AtDescribe) (more AtFrame) (with_lines lines r) to)
     connected_follows r none None k =
-        saying_follows m (refusal_text g r.world) (go AtFrame) (more AtFrame) (line_dropped r) (follows AtFrame (printed (refusal_text g r.world) (line_dropped r)) none) k
+        saying_follows m (refusal_text g.game r.world) (go AtFrame) (more AtFrame) (line_dropped r) (follows AtFrame (printed (refusal_text g.game r.world) (line_dropped r)) none) k
     connected_follows r none (Some to) k = follows AtDescribe (with_world (with_flag r.world 38 to) r) none k
 
     after_left_follows : (t : ℕ) (a : Bool) (r : Run) → r.turning ≡ None → Follows m (after_left g go t a r) (after_left g more t a (with_lines lines r))
     after_left_follows zero true r none k = follows AtFrame r none k
-    after_left_follows zero false r none k = connected_follows r none (exit_at g (flag r.world 38) (flag r.world 33)) k
+    after_left_follows zero false r none k = connected_follows r none (exit_at g.game (flag r.world 38) (flag r.world 33)) k
     after_left_follows (suc zero) a r none k = follows AtFrame r none k
     after_left_follows (suc (suc t)) a r none k = follows AtPhrase (with_world (framed r.world) r) none k
 
     -- a wait in table t
     waits_follow : (t : ℕ) (p : Prompt) (path : List Frame) (r : Run) → IsInner p → first_table path ≡ t →
-        Follows m (WaitsAt p path r) (table_done g more t (on_path g X p 0 path (with_lines lines r)))
+        Follows m (WaitsAt p path r) (table_done g more t (on_path g p 0 path (with_lines lines r)))
     waits_follow t prompt.Main path r inner e k = absurd inner
     waits_follow t prompt.Quit path r inner e k =
-        subst (λ u. table_done g more u (on_path g X prompt.Quit 0 path (with_lines lines r)) ≡ goes_on g X m prompt.Quit path (with_lines lines r)) e
-        (table_done_more g (turn g X m) more refines (first_table path) (on_path g X prompt.Quit 0 path (with_lines lines r)) k)
+        subst (λ u. table_done g more u (on_path g prompt.Quit 0 path (with_lines lines r)) ≡ goes_on g m prompt.Quit path (with_lines lines r)) e
+        (table_done_more g (turn g m) more refines (first_table path) (on_path g prompt.Quit 0 path (with_lines lines r)) k)
     waits_follow t prompt.Again path r inner e k =
-        subst (λ u. table_done g more u (on_path g X prompt.Again 0 path (with_lines lines r)) ≡ goes_on g X m prompt.Again path (with_lines lines r)) e
-        (table_done_more g (turn g X m) more refines (first_table path) (on_path g X prompt.Again 0 path (with_lines lines r)) k)
+        subst (λ u. table_done g more u (on_path g prompt.Again 0 path (with_lines lines r)) ≡ goes_on g m prompt.Again path (with_lines lines r)) e
+        (table_done_more g (turn g m) more refines (first_table path) (on_path g prompt.Again 0 path (with_lines lines r)) k)
     waits_follow t prompt.Key path r inner e k =
-        subst (λ u. table_done g more u (on_path g X prompt.Key 0 path (with_lines lines r)) ≡ goes_on g X m prompt.Key path (with_lines lines r)) e
-        (table_done_more g (turn g X m) more refines (first_table path) (on_path g X prompt.Key 0 path (with_lines lines r)) k)
+        subst (λ u. table_done g more u (on_path g prompt.Key 0 path (with_lines lines r)) ≡ goes_on g m prompt.Key path (with_lines lines r)) e
+        (table_done_more g (turn g m) more refines (first_table path) (on_path g prompt.Key 0 path (with_lines lines r)) k)
     waits_follow t prompt.Over path r inner e k = absurd inner
 
-    table_done_follows : (t : ℕ) (x : Out) → Keeps None x → Stops x → Stays t 0 x → Follows m (table_done g go t x) (table_done g more t (extended g X lines 0 x))
+    table_done_follows : (t : ℕ) (x : Out) → Keeps None x → Stops x → Stays t 0 x → Follows m (table_done g go t x) (table_done g more t (extended g lines 0 x))
     table_done_follows t (Left a r) keeps stops stays k = after_left_follows t a r (left_none a r keeps) k
     table_done_follows t (Waits p path r) keeps stops stays k = waits_follow t p path r stays.inner (stays.first refl) k
     table_done_follows t (Redescribes r) keeps stops stays k = follows AtDescribe r stops k
@@ -89,26 +89,26 @@ module _ (g : GameLists) (X lines : List (List ℕ)) where
     table_done_follows t (IsDeep u r) keeps stops stays k = refl
 
     -- a table that is read from its start
-    read_follows : (t : ℕ) (r : Run) → r.turning ≡ None → Follows m (table_done g go t (table_read g X t r)) (table_done g more t (table_read g X t (with_lines lines r)))
+    read_follows : (t : ℕ) (r : Run) → r.turning ≡ None → Follows m (table_done g go t (table_read g t r)) (table_done g more t (table_read g t (with_lines lines r)))
     read_follows t r none =
-        rw (tables_go_on g X lines 0 t 0 0 false r)
-        (table_done_follows t (table_read g X t r)
-        (subst (λ o. Keeps o (table_read g X t r)) none (reads_keeps g X (deeper g X 0) 0 (deeper_keeps g X 0) t 0 0 false r))
-        (rest_stops g X 0 t 0 0 false r)
-        (rest_stays t g X 0 t 0 0 (λ z. refl) false r (subst (IsLoopOf t) (sym none) tt)))
+        rw (tables_go_on g lines 0 t 0 0 false r)
+        (table_done_follows t (table_read g t r)
+        (subst (λ o. Keeps o (table_read g t r)) none (reads_keeps g (deeper g 0) 0 (deeper_keeps g 0) t 0 0 false r))
+        (rest_stops g 0 t 0 0 false r)
+        (rest_stays t g 0 t 0 0 (λ z. refl) false r (subst (IsLoopOf t) (sym none) tt)))
 
     at_main_follows : (r : Run) (es : List (List ℕ)) → r.turning ≡ None →
         Follows m (at_main g (go AtFrame) (go AtPhrase) r es) (at_main g (more AtFrame) (more AtPhrase) (with_lines lines (record r { events = es })) (es ++ lines))
     unfolding at_main
-    at_main_follows r [] none k = at_main_more g (turn g X m) more refines (with_lines lines (record r { events = [] })) lines k
+    at_main_follows r [] none k = at_main_more g (turn g m) more refines (with_lines lines (record r { events = [] })) lines k
     at_main_follows r (line ∷ es) none k =
         by_test (is_ignored r.world line) (is_timeout line)
         (at_main g (go AtFrame) (go AtPhrase) (closed (record r { events = es })) es)
-        (saying (say_text g (with_timeout true r.world) 35) (go AtFrame) (heard line (record r { events = es })))
+        (saying (say_text g.game (with_timeout true r.world) 35) (go AtFrame) (heard line (record r { events = es })))
         (go AtPhrase (line_set line (record r { events = es })))
         (at_main_follows (closed (record r { events = es })) es none)
-        (saying_follows m (say_text g (with_timeout true r.world) 35) (go AtFrame) (more AtFrame) (heard line (record r { events = es }))
-        (follows AtFrame (printed (say_text g (with_timeout true r.world) 35) (heard line (record r { events = es }))) none))
+        (saying_follows m (say_text g.game (with_timeout true r.world) 35) (go AtFrame) (more AtFrame) (heard line (record r { events = es }))
+        (follows AtFrame (printed (say_text g.game (with_timeout true r.world) 35) (heard line (record r { events = es }))) none))
         (follows AtPhrase (line_set line (record r { events = es })) none) k
       where
         by_test : (ignored timeout : Bool) (x y z : Ending) → {x' y' z' : Ending} → Follows m x x' → Follows m y y' → Follows m z z' →
@@ -121,55 +121,55 @@ module _ (g : GameLists) (X lines : List (List ℕ)) where
         Follows m (after_phrase g (go AtFrame) (go AtPhrase) (go AtResponse) r p) (after_phrase g (more AtFrame) (more AtPhrase) (more AtResponse) (with_lines lines r) p)
     after_phrase_follows r none (IsSentence s rest) k = follows AtResponse (with_world (counted (taken_phrase s rest r).world) (taken_phrase s rest r)) none k
     after_phrase_follows r none (IsUnknown rest) k =
-        saying_follows m (say_text g r.world 6) (go AtFrame) (more AtFrame) (line_dropped r) (follows AtFrame (printed (say_text g r.world 6) (line_dropped r)) none) k
+        saying_follows m (say_text g.game r.world 6) (go AtFrame) (more AtFrame) (line_dropped r) (follows AtFrame (printed (say_text g.game r.world 6) (line_dropped r)) none) k
     after_phrase_follows r none IsNoPhrase k =
-        saying_follows m (prompt_text g r.world) (λ s. at_main g (go AtFrame) (go AtPhrase) (closed s) s.events) (λ s. at_main g (more AtFrame) (more AtPhrase) (closed s) s.events) (line_dropped r)
-        (at_main_follows (closed (printed (prompt_text g r.world) (line_dropped r))) r.events none) k
+        saying_follows m (prompt_text g.game r.world) (λ s. at_main g (go AtFrame) (go AtPhrase) (closed s) s.events) (λ s. at_main g (more AtFrame) (more AtPhrase) (closed s) s.events) (line_dropped r)
+        (at_main_follows (closed (printed (prompt_text g.game r.world) (line_dropped r))) r.events none) k
 
-  more_stages : (n m : ℕ) → Refines (turn g X m) (turn g X (n + m))
-  more_stages n m s r k = many_more (λ i. turn g X i s r) (λ i. turn_more g X i s r) n m k
+  more_stages : (n m : ℕ) → Refines (turn g m) (turn g (n + m))
+  more_stages n m s r k = many_more (λ i. turn g i s r) (λ i. turn_more g i s r) n m k
 
   -- n stages, and then m
-  turn_follows : (n m : ℕ) → AreFollowing m (turn g X n) (turn g X (n + m))
+  turn_follows : (n m : ℕ) → AreFollowing m (turn g n) (turn g (n + m))
   unfolding turn
   turn_follows zero m s r none k = absurd (k refl)
   turn_follows (suc n) m AtDescribe r none k =
       let e : suc n + m ≡ suc (n + m) = omega arith in
-      let text : List ℕ = view_text g (described r.world) in
+      let text : List ℕ = view_text g.game (described r.world) in
       let s : Run = with_world (described r.world) r in
-      rw e (saying_follows m text (λ q. table_done g (turn g X n) 1 (table_read g X 1 q)) (λ q. table_done g (turn g X (n + m)) 1 (table_read g X 1 q)) s
-      (read_follows m (turn g X n) (turn g X (n + m)) (turn_follows n m) (more_stages n m) 1 (printed text s) none) k)
+      rw e (saying_follows m text (λ q. table_done g (turn g n) 1 (table_read g 1 q)) (λ q. table_done g (turn g (n + m)) 1 (table_read g 1 q)) s
+      (read_follows m (turn g n) (turn g (n + m)) (turn_follows n m) (more_stages n m) 1 (printed text s) none) k)
   turn_follows (suc n) m AtFrame r none k =
       let e : suc n + m ≡ suc (n + m) = omega arith in
-      rw e (read_follows m (turn g X n) (turn g X (n + m)) (turn_follows n m) (more_stages n m) 2 r none k)
+      rw e (read_follows m (turn g n) (turn g (n + m)) (turn_follows n m) (more_stages n m) 2 r none k)
   turn_follows (suc n) m AtPhrase r none k =
       let e : suc n + m ≡ suc (n + m) = omega arith in
-      rw e (after_phrase_follows m (turn g X n) (turn g X (n + m)) (turn_follows n m) (more_stages n m) r none
-      (parsed g r.pending r.earlier (flag r.world 46) (flag r.world 47)) k)
+      rw e (after_phrase_follows m (turn g n) (turn g (n + m)) (turn_follows n m) (more_stages n m) r none
+      (parsed g.game r.pending r.earlier (flag r.world 46) (flag r.world 47)) k)
   turn_follows (suc n) m AtResponse r none k =
       let e : suc n + m ≡ suc (n + m) = omega arith in
-      rw e (read_follows m (turn g X n) (turn g X (n + m)) (turn_follows n m) (more_stages n m) 0 r none k)
+      rw e (read_follows m (turn g n) (turn g (n + m)) (turn_follows n m) (more_stages n m) 0 r none k)
 
   -- so many stages that going on ends
-  enough : (m : ℕ) (s : Stage) (r : Run) → r.turning ≡ None → goes_from m (turns_from g X s r) ≢ Unended → turns_from g X s (with_lines lines r) ≡ goes_from m (turns_from g X s r)
+  enough : (m : ℕ) (s : Stage) (r : Run) → r.turning ≡ None → goes_from m (turns_from g s r) ≢ Unended → turns_from g s (with_lines lines r) ≡ goes_from m (turns_from g s r)
   enough m s r none h =
-      let e : turn g X (stages_left s r + m) s (with_lines lines r) ≡ goes_from m (turns_from g X s r) = turn_follows (stages_left s r) m s r none h in
-      sym (ends_once g X (stages_left s r + m) s (with_lines lines r) (λ u. h (sym e ∙ u))) ∙ e
+      let e : turn g (stages_left s r + m) s (with_lines lines r) ≡ goes_from m (turns_from g s r) = turn_follows (stages_left s r) m s r none h in
+      sym (ends_once g (stages_left s r + m) s (with_lines lines r) (λ u. h (sym e ∙ u))) ∙ e
 
 -- the turns with more lines
 pub turns_go_on : TurnsGoOn
-turns_go_on g X lines s r none = by_ending (turns_from g X s r) refl
+turns_go_on g lines s r none = by_ending (turns_from g s r) refl
   where
-    at : (m : ℕ) (x : Ending) → turns_from g X s r ≡ x → goes_from g X lines m x ≢ Unended → turns_from g X s (with_lines lines r) ≡ goes_from g X lines m x
-    at m x e h = subst (λ y. goes_from g X lines m y ≢ Unended → turns_from g X s (with_lines lines r) ≡ goes_from g X lines m y) e (enough g X lines m s r none) h
+    at : (m : ℕ) (x : Ending) → turns_from g s r ≡ x → goes_from g lines m x ≢ Unended → turns_from g s (with_lines lines r) ≡ goes_from g lines m x
+    at m x e h = subst (λ y. goes_from g lines m y ≢ Unended → turns_from g s (with_lines lines r) ≡ goes_from g lines m y) e (enough g lines m s r none) h
 
-    by_ending : (x : Ending) → turns_from g X s r ≡ x → turns_from g X s (with_lines lines r) ≡ followed g X lines x
-    by_ending (WaitsAt p path q) e = at (stages_left AtResponse (with_lines lines q)) (WaitsAt p path q) e (going_on_ends g X p path (with_lines lines q))
+    by_ending : (x : Ending) → turns_from g s r ≡ x → turns_from g s (with_lines lines r) ≡ followed g lines x
+    by_ending (WaitsAt p path q) e = at (stages_left AtResponse (with_lines lines q)) (WaitsAt p path q) e (going_on_ends g p path (with_lines lines q))
     by_ending (IsOver q) e = at 0 (IsOver q) e (λ u. cc)
     by_ending (RunsOut kind q) e = at 0 (RunsOut kind q) e (λ u. cc)
     by_ending (CallsTooDeep t q) e = at 0 (CallsTooDeep t q) e (λ u. cc)
-    by_ending Unended e = absurd (turns_end g X s r e)
+    by_ending Unended e = absurd (turns_end g s r e)
 
 -- reading more lines is reading some, and going on with the others
 pub going_on_is_reading : GoingOnIsReading
-going_on_is_reading g X seed es fs = turns_go_on g X fs AtDescribe (opening g seed es) refl
+going_on_is_reading g seed es fs = turns_go_on g fs AtDescribe (opening g seed es) refl

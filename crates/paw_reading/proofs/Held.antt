@@ -10,9 +10,10 @@ use Rattle.paw_game.specs.declared.parts.Entry.{Entry}
 use Rattle.paw_game.specs.Game.{GameLists}
 use Rattle.paw_game.specs.Tables.{table_at, entry_at, condacts_of, condact_at, facts_at}
 use Rattle.paw_game.specs.Valid.{Valid, is_place}
-use Rattle.paw_game.proofs.Kept.{condact_kept}
+use Rattle.paw_game.proofs.Right.{right_at}
 use Rattle.paw_world.specs.World.{World, with_flag}
 use Rattle.paw_phrase.specs.Sentence.{Parsed, IsSentence, IsUnknown, IsNoPhrase}
+use Rattle.paw_effects.specs.Story.{Story}
 use Rattle.paw_effects.specs.declared.act.Prompt.{Prompt}
 use Rattle.paw_effects.specs.declared.act.Prompt.TheVariants as prompt
 use Rattle.paw_effects.specs.declared.act.Truth.{Truth}
@@ -141,7 +142,7 @@ leads_in g w t e k c effect.Go v of at h = tt
 leads_in g w t e k c (effect.Exit a) v of at h = tt
 leads_in g w t e k c effect.Redescribe v of at h = tt
 leads_in g w t e k c (effect.Call u) v of at h = h
-leads_in g w t e k c (effect.Loop p) v of at h = (h.0, subst (λ q. IsTrue (is_place (length g.locations) q)) (sym h.1) (doall_place g w c of (condact_kept g v t e k c at) h.0))
+leads_in g w t e k c (effect.Loop p) v of at h = (h.0, subst (λ q. IsTrue (is_place (length g.locations) q)) (sym h.1) (doall_place g w c of (right_at g v t e k c at) h.0))
 leads_in g w t e k c (effect.Ask p) v of at h = h
 leads_in g w t e k c effect.Parse v of at h = tt
 leads_in g w t e k c effect.Spent v of at h = tt
@@ -153,22 +154,22 @@ cancelled g ts w false o k = k
 -- ---- one table ----
 
 -- table u is read at level lv, above the tables ts
-module _ (g : GameLists) (v : Valid g) (ts : List ℕ) (lv : ℕ) (deep : length ts ≡ lv) (low : lv ≤ 10) (u : ℕ) where
+module _ (g : Story) (v : Valid g.game) (ts : List ℕ) (lv : ℕ) (deep : length ts ≡ lv) (low : lv ≤ 10) (u : ℕ) where
   -- with these tables and this one
   abbrev IsSound : Run → Type 0
-  IsSound r = Sound g (ts ++ u ∷ []) r.world r.turning
+  IsSound r = Sound g.game (ts ++ u ∷ []) r.world r.turning
 
   -- reading on in the table
   abbrev GoesHeld : List ℕ → (Bool → Run → Out) → Type 0
-  GoesHeld left go = (a : Bool) (r : Run) → IsSound r → Held g left ts u (go a r)
+  GoesHeld left go = (a : Bool) (r : Run) → IsSound r → Held g.game left ts u (go a r)
 
   abbrev Inside : Out → Type 0
-  Inside x = Held g (ts ++ u ∷ []) ts u x
+  Inside x = Held g.game (ts ++ u ∷ []) ts u x
 
-  again_held : (next : OpenLoop → Run → Out) → ((l : OpenLoop) (r : Run) → at_level lv r.turning ≡ Some l → IsSound r → Held g ts ts u (next l r))
-      → (x : Out) → Inside x → Held g ts ts u (again lv next x)
+  again_held : (next : OpenLoop → Run → Out) → ((l : OpenLoop) (r : Run) → at_level lv r.turning ≡ Some l → IsSound r → Held g.game ts ts u (next l r))
+      → (x : Out) → Inside x → Held g.game ts ts u (again lv next x)
   again_held next h (Left a r) k =
-      open_or_not (Held g ts ts u) (λ l. next l r) (Left a r) (at_level lv r.turning) (λ l e. h l r e k) (λ none. narrowed g ts lv u r.world r.turning deep none k)
+      open_or_not (Held g.game ts ts u) (λ l. next l r) (Left a r) (at_level lv r.turning) (λ l e. h l r e k) (λ none. narrowed g.game ts lv u r.world r.turning deep none k)
   again_held next h (Waits p path r) k = k
   again_held next h (Redescribes r) k = k
   again_held next h (Restarts r) k = k
@@ -176,33 +177,33 @@ module _ (g : GameLists) (v : Valid g) (ts : List ℕ) (lv : ℕ) (deep : length
   again_held next h (IsSpent kind r) k = tt
   again_held next h (IsDeep t r) k = tt
 
-  turns_held : (l : OpenLoop) (body : Run → Out) → ((o : ℕ) → o < length g.objects → IsLoopIn g (ts ++ u ∷ []) (record l { last = o }))
-      → ((r : Run) → IsSound r → Inside (body r)) → (n : ℕ) → n ≤ length g.objects → (r : Run) → IsPlaced g r.world
-      → Held g ts ts u (turns g lv l body n r)
+  turns_held : (l : OpenLoop) (body : Run → Out) → ((o : ℕ) → o < length g.game.objects → IsLoopIn g.game (ts ++ u ∷ []) (record l { last = o }))
+      → ((r : Run) → IsSound r → Inside (body r)) → (n : ℕ) → n ≤ length g.game.objects → (r : Run) → IsPlaced g.game r.world
+      → Held g.game ts ts u (turns g lv l body n r)
   unfolding turns
   turns_held l body at h zero few r of = record { of = of; loop = tt }
   turns_held l body at h (suc n) few r of =
-      let o : ℕ = length g.objects - suc n in
-      either (Held g ts ts u) (is_taken g r.world l o) _ _
-      (again_held (λ _. turns g lv l body n) (λ m s e k. turns_held l body at h n (omega arith) s k.of) (body (taken g l o r))
-      (h (taken g l o r) (record { of = taken_placed g l o r of; loop = at o (omega arith) })))
+      let o : ℕ = length g.game.objects - suc n in
+      either (Held g.game ts ts u) (is_taken g.game r.world l o) _ _
+      (again_held (λ _. turns g lv l body n) (λ m s e k. turns_held l body at h n (omega arith) s k.of) (body (taken g.game l o r))
+      (h (taken g.game l o r) (record { of = taken_placed g.game l o r of; loop = at o (omega arith) })))
       (turns_held l body at h n (omega arith) r of)
 
   -- ---- calls, prompts, phrases ----
 
   -- the frame of a call before a path
-  call_leads : (f : Frame) (c : Condact) (t code : ℕ) (path : List Frame) → condact_at g f.table f.entry f.at ≡ Some c → c.code ≡ 85 → t ≡ c.a
-      → first_table path ≡ t → LeadsTo g code path → LeadsTo g code (f ∷ path)
+  call_leads : (f : Frame) (c : Condact) (t code : ℕ) (path : List Frame) → condact_at g.game f.table f.entry f.at ≡ Some c → c.code ≡ 85 → t ≡ c.a
+      → first_table path ≡ t → LeadsTo g.game code path → LeadsTo g.game code (f ∷ path)
   call_leads f c t code [] at is called first leads = absurd leads
   call_leads f c t code (h ∷ path) at is called first leads =
       (record { condact = c; stands = at; process = is; called = sym called ∙ sym first }, leads)
 
-  below : (f : Frame) (path : List Frame) (w : World) (o : Option OpenLoop) → f.table ≡ u → Sound g ((ts ++ u ∷ []) ++ tables_of path) w o → Sound g (ts ++ tables_of (f ∷ path)) w o
+  below : (f : Frame) (path : List Frame) (w : World) (o : Option OpenLoop) → f.table ≡ u → Sound g.game ((ts ++ u ∷ []) ++ tables_of path) w o → Sound g.game (ts ++ tables_of (f ∷ path)) w o
   below f path w o own k =
-      subst (λ s. Sound g s w o) (append_assoc ts (u ∷ []) (tables_of path) ∙ ap (λ t. ts ++ (t ∷ tables_of path)) (sym own)) k
+      subst (λ s. Sound g.game s w o) (append_assoc ts (u ∷ []) (tables_of path) ∙ ap (λ t. ts ++ (t ∷ tables_of path)) (sym own)) k
 
-  after_call_held : (left : List ℕ) (f : Frame) (go : Bool → Run → Out) (c : Condact) (t : ℕ) → f.table ≡ u → condact_at g f.table f.entry f.at ≡ Some c → c.code ≡ 85 → t ≡ c.a
-      → GoesHeld left go → (x : Out) → Held g (ts ++ u ∷ []) (ts ++ u ∷ []) t x → Held g left ts u (after_call f go x)
+  after_call_held : (left : List ℕ) (f : Frame) (go : Bool → Run → Out) (c : Condact) (t : ℕ) → f.table ≡ u → condact_at g.game f.table f.entry f.at ≡ Some c → c.code ≡ 85 → t ≡ c.a
+      → GoesHeld left go → (x : Out) → Held g.game (ts ++ u ∷ []) (ts ++ u ∷ []) t x → Held g.game left ts u (after_call f go x)
   after_call_held left f go c t own at is called h (Left b r) k = h (f.acted || b) r k
   after_call_held left f go c t own at is called h (Waits p path r) k = record {
     code = k.code;
@@ -224,12 +225,12 @@ module _ (g : GameLists) (v : Valid g) (ts : List ℕ) (lv : ℕ) (deep : length
   answered_held prompt.Quit f go h line r k = either Inside (is_yes line) _ (Left true r) (h f.acted r k) k
   answered_held prompt.Again f go h line r k =
       either Inside (is_no line) (over g r) (Restarts (anew r))
-      (either Inside (fits r (say_text g r.world 14)) (Ends (closed (without_loop (line_dropped (printed (say_text g r.world 14) r))))) (IsSpent spent.Text r) (refl, (refl, k.of)) tt)
-      (record { of = restarted_placed g r.world v k.of; loop = tt })
+      (either Inside (fits r (say_text g.game r.world 14)) (Ends (closed (without_loop (line_dropped (printed (say_text g.game r.world 14) r))))) (IsSpent spent.Text r) (refl, (refl, k.of)) tt)
+      (record { of = restarted_placed g.game r.world v k.of; loop = tt })
   answered_held prompt.Key f go h line r k = h true r k
   answered_held prompt.Over f go h line r k = h f.acted r k
 
-  asked_held : (p : Prompt) (f : Frame) (code : ℕ) (go : Bool → Run → Out) → AsksAt code p → f.table ≡ u → IsAt g code f.table f.entry f.at → GoesHeld (ts ++ u ∷ []) go
+  asked_held : (p : Prompt) (f : Frame) (code : ℕ) (go : Bool → Run → Out) → AsksAt code p → f.table ≡ u → IsAt g.game code f.table f.entry f.at → GoesHeld (ts ++ u ∷ []) go
       → (r : Run) (lines : List (List ℕ)) → IsSound r → Inside (asked g p f go r lines)
   unfolding asked
   asked_held p f code go asks own at h r [] k = record {
@@ -238,7 +239,7 @@ module _ (g : GameLists) (v : Valid g) (ts : List ℕ) (lv : ℕ) (deep : length
     few = omega (arith, deep);
     first = own;
     leads = at;
-    sound = subst (λ t. Sound g (ts ++ t ∷ []) r.world r.turning) (sym own) k;
+    sound = subst (λ t. Sound g.game (ts ++ t ∷ []) r.world r.turning) (sym own) k;
   }
   asked_held p f code go asks own at h r (line ∷ lines) k =
       either Inside (is_ignored r.world line) _ _ (asked_held p f code go asks own at h (closed (record r { events = lines })) lines k)
@@ -254,20 +255,20 @@ module _ (g : GameLists) (v : Valid g) (ts : List ℕ) (lv : ℕ) (deep : length
 
   -- calls from here
   abbrev CallsHeld : (ℕ → Run → Out) → Type 0
-  CallsHeld sub = (t : ℕ) (r : Run) → IsSound r → Held g (ts ++ u ∷ []) (ts ++ u ∷ []) t (sub t r)
+  CallsHeld sub = (t : ℕ) (r : Run) → IsSound r → Held g.game (ts ++ u ∷ []) (ts ++ u ∷ []) t (sub t r)
 
-  module _ (X : List (List ℕ)) (sub : ℕ → Run → Out) (calls : CallsHeld sub) where
-    after_test_held : (f : Frame) (next go : Bool → Run → Out) (c : Condact) → f.table ≡ u → condact_at g f.table f.entry f.at ≡ Some c
+  module _ (sub : ℕ → Run → Out) (calls : CallsHeld sub) where
+    after_test_held : (f : Frame) (next go : Bool → Run → Out) (c : Condact) → f.table ≡ u → condact_at g.game f.table f.entry f.at ≡ Some c
         → GoesHeld (ts ++ u ∷ []) next → GoesHeld (ts ++ u ∷ []) go → (r : Run) (x : Truth) → (x ≡ truth.Ask → c.code ≡ 27) → IsSound r
         → Inside (after_test g f next go c r x)
     after_test_held f next go c own at hn hg r truth.Yes asks k = hg f.acted (noted f c true r) k
     after_test_held f next go c own at hn hg r truth.No asks k = hn f.acted (noted f c false r) k
     after_test_held f next go c own at hn hg r truth.Ask asks k =
-        either Inside (fits (noted f c true r) (put_text g r.world 12)) _ (IsSpent spent.Text (noted f c true r))
-        (asked_held prompt.Quit f c.code go (asks refl) own (record { condact = c; stands = at; is = refl }) hg (closed (printed (put_text g r.world 12) (noted f c true r))) r.events k) tt
+        either Inside (fits (noted f c true r) (put_text g.game r.world 12)) _ (IsSpent spent.Text (noted f c true r))
+        (asked_held prompt.Quit f c.code go (asks refl) own (record { condact = c; stands = at; is = refl }) hg (closed (printed (put_text g.game r.world 12) (noted f c true r))) r.events k) tt
 
-    after_action_held : (f : Frame) (next go : Bool → Run → Out) (c : Condact) → f.table ≡ u → condact_at g f.table f.entry f.at ≡ Some c
-        → GoesHeld (ts ++ u ∷ []) next → GoesHeld (ts ++ u ∷ []) go → (e : Effect) → LeadsIn g c e → (r : Run) → IsSound r
+    after_action_held : (f : Frame) (next go : Bool → Run → Out) (c : Condact) → f.table ≡ u → condact_at g.game f.table f.entry f.at ≡ Some c
+        → GoesHeld (ts ++ u ∷ []) next → GoesHeld (ts ++ u ∷ []) go → (e : Effect) → LeadsIn g.game c e → (r : Run) → IsSound r
         → Inside (after_action g sub lv f next go e r)
     after_action_held f next go c own at hn hg effect.Go leads r k = hg true r k
     after_action_held f next go c own at hn hg (effect.Exit a) leads r k = k
@@ -275,111 +276,111 @@ module _ (g : GameLists) (v : Valid g) (ts : List ℕ) (lv : ℕ) (deep : length
     after_action_held f next go c own at hn hg (effect.Call t) leads r k =
         after_call_held (ts ++ u ∷ []) f go c t own at leads.0 leads.1 hg (sub t r) (calls t r k)
     after_action_held f next go c own at hn hg (effect.Loop p) leads r k =
-        left_wider g ts u _
+        left_wider g.game ts u _
         (turns_held (loop_of lv f p) (go true)
         (λ o few. record {
           level = subst (λ n. slice_get (ts ++ u ∷ []) n ≡ Some f.table) deep (get_last ts u ∙ ap Some (sym own));
           doall = record { condact = c; stands = at; is = leads.0 };
           place = leads.1;
           last = few;
-        }) (hg true) (length g.objects) (omega arith) r k.of)
+        }) (hg true) (length g.game.objects) (omega arith) r k.of)
     after_action_held f next go c own at hn hg (effect.Ask p) leads r k =
         asked_held p f c.code go leads own (record { condact = c; stands = at; is = refl }) hg (closed r) r.events k
     after_action_held f next go c own at hn hg effect.Parse leads r k = after_parse_held f next go hn hg r _ k
     after_action_held f next go c own at hn hg effect.Spent leads r k = tt
 
-    acts_held : (f : Frame) (next go : Bool → Run → Out) (c : Condact) → f.table ≡ u → condact_at g f.table f.entry f.at ≡ Some c
-        → GoesHeld (ts ++ u ∷ []) next → GoesHeld (ts ++ u ∷ []) go → (d : Done) → LeadsIn g c d.act.effect → (r : Run) → Sound g (ts ++ u ∷ []) d.world r.turning
+    acts_held : (f : Frame) (next go : Bool → Run → Out) (c : Condact) → f.table ≡ u → condact_at g.game f.table f.entry f.at ≡ Some c
+        → GoesHeld (ts ++ u ∷ []) next → GoesHeld (ts ++ u ∷ []) go → (d : Done) → LeadsIn g.game c d.act.effect → (r : Run) → Sound g.game (ts ++ u ∷ []) d.world r.turning
         → Inside (acts g sub lv f next go d r)
     acts_held f next go c own at hn hg d leads r k =
         either Inside (fits r d.text) _ (IsSpent spent.Text r)
-        (after_action_held f next go c own at hn hg d.act.effect leads (carried_out d (printed d.text r)) (cancelled g (ts ++ u ∷ []) d.world d.act.cancel_loop r.turning k)) tt
+        (after_action_held f next go c own at hn hg d.act.effect leads (carried_out d (printed d.text r)) (cancelled g.game (ts ++ u ∷ []) d.world d.act.cancel_loop r.turning k)) tt
 
-    reads_one_held : (f : Frame) (next go : Bool → Run → Out) (c : Condact) → f.table ≡ u → condact_at g f.table f.entry f.at ≡ Some c
-        → GoesHeld (ts ++ u ∷ []) next → GoesHeld (ts ++ u ∷ []) go → (r : Run) → IsSound r → Inside (reads_one g X sub lv f next go c r)
+    reads_one_held : (f : Frame) (next go : Bool → Run → Out) (c : Condact) → f.table ≡ u → condact_at g.game f.table f.entry f.at ≡ Some c
+        → GoesHeld (ts ++ u ∷ []) next → GoesHeld (ts ++ u ∷ []) go → (r : Run) → IsSound r → Inside (reads_one g sub lv f next go c r)
     reads_one_held f next go c own at hn hg r k =
         either Inside (is_condition c) _ _
-        (after_test_held f next go c own at hn hg (with_world (holds g r.world c).world r) (holds g r.world c).answer (condition_asks g r.world c)
-        (record { of = condition_placed g r.world c k.of; loop = k.loop }))
-        (acts_held f next go c own at hn hg (effect_of g X r.world c) (leads_in g r.world f.table f.entry f.at c _ v k.of.1.0 at (effect_leads g X r.world c)) (noted f c true r)
-        (record { of = effect_placed g X r.world c v (condact_kept g v f.table f.entry f.at c at) k.of; loop = k.loop }))
+        (after_test_held f next go c own at hn hg (with_world (holds g.game r.world c).world r) (holds g.game r.world c).answer (condition_asks g.game r.world c)
+        (record { of = condition_placed g.game r.world c k.of; loop = k.loop }))
+        (acts_held f next go c own at hn hg (effect_of g r.world c) (leads_in g.game r.world f.table f.entry f.at c _ v k.of.1.0 at (effect_leads g r.world c)) (noted f c true r)
+        (record { of = effect_placed g r.world c v (right_at g.game v f.table f.entry f.at c at) k.of; loop = k.loop }))
 
     -- ---- entries, tables ----
 
-    condacts_held : (e : ℕ) (next : Bool → Run → Out) → GoesHeld (ts ++ u ∷ []) next → (k : ℕ) (cs : List Condact) → drop k (condacts_of (entry_at g u e)) ≡ cs
-        → GoesHeld (ts ++ u ∷ []) (condacts g X sub lv u e next k cs)
+    condacts_held : (e : ℕ) (next : Bool → Run → Out) → GoesHeld (ts ++ u ∷ []) next → (k : ℕ) (cs : List Condact) → drop k (condacts_of (entry_at g.game u e)) ≡ cs
+        → GoesHeld (ts ++ u ∷ []) (condacts g sub lv u e next k cs)
     unfolding condacts
     condacts_held e next hn k [] d a r h = hn a r h
     condacts_held e next hn k (c ∷ cs) d a r h =
-        let at = drop_more (condacts_of (entry_at g u e)) cs k c d in
+        let at = drop_more (condacts_of (entry_at g.game u e)) cs k c d in
         either Inside (nat_lt (length r.read) 200000) _ (IsSpent spent.Condacts r)
         (reads_one_held (record { table = u; entry = e; at = k; acted = a }) next _ c refl at.0 hn (condacts_held e next hn (suc k) cs at.1) r h) tt
 
-    entries_held : (e : ℕ) (es : List Entry) → drop e (table_at g u) ≡ es → GoesHeld (ts ++ u ∷ []) (entries g X sub lv u e es)
+    entries_held : (e : ℕ) (es : List Entry) → drop e (table_at g.game u) ≡ es → GoesHeld (ts ++ u ∷ []) (entries g sub lv u e es)
     unfolding entries
     entries_held e [] d a r h = h
     entries_held e (en ∷ es) d a r h =
-        let at = drop_more (table_at g u) es e en d in
+        let at = drop_more (table_at g.game u) es e en d in
         either Inside (is_for_now r en) _ _
-        (condacts_held e (entries g X sub lv u (suc e) es) (entries_held (suc e) es at.1) 0 en.condacts (all_left (condacts_of (entry_at g u e)) ∙ ap condacts_of at.0) a r h)
+        (condacts_held e (entries g sub lv u (suc e) es) (entries_held (suc e) es at.1) 0 en.condacts (all_left (condacts_of (entry_at g.game u e)) ∙ ap condacts_of at.0) a r h)
         (entries_held (suc e) es at.1 a r h)
 
-    plain_held : (e k : ℕ) → GoesHeld (ts ++ u ∷ []) (plain g X sub lv u e k)
-    plain_held e zero a r h = entries_held e (drop e (table_at g u)) refl a r h
+    plain_held : (e k : ℕ) → GoesHeld (ts ++ u ∷ []) (plain g sub lv u e k)
+    plain_held e zero a r h = entries_held e (drop e (table_at g.game u)) refl a r h
     plain_held e (suc k) a r h =
-        condacts_held e _ (entries_held (suc e) (drop (suc e) (table_at g u)) refl) (suc k) (drop (suc k) (condacts_of (entry_at g u e))) refl a r h
+        condacts_held e _ (entries_held (suc e) (drop (suc e) (table_at g.game u)) refl) (suc k) (drop (suc k) (condacts_of (entry_at g.game u e))) refl a r h
 
-    looped_held : (l : OpenLoop) (r : Run) → at_level lv r.turning ≡ Some l → IsSound r → Held g ts ts u (looped g X sub lv l r)
+    looped_held : (l : OpenLoop) (r : Run) → at_level lv r.turning ≡ Some l → IsSound r → Held g.game ts ts u (looped g sub lv l r)
     looped_held l r e h =
         let at = at_level_is lv r.turning l e in
-        let is : IsLoopIn g (ts ++ u ∷ []) l = subst (λ o. IfSome o (IsLoopIn g (ts ++ u ∷ []))) at.1 h.loop in
+        let is : IsLoopIn g.game (ts ++ u ∷ []) l = subst (λ o. IfSome o (IsLoopIn g.game (ts ++ u ∷ []))) at.1 h.loop in
         let own : u ≡ l.table = same_Some u l.table (sym (get_last ts u) ∙ subst (λ n. slice_get (ts ++ u ∷ []) n ≡ Some l.table) (at.0 ∙ sym deep) is.level) in
-        turns_held (record l { last = 0 }) (plain g X sub lv l.table l.entry (suc l.at) true)
+        turns_held (record l { last = 0 }) (plain g sub lv l.table l.entry (suc l.at) true)
         (λ o few. record { level = is.level; doall = is.doall; place = is.place; last = few })
-        (subst (λ t. (s : Run) → IsSound s → Inside (plain g X sub lv t l.entry (suc l.at) true s)) own (plain_held l.entry (suc l.at) true))
-        (length g.objects - suc l.last) (omega arith) r h.of
+        (subst (λ t. (s : Run) → IsSound s → Inside (plain g sub lv t l.entry (suc l.at) true s)) own (plain_held l.entry (suc l.at) true))
+        (length g.game.objects - suc l.last) (omega arith) r h.of
 
-    reads_held : (e k : ℕ) → GoesHeld ts (reads g X sub lv u e k)
-    reads_held e k a r h = again_held (looped g X sub lv) looped_held _ (plain_held e k a r h)
+    reads_held : (e k : ℕ) → GoesHeld ts (reads g sub lv u e k)
+    reads_held e k a r h = again_held (looped g sub lv) looped_held _ (plain_held e k a r h)
 
 -- ---- levels ----
 
 one_more : (ts : List ℕ) (u lv : ℕ) → length ts ≡ lv → length (ts ++ u ∷ []) ≡ suc lv
 one_more ts u lv h = omega (arith, length-append ts (u ∷ []), h)
 
-called_held : (g : GameLists) (v : Valid g) (X : List (List ℕ)) (n lv : ℕ) (ts : List ℕ) → length ts ≡ suc lv → n + lv ≡ 10
-    → (u : ℕ) (r : Run) → Sound g ts r.world r.turning → Held g ts ts u (called g X n lv u r)
+called_held : (g : Story) (v : Valid g.game) (n lv : ℕ) (ts : List ℕ) → length ts ≡ suc lv → n + lv ≡ 10
+    → (u : ℕ) (r : Run) → Sound g.game ts r.world r.turning → Held g.game ts ts u (called g n lv u r)
 unfolding called
-called_held g v X zero lv ts deep levels u r h = tt
-called_held g v X (suc n) lv ts deep levels u r h =
-    reads_held g v ts (suc lv) deep (omega arith) u X (called g X n (suc lv))
-    (called_held g v X n (suc lv) (ts ++ u ∷ []) (one_more ts u (suc lv) deep) (omega arith)) 0 0 false r (widened g ts u r.world r.turning h)
+called_held g v zero lv ts deep levels u r h = tt
+called_held g v (suc n) lv ts deep levels u r h =
+    reads_held g v ts (suc lv) deep (omega arith) u (called g n (suc lv))
+    (called_held g v n (suc lv) (ts ++ u ∷ []) (one_more ts u (suc lv) deep) (omega arith)) 0 0 false r (widened g.game ts u r.world r.turning h)
 
-deeper_held : (g : GameLists) (v : Valid g) (X : List (List ℕ)) (ts : List ℕ) (lv u : ℕ) → length ts ≡ lv → lv ≤ 10
-    → (t : ℕ) (r : Run) → Sound g (ts ++ u ∷ []) r.world r.turning → Held g (ts ++ u ∷ []) (ts ++ u ∷ []) t (deeper g X lv t r)
-deeper_held g v X ts lv u deep low = called_held g v X (10 - lv) lv (ts ++ u ∷ []) (one_more ts u lv deep) (omega arith)
+deeper_held : (g : Story) (v : Valid g.game) (ts : List ℕ) (lv u : ℕ) → length ts ≡ lv → lv ≤ 10
+    → (t : ℕ) (r : Run) → Sound g.game (ts ++ u ∷ []) r.world r.turning → Held g.game (ts ++ u ∷ []) (ts ++ u ∷ []) t (deeper g lv t r)
+deeper_held g v ts lv u deep low = called_held g v (10 - lv) lv (ts ++ u ∷ []) (one_more ts u lv deep) (omega arith)
 
-rest_held : (g : GameLists) (v : Valid g) (X : List (List ℕ)) (ts : List ℕ) (lv u e k : ℕ) → length ts ≡ lv → lv ≤ 10
-    → (a : Bool) (r : Run) → Sound g (ts ++ u ∷ []) r.world r.turning → Held g ts ts u (rest g X lv u e k a r)
-rest_held g v X ts lv u e k deep low a r h = reads_held g v ts lv deep low u X (deeper g X lv) (deeper_held g v X ts lv u deep low) e k a r h
+rest_held : (g : Story) (v : Valid g.game) (ts : List ℕ) (lv u e k : ℕ) → length ts ≡ lv → lv ≤ 10
+    → (a : Bool) (r : Run) → Sound g.game (ts ++ u ∷ []) r.world r.turning → Held g.game ts ts u (rest g lv u e k a r)
+rest_held g v ts lv u e k deep low a r h = reads_held g v ts lv deep low u (deeper g lv) (deeper_held g v ts lv u deep low) e k a r h
 
 -- a table that is read from its start
-pub table_held : (g : GameLists) (v : Valid g) (X : List (List ℕ)) (t : ℕ) (r : Run) → IsPlaced g r.world → r.turning ≡ None
-    → Held g [] [] t (table_read g X t r)
-table_held g v X t r of none =
-    rest_held g v X [] 0 t 0 0 refl (omega arith) false r (record { of = of; loop = subst (λ o. IfSome o (IsLoopIn g (t ∷ []))) (sym none) tt })
+pub table_held : (g : Story) (v : Valid g.game) (t : ℕ) (r : Run) → IsPlaced g.game r.world → r.turning ≡ None
+    → Held g.game [] [] t (table_read g t r)
+table_held g v t r of none =
+    rest_held g v [] 0 t 0 0 refl (omega arith) false r (record { of = of; loop = subst (λ o. IfSome o (IsLoopIn g.game (t ∷ []))) (sym none) tt })
 
 -- going on along a path
-pub path_held : (g : GameLists) (v : Valid g) (X : List (List ℕ)) (p : Prompt) (code : ℕ) (ts : List ℕ) (lv : ℕ) (f : Frame) (path : List Frame) (r : Run)
-    → length ts ≡ lv → AsksAt code p → length ts + length (f ∷ path) ≤ 11 → LeadsTo g code (f ∷ path) → Sound g (ts ++ tables_of (f ∷ path)) r.world r.turning
-    → Held g ts ts f.table (on_path g X p lv (f ∷ path) r)
-path_held g v X p code ts lv f [] r deep asks few leads k =
-    again_held g v ts lv deep (omega arith) f.table (looped g X (deeper g X lv) lv)
-    (looped_held g v ts lv deep (omega arith) f.table X (deeper g X lv) (deeper_held g v X ts lv f.table deep (omega arith))) _
+pub path_held : (g : Story) (v : Valid g.game) (p : Prompt) (code : ℕ) (ts : List ℕ) (lv : ℕ) (f : Frame) (path : List Frame) (r : Run)
+    → length ts ≡ lv → AsksAt code p → length ts + length (f ∷ path) ≤ 11 → LeadsTo g.game code (f ∷ path) → Sound g.game (ts ++ tables_of (f ∷ path)) r.world r.turning
+    → Held g.game ts ts f.table (on_path g p lv (f ∷ path) r)
+path_held g v p code ts lv f [] r deep asks few leads k =
+    again_held g v ts lv deep (omega arith) f.table (looped g (deeper g lv) lv)
+    (looped_held g v ts lv deep (omega arith) f.table (deeper g lv) (deeper_held g v ts lv f.table deep (omega arith))) _
     (asked_held g v ts lv deep (omega arith) f.table p f code _ asks refl leads
-    (plain_held g v ts lv deep (omega arith) f.table X (deeper g X lv) (deeper_held g v X ts lv f.table deep (omega arith)) f.entry (suc f.at)) r r.events k)
-path_held g v X p code ts lv f (h ∷ path) r deep asks few leads k =
+    (plain_held g v ts lv deep (omega arith) f.table (deeper g lv) (deeper_held g v ts lv f.table deep (omega arith)) f.entry (suc f.at)) r r.events k)
+path_held g v p code ts lv f (h ∷ path) r deep asks few leads k =
     after_call_held g v ts lv deep (omega arith) f.table ts f _ leads.0.condact h.table refl leads.0.stands leads.0.process (sym leads.0.called)
-    (rest_held g v X ts lv f.table f.entry (suc f.at) deep (omega arith)) _
-    (path_held g v X p code (ts ++ f.table ∷ []) (suc lv) h path r (one_more ts f.table lv deep) asks (omega (arith, few, length-append ts (f.table ∷ []))) leads.1
-    (subst (λ s. Sound g s r.world r.turning) (sym (append_assoc ts (f.table ∷ []) (tables_of (h ∷ path)))) k))
+    (rest_held g v ts lv f.table f.entry (suc f.at) deep (omega arith)) _
+    (path_held g v p code (ts ++ f.table ∷ []) (suc lv) h path r (one_more ts f.table lv deep) asks (omega (arith, few, length-append ts (f.table ∷ []))) leads.1
+    (subst (λ s. Sound g.game s r.world r.turning) (sym (append_assoc ts (f.table ∷ []) (tables_of (h ∷ path)))) k))

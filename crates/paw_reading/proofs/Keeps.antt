@@ -6,7 +6,7 @@ use Rattle.std.proofs.lemmas.Bool.{eqb-true}
 use Rattle.paw_base.specs.declared.parts.Condact.{Condact}
 use Rattle.paw_base.specs.declared.fault.SpentKind.TheVariants as spent
 use Rattle.paw_game.specs.declared.parts.Entry.{Entry}
-use Rattle.paw_game.specs.Game.{GameLists}
+use Rattle.paw_effects.specs.Story.{Story}
 use Rattle.paw_game.specs.Tables.{table_at, entry_at, condacts_of}
 use Rattle.paw_phrase.specs.Sentence.{Parsed, IsSentence, IsUnknown, IsNoPhrase}
 use Rattle.paw_effects.specs.declared.act.Prompt.{Prompt}
@@ -98,13 +98,13 @@ again_closes lv l next own h (Ends r) k = tt
 again_closes lv l next own h (IsSpent kind r) k = tt
 again_closes lv l next own h (IsDeep u r) k = tt
 
-pub turns_closes : (g : GameLists) (lv : ℕ) (l : OpenLoop) (body : Run → Out) → l.level ≡ lv → ((r : Run) → Keeps r.turning (body r)) → (n : ℕ) (r : Run) → Keeps None (turns g lv l body n r)
+pub turns_closes : (g : Story) (lv : ℕ) (l : OpenLoop) (body : Run → Out) → l.level ≡ lv → ((r : Run) → Keeps r.turning (body r)) → (n : ℕ) (r : Run) → Keeps None (turns g lv l body n r)
 unfolding turns
 turns_closes g lv l body own h zero r = inr refl
 turns_closes g lv l body own h (suc n) r =
-    let o : ℕ = length g.objects - suc n in
+    let o : ℕ = length g.game.objects - suc n in
     either (Keeps None) _ _ _
-    (again_closes lv (record l { last = o }) _ own (λ m s. turns_closes g lv l body own h n s) (body (taken g l o r)) (h (taken g l o r)))
+    (again_closes lv (record l { last = o }) _ own (λ m s. turns_closes g lv l body own h n s) (body (taken g.game l o r)) (h (taken g.game l o r)))
     (turns_closes g lv l body own h n r)
 
 -- ---- calls, prompts, phrases ----
@@ -118,15 +118,15 @@ after_call_keeps f go h o (Ends r) k = tt
 after_call_keeps f go h o (IsSpent kind r) k = tt
 after_call_keeps f go h o (IsDeep u r) k = tt
 
-answered_keeps : (g : GameLists) (p : Prompt) (f : Frame) (go : Bool → Run → Out) → GoesKeeping go → (line : List ℕ) (r : Run) → Keeps r.turning (answered g p f go line r)
+answered_keeps : (g : Story) (p : Prompt) (f : Frame) (go : Bool → Run → Out) → GoesKeeping go → (line : List ℕ) (r : Run) → Keeps r.turning (answered g p f go line r)
 answered_keeps g prompt.Main f go h line r = h f.acted r
 answered_keeps g prompt.Quit f go h line r = either (Keeps r.turning) (is_yes line) _ (Left true r) (h f.acted r) (inl refl)
 answered_keeps g prompt.Again f go h line r =
-    either (Keeps r.turning) (is_no line) (over g r) (Restarts (anew r)) (either (Keeps r.turning) (fits r (say_text g r.world 14)) (Ends (closed (without_loop (line_dropped (printed (say_text g r.world 14) r))))) (IsSpent spent.Text r) tt tt) tt
+    either (Keeps r.turning) (is_no line) (over g r) (Restarts (anew r)) (either (Keeps r.turning) (fits r (say_text g.game r.world 14)) (Ends (closed (without_loop (line_dropped (printed (say_text g.game r.world 14) r))))) (IsSpent spent.Text r) tt tt) tt
 answered_keeps g prompt.Key f go h line r = h true r
 answered_keeps g prompt.Over f go h line r = h f.acted r
 
-pub asked_keeps : (g : GameLists) (p : Prompt) (f : Frame) (go : Bool → Run → Out) → GoesKeeping go → (r : Run) (lines : List (List ℕ)) → Keeps r.turning (asked g p f go r lines)
+pub asked_keeps : (g : Story) (p : Prompt) (f : Frame) (go : Bool → Run → Out) → GoesKeeping go → (r : Run) (lines : List (List ℕ)) → Keeps r.turning (asked g p f go r lines)
 unfolding asked
 asked_keeps g p f go h r [] = tt
 asked_keeps g p f go h r (line ∷ lines) =
@@ -140,13 +140,13 @@ after_parse_keeps f next go hn hg r IsNoPhrase = hg f.acted r
 
 -- ---- one condact ----
 
-module _ (g : GameLists) (X : List (List ℕ)) (sub : ℕ → Run → Out) (lv : ℕ) (calls : CallsKeeping sub) where
+module _ (g : Story) (sub : ℕ → Run → Out) (lv : ℕ) (calls : CallsKeeping sub) where
   after_test_keeps : (f : Frame) (next go : Bool → Run → Out) → GoesKeeping next → GoesKeeping go → (c : Condact) (r : Run) (t : Truth) → Keeps r.turning (after_test g f next go c r t)
   after_test_keeps f next go hn hg c r truth.Yes = hg f.acted (noted f c true r)
   after_test_keeps f next go hn hg c r truth.No = hn f.acted (noted f c false r)
   after_test_keeps f next go hn hg c r truth.Ask =
-      either (Keeps r.turning) (fits (noted f c true r) (put_text g r.world 12)) _ (IsSpent spent.Text (noted f c true r))
-      (asked_keeps g prompt.Quit f go hg (closed (printed (put_text g r.world 12) (noted f c true r))) r.events) tt
+      either (Keeps r.turning) (fits (noted f c true r) (put_text g.game r.world 12)) _ (IsSpent spent.Text (noted f c true r))
+      (asked_keeps g prompt.Quit f go hg (closed (printed (put_text g.game r.world 12) (noted f c true r))) r.events) tt
 
   after_action_keeps : (f : Frame) (next go : Bool → Run → Out) → GoesKeeping next → GoesKeeping go → (e : Effect) (r : Run) → Keeps r.turning (after_action g sub lv f next go e r)
   after_action_keeps f next go hn hg effect.Go r = hg true r
@@ -154,7 +154,7 @@ module _ (g : GameLists) (X : List (List ℕ)) (sub : ℕ → Run → Out) (lv :
   after_action_keeps f next go hn hg effect.Redescribe r = tt
   after_action_keeps f next go hn hg (effect.Call u) r = after_call_keeps f go hg r.turning (sub u r) (calls u r)
   after_action_keeps f next go hn hg (effect.Loop p) r =
-      Keeps_none r.turning _ (turns_closes g lv (loop_of lv f p) (go true) refl (hg true) (length g.objects) r)
+      Keeps_none r.turning _ (turns_closes g lv (loop_of lv f p) (go true) refl (hg true) (length g.game.objects) r)
   after_action_keeps f next go hn hg (effect.Ask p) r = asked_keeps g p f go hg (closed r) r.events
   after_action_keeps f next go hn hg effect.Parse r = after_parse_keeps f next go hn hg r _
   after_action_keeps f next go hn hg effect.Spent r = tt
@@ -169,41 +169,41 @@ module _ (g : GameLists) (X : List (List ℕ)) (sub : ℕ → Run → Out) (lv :
       either (Keeps r.turning) (fits r d.text) _ (IsSpent spent.Text r)
       (Keeps_from r.turning s.turning _ (cancelled d.act.cancel_loop r.turning) (after_action_keeps f next go hn hg d.act.effect s)) tt
 
-  reads_one_keeps : (f : Frame) (next go : Bool → Run → Out) → GoesKeeping next → GoesKeeping go → (c : Condact) (r : Run) → Keeps r.turning (reads_one g X sub lv f next go c r)
+  reads_one_keeps : (f : Frame) (next go : Bool → Run → Out) → GoesKeeping next → GoesKeeping go → (c : Condact) (r : Run) → Keeps r.turning (reads_one g sub lv f next go c r)
   reads_one_keeps f next go hn hg c r =
       either (Keeps r.turning) (is_condition c) _ _
-      (after_test_keeps f next go hn hg c (with_world (holds g r.world c).world r) (holds g r.world c).answer)
-      (acts_keeps f next go hn hg (effect_of g X r.world c) (noted f c true r))
+      (after_test_keeps f next go hn hg c (with_world (holds g.game r.world c).world r) (holds g.game r.world c).answer)
+      (acts_keeps f next go hn hg (effect_of g r.world c) (noted f c true r))
 
   -- ---- entries, tables ----
 
-  condacts_keeps : (t e : ℕ) (next : Bool → Run → Out) → GoesKeeping next → (k : ℕ) (cs : List Condact) → GoesKeeping (condacts g X sub lv t e next k cs)
+  condacts_keeps : (t e : ℕ) (next : Bool → Run → Out) → GoesKeeping next → (k : ℕ) (cs : List Condact) → GoesKeeping (condacts g sub lv t e next k cs)
   unfolding condacts
   condacts_keeps t e next hn k [] a r = hn a r
   condacts_keeps t e next hn k (c ∷ cs) a r =
       either (Keeps r.turning) (nat_lt (length r.read) 200000) _ (IsSpent spent.Condacts r)
       (reads_one_keeps (record { table = t; entry = e; at = k; acted = a }) next _ hn (condacts_keeps t e next hn (suc k) cs) c r) tt
 
-  entries_keeps : (t e : ℕ) (es : List Entry) → GoesKeeping (entries g X sub lv t e es)
+  entries_keeps : (t e : ℕ) (es : List Entry) → GoesKeeping (entries g sub lv t e es)
   unfolding entries
   entries_keeps t e [] a r = inl refl
   entries_keeps t e (en ∷ es) a r =
       either (Keeps r.turning) (is_for_now r en) _ _
-      (condacts_keeps t e (entries g X sub lv t (suc e) es) (entries_keeps t (suc e) es) 0 en.condacts a r)
+      (condacts_keeps t e (entries g sub lv t (suc e) es) (entries_keeps t (suc e) es) 0 en.condacts a r)
       (entries_keeps t (suc e) es a r)
 
-  pub plain_keeps : (t e k : ℕ) → GoesKeeping (plain g X sub lv t e k)
-  plain_keeps t e zero a r = entries_keeps t e (drop e (table_at g t)) a r
+  pub plain_keeps : (t e k : ℕ) → GoesKeeping (plain g sub lv t e k)
+  plain_keeps t e zero a r = entries_keeps t e (drop e (table_at g.game t)) a r
   plain_keeps t e (suc k) a r =
-      condacts_keeps t e _ (entries_keeps t (suc e) (drop (suc e) (table_at g t))) (suc k) (drop (suc k) (condacts_of (entry_at g t e))) a r
+      condacts_keeps t e _ (entries_keeps t (suc e) (drop (suc e) (table_at g.game t))) (suc k) (drop (suc k) (condacts_of (entry_at g.game t e))) a r
 
-  pub looped_closes : (l : OpenLoop) (r : Run) → l.level ≡ lv → Keeps None (looped g X sub lv l r)
+  pub looped_closes : (l : OpenLoop) (r : Run) → l.level ≡ lv → Keeps None (looped g sub lv l r)
   looped_closes l r own =
-      turns_closes g lv (record l { last = 0 }) _ own (plain_keeps l.table l.entry (suc l.at) true) (length g.objects - suc l.last) r
+      turns_closes g lv (record l { last = 0 }) _ own (plain_keeps l.table l.entry (suc l.at) true) (length g.game.objects - suc l.last) r
 
-  again_keeps : (o : Option OpenLoop) (x : Out) → Keeps o x → Keeps o (again lv (looped g X sub lv) x)
+  again_keeps : (o : Option OpenLoop) (x : Out) → Keeps o x → Keeps o (again lv (looped g sub lv) x)
   again_keeps o (Left a r) k =
-      open_or_not (Keeps o) (λ l. looped g X sub lv l r) (Left a r) (at_level lv r.turning)
+      open_or_not (Keeps o) (λ l. looped g sub lv l r) (Left a r) (at_level lv r.turning)
       (λ l e. Keeps_none o _ (looped_closes l r (at_level_is lv r.turning l e).0)) (λ none. k)
   again_keeps o (Waits p path r) k = tt
   again_keeps o (Redescribes r) k = tt
@@ -212,14 +212,14 @@ module _ (g : GameLists) (X : List (List ℕ)) (sub : ℕ → Run → Out) (lv :
   again_keeps o (IsSpent kind r) k = tt
   again_keeps o (IsDeep u r) k = tt
 
-  pub reads_keeps : (t e k : ℕ) → GoesKeeping (reads g X sub lv t e k)
+  pub reads_keeps : (t e k : ℕ) → GoesKeeping (reads g sub lv t e k)
   reads_keeps t e k a r = again_keeps r.turning _ (plain_keeps t e k a r)
 
 -- a table that is called keeps the loop
-pub called_keeps : (g : GameLists) (X : List (List ℕ)) (n lv : ℕ) → CallsKeeping (called g X n lv)
+pub called_keeps : (g : Story) (n lv : ℕ) → CallsKeeping (called g n lv)
 unfolding called
-called_keeps g X zero lv u r = tt
-called_keeps g X (suc n) lv u r = reads_keeps g X (called g X n (suc lv)) (suc lv) (called_keeps g X n (suc lv)) u 0 0 false r
+called_keeps g zero lv u r = tt
+called_keeps g (suc n) lv u r = reads_keeps g (called g n (suc lv)) (suc lv) (called_keeps g n (suc lv)) u 0 0 false r
 
-pub deeper_keeps : (g : GameLists) (X : List (List ℕ)) (lv : ℕ) → CallsKeeping (deeper g X lv)
-deeper_keeps g X lv = called_keeps g X (10 - lv) lv
+pub deeper_keeps : (g : Story) (lv : ℕ) → CallsKeeping (deeper g lv)
+deeper_keeps g lv = called_keeps g (10 - lv) lv

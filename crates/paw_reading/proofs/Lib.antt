@@ -11,6 +11,8 @@ pub mod Spends
 pub mod Ends
 pub mod Followed
 pub mod Past
+pub mod Waiting
 pub mod Counts
 pub mod Held
+pub mod Sounding
 pub mod Rightly

@@ -4,7 +4,7 @@ use Rattle.std.specs.Prelude.{if◌then◌else◌}
 use Rattle.paw_base.specs.declared.parts.Condact.{Condact}
 use Rattle.paw_base.specs.declared.fault.SpentKind.TheVariants as spent
 use Rattle.paw_game.specs.declared.parts.Entry.{Entry}
-use Rattle.paw_game.specs.Game.{GameLists}
+use Rattle.paw_effects.specs.Story.{Story}
 use Rattle.paw_game.specs.Tables.{table_at, entry_at}
 use Rattle.paw_effects.specs.declared.act.Prompt.{Prompt}
 use Rattle.paw_effects.specs.declared.act.Effect.TheVariants as effect
@@ -21,59 +21,59 @@ use Rattle.paw_reading.proofs.Rules.{within_budget, within_none, inside_end, ins
 
 -- ---- entries ----
 
-module _ (g : GameLists) (X : List (List ℕ)) (sub : ℕ → Run → Out) (lv : ℕ) where
+module _ (g : Story) (sub : ℕ → Run → Out) (lv : ℕ) where
   -- past the last entry
-  pub plain_end : (t e : ℕ) (a : Bool) (r : Run) → entry_at g t e ≡ None → plain g X sub lv t e 0 a r ≡ Left a r
+  pub plain_end : (t e : ℕ) (a : Bool) (r : Run) → entry_at g.game t e ≡ None → plain g sub lv t e 0 a r ≡ Left a r
   unfolding entries
-  plain_end t e a r h = rw (drop_none (table_at g t) e h) refl
+  plain_end t e a r h = rw (drop_none (table_at g.game t) e h) refl
 
   -- at an entry
-  pub plain_entry : (t e : ℕ) (en : Entry) (a : Bool) (r : Run) → entry_at g t e ≡ Some en →
-      plain g X sub lv t e 0 a r ≡ (if is_for_now r en then inside g X sub lv t e 0 a r else plain g X sub lv t (suc e) 0 a r)
+  pub plain_entry : (t e : ℕ) (en : Entry) (a : Bool) (r : Run) → entry_at g.game t e ≡ Some en →
+      plain g sub lv t e 0 a r ≡ (if is_for_now r en then inside g sub lv t e 0 a r else plain g sub lv t (suc e) 0 a r)
   unfolding entries
-  plain_entry t e en a r h = rw (drop_some (table_at g t) e en h, h) refl
+  plain_entry t e en a r h = rw (drop_some (table_at g.game t) e en h, h) refl
 
 -- ---- the loop ----
 
 -- the loop of which an object was taken is the one that is open
-pub taken_again : (g : GameLists) (X : List (List ℕ)) (sub : ℕ → Run → Out) (lv : ℕ) (l : OpenLoop) (o : ℕ) (x : Out) → l.level ≡ lv → Keeps (Some (record l { last = o })) x →
-    again lv (λ _. turns g lv (record l { last = 0 }) (plain g X sub lv l.table l.entry (suc l.at) true) (length g.objects - suc o)) x ≡ again lv (looped g X sub lv) x
-taken_again g X sub lv l o (Left a r) own (inl k) =
+pub taken_again : (g : Story) (sub : ℕ → Run → Out) (lv : ℕ) (l : OpenLoop) (o : ℕ) (x : Out) → l.level ≡ lv → Keeps (Some (record l { last = o })) x →
+    again lv (λ _. turns g lv (record l { last = 0 }) (plain g sub lv l.table l.entry (suc l.at) true) (length g.game.objects - suc o)) x ≡ again lv (looped g sub lv) x
+taken_again g sub lv l o (Left a r) own (inl k) =
     let q : at_level lv r.turning ≡ Some (record l { last = o }) = rw k (at_level_own lv (record l { last = o }) own) in rw q refl
-taken_again g X sub lv l o (Left a r) own (inr k) = rw k refl
-taken_again g X sub lv l o (Waits p path r) own k = refl
-taken_again g X sub lv l o (Redescribes r) own k = refl
-taken_again g X sub lv l o (Restarts r) own k = refl
-taken_again g X sub lv l o (Ends r) own k = refl
-taken_again g X sub lv l o (IsSpent kind r) own k = refl
-taken_again g X sub lv l o (IsDeep u r) own k = refl
+taken_again g sub lv l o (Left a r) own (inr k) = rw k refl
+taken_again g sub lv l o (Waits p path r) own k = refl
+taken_again g sub lv l o (Redescribes r) own k = refl
+taken_again g sub lv l o (Restarts r) own k = refl
+taken_again g sub lv l o (Ends r) own k = refl
+taken_again g sub lv l o (IsSpent kind r) own k = refl
+taken_again g sub lv l o (IsDeep u r) own k = refl
 
 -- ---- the rules ----
 
-module _ (g : GameLists) (X : List (List ℕ)) (lv : ℕ) where
+module _ (g : Story) (lv : ℕ) where
   -- what the loop of the level makes of equal readings
-  same : {x y : Out} → x ≡ y → again lv (looped g X (deeper g X lv) lv) x ≡ again lv (looped g X (deeper g X lv) lv) y
-  same e = ap (again lv (looped g X (deeper g X lv) lv)) e
+  same : {x y : Out} → x ≡ y → again lv (looped g (deeper g lv) lv) x ≡ again lv (looped g (deeper g lv) lv) y
+  same e = ap (again lv (looped g (deeper g lv) lv)) e
 
-  reads_entries : ReadsEntries g X lv
+  reads_entries : ReadsEntries g lv
   reads_entries = record {
-    past_last = λ t e a r h. same (plain_end g X (deeper g X lv) lv t e a r h);
-    passed_over = λ t e en a r h n. same (rw n at (plain_entry g X (deeper g X lv) lv t e en a r h));
-    matched = λ t e en a r h y. same (rw y at (plain_entry g X (deeper g X lv) lv t e en a r h));
+    past_last = λ t e a r h. same (plain_end g (deeper g lv) lv t e a r h);
+    passed_over = λ t e en a r h n. same (rw n at (plain_entry g (deeper g lv) lv t e en a r h));
+    matched = λ t e en a r h y. same (rw y at (plain_entry g (deeper g lv) lv t e en a r h));
     in_entry = λ t e k a r. refl;
-    past_condacts = λ f r h. same (inside_end g X (deeper g X lv) lv f.table f.entry f.at f.acted r h);
+    past_condacts = λ f r h. same (inside_end g (deeper g lv) lv f.table f.entry f.at f.acted r h);
   }
 
   -- one condact
   one_read : (f : Frame) (c : Condact) (r : Run) → MayRead g f c r →
-      at_frame g X lv f r ≡ again lv (looped g X (deeper g X lv) lv)
-      (reads_one g X (deeper g X lv) lv f (plain g X (deeper g X lv) lv f.table (suc f.entry) 0) (plain g X (deeper g X lv) lv f.table f.entry (suc f.at)) c r)
+      at_frame g lv f r ≡ again lv (looped g (deeper g lv) lv)
+      (reads_one g (deeper g lv) lv f (plain g (deeper g lv) lv f.table (suc f.entry) 0) (plain g (deeper g lv) lv f.table f.entry (suc f.at)) c r)
   one_read f c r h =
-      same (inside_condact g X (deeper g X lv) lv f.table f.entry f.at f.acted r c h.stands ∙ within_budget r _ h.left)
+      same (inside_condact g (deeper g lv) lv f.table f.entry f.at f.acted r c h.stands ∙ within_budget r _ h.left)
 
-  reads_condacts : ReadsCondacts g X lv
+  reads_condacts : ReadsCondacts g lv
   reads_condacts = record {
-    used_up = λ f c r h n. same (inside_condact g X (deeper g X lv) lv f.table f.entry f.at f.acted r c h ∙ within_none r _ n);
+    used_up = λ f c r h n. same (inside_condact g (deeper g lv) lv f.table f.entry f.at f.acted r c h ∙ within_none r _ n);
     holding = λ f c r h is y. one_read f c r h ∙ rw (is, y) refl;
     failing = λ f c r h is y. one_read f c r h ∙ rw (is, y) refl;
     asking = λ f c r h is y fit. one_read f c r h ∙ rw (is, y, fit) refl;
@@ -82,19 +82,19 @@ module _ (g : GameLists) (X : List (List ℕ)) (lv : ℕ) where
     acting_too_long = λ f c r h is fit. one_read f c r h ∙ rw (is, fit) refl;
   }
 
-  begins : (f : Frame) (p : ℕ) (r : Run) → goes g X lv f (effect.Loop p) r ≡ looks g X lv (loop_of lv f p) 0 r
+  begins : (f : Frame) (p : ℕ) (r : Run) → goes g lv f (effect.Loop p) r ≡ looks g lv (loop_of lv f p) 0 r
   begins f p r =
-      let all : length g.objects - 0 ≡ length g.objects = omega arith in
-      rw all (again_closed g X (deeper g X lv) lv _ _
-      (turns_closes g lv (loop_of lv f p) _ refl (plain_keeps g X (deeper g X lv) lv (deeper_keeps g X lv) f.table f.entry (suc f.at) true) (length g.objects) r))
+      let all : length g.game.objects - 0 ≡ length g.game.objects = omega arith in
+      rw all (again_closed g (deeper g lv) lv _ _
+      (turns_closes g lv (loop_of lv f p) _ refl (plain_keeps g (deeper g lv) lv (deeper_keeps g lv) f.table f.entry (suc f.at) true) (length g.game.objects) r))
 
-  follows_actions : FollowsActions g X lv
+  follows_actions : FollowsActions g lv
   follows_actions = record {
     go = λ f r. refl;
     exit = λ f a r. refl;
     redescribe = λ f r. refl;
-    call = λ f u r low. after_call_again g X (deeper g X lv) lv f (plain g X (deeper g X lv) lv f.table f.entry (suc f.at)) (deeper g X lv u r) ∙ ap (after_call f (past g X lv f)) (deeper_rest g X lv u r low);
-    deep = λ f u r h. ap (λ x. again lv (looped g X (deeper g X lv) lv) (after_call f (plain g X (deeper g X lv) lv f.table f.entry (suc f.at)) x)) (deeper_none g X lv u r h);
+    call = λ f u r low. after_call_again g (deeper g lv) lv f (plain g (deeper g lv) lv f.table f.entry (suc f.at)) (deeper g lv u r) ∙ ap (after_call f (past g lv f)) (deeper_rest g lv u r low);
+    deep = λ f u r h. ap (λ x. again lv (looped g (deeper g lv) lv) (after_call f (plain g (deeper g lv) lv f.table f.entry (suc f.at)) x)) (deeper_none g lv u r h);
     loop = begins;
     ask = λ f p r. refl;
     sentence = λ f s bytes r h. rw h refl;
@@ -104,55 +104,56 @@ module _ (g : GameLists) (X : List (List ℕ)) (lv : ℕ) where
   }
 
   -- of the last objects, counted by n
-  passes : (l : OpenLoop) (n o : ℕ) (r : Run) → length g.objects - suc n ≡ o → is_taken g r.world l o ≡ false →
-      turns g lv (record l { last = 0 }) (plain g X (deeper g X lv) lv l.table l.entry (suc l.at) true) (suc n) r
-      ≡ turns g lv (record l { last = 0 }) (plain g X (deeper g X lv) lv l.table l.entry (suc l.at) true) n r
+  passes : (l : OpenLoop) (n o : ℕ) (r : Run) → length g.game.objects - suc n ≡ o → is_taken g.game r.world l o ≡ false →
+      turns g lv (record l { last = 0 }) (plain g (deeper g lv) lv l.table l.entry (suc l.at) true) (suc n) r
+      ≡ turns g lv (record l { last = 0 }) (plain g (deeper g lv) lv l.table l.entry (suc l.at) true) n r
   unfolding turns
   passes l n o r e h = rw (e, h) refl
 
-  takes_one : (l : OpenLoop) (n o : ℕ) (r : Run) → l.level ≡ lv → length g.objects - suc n ≡ o → length g.objects - suc o ≡ n → is_taken g r.world l o ≡ true →
-      turns g lv (record l { last = 0 }) (plain g X (deeper g X lv) lv l.table l.entry (suc l.at) true) (suc n) r
-      ≡ rest g X lv l.table l.entry (suc l.at) true (taken g l o r)
+  takes_one : (l : OpenLoop) (n o : ℕ) (r : Run) → l.level ≡ lv → length g.game.objects - suc n ≡ o → length g.game.objects - suc o ≡ n → is_taken g.game r.world l o ≡ true →
+      turns g lv (record l { last = 0 }) (plain g (deeper g lv) lv l.table l.entry (suc l.at) true) (suc n) r
+      ≡ rest g lv l.table l.entry (suc l.at) true (taken g.game l o r)
   unfolding turns
   takes_one l n o r own e n_is h =
-      rw (e, h) (rw n_is at (taken_again g X (deeper g X lv) lv l o _ own
-      (plain_keeps g X (deeper g X lv) lv (deeper_keeps g X lv) l.table l.entry (suc l.at) true (taken g l o r))))
+      rw (e, h) (rw n_is at (taken_again g (deeper g lv) lv l o _ own
+      (plain_keeps g (deeper g lv) lv (deeper_keeps g lv) l.table l.entry (suc l.at) true (taken g.game l o r))))
 
   none_more : (l : OpenLoop) (n : ℕ) (r : Run) → n ≡ 0 →
-      turns g lv (record l { last = 0 }) (plain g X (deeper g X lv) lv l.table l.entry (suc l.at) true) n r ≡ Left true (without_loop r)
+      turns g lv (record l { last = 0 }) (plain g (deeper g lv) lv l.table l.entry (suc l.at) true) n r ≡ Left true (without_loop r)
   unfolding turns
   none_more l n r e = rw e refl
 
-  looks_above : (a : Bool) (l : OpenLoop) (r : Run) → r.turning ≡ Some l → l.level ≡ lv → leaves g X lv a r ≡ looks g X lv l (suc l.last) r
+  looks_above : (a : Bool) (l : OpenLoop) (r : Run) → r.turning ≡ Some l → l.level ≡ lv → leaves g lv a r ≡ looks g lv l (suc l.last) r
   looks_above a l r e own = let q : at_level lv r.turning ≡ Some l = rw e (at_level_own lv l own) in rw q refl
 
-  turns_loops : TurnsLoops g X lv
+  turns_loops : TurnsLoops g lv
   turns_loops = record {
     left = λ a r h. rw h refl;
     looks_on = looks_above;
-    passed_by = λ l o r low h. let e : length g.objects - o ≡ suc (length g.objects - suc o) = omega arith in rw e (passes l (length g.objects - suc o) o r (omega arith) h);
-    takes = λ l o r own low h. let e : length g.objects - o ≡ suc (length g.objects - suc o) = omega arith in rw e (takes_one l (length g.objects - suc o) o r own (omega arith) refl h);
-    none_left = λ l o r h. none_more l (length g.objects - o) r (omega arith);
+    passed_by = λ l o r low h. let e : length g.game.objects - o ≡ suc (length g.game.objects - suc o) = omega arith in rw e (passes l (length g.game.objects - suc o) o r (omega arith) h);
+    takes = λ l o r own low h. let e : length g.game.objects - o ≡ suc (length g.game.objects - suc o) = omega arith in rw e (takes_one l (length g.game.objects - suc o) o r own (omega arith) refl h);
+    none_left = λ l o r h. none_more l (length g.game.objects - o) r (omega arith);
   }
 
-  pub waits_on : (p : Prompt) (f : Frame) (r : Run) → r.events ≡ [] → on_path g X p lv (f ∷ []) r ≡ Waits p (f ∷ []) r
+  pub waits_on : (p : Prompt) (f : Frame) (r : Run) → r.events ≡ [] → on_path g p lv (f ∷ []) r ≡ Waits p (f ∷ []) r
   unfolding asked
   waits_on p f r h =
-      let here : on_path g X p lv (f ∷ []) r ≡ Waits p (f ∷ []) (record r { events = [] }) = rw h refl in
+      let here : on_path g p lv (f ∷ []) r ≡ Waits p (f ∷ []) (record r { events = [] }) = rw h refl in
       here ∙ ap (λ es. Waits p (f ∷ []) (record r { events = es })) (sym h)
 
   -- the end of the game is final
-  over_stays : (r : Run) → again lv (looped g X (deeper g X lv) lv) (over g r) ≡ over g r
-  over_stays r = by_test (fits r (say_text g r.world 14))
+  over_stays : (r : Run) → again lv (looped g (deeper g lv) lv) (over g r) ≡ over g r
+  over_stays r = by_test (fits r (say_text g.game r.world 14))
     where
-      by_test : (b : Bool) → again lv (looped g X (deeper g X lv) lv) (if b then Ends (closed (without_loop (line_dropped (printed (say_text g r.world 14) r)))) else IsSpent spent.Text r)
-          ≡ (if b then Ends (closed (without_loop (line_dropped (printed (say_text g r.world 14) r)))) else IsSpent spent.Text r)
+      by_test : (b : Bool) → again lv (looped g (deeper g lv) lv) (if b then Ends (closed (without_loop (line_dropped (printed (say_text g.game r.world 14) r)))) else IsSpent spent.Text r)
+          ≡ (if b then Ends (closed (without_loop (line_dropped (printed (say_text g.game r.world 14) r)))) else IsSpent spent.Text r)
       by_test true = refl
       by_test false = refl
 
-  answers_prompts : AnswersPrompts g X lv
+  answers_prompts : AnswersPrompts g lv
   unfolding asked
   answers_prompts = record {
+    above = λ p f h path r. refl;
     no_line = waits_on;
     ignored = λ p f line lines r h i. rw (h, i) refl;
     quit_yes = λ f line lines r h y. rw (h.comes, h.counts, y) refl;

@@ -3,7 +3,7 @@ use Rattle.std.proofs.Common.{◌≡◌, ◌≢◌, ℕ, zero, suc, Bool, true, 
 use Rattle.std.specs.Prelude.{flat_map, if◌then◌else◌}
 use Rattle.std.proofs.lemmas.Grind.{flat_map-append}
 use Rattle.paw_base.specs.declared.fault.SpentKind.TheVariants as spent
-use Rattle.paw_game.specs.Game.{GameLists}
+use Rattle.paw_effects.specs.Story.{Story}
 use Rattle.paw_game.specs.Tables.{exit_at}
 use Rattle.paw_world.specs.World.{flag, with_flag}
 use Rattle.paw_phrase.specs.Sentence.{Parsed, IsSentence, IsUnknown, IsNoPhrase, parsed}
@@ -23,12 +23,12 @@ use Rattle.paw_reading.proofs.Ends.{going_on_ends}
 use Rattle.paw_reading.proofs.Followed.{going_on_is_reading}
 
 -- going on with no line waits where it is
-waits_there : (g : GameLists) (X : List (List ℕ)) (p : Prompt) (lv : ℕ) (path : List Frame) (r : Run) → path ≢ [] → r.events ≡ [] → on_path g X p lv path r ≡ Waits p path r
-waits_there g X p lv [] r some none = absurd (some refl)
-waits_there g X p lv (f ∷ []) r some none = waits_on g X lv p f r none
-waits_there g X p lv (f ∷ h ∷ path) r some none = rw (waits_there g X p (suc lv) (h ∷ path) r (λ e. cc) none) refl
+waits_there : (g : Story) (p : Prompt) (lv : ℕ) (path : List Frame) (r : Run) → path ≢ [] → r.events ≡ [] → on_path g p lv path r ≡ Waits p path r
+waits_there g p lv [] r some none = absurd (some refl)
+waits_there g p lv (f ∷ []) r some none = waits_on g lv p f r none
+waits_there g p lv (f ∷ h ∷ path) r some none = rw (waits_there g p (suc lv) (h ∷ path) r (λ e. cc) none) refl
 
-module _ (g : GameLists) (X : List (List ℕ)) (ps : List (List ℕ)) (ts : List (List Step)) where
+module _ (g : Story) (ps : List (List ℕ)) (ts : List (List Step)) where
   -- what reading tables comes to, with these pieces before
   abbrev out_with_past : Out → Out
   out_with_past (Left a r) = Left a (with_past ps ts r)
@@ -46,22 +46,22 @@ module _ (g : GameLists) (X : List (List ℕ)) (ps : List (List ℕ)) (ts : List
   past_around : (r : Run) → around ps ts [] r ≡ with_past ps ts r
   past_around r = ap (λ es. record (with_past ps ts r) { events = es }) (append-nil r.events)
 
-  extends_past : (lv : ℕ) (x : Out) → Stops x → extends g X ps ts [] lv x ≡ out_with_past x
+  extends_past : (lv : ℕ) (x : Out) → Stops x → extends g ps ts [] lv x ≡ out_with_past x
   extends_past lv (Left a r) k = ap (Left a) (past_around r)
-  extends_past lv (Waits p path r) k = rw (past_around r) (waits_there g X p lv path (with_past ps ts r) k.some k.none_left)
+  extends_past lv (Waits p path r) k = rw (past_around r) (waits_there g p lv path (with_past ps ts r) k.some k.none_left)
   extends_past lv (Redescribes r) k = ap Redescribes (past_around r)
   extends_past lv (Restarts r) k = ap Restarts (past_around r)
   extends_past lv (Ends r) k = ap Ends (past_around r)
   extends_past lv (IsSpent kind r) k = ap (IsSpent kind) (past_around r)
   extends_past lv (IsDeep u r) k = ap (IsDeep u) (past_around r)
 
-  table_past : (t : ℕ) (r : Run) → table_read g X t (with_past ps ts r) ≡ out_with_past (table_read g X t r)
+  table_past : (t : ℕ) (r : Run) → table_read g t (with_past ps ts r) ≡ out_with_past (table_read g t r)
   table_past t r =
-      ap (table_read g X t) (sym (past_around r)) ∙ rest_extends g X ps ts [] 0 t 0 0 false r ∙ extends_past 0 (table_read g X t r) (rest_stops g X 0 t 0 0 false r)
+      ap (table_read g t) (sym (past_around r)) ∙ rest_extends g ps ts [] 0 t 0 0 false r ∙ extends_past 0 (table_read g t r) (rest_stops g 0 t 0 0 false r)
 
-  path_past : (p : Prompt) (lv : ℕ) (path : List Frame) (r : Run) → on_path g X p lv path (with_past ps ts r) ≡ out_with_past (on_path g X p lv path r)
+  path_past : (p : Prompt) (lv : ℕ) (path : List Frame) (r : Run) → on_path g p lv path (with_past ps ts r) ≡ out_with_past (on_path g p lv path r)
   path_past p lv path r =
-      ap (on_path g X p lv path) (sym (past_around r)) ∙ path_extends g X ps ts [] p lv path r ∙ extends_past lv (on_path g X p lv path r) (path_stops g X p lv path r)
+      ap (on_path g p lv path) (sym (past_around r)) ∙ path_extends g ps ts [] p lv path r ∙ extends_past lv (on_path g p lv path r) (path_stops g p lv path r)
 
   -- ---- turns ----
 
@@ -75,12 +75,12 @@ module _ (g : GameLists) (X : List (List ℕ)) (ps : List (List ℕ)) (ts : List
 
   module _ (go : Stage → Run → Ending) (pasts : (s : Stage) (r : Run) → go s (with_past ps ts r) ≡ ending_with_past ps ts (go s r)) where
     connected_past : (r : Run) (to : Option ℕ) → connected g (go AtDescribe) (go AtFrame) (with_past ps ts r) to ≡ ending_with_past ps ts (connected g (go AtDescribe) (go AtFrame) r to)
-    connected_past r None = saying_past (refusal_text g r.world) (go AtFrame) (line_dropped r) (pasts AtFrame (printed (refusal_text g r.world) (line_dropped r)))
+    connected_past r None = saying_past (refusal_text g.game r.world) (go AtFrame) (line_dropped r) (pasts AtFrame (printed (refusal_text g.game r.world) (line_dropped r)))
     connected_past r (Some to) = pasts AtDescribe (with_world (with_flag r.world 38 to) r)
 
     after_left_past : (t : ℕ) (a : Bool) (r : Run) → after_left g go t a (with_past ps ts r) ≡ ending_with_past ps ts (after_left g go t a r)
     after_left_past zero true r = pasts AtFrame r
-    after_left_past zero false r = connected_past r (exit_at g (flag r.world 38) (flag r.world 33))
+    after_left_past zero false r = connected_past r (exit_at g.game (flag r.world 38) (flag r.world 33))
     after_left_past (suc zero) a r = pasts AtFrame r
     after_left_past (suc (suc t)) a r = pasts AtPhrase (with_world (framed r.world) r)
 
@@ -93,8 +93,8 @@ module _ (g : GameLists) (X : List (List ℕ)) (ps : List (List ℕ)) (ts : List
     table_done_past t (IsSpent kind r) = refl
     table_done_past t (IsDeep u r) = refl
 
-    read_past : (t : ℕ) (r : Run) → table_done g go t (table_read g X t (with_past ps ts r)) ≡ ending_with_past ps ts (table_done g go t (table_read g X t r))
-    read_past t r = rw (table_past t r) (table_done_past t (table_read g X t r))
+    read_past : (t : ℕ) (r : Run) → table_done g go t (table_read g t (with_past ps ts r)) ≡ ending_with_past ps ts (table_done g go t (table_read g t r))
+    read_past t r = rw (table_past t r) (table_done_past t (table_read g t r))
 
     at_main_past : (r : Run) (es : List (List ℕ)) → at_main g (go AtFrame) (go AtPhrase) (with_past ps ts r) es ≡ ending_with_past ps ts (at_main g (go AtFrame) (go AtPhrase) r es)
     unfolding at_main
@@ -102,11 +102,11 @@ module _ (g : GameLists) (X : List (List ℕ)) (ps : List (List ℕ)) (ts : List
     at_main_past r (line ∷ es) =
         by_test (is_ignored r.world line) (is_timeout line)
         (at_main g (go AtFrame) (go AtPhrase) (closed (record r { events = es })) es)
-        (saying (say_text g (with_timeout true r.world) 35) (go AtFrame) (heard line (record r { events = es })))
+        (saying (say_text g.game (with_timeout true r.world) 35) (go AtFrame) (heard line (record r { events = es })))
         (go AtPhrase (line_set line (record r { events = es })))
         (rw (closed_past (record r { events = es })) (at_main_past (closed (record r { events = es })) es))
-        (saying_past (say_text g (with_timeout true r.world) 35) (go AtFrame) (heard line (record r { events = es }))
-        (pasts AtFrame (printed (say_text g (with_timeout true r.world) 35) (heard line (record r { events = es })))))
+        (saying_past (say_text g.game (with_timeout true r.world) 35) (go AtFrame) (heard line (record r { events = es }))
+        (pasts AtFrame (printed (say_text g.game (with_timeout true r.world) 35) (heard line (record r { events = es })))))
         (pasts AtPhrase (line_set line (record r { events = es })))
       where
         by_test : (ignored timeout : Bool) (x y z : Ending) → {x' y' z' : Ending} → x' ≡ ending_with_past ps ts x → y' ≡ ending_with_past ps ts y → z' ≡ ending_with_past ps ts z →
@@ -117,40 +117,40 @@ module _ (g : GameLists) (X : List (List ℕ)) (ps : List (List ℕ)) (ts : List
 
     after_phrase_past : (r : Run) (p : Parsed) → after_phrase g (go AtFrame) (go AtPhrase) (go AtResponse) (with_past ps ts r) p ≡ ending_with_past ps ts (after_phrase g (go AtFrame) (go AtPhrase) (go AtResponse) r p)
     after_phrase_past r (IsSentence s rest) = pasts AtResponse (with_world (counted (taken_phrase s rest r).world) (taken_phrase s rest r))
-    after_phrase_past r (IsUnknown rest) = saying_past (say_text g r.world 6) (go AtFrame) (line_dropped r) (pasts AtFrame (printed (say_text g r.world 6) (line_dropped r)))
+    after_phrase_past r (IsUnknown rest) = saying_past (say_text g.game r.world 6) (go AtFrame) (line_dropped r) (pasts AtFrame (printed (say_text g.game r.world 6) (line_dropped r)))
     after_phrase_past r IsNoPhrase =
-        saying_past (prompt_text g r.world) (λ s. at_main g (go AtFrame) (go AtPhrase) (closed s) s.events) (line_dropped r)
-        (rw (closed_past (printed (prompt_text g r.world) (line_dropped r))) (at_main_past (closed (printed (prompt_text g r.world) (line_dropped r))) r.events))
+        saying_past (prompt_text g.game r.world) (λ s. at_main g (go AtFrame) (go AtPhrase) (closed s) s.events) (line_dropped r)
+        (rw (closed_past (printed (prompt_text g.game r.world) (line_dropped r))) (at_main_past (closed (printed (prompt_text g.game r.world) (line_dropped r))) r.events))
 
-  turn_past : (n : ℕ) (s : Stage) (r : Run) → turn g X n s (with_past ps ts r) ≡ ending_with_past ps ts (turn g X n s r)
+  turn_past : (n : ℕ) (s : Stage) (r : Run) → turn g n s (with_past ps ts r) ≡ ending_with_past ps ts (turn g n s r)
   unfolding turn
   turn_past zero s r = refl
   turn_past (suc n) AtDescribe r =
-      saying_past (view_text g (described r.world)) (λ q. table_done g (turn g X n) 1 (table_read g X 1 q)) (with_world (described r.world) r)
-      (read_past (turn g X n) (turn_past n) 1 (printed (view_text g (described r.world)) (with_world (described r.world) r)))
-  turn_past (suc n) AtFrame r = read_past (turn g X n) (turn_past n) 2 r
-  turn_past (suc n) AtPhrase r = after_phrase_past (turn g X n) (turn_past n) r (parsed g r.pending r.earlier (flag r.world 46) (flag r.world 47))
-  turn_past (suc n) AtResponse r = read_past (turn g X n) (turn_past n) 0 r
+      saying_past (view_text g.game (described r.world)) (λ q. table_done g (turn g n) 1 (table_read g 1 q)) (with_world (described r.world) r)
+      (read_past (turn g n) (turn_past n) 1 (printed (view_text g.game (described r.world)) (with_world (described r.world) r)))
+  turn_past (suc n) AtFrame r = read_past (turn g n) (turn_past n) 2 r
+  turn_past (suc n) AtPhrase r = after_phrase_past (turn g n) (turn_past n) r (parsed g.game r.pending r.earlier (flag r.world 46) (flag r.world 47))
+  turn_past (suc n) AtResponse r = read_past (turn g n) (turn_past n) 0 r
 
-  in_table_past : (n : ℕ) (p : Prompt) (path : List Frame) (r : Run) → in_table g X n p path (with_past ps ts r) ≡ ending_with_past ps ts (in_table g X n p path r)
-  in_table_past n p path r = rw (path_past p 0 path r) (table_done_past (turn g X n) (turn_past n) (first_table path) (on_path g X p 0 path r))
+  in_table_past : (n : ℕ) (p : Prompt) (path : List Frame) (r : Run) → in_table g n p path (with_past ps ts r) ≡ ending_with_past ps ts (in_table g n p path r)
+  in_table_past n p path r = rw (path_past p 0 path r) (table_done_past (turn g n) (turn_past n) (first_table path) (on_path g p 0 path r))
 
-  goes_on_past : (n : ℕ) (p : Prompt) (path : List Frame) (r : Run) → goes_on g X n p path (with_past ps ts r) ≡ ending_with_past ps ts (goes_on g X n p path r)
-  goes_on_past n prompt.Main path r = at_main_past (turn g X n) (turn_past n) r r.events
+  goes_on_past : (n : ℕ) (p : Prompt) (path : List Frame) (r : Run) → goes_on g n p path (with_past ps ts r) ≡ ending_with_past ps ts (goes_on g n p path r)
+  goes_on_past n prompt.Main path r = at_main_past (turn g n) (turn_past n) r r.events
   goes_on_past n prompt.Quit path r = in_table_past n prompt.Quit path r
   goes_on_past n prompt.Again path r = in_table_past n prompt.Again path r
   goes_on_past n prompt.Key path r = in_table_past n prompt.Key path r
   goes_on_past n prompt.Over path r = refl
 
 pub past_stays : PastStays
-past_stays g X ps ts p path r = goes_on_past g X ps ts (stages_left AtResponse r) p path r
+past_stays g ps ts p path r = goes_on_past g ps ts (stages_left AtResponse r) p path r
 
 -- the reading of more lines has the pieces of some, and then those of going on
 pub longer_reading : LongerReading
-longer_reading g X seed es fs p path r e =
-    let whole : reading g X seed (es ++ fs) ≡ on g X p path (with_lines fs r) = rw e at (going_on_is_reading g X seed es fs) in
+longer_reading g seed es fs p path r e =
+    let whole : reading g seed (es ++ fs) ≡ on g p path (with_lines fs r) = rw e at (going_on_is_reading g seed es fs) in
     let apart : with_past r.pieces r.traces (with_lines fs (without_past r)) ≡ with_lines fs r = rw (append-nil r.pieces, append-nil r.traces) refl in
-    whole ∙ ap (on g X p path) (sym apart) ∙ past_stays g X r.pieces r.traces p path (with_lines fs (without_past r))
+    whole ∙ ap (on g p path) (sym apart) ∙ past_stays g r.pieces r.traces p path (with_lines fs (without_past r))
 
 past_text : (ps : List (List ℕ)) (ts : List (List Step)) (x : Ending) → x ≢ Unended → text_of (ending_with_past ps ts x) ≡ flat_map (λ piece. piece) ps ++ text_of x
 past_text ps ts (WaitsAt p path r) h = flat_map-append (λ piece. piece) ps r.pieces
@@ -161,7 +161,7 @@ past_text ps ts Unended h = absurd (h refl)
 
 -- and so has its text
 pub longer_text : LongerText
-longer_text g X seed es fs p path r e =
-    ap text_of (longer_reading g X seed es fs p path r e)
-    ∙ past_text r.pieces r.traces (on g X p path (with_lines fs (without_past r))) (going_on_ends g X p path (with_lines fs (without_past r)))
-    ∙ ap (λ x. text_of x ++ text_of (on g X p path (with_lines fs (without_past r)))) (sym e)
+longer_text g seed es fs p path r e =
+    ap text_of (longer_reading g seed es fs p path r e)
+    ∙ past_text r.pieces r.traces (on g p path (with_lines fs (without_past r))) (going_on_ends g p path (with_lines fs (without_past r)))
+    ∙ ap (λ x. text_of x ++ text_of (on g p path (with_lines fs (without_past r)))) (sym e)

@@ -1,12 +1,16 @@
 -- Each reading of a valid game stops rightly.
-use Rattle.std.proofs.Common.{◌≡◌, ◌≢◌, ℕ, zero, suc, ◌≤◌, Bool, true, false, List, [], ◌∷◌, Option, Some, None, refl, sym, subst, length, arith}
-use Rattle.std.specs.Prelude.{if◌then◌else◌}
+use Rattle.std.proofs.Common.{◌≡◌, ◌≢◌, ℕ, zero, suc, ◌+◌, ◌*◌, ◌≤◌, Bool, true, false, List, [], ◌∷◌, Option, Some, None, refl, sym, ap, subst, length, arith, append-nil}
+use Rattle.std.specs.Prelude.{if◌then◌else◌, All}
+use Rattle.std.proofs.Math.ListN.{get_or}
 use Rattle.paw_base.specs.declared.fault.SpentKind.TheVariants as spent
 use Rattle.paw_game.specs.Game.{GameLists}
 use Rattle.paw_game.specs.Tables.{exit_at}
 use Rattle.paw_game.specs.Valid.{Valid}
-use Rattle.paw_world.specs.World.{World, flag, with_flag, is_dark, is_unlit, fallen, fallen_if}
+use Rattle.paw_world.specs.World.{World, Position, flag, with_flag, is_dark, is_unlit, fallen, fallen_if}
 use Rattle.paw_phrase.specs.Sentence.{Parsed, IsSentence, IsUnknown, IsNoPhrase, parsed}
+use Rattle.paw_effects.specs.Built.{StandsIn}
+use Rattle.paw_effects.specs.Standing.{MayBePosition}
+use Rattle.paw_effects.specs.Story.{Story}
 use Rattle.paw_effects.specs.declared.act.Prompt.{Prompt}
 use Rattle.paw_effects.specs.declared.act.Prompt.TheVariants as prompt
 use Rattle.paw_effects.specs.Texts.{say_text}
@@ -14,11 +18,16 @@ use Rattle.paw_effects.proofs.Asking.{AsksAt}
 use Rattle.paw_effects.proofs.Placed.{IsPlaced, opened_placed}
 use Rattle.paw_reading.specs.declared.places.Frame.{Frame}
 use Rattle.paw_reading.specs.declared.places.OpenLoop.{OpenLoop}
-use Rattle.paw_reading.specs.Run.{Run, closed, fits, printed, with_world, line_dropped, is_timeout, is_ignored, heard, with_timeout, taken_phrase}
+use Rattle.paw_reading.specs.Run.{Run, Step, closed, fits, printed, with_world, line_dropped, is_timeout, is_ignored, heard, with_timeout, taken_phrase}
 use Rattle.paw_reading.specs.Reading.{Out, Left, Waits, Redescribes, Restarts, Ends, IsSpent, IsDeep, table_read}
-use Rattle.paw_reading.specs.Turn.{Stage, AtDescribe, AtFrame, AtPhrase, AtResponse, Ending, RunsOut, saying, described, framed, view_text, counted, prompt_text, line_set, at_main, after_phrase, refusal_text, connected, after_left, table_done, turn, stages_left, opening, first_table, in_table, goes_on}
-use Rattle.paw_reading.specs.Places.{LeadsTo, tables_of, AreOpenTo, ArePlaces, IsLineTaken, StandsRightly, StopsRightly, ReadingsStopRightly, GoingOnStopsRightly}
+use Rattle.paw_reading.specs.Turn.{Stage, AtDescribe, AtFrame, AtPhrase, AtResponse, Ending, WaitsAt, IsOver, RunsOut, CallsTooDeep, Unended, reading, on, saying, described, framed, view_text, counted, prompt_text, line_set, at_main, after_phrase, refusal_text, connected, after_left, table_done, turn, stages_left, opening, first_table, in_table, goes_on}
+use Rattle.paw_reading.specs.Bounds.{IsLine, ValidStory, IsBounded}
+use Rattle.paw_reading.specs.Longer.{without_past, with_past, ending_with_past}
+use Rattle.paw_reading.specs.Places.{LeadsTo, tables_of, AreOpenTo, ArePlaces, IsLineTaken, StandsRightly, StopsRightly, StopsBounded, ReadingsStopRightly, GoingOnStopsRightly, ReadingsAreBounded, GoingOnIsBounded}
 use Rattle.paw_reading.proofs.Held.{Sound, Held, none_open, table_held, path_held}
+use Rattle.paw_reading.proofs.Past.{past_stays}
+use Rattle.paw_effects.proofs.Worlds.{world_at, world_is}
+use Rattle.paw_reading.proofs.Sounding.{IsResting, EndsSound, are_lines, reading_sounds, going_on_sounds}
 
 -- ---- worlds ----
 
@@ -58,18 +67,30 @@ some_path g code (f ∷ path) r leads = λ e. cc
 
 -- ---- turns ----
 
+-- what a run that stops keeps of its places and its line
+record IsPlacedRightly (g : GameLists) (p : Prompt) (path : List Frame) (r : Run) : Type 0 where
+  places : ArePlaces g p path r.turning
+  line : IsLineTaken path r
+
+abbrev StopsPlaced : GameLists → Ending → Type 0
+StopsPlaced g (WaitsAt p path r) = (p ≢ prompt.Over) × IsPlacedRightly g p path r
+StopsPlaced g (IsOver r) = IsPlacedRightly g prompt.Over [] r
+StopsPlaced g (RunsOut kind r) = Unit {0}
+StopsPlaced g (CallsTooDeep u r) = Unit {0}
+StopsPlaced g Unended = Unit {0}
+
 -- what holds in both cases
 one_of : (P : Ending → Type 0) (b : Bool) (x y : Ending) → P x → P y → P (if b then x else y)
 one_of P true x y h k = h
 one_of P false x y h k = k
 
-module _ (g : GameLists) (v : Valid g) (X : List (List ℕ)) where
+module _ (g : Story) (v : Valid g.game) where
   abbrev IsRightly : Ending → Type 0
-  IsRightly e = StopsRightly g e
+  IsRightly e = StopsPlaced g.game e
 
   -- the objects of the world stand at places of the game, and no loop is open
   record IsBetween (r : Run) : Type 0 where
-    of : IsPlaced g r.world
+    of : IsPlaced g.game r.world
     none : r.turning ≡ None
 
   abbrev GoRightly : (Run → Ending) → Type 0
@@ -82,86 +103,177 @@ module _ (g : GameLists) (v : Valid g) (X : List (List ℕ)) where
   module _ (go : Stage → Run → Ending) (goes : (s : Stage) → GoRightly (go s)) where
     connected_rightly : (to : Option ℕ) → GoRightly (λ r. connected g (go AtDescribe) (go AtFrame) r to)
     connected_rightly None r k =
-        saying_rightly (refusal_text g r.world) (go AtFrame) (goes AtFrame) (line_dropped r) (record { of = k.of; none = k.none })
+        saying_rightly (refusal_text g.game r.world) (go AtFrame) (goes AtFrame) (line_dropped r) (record { of = k.of; none = k.none })
     connected_rightly (Some to) r k = goes AtDescribe (with_world (with_flag r.world 38 to) r) (record { of = k.of; none = k.none })
 
     after_left_rightly : (t : ℕ) (a : Bool) → GoRightly (after_left g go t a)
     after_left_rightly zero true r k = goes AtFrame r k
-    after_left_rightly zero false r k = connected_rightly (exit_at g (flag r.world 38) (flag r.world 33)) r k
+    after_left_rightly zero false r k = connected_rightly (exit_at g.game (flag r.world 38) (flag r.world 33)) r k
     after_left_rightly (suc zero) a r k = goes AtFrame r k
     after_left_rightly (suc (suc t)) a r k =
-        goes AtPhrase (with_world (framed r.world) r) (record { of = framed_placed g r.world k.of; none = k.none })
+        goes AtPhrase (with_world (framed r.world) r) (record { of = framed_placed g.game r.world k.of; none = k.none })
 
-    between : (r : Run) → Sound g [] r.world r.turning → IsBetween r
-    between r k = record { of = k.of; none = none_open g r.world r.turning k }
+    between : (r : Run) → Sound g.game [] r.world r.turning → IsBetween r
+    between r k = record { of = k.of; none = none_open g.game r.world r.turning k }
 
-    table_done_rightly : (t : ℕ) → t ≤ 2 → (x : Out) → Held g [] [] t x → IsRightly (table_done g go t x)
+    table_done_rightly : (t : ℕ) → t ≤ 2 → (x : Out) → Held g.game [] [] t x → IsRightly (table_done g go t x)
     table_done_rightly t low (Left a r) k = after_left_rightly t a r (between r k)
     table_done_rightly t low (Waits p path r) k =
-        let rightly = waits_rightly g t k.code p path r low k.asks (omega (arith, k.few)) k.first k.leads k.sound in
-        (rightly.0, record { places = rightly.1; line = some_path g k.code path r k.leads; objects = k.sound.of.1.1 })
+        let rightly = waits_rightly g.game t k.code p path r low k.asks (omega (arith, k.few)) k.first k.leads k.sound in
+        (rightly.0, record { places = rightly.1; line = some_path g.game k.code path r k.leads })
     table_done_rightly t low (Redescribes r) k = goes AtDescribe r (between r k)
     table_done_rightly t low (Restarts r) k = goes AtDescribe r (between r k)
-    table_done_rightly t low (Ends r) k = record { places = (refl, k.0); line = λ e. k.1.0; objects = k.1.1.1.1 }
+    table_done_rightly t low (Ends r) k = record { places = (refl, k.0); line = λ e. k.1.0 }
     table_done_rightly t low (IsSpent kind r) k = tt
     table_done_rightly t low (IsDeep u r) k = tt
 
-    read_rightly : (t : ℕ) → t ≤ 2 → GoRightly (λ r. table_done g go t (table_read g X t r))
-    read_rightly t low r k = table_done_rightly t low (table_read g X t r) (table_held g v X t r k.of k.none)
+    read_rightly : (t : ℕ) → t ≤ 2 → GoRightly (λ r. table_done g go t (table_read g t r))
+    read_rightly t low r k = table_done_rightly t low (table_read g t r) (table_held g v t r k.of k.none)
 
     at_main_rightly : (r : Run) (lines : List (List ℕ)) → IsBetween r → r.pending ≡ [] → IsRightly (at_main g (go AtFrame) (go AtPhrase) r lines)
     unfolding at_main
-    at_main_rightly r [] k empty = (λ e. cc, record { places = (refl, k.none); line = λ e. empty; objects = k.of.1.1 })
+    at_main_rightly r [] k empty = (λ e. cc, record { places = (refl, k.none); line = λ e. empty })
     at_main_rightly r (line ∷ lines) k empty =
         let s : Run = record r { events = lines } in
         one_of IsRightly (is_ignored r.world line) _ _
         (at_main_rightly (closed s) lines (record { of = k.of; none = k.none }) empty)
         (one_of IsRightly (is_timeout line) _ _
-        (saying_rightly (say_text g (with_timeout true r.world) 35) (go AtFrame) (goes AtFrame) (heard line s) (record { of = k.of; none = k.none }))
+        (saying_rightly (say_text g.game (with_timeout true r.world) 35) (go AtFrame) (goes AtFrame) (heard line s) (record { of = k.of; none = k.none }))
         (goes AtPhrase (line_set line s) (record { of = k.of; none = k.none })))
 
     after_phrase_rightly : (p : Parsed) → GoRightly (λ r. after_phrase g (go AtFrame) (go AtPhrase) (go AtResponse) r p)
     after_phrase_rightly (IsSentence s rest) r k =
         goes AtResponse (with_world (counted (taken_phrase s rest r).world) (taken_phrase s rest r)) (record { of = k.of; none = k.none })
     after_phrase_rightly (IsUnknown rest) r k =
-        saying_rightly (say_text g r.world 6) (go AtFrame) (goes AtFrame) (line_dropped r) (record { of = k.of; none = k.none })
+        saying_rightly (say_text g.game r.world 6) (go AtFrame) (goes AtFrame) (line_dropped r) (record { of = k.of; none = k.none })
     after_phrase_rightly IsNoPhrase r k =
-        one_of IsRightly (fits (line_dropped r) (prompt_text g r.world)) _ (RunsOut spent.Text (line_dropped r))
-        (at_main_rightly (closed (printed (prompt_text g r.world) (line_dropped r))) r.events (record { of = k.of; none = k.none }) refl) tt
+        one_of IsRightly (fits (line_dropped r) (prompt_text g.game r.world)) _ (RunsOut spent.Text (line_dropped r))
+        (at_main_rightly (closed (printed (prompt_text g.game r.world) (line_dropped r))) r.events (record { of = k.of; none = k.none }) refl) tt
 
-  turn_rightly : (n : ℕ) (s : Stage) → GoRightly (turn g X n s)
+  turn_rightly : (n : ℕ) (s : Stage) → GoRightly (turn g n s)
   unfolding turn
   turn_rightly zero s r k = tt
   turn_rightly (suc n) AtDescribe r k =
-      saying_rightly (view_text g (described r.world)) (λ q. table_done g (turn g X n) 1 (table_read g X 1 q)) (read_rightly (turn g X n) (turn_rightly n) 1 (omega arith))
-      (with_world (described r.world) r) (record { of = described_placed g r.world k.of; none = k.none })
-  turn_rightly (suc n) AtFrame r k = read_rightly (turn g X n) (turn_rightly n) 2 (omega arith) r k
+      saying_rightly (view_text g.game (described r.world)) (λ q. table_done g (turn g n) 1 (table_read g 1 q)) (read_rightly (turn g n) (turn_rightly n) 1 (omega arith))
+      (with_world (described r.world) r) (record { of = described_placed g.game r.world k.of; none = k.none })
+  turn_rightly (suc n) AtFrame r k = read_rightly (turn g n) (turn_rightly n) 2 (omega arith) r k
   turn_rightly (suc n) AtPhrase r k =
-      after_phrase_rightly (turn g X n) (turn_rightly n) (parsed g r.pending r.earlier (flag r.world 46) (flag r.world 47)) r k
-  turn_rightly (suc n) AtResponse r k = read_rightly (turn g X n) (turn_rightly n) 0 (omega arith) r k
+      after_phrase_rightly (turn g n) (turn_rightly n) (parsed g.game r.pending r.earlier (flag r.world 46) (flag r.world 47)) r k
+  turn_rightly (suc n) AtResponse r k = read_rightly (turn g n) (turn_rightly n) 0 (omega arith) r k
 
   -- ---- going on ----
 
-  in_table_rightly : (n : ℕ) (p : Prompt) (code : ℕ) (path : List Frame) (r : Run) → IsPlaced g r.world → AsksAt code p → AreOpenTo g code path r.turning
-      → IsRightly (in_table g X n p path r)
+  in_table_rightly : (n : ℕ) (p : Prompt) (code : ℕ) (path : List Frame) (r : Run) → IsPlaced g.game r.world → AsksAt code p → AreOpenTo g.game code path r.turning
+      → IsRightly (in_table g n p path r)
   in_table_rightly n p code [] r of asks at = absurd at.leads
   in_table_rightly n p code (f ∷ path) r of asks at =
-      table_done_rightly (turn g X n) (turn_rightly n) f.table at.outermost _
-      (path_held g v X p code [] 0 f path r refl asks (omega (arith, at.few)) at.leads (record { of = of; loop = at.loop }))
+      table_done_rightly (turn g n) (turn_rightly n) f.table at.outermost _
+      (path_held g v p code [] 0 f path r refl asks (omega (arith, at.few)) at.leads (record { of = of; loop = at.loop }))
 
-  goes_on_rightly : (n : ℕ) (p : Prompt) (path : List Frame) (r : Run) → IsPlaced g r.world → StandsRightly g p path r → IsRightly (goes_on g X n p path r)
+  goes_on_rightly : (n : ℕ) (p : Prompt) (path : List Frame) (r : Run) → IsPlaced g.game r.world → IsPlacedRightly g.game p path r → IsRightly (goes_on g n p path r)
   goes_on_rightly n prompt.Main path r of at =
-      at_main_rightly (turn g X n) (turn_rightly n) r r.events (record { of = of; none = at.places.1 }) (at.line at.places.0)
+      at_main_rightly (turn g n) (turn_rightly n) r r.events (record { of = of; none = at.places.1 }) (at.line at.places.0)
   goes_on_rightly n prompt.Quit path r of at = in_table_rightly n prompt.Quit 27 path r of refl at.places
   goes_on_rightly n prompt.Again path r of at = in_table_rightly n prompt.Again 31 path r of refl at.places
   goes_on_rightly n prompt.Key path r of at = in_table_rightly n prompt.Key 35 path r of refl at.places
-  goes_on_rightly n prompt.Over path r of at = record { places = (refl, at.places.1); line = λ e. at.line at.places.0; objects = at.objects }
+  goes_on_rightly n prompt.Over path r of at = record { places = (refl, at.places.1); line = λ e. at.line at.places.0 }
+
+-- ---- all that holds ----
+
+-- the places, the line, and what is sound stand rightly
+stands : (g : Story) (valid : ValidStory g) (seed n : ℕ) (p : Prompt) (path : List Frame) (r : Run) → IsPlacedRightly g.game p path r → IsResting g.game seed n r
+    → StandsRightly g.game p path r
+stands g valid seed n p path r at k = record {
+  world = world_is g.game seed (n + 200000 * length r.pieces + length r.read) r.world k.sound.world;
+  places = at.places;
+  line = at.line;
+  pending = k.sound.line;
+  earlier = k.sound.earlier;
+  piece = k.current;
+  read = k.read;
+}
+
+stop_rightly : (g : Story) (valid : ValidStory g) (seed n : ℕ) (e : Ending) → StopsPlaced g.game e → EndsSound g valid seed n e → StopsRightly g.game e
+stop_rightly g valid seed n (WaitsAt p path r) at k = (at.0, stands g valid seed n p path r at.1 k)
+stop_rightly g valid seed n (IsOver r) at k = stands g valid seed n prompt.Over [] r at k
+stop_rightly g valid seed n (RunsOut kind r) at k = tt
+stop_rightly g valid seed n (CallsTooDeep u r) at k = tt
+stop_rightly g valid seed n Unended at k = tt
+
+bounded : (g : GameLists) (seed n : ℕ) (r : Run) → IsResting g seed n r → IsBounded seed n r
+bounded g seed n r k = record {
+  seeded = k.sound.world.seeded;
+  draws = let none : length r.read ≡ 0 = ap length k.read in omega (arith, none, k.sound.world.draws);
+  pieces = k.sound.pieces;
+  traced = k.sound.traced;
+}
+
+stop_bounded : (g : Story) (valid : ValidStory g) (seed n : ℕ) (e : Ending) → EndsSound g valid seed n e → StopsBounded seed n e
+stop_bounded g valid seed n (WaitsAt p path r) k = bounded g.game seed n r k
+stop_bounded g valid seed n (IsOver r) k = bounded g.game seed n r k
+stop_bounded g valid seed n (RunsOut kind r) k = tt
+stop_bounded g valid seed n (CallsTooDeep u r) k = tt
+stop_bounded g valid seed n Unended k = tt
 
 -- each reading
 pub readings_stop_rightly : ReadingsStopRightly
-readings_stop_rightly g X seed es v =
-    turn_rightly g v X (stages_left AtDescribe (opening g seed es)) AtDescribe (opening g seed es) (record { of = opened_placed g seed v; none = refl })
+readings_stop_rightly g seed es valid lines =
+    stop_rightly g valid seed 0 (reading g seed es)
+    (turn_rightly g valid.game (stages_left AtDescribe (opening g seed es)) AtDescribe (opening g seed es) (record { of = opened_placed g.game seed valid.game; none = refl }))
+    (reading_sounds g valid seed 0 es (are_lines es lines))
 
--- and going on
+pub readings_are_bounded : ReadingsAreBounded
+readings_are_bounded g seed es valid lines = stop_bounded g valid seed 0 (reading g seed es) (reading_sounds g valid seed 0 es (are_lines es lines))
+
+-- a run that stands rightly is sound
+rests : (g : GameLists) (seed n : ℕ) (p : Prompt) (path : List Frame) (r : Run) → StandsRightly g p path r → IsBounded seed n r → All IsLine r.events → IsResting g seed n r
+rests g seed n p path r k bound lines = record {
+  sound = record {
+    world = world_at g seed (n + 200000 * length r.pieces + length r.read) r.world k.world bound.seeded (omega (arith, bound.draws));
+    few = let none : length r.read ≡ 0 = ap length k.read in omega (arith, none);
+    line = k.pending;
+    earlier = k.earlier;
+    text = let none : length r.current ≡ 0 = ap length k.piece in omega (arith, none);
+    pieces = bound.pieces;
+    lines = are_lines r.events lines;
+    traced = bound.traced;
+  };
+  current = k.piece;
+  read = k.read;
+}
+
+-- going on
+pub going_on_is_bounded : GoingOnIsBounded
+going_on_is_bounded g seed n p path r valid lines k bound =
+    stop_bounded g valid seed n (on g p path r) (going_on_sounds g valid seed n p path r (rests g.game seed n p path r k bound lines))
+
+-- without what was closed before
+apart : (r : Run) → with_past r.pieces r.traces (without_past r) ≡ r
+apart r = rw (append-nil r.pieces, append-nil r.traces) refl
+
+placed_past : (g : GameLists) (ps : List (List ℕ)) (ts : List (List Step)) (e : Ending) → StopsRightly g e → StopsRightly g (ending_with_past ps ts e)
+placed_past g ps ts (WaitsAt p path r) k = (k.0, record { world = k.1.world; places = k.1.places; line = k.1.line; pending = k.1.pending; earlier = k.1.earlier; piece = k.1.piece; read = k.1.read })
+placed_past g ps ts (IsOver r) k = record { world = k.world; places = k.places; line = k.line; pending = k.pending; earlier = k.earlier; piece = k.piece; read = k.read }
+placed_past g ps ts (RunsOut kind r) k = tt
+placed_past g ps ts (CallsTooDeep u r) k = tt
+placed_past g ps ts Unended k = tt
+
+alone : (g : GameLists) (p : Prompt) (path : List Frame) (r : Run) → StandsRightly g p path r → StandsRightly g p path (without_past r)
+alone g p path r k = record { world = k.world; places = k.places; line = k.line; pending = k.pending; earlier = k.earlier; piece = k.piece; read = k.read }
+
 pub going_on_stops_rightly : GoingOnStopsRightly
-going_on_stops_rightly g X p path r v of at = goes_on_rightly g v X (stages_left AtResponse r) p path r (of.facts, (of.locations, at.objects)) at
+going_on_stops_rightly g p path r valid lines k =
+    let s : Run = without_past r in
+    let at : StandsRightly g.game p path s = alone g.game p path r k in
+    let resting : IsResting g.game r.world.seed r.world.draws s = rests g.game r.world.seed r.world.draws p path s at (record { seeded = refl; draws = omega arith; pieces = λ i d low. absurd (omega arith); traced = refl }) lines in
+    let placed = goes_on_rightly g valid.game (stages_left AtResponse s) p path s (k.world.of.facts, (k.world.of.locations, (k.world.places, (stands_in g.game r.world.saved k.world.saved, all_stand g.game r.world.kept k.world.kept)))) (record { places = at.places; line = at.line }) in
+    subst (λ x. StopsRightly g.game (on g p path x)) (apart r)
+    (subst (StopsRightly g.game) (sym (past_stays g r.pieces r.traces p path s))
+    (placed_past g.game r.pieces r.traces (on g p path s) (stop_rightly g valid r.world.seed r.world.draws (on g p path s) placed (going_on_sounds g valid r.world.seed r.world.draws p path s resting))))
+  where
+    stands_in : (h : GameLists) (saved : Option Position) → MayBePosition h saved → StandsIn h saved
+    stands_in h None at = tt
+    stands_in h (Some q) at = at.places
+
+    all_stand : (h : GameLists) (kept : List (Option Position)) → All (MayBePosition h) kept → All (StandsIn h) kept
+    all_stand h kept all = λ k d low. stands_in h (get_or kept k d) (all k d low)

@@ -8,6 +8,7 @@ use Rattle.paw_base.specs.declared.parts.Condact.{Condact}
 use Rattle.paw_base.specs.declared.fault.SpentKind.TheVariants as spent
 use Rattle.paw_game.specs.declared.parts.Entry.{Entry}
 use Rattle.paw_game.specs.Game.{GameLists}
+use Rattle.paw_effects.specs.Story.{Story}
 use Rattle.paw_game.specs.Tables.{table_at, entry_at, condacts_of, condact_at, matches, first_match, match_at}
 use Rattle.paw_world.specs.World.{flag}
 use Rattle.paw_reading.specs.declared.places.Frame.{Frame}
@@ -24,58 +25,58 @@ within_budget r x h = let t : nat_lt (length r.read) 200000 ≡ true = grind (ar
 pub within_none : (r : Run) (x : Out) → 200000 ≤ length r.read → within r x ≡ IsSpent spent.Condacts r
 within_none r x h = let t : nat_lt (length r.read) 200000 ≡ false = grind (arith, nat_tests) in rw t refl
 
-module _ (g : GameLists) (X : List (List ℕ)) (sub : ℕ → Run → Out) (lv : ℕ) where
+module _ (g : Story) (sub : ℕ → Run → Out) (lv : ℕ) where
   -- past the last condact of an entry
-  pub inside_end : (t e k : ℕ) (a : Bool) (r : Run) → condact_at g t e k ≡ None → inside g X sub lv t e k a r ≡ plain g X sub lv t (suc e) 0 a r
+  pub inside_end : (t e k : ℕ) (a : Bool) (r : Run) → condact_at g.game t e k ≡ None → inside g sub lv t e k a r ≡ plain g sub lv t (suc e) 0 a r
   unfolding condacts
-  inside_end t e k a r h = rw (drop_none (condacts_of (entry_at g t e)) k h) refl
+  inside_end t e k a r h = rw (drop_none (condacts_of (entry_at g.game t e)) k h) refl
 
   -- at a condact
-  pub inside_condact : (t e k : ℕ) (a : Bool) (r : Run) (c : Condact) → condact_at g t e k ≡ Some c → inside g X sub lv t e k a r ≡ within r (reads_one g X sub lv (record { table = t; entry = e; at = k; acted = a }) (plain g X sub lv t (suc e) 0) (plain g X sub lv t e (suc k)) c r)
+  pub inside_condact : (t e k : ℕ) (a : Bool) (r : Run) (c : Condact) → condact_at g.game t e k ≡ Some c → inside g sub lv t e k a r ≡ within r (reads_one g sub lv (record { table = t; entry = e; at = k; acted = a }) (plain g sub lv t (suc e) 0) (plain g sub lv t e (suc k)) c r)
   unfolding condacts
-  inside_condact t e k a r c h = rw (drop_some (condacts_of (entry_at g t e)) k c h) refl
+  inside_condact t e k a r c h = rw (drop_some (condacts_of (entry_at g.game t e)) k c h) refl
 
   -- no entry of these matches
-  entries_none : (t e : ℕ) (es : List Entry) (a : Bool) (r : Run) → first_match (flag r.world 33) (flag r.world 34) e es ≡ None → entries g X sub lv t e es a r ≡ Left a r
+  entries_none : (t e : ℕ) (es : List Entry) (a : Bool) (r : Run) → first_match (flag r.world 33) (flag r.world 34) e es ≡ None → entries g sub lv t e es a r ≡ Left a r
   unfolding entries
   entries_none t e [] a r h = refl
   entries_none t e (en ∷ es) a r h = go (entries_none t (suc e) es a r) (is_for_now r en) h
     where
-      go : (first_match (flag r.world 33) (flag r.world 34) (suc e) es ≡ None → entries g X sub lv t (suc e) es a r ≡ Left a r) → (b : Bool) → ◌≡◌ {A = Option ℕ} (if b then Some e else first_match (flag r.world 33) (flag r.world 34) (suc e) es) None → (if b then condacts g X sub lv t e (entries g X sub lv t (suc e) es) 0 en.condacts a r else entries g X sub lv t (suc e) es a r) ≡ Left a r
+      go : (first_match (flag r.world 33) (flag r.world 34) (suc e) es ≡ None → entries g sub lv t (suc e) es a r ≡ Left a r) → (b : Bool) → ◌≡◌ {A = Option ℕ} (if b then Some e else first_match (flag r.world 33) (flag r.world 34) (suc e) es) None → (if b then condacts g sub lv t e (entries g sub lv t (suc e) es) 0 en.condacts a r else entries g sub lv t (suc e) es a r) ≡ Left a r
       go later true q = cc
       go later false q = later q
 
   -- the first of these entries that matches
-  entries_some : (t e : ℕ) (es : List Entry) (a : Bool) (r : Run) (found : ℕ) → drop e (table_at g t) ≡ es → first_match (flag r.world 33) (flag r.world 34) e es ≡ Some found → entries g X sub lv t e es a r ≡ inside g X sub lv t found 0 a r
+  entries_some : (t e : ℕ) (es : List Entry) (a : Bool) (r : Run) (found : ℕ) → drop e (table_at g.game t) ≡ es → first_match (flag r.world 33) (flag r.world 34) e es ≡ Some found → entries g sub lv t e es a r ≡ inside g sub lv t found 0 a r
   unfolding entries
   entries_some t e [] a r found d h = cc
   entries_some t e (en ∷ es) a r found d h =
-      go (entries_some t (suc e) es a r found (drop_more (table_at g t) es e en d).1) (is_for_now r en) h
+      go (entries_some t (suc e) es a r found (drop_more (table_at g.game t) es e en d).1) (is_for_now r en) h
     where
-      here : (j : ℕ) → e ≡ j → condacts g X sub lv t e (entries g X sub lv t (suc e) es) 0 en.condacts a r ≡ inside g X sub lv t j 0 a r
-      here j q = let m = drop_more (table_at g t) es e en d in rw (← q, m.0, m.1) refl
+      here : (j : ℕ) → e ≡ j → condacts g sub lv t e (entries g sub lv t (suc e) es) 0 en.condacts a r ≡ inside g sub lv t j 0 a r
+      here j q = let m = drop_more (table_at g.game t) es e en d in rw (← q, m.0, m.1) refl
 
-      go : (first_match (flag r.world 33) (flag r.world 34) (suc e) es ≡ Some found → entries g X sub lv t (suc e) es a r ≡ inside g X sub lv t found 0 a r) → (b : Bool) → ◌≡◌ {A = Option ℕ} (if b then Some e else first_match (flag r.world 33) (flag r.world 34) (suc e) es) (Some found) → (if b then condacts g X sub lv t e (entries g X sub lv t (suc e) es) 0 en.condacts a r else entries g X sub lv t (suc e) es a r) ≡ inside g X sub lv t found 0 a r
+      go : (first_match (flag r.world 33) (flag r.world 34) (suc e) es ≡ Some found → entries g sub lv t (suc e) es a r ≡ inside g sub lv t found 0 a r) → (b : Bool) → ◌≡◌ {A = Option ℕ} (if b then Some e else first_match (flag r.world 33) (flag r.world 34) (suc e) es) (Some found) → (if b then condacts g sub lv t e (entries g sub lv t (suc e) es) 0 en.condacts a r else entries g sub lv t (suc e) es a r) ≡ inside g sub lv t found 0 a r
       go later true q = let j : e ≡ found = cc in here found j
       go later false q = later q
 
   -- before an entry, where none matches any more
-  pub plain_left : (t e : ℕ) (a : Bool) (r : Run) → match_at g t e (flag r.world 33) (flag r.world 34) ≡ None → plain g X sub lv t e 0 a r ≡ Left a r
-  plain_left t e a r h = entries_none t e (drop e (table_at g t)) a r h
+  pub plain_left : (t e : ℕ) (a : Bool) (r : Run) → match_at g.game t e (flag r.world 33) (flag r.world 34) ≡ None → plain g sub lv t e 0 a r ≡ Left a r
+  plain_left t e a r h = entries_none t e (drop e (table_at g.game t)) a r h
 
   -- before an entry, where this one matches next
-  pub plain_match : (t e found : ℕ) (a : Bool) (r : Run) → match_at g t e (flag r.world 33) (flag r.world 34) ≡ Some found → plain g X sub lv t e 0 a r ≡ inside g X sub lv t found 0 a r
-  plain_match t e found a r h = entries_some t e (drop e (table_at g t)) a r found refl h
+  pub plain_match : (t e found : ℕ) (a : Bool) (r : Run) → match_at g.game t e (flag r.world 33) (flag r.world 34) ≡ Some found → plain g sub lv t e 0 a r ≡ inside g sub lv t found 0 a r
+  plain_match t e found a r h = entries_some t e (drop e (table_at g.game t)) a r found refl h
 
   -- in an entry
-  pub plain_inside : (t e k : ℕ) (a : Bool) (r : Run) → 0 < k → plain g X sub lv t e k a r ≡ inside g X sub lv t e k a r
+  pub plain_inside : (t e k : ℕ) (a : Bool) (r : Run) → 0 < k → plain g sub lv t e k a r ≡ inside g sub lv t e k a r
   plain_inside t e zero a r h = absurd (omega arith)
   plain_inside t e (suc k) a r h = refl
 
   -- past the last entry
-  pub plain_past : (t e : ℕ) (a : Bool) (r : Run) → length (table_at g t) ≤ e → plain g X sub lv t e 0 a r ≡ Left a r
+  pub plain_past : (t e : ℕ) (a : Bool) (r : Run) → length (table_at g.game t) ≤ e → plain g sub lv t e 0 a r ≡ Left a r
   unfolding entries
-  plain_past t e a r h = rw (drop_none (table_at g t) e (slice_get_past (table_at g t) e h)) refl
+  plain_past t e a r h = rw (drop_none (table_at g.game t) e (slice_get_past (table_at g.game t) e h)) refl
 
   -- ---- the loop of the level ----
 
@@ -91,12 +92,12 @@ module _ (g : GameLists) (X : List (List ℕ)) (sub : ℕ → Run → Out) (lv :
   again_closed next (IsDeep u r) k = refl
 
   -- once is as good as twice
-  pub again_again : CallsKeeping sub → (x : Out) → again lv (looped g X sub lv) (again lv (looped g X sub lv) x) ≡ again lv (looped g X sub lv) x
+  pub again_again : CallsKeeping sub → (x : Out) → again lv (looped g sub lv) (again lv (looped g sub lv) x) ≡ again lv (looped g sub lv) x
   again_again calls (Left a r) = go (at_level lv r.turning) refl
     where
-      go : (o : Option OpenLoop) → at_level lv r.turning ≡ o → again lv (looped g X sub lv) (if_open (λ l. looped g X sub lv l r) (Left a r) o) ≡ if_open (λ l. looped g X sub lv l r) (Left a r) o
+      go : (o : Option OpenLoop) → at_level lv r.turning ≡ o → again lv (looped g sub lv) (if_open (λ l. looped g sub lv l r) (Left a r) o) ≡ if_open (λ l. looped g sub lv l r) (Left a r) o
       go None e = rw e refl
-      go (Some l) e = again_closed _ _ (looped_closes g X sub lv calls l r (at_level_is lv r.turning l e).0)
+      go (Some l) e = again_closed _ _ (looped_closes g sub lv calls l r (at_level_is lv r.turning l e).0)
   again_again calls (Waits p path r) = refl
   again_again calls (Redescribes r) = refl
   again_again calls (Restarts r) = refl
@@ -105,7 +106,7 @@ module _ (g : GameLists) (X : List (List ℕ)) (sub : ℕ → Run → Out) (lv :
   again_again calls (IsDeep u r) = refl
 
   -- the loop goes on after the call
-  pub after_call_again : (f : Frame) (go : Bool → Run → Out) (x : Out) → again lv (looped g X sub lv) (after_call f go x) ≡ after_call f (λ a r. again lv (looped g X sub lv) (go a r)) x
+  pub after_call_again : (f : Frame) (go : Bool → Run → Out) (x : Out) → again lv (looped g sub lv) (after_call f go x) ≡ after_call f (λ a r. again lv (looped g sub lv) (go a r)) x
   after_call_again f go (Left b r) = refl
   after_call_again f go (Waits p path r) = refl
   after_call_again f go (Redescribes r) = refl
@@ -115,14 +116,14 @@ module _ (g : GameLists) (X : List (List ℕ)) (sub : ℕ → Run → Out) (lv :
   after_call_again f go (IsDeep u r) = refl
 
 -- a table that is called is read at the next level
-pub deeper_rest : (g : GameLists) (X : List (List ℕ)) (lv u : ℕ) (r : Run) → lv < 10 → deeper g X lv u r ≡ rest g X (suc lv) u 0 0 false r
+pub deeper_rest : (g : Story) (lv u : ℕ) (r : Run) → lv < 10 → deeper g lv u r ≡ rest g (suc lv) u 0 0 false r
 unfolding called
-deeper_rest g X lv u r h = let e : 10 - lv ≡ suc (10 - suc lv) = omega arith in rw e refl
+deeper_rest g lv u r h = let e : 10 - lv ≡ suc (10 - suc lv) = omega arith in rw e refl
 
 -- at the deepest level no table can be called
-pub deeper_none : (g : GameLists) (X : List (List ℕ)) (lv u : ℕ) (r : Run) → 10 ≤ lv → deeper g X lv u r ≡ IsDeep u r
+pub deeper_none : (g : Story) (lv u : ℕ) (r : Run) → 10 ≤ lv → deeper g lv u r ≡ IsDeep u r
 unfolding called
-deeper_none g X lv u r h = let e : 10 - lv ≡ 0 = omega arith in rw e refl
+deeper_none g lv u r h = let e : 10 - lv ≡ 0 = omega arith in rw e refl
 
 -- the entry that matches next isn't below the one from which it is looked for, and stands in the table
 found_within : (verb noun e : ℕ) (es : List Entry) (found : ℕ) → first_match verb noun e es ≡ Some found → (e ≤ found) × (found < e + length es)

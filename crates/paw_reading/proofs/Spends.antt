@@ -6,7 +6,7 @@ use Rattle.std.proofs.lemmas.List.Sums.{sum_by-cons}
 use Rattle.paw_base.specs.declared.parts.Condact.{Condact}
 use Rattle.paw_base.specs.declared.fault.SpentKind.TheVariants as spent
 use Rattle.paw_game.specs.declared.parts.Entry.{Entry}
-use Rattle.paw_game.specs.Game.{GameLists}
+use Rattle.paw_effects.specs.Story.{Story}
 use Rattle.paw_game.specs.Tables.{table_at, entry_at, condacts_of}
 use Rattle.paw_world.specs.World.{flag}
 use Rattle.paw_phrase.specs.Sentence.{Parsed, IsSentence, IsUnknown, IsNoPhrase, parsed}
@@ -77,13 +77,13 @@ again_spends lv next h v (Ends r) k = tt
 again_spends lv next h v (IsSpent kind r) k = tt
 again_spends lv next h v (IsDeep u r) k = tt
 
-turns_spend : (g : GameLists) (lv : ℕ) (l : OpenLoop) (body : Run → Out) → IsSpending body → (n : ℕ) → IsSpending (turns g lv l body n)
+turns_spend : (g : Story) (lv : ℕ) (l : OpenLoop) (body : Run → Out) → IsSpending body → (n : ℕ) → IsSpending (turns g lv l body n)
 unfolding turns
 turns_spend g lv l body h zero r = omega arith
 turns_spend g lv l body h (suc n) r =
-    let o : ℕ = length g.objects - suc n in
-    either (Spends (left_to_read r)) (is_taken g r.world l o) _ _
-    (again_spends lv (λ _. turns g lv l body n) (λ m s. turns_spend g lv l body h n s) (left_to_read r) (body (taken g l o r)) (h (taken g l o r)))
+    let o : ℕ = length g.game.objects - suc n in
+    either (Spends (left_to_read r)) (is_taken g.game r.world l o) _ _
+    (again_spends lv (λ _. turns g lv l body n) (λ m s. turns_spend g lv l body h n s) (left_to_read r) (body (taken g.game l o r)) (h (taken g.game l o r)))
     (turns_spend g lv l body h n r)
 
 after_call_spends : (f : Frame) (go : Bool → Run → Out) → AreSpending go → (v : ℕ) (x : Out) → Spends v x → Spends v (after_call f go x)
@@ -97,10 +97,10 @@ after_call_spends f go h v (IsDeep u r) k = tt
 
 -- ---- prompts ----
 
-over_spends : (g : GameLists) (v : ℕ) (r : Run) → Spends v (over g r)
-over_spends g v r = either (Spends v) (fits r (say_text g r.world 14)) _ (IsSpent spent.Text r) tt tt
+over_spends : (g : Story) (v : ℕ) (r : Run) → Spends v (over g r)
+over_spends g v r = either (Spends v) (fits r (say_text g.game r.world 14)) _ (IsSpent spent.Text r) tt tt
 
-answered_spends : (g : GameLists) (p : Prompt) (f : Frame) (go : Bool → Run → Out) → AreSpending go → (line : List ℕ) (r : Run) (v : ℕ) →
+answered_spends : (g : Story) (p : Prompt) (f : Frame) (go : Bool → Run → Out) → AreSpending go → (line : List ℕ) (r : Run) (v : ℕ) →
     left_to_read r < v → brought r.events + 200000 < v → Spends v (answered g p f go line r)
 answered_spends g prompt.Main f go h line r v k n = Spends_up (left_to_read r) v (omega arith) _ (h f.acted r)
 answered_spends g prompt.Quit f go h line r v k n =
@@ -109,7 +109,7 @@ answered_spends g prompt.Again f go h line r v k n = either (Spends v) (is_no li
 answered_spends g prompt.Key f go h line r v k n = Spends_up (left_to_read r) v (omega arith) _ (h true r)
 answered_spends g prompt.Over f go h line r v k n = Spends_up (left_to_read r) v (omega arith) _ (h f.acted r)
 
-pub asked_spends : (g : GameLists) (p : Prompt) (f : Frame) (go : Bool → Run → Out) → AreSpending go → (r : Run) (lines : List (List ℕ)) →
+pub asked_spends : (g : Story) (p : Prompt) (f : Frame) (go : Bool → Run → Out) → AreSpending go → (r : Run) (lines : List (List ℕ)) →
     Spends (length r.pending + brought lines) (asked g p f go r lines)
 unfolding asked
 asked_spends g p f go h r [] = tt
@@ -128,15 +128,15 @@ after_parse_spends f next go hn hg r (IsSentence s rest) k = Spends_up (left_to_
 after_parse_spends f next go hn hg r (IsUnknown rest) k = Spends_up (left_to_read (record r { pending = rest })) _ (omega arith) _ (hg f.acted (record r { pending = rest }))
 after_parse_spends f next go hn hg r IsNoPhrase k = hg f.acted r
 
-module _ (g : GameLists) (X : List (List ℕ)) (sub : ℕ → Run → Out) (lv : ℕ) (calls : CallsSpending sub) where
+module _ (g : Story) (sub : ℕ → Run → Out) (lv : ℕ) (calls : CallsSpending sub) where
   after_test_spends : (f : Frame) (next go : Bool → Run → Out) → AreSpending next → AreSpending go → (c : Condact) (r : Run) (t : Truth) (v : ℕ) →
       left_to_read (noted f c true r) ≤ v → left_to_read (noted f c false r) ≤ v → Spends v (after_test g f next go c r t)
   after_test_spends f next go hn hg c r truth.Yes v k n = Spends_up (left_to_read (noted f c true r)) v k _ (hg f.acted (noted f c true r))
   after_test_spends f next go hn hg c r truth.No v k n = Spends_up (left_to_read (noted f c false r)) v n _ (hn f.acted (noted f c false r))
   after_test_spends f next go hn hg c r truth.Ask v k n =
-      either (Spends v) (fits (noted f c true r) (put_text g r.world 12)) _ (IsSpent spent.Text (noted f c true r))
+      either (Spends v) (fits (noted f c true r) (put_text g.game r.world 12)) _ (IsSpent spent.Text (noted f c true r))
       (Spends_up (length r.pending + brought r.events) v (omega arith) _
-      (asked_spends g prompt.Quit f go hg (closed (printed (put_text g r.world 12) (noted f c true r))) r.events)) tt
+      (asked_spends g prompt.Quit f go hg (closed (printed (put_text g.game r.world 12) (noted f c true r))) r.events)) tt
 
   -- redescribing leaves as much as there is, so it counts what was read before it
   after_action_spends : (f : Frame) (next go : Bool → Run → Out) → AreSpending next → AreSpending go → (e : Effect) (r : Run) →
@@ -147,13 +147,13 @@ module _ (g : GameLists) (X : List (List ℕ)) (sub : ℕ → Run → Out) (lv :
   after_action_spends f next go hn hg (effect.Call u) r =
       Spends_up (left_to_read r) _ (omega arith) _ (after_call_spends f go hg (left_to_read r) (sub u r) (calls u r))
   after_action_spends f next go hn hg (effect.Loop p) r =
-      Spends_up (left_to_read r) _ (omega arith) _ (turns_spend g lv (loop_of lv f p) (go true) (hg true) (length g.objects) r)
+      Spends_up (left_to_read r) _ (omega arith) _ (turns_spend g lv (loop_of lv f p) (go true) (hg true) (length g.game.objects) r)
   after_action_spends f next go hn hg (effect.Ask p) r =
       Spends_up (length r.pending + brought r.events) _ (omega arith) _ (asked_spends g p f go hg (closed r) r.events)
   after_action_spends f next go hn hg effect.Parse r =
       Spends_up (left_to_read r) _ (omega arith) _
-      (after_parse_spends f next go hn hg r (parsed g r.pending r.earlier (flag r.world 46) (flag r.world 47))
-      (parsed-shorter g r.pending r.earlier (flag r.world 46) (flag r.world 47)))
+      (after_parse_spends f next go hn hg r (parsed g.game r.pending r.earlier (flag r.world 46) (flag r.world 47))
+      (parsed-shorter g.game r.pending r.earlier (flag r.world 46) (flag r.world 47)))
   after_action_spends f next go hn hg effect.Spent r = tt
 
   dropped_less : (b : Bool) (bytes : List ℕ) → length (if b then [] else bytes) ≤ length bytes
@@ -169,13 +169,13 @@ module _ (g : GameLists) (X : List (List ℕ)) (sub : ℕ → Run → Out) (lv :
       (Spends_up (suc (left_to_read s)) _ (omega (arith, less)) _ (after_action_spends f next go hn hg d.act.effect s)) tt
 
   reads_one_spends : (f : Frame) (next go : Bool → Run → Out) → AreSpending next → AreSpending go → (c : Condact) (r : Run) → length r.read < 200000 →
-      Spends (left_to_read r) (reads_one g X sub lv f next go c r)
+      Spends (left_to_read r) (reads_one g sub lv f next go c r)
   reads_one_spends f next go hn hg c r low =
       let more : (b : Bool) → length (noted f c b r).read ≡ length r.read + 1 = λ b. length-append r.read _ in
       either (Spends (left_to_read r)) (is_condition c) _ _
-      (after_test_spends f next go hn hg c (with_world (holds g r.world c).world r) (holds g r.world c).answer (left_to_read r)
+      (after_test_spends f next go hn hg c (with_world (holds g.game r.world c).world r) (holds g.game r.world c).answer (left_to_read r)
       (omega (arith, more true)) (omega (arith, more false)))
-      (Spends_up (suc (left_to_read (noted f c true r))) _ (omega (arith, more true)) _ (acts_spend f next go hn hg (effect_of g X r.world c) (noted f c true r)))
+      (Spends_up (suc (left_to_read (noted f c true r))) _ (omega (arith, more true)) _ (acts_spend f next go hn hg (effect_of g r.world c) (noted f c true r)))
 
   -- ---- entries, tables ----
 
@@ -186,52 +186,52 @@ module _ (g : GameLists) (X : List (List ℕ)) (sub : ℕ → Run → Out) (lv :
       by_test false q = tt
       by_test true q = h (grind (arith, nat_tests))
 
-  condacts_spend : (t e : ℕ) (next : Bool → Run → Out) → AreSpending next → (k : ℕ) (cs : List Condact) → AreSpending (condacts g X sub lv t e next k cs)
+  condacts_spend : (t e : ℕ) (next : Bool → Run → Out) → AreSpending next → (k : ℕ) (cs : List Condact) → AreSpending (condacts g sub lv t e next k cs)
   unfolding condacts
   condacts_spend t e next hn k [] a r = hn a r
   condacts_spend t e next hn k (c ∷ cs) a r =
       within_spends r _ (reads_one_spends (record { table = t; entry = e; at = k; acted = a }) next _ hn (condacts_spend t e next hn (suc k) cs) c r)
 
-  entries_spend : (t e : ℕ) (es : List Entry) → AreSpending (entries g X sub lv t e es)
+  entries_spend : (t e : ℕ) (es : List Entry) → AreSpending (entries g sub lv t e es)
   unfolding entries
   entries_spend t e [] a r = omega arith
   entries_spend t e (en ∷ es) a r =
       either (Spends (left_to_read r)) (is_for_now r en) _ _
-      (condacts_spend t e (entries g X sub lv t (suc e) es) (entries_spend t (suc e) es) 0 en.condacts a r)
+      (condacts_spend t e (entries g sub lv t (suc e) es) (entries_spend t (suc e) es) 0 en.condacts a r)
       (entries_spend t (suc e) es a r)
 
-  plain_spends : (t e k : ℕ) → AreSpending (plain g X sub lv t e k)
-  plain_spends t e zero a r = entries_spend t e (drop e (table_at g t)) a r
+  plain_spends : (t e k : ℕ) → AreSpending (plain g sub lv t e k)
+  plain_spends t e zero a r = entries_spend t e (drop e (table_at g.game t)) a r
   plain_spends t e (suc k) a r =
-      condacts_spend t e _ (entries_spend t (suc e) (drop (suc e) (table_at g t))) (suc k) (drop (suc k) (condacts_of (entry_at g t e))) a r
+      condacts_spend t e _ (entries_spend t (suc e) (drop (suc e) (table_at g.game t))) (suc k) (drop (suc k) (condacts_of (entry_at g.game t e))) a r
 
-  looped_spends : (l : OpenLoop) → IsSpending (looped g X sub lv l)
-  looped_spends l r = turns_spend g lv (record l { last = 0 }) _ (plain_spends l.table l.entry (suc l.at) true) (length g.objects - suc l.last) r
+  looped_spends : (l : OpenLoop) → IsSpending (looped g sub lv l)
+  looped_spends l r = turns_spend g lv (record l { last = 0 }) _ (plain_spends l.table l.entry (suc l.at) true) (length g.game.objects - suc l.last) r
 
-  pub again_looped_spends : (v : ℕ) (x : Out) → Spends v x → Spends v (again lv (looped g X sub lv) x)
-  again_looped_spends v x k = again_spends lv (looped g X sub lv) looped_spends v x k
+  pub again_looped_spends : (v : ℕ) (x : Out) → Spends v x → Spends v (again lv (looped g sub lv) x)
+  again_looped_spends v x k = again_spends lv (looped g sub lv) looped_spends v x k
 
-  reads_spend : (t e k : ℕ) → AreSpending (reads g X sub lv t e k)
+  reads_spend : (t e k : ℕ) → AreSpending (reads g sub lv t e k)
   reads_spend t e k a r = again_looped_spends (left_to_read r) _ (plain_spends t e k a r)
 
-called_spend : (g : GameLists) (X : List (List ℕ)) (n lv : ℕ) → CallsSpending (called g X n lv)
+called_spend : (g : Story) (n lv : ℕ) → CallsSpending (called g n lv)
 unfolding called
-called_spend g X zero lv u r = tt
-called_spend g X (suc n) lv u r = reads_spend g X (called g X n (suc lv)) (suc lv) (called_spend g X n (suc lv)) u 0 0 false r
+called_spend g zero lv u r = tt
+called_spend g (suc n) lv u r = reads_spend g (called g n (suc lv)) (suc lv) (called_spend g n (suc lv)) u 0 0 false r
 
 -- reading on at a level spends
-pub rest_spends : (g : GameLists) (X : List (List ℕ)) (lv t e k : ℕ) → AreSpending (rest g X lv t e k)
-rest_spends g X lv t e k a r = reads_spend g X (deeper g X lv) lv (called_spend g X (10 - lv) lv) t e k a r
+pub rest_spends : (g : Story) (lv t e k : ℕ) → AreSpending (rest g lv t e k)
+rest_spends g lv t e k a r = reads_spend g (deeper g lv) lv (called_spend g (10 - lv) lv) t e k a r
 
-pub table_spends : (g : GameLists) (X : List (List ℕ)) (t : ℕ) → IsSpending (table_read g X t)
-table_spends g X t r = rest_spends g X 0 t 0 0 false r
+pub table_spends : (g : Story) (t : ℕ) → IsSpending (table_read g t)
+table_spends g t r = rest_spends g 0 t 0 0 false r
 
 -- going on along a path spends
-pub path_spends : (g : GameLists) (X : List (List ℕ)) (p : Prompt) (lv : ℕ) (path : List Frame) → IsSpending (on_path g X p lv path)
-path_spends g X p lv [] r = omega arith
-path_spends g X p lv (f ∷ []) r =
+pub path_spends : (g : Story) (p : Prompt) (lv : ℕ) (path : List Frame) → IsSpending (on_path g p lv path)
+path_spends g p lv [] r = omega arith
+path_spends g p lv (f ∷ []) r =
     Spends_up (length r.pending + brought r.events) _ (omega arith) _
-    (again_looped_spends g X (deeper g X lv) lv (called_spend g X (10 - lv) lv) (length r.pending + brought r.events) _
-    (asked_spends g p f _ (plain_spends g X (deeper g X lv) lv (called_spend g X (10 - lv) lv) f.table f.entry (suc f.at)) r r.events))
-path_spends g X p lv (f ∷ h ∷ path) r =
-    after_call_spends f _ (rest_spends g X lv f.table f.entry (suc f.at)) (left_to_read r) _ (path_spends g X p (suc lv) (h ∷ path) r)
+    (again_looped_spends g (deeper g lv) lv (called_spend g (10 - lv) lv) (length r.pending + brought r.events) _
+    (asked_spends g p f _ (plain_spends g (deeper g lv) lv (called_spend g (10 - lv) lv) f.table f.entry (suc f.at)) r r.events))
+path_spends g p lv (f ∷ h ∷ path) r =
+    after_call_spends f _ (rest_spends g lv f.table f.entry (suc f.at)) (left_to_read r) _ (path_spends g p (suc lv) (h ∷ path) r)

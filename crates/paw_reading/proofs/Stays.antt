@@ -4,7 +4,7 @@ use Rattle.std.specs.Prelude.{if◌then◌else◌, nat_lt}
 use Rattle.paw_base.specs.declared.parts.Condact.{Condact}
 use Rattle.paw_base.specs.declared.fault.SpentKind.TheVariants as spent
 use Rattle.paw_game.specs.declared.parts.Entry.{Entry}
-use Rattle.paw_game.specs.Game.{GameLists}
+use Rattle.paw_effects.specs.Story.{Story}
 use Rattle.paw_game.specs.Tables.{table_at, entry_at, condacts_of}
 use Rattle.paw_phrase.specs.Sentence.{Parsed, IsSentence, IsUnknown, IsNoPhrase}
 use Rattle.paw_effects.specs.declared.act.Prompt.{Prompt}
@@ -64,14 +64,14 @@ module _ (t : ℕ) where
   again_stays lv next h (IsSpent kind r) k = tt
   again_stays lv next h (IsDeep u r) k = tt
 
-  turns_stays : (g : GameLists) (lv : ℕ) (l : OpenLoop) (body : Run → Out) → IsOwn l.level l.table → ((r : Run) → IsLoopOf t r.turning → Stays t lv (body r))
+  turns_stays : (g : Story) (lv : ℕ) (l : OpenLoop) (body : Run → Out) → IsOwn l.level l.table → ((r : Run) → IsLoopOf t r.turning → Stays t lv (body r))
       → (n : ℕ) (r : Run) → Stays t lv (turns g lv l body n r)
   unfolding turns
   turns_stays g lv l body own h zero r = tt
   turns_stays g lv l body own h (suc n) r =
-      let o : ℕ = length g.objects - suc n in
-      either (Stays t lv) (is_taken g r.world l o) _ _
-      (again_stays lv _ (λ m s e k. turns_stays g lv l body own h n s) (body (taken g l o r)) (h (taken g l o r) own))
+      let o : ℕ = length g.game.objects - suc n in
+      either (Stays t lv) (is_taken g.game r.world l o) _ _
+      (again_stays lv _ (λ m s e k. turns_stays g lv l body own h n s) (body (taken g.game l o r)) (h (taken g.game l o r) own))
       (turns_stays g lv l body own h n r)
 
   -- ---- calls, prompts, phrases ----
@@ -85,17 +85,17 @@ module _ (t : ℕ) where
   after_call_stays lv f go own h (IsSpent kind r) k = tt
   after_call_stays lv f go own h (IsDeep u r) k = tt
 
-  answered_stays : (g : GameLists) (p : Prompt) (lv : ℕ) (f : Frame) (go : Bool → Run → Out) → GoesStaying lv go → (line : List ℕ) (r : Run) → IsLoopOf t r.turning
+  answered_stays : (g : Story) (p : Prompt) (lv : ℕ) (f : Frame) (go : Bool → Run → Out) → GoesStaying lv go → (line : List ℕ) (r : Run) → IsLoopOf t r.turning
       → Stays t lv (answered g p f go line r)
   answered_stays g prompt.Main lv f go h line r k = h f.acted r k
   answered_stays g prompt.Quit lv f go h line r k = either (Stays t lv) (is_yes line) _ (Left true r) (h f.acted r k) k
   answered_stays g prompt.Again lv f go h line r k =
       either (Stays t lv) (is_no line) (over g r) (Restarts (anew r))
-      (either (Stays t lv) (fits r (say_text g r.world 14)) (Ends (closed (without_loop (line_dropped (printed (say_text g r.world 14) r))))) (IsSpent spent.Text r) tt tt) tt
+      (either (Stays t lv) (fits r (say_text g.game r.world 14)) (Ends (closed (without_loop (line_dropped (printed (say_text g.game r.world 14) r))))) (IsSpent spent.Text r) tt tt) tt
   answered_stays g prompt.Key lv f go h line r k = h true r k
   answered_stays g prompt.Over lv f go h line r k = h f.acted r k
 
-  asked_stays : (g : GameLists) (p : Prompt) (lv : ℕ) (f : Frame) (go : Bool → Run → Out) → IsInner p → IsOwn lv f.table → GoesStaying lv go
+  asked_stays : (g : Story) (p : Prompt) (lv : ℕ) (f : Frame) (go : Bool → Run → Out) → IsInner p → IsOwn lv f.table → GoesStaying lv go
       → (r : Run) (lines : List (List ℕ)) → IsLoopOf t r.turning → Stays t lv (asked g p f go r lines)
   unfolding asked
   asked_stays g p lv f go inner own h r [] k = record { inner = inner; first = own; loop = k }
@@ -115,14 +115,14 @@ module _ (t : ℕ) where
 
   -- ---- one condact ----
 
-  module _ (g : GameLists) (X : List (List ℕ)) (sub : ℕ → Run → Out) (lv : ℕ) (calls : CallsStaying lv sub) where
+  module _ (g : Story) (sub : ℕ → Run → Out) (lv : ℕ) (calls : CallsStaying lv sub) where
     after_test_stays : (f : Frame) (next go : Bool → Run → Out) → IsOwn lv f.table → GoesStaying lv next → GoesStaying lv go → (c : Condact) (r : Run) (v : Truth) → IsLoopOf t r.turning
         → Stays t lv (after_test g f next go c r v)
     after_test_stays f next go own hn hg c r truth.Yes k = hg f.acted (noted f c true r) k
     after_test_stays f next go own hn hg c r truth.No k = hn f.acted (noted f c false r) k
     after_test_stays f next go own hn hg c r truth.Ask k =
-        either (Stays t lv) (fits (noted f c true r) (put_text g r.world 12)) _ (IsSpent spent.Text (noted f c true r))
-        (asked_stays g prompt.Quit lv f go tt own hg (closed (printed (put_text g r.world 12) (noted f c true r))) r.events k) tt
+        either (Stays t lv) (fits (noted f c true r) (put_text g.game r.world 12)) _ (IsSpent spent.Text (noted f c true r))
+        (asked_stays g prompt.Quit lv f go tt own hg (closed (printed (put_text g.game r.world 12) (noted f c true r))) r.events k) tt
 
     after_action_stays : (f : Frame) (next go : Bool → Run → Out) → IsOwn lv f.table → GoesStaying lv next → GoesStaying lv go → (e : Effect) → AsksInner e → (r : Run) → IsLoopOf t r.turning
         → Stays t lv (after_action g sub lv f next go e r)
@@ -130,7 +130,7 @@ module _ (t : ℕ) where
     after_action_stays f next go own hn hg (effect.Exit a) asks r k = k
     after_action_stays f next go own hn hg effect.Redescribe asks r k = tt
     after_action_stays f next go own hn hg (effect.Call u) asks r k = after_call_stays lv f go own hg (sub u r) (calls u r k)
-    after_action_stays f next go own hn hg (effect.Loop p) asks r k = turns_stays g lv (loop_of lv f p) (go true) own (hg true) (length g.objects) r
+    after_action_stays f next go own hn hg (effect.Loop p) asks r k = turns_stays g lv (loop_of lv f p) (go true) own (hg true) (length g.game.objects) r
     after_action_stays f next go own hn hg (effect.Ask p) asks r k = asked_stays g p lv f go asks own hg (closed r) r.events k
     after_action_stays f next go own hn hg effect.Parse asks r k = after_parse_stays lv f next go hn hg r _ k
     after_action_stays f next go own hn hg effect.Spent asks r k = tt
@@ -142,67 +142,67 @@ module _ (t : ℕ) where
         (after_action_stays f next go own hn hg d.act.effect asks (carried_out d (printed d.text r)) (cancelled d.act.cancel_loop r.turning k)) tt
 
     reads_one_stays : (f : Frame) (next go : Bool → Run → Out) → IsOwn lv f.table → GoesStaying lv next → GoesStaying lv go → (c : Condact) (r : Run) → IsLoopOf t r.turning
-        → Stays t lv (reads_one g X sub lv f next go c r)
+        → Stays t lv (reads_one g sub lv f next go c r)
     reads_one_stays f next go own hn hg c r k =
         either (Stays t lv) (is_condition c) _ _
-        (after_test_stays f next go own hn hg c (with_world (holds g r.world c).world r) (holds g r.world c).answer k)
-        (acts_stays f next go own hn hg (effect_of g X r.world c) (effect_asks g X r.world c) (noted f c true r) k)
+        (after_test_stays f next go own hn hg c (with_world (holds g.game r.world c).world r) (holds g.game r.world c).answer k)
+        (acts_stays f next go own hn hg (effect_of g r.world c) (effect_asks g r.world c) (noted f c true r) k)
 
     -- ---- entries, tables ----
 
-    condacts_stay : (u e : ℕ) (next : Bool → Run → Out) → IsOwn lv u → GoesStaying lv next → (k : ℕ) (cs : List Condact) → GoesStaying lv (condacts g X sub lv u e next k cs)
+    condacts_stay : (u e : ℕ) (next : Bool → Run → Out) → IsOwn lv u → GoesStaying lv next → (k : ℕ) (cs : List Condact) → GoesStaying lv (condacts g sub lv u e next k cs)
     unfolding condacts
     condacts_stay u e next own hn k [] a r h = hn a r h
     condacts_stay u e next own hn k (c ∷ cs) a r h =
         either (Stays t lv) (nat_lt (length r.read) 200000) _ (IsSpent spent.Condacts r)
         (reads_one_stays (record { table = u; entry = e; at = k; acted = a }) next _ own hn (condacts_stay u e next own hn (suc k) cs) c r h) tt
 
-    entries_stay : (u e : ℕ) (es : List Entry) → IsOwn lv u → GoesStaying lv (entries g X sub lv u e es)
+    entries_stay : (u e : ℕ) (es : List Entry) → IsOwn lv u → GoesStaying lv (entries g sub lv u e es)
     unfolding entries
     entries_stay u e [] own a r h = h
     entries_stay u e (en ∷ es) own a r h =
         either (Stays t lv) (is_for_now r en) _ _
-        (condacts_stay u e (entries g X sub lv u (suc e) es) own (entries_stay u (suc e) es own) 0 en.condacts a r h)
+        (condacts_stay u e (entries g sub lv u (suc e) es) own (entries_stay u (suc e) es own) 0 en.condacts a r h)
         (entries_stay u (suc e) es own a r h)
 
-    plain_stays : (u e k : ℕ) → IsOwn lv u → GoesStaying lv (plain g X sub lv u e k)
-    plain_stays u e zero own a r h = entries_stay u e (drop e (table_at g u)) own a r h
+    plain_stays : (u e k : ℕ) → IsOwn lv u → GoesStaying lv (plain g sub lv u e k)
+    plain_stays u e zero own a r h = entries_stay u e (drop e (table_at g.game u)) own a r h
     plain_stays u e (suc k) own a r h =
-        condacts_stay u e _ own (entries_stay u (suc e) (drop (suc e) (table_at g u)) own) (suc k) (drop (suc k) (condacts_of (entry_at g u e))) a r h
+        condacts_stay u e _ own (entries_stay u (suc e) (drop (suc e) (table_at g.game u)) own) (suc k) (drop (suc k) (condacts_of (entry_at g.game u e))) a r h
 
-    looped_stays : (l : OpenLoop) (r : Run) → at_level lv r.turning ≡ Some l → IsLoopOf t r.turning → Stays t lv (looped g X sub lv l r)
+    looped_stays : (l : OpenLoop) (r : Run) → at_level lv r.turning ≡ Some l → IsLoopOf t r.turning → Stays t lv (looped g sub lv l r)
     looped_stays l r e h =
         let at = at_level_is lv r.turning l e in
         let own : IsOwn l.level l.table = subst (IsLoopOf t) at.1 h in
         turns_stays g lv (record l { last = 0 }) _ own
-        (plain_stays l.table l.entry (suc l.at) (λ z. own (at.0 ∙ z)) true) (length g.objects - suc l.last) r
+        (plain_stays l.table l.entry (suc l.at) (λ z. own (at.0 ∙ z)) true) (length g.game.objects - suc l.last) r
 
-    reads_stay : (u e k : ℕ) → IsOwn lv u → GoesStaying lv (reads g X sub lv u e k)
-    reads_stay u e k own a r h = again_stays lv (looped g X sub lv) looped_stays _ (plain_stays u e k own a r h)
+    reads_stay : (u e k : ℕ) → IsOwn lv u → GoesStaying lv (reads g sub lv u e k)
+    reads_stay u e k own a r h = again_stays lv (looped g sub lv) looped_stays _ (plain_stays u e k own a r h)
 
-  called_stays : (g : GameLists) (X : List (List ℕ)) (n lv : ℕ) → CallsStaying lv (called g X n lv)
+  called_stays : (g : Story) (n lv : ℕ) → CallsStaying lv (called g n lv)
   unfolding called
-  called_stays g X zero lv u r h = tt
-  called_stays g X (suc n) lv u r h = reads_stay g X (called g X n (suc lv)) (suc lv) (called_stays g X n (suc lv)) u 0 0 (λ z. cc) false r h
+  called_stays g zero lv u r h = tt
+  called_stays g (suc n) lv u r h = reads_stay g (called g n (suc lv)) (suc lv) (called_stays g n (suc lv)) u 0 0 (λ z. cc) false r h
 
-  pub rest_stays : (g : GameLists) (X : List (List ℕ)) (lv u e k : ℕ) → IsOwn lv u → GoesStaying lv (rest g X lv u e k)
-  rest_stays g X lv u e k own a r h = reads_stay g X (deeper g X lv) lv (called_stays g X (10 - lv) lv) u e k own a r h
+  pub rest_stays : (g : Story) (lv u e k : ℕ) → IsOwn lv u → GoesStaying lv (rest g lv u e k)
+  rest_stays g lv u e k own a r h = reads_stay g (deeper g lv) lv (called_stays g (10 - lv) lv) u e k own a r h
 
-  path_stays : (g : GameLists) (X : List (List ℕ)) (p : Prompt) (lv : ℕ) (f : Frame) (path : List Frame) (r : Run) → IsInner p → IsOwn lv f.table → IsLoopOf t r.turning
-      → Stays t lv (on_path g X p lv (f ∷ path) r)
-  path_stays g X p lv f [] r inner own h =
-      again_stays lv (looped g X (deeper g X lv) lv) (looped_stays g X (deeper g X lv) lv (called_stays g X (10 - lv) lv)) _
-      (asked_stays g p lv f _ inner own (plain_stays g X (deeper g X lv) lv (called_stays g X (10 - lv) lv) f.table f.entry (suc f.at) own) r r.events h)
-  path_stays g X p lv f (i ∷ path) r inner own h =
-      after_call_stays lv f _ own (rest_stays g X lv f.table f.entry (suc f.at) own) _ (path_stays g X p (suc lv) i path r inner (λ z. cc) h)
+  path_stays : (g : Story) (p : Prompt) (lv : ℕ) (f : Frame) (path : List Frame) (r : Run) → IsInner p → IsOwn lv f.table → IsLoopOf t r.turning
+      → Stays t lv (on_path g p lv (f ∷ path) r)
+  path_stays g p lv f [] r inner own h =
+      again_stays lv (looped g (deeper g lv) lv) (looped_stays g (deeper g lv) lv (called_stays g (10 - lv) lv)) _
+      (asked_stays g p lv f _ inner own (plain_stays g (deeper g lv) lv (called_stays g (10 - lv) lv) f.table f.entry (suc f.at) own) r r.events h)
+  path_stays g p lv f (i ∷ path) r inner own h =
+      after_call_stays lv f _ own (rest_stays g lv f.table f.entry (suc f.at) own) _ (path_stays g p (suc lv) i path r inner (λ z. cc) h)
 
 -- a wait in a table that was read from its start is there
-pub table_waits : (g : GameLists) (X : List (List ℕ)) (t : ℕ) (r s : Run) (p : Prompt) (path : List Frame) → r.turning ≡ None
-    → table_read g X t r ≡ Waits p path s → WaitsThere t 0 p path s.turning
-table_waits g X t r s p path none is =
-    subst (Stays t 0) is (rest_stays t g X 0 t 0 0 (λ z. refl) false r (subst (IsLoopOf t) (sym none) tt))
+pub table_waits : (g : Story) (t : ℕ) (r s : Run) (p : Prompt) (path : List Frame) → r.turning ≡ None
+    → table_read g t r ≡ Waits p path s → WaitsThere t 0 p path s.turning
+table_waits g t r s p path none is =
+    subst (Stays t 0) is (rest_stays t g 0 t 0 0 (λ z. refl) false r (subst (IsLoopOf t) (sym none) tt))
 
 -- so is a wait that comes after a wait in a table
-pub path_waits : (g : GameLists) (X : List (List ℕ)) (q p : Prompt) (f : Frame) (from path : List Frame) (r s : Run) → IsInner q → IsLoopOf f.table r.turning
-    → on_path g X q 0 (f ∷ from) r ≡ Waits p path s → WaitsThere f.table 0 p path s.turning
-path_waits g X q p f from path r s inner h is = subst (Stays f.table 0) is (path_stays f.table g X q 0 f from r inner (λ z. refl) h)
+pub path_waits : (g : Story) (q p : Prompt) (f : Frame) (from path : List Frame) (r s : Run) → IsInner q → IsLoopOf f.table r.turning
+    → on_path g q 0 (f ∷ from) r ≡ Waits p path s → WaitsThere f.table 0 p path s.turning
+path_waits g q p f from path r s inner h is = subst (Stays f.table 0) is (path_stays f.table g q 0 f from r inner (λ z. refl) h)

@@ -4,7 +4,7 @@ use Rattle.std.specs.Prelude.{nat_lt}
 use Rattle.paw_base.specs.declared.parts.Condact.{Condact}
 use Rattle.paw_base.specs.declared.fault.SpentKind.TheVariants as spent
 use Rattle.paw_game.specs.declared.parts.Entry.{Entry}
-use Rattle.paw_game.specs.Game.{GameLists}
+use Rattle.paw_effects.specs.Story.{Story}
 use Rattle.paw_game.specs.Tables.{table_at, entry_at, condacts_of}
 use Rattle.paw_phrase.specs.Sentence.{Parsed, IsSentence, IsUnknown, IsNoPhrase}
 use Rattle.paw_effects.specs.declared.act.Prompt.{Prompt}
@@ -54,13 +54,13 @@ again_stops lv next h (Ends r) k = tt
 again_stops lv next h (IsSpent kind r) k = tt
 again_stops lv next h (IsDeep u r) k = tt
 
-turns_stop : (g : GameLists) (lv : ℕ) (l : OpenLoop) (body : Run → Out) → ((r : Run) → Stops (body r)) → (n : ℕ) (r : Run) → Stops (turns g lv l body n r)
+turns_stop : (g : Story) (lv : ℕ) (l : OpenLoop) (body : Run → Out) → ((r : Run) → Stops (body r)) → (n : ℕ) (r : Run) → Stops (turns g lv l body n r)
 unfolding turns
 turns_stop g lv l body h zero r = tt
 turns_stop g lv l body h (suc n) r =
-    let o : ℕ = length g.objects - suc n in
-    either Stops (is_taken g r.world l o) _ _
-    (again_stops lv (λ _. turns g lv l body n) (λ m s. turns_stop g lv l body h n s) (body (taken g l o r)) (h (taken g l o r)))
+    let o : ℕ = length g.game.objects - suc n in
+    either Stops (is_taken g.game r.world l o) _ _
+    (again_stops lv (λ _. turns g lv l body n) (λ m s. turns_stop g lv l body h n s) (body (taken g.game l o r)) (h (taken g.game l o r)))
     (turns_stop g lv l body h n r)
 
 pub after_call_stops : (f : Frame) (go : Bool → Run → Out) → AreStopping go → (x : Out) → Stops x → Stops (after_call f go x)
@@ -74,15 +74,15 @@ after_call_stops f go h (IsDeep u r) k = tt
 
 -- ---- prompts ----
 
-answered_stops : (g : GameLists) (p : Prompt) (f : Frame) (go : Bool → Run → Out) → AreStopping go → (line : List ℕ) (r : Run) → Stops (answered g p f go line r)
+answered_stops : (g : Story) (p : Prompt) (f : Frame) (go : Bool → Run → Out) → AreStopping go → (line : List ℕ) (r : Run) → Stops (answered g p f go line r)
 answered_stops g prompt.Main f go h line r = h f.acted r
 answered_stops g prompt.Quit f go h line r = either Stops (is_yes line) _ (Left true r) (h f.acted r) tt
 answered_stops g prompt.Again f go h line r =
-    either Stops (is_no line) (over g r) (Restarts (anew r)) (either Stops (fits r (say_text g r.world 14)) _ (IsSpent spent.Text r) tt tt) refl
+    either Stops (is_no line) (over g r) (Restarts (anew r)) (either Stops (fits r (say_text g.game r.world 14)) _ (IsSpent spent.Text r) tt tt) refl
 answered_stops g prompt.Key f go h line r = h true r
 answered_stops g prompt.Over f go h line r = h f.acted r
 
-asked_stops : (g : GameLists) (p : Prompt) (f : Frame) (go : Bool → Run → Out) → AreStopping go → (r : Run) (lines : List (List ℕ)) → Stops (asked g p f go r lines)
+asked_stops : (g : Story) (p : Prompt) (f : Frame) (go : Bool → Run → Out) → AreStopping go → (r : Run) (lines : List (List ℕ)) → Stops (asked g p f go r lines)
 unfolding asked
 asked_stops g p f go h r [] = record { some = λ e. cc; none_left = refl }
 asked_stops g p f go h r (line ∷ lines) =
@@ -96,20 +96,20 @@ after_parse_stops f next go hn hg r (IsSentence s rest) = hn f.acted (taken_phra
 after_parse_stops f next go hn hg r (IsUnknown rest) = hg f.acted (record r { pending = rest })
 after_parse_stops f next go hn hg r IsNoPhrase = hg f.acted r
 
-module _ (g : GameLists) (X : List (List ℕ)) (sub : ℕ → Run → Out) (lv : ℕ) (calls : CallsStopping sub) where
+module _ (g : Story) (sub : ℕ → Run → Out) (lv : ℕ) (calls : CallsStopping sub) where
   after_test_stops : (f : Frame) (next go : Bool → Run → Out) → AreStopping next → AreStopping go → (c : Condact) (r : Run) (t : Truth) → Stops (after_test g f next go c r t)
   after_test_stops f next go hn hg c r truth.Yes = hg f.acted (noted f c true r)
   after_test_stops f next go hn hg c r truth.No = hn f.acted (noted f c false r)
   after_test_stops f next go hn hg c r truth.Ask =
-      either Stops (fits (noted f c true r) (put_text g r.world 12)) _ (IsSpent spent.Text (noted f c true r))
-      (asked_stops g prompt.Quit f go hg (closed (printed (put_text g r.world 12) (noted f c true r))) r.events) tt
+      either Stops (fits (noted f c true r) (put_text g.game r.world 12)) _ (IsSpent spent.Text (noted f c true r))
+      (asked_stops g prompt.Quit f go hg (closed (printed (put_text g.game r.world 12) (noted f c true r))) r.events) tt
 
   after_action_stops : (f : Frame) (next go : Bool → Run → Out) → AreStopping next → AreStopping go → (e : Effect) (r : Run) → Stops (after_action g sub lv f next go e r)
   after_action_stops f next go hn hg effect.Go r = hg true r
   after_action_stops f next go hn hg (effect.Exit a) r = tt
   after_action_stops f next go hn hg effect.Redescribe r = refl
   after_action_stops f next go hn hg (effect.Call u) r = after_call_stops f go hg (sub u r) (calls u r)
-  after_action_stops f next go hn hg (effect.Loop p) r = turns_stop g lv (loop_of lv f p) (go true) (hg true) (length g.objects) r
+  after_action_stops f next go hn hg (effect.Loop p) r = turns_stop g lv (loop_of lv f p) (go true) (hg true) (length g.game.objects) r
   after_action_stops f next go hn hg (effect.Ask p) r = asked_stops g p f go hg (closed r) r.events
   after_action_stops f next go hn hg effect.Parse r = after_parse_stops f next go hn hg r _
   after_action_stops f next go hn hg effect.Spent r = tt
@@ -118,59 +118,59 @@ module _ (g : GameLists) (X : List (List ℕ)) (sub : ℕ → Run → Out) (lv :
   acts_stop f next go hn hg d r =
       either Stops (fits r d.text) _ (IsSpent spent.Text r) (after_action_stops f next go hn hg d.act.effect (carried_out d (printed d.text r))) tt
 
-  reads_one_stops : (f : Frame) (next go : Bool → Run → Out) → AreStopping next → AreStopping go → (c : Condact) (r : Run) → Stops (reads_one g X sub lv f next go c r)
+  reads_one_stops : (f : Frame) (next go : Bool → Run → Out) → AreStopping next → AreStopping go → (c : Condact) (r : Run) → Stops (reads_one g sub lv f next go c r)
   reads_one_stops f next go hn hg c r =
       either Stops (is_condition c) _ _
-      (after_test_stops f next go hn hg c (with_world (holds g r.world c).world r) (holds g r.world c).answer)
-      (acts_stop f next go hn hg (effect_of g X r.world c) (noted f c true r))
+      (after_test_stops f next go hn hg c (with_world (holds g.game r.world c).world r) (holds g.game r.world c).answer)
+      (acts_stop f next go hn hg (effect_of g r.world c) (noted f c true r))
 
   -- ---- entries, tables ----
 
-  condacts_stop : (t e : ℕ) (next : Bool → Run → Out) → AreStopping next → (k : ℕ) (cs : List Condact) → AreStopping (condacts g X sub lv t e next k cs)
+  condacts_stop : (t e : ℕ) (next : Bool → Run → Out) → AreStopping next → (k : ℕ) (cs : List Condact) → AreStopping (condacts g sub lv t e next k cs)
   unfolding condacts
   condacts_stop t e next hn k [] a r = hn a r
   condacts_stop t e next hn k (c ∷ cs) a r =
       either Stops (nat_lt (length r.read) 200000) _ (IsSpent spent.Condacts r)
       (reads_one_stops (record { table = t; entry = e; at = k; acted = a }) next _ hn (condacts_stop t e next hn (suc k) cs) c r) tt
 
-  entries_stop : (t e : ℕ) (es : List Entry) → AreStopping (entries g X sub lv t e es)
+  entries_stop : (t e : ℕ) (es : List Entry) → AreStopping (entries g sub lv t e es)
   unfolding entries
   entries_stop t e [] a r = tt
   entries_stop t e (en ∷ es) a r =
       either Stops (is_for_now r en) _ _
-      (condacts_stop t e (entries g X sub lv t (suc e) es) (entries_stop t (suc e) es) 0 en.condacts a r)
+      (condacts_stop t e (entries g sub lv t (suc e) es) (entries_stop t (suc e) es) 0 en.condacts a r)
       (entries_stop t (suc e) es a r)
 
-  plain_stops : (t e k : ℕ) → AreStopping (plain g X sub lv t e k)
-  plain_stops t e zero a r = entries_stop t e (drop e (table_at g t)) a r
+  plain_stops : (t e k : ℕ) → AreStopping (plain g sub lv t e k)
+  plain_stops t e zero a r = entries_stop t e (drop e (table_at g.game t)) a r
   plain_stops t e (suc k) a r =
-      condacts_stop t e _ (entries_stop t (suc e) (drop (suc e) (table_at g t))) (suc k) (drop (suc k) (condacts_of (entry_at g t e))) a r
+      condacts_stop t e _ (entries_stop t (suc e) (drop (suc e) (table_at g.game t))) (suc k) (drop (suc k) (condacts_of (entry_at g.game t e))) a r
 
-  looped_stops : (l : OpenLoop) (r : Run) → Stops (looped g X sub lv l r)
-  looped_stops l r = turns_stop g lv (record l { last = 0 }) _ (plain_stops l.table l.entry (suc l.at) true) (length g.objects - suc l.last) r
+  looped_stops : (l : OpenLoop) (r : Run) → Stops (looped g sub lv l r)
+  looped_stops l r = turns_stop g lv (record l { last = 0 }) _ (plain_stops l.table l.entry (suc l.at) true) (length g.game.objects - suc l.last) r
 
-  again_looped_stops : (x : Out) → Stops x → Stops (again lv (looped g X sub lv) x)
-  again_looped_stops x k = again_stops lv (looped g X sub lv) looped_stops x k
+  again_looped_stops : (x : Out) → Stops x → Stops (again lv (looped g sub lv) x)
+  again_looped_stops x k = again_stops lv (looped g sub lv) looped_stops x k
 
-  reads_stop : (t e k : ℕ) → AreStopping (reads g X sub lv t e k)
+  reads_stop : (t e k : ℕ) → AreStopping (reads g sub lv t e k)
   reads_stop t e k a r = again_looped_stops _ (plain_stops t e k a r)
 
-called_stops : (g : GameLists) (X : List (List ℕ)) (n lv : ℕ) → CallsStopping (called g X n lv)
+called_stops : (g : Story) (n lv : ℕ) → CallsStopping (called g n lv)
 unfolding called
-called_stops g X zero lv u r = tt
-called_stops g X (suc n) lv u r = reads_stop g X (called g X n (suc lv)) (suc lv) (called_stops g X n (suc lv)) u 0 0 false r
+called_stops g zero lv u r = tt
+called_stops g (suc n) lv u r = reads_stop g (called g n (suc lv)) (suc lv) (called_stops g n (suc lv)) u 0 0 false r
 
-pub deeper_stops : (g : GameLists) (X : List (List ℕ)) (lv : ℕ) → CallsStopping (deeper g X lv)
-deeper_stops g X lv = called_stops g X (10 - lv) lv
+pub deeper_stops : (g : Story) (lv : ℕ) → CallsStopping (deeper g lv)
+deeper_stops g lv = called_stops g (10 - lv) lv
 
 -- reading on at a level stops so
-pub rest_stops : (g : GameLists) (X : List (List ℕ)) (lv t e k : ℕ) → AreStopping (rest g X lv t e k)
-rest_stops g X lv t e k a r = reads_stop g X (deeper g X lv) lv (deeper_stops g X lv) t e k a r
+pub rest_stops : (g : Story) (lv t e k : ℕ) → AreStopping (rest g lv t e k)
+rest_stops g lv t e k a r = reads_stop g (deeper g lv) lv (deeper_stops g lv) t e k a r
 
 -- so does going on along a path
-pub path_stops : (g : GameLists) (X : List (List ℕ)) (p : Prompt) (lv : ℕ) (path : List Frame) (r : Run) → Stops (on_path g X p lv path r)
-path_stops g X p lv [] r = tt
-path_stops g X p lv (f ∷ []) r =
-    again_looped_stops g X (deeper g X lv) lv (deeper_stops g X lv) _
-    (asked_stops g p f _ (plain_stops g X (deeper g X lv) lv (deeper_stops g X lv) f.table f.entry (suc f.at)) r r.events)
-path_stops g X p lv (f ∷ h ∷ path) r = after_call_stops f _ (rest_stops g X lv f.table f.entry (suc f.at)) _ (path_stops g X p (suc lv) (h ∷ path) r)
+pub path_stops : (g : Story) (p : Prompt) (lv : ℕ) (path : List Frame) (r : Run) → Stops (on_path g p lv path r)
+path_stops g p lv [] r = tt
+path_stops g p lv (f ∷ []) r =
+    again_looped_stops g (deeper g lv) lv (deeper_stops g lv) _
+    (asked_stops g p f _ (plain_stops g (deeper g lv) lv (deeper_stops g lv) f.table f.entry (suc f.at)) r r.events)
+path_stops g p lv (f ∷ h ∷ path) r = after_call_stops f _ (rest_stops g lv f.table f.entry (suc f.at)) _ (path_stops g p (suc lv) (h ∷ path) r)

@@ -5,4 +5,5 @@ pub mod Rules
 pub mod Turn
 pub mod Longer
 pub mod Pieces
+pub mod Bounds
 pub mod Places

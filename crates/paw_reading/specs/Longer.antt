@@ -1,6 +1,6 @@
 -- Reading with more lines.
 use Rattle.std.specs.Prelude.{◌≡◌, ℕ, Bool, List, [], ◌++◌, None}
-use Rattle.paw_game.specs.Game.{GameLists}
+use Rattle.paw_effects.specs.Story.{Story}
 use Rattle.paw_effects.specs.declared.act.Prompt.{Prompt}
 use Rattle.paw_reading.specs.declared.places.Frame.{Frame}
 use Rattle.paw_reading.specs.Run.{Run, Step}
@@ -11,18 +11,18 @@ use Rattle.paw_reading.specs.Turn.{Stage, Ending, WaitsAt, IsOver, RunsOut, Call
 -- Reading on with more lines is reading on, and then: a reading that waits has closed the same pieces, and goes on with
 -- the lines along its path; any other comes to the same, and leaves the lines
 abbrev pub TablesGoOn : Type 0
-TablesGoOn = (g : GameLists) (X lines : List (List ℕ)) (lv t e k : ℕ) (acted : Bool) (r : Run) →
-    rest g X lv t e k acted (with_lines lines r) ≡ extended g X lines lv (rest g X lv t e k acted r)
+TablesGoOn = (g : Story) (lines : List (List ℕ)) (lv t e k : ℕ) (acted : Bool) (r : Run) →
+    rest g lv t e k acted (with_lines lines r) ≡ extended g lines lv (rest g lv t e k acted r)
 
 -- so is going on along a path
 abbrev pub PathsGoOn : Type 0
-PathsGoOn = (g : GameLists) (X lines : List (List ℕ)) (p : Prompt) (lv : ℕ) (path : List Frame) (r : Run) →
-    on_path g X p lv path (with_lines lines r) ≡ extended g X lines lv (on_path g X p lv path r)
+PathsGoOn = (g : Story) (lines : List (List ℕ)) (p : Prompt) (lv : ℕ) (path : List Frame) (r : Run) →
+    on_path g p lv path (with_lines lines r) ≡ extended g lines lv (on_path g p lv path r)
 
 -- So are the turns from a stage on, where no loop is open
 abbrev pub TurnsGoOn : Type 0
-TurnsGoOn = (g : GameLists) (X lines : List (List ℕ)) (s : Stage) (r : Run) → r.turning ≡ None →
-    turns_from g X s (with_lines lines r) ≡ followed g X lines (turns_from g X s r)
+TurnsGoOn = (g : Story) (lines : List (List ℕ)) (s : Stage) (r : Run) → r.turning ≡ None →
+    turns_from g s (with_lines lines r) ≡ followed g lines (turns_from g s r)
 
 -- ---- what was closed before ----
 
@@ -44,18 +44,18 @@ ending_with_past pieces traces Unended = Unended
 
 -- what was closed before changes nothing, and stays in front
 abbrev pub PastStays : Type 0
-PastStays = (g : GameLists) (X pieces : List (List ℕ)) (traces : List (List Step)) (p : Prompt) (path : List Frame) (r : Run) →
-    on g X p path (with_past pieces traces r) ≡ ending_with_past pieces traces (on g X p path r)
+PastStays = (g : Story) (pieces : List (List ℕ)) (traces : List (List Step)) (p : Prompt) (path : List Frame) (r : Run) →
+    on g p path (with_past pieces traces r) ≡ ending_with_past pieces traces (on g p path r)
 
 -- Where the reading of some lines waits, the reading of more has its pieces, and then those of going on from there; it
 -- ends as going on does
 abbrev pub LongerReading : Type 0
-LongerReading = (g : GameLists) (X : List (List ℕ)) (seed : ℕ) (es fs : List (List ℕ)) (p : Prompt) (path : List Frame) (r : Run) →
-    reading g X seed es ≡ WaitsAt p path r →
-    reading g X seed (es ++ fs) ≡ ending_with_past r.pieces r.traces (on g X p path (with_lines fs (without_past r)))
+LongerReading = (g : Story) (seed : ℕ) (es fs : List (List ℕ)) (p : Prompt) (path : List Frame) (r : Run) →
+    reading g seed es ≡ WaitsAt p path r →
+    reading g seed (es ++ fs) ≡ ending_with_past r.pieces r.traces (on g p path (with_lines fs (without_past r)))
 
 -- its text is theirs, one after the other
 abbrev pub LongerText : Type 0
-LongerText = (g : GameLists) (X : List (List ℕ)) (seed : ℕ) (es fs : List (List ℕ)) (p : Prompt) (path : List Frame) (r : Run) →
-    reading g X seed es ≡ WaitsAt p path r →
-    text_of (reading g X seed (es ++ fs)) ≡ text_of (reading g X seed es) ++ text_of (on g X p path (with_lines fs (without_past r)))
+LongerText = (g : Story) (seed : ℕ) (es fs : List (List ℕ)) (p : Prompt) (path : List Frame) (r : Run) →
+    reading g seed es ≡ WaitsAt p path r →
+    text_of (reading g seed (es ++ fs)) ≡ text_of (reading g seed es) ++ text_of (on g p path (with_lines fs (without_past r)))

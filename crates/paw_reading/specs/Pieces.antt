@@ -1,6 +1,6 @@
 -- Pieces and lines.
 use Rattle.std.specs.Prelude.{◌≡◌, ℕ, suc, ◌+◌, List, [], length}
-use Rattle.paw_game.specs.Game.{GameLists}
+use Rattle.paw_effects.specs.Story.{Story}
 use Rattle.paw_reading.specs.Run.{Run}
 use Rattle.paw_reading.specs.Turn.{Ending, WaitsAt, IsOver, RunsOut, CallsTooDeep, Unended, reading}
 
@@ -19,4 +19,4 @@ Counted n Unended = Unit {0}
 
 -- a reading has one piece for each line, and one before them
 abbrev pub PiecesOfLines : Type 0
-PiecesOfLines = (g : GameLists) (X : List (List ℕ)) (seed : ℕ) (es : List (List ℕ)) → Counted (length es) (reading g X seed es)
+PiecesOfLines = (g : Story) (seed : ℕ) (es : List (List ℕ)) → Counted (length es) (reading g seed es)

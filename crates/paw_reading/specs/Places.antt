@@ -1,15 +1,17 @@
 -- Where a run may wait: the tables that are open, the condacts at which they stand, and the object loop.
-use Rattle.std.specs.Prelude.{◌≡◌, ◌≢◌, ℕ, ◌<◌, ◌≤◌, List, [], ◌∷◌, Option, Some, None, length, map, slice_get, IfSome, IsTrue}
+use Rattle.std.specs.Prelude.{◌≡◌, ◌≢◌, ℕ, ◌<◌, ◌≤◌, List, [], ◌∷◌, Option, Some, None, length, map, slice_get, IfSome, IsTrue, All}
 use Rattle.paw_base.specs.declared.parts.Condact.{Condact}
 use Rattle.paw_game.specs.Game.{GameLists}
 use Rattle.paw_game.specs.Tables.{condact_at}
-use Rattle.paw_game.specs.Valid.{Valid, is_place}
+use Rattle.paw_game.specs.Valid.{is_place}
 use Rattle.paw_effects.specs.declared.act.Prompt.{Prompt}
 use Rattle.paw_effects.specs.declared.act.Prompt.TheVariants as prompt
-use Rattle.paw_effects.specs.Built.{IsOf, StandAtPlaces}
+use Rattle.paw_effects.specs.Standing.{IsWorldOf}
+use Rattle.paw_effects.specs.Story.{Story}
 use Rattle.paw_reading.specs.declared.places.Frame.{Frame}
 use Rattle.paw_reading.specs.declared.places.OpenLoop.{OpenLoop}
 use Rattle.paw_reading.specs.Run.{Run}
+use Rattle.paw_reading.specs.Bounds.{IsLine, ValidStory, IsBounded}
 use Rattle.paw_reading.specs.Turn.{Ending, WaitsAt, IsOver, RunsOut, CallsTooDeep, Unended, reading, first_table, on}
 
 -- a condact with this code stands there
@@ -71,11 +73,16 @@ ArePlaces g p path turning = AreOpenAt g (waiting_code p) path turning
 abbrev pub IsLineTaken : List Frame → Run → Type 0
 IsLineTaken path r = path ≡ [] → r.pending ≡ []
 
--- a run stands at its prompt as it may, and each object at a place of the game
+-- A run stands as it may at its prompt: its world is the game's; what is left of the line has at most 255 bytes, and with no
+-- table open nothing is left; the earlier verb is a byte; and the open piece is empty, with nothing read in it
 pub record StandsRightly (g : GameLists) (p : Prompt) (path : List Frame) (r : Run) : Type 0 where
+  pub world : IsWorldOf g r.world
   pub places : ArePlaces g p path r.turning
   pub line : IsLineTaken path r
-  pub objects : StandAtPlaces g r.world
+  pub pending : IsLine r.pending
+  pub earlier : r.earlier < 256
+  pub piece : r.current ≡ []
+  pub read : r.read ≡ []
 
 -- so does a reading that waits, or is over
 abbrev pub StopsRightly : GameLists → Ending → Type 0
@@ -87,11 +94,32 @@ StopsRightly g Unended = Unit {0}
 
 -- ---- the laws ----
 
--- each reading of a valid game stops rightly
+-- each reading of a valid story stops rightly
 abbrev pub ReadingsStopRightly : Type 0
-ReadingsStopRightly = (g : GameLists) (X : List (List ℕ)) (seed : ℕ) (es : List (List ℕ)) → Valid g → StopsRightly g (reading g X seed es)
+ReadingsStopRightly =
+    (g : Story) (seed : ℕ) (es : List (List ℕ)) → ValidStory g → All IsLine es → StopsRightly g.game (reading g seed es)
 
 -- so does going on from where a run stands as it may
 abbrev pub GoingOnStopsRightly : Type 0
-GoingOnStopsRightly = (g : GameLists) (X : List (List ℕ)) (p : Prompt) (path : List Frame) (r : Run) → Valid g →
-    IsOf g r.world → StandsRightly g p path r → StopsRightly g (on g X p path r)
+GoingOnStopsRightly =
+    (g : Story) (p : Prompt) (path : List Frame) (r : Run) → ValidStory g → All IsLine r.events →
+    StandsRightly g.game p path r → StopsRightly g.game (on g p path r)
+
+-- a reading that waits, or is over, keeps the bounds
+abbrev pub StopsBounded : ℕ → ℕ → Ending → Type 0
+StopsBounded seed n (WaitsAt p path r) = IsBounded seed n r
+StopsBounded seed n (IsOver r) = IsBounded seed n r
+StopsBounded seed n (RunsOut kind r) = Unit {0}
+StopsBounded seed n (CallsTooDeep u r) = Unit {0}
+StopsBounded seed n Unended = Unit {0}
+
+-- each reading of a valid story keeps the bounds
+abbrev pub ReadingsAreBounded : Type 0
+ReadingsAreBounded =
+    (g : Story) (seed : ℕ) (es : List (List ℕ)) → ValidStory g → All IsLine es → StopsBounded seed 0 (reading g seed es)
+
+-- so does going on from where a run stands as it may, and keeps them
+abbrev pub GoingOnIsBounded : Type 0
+GoingOnIsBounded =
+    (g : Story) (seed n : ℕ) (p : Prompt) (path : List Frame) (r : Run) → ValidStory g → All IsLine r.events →
+    StandsRightly g.game p path r → IsBounded seed n r → StopsBounded seed n (on g p path r)

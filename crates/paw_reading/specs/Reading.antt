@@ -9,6 +9,7 @@ use Rattle.paw_game.specs.Game.{GameLists}
 use Rattle.paw_game.specs.Tables.{table_at, entry_at, condacts_of, facts_at, matches}
 use Rattle.paw_world.specs.World.{World, flag, place, with_flag}
 use Rattle.paw_phrase.specs.Sentence.{Parsed, IsSentence, IsUnknown, IsNoPhrase, parsed}
+use Rattle.paw_effects.specs.Story.{Story}
 use Rattle.paw_effects.specs.declared.act.Prompt.{Prompt}
 use Rattle.paw_effects.specs.declared.act.Prompt.TheVariants as prompt
 use Rattle.paw_effects.specs.declared.act.Truth.{Truth}
@@ -20,7 +21,7 @@ use Rattle.paw_effects.specs.Holds.{Tested, is_condition, holds}
 use Rattle.paw_effects.specs.Effects.{Done, effect_of, referred}
 use Rattle.paw_reading.specs.declared.places.Frame.{Frame}
 use Rattle.paw_reading.specs.declared.places.OpenLoop.{OpenLoop}
-use Rattle.paw_reading.specs.Run.{Run, closed, fits, printed, with_world, without_loop, line_dropped, anew, is_ignored, heard, reply, is_yes, is_no, taken_phrase}
+use Rattle.paw_reading.specs.Run.{Run, Step, closed, fits, printed, with_world, without_loop, line_dropped, anew, is_ignored, heard, reply, is_yes, is_no, taken_phrase}
 
 -- What reading a table comes to: it was left, with an action carried out or not; no line is left at a prompt, with the
 -- places that are open, the outermost first; the location is described again; the game starts anew; the game is over; a
@@ -40,9 +41,13 @@ pub data Out : Type 0 where
 abbrev pub within : Run → Out → Out
 within r x = if nat_lt (length r.read) 200000 then x else IsSpent spent.Condacts r
 
+-- the step at a condact of this frame, with yes or no
+abbrev pub step_at : Frame → Condact → Bool → Step
+step_at f c passed = record { table = f.table; entry = f.entry; at = f.at; code = c.code; yes = passed }
+
 -- the condact is noted, with yes or no
 abbrev pub noted : Frame → Condact → Bool → Run → Run
-noted f c passed r = record r { read = r.read ++ record { table = f.table; entry = f.entry; at = f.at; code = c.code; passed = passed } ∷ [] }
+noted f c passed r = record r { read = r.read ++ step_at f c passed ∷ [] }
 
 -- the text is printed where it fits, and then reading goes on
 abbrev pub printing : List ℕ → (Run → Out) → Run → Out
@@ -107,11 +112,11 @@ taken g l o r = record r {
 
 -- the loop goes over the last n objects in rising number, and takes each that it may when its turn comes; with none left
 -- it is closed, and the table is left with an action carried out
-unfoldable pub turns : GameLists → ℕ → OpenLoop → (Run → Out) → ℕ → Run → Out
+unfoldable pub turns : Story → ℕ → OpenLoop → (Run → Out) → ℕ → Run → Out
 turns g lv l body zero r = Left true (without_loop r)
 turns g lv l body (suc n) r =
-    if is_taken g r.world l (length g.objects - suc n)
-    then again lv (λ _. turns g lv l body n) (body (taken g l (length g.objects - suc n) r))
+    if is_taken g.game r.world l (length g.game.objects - suc n)
+    then again lv (λ _. turns g lv l body n) (body (taken g.game l (length g.game.objects - suc n) r))
     else turns g lv l body n r
 
 abbrev pub loop_of : ℕ → Frame → ℕ → OpenLoop
@@ -120,12 +125,12 @@ loop_of lv f p = record { level = lv; table = f.table; entry = f.entry; at = f.a
 -- ---- prompts ----
 
 -- END's question answered with no: the game says goodbye and is over
-abbrev pub over : GameLists → Run → Out
-over g r = printing (say_text g r.world 14) (λ r'. Ends (closed (without_loop (line_dropped r')))) r
+abbrev pub over : Story → Run → Out
+over g r = printing (say_text g.game r.world 14) (λ r'. Ends (closed (without_loop (line_dropped r')))) r
 
 -- the answer to a prompt in a table: QUIT goes on at yes and leaves the table at no; END ends the game at no and starts
 -- it anew otherwise; a key goes on
-abbrev pub answered : GameLists → Prompt → Frame → (Bool → Run → Out) → List ℕ → Run → Out
+abbrev pub answered : Story → Prompt → Frame → (Bool → Run → Out) → List ℕ → Run → Out
 answered g prompt.Main f go line r = go f.acted r
 answered g prompt.Quit f go line r = if is_yes line then go f.acted r else Left true r
 answered g prompt.Again f go line r = if is_no line then over g r else Restarts (anew r)
@@ -134,23 +139,23 @@ answered g prompt.Over f go line r = go f.acted r
 
 -- at a prompt in a table, the piece closed: with no line left the run waits; an ignored line closes an empty piece, and
 -- the run waits on; any other is heard and answers
-unfoldable pub asked : GameLists → Prompt → Frame → (Bool → Run → Out) → Run → List (List ℕ) → Out
+unfoldable pub asked : Story → Prompt → Frame → (Bool → Run → Out) → Run → List (List ℕ) → Out
 asked g p f go r [] = Waits p (f ∷ []) (record r { events = [] })
 asked g p f go r (line ∷ lines) =
     if is_ignored r.world line then asked g p f go (closed (record r { events = lines })) lines
     else answered g p f go (reply line) (heard line (record r { events = lines }))
 
 -- the open piece is closed, and the run waits
-abbrev pub waits : GameLists → Prompt → Frame → (Bool → Run → Out) → Run → Out
+abbrev pub waits : Story → Prompt → Frame → (Bool → Run → Out) → Run → Out
 waits g p f go r = asked g p f go (closed r) r.events
 
 -- ---- one condact ----
 
 -- after a condition: go reads on at the next condact, next at the next entry
-abbrev pub after_test : GameLists → Frame → (Bool → Run → Out) → (Bool → Run → Out) → Condact → Run → Truth → Out
+abbrev pub after_test : Story → Frame → (Bool → Run → Out) → (Bool → Run → Out) → Condact → Run → Truth → Out
 after_test g f next go c r truth.Yes = go f.acted (noted f c true r)
 after_test g f next go c r truth.No = next f.acted (noted f c false r)
-after_test g f next go c r truth.Ask = printing (put_text g r.world 12) (waits g prompt.Quit f go) (noted f c true r)
+after_test g f next go c r truth.Ask = printing (put_text g.game r.world 12) (waits g prompt.Quit f go) (noted f c true r)
 
 abbrev pub after_parse : Frame → (Bool → Run → Out) → (Bool → Run → Out) → Run → Parsed → Out
 after_parse f next go r (IsSentence s rest) = next f.acted (taken_phrase s rest r)
@@ -158,16 +163,16 @@ after_parse f next go r (IsUnknown rest) = go f.acted (record r { pending = rest
 after_parse f next go r IsNoPhrase = go f.acted r
 
 -- PARSE takes the next phrase: a sentence leads to the next entry
-abbrev pub parses : GameLists → Frame → (Bool → Run → Out) → (Bool → Run → Out) → Run → Out
-parses g f next go r = after_parse f next go r (parsed g r.pending r.earlier (flag r.world 46) (flag r.world 47))
+abbrev pub parses : Story → Frame → (Bool → Run → Out) → (Bool → Run → Out) → Run → Out
+parses g f next go r = after_parse f next go r (parsed g.game r.pending r.earlier (flag r.world 46) (flag r.world 47))
 
 -- how reading goes on after an action; sub reads a table one level deeper
-abbrev pub after_action : GameLists → (ℕ → Run → Out) → ℕ → Frame → (Bool → Run → Out) → (Bool → Run → Out) → Effect → Run → Out
+abbrev pub after_action : Story → (ℕ → Run → Out) → ℕ → Frame → (Bool → Run → Out) → (Bool → Run → Out) → Effect → Run → Out
 after_action g sub lv f next go effect.Go r = go true r
 after_action g sub lv f next go (effect.Exit a) r = Left a r
 after_action g sub lv f next go effect.Redescribe r = Redescribes (without_loop r)
 after_action g sub lv f next go (effect.Call u) r = after_call f go (sub u r)
-after_action g sub lv f next go (effect.Loop p) r = turns g lv (loop_of lv f p) (go true) (length g.objects) r
+after_action g sub lv f next go (effect.Loop p) r = turns g lv (loop_of lv f p) (go true) (length g.game.objects) r
 after_action g sub lv f next go (effect.Ask p) r = waits g p f go r
 after_action g sub lv f next go effect.Parse r = parses g f next go r
 after_action g sub lv f next go effect.Spent r = IsSpent spent.Text r
@@ -181,70 +186,70 @@ carried_out d r = record r {
 }
 
 -- an action prints its text, and is carried out
-abbrev pub acts : GameLists → (ℕ → Run → Out) → ℕ → Frame → (Bool → Run → Out) → (Bool → Run → Out) → Done → Run → Out
+abbrev pub acts : Story → (ℕ → Run → Out) → ℕ → Frame → (Bool → Run → Out) → (Bool → Run → Out) → Done → Run → Out
 acts g sub lv f next go d r = printing d.text (λ r'. after_action g sub lv f next go d.act.effect (carried_out d r')) r
 
-abbrev pub tests : GameLists → Frame → (Bool → Run → Out) → (Bool → Run → Out) → Condact → Run → Tested → Out
+abbrev pub tests : Story → Frame → (Bool → Run → Out) → (Bool → Run → Out) → Condact → Run → Tested → Out
 tests g f next go c r tested = after_test g f next go c (with_world tested.world r) tested.answer
 
 -- a condact is read
-abbrev pub reads_one : GameLists → List (List ℕ) → (ℕ → Run → Out) → ℕ → Frame → (Bool → Run → Out) → (Bool → Run → Out) → Condact → Run → Out
-reads_one g X sub lv f next go c r =
-    if is_condition c then tests g f next go c r (holds g r.world c)
-    else acts g sub lv f next go (effect_of g X r.world c) (noted f c true r)
+abbrev pub reads_one : Story → (ℕ → Run → Out) → ℕ → Frame → (Bool → Run → Out) → (Bool → Run → Out) → Condact → Run → Out
+reads_one g sub lv f next go c r =
+    if is_condition c then tests g f next go c r (holds g.game r.world c)
+    else acts g sub lv f next go (effect_of g r.world c) (noted f c true r)
 
 -- ---- entries, tables, levels ----
 
 -- the condacts of an entry from number k on; next goes on with the next entry
-unfoldable pub condacts : GameLists → List (List ℕ) → (ℕ → Run → Out) → ℕ → ℕ → ℕ → (Bool → Run → Out) → ℕ → List Condact → Bool → Run → Out
-condacts g X sub lv t e next k [] acted r = next acted r
-condacts g X sub lv t e next k (c ∷ cs) acted r =
-    within r (reads_one g X sub lv (record { table = t; entry = e; at = k; acted = acted }) next (condacts g X sub lv t e next (suc k) cs) c r)
+unfoldable pub condacts : Story → (ℕ → Run → Out) → ℕ → ℕ → ℕ → (Bool → Run → Out) → ℕ → List Condact → Bool → Run → Out
+condacts g sub lv t e next k [] acted r = next acted r
+condacts g sub lv t e next k (c ∷ cs) acted r =
+    within r (reads_one g sub lv (record { table = t; entry = e; at = k; acted = acted }) next (condacts g sub lv t e next (suc k) cs) c r)
 
 -- an entry is read where it matches flags 33 and 34 at the moment when it is reached
 abbrev pub is_for_now : Run → Entry → Bool
 is_for_now r en = matches (flag r.world 33) (flag r.world 34) en
 
 -- the entries of a table from number e on; past the last the table is left
-unfoldable pub entries : GameLists → List (List ℕ) → (ℕ → Run → Out) → ℕ → ℕ → ℕ → List Entry → Bool → Run → Out
-entries g X sub lv t e [] acted r = Left acted r
-entries g X sub lv t e (en ∷ es) acted r =
+unfoldable pub entries : Story → (ℕ → Run → Out) → ℕ → ℕ → ℕ → List Entry → Bool → Run → Out
+entries g sub lv t e [] acted r = Left acted r
+entries g sub lv t e (en ∷ es) acted r =
     if is_for_now r en
-    then condacts g X sub lv t e (entries g X sub lv t (suc e) es) 0 en.condacts acted r
-    else entries g X sub lv t (suc e) es acted r
+    then condacts g sub lv t e (entries g sub lv t (suc e) es) 0 en.condacts acted r
+    else entries g sub lv t (suc e) es acted r
 
 -- from condact k of entry e on, past the test of the entry
-abbrev pub inside : GameLists → List (List ℕ) → (ℕ → Run → Out) → ℕ → ℕ → ℕ → ℕ → Bool → Run → Out
-inside g X sub lv t e k =
-    condacts g X sub lv t e (entries g X sub lv t (suc e) (drop (suc e) (table_at g t))) k (drop k (condacts_of (entry_at g t e)))
+abbrev pub inside : Story → (ℕ → Run → Out) → ℕ → ℕ → ℕ → ℕ → Bool → Run → Out
+inside g sub lv t e k =
+    condacts g sub lv t e (entries g sub lv t (suc e) (drop (suc e) (table_at g.game t))) k (drop k (condacts_of (entry_at g.game t e)))
 
 -- from a place on, to the end of the table; condact 0 is before the test of the entry
-abbrev pub plain : GameLists → List (List ℕ) → (ℕ → Run → Out) → ℕ → ℕ → ℕ → ℕ → Bool → Run → Out
-plain g X sub lv t e zero = entries g X sub lv t e (drop e (table_at g t))
-plain g X sub lv t e (suc k) = inside g X sub lv t e (suc k)
+abbrev pub plain : Story → (ℕ → Run → Out) → ℕ → ℕ → ℕ → ℕ → Bool → Run → Out
+plain g sub lv t e zero = entries g sub lv t e (drop e (table_at g.game t))
+plain g sub lv t e (suc k) = inside g sub lv t e (suc k)
 
 -- the open loop of the level goes on after the object that it took last
-abbrev pub looped : GameLists → List (List ℕ) → (ℕ → Run → Out) → ℕ → OpenLoop → Run → Out
-looped g X sub lv l =
-    turns g lv (record l { last = 0 }) (plain g X sub lv l.table l.entry (suc l.at) true) (length g.objects - suc l.last)
+abbrev pub looped : Story → (ℕ → Run → Out) → ℕ → OpenLoop → Run → Out
+looped g sub lv l =
+    turns g lv (record l { last = 0 }) (plain g sub lv l.table l.entry (suc l.at) true) (length g.game.objects - suc l.last)
 
 -- reading on at a level, with the loop that may be open there
-abbrev pub reads : GameLists → List (List ℕ) → (ℕ → Run → Out) → ℕ → ℕ → ℕ → ℕ → Bool → Run → Out
-reads g X sub lv t e k acted r = again lv (looped g X sub lv) (plain g X sub lv t e k acted r)
+abbrev pub reads : Story → (ℕ → Run → Out) → ℕ → ℕ → ℕ → ℕ → Bool → Run → Out
+reads g sub lv t e k acted r = again lv (looped g sub lv) (plain g sub lv t e k acted r)
 
 -- a table called from level lv, below which n levels are left
-unfoldable pub called : GameLists → List (List ℕ) → ℕ → ℕ → ℕ → Run → Out
-called g X zero lv u r = IsDeep u r
-called g X (suc n) lv u r = reads g X (called g X n (suc lv)) (suc lv) u 0 0 false r
+unfoldable pub called : Story → ℕ → ℕ → ℕ → Run → Out
+called g zero lv u r = IsDeep u r
+called g (suc n) lv u r = reads g (called g n (suc lv)) (suc lv) u 0 0 false r
 
 -- levels go from 0 to 10
-abbrev pub deeper : GameLists → List (List ℕ) → ℕ → ℕ → Run → Out
-deeper g X lv = called g X (10 - lv) lv
+abbrev pub deeper : Story → ℕ → ℕ → Run → Out
+deeper g lv = called g (10 - lv) lv
 
 -- reading on at level lv in table t from condact k of entry e
-abbrev pub rest : GameLists → List (List ℕ) → ℕ → ℕ → ℕ → ℕ → Bool → Run → Out
-rest g X lv = reads g X (deeper g X lv) lv
+abbrev pub rest : Story → ℕ → ℕ → ℕ → ℕ → Bool → Run → Out
+rest g lv = reads g (deeper g lv) lv
 
 -- reading a table at level 0 from its start
-abbrev pub table_read : GameLists → List (List ℕ) → ℕ → Run → Out
-table_read g X t = rest g X 0 t 0 0 false
+abbrev pub table_read : Story → ℕ → Run → Out
+table_read g t = rest g 0 t 0 0 false

@@ -1,20 +1,14 @@
 -- A run of a game.
 use Rattle.std.specs.Prelude.{ℕ, ◌+◌, ◌%◌, ◌==◌, ◌&&◌, ◌||◌, Bool, false, List, [], ◌∷◌, ◌++◌, Option, None, length, nat_le, if◌then◌else◌}
 use Rattle.std.specs.Str.{bytes_eq}
+pub use Rattle.paw_base.specs.declared.steps.StepRow.{StepRow as Step}
 use Rattle.paw_world.specs.World.{World, flag, with_flag, restarted}
 use Rattle.paw_phrase.specs.declared.Sentence.{Sentence}
 use Rattle.paw_reading.specs.declared.places.OpenLoop.{OpenLoop}
 
--- a condact that was read: where it stands, its code, and no for a condition that failed
-pub record Step : Type 0 where
-  pub table : ℕ
-  pub entry : ℕ
-  pub at : ℕ
-  pub code : ℕ
-  pub passed : Bool
-
 -- the world; the bytes of the line that are not yet read, and the verb of the phrase before; the open loop; the text of
--- the open piece, and the condacts read in it; the texts and the condacts of the closed pieces; the lines not yet taken
+-- the open piece, and its steps: the condacts read in it, in order, each with yes, or no where it is a condition that failed;
+-- the texts and the steps of the closed pieces; the lines not yet taken
 pub record Run : Type 0 where
   pub world : World
   pub pending : List ℕ

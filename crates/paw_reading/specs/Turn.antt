@@ -1,11 +1,12 @@
 -- The turn, and the reading of a list of lines.
-use Rattle.std.specs.Prelude.{◌≡◌, ◌≢◌, ℕ, zero, suc, ◌+◌, ◌-◌, ◌*◌, ◌/◌, ◌%◌, ◌==◌, Bool, true, false, List, [], ◌∷◌, ◌++◌, Option, Some, None, length, map, sum_by, flat_map, nat_lt, min, if◌then◌else◌}
+use Rattle.std.specs.Prelude.{◌≡◌, ◌≢◌, ℕ, zero, suc, ◌+◌, ◌-◌, ◌*◌, ◌/◌, ◌%◌, ◌<◌, ◌==◌, Bool, true, false, List, [], ◌∷◌, ◌++◌, Option, Some, None, length, map, sum_by, flat_map, nat_lt, min, if◌then◌else◌}
 use Rattle.paw_base.specs.declared.fault.SpentKind.{SpentKind}
 use Rattle.paw_base.specs.declared.fault.SpentKind.TheVariants as spent
 use Rattle.paw_game.specs.Game.{GameLists}
 use Rattle.paw_game.specs.Tables.{exit_at}
 use Rattle.paw_world.specs.World.{World, flag, with_flag, opened, is_dark, is_unlit, fallen, fallen_if}
 use Rattle.paw_phrase.specs.Sentence.{Parsed, IsSentence, IsUnknown, IsNoPhrase, parsed}
+use Rattle.paw_effects.specs.Story.{Story}
 use Rattle.paw_effects.specs.declared.act.Prompt.{Prompt}
 use Rattle.paw_effects.specs.declared.act.Prompt.TheVariants as prompt
 use Rattle.paw_effects.specs.Counts.{turns_taken}
@@ -77,61 +78,61 @@ prompt_text g w = say_text g w (prompt_message w) ++ put_text g w 33
 abbrev pub line_set : List ℕ → Run → Run
 line_set line r = record r { world = with_timeout false r.world; pending = line; earlier = 255 }
 
-unfoldable pub at_main : GameLists → (Run → Ending) → (Run → Ending) → Run → List (List ℕ) → Ending
+unfoldable pub at_main : Story → (Run → Ending) → (Run → Ending) → Run → List (List ℕ) → Ending
 at_main g frame phrase r [] = WaitsAt prompt.Main [] (record r { events = [] })
 at_main g frame phrase r (line ∷ lines) =
     if is_ignored r.world line then at_main g frame phrase (closed (record r { events = lines })) lines
-    else if is_timeout line then saying (say_text g (with_timeout true r.world) 35) frame (heard line (record r { events = lines }))
+    else if is_timeout line then saying (say_text g.game (with_timeout true r.world) 35) frame (heard line (record r { events = lines }))
     else phrase (line_set line (record r { events = lines }))
 
 -- the prompt is shown, the piece is closed, and the game waits for a line
-abbrev pub prompts : GameLists → (Run → Ending) → (Run → Ending) → Run → Ending
-prompts g frame phrase r = saying (prompt_text g r.world) (λ s. at_main g frame phrase (closed s) s.events) (line_dropped r)
+abbrev pub prompts : Story → (Run → Ending) → (Run → Ending) → Run → Ending
+prompts g frame phrase r = saying (prompt_text g.game r.world) (λ s. at_main g frame phrase (closed s) s.events) (line_dropped r)
 
 -- the next phrase: a sentence counts a turn and is responded to; at one with no known word message 6 is said, and the
 -- rest of the line is dropped; with none left comes the prompt
-abbrev pub after_phrase : GameLists → (Run → Ending) → (Run → Ending) → (Run → Ending) → Run → Parsed → Ending
+abbrev pub after_phrase : Story → (Run → Ending) → (Run → Ending) → (Run → Ending) → Run → Parsed → Ending
 after_phrase g frame phrase response r (IsSentence s rest) =
     response (with_world (counted (taken_phrase s rest r).world) (taken_phrase s rest r))
-after_phrase g frame phrase response r (IsUnknown rest) = saying (say_text g r.world 6) frame (line_dropped r)
+after_phrase g frame phrase response r (IsUnknown rest) = saying (say_text g.game r.world 6) frame (line_dropped r)
 after_phrase g frame phrase response r IsNoPhrase = prompts g frame phrase r
 
 -- no entry answered: the exit for the verb is taken, or message 7 (a verb below 14) or 8 is said and the line is dropped
 abbrev pub refusal_text : GameLists → World → List ℕ
 refusal_text g w = say_text g w (if nat_lt (flag w 33) 14 then 7 else 8)
 
-abbrev pub connected : GameLists → (Run → Ending) → (Run → Ending) → Run → Option ℕ → Ending
-connected g describe frame r None = saying (refusal_text g r.world) frame (line_dropped r)
+abbrev pub connected : Story → (Run → Ending) → (Run → Ending) → Run → Option ℕ → Ending
+connected g describe frame r None = saying (refusal_text g.game r.world) frame (line_dropped r)
 connected g describe frame r (Some to) = describe (with_world (with_flag r.world 38 to) r)
 
-abbrev pub connections : GameLists → (Run → Ending) → (Run → Ending) → Run → Ending
-connections g describe frame r = connected g describe frame r (exit_at g (flag r.world 38) (flag r.world 33))
+abbrev pub connections : Story → (Run → Ending) → (Run → Ending) → Run → Ending
+connections g describe frame r = connected g describe frame r (exit_at g.game (flag r.world 38) (flag r.world 33))
 
 -- after table 0: with an action carried out comes the frame, else the connections are tried
-abbrev pub responded : GameLists → (Run → Ending) → (Run → Ending) → Bool → Run → Ending
+abbrev pub responded : Story → (Run → Ending) → (Run → Ending) → Bool → Run → Ending
 responded g describe frame true r = frame r
 responded g describe frame false r = connections g describe frame r
 
 -- after table 0 comes the response's end, after table 1 the frame, after table 2 the fall of flags and the next phrase
-abbrev pub after_left : GameLists → (Stage → Run → Ending) → ℕ → Bool → Run → Ending
+abbrev pub after_left : Story → (Stage → Run → Ending) → ℕ → Bool → Run → Ending
 after_left g go zero acted r = responded g (go AtDescribe) (go AtFrame) acted r
 after_left g go (suc zero) acted r = go AtFrame r
 after_left g go (suc (suc t)) acted r = go AtPhrase (with_world (framed r.world) r)
 
 -- how the turn goes on after a table
-abbrev pub table_done : GameLists → (Stage → Run → Ending) → ℕ → Out → Ending
+abbrev pub table_done : Story → (Stage → Run → Ending) → ℕ → Out → Ending
 table_done g go t x = after_table (go AtDescribe) (after_left g go t) x
 
 -- at most n stages of the turn
-unfoldable pub turn : GameLists → List (List ℕ) → ℕ → Stage → Run → Ending
-turn g X zero s r = Unended
-turn g X (suc n) AtDescribe r =
-    saying (view_text g (described r.world)) (λ s. table_done g (turn g X n) 1 (table_read g X 1 s)) (with_world (described r.world) r)
-turn g X (suc n) AtFrame r = table_done g (turn g X n) 2 (table_read g X 2 r)
-turn g X (suc n) AtPhrase r =
-    after_phrase g (turn g X n AtFrame) (turn g X n AtPhrase) (turn g X n AtResponse) r
-    (parsed g r.pending r.earlier (flag r.world 46) (flag r.world 47))
-turn g X (suc n) AtResponse r = table_done g (turn g X n) 0 (table_read g X 0 r)
+unfoldable pub turn : Story → ℕ → Stage → Run → Ending
+turn g zero s r = Unended
+turn g (suc n) AtDescribe r =
+    saying (view_text g.game (described r.world)) (λ s. table_done g (turn g n) 1 (table_read g 1 s)) (with_world (described r.world) r)
+turn g (suc n) AtFrame r = table_done g (turn g n) 2 (table_read g 2 r)
+turn g (suc n) AtPhrase r =
+    after_phrase g (turn g n AtFrame) (turn g n AtPhrase) (turn g n AtResponse) r
+    (parsed g.game r.pending r.earlier (flag r.world 46) (flag r.world 47))
+turn g (suc n) AtResponse r = table_done g (turn g n) 0 (table_read g 0 r)
 
 -- how much a run may still read: what is left of the line, what the open piece may still read, and what each line brings
 abbrev pub left_to_read : Run → ℕ
@@ -145,15 +146,15 @@ stages_left AtDescribe r = 4 * left_to_read r + 3
 stages_left AtResponse r = 4 * left_to_read r + 4
 
 -- the turns from a stage on, to the end of the reading
-abbrev pub turns_from : GameLists → List (List ℕ) → Stage → Run → Ending
-turns_from g X s r = turn g X (stages_left s r) s r
+abbrev pub turns_from : Story → Stage → Run → Ending
+turns_from g s r = turn g (stages_left s r) s r
 
 -- ---- the reading ----
 
 -- the run at the start of a game, with these lines to come
-abbrev pub opening : GameLists → ℕ → List (List ℕ) → Run
+abbrev pub opening : Story → ℕ → List (List ℕ) → Run
 opening g seed es = record {
-  world = opened (map (λ o. o.facts) g.objects) (length g.locations) seed;
+  world = opened (map (λ o. o.facts) g.game.objects) (length g.game.locations) seed;
   pending = [];
   earlier = 255;
   turning = None;
@@ -165,8 +166,8 @@ opening g seed es = record {
 }
 
 -- the reading of a game with these lines, each of at most 255 bytes
-abbrev pub reading : GameLists → List (List ℕ) → ℕ → List (List ℕ) → Ending
-reading g X seed es = turns_from g X AtDescribe (opening g seed es)
+abbrev pub reading : Story → ℕ → List (List ℕ) → Ending
+reading g seed es = turns_from g AtDescribe (opening g seed es)
 
 -- the run in which a reading ended
 abbrev pub run_of : Ending → Option Run
@@ -191,49 +192,61 @@ first_table [] = 0
 first_table (f ∷ path) = f.table
 
 -- going on from a prompt inside tables, in at most n stages more
-abbrev pub in_table : GameLists → List (List ℕ) → ℕ → Prompt → List Frame → Run → Ending
-in_table g X n p path r = table_done g (turn g X n) (first_table path) (on_path g X p 0 path r)
+abbrev pub in_table : Story → ℕ → Prompt → List Frame → Run → Ending
+in_table g n p path r = table_done g (turn g n) (first_table path) (on_path g p 0 path r)
 
 -- going on from a prompt with the run's lines, in at most n stages more; nothing is put again, and no piece is closed first
-abbrev pub goes_on : GameLists → List (List ℕ) → ℕ → Prompt → List Frame → Run → Ending
-goes_on g X n prompt.Main path r = at_main g (turn g X n AtFrame) (turn g X n AtPhrase) r r.events
-goes_on g X n prompt.Quit path r = in_table g X n prompt.Quit path r
-goes_on g X n prompt.Again path r = in_table g X n prompt.Again path r
-goes_on g X n prompt.Key path r = in_table g X n prompt.Key path r
-goes_on g X n prompt.Over path r = IsOver r
+abbrev pub goes_on : Story → ℕ → Prompt → List Frame → Run → Ending
+goes_on g n prompt.Main path r = at_main g (turn g n AtFrame) (turn g n AtPhrase) r r.events
+goes_on g n prompt.Quit path r = in_table g n prompt.Quit path r
+goes_on g n prompt.Again path r = in_table g n prompt.Again path r
+goes_on g n prompt.Key path r = in_table g n prompt.Key path r
+goes_on g n prompt.Over path r = IsOver r
 
 -- going on from a prompt with the run's lines
-abbrev pub on : GameLists → List (List ℕ) → Prompt → List Frame → Run → Ending
-on g X p path r = goes_on g X (stages_left AtResponse r) p path r
+abbrev pub on : Story → Prompt → List Frame → Run → Ending
+on g p path r = goes_on g (stages_left AtResponse r) p path r
 
 -- a reading that waits goes on with these lines; another stays as it ended, with the lines untaken
-abbrev pub followed : GameLists → List (List ℕ) → List (List ℕ) → Ending → Ending
-followed g X lines (WaitsAt p path r) = on g X p path (with_lines lines r)
-followed g X lines (IsOver r) = IsOver (with_lines lines r)
-followed g X lines (RunsOut kind r) = RunsOut kind (with_lines lines r)
-followed g X lines (CallsTooDeep u r) = CallsTooDeep u (with_lines lines r)
-followed g X lines Unended = Unended
+abbrev pub followed : Story → List (List ℕ) → Ending → Ending
+followed g lines (WaitsAt p path r) = on g p path (with_lines lines r)
+followed g lines (IsOver r) = IsOver (with_lines lines r)
+followed g lines (RunsOut kind r) = RunsOut kind (with_lines lines r)
+followed g lines (CallsTooDeep u r) = CallsTooDeep u (with_lines lines r)
+followed g lines Unended = Unended
 
 -- ---- the laws ----
 
 -- a reading ends: the stages that are granted are enough
 abbrev pub TurnsEnd : Type 0
-TurnsEnd = (g : GameLists) (X : List (List ℕ)) (s : Stage) (r : Run) → turns_from g X s r ≢ Unended
+TurnsEnd = (g : Story) (s : Stage) (r : Run) → turns_from g s r ≢ Unended
 
 -- more stages, or fewer that are enough, change nothing
 abbrev pub EndsOnce : Type 0
-EndsOnce = (g : GameLists) (X : List (List ℕ)) (n : ℕ) (s : Stage) (r : Run) →
-    turn g X n s r ≢ Unended → turn g X n s r ≡ turns_from g X s r
+EndsOnce = (g : Story) (n : ℕ) (s : Stage) (r : Run) →
+    turn g n s r ≢ Unended → turn g n s r ≡ turns_from g s r
 
 -- so is it with going on from a prompt
 abbrev pub GoingOnEnds : Type 0
-GoingOnEnds = (g : GameLists) (X : List (List ℕ)) (p : Prompt) (path : List Frame) (r : Run) → on g X p path r ≢ Unended
+GoingOnEnds = (g : Story) (p : Prompt) (path : List Frame) (r : Run) → on g p path r ≢ Unended
 
 abbrev pub GoesOnOnce : Type 0
-GoesOnOnce = (g : GameLists) (X : List (List ℕ)) (n : ℕ) (p : Prompt) (path : List Frame) (r : Run) →
-    goes_on g X n p path r ≢ Unended → goes_on g X n p path r ≡ on g X p path r
+GoesOnOnce = (g : Story) (n : ℕ) (p : Prompt) (path : List Frame) (r : Run) →
+    goes_on g n p path r ≢ Unended → goes_on g n p path r ≡ on g p path r
+
+-- inside tables a run waits along the frames of those that are open, and at the main prompt none is
+abbrev pub MayWaitAlong : Prompt → List Frame → Type 0
+MayWaitAlong prompt.Main path = path ≡ []
+MayWaitAlong prompt.Quit path = 0 < length path
+MayWaitAlong prompt.Again path = 0 < length path
+MayWaitAlong prompt.Key path = 0 < length path
+MayWaitAlong prompt.Over path = ⊥
+
+-- with no line going on is the wait itself
+abbrev pub WaitsOn : Type 0
+WaitsOn = (g : Story) (p : Prompt) (path : List Frame) (r : Run) → MayWaitAlong p path → r.events ≡ [] → on g p path r ≡ WaitsAt p path r
 
 -- reading more lines is reading some, and going on with the others
 abbrev pub GoingOnIsReading : Type 0
-GoingOnIsReading = (g : GameLists) (X : List (List ℕ)) (seed : ℕ) (es fs : List (List ℕ)) →
-    reading g X seed (es ++ fs) ≡ followed g X fs (reading g X seed es)
+GoingOnIsReading = (g : Story) (seed : ℕ) (es fs : List (List ℕ)) →
+    reading g seed (es ++ fs) ≡ followed g fs (reading g seed es)

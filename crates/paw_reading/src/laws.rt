@@ -2,9 +2,9 @@
 
 ghost use Rattle.paw_reading.specs.Longer.{TablesGoOn, PathsGoOn, TurnsGoOn, PastStays, LongerReading, LongerText};
 ghost use Rattle.paw_reading.specs.Pieces.{PiecesOfLines};
-ghost use Rattle.paw_reading.specs.Places.{ReadingsStopRightly, GoingOnStopsRightly};
+ghost use Rattle.paw_reading.specs.Places.{ReadingsStopRightly, GoingOnStopsRightly, ReadingsAreBounded, GoingOnIsBounded};
 ghost use Rattle.paw_reading.specs.Rules.{ReadingOn};
-ghost use Rattle.paw_reading.specs.Turn.{TurnsEnd, EndsOnce, GoingOnEnds, GoesOnOnce, GoingOnIsReading};
+ghost use Rattle.paw_reading.specs.Turn.{TurnsEnd, EndsOnce, GoingOnEnds, GoesOnOnce, WaitsOn, GoingOnIsReading};
 
 /// Every reading ends: the stages that a turn is granted are enough.
 pub fn turns_end()
@@ -56,10 +56,22 @@ pub fn pieces_of_lines()
     ensures counted { PiecesOfLines }
 {}
 
+/// With no line going on is the wait itself.
+pub fn waits_on()
+    ensures waits { WaitsOn }
+{}
+
 /// A reading of a valid game waits only where it may: the open tables lead from one to the next, each by its PROCESS, to
 /// QUIT, END or ANYKEY, and the open loop is one of theirs. At the main prompt, and where the game is over, nothing is open
-/// and nothing is left of the line. Each object stands at a place of the game, now and in the saved position.
+/// and nothing is left of the line. Each object stands at a place of the game, now and in the saved position, each flag is
+/// a byte, at most 255 bytes are left of the line, and nothing of a piece is open.
 pub fn stops_rightly()
     ensures readings { ReadingsStopRightly }
     ensures going_on { GoingOnStopsRightly }
+{}
+
+/// Each piece of a reading draws at most 200,000 random words and has at most 65,535 bytes, and what was read in it is kept.
+pub fn stays_bounded()
+    ensures readings { ReadingsAreBounded }
+    ensures going_on { GoingOnIsBounded }
 {}

@@ -1,10 +1,11 @@
 -- The rows of routines that compute a function of their number and a value.
-use Rattle.std.proofs.Common.{◌≡◌, ℕ, ◌<◌, List, length, map, Option, Some, sym, ap, ◌∙◌, arith, slice_get}
+use Rattle.std.proofs.Common.{◌≡◌, ℕ, ◌<◌, List, length, map, Option, None, Some, sym, ap, ◌∙◌, arith, slice_get, subst, refl}
 use Rattle.std.specs.Prelude.{All}
 use Rattle.std.specs.List.{range_with_len}
 use Rattle.std.specs.Fn.{Shared}
 use Rattle.std.proofs.lemmas.List.FromFn.{length-map-range_with_len, get_or-map-range_with_len}
-use Rattle.std.proofs.lemmas.Option.{slice_get-get_or}
+use Rattle.std.proofs.lemmas.Option.{none-some, same_Some, get_or_from_slice_get, slice_get-get_or, slice_get_within}
+use Rattle.std.proofs.Math.ListN.{get_or}
 use Rattle.paw_routines.specs.Rows.{StandFor, value_in, value_at}
 
 -- the values of a function from 0 to 255
@@ -32,14 +33,40 @@ value_at-rows_of g count n x below small =
     ap (λ (found : Option (List ℕ)). value_in found x) row
     ∙ ap (λ (y : ℕ). Some y) (get_or-map-range_with_len (g n) 0 256 x x 0 small (omega arith))
 
--- these rows stand for routines that may be called everywhere and answer with the function's value
+small_rows : (g : ℕ → ℕ → ℕ) (count : ℕ) → ((n x : ℕ) → n < count → x < 256 → g n x < 256) → All (λ row. All (λ y. y < 256) row) (rows_of g count)
+small_rows g count small = λ k d below.
+    let low : k < count = omega (arith, below, length-rows_of g count) in
+    let at = get_or-map-range_with_len (λ n. row_of (g n)) 0 count k k d low (omega arith) in
+    subst (λ row. All (λ y. y < 256) row) (sym at) (λ i e less.
+      let few : i < 256 = omega (arith, less, length-map-range_with_len (g k) 0 256) in
+      subst (λ y. y < 256) (sym (get_or-map-range_with_len (g k) 0 256 i i e few (omega arith))) (small k i low few))
+
+-- these rows stand for routines that may be called everywhere and answer with the function's value, which is a byte
 pub stand_for : {F : Type 0} (calls : Shared F (ℕ × (ℕ × Unit {0})) ℕ) (f : F) (g : ℕ → ℕ → ℕ) (count : ℕ)
+    → ((n x : ℕ) → n < count → x < 256 → g n x < 256)
     → ((n x : ℕ) → n < count → x < 256 → calls.pre f (n, (x, tt)))
-    → ((n x y : ℕ) → n < count → x < 256 → calls.post f (n, (x, tt)) y → y ≡ g n x)
+    → ((n x y : ℕ) → n < count → x < 256 → y < 256 → calls.post f (n, (x, tt)) y → y ≡ g n x)
     → StandFor calls f count (rows_of g count)
-stand_for {F} calls f g count callable gives = record {
+stand_for {F} calls f g count small callable gives = record {
   one_each = length-rows_of g count;
   whole = whole_rows g count;
+  bytes = small_rows g count small;
   may_call = callable;
-  answers = λ n x y below small called. value_at-rows_of g count n x below small ∙ ap (λ (z : ℕ). Some z) (sym (gives n x y below small called));
+  answers = λ n x y below low byte called. value_at-rows_of g count n x below low ∙ ap (λ (z : ℕ). Some z) (sym (gives n x y below low byte called));
 }
+
+in_row : (rows : List (List ℕ)) (n : ℕ) (found : Option (List ℕ)) → slice_get rows n ≡ found → All (λ row. length row ≡ 256) rows → All (λ row. All (λ y. y < 256) row) rows
+    → (x y : ℕ) → x < 256 → value_in found x ≡ Some y → y < 256
+in_row rows n None e whole bytes x y small at = absurd (none-some y at)
+in_row rows n (Some row) e whole bytes x y small at =
+    let is : get_or rows n row ≡ row = get_or_from_slice_get rows n row row e in
+    let low : n < length rows = slice_get_within rows n row e in
+    let size : length row ≡ 256 = subst (λ r. length r ≡ 256) is (whole n row low) in
+    let all : All (λ z. z < 256) row = subst (λ r. All (λ z. z < 256) r) is (bytes n row low) in
+    subst (λ z. z < 256) (same_Some _ y at) (all x 0 (omega (arith, size, small)))
+
+-- a value that stands in rows is a byte
+pub value-byte : {F : Type 0} (calls : Shared F (ℕ × (ℕ × Unit {0})) ℕ) (f : F) (count : ℕ) (rows : List (List ℕ)) → StandFor calls f count rows
+    → (n x y : ℕ) → x < 256 → value_at rows n x ≡ Some y → y < 256
+value-byte calls f count rows stand n x y small at =
+    in_row rows n (slice_get rows n) refl stand.whole stand.bytes x y small at

@@ -1,6 +1,6 @@
 // Three routines, and none.
 
-ghost use Rattle.std.specs.Prelude.{◌≡◌, ◌-◌, ◌/◌, ◌==◌, count_ones, if◌then◌else◌};
+ghost use Rattle.std.specs.Prelude.{◌≡◌, ◌+◌, ◌-◌, ◌/◌, ◌%◌, ◌==◌, count_ones, if◌then◌else◌};
 
 use crate::routines::Routines;
 
@@ -31,6 +31,21 @@ fn three_routines(rt: HostRuntime) {
     ] {
         assert_eq!(rt; routines.call(n, x), answer, "routine {n} of {x}");
     }
+}
+
+/// A routine that promises its answer modulo 256 alone.
+fn count_on(_: u8, x: u8) -> u8
+    ensures value { result % 256 ≡ (x + 1) % 256 }
+{
+    x.wrapping_add(1)
+}
+
+#[test]
+fn an_answer_that_is_told_modulo_256(rt: HostRuntime) {
+    let routines = Routines::new(5, count_on);
+    assert_eq!(rt; routines.call(4, 254), Some(255));
+    assert_eq!(rt; routines.call(0, 255), Some(0));
+    assert_eq!(rt; routines.call(5, 255), None);
 }
 
 #[test]

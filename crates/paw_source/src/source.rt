@@ -20,8 +20,8 @@ use paw_game::game::Game;
 use paw_game::limits::TABLE_LEAST;
 use paw_grammar::refusal::ReadError;
 use paw_grammar::tokens::{Tokens, is_named};
-use paw_image::encoder::encode;
-use paw_image::refusal::ImageRefusal;
+use paw_image::IMAGE_LIMIT;
+use paw_image::encoder::image_length;
 use paw_lex::{Line, Lines, MAX_SOURCE_LEN};
 use std::alloc::Global;
 
@@ -82,13 +82,10 @@ fn whole(alloc: Global, lines: u32, draft: Draft) -> Result<Game, SourceRefusal>
     let parts = draft.into_parts(alloc)?;
     // The lines of a draft keep the rules of a game.
     let game = Game::new(parts).unwrap();
-    match encode(alloc, &game) {
-        Ok(_) => Ok(game),
-        Err(ImageRefusal::Damaged { .. }) => {
-            Err(at_line(line, ReadError::Fault(SourceKind::TooBig)))
-        }
-        Err(ImageRefusal::Memory) => Err(SourceRefusal::Memory),
+    if image_length(&game) > IMAGE_LIMIT as u64 {
+        return Err(at_line(line, ReadError::Fault(SourceKind::TooBig)));
     }
+    Ok(game)
 }
 
 /// The game of the lines of a source, of which so many begin a table.

@@ -1,6 +1,6 @@
 -- From fields to the state that they say, and back.
-use Rattle.std.proofs.Common.{◌≡◌, ℕ, zero, suc, ◌+◌, ◌<◌, ◌≤◌, ◌==◌, Bool, true, false, List, [], ◌∷◌, Option, Some, None, length, take, drop, refl, sym, ap, ◌∙◌, arith}
-use Rattle.std.specs.Prelude.{IfSome, if◌then◌else◌}
+use Rattle.std.proofs.Common.{◌≡◌, ℕ, zero, suc, ◌+◌, ◌<◌, ◌≤◌, ◌==◌, List, [], ◌∷◌, Option, Some, None, length, map, take, drop, nat_le, refl, sym, ap, ◌∙◌, arith}
+use Rattle.std.specs.Prelude.{All, if◌then◌else◌}
 use Rattle.std.proofs.lemmas.List.{length-take}
 use Rattle.std.proofs.lemmas.Bool.{leb-true}
 use Rattle.paw_game.specs.Game.{GameLists}
@@ -14,12 +14,14 @@ use Rattle.paw_reading.specs.declared.places.OpenLoop.{OpenLoop}
 use Rattle.paw_process.specs.declared.kept.Frames.{Frames}
 use Rattle.paw_process.specs.Kept.{waiting_code, or_none}
 use Rattle.paw_state.specs.declared.fields.Fields.{Fields}
-use Rattle.paw_state.specs.State.{State, Keeps, IsSavedIn}
-use Rattle.paw_state.specs.Fields.{zeros, filled, presence, saved_flags, saved_places, prompt_code, loop_or_zeros, fields_of}
-use Rattle.paw_state.specs.Faults.{first_not, is_zero, places_fault, prompt_of, first}
-use Rattle.paw_state.specs.Parts.{position_in, saved_in, world_in, frames_in, state_in}
-use Rattle.paw_state.proofs.Cut.{AreSized, same_fields}
-use Rattle.paw_state.proofs.Found.{zeros_are, filled_take, take_filled}
+use Rattle.paw_state.specs.declared.held.Held.{Held}
+use Rattle.paw_state.specs.State.{State, Keeps}
+use Rattle.paw_state.specs.Fields.{zeros, filled, presence, held_of, prompt_code, loop_or_zeros, fields_of}
+use Rattle.paw_state.specs.Faults.{rule, first_not, is_zero, places_fault, absent_fault, held_fault, kept_fault, prompt_of}
+use Rattle.paw_state.specs.Parts.{held_in, world_in, frames_in, state_in}
+use Rattle.paw_state.proofs.Positions.{IsHeldOf, saved_held, kept_held}
+use Rattle.paw_state.proofs.Cut.{IsSizedHeld, AreSized, same_held, same_fields}
+use Rattle.paw_state.proofs.Found.{rule_holds, no_first, zeros_are, filled_take, take_filled}
 use Rattle.paw_state.proofs.Sound.{AreSound, two}
 use Rattle.paw_state.proofs.Rows.{rows_back, frames_back}
 use Rattle.paw_state.proofs.Loops.{turning_back, presence_back, looping_low}
@@ -41,29 +43,32 @@ places_back : (g : GameLists) (at : ℕ) (places : List ℕ) → Valid g → len
     → filled 255 (take (length g.objects) places) ≡ places
 places_back g at places v size h = filled_take (at + length g.objects) (length g.objects) places size (few_objects g v) (zeros_behind g at places h)
 
-flags_back : (g : GameLists) (f : Fields) → length f.saved_flags ≡ 256
-    → (if f.saved == 0 then first (first_not is_zero 512 f.saved_flags ∷ first_not is_zero 768 f.saved_places ∷ []) else places_fault g 768 f.saved_places) ≡ None
-    → saved_flags (saved_in g f) ≡ f.saved_flags
-flags_back g f size h = go (f.saved == 0) h
+-- a position without a fault
+held_back : (g : GameLists) (at : ℕ) (h : Held) → Valid g → IsSizedHeld h → held_fault g at h ≡ None → held_of (held_in (length g.objects) h) ≡ h
+held_back g at h v z q =
+    let p = two (rule at (nat_le h.there 1)) (if h.there == 0 then absent_fault at h else places_fault g (at + 257) h.places) q in
+    go h.there (leb-true h.there 1 (rule_holds at (nat_le h.there 1) p.0)) p.1
   where
-    go : (b : Bool) → (if b then first (first_not is_zero 512 f.saved_flags ∷ first_not is_zero 768 f.saved_places ∷ []) else places_fault g 768 f.saved_places) ≡ None
-        → saved_flags (if b then None else Some (position_in g f.saved_flags f.saved_places)) ≡ f.saved_flags
-    go true q =
-        let z = zeros_are 512 f.saved_flags (two (first_not is_zero 512 f.saved_flags) (first_not is_zero 768 f.saved_places) q).0 in
-        sym (z ∙ ap zeros size)
-    go false q = refl
+    go : (there : ℕ) → there ≤ 1 → (if there == 0 then absent_fault at h else places_fault g (at + 257) h.places) ≡ None
+        → held_of (if there == 0 then None else Some (record { flags = h.flags; places = take (length g.objects) h.places }))
+        ≡ record { there = there; flags = h.flags; places = h.places }
+    go zero low k =
+        let both = two (first_not is_zero (at + 1) h.flags) (first_not is_zero (at + 257) h.places) k in
+        same_held (held_of None) (record { there = 0; flags = h.flags; places = h.places }) refl
+        (sym (zeros_are (at + 1) h.flags both.0 ∙ ap zeros z.flags)) (sym (zeros_are (at + 257) h.places both.1 ∙ ap zeros z.places))
+    go (suc zero) low k =
+        same_held _ (record { there = 1; flags = h.flags; places = h.places }) refl refl (places_back g (at + 257) h.places v z.places k)
+    go (suc (suc n)) low k = absurd (omega (arith, low))
 
-saved_places_back : (g : GameLists) (f : Fields) → Valid g → length f.saved_places ≡ 255
-    → (if f.saved == 0 then first (first_not is_zero 512 f.saved_flags ∷ first_not is_zero 768 f.saved_places ∷ []) else places_fault g 768 f.saved_places) ≡ None
-    → saved_places (saved_in g f) ≡ f.saved_places
-saved_places_back g f v size h = go (f.saved == 0) h
-  where
-    go : (b : Bool) → (if b then first (first_not is_zero 512 f.saved_flags ∷ first_not is_zero 768 f.saved_places ∷ []) else places_fault g 768 f.saved_places) ≡ None
-        → saved_places (if b then None else Some (position_in g f.saved_flags f.saved_places)) ≡ f.saved_places
-    go true q =
-        let z = zeros_are 768 f.saved_places (two (first_not is_zero 512 f.saved_flags) (first_not is_zero 768 f.saved_places) q).1 in
-        sym (z ∙ ap zeros size)
-    go false q = places_back g 768 f.saved_places v size q
+kept_back : (g : GameLists) (at : ℕ) (kept : List Held) → Valid g → All IsSizedHeld kept → kept_fault g at kept ≡ None
+    → map held_of (map (held_in (length g.objects)) kept) ≡ kept
+unfolding kept_fault
+kept_back g at [] v z h = refl
+kept_back g at (k ∷ ks) v z h =
+    let p = no_first (held_fault g at k) (kept_fault g (at + 512) ks) h in
+    let e : held_of (held_in (length g.objects) k) ≡ k = held_back g at k v (z 0 k (omega arith)) p.0 in
+    let q = kept_back g (at + 512) ks v (λ i d low. z (suc i) d (omega (arith, low))) p.1 in
+    cc
 
 code_back : (n : ℕ) → n ≤ 4 → prompt_code (prompt_of n) ≡ n
 code_back zero low = refl
@@ -81,9 +86,7 @@ state_back g f v z s =
     let n : length (take f.pending f.line) ≡ f.pending = line_length f.pending f.line z.line z.pending in
     same_fields (fields_of (state_in g f)) f refl
     (places_back g 256 f.places v z.places s.places)
-    (presence_back (position_in g f.saved_flags f.saved_places) f.saved (leb-true f.saved 1 s.is_saved))
-    (flags_back g f z.saved_flags s.saved)
-    (saved_places_back g f v z.saved_places s.saved)
+    (held_back g 511 f.saved v z.saved s.saved)
     refl refl refl
     (code_back f.prompt (leb-true f.prompt 4 s.prompt))
     refl
@@ -93,15 +96,22 @@ state_back g f v z s =
     refl n
     (filled_take (1114 + f.pending) f.pending f.line z.line (omega (arith, z.pending)) s.line)
     refl
+    (kept_back g 1371 f.kept v z.kept s.kept)
 
 -- ---- from a state ----
 
-saved_again : (g : GameLists) (f : Fields) (o : Option Position) → ((q : Position) → o ≡ Some q → length q.places ≡ length g.objects)
-    → (if presence o == 0 then None else Some (position_in g (saved_flags o) (saved_places o))) ≡ o
-saved_again g f None h = refl
-saved_again g f (Some q) h =
+held_again : (g : GameLists) (o : Option Position) → IsHeldOf g o → held_in (length g.objects) (held_of o) ≡ o
+held_again g None h = refl
+held_again g (Some q) h =
     let at : List ℕ → Option Position = λ places. Some (record { flags = q.flags; places = places }) in
-    ap at (take_filled (length g.objects) q.places (h q refl))
+    ap at (take_filled (length g.objects) q.places h.each)
+
+kept_again : (g : GameLists) (kept : List (Option Position)) → All (IsHeldOf g) kept → map (held_in (length g.objects)) (map held_of kept) ≡ kept
+kept_again g [] h = refl
+kept_again g (k ∷ ks) h =
+    let e = held_again g k (h 0 k (omega arith)) in
+    let q = kept_again g ks (λ i d low. h (suc i) d (omega (arith, low))) in
+    cc
 
 turning_again : (o : Option OpenLoop) → (if presence o == 0 then None else Some (loop_or_zeros o)) ≡ o
 turning_again None = refl
@@ -114,12 +124,12 @@ prompt_again prompt.Again = refl
 prompt_again prompt.Key = refl
 prompt_again prompt.Over = refl
 
-same_world : (a b : World) → a.facts ≡ b.facts → a.locations ≡ b.locations → a.flags ≡ b.flags → a.places ≡ b.places → a.saved ≡ b.saved
+same_world : (a b : World) → a.facts ≡ b.facts → a.locations ≡ b.locations → a.flags ≡ b.flags → a.places ≡ b.places → a.saved ≡ b.saved → a.kept ≡ b.kept
     → a.seed ≡ b.seed → a.draws ≡ b.draws → a ≡ b
-same_world a b facts locations flags places saved seed draws =
+same_world a b facts locations flags places saved kept seed draws =
     let e : ◌≡◌ {A = World}
-    (record { facts = a.facts; locations = a.locations; flags = a.flags; places = a.places; saved = a.saved; seed = a.seed; draws = a.draws })
-    (record { facts = b.facts; locations = b.locations; flags = b.flags; places = b.places; saved = b.saved; seed = b.seed; draws = b.draws }) = cc in e
+    (record { facts = a.facts; locations = a.locations; flags = a.flags; places = a.places; saved = a.saved; kept = a.kept; seed = a.seed; draws = a.draws })
+    (record { facts = b.facts; locations = b.locations; flags = b.flags; places = b.places; saved = b.saved; kept = b.kept; seed = b.seed; draws = b.draws }) = cc in e
 
 same_frames : (a b : Frames) → a.count ≡ b.count → a.rows ≡ b.rows → a.turning ≡ b.turning → a ≡ b
 same_frames a b count rows turning =
@@ -135,16 +145,12 @@ same_state a b world frames pending at events piece =
     (record { world = a.world; frames = a.frames; pending = a.pending; prompt = a.prompt; events = a.events; piece = a.piece })
     (record { world = b.world; frames = b.frames; pending = b.pending; prompt = b.prompt; events = b.events; piece = b.piece }) = cc in e
 
-saved_each : (g : GameLists) (o : Option Position) → IfSome o (IsSavedIn g) → (q : Position) → o ≡ Some q → length q.places ≡ length g.objects
-saved_each g None h q e = cc
-saved_each g (Some p) h q e = let k : p ≡ q = cc in ap (λ (r : Position). length r.places) (sym k) ∙ h.each
-
 pub fields_back : (g : GameLists) (s : State) → Keeps g s → state_in g (fields_of s) ≡ s
 fields_back g s k =
     same_state (state_in g (fields_of s)) s
     (same_world (world_in g (fields_of s)) s.world (sym k.world.facts) (sym k.world.locations) refl
     (take_filled (length g.objects) s.world.places k.world.places)
-    (saved_again g (fields_of s) s.world.saved (saved_each g s.world.saved k.saved)) refl refl)
+    (held_again g s.world.saved (saved_held g s k)) (kept_again g s.world.kept (kept_held g s k)) refl refl)
     (same_frames (frames_in (fields_of s)) s.frames refl (frames_back s.frames.rows) (turning_again s.frames.turning))
     (same_pending _ s.pending (take_filled (length s.pending.bytes) s.pending.bytes refl) refl)
     (prompt_again s.prompt) refl refl

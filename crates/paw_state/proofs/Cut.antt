@@ -1,5 +1,5 @@
 -- The fields that stand in the bytes of fields are these fields.
-use Rattle.std.proofs.Common.{◌≡◌, ℕ, suc, ◌+◌, ◌*◌, ◌<◌, ◌^◌, List, [], ◌∷◌, ◌++◌, length, drop, refl, sym, ap, ◌∙◌, arith}
+use Rattle.std.proofs.Common.{◌≡◌, ℕ, suc, ◌+◌, ◌*◌, ◌<◌, ◌^◌, List, [], ◌∷◌, ◌++◌, length, drop, refl, sym, ap, ◌∙◌, lit<, arith}
 use Rattle.std.specs.Prelude.{All, flat_map, slice_index, slice_range}
 use Rattle.std.specs.Int.{w16, w64, from_le_bytes}
 use Rattle.std.proofs.lemmas.Nat.{from_le_bytes-to_le_bytes_2, from_le_bytes-to_le_bytes_8}
@@ -8,16 +8,21 @@ use Rattle.paw_game.specs.Image.{two_bytes}
 use Rattle.paw_reading.specs.declared.places.OpenLoop.{OpenLoop}
 use Rattle.paw_state.specs.declared.fields.Row.{Row}
 use Rattle.paw_state.specs.declared.fields.Fields.{Fields}
-use Rattle.paw_state.specs.Fields.{joined, eight_bytes, row_bytes, loop_bytes, two_at, eight_at, row_at, rows_at, fields_at, world_bytes, number_bytes, table_bytes, pending_bytes, field_bytes}
+use Rattle.paw_state.specs.declared.held.Held.{Held}
+use Rattle.paw_state.specs.Fields.{joined, eight_bytes, row_bytes, loop_bytes, held_bytes, two_at, eight_at, row_at, rows_at, held_at, fields_at, world_bytes, number_bytes, table_bytes, pending_bytes, kept_bytes, field_bytes}
 use Rattle.paw_state.proofs.Pieces.{range_is, behind, byte_is}
 use Rattle.paw_state.proofs.Written.{length-rows}
+
+-- the arrays of a position have their lengths
+pub record IsSizedHeld (h : Held) : Type 0 where
+  pub flags : length h.flags ≡ 256
+  pub places : length h.places ≡ 255
 
 -- the arrays have their lengths, and the numbers fit
 pub record AreSized (f : Fields) : Type 0 where
   pub flags : length f.flags ≡ 256
   pub places : length f.places ≡ 255
-  pub saved_flags : length f.saved_flags ≡ 256
-  pub saved_places : length f.saved_places ≡ 255
+  pub saved : IsSizedHeld f.saved
   pub seed : f.seed < 2 ^ 64
   pub draws : f.draws < 2 ^ 64
   pub events : f.events < 2 ^ 64
@@ -27,6 +32,8 @@ pub record AreSized (f : Fields) : Type 0 where
   pub pending : f.pending < 256
   pub line : length f.line ≡ 255
   pub piece : f.piece < 2 ^ 16
+  pub four : length f.kept ≡ 4
+  pub kept : All IsSizedHeld f.kept
 
 -- a field stands where it is, and the others behind it
 here : (bytes x q : List ℕ) (xs : List (List ℕ)) (at n : ℕ) → drop at bytes ≡ joined (x ∷ xs) ++ q → length x ≡ n → slice_range bytes at (at + n) ≡ x
@@ -42,33 +49,50 @@ two_cut bytes at n h low = ap (from_le_bytes w16) h ∙ from_le_bytes-to_le_byte
 eight_cut : (bytes : List ℕ) (at n : ℕ) → slice_range bytes at (at + 8) ≡ eight_bytes n → n < 2 ^ 64 → eight_at bytes at ≡ n
 eight_cut bytes at n h low = ap (from_le_bytes w64) h ∙ from_le_bytes-to_le_bytes_8 n low
 
+-- ---- a position ----
+
+pub same_held : (a b : Held) → a.there ≡ b.there → a.flags ≡ b.flags → a.places ≡ b.places → a ≡ b
+same_held a b there flags places =
+    let e : ◌≡◌ {A = Held} (record { there = a.there; flags = a.flags; places = a.places }) (record { there = b.there; flags = b.flags; places = b.places }) = cc in e
+
+held_cut : (h : Held) (q : List ℕ) → IsSizedHeld h → held_at (held_bytes h ++ q) ≡ h
+unfolding held_bytes
+held_cut h q s =
+    let bytes = held_bytes h ++ q in
+    let h1 : drop 1 bytes ≡ joined (h.flags ∷ h.places ∷ []) ++ q = later bytes (h.there ∷ []) q (h.flags ∷ h.places ∷ []) 0 1 refl refl in
+    let h2 : drop 257 bytes ≡ joined (h.places ∷ []) ++ q = later bytes h.flags q (h.places ∷ []) 1 256 h1 s.flags in
+    same_held (held_at bytes) h refl (here bytes h.flags q (h.places ∷ []) 1 256 h1 s.flags) (here bytes h.places q [] 257 255 h2 s.places)
+
+length-held : (h : Held) → IsSizedHeld h → length (held_bytes h) ≡ 512
+unfolding held_bytes
+length-held h s = simp length-append (omega (arith, s.flags, s.places))
+
+-- where a position stands, and what stands behind it
+held_here : (bytes : List ℕ) (h : Held) (q : List ℕ) (at : ℕ) → IsSizedHeld h → drop at bytes ≡ held_bytes h ++ q
+    → (held_at (drop at bytes) ≡ h) × (drop (at + 512) bytes ≡ q)
+held_here bytes h q at s e = (ap held_at e ∙ held_cut h q s, behind bytes (held_bytes h) q at 512 e (length-held h s))
+
 -- ---- flags and places ----
 
 record HasWorld (bytes : List ℕ) (f : Fields) (q : List ℕ) : Type 0 where
   flags : slice_range bytes 0 256 ≡ f.flags
   places : slice_range bytes 256 511 ≡ f.places
-  saved : slice_index bytes 511 ≡ f.saved
-  saved_flags : slice_range bytes 512 768 ≡ f.saved_flags
-  saved_places : slice_range bytes 768 1023 ≡ f.saved_places
+  saved : held_at (drop 511 bytes) ≡ f.saved
   after : drop 1023 bytes ≡ q
 
 world_cut : (bytes : List ℕ) (f : Fields) (q : List ℕ) → AreSized f → drop 0 bytes ≡ world_bytes f ++ q → HasWorld bytes f q
 unfolding world_bytes
 world_cut bytes f q s h0 =
-    let xs1 = f.places ∷ (f.saved ∷ []) ∷ f.saved_flags ∷ f.saved_places ∷ [] in
+    let xs1 = f.places ∷ held_bytes f.saved ∷ [] in
     let h1 : drop 256 bytes ≡ joined xs1 ++ q = later bytes f.flags q xs1 0 256 h0 s.flags in
-    let xs2 = (f.saved ∷ []) ∷ f.saved_flags ∷ f.saved_places ∷ [] in
+    let xs2 = held_bytes f.saved ∷ [] in
     let h2 : drop 511 bytes ≡ joined xs2 ++ q = later bytes f.places q xs2 256 255 h1 s.places in
-    let xs3 = f.saved_flags ∷ f.saved_places ∷ [] in
-    let h3 : drop 512 bytes ≡ joined xs3 ++ q = later bytes (f.saved ∷ []) q xs3 511 1 h2 refl in
-    let h4 : drop 768 bytes ≡ joined (f.saved_places ∷ []) ++ q = later bytes f.saved_flags q (f.saved_places ∷ []) 512 256 h3 s.saved_flags in
+    let saved = held_here bytes f.saved q 511 s.saved (h2 ∙ append_assoc (held_bytes f.saved) [] q) in
     record {
       flags = here bytes f.flags q xs1 0 256 h0 s.flags;
       places = here bytes f.places q xs2 256 255 h1 s.places;
-      saved = byte_is bytes (joined xs3 ++ q) 511 f.saved h2;
-      saved_flags = here bytes f.saved_flags q (f.saved_places ∷ []) 512 256 h3 s.saved_flags;
-      saved_places = here bytes f.saved_places q [] 768 255 h4 s.saved_places;
-      after = later bytes f.saved_places q [] 768 255 h4 s.saved_places;
+      saved = saved.0;
+      after = saved.1;
     }
 
 -- ---- numbers ----
@@ -171,13 +195,14 @@ tables_cut bytes f q s h0 =
 
 -- ---- what is pending ----
 
-record HasPending (bytes : List ℕ) (f : Fields) : Type 0 where
+record HasPending (bytes : List ℕ) (f : Fields) (q : List ℕ) : Type 0 where
   earlier : slice_index bytes 1112 ≡ f.earlier
   pending : slice_index bytes 1113 ≡ f.pending
   line : slice_range bytes 1114 1369 ≡ f.line
   piece : two_at bytes 1369 ≡ f.piece
+  after : drop 1371 bytes ≡ q
 
-pending_cut : (bytes : List ℕ) (f : Fields) (q : List ℕ) → AreSized f → drop 1112 bytes ≡ pending_bytes f ++ q → HasPending bytes f
+pending_cut : (bytes : List ℕ) (f : Fields) (q : List ℕ) → AreSized f → drop 1112 bytes ≡ pending_bytes f ++ q → HasPending bytes f q
 unfolding pending_bytes
 pending_cut bytes f q s h0 =
     let two = two_bytes f.piece in
@@ -191,36 +216,65 @@ pending_cut bytes f q s h0 =
       pending = byte_is bytes (joined xs2 ++ q) 1113 f.pending h1;
       line = here bytes f.line q (two ∷ []) 1114 255 h2 s.line;
       piece = two_cut bytes 1369 f.piece (here bytes two q [] 1369 2 h3 refl) s.piece;
+      after = later bytes two q [] 1369 2 h3 refl;
     }
+
+-- ---- kept positions ----
+
+-- one of them, and the others behind it
+one_cut : (bytes q : List ℕ) (h : Held) (hs : List Held) (at : ℕ) → IsSizedHeld h → drop at bytes ≡ flat_map held_bytes (h ∷ hs) ++ q
+    → (held_at (drop at bytes) ≡ h) × (drop (at + 512) bytes ≡ flat_map held_bytes hs ++ q)
+one_cut bytes q h hs at s e =
+    held_here bytes h (flat_map held_bytes hs ++ q) at s (e ∙ append_assoc (held_bytes h) (flat_map held_bytes hs) q)
+
+four_cut : (bytes q : List ℕ) (kept : List Held) → length kept ≡ 4 → All IsSizedHeld kept → drop 1371 bytes ≡ flat_map held_bytes kept ++ q
+    → (fields_at bytes).kept ≡ kept
+four_cut bytes q [] n s h0 = absurd (omega (arith, n))
+four_cut bytes q (a ∷ []) n s h0 = absurd (omega (arith, n))
+four_cut bytes q (a ∷ b ∷ []) n s h0 = absurd (omega (arith, n))
+four_cut bytes q (a ∷ b ∷ c ∷ []) n s h0 = absurd (omega (arith, n))
+four_cut bytes q (a ∷ b ∷ c ∷ d ∷ e ∷ es) n s h0 = absurd (omega (arith, n))
+four_cut bytes q (a ∷ b ∷ c ∷ d ∷ []) n s h0 =
+    let pa = one_cut bytes q a (b ∷ c ∷ d ∷ []) 1371 (s 0 a (lit< tt)) h0 in
+    let pb = one_cut bytes q b (c ∷ d ∷ []) 1883 (s 1 a (lit< tt)) pa.1 in
+    let pc = one_cut bytes q c (d ∷ []) 2395 (s 2 a (lit< tt)) pb.1 in
+    let pd = one_cut bytes q d [] 2907 (s 3 a (lit< tt)) pc.1 in
+    rw (pa.0, pb.0, pc.0, pd.0) refl
+
+kept_cut : (bytes : List ℕ) (f : Fields) (q : List ℕ) → AreSized f → drop 1371 bytes ≡ kept_bytes f ++ q → (fields_at bytes).kept ≡ f.kept
+unfolding kept_bytes
+kept_cut bytes f q s h = four_cut bytes q f.kept s.four s.kept h
 
 -- ---- all fields ----
 
-pub same_fields : (a b : Fields) → a.flags ≡ b.flags → a.places ≡ b.places → a.saved ≡ b.saved → a.saved_flags ≡ b.saved_flags → a.saved_places ≡ b.saved_places
+pub same_fields : (a b : Fields) → a.flags ≡ b.flags → a.places ≡ b.places → a.saved ≡ b.saved
     → a.seed ≡ b.seed → a.draws ≡ b.draws → a.events ≡ b.events → a.prompt ≡ b.prompt → a.count ≡ b.count → a.rows ≡ b.rows → a.looping ≡ b.looping
-    → a.turning ≡ b.turning → a.earlier ≡ b.earlier → a.pending ≡ b.pending → a.line ≡ b.line → a.piece ≡ b.piece → a ≡ b
-same_fields a b flags places saved saved_flags saved_places seed draws events prompt count rows looping turning earlier pending line piece =
+    → a.turning ≡ b.turning → a.earlier ≡ b.earlier → a.pending ≡ b.pending → a.line ≡ b.line → a.piece ≡ b.piece → a.kept ≡ b.kept → a ≡ b
+same_fields a b flags places saved seed draws events prompt count rows looping turning earlier pending line piece kept =
     let e : ◌≡◌ {A = Fields}
-    (record { flags = a.flags; places = a.places; saved = a.saved; saved_flags = a.saved_flags; saved_places = a.saved_places; seed = a.seed; draws = a.draws; events = a.events; prompt = a.prompt; count = a.count; rows = a.rows; looping = a.looping; turning = a.turning; earlier = a.earlier; pending = a.pending; line = a.line; piece = a.piece })
-    (record { flags = b.flags; places = b.places; saved = b.saved; saved_flags = b.saved_flags; saved_places = b.saved_places; seed = b.seed; draws = b.draws; events = b.events; prompt = b.prompt; count = b.count; rows = b.rows; looping = b.looping; turning = b.turning; earlier = b.earlier; pending = b.pending; line = b.line; piece = b.piece }) = cc in e
+    (record { flags = a.flags; places = a.places; saved = a.saved; seed = a.seed; draws = a.draws; events = a.events; prompt = a.prompt; count = a.count; rows = a.rows; looping = a.looping; turning = a.turning; earlier = a.earlier; pending = a.pending; line = a.line; piece = a.piece; kept = a.kept })
+    (record { flags = b.flags; places = b.places; saved = b.saved; seed = b.seed; draws = b.draws; events = b.events; prompt = b.prompt; count = b.count; rows = b.rows; looping = b.looping; turning = b.turning; earlier = b.earlier; pending = b.pending; line = b.line; piece = b.piece; kept = b.kept }) = cc in e
 
 pub fields_cut : (f : Fields) (q : List ℕ) → AreSized f → fields_at (field_bytes f ++ q) ≡ f
 fields_cut f q s =
     let bytes = field_bytes f ++ q in
-    let xs1 = number_bytes f ∷ table_bytes f ∷ pending_bytes f ∷ [] in
-    let xs2 = table_bytes f ∷ pending_bytes f ∷ [] in
-    let xs3 = pending_bytes f ∷ [] in
+    let xs1 = number_bytes f ∷ table_bytes f ∷ pending_bytes f ∷ kept_bytes f ∷ [] in
+    let xs2 = table_bytes f ∷ pending_bytes f ∷ kept_bytes f ∷ [] in
+    let xs3 = pending_bytes f ∷ kept_bytes f ∷ [] in
+    let xs4 = kept_bytes f ∷ [] in
     let w = world_cut bytes f (joined xs1 ++ q) s (append_assoc (world_bytes f) (joined xs1) q) in
     let n = number_cut bytes f (joined xs2 ++ q) s (w.after ∙ append_assoc (number_bytes f) (joined xs2) q) in
     let t = tables_cut bytes f (joined xs3 ++ q) s (n.after ∙ append_assoc (table_bytes f) (joined xs3) q) in
-    let p = pending_cut bytes f q s (t.after ∙ (append_assoc (pending_bytes f) [] q)) in
-    same_fields (fields_at bytes) f w.flags w.places w.saved w.saved_flags w.saved_places n.seed n.draws n.events t.prompt t.count t.rows t.looping t.turning
-    p.earlier p.pending p.line p.piece
+    let p = pending_cut bytes f (joined xs4 ++ q) s (t.after ∙ append_assoc (pending_bytes f) (joined xs4) q) in
+    let k = kept_cut bytes f q s (p.after ∙ append_assoc (kept_bytes f) [] q) in
+    same_fields (fields_at bytes) f w.flags w.places w.saved n.seed n.draws n.events t.prompt t.count t.rows t.looping t.turning
+    p.earlier p.pending p.line p.piece k
 
 -- ---- how many bytes they are ----
 
 world-length : (f : Fields) → AreSized f → length (world_bytes f) ≡ 1023
 unfolding world_bytes
-world-length f s = simp length-append (omega (arith, s.flags, s.places, s.saved_flags, s.saved_places))
+world-length f s = simp length-append (omega (arith, s.flags, s.places, length-held f.saved s.saved))
 
 number-length : (f : Fields) → length (number_bytes f) ≡ 24
 unfolding number_bytes
@@ -234,5 +288,15 @@ pending-length : (f : Fields) → AreSized f → length (pending_bytes f) ≡ 25
 unfolding pending_bytes
 pending-length f s = simp length-append (omega (arith, s.line))
 
-pub length-fields : (f : Fields) → AreSized f → length (field_bytes f) ≡ 1371
-length-fields f s = simp length-append (omega (arith, world-length f s, number-length f, table-length f s, pending-length f s))
+length-helds : (hs : List Held) → All IsSizedHeld hs → length (flat_map held_bytes hs) ≡ 512 * length hs
+length-helds [] s = refl
+length-helds (h ∷ hs) s =
+    let rest = length-helds hs (λ k d low. s (suc k) d (omega (arith, low))) in
+    omega (arith, length-append (held_bytes h) (flat_map held_bytes hs), length-held h (s 0 h (omega arith)), rest)
+
+pub kept-length : (f : Fields) → AreSized f → length (kept_bytes f) ≡ 2048
+unfolding kept_bytes
+kept-length f s = omega (arith, length-helds f.kept s.kept, s.four)
+
+pub length-fields : (f : Fields) → AreSized f → length (field_bytes f) ≡ 3419
+length-fields f s = simp length-append (omega (arith, world-length f s, number-length f, table-length f s, pending-length f s, kept-length f s))

@@ -1,12 +1,12 @@
 -- The bytes of the fields that stand in some bytes are these bytes.
-use Rattle.std.proofs.Common.{◌≡◌, ℕ, zero, suc, ◌+◌, ◌*◌, ◌≤◌, List, [], ◌∷◌, ◌++◌, length, take, drop, refl, sym, ap, ◌∙◌, lit≤, arith}
+use Rattle.std.proofs.Common.{◌≡◌, ℕ, zero, suc, ◌+◌, ◌-◌, ◌*◌, ◌≤◌, List, [], ◌∷◌, ◌++◌, length, take, drop, refl, sym, ap, ◌∙◌, lit≤, arith}
 use Rattle.std.specs.Prelude.{flat_map, slice_range}
 use Rattle.std.proofs.lemmas.Nat.{le_bytes_2, le_bytes_8}
 use Rattle.std.proofs.lemmas.List.{length-drop}
 use Rattle.std.proofs.Math.Seq.{take-add}
 use Rattle.paw_game.specs.Image.{two_bytes}
 use Rattle.paw_state.specs.State.{AreBytes}
-use Rattle.paw_state.specs.Fields.{eight_bytes, row_bytes, loop_bytes, two_at, eight_at, row_at, rows_at, fields_at, world_bytes, number_bytes, table_bytes, pending_bytes, field_bytes}
+use Rattle.paw_state.specs.Fields.{eight_bytes, row_bytes, loop_bytes, held_bytes, two_at, eight_at, row_at, rows_at, held_at, fields_at, world_bytes, number_bytes, table_bytes, pending_bytes, kept_bytes, field_bytes}
 use Rattle.paw_state.proofs.Pieces.{range_join, byte_range, length_range, range_bytes, drop_bytes, each_byte}
 
 two_join : (bytes : List ℕ) (at : ℕ) → at + 2 ≤ length bytes → AreBytes bytes → two_bytes (two_at bytes at) ≡ slice_range bytes at (at + 2)
@@ -39,7 +39,7 @@ rows_join (suc n) bytes h b =
     ∙ (ap (λ (l : List ℕ). take 5 bytes ++ l) (rows_join n (drop 5 bytes) (omega (arith, length-drop 5 bytes)) (drop_bytes 5 bytes b))
     ∙ (sym (take-add 5 (5 * n) bytes) ∙ ap (λ (i : ℕ). take i bytes) m))
 
-loop_join : (bytes : List ℕ) → 1371 ≤ length bytes → AreBytes bytes → loop_bytes (fields_at bytes).turning ≡ slice_range bytes 1105 1112
+loop_join : (bytes : List ℕ) → 3419 ≤ length bytes → AreBytes bytes → loop_bytes (fields_at bytes).turning ≡ slice_range bytes 1105 1112
 loop_join bytes h b =
     let l = (fields_at bytes).turning in
     onto bytes (l.level ∷ []) (l.table ∷ (two_bytes l.entry ++ l.at ∷ l.place ∷ l.last ∷ [])) 1105 1106 1112 (lit≤ tt) (lit≤ tt) (byte_range bytes 1105 (omega arith))
@@ -48,17 +48,29 @@ loop_join bytes h b =
     (onto bytes (l.at ∷ []) (l.place ∷ l.last ∷ []) 1109 1110 1112 (lit≤ tt) (lit≤ tt) (byte_range bytes 1109 (omega arith))
     (onto bytes (l.place ∷ []) (l.last ∷ []) 1110 1111 1112 (lit≤ tt) (lit≤ tt) (byte_range bytes 1110 (omega arith)) (byte_range bytes 1111 (omega arith))))))
 
-world_join : (bytes : List ℕ) → 1371 ≤ length bytes → world_bytes (fields_at bytes) ≡ slice_range bytes 0 1023
+-- a position of 512 bytes
+held_join : (bytes : List ℕ) → 512 ≤ length bytes → held_bytes (held_at bytes) ≡ take 512 bytes
+unfolding held_bytes
+held_join bytes h =
+    let x = held_at bytes in
+    onto bytes (x.there ∷ []) _ 0 1 512 (lit≤ tt) (lit≤ tt) (byte_range bytes 0 (omega arith))
+    (onto bytes x.flags _ 1 257 512 (lit≤ tt) (lit≤ tt) refl
+    (onto bytes x.places [] 257 512 512 (lit≤ tt) (lit≤ tt) refl refl))
+
+held_range : (bytes : List ℕ) (at : ℕ) → at + 512 ≤ length bytes → held_bytes (held_at (drop at bytes)) ≡ slice_range bytes at (at + 512)
+held_range bytes at h =
+    let n : 512 ≡ at + 512 - at = omega arith in
+    held_join (drop at bytes) (omega (arith, length-drop at bytes)) ∙ ap (λ (i : ℕ). take i (drop at bytes)) n
+
+world_join : (bytes : List ℕ) → 3419 ≤ length bytes → world_bytes (fields_at bytes) ≡ slice_range bytes 0 1023
 unfolding world_bytes
 world_join bytes h =
     let f = fields_at bytes in
     onto bytes f.flags _ 0 256 1023 (lit≤ tt) (lit≤ tt) refl
     (onto bytes f.places _ 256 511 1023 (lit≤ tt) (lit≤ tt) refl
-    (onto bytes (f.saved ∷ []) _ 511 512 1023 (lit≤ tt) (lit≤ tt) (byte_range bytes 511 (omega arith))
-    (onto bytes f.saved_flags _ 512 768 1023 (lit≤ tt) (lit≤ tt) refl
-    (onto bytes f.saved_places [] 768 1023 1023 (lit≤ tt) (lit≤ tt) refl refl))))
+    (onto bytes (held_bytes f.saved) [] 511 1023 1023 (lit≤ tt) (lit≤ tt) (held_range bytes 511 (omega arith)) refl))
 
-number_join : (bytes : List ℕ) → 1371 ≤ length bytes → AreBytes bytes → number_bytes (fields_at bytes) ≡ slice_range bytes 1023 1047
+number_join : (bytes : List ℕ) → 3419 ≤ length bytes → AreBytes bytes → number_bytes (fields_at bytes) ≡ slice_range bytes 1023 1047
 unfolding number_bytes
 number_join bytes h b =
     let f = fields_at bytes in
@@ -66,7 +78,7 @@ number_join bytes h b =
     (onto bytes (eight_bytes f.draws) _ 1031 1039 1047 (lit≤ tt) (lit≤ tt) (eight_join bytes 1031 (omega arith) b)
     (onto bytes (eight_bytes f.events) [] 1039 1047 1047 (lit≤ tt) (lit≤ tt) (eight_join bytes 1039 (omega arith) b) refl))
 
-table_join : (bytes : List ℕ) → 1371 ≤ length bytes → AreBytes bytes → table_bytes (fields_at bytes) ≡ slice_range bytes 1047 1112
+table_join : (bytes : List ℕ) → 3419 ≤ length bytes → AreBytes bytes → table_bytes (fields_at bytes) ≡ slice_range bytes 1047 1112
 unfolding table_bytes
 table_join bytes h b =
     let f = fields_at bytes in
@@ -77,7 +89,7 @@ table_join bytes h b =
     (onto bytes (f.looping ∷ []) _ 1104 1105 1112 (lit≤ tt) (lit≤ tt) (byte_range bytes 1104 (omega arith))
     (onto bytes (loop_bytes f.turning) [] 1105 1112 1112 (lit≤ tt) (lit≤ tt) (loop_join bytes h b) refl))))
 
-pending_join : (bytes : List ℕ) → 1371 ≤ length bytes → AreBytes bytes → pending_bytes (fields_at bytes) ≡ slice_range bytes 1112 1371
+pending_join : (bytes : List ℕ) → 3419 ≤ length bytes → AreBytes bytes → pending_bytes (fields_at bytes) ≡ slice_range bytes 1112 1371
 unfolding pending_bytes
 pending_join bytes h b =
     let f = fields_at bytes in
@@ -86,9 +98,19 @@ pending_join bytes h b =
     (onto bytes f.line _ 1114 1369 1371 (lit≤ tt) (lit≤ tt) refl
     (onto bytes (two_bytes f.piece) [] 1369 1371 1371 (lit≤ tt) (lit≤ tt) (two_join bytes 1369 (omega arith) b) refl)))
 
-pub fields_join : (bytes : List ℕ) → 1371 ≤ length bytes → AreBytes bytes → field_bytes (fields_at bytes) ≡ take 1371 bytes
+kept_join : (bytes : List ℕ) → 3419 ≤ length bytes → kept_bytes (fields_at bytes) ≡ slice_range bytes 1371 3419
+unfolding kept_bytes
+kept_join bytes h =
+    let held : ℕ → List ℕ = λ at. held_bytes (held_at (drop at bytes)) in
+    onto bytes (held 1371) _ 1371 1883 3419 (lit≤ tt) (lit≤ tt) (held_range bytes 1371 (omega arith))
+    (onto bytes (held 1883) _ 1883 2395 3419 (lit≤ tt) (lit≤ tt) (held_range bytes 1883 (omega arith))
+    (onto bytes (held 2395) _ 2395 2907 3419 (lit≤ tt) (lit≤ tt) (held_range bytes 2395 (omega arith))
+    (onto bytes (held 2907) [] 2907 3419 3419 (lit≤ tt) (lit≤ tt) (held_range bytes 2907 (omega arith)) refl)))
+
+pub fields_join : (bytes : List ℕ) → 3419 ≤ length bytes → AreBytes bytes → field_bytes (fields_at bytes) ≡ take 3419 bytes
 fields_join bytes h b =
-    onto bytes (world_bytes (fields_at bytes)) _ 0 1023 1371 (lit≤ tt) (lit≤ tt) (world_join bytes h)
-    (onto bytes (number_bytes (fields_at bytes)) _ 1023 1047 1371 (lit≤ tt) (lit≤ tt) (number_join bytes h b)
-    (onto bytes (table_bytes (fields_at bytes)) _ 1047 1112 1371 (lit≤ tt) (lit≤ tt) (table_join bytes h b)
-    (onto bytes (pending_bytes (fields_at bytes)) [] 1112 1371 1371 (lit≤ tt) (lit≤ tt) (pending_join bytes h b) refl)))
+    onto bytes (world_bytes (fields_at bytes)) _ 0 1023 3419 (lit≤ tt) (lit≤ tt) (world_join bytes h)
+    (onto bytes (number_bytes (fields_at bytes)) _ 1023 1047 3419 (lit≤ tt) (lit≤ tt) (number_join bytes h b)
+    (onto bytes (table_bytes (fields_at bytes)) _ 1047 1112 3419 (lit≤ tt) (lit≤ tt) (table_join bytes h b)
+    (onto bytes (pending_bytes (fields_at bytes)) _ 1112 1371 3419 (lit≤ tt) (lit≤ tt) (pending_join bytes h b)
+    (onto bytes (kept_bytes (fields_at bytes)) [] 1371 3419 3419 (lit≤ tt) (lit≤ tt) (kept_join bytes h) refl))))

@@ -1,27 +1,31 @@
 -- Rules of states, and faults of fields.
-use Rattle.std.proofs.Common.{◌≡◌, ℕ, ◌+◌, ◌-◌, ◌*◌, ◌==◌, ◌||◌, Bool, true, false, List, [], ◌∷◌, Option, Some, None, length, map, take, drop, is_some, nat_le, refl, sym, ap, ◌∙◌, subst, arith}
-use Rattle.std.specs.Prelude.{IfSome, IfNone, if◌then◌else◌}
+use Rattle.std.proofs.Common.{◌≡◌, ℕ, suc, ◌+◌, ◌-◌, ◌*◌, ◌==◌, ◌||◌, Bool, true, false, List, [], ◌∷◌, Option, Some, None, length, map, take, drop, get_or, is_some, nat_le, refl, sym, ap, ◌∙◌, subst, arith}
+use Rattle.std.specs.Prelude.{All, IfNone, if◌then◌else◌}
 use Rattle.std.proofs.lemmas.List.{length-map, length-take}
+use Rattle.std.proofs.lemmas.List.Elements.{All-cons}
 use Rattle.std.proofs.lemmas.Bool.{eqb-true, le-leb, leb-true}
 use Rattle.paw_game.specs.Game.{GameLists}
 use Rattle.paw_game.specs.Valid.{Valid, is_place}
+use Rattle.paw_game.specs.declared.parts.ObjectRow.{ObjectRow}
 use Rattle.paw_game.proofs.Counts.{few_objects}
-use Rattle.paw_world.specs.World.{Position}
+use Rattle.paw_world.specs.World.{Position, IsSavedFor, IsWorld}
 use Rattle.paw_effects.specs.declared.act.Prompt.{Prompt}
 use Rattle.paw_effects.specs.declared.act.Prompt.TheVariants as prompt
 use Rattle.paw_process.specs.declared.kept.Frames.{Frames}
 use Rattle.paw_process.specs.Kept.{waiting_code, or_none, count_fits, fault_at, first_fault}
 use Rattle.paw_process.specs.Kept.{rows_fault as machine_rows, loop_fault as machine_loop}
-use Rattle.paw_process.proofs.Restored.{no_first}
+use Rattle.paw_process.proofs.Restored.{no_first as no_machine_first}
 use Rattle.paw_state.specs.declared.fields.Fields.{Fields}
+use Rattle.paw_state.specs.declared.held.Held.{Held}
 use Rattle.paw_effects.specs.Built.{ArePlacesOf}
-use Rattle.paw_state.specs.State.{State, IsSavedIn, Keeps}
-use Rattle.paw_state.specs.Fields.{filled, presence, saved_flags, saved_places, prompt_code, row_of, fields_of}
-use Rattle.paw_state.specs.Faults.{first, first_not, is_zero, places_fault, saved_fault, prompt_of, rows_fault}
-use Rattle.paw_state.specs.Parts.{position_in, saved_in, frame_in, frames_in, state_in}
-use Rattle.paw_state.proofs.Cut.{AreSized}
-use Rattle.paw_state.proofs.Found.{all_so, none_not, none_in_zeros, take_filled, drop_filled}
-use Rattle.paw_state.proofs.Sound.{AreSound, two_none}
+use Rattle.paw_state.specs.State.{State, Keeps}
+use Rattle.paw_state.specs.Fields.{zeros, filled, held_of, prompt_code, row_of, fields_of}
+use Rattle.paw_state.specs.Faults.{rule, first_not, is_zero, places_fault, absent_fault, held_fault, kept_fault, prompt_of, rows_fault}
+use Rattle.paw_state.specs.Parts.{held_in, frame_in, frames_in, state_in}
+use Rattle.paw_state.proofs.Positions.{IsHeldOf, saved_held, kept_held, held_size_for, held_placed}
+use Rattle.paw_state.proofs.Cut.{IsSizedHeld, AreSized}
+use Rattle.paw_state.proofs.Found.{no_first, none_first, all_so, none_not, none_in_zeros, take_filled, drop_filled}
+use Rattle.paw_state.proofs.Sound.{AreSound, two, two_none}
 use Rattle.paw_state.proofs.Rows.{rows_sound, frames_sound}
 use Rattle.paw_state.proofs.Loops.{loop_sound, loop_found, loop_counted}
 use Rattle.paw_state.proofs.Back.{objects_stand, prompt_again}
@@ -44,7 +48,7 @@ machine_sound g code k h = go (count_fits code k.count) refl h
         → ◌≡◌ {A = Option ℕ} (if b then first_fault (machine_rows g (or_none code) None k.count 0 k.rows) (machine_loop g k k.turning) else Some 0) None
         → MachineSound g code k
     go true e q =
-        let p = no_first (machine_rows g (or_none code) None k.count 0 k.rows) (machine_loop g k k.turning) q in
+        let p = no_machine_first (machine_rows g (or_none code) None k.count 0 k.rows) (machine_loop g k k.turning) q in
         record { count = e; rows = p.0; turning = p.1 }
     go false e q = cc
 
@@ -53,17 +57,26 @@ machine_sound g code k h = go (count_fits code k.count) refl h
 objects_length : (g : GameLists) (places : List ℕ) → Valid g → length places ≡ 255 → length (take (length g.objects) places) ≡ length g.objects
 objects_length g places v size = omega (arith, length-take (length g.objects) places, few_objects g v)
 
-saved_kept : (g : GameLists) (f : Fields) → Valid g → AreSized f → saved_fault g f ≡ None → IfSome (saved_in g f) (IsSavedIn g)
-saved_kept g f v z h = go (f.saved == 0) h
+held_kept : (g : GameLists) (at : ℕ) (h : Held) → Valid g → IsSizedHeld h → held_fault g at h ≡ None → IsHeldOf g (held_in (length g.objects) h)
+held_kept g at h v z q = go (h.there == 0) (two (rule at (nat_le h.there 1)) (if h.there == 0 then absent_fault at h else places_fault g (at + 257) h.places) q).1
   where
-    go : (b : Bool) → (if b then first (first_not is_zero 512 f.saved_flags ∷ first_not is_zero 768 f.saved_places ∷ []) else places_fault g 768 f.saved_places) ≡ None
-        → IfSome (if b then None else Some (position_in g f.saved_flags f.saved_places)) (IsSavedIn g)
-    go true q = tt
-    go false q = record {
-      flags = z.saved_flags;
-      each = objects_length g f.saved_places v z.saved_places;
-      places = all_so (is_place (length g.locations)) 768 (take (length g.objects) f.saved_places) (objects_stand g 768 f.saved_places q);
+    go : (b : Bool) → (if b then absent_fault at h else places_fault g (at + 257) h.places) ≡ None
+        → IsHeldOf g (if b then None else Some (record { flags = h.flags; places = take (length g.objects) h.places }))
+    go true k = tt
+    go false k = record {
+      flags = z.flags;
+      each = objects_length g h.places v z.places;
+      places = all_so (is_place (length g.locations)) (at + 257) (take (length g.objects) h.places) (objects_stand g (at + 257) h.places k);
     }
+
+kept_kept : (g : GameLists) (at : ℕ) (kept : List Held) → Valid g → All IsSizedHeld kept → kept_fault g at kept ≡ None
+    → All (IsHeldOf g) (map (held_in (length g.objects)) kept)
+unfolding kept_fault
+kept_kept g at [] v z h = λ k d low. absurd (omega (arith, low))
+kept_kept g at (k ∷ ks) v z h =
+    let p = no_first (held_fault g at k) (kept_fault g (at + 512) ks) h in
+    All-cons (IsHeldOf g) (held_in (length g.objects) k) (map (held_in (length g.objects)) ks) (held_kept g at k v (z 0 k (omega arith)) p.0)
+    (kept_kept g (at + 512) ks v (λ i d low. z (suc i) d (omega (arith, low))) p.1)
 
 line_kept : (code : Option ℕ) (n : ℕ) (line : List ℕ) → (is_some code || (n == 0)) ≡ true → IfNone code (take n line ≡ [])
 line_kept None n line h = let z : n ≡ 0 = eqb-true n 0 h in rw z refl
@@ -74,11 +87,35 @@ frames_kept g f s =
     no_machine_fault g (waiting_code (prompt_of f.prompt)) (frames_in f) s.count
     (rows_sound g (or_none (waiting_code (prompt_of f.prompt))) None f.count 1049 0 f.rows s.frames) (loop_sound g f s.turning)
 
+-- the world that the fields say is a world
+sound_in : (g : GameLists) (f : Fields) → Valid g → AreSized f → AreSound g f → IsWorld (state_in g f).world
+sound_in g f v z s =
+    let each : length g.objects ≡ length (take (length g.objects) f.places) = sym (objects_length g f.places v z.places) in
+    let alike : (o : Option Position) → IsHeldOf g o → IsSavedFor (length (take (length g.objects) f.places)) o =
+    λ o h. subst (λ (n : ℕ). IsSavedFor n o) each (held_size_for g o h) in
+    let kept = map (held_in (length g.objects)) f.kept in
+    record {
+      objects = omega (arith, each, few_objects g v);
+      facts = length-map g.objects (λ (o : ObjectRow). o.facts) ∙ each;
+      flags = z.flags;
+      saved = alike (held_in (length g.objects) f.saved) (held_kept g 511 f.saved v z.saved s.saved);
+      kept = record {
+        four = length-map f.kept (held_in (length g.objects)) ∙ z.four;
+        each = λ i d low. alike (get_or kept i d) (kept_kept g 1371 f.kept v z.kept s.kept i d low);
+      };
+    }
+
 pub keeps_in : (g : GameLists) (f : Fields) → Valid g → AreSized f → AreSound g f → Keeps g (state_in g f)
 keeps_in g f v z s = record {
   world = record { facts = refl; locations = refl; flags = z.flags; places = objects_length g f.places v z.places };
-  places = all_so (is_place (length g.locations)) 256 (take (length g.objects) f.places) (objects_stand g 256 f.places s.places);
-  saved = saved_kept g f v z s.saved;
+  sound = sound_in g f v z s;
+  places = (
+    all_so (is_place (length g.locations)) 256 (take (length g.objects) f.places) (objects_stand g 256 f.places s.places),
+    (
+      held_placed g (held_in (length g.objects) f.saved) (held_kept g 511 f.saved v z.saved s.saved),
+      λ i d low. held_placed g (get_or (map (held_in (length g.objects)) f.kept) i d) (kept_kept g 1371 f.kept v z.kept s.kept i d low),
+    ),
+  );
   events = leb-true f.events 1000000000 s.events;
   draws = leb-true f.draws (200000 * (f.events + 1)) s.draws;
   rows = length-map f.rows frame_in ∙ z.rows;
@@ -96,14 +133,19 @@ places_sound g at places size h =
     (ap (first_not (is_place (length g.locations)) at) (take_filled (length g.objects) places size) ∙ none_not (is_place (length g.locations)) at places h)
     (ap (first_not is_zero (at + length g.objects)) (drop_filled (length g.objects) places size) ∙ none_in_zeros (at + length g.objects) (255 - length places))
 
-saved_sound : (g : GameLists) (o : Option Position) → IfSome o (IsSavedIn g)
-    → (if presence o == 0 then first (first_not is_zero 512 (saved_flags o) ∷ first_not is_zero 768 (saved_places o) ∷ []) else places_fault g 768 (saved_places o)) ≡ None
-saved_sound g None h = two_none (first_not is_zero 512 (saved_flags None)) (first_not is_zero 768 (saved_places None)) (none_in_zeros 512 256) (none_in_zeros 768 255)
-saved_sound g (Some q) h = places_sound g 768 q.places h.each h.places
+held_sound : (g : GameLists) (at : ℕ) (o : Option Position) → IsHeldOf g o → held_fault g at (held_of o) ≡ None
+held_sound g at None h =
+    two_none (rule at true) (absent_fault at (held_of None)) refl
+    (two_none (first_not is_zero (at + 1) (zeros 256)) (first_not is_zero (at + 257) (zeros 255)) (none_in_zeros (at + 1) 256) (none_in_zeros (at + 257) 255))
+held_sound g at (Some q) h =
+    two_none (rule at true) (places_fault g (at + 257) (filled 255 q.places)) refl (places_sound g (at + 257) q.places h.each h.places)
 
-presence_low : {A : Type 0} → (o : Option A) → nat_le (presence o) 1 ≡ true
-presence_low None = refl
-presence_low (Some x) = refl
+kept_sound : (g : GameLists) (at : ℕ) (kept : List (Option Position)) → All (IsHeldOf g) kept → kept_fault g at (map held_of kept) ≡ None
+unfolding kept_fault
+kept_sound g at [] h = refl
+kept_sound g at (k ∷ ks) h =
+    none_first (held_fault g at (held_of k)) (kept_fault g (at + 512) (map held_of ks)) (held_sound g at k (h 0 k (omega arith)))
+    (kept_sound g (at + 512) ks (λ i d low. h (suc i) d (omega (arith, low))))
 
 code_low : (p : Prompt) → nat_le (prompt_code p) 4 ≡ true
 code_low prompt.Main = refl
@@ -121,9 +163,8 @@ sound_fields g s k =
     let m = machine_sound g (waiting_code s.prompt) s.frames k.frames in
     let again = sym (prompt_again s.prompt) in
     record {
-      places = places_sound g 256 s.world.places k.world.places k.places;
-      is_saved = presence_low s.world.saved;
-      saved = saved_sound g s.world.saved k.saved;
+      places = places_sound g 256 s.world.places k.world.places k.places.0;
+      saved = held_sound g 511 s.world.saved (saved_held g s k);
       events = le-leb s.events 1000000000 k.events;
       draws = le-leb s.world.draws (200000 * (s.events + 1)) k.draws;
       prompt = code_low s.prompt;
@@ -136,4 +177,5 @@ sound_fields g s k =
           (line_sound (waiting_code s.prompt) s.pending.bytes k.pending);
       line = ap (first_not is_zero (1114 + length s.pending.bytes)) (drop_filled (length s.pending.bytes) s.pending.bytes refl)
           ∙ none_in_zeros (1114 + length s.pending.bytes) (255 - length s.pending.bytes);
+      kept = kept_sound g 1371 s.world.kept (kept_held g s k);
     }

@@ -12,33 +12,34 @@ use Rattle.paw_state.specs.declared.Restored.{Restored}
 use Rattle.paw_state.specs.Fit.{Fit, unfit, state_read, IsRead}
 use Rattle.paw_state.specs.Laws.{FitOrUnfit, BytesTellTheState, WrittenIsFit}
 use Rattle.paw_state.proofs.Joined.{fields_join}
-use Rattle.paw_state.proofs.Cut.{fields_cut, length-fields}
+use Rattle.paw_state.proofs.Cut.{fields_cut, kept-length, length-fields}
 use Rattle.paw_state.proofs.Sound.{sound_of, none_of}
+use Rattle.paw_state.proofs.Told.{AreLong}
 use Rattle.paw_state.proofs.Back.{state_back, fields_back}
 use Rattle.paw_state.proofs.Keeping.{keeps_in, sound_fields}
 use Rattle.paw_state.proofs.Sizes.{sized_at, fits_at, sized_of}
 
 -- the fields that stand in bytes of which the first are a state's
-fields_there : (g : GameLists) (s : State) (bytes : List ℕ) → Valid g → Keeps g s → FitsFields s → take 1371 bytes ≡ state_bytes s → fields_at bytes ≡ fields_of s
+fields_there : (g : GameLists) (s : State) (bytes : List ℕ) → Valid g → Keeps g s → FitsFields s → take 3419 bytes ≡ state_bytes s → fields_at bytes ≡ fields_of s
 fields_there g s bytes v k h e =
-    let split : bytes ≡ state_bytes s ++ drop 1371 bytes =
-    sym (take-append-drop 1371 bytes) ∙ ap (λ (l : List ℕ). l ++ drop 1371 bytes) e in
-    ap fields_at split ∙ fields_cut (fields_of s) (drop 1371 bytes) (sized_of g s v k h)
+    let split : bytes ≡ state_bytes s ++ drop 3419 bytes =
+    sym (take-append-drop 3419 bytes) ∙ ap (λ (l : List ℕ). l ++ drop 3419 bytes) e in
+    ap fields_at split ∙ fields_cut (fields_of s) (drop 3419 bytes) (sized_of g s v k h)
 
 pub fit_has_none : (g : GameLists) (bytes : List ℕ) → Valid g → Fit g bytes → unfit g bytes ≡ None
 fit_has_none g bytes v h =
     ap (fields_fault g) (fields_there g h.state bytes v h.keeps h.fits h.are) ∙ none_of g (fields_of h.state) (sound_fields g h.state h.keeps)
 
 -- bytes without a fault are those of the state that their fields say
-pub bytes_are : (g : GameLists) (bytes : List ℕ) → Valid g → 1371 ≤ length bytes → AreBytes bytes → unfit g bytes ≡ None
-    → take 1371 bytes ≡ state_bytes (state_in g (fields_at bytes))
+pub bytes_are : (g : GameLists) (bytes : List ℕ) → Valid g → 3419 ≤ length bytes → AreBytes bytes → unfit g bytes ≡ None
+    → take 3419 bytes ≡ state_bytes (state_in g (fields_at bytes))
 bytes_are g bytes v n b h =
     sym (ap field_bytes (state_back g (fields_at bytes) v (sized_at bytes n b) (sound_of g (fields_at bytes) h)) ∙ fields_join bytes n b)
 
-pub state_kept : (g : GameLists) (bytes : List ℕ) → Valid g → 1371 ≤ length bytes → AreBytes bytes → unfit g bytes ≡ None → Keeps g (state_in g (fields_at bytes))
+pub state_kept : (g : GameLists) (bytes : List ℕ) → Valid g → 3419 ≤ length bytes → AreBytes bytes → unfit g bytes ≡ None → Keeps g (state_in g (fields_at bytes))
 state_kept g bytes v n b h = keeps_in g (fields_at bytes) v (sized_at bytes n b) (sound_of g (fields_at bytes) h)
 
-pub none_is_fit : (g : GameLists) (bytes : List ℕ) → Valid g → 1371 ≤ length bytes → AreBytes bytes → unfit g bytes ≡ None → Fit g bytes
+pub none_is_fit : (g : GameLists) (bytes : List ℕ) → Valid g → 3419 ≤ length bytes → AreBytes bytes → unfit g bytes ≡ None → Fit g bytes
 none_is_fit g bytes v n b h = record {
   state = state_in g (fields_at bytes);
   keeps = state_kept g bytes v n b h;
@@ -61,11 +62,15 @@ bytes_tell_the_state g s t v ks hs kt ht e =
 pub written_is_fit : WrittenIsFit
 written_is_fit g s rest v k h =
     let n = length-fields (fields_of s) (sized_of g s v k h) in
-    (n, record { state = s; keeps = k; fits = h; are = take_at (state_bytes s) rest 1371 n })
+    (n, record { state = s; keeps = k; fits = h; are = take_at (state_bytes s) rest 3419 n })
+
+pub long_state : (g : GameLists) (s : State) → Valid g → Keeps g s → FitsFields s → AreLong s
+long_state g s v k h =
+    let z = sized_of g s v k h in record { all = length-fields (fields_of s) z; kept = kept-length (fields_of s) z }
 
 -- ---- what is read ----
 
-pub is_read : (g : GameLists) (bytes : List ℕ) (r : Restored) → Valid g → 1371 ≤ length bytes → AreBytes bytes → unfit g bytes ≡ None
+pub is_read : (g : GameLists) (bytes : List ℕ) (r : Restored) → Valid g → 3419 ≤ length bytes → AreBytes bytes → unfit g bytes ≡ None
     → state_read r ≡ state_in g (fields_at bytes) → r.machine ≡ restored (kept r.machine) (waiting_at r.prompt) → StandsAt r.prompt r.machine → IsRead g bytes r
 is_read g bytes r v n b h e machine at = record {
   are = bytes_are g bytes v n b h ∙ ap state_bytes (sym e);

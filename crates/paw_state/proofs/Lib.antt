@@ -1,4 +1,6 @@
 pub mod Pieces
+pub mod Positions
+pub mod Absent
 pub mod Written
 pub mod Joined
 pub mod Cut

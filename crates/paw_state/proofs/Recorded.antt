@@ -4,7 +4,7 @@ use Rattle.std.proofs.lemmas.List.{length-reverse}
 use Rattle.paw_reading.specs.declared.places.OpenLoop.{OpenLoop}
 use Rattle.paw_process.specs.Kept.{unused}
 use Rattle.paw_state.specs.State.{State}
-use Rattle.paw_state.specs.Record.{last_of, StateOfParts}
+use Rattle.paw_state.specs.Record.{last_piece, StateOfParts}
 
 pub state_of_parts : StateOfParts
 state_of_parts lines at m r turning =
@@ -14,6 +14,6 @@ state_of_parts lines at m r turning =
       pending = record { bytes = r.pending; earlier = r.earlier };
       prompt = at;
       events = lines;
-      piece = length (last_of r.pieces);
+      piece = length (last_piece r.pieces);
     } in
     ap (λ (n : ℕ). kept_with n r.turning) (length-reverse m.frames) ∙ ap (kept_with (length m.frames)) turning

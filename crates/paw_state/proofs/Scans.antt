@@ -5,8 +5,9 @@ use Rattle.std.proofs.Math.Seq.{drop-cons, take-suc-set}
 use Rattle.std.proofs.lemmas.List.{drop-drop, drop_all, take_all}
 use Rattle.paw_game.specs.Game.{GameLists}
 use Rattle.paw_state.specs.declared.fields.Row.{Row}
+use Rattle.paw_state.specs.declared.held.Held.{Held}
 use Rattle.paw_state.specs.Fields.{row_at, rows_at}
-use Rattle.paw_state.specs.Faults.{rule, or_first, first_not, row_fault, rows_fault, called}
+use Rattle.paw_state.specs.Faults.{rule, or_first, first_not, held_fault, kept_fault, row_fault, rows_fault, called}
 
 -- ---- bytes ----
 
@@ -70,6 +71,28 @@ pub row_passes : (g : GameLists) (code : ℕ) (caller : Option ℕ) (n at : ℕ)
     → None ≡ row_fault g code caller n at r → rows_fault g code (called g r) (n - 1) (at + 5) rs ≡ rows_fault g code caller n at rows
 row_passes g code caller n at rows r rs e h =
     ap (λ (o : Option ℕ). or_first o (rows_fault g code (called g r) (n - 1) (at + 5) rs)) h ∙ first_row g code caller n at rows r rs e
+
+-- ---- kept positions ----
+
+pub kept_none : (g : GameLists) (at : ℕ) (kept : List Held) → length kept ≡ 0 → None ≡ kept_fault g at kept
+unfolding kept_fault
+kept_none g at [] h = refl
+kept_none g at (k ∷ ks) h = absurd (omega arith)
+
+first_kept : (g : GameLists) (at : ℕ) (kept : List Held) (k : Held) (ks : List Held) → kept ≡ k ∷ ks
+    → or_first (held_fault g at k) (kept_fault g (at + 512) ks) ≡ kept_fault g at kept
+unfolding kept_fault
+first_kept g at kept k ks e = rw e refl
+
+pub kept_stops : (g : GameLists) (at x : ℕ) (kept : List Held) (k : Held) (ks : List Held) → kept ≡ k ∷ ks → Some x ≡ held_fault g at k
+    → Some x ≡ kept_fault g at kept
+kept_stops g at x kept k ks e h = ap (λ (o : Option ℕ). or_first o (kept_fault g (at + 512) ks)) h ∙ first_kept g at kept k ks e
+
+pub kept_passes : (g : GameLists) (at : ℕ) (kept : List Held) (k : Held) (ks : List Held) → kept ≡ k ∷ ks → None ≡ held_fault g at k
+    → kept_fault g (at + 512) ks ≡ kept_fault g at kept
+kept_passes g at kept k ks e h = ap (λ (o : Option ℕ). or_first o (kept_fault g (at + 512) ks)) h ∙ first_kept g at kept k ks e
+
+-- ---- rows that are read ----
 
 pub rows_none : (bytes : List ℕ) → [] ≡ rows_at 0 bytes
 unfolding rows_at

@@ -1,8 +1,8 @@
 -- Arrays have their lengths, and numbers fit their fields.
-use Rattle.std.proofs.Common.{◌≡◌, ℕ, zero, suc, ◌+◌, ◌-◌, ◌<◌, ◌≤◌, ◌^◌, ◌==◌, ◌&&◌, Bool, true, false, List, [], ◌∷◌, Option, Some, None, length, map, drop, nat_lt, refl, ap, ◌∙◌, lit<, arith}
-use Rattle.std.specs.Prelude.{All, IfSome, slice_get, slice_index, slice_range, if◌then◌else◌}
-use Rattle.std.proofs.lemmas.List.{length-map}
-use Rattle.std.proofs.lemmas.List.Elements.{All-cons, All-take}
+use Rattle.std.proofs.Common.{◌≡◌, ℕ, zero, suc, ◌+◌, ◌-◌, ◌<◌, ◌≤◌, ◌^◌, ◌==◌, ◌&&◌, Bool, true, false, List, [], ◌∷◌, Option, Some, None, length, map, take, drop, get_or, nat_lt, refl, ap, ◌∙◌, lit<, arith}
+use Rattle.std.specs.Prelude.{All, slice_get, slice_index, slice_range, if◌then◌else◌}
+use Rattle.std.proofs.lemmas.List.{length-map, length-drop}
+use Rattle.std.proofs.lemmas.List.Elements.{All-cons, All-nil, All-take, All-map}
 use Rattle.std.proofs.lemmas.Bool.{eqb-true}
 use Rattle.paw_base.specs.declared.parts.Condact.{Condact}
 use Rattle.paw_game.specs.Game.{GameLists}
@@ -18,12 +18,13 @@ use Rattle.paw_process.specs.Kept.{may_open, has_code, parameter_of, condact_of,
 use Rattle.paw_process.specs.Kept.{rows_fault as machine_rows, loop_fault as machine_loop}
 use Rattle.paw_process.proofs.Restored.{first_of, second}
 use Rattle.paw_state.specs.declared.fields.Row.{Row}
-use Rattle.paw_state.specs.declared.fields.Fields.{Fields}
-use Rattle.paw_state.specs.State.{State, AreBytes, FitsFields, IsSavedIn, Keeps}
-use Rattle.paw_state.specs.Fields.{saved_flags, saved_places, row_of, loop_or_zeros, fields_of, two_at, eight_at, row_at, rows_at, fields_at}
-use Rattle.paw_state.specs.Parts.{position_in, saved_in, state_in}
+use Rattle.paw_state.specs.declared.held.Held.{Held}
+use Rattle.paw_state.specs.State.{State, AreBytes, HoldsBytes, FitsFields, Keeps}
+use Rattle.paw_state.specs.Fields.{held_of, row_of, loop_or_zeros, fields_of, two_at, eight_at, row_at, rows_at, held_at, fields_at}
+use Rattle.paw_state.specs.Parts.{held_in, state_in}
 use Rattle.paw_state.proofs.Pieces.{length_range, range_bytes, drop_bytes, each_byte}
-use Rattle.paw_state.proofs.Cut.{AreSized}
+use Rattle.paw_state.proofs.Positions.{IsHeldOf, saved_held, kept_held}
+use Rattle.paw_state.proofs.Cut.{IsSizedHeld, AreSized}
 use Rattle.paw_state.proofs.Found.{length-zeros, length-filled}
 use Rattle.paw_state.proofs.Keeping.{machine_sound}
 
@@ -50,12 +51,25 @@ entries_low zero bytes h = λ k d low. absurd (omega (arith, low))
 entries_low (suc n) bytes h =
     All-cons (λ (r : Row). r.entry < 2 ^ 16) (row_at bytes) (rows_at n (drop 5 bytes)) (two_low bytes 1 h) (entries_low n (drop 5 bytes) (drop_bytes 5 bytes h))
 
-pub sized_at : (bytes : List ℕ) → 1371 ≤ length bytes → AreBytes bytes → AreSized (fields_at bytes)
+held_sized : (bytes : List ℕ) (at : ℕ) → at + 512 ≤ length bytes → IsSizedHeld (held_at (drop at bytes))
+held_sized bytes at n = record {
+  flags = length_range (drop at bytes) 1 257 (omega arith) (omega (arith, length-drop at bytes));
+  places = length_range (drop at bytes) 257 512 (omega arith) (omega (arith, length-drop at bytes));
+}
+
+kept_sized : (bytes : List ℕ) → 3419 ≤ length bytes → All IsSizedHeld (fields_at bytes).kept
+kept_sized bytes n =
+    let held : ℕ → Held = λ at. held_at (drop at bytes) in
+    All-cons IsSizedHeld (held 1371) (held 1883 ∷ held 2395 ∷ held 2907 ∷ []) (held_sized bytes 1371 (omega arith))
+    (All-cons IsSizedHeld (held 1883) (held 2395 ∷ held 2907 ∷ []) (held_sized bytes 1883 (omega arith))
+    (All-cons IsSizedHeld (held 2395) (held 2907 ∷ []) (held_sized bytes 2395 (omega arith))
+    (All-cons IsSizedHeld (held 2907) [] (held_sized bytes 2907 (omega arith)) (All-nil IsSizedHeld))))
+
+pub sized_at : (bytes : List ℕ) → 3419 ≤ length bytes → AreBytes bytes → AreSized (fields_at bytes)
 sized_at bytes n h = record {
   flags = length_range bytes 0 256 (omega arith) (omega arith);
   places = length_range bytes 256 511 (omega arith) (omega arith);
-  saved_flags = length_range bytes 512 768 (omega arith) (omega arith);
-  saved_places = length_range bytes 768 1023 (omega arith) (omega arith);
+  saved = held_sized bytes 511 (omega arith);
   seed = eight_low bytes 1023 h;
   draws = eight_low bytes 1031 h;
   events = eight_low bytes 1039 h;
@@ -65,30 +79,37 @@ sized_at bytes n h = record {
   pending = each_byte bytes h 1113;
   line = length_range bytes 1114 1369 (omega arith) (omega arith);
   piece = two_low bytes 1369 h;
+  four = refl;
+  kept = kept_sized bytes n;
 }
 
 -- ---- the state that is read ----
 
-saved_flags_fit : (g : GameLists) (f : Fields) → AreBytes f.saved_flags → IfSome (saved_in g f) (λ q. AreBytes q.flags)
-saved_flags_fit g f h = go (f.saved == 0)
+held_fits : (n : ℕ) (h : Held) → AreBytes h.flags → AreBytes h.places → HoldsBytes (held_in n h)
+held_fits n h flags places = go (h.there == 0)
   where
-    go : (b : Bool) → IfSome (if b then None else Some (position_in g f.saved_flags f.saved_places)) (λ q. AreBytes q.flags)
+    go : (b : Bool) → HoldsBytes (if b then None else Some (record { flags = h.flags; places = take n h.places }))
     go true = tt
-    go false = h
+    go false = (flags, All-take (λ (b : ℕ). b < 256) n h.places places)
 
-saved_places_fit : (g : GameLists) (f : Fields) → AreBytes f.saved_places → IfSome (saved_in g f) (λ q. AreBytes q.places)
-saved_places_fit g f h = go (f.saved == 0)
-  where
-    go : (b : Bool) → IfSome (if b then None else Some (position_in g f.saved_flags f.saved_places)) (λ q. AreBytes q.places)
-    go true = tt
-    go false = All-take (λ (b : ℕ). b < 256) (length g.objects) f.saved_places h
+held_at_fits : (n at : ℕ) (bytes : List ℕ) → AreBytes bytes → HoldsBytes (held_in n (held_at (drop at bytes)))
+held_at_fits n at bytes h =
+    held_fits n (held_at (drop at bytes)) (range_bytes (drop at bytes) 1 257 (drop_bytes at bytes h)) (range_bytes (drop at bytes) 257 512 (drop_bytes at bytes h))
 
-pub fits_at : (g : GameLists) (bytes : List ℕ) → 1371 ≤ length bytes → AreBytes bytes → FitsFields (state_in g (fields_at bytes))
+kept_at_fits : (n : ℕ) (bytes : List ℕ) → AreBytes bytes → All HoldsBytes (map (held_in n) (fields_at bytes).kept)
+kept_at_fits n bytes h =
+    let held : ℕ → Option Position = λ at. held_in n (held_at (drop at bytes)) in
+    All-cons HoldsBytes (held 1371) (held 1883 ∷ held 2395 ∷ held 2907 ∷ []) (held_at_fits n 1371 bytes h)
+    (All-cons HoldsBytes (held 1883) (held 2395 ∷ held 2907 ∷ []) (held_at_fits n 1883 bytes h)
+    (All-cons HoldsBytes (held 2395) (held 2907 ∷ []) (held_at_fits n 2395 bytes h)
+    (All-cons HoldsBytes (held 2907) [] (held_at_fits n 2907 bytes h) (All-nil HoldsBytes))))
+
+pub fits_at : (g : GameLists) (bytes : List ℕ) → 3419 ≤ length bytes → AreBytes bytes → FitsFields (state_in g (fields_at bytes))
 fits_at g bytes n h = record {
   flags = range_bytes bytes 0 256 h;
   places = All-take (λ (b : ℕ). b < 256) (length g.objects) (slice_range bytes 256 511) (range_bytes bytes 256 511 h);
-  saved_flags = saved_flags_fit g (fields_at bytes) (range_bytes bytes 512 768 h);
-  saved_places = saved_places_fit g (fields_at bytes) (range_bytes bytes 768 1023 h);
+  saved = held_at_fits (length g.objects) 511 bytes h;
+  kept = kept_at_fits (length g.objects) bytes h;
   seed = eight_low bytes 1023 h;
   draws = eight_low bytes 1031 h;
   events = eight_low bytes 1039 h;
@@ -134,13 +155,12 @@ loop_fits g k (Some l) v h = go (loop_stands g k l) refl h
         coded g l.table l.entry l.at 86 (condact_at g l.table l.entry l.at) v refl (first_of (has_code 86 (condact_at g l.table l.entry l.at)) _ s2)
     go false e q = cc
 
-saved_flags_size : (g : GameLists) (o : Option Position) → IfSome o (IsSavedIn g) → length (saved_flags o) ≡ 256
-saved_flags_size g None h = length-zeros 256
-saved_flags_size g (Some q) h = h.flags
+held_size : (g : GameLists) (o : Option Position) → Valid g → IsHeldOf g o → IsSizedHeld (held_of o)
+held_size g None v h = record { flags = length-zeros 256; places = length-zeros 255 }
+held_size g (Some q) v h = record { flags = h.flags; places = length-filled q.places (omega (arith, h.each, few_objects g v)) }
 
-saved_places_size : (g : GameLists) (o : Option Position) → Valid g → IfSome o (IsSavedIn g) → length (saved_places o) ≡ 255
-saved_places_size g None v h = length-zeros 255
-saved_places_size g (Some q) v h = length-filled q.places (omega (arith, h.each, few_objects g v))
+kept_size : (g : GameLists) (kept : List (Option Position)) → Valid g → All (IsHeldOf g) kept → All IsSizedHeld (map held_of kept)
+kept_size g kept v h = All-map IsSizedHeld held_of kept (λ k d low. held_size g (get_or kept k d) v (h k d low))
 
 pub sized_of : (g : GameLists) (s : State) → Valid g → Keeps g s → FitsFields s → AreSized (fields_of s)
 sized_of g s v k h =
@@ -148,8 +168,7 @@ sized_of g s v k h =
     record {
       flags = k.world.flags;
       places = length-filled s.world.places (omega (arith, k.world.places, few_objects g v));
-      saved_flags = saved_flags_size g s.world.saved k.saved;
-      saved_places = saved_places_size g s.world.saved v k.saved;
+      saved = held_size g s.world.saved v (saved_held g s k);
       seed = h.seed;
       draws = h.draws;
       events = h.events;
@@ -159,4 +178,6 @@ sized_of g s v k h =
       pending = omega (arith, k.line);
       line = length-filled s.pending.bytes k.line;
       piece = h.piece;
+      four = length-map s.world.kept held_of ∙ k.sound.kept.four;
+      kept = kept_size g s.world.kept v (kept_held g s k);
     }

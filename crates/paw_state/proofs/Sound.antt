@@ -4,7 +4,7 @@ use Rattle.std.specs.Prelude.{if◌then◌else◌}
 use Rattle.paw_game.specs.Game.{GameLists}
 use Rattle.paw_process.specs.Kept.{waiting_code, count_fits}
 use Rattle.paw_state.specs.declared.fields.Fields.{Fields}
-use Rattle.paw_state.specs.Faults.{rule, or_first, first, first_not, is_zero, places_fault, saved_fault, numbers_fault, prompt_of, prompt_fault, frames_fault, no_loop_fault, loop_fault, turning_fault, pending_fault, fields_fault}
+use Rattle.paw_state.specs.Faults.{rule, or_first, first, first_not, is_zero, places_fault, held_fault, kept_fault, numbers_fault, prompt_of, prompt_fault, frames_fault, no_loop_fault, loop_fault, turning_fault, pending_fault, fields_fault}
 use Rattle.paw_state.proofs.Found.{rule_holds, no_rule, no_first, none_first}
 
 -- where no loop is open the loop's bytes are 0; else the loop keeps its rules
@@ -14,8 +14,7 @@ turning_rest g f = if f.looping == 0 then no_loop_fault f.turning else loop_faul
 -- each part keeps its rules
 pub record AreSound (g : GameLists) (f : Fields) : Type 0 where
   pub places : places_fault g 256 f.places ≡ None
-  pub is_saved : nat_le f.saved 1 ≡ true
-  pub saved : saved_fault g f ≡ None
+  pub saved : held_fault g 511 f.saved ≡ None
   pub events : nat_le f.events 1000000000 ≡ true
   pub draws : nat_le f.draws (200000 * (f.events + 1)) ≡ true
   pub prompt : nat_le f.prompt 4 ≡ true
@@ -25,6 +24,7 @@ pub record AreSound (g : GameLists) (f : Fields) : Type 0 where
   pub turning : turning_rest g f ≡ None
   pub pending : (is_some (waiting_code (prompt_of f.prompt)) || (f.pending == 0)) ≡ true
   pub line : first_not is_zero (1114 + f.pending) (drop f.pending f.line) ≡ None
+  pub kept : kept_fault g 1371 f.kept ≡ None
 
 pub two : (a b : Option ℕ) → first (a ∷ b ∷ []) ≡ None → (a ≡ None) × (b ≡ None)
 two a b h = let p = no_first a (or_first b None) h in (p.0, (no_first b None p.1).0)
@@ -56,31 +56,31 @@ eight_none a b c d e f g h ka kb kc kd ke kf kg kh =
 
 pub sound_of : (g : GameLists) (f : Fields) → fields_fault g f ≡ None → AreSound g f
 sound_of g f h =
-    let p = eight (places_fault g 256 f.places) (rule 511 (nat_le f.saved 1)) (saved_fault g f) (numbers_fault f) (prompt_fault f) (frames_fault g f)
-    (turning_fault g f) (pending_fault f) h in
-    let n = two (rule 1039 (nat_le f.events 1000000000)) (rule 1031 (nat_le f.draws (200000 * (f.events + 1)))) p.3 in
-    let q = two (rule 1047 (nat_le f.prompt 4)) (rule 1048 (count_fits (waiting_code (prompt_of f.prompt)) f.count)) p.4 in
-    let t = two (rule 1104 (nat_le f.looping (if f.count == 0 then 0 else 1))) (turning_rest g f) p.6 in
-    let l = two (rule 1113 (is_some (waiting_code (prompt_of f.prompt)) || (f.pending == 0))) (first_not is_zero (1114 + f.pending) (drop f.pending f.line)) p.7 in
+    let p = eight (places_fault g 256 f.places) (held_fault g 511 f.saved) (numbers_fault f) (prompt_fault f) (frames_fault g f) (turning_fault g f)
+    (pending_fault f) (kept_fault g 1371 f.kept) h in
+    let n = two (rule 1039 (nat_le f.events 1000000000)) (rule 1031 (nat_le f.draws (200000 * (f.events + 1)))) p.2 in
+    let q = two (rule 1047 (nat_le f.prompt 4)) (rule 1048 (count_fits (waiting_code (prompt_of f.prompt)) f.count)) p.3 in
+    let t = two (rule 1104 (nat_le f.looping (if f.count == 0 then 0 else 1))) (turning_rest g f) p.5 in
+    let l = two (rule 1113 (is_some (waiting_code (prompt_of f.prompt)) || (f.pending == 0))) (first_not is_zero (1114 + f.pending) (drop f.pending f.line)) p.6 in
     record {
       places = p.0;
-      is_saved = rule_holds 511 (nat_le f.saved 1) p.1;
-      saved = p.2;
+      saved = p.1;
       events = rule_holds 1039 (nat_le f.events 1000000000) n.0;
       draws = rule_holds 1031 (nat_le f.draws (200000 * (f.events + 1))) n.1;
       prompt = rule_holds 1047 (nat_le f.prompt 4) q.0;
       count = rule_holds 1048 (count_fits (waiting_code (prompt_of f.prompt)) f.count) q.1;
-      frames = p.5;
+      frames = p.4;
       looping = rule_holds 1104 (nat_le f.looping (if f.count == 0 then 0 else 1)) t.0;
       turning = t.1;
       pending = rule_holds 1113 (is_some (waiting_code (prompt_of f.prompt)) || (f.pending == 0)) l.0;
       line = l.1;
+      kept = p.7;
     }
 
 pub none_of : (g : GameLists) (f : Fields) → AreSound g f → fields_fault g f ≡ None
 none_of g f s =
-    eight_none (places_fault g 256 f.places) (rule 511 (nat_le f.saved 1)) (saved_fault g f) (numbers_fault f) (prompt_fault f) (frames_fault g f)
-    (turning_fault g f) (pending_fault f) s.places (no_rule 511 (nat_le f.saved 1) s.is_saved) s.saved
+    eight_none (places_fault g 256 f.places) (held_fault g 511 f.saved) (numbers_fault f) (prompt_fault f) (frames_fault g f) (turning_fault g f)
+    (pending_fault f) (kept_fault g 1371 f.kept) s.places s.saved
     (two_none (rule 1039 (nat_le f.events 1000000000)) (rule 1031 (nat_le f.draws (200000 * (f.events + 1))))
     (no_rule 1039 (nat_le f.events 1000000000) s.events) (no_rule 1031 (nat_le f.draws (200000 * (f.events + 1))) s.draws))
     (two_none (rule 1047 (nat_le f.prompt 4)) (rule 1048 (count_fits (waiting_code (prompt_of f.prompt)) f.count))
@@ -90,3 +90,4 @@ none_of g f s =
     (no_rule 1104 (nat_le f.looping (if f.count == 0 then 0 else 1)) s.looping) s.turning)
     (two_none (rule 1113 (is_some (waiting_code (prompt_of f.prompt)) || (f.pending == 0))) (first_not is_zero (1114 + f.pending) (drop f.pending f.line))
     (no_rule 1113 (is_some (waiting_code (prompt_of f.prompt)) || (f.pending == 0)) s.pending) s.line)
+    s.kept

@@ -77,8 +77,8 @@ mapped_all f xs ys i kx ky low h =
 
 -- ---- all fields ----
 
-pub all_written : (w0 w1 w2 w3 w4 last x y z t : List ℕ) → w0 ≡ [] → w1 ≡ w0 ++ x → w2 ≡ w1 ++ y → w3 ≡ w2 ++ z → w4 ≡ w3 ++ t → length w4 ≡ 1371
-    → last ≡ w4 ++ zeros (4096 - length w4) → last ≡ joined (x ∷ y ∷ z ∷ t ∷ []) ++ zeros 2725
-all_written w0 w1 w2 w3 w4 last x y z t e0 e1 e2 e3 e4 n e =
-    let all : w4 ≡ joined (x ∷ y ∷ z ∷ t ∷ []) = rw (e4, e3, e2, e1, e0) (simp (append_assoc, append-nil)) in
-    e ∙ (ap (λ (k : ℕ). w4 ++ zeros (4096 - k)) n ∙ ap (λ (l : List ℕ). l ++ zeros 2725) all)
+pub all_written : (w0 w1 w2 w3 w4 w5 last x y z t k : List ℕ) → w0 ≡ [] → w1 ≡ w0 ++ x → w2 ≡ w1 ++ y → w3 ≡ w2 ++ z → w4 ≡ w3 ++ t → w5 ≡ w4 ++ k
+    → length w5 ≡ 3419 → last ≡ w5 ++ zeros (4096 - length w5) → last ≡ joined (x ∷ y ∷ z ∷ t ∷ k ∷ []) ++ zeros 677
+all_written w0 w1 w2 w3 w4 w5 last x y z t k e0 e1 e2 e3 e4 e5 n e =
+    let all : w5 ≡ joined (x ∷ y ∷ z ∷ t ∷ k ∷ []) = rw (e5, e4, e3, e2, e1, e0) (simp (append_assoc, append-nil)) in
+    e ∙ (ap (λ (i : ℕ). w5 ++ zeros (4096 - i)) n ∙ ap (λ (l : List ℕ). l ++ zeros 677) all)

@@ -10,6 +10,7 @@ use Rattle.paw_process.specs.Kept.{waiting_code, may_open, has_code, parameter_o
 use Rattle.paw_state.specs.declared.StateFault.{StateFault}
 use Rattle.paw_state.specs.declared.fields.Row.{Row}
 use Rattle.paw_state.specs.declared.fields.Fields.{Fields}
+use Rattle.paw_state.specs.declared.held.Held.{Held}
 
 -- ---- rules and faults ----
 
@@ -48,11 +49,21 @@ places_fault g at places = first (
     ∷ first_not is_zero (at + length g.objects) (drop (length g.objects) places)
     ∷ [])
 
--- with nothing saved the bytes of the saved position are 0; else its places are as those now
-abbrev pub saved_fault : GameLists → Fields → Option ℕ
-saved_fault g f =
-    if f.saved == 0 then first (first_not is_zero 512 f.saved_flags ∷ first_not is_zero 768 f.saved_places ∷ [])
-    else places_fault g 768 f.saved_places
+-- the flags and the places of a position that isn't there are 0
+abbrev pub absent_fault : ℕ → Held → Option ℕ
+absent_fault at h = first (first_not is_zero (at + 1) h.flags ∷ first_not is_zero (at + 257) h.places ∷ [])
+
+-- a position is there or not, and the places of one that is are as those now
+abbrev pub held_fault : GameLists → ℕ → Held → Option ℕ
+held_fault g at h = first (
+    rule at (nat_le h.there 1)
+    ∷ (if h.there == 0 then absent_fault at h else places_fault g (at + 257) h.places)
+    ∷ [])
+
+-- positions of 512 bytes, one after the other from this place on
+unfoldable pub kept_fault : GameLists → ℕ → List Held → Option ℕ
+kept_fault g at [] = None
+kept_fault g at (h ∷ hs) = or_first (held_fault g at h) (kept_fault g (at + 512) hs)
 
 -- at most 1,000,000,000 lines were taken, and each piece drew at most 200,000 words
 abbrev pub numbers_fault : Fields → Option ℕ
@@ -155,11 +166,11 @@ pending_fault f = first (
 abbrev pub fields_fault : GameLists → Fields → Option ℕ
 fields_fault g f = first (
     places_fault g 256 f.places
-    ∷ rule 511 (nat_le f.saved 1)
-    ∷ saved_fault g f
+    ∷ held_fault g 511 f.saved
     ∷ numbers_fault f
     ∷ prompt_fault f
     ∷ frames_fault g f
     ∷ turning_fault g f
     ∷ pending_fault f
+    ∷ kept_fault g 1371 f.kept
     ∷ [])

@@ -9,6 +9,7 @@ use Rattle.paw_reading.specs.declared.places.Frame.{Frame}
 use Rattle.paw_reading.specs.declared.places.OpenLoop.{OpenLoop}
 use Rattle.paw_state.specs.declared.fields.Row.{Row}
 use Rattle.paw_state.specs.declared.fields.Fields.{Fields}
+use Rattle.paw_state.specs.declared.held.Held.{Held}
 use Rattle.paw_state.specs.State.{State}
 
 -- ---- from a state to its bytes ----
@@ -38,9 +39,13 @@ abbrev pub joined : List (List ℕ) → List ℕ
 joined [] = []
 joined (field ∷ fields) = field ++ joined fields
 
+-- a position that may be there, in 512 bytes: whether it is, its flags, and its places
+unfoldable pub held_bytes : Held → List ℕ
+held_bytes h = joined ((h.there ∷ []) ∷ h.flags ∷ h.places ∷ [])
+
 -- flags and places, now and in the saved position
 unfoldable pub world_bytes : Fields → List ℕ
-world_bytes f = joined (f.flags ∷ f.places ∷ (f.saved ∷ []) ∷ f.saved_flags ∷ f.saved_places ∷ [])
+world_bytes f = joined (f.flags ∷ f.places ∷ held_bytes f.saved ∷ [])
 
 -- the seed, how many words were drawn, and how many lines were taken
 unfoldable pub number_bytes : Fields → List ℕ
@@ -54,23 +59,23 @@ table_bytes f = joined ((f.prompt ∷ f.count ∷ []) ∷ flat_map row_bytes f.r
 unfoldable pub pending_bytes : Fields → List ℕ
 pending_bytes f = joined ((f.earlier ∷ f.pending ∷ []) ∷ f.line ∷ two_bytes f.piece ∷ [])
 
--- the 1,371 bytes of a state's fields
+-- the four kept positions
+unfoldable pub kept_bytes : Fields → List ℕ
+kept_bytes f = flat_map held_bytes f.kept
+
+-- the 3,419 bytes of a state's fields
 abbrev pub field_bytes : Fields → List ℕ
-field_bytes f = joined (world_bytes f ∷ number_bytes f ∷ table_bytes f ∷ pending_bytes f ∷ [])
+field_bytes f = joined (world_bytes f ∷ number_bytes f ∷ table_bytes f ∷ pending_bytes f ∷ kept_bytes f ∷ [])
 
 -- 1 for what is there, 0 for what isn't
 abbrev pub presence : {A : Type 0} → Option A → ℕ
 presence None = 0
 presence (Some x) = 1
 
--- the flags and the places of a saved position; all 0 where there is none
-abbrev pub saved_flags : Option Position → List ℕ
-saved_flags None = zeros 256
-saved_flags (Some q) = q.flags
-
-abbrev pub saved_places : Option Position → List ℕ
-saved_places None = zeros 255
-saved_places (Some q) = filled 255 q.places
+-- a position that is there, with its flags and places; all 0 where there is none
+abbrev pub held_of : Option Position → Held
+held_of None = record { there = 0; flags = zeros 256; places = zeros 255 }
+held_of (Some q) = record { there = 1; flags = q.flags; places = filled 255 q.places }
 
 abbrev pub prompt_code : Prompt → ℕ
 prompt_code prompt.Main = 0
@@ -91,9 +96,8 @@ abbrev pub fields_of : State → Fields
 fields_of s = record {
   flags = s.world.flags;
   places = filled 255 s.world.places;
-  saved = presence s.world.saved;
-  saved_flags = saved_flags s.world.saved;
-  saved_places = saved_places s.world.saved;
+  saved = held_of s.world.saved;
+  kept = map held_of s.world.kept;
   seed = s.world.seed;
   draws = s.world.draws;
   events = s.events;
@@ -124,6 +128,10 @@ eight_at bytes at = from_le_bytes w64 (slice_range bytes at (at + 8))
 abbrev pub row_at : List ℕ → Row
 row_at bytes = record { table = slice_index bytes 0; entry = two_at bytes 1; at = slice_index bytes 3; acted = slice_index bytes 4 }
 
+-- the position in the first 512 bytes
+abbrev pub held_at : List ℕ → Held
+held_at bytes = record { there = slice_index bytes 0; flags = slice_range bytes 1 257; places = slice_range bytes 257 512 }
+
 -- so many rows of five bytes
 unfoldable pub rows_at : ℕ → List ℕ → List Row
 rows_at zero bytes = []
@@ -134,9 +142,8 @@ abbrev pub fields_at : List ℕ → Fields
 fields_at bytes = record {
   flags = slice_range bytes 0 256;
   places = slice_range bytes 256 511;
-  saved = slice_index bytes 511;
-  saved_flags = slice_range bytes 512 768;
-  saved_places = slice_range bytes 768 1023;
+  saved = held_at (drop 511 bytes);
+  kept = held_at (drop 1371 bytes) ∷ held_at (drop 1883 bytes) ∷ held_at (drop 2395 bytes) ∷ held_at (drop 2907 bytes) ∷ [];
   seed = eight_at bytes 1023;
   draws = eight_at bytes 1031;
   events = eight_at bytes 1039;

@@ -8,14 +8,14 @@ use Rattle.paw_state.specs.Fit.{Fit, unfit}
 
 -- bytes have a fault exactly where they are not fit
 abbrev pub FitOrUnfit : Type 0
-FitOrUnfit = (g : GameLists) (bytes : List ℕ) → Valid g → 1371 ≤ length bytes → AreBytes bytes → (unfit g bytes ≡ None) ↔ Fit g bytes
+FitOrUnfit = (g : GameLists) (bytes : List ℕ) → Valid g → 3419 ≤ length bytes → AreBytes bytes → (unfit g bytes ≡ None) ↔ Fit g bytes
 
 -- two states of a game with the same bytes are the same
 abbrev pub BytesTellTheState : Type 0
 BytesTellTheState =
     (g : GameLists) (s t : State) → Valid g → Keeps g s → FitsFields s → Keeps g t → FitsFields t → state_bytes s ≡ state_bytes t → s ≡ t
 
--- a state has 1,371 bytes, which are fit for the game, whatever follows them
+-- a state has 3,419 bytes, which are fit for the game, whatever follows them
 abbrev pub WrittenIsFit : Type 0
 WrittenIsFit =
-    (g : GameLists) (s : State) (rest : List ℕ) → Valid g → Keeps g s → FitsFields s → (length (state_bytes s) ≡ 1371) × Fit g (state_bytes s ++ rest)
+    (g : GameLists) (s : State) (rest : List ℕ) → Valid g → Keeps g s → FitsFields s → (length (state_bytes s) ≡ 3419) × Fit g (state_bytes s ++ rest)

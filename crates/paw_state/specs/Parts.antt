@@ -1,5 +1,5 @@
 -- What the fields of a state say.
-use Rattle.std.specs.Prelude.{◌≡◌, ℕ, ◌==◌, List, Option, Some, None, length, map, take, if◌then◌else◌}
+use Rattle.std.specs.Prelude.{◌≡◌, ℕ, ◌==◌, Option, Some, None, length, map, take, if◌then◌else◌}
 use Rattle.paw_game.specs.Game.{GameLists}
 use Rattle.paw_world.specs.World.{World, Position}
 use Rattle.paw_phrase.specs.Pending.{PendingLine}
@@ -8,24 +8,23 @@ use Rattle.paw_reading.specs.declared.places.OpenLoop.{OpenLoop}
 use Rattle.paw_process.specs.declared.kept.Frames.{Frames}
 use Rattle.paw_state.specs.declared.fields.Row.{Row}
 use Rattle.paw_state.specs.declared.fields.Fields.{Fields}
+use Rattle.paw_state.specs.declared.held.Held.{Held}
 use Rattle.paw_state.specs.State.{State}
 use Rattle.paw_state.specs.Faults.{prompt_of}
 
--- a position: the flags, and the places of the game's objects
-abbrev pub position_in : GameLists → List ℕ → List ℕ → Position
-position_in g flags places = record { flags = flags; places = take (length g.objects) places }
+-- a position where it is there: the flags, and the places of so many objects
+abbrev pub held_in : ℕ → Held → Option Position
+held_in objects h = if h.there == 0 then None else Some (record { flags = h.flags; places = take objects h.places })
 
-abbrev pub saved_in : GameLists → Fields → Option Position
-saved_in g f = if f.saved == 0 then None else Some (position_in g f.saved_flags f.saved_places)
-
--- the world of the game with these flags, places, saved position and draws
+-- the world of the game with these flags, places, positions and draws
 abbrev pub world_in : GameLists → Fields → World
 world_in g f = record {
   facts = map (λ o. o.facts) g.objects;
   locations = length g.locations;
   flags = f.flags;
   places = take (length g.objects) f.places;
-  saved = saved_in g f;
+  saved = held_in (length g.objects) f.saved;
+  kept = map (held_in (length g.objects)) f.kept;
   seed = f.seed;
   draws = f.draws;
 }
@@ -53,11 +52,11 @@ state_in g f = record {
   piece = f.piece;
 }
 
--- the flags and the places of the fields' saved position are the world's, now and saved
-abbrev pub SetsSaved : Fields → World → World → Type 0
-SetsSaved f old new =
+-- the flags and the places of a position become those of the world, now and saved
+abbrev pub SetsSaved : Held → World → World → Type 0
+SetsSaved h old new =
     new ≡ record old {
-      flags = f.saved_flags;
-      places = take (length old.places) f.saved_places;
-      saved = Some (record { flags = f.saved_flags; places = take (length old.places) f.saved_places });
+      flags = h.flags;
+      places = take (length old.places) h.places;
+      saved = Some (record { flags = h.flags; places = take (length old.places) h.places });
     }

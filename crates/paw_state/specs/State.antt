@@ -1,10 +1,10 @@
 -- What a session keeps of a game that is played, and the rules that it keeps.
-use Rattle.std.specs.Prelude.{◌≡◌, ℕ, ◌+◌, ◌*◌, ◌^◌, ◌<◌, ◌≤◌, List, [], None, length, All, IfSome, IfNone}
+use Rattle.std.specs.Prelude.{◌≡◌, ℕ, ◌+◌, ◌*◌, ◌^◌, ◌<◌, ◌≤◌, List, [], Option, None, length, All, IfSome, IfNone}
 use Rattle.paw_game.specs.Game.{GameLists}
-use Rattle.paw_world.specs.World.{World, Position}
+use Rattle.paw_world.specs.World.{World, Position, IsWorld}
 use Rattle.paw_phrase.specs.Pending.{PendingLine}
 use Rattle.paw_effects.specs.declared.act.Prompt.{Prompt}
-use Rattle.paw_effects.specs.Built.{IsOf, ArePlacesOf}
+use Rattle.paw_effects.specs.Built.{IsOf, StandAtPlaces}
 use Rattle.paw_process.specs.OpenTables.{OpenTables}
 use Rattle.paw_process.specs.Kept.{kept, waiting_code, frames_fault}
 use Rattle.paw_process.specs.declared.kept.Frames.{Frames}
@@ -23,19 +23,14 @@ pub record State : Type 0 where
 abbrev pub state_of : World → OpenTables → PendingLine → Prompt → ℕ → ℕ → State
 state_of w m p at events piece = record { world = w; frames = kept m; pending = p; prompt = at; events = events; piece = piece }
 
--- a saved position of the game: 256 flags, and each object at a place
-pub record IsSavedIn (g : GameLists) (q : Position) : Type 0 where
-  pub flags : length q.flags ≡ 256
-  pub each : length q.places ≡ length g.objects
-  pub places : ArePlacesOf g q.places
-
--- The rules of a state: the world is the game's, with each object at a place, now and in the saved position; at most
--- 1,000,000,000 lines were taken, and each piece drew at most 200,000 random words; the open tables and the open loop are
--- such as a game waits in at the prompt, with room for eleven; at most 255 bytes are pending, and none where no table is open
+-- The rules of a state: the world is the game's, with each object at a place, now, in the saved position and in the kept
+-- ones; at most 1,000,000,000 lines were taken, and each piece drew at most 200,000 random words; the open tables and
+-- the open loop are such as a game waits in at the prompt, with room for eleven; at most 255 bytes are pending, and none
+-- where no table is open
 pub record Keeps (g : GameLists) (s : State) : Type 0 where
   pub world : IsOf g s.world
-  pub places : ArePlacesOf g s.world.places
-  pub saved : IfSome s.world.saved (IsSavedIn g)
+  pub sound : IsWorld s.world
+  pub places : StandAtPlaces g s.world
   pub events : s.events ≤ 1000000000
   pub draws : s.world.draws ≤ 200000 * (s.events + 1)
   pub rows : length s.frames.rows ≡ 11
@@ -47,12 +42,16 @@ pub record Keeps (g : GameLists) (s : State) : Type 0 where
 abbrev pub AreBytes : List ℕ → Type 0
 AreBytes bytes = All (λ b. b < 256) bytes
 
+-- the flags and the places of a position, where there is one, are bytes
+abbrev pub HoldsBytes : Option Position → Type 0
+HoldsBytes o = IfSome o (λ q. AreBytes q.flags × AreBytes q.places)
+
 -- the numbers of a state fit the fields that they are written to: bytes, and numbers of two and eight bytes
 pub record FitsFields (s : State) : Type 0 where
   pub flags : AreBytes s.world.flags
   pub places : AreBytes s.world.places
-  pub saved_flags : IfSome s.world.saved (λ q. AreBytes q.flags)
-  pub saved_places : IfSome s.world.saved (λ q. AreBytes q.places)
+  pub saved : HoldsBytes s.world.saved
+  pub kept : All HoldsBytes s.world.kept
   pub seed : s.world.seed < 2 ^ 64
   pub draws : s.world.draws < 2 ^ 64
   pub events : s.events < 2 ^ 64

@@ -3,14 +3,15 @@
 ghost use Rattle.std.specs.Prelude.{◌≡◌, ◌+◌, ◌<◌, ◌≤◌, ◌^◌, ◌*◌, length, slice_get};
 ghost use Rattle.paw_game.specs.Valid.{Valid, is_place};
 ghost use Rattle.paw_process.specs.Kept.{is_table};
-ghost use Rattle.paw_state.specs.Faults.{fault_of, rule, first_not, is_zero, places_fault, saved_fault, numbers_fault, prompt_of, prompt_fault, unused_fault, used_fault, row_fault, rows_fault, no_loop_fault, row_table, loop_fault, turning_fault, frames_fault, pending_fault, fields_fault};
+ghost use Rattle.paw_state.specs.Faults.{fault_of, rule, first_not, is_zero, places_fault, absent_fault, held_fault, kept_fault, numbers_fault, prompt_of, prompt_fault, unused_fault, used_fault, row_fault, rows_fault, no_loop_fault, row_table, loop_fault, turning_fault, frames_fault, pending_fault, fields_fault};
 
 use crate::StateFault;
 use crate::fields::{Fields, Row};
+use crate::held::Held;
 use crate::layout::{
-    COUNT, DRAWS, EVENTS, LINE, LOOP_AT, LOOP_ENTRY, LOOP_LAST, LOOP_LEVEL, LOOP_PLACE, LOOP_TABLE,
-    LOOPING, PENDING, PLACES, PROMPT, ROW_ACTED, ROW_AT, ROW_ENTRY, ROW_LENGTH, ROWS, SAVED,
-    SAVED_FLAGS, SAVED_PLACES,
+    COUNT, DRAWS, EVENTS, HELD_FLAGS, HELD_LENGTH, HELD_PLACES, KEPT, LINE, LOOP_AT, LOOP_ENTRY,
+    LOOP_LAST, LOOP_LEVEL, LOOP_PLACE, LOOP_TABLE, LOOPING, PENDING, PLACES, PROMPT, ROW_ACTED,
+    ROW_AT, ROW_ENTRY, ROW_LENGTH, ROWS, SAVED,
 };
 use paw_effects::act::Prompt;
 use paw_game::tables::Tables;
@@ -74,16 +75,38 @@ fn check_places<T: Tables>(tables: &T, at: usize, places: &[u8; 255]) -> Result<
     all_zero(at + objects, &places[objects..])
 }
 
-/// The saved position.
-fn check_saved<T: Tables>(tables: &T, fields: &Fields) -> Result<(), StateFault>
-    ensures value { fault_of result ≡ saved_fault (T.game tables.now) fields.now }
+/// The flags and the places of a position that isn't there.
+fn check_absent(at: usize, held: &Held) -> Result<(), StateFault>
+    requires near { at + 512 ≤ 4096 }
+    ensures value { fault_of result ≡ absent_fault at held.now }
 {
-    if fields.saved == 0 {
-        all_zero(SAVED_FLAGS, &fields.saved_flags)?;
-        all_zero(SAVED_PLACES, &fields.saved_places)
+    all_zero(at + HELD_FLAGS, &held.flags)?;
+    all_zero(at + HELD_PLACES, &held.places)
+}
+
+/// A position that may be there.
+fn check_held<T: Tables>(tables: &T, at: usize, held: &Held) -> Result<(), StateFault>
+    requires near { at + 512 ≤ 4096 }
+    ensures value { fault_of result ≡ held_fault (T.game tables.now) at held.now }
+{
+    rule(at, held.there <= 1)?;
+    if held.there == 0 {
+        check_absent(at, held)
     } else {
-        check_places(tables, SAVED_PLACES, &fields.saved_places)
+        check_places(tables, at + HELD_PLACES, &held.places)
     }
+}
+
+/// These positions, the first of which stands at this place.
+fn check_kept<T: Tables>(tables: &T, at: usize, kept: &[Held]) -> Result<(), StateFault>
+    requires near { at + 512 * length kept.now ≤ 4096 }
+    ensures value { fault_of result ≡ kept_fault (T.game tables.now) at kept.now }
+{
+    let Some((held, rest)) = kept.split_first() else {
+        return Ok(());
+    };
+    check_held(tables, at, held)?;
+    check_kept(tables, at + HELD_LENGTH, rest)
 }
 
 /// The numbers of lines and of draws.
@@ -266,11 +289,11 @@ pub(crate) fn check<T: Tables>(tables: &T, fields: &Fields) -> Result<(), StateF
     ensures valid { Valid (T.game tables.now) }
 {
     check_places(tables, PLACES, &fields.places)?;
-    rule(SAVED, fields.saved <= 1)?;
-    check_saved(tables, fields)?;
+    check_held(tables, SAVED, &fields.saved)?;
     check_numbers(fields)?;
     check_prompt(fields)?;
     check_frames(tables, fields)?;
     check_turning(tables, fields)?;
-    check_pending(fields)
+    check_pending(fields)?;
+    check_kept(tables, KEPT, &fields.kept)
 }

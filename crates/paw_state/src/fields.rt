@@ -2,12 +2,14 @@
 
 ghost use Rattle.std.specs.Prelude.{◌≡◌, ◌+◌, ◌≤◌, ◌++◌, length, drop, flat_map, slice_range};
 ghost use Rattle.paw_state.specs.State.{AreBytes};
-ghost use Rattle.paw_state.specs.Fields.{zeros, two_at, eight_at, row_at, rows_at, row_bytes, loop_bytes, fields_at, world_bytes, number_bytes, table_bytes, pending_bytes, field_bytes};
+ghost use Rattle.paw_state.specs.Fields.{zeros, two_at, eight_at, held_at, row_at, rows_at, held_bytes, row_bytes, loop_bytes, fields_at, world_bytes, number_bytes, table_bytes, pending_bytes, kept_bytes, field_bytes};
 
+use crate::held::Held;
 use crate::layout::{
-    COUNT, DRAWS, EARLIER, EVENTS, FLAGS, LINE, LOOP_AT, LOOP_ENTRY, LOOP_LAST, LOOP_LEVEL,
-    LOOP_PLACE, LOOP_TABLE, LOOPING, PENDING, PIECE, PLACES, PROMPT, ROW_ACTED, ROW_AT, ROW_ENTRY,
-    ROW_LENGTH, ROWS, SAVED, SAVED_FLAGS, SAVED_PLACES, SEED, STATE_ROOM,
+    COUNT, DRAWS, EARLIER, EVENTS, FLAGS, HELD_FLAGS, HELD_LENGTH, HELD_PLACES, KEPT, LINE,
+    LOOP_AT, LOOP_ENTRY, LOOP_LAST, LOOP_LEVEL, LOOP_PLACE, LOOP_TABLE, LOOPING, MOST_KEPT,
+    PENDING, PIECE, PLACES, PROMPT, ROW_ACTED, ROW_AT, ROW_ENTRY, ROW_LENGTH, ROWS, SAVED, SEED,
+    STATE_ROOM,
 };
 use crate::writer::Writer;
 use paw_process::MOST_FRAMES;
@@ -37,9 +39,7 @@ impl Row {
 pub(crate) struct Fields {
     pub(crate) flags: [u8; 256],
     pub(crate) places: [u8; 255],
-    pub(crate) saved: u8,
-    pub(crate) saved_flags: [u8; 256],
-    pub(crate) saved_places: [u8; 255],
+    pub(crate) saved: Held,
     pub(crate) seed: u64,
     pub(crate) draws: u64,
     pub(crate) events: u64,
@@ -52,6 +52,7 @@ pub(crate) struct Fields {
     pub(crate) pending: u8,
     pub(crate) line: [u8; 255],
     pub(crate) piece: u16,
+    pub(crate) kept: [Held; MOST_KEPT],
 }
 
 /// The N bytes from a place on.
@@ -78,6 +79,30 @@ fn eight_at(bytes: &[u8; STATE_ROOM], at: usize) -> u64
     ensures value { result ≡ eight_at bytes.now at }
 {
     u64::from_le_bytes(array_at(bytes, at))
+}
+
+/// The position at a place.
+fn held_at(bytes: &[u8; STATE_ROOM], at: usize) -> Held
+    requires inside { at + 512 ≤ 4096 }
+    ensures value { result ≡ held_at (drop at bytes.now) }
+{
+    Held {
+        there: bytes[at],
+        flags: array_at(bytes, at + HELD_FLAGS),
+        places: array_at(bytes, at + HELD_PLACES),
+    }
+}
+
+/// The kept positions.
+fn kept_at(bytes: &[u8; STATE_ROOM]) -> [Held; MOST_KEPT]
+    ensures value { result ≡ (fields_at bytes.now).kept }
+{
+    [
+        held_at(bytes, KEPT),
+        held_at(bytes, KEPT + HELD_LENGTH),
+        held_at(bytes, KEPT + 2 * HELD_LENGTH),
+        held_at(bytes, KEPT + 3 * HELD_LENGTH),
+    ]
 }
 
 /// The row at a place.
@@ -123,14 +148,12 @@ impl Fields {
     pub(crate) fn at(bytes: &[u8; STATE_ROOM]) -> Fields
         ensures value { result ≡ fields_at bytes.now }
         ensures bytes { AreBytes bytes.now }
-        ensures room { 1371 ≤ length bytes.now }
+        ensures room { 3419 ≤ length bytes.now }
     {
         Fields {
             flags: array_at(bytes, FLAGS),
             places: array_at(bytes, PLACES),
-            saved: bytes[SAVED],
-            saved_flags: array_at(bytes, SAVED_FLAGS),
-            saved_places: array_at(bytes, SAVED_PLACES),
+            saved: held_at(bytes, SAVED),
             seed: eight_at(bytes, SEED),
             draws: eight_at(bytes, DRAWS),
             events: eight_at(bytes, EVENTS),
@@ -143,12 +166,14 @@ impl Fields {
             pending: bytes[PENDING],
             line: array_at(bytes, LINE),
             piece: two_at(bytes, PIECE),
+            kept: kept_at(bytes),
         }
     }
 
     /// The bytes of these fields, and zeros behind them.
     pub(crate) fn bytes(&self) -> [u8; STATE_ROOM]
-        ensures value { result ≡ field_bytes self.now ++ zeros 2725 }
+        ensures value { result ≡ field_bytes self.now ++ zeros 677 }
+        ensures kept { length (kept_bytes self.now) ≡ 2048 }
         ensures room { length result ≡ 4096 }
     {
         let mut writer = Writer::new();
@@ -156,6 +181,7 @@ impl Fields {
         self.put_numbers(&mut writer);
         self.put_tables(&mut writer);
         self.put_pending(&mut writer);
+        self.put_kept(&mut writer);
         writer.finish()
     }
 
@@ -168,9 +194,7 @@ impl Fields {
     {
         writer.put(&self.flags);
         writer.put(&self.places);
-        writer.put(&[self.saved]);
-        writer.put(&self.saved_flags);
-        writer.put(&self.saved_places);
+        self.saved.put(writer);
     }
 
     /// The seed, the draws and the lines.
@@ -232,5 +256,17 @@ impl Fields {
         writer.put(&[self.earlier, self.pending]);
         writer.put(&self.line);
         writer.put(&self.piece.to_le_bytes());
+    }
+
+    /// The kept positions.
+    #[tactic(auto, unfolding(crate::specs::Fields::kept_bytes))]
+    fn put_kept(&self, writer: &mut Writer)
+        requires room { length writer.old + 2048 ≤ 4096 }
+        ensures puts { writer.new ≡ writer.old ++ kept_bytes self.now }
+        ensures length { length writer.new ≡ length writer.old + 2048 }
+    {
+        for held in &self.kept {
+            held.put(writer);
+        }
     }
 }

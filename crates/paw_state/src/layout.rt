@@ -1,7 +1,7 @@
 // Where the fields of a state stand, from its first byte on.
 
 /// The bytes of a state.
-pub const STATE_LENGTH: usize = 1371;
+pub const STATE_LENGTH: usize = 3419;
 
 /// The room in which a state is kept. The bytes behind the state are 0.
 pub const STATE_ROOM: usize = 4096;
@@ -12,14 +12,17 @@ pub const FLAGS: usize = 0;
 /// 255 places of objects.
 pub const PLACES: usize = 256;
 
-/// Whether there is a saved position: 0 or 1.
+/// The saved position: 512 bytes, as for each kept one.
 pub const SAVED: usize = 511;
 
-/// Its 256 flags.
-pub const SAVED_FLAGS: usize = 512;
+/// From the start of such a position, whose first byte tells whether it is there (0 or 1), to its 256 flags.
+pub const HELD_FLAGS: usize = 1;
 
-/// Its 255 places.
-pub const SAVED_PLACES: usize = 768;
+/// From its start to its 255 places.
+pub const HELD_PLACES: usize = 257;
+
+/// The bytes of such a position.
+pub const HELD_LENGTH: usize = 512;
 
 /// The seed of the random words: eight bytes, as for the next two.
 pub const SEED: usize = 1023;
@@ -76,3 +79,9 @@ pub const LINE: usize = 1114;
 
 /// How many bytes the last piece has: two bytes.
 pub const PIECE: usize = 1369;
+
+/// The kept positions, one after the other.
+pub const KEPT: usize = 1371;
+
+/// How many there are.
+pub const MOST_KEPT: usize = 4;

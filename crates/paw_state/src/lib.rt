@@ -5,6 +5,7 @@ ghost use Rattle.std.specs.Prelude.{◌≡◌};
 
 mod checks;
 mod fields;
+mod held;
 pub mod laws;
 mod layout;
 mod read;
@@ -33,7 +34,7 @@ pub struct Restored {
     pub piece: u16,
 }
 
-/// The place in a state's bytes of the first field that breaks its rule: 0 to 1,370. A field of several bytes is named
+/// The place in a state's bytes of the first field that breaks its rule: 0 to 3,418. A field of several bytes is named
 /// at its first byte; each byte of an array is a field of its own.
 #[derive(Clone, Copy, Drop, PartialEq, Eq, Debug)]
 pub struct StateFault {

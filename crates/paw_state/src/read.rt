@@ -1,14 +1,16 @@
 // From the bytes of a state to the parts of a game.
 
-ghost use Rattle.std.specs.Prelude.{◌+◌, ◌*◌, slice_index, ◌≡◌, ◌≢◌, ◌≤◌, ◌↔◌, None, length, map, IsOk, IfOk, IfErr};
+ghost use Rattle.std.specs.Prelude.{◌+◌, ◌*◌, slice_index, ◌≡◌, ◌≢◌, ◌<◌, ◌≤◌, ◌++◌, ◌↔◌, None, length, map, replicate, slice_set, IsOk, IfOk, IfErr};
 ghost use Rattle.paw_process.specs.Kept.{kept, restored, waiting_at, frames_fault, StandsAt};
 ghost use Rattle.paw_state.specs.Faults.{fields_fault};
-ghost use Rattle.paw_state.specs.Parts.{SetsSaved, world_in, frame_in, frames_in, state_in};
+ghost use Rattle.paw_world.specs.World.{kept_position};
+ghost use Rattle.paw_state.specs.Parts.{SetsSaved, held_in, world_in, frame_in, frames_in, state_in};
 ghost use Rattle.paw_state.specs.Fit.{Fit, unfit, state_read, IsRead};
 
 use crate::checks::{check, prompt_of};
 use crate::fields::{Fields, Row};
-use crate::layout::STATE_ROOM;
+use crate::held::Held;
+use crate::layout::{MOST_KEPT, STATE_ROOM};
 use crate::{Restored, StateFault};
 use paw_effects::act::Prompt;
 use paw_effects::opening::opening_world;
@@ -18,7 +20,7 @@ use paw_process::{Frames, MOST_FRAMES, Machine};
 use paw_reading::places::Frame;
 use paw_world::world::World;
 
-/// What a state's bytes are of: the parts with which a player of this game goes on. The bytes from 1,371 on aren't read.
+/// What a state's bytes are of: the parts with which a player of this game goes on. The bytes from 3,419 on aren't read.
 /// Takes no memory.
 ///
 /// # Errors
@@ -34,18 +36,41 @@ pub fn read_state<T: Tables>(tables: &T, bytes: &[u8; STATE_ROOM]) -> Result<Res
     Ok(restored(tables, &fields))
 }
 
-/// The saved position, where there is one, becomes that of the fields.
-fn put_saved(world: &mut World, fields: &Fields)
+/// The saved position, where it is there, becomes this one.
+fn put_saved(world: &mut World, held: &Held)
     requires few { length world.old.places ≤ 255 }
-    ensures none { fields.now.saved ≡ 0 → world.new ≡ world.old }
-    ensures saved { fields.now.saved ≢ 0 → SetsSaved fields.now world.old world.new }
+    ensures none { held.now.there ≡ 0 → world.new ≡ world.old }
+    ensures saved { held.now.there ≢ 0 → SetsSaved held.now world.old world.new }
 {
-    if fields.saved == 0 {
+    if held.there == 0 {
         return;
     }
     let objects = world.objects() as usize;
-    world.set_position(&fields.saved_flags, &fields.saved_places[..objects]);
+    world.set_position(&held.flags, &held.places[..objects]);
     world.ramsave();
+}
+
+/// The kept position of this number, which wasn't kept before, becomes this one.
+fn put_kept(world: &mut World, n: u8, held: &Held)
+    requires few { n < 4 }
+    requires none { kept_position world.old n ≡ None }
+    ensures value { world.new ≡ record world.old { kept = slice_set world.old.kept n (held_in (length world.old.places) held.now) } }
+{
+    if held.there == 0 {
+        return;
+    }
+    let objects = world.objects() as usize;
+    world.set_kept(n, &held.flags, &held.places[..objects]);
+}
+
+/// The kept positions, none of which was kept before, become these.
+fn put_all_kept(world: &mut World, kept: &[Held; MOST_KEPT])
+    requires none { world.old.kept ≡ replicate 4 None }
+    ensures value { world.new ≡ record world.old { kept = map (held_in (length world.old.places)) kept.now } }
+{
+    for n in 0..MOST_KEPT {
+        put_kept(world, n as u8, &kept[n]);
+    }
 }
 
 /// The world of a game that these fields say.
@@ -54,7 +79,8 @@ fn world_in<T: Tables>(tables: &T, fields: &Fields) -> World
 {
     let mut world = opening_world(tables, fields.seed);
     let objects = world.objects() as usize;
-    put_saved(&mut world, fields);
+    put_saved(&mut world, &fields.saved);
+    put_all_kept(&mut world, &fields.kept);
     world.set_position(&fields.flags, &fields.places[..objects]);
     world.skip(fields.draws);
     world

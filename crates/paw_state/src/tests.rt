@@ -201,10 +201,11 @@ fn written(read: &Restored) -> [u8; STATE_ROOM] {
 }
 
 /// A byte that is changed in the state at the start, and the place that is named then.
-const NAMED: [(usize, u8, u64); 28] = [
+const NAMED: [(usize, u8, u64); 36] = [
     (256, 2, 256),
     (257, 255, 257),
     (258, 1, 258),
+    (262, 1, 262),
     (510, 252, 510),
     (511, 2, 511),
     (512, 1, 512),
@@ -230,6 +231,13 @@ const NAMED: [(usize, u8, u64); 28] = [
     (1113, 1, 1113),
     (1114, 65, 1114),
     (1368, 65, 1368),
+    (1371, 2, 1371),
+    (1372, 1, 1372),
+    (1628, 1, 1628),
+    (1882, 252, 1882),
+    (2395, 255, 2395),
+    (2907, 2, 2907),
+    (3418, 1, 3418),
 ];
 
 /// The same of the state that waits.
@@ -261,14 +269,30 @@ const NAMED_WAITING: [(usize, u8, u64); 25] = [
     (1113, 0, 1114),
 ];
 
-/// Bytes that may be anything: a flag, the seed, the earlier verb, the length of the piece, and what isn't read.
-const FREE: [(usize, u8); 6] = [
+/// The same of the state at the start with the second position kept, whose bytes are 0 but for the first.
+const NAMED_KEPT: [(usize, u8, Option<u64>); 9] = [
+    (1883, 2, Some(1883)),
+    (1884, 255, None),
+    (2140, 1, None),
+    (2140, 2, Some(2140)),
+    (2141, 255, Some(2141)),
+    (2141, 254, None),
+    (2142, 1, Some(2142)),
+    (2394, 252, Some(2394)),
+    (1114, 65, Some(1114)),
+];
+
+/// Bytes that may be anything: a flag, the seed, the earlier verb, the length of the piece, whether a position is kept,
+/// and what isn't read.
+const FREE: [(usize, u8); 8] = [
     (0, 255),
     (255, 1),
     (1030, 255),
     (1112, 255),
     (1370, 255),
-    (1371, 2),
+    (1371, 1),
+    (2907, 1),
+    (3419, 2),
 ];
 
 /// A number of eight bytes at a place of the state at the start, and the place that is named then.
@@ -316,6 +340,21 @@ fn the_first_broken_rule_is_named(rt: HostRuntime) -> Result<(), Fail> {
         let changed = with_byte(&rt, &bytes, *at, *byte);
         assert_eq!(rt; fault(&game, &changed), None, "{at}");
     }
+    Ok(())
+}
+
+#[test]
+fn a_kept_position_names_its_bytes_after_all_others(rt: HostRuntime) -> Result<(), Fail> {
+    let game = small_game(rt.alloc())?;
+    let bytes = with_byte(&rt, &opened(&game), 1883, 1);
+    assert_eq!(rt; fault(&game, &bytes), None);
+    for (at, byte, named) in &NAMED_KEPT {
+        let changed = with_byte(&rt, &bytes, *at, *byte);
+        assert_eq!(rt; fault(&game, &changed), *named, "{at} {byte}");
+    }
+    let late = with_byte(&rt, &bytes, 2142, 1);
+    assert_eq!(rt; fault(&game, &with_byte(&rt, &late, 1372, 1)), Some(1372));
+    assert_eq!(rt; fault(&game, &with_byte(&rt, &late, 1114, 65)), Some(1114));
     Ok(())
 }
 
@@ -394,5 +433,45 @@ fn a_saved_position_and_draws_come_back(rt: HostRuntime) -> Result<(), Fail> {
     let (saved_flags, saved_places) = read.world.saved_position().expect(&rt, "a saved position");
     assert_eq!(rt; saved_flags[100], 9);
     assert_eq!(rt; saved_places, [1, CARRIED].as_slice());
+    Ok(())
+}
+
+#[test]
+fn kept_positions_come_back(rt: HostRuntime) -> Result<(), Fail> {
+    let game = small_game(rt.alloc())?;
+    let mut world = opening_world(&game, 7);
+    let flags = *world.flags();
+    world.set_flag(58, 3);
+    world.keep(3);
+    assert_eq!(rt; world.objects(), 2);
+    world.set_position(&flags, &[252, 253]);
+    world.set_flag(200, 5);
+    world.keep(1);
+    world.restart();
+    let mut bytes = [0; STATE_ROOM];
+    write_state(
+        &world,
+        &Machine::new(),
+        &Pending::new(),
+        Prompt::Main,
+        4,
+        9,
+        &mut bytes,
+    );
+    assert_eq!(rt;
+        [bytes[1371], bytes[1883], bytes[2395], bytes[2907]],
+        [0, 1, 0, 1]
+    );
+    assert_eq!(rt;
+        [bytes[1883 + 1 + 200], bytes[1883 + 257], bytes[1883 + 258]],
+        [5, 252, 253]
+    );
+    assert_eq!(rt; [bytes[2907 + 1 + 58], bytes[2907 + 257 + 1]], [3, CARRIED]);
+    let read = read_state(&game, &bytes)?;
+    assert_eq!(rt; written(&read), bytes);
+    assert!(rt; !read.world.kept(0) && !read.world.kept(2));
+    let (kept_flags, kept_places) = read.world.kept_position(1).expect(&rt, "a kept position");
+    assert_eq!(rt; kept_flags[200], 5);
+    assert_eq!(rt; kept_places, [252, 253].as_slice());
     Ok(())
 }

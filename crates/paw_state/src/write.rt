@@ -1,12 +1,13 @@
 // From a game that is played to the bytes of its state.
 
-ghost use Rattle.std.specs.Prelude.{◌+◌, ◌*◌, slice_index, ◌≡◌, ◌≤◌, ◌++◌, length, map, IfSome};
-ghost use Rattle.paw_world.specs.World.{IsWorld};
-ghost use Rattle.paw_state.specs.State.{state_of, AreBytes, FitsFields};
-ghost use Rattle.paw_state.specs.Fields.{zeros, filled, presence, saved_flags, saved_places, prompt_code, row_of, loop_or_zeros, fields_of, state_bytes};
+ghost use Rattle.std.specs.Prelude.{◌+◌, ◌*◌, slice_index, ◌≡◌, ◌≤◌, ◌<◌, ◌++◌, length, map, All, IfSome, MatchOption, Some, None};
+ghost use Rattle.paw_world.specs.World.{kept_position, IsWorld};
+ghost use Rattle.paw_state.specs.State.{state_of, AreBytes, HoldsBytes, FitsFields};
+ghost use Rattle.paw_state.specs.Fields.{zeros, filled, held_of, prompt_code, row_of, loop_or_zeros, fields_of, state_bytes};
 
 use crate::fields::{Fields, Row};
-use crate::layout::STATE_ROOM;
+use crate::held::Held;
+use crate::layout::{MOST_KEPT, STATE_ROOM};
 use paw_effects::act::Prompt;
 use paw_phrase::Pending;
 use paw_process::{Frames, MOST_FRAMES, Machine};
@@ -24,9 +25,9 @@ pub fn write_state(
     piece: u16,
     into: &mut [u8; STATE_ROOM],
 )
-    ensures value { into.new ≡ state_bytes (state_of world.now machine.now pending.now prompt events piece) ++ zeros 2725 }
+    ensures value { into.new ≡ state_bytes (state_of world.now machine.now pending.now prompt events piece) ++ zeros 677 }
     ensures fits { FitsFields (state_of world.now machine.now pending.now prompt events piece) }
-    ensures length { length (state_bytes (state_of world.now machine.now pending.now prompt events piece)) ≡ 1371 }
+    ensures length { length (state_bytes (state_of world.now machine.now pending.now prompt events piece)) ≡ 3419 }
     ensures piece { slice_index into.new 1369 + 256 * slice_index into.new 1370 ≡ piece }
 {
     // A world has at most 255 objects.
@@ -111,18 +112,56 @@ fn loop_or_zeros(turning: Option<OpenLoop>) -> OpenLoop
     }
 }
 
-/// The flags and the places of the saved position, or zeros where there is none.
-fn saved_of(world: &World) -> ([u8; 256], [u8; 255])
+/// A position that is there, with these flags and places.
+fn held(flags: &[u8; 256], places: &[u8]) -> Held
+    requires few { length places.now ≤ 255 }
+    ensures value { result ≡ held_of (Some (record { flags = flags.now; places = places.now })) }
+    ensures bytes { HoldsBytes (Some (record { flags = flags.now; places = places.now })) }
+{
+    Held {
+        there: 1,
+        flags: copied(flags),
+        places: filled(places),
+    }
+}
+
+/// The saved position, where there is one.
+fn saved_of(world: &World) -> Held
     requires few { IsWorld world.now }
-    ensures flags { result.0 ≡ saved_flags world.now.saved }
-    ensures places { result.1 ≡ saved_places world.now.saved }
-    ensures flag_bytes { IfSome world.now.saved (λ q. AreBytes q.flags) }
-    ensures place_bytes { IfSome world.now.saved (λ q. AreBytes q.places) }
+    ensures value { result ≡ held_of world.now.saved }
+    ensures bytes { HoldsBytes world.now.saved }
 {
     match world.saved_position() {
-        None => ([0; 256], [0; 255]),
-        Some((flags, places)) => (copied(flags), filled(places)),
+        None => Held::NONE,
+        Some((flags, places)) => held(flags, places),
     }
+}
+
+/// The kept position of this number, where it was kept.
+fn kept_of(world: &World, n: u8) -> Held
+    requires few { IsWorld world.now }
+    requires known { n < 4 }
+    ensures value { result ≡ held_of (kept_position world.now n) }
+    ensures bytes { HoldsBytes (kept_position world.now n) }
+{
+    match world.kept_position(n) {
+        None => Held::NONE,
+        Some((flags, places)) => held(flags, places),
+    }
+}
+
+/// The kept positions.
+fn all_kept(world: &World) -> [Held; MOST_KEPT]
+    requires few { IsWorld world.now }
+    ensures value { result ≡ map held_of world.now.kept }
+    ensures bytes { All HoldsBytes world.now.kept }
+{
+    [
+        kept_of(world, 0),
+        kept_of(world, 1),
+        kept_of(world, 2),
+        kept_of(world, 3),
+    ]
 }
 
 /// The fields of a state.
@@ -138,14 +177,11 @@ fn fields_of(
     ensures value { result ≡ fields_of (record { world = world.now; frames = frames.now; pending = pending.now; prompt = prompt; events = events; piece = piece }) }
     ensures fits { FitsFields (record { world = world.now; frames = frames.now; pending = pending.now; prompt = prompt; events = events; piece = piece }) }
 {
-    let (saved_flags, saved_places) = saved_of(world);
     let line = pending.bytes();
     Fields {
         flags: copied(world.flags()),
         places: filled(world.places()),
-        saved: u8::from(world.saved()),
-        saved_flags,
-        saved_places,
+        saved: saved_of(world),
         seed: world.seed(),
         draws: world.draws(),
         events,
@@ -158,5 +194,6 @@ fn fields_of(
         pending: line.len() as u8,
         line: filled(line),
         piece,
+        kept: all_kept(world),
     }
 }

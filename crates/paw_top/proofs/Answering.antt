@@ -80,6 +80,7 @@ compile_loads memory.Load h = tt
 compile_loads memory.Image h = tt
 compile_loads memory.Print h = h
 compile_loads memory.Play h = h
+compile_loads memory.Trial h = h
 
 decompile_loads : (at : MemoryAt) → IsLoadMemory at → IsDecompileMemory at
 decompile_loads memory.Print h = tt
@@ -87,6 +88,7 @@ decompile_loads memory.Load h = tt
 decompile_loads memory.Image h = tt
 decompile_loads memory.Source h = h
 decompile_loads memory.Play h = h
+decompile_loads memory.Trial h = h
 
 play_loads : (at : MemoryAt) → IsLoadMemory at → IsPlayMemory at
 play_loads memory.Play h = tt
@@ -94,6 +96,7 @@ play_loads memory.Load h = tt
 play_loads memory.Image h = tt
 play_loads memory.Source h = h
 play_loads memory.Print h = h
+play_loads memory.Trial h = h
 
 pub compile_memory : (o : Outcome) → IfMemory o IsLoadMemory → IfMemory o IsCompileMemory
 compile_memory o h = memory_so o IsLoadMemory IsCompileMemory compile_loads h

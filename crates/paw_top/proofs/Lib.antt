@@ -25,3 +25,4 @@ mod CondactRows
 mod TableRows
 mod Whole
 mod Back
+mod Trying

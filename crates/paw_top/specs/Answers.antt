@@ -3,7 +3,7 @@ use Rattle.std.specs.Prelude.{Option, Some, None, Result, Ok, Err}
 use Rattle.paw_stage.specs.declared.StageCall.{StageCall}
 use Rattle.paw_stage.specs.declared.StageCall.TheVariants as call
 use Rattle.paw_play.specs.Calls.{IsWalkCall, IsSessionCall}
-use Rattle.paw_top.specs.Commands.{Command, Compile, Decompile, Walk, Play, Resume}
+use Rattle.paw_top.specs.Commands.{Command, Compile, Decompile, Walk, Play, Resume, Trial}
 use Rattle.paw_top.specs.declared.outcome.Outcome.{Outcome}
 use Rattle.paw_top.specs.declared.outcome.Outcome.TheVariants as outcome
 use Rattle.paw_top.specs.declared.outcome.MemoryAt.{MemoryAt}
@@ -53,6 +53,11 @@ abbrev pub IsDecompileCall : StageCall → Type 0
 IsDecompileCall call.Show = Unit {0}
 IsDecompileCall c = IsLoadCall c
 
+-- the call that the command trial makes: one text shown
+abbrev pub IsTrialCall : StageCall → Type 0
+IsTrialCall call.Show = Unit {0}
+IsTrialCall _ = ⊥
+
 -- the calls that a command makes; words with no form make none
 abbrev pub Makes : Option Command → StageCall → Type 0
 Makes None c = ⊥
@@ -61,6 +66,7 @@ Makes (Some (Decompile image)) c = IsDecompileCall c
 Makes (Some (Walk image seed)) c = IsCall c
 Makes (Some (Play image store seed)) c = IsKeptCall c
 Makes (Some (Resume image store)) c = IsKeptCall c
+Makes (Some (Trial n)) c = IsTrialCall c
 
 -- ---- memory ----
 
@@ -90,6 +96,11 @@ abbrev pub IsDecompileMemory : MemoryAt → Type 0
 IsDecompileMemory memory.Print = Unit {0}
 IsDecompileMemory at = IsLoadMemory at
 
+-- when a trial is played
+abbrev pub IsTrialMemory : MemoryAt → Type 0
+IsTrialMemory memory.Trial = Unit {0}
+IsTrialMemory _ = ⊥
+
 -- where memory may be wanting for a command; words with no form need none
 abbrev pub Needs : Option Command → MemoryAt → Type 0
 Needs None at = ⊥
@@ -98,3 +109,4 @@ Needs (Some (Decompile image)) at = IsDecompileMemory at
 Needs (Some (Walk image seed)) at = IsPlayMemory at
 Needs (Some (Play image store seed)) at = IsPlayMemory at
 Needs (Some (Resume image store)) at = IsPlayMemory at
+Needs (Some (Trial n)) at = IsTrialMemory at

@@ -6,13 +6,15 @@ use Rattle.paw_top.specs.declared.commands.Command.{Command as Given}
 use Rattle.paw_top.specs.declared.commands.Command.TheVariants as given
 
 -- what is asked for: to compile a source to an image; to show the source of an image; to walk through the game of an
--- image, with a seed; to play it so, with a new session in a store; to go on with the session in a store
+-- image, with a seed; to play it so, with a new session in a store; to go on with the session in a store; to play the trial of
+-- a number
 pub data Command : Type 0 where
   Compile : (source image : List ℕ) → Command
   Decompile : (image : List ℕ) → Command
   Walk : (image : List ℕ) (seed : ℕ) → Command
   Play : (image store : List ℕ) (seed : ℕ) → Command
   Resume : (image store : List ℕ) → Command
+  Trial : (n : ℕ) → Command
 
 abbrev pub is_digit : ℕ → Bool
 is_digit c = nat_le 48 c && nat_le c 57
@@ -32,6 +34,14 @@ is_seed word = has_seed_shape word && nat_lt (number_after 0 word) (2 ^ 64)
 
 abbrev pub seed_of : List ℕ → Option ℕ
 seed_of word = if is_seed word then Some (number_after 0 word) else None
+
+-- 1 to 4 decimal digits
+abbrev pub has_trial_shape : List ℕ → Bool
+has_trial_shape word = nat_le 1 (length word) && (nat_le (length word) 4 && list_all is_digit word)
+
+-- the number of a trial has 1 to 4 decimal digits
+abbrev pub trial_number : List ℕ → Option ℕ
+trial_number word = if has_trial_shape word then Some (number_after 0 word) else None
 
 -- a name has at least one byte
 abbrev pub is_name : List ℕ → Bool
@@ -67,6 +77,16 @@ abbrev pub resume_of : List (List ℕ) → Option Command
 resume_of (image ∷ store ∷ []) = if is_name image && is_name store then Some (Resume image store) else None
 resume_of _ = None
 
+-- the trial of a number, where there is one
+abbrev pub with_number : Option ℕ → Option Command
+with_number None = None
+with_number (Some n) = Some (Trial n)
+
+-- trial N
+abbrev pub trial_of : List (List ℕ) → Option Command
+trial_of (word ∷ []) = with_number (trial_number word)
+trial_of _ = None
+
 -- the first word says which form the words behind it must have
 abbrev pub command_of : List (List ℕ) → Option Command
 command_of [] = None
@@ -76,6 +96,7 @@ command_of (verb ∷ rest) =
     else if bytes_eq verb (codes "walk") then walk_of rest
     else if bytes_eq verb (codes "play") then play_of rest
     else if bytes_eq verb (codes "resume") then resume_of rest
+    else if bytes_eq verb (codes "trial") then trial_of rest
     else None
 
 -- the code's answer spells what is asked for
@@ -86,3 +107,4 @@ Spells (Some (given.Decompile image)) asked = asked ≡ Some (Decompile image.no
 Spells (Some (given.Walk image seed)) asked = asked ≡ Some (Walk image.now seed)
 Spells (Some (given.Play image store seed)) asked = asked ≡ Some (Play image.now store.now seed)
 Spells (Some (given.Resume image store)) asked = asked ≡ Some (Resume image.now store.now)
+Spells (Some (given.Trial n)) asked = asked ≡ Some (Trial n)

@@ -10,8 +10,10 @@ use Rattle.paw_state.specs.State.{State}
 use Rattle.paw_journal.specs.Session.{Shown, recover}
 use Rattle.paw_journal.specs.declared.refusal.SessionPart.TheVariants as part
 use Rattle.paw_journal.specs.declared.refusal.JournalRefusal.{JournalRefusal}
+use Rattle.paw_reading.specs.Turn.{Ending, WaitsAt, IsOver, RunsOut, CallsTooDeep, Unended}
+use Rattle.paw_trial.specs.Trial.{trial_reading}
 use Rattle.paw_play.specs.Play.{ShowsState, Refuses, store_bytes}
-use Rattle.paw_top.specs.Commands.{Command, Compile, Decompile, Walk, Play, Resume}
+use Rattle.paw_top.specs.Commands.{Command, Compile, Decompile, Walk, Play, Resume, Trial}
 use Rattle.paw_top.specs.Ends.{refused_as}
 use Rattle.paw_top.specs.Loads.{Holds, HoldsNone}
 use Rattle.paw_top.specs.Sessions.{digest_of}
@@ -104,6 +106,14 @@ pub record CompletesPlay (name : List ℕ) (Such : GameLists → Outcome → Typ
   pub image : (g : GameLists) → Holds old name g → CompletesGame (first_unbuilt g) (Such g) o
   pub other : HoldsNone old name → IsDamaged o
 
+-- the answer that a trial is due, by how the reading of its lines ends
+abbrev pub due : Ending → Outcome
+due (WaitsAt p path r) = outcome.Done
+due (IsOver r) = outcome.Ended
+due (RunsOut kind r) = outcome.Spent kind
+due (CallsTooDeep table r) = outcome.TooDeep table
+due Unended = outcome.Done
+
 -- what a command comes to where the file that it loads is there
 abbrev pub Completes : Standing → Option Command → Outcome → Type 0
 Completes old None o = Unit {0}
@@ -112,3 +122,4 @@ Completes old (Some (Decompile image)) o = CompletesDecompile image old o
 Completes old (Some (Walk image seed)) o = CompletesPlay image (λ g. IsWalked) old o
 Completes old (Some (Play image store seed)) o = CompletesPlay image (λ g. CompletesNew (store_bytes old store)) old o
 Completes old (Some (Resume image store)) o = CompletesPlay image (λ g. CompletesAgain g (digest_of g) (store_bytes old store)) old o
+Completes old (Some (Trial n)) o = Comes (due (trial_reading n)) o

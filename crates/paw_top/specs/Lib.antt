@@ -12,3 +12,4 @@ pub mod Walk
 pub mod Sessions
 pub mod Completes
 pub mod Round
+pub mod Tries

@@ -76,6 +76,7 @@ memory_name memory.Source = codes "Source"
 memory_name memory.Print = codes "Print"
 memory_name memory.Image = codes "Image"
 memory_name memory.Play = codes "Play"
+memory_name memory.Trial = codes "Trial"
 
 -- what is written to standard error
 abbrev pub text_of : Outcome → List ℕ

@@ -1,7 +1,7 @@
 // The words of a command.
 
 ghost use Rattle.std.specs.Prelude.{◌≡◌, ◌+◌, ◌-◌, ◌*◌, ◌<◌, ◌≤◌, ◌^◌, ℕ, map, Option, string_bytes, IfSome, IfNone};
-ghost use Rattle.paw_top.specs.Commands.{command_of, compile_of, decompile_of, walk_of, play_of, resume_of, seed_of, has_seed_shape, is_digit, number_after, Spells};
+ghost use Rattle.paw_top.specs.Commands.{command_of, compile_of, decompile_of, walk_of, play_of, resume_of, trial_of, seed_of, trial_number, has_seed_shape, has_trial_shape, is_digit, number_after, Spells};
 ghost use Rattle.std.specs.List.{list_all};
 
 /// What is asked for.
@@ -26,6 +26,9 @@ pub(crate) enum Command<'a> {
     Resume {
         image: &'a str,
         store: &'a str,
+    },
+    Trial {
+        n: u16,
     },
 }
 
@@ -82,6 +85,27 @@ fn seed_of(word: &str) -> Option<u64>
         return None;
     }
     number_of(digits)
+}
+
+// 1 to 4 decimal digits.
+fn has_trial_shape(word: &[u8]) -> bool
+    ensures value { result ≡ has_trial_shape word.now }
+{
+    1 <= word.len() && (word.len() <= 4 && are_digits(word))
+}
+
+// The number of a trial, in 1 to 4 decimal digits.
+fn trial_number(word: &str) -> Option<u16>
+    ensures value { result ≡ trial_number word.now }
+{
+    let digits = word.as_bytes();
+    if !has_trial_shape(digits) {
+        return None;
+    }
+    match number_of(digits) {
+        Some(number) => Some(number as u16),
+        None => unreachable!(),
+    }
 }
 
 // SOURCE IMAGE, behind `compile`.
@@ -151,6 +175,17 @@ fn resume_of<'a>(names: &'a [String]) -> Option<Command<'a>>
     })
 }
 
+// N, behind `trial`.
+fn trial_of<'a>(names: &'a [String]) -> Option<Command<'a>>
+    ensures value { Spells result (trial_of (map string_bytes names.now)) }
+{
+    if names.len() != 1 {
+        return None;
+    }
+    let n = trial_number(names[0].as_str())?;
+    Some(Command::Trial { n })
+}
+
 /// What these words ask for; None where they have no form.
 pub(crate) fn command_of<'a>(words: &'a [String]) -> Option<Command<'a>>
     ensures value { Spells result (command_of (map string_bytes words.now)) }
@@ -162,6 +197,7 @@ pub(crate) fn command_of<'a>(words: &'a [String]) -> Option<Command<'a>>
         "walk" => walk_of(names),
         "play" => play_of(names),
         "resume" => resume_of(names),
+        "trial" => trial_of(names),
         _ => None,
     }
 }

@@ -21,4 +21,5 @@ mod source_tests;
 #[cfg(test)]
 mod tests;
 pub mod top;
+mod trial;
 pub mod unbuilt;

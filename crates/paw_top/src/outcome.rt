@@ -11,8 +11,8 @@ use paw_play::PlayEnd;
 use paw_stage::StageCall;
 use std::alloc::Global;
 
-/// Where memory was wanting: in a load, in reading a source, in printing one, in decoding or encoding an image, or in
-/// making what a game is played with.
+/// Where memory was wanting: in a load, in reading a source, in printing one, in decoding or encoding an image, in making
+/// what a game is played with, or in a trial, which has a stage in memory of its own.
 #[derive(Clone, Copy, Drop, PartialEq, Eq, Debug)]
 pub enum MemoryAt {
     Load,
@@ -20,6 +20,7 @@ pub enum MemoryAt {
     Print,
     Image,
     Play,
+    Trial,
 }
 
 /// What a command comes to. Done: the command did what it is for. Ended: the game is over. InputEnded: no line is left at a
@@ -135,6 +136,7 @@ fn memory_name(at: MemoryAt) -> &'static str
         MemoryAt::Print => "Print",
         MemoryAt::Image => "Image",
         MemoryAt::Play => "Play",
+        MemoryAt::Trial => "Trial",
     }
 }
 

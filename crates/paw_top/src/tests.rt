@@ -226,6 +226,34 @@ fn comes_so(rt: &impl Abort, alloc: Global, case: &Case<'_>) -> Result<(), Fail>
     Ok(())
 }
 
+/// The line of the first trial.
+const TRIAL_0: &str = "TRIAL 0: 20 locations, 10 objects, 10 events, 11 turns, at 1 with 2\n";
+
+// No line of the stage is asked for.
+#[test]
+fn a_trial_shows_its_line(rt: HostRuntime) -> Result<(), Fail> {
+    let alloc = rt.alloc();
+    for words in ["trial\n0", "trial\n0000"] {
+        let case = Case {
+            name: words,
+            image: &TWO_ROOMS,
+            words,
+            outcome: Outcome::Done,
+            shown: TRIAL_0,
+            next: Asked::Line(1),
+        };
+        comes_so(&rt, alloc, &case)?;
+    }
+    let mut settled = stage_of(alloc, &TWO_ROOMS, "N")?;
+    settle(&rt, &mut settled);
+    let mut stage = FailStage::new(settled, [0].to_vec(alloc)?);
+    let words = words_of(alloc, "trial\n0")?;
+    let outcome = paw(alloc, &mut stage, words.as_slice());
+    assert_eq!(rt; outcome, Outcome::Outside(StageCall::Show));
+    assert_eq!(rt; stage.inner().shown(), b"".as_slice());
+    Ok(())
+}
+
 // A refusal of an image: nothing is shown, and no line asked.
 fn refusal<'a>(name: &'a str, image: &'a [u8], outcome: Outcome) -> Case<'a> {
     Case {
@@ -302,6 +330,13 @@ fn words_have_their_forms(rt: HostRuntime) -> Result<(), Fail> {
         "Walk\ngame\n7",
         "game\nwalk\n7",
         "play\ngame\nf\nx",
+        "trial",
+        "trial\n\n",
+        "trial\n10000",
+        "trial\n00000",
+        "trial\n-1",
+        "trial\n7a",
+        "trial\n7\n7",
         "dance",
     ] {
         let case = Case {
@@ -430,6 +465,7 @@ fn outcomes_have_their_status_and_text(rt: HostRuntime) -> Result<(), Fail> {
         (Outcome::Memory(MemoryAt::Load), 8, "no memory: Load\n"),
         (Outcome::Memory(MemoryAt::Image), 8, "no memory: Image\n"),
         (Outcome::Memory(MemoryAt::Play), 8, "no memory: Play\n"),
+        (Outcome::Memory(MemoryAt::Trial), 8, "no memory: Trial\n"),
         (
             Outcome::Long {
                 events: MOST_EVENTS,

@@ -8,12 +8,13 @@ ghost use Rattle.paw_stage.specs.Stage.{Standing, Rose, Grows, Faulted};
 ghost use Rattle.paw_state.specs.State.{State};
 ghost use Rattle.paw_play.specs.Play.{InGame, InAgain, InGoingOn, ShowsState, store_bytes};
 ghost use Rattle.paw_play.specs.Stands.{Stands, IsPlayedWith};
-ghost use Rattle.paw_top.specs.Commands.{Compile as CompileOf, Decompile as DecompileOf, Walk as WalkOf, Play as PlayOf, Resume as ResumeOf, command_of};
+ghost use Rattle.paw_top.specs.Commands.{Compile as CompileOf, Decompile as DecompileOf, Walk as WalkOf, Play as PlayOf, Resume as ResumeOf, Trial as TrialOf, command_of};
 ghost use Rattle.paw_top.specs.Compile.{Compiles};
 ghost use Rattle.paw_top.specs.Decompile.{Decompiles};
 ghost use Rattle.paw_top.specs.Loads.{Holds};
 ghost use Rattle.paw_top.specs.Walk.{WalksIn};
 ghost use Rattle.paw_top.specs.Sessions.{PlaysNewIn, PlaysAgainIn, GoesOnIn, digest_of, session_from};
+ghost use Rattle.paw_top.specs.Tries.{Tries};
 ghost use Rattle.paw_top.specs.Answers.{IfOutside, IfMemory, IsCall, IsPlayMemory, Makes, Needs, failed_call};
 ghost use Rattle.paw_top.specs.Completes.{NoFault, Completes};
 ghost use Rattle.paw_top.specs.declared.outcome.Outcome.TheVariants as outcome;
@@ -24,6 +25,7 @@ use crate::decompile::decompile;
 use crate::open::open_image;
 use crate::outcome::{Outcome, outcome_of};
 use crate::sessions::{play, resume};
+use crate::trial::trial;
 use paw_play::walk::walk_loop;
 use paw_stage::Stage;
 use std::alloc::Global;
@@ -51,10 +53,11 @@ fn walk<S: Stage>(alloc: Global, stage: &mut S, image: &str, seed: u64) -> Outco
 /// shows the piece before the first line, and then takes lines and shows the piece that each brings, until the game is
 /// over or no line is left; nothing is kept. `play IMAGE STORE SEED` does the same with a new session in the store, a file
 /// that is missing or empty: each piece is committed there before it is shown. `resume IMAGE STORE` shows the last piece of
-/// the session in the store again, and goes on from its prompt.
+/// the session in the store again, and goes on from its prompt. `trial N` makes a large game and its lines from a number, plays
+/// half of them over a stage in memory, resumes for the rest, and shows a line that tells what the reading of all lines comes to.
 ///
 /// The answer is Usage exactly where the words have no form, and then nothing at the stage is touched. Each other answer
-/// comes as `Compiles`, `Decompiles`, `WalksIn`, `PlaysNewIn` and `PlaysAgainIn` say.
+/// comes as `Compiles`, `Decompiles`, `WalksIn`, `PlaysNewIn`, `PlaysAgainIn` and `Tries` say.
 ///
 /// Whatever a crash leaves of the store at any moment of `play` stands for all lines that were taken, or for all but the last
 /// (`InGame`). Where the store stands for some lines, `resume` never refuses it and goes on as the reading of these lines and
@@ -96,6 +99,8 @@ pub fn paw<S: Stage>(alloc: Global, stage: &mut S, words: &[String]) -> Outcome
     ensures any_moment_of_resume { S.Tells stage.old → (image store : List ℕ) → command_of (map string_bytes words.now) ≡ Some (ResumeOf image store) →
         (g : GameLists) (seed : ℕ) (es : List (List ℕ)) → Holds (S.standing stage.old) image g → IsPlayedWith g seed es → Stands g seed es (store_bytes (S.standing stage.old) store) →
         Passes (S.clock stage.old) (S.clock stage.new) (S.since stage.old) (S.since stage.new) (InGoingOn g seed es store (S.standing stage.old)) }
+    ensures tries { S.Tells stage.old → (n : ℕ) → command_of (map string_bytes words.now) ≡ Some (TrialOf n) →
+        Tries n (S.standing stage.old) (S.standing stage.new) result }
     ensures completes { S.Tells stage.old → NoFault (S.faults stage.old) (S.faults stage.new) →
         Completes (S.standing stage.old) (command_of (map string_bytes words.now)) result }
 {
@@ -105,6 +110,7 @@ pub fn paw<S: Stage>(alloc: Global, stage: &mut S, words: &[String]) -> Outcome
         Some(Command::Walk { image, seed }) => walk(alloc, stage, image, seed),
         Some(Command::Play { image, store, seed }) => play(alloc, stage, image, store, seed),
         Some(Command::Resume { image, store }) => resume(alloc, stage, image, store),
+        Some(Command::Trial { n }) => trial(alloc, stage, n),
         None => Outcome::Usage,
     }
 }

@@ -1,7 +1,7 @@
 -- A line at a prompt in tables.
 use Rattle.std.proofs.Common.{◌≡◌, ℕ, suc, ◌<◌, ◌≤◌, Bool, true, false, List, [], ◌∷◌, ◌++◌, Some, length, reverse, refl, sym, ap, ◌∙◌, subst, arith, length-append}
 use Rattle.std.proofs.lemmas.List.{length-reverse}
-use Rattle.paw_game.specs.Game.{GameLists}
+use Rattle.paw_effects.specs.Story.{Story}
 use Rattle.paw_game.specs.Valid.{Valid}
 use Rattle.paw_world.specs.World.{World}
 use Rattle.paw_effects.specs.declared.act.Prompt.{Prompt}
@@ -11,7 +11,7 @@ use Rattle.paw_reading.specs.Run.{Run, closed, is_timeout, is_ignored, with_time
 use Rattle.paw_reading.specs.Reading.{Out, Waits, after_call, asked, rest}
 use Rattle.paw_reading.specs.GoingOn.{on_path}
 use Rattle.paw_reading.specs.Turn.{table_done, turn, first_table}
-use Rattle.paw_process.specs.OpenTables.{OpenTables}
+use Rattle.paw_process.specs.OpenTables.{OpenTables, ReadsNone}
 use Rattle.paw_process.specs.Meaning.{held, to_come, going_on, ComesTo, RunsTo, IsStopped, AnswersQuit, AnswersKey}
 use Rattle.paw_process.specs.declared.Turned.{Turned}
 use Rattle.paw_turn.specs.declared.Step.TheVariants as step
@@ -19,38 +19,38 @@ use Rattle.paw_turn.specs.declared.stage.Next.{Next}
 use Rattle.paw_turn.specs.declared.stage.Next.TheVariants as next
 use Rattle.paw_turn.specs.declared.turn.Turn.{Turn}
 use Rattle.paw_turn.specs.Player.{IsLoopOf, StandsAt}
-use Rattle.paw_turn.specs.Stages.{Past, run_of, having_read, GoesOnAs, MovesAfter, PlaysAs, RunsAs, from_prompt, from_path, StopsInTable, AwaitsAt}
-use Rattle.paw_turn.proofs.Falling.{some_past}
+use Rattle.paw_turn.specs.Stages.{Past, run_of, having_read, HasReadSome, GoesOnAs, MovesAfter, PlaysAs, RunsAs, from_prompt, from_path, StopsInTable, AwaitsAt}
+use Rattle.paw_turn.proofs.Falling.{some_past, has_still}
 use Rattle.paw_reading.proofs.Stays.{IsInner, WaitsThere, path_waits}
 use Rattle.paw_turn.proofs.Waiting.{stops_in}
 use Rattle.paw_turn.proofs.Hearing.{main_ignored}
 
 -- ---- ignored lines ----
 
-path_ignores : (g : GameLists) (X : List (List ℕ)) (p : Prompt) (lv : ℕ) (f : Frame) (path : List Frame) (r : Run) (line : List ℕ) (lines : List (List ℕ))
+path_ignores : (g : Story) (p : Prompt) (lv : ℕ) (f : Frame) (path : List Frame) (r : Run) (line : List ℕ) (lines : List (List ℕ))
     → is_ignored r.world line ≡ true
-    → on_path g X p lv (f ∷ path) (to_come (line ∷ lines) r) ≡ on_path g X p lv (f ∷ path) (closed (to_come lines r))
+    → on_path g p lv (f ∷ path) (to_come (line ∷ lines) r) ≡ on_path g p lv (f ∷ path) (closed (to_come lines r))
 unfolding asked
-path_ignores g X p lv f [] r line lines ignored = rw ignored refl
-path_ignores g X p lv f (h ∷ path) r line lines ignored =
-    ap (after_call f (rest g X lv f.table f.entry (suc f.at))) (path_ignores g X p (suc lv) h path r line lines ignored)
+path_ignores g p lv f [] r line lines ignored = rw ignored refl
+path_ignores g p lv f (h ∷ path) r line lines ignored =
+    ap (after_call f (rest g lv f.table f.entry (suc f.at))) (path_ignores g p (suc lv) h path r line lines ignored)
 
-some_ignores : (g : GameLists) (X : List (List ℕ)) (p : Prompt) (path : List Frame) (r : Run) (line : List ℕ) (lines : List (List ℕ)) → 0 < length path
-    → is_ignored r.world line ≡ true → on_path g X p 0 path (to_come (line ∷ lines) r) ≡ on_path g X p 0 path (closed (to_come lines r))
-some_ignores g X p [] r line lines some ignored = absurd (omega arith)
-some_ignores g X p (f ∷ path) r line lines some ignored = path_ignores g X p 0 f path r line lines ignored
+some_ignores : (g : Story) (p : Prompt) (path : List Frame) (r : Run) (line : List ℕ) (lines : List (List ℕ)) → 0 < length path
+    → is_ignored r.world line ≡ true → on_path g p 0 path (to_come (line ∷ lines) r) ≡ on_path g p 0 path (closed (to_come lines r))
+some_ignores g p [] r line lines some ignored = absurd (omega arith)
+some_ignores g p (f ∷ path) r line lines some ignored = path_ignores g p 0 f path r line lines ignored
 
 -- a prompt in tables at which an ignored line comes
-in_table_ignored : (g : GameLists) (p : Prompt) (old : Turn) (line : List ℕ) → 0 < length old.machine.frames → is_ignored old.world line ≡ true
+in_table_ignored : (g : Story) (p : Prompt) (old : Turn) (line : List ℕ) → 0 < length old.machine.frames → is_ignored old.world line ≡ true
     → (n : ℕ) (past : Past) (lines : List (List ℕ))
-    → table_done g (turn g [] n) (first_table (reverse old.machine.frames)) (on_path g [] p 0 (reverse old.machine.frames) (run_of old past (line ∷ lines)))
-    ≡ table_done g (turn g [] n) (first_table (reverse old.machine.frames)) (on_path g [] p 0 (reverse old.machine.frames) (closed (run_of old past lines)))
+    → table_done g (turn g n) (first_table (reverse old.machine.frames)) (on_path g p 0 (reverse old.machine.frames) (run_of old past (line ∷ lines)))
+    ≡ table_done g (turn g n) (first_table (reverse old.machine.frames)) (on_path g p 0 (reverse old.machine.frames) (closed (run_of old past lines)))
 in_table_ignored g p old line some ignored n past lines =
     let many : 0 < length (reverse old.machine.frames) = omega (arith, length-reverse old.machine.frames) in
-    ap (table_done g (turn g [] n) (first_table (reverse old.machine.frames))) (some_ignores g [] p (reverse old.machine.frames) (run_of old past []) line lines many ignored)
+    ap (table_done g (turn g n) (first_table (reverse old.machine.frames))) (some_ignores g p (reverse old.machine.frames) (run_of old past []) line lines many ignored)
 
 -- an ignored line closes an empty piece, and the game waits on
-pub ignored_plays : (g : GameLists) (p : Prompt) (old : Turn) (line : List ℕ) → StandsAt p old.machine → is_ignored old.world line ≡ true
+pub ignored_plays : (g : Story) (p : Prompt) (old : Turn) (line : List ℕ) → StandsAt p old.machine → is_ignored old.world line ≡ true
     → PlaysAs g (from_prompt g p old line) old (next.Stop (step.Waits p)) old
 ignored_plays g prompt.Main old line stands ignored past has = main_ignored g old line ignored past has
 ignored_plays g prompt.Quit old line stands ignored past has = (past.read, (has, λ n lines. (n, in_table_ignored g prompt.Quit old line stands.tables.tables.some ignored n past lines)))
@@ -60,81 +60,81 @@ ignored_plays g prompt.Over old line stands ignored past has = absurd stands
 
 -- ---- the answer to QUIT, and a key ----
 
-answered_path : (g : GameLists) (p : Prompt) (old : Turn) (line : List ℕ) (w : World) (m : OpenTables) (agrees : Bool)
-    → AwaitsAt p old.machine → Valid g → is_ignored old.world line ≡ false → is_yes (reply line) ≡ agrees → w ≡ with_timeout (is_timeout line) old.world
+answered_path : (g : Story) (p : Prompt) (old : Turn) (line : List ℕ) (w : World) (m : OpenTables) (agrees : Bool)
+    → AwaitsAt p old.machine → Valid g.game → is_ignored old.world line ≡ false → is_yes (reply line) ≡ agrees → w ≡ with_timeout (is_timeout line) old.world
     → (old.machine.waiting ≡ Some prompt.Quit → AnswersQuit agrees old.machine.frames m.frames)
     → (old.machine.waiting ≡ Some prompt.Key → AnswersKey old.machine.frames m.frames)
     → m.turning ≡ old.machine.turning
     → (past : Past) (lines : List (List ℕ))
-    → from_path g p old line past lines ≡ going_on g [] m.frames (run_of (record { world = w; pending = old.pending; machine = m; piece = old.piece }) past lines)
+    → from_path g p old line past lines ≡ going_on g m.frames (run_of (record { world = w; pending = old.pending; machine = m; piece = old.piece }) past lines)
 answered_path g prompt.Main old line w m agrees awaits valid hears same world quit key turning past lines = absurd awaits
 answered_path g prompt.Quit old line w m agrees awaits valid hears same world quit key turning past lines =
-    quit awaits.tables.waiting g [] line lines (run_of old past []) valid hears same ∙ ap (going_on g [] m.frames) (cc (world, turning))
+    quit awaits.tables.waiting g line lines (run_of old past []) valid hears same ∙ ap (going_on g m.frames) (cc (world, turning))
 answered_path g prompt.Again old line w m agrees awaits valid hears same world quit key turning past lines = absurd awaits
 answered_path g prompt.Key old line w m agrees awaits valid hears same world quit key turning past lines =
-    key awaits.tables.waiting g [] line lines (run_of old past []) hears ∙ ap (going_on g [] m.frames) (cc (world, turning))
+    key awaits.tables.waiting g line lines (run_of old past []) hears ∙ ap (going_on g m.frames) (cc (world, turning))
 answered_path g prompt.Over old line w m agrees awaits valid hears same world quit key turning past lines = absurd awaits
 
 -- the machine reads on where it was answered
-pub answered_runs : (g : GameLists) (p : Prompt) (old mid : Turn) (line : List ℕ) (w : World) (m : OpenTables) (agrees : Bool) (turned : Turned)
-    → AwaitsAt p old.machine → Valid g → is_ignored old.world line ≡ false → is_yes (reply line) ≡ agrees → w ≡ with_timeout (is_timeout line) old.world
+pub answered_runs : (g : Story) (p : Prompt) (old mid : Turn) (line : List ℕ) (w : World) (m : OpenTables) (agrees : Bool) (turned : Turned)
+    → AwaitsAt p old.machine → Valid g.game → is_ignored old.world line ≡ false → is_yes (reply line) ≡ agrees → w ≡ with_timeout (is_timeout line) old.world
     → (old.machine.waiting ≡ Some prompt.Quit → AnswersQuit agrees old.machine.frames m.frames)
     → (old.machine.waiting ≡ Some prompt.Key → AnswersKey old.machine.frames m.frames)
-    → m.turning ≡ old.machine.turning → m.left ≡ old.machine.left
-    → RunsTo g [] (held w old.pending m old.piece) turned (held mid.world mid.pending mid.machine mid.piece)
+    → m.turning ≡ old.machine.turning → ReadsNone old.machine m
+    → RunsTo g (held w old.pending m old.piece) turned (held mid.world mid.pending mid.machine mid.piece)
     → RunsAs g (from_path g p old line) old turned mid
-answered_runs g p old mid line w m agrees turned awaits valid hears same world quit key turning left runs past has =
+answered_runs g p old mid line w m agrees turned awaits valid hears same world quit key turning none runs past has =
     let h : Turn = record { world = w; pending = old.pending; machine = m; piece = old.piece } in
-    let t = runs (run_of h past []) (record { world = refl; pending = refl; earlier = refl; turning = refl; current = refl; read = omega arith }) in (
+    let t = runs (run_of h past []) (record { world = refl; pending = refl; earlier = refl; turning = refl; current = refl; read = has_still past.read old.machine m has none }) in (
       t.0,
       (
-        omega (arith, t.1),
+        t.1,
         λ lines.
-            subst (ComesTo g [] turned mid.machine.frames (run_of mid (having_read (past.read ++ t.0) past) lines))
+            subst (ComesTo g turned mid.machine.frames (run_of mid (having_read (past.read ++ t.0) past) lines))
             (sym (answered_path g p old line w m agrees awaits valid hears same world quit key turning past lines)) (t.2 lines),
       ),
     )
 
 -- a prompt in tables from which going on is read
-awaited : (g : GameLists) (p : Prompt) (old : Turn) (line : List ℕ) → AwaitsAt p old.machine → (n : ℕ) (past : Past) (lines : List (List ℕ))
-    → from_prompt g p old line n past lines ≡ table_done g (turn g [] n) (first_table (reverse old.machine.frames)) (from_path g p old line past lines)
+awaited : (g : Story) (p : Prompt) (old : Turn) (line : List ℕ) → AwaitsAt p old.machine → (n : ℕ) (past : Past) (lines : List (List ℕ))
+    → from_prompt g p old line n past lines ≡ table_done g (turn g n) (first_table (reverse old.machine.frames)) (from_path g p old line past lines)
 awaited g prompt.Main old line awaits n past lines = absurd awaits
 awaited g prompt.Quit old line awaits n past lines = refl
 awaited g prompt.Again old line awaits n past lines = absurd awaits
 awaited g prompt.Key old line awaits n past lines = refl
 awaited g prompt.Over old line awaits n past lines = absurd awaits
 
-pub answer_plays : (g : GameLists) (p : Prompt) (t : ℕ) (old mid new : Turn) (line : List ℕ) (turned : Turned) (nx : Next)
+pub answer_plays : (g : Story) (p : Prompt) (t : ℕ) (old mid new : Turn) (line : List ℕ) (turned : Turned) (nx : Next)
     → AwaitsAt p old.machine → t ≡ first_table (reverse old.machine.frames)
-    → RunsAs g (from_path g p old line) old turned mid → MovesAfter g t turned mid nx new → new.machine.left ≡ mid.machine.left
+    → RunsAs g (from_path g p old line) old turned mid → MovesAfter g t turned mid nx new → ReadsNone mid.machine new.machine
     → PlaysAs g (from_prompt g p old line) old nx new
 answer_plays g p t old mid new line turned nx awaits first runs moves same past has =
     let k = runs past has in (
       past.read ++ k.0,
       (
-        omega (arith, length-append past.read k.0, k.1.0),
+        has_still (past.read ++ k.0) mid.machine new.machine k.1.0 same,
         λ n lines. (
           n,
           subst (GoesOnAs g n nx new.machine.frames (run_of new (having_read (past.read ++ k.0) past) lines))
-              (ap (λ (u : ℕ). table_done g (turn g [] n) u (from_path g p old line past lines)) first ∙ sym (awaited g p old line awaits n past lines))
+              (ap (λ (u : ℕ). table_done g (turn g n) u (from_path g p old line past lines)) first ∙ sym (awaited g p old line awaits n past lines))
               (moves (having_read (past.read ++ k.0) past) n lines _ (k.1.1 lines)),
         ),
       ),
     )
 
-pub runs_left : (g : GameLists) (x : Past → List (List ℕ) → Out) (old mid : Turn) (turned : Turned) → old.machine.left ≤ 200000 → RunsAs g x old turned mid
+pub runs_left : (g : Story) (x : Past → List (List ℕ) → Out) (old mid : Turn) (turned : Turned) → HasReadSome old.machine → RunsAs g x old turned mid
     → mid.machine.left ≤ old.machine.left
 runs_left g x old mid turned budget runs =
     let some = some_past old budget in
     let run = runs some.0 some.1 in
-    omega (arith, run.1.0)
+    omega (arith, run.1.0.left, some.1.left, length-append some.0.read run.0)
 
-wait_after : (g : GameLists) (q p : Prompt) (from path : List Frame) (r s : Run) → IsInner q → 0 < length from → IsLoopOf (first_table from) r.turning
-    → on_path g [] q 0 from r ≡ Waits p path s → WaitsThere (first_table from) 0 p path s.turning
+wait_after : (g : Story) (q p : Prompt) (from path : List Frame) (r s : Run) → IsInner q → 0 < length from → IsLoopOf (first_table from) r.turning
+    → on_path g q 0 from r ≡ Waits p path s → WaitsThere (first_table from) 0 p path s.turning
 wait_after g q p [] path r s inner some loop is = absurd (omega arith)
-wait_after g q p (f ∷ from) path r s inner some loop is = path_waits g [] q p f from path r s inner loop is
+wait_after g q p (f ∷ from) path r s inner some loop is = path_waits g q p f from path r s inner loop is
 
-pub answered_stops : (g : GameLists) (p : Prompt) (old mid : Turn) (line : List ℕ) (turned : Turned) → AwaitsAt p old.machine → old.machine.left ≤ 200000
+pub answered_stops : (g : Story) (p : Prompt) (old mid : Turn) (line : List ℕ) (turned : Turned) → AwaitsAt p old.machine → HasReadSome old.machine
     → RunsAs g (from_path g p old line) old turned mid → IsStopped turned mid.machine
     → StopsInTable (first_table (reverse old.machine.frames)) turned mid.machine
 answered_stops g prompt.Main old mid line turned awaits budget = absurd awaits

@@ -1,7 +1,7 @@
 -- The description of a location.
 use Rattle.std.proofs.Common.{◌≡◌, suc, ◌+◌, ◌<◌, ◌≤◌, [], ◌++◌, length, refl, sym, ap, ◌∙◌, subst}
 use Rattle.paw_base.specs.declared.fault.SpentKind.TheVariants as spent
-use Rattle.paw_game.specs.Game.{GameLists}
+use Rattle.paw_effects.specs.Story.{Story}
 use Rattle.paw_world.specs.World.{World}
 use Rattle.paw_reading.specs.Run.{with_world}
 use Rattle.paw_reading.specs.Reading.{table_read}
@@ -10,44 +10,45 @@ use Rattle.paw_turn.specs.declared.Step.TheVariants as step
 use Rattle.paw_turn.specs.declared.stage.Next.{Next}
 use Rattle.paw_turn.specs.declared.stage.Next.TheVariants as next
 use Rattle.paw_turn.specs.declared.turn.Turn.{Turn}
+use Rattle.paw_process.specs.OpenTables.{HasRead}
 use Rattle.paw_turn.specs.Stages.{run_of, GoesOnAs, Reads, having_read}
 use Rattle.paw_turn.proofs.Says.{said, unsaid}
 
 -- once the location is described table 1 is read
-pub described_reads : (g : GameLists) (old mid new : Turn) (nx : Next) (w : World) → w ≡ described old.world
-    → length old.piece + length (view_text g w) ≤ 65535
-    → mid ≡ record { world = w; pending = old.pending; machine = old.machine; piece = old.piece ++ view_text g w }
-    → Reads g (λ n r. table_done g (turn g [] n) 1 (table_read g [] 1 r)) mid nx new
-    → Reads g (λ n r. turn g [] (suc n) AtDescribe r) old nx new
+pub described_reads : (g : Story) (old mid new : Turn) (nx : Next) (w : World) → w ≡ described old.world
+    → length old.piece + length (view_text g.game w) ≤ 65535
+    → mid ≡ record { world = w; pending = old.pending; machine = old.machine; piece = old.piece ++ view_text g.game w }
+    → Reads g (λ n r. table_done g (turn g n) 1 (table_read g 1 r)) mid nx new
+    → Reads g (λ n r. turn g (suc n) AtDescribe r) old nx new
 unfolding turn
 described_reads g old mid new nx w world fits is reads past has =
-    let full : World → Turn = λ v. record { world = v; pending = old.pending; machine = old.machine; piece = old.piece ++ view_text g v } in
-    let fits' = subst (λ v. length old.piece + length (view_text g v) ≤ 65535) world fits in
-    let from = subst (λ (m : Turn). Reads g (λ n r. table_done g (turn g [] n) 1 (table_read g [] 1 r)) m nx new) (is ∙ ap full world) reads in
+    let full : World → Turn = λ v. record { world = v; pending = old.pending; machine = old.machine; piece = old.piece ++ view_text g.game v } in
+    let fits' = subst (λ v. length old.piece + length (view_text g.game v) ≤ 65535) world fits in
+    let from = subst (λ (m : Turn). Reads g (λ n r. table_done g (turn g n) 1 (table_read g 1 r)) m nx new) (is ∙ ap full world) reads in
     let t = from past has in (
       t.0,
       (
         t.1.0,
         λ n lines.
             subst (GoesOnAs g n nx new.machine.frames (run_of new (having_read t.0 past) lines))
-            (sym (said (view_text g (described old.world)) (λ s. table_done g (turn g [] n) 1 (table_read g [] 1 s)) (with_world (described old.world) (run_of old past lines)) fits'))
+            (sym (said (view_text g.game (described old.world)) (λ s. table_done g (turn g n) 1 (table_read g 1 s)) (with_world (described old.world) (run_of old past lines)) fits'))
             (t.1.1 n lines),
       ),
     )
 
 -- a description that doesn't fit
-pub described_not : (g : GameLists) (old new : Turn) (w : World) → w ≡ described old.world
-    → 65535 < length old.piece + length (view_text g w) → new.machine ≡ old.machine
-    → Reads g (λ n r. turn g [] (suc n) AtDescribe r) old (next.Stop (step.Spent spent.Text)) new
+pub described_not : (g : Story) (old new : Turn) (w : World) → w ≡ described old.world
+    → 65535 < length old.piece + length (view_text g.game w) → new.machine ≡ old.machine
+    → Reads g (λ n r. turn g (suc n) AtDescribe r) old (next.Stop (step.Spent spent.Text)) new
 unfolding turn
 described_not g old new w world past_fits same past has =
-    let past_fits' = subst (λ v. 65535 < length old.piece + length (view_text g v)) world past_fits in (
+    let past_fits' = subst (λ v. 65535 < length old.piece + length (view_text g.game v)) world past_fits in (
       past.read,
       (
-        subst (λ m. length past.read + m.left ≡ 200000) (sym same) has,
+        subst (HasRead past.read) (sym same) has,
         λ n lines. (
           with_world (described old.world) (run_of old past lines),
-          unsaid (view_text g (described old.world)) (λ s. table_done g (turn g [] n) 1 (table_read g [] 1 s)) (with_world (described old.world) (run_of old past lines)) past_fits',
+          unsaid (view_text g.game (described old.world)) (λ s. table_done g (turn g n) 1 (table_read g 1 s)) (with_world (described old.world) (run_of old past lines)) past_fits',
           record { pieces = refl; traces = refl; events = refl },
         ),
       ),

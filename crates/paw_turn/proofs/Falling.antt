@@ -1,12 +1,11 @@
 -- What is left to do falls from stage to stage.
-use Rattle.std.proofs.Common.{◌≡◌, ℕ, zero, suc, ◌+◌, ◌-◌, ◌*◌, ◌<◌, ◌≤◌, false, List, [], ◌++◌, sym, subst, arith, lit≤, length-append}
-use Rattle.std.proofs.Math.ListN.{replicate}
-use Rattle.std.proofs.lemmas.List.{length-replicate}
-use Rattle.paw_game.specs.Game.{GameLists}
+use Rattle.std.proofs.Common.{◌≡◌, ℕ, zero, suc, ◌+◌, ◌-◌, ◌*◌, ◌<◌, ◌≤◌, false, List, [], ◌++◌, sym, ap, ◌∙◌, subst, arith, lit≤, length-append}
+use Rattle.paw_effects.specs.Story.{Story}
 use Rattle.paw_reading.specs.declared.places.Frame.{Frame}
 use Rattle.paw_reading.specs.Run.{Run, Step as Read}
 use Rattle.paw_reading.specs.Reading.{Out, table_read}
-use Rattle.paw_reading.specs.Turn.{left_to_read}
+use Rattle.paw_reading.specs.Turn.{Ending, left_to_read}
+use Rattle.paw_process.specs.OpenTables.{OpenTables, HasRead, ReadsNone}
 use Rattle.paw_process.specs.Meaning.{ComesTo}
 use Rattle.paw_process.specs.declared.Turned.{Turned}
 use Rattle.paw_process.specs.declared.Turned.TheVariants as turned
@@ -14,29 +13,36 @@ use Rattle.paw_turn.specs.declared.stage.Stage.TheVariants as stage
 use Rattle.paw_turn.specs.declared.stage.Next.{Next}
 use Rattle.paw_turn.specs.declared.stage.Next.TheVariants as next
 use Rattle.paw_turn.specs.declared.turn.Turn.{Turn}
-use Rattle.paw_turn.specs.Stages.{Past, run_of, HasRead, having_read, left_of, table_rank, work, Falls, FallsAfter, RunsAs, from_table, Leaves, Uses}
+use Rattle.paw_turn.specs.Stages.{Past, run_of, HasReadSome, Reads, PlaysAs, having_read, left_of, table_rank, work, Falls, FallsAfter, RunsAs, from_table, Leaves, Uses}
 use Rattle.paw_reading.proofs.Spends.{Spends, table_spends}
 
 pub falls_up : (a b : ℕ) (n : Next) (new : Turn) → a ≤ b → Falls a n new → Falls b n new
 falls_up a b (next.Go s) new h falls = omega arith
 falls_up a b (next.Stop step) new h falls = tt
 
--- any condact
-some_read : Read
-some_read = record { table = 0; entry = 0; at = 0; code = 0; passed = false }
+-- some past of a machine
+pub some_past : (h : Turn) → HasReadSome h.machine → (past : Past) × HasRead past.read h.machine
+some_past h some = (record { read = some.0; pieces = []; traces = [] }, some.1)
 
--- some past of a machine with a budget
-pub some_past : (h : Turn) → h.machine.left ≤ 200000 → (past : Past) × HasRead past.read h
-some_past h low = (
-  record { read = replicate (200000 - h.machine.left) some_read; pieces = []; traces = [] },
-  omega (arith, length-replicate (200000 - h.machine.left) some_read),
-)
+-- where nothing is read what was read stays
+pub has_still : (read : List Read) (old new : OpenTables) → HasRead read old → ReadsNone old new → HasRead read new
+has_still read old new has none = record { left = omega (arith, has.left, none.left); steps = none.steps ∙ has.steps }
+
+pub equal_none : (old new : OpenTables) → new ≡ old → ReadsNone old new
+equal_none old new e = record { left = ap (λ (m : OpenTables). m.left) e; steps = ap (λ (m : OpenTables). m.steps) e }
+
+-- what was played was read
+pub plays_read : (g : Story) (whole : ℕ → Past → List (List ℕ) → Ending) (old : Turn) (n : Next) (new : Turn) → PlaysAs g whole old n new → HasReadSome old.machine → HasReadSome new.machine
+plays_read g whole old n new plays some = let k = plays (record { read = some.0; pieces = []; traces = [] }) some.1 in (k.0, k.1.0)
+
+pub reads_read : (g : Story) (x : ℕ → Run → Ending) (old : Turn) (n : Next) (new : Turn) → Reads g x old n new → HasReadSome old.machine → HasReadSome new.machine
+reads_read g x old n new reads some = let k = reads (record { read = some.0; pieces = []; traces = [] }) some.1 in (k.0, k.1.0)
 
 -- the run of a machine shows what may still be read
-left_shown : (h : Turn) (past : Past) → HasRead past.read h → left_to_read (run_of h past []) ≡ left_of h
-left_shown h past has = omega arith
+left_shown : (h : Turn) (past : Past) → HasRead past.read h.machine → left_to_read (run_of h past []) ≡ left_of h
+left_shown h past has = omega (arith, has.left)
 
-leaves_by : (g : GameLists) (turned : Turned) (fs : List Frame) (first r : Run) (x : Out) (old new : ℕ) → ComesTo g [] turned fs r x
+leaves_by : (g : Story) (turned : Turned) (fs : List Frame) (first r : Run) (x : Out) (old new : ℕ) → ComesTo g turned fs r x
     → left_to_read first ≡ old → left_to_read r ≡ new → Spends (left_to_read first) x → Leaves turned old new
 leaves_by g (turned.Left acted) fs first r x old new comes e f spends =
     let h : left_to_read r ≤ left_to_read first = subst (Spends (left_to_read first)) comes spends in omega arith
@@ -46,16 +52,16 @@ leaves_by g (turned.Waits p) fs first r x old new comes e f spends = tt
 leaves_by g (turned.Spent kind) fs first r x old new comes e f spends = tt
 leaves_by g (turned.TooDeep u) fs first r x old new comes e f spends = tt
 
-pub uses : (g : GameLists) (t : ℕ) (old mid : Turn) (turned : Turned) → old.machine.left ≤ 200000 → RunsAs g (from_table g t old) old turned mid → Uses turned old mid
+pub uses : (g : Story) (t : ℕ) (old mid : Turn) (turned : Turned) → HasReadSome old.machine → RunsAs g (from_table g t old) old turned mid → Uses turned old mid
 uses g t old mid turned budget runs =
     let some = some_past old budget in
     let run = runs some.0 some.1 in
     let read : List Read = some.0.read ++ run.0 in
-    let has : HasRead read mid = omega (arith, length-append some.0.read run.0, run.1.0, some.1) in
+    let has : HasRead read mid.machine = run.1.0 in
     record {
-      left = omega (arith, run.1.0);
-      leaves = leaves_by g turned mid.machine.frames (run_of old some.0 []) (run_of mid (having_read read some.0) []) (table_read g [] t (run_of old some.0 []))
-          (left_of old) (left_of mid) (run.1.1 []) (left_shown old some.0 some.1) (left_shown mid (having_read read some.0) has) (table_spends g [] t (run_of old some.0 []));
+      left = omega (arith, has.left, some.1.left, length-append some.0.read run.0);
+      leaves = leaves_by g turned mid.machine.frames (run_of old some.0 []) (run_of mid (having_read read some.0) []) (table_read g t (run_of old some.0 []))
+          (left_of old) (left_of mid) (run.1.1 []) (left_shown old some.0 some.1) (left_shown mid (having_read read some.0) has) (table_spends g t (run_of old some.0 []));
     }
 
 table_rank_low : (t : ℕ) → 2 ≤ table_rank t

@@ -1,6 +1,6 @@
 -- A line at the main prompt.
 use Rattle.std.proofs.Common.{◌≡◌, ℕ, true, false, List, [], refl, sym, ap, subst, arith}
-use Rattle.paw_game.specs.Game.{GameLists}
+use Rattle.paw_effects.specs.Story.{Story}
 use Rattle.paw_world.specs.World.{World}
 use Rattle.paw_effects.specs.declared.act.Prompt.TheVariants as prompt
 use Rattle.paw_effects.specs.Texts.{say_text}
@@ -11,55 +11,57 @@ use Rattle.paw_turn.specs.declared.stage.Stage.TheVariants as stage
 use Rattle.paw_turn.specs.declared.stage.Next.{Next}
 use Rattle.paw_turn.specs.declared.stage.Next.TheVariants as next
 use Rattle.paw_turn.specs.declared.turn.Turn.{Turn}
+use Rattle.paw_process.specs.OpenTables.{ReadsNone}
+use Rattle.paw_turn.proofs.Falling.{has_still, equal_none}
 use Rattle.paw_turn.specs.Stages.{Past, run_of, at_stage, GoesOnAs, Moves, PlaysAs, from_prompt}
 
 -- where the whole is what moves on, and no condact is read
-pub moves_play : (g : GameLists) (whole : ℕ → Past → List (List ℕ) → Ending) (x : ℕ → Run → Ending) (old mid new : Turn) (nx : Next)
+pub moves_play : (g : Story) (whole : ℕ → Past → List (List ℕ) → Ending) (x : ℕ → Run → Ending) (old mid new : Turn) (nx : Next)
     → ((m : ℕ) (past : Past) (lines : List (List ℕ)) → whole m past lines ≡ x m (run_of mid past lines))
-    → Moves g x mid nx new → new.machine.left ≡ old.machine.left → PlaysAs g whole old nx new
-moves_play g whole x old mid new nx same moves left past has = (
+    → Moves g x mid nx new → ReadsNone old.machine new.machine → PlaysAs g whole old nx new
+moves_play g whole x old mid new nx same moves none past has = (
   past.read,
   (
-    omega arith,
+    has_still past.read old.machine new.machine has none,
     λ n lines.
         (n, subst (GoesOnAs g n nx new.machine.frames (run_of new past lines)) (sym (same n past lines)) (moves past n lines)),
   ),
 )
 
 -- a timeout says message 35, and the frame comes
-pub timeout_heard : (g : GameLists) (old new : Turn) (line : List ℕ) (w : World) (nx : Next) → is_ignored old.world line ≡ false → is_timeout line ≡ true
+pub timeout_heard : (g : Story) (old new : Turn) (line : List ℕ) (w : World) (nx : Next) → is_ignored old.world line ≡ false → is_timeout line ≡ true
     → w ≡ with_timeout true old.world
-    → Moves g (λ n r. saying (say_text g w 35) (turn g [] n (at_stage stage.Frame)) r) (record { world = w; pending = old.pending; machine = old.machine; piece = old.piece }) nx new
+    → Moves g (λ n r. saying (say_text g.game w 35) (turn g n (at_stage stage.Frame)) r) (record { world = w; pending = old.pending; machine = old.machine; piece = old.piece }) nx new
     → new.machine ≡ old.machine → PlaysAs g (from_prompt g prompt.Main old line) old nx new
 unfolding at_main
 timeout_heard g old new line w nx heard timeout world moves machine =
-    moves_play g (from_prompt g prompt.Main old line) (λ n r. saying (say_text g w 35) (turn g [] n AtFrame) r) old
+    moves_play g (from_prompt g prompt.Main old line) (λ n r. saying (say_text g.game w 35) (turn g n AtFrame) r) old
     (record { world = w; pending = old.pending; machine = old.machine; piece = old.piece }) new nx
-    (λ m past lines. is m past lines) moves (ap (λ m. m.left) machine)
+    (λ m past lines. is m past lines) moves (equal_none old.machine new.machine machine)
   where
     is : (m : ℕ) (past : Past) (lines : List (List ℕ)) → from_prompt g prompt.Main old line m past lines
-        ≡ saying (say_text g w 35) (turn g [] m AtFrame) (run_of (record { world = w; pending = old.pending; machine = old.machine; piece = old.piece }) past lines)
+        ≡ saying (say_text g.game w 35) (turn g m AtFrame) (run_of (record { world = w; pending = old.pending; machine = old.machine; piece = old.piece }) past lines)
     is m past lines = rw (heard, timeout, world) refl
 
 -- any other line is pending now
-pub line_heard : (g : GameLists) (old new : Turn) (line : List ℕ) → is_ignored old.world line ≡ false → is_timeout line ≡ false
+pub line_heard : (g : Story) (old new : Turn) (line : List ℕ) → is_ignored old.world line ≡ false → is_timeout line ≡ false
     → new ≡ record { world = with_timeout false old.world; pending = record { bytes = line; earlier = 255 }; machine = old.machine; piece = old.piece }
     → PlaysAs g (from_prompt g prompt.Main old line) old (next.Go stage.Phrase) new
 unfolding at_main
 line_heard g old new line heard timeout is =
-    moves_play g (from_prompt g prompt.Main old line) (λ n r. turn g [] n AtPhrase r) old new new (next.Go stage.Phrase)
-    (λ m past lines. subst (λ (h : Turn). from_prompt g prompt.Main old line m past lines ≡ turn g [] m AtPhrase (run_of h past lines)) (sym is) (at m past lines))
-    (λ past n lines. refl) (ap (λ (h : Turn). h.machine.left) is)
+    moves_play g (from_prompt g prompt.Main old line) (λ n r. turn g n AtPhrase r) old new new (next.Go stage.Phrase)
+    (λ m past lines. subst (λ (h : Turn). from_prompt g prompt.Main old line m past lines ≡ turn g m AtPhrase (run_of h past lines)) (sym is) (at m past lines))
+    (λ past n lines. refl) (equal_none old.machine new.machine (ap (λ (h : Turn). h.machine) is))
   where
     at : (m : ℕ) (past : Past) (lines : List (List ℕ)) → from_prompt g prompt.Main old line m past lines
-        ≡ turn g [] m AtPhrase (run_of (record { world = with_timeout false old.world; pending = record { bytes = line; earlier = 255 }; machine = old.machine; piece = old.piece }) past lines)
+        ≡ turn g m AtPhrase (run_of (record { world = with_timeout false old.world; pending = record { bytes = line; earlier = 255 }; machine = old.machine; piece = old.piece }) past lines)
     at m past lines = rw (heard, timeout) refl
 
 -- an ignored line closes an empty piece, and the game waits on
-pub main_ignored : (g : GameLists) (old : Turn) (line : List ℕ) → is_ignored old.world line ≡ true
+pub main_ignored : (g : Story) (old : Turn) (line : List ℕ) → is_ignored old.world line ≡ true
     → PlaysAs g (from_prompt g prompt.Main old line) old (next.Stop (step.Waits prompt.Main)) old
 unfolding at_main
 main_ignored g old line ignored past has = (past.read, (has, λ n lines. (n, is n lines)))
   where
-    is : (n : ℕ) (lines : List (List ℕ)) → from_prompt g prompt.Main old line n past lines ≡ goes_on g [] n prompt.Main [] (closed (run_of old past lines))
+    is : (n : ℕ) (lines : List (List ℕ)) → from_prompt g prompt.Main old line n past lines ≡ goes_on g n prompt.Main [] (closed (run_of old past lines))
     is n lines = rw ignored refl

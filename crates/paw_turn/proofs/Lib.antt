@@ -2,14 +2,13 @@ pub mod Says
 pub mod Prompts
 pub mod Describing
 pub mod Phrasing
-pub mod Reading
 pub mod Falling
+pub mod Reading
 pub mod Playing
 pub mod Waiting
 pub mod Hearing
 pub mod Answering
 pub mod Renewing
 pub mod Settling
-pub mod Seating
-pub mod Ready
 pub mod Standing
+pub mod Seating

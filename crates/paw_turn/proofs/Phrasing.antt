@@ -1,6 +1,7 @@
 -- The next phrase.
 use Rattle.std.proofs.Common.{◌≡◌, ℕ, suc, ◌<◌, List, [], length, sym, ap, ◌∙◌, subst}
 use Rattle.paw_game.specs.Game.{GameLists}
+use Rattle.paw_effects.specs.Story.{Story}
 use Rattle.paw_world.specs.World.{World, flag}
 use Rattle.paw_phrase.specs.declared.Found.TheVariants as found
 use Rattle.paw_phrase.specs.Pending.{PendingLine}
@@ -21,26 +22,26 @@ abbrev pub next_of : GameLists → World → PendingLine → Parsed
 next_of g w p = parsed g p.bytes p.earlier (flag w 46) (flag w 47)
 
 -- the stage with what the next phrase is
-abbrev pub phrased : GameLists → ℕ → Run → Parsed → Ending
-phrased g n r = after_phrase g (turn g [] n AtFrame) (turn g [] n AtPhrase) (turn g [] n AtResponse) r
+abbrev pub phrased : Story → ℕ → Run → Parsed → Ending
+phrased g n r = after_phrase g (turn g n AtFrame) (turn g n AtPhrase) (turn g n AtResponse) r
 
 -- a sentence counts a turn and is responded to
-pub sentence_moves : (g : GameLists) (old new : Turn) (w : World)
-    → Speaks (next_of g old.world old.pending) found.Sentence old.world w old.pending new.pending
+pub sentence_moves : (g : Story) (old new : Turn) (w : World)
+    → Speaks (next_of g.game old.world old.pending) found.Sentence old.world w old.pending new.pending
     → new.world ≡ counted w → new.machine ≡ old.machine → new.piece ≡ old.piece
-    → Moves g (λ n r. turn g [] (suc n) AtPhrase r) old (next.Go stage.Response) new
+    → Moves g (λ n r. turn g (suc n) AtPhrase r) old (next.Go stage.Response) new
 unfolding turn
 sentence_moves g old new w speaks world machine piece past n lines =
-    ap (phrased g n (run_of old past lines)) speaks.1 ∙ ap (turn g [] n AtResponse) cc
+    ap (phrased g n (run_of old past lines)) speaks.1 ∙ ap (turn g n AtResponse) cc
 
 -- at an unknown phrase message 6 is said, and the rest of the line is dropped
-pub unknown_moves : (g : GameLists) (old new : Turn) (nx : Next) (rest : List ℕ) (w : World) (p : PendingLine)
-    → next_of g old.world old.pending ≡ IsUnknown rest → w ≡ old.world → p ≡ record { bytes = []; earlier = old.pending.earlier }
-    → Moves g (λ n r. saying (say_text g w 6) (turn g [] n (at_stage stage.Frame)) r) (record { world = w; pending = p; machine = old.machine; piece = old.piece }) nx new
-    → Moves g (λ n r. turn g [] (suc n) AtPhrase r) old nx new
+pub unknown_moves : (g : Story) (old new : Turn) (nx : Next) (rest : List ℕ) (w : World) (p : PendingLine)
+    → next_of g.game old.world old.pending ≡ IsUnknown rest → w ≡ old.world → p ≡ record { bytes = []; earlier = old.pending.earlier }
+    → Moves g (λ n r. saying (say_text g.game w 6) (turn g n (at_stage stage.Frame)) r) (record { world = w; pending = p; machine = old.machine; piece = old.piece }) nx new
+    → Moves g (λ n r. turn g (suc n) AtPhrase r) old nx new
 unfolding turn
 unknown_moves g old new nx rest w p is world pending moves past n lines =
-    let M : World → PendingLine → Type 0 = λ w' p'. Moves g (λ n' r. saying (say_text g w' 6) (turn g [] n' (at_stage stage.Frame)) r)
+    let M : World → PendingLine → Type 0 = λ w' p'. Moves g (λ n' r. saying (say_text g.game w' 6) (turn g n' (at_stage stage.Frame)) r)
     (record { world = w'; pending = p'; machine = old.machine; piece = old.piece }) nx new in
     let from = subst (λ w'. M w' (record { bytes = []; earlier = old.pending.earlier })) world (subst (M w) pending moves) in
     subst (GoesOnAs g n nx new.machine.frames (run_of new past lines))
@@ -48,13 +49,13 @@ unknown_moves g old new nx rest w p is world pending moves past n lines =
     (from past n lines)
 
 -- with no phrase left comes the prompt
-pub none_moves : (g : GameLists) (old new : Turn) (nx : Next) (w : World) (p : PendingLine)
-    → next_of g old.world old.pending ≡ IsNoPhrase → w ≡ old.world → p ≡ old.pending
-    → Moves g (λ n r. prompts g (turn g [] n AtFrame) (turn g [] n AtPhrase) r) (record { world = w; pending = p; machine = old.machine; piece = old.piece }) nx new
-    → Moves g (λ n r. turn g [] (suc n) AtPhrase r) old nx new
+pub none_moves : (g : Story) (old new : Turn) (nx : Next) (w : World) (p : PendingLine)
+    → next_of g.game old.world old.pending ≡ IsNoPhrase → w ≡ old.world → p ≡ old.pending
+    → Moves g (λ n r. prompts g (turn g n AtFrame) (turn g n AtPhrase) r) (record { world = w; pending = p; machine = old.machine; piece = old.piece }) nx new
+    → Moves g (λ n r. turn g (suc n) AtPhrase r) old nx new
 unfolding turn
 none_moves g old new nx w p is world pending moves past n lines =
-    let M : World → PendingLine → Type 0 = λ w' p'. Moves g (λ n' r. prompts g (turn g [] n' AtFrame) (turn g [] n' AtPhrase) r)
+    let M : World → PendingLine → Type 0 = λ w' p'. Moves g (λ n' r. prompts g (turn g n' AtFrame) (turn g n' AtPhrase) r)
     (record { world = w'; pending = p'; machine = old.machine; piece = old.piece }) nx new in
     let from = subst (λ w'. M w' old.pending) world (subst (M w) pending moves) in
     subst (GoesOnAs g n nx new.machine.frames (run_of new past lines))

@@ -1,6 +1,6 @@
 -- One stage after the other.
 use Rattle.std.proofs.Common.{ℕ, suc, List, [], refl, sym, subst}
-use Rattle.paw_game.specs.Game.{GameLists}
+use Rattle.paw_effects.specs.Story.{Story}
 use Rattle.paw_reading.specs.Turn.{Ending, turn}
 use Rattle.paw_turn.specs.declared.stage.Stage.{Stage}
 use Rattle.paw_turn.specs.declared.stage.Next.{Next}
@@ -9,12 +9,12 @@ use Rattle.paw_turn.specs.declared.turn.Turn.{Turn}
 use Rattle.paw_turn.specs.Stages.{Past, at_stage, run_of, having_read, GoesOnAs, Reads, PlaysAs, Plays}
 
 -- nothing is played yet
-pub plays_none : (g : GameLists) (first : Stage) (old : Turn) → Plays g first old (next.Go first) old
+pub plays_none : (g : Story) (first : Stage) (old : Turn) → Plays g first old (next.Go first) old
 plays_none g first old past has = (past.read, (has, λ n lines. (n, refl)))
 
 -- one stage more
-pub plays_on : (g : GameLists) (first s : Stage) (old mid new : Turn) (nx : Next)
-    → Plays g first old (next.Go s) mid → Reads g (λ n r. turn g [] (suc n) (at_stage s) r) mid nx new → Plays g first old nx new
+pub plays_on : (g : Story) (first s : Stage) (old mid new : Turn) (nx : Next)
+    → Plays g first old (next.Go s) mid → Reads g (λ n r. turn g (suc n) (at_stage s) r) mid nx new → Plays g first old nx new
 plays_on g first s old mid new nx plays reads past has =
     let a = plays past has in
     let b = reads (having_read a.0 past) a.1.0 in (
@@ -28,7 +28,7 @@ plays_on g first s old mid new nx plays reads past has =
     )
 
 -- a whole that comes to a stage, and what is played from there
-pub plays_then : (g : GameLists) (whole : ℕ → Past → List (List ℕ) → Ending) (s : Stage) (old mid new : Turn) (nx : Next)
+pub plays_then : (g : Story) (whole : ℕ → Past → List (List ℕ) → Ending) (s : Stage) (old mid new : Turn) (nx : Next)
     → PlaysAs g whole old (next.Go s) mid → Plays g s mid nx new → PlaysAs g whole old nx new
 plays_then g whole s old mid new nx first plays past has =
     let a = first past has in

@@ -1,54 +1,54 @@
 -- A table that is read.
 use Rattle.std.proofs.Common.{◌≡◌, ℕ, suc, ◌+◌, false, [], ◌∷◌, ◌++◌, length, refl, sym, subst, arith, length-append}
-use Rattle.paw_game.specs.Game.{GameLists}
+use Rattle.paw_effects.specs.Story.{Story}
 use Rattle.paw_reading.specs.Run.{Run}
 use Rattle.paw_reading.specs.Reading.{table_read}
 use Rattle.paw_reading.specs.Turn.{AtFrame, AtResponse, Ending, table_done, turn}
-use Rattle.paw_process.specs.OpenTables.{OpenTables}
+use Rattle.paw_process.specs.OpenTables.{OpenTables, HasRead, ReadsNone}
 use Rattle.paw_process.specs.Meaning.{held, RunsTo}
 use Rattle.paw_process.specs.declared.Turned.{Turned}
 use Rattle.paw_turn.specs.declared.stage.Next.{Next}
 use Rattle.paw_turn.specs.declared.turn.Turn.{Turn}
+use Rattle.paw_turn.proofs.Falling.{has_still}
 use Rattle.paw_turn.specs.Stages.{run_of, having_read, Moves, Reads, MovesAfter, RunsAs, from_table}
 
--- what the machine has read, and how the turn goes on
 -- a machine that has opened a table
 abbrev pub begun : ℕ → OpenTables → OpenTables
 begun t m = record m { frames = record { table = t; entry = 0; at = 0; acted = false } ∷ [] }
 
 -- the machine has read the table that it opened
-pub begun_runs : (g : GameLists) (t : ℕ) (old mid : Turn) (m : OpenTables) (turned : Turned) → m ≡ begun t old.machine
-    → RunsTo g [] (held old.world old.pending m old.piece) turned (held mid.world mid.pending mid.machine mid.piece)
+pub begun_runs : (g : Story) (t : ℕ) (old mid : Turn) (m : OpenTables) (turned : Turned) → m ≡ begun t old.machine
+    → RunsTo g (held old.world old.pending m old.piece) turned (held mid.world mid.pending mid.machine mid.piece)
     → RunsAs g (from_table g t old) old turned mid
 begun_runs g t old mid m turned is runs past has =
-    let from = subst (λ (n : OpenTables). RunsTo g [] (held old.world old.pending n old.piece) turned (held mid.world mid.pending mid.machine mid.piece)) is runs in
-    let t = from (run_of old past []) (record { world = refl; pending = refl; earlier = refl; turning = refl; current = refl; read = has }) in
+    let from = subst (λ (n : OpenTables). RunsTo g (held old.world old.pending n old.piece) turned (held mid.world mid.pending mid.machine mid.piece)) is runs in
+    let t = from (run_of old past []) (record { world = refl; pending = refl; earlier = refl; turning = refl; current = refl; read = record { left = has.left; steps = has.steps } }) in
     (t.0, (t.1, λ lines. t.2 lines))
 
 -- what the machine has read, and how the turn goes on
-pub read_on : (g : GameLists) (t : ℕ) (old mid new : Turn) (turned : Turned) (nx : Next)
-    → RunsAs g (from_table g t old) old turned mid → MovesAfter g t turned mid nx new → new.machine.left ≡ mid.machine.left
-    → Reads g (λ n r. table_done g (turn g [] n) t (table_read g [] t r)) old nx new
+pub read_on : (g : Story) (t : ℕ) (old mid new : Turn) (turned : Turned) (nx : Next)
+    → RunsAs g (from_table g t old) old turned mid → MovesAfter g t turned mid nx new → ReadsNone mid.machine new.machine
+    → Reads g (λ n r. table_done g (turn g n) t (table_read g t r)) old nx new
 read_on g t old mid new turned nx runs moves same past has =
     let t = runs past has in (
       past.read ++ t.0,
       (
-        omega (arith, length-append past.read t.0, t.1.0),
+        has_still (past.read ++ t.0) mid.machine new.machine t.1.0 same,
         λ n lines.
             moves (having_read (past.read ++ t.0) past) n lines _ (t.1.1 lines),
       ),
     )
 
 -- a stage in which nothing is read
-pub moves_read : (g : GameLists) (x : ℕ → Run → Ending) (old new : Turn) (nx : Next) → Moves g x old nx new → new.machine ≡ old.machine → Reads g x old nx new
+pub moves_read : (g : Story) (x : ℕ → Run → Ending) (old new : Turn) (nx : Next) → Moves g x old nx new → new.machine ≡ old.machine → Reads g x old nx new
 moves_read g x old new nx moves same past has =
-    (past.read, (subst (λ m. length past.read + m.left ≡ 200000) (sym same) has, λ n lines. moves past n lines))
+    (past.read, (subst (HasRead past.read) (sym same) has, λ n lines. moves past n lines))
 
 -- the frame reads table 2, and the response table 0
-pub frame_reads : (g : GameLists) (old new : Turn) (nx : Next) → Reads g (λ n r. table_done g (turn g [] n) 2 (table_read g [] 2 r)) old nx new → Reads g (λ n r. turn g [] (suc n) AtFrame r) old nx new
+pub frame_reads : (g : Story) (old new : Turn) (nx : Next) → Reads g (λ n r. table_done g (turn g n) 2 (table_read g 2 r)) old nx new → Reads g (λ n r. turn g (suc n) AtFrame r) old nx new
 unfolding turn
 frame_reads g old new nx reads = reads
 
-pub response_reads : (g : GameLists) (old new : Turn) (nx : Next) → Reads g (λ n r. table_done g (turn g [] n) 0 (table_read g [] 0 r)) old nx new → Reads g (λ n r. turn g [] (suc n) AtResponse r) old nx new
+pub response_reads : (g : Story) (old new : Turn) (nx : Next) → Reads g (λ n r. table_done g (turn g n) 0 (table_read g 0 r)) old nx new → Reads g (λ n r. turn g (suc n) AtResponse r) old nx new
 unfolding turn
 response_reads g old new nx reads = reads

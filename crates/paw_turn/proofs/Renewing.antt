@@ -6,6 +6,7 @@ use Rattle.std.proofs.lemmas.Bool.Decides.{nat_tests}
 use Rattle.paw_base.specs.declared.fault.SpentKind.TheVariants as spent
 use Rattle.paw_base.specs.declared.parts.ObjectFacts.{ObjectFacts}
 use Rattle.paw_game.specs.Game.{GameLists}
+use Rattle.paw_effects.specs.Story.{Story}
 use Rattle.paw_world.specs.World.{World, flags_with, restarted}
 use Rattle.paw_effects.specs.Built.{IsOf}
 use Rattle.paw_effects.specs.declared.act.Prompt.TheVariants as prompt
@@ -21,6 +22,8 @@ use Rattle.paw_turn.specs.declared.Step.TheVariants as step
 use Rattle.paw_turn.specs.declared.stage.Stage.TheVariants as stage
 use Rattle.paw_turn.specs.declared.stage.Next.TheVariants as next
 use Rattle.paw_turn.specs.declared.turn.Turn.{Turn}
+use Rattle.paw_process.specs.OpenTables.{ReadsNone}
+use Rattle.paw_turn.proofs.Falling.{has_still}
 use Rattle.paw_turn.specs.Stages.{Past, run_of, PlaysAs, from_prompt, ChangesFlags}
 
 -- at no the game is over or the piece is spent, and else it starts anew
@@ -28,9 +31,9 @@ abbrev final : Bool → Bool → Run → Run → Run → Out
 final declines fit e s d = if declines then (if fit then Ends e else IsSpent spent.Text s) else Restarts d
 
 -- the answer, once it is heard
-abbrev answer_of : GameLists → List ℕ → Run → Out
+abbrev answer_of : Story → List ℕ → Run → Out
 answer_of g line r =
-    final (is_no (reply line)) (fits r (say_text g r.world 14)) (closed (without_loop (line_dropped (printed (say_text g r.world 14) r)))) r (anew r)
+    final (is_no (reply line)) (fits r (say_text g.game r.world 14)) (closed (without_loop (line_dropped (printed (say_text g.game r.world 14) r)))) r (anew r)
 
 final_again : (lv : ℕ) (next : OpenLoop → Run → Out) (declines fit : Bool) (e s d : Run) → again lv next (final declines fit e s d) ≡ final declines fit e s d
 final_again lv next true true e s d = refl
@@ -43,70 +46,70 @@ final_call f go true false e s d = refl
 final_call f go false fit e s d = refl
 
 -- the answer is the same in all tables
-path_again : (g : GameLists) (X : List (List ℕ)) (lv : ℕ) (f : Frame) (path : List Frame) (r : Run) (line : List ℕ) (lines : List (List ℕ)) → is_ignored r.world line ≡ false
-    → on_path g X prompt.Again lv (f ∷ path) (to_come (line ∷ lines) r) ≡ answer_of g line (heard line (to_come lines r))
+path_again : (g : Story) (lv : ℕ) (f : Frame) (path : List Frame) (r : Run) (line : List ℕ) (lines : List (List ℕ)) → is_ignored r.world line ≡ false
+    → on_path g prompt.Again lv (f ∷ path) (to_come (line ∷ lines) r) ≡ answer_of g line (heard line (to_come lines r))
 unfolding asked
-path_again g X lv f [] r line lines hears = rw hears (final_again lv (looped g X (deeper g X lv) lv) _ _ _ _ _)
-path_again g X lv f (h ∷ path) r line lines hears =
-    ap (after_call f (rest g X lv f.table f.entry (suc f.at))) (path_again g X (suc lv) h path r line lines hears)
-    ∙ final_call f (rest g X lv f.table f.entry (suc f.at)) _ _ _ _ _
+path_again g lv f [] r line lines hears = rw hears (final_again lv (looped g (deeper g lv) lv) _ _ _ _ _)
+path_again g lv f (h ∷ path) r line lines hears =
+    ap (after_call f (rest g lv f.table f.entry (suc f.at))) (path_again g (suc lv) h path r line lines hears)
+    ∙ final_call f (rest g lv f.table f.entry (suc f.at)) _ _ _ _ _
 
-some_again : (g : GameLists) (path : List Frame) (r : Run) (line : List ℕ) (lines : List (List ℕ)) → 0 < length path → is_ignored r.world line ≡ false
-    → on_path g [] prompt.Again 0 path (to_come (line ∷ lines) r) ≡ answer_of g line (heard line (to_come lines r))
+some_again : (g : Story) (path : List Frame) (r : Run) (line : List ℕ) (lines : List (List ℕ)) → 0 < length path → is_ignored r.world line ≡ false
+    → on_path g prompt.Again 0 path (to_come (line ∷ lines) r) ≡ answer_of g line (heard line (to_come lines r))
 some_again g [] r line lines some hears = absurd (omega arith)
-some_again g (f ∷ path) r line lines some hears = path_again g [] 0 f path r line lines hears
+some_again g (f ∷ path) r line lines some hears = path_again g 0 f path r line lines hears
 
 -- the whole is the answer
-again_is : (g : GameLists) (old : Turn) (line : List ℕ) → 0 < length old.machine.frames → is_ignored old.world line ≡ false → (n : ℕ) (past : Past) (lines : List (List ℕ))
+again_is : (g : Story) (old : Turn) (line : List ℕ) → 0 < length old.machine.frames → is_ignored old.world line ≡ false → (n : ℕ) (past : Past) (lines : List (List ℕ))
     → from_prompt g prompt.Again old line n past lines
-    ≡ table_done g (turn g [] n) (first_table (reverse old.machine.frames)) (answer_of g line (heard line (run_of old past lines)))
+    ≡ table_done g (turn g n) (first_table (reverse old.machine.frames)) (answer_of g line (heard line (run_of old past lines)))
 again_is g old line some hears n past lines =
     let many : 0 < length (reverse old.machine.frames) = omega (arith, length-reverse old.machine.frames) in
-    ap (table_done g (turn g [] n) (first_table (reverse old.machine.frames))) (some_again g (reverse old.machine.frames) (run_of old past []) line lines many hears)
+    ap (table_done g (turn g n) (first_table (reverse old.machine.frames))) (some_again g (reverse old.machine.frames) (run_of old past []) line lines many hears)
 
-final_restarts : (g : GameLists) (go : Stage → Run → Ending) (t : ℕ) (declines fit : Bool) (e s d : Run) → declines ≡ false → table_done g go t (final declines fit e s d) ≡ go AtDescribe d
+final_restarts : (g : Story) (go : Stage → Run → Ending) (t : ℕ) (declines fit : Bool) (e s d : Run) → declines ≡ false → table_done g go t (final declines fit e s d) ≡ go AtDescribe d
 final_restarts g go t declines fit e s d is = rw is refl
 
-final_ends : (g : GameLists) (go : Stage → Run → Ending) (t : ℕ) (declines fit : Bool) (e s d : Run) → declines ≡ true → fit ≡ true → table_done g go t (final declines fit e s d) ≡ IsOver e
+final_ends : (g : Story) (go : Stage → Run → Ending) (t : ℕ) (declines fit : Bool) (e s d : Run) → declines ≡ true → fit ≡ true → table_done g go t (final declines fit e s d) ≡ IsOver e
 final_ends g go t declines fit e s d is fitting = rw (is, fitting) refl
 
-final_spends : (g : GameLists) (go : Stage → Run → Ending) (t : ℕ) (declines fit : Bool) (e s d : Run) → declines ≡ true → fit ≡ false → table_done g go t (final declines fit e s d) ≡ RunsOut spent.Text s
+final_spends : (g : Story) (go : Stage → Run → Ending) (t : ℕ) (declines fit : Bool) (e s d : Run) → declines ≡ true → fit ≡ false → table_done g go t (final declines fit e s d) ≡ RunsOut spent.Text s
 final_spends g go t declines fit e s d is fitting = rw (is, fitting) refl
 
 -- at any answer but no the game starts anew
-pub again_restarts : (g : GameLists) (old new : Turn) (line : List ℕ) → 0 < length old.machine.frames → is_ignored old.world line ≡ false → is_no (reply line) ≡ false
+pub again_restarts : (g : Story) (old new : Turn) (line : List ℕ) → 0 < length old.machine.frames → is_ignored old.world line ≡ false → is_no (reply line) ≡ false
     → new.world ≡ restarted (with_timeout (is_timeout line) old.world) → new.pending.bytes ≡ [] → new.pending.earlier ≡ 255
-    → new.machine.turning ≡ None → new.machine.left ≡ old.machine.left → new.piece ≡ old.piece
+    → new.machine.turning ≡ None → ReadsNone old.machine new.machine → new.piece ≡ old.piece
     → PlaysAs g (from_prompt g prompt.Again old line) old (next.Go stage.Describe) new
-again_restarts g old new line some hears declines world bytes earlier turning left piece past has = (
+again_restarts g old new line some hears declines world bytes earlier turning none piece past has = (
   past.read,
   (
-    omega arith,
+    has_still past.read old.machine new.machine has none,
     λ n lines. (
       n,
-      again_is g old line some hears n past lines ∙ (final_restarts g (turn g [] n) _ _ _ _ _ _ declines ∙ ap (turn g [] n AtDescribe) (cc (world, bytes, earlier, turning, piece))),
+      again_is g old line some hears n past lines ∙ (final_restarts g (turn g n) _ _ _ _ _ _ declines ∙ ap (turn g n AtDescribe) (cc (world, bytes, earlier, turning, piece))),
     ),
   ),
 )
 
 -- at no the game is over, and the run is what is held
-pub again_ends : (g : GameLists) (old new : Turn) (line : List ℕ) (w : World) → 0 < length old.machine.frames → is_ignored old.world line ≡ false → is_no (reply line) ≡ true
-    → w ≡ with_timeout (is_timeout line) old.world → length old.piece + length (say_text g w 14) ≤ 65535 → new.piece ≡ old.piece ++ say_text g w 14
+pub again_ends : (g : Story) (old new : Turn) (line : List ℕ) (w : World) → 0 < length old.machine.frames → is_ignored old.world line ≡ false → is_no (reply line) ≡ true
+    → w ≡ with_timeout (is_timeout line) old.world → length old.piece + length (say_text g.game w 14) ≤ 65535 → new.piece ≡ old.piece ++ say_text g.game w 14
     → new.world ≡ w → new.pending.bytes ≡ [] → new.pending.earlier ≡ old.pending.earlier → new.machine.turning ≡ None
-    → new.machine.left ≡ old.machine.left
+    → ReadsNone old.machine new.machine
     → PlaysAs g (from_prompt g prompt.Again old line) old (next.Stop step.Ended) new
-again_ends g old new line w some hears declines world fit piece stays bytes earlier turning left past has =
-    let fit' = subst (λ v. length old.piece + length (say_text g v 14) ≤ 65535) world fit in
-    let piece' = subst (λ v. new.piece ≡ old.piece ++ say_text g v 14) world piece in
+again_ends g old new line w some hears declines world fit piece stays bytes earlier turning none past has =
+    let fit' = subst (λ v. length old.piece + length (say_text g.game v 14) ≤ 65535) world fit in
+    let piece' = subst (λ v. new.piece ≡ old.piece ++ say_text g.game v 14) world piece in
     let world' = stays ∙ world in
-    let text : List ℕ = say_text g (with_timeout (is_timeout line) old.world) 14 in
+    let text : List ℕ = say_text g.game (with_timeout (is_timeout line) old.world) 14 in
     let t : nat_le (length old.piece + length text) 65535 ≡ true = grind (arith, nat_tests, fit') in (
       past.read,
       (
-        omega arith,
+        has_still past.read old.machine new.machine has none,
         λ n lines. (
           n,
-          again_is g old line some hears n past lines ∙ (final_ends g (turn g [] n) _ _ _ _ _ _ declines t
+          again_is g old line some hears n past lines ∙ (final_ends g (turn g n) _ _ _ _ _ _ declines t
               ∙ ap IsOver (held_is past lines (with_timeout (is_timeout line) old.world) (old.piece ++ text) new.world new.pending.bytes new.pending.earlier new.machine.turning new.piece world' bytes earlier turning piece')),
         ),
       ),
@@ -119,21 +122,21 @@ again_ends g old new line w some hears declines world fit piece stays bytes earl
     held_is past lines u text v b e o q world bytes earlier turning piece = rw (world, bytes, earlier, turning, piece) refl
 
 -- where the farewell doesn't fit the piece is spent
-pub again_spends : (g : GameLists) (old new : Turn) (line : List ℕ) (w : World) → 0 < length old.machine.frames → is_ignored old.world line ≡ false → is_no (reply line) ≡ true
-    → w ≡ with_timeout (is_timeout line) old.world → 65535 < length old.piece + length (say_text g w 14) → new.machine.left ≡ old.machine.left
+pub again_spends : (g : Story) (old new : Turn) (line : List ℕ) (w : World) → 0 < length old.machine.frames → is_ignored old.world line ≡ false → is_no (reply line) ≡ true
+    → w ≡ with_timeout (is_timeout line) old.world → 65535 < length old.piece + length (say_text g.game w 14) → ReadsNone old.machine new.machine
     → PlaysAs g (from_prompt g prompt.Again old line) old (next.Stop (step.Spent spent.Text)) new
-again_spends g old new line w some hears declines world full left past has =
-    let full' = subst (λ v. 65535 < length old.piece + length (say_text g v 14)) world full in
-    let text : List ℕ = say_text g (with_timeout (is_timeout line) old.world) 14 in
+again_spends g old new line w some hears declines world full none past has =
+    let full' = subst (λ v. 65535 < length old.piece + length (say_text g.game v 14)) world full in
+    let text : List ℕ = say_text g.game (with_timeout (is_timeout line) old.world) 14 in
     let t : nat_le (length old.piece + length text) 65535 ≡ false = grind (arith, nat_tests, full') in (
       past.read,
       (
-        omega arith,
+        has_still past.read old.machine new.machine has none,
         λ n lines. (
           n,
           (
             heard line (run_of old past lines),
-            again_is g old line some hears n past lines ∙ final_spends g (turn g [] n) _ _ _ _ _ _ declines t,
+            again_is g old line some hears n past lines ∙ final_spends g (turn g n) _ _ _ _ _ _ declines t,
             record { pieces = refl; traces = refl; events = refl },
           ),
         ),

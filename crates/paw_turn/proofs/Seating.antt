@@ -3,20 +3,22 @@ use Rattle.std.proofs.Common.{◌≡◌, ℕ, zero, suc, ◌<◌, Bool, true, fa
 use Rattle.std.specs.Prelude.{if◌then◌else◌, nat_lt}
 use Rattle.std.proofs.lemmas.Bool.{eqb-true, ltb-true}
 use Rattle.std.proofs.lemmas.List.{reverse-reverse, length-map}
-use Rattle.paw_base.specs.declared.parts.ObjectFacts.{ObjectFacts}
+use Rattle.paw_base.specs.Steps.{KeptSteps, no_steps}
 use Rattle.paw_game.specs.Game.{GameLists}
+use Rattle.paw_routines.specs.declared.routines.Routines.{Routines}
+use Rattle.paw_world.specs.World.{World}
 use Rattle.paw_game.specs.Valid.{Valid}
 use Rattle.paw_effects.specs.declared.act.Prompt.{Prompt}
 use Rattle.paw_effects.specs.declared.act.Prompt.TheVariants as prompt
-use Rattle.paw_effects.specs.Built.{AllBuilt, IsOf}
+use Rattle.paw_effects.specs.Built.{IsOf}
 use Rattle.paw_effects.specs.Opening.{opening_world}
-use Rattle.paw_effects.proofs.Placed.{opened_placed}
+use Rattle.paw_effects.proofs.Worlds.{world_is, start_so}
 use Rattle.paw_reading.specs.declared.places.Frame.{Frame}
 use Rattle.paw_reading.specs.declared.places.OpenLoop.{OpenLoop}
 use Rattle.paw_reading.specs.Turn.{first_table}
 use Rattle.paw_reading.specs.Places.{ArePlaces}
 use Rattle.paw_phrase.specs.Pending.{PendingLine}
-use Rattle.paw_process.specs.OpenTables.{OpenTables, IsWaiting}
+use Rattle.paw_process.specs.OpenTables.{OpenTables, HasRead, IsWaiting, IsClosed}
 use Rattle.paw_process.specs.Kept.{kept, restored, waiting_at, rows_fault, table_of, is_table, loop_stands, loop_fault, first_fault, count_fits, fault_at, frames_fault}
 use Rattle.paw_process.specs.Kept.{StandsAt as MachineStandsAt}
 use Rattle.paw_process.specs.declared.kept.Frames.{Frames}
@@ -25,9 +27,11 @@ use Rattle.paw_process.proofs.Again.{restored_again}
 use Rattle.paw_process.proofs.Fitting.{places_fit, kept_places}
 use Rattle.paw_turn.specs.declared.Step.{Step}
 use Rattle.paw_turn.specs.declared.Step.TheVariants as step
-use Rattle.paw_turn.specs.Player.{Seat, IsLoopOf, WaitsIn, Stands, IsSeated}
-use Rattle.paw_turn.proofs.Renewing.{length_flags}
-use Rattle.paw_turn.specs.Parts.{step_at, prompt_at, IsStanding, Fits, seat_at, RestoredFits, SeatedAgain}
+use Rattle.paw_turn.specs.Player.{Seat, IsLoopOf, WaitsIn, Stands, StandRightly, IsSeated, IsNew}
+use Rattle.paw_turn.specs.Stages.{IsPlayable, HasReadSome, seat_of}
+use Rattle.paw_turn.specs.declared.turn.Turn.{Turn}
+use Rattle.paw_turn.proofs.Standing.{unreversed}
+use Rattle.paw_turn.specs.Parts.{step_at, prompt_at, IsStanding, Fits, seat_at, seated_again, RestoredFits}
 
 -- ---- a restored machine ----
 
@@ -68,11 +72,17 @@ stands_again g prompt.Key k m is stands sound = waits_again g prompt.Key 35 k m 
 stands_again g prompt.Over k m is stands sound = stands
 
 pub restored_fits : RestoredFits
-restored_fits g at k w m of placed size is stands sound = record {
-  world = of;
-  objects = placed;
+restored_fits g at k w m p world pending size is stands sound = record {
   machine = stands_again g at k m is stands sound;
-  places = subst (λ (n : OpenTables). ArePlaces g at (reverse n.frames) n.turning) (sym is) (kept_places g at k size sound);
+  rightly = record {
+    world = world;
+    places = subst (λ (n : OpenTables). ArePlaces g at (reverse n.frames) n.turning) (sym is) (kept_places g at k size sound);
+    line = λ none. pending.taken (unreversed m.frames none);
+    pending = pending.bytes;
+    earlier = pending.earlier;
+    piece = refl;
+    read = refl;
+  };
 }
 
 -- ---- a player that stands ----
@@ -98,55 +108,112 @@ machine_stands step.Ended m stands standing = stands
 machine_stands (step.Spent kind) m stands standing = absurd standing
 machine_stands (step.TooDeep u) m stands standing = absurd standing
 
--- its parts fit its game
-pub parts_fit : (p : Seat) → IsSeated p → IsStanding p.last → Fits p.game p.world p.machine (prompt_at p.last)
-parts_fit p seated standing = record {
-  world = seated.world;
-  objects = seated.objects standing;
-  machine = subst (λ s. Stands s p.machine) (sym (step_again p.last p.machine seated.machine standing)) seated.machine;
-  places = seated.places;
-}
+module _ {F : Type 0} (p : Seat F) (seated : IsSeated p) (standing : IsStanding p.last) where
+  -- its parts fit its game
+  pub parts_fit : Fits p.game p.world p.machine p.pending (prompt_at p.last)
+  parts_fit = record {
+    machine = subst (λ s. Stands s p.machine) (sym (step_again p.last p.machine seated.machine standing)) seated.machine;
+    rightly = seated.rightly standing;
+  }
 
--- its places are never refused
-pub places_kept : (p : Seat) → IsSeated p → IsStanding p.last → frames_fault p.game (prompt_at p.last) (kept p.machine) ≡ None
-places_kept p seated standing =
-    places_fit p.game (prompt_at p.last) p.machine (machine_stands p.last p.machine seated.machine standing) seated.places
+  -- its places are never refused
+  pub places_kept : frames_fault p.game (prompt_at p.last) (kept p.machine) ≡ None
+  places_kept =
+      places_fit p.game (prompt_at p.last) p.machine (machine_stands p.last p.machine seated.machine standing) (seated.rightly standing).places
 
--- and a player that stands with them is the same but for the piece
-pub same_seat : (p : Seat) → IsSeated p → IsStanding p.last → seat_at p.game p.world p.machine p.pending (prompt_at p.last) ≡ record p { piece = [] }
-same_seat p seated standing =
-    ap (λ (s : Step). record { game = p.game; world = p.world; pending = p.pending; machine = p.machine; piece = []; last = s })
-    (step_again p.last p.machine seated.machine standing)
+  -- and a player that stands with them is the same but for the piece
+  pub same_seat : seat_at p.game p.routines p.world p.machine p.pending (prompt_at p.last) ≡ record p { piece = [] }
+  same_seat =
+      ap (λ (s : Step). record { game = p.game; routines = p.routines; world = p.world; pending = p.pending; machine = p.machine; piece = []; last = s })
+      (step_again p.last p.machine seated.machine standing)
 
-pub seated_as : SeatedAgain
-seated_as p seated standing =
-    ap (λ (m : OpenTables). seat_at p.game p.world m p.pending (prompt_at p.last))
-    (restored_again (prompt_at p.last) p.machine (machine_stands p.last p.machine seated.machine standing))
-    ∙ ap (λ (s : Step). record { game = p.game; world = p.world; pending = p.pending; machine = record p.machine { left = 200000 }; piece = []; last = s })
-    (step_again p.last p.machine seated.machine standing)
+  pub seated_as : seated_again p ≡ record p { piece = []; machine = record p.machine { left = 200000; steps = no_steps } }
+  seated_as =
+      ap (λ (m : OpenTables). seat_at p.game p.routines p.world m p.pending (prompt_at p.last))
+      (restored_again (prompt_at p.last) p.machine (machine_stands p.last p.machine seated.machine standing))
+      ∙ ap (λ (s : Step). record { game = p.game; routines = p.routines; world = p.world; pending = p.pending; machine = record p.machine { left = 200000; steps = no_steps }; piece = []; last = s })
+      (step_again p.last p.machine seated.machine standing)
+
+-- a player that is seated with parts
+pub fits_seated : {F : Type 0} (g : GameLists) (routines : Routines F) (w : World) (m : OpenTables) (p : PendingLine) (at : Prompt) → Valid g → Fits g w m p at → IsSeated (seat_at g routines w m p at)
+fits_seated g routines w m p at v fits = record { valid = v; machine = fits.machine; rightly = λ standing. same at (fits.rightly) }
+  where
+    same : (q : Prompt) → StandRightly g q w m p → StandRightly g (prompt_at (step_at q)) w m p
+    same prompt.Main k = k
+    same prompt.Quit k = k
+    same prompt.Again k = k
+    same prompt.Key k = k
+    same prompt.Over k = k
+
+-- the budget and the steps change nothing of how a machine stands
+closed_alike : (m : OpenTables) (left : ℕ) (steps : KeptSteps) → IsClosed m → IsClosed (record m { left = left; steps = steps })
+closed_alike m left steps k = record { frames = k.frames; turning = k.turning; waiting = k.waiting }
+
+waits_alike : (p : Prompt) (m : OpenTables) (left : ℕ) (steps : KeptSteps) → WaitsIn p m → WaitsIn p (record m { left = left; steps = steps })
+waits_alike p m left steps k =
+    record { tables = record { tables = k.tables.tables; condacts = k.tables.condacts; waiting = k.tables.waiting }; loop = k.loop }
+
+machine_alike : (at : Prompt) (m : OpenTables) (left : ℕ) (steps : KeptSteps) → Stands (step_at at) m → Stands (step_at at) (record m { left = left; steps = steps })
+machine_alike prompt.Main m left steps k = closed_alike m left steps k
+machine_alike prompt.Quit m left steps k = waits_alike prompt.Quit m left steps k
+machine_alike prompt.Again m left steps k = waits_alike prompt.Again m left steps k
+machine_alike prompt.Key m left steps k = waits_alike prompt.Key m left steps k
+machine_alike prompt.Over m left steps k = closed_alike m left steps k
+
+-- with its own parts, and a machine that was restored from what is kept of its own, a player fits its game
+pub taken_fits : {F : Type 0} (p : Seat F) (m : OpenTables) → IsSeated p → IsStanding p.last → m ≡ restored (kept p.machine) (waiting_at (prompt_at p.last))
+    → Fits p.game p.world m p.pending (prompt_at p.last)
+taken_fits p m seated standing is =
+    let fits = parts_fit p seated standing in
+    let k = fits.rightly in
+    subst (λ (n : OpenTables). Fits p.game p.world n p.pending (prompt_at p.last))
+    (sym (is ∙ restored_again (prompt_at p.last) p.machine (machine_stands p.last p.machine seated.machine standing)))
+    (record {
+      machine = machine_alike (prompt_at p.last) p.machine 200000 no_steps fits.machine;
+      rightly = record { world = k.world; places = k.places; line = k.line; pending = k.pending; earlier = k.earlier; piece = refl; read = refl };
+    })
+
+-- so do parts that are the same as its own
+pub same_fits : {F : Type 0} (p : Seat F) (g : GameLists) (w : World) (m : OpenTables) (q : PendingLine) (at : Prompt) → IsSeated p → IsStanding p.last
+    → g ≡ p.game → w ≡ p.world → m ≡ restored (kept p.machine) (waiting_at at) → q ≡ p.pending → at ≡ prompt_at p.last → Fits g w m q at
+same_fits p g w m q at seated standing game world machine pending prompt_is =
+    let fits = taken_fits p m seated standing (subst (λ (a : Prompt). m ≡ restored (kept p.machine) (waiting_at a)) prompt_is machine) in
+    subst (λ (h : GameLists). Fits h w m q at) (sym game) (subst (λ (v : World). Fits p.game v m q at) (sym world)
+    (subst (λ (l : PendingLine). Fits p.game p.world m l at) (sym pending) (subst (λ (a : Prompt). Fits p.game p.world m p.pending a) (sym prompt_is) fits)))
 
 -- ---- a player that starts anew ----
 
-opening_of : (g : GameLists) (seed : ℕ) → IsOf g (opening_world g seed)
-opening_of g seed = record {
-  facts = refl;
-  locations = refl;
-  flags = length_flags _;
-  places = length-map (map (λ o. o.facts) g.objects) (λ (f : ObjectFacts). f.start) ∙ length-map g.objects (λ o. o.facts);
-}
-
-pub begun : (p : Seat) (seed : ℕ) → Valid p.game → AllBuilt p.game → p.world ≡ opening_world p.game seed → p.pending ≡ record { bytes = []; earlier = 255 }
-    → p.machine ≡ record { frames = []; turning = None; waiting = None; left = 200000 } → p.last ≡ step.Waits prompt.Main → IsSeated p
-begun p seed valid built world pending machine last = record {
+pub begun : {F : Type 0} (p : Seat F) (seed : ℕ) → Valid p.game → p.world ≡ opening_world p.game seed → p.pending ≡ record { bytes = []; earlier = 255 }
+    → p.machine ≡ record { frames = []; turning = None; waiting = None; left = 200000; steps = no_steps } → p.last ≡ step.Waits prompt.Main → IsSeated p
+begun p seed valid world pending machine last = record {
   valid = valid;
-  built = built;
-  world = subst (IsOf p.game) (sym world) (opening_of p.game seed);
   machine = rw (last, machine) (record { frames = refl; turning = refl; waiting = refl });
-  places = rw (last, machine) (refl, refl);
-  line = λ standing none. ap (λ (s : PendingLine). s.bytes) pending;
-  objects = λ standing. rw world (opened_placed p.game seed valid).1.1;
+  rightly = λ standing. rw (last, world, pending, machine) (record {
+    world = world_is p.game seed 0 (opening_world p.game seed) (start_so p.game valid seed);
+    places = (refl, refl);
+    line = λ none. refl;
+    pending = record { short = omega arith; bytes = λ k d low. absurd (omega arith) };
+    earlier = omega arith;
+    piece = refl;
+    read = refl;
+  });
 }
 
-pub renewed : (p q : Seat) (seed : ℕ) → IsSeated p → q.game ≡ p.game → q.world ≡ opening_world q.game seed
-    → q.pending ≡ record { bytes = []; earlier = 255 } → q.machine ≡ record { frames = []; turning = None; waiting = None; left = 200000 } → q.last ≡ step.Waits prompt.Main → IsSeated q
-renewed p q seed seated game = begun q seed (subst Valid (sym game) seated.valid) (subst AllBuilt (sym game) seated.built)
+pub renewed : {F : Type 0} (p q : Seat F) (seed : ℕ) → IsSeated p → q.game ≡ p.game → q.world ≡ opening_world q.game seed
+    → q.pending ≡ record { bytes = []; earlier = 255 } → q.machine ≡ record { frames = []; turning = None; waiting = None; left = 200000; steps = no_steps } → q.last ≡ step.Waits prompt.Main → IsSeated q
+renewed p q seed seated game = begun q seed (subst Valid (sym game) seated.valid)
+
+-- a new player may play its first piece
+pub new_playable : {F : Type 0} (g : GameLists) (routines : Routines F) (h : Turn) (last : Step) → Valid g → IsNew (seat_of g routines h last) h.world.seed → IsPlayable g h
+new_playable g routines h last v fresh =
+    let left : h.machine.left ≡ 200000 = ap (λ (m : OpenTables). m.left) fresh.machine in
+    let draws : h.world.draws ≡ 0 = ap (λ (w : World). w.draws) fresh.world in
+    record {
+      world = subst (IsOf g) (sym fresh.world) (start_so g v h.world.seed).of;
+      budget = omega (arith, left);
+      draws = omega (arith, left, draws);
+    }
+
+pub new_read : {F : Type 0} (g : GameLists) (routines : Routines F) (h : Turn) (last : Step) → IsNew (seat_of g routines h last) h.world.seed → HasReadSome h.machine
+new_read g routines h last fresh =
+    ([], record { left = omega (arith, ap (λ (m : OpenTables). m.left) fresh.machine); steps = ap (λ (m : OpenTables). m.steps) fresh.machine })

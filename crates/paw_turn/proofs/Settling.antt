@@ -1,15 +1,16 @@
 -- From some stages to the whole reading.
 use Rattle.std.proofs.Common.{◌≡◌, ◌≢◌, ℕ, List, [], ◌∷◌, Option, None, reverse, refl, sym, ap, ◌∙◌, arith}
-use Rattle.paw_game.specs.Game.{GameLists}
+use Rattle.paw_effects.specs.Story.{Story}
 use Rattle.paw_world.specs.World.{World}
 use Rattle.paw_phrase.specs.Pending.{PendingLine}
+use Rattle.paw_routines.specs.declared.routines.Routines.{Routines}
 use Rattle.paw_effects.specs.declared.act.Prompt.{Prompt}
 use Rattle.paw_effects.specs.Opening.{opening_world}
 use Rattle.paw_reading.specs.declared.places.OpenLoop.{OpenLoop}
 use Rattle.paw_reading.specs.Run.{Run, Step as Read, closed}
 use Rattle.paw_reading.specs.Turn.{Ending, Unended, AtDescribe, AtResponse, turns_from, stages_left, opening, reading, on}
 use Rattle.paw_reading.proofs.Ends.{ends_once, going_on_ends, goes_on_once}
-use Rattle.paw_process.specs.OpenTables.{OpenTables}
+use Rattle.paw_process.specs.OpenTables.{OpenTables, HasRead}
 use Rattle.paw_turn.specs.declared.Step.{Step}
 use Rattle.paw_turn.specs.declared.Step.TheVariants as step
 use Rattle.paw_turn.specs.declared.stage.Stage.TheVariants as stage
@@ -23,32 +24,38 @@ abbrev Once : (ℕ → List (List ℕ) → Ending) → (List (List ℕ) → Endi
 Once whole total = (m : ℕ) (lines : List (List ℕ)) → whole m lines ≢ Unended → whole m lines ≡ total lines
 
 -- where some stages of the whole stop, it stops
-settles : (g : GameLists) (whole : ℕ → List (List ℕ) → Ending) (total : List (List ℕ) → Ending) → Once whole total
-    → (s last : Step) (new : Turn) (past : Past)
+settles : {F : Type 0} (g : Story) (routines : Routines F) (whole : ℕ → List (List ℕ) → Ending) (total : List (List ℕ) → Ending) → Once whole total
+    → (s last : Step) (new : Turn) (past : Past) → HasRead past.read new.machine
     → ((n : ℕ) (lines : List (List ℕ)) → (m : ℕ) × StopsAs g n s new.machine.frames (run_of new past lines) (whole m lines))
-    → PlaysTo total s (seat_of g (settled s new) last) past.pieces past.traces
-settles g whole total once (step.Waits p) last new past stops = (
+    → PlaysTo g total s (seat_of g.game routines (settled s new) last) past.pieces past.traces
+settles g routines whole total once (step.Waits p) last new past has stops = (
   past.read,
-  λ lines.
-      let r : Run = closed (run_of new past lines) in
-      let k = stops (stages_left AtResponse r) lines in
-      sym (once k.0 lines (λ e. going_on_ends g [] p (reverse new.machine.frames) r (sym k.1 ∙ e))) ∙ k.1,
+  (
+    has.steps,
+    λ lines.
+        let r : Run = closed (run_of new past lines) in
+        let k = stops (stages_left AtResponse r) lines in
+        sym (once k.0 lines (λ e. going_on_ends g p (reverse new.machine.frames) r (sym k.1 ∙ e))) ∙ k.1,
+  ),
 )
-settles g whole total once step.Ended last new past stops = (
+settles g routines whole total once step.Ended last new past has stops = (
   past.read,
-  λ lines.
-      let k = stops 0 lines in
-      let e = k.1 in
-      sym (once k.0 lines (λ u. cc (e, u))) ∙ e,
+  (
+    has.steps,
+    λ lines.
+        let k = stops 0 lines in
+        let e = k.1 in
+        sym (once k.0 lines (λ u. cc (e, u))) ∙ e,
+  ),
 )
-settles g whole total once (step.Spent kind) last new past stops = (
+settles g routines whole total once (step.Spent kind) last new past has stops = (
   refl,
   λ lines.
       let k = stops 0 lines in
       let e = k.1.1 in
       (k.1.0, sym (once k.0 lines (λ u. cc (e, u))) ∙ e, k.1.2.pieces, k.1.2.events),
 )
-settles g whole total once (step.TooDeep u) last new past stops = (
+settles g routines whole total once (step.TooDeep u) last new past has stops = (
   refl,
   λ lines.
       let k = stops 0 lines in
@@ -61,32 +68,33 @@ abbrev before : List (List ℕ) → List (List Read) → Past
 before pieces traces = record { read = []; pieces = pieces; traces = traces }
 
 -- a new player's first piece is that of the reading
-pub start_plays : (g : GameLists) (old new : Turn) (s last : Step) → Plays g stage.Describe old (next.Stop s) new → IsNew (seat_of g old last) old.world.seed
-    → PlaysTo (reading g [] old.world.seed) s (seat_of g (settled s new) s) [] []
-start_plays g old new s last plays fresh =
+pub start_plays : {F : Type 0} (g : Story) (routines : Routines F) (old new : Turn) (s last : Step) → Plays g stage.Describe old (next.Stop s) new
+    → IsNew (seat_of g.game routines old last) old.world.seed
+    → PlaysTo g (reading g old.world.seed) s (seat_of g.game routines (settled s new) s) [] []
+start_plays g routines old new s last plays fresh =
     let bytes = ap (λ (q : PendingLine). q.bytes) fresh.pending in
     let earlier = ap (λ (q : PendingLine). q.earlier) fresh.pending in
     let turning = ap (λ (m : OpenTables). m.turning) fresh.machine in
-    let left = ap (λ (m : OpenTables). m.left) fresh.machine in
-    let t = plays (before [] []) (omega arith) in
-    settles g (λ m lines. from_stage g stage.Describe old m (before [] []) lines) (reading g [] old.world.seed)
+    let has : HasRead [] old.machine = record { left = omega (arith, ap (λ (m : OpenTables). m.left) fresh.machine); steps = ap (λ (m : OpenTables). m.steps) fresh.machine } in
+    let t = plays (before [] []) has in
+    settles g routines (λ m lines. from_stage g stage.Describe old m (before [] []) lines) (reading g old.world.seed)
     (λ m lines differs.
     let same : run_of old (before [] []) lines ≡ opening g old.world.seed lines = opens old.world old.pending.bytes old.pending.earlier old.machine.turning old.piece lines fresh.world bytes earlier turning fresh.piece in
-    ends_once g [] m AtDescribe (run_of old (before [] []) lines) differs ∙ ap (turns_from g [] AtDescribe) same)
-    s s new (having_read t.0 (before [] [])) t.1.1
+    ends_once g m AtDescribe (run_of old (before [] []) lines) differs ∙ ap (turns_from g AtDescribe) same)
+    s s new (having_read t.0 (before [] [])) t.1.0 t.1.1
   where
     opens : (w : World) (bytes : List ℕ) (earlier : ℕ) (turning : Option OpenLoop) (piece : List ℕ) (lines : List (List ℕ))
-        → w ≡ opening_world g old.world.seed → bytes ≡ [] → earlier ≡ 255 → turning ≡ None → piece ≡ []
+        → w ≡ opening_world g.game old.world.seed → bytes ≡ [] → earlier ≡ 255 → turning ≡ None → piece ≡ []
         → ◌≡◌ {A = Run} (record { world = w; pending = bytes; earlier = earlier; turning = turning; current = piece; read = []; pieces = []; traces = []; events = lines }) (opening g old.world.seed lines)
     opens w bytes earlier turning piece lines world b e t p = rw (world, b, e, t, p) refl
 
 -- a line leads from a player's prompt to the next
-pub take_plays : (g : GameLists) (p : Prompt) (old new : Turn) (line : List ℕ) (s : Step) → (pieces : List (List ℕ)) (traces : List (List Read))
+pub take_plays : {F : Type 0} (g : Story) (routines : Routines F) (p : Prompt) (old new : Turn) (line : List ℕ) (s : Step) → (pieces : List (List ℕ)) (traces : List (List Read))
     → PlaysAs g (from_prompt g p (opened_piece old) line) (opened_piece old) (next.Stop s) new
-    → PlaysTo (λ lines. on g [] p (reverse old.machine.frames) (run_at (seat_of g old (step.Waits p)) pieces traces (line ∷ lines))) s (seat_of g (settled s new) s) pieces traces
-take_plays g p old new line s pieces traces plays =
-    let t = plays (before pieces traces) refl in
-    settles g (λ m lines. from_prompt g p (opened_piece old) line m (before pieces traces) lines)
-    (λ lines. on g [] p (reverse old.machine.frames) (run_at (seat_of g old (step.Waits p)) pieces traces (line ∷ lines)))
-    (λ m lines. goes_on_once g [] m p (reverse old.machine.frames) (run_at (seat_of g old (step.Waits p)) pieces traces (line ∷ lines)))
-    s s new (having_read t.0 (before pieces traces)) t.1.1
+    → PlaysTo g (λ lines. on g p (reverse old.machine.frames) (run_at (seat_of g.game routines old (step.Waits p)) pieces traces (line ∷ lines))) s (seat_of g.game routines (settled s new) s) pieces traces
+take_plays g routines p old new line s pieces traces plays =
+    let t = plays (before pieces traces) (record { left = refl; steps = refl }) in
+    settles g routines (λ m lines. from_prompt g p (opened_piece old) line m (before pieces traces) lines)
+    (λ lines. on g p (reverse old.machine.frames) (run_at (seat_of g.game routines old (step.Waits p)) pieces traces (line ∷ lines)))
+    (λ m lines. goes_on_once g m p (reverse old.machine.frames) (run_at (seat_of g.game routines old (step.Waits p)) pieces traces (line ∷ lines)))
+    s s new (having_read t.0 (before pieces traces)) t.1.0 t.1.1

@@ -1,101 +1,99 @@
 -- Where a player stands that was played on.
-use Rattle.std.proofs.Common.{◌≡◌, ℕ, ◌<◌, List, [], ◌∷◌, ◌++◌, length, reverse, refl, sym, ap, ◌∙◌, subst, arith}
+use Rattle.std.proofs.Common.{◌≡◌, ℕ, zero, suc, ◌<◌, List, [], ◌∷◌, ◌++◌, length, reverse, refl, sym, ap, ◌∙◌, subst, arith}
+use Rattle.std.specs.Prelude.{All}
+use Rattle.std.specs.Fn.{Shared}
+use Rattle.std.proofs.Math.ListN.{get_or}
 use Rattle.std.proofs.lemmas.List.{length-reverse}
 use Rattle.paw_game.specs.Game.{GameLists}
 use Rattle.paw_game.specs.Valid.{Valid}
+use Rattle.paw_world.specs.World.{World}
+use Rattle.paw_phrase.specs.Pending.{PendingLine}
+use Rattle.paw_routines.specs.declared.routines.Routines.{Routines}
+use Rattle.paw_routines.specs.Routines.{AreRowsOf}
 use Rattle.paw_effects.specs.declared.act.Prompt.{Prompt}
 use Rattle.paw_effects.specs.declared.act.Prompt.TheVariants as prompt
-use Rattle.paw_effects.specs.Built.{AllBuilt, IsOf, StandAtPlaces}
+use Rattle.paw_effects.specs.Standing.{AreBytes}
+use Rattle.paw_effects.specs.Story.{Story, story_of}
 use Rattle.paw_reading.specs.declared.places.Frame.{Frame}
-use Rattle.paw_reading.specs.Run.{Run, Step as Read}
-use Rattle.paw_reading.specs.GoingOn.{on_path}
-use Rattle.paw_reading.specs.Turn.{Ending, WaitsAt, AtResponse, at_main, table_done, turn, stages_left, first_table, reading, on}
-use Rattle.paw_reading.specs.Places.{ArePlaces, StopsRightly}
+use Rattle.paw_reading.specs.Run.{Step as Read}
+use Rattle.paw_reading.specs.Turn.{Ending, MayWaitAlong, reading, on}
+use Rattle.paw_reading.specs.Bounds.{IsLine, ValidStory}
+use Rattle.paw_reading.specs.Places.{StandsRightly, StopsRightly}
+use Rattle.paw_reading.proofs.Waiting.{waits_on}
 use Rattle.paw_reading.proofs.Rightly.{readings_stop_rightly, going_on_stops_rightly}
 use Rattle.paw_process.specs.OpenTables.{OpenTables, IsClosed}
 use Rattle.paw_turn.specs.declared.Step.{Step}
 use Rattle.paw_turn.specs.declared.Step.TheVariants as step
-use Rattle.paw_turn.specs.Player.{Seat, PlaysTo, Stands, StandsAt, WaitsIn, IsSeated, IsStanding, IsLineTaken, prompt_at, run_at}
-use Rattle.paw_turn.proofs.Waiting.{some_waits}
+use Rattle.paw_turn.specs.Player.{Seat, PlaysTo, Stands, StandsAt, WaitsIn, StandRightly, IsSeated, IsStanding, prompt_at, run_at, run_with}
 
--- the places of a player, what is left of its line, and its objects
-pub record Standing (g : GameLists) (s : Step) (p : Seat) : Type 0 where
-  pub places : ArePlaces g (prompt_at s) (reverse p.machine.frames) p.machine.turning
-  pub line : IsStanding s → IsLineTaken p.machine p.pending
-  pub objects : IsStanding s → StandAtPlaces g p.world
+-- rows that stand for routines make a story of a valid game
+pub valid_story : {F : Type 0} (calls : Shared F (ℕ × (ℕ × Unit {0})) ℕ) (routines : Routines F) (g : GameLists) (X : List (List ℕ)) → Valid g → AreRowsOf calls routines X → ValidStory (story_of g X)
+valid_story calls routines g X v rows = record { game = v; whole = rows.whole; bytes = rows.bytes }
 
--- ---- with no line more ----
-
-in_tables_waits : (g : GameLists) (X : List (List ℕ)) (p : Prompt) (path : List Frame) (r : Run) → 0 < length path
-    → table_done g (turn g X (stages_left AtResponse (record r { events = [] }))) (first_table path) (on_path g X p 0 path (record r { events = [] })) ≡ WaitsAt p path (record r { events = [] })
-in_tables_waits g X p path r some =
-    ap (table_done g (turn g X (stages_left AtResponse (record r { events = [] }))) (first_table path)) (some_waits g X p path r some)
+pub bytes_each : (bytes : List ℕ) → ((i : ℕ) → get_or bytes i 0 < 256) → AreBytes bytes
+bytes_each [] h k d low = absurd (omega (arith, low))
+bytes_each (b ∷ bs) h zero d low = h 0
+bytes_each (b ∷ bs) h (suc k) d low = bytes_each bs (λ i. h (suc i)) k d (omega (arith, low))
 
 many : (p : Prompt) (m : OpenTables) → WaitsIn p m → 0 < length (reverse m.frames)
 many p m waits = omega (arith, length-reverse m.frames, waits.tables.tables.some)
 
--- a player that waits comes to its prompt with no line more
-waits_on : (g : GameLists) (X : List (List ℕ)) (p : Prompt) (m : OpenTables) (r : Run) → StandsAt p m
-    → on g X p (reverse m.frames) (record r { events = [] }) ≡ WaitsAt p (reverse m.frames) (record r { events = [] })
-unfolding at_main
-waits_on g X prompt.Main m r closed = ap (λ (s : List Frame). WaitsAt prompt.Main s (record r { events = [] })) (sym (ap (λ (s : List Frame). reverse s) closed.frames))
-waits_on g X prompt.Quit m r waits = in_tables_waits g X prompt.Quit (reverse m.frames) r (many prompt.Quit m waits)
-waits_on g X prompt.Again m r waits = in_tables_waits g X prompt.Again (reverse m.frames) r (many prompt.Again m waits)
-waits_on g X prompt.Key m r waits = in_tables_waits g X prompt.Key (reverse m.frames) r (many prompt.Key m waits)
-waits_on g X prompt.Over m r none = absurd none
+reversed : (fs : List Frame) → fs ≡ [] → reverse fs ≡ []
+reversed fs e = ap (λ (s : List Frame). reverse s) e
 
--- ---- where it stands ----
+pub unreversed : (fs : List Frame) → reverse fs ≡ [] → fs ≡ []
+unreversed [] e = refl
+unreversed (f ∷ fs) e = let n : length (reverse (f ∷ fs)) ≡ 0 = ap (λ (s : List Frame). length s) e in absurd (omega (arith, length-reverse (f ∷ fs), n))
 
-reversed : (m : OpenTables) → m.frames ≡ [] → reverse m.frames ≡ []
-reversed m e = ap (λ (s : List Frame). reverse s) e
+-- a machine that stands at a prompt may wait along its frames
+may_wait : (p : Prompt) (m : OpenTables) → StandsAt p m → MayWaitAlong p (reverse m.frames)
+may_wait prompt.Main m closed = reversed m.frames closed.frames
+may_wait prompt.Quit m waits = many prompt.Quit m waits
+may_wait prompt.Again m waits = many prompt.Again m waits
+may_wait prompt.Key m waits = many prompt.Key m waits
+may_wait prompt.Over m none = none
 
-closed_stands : (g : GameLists) (s : Step) (p : Seat) → prompt_at s ≡ prompt.Over → IsClosed p.machine → ArePlaces g (prompt_at s) (reverse p.machine.frames) p.machine.turning
-closed_stands g s p over closed = rw over (reversed p.machine closed.frames, closed.turning)
+-- what was closed before, and the lines to come, change nothing of how a run stands
+pub stands_alike : (g : GameLists) (at : Prompt) (path : List Frame) (w : World) (m : OpenTables) (p : PendingLine) (pieces pieces' : List (List ℕ)) (traces traces' : List (List Read)) (lines lines' : List (List ℕ))
+    → StandsRightly g at path (run_with w m p pieces traces lines) → StandsRightly g at path (run_with w m p pieces' traces' lines')
+stands_alike g at path w m p pieces pieces' traces traces' lines lines' k =
+    record { world = k.world; places = k.places; line = k.line; pending = k.pending; earlier = k.earlier; piece = refl; read = refl }
 
-stands_at : (g : GameLists) (whole : List (List ℕ) → Ending) (s : Step) (p : Seat) (pieces : List (List ℕ)) (traces : List (List Read)) → p.game ≡ g → Stands s p.machine
-    → PlaysTo whole s p pieces traces → StopsRightly g (whole []) → Standing g s p
-stands_at g whole (step.Waits q) p pieces traces same stands plays rightly =
-    let r : Run = run_at p (pieces ++ p.piece ∷ []) (traces ++ plays.0 ∷ []) [] in
-    let at = subst (StopsRightly g) (plays.1 [] ∙ waits_on p.game [] q p.machine r stands) rightly in
-    record { places = at.1.places; line = λ standing none. at.1.line (reversed p.machine none); objects = λ standing. at.1.objects }
-stands_at g whole step.Ended p pieces traces same closed plays rightly =
-    let at = subst (StopsRightly g) (plays.1 []) rightly in
-    record { places = closed_stands g step.Ended p refl closed; line = λ standing none. at.line refl; objects = λ standing. at.objects }
-stands_at g whole (step.Spent kind) p pieces traces same closed plays rightly =
-    record { places = closed_stands g (step.Spent kind) p refl closed; line = λ standing. absurd standing; objects = λ standing. absurd standing }
-stands_at g whole (step.TooDeep u) p pieces traces same closed plays rightly =
-    record { places = closed_stands g (step.TooDeep u) p refl closed; line = λ standing. absurd standing; objects = λ standing. absurd standing }
+-- at the end no table is open
+stands_over : (g : GameLists) (w : World) (m : OpenTables) (p : PendingLine) (pieces : List (List ℕ)) (traces : List (List Read)) → IsClosed m
+    → StandsRightly g prompt.Over [] (run_with w m p pieces traces []) → StandRightly g prompt.Over w m p
+stands_over g w m p pieces traces closed k =
+    record { world = k.world; places = (reversed m.frames closed.frames, closed.turning); line = λ e. k.line refl; pending = k.pending; earlier = k.earlier; piece = refl; read = refl }
 
--- such a player is seated
-pub seated_standing : (g : GameLists) (p : Seat) → p.game ≡ g → Valid g → AllBuilt g → IsOf p.game p.world → Stands p.last p.machine → Standing g p.last p → IsSeated p
-seated_standing g p same valid built of stands at = record {
-  valid = subst Valid (sym same) valid;
-  built = subst AllBuilt (sym same) built;
-  world = of;
-  machine = stands;
-  places = subst (λ h. ArePlaces h (prompt_at p.last) (reverse p.machine.frames) p.machine.turning) (sym same) at.places;
-  line = at.line;
-  objects = λ standing. subst (λ h. StandAtPlaces h p.world) (sym same) (at.objects standing);
-}
+stands_at : {F : Type 0} (g : Story) (whole : List (List ℕ) → Ending) (s : Step) (p : Seat F) (pieces : List (List ℕ)) (traces : List (List Read)) → Stands s p.machine
+    → PlaysTo g whole s p pieces traces → StopsRightly g.game (whole []) → IsStanding s → StandRightly g.game (prompt_at s) p.world p.machine p.pending
+stands_at g whole (step.Waits q) p pieces traces stands plays rightly standing =
+    let at = subst (StopsRightly g.game) (plays.1.1 [] ∙ waits_on g q (reverse p.machine.frames) (run_at p (pieces ++ p.piece ∷ []) (traces ++ plays.0 ∷ []) []) (may_wait q p.machine stands) refl) rightly in
+    stands_alike g.game q (reverse p.machine.frames) p.world p.machine p.pending (pieces ++ p.piece ∷ []) [] (traces ++ plays.0 ∷ []) [] [] [] at.1
+stands_at g whole step.Ended p pieces traces closed plays rightly standing =
+    let at = subst (StopsRightly g.game) (plays.1.1 []) rightly in
+    stands_over g.game p.world p.machine p.pending (pieces ++ p.piece ∷ []) (traces ++ plays.0 ∷ []) closed at
+stands_at g whole (step.Spent kind) p pieces traces closed plays rightly standing = absurd standing
+stands_at g whole (step.TooDeep u) p pieces traces closed plays rightly standing = absurd standing
 
 -- a player that was started
-pub started : (g : GameLists) (seed : ℕ) (s : Step) (p : Seat) → Valid g → p.game ≡ g → Stands s p.machine → PlaysTo (reading g [] seed) s p [] [] → Standing g s p
-started g seed s p v same stands plays = stands_at g (reading g [] seed) s p [] [] same stands plays (readings_stop_rightly g [] seed [] v)
+pub started : {F : Type 0} (g : Story) (seed : ℕ) (s : Step) (p : Seat F) → ValidStory g → Stands s p.machine → PlaysTo g (reading g seed) s p [] []
+    → IsStanding s → StandRightly g.game (prompt_at s) p.world p.machine p.pending
+started g seed s p v stands plays =
+    stands_at g (reading g seed) s p [] [] stands plays (readings_stop_rightly g seed [] v (λ k d low. absurd (omega arith)))
+
+one_line : (line : List ℕ) → IsLine line → All IsLine (line ∷ [])
+one_line line is zero d low = is
+one_line line is (suc k) d low = absurd (omega arith)
 
 -- a player that took a line where it stood at a prompt
-pub taken_on : (old new : Seat) (line : List ℕ) (q : Prompt) (s : Step) → IsSeated old → old.last ≡ step.Waits q → new.game ≡ old.game → Stands s new.machine
-    → PlaysTo (λ lines. on old.game [] q (reverse old.machine.frames) (run_at old [] [] (line ∷ lines))) s new [] [] → Standing old.game s new
-taken_on old new line q s seated waits same stands plays =
-    stands_at old.game (λ lines. on old.game [] q (reverse old.machine.frames) (run_at old [] [] (line ∷ lines))) s new [] [] same stands plays
-    (going_on_stops_rightly old.game [] q (reverse old.machine.frames) (run_at old [] [] (line ∷ [])) seated.valid seated.world
-    (record { places = subst (λ t. ArePlaces old.game (prompt_at t) (reverse old.machine.frames) old.machine.turning) waits seated.places; line = line_taken; objects = seated.objects standing }))
-  where
-    unreversed : (fs : List Frame) → reverse fs ≡ [] → fs ≡ []
-    unreversed [] e = refl
-    unreversed (f ∷ fs) e = let n : length (reverse (f ∷ fs)) ≡ 0 = ap (λ (s : List Frame). length s) e in absurd (omega (arith, length-reverse (f ∷ fs), n))
-
-    standing : IsStanding old.last
-    standing = subst IsStanding (sym waits) tt
-
-    line_taken : reverse old.machine.frames ≡ [] → old.pending.bytes ≡ []
-    line_taken e = seated.line standing (unreversed old.machine.frames e)
+pub taken_on : {F : Type 0} (g : Story) (old new : Seat F) (line : List ℕ) (q : Prompt) (s : Step) → ValidStory g → old.game ≡ g.game → IsSeated old → old.last ≡ step.Waits q → IsLine line
+    → Stands s new.machine → PlaysTo g (λ lines. on g q (reverse old.machine.frames) (run_at old [] [] (line ∷ lines))) s new [] []
+    → IsStanding s → StandRightly g.game (prompt_at s) new.world new.machine new.pending
+taken_on g old new line q s v game seated waits is stands plays =
+    let standing : IsStanding old.last = subst IsStanding (sym waits) tt in
+    let at : StandRightly g.game q old.world old.machine old.pending =
+    subst (λ h. StandRightly h q old.world old.machine old.pending) game (subst (λ t. StandRightly old.game (prompt_at t) old.world old.machine old.pending) waits (seated.rightly standing)) in
+    stands_at g (λ lines. on g q (reverse old.machine.frames) (run_at old [] [] (line ∷ lines))) s new [] [] stands plays
+    (going_on_stops_rightly g q (reverse old.machine.frames) (run_at old [] [] (line ∷ [])) v (one_line line is)
+    (stands_alike g.game q (reverse old.machine.frames) old.world old.machine old.pending [] [] [] [] [] (line ∷ []) at))

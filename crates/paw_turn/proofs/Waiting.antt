@@ -1,7 +1,7 @@
 -- Where a machine waits.
 use Rattle.std.proofs.Common.{◌≡◌, ℕ, suc, ◌<◌, ◌≤◌, List, [], ◌∷◌, ◌++◌, length, reverse, refl, sym, ap, ◌∙◌, subst, arith}
 use Rattle.std.proofs.lemmas.List.{length-reverse}
-use Rattle.paw_game.specs.Game.{GameLists}
+use Rattle.paw_effects.specs.Story.{Story}
 use Rattle.paw_effects.specs.declared.act.Prompt.{Prompt}
 use Rattle.paw_effects.specs.declared.act.Prompt.TheVariants as prompt
 use Rattle.paw_reading.specs.declared.places.Frame.{Frame}
@@ -14,22 +14,10 @@ use Rattle.paw_process.specs.declared.Turned.{Turned}
 use Rattle.paw_process.specs.declared.Turned.TheVariants as turned
 use Rattle.paw_turn.specs.declared.turn.Turn.{Turn}
 use Rattle.paw_turn.specs.Player.{IsLoopOf}
-use Rattle.paw_turn.specs.Stages.{Past, run_of, having_read, RunsAs, from_table, WaitsInTable, StopsInTable}
+use Rattle.paw_turn.specs.Stages.{Past, run_of, having_read, HasReadSome, RunsAs, from_table, WaitsInTable, StopsInTable}
 use Rattle.paw_reading.proofs.Stays.{WaitsThere, table_waits}
+use Rattle.paw_reading.proofs.Waiting.{some_waits}
 use Rattle.paw_turn.proofs.Falling.{some_past}
-
--- with no line left a run waits where it is
-path_waits_on : (g : GameLists) (X : List (List ℕ)) (p : Prompt) (lv : ℕ) (f : Frame) (path : List Frame) (r : Run)
-    → on_path g X p lv (f ∷ path) (record r { events = [] }) ≡ Waits p (f ∷ path) (record r { events = [] })
-unfolding asked
-path_waits_on g X p lv f [] r = refl
-path_waits_on g X p lv f (h ∷ path) r = ap (after_call f (rest g X lv f.table f.entry (suc f.at))) (path_waits_on g X p (suc lv) h path r)
-
--- the frames from the outermost on are some
-pub some_waits : (g : GameLists) (X : List (List ℕ)) (p : Prompt) (path : List Frame) (r : Run) → 0 < length path
-    → on_path g X p 0 path (record r { events = [] }) ≡ Waits p path (record r { events = [] })
-some_waits g X p [] r some = absurd (omega arith)
-some_waits g X p (f ∷ path) r some = path_waits_on g X p 0 f path r
 
 waits_in : (p : Prompt) (t : ℕ) (m : OpenTables) → IsWaiting p m → WaitsThere t 0 p (reverse m.frames) m.turning → WaitsInTable t p m
 waits_in prompt.Main t m waits there = there.inner
@@ -39,7 +27,7 @@ waits_in prompt.Key t m waits there = (record { tables = waits; loop = subst (λ
 waits_in prompt.Over t m waits there = there.inner
 
 -- where a machine stopped in a table, if what it read waits there
-pub stops_in : (g : GameLists) (t : ℕ) (x : Past → List (List ℕ) → Out) (old mid : Turn) (turned : Turned) → old.machine.left ≤ 200000
+pub stops_in : (g : Story) (t : ℕ) (x : Past → List (List ℕ) → Out) (old mid : Turn) (turned : Turned) → HasReadSome old.machine
     → ((past : Past) (p : Prompt) (path : List Frame) (s : Run) → x past [] ≡ Waits p path s → WaitsThere t 0 p path s.turning)
     → RunsAs g x old turned mid → IsStopped turned mid.machine → StopsInTable t turned mid.machine
 stops_in g t x old mid (turned.Left acted) budget there runs stopped = stopped
@@ -50,11 +38,11 @@ stops_in g t x old mid (turned.Waits p) budget there runs stopped =
     let r : Run = closed (run_of mid (having_read (some.0.read ++ run.0) some.0) []) in
     let many : 0 < length (reverse mid.machine.frames) = omega (arith, length-reverse mid.machine.frames, stopped.tables.some) in
     waits_in p t mid.machine stopped
-    (there some.0 p (reverse mid.machine.frames) r (run.1.1 [] ∙ some_waits g [] p (reverse mid.machine.frames) r many))
+    (there some.0 p (reverse mid.machine.frames) r (run.1.1 [] ∙ some_waits g p (reverse mid.machine.frames) r many))
 stops_in g t x old mid (turned.Spent kind) budget there runs stopped = stopped
 stops_in g t x old mid (turned.TooDeep u) budget there runs stopped = stopped
 
-pub table_stops : (g : GameLists) (t : ℕ) (old mid : Turn) (turned : Turned) → old.machine.left ≤ 200000 → IsClosed old.machine
+pub table_stops : (g : Story) (t : ℕ) (old mid : Turn) (turned : Turned) → HasReadSome old.machine → IsClosed old.machine
     → RunsAs g (from_table g t old) old turned mid → IsStopped turned mid.machine → StopsInTable t turned mid.machine
 table_stops g t old mid turned budget none =
-    stops_in g t (from_table g t old) old mid turned budget (λ past p path s is. table_waits g [] t (run_of old past []) s p path none.turning is)
+    stops_in g t (from_table g t old) old mid turned budget (λ past p path s is. table_waits g t (run_of old past []) s p path none.turning is)

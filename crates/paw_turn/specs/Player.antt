@@ -1,38 +1,41 @@
 -- What a player's answers mean in the reading.
 use Rattle.std.specs.Prelude.{◌≡◌, ℕ, List, [], ◌∷◌, ◌++◌, Option, None, length, reverse, IfSome}
+use Rattle.paw_base.specs.Steps.{no_steps, kept_steps}
 use Rattle.paw_game.specs.Game.{GameLists}
 use Rattle.paw_game.specs.Valid.{Valid}
 use Rattle.paw_world.specs.World.{World}
 use Rattle.paw_phrase.specs.Pending.{PendingLine}
+use Rattle.paw_routines.specs.declared.routines.Routines.{Routines}
 use Rattle.paw_effects.specs.declared.act.Prompt.{Prompt}
 use Rattle.paw_effects.specs.declared.act.Prompt.TheVariants as prompt
-use Rattle.paw_effects.specs.Built.{AllBuilt, IsOf, StandAtPlaces}
 use Rattle.paw_effects.specs.Opening.{opening_world}
+use Rattle.paw_effects.specs.Story.{Story}
 use Rattle.paw_reading.specs.declared.places.OpenLoop.{OpenLoop}
 use Rattle.paw_reading.specs.Run.{Run, Step as Read}
 use Rattle.paw_reading.specs.Turn.{Ending, IsOver, RunsOut, CallsTooDeep, first_table, on}
-use Rattle.paw_reading.specs.Places.{ArePlaces}
+use Rattle.paw_reading.specs.Places.{StandsRightly}
 use Rattle.paw_process.specs.OpenTables.{OpenTables, IsWaiting, IsClosed}
 use Rattle.paw_turn.specs.declared.Step.{Step}
 use Rattle.paw_turn.specs.declared.Step.TheVariants as step
 
--- a player between two lines: its game, the world, what is left of the line, the tables that are open, the text of the
--- last piece, and what it came to last
-pub record Seat : Type 0 where
+-- a player between two lines: its game and the routines that it calls, the world, what is left of the line, the tables that
+-- are open with the steps of the last piece, the text of that piece, and what it came to last
+pub record Seat (F : Type 0) : Type 0 where
   pub game : GameLists
+  pub routines : Routines F
   pub world : World
   pub pending : PendingLine
   pub machine : OpenTables
   pub piece : List ℕ
   pub last : Step
 
--- the run that a player stands for, with these closed pieces, what was read in them, and these lines to come
-abbrev pub run_at : Seat → List (List ℕ) → List (List Read) → List (List ℕ) → Run
-run_at p pieces traces lines = record {
-  world = p.world;
-  pending = p.pending.bytes;
-  earlier = p.pending.earlier;
-  turning = p.machine.turning;
+-- the run that these parts stand for, with these closed pieces, what was read in them, and these lines to come
+abbrev pub run_with : World → OpenTables → PendingLine → List (List ℕ) → List (List Read) → List (List ℕ) → Run
+run_with w m p pieces traces lines = record {
+  world = w;
+  pending = p.bytes;
+  earlier = p.earlier;
+  turning = m.turning;
   current = [];
   read = [];
   pieces = pieces;
@@ -40,19 +43,23 @@ run_at p pieces traces lines = record {
   events = lines;
 }
 
--- Playing on comes to this: whatever lines come after, the whole reading of them goes on from the player's prompt with
--- one piece more; or is over with one piece more, as the player stands; or is spent, or a call is too deep, with no piece
--- more and none to show
-abbrev pub PlaysTo : (List (List ℕ) → Ending) → Step → Seat → List (List ℕ) → List (List Read) → Type 0
-PlaysTo whole (step.Waits p) new pieces traces =
-    (steps : List Read) × ((lines : List (List ℕ)) →
-    whole lines ≡ on new.game [] p (reverse new.machine.frames) (run_at new (pieces ++ new.piece ∷ []) (traces ++ steps ∷ []) lines))
-PlaysTo whole step.Ended new pieces traces =
-    (steps : List Read) × ((lines : List (List ℕ)) →
-    whole lines ≡ IsOver (run_at new (pieces ++ new.piece ∷ []) (traces ++ steps ∷ []) lines))
-PlaysTo whole (step.Spent kind) new pieces traces =
+-- the run that a player stands for
+abbrev pub run_at : {F : Type 0} → Seat F → List (List ℕ) → List (List Read) → List (List ℕ) → Run
+run_at p pieces traces lines = run_with p.world p.machine p.pending pieces traces lines
+
+-- Playing on in a story comes to this: whatever lines come after, the whole reading of them goes on from the player's prompt
+-- with one piece more; or is over with one piece more, as the player stands; or is spent, or a call is too deep, with no piece
+-- more and none to show. Of what was read in the piece that was closed the player keeps the steps
+abbrev pub PlaysTo : {F : Type 0} → Story → (List (List ℕ) → Ending) → Step → Seat F → List (List ℕ) → List (List Read) → Type 0
+PlaysTo g whole (step.Waits p) new pieces traces =
+    (read : List Read) × ((new.machine.steps ≡ kept_steps read) × ((lines : List (List ℕ)) →
+    whole lines ≡ on g p (reverse new.machine.frames) (run_at new (pieces ++ new.piece ∷ []) (traces ++ read ∷ []) lines)))
+PlaysTo g whole step.Ended new pieces traces =
+    (read : List Read) × ((new.machine.steps ≡ kept_steps read) × ((lines : List (List ℕ)) →
+    whole lines ≡ IsOver (run_at new (pieces ++ new.piece ∷ []) (traces ++ read ∷ []) lines)))
+PlaysTo g whole (step.Spent kind) new pieces traces =
     (new.piece ≡ []) × ((lines : List (List ℕ)) → (r : Run) × (whole lines ≡ RunsOut kind r) × (r.pieces ≡ pieces) × (r.events ≡ lines))
-PlaysTo whole (step.TooDeep u) new pieces traces =
+PlaysTo g whole (step.TooDeep u) new pieces traces =
     (new.piece ≡ []) × ((lines : List (List ℕ)) → (r : Run) × (whole lines ≡ CallsTooDeep u r) × (r.pieces ≡ pieces) × (r.events ≡ lines))
 
 -- a loop of the outermost level belongs to this table
@@ -100,24 +107,19 @@ IsStanding step.Ended = Unit {0}
 IsStanding (step.Spent kind) = ⊥
 IsStanding (step.TooDeep u) = ⊥
 
--- with no table open nothing is left of the line
-abbrev pub IsLineTaken : OpenTables → PendingLine → Type 0
-IsLineTaken m pending = m.frames ≡ [] → pending.bytes ≡ []
+-- parts stand in a game at a prompt as a run may
+abbrev pub StandRightly : GameLists → Prompt → World → OpenTables → PendingLine → Type 0
+StandRightly g at w m p = StandsRightly g at (reverse m.frames) (run_with w m p [] [] [])
 
--- a player of a valid game whose condacts are built may take lines; the tables that are open, the loop and the objects stand
--- at places of the game
-pub record IsSeated (p : Seat) : Type 0 where
+-- a player of a valid game may take lines: where it stands at a prompt it stands as a run may
+pub record IsSeated {F : Type 0} (p : Seat F) : Type 0 where
   pub valid : Valid p.game
-  pub built : AllBuilt p.game
-  pub world : IsOf p.game p.world
   pub machine : Stands p.last p.machine
-  pub places : ArePlaces p.game (prompt_at p.last) (reverse p.machine.frames) p.machine.turning
-  pub line : IsStanding p.last → IsLineTaken p.machine p.pending
-  pub objects : IsStanding p.last → StandAtPlaces p.game p.world
+  pub rightly : IsStanding p.last → StandRightly p.game (prompt_at p.last) p.world p.machine p.pending
 
 -- a player that is new: the game is at its start, and no piece was made
-pub record IsNew (p : Seat) (seed : ℕ) : Type 0 where
+pub record IsNew {F : Type 0} (p : Seat F) (seed : ℕ) : Type 0 where
   pub world : p.world ≡ opening_world p.game seed
   pub pending : p.pending ≡ record { bytes = []; earlier = 255 }
-  pub machine : p.machine ≡ record { frames = []; turning = None; waiting = None; left = 200000 }
+  pub machine : p.machine ≡ record { frames = []; turning = None; waiting = None; left = 200000; steps = no_steps }
   pub piece : p.piece ≡ []

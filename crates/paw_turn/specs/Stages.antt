@@ -2,17 +2,20 @@
 use Rattle.std.specs.Prelude.{◌≡◌, ℕ, zero, suc, ◌+◌, ◌*◌, ◌<◌, ◌≤◌, ◌^◌, Bool, List, [], ◌∷◌, ◌++◌, length, reverse, if◌then◌else◌}
 use Rattle.paw_base.specs.declared.fault.SpentKind.TheVariants as spent
 use Rattle.paw_game.specs.Game.{GameLists}
+use Rattle.paw_base.specs.Steps.{no_steps}
 use Rattle.paw_world.specs.World.{World}
+use Rattle.paw_routines.specs.declared.routines.Routines.{Routines}
 use Rattle.paw_effects.specs.declared.act.Prompt.{Prompt}
 use Rattle.paw_effects.specs.declared.act.Prompt.TheVariants as prompt
 use Rattle.paw_effects.specs.Built.{IsOf}
+use Rattle.paw_effects.specs.Story.{Story}
 use Rattle.paw_reading.specs.declared.places.Frame.{Frame}
 use Rattle.paw_reading.specs.Run.{Run, Step as Read, closed}
 use Rattle.paw_reading.specs.Reading.{Out, table_read}
 use Rattle.paw_reading.specs.GoingOn.{on_path}
 use Rattle.paw_reading.specs.Turn.{Ending, IsOver, RunsOut, CallsTooDeep, AtDescribe, AtFrame, AtPhrase, AtResponse, table_done, turn, first_table, goes_on}
 use Rattle.paw_reading.specs.Turn.{Stage as TurnStage}
-use Rattle.paw_process.specs.OpenTables.{OpenTables, IsClosed}
+use Rattle.paw_process.specs.OpenTables.{OpenTables, HasRead, IsClosed}
 use Rattle.paw_process.specs.Meaning.{SamePast, ComesTo}
 use Rattle.paw_process.specs.declared.Turned.{Turned}
 use Rattle.paw_process.specs.declared.Turned.TheVariants as turned
@@ -47,9 +50,9 @@ run_of h past lines = record {
   events = lines;
 }
 
--- the open piece may read 200,000 condacts
-abbrev pub HasRead : List Read → Turn → Type 0
-HasRead read h = length read + h.machine.left ≡ 200000
+-- the open piece has read some condacts
+abbrev pub HasReadSome : OpenTables → Type 0
+HasReadSome m = (read : List Read) × HasRead read m
 
 abbrev pub having_read : List Read → Past → Past
 having_read read past = record past { read = read }
@@ -64,66 +67,66 @@ at_stage stage.Response = AtResponse
 
 -- a turn stops here: it waits along the frames, or it is over, with the piece closed; or it is spent or a call is too deep,
 -- with no piece more
-abbrev pub StopsAs : GameLists → ℕ → Step → List Frame → Run → Ending → Type 0
-StopsAs g n (step.Waits p) fs r x = x ≡ goes_on g [] n p (reverse fs) (closed r)
+abbrev pub StopsAs : Story → ℕ → Step → List Frame → Run → Ending → Type 0
+StopsAs g n (step.Waits p) fs r x = x ≡ goes_on g n p (reverse fs) (closed r)
 StopsAs g n step.Ended fs r x = x ≡ IsOver (closed r)
 StopsAs g n (step.Spent kind) fs r x = (s : Run) × (x ≡ RunsOut kind s) × SamePast r s
 StopsAs g n (step.TooDeep u) fs r x = (s : Run) × (x ≡ CallsTooDeep u s) × SamePast r s
 
 -- what a turn comes to is going on with the next stage, or it stops here
-abbrev pub GoesOnAs : GameLists → ℕ → Next → List Frame → Run → Ending → Type 0
-GoesOnAs g n (next.Go s) fs r x = x ≡ turn g [] n (at_stage s) r
+abbrev pub GoesOnAs : Story → ℕ → Next → List Frame → Run → Ending → Type 0
+GoesOnAs g n (next.Go s) fs r x = x ≡ turn g n (at_stage s) r
 GoesOnAs g n (next.Stop step) fs r x = StopsAs g n step fs r x
 
 -- what x says leads from what was held to what is held now, and no condact is read
-abbrev pub Moves : GameLists → (ℕ → Run → Ending) → Turn → Next → Turn → Type 0
+abbrev pub Moves : Story → (ℕ → Run → Ending) → Turn → Next → Turn → Type 0
 Moves g x old next new =
     (past : Past) (n : ℕ) (lines : List (List ℕ)) →
     GoesOnAs g n next new.machine.frames (run_of new past lines) (x n (run_of old past lines))
 
 -- what x says leads from what was held to what is held now: there is what the open piece has read by then
-abbrev pub Reads : GameLists → (ℕ → Run → Ending) → Turn → Next → Turn → Type 0
+abbrev pub Reads : Story → (ℕ → Run → Ending) → Turn → Next → Turn → Type 0
 Reads g x old next new =
-    (past : Past) → HasRead past.read old → (read : List Read) × (HasRead read new × ((n : ℕ) (lines : List (List ℕ)) →
+    (past : Past) → HasRead past.read old.machine → (read : List Read) × (HasRead read new.machine × ((n : ℕ) (lines : List (List ℕ)) →
     GoesOnAs g n next new.machine.frames (run_of new (having_read read past) lines) (x n (run_of old past lines))))
 
 -- a whole, of which more may be granted, leads from what was held to what is held now
-abbrev pub PlaysAs : GameLists → (ℕ → Past → List (List ℕ) → Ending) → Turn → Next → Turn → Type 0
+abbrev pub PlaysAs : Story → (ℕ → Past → List (List ℕ) → Ending) → Turn → Next → Turn → Type 0
 PlaysAs g whole old next new =
-    (past : Past) → HasRead past.read old → (read : List Read) × (HasRead read new × ((n : ℕ) (lines : List (List ℕ)) →
+    (past : Past) → HasRead past.read old.machine → (read : List Read) × (HasRead read new.machine × ((n : ℕ) (lines : List (List ℕ)) →
     (m : ℕ) × GoesOnAs g n next new.machine.frames (run_of new (having_read read past) lines) (whole m past lines)))
 
 -- the turn from a stage on
-abbrev pub from_stage : GameLists → Stage → Turn → ℕ → Past → List (List ℕ) → Ending
-from_stage g s h m past lines = turn g [] m (at_stage s) (run_of h past lines)
+abbrev pub from_stage : Story → Stage → Turn → ℕ → Past → List (List ℕ) → Ending
+from_stage g s h m past lines = turn g m (at_stage s) (run_of h past lines)
 
 -- going on from a prompt with a line
-abbrev pub from_prompt : GameLists → Prompt → Turn → List ℕ → ℕ → Past → List (List ℕ) → Ending
-from_prompt g p h line m past lines = goes_on g [] m p (reverse h.machine.frames) (run_of h past (line ∷ lines))
+abbrev pub from_prompt : Story → Prompt → Turn → List ℕ → ℕ → Past → List (List ℕ) → Ending
+from_prompt g p h line m past lines = goes_on g m p (reverse h.machine.frames) (run_of h past (line ∷ lines))
 
 -- some stages from the first on lead from what was held to what is held now
-abbrev pub Plays : GameLists → Stage → Turn → Next → Turn → Type 0
+abbrev pub Plays : Story → Stage → Turn → Next → Turn → Type 0
 Plays g first old next new = PlaysAs g (from_stage g first old) old next new
 
 -- the machine has read what x says, from what was held to a stop
-abbrev pub RunsAs : GameLists → (Past → List (List ℕ) → Out) → Turn → Turned → Turn → Type 0
+abbrev pub RunsAs : Story → (Past → List (List ℕ) → Out) → Turn → Turned → Turn → Type 0
 RunsAs g x old turned new =
-    (past : Past) → HasRead past.read old → (steps : List Read) × ((length steps + new.machine.left ≡ old.machine.left) × ((lines : List (List ℕ)) →
-    ComesTo g [] turned new.machine.frames (run_of new (having_read (past.read ++ steps) past) lines) (x past lines)))
+    (past : Past) → HasRead past.read old.machine → (steps : List Read) × (HasRead (past.read ++ steps) new.machine × ((lines : List (List ℕ)) →
+    ComesTo g turned new.machine.frames (run_of new (having_read (past.read ++ steps) past) lines) (x past lines)))
 
 -- a table from its start
-abbrev pub from_table : GameLists → ℕ → Turn → Past → List (List ℕ) → Out
-from_table g t h past lines = table_read g [] t (run_of h past lines)
+abbrev pub from_table : Story → ℕ → Turn → Past → List (List ℕ) → Out
+from_table g t h past lines = table_read g t (run_of h past lines)
 
 -- going on in the tables that are open, with a line
-abbrev pub from_path : GameLists → Prompt → Turn → List ℕ → Past → List (List ℕ) → Out
-from_path g p h line past lines = on_path g [] p 0 (reverse h.machine.frames) (run_of h past (line ∷ lines))
+abbrev pub from_path : Story → Prompt → Turn → List ℕ → Past → List (List ℕ) → Out
+from_path g p h line past lines = on_path g p 0 (reverse h.machine.frames) (run_of h past (line ∷ lines))
 
 -- a table at level 0 came to what the machine turned out; the turn goes on from there, and no condact is read
-abbrev pub MovesAfter : GameLists → ℕ → Turned → Turn → Next → Turn → Type 0
+abbrev pub MovesAfter : Story → ℕ → Turned → Turn → Next → Turn → Type 0
 MovesAfter g t turned old next new =
-    (past : Past) (n : ℕ) (lines : List (List ℕ)) (x : Out) → ComesTo g [] turned old.machine.frames (run_of old past lines) x →
-    GoesOnAs g n next new.machine.frames (run_of new past lines) (table_done g (turn g [] n) t x)
+    (past : Past) (n : ℕ) (lines : List (List ℕ)) (x : Out) → ComesTo g turned old.machine.frames (run_of old past lines) x →
+    GoesOnAs g n next new.machine.frames (run_of new past lines) (table_done g (turn g n) t x)
 
 -- ---- what stands between two stages ----
 
@@ -239,8 +242,8 @@ AwaitsAt prompt.Over m = ⊥
 -- ---- players ----
 
 -- what a player is seen as
-abbrev pub seat_of : GameLists → Turn → Step → Seat
-seat_of g h last = record { game = g; world = h.world; pending = h.pending; machine = h.machine; piece = h.piece; last = last }
+abbrev pub seat_of : {F : Type 0} → GameLists → Routines F → Turn → Step → Seat F
+seat_of g routines h last = record { game = g; routines = routines; world = h.world; pending = h.pending; machine = h.machine; piece = h.piece; last = last }
 
 -- nothing is shown of a piece that is spent, or in which a call is too deep
 abbrev pub shown : Step → List ℕ → List ℕ
@@ -254,4 +257,4 @@ settled step h = record h { piece = shown step h.piece }
 
 -- a new piece may be read
 abbrev pub opened_piece : Turn → Turn
-opened_piece h = record h { piece = []; machine = record h.machine { left = 200000 } }
+opened_piece h = record h { piece = []; machine = record h.machine { left = 200000; steps = no_steps } }

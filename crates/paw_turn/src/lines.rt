@@ -1,33 +1,31 @@
 // The lines that a player takes.
 
-ghost use Rattle.std.specs.Prelude.{◌≡◌, ◌+◌, ◌<◌, ◌≤◌, false, length, reverse};
+ghost use Rattle.std.specs.Prelude.{◌≡◌, ◌+◌, ◌<◌, ◌≤◌, ℕ, List, false, length, reverse};
 ghost use Rattle.paw_base.specs.Piece.{Puts};
 ghost use Rattle.paw_game.specs.Valid.{Valid};
-ghost use Rattle.paw_effects.specs.Built.{AllBuilt, IsOf};
+ghost use Rattle.paw_routines.specs.Routines.{AreRowsOf, HaveRows};
+ghost use Rattle.paw_effects.specs.Built.{IsOf};
+ghost use Rattle.paw_effects.specs.Story.{story_of};
 ghost use Rattle.paw_effects.specs.declared.act.Prompt.TheVariants as prompt;
 ghost use Rattle.paw_reading.specs.Run.{is_timeout, is_ignored, reply, begins_with};
 ghost use Rattle.paw_reading.specs.Turn.{first_table};
 ghost use Rattle.paw_process.specs.OpenTables.{IsClosed};
 ghost use Rattle.paw_turn.specs.declared.stage.Next.TheVariants as next;
 ghost use Rattle.paw_turn.specs.Player.{WaitsIn, StandsAt};
-ghost use Rattle.paw_turn.specs.Stages.{PlaysAs, RunsAs, from_prompt, from_path, IsPlayable, Keeps, StopsInTable, AwaitsAt};
+ghost use Rattle.paw_turn.specs.Stages.{PlaysAs, RunsAs, from_prompt, from_path, IsPlayable, HasReadSome, Keeps, StopsInTable, AwaitsAt};
 
 use crate::Step;
 use crate::flags::{self, TIMEOUT};
 use crate::stage::{Next, Stage};
 use crate::turn::Turn;
 use paw_base::fault::SpentKind;
+use paw_base::messages::{GOODBYE_MESSAGE, TIMEOUT_MESSAGE};
 use paw_effects::act::Prompt;
 use paw_effects::text::say;
 use paw_game::tables::Tables;
 use paw_process::Turned;
+use paw_routines::routines::Routines;
 use paw_world::world::World;
-
-/// The system message where the game is over.
-const FAREWELL_MESSAGE: u8 = 14;
-
-/// The system message at a timeout.
-const TIMEOUT_MESSAGE: u8 = 35;
 
 /// Whether a line is ~, which stands for a timeout.
 fn is_timeout(line: &[u8]) -> bool
@@ -65,29 +63,45 @@ fn begins_with(capital: u8, line: &[u8]) -> bool
 
 impl Turn {
     /// Takes a line at a prompt, and plays on to the next one or to the end.
-    pub(crate) fn take<T: Tables>(&mut self, tables: &T, prompt: Prompt, line: &[u8]) -> Step
+    pub(crate) fn take<T: Tables, F: Fn(u8, u8) -> u8>(
+        &mut self,
+        tables: &T,
+        routines: &Routines<F>,
+        prompt: Prompt,
+        line: &[u8],
+    ) -> Step
         requires line { length line.now ≤ 255 }
         requires valid { Valid (T.game tables.now) }
-        requires built { AllBuilt (T.game tables.now) }
+        requires rows { HaveRows F.Fn routines.now }
+        requires read { HasReadSome self.old.machine }
         requires playable { IsPlayable (T.game tables.now) self.old }
         requires stands { StandsAt prompt self.old.machine }
-        ensures meaning { PlaysAs (T.game tables.now) (from_prompt (T.game tables.now) prompt self.old line.now) self.old (next.Stop result) self.new }
+        ensures meaning { (X : List (List ℕ)) → AreRowsOf F.Fn routines.now X → let g = story_of (T.game tables.now) X in
+            PlaysAs g (from_prompt g prompt self.old line.now) self.old (next.Stop result) self.new }
         ensures keeps { Keeps (T.game tables.now) self.old (next.Stop result) self.new }
     {
-        match self.hear(tables, prompt, line) {
-            Next::Go(stage) => self.play(tables, stage),
+        match self.hear(tables, routines, prompt, line) {
+            Next::Go(stage) => self.play(tables, routines, stage),
             Next::Stop(step) => step,
         }
     }
 
     /// Takes a line at a prompt. One that is ignored changes nothing.
-    fn hear<T: Tables>(&mut self, tables: &T, prompt: Prompt, line: &[u8]) -> Next
+    fn hear<T: Tables, F: Fn(u8, u8) -> u8>(
+        &mut self,
+        tables: &T,
+        routines: &Routines<F>,
+        prompt: Prompt,
+        line: &[u8],
+    ) -> Next
         requires line { length line.now ≤ 255 }
         requires valid { Valid (T.game tables.now) }
-        requires built { AllBuilt (T.game tables.now) }
+        requires rows { HaveRows F.Fn routines.now }
+        requires read { HasReadSome self.old.machine }
         requires playable { IsPlayable (T.game tables.now) self.old }
         requires stands { StandsAt prompt self.old.machine }
-        ensures meaning { PlaysAs (T.game tables.now) (from_prompt (T.game tables.now) prompt self.old line.now) self.old result self.new }
+        ensures meaning { (X : List (List ℕ)) → AreRowsOf F.Fn routines.now X → let g = story_of (T.game tables.now) X in
+            PlaysAs g (from_prompt g prompt self.old line.now) self.old result self.new }
         ensures keeps { Keeps (T.game tables.now) self.old result self.new }
     {
         if is_ignored(&self.world, line) {
@@ -95,7 +109,7 @@ impl Turn {
         }
         match prompt {
             Prompt::Main => self.hear_line(tables, line),
-            Prompt::Quit | Prompt::Key => self.hear_answer(tables, prompt, line),
+            Prompt::Quit | Prompt::Key => self.hear_answer(tables, routines, prompt, line),
             Prompt::Again => self.hear_again(tables, line),
             Prompt::Over => unreachable!(),
         }
@@ -108,7 +122,8 @@ impl Turn {
         requires heard { is_ignored self.old.world line.now ≡ false }
         requires playable { IsPlayable (T.game tables.now) self.old }
         requires closed { IsClosed self.old.machine }
-        ensures meaning { PlaysAs (T.game tables.now) (from_prompt (T.game tables.now) prompt.Main self.old line.now) self.old result self.new }
+        ensures meaning { (X : List (List ℕ)) → let g = story_of (T.game tables.now) X in
+            PlaysAs g (from_prompt g prompt.Main self.old line.now) self.old result self.new }
         ensures keeps { Keeps (T.game tables.now) self.old result self.new }
     {
         if is_timeout(line) {
@@ -122,28 +137,44 @@ impl Turn {
     }
 
     /// Takes the answer to QUIT's question, or a key, that isn't ignored, and goes on where the tables wait.
-    fn hear_answer<T: Tables>(&mut self, tables: &T, prompt: Prompt, line: &[u8]) -> Next
+    fn hear_answer<T: Tables, F: Fn(u8, u8) -> u8>(
+        &mut self,
+        tables: &T,
+        routines: &Routines<F>,
+        prompt: Prompt,
+        line: &[u8],
+    ) -> Next
         requires heard { is_ignored self.old.world line.now ≡ false }
         requires valid { Valid (T.game tables.now) }
-        requires built { AllBuilt (T.game tables.now) }
+        requires rows { HaveRows F.Fn routines.now }
+        requires read { HasReadSome self.old.machine }
         requires playable { IsPlayable (T.game tables.now) self.old }
         requires awaits { AwaitsAt prompt self.old.machine }
-        ensures meaning { PlaysAs (T.game tables.now) (from_prompt (T.game tables.now) prompt self.old line.now) self.old result self.new }
+        ensures meaning { (X : List (List ℕ)) → AreRowsOf F.Fn routines.now X → let g = story_of (T.game tables.now) X in
+            PlaysAs g (from_prompt g prompt self.old line.now) self.old result self.new }
         ensures keeps { Keeps (T.game tables.now) self.old result self.new }
     {
         let table = self.machine.first_table();
-        let turned = self.run_answered(tables, prompt, line);
+        let turned = self.run_answered(tables, routines, prompt, line);
         self.after_table(tables, table, turned)
     }
 
     /// Gives the machine an answer that isn't ignored, and lets it read on to its next stop.
-    fn run_answered<T: Tables>(&mut self, tables: &T, prompt: Prompt, line: &[u8]) -> Turned
+    fn run_answered<T: Tables, F: Fn(u8, u8) -> u8>(
+        &mut self,
+        tables: &T,
+        routines: &Routines<F>,
+        prompt: Prompt,
+        line: &[u8],
+    ) -> Turned
         requires heard { is_ignored self.old.world line.now ≡ false }
         requires valid { Valid (T.game tables.now) }
-        requires built { AllBuilt (T.game tables.now) }
+        requires rows { HaveRows F.Fn routines.now }
+        requires read { HasReadSome self.old.machine }
         requires playable { IsPlayable (T.game tables.now) self.old }
         requires awaits { AwaitsAt prompt self.old.machine }
-        ensures runs { RunsAs (T.game tables.now) (from_path (T.game tables.now) prompt self.old line.now) self.old result self.new }
+        ensures runs { (X : List (List ℕ)) → AreRowsOf F.Fn routines.now X → let g = story_of (T.game tables.now) X in
+            RunsAs g (from_path g prompt self.old line.now) self.old result self.new }
         ensures stops { StopsInTable (first_table (reverse self.old.machine.frames)) result self.new.machine }
         ensures left { self.new.machine.left ≤ self.old.machine.left }
         ensures world { IsOf (T.game tables.now) self.new.world }
@@ -151,7 +182,13 @@ impl Turn {
     {
         flags::tell_timeout(&mut self.world, is_timeout(line));
         self.machine.answer(begins_with(b'Y', reply(line)));
-        self.machine.run(tables, &mut self.world, &mut self.pending, &mut self.piece)
+        self.machine.run(
+            tables,
+            &mut self.world,
+            &mut self.pending,
+            routines,
+            &mut self.piece,
+        )
     }
 
     /// Takes the answer to END's question that isn't ignored: at no the game is over, and otherwise it starts anew.
@@ -159,7 +196,8 @@ impl Turn {
         requires heard { is_ignored self.old.world line.now ≡ false }
         requires playable { IsPlayable (T.game tables.now) self.old }
         requires waits { WaitsIn prompt.Again self.old.machine }
-        ensures meaning { PlaysAs (T.game tables.now) (from_prompt (T.game tables.now) prompt.Again self.old line.now) self.old result self.new }
+        ensures meaning { (X : List (List ℕ)) → let g = story_of (T.game tables.now) X in
+            PlaysAs g (from_prompt g prompt.Again self.old line.now) self.old result self.new }
         ensures keeps { Keeps (T.game tables.now) self.old result self.new }
     {
         flags::tell_timeout(&mut self.world, is_timeout(line));
@@ -170,7 +208,7 @@ impl Turn {
             return Next::Go(Stage::Describe);
         }
         self.pending.drop_line();
-        if say(tables, &self.world, &mut self.piece, FAREWELL_MESSAGE) {
+        if say(tables, &self.world, &mut self.piece, GOODBYE_MESSAGE) {
             Next::Stop(Step::Ended)
         } else {
             Next::Stop(Step::Spent(SpentKind::Text))

@@ -2,7 +2,8 @@
 
 ghost use Rattle.std.specs.Prelude.{◌≡◌, ℕ, ◌+◌, ◌<◌, ◌≤◌, ◌^◌, List, [], ◌∷◌, None, length, reverse, IfOk};
 ghost use Rattle.paw_base.specs.Piece.{piece_limit};
-ghost use Rattle.paw_effects.specs.Built.{AllBuilt};
+ghost use Rattle.paw_routines.specs.Routines.{AreRowsOf, HaveRows};
+ghost use Rattle.paw_effects.specs.Story.{story_of};
 ghost use Rattle.paw_effects.specs.declared.act.Prompt.{Prompt as AtPrompt};
 ghost use Rattle.paw_effects.specs.declared.act.Prompt.TheVariants as prompt;
 ghost use Rattle.paw_reading.specs.Run.{Step as Read};
@@ -10,7 +11,7 @@ ghost use Rattle.paw_reading.specs.Turn.{reading, on};
 ghost use Rattle.paw_process.specs.Kept.{kept, frames_fault};
 ghost use Rattle.paw_turn.specs.declared.Step.TheVariants as step;
 ghost use Rattle.paw_turn.specs.Parts.{Fits, IsStanding, seat_at, step_at, prompt_at};
-ghost use Rattle.paw_turn.specs.Player.{IsNew, IsSeated, IsFinished, IsLineTaken, PlaysTo, run_at};
+ghost use Rattle.paw_turn.specs.Player.{IsNew, IsSeated, IsFinished, PlaysTo, run_at};
 
 use crate::Step;
 use crate::parts::{Parts, prompt_at, step_at};
@@ -18,10 +19,12 @@ use crate::stage::Stage;
 use crate::turn::Turn;
 use paw_base::fault::NoRoom;
 use paw_base::piece::Piece;
+use paw_base::steps::Steps;
 use paw_effects::act::Prompt;
 use paw_game::tables::Tables;
 use paw_phrase::Pending;
 use paw_process::Machine;
+use paw_routines::routines::Routines;
 use paw_world::world::World;
 use std::alloc::Global;
 use std::marker::Model;
@@ -29,22 +32,24 @@ use std::marker::Model;
 #[cfg(test)]
 mod tests;
 
-/// A player of one game, which it borrows: it takes lines, and after each lends the piece of text that the line
+/// A player of one game, which it borrows with the routines that the game calls: it takes lines, and after each lends the piece of text that the line
 /// brought. It takes all its memory when it is made.
 #[derive(Drop)]
-pub struct Player<'a, T: Tables> {
+pub struct Player<'a, T: Tables, F: Fn(u8, u8) -> u8> {
     tables: &'a T,
+    routines: &'a Routines<F>,
     turn: Turn,
     last: Step,
 }
 
-impl<'a, T: Tables> Model for Player<'a, T> {
+impl<'a, T: Tables, F: Fn(u8, u8) -> u8> Model for Player<'a, T, F> {
     ghost use Rattle.paw_turn.specs.Player.{Seat};
 
-    ghost Value = { Seat };
+    ghost Value = { Seat F };
 
     ghost view = { λ p. record {
       game = T.game p.tables.now;
+      routines = p.routines.now;
       world = p.turn.world;
       pending = p.turn.pending;
       machine = p.turn.machine;
@@ -53,14 +58,19 @@ impl<'a, T: Tables> Model for Player<'a, T> {
     } };
 }
 
-impl<'a, T: Tables> Player<'a, T> {
-    /// A player at the start of a game whose condacts are built, with the seed of its random draws.
+impl<'a, T: Tables, F: Fn(u8, u8) -> u8> Player<'a, T, F> {
+    /// A player at the start of a game that calls these routines, with the seed of its random draws.
     ///
     /// # Errors
     /// NoRoom where there is no memory for a piece.
-    pub fn new(alloc: Global, tables: &'a T, seed: u64) -> Result<Player<'a, T>, NoRoom>
-        requires built { AllBuilt (T.game tables.now) }
+    pub fn new(
+        alloc: Global,
+        tables: &'a T,
+        routines: &'a Routines<F>,
+        seed: u64,
+    ) -> Result<Player<'a, T, F>, NoRoom>
         ensures game { IfOk result (λ p. p.game ≡ T.game tables.now) }
+        ensures routines { IfOk result (λ p. p.routines ≡ routines.now) }
         ensures new { IfOk result (λ p. IsNew p seed) }
         ensures last { IfOk result (λ p. p.last ≡ step.Waits prompt.Main) }
         ensures seated { IfOk result IsSeated }
@@ -68,35 +78,36 @@ impl<'a, T: Tables> Player<'a, T> {
         let piece = Piece::new(alloc)?;
         Ok(Player {
             tables,
+            routines,
             turn: Turn::new(tables, seed, piece),
             last: Step::Waits(Prompt::Main),
         })
     }
 
-    /// A player of a game whose condacts are built that stands at a prompt with these parts, as they were lent or
-    /// restored: objects and open tables stand at places of the game, and with no table open nothing is left of the line.
-    /// The next line goes on from there; where the game is over the player is finished.
+    /// A player of a game that calls these routines, which stands at a prompt with these parts, as they were lent or
+    /// restored: they stand there as a run of the game may. The next line goes on from there; where the game is over the
+    /// player is finished.
     ///
     /// # Errors
     /// NoRoom where there is no memory for a piece. The parts are gone then.
     pub fn adopt(
         alloc: Global,
         tables: &'a T,
+        routines: &'a Routines<F>,
         world: World,
         machine: Machine,
         pending: Pending,
         prompt: Prompt,
-    ) -> Result<Player<'a, T>, NoRoom>
-        requires built { AllBuilt (T.game tables.now) }
-        requires fits { Fits (T.game tables.now) world machine prompt }
-        requires line { IsLineTaken machine pending }
-        ensures value { IfOk result (λ p. p ≡ seat_at (T.game tables.now) world machine pending prompt) }
+    ) -> Result<Player<'a, T, F>, NoRoom>
+        requires fits { Fits (T.game tables.now) world machine pending prompt }
+        ensures value { IfOk result (λ p. p ≡ seat_at (T.game tables.now) routines.now world machine pending prompt) }
         ensures seated { IfOk result IsSeated }
     {
         let _counts = tables.counts();
         let piece = Piece::new(alloc)?;
         Ok(Player {
             tables,
+            routines,
             turn: Turn {
                 world,
                 pending,
@@ -111,6 +122,7 @@ impl<'a, T: Tables> Player<'a, T> {
     pub fn renew(&mut self, seed: u64)
         requires seated { IsSeated self.old }
         ensures game { self.new.game ≡ self.old.game }
+        ensures routines { self.new.routines ≡ self.old.routines }
         ensures new { IsNew self.new seed }
         ensures last { self.new.last ≡ step.Waits prompt.Main }
         ensures seated { IsSeated self.new }
@@ -122,9 +134,8 @@ impl<'a, T: Tables> Player<'a, T> {
     /// Goes on with these parts at a prompt: the player is as `adopt` gives it. Takes no memory.
     pub fn seat(&mut self, world: World, machine: Machine, pending: Pending, prompt: Prompt)
         requires seated { IsSeated self.old }
-        requires fits { Fits self.old.game world machine prompt }
-        requires line { IsLineTaken machine pending }
-        ensures value { self.new ≡ seat_at self.old.game world machine pending prompt }
+        requires fits { Fits self.old.game world machine pending prompt }
+        ensures value { self.new ≡ seat_at self.old.game self.old.routines world machine pending prompt }
         ensures seated { IsSeated self.new }
     {
         self.turn.seat(world, machine, pending);
@@ -134,14 +145,17 @@ impl<'a, T: Tables> Player<'a, T> {
     /// Plays the piece before the first line. It is asked for once, right after `new` or `renew`.
     pub fn start(&mut self) -> Step
         requires seated { IsSeated self.old }
+        requires rows { HaveRows F.Fn self.old.routines }
         requires new { IsNew self.old self.old.world.seed }
         ensures last { self.new.last ≡ result }
         ensures game { self.new.game ≡ self.old.game }
-        ensures meaning { PlaysTo (reading self.old.game [] self.old.world.seed) result self.new [] [] }
+        ensures routines { self.new.routines ≡ self.old.routines }
+        ensures meaning { (X : List (List ℕ)) → AreRowsOf F.Fn self.old.routines X →
+            PlaysTo (story_of self.old.game X) (reading (story_of self.old.game X) self.old.world.seed) result self.new [] [] }
         ensures seated { IsSeated self.new }
         ensures draws { self.new.world.draws ≤ self.old.world.draws + 200000 }
     {
-        let step = self.turn.play(self.tables, Stage::Describe);
+        let step = self.turn.play(self.tables, self.routines, Stage::Describe);
         self.turn.settle(step);
         self.last = step;
         step
@@ -151,12 +165,15 @@ impl<'a, T: Tables> Player<'a, T> {
     /// same again, with an empty piece; its other parts stay as they are.
     pub fn take(&mut self, line: &[u8]) -> Step
         requires seated { IsSeated self.old }
+        requires rows { HaveRows F.Fn self.old.routines }
         requires line { length line.now ≤ 255 }
         requires draws { self.old.world.draws + 200000 < 2 ^ 64 }
         ensures last { self.new.last ≡ result }
         ensures game { self.new.game ≡ self.old.game }
-        ensures meaning { (p : AtPrompt) → self.old.last ≡ step.Waits p → (pieces : List (List ℕ)) (traces : List (List Read)) →
-            PlaysTo (λ lines. on self.old.game [] p (reverse self.old.machine.frames) (run_at self.old pieces traces (line.now ∷ lines)))
+        ensures routines { self.new.routines ≡ self.old.routines }
+        ensures meaning { (X : List (List ℕ)) → AreRowsOf F.Fn self.old.routines X → (p : AtPrompt) → self.old.last ≡ step.Waits p →
+            (pieces : List (List ℕ)) (traces : List (List Read)) →
+            PlaysTo (story_of self.old.game X) (λ lines. on (story_of self.old.game X) p (reverse self.old.machine.frames) (run_at self.old pieces traces (line.now ∷ lines)))
             result self.new pieces traces }
         ensures finished { IsFinished self.old.last → (result ≡ self.old.last) × (self.new ≡ record self.old { piece = [] }) }
         ensures seated { IsSeated self.new }
@@ -167,7 +184,7 @@ impl<'a, T: Tables> Player<'a, T> {
             return self.last;
         };
         self.turn.open_piece();
-        let step = self.turn.take(self.tables, prompt, line);
+        let step = self.turn.take(self.tables, self.routines, prompt, line);
         self.turn.settle(step);
         self.last = step;
         step
@@ -182,6 +199,14 @@ impl<'a, T: Tables> Player<'a, T> {
         self.turn.piece()
     }
 
+    /// The steps of the last piece: the first 1,000 condacts that were read for it, and how many there were. After Spent
+    /// and TooDeep they are those of the piece that wasn't closed.
+    pub fn steps(&self) -> &Steps
+        ensures value { result.now ≡ self.now.machine.steps }
+    {
+        self.turn.machine.steps()
+    }
+
     /// Lends the world, the machine, what is pending, and the prompt at which the player stands: Over once the game is
     /// over, or the player spent or too deep. Where it waits or the game is over, a player that is seated with them is
     /// this one with an empty piece, and the machine's places are never refused when they are restored.
@@ -190,10 +215,10 @@ impl<'a, T: Tables> Player<'a, T> {
         ensures machine { result.machine.now ≡ self.now.machine }
         ensures pending { result.pending.now ≡ self.now.pending }
         ensures prompt { result.prompt ≡ prompt_at self.now.last }
-        ensures fits { IsSeated self.now → IsStanding self.now.last → Fits self.now.game self.now.world self.now.machine (prompt_at self.now.last) }
+        ensures fits { IsSeated self.now → IsStanding self.now.last →
+            Fits self.now.game self.now.world self.now.machine self.now.pending (prompt_at self.now.last) }
         ensures same { IsSeated self.now → IsStanding self.now.last →
-            seat_at self.now.game self.now.world self.now.machine self.now.pending (prompt_at self.now.last) ≡ record self.now { piece = [] } }
-        ensures line { IsSeated self.now → IsStanding self.now.last → IsLineTaken self.now.machine self.now.pending }
+            seat_at self.now.game self.now.routines self.now.world self.now.machine self.now.pending (prompt_at self.now.last) ≡ record self.now { piece = [] } }
         ensures kept { IsSeated self.now → IsStanding self.now.last →
             frames_fault self.now.game (prompt_at self.now.last) (kept self.now.machine) ≡ None }
     {

@@ -1,23 +1,29 @@
 // A turn in work, and its stages.
 
-ghost use Rattle.std.specs.Prelude.{◌≡◌, ℕ, suc, ◌+◌, ◌*◌, ◌<◌, ◌≤◌, ◌^◌, ◌++◌, List, [], length, map, None};
+ghost use Rattle.std.specs.Prelude.{◌≡◌, suc, ◌+◌, ◌*◌, ◌<◌, ◌≤◌, ◌^◌, ◌++◌, ℕ, List, [], length, map, None};
 ghost use Rattle.paw_base.specs.Piece.{Puts, piece_limit};
+ghost use Rattle.paw_base.specs.Steps.{no_steps};
 ghost use Rattle.paw_game.specs.Valid.{Valid};
-ghost use Rattle.paw_effects.specs.Built.{AllBuilt, IsOf};
+ghost use Rattle.paw_routines.specs.Routines.{AreRowsOf, HaveRows};
+ghost use Rattle.paw_effects.specs.Built.{IsOf};
+ghost use Rattle.paw_effects.specs.Story.{story_of};
 ghost use Rattle.paw_effects.specs.Opening.{opening_world};
 ghost use Rattle.paw_effects.specs.Texts.{say_text};
 ghost use Rattle.paw_reading.specs.Run.{line_dropped};
 ghost use Rattle.paw_reading.specs.Reading.{table_read};
 ghost use Rattle.paw_reading.specs.Turn.{saying, view_text, prompt_text, refusal_text, AtDescribe, AtFrame, AtPhrase, AtResponse, prompts, connections, after_left, table_done, turn};
-ghost use Rattle.paw_process.specs.OpenTables.{IsClosed};
+ghost use Rattle.paw_process.specs.OpenTables.{ReadsNone, IsClosed};
 ghost use Rattle.paw_turn.specs.declared.stage.Stage.TheVariants as stage;
 ghost use Rattle.paw_turn.specs.declared.stage.Next.TheVariants as next;
-ghost use Rattle.paw_turn.specs.Stages.{at_stage, settled, opened_piece, Moves, Reads, Plays, MovesAfter, IsPlayable, Keeps, StopsInTable, left_of, work, Falls, or_spent, table_rank, FallsAfter, RunsAs, from_table, Uses};
+ghost use Rattle.paw_turn.specs.Stages.{at_stage, settled, opened_piece, Moves, Reads, Plays, MovesAfter, IsPlayable, HasReadSome, Keeps, StopsInTable, left_of, work, Falls, or_spent, table_rank, FallsAfter, RunsAs, from_table, Uses};
 
 use crate::Step;
 use crate::flags::{self, LOCATION, PROMPT};
 use crate::stage::{Next, Stage};
 use paw_base::fault::SpentKind;
+use paw_base::messages::{
+    DARK_MESSAGE, IMPOSSIBLE_MESSAGE, LINE_MESSAGE, NO_WAY_MESSAGE, PROMPT_MESSAGE, UNKNOWN_MESSAGE,
+};
 use paw_base::piece::Piece;
 use paw_effects::act::Prompt;
 use paw_effects::opening::opening_world;
@@ -25,20 +31,9 @@ use paw_effects::text::{place_text, put, say};
 use paw_game::tables::Tables;
 use paw_phrase::{Found, Pending};
 use paw_process::{Machine, Turned, take_phrase};
+use paw_routines::routines::Routines;
 use paw_world::flags::VERB;
 use paw_world::world::World;
-
-/// The system message in the dark without light.
-const DARK_MESSAGE: u8 = 0;
-
-/// The system message for a phrase with no known word.
-const UNKNOWN_MESSAGE: u8 = 6;
-
-/// The system message where no entry answers a verb that leads to another location.
-const NO_WAY_MESSAGE: u8 = 7;
-
-/// The system message where no entry answers another verb.
-const CANT_MESSAGE: u8 = 8;
 
 /// The table that answers a sentence.
 const RESPONSE_TABLE: u8 = 0;
@@ -48,12 +43,6 @@ const DESCRIBED_TABLE: u8 = 1;
 
 /// The table that is read in each frame.
 const FRAME_TABLE: u8 = 2;
-
-/// The system message that is the prompt where flag 42 names none.
-const PROMPT_MESSAGE: u8 = 2;
-
-/// The system message that follows each prompt.
-const PROMPT_MARK: u8 = 33;
 
 /// Verbs below this number lead to another location.
 const FIRST_PLAIN_VERB: u8 = 14;
@@ -84,7 +73,7 @@ impl Turn {
         ensures valid { Valid (T.game tables.now) }
         ensures world { result.world ≡ opening_world (T.game tables.now) seed }
         ensures pending { result.pending ≡ record { bytes = []; earlier = 255 } }
-        ensures machine { result.machine ≡ record { frames = []; turning = None; waiting = None; left = 200000 } }
+        ensures machine { result.machine ≡ record { frames = []; turning = None; waiting = None; left = 200000; steps = no_steps } }
         ensures piece { result.piece ≡ piece }
     {
         Turn {
@@ -99,7 +88,7 @@ impl Turn {
     pub(crate) fn renew<T: Tables>(&mut self, tables: &T, seed: u64)
         ensures world { self.new.world ≡ opening_world (T.game tables.now) seed }
         ensures pending { self.new.pending ≡ record { bytes = []; earlier = 255 } }
-        ensures machine { self.new.machine ≡ record { frames = []; turning = None; waiting = None; left = 200000 } }
+        ensures machine { self.new.machine ≡ record { frames = []; turning = None; waiting = None; left = 200000; steps = no_steps } }
         ensures piece { self.new.piece ≡ [] }
     {
         let world = opening_world(tables, seed);
@@ -153,7 +142,8 @@ impl Turn {
     pub(crate) fn say<T: Tables>(&mut self, tables: &T, message: u8, stage: Stage) -> Next
         requires playable { IsPlayable (T.game tables.now) self.old }
         requires closed { IsClosed self.old.machine }
-        ensures meaning { Moves (T.game tables.now) (λ n r. saying (say_text (T.game tables.now) self.old.world message) (turn (T.game tables.now) [] n (at_stage stage)) r) self.old result self.new }
+        ensures meaning { (X : List (List ℕ)) → let g = story_of (T.game tables.now) X in
+            Moves g (λ n r. saying (say_text (T.game tables.now) self.old.world message) (turn g n (at_stage stage)) r) self.old result self.new }
         ensures same { self.new ≡ record self.old { piece = self.new.piece } }
         ensures falls { Falls (work stage self.old + 1) result self.new }
         ensures keeps { Keeps (T.game tables.now) self.old result self.new }
@@ -188,14 +178,15 @@ impl Turn {
             message => message,
         };
         say(tables, &self.world, &mut self.piece, message)
-            && put(tables, &self.world, &mut self.piece, PROMPT_MARK)
+            && put(tables, &self.world, &mut self.piece, LINE_MESSAGE)
     }
 
     /// With no phrase left the prompt is shown, and the game waits for a line.
     fn prompt<T: Tables>(&mut self, tables: &T) -> Next
         requires playable { IsPlayable (T.game tables.now) self.old }
         requires closed { IsClosed self.old.machine }
-        ensures meaning { Moves (T.game tables.now) (λ n r. prompts (T.game tables.now) (turn (T.game tables.now) [] n AtFrame) (turn (T.game tables.now) [] n AtPhrase) r) self.old result self.new }
+        ensures meaning { (X : List (List ℕ)) → let g = story_of (T.game tables.now) X in
+            Moves g (λ n r. prompts g (turn g n AtFrame) (turn g n AtPhrase) r) self.old result self.new }
         ensures keeps { Keeps (T.game tables.now) self.old result self.new }
         ensures falls { (most : ℕ) → Falls most result self.new }
         ensures machine { self.new.machine ≡ self.old.machine }
@@ -212,7 +203,8 @@ impl Turn {
     fn refuse<T: Tables>(&mut self, tables: &T) -> Next
         requires playable { IsPlayable (T.game tables.now) self.old }
         requires closed { IsClosed self.old.machine }
-        ensures meaning { Moves (T.game tables.now) (λ n r. saying (refusal_text (T.game tables.now) r.world) (turn (T.game tables.now) [] n AtFrame) (line_dropped r)) self.old result self.new }
+        ensures meaning { (X : List (List ℕ)) → let g = story_of (T.game tables.now) X in
+            Moves g (λ n r. saying (refusal_text (T.game tables.now) r.world) (turn g n AtFrame) (line_dropped r)) self.old result self.new }
         ensures keeps { Keeps (T.game tables.now) self.old result self.new }
         ensures falls { Falls (work stage.Response self.old) result self.new }
         ensures machine { self.new.machine ≡ self.old.machine }
@@ -221,7 +213,7 @@ impl Turn {
         let message = if self.world.flag(VERB) < FIRST_PLAIN_VERB {
             NO_WAY_MESSAGE
         } else {
-            CANT_MESSAGE
+            IMPOSSIBLE_MESSAGE
         };
         self.say(tables, message, Stage::Frame)
     }
@@ -230,7 +222,8 @@ impl Turn {
     fn connect<T: Tables>(&mut self, tables: &T) -> Next
         requires playable { IsPlayable (T.game tables.now) self.old }
         requires closed { IsClosed self.old.machine }
-        ensures meaning { Moves (T.game tables.now) (λ n r. connections (T.game tables.now) (turn (T.game tables.now) [] n AtDescribe) (turn (T.game tables.now) [] n AtFrame) r) self.old result self.new }
+        ensures meaning { (X : List (List ℕ)) → let g = story_of (T.game tables.now) X in
+            Moves g (λ n r. connections g (turn g n AtDescribe) (turn g n AtFrame) r) self.old result self.new }
         ensures keeps { Keeps (T.game tables.now) self.old result self.new }
         ensures falls { Falls (work stage.Response self.old) result self.new }
         ensures machine { self.new.machine ≡ self.old.machine }
@@ -248,7 +241,8 @@ impl Turn {
     fn after_left<T: Tables>(&mut self, tables: &T, table: u8, acted: bool) -> Next
         requires playable { IsPlayable (T.game tables.now) self.old }
         requires closed { IsClosed self.old.machine }
-        ensures meaning { Moves (T.game tables.now) (λ n r. after_left (T.game tables.now) (turn (T.game tables.now) [] n) table acted r) self.old result self.new }
+        ensures meaning { (X : List (List ℕ)) → let g = story_of (T.game tables.now) X in
+            Moves g (λ n r. after_left g (turn g n) table acted r) self.old result self.new }
         ensures keeps { Keeps (T.game tables.now) self.old result self.new }
         ensures falls { Falls (4 * left_of self.old + table_rank table) result self.new }
         ensures machine { self.new.machine ≡ self.old.machine }
@@ -268,8 +262,8 @@ impl Turn {
     pub(crate) fn after_table<T: Tables>(&mut self, tables: &T, table: u8, turned: Turned) -> Next
         requires playable { IsPlayable (T.game tables.now) self.old }
         requires stops { StopsInTable table turned self.old.machine }
-        ensures meaning { MovesAfter (T.game tables.now) table turned self.old result self.new }
-        ensures left { self.new.machine.left ≡ self.old.machine.left }
+        ensures meaning { (X : List (List ℕ)) → MovesAfter (story_of (T.game tables.now) X) table turned self.old result self.new }
+        ensures left { ReadsNone self.old.machine self.new.machine }
         ensures keeps { Keeps (T.game tables.now) self.old result self.new }
         ensures falls { FallsAfter table turned self.old result self.new }
     {
@@ -283,45 +277,71 @@ impl Turn {
     }
 
     /// Reads table 0, 1 or 2 from its start, up to the machine's next stop.
-    fn run_table<T: Tables>(&mut self, tables: &T, table: u8) -> Turned
-        requires built { AllBuilt (T.game tables.now) }
+    fn run_table<T: Tables, F: Fn(u8, u8) -> u8>(
+        &mut self,
+        tables: &T,
+        routines: &Routines<F>,
+        table: u8,
+    ) -> Turned
+        requires rows { HaveRows F.Fn routines.now }
+        requires read { HasReadSome self.old.machine }
         requires playable { IsPlayable (T.game tables.now) self.old }
         requires closed { IsClosed self.old.machine }
-        ensures runs { RunsAs (T.game tables.now) (from_table (T.game tables.now) table self.old) self.old result self.new }
+        ensures runs { (X : List (List ℕ)) → AreRowsOf F.Fn routines.now X → let g = story_of (T.game tables.now) X in
+            RunsAs g (from_table g table self.old) self.old result self.new }
         ensures stops { StopsInTable table result self.new.machine }
         ensures uses { Uses result self.old self.new }
         ensures world { IsOf (T.game tables.now) self.new.world }
         ensures draws { self.new.world.draws + self.new.machine.left ≤ self.old.world.draws + self.old.machine.left }
     {
         self.machine.begin(table);
-        self.machine.run(tables, &mut self.world, &mut self.pending, &mut self.piece)
+        self.machine.run(
+            tables,
+            &mut self.world,
+            &mut self.pending,
+            routines,
+            &mut self.piece,
+        )
     }
 
     /// Reads table 0, 1 or 2, and goes on after it.
-    fn read_table<T: Tables>(&mut self, tables: &T, table: u8) -> Next
-        requires built { AllBuilt (T.game tables.now) }
+    fn read_table<T: Tables, F: Fn(u8, u8) -> u8>(
+        &mut self,
+        tables: &T,
+        routines: &Routines<F>,
+        table: u8,
+    ) -> Next
+        requires rows { HaveRows F.Fn routines.now }
+        requires read { HasReadSome self.old.machine }
         requires playable { IsPlayable (T.game tables.now) self.old }
         requires closed { IsClosed self.old.machine }
-        ensures meaning { Reads (T.game tables.now) (λ n r. table_done (T.game tables.now) (turn (T.game tables.now) [] n) table (table_read (T.game tables.now) [] table r)) self.old result self.new }
+        ensures meaning { (X : List (List ℕ)) → AreRowsOf F.Fn routines.now X → let g = story_of (T.game tables.now) X in
+            Reads g (λ n r. table_done g (turn g n) table (table_read g table r)) self.old result self.new }
         ensures keeps { Keeps (T.game tables.now) self.old result self.new }
         ensures falls { Falls (4 * left_of self.old + table_rank table) result self.new }
     {
-        let turned = self.run_table(tables, table);
+        let turned = self.run_table(tables, routines, table);
         self.after_table(tables, table, turned)
     }
 
     /// Describes the location, and reads table 1.
-    fn describe<T: Tables>(&mut self, tables: &T) -> Next
-        requires built { AllBuilt (T.game tables.now) }
+    fn describe<T: Tables, F: Fn(u8, u8) -> u8>(
+        &mut self,
+        tables: &T,
+        routines: &Routines<F>,
+    ) -> Next
+        requires rows { HaveRows F.Fn routines.now }
+        requires read { HasReadSome self.old.machine }
         requires playable { IsPlayable (T.game tables.now) self.old }
         requires closed { IsClosed self.old.machine }
-        ensures meaning { Reads (T.game tables.now) (λ n r. turn (T.game tables.now) [] (suc n) AtDescribe r) self.old result self.new }
+        ensures meaning { (X : List (List ℕ)) → AreRowsOf F.Fn routines.now X → let g = story_of (T.game tables.now) X in
+            Reads g (λ n r. turn g (suc n) AtDescribe r) self.old result self.new }
         ensures keeps { Keeps (T.game tables.now) self.old result self.new }
         ensures falls { Falls (work stage.Describe self.old) result self.new }
     {
         flags::describe(&mut self.world);
         if self.show_view(tables) {
-            self.read_table(tables, DESCRIBED_TABLE)
+            self.read_table(tables, routines, DESCRIBED_TABLE)
         } else {
             Next::Stop(Step::Spent(SpentKind::Text))
         }
@@ -332,7 +352,8 @@ impl Turn {
     fn phrase<T: Tables>(&mut self, tables: &T) -> Next
         requires playable { IsPlayable (T.game tables.now) self.old }
         requires closed { IsClosed self.old.machine }
-        ensures meaning { Moves (T.game tables.now) (λ n r. turn (T.game tables.now) [] (suc n) AtPhrase r) self.old result self.new }
+        ensures meaning { (X : List (List ℕ)) → let g = story_of (T.game tables.now) X in
+            Moves g (λ n r. turn g (suc n) AtPhrase r) self.old result self.new }
         ensures keeps { Keeps (T.game tables.now) self.old result self.new }
         ensures falls { Falls (work stage.Phrase self.old) result self.new }
         ensures machine { self.new.machine ≡ self.old.machine }
@@ -351,33 +372,47 @@ impl Turn {
     }
 
     /// Goes through one stage.
-    fn stage<T: Tables>(&mut self, tables: &T, stage: Stage) -> Next
-        requires built { AllBuilt (T.game tables.now) }
+    fn stage<T: Tables, F: Fn(u8, u8) -> u8>(
+        &mut self,
+        tables: &T,
+        routines: &Routines<F>,
+        stage: Stage,
+    ) -> Next
+        requires rows { HaveRows F.Fn routines.now }
+        requires read { HasReadSome self.old.machine }
         requires playable { IsPlayable (T.game tables.now) self.old }
         requires closed { IsClosed self.old.machine }
-        ensures meaning { Reads (T.game tables.now) (λ n r. turn (T.game tables.now) [] (suc n) (at_stage stage) r) self.old result self.new }
+        ensures meaning { (X : List (List ℕ)) → AreRowsOf F.Fn routines.now X → let g = story_of (T.game tables.now) X in
+            Reads g (λ n r. turn g (suc n) (at_stage stage) r) self.old result self.new }
         ensures keeps { Keeps (T.game tables.now) self.old result self.new }
         ensures falls { Falls (work stage self.old) result self.new }
     {
         match stage {
-            Stage::Describe => self.describe(tables),
-            Stage::Frame => self.read_table(tables, FRAME_TABLE),
+            Stage::Describe => self.describe(tables, routines),
+            Stage::Frame => self.read_table(tables, routines, FRAME_TABLE),
             Stage::Phrase => self.phrase(tables),
-            Stage::Response => self.read_table(tables, RESPONSE_TABLE),
+            Stage::Response => self.read_table(tables, routines, RESPONSE_TABLE),
         }
     }
 
     /// Plays on from a stage to the next prompt, or to the end.
-    pub(crate) fn play<T: Tables>(&mut self, tables: &T, first: Stage) -> Step
-        requires built { AllBuilt (T.game tables.now) }
+    pub(crate) fn play<T: Tables, F: Fn(u8, u8) -> u8>(
+        &mut self,
+        tables: &T,
+        routines: &Routines<F>,
+        first: Stage,
+    ) -> Step
+        requires rows { HaveRows F.Fn routines.now }
+        requires read { HasReadSome self.old.machine }
         requires playable { IsPlayable (T.game tables.now) self.old }
         requires closed { IsClosed self.old.machine }
-        ensures meaning { Plays (T.game tables.now) first self.old (next.Stop result) self.new }
+        ensures meaning { (X : List (List ℕ)) → AreRowsOf F.Fn routines.now X →
+            Plays (story_of (T.game tables.now) X) first self.old (next.Stop result) self.new }
         ensures keeps { Keeps (T.game tables.now) self.old (next.Stop result) self.new }
     {
         let mut stage = first;
         loop {
-            match self.stage(tables, stage) {
+            match self.stage(tables, routines, stage) {
                 Next::Go(next) => stage = next,
                 Next::Stop(step) => return step,
             }

@@ -1,6 +1,7 @@
 pub mod Bits
 pub mod Contents
 pub mod DrawnOn
+pub mod Kept
 pub mod Least
 pub mod Listed
 pub mod Loaded

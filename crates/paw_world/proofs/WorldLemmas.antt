@@ -5,7 +5,8 @@ use Rattle.std.proofs.lemmas.List.{length-set, length-map, length-take-le, get_o
 use Rattle.std.proofs.lemmas.Bool.{cases_eq}
 use Rattle.std.proofs.lemmas.Bool.Decides.{nat_tests}
 use Rattle.paw_base.specs.declared.parts.ObjectFacts.{ObjectFacts}
-use Rattle.paw_world.specs.World.{World, Position, flag, with_flag, place, with_place, flags_with, first_carried, opening_places, with_objects_returned, opened, restarted, let_go, taken_up, moved, ramsaved, ramloaded, taken_from, drawn_on, IsSavedFor, IsWorld}
+use Rattle.paw_world.specs.World.{World, Position, flag, with_flag, place, with_place, flags_with, first_carried, opening_places, with_objects_returned, opened, restarted, let_go, taken_up, moved, ramsaved, ramloaded, taken_from, drawn_on, position_of, kept_position, with_kept, keeping, taken_back, recalled, IsPosition, IsSavedFor, AreSavedFor, IsWorld}
+use Rattle.paw_world.proofs.Kept.{kept_with, kept_alike, none_kept}
 
 -- ---- a flag that was given a value
 pub flag-with_flag_same : (w : World) (f x : ℕ) → IsWorld w → f < 256 → flag (with_flag w f x) f ≡ x
@@ -17,7 +18,7 @@ flag-with_flag_other w f x g other = get_or-set_other w.flags f g x 0 other
 -- ---- a world after a change is a world
 pub IsWorld-with_flag : (w : World) (f x : ℕ) → IsWorld w → IsWorld (with_flag w f x)
 IsWorld-with_flag w f x sound =
-    record { objects = sound.objects; facts = sound.facts; flags = length-set w.flags f x ∙ sound.flags; saved = sound.saved }
+    record { objects = sound.objects; facts = sound.facts; flags = length-set w.flags f x ∙ sound.flags; saved = sound.saved; kept = sound.kept }
 
 same_count : (w : World) (places : List ℕ) → length places ≡ length w.places → IsWorld w → IsWorld (record w { places = places })
 same_count w places same sound = record {
@@ -25,6 +26,7 @@ same_count w places same sound = record {
   facts = sound.facts ∙ sym same;
   flags = sound.flags;
   saved = let P : ℕ → Type 0 = λ n. IsSavedFor n w.saved in subst P (sym same) sound.saved;
+  kept = let P : ℕ → Type 0 = λ n. AreSavedFor n w.kept in subst P (sym same) sound.kept;
 }
 
 pub IsWorld-with_place : (w : World) (o p : ℕ) → IsWorld w → IsWorld (with_place w o p)
@@ -54,7 +56,7 @@ IsWorld-moved w o p sound =
 
 pub IsWorld-ramsaved : (w : World) → IsWorld w → IsWorld (ramsaved w)
 IsWorld-ramsaved w sound =
-    record { objects = sound.objects; facts = sound.facts; flags = sound.flags; saved = record { flags = sound.flags; places = refl } }
+    record { objects = sound.objects; facts = sound.facts; flags = sound.flags; saved = record { flags = sound.flags; places = refl }; kept = sound.kept }
 
 loaded : (w : World) (n : ℕ) (saved : Option Position) → n < 256 → IsSavedFor (length w.places) saved → IsWorld w → IsWorld (taken_from w n saved)
 loaded w n None small alike sound = sound
@@ -65,13 +67,34 @@ loaded w n (Some q) small alike sound =
       facts = sound.facts;
       flags = omega (arith, length-append (take (suc n) q.flags) (drop (suc n) w.flags), length-drop (suc n) w.flags, sound.flags);
       saved = sound.saved;
+      kept = sound.kept;
     })
 
 pub IsWorld-ramloaded : (w : World) (n : ℕ) → n < 256 → IsWorld w → IsWorld (ramloaded w n)
 IsWorld-ramloaded w n small sound = loaded w n w.saved small sound.saved sound
 
+pub IsWorld-with_kept : (w : World) (n : ℕ) (q : Position) → IsPosition (length w.places) q → IsWorld w → IsWorld (with_kept w n q)
+IsWorld-with_kept w n q alike sound = record {
+  objects = sound.objects;
+  facts = sound.facts;
+  flags = sound.flags;
+  saved = sound.saved;
+  kept = kept_with (length w.places) w.kept n q alike sound.kept;
+}
+
+pub IsWorld-keeping : (w : World) (n : ℕ) → IsWorld w → IsWorld (keeping w n)
+IsWorld-keeping w n sound = IsWorld-with_kept w n (position_of w) (record { flags = sound.flags; places = refl }) sound
+
+placed : (w : World) (kept : Option Position) → IsSavedFor (length w.places) kept → IsWorld w → IsWorld (taken_back w kept)
+placed w None alike sound = sound
+placed w (Some q) alike sound = same_count (record w { flags = q.flags }) q.places alike.places
+    (record { objects = sound.objects; facts = sound.facts; flags = alike.flags; saved = sound.saved; kept = sound.kept })
+
+pub IsWorld-recalled : (w : World) (n : ℕ) → n < 4 → IsWorld w → IsWorld (recalled w n)
+IsWorld-recalled w n few sound = placed w (kept_position w n) (kept_alike (length w.places) w.kept n few sound.kept) sound
+
 pub IsWorld-drawn_on : (w : World) (n : ℕ) → IsWorld w → IsWorld (drawn_on w n)
-IsWorld-drawn_on w n sound = record { objects = sound.objects; facts = sound.facts; flags = sound.flags; saved = sound.saved }
+IsWorld-drawn_on w n sound = record { objects = sound.objects; facts = sound.facts; flags = sound.flags; saved = sound.saved; kept = sound.kept }
 
 length-flags_with : (carried : ℕ) → length (flags_with carried) ≡ 256
 unfolding flags_with
@@ -83,6 +106,7 @@ IsWorld-opened facts locations seed few = record {
   facts = sym (length-map facts (λ (f : ObjectFacts). f.start));
   flags = length-flags_with _;
   saved = tt;
+  kept = none_kept _;
 }
 
 pub IsWorld-restarted : (w : World) → IsWorld w → IsWorld (restarted w)
@@ -93,6 +117,7 @@ IsWorld-restarted w sound =
       facts = sym same;
       flags = length-flags_with _;
       saved = let P : ℕ → Type 0 = λ n. IsSavedFor n w.saved in subst P (sym (same ∙ sound.facts)) sound.saved;
+      kept = let P : ℕ → Type 0 = λ n. AreSavedFor n w.kept in subst P (sym (same ∙ sound.facts)) sound.kept;
     }
 
 pub IsWorld-with_objects_returned : (w : World) → IsWorld w → IsWorld (with_objects_returned w)

@@ -1,21 +1,23 @@
 -- The world of a game: what it changes while it is played.
-use Rattle.std.specs.Prelude.{◌≡◌, ℕ, suc, ◌+◌, ◌-◌, ◌≤◌, ◌==◌, ◌&&◌, ◌||◌, Bool, not, List, ◌++◌, length, map, take, drop, count_by, replicate, min, Option, None, Some, nat_lt, slice_index, slice_set, if◌then◌else◌, IfSome}
+use Rattle.std.specs.Prelude.{◌≡◌, ℕ, suc, ◌+◌, ◌-◌, ◌≤◌, ◌==◌, ◌&&◌, ◌||◌, Bool, not, List, ◌++◌, length, map, take, drop, count_by, replicate, min, Option, None, Some, nat_lt, slice_index, slice_index_or, slice_set, if◌then◌else◌, IfSome}
+use Rattle.std.specs.List.{All}
 use Rattle.paw_base.specs.declared.parts.ObjectFacts.{ObjectFacts}
 use Rattle.paw_world.specs.Places.{least_at, left_above}
 
--- flags and places, as they are saved together
+-- flags and places, as they are saved or kept together
 pub record Position : Type 0 where
   pub flags : List ℕ
   pub places : List ℕ
 
 -- the facts of the objects and the number of locations, which never change; 256 flags; the place of each object; the
--- saved position; the seed of the random words, and how many of them were drawn
+-- saved position; the four kept positions; the seed of the random words, and how many of them were drawn
 pub record World : Type 0 where
   pub facts : List ObjectFacts
   pub locations : ℕ
   pub flags : List ℕ
   pub places : List ℕ
   pub saved : Option Position
+  pub kept : List (Option Position)
   pub seed : ℕ
   pub draws : ℕ
 
@@ -60,11 +62,12 @@ opened facts locations seed = record {
   flags = opening_flags facts;
   places = opening_places facts;
   saved = None;
+  kept = replicate 4 None;
   seed = seed;
   draws = 0;
 }
 
--- the world of a game that starts anew: the draws and the saved position stay
+-- the world of a game that starts anew: the draws, the saved position and the kept positions stay
 abbrev pub restarted : World → World
 restarted w = record w { flags = opening_flags w.facts; places = opening_places w.facts }
 
@@ -123,9 +126,13 @@ moved w o p = if place w o == p then w else with_place (taken_up (let_go w (plac
 abbrev pub first_at : World → ℕ → Option ℕ → Option ℕ
 first_at w p above = least_at w.places p (left_above w.places above)
 
+-- the flags and places of a world
+abbrev pub position_of : World → Position
+position_of w = record { flags = w.flags; places = w.places }
+
 -- flags and places become the saved position
 abbrev pub ramsaved : World → World
-ramsaved w = record w { saved = Some (record { flags = w.flags; places = w.places }) }
+ramsaved w = record w { saved = Some (position_of w) }
 
 -- flags 0 to n and all places become those of a position
 abbrev pub at_position : World → ℕ → Position → World
@@ -155,6 +162,35 @@ saved_flag w f = flag_in w.saved f
 abbrev pub saved_place : World → ℕ → ℕ
 saved_place w o = place_in w.saved o
 
+-- the kept position of a number below 4; nothing where none was kept
+abbrev pub kept_position : World → ℕ → Option Position
+kept_position w n = slice_index_or w.kept n None
+
+-- a position becomes the kept one of this number
+abbrev pub with_kept : World → ℕ → Position → World
+with_kept w n q = record w { kept = slice_set w.kept n (Some q) }
+
+-- flags and places become the kept position of this number
+abbrev pub keeping : World → ℕ → World
+keeping w n = with_kept w n (position_of w)
+
+-- all flags and all places become those of a position, where there is one; nothing is counted
+abbrev pub taken_back : World → Option Position → World
+taken_back w None = w
+taken_back w (Some q) = record w { flags = q.flags; places = q.places }
+
+-- all flags and places are taken from the kept position of this number; where none was kept nothing changes
+abbrev pub recalled : World → ℕ → World
+recalled w n = taken_back w (kept_position w n)
+
+-- a flag of a kept position; 0 where none was kept
+abbrev pub kept_flag : World → ℕ → ℕ → ℕ
+kept_flag w n f = flag_in (kept_position w n) f
+
+-- the place of an object in a kept position; 0 where none was kept
+abbrev pub kept_place : World → ℕ → ℕ → ℕ
+kept_place w n o = place_in (kept_position w n) o
+
 -- n words more were drawn
 abbrev pub drawn_on : World → ℕ → World
 drawn_on w n = record w { draws = w.draws + n }
@@ -168,16 +204,24 @@ pub record IsPosition (objects : ℕ) (q : Position) : Type 0 where
 abbrev pub IsSavedFor : ℕ → Option Position → Type 0
 IsSavedFor objects saved = IfSome saved (IsPosition objects)
 
--- what is kept of a world: 256 flags, at most 255 places, room for the facts of 255 objects, and a position of the same size
-pub record IsKept (facts : List ObjectFacts) (flags places : List ℕ) (saved : Option Position) : Type 0 where
+-- there are four kept positions, each of them nothing or one for so many objects
+pub record AreSavedFor (objects : ℕ) (kept : List (Option Position)) : Type 0 where
+  pub four : length kept ≡ 4
+  pub each : All (IsSavedFor objects) kept
+
+-- the parts of a world: 256 flags, at most 255 places, room for the facts of 255 objects, and positions of the same size
+pub record IsStored (facts : List ObjectFacts) (flags places : List ℕ) (saved : Option Position) (kept : List (Option Position)) : Type 0 where
   pub objects : length places ≤ 255
   pub facts_room : length facts ≡ 255
   pub flags_all : length flags ≡ 256
   pub saved_alike : IsSavedFor (length places) saved
+  pub kept_alike : AreSavedFor (length places) kept
 
 -- what holds of every world: at most 255 objects, with facts and a place for each, and 256 flags; so in the saved position
+-- and in the kept ones
 pub record IsWorld (w : World) : Type 0 where
   pub objects : length w.places ≤ 255
   pub facts : length w.facts ≡ length w.places
   pub flags : length w.flags ≡ 256
   pub saved : IsSavedFor (length w.places) w.saved
+  pub kept : AreSavedFor (length w.places) w.kept

@@ -1,9 +1,10 @@
-//! What a game changes while it is played: flags, places of objects, a saved position, and random draws.
+//! What a game changes while it is played: flags, places of objects, a saved position, four kept ones, and random draws.
 #![tactic(auto)]
 
 mod draws;
 pub mod flags;
 mod places;
+mod position;
 mod set;
 pub mod world;
 

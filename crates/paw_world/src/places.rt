@@ -71,17 +71,6 @@ impl Places {
         self.count += 1;
     }
 
-    /// The same places once more.
-    pub fn copy(&self) -> Places
-        ensures { result ≡ self.now }
-    {
-        Places {
-            places: self.places,
-            sets: self.sets,
-            count: self.count,
-        }
-    }
-
     /// The places of all objects, in the order of their numbers.
     pub fn all(&self) -> &[u8]
         ensures { result.now ≡ self.now }

@@ -186,3 +186,43 @@ fn a_position_that_is_put_back(rt: HostRuntime) {
     let (_, kept) = world.saved_position().expect(&rt, "a saved position");
     assert_eq!(rt; kept, [2, 254, 2].as_slice());
 }
+
+#[test]
+fn kept_positions(rt: HostRuntime) {
+    let mut world = World::new(&[thing(254, 1, false); 2], 252, 7);
+    for n in 0u8..4 {
+        assert!(rt; !world.kept(n));
+    }
+    move_to(&rt, &mut world, 0, 3);
+    world.set_flag(30, 9);
+    world.keep(1);
+    world.ramsave();
+    move_to(&rt, &mut world, 0, 4);
+    world.set_flag(30, 8);
+    world.set_flag(255, 7);
+    world.keep(3);
+    assert!(rt; !world.recall(2), "nothing was kept");
+    assert_eq!(rt; world.flag(30), 8);
+    world.restart();
+    assert!(rt; world.recall(1));
+    assert_eq!(rt; world.flag(30), 9);
+    assert_eq!(rt; world.flag(255), 0);
+    assert_eq!(rt; world.flag(flags::CARRIED), 1, "nothing is counted");
+    assert_eq!(rt; place(&rt, &world, 0), 3);
+    assert_eq!(rt; world.first_at(254, None), Some(1));
+    assert_eq!(rt; world.saved_flag(30), 9);
+    assert!(rt; world.kept(1) && world.kept(3));
+    assert_eq!(rt; world.kept_flag(3, 255), 7);
+    let (_, places) = world.kept_position(3).expect(&rt, "a kept position");
+    assert_eq!(rt; places, [4, 254].as_slice());
+    let mut flags = [0; 256];
+    flags[1] = 6;
+    assert_eq!(rt; world.objects(), 2);
+    world.set_kept(0, &flags, &[252, 253]);
+    assert_eq!(rt; world.objects(), 2);
+    assert!(rt; world.kept(0));
+    assert_eq!(rt; world.kept_place(0, 1), 253);
+    assert!(rt; world.recall(0));
+    assert_eq!(rt; world.flag(flags::CARRIED), 6);
+    assert_eq!(rt; place(&rt, &world, 1), 253);
+}

@@ -2,11 +2,12 @@
 
 ghost use Rattle.std.specs.Prelude.{◌≡◌, ◌+◌, ◌-◌, ◌^◌, ◌<◌, ◌≤◌, length, take, slice_get, is_some, IsSome, IfSome, MatchOption};
 ghost use Rattle.paw_world.specs.Draws.{word};
-ghost use Rattle.paw_world.specs.World.{opened, flag, with_flag, place, moved, first_at, ramsaved, ramloaded, saved_flag, saved_place, restarted, with_objects_returned, drawn_on, first_carried, opening_flags, IsWorld};
+ghost use Rattle.paw_world.specs.World.{opened, flag, with_flag, place, moved, first_at, ramsaved, ramloaded, saved_flag, saved_place, kept_position, with_kept, keeping, recalled, kept_flag, kept_place, restarted, with_objects_returned, drawn_on, first_carried, opening_flags, IsWorld};
 ghost use Rattle.paw_world.specs.Weight.{weight, weight_down, weight_with, carried_weight};
 
 use crate::draws::Draws;
 use crate::places::Places;
+use crate::position::Position;
 use crate::{MOST_OBJECTS, flags};
 use paw_base::parts::ObjectFacts;
 use std::marker::Model;
@@ -24,21 +25,6 @@ const NONE: u8 = 255;
 // How many levels below an object its contents count.
 const LEVELS: u8 = 10;
 
-/// Flags and places, as they are saved together.
-#[derive(Drop)]
-struct Saved {
-    flags: [u8; 256],
-    places: Places,
-}
-
-impl Model for Saved {
-    ghost use Rattle.paw_world.specs.World.{Position};
-
-    ghost Value = { Position };
-
-    ghost view = { λ s. record { flags = s.flags; places = s.places } };
-}
-
 /// What a game changes while it is played, with the facts of its objects and the number of its locations.
 #[derive(Drop)]
 pub struct World {
@@ -46,13 +32,14 @@ pub struct World {
     locations: u8,
     flags: [u8; 256],
     places: Places,
-    saved: Option<Saved>,
+    saved: Option<Position>,
+    kept: [Option<Position>; 4],
     draws: Draws,
 }
 
 impl Model for World {
     ghost use Rattle.std.specs.Prelude.{length, take};
-    ghost use Rattle.paw_world.specs.World.{World, IsKept};
+    ghost use Rattle.paw_world.specs.World.{World, IsStored};
 
     ghost Value = { World };
 
@@ -62,11 +49,12 @@ impl Model for World {
       flags = w.flags;
       places = w.places;
       saved = w.saved;
+      kept = w.kept;
       seed = w.draws.seed;
       draws = w.draws.count;
     } };
 
-    ghost invariant = { λ w. IsKept w.facts w.flags w.places w.saved };
+    ghost invariant = { λ w. IsStored w.facts w.flags w.places w.saved w.kept };
 }
 
 impl World {
@@ -76,11 +64,12 @@ impl World {
         ensures value { result ≡ opened facts.now locations seed }
     {
         World {
-            facts: kept(facts),
+            facts: filled(facts),
             locations,
             flags: opening_flags(facts),
             places: Places::opening(facts),
             saved: None,
+            kept: [None, None, None, None],
             draws: Draws::new(seed),
         }
     }
@@ -188,10 +177,7 @@ impl World {
     pub fn ramsave(&mut self)
         ensures change { self.new ≡ ramsaved self.old }
     {
-        self.saved = Some(Saved {
-            flags: self.flags,
-            places: self.places.copy(),
-        });
+        self.saved = Some(Position::of(&self.flags, self.places.all()));
     }
 
     /// Takes flags 0 to n and all places from the saved position. Where nothing is saved nothing changes.
@@ -203,9 +189,9 @@ impl World {
         };
         let end = n as usize + 1;
         let mut flags = self.flags;
-        flags[..end].copy_from_slice(&saved.flags[..end]);
+        flags[..end].copy_from_slice(&saved.flags()[..end]);
         self.flags = flags;
-        self.places = saved.places.copy();
+        self.places = Places::at(saved.places());
     }
 
     /// Whether there is a saved position.
@@ -221,7 +207,7 @@ impl World {
         ensures value { result ≡ saved_flag self.now f }
     {
         match &self.saved {
-            Some(saved) => saved.flags[f as usize],
+            Some(saved) => saved.flags()[f as usize],
             None => unreachable!(),
         }
     }
@@ -233,7 +219,7 @@ impl World {
         ensures value { result ≡ saved_place self.now o }
     {
         match &self.saved {
-            Some(saved) => saved.places.place(o),
+            Some(saved) => saved.places()[o as usize],
             None => unreachable!(),
         }
     }
@@ -244,8 +230,87 @@ impl World {
     {
         match &self.saved {
             None => None,
-            Some(saved) => Some((&saved.flags, saved.places.all())),
+            Some(saved) => Some((saved.flags(), saved.places())),
         }
+    }
+
+    /// Flags and places become the kept position of this number.
+    pub fn keep(&mut self, n: u8)
+        requires known { n < 4 }
+        ensures change { self.new ≡ keeping self.old n }
+    {
+        self.kept[n as usize] = Some(Position::of(&self.flags, self.places.all()));
+    }
+
+    /// Takes all flags and all places from the kept position of this number. No object is moved, so no flag counts it.
+    /// False exactly where none was kept, and then nothing changes.
+    pub fn recall(&mut self, n: u8) -> bool
+        requires known { n < 4 }
+        ensures found { result ≡ is_some (kept_position self.old n) }
+        ensures change { self.new ≡ recalled self.old n }
+    {
+        let Some(kept) = &self.kept[n as usize] else {
+            return false;
+        };
+        let flags = *kept.flags();
+        let places = Places::at(kept.places());
+        self.flags = flags;
+        self.places = places;
+        true
+    }
+
+    /// Whether the position of this number was kept.
+    pub fn kept(&self, n: u8) -> bool
+        requires known { n < 4 }
+        ensures value { result ≡ is_some (kept_position self.now n) }
+    {
+        self.kept[n as usize].is_some()
+    }
+
+    /// The value of a flag in the kept position of this number.
+    pub fn kept_flag(&self, n: u8, f: u8) -> u8
+        requires known { n < 4 }
+        requires kept { IsSome (kept_position self.now n) }
+        ensures value { result ≡ kept_flag self.now n f }
+    {
+        match &self.kept[n as usize] {
+            Some(kept) => kept.flags()[f as usize],
+            None => unreachable!(),
+        }
+    }
+
+    /// The place of an object in the kept position of this number.
+    pub fn kept_place(&self, n: u8, o: u8) -> u8
+        requires known { n < 4 }
+        requires kept { IsSome (kept_position self.now n) }
+        requires object { o < length self.now.places }
+        ensures value { result ≡ kept_place self.now n o }
+    {
+        match &self.kept[n as usize] {
+            Some(kept) => kept.places()[o as usize],
+            None => unreachable!(),
+        }
+    }
+
+    /// The flags and the places of the kept position of this number; None where none was kept.
+    pub fn kept_position(&self, n: u8) -> Option<(&[u8; 256], &[u8])>
+        requires known { n < 4 }
+        ensures value { MatchOption result (kept_position self.now n ≡ None) (λ p. kept_position self.now n ≡ Some (record { flags = p.0.now; places = p.1.now })) }
+    {
+        match &self.kept[n as usize] {
+            None => None,
+            Some(kept) => Some((kept.flags(), kept.places())),
+        }
+    }
+
+    /// The kept position of this number has these flags and the places of all objects, as they were kept before.
+    pub fn set_kept(&mut self, n: u8, flags: &[u8; 256], places: &[u8])
+        requires known { n < 4 }
+        requires each { length places.now ≡ length self.old.places }
+        ensures change { self.new ≡ with_kept self.old n (record { flags = flags.now; places = places.now }) }
+    {
+        let kept = &mut self.kept[n as usize];
+        *kept = Some(Position::of(flags, places));
     }
 
     /// The next random word: 32 bits.
@@ -279,7 +344,7 @@ impl World {
         self.draws.skip(n)
     }
 
-    /// Gives the flags and places of a game's start. Seed, draws and the saved position stay.
+    /// Gives the flags and places of a game's start. Seed, draws, the saved position and the kept positions stay.
     pub fn restart(&mut self)
         ensures change { self.new ≡ restarted self.old }
     {
@@ -346,7 +411,7 @@ impl World {
 }
 
 /// These facts, followed by others up to the greatest number of objects.
-fn kept(facts: &[ObjectFacts]) -> [ObjectFacts; MOST_OBJECTS]
+fn filled(facts: &[ObjectFacts]) -> [ObjectFacts; MOST_OBJECTS]
     requires { length facts.now ≤ 255 }
     ensures { take (length facts.now) result ≡ facts.now }
 {

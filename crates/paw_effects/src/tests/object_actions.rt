@@ -2,15 +2,17 @@
 
 ghost use Rattle.std.specs.Prelude.{◌≡◌};
 ghost use Rattle.paw_effects.specs.Built.{IsOf};
+ghost use Rattle.paw_routines.specs.Routines.{HaveRows};
 
 use super::{entry_of, opened, text, word};
 use crate::act::{Act, Effect, Truth};
-use crate::does::{act, is_built, test};
+use crate::does::{act, test};
 use paw_base::parts::{Condact, ObjectFacts};
 use paw_base::piece::Piece;
 use paw_game::game::Game;
 use paw_game::parts::{Exits, GameParts, ObjectRow, Table, Text, Word};
 use paw_game::tables::Tables;
+use paw_routines::routines::Routines;
 use paw_world::world::World;
 use std::alloc::{AllocError, Global};
 use std::process::Abort;
@@ -372,20 +374,28 @@ fn told_by(effect: Effect, drop_line: bool, cancel_loop: bool) -> Told {
 }
 
 /// Reads a condact of the game's entry.
-fn read(rt: &impl Abort, game: &Game, world: &mut World, piece: &mut Piece, at: u8) -> Told
+fn read<F: Fn(u8, u8) -> u8>(
+    rt: &impl Abort,
+    game: &Game,
+    world: &mut World,
+    routines: &Routines<F>,
+    piece: &mut Piece,
+    at: u8,
+) -> Told
     requires game { IsOf game.now world.old }
+    requires rows { HaveRows F.Fn routines.now }
     ensures game { IsOf game.now world.new }
 {
     let Some(c) = game.condact(0, 0, at) else {
         return Told::Other;
     };
-    assert!(rt; is_built(c.code) && world.draws() < 1_000);
+    assert!(rt; world.draws() < 1_000);
     if c.code > 28 {
         let Act {
             effect,
             drop_line,
             cancel_loop,
-        } = act(game, world, piece, c);
+        } = act(game, world, routines, piece, c);
         return told_by(effect, drop_line, cancel_loop);
     }
     match test(game, world, c) {
@@ -396,12 +406,20 @@ fn read(rt: &impl Abort, game: &Game, world: &mut World, piece: &mut Piece, at: 
 }
 
 /// Reads these condacts, which are those of the game's entry, each in an empty piece.
-fn read_all(rt: &impl Abort, game: &Game, world: &mut World, piece: &mut Piece, steps: &[Step])
+fn read_all<F: Fn(u8, u8) -> u8>(
+    rt: &impl Abort,
+    game: &Game,
+    world: &mut World,
+    routines: &Routines<F>,
+    piece: &mut Piece,
+    steps: &[Step],
+)
     requires game { IsOf game.now world.old }
+    requires rows { HaveRows F.Fn routines.now }
 {
     for (at, (code, a, b, told, printed)) in steps.iter().enumerate() {
         assert!(rt; at < 255);
-        let found = read(rt, game, world, piece, at as u8);
+        let found = read(rt, game, world, routines, piece, at as u8);
         assert_eq!(rt; found, *told, "condact {at}: {code} {a} {b}");
         assert_eq!(rt;
             piece.bytes(),
@@ -416,7 +434,8 @@ fn read_all(rt: &impl Abort, game: &Game, world: &mut World, piece: &mut Piece, 
 fn run(rt: &impl Abort, alloc: Global, steps: &[Step], piece: &mut Piece) -> Result<(), Fail> {
     let game = Game::new(parts(alloc, steps)?)?;
     let mut world = opened(rt, alloc, &game)?;
-    read_all(rt, &game, &mut world, piece, steps);
+    let routines = Routines::new(0, |_, x| x);
+    read_all(rt, &game, &mut world, &routines, piece, steps);
     Ok(())
 }
 

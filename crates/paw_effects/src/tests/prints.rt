@@ -33,7 +33,7 @@ const COUNTS: [Case; 22] = [
 
 const COUNTED: &[u8] = b"R0STU\nR1SU\nR257STU\nR65535STU\nV0W\nV200W\n200\n0\nF\nbag_v\n";
 
-const MARKS: [Case; 18] = [
+const MARKS: [Case; 16] = [
     (92, 1, 0, GO),
     (93, 255, 0, GO),
     (94, 3, 4, GO),
@@ -50,13 +50,11 @@ const MARKS: [Case; 18] = [
     (105, 1, 2, GO),
     (106, 6, 0, GO),
     (107, 7, 0, GO),
-    (36, 0, 0, Does(Effect::Redescribe)),
-    (37, 0, 0, Does(Effect::Redescribe)),
 ];
 
 const MARKED: &[u8] =
     b"[PICTURE 1]\n[GRAPHIC 255]\n[BEEP 3 4]\n[CLS]\n[PAPER 0]\n[INK 10]\n[BORDER 2]\n[CHARSET 5]\n\
-    [PROTECT]\n[SAVEAT]\n[BACKAT]\n[PRINTAT 20 31]\n[PAUSE 50]\n[MODE 1 2]\n[LINE 6]\n[INPUT 7]\n[SAVE]\n[LOAD]\n";
+    [PROTECT]\n[SAVEAT]\n[BACKAT]\n[PRINTAT 20 31]\n[PAUSE 50]\n[MODE 1 2]\n[LINE 6]\n[INPUT 7]\n";
 
 /// Lists of one, two and three objects and of none, in lines and as sentences.
 const LISTS: [Case; 28] = [

@@ -1,60 +1,27 @@
 // Players of a game that asks inside calls and loops: each is taken apart between two lines and goes on, or begins again.
 
 ghost use Rattle.std.specs.Prelude.{◌≡◌, true, IfOk};
-ghost use Rattle.std.specs.List.{list_all};
-ghost use Rattle.paw_effects.specs.Built.{is_built, AllBuilt};
+ghost use Rattle.paw_routines.specs.Routines.{HaveRows};
 ghost use Rattle.paw_turn.specs.Player.{IsSeated, IsStanding};
 
 use super::Player;
 use crate::Step;
 use crate::turn::Turn;
 use game::{asking_game, endless_game};
+use paw_base::codes::{ANYKEY, DOALL, END, GT, LET, MINUS, OK, PROCESS, QUIT};
 use paw_base::fault::SpentKind;
-use paw_base::parts::Condact;
+use paw_base::steps::StepRow;
 use paw_effects::act::Prompt;
-use paw_effects::does::is_built;
 use paw_game::game::Game;
-use paw_game::parts::{Entry, Table};
 use paw_phrase::{LINE_LIMIT, Pending};
 use paw_process::Machine;
+use paw_routines::routines::Routines;
 use std::alloc::Global;
 use std::process::Abort;
 use std::test::Fail;
 
 mod game;
 mod kept;
-
-// Whether these condacts are built.
-fn are_built(condacts: &[Condact]) -> bool
-    ensures value { result ≡ list_all (λ c. is_built c.code) condacts.now }
-{
-    condacts.iter().all(|condact| is_built(condact.code))
-}
-
-// Whether the condacts of these entries are built.
-fn have_built(entries: &[Entry]) -> bool
-    ensures value { result ≡ list_all (λ e. list_all (λ c. is_built c.code) e.condacts) entries.now }
-{
-    entries
-        .iter()
-        .all(|entry| are_built(entry.condacts.rows.as_slice()))
-}
-
-// Whether the condacts of these tables are built.
-fn are_ready(tables: &[Table]) -> bool
-    ensures value { result ≡ list_all (λ es. list_all (λ e. list_all (λ c. is_built c.code) e.condacts) es) tables.now }
-{
-    tables
-        .iter()
-        .all(|table| have_built(table.entries.as_slice()))
-}
-
-// Whether the condacts of a game are built.
-fn is_ready(game: &Game) -> bool
-    ensures built { result ≡ true → AllBuilt game.now }
-{
-    are_ready(game.parts().tables.as_slice())
-}
 
 /// What happens to a player between two lines: nothing; it is given up, and another adopts its parts; or another that
 /// waits elsewhere is seated with them.
@@ -207,16 +174,19 @@ fn is_standing(step: Step) -> bool
 }
 
 // A player that goes on where another stood; one that is spent or too deep stays.
-fn taken_up<'a>(
+fn taken_up<'a, F: Fn(u8, u8) -> u8>(
     alloc: Global,
     game: &'a Game,
-    player: Player<'a, Game>,
+    routines: &'a Routines<F>,
+    player: Player<'a, Game, F>,
     between: Between,
-) -> Result<Player<'a, Game>, Fail>
-    requires built { AllBuilt game.now }
+) -> Result<Player<'a, Game, F>, Fail>
+    requires rows { HaveRows F.Fn routines.now }
     requires game { player.game ≡ game.now }
+    requires routines { player.routines ≡ routines.now }
     requires seated { IsSeated player }
     ensures game { IfOk result (λ p. p.game ≡ game.now) }
+    ensures routines { IfOk result (λ p. p.routines ≡ routines.now) }
     ensures seated { IfOk result IsSeated }
 {
     if between == Between::Nothing || !is_standing(player.last) {
@@ -229,19 +199,21 @@ fn taken_up<'a>(
     let Turn { world, pending, .. } = turn;
     let pending = Pending::of(pending.bytes(), pending.earlier());
     if between == Between::Adopting {
-        let other = Player::adopt(alloc, game, world, machine, pending, prompt)?;
+        let other = Player::adopt(alloc, game, routines, world, machine, pending, prompt)?;
         return Ok(other);
     }
-    let mut other = Player::new(alloc, game, 8)?;
+    let mut other = Player::new(alloc, game, routines, 8)?;
     other.start();
     other.seat(world, machine, pending, prompt);
     Ok(other)
 }
 
 // What a line comes to.
-fn take(rt: &impl Abort, player: &mut Player<'_, Game>, line: &str) -> Step
+fn take<F: Fn(u8, u8) -> u8>(rt: &impl Abort, player: &mut Player<'_, Game, F>, line: &str) -> Step
+    requires rows { HaveRows F.Fn player.old.routines }
     requires seated { IsSeated player.old }
     ensures game { player.new.game ≡ player.old.game }
+    ensures routines { player.new.routines ≡ player.old.routines }
     ensures seated { IsSeated player.new }
 {
     assert!(rt; line.len() <= LINE_LIMIT);
@@ -250,23 +222,26 @@ fn take(rt: &impl Abort, player: &mut Player<'_, Game>, line: &str) -> Step
 }
 
 // Takes the lines of a case, and compares what each brings.
-fn take_all<'a>(
+fn take_all<'a, F: Fn(u8, u8) -> u8>(
     rt: &impl Abort,
     alloc: Global,
     game: &'a Game,
-    first: Player<'a, Game>,
+    routines: &'a Routines<F>,
+    first: Player<'a, Game, F>,
     between: Between,
     lines: &[Taken],
-) -> Result<Player<'a, Game>, Fail>
-    requires built { AllBuilt game.now }
+) -> Result<Player<'a, Game, F>, Fail>
+    requires rows { HaveRows F.Fn routines.now }
     requires game { first.game ≡ game.now }
+    requires routines { first.routines ≡ routines.now }
     requires seated { IsSeated first }
     ensures game { IfOk result (λ p. p.game ≡ game.now) }
+    ensures routines { IfOk result (λ p. p.routines ≡ routines.now) }
     ensures seated { IfOk result IsSeated }
 {
     let mut player = first;
     for (line, step, piece) in lines {
-        player = taken_up(alloc, game, player, between)?;
+        player = taken_up(alloc, game, routines, player, between)?;
         let found = take(rt, &mut player, line);
         assert_eq!(rt; found, *step, "{line:?}, {between:?}");
         assert_eq!(rt; player.piece(), piece.as_bytes(), "{line:?}, {between:?}");
@@ -278,13 +253,13 @@ fn take_all<'a>(
 fn players_go_on_from_what_was_kept(rt: HostRuntime) -> Result<(), Fail> {
     let alloc = rt.alloc();
     let game = asking_game(alloc)?;
-    assert!(rt; is_ready(&game));
+    let routines = Routines::new(0, |_, x| x);
     for between in [Between::Nothing, Between::Adopting, Between::Seating] {
         for case in CASES {
-            let mut player = Player::new(alloc, &game, 7)?;
+            let mut player = Player::new(alloc, &game, &routines, 7)?;
             assert_eq!(rt; player.start(), MAIN);
             assert_eq!(rt; player.piece(), FIRST.as_bytes());
-            take_all(&rt, alloc, &game, player, between, case)?;
+            take_all(&rt, alloc, &game, &routines, player, between, case)?;
         }
     }
     Ok(())
@@ -294,16 +269,24 @@ fn players_go_on_from_what_was_kept(rt: HostRuntime) -> Result<(), Fail> {
 fn renewed_players_begin_again(rt: HostRuntime) -> Result<(), Fail> {
     let alloc = rt.alloc();
     let game = asking_game(alloc)?;
-    assert!(rt; is_ready(&game));
+    let routines = Routines::new(0, |_, x| x);
     for case in CASES {
         for before in CASES {
-            let player = Player::new(alloc, &game, 7)?;
-            let mut player = take_all(&rt, alloc, &game, player, Between::Nothing, before)?;
+            let player = Player::new(alloc, &game, &routines, 7)?;
+            let mut player = take_all(
+                &rt,
+                alloc,
+                &game,
+                &routines,
+                player,
+                Between::Nothing,
+                before,
+            )?;
             player.renew(7);
             assert!(rt; player.piece().is_empty());
             assert_eq!(rt; player.start(), MAIN);
             assert_eq!(rt; player.piece(), FIRST.as_bytes());
-            take_all(&rt, alloc, &game, player, Between::Nothing, case)?;
+            take_all(&rt, alloc, &game, &routines, player, Between::Nothing, case)?;
         }
     }
     Ok(())
@@ -313,12 +296,20 @@ fn renewed_players_begin_again(rt: HostRuntime) -> Result<(), Fail> {
 fn finished_players_answer_the_same(rt: HostRuntime) -> Result<(), Fail> {
     let alloc = rt.alloc();
     let game = asking_game(alloc)?;
-    assert!(rt; is_ready(&game));
+    let routines = Routines::new(0, |_, x| x);
     for (line, step) in FINISHING {
-        let mut player = Player::new(alloc, &game, 7)?;
+        let mut player = Player::new(alloc, &game, &routines, 7)?;
         assert_eq!(rt; player.start(), MAIN);
         let lines = [(line, step, ""), ("LOOK", step, ""), ("~", step, "")];
-        let player = take_all(&rt, alloc, &game, player, Between::Nothing, &lines)?;
+        let player = take_all(
+            &rt,
+            alloc,
+            &game,
+            &routines,
+            player,
+            Between::Nothing,
+            &lines,
+        )?;
         assert_eq!(rt; player.parts().prompt, Prompt::Over);
     }
     Ok(())
@@ -328,11 +319,19 @@ fn finished_players_answer_the_same(rt: HostRuntime) -> Result<(), Fail> {
 fn a_player_waits_where_its_tables_stand(rt: HostRuntime) -> Result<(), Fail> {
     let alloc = rt.alloc();
     let game = asking_game(alloc)?;
-    assert!(rt; is_ready(&game));
-    let mut player = Player::new(alloc, &game, 7)?;
+    let routines = Routines::new(0, |_, x| x);
+    let mut player = Player::new(alloc, &game, &routines, 7)?;
     assert_eq!(rt; player.start(), MAIN);
     let lines = [("TWIST ALL", KEY, "Press a key. ")];
-    let player = take_all(&rt, alloc, &game, player, Between::Nothing, &lines)?;
+    let player = take_all(
+        &rt,
+        alloc,
+        &game,
+        &routines,
+        player,
+        Between::Nothing,
+        &lines,
+    )?;
     assert_eq!(rt; player.parts().machine.frames(), kept::waiting());
     Ok(())
 }
@@ -342,19 +341,85 @@ fn players_that_never_come_to_a_prompt_are_spent(rt: HostRuntime) -> Result<(), 
     let alloc = rt.alloc();
     for (location, kind) in [("", SpentKind::Condacts), ("A cave.", SpentKind::Text)] {
         let game = endless_game(alloc, location)?;
-        assert!(rt; is_ready(&game));
+        let routines = Routines::new(0, |_, x| x);
         let step = Step::Spent(kind);
-        let mut player = Player::new(alloc, &game, 7)?;
+        let mut player = Player::new(alloc, &game, &routines, 7)?;
         assert_eq!(rt; player.start(), step);
         assert!(rt; player.piece().is_empty());
         take_all(
             &rt,
             alloc,
             &game,
+            &routines,
             player,
             Between::Nothing,
             &[("LOOK", step, ""), ("~", step, "")],
         )?;
     }
+    Ok(())
+}
+
+// The step of a condact, and whether it has a yes.
+fn step(table: u8, entry: u16, at: u8, code: u8, yes: bool) -> StepRow {
+    StepRow {
+        table,
+        entry,
+        at,
+        code,
+        yes,
+    }
+}
+
+#[test]
+fn a_player_keeps_the_steps_of_the_last_piece(rt: HostRuntime) -> Result<(), Fail> {
+    let alloc = rt.alloc();
+    let game = asking_game(alloc)?;
+    let routines = Routines::new(0, |_, x| x);
+    let loops = [
+        step(0, 2, 0, DOALL, true),
+        step(0, 3, 0, PROCESS, true),
+        step(4, 0, 0, DOALL, true),
+        step(4, 1, 0, ANYKEY, true),
+    ];
+    let asks = [step(0, 6, 0, QUIT, true)];
+    let ends = [step(0, 6, 1, END, true)];
+    let cases: [(&[&str], &[StepRow]); 6] = [
+        (&["TWIST ALL"], &loops),
+        // A late line that is ignored leaves no steps.
+        (&["TWIST ALL", "~"], &[]),
+        (&["QUIT"], &asks),
+        (&["QUIT", "Y"], &ends),
+        (&["QUIT", "N"], &[]),
+        (&["XYZZY"], &[]),
+    ];
+    for (lines, steps) in cases {
+        let mut player = Player::new(alloc, &game, &routines, 7)?;
+        player.start();
+        for line in lines {
+            take(&rt, &mut player, line);
+        }
+        assert_eq!(rt; player.steps().rows(), steps, "{lines:?}");
+        assert_eq!(rt; player.steps().count() as usize, steps.len(), "{lines:?}");
+    }
+    Ok(())
+}
+
+#[test]
+fn steps_go_as_deep_as_calls_do(rt: HostRuntime) -> Result<(), Fail> {
+    let alloc = rt.alloc();
+    let game = asking_game(alloc)?;
+    let routines = Routines::new(0, |_, x| x);
+    let mut player = Player::new(alloc, &game, &routines, 7)?;
+    player.start();
+    take(&rt, &mut player, "NEST");
+    let steps = player.steps().rows();
+    // Two steps before the calls, nine calls of three steps, the condition that fails, and OK.
+    assert_eq!(rt; steps.len(), 31);
+    assert_eq!(rt; steps.first(), Some(&step(0, 4, 0, LET, true)));
+    assert_eq!(rt; steps.get(1), Some(&step(0, 4, 1, PROCESS, true)));
+    assert_eq!(rt; steps.get(26), Some(&step(5, 0, 0, GT, true)));
+    assert_eq!(rt; steps.get(27), Some(&step(5, 0, 1, MINUS, true)));
+    assert_eq!(rt; steps.get(29), Some(&step(5, 0, 0, GT, false)));
+    assert_eq!(rt; steps.get(30), Some(&step(0, 4, 2, OK, true)));
     Ok(())
 }

@@ -1,20 +1,9 @@
-use Rattle.std.proofs.Common.{arith}
-use Rattle.std.proofs.lemmas.Result.{err_from_is_err_and}
-use Rattle.paw_image.proofs.ImageLaws.{fault_is_none, invalid_is_none, read_is_image, read_is_only}
+use Rattle.paw_image.proofs.WholeLaws.{over_is_bad}
+use Rattle.paw_image.proofs.ImageLaws.{one_image}
 use Rattle.paw_image.proofs.decoder.decode.Goals as goal
 
-pub returns-in_err-parts-clause-damaged : goal.returns-in_err-parts-clause-damaged
-returns-in_err-parts-clause-damaged c =
-    let p = err_from_is_err_and c.from_residual.result c.from_residual.ensures.1 in
-    rw (p.1, p.2) (fault_is_none c.args.bytes.now c.in_err-parts.field-0.0 c.in_err-parts.ensures.gives)
+pub returns-then-bytes-gt-IMAGE_LIMIT-clause-at : goal.returns-then-bytes-gt-IMAGE_LIMIT-clause-at
+returns-then-bytes-gt-IMAGE_LIMIT-clause-at c = over_is_bad c.args.bytes.now c.if-bytes-gt-IMAGE_LIMIT.true
 
-pub returns-in_err-new-clause-damaged : goal.returns-in_err-new-clause-damaged
-returns-in_err-new-clause-damaged c =
-    let p = err_from_is_err_and c.from_residual-in_err-new.result c.from_residual-in_err-new.ensures.1 in
-    rw (p.1, p.2) (invalid_is_none c.args.bytes.now c.in_ok-parts.parts c.in_ok-parts.ensures.gives c.in_err-new.ensures.refused)
-
-pub returns-clause-found : goal.returns-clause-found
-returns-clause-found c = read_is_image c.args.bytes.now c.in_ok-parts.parts c.in_ok-new.field-0 (λ i. omega (arith, c.type_inv.bytes i)) (omega arith) c.in_ok-parts.ensures.gives c.in_ok-new.ensures.game c.in_ok-new.ensures.valid
-
-pub returns-clause-only : goal.returns-clause-only
-returns-clause-only c = read_is_only c.args.bytes.now c.in_ok-parts.parts c.in_ok-new.field-0 c.in_ok-parts.ensures.gives c.in_ok-new.ensures.game
+pub returns-in-Some-clause-only : goal.returns-in-Some-clause-only
+returns-in-Some-clause-only c = λ g is. one_image c.args.bytes.now c.in-Some.game g (rw c.in-Some.is at c.in_ok-game.ensures.found) is

@@ -6,6 +6,3 @@ returns-in-Ok-clause-cause g c = c.header_in.ensures.cause _ _
 
 pub returns-in-Ok-clause-refused : goal.returns-in-Ok-clause-refused
 returns-in-Ok-clause-refused g c tells game = c.header_in.ensures.refused _ game (sym (c.requires.size tells) ∙ c.if-size-ne-SESSION_LENGTH.false) (c.in-Ok.ensures.read tells)
-
-pub returns-in-Ok-clause-faulted : goal.returns-in-Ok-clause-faulted
-returns-in-Ok-clause-faulted g c = rw c.header_in.ensures.fine c.in-Ok.ensures.faulted

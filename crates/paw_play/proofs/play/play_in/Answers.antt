@@ -1,35 +1,85 @@
-use Rattle.std.proofs.Common.{◌≡◌, refl, sym, ap, ◌∙◌, subst}
+use Rattle.std.proofs.Common.{◌≡◌, ◌⊎◌, inr, refl, sym, ap, ◌∙◌, subst}
+use Rattle.paw_routines.specs.Routines.{AreRowsOf, HaveRows}
+use Rattle.paw_stage.specs.Moments.{Passes}
+use Rattle.paw_stage.proofs.Time.{Passes_on}
 use Rattle.paw_world.specs.World.{World}
-use Rattle.paw_play.specs.Play.{Played, memory, plays}
-use Rattle.paw_play.specs.OnTheWay.{PlaysInStore, new_session}
+use Rattle.paw_play.specs.Play.{Played, InPlay, memory, plays}
+use Rattle.paw_play.specs.OnTheWay.{InMaking, IsPlaying, PlaysInStore, new_session}
 use Rattle.paw_play.proofs.Begun.{begun_plays}
 use Rattle.paw_stage.proofs.Counted.{Faulted_on}
 use Rattle.paw_play.specs.Calls.{failed_call}
+use Rattle.paw_effects.specs.Story.{story_of}
+use Rattle.paw_play.proofs.Following.{outside_since}
 use Rattle.paw_play.proofs.play.play_in.Goals as goal
 
+pub begin-requires-clause-rows : goal.begin-requires-clause-rows
+begin-requires-clause-rows g c = subst (λ r. HaveRows g.F.Fn r) (sym c.in-Ok-new.ensures.routines) c.requires.rows
+
+pub play_lines-requires-clause-rows : goal.play_lines-requires-clause-rows
+play_lines-requires-clause-rows g c = subst (λ r. HaveRows g.F.Fn r) (sym (c.begin.ensures.routines ∙ c.in-Ok-new.ensures.routines)) c.requires.rows
+
+pub play_lines-requires-clause-kept : goal.play_lines-requires-clause-kept
+play_lines-requires-clause-kept g c = λ tells. c.in-Ok-begin.ensures.kept (c.begin.ensures.tells.1 tells)
+
+pub returns-in-Ok-begin-clause-tells : goal.returns-in-Ok-begin-clause-tells
+returns-in-Ok-begin-clause-tells g c = (λ t. c.play_lines.ensures.tells.0 (c.begin.ensures.tells.0 t), λ t. c.begin.ensures.tells.1 (c.play_lines.ensures.tells.1 t))
+
+pub returns-in-Ok-begin-clause-outside : goal.returns-in-Ok-begin-clause-outside
+returns-in-Ok-begin-clause-outside g c =
+    outside_since (g.S.Stage.faults c.args.stage.now) (g.S.Stage.faults c.begin.new.stage) (g.S.Stage.faults c.play_lines.new.stage) c.begin.ensures.counts c.play_lines.result c.play_lines.ensures.outside
+
 pub returns-in_default-clause-plays : goal.returns-in_default-clause-plays
-returns-in_default-clause-plays g c = λ tells name store. memory refl
+returns-in_default-clause-plays g c = λ tells X rows name store. memory refl
 
 pub returns-in_default-new-clause-plays : goal.returns-in_default-new-clause-plays
-returns-in_default-new-clause-plays g c = λ tells name store. memory refl
+returns-in_default-new-clause-plays g c = λ tells X rows name store. memory refl
 
 pub returns-in-Ok-begin-clause-plays : goal.returns-in-Ok-begin-clause-plays
-returns-in-Ok-begin-clause-plays g c = λ tells name store.
-    let s : Played = new_session c.in-Ok-new.player.game c.in-Ok-new.player.world.seed c.args.game.now name in
-    let same : s ≡ new_session (g.T.Tables.game c.args.tables.now) c.args.seed c.args.game.now name =
-    ap (λ k. new_session k c.in-Ok-new.player.world.seed c.args.game.now name) c.in-Ok-new.ensures.game
-    ∙ ap (λ (w : World). new_session (g.T.Tables.game c.args.tables.now) w.seed c.args.game.now name) c.in-Ok-new.ensures.new.world in
+returns-in-Ok-begin-clause-plays g c = λ tells X rows name store.
+    let s : Played = new_session (story_of c.in-Ok-new.player.game X) c.in-Ok-new.player.world.seed c.args.game.now name in
+    let same : s ≡ new_session (story_of (g.T.Tables.game c.args.tables.now) X) c.args.seed c.args.game.now name =
+    ap (λ k. new_session (story_of k X) c.in-Ok-new.player.world.seed c.args.game.now name) c.in-Ok-new.ensures.game
+    ∙ ap (λ (w : World). new_session (story_of (g.T.Tables.game c.args.tables.now) X) w.seed c.args.game.now name) c.in-Ok-new.ensures.new.world in
+    let own = subst (λ r. AreRowsOf g.F.Fn r X) (sym c.in-Ok-new.ensures.routines) rows in
+    let later = subst (λ r. AreRowsOf g.F.Fn r X) (sym (c.begin.ensures.routines ∙ c.in-Ok-new.ensures.routines)) rows in
+    let playing = subst (λ k. IsPlaying (story_of k X) s (g.S.Stage.standing c.args.stage.now) (g.S.Stage.standing c.begin.new.stage) c.begin.new.player 0) (sym c.begin.ensures.game)
+    (c.in-Ok-begin.ensures.meaning tells X own name store) in
     subst (λ q. PlaysInStore q (g.S.Stage.standing c.args.stage.now) (g.S.Stage.standing c.play_lines.new.stage) c.play_lines.result) same
-    (plays c.play_lines.result (c.play_lines.ensures.meaning (c.begin.ensures.tells.0 tells) s (g.S.Stage.standing c.args.stage.now) (c.in-Ok-begin.ensures.meaning tells name store) c.in-Ok-begin.ensures.events))
+    (plays c.play_lines.result (c.play_lines.ensures.meaning (c.begin.ensures.tells.0 tells) X later s (g.S.Stage.standing c.args.stage.now) playing c.in-Ok-begin.ensures.events))
 
 pub returns-clause-plays : goal.returns-clause-plays
-returns-clause-plays g c = λ tells name store.
-    let s : Played = new_session c.in-Ok-new.player.game c.in-Ok-new.player.world.seed c.args.game.now name in
-    let same : s ≡ new_session (g.T.Tables.game c.args.tables.now) c.args.seed c.args.game.now name =
-    ap (λ k. new_session k c.in-Ok-new.player.world.seed c.args.game.now name) c.in-Ok-new.ensures.game
-    ∙ ap (λ (w : World). new_session (g.T.Tables.game c.args.tables.now) w.seed c.args.game.now name) c.in-Ok-new.ensures.new.world in
+returns-clause-plays g c = λ tells X rows name store.
+    let s : Played = new_session (story_of c.in-Ok-new.player.game X) c.in-Ok-new.player.world.seed c.args.game.now name in
+    let same : s ≡ new_session (story_of (g.T.Tables.game c.args.tables.now) X) c.args.seed c.args.game.now name =
+    ap (λ k. new_session (story_of k X) c.in-Ok-new.player.world.seed c.args.game.now name) c.in-Ok-new.ensures.game
+    ∙ ap (λ (w : World). new_session (story_of (g.T.Tables.game c.args.tables.now) X) w.seed c.args.game.now name) c.in-Ok-new.ensures.new.world in
+    let own = subst (λ r. AreRowsOf g.F.Fn r X) (sym c.in-Ok-new.ensures.routines) rows in
     subst (λ q. PlaysInStore q (g.S.Stage.standing c.args.stage.now) (g.S.Stage.standing c.begin.new.stage) c.in-Err.end) same
-    (begun_plays c.in-Ok-new.player.game c.in-Ok-new.player.world.seed c.args.game.now name (g.S.Stage.standing c.args.stage.now) (g.S.Stage.standing c.begin.new.stage) c.in-Err.end (c.in-Err.ensures.meaning tells name store))
+    (begun_plays (story_of c.in-Ok-new.player.game X) c.in-Ok-new.player.world.seed c.args.game.now name (g.S.Stage.standing c.args.stage.now) (g.S.Stage.standing c.begin.new.stage) c.in-Err.end (c.in-Err.ensures.meaning tells X own name store))
+
+pub returns-in-Ok-begin-clause-any_moment : goal.returns-in-Ok-begin-clause-any_moment
+returns-in-Ok-begin-clause-any_moment g c = λ tells X rows name store.
+    let s : Played = new_session (story_of c.in-Ok-new.player.game X) c.in-Ok-new.player.world.seed c.args.game.now name in
+    let same : s ≡ new_session (story_of (g.T.Tables.game c.args.tables.now) X) c.args.seed c.args.game.now name =
+    ap (λ k. new_session (story_of k X) c.in-Ok-new.player.world.seed c.args.game.now name) c.in-Ok-new.ensures.game
+    ∙ ap (λ (w : World). new_session (story_of (g.T.Tables.game c.args.tables.now) X) w.seed c.args.game.now name) c.in-Ok-new.ensures.new.world in
+    let own = subst (λ r. AreRowsOf g.F.Fn r X) (sym c.in-Ok-new.ensures.routines) rows in
+    let later = subst (λ r. AreRowsOf g.F.Fn r X) (sym (c.begin.ensures.routines ∙ c.in-Ok-new.ensures.routines)) rows in
+    let playing = subst (λ k. IsPlaying (story_of k X) s (g.S.Stage.standing c.args.stage.now) (g.S.Stage.standing c.begin.new.stage) c.begin.new.player 0) (sym c.begin.ensures.game)
+    (c.in-Ok-begin.ensures.meaning tells X own name store) in
+    subst (λ q. Passes (g.S.Stage.clock c.args.stage.now) (g.S.Stage.clock c.play_lines.new.stage) (g.S.Stage.since c.args.stage.now) (g.S.Stage.since c.play_lines.new.stage) (λ m. InMaking q (g.S.Stage.standing c.args.stage.now) m ⊎ InPlay q (g.S.Stage.standing c.args.stage.now) m)) same
+    (Passes_on _ _ _ _ _ _ (λ m. InMaking s (g.S.Stage.standing c.args.stage.now) m ⊎ InPlay s (g.S.Stage.standing c.args.stage.now) m) _ (c.begin.ensures.any_moment tells X own name store)
+    (c.play_lines.ensures.any_moment (c.begin.ensures.tells.0 tells) X later s (g.S.Stage.standing c.args.stage.now) playing c.in-Ok-begin.ensures.events) (λ m i. inr i))
+
+pub returns-clause-any_moment : goal.returns-clause-any_moment
+returns-clause-any_moment g c = λ tells X rows name store.
+    let s : Played = new_session (story_of c.in-Ok-new.player.game X) c.in-Ok-new.player.world.seed c.args.game.now name in
+    let same : s ≡ new_session (story_of (g.T.Tables.game c.args.tables.now) X) c.args.seed c.args.game.now name =
+    ap (λ k. new_session (story_of k X) c.in-Ok-new.player.world.seed c.args.game.now name) c.in-Ok-new.ensures.game
+    ∙ ap (λ (w : World). new_session (story_of (g.T.Tables.game c.args.tables.now) X) w.seed c.args.game.now name) c.in-Ok-new.ensures.new.world in
+    let own = subst (λ r. AreRowsOf g.F.Fn r X) (sym c.in-Ok-new.ensures.routines) rows in
+    subst (λ q. Passes (g.S.Stage.clock c.args.stage.now) (g.S.Stage.clock c.begin.new.stage) (g.S.Stage.since c.args.stage.now) (g.S.Stage.since c.begin.new.stage) (λ m. InMaking q (g.S.Stage.standing c.args.stage.now) m ⊎ InPlay q (g.S.Stage.standing c.args.stage.now) m)) same
+    (c.begin.ensures.any_moment tells X own name store)
 
 pub returns-in-Ok-begin-clause-faulted : goal.returns-in-Ok-begin-clause-faulted
 returns-in-Ok-begin-clause-faulted g c = Faulted_on (failed_call c.play_lines.result) _ _ _ c.in-Ok-begin.ensures.faulted c.play_lines.ensures.faulted

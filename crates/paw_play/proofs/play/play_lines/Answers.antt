@@ -1,33 +1,61 @@
-use Rattle.std.proofs.Common.{◌≡◌, ◌+◌, ◌-◌, ◌<◌, ◌≤◌, ◌∙◌, suc, arith, subst, None}
-use Rattle.paw_stage.proofs.Time.{Passes_on}
+use Rattle.std.proofs.Common.{◌≡◌, ◌+◌, ◌-◌, ◌<◌, ◌≤◌, ◌∙◌, suc, arith, subst, refl, None}
+use Rattle.paw_stage.proofs.Time.{Passes_on, Passes_none}
 use Rattle.paw_play.specs.Play.{InPlay}
 use Rattle.paw_play.specs.OnTheWay.{IsPlaying}
 use Rattle.paw_play.specs.declared.TheConstants.{MOST_EVENTS}
 use Rattle.paw_play.proofs.Playing.{long_play}
-use Rattle.paw_stage.proofs.Counted.{Faulted_on}
+use Rattle.paw_stage.proofs.Counted.{Faulted_on, Faulted_same}
 use Rattle.paw_play.specs.Calls.{failed_call}
+use Rattle.paw_effects.specs.Story.{story_of}
 use Rattle.paw_play.proofs.play.play_lines.Goals as goal
 
+pub loop-init : goal.loop-init
+loop-init g c = record {
+  seated = c.requires.seated;
+  routines = refl;
+  rows = c.requires.rows;
+  events = refl;
+  from = omega arith;
+  few = c.requires.few;
+  draws = c.requires.draws;
+  tells = (λ t. t, λ t. t);
+  counts = λ k. omega arith;
+  faulted = Faulted_same _;
+  kept = c.requires.kept;
+  playing = λ tells X rows s first start events.
+      let none : 0 ≡ c.args.session.events - s.before = omega (arith, events) in
+      subst (λ k. IsPlaying (story_of c.args.player.now.game X) s first (g.S.Stage.standing c.args.stage.now) c.args.player.now k) none start;
+  passes = λ tells X rows s first start events. Passes_none _ _ _;
+}
+
+pub play_line-requires-clause-kept : goal.play_line-requires-clause-kept
+play_line-requires-clause-kept g c = λ tells. c.loop.invariant.kept (c.loop.invariant.tells.1 tells)
+
+pub returns-in-Err-clause-tells : goal.returns-in-Err-clause-tells
+returns-in-Err-clause-tells g c = (λ t. c.play_line.ensures.tells.0 (c.loop.invariant.tells.0 t), λ t. c.loop.invariant.tells.1 (c.play_line.ensures.tells.1 t))
+
 pub returns-in-Err-clause-meaning : goal.returns-in-Err-clause-meaning
-returns-in-Err-clause-meaning g c = λ tells s first start events.
+returns-in-Err-clause-meaning g c = λ tells X rows s first start events.
     let i = c.loop.invariant in
     let few : c.loop.counter - s.before < MOST_EVENTS - s.before = omega (arith, c.loop-test.true, i.from, events) in
     let at : c.loop.session.events ≡ s.before + (c.loop.counter - s.before) = omega (arith, i.events, i.from, events) in
-    c.in-Err.ensures.meaning (i.tells.0 tells) s (MOST_EVENTS - s.before) (c.loop.counter - s.before) first (i.playing tells s first start events) at few
+    c.in-Err.ensures.meaning (i.tells.0 tells) X (rw i.routines rows) s (MOST_EVENTS - s.before) (c.loop.counter - s.before) first (i.playing tells X rows s first start events) at few
 
 pub returns-in-Err-clause-any_moment : goal.returns-in-Err-clause-any_moment
-returns-in-Err-clause-any_moment g c = λ tells s first start events.
+returns-in-Err-clause-any_moment g c = λ tells X rows s first start events.
     let i = c.loop.invariant in
     let few : c.loop.counter - s.before < MOST_EVENTS - s.before = omega (arith, c.loop-test.true, i.from, events) in
     let at : c.loop.session.events ≡ s.before + (c.loop.counter - s.before) = omega (arith, i.events, i.from, events) in
-    Passes_on _ _ _ _ _ _ (InPlay s first) _ (i.passes tells s first start events)
-    (c.in-Err.ensures.any_moment (i.tells.0 tells) s (MOST_EVENTS - s.before) (c.loop.counter - s.before) first (i.playing tells s first start events) at few) (λ m j. j)
+    Passes_on _ _ _ _ _ _ (InPlay s first) _ (i.passes tells X rows s first start events)
+    (c.in-Err.ensures.any_moment (i.tells.0 tells) X (rw i.routines rows) s (MOST_EVENTS - s.before) (c.loop.counter - s.before) first (i.playing tells X rows s first start events) at few) (λ m j. j)
 
 pub loop-preserved : goal.loop-preserved
 loop-preserved g c =
     let i = c.loop.invariant in
     record {
       seated = c.play_line.ensures.seated;
+      routines = c.play_line.ensures.routines ∙ i.routines;
+      rows = rw c.play_line.ensures.routines i.rows;
       events = c.in-Ok.ensures.events ∙ omega (arith, i.events);
       from = omega (arith, i.from);
       few = omega (arith, c.loop-test.true);
@@ -36,24 +64,25 @@ loop-preserved g c =
       counts = λ k. omega (arith, i.counts k, c.play_line.ensures.counts k);
       faulted = Faulted_on None _ _ _ i.faulted c.in-Ok.ensures.faulted;
       kept = λ tells. c.in-Ok.ensures.kept (i.tells.0 tells);
-      playing = λ tells s first start events.
+      playing = λ tells X rows s first start events.
           let few : c.loop.counter - s.before < MOST_EVENTS - s.before = omega (arith, c.loop-test.true, i.from, events) in
           let at : c.loop.session.events ≡ s.before + (c.loop.counter - s.before) = omega (arith, i.events, i.from, events) in
-          let next = c.in-Ok.ensures.meaning (i.tells.0 tells) s (MOST_EVENTS - s.before) (c.loop.counter - s.before) first (i.playing tells s first start events) at few in
+          let next = c.in-Ok.ensures.meaning (i.tells.0 tells) X (rw i.routines rows) s (MOST_EVENTS - s.before) (c.loop.counter - s.before) first (i.playing tells X rows s first start events) at few in
           let n : suc (c.loop.counter - s.before) ≡ c.loop.counter + 1 - s.before = omega (arith, i.from, events) in
-          subst (λ k. IsPlaying s first (g.S.Stage.standing c.play_line.new.stage) c.play_line.new.player k) n next;
-      passes = λ tells s first start events.
+          subst (λ k. IsPlaying (story_of k X) s first (g.S.Stage.standing c.play_line.new.stage) c.play_line.new.player (c.loop.counter + 1 - s.before)) (sym c.play_line.ensures.game)
+          (subst (λ k. IsPlaying (story_of c.loop.player.game X) s first (g.S.Stage.standing c.play_line.new.stage) c.play_line.new.player k) n next);
+      passes = λ tells X rows s first start events.
           let few : c.loop.counter - s.before < MOST_EVENTS - s.before = omega (arith, c.loop-test.true, i.from, events) in
           let at : c.loop.session.events ≡ s.before + (c.loop.counter - s.before) = omega (arith, i.events, i.from, events) in
-          Passes_on _ _ _ _ _ _ (InPlay s first) _ (i.passes tells s first start events)
-          (c.in-Ok.ensures.any_moment (i.tells.0 tells) s (MOST_EVENTS - s.before) (c.loop.counter - s.before) first (i.playing tells s first start events) at few) (λ m j. j);
+          Passes_on _ _ _ _ _ _ (InPlay s first) _ (i.passes tells X rows s first start events)
+          (c.in-Ok.ensures.any_moment (i.tells.0 tells) X (rw i.routines rows) s (MOST_EVENTS - s.before) (c.loop.counter - s.before) first (i.playing tells X rows s first start events) at few) (λ m j. j);
     }
 
 pub returns-clause-meaning : goal.returns-clause-meaning
-returns-clause-meaning g c = λ tells s first start events.
+returns-clause-meaning g c = λ tells X rows s first start events.
     let i = c.loop.invariant in
     let all : c.loop.counter - s.before ≡ MOST_EVENTS - s.before = omega (arith, c.loop-test.false, i.few) in
-    long_play s (MOST_EVENTS - s.before) (c.loop.counter - s.before) first (g.S.Stage.standing c.loop.stage) c.loop.player (i.playing tells s first start events) i.seated all
+    long_play (story_of c.loop.player.game X) s (MOST_EVENTS - s.before) (c.loop.counter - s.before) first (g.S.Stage.standing c.loop.stage) c.loop.player (i.playing tells X rows s first start events) i.seated all
 
 pub returns-in-Err-clause-faulted : goal.returns-in-Err-clause-faulted
 returns-in-Err-clause-faulted g c = Faulted_on (failed_call c.in-Err.end) _ _ _ c.loop.invariant.faulted c.in-Err.ensures.faulted

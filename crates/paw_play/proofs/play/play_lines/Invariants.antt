@@ -1,4 +1,6 @@
-use Rattle.std.proofs.Common.{◌≡◌, ◌+◌, ◌-◌, ◌*◌, ◌≤◌, ◌↔◌, None}
+use Rattle.std.proofs.Common.{◌≡◌, ◌+◌, ◌-◌, ◌*◌, ◌≤◌, ◌↔◌, ℕ, List, None}
+use Rattle.paw_routines.specs.Routines.{AreRowsOf, HaveRows}
+use Rattle.paw_effects.specs.Story.{story_of}
 use Rattle.paw_stage.specs.Stage.{Standing, Grows, Faulted}
 use Rattle.paw_stage.specs.Moments.{Passes}
 use Rattle.paw_turn.specs.Player.{IsSeated}
@@ -12,6 +14,8 @@ use Rattle.paw_play.proofs.play.play_lines.Given as goal
 abbrev pub invariant-loop : goal.invariant-loop
 invariant-loop g l = record {
   seated : IsSeated l.player;
+  routines : l.player.routines ≡ l.fn.player.routines;
+  rows : HaveRows g.F.Fn l.player.routines;
   events : l.session.events ≡ l.counter;
   from : l.fn.session.events ≤ l.counter;
   few : l.counter ≤ MOST_EVENTS;
@@ -20,8 +24,10 @@ invariant-loop g l = record {
   counts : Grows (g.S.Stage.faults l.fn.stage) (g.S.Stage.faults l.stage);
   faulted : Faulted None (g.S.Stage.faults l.fn.stage) (g.S.Stage.faults l.stage);
   kept : g.S.Stage.Tells l.fn.stage → Keeps l.session.journal l.room (g.S.Stage.standing l.stage);
-  playing : g.S.Stage.Tells l.fn.stage → (s : Played) (first : Standing) → IsPlaying s first (g.S.Stage.standing l.fn.stage) l.fn.player 0 → l.fn.session.events ≡ s.before →
-      IsPlaying s first (g.S.Stage.standing l.stage) l.player (l.counter - s.before);
-  passes : g.S.Stage.Tells l.fn.stage → (s : Played) (first : Standing) → IsPlaying s first (g.S.Stage.standing l.fn.stage) l.fn.player 0 → l.fn.session.events ≡ s.before →
+  playing : g.S.Stage.Tells l.fn.stage → (X : List (List ℕ)) → AreRowsOf g.F.Fn l.fn.player.routines X → (s : Played) (first : Standing) →
+      IsPlaying (story_of l.fn.player.game X) s first (g.S.Stage.standing l.fn.stage) l.fn.player 0 → l.fn.session.events ≡ s.before →
+      IsPlaying (story_of l.player.game X) s first (g.S.Stage.standing l.stage) l.player (l.counter - s.before);
+  passes : g.S.Stage.Tells l.fn.stage → (X : List (List ℕ)) → AreRowsOf g.F.Fn l.fn.player.routines X → (s : Played) (first : Standing) →
+      IsPlaying (story_of l.fn.player.game X) s first (g.S.Stage.standing l.fn.stage) l.fn.player 0 → l.fn.session.events ≡ s.before →
       Passes (g.S.Stage.clock l.fn.stage) (g.S.Stage.clock l.stage) (g.S.Stage.since l.fn.stage) (g.S.Stage.since l.stage) (InPlay s first);
 }

@@ -8,37 +8,38 @@ use Rattle.paw_play.proofs.Attaching.{store_attached, store_empty, in_new_attach
 use Rattle.paw_play.proofs.Games.{game_plays, in_game}
 use Rattle.paw_stage.proofs.Counted.{Faulted_on}
 use Rattle.paw_play.specs.Calls.{failed_call}
+use Rattle.paw_effects.specs.Story.{story_of}
 use Rattle.paw_play.proofs.play.play_loop.Goals as goal
 
 pub returns-in-Err-clause-plays : goal.returns-in-Err-clause-plays
-returns-in-Err-clause-plays g c = λ tells. rw c.in-Err.ensures.cause.0 (unattached (c.in-Err.ensures.left tells))
+returns-in-Err-clause-plays g c = λ tells X rows. rw c.in-Err.ensures.cause.0 (unattached (c.in-Err.ensures.left tells))
 
 pub returns-then-at-ne0-clause-plays : goal.returns-then-at-ne0-clause-plays
-returns-then-at-ne0-clause-plays g c = λ tells.
+returns-then-at-ne0-clause-plays g c = λ tells X rows.
     let a = c.in-Ok.ensures.attached tells in
     rw a.0 (occupied (subst (λ n. 0 < n) a.0 (omega (arith, c.if-at-ne0.true))) a.1)
 
 pub returns-clause-plays : goal.returns-clause-plays
-returns-clause-plays g c = λ tells.
+returns-clause-plays g c = λ tells X rows.
     let a = c.in-Ok.ensures.attached tells in
     let old : Standing = g.S.Stage.standing c.args.stage.now in
-    let s : Played = new_session (g.T.Tables.game c.args.tables.now) c.args.seed c.args.game.now c.args.name.now in
+    let s : Played = new_session (story_of (g.T.Tables.game c.args.tables.now) X) c.args.seed c.args.game.now c.args.name.now in
     let store : IsStore c.args.name.now (g.S.Stage.standing c.attach.new.stage) = subst (IsStore c.args.name.now) (sym a.1) (store_attached old c.args.name.now) in
     plays_in c.play_in.result (store_empty old _ c.args.name.now c.in-Ok.at.length a (omega (arith, c.if-at-ne0.false)))
-    (game_plays (g.T.Tables.game c.args.tables.now) c.args.seed c.args.game.now c.args.name.now c.requires.game old (g.S.Stage.standing c.play_in.new.stage) c.play_in.result
-    (subst (λ q. PlaysInStore s q (g.S.Stage.standing c.play_in.new.stage) c.play_in.result) a.1 (c.play_in.ensures.plays (c.attach.ensures.tells.0 tells) c.args.name.now store)))
+    (game_plays (story_of (g.T.Tables.game c.args.tables.now) X) c.args.seed c.args.game.now c.args.name.now c.requires.game old (g.S.Stage.standing c.play_in.new.stage) c.play_in.result
+    (subst (λ q. PlaysInStore s q (g.S.Stage.standing c.play_in.new.stage) c.play_in.result) a.1 (c.play_in.ensures.plays (c.attach.ensures.tells.0 tells) X rows c.args.name.now store)))
 
 pub returns-clause-any_moment : goal.returns-clause-any_moment
-returns-clause-any_moment g c = λ tells empty.
+returns-clause-any_moment g c = λ tells X rows empty.
     let a = c.in-Ok.ensures.attached tells in
     let old : Standing = g.S.Stage.standing c.args.stage.now in
-    let s : Played = new_session (g.T.Tables.game c.args.tables.now) c.args.seed c.args.game.now c.args.name.now in
+    let s : Played = new_session (story_of (g.T.Tables.game c.args.tables.now) X) c.args.seed c.args.game.now c.args.name.now in
     let store : IsStore c.args.name.now (g.S.Stage.standing c.attach.new.stage) = subst (IsStore c.args.name.now) (sym a.1) (store_attached old c.args.name.now) in
-    Passes_on _ _ _ _ _ _ (InGame (g.T.Tables.game c.args.tables.now) c.args.seed c.args.name.now old) _
-    (Passes_map _ _ _ _ _ (InGame (g.T.Tables.game c.args.tables.now) c.args.seed c.args.name.now old) (c.in-Ok.ensures.time tells)
-    (λ m i. in_new_attach (g.T.Tables.game c.args.tables.now) c.args.seed c.args.name.now old (g.S.Stage.standing c.attach.new.stage) m a.1 empty i))
-    (c.play_in.ensures.any_moment (c.attach.ensures.tells.0 tells) c.args.name.now store)
-    (λ m i. in_game (g.T.Tables.game c.args.tables.now) c.args.seed c.args.game.now c.args.name.now c.requires.game old m (subst (λ q. InMaking s q m ⊎ InPlay s q m) a.1 i))
+    Passes_on _ _ _ _ _ _ (InGame (story_of (g.T.Tables.game c.args.tables.now) X) c.args.seed c.args.name.now old) _
+    (Passes_map _ _ _ _ _ (InGame (story_of (g.T.Tables.game c.args.tables.now) X) c.args.seed c.args.name.now old) (c.in-Ok.ensures.time tells)
+    (λ m i. in_new_attach (story_of (g.T.Tables.game c.args.tables.now) X) c.args.seed c.args.name.now old (g.S.Stage.standing c.attach.new.stage) m a.1 empty i))
+    (c.play_in.ensures.any_moment (c.attach.ensures.tells.0 tells) X rows c.args.name.now store)
+    (λ m i. in_game (story_of (g.T.Tables.game c.args.tables.now) X) c.args.seed c.args.game.now c.args.name.now c.requires.game old m (subst (λ q. InMaking s q m ⊎ InPlay s q m) a.1 i))
 
 pub returns-clause-faulted : goal.returns-clause-faulted
 returns-clause-faulted g c = Faulted_on (failed_call c.play_in.result) _ _ _ c.in-Ok.ensures.faulted c.play_in.ensures.faulted

@@ -4,6 +4,7 @@ use Rattle.paw_stage.proofs.Time.{Passes_map, Passes_on}
 use Rattle.paw_stage.specs.Moments.{Passes}
 use Rattle.paw_journal.specs.Session.{kept_digest, recover}
 use Rattle.paw_journal.specs.Journal.{Finds, IsRefused}
+use Rattle.paw_effects.specs.Story.{story_of}
 use Rattle.paw_play.specs.Calls.{IfOutside, IsSessionCall, failed_call}
 use Rattle.paw_play.specs.Play.{InAgain, InPlay, PlaysAgain, PlaysUp, ShowsState, unattached, wanting, plays_up, attached_to, store_bytes, kept_session}
 use Rattle.paw_play.specs.OnTheWay.{IsStore}
@@ -12,69 +13,78 @@ use Rattle.paw_play.proofs.Again.{in_again_attach, in_finding, in_taking_up, ref
 use Rattle.paw_stage.proofs.Counted.{Faulted_on}
 use Rattle.paw_play.proofs.resume.resume_loop.Goals as goal
 
+pub take_up-requires-clause-kept : goal.take_up-requires-clause-kept
+take_up-requires-clause-kept g c = λ tells. c.in-Ok-find.ensures.kept (c.find.ensures.tells.1 tells)
+
+pub returns-clause-tells : goal.returns-clause-tells
+returns-clause-tells g c = (
+  λ t. c.take_up.ensures.tells.0 (c.find.ensures.tells.0 (c.attach.ensures.tells.0 t)),
+  λ t. c.attach.ensures.tells.1 (c.find.ensures.tells.1 (c.take_up.ensures.tells.1 t)),
+)
+
 pub returns-in-Err-clause-plays : goal.returns-in-Err-clause-plays
-returns-in-Err-clause-plays g c = λ tells. rw c.in-Err.ensures.cause.0 (unattached (c.in-Err.ensures.left tells))
+returns-in-Err-clause-plays g c = λ tells X rows. rw c.in-Err.ensures.cause.0 (unattached (c.in-Err.ensures.left tells))
 
 pub returns-in_default-clause-plays : goal.returns-in_default-clause-plays
-returns-in_default-clause-plays g c = λ tells. wanting (c.in-Ok.ensures.attached tells).1
+returns-in_default-clause-plays g c = λ tells X rows. wanting (c.in-Ok.ensures.attached tells).1
 
 pub returns-in_default-clause-any_moment : goal.returns-in_default-clause-any_moment
-returns-in_default-clause-any_moment g c = λ tells st piece shows.
+returns-in_default-clause-any_moment g c = λ tells X rows st piece shows.
     let a = c.in-Ok.ensures.attached tells in
-    Passes_map _ _ _ _ _ (InAgain (kept_session (g.T.Tables.game c.args.tables.now) st piece c.args.game.now c.args.name.now) (g.S.Stage.standing c.args.stage.now)) (c.in-Ok.ensures.time tells)
-    (λ m i. in_again_attach (g.T.Tables.game c.args.tables.now) c.args.game.now c.args.name.now st piece (g.S.Stage.standing c.args.stage.now) c.counts-counts.ensures.valid shows (g.S.Stage.standing c.attach.new.stage) m a.1 i)
+    Passes_map _ _ _ _ _ (InAgain (kept_session (story_of (g.T.Tables.game c.args.tables.now) X) st piece c.args.game.now c.args.name.now) (g.S.Stage.standing c.args.stage.now)) (c.in-Ok.ensures.time tells)
+    (λ m i. in_again_attach (story_of (g.T.Tables.game c.args.tables.now) X) c.args.game.now c.args.name.now st piece (g.S.Stage.standing c.args.stage.now) c.counts-counts.ensures.valid shows (g.S.Stage.standing c.attach.new.stage) m a.1 i)
 
 pub returns-in-Err-find-clause-outside : goal.returns-in-Err-find-clause-outside
 returns-in-Err-find-clause-outside g c =
     rw c.not_found.ensures.value (outside_again (g.S.Stage.faults c.args.stage.now) (g.S.Stage.faults c.attach.new.stage) (g.S.Stage.faults c.find.new.stage) c.in-Err-find.refusal c.attach.ensures.counts c.in-Err-find.ensures.cause)
 
 pub returns-in-Err-find-clause-plays : goal.returns-in-Err-find-clause-plays
-returns-in-Err-find-clause-plays g c = λ tells.
+returns-in-Err-find-clause-plays g c = λ tells X rows.
     let a = c.in-Ok.ensures.attached tells in
     let now = c.attach.ensures.tells.0 tells in
     let found = c.in-Err-find.ensures.found now in
     rw c.not_found.ensures.value
-    (refused_again (g.T.Tables.game c.args.tables.now) c.args.game.now c.args.name.now (g.S.Stage.standing c.args.stage.now) (g.S.Stage.standing c.find.new.stage) (g.S.Stage.faults c.attach.new.stage) (g.S.Stage.faults c.find.new.stage) c.in-Err-find.refusal
+    (refused_again (story_of (g.T.Tables.game c.args.tables.now) X) c.args.game.now c.args.name.now (g.S.Stage.standing c.args.stage.now) (g.S.Stage.standing c.find.new.stage) (g.S.Stage.faults c.attach.new.stage) (g.S.Stage.faults c.find.new.stage) c.in-Err-find.refusal
     (subst (λ (q : Standing). IsRefused (recover q.disk.bytes) c.args.game.now c.in-Err-find.refusal) a.1 found) c.in-Err-find.ensures.cause (c.find.ensures.still now ∙ a.1))
 
 pub returns-in-Err-find-clause-any_moment : goal.returns-in-Err-find-clause-any_moment
-returns-in-Err-find-clause-any_moment g c = λ tells st piece shows.
+returns-in-Err-find-clause-any_moment g c = λ tells X rows st piece shows.
     let a = c.in-Ok.ensures.attached tells in
-    (Passes_on _ _ _ _ _ _ (InAgain (kept_session (g.T.Tables.game c.args.tables.now) st piece c.args.game.now c.args.name.now) (g.S.Stage.standing c.args.stage.now)) _
-    (Passes_map _ _ _ _ _ (InAgain (kept_session (g.T.Tables.game c.args.tables.now) st piece c.args.game.now c.args.name.now) (g.S.Stage.standing c.args.stage.now)) (c.in-Ok.ensures.time tells)
-    (λ m i. in_again_attach (g.T.Tables.game c.args.tables.now) c.args.game.now c.args.name.now st piece (g.S.Stage.standing c.args.stage.now) c.counts-counts.ensures.valid shows (g.S.Stage.standing c.attach.new.stage) m a.1 i))
+    (Passes_on _ _ _ _ _ _ (InAgain (kept_session (story_of (g.T.Tables.game c.args.tables.now) X) st piece c.args.game.now c.args.name.now) (g.S.Stage.standing c.args.stage.now)) _
+    (Passes_map _ _ _ _ _ (InAgain (kept_session (story_of (g.T.Tables.game c.args.tables.now) X) st piece c.args.game.now c.args.name.now) (g.S.Stage.standing c.args.stage.now)) (c.in-Ok.ensures.time tells)
+    (λ m i. in_again_attach (story_of (g.T.Tables.game c.args.tables.now) X) c.args.game.now c.args.name.now st piece (g.S.Stage.standing c.args.stage.now) c.counts-counts.ensures.valid shows (g.S.Stage.standing c.attach.new.stage) m a.1 i))
     (c.find.ensures.time (c.attach.ensures.tells.0 tells))
-    (λ m i. in_finding (g.T.Tables.game c.args.tables.now) c.args.game.now c.args.name.now st piece (g.S.Stage.standing c.args.stage.now) c.counts-counts.ensures.valid shows (g.S.Stage.standing c.attach.new.stage) m a.1 i))
+    (λ m i. in_finding (story_of (g.T.Tables.game c.args.tables.now) X) c.args.game.now c.args.name.now st piece (g.S.Stage.standing c.args.stage.now) c.counts-counts.ensures.valid shows (g.S.Stage.standing c.attach.new.stage) m a.1 i))
 
 pub returns-clause-plays : goal.returns-clause-plays
-returns-clause-plays g c = λ tells.
+returns-clause-plays g c = λ tells X rows.
     let a = c.in-Ok.ensures.attached tells in
     let now = c.attach.ensures.tells.0 tells in
     let is : g.S.Stage.standing c.find.new.stage ≡ attached_to (g.S.Stage.standing c.args.stage.now) c.args.name.now = c.find.ensures.still now ∙ a.1 in
     let store : IsStore c.args.name.now (g.S.Stage.standing c.find.new.stage) = subst (IsStore c.args.name.now) (sym is) (store_attached (g.S.Stage.standing c.args.stage.now) c.args.name.now) in
-    let up = c.take_up.ensures.plays (c.find.ensures.tells.0 now) c.args.name.now store in
+    let up = c.take_up.ensures.plays (c.find.ensures.tells.0 now) X rows c.args.name.now store in
     plays_up c.take_up.result
-    (subst (λ q. PlaysUp (g.T.Tables.game c.args.tables.now) c.args.game.now c.args.name.now q (g.S.Stage.standing c.take_up.new.stage) c.take_up.result) is
-    (subst (λ d. PlaysUp (g.T.Tables.game c.args.tables.now) d c.args.name.now (g.S.Stage.standing c.find.new.stage) (g.S.Stage.standing c.take_up.new.stage) c.take_up.result) (c.in-Ok-find.ensures.digest now) up))
+    (subst (λ q. PlaysUp (story_of (g.T.Tables.game c.args.tables.now) X) c.args.game.now c.args.name.now q (g.S.Stage.standing c.take_up.new.stage) c.take_up.result) is
+    (subst (λ d. PlaysUp (story_of (g.T.Tables.game c.args.tables.now) X) d c.args.name.now (g.S.Stage.standing c.find.new.stage) (g.S.Stage.standing c.take_up.new.stage) c.take_up.result) (c.in-Ok-find.ensures.digest now) up))
 
 pub returns-clause-any_moment : goal.returns-clause-any_moment
-returns-clause-any_moment g c = λ tells st piece shows.
+returns-clause-any_moment g c = λ tells X rows st piece shows.
     let a = c.in-Ok.ensures.attached tells in
     let now = c.attach.ensures.tells.0 tells in
     let is : g.S.Stage.standing c.find.new.stage ≡ attached_to (g.S.Stage.standing c.args.stage.now) c.args.name.now = c.find.ensures.still now ∙ a.1 in
     let store : IsStore c.args.name.now (g.S.Stage.standing c.find.new.stage) = subst (IsStore c.args.name.now) (sym is) (store_attached (g.S.Stage.standing c.args.stage.now) c.args.name.now) in
     let there = subst (λ (q : Standing). ShowsState (g.T.Tables.game c.args.tables.now) c.args.game.now q.disk.bytes st piece) (sym is) shows in
     let own = subst (λ d. ShowsState (g.T.Tables.game c.args.tables.now) d (g.S.Stage.standing c.find.new.stage).disk.bytes st piece) (sym (c.in-Ok-find.ensures.digest now)) there in
-    let up = c.take_up.ensures.any_moment (c.find.ensures.tells.0 now) c.args.name.now store st piece own in
-    Passes_on _ _ _ _ _ _ (InAgain (kept_session (g.T.Tables.game c.args.tables.now) st piece c.args.game.now c.args.name.now) (g.S.Stage.standing c.args.stage.now)) _
-    (Passes_on _ _ _ _ _ _ (InAgain (kept_session (g.T.Tables.game c.args.tables.now) st piece c.args.game.now c.args.name.now) (g.S.Stage.standing c.args.stage.now)) _
-    (Passes_map _ _ _ _ _ (InAgain (kept_session (g.T.Tables.game c.args.tables.now) st piece c.args.game.now c.args.name.now) (g.S.Stage.standing c.args.stage.now)) (c.in-Ok.ensures.time tells)
-    (λ m i. in_again_attach (g.T.Tables.game c.args.tables.now) c.args.game.now c.args.name.now st piece (g.S.Stage.standing c.args.stage.now) c.counts-counts.ensures.valid shows (g.S.Stage.standing c.attach.new.stage) m a.1 i))
+    let up = c.take_up.ensures.any_moment (c.find.ensures.tells.0 now) X rows c.args.name.now store st piece own in
+    Passes_on _ _ _ _ _ _ (InAgain (kept_session (story_of (g.T.Tables.game c.args.tables.now) X) st piece c.args.game.now c.args.name.now) (g.S.Stage.standing c.args.stage.now)) _
+    (Passes_on _ _ _ _ _ _ (InAgain (kept_session (story_of (g.T.Tables.game c.args.tables.now) X) st piece c.args.game.now c.args.name.now) (g.S.Stage.standing c.args.stage.now)) _
+    (Passes_map _ _ _ _ _ (InAgain (kept_session (story_of (g.T.Tables.game c.args.tables.now) X) st piece c.args.game.now c.args.name.now) (g.S.Stage.standing c.args.stage.now)) (c.in-Ok.ensures.time tells)
+    (λ m i. in_again_attach (story_of (g.T.Tables.game c.args.tables.now) X) c.args.game.now c.args.name.now st piece (g.S.Stage.standing c.args.stage.now) c.counts-counts.ensures.valid shows (g.S.Stage.standing c.attach.new.stage) m a.1 i))
     (c.find.ensures.time (c.attach.ensures.tells.0 tells))
-    (λ m i. in_finding (g.T.Tables.game c.args.tables.now) c.args.game.now c.args.name.now st piece (g.S.Stage.standing c.args.stage.now) c.counts-counts.ensures.valid shows (g.S.Stage.standing c.attach.new.stage) m a.1 i))
+    (λ m i. in_finding (story_of (g.T.Tables.game c.args.tables.now) X) c.args.game.now c.args.name.now st piece (g.S.Stage.standing c.args.stage.now) c.counts-counts.ensures.valid shows (g.S.Stage.standing c.attach.new.stage) m a.1 i))
     up
-    (λ m i. in_taking_up (g.T.Tables.game c.args.tables.now) c.args.game.now c.args.name.now st piece (g.S.Stage.standing c.args.stage.now) c.counts-counts.ensures.valid shows m
-    (subst (λ q. InPlay (kept_session (g.T.Tables.game c.args.tables.now) st piece c.args.game.now c.args.name.now) q m) is (subst (λ d. InPlay (kept_session (g.T.Tables.game c.args.tables.now) st piece d c.args.name.now) (g.S.Stage.standing c.find.new.stage) m) (c.in-Ok-find.ensures.digest now) i)))
+    (λ m i. in_taking_up (story_of (g.T.Tables.game c.args.tables.now) X) c.args.game.now c.args.name.now st piece (g.S.Stage.standing c.args.stage.now) c.counts-counts.ensures.valid shows m
+    (subst (λ q. InPlay (kept_session (story_of (g.T.Tables.game c.args.tables.now) X) st piece c.args.game.now c.args.name.now) q m) is (subst (λ d. InPlay (kept_session (story_of (g.T.Tables.game c.args.tables.now) X) st piece d c.args.name.now) (g.S.Stage.standing c.find.new.stage) m) (c.in-Ok-find.ensures.digest now) i)))
 
 pub returns-in-Err-find-clause-faulted : goal.returns-in-Err-find-clause-faulted
 returns-in-Err-find-clause-faulted g c =

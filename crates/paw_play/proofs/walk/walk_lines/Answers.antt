@@ -1,36 +1,40 @@
-use Rattle.std.proofs.Common.{◌≡◌, ◌<◌, ◌∙◌, arith, add-one, None}
+use Rattle.std.proofs.Common.{◌≡◌, ◌<◌, ◌∙◌, arith, add-one, None, subst, sym}
 use Rattle.paw_play.specs.declared.TheConstants.{MOST_EVENTS}
 use Rattle.paw_play.proofs.Walking.{long_walk}
 use Rattle.paw_stage.proofs.Counted.{Faulted_on}
 use Rattle.paw_play.specs.Calls.{failed_call}
+use Rattle.paw_effects.specs.Story.{story_of}
+use Rattle.paw_play.specs.OnTheWay.{IsWalking}
 use Rattle.paw_play.proofs.walk.walk_lines.Goals as goal
 
 pub returns-in-Some-clause-meaning : goal.returns-in-Some-clause-meaning
-returns-in-Some-clause-meaning g c = λ tells whole first start.
-    let w = c.loop.invariant.walking tells whole first start in
+returns-in-Some-clause-meaning g c = λ tells X rows whole first start.
+    let w = c.loop.invariant.walking tells X rows whole first start in
     let few : c.loop.counter < MOST_EVENTS = omega (arith, c.loop-test.true) in
-    c.in-Some.ensures.meaning (c.loop.invariant.tells.0 tells) whole MOST_EVENTS c.loop.counter first w few
+    c.in-Some.ensures.meaning (c.loop.invariant.tells.0 tells) X (rw c.loop.invariant.routines rows) whole MOST_EVENTS c.loop.counter first w few
 
 pub loop-preserved : goal.loop-preserved
 loop-preserved g c = record {
   seated = c.walk_line.ensures.seated;
   game = c.walk_line.ensures.game ∙ c.loop.invariant.game;
+  routines = c.walk_line.ensures.routines ∙ c.loop.invariant.routines;
+  rows = rw c.walk_line.ensures.routines c.loop.invariant.rows;
   draws = omega (arith, c.walk_line.ensures.draws, c.loop.invariant.draws);
   tells = (λ t. c.walk_line.ensures.tells.0 (c.loop.invariant.tells.0 t), λ t. c.loop.invariant.tells.1 (c.walk_line.ensures.tells.1 t));
   counts = λ k. omega (arith, c.loop.invariant.counts k, c.walk_line.ensures.counts k);
   faulted = Faulted_on None _ _ _ c.loop.invariant.faulted c.in_default.ensures.faulted;
-  walking = λ tells whole first start.
-      let w = c.loop.invariant.walking tells whole first start in
+  walking = λ tells X rows whole first start.
+      let w = c.loop.invariant.walking tells X rows whole first start in
       let few : c.loop.counter < MOST_EVENTS = omega (arith, c.loop-test.true) in
-      let on = c.in_default.ensures.meaning (c.loop.invariant.tells.0 tells) whole MOST_EVENTS c.loop.counter first w few in
-      rw add-one on;
+      let on = c.in_default.ensures.meaning (c.loop.invariant.tells.0 tells) X (rw c.loop.invariant.routines rows) whole MOST_EVENTS c.loop.counter first w few in
+      rw add-one (subst (λ k. IsWalking (story_of k X) whole first _ _ _) (sym c.walk_line.ensures.game) on);
 }
 
 pub returns-clause-meaning : goal.returns-clause-meaning
-returns-clause-meaning g c = λ tells whole first start.
+returns-clause-meaning g c = λ tells X rows whole first start.
     let all : c.loop.counter ≡ MOST_EVENTS = omega (arith, c.loop-test.false, c.loop.auto.counter-end) in
-    long_walk whole MOST_EVENTS c.loop.counter first (g.S.Stage.standing c.loop.stage) c.loop.player
-    (c.loop.invariant.walking tells whole first start) c.loop.invariant.seated all
+    long_walk (story_of c.loop.player.game X) whole MOST_EVENTS c.loop.counter first (g.S.Stage.standing c.loop.stage) c.loop.player
+    (c.loop.invariant.walking tells X rows whole first start) c.loop.invariant.seated all
 
 pub returns-in-Some-clause-faulted : goal.returns-in-Some-clause-faulted
 returns-in-Some-clause-faulted g c = Faulted_on (failed_call c.in-Some.end) _ _ _ c.loop.invariant.faulted c.in-Some.ensures.faulted

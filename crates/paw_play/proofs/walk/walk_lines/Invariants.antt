@@ -3,6 +3,8 @@ use Rattle.paw_stage.specs.Stage.{Standing, Grows, Faulted}
 use Rattle.paw_turn.specs.Player.{IsSeated}
 use Rattle.paw_play.specs.Walk.{Reading}
 use Rattle.paw_play.specs.OnTheWay.{IsWalking}
+use Rattle.paw_routines.specs.Routines.{AreRowsOf, HaveRows}
+use Rattle.paw_effects.specs.Story.{story_of}
 use Rattle.paw_play.proofs.walk.walk_lines.Given as goal
 
 -- so many lines were taken
@@ -14,6 +16,8 @@ invariant-loop g l = record {
   tells : g.S.Stage.Tells l.fn.stage ↔ g.S.Stage.Tells l.stage;
   counts : Grows (g.S.Stage.faults l.fn.stage) (g.S.Stage.faults l.stage);
   faulted : Faulted None (g.S.Stage.faults l.fn.stage) (g.S.Stage.faults l.stage);
-  walking : g.S.Stage.Tells l.fn.stage → (whole : Reading) (first : Standing) → IsWalking whole first (g.S.Stage.standing l.fn.stage) l.fn.player 0 →
-      IsWalking whole first (g.S.Stage.standing l.stage) l.player l.counter;
+  routines : l.player.routines ≡ l.fn.player.routines;
+  rows : HaveRows g.F.Fn l.player.routines;
+  walking : g.S.Stage.Tells l.fn.stage → (X : List (List ℕ)) → AreRowsOf g.F.Fn l.fn.player.routines X → (whole : Reading) (first : Standing) →
+      IsWalking (story_of l.fn.player.game X) whole first (g.S.Stage.standing l.fn.stage) l.fn.player 0 → IsWalking (story_of l.player.game X) whole first (g.S.Stage.standing l.stage) l.player l.counter;
 }

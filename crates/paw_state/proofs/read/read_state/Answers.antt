@@ -1,12 +1,15 @@
-use Rattle.std.proofs.Common.{◌≡◌, ℕ, refl, sym, ap, ◌∙◌, Option, Some, None}
+use Rattle.std.proofs.Common.{◌≡◌, ℕ, List, refl, sym, ap, ◌∙◌, Option, Some, None}
 use Rattle.std.specs.Prelude.{Result, Ok, Err, IsOk, IsErr, IfErr}
 use Rattle.std.proofs.lemmas.Result.{err_from_is_err_and}
+use Rattle.paw_game.specs.Game.{GameLists}
 use Rattle.paw_state.specs.declared.StateFault.{StateFault}
+use Rattle.paw_state.specs.declared.fields.Fields.{Fields}
+use Rattle.paw_state.specs.Fields.{fields_at}
 use Rattle.paw_state.specs.Faults.{fields_fault}
 use Rattle.paw_state.specs.Parts.{state_in}
 use Rattle.paw_state.specs.Fit.{unfit, state_read}
 use Rattle.paw_state.proofs.Told.{piece_read}
-use Rattle.paw_state.proofs.Lawful.{fit_has_none, none_is_fit, is_read}
+use Rattle.paw_state.proofs.Lawful.{fit_has_none, none_is_fit, long_state, is_read}
 use Rattle.paw_state.proofs.read.read_state.Goals as goal
 
 not_both : {A E : Type 0} → (r : Result A E) → IsErr r → IsOk r → ⊥
@@ -15,6 +18,9 @@ not_both (Err e) h k = cc
 
 named : {A : Type 0} → (r : Result A StateFault) (e : StateFault) (o : Option ℕ) → r ≡ Err e → o ≡ Some e.at → IfErr r (λ f. o ≡ Some f.at)
 named r e o is h = rw is h
+
+none_from : (g : GameLists) (f : Fields) (bytes : List ℕ) → None ≡ fields_fault g f → f ≡ fields_at bytes → unfit g bytes ≡ None
+none_from g f bytes h e = sym (h ∙ ap (fields_fault g) e)
 
 pub returns-in_err-check-clause-fit : goal.returns-in_err-check-clause-fit
 returns-in_err-check-clause-fit g c =
@@ -34,20 +40,20 @@ returns-in_err-check-clause-fault g c =
 pub returns-clause-read : goal.returns-clause-read
 returns-clause-read g c =
     let game = g.T.Tables.game c.args.tables.now in
-    let none : unfit game c.args.bytes.now ≡ None = sym (c.in_ok-check.ensures.value ∙ ap (fields_fault game) c.at-fields.ensures.value) in
+    let none = none_from game c.at-fields.result c.args.bytes.now c.in_ok-check.ensures.value c.at-fields.ensures.value in
     is_read game c.args.bytes.now c.restored.result c.check.ensures.valid c.at-fields.ensures.room c.at-fields.ensures.bytes none
     (c.restored.ensures.state ∙ ap (state_in game) c.at-fields.ensures.value) c.restored.ensures.machine c.restored.ensures.stands
 
 pub returns-clause-fit : goal.returns-clause-fit
 returns-clause-fit g c =
     let game = g.T.Tables.game c.args.tables.now in
-    let none : unfit game c.args.bytes.now ≡ None = sym (c.in_ok-check.ensures.value ∙ ap (fields_fault game) c.at-fields.ensures.value) in
+    let none = none_from game c.at-fields.result c.args.bytes.now c.in_ok-check.ensures.value c.at-fields.ensures.value in
     (λ ok. none_is_fit game c.args.bytes.now c.check.ensures.valid c.at-fields.ensures.room c.at-fields.ensures.bytes none, λ fit. refl)
 
 pub returns-clause-piece : goal.returns-clause-piece
 returns-clause-piece g c =
     let game = g.T.Tables.game c.args.tables.now in
-    let none : unfit game c.args.bytes.now ≡ None = sym (c.in_ok-check.ensures.value ∙ ap (fields_fault game) c.at-fields.ensures.value) in
+    let none = none_from game c.at-fields.result c.args.bytes.now c.in_ok-check.ensures.value c.at-fields.ensures.value in
     let r = is_read game c.args.bytes.now c.restored.result c.check.ensures.valid c.at-fields.ensures.room c.at-fields.ensures.bytes none
     (c.restored.ensures.state ∙ ap (state_in game) c.at-fields.ensures.value) c.restored.ensures.machine c.restored.ensures.stands in
-    piece_read (state_read c.restored.result) c.args.bytes.now r.are c.at-fields.ensures.room r.fits.piece
+    piece_read (state_read c.restored.result) c.args.bytes.now r.are (long_state game (state_read c.restored.result) c.check.ensures.valid r.keeps r.fits) r.fits.piece

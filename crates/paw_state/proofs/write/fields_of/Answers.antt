@@ -4,8 +4,8 @@ pub returns-clause-fits : goal.returns-clause-fits
 returns-clause-fits c = record {
   flags = rw (← c.flags.ensures.value) c.copied.ensures.bytes;
   places = rw (← c.places.ensures.value) c.filled.ensures.bytes;
-  saved_flags = c.saved_of.ensures.flag_bytes;
-  saved_places = c.saved_of.ensures.place_bytes;
+  saved = c.saved_of.ensures.bytes;
+  kept = c.all_kept.ensures.bytes;
   seed = rw (← c.seed.ensures.value) c.seed.type_inv;
   draws = rw (← c.draws.ensures.value) c.draws.type_inv;
   events = c.ranges.events.fits;

@@ -1,22 +1,26 @@
-use Rattle.std.proofs.Common.{◌≡◌, ◌++◌, ap, ◌∙◌}
+use Rattle.std.proofs.Common.{◌≡◌, ◌++◌, length, sym, ap, ◌∙◌}
 use Rattle.paw_process.specs.declared.kept.Frames.{Frames}
 use Rattle.paw_state.specs.State.{State, state_of}
-use Rattle.paw_state.specs.Fields.{zeros, fields_of, field_bytes, state_bytes}
-use Rattle.paw_state.proofs.Told.{buffer_long, piece_in}
+use Rattle.paw_state.specs.Fields.{zeros, fields_of, field_bytes, kept_bytes, state_bytes}
+use Rattle.paw_state.proofs.Told.{AreLong, buffer_long, piece_in}
 use Rattle.paw_state.proofs.write.write_state.Goals as goal
 
 pub returns-clause-length : goal.returns-clause-length
 returns-clause-length c =
     let s : State = state_of c.args.world.now c.args.machine.now c.args.pending.now c.args.prompt c.args.events c.args.piece in
     let frames = λ (k : Frames). fields_of (record { world = c.args.world.now; frames = k; pending = c.args.pending.now; prompt = c.args.prompt; events = c.args.events; piece = c.args.piece }) in
-    let is : c.bytes.result ≡ state_bytes s ++ zeros 2725 =
-    c.bytes.ensures.value ∙ ap (λ f. field_bytes f ++ zeros 2725) (c.fields_of-fields.ensures.value ∙ ap frames c.frames-frames.ensures.value) in
+    let is : c.bytes.result ≡ state_bytes s ++ zeros 677 =
+    c.bytes.ensures.value ∙ ap (λ f. field_bytes f ++ zeros 677) (c.fields_of-fields.ensures.value ∙ ap frames c.frames-frames.ensures.value) in
     buffer_long (state_bytes s) c.bytes.result is c.bytes.ensures.room
 
 pub returns-clause-piece : goal.returns-clause-piece
 returns-clause-piece c =
     let s : State = state_of c.args.world.now c.args.machine.now c.args.pending.now c.args.prompt c.args.events c.args.piece in
     let frames = λ (k : Frames). fields_of (record { world = c.args.world.now; frames = k; pending = c.args.pending.now; prompt = c.args.prompt; events = c.args.events; piece = c.args.piece }) in
-    let is : c.bytes.result ≡ state_bytes s ++ zeros 2725 =
-    c.bytes.ensures.value ∙ ap (λ f. field_bytes f ++ zeros 2725) (c.fields_of-fields.ensures.value ∙ ap frames c.frames-frames.ensures.value) in
-    piece_in s (zeros 2725) c.bytes.result is (buffer_long (state_bytes s) c.bytes.result is c.bytes.ensures.room) c.ranges.piece.fits
+    let same = c.fields_of-fields.ensures.value ∙ ap frames c.frames-frames.ensures.value in
+    let is : c.bytes.result ≡ state_bytes s ++ zeros 677 = c.bytes.ensures.value ∙ ap (λ f. field_bytes f ++ zeros 677) same in
+    let long : AreLong s = record {
+      all = buffer_long (state_bytes s) c.bytes.result is c.bytes.ensures.room;
+      kept = ap (λ f. length (kept_bytes f)) (sym same) ∙ c.bytes.ensures.kept;
+    } in
+    piece_in s (zeros 677) c.bytes.result is long c.ranges.piece.fits

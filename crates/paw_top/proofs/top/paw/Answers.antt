@@ -10,6 +10,7 @@ use Rattle.paw_top.specs.Completes.{Completes}
 use Rattle.paw_top.proofs.Completing.{completes_compile, completes_decompile, completes_walk}
 use Rattle.paw_top.proofs.CompletingSessions.{completes_play, completes_resume}
 use Rattle.paw_top.proofs.OpenedSessions.{for_play, for_resume}
+use Rattle.paw_top.proofs.Trying.{completes_trial}
 use Rattle.paw_top.proofs.top.paw.Goals as goal
 
 pub returns-in-Some-Compile-clause-completes : goal.returns-in-Some-Compile-clause-completes
@@ -41,6 +42,12 @@ returns-in-Some-Resume-clause-completes g c = λ tells none.
     let asked = rw c.in-Some-Resume.field-0-is at c.in-Some-Resume.ensures.value in
     subst (λ q. Completes (g.S.Stage.standing c.args.stage.now) q c.resume.result) (sym asked)
     (completes_resume c.in-Some-Resume.image.now c.in-Some-Resume.store.now _ _ _ _ c.resume.result (c.resume.ensures.plays tells) c.resume.ensures.outside none)
+
+pub returns-in-Some-Trial-clause-completes : goal.returns-in-Some-Trial-clause-completes
+returns-in-Some-Trial-clause-completes g c = λ tells none.
+    let asked = rw c.in-Some-Trial.field-0-is at c.in-Some-Trial.ensures.value in
+    subst (λ q. Completes (g.S.Stage.standing c.args.stage.now) q c.trial.result) (sym asked)
+    (completes_trial c.in-Some-Trial.n _ _ _ _ c.trial.result (c.trial.ensures.tries tells) c.trial.ensures.outside none)
 
 pub returns-in-Some-Play-clause-any_moment_of_play : goal.returns-in-Some-Play-clause-any_moment_of_play
 returns-in-Some-Play-clause-any_moment_of_play g c = λ tells image store seed asked.

@@ -1,5 +1,9 @@
 // The games of the tests: one that asks inside calls and loops, and one that never comes to a prompt.
 
+use paw_base::codes::{
+    ANYKEY, AT, ATGT, DESC, DOALL, DONE, END, GT, LET, MESSAGE, MINUS, NOTDONE, OK, PARSE, PROCESS,
+    QUIT,
+};
 use paw_base::parts::{Condact, ObjectFacts};
 use paw_game::game::Game;
 use paw_game::parts::{Condacts, Entry, Exits, GameParts, ObjectRow, Table, Text, Word};
@@ -44,38 +48,6 @@ const WORDS: [([u8; 5], u8, u8); 23] = [
     (*b"WAIT ", 37, VERB),
     (*b"WHERE", 42, VERB),
 ];
-
-const AT: u8 = 0;
-
-const ATGT: u8 = 2;
-
-const GT: u8 = 15;
-
-const QUIT: u8 = 27;
-
-const DESC: u8 = 30;
-
-const END: u8 = 31;
-
-const DONE: u8 = 32;
-
-const NOTDONE: u8 = 33;
-
-const OK: u8 = 34;
-
-const ANYKEY: u8 = 35;
-
-const MESSAGE: u8 = 51;
-
-const MINUS: u8 = 69;
-
-const LET: u8 = 70;
-
-const PARSE: u8 = 84;
-
-const PROCESS: u8 = 85;
-
-const DOALL: u8 = 86;
 
 /// Any word.
 const ANY: u8 = 255;

@@ -68,5 +68,7 @@ returns-clause-kept g c tells =
     made_keeps c.args.game.now _ _ _ _ _ _ (c.requires.rests tells)
     ((c.in_ok-mark.ensures.beside later).attached ∙ (c.in_ok-lay_out.ensures.beside tells).attached)
     (c.in_ok-mark.ensures.marked later) (marked_session c.args.game.now c.slot.result.now _ _ _ (c.in_ok-lay_out.ensures.laid tells) slots)
-    (ap (λ r. r.state) c.lay_slot.ensures.value ∙ ap (λ r. r.state) c.hold.ensures.value) (ap (λ r. r.piece) c.lay_slot.ensures.value ∙ ap (λ r. r.piece) c.hold.ensures.value)
+    (ap (λ r. r.state) c.keep_made.ensures.value ∙ (ap (λ r. r.state) c.lay_slot.ensures.value ∙ ap (λ r. r.state) c.hold.ensures.value))
+    (ap (λ r. r.piece) c.keep_made.ensures.value ∙ (ap (λ r. r.piece) c.lay_slot.ensures.value ∙ ap (λ r. r.piece) c.hold.ensures.value))
+    (ap (λ r. r.first) c.keep_made.ensures.value) (ap (λ r. r.second) c.keep_made.ensures.value)
     c.told-game c.told-state few c.requires.piece_length

@@ -1,5 +1,6 @@
 use Rattle.std.proofs.Common.{refl}
 use Rattle.paw_effects.specs.declared.act.Prompt.TheVariants as prompt
+use Rattle.paw_effects.specs.Story.{story_of}
 use Rattle.paw_effects.specs.Texts.{put_text}
 use Rattle.paw_reading.specs.Reading.{waits}
 use Rattle.paw_process.proofs.Stops.{ask_stops, ask_waits}
@@ -9,17 +10,19 @@ use Rattle.paw_process.proofs.machine.Machine.ask.Goals as goal
 
 pub returns-then-not-put-clause-meaning : goal.returns-then-not-put-clause-meaning
 returns-then-not-put-clause-meaning g c X f r top =
-    let game = g.T.Tables.game c.args.tables.now in
+    let lists = g.T.Tables.game c.args.tables.now in
+    let game = story_of lists X in
     let fs = below c.args.self.now.frames in
-    ask_stops game X fs (put_text game c.args.world.now 12) (waits game prompt.Quit f (past_of game X fs f))
+    ask_stops game fs (put_text lists c.args.world.now 12) (waits game prompt.Quit f (past_of game fs f))
     (reading_with c.args.piece.now c.args.self.now.turning r) c.stop.result c.stop.new.self.frames
     (reading_with c.put.new.piece c.stop.new.self.turning r) c.stop.ensures.value c.if-not-put.ensures.puts
     (record { pieces = refl; traces = refl; events = refl })
 
 pub returns-clause-meaning : goal.returns-clause-meaning
 returns-clause-meaning g c X f r top =
-    let game = g.T.Tables.game c.args.tables.now in
+    let lists = g.T.Tables.game c.args.tables.now in
+    let game = story_of lists X in
     let puts = c.if-not-put.ensures.puts in
     rw c.set_waiting.ensures.value
-    (ask_waits game X (below c.args.self.now.frames) c.args.self.now.frames f prompt.Quit (put_text game c.args.world.now 12)
+    (ask_waits game (below c.args.self.now.frames) c.args.self.now.frames f prompt.Quit (put_text lists c.args.world.now 12)
     c.put.new.piece (reading_with c.args.piece.now c.args.self.now.turning r) top puts.1 puts.0)

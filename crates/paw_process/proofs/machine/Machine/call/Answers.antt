@@ -4,12 +4,12 @@ use Rattle.paw_process.specs.Moves.{turning_as}
 use Rattle.paw_process.proofs.machine.Machine.call.Goals as goal
 
 pub returns-then-depth-eq-MOST_FRAMES-clause-meaning : goal.returns-then-depth-eq-MOST_FRAMES-clause-meaning
-returns-then-depth-eq-MOST_FRAMES-clause-meaning c g X r =
-    stops_deep g X _ _ c.args.table _ _ (turning_as c.args.self.now.turning r) c.stop.ensures.value
-    (call_deep g X c.args.self.now.frames c.args.table (turning_as c.args.self.now.turning r) (omega arith))
+returns-then-depth-eq-MOST_FRAMES-clause-meaning c g r =
+    stops_deep g _ _ c.args.table _ _ (turning_as c.args.self.now.turning r) c.stop.ensures.value
+    (call_deep g c.args.self.now.frames c.args.table (turning_as c.args.self.now.turning r) (omega arith))
     (record { pieces = refl; traces = refl; events = refl })
 
 pub returns-clause-meaning : goal.returns-clause-meaning
-returns-clause-meaning c g X r =
+returns-clause-meaning c g r =
     rw (c.push.ensures.value, c.start_of.ensures.value)
-    (call_goes g X c.args.self.now.frames c.args.table (turning_as c.args.self.now.turning r) c.requires.reading.tables.some (omega arith))
+    (call_goes g c.args.self.now.frames c.args.table (turning_as c.args.self.now.turning r) c.requires.reading.tables.some (omega arith))

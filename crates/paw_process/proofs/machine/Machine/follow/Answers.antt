@@ -1,5 +1,6 @@
 use Rattle.std.proofs.Common.{refl, ◌∙◌, length}
 use Rattle.paw_base.specs.declared.fault.SpentKind.TheVariants as spent
+use Rattle.paw_effects.specs.Story.{story_of}
 use Rattle.paw_effects.specs.declared.act.Effect.TheVariants as effect
 use Rattle.paw_process.proofs.Readings.{acted_as, call_at, loop_at, ask_at}
 use Rattle.paw_process.proofs.Steps.{acted_redescribes, acted_spent}
@@ -10,51 +11,51 @@ use Rattle.paw_process.proofs.machine.Machine.follow.Goals as goal
 
 pub returns-in-Exit-clause-meaning : goal.returns-in-Exit-clause-meaning
 returns-in-Exit-clause-meaning g c X r =
-    let game = g.T.Tables.game c.args.tables.now in
+    let game = story_of (g.T.Tables.game c.args.tables.now) X in
     let now = running c.args.world.now c.args.pending.now c.args.self.now.turning r in
-    goes_from game X _ _ c.leave_level.result c.leave_level.new.self.frames (running c.leave_level.new.world c.args.pending.now c.leave_level.new.self.turning r)
-    (acted_as game X (below c.args.self.now.frames) c.args.f c.args.effect (effect.Exit c.in-Exit.acted) now c.in-Exit.is)
+    goes_from game _ _ c.leave_level.result c.leave_level.new.self.frames (running c.leave_level.new.world c.args.pending.now c.leave_level.new.self.turning r)
+    (acted_as game (below c.args.self.now.frames) c.args.f c.args.effect (effect.Exit c.in-Exit.acted) now c.in-Exit.is)
     (c.leave_level.ensures.meaning X now)
 
 pub returns-in-Redescribe-clause-meaning : goal.returns-in-Redescribe-clause-meaning
 returns-in-Redescribe-clause-meaning g c X r =
-    let game = g.T.Tables.game c.args.tables.now in
+    let game = story_of (g.T.Tables.game c.args.tables.now) X in
     let now = running c.args.world.now c.args.pending.now c.args.self.now.turning r in
     rw (c.stop.ensures.value, c.stop.ensures.closed)
-    (acted_as game X (below c.args.self.now.frames) c.args.f c.args.effect effect.Redescribe now c.in-Redescribe.is
-    ∙ acted_redescribes game X (below c.args.self.now.frames) c.args.f now)
+    (acted_as game (below c.args.self.now.frames) c.args.f c.args.effect effect.Redescribe now c.in-Redescribe.is
+    ∙ acted_redescribes game (below c.args.self.now.frames) c.args.f now)
 
 pub returns-in-Call-clause-meaning : goal.returns-in-Call-clause-meaning
 returns-in-Call-clause-meaning g c X r =
-    let game = g.T.Tables.game c.args.tables.now in
+    let game = story_of (g.T.Tables.game c.args.tables.now) X in
     let now = running c.args.world.now c.args.pending.now c.args.self.now.turning r in
-    goes_from game X _ _ c.call.result c.call.new.self.frames (running c.args.world.now c.args.pending.now c.call.new.self.turning r)
-    (acted_as game X (below c.args.self.now.frames) c.args.f c.args.effect (effect.Call c.in-Call.table) now c.in-Call.is
-    ∙ call_at game X c.args.self.now.frames c.args.f c.in-Call.table now c.requires.top)
-    (c.call.ensures.meaning game X now)
+    goes_from game _ _ c.call.result c.call.new.self.frames (running c.args.world.now c.args.pending.now c.call.new.self.turning r)
+    (acted_as game (below c.args.self.now.frames) c.args.f c.args.effect (effect.Call c.in-Call.table) now c.in-Call.is
+    ∙ call_at game c.args.self.now.frames c.args.f c.in-Call.table now c.requires.top)
+    (c.call.ensures.meaning game now)
 
 pub returns-in-Loop-clause-meaning : goal.returns-in-Loop-clause-meaning
 returns-in-Loop-clause-meaning g c X r =
-    let game = g.T.Tables.game c.args.tables.now in
+    let game = story_of (g.T.Tables.game c.args.tables.now) X in
     let now = running c.args.world.now c.args.pending.now c.args.self.now.turning r in
-    goes_from game X _ _ c.next_object.result c.next_object.new.self.frames (running c.next_object.new.world c.args.pending.now c.next_object.new.self.turning r)
-    (acted_as game X (below c.args.self.now.frames) c.args.f c.args.effect (effect.Loop c.in-Loop.place) now c.in-Loop.is
-    ∙ loop_at game X (below c.args.self.now.frames) c.args.f c.in-Loop.place now c.loop_at-l.result (length c.args.world.now.places) c.loop_at-l.ensures.value c.requires.game.places)
+    goes_from game _ _ c.next_object.result c.next_object.new.self.frames (running c.next_object.new.world c.args.pending.now c.next_object.new.self.turning r)
+    (acted_as game (below c.args.self.now.frames) c.args.f c.args.effect (effect.Loop c.in-Loop.place) now c.in-Loop.is
+    ∙ loop_at game (below c.args.self.now.frames) c.args.f c.in-Loop.place now c.loop_at-l.result (length c.args.world.now.places) c.loop_at-l.ensures.value c.requires.game.places)
     (c.next_object.ensures.meaning X now)
 
 pub returns-in-Ask-clause-meaning : goal.returns-in-Ask-clause-meaning
 returns-in-Ask-clause-meaning g c X r =
-    let game = g.T.Tables.game c.args.tables.now in
+    let game = story_of (g.T.Tables.game c.args.tables.now) X in
     let now = running c.args.world.now c.args.pending.now c.args.self.now.turning r in
     rw c.set_waiting.ensures.value
-    (acted_as game X (below c.args.self.now.frames) c.args.f c.args.effect (effect.Ask c.in-Ask.prompt) now c.in-Ask.is
-    ∙ ask_at game X c.args.self.now.frames (below c.args.self.now.frames) c.args.f c.in-Ask.prompt now c.requires.top)
+    (acted_as game (below c.args.self.now.frames) c.args.f c.args.effect (effect.Ask c.in-Ask.prompt) now c.in-Ask.is
+    ∙ ask_at game c.args.self.now.frames (below c.args.self.now.frames) c.args.f c.in-Ask.prompt now c.requires.top)
 
 pub returns-in-Spent-clause-meaning : goal.returns-in-Spent-clause-meaning
 returns-in-Spent-clause-meaning g c X r =
-    let game = g.T.Tables.game c.args.tables.now in
+    let game = story_of (g.T.Tables.game c.args.tables.now) X in
     let now = running c.args.world.now c.args.pending.now c.args.self.now.turning r in
-    stops_spent game X (acted_at game X (below c.args.self.now.frames) c.args.f c.args.effect now) c.stop-in-Spent.result spent.Text c.stop-in-Spent.new.self.frames (running c.args.world.now c.args.pending.now c.stop-in-Spent.new.self.turning r) now c.stop-in-Spent.ensures.value
-    (acted_as game X (below c.args.self.now.frames) c.args.f c.args.effect effect.Spent now c.in-Spent.is
-    ∙ acted_spent game X (below c.args.self.now.frames) c.args.f now)
+    stops_spent game (acted_at game (below c.args.self.now.frames) c.args.f c.args.effect now) c.stop-in-Spent.result spent.Text c.stop-in-Spent.new.self.frames (running c.args.world.now c.args.pending.now c.stop-in-Spent.new.self.turning r) now c.stop-in-Spent.ensures.value
+    (acted_as game (below c.args.self.now.frames) c.args.f c.args.effect effect.Spent now c.in-Spent.is
+    ∙ acted_spent game (below c.args.self.now.frames) c.args.f now)
     (record { pieces = refl; traces = refl; events = refl })

@@ -1,5 +1,6 @@
 use Rattle.std.proofs.Common.{arith, sym, ap, ◌∙◌, ◌≡◌, add-one, Some, None, ℕ, ◌∷◌, List, true, ◌+◌}
 use Rattle.std.specs.Prelude.{Option}
+use Rattle.paw_effects.specs.Story.{story_of}
 use Rattle.paw_reading.specs.declared.places.Frame.{Frame}
 use Rattle.paw_reading.specs.Reading.{Left}
 use Rattle.paw_reading.specs.GoingOn.{along}
@@ -16,7 +17,7 @@ use Rattle.paw_process.proofs.machine.Machine.next_object.Goals as goal
 pub returns-in-Some-clause-meaning : goal.returns-in-Some-clause-meaning
 returns-in-Some-clause-meaning g c X r =
     rw (c.set_top.ensures.value, c.set_turning.ensures.value, c.take.ensures.value, add-one)
-    (turning_some _ X (below c.args.self.now.frames) c.args.l _ (looping c.args.world.now c.args.self.now.turning r) c.in-Some.o c.requires.level (omega (arith, left_above_low c.args.world.now c.args.above, c.requires.game.places)) (sym c.in-Some.ensures.value))
+    (turning_some (story_of (g.T.Tables.game c.args.tables.now) X) (below c.args.self.now.frames) c.args.l _ (looping c.args.world.now c.args.self.now.turning r) c.in-Some.o c.requires.level (omega (arith, left_above_low c.args.world.now c.args.above, c.requires.game.places)) (sym c.in-Some.ensures.value))
 
 pub returns-in-Some-clause-falls : goal.returns-in-Some-clause-falls
 returns-in-Some-clause-falls g c is above =
@@ -29,10 +30,10 @@ returns-in-Some-clause-falls g c is above =
 
 pub returns-in-None-clause-meaning : goal.returns-in-None-clause-meaning
 returns-in-None-clause-meaning g c X r =
-    let game = g.T.Tables.game c.args.tables.now in
+    let game = story_of (g.T.Tables.game c.args.tables.now) X in
     let e : c.leave.new.self.turning ≡ None = ap (λ m. m.turning) c.leave.ensures.same ∙ ap (λ m. m.turning) c.set_turning-in-None.ensures.value in
     rw e
-    (goes_from game X _ _ c.leave.result c.leave.new.self.frames (looping c.args.world.now None r)
-    (turning_none game X (below c.args.self.now.frames) c.args.l _ (looping c.args.world.now c.args.self.now.turning r) (sym c.in-None.ensures.value)
-    ∙ ap (λ (fs : List Frame). along game X (below fs) (Left true (looping c.args.world.now None r))) (sym (ap (λ m. m.frames) c.set_turning-in-None.ensures.value)))
-    (c.leave.ensures.meaning game X (looping c.args.world.now None r)))
+    (goes_from game _ _ c.leave.result c.leave.new.self.frames (looping c.args.world.now None r)
+    (turning_none game (below c.args.self.now.frames) c.args.l _ (looping c.args.world.now c.args.self.now.turning r) (sym c.in-None.ensures.value)
+    ∙ ap (λ (fs : List Frame). along game (below fs) (Left true (looping c.args.world.now None r))) (sym (ap (λ m. m.frames) c.set_turning-in-None.ensures.value)))
+    (c.leave.ensures.meaning game (looping c.args.world.now None r)))

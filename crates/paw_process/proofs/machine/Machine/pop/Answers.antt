@@ -3,4 +3,4 @@ use Rattle.paw_process.proofs.Rows.{popped}
 use Rattle.paw_process.proofs.machine.Machine.pop.Goals as goal
 
 pub returns : goal.returns
-returns c = record { value = popped _ c.self.inside.rows c.self.inside.count _ _ _ c.self.view_is c.requires.some (omega arith) }
+returns c = record { value = popped _ c.self.inside.rows c.self.inside.count _ _ _ _ c.self.view_is c.requires.some (omega arith) }

@@ -6,7 +6,7 @@ use Rattle.paw_process.proofs.machine.Machine.run.Given as goal
 
 abbrev pub invariant-loop-turned : goal.invariant-loop-turned
 invariant-loop-turned g l =
-    IsRunning (g.T.Tables.game l.tables)
+    IsRunning g.F.Fn l.routines (g.T.Tables.game l.tables)
     (held l.initial.world l.initial.pending l.initial.self l.initial.piece) (held l.world l.pending l.self l.piece)
 
 abbrev pub decreases-loop-turned : goal.decreases-loop-turned

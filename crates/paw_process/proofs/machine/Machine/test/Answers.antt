@@ -1,32 +1,22 @@
-use Rattle.std.proofs.Common.{true, false}
-use Rattle.paw_process.proofs.Readings.{test_holds, test_fails, test_asks}
-use Rattle.paw_process.proofs.Stops.{goes_from}
-use Rattle.paw_process.specs.Meaning.{held, showing}
-use Rattle.paw_reading.specs.Reading.{noted}
+use Rattle.std.proofs.Common.{ap, sym, ◌∙◌, ◌∷◌}
+use Rattle.paw_effects.specs.Story.{story_of}
 use Rattle.paw_process.specs.OpenTables.{below}
-use Rattle.std.specs.Prelude.{[]}
+use Rattle.paw_process.proofs.Readings.{test_yes, test_no, test_ask}
 use Rattle.paw_process.proofs.machine.Machine.test.Goals as goal
 
 pub returns-in-Yes-clause-meaning : goal.returns-in-Yes-clause-meaning
-returns-in-Yes-clause-meaning g c p = (
-  true,
-  λ r. rw (c.set_top.ensures.value, c.past.ensures.value)
-      (test_holds (g.T.Tables.game c.args.tables.now) [] (below c.args.self.now.frames) c.args.f c.args.c (showing (held c.args.world.now p c.args.self.now c.args.piece.now) r) c.test.new.world c.requires.kind c.in-Yes.ensures.answer c.in-Yes.ensures.world),
-)
+returns-in-Yes-clause-meaning g c X p =
+    test_yes (story_of (g.T.Tables.game c.args.tables.now) X) c.args.self.now c.note.new.self c.args.f c.args.c c.args.world.now p c.args.piece.now c.note.new.self.left c.note.new.self.steps
+    c.test.new.world c.set_top.new.self c.requires.kind c.in-Yes.ensures.answer c.in-Yes.ensures.world c.note.ensures.reads c.note.ensures.same (rw c.past.ensures.value at c.set_top.ensures.value)
 
 pub returns-in-No-clause-meaning : goal.returns-in-No-clause-meaning
-returns-in-No-clause-meaning g c p = (
-  false,
-  λ r. rw (c.set_top-in-No.ensures.value, c.next_entry.ensures.value)
-      (test_fails (g.T.Tables.game c.args.tables.now) [] (below c.args.self.now.frames) c.args.f c.args.c (showing (held c.args.world.now p c.args.self.now c.args.piece.now) r) c.test.new.world c.requires.kind c.in-No.ensures.answer c.in-No.ensures.world),
-)
+returns-in-No-clause-meaning g c X p =
+    test_no (story_of (g.T.Tables.game c.args.tables.now) X) c.args.self.now c.note-in-No.new.self c.args.f c.args.c c.args.world.now p c.args.piece.now c.note-in-No.new.self.left c.note-in-No.new.self.steps
+    c.test.new.world c.set_top-in-No.new.self c.requires.kind c.in-No.ensures.answer c.in-No.ensures.world c.note-in-No.ensures.reads c.note-in-No.ensures.same (rw c.next_entry.ensures.value at c.set_top-in-No.ensures.value)
 
 pub returns-in-Ask-clause-meaning : goal.returns-in-Ask-clause-meaning
-returns-in-Ask-clause-meaning g c p =
-    let game = g.T.Tables.game c.args.tables.now in (
-      true,
-      λ r.
-          goes_from game [] _ _ c.ask.result c.ask.new.self.frames (noted c.args.f c.args.c true (showing (held c.test.new.world p c.ask.new.self c.ask.new.piece) r))
-          (test_asks game [] (below c.args.self.now.frames) c.args.f c.args.c (showing (held c.args.world.now p c.args.self.now c.args.piece.now) r) c.test.new.world c.requires.kind c.in-Ask.ensures.answer c.in-Ask.ensures.world)
-          (c.ask.ensures.meaning [] c.args.f (noted c.args.f c.args.c true (showing (held c.test.new.world p c.args.self.now c.args.piece.now) r)) c.requires.top),
-    )
+returns-in-Ask-clause-meaning g c X p =
+    test_ask (story_of (g.T.Tables.game c.args.tables.now) X) c.args.self.now c.note-in-Ask.new.self c.args.f c.args.c c.args.world.now p c.args.piece.now c.note-in-Ask.new.self.left c.note-in-Ask.new.self.steps
+    c.test.new.world c.ask.new.self c.ask.new.piece c.ask.result c.requires.kind c.in-Ask.ensures.answer c.in-Ask.ensures.world c.note-in-Ask.ensures.reads c.note-in-Ask.ensures.same c.ask.ensures.left
+    (λ r. c.ask.ensures.meaning X c.args.f r
+    (ap (λ m. m.frames) c.note-in-Ask.ensures.same ∙ (c.requires.top ∙ ap (λ m. c.args.f ∷ below m.frames) (sym c.note-in-Ask.ensures.same))))

@@ -7,15 +7,15 @@ returns-clause-value c =
     rw (
       c.array_at.ensures.value,
       c.array_at-2.ensures.value,
-      c.array_at-3.ensures.value,
-      c.array_at-4.ensures.value,
+      c.held_at.ensures.value,
       c.eight_at.ensures.value,
       c.eight_at-2.ensures.value,
       c.eight_at-3.ensures.value,
       c.rows_at.ensures.value,
       c.loop_at.ensures.value,
-      c.array_at-5.ensures.value,
+      c.array_at-3.ensures.value,
       c.two_at.ensures.value,
+      c.kept_at.ensures.value,
     ) refl
 
 pub returns-clause-bytes : goal.returns-clause-bytes

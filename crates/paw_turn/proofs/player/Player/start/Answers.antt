@@ -1,30 +1,50 @@
-use Rattle.std.proofs.Common.{[], ap, sym, subst}
+use Rattle.std.proofs.Common.{ℕ, List, ◌≡◌, [], ap, sym, subst}
+use Rattle.paw_routines.specs.Routines.{AreRowsOf, HaveRows}
+use Rattle.paw_effects.specs.Story.{story_of}
 use Rattle.paw_reading.specs.Turn.{reading}
 use Rattle.paw_turn.specs.declared.turn.Turn.{Turn}
-use Rattle.paw_effects.specs.Built.{IsOf}
-use Rattle.paw_turn.specs.Player.{Seat, IsNew, PlaysTo, Stands}
+use Rattle.paw_turn.specs.Player.{Seat, IsNew, IsSeated, PlaysTo, Stands}
 use Rattle.paw_turn.specs.Stages.{seat_of, settled}
 use Rattle.paw_turn.proofs.Settling.{start_plays}
-use Rattle.paw_turn.proofs.Standing.{started, seated_standing}
+use Rattle.paw_game.specs.Valid.{Valid}
+use Rattle.paw_turn.proofs.Seating.{new_playable, new_read}
+use Rattle.paw_turn.proofs.Standing.{valid_story, started}
 use Rattle.paw_turn.proofs.player.Player.start.Goals as goal
 
 pub returns-clause-meaning : goal.returns-clause-meaning
-returns-clause-meaning g c =
+returns-clause-meaning g c X rows =
     let own = g.T.Tables.game c.self.inside.tables.now in
+    let routines = c.self.inside.routines.now in
     let s = c.play-step.result in
-    let Told : Seat → Turn → Type 0 = λ q h. PlaysTo (reading q.game [] q.world.seed) s (seat_of own h s) [] [] in
+    let own_rows = subst (λ (q : Seat g.row.F.Denot). AreRowsOf g.F.Fn q.routines X) (sym c.self.view_is) rows in
+    let Told : Seat g.row.F.Denot → Turn → Type 0 = λ q h. PlaysTo (story_of q.game X) (reading (story_of q.game X) q.world.seed) s (seat_of own routines h s) [] [] in
     subst (Told c.args.self.now) (sym c.settle.ensures.value)
-    (subst (λ (q : Seat). IsNew q q.world.seed → Told q (settled s c.play-step.new.self)) c.self.view_is
-    (start_plays own c.self.inside.turn c.play-step.new.self s c.self.inside.last c.play-step.ensures.meaning) c.requires.new)
+    (subst (λ (q : Seat g.row.F.Denot). IsNew q q.world.seed → Told q (settled s c.play-step.new.self)) c.self.view_is
+    (start_plays (story_of own X) routines c.self.inside.turn c.play-step.new.self s c.self.inside.last (c.play-step.ensures.meaning X own_rows)) c.requires.new)
 
 pub returns-clause-seated : goal.returns-clause-seated
 returns-clause-seated g c =
     let own = g.T.Tables.game c.self.inside.tables.now in
     let s = c.play-step.result in
-    let new : Seat = seat_of own c.settle.new.self s in
-    let keeps = c.play-step.ensures.keeps in
-    let kept = subst (λ (h : Turn). IsOf own h.world × Stands s h.machine) (sym c.settle.ensures.value) (keeps.world, keeps.machine) in
-    let game = ap (λ (q : Seat). q.game) c.self.view_is in
+    let new : Seat g.row.F.Denot = seat_of own c.self.inside.routines.now c.settle.new.self s in
     let old = c.args.self.now in
-    seated_standing old.game new game c.requires.seated.valid c.requires.seated.built kept.0 kept.1
-    (started old.game old.world.seed s new c.requires.seated.valid game kept.1 (returns-clause-meaning g c))
+    let X = c.requires.rows.0 in
+    let stands = subst (λ (h : Turn). Stands s h.machine) (sym c.settle.ensures.value) c.play-step.ensures.keeps.machine in
+    let v = valid_story g.F.Fn old.routines old.game X c.requires.seated.valid c.requires.rows.1 in
+    subst (λ h. IsSeated (record new { game = h })) (sym (ap (λ (q : Seat g.row.F.Denot). q.game) c.self.view_is))
+    (record {
+      valid = c.requires.seated.valid;
+      machine = stands;
+      rightly = started (story_of old.game X) old.world.seed s new v stands (returns-clause-meaning g c X c.requires.rows.1);
+    })
+
+pub play-step-requires-clause-playable : goal.play-step-requires-clause-playable
+play-step-requires-clause-playable g c =
+    new_playable (g.T.Tables.game c.self.inside.tables.now) c.self.inside.routines.now c.self.inside.turn c.self.inside.last
+    (subst (λ (q : Seat g.row.F.Denot). Valid q.game) (sym c.self.view_is) c.requires.seated.valid)
+    (subst (λ (q : Seat g.row.F.Denot). IsNew q q.world.seed) (sym c.self.view_is) c.requires.new)
+
+pub play-step-requires-clause-read : goal.play-step-requires-clause-read
+play-step-requires-clause-read g c =
+    new_read (g.T.Tables.game c.self.inside.tables.now) c.self.inside.routines.now c.self.inside.turn c.self.inside.last
+    (subst (λ (q : Seat g.row.F.Denot). IsNew q q.world.seed) (sym c.self.view_is) c.requires.new)

@@ -1,13 +1,14 @@
 use Rattle.std.proofs.Common.{sym}
+use Rattle.paw_effects.specs.Story.{story_of}
 use Rattle.paw_turn.proofs.Answering.{ignored_plays}
 use Rattle.paw_turn.proofs.turn.Turn.hear.Goals as goal
 
 pub returns-then-is_ignored-clause-meaning : goal.returns-then-is_ignored-clause-meaning
-returns-then-is_ignored-clause-meaning g c =
-    ignored_plays (g.T.Tables.game c.args.tables.now) c.args.prompt c.args.self.now c.args.line.now c.requires.stands (sym c.if-is_ignored.ensures.value)
+returns-then-is_ignored-clause-meaning g c X rows =
+    ignored_plays (story_of (g.T.Tables.game c.args.tables.now) X) c.args.prompt c.args.self.now c.args.line.now c.requires.stands (sym c.if-is_ignored.ensures.value)
 
 pub returns-in-Main-clause-meaning : goal.returns-in-Main-clause-meaning
-returns-in-Main-clause-meaning g c = rw c.in-Main.is c.hear_line.ensures.meaning
+returns-in-Main-clause-meaning g c X rows = rw c.in-Main.is (c.hear_line.ensures.meaning X)
 
 pub returns-in-Again-clause-meaning : goal.returns-in-Again-clause-meaning
-returns-in-Again-clause-meaning g c = rw c.in-Again.is c.hear_again.ensures.meaning
+returns-in-Again-clause-meaning g c X rows = rw c.in-Again.is (c.hear_again.ensures.meaning X)

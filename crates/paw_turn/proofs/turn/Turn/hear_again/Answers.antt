@@ -1,4 +1,5 @@
 use Rattle.std.proofs.Common.{ap, sym, ◌∙◌, refl, subst, arith}
+use Rattle.paw_effects.specs.Story.{story_of}
 use Rattle.paw_phrase.specs.Pending.{PendingLine}
 use Rattle.paw_world.specs.World.{World, restarted}
 use Rattle.paw_effects.specs.Built.{IsOf}
@@ -8,14 +9,14 @@ use Rattle.paw_turn.proofs.Renewing.{again_restarts, again_ends, again_spends, r
 use Rattle.paw_turn.proofs.turn.Turn.hear_again.Goals as goal
 
 pub returns-then-not-begins_with-clause-meaning : goal.returns-then-not-begins_with-clause-meaning
-returns-then-not-begins_with-clause-meaning g c =
-    again_restarts (g.T.Tables.game c.args.tables.now) c.args.self.now
+returns-then-not-begins_with-clause-meaning g c X =
+    again_restarts (story_of (g.T.Tables.game c.args.tables.now) X) c.args.self.now
     (record { world = c.restart.new.self; pending = c.set.new.self; machine = c.close.new.self; piece = c.args.self.now.piece })
     c.args.line.now c.requires.waits.tables.tables.some c.requires.heard
     (sym (c.if-not-begins_with.ensures.value ∙ ap (begins_with 78) c.reply.ensures.value))
     (c.restart.ensures.change ∙ ap restarted (c.tell_timeout.ensures.value ∙ ap (λ b. with_timeout b c.args.self.now.world) c.is_timeout.ensures.value))
     (ap (λ (p : PendingLine). p.bytes) c.set.ensures.value) (ap (λ (p : PendingLine). p.earlier) c.set.ensures.value)
-    (ap (λ (m : OpenTables). m.turning) c.close.ensures.value) (ap (λ (m : OpenTables). m.left) c.close.ensures.value) refl
+    (ap (λ (m : OpenTables). m.turning) c.close.ensures.value) (record { left = ap (λ (m : OpenTables). m.left) c.close.ensures.value; steps = ap (λ (m : OpenTables). m.steps) c.close.ensures.value }) refl
 
 pub returns-then-not-begins_with-clause-keeps : goal.returns-then-not-begins_with-clause-keeps
 returns-then-not-begins_with-clause-keeps g c =
@@ -30,21 +31,21 @@ returns-then-not-begins_with-clause-keeps g c =
     }
 
 pub returns-then-say-clause-meaning : goal.returns-then-say-clause-meaning
-returns-then-say-clause-meaning g c =
-    again_ends (g.T.Tables.game c.args.tables.now) c.args.self.now
+returns-then-say-clause-meaning g c X =
+    again_ends (story_of (g.T.Tables.game c.args.tables.now) X) c.args.self.now
     (record { world = c.tell_timeout.new.world; pending = c.drop_line.new.self; machine = c.close.new.self; piece = c.say.new.piece })
     c.args.line.now c.tell_timeout.new.world c.requires.waits.tables.tables.some c.requires.heard
     (sym (c.if-not-begins_with.ensures.value ∙ ap (begins_with 78) c.reply.ensures.value))
     (c.tell_timeout.ensures.value ∙ ap (λ b. with_timeout b c.args.self.now.world) c.is_timeout.ensures.value)
     c.if-say.ensures.puts.1 c.if-say.ensures.puts.0 refl (ap (λ (p : PendingLine). p.bytes) c.drop_line.ensures.value)
     (ap (λ (p : PendingLine). p.earlier) c.drop_line.ensures.value) (ap (λ (m : OpenTables). m.turning) c.close.ensures.value)
-    (ap (λ (m : OpenTables). m.left) c.close.ensures.value)
+    (record { left = ap (λ (m : OpenTables). m.left) c.close.ensures.value; steps = ap (λ (m : OpenTables). m.steps) c.close.ensures.value })
 
 pub returns-else-say-clause-meaning : goal.returns-else-say-clause-meaning
-returns-else-say-clause-meaning g c =
-    again_spends (g.T.Tables.game c.args.tables.now) c.args.self.now
+returns-else-say-clause-meaning g c X =
+    again_spends (story_of (g.T.Tables.game c.args.tables.now) X) c.args.self.now
     (record { world = c.tell_timeout.new.world; pending = c.drop_line.new.self; machine = c.close.new.self; piece = c.say.new.piece })
     c.args.line.now c.tell_timeout.new.world c.requires.waits.tables.tables.some c.requires.heard
     (sym (c.if-not-begins_with.ensures.value ∙ ap (begins_with 78) c.reply.ensures.value))
     (c.tell_timeout.ensures.value ∙ ap (λ b. with_timeout b c.args.self.now.world) c.is_timeout.ensures.value)
-    c.if-say.ensures.puts (ap (λ (m : OpenTables). m.left) c.close.ensures.value)
+    c.if-say.ensures.puts (record { left = ap (λ (m : OpenTables). m.left) c.close.ensures.value; steps = ap (λ (m : OpenTables). m.steps) c.close.ensures.value })

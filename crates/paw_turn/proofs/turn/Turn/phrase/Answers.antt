@@ -1,22 +1,23 @@
 use Rattle.std.proofs.Common.{◌≡◌, [], length, ap, ◌∙◌, refl, arith}
+use Rattle.paw_effects.specs.Story.{story_of}
 use Rattle.paw_phrase.specs.Pending.{PendingLine}
 use Rattle.paw_turn.proofs.Phrasing.{sentence_moves, unknown_moves, none_moves, sentence_shorter, unknown_shorter}
 use Rattle.paw_turn.proofs.Falling.{falls_up}
 use Rattle.paw_turn.proofs.turn.Turn.phrase.Goals as goal
 
 pub returns-in-Sentence-clause-meaning : goal.returns-in-Sentence-clause-meaning
-returns-in-Sentence-clause-meaning g c =
-    sentence_moves _ c.args.self.now (record { world = c.count_turn.new.world; pending = c.take_phrase.new.pending; machine = c.args.self.now.machine; piece = c.args.self.now.piece })
+returns-in-Sentence-clause-meaning g c X =
+    sentence_moves (story_of (g.T.Tables.game c.args.tables.now) X) c.args.self.now (record { world = c.count_turn.new.world; pending = c.take_phrase.new.pending; machine = c.args.self.now.machine; piece = c.args.self.now.piece })
     c.take_phrase.new.world c.in-Sentence.ensures.value c.count_turn.ensures.value refl refl
 
 pub returns-in-Sentence-clause-falls : goal.returns-in-Sentence-clause-falls
 returns-in-Sentence-clause-falls g c = omega (arith, sentence_shorter _ _ _ _ _ c.in-Sentence.ensures.value)
 
 pub returns-in-Nothing-clause-meaning : goal.returns-in-Nothing-clause-meaning
-returns-in-Nothing-clause-meaning g c =
+returns-in-Nothing-clause-meaning g c X =
     let v = c.in-Nothing.ensures.value in
-    unknown_moves (g.T.Tables.game c.args.tables.now) c.args.self.now c.say.new.self c.say.result _ c.take_phrase.new.world c.drop_line.new.self
-    v.0 v.1 (c.drop_line.ensures.value ∙ ap (λ e. record { bytes = []; earlier = e }) v.2) c.say.ensures.meaning
+    unknown_moves (story_of (g.T.Tables.game c.args.tables.now) X) c.args.self.now c.say.new.self c.say.result _ c.take_phrase.new.world c.drop_line.new.self
+    v.0 v.1 (c.drop_line.ensures.value ∙ ap (λ e. record { bytes = []; earlier = e }) v.2) (c.say.ensures.meaning X)
 
 pub returns-in-Nothing-clause-falls : goal.returns-in-Nothing-clause-falls
 returns-in-Nothing-clause-falls g c =
@@ -24,7 +25,7 @@ returns-in-Nothing-clause-falls g c =
     falls_up _ _ c.say.result c.say.new.self (omega (arith, unknown_shorter _ _ _ _ _ c.in-Nothing.ensures.value)) c.say.ensures.falls
 
 pub returns-in-Empty-clause-meaning : goal.returns-in-Empty-clause-meaning
-returns-in-Empty-clause-meaning g c =
+returns-in-Empty-clause-meaning g c X =
     let v = c.in-Empty.ensures.value in
-    none_moves (g.T.Tables.game c.args.tables.now) c.args.self.now c.prompt.new.self c.prompt.result c.take_phrase.new.world c.take_phrase.new.pending
-    v.0 v.1 v.2 c.prompt.ensures.meaning
+    none_moves (story_of (g.T.Tables.game c.args.tables.now) X) c.args.self.now c.prompt.new.self c.prompt.result c.take_phrase.new.world c.take_phrase.new.pending
+    v.0 v.1 v.2 (c.prompt.ensures.meaning X)

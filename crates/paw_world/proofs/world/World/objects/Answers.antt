@@ -11,4 +11,5 @@ returns-clause-sound c =
       facts = count_is (length c.self.inside.places) c.self.inside.facts _ refl (omega (arith, c.self.invariant.objects, c.self.invariant.facts_room));
       flags = c.self.invariant.flags_all;
       saved = c.self.invariant.saved_alike;
+      kept = c.self.invariant.kept_alike;
     })

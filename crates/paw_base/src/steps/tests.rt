@@ -1,0 +1,30 @@
+use super::*;
+use std::test::Fail;
+
+fn step(entry: u16) -> StepRow {
+    StepRow {
+        table: 1,
+        entry,
+        at: 2,
+        code: 30,
+        yes: true,
+    }
+}
+
+#[test]
+fn the_first_thousand_steps_are_kept_and_all_are_counted(rt: HostRuntime) -> Result<(), Fail> {
+    let mut steps = Steps::new();
+    assert!(rt; steps.rows().is_empty());
+    assert_eq!(rt; steps.count(), 0);
+    for entry in 0..1001 {
+        steps.note(step(entry));
+    }
+    assert_eq!(rt; steps.rows().len(), 1000);
+    assert_eq!(rt; steps.rows()[999], step(999));
+    assert_eq!(rt; steps.count(), 1001);
+    steps.clear();
+    steps.note(step(7));
+    assert_eq!(rt; steps.rows(), [step(7)].as_slice());
+    assert_eq!(rt; steps.count(), 1);
+    Ok(())
+}

@@ -1,0 +1,29 @@
+-- SAVE and LOAD: positions that are kept, and taken back.
+use Rattle.std.specs.Prelude.{ℕ, ◌==◌, ◌||◌, ◌%◌, Bool, Option, None, Some, if◌then◌else◌}
+use Rattle.paw_base.specs.declared.codes.TheConstants.{SAVE, LOAD}
+use Rattle.paw_base.specs.declared.flags.TheConstants.{POSITION_FLAG}
+use Rattle.paw_base.specs.declared.messages.TheConstants.{IMPOSSIBLE_MESSAGE}
+use Rattle.paw_base.specs.declared.parts.Condact.{Condact}
+use Rattle.paw_game.specs.Game.{GameLists}
+use Rattle.paw_world.specs.World.{World, Position, flag, keeping, kept_position, taken_back}
+use Rattle.paw_effects.specs.declared.act.Effect.TheVariants as effect
+use Rattle.paw_effects.specs.Done.{Done, tells, leads}
+use Rattle.paw_effects.specs.Texts.{say_text}
+
+abbrev pub is_keeping : ℕ → Bool
+is_keeping code = (code == SAVE) || (code == LOAD)
+
+-- which of the four positions is meant: flag 58 modulo 4
+abbrev pub position_number : World → ℕ
+position_number w = flag w POSITION_FLAG % 4
+
+-- all flags and all places are taken from a position; where it wasn't kept it is said that this can't be done
+abbrev pub loaded : GameLists → World → Option Position → Done
+loaded g w None = tells w (say_text g w IMPOSSIBLE_MESSAGE) effect.Redescribe
+loaded g w (Some q) = leads (taken_back w (Some q)) effect.Redescribe
+
+-- SAVE keeps flags and places, LOAD takes them back; both describe the location again
+unfoldable pub keeping_of : GameLists → World → Condact → Done
+keeping_of g w c =
+    if c.code == SAVE then leads (keeping w (position_number w)) effect.Redescribe else
+    loaded g w (kept_position w (position_number w))

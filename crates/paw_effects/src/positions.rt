@@ -1,0 +1,74 @@
+// SAVE and LOAD: positions that are kept, and taken back.
+
+ghost use Rattle.std.specs.Prelude.{◌≡◌, ◌<◌, true};
+ghost use Rattle.paw_game.specs.Game.{GameLists};
+ghost use Rattle.paw_effects.specs.Built.{IsOf};
+ghost use Rattle.paw_effects.specs.Done.{Does};
+ghost use Rattle.paw_effects.specs.Positions.{is_keeping, keeping_of, loaded, position_number};
+ghost use Rattle.paw_world.specs.World.{kept_position};
+
+use crate::act::{Act, Effect, after, on};
+use crate::text::{print_nothing, say};
+use paw_base::codes::{LOAD, SAVE};
+use paw_base::flags::POSITION_FLAG;
+use paw_base::messages::IMPOSSIBLE_MESSAGE;
+use paw_base::parts::Condact;
+use paw_base::piece::Piece;
+use paw_game::tables::Tables;
+use paw_world::world::World;
+
+/// Whether a code is SAVE or LOAD.
+pub(crate) fn is_keeping(code: u8) -> bool
+    ensures value { result ≡ is_keeping code }
+{
+    matches!(code, SAVE | LOAD)
+}
+
+/// Which of the four positions is meant.
+fn position_number(world: &World) -> u8
+    ensures value { result ≡ position_number world.now }
+    ensures bound { result < 4 }
+{
+    world.flag(POSITION_FLAG) % 4
+}
+
+/// Takes a position back, or says that this can't be done where it wasn't kept.
+fn load<T: Tables>(tables: &T, world: &mut World, piece: &mut Piece, n: u8) -> Act
+    requires known { n < 4 }
+    ensures does { Does (loaded (T.game tables.now) world.old (kept_position world.old n)) piece.old piece.new world.new result }
+    ensures game { (g : GameLists) → IsOf g world.old → IsOf g world.new }
+    ensures draws { world.new.draws ≡ world.old.draws }
+{
+    print_nothing(piece);
+    let _objects = world.objects();
+    if world.recall(n) {
+        on(Effect::Redescribe)
+    } else {
+        after(
+            say(tables, world, piece, IMPOSSIBLE_MESSAGE),
+            Effect::Redescribe,
+        )
+    }
+}
+
+/// Does SAVE or LOAD.
+#[tactic(auto, unfolding(crate::specs::Positions::keeping_of))]
+pub(crate) fn keep_or_load<T: Tables>(
+    tables: &T,
+    world: &mut World,
+    piece: &mut Piece,
+    c: Condact,
+) -> Act
+    requires family { is_keeping c.code ≡ true }
+    ensures does { Does (keeping_of (T.game tables.now) world.old c) piece.old piece.new world.new result }
+    ensures game { (g : GameLists) → IsOf g world.old → IsOf g world.new }
+    ensures draws { world.new.draws ≡ world.old.draws }
+{
+    let n = position_number(world);
+    if c.code == LOAD {
+        return load(tables, world, piece, n);
+    }
+    print_nothing(piece);
+    world.keep(n);
+    on(Effect::Redescribe)
+}

@@ -1,0 +1,35 @@
+// Which values the words of a game have, by class.
+
+ghost use Rattle.std.specs.Prelude.{◌≡◌, ◌||◌, ◌==◌, false};
+ghost use Rattle.std.specs.List.{slice_index_or};
+ghost use Rattle.paw_game.specs.Valid.{is_any};
+ghost use Rattle.paw_game.specs.Values.{Tells};
+
+use crate::parts::Word;
+
+/// Whether a word of an entry matches any word of a sentence.
+pub fn is_any(value: u8) -> bool
+    ensures value { result ≡ is_any value }
+{
+    value == 1 || value == 255
+}
+
+/// Whether a table of values has this one, or it is 255, which stands for no word.
+pub fn is_in_or_none(values: &[bool; 256], value: u8) -> bool
+    ensures value { result ≡ ((value == 255) || slice_index_or values.now value false) }
+{
+    value == 255 || values[value as usize]
+}
+
+/// Which values the words of a class have.
+pub fn values_of(words: &[Word], class: u8) -> [bool; 256]
+    ensures value { Tells result words.now class }
+{
+    let mut values = [false; 256];
+    for word in words {
+        if word.class == class {
+            values[word.value as usize] = true;
+        }
+    }
+    values
+}

@@ -1,0 +1,118 @@
+-- The game of every trial is valid.
+use Rattle.std.proofs.Common.{◌≡◌, ℕ, ◌+◌, ◌*◌, ◌-◌, ◌%◌, ◌<◌, true, List, [], ◌∷◌, ◌++◌, length, drop, refl, sym, ap, ◌∙◌, subst, arith, append_assoc}
+use Rattle.std.specs.Prelude.{◌&&◌, ◌||◌, ◌==◌, nat_lt, nat_le}
+use Rattle.std.specs.List.{list_all, list_any}
+use Rattle.std.specs.Ordering.{is_lt, nat_cmp}
+use Rattle.std.specs.Cmp.Lexicographic.{slice_cmp}
+use Rattle.std.proofs.lemmas.Bool.{and_parts}
+use Rattle.std.proofs.lemmas.List.Folds.{list_any-append, list_all-append}
+use Rattle.paw_base.specs.Condacts.{condact_lines, line_of}
+use Rattle.paw_game.specs.declared.parts.Word.{Word}
+use Rattle.paw_game.specs.Game.{GameLists}
+use Rattle.paw_game.specs.Valid.{Valid, is_within, is_word, is_text, words_rise, words_kept, has_word, is_word_or_none, is_verb_value, is_object, objects_kept, is_exits, exits_kept, locations_kept, is_condact, tables_kept}
+use Rattle.paw_gen.specs.Trial.{rows, named_words, object_word, object_count, location_count, object_row, object_text, location_text, ring_exits, condact, trial_game}
+use Rattle.paw_gen.proofs.Truths.{and_both, or_true, or_right, le_true, lt_true, eq_true}
+use Rattle.paw_gen.proofs.Rows.{length_rows, rows_fewer, all_rows, all_at, any_row}
+use Rattle.paw_gen.proofs.Computed.{all_words, all_rise, system_texts, location_texts, object_texts}
+
+-- ---- words ----
+
+abbrev pub words_of : ℕ → List Word
+words_of n = named_words ++ rows (object_count n) object_word
+
+all_of_them : (n : ℕ) → words_of n ++ drop (object_count n) (rows 109 object_word) ≡ named_words ++ rows 109 object_word
+all_of_them n =
+    append_assoc named_words (rows (object_count n) object_word) (drop (object_count n) (rows 109 object_word))
+    ∙ ap (λ xs. named_words ++ xs) (rows_fewer object_word (object_count n) 109 (omega arith))
+
+rise_before : (xs ys : List Word) → words_rise (xs ++ ys) ≡ true → words_rise xs ≡ true
+rise_before [] ys h = refl
+rise_before (w ∷ []) ys h = refl
+rise_before (w ∷ v ∷ ws) ys h = let h2 = and_parts (is_lt (slice_cmp nat_cmp w.letters v.letters)) (words_rise (v ∷ (ws ++ ys))) h in and_both h2.0 (rise_before (v ∷ ws) ys h2.1)
+
+all_before : (xs ys : List Word) → list_all is_word (xs ++ ys) ≡ true → list_all is_word xs ≡ true
+all_before xs ys h = (and_parts (list_all is_word xs) (list_all is_word ys) (sym (list_all-append is_word xs ys) ∙ h)).0
+
+pub each_word : (n : ℕ) → list_all is_word (words_of n) ≡ true
+each_word n = all_before (words_of n) (drop (object_count n) (rows 109 object_word)) (ap (list_all is_word) (all_of_them n) ∙ all_words)
+
+words_fine : (n : ℕ) → words_kept (words_of n) ≡ true
+words_fine n =
+    let few : length (rows (object_count n) object_word) ≡ object_count n = length_rows object_word (object_count n) in
+    and_both (le_true (length (words_of n)) 2000 (omega (arith, few)))
+    (and_both (each_word n)
+    (rise_before (words_of n) (drop (object_count n) (rows 109 object_word)) (ap words_rise (all_of_them n) ∙ all_rise)))
+
+-- ---- objects ----
+
+noun_known : (n k : ℕ) → k < object_count n → is_word_or_none (words_of n) 2 (50 + k) ≡ true
+noun_known n k low =
+    let rule = λ (w : Word). (w.class == 2) && (w.value == 50 + k) in
+    or_right (50 + k == 255) (list_any-append rule named_words (rows (object_count n) object_word)
+    ∙ or_right (list_any rule named_words) (any_row rule object_word (object_count n) k low (eq_true (50 + k) (50 + k) refl)))
+
+object_fine : (n k : ℕ) → k < object_count n → is_object (words_of n) (location_count n) (object_row (location_count n) k) ≡ true
+object_fine n k low =
+    and_both (all_at is_text object_text 109 k object_texts (omega (arith, low)))
+    (and_both (noun_known n k low) (and_both {b = nat_le (k % 4) 63}
+    (ap (λ b. b || is_within 252 254 (7 * k % location_count n)) (lt_true (7 * k % location_count n) (location_count n) (omega arith)))
+    (le_true (k % 4) 63 (omega arith))))
+
+objects_fine : (n : ℕ) → objects_kept (words_of n) (location_count n) (rows (object_count n) (object_row (location_count n))) ≡ true
+objects_fine n =
+    and_both (le_true (length (rows (object_count n) (object_row (location_count n)))) 255 (omega (arith, length_rows (object_row (location_count n)) (object_count n))))
+    (all_rows (is_object (words_of n) (location_count n)) (object_row (location_count n)) (object_count n) (λ k low. object_fine n k low))
+
+-- ---- locations and exits ----
+
+locations_fine : (n : ℕ) → locations_kept (rows (location_count n) location_text) ≡ true
+locations_fine n =
+    let size : length (rows (location_count n) location_text) ≡ location_count n = length_rows location_text (location_count n) in
+    and_both (le_true 1 (length (rows (location_count n) location_text)) (omega (arith, size)))
+    (and_both (le_true (length (rows (location_count n) location_text)) 252 (omega (arith, size)))
+    (all_rows is_text location_text (location_count n) (λ k low. all_at is_text location_text 219 k location_texts (omega (arith, low)))))
+
+north_known : (n : ℕ) → is_verb_value (words_of n) 2 ≡ true
+north_known n = or_true (has_word (words_of n) 0 2)
+
+south_known : (n : ℕ) → is_verb_value (words_of n) 3 ≡ true
+south_known n = or_true (has_word (words_of n) 0 3)
+
+exits_of_one : (n k : ℕ) → is_exits (words_of n) (location_count n) (ring_exits (location_count n) k) ≡ true
+exits_of_one n k =
+    let north : nat_lt ((k + 1) % location_count n) (location_count n) ≡ true = lt_true ((k + 1) % location_count n) (location_count n) (omega arith) in
+    let south : nat_lt ((k + location_count n - 1) % location_count n) (location_count n) ≡ true = lt_true ((k + location_count n - 1) % location_count n) (location_count n) (omega arith) in
+    and_both (and_both (north_known n) (and_both north refl)) (and_both (and_both (south_known n) (and_both south refl)) refl)
+
+exits_fine : (n : ℕ) → exits_kept (words_of n) (location_count n) (rows (location_count n) (ring_exits (location_count n))) ≡ true
+exits_fine n =
+    and_both (eq_true (length (rows (location_count n) (ring_exits (location_count n)))) (location_count n) (length_rows (ring_exits (location_count n)) (location_count n)))
+    (all_rows (is_exits (words_of n) (location_count n)) (ring_exits (location_count n)) (location_count n) (λ k low. exits_of_one n k))
+
+-- ---- tables ----
+
+-- DOALL at HERE or CARRIED
+doall_fine : (g : GameLists) (p : ℕ) → is_within 252 255 p ≡ true → is_condact g (condact 86 p) ≡ true
+unfolding condact_lines line_of
+doall_fine g p h = and_both (or_right (nat_lt p (length g.locations)) h) refl
+
+tables_fine : (n : ℕ) → tables_kept (trial_game n) ≡ true
+unfolding condact_lines line_of trial_game
+tables_fine n =
+    and_both (and_both (and_both (doall_fine (trial_game n) 255 refl) refl) (and_both (and_both (doall_fine (trial_game n) 254 refl) refl) refl)) refl
+
+-- ---- the whole game ----
+
+pub trial_valid : (n : ℕ) → Valid (trial_game n)
+unfolding trial_game
+trial_valid n =
+    let size : length (rows (location_count n) location_text) ≡ location_count n = length_rows location_text (location_count n) in
+    record {
+      words = words_fine n;
+      system = system_texts;
+      messages = refl;
+      objects = subst (λ m. objects_kept (words_of n) m (rows (object_count n) (object_row (location_count n))) ≡ true) (sym size) (objects_fine n);
+      locations = locations_fine n;
+      exits = subst (λ m. exits_kept (words_of n) m (rows (location_count n) (ring_exits (location_count n))) ≡ true) (sym size) (exits_fine n);
+      tables = tables_fine n;
+    }

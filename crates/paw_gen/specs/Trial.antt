@@ -1,0 +1,134 @@
+-- The games of trials, and their lines: each is made from a number.
+use Rattle.std.specs.Prelude.{ℕ, ◌+◌, ◌-◌, ◌*◌, ◌/◌, ◌%◌, ◌==◌, false, List, [], ◌∷◌, ◌++◌, map, codes, decimal, if◌then◌else◌}
+use Rattle.std.specs.List.{range_with_len}
+use Rattle.paw_base.specs.declared.parts.Condact.{Condact}
+use Rattle.paw_base.specs.declared.parts.ObjectFacts.{ObjectFacts}
+use Rattle.paw_game.specs.declared.parts.Word.{Word}
+use Rattle.paw_game.specs.declared.parts.ObjectRow.{ObjectRow}
+use Rattle.paw_game.specs.declared.parts.Exit.{Exit}
+use Rattle.paw_game.specs.declared.parts.Entry.{Entry}
+use Rattle.paw_game.specs.Game.{GameLists}
+
+-- ---- how many ----
+
+abbrev pub location_count : ℕ → ℕ
+location_count n = 20 + n % 200
+
+abbrev pub object_count : ℕ → ℕ
+object_count n = 10 + n % 100
+
+abbrev pub line_count : ℕ → ℕ
+line_count n = 10 + n % 90
+
+-- one row for each number below this
+abbrev pub rows : {A : Type 0} → ℕ → (ℕ → A) → List A
+rows count row = map row (range_with_len 0 count)
+
+-- ---- texts ----
+
+-- a number between two texts
+abbrev pub numbered : List ℕ → List ℕ → ℕ → List ℕ
+numbered before after k = before ++ (decimal k ++ after)
+
+-- `s` and the number of a system message
+abbrev pub system_text : ℕ → List ℕ
+system_text k = numbered (codes "s") [] k
+
+-- `Place 7.`
+abbrev pub location_text : ℕ → List ℕ
+location_text k = numbered (codes "Place ") (codes ".") k
+
+-- `thing 7`
+abbrev pub object_text : ℕ → List ℕ
+object_text k = numbered (codes "thing ") [] k
+
+-- ---- words ----
+
+abbrev pub word : List ℕ → ℕ → ℕ → Word
+word letters value class = record { letters = letters; value = value; class = class }
+
+-- verbs are of class 0, nouns of class 2, conjunctions of class 5
+abbrev pub named_words : List Word
+named_words =
+    word (codes "ALL  ") 20 2 ∷ word (codes "AND  ") 2 5 ∷ word (codes "DROP ") 31 0 ∷ word (codes "GET  ") 30 0
+    ∷ word (codes "INVEN") 33 0 ∷ word (codes "LOOK ") 32 0 ∷ word (codes "NORTH") 2 2 ∷ word (codes "SOUTH") 3 2 ∷ []
+
+-- T and the number in three digits, as `T007 `
+abbrev pub object_letters : ℕ → List ℕ
+object_letters k = 84 ∷ (48 + k / 100) ∷ (48 + k / 10 % 10) ∷ (48 + k % 10) ∷ 32 ∷ []
+
+-- the noun of an object
+abbrev pub object_word : ℕ → Word
+object_word k = word (object_letters k) (50 + k) 2
+
+-- ---- objects and exits ----
+
+-- the facts of object k, in a game of so many locations
+abbrev pub object_facts : ℕ → ℕ → ObjectFacts
+object_facts locations k = record {
+  noun = 50 + k;
+  adjective = 255;
+  start = 7 * k % locations;
+  weight = k % 4;
+  container = false;
+  wearable = false;
+}
+
+abbrev pub object_row : ℕ → ℕ → ObjectRow
+object_row locations k = record { text = object_text k; facts = object_facts locations k }
+
+-- the locations are a ring: NORTH leads to the next, SOUTH to the one before
+abbrev pub ring_exits : ℕ → ℕ → List Exit
+ring_exits locations k = record { verb = 2; to = (k + 1) % locations } ∷ record { verb = 3; to = (k + locations - 1) % locations } ∷ []
+
+-- ---- tables ----
+
+-- a condact of this code, and its first parameter, which is 0 where it has none
+abbrev pub condact : ℕ → ℕ → Condact
+condact code a = record { code = code; a = a; b = 0 }
+
+abbrev pub entry : ℕ → ℕ → List Condact → Entry
+entry verb noun condacts = record { verb = verb; noun = noun; condacts = condacts }
+
+-- the answers to lines: `GET ALL` and `DROP ALL` go over the objects here and over those that are carried
+abbrev pub answers : List Entry
+answers =
+    entry 30 20 (condact 86 255 ∷ []) ∷  -- GET ALL: DOALL HERE
+    entry 30 255 (condact 43 0 ∷ condact 32 0 ∷ []) ∷  -- GET _: AUTOG, DONE
+    entry 31 20 (condact 86 254 ∷ []) ∷  -- DROP ALL: DOALL CARRIED
+    entry 31 255 (condact 44 0 ∷ condact 32 0 ∷ []) ∷  -- DROP _: AUTOD, DONE
+    entry 32 255 (condact 30 0 ∷ []) ∷  -- LOOK _: DESC
+    entry 33 255 (condact 29 0 ∷ condact 32 0 ∷ []) ∷  -- INVEN _: INVEN, DONE
+    []
+
+-- behind a location's text the objects there are listed
+abbrev pub listing : List Entry
+listing = entry 255 255 (condact 78 0 ∷ []) ∷ []  -- _ _: LISTOBJ
+
+-- ---- the game and its lines ----
+
+-- the game of a trial
+unfoldable pub trial_game : ℕ → GameLists
+trial_game n = record {
+  words = named_words ++ rows (object_count n) object_word;
+  system = rows 54 system_text;
+  messages = [];
+  objects = rows (object_count n) (object_row (location_count n));
+  locations = rows (location_count n) location_text;
+  exits = rows (location_count n) (ring_exits (location_count n));
+  tables = answers ∷ listing ∷ [] ∷ [];
+}
+
+-- the lines come round, by their number
+abbrev pub trial_line : ℕ → List ℕ
+trial_line j =
+    if j % 6 == 0 then codes "NORTH"
+    else if j % 6 == 1 then codes "GET ALL"
+    else if j % 6 == 2 then codes "INVEN"
+    else if j % 6 == 3 then codes "LOOK"
+    else if j % 6 == 4 then codes "DROP ALL"
+    else codes "SOUTH AND GET ALL"
+
+-- the lines of a trial
+unfoldable pub trial_lines : ℕ → List (List ℕ)
+trial_lines n = rows (line_count n) trial_line

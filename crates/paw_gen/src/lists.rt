@@ -1,0 +1,151 @@
+// Words, objects and exits.
+
+ghost use Rattle.std.specs.Prelude.{◌≡◌, ◌++◌, ◌<◌, ◌≤◌, IfOk};
+ghost use Rattle.paw_gen.specs.Trial.{named_words, object_facts, object_letters, object_row, object_word, ring_exits, rows, word};
+
+use crate::texts::numbered;
+use paw_base::fault::NoRoom;
+use paw_base::parts::ObjectFacts;
+use paw_game::parts::{Exit, Exits, ObjectRow, Word};
+use std::alloc::Global;
+
+const VERB: u8 = 0;
+
+const NOUN: u8 = 2;
+
+const CONJUNCTION: u8 = 5;
+
+/// The value of NORTH, a noun that may stand as a verb.
+const NORTH: u8 = 2;
+
+/// The value of SOUTH, a noun that may stand as a verb.
+const SOUTH: u8 = 3;
+
+/// What stands for no word.
+const NO_WORD: u8 = 255;
+
+/// The value of the first object's noun.
+const FIRST_NOUN: u8 = 50;
+
+fn word(letters: &[u8; 5], value: u8, class: u8) -> Word
+    ensures { result ≡ word letters.now value class }
+{
+    Word {
+        letters: *letters,
+        value,
+        class,
+    }
+}
+
+/// The words beside the objects' nouns.
+fn named_words() -> [Word; 8]
+    ensures { result ≡ named_words }
+{
+    [
+        word(b"ALL  ", 20, NOUN),
+        word(b"AND  ", 2, CONJUNCTION),
+        word(b"DROP ", 31, VERB),
+        word(b"GET  ", 30, VERB),
+        word(b"INVEN", 33, VERB),
+        word(b"LOOK ", 32, VERB),
+        word(b"NORTH", NORTH, NOUN),
+        word(b"SOUTH", SOUTH, NOUN),
+    ]
+}
+
+/// The letters of an object's noun: T and three digits.
+fn object_letters(number: u16) -> [u8; 5]
+    requires { number < 1000 }
+    ensures { result ≡ object_letters number }
+{
+    let hundreds = b'0' + (number / 100) as u8;
+    let tens = b'0' + (number / 10 % 10) as u8;
+    let ones = b'0' + (number % 10) as u8;
+    [b'T', hundreds, tens, ones, b' ']
+}
+
+/// An object's noun.
+fn object_word(number: u16) -> Word
+    requires { number < 200 }
+    ensures { result ≡ object_word number }
+{
+    word(&object_letters(number), FIRST_NOUN + number as u8, NOUN)
+}
+
+/// The words, in the order of their letters.
+pub(crate) fn words(alloc: Global, objects: u16) -> Result<Vec<Word>, NoRoom>
+    requires { objects ≤ 200 }
+    ensures { IfOk result (λ words. words.items ≡ named_words ++ rows objects object_word) }
+{
+    let mut words = Vec::from_slice(alloc, &named_words())?;
+    for number in 0..objects {
+        words.push(object_word(number))?;
+    }
+    Ok(words)
+}
+
+/// The facts of an object: where it begins, and its weight.
+fn object_facts(locations: u16, number: u16) -> ObjectFacts
+    requires some { 0 < locations }
+    requires places { locations ≤ 252 }
+    requires number { number < 200 }
+    ensures { result ≡ object_facts locations number }
+{
+    ObjectFacts {
+        noun: FIRST_NOUN + number as u8,
+        adjective: NO_WORD,
+        start: (7 * number % locations) as u8,
+        weight: (number % 4) as u8,
+        container: false,
+        wearable: false,
+    }
+}
+
+/// The objects, in a game of so many locations.
+pub(crate) fn objects(alloc: Global, locations: u16, objects: u16) -> Result<Vec<ObjectRow>, NoRoom>
+    requires some { 0 < locations }
+    requires places { locations ≤ 252 }
+    requires objects { objects ≤ 200 }
+    ensures { IfOk result (λ all. all.items ≡ rows objects (object_row locations)) }
+{
+    let mut all = Vec::new(alloc);
+    for number in 0..objects {
+        all.push(ObjectRow {
+            text: numbered(alloc, b"thing ", number, b"")?,
+            facts: object_facts(locations, number),
+        })?;
+    }
+    Ok(all)
+}
+
+/// The ways out of a location of the ring.
+fn ring_exits(alloc: Global, locations: u16, number: u16) -> Result<Exits, NoRoom>
+    requires some { 0 < locations }
+    requires places { locations ≤ 252 }
+    requires number { number < locations }
+    ensures { IfOk result (λ exits. exits ≡ ring_exits locations number) }
+{
+    let north = Exit {
+        verb: NORTH,
+        to: ((number + 1) % locations) as u8,
+    };
+    let south = Exit {
+        verb: SOUTH,
+        to: ((number + locations - 1) % locations) as u8,
+    };
+    let rows = Vec::from_slice(alloc, &[north, south])?;
+    Ok(Exits { rows })
+}
+
+/// The ways out of all locations.
+pub(crate) fn exits(alloc: Global, locations: u16) -> Result<Vec<Exits>, NoRoom>
+    requires some { 0 < locations }
+    requires places { locations ≤ 252 }
+    ensures { IfOk result (λ all. all.items ≡ rows locations (ring_exits locations)) }
+{
+    let mut all = Vec::new(alloc);
+    for number in 0..locations {
+        all.push(ring_exits(alloc, locations, number)?)?;
+    }
+    Ok(all)
+}

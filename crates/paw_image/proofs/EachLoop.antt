@@ -1,0 +1,139 @@
+-- Going over rows one after another, as a loop does.
+use Rattle.std.proofs.Common.{◌≡◌, ℕ, suc, ◌-◌, ◌+◌, ◌≤◌, ◌<◌, List, [], ◌∷◌, ◌++◌, length, Some, Ok, Err, refl, sym, ap, ◌∙◌, append_assoc, arith}
+use Rattle.std.specs.Prelude.{slice_get}
+use Rattle.std.specs.List.{AllByRecursion}
+use Rattle.std.proofs.lemmas.List.{append-nil, length-append, map-append}
+use Rattle.paw_game.specs.declared.parts.Word.{Word}
+use Rattle.paw_image.specs.declared.fault.ReadFault.{ReadFault}
+use Rattle.paw_image.specs.declared.fault.ReadFault.TheVariants as fault
+use Rattle.paw_image.specs.Reading.{◌>>=◌, Reading, Fails}
+use Rattle.paw_image.specs.Damage.{Declared, Passing, each, word_kept, words_kept, exit_kept, after_exits_of, after_table}
+use Rattle.paw_image.specs.Places.{begins, entries_begin, entries_of, tables_begin}
+use Rattle.paw_image.specs.declared.places.TableIndex.{TableIndex}
+use Rattle.paw_image.specs.Words.{letters_of, last_letters}
+use Rattle.paw_image.proofs.ListLoop.{with_front, regroup}
+
+-- ---- rows ----
+
+module _ (pass : List ℕ → Passing) (count i : ℕ) (bytes : List ℕ) (total : Passing) where
+  pub each_goes_on : (after : List ℕ) → i < count → pass bytes ≡ Ok after → each pass (count - i) bytes ≡ total → each pass (count - (i + 1)) after ≡ total
+  unfolding each
+  each_goes_on after lt h so_far =
+      let k : count - i ≡ suc (count - (i + 1)) = omega arith in
+      let one : each pass (count - i) bytes ≡ each pass (count - (i + 1)) after = rw (k, h) refl in
+      sym one ∙ so_far
+
+  pub each_ends : (e : ReadFault) → i < count → Fails e (pass bytes) → each pass (count - i) bytes ≡ total → Fails e total
+  unfolding each
+  each_ends fault.Memory lt h so_far = tt
+  each_ends (fault.Damaged left) lt h so_far =
+      let k : count - i ≡ suc (count - (i + 1)) = omega arith in
+      let one : each pass (count - i) bytes ≡ Err left = rw (k, h) refl in
+      sym so_far ∙ one
+
+  pub each_is_done : count ≤ i → each pass (count - i) bytes ≡ total → total ≡ Ok bytes
+  unfolding each
+  each_is_done le so_far =
+      let k : count - i ≡ 0 = omega arith in
+      let one : each pass (count - i) bytes ≡ Ok bytes = rw k refl in
+      sym so_far ∙ one
+
+-- ---- words ----
+
+module _ (before : List ℕ) (front : List Word) (count i : ℕ) (bytes : List ℕ) (total : Reading (List Word)) where
+  pub words_go_on : (w : Word) (after : List ℕ) → i < count → word_kept before bytes ≡ Ok (w, after) → with_front front (words_kept before (count - i) bytes) ≡ total
+      → with_front (front ++ w ∷ []) (words_kept w.letters (count - (i + 1)) after) ≡ total
+  unfolding words_kept
+  words_go_on w after lt h so_far =
+      let k : count - i ≡ suc (count - (i + 1)) = omega arith in
+      let one : with_front front (words_kept before (count - i) bytes) ≡ with_front (front ++ w ∷ []) (words_kept w.letters (count - (i + 1)) after) = rw (k, h) (regroup front w (words_kept w.letters (count - (i + 1)) after)) in
+      sym one ∙ so_far
+
+  pub words_end : (e : ReadFault) → i < count → Fails e (word_kept before bytes) → with_front front (words_kept before (count - i) bytes) ≡ total → Fails e total
+  unfolding words_kept
+  words_end fault.Memory lt h so_far = tt
+  words_end (fault.Damaged left) lt h so_far =
+      let k : count - i ≡ suc (count - (i + 1)) = omega arith in
+      let one : with_front front (words_kept before (count - i) bytes) ≡ Err left = rw (k, h) refl in
+      sym so_far ∙ one
+
+  pub words_are_done : count ≤ i → with_front front (words_kept before (count - i) bytes) ≡ total → total ≡ Ok (front, bytes)
+  unfolding words_kept
+  words_are_done le so_far =
+      let k : count - i ≡ 0 = omega arith in
+      let one : with_front front (words_kept before (count - i) bytes) ≡ Ok (front, bytes) = rw k (ap (λ (xs : List Word). Ok (xs, bytes)) (append-nil front)) in
+      sym so_far ∙ one
+
+at_end : (ws : List Word) (w : Word) (k : ℕ) → k ≡ length ws → slice_get (ws ++ w ∷ []) k ≡ Some w
+at_end [] w k e = rw e refl
+at_end (v ∷ ws) w k e = rw e (at_end ws w (length ws) refl)
+
+pub last_is : (ws : List Word) (w : Word) → last_letters (ws ++ w ∷ []) ≡ w.letters
+last_is ws w = ap letters_of (at_end ws w (length (ws ++ w ∷ []) - 1) (omega (arith, length-append ws (w ∷ []))))
+
+-- ---- exits ----
+
+module _ (d : Declared) (verbs : List ℕ) (count i : ℕ) (bytes : List ℕ) (total : Passing) where
+  pub exits_go_on : (verb : ℕ) (after : List ℕ) → i < count → exit_kept d verbs bytes ≡ Ok (verb, after) → after_exits_of d verbs (count - i) bytes ≡ total
+      → after_exits_of d (verb ∷ verbs) (count - (i + 1)) after ≡ total
+  unfolding after_exits_of
+  exits_go_on verb after lt h so_far =
+      let k : count - i ≡ suc (count - (i + 1)) = omega arith in
+      let one : after_exits_of d verbs (count - i) bytes ≡ after_exits_of d (verb ∷ verbs) (count - (i + 1)) after = rw (k, h) refl in
+      sym one ∙ so_far
+
+  pub exits_end : (e : ReadFault) → i < count → Fails e (exit_kept d verbs bytes) → after_exits_of d verbs (count - i) bytes ≡ total → Fails e total
+  unfolding after_exits_of
+  exits_end fault.Memory lt h so_far = tt
+  exits_end (fault.Damaged left) lt h so_far =
+      let k : count - i ≡ suc (count - (i + 1)) = omega arith in
+      let one : after_exits_of d verbs (count - i) bytes ≡ Err left = rw (k, h) refl in
+      sym so_far ∙ one
+
+  pub exits_are_done : count ≤ i → after_exits_of d verbs (count - i) bytes ≡ total → total ≡ Ok bytes
+  unfolding after_exits_of
+  exits_are_done le so_far =
+      let k : count - i ≡ 0 = omega arith in
+      let one : after_exits_of d verbs (count - i) bytes ≡ Ok bytes = rw k refl in
+      sym so_far ∙ one
+
+-- ---- places ----
+
+module _ (pass : List ℕ → Passing) (total : ℕ) (front : List ℕ) (count i : ℕ) (bytes : List ℕ) (whole : List ℕ) where
+  pub begins_go_on : (after : List ℕ) → i < count → pass bytes ≡ Ok after → front ++ begins pass total (count - i) bytes ≡ whole
+      → (front ++ (total - length bytes) ∷ []) ++ begins pass total (count - (i + 1)) after ≡ whole
+  unfolding begins
+  begins_go_on after lt h so_far =
+      let k : count - i ≡ suc (count - (i + 1)) = omega arith in
+      let one : front ++ begins pass total (count - i) bytes ≡ front ++ ((total - length bytes) ∷ begins pass total (count - (i + 1)) after) = rw (k, h) refl in
+      append_assoc front ((total - length bytes) ∷ []) (begins pass total (count - (i + 1)) after) ∙ sym one ∙ so_far
+
+  pub begins_are_done : count ≤ i → front ++ begins pass total (count - i) bytes ≡ whole → front ≡ whole
+  unfolding begins
+  begins_are_done le so_far =
+      let k : count - i ≡ 0 = omega arith in
+      let one : front ++ begins pass total (count - i) bytes ≡ front = rw k (append-nil front) in
+      sym one ∙ so_far
+
+module _ (d : Declared) (total : ℕ) (front : List TableIndex) (count i : ℕ) (bytes : List ℕ) (whole : List (List ℕ)) where
+  pub tables_go_on : (t : TableIndex) (after : List ℕ) → i < count → after_table d bytes ≡ Ok after → t.entries.items ≡ entries_begin d total bytes
+      → entries_of front ++ tables_begin d total (count - i) bytes ≡ whole → entries_of (front ++ t ∷ []) ++ tables_begin d total (count - (i + 1)) after ≡ whole
+  unfolding tables_begin
+  tables_go_on t after lt h is so_far =
+      let k : count - i ≡ suc (count - (i + 1)) = omega arith in
+      let later = tables_begin d total (count - (i + 1)) after in
+      let one : entries_of front ++ tables_begin d total (count - i) bytes ≡ entries_of front ++ (entries_begin d total bytes ∷ later) = rw (k, h) refl in
+      ap (λ (l : List (List ℕ)). l ++ later) (map-append (λ (x : TableIndex). x.entries.items) front (t ∷ []))
+      ∙ append_assoc (entries_of front) (t.entries.items ∷ []) later
+      ∙ ap (λ (l : List ℕ). entries_of front ++ (l ∷ later)) is ∙ sym one ∙ so_far
+
+  pub tables_are_done : count ≤ i → entries_of front ++ tables_begin d total (count - i) bytes ≡ whole → entries_of front ≡ whole
+  unfolding tables_begin
+  tables_are_done le so_far =
+      let k : count - i ≡ 0 = omega arith in
+      let one : entries_of front ++ tables_begin d total (count - i) bytes ≡ entries_of front = rw k (append-nil (entries_of front)) in
+      sym one ∙ so_far
+
+pub all_more : {X : Type 0} (P : X → Type 0) (xs : List X) (x : X) → AllByRecursion P xs → P x → AllByRecursion P (xs ++ x ∷ [])
+all_more P [] x h p = (p, tt)
+all_more P (y ∷ ys) x h p = (h.0, all_more P ys x h.1 p)

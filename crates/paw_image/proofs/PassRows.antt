@@ -1,0 +1,124 @@
+-- Each row: the image of a row that keeps its rule is passed.
+use Rattle.std.proofs.Common.{◌≡◌, ℕ, zero, suc, ◌+◌, ◌^◌, ◌<◌, ◌≤◌, ◌&&◌, ◌||◌, Bool, true, false, not, cond, ltb, leb, eqb, List, [], ◌∷◌, ◌++◌, length, Ok, Err, refl, sym, ap, ◌∙◌, append_assoc, arith, lit<}
+use Rattle.std.specs.List.{flat_map, list_all, list_any}
+use Rattle.std.proofs.lemmas.Bool.{and_parts, leb-true, le-leb}
+use Rattle.paw_base.specs.declared.parts.Condact.{Condact}
+use Rattle.paw_base.specs.declared.parts.ObjectFacts.{ObjectFacts}
+use Rattle.paw_base.specs.declared.rows.ParamKind.{ParamKind}
+use Rattle.paw_base.specs.declared.rows.ParamKind.TheVariants as kind
+use Rattle.paw_base.specs.Condacts.{first_kind, second_kind}
+use Rattle.paw_game.specs.declared.parts.ObjectRow.{ObjectRow}
+use Rattle.paw_game.specs.declared.parts.Exit.{Exit}
+use Rattle.paw_game.specs.declared.parts.Entry.{Entry}
+use Rattle.paw_game.specs.Image.{two_bytes, text_image, weight_byte, object_image, exit_image, exits_image, parameter_image, condact_image, entry_image, table_image}
+use Rattle.paw_game.specs.Valid.{is_within, is_printed, is_text, is_word_or_none, is_place, are_facts, is_object, is_verb_value, are_exits, is_exits, is_any, has_word}
+use Rattle.paw_image.specs.Reading.{◌>>=◌, byte_at}
+use Rattle.paw_image.specs.Damage.{Declared, kept, each, number_within, after_text, after_facts, after_object, exit_kept, after_exits_of, after_exits, keeps_kind, after_parameter, after_condact, after_entry, after_table}
+use Rattle.paw_image.proofs.FieldLaws.{bytes_again, number_again}
+use Rattle.paw_image.proofs.SoundRows.{none_of, none_of-one_more, none_of-none, keeps_condact, keeps_entry, keeps_table}
+use Rattle.paw_image.proofs.Stands.{and_true, PassesRow, each_passes}
+
+-- ---- numbers ----
+
+pub within_passes : (least most n : ℕ) (rest : List ℕ) → most < 2 ^ 16 → is_within least most n ≡ true → number_within least most (two_bytes n ++ rest) ≡ Ok (n, rest)
+within_passes least most n rest small h =
+    let le : n ≤ most = leb-true _ _ (and_parts (leb least n) (leb n most) h).1 in
+    rw (number_again n rest (omega arith), h) refl
+
+up_to : (most n : ℕ) → leb n most ≡ true → is_within 0 most n ≡ true
+up_to most n h = and_true (leb 0 n) (leb n most) (le-leb 0 n (omega arith)) h
+
+-- ---- texts ----
+
+pub text_passes : PassesRow after_text text_image is_text
+unfolding after_text
+text_passes text rest h =
+    let both = and_parts (leb (length text) 4095) (is_printed true text) h in
+    rw (
+      append_assoc (two_bytes (length text)) text rest,
+      within_passes 0 4095 (length text) (text ++ rest) (lit< tt) (up_to 4095 (length text) both.0),
+      bytes_again (length text) text rest refl,
+      both.1,
+    ) refl
+
+-- ---- objects ----
+
+facts_pass : (d : Declared) (f : ObjectFacts) (weight : ℕ) (rest : List ℕ) → are_facts d.words d.counts.locations f ≡ true → after_facts d (f.noun ∷ f.adjective ∷ f.start ∷ weight ∷ rest) ≡ Ok rest
+unfolding after_facts
+facts_pass d f weight rest h =
+    let noun = and_parts (is_word_or_none d.words 2 f.noun) _ h in
+    let adjective = and_parts (is_word_or_none d.words 3 f.adjective) _ noun.1 in
+    let start = and_parts (is_place d.counts.locations f.start) _ adjective.1 in
+    rw (noun.0, adjective.0, start.0) refl
+
+pub object_passes : (d : Declared) → PassesRow (after_object d) object_image (is_object d.words d.counts.locations)
+object_passes d o rest h =
+    let both = and_parts (is_text o.text) (are_facts d.words d.counts.locations o.facts) h in
+    let weight = weight_byte o.facts.weight o.facts.container o.facts.wearable in
+    let after = o.facts.noun ∷ o.facts.adjective ∷ o.facts.start ∷ weight ∷ rest in
+    let regrouped : object_image o ++ rest ≡ text_image o.text ++ after = append_assoc (text_image o.text) (o.facts.noun ∷ o.facts.adjective ∷ o.facts.start ∷ weight ∷ []) rest in
+    ap (after_object d) regrouped ∙ rw (text_passes o.text after both.0) (facts_pass d o.facts weight rest both.1)
+
+-- ---- exits ----
+
+exits_pass_of : (d : Declared) (verbs : List ℕ) (xs : List Exit) (rest : List ℕ) → none_of verbs xs ≡ true → are_exits d.words d.counts.locations xs ≡ true
+    → after_exits_of d verbs (length xs) (flat_map exit_image xs ++ rest) ≡ Ok rest
+unfolding after_exits_of exit_kept
+exits_pass_of d verbs [] rest none h = refl
+exits_pass_of d verbs (x ∷ xs) rest none h =
+    let first_none = and_parts (not (list_any (λ earlier. eqb earlier x.verb) verbs)) (none_of verbs xs) none in
+    let split = and_parts (is_verb_value d.words x.verb && (ltb x.to d.counts.locations && not (list_any (λ y. eqb y.verb x.verb) xs))) (are_exits d.words d.counts.locations xs) h in
+    let verb = and_parts (is_verb_value d.words x.verb) _ split.0 in
+    let to = and_parts (ltb x.to d.counts.locations) _ verb.1 in
+    let others : none_of (x.verb ∷ verbs) xs ≡ true = none_of-one_more x.verb verbs xs ∙ rw (to.1, first_none.1) refl in
+    rw (verb.0, first_none.0, to.0) (exits_pass_of d (x.verb ∷ verbs) xs rest others split.1)
+
+pub exits_pass : (d : Declared) → PassesRow (after_exits d) exits_image (is_exits d.words d.counts.locations)
+unfolding after_exits
+exits_pass d xs rest h = exits_pass_of d [] xs rest (none_of-none xs) (and_parts (leb (length xs) 255) _ h).1
+
+-- ---- tables ----
+
+byte_passes : (rule : ℕ → Bool) (x : ℕ) (rest : List ℕ) → rule x ≡ true → (kept rule byte_at (x ∷ rest) >>= λ y. Ok y.1) ≡ Ok rest
+byte_passes rule x rest h = rw h refl
+
+parameter_passes : (d : Declared) (k : ParamKind) → PassesRow (after_parameter d k) (parameter_image k) (keeps_kind d k)
+parameter_passes d kind.Absent x rest h = refl
+parameter_passes d kind.Location x rest h = byte_passes (keeps_kind d kind.Location) x rest h
+parameter_passes d kind.Place x rest h = byte_passes (keeps_kind d kind.Place) x rest h
+parameter_passes d kind.Object x rest h = byte_passes (keeps_kind d kind.Object) x rest h
+parameter_passes d kind.Flag x rest h = byte_passes (keeps_kind d kind.Flag) x rest h
+parameter_passes d kind.Number x rest h = byte_passes (keeps_kind d kind.Number) x rest h
+parameter_passes d kind.Message x rest h = byte_passes (keeps_kind d kind.Message) x rest h
+parameter_passes d kind.System x rest h = byte_passes (keeps_kind d kind.System) x rest h
+parameter_passes d kind.Table x rest h = byte_passes (keeps_kind d kind.Table) x rest h
+parameter_passes d kind.Adverb x rest h = byte_passes (keeps_kind d kind.Adverb) x rest h
+parameter_passes d kind.Noun x rest h = byte_passes (keeps_kind d kind.Noun) x rest h
+parameter_passes d kind.Adjective x rest h = byte_passes (keeps_kind d kind.Adjective) x rest h
+parameter_passes d kind.Preposition x rest h = byte_passes (keeps_kind d kind.Preposition) x rest h
+
+condact_passes : (d : Declared) → PassesRow (after_condact d) condact_image (keeps_condact d)
+unfolding after_condact
+condact_passes d c rest h =
+    let code = and_parts (leb c.code 107) _ h in
+    let both = and_parts (keeps_kind d (first_kind c.code) c.a) (keeps_kind d (second_kind c.code) c.b) code.1 in
+    let first = parameter_image (first_kind c.code) c.a in
+    let second = parameter_image (second_kind c.code) c.b in
+    let regrouped : condact_image c ++ rest ≡ c.code ∷ (first ++ (second ++ rest)) = ap (λ (t : List ℕ). c.code ∷ t) (append_assoc first second rest) in
+    ap (after_condact d) regrouped
+    ∙ rw (code.0, parameter_passes d (first_kind c.code) c.a (second ++ rest) both.0, parameter_passes d (second_kind c.code) c.b rest both.1) refl
+
+entry_passes : (d : Declared) → PassesRow (after_entry d) entry_image (keeps_entry d)
+unfolding after_entry
+entry_passes d e rest h =
+    let verb = and_parts (is_any e.verb || is_verb_value d.words e.verb) _ h in
+    let noun = and_parts (is_any e.noun || has_word d.words 2 e.noun) _ verb.1 in
+    let condacts = and_parts (leb (length e.condacts) 255) _ noun.1 in
+    rw (verb.0, noun.0) (each_passes (after_condact d) condact_image (keeps_condact d) (condact_passes d) e.condacts rest condacts.1)
+
+pub table_passes : (d : Declared) → PassesRow (after_table d) table_image (keeps_table d)
+unfolding after_table
+table_passes d es rest h =
+    let both = and_parts (leb (length es) 4000) (list_all (keeps_entry d) es) h in
+    let entries = flat_map entry_image es in
+    rw (append_assoc (two_bytes (length es)) entries rest, within_passes 0 4000 (length es) (entries ++ rest) (lit< tt) (up_to 4000 (length es) both.0)) (each_passes (after_entry d) entry_image (keeps_entry d) (entry_passes d) es rest both.1)

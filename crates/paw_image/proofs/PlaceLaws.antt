@@ -1,0 +1,249 @@
+-- What stands in an image where a row begins.
+use Rattle.std.proofs.Common.{◌≡◌, ℕ, zero, suc, ◌+◌, ◌-◌, ◌<◌, ◌≤◌, List, [], ◌∷◌, ◌++◌, length, take, drop, Option, Some, None, Ok, refl, sym, ap, subst, ◌∙◌, append_assoc, inl, inr, arith}
+use Rattle.std.specs.Prelude.{slice_get, codes}
+use Rattle.std.specs.List.{flat_map, AllByRecursion}
+use Rattle.std.proofs.lemmas.Bool.{lt-ltb, le-ltb, cases_lt}
+use Rattle.std.proofs.lemmas.List.{drop_at, drop-drop, length-append, take_at}
+use Rattle.std.proofs.lemmas.Option.{none-some, same_Some, slice_get_past}
+use Rattle.paw_base.specs.declared.parts.Condact.{Condact}
+use Rattle.paw_game.specs.declared.parts.ObjectRow.{ObjectRow}
+use Rattle.paw_game.specs.declared.parts.Exit.{Exit}
+use Rattle.paw_game.specs.declared.parts.Entry.{Entry}
+use Rattle.paw_game.specs.declared.parts.GamePart.{GamePart}
+use Rattle.paw_game.specs.declared.parts.GamePart.TheVariants as part
+use Rattle.paw_game.specs.Game.{GameLists}
+use Rattle.paw_game.specs.Tables.{counts_of, or_empty, text_at, text_of, exit_of, facts_at, facts_of}
+use Rattle.paw_game.specs.Image.{two_bytes, word_image, text_image, object_image, exit_image, exits_image, condact_image, entry_image, table_image, weight_byte, image}
+use Rattle.paw_image.specs.Reading.{◌>>=◌, condact_at}
+use Rattle.paw_image.specs.Reading as reading
+use Rattle.paw_image.specs.Damage.{each}
+use Rattle.paw_image.specs.Sizes.{FitsText, FitsObject, FitsCondact, FitsGame}
+use Rattle.paw_image.specs.Places.{places, entry_places}
+use Rattle.paw_image.specs.Rows.{value_of, facts_here, exit_in, exits_here, head_here, past_condact, nth_condact, entry_here}
+use Rattle.paw_image.specs.Views.{system_begins, messages_begin, objects_begin, locations_begin, exits_begin, tables_begin_at, rows_begin}
+use Rattle.paw_image.proofs.GameLaws.{image_is, counts_image}
+use Rattle.paw_image.proofs.RowLaws.{facts_image, facts_again, text_again, condact_again}
+
+-- ---- rows ----
+
+pub all_at : {X : Type 0} (P : X → Type 0) (xs : List X) (k : ℕ) (x : X) → AllByRecursion P xs → slice_get xs k ≡ Some x → P x
+all_at P [] k x h e = absurd (none-some x e)
+all_at P (y ∷ ys) zero x h e = subst P (same_Some y x e) h.0
+all_at P (y ∷ ys) (suc k) x h e = all_at P ys k x h.1 e
+
+-- what follows what stands at a place
+pub next_at : (bytes text rest : List ℕ) (at : ℕ) → drop at bytes ≡ text ++ rest → drop (at + length text) bytes ≡ rest
+next_at bytes text rest at e = sym (drop-drop (length text) at bytes) ∙ ap (drop (length text)) e ∙ drop_at text rest (length text) refl
+
+-- the row that stands at the place where it begins
+pub record RowAt {A : Type 0} (image : A → List ℕ) (bytes : List ℕ) (found : Option A) (p : ℕ) : Type 0 where
+  pub row : A
+  pub after : List ℕ
+  pub is : found ≡ Some row
+  pub lies : drop p bytes ≡ image row ++ after
+
+pub row_lies : {A : Type 0} (image : A → List ℕ) (bytes rest : List ℕ) (xs : List A) (at : ℕ) → drop at bytes ≡ flat_map image xs ++ rest
+    → (k p : ℕ) → slice_get (places image at xs) k ≡ Some p → RowAt image bytes (slice_get xs k) p
+row_lies image bytes rest [] at e k p h = absurd (none-some p h)
+row_lies image bytes rest (x ∷ xs) at e zero p h =
+    record { row = x; after = flat_map image xs ++ rest; is = refl; lies = rw (← same_Some at p h) (e ∙ append_assoc (image x) (flat_map image xs) rest) }
+row_lies image bytes rest (x ∷ xs) at e (suc k) p h =
+    row_lies image bytes rest xs (at + length (image x)) (next_at bytes (image x) (flat_map image xs ++ rest) at (e ∙ append_assoc (image x) (flat_map image xs) rest)) k p h
+
+pub no_row : {A : Type 0} (image : A → List ℕ) (xs : List A) (at k : ℕ) → slice_get (places image at xs) k ≡ None → slice_get xs k ≡ None
+no_row image [] at k h = refl
+no_row image (x ∷ xs) at zero h = absurd (none-some at (sym h))
+no_row image (x ∷ xs) at (suc k) h = no_row image xs (at + length (image x)) k h
+
+-- ---- the lists ----
+
+-- what stands where each list begins
+pub record ListsAt (bytes : List ℕ) (g : GameLists) : Type 0 where
+  pub after_system : List ℕ
+  pub system : drop (system_begins g) bytes ≡ flat_map text_image g.system ++ after_system
+  pub after_messages : List ℕ
+  pub messages : drop (messages_begin g) bytes ≡ flat_map text_image g.messages ++ after_messages
+  pub after_objects : List ℕ
+  pub objects : drop (objects_begin g) bytes ≡ flat_map object_image g.objects ++ after_objects
+  pub after_locations : List ℕ
+  pub locations : drop (locations_begin g) bytes ≡ flat_map text_image g.locations ++ after_locations
+  pub after_exits : List ℕ
+  pub exits : drop (exits_begin g) bytes ≡ flat_map exits_image g.exits ++ after_exits
+  pub tables : drop (tables_begin_at g) bytes ≡ flat_map table_image g.tables ++ []
+
+pub lists_lie : (bytes : List ℕ) (g : GameLists) → bytes ≡ image g → ListsAt bytes g
+lists_lie bytes g e =
+    let after_exits = flat_map table_image g.tables ++ [] in
+    let after_locations = flat_map exits_image g.exits ++ after_exits in
+    let after_objects = flat_map text_image g.locations ++ after_locations in
+    let after_messages = flat_map object_image g.objects ++ after_objects in
+    let after_system = flat_map text_image g.messages ++ after_messages in
+    let after_words = flat_map text_image g.system ++ after_system in
+    let head = codes "PAWI" ++ (1 ∷ counts_image (counts_of g)) in
+    let words : drop 17 bytes ≡ flat_map word_image g.words ++ after_words = next_at bytes head (flat_map word_image g.words ++ after_words) 0 (e ∙ image_is g) in
+    let system = next_at bytes (flat_map word_image g.words) after_words 17 words in
+    let messages = next_at bytes (flat_map text_image g.system) after_system (system_begins g) system in
+    let objects = next_at bytes (flat_map text_image g.messages) after_messages (messages_begin g) messages in
+    let locations = next_at bytes (flat_map object_image g.objects) after_objects (objects_begin g) objects in
+    let exits = next_at bytes (flat_map text_image g.locations) after_locations (locations_begin g) locations in
+    record {
+      after_system = after_system;
+      system = system;
+      after_messages = after_messages;
+      messages = messages;
+      after_objects = after_objects;
+      objects = objects;
+      after_locations = after_locations;
+      locations = locations;
+      after_exits = after_exits;
+      exits = exits;
+      tables = next_at bytes (flat_map exits_image g.exits) after_exits (exits_begin g) exits;
+    }
+
+-- ---- texts ----
+
+text_there : (bytes : List ℕ) (texts : List (List ℕ)) (k p : ℕ) → AllByRecursion FitsText texts → RowAt text_image bytes (slice_get texts k) p → value_of (reading.text_at (drop p bytes)) ≡ slice_get texts k
+text_there bytes texts k p fits r = rw (r.lies, text_again r.row r.after (all_at FitsText texts k r.row fits r.is)) (sym r.is)
+
+text_of_object : (bytes : List ℕ) (os : List ObjectRow) (k p : ℕ) → AllByRecursion FitsObject os → RowAt object_image bytes (slice_get os k) p → value_of (reading.text_at (drop p bytes)) ≡ text_of (slice_get os k)
+text_of_object bytes os k p fits r =
+    let o = r.row in
+    let facts = o.facts.noun ∷ o.facts.adjective ∷ o.facts.start ∷ weight_byte o.facts.weight o.facts.container o.facts.wearable ∷ [] in
+    let text = (all_at FitsObject os k o fits r.is).text in
+    rw (r.lies, append_assoc (text_image o.text) facts r.after, text_again o.text (facts ++ r.after) text, r.is) refl
+
+pub text_of_part : (bytes : List ℕ) (g : GameLists) → ListsAt bytes g → FitsGame g → (p : GamePart) (k at : ℕ) → slice_get (rows_begin g p) k ≡ Some at → value_of (reading.text_at (drop at bytes)) ≡ text_at g p k
+text_of_part bytes g l fits part.Words k at h = absurd (none-some at h)
+text_of_part bytes g l fits part.System k at h = text_there bytes g.system k at fits.system (row_lies text_image bytes l.after_system g.system (system_begins g) l.system k at h)
+text_of_part bytes g l fits part.Messages k at h = text_there bytes g.messages k at fits.messages (row_lies text_image bytes l.after_messages g.messages (messages_begin g) l.messages k at h)
+text_of_part bytes g l fits part.Objects k at h = text_of_object bytes g.objects k at fits.objects (row_lies object_image bytes l.after_objects g.objects (objects_begin g) l.objects k at h)
+text_of_part bytes g l fits part.Locations k at h = text_there bytes g.locations k at fits.locations (row_lies text_image bytes l.after_locations g.locations (locations_begin g) l.locations k at h)
+text_of_part bytes g l fits part.Exits k at h = absurd (none-some at h)
+text_of_part bytes g l fits part.Tables k at h = absurd (none-some at h)
+
+pub no_text_of_part : (g : GameLists) (p : GamePart) (k : ℕ) → slice_get (rows_begin g p) k ≡ None → text_at g p k ≡ None
+no_text_of_part g part.Words k h = refl
+no_text_of_part g part.System k h = no_row text_image g.system (system_begins g) k h
+no_text_of_part g part.Messages k h = no_row text_image g.messages (messages_begin g) k h
+no_text_of_part g part.Objects k h = rw (no_row object_image g.objects (objects_begin g) k h) refl
+no_text_of_part g part.Locations k h = no_row text_image g.locations (locations_begin g) k h
+no_text_of_part g part.Exits k h = refl
+no_text_of_part g part.Tables k h = refl
+
+-- ---- objects ----
+
+pub facts_there : (bytes : List ℕ) (g : GameLists) → ListsAt bytes g → FitsGame g → (k at : ℕ) → slice_get (rows_begin g part.Objects) k ≡ Some at → facts_here (drop at bytes) ≡ facts_at g k
+unfolding facts_here
+facts_there bytes g l fits k at h =
+    let r = row_lies object_image bytes l.after_objects g.objects (objects_begin g) l.objects k at h in
+    let o = r.row in
+    let o_fits = all_at FitsObject g.objects k o fits.objects r.is in
+    rw (r.lies, append_assoc (text_image o.text) (facts_image o.facts) r.after, text_again o.text (facts_image o.facts ++ r.after) o_fits.text, facts_again o.facts r.after o_fits.weight, r.is) refl
+
+pub no_facts : (g : GameLists) (k : ℕ) → slice_get (rows_begin g part.Objects) k ≡ None → facts_at g k ≡ None
+no_facts g k h = rw (no_row object_image g.objects (objects_begin g) k h) refl
+
+-- ---- exits ----
+
+exit_found : (verb : ℕ) (xs : List Exit) (rest : List ℕ) → exit_in verb (length xs) (flat_map exit_image xs ++ rest) ≡ exit_of xs verb
+unfolding exit_in
+exit_found verb [] rest = refl
+exit_found verb (x ∷ xs) rest = rw (exit_found verb xs rest) refl
+
+pub exit_there : (bytes : List ℕ) (g : GameLists) → ListsAt bytes g → (verb k at : ℕ) → slice_get (places exits_image (exits_begin g) g.exits) k ≡ Some at → exits_here verb (drop at bytes) ≡ exit_of (or_empty (slice_get g.exits k)) verb
+unfolding exits_here
+exit_there bytes g l verb k at h =
+    let r = row_lies exits_image bytes l.after_exits g.exits (exits_begin g) l.exits k at h in
+    rw (r.lies, r.is) (exit_found verb r.row r.after)
+
+pub no_exit : (g : GameLists) (verb k : ℕ) → slice_get (places exits_image (exits_begin g) g.exits) k ≡ None → exit_of (or_empty (slice_get g.exits k)) verb ≡ None
+no_exit g verb k h = rw (no_row exits_image g.exits (exits_begin g) k h) refl
+
+-- ---- entries ----
+
+-- the entries of a table, where they begin
+pub record TableAt (bytes : List ℕ) (found : Option (List Entry)) (ps : List ℕ) : Type 0 where
+  pub rows : List Entry
+  pub at : ℕ
+  pub after : List ℕ
+  pub is : found ≡ Some rows
+  pub begin : ps ≡ places entry_image at rows
+  pub lies : drop at bytes ≡ flat_map entry_image rows ++ after
+
+pub table_lies : (bytes rest : List ℕ) (ts : List (List Entry)) (at : ℕ) → drop at bytes ≡ flat_map table_image ts ++ rest
+    → (t : ℕ) (ps : List ℕ) → slice_get (entry_places at ts) t ≡ Some ps → TableAt bytes (slice_get ts t) ps
+table_lies bytes rest [] at e t ps h = absurd (none-some ps h)
+table_lies bytes rest (es ∷ ts) at e zero ps h =
+    let others = flat_map table_image ts ++ rest in
+    let here : drop at bytes ≡ two_bytes (length es) ++ (flat_map entry_image es ++ others) =
+    e ∙ append_assoc (table_image es) (flat_map table_image ts) rest ∙ append_assoc (two_bytes (length es)) (flat_map entry_image es) others in
+    record {
+      rows = es;
+      at = at + 2;
+      after = others;
+      is = refl;
+      begin = sym (same_Some (places entry_image (at + 2) es) ps h);
+      lies = next_at bytes (two_bytes (length es)) (flat_map entry_image es ++ others) at here;
+    }
+table_lies bytes rest (es ∷ ts) at e (suc t) ps h =
+    table_lies bytes rest ts (at + length (table_image es)) (next_at bytes (table_image es) (flat_map table_image ts ++ rest) at (e ∙ append_assoc (table_image es) (flat_map table_image ts) rest)) t ps h
+
+pub no_table : (ts : List (List Entry)) (at t : ℕ) → slice_get (entry_places at ts) t ≡ None → slice_get ts t ≡ None
+no_table [] at t h = refl
+no_table (es ∷ ts) at zero h = absurd (none-some (places entry_image (at + 2) es) (sym h))
+no_table (es ∷ ts) at (suc t) h = no_table ts (at + length (table_image es)) t h
+
+entry_in_table : (bytes : List ℕ) (found : Option (List Entry)) (begin : Option (List ℕ)) (k p : ℕ) → ((ps : List ℕ) → begin ≡ Some ps → TableAt bytes found ps)
+    → slice_get (or_empty begin) k ≡ Some p → RowAt entry_image bytes (slice_get (or_empty found) k) p
+entry_in_table bytes found None k p there h = absurd (none-some p h)
+entry_in_table bytes found (Some ps) k p there h =
+    let t = there ps refl in
+    rw t.is (row_lies entry_image bytes t.after t.rows t.at t.lies k p (rw t.begin at h))
+
+-- the entry that stands at the place where it begins
+pub entry_lies : (bytes : List ℕ) (g : GameLists) → ListsAt bytes g → (t k p : ℕ) → slice_get (or_empty (slice_get (entry_places (tables_begin_at g) g.tables) t)) k ≡ Some p
+    → RowAt entry_image bytes (slice_get (or_empty (slice_get g.tables t)) k) p
+entry_lies bytes g l t k p h =
+    entry_in_table bytes (slice_get g.tables t) (slice_get (entry_places (tables_begin_at g) g.tables) t) k p (table_lies bytes [] g.tables (tables_begin_at g) l.tables t) h
+
+no_entry_in : (ts : List (List Entry)) (at t k : ℕ) → slice_get (or_empty (slice_get (entry_places at ts) t)) k ≡ None → slice_get (or_empty (slice_get ts t)) k ≡ None
+no_entry_in [] at t k h = refl
+no_entry_in (es ∷ ts) at zero k h = no_row entry_image es (at + 2) k h
+no_entry_in (es ∷ ts) at (suc t) k h = no_entry_in ts (at + length (table_image es)) t k h
+
+pub no_entry : (g : GameLists) (t k : ℕ) → slice_get (or_empty (slice_get (entry_places (tables_begin_at g) g.tables) t)) k ≡ None → slice_get (or_empty (slice_get g.tables t)) k ≡ None
+no_entry g t k h = no_entry_in g.tables (tables_begin_at g) t k h
+
+-- ---- condacts ----
+
+condacts_pass : (cs : List Condact) (rest : List ℕ) → AllByRecursion FitsCondact cs → each past_condact (length cs) (flat_map condact_image cs ++ rest) ≡ Ok rest
+unfolding each
+condacts_pass [] rest fits = refl
+condacts_pass (c ∷ cs) rest fits =
+    rw (append_assoc (condact_image c) (flat_map condact_image cs) rest, condact_again c (flat_map condact_image cs ++ rest) fits.0) (condacts_pass cs rest fits.1)
+
+condact_found : (cs : List Condact) (rest : List ℕ) (k : ℕ) → AllByRecursion FitsCondact cs → k < length cs → value_of (each past_condact k (flat_map condact_image cs ++ rest) >>= condact_at) ≡ slice_get cs k
+unfolding each
+condact_found [] rest k fits lt = absurd (omega arith)
+condact_found (c ∷ cs) rest zero fits lt = rw (append_assoc (condact_image c) (flat_map condact_image cs) rest, condact_again c (flat_map condact_image cs ++ rest) fits.0) refl
+condact_found (c ∷ cs) rest (suc k) fits lt =
+    rw (append_assoc (condact_image c) (flat_map condact_image cs) rest, condact_again c (flat_map condact_image cs ++ rest) fits.0) (condact_found cs rest k fits.1 (omega arith))
+
+-- what the bytes of an entry say
+pub condact_there : (e : Entry) (after : List ℕ) (k : ℕ) → AllByRecursion FitsCondact e.condacts → nth_condact k (entry_image e ++ after) ≡ slice_get e.condacts k
+unfolding nth_condact
+condact_there e after k fits =
+    elim (cases_lt k (length e.condacts)) [
+      | inl lt ↦ rw (lt-ltb k (length e.condacts) lt) (condact_found e.condacts after k fits lt)
+      | inr le ↦ rw (le-ltb k (length e.condacts) le) (sym (slice_get_past e.condacts k le))
+    ]
+
+pub head_there : (e : Entry) (after : List ℕ) → head_here (entry_image e ++ after) ≡ Some (e.verb, e.noun)
+unfolding head_here
+head_there e after = refl
+
+pub entry_bytes_there : (e : Entry) (after : List ℕ) → AllByRecursion FitsCondact e.condacts → entry_here (entry_image e ++ after) ≡ Some (entry_image e)
+unfolding entry_here
+entry_bytes_there e after fits =
+    let n : length (entry_image e ++ after) - length after ≡ length (entry_image e) = omega (arith, length-append (entry_image e) after) in
+    rw (condacts_pass e.condacts after fits) (ap Some (ap (λ (k : ℕ). take k (entry_image e ++ after)) n ∙ take_at (entry_image e) after (length (entry_image e)) refl))

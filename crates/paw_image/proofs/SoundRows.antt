@@ -1,0 +1,300 @@
+-- Each row: the bytes that it passes are read as a row that keeps its rule.
+use Rattle.std.proofs.Common.{◌≡◌, ℕ, zero, suc, ◌+◌, ◌<◌, ◌≤◌, ◌&&◌, ◌||◌, Bool, true, false, not, cond, ltb, leb, eqb, List, [], ◌∷◌, ◌++◌, length, Result, Ok, Err, refl, sym, ap, subst, ◌∙◌, arith}
+use Rattle.std.specs.Prelude.{bit_and}
+use Rattle.std.specs.List.{flat_map, list_all, list_any}
+use Rattle.std.proofs.lemmas.Bool.{and_parts, le-leb, leb-true}
+use Rattle.std.proofs.lemmas.Bool.Decides.{nat_tests}
+use Rattle.std.proofs.lemmas.Nat.{and_mask}
+use Rattle.paw_base.specs.declared.parts.Condact.{Condact}
+use Rattle.paw_base.specs.declared.parts.ObjectFacts.{ObjectFacts}
+use Rattle.paw_base.specs.declared.rows.ParamKind.{ParamKind}
+use Rattle.paw_base.specs.declared.rows.ParamKind.TheVariants as kind
+use Rattle.paw_base.specs.Condacts.{first_kind, second_kind}
+use Rattle.paw_game.specs.declared.parts.Word.{Word}
+use Rattle.paw_game.specs.declared.parts.ObjectRow.{ObjectRow}
+use Rattle.paw_game.specs.declared.parts.Exit.{Exit}
+use Rattle.paw_game.specs.declared.parts.Entry.{Entry}
+use Rattle.paw_game.specs.Game.{GameLists}
+use Rattle.paw_game.specs.Tables.{counts_of}
+use Rattle.paw_game.specs.Image.{two_bytes, text_image, exit_image, parameter_image, condact_image, entry_image, table_image}
+use Rattle.paw_game.specs.Valid.{is_within, is_printed, is_text, is_word_or_none, is_place, are_facts, is_object, is_verb_value, are_exits, is_exits, is_parameter, is_condact, is_any, has_word, is_entry, is_table}
+use Rattle.paw_image.specs.Reading.{◌>>=◌, byte_at, bytes_at, number_at, rows_at, text_at, facts_with, facts_at, object_at, exit_at, exits_at, code_at, parameter_at, condact_at, entry_at, table_at}
+use Rattle.paw_image.specs.Damage.{Declared, kept, each, after_text, after_facts, after_object, exit_kept, after_exits_of, after_exits, keeps_kind, after_parameter, after_condact, after_entry, after_table}
+use Rattle.paw_image.specs.Places.{places, entry_places, begins, on_rest, entries_begin, tables_begin}
+use Rattle.paw_image.proofs.FieldLaws.{IsBytes, Takes, at_ok, bind_then, byte_takes, number_takes}
+use Rattle.paw_image.proofs.ListLaws.{rows_take}
+use Rattle.paw_image.proofs.RowLaws.{text_takes, exit_takes, condact_takes, entry_takes, parameter_takes, table_takes}
+use Rattle.paw_image.proofs.Stands.{and_true, kept_then, bytes_length, Stands, SoundRow, rest_fits, each_sound, taken_length}
+
+-- what the lists of a game say at their front
+abbrev pub declared_by : GameLists → Declared
+declared_by g = record { counts = counts_of g; words = g.words }
+
+-- ---- texts ----
+
+pub text_sound : SoundRow after_text text_at is_text
+unfolding after_text text_at
+text_sound bytes rest fits e =
+    kept_then _ (is_within 0 4095) number_at bytes _ rest e (λ len len_ok len_kept e.
+    kept_then _ (is_printed true) (bytes_at len.0) len.1 _ rest e (λ text text_ok text_kept e.
+    let few : leb (length text.0) 4095 ≡ true = ap (λ (n : ℕ). leb n 4095) (bytes_length len.0 len.1 text text_ok) ∙ (and_parts (leb 0 len.0) (leb len.0 4095) len_kept).1 in
+    record {
+      value = text.0;
+      reads = at_ok (λ (r : List ℕ). text_at bytes ≡ Ok (text.0, r)) text.1 rest e (rw (len_ok, text_ok) refl);
+      keeps = and_true (leb (length text.0) 4095) _ few text_kept;
+    }))
+
+-- ---- objects ----
+
+light : (w : ℕ) → leb (bit_and w 63) 63 ≡ true
+light w = le-leb (bit_and w 63) 63 (rw (and_mask w 6) (omega arith))
+
+facts_sound : (d : Declared) → SoundRow (after_facts d) facts_at (are_facts d.words d.counts.locations)
+unfolding after_facts facts_at
+facts_sound d bytes rest fits e =
+    kept_then _ (is_word_or_none d.words 2) byte_at bytes _ rest e (λ noun noun_ok noun_kept e.
+    kept_then _ (is_word_or_none d.words 3) byte_at noun.1 _ rest e (λ adjective adjective_ok adjective_kept e.
+    kept_then _ (is_place d.counts.locations) byte_at adjective.1 _ rest e (λ start start_ok start_kept e.
+    bind_then _ (byte_at start.1) _ rest e (λ weight weight_ok e.
+    let facts = facts_with noun.0 adjective.0 start.0 weight.0 in
+    record {
+      value = facts;
+      reads = at_ok (λ (r : List ℕ). facts_at bytes ≡ Ok (facts, r)) weight.1 rest e (rw (noun_ok, adjective_ok, start_ok, weight_ok) refl);
+      keeps = rw (noun_kept, adjective_kept, start_kept, light weight.0) refl;
+    }))))
+
+pub object_sound : (d : Declared) → SoundRow (after_object d) object_at (is_object d.words d.counts.locations)
+unfolding object_at
+object_sound d bytes rest fits e =
+    bind_then _ (after_text bytes) _ rest e (λ after after_ok e.
+    let text = text_sound bytes after fits after_ok in
+    let facts = facts_sound d after rest (rest_fits text_at text_image is_text text_takes bytes after fits text) e in
+    record {
+      value = record { text = text.value; facts = facts.value };
+      reads = rw (text.reads, facts.reads) refl;
+      keeps = and_true (is_text text.value) _ text.keeps facts.keeps;
+    })
+
+-- ---- exits ----
+
+-- none of the exits has one of these verbs
+abbrev pub none_of : List ℕ → List Exit → Bool
+none_of verbs xs = list_all (λ x. not (list_any (λ earlier. eqb earlier x.verb) verbs)) xs
+
+eqb-swap : (a b : ℕ) → eqb a b ≡ eqb b a
+eqb-swap a b = grind (arith, nat_tests)
+
+split_or : (a b p q : Bool) → (not (a || b) && (not p && q)) ≡ (not (a || p) && (not b && q))
+split_or true b p q = refl
+split_or false true true q = refl
+split_or false true false q = refl
+split_or false false true q = refl
+split_or false false false q = refl
+
+-- none of them has this verb or one of these, exactly where none has this one and none has one of these
+pub none_of-one_more : (v : ℕ) (verbs : List ℕ) (xs : List Exit) → none_of (v ∷ verbs) xs ≡ (not (list_any (λ y. eqb y.verb v) xs) && none_of verbs xs)
+none_of-one_more v verbs [] = refl
+none_of-one_more v verbs (x ∷ xs) =
+    let a = eqb x.verb v in
+    let b = list_any (λ earlier. eqb earlier x.verb) verbs in
+    rw (eqb-swap v x.verb, none_of-one_more v verbs xs) (split_or a b (list_any (λ y. eqb y.verb v) xs) (none_of verbs xs))
+
+pub none_of-none : (xs : List Exit) → none_of [] xs ≡ true
+none_of-none [] = refl
+none_of-none (x ∷ xs) = none_of-none xs
+
+-- what the exits after those with these verbs keep
+abbrev keeps_after : Declared → List ℕ → List Exit → Bool
+keeps_after d verbs xs = none_of verbs xs && are_exits d.words d.counts.locations xs
+
+exits_sound_of : (d : Declared) (verbs : List ℕ) (n : ℕ) (bytes rest : List ℕ) → after_exits_of d verbs n bytes ≡ Ok rest → Stands (rows_at exit_at n bytes) (keeps_after d verbs) rest
+unfolding after_exits_of exit_kept rows_at exit_at
+exits_sound_of d verbs zero bytes rest e =
+    record { value = []; reads = at_ok (λ (r : List ℕ). rows_at exit_at 0 bytes ≡ Ok ([], r)) bytes rest e refl; keeps = refl }
+exits_sound_of d verbs (suc n) bytes rest e =
+    bind_then _ (exit_kept d verbs bytes) _ rest e (λ x x_ok e.
+    kept_then _ (λ v. is_verb_value d.words v && not (list_any (λ earlier. eqb earlier v) verbs)) byte_at bytes _ x x_ok (λ verb verb_ok verb_kept x_ok.
+    kept_then _ (λ l. ltb l d.counts.locations) byte_at verb.1 _ x x_ok (λ to to_ok to_kept x_ok.
+    let e2 : after_exits_of d (verb.0 ∷ verbs) n to.1 ≡ Ok rest = at_ok (λ (y : ℕ × List ℕ). after_exits_of d (y.0 ∷ verbs) n y.1 ≡ Ok rest) x (verb.0, to.1) (sym x_ok) e in
+    let others = exits_sound_of d (verb.0 ∷ verbs) n to.1 rest e2 in
+    let first : Exit = record { verb = verb.0; to = to.0 } in
+    let kept_verb = and_parts (is_verb_value d.words verb.0) _ verb_kept in
+    let kept_others = and_parts (none_of (verb.0 ∷ verbs) others.value) _ others.keeps in
+    let none = and_parts (not (list_any (λ y. eqb y.verb verb.0) others.value)) _ (sym (none_of-one_more verb.0 verbs others.value) ∙ kept_others.0) in
+    record {
+      value = first ∷ others.value;
+      reads = rw (verb_ok, to_ok, others.reads) refl;
+      keeps = rw (kept_verb.0, kept_verb.1, to_kept, none.0, none.1, kept_others.1) refl;
+    })))
+
+few : (n : ℕ) → n < 256 → leb n 255 ≡ true
+few n lt = le-leb n 255 (omega arith)
+
+pub exits_sound : (d : Declared) → SoundRow (after_exits d) exits_at (is_exits d.words d.counts.locations)
+unfolding after_exits exits_at
+exits_sound d bytes rest fits e =
+    bind_then _ (byte_at bytes) _ rest e (λ count count_ok e.
+    let small = (byte_takes bytes count fits count_ok).1 in
+    let fits_after = (byte_takes bytes count fits count_ok).0.rest_fits in
+    let rows = exits_sound_of d [] count.0 count.1 rest e in
+    let len : length rows.value ≡ count.0 = (rows_take exit_at exit_image exit_takes count.0 count.1 (rows.value, rest) fits_after rows.reads).1 in
+    let kept_rows = and_parts (none_of [] rows.value) _ rows.keeps in
+    record {
+      value = rows.value;
+      reads = rw (count_ok, rows.reads) refl;
+      keeps = and_true (leb (length rows.value) 255) _ (few (length rows.value) (omega arith)) kept_rows.1;
+    })
+
+-- ---- tables ----
+
+-- the rules of condacts, entries and tables, by what the front declares
+abbrev pub keeps_condact : Declared → Condact → Bool
+keeps_condact d c = leb c.code 107 && (keeps_kind d (first_kind c.code) c.a && keeps_kind d (second_kind c.code) c.b)
+
+abbrev pub keeps_entry : Declared → Entry → Bool
+keeps_entry d e =
+    (is_any e.verb || is_verb_value d.words e.verb) && ((is_any e.noun || has_word d.words 2 e.noun)
+    && (leb (length e.condacts) 255 && list_all (keeps_condact d) e.condacts))
+
+abbrev pub keeps_table : Declared → List Entry → Bool
+keeps_table d es = leb (length es) 4000 && list_all (keeps_entry d) es
+
+byte_sound : (rule : ℕ → Bool) (bytes rest : List ℕ) → (kept rule byte_at bytes >>= λ x. Ok x.1) ≡ Ok rest → Stands (byte_at bytes) rule rest
+byte_sound rule bytes rest e =
+    kept_then _ rule byte_at bytes _ rest e (λ x x_ok x_kept e.
+    record { value = x.0; reads = at_ok (λ (r : List ℕ). byte_at bytes ≡ Ok (x.0, r)) x.1 rest e x_ok; keeps = x_kept })
+
+parameter_sound : (d : Declared) (k : ParamKind) → SoundRow (after_parameter d k) (parameter_at k) (keeps_kind d k)
+parameter_sound d kind.Absent bytes rest fits e =
+    record { value = 0; reads = at_ok (λ (r : List ℕ). parameter_at kind.Absent bytes ≡ Ok (0, r)) bytes rest e refl; keeps = refl }
+parameter_sound d kind.Location bytes rest fits e = byte_sound (keeps_kind d kind.Location) bytes rest e
+parameter_sound d kind.Place bytes rest fits e = byte_sound (keeps_kind d kind.Place) bytes rest e
+parameter_sound d kind.Object bytes rest fits e = byte_sound (keeps_kind d kind.Object) bytes rest e
+parameter_sound d kind.Flag bytes rest fits e = byte_sound (keeps_kind d kind.Flag) bytes rest e
+parameter_sound d kind.Number bytes rest fits e = byte_sound (keeps_kind d kind.Number) bytes rest e
+parameter_sound d kind.Message bytes rest fits e = byte_sound (keeps_kind d kind.Message) bytes rest e
+parameter_sound d kind.System bytes rest fits e = byte_sound (keeps_kind d kind.System) bytes rest e
+parameter_sound d kind.Table bytes rest fits e = byte_sound (keeps_kind d kind.Table) bytes rest e
+parameter_sound d kind.Adverb bytes rest fits e = byte_sound (keeps_kind d kind.Adverb) bytes rest e
+parameter_sound d kind.Noun bytes rest fits e = byte_sound (keeps_kind d kind.Noun) bytes rest e
+parameter_sound d kind.Adjective bytes rest fits e = byte_sound (keeps_kind d kind.Adjective) bytes rest e
+parameter_sound d kind.Preposition bytes rest fits e = byte_sound (keeps_kind d kind.Preposition) bytes rest e
+
+code_is : (bytes : List ℕ) → code_at bytes ≡ kept (λ c. leb c 107) byte_at bytes
+code_is [] = refl
+code_is (code ∷ bytes) = refl
+
+condact_sound : (d : Declared) → SoundRow (after_condact d) condact_at (keeps_condact d)
+unfolding after_condact condact_at
+condact_sound d bytes rest fits e =
+    kept_then _ (λ c. leb c 107) byte_at bytes _ rest e (λ code code_ok code_kept e.
+    bind_then _ (after_parameter d (first_kind code.0) code.1) _ rest e (λ after after_ok e.
+    let first = first_kind code.0 in
+    let second = second_kind code.0 in
+    let code_fits = (byte_takes bytes code fits code_ok).0.rest_fits in
+    let a = parameter_sound d first code.1 after code_fits after_ok in
+    let b = parameter_sound d second after rest (rest_fits (parameter_at first) (parameter_image first) (keeps_kind d first) (parameter_takes first) code.1 after code_fits a) e in
+    let code_read : code_at bytes ≡ Ok code = code_is bytes ∙ rw (code_ok, code_kept) refl in
+    record {
+      value = record { code = code.0; a = a.value; b = b.value };
+      reads = rw (code_read, a.reads, b.reads) refl;
+      keeps = rw (code_kept, a.keeps, b.keeps) refl;
+    }))
+
+entry_sound : (d : Declared) → SoundRow (after_entry d) entry_at (keeps_entry d)
+unfolding after_entry entry_at
+entry_sound d bytes rest fits e =
+    kept_then _ (λ v. is_any v || is_verb_value d.words v) byte_at bytes _ rest e (λ verb verb_ok verb_kept e.
+    kept_then _ (λ n. is_any n || has_word d.words 2 n) byte_at verb.1 _ rest e (λ noun noun_ok noun_kept e.
+    bind_then _ (byte_at noun.1) _ rest e (λ count count_ok e.
+    let verb_fits = (byte_takes bytes verb fits verb_ok).0.rest_fits in
+    let noun_fits = (byte_takes verb.1 noun verb_fits noun_ok).0.rest_fits in
+    let count_taken = byte_takes noun.1 count noun_fits count_ok in
+    let rows = each_sound (after_condact d) condact_at condact_image (keeps_condact d) condact_takes (condact_sound d) count.0 count.1 rest count_taken.0.rest_fits e in
+    let len : length rows.value ≡ count.0 = (rows_take condact_at condact_image condact_takes count.0 count.1 (rows.value, rest) count_taken.0.rest_fits rows.reads).1 in
+    record {
+      value = record { verb = verb.0; noun = noun.0; condacts = rows.value };
+      reads = rw (verb_ok, noun_ok, count_ok, rows.reads) refl;
+      keeps = rw (verb_kept, noun_kept, few (length rows.value) (omega (arith, count_taken.1)), rows.keeps) refl;
+    })))
+
+-- a table, with where its entries begin
+pub record TablePlaced (d : Declared) (bytes rest : List ℕ) : Type 0 where
+  pub value : List Entry
+  pub reads : table_at bytes ≡ Ok (value, rest)
+  pub keeps : keeps_table d value ≡ true
+  pub begin : (total start : ℕ) → start + length bytes ≡ total → entries_begin d total bytes ≡ places entry_image (start + 2) value
+
+pub table_placed : (d : Declared) (bytes rest : List ℕ) → IsBytes bytes → after_table d bytes ≡ Ok rest → TablePlaced d bytes rest
+unfolding after_table table_at entries_begin
+table_placed d bytes rest fits e =
+    kept_then _ (is_within 0 4000) number_at bytes _ rest e (λ count count_ok count_kept e.
+    let count_taken = number_takes bytes count fits count_ok in
+    let rows = each_sound (after_entry d) entry_at entry_image (keeps_entry d) entry_takes (entry_sound d) count.0 count.1 rest count_taken.0.rest_fits e in
+    let len : length rows.value ≡ count.0 = (rows_take entry_at entry_image entry_takes count.0 count.1 (rows.value, rest) count_taken.0.rest_fits rows.reads).1 in
+    record {
+      value = rows.value;
+      reads = rw (count_ok, rows.reads) refl;
+      keeps = and_true (leb (length rows.value) 4000) _ (ap (λ (n : ℕ). leb n 4000) len ∙ (and_parts (leb 0 count.0) (leb count.0 4000) count_kept).1) rows.keeps;
+      begin = λ total start h.
+          let after : start + 2 + length count.1 ≡ total = omega (arith, h, taken_length bytes (two_bytes count.0) count.1 count_taken.0) in
+          rw (count_ok, count_kept) (rows.begin total (start + 2) after);
+    })
+
+-- tables, with where their entries begin
+pub record TablesPlaced (d : Declared) (n : ℕ) (bytes rest : List ℕ) : Type 0 where
+  pub value : List (List Entry)
+  pub reads : rows_at table_at n bytes ≡ Ok (value, rest)
+  pub keeps : list_all (keeps_table d) value ≡ true
+  pub begin : (total start : ℕ) → start + length bytes ≡ total → tables_begin d total n bytes ≡ entry_places start value
+
+pub tables_placed : (d : Declared) (n : ℕ) (bytes rest : List ℕ) → IsBytes bytes → each (after_table d) n bytes ≡ Ok rest → TablesPlaced d n bytes rest
+unfolding each rows_at tables_begin
+tables_placed d zero bytes rest fits e =
+    record { value = []; reads = at_ok (λ (r : List ℕ). rows_at table_at 0 bytes ≡ Ok ([], r)) bytes rest e refl; keeps = refl; begin = λ total start h. refl }
+tables_placed d (suc n) bytes rest fits e =
+    bind_then _ (after_table d bytes) _ rest e (λ after after_ok e.
+    let first = table_placed d bytes after fits after_ok in
+    let taken = table_takes bytes (first.value, after) fits first.reads in
+    let others = tables_placed d n after rest taken.rest_fits e in
+    record {
+      value = first.value ∷ others.value;
+      reads = rw (first.reads, others.reads) refl;
+      keeps = and_true (keeps_table d first.value) _ first.keeps others.keeps;
+      begin = λ total start h.
+          let later = others.begin total (start + length (table_image first.value)) (omega (arith, h, taken_length bytes (table_image first.value) after taken)) in
+          rw (first.begin total start h, after_ok) (ap (λ (l : List (List ℕ)). places entry_image (start + 2) first.value ∷ l) later);
+    })
+
+-- ---- the same rules as a game has them ----
+
+pub kind_is : (g : GameLists) (k : ParamKind) (x : ℕ) → keeps_kind (declared_by g) k x ≡ is_parameter g k x
+kind_is g kind.Absent x = refl
+kind_is g kind.Location x = refl
+kind_is g kind.Place x = refl
+kind_is g kind.Object x = refl
+kind_is g kind.Flag x = refl
+kind_is g kind.Number x = refl
+kind_is g kind.Message x = refl
+kind_is g kind.System x = refl
+kind_is g kind.Table x = refl
+kind_is g kind.Adverb x = refl
+kind_is g kind.Noun x = refl
+kind_is g kind.Adjective x = refl
+kind_is g kind.Preposition x = refl
+
+list_all-same : {A : Type 0} (p q : A → Bool) → ((x : A) → p x ≡ q x) → (xs : List A) → list_all p xs ≡ list_all q xs
+list_all-same p q h [] = refl
+list_all-same p q h (x ∷ xs) = rw (h x, list_all-same p q h xs) refl
+
+condact_is : (g : GameLists) (c : Condact) → keeps_condact (declared_by g) c ≡ is_condact g c
+condact_is g c = rw (kind_is g (first_kind c.code) c.a, kind_is g (second_kind c.code) c.b) refl
+
+entry_is : (g : GameLists) (e : Entry) → keeps_entry (declared_by g) e ≡ is_entry g e
+entry_is g e = rw (list_all-same (keeps_condact (declared_by g)) (is_condact g) (condact_is g) e.condacts) refl
+
+table_is : (g : GameLists) (es : List Entry) → keeps_table (declared_by g) es ≡ is_table g es
+table_is g es = rw (list_all-same (keeps_entry (declared_by g)) (is_entry g) (entry_is g) es) refl
+
+pub tables_are : (g : GameLists) (ts : List (List Entry)) → list_all (keeps_table (declared_by g)) ts ≡ list_all (is_table g) ts
+tables_are g ts = list_all-same (keeps_table (declared_by g)) (is_table g) (table_is g) ts

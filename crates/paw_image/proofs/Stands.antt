@@ -1,0 +1,93 @@
+-- What is read by its rules is read without them too, and keeps them.
+use Rattle.std.proofs.Common.{◌≡◌, ℕ, zero, suc, ◌+◌, ◌-◌, ◌<◌, ◌≤◌, ◌&&◌, Bool, true, false, cond, ltb, leb, List, [], ◌∷◌, ◌++◌, length, take, drop, Result, Ok, Err, refl, sym, ap, subst, ◌∙◌, append_assoc, arith}
+use Rattle.std.specs.List.{flat_map, list_all}
+use Rattle.std.proofs.lemmas.Bool.{ltb-false, and_parts}
+use Rattle.std.proofs.lemmas.List.{length-take, length-append}
+use Rattle.paw_image.specs.Reading.{◌>>=◌, Reading, bytes_at, rows_at}
+use Rattle.paw_image.specs.Damage.{Passing, kept, each}
+use Rattle.paw_image.specs.Places.{places, on_rest, begins}
+use Rattle.paw_image.proofs.FieldLaws.{IsBytes, Takes, read_ok, at_ok, bind_then, guard_ok, kept_ok}
+use Rattle.paw_image.proofs.ListLaws.{TakesRow}
+
+pub and_true : (a b : Bool) → a ≡ true → b ≡ true → (a && b) ≡ true
+and_true a b p q = rw (p, q) refl
+
+-- what follows from a field that kept its rule
+pub kept_then : {A B : Type 0} (P : Type 0) (rule : A → Bool) (field : List ℕ → Reading A) (bytes : List ℕ) (f : A × List ℕ → Result B ℕ) (y : B) → (kept rule field bytes >>= f) ≡ Ok y
+    → ((x : A × List ℕ) → field bytes ≡ Ok x → rule x.0 ≡ true → f x ≡ Ok y → P) → P
+kept_then {A} P rule field bytes f y e go =
+    bind_then P (kept rule field bytes) f y e (λ x x_ok e.
+    bind_then P (field bytes) _ x x_ok (λ z z_ok e2.
+    let both = kept_ok (rule z.0) (Ok z) (length bytes) x e2 in
+    go z z_ok both.0 (at_ok (λ (w : A × List ℕ). f w ≡ Ok y) x z (sym both.1) e)))
+
+pub bytes_length : (n : ℕ) (bytes : List ℕ) (x : List ℕ × List ℕ) → bytes_at n bytes ≡ Ok x → length x.0 ≡ n
+bytes_length n bytes x e =
+    let is_long = guard_ok (ltb (length bytes) n) _ _ x e in
+    let long : n ≤ length bytes = ltb-false _ _ is_long.0 in
+    at_ok (λ (y : List ℕ × List ℕ). length y.0 ≡ n) _ x is_long.1 (omega (arith, length-take n bytes))
+
+-- what was read keeps the rule, and this is what is left
+pub record Stands {A : Type 0} (reading : Reading A) (rule : A → Bool) (rest : List ℕ) : Type 0 where
+  pub value : A
+  pub reads : reading ≡ Ok (value, rest)
+  pub keeps : rule value ≡ true
+
+-- bytes that a row passes are read as a row that keeps its rule
+abbrev pub SoundRow : {A : Type 0} → (List ℕ → Passing) → (List ℕ → Reading A) → (A → Bool) → Type 0
+SoundRow pass row rule = (bytes rest : List ℕ) → IsBytes bytes → pass bytes ≡ Ok rest → Stands (row bytes) rule rest
+
+-- the image of a row that keeps its rule is passed
+abbrev pub PassesRow : {A : Type 0} → (List ℕ → Passing) → (A → List ℕ) → (A → Bool) → Type 0
+PassesRow {A} pass image rule = (x : A) (rest : List ℕ) → rule x ≡ true → pass (image x ++ rest) ≡ Ok rest
+
+pub rest_fits : {A : Type 0} (row : List ℕ → Reading A) (image : A → List ℕ) (rule : A → Bool) → TakesRow row image → (bytes rest : List ℕ) → IsBytes bytes → Stands (row bytes) rule rest → IsBytes rest
+rest_fits row image rule takes bytes rest fits s = (takes bytes (s.value, rest) fits s.reads).rest_fits
+
+-- the same of so many rows, with where they begin and end in the last bytes of so many
+pub record Placed {A : Type 0} (pass : List ℕ → Passing) (image : A → List ℕ) (n : ℕ) (bytes : List ℕ) (reading : Reading (List A)) (rule : A → Bool) (rest : List ℕ) : Type 0 where
+  pub value : List A
+  pub reads : reading ≡ Ok (value, rest)
+  pub keeps : list_all rule value ≡ true
+  pub begin : (total start : ℕ) → start + length bytes ≡ total → begins pass total n bytes ≡ places image start value
+  pub end : (total start : ℕ) → start + length bytes ≡ total → start + length (flat_map image value) + length rest ≡ total
+
+pub taken_length : (bytes text rest : List ℕ) → Takes bytes text rest → length bytes ≡ length text + length rest
+taken_length bytes text rest t = ap (λ (l : List ℕ). length l) t.parts ∙ length-append text rest
+
+pub each_sound : {A : Type 0} (pass : List ℕ → Passing) (row : List ℕ → Reading A) (image : A → List ℕ) (rule : A → Bool) → TakesRow row image → SoundRow pass row rule
+    → (n : ℕ) (bytes rest : List ℕ) → IsBytes bytes → each pass n bytes ≡ Ok rest → Placed pass image n bytes (rows_at row n bytes) rule rest
+unfolding each rows_at begins
+each_sound {A} pass row image rule takes sound zero bytes rest fits e =
+    let same : bytes ≡ rest = at_ok (λ (t : List ℕ). bytes ≡ t) bytes rest e refl in
+    record {
+      value = [];
+      reads = ap (λ (t : List ℕ). read_ok ([], t)) same;
+      keeps = refl;
+      begin = λ total start h. refl;
+      end = λ total start h. omega (arith, h, ap (λ (l : List ℕ). length l) same);
+    }
+each_sound {A} pass row image rule takes sound (suc n) bytes rest fits e =
+    bind_then _ (pass bytes) _ rest e (λ after after_ok e.
+    let first = sound bytes after fits after_ok in
+    let others = each_sound pass row image rule takes sound n after rest (rest_fits row image rule takes bytes after fits first) e in
+    let len = taken_length bytes (image first.value) after (takes bytes (first.value, after) fits first.reads) in
+    record {
+      value = first.value ∷ others.value;
+      reads = rw (first.reads, others.reads) refl;
+      keeps = and_true (rule first.value) _ first.keeps others.keeps;
+      begin = λ total start h.
+          let at : total - length bytes ≡ start = omega (arith, h) in
+          let later = others.begin total (start + length (image first.value)) (omega (arith, h, len)) in
+          rw (at, after_ok) (ap (λ (l : List ℕ). start ∷ l) later);
+      end = λ total start h.
+          omega (arith, length-append (image first.value) (flat_map image others.value), others.end total (start + length (image first.value)) (omega (arith, h, len)));
+    })
+
+pub each_passes : {A : Type 0} (pass : List ℕ → Passing) (image : A → List ℕ) (rule : A → Bool) → PassesRow pass image rule
+    → (xs : List A) (rest : List ℕ) → list_all rule xs ≡ true → each pass (length xs) (flat_map image xs ++ rest) ≡ Ok rest
+unfolding each
+each_passes pass image rule passes [] rest h = refl
+each_passes pass image rule passes (x ∷ xs) rest h =
+    let both = and_parts (rule x) (list_all rule xs) h in
+    rw (append_assoc (image x) (flat_map image xs) rest, passes x (flat_map image xs ++ rest) both.0) (each_passes pass image rule passes xs rest both.1)

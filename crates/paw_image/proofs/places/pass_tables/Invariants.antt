@@ -1,0 +1,13 @@
+use Rattle.std.proofs.Common.{◌≡◌, ◌-◌, ◌++◌, length}
+use Rattle.std.specs.List.{AllByRecursion}
+use Rattle.paw_image.specs.Damage.{each, after_table}
+use Rattle.paw_image.specs.Orders.{IsOrder}
+use Rattle.paw_image.specs.Places.{entries_of, tables_begin}
+use Rattle.paw_image.proofs.places.pass_tables.Given as goal
+
+abbrev pub invariant-loop : goal.invariant-loop
+invariant-loop l = record {
+  left : each (after_table l.rules) (l.count - l.counter) l.rest ≡ each (after_table l.rules) l.count l.bytes;
+  kept : entries_of l.tables.items ++ tables_begin l.rules (length l.all) (l.count - l.counter) l.rest ≡ tables_begin l.rules (length l.all) l.count l.bytes;
+  order : AllByRecursion (λ t. IsOrder l.all t.entries.items t.order.items) l.tables.items;
+}

@@ -1,0 +1,194 @@
+-- The first rule of an image that bytes break. The bytes are read once, in order, and each field is written with its rule
+-- over itself and what was read before it. A fault tells how many bytes are left at the first byte of the first field
+-- that breaks its rule or isn't all there.
+use Rattle.std.specs.Prelude.{ℕ, zero, suc, ◌-◌, ◌==◌, ◌&&◌, ◌||◌, Bool, true, not, List, [], ◌∷◌, length, Option, Some, None, Result, Ok, Err, nat_lt, nat_le, codes, if◌then◌else◌}
+use Rattle.std.specs.List.{list_any}
+use Rattle.std.specs.Str.{bytes_eq}
+use Rattle.std.specs.Ordering.{is_lt, nat_cmp}
+use Rattle.std.specs.Cmp.Lexicographic.{slice_cmp}
+use Rattle.paw_base.specs.declared.parts.Counts.{Counts}
+use Rattle.paw_base.specs.declared.rows.ParamKind.{ParamKind}
+use Rattle.paw_base.specs.declared.rows.ParamKind.TheVariants as kind
+use Rattle.paw_base.specs.Condacts.{first_kind, second_kind}
+use Rattle.paw_game.specs.declared.parts.Word.{Word}
+use Rattle.paw_game.specs.Valid.{is_within, are_letters, has_word, is_verb_value, is_word_or_none, is_printed, is_place, is_any}
+use Rattle.paw_image.specs.declared.TheConstants.{IMAGE_LIMIT}
+use Rattle.paw_image.specs.Reading.{◌>>=◌, Reading, byte_at, bytes_at, number_at}
+
+-- a field that keeps a rule, or a fault at its first byte
+abbrev pub kept : {A : Type 0} → (A → Bool) → (List ℕ → Reading A) → List ℕ → Reading A
+kept rule field bytes = field bytes >>= λ x. if rule x.0 then Ok x else Err (length bytes)
+
+-- the bytes after something, or a fault in it
+abbrev pub Passing : Type 0
+Passing = Result (List ℕ) ℕ
+
+-- the bytes after so many rows
+unfoldable pub each : (List ℕ → Passing) → ℕ → List ℕ → Passing
+each row zero bytes = Ok bytes
+each row (suc n) bytes = row bytes >>= each row n
+
+-- ---- the head ----
+
+-- the mark PAWI, and version 1
+unfoldable pub after_version : List ℕ → Passing
+after_version bytes = do
+  mark ← kept (λ m. bytes_eq m (codes "PAWI")) (bytes_at 4) bytes
+  version ← kept (λ v. v == 1) byte_at mark.1
+  Ok version.1
+
+-- a number of two bytes, from one to another, both included
+abbrev pub number_within : ℕ → ℕ → List ℕ → Reading ℕ
+number_within least most = kept (is_within least most) number_at
+
+-- how many words, system messages, messages, objects, locations and tables follow
+unfoldable pub counts_kept : List ℕ → Reading Counts
+counts_kept bytes = do
+  words ← number_within 0 2000 bytes
+  system ← number_within 0 256 words.1
+  messages ← number_within 0 256 system.1
+  objects ← number_within 0 255 messages.1
+  locations ← number_within 1 252 objects.1
+  tables ← number_within 3 256 locations.1
+  Ok (record { words = words.0; system = system.0; messages = messages.0; objects = objects.0; locations = locations.0; tables = tables.0 }, tables.1)
+
+-- ---- words ----
+
+-- letters above those before, value, class
+unfoldable pub word_kept : List ℕ → List ℕ → Reading Word
+word_kept before bytes = do
+  letters ← kept (λ l. are_letters l && is_lt (slice_cmp nat_cmp before l)) (bytes_at 5) bytes
+  value ← kept (is_within 2 254) byte_at letters.1
+  class ← kept (λ c. nat_le c 6) byte_at value.1
+  Ok (record { letters = letters.0; value = value.0; class = class.0 }, class.1)
+
+-- so many words, each above the one before
+unfoldable pub words_kept : List ℕ → ℕ → List ℕ → Reading (List Word)
+words_kept before zero bytes = Ok ([], bytes)
+words_kept before (suc n) bytes = do
+  first ← word_kept before bytes
+  others ← words_kept first.0.letters n first.1
+  Ok (first.0 ∷ others.0, others.1)
+
+-- what the fields so far say that later rules name: how many rows there are, and the words
+pub record Declared : Type 0 where
+  pub counts : Counts
+  pub words : List Word
+
+-- ---- texts, objects, exits ----
+
+-- a length of at most 4,095, and a text of bytes that may stand in one
+unfoldable pub after_text : List ℕ → Passing
+after_text bytes = do
+  len ← number_within 0 4095 bytes
+  text ← kept (is_printed true) (bytes_at len.0) len.1
+  Ok text.1
+
+-- noun, adjective, first place, and any byte for the weight
+unfoldable pub after_facts : Declared → List ℕ → Passing
+after_facts d bytes = do
+  noun ← kept (is_word_or_none d.words 2) byte_at bytes
+  adjective ← kept (is_word_or_none d.words 3) byte_at noun.1
+  start ← kept (is_place d.counts.locations) byte_at adjective.1
+  weight ← byte_at start.1
+  Ok weight.1
+
+-- a text, and what is said of the object
+abbrev pub after_object : Declared → List ℕ → Passing
+after_object d bytes = after_text bytes >>= after_facts d
+
+-- an exit after exits with these verbs: a verb value that is none of them, and a location; the verb is told
+unfoldable pub exit_kept : Declared → List ℕ → List ℕ → Reading ℕ
+exit_kept d verbs bytes = do
+  verb ← kept (λ v. is_verb_value d.words v && not (list_any (λ earlier. earlier == v) verbs)) byte_at bytes
+  to ← kept (λ l. nat_lt l d.counts.locations) byte_at verb.1
+  Ok (verb.0, to.1)
+
+-- so many exits, after exits with these verbs
+unfoldable pub after_exits_of : Declared → List ℕ → ℕ → List ℕ → Passing
+after_exits_of d verbs zero bytes = Ok bytes
+after_exits_of d verbs (suc n) bytes = exit_kept d verbs bytes >>= λ x. after_exits_of d (x.0 ∷ verbs) n x.1
+
+-- how many exits, and each
+unfoldable pub after_exits : Declared → List ℕ → Passing
+after_exits d bytes = do
+  count ← byte_at bytes
+  after_exits_of d [] count.0 count.1
+
+-- ---- tables ----
+
+-- the rule of a parameter, by its kind
+abbrev pub keeps_kind : Declared → ParamKind → ℕ → Bool
+keeps_kind d kind.Absent x = x == 0
+keeps_kind d kind.Location x = nat_lt x d.counts.locations
+keeps_kind d kind.Place x = nat_lt x d.counts.locations || is_within 252 255 x
+keeps_kind d kind.Object x = nat_lt x d.counts.objects
+keeps_kind d kind.Flag x = nat_lt x 256
+keeps_kind d kind.Number x = nat_lt x 256
+keeps_kind d kind.Message x = nat_lt x d.counts.messages
+keeps_kind d kind.System x = nat_lt x d.counts.system
+keeps_kind d kind.Table x = nat_lt x d.counts.tables
+keeps_kind d kind.Adverb x = is_word_or_none d.words 1 x
+keeps_kind d kind.Noun x = is_word_or_none d.words 2 x
+keeps_kind d kind.Adjective x = is_word_or_none d.words 3 x
+keeps_kind d kind.Preposition x = is_word_or_none d.words 4 x
+
+-- a parameter of this kind; one that a code doesn't have takes no byte
+abbrev pub after_parameter : Declared → ParamKind → List ℕ → Passing
+after_parameter d kind.Absent bytes = Ok bytes
+after_parameter d k bytes = kept (keeps_kind d k) byte_at bytes >>= λ x. Ok x.1
+
+-- a code up to 107, and the parameters that it has
+unfoldable pub after_condact : Declared → List ℕ → Passing
+after_condact d bytes = do
+  code ← kept (λ c. nat_le c 107) byte_at bytes
+  a ← after_parameter d (first_kind code.0) code.1
+  after_parameter d (second_kind code.0) a
+
+-- verb, noun, how many condacts, and each
+unfoldable pub after_entry : Declared → List ℕ → Passing
+after_entry d bytes = do
+  verb ← kept (λ v. is_any v || is_verb_value d.words v) byte_at bytes
+  noun ← kept (λ n. is_any n || has_word d.words 2 n) byte_at verb.1
+  count ← byte_at noun.1
+  each (after_condact d) count.0 count.1
+
+-- how many entries, at most 4,000, and each
+unfoldable pub after_table : Declared → List ℕ → Passing
+after_table d bytes = do
+  count ← number_within 0 4000 bytes
+  each (after_entry d) count.0 count.1
+
+-- ---- the whole image ----
+
+-- the lists after the words; each location has its exits
+unfoldable pub after_lists : Declared → List ℕ → Passing
+after_lists d bytes = do
+  system ← each after_text d.counts.system bytes
+  messages ← each after_text d.counts.messages system
+  objects ← each (after_object d) d.counts.objects messages
+  locations ← each after_text d.counts.locations objects
+  exits ← each (after_exits d) d.counts.locations locations
+  each (after_table d) d.counts.tables exits
+
+-- mark, version, counts and words
+unfoldable pub front : List ℕ → Reading Declared
+front bytes = do
+  head ← after_version bytes
+  counts ← counts_kept head
+  words ← words_kept [] counts.0.words counts.1
+  Ok (record { counts = counts.0; words = words.0 }, words.1)
+
+-- the bytes after the last field
+unfoldable pub after_all : List ℕ → Passing
+after_all bytes = front bytes >>= λ d. after_lists d.0 d.1
+
+-- of so many bytes, the place of a fault, or of the first byte after the last field
+abbrev pub place_in : ℕ → Passing → Option ℕ
+place_in total (Err left) = Some (total - left)
+place_in total (Ok []) = None
+place_in total (Ok (b ∷ bytes)) = Some (total - length (b ∷ bytes))
+
+-- the place of the first broken rule; bytes that are too many break the first of all
+unfoldable pub bad : List ℕ → Option ℕ
+bad bytes = if nat_lt IMAGE_LIMIT (length bytes) then Some IMAGE_LIMIT else place_in (length bytes) (after_all bytes)

@@ -1,0 +1,11 @@
+-- The letters that the next word has to stand above.
+use Rattle.std.specs.Prelude.{ℕ, ◌-◌, List, [], length, Option, Some, None, slice_get}
+use Rattle.paw_game.specs.declared.parts.Word.{Word}
+
+abbrev pub letters_of : Option Word → List ℕ
+letters_of None = []
+letters_of (Some w) = w.letters
+
+-- the letters of the last word; none where there is no word
+abbrev pub last_letters : List Word → List ℕ
+last_letters ws = letters_of (slice_get ws (length ws - 1))

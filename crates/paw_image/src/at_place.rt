@@ -1,0 +1,171 @@
+// One row of an image, read where it stands.
+
+ghost use Rattle.std.specs.Prelude.{◌≡◌, drop, OnErr};
+ghost use Rattle.std.specs.Option.{option_copied, option_map};
+ghost use Rattle.paw_image.specs.Damage.{each};
+ghost use Rattle.paw_image.specs.Reading.{Gives, IsFault, text_at};
+ghost use Rattle.paw_image.specs.Rows.{condact_after, condact_of, entry_here, exit_here, exit_in, exits_here, facts_here, head_here, nth_condact, past_condact, up_to, value_of};
+
+use crate::fault::ReadFault;
+use crate::objects::read_after_text;
+use crate::tables::read_condact;
+use crate::texts::read_text;
+use paw_base::parts::{Condact, ObjectFacts};
+use paw_game::parts::Exit;
+
+/// The bytes from a place on; none past the end.
+fn from_place(bytes: &[u8], place: u32) -> &[u8]
+    ensures value { result.now ≡ drop place bytes.now }
+{
+    let place = place as usize;
+    if place > bytes.len() {
+        return &[];
+    }
+    &bytes[place..]
+}
+
+/// The text that begins at a place, with its length.
+#[tactic(auto, using(crate::proofs::Faults::no_value))]
+pub fn text_in(bytes: &[u8], place: u32) -> Option<&[u8]>
+    ensures value { option_copied result ≡ value_of (text_at (drop place bytes.now)) }
+{
+    match read_text(from_place(bytes, place)) {
+        Ok((text, _)) => Some(text),
+        Err(_) => None,
+    }
+}
+
+/// What is said of the object that begins at a place.
+#[tactic(auto, using(crate::proofs::Faults::no_value), unfolding(crate::specs::Rows::facts_here))]
+pub fn facts_in(bytes: &[u8], place: u32) -> Option<ObjectFacts>
+    ensures value { result ≡ facts_here (drop place bytes.now) }
+{
+    match read_after_text(from_place(bytes, place)) {
+        Ok((facts, _)) => Some(facts),
+        Err(_) => None,
+    }
+}
+
+/// The exit at the front, and the bytes after it.
+fn exit_here(bytes: &[u8]) -> Option<(Exit, &[u8])>
+    ensures value { option_map (λ x. (x.0, x.1.now)) result ≡ exit_here bytes.now }
+{
+    match bytes {
+        [verb, to, rest @ ..] => {
+            let exit = Exit {
+                verb: *verb,
+                to: *to,
+            };
+            Some((exit, rest))
+        }
+        _ => None,
+    }
+}
+
+/// Of so many exits, where the first with this verb leads.
+#[tactic(auto, using(crate::proofs::ExitLoop::exit_none, crate::proofs::ExitLoop::exit_past))]
+fn exit_of(verb: u8, count: u8, bytes: &[u8]) -> Option<u8>
+    ensures value { result ≡ exit_in verb count bytes.now }
+{
+    let mut rest = bytes;
+    for _ in 0..count {
+        let (exit, after) = exit_here(rest)?;
+        if exit.verb == verb {
+            return Some(exit.to);
+        }
+        rest = after;
+    }
+    None
+}
+
+/// Where the exit for a verb leads, of the exits that begin at a place.
+#[tactic(auto, unfolding(crate::specs::Rows::exits_here))]
+pub fn exit_at(bytes: &[u8], place: u32, verb: u8) -> Option<u8>
+    ensures value { result ≡ exits_here verb (drop place bytes.now) }
+{
+    match from_place(bytes, place) {
+        [count, rest @ ..] => exit_of(verb, *count, rest),
+        [] => None,
+    }
+}
+
+/// The verb and the noun of the entry that begins at a place.
+#[tactic(auto, unfolding(crate::specs::Rows::head_here))]
+pub fn head_in(bytes: &[u8], place: u32) -> Option<(u8, u8)>
+    ensures value { result ≡ head_here (drop place bytes.now) }
+{
+    match from_place(bytes, place) {
+        [verb, noun, ..] => Some((*verb, *noun)),
+        _ => None,
+    }
+}
+
+/// The bytes after so many condacts.
+fn past_condacts(count: u8, bytes: &[u8]) -> Result<&[u8], ReadFault>
+    ensures gives { Gives (λ x. x.now) result (each past_condact count bytes.now) }
+    ensures fails { OnErr result (IsFault (each past_condact count bytes.now)) }
+{
+    let mut rest = bytes;
+    for _ in 0..count {
+        let (_, after) = read_condact(rest)?;
+        rest = after;
+    }
+    Ok(rest)
+}
+
+/// The condact after so many condacts.
+#[tactic(auto, using(crate::proofs::Faults::fault_first, crate::proofs::Faults::fault_next))]
+fn condact_after(count: u8, bytes: &[u8]) -> Result<(Condact, &[u8]), ReadFault>
+    ensures gives { Gives (λ x. (x.0, x.1.now)) result (condact_after count bytes.now) }
+    ensures fails { OnErr result (IsFault (condact_after count bytes.now)) }
+{
+    let rest = past_condacts(count, bytes)?;
+    read_condact(rest)
+}
+
+/// A condact of the entry whose count of condacts is at the front.
+#[tactic(auto, using(crate::proofs::Faults::no_value))]
+fn condact_of(at: u8, count: u8, condacts: &[u8]) -> Option<Condact>
+    ensures value { result ≡ condact_of at count condacts.now }
+{
+    if at >= count {
+        return None;
+    }
+    match condact_after(at, condacts) {
+        Ok((condact, _)) => Some(condact),
+        Err(_) => None,
+    }
+}
+
+/// A condact of the entry that begins at a place.
+#[tactic(auto, unfolding(crate::specs::Rows::nth_condact))]
+pub fn condact_in(bytes: &[u8], place: u32, at: u8) -> Option<Condact>
+    ensures value { result ≡ nth_condact at (drop place bytes.now) }
+{
+    match from_place(bytes, place) {
+        [_, _, count, condacts @ ..] => condact_of(at, *count, condacts),
+        _ => None,
+    }
+}
+
+/// A row up to so many condacts.
+fn up_to<'a>(row: &'a [u8], count: u8, condacts: &[u8]) -> Option<&'a [u8]>
+    ensures value { option_copied result ≡ up_to row.now (each past_condact count condacts.now) }
+{
+    match past_condacts(count, condacts) {
+        Ok(after) => Some(&row[..row.len().saturating_sub(after.len())]),
+        Err(_) => None,
+    }
+}
+
+/// The bytes of the entry that begins at a place.
+#[tactic(auto, unfolding(crate::specs::Rows::entry_here))]
+pub fn entry_in(bytes: &[u8], place: u32) -> Option<&[u8]>
+    ensures value { option_copied result ≡ entry_here (drop place bytes.now) }
+{
+    let row = from_place(bytes, place);
+    match row {
+        [_, _, count, condacts @ ..] => up_to(row, *count, condacts),
+        _ => None,
+    }
+}

@@ -1,0 +1,86 @@
+// The first rule of an image that bytes break.
+
+ghost use Rattle.std.specs.Prelude.{◌≡◌, ◌≤◌, ◌<◌, ◌^◌, length, IfOk, OnOk, Some, None};
+ghost use Rattle.paw_game.specs.Game.{GameLists};
+ghost use Rattle.paw_image.specs.Damage.{front, after_all, bad};
+ghost use Rattle.paw_image.specs.Images.{IsImage, AtDamage, IfDamaged};
+ghost use Rattle.paw_image.specs.Places.{IsPassed};
+ghost use Rattle.paw_image.specs.Reading.{Gives};
+ghost use Rattle.paw_image.specs.declared.TheConstants.{IMAGE_LIMIT};
+
+use crate::fault::ReadFault;
+use crate::head::{pass_version, read_counts_kept};
+use crate::places::{Places, pass_lists};
+use crate::refusal::ImageRefusal;
+use crate::rules::Rules;
+use crate::words::read_words;
+use paw_base::parts::Counts;
+use paw_game::parts::Word;
+use std::alloc::Global;
+
+/// The counts and the words of an image, and where its other rows begin.
+#[derive(Drop)]
+pub struct Passed {
+    pub counts: Counts,
+    pub words: Vec<Word>,
+    pub places: Places,
+}
+
+/// Goes over mark, version, counts and words: the rules that come of them, and the bytes after them.
+#[tactic(auto, unfolding(crate::specs::Damage::front))]
+fn pass_front(alloc: Global, bytes: &[u8]) -> Result<(Rules, &[u8]), ReadFault>
+    ensures gives { Gives (λ x. (x.0, x.1.now)) result (front bytes.now) }
+{
+    let rest = pass_version(bytes)?;
+    let (counts, rest) = read_counts_kept(rest)?;
+    let (words, rest) = read_words(alloc, counts.words as usize, rest)?;
+    Ok((Rules::new(counts, words), rest))
+}
+
+/// Goes over all fields of an image: what they say of places, and the bytes after the last.
+#[tactic(auto, unfolding(crate::specs::Damage::after_all))]
+fn pass_all(alloc: Global, bytes: &[u8]) -> Result<(Passed, &[u8]), ReadFault>
+    requires small { length bytes.now < 2 ^ 32 }
+    ensures gives { Gives (λ x. x.1.now) result (after_all bytes.now) }
+    ensures passed { IfOk result (λ x. IsPassed bytes.now x.0.counts x.0.words.items x.0.places) }
+{
+    let (rules, rest) = pass_front(alloc, bytes)?;
+    let (places, rest) = pass_lists(alloc, &rules, bytes, rest)?;
+    let (counts, words) = rules.into_parts();
+    let passed = Passed {
+        counts,
+        words,
+        places,
+    };
+    Ok((passed, rest))
+}
+
+/// Goes over bytes that are to be an image: what they say of places, or the place of the first broken rule.
+#[tactic(auto, unfolding(crate::specs::Damage::bad))]
+pub fn pass_whole(alloc: Global, bytes: &[u8]) -> Result<Passed, ImageRefusal>
+    requires short { length bytes.now ≤ IMAGE_LIMIT }
+    ensures whole { OnOk result (bad bytes.now ≡ None) }
+    ensures passed { IfOk result (λ p. IsPassed bytes.now p.counts p.words.items p.places) }
+    ensures at { IfDamaged result (λ at. bad bytes.now ≡ Some at) }
+{
+    let left = match pass_all(alloc, bytes) {
+        Ok((passed, [])) => return Ok(passed),
+        Ok((_, rest)) => rest.len(),
+        Err(ReadFault::Damaged { left }) => left,
+        Err(ReadFault::Memory) => return Err(ImageRefusal::Memory),
+    };
+    let at = bytes.len().saturating_sub(left) as u64;
+    Err(ImageRefusal::Damaged { at })
+}
+
+/// The refusal of bytes that are no image.
+pub fn damage(alloc: Global, bytes: &[u8]) -> ImageRefusal
+    requires short { length bytes.now ≤ IMAGE_LIMIT }
+    requires none { (g : GameLists) → ¬ IsImage bytes.now g }
+    ensures at { AtDamage result (λ at. bad bytes.now ≡ Some at) }
+{
+    match pass_whole(alloc, bytes) {
+        Ok(_) => unreachable!(),
+        Err(refusal) => refusal,
+    }
+}

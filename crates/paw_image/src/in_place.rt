@@ -1,0 +1,62 @@
+// The rows of an image, gone over where they stand: each field is tested by its rule.
+
+ghost use Rattle.std.specs.Prelude.{◌≡◌, ◌≤◌, ◌<◌, ◌^◌, IfOk, length};
+ghost use Rattle.paw_image.specs.Damage.{each};
+ghost use Rattle.paw_image.specs.Places.{begins};
+ghost use Rattle.paw_image.specs.Reading.{Gives};
+
+use crate::fault::ReadFault;
+use crate::rules::Rules;
+use std::alloc::Global;
+
+/// What an image has a list of, gone over in place.
+pub trait InPlace {
+    ghost use Rattle.std.specs.Prelude.{List, ℕ};
+    ghost use Rattle.paw_image.specs.Damage.{Declared, Passing};
+    ghost use Rattle.paw_image.specs.Reading.{Gives};
+
+    /// The bytes after the row at the front, or its first fault.
+    ghost passing: { Declared → List ℕ → Passing };
+
+    /// The bytes after the row at the front, where each of its fields keeps its rule.
+    fn pass<'a>(rules: &Rules, bytes: &'a [u8]) -> Result<&'a [u8], ReadFault>
+        ensures gives { Gives (λ x. x.now) result (passing rules.now bytes.now) };
+}
+
+/// The bytes after so many rows.
+#[tactic(auto, unfolding(crate::specs::Damage::each))]
+pub fn pass_each<'a, R: InPlace>(
+    rules: &Rules,
+    count: usize,
+    bytes: &'a [u8],
+) -> Result<&'a [u8], ReadFault>
+    ensures gives { Gives (λ x. x.now) result (each (R.passing rules.now) count bytes.now) }
+{
+    let mut rest = bytes;
+    for _ in 0..count {
+        rest = R::pass(rules, rest)?;
+    }
+    Ok(rest)
+}
+
+/// Goes over so many rows at the front of the last of so many bytes: where each begins, and the bytes after them.
+pub fn pass_rows<'a, R: InPlace>(
+    alloc: Global,
+    rules: &Rules,
+    count: usize,
+    total: usize,
+    bytes: &'a [u8],
+) -> Result<(Vec<u32>, &'a [u8]), ReadFault>
+    requires small { total < 2 ^ 32 }
+    ensures gives { Gives (λ x. x.1.now) result (each (R.passing rules.now) count bytes.now) }
+    ensures places { IfOk result (λ x. x.0.items ≡ begins (R.passing rules.now) total count bytes.now) }
+    ensures many { IfOk result (λ x. length x.0.items ≤ count) }
+{
+    let mut places = Vec::new(alloc);
+    let mut rest = bytes;
+    for _ in 0..count {
+        places.push(total.saturating_sub(rest.len()) as u32)?;
+        rest = R::pass(rules, rest)?;
+    }
+    Ok((places, rest))
+}

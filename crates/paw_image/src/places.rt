@@ -1,0 +1,122 @@
+// Where the rows of an image begin.
+
+ghost use Rattle.std.specs.Prelude.{◌≡◌, ◌<◌, ◌^◌, IfOk, length};
+ghost use Rattle.std.specs.List.{AllByRecursion};
+ghost use Rattle.paw_image.specs.Damage.{each, after_lists, after_table};
+ghost use Rattle.paw_image.specs.Orders.{IsOrder};
+ghost use Rattle.paw_image.specs.Places.{begins, entries_begin, entries_of, tables_begin, AreGoneOver};
+ghost use Rattle.paw_image.specs.Reading.{Gives};
+ghost use Rattle.paw_image.specs.Views.{AreOrdered};
+
+use crate::fault::ReadFault;
+use crate::fields::read_within;
+use crate::in_place::pass_rows;
+use crate::order::{Head, order_of};
+use crate::rules::Rules;
+use paw_game::limits::ENTRY_LIMIT;
+use paw_game::parts::{Entry, Exits, ObjectRow, Text};
+use std::alloc::Global;
+
+/// Where the entries of a table begin, and the entries in order of verb.
+#[derive(Drop)]
+pub struct TableIndex {
+    pub entries: Vec<u32>,
+    pub order: Vec<Head>,
+}
+
+/// Where the rows of each list begin.
+#[derive(Drop)]
+pub struct Places {
+    pub system: Vec<u32>,
+    pub messages: Vec<u32>,
+    pub objects: Vec<u32>,
+    pub locations: Vec<u32>,
+    pub exits: Vec<u32>,
+    pub tables: Vec<TableIndex>,
+}
+
+/// Goes over the table at the front of the last of all bytes: its index, and the bytes after it.
+#[tactic(auto, unfolding(crate::specs::Damage::after_table, crate::specs::Places::entries_begin))]
+fn pass_table<'a>(
+    alloc: Global,
+    rules: &Rules,
+    all: &[u8],
+    bytes: &'a [u8],
+) -> Result<(TableIndex, &'a [u8]), ReadFault>
+    requires small { length all.now < 2 ^ 32 }
+    ensures gives { Gives (λ x. x.1.now) result (after_table rules.now bytes.now) }
+    ensures entries { IfOk result (λ x. x.0.entries.items ≡ entries_begin rules.now (length all.now) bytes.now) }
+    ensures order { IfOk result (λ x. IsOrder all.now x.0.entries.items x.0.order.items) }
+{
+    let (count, rest) = read_within(0, ENTRY_LIMIT, bytes)?;
+    let (entries, rest) = pass_rows::<Entry>(alloc, rules, count as usize, all.len(), rest)?;
+    let order = order_of(alloc, all, &entries)?;
+    Ok((TableIndex { entries, order }, rest))
+}
+
+/// Goes over so many tables: the index of each, and the bytes after them.
+fn pass_tables<'a>(
+    alloc: Global,
+    rules: &Rules,
+    count: usize,
+    all: &[u8],
+    bytes: &'a [u8],
+) -> Result<(Vec<TableIndex>, &'a [u8]), ReadFault>
+    requires small { length all.now < 2 ^ 32 }
+    ensures gives { Gives (λ x. x.1.now) result (each (after_table rules.now) count bytes.now) }
+    ensures entries { IfOk result (λ x. entries_of x.0.items ≡ tables_begin rules.now (length all.now) count bytes.now) }
+    ensures order { IfOk result (λ x. AllByRecursion (λ t. IsOrder all.now t.entries.items t.order.items) x.0.items) }
+{
+    let mut tables = Vec::new(alloc);
+    let mut rest = bytes;
+    for _ in 0..count {
+        let (table, after) = pass_table(alloc, rules, all, rest)?;
+        tables.push(table)?;
+        rest = after;
+    }
+    Ok((tables, rest))
+}
+
+/// Goes over the lists after the words: where their rows begin, and the bytes after them.
+#[tactic(auto, unfolding(crate::specs::Damage::after_lists))]
+pub fn pass_lists<'a>(
+    alloc: Global,
+    rules: &Rules,
+    all: &[u8],
+    bytes: &'a [u8],
+) -> Result<(Places, &'a [u8]), ReadFault>
+    requires small { length all.now < 2 ^ 32 }
+    ensures gives { Gives (λ x. x.1.now) result (after_lists rules.now bytes.now) }
+    ensures over { IfOk result (λ x. AreGoneOver rules.now (length all.now) bytes.now x.0) }
+    ensures order { IfOk result (λ x. AreOrdered all.now x.0) }
+{
+    let counts = rules.counts();
+    let total = all.len();
+    let (system, rest) = pass_rows::<Text>(alloc, rules, counts.system as usize, total, bytes)?;
+    let (messages, rest) = pass_rows::<Text>(alloc, rules, counts.messages as usize, total, rest)?;
+    let (objects, rest) = pass_rows::<ObjectRow>(
+        alloc,
+        rules,
+        counts.objects as usize,
+        total,
+        rest,
+    )?;
+    let (locations, rest) = pass_rows::<Text>(
+        alloc,
+        rules,
+        counts.locations as usize,
+        total,
+        rest,
+    )?;
+    let (exits, rest) = pass_rows::<Exits>(alloc, rules, counts.locations as usize, total, rest)?;
+    let (tables, rest) = pass_tables(alloc, rules, counts.tables as usize, all, rest)?;
+    let places = Places {
+        system,
+        messages,
+        objects,
+        locations,
+        exits,
+        tables,
+    };
+    Ok((places, rest))
+}

@@ -1,0 +1,181 @@
+// A game read in place, in the bytes of its image.
+
+ghost use Rattle.std.specs.Prelude.{◌≡◌, Some, slice_get, IfOk, OnOk};
+ghost use Rattle.std.specs.List.Sorted.{IsNonDecreasingBy};
+ghost use Rattle.std.specs.Option.{option_copied, option_map};
+ghost use Rattle.paw_game.specs.Game.{GameLists};
+ghost use Rattle.paw_game.specs.Image.{entry_image};
+ghost use Rattle.paw_game.specs.Tables.{entry_at, or_empty};
+ghost use Rattle.paw_image.specs.Damage.{bad};
+ghost use Rattle.paw_image.specs.Images.{IsImage, IfDamaged};
+ghost use Rattle.paw_image.specs.Places.{entries_of, entry_places};
+ghost use Rattle.paw_image.specs.Views.{game_of, rows_begin, span_at, tables_begin_at};
+
+use crate::IMAGE_LIMIT;
+use crate::at_place::{condact_in, entry_in, exit_at, facts_in, head_in, text_in};
+use crate::damage::pass_whole;
+use crate::order::next_in;
+use crate::places::{Places, TableIndex};
+use crate::refusal::ImageRefusal;
+use paw_base::parts::{Condact, Counts, ObjectFacts};
+use paw_game::lookup::word_of;
+use paw_game::parts::{GamePart, Word};
+use paw_game::tables::Tables;
+use std::alloc::Global;
+use std::marker::Model;
+
+/// A valid game in the bytes of its image: texts and entries are lent out of them. It keeps the words, where each text,
+/// the exits of each location and each entry begin, and the entries of each table in order of verb. Contracts see the
+/// bytes.
+#[derive(Drop)]
+pub struct View<'a> {
+    bytes: &'a [u8],
+    counts: Counts,
+    words: Vec<Word>,
+    places: Places,
+}
+
+impl<'a> Model for View<'a> {
+    ghost use Rattle.std.specs.Prelude.{List, ℕ};
+    ghost use Rattle.paw_image.specs.Views.{IsIndex};
+
+    ghost Value = { List ℕ };
+
+    ghost view = { λ v. v.bytes.now };
+
+    ghost invariant = { λ v. IsIndex v.bytes.now v.counts v.words.items v.places };
+}
+
+/// Where a row of this number begins.
+fn place_in(places: &[u32], number: u8) -> Option<u32>
+    ensures value { result ≡ slice_get places.now number }
+{
+    places.get(number as usize).copied()
+}
+
+/// The index of a table.
+fn index_of(tables: &[TableIndex], table: u8) -> Option<&TableIndex>
+    ensures value { option_copied result ≡ slice_get tables.now table }
+{
+    tables.get(table as usize)
+}
+
+/// Where an entry begins.
+fn entry_place(tables: &[TableIndex], table: u8, entry: u16) -> Option<u32>
+    ensures value { result ≡ slice_get (or_empty (slice_get (entries_of tables.now) table)) entry }
+{
+    let index = tables.get(table as usize)?;
+    index.entries.get(entry as usize).copied()
+}
+
+impl<'a> View<'a> {
+    /// The game whose image the bytes are, read in place.
+    ///
+    /// # Errors
+    /// As `decode`: Damaged exactly where the bytes aren't the image of a valid game, or more than 4,194,304; the place is
+    /// that of the first field, in order, that breaks its rule or isn't all there. Memory only for want of memory.
+    pub fn new(alloc: Global, bytes: &'a [u8]) -> Result<View<'a>, ImageRefusal>
+        ensures bytes { IfOk result (λ view. view ≡ bytes.now) }
+        ensures found { OnOk result (IsImage bytes.now (game_of bytes.now)) }
+        ensures damaged { IfDamaged result (λ _. (g : GameLists) → ¬ IsImage bytes.now g) }
+        ensures at { IfDamaged result (λ at. bad bytes.now ≡ Some at) }
+    {
+        if bytes.len() > IMAGE_LIMIT {
+            let at = IMAGE_LIMIT as u64;
+            return Err(ImageRefusal::Damaged { at });
+        }
+        match pass_whole(alloc, bytes) {
+            Ok(passed) => Ok(View {
+                bytes,
+                counts: passed.counts,
+                words: passed.words,
+                places: passed.places,
+            }),
+            Err(refusal) => Err(refusal),
+        }
+    }
+
+    /// The bytes of the image.
+    pub fn bytes(&self) -> &'a [u8]
+        ensures value { result.now ≡ self.now }
+        ensures image { IsImage self.now (game_of self.now) }
+    {
+        self.bytes
+    }
+
+    /// Where a row begins of a part that has texts.
+    fn place(&self, part: GamePart, number: u8) -> Option<u32>
+        ensures value { result ≡ slice_get (rows_begin (game_of self.now) part) number }
+    {
+        let places = &self.places;
+        let number = number as usize;
+        match part {
+            GamePart::System => places.system.get(number).copied(),
+            GamePart::Messages => places.messages.get(number).copied(),
+            GamePart::Objects => places.objects.get(number).copied(),
+            GamePart::Locations => places.locations.get(number).copied(),
+            GamePart::Words | GamePart::Exits | GamePart::Tables => None,
+        }
+    }
+
+    /// The places of the bytes between which a text stands; None exactly where there is no such text.
+    pub fn span(&self, part: GamePart, number: u8) -> Option<(usize, usize)>
+        ensures value { result ≡ span_at (game_of self.now) part number }
+    {
+        let place = self.place(part, number)?;
+        let text = text_in(self.bytes, place)?;
+        let from = place as usize + 2;
+        Some((from, from + text.len()))
+    }
+
+    /// The bytes of an entry, its verb first; None exactly where there is no such entry.
+    pub fn entry(&self, table: u8, number: u16) -> Option<&'a [u8]>
+        ensures value { option_copied result ≡ option_map entry_image (entry_at (game_of self.now) table number) }
+    {
+        let place = entry_place(&self.places.tables, table, number)?;
+        entry_in(self.bytes, place)
+    }
+}
+
+impl<'a> Tables for View<'a> {
+    ghost game = { game_of };
+
+    fn counts(&self) -> Counts {
+        self.counts
+    }
+
+    fn facts(&self, object: u8) -> Option<ObjectFacts> {
+        let place = self.place(GamePart::Objects, object)?;
+        facts_in(self.bytes, place)
+    }
+
+    fn text(&self, part: GamePart, number: u8) -> Option<&[u8]> {
+        let place = self.place(part, number)?;
+        text_in(self.bytes, place)
+    }
+
+    fn exit(&self, location: u8, verb: u8) -> Option<u8> {
+        let place = place_in(&self.places.exits, location)?;
+        exit_at(self.bytes, place, verb)
+    }
+
+    fn head(&self, table: u8, entry: u16) -> Option<(u8, u8)> {
+        let place = entry_place(&self.places.tables, table, entry)?;
+        head_in(self.bytes, place)
+    }
+
+    fn condact(&self, table: u8, entry: u16, at: u8) -> Option<Condact> {
+        let place = entry_place(&self.places.tables, table, entry)?;
+        condact_in(self.bytes, place, at)
+    }
+
+    fn next_match(&self, table: u8, from: u16, verb: u8, noun: u8) -> Option<u16> {
+        let index = index_of(&self.places.tables, table)?;
+        next_in(&index.order, from, verb, noun)
+    }
+
+    fn word(&self, letters: &[u8; 5]) -> Option<(u8, u8)> {
+        let word = word_of(letters, &self.words)?;
+        Some((word.value, word.class))
+    }
+}

@@ -1,0 +1,86 @@
+-- What a commit leaves.
+use Rattle.std.proofs.Common.{◌≡◌, ℕ, ◌+◌, ◌-◌, ◌≤◌, ◌<◌, List, length, take, refl, sym, ap, ◌∙◌, arith}
+use Rattle.std.specs.Prelude.{Option, Some}
+use Rattle.paw_stage.specs.Stage.{Standing}
+use Rattle.paw_journal.specs.declared.layout.Slot.{Slot}
+use Rattle.paw_journal.specs.declared.layout.Slot.TheVariants as which
+use Rattle.paw_journal.specs.declared.drafting.SlotState.{SlotState}
+use Rattle.paw_journal.specs.declared.drafting.Draft.{Draft}
+use Rattle.paw_journal.specs.Session.{Shown, recover, recover_by, chosen, slot, slot_shows, stretch, kept_digest, piece_length, state_length}
+use Rattle.paw_journal.specs.Room.{Room, kept_slot, kept_of, with_kept, KeepsSlots}
+use Rattle.paw_journal.specs.Written.{most_written}
+use Rattle.paw_journal.specs.Steps.{IsFilling, Drafts, written_slot}
+use Rattle.paw_journal.specs.Journal.{slot_number, IsAtRest, Keeps}
+use Rattle.paw_journal.proofs.Recovers.{recover_made}
+use Rattle.paw_journal.proofs.Kept.{IsKept, is_kept, kept_shows, written_piece}
+use Rattle.paw_journal.proofs.Slots.{state_stays, piece_stays}
+use Rattle.paw_journal.proofs.Fills.{filled_made, filled_digest, slot_long}
+
+-- what a room keeps of a slot
+pub keeps_of : (w : Slot) (room : Room) (bytes : List ℕ) → KeepsSlots room bytes → kept_of w room ≡ kept_slot (slot (slot_number w) bytes)
+keeps_of which.First room bytes h = h.first
+keeps_of which.Second room bytes h = h.second
+
+module _ (k : ℕ) (draft : Draft) (kept : Option SlotState) (state bytes piece : List ℕ) (s t : Standing) (f : IsFilling k s t) (d : Drafts kept state bytes draft) (e : kept ≡ kept_slot (slot k s.disk.bytes)) (w : slot k t.disk.bytes ≡ written_slot draft bytes piece (slot k s.disk.bytes)) (short : length piece ≤ 65535) where
+  long : length (slot k s.disk.bytes) ≡ 86080
+  long = slot_long k s.disk.bytes f.low f.made.long
+
+  -- the slot has the new state
+  pub committed_kept : kept_slot (slot k t.disk.bytes) ≡ Some (record { records = draft.records; state = state })
+  committed_kept = ap kept_slot w ∙ d.gives (slot k s.disk.bytes) piece long (sym e) short
+
+  -- and shows it with the new piece
+  pub committed_shows : piece_length state ≡ length piece → recover_by k t.disk.bytes ≡ Shown (kept_digest s.disk.bytes) (take state_length state) piece
+  committed_shows names =
+      let h : IsKept (slot k t.disk.bytes) draft.records state = is_kept (slot k t.disk.bytes) draft.records state committed_kept in
+      let p : stretch 4160 (piece_length state) (slot k t.disk.bytes) ≡ piece =
+      ap (λ n. stretch 4160 n (slot k t.disk.bytes)) names
+      ∙ (ap (stretch 4160 (length piece)) w ∙ written_piece draft.records draft.at bytes piece (slot k s.disk.bytes) long d.inside short h.few) in
+      recover_made k t.disk.bytes (filled_made k s t f)
+      ∙ (ap (λ x. slot_shows x (slot k t.disk.bytes)) (filled_digest k s t f)
+      ∙ (kept_shows (kept_digest s.disk.bytes) (slot k t.disk.bytes) draft.records state h ∙ ap (Shown (kept_digest s.disk.bytes) (take state_length state)) p))
+
+-- the states of both slots afterwards
+pub committed_slots : (w : Slot) (x : Option SlotState) (old now : Room) (a b c : List ℕ) → KeepsSlots old a → now.first ≡ (with_kept w x old).first → now.second ≡ (with_kept w x old).second → slot (1 - slot_number w) b ≡ slot (1 - slot_number w) a → kept_slot (slot (slot_number w) b) ≡ x → ((k : ℕ) → k < 2 → slot k c ≡ slot k b) → KeepsSlots now c
+committed_slots which.First x old now a b c h f g o n same = record {
+  first = f ∙ (sym n ∙ ap kept_slot (sym (same 0 (omega arith))));
+  second = g ∙ (h.second ∙ (ap kept_slot (sym o) ∙ ap kept_slot (sym (same 1 (omega arith)))));
+}
+committed_slots which.Second x old now a b c h f g o n same = record {
+  first = f ∙ (h.first ∙ (ap kept_slot (sym o) ∙ ap kept_slot (sym (same 0 (omega arith)))));
+  second = g ∙ (sym n ∙ ap kept_slot (sym (same 1 (omega arith))));
+}
+
+-- how much it wrote
+pub committed_few : (w : Slot) (k : ℕ) (room : Room) (old bytes state piece : List ℕ) (draft : Draft) → KeepsSlots room old → slot_number w ≡ k → Drafts (kept_of w room) state bytes draft → length bytes + length piece + 4 ≤ most_written (kept_slot (slot k old)) state piece
+committed_few w k room old bytes state piece draft h e d =
+    let f : kept_of w room ≡ kept_slot (slot k old) = keeps_of w room old h ∙ ap (λ j. kept_slot (slot j old)) e in
+    rw (← f) (d.few piece)
+
+pub committed_part : (old now bytes piece most : ℕ) → now ≤ old + (bytes + piece + 3) → bytes + piece + 4 ≤ most → now ≤ old + most
+committed_part old now bytes piece most h k = omega arith
+
+pub committed_all : (old mid now bytes piece most : ℕ) → mid ≤ old + (bytes + piece + 3) → now ≤ mid + 1 → bytes + piece + 4 ≤ most → now ≤ old + most
+committed_all old mid now bytes piece most h j k = omega arith
+
+-- the session is kept once it is committed
+same_first : (w : Slot) (x : Option SlotState) (a b : Room) → a.first ≡ b.first → (with_kept w x a).first ≡ (with_kept w x b).first
+same_first which.First x a b e = refl
+same_first which.Second x a b e = e
+
+same_second : (w : Slot) (x : Option SlotState) (a b : Room) → a.second ≡ b.second → (with_kept w x a).second ≡ (with_kept w x b).second
+same_second which.First x a b e = e
+same_second which.Second x a b e = refl
+
+pub committed_keeps : (w : Slot) (x : SlotState) (old drafted held now : Room) (state piece : List ℕ) (s t u : Standing) → KeepsSlots old s.disk.bytes → drafted ≡ record old { slot = drafted.slot } → held ≡ record drafted { state = state; piece = piece } → now ≡ with_kept w (Some x) held → IsAtRest u → chosen u.disk.bytes ≡ slot_number w → recover u.disk.bytes ≡ Shown (kept_digest s.disk.bytes) (take state_length state) piece → kept_digest u.disk.bytes ≡ kept_digest s.disk.bytes → slot (1 - slot_number w) t.disk.bytes ≡ slot (1 - slot_number w) s.disk.bytes → kept_slot (slot (slot_number w) t.disk.bytes) ≡ Some x → ((k : ℕ) → k < 2 → slot k u.disk.bytes ≡ slot k t.disk.bytes) → Keeps (record { slot = w }) now u
+committed_keeps w x old drafted held now state piece s t u h d e f rests chooses shows digest other new same =
+    let a : now.state ≡ state = ap (λ r. r.state) f ∙ (state_stays w (Some x) held ∙ ap (λ r. r.state) e) in
+    let b : now.piece ≡ piece = ap (λ r. r.piece) f ∙ (piece_stays w (Some x) held ∙ ap (λ r. r.piece) e) in
+    let one : held.first ≡ old.first = ap (λ r. r.first) e ∙ ap (λ r. r.first) d in
+    let two : held.second ≡ old.second = ap (λ r. r.second) e ∙ ap (λ r. r.second) d in
+    record {
+      rests = rests;
+      chosen = chooses;
+      shown = shows ∙ (ap (λ y. Shown y (take state_length state) piece) (sym digest) ∙ (ap (λ l. Shown (kept_digest u.disk.bytes) (take state_length l) piece) (sym a) ∙ ap (Shown (kept_digest u.disk.bytes) (take state_length now.state)) (sym b)));
+      slots = committed_slots w (Some x) old now s.disk.bytes t.disk.bytes u.disk.bytes h (ap (λ r. r.first) f ∙ same_first w (Some x) held old one) (ap (λ r. r.second) f ∙ same_second w (Some x) held old two) other new same;
+    }

@@ -1,0 +1,214 @@
+-- What a slot holds, and what it holds once a commit has written it.
+use Rattle.std.proofs.Common.{◌≡◌, ℕ, ◌+◌, ◌*◌, ◌/◌, ◌%◌, ◌≤◌, ◌<◌, Bool, true, false, List, ◌++◌, length, take, refl, sym, ap, subst, ◌∙◌, arith}
+use Rattle.std.specs.Prelude.{Option, Some, None, if◌then◌else◌, is_none, nat_le, ◌&&◌}
+use Rattle.std.proofs.lemmas.Bool.Decides.{nat_tests}
+use Rattle.paw_stage.specs.Disk.{put}
+use Rattle.paw_journal.specs.declared.refusal.SessionPart.TheVariants as part
+use Rattle.paw_journal.specs.declared.drafting.SlotState.{SlotState}
+use Rattle.paw_journal.specs.declared.drafting.Draft.{Draft}
+use Rattle.paw_journal.specs.Session.{Damaged, Shown, stretch, number_at, base, changes, changed, first_unsound, slot_changes, slot_state, is_second, has_state, shown_state, first_length, zeros, slot_piece, slot_shows, shown_unless, most_changes, piece_length, state_length}
+use Rattle.paw_journal.specs.Room.{kept_slot}
+use Rattle.paw_journal.specs.Written.{differing, most_written}
+use Rattle.paw_journal.specs.Steps.{Turns, Drafts, slot_head}
+use Rattle.paw_journal.proofs.Puts.{stretch_long, put_long, stretch_past, stretch_before, stretch_written, stretch_behind}
+use Rattle.paw_journal.proofs.Turning.{changes-append, changed-append, sound-append}
+
+-- A slot of version 2 has this state, after so many change records.
+pub record IsKept (bytes : List ℕ) (records : ℕ) (state : List ℕ) : Type 0 where
+  pub second : is_second bytes ≡ true
+  pub number : number_at 0 bytes ≡ records
+  pub few : records ≤ 4096
+  pub sound : first_unsound (changes (stretch 69696 (4 * records) bytes)) ≡ None
+  pub told : changed (changes (stretch 69696 (4 * records) bytes)) (base bytes) ≡ state
+
+holds_state : (bytes : List ℕ) (n : ℕ) (unsound : Option ℕ) → n ≤ 4096 → unsound ≡ None → (nat_le n most_changes && is_none unsound) ≡ true
+holds_state bytes n unsound low e = ap (λ o. nat_le n most_changes && is_none o) e ∙ grind (arith, nat_tests)
+
+pub has_state_is : (bytes : List ℕ) → number_at 0 bytes ≤ 4096 → first_unsound (slot_changes bytes) ≡ None → has_state bytes ≡ true
+has_state_is bytes low e = holds_state bytes (number_at 0 bytes) (first_unsound (slot_changes bytes)) low e
+
+pub kept_of_both : (bytes : List ℕ) → is_second bytes ≡ true → has_state bytes ≡ true → kept_slot bytes ≡ Some (record { records = number_at 0 bytes; state = slot_state bytes })
+kept_of_both bytes e f = both (is_second bytes) (has_state bytes) (Some (record { records = number_at 0 bytes; state = slot_state bytes })) e f
+  where
+    both : (a b : Bool) (x : Option SlotState) → a ≡ true → b ≡ true → (if a && b then x else None) ≡ x
+    both a b x e f = ap (λ t. if t && b then x else None) e ∙ ap (λ t. if t then x else None) f
+
+pub kept_of_first : (bytes : List ℕ) → is_second bytes ≡ false → kept_slot bytes ≡ None
+kept_of_first bytes e = ap (λ t. if t && has_state bytes then Some (record { records = number_at 0 bytes; state = slot_state bytes }) else None) e
+
+pub kept_of_broken : (bytes : List ℕ) → has_state bytes ≡ false → kept_slot bytes ≡ None
+kept_of_broken bytes e = neither (is_second bytes) (has_state bytes) (Some (record { records = number_at 0 bytes; state = slot_state bytes })) e
+  where
+    neither : (a b : Bool) (x : Option SlotState) → b ≡ false → (if a && b then x else None) ≡ None
+    neither true b x e = ap (λ t. if t then x else None) e
+    neither false b x e = refl
+
+pub kept_is : (bytes : List ℕ) (records : ℕ) (state : List ℕ) → IsKept bytes records state → kept_slot bytes ≡ Some (record { records = records; state = state })
+kept_is bytes records state h =
+    let r : stretch 69696 (4 * number_at 0 bytes) bytes ≡ stretch 69696 (4 * records) bytes = ap (λ n. stretch 69696 (4 * n) bytes) h.number in
+    let t : has_state bytes ≡ true = has_state_is bytes (omega (arith, h.number, h.few)) (ap (λ l. first_unsound (changes l)) r ∙ h.sound) in
+    let s : slot_state bytes ≡ state = ap (λ l. changed (changes l) (base bytes)) r ∙ h.told in
+    kept_of_both bytes h.second t
+    ∙ (ap (λ n. Some (record { records = n; state = slot_state bytes })) h.number ∙ ap (λ l. Some (record { records = records; state = l })) s)
+
+tests : (n : ℕ) (unsound : Option ℕ) → (nat_le n most_changes && is_none unsound) ≡ true → (n ≤ 4096) × (unsound ≡ None)
+tests n None e = (grind (arith, nat_tests), refl)
+tests n (Some k) e = absurd (never (nat_le n most_changes) e)
+  where
+    never : (b : Bool) → (b && false) ≡ true → ⊥
+    never true e = cc
+    never false e = cc
+
+pub state_has : (bytes : List ℕ) → is_second bytes ≡ true → has_state bytes ≡ true → IsKept bytes (number_at 0 bytes) (slot_state bytes)
+state_has bytes f e =
+    let t = tests (number_at 0 bytes) (first_unsound (slot_changes bytes)) e in
+    record { second = f; number = refl; few = t.0; sound = t.1; told = refl }
+
+kept_some : (a b : Bool) (x : SlotState) (records : ℕ) (state : List ℕ) → (if a && b then Some x else None) ≡ Some (record { records = records; state = state }) → (a ≡ true) × (b ≡ true) × (x.records ≡ records) × (x.state ≡ state)
+kept_some true true x records state e = (refl, refl, cc, cc)
+kept_some true false x records state e = absurd (cc e)
+kept_some false b x records state e = absurd (cc e)
+
+pub is_kept : (bytes : List ℕ) (records : ℕ) (state : List ℕ) → kept_slot bytes ≡ Some (record { records = records; state = state }) → IsKept bytes records state
+is_kept bytes records state e =
+    let k = kept_some (is_second bytes) (has_state bytes) (record { records = number_at 0 bytes; state = slot_state bytes }) records state e in
+    let h = state_has bytes k.0 k.1 in
+    let r : stretch 69696 (4 * records) bytes ≡ stretch 69696 (4 * number_at 0 bytes) bytes = ap (λ n. stretch 69696 (4 * n) bytes) (sym k.2) in
+    record {
+      second = k.0;
+      number = k.2;
+      few = omega (arith, k.2, h.few);
+      sound = ap (λ l. first_unsound (changes l)) r ∙ h.sound;
+      told = ap (λ l. changed (changes l) (base bytes)) r ∙ k.3;
+    }
+
+-- a slot that has a state shows it, in the form of its version
+pub sound_shows : (digest bytes : List ℕ) → has_state bytes ≡ true → slot_shows digest bytes ≡ Shown digest (shown_state bytes) (slot_piece bytes)
+unfolding slot_shows
+sound_shows digest bytes e =
+    let t = tests (number_at 0 bytes) (first_unsound (slot_changes bytes)) e in
+    ap (λ b. if b then shown_unless digest bytes (first_unsound (slot_changes bytes)) else Damaged part.Slot 0) (low (number_at 0 bytes) t.0)
+    ∙ ap (shown_unless digest bytes) t.1
+  where
+    low : (n : ℕ) → n ≤ 4096 → nat_le n most_changes ≡ true
+    low n h = grind (arith, nat_tests)
+
+pub kept_shows : (digest bytes : List ℕ) (records : ℕ) (state : List ℕ) → IsKept bytes records state → slot_shows digest bytes ≡ Shown digest (take state_length state) (stretch 4160 (piece_length state) bytes)
+kept_shows digest bytes records state h =
+    let r : stretch 69696 (4 * number_at 0 bytes) bytes ≡ stretch 69696 (4 * records) bytes = ap (λ n. stretch 69696 (4 * n) bytes) h.number in
+    let t : has_state bytes ≡ true = has_state_is bytes (omega (arith, h.number, h.few)) (ap (λ l. first_unsound (changes l)) r ∙ h.sound) in
+    let s : slot_state bytes ≡ state = ap (λ l. changed (changes l) (base bytes)) r ∙ h.told in
+    sound_shows digest bytes t
+    ∙ (ap (λ b. Shown digest (if b then take state_length (slot_state bytes) else take first_length (slot_state bytes) ++ zeros 2048) (slot_piece bytes)) h.second
+    ∙ ap (λ l. Shown digest (take state_length l) (stretch 4160 (piece_length l) bytes)) s)
+
+-- ---- a slot that was written ----
+
+head_number : (records : ℕ) (bytes : List ℕ) → records < 65536 → number_at 0 (put 0 (slot_head records) bytes) ≡ records
+head_number records bytes low = whole records (records % 256) (records / 256) refl refl
+  where
+    whole : (n a b : ℕ) → a ≡ n % 256 → b ≡ n / 256 → a + 256 * b ≡ n
+    whole n a b e f = omega arith
+
+module _ (records at : ℕ) (bytes piece old : List ℕ) (long : length old ≡ 86080) (fits : at + length bytes ≤ 86080) (short : length piece ≤ 65535) (few : records ≤ 4096) where
+  one : length (put at bytes old) ≡ 86080
+  one = put_long at bytes old (omega arith) ∙ long
+
+  two : length (put 4160 piece (put at bytes old)) ≡ 86080
+  two = put_long 4160 piece (put at bytes old) (omega (arith, one)) ∙ one
+
+  now : List ℕ
+  now = put 0 (slot_head records) (put 4160 piece (put at bytes old))
+
+  pub written_number : number_at 0 (put 0 (slot_head records) (put 4160 piece (put at bytes old))) ≡ records
+  written_number = head_number records (put 4160 piece (put at bytes old)) (omega arith)
+
+  -- the piece of a slot that was written
+  pub written_piece : stretch 4160 (length piece) (put 0 (slot_head records) (put 4160 piece (put at bytes old))) ≡ piece
+  written_piece =
+      stretch_past 4160 (length piece) 0 (slot_head records) (put 4160 piece (put at bytes old)) (omega arith) (omega (arith, two))
+      ∙ stretch_written 4160 piece (put at bytes old) (omega (arith, one))
+
+  pub written_base : stretch 64 4096 (put 0 (slot_head records) (put 4160 piece (put at bytes old))) ≡ stretch 64 4096 (put at bytes old)
+  written_base =
+      stretch_past 64 4096 0 (slot_head records) (put 4160 piece (put at bytes old)) (omega arith) (omega (arith, two))
+      ∙ stretch_before 64 4096 4160 piece (put at bytes old) (omega arith) (omega (arith, one))
+
+  pub written_records : (n : ℕ) → stretch 69696 n (put 0 (slot_head records) (put 4160 piece (put at bytes old))) ≡ stretch 69696 n (put at bytes old)
+  written_records n =
+      stretch_past 69696 n 0 (slot_head records) (put 4160 piece (put at bytes old)) (omega arith) (omega (arith, two))
+      ∙ stretch_past 69696 n 4160 piece (put at bytes old) (omega arith) (omega (arith, one))
+
+-- the base whole
+whole_gives : (state piece old : List ℕ) → length state ≡ 4096 → length old ≡ 86080 → length piece ≤ 65535 → IsKept (put 0 (slot_head 0) (put 4160 piece (put 64 state old))) 0 state
+whole_gives state piece old n long short = record {
+  second = refl;
+  number = written_number 0 64 state piece old long (omega arith) short (omega arith);
+  few = omega arith;
+  sound = refl;
+  told = written_base 0 64 state piece old long (omega arith) short (omega arith) ∙ (ap (λ k. stretch 64 k (put 64 state old)) (sym n) ∙ stretch_written 64 state old (omega arith));
+}
+
+-- change records behind those that stand
+behind_gives : (n c : ℕ) (was state records piece old : List ℕ) → IsKept old n was → Turns was state records → length records ≡ 4 * c → n + c ≤ 4096 → length old ≡ 86080 → length piece ≤ 65535 → IsKept (put 0 (slot_head (n + c)) (put 4160 piece (put (69696 + 4 * n) records old))) (n + c) state
+behind_gives n c was state records piece old h t l few long short =
+    let at = 69696 + 4 * n in
+    let fits : at + length records ≤ 86080 = omega (arith, l) in
+    let m : 4 * (n + c) ≡ 4 * n + length records = omega (arith, l) in
+    let r : stretch 69696 (4 * (n + c)) (put 0 (slot_head (n + c)) (put 4160 piece (put at records old))) ≡ stretch 69696 (4 * n) old ++ records =
+    written_records (n + c) at records piece old long fits short few (4 * (n + c))
+    ∙ (ap (λ k. stretch 69696 k (put at records old)) m ∙ stretch_behind 69696 (4 * n) at records old refl (omega (arith, long))) in
+    let q : length (stretch 69696 (4 * n) old) ≡ 4 * n = stretch_long 69696 (4 * n) old (omega (arith, h.few, long)) in
+    let all : changes (stretch 69696 (4 * (n + c)) (put 0 (slot_head (n + c)) (put 4160 piece (put at records old)))) ≡ changes (stretch 69696 (4 * n) old) ++ changes records =
+    ap changes r ∙ changes-append n (stretch 69696 (4 * n) old) records q in
+    let b : base (put 0 (slot_head (n + c)) (put 4160 piece (put at records old))) ≡ base old =
+    written_base (n + c) at records piece old long fits short few ∙ stretch_before 64 4096 at records old (omega arith) (omega (arith, long)) in
+    record {
+      second = refl;
+      number = written_number (n + c) at records piece old long fits short few;
+      few = few;
+      sound = ap first_unsound all ∙ sound-append (changes (stretch 69696 (4 * n) old)) (changes records) h.sound t.sound;
+      told =
+          ap (λ cs. changed cs (base (put 0 (slot_head (n + c)) (put 4160 piece (put at records old))))) all
+          ∙ (ap (changed (changes (stretch 69696 (4 * n) old) ++ changes records)) b
+          ∙ (changed-append (changes (stretch 69696 (4 * n) old)) (changes records) (base old)
+          ∙ (ap (changed (changes records)) h.told ∙ t.turned)));
+    }
+
+-- what a commit writes
+pub drafts_whole : (kept : Option SlotState) (state bytes : List ℕ) → bytes ≡ state → length state ≡ 4096 → ((piece : List ℕ) → 4224 + length piece ≤ most_written kept state piece) → Drafts kept state bytes (record { at = 64; records = 0 })
+drafts_whole kept state bytes e n most = record {
+  inside = omega (arith, ap length e);
+  gives = λ old piece long is short. kept_is (put 0 (slot_head 0) (put 4160 piece (put 64 bytes old))) 0 state (let h = whole_gives state piece old n long short in rw e h);
+  few = λ piece. omega (arith, most piece, ap length e);
+}
+
+pub drafts_behind : (n c : ℕ) (was state bytes : List ℕ) → Turns was state bytes → length bytes ≡ 4 * c → n + c ≤ 4096 → Drafts (Some (record { records = n; state = was })) state bytes (record { at = 69696 + 4 * n; records = n + c })
+drafts_behind n c was state bytes t l few = record {
+  inside = omega (arith, l);
+  gives = λ old piece long is short. kept_is (put 0 (slot_head (n + c)) (put 4160 piece (put (69696 + 4 * n) bytes old))) (n + c) state (behind_gives n c was state bytes piece old (is_kept old n was is) t l few long short);
+  few = λ piece. let d : differing was state ≡ c = omega (arith, l, t.many) in most n c (differing was state) (length bytes) (length piece) d l few;
+}
+  where
+    most : (n c d b p : ℕ) → d ≡ c → b ≡ 4 * c → n + c ≤ 4096 → b + p + 4 ≤ (if nat_le (n + d) most_changes then 128 + p + 4 * d else 4224 + p)
+    most n c d b p e l few = let h : nat_le (n + d) most_changes ≡ true = grind (arith, nat_tests) in rw h (omega arith)
+
+-- where there is no state, or there are too many changes, the base is written whole
+pub drafts_base : (state bytes : List ℕ) → bytes ≡ state → length state ≡ 4096 → Drafts None state bytes (record { at = 64; records = 0 })
+drafts_base state bytes e n = drafts_whole None state bytes e n (λ piece. omega arith)
+
+pub drafts_whole_as : (state bytes : List ℕ) (kept : Option SlotState) (draft : Draft) → bytes ≡ state → length state ≡ 4096 → kept ≡ None → draft ≡ record { at = 64; records = 0 } → Drafts kept state bytes draft
+drafts_whole_as state bytes kept draft e n is at = rw (is, at) (drafts_base state bytes e n)
+
+pub drafts_many : (kept : SlotState) (s m : ℕ) (state records bytes : List ℕ) (draft : Draft) → Turns kept.state state records → s ≡ kept.records → m ≡ length records → 4096 < s + m / 4 → bytes ≡ state → length state ≡ 4096 → draft ≡ record { at = 64; records = 0 } → Drafts (Some kept) state bytes draft
+drafts_many kept s m state records bytes draft t e f many b l at =
+    let d : differing kept.state state ≡ m / 4 = omega (arith, t.many) in
+    rw at (drafts_whole (Some kept) state bytes b l (λ piece. most kept.records s (m / 4) (differing kept.state state) (length piece) d e many))
+  where
+    most : (n s c d p : ℕ) → d ≡ c → s ≡ n → 4096 < s + c → 4224 + p ≤ (if nat_le (n + d) most_changes then 128 + p + 4 * d else 4224 + p)
+    most n s c d p e f many = let h : nat_le (n + d) most_changes ≡ false = grind (arith, nat_tests) in rw h (omega arith)
+
+pub drafts_few : (kept : SlotState) (s m : ℕ) (state bytes : List ℕ) → Turns kept.state state bytes → s ≡ kept.records → m ≡ length bytes → s + m / 4 ≤ 4096 → Drafts (Some kept) state bytes (record { at = 69696 + 4 * s; records = s + m / 4 })
+drafts_few kept s m state bytes t e f few =
+    subst (λ n. Drafts (Some kept) state bytes (record { at = 69696 + 4 * n; records = n + m / 4 })) (sym e)
+    (drafts_behind kept.records (m / 4) kept.state state bytes t (omega (arith, t.many)) (omega arith))

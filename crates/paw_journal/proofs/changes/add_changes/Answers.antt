@@ -1,0 +1,25 @@
+use Rattle.std.proofs.Common.{◌+◌, ◌<◌, ◌∙◌, length, arith, sym, refl, ap, subst}
+use Rattle.std.specs.Prelude.{vec_capacity}
+use Rattle.paw_journal.proofs.Turning.{TurnsTo, turns_none, turns_same, turns_other, at_next}
+use Rattle.paw_journal.proofs.changes.add_changes.Goals.{then-old-at, else-old-at}
+use Rattle.paw_journal.proofs.changes.add_changes.Goals as goal
+
+pub loop-at-init : goal.loop-at-init
+loop-at-init c = record { turns = turns_none _ _ _ c.requires.empty; capacity = omega arith }
+
+pub loop-at-preserved : goal.loop-at-preserved
+loop-at-preserved c =
+    let at = c.loop-at.at in
+    let h = c.loop-at.invariant.turns in
+    let low : at < length c.args.old.now = omega (arith, c.told-old, c.loop-at-test.true) in
+    elim c.if-old-at.branch [
+      | then-old-at w ↦ record {
+        turns = subst (λ r. TurnsTo c.args.old.now c.args.new.now (at + 1) r.items) (sym w.records-is)
+            (at_next _ _ _ at (turns_other _ _ _ _ at _ _ _ h (c.told-old ∙ sym c.told-new) low c.loop-at-test.true w.if-old-at.true (omega arith) refl w.add_change.ensures.added));
+        capacity = omega (arith, ap vec_capacity w.records-is, w.add_change.ensures.capacity, c.loop-at.invariant.capacity);
+      }
+      | else-old-at w ↦ record {
+        turns = subst (λ r. TurnsTo c.args.old.now c.args.new.now (at + 1) r.items) (sym w.records-is) (at_next _ _ _ at (turns_same _ _ _ at h (c.told-old ∙ sym c.told-new) low w.if-old-at.false));
+        capacity = omega (arith, ap vec_capacity w.records-is, c.loop-at.invariant.capacity);
+      }
+    ]

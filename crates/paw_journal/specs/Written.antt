@@ -1,0 +1,19 @@
+-- What a commit writes, and how much at most.
+use Rattle.std.specs.Prelude.{◌==◌, ℕ, ◌+◌, ◌*◌, nat_le, List, ◌∷◌, length, Option, Some, None, if◌then◌else◌}
+use Rattle.paw_journal.specs.declared.drafting.SlotState.{SlotState}
+use Rattle.paw_journal.specs.Session.{most_changes}
+
+-- The number of positions at which two states differ.
+unfoldable pub differing : List ℕ → List ℕ → ℕ
+differing (x ∷ old) (y ∷ new) = (if x == y then 0 else 1) + differing old new
+differing old new = 0
+
+-- The most bytes that a commit of a state and a piece writes over a slot, by what is kept of that slot. Where it has a
+-- state, and its change records and the new ones aren't too many, these are four bytes for each position that differs;
+-- otherwise they are a whole base.
+abbrev pub most_written : Option SlotState → List ℕ → List ℕ → ℕ
+most_written None state piece = 4224 + length piece
+most_written (Some kept) state piece =
+    if nat_le (kept.records + differing kept.state state) most_changes
+    then 128 + length piece + 4 * differing kept.state state
+    else 4224 + length piece

@@ -1,0 +1,579 @@
+-- What a reading keeps of the world, the line, the text and the lines to come.
+use Rattle.std.proofs.Common.{◌≡◌, ℕ, zero, suc, ◌+◌, ◌-◌, ◌*◌, ◌<◌, ◌≤◌, ◌/◌, ◌%◌, Bool, true, false, ◌||◌, List, [], ◌∷◌, Option, Some, None, refl, length, drop, min, IsTrue, arith, length-append}
+use Rattle.std.specs.Prelude.{if◌then◌else◌, nat_lt, nat_le, All}
+use Rattle.std.specs.List.{list_all}
+use Rattle.std.proofs.Math.Nat.{min-le_left}
+use Rattle.std.proofs.lemmas.Bool.{ltb-true, leb-true}
+use Rattle.std.proofs.lemmas.List.Elements.{All-append}
+use Rattle.paw_base.specs.declared.parts.Condact.{Condact}
+use Rattle.paw_base.specs.declared.parts.ObjectFacts.{ObjectFacts}
+use Rattle.paw_base.specs.declared.fault.SpentKind.TheVariants as spent
+use Rattle.paw_game.specs.declared.parts.Entry.{Entry}
+use Rattle.paw_game.specs.Game.{GameLists}
+use Rattle.paw_game.specs.Tables.{table_at, entry_at, condacts_of, facts_at, exit_at}
+use Rattle.paw_game.specs.Valid.{Valid, is_condact, is_entry, is_any, is_verb_value, has_word}
+use Rattle.paw_game.proofs.Kept.{first_of_and, second_of_and, table_kept, entry_kept, exit-leads}
+use Rattle.paw_world.specs.World.{World, flag, with_flag, is_dark, is_unlit, fallen, fallen_if}
+use Rattle.paw_phrase.specs.declared.Sentence.{Sentence}
+use Rattle.paw_phrase.specs.Sentence.{Parsed, IsSentence, IsUnknown, IsNoPhrase, parsed}
+use Rattle.paw_phrase.proofs.Phrases.{IsRest as IsRestOf, rest-shorter, rest-all, sentence-rest, unknown-rest}
+use Rattle.paw_phrase.proofs.SentenceBytes.{AreBytes as AreWords, parsed-bytes}
+use Rattle.paw_effects.specs.Story.{Story}
+use Rattle.paw_effects.specs.declared.act.Prompt.{Prompt}
+use Rattle.paw_effects.specs.declared.act.Prompt.TheVariants as prompt
+use Rattle.paw_effects.specs.declared.act.Truth.{Truth}
+use Rattle.paw_effects.specs.declared.act.Truth.TheVariants as truth
+use Rattle.paw_effects.specs.declared.act.Effect.{Effect}
+use Rattle.paw_effects.specs.declared.act.Effect.TheVariants as effect
+use Rattle.paw_effects.specs.Texts.{put_text, say_text}
+use Rattle.paw_effects.specs.Counts.{turns_taken}
+use Rattle.paw_effects.specs.Holds.{is_condition, holds}
+use Rattle.paw_effects.specs.Effects.{Done, effect_of}
+use Rattle.paw_reading.specs.declared.places.Frame.{Frame}
+use Rattle.paw_reading.specs.declared.places.OpenLoop.{OpenLoop}
+use Rattle.paw_reading.specs.Run.{Run, closed, fits, printed, with_world, without_loop, line_dropped, anew, is_timeout, is_ignored, heard, with_timeout, reply, is_yes, is_no, spoken, taken_phrase}
+use Rattle.paw_reading.specs.Reading.{Out, Left, Waits, Redescribes, Restarts, Ends, IsSpent, IsDeep, noted, printing, after_call, at_level, again, is_taken, named, taken, turns, loop_of, over, answered, asked, waits, after_test, after_parse, after_action, carried_out, acts, reads_one, condacts, is_for_now, entries, plain, looped, reads, called, deeper, table_read}
+use Rattle.paw_reading.specs.GoingOn.{on_path}
+use Rattle.paw_reading.specs.Turn.{Stage, AtDescribe, AtFrame, AtPhrase, AtResponse, Ending, WaitsAt, IsOver, RunsOut, CallsTooDeep, Unended, saying, described, framed, view_text, counted, prompt_text, line_set, at_main, after_phrase, refusal_text, connected, after_left, table_done, turn, stages_left, opening, reading, first_table, in_table, goes_on, on}
+use Rattle.paw_reading.proofs.Keeps.{either, open_or_not}
+use Rattle.paw_reading.specs.Bounds.{IsLine, ValidStory}
+use Rattle.paw_effects.proofs.Worlds.{IsWorldAt, few_locations, few_objects, facts_small, later, flag_small, flagged, start_so, anew_so}
+use Rattle.paw_effects.proofs.Changes.{effect_so, condition_so, referred_so}
+
+-- each of these is a line
+abbrev pub AreLines : List (List ℕ) → Type 0
+AreLines [] = Unit {0}
+AreLines (line ∷ lines) = IsLine line × AreLines lines
+
+pub are_lines : (lines : List (List ℕ)) → All IsLine lines → AreLines lines
+are_lines [] all = tt
+are_lines (line ∷ lines) all = (all 0 [] (omega arith), are_lines lines (λ k d low. all (suc k) d (omega arith)))
+
+no_line : IsLine []
+no_line = record { short = omega arith; bytes = λ k d low. absurd (omega arith) }
+
+-- a run of a game that is played: each piece drew at most 200,000 words, and what is kept of the run are bytes
+pub record IsSound (g : GameLists) (seed base : ℕ) (r : Run) : Type 0 where
+  pub world : IsWorldAt g seed (base + 200000 * length r.pieces + length r.read) r.world
+  pub few : length r.read ≤ 200000
+  pub line : IsLine r.pending
+  pub earlier : r.earlier < 256
+  pub text : length r.current ≤ 65535
+  pub pieces : All (λ piece. length piece ≤ 65535) r.pieces
+  pub lines : AreLines r.events
+  pub traced : length r.traces ≡ length r.pieces
+
+-- nothing of a piece is open
+pub record IsResting (g : GameLists) (seed base : ℕ) (r : Run) : Type 0 where
+  pub sound : IsSound g seed base r
+  pub current : r.current ≡ []
+  pub read : r.read ≡ []
+
+one_short : (piece : List ℕ) → length piece ≤ 65535 → All (λ q. length q ≤ 65535) (piece ∷ [])
+one_short piece short zero d low = short
+one_short piece short (suc k) d low = absurd (omega arith)
+
+-- what holds in both cases, the first with its test
+by_test : (P : Out → Type 0) (b : Bool) (x y : Out) → (b ≡ true → P x) → P y → P (if b then x else y)
+by_test P true x y h k = h refl
+by_test P false x y h k = k
+
+kept_drop : {A : Type 0} (p : A → Bool) (n : ℕ) (xs : List A) → IsTrue (list_all p xs) → IsTrue (list_all p (drop n xs))
+kept_drop p zero xs all = all
+kept_drop p (suc n) [] all = all
+kept_drop p (suc n) (x ∷ xs) all = kept_drop p n xs (second_of_and (p x) _ all)
+
+module _ (g : Story) (valid : ValidStory g) (seed base : ℕ) where
+  abbrev v : Valid g.game
+  v = valid.game
+
+  abbrev Is : Run → Type 0
+  Is r = IsSound g.game seed base r
+
+  abbrev pub Rests : Run → Type 0
+  Rests r = IsResting g.game seed base r
+
+  abbrev Sounds : Out → Type 0
+  Sounds (Left a r) = Is r
+  Sounds (Waits p path r) = Rests r
+  Sounds (Redescribes r) = Is r
+  Sounds (Restarts r) = Is r
+  Sounds (Ends r) = Rests r
+  Sounds (IsSpent kind r) = Unit {0}
+  Sounds (IsDeep u r) = Unit {0}
+
+  abbrev GoesSound : (Bool → Run → Out) → Type 0
+  GoesSound go = (a : Bool) (r : Run) → Is r → Sounds (go a r)
+
+  abbrev CallsSound : (ℕ → Run → Out) → Type 0
+  CallsSound sub = (u : ℕ) (r : Run) → Is r → Sounds (sub u r)
+
+  abbrev bound : Run → ℕ
+  bound r = base + 200000 * length r.pieces + length r.read
+
+  -- ---- changes of a run ----
+
+  in_world : (r : Run) → Is r → (w : World) → IsWorldAt g.game seed (bound r) w → Is (with_world w r)
+  in_world r k w world = record { world = world; few = k.few; line = k.line; earlier = k.earlier; text = k.text; pieces = k.pieces; lines = k.lines; traced = k.traced }
+
+  no_loop : (r : Run) → Is r → (o : Option OpenLoop) → Is (record r { turning = o })
+  no_loop r k o = record { world = k.world; few = k.few; line = k.line; earlier = k.earlier; text = k.text; pieces = k.pieces; lines = k.lines; traced = k.traced }
+
+  with_pending : (r : Run) → Is r → (line : List ℕ) → IsLine line → Is (record r { pending = line })
+  with_pending r k line is = record { world = k.world; few = k.few; line = is; earlier = k.earlier; text = k.text; pieces = k.pieces; lines = k.lines; traced = k.traced }
+
+  dropped : (r : Run) → Is r → Is (line_dropped r)
+  dropped r k = with_pending r k [] no_line
+
+  with_events : (r : Run) → Is r → (lines : List (List ℕ)) → AreLines lines → Is (record r { events = lines })
+  with_events r k lines are = record { world = k.world; few = k.few; line = k.line; earlier = k.earlier; text = k.text; pieces = k.pieces; lines = are; traced = k.traced }
+
+  resting_events : (r : Run) → Rests r → (lines : List (List ℕ)) → AreLines lines → Rests (record r { events = lines })
+  resting_events r k lines are = record { sound = with_events r k.sound lines are; current = k.current; read = k.read }
+
+  printed_so : (r : Run) (text : List ℕ) → Is r → fits r text ≡ true → Is (printed text r)
+  printed_so r text k fit = record {
+    world = k.world;
+    few = k.few;
+    line = k.line;
+    earlier = k.earlier;
+    text = omega (arith, length-append r.current text, leb-true (length r.current + length text) 65535 fit);
+    pieces = k.pieces;
+    lines = k.lines;
+    traced = k.traced;
+  }
+
+  noted_so : (r : Run) (f : Frame) (c : Condact) (b : Bool) (w : World) → Is r → length r.read < 200000 → IsWorldAt g.game seed (suc (bound r)) w → Is (noted f c b (with_world w r))
+  noted_so r f c b w k few world =
+      let size : length (noted f c b r).read ≡ length r.read + 1 = length-append r.read _ in
+      record {
+        world = later g.game v seed (suc (bound r)) w world (bound (noted f c b r)) (omega (arith, size));
+        few = omega (arith, size);
+        line = k.line;
+        earlier = k.earlier;
+        text = k.text;
+        pieces = k.pieces;
+        lines = k.lines;
+        traced = k.traced;
+      }
+
+  pub closed_rests : (r : Run) → Is r → Rests (closed r)
+  closed_rests r k =
+      let size : length (closed r).pieces ≡ length r.pieces + 1 = length-append r.pieces (r.current ∷ []) in
+      record {
+        sound = record {
+          world = later g.game v seed (bound r) r.world k.world (bound (closed r)) (omega (arith, size, k.few));
+          few = omega arith;
+          line = k.line;
+          earlier = k.earlier;
+          text = omega arith;
+          pieces = All-append (λ piece. length piece ≤ 65535) r.pieces (r.current ∷ []) k.pieces (one_short r.current k.text);
+          lines = k.lines;
+          traced = omega (arith, size, length-append r.traces (r.read ∷ []), k.traced);
+        };
+        current = refl;
+        read = refl;
+      }
+
+  timeout_so : (n : ℕ) (b : Bool) (w : World) → IsWorldAt g.game seed n w → IsWorldAt g.game seed n (with_timeout b w)
+  timeout_so n true w k = flagged g.game v seed n w k 49 (128 + flag w 49 % 128) (low (flag w 49))
+    where
+      low : (x : ℕ) → 128 + x % 128 < 256
+      low x = omega arith
+  timeout_so n false w k = flagged g.game v seed n w k 49 (flag w 49 % 128) (low (flag w 49))
+    where
+      low : (x : ℕ) → x % 128 < 256
+      low x = omega arith
+
+  heard_so : (line : List ℕ) (r : Run) → Is r → Is (heard line r)
+  heard_so line r k = in_world r k (with_timeout (is_timeout line) r.world) (timeout_so (bound r) (is_timeout line) r.world k.world)
+
+  anew_run : (r : Run) → Is r → Is (anew r)
+  anew_run r k = record {
+    world = anew_so g.game v seed (bound r) r.world k.world;
+    few = k.few;
+    line = no_line;
+    earlier = omega arith;
+    text = k.text;
+    pieces = k.pieces;
+    lines = k.lines;
+    traced = k.traced;
+  }
+
+  spoken_so : (n : ℕ) (s : Sentence) (w : World) → AreWords s → IsWorldAt g.game seed n w → IsWorldAt g.game seed n (spoken s w)
+  spoken_so n s w b k =
+      let set : (u : World) → IsWorldAt g.game seed n u → (f x : ℕ) → x < 256 → IsWorldAt g.game seed n (with_flag u f x) = λ u. flagged g.game v seed n u in
+      set _ (set _ (set _ (set _ (set _ (set _ (set _ (set _ (set w k 33 s.verb b.verb) 34 s.noun b.noun) 35 s.adjective b.adjective) 36 s.adverb b.adverb)
+      43 s.preposition b.preposition) 44 s.second_noun b.second_noun) 45 s.second_adjective b.second_adjective) 46 s.pronoun_noun b.pronoun_noun) 47 s.pronoun_adjective b.pronoun_adjective
+
+  left_line : (pending left : List ℕ) → IsRestOf pending left → IsLine pending → IsLine left
+  left_line pending left at k = record {
+    short = omega (arith, rest-shorter pending left at, k.short);
+    bytes = rest-all (λ b. b < 256) pending left at k.bytes;
+  }
+
+  -- the words of the phrase that is taken
+  abbrev next_phrase : Run → Parsed
+  next_phrase r = parsed g.game r.pending r.earlier (flag r.world 46) (flag r.world 47)
+
+  phrase_so : (r : Run) → Is r → (s : Sentence) (left : List ℕ) → next_phrase r ≡ IsSentence s left → Is (taken_phrase s left r)
+  phrase_so r k s left e =
+      let words = parsed-bytes g.game r.pending r.earlier (flag r.world 46) (flag r.world 47) s left v k.earlier (flag_small g.game v seed (bound r) r.world k.world 46) (flag_small g.game v seed (bound r) r.world k.world 47) e in
+      record {
+        world = spoken_so (bound r) s r.world words k.world;
+        few = k.few;
+        line = left_line r.pending left (sentence-rest g.game r.pending r.earlier (flag r.world 46) (flag r.world 47) s left e) k.line;
+        earlier = words.verb;
+        text = k.text;
+        pieces = k.pieces;
+        lines = k.lines;
+        traced = k.traced;
+      }
+
+  unknown_so : (r : Run) → Is r → (left : List ℕ) → next_phrase r ≡ IsUnknown left → Is (record r { pending = left })
+  unknown_so r k left e =
+      with_pending r k left (left_line r.pending left (unknown-rest g.game r.pending r.earlier (flag r.world 46) (flag r.world 47) left e) k.line)
+
+  named_so : (n : ℕ) (w : World) → IsWorldAt g.game seed n w → (o : ℕ) (f : Option ObjectFacts) → facts_at g.game o ≡ f → IsWorldAt g.game seed n (named w f)
+  named_so n w k o None e = k
+  named_so n w k o (Some f) e =
+      let small = facts_small g.game v o f e in
+      flagged g.game v seed n (with_flag w 34 f.noun) (flagged g.game v seed n w k 34 f.noun small.noun) 35 f.adjective small.adjective
+
+  taken_so : (l : OpenLoop) (o : ℕ) (r : Run) → o < 256 → Is r → Is (taken g.game l o r)
+  taken_so l o r small k =
+      let w : World = named r.world (facts_at g.game o) in
+      let w_so : IsWorldAt g.game seed (bound r) w = named_so (bound r) r.world k.world o (facts_at g.game o) refl in
+      record {
+        world = referred_so g.game v seed (bound r) (with_flag w 50 o) (flagged g.game v seed (bound r) w w_so 50 o small) o small;
+        few = k.few;
+        line = k.line;
+        earlier = k.earlier;
+        text = k.text;
+        pieces = k.pieces;
+        lines = k.lines;
+        traced = k.traced;
+      }
+
+  -- ---- loops and calls ----
+
+  again_sounds : (lv : ℕ) (next : OpenLoop → Run → Out) → ((l : OpenLoop) (r : Run) → Is r → Sounds (next l r)) → (x : Out) → Sounds x → Sounds (again lv next x)
+  again_sounds lv next h (Left a r) k = open_or_not Sounds (λ l. next l r) (Left a r) (at_level lv r.turning) (λ l e. h l r k) (λ e. k)
+  again_sounds lv next h (Waits p path r) k = k
+  again_sounds lv next h (Redescribes r) k = k
+  again_sounds lv next h (Restarts r) k = k
+  again_sounds lv next h (Ends r) k = k
+  again_sounds lv next h (IsSpent kind r) k = tt
+  again_sounds lv next h (IsDeep u r) k = tt
+
+  turns_sound : (lv : ℕ) (l : OpenLoop) (body : Run → Out) → ((r : Run) → Is r → Sounds (body r)) → (n : ℕ) (r : Run) → Is r → Sounds (turns g lv l body n r)
+  unfolding turns
+  turns_sound lv l body h zero r k = no_loop r k None
+  turns_sound lv l body h (suc n) r k =
+      let o : ℕ = length g.game.objects - suc n in
+      let small : o < 256 = omega (arith, few_objects g.game v) in
+      either Sounds (is_taken g.game r.world l o) _ _
+      (again_sounds lv (λ _. turns g lv l body n) (λ m s j. turns_sound lv l body h n s j) (body (taken g.game l o r)) (h (taken g.game l o r) (taken_so l o r small k)))
+      (turns_sound lv l body h n r k)
+
+  after_call_sounds : (f : Frame) (go : Bool → Run → Out) → GoesSound go → (x : Out) → Sounds x → Sounds (after_call f go x)
+  after_call_sounds f go h (Left b r) k = h (f.acted || b) r k
+  after_call_sounds f go h (Waits p path r) k = k
+  after_call_sounds f go h (Redescribes r) k = k
+  after_call_sounds f go h (Restarts r) k = k
+  after_call_sounds f go h (Ends r) k = k
+  after_call_sounds f go h (IsSpent kind r) k = tt
+  after_call_sounds f go h (IsDeep u r) k = tt
+
+  -- ---- prompts ----
+
+  printing_sounds : (text : List ℕ) (go : Run → Out) → ((r : Run) → Is r → Sounds (go r)) → (r : Run) → Is r → Sounds (printing text go r)
+  printing_sounds text go h r k = by_test Sounds (fits r text) _ (IsSpent spent.Text r) (λ fit. h (printed text r) (printed_so r text k fit)) tt
+
+  over_sounds : (r : Run) → Is r → Sounds (over g r)
+  over_sounds r k =
+      printing_sounds (say_text g.game r.world 14) (λ s. Ends (closed (without_loop (line_dropped s))))
+      (λ s j. closed_rests (without_loop (line_dropped s)) (no_loop (line_dropped s) (dropped s j) None)) r k
+
+  answered_sounds : (p : Prompt) (f : Frame) (go : Bool → Run → Out) → GoesSound go → (line : List ℕ) (r : Run) → Is r → Sounds (answered g p f go line r)
+  answered_sounds prompt.Main f go h line r k = h f.acted r k
+  answered_sounds prompt.Quit f go h line r k = either Sounds (is_yes line) _ (Left true r) (h f.acted r k) k
+  answered_sounds prompt.Again f go h line r k = either Sounds (is_no line) (over g r) (Restarts (anew r)) (over_sounds r k) (anew_run r k)
+  answered_sounds prompt.Key f go h line r k = h true r k
+  answered_sounds prompt.Over f go h line r k = h f.acted r k
+
+  asked_sounds : (p : Prompt) (f : Frame) (go : Bool → Run → Out) → GoesSound go → (r : Run) (lines : List (List ℕ)) → Rests r → AreLines lines → Sounds (asked g p f go r lines)
+  unfolding asked
+  asked_sounds p f go h r [] k are = resting_events r k [] tt
+  asked_sounds p f go h r (line ∷ lines) k are =
+      let s : Run = record r { events = lines } in
+      let s_so : Is s = with_events r k.sound lines are.1 in
+      either Sounds (is_ignored r.world line) _ _ (asked_sounds p f go h (closed s) lines (closed_rests s s_so) are.1)
+      (answered_sounds p f go h (reply line) (heard line s) (heard_so line s s_so))
+
+  waits_sounds : (p : Prompt) (f : Frame) (go : Bool → Run → Out) → GoesSound go → (r : Run) → Is r → Sounds (waits g p f go r)
+  waits_sounds p f go h r k = asked_sounds p f go h (closed r) r.events (closed_rests r k) k.lines
+
+  -- ---- one condact ----
+
+  after_parse_sounds : (f : Frame) (next go : Bool → Run → Out) → GoesSound next → GoesSound go → (r : Run) → Is r → (p : Parsed) → next_phrase r ≡ p → Sounds (after_parse f next go r p)
+  after_parse_sounds f next go hn hg r k (IsSentence s left) e = hn f.acted (taken_phrase s left r) (phrase_so r k s left e)
+  after_parse_sounds f next go hn hg r k (IsUnknown left) e = hg f.acted (record r { pending = left }) (unknown_so r k left e)
+  after_parse_sounds f next go hn hg r k IsNoPhrase e = hg f.acted r k
+
+  dropped_if : (b : Bool) (line : List ℕ) → IsLine line → IsLine (if b then [] else line)
+  dropped_if true line k = no_line
+  dropped_if false line k = k
+
+  module _ (sub : ℕ → Run → Out) (lv : ℕ) (calls : CallsSound sub) where
+    after_test_sounds : (f : Frame) (next go : Bool → Run → Out) → GoesSound next → GoesSound go → (c : Condact) (r : Run) (t : Truth) → ((b : Bool) → Is (noted f c b r)) →
+        Sounds (after_test g f next go c r t)
+    after_test_sounds f next go hn hg c r truth.Yes k = hg f.acted (noted f c true r) (k true)
+    after_test_sounds f next go hn hg c r truth.No k = hn f.acted (noted f c false r) (k false)
+    after_test_sounds f next go hn hg c r truth.Ask k = printing_sounds (put_text g.game r.world 12) (waits g prompt.Quit f go) (waits_sounds prompt.Quit f go hg) (noted f c true r) (k true)
+
+    after_action_sounds : (f : Frame) (next go : Bool → Run → Out) → GoesSound next → GoesSound go → (e : Effect) (r : Run) → Is r → Sounds (after_action g sub lv f next go e r)
+    after_action_sounds f next go hn hg effect.Go r k = hg true r k
+    after_action_sounds f next go hn hg (effect.Exit a) r k = k
+    after_action_sounds f next go hn hg effect.Redescribe r k = no_loop r k None
+    after_action_sounds f next go hn hg (effect.Call u) r k = after_call_sounds f go hg (sub u r) (calls u r k)
+    after_action_sounds f next go hn hg (effect.Loop p) r k = turns_sound lv (loop_of lv f p) (go true) (hg true) (length g.game.objects) r k
+    after_action_sounds f next go hn hg (effect.Ask p) r k = waits_sounds p f go hg r k
+    after_action_sounds f next go hn hg effect.Parse r k = after_parse_sounds f next go hn hg r k (next_phrase r) refl
+    after_action_sounds f next go hn hg effect.Spent r k = tt
+
+    carried_so : (d : Done) (r : Run) → Is r → IsWorldAt g.game seed (bound r) d.world → Is (carried_out d r)
+    carried_so d r k world = record {
+      world = world;
+      few = k.few;
+      line = dropped_if d.act.drop_line r.pending k.line;
+      earlier = k.earlier;
+      text = k.text;
+      pieces = k.pieces;
+      lines = k.lines;
+      traced = k.traced;
+    }
+
+    acts_sound : (f : Frame) (next go : Bool → Run → Out) → GoesSound next → GoesSound go → (d : Done) (r : Run) → Is r → IsWorldAt g.game seed (bound r) d.world →
+        Sounds (acts g sub lv f next go d r)
+    acts_sound f next go hn hg d r k world =
+        by_test Sounds (fits r d.text) _ (IsSpent spent.Text r)
+        (λ fit. after_action_sounds f next go hn hg d.act.effect (carried_out d (printed d.text r)) (carried_so d (printed d.text r) (printed_so r d.text k fit) world)) tt
+
+    reads_one_sounds : (f : Frame) (next go : Bool → Run → Out) → GoesSound next → GoesSound go → (c : Condact) (r : Run) → is_condact g.game c ≡ true → length r.read < 200000 → Is r →
+        Sounds (reads_one g sub lv f next go c r)
+    reads_one_sounds f next go hn hg c r kept few k =
+        let d : Done = effect_of g r.world c in
+        let d_so : IsWorldAt g.game seed (suc (bound r)) d.world = effect_so g.game v seed (bound r) g.rows r.world c valid.bytes k.world kept in
+        either Sounds (is_condition c) _ _
+        (after_test_sounds f next go hn hg c (with_world (holds g.game r.world c).world r) (holds g.game r.world c).answer
+        (λ b. noted_so r f c b (holds g.game r.world c).world k few (condition_so g.game v seed (bound r) r.world c k.world)))
+        (acts_sound f next go hn hg d (noted f c true r)
+        (noted_so r f c true r.world k few (later g.game v seed (bound r) r.world k.world (suc (bound r)) (omega arith)))
+        (noted_so r f c true d.world k few d_so).world)
+
+    -- ---- entries, tables ----
+
+    condacts_sound : (t e : ℕ) (next : Bool → Run → Out) → GoesSound next → (k : ℕ) (cs : List Condact) → IsTrue (list_all (is_condact g.game) cs) → GoesSound (condacts g sub lv t e next k cs)
+    unfolding condacts
+    condacts_sound t e next hn k [] all a r h = hn a r h
+    condacts_sound t e next hn k (c ∷ cs) all a r h =
+        by_test Sounds (nat_lt (length r.read) 200000) _ (IsSpent spent.Condacts r)
+        (λ few. reads_one_sounds (record { table = t; entry = e; at = k; acted = a }) next _ hn (condacts_sound t e next hn (suc k) cs (second_of_and (is_condact g.game c) _ all)) c r
+        (first_of_and (is_condact g.game c) _ all) (ltb-true (length r.read) 200000 few) h) tt
+
+    entry_condacts : (en : Entry) → IsTrue (is_entry g.game en) → IsTrue (list_all (is_condact g.game) en.condacts)
+    entry_condacts en h =
+        second_of_and (nat_le (length en.condacts) 255) _ (second_of_and (is_any en.noun || has_word g.game.words 2 en.noun) _ (second_of_and (is_any en.verb || is_verb_value g.game.words en.verb) _ h))
+
+    entries_sound : (t e : ℕ) (es : List Entry) → IsTrue (list_all (is_entry g.game) es) → GoesSound (entries g sub lv t e es)
+    unfolding entries
+    entries_sound t e [] all a r h = h
+    entries_sound t e (en ∷ es) all a r h =
+        let later_ones = second_of_and (is_entry g.game en) _ all in
+        either Sounds (is_for_now r en) _ _
+        (condacts_sound t e (entries g sub lv t (suc e) es) (entries_sound t (suc e) es later_ones) 0 en.condacts (entry_condacts en (first_of_and (is_entry g.game en) _ all)) a r h)
+        (entries_sound t (suc e) es later_ones a r h)
+
+    table_entries : (t : ℕ) → IsTrue (list_all (is_entry g.game) (table_at g.game t))
+    table_entries t = second_of_and (nat_le (length (table_at g.game t)) 4000) _ (table_kept g.game v t)
+
+    all_condacts : (o : Option Entry) → ((en : Entry) → o ≡ Some en → IsTrue (is_entry g.game en)) → IsTrue (list_all (is_condact g.game) (condacts_of o))
+    all_condacts None h = refl
+    all_condacts (Some en) h = entry_condacts en (h en refl)
+
+    plain_sounds : (t e k : ℕ) → GoesSound (plain g sub lv t e k)
+    plain_sounds t e zero a r h = entries_sound t e (drop e (table_at g.game t)) (kept_drop (is_entry g.game) e (table_at g.game t) (table_entries t)) a r h
+    plain_sounds t e (suc k) a r h =
+        condacts_sound t e _ (entries_sound t (suc e) (drop (suc e) (table_at g.game t)) (kept_drop (is_entry g.game) (suc e) (table_at g.game t) (table_entries t))) (suc k)
+        (drop (suc k) (condacts_of (entry_at g.game t e)))
+        (kept_drop (is_condact g.game) (suc k) (condacts_of (entry_at g.game t e)) (all_condacts (entry_at g.game t e) (λ en q. entry_kept g.game v t e en q))) a r h
+
+    looped_sounds : (l : OpenLoop) (r : Run) → Is r → Sounds (looped g sub lv l r)
+    looped_sounds l r h = turns_sound lv (record l { last = 0 }) _ (plain_sounds l.table l.entry (suc l.at) true) (length g.game.objects - suc l.last) r h
+
+    reads_sound : (t e k : ℕ) → GoesSound (reads g sub lv t e k)
+    reads_sound t e k a r h = again_sounds lv (looped g sub lv) looped_sounds _ (plain_sounds t e k a r h)
+
+  called_sounds : (n lv : ℕ) → CallsSound (called g n lv)
+  unfolding called
+  called_sounds zero lv u r h = tt
+  called_sounds (suc n) lv u r h = reads_sound (called g n (suc lv)) (suc lv) (called_sounds n (suc lv)) u 0 0 false r h
+
+  table_sounds : (t : ℕ) (r : Run) → Is r → Sounds (table_read g t r)
+  table_sounds t r h = reads_sound (deeper g 0) 0 (called_sounds 10 0) t 0 0 false r h
+
+  -- going on along a path
+  path_sounds : (p : Prompt) (lv : ℕ) (path : List Frame) (r : Run) → Rests r → Sounds (on_path g p lv path r)
+  path_sounds p lv [] r k = k.sound
+  path_sounds p lv (f ∷ []) r k =
+      again_sounds lv (looped g (deeper g lv) lv) (looped_sounds (deeper g lv) lv (called_sounds (10 - lv) lv)) _
+      (asked_sounds p f _ (plain_sounds (deeper g lv) lv (called_sounds (10 - lv) lv) f.table f.entry (suc f.at)) r r.events k k.sound.lines)
+  path_sounds p lv (f ∷ h ∷ path) r k =
+      after_call_sounds f _ (reads_sound (deeper g lv) lv (called_sounds (10 - lv) lv) f.table f.entry (suc f.at)) _ (path_sounds p (suc lv) (h ∷ path) r k)
+
+  -- ---- turns ----
+
+  abbrev pub EndsSound : Ending → Type 0
+  EndsSound (WaitsAt p path r) = Rests r
+  EndsSound (IsOver r) = Rests r
+  EndsSound (RunsOut kind r) = Unit {0}
+  EndsSound (CallsTooDeep u r) = Unit {0}
+  EndsSound Unended = Unit {0}
+
+  abbrev TurnsSound : (Run → Ending) → Type 0
+  TurnsSound go = (r : Run) → Is r → EndsSound (go r)
+
+  one_of : (b : Bool) (x y : Ending) → (b ≡ true → EndsSound x) → EndsSound y → EndsSound (if b then x else y)
+  one_of true x y h k = h refl
+  one_of false x y h k = k
+
+  saying_sounds : (text : List ℕ) (go : Run → Ending) → TurnsSound go → TurnsSound (saying text go)
+  saying_sounds text go h r k = one_of (fits r text) _ (RunsOut spent.Text r) (λ fit. h (printed text r) (printed_so r text k fit)) tt
+
+  fallen_so : (n f : ℕ) (w : World) → IsWorldAt g.game seed n w → IsWorldAt g.game seed n (fallen f w)
+  fallen_so n f w k = flagged g.game v seed n w k f (flag w f - 1) (omega (arith, flag_small g.game v seed n w k f))
+
+  fallen_if_so : (n : ℕ) (b : Bool) (f : ℕ) (w : World) → IsWorldAt g.game seed n w → IsWorldAt g.game seed n (fallen_if b f w)
+  fallen_if_so n true f w k = fallen_so n f w k
+  fallen_if_so n false f w k = k
+
+  described_so : (n : ℕ) (w : World) → IsWorldAt g.game seed n w → IsWorldAt g.game seed n (described w)
+  described_so n w k =
+      fallen_if_so n (is_unlit w) 4 (fallen_if (is_dark w) 3 (fallen 2 w)) (fallen_if_so n (is_dark w) 3 (fallen 2 w) (fallen_so n 2 w k))
+
+  framed_so : (n : ℕ) (w : World) → IsWorldAt g.game seed n w → IsWorldAt g.game seed n (framed w)
+  framed_so n w k =
+      let first : World = fallen 8 (fallen 7 (fallen 6 (fallen 5 w))) in
+      fallen_if_so n (is_unlit w) 10 (fallen_if (is_dark w) 9 first) (fallen_if_so n (is_dark w) 9 first
+      (fallen_so n 8 _ (fallen_so n 7 _ (fallen_so n 6 _ (fallen_so n 5 w k)))))
+
+  counted_so : (n : ℕ) (w : World) → IsWorldAt g.game seed n w → IsWorldAt g.game seed n (counted w)
+  counted_so n w k =
+      let turns_now : ℕ = min 65535 (turns_taken w + 1) in
+      flagged g.game v seed n (with_flag w 31 (turns_now % 256)) (flagged g.game v seed n w k 31 (turns_now % 256) (low turns_now)) 32 (turns_now / 256) (high turns_now (min-le_left 65535 (turns_taken w + 1)))
+    where
+      low : (x : ℕ) → x % 256 < 256
+      low x = omega arith
+
+      high : (x : ℕ) → x ≤ 65535 → x / 256 < 256
+      high x most = omega arith
+
+  module _ (go : Stage → Run → Ending) (goes : (s : Stage) → TurnsSound (go s)) where
+    connected_sounds : (r : Run) → Is r → (to : Option ℕ) → exit_at g.game (flag r.world 38) (flag r.world 33) ≡ to → EndsSound (connected g (go AtDescribe) (go AtFrame) r to)
+    connected_sounds r k None e = saying_sounds (refusal_text g.game r.world) (go AtFrame) (goes AtFrame) (line_dropped r) (dropped r k)
+    connected_sounds r k (Some to) e =
+        goes AtDescribe (with_world (with_flag r.world 38 to) r)
+        (in_world r k (with_flag r.world 38 to)
+        (flagged g.game v seed (bound r) r.world k.world 38 to (omega (arith, exit-leads g.game v (flag r.world 38) (flag r.world 33) to e, (few_locations g.game v).1))))
+
+    after_left_sounds : (t : ℕ) (a : Bool) → TurnsSound (after_left g go t a)
+    after_left_sounds zero true r k = goes AtFrame r k
+    after_left_sounds zero false r k = connected_sounds r k (exit_at g.game (flag r.world 38) (flag r.world 33)) refl
+    after_left_sounds (suc zero) a r k = goes AtFrame r k
+    after_left_sounds (suc (suc t)) a r k = goes AtPhrase (with_world (framed r.world) r) (in_world r k (framed r.world) (framed_so (bound r) r.world k.world))
+
+    table_done_sounds : (t : ℕ) (x : Out) → Sounds x → EndsSound (table_done g go t x)
+    table_done_sounds t (Left a r) k = after_left_sounds t a r k
+    table_done_sounds t (Waits p path r) k = k
+    table_done_sounds t (Redescribes r) k = goes AtDescribe r k
+    table_done_sounds t (Restarts r) k = goes AtDescribe r k
+    table_done_sounds t (Ends r) k = k
+    table_done_sounds t (IsSpent kind r) k = tt
+    table_done_sounds t (IsDeep u r) k = tt
+
+    read_sounds : (t : ℕ) → TurnsSound (λ r. table_done g go t (table_read g t r))
+    read_sounds t r k = table_done_sounds t (table_read g t r) (table_sounds t r k)
+
+    line_set_so : (line : List ℕ) (r : Run) → IsLine line → Is r → Is (line_set line r)
+    line_set_so line r is k = record {
+      world = timeout_so (bound r) false r.world k.world;
+      few = k.few;
+      line = is;
+      earlier = omega arith;
+      text = k.text;
+      pieces = k.pieces;
+      lines = k.lines;
+      traced = k.traced;
+    }
+
+    at_main_sounds : (r : Run) (lines : List (List ℕ)) → Rests r → AreLines lines → EndsSound (at_main g (go AtFrame) (go AtPhrase) r lines)
+    unfolding at_main
+    at_main_sounds r [] k are = resting_events r k [] tt
+    at_main_sounds r (line ∷ lines) k are =
+        let s : Run = record r { events = lines } in
+        let s_so : Is s = with_events r k.sound lines are.1 in
+        one_of (is_ignored r.world line) _ _
+        (λ e. at_main_sounds (closed s) lines (closed_rests s s_so) are.1)
+        (one_of (is_timeout line) _ _
+        (λ e. saying_sounds (say_text g.game (with_timeout true r.world) 35) (go AtFrame) (goes AtFrame) (heard line s) (heard_so line s s_so))
+        (goes AtPhrase (line_set line s) (line_set_so line s are.0 s_so)))
+
+    after_phrase_sounds : (r : Run) → Is r → (p : Parsed) → next_phrase r ≡ p → EndsSound (after_phrase g (go AtFrame) (go AtPhrase) (go AtResponse) r p)
+    after_phrase_sounds r k (IsSentence s left) e =
+        let taken_run : Is (taken_phrase s left r) = phrase_so r k s left e in
+        goes AtResponse (with_world (counted (taken_phrase s left r).world) (taken_phrase s left r))
+        (in_world (taken_phrase s left r) taken_run (counted (taken_phrase s left r).world) (counted_so (bound r) (taken_phrase s left r).world taken_run.world))
+    after_phrase_sounds r k (IsUnknown left) e = saying_sounds (say_text g.game r.world 6) (go AtFrame) (goes AtFrame) (line_dropped r) (dropped r k)
+    after_phrase_sounds r k IsNoPhrase e =
+        saying_sounds (prompt_text g.game r.world) (λ s. at_main g (go AtFrame) (go AtPhrase) (closed s) s.events)
+        (λ s j. at_main_sounds (closed s) s.events (closed_rests s j) j.lines) (line_dropped r) (dropped r k)
+
+  turn_sounds : (n : ℕ) (s : Stage) → TurnsSound (turn g n s)
+  unfolding turn
+  turn_sounds zero s r k = tt
+  turn_sounds (suc n) AtDescribe r k =
+      saying_sounds (view_text g.game (described r.world)) (λ q. table_done g (turn g n) 1 (table_read g 1 q)) (read_sounds (turn g n) (turn_sounds n) 1)
+      (with_world (described r.world) r) (in_world r k (described r.world) (described_so (bound r) r.world k.world))
+  turn_sounds (suc n) AtFrame r k = read_sounds (turn g n) (turn_sounds n) 2 r k
+  turn_sounds (suc n) AtPhrase r k = after_phrase_sounds (turn g n) (turn_sounds n) r k (next_phrase r) refl
+  turn_sounds (suc n) AtResponse r k = read_sounds (turn g n) (turn_sounds n) 0 r k
+
+  opening_so : (es : List (List ℕ)) → AreLines es → Is (opening g seed es)
+  opening_so es are = record {
+    world = later g.game v seed 0 _ (start_so g.game v seed) (bound (opening g seed es)) (omega arith);
+    few = omega arith;
+    line = no_line;
+    earlier = omega arith;
+    text = omega arith;
+    pieces = λ k d low. absurd (omega arith);
+    lines = are;
+    traced = refl;
+  }
+
+  -- where a reading stops nothing is open, and the run is sound
+  pub reading_sounds : (es : List (List ℕ)) → AreLines es → EndsSound (reading g seed es)
+  reading_sounds es are = turn_sounds (stages_left AtDescribe (opening g seed es)) AtDescribe (opening g seed es) (opening_so es are)
+
+  in_table_sounds : (n : ℕ) (p : Prompt) (path : List Frame) (r : Run) → Rests r → EndsSound (in_table g n p path r)
+  in_table_sounds n p path r k = table_done_sounds (turn g n) (turn_sounds n) (first_table path) (on_path g p 0 path r) (path_sounds p 0 path r k)
+
+  goes_on_sounds : (n : ℕ) (p : Prompt) (path : List Frame) (r : Run) → Rests r → EndsSound (goes_on g n p path r)
+  goes_on_sounds n prompt.Main path r k = at_main_sounds (turn g n) (turn_sounds n) r r.events k k.sound.lines
+  goes_on_sounds n prompt.Quit path r k = in_table_sounds n prompt.Quit path r k
+  goes_on_sounds n prompt.Again path r k = in_table_sounds n prompt.Again path r k
+  goes_on_sounds n prompt.Key path r k = in_table_sounds n prompt.Key path r k
+  goes_on_sounds n prompt.Over path r k = k
+
+  pub going_on_sounds : (p : Prompt) (path : List Frame) (r : Run) → Rests r → EndsSound (on g p path r)
+  going_on_sounds p path r k = goes_on_sounds (stages_left AtResponse r) p path r k

@@ -1,0 +1,11 @@
+use Rattle.std.proofs.Common.{◌≡◌, ◌+◌, ◌*◌, ◌++◌, length, take}
+use Rattle.std.specs.Prelude.{flat_map}
+use Rattle.paw_state.specs.Fields.{held_bytes}
+use Rattle.paw_state.proofs.fields.Fields.put_kept.Given as goal
+
+-- the positions so far are written
+abbrev pub invariant-loop-held : goal.invariant-loop-held
+invariant-loop-held l = record {
+  written : l.writer ≡ l.initial.writer ++ flat_map held_bytes (take l.held-index l.held-items);
+  long : length l.writer ≡ length l.initial.writer + 512 * l.held-index;
+}

@@ -1,0 +1,63 @@
+-- What a trial comes to.
+use Rattle.std.proofs.Common.{◌≡◌, ℕ, List, refl, sym, subst}
+use Rattle.paw_stage.specs.Stage.{Standing, Rose}
+use Rattle.paw_stage.specs.declared.StageCall.{StageCall}
+use Rattle.paw_stage.specs.declared.StageCall.TheVariants as call
+use Rattle.paw_reading.specs.Turn.{Ending, WaitsAt, IsOver, RunsOut, CallsTooDeep, Unended}
+use Rattle.paw_trial.specs.declared.TrialEnd.{TrialEnd}
+use Rattle.paw_trial.specs.declared.TrialEnd.TheVariants as end
+use Rattle.paw_trial.specs.Trial.{IsTextOf, StopsAs, trial_reading}
+use Rattle.paw_top.specs.declared.outcome.Outcome.{Outcome}
+use Rattle.paw_top.specs.declared.outcome.Outcome.TheVariants as outcome
+use Rattle.paw_top.specs.declared.outcome.MemoryAt.TheVariants as memory
+use Rattle.paw_top.specs.Answers.{IfOutside, IsTrialCall}
+use Rattle.paw_top.specs.Shows.{Shows}
+use Rattle.paw_top.specs.Tries.{Tries, shows, ends, spent, too_deep, wanting}
+use Rattle.paw_top.specs.Completes.{NoFault, Comes, due}
+
+-- the answer where a trial tells no line
+abbrev pub stopped : TrialEnd → Outcome
+stopped end.Ended = outcome.Ended
+stopped (end.Spent kind) = outcome.Spent kind
+stopped (end.TooDeep table) = outcome.TooDeep table
+stopped end.Memory = outcome.Memory memory.Trial
+
+pub halted : (n : ℕ) (s : Standing) (stop : TrialEnd) (e : Ending) → trial_reading n ≡ e → StopsAs stop e → Tries n s s (stopped stop)
+halted n s end.Memory e is h = wanting refl
+halted n s end.Ended (IsOver r) is h = ends r is refl
+halted n s end.Ended (WaitsAt p path r) is h = absurd h
+halted n s end.Ended (RunsOut kind r) is h = absurd h
+halted n s end.Ended (CallsTooDeep table r) is h = absurd h
+halted n s end.Ended Unended is h = absurd h
+halted n s (end.Spent kind) (RunsOut found r) is h = spent kind r (subst (λ k. trial_reading n ≡ RunsOut k r) (sym h) is) refl
+halted n s (end.Spent kind) (WaitsAt p path r) is h = absurd h
+halted n s (end.Spent kind) (IsOver r) is h = absurd h
+halted n s (end.Spent kind) (CallsTooDeep table r) is h = absurd h
+halted n s (end.Spent kind) Unended is h = absurd h
+halted n s (end.TooDeep table) (CallsTooDeep found r) is h = too_deep table r (subst (λ t. trial_reading n ≡ CallsTooDeep t r) (sym h) is) refl
+halted n s (end.TooDeep table) (WaitsAt p path r) is h = absurd h
+halted n s (end.TooDeep table) (IsOver r) is h = absurd h
+halted n s (end.TooDeep table) (RunsOut kind r) is h = absurd h
+halted n s (end.TooDeep table) Unended is h = absurd h
+
+pub told : (n : ℕ) (old new : Standing) (o : Outcome) (text : List ℕ) (e : Ending) → trial_reading n ≡ e → IsTextOf n e text → Shows text old new o → Tries n old new o
+told n old new o text (WaitsAt p path r) is t s = shows o p path r is (subst (λ x. Shows x old new o) t s)
+told n old new o text (IsOver r) is t s = absurd t
+told n old new o text (RunsOut kind r) is t s = absurd t
+told n old new o text (CallsTooDeep table r) is t s = absurd t
+told n old new o text Unended is t s = absurd t
+
+-- where no call fails the line is shown
+shown_comes : (text : List ℕ) (old new : Standing) (first last : StageCall → ℕ) (o : Outcome) → Shows text old new o → IfOutside o (λ c. IsTrialCall c × Rose (first c) (last c)) →
+    NoFault first last → Comes outcome.Done o
+shown_comes text old new first last outcome.Done s out none = refl
+shown_comes text old new first last (outcome.Outside call.Show) s out none = absurd (none call.Show (λ q. cc) out.1)
+shown_comes text old new first last _ s out none = absurd s
+
+pub completes_trial : (n : ℕ) (old new : Standing) (first last : StageCall → ℕ) (o : Outcome) → Tries n old new o → IfOutside o (λ c. IsTrialCall c × Rose (first c) (last c)) →
+    NoFault first last → Comes (due (trial_reading n)) o
+completes_trial n old new first last _ (shows o p path r is s) out none = subst (λ e. Comes (due e) o) (sym is) (shown_comes _ old new first last o s out none)
+completes_trial n old new first last _ (ends r is e) out none = subst (λ x. Comes (due x) outcome.Ended) (sym is) refl
+completes_trial n old new first last _ (spent kind r is e) out none = subst (λ x. Comes (due x) (outcome.Spent kind)) (sym is) refl
+completes_trial n old new first last _ (too_deep table r is e) out none = subst (λ x. Comes (due x) (outcome.TooDeep table)) (sym is) refl
+completes_trial n old new first last _ (wanting e) out none = tt

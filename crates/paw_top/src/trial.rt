@@ -1,0 +1,46 @@
+// Playing a trial.
+
+ghost use Rattle.std.specs.Prelude.{◌≡◌, ◌≢◌, ◌↔◌, ℕ, None, string_bytes};
+ghost use Rattle.paw_stage.specs.Stage.{Standing, Rose, Grows, Faulted};
+ghost use Rattle.paw_trial.specs.Trial.{StopsAs, trial_reading};
+ghost use Rattle.paw_top.specs.Answers.{IfOutside, IfMemory, IsTrialCall, IsTrialMemory, failed_call};
+ghost use Rattle.paw_top.specs.Tries.{Tries};
+ghost use Rattle.paw_top.specs.declared.outcome.Outcome.TheVariants as outcome;
+
+use crate::outcome::{MemoryAt, Outcome};
+use crate::show::tell;
+use paw_stage::Stage;
+use paw_trial::{TrialEnd, trial_line};
+use std::alloc::Global;
+
+/// The answer for a trial that tells no line.
+fn stopped_as(end: TrialEnd) -> Outcome
+    ensures form { result ≢ outcome.Usage }
+    ensures memory { IfMemory result IsTrialMemory }
+    ensures outside { IfOutside result (λ _. ⊥) }
+    ensures fine { failed_call result ≡ None }
+    ensures tries { (n : ℕ) (s : Standing) → StopsAs end (trial_reading n) → Tries n s s result }
+{
+    match end {
+        TrialEnd::Ended => Outcome::Ended,
+        TrialEnd::Spent(kind) => Outcome::Spent(kind),
+        TrialEnd::TooDeep { table } => Outcome::TooDeep { table },
+        TrialEnd::Memory => Outcome::Memory(MemoryAt::Trial),
+    }
+}
+
+/// Plays the trial of this number, and shows its line.
+pub(crate) fn trial<S: Stage>(alloc: Global, stage: &mut S, n: u16) -> Outcome
+    ensures tells { S.Tells stage.old ↔ S.Tells stage.new }
+    ensures counts { Grows (S.faults stage.old) (S.faults stage.new) }
+    ensures faulted { Faulted (failed_call result) (S.faults stage.old) (S.faults stage.new) }
+    ensures form { result ≢ outcome.Usage }
+    ensures memory { IfMemory result IsTrialMemory }
+    ensures outside { IfOutside result (λ c. IsTrialCall c × Rose (S.faults stage.old c) (S.faults stage.new c)) }
+    ensures tries { S.Tells stage.old → Tries n (S.standing stage.old) (S.standing stage.new) result }
+{
+    match trial_line(alloc, n) {
+        Ok(line) => tell(stage, line.as_bytes()),
+        Err(end) => stopped_as(end),
+    }
+}

@@ -1,0 +1,80 @@
+-- What the bytes of a session's state count.
+use Rattle.std.proofs.Common.{◌≡◌, ℕ, ◌<◌, List, [], ◌∷◌, ◌++◌, length, get_or, take, sym, ap, ◌∙◌, arith, length-append}
+use Rattle.std.specs.Prelude.{slice_index, codes, decimal}
+use Rattle.std.proofs.lemmas.List.{get_or_append_left, get_or-take}
+use Rattle.sha2.specs.Sha256.{sha256}
+use Rattle.paw_game.specs.Game.{GameLists}
+use Rattle.paw_game.specs.Image.{image}
+use Rattle.paw_reading.specs.Turn.{Ending, WaitsAt, IsOver, RunsOut, CallsTooDeep, Unended}
+use Rattle.paw_journal.specs.Session.{Recovered, Shown, recover}
+use Rattle.paw_state.specs.State.{State}
+use Rattle.paw_state.specs.Record.{state_at}
+use Rattle.paw_state.specs.Fields.{fields_of, joined, world_bytes, number_bytes, table_bytes, pending_bytes}
+use Rattle.paw_play.specs.Session.{kept_bytes, IsKept}
+use Rattle.paw_play.specs.Stands.{Stands}
+use Rattle.paw_play.proofs.Going.{IsSettled}
+use Rattle.paw_play.proofs.Settling.{reading_settles}
+use Rattle.paw_gen.specs.Trial.{trial_game, trial_lines, location_count, object_count, line_count}
+use Rattle.paw_trial.specs.declared.Tally.{Tally}
+use Rattle.paw_trial.specs.Trial.{trial_reading, IsTextOf}
+use Rattle.paw_trial.specs.Session.{Waits, IsTallyOf, tally_in, tally_of}
+use Rattle.paw_trial.proofs.Lines.{plays_all, few_lines}
+
+-- the flags come first in a state's bytes
+flags_first : (s : State) (i : ℕ) → i < length s.world.flags → slice_index (kept_bytes s) i ≡ slice_index s.world.flags i
+unfolding kept_bytes world_bytes
+flags_first s i low =
+    let f = fields_of s in
+    let rest = joined (f.places ∷ (f.saved ∷ []) ∷ f.saved_flags ∷ f.saved_places ∷ []) in
+    get_or_append_left (s.world.flags ++ rest) (joined (number_bytes f ∷ table_bytes f ∷ pending_bytes f ∷ [])) 0 i (omega (arith, low, length-append s.world.flags rest))
+    ∙ get_or_append_left s.world.flags rest 0 i low
+
+same_state : (digest s p t q : List ℕ) → Shown digest s p ≡ Shown digest t q → s ≡ t
+same_state digest s p t q e = cc
+
+module _ (g : GameLists) (n : ℕ) (buffer piece : List ℕ) (r : Recovered) (is : r ≡ Shown (sha256 (image g)) (take 1371 buffer) piece) where
+  counts : (e : Ending) → IsSettled g n e → Waits e → IsKept (sha256 (image g)) n e r → IsTallyOf e (tally_in buffer)
+  counts (WaitsAt p path s) settled w kept =
+      let same : take 1371 buffer ≡ kept_bytes (state_at n p path s) = same_state _ _ _ _ _ (sym is ∙ kept.shown) in
+      let size : length s.world.flags ≡ 256 = settled.keeps.world.flags in
+      let flag_at : (i : ℕ) → i < 256 → slice_index buffer i ≡ slice_index s.world.flags i = λ i low.
+      sym (get_or-take 1371 buffer i 0 (omega (arith, low))) ∙ (ap (λ xs. get_or xs i 0) same ∙ flags_first (state_at n p path s) i (omega (arith, low, size))) in
+      let a = flag_at 31 (omega arith) in
+      let b = flag_at 32 (omega arith) in
+      let c = flag_at 38 (omega arith) in
+      let d = flag_at 1 (omega arith) in
+      cc
+  counts (IsOver s) settled w kept = absurd w
+  counts (RunsOut kind s) settled w kept = absurd w
+  counts (CallsTooDeep table s) settled w kept = absurd w
+  counts Unended settled w kept = absurd w
+
+pub trial_counts : (n : ℕ) (bytes buffer piece : List ℕ) → n < 65536 → Waits (trial_reading n) → Stands (trial_game n) n (trial_lines n) bytes →
+    recover bytes ≡ Shown (sha256 (image (trial_game n))) (take 1371 buffer) piece → IsTallyOf (trial_reading n) (tally_in buffer)
+trial_counts n bytes buffer piece low waits stands is =
+    counts (trial_game n) (length (trial_lines n)) buffer piece (recover bytes) is (trial_reading n)
+    (reading_settles (trial_game n) n (trial_lines n) (plays_all n low) (omega (arith, few_lines n))) waits stands.keeps
+
+record Counted : Type 0 where
+  locations : ℕ
+  objects : ℕ
+  events : ℕ
+  tally : Tally
+
+all_counted : (n locations objects events : ℕ) (t u : Tally) → locations ≡ location_count n → objects ≡ object_count n → events ≡ line_count n → t ≡ u →
+    ◌≡◌ {A = Counted} (record { locations = locations; objects = objects; events = events; tally = t }) (record { locations = location_count n; objects = object_count n; events = line_count n; tally = u })
+all_counted n locations objects events t u l o ev e = cc
+
+-- the line of what a session counts
+pub told_counts : (n locations objects events : ℕ) (e : Ending) (t : Tally) (text : List ℕ) → IsTallyOf e t → locations ≡ location_count n → objects ≡ object_count n → events ≡ line_count n →
+    text ≡ codes "TRIAL " ++ (decimal n ++ (codes ": " ++ (decimal locations ++ (codes " locations, " ++ (decimal objects ++ (codes " objects, "
+    ++ (decimal events ++ (codes " events, " ++ (decimal t.turns ++ (codes " turns, at " ++ (decimal t.at ++ (codes " with " ++ (decimal t.carried ++ codes "\n"))))))))))))) →
+    IsTextOf n e text
+told_counts n locations objects events (WaitsAt p path r) t text is l o ev e =
+    e ∙ ap (λ (x : Counted). codes "TRIAL " ++ (decimal n ++ (codes ": " ++ (decimal x.locations ++ (codes " locations, " ++ (decimal x.objects ++ (codes " objects, "
+    ++ (decimal x.events ++ (codes " events, " ++ (decimal x.tally.turns ++ (codes " turns, at " ++ (decimal x.tally.at ++ (codes " with " ++ (decimal x.tally.carried ++ codes "\n"))))))))))))))
+    (all_counted n locations objects events t (tally_of r.world) l o ev is)
+told_counts n locations objects events (IsOver r) t text is l o ev e = absurd is
+told_counts n locations objects events (RunsOut kind r) t text is l o ev e = absurd is
+told_counts n locations objects events (CallsTooDeep table r) t text is l o ev e = absurd is
+told_counts n locations objects events Unended t text is l o ev e = absurd is

@@ -1,0 +1,5 @@
+pub mod Lines
+pub mod Built
+pub mod Stops
+pub mod Comes
+pub mod Counts

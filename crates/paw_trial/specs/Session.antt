@@ -1,0 +1,63 @@
+-- The session of a trial, on the way.
+use Rattle.std.specs.Prelude.{◌≡◌, ℕ, ◌+◌, ◌*◌, ◌/◌, List, [], length, take, drop, codes, slice_index, Option, Some, None}
+use Rattle.paw_stage.specs.Disk.{IsStable}
+use Rattle.paw_stage.specs.Stage.{Standing}
+use Rattle.paw_effects.specs.Counts.{turns_taken}
+use Rattle.paw_world.specs.World.{World, flag}
+use Rattle.paw_reading.specs.Turn.{Ending, WaitsAt, reading}
+use Rattle.paw_play.specs.declared.PlayEnd.{PlayEnd}
+use Rattle.paw_play.specs.declared.PlayEnd.TheVariants as play
+use Rattle.paw_play.specs.Play.{store_bytes}
+use Rattle.paw_play.specs.Stands.{Stands}
+use Rattle.paw_gen.specs.Trial.{trial_game, trial_lines}
+use Rattle.paw_trial.specs.declared.TrialEnd.{TrialEnd}
+use Rattle.paw_trial.specs.declared.TrialEnd.TheVariants as end
+use Rattle.paw_trial.specs.declared.Tally.{Tally}
+
+-- the name of the store
+abbrev pub store_name : List ℕ
+store_name = codes "trial"
+
+-- the lines are played in two halves
+abbrev pub first_half : ℕ → List (List ℕ)
+first_half n = take (length (trial_lines n) / 2) (trial_lines n)
+
+abbrev pub second_half : ℕ → List (List ℕ)
+second_half n = drop (length (trial_lines n) / 2) (trial_lines n)
+
+-- the reading waits for another line
+abbrev pub Waits : Ending → Type 0
+Waits (WaitsAt p path r) = Unit {0}
+Waits _ = ⊥
+
+-- Nothing is unsynced at the stage, and no line is left. Its store stands for these lines of the trial's game, whose reading
+-- waits for another.
+pub record HoldsLines (n : ℕ) (es : List (List ℕ)) (s : Standing) : Type 0 where
+  pub stable : IsStable s.disk
+  pub none : s.lines ≡ []
+  pub waits : Waits (reading (trial_game n) [] n es)
+  pub stands : Stands (trial_game n) n es (store_bytes s store_name)
+
+-- how a trial stops where playing comes to this; it goes on where no line is left
+abbrev pub stop_of : PlayEnd → Option TrialEnd
+stop_of play.InputEnded = None
+stop_of play.Ended = Some end.Ended
+stop_of (play.Spent kind) = Some (end.Spent kind)
+stop_of (play.TooDeep table) = Some (end.TooDeep table)
+stop_of _ = Some end.Memory
+
+-- what a world counts
+abbrev pub tally_of : World → Tally
+tally_of w = record { turns = turns_taken w; at = flag w 38; carried = flag w 1 }
+
+abbrev pub IsTallyOf : Ending → Tally → Type 0
+IsTallyOf (WaitsAt p path r) t = t ≡ tally_of r.world
+IsTallyOf _ t = ⊥
+
+-- what the bytes of a state count
+abbrev pub tally_in : List ℕ → Tally
+tally_in state = record {
+  turns = slice_index state 31 + 256 * slice_index state 32;
+  at = slice_index state 38;
+  carried = slice_index state 1;
+}

@@ -1,0 +1,37 @@
+-- What a trial tells.
+use Rattle.std.specs.Prelude.{◌≡◌, ℕ, List, [], ◌++◌, codes, decimal}
+use Rattle.paw_world.specs.World.{World, flag}
+use Rattle.paw_effects.specs.Counts.{turns_taken}
+use Rattle.paw_reading.specs.Turn.{Ending, WaitsAt, IsOver, RunsOut, CallsTooDeep, reading}
+use Rattle.paw_gen.specs.Trial.{trial_game, trial_lines, location_count, object_count, line_count}
+use Rattle.paw_trial.specs.declared.TrialEnd.{TrialEnd}
+use Rattle.paw_trial.specs.declared.TrialEnd.TheVariants as end
+
+-- how the reading of all lines of a trial ends; its number is its seed
+abbrev pub trial_reading : ℕ → Ending
+trial_reading n = reading (trial_game n) [] n (trial_lines n)
+
+-- How large the game of a trial is, how many lines were taken and how many turns counted; and of the world at the end the
+-- player's location, and how many objects they carry.
+abbrev pub trial_text : ℕ → World → List ℕ
+trial_text n w =
+    codes "TRIAL " ++ (decimal n ++ (codes ": "
+    ++ (decimal (location_count n) ++ (codes " locations, "
+    ++ (decimal (object_count n) ++ (codes " objects, "
+    ++ (decimal (line_count n) ++ (codes " events, "
+    ++ (decimal (turns_taken w) ++ (codes " turns, at "
+    ++ (decimal (flag w 38) ++ (codes " with "
+    ++ (decimal (flag w 1) ++ codes "\n")))))))))))))
+
+-- the text of a reading that waits for another line
+abbrev pub IsTextOf : ℕ → Ending → List ℕ → Type 0
+IsTextOf n (WaitsAt p path r) text = text ≡ trial_text n r.world
+IsTextOf n _ text = ⊥
+
+-- a trial has no text where the reading ends otherwise, or where memory was wanting
+abbrev pub StopsAs : TrialEnd → Ending → Type 0
+StopsAs end.Memory e = Unit {0}
+StopsAs end.Ended (IsOver r) = Unit {0}
+StopsAs (end.Spent kind) (RunsOut found r) = kind ≡ found
+StopsAs (end.TooDeep table) (CallsTooDeep found r) = table ≡ found
+StopsAs _ _ = ⊥

@@ -1,0 +1,30 @@
+//! Trials: a large game is made from a number, played half way, stopped and resumed, and told in one line.
+#![tactic(auto)]
+
+mod counting;
+mod halves;
+mod setting;
+#[cfg(test)]
+mod tests;
+mod trial;
+
+use paw_base::fault::SpentKind;
+pub use trial::trial_line;
+
+/// Why a trial tells no line. Ended: the game is over. Spent: a piece would read or hold too much. TooDeep: a table was called
+/// at the deepest level. Memory: want of memory, or a call of the trial's own stage failed.
+#[derive(Clone, Copy, Drop, PartialEq, Eq, Debug)]
+pub enum TrialEnd {
+    Ended,
+    Spent(SpentKind),
+    TooDeep { table: u8 },
+    Memory,
+}
+
+/// What a session counts: its turns, the player's location, and how many objects they carry.
+#[derive(Clone, Copy, Drop, PartialEq, Eq, Debug)]
+pub(crate) struct Tally {
+    pub turns: u32,
+    pub at: u8,
+    pub carried: u8,
+}

@@ -1,0 +1,112 @@
+// What a trial is played with.
+
+ghost use Rattle.std.specs.Prelude.{◌≡◌, ◌<◌, ◌≤◌, length, IfOk};
+ghost use Rattle.sha2.specs.Sha256.{sha256};
+ghost use Rattle.paw_game.specs.Image.{image};
+ghost use Rattle.paw_gen.specs.Trial.{trial_game};
+ghost use Rattle.paw_trial.specs.Session.{first_half, second_half};
+
+use paw_base::fault::NoRoom;
+use paw_game::game::Game;
+use paw_game::parts::Text;
+use paw_gen::{game_of, lines_of};
+use paw_image::encoder::encode;
+use paw_image::refusal::ImageRefusal;
+use paw_journal::digest;
+use std::alloc::Global;
+use std::marker::Model;
+
+/// A trial: its number, its game, the digest of the game's image, and its lines. Contracts see the number.
+#[derive(Drop)]
+pub(crate) struct Setting {
+    n: u16,
+    game: Game,
+    digest: [u8; 32],
+    lines: Vec<Text>,
+}
+
+impl Model for Setting {
+    ghost use Rattle.std.specs.Prelude.{◌≡◌, ◌<◌, ℕ};
+    ghost use Rattle.sha2.specs.Sha256.{sha256};
+    ghost use Rattle.paw_game.specs.Image.{image};
+    ghost use Rattle.paw_gen.specs.Trial.{trial_game, trial_lines};
+
+    ghost Value = { ℕ };
+
+    ghost view = { λ s. s.n };
+
+    ghost invariant = { λ s. (s.game ≡ trial_game s.n)
+        × (s.digest ≡ sha256 (image (trial_game s.n)))
+        × (s.lines.items ≡ trial_lines s.n)
+        × (s.n < 65536) };
+}
+
+/// The image of a game that isn't too long.
+fn image_of(alloc: Global, game: &Game) -> Result<Vec<u8>, NoRoom>
+    requires { length (image game.now) ≤ 4194304 }
+    ensures { IfOk result (λ v. v.items ≡ image game.now) }
+{
+    match encode(alloc, game) {
+        Ok(bytes) => Ok(bytes),
+        Err(ImageRefusal::Memory) => Err(NoRoom),
+        Err(ImageRefusal::Damaged { .. }) => unreachable!(),
+    }
+}
+
+impl Setting {
+    /// The trial of this number.
+    ///
+    /// # Errors
+    /// NoRoom for want of memory.
+    pub(crate) fn new(alloc: Global, n: u16) -> Result<Setting, NoRoom>
+        ensures { IfOk result (λ s. s ≡ n) }
+    {
+        let game = game_of(alloc, n)?;
+        let image = image_of(alloc, &game)?;
+        let digest = digest(image.as_slice());
+        let lines = lines_of(alloc, n)?;
+        Ok(Setting {
+            n,
+            game,
+            digest,
+            lines,
+        })
+    }
+
+    /// The number, which is the seed as well.
+    pub(crate) fn number(&self) -> u16
+        ensures { result ≡ self.now }
+    {
+        self.n
+    }
+
+    /// The game.
+    pub(crate) fn game(&self) -> &Game
+        ensures { result.now ≡ trial_game self.now }
+    {
+        &self.game
+    }
+
+    /// The digest of the game's image.
+    pub(crate) fn digest(&self) -> &[u8; 32]
+        ensures digest { result.now ≡ sha256 (image (trial_game self.now)) }
+        ensures small { self.now < 65536 }
+    {
+        &self.digest
+    }
+
+    /// The first half of the lines, rounded down.
+    pub(crate) fn first_half(&self) -> &[Text]
+        ensures { result.now ≡ first_half self.now }
+    {
+        &self.lines[..self.lines.len() / 2]
+    }
+
+    /// The other lines.
+    pub(crate) fn second_half(&self) -> &[Text]
+        ensures lines { result.now ≡ second_half self.now }
+        ensures small { self.now < 65536 }
+    {
+        &self.lines[self.lines.len() / 2..]
+    }
+}

@@ -1,0 +1,52 @@
+// Flags and places that are put aside together.
+
+ghost use Rattle.std.specs.Prelude.{◌≡◌, ◌≤◌, length};
+
+use std::marker::Model;
+
+/// The flags and the places of all objects, as they stood once.
+#[derive(Drop)]
+pub(crate) struct Position {
+    flags: [u8; 256],
+    places: [u8; 255],
+    count: u8,
+}
+
+impl Model for Position {
+    ghost use Rattle.std.specs.Prelude.{take};
+    ghost use Rattle.paw_world.specs.World.{Position};
+
+    ghost Value = { Position };
+
+    ghost view = { λ p. record { flags = p.flags; places = take p.count p.places } };
+}
+
+impl Position {
+    /// These flags and places.
+    pub(crate) fn of(flags: &[u8; 256], places: &[u8]) -> Position
+        requires few { length places.now ≤ 255 }
+        ensures value { result ≡ record { flags = flags.now; places = places.now } }
+    {
+        let mut all = [0; 255];
+        all[..places.len()].copy_from_slice(places);
+        Position {
+            flags: *flags,
+            places: all,
+            count: places.len() as u8,
+        }
+    }
+
+    /// The values of all flags.
+    pub(crate) fn flags(&self) -> &[u8; 256]
+        ensures value { result.now ≡ self.now.flags }
+    {
+        &self.flags
+    }
+
+    /// The places of all objects, in the order of their numbers.
+    pub(crate) fn places(&self) -> &[u8]
+        ensures value { result.now ≡ self.now.places }
+    {
+        &self.places[..self.count as usize]
+    }
+}
