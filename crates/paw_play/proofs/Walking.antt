@@ -227,7 +227,7 @@ walks_on g whole most n first now mid new seat next given line s (Some (end.Spen
       suc n,
       omega (arith, few),
       e.0,
-      e.3,
+      e.4,
       record {
         reading = read_after g whole n first now mid new seat next given line s w seated then_seated game last lines cut took plays ∙ e.1;
         there = one_more g whole n first now mid new seat next given line s w seated then_seated game last lines cut took plays;
@@ -242,7 +242,7 @@ walks_on g whole most n first now mid new seat next given line s (Some (end.TooD
       suc n,
       omega (arith, few),
       e.0,
-      e.3,
+      e.4,
       record {
         reading = read_after g whole n first now mid new seat next given line s w seated then_seated game last lines cut took plays ∙ e.1;
         there = one_more g whole n first now mid new seat next given line s w seated then_seated game last lines cut took plays;
@@ -310,11 +310,11 @@ walk_begins g whole most old new seat s (Some end.Ended) seated last plays told 
 walk_begins g whole most old new seat s (Some (end.Spent kind)) seated last plays told =
     let at : PlaysTo g whole (step.Spent kind) seat [] [] = subst (λ q. PlaysTo g whole q seat [] []) told.0 plays in
     let e = at.1 [] in
-    (0, omega arith, e.0, e.3, record { reading = e.1; there = omega arith; stands = first_stands old new [] (told.1 ∙ shown_nothing old) ∙ ap (played old 0) (sym (ap joined e.2)) })
+    (0, omega arith, e.0, e.4, record { reading = e.1; there = omega arith; stands = first_stands old new [] (told.1 ∙ shown_nothing old) ∙ ap (played old 0) (sym (ap joined e.2)) })
 walk_begins g whole most old new seat s (Some (end.TooDeep table)) seated last plays told =
     let at : PlaysTo g whole (step.TooDeep table) seat [] [] = subst (λ q. PlaysTo g whole q seat [] []) told.0 plays in
     let e = at.1 [] in
-    (0, omega arith, e.0, e.3, record { reading = e.1; there = omega arith; stands = first_stands old new [] (told.1 ∙ shown_nothing old) ∙ ap (played old 0) (sym (ap joined e.2)) })
+    (0, omega arith, e.0, e.4, record { reading = e.1; there = omega arith; stands = first_stands old new [] (told.1 ∙ shown_nothing old) ∙ ap (played old 0) (sym (ap joined e.2)) })
 walk_begins g whole most old new seat s (Some (end.Outside call.Show)) seated last plays told =
     let all : text_of (whole []) ≡ seat.piece
     = text_shown g whole s seat [] [] told.0 (subst (λ q. Stands q seat.machine) last seated.machine) plays in (

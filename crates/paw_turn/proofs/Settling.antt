@@ -53,14 +53,14 @@ settles g routines whole total once (step.Spent kind) last new past has stops = 
   λ lines.
       let k = stops 0 lines in
       let e = k.1.1 in
-      (k.1.0, sym (once k.0 lines (λ u. cc (e, u))) ∙ e, k.1.2.pieces, k.1.2.events),
+      (k.1.0, sym (once k.0 lines (λ u. cc (e, u))) ∙ e, k.1.2.pieces, k.1.2.traces, k.1.2.events),
 )
 settles g routines whole total once (step.TooDeep u) last new past has stops = (
   refl,
   λ lines.
       let k = stops 0 lines in
       let e = k.1.1 in
-      (k.1.0, sym (once k.0 lines (λ v. cc (e, v))) ∙ e, k.1.2.pieces, k.1.2.events),
+      (k.1.0, sym (once k.0 lines (λ v. cc (e, v))) ∙ e, k.1.2.pieces, k.1.2.traces, k.1.2.events),
 )
 
 -- the past of a player with these pieces, at the start of a piece

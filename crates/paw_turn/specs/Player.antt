@@ -58,9 +58,9 @@ PlaysTo g whole step.Ended new pieces traces =
     (read : List Read) × ((new.machine.steps ≡ kept_steps read) × ((lines : List (List ℕ)) →
     whole lines ≡ IsOver (run_at new (pieces ++ new.piece ∷ []) (traces ++ read ∷ []) lines)))
 PlaysTo g whole (step.Spent kind) new pieces traces =
-    (new.piece ≡ []) × ((lines : List (List ℕ)) → (r : Run) × (whole lines ≡ RunsOut kind r) × (r.pieces ≡ pieces) × (r.events ≡ lines))
+    (new.piece ≡ []) × ((lines : List (List ℕ)) → (r : Run) × (whole lines ≡ RunsOut kind r) × (r.pieces ≡ pieces) × (r.traces ≡ traces) × (r.events ≡ lines))
 PlaysTo g whole (step.TooDeep u) new pieces traces =
-    (new.piece ≡ []) × ((lines : List (List ℕ)) → (r : Run) × (whole lines ≡ CallsTooDeep u r) × (r.pieces ≡ pieces) × (r.events ≡ lines))
+    (new.piece ≡ []) × ((lines : List (List ℕ)) → (r : Run) × (whole lines ≡ CallsTooDeep u r) × (r.pieces ≡ pieces) × (r.traces ≡ traces) × (r.events ≡ lines))
 
 -- a loop of the outermost level belongs to this table
 abbrev pub IsLoopOf : ℕ → Option OpenLoop → Type 0
