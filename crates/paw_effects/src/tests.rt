@@ -1,6 +1,6 @@
 // Condacts of a small game, read one after the other.
 
-ghost use Rattle.std.specs.Prelude.{◌≡◌, ◌-◌, ◌/◌, ◌==◌, ◌<◌, ◌^◌, IfOk, count_ones, map, if◌then◌else◌};
+ghost use Rattle.std.specs.Prelude.{◌≡◌, ◌+◌, ◌-◌, ◌/◌, ◌%◌, ◌==◌, ◌<◌, ◌^◌, IfOk, count_ones, map, if◌then◌else◌};
 ghost use Rattle.paw_effects.specs.Built.{IsOf};
 ghost use Rattle.paw_routines.specs.Routines.{HaveRows};
 
@@ -272,6 +272,27 @@ const ROUTINES: [Case; 24] = [
     (13, 60, 7, YES),
 ];
 
+/// Five routines, of which number n adds n. There is no sixth.
+const FIVE_ROUTINES: [Case; 9] = [
+    (70, 60, 250, GO),
+    (91, 4, 60, GO),
+    (13, 60, 254, YES),
+    (91, 3, 60, GO),
+    (13, 60, 1, YES),
+    (91, 0, 60, GO),
+    (13, 60, 1, YES),
+    (91, 5, 60, GO),
+    (13, 60, 1, YES),
+];
+
+/// There is no routine.
+const NO_ROUTINES: [Case; 4] = [
+    (70, 60, 9, GO),
+    (91, 0, 60, GO),
+    (91, 2, 60, GO),
+    (13, 60, 9, YES),
+];
+
 /// Positions 1 (of flag 58 at 1 and 5) and 3 are kept; the other two can't be taken back, which message 8 says.
 const POSITIONS: [Case; 25] = [
     (37, 0, 0, REDESCRIBE),
@@ -491,13 +512,47 @@ fn read_all<F: Fn(u8, u8) -> u8>(
     }
 }
 
-/// Reads these condacts in this piece.
-fn run(rt: &impl Abort, alloc: Global, cases: &[Case], piece: &mut Piece) -> Result<(), Fail> {
+/// Reads these condacts in this piece, with these routines.
+fn run_with<F: Fn(u8, u8) -> u8>(
+    rt: &impl Abort,
+    alloc: Global,
+    routines: &Routines<F>,
+    cases: &[Case],
+    piece: &mut Piece,
+) -> Result<(), Fail>
+    requires rows { HaveRows F.Fn routines.now }
+{
     let game = Game::new(parts(alloc, cases)?)?;
     let mut world = opened(rt, alloc, &game)?;
-    let routines = Routines::new(3, give);
-    read_all(rt, &game, &mut world, &routines, piece, cases);
+    read_all(rt, &game, &mut world, routines, piece, cases);
     Ok(())
+}
+
+/// Reads these condacts in this piece, with three routines.
+fn run(rt: &impl Abort, alloc: Global, cases: &[Case], piece: &mut Piece) -> Result<(), Fail> {
+    let routines = Routines::new(3, give);
+    run_with(rt, alloc, &routines, cases, piece)
+}
+
+/// What routine n of five gives.
+fn add(n: u8, x: u8) -> u8
+    ensures value { result ≡ (x + n) % 256 }
+{
+    x.wrapping_add(n)
+}
+
+#[test]
+fn five_routines(rt: HostRuntime) -> Result<(), Fail> {
+    let routines = Routines::new(5, add);
+    let mut piece = Piece::new(rt.alloc())?;
+    run_with(&rt, rt.alloc(), &routines, &FIVE_ROUTINES, &mut piece)
+}
+
+#[test]
+fn no_routines(rt: HostRuntime) -> Result<(), Fail> {
+    let routines = Routines::new(0, |_, x| x);
+    let mut piece = Piece::new(rt.alloc())?;
+    run_with(&rt, rt.alloc(), &routines, &NO_ROUTINES, &mut piece)
 }
 
 #[test]
