@@ -1,4 +1,5 @@
 use super::*;
+use std::process::Abort;
 use std::test::Fail;
 
 fn step(entry: u16) -> StepRow {
@@ -11,19 +12,24 @@ fn step(entry: u16) -> StepRow {
     }
 }
 
+fn note(rt: &impl Abort, steps: &mut Steps, entry: u16) {
+    assert!(rt; steps.count() < 1_000_000);
+    steps.note(step(entry));
+}
+
 #[test]
 fn the_first_thousand_steps_are_kept_and_all_are_counted(rt: HostRuntime) -> Result<(), Fail> {
     let mut steps = Steps::new();
     assert!(rt; steps.rows().is_empty());
     assert_eq!(rt; steps.count(), 0);
     for entry in 0..1001 {
-        steps.note(step(entry));
+        note(&rt, &mut steps, entry);
     }
     assert_eq!(rt; steps.rows().len(), 1000);
-    assert_eq!(rt; steps.rows()[999], step(999));
+    assert_eq!(rt; steps.rows().last(), Some(&step(999)));
     assert_eq!(rt; steps.count(), 1001);
     steps.clear();
-    steps.note(step(7));
+    note(&rt, &mut steps, 7);
     assert_eq!(rt; steps.rows(), [step(7)].as_slice());
     assert_eq!(rt; steps.count(), 1);
     Ok(())
