@@ -1,5 +1,6 @@
 pub mod Calls
 pub mod Walk
+pub mod Traces
 pub mod Session
 pub mod Stands
 pub mod Keeping

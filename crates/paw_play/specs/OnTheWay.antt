@@ -1,5 +1,7 @@
 -- What stands on the way, inside a call.
-use Rattle.std.specs.Prelude.{◌≡◌, ◌≢◌, ℕ, suc, ◌-◌, ◌<◌, ◌≤◌, List, [], ◌++◌, length, take, replicate, reverse, Option, Some, None, Result, Ok, Err}
+use Rattle.std.specs.Prelude.{◌≡◌, ◌≢◌, ℕ, suc, ◌-◌, ◌<◌, ◌≤◌, List, [], ◌++◌, length, take, flat_map, replicate, reverse, Option, Some, None, Result, Ok, Err}
+use Rattle.paw_base.specs.Steps.{KeptSteps}
+use Rattle.paw_base.specs.declared.limits.TheConstants.{STEP_LIMIT}
 use Rattle.paw_stage.specs.Disk.{IsStable}
 use Rattle.paw_stage.specs.Stage.{Standing}
 use Rattle.paw_stage.specs.Moments.{Moment}
@@ -22,6 +24,7 @@ use Rattle.paw_play.specs.declared.PlayEnd.TheVariants as end
 use Rattle.paw_play.specs.declared.TheConstants.{MOST_EVENTS}
 use Rattle.paw_play.specs.Session.{kept_bytes}
 use Rattle.paw_play.specs.Walk.{Reading, first_lines, played, joined, text_before, Walks}
+use Rattle.paw_play.specs.Traces.{step_line, more_line, traced_pieces, traced}
 use Rattle.paw_play.specs.Keeping.{InMakingOf, RestsWith, LeavesStore}
 use Rattle.paw_play.specs.Play.{Played, KeptBy, PlaysOn, PlaysIn, with_store}
 
@@ -78,6 +81,38 @@ WalksOn g whole most first now seat n (Some o) = Walks whole most first now o
 abbrev pub WalksFrom : {F : Type 0} → Story → Reading → ℕ → Standing → Standing → Seat F → Option PlayEnd → Type 0
 WalksFrom g whole most old now seat None = IsWalking g whole old now seat 0
 WalksFrom g whole most old now seat (Some o) = Walks whole most old now o
+
+-- ---- a trace ----
+
+-- the text of the steps that are kept
+abbrev pub kept_text : KeptSteps → List ℕ
+kept_text kept = flat_map step_line (take STEP_LIMIT kept.rows) ++ more_line (kept.count - STEP_LIMIT)
+
+-- what a trace shows of a player's last piece
+abbrev pub seat_text : {F : Type 0} → Seat F → List ℕ
+seat_text p = kept_text p.machine.steps ++ p.piece
+
+-- the trace is at a prompt: as a walk, but that each piece was shown behind the text of its steps
+pub record IsTracing {F : Type 0} (g : Story) (whole : Reading) (old now : Standing) (seat : Seat F) (n : ℕ) : Type 0 where
+  pub prompt : Prompt
+  pub waits : seat.last ≡ step.Waits prompt
+  pub pieces : List (List ℕ)
+  pub traces : List (List Read)
+  pub each : length traces ≡ length pieces
+  pub goes_on : (more : List (List ℕ)) →
+      whole (first_lines n old.lines ++ more) ≡ on g prompt (reverse seat.machine.frames) (run_at seat pieces traces more)
+  pub there : n ≤ length old.lines
+  pub stands : now ≡ played old n (joined (traced_pieces pieces traces))
+
+-- after one line more: the trace is at the next prompt, or has come to this
+abbrev pub TracesOn : {F : Type 0} → Story → Reading → ℕ → Standing → Standing → Seat F → ℕ → Option PlayEnd → Type 0
+TracesOn g whole most old now seat n None = IsTracing g whole old now seat (suc n)
+TracesOn g whole most old now seat n (Some o) = Walks (traced whole) most old now o
+
+-- after piece 0: the trace is at the first prompt, or has come to this
+abbrev pub TracesFrom : {F : Type 0} → Story → Reading → ℕ → Standing → Standing → Seat F → Option PlayEnd → Type 0
+TracesFrom g whole most old now seat None = IsTracing g whole old now seat 0
+TracesFrom g whole most old now seat (Some o) = Walks (traced whole) most old now o
 
 -- ---- a session ----
 

@@ -1,0 +1,52 @@
+-- What a trace shows: before each piece the steps of that piece.
+use Rattle.std.specs.Prelude.{ℕ, zero, suc, ◌-◌, Bool, true, false, List, [], ◌∷◌, ◌++◌, length, take, codes, decimal, flat_map}
+use Rattle.paw_base.specs.Condacts.{name_of}
+use Rattle.paw_base.specs.declared.limits.TheConstants.{STEP_LIMIT}
+use Rattle.paw_reading.specs.Run.{Run, Step}
+use Rattle.paw_reading.specs.Turn.{Ending, WaitsAt, IsOver, RunsOut, CallsTooDeep, Unended}
+use Rattle.paw_play.specs.Walk.{Reading}
+
+-- ---- the text of steps ----
+
+-- where a condact stands: its table, its entry there, and its place in the entry, each counted from 0
+abbrev pub place_text : Step → List ℕ
+place_text step = decimal step.table ++ (codes "." ++ (decimal step.entry ++ (codes "." ++ decimal step.at)))
+
+-- no stands for a condition that failed
+abbrev pub answer_text : Bool → List ℕ
+answer_text true = codes " yes\n"
+answer_text false = codes " no\n"
+
+-- the line of a step, as 1.0.0 LISTOBJ yes
+abbrev pub step_line : Step → List ℕ
+step_line step = place_text step ++ (codes " " ++ (name_of step.code ++ answer_text step.yes))
+
+-- how many more steps there were than lines, where there were more
+abbrev pub more_line : ℕ → List ℕ
+more_line zero = []
+more_line (suc n) = codes "[" ++ (decimal (suc n) ++ codes " more]\n")
+
+-- a line for each of the first 1,000 steps of a piece, and then how many more there were
+abbrev pub steps_text : List Step → List ℕ
+steps_text steps = flat_map step_line (take STEP_LIMIT steps) ++ more_line (length steps - STEP_LIMIT)
+
+-- ---- the reading that a trace shows ----
+
+-- each closed piece behind the text of its steps
+abbrev pub traced_pieces : List (List ℕ) → List (List Step) → List (List ℕ)
+traced_pieces (piece ∷ pieces) (steps ∷ traces) = (steps_text steps ++ piece) ∷ traced_pieces pieces traces
+traced_pieces pieces traces = pieces
+
+abbrev pub traced_run : Run → Run
+traced_run r = record r { pieces = traced_pieces r.pieces r.traces }
+
+abbrev pub traced_ending : Ending → Ending
+traced_ending (WaitsAt p path r) = WaitsAt p path (traced_run r)
+traced_ending (IsOver r) = IsOver (traced_run r)
+traced_ending (RunsOut kind r) = RunsOut kind (traced_run r)
+traced_ending (CallsTooDeep table r) = CallsTooDeep table (traced_run r)
+traced_ending Unended = Unended
+
+-- a reading whose pieces are told so
+abbrev pub traced : Reading → Reading
+traced whole lines = traced_ending (whole lines)
