@@ -1,14 +1,14 @@
 -- The attach of a session's store.
-use Rattle.std.proofs.Common.{◌≡◌, ◌≢◌, ℕ, zero, suc, ◌<◌, ◌≤◌, List, [], ◌∷◌, Option, Some, None, Ok, refl, sym, ap, ◌∙◌, subst, length, arith, inl, inr, ◌⊎◌}
+use Rattle.std.proofs.Common.{◌≡◌, ◌≢◌, ℕ, List, [], ◌∷◌, Option, Some, None, Ok, refl, sym, ap, ◌∙◌, subst, length, inl, inr, ◌⊎◌}
 use Rattle.paw_effects.specs.Story.{Story}
-use Rattle.paw_stage.specs.Disk.{MayLeave, IsStable, stable}
+use Rattle.paw_stage.specs.Disk.{MayLeave, stable}
 use Rattle.paw_stage.specs.Stage.{Standing, Files, bytes_or_none, made_if_missing, AttachesTo}
 use Rattle.paw_stage.specs.Moments.{Moment, InAttach}
 use Rattle.paw_stage.proofs.Names.{holds_same, holds_other}
 use Rattle.paw_journal.proofs.Disks.{stable_is, stable_leaves}
 use Rattle.paw_journal.specs.Session.{IsUnmade, recover, recover_by}
 use Rattle.paw_play.specs.Keeping.{InSession, InMakingOf}
-use Rattle.paw_play.specs.Play.{InGame, NotYet, attached_to, store_bytes}
+use Rattle.paw_play.specs.Play.{InGame, attached_to, store_bytes}
 use Rattle.paw_play.specs.OnTheWay.{IsStore}
 
 no_bytes : (bytes : List ℕ) → length bytes ≡ 0 → bytes ≡ []

@@ -1,7 +1,7 @@
 -- A new session, from the attach of its store to its first prompt.
-use Rattle.std.proofs.Common.{◌≡◌, ◌≢◌, ℕ, ◌+◌, ◌≤◌, ◌<◌, List, [], ◌∷◌, ◌++◌, Option, Some, None, refl, sym, ap, ◌∙◌, subst, length, take, drop, arith, inl, inr, ◌⊎◌}
-use Rattle.std.proofs.lemmas.List.{append-nil, take-append-drop}
-use Rattle.paw_stage.specs.Disk.{MayLeave, IsStable}
+use Rattle.std.proofs.Common.{◌≡◌, ◌≢◌, ℕ, ◌+◌, List, [], ◌++◌, Some, None, refl, sym, ap, ◌∙◌, subst, take, drop, arith, inl, inr, ◌⊎◌}
+use Rattle.std.proofs.lemmas.List.{take-append-drop}
+use Rattle.paw_stage.specs.Disk.{IsStable}
 use Rattle.paw_stage.specs.Stage.{Standing}
 use Rattle.paw_stage.specs.Moments.{Moment, InShow}
 use Rattle.paw_stage.specs.declared.StageCall.{StageCall}
@@ -19,8 +19,8 @@ use Rattle.paw_play.specs.declared.PlayEnd.{PlayEnd}
 use Rattle.paw_play.specs.declared.PlayEnd.TheVariants as end
 use Rattle.paw_play.specs.declared.TheConstants.{MOST_EVENTS}
 use Rattle.paw_play.specs.Walk.{Walks}
-use Rattle.paw_play.specs.Play.{Played, KeepsLines, InPlay, with_store, PlaysOn}
-use Rattle.paw_play.specs.OnTheWay.{WalksFrom, IsWalking, Told, ShowsPiece, refusal_of, seat_state, InMaking, Rests, IsPlaying, IsStore, BegunAs}
+use Rattle.paw_play.specs.Play.{Played, KeepsLines, InPlay, with_store}
+use Rattle.paw_play.specs.OnTheWay.{IsWalking, Told, ShowsPiece, refusal_of, seat_state, InMaking, Rests, IsPlaying, IsStore, BegunAs}
 use Rattle.paw_play.proofs.Kept.{step_kept}
 use Rattle.paw_play.proofs.Walking.{walk_begins, text_shown}
 use Rattle.paw_effects.specs.Story.{Story}

@@ -1,5 +1,5 @@
 -- A new session, by the lines of its game.
-use Rattle.std.proofs.Common.{◌≡◌, ◌⊎◌, inl, inr, ℕ, ◌+◌, ◌≤◌, List, [], length, map, take, refl, sym, ◌∙◌, subst, arith}
+use Rattle.std.proofs.Common.{◌≡◌, ◌⊎◌, inl, inr, ℕ, ◌+◌, ◌≤◌, List, [], length, take, refl, ◌∙◌, subst, arith}
 use Rattle.std.proofs.lemmas.List.{length-map, length-take-le}
 use Rattle.sha2.specs.Sha256.{sha256}
 use Rattle.paw_effects.specs.Story.{Story}
@@ -12,7 +12,7 @@ use Rattle.paw_play.specs.declared.PlayEnd.{PlayEnd}
 use Rattle.paw_play.specs.declared.TheConstants.{MOST_EVENTS}
 use Rattle.paw_play.specs.Session.{IsKept}
 use Rattle.paw_play.specs.Walk.{first_lines}
-use Rattle.paw_play.specs.Stands.{Stands, StandsFor, text_since}
+use Rattle.paw_play.specs.Stands.{StandsFor, text_since}
 use Rattle.paw_play.specs.Play.{KeptBy, InPlay, InGame, PlaysIn, attached_to}
 use Rattle.paw_play.specs.OnTheWay.{InMaking, PlaysInStore, new_session}
 use Rattle.paw_play.proofs.Attaching.{making_from, playing_from}

@@ -1,5 +1,5 @@
 -- Going on from a kept state is reading the longer list of lines.
-use Rattle.std.proofs.Common.{◌≡◌, ◌≢◌, ℕ, zero, suc, ◌+◌, ◌<◌, ◌≤◌, List, [], ◌∷◌, ◌++◌, Option, Some, None, refl, sym, ap, ◌∙◌, length, drop, append-nil, arith}
+use Rattle.std.proofs.Common.{◌≡◌, ℕ, zero, suc, ◌+◌, ◌<◌, ◌≤◌, List, [], ◌∷◌, ◌++◌, Option, Some, None, refl, sym, ap, ◌∙◌, length, drop, append-nil, arith}
 use Rattle.std.specs.Prelude.{◌-◌, replicate}
 use Rattle.std.proofs.Math.Seq.{take-append_seam}
 use Rattle.sha2.specs.Sha256.{sha256}

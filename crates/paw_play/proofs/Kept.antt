@@ -1,21 +1,20 @@
 -- What a session keeps of a player.
-use Rattle.std.proofs.Common.{◌≡◌, ℕ, List, [], ◌∷◌, ◌++◌, refl, sym, ap, ◌∙◌, subst, length}
+use Rattle.std.proofs.Common.{◌≡◌, ℕ, List, [], ◌∷◌, ◌++◌, refl, sym, ap, ◌∙◌, length}
 use Rattle.std.specs.Prelude.{reverse, replicate, ◌-◌}
 use Rattle.paw_effects.specs.declared.act.Prompt.{Prompt}
 use Rattle.paw_effects.specs.declared.act.Prompt.TheVariants as prompt
-use Rattle.paw_reading.specs.declared.places.Frame.{Frame}
-use Rattle.paw_reading.specs.Run.{Run, Step as Read}
+use Rattle.paw_reading.specs.Run.{Step as Read}
 use Rattle.paw_reading.specs.Turn.{Ending, WaitsAt, IsOver}
 use Rattle.paw_turn.specs.Player.{Seat, run_at, PlaysTo, Stands}
 use Rattle.paw_turn.specs.declared.Step.{Step}
 use Rattle.paw_turn.specs.declared.Step.TheVariants as step
-use Rattle.paw_journal.specs.Session.{Recovered, Shown}
+use Rattle.paw_journal.specs.Session.{Shown}
 use Rattle.std.proofs.lemmas.List.{length-reverse}
 use Rattle.paw_process.specs.Kept.{kept, unused}
 use Rattle.paw_process.specs.OpenTables.{OpenTables}
 use Rattle.paw_process.specs.declared.kept.Frames.{Frames}
 use Rattle.paw_state.specs.Record.{last_piece, frames_at}
-use Rattle.paw_play.specs.Session.{kept_bytes, state_after, IsKept}
+use Rattle.paw_play.specs.Session.{kept_bytes, IsKept}
 use Rattle.paw_play.specs.Walk.{Reading}
 use Rattle.paw_play.specs.OnTheWay.{ShowsPiece, seat_state}
 use Rattle.paw_play.proofs.Walking.{on_waits}

@@ -1,7 +1,7 @@
 -- A session, line by line.
-use Rattle.std.proofs.Common.{◌≡◌, ◌≢◌, ℕ, zero, suc, ◌+◌, ◌-◌, ◌≤◌, ◌<◌, List, [], ◌∷◌, ◌++◌, Option, Some, None, refl, sym, ap, ◌∙◌, subst, length, take, drop, arith, append_assoc, inl, inr, ◌⊎◌, Ok, Err}
+use Rattle.std.proofs.Common.{◌≡◌, ◌≢◌, ℕ, zero, suc, ◌+◌, ◌≤◌, ◌<◌, List, [], ◌∷◌, ◌++◌, Option, Some, None, refl, sym, ap, ◌∙◌, subst, length, take, drop, arith, append_assoc, inl, inr}
 use Rattle.std.proofs.lemmas.List.{append-nil, take-append-drop}
-use Rattle.std.specs.Prelude.{reverse, Result}
+use Rattle.std.specs.Prelude.{reverse}
 use Rattle.paw_stage.specs.Disk.{MayLeave, IsStable}
 use Rattle.paw_stage.specs.Stage.{Standing, AsksTo}
 use Rattle.paw_stage.specs.Moments.{Moment, moment_of, InAsk, InShow}
@@ -10,24 +10,23 @@ use Rattle.paw_stage.specs.declared.StageCall.{StageCall}
 use Rattle.paw_stage.specs.declared.Asked.{Asked}
 use Rattle.paw_stage.specs.declared.Asked.TheVariants as asked
 use Rattle.paw_journal.proofs.Disks.{stable_leaves}
-use Rattle.paw_reading.specs.Turn.{Ending, on, text_of}
+use Rattle.paw_reading.specs.Turn.{on, text_of}
 use Rattle.paw_turn.specs.Player.{Seat, run_at, IsSeated, Stands}
 use Rattle.paw_turn.specs.Player.{PlaysTo as StepsTo}
 use Rattle.paw_turn.specs.declared.Step.{Step}
 use Rattle.paw_turn.specs.declared.Step.TheVariants as step
-use Rattle.paw_journal.specs.Session.{Recovered, Shown, recover, kept_digest}
+use Rattle.paw_journal.specs.Session.{Shown, recover, kept_digest}
 use Rattle.paw_journal.specs.Store.{IsBeside, InStore, Leaves, IsEither}
-use Rattle.paw_journal.specs.Journal.{Keeps, IsAtRest, IsWriting}
+use Rattle.paw_journal.specs.Journal.{IsWriting}
 use Rattle.paw_play.specs.declared.PlayEnd.{PlayEnd}
 use Rattle.paw_play.specs.declared.PlayEnd.TheVariants as end
 use Rattle.paw_play.specs.declared.TheConstants.{MOST_EVENTS}
-use Rattle.paw_play.specs.Session.{IsKept}
-use Rattle.paw_play.specs.Walk.{Reading, first_lines, played, text_before, joined, Walks}
+use Rattle.paw_play.specs.Walk.{first_lines, played, joined, Walks}
 use Rattle.paw_play.specs.Keeping.{IsPart, AgreesWith, KeepsUpWith, KeepsAllButLast}
 use Rattle.paw_play.specs.Play.{Played, KeepsLines, KeptBy, InPlay, with_store, Uncommitted, PlaysOn}
-use Rattle.paw_play.specs.OnTheWay.{IsWalking, WalksOn, Told, ShowsPiece, refusal_of, seat_state, Rests, IsPlaying, PlaysTo}
+use Rattle.paw_play.specs.OnTheWay.{IsWalking, WalksOn, Told, ShowsPiece, refusal_of, seat_state, Rests, IsPlaying}
 use Rattle.paw_play.proofs.Kept.{step_kept}
-use Rattle.paw_play.proofs.Walking.{walks_on, long_walk, none_left, none_asked, text_so_far, text_shown, read_after, one_more, joined_more, drop_more, stands_after, shown_nothing}
+use Rattle.paw_play.proofs.Walking.{walks_on, long_walk, none_left, none_asked, text_so_far, text_shown, read_after, drop_more, stands_after, shown_nothing}
 use Rattle.paw_effects.specs.Story.{Story}
 
 -- ---- at a prompt ----

@@ -1,5 +1,5 @@
 -- Where a reading stops its state keeps the rules.
-use Rattle.std.proofs.Common.{◌≡◌, ℕ, zero, suc, ◌+◌, ◌*◌, ◌^◌, ◌<◌, ◌≤◌, List, [], ◌∷◌, Option, Some, None, refl, sym, ap, ◌∙◌, subst, length, arith}
+use Rattle.std.proofs.Common.{◌≡◌, ℕ, suc, ◌+◌, ◌*◌, ◌^◌, ◌<◌, ◌≤◌, List, [], ◌∷◌, Option, Some, None, sym, ap, ◌∙◌, subst, length, arith}
 use Rattle.std.specs.Prelude.{IfNone, All}
 use Rattle.std.proofs.lemmas.List.{length-map}
 use Rattle.paw_game.specs.Game.{GameLists}

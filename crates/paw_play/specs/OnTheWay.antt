@@ -1,5 +1,5 @@
 -- What stands on the way, inside a call.
-use Rattle.std.specs.Prelude.{◌≡◌, ◌≢◌, ℕ, suc, ◌-◌, ◌<◌, ◌≤◌, List, [], ◌++◌, length, take, flat_map, replicate, reverse, Option, Some, None, Result, Ok, Err}
+use Rattle.std.specs.Prelude.{◌≡◌, ◌≢◌, ℕ, suc, ◌-◌, ◌<◌, ◌≤◌, List, [], ◌++◌, length, take, flat_map, reverse, Option, Some, None, Result, Ok, Err}
 use Rattle.paw_base.specs.Steps.{KeptSteps}
 use Rattle.paw_base.specs.declared.limits.TheConstants.{STEP_LIMIT}
 use Rattle.paw_stage.specs.Disk.{IsStable}
@@ -25,7 +25,7 @@ use Rattle.paw_play.specs.declared.TheConstants.{MOST_EVENTS}
 use Rattle.paw_play.specs.Session.{kept_bytes}
 use Rattle.paw_play.specs.Walk.{Reading, first_lines, played, joined, text_before, Walks}
 use Rattle.paw_play.specs.Traces.{step_line, more_line, traced_pieces, traced}
-use Rattle.paw_play.specs.Keeping.{InMakingOf, RestsWith, LeavesStore}
+use Rattle.paw_play.specs.Keeping.{InMakingOf, RestsWith}
 use Rattle.paw_play.specs.Play.{Played, KeptBy, PlaysOn, PlaysIn, with_store}
 
 -- ---- a walk ----

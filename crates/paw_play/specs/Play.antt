@@ -21,7 +21,7 @@ use Rattle.paw_play.specs.declared.PlayEnd.TheVariants as end
 use Rattle.paw_play.specs.declared.TheConstants.{MOST_EVENTS}
 use Rattle.paw_play.specs.Walk.{Reading, first_lines, played, Walks}
 use Rattle.paw_play.specs.Session.{kept_bytes, IsKept}
-use Rattle.paw_play.specs.Stands.{Stands, StandsFor, text_since, reading_since}
+use Rattle.paw_play.specs.Stands.{StandsFor, text_since, reading_since}
 use Rattle.paw_play.specs.Keeping.{InSession, InMakingOf, LeavesStore}
 
 -- ---- taking lines ----

@@ -1,5 +1,5 @@
 -- What the bytes of a store stand for, and a reading told from one of its pieces on.
-use Rattle.std.specs.Prelude.{ℕ, suc, ◌+◌, ◌^◌, ◌<◌, ◌≤◌, List, [], ◌++◌, length, drop, All}
+use Rattle.std.specs.Prelude.{ℕ, suc, ◌^◌, ◌<◌, ◌≤◌, List, ◌++◌, length, drop, All}
 use Rattle.sha2.specs.Sha256.{sha256}
 use Rattle.paw_effects.specs.Story.{Story}
 use Rattle.paw_game.specs.Image.{image}

@@ -1,4 +1,4 @@
-use Rattle.std.proofs.Common.{Some, None, ◌≡◌, suc, ◌+◌, sym, ◌∙◌, arith}
+use Rattle.std.proofs.Common.{Some, None, ◌≡◌, suc, ◌+◌, sym, arith}
 use Rattle.paw_stage.specs.declared.Asked.TheVariants as asked
 use Rattle.paw_stage.proofs.Time.{Passes_map, Passes_on}
 use Rattle.paw_play.specs.Play.{InPlay}

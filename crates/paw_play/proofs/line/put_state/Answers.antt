@@ -1,4 +1,4 @@
-use Rattle.std.proofs.Common.{◌∙◌, sym, ap, length, ◌≡◌}
+use Rattle.std.proofs.Common.{◌∙◌, ap, length}
 use Rattle.paw_state.specs.Fields.{zeros, state_bytes}
 use Rattle.paw_state.specs.State.{state_of}
 use Rattle.paw_play.specs.Session.{kept_bytes}

@@ -1,5 +1,5 @@
 use Rattle.std.proofs.Common.{None, ◌≡◌, ◌⊎◌, refl, sym, ap, ◌∙◌, subst, inl, inr, arith}
-use Rattle.paw_stage.proofs.Time.{Passes_map, Passes_on, Passes_none}
+use Rattle.paw_stage.proofs.Time.{Passes_map, Passes_on}
 use Rattle.paw_journal.specs.Session.{Shown, IsUnmade}
 use Rattle.paw_journal.specs.Store.{InStore, Leaves}
 use Rattle.paw_play.specs.Play.{InPlay}

@@ -1,4 +1,4 @@
-use Rattle.std.proofs.Common.{◌≡◌, ◌+◌, ◌-◌, ◌<◌, ◌≤◌, ◌∙◌, suc, arith, subst, refl, None}
+use Rattle.std.proofs.Common.{◌≡◌, ◌+◌, ◌-◌, ◌<◌, ◌∙◌, suc, arith, subst, sym, refl, None}
 use Rattle.paw_stage.proofs.Time.{Passes_on, Passes_none}
 use Rattle.paw_play.specs.Play.{InPlay}
 use Rattle.paw_play.specs.OnTheWay.{IsPlaying}

@@ -1,8 +1,7 @@
-use Rattle.std.proofs.Common.{◌≡◌, ◌<◌, ◌⊎◌, ◌∙◌, sym, subst, ap, arith}
+use Rattle.std.proofs.Common.{◌<◌, ◌⊎◌, sym, subst, arith}
 use Rattle.paw_stage.proofs.Time.{Passes_map, Passes_on}
 use Rattle.paw_stage.specs.Stage.{Standing}
-use Rattle.paw_play.specs.declared.PlayEnd.TheVariants as end
-use Rattle.paw_play.specs.Play.{Played, InGame, InPlay, unattached, occupied, plays_in, attached_to, store_bytes}
+use Rattle.paw_play.specs.Play.{Played, InGame, InPlay, unattached, occupied, plays_in}
 use Rattle.paw_play.specs.OnTheWay.{InMaking, PlaysInStore, IsStore, new_session}
 use Rattle.paw_play.proofs.Attaching.{store_attached, store_empty, in_new_attach}
 use Rattle.paw_play.proofs.Games.{game_plays, in_game}

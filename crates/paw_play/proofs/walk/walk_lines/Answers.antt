@@ -1,4 +1,4 @@
-use Rattle.std.proofs.Common.{◌≡◌, ◌<◌, ◌∙◌, arith, add-one, None, subst, sym}
+use Rattle.std.proofs.Common.{◌≡◌, ◌+◌, ◌<◌, ◌∙◌, suc, arith, None, subst, sym}
 use Rattle.paw_play.specs.declared.TheConstants.{MOST_EVENTS}
 use Rattle.paw_play.proofs.Walking.{long_walk}
 use Rattle.paw_stage.proofs.Counted.{Faulted_on}
@@ -27,7 +27,9 @@ loop-preserved g c = record {
       let w = c.loop.invariant.walking tells X rows whole first start in
       let few : c.loop.counter < MOST_EVENTS = omega (arith, c.loop-test.true) in
       let on = c.in_default.ensures.meaning (c.loop.invariant.tells.0 tells) X (rw c.loop.invariant.routines rows) whole MOST_EVENTS c.loop.counter first w few in
-      rw add-one (subst (λ k. IsWalking (story_of k X) whole first _ _ _) (sym c.walk_line.ensures.game) on);
+      let n : suc c.loop.counter ≡ c.loop.counter + 1 = omega arith in
+      subst (λ k. IsWalking (story_of k X) whole first (g.S.Stage.standing c.walk_line.new.stage) c.walk_line.new.player (c.loop.counter + 1)) (sym c.walk_line.ensures.game)
+      (subst (λ k. IsWalking (story_of c.loop.player.game X) whole first (g.S.Stage.standing c.walk_line.new.stage) c.walk_line.new.player k) n on);
 }
 
 pub returns-clause-meaning : goal.returns-clause-meaning

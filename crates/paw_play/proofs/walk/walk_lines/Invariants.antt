@@ -1,4 +1,4 @@
-use Rattle.std.proofs.Common.{◌≡◌, ◌+◌, ◌*◌, ◌≤◌, ◌↔◌, ℕ, None}
+use Rattle.std.proofs.Common.{◌≡◌, ◌+◌, ◌*◌, ◌≤◌, ◌↔◌, ℕ, List, None}
 use Rattle.paw_stage.specs.Stage.{Standing, Grows, Faulted}
 use Rattle.paw_turn.specs.Player.{IsSeated}
 use Rattle.paw_play.specs.Walk.{Reading}

@@ -1,4 +1,4 @@
-use Rattle.std.proofs.Common.{◌≡◌, ◌∙◌, Some, None, ap, sym, subst}
+use Rattle.std.proofs.Common.{◌∙◌, Some, None, sym, subst}
 use Rattle.paw_routines.specs.Routines.{AreRowsOf, HaveRows}
 use Rattle.paw_reading.specs.Turn.{reading}
 use Rattle.paw_play.specs.declared.TheConstants.{MOST_EVENTS}
