@@ -2,7 +2,9 @@ pub mod Walking
 mod States
 mod Kept
 mod Following
+mod Lines
 mod Playing
+mod Tracing
 mod Beginning
 mod Begun
 mod Attaching

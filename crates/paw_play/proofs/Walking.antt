@@ -39,7 +39,7 @@ drop_more [] (suc n) line rest h = cc
 drop_more (l ∷ lines) zero line rest h = let e : lines ≡ rest = cc in (e, omega arith)
 drop_more (l ∷ lines) (suc n) line rest h = let m = drop_more lines n line rest h in (m.0, omega (arith, m.1))
 
-drop_all : (lines : List (List ℕ)) (n : ℕ) → drop n lines ≡ [] → n ≤ length lines → n ≡ length lines
+pub drop_all : (lines : List (List ℕ)) (n : ℕ) → drop n lines ≡ [] → n ≤ length lines → n ≡ length lines
 drop_all [] zero h k = refl
 drop_all [] (suc n) h k = absurd (omega arith)
 drop_all (l ∷ lines) zero h k = cc

@@ -9,8 +9,8 @@ use Rattle.paw_play.specs.Walk.{Reading}
 -- ---- the text of steps ----
 
 -- where a condact stands: its table, its entry there, and its place in the entry, each counted from 0
-abbrev pub place_text : Step → List ℕ
-place_text step = decimal step.table ++ (codes "." ++ (decimal step.entry ++ (codes "." ++ decimal step.at)))
+abbrev pub place_text : ℕ → ℕ → ℕ → List ℕ
+place_text table entry at = decimal table ++ (codes "." ++ (decimal entry ++ (codes "." ++ decimal at)))
 
 -- no stands for a condition that failed
 abbrev pub answer_text : Bool → List ℕ
@@ -19,7 +19,7 @@ answer_text false = codes " no\n"
 
 -- the line of a step, as 1.0.0 LISTOBJ yes
 abbrev pub step_line : Step → List ℕ
-step_line step = place_text step ++ (codes " " ++ (name_of step.code ++ answer_text step.yes))
+step_line step = place_text step.table step.entry step.at ++ (codes " " ++ (name_of step.code ++ answer_text step.yes))
 
 -- how many more steps there were than lines, where there were more
 abbrev pub more_line : ℕ → List ℕ

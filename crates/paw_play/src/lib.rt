@@ -6,6 +6,7 @@ mod line;
 pub mod play;
 pub mod resume;
 pub mod show;
+pub mod trace;
 pub mod walk;
 
 use paw_base::fault::SpentKind;

@@ -1,0 +1,80 @@
+-- The lines of steps, and how long they are.
+use Rattle.std.proofs.Common.{◌≡◌, ℕ, zero, suc, ◌+◌, ◌≤◌, ◌<◌, Bool, true, false, List, [], ◌∷◌, ◌++◌, refl, ap, length, arith, length-append, nat_le}
+use Rattle.std.specs.Prelude.{◌^◌, codes, decimal}
+use Rattle.std.specs.List.{slice_index_or, list_all}
+use Rattle.std.proofs.lemmas.Bool.{leb-true}
+use Rattle.std.proofs.lemmas.Fmt.{length-decimal-le}
+use Rattle.std.proofs.lemmas.List.{get_or_past}
+use Rattle.paw_base.specs.Condacts.{CondactLine, condact, condact_lines, line_of, name_of, IsCode}
+use Rattle.paw_base.proofs.Table.{length-condact_lines}
+use Rattle.paw_base.specs.Piece.{Puts}
+use Rattle.paw_base.specs.declared.rows.ParamKind.TheVariants.{Absent}
+use Rattle.paw_game.proofs.Kept.{first_of_and, second_of_and}
+use Rattle.paw_reading.specs.Run.{Step}
+use Rattle.paw_play.specs.Traces.{place_text, answer_text, step_line, more_line}
+
+-- what fits is put
+pub put_whole : (ok : Bool) (old new text : List ℕ) → Puts old new ok text → length old + length text ≤ 65535 → new ≡ old ++ text
+put_whole true old new text puts fits = puts.0
+put_whole false old new text puts fits = absurd (omega (arith, puts, fits))
+
+-- ---- names ----
+
+all_short : list_all (λ (l : CondactLine). nat_le (length l.name) 8) condact_lines ≡ true
+unfolding condact_lines
+all_short = refl
+
+short_at : (lines : List CondactLine) (n : ℕ) → list_all (λ (l : CondactLine). nat_le (length l.name) 8) lines ≡ true → length (slice_index_or lines n (condact [] Absent Absent)).name ≤ 8
+short_at [] n h = omega arith
+short_at (l ∷ lines) zero h = leb-true (length l.name) 8 (first_of_and (nat_le (length l.name) 8) _ h)
+short_at (l ∷ lines) (suc n) h = short_at lines n (second_of_and (nat_le (length l.name) 8) _ h)
+
+name_short : (code : ℕ) → length (name_of code) ≤ 8
+unfolding line_of
+name_short code = short_at condact_lines code all_short
+
+-- above the last code there is no name
+pub no_name : (code : ℕ) → ¬ IsCode code → name_of code ≡ []
+unfolding line_of
+no_name code none =
+    let past : length condact_lines ≤ code = omega (arith, length-condact_lines, none) in
+    ap (λ (l : CondactLine). l.name) (get_or_past condact_lines code (condact [] Absent Absent) past)
+
+-- ---- lines ----
+
+answer_short : (yes : Bool) → length (answer_text yes) ≤ 5
+answer_short true = omega arith
+answer_short false = omega arith
+
+pub place_short : (table entry at : ℕ) → table < 2 ^ 8 → entry < 2 ^ 16 → at < 2 ^ 8 → length (place_text table entry at) ≤ 13
+place_short table entry at low few under =
+    let t : length (decimal table) ≤ 3 = length-decimal-le 3 table (omega arith) (omega (arith, low)) (omega (arith, low)) in
+    let e : length (decimal entry) ≤ 5 = length-decimal-le 5 entry (omega arith) (omega (arith, few)) (omega (arith, few)) in
+    let a : length (decimal at) ≤ 3 = length-decimal-le 3 at (omega arith) (omega (arith, under)) (omega (arith, under)) in
+    let one = length-append (decimal table) (codes "." ++ (decimal entry ++ (codes "." ++ decimal at))) in
+    let two = length-append (codes ".") (decimal entry ++ (codes "." ++ decimal at)) in
+    let three = length-append (decimal entry) (codes "." ++ decimal at) in
+    let four = length-append (codes ".") (decimal at) in
+    let dot : length (codes ".") ≡ 1 = refl in
+    omega (arith, t, e, a, one, two, three, four, dot)
+
+-- a line of a step is of at most 27 bytes
+pub line_short : (step : Step) → length (place_text step.table step.entry step.at) ≤ 13 → length (step_line step) ≤ 27
+line_short step place =
+    let text : List ℕ = place_text step.table step.entry step.at in
+    let one = length-append text (codes " " ++ (name_of step.code ++ answer_text step.yes)) in
+    let two = length-append (codes " ") (name_of step.code ++ answer_text step.yes) in
+    let three = length-append (name_of step.code) (answer_text step.yes) in
+    let blank : length (codes " ") ≡ 1 = refl in
+    omega (arith, place, name_short step.code, answer_short step.yes, one, two, three, blank)
+
+-- so is the line that tells how many more there were
+pub more_short : (n : ℕ) → n < 2 ^ 32 → length (more_line n) ≤ 27
+more_short zero small = omega arith
+more_short (suc n) small =
+    let d : length (decimal (suc n)) ≤ 10 = length-decimal-le 10 (suc n) (omega arith) (omega (arith, small)) (omega (arith, small)) in
+    let one = length-append (codes "[") (decimal (suc n) ++ codes " more]\n") in
+    let two = length-append (decimal (suc n)) (codes " more]\n") in
+    let before : length (codes "[") ≡ 1 = refl in
+    let behind : length (codes " more]\n") ≡ 7 = refl in
+    omega (arith, d, one, two, before, behind)

@@ -1,0 +1,23 @@
+use Rattle.std.proofs.Common.{◌≡◌, ◌+◌, ◌*◌, ◌≤◌, ◌↔◌, ℕ, List, None}
+use Rattle.paw_stage.specs.Stage.{Standing, Grows, Faulted}
+use Rattle.paw_turn.specs.Player.{IsSeated}
+use Rattle.paw_play.specs.Walk.{Reading}
+use Rattle.paw_play.specs.OnTheWay.{IsTracing}
+use Rattle.paw_routines.specs.Routines.{AreRowsOf, HaveRows}
+use Rattle.paw_effects.specs.Story.{story_of}
+use Rattle.paw_play.proofs.trace.trace_lines.Given as goal
+
+-- so many lines were taken
+abbrev pub invariant-loop : goal.invariant-loop
+invariant-loop g l = record {
+  seated : IsSeated l.player;
+  game : l.player.game ≡ l.fn.player.game;
+  draws : l.player.world.draws ≤ 200000 * (l.counter + 1);
+  tells : g.S.Stage.Tells l.fn.stage ↔ g.S.Stage.Tells l.stage;
+  counts : Grows (g.S.Stage.faults l.fn.stage) (g.S.Stage.faults l.stage);
+  faulted : Faulted None (g.S.Stage.faults l.fn.stage) (g.S.Stage.faults l.stage);
+  routines : l.player.routines ≡ l.fn.player.routines;
+  rows : HaveRows g.F.Fn l.player.routines;
+  tracing : g.S.Stage.Tells l.fn.stage → (X : List (List ℕ)) → AreRowsOf g.F.Fn l.fn.player.routines X → (whole : Reading) (first : Standing) →
+      IsTracing (story_of l.fn.player.game X) whole first (g.S.Stage.standing l.fn.stage) l.fn.player 0 → IsTracing (story_of l.player.game X) whole first (g.S.Stage.standing l.stage) l.player l.counter;
+}

@@ -1,0 +1,38 @@
+use Rattle.std.proofs.Common.{◌∙◌, Some, None, sym, subst}
+use Rattle.paw_routines.specs.Routines.{AreRowsOf, HaveRows}
+use Rattle.paw_reading.specs.Turn.{reading}
+use Rattle.paw_play.specs.declared.TheConstants.{MOST_EVENTS}
+use Rattle.paw_play.specs.Walk.{Walks}
+use Rattle.paw_play.specs.Traces.{traced}
+use Rattle.paw_play.specs.OnTheWay.{IsTracing}
+use Rattle.paw_play.proofs.Tracing.{trace_starts}
+use Rattle.paw_stage.proofs.Counted.{Faulted_on}
+use Rattle.paw_effects.specs.Story.{story_of}
+use Rattle.paw_play.specs.Calls.{failed_call}
+use Rattle.paw_play.proofs.trace.trace_loop.Goals as goal
+
+pub start-step-requires-clause-rows : goal.start-step-requires-clause-rows
+start-step-requires-clause-rows g c = subst (λ r. HaveRows g.F.Fn r) (sym c.in-Ok-new.ensures.routines) c.requires.rows
+
+pub trace_lines-requires-clause-rows : goal.trace_lines-requires-clause-rows
+trace_lines-requires-clause-rows g c = subst (λ r. HaveRows g.F.Fn r) (sym (c.start-step.ensures.routines ∙ c.in-Ok-new.ensures.routines)) c.requires.rows
+
+pub returns-in-Some-clause-traces : goal.returns-in-Some-clause-traces
+returns-in-Some-clause-traces g c = λ tells X rows.
+    let own = subst (λ r. AreRowsOf g.F.Fn r X) (sym c.in-Ok-new.ensures.routines) rows in
+    subst (λ k. Walks (traced (reading (story_of k X) c.args.seed)) MOST_EVENTS (g.S.Stage.standing c.args.stage.now) (g.S.Stage.standing c.told_behind_steps.new.stage) c.in-Some.end) c.in-Ok-new.ensures.game
+    (trace_starts (story_of c.in-Ok-new.player.game X) c.args.seed MOST_EVENTS _ _ c.in-Ok-new.player c.start-step.new.self c.start-step.result (Some c.in-Some.end) c.in-Ok-new.ensures.new c.start-step.ensures.seated
+    c.start-step.ensures.last (c.start-step.ensures.meaning X own) (c.in-Some.ensures.meaning tells))
+
+pub returns-clause-traces : goal.returns-clause-traces
+returns-clause-traces g c = λ tells X rows.
+    let own = subst (λ r. AreRowsOf g.F.Fn r X) (sym c.in-Ok-new.ensures.routines) rows in
+    let later = subst (λ r. AreRowsOf g.F.Fn r X) (sym (c.start-step.ensures.routines ∙ c.in-Ok-new.ensures.routines)) rows in
+    let walking = trace_starts (story_of c.in-Ok-new.player.game X) c.args.seed MOST_EVENTS _ _ c.in-Ok-new.player c.start-step.new.self c.start-step.result None c.in-Ok-new.ensures.new c.start-step.ensures.seated
+    c.start-step.ensures.last (c.start-step.ensures.meaning X own) (c.in_default-told_behind_steps.ensures.meaning tells) in
+    subst (λ k. Walks (traced (reading (story_of k X) c.args.seed)) MOST_EVENTS (g.S.Stage.standing c.args.stage.now) (g.S.Stage.standing c.trace_lines.new.stage) c.trace_lines.result) c.in-Ok-new.ensures.game
+    (c.trace_lines.ensures.meaning (c.told_behind_steps.ensures.tells.0 tells) X later _ (g.S.Stage.standing c.args.stage.now)
+    (subst (λ k. IsTracing (story_of k X) (reading (story_of c.in-Ok-new.player.game X) c.args.seed) (g.S.Stage.standing c.args.stage.now) (g.S.Stage.standing c.told_behind_steps.new.stage) c.start-step.new.self 0) (sym c.start-step.ensures.game) walking))
+
+pub returns-clause-faulted : goal.returns-clause-faulted
+returns-clause-faulted g c = Faulted_on (failed_call c.trace_lines.result) _ _ _ c.in_default-told_behind_steps.ensures.faulted c.trace_lines.ensures.faulted
