@@ -6,17 +6,18 @@ use Rattle.sha2.specs.Sha256.{sha256}
 use Rattle.paw_game.specs.Game.{GameLists}
 use Rattle.paw_game.specs.Image.{image}
 use Rattle.paw_reading.specs.Turn.{Ending, WaitsAt, IsOver, RunsOut, CallsTooDeep, Unended}
-use Rattle.paw_journal.specs.Session.{Recovered, Shown, recover}
+use Rattle.paw_journal.specs.Session.{Recovered, Shown, recover, state_length}
 use Rattle.paw_state.specs.State.{State}
 use Rattle.paw_state.specs.Record.{state_at}
-use Rattle.paw_state.specs.Fields.{fields_of, joined, world_bytes, number_bytes, table_bytes, pending_bytes}
+use Rattle.paw_state.specs.Fields.{fields_of, joined, held_bytes, world_bytes, number_bytes, table_bytes, pending_bytes}
+use Rattle.paw_state.specs.Fields as fields
 use Rattle.paw_play.specs.Session.{kept_bytes, IsKept}
 use Rattle.paw_play.specs.Stands.{Stands}
 use Rattle.paw_play.proofs.Going.{IsSettled}
 use Rattle.paw_play.proofs.Settling.{reading_settles}
 use Rattle.paw_gen.specs.Trial.{trial_game, trial_lines, location_count, object_count, line_count}
 use Rattle.paw_trial.specs.declared.Tally.{Tally}
-use Rattle.paw_trial.specs.Trial.{trial_reading, IsTextOf}
+use Rattle.paw_trial.specs.Trial.{trial_story, trial_reading, IsTextOf}
 use Rattle.paw_trial.specs.Session.{Waits, IsTallyOf, tally_in, tally_of}
 use Rattle.paw_trial.proofs.Lines.{plays_all, few_lines}
 
@@ -25,20 +26,21 @@ flags_first : (s : State) (i : ℕ) → i < length s.world.flags → slice_index
 unfolding kept_bytes world_bytes
 flags_first s i low =
     let f = fields_of s in
-    let rest = joined (f.places ∷ (f.saved ∷ []) ∷ f.saved_flags ∷ f.saved_places ∷ []) in
-    get_or_append_left (s.world.flags ++ rest) (joined (number_bytes f ∷ table_bytes f ∷ pending_bytes f ∷ [])) 0 i (omega (arith, low, length-append s.world.flags rest))
+    let rest = joined (f.places ∷ held_bytes f.saved ∷ []) in
+    let behind = joined (number_bytes f ∷ table_bytes f ∷ pending_bytes f ∷ fields.kept_bytes f ∷ []) in
+    get_or_append_left (s.world.flags ++ rest) behind 0 i (omega (arith, low, length-append s.world.flags rest))
     ∙ get_or_append_left s.world.flags rest 0 i low
 
 same_state : (digest s p t q : List ℕ) → Shown digest s p ≡ Shown digest t q → s ≡ t
 same_state digest s p t q e = cc
 
-module _ (g : GameLists) (n : ℕ) (buffer piece : List ℕ) (r : Recovered) (is : r ≡ Shown (sha256 (image g)) (take 1371 buffer) piece) where
+module _ (g : GameLists) (n : ℕ) (buffer piece : List ℕ) (r : Recovered) (is : r ≡ Shown (sha256 (image g)) (take state_length buffer) piece) where
   counts : (e : Ending) → IsSettled g n e → Waits e → IsKept (sha256 (image g)) n e r → IsTallyOf e (tally_in buffer)
   counts (WaitsAt p path s) settled w kept =
-      let same : take 1371 buffer ≡ kept_bytes (state_at n p path s) = same_state _ _ _ _ _ (sym is ∙ kept.shown) in
+      let same : take state_length buffer ≡ kept_bytes (state_at n p path s) = same_state _ _ _ _ _ (sym is ∙ kept.shown) in
       let size : length s.world.flags ≡ 256 = settled.keeps.world.flags in
       let flag_at : (i : ℕ) → i < 256 → slice_index buffer i ≡ slice_index s.world.flags i = λ i low.
-      sym (get_or-take 1371 buffer i 0 (omega (arith, low))) ∙ (ap (λ xs. get_or xs i 0) same ∙ flags_first (state_at n p path s) i (omega (arith, low, size))) in
+      sym (get_or-take state_length buffer i 0 (omega (arith, low))) ∙ (ap (λ xs. get_or xs i 0) same ∙ flags_first (state_at n p path s) i (omega (arith, low, size))) in
       let a = flag_at 31 (omega arith) in
       let b = flag_at 32 (omega arith) in
       let c = flag_at 38 (omega arith) in
@@ -49,11 +51,11 @@ module _ (g : GameLists) (n : ℕ) (buffer piece : List ℕ) (r : Recovered) (is
   counts (CallsTooDeep table s) settled w kept = absurd w
   counts Unended settled w kept = absurd w
 
-pub trial_counts : (n : ℕ) (bytes buffer piece : List ℕ) → n < 65536 → Waits (trial_reading n) → Stands (trial_game n) n (trial_lines n) bytes →
-    recover bytes ≡ Shown (sha256 (image (trial_game n))) (take 1371 buffer) piece → IsTallyOf (trial_reading n) (tally_in buffer)
+pub trial_counts : (n : ℕ) (bytes buffer piece : List ℕ) → n < 65536 → Waits (trial_reading n) → Stands (trial_story n) n (trial_lines n) bytes →
+    recover bytes ≡ Shown (sha256 (image (trial_game n))) (take state_length buffer) piece → IsTallyOf (trial_reading n) (tally_in buffer)
 trial_counts n bytes buffer piece low waits stands is =
     counts (trial_game n) (length (trial_lines n)) buffer piece (recover bytes) is (trial_reading n)
-    (reading_settles (trial_game n) n (trial_lines n) (plays_all n low) (omega (arith, few_lines n))) waits stands.keeps
+    (reading_settles (trial_story n) n (trial_lines n) (plays_all n low) (omega (arith, few_lines n))) waits stands.keeps
 
 record Counted : Type 0 where
   locations : ℕ

@@ -1,5 +1,4 @@
 pub mod Lines
-pub mod Built
 pub mod Stops
 pub mod Comes
 pub mod Counts

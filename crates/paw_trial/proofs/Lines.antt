@@ -8,10 +8,12 @@ use Rattle.std.proofs.lemmas.List.Elements.{All-tail, All-head, All-take, All-dr
 use Rattle.std.proofs.lemmas.List.Folds.{list_all_at}
 use Rattle.std.proofs.lemmas.List.FromFn.{get_or-map-range_with_len}
 use Rattle.paw_play.specs.Walk.{first_lines}
-use Rattle.paw_play.specs.Stands.{IsLine, IsPlayedWith}
-use Rattle.paw_gen.specs.Trial.{trial_game, trial_line, trial_lines, line_count}
+use Rattle.paw_reading.specs.Bounds.{IsLine, ValidStory}
+use Rattle.paw_play.specs.Stands.{IsPlayedWith}
+use Rattle.paw_gen.specs.Trial.{trial_line, trial_lines, line_count}
 use Rattle.paw_gen.proofs.Rows.{length_rows}
 use Rattle.paw_gen.proofs.Valids.{trial_valid}
+use Rattle.paw_trial.specs.Trial.{trial_story}
 use Rattle.paw_trial.specs.Session.{first_half, second_half}
 
 -- ---- they are lines ----
@@ -65,12 +67,20 @@ second_are n = All-drop IsLine (length (trial_lines n) / 2) (trial_lines n) (all
 pub both_halves : (n : ℕ) → first_half n ++ second_half n ≡ trial_lines n
 both_halves n = take-append-drop (length (trial_lines n) / 2) (trial_lines n)
 
--- the game is played with the first half
-pub plays_first : (n : ℕ) → n < 65536 → IsPlayedWith (trial_game n) n (first_half n)
-plays_first n low = record { valid = trial_valid n; fits = omega (arith, low); lines = first_are n }
+-- the game is valid, and no routine is there
+trial_story_valid : (n : ℕ) → ValidStory (trial_story n)
+trial_story_valid n = record {
+  game = trial_valid n;
+  whole = λ k d low. absurd (omega (arith, low));
+  bytes = λ k d low. absurd (omega (arith, low));
+}
 
-pub plays_all : (n : ℕ) → n < 65536 → IsPlayedWith (trial_game n) n (trial_lines n)
-plays_all n low = record { valid = trial_valid n; fits = omega (arith, low); lines = all_lines n }
+-- the game is played with the first half
+pub plays_first : (n : ℕ) → n < 65536 → IsPlayedWith (trial_story n) n (first_half n)
+plays_first n low = record { valid = trial_story_valid n; fits = omega (arith, low); lines = first_are n }
+
+pub plays_all : (n : ℕ) → n < 65536 → IsPlayedWith (trial_story n) n (trial_lines n)
+plays_all n low = record { valid = trial_story_valid n; fits = omega (arith, low); lines = all_lines n }
 
 -- ---- taking lines ----
 

@@ -9,7 +9,8 @@ use Rattle.paw_play.specs.declared.PlayEnd.{PlayEnd}
 use Rattle.paw_play.specs.declared.PlayEnd.TheVariants as play
 use Rattle.paw_play.specs.Play.{store_bytes}
 use Rattle.paw_play.specs.Stands.{Stands}
-use Rattle.paw_gen.specs.Trial.{trial_game, trial_lines}
+use Rattle.paw_gen.specs.Trial.{trial_lines}
+use Rattle.paw_trial.specs.Trial.{trial_story}
 use Rattle.paw_trial.specs.declared.TrialEnd.{TrialEnd}
 use Rattle.paw_trial.specs.declared.TrialEnd.TheVariants as end
 use Rattle.paw_trial.specs.declared.Tally.{Tally}
@@ -35,8 +36,8 @@ Waits _ = ⊥
 pub record HoldsLines (n : ℕ) (es : List (List ℕ)) (s : Standing) : Type 0 where
   pub stable : IsStable s.disk
   pub none : s.lines ≡ []
-  pub waits : Waits (reading (trial_game n) [] n es)
-  pub stands : Stands (trial_game n) n es (store_bytes s store_name)
+  pub waits : Waits (reading (trial_story n) n es)
+  pub stands : Stands (trial_story n) n es (store_bytes s store_name)
 
 -- how a trial stops where playing comes to this; it goes on where no line is left
 abbrev pub stop_of : PlayEnd → Option TrialEnd

@@ -2,14 +2,19 @@
 use Rattle.std.specs.Prelude.{◌≡◌, ℕ, List, [], ◌++◌, codes, decimal}
 use Rattle.paw_world.specs.World.{World, flag}
 use Rattle.paw_effects.specs.Counts.{turns_taken}
+use Rattle.paw_effects.specs.Story.{Story, story_of}
 use Rattle.paw_reading.specs.Turn.{Ending, WaitsAt, IsOver, RunsOut, CallsTooDeep, reading}
 use Rattle.paw_gen.specs.Trial.{trial_game, trial_lines, location_count, object_count, line_count}
 use Rattle.paw_trial.specs.declared.TrialEnd.{TrialEnd}
 use Rattle.paw_trial.specs.declared.TrialEnd.TheVariants as end
 
+-- the game of a trial, which calls no routine: none is there
+abbrev pub trial_story : ℕ → Story
+trial_story n = story_of (trial_game n) []
+
 -- how the reading of all lines of a trial ends; its number is its seed
 abbrev pub trial_reading : ℕ → Ending
-trial_reading n = reading (trial_game n) [] n (trial_lines n)
+trial_reading n = reading (trial_story n) n (trial_lines n)
 
 -- How large the game of a trial is, how many lines were taken and how many turns counted; and of the world at the end the
 -- player's location, and how many objects they carry.

@@ -2,9 +2,8 @@
 
 ghost use Rattle.std.specs.Prelude.{◌≡◌, ◌++◌, [], ◌*◌, IfOk, IfSome, IfNone, OnOk, OnErr, Option, Some, None};
 ghost use Rattle.paw_stage.specs.Memory.{empty, standing_of};
-ghost use Rattle.paw_play.specs.Play.{store_bytes};
-ghost use Rattle.paw_reading.specs.Turn.{reading};
-ghost use Rattle.paw_gen.specs.Trial.{trial_game, trial_lines};
+ghost use Rattle.paw_routines.specs.Routines.{AreRowsOf};
+ghost use Rattle.paw_gen.specs.Trial.{trial_lines};
 ghost use Rattle.paw_trial.specs.Trial.{StopsAs, trial_reading};
 ghost use Rattle.paw_trial.specs.Session.{HoldsLines, first_half, second_half, stop_of};
 
@@ -15,6 +14,7 @@ use paw_game::parts::Text;
 use paw_play::PlayEnd;
 use paw_play::play::play_loop;
 use paw_play::resume::resume_loop;
+use paw_routines::routines::Routines;
 use paw_stage::MemoryStage;
 use std::alloc::Global;
 
@@ -62,13 +62,15 @@ fn stop_of(end: PlayEnd) -> Option<TrialEnd>
     }
 }
 
-/// Plays the first half of the lines, with a new session. None where the session then waits for another line.
-pub(crate) fn play_first(
+/// Plays the first half of the lines, with a new session and no routines. None where the session then waits for another line.
+pub(crate) fn play_first<F: Fn(u8, u8) -> u8>(
     alloc: Global,
     setting: &Setting,
+    routines: &Routines<F>,
     stage: &mut MemoryStage,
 ) -> Option<TrialEnd>
-    requires { stage.old ≡ empty 4000 16000000 }
+    requires rows { AreRowsOf F.Fn routines.now [] }
+    requires new { stage.old ≡ empty 4000 16000000 }
     ensures holds { IfNone result (HoldsLines setting.now (first_half setting.now) (standing_of stage.new)) }
     ensures stops { IfSome result (λ e. StopsAs e (trial_reading setting.now)) }
 {
@@ -79,6 +81,7 @@ pub(crate) fn play_first(
         alloc,
         stage,
         setting.game(),
+        routines,
         setting.digest(),
         STORE,
         u64::from(setting.number()),
@@ -86,17 +89,26 @@ pub(crate) fn play_first(
 }
 
 /// Takes the session up again, and plays the second half of the lines. None where the session then waits for another line.
-pub(crate) fn play_second(
+pub(crate) fn play_second<F: Fn(u8, u8) -> u8>(
     alloc: Global,
     setting: &Setting,
+    routines: &Routines<F>,
     stage: &mut MemoryStage,
 ) -> Option<TrialEnd>
-    requires { HoldsLines setting.now (first_half setting.now) (standing_of stage.old) }
+    requires rows { AreRowsOf F.Fn routines.now [] }
+    requires holds { HoldsLines setting.now (first_half setting.now) (standing_of stage.old) }
     ensures holds { IfNone result (HoldsLines setting.now (trial_lines setting.now) (standing_of stage.new)) }
     ensures stops { IfSome result (λ e. StopsAs e (trial_reading setting.now)) }
 {
     let Ok(()) = add_lines(alloc, stage, setting.second_half()) else {
         return Some(TrialEnd::Memory);
     };
-    stop_of(resume_loop(alloc, stage, setting.game(), setting.digest(), STORE))
+    stop_of(resume_loop(
+        alloc,
+        stage,
+        setting.game(),
+        routines,
+        setting.digest(),
+        STORE,
+    ))
 }

@@ -10,6 +10,7 @@ use crate::setting::Setting;
 use crate::{Tally, TrialEnd};
 use paw_base::fault::NoRoom;
 use paw_gen::{line_count, location_count, object_count};
+use paw_routines::routines::Routines;
 use std::alloc::Global;
 
 /// The line of a trial whose session counts this.
@@ -42,10 +43,12 @@ fn played(alloc: Global, n: u16) -> Result<Tally, TrialEnd>
     let Ok(mut stage) = new_stage(alloc) else {
         return Err(TrialEnd::Memory);
     };
-    if let Some(end) = play_first(alloc, &setting, &mut stage) {
+    // the game calls no routine
+    let routines = Routines::new(0, |_, x| x);
+    if let Some(end) = play_first(alloc, &setting, &routines, &mut stage) {
         return Err(end);
     }
-    if let Some(end) = play_second(alloc, &setting, &mut stage) {
+    if let Some(end) = play_second(alloc, &setting, &routines, &mut stage) {
         return Err(end);
     }
     match counted(alloc, &setting, &mut stage) {
