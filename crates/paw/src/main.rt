@@ -5,8 +5,10 @@ ghost use Rattle.std.specs.Prelude.{◌≡◌};
 ghost use Rattle.std.specs.Process.{exit_status};
 ghost use Rattle.paw_top.specs.Outcomes.{status_of};
 
+use paw_routines::routines::Routines;
 use paw_stage::RealStage;
 use paw_top::outcome::Outcome;
+use paw_top::routines::{ROUTINES, give};
 use paw_top::top::paw;
 use std::alloc::Global;
 use std::env::{self, Env};
@@ -41,6 +43,12 @@ fn main(rt: HostRuntime) -> ExitCode {
         let _ = eprintln!(rt; "no memory: Words");
         return ExitCode::from(NO_MEMORY);
     };
-    let outcome = paw(rt.alloc(), &mut RealStage::new(&rt), words.as_slice());
+    let routines = Routines::new(ROUTINES, give);
+    let outcome = paw(
+        rt.alloc(),
+        &mut RealStage::new(&rt),
+        &routines,
+        words.as_slice(),
+    );
     tell(&rt, rt.alloc(), outcome)
 }

@@ -1,5 +1,5 @@
 -- A command whose calls don't fail.
-use Rattle.std.proofs.Common.{[], ◌≡◌, ℕ, List, Option, Some, None, refl, sym, ap, ◌∙◌, subst}
+use Rattle.std.proofs.Common.{◌≡◌, ℕ, List, Option, Some, None, refl, sym, ap, ◌∙◌, subst}
 use Rattle.std.specs.Prelude.{Result, Ok, Err}
 use Rattle.paw_base.specs.declared.fault.SourceFault.{SourceFault}
 use Rattle.paw_game.specs.Game.{GameLists}
@@ -12,19 +12,18 @@ use Rattle.paw_stage.specs.declared.StageCall.TheVariants as call
 use Rattle.paw_stage.specs.Stage.{Rose}
 use Rattle.paw_top.specs.Answers.{IfOutside, IsCall, IsCompileCall, IsDecompileCall}
 use Rattle.paw_top.specs.Compile as compile
-use Rattle.paw_top.specs.Completes.{NoFault, IsWalked, CompletesSource, CompletesCompile, CompletesDecompile, CompletesGame, CompletesPlay}
+use Rattle.paw_top.specs.Completes.{NoFault, IsWalked, CompletesSource, CompletesCompile, CompletesDecompile, CompletesPlay}
 use Rattle.paw_top.specs.Decompile as decompile
-use Rattle.paw_top.specs.Loads.{Holds, HoldsNone}
-use Rattle.paw_top.specs.Unbuilt.{first_unbuilt}
+use Rattle.paw_top.specs.Loads.{Holds, HoldsNone, HoldsDamage}
 use Rattle.paw_top.specs.Walk as walk
 use Rattle.paw_top.specs.Ends.{outcome_of}
-use Rattle.paw_top.specs.Opens.{HoldsBuilt, Unopened, unbuilt, damaged, absent, failed, wanting}
+use Rattle.paw_top.specs.Opens.{Unopened, damaged, absent, failed, wanting}
 use Rattle.paw_play.specs.Walk.{Reading, Walks}
 use Rattle.paw_play.specs.declared.PlayEnd.{PlayEnd}
 use Rattle.paw_play.specs.declared.PlayEnd.TheVariants as end
 use Rattle.paw_play.specs.declared.TheConstants.{MOST_EVENTS}
+use Rattle.paw_effects.specs.Story.{story_of}
 use Rattle.paw_reading.specs.Turn.{reading}
-use Rattle.paw_top.specs.declared.unbuilt.Unbuilt.{Unbuilt}
 use Rattle.paw_top.specs.declared.outcome.Outcome.{Outcome}
 use Rattle.paw_top.specs.declared.outcome.Outcome.TheVariants as outcome
 use Rattle.paw_top.specs.declared.outcome.MemoryAt.{MemoryAt}
@@ -61,10 +60,13 @@ completes_compile source target old new first last _ (compile.memory at e) out n
 is_some : (s : Standing) (name : List ℕ) (g : GameLists) → Holds s name g → HoldsNone s name → ⊥
 is_some s name g h k = k.2 g (subst (λ b. IsImage b g) (same_file _ h.0 k.0 h.1 k.1) h.2)
 
+not_both : (s : Standing) (name : List ℕ) (g : GameLists) (at : ℕ) → Holds s name g → HoldsDamage s name at → ⊥
+not_both s name g at h k = is_some s name g h (k.0, k.1, k.2)
+
 pub completes_decompile : (name : List ℕ) (old new : Standing) (first last : StageCall → ℕ) (o : Outcome) → decompile.Decompiles name old new o →
     IfOutside o (λ c. IsDecompileCall c × Rose (first c) (last c)) → NoFault first last → CompletesDecompile name old o
 completes_decompile name old new first last _ (decompile.done g s e) out none = record { image = λ h k. tt; other = λ k. absurd (is_some old name g s k) }
-completes_decompile name old new first last _ (decompile.damaged s e) out none = record { image = λ h k. absurd (is_some old name h k s); other = λ k. refl }
+completes_decompile name old new first last _ (decompile.damaged at s e) out none = record { image = λ h k. absurd (not_both old name h at k s); other = λ k. s }
 completes_decompile name old new first last _ (decompile.absent s e) out none =
     record { image = λ h k. absurd (is_missing _ k.0 s k.1); other = λ k. absurd (is_missing _ k.0 s k.1) }
 completes_decompile name old new first last _ (decompile.unloaded e) out none =
@@ -80,34 +82,25 @@ pub same_game : (s : Standing) (name : List ℕ) (g k : GameLists) → Holds s n
 same_game s name g k h i = one_game g k h.2.valid i.2.valid (sym h.2.spelled ∙ same_file _ h.0 i.0 h.1 i.1 ∙ i.2.spelled)
 
 -- the file holds a game that is played, with an answer such as it is to be
-pub completes_game : (name : List ℕ) (Such : GameLists → Outcome → Type 0) (old : Standing) (g : GameLists) (o : Outcome) → HoldsBuilt old name g → Such g o →
+pub completes_game : (name : List ℕ) (Such : GameLists → Outcome → Type 0) (old : Standing) (g : GameLists) (o : Outcome) → Holds old name g → Such g o →
     CompletesPlay name Such old o
 completes_game name Such old g o s such = record {
-  image = λ h k. subst (λ x. CompletesGame (first_unbuilt x) (Such x) o) (sym (same_game old name h g k s.0)) (subst (λ u. CompletesGame u (Such g) o) (sym s.1) such);
-  other = λ k. absurd (is_some old name g s.0 k);
+  image = λ h k. subst (λ x. Such x o) (sym (same_game old name h g k s)) such;
+  other = λ k. absurd (is_some old name g s k);
 }
-
--- memory may be wanting for any game
-game_memory : (place : Option Unbuilt) (Such : Outcome → Type 0) (at : MemoryAt) → Such (outcome.Memory at) → CompletesGame place Such (outcome.Memory at)
-game_memory None Such at such = such
-game_memory (Some place) Such at such = tt
 
 -- the game isn't played
 pub completes_unopened : (name : List ℕ) (Such : GameLists → Outcome → Type 0) (Is : StageCall → Type 0) (old new : Standing) (first last : StageCall → ℕ) (o : Outcome) →
     ((g : GameLists) (at : MemoryAt) → Such g (outcome.Memory at)) → Unopened name old new o → IfOutside o (λ c. Is c × Rose (first c) (last c)) → NoFault first last →
     CompletesPlay name Such old o
-completes_unopened name Such Is old new first last _ memory (unbuilt g place s is e) out none = record {
-  image = λ h k. subst (λ u. CompletesGame u (Such h) (outcome.Unbuilt place.at place.code)) (sym (ap first_unbuilt (same_game old name h g k s) ∙ is)) (refl, refl);
-  other = λ k. absurd (is_some old name g s k);
-}
-completes_unopened name Such Is old new first last _ memory (damaged s e) out none =
-    record { image = λ h k. absurd (is_some old name h k s); other = λ k. refl }
+completes_unopened name Such Is old new first last _ memory (damaged at s e) out none =
+    record { image = λ h k. absurd (not_both old name h at k s); other = λ k. s }
 completes_unopened name Such Is old new first last _ memory (absent s e) out none =
     record { image = λ h k. absurd (is_missing _ k.0 s k.1); other = λ k. absurd (is_missing _ k.0 s k.1) }
 completes_unopened name Such Is old new first last _ memory (failed e) out none =
     let fault : ⊥ = none call.Load (λ q. cc) out.1 in record { image = λ h k. absurd fault; other = λ k. absurd fault }
 completes_unopened name Such Is old new first last _ memory (wanting at e) out none =
-    record { image = λ h k. game_memory (first_unbuilt h) (Such h) at (memory h at); other = λ k. tt }
+    record { image = λ h k. memory h at; other = λ k. tt }
 
 -- a walk comes to its end
 pub is_walked : (Is : StageCall → Type 0) (whole : Reading) (most : ℕ) (old new : Standing) (first last : StageCall → ℕ) (o : PlayEnd) → Walks whole most old new o →
@@ -122,8 +115,8 @@ is_walked Is whole most old new first last (end.Outside call.Ask) w out none = a
 is_walked Is whole most old new first last (end.Outside call.Show) w out none = absurd (none call.Show (λ q. cc) out.1)
 is_walked Is whole most old new first last _ w out none = absurd w
 
-pub completes_walk : (name : List ℕ) (seed : ℕ) (old new : Standing) (first last : StageCall → ℕ) (o : Outcome) → walk.WalksIn name seed old new o →
+pub completes_walk : (rows : List (List ℕ)) (name : List ℕ) (seed : ℕ) (old new : Standing) (first last : StageCall → ℕ) (o : Outcome) → walk.WalksIn rows name seed old new o →
     IfOutside o (λ c. IsCall c × Rose (first c) (last c)) → NoFault first last → CompletesPlay name (λ g. IsWalked) old o
-completes_walk name seed old new first last _ (walk.walks g o s w) out none =
-    completes_game name (λ g. IsWalked) old g (outcome_of o) s (is_walked IsCall (reading g [] seed) MOST_EVENTS old new first last o w out none)
-completes_walk name seed old new first last _ (walk.unopened o u) out none = completes_unopened name (λ g. IsWalked) IsCall old new first last o (λ g at. tt) u out none
+completes_walk rows name seed old new first last _ (walk.walks g o s w) out none =
+    completes_game name (λ g. IsWalked) old g (outcome_of o) s (is_walked IsCall (reading (story_of g rows) seed) MOST_EVENTS old new first last o w out none)
+completes_walk rows name seed old new first last _ (walk.unopened o u) out none = completes_unopened name (λ g. IsWalked) IsCall old new first last o (λ g at. tt) u out none

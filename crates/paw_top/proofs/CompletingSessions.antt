@@ -1,6 +1,7 @@
 -- A session whose calls don't fail.
 use Rattle.std.proofs.Common.{◌≡◌, ◌≢◌, ℕ, ◌<◌, List, [], ◌∷◌, length, take, refl, sym, ◌∙◌, subst, arith, inl, inr}
 use Rattle.paw_game.specs.Game.{GameLists}
+use Rattle.paw_effects.specs.Story.{Story, story_of}
 use Rattle.paw_state.specs.State.{State}
 use Rattle.paw_state.specs.Fit.{Fit}
 use Rattle.paw_stage.specs.Stage.{Standing, Rose}
@@ -80,11 +81,11 @@ new_memory : (bytes : List ℕ) (at : MemoryAt) → CompletesNew bytes (outcome.
 new_memory [] at = tt
 new_memory (b ∷ bytes) at = tt
 
-pub completes_play : (name store : List ℕ) (seed : ℕ) (old new : Standing) (first last : StageCall → ℕ) (o : Outcome) → PlaysNewIn name store seed old new o →
+pub completes_play : (rows : List (List ℕ)) (name store : List ℕ) (seed : ℕ) (old new : Standing) (first last : StageCall → ℕ) (o : Outcome) → PlaysNewIn rows name store seed old new o →
     IfOutside o (λ c. IsKeptCall c × Rose (first c) (last c)) → NoFault first last → CompletesPlay name (λ g. CompletesNew (store_bytes old store)) old o
-completes_play name store seed old new first last _ (top.plays g o s p) out none =
+completes_play rows name store seed old new first last _ (top.plays g o s p) out none =
     completes_game name (λ g. CompletesNew (store_bytes old store)) old g (outcome_of o) s (plays_new _ _ store old new first last o p out none)
-completes_play name store seed old new first last _ (top.unopened o u) out none =
+completes_play rows name store seed old new first last _ (top.unopened o u) out none =
     completes_unopened name (λ g. CompletesNew (store_bytes old store)) IsKeptCall old new first last o (λ g at. new_memory (store_bytes old store) at) u out none
 
 -- ---- a session that is taken up again ----
@@ -146,25 +147,25 @@ shows_other g digest bytes state p q st is h not = not st (subst (λ x. ShowsSta
     same_piece : (d c s t x y : List ℕ) → Shown d s x ≡ Shown c t y → x ≡ y
     same_piece d c s t x y e = cc
 
-plays_up : (g : GameLists) (digest name : List ℕ) (old new : Standing) (first last : StageCall → ℕ) (o : PlayEnd) → PlaysUp g digest name old new o →
-    IfOutside (outcome_of o) (λ c. IsKeptCall c × Rose (first c) (last c)) → NoFault first last → CompletesAgain g digest old.disk.bytes (outcome_of o)
-plays_up g digest name old new first last _ (session.memory e) out none = again_memory g digest old.disk.bytes memory.Play
+plays_up : (g : Story) (digest name : List ℕ) (old new : Standing) (first last : StageCall → ℕ) (o : PlayEnd) → PlaysUp g digest name old new o →
+    IfOutside (outcome_of o) (λ c. IsKeptCall c × Rose (first c) (last c)) → NoFault first last → CompletesAgain g.game digest old.disk.bytes (outcome_of o)
+plays_up g digest name old new first last _ (session.memory e) out none = again_memory g.game digest old.disk.bytes memory.Play
 plays_up g digest name old new first last _ (session.no_state at state piece is not fault e) out none = record {
-  shown = λ st p h. absurd (is_unfit g digest old.disk.bytes state piece is not st p h);
+  shown = λ st p h. absurd (is_unfit g.game digest old.disk.bytes state piece is not st p h);
   refused = λ r h. absurd (not_shown digest old.disk.bytes (take state_length state) piece r h is);
   no_state = λ s p h k. refl;
 }
 plays_up g digest name old new first last _ (session.plays_on o st piece h p) out none = record {
   shown = λ s q k. plays_on _ _ old new first last o p.shows out none;
   refused = λ r k. absurd (not_shown digest old.disk.bytes (kept_bytes st) piece r k h.shown);
-  no_state = λ s q is k. absurd (shows_other g digest old.disk.bytes s piece q st is h k);
+  no_state = λ s q is k. absurd (shows_other g.game digest old.disk.bytes s piece q st is h k);
 }
 
-plays_again : (g : GameLists) (digest name : List ℕ) (old new : Standing) (first last : StageCall → ℕ) (o : PlayEnd) → PlaysAgain g digest name old new o →
-    IfOutside (outcome_of o) (λ c. IsKeptCall c × Rose (first c) (last c)) → NoFault first last → CompletesAgain g digest (store_bytes old name) (outcome_of o)
+plays_again : (g : Story) (digest name : List ℕ) (old new : Standing) (first last : StageCall → ℕ) (o : PlayEnd) → PlaysAgain g digest name old new o →
+    IfOutside (outcome_of o) (λ c. IsKeptCall c × Rose (first c) (last c)) → NoFault first last → CompletesAgain g.game digest (store_bytes old name) (outcome_of o)
 plays_again g digest name old new first last _ (session.unattached u) out none = absurd (none call.Attach (λ q. cc) out.1)
 plays_again g digest name old new first last _ (session.unread e) out none = absurd (none call.Read (λ q. cc) out.1)
-plays_again g digest name old new first last _ (session.wanting e) out none = again_memory g digest (store_bytes old name) memory.Play
+plays_again g digest name old new first last _ (session.wanting e) out none = again_memory g.game digest (store_bytes old name) memory.Play
 plays_again g digest name old new first last _ (session.refused r h e) out none = record {
   shown = λ st piece k. absurd (not_shown digest (store_bytes old name) (kept_bytes st) piece r h k.shown);
   refused = λ q k. comes_so r q (one_refusal digest (store_bytes old name) r q h k);
@@ -172,10 +173,10 @@ plays_again g digest name old new first last _ (session.refused r h e) out none 
 }
 plays_again g digest name old new first last _ (session.plays_up o p) out none = plays_up g digest name (attached_to old name) new first last o p out none
 
-pub completes_resume : (name store : List ℕ) (old new : Standing) (first last : StageCall → ℕ) (o : Outcome) → PlaysAgainIn name store old new o →
+pub completes_resume : (rows : List (List ℕ)) (name store : List ℕ) (old new : Standing) (first last : StageCall → ℕ) (o : Outcome) → PlaysAgainIn rows name store old new o →
     IfOutside o (λ c. IsKeptCall c × Rose (first c) (last c)) → NoFault first last → CompletesPlay name (λ g. CompletesAgain g (digest_of g) (store_bytes old store)) old o
-completes_resume name store old new first last _ (top.plays g o s p) out none =
-    completes_game name (λ h. CompletesAgain h (digest_of h) (store_bytes old store)) old g (outcome_of o) s (plays_again g (digest_of g) store old new first last o p out none)
-completes_resume name store old new first last _ (top.unopened o u) out none =
+completes_resume rows name store old new first last _ (top.plays g o s p) out none =
+    completes_game name (λ h. CompletesAgain h (digest_of h) (store_bytes old store)) old g (outcome_of o) s (plays_again (story_of g rows) (digest_of g) store old new first last o p out none)
+completes_resume rows name store old new first last _ (top.unopened o u) out none =
     completes_unopened name (λ h. CompletesAgain h (digest_of h) (store_bytes old store)) IsKeptCall old new first last o
     (λ h at. again_memory h (digest_of h) (store_bytes old store) at) u out none

@@ -1,23 +1,28 @@
 -- A decompiler, step by step.
 use Rattle.std.proofs.Common.{◌≡◌, ℕ, List, subst}
-use Rattle.std.specs.Prelude.{Err}
 use Rattle.paw_game.specs.Game.{GameLists}
 use Rattle.paw_print.specs.Canonical.{canonical_of}
 use Rattle.paw_stage.specs.Stage.{Standing}
 use Rattle.paw_stage.specs.declared.StageCall.TheVariants as call
 use Rattle.paw_top.specs.Decompile.{Decompiles, done, damaged, absent, unloaded, unshown, memory}
-use Rattle.paw_top.specs.Loads.{Holds, LoadsImage}
+use Rattle.paw_top.specs.Loads.{Holds, LoadsSome, LoadsNone, GivesNone}
 use Rattle.paw_top.specs.Shows.{Shows}
 use Rattle.paw_top.specs.declared.outcome.Outcome.{Outcome}
 use Rattle.paw_top.specs.declared.outcome.Outcome.TheVariants as outcome
+use Rattle.paw_top.proofs.Images.{damage_loaded}
 
--- a load that gives no game says why nothing is decompiled
-pub no_game : (name : List ℕ) (old new : Standing) (o : Outcome) → LoadsImage name old new (Err o) → Decompiles name old new o
-no_game name old new (outcome.ImageDamaged at) h = rw h.0 (damaged h.1 h.2)
-no_game name old new (outcome.Outside call.LoadAbsent) h = absent h.0 h.1
-no_game name old new (outcome.Outside call.Load) h = unloaded h
-no_game name old new (outcome.Memory at) h = memory at h
-no_game name old new _ h = absurd h
+-- a load that gives nothing says why nothing is decompiled
+pub no_file : (name : List ℕ) (old new : Standing) (o : Outcome) → LoadsNone name old new o → Decompiles name old new o
+no_file name old new (outcome.Outside call.LoadAbsent) h = absent h.0 h.1
+no_file name old new (outcome.Outside call.Load) h = unloaded h
+no_file name old new (outcome.Memory at) h = memory at h
+no_file name old new _ h = absurd h
+
+-- and so do bytes that give no game
+pub no_game : (name given : List ℕ) (old new : Standing) (o : Outcome) → LoadsSome name 4194304 old new given → GivesNone given o → Decompiles name old new o
+no_game name given old new (outcome.ImageDamaged at) f h = damaged at (damage_loaded name given old new at f h.0 h.1) f.3
+no_game name given old new (outcome.Memory at) f h = memory at f.3
+no_game name given old new _ f h = absurd h
 
 shows_so : (name : List ℕ) (g : GameLists) (old new : Standing) (o : Outcome) → Holds old name g → Shows (canonical_of g) old new o → Decompiles name old new o
 shows_so name g old new outcome.Done h s = done g h s

@@ -1,13 +1,12 @@
 -- What loading an image cuts off.
-use Rattle.std.proofs.Common.{◌≡◌, ℕ, ◌+◌, ◌≤◌, List, length, take, sym, ◌∙◌, subst, arith, ◌⊎◌, inl, inr}
+use Rattle.std.proofs.Common.{◌≡◌, ℕ, ◌+◌, ◌≤◌, List, length, take, sym, ◌∙◌, subst, arith, ◌⊎◌, inl, inr, Some}
 use Rattle.std.proofs.lemmas.List.{take_all, length-take-le}
 use Rattle.paw_game.specs.Game.{GameLists}
-use Rattle.std.specs.Prelude.{Result, Err}
-use Rattle.paw_game.specs.Image.{image}
-use Rattle.paw_image.specs.Images.{IsImage, IfDamaged}
-use Rattle.paw_image.specs.declared.TheConstants.{IMAGE_LIMIT}
-use Rattle.paw_image.specs.declared.refusal.ImageRefusal.{ImageRefusal}
-use Rattle.paw_image.specs.declared.refusal.ImageRefusal.TheVariants as refusal
+use Rattle.paw_image.specs.Damage.{bad}
+use Rattle.paw_image.specs.Images.{IsImage}
+use Rattle.paw_image.proofs.WholeLaws.{over_is_bad}
+use Rattle.paw_stage.specs.Stage.{Standing}
+use Rattle.paw_top.specs.Loads.{Holds, HoldsDamage, LoadsSome}
 
 -- bytes of which at most the limit and one more were taken, and of these no more than the limit
 short_enough : (bytes : List ℕ) → length (take 4194305 bytes) ≤ 4194304 → (length bytes ≤ 4194304) ⊎ (4194305 ≤ length bytes) → length bytes ≤ 4194304
@@ -28,10 +27,21 @@ loaded_image given bytes g e h =
 pub loaded_none : (given bytes : List ℕ) → given ≡ take 4194305 bytes → ((g : GameLists) → ¬ IsImage given g) → (g : GameLists) → ¬ IsImage bytes g
 loaded_none given bytes e none g h = none g (subst (λ b. IsImage b g) (sym (e ∙ take_all 4194305 bytes (omega (arith, h.short)))) h)
 
--- what a refusal says of its place
-pub at_damage : (P : ℕ → Type 0) (r : Result GameLists ImageRefusal) (e : ImageRefusal) (at : ℕ) → r ≡ Err e → e ≡ refusal.Damaged at → IfDamaged r P → P at
-at_damage P r e at is damaged h = subst (λ q. IfDamaged {T = GameLists} (Err q) P) damaged (subst (λ q. IfDamaged q P) is h)
+bad_whole : (bytes : List ℕ) (at : ℕ) → bad (take 4194305 bytes) ≡ Some at → (length bytes ≤ 4194304) ⊎ (4194305 ≤ length bytes) → bad bytes ≡ Some at
+bad_whole bytes at h (inl k) = subst (λ b. bad b ≡ Some at) (take_all 4194305 bytes (omega (arith, k))) h
+bad_whole bytes at h (inr k) = over_is_bad bytes (omega (arith, k)) ∙ sym (over_is_bad (take 4194305 bytes) (omega (arith, length-take-le 4194305 bytes k))) ∙ h
 
--- an image isn't too long
-pub short_image : (bytes : List ℕ) (g : GameLists) → IsImage bytes g → length (image g) ≤ IMAGE_LIMIT
-short_image bytes g h = subst (λ b. length b ≤ IMAGE_LIMIT) h.spelled h.short
+-- the first damage of what was loaded is that of the file
+pub loaded_bad : (given bytes : List ℕ) (at : ℕ) → given ≡ take 4194305 bytes → bad given ≡ Some at → bad bytes ≡ Some at
+loaded_bad given bytes at e h = bad_whole bytes at (subst (λ b. bad b ≡ Some at) e h) (in_order (length bytes) 4194304)
+
+-- ---- the file ----
+
+-- a file holds the game of the bytes that were loaded
+pub holds_loaded : (name given : List ℕ) (old new : Standing) (g : GameLists) → LoadsSome name 4194304 old new given → IsImage given g → Holds old name g
+holds_loaded name given old new g f h = (f.0, f.1, loaded_image given f.0 g f.2 h)
+
+-- or it has their damage
+pub damage_loaded : (name given : List ℕ) (old new : Standing) (at : ℕ) → LoadsSome name 4194304 old new given → ((g : GameLists) → ¬ IsImage given g) → bad given ≡ Some at →
+    HoldsDamage old name at
+damage_loaded name given old new at f none h = (f.0, f.1, loaded_none given f.0 f.2 none, loaded_bad given f.0 at f.2 h)

@@ -4,10 +4,9 @@ mod OpenedSessions
 mod Answering
 mod Compiling
 mod Decompiling
-mod Found
+pub mod Given
 mod Images
 mod Numbers
-mod Parameters
 mod Refusals
 mod After
 mod Rows

@@ -1,8 +1,9 @@
 -- A session that is opened: what is loaded before changes nothing.
-use Rattle.std.proofs.Common.{◌≡◌, ℕ, List, Option, Some, refl, sym, subst, inl}
+use Rattle.std.proofs.Common.{◌≡◌, ℕ, List, Option, Some, refl, sym, ap, subst, inl}
 use Rattle.sha2.specs.Sha256.{sha256}
 use Rattle.paw_game.specs.Game.{GameLists}
 use Rattle.paw_game.specs.Image.{image}
+use Rattle.paw_effects.specs.Story.{Story, story_of}
 use Rattle.paw_stage.specs.Stage.{Standing}
 use Rattle.paw_stage.specs.Moments.{Moment, Still}
 use Rattle.paw_state.specs.State.{State}
@@ -12,39 +13,44 @@ use Rattle.paw_play.specs.Play.{Played, NotYet, InGame, InAgain, InGoingOn, Play
 use Rattle.paw_play.proofs.Standing.{standing_again}
 use Rattle.paw_top.specs.Commands.{Command, Play, Resume}
 use Rattle.paw_top.specs.Ends.{outcome_of}
-use Rattle.paw_top.specs.Opens.{HoldsBuilt}
+use Rattle.paw_top.specs.Loads.{Holds}
 use Rattle.paw_top.specs.Sessions.{session_from, digest_of, GoesOnIn, goes}
+use Rattle.paw_top.proofs.Completing.{same_game}
 
 -- where nothing has changed, the store isn't attached yet
 not_yet : (name : List ℕ) (old : Standing) (m : Moment) → Still old m → NotYet name old m
 not_yet name old m e = subst (NotYet name old) (sym e) (record { asked = refl; shown = refl; files = inl refl; store = inl (refl, refl) })
 
-pub still_new : (g : GameLists) (seed : ℕ) (name : List ℕ) (old : Standing) (m : Moment) → Still old m → InGame g seed name old m
+pub still_new : (g : Story) (seed : ℕ) (name : List ℕ) (old : Standing) (m : Moment) → Still old m → InGame g seed name old m
 still_new g seed name old m e = inl (not_yet name old m e)
 
 pub still_again : (s : Played) (old : Standing) (m : Moment) → Still old m → InAgain s old m
 still_again s old m e = inl (not_yet s.name old m e)
 
-pub still_on : (g : GameLists) (seed : ℕ) (es : List (List ℕ)) (name : List ℕ) (old : Standing) (m : Moment) → Still old m → InGoingOn g seed es name old m
+pub still_on : (g : Story) (seed : ℕ) (es : List (List ℕ)) (name : List ℕ) (old : Standing) (m : Moment) → Still old m → InGoingOn g seed es name old m
 still_on g seed es name old m e = inl (not_yet name old m e)
 
+-- the story that is played is the one of the file
+pub same_story : (old : Standing) (name : List ℕ) (game : GameLists) (s : Story) → Holds old name game → Holds old name s.game → story_of game s.rows ≡ s
+same_story old name game s mine holds = ap (λ (h : GameLists). story_of h s.rows) (same_game old name game s.game mine holds)
+
 -- the session that is played is the one of the image
-pub one_kept_session : (g k : GameLists) (st : State) (piece store kept : List ℕ) → k ≡ g → kept ≡ sha256 (image k) →
+pub one_kept_session : (g k : Story) (st : State) (piece store kept : List ℕ) → k ≡ g → kept ≡ sha256 (image k.game) →
     kept_session k st piece kept store ≡ session_from g store st piece
 one_kept_session g k st piece store kept same is = rw (is, same) refl
 
 -- what playing comes to at a stage where nothing has changed since
-pub plays_game : (g : GameLists) (seed : ℕ) (store : List ℕ) (old mid new : Standing) (o : PlayEnd) → mid ≡ old → PlaysGame g seed store mid new o → PlaysGame g seed store old new o
+pub plays_game : (g : Story) (seed : ℕ) (store : List ℕ) (old mid new : Standing) (o : PlayEnd) → mid ≡ old → PlaysGame g seed store mid new o → PlaysGame g seed store old new o
 plays_game g seed store old mid new o still p = subst (λ q. PlaysGame g seed store q new o) still p
 
-pub plays_again : (g : GameLists) (digest kept store : List ℕ) (old mid new : Standing) (o : PlayEnd) → mid ≡ old → kept ≡ digest →
+pub plays_again : (g : Story) (digest kept store : List ℕ) (old mid new : Standing) (o : PlayEnd) → mid ≡ old → kept ≡ digest →
     PlaysAgain g kept store mid new o → PlaysAgain g digest store old new o
 plays_again g digest kept store old mid new o still same p =
     subst (λ q. PlaysAgain g digest store q new o) still (subst (λ q. PlaysAgain g q store mid new o) same p)
 
 -- and where its store stands for some lines
-pub goes_on_in : (name store : List ℕ) (g k : GameLists) (seed : ℕ) (es : List (List ℕ)) (old new : Standing) (o : PlayEnd) → k ≡ g → HoldsBuilt old name k →
-    PlaysAgain k (digest_of k) store old new o → IsPlayedWith g seed es → Stands g seed es (store_bytes old store) → GoesOnIn name store g seed es old new (outcome_of o)
+pub goes_on_in : (name store : List ℕ) (g k : Story) (seed : ℕ) (es : List (List ℕ)) (old new : Standing) (o : PlayEnd) → k ≡ g → Holds old name k.game →
+    PlaysAgain k (digest_of k.game) store old new o → IsPlayedWith g seed es → Stands g seed es (store_bytes old store) → GoesOnIn name store g seed es old new (outcome_of o)
 goes_on_in name store g k seed es old new o same holds p =
     subst (λ h. IsPlayedWith h seed es → Stands h seed es (store_bytes old store) → GoesOnIn name store h seed es old new (outcome_of o)) same
     (λ played stands. goes o holds (standing_again k seed es store old new played stands o p))
@@ -57,7 +63,7 @@ shows_same g k kept store old mid st piece still same is h =
     (subst (λ q. ShowsState g (sha256 (image g)) (store_bytes q store) st piece) (sym still) h))
 
 -- a new session at a stage where nothing has changed since
-pub game_moment : (g k : GameLists) (seed : ℕ) (store : List ℕ) (old mid : Standing) (m : Moment) → mid ≡ old → k ≡ g → InGame k seed store mid m → InGame g seed store old m
+pub game_moment : (g k : Story) (seed : ℕ) (store : List ℕ) (old mid : Standing) (m : Moment) → mid ≡ old → k ≡ g → InGame k seed store mid m → InGame g seed store old m
 game_moment g k seed store old mid m still same i = subst (λ q. InGame g seed store q m) still (subst (λ q. InGame q seed store mid m) same i)
 
 pub again_moment : (s k : Played) (old mid : Standing) (m : Moment) → mid ≡ old → k ≡ s → InAgain k mid m → InAgain s old m

@@ -1,17 +1,22 @@
 -- An image that isn't opened.
 use Rattle.std.proofs.Common.{ℕ, List}
-use Rattle.std.specs.Prelude.{Err}
 use Rattle.paw_stage.specs.Stage.{Standing}
 use Rattle.paw_stage.specs.declared.StageCall.TheVariants as call
 use Rattle.paw_top.specs.declared.outcome.Outcome.{Outcome}
 use Rattle.paw_top.specs.declared.outcome.Outcome.TheVariants as outcome
-use Rattle.paw_top.specs.Loads.{LoadsImage}
+use Rattle.paw_top.specs.Loads.{LoadsSome, LoadsNone, GivesNone}
 use Rattle.paw_top.specs.Opens.{Unopened, damaged, absent, failed, wanting}
+use Rattle.paw_top.proofs.Images.{damage_loaded}
 
--- a load that gives no image says why its game isn't played
-pub no_image : (name : List ℕ) (old new : Standing) (o : Outcome) → LoadsImage name old new (Err o) → Unopened name old new o
-no_image name old new (outcome.ImageDamaged at) h = rw h.0 (damaged h.1 h.2)
-no_image name old new (outcome.Outside call.LoadAbsent) h = absent h.0 h.1
-no_image name old new (outcome.Outside call.Load) h = failed h
-no_image name old new (outcome.Memory at) h = wanting at h
-no_image name old new _ h = absurd h
+-- a load that gives nothing says why its game isn't played
+pub no_file : (name : List ℕ) (old new : Standing) (o : Outcome) → LoadsNone name old new o → Unopened name old new o
+no_file name old new (outcome.Outside call.LoadAbsent) h = absent h.0 h.1
+no_file name old new (outcome.Outside call.Load) h = failed h
+no_file name old new (outcome.Memory at) h = wanting at h
+no_file name old new _ h = absurd h
+
+-- and so do bytes that give no game
+pub no_image : (name given : List ℕ) (old new : Standing) (o : Outcome) → LoadsSome name 4194304 old new given → GivesNone given o → Unopened name old new o
+no_image name given old new (outcome.ImageDamaged at) f h = damaged at (damage_loaded name given old new at f h.0 h.1) f.3
+no_image name given old new (outcome.Memory at) f h = wanting at f.3
+no_image name given old new _ f h = absurd h

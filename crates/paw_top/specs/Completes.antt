@@ -15,10 +15,8 @@ use Rattle.paw_trial.specs.Trial.{trial_reading}
 use Rattle.paw_play.specs.Play.{ShowsState, Refuses, store_bytes}
 use Rattle.paw_top.specs.Commands.{Command, Compile, Decompile, Walk, Play, Resume, Trial}
 use Rattle.paw_top.specs.Ends.{refused_as}
-use Rattle.paw_top.specs.Loads.{Holds, HoldsNone}
+use Rattle.paw_top.specs.Loads.{Holds, HoldsNone, HoldsDamage}
 use Rattle.paw_top.specs.Sessions.{digest_of}
-use Rattle.paw_top.specs.Unbuilt.{first_unbuilt}
-use Rattle.paw_top.specs.declared.unbuilt.Unbuilt.{Unbuilt}
 use Rattle.paw_top.specs.declared.outcome.Outcome.{Outcome}
 use Rattle.paw_top.specs.declared.outcome.Outcome.TheVariants as outcome
 
@@ -38,11 +36,11 @@ IsRefused fault (outcome.SourceRefused found) = found ≡ fault
 IsRefused fault (outcome.Memory at) = Unit {0}
 IsRefused fault _ = ⊥
 
--- the file was refused as no image, or memory was wanting
-abbrev pub IsDamaged : Outcome → Type 0
-IsDamaged (outcome.ImageDamaged at) = at ≡ 0
-IsDamaged (outcome.Memory at) = Unit {0}
-IsDamaged _ = ⊥
+-- the file was refused as no image, by the place of its first damage, or memory was wanting
+abbrev pub IsDamaged : Standing → List ℕ → Outcome → Type 0
+IsDamaged old name (outcome.ImageDamaged at) = HoldsDamage old name at
+IsDamaged old name (outcome.Memory at) = Unit {0}
+IsDamaged old name _ = ⊥
 
 -- a source that spells a game is compiled, and any other is refused for its fault
 abbrev pub CompletesSource : Result GameLists SourceFault → Outcome → Type 0
@@ -56,7 +54,7 @@ CompletesCompile source old o = (bytes : List ℕ) → old.files source ≡ Some
 -- where the image is there, it is decompiled; where the file is no image, it is refused
 pub record CompletesDecompile (name : List ℕ) (old : Standing) (o : Outcome) : Type 0 where
   pub image : (g : GameLists) → Holds old name g → IsDone o
-  pub other : HoldsNone old name → IsDamaged o
+  pub other : HoldsNone old name → IsDamaged old name o
 
 -- playing came to its end, or memory was wanting
 abbrev pub IsWalked : Outcome → Type 0
@@ -67,12 +65,6 @@ IsWalked (outcome.TooDeep table) = Unit {0}
 IsWalked (outcome.Long events) = Unit {0}
 IsWalked (outcome.Memory at) = Unit {0}
 IsWalked _ = ⊥
-
--- the image was refused for this condact, or memory was wanting
-abbrev pub IsUnbuilt : Unbuilt → Outcome → Type 0
-IsUnbuilt place (outcome.Unbuilt at code) = (at ≡ place.at) × (code ≡ place.code)
-IsUnbuilt place (outcome.Memory at) = Unit {0}
-IsUnbuilt place _ = ⊥
 
 -- this is the answer that is due, or memory was wanting
 abbrev pub Comes : Outcome → Outcome → Type 0
@@ -96,15 +88,10 @@ pub record CompletesAgain (g : GameLists) (digest bytes : List ℕ) (o : Outcome
   pub refused : (r : JournalRefusal) → Refuses digest bytes r → Comes (refused_as r) o
   pub no_state : (state piece : List ℕ) → recover bytes ≡ Shown digest state piece → ((st : State) → ¬ ShowsState g digest bytes st piece) → IsNoState o
 
--- a game whose condacts are built is played, with such an answer, and any other is refused for its first condact that isn't
-abbrev pub CompletesGame : Option Unbuilt → (Outcome → Type 0) → Outcome → Type 0
-CompletesGame None Such o = Such o
-CompletesGame (Some place) Such o = IsUnbuilt place o
-
--- where the image is there, its game is played, with such an answer, or refused; where the file is no image, that is refused
+-- where the image is there, its game is played, with such an answer; where the file is no image, it is refused
 pub record CompletesPlay (name : List ℕ) (Such : GameLists → Outcome → Type 0) (old : Standing) (o : Outcome) : Type 0 where
-  pub image : (g : GameLists) → Holds old name g → CompletesGame (first_unbuilt g) (Such g) o
-  pub other : HoldsNone old name → IsDamaged o
+  pub image : (g : GameLists) → Holds old name g → Such g o
+  pub other : HoldsNone old name → IsDamaged old name o
 
 -- the answer that a trial is due, by how the reading of its lines ends
 abbrev pub due : Ending → Outcome

@@ -4,7 +4,7 @@ use Rattle.paw_game.specs.Game.{GameLists}
 use Rattle.paw_print.specs.Canonical.{canonical_of}
 use Rattle.paw_stage.specs.Stage.{Standing}
 use Rattle.paw_stage.specs.declared.StageCall.TheVariants as call
-use Rattle.paw_top.specs.Loads.{Holds, HoldsNone}
+use Rattle.paw_top.specs.Loads.{Holds, HoldsDamage}
 use Rattle.paw_top.specs.Shows.{showing}
 use Rattle.paw_top.specs.declared.outcome.Outcome.{Outcome}
 use Rattle.paw_top.specs.declared.outcome.Outcome.TheVariants as outcome
@@ -14,8 +14,8 @@ use Rattle.paw_top.specs.declared.outcome.MemoryAt.{MemoryAt}
 pub data Decompiles (name : List ℕ) (old new : Standing) : Outcome → Type 0 where
   -- the file is the image of a game, and its canonical source was shown
   done : (g : GameLists) → Holds old name g → new ≡ showing old (canonical_of g) → Decompiles name old new outcome.Done
-  -- the file is no image of a valid game; nothing is changed
-  damaged : HoldsNone old name → new ≡ old → Decompiles name old new (outcome.ImageDamaged 0)
+  -- the file is no image of a valid game, and its first damage is named; nothing is changed
+  damaged : (at : ℕ) → HoldsDamage old name at → new ≡ old → Decompiles name old new (outcome.ImageDamaged at)
   -- there is no file; nothing is changed
   absent : old.files name ≡ None → new ≡ old → Decompiles name old new (outcome.Outside call.LoadAbsent)
   -- the file couldn't be loaded; nothing is changed

@@ -1,5 +1,5 @@
 pub mod Commands
-pub mod Unbuilt
+pub mod Given
 pub mod Ends
 pub mod Outcomes
 pub mod Answers

@@ -1,10 +1,10 @@
 -- What loading a file comes to.
-use Rattle.std.specs.Prelude.{◌≡◌, ℕ, ◌+◌, List, take, Result, Ok, Err, Some, None}
+use Rattle.std.specs.Prelude.{◌≡◌, ℕ, ◌+◌, List, take, Some, None}
 use Rattle.paw_game.specs.Game.{GameLists}
+use Rattle.paw_image.specs.Damage.{bad}
 use Rattle.paw_image.specs.Images.{IsImage}
 use Rattle.paw_stage.specs.Stage.{Standing}
 use Rattle.paw_stage.specs.declared.StageCall.TheVariants as call
-use Rattle.paw_top.specs.declared.load.Image.{Image}
 use Rattle.paw_top.specs.declared.outcome.Outcome.{Outcome}
 use Rattle.paw_top.specs.declared.outcome.Outcome.TheVariants as outcome
 
@@ -15,6 +15,10 @@ Holds s name g = (bytes : List ℕ) × (s.files name ≡ Some bytes) × IsImage 
 -- the file of this name holds no image of a valid game
 abbrev pub HoldsNone : Standing → List ℕ → Type 0
 HoldsNone s name = (bytes : List ℕ) × (s.files name ≡ Some bytes) × ((g : GameLists) → ¬ IsImage bytes g)
+
+-- the file of this name holds no image of a valid game: the first rule that its bytes break is broken at this place
+abbrev pub HoldsDamage : Standing → List ℕ → ℕ → Type 0
+HoldsDamage s name at = (bytes : List ℕ) × (s.files name ≡ Some bytes) × ((g : GameLists) → ¬ IsImage bytes g) × (bad bytes ≡ Some at)
 
 -- a load that gave nothing, by its answer; nothing is changed
 abbrev pub LoadsNone : List ℕ → Standing → Standing → Outcome → Type 0
@@ -27,8 +31,8 @@ LoadsNone name old new _ = ⊥
 abbrev pub LoadsSome : List ℕ → ℕ → Standing → Standing → List ℕ → Type 0
 LoadsSome name most old new given = (bytes : List ℕ) × (old.files name ≡ Some bytes) × (given ≡ take (most + 1) bytes) × (new ≡ old)
 
--- the image that the file holds, or why there is none; nothing is changed
-abbrev pub LoadsImage : List ℕ → Standing → Standing → Result Image Outcome → Type 0
-LoadsImage name old new (Ok i) = Holds old name i.game × (new ≡ old)
-LoadsImage name old new (Err (outcome.ImageDamaged at)) = (at ≡ 0) × HoldsNone old name × (new ≡ old)
-LoadsImage name old new (Err o) = LoadsNone name old new o
+-- why bytes that were loaded give no game: they are no image of a valid one, or memory was wanting
+abbrev pub GivesNone : List ℕ → Outcome → Type 0
+GivesNone bytes (outcome.ImageDamaged at) = ((g : GameLists) → ¬ IsImage bytes g) × (bad bytes ≡ Some at)
+GivesNone bytes (outcome.Memory at) = Unit {0}
+GivesNone bytes _ = ⊥

@@ -1,9 +1,7 @@
 // Sources that are compiled and images that are decompiled, over stages in memory, and each way in which one is refused.
 
 use crate::outcome::{MemoryAt, Outcome};
-use crate::settled::settle;
-use crate::tests::words_of;
-use crate::top::paw;
+use crate::settled::{run, settle, settle_and_run};
 use paw_base::fault::{SourceFault, SourceKind};
 use paw_stage::{Asked, FailStage, MemoryStage, Stage, StageCall};
 use std::alloc::{AllocError, Global};
@@ -96,9 +94,7 @@ fn is_left_so<S: Stage>(
 // The command comes to what the case says.
 fn comes_so(rt: &impl Abort, alloc: Global, case: &Case<'_>) -> Result<(), Fail> {
     let mut stage = stage_of(alloc, case)?;
-    settle(rt, &mut stage);
-    let words = words_of(alloc, case.words)?;
-    let outcome = paw(alloc, &mut stage, words.as_slice());
+    let outcome = settle_and_run(rt, alloc, &mut stage, case.words)?;
     assert_eq!(rt; outcome, case.outcome, "{}", case.name);
     assert_eq!(rt; stage.shown(), case.shown, "{}", case.name);
     is_left_so(rt, alloc, &mut stage, case)
@@ -181,7 +177,7 @@ fn images_are_decompiled(rt: HostRuntime) -> Result<(), Fail> {
         refused(decompiled("no byte", b"", b""), damaged),
         refused(
             decompiled("without its last byte", &LANTERN_IMAGE[..86], b""),
-            damaged,
+            Outcome::ImageDamaged { at: 85 },
         ),
         refused(decompiled("a source", LANTERN.as_bytes(), b""), damaged),
     ] {
@@ -243,13 +239,8 @@ fn a_condact_line_has_two_forms(rt: HostRuntime) -> Result<(), Fail> {
         let source = three_messages_with(alloc, 14, Some(line))?;
         let mut stage = MemoryStage::new(alloc, 100, 10_000)?;
         stage.add_file("source", source.as_bytes())?;
-        let words = words_of(alloc, COMPILE)?;
-        settle(&rt, &mut stage);
-        assert_eq!(rt;
-            paw(alloc, &mut stage, words.as_slice()),
-            Outcome::Done,
-            "{line}"
-        );
+        let outcome = settle_and_run(&rt, alloc, &mut stage, COMPILE)?;
+        assert_eq!(rt; outcome, Outcome::Done, "{line}");
     }
     Ok(())
 }
@@ -290,8 +281,7 @@ fn a_call_that_fails_ends_the_command(rt: HostRuntime) -> Result<(), Fail> {
         let mut settled = stage_of(alloc, &case)?;
         settle(&rt, &mut settled);
         let mut stage = FailStage::new(settled, listed);
-        let words = words_of(alloc, case.words)?;
-        let came = paw(alloc, &mut stage, words.as_slice());
+        let came = run(alloc, &mut stage, case.words)?;
         assert_eq!(rt;
             came,
             Outcome::Outside(failed),

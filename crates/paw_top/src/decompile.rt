@@ -6,9 +6,11 @@ ghost use Rattle.paw_top.specs.Answers.{IfOutside, IfMemory, IsDecompileCall, Is
 ghost use Rattle.paw_top.specs.Decompile.{Decompiles};
 ghost use Rattle.paw_top.specs.declared.outcome.Outcome.TheVariants as outcome;
 
-use crate::load::load_image;
+use crate::load::load;
+use crate::open::game_in;
 use crate::outcome::{MemoryAt, Outcome};
 use crate::show::tell;
+use paw_image::IMAGE_LIMIT;
 use paw_print::canonical;
 use paw_stage::Stage;
 use std::alloc::Global;
@@ -23,11 +25,15 @@ pub(crate) fn decompile<S: Stage>(alloc: Global, stage: &mut S, image: &str) -> 
     ensures memory { IfMemory result IsDecompileMemory }
     ensures decompiles { S.Tells stage.old → Decompiles image.now (S.standing stage.old) (S.standing stage.new) result }
 {
-    let image = match load_image(alloc, stage, image) {
-        Ok(image) => image,
+    let bytes = match load(alloc, stage, image, IMAGE_LIMIT) {
+        Ok(bytes) => bytes,
         Err(outcome) => return outcome,
     };
-    let Ok(source) = canonical(alloc, &image.game) else {
+    let game = match game_in(alloc, bytes.as_slice()) {
+        Ok(game) => game,
+        Err(outcome) => return outcome,
+    };
+    let Ok(source) = canonical(alloc, &game) else {
         return Outcome::Memory(MemoryAt::Print);
     };
     tell(stage, source.as_slice())

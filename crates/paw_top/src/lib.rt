@@ -10,6 +10,7 @@ pub mod laws;
 mod load;
 mod open;
 pub mod outcome;
+pub mod routines;
 #[cfg(test)]
 mod session_tests;
 mod sessions;
@@ -22,4 +23,3 @@ mod source_tests;
 mod tests;
 pub mod top;
 mod trial;
-pub mod unbuilt;

@@ -1,46 +1,58 @@
-// Opening the game of an image file, to play it.
+// The game in the bytes of an image file.
 
-ghost use Rattle.std.specs.Prelude.{◌≡◌, ◌≢◌, ◌↔◌, None, IfOk, IfErr};
-ghost use Rattle.paw_game.specs.Image.{image};
-ghost use Rattle.paw_stage.specs.Moments.{Passes, Still};
-ghost use Rattle.paw_stage.specs.Stage.{Standing, Rose, Grows, Faulted};
-ghost use Rattle.paw_top.specs.Answers.{IfOutside, IfMemory, IsLoadCall, IsLoadMemory, failed_or};
-ghost use Rattle.paw_top.specs.Loads.{Holds};
-ghost use Rattle.paw_top.specs.Opens.{Unopened};
-ghost use Rattle.paw_top.specs.Unbuilt.{first_unbuilt};
+ghost use Rattle.std.specs.Prelude.{◌≡◌, ◌≢◌, ℕ, List, Some, None, IfOk, IfErr};
+ghost use Rattle.paw_game.specs.Game.{GameLists};
+ghost use Rattle.paw_image.specs.Damage.{bad};
+ghost use Rattle.paw_image.specs.Images.{IsImage, AtDamage};
+ghost use Rattle.paw_image.specs.Views.{game_of};
+ghost use Rattle.paw_top.specs.Answers.{IfMemory, IsLoadMemory, failed_call, failed_or};
+ghost use Rattle.paw_top.specs.Loads.{GivesNone};
 ghost use Rattle.paw_top.specs.declared.outcome.Outcome.TheVariants as outcome;
 
-use crate::load::{Image, load_image};
-use crate::outcome::Outcome;
-use crate::unbuilt::first_unbuilt;
-use paw_stage::Stage;
+use crate::outcome::{MemoryAt, Outcome};
+use paw_game::game::Game;
+use paw_image::decoder::decode;
+use paw_image::refusal::ImageRefusal;
+use paw_image::view::View;
 use std::alloc::Global;
 
-/// The image that a file holds, where every condact of its game is built, or why it can't be played.
-pub(crate) fn open_image<S: Stage>(
-    alloc: Global,
-    stage: &mut S,
-    name: &str,
-) -> Result<Image, Outcome>
-    ensures tells { S.Tells stage.old ↔ S.Tells stage.new }
-    ensures counts { Grows (S.faults stage.old) (S.faults stage.new) }
-    ensures faulted { Faulted (failed_or result) (S.faults stage.old) (S.faults stage.new) }
-    ensures outside { IfErr result (λ o. IfOutside o (λ c. IsLoadCall c × Rose (S.faults stage.old c) (S.faults stage.new c))) }
+/// The answer for bytes that give no game.
+fn refused_as(refusal: ImageRefusal) -> Outcome
+    ensures none { (bytes : List ℕ) → AtDamage refusal (λ _. (g : GameLists) → ¬ IsImage bytes g) → AtDamage refusal (λ at. bad bytes ≡ Some at) → GivesNone bytes result }
+    ensures form { result ≢ outcome.Usage }
+    ensures memory { IfMemory result IsLoadMemory }
+    ensures fine { failed_call result ≡ None }
+{
+    match refusal {
+        ImageRefusal::Damaged { at } => Outcome::ImageDamaged { at },
+        ImageRefusal::Memory => Outcome::Memory(MemoryAt::Image),
+    }
+}
+
+/// The game whose image the bytes are, read in place, or why there is none.
+pub(crate) fn view_in<'a>(alloc: Global, bytes: &'a [u8]) -> Result<View<'a>, Outcome>
+    ensures found { IfOk result (λ view. IsImage bytes.now (game_of view)) }
+    ensures none { IfErr result (GivesNone bytes.now) }
     ensures form { IfErr result (λ o. o ≢ outcome.Usage) }
     ensures memory { IfErr result (λ o. IfMemory o IsLoadMemory) }
-    ensures bytes { IfOk result (λ i. i.bytes.items ≡ image i.game) }
-    ensures built { IfOk result (λ i. first_unbuilt i.game ≡ None) }
-    ensures holds { S.Tells stage.old → IfOk result (λ i. Holds (S.standing stage.old) name.now i.game) }
-    ensures still { S.Tells stage.old → S.standing stage.new ≡ S.standing stage.old }
-    ensures unopened { S.Tells stage.old → IfErr result (Unopened name.now (S.standing stage.old) (S.standing stage.new)) }
-    ensures time { S.Tells stage.old → Passes (S.clock stage.old) (S.clock stage.new) (S.since stage.old) (S.since stage.new) (Still (S.standing stage.old)) }
+    ensures fine { failed_or result ≡ None }
 {
-    let image = load_image(alloc, stage, name)?;
-    match first_unbuilt(&image.game) {
-        Some(place) => Err(Outcome::Unbuilt {
-            at: place.at,
-            code: place.code,
-        }),
-        None => Ok(image),
+    match View::new(alloc, bytes) {
+        Ok(view) => Ok(view),
+        Err(refusal) => Err(refused_as(refusal)),
+    }
+}
+
+/// The game whose image the bytes are, or why there is none.
+pub(crate) fn game_in(alloc: Global, bytes: &[u8]) -> Result<Game, Outcome>
+    ensures found { IfOk result (IsImage bytes.now) }
+    ensures none { IfErr result (GivesNone bytes.now) }
+    ensures form { IfErr result (λ o. o ≢ outcome.Usage) }
+    ensures memory { IfErr result (λ o. IfMemory o IsLoadMemory) }
+    ensures fine { failed_or result ≡ None }
+{
+    match decode(alloc, bytes) {
+        Ok(game) => Ok(game),
+        Err(refusal) => Err(refused_as(refusal)),
     }
 }

@@ -25,8 +25,7 @@ pub enum MemoryAt {
 
 /// What a command comes to. Done: the command did what it is for. Ended: the game is over. InputEnded: no line is left at a
 /// prompt. Usage: the words have no form. SourceRefused: the source has a fault; its first is named. ImageDamaged: the file
-/// is no image of a valid game. Unbuilt: the image has a condact that isn't built yet; the place and the code of the first
-/// are named.
+/// is no image of a valid game; the place of the first field that breaks its rule.
 ///
 /// Of a store. Occupied: a new session was asked for, and the store has so many bytes already. Unmade: it has no session; its
 /// length in bytes, and its first byte (0 where there is none). SessionDamaged: a rule of the session is broken, first at
@@ -42,7 +41,6 @@ pub enum Outcome {
     Usage,
     SourceRefused(SourceFault),
     ImageDamaged { at: u64 },
-    Unbuilt { at: u64, code: u8 },
     Occupied { length: u64 },
     Unmade { length: u64, mark: u8 },
     SessionDamaged { part: SessionPart, at: u64 },
@@ -181,7 +179,7 @@ impl Outcome {
             Outcome::Done | Outcome::Ended | Outcome::InputEnded => 0,
             Outcome::Usage => 1,
             Outcome::SourceRefused(_) => 2,
-            Outcome::ImageDamaged { .. } | Outcome::Unbuilt { .. } => 3,
+            Outcome::ImageDamaged { .. } => 3,
             Outcome::Occupied { .. }
             | Outcome::Unmade { .. }
             | Outcome::SessionDamaged { .. }
@@ -211,9 +209,6 @@ impl Outcome {
                 Ok(format!(in alloc; "source line {line}: {kind}\n")?)
             }
             Outcome::ImageDamaged { at } => Ok(format!(in alloc; "image damaged at {at}\n")?),
-            Outcome::Unbuilt { at, code } => Ok(format!(in alloc;
-                "not built: code {code} at {at}\n"
-            )?),
             Outcome::Occupied { length } => Ok(format!(in alloc;
                 "session has {length} bytes already\n"
             )?),

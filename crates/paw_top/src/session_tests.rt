@@ -1,9 +1,7 @@
 // Sessions over stages in memory: rounds of one session, stores that give none, and calls that fail.
 
 use crate::outcome::Outcome;
-use crate::settled::settle;
-use crate::tests::words_of;
-use crate::top::paw;
+use crate::settled::{run, settle, settle_and_run};
 use paw_journal::{SessionPart, digest};
 use paw_stage::{FailStage, MemoryStage, Stage, StageCall};
 use std::alloc::Global;
@@ -63,9 +61,7 @@ fn stage_of(
         stage.add_line(alloc, line.as_bytes())?;
     }
     for words in ["compile\nhall source\nhall", "compile\ncave source\ncave"] {
-        let words = words_of(alloc, words)?;
-        settle(rt, &mut stage);
-        let _ = paw(alloc, &mut stage, words.as_slice());
+        let _ = settle_and_run(rt, alloc, &mut stage, words)?;
     }
     Ok(stage)
 }
@@ -83,9 +79,7 @@ fn plays_round(
     round: &Round<'_>,
 ) -> Result<Vec<u8>, Fail> {
     let mut stage = stage_of(rt, alloc, store, round.lines)?;
-    settle(rt, &mut stage);
-    let words = words_of(alloc, round.words)?;
-    let outcome = paw(alloc, &mut stage, words.as_slice());
+    let outcome = settle_and_run(rt, alloc, &mut stage, round.words)?;
     assert_eq!(rt; outcome, round.outcome, "{} {:?}", round.words, round.lines);
     let before = shown_before(rt, alloc)?;
     assert_eq!(rt;
@@ -160,21 +154,14 @@ fn random_words_go_on_after_a_resume(rt: HostRuntime) -> Result<(), Fail> {
     let alloc = rt.alloc();
     let lines = "ROLL\nROLL\nROLL\nROLL\nROLL\nROLL\nROLL\nROLL";
     let mut whole = stage_of(&rt, alloc, b"", lines)?;
-    let words = words_of(alloc, PLAY)?;
-    settle(&rt, &mut whole);
-    assert_eq!(rt;
-        paw(alloc, &mut whole, words.as_slice()),
-        Outcome::InputEnded
-    );
+    let outcome = settle_and_run(&rt, alloc, &mut whole, PLAY)?;
+    assert_eq!(rt; outcome, Outcome::InputEnded);
     let mut store: Vec<u8> = Vec::new(alloc);
     for (number, line) in lines.lines().enumerate() {
         let mut stage = stage_of(&rt, alloc, store.as_slice(), line)?;
-        settle(&rt, &mut stage);
-        let words = words_of(alloc, if number == 0 { PLAY } else { RESUME })?;
-        assert_eq!(rt;
-            paw(alloc, &mut stage, words.as_slice()),
-            Outcome::InputEnded
-        );
+        let words = if number == 0 { PLAY } else { RESUME };
+        let outcome = settle_and_run(&rt, alloc, &mut stage, words)?;
+        assert_eq!(rt; outcome, Outcome::InputEnded);
         store = stage.load(alloc, "store", MOST)?;
     }
     assert_eq!(rt;
@@ -276,10 +263,25 @@ fn stores_that_give_no_session_are_refused(rt: HostRuntime) -> Result<(), Fail> 
     Ok(())
 }
 
+/// Where a session and each of its slots tell their version.
+const VERSIONS: [usize; 3] = [VERSION_AT, 128 + 2, 86_208 + 2];
+
+#[test]
+fn a_session_of_the_earlier_form_goes_on(rt: HostRuntime) -> Result<(), Fail> {
+    let alloc = rt.alloc();
+    let first = round_to_end(PLAY, "WAIT\nSHAKE ALL", "Hall.\n>\nOK.\n>\nSure? ");
+    let store = plays_rounds(&rt, alloc, &[first])?;
+    let earlier = with_bytes(alloc, store.as_slice(), &VERSIONS, 1)?;
+    let on = round_to_end(RESUME, "N\nY", "Sure? Sure? Done.\n>\n");
+    let left = plays_round(&rt, alloc, earlier.as_slice(), &on)?;
+    let later = round_to_end(RESUME, "WAIT", "Done.\n>\nOK.\n>\n");
+    plays_round(&rt, alloc, left.as_slice(), &later)?;
+    Ok(())
+}
+
 #[test]
 fn a_piece_that_was_not_shown_is_shown_again(rt: HostRuntime) -> Result<(), Fail> {
     let alloc = rt.alloc();
-    let words = words_of(alloc, PLAY)?;
     // Of the calls, the show of the first piece and that of the piece of WAIT.
     let mut seen = 0u64;
     for call in 0..40u64 {
@@ -287,7 +289,7 @@ fn a_piece_that_was_not_shown_is_shown_again(rt: HostRuntime) -> Result<(), Fail
         let mut settled = stage_of(&rt, alloc, b"", "WAIT")?;
         settle(&rt, &mut settled);
         let mut stage = FailStage::new(settled, listed);
-        if paw(alloc, &mut stage, words.as_slice()) != Outcome::Outside(StageCall::Show) {
+        if run(alloc, &mut stage, PLAY)? != Outcome::Outside(StageCall::Show) {
             continue;
         }
         seen = seen.saturating_add(1);

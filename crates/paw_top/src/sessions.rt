@@ -1,7 +1,8 @@
 // Playing with a session.
 
 ghost use Rattle.std.specs.Prelude.{◌≡◌, ◌≢◌, ◌↔◌, ℕ, List, []};
-ghost use Rattle.paw_game.specs.Game.{GameLists};
+ghost use Rattle.paw_routines.specs.Routines.{AreRowsOf, HaveRows};
+ghost use Rattle.paw_effects.specs.Story.{Story};
 ghost use Rattle.paw_stage.specs.Disk.{IsStable};
 ghost use Rattle.paw_stage.specs.Moments.{Passes};
 ghost use Rattle.paw_stage.specs.Stage.{Standing, Rose, Grows, Faulted};
@@ -13,22 +14,27 @@ ghost use Rattle.paw_top.specs.Loads.{Holds};
 ghost use Rattle.paw_top.specs.Sessions.{PlaysNewIn, PlaysAgainIn, GoesOnIn, digest_of, session_from};
 ghost use Rattle.paw_top.specs.declared.outcome.Outcome.TheVariants as outcome;
 
-use crate::open::open_image;
+use crate::load::load;
+use crate::open::view_in;
 use crate::outcome::{Outcome, outcome_of};
+use paw_image::IMAGE_LIMIT;
 use paw_journal::digest;
 use paw_play::play::play_loop;
 use paw_play::resume::resume_loop;
+use paw_routines::routines::Routines;
 use paw_stage::Stage;
 use std::alloc::Global;
 
 /// Plays the game of an image file from its start, with a new session in the store.
-pub(crate) fn play<S: Stage>(
+pub(crate) fn play<S: Stage, F: Fn(u8, u8) -> u8>(
     alloc: Global,
     stage: &mut S,
+    routines: &Routines<F>,
     image: &str,
     store: &str,
     seed: u64,
 ) -> Outcome
+    requires rows { HaveRows F.Fn routines.now }
     requires synced { S.Tells stage.old → IsStable (S.standing stage.old).disk }
     ensures tells { S.Tells stage.old ↔ S.Tells stage.new }
     ensures counts { Grows (S.faults stage.old) (S.faults stage.new) }
@@ -36,20 +42,33 @@ pub(crate) fn play<S: Stage>(
     ensures form { result ≢ outcome.Usage }
     ensures memory { IfMemory result IsPlayMemory }
     ensures outside { IfOutside result (λ c. IsKeptCall c × Rose (S.faults stage.old c) (S.faults stage.new c)) }
-    ensures plays { S.Tells stage.old → PlaysNewIn image.now store.now seed (S.standing stage.old) (S.standing stage.new) result }
-    ensures any_moment { S.Tells stage.old → (g : GameLists) → Holds (S.standing stage.old) image.now g → store_bytes (S.standing stage.old) store.now ≡ [] →
-        Passes (S.clock stage.old) (S.clock stage.new) (S.since stage.old) (S.since stage.new) (InGame g seed store.now (S.standing stage.old)) }
+    ensures plays { S.Tells stage.old → (X : List (List ℕ)) → AreRowsOf F.Fn routines.now X →
+        PlaysNewIn X image.now store.now seed (S.standing stage.old) (S.standing stage.new) result }
+    ensures any_moment { S.Tells stage.old → (s : Story) → AreRowsOf F.Fn routines.now s.rows → Holds (S.standing stage.old) image.now s.game →
+        store_bytes (S.standing stage.old) store.now ≡ [] →
+        Passes (S.clock stage.old) (S.clock stage.new) (S.since stage.old) (S.since stage.new) (InGame s seed store.now (S.standing stage.old)) }
 {
-    let image = match open_image(alloc, stage, image) {
-        Ok(image) => image,
+    let bytes = match load(alloc, stage, image, IMAGE_LIMIT) {
+        Ok(bytes) => bytes,
         Err(outcome) => return outcome,
     };
-    let kept = digest(image.bytes.as_slice());
-    outcome_of(play_loop(alloc, stage, &image.game, &kept, store, seed))
+    let view = match view_in(alloc, bytes.as_slice()) {
+        Ok(view) => view,
+        Err(outcome) => return outcome,
+    };
+    let kept = digest(view.bytes());
+    outcome_of(play_loop(alloc, stage, &view, routines, &kept, store, seed))
 }
 
 /// Goes on with the session in the store, of the game of an image file.
-pub(crate) fn resume<S: Stage>(alloc: Global, stage: &mut S, image: &str, store: &str) -> Outcome
+pub(crate) fn resume<S: Stage, F: Fn(u8, u8) -> u8>(
+    alloc: Global,
+    stage: &mut S,
+    routines: &Routines<F>,
+    image: &str,
+    store: &str,
+) -> Outcome
+    requires rows { HaveRows F.Fn routines.now }
     requires synced { S.Tells stage.old → IsStable (S.standing stage.old).disk }
     ensures tells { S.Tells stage.old ↔ S.Tells stage.new }
     ensures counts { Grows (S.faults stage.old) (S.faults stage.new) }
@@ -57,20 +76,26 @@ pub(crate) fn resume<S: Stage>(alloc: Global, stage: &mut S, image: &str, store:
     ensures form { result ≢ outcome.Usage }
     ensures memory { IfMemory result IsPlayMemory }
     ensures outside { IfOutside result (λ c. IsKeptCall c × Rose (S.faults stage.old c) (S.faults stage.new c)) }
-    ensures plays { S.Tells stage.old → PlaysAgainIn image.now store.now (S.standing stage.old) (S.standing stage.new) result }
-    ensures any_moment { S.Tells stage.old → (g : GameLists) (st : State) (piece : List ℕ) → Holds (S.standing stage.old) image.now g →
-        ShowsState g (digest_of g) (store_bytes (S.standing stage.old) store.now) st piece →
-        Passes (S.clock stage.old) (S.clock stage.new) (S.since stage.old) (S.since stage.new) (InAgain (session_from g store.now st piece) (S.standing stage.old)) }
-    ensures goes_on { S.Tells stage.old → (g : GameLists) (seed : ℕ) (es : List (List ℕ)) → Holds (S.standing stage.old) image.now g → IsPlayedWith g seed es →
-        Stands g seed es (store_bytes (S.standing stage.old) store.now) → GoesOnIn image.now store.now g seed es (S.standing stage.old) (S.standing stage.new) result }
-    ensures any_moment_on { S.Tells stage.old → (g : GameLists) (seed : ℕ) (es : List (List ℕ)) → Holds (S.standing stage.old) image.now g → IsPlayedWith g seed es →
-        Stands g seed es (store_bytes (S.standing stage.old) store.now) →
-        Passes (S.clock stage.old) (S.clock stage.new) (S.since stage.old) (S.since stage.new) (InGoingOn g seed es store.now (S.standing stage.old)) }
+    ensures plays { S.Tells stage.old → (X : List (List ℕ)) → AreRowsOf F.Fn routines.now X →
+        PlaysAgainIn X image.now store.now (S.standing stage.old) (S.standing stage.new) result }
+    ensures any_moment { S.Tells stage.old → (s : Story) (st : State) (piece : List ℕ) → AreRowsOf F.Fn routines.now s.rows →
+        Holds (S.standing stage.old) image.now s.game → ShowsState s.game (digest_of s.game) (store_bytes (S.standing stage.old) store.now) st piece →
+        Passes (S.clock stage.old) (S.clock stage.new) (S.since stage.old) (S.since stage.new) (InAgain (session_from s store.now st piece) (S.standing stage.old)) }
+    ensures goes_on { S.Tells stage.old → (s : Story) (seed : ℕ) (es : List (List ℕ)) → AreRowsOf F.Fn routines.now s.rows →
+        Holds (S.standing stage.old) image.now s.game → IsPlayedWith s seed es → Stands s seed es (store_bytes (S.standing stage.old) store.now) →
+        GoesOnIn image.now store.now s seed es (S.standing stage.old) (S.standing stage.new) result }
+    ensures any_moment_on { S.Tells stage.old → (s : Story) (seed : ℕ) (es : List (List ℕ)) → AreRowsOf F.Fn routines.now s.rows →
+        Holds (S.standing stage.old) image.now s.game → IsPlayedWith s seed es → Stands s seed es (store_bytes (S.standing stage.old) store.now) →
+        Passes (S.clock stage.old) (S.clock stage.new) (S.since stage.old) (S.since stage.new) (InGoingOn s seed es store.now (S.standing stage.old)) }
 {
-    let image = match open_image(alloc, stage, image) {
-        Ok(image) => image,
+    let bytes = match load(alloc, stage, image, IMAGE_LIMIT) {
+        Ok(bytes) => bytes,
         Err(outcome) => return outcome,
     };
-    let kept = digest(image.bytes.as_slice());
-    outcome_of(resume_loop(alloc, stage, &image.game, &kept, store))
+    let view = match view_in(alloc, bytes.as_slice()) {
+        Ok(view) => view,
+        Err(outcome) => return outcome,
+    };
+    let kept = digest(view.bytes());
+    outcome_of(resume_loop(alloc, stage, &view, routines, &kept, store))
 }

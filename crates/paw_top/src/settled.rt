@@ -1,8 +1,13 @@
-// Stages for tests.
+// Commands over stages, for tests.
 
 ghost use Rattle.paw_stage.specs.Disk.{IsStable};
 
+use crate::outcome::Outcome;
+use crate::routines::{ROUTINES, give};
+use crate::top::paw;
+use paw_routines::routines::Routines;
 use paw_stage::Stage;
+use std::alloc::{AllocError, Global};
 use std::process::Abort;
 
 /// Syncs the attached store, or does nothing where there is none, so that a command may begin.
@@ -10,4 +15,33 @@ pub fn settle<S: Stage>(rt: &impl Abort, stage: &mut S)
     ensures synced { S.Tells stage.new → IsStable (S.standing stage.new).disk }
 {
     assert!(rt; stage.sync().is_ok());
+}
+
+// The words of a command, which stand in a line each.
+fn words_of(alloc: Global, lines: &str) -> Result<Vec<String>, AllocError> {
+    let mut words = Vec::new(alloc);
+    for word in lines.lines() {
+        words.push(String::from_str(alloc, word)?)?;
+    }
+    Ok(words)
+}
+
+/// What a command comes to whose words stand in a line each, with the program's routines, where nothing is unsynced.
+pub fn run<S: Stage>(alloc: Global, stage: &mut S, words: &str) -> Result<Outcome, AllocError>
+    requires synced { S.Tells stage.old → IsStable (S.standing stage.old).disk }
+{
+    let words = words_of(alloc, words)?;
+    let routines = Routines::new(ROUTINES, give);
+    Ok(paw(alloc, stage, &routines, words.as_slice()))
+}
+
+/// The same, where the attached store is synced first.
+pub fn settle_and_run<S: Stage>(
+    rt: &impl Abort,
+    alloc: Global,
+    stage: &mut S,
+    words: &str,
+) -> Result<Outcome, AllocError> {
+    settle(rt, stage);
+    run(alloc, stage, words)
 }

@@ -2,9 +2,7 @@
 
 use crate::compile_tests::{LANTERN, SMALLEST};
 use crate::outcome::Outcome;
-use crate::settled::settle;
-use crate::tests::words_of;
-use crate::top::paw;
+use crate::settled::settle_and_run;
 use paw_base::fault::SpentKind;
 use paw_stage::{LoadRefusal, MemoryStage, Stage};
 use std::alloc::{AllocError, Global};
@@ -167,14 +165,10 @@ fn walked(
     for line in lines.lines() {
         stage.add_line(alloc, line.as_bytes())?;
     }
-    let words = words_of(alloc, "compile\nsource\ngame")?;
-    settle(rt, &mut stage);
-    let outcome = paw(alloc, &mut stage, words.as_slice());
+    let outcome = settle_and_run(rt, alloc, &mut stage, "compile\nsource\ngame")?;
     assert_eq!(rt; outcome, Outcome::Done);
     let compiled = stage.shown().len();
-    let words = words_of(alloc, "walk\ngame\n7")?;
-    settle(rt, &mut stage);
-    let outcome = paw(alloc, &mut stage, words.as_slice());
+    let outcome = settle_and_run(rt, alloc, &mut stage, "walk\ngame\n7")?;
     let shown = stage.shown().get(compiled..).unwrap_or(b"");
     Ok((outcome, Vec::from_slice(alloc, shown)?))
 }
@@ -375,6 +369,13 @@ fn conditions_and_flags(rt: HostRuntime) -> Result<(), Fail> {
         ("_ _ MESSAGE 1 NOTDONE MES 0\n_ _ MES 0\n", "b\n"),
         ("_ _ MES 1 DONE MES 0\n_ _ MES 0\n", "b"),
         ("_ _ MOVE 38 MES 0\n_ _ MES 1\n", "b"),
+        // There is no routine 3, the complement of 9 has six one bits, and the half of 9 is 4.
+        ("_ _ LET 100 9 EXTERN 3 100 EQ 100 9 MES 0\n", "a"),
+        (
+            "_ _ LET 100 9 EXTERN 0 100 EQ 100 246 EXTERN 2 100 EQ 100 6 MES 0\n",
+            "a",
+        ),
+        ("_ _ LET 100 9 EXTERN 1 100 EQ 100 4 MES 0\n", "a"),
     ] {
         shows(&rt, alloc, &[BEFORE_TABLE_1, rows, "/PRO 2\n"], "", shown)?;
     }
@@ -715,13 +716,11 @@ fn image_in(alloc: Global, stage: &mut MemoryStage) -> Result<Vec<u8>, AllocErro
 fn printed(rt: &impl Abort, alloc: Global, source: &[u8]) -> Result<(Vec<u8>, Vec<u8>), Fail> {
     let mut stage = MemoryStage::new(alloc, 1_000, 100_000)?;
     stage.add_file("source", source)?;
-    let words = words_of(alloc, "compile\nsource\nimage")?;
-    settle(rt, &mut stage);
-    assert_eq!(rt; paw(alloc, &mut stage, words.as_slice()), Outcome::Done);
+    let outcome = settle_and_run(rt, alloc, &mut stage, "compile\nsource\nimage")?;
+    assert_eq!(rt; outcome, Outcome::Done);
     let told = stage.shown().len();
-    let words = words_of(alloc, "decompile\nimage")?;
-    settle(rt, &mut stage);
-    assert_eq!(rt; paw(alloc, &mut stage, words.as_slice()), Outcome::Done);
+    let outcome = settle_and_run(rt, alloc, &mut stage, "decompile\nimage")?;
+    assert_eq!(rt; outcome, Outcome::Done);
     let text = Vec::from_slice(alloc, stage.shown().get(told..).unwrap_or(b""))?;
     Ok((image_in(alloc, &mut stage)?, text))
 }

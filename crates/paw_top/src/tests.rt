@@ -1,12 +1,11 @@
 // Walks over stages in memory, and each way in which a walk is refused.
 
 use crate::outcome::{MemoryAt, Outcome};
-use crate::settled::settle;
-use crate::top::paw;
+use crate::settled::{run, settle, settle_and_run};
 use paw_base::fault::SpentKind;
 use paw_play::MOST_EVENTS;
 use paw_stage::{Asked, FailStage, MemoryStage, Stage, StageCall};
-use std::alloc::{AllocError, Global};
+use std::alloc::Global;
 use std::process::Abort;
 use std::test::Fail;
 
@@ -41,15 +40,6 @@ const FIRST: &str = "Hall.\n>\n";
 /// The words of a walk, one in each line.
 const WALK: &str = "walk\ngame\n7";
 
-// The words of a command, which stand in a line each.
-pub(crate) fn words_of(alloc: Global, lines: &str) -> Result<Vec<String>, AllocError> {
-    let mut words = Vec::new(alloc);
-    for word in lines.lines() {
-        words.push(String::from_str(alloc, word)?)?;
-    }
-    Ok(words)
-}
-
 // A stage with the image as the file `game`, a file that nobody names, and these lines.
 fn stage_of(alloc: Global, image: &[u8], lines: &str) -> Result<MemoryStage, Fail> {
     let mut stage = MemoryStage::new(alloc, 100, 10_000)?;
@@ -70,9 +60,7 @@ fn shows(
     shown: &str,
 ) -> Result<(), Fail> {
     let mut stage = stage_of(alloc, image, lines)?;
-    let words = words_of(alloc, WALK)?;
-    settle(rt, &mut stage);
-    let outcome = paw(alloc, &mut stage, words.as_slice());
+    let outcome = settle_and_run(rt, alloc, &mut stage, WALK)?;
     assert_eq!(rt; outcome, Outcome::InputEnded, "{lines:?}");
     assert_eq!(rt; stage.shown(), shown.as_bytes(), "{lines:?}");
     Ok(())
@@ -211,9 +199,7 @@ struct Case<'a> {
 // The command comes to what the case says, and the files are as they were.
 fn comes_so(rt: &impl Abort, alloc: Global, case: &Case<'_>) -> Result<(), Fail> {
     let mut stage = stage_of(alloc, case.image, "N")?;
-    let words = words_of(alloc, case.words)?;
-    settle(rt, &mut stage);
-    let outcome = paw(alloc, &mut stage, words.as_slice());
+    let outcome = settle_and_run(rt, alloc, &mut stage, case.words)?;
     assert_eq!(rt; outcome, case.outcome, "{}", case.name);
     assert_eq!(rt; stage.shown(), case.shown.as_bytes(), "{}", case.name);
     let mut line = [0u8; 255];
@@ -247,8 +233,7 @@ fn a_trial_shows_its_line(rt: HostRuntime) -> Result<(), Fail> {
     let mut settled = stage_of(alloc, &TWO_ROOMS, "N")?;
     settle(&rt, &mut settled);
     let mut stage = FailStage::new(settled, [0].to_vec(alloc)?);
-    let words = words_of(alloc, "trial\n0")?;
-    let outcome = paw(alloc, &mut stage, words.as_slice());
+    let outcome = run(alloc, &mut stage, "trial\n0")?;
     assert_eq!(rt; outcome, Outcome::Outside(StageCall::Show));
     assert_eq!(rt; stage.inner().shown(), b"".as_slice());
     Ok(())
@@ -271,22 +256,21 @@ fn images_are_refused(rt: HostRuntime) -> Result<(), Fail> {
     let alloc = rt.alloc();
     let mut longer = TWO_ROOMS.to_vec(alloc)?;
     longer.push(0)?;
-    let damaged = Outcome::ImageDamaged { at: 0 };
-    // The second entry of table 0 reads NOTAT 1 and then EXTERN 0 32.
-    let mut external = two_rooms_with(116, 2);
-    external[119] = 91;
-    let unbuilt = Outcome::Unbuilt { at: 119, code: 91 };
-    for case in [
-        refusal("no byte", &[], damaged),
-        refusal("without its last byte", &TWO_ROOMS[..133], damaged),
-        refusal("with a byte more", longer.as_slice(), damaged),
-        refusal("another mark", &two_rooms_with(0, b'p'), damaged),
-        refusal("another version", &two_rooms_with(4, 2), damaged),
-        refusal("words out of order", &two_rooms_with(17, b'Z'), damaged),
-        refusal("a way to nowhere", &two_rooms_with(104, 2), damaged),
-        refusal("no such condact", &two_rooms_with(113, 108), damaged),
-        refusal("a condact that isn't built", &external, unbuilt),
+    for (name, image, at) in [
+        ("no byte", [].as_slice(), 0),
+        ("without its last byte", &TWO_ROOMS[..133], 132),
+        ("with a byte more", longer.as_slice(), 134),
+        ("another mark", two_rooms_with(0, b'p').as_slice(), 0),
+        ("another version", two_rooms_with(4, 2).as_slice(), 4),
+        (
+            "words out of order",
+            two_rooms_with(17, b'Z').as_slice(),
+            24,
+        ),
+        ("a way to nowhere", two_rooms_with(104, 2).as_slice(), 104),
+        ("no such condact", two_rooms_with(113, 108).as_slice(), 113),
     ] {
+        let case = refusal(name, image, Outcome::ImageDamaged { at });
         comes_so(&rt, alloc, &case)?;
     }
     Ok(())
@@ -377,7 +361,6 @@ fn a_call_that_fails_ends_the_walk(rt: HostRuntime) -> Result<(), Fail> {
     let load = Outcome::Outside(StageCall::Load);
     let ask = Outcome::Outside(StageCall::Ask);
     let show = Outcome::Outside(StageCall::Show);
-    let words = words_of(alloc, WALK)?;
     // The number of the call that fails; what is shown then; and what is asked for next.
     for (lines, call, outcome, shown, next) in [
         ("N\nLOOK", 0, load, "", Asked::Line(1)),
@@ -401,7 +384,7 @@ fn a_call_that_fails_ends_the_walk(rt: HostRuntime) -> Result<(), Fail> {
         let mut settled = stage_of(alloc, &TWO_ROOMS, lines)?;
         settle(&rt, &mut settled);
         let mut stage = FailStage::new(settled, listed);
-        let came = paw(alloc, &mut stage, words.as_slice());
+        let came = run(alloc, &mut stage, WALK)?;
         assert_eq!(rt; came, outcome, "{lines:?}, call {call}");
         assert_eq!(rt;
             stage.inner().shown(),
@@ -429,11 +412,6 @@ fn outcomes_have_their_status_and_text(rt: HostRuntime) -> Result<(), Fail> {
             Outcome::ImageDamaged { at: u64::MAX },
             3,
             "image damaged at 18446744073709551615\n",
-        ),
-        (
-            Outcome::Unbuilt { at: 119, code: 91 },
-            3,
-            "not built: code 91 at 119\n",
         ),
         (
             Outcome::Spent(SpentKind::Condacts),

@@ -1,7 +1,8 @@
 // The top call.
 
 ghost use Rattle.std.specs.Prelude.{◌≡◌, ◌≢◌, ◌↔◌, ℕ, List, [], map, string_bytes, Option, Some, None};
-ghost use Rattle.paw_game.specs.Game.{GameLists};
+ghost use Rattle.paw_routines.specs.Routines.{AreRowsOf, HaveRows};
+ghost use Rattle.paw_effects.specs.Story.{Story};
 ghost use Rattle.paw_stage.specs.Disk.{IsStable};
 ghost use Rattle.paw_stage.specs.Moments.{Passes};
 ghost use Rattle.paw_stage.specs.Stage.{Standing, Rose, Grows, Faulted};
@@ -22,28 +23,44 @@ ghost use Rattle.paw_top.specs.declared.outcome.Outcome.TheVariants as outcome;
 use crate::commands::{Command, command_of};
 use crate::compile::compile;
 use crate::decompile::decompile;
-use crate::open::open_image;
+use crate::load::load;
+use crate::open::view_in;
 use crate::outcome::{Outcome, outcome_of};
 use crate::sessions::{play, resume};
 use crate::trial::trial;
+use paw_image::IMAGE_LIMIT;
 use paw_play::walk::walk_loop;
+use paw_routines::routines::Routines;
 use paw_stage::Stage;
 use std::alloc::Global;
 
 // Walks through the game of an image file.
-fn walk<S: Stage>(alloc: Global, stage: &mut S, image: &str, seed: u64) -> Outcome
+fn walk<S: Stage, F: Fn(u8, u8) -> u8>(
+    alloc: Global,
+    stage: &mut S,
+    routines: &Routines<F>,
+    image: &str,
+    seed: u64,
+) -> Outcome
+    requires rows { HaveRows F.Fn routines.now }
     ensures tells { S.Tells stage.old ↔ S.Tells stage.new }
     ensures counts { Grows (S.faults stage.old) (S.faults stage.new) }
     ensures faulted { Faulted (failed_call result) (S.faults stage.old) (S.faults stage.new) }
     ensures form { result ≢ outcome.Usage }
     ensures memory { IfMemory result IsPlayMemory }
     ensures outside { IfOutside result (λ c. IsCall c × Rose (S.faults stage.old c) (S.faults stage.new c)) }
-    ensures walks { S.Tells stage.old → WalksIn image.now seed (S.standing stage.old) (S.standing stage.new) result }
+    ensures walks { S.Tells stage.old → (X : List (List ℕ)) → AreRowsOf F.Fn routines.now X →
+        WalksIn X image.now seed (S.standing stage.old) (S.standing stage.new) result }
 {
-    match open_image(alloc, stage, image) {
-        Ok(image) => outcome_of(walk_loop(alloc, stage, &image.game, seed)),
-        Err(outcome) => outcome,
-    }
+    let bytes = match load(alloc, stage, image, IMAGE_LIMIT) {
+        Ok(bytes) => bytes,
+        Err(outcome) => return outcome,
+    };
+    let view = match view_in(alloc, bytes.as_slice()) {
+        Ok(view) => view,
+        Err(outcome) => return outcome,
+    };
+    outcome_of(walk_loop(alloc, stage, &view, routines, seed))
 }
 
 /// Does what the words ask for, over a stage at which nothing is unsynced.
@@ -56,6 +73,9 @@ fn walk<S: Stage>(alloc: Global, stage: &mut S, image: &str, seed: u64) -> Outco
 /// the session in the store again, and goes on from its prompt. `trial N` makes a large game and its lines from a number, plays
 /// half of them over a stage in memory, resumes for the rest, and shows a line that tells what the reading of all lines comes to.
 ///
+/// A game's EXTERN calls the routines, and each clause that speaks of play says it with the rows of their values, whatever these
+/// are.
+///
 /// The answer is Usage exactly where the words have no form, and then nothing at the stage is touched. Each other answer
 /// comes as `Compiles`, `Decompiles`, `WalksIn`, `PlaysNewIn`, `PlaysAgainIn` and `Tries` say.
 ///
@@ -67,7 +87,13 @@ fn walk<S: Stage>(alloc: Global, stage: &mut S, image: &str, seed: u64) -> Outco
 /// Where the answer is Outside the count of the call that it names rose, which is one that the command makes, and no other
 /// count did; where it isn't, no count of faults rose at all. Where the file to load is there and no call fails, the command
 /// does what it is for or refuses the file or the store, as `Completes` says, or memory was wanting.
-pub fn paw<S: Stage>(alloc: Global, stage: &mut S, words: &[String]) -> Outcome
+pub fn paw<S: Stage, F: Fn(u8, u8) -> u8>(
+    alloc: Global,
+    stage: &mut S,
+    routines: &Routines<F>,
+    words: &[String],
+) -> Outcome
+    requires rows { HaveRows F.Fn routines.now }
     requires synced { S.Tells stage.old → IsStable (S.standing stage.old).disk }
     ensures tells { S.Tells stage.old ↔ S.Tells stage.new }
     ensures counts { Grows (S.faults stage.old) (S.faults stage.new) }
@@ -81,24 +107,26 @@ pub fn paw<S: Stage>(alloc: Global, stage: &mut S, words: &[String]) -> Outcome
     ensures decompiles { S.Tells stage.old → (image : List ℕ) → command_of (map string_bytes words.now) ≡ Some (DecompileOf image) →
         Decompiles image (S.standing stage.old) (S.standing stage.new) result }
     ensures walks { S.Tells stage.old → (image : List ℕ) (seed : ℕ) → command_of (map string_bytes words.now) ≡ Some (WalkOf image seed) →
-        WalksIn image seed (S.standing stage.old) (S.standing stage.new) result }
+        (X : List (List ℕ)) → AreRowsOf F.Fn routines.now X → WalksIn X image seed (S.standing stage.old) (S.standing stage.new) result }
     ensures plays { S.Tells stage.old → (image store : List ℕ) (seed : ℕ) → command_of (map string_bytes words.now) ≡ Some (PlayOf image store seed) →
-        PlaysNewIn image store seed (S.standing stage.old) (S.standing stage.new) result }
+        (X : List (List ℕ)) → AreRowsOf F.Fn routines.now X → PlaysNewIn X image store seed (S.standing stage.old) (S.standing stage.new) result }
     ensures any_moment_of_play { S.Tells stage.old → (image store : List ℕ) (seed : ℕ) → command_of (map string_bytes words.now) ≡ Some (PlayOf image store seed) →
-        (g : GameLists) → Holds (S.standing stage.old) image g → store_bytes (S.standing stage.old) store ≡ [] →
-        Passes (S.clock stage.old) (S.clock stage.new) (S.since stage.old) (S.since stage.new) (InGame g seed store (S.standing stage.old)) }
+        (s : Story) → AreRowsOf F.Fn routines.now s.rows → Holds (S.standing stage.old) image s.game → store_bytes (S.standing stage.old) store ≡ [] →
+        Passes (S.clock stage.old) (S.clock stage.new) (S.since stage.old) (S.since stage.new) (InGame s seed store (S.standing stage.old)) }
     ensures resumes { S.Tells stage.old → (image store : List ℕ) → command_of (map string_bytes words.now) ≡ Some (ResumeOf image store) →
-        PlaysAgainIn image store (S.standing stage.old) (S.standing stage.new) result }
+        (X : List (List ℕ)) → AreRowsOf F.Fn routines.now X → PlaysAgainIn X image store (S.standing stage.old) (S.standing stage.new) result }
     ensures any_moment_from_a_state { S.Tells stage.old → (image store : List ℕ) → command_of (map string_bytes words.now) ≡ Some (ResumeOf image store) →
-        (g : GameLists) (st : State) (piece : List ℕ) → Holds (S.standing stage.old) image g →
-        ShowsState g (digest_of g) (store_bytes (S.standing stage.old) store) st piece →
-        Passes (S.clock stage.old) (S.clock stage.new) (S.since stage.old) (S.since stage.new) (InAgain (session_from g store st piece) (S.standing stage.old)) }
+        (s : Story) (st : State) (piece : List ℕ) → AreRowsOf F.Fn routines.now s.rows → Holds (S.standing stage.old) image s.game →
+        ShowsState s.game (digest_of s.game) (store_bytes (S.standing stage.old) store) st piece →
+        Passes (S.clock stage.old) (S.clock stage.new) (S.since stage.old) (S.since stage.new) (InAgain (session_from s store st piece) (S.standing stage.old)) }
     ensures goes_on { S.Tells stage.old → (image store : List ℕ) → command_of (map string_bytes words.now) ≡ Some (ResumeOf image store) →
-        (g : GameLists) (seed : ℕ) (es : List (List ℕ)) → Holds (S.standing stage.old) image g → IsPlayedWith g seed es → Stands g seed es (store_bytes (S.standing stage.old) store) →
-        GoesOnIn image store g seed es (S.standing stage.old) (S.standing stage.new) result }
+        (s : Story) (seed : ℕ) (es : List (List ℕ)) → AreRowsOf F.Fn routines.now s.rows → Holds (S.standing stage.old) image s.game →
+        IsPlayedWith s seed es → Stands s seed es (store_bytes (S.standing stage.old) store) →
+        GoesOnIn image store s seed es (S.standing stage.old) (S.standing stage.new) result }
     ensures any_moment_of_resume { S.Tells stage.old → (image store : List ℕ) → command_of (map string_bytes words.now) ≡ Some (ResumeOf image store) →
-        (g : GameLists) (seed : ℕ) (es : List (List ℕ)) → Holds (S.standing stage.old) image g → IsPlayedWith g seed es → Stands g seed es (store_bytes (S.standing stage.old) store) →
-        Passes (S.clock stage.old) (S.clock stage.new) (S.since stage.old) (S.since stage.new) (InGoingOn g seed es store (S.standing stage.old)) }
+        (s : Story) (seed : ℕ) (es : List (List ℕ)) → AreRowsOf F.Fn routines.now s.rows → Holds (S.standing stage.old) image s.game →
+        IsPlayedWith s seed es → Stands s seed es (store_bytes (S.standing stage.old) store) →
+        Passes (S.clock stage.old) (S.clock stage.new) (S.since stage.old) (S.since stage.new) (InGoingOn s seed es store (S.standing stage.old)) }
     ensures tries { S.Tells stage.old → (n : ℕ) → command_of (map string_bytes words.now) ≡ Some (TrialOf n) →
         Tries n (S.standing stage.old) (S.standing stage.new) result }
     ensures completes { S.Tells stage.old → NoFault (S.faults stage.old) (S.faults stage.new) →
@@ -107,9 +135,11 @@ pub fn paw<S: Stage>(alloc: Global, stage: &mut S, words: &[String]) -> Outcome
     match command_of(words) {
         Some(Command::Compile { source, image }) => compile(alloc, stage, source, image),
         Some(Command::Decompile { image }) => decompile(alloc, stage, image),
-        Some(Command::Walk { image, seed }) => walk(alloc, stage, image, seed),
-        Some(Command::Play { image, store, seed }) => play(alloc, stage, image, store, seed),
-        Some(Command::Resume { image, store }) => resume(alloc, stage, image, store),
+        Some(Command::Walk { image, seed }) => walk(alloc, stage, routines, image, seed),
+        Some(Command::Play { image, store, seed }) => play(
+            alloc, stage, routines, image, store, seed,
+        ),
+        Some(Command::Resume { image, store }) => resume(alloc, stage, routines, image, store),
         Some(Command::Trial { n }) => trial(alloc, stage, n),
         None => Outcome::Usage,
     }

@@ -1,80 +1,116 @@
-use Rattle.std.proofs.Common.{◌∙◌, sym, subst, ap}
+use Rattle.std.proofs.Common.{◌≡◌, ◌∙◌, sym, subst, ap}
 use Rattle.sha2.specs.Sha256.{sha256}
+use Rattle.paw_image.specs.Images.{IsImage}
+use Rattle.paw_image.specs.Views.{game_of}
+use Rattle.paw_effects.specs.Story.{Story, story_of}
 use Rattle.paw_stage.specs.Stage.{Standing}
 use Rattle.paw_stage.proofs.Time.{Passes_map, Passes_on}
 use Rattle.paw_play.specs.Play.{Played, InAgain, InGoingOn, kept_session, store_bytes}
 use Rattle.paw_play.proofs.Standing.{standing_shows, in_going_on}
+use Rattle.paw_top.specs.Loads.{Holds, GivesNone}
 use Rattle.paw_top.specs.Sessions.{PlaysAgainIn, GoesOnIn, plays, unopened, session_from, digest_of}
 use Rattle.paw_top.proofs.Answering.{kept_outside, played_faulted}
 use Rattle.paw_top.proofs.Completing.{same_game}
-use Rattle.paw_top.proofs.Found.{all_built}
-use Rattle.paw_top.proofs.OpenedSessions.{still_again, still_on, again_moment, plays_again, goes_on_in, shows_same, one_kept_session}
+use Rattle.paw_top.proofs.Images.{holds_loaded}
+use Rattle.paw_top.proofs.OpenedSessions.{still_again, still_on, again_moment, plays_again, goes_on_in, shows_same, one_kept_session, same_story}
+use Rattle.paw_top.proofs.Refusals.{no_file, no_image}
 use Rattle.paw_top.proofs.sessions.resume.Goals as goal
 
 pub returns-in-Err-clause-plays : goal.returns-in-Err-clause-plays
-returns-in-Err-clause-plays g c = λ tells. unopened c.in-Err.outcome (c.in-Err.ensures.unopened tells)
-
-pub returns-in-Err-clause-any_moment : goal.returns-in-Err-clause-any_moment
-returns-in-Err-clause-any_moment g c = λ tells game st piece holds shows.
-    Passes_map _ _ _ _ _ (InAgain (session_from game c.args.store.now st piece) (g.S.Stage.standing c.args.stage.now)) (c.in-Err.ensures.time tells)
-    (λ m e. still_again (session_from game c.args.store.now st piece) (g.S.Stage.standing c.args.stage.now) m e)
-
-pub resume_loop-requires-clause-built : goal.resume_loop-requires-clause-built
-resume_loop-requires-clause-built g c = all_built c.in-Ok.image.game c.in-Ok.ensures.built
-
-pub returns-clause-outside : goal.returns-clause-outside
-returns-clause-outside g c = kept_outside _ _ _ c.resume_loop.result c.outcome_of.result c.open_image.ensures.counts c.outcome_of.ensures.value c.resume_loop.ensures.outside
-
-pub returns-clause-plays : goal.returns-clause-plays
-returns-clause-plays g c = λ tells.
-    let game = c.in-Ok.image.game in
-    let kept = c.digest-kept.ensures.value ∙ ap sha256 (c.as_slice.ensures.value ∙ c.in-Ok.ensures.bytes) in
-    subst (PlaysAgainIn c.args.image.now c.args.store.now (g.S.Stage.standing c.args.stage.now) (g.S.Stage.standing c.resume_loop.new.stage)) (sym c.outcome_of.ensures.value)
-    (plays game c.resume_loop.result (c.in-Ok.ensures.holds tells, c.in-Ok.ensures.built)
-    (plays_again game (digest_of game) c.digest-kept.result c.args.store.now _ _ _ c.resume_loop.result (c.in-Ok.ensures.still tells) kept
-    (c.resume_loop.ensures.plays (c.open_image.ensures.tells.0 tells))))
-
-pub returns-clause-any_moment : goal.returns-clause-any_moment
-returns-clause-any_moment g c = λ tells game st piece holds shows.
-    let kept = c.digest-kept.ensures.value ∙ ap sha256 (c.as_slice.ensures.value ∙ c.in-Ok.ensures.bytes) in
-    let old : Standing = g.S.Stage.standing c.args.stage.now in
-    let mid : Standing = g.S.Stage.standing c.open_image.new.stage in
-    let still = c.in-Ok.ensures.still tells in
-    let one = same_game old c.args.image.now c.in-Ok.image.game game (c.in-Ok.ensures.holds tells) holds in
-    let s : Played = session_from game c.args.store.now st piece in
-    let k : Played = kept_session c.in-Ok.image.game st piece c.digest-kept.result c.args.store.now in
-    let same = one_kept_session game c.in-Ok.image.game st piece c.args.store.now c.digest-kept.result one kept in
-    Passes_on _ _ _ _ _ _ (InAgain s old) _
-    (Passes_map _ _ _ _ _ (InAgain s old) (c.in-Ok.ensures.time tells) (λ m e. still_again s old m e))
-    (c.resume_loop.ensures.any_moment (c.open_image.ensures.tells.0 tells) st piece
-    (shows_same game c.in-Ok.image.game c.digest-kept.result c.args.store.now old mid st piece still one kept shows))
-    (λ m i. again_moment s k old mid m still same i)
+returns-in-Err-clause-plays g c = λ tells X rows. unopened c.in-Err.outcome (no_file c.args.image.now _ _ c.in-Err.outcome (c.in-Err.ensures.none tells))
 
 pub returns-in-Err-clause-goes_on : goal.returns-in-Err-clause-goes_on
-returns-in-Err-clause-goes_on g c = λ tells game seed es holds played stands. unopened c.in-Err.outcome (c.in-Err.ensures.unopened tells)
+returns-in-Err-clause-goes_on g c = λ tells s seed es rows holds played stands.
+    unopened c.in-Err.outcome (no_file c.args.image.now _ _ c.in-Err.outcome (c.in-Err.ensures.none tells))
+
+pub returns-in-Err-clause-any_moment : goal.returns-in-Err-clause-any_moment
+returns-in-Err-clause-any_moment g c = λ tells s st piece rows holds shows.
+    Passes_map _ _ _ _ _ (InAgain (session_from s c.args.store.now st piece) (g.S.Stage.standing c.args.stage.now)) (c.load.ensures.time tells)
+    (λ m e. still_again (session_from s c.args.store.now st piece) (g.S.Stage.standing c.args.stage.now) m e)
 
 pub returns-in-Err-clause-any_moment_on : goal.returns-in-Err-clause-any_moment_on
-returns-in-Err-clause-any_moment_on g c = λ tells game seed es holds played stands.
-    Passes_map _ _ _ _ _ (InGoingOn game seed es c.args.store.now (g.S.Stage.standing c.args.stage.now)) (c.in-Err.ensures.time tells)
-    (λ m e. still_on game seed es c.args.store.now (g.S.Stage.standing c.args.stage.now) m e)
+returns-in-Err-clause-any_moment_on g c = λ tells s seed es rows holds played stands.
+    Passes_map _ _ _ _ _ (InGoingOn s seed es c.args.store.now (g.S.Stage.standing c.args.stage.now)) (c.load.ensures.time tells)
+    (λ m e. still_on s seed es c.args.store.now (g.S.Stage.standing c.args.stage.now) m e)
+
+pub returns-in-Err-view_in-clause-plays : goal.returns-in-Err-view_in-clause-plays
+returns-in-Err-view_in-clause-plays g c = λ tells X rows.
+    unopened c.in-Err-view_in.outcome
+    (no_image c.args.image.now c.in-Ok.bytes.items _ _ c.in-Err-view_in.outcome (c.in-Ok.ensures.some tells)
+    (subst (λ b. GivesNone b c.in-Err-view_in.outcome) c.as_slice.ensures.value c.in-Err-view_in.ensures.none))
+
+pub returns-in-Err-view_in-clause-goes_on : goal.returns-in-Err-view_in-clause-goes_on
+returns-in-Err-view_in-clause-goes_on g c = λ tells s seed es rows holds played stands.
+    unopened c.in-Err-view_in.outcome
+    (no_image c.args.image.now c.in-Ok.bytes.items _ _ c.in-Err-view_in.outcome (c.in-Ok.ensures.some tells)
+    (subst (λ b. GivesNone b c.in-Err-view_in.outcome) c.as_slice.ensures.value c.in-Err-view_in.ensures.none))
+
+pub returns-in-Err-view_in-clause-any_moment : goal.returns-in-Err-view_in-clause-any_moment
+returns-in-Err-view_in-clause-any_moment g c = λ tells s st piece rows holds shows.
+    Passes_map _ _ _ _ _ (InAgain (session_from s c.args.store.now st piece) (g.S.Stage.standing c.args.stage.now)) (c.load.ensures.time tells)
+    (λ m e. still_again (session_from s c.args.store.now st piece) (g.S.Stage.standing c.args.stage.now) m e)
+
+pub returns-in-Err-view_in-clause-any_moment_on : goal.returns-in-Err-view_in-clause-any_moment_on
+returns-in-Err-view_in-clause-any_moment_on g c = λ tells s seed es rows holds played stands.
+    Passes_map _ _ _ _ _ (InGoingOn s seed es c.args.store.now (g.S.Stage.standing c.args.stage.now)) (c.load.ensures.time tells)
+    (λ m e. still_on s seed es c.args.store.now (g.S.Stage.standing c.args.stage.now) m e)
+
+pub resume_loop-requires-clause-game : goal.resume_loop-requires-clause-game
+resume_loop-requires-clause-game g c = c.digest-kept.ensures.value ∙ ap sha256 (c.bytes.ensures.value ∙ c.bytes.ensures.image.spelled)
+
+pub returns-clause-outside : goal.returns-clause-outside
+returns-clause-outside g c = kept_outside _ _ _ c.resume_loop.result c.outcome_of.result c.load.ensures.counts c.outcome_of.ensures.value c.resume_loop.ensures.outside
+
+pub returns-clause-plays : goal.returns-clause-plays
+returns-clause-plays g c = λ tells X rows.
+    let f = c.in-Ok.ensures.some tells in
+    let game = game_of c.in-Ok-view_in.view in
+    let holds = holds_loaded c.args.image.now c.in-Ok.bytes.items _ _ game f (subst (λ b. IsImage b game) c.as_slice.ensures.value c.in-Ok-view_in.ensures.found) in
+    let kept = c.digest-kept.ensures.value ∙ ap sha256 (c.bytes.ensures.value ∙ c.bytes.ensures.image.spelled) in
+    subst (PlaysAgainIn X c.args.image.now c.args.store.now (g.S.Stage.standing c.args.stage.now) (g.S.Stage.standing c.resume_loop.new.stage)) (sym c.outcome_of.ensures.value)
+    (plays game c.resume_loop.result holds
+    (plays_again (story_of game X) (digest_of game) c.digest-kept.result c.args.store.now _ _ _ c.resume_loop.result f.3 kept
+    (c.resume_loop.ensures.plays (c.load.ensures.tells.0 tells) X rows)))
+
+pub returns-clause-any_moment : goal.returns-clause-any_moment
+returns-clause-any_moment g c = λ tells s st piece rows holds shows.
+    let f = c.in-Ok.ensures.some tells in
+    let old : Standing = g.S.Stage.standing c.args.stage.now in
+    let mid : Standing = g.S.Stage.standing c.load.new.stage in
+    let game = game_of c.in-Ok-view_in.view in
+    let mine : Holds old c.args.image.now game =
+    holds_loaded c.args.image.now c.in-Ok.bytes.items _ _ game f (subst (λ b. IsImage b game) c.as_slice.ensures.value c.in-Ok-view_in.ensures.found) in
+    let kept = c.digest-kept.ensures.value ∙ ap sha256 (c.bytes.ensures.value ∙ c.bytes.ensures.image.spelled) in
+    let one = same_game old c.args.image.now game s.game mine holds in
+    let p : Played = session_from s c.args.store.now st piece in
+    let k : Played = kept_session (story_of game s.rows) st piece c.digest-kept.result c.args.store.now in
+    let same = one_kept_session s (story_of game s.rows) st piece c.args.store.now c.digest-kept.result (same_story old c.args.image.now game s mine holds) kept in
+    Passes_on _ _ _ _ _ _ (InAgain p old) _
+    (Passes_map _ _ _ _ _ (InAgain p old) (c.load.ensures.time tells) (λ m e. still_again p old m e))
+    (c.resume_loop.ensures.any_moment (c.load.ensures.tells.0 tells) s.rows rows st piece
+    (shows_same s.game game c.digest-kept.result c.args.store.now old mid st piece f.3 one kept shows))
+    (λ m i. again_moment p k old mid m f.3 same i)
 
 pub returns-clause-goes_on : goal.returns-clause-goes_on
-returns-clause-goes_on g c = λ tells game seed es holds played stands.
-    let mine = c.in-Ok.image.game in
-    let kept = c.digest-kept.ensures.value ∙ ap sha256 (c.as_slice.ensures.value ∙ c.in-Ok.ensures.bytes) in
+returns-clause-goes_on g c = λ tells s seed es rows holds played stands.
+    let f = c.in-Ok.ensures.some tells in
     let old : Standing = g.S.Stage.standing c.args.stage.now in
-    subst (GoesOnIn c.args.image.now c.args.store.now game seed es old (g.S.Stage.standing c.resume_loop.new.stage)) (sym c.outcome_of.ensures.value)
-    (goes_on_in c.args.image.now c.args.store.now game mine seed es old (g.S.Stage.standing c.resume_loop.new.stage) c.resume_loop.result
-    (same_game old c.args.image.now mine game (c.in-Ok.ensures.holds tells) holds) (c.in-Ok.ensures.holds tells, c.in-Ok.ensures.built)
-    (plays_again mine (digest_of mine) c.digest-kept.result c.args.store.now _ _ _ c.resume_loop.result (c.in-Ok.ensures.still tells) kept
-    (c.resume_loop.ensures.plays (c.open_image.ensures.tells.0 tells))) played stands)
+    let game = game_of c.in-Ok-view_in.view in
+    let mine : Holds old c.args.image.now game =
+    holds_loaded c.args.image.now c.in-Ok.bytes.items _ _ game f (subst (λ b. IsImage b game) c.as_slice.ensures.value c.in-Ok-view_in.ensures.found) in
+    let kept = c.digest-kept.ensures.value ∙ ap sha256 (c.bytes.ensures.value ∙ c.bytes.ensures.image.spelled) in
+    subst (GoesOnIn c.args.image.now c.args.store.now s seed es old (g.S.Stage.standing c.resume_loop.new.stage)) (sym c.outcome_of.ensures.value)
+    (goes_on_in c.args.image.now c.args.store.now s (story_of game s.rows) seed es old (g.S.Stage.standing c.resume_loop.new.stage) c.resume_loop.result
+    (same_story old c.args.image.now game s mine holds) mine
+    (plays_again (story_of game s.rows) (digest_of game) c.digest-kept.result c.args.store.now _ _ _ c.resume_loop.result f.3 kept
+    (c.resume_loop.ensures.plays (c.load.ensures.tells.0 tells) s.rows rows)) played stands)
 
 pub returns-clause-any_moment_on : goal.returns-clause-any_moment_on
-returns-clause-any_moment_on g c = λ tells game seed es holds played stands.
+returns-clause-any_moment_on g c = λ tells s seed es rows holds played stands.
     let old : Standing = g.S.Stage.standing c.args.stage.now in
-    let shown = standing_shows game seed es (store_bytes old c.args.store.now) played stands in
-    Passes_map _ _ _ _ _ (InGoingOn game seed es c.args.store.now old) (returns-clause-any_moment g c tells game shown.state shown.piece holds shown.shows)
-    (λ m i. in_going_on game seed es (store_bytes old c.args.store.now) shown.state shown.piece c.args.store.now played stands shown.shows old m i)
+    let shown = standing_shows s seed es (store_bytes old c.args.store.now) played stands in
+    Passes_map _ _ _ _ _ (InGoingOn s seed es c.args.store.now old) (returns-clause-any_moment g c tells s shown.state shown.piece rows holds shown.shows)
+    (λ m i. in_going_on s seed es (store_bytes old c.args.store.now) shown.state shown.piece c.args.store.now played stands shown.shows old m i)
 
 pub returns-clause-faulted : goal.returns-clause-faulted
 returns-clause-faulted g c = played_faulted c.resume_loop.result c.outcome_of.result _ _ _ c.outcome_of.ensures.value c.in-Ok.ensures.faulted c.resume_loop.ensures.faulted

@@ -1,5 +1,6 @@
 use Rattle.std.proofs.Common.{◌≡◌, ℕ, List, [], sym, subst}
-use Rattle.paw_game.specs.Game.{GameLists}
+use Rattle.paw_routines.specs.Routines.{AreRowsOf}
+use Rattle.paw_effects.specs.Story.{Story}
 use Rattle.paw_stage.specs.Moments.{Passes}
 use Rattle.paw_state.specs.State.{State}
 use Rattle.paw_play.specs.Play.{InGame, InAgain, InGoingOn, ShowsState, store_bytes}
@@ -29,19 +30,19 @@ pub returns-in-Some-Walk-clause-completes : goal.returns-in-Some-Walk-clause-com
 returns-in-Some-Walk-clause-completes g c = λ tells none.
     let asked = rw c.in-Some-Walk.field-0-is at c.in-Some-Walk.ensures.value in
     subst (λ q. Completes (g.S.Stage.standing c.args.stage.now) q c.walk.result) (sym asked)
-    (completes_walk c.in-Some-Walk.image.now c.in-Some-Walk.seed _ _ _ _ c.walk.result (c.walk.ensures.walks tells) c.walk.ensures.outside none)
+    (completes_walk c.requires.rows.0 c.in-Some-Walk.image.now c.in-Some-Walk.seed _ _ _ _ c.walk.result (c.walk.ensures.walks tells c.requires.rows.0 c.requires.rows.1) c.walk.ensures.outside none)
 
 pub returns-in-Some-Play-clause-completes : goal.returns-in-Some-Play-clause-completes
 returns-in-Some-Play-clause-completes g c = λ tells none.
     let asked = rw c.in-Some-Play.field-0-is at c.in-Some-Play.ensures.value in
     subst (λ q. Completes (g.S.Stage.standing c.args.stage.now) q c.play.result) (sym asked)
-    (completes_play c.in-Some-Play.image.now c.in-Some-Play.store.now c.in-Some-Play.seed _ _ _ _ c.play.result (c.play.ensures.plays tells) c.play.ensures.outside none)
+    (completes_play c.requires.rows.0 c.in-Some-Play.image.now c.in-Some-Play.store.now c.in-Some-Play.seed _ _ _ _ c.play.result (c.play.ensures.plays tells c.requires.rows.0 c.requires.rows.1) c.play.ensures.outside none)
 
 pub returns-in-Some-Resume-clause-completes : goal.returns-in-Some-Resume-clause-completes
 returns-in-Some-Resume-clause-completes g c = λ tells none.
     let asked = rw c.in-Some-Resume.field-0-is at c.in-Some-Resume.ensures.value in
     subst (λ q. Completes (g.S.Stage.standing c.args.stage.now) q c.resume.result) (sym asked)
-    (completes_resume c.in-Some-Resume.image.now c.in-Some-Resume.store.now _ _ _ _ c.resume.result (c.resume.ensures.plays tells) c.resume.ensures.outside none)
+    (completes_resume c.requires.rows.0 c.in-Some-Resume.image.now c.in-Some-Resume.store.now _ _ _ _ c.resume.result (c.resume.ensures.plays tells c.requires.rows.0 c.requires.rows.1) c.resume.ensures.outside none)
 
 pub returns-in-Some-Trial-clause-completes : goal.returns-in-Some-Trial-clause-completes
 returns-in-Some-Trial-clause-completes g c = λ tells none.
@@ -51,30 +52,31 @@ returns-in-Some-Trial-clause-completes g c = λ tells none.
 
 pub returns-in-Some-Play-clause-any_moment_of_play : goal.returns-in-Some-Play-clause-any_moment_of_play
 returns-in-Some-Play-clause-any_moment_of_play g c = λ tells image store seed asked.
-    for_play (λ i s n. (game : GameLists) → Holds (g.S.Stage.standing c.args.stage.now) i game → store_bytes (g.S.Stage.standing c.args.stage.now) s ≡ [] →
+    for_play (λ i t n. (s : Story) → AreRowsOf g.F.Fn c.args.routines.now s.rows → Holds (g.S.Stage.standing c.args.stage.now) i s.game →
+    store_bytes (g.S.Stage.standing c.args.stage.now) t ≡ [] →
     Passes (g.S.Stage.clock c.args.stage.now) (g.S.Stage.clock c.play.new.stage) (g.S.Stage.since c.args.stage.now) (g.S.Stage.since c.play.new.stage)
-    (InGame game n s (g.S.Stage.standing c.args.stage.now))) _ _ _ _ image store seed
+    (InGame s n t (g.S.Stage.standing c.args.stage.now))) _ _ _ _ image store seed
     (rw c.in-Some-Play.field-0-is at c.in-Some-Play.ensures.value) asked (c.play.ensures.any_moment tells)
 
 pub returns-in-Some-Resume-clause-any_moment_from_a_state : goal.returns-in-Some-Resume-clause-any_moment_from_a_state
 returns-in-Some-Resume-clause-any_moment_from_a_state g c = λ tells image store asked.
-    for_resume (λ i s. (game : GameLists) (st : State) (piece : List ℕ) → Holds (g.S.Stage.standing c.args.stage.now) i game →
-    ShowsState game (digest_of game) (store_bytes (g.S.Stage.standing c.args.stage.now) s) st piece →
+    for_resume (λ i t. (s : Story) (st : State) (piece : List ℕ) → AreRowsOf g.F.Fn c.args.routines.now s.rows → Holds (g.S.Stage.standing c.args.stage.now) i s.game →
+    ShowsState s.game (digest_of s.game) (store_bytes (g.S.Stage.standing c.args.stage.now) t) st piece →
     Passes (g.S.Stage.clock c.args.stage.now) (g.S.Stage.clock c.resume.new.stage) (g.S.Stage.since c.args.stage.now) (g.S.Stage.since c.resume.new.stage)
-    (InAgain (session_from game s st piece) (g.S.Stage.standing c.args.stage.now))) _ _ _ image store
+    (InAgain (session_from s t st piece) (g.S.Stage.standing c.args.stage.now))) _ _ _ image store
     (rw c.in-Some-Resume.field-0-is at c.in-Some-Resume.ensures.value) asked (c.resume.ensures.any_moment tells)
 
 pub returns-in-Some-Resume-clause-goes_on : goal.returns-in-Some-Resume-clause-goes_on
 returns-in-Some-Resume-clause-goes_on g c = λ tells image store asked.
-    for_resume (λ i s. (game : GameLists) (seed : ℕ) (es : List (List ℕ)) → Holds (g.S.Stage.standing c.args.stage.now) i game → IsPlayedWith game seed es →
-    Stands game seed es (store_bytes (g.S.Stage.standing c.args.stage.now) s) →
-    GoesOnIn i s game seed es (g.S.Stage.standing c.args.stage.now) (g.S.Stage.standing c.resume.new.stage) c.resume.result) _ _ _ image store
+    for_resume (λ i t. (s : Story) (seed : ℕ) (es : List (List ℕ)) → AreRowsOf g.F.Fn c.args.routines.now s.rows → Holds (g.S.Stage.standing c.args.stage.now) i s.game →
+    IsPlayedWith s seed es → Stands s seed es (store_bytes (g.S.Stage.standing c.args.stage.now) t) →
+    GoesOnIn i t s seed es (g.S.Stage.standing c.args.stage.now) (g.S.Stage.standing c.resume.new.stage) c.resume.result) _ _ _ image store
     (rw c.in-Some-Resume.field-0-is at c.in-Some-Resume.ensures.value) asked (c.resume.ensures.goes_on tells)
 
 pub returns-in-Some-Resume-clause-any_moment_of_resume : goal.returns-in-Some-Resume-clause-any_moment_of_resume
 returns-in-Some-Resume-clause-any_moment_of_resume g c = λ tells image store asked.
-    for_resume (λ i s. (game : GameLists) (seed : ℕ) (es : List (List ℕ)) → Holds (g.S.Stage.standing c.args.stage.now) i game → IsPlayedWith game seed es →
-    Stands game seed es (store_bytes (g.S.Stage.standing c.args.stage.now) s) →
+    for_resume (λ i t. (s : Story) (seed : ℕ) (es : List (List ℕ)) → AreRowsOf g.F.Fn c.args.routines.now s.rows → Holds (g.S.Stage.standing c.args.stage.now) i s.game →
+    IsPlayedWith s seed es → Stands s seed es (store_bytes (g.S.Stage.standing c.args.stage.now) t) →
     Passes (g.S.Stage.clock c.args.stage.now) (g.S.Stage.clock c.resume.new.stage) (g.S.Stage.since c.args.stage.now) (g.S.Stage.since c.resume.new.stage)
-    (InGoingOn game seed es s (g.S.Stage.standing c.args.stage.now))) _ _ _ image store
+    (InGoingOn s seed es t (g.S.Stage.standing c.args.stage.now))) _ _ _ image store
     (rw c.in-Some-Resume.field-0-is at c.in-Some-Resume.ensures.value) asked (c.resume.ensures.any_moment_on tells)

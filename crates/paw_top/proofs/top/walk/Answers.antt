@@ -1,28 +1,38 @@
 use Rattle.std.proofs.Common.{sym, subst}
-use Rattle.std.specs.Prelude.{[]}
+use Rattle.paw_image.specs.Images.{IsImage}
+use Rattle.paw_image.specs.Views.{game_of}
+use Rattle.paw_effects.specs.Story.{story_of}
 use Rattle.paw_reading.specs.Turn.{reading}
 use Rattle.paw_play.specs.Walk.{Walks}
 use Rattle.paw_play.specs.declared.TheConstants.{MOST_EVENTS}
+use Rattle.paw_top.specs.Loads.{GivesNone}
 use Rattle.paw_top.specs.Walk.{WalksIn, walks, unopened}
 use Rattle.paw_top.proofs.Answering.{walk_outside, played_faulted}
-use Rattle.paw_top.proofs.Found.{all_built}
+use Rattle.paw_top.proofs.Images.{holds_loaded}
+use Rattle.paw_top.proofs.Refusals.{no_file, no_image}
 use Rattle.paw_top.proofs.top.walk.Goals as goal
 
-pub walk_loop-requires : goal.walk_loop-requires
-walk_loop-requires g c = record { built = all_built c.in-Ok.image.game c.in-Ok.ensures.built }
-
-pub returns-in-Ok-clause-outside : goal.returns-in-Ok-clause-outside
-returns-in-Ok-clause-outside g c = walk_outside _ _ _ c.walk_loop.result c.outcome_of.result c.open_image.ensures.counts c.outcome_of.ensures.value c.walk_loop.ensures.outside
-
-pub returns-in-Ok-clause-walks : goal.returns-in-Ok-clause-walks
-returns-in-Ok-clause-walks g c = λ tells.
-    subst (WalksIn c.args.image.now c.args.seed (g.S.Stage.standing c.args.stage.now) (g.S.Stage.standing c.walk_loop.new.stage)) (sym c.outcome_of.ensures.value)
-    (walks c.in-Ok.image.game c.walk_loop.result (c.in-Ok.ensures.holds tells, c.in-Ok.ensures.built)
-    (subst (λ s. Walks (reading c.in-Ok.image.game [] c.args.seed) MOST_EVENTS s (g.S.Stage.standing c.walk_loop.new.stage) c.walk_loop.result) (c.in-Ok.ensures.still tells)
-    (c.walk_loop.ensures.walks (c.open_image.ensures.tells.0 tells))))
-
 pub returns-in-Err-clause-walks : goal.returns-in-Err-clause-walks
-returns-in-Err-clause-walks g c = λ tells. unopened c.in-Err.outcome (c.in-Err.ensures.unopened tells)
+returns-in-Err-clause-walks g c = λ tells X rows. unopened c.in-Err.outcome (no_file c.args.image.now _ _ c.in-Err.outcome (c.in-Err.ensures.none tells))
 
-pub returns-in-Ok-clause-faulted : goal.returns-in-Ok-clause-faulted
-returns-in-Ok-clause-faulted g c = played_faulted c.walk_loop.result c.outcome_of.result _ _ _ c.outcome_of.ensures.value c.in-Ok.ensures.faulted c.walk_loop.ensures.faulted
+pub returns-in-Err-view_in-clause-walks : goal.returns-in-Err-view_in-clause-walks
+returns-in-Err-view_in-clause-walks g c = λ tells X rows.
+    unopened c.in-Err-view_in.outcome
+    (no_image c.args.image.now c.in-Ok.bytes.items _ _ c.in-Err-view_in.outcome (c.in-Ok.ensures.some tells)
+    (subst (λ b. GivesNone b c.in-Err-view_in.outcome) c.as_slice.ensures.value c.in-Err-view_in.ensures.none))
+
+pub returns-clause-outside : goal.returns-clause-outside
+returns-clause-outside g c = walk_outside _ _ _ c.walk_loop.result c.outcome_of.result c.load.ensures.counts c.outcome_of.ensures.value c.walk_loop.ensures.outside
+
+pub returns-clause-walks : goal.returns-clause-walks
+returns-clause-walks g c = λ tells X rows.
+    let f = c.in-Ok.ensures.some tells in
+    let game = game_of c.in-Ok-view_in.view in
+    let holds = holds_loaded c.args.image.now c.in-Ok.bytes.items _ _ game f (subst (λ b. IsImage b game) c.as_slice.ensures.value c.in-Ok-view_in.ensures.found) in
+    subst (WalksIn X c.args.image.now c.args.seed (g.S.Stage.standing c.args.stage.now) (g.S.Stage.standing c.walk_loop.new.stage)) (sym c.outcome_of.ensures.value)
+    (walks game c.walk_loop.result holds
+    (subst (λ s. Walks (reading (story_of game X) c.args.seed) MOST_EVENTS s (g.S.Stage.standing c.walk_loop.new.stage) c.walk_loop.result) f.3
+    (c.walk_loop.ensures.walks (c.load.ensures.tells.0 tells) X rows)))
+
+pub returns-clause-faulted : goal.returns-clause-faulted
+returns-clause-faulted g c = played_faulted c.walk_loop.result c.outcome_of.result _ _ _ c.outcome_of.ensures.value c.in-Ok.ensures.faulted c.walk_loop.ensures.faulted
