@@ -86,7 +86,9 @@ module _ (g : GameLists) (v : Valid g) (seed n : ℕ) where
     };
     places = at.places;
     flags = All-append (λ b. b < 256) (take (suc m) q.flags) (drop (suc m) w.flags) (All-take (λ b. b < 256) (suc m) q.flags at.bytes) (All-drop (λ b. b < 256) (suc m) w.flags k.flags);
-    saved = k.saved; four = k.four; kept = k.kept;
+    saved = k.saved;
+    four = k.four;
+    kept = k.kept;
     seeded = k.seeded;
     draws = k.draws;
   }
@@ -112,7 +114,9 @@ module _ (g : GameLists) (v : Valid g) (seed n : ℕ) where
     of = record { facts = k.of.facts; locations = k.of.locations; flags = k.of.flags; places = k.of.places };
     places = k.places;
     flags = k.flags;
-    saved = k.saved; four = k.four; kept = k.kept;
+    saved = k.saved;
+    four = k.four;
+    kept = k.kept;
     seeded = k.seeded;
     draws = omega (arith, k.draws);
   }

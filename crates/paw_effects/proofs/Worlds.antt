@@ -156,7 +156,9 @@ module _ (g : GameLists) (v : Valid g) (seed : ℕ) where
       of = record { facts = k.of.facts; locations = k.of.locations; flags = length-set w.flags f x ∙ k.of.flags; places = k.of.places };
       places = k.places;
       flags = byte_set w.flags f x small k.flags;
-      saved = k.saved; four = k.four; kept = k.kept;
+      saved = k.saved;
+      four = k.four;
+      kept = k.kept;
       seeded = k.seeded;
       draws = k.draws;
     }
@@ -166,7 +168,9 @@ module _ (g : GameLists) (v : Valid g) (seed : ℕ) where
       of = record { facts = k.of.facts; locations = k.of.locations; flags = k.of.flags; places = length-set w.places o p ∙ k.of.places };
       places = All-set (λ q. IsPlace q) w.places o p at k.places;
       flags = k.flags;
-      saved = k.saved; four = k.four; kept = k.kept;
+      saved = k.saved;
+      four = k.four;
+      kept = k.kept;
       seeded = k.seeded;
       draws = k.draws;
     }
@@ -292,7 +296,9 @@ module _ (g : GameLists) (v : Valid g) (seed : ℕ) where
           };
           places = rw k.of.facts start_places;
           flags = rw k.of.facts start.bytes;
-          saved = k.saved; four = k.four; kept = k.kept;
+          saved = k.saved;
+          four = k.four;
+          kept = k.kept;
           seeded = k.seeded;
           draws = k.draws;
         }
@@ -307,7 +313,9 @@ module _ (g : GameLists) (v : Valid g) (seed : ℕ) where
       };
       places = rw k.of.facts start_places;
       flags = rw k.of.facts (byte_set w.flags 1 (first_carried (map (λ o. o.facts) g.objects)) carried_small k.flags);
-      saved = k.saved; four = k.four; kept = k.kept;
+      saved = k.saved;
+      four = k.four;
+      kept = k.kept;
       seeded = k.seeded;
       draws = k.draws;
     }

@@ -38,8 +38,8 @@ small_rows g count small = λ k d below.
     let low : k < count = omega (arith, below, length-rows_of g count) in
     let at = get_or-map-range_with_len (λ n. row_of (g n)) 0 count k k d low (omega arith) in
     subst (λ row. All (λ y. y < 256) row) (sym at) (λ i e less.
-      let few : i < 256 = omega (arith, less, length-map-range_with_len (g k) 0 256) in
-      subst (λ y. y < 256) (sym (get_or-map-range_with_len (g k) 0 256 i i e few (omega arith))) (small k i low few))
+    let few : i < 256 = omega (arith, less, length-map-range_with_len (g k) 0 256) in
+    subst (λ y. y < 256) (sym (get_or-map-range_with_len (g k) 0 256 i i e few (omega arith))) (small k i low few))
 
 -- these rows stand for routines that may be called everywhere and answer with the function's value, which is a byte
 pub stand_for : {F : Type 0} (calls : Shared F (ℕ × (ℕ × Unit {0})) ℕ) (f : F) (g : ℕ → ℕ → ℕ) (count : ℕ)
