@@ -187,6 +187,24 @@ fn a_position_that_is_put_back(rt: HostRuntime) {
     assert_eq!(rt; kept, [2, 254, 2].as_slice());
 }
 
+fn saved_flag(rt: &impl Abort, world: &World, f: u8) -> u8 {
+    assert!(rt; world.saved());
+    world.saved_flag(f)
+}
+
+fn kept_flag(rt: &impl Abort, world: &World, n: u8, f: u8) -> u8 {
+    assert!(rt; n < 4);
+    assert!(rt; world.kept(n));
+    world.kept_flag(n, f)
+}
+
+fn kept_place(rt: &impl Abort, world: &World, n: u8, o: u8) -> u8 {
+    assert!(rt; n < 4);
+    assert!(rt; o < world.objects());
+    assert!(rt; world.kept(n));
+    world.kept_place(n, o)
+}
+
 #[test]
 fn kept_positions(rt: HostRuntime) {
     let mut world = World::new(&[thing(254, 1, false); 2], 252, 7);
@@ -210,18 +228,23 @@ fn kept_positions(rt: HostRuntime) {
     assert_eq!(rt; world.flag(flags::CARRIED), 1, "nothing is counted");
     assert_eq!(rt; place(&rt, &world, 0), 3);
     assert_eq!(rt; world.first_at(254, None), Some(1));
-    assert_eq!(rt; world.saved_flag(30), 9);
+    assert_eq!(rt; saved_flag(&rt, &world, 30), 9);
     assert!(rt; world.kept(1) && world.kept(3));
-    assert_eq!(rt; world.kept_flag(3, 255), 7);
+    assert_eq!(rt; kept_flag(&rt, &world, 3, 255), 7);
     let (_, places) = world.kept_position(3).expect(&rt, "a kept position");
     assert_eq!(rt; places, [4, 254].as_slice());
+}
+
+#[test]
+fn a_kept_position_that_is_put_back(rt: HostRuntime) {
+    let mut world = World::new(&[thing(254, 1, false); 2], 252, 7);
     let mut flags = [0; 256];
     flags[1] = 6;
     assert_eq!(rt; world.objects(), 2);
     world.set_kept(0, &flags, &[252, 253]);
-    assert_eq!(rt; world.objects(), 2);
-    assert!(rt; world.kept(0));
-    assert_eq!(rt; world.kept_place(0, 1), 253);
+    assert_eq!(rt; kept_flag(&rt, &world, 0, 1), 6);
+    assert_eq!(rt; kept_place(&rt, &world, 0, 1), 253);
+    assert_eq!(rt; place(&rt, &world, 1), 254);
     assert!(rt; world.recall(0));
     assert_eq!(rt; world.flag(flags::CARRIED), 6);
     assert_eq!(rt; place(&rt, &world, 1), 253);
