@@ -22,8 +22,7 @@ use Rattle.paw_play.specs.Walk.{Reading, Walks}
 use Rattle.paw_play.specs.declared.PlayEnd.{PlayEnd}
 use Rattle.paw_play.specs.declared.PlayEnd.TheVariants as end
 use Rattle.paw_play.specs.declared.TheConstants.{MOST_EVENTS}
-use Rattle.paw_effects.specs.Story.{story_of}
-use Rattle.paw_reading.specs.Turn.{reading}
+use Rattle.paw_effects.specs.Story.{Story, story_of}
 use Rattle.paw_top.specs.declared.outcome.Outcome.{Outcome}
 use Rattle.paw_top.specs.declared.outcome.Outcome.TheVariants as outcome
 use Rattle.paw_top.specs.declared.outcome.MemoryAt.{MemoryAt}
@@ -115,8 +114,9 @@ is_walked Is whole most old new first last (end.Outside call.Ask) w out none = a
 is_walked Is whole most old new first last (end.Outside call.Show) w out none = absurd (none call.Show (λ q. cc) out.1)
 is_walked Is whole most old new first last _ w out none = absurd w
 
-pub completes_walk : (rows : List (List ℕ)) (name : List ℕ) (seed : ℕ) (old new : Standing) (first last : StageCall → ℕ) (o : Outcome) → walk.WalksIn rows name seed old new o →
+pub completes_walk : (told : Story → ℕ → Reading) (rows : List (List ℕ)) (name : List ℕ) (seed : ℕ) (old new : Standing) (first last : StageCall → ℕ) (o : Outcome) →
+    walk.WalksAs told rows name seed old new o →
     IfOutside o (λ c. IsCall c × Rose (first c) (last c)) → NoFault first last → CompletesPlay name (λ g. IsWalked) old o
-completes_walk rows name seed old new first last _ (walk.walks g o s w) out none =
-    completes_game name (λ g. IsWalked) old g (outcome_of o) s (is_walked IsCall (reading (story_of g rows) seed) MOST_EVENTS old new first last o w out none)
-completes_walk rows name seed old new first last _ (walk.unopened o u) out none = completes_unopened name (λ g. IsWalked) IsCall old new first last o (λ g at. tt) u out none
+completes_walk told rows name seed old new first last _ (walk.walks g o s w) out none =
+    completes_game name (λ g. IsWalked) old g (outcome_of o) s (is_walked IsCall (told (story_of g rows) seed) MOST_EVENTS old new first last o w out none)
+completes_walk told rows name seed old new first last _ (walk.unopened o u) out none = completes_unopened name (λ g. IsWalked) IsCall old new first last o (λ g at. tt) u out none

@@ -3,7 +3,7 @@ use Rattle.std.specs.Prelude.{Option, Some, None, Result, Ok, Err}
 use Rattle.paw_stage.specs.declared.StageCall.{StageCall}
 use Rattle.paw_stage.specs.declared.StageCall.TheVariants as call
 use Rattle.paw_play.specs.Calls.{IsWalkCall, IsSessionCall}
-use Rattle.paw_top.specs.Commands.{Command, Compile, Decompile, Walk, Play, Resume, Trial}
+use Rattle.paw_top.specs.Commands.{Command, Compile, Decompile, Walk, Trace, Play, Resume, Trial}
 use Rattle.paw_top.specs.declared.outcome.Outcome.{Outcome}
 use Rattle.paw_top.specs.declared.outcome.Outcome.TheVariants as outcome
 use Rattle.paw_top.specs.declared.outcome.MemoryAt.{MemoryAt}
@@ -30,7 +30,7 @@ IsLoadCall call.Load = Unit {0}
 IsLoadCall call.LoadAbsent = Unit {0}
 IsLoadCall _ = ⊥
 
--- the calls that the command walk makes
+-- the calls that the commands walk and trace make
 abbrev pub IsCall : StageCall → Type 0
 IsCall call.Load = Unit {0}
 IsCall call.LoadAbsent = Unit {0}
@@ -64,6 +64,7 @@ Makes None c = ⊥
 Makes (Some (Compile source image)) c = IsCompileCall c
 Makes (Some (Decompile image)) c = IsDecompileCall c
 Makes (Some (Walk image seed)) c = IsCall c
+Makes (Some (Trace image seed)) c = IsCall c
 Makes (Some (Play image store seed)) c = IsKeptCall c
 Makes (Some (Resume image store)) c = IsKeptCall c
 Makes (Some (Trial n)) c = IsTrialCall c
@@ -107,6 +108,7 @@ Needs None at = ⊥
 Needs (Some (Compile source image)) at = IsCompileMemory at
 Needs (Some (Decompile image)) at = IsDecompileMemory at
 Needs (Some (Walk image seed)) at = IsPlayMemory at
+Needs (Some (Trace image seed)) at = IsPlayMemory at
 Needs (Some (Play image store seed)) at = IsPlayMemory at
 Needs (Some (Resume image store)) at = IsPlayMemory at
 Needs (Some (Trial n)) at = IsTrialMemory at

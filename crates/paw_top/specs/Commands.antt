@@ -6,12 +6,13 @@ use Rattle.paw_top.specs.declared.commands.Command.{Command as Given}
 use Rattle.paw_top.specs.declared.commands.Command.TheVariants as given
 
 -- what is asked for: to compile a source to an image; to show the source of an image; to walk through the game of an
--- image, with a seed; to play it so, with a new session in a store; to go on with the session in a store; to play the trial of
+-- image, with a seed; to trace that walk; to play it, with a new session in a store; to go on with the session in a store; to play the trial of
 -- a number
 pub data Command : Type 0 where
   Compile : (source image : List ℕ) → Command
   Decompile : (image : List ℕ) → Command
   Walk : (image : List ℕ) (seed : ℕ) → Command
+  Trace : (image : List ℕ) (seed : ℕ) → Command
   Play : (image store : List ℕ) (seed : ℕ) → Command
   Resume : (image store : List ℕ) → Command
   Trial : (n : ℕ) → Command
@@ -67,6 +68,11 @@ abbrev pub walk_of : List (List ℕ) → Option Command
 walk_of (image ∷ seed ∷ []) = if is_name image then with_seed (Walk image) (seed_of seed) else None
 walk_of _ = None
 
+-- trace IMAGE SEED
+abbrev pub trace_of : List (List ℕ) → Option Command
+trace_of (image ∷ seed ∷ []) = if is_name image then with_seed (Trace image) (seed_of seed) else None
+trace_of _ = None
+
 -- play IMAGE STORE SEED
 abbrev pub play_of : List (List ℕ) → Option Command
 play_of (image ∷ store ∷ seed ∷ []) = if is_name image && is_name store then with_seed (Play image store) (seed_of seed) else None
@@ -94,6 +100,7 @@ command_of (verb ∷ rest) =
     if bytes_eq verb (codes "compile") then compile_of rest
     else if bytes_eq verb (codes "decompile") then decompile_of rest
     else if bytes_eq verb (codes "walk") then walk_of rest
+    else if bytes_eq verb (codes "trace") then trace_of rest
     else if bytes_eq verb (codes "play") then play_of rest
     else if bytes_eq verb (codes "resume") then resume_of rest
     else if bytes_eq verb (codes "trial") then trial_of rest
@@ -105,6 +112,7 @@ Spells None asked = asked ≡ None
 Spells (Some (given.Compile source image)) asked = asked ≡ Some (Compile source.now image.now)
 Spells (Some (given.Decompile image)) asked = asked ≡ Some (Decompile image.now)
 Spells (Some (given.Walk image seed)) asked = asked ≡ Some (Walk image.now seed)
+Spells (Some (given.Trace image seed)) asked = asked ≡ Some (Trace image.now seed)
 Spells (Some (given.Play image store seed)) asked = asked ≡ Some (Play image.now store.now seed)
 Spells (Some (given.Resume image store)) asked = asked ≡ Some (Resume image.now store.now)
 Spells (Some (given.Trial n)) asked = asked ≡ Some (Trial n)

@@ -13,7 +13,7 @@ use Rattle.paw_journal.specs.declared.refusal.JournalRefusal.{JournalRefusal}
 use Rattle.paw_reading.specs.Turn.{Ending, WaitsAt, IsOver, RunsOut, CallsTooDeep, Unended}
 use Rattle.paw_trial.specs.Trial.{trial_reading}
 use Rattle.paw_play.specs.Play.{ShowsState, Refuses, store_bytes}
-use Rattle.paw_top.specs.Commands.{Command, Compile, Decompile, Walk, Play, Resume, Trial}
+use Rattle.paw_top.specs.Commands.{Command, Compile, Decompile, Walk, Trace, Play, Resume, Trial}
 use Rattle.paw_top.specs.Ends.{refused_as}
 use Rattle.paw_top.specs.Loads.{Holds, HoldsNone, HoldsDamage}
 use Rattle.paw_top.specs.Sessions.{digest_of}
@@ -107,6 +107,7 @@ Completes old None o = Unit {0}
 Completes old (Some (Compile source image)) o = CompletesCompile source old o
 Completes old (Some (Decompile image)) o = CompletesDecompile image old o
 Completes old (Some (Walk image seed)) o = CompletesPlay image (λ g. IsWalked) old o
+Completes old (Some (Trace image seed)) o = CompletesPlay image (λ g. IsWalked) old o
 Completes old (Some (Play image store seed)) o = CompletesPlay image (λ g. CompletesNew (store_bytes old store)) old o
 Completes old (Some (Resume image store)) o = CompletesPlay image (λ g. CompletesAgain g (digest_of g) (store_bytes old store)) old o
 Completes old (Some (Trial n)) o = Comes (due (trial_reading n)) o

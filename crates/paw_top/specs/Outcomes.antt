@@ -33,7 +33,7 @@ status_of (outcome.Outside c) = 7
 status_of (outcome.Memory at) = 8
 status_of (outcome.Long events) = 9
 
--- every command of the tool, also those that aren't built yet
+-- every command of the tool
 unfoldable pub usage : List ℕ
 usage = codes "usage: paw compile S I | decompile I | walk I SEED | play I F SEED | resume I F | trace I SEED | trial N\n"
 

@@ -1,7 +1,7 @@
 // The words of a command.
 
 ghost use Rattle.std.specs.Prelude.{◌≡◌, ◌+◌, ◌-◌, ◌*◌, ◌<◌, ◌≤◌, ◌^◌, ℕ, map, Option, string_bytes, IfSome, IfNone};
-ghost use Rattle.paw_top.specs.Commands.{command_of, compile_of, decompile_of, walk_of, play_of, resume_of, trial_of, seed_of, trial_number, has_seed_shape, has_trial_shape, is_digit, number_after, Spells};
+ghost use Rattle.paw_top.specs.Commands.{command_of, compile_of, decompile_of, walk_of, trace_of, play_of, resume_of, trial_of, seed_of, trial_number, has_seed_shape, has_trial_shape, is_digit, number_after, Spells};
 ghost use Rattle.std.specs.List.{list_all};
 
 /// What is asked for.
@@ -15,6 +15,10 @@ pub(crate) enum Command<'a> {
         image: &'a str,
     },
     Walk {
+        image: &'a str,
+        seed: u64,
+    },
+    Trace {
         image: &'a str,
         seed: u64,
     },
@@ -147,6 +151,20 @@ fn walk_of<'a>(names: &'a [String]) -> Option<Command<'a>>
     })
 }
 
+// IMAGE SEED, behind `trace`.
+fn trace_of<'a>(names: &'a [String]) -> Option<Command<'a>>
+    ensures value { Spells result (trace_of (map string_bytes names.now)) }
+{
+    if names.len() != 2 || names[0].is_empty() {
+        return None;
+    }
+    let seed = seed_of(names[1].as_str())?;
+    Some(Command::Trace {
+        image: names[0].as_str(),
+        seed,
+    })
+}
+
 // IMAGE STORE SEED, behind `play`.
 fn play_of<'a>(names: &'a [String]) -> Option<Command<'a>>
     ensures value { Spells result (play_of (map string_bytes names.now)) }
@@ -195,6 +213,7 @@ pub(crate) fn command_of<'a>(words: &'a [String]) -> Option<Command<'a>>
         "compile" => compile_of(names),
         "decompile" => decompile_of(names),
         "walk" => walk_of(names),
+        "trace" => trace_of(names),
         "play" => play_of(names),
         "resume" => resume_of(names),
         "trial" => trial_of(names),

@@ -23,3 +23,4 @@ mod source_tests;
 mod tests;
 pub mod top;
 mod trial;
+mod walks;

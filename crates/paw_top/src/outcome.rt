@@ -85,7 +85,7 @@ pub(crate) fn outcome_of(end: PlayEnd) -> Outcome
     }
 }
 
-/// What stands on standard error where the words have no form: every command of the tool, built or not.
+/// What stands on standard error where the words have no form: every command of the tool.
 const USAGE: &str =
     "usage: paw compile S I | decompile I | walk I SEED | play I F SEED | resume I F | trace I SEED | trial N\n";
 

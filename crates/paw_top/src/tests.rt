@@ -37,8 +37,10 @@ const CAVE: [u8; 37] = [
 /// What is shown before the first line.
 const FIRST: &str = "Hall.\n>\n";
 
-/// The words of a walk, one in each line.
+/// The words of a walk, one in each line, and those of a trace.
 const WALK: &str = "walk\ngame\n7";
+
+const TRACE: &str = "trace\ngame\n7";
 
 // A stage with the image as the file `game`, a file that nobody names, and these lines.
 fn stage_of(alloc: Global, image: &[u8], lines: &str) -> Result<MemoryStage, Fail> {
@@ -294,6 +296,43 @@ fn a_turn_that_never_ends_is_spent(rt: HostRuntime) -> Result<(), Fail> {
     comes_so(&rt, alloc, &later)
 }
 
+/// What a trace of the two rooms shows, line by line; behind the steps stands the piece.
+const TRACED: [(&str, &str); 6] = [
+    ("N", "Yard.\n>\n"),
+    (
+        "SING",
+        "0.1.0 NOTAT no\n0.2.0 AT yes\n0.2.1 GOTO yes\n0.2.2 DESC yes\nHall.\n>\n",
+    ),
+    (
+        "SING",
+        "0.1.0 NOTAT yes\n0.1.1 MES yes\n0.1.2 DONE yes\nLa la.\n>\n",
+    ),
+    ("XY", "What?\n>\n"),
+    ("~", ""),
+    ("LOOK", "0.0.0 DESC yes\nHall.\n>\n"),
+];
+
+#[test]
+fn a_trace_shows_the_steps_of_each_piece(rt: HostRuntime) -> Result<(), Fail> {
+    let alloc = rt.alloc();
+    let mut lines = String::new(alloc);
+    let mut shown = String::from_str(alloc, FIRST)?;
+    for (line, piece) in TRACED {
+        lines.push_str(line)?;
+        lines.push_str("\n")?;
+        shown.push_str(piece)?;
+    }
+    let mut stage = stage_of(alloc, &TWO_ROOMS, lines.as_str())?;
+    let outcome = settle_and_run(&rt, alloc, &mut stage, TRACE)?;
+    assert_eq!(rt; outcome, Outcome::InputEnded);
+    assert_eq!(rt; stage.shown(), shown.as_bytes());
+    let spent = Case {
+        words: TRACE,
+        ..refusal("no text", &SILENT, Outcome::Spent(SpentKind::Condacts))
+    };
+    comes_so(&rt, alloc, &spent)
+}
+
 #[test]
 fn words_have_their_forms(rt: HostRuntime) -> Result<(), Fail> {
     let alloc = rt.alloc();
@@ -313,6 +352,13 @@ fn words_have_their_forms(rt: HostRuntime) -> Result<(), Fail> {
         "walk\ngame\nseven",
         "Walk\ngame\n7",
         "game\nwalk\n7",
+        "trace",
+        "trace\ngame",
+        "trace\n\n7",
+        "trace\ngame\n\n",
+        "trace\ngame\n7\n8",
+        "trace\ngame\n18446744073709551616",
+        "trace\ngame\nseven",
         "play\ngame\nf\nx",
         "trial",
         "trial\n\n",

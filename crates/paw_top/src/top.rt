@@ -1,6 +1,6 @@
 // The top call.
 
-ghost use Rattle.std.specs.Prelude.{◌≡◌, ◌≢◌, ◌↔◌, ℕ, List, [], map, string_bytes, Option, Some, None};
+ghost use Rattle.std.specs.Prelude.{◌≡◌, ◌↔◌, ℕ, List, [], map, string_bytes, Option, Some, None};
 ghost use Rattle.paw_routines.specs.Routines.{AreRowsOf, HaveRows};
 ghost use Rattle.paw_effects.specs.Story.{Story};
 ghost use Rattle.paw_stage.specs.Disk.{IsStable};
@@ -9,66 +9,35 @@ ghost use Rattle.paw_stage.specs.Stage.{Standing, Rose, Grows, Faulted};
 ghost use Rattle.paw_state.specs.State.{State};
 ghost use Rattle.paw_play.specs.Play.{InGame, InAgain, InGoingOn, ShowsState, store_bytes};
 ghost use Rattle.paw_play.specs.Stands.{Stands, IsPlayedWith};
-ghost use Rattle.paw_top.specs.Commands.{Compile as CompileOf, Decompile as DecompileOf, Walk as WalkOf, Play as PlayOf, Resume as ResumeOf, Trial as TrialOf, command_of};
+ghost use Rattle.paw_top.specs.Commands.{Compile as CompileOf, Decompile as DecompileOf, Walk as WalkOf, Trace as TraceOf, Play as PlayOf, Resume as ResumeOf, Trial as TrialOf, command_of};
 ghost use Rattle.paw_top.specs.Compile.{Compiles};
 ghost use Rattle.paw_top.specs.Decompile.{Decompiles};
 ghost use Rattle.paw_top.specs.Loads.{Holds};
-ghost use Rattle.paw_top.specs.Walk.{WalksIn};
+ghost use Rattle.paw_top.specs.Walk.{WalksIn, TracesIn};
 ghost use Rattle.paw_top.specs.Sessions.{PlaysNewIn, PlaysAgainIn, GoesOnIn, digest_of, session_from};
 ghost use Rattle.paw_top.specs.Tries.{Tries};
-ghost use Rattle.paw_top.specs.Answers.{IfOutside, IfMemory, IsCall, IsPlayMemory, Makes, Needs, failed_call};
+ghost use Rattle.paw_top.specs.Answers.{IfOutside, IfMemory, Makes, Needs, failed_call};
 ghost use Rattle.paw_top.specs.Completes.{NoFault, Completes};
 ghost use Rattle.paw_top.specs.declared.outcome.Outcome.TheVariants as outcome;
 
 use crate::commands::{Command, command_of};
 use crate::compile::compile;
 use crate::decompile::decompile;
-use crate::load::load;
-use crate::open::view_in;
-use crate::outcome::{Outcome, outcome_of};
+use crate::outcome::Outcome;
 use crate::sessions::{play, resume};
 use crate::trial::trial;
-use paw_image::IMAGE_LIMIT;
-use paw_play::walk::walk_loop;
+use crate::walks::{trace, walk};
 use paw_routines::routines::Routines;
 use paw_stage::Stage;
 use std::alloc::Global;
-
-// Walks through the game of an image file.
-fn walk<S: Stage, F: Fn(u8, u8) -> u8>(
-    alloc: Global,
-    stage: &mut S,
-    routines: &Routines<F>,
-    image: &str,
-    seed: u64,
-) -> Outcome
-    requires rows { HaveRows F.Fn routines.now }
-    ensures tells { S.Tells stage.old ↔ S.Tells stage.new }
-    ensures counts { Grows (S.faults stage.old) (S.faults stage.new) }
-    ensures faulted { Faulted (failed_call result) (S.faults stage.old) (S.faults stage.new) }
-    ensures form { result ≢ outcome.Usage }
-    ensures memory { IfMemory result IsPlayMemory }
-    ensures outside { IfOutside result (λ c. IsCall c × Rose (S.faults stage.old c) (S.faults stage.new c)) }
-    ensures walks { S.Tells stage.old → (X : List (List ℕ)) → AreRowsOf F.Fn routines.now X →
-        WalksIn X image.now seed (S.standing stage.old) (S.standing stage.new) result }
-{
-    let bytes = match load(alloc, stage, image, IMAGE_LIMIT) {
-        Ok(bytes) => bytes,
-        Err(outcome) => return outcome,
-    };
-    let view = match view_in(alloc, bytes.as_slice()) {
-        Ok(view) => view,
-        Err(outcome) => return outcome,
-    };
-    outcome_of(walk_loop(alloc, stage, &view, routines, seed))
-}
 
 /// Does what the words ask for, over a stage at which nothing is unsynced.
 ///
 /// `compile SOURCE IMAGE` loads the source, saves the image of the game that it spells, and shows how many bytes that
 /// has. `decompile IMAGE` loads the image and shows the canonical source of its game. `walk IMAGE SEED` loads the image,
 /// shows the piece before the first line, and then takes lines and shows the piece that each brings, until the game is
-/// over or no line is left; nothing is kept. `play IMAGE STORE SEED` does the same with a new session in the store, a file
+/// over or no line is left; nothing is kept. `trace IMAGE SEED` does the same, and shows the condacts that were read for a piece
+/// before it. `play IMAGE STORE SEED` walks with a new session in the store, a file
 /// that is missing or empty: each piece is committed there before it is shown. `resume IMAGE STORE` shows the last piece of
 /// the session in the store again, and goes on from its prompt. `trial N` makes a large game and its lines from a number, plays
 /// half of them over a stage in memory, resumes for the rest, and shows a line that tells what the reading of all lines comes to.
@@ -77,7 +46,7 @@ fn walk<S: Stage, F: Fn(u8, u8) -> u8>(
 /// are.
 ///
 /// The answer is Usage exactly where the words have no form, and then nothing at the stage is touched. Each other answer
-/// comes as `Compiles`, `Decompiles`, `WalksIn`, `PlaysNewIn`, `PlaysAgainIn` and `Tries` say.
+/// comes as `Compiles`, `Decompiles`, `WalksIn`, `TracesIn`, `PlaysNewIn`, `PlaysAgainIn` and `Tries` say.
 ///
 /// Whatever a crash leaves of the store at any moment of `play` stands for all lines that were taken, or for all but the last
 /// (`InGame`). Where the store stands for some lines, `resume` never refuses it and goes on as the reading of these lines and
@@ -108,6 +77,8 @@ pub fn paw<S: Stage, F: Fn(u8, u8) -> u8>(
         Decompiles image (S.standing stage.old) (S.standing stage.new) result }
     ensures walks { S.Tells stage.old → (image : List ℕ) (seed : ℕ) → command_of (map string_bytes words.now) ≡ Some (WalkOf image seed) →
         (X : List (List ℕ)) → AreRowsOf F.Fn routines.now X → WalksIn X image seed (S.standing stage.old) (S.standing stage.new) result }
+    ensures traces { S.Tells stage.old → (image : List ℕ) (seed : ℕ) → command_of (map string_bytes words.now) ≡ Some (TraceOf image seed) →
+        (X : List (List ℕ)) → AreRowsOf F.Fn routines.now X → TracesIn X image seed (S.standing stage.old) (S.standing stage.new) result }
     ensures plays { S.Tells stage.old → (image store : List ℕ) (seed : ℕ) → command_of (map string_bytes words.now) ≡ Some (PlayOf image store seed) →
         (X : List (List ℕ)) → AreRowsOf F.Fn routines.now X → PlaysNewIn X image store seed (S.standing stage.old) (S.standing stage.new) result }
     ensures any_moment_of_play { S.Tells stage.old → (image store : List ℕ) (seed : ℕ) → command_of (map string_bytes words.now) ≡ Some (PlayOf image store seed) →
@@ -136,6 +107,7 @@ pub fn paw<S: Stage, F: Fn(u8, u8) -> u8>(
         Some(Command::Compile { source, image }) => compile(alloc, stage, source, image),
         Some(Command::Decompile { image }) => decompile(alloc, stage, image),
         Some(Command::Walk { image, seed }) => walk(alloc, stage, routines, image, seed),
+        Some(Command::Trace { image, seed }) => trace(alloc, stage, routines, image, seed),
         Some(Command::Play { image, store, seed }) => play(
             alloc, stage, routines, image, store, seed,
         ),

@@ -1,6 +1,7 @@
 use Rattle.std.proofs.Common.{◌≡◌, ℕ, List, [], sym, subst}
 use Rattle.paw_routines.specs.Routines.{AreRowsOf}
 use Rattle.paw_effects.specs.Story.{Story}
+use Rattle.paw_reading.specs.Turn.{reading}
 use Rattle.paw_stage.specs.Moments.{Passes}
 use Rattle.paw_state.specs.State.{State}
 use Rattle.paw_play.specs.Play.{InGame, InAgain, InGoingOn, ShowsState, store_bytes}
@@ -8,6 +9,7 @@ use Rattle.paw_play.specs.Stands.{Stands, IsPlayedWith}
 use Rattle.paw_top.specs.Loads.{Holds}
 use Rattle.paw_top.specs.Sessions.{digest_of, session_from, GoesOnIn}
 use Rattle.paw_top.specs.Completes.{Completes}
+use Rattle.paw_top.specs.Walk.{reading_traced}
 use Rattle.paw_top.proofs.Completing.{completes_compile, completes_decompile, completes_walk}
 use Rattle.paw_top.proofs.CompletingSessions.{completes_play, completes_resume}
 use Rattle.paw_top.proofs.OpenedSessions.{for_play, for_resume}
@@ -30,7 +32,13 @@ pub returns-in-Some-Walk-clause-completes : goal.returns-in-Some-Walk-clause-com
 returns-in-Some-Walk-clause-completes g c = λ tells none.
     let asked = rw c.in-Some-Walk.field-0-is at c.in-Some-Walk.ensures.value in
     subst (λ q. Completes (g.S.Stage.standing c.args.stage.now) q c.walk.result) (sym asked)
-    (completes_walk c.requires.rows.0 c.in-Some-Walk.image.now c.in-Some-Walk.seed _ _ _ _ c.walk.result (c.walk.ensures.walks tells c.requires.rows.0 c.requires.rows.1) c.walk.ensures.outside none)
+    (completes_walk reading c.requires.rows.0 c.in-Some-Walk.image.now c.in-Some-Walk.seed _ _ _ _ c.walk.result (c.walk.ensures.walks tells c.requires.rows.0 c.requires.rows.1) c.walk.ensures.outside none)
+
+pub returns-in-Some-Trace-clause-completes : goal.returns-in-Some-Trace-clause-completes
+returns-in-Some-Trace-clause-completes g c = λ tells none.
+    let asked = rw c.in-Some-Trace.field-0-is at c.in-Some-Trace.ensures.value in
+    subst (λ q. Completes (g.S.Stage.standing c.args.stage.now) q c.trace.result) (sym asked)
+    (completes_walk reading_traced c.requires.rows.0 c.in-Some-Trace.image.now c.in-Some-Trace.seed _ _ _ _ c.trace.result (c.trace.ensures.traces tells c.requires.rows.0 c.requires.rows.1) c.trace.ensures.outside none)
 
 pub returns-in-Some-Play-clause-completes : goal.returns-in-Some-Play-clause-completes
 returns-in-Some-Play-clause-completes g c = λ tells none.

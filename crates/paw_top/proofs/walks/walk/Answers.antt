@@ -10,7 +10,7 @@ use Rattle.paw_top.specs.Walk.{WalksIn, walks, unopened}
 use Rattle.paw_top.proofs.Answering.{walk_outside, played_faulted}
 use Rattle.paw_top.proofs.Images.{holds_loaded}
 use Rattle.paw_top.proofs.Refusals.{no_file, no_image}
-use Rattle.paw_top.proofs.top.walk.Goals as goal
+use Rattle.paw_top.proofs.walks.walk.Goals as goal
 
 pub returns-in-Err-clause-walks : goal.returns-in-Err-clause-walks
 returns-in-Err-clause-walks g c = λ tells X rows. unopened c.in-Err.outcome (no_file c.args.image.now _ _ c.in-Err.outcome (c.in-Err.ensures.none tells))
