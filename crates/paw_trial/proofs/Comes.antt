@@ -14,7 +14,7 @@ use Rattle.paw_play.specs.declared.PlayEnd.TheVariants as play
 use Rattle.paw_play.specs.declared.TheConstants.{MOST_EVENTS}
 use Rattle.paw_play.specs.Walk.{Reading, first_lines}
 use Rattle.paw_play.specs.Stands.{Stands, StandsFor, reading_since}
-use Rattle.paw_play.specs.Play.{PlaysWith, PlaysIn, memory, spent, too_deep, unmade, plays, PlaysFirst, unattached, occupied, plays_in, PlaysGame, PlaysAgain, GoesOn, store_bytes, attached_to}
+use Rattle.paw_play.specs.Play.{PlaysWith, PlaysIn, memory, spent, too_deep, unmade, plays, unattached, occupied, plays_in, PlaysGame, PlaysAgain, GoesOn, store_bytes, attached_to}
 use Rattle.paw_play.specs.Play as of
 use Rattle.paw_play.proofs.Standing.{standing_again}
 use Rattle.paw_gen.specs.Trial.{trial_game, trial_lines}

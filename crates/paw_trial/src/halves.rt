@@ -1,6 +1,6 @@
 // Playing the two halves of a trial, with a session in a stage in memory.
 
-ghost use Rattle.std.specs.Prelude.{◌≡◌, ◌++◌, [], ◌*◌, IfOk, IfSome, IfNone, OnOk, OnErr, Option, Some, None};
+ghost use Rattle.std.specs.Prelude.{◌≡◌, ◌++◌, [], IfOk, IfSome, IfNone, OnOk};
 ghost use Rattle.paw_stage.specs.Memory.{empty, standing_of};
 ghost use Rattle.paw_routines.specs.Routines.{AreRowsOf};
 ghost use Rattle.paw_gen.specs.Trial.{trial_lines};
