@@ -1,10 +1,7 @@
 #!/bin/sh
-# Compiles sources of 1,000,000 and 8,000,000 bytes, and prints the seconds and the MB a second of each.
+# Compiles sources of 1 and 8 MB, and decompiles their images: the MB of source a second.
 
-top=$(CDPATH='' cd -- "$(dirname -- "$0")/.." && pwd) || exit
-program=$top/crates/paw/out/paw
-room=$(mktemp -d) || exit
-trap 'rm -rf "$room"' EXIT
+. "$(dirname "$0")/common.sh"
 
 # A source of about so many bytes: 2,000 words in no order, then tables of 4,000 entries, each with a word to be looked
 # up and condacts that fill its line.
@@ -26,18 +23,14 @@ source_of() {
         }'
 }
 
-# One row of the table.
-row() {
-    source_of "$1" >"$room/source"
-    bytes=$(wc -c <"$room/source")
-    begin=$(date +%s%N)
-    "$program" compile "$room/source" "$room/image" >"$room/shown" || exit
-    end=$(date +%s%N)
-    awk -v n="$bytes" -v t=$((end - begin)) 'BEGIN { printf "%9d %9.3f %9.1f\n", n, t / 1e9, n * 1000 / t }'
+megabytes() {
+    awk -v n="$(wc -c <"$1")" -v t="$2" 'BEGIN { printf "%.1f", n / t / 1e6 }'
 }
 
-# Builds the program where it has to.
-"$top/paw" walk "$top/games/rooms.img" 7 </dev/null >/dev/null || exit
-printf '%9s %9s %9s\n' bytes seconds MB/second
-row 1000000
-row 8000000
+for size in 1000000 8000000; do
+    source_of $size >"$room/source"
+    took=$(seconds "$program" compile "$room/source" "$room/image") || exit
+    figure "compile of $size bytes" "$(megabytes "$room/source" "$took")" MB/second
+    took=$(seconds "$program" decompile "$room/image") || exit
+    figure "decompile of its image" "$(megabytes "$room/shown" "$took")" MB/second
+done

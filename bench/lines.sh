@@ -1,11 +1,8 @@
 #!/bin/sh
-# Plays 30,000 and 300,000 lines through the two rooms, and prints the lines a second and the most memory of each walk.
+# Plays 30,000 and 300,000 lines through the two rooms: the lines a second, and the most memory of each walk.
 
-top=$(CDPATH='' cd -- "$(dirname -- "$0")/.." && pwd) || exit
-program=$top/crates/paw/out/paw
+. "$(dirname "$0")/common.sh"
 image=$top/games/rooms.img
-room=$(mktemp -d) || exit
-trap 'rm -rf "$room"' EXIT
 
 # So many lines, seven kinds in turn: ways that are there and not there, words known and unknown, two phrases, none.
 lines() {
@@ -15,53 +12,19 @@ lines() {
     }'
 }
 
-walk() {
-    "$program" walk "$image" 7
-}
-
-# The seconds of a walk with the lines of the file lines. Its text goes to the file shown.
-seconds() {
-    begin=$(date +%s%N)
-    walk <"$room/lines" >"$room/shown" || return
-    end=$(date +%s%N)
-    awk -v t=$((end - begin)) 'BEGIN { printf "%.3f", t / 1e9 }'
-}
-
-# The most memory of such a walk, in KiB. Where nothing measures it, the input is held open, so that the system can
-# still be asked once all lines were taken.
+# The most memory of such a walk, in KiB.
 memory() {
-    if test -x /usr/bin/time; then
-        /usr/bin/time -f %M -o "$room/memory" "$program" walk "$image" 7 <"$room/lines" >/dev/null || return
-        cat "$room/memory"
-    else
-        mkfifo "$room/input" || return
-        "$program" walk "$image" 7 <"$room/input" >/dev/null &
-        exec 3>"$room/input"
-        cat "$room/lines" >&3
-        sleep 1
-        sed -n 's/^VmHWM:[^0-9]*\([0-9]*\).*/\1/p' "/proc/$!/status"
-        exec 3>&-
-        wait
-        rm "$room/input"
-    fi
+    /usr/bin/time -f %M -o "$room/memory" "$program" walk "$image" 7 <"$room/lines" >/dev/null && cat "$room/memory"
 }
 
-# One row of the table. Each piece ends with a prompt, which stands alone on a line.
-row() {
-    lines "$1" >"$room/lines"
-    took=$(seconds) || exit
-    most=$(memory) || exit
+for count in 30000 300000; do
+    lines $count >"$room/lines"
+    took=$(seconds walk "$image" <"$room/lines") || exit
     pieces=$(grep -c '^>$' "$room/shown")
-    if test "$pieces" -ne $(($1 + 1)); then
-        printf 'lines.sh: %s pieces were shown for %s lines\n' "$pieces" "$1" >&2
+    if test "$pieces" -ne $((count + 1)); then
+        printf 'lines.sh: %s pieces were shown for %s lines\n' "$pieces" "$count" >&2
         exit 1
     fi
-    rate=$(awk -v n="$1" -v t="$took" 'BEGIN { printf "%.0f", n / t }')
-    printf '%9s %9s %14s %12s\n' "$1" "$took" "$rate" "$most"
-}
-
-# Builds the program where it has to.
-"$top/paw" walk "$image" 7 </dev/null >/dev/null || exit
-printf '%9s %9s %14s %12s\n' lines seconds 'lines/second' 'memory/KiB'
-row 30000
-row 300000
+    figure "walk of $count lines through two rooms" "$(rate $count "$took")" lines/second
+    test -x /usr/bin/time && figure "  its memory" "$(memory)" KiB
+done

@@ -1,13 +1,11 @@
 #!/bin/sh
-# Times moves, searches and flags over worlds of 10 and of 255 objects, and prints the nanoseconds of each call. The calls
-# are made by a small program, which is written, proved and built in a folder of its own over the crates of the world.
+# Times moves, searches and flags over worlds of 10 and of 255 objects: the nanoseconds of each call. The calls are made by a small
+# program, which is written, proved and built in a folder of its own over the crates of the world: that takes minutes.
 
-top=$(CDPATH='' cd -- "$(dirname -- "$0")/.." && pwd) || exit
-room=$(mktemp -d) || exit
-trap 'rm -rf "$room"' EXIT
+. "$(dirname "$0")/common.sh"
 
 # The program: its words are the call and the number of objects.
-program() {
+calls_of_a_world() {
     cat <<'END'
 //! Makes 20,000,000 calls of a world: `moves`, `searches` or `flags`, over so many objects.
 #![tactic(auto)]
@@ -90,7 +88,7 @@ for crate in paw_base paw_world; do
 done
 cp "$top/HANDLES" "$room" || exit
 { grep -E '^paw_(base|world):' "$top/crates.txt" && echo 'bench_world: paw_base paw_world rand_core rand_pcg'; } >"$room/crates.txt"
-program >"$room/crates/bench_world/src/main.rt"
+calls_of_a_world >"$room/crates/bench_world/src/main.rt"
 (cd "$room" && git init -q . && cd crates/bench_world && rt run -- none 10 </dev/null >"$room/said" 2>&1)
 if ! test -x "$room/crates/bench_world/out/bench_world"; then
     tail -n 40 "$room/said" >&2
@@ -105,7 +103,8 @@ nanoseconds() {
     awk -v t=$((end - begin)) 'BEGIN { printf "%.2f", t / 2e7 }'
 }
 
-printf '%-10s %12s %12s\n' call '10 objects' '255 objects'
 for call in moves searches flags; do
-    printf '%-10s %12s %12s\n' "$call" "$(nanoseconds $call 10)" "$(nanoseconds $call 255)"
+    for count in 10 255; do
+        figure "$call of a world with $count objects" "$(nanoseconds $call $count)" ns/call
+    done
 done
