@@ -249,3 +249,28 @@ fn a_kept_position_that_is_put_back(rt: HostRuntime) {
     assert_eq!(rt; world.flag(flags::CARRIED), 6);
     assert_eq!(rt; place(&rt, &world, 1), 253);
 }
+
+fn facts(rt: &impl Abort, world: &World, o: u8) -> ObjectFacts {
+    assert!(rt; o < world.objects());
+    world.facts(o)
+}
+
+fn saved_place(rt: &impl Abort, world: &World, o: u8) -> u8 {
+    assert!(rt; o < world.objects());
+    assert!(rt; world.saved());
+    world.saved_place(o)
+}
+
+#[test]
+fn the_facts_and_the_saved_places_of_objects(rt: HostRuntime) {
+    let facts_of = [thing(254, 1, false), thing(3, 5, true)];
+    let mut world = World::new(&facts_of, 252, 7);
+    move_to(&rt, &mut world, 1, 9);
+    world.ramsave();
+    move_to(&rt, &mut world, 1, 4);
+    assert_eq!(rt; saved_place(&rt, &world, 0), 254);
+    assert_eq!(rt; saved_place(&rt, &world, 1), 9);
+    assert_eq!(rt; place(&rt, &world, 1), 4);
+    assert_eq!(rt; facts(&rt, &world, 0), thing(254, 1, false));
+    assert_eq!(rt; facts(&rt, &world, 1), thing(3, 5, true));
+}
