@@ -18,19 +18,20 @@ figure() {
     printf '%-62s %12s %s\n' "$1" "$2" "$3"
 }
 
-# The seconds of a command. Its text goes to the file shown.
+# The seconds of the processor that a command takes, and those of the clock. Its text goes to the file shown.
 seconds() {
-    begin=$(date +%s%N)
-    "$@" >"$room/shown" || return
-    end=$(date +%s%N)
-    awk -v t=$((end - begin)) 'BEGIN { printf "%.4f", t / 1e9 }'
+    "$top/bench/seconds" "$room/shown" "$@"
 }
 
-# The least seconds of three runs of a command.
+wall() {
+    "$top/bench/seconds" --wall "$room/shown" "$@"
+}
+
+# The least seconds of the processor of three runs of a command that reads nothing.
 best() {
-    least=$(seconds "$@") || return
+    least=$(seconds "$@" </dev/null) || return
     for again in 2 3; do
-        took=$(seconds "$@") || return
+        took=$(seconds "$@" </dev/null) || return
         least=$(awk -v a="$least" -v b="$took" 'BEGIN { print a < b ? a : b }')
     done
     echo "$least"
@@ -64,10 +65,6 @@ sections() {
 
 compile() {
     "$program" compile "$1" "$2" >/dev/null
-}
-
-walk() {
-    "$program" walk "$1" 7
 }
 
 # Compiles a program in C, where there is a compiler for it.

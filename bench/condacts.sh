@@ -38,7 +38,7 @@ source_text >"$room/source"
 compile "$room/source" "$room/image" || exit
 for lines in 10 100; do
     repeated $lines GO >"$room/lines"
-    took=$(seconds walk "$room/image" <"$room/lines") || exit
+    took=$(seconds "$program" walk "$room/image" 7 <"$room/lines") || exit
     figure "walk of $lines lines with 200000 condacts each" "$(rate "$((lines * 200000))" "$took")" condacts/second
 done
 if plain_loop >"$room/plain.c" && built plain; then

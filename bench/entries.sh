@@ -1,5 +1,5 @@
 #!/bin/sh
-# Plays 20,000 lines over a table with no other entries, and over one with 3,900 entries that don't match: the lines a second.
+# Plays 200,000 lines over a table with no other entries, and over one with 3,900 entries that don't match: the lines a second.
 
 . "$(dirname "$0")/common.sh"
 
@@ -14,10 +14,10 @@ source_text() {
     }'
 }
 
-repeated 20000 GO >"$room/lines"
+repeated 200000 GO >"$room/lines"
 for count in 0 3900; do
     source_text $count >"$room/source"
     compile "$room/source" "$room/image" || exit
-    took=$(seconds walk "$room/image" <"$room/lines") || exit
-    figure "walk of 20000 lines, $count entries that don't match" "$(rate 20000 "$took")" lines/second
+    took=$(seconds "$program" walk "$room/image" 7 <"$room/lines") || exit
+    figure "walk of 200000 lines, $count entries that don't match" "$(rate 200000 "$took")" lines/second
 done

@@ -19,7 +19,7 @@ memory() {
 
 for count in 30000 300000; do
     lines $count >"$room/lines"
-    took=$(seconds walk "$image" <"$room/lines") || exit
+    took=$(seconds "$program" walk "$image" 7 <"$room/lines") || exit
     pieces=$(grep -c '^>$' "$room/shown")
     if test "$pieces" -ne $((count + 1)); then
         printf 'lines.sh: %s pieces were shown for %s lines\n' "$pieces" "$count" >&2

@@ -56,12 +56,12 @@ play "$room/more.session" "$room/more" >/dev/null || exit
 records=$((($(records_at "$room/more.session" 128) - $(records_at "$room/some.session" 128) + \
     $(records_at "$room/more.session" 86208) - $(records_at "$room/some.session" 86208)) / 2))
 repeated "$turns" WAIT >"$room/waits"
-took=$(seconds play "$room/played" "$room/waits") || exit
+took=$(wall "$program" play "$room/image" "$room/played" 7 <"$room/waits") || exit
 # The piece of WAIT is empty here: no message stands for the prompt.
 figure "play, $turns turns with two syncs each" "$(rate "$turns" "$took")" turns/second
 figure "  bytes that a turn writes" $((4 * records + 4)) bytes
 if plain_loop >"$room/plain.c" && built plain; then
-    took=$(seconds "$room/plain" "$room/written" "$turns" "$records" 0) || exit
+    took=$(wall "$room/plain" "$room/written" "$turns" "$records" 0) || exit
     figure "  a plain loop of as many writes and syncs" "$(rate "$turns" "$took")" turns/second
 fi
 
@@ -70,6 +70,6 @@ repeated 16 WAIT >"$room/none"
 repeated 16 LUCK >"$room/million"
 for drawn in none million; do
     play "$room/$drawn.session" "$room/$drawn" >/dev/null || exit
-    took=$(seconds "$program" resume "$room/image" "$room/$drawn.session" </dev/null) || exit
+    took=$(wall "$program" resume "$room/image" "$room/$drawn.session" </dev/null) || exit
     figure "resume after 16 lines, draws: $drawn" "$(milliseconds "$took")" ms
 done

@@ -39,8 +39,8 @@ source_text >"$room/source"
 compile "$room/source" "$room/image" || exit
 printf '%s\n' /VOC /STX /MTX /OTX /LTX /0 /CON /OBJ '/PRO 0' '/PRO 1' '/PRO 2' >"$room/least.source"
 compile "$room/least.source" "$room/least" || exit
-took=$(best walk "$room/image" </dev/null) || exit
-least=$(best walk "$room/least" </dev/null) || exit
+took=$(best "$program" walk "$room/image" 7) || exit
+least=$(best "$program" walk "$room/least" 7) || exit
 figure "start of a walk, image of $(wc -c <"$room/image") bytes" "$(milliseconds "$took")" ms
 figure "  of 26 bytes" "$(milliseconds "$least")" ms
 if plain_loop >"$room/plain.c" && built plain; then

@@ -4,13 +4,9 @@
 . "$(dirname "$0")/common.sh"
 image=$top/games/rooms.img
 
-trace() {
-    "$program" trace "$image" 7
-}
-
 repeated 100000 SING >"$room/lines"
-took=$(seconds walk "$image" <"$room/lines") || exit
+took=$(seconds "$program" walk "$image" 7 <"$room/lines") || exit
 figure "walk of 100000 lines" "$(rate 100000 "$took")" lines/second
-took=$(seconds trace <"$room/lines") || exit
+took=$(seconds "$program" trace "$image" 7 <"$room/lines") || exit
 figure "trace of the same" "$(rate 100000 "$took")" lines/second
 figure "  steps that it shows" "$(grep -c '^[0-9]*\.[0-9]*\.[0-9]* ' "$room/shown")" lines
