@@ -249,6 +249,43 @@ fn take_all<'a, F: Fn(u8, u8) -> u8>(
     Ok(player)
 }
 
+// A player after its start.
+fn begun<'a, F: Fn(u8, u8) -> u8>(
+    alloc: Global,
+    game: &'a Game,
+    routines: &'a Routines<F>,
+) -> Result<Player<'a, Game, F>, Fail>
+    requires rows { HaveRows F.Fn routines.now }
+    ensures game { IfOk result (λ p. p.game ≡ game.now) }
+    ensures routines { IfOk result (λ p. p.routines ≡ routines.now) }
+    ensures seated { IfOk result IsSeated }
+{
+    let mut player = Player::new(alloc, game, routines, 7)?;
+    player.start();
+    Ok(player)
+}
+
+// A player that took the lines of a case, and then began again.
+fn renewed<'a, F: Fn(u8, u8) -> u8>(
+    rt: &impl Abort,
+    alloc: Global,
+    game: &'a Game,
+    routines: &'a Routines<F>,
+    before: &[Taken],
+) -> Result<Player<'a, Game, F>, Fail>
+    requires rows { HaveRows F.Fn routines.now }
+    ensures game { IfOk result (λ p. p.game ≡ game.now) }
+    ensures routines { IfOk result (λ p. p.routines ≡ routines.now) }
+    ensures seated { IfOk result IsSeated }
+{
+    let player = Player::new(alloc, game, routines, 7)?;
+    let mut player = take_all(rt, alloc, game, routines, player, Between::Nothing, before)?;
+    player.renew(7);
+    assert!(rt; player.piece().is_empty());
+    player.start();
+    Ok(player)
+}
+
 #[test]
 fn players_go_on_from_what_was_kept(rt: HostRuntime) -> Result<(), Fail> {
     let alloc = rt.alloc();
@@ -256,8 +293,8 @@ fn players_go_on_from_what_was_kept(rt: HostRuntime) -> Result<(), Fail> {
     let routines = Routines::new(0, |_, x| x);
     for between in [Between::Nothing, Between::Adopting, Between::Seating] {
         for case in CASES {
-            let mut player = Player::new(alloc, &game, &routines, 7)?;
-            assert_eq!(rt; player.start(), MAIN);
+            let player = begun(alloc, &game, &routines)?;
+            assert_eq!(rt; player.last, MAIN);
             assert_eq!(rt; player.piece(), FIRST.as_bytes());
             take_all(&rt, alloc, &game, &routines, player, between, case)?;
         }
@@ -272,19 +309,8 @@ fn renewed_players_begin_again(rt: HostRuntime) -> Result<(), Fail> {
     let routines = Routines::new(0, |_, x| x);
     for case in CASES {
         for before in CASES {
-            let player = Player::new(alloc, &game, &routines, 7)?;
-            let mut player = take_all(
-                &rt,
-                alloc,
-                &game,
-                &routines,
-                player,
-                Between::Nothing,
-                before,
-            )?;
-            player.renew(7);
-            assert!(rt; player.piece().is_empty());
-            assert_eq!(rt; player.start(), MAIN);
+            let player = renewed(&rt, alloc, &game, &routines, before)?;
+            assert_eq!(rt; player.last, MAIN);
             assert_eq!(rt; player.piece(), FIRST.as_bytes());
             take_all(&rt, alloc, &game, &routines, player, Between::Nothing, case)?;
         }
@@ -298,8 +324,8 @@ fn finished_players_answer_the_same(rt: HostRuntime) -> Result<(), Fail> {
     let game = asking_game(alloc)?;
     let routines = Routines::new(0, |_, x| x);
     for (line, step) in FINISHING {
-        let mut player = Player::new(alloc, &game, &routines, 7)?;
-        assert_eq!(rt; player.start(), MAIN);
+        let player = begun(alloc, &game, &routines)?;
+        assert_eq!(rt; player.last, MAIN);
         let lines = [(line, step, ""), ("LOOK", step, ""), ("~", step, "")];
         let player = take_all(
             &rt,
@@ -320,8 +346,8 @@ fn a_player_waits_where_its_tables_stand(rt: HostRuntime) -> Result<(), Fail> {
     let alloc = rt.alloc();
     let game = asking_game(alloc)?;
     let routines = Routines::new(0, |_, x| x);
-    let mut player = Player::new(alloc, &game, &routines, 7)?;
-    assert_eq!(rt; player.start(), MAIN);
+    let player = begun(alloc, &game, &routines)?;
+    assert_eq!(rt; player.last, MAIN);
     let lines = [("TWIST ALL", KEY, "Press a key. ")];
     let player = take_all(
         &rt,
@@ -343,8 +369,8 @@ fn players_that_never_come_to_a_prompt_are_spent(rt: HostRuntime) -> Result<(), 
         let game = endless_game(alloc, location)?;
         let routines = Routines::new(0, |_, x| x);
         let step = Step::Spent(kind);
-        let mut player = Player::new(alloc, &game, &routines, 7)?;
-        assert_eq!(rt; player.start(), step);
+        let player = begun(alloc, &game, &routines)?;
+        assert_eq!(rt; player.last, step);
         assert!(rt; player.piece().is_empty());
         take_all(
             &rt,
@@ -383,21 +409,38 @@ fn a_player_keeps_the_steps_of_the_last_piece(rt: HostRuntime) -> Result<(), Fai
     ];
     let asks = [step(0, 6, 0, QUIT, true)];
     let ends = [step(0, 6, 1, END, true)];
-    let cases: [(&[&str], &[StepRow]); 6] = [
-        (&["TWIST ALL"], &loops),
+    let cases: [(&[Taken], &[StepRow]); 6] = [
+        (&[("TWIST ALL", KEY, "Press a key. ")], &loops),
         // A late line that is ignored leaves no steps.
-        (&["TWIST ALL", "~"], &[]),
-        (&["QUIT"], &asks),
-        (&["QUIT", "Y"], &ends),
-        (&["QUIT", "N"], &[]),
-        (&["XYZZY"], &[]),
+        (&[("TWIST ALL", KEY, "Press a key. "), ("~", KEY, "")], &[]),
+        (&[("QUIT", SURE, "Are you sure? ")], &asks),
+        (
+            &[
+                ("QUIT", SURE, "Are you sure? "),
+                ("Y", AGAIN, "Another go? "),
+            ],
+            &ends,
+        ),
+        (
+            &[("QUIT", SURE, "Are you sure? "), ("N", MAIN, PROMPT)],
+            &[],
+        ),
+        (
+            &[("XYZZY", MAIN, "I don't understand.\nWhat now?\n> ")],
+            &[],
+        ),
     ];
     for (lines, steps) in cases {
-        let mut player = Player::new(alloc, &game, &routines, 7)?;
-        player.start();
-        for line in lines {
-            take(&rt, &mut player, line);
-        }
+        let player = begun(alloc, &game, &routines)?;
+        let player = take_all(
+            &rt,
+            alloc,
+            &game,
+            &routines,
+            player,
+            Between::Nothing,
+            lines,
+        )?;
         assert_eq!(rt; player.steps().rows(), steps, "{lines:?}");
         assert_eq!(rt; player.steps().count() as usize, steps.len(), "{lines:?}");
     }
@@ -409,9 +452,17 @@ fn steps_go_as_deep_as_calls_do(rt: HostRuntime) -> Result<(), Fail> {
     let alloc = rt.alloc();
     let game = asking_game(alloc)?;
     let routines = Routines::new(0, |_, x| x);
-    let mut player = Player::new(alloc, &game, &routines, 7)?;
-    player.start();
-    take(&rt, &mut player, "NEST");
+    let player = begun(alloc, &game, &routines)?;
+    let lines = [("NEST", MAIN, "OK.\nWhat now?\n> ")];
+    let player = take_all(
+        &rt,
+        alloc,
+        &game,
+        &routines,
+        player,
+        Between::Nothing,
+        &lines,
+    )?;
     let steps = player.steps().rows();
     // Two steps before the calls, nine calls of three steps, the condition that fails, and OK.
     assert_eq!(rt; steps.len(), 31);
