@@ -1,5 +1,10 @@
 -- The actions that find their object by the sentence.
 use Rattle.std.specs.Prelude.{ℕ, ◌==◌, ◌||◌, Bool, List, [], ◌∷◌, Option, Some, None, if◌then◌else◌}
+use Rattle.paw_base.specs.declared.codes.TheConstants.{AUTOG, AUTOD, AUTOW, AUTOR, AUTOP, AUTOT, GET, DROP, WEAR}
+use Rattle.paw_base.specs.declared.codes.TheConstants.{REMOVE, PUTIN, TAKEOUT, WHATO}
+use Rattle.paw_base.specs.declared.messages.TheConstants.{IMPOSSIBLE_MESSAGE, NOT_WORN_MESSAGE, NOT_HERE_MESSAGE}
+use Rattle.paw_base.specs.declared.messages.TheConstants.{NOT_CARRIED_MESSAGE, NOT_INSIDE_MESSAGE}
+use Rattle.paw_base.specs.declared.places.TheConstants.{WORN_PLACE, CARRIED_PLACE}
 use Rattle.paw_base.specs.declared.parts.Condact.{Condact}
 use Rattle.paw_game.specs.Game.{GameLists}
 use Rattle.paw_game.specs.Valid.{is_within}
@@ -15,28 +20,28 @@ use Rattle.paw_effects.specs.Referring.{referred, referred_to_none}
 use Rattle.paw_effects.specs.ObjectSearch.{some_fits, first_fitting}
 use Rattle.paw_effects.specs.ObjectActions.{refuses, acted_on}
 
--- where each action looks for its object, in this order: 254 is carried, 253 is worn
+-- where each action looks for its object, in this order
 abbrev pub looks_at : Action → List Spot
-looks_at action.Get = Here ∷ At 254 ∷ At 253 ∷ []
-looks_at action.Drop = At 254 ∷ At 253 ∷ Here ∷ []
-looks_at action.Wear = At 254 ∷ At 253 ∷ Here ∷ []
-looks_at action.Remove = At 253 ∷ At 254 ∷ Here ∷ []
-looks_at (action.PutIn l) = At 254 ∷ At 253 ∷ Here ∷ []
-looks_at (action.TakeOut l) = At l ∷ At 254 ∷ At 253 ∷ Here ∷ []
+looks_at action.Get = Here ∷ At CARRIED_PLACE ∷ At WORN_PLACE ∷ []
+looks_at action.Drop = At CARRIED_PLACE ∷ At WORN_PLACE ∷ Here ∷ []
+looks_at action.Wear = At CARRIED_PLACE ∷ At WORN_PLACE ∷ Here ∷ []
+looks_at action.Remove = At WORN_PLACE ∷ At CARRIED_PLACE ∷ Here ∷ []
+looks_at (action.PutIn l) = At CARRIED_PLACE ∷ At WORN_PLACE ∷ Here ∷ []
+looks_at (action.TakeOut l) = At l ∷ At CARRIED_PLACE ∷ At WORN_PLACE ∷ Here ∷ []
 
 -- what is said where it isn't found there
 abbrev pub missing : Action → Words
-missing action.Get = Says 26
-missing action.Drop = Says 28
-missing action.Wear = Says 28
-missing action.Remove = Says 23
-missing (action.PutIn l) = Says 28
-missing (action.TakeOut l) = Names 52 l
+missing action.Get = Says NOT_HERE_MESSAGE
+missing action.Drop = Says NOT_CARRIED_MESSAGE
+missing action.Wear = Says NOT_CARRIED_MESSAGE
+missing action.Remove = Says NOT_WORN_MESSAGE
+missing (action.PutIn l) = Says NOT_CARRIED_MESSAGE
+missing (action.TakeOut l) = Names NOT_INSIDE_MESSAGE l
 
--- the action on the object that was found; with none it is refused, by message 8 where no object of the game fits
+-- the action on the object that was found; with none it is refused, as impossible where no object of the game fits
 abbrev pub acted_on_found : GameLists → World → Action → Option ℕ → Done
 acted_on_found g w a (Some o) = acted_on g w o a
-acted_on_found g w a None = refuses g w (if some_fits w then missing a else Says 8)
+acted_on_found g w a None = refuses g w (if some_fits w then missing a else Says IMPOSSIBLE_MESSAGE)
 
 -- an action on the object that the sentence means
 abbrev pub acted_by_name : GameLists → World → Action → Done
@@ -48,25 +53,25 @@ referred_to_found w None = referred_to_none w
 
 -- referring to the object that the sentence means
 abbrev pub referred_by_name : World → World
-referred_by_name w = referred_to_found w (first_fitting w (At 254 ∷ At 253 ∷ Here ∷ []))
+referred_by_name w = referred_to_found w (first_fitting w (At CARRIED_PLACE ∷ At WORN_PLACE ∷ Here ∷ []))
 
 abbrev pub acts_on_given : ℕ → Bool
-acts_on_given code = is_within 55 60 code
+acts_on_given code = is_within GET TAKEOUT code
 
 abbrev pub acts_by_name : ℕ → Bool
-acts_by_name code = is_within 43 48 code
+acts_by_name code = is_within AUTOG AUTOT code
 
 abbrev pub is_object_action : ℕ → Bool
-is_object_action code = acts_by_name code || acts_on_given code || (code == 80)
+is_object_action code = acts_by_name code || acts_on_given code || (code == WHATO)
 
 -- the action of each code; two of them know a place
 abbrev pub action_of : ℕ → ℕ → Action
 action_of code l =
-    if (code == 43) || (code == 55) then action.Get else  -- AUTOG, GET
-    if (code == 44) || (code == 56) then action.Drop else  -- AUTOD, DROP
-    if (code == 45) || (code == 57) then action.Wear else  -- AUTOW, WEAR
-    if (code == 46) || (code == 58) then action.Remove else  -- AUTOR, REMOVE
-    if (code == 47) || (code == 59) then action.PutIn l else  -- AUTOP, PUTIN
+    if (code == AUTOG) || (code == GET) then action.Get else
+    if (code == AUTOD) || (code == DROP) then action.Drop else
+    if (code == AUTOW) || (code == WEAR) then action.Wear else
+    if (code == AUTOR) || (code == REMOVE) then action.Remove else
+    if (code == AUTOP) || (code == PUTIN) then action.PutIn l else
     action.TakeOut l  -- AUTOT, TAKEOUT
 
 -- GET to TAKEOUT are given their object, AUTOG to AUTOT and WHATO find it

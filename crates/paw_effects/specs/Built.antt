@@ -1,5 +1,6 @@
 -- The worlds of a game.
 use Rattle.std.specs.Prelude.{◌≡◌, ℕ, List, length, map, Option, IfSome, IsTrue, All}
+use Rattle.paw_base.specs.declared.limits.TheConstants.{FLAG_COUNT}
 use Rattle.paw_game.specs.Game.{GameLists}
 use Rattle.paw_game.specs.Valid.{is_place}
 use Rattle.paw_world.specs.World.{World, Position}
@@ -8,7 +9,7 @@ use Rattle.paw_world.specs.World.{World, Position}
 pub record IsOf (g : GameLists) (w : World) : Type 0 where
   pub facts : w.facts ≡ map (λ o. o.facts) g.objects
   pub locations : w.locations ≡ length g.locations
-  pub flags : length w.flags ≡ 256
+  pub flags : length w.flags ≡ FLAG_COUNT
   pub places : length w.places ≡ length g.objects
 
 -- each of these is a place of the game

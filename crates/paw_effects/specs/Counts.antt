@@ -1,22 +1,26 @@
 -- The counts that a game tells: its turns and its score.
 use Rattle.std.specs.Prelude.{ℕ, ◌+◌, ◌*◌, ◌==◌, List, [], ◌++◌, decimal, if◌then◌else◌}
+use Rattle.paw_base.specs.declared.flags.TheConstants.{SCORE_FLAG, LOW_TURNS_FLAG, HIGH_TURNS_FLAG}
+use Rattle.paw_base.specs.declared.messages.TheConstants.{TURNS_MESSAGE, TURN_MESSAGE, PLURAL_MESSAGE}
+use Rattle.paw_base.specs.declared.messages.TheConstants.{TURNS_END_MESSAGE, SCORE_MESSAGE, SCORE_END_MESSAGE}
 use Rattle.paw_game.specs.Game.{GameLists}
 use Rattle.paw_world.specs.World.{World, flag}
 use Rattle.paw_effects.specs.Texts.{put_text, say_text}
 
--- the number of turns: flag 31 is the low byte and flag 32 the high one
+-- the number of turns: one flag is its low byte, another the high one
 abbrev pub turns_taken : World → ℕ
-turns_taken w = flag w 31 + 256 * flag w 32
+turns_taken w = flag w LOW_TURNS_FLAG + 256 * flag w HIGH_TURNS_FLAG
 
--- what makes a word of more than one: message 19, but not behind the number 1
+-- what makes a word of more than one; not behind the number 1
 abbrev pub plural_text : GameLists → World → ℕ → List ℕ
-plural_text g w n = if n == 1 then [] else put_text g w 19
+plural_text g w n = if n == 1 then [] else put_text g w PLURAL_MESSAGE
 
--- message 17, the number of turns, messages 18 and 19 as the number wants it, and message 20 with a newline
+-- the number of turns between its messages, as the number wants them, and a newline
 abbrev pub turns_text : GameLists → World → List ℕ
 turns_text g w =
-    put_text g w 17 ++ (decimal (turns_taken w) ++ (put_text g w 18 ++ (plural_text g w (turns_taken w) ++ say_text g w 20)))
+    put_text g w TURNS_MESSAGE ++ (decimal (turns_taken w) ++ (put_text g w TURN_MESSAGE
+    ++ (plural_text g w (turns_taken w) ++ say_text g w TURNS_END_MESSAGE)))
 
--- message 21, the score, which is flag 30, and message 22 with a newline
+-- the score between its messages, and a newline
 abbrev pub score_text : GameLists → World → List ℕ
-score_text g w = put_text g w 21 ++ (decimal (flag w 30) ++ say_text g w 22)
+score_text g w = put_text g w SCORE_MESSAGE ++ (decimal (flag w SCORE_FLAG) ++ say_text g w SCORE_END_MESSAGE)

@@ -1,7 +1,9 @@
 -- The actions that change flags, and those that save and load them.
 use Rattle.std.specs.Prelude.{ℕ, ◌+◌, ◌-◌, ◌==◌, ◌||◌, Bool, min, Option, None, Some, if◌then◌else◌}
-use Rattle.paw_base.specs.declared.codes.TheConstants.{RAMSAVE, RAMLOAD, GOTO, SET, CLEAR, PLUS, MINUS, LET, ADD, SUB, RANDOM, COPYFF, WEIGH, WEIGHT, ABILITY, PROMPT}
-use Rattle.paw_base.specs.declared.flags.TheConstants.{MOST_CARRIED_FLAG, MOST_WEIGHT_FLAG, LOCATION_FLAG, PROMPT_FLAG, TIMEOUT_FLAG, TIMED_OUT_FLAG}
+use Rattle.paw_base.specs.declared.codes.TheConstants.{RAMSAVE, RAMLOAD, GOTO, SET, CLEAR, PLUS, MINUS, LET, ADD, SUB}
+use Rattle.paw_base.specs.declared.codes.TheConstants.{RANDOM, COPYFF, WEIGH, WEIGHT, ABILITY, PROMPT, TIME}
+use Rattle.paw_base.specs.declared.flags.TheConstants.{MOST_CARRIED_FLAG, LOCATION_FLAG, PROMPT_FLAG, TIMEOUT_FLAG}
+use Rattle.paw_base.specs.declared.flags.TheConstants.{TIMED_OUT_FLAG, MOST_WEIGHT_FLAG}
 use Rattle.paw_base.specs.declared.parts.Condact.{Condact}
 use Rattle.paw_game.specs.Valid.{is_within}
 use Rattle.paw_world.specs.World.{World, flag, with_flag, ramsaved, ramloaded, drawn_on}
@@ -10,7 +12,8 @@ use Rattle.paw_effects.specs.Chance.{rolled}
 
 abbrev pub is_change : ℕ → Bool
 is_change code =
-    is_within 38 39 code || (code == 49) || is_within 66 73 code || (code == 77) || is_within 81 83 code || is_within 87 88 code
+    is_within RAMSAVE RAMLOAD code || (code == GOTO) || is_within SET RANDOM code || (code == COPYFF)
+    || is_within WEIGH ABILITY code || is_within PROMPT TIME code
 
 -- one line for each of them; a flag is at most 255 and at least 0, and RANDOM makes a draw
 unfoldable pub change_of : World → Condact → World

@@ -1,6 +1,6 @@
 -- The actions that say where reading goes on.
 use Rattle.std.specs.Prelude.{ℕ, ◌==◌, ◌||◌, Bool, true, false, if◌then◌else◌}
-use Rattle.paw_base.specs.declared.codes.TheConstants.{DESC, END, DONE, NOTDONE, OK, ANYKEY, PARSE, PROCESS}
+use Rattle.paw_base.specs.declared.codes.TheConstants.{DESC, END, DONE, NOTDONE, OK, ANYKEY, PARSE, PROCESS, DOALL}
 use Rattle.paw_base.specs.declared.messages.TheConstants.{AGAIN_MESSAGE, OK_MESSAGE, KEY_MESSAGE}
 use Rattle.paw_base.specs.declared.parts.Condact.{Condact}
 use Rattle.paw_game.specs.Game.{GameLists}
@@ -13,7 +13,7 @@ use Rattle.paw_effects.specs.Presence.{named_place}
 use Rattle.paw_effects.specs.Texts.{put_text, say_text}
 
 abbrev pub is_flow : ℕ → Bool
-is_flow code = is_within 30 35 code || is_within 84 86 code
+is_flow code = is_within DESC ANYKEY code || is_within PARSE DOALL code
 
 -- one line for each of them
 unfoldable pub flow_of : GameLists → World → Condact → Done

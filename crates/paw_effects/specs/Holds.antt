@@ -17,9 +17,9 @@ pub record Tested : Type 0 where
   pub answer : Truth
   pub world : World
 
--- conditions are the codes up to 28
+-- conditions are the codes up to that of MOVE
 abbrev pub is_condition : Condact → Bool
-is_condition c = nat_le c.code 28
+is_condition c = nat_le c.code MOVE
 
 -- a condition that holds answers yes
 abbrev pub truth_of : Bool → Truth

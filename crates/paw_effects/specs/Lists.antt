@@ -1,6 +1,10 @@
 -- Lists of objects, as a game prints them.
 use Rattle.std.specs.Prelude.{ℕ, ◌==◌, Bool, not, List, [], ◌∷◌, ◌++◌, map, codes, bit_and, if◌then◌else◌}
 use Rattle.std.specs.List.{flat_map}
+use Rattle.paw_base.specs.declared.flags.TheConstants.{LOCATION_FLAG, LISTING_FLAG}
+use Rattle.paw_base.specs.declared.messages.TheConstants.{SEEN_MESSAGE, INVENTORY_MESSAGE, IS_WORN_MESSAGE}
+use Rattle.paw_base.specs.declared.messages.TheConstants.{EMPTY_HANDED_MESSAGE, NOTHING_THERE_MESSAGE}
+use Rattle.paw_base.specs.declared.places.TheConstants.{WORN_PLACE}
 use Rattle.paw_game.specs.Game.{GameLists}
 use Rattle.paw_world.specs.World.{World, flag, place, is_somewhere}
 use Rattle.paw_world.specs.Weight.{objects_at}
@@ -26,9 +30,9 @@ abbrev pub as_sentence : List (List ℕ) → List ℕ
 as_sentence [] = []
 as_sentence (text ∷ texts) = text ++ joined texts
 
--- lists are sentences: bit 6 of flag 53 is set
+-- lists are sentences where bit 6 of the flag of lists is set
 abbrev pub lists_are_sentences : World → Bool
-lists_are_sentences w = not (bit_and (flag w 53) 64 == 0)
+lists_are_sentences w = not (bit_and (flag w LISTING_FLAG) 64 == 0)
 
 -- texts as a list
 abbrev pub list_of : World → List (List ℕ) → List ℕ
@@ -39,31 +43,32 @@ abbrev pub list_or_say : GameLists → World → ℕ → List (List ℕ) → Lis
 list_or_say g w s [] = say_text g w s
 list_or_say g w s (text ∷ texts) = list_of w (text ∷ texts)
 
--- message 1 and a list, where there is something to list
+-- that objects can be seen, and a list, where there is something to list
 abbrev pub seen_text : GameLists → World → List (List ℕ) → List ℕ
 seen_text g w [] = []
-seen_text g w (text ∷ texts) = say_text g w 1 ++ list_of w (text ∷ texts)
+seen_text g w (text ∷ texts) = say_text g w SEEN_MESSAGE ++ list_of w (text ∷ texts)
 
 -- the texts of the objects at a place, in rising number
 abbrev pub texts_at : GameLists → World → ℕ → List (List ℕ)
 texts_at g w p = map (object_text g) (objects_at w p)
 
--- message 10 tells what is worn
+-- a message tells what is worn
 abbrev pub worn_text : GameLists → World → ℕ → List ℕ
-worn_text g w o = if place w o == 253 then put_text g w 10 else []
+worn_text g w o = if place w o == WORN_PLACE then put_text g w IS_WORN_MESSAGE else []
 
 -- the text of an object that is worn or carried
 abbrev pub held_text : GameLists → World → ℕ → List ℕ
 held_text g w o = object_text g o ++ worn_text g w o
 
--- INVEN: message 9, and what is worn and carried, or message 11 where that is nothing
+-- INVEN: what is worn and carried, behind its message, or that it is nothing
 abbrev pub inventory_text : GameLists → World → List ℕ
-inventory_text g w = say_text g w 9 ++ list_or_say g w 11 (map (held_text g w) (held_objects w))
+inventory_text g w =
+    say_text g w INVENTORY_MESSAGE ++ list_or_say g w EMPTY_HANDED_MESSAGE (map (held_text g w) (held_objects w))
 
--- LISTAT: what stands at a place, or message 53 where that is nothing
+-- LISTAT: what stands at a place, or that it is nothing
 abbrev pub place_list_text : GameLists → World → ℕ → List ℕ
-place_list_text g w p = list_or_say g w 53 (texts_at g w p)
+place_list_text g w p = list_or_say g w NOTHING_THERE_MESSAGE (texts_at g w p)
 
--- LISTOBJ: message 1 and what stands at the current location; nothing where that is none of the game's
+-- LISTOBJ: what stands at the current location; nothing where that is none of the game's
 abbrev pub here_list_text : GameLists → World → List ℕ
-here_list_text g w = if is_somewhere w then seen_text g w (texts_at g w (flag w 38)) else []
+here_list_text g w = if is_somewhere w then seen_text g w (texts_at g w (flag w LOCATION_FLAG)) else []

@@ -1,5 +1,14 @@
 -- The actions on an object.
 use Rattle.std.specs.Prelude.{ℕ, ◌+◌, ◌==◌, ◌&&◌, ◌||◌, Bool, true, false, not, nat_lt, nat_le, List, [], ◌∷◌, length, Option, Some, None, slice_get, if◌then◌else◌}
+use Rattle.paw_base.specs.declared.flags.TheConstants.{CARRIED_FLAG, MOST_CARRIED_FLAG, MOST_WEIGHT_FLAG}
+use Rattle.paw_base.specs.declared.messages.TheConstants.{NOT_WORN_MESSAGE, WORN_MESSAGE, HELD_MESSAGE}
+use Rattle.paw_base.specs.declared.messages.TheConstants.{NOT_HERE_MESSAGE, TOO_MANY_MESSAGE, NOT_CARRIED_MESSAGE}
+use Rattle.paw_base.specs.declared.messages.TheConstants.{WORN_ALREADY_MESSAGE, TAKEN_MESSAGE, PUT_ON_MESSAGE}
+use Rattle.paw_base.specs.declared.messages.TheConstants.{TAKEN_OFF_MESSAGE, DROPPED_MESSAGE, NOT_WEARABLE_MESSAGE}
+use Rattle.paw_base.specs.declared.messages.TheConstants.{NOT_REMOVABLE_MESSAGE, HANDS_FULL_MESSAGE, TOO_HEAVY_MESSAGE}
+use Rattle.paw_base.specs.declared.messages.TheConstants.{PUT_IN_MESSAGE, NOT_TAKEN_OUT_MESSAGE, NOT_HELD_MESSAGE}
+use Rattle.paw_base.specs.declared.messages.TheConstants.{NOT_PUT_ON_MESSAGE, NOT_INSIDE_MESSAGE}
+use Rattle.paw_base.specs.declared.places.TheConstants.{WORN_PLACE, CARRIED_PLACE}
 use Rattle.paw_base.specs.declared.parts.ObjectFacts.{ObjectFacts}
 use Rattle.paw_game.specs.Game.{GameLists}
 use Rattle.paw_world.specs.World.{World, flag, place, here, is_here, moved}
@@ -17,10 +26,10 @@ use Rattle.paw_effects.specs.ObjectWords.{spoken, ends_loop}
 -- ---- what is looked at ----
 
 abbrev pub is_worn : World → ℕ → Bool
-is_worn w o = place w o == 253
+is_worn w o = place w o == WORN_PLACE
 
 abbrev pub is_carried : World → ℕ → Bool
-is_carried w o = place w o == 254
+is_carried w o = place w o == CARRIED_PLACE
 
 abbrev pub is_wearable : Option ObjectFacts → Bool
 is_wearable None = false
@@ -29,13 +38,13 @@ is_wearable (Some f) = f.wearable
 abbrev pub can_be_worn : World → ℕ → Bool
 can_be_worn w o = is_wearable (slice_get w.facts o)
 
--- with this object more would be carried than flag 52 allows
+-- with this object more weight would be carried than may be
 abbrev pub is_too_heavy : World → ℕ → Bool
-is_too_heavy w o = nat_lt (flag w 52) (carried_weight w + weight w o)
+is_too_heavy w o = nat_lt (flag w MOST_WEIGHT_FLAG) (carried_weight w + weight w o)
 
--- as many objects are carried as flag 37 allows
+-- as many objects are carried as may be
 abbrev pub is_laden : World → Bool
-is_laden w = nat_le (flag w 37) (flag w 1)
+is_laden w = nat_le (flag w MOST_CARRIED_FLAG) (flag w CARRIED_FLAG)
 
 -- the object whose number is that of a place is worn or carried, so what comes out of it is held already
 abbrev pub holds_place : World → ℕ → Bool
@@ -46,20 +55,24 @@ holds_place w l = nat_lt l (length w.places) && is_held w l
 -- the tests of each action in their order, and what is said where one holds
 abbrev pub hindrances : World → ℕ → Action → List (Bool × Words)
 hindrances w o action.Get =
-    (is_held w o, Says 25) ∷ (not (is_here w o), Says 26) ∷ (is_too_heavy w o, Says 43) ∷ (is_laden w, Says 27) ∷ []
+    (is_held w o, Says HELD_MESSAGE) ∷ (not (is_here w o), Says NOT_HERE_MESSAGE)
+    ∷ (is_too_heavy w o, Says TOO_HEAVY_MESSAGE) ∷ (is_laden w, Says TOO_MANY_MESSAGE) ∷ []
 hindrances w o action.Drop =
-    (is_worn w o, Says 24) ∷ (is_here w o, Says 49) ∷ (not (is_carried w o), Says 28) ∷ []
+    (is_worn w o, Says WORN_MESSAGE) ∷ (is_here w o, Says NOT_HELD_MESSAGE)
+    ∷ (not (is_carried w o), Says NOT_CARRIED_MESSAGE) ∷ []
 hindrances w o action.Wear =
-    (is_here w o, Says 49) ∷ (is_worn w o, Says 29) ∷ (not (is_carried w o), Says 28)
-    ∷ (not (can_be_worn w o), Says 40) ∷ []
+    (is_here w o, Says NOT_HELD_MESSAGE) ∷ (is_worn w o, Says WORN_ALREADY_MESSAGE)
+    ∷ (not (is_carried w o), Says NOT_CARRIED_MESSAGE) ∷ (not (can_be_worn w o), Says NOT_WEARABLE_MESSAGE) ∷ []
 hindrances w o action.Remove =
-    (is_carried w o || is_here w o, Says 50) ∷ (not (is_worn w o), Says 23)
-    ∷ (not (can_be_worn w o), Says 41) ∷ (is_laden w, Says 42) ∷ []
+    (is_carried w o || is_here w o, Says NOT_PUT_ON_MESSAGE) ∷ (not (is_worn w o), Says NOT_WORN_MESSAGE)
+    ∷ (not (can_be_worn w o), Says NOT_REMOVABLE_MESSAGE) ∷ (is_laden w, Says HANDS_FULL_MESSAGE) ∷ []
 hindrances w o (action.PutIn l) =
-    (is_worn w o, Says 24) ∷ (is_here w o, Says 49) ∷ (not (is_carried w o), Says 28) ∷ []
+    (is_worn w o, Says WORN_MESSAGE) ∷ (is_here w o, Says NOT_HELD_MESSAGE)
+    ∷ (not (is_carried w o), Says NOT_CARRIED_MESSAGE) ∷ []
 hindrances w o (action.TakeOut l) =
-    (is_held w o, Says 25) ∷ (is_here w o, Names 45 l) ∷ (not (place w o == l), Names 52 l)
-    ∷ (not (holds_place w l) && is_too_heavy w o, Says 43) ∷ (is_laden w, Says 27) ∷ []
+    (is_held w o, Says HELD_MESSAGE) ∷ (is_here w o, Names NOT_TAKEN_OUT_MESSAGE l)
+    ∷ (not (place w o == l), Names NOT_INSIDE_MESSAGE l)
+    ∷ (not (holds_place w l) && is_too_heavy w o, Says TOO_HEAVY_MESSAGE) ∷ (is_laden w, Says TOO_MANY_MESSAGE) ∷ []
 
 -- the first test that holds decides
 abbrev pub first_that_holds : List (Bool × Words) → Option Words
@@ -70,21 +83,21 @@ first_that_holds ((holds, said) ∷ tests) = if holds then Some said else first_
 
 -- where the object moves
 abbrev pub destination : World → Action → ℕ
-destination w action.Get = 254
+destination w action.Get = CARRIED_PLACE
 destination w action.Drop = here w
-destination w action.Wear = 253
-destination w action.Remove = 254
+destination w action.Wear = WORN_PLACE
+destination w action.Remove = CARRIED_PLACE
 destination w (action.PutIn l) = l
-destination w (action.TakeOut l) = 254
+destination w (action.TakeOut l) = CARRIED_PLACE
 
 -- what is said then
 abbrev pub outcome : Action → Words
-outcome action.Get = Says 36
-outcome action.Drop = Says 39
-outcome action.Wear = Says 37
-outcome action.Remove = Says 38
-outcome (action.PutIn l) = Names 44 l
-outcome (action.TakeOut l) = Says 36
+outcome action.Get = Says TAKEN_MESSAGE
+outcome action.Drop = Says DROPPED_MESSAGE
+outcome action.Wear = Says PUT_ON_MESSAGE
+outcome action.Remove = Says TAKEN_OFF_MESSAGE
+outcome (action.PutIn l) = Names PUT_IN_MESSAGE l
+outcome (action.TakeOut l) = Says TAKEN_MESSAGE
 
 -- an action is refused: this is said, the rest of the line is dropped, and the table is left with an action carried out
 abbrev pub refuses : GameLists → World → Words → Done

@@ -2,15 +2,19 @@
 use Rattle.std.specs.Prelude.{ℕ, ◌==◌, ◌&&◌, ◌||◌, Bool, false, not, List, [], ◌∷◌, Option, Some, None, find, slice_get, if◌then◌else◌}
 use Rattle.std.specs.List.{list_any}
 use Rattle.std.specs.Option.{option_or}
+use Rattle.paw_base.specs.declared.flags.TheConstants.{NOUN_FLAG, ADJECTIVE_FLAG, LOCATION_FLAG}
+use Rattle.paw_base.specs.declared.words.TheConstants.{NO_WORD}
 use Rattle.paw_base.specs.declared.parts.ObjectFacts.{ObjectFacts}
 use Rattle.paw_world.specs.World.{World, flag, is_somewhere}
 use Rattle.paw_world.specs.Weight.{objects_at}
 use Rattle.paw_effects.specs.declared.object_search.Spot.{Spot}
 use Rattle.paw_effects.specs.declared.object_search.Spot.TheVariants as spot
 
--- the sentence has a noun (flag 34), which is the object's, and its adjective (flag 35) is the object's where it has one
+-- the sentence has a noun, which is the object's, and where it has an adjective, that is the object's too
 abbrev pub names : World → ObjectFacts → Bool
-names w f = not (flag w 34 == 255) && ((f.noun == flag w 34) && ((flag w 35 == 255) || (f.adjective == flag w 35)))
+names w f =
+    not (flag w NOUN_FLAG == NO_WORD) && ((f.noun == flag w NOUN_FLAG)
+    && ((flag w ADJECTIVE_FLAG == NO_WORD) || (f.adjective == flag w ADJECTIVE_FLAG)))
 
 abbrev pub has_names : World → Option ObjectFacts → Bool
 has_names w None = false
@@ -30,7 +34,7 @@ least_fitting w p = find (fits w) (objects_at w p)
 
 -- the same at the current location, where there is one
 abbrev pub fitting_at : World → Spot → Option ℕ
-fitting_at w spot.Here = if is_somewhere w then least_fitting w (flag w 38) else None
+fitting_at w spot.Here = if is_somewhere w then least_fitting w (flag w LOCATION_FLAG) else None
 fitting_at w (spot.At p) = least_fitting w p
 
 -- the least object that fits at the first of these places that has one; nothing where none has

@@ -3,6 +3,7 @@ use Rattle.std.specs.Prelude.{ℕ, ◌==◌, ◌||◌, ◌%◌, Bool, Option, No
 use Rattle.paw_base.specs.declared.codes.TheConstants.{SAVE, LOAD}
 use Rattle.paw_base.specs.declared.flags.TheConstants.{POSITION_FLAG}
 use Rattle.paw_base.specs.declared.messages.TheConstants.{IMPOSSIBLE_MESSAGE}
+use Rattle.paw_base.specs.declared.limits.TheConstants.{POSITION_COUNT}
 use Rattle.paw_base.specs.declared.parts.Condact.{Condact}
 use Rattle.paw_game.specs.Game.{GameLists}
 use Rattle.paw_world.specs.World.{World, Position, flag, keeping, kept_position, taken_back}
@@ -13,9 +14,9 @@ use Rattle.paw_effects.specs.Texts.{say_text}
 abbrev pub is_keeping : ℕ → Bool
 is_keeping code = (code == SAVE) || (code == LOAD)
 
--- which of the four positions is meant: flag 58 modulo 4
+-- which of the kept positions is meant
 abbrev pub position_number : World → ℕ
-position_number w = flag w POSITION_FLAG % 4
+position_number w = flag w POSITION_FLAG % POSITION_COUNT
 
 -- all flags and all places are taken from a position; where it wasn't kept it is said that this can't be done
 abbrev pub loaded : GameLists → World → Option Position → Done

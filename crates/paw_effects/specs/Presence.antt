@@ -1,15 +1,16 @@
 -- Places as the condacts name them.
 use Rattle.std.specs.Prelude.{ℕ, ◌==◌, ◌||◌, Bool, List, length, filter, if◌then◌else◌}
 use Rattle.std.specs.List.{range_with_len}
+use Rattle.paw_base.specs.declared.places.TheConstants.{WORN_PLACE, CARRIED_PLACE, HERE_PLACE}
 use Rattle.paw_world.specs.World.{World, place, here}
 
--- a place as a parameter names it: 255 stands for the current location
+-- a place as a parameter names it: one number stands for the current location
 abbrev pub named_place : World → ℕ → ℕ
-named_place w p = if p == 255 then here w else p
+named_place w p = if p == HERE_PLACE then here w else p
 
--- an object is worn (253) or carried (254)
+-- an object is worn or carried
 abbrev pub is_held : World → ℕ → Bool
-is_held w o = (place w o == 253) || (place w o == 254)
+is_held w o = (place w o == WORN_PLACE) || (place w o == CARRIED_PLACE)
 
 -- the objects that are worn or carried, in rising number
 abbrev pub held_objects : World → List ℕ

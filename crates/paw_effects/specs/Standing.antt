@@ -1,5 +1,6 @@
 -- Worlds as a game may be in.
 use Rattle.std.specs.Prelude.{◌≡◌, ℕ, ◌<◌, List, Option, length, IfSome, All}
+use Rattle.paw_base.specs.declared.limits.TheConstants.{FLAG_COUNT, POSITION_COUNT}
 use Rattle.paw_game.specs.Game.{GameLists}
 use Rattle.paw_world.specs.World.{World, Position}
 use Rattle.paw_effects.specs.Built.{IsOf, ArePlacesOf}
@@ -10,7 +11,7 @@ AreBytes bytes = All (λ b. b < 256) bytes
 
 -- a position of the game: 256 flags that are bytes, and each object at a place
 pub record IsPositionOf (g : GameLists) (q : Position) : Type 0 where
-  pub flags : length q.flags ≡ 256
+  pub flags : length q.flags ≡ FLAG_COUNT
   pub bytes : AreBytes q.flags
   pub each : length q.places ≡ length g.objects
   pub places : ArePlacesOf g q.places
@@ -26,5 +27,5 @@ pub record IsWorldOf (g : GameLists) (w : World) : Type 0 where
   pub flags : AreBytes w.flags
   pub places : ArePlacesOf g w.places
   pub saved : MayBePosition g w.saved
-  pub four : length w.kept ≡ 4
+  pub four : length w.kept ≡ POSITION_COUNT
   pub kept : All (MayBePosition g) w.kept

@@ -1,5 +1,6 @@
 -- The texts that a game prints.
 use Rattle.std.specs.Prelude.{ℕ, ◌==◌, List, [], ◌∷◌, ◌++◌, slice_get, if◌then◌else◌}
+use Rattle.paw_base.specs.declared.flags.TheConstants.{REFERRED_FLAG}
 use Rattle.paw_game.specs.Game.{GameLists}
 use Rattle.paw_game.specs.Tables.{or_empty, text_of}
 use Rattle.paw_world.specs.World.{World, flag}
@@ -8,9 +9,9 @@ use Rattle.paw_world.specs.World.{World, flag}
 abbrev pub object_text : GameLists → ℕ → List ℕ
 object_text g o = or_empty (text_of (slice_get g.objects o))
 
--- the text of the object last referred to, flag 51
+-- the text of the object last referred to
 abbrev pub referred_text : GameLists → World → List ℕ
-referred_text g w = object_text g (flag w 51)
+referred_text g w = object_text g (flag w REFERRED_FLAG)
 
 -- each underscore is replaced by the name; the name isn't searched again
 abbrev pub with_name : List ℕ → List ℕ → List ℕ

@@ -4,6 +4,8 @@ use Rattle.std.specs.List.{position}
 use Rattle.std.specs.Option.{option_or}
 use Rattle.std.specs.Ordering.{is_lt, nat_cmp}
 use Rattle.std.specs.Cmp.Lexicographic.{slice_cmp}
+use Rattle.paw_base.specs.declared.limits.TheConstants.{WORD_LIMIT, SYSTEM_LIMIT, MESSAGE_LIMIT, OBJECT_LIMIT}
+use Rattle.paw_base.specs.declared.limits.TheConstants.{LOCATION_LEAST, LOCATION_LIMIT, TABLE_LEAST, TABLE_LIMIT}
 use Rattle.paw_game.specs.declared.parts.Word.{Word}
 use Rattle.paw_game.specs.declared.parts.ObjectRow.{ObjectRow}
 use Rattle.paw_game.specs.declared.parts.Exit.{Exit}
@@ -30,19 +32,19 @@ bad_word n before (w ∷ ws) =
 
 -- no letters at all stand below all words, so the first word has only its own rule to keep
 unfoldable pub words_fault : List Word → Option ℕ
-words_fault ws = row_fault 0 2000 (length ws) (bad_word 0 [] ws)
+words_fault ws = row_fault 0 WORD_LIMIT (length ws) (bad_word 0 [] ws)
 
 unfoldable pub texts_fault : ℕ → ℕ → List (List ℕ) → Option ℕ
 texts_fault least most texts = row_fault least most (length texts) (first_bad is_text texts)
 
 unfoldable pub objects_fault : List Word → ℕ → List ObjectRow → Option ℕ
-objects_fault ws locations os = row_fault 0 255 (length os) (first_bad (is_object ws locations) os)
+objects_fault ws locations os = row_fault 0 OBJECT_LIMIT (length os) (first_bad (is_object ws locations) os)
 
 unfoldable pub exits_fault : List Word → ℕ → List (List Exit) → Option ℕ
 exits_fault ws locations es = row_fault locations locations (length es) (first_bad (is_exits ws locations) es)
 
 unfoldable pub tables_fault : GameLists → Option ℕ
-tables_fault g = row_fault 3 256 (length g.tables) (first_bad (is_table g) g.tables)
+tables_fault g = row_fault TABLE_LEAST TABLE_LIMIT (length g.tables) (first_bad (is_table g) g.tables)
 
 abbrev pub fault_in : GamePart → Option ℕ → Option GameFault
 fault_in p None = None
@@ -52,9 +54,9 @@ fault_in p (Some row) = Some (record { part = p; row = row })
 unfoldable pub game_fault : GameLists → Option GameFault
 game_fault g =
     option_or (fault_in part.Words (words_fault g.words))
-    (option_or (fault_in part.System (texts_fault 0 256 g.system))
-    (option_or (fault_in part.Messages (texts_fault 0 256 g.messages))
+    (option_or (fault_in part.System (texts_fault 0 SYSTEM_LIMIT g.system))
+    (option_or (fault_in part.Messages (texts_fault 0 MESSAGE_LIMIT g.messages))
     (option_or (fault_in part.Objects (objects_fault g.words (length g.locations) g.objects))
-    (option_or (fault_in part.Locations (texts_fault 1 252 g.locations))
+    (option_or (fault_in part.Locations (texts_fault LOCATION_LEAST LOCATION_LIMIT g.locations))
     (option_or (fault_in part.Exits (exits_fault g.words (length g.locations) g.exits))
     (fault_in part.Tables (tables_fault g)))))))

@@ -2,6 +2,7 @@
 use Rattle.std.specs.Prelude.{ℕ, suc, ◌==◌, ◌&&◌, ◌||◌, Bool, false, List, [], ◌∷◌, length, Option, Some, None, slice_get, drop, if◌then◌else◌}
 use Rattle.std.specs.Option.{option_map_or}
 use Rattle.std.specs.Str.{bytes_eq}
+use Rattle.paw_base.specs.declared.words.TheConstants.{ANY_WORD, NO_WORD}
 use Rattle.paw_base.specs.declared.parts.Condact.{Condact}
 use Rattle.paw_base.specs.declared.parts.ObjectFacts.{ObjectFacts}
 use Rattle.paw_base.specs.declared.parts.Counts.{Counts}
@@ -80,9 +81,9 @@ head_at g t e = head_of (entry_at g t e)
 abbrev pub condact_at : GameLists → ℕ → ℕ → ℕ → Option Condact
 condact_at g t e k = slice_get (condacts_of (entry_at g t e)) k
 
--- an entry's word matches: 1 and 255 match any
+-- an entry's word matches: `*` and `_` match any
 abbrev pub is_for : ℕ → ℕ → Bool
-is_for word flag = (word == 1) || ((word == 255) || (word == flag))
+is_for word flag = (word == ANY_WORD) || ((word == NO_WORD) || (word == flag))
 
 -- an entry matches these values of the verb and the noun
 abbrev pub matches : ℕ → ℕ → Entry → Bool

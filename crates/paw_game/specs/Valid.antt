@@ -3,6 +3,14 @@ use Rattle.std.specs.Prelude.{ℕ, ◌==◌, ◌&&◌, ◌||◌, Bool, true, fal
 use Rattle.std.specs.List.{list_all, list_any}
 use Rattle.std.specs.Ordering.{is_lt, nat_cmp}
 use Rattle.std.specs.Cmp.Lexicographic.{slice_cmp}
+use Rattle.paw_base.specs.declared.places.TheConstants.{NOT_CREATED_PLACE, CARRIED_PLACE, HERE_PLACE}
+use Rattle.paw_base.specs.declared.words.TheConstants.{VERB_CLASS, ADVERB_CLASS, NOUN_CLASS, ADJECTIVE_CLASS}
+use Rattle.paw_base.specs.declared.words.TheConstants.{PREPOSITION_CLASS, PRONOUN_CLASS, ANY_WORD, NO_WORD, LEAST_WORD}
+use Rattle.paw_base.specs.declared.words.TheConstants.{GREATEST_WORD, FIRST_PLAIN_NOUN}
+use Rattle.paw_base.specs.declared.limits.TheConstants.{WORD_LENGTH, WORD_LIMIT, SYSTEM_LIMIT, MESSAGE_LIMIT}
+use Rattle.paw_base.specs.declared.limits.TheConstants.{OBJECT_LIMIT, LOCATION_LEAST, LOCATION_LIMIT, TABLE_LEAST}
+use Rattle.paw_base.specs.declared.limits.TheConstants.{TABLE_LIMIT, TEXT_LIMIT, EXIT_LIMIT, ENTRY_LIMIT, CONDACT_LIMIT}
+use Rattle.paw_base.specs.declared.limits.TheConstants.{WEIGHT_LIMIT, FLAG_COUNT}
 use Rattle.paw_base.specs.declared.parts.Condact.{Condact}
 use Rattle.paw_base.specs.declared.parts.ObjectFacts.{ObjectFacts}
 use Rattle.paw_base.specs.declared.rows.ParamKind.{ParamKind}
@@ -32,11 +40,11 @@ is_filled (c ∷ cs) = if is_letter c then is_filled cs else list_all (λ d. d =
 -- five places, the first a letter, filled up with spaces
 abbrev pub are_letters : List ℕ → Bool
 are_letters [] = false
-are_letters (c ∷ cs) = (length (c ∷ cs) == 5) && (is_letter c && is_filled cs)
+are_letters (c ∷ cs) = (length (c ∷ cs) == WORD_LENGTH) && (is_letter c && is_filled cs)
 
--- a word by itself: its letters, a value from 2 to 254, a class from 0 to 6
+-- a word by itself: its letters, a value, and a class, of which that of pronouns is the last
 abbrev pub is_word : Word → Bool
-is_word w = are_letters w.letters && (is_within 2 254 w.value && nat_le w.class 6)
+is_word w = are_letters w.letters && (is_within LEAST_WORD GREATEST_WORD w.value && nat_le w.class PRONOUN_CLASS)
 
 -- the words rise by their letters, byte by byte; so no two have the same letters
 abbrev pub words_rise : List Word → Bool
@@ -45,15 +53,15 @@ words_rise (w ∷ []) = true
 words_rise (w ∷ v ∷ ws) = is_lt (slice_cmp nat_cmp w.letters v.letters) && words_rise (v ∷ ws)
 
 abbrev pub words_kept : List Word → Bool
-words_kept ws = nat_le (length ws) 2000 && (list_all is_word ws && words_rise ws)
+words_kept ws = nat_le (length ws) WORD_LIMIT && (list_all is_word ws && words_rise ws)
 
 -- a word of this class has this value
 abbrev pub has_word : List Word → ℕ → ℕ → Bool
 has_word ws class value = list_any (λ w. (w.class == class) && (w.value == value)) ws
 
--- the value of a verb, or of a noun below 20
+-- the value of a verb, or of a noun that serves as one
 abbrev pub is_verb_value : List Word → ℕ → Bool
-is_verb_value ws value = has_word ws 0 value || (nat_lt value 20 && has_word ws 2 value)
+is_verb_value ws value = has_word ws VERB_CLASS value || (nat_lt value FIRST_PLAIN_NOUN && has_word ws NOUN_CLASS value)
 
 -- ---- texts ----
 
@@ -70,37 +78,38 @@ abbrev pub is_printed : Bool → List ℕ → Bool
 is_printed first [] = true
 is_printed first (b ∷ bs) = (is_text_byte b && not (first && begins_no_line b)) && is_printed (b == 10) bs
 
--- a text has at most 4,095 bytes
+-- a text isn't too long, and each of its bytes may stand in it
 abbrev pub is_text : List ℕ → Bool
-is_text bytes = nat_le (length bytes) 4095 && is_printed true bytes
+is_text bytes = nat_le (length bytes) TEXT_LIMIT && is_printed true bytes
 
 abbrev pub texts_kept : ℕ → List (List ℕ) → Bool
 texts_kept most texts = nat_le (length texts) most && list_all is_text texts
 
 -- ---- places, objects, exits ----
 
--- where an object may stand: a location, or not created (252), worn (253), carried (254)
+-- where an object may stand: a location, or not created, worn or carried
 abbrev pub is_place : ℕ → ℕ → Bool
-is_place locations p = nat_lt p locations || is_within 252 254 p
+is_place locations p = nat_lt p locations || is_within NOT_CREATED_PLACE CARRIED_PLACE p
 
--- 255, or the value of a word of this class
+-- no word, or the value of a word of this class
 abbrev pub is_word_or_none : List Word → ℕ → ℕ → Bool
-is_word_or_none ws class value = (value == 255) || has_word ws class value
+is_word_or_none ws class value = (value == NO_WORD) || has_word ws class value
 
 -- what a game says of an object beside its text
 abbrev pub are_facts : List Word → ℕ → ObjectFacts → Bool
 are_facts ws locations f =
-    is_word_or_none ws 2 f.noun && (is_word_or_none ws 3 f.adjective && (is_place locations f.start && nat_le f.weight 63))
+    is_word_or_none ws NOUN_CLASS f.noun && (is_word_or_none ws ADJECTIVE_CLASS f.adjective
+    && (is_place locations f.start && nat_le f.weight WEIGHT_LIMIT))
 
 abbrev pub is_object : List Word → ℕ → ObjectRow → Bool
 is_object ws locations o = is_text o.text && are_facts ws locations o.facts
 
 abbrev pub objects_kept : List Word → ℕ → List ObjectRow → Bool
-objects_kept ws locations os = nat_le (length os) 255 && list_all (is_object ws locations) os
+objects_kept ws locations os = nat_le (length os) OBJECT_LIMIT && list_all (is_object ws locations) os
 
--- 1 to 252 locations
+-- the rules of locations: there is one, and there are not too many
 abbrev pub locations_kept : List (List ℕ) → Bool
-locations_kept ls = nat_le 1 (length ls) && texts_kept 252 ls
+locations_kept ls = nat_le LOCATION_LEAST (length ls) && texts_kept LOCATION_LIMIT ls
 
 -- each exit has a verb value that no exit after it has, and leads to a location
 abbrev pub are_exits : List Word → ℕ → List Exit → Bool
@@ -109,9 +118,9 @@ are_exits ws locations (x ∷ xs) =
     (is_verb_value ws x.verb && (nat_lt x.to locations && not (list_any (λ y. y.verb == x.verb) xs)))
     && are_exits ws locations xs
 
--- the exits of one location: at most 255, which distinct verb values give anyhow
+-- the exits of one location: not too many, which distinct verb values give anyhow
 abbrev pub is_exits : List Word → ℕ → List Exit → Bool
-is_exits ws locations xs = nat_le (length xs) 255 && are_exits ws locations xs
+is_exits ws locations xs = nat_le (length xs) EXIT_LIMIT && are_exits ws locations xs
 
 -- one list for each location
 abbrev pub exits_kept : List Word → ℕ → List (List Exit) → Bool
@@ -123,17 +132,17 @@ exits_kept ws locations es = (length es == locations) && list_all (is_exits ws l
 abbrev pub is_parameter : GameLists → ParamKind → ℕ → Bool
 is_parameter g kind.Absent x = x == 0
 is_parameter g kind.Location x = nat_lt x (length g.locations)
-is_parameter g kind.Place x = nat_lt x (length g.locations) || is_within 252 255 x
+is_parameter g kind.Place x = nat_lt x (length g.locations) || is_within NOT_CREATED_PLACE HERE_PLACE x
 is_parameter g kind.Object x = nat_lt x (length g.objects)
-is_parameter g kind.Flag x = nat_lt x 256
+is_parameter g kind.Flag x = nat_lt x FLAG_COUNT
 is_parameter g kind.Number x = nat_lt x 256
 is_parameter g kind.Message x = nat_lt x (length g.messages)
 is_parameter g kind.System x = nat_lt x (length g.system)
 is_parameter g kind.Table x = nat_lt x (length g.tables)
-is_parameter g kind.Adverb x = is_word_or_none g.words 1 x
-is_parameter g kind.Noun x = is_word_or_none g.words 2 x
-is_parameter g kind.Adjective x = is_word_or_none g.words 3 x
-is_parameter g kind.Preposition x = is_word_or_none g.words 4 x
+is_parameter g kind.Adverb x = is_word_or_none g.words ADVERB_CLASS x
+is_parameter g kind.Noun x = is_word_or_none g.words NOUN_CLASS x
+is_parameter g kind.Adjective x = is_word_or_none g.words ADJECTIVE_CLASS x
+is_parameter g kind.Preposition x = is_word_or_none g.words PREPOSITION_CLASS x
 
 -- a condact: a code from 0 to 107, and the parameters that it has; one that it doesn't have is 0
 abbrev pub is_condact : GameLists → Condact → Bool
@@ -151,29 +160,29 @@ is_argument g k x = is_parameter g k x
 abbrev pub is_right : GameLists → Condact → Bool
 is_right g c = nat_le c.code 107 && (is_argument g (first_kind c.code) c.a && is_argument g (second_kind c.code) c.b)
 
--- a word of an entry: 1 and 255 match any
+-- a word of an entry that matches any word
 abbrev pub is_any : ℕ → Bool
-is_any value = (value == 1) || (value == 255)
+is_any value = (value == ANY_WORD) || (value == NO_WORD)
 
 abbrev pub is_entry : GameLists → Entry → Bool
 is_entry g e =
-    (is_any e.verb || is_verb_value g.words e.verb) && ((is_any e.noun || has_word g.words 2 e.noun)
-    && (nat_le (length e.condacts) 255 && list_all (is_condact g) e.condacts))
+    (is_any e.verb || is_verb_value g.words e.verb) && ((is_any e.noun || has_word g.words NOUN_CLASS e.noun)
+    && (nat_le (length e.condacts) CONDACT_LIMIT && list_all (is_condact g) e.condacts))
 
 abbrev pub is_table : GameLists → List Entry → Bool
-is_table g es = nat_le (length es) 4000 && list_all (is_entry g) es
+is_table g es = nat_le (length es) ENTRY_LIMIT && list_all (is_entry g) es
 
--- 3 to 256 tables
+-- the rules of tables: there are enough and not too many, and each keeps its rule
 abbrev pub tables_kept : GameLists → Bool
-tables_kept g = is_within 3 256 (length g.tables) && list_all (is_table g) g.tables
+tables_kept g = is_within TABLE_LEAST TABLE_LIMIT (length g.tables) && list_all (is_table g) g.tables
 
 -- ---- the whole game ----
 
 -- a valid game: each of its lists keeps its rules
 pub record Valid (g : GameLists) : Type 0 where
   pub words : IsTrue (words_kept g.words)
-  pub system : IsTrue (texts_kept 256 g.system)
-  pub messages : IsTrue (texts_kept 256 g.messages)
+  pub system : IsTrue (texts_kept SYSTEM_LIMIT g.system)
+  pub messages : IsTrue (texts_kept MESSAGE_LIMIT g.messages)
   pub objects : IsTrue (objects_kept g.words (length g.locations) g.objects)
   pub locations : IsTrue (locations_kept g.locations)
   pub exits : IsTrue (exits_kept g.words (length g.locations) g.exits)

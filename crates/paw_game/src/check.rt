@@ -5,10 +5,10 @@ ghost use Rattle.std.specs.Result.{result_err};
 ghost use Rattle.paw_game.specs.Fault.{fault_in, game_fault};
 
 use crate::inspector::Inspector;
-use crate::limits::{LOCATION_LEAST, LOCATION_LIMIT, MESSAGE_LIMIT, SYSTEM_LIMIT};
 use crate::parts::{GameFault, GamePart, GameParts};
 use crate::texts::texts_fault;
 use crate::words::words_fault;
+use paw_base::limits::{LOCATION_LEAST, LOCATION_LIMIT, MESSAGE_LIMIT, SYSTEM_LIMIT};
 
 /// An error exactly where the lists break a rule: the first part that does, and its row.
 #[tactic(auto, unfolding(crate::specs::Fault::game_fault))]

@@ -6,13 +6,13 @@ ghost use Rattle.paw_game.specs.Fault.{exits_fault, first_bad, objects_fault, ta
 ghost use Rattle.paw_game.specs.Valid.{are_exits, are_facts, is_condact, is_entry, is_exits, is_object, is_parameter, is_place, is_table, is_verb_value};
 ghost use Rattle.paw_game.specs.Values.{Tells};
 
-use crate::limits::{
-    CONDACT_LIMIT, ENTRY_LIMIT, EXIT_LIMIT, OBJECT_LIMIT, TABLE_LEAST, TABLE_LIMIT, WEIGHT_LIMIT,
-};
 use crate::parts::{Entry, Exit, Exits, GameParts, ObjectRow, Table};
 use crate::rows::row_fault;
 use crate::texts::is_text;
 use crate::values::{is_any, is_in_or_none, values_of};
+use paw_base::limits::{
+    CONDACT_LIMIT, ENTRY_LIMIT, EXIT_LIMIT, OBJECT_LIMIT, TABLE_LEAST, TABLE_LIMIT, WEIGHT_LIMIT,
+};
 use paw_base::parts::{Condact, ObjectFacts};
 use paw_base::rows::{ParamKind, condact_row};
 use std::marker::Model;

@@ -4,7 +4,6 @@
 mod check;
 pub mod game;
 mod inspector;
-pub mod limits;
 pub mod lookup;
 pub mod parts;
 mod rows;

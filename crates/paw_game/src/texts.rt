@@ -4,9 +4,9 @@ ghost use Rattle.std.specs.Prelude.{◌≡◌, ◌<◌, ◌^◌, IfSome, length,
 ghost use Rattle.paw_game.specs.Fault.{first_bad, texts_fault};
 ghost use Rattle.paw_game.specs.Valid.{begins_no_line, is_printed, is_text, is_text_byte};
 
-use crate::limits::TEXT_LIMIT;
 use crate::parts::Text;
 use crate::rows::row_fault;
+use paw_base::limits::TEXT_LIMIT;
 
 /// The row to name of these texts, where one breaks a rule or there are too few or too many.
 #[tactic(auto, unfolding(crate::specs::Fault::texts_fault))]

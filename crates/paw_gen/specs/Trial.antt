@@ -1,6 +1,10 @@
 -- The games of trials, and their lines: each is made from a number.
 use Rattle.std.specs.Prelude.{ℕ, ◌+◌, ◌-◌, ◌*◌, ◌/◌, ◌%◌, ◌==◌, false, List, [], ◌∷◌, ◌++◌, map, codes, decimal, if◌then◌else◌}
 use Rattle.std.specs.List.{range_with_len}
+use Rattle.paw_base.specs.declared.codes.TheConstants.{INVEN, DESC, DONE, AUTOG, AUTOD, GET, DROP, LISTOBJ, DOALL}
+use Rattle.paw_base.specs.declared.places.TheConstants.{CARRIED_PLACE, HERE_PLACE}
+use Rattle.paw_base.specs.declared.words.TheConstants.{VERB_CLASS, NOUN_CLASS, CONJUNCTION_CLASS, NO_WORD}
+use Rattle.paw_base.specs.declared.words.TheConstants.{FIRST_NAMED_NOUN}
 use Rattle.paw_base.specs.declared.parts.Condact.{Condact}
 use Rattle.paw_base.specs.declared.parts.ObjectFacts.{ObjectFacts}
 use Rattle.paw_game.specs.declared.parts.Word.{Word}
@@ -47,11 +51,13 @@ object_text k = numbered (codes "thing ") [] k
 abbrev pub word : List ℕ → ℕ → ℕ → Word
 word letters value class = record { letters = letters; value = value; class = class }
 
--- verbs are of class 0, nouns of class 2, conjunctions of class 5
+-- the words that all these games have
 abbrev pub named_words : List Word
 named_words =
-    word (codes "ALL  ") 20 2 ∷ word (codes "AND  ") 2 5 ∷ word (codes "DROP ") 31 0 ∷ word (codes "GET  ") 30 0
-    ∷ word (codes "INVEN") 33 0 ∷ word (codes "LOOK ") 32 0 ∷ word (codes "NORTH") 2 2 ∷ word (codes "SOUTH") 3 2 ∷ []
+    word (codes "ALL  ") 20 NOUN_CLASS ∷ word (codes "AND  ") 2 CONJUNCTION_CLASS
+    ∷ word (codes "DROP ") 31 VERB_CLASS ∷ word (codes "GET  ") 30 VERB_CLASS
+    ∷ word (codes "INVEN") 33 VERB_CLASS ∷ word (codes "LOOK ") 32 VERB_CLASS
+    ∷ word (codes "NORTH") 2 NOUN_CLASS ∷ word (codes "SOUTH") 3 NOUN_CLASS ∷ []
 
 -- T and the number in three digits, as `T007 `
 abbrev pub object_letters : ℕ → List ℕ
@@ -59,15 +65,15 @@ object_letters k = 84 ∷ (48 + k / 100) ∷ (48 + k / 10 % 10) ∷ (48 + k % 10
 
 -- the noun of an object
 abbrev pub object_word : ℕ → Word
-object_word k = word (object_letters k) (50 + k) 2
+object_word k = word (object_letters k) (FIRST_NAMED_NOUN + k) NOUN_CLASS
 
 -- ---- objects and exits ----
 
 -- the facts of object k, in a game of so many locations
 abbrev pub object_facts : ℕ → ℕ → ObjectFacts
 object_facts locations k = record {
-  noun = 50 + k;
-  adjective = 255;
+  noun = FIRST_NAMED_NOUN + k;
+  adjective = NO_WORD;
   start = 7 * k % locations;
   weight = k % 4;
   container = false;
@@ -93,17 +99,17 @@ entry verb noun condacts = record { verb = verb; noun = noun; condacts = condact
 -- the answers to lines: `GET ALL` and `DROP ALL` go over the objects here and over those that are carried
 abbrev pub answers : List Entry
 answers =
-    entry 30 20 (condact 86 255 ∷ []) ∷  -- GET ALL: DOALL HERE
-    entry 30 255 (condact 43 0 ∷ condact 32 0 ∷ []) ∷  -- GET _: AUTOG, DONE
-    entry 31 20 (condact 86 254 ∷ []) ∷  -- DROP ALL: DOALL CARRIED
-    entry 31 255 (condact 44 0 ∷ condact 32 0 ∷ []) ∷  -- DROP _: AUTOD, DONE
-    entry 32 255 (condact 30 0 ∷ []) ∷  -- LOOK _: DESC
-    entry 33 255 (condact 29 0 ∷ condact 32 0 ∷ []) ∷  -- INVEN _: INVEN, DONE
+    entry 30 20 (condact DOALL HERE_PLACE ∷ []) ∷  -- GET ALL
+    entry 30 NO_WORD (condact AUTOG 0 ∷ condact DONE 0 ∷ []) ∷  -- GET _
+    entry 31 20 (condact DOALL CARRIED_PLACE ∷ []) ∷  -- DROP ALL
+    entry 31 NO_WORD (condact AUTOD 0 ∷ condact DONE 0 ∷ []) ∷  -- DROP _
+    entry 32 NO_WORD (condact DESC 0 ∷ []) ∷  -- LOOK _
+    entry 33 NO_WORD (condact INVEN 0 ∷ condact DONE 0 ∷ []) ∷  -- INVEN _
     []
 
 -- behind a location's text the objects there are listed
 abbrev pub listing : List Entry
-listing = entry 255 255 (condact 78 0 ∷ []) ∷ []  -- _ _: LISTOBJ
+listing = entry NO_WORD NO_WORD (condact LISTOBJ 0 ∷ []) ∷ []
 
 -- ---- the game and its lines ----
 

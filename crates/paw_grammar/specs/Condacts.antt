@@ -1,6 +1,10 @@
 -- The condacts of a line.
 use Rattle.std.specs.Prelude.{ℕ, ◌≤◌, zero, suc, ◌+◌, ◌||◌, List, [], ◌∷◌, ◌++◌, length, min, nat_lt, if◌then◌else◌, Option, Some, None, Result, Ok, Err, codes}
 use Rattle.std.specs.Option.{option_map}
+use Rattle.paw_base.specs.declared.codes.TheConstants.{WORN, CARRIED}
+use Rattle.paw_base.specs.declared.places.TheConstants.{NOT_CREATED_PLACE, CARRIED_PLACE, HERE_PLACE}
+use Rattle.paw_base.specs.declared.words.TheConstants.{ADVERB_CLASS, NOUN_CLASS, ADJECTIVE_CLASS, PREPOSITION_CLASS}
+use Rattle.paw_base.specs.declared.limits.TheConstants.{CONDACT_LIMIT, FLAG_COUNT}
 use Rattle.paw_base.specs.declared.parts.Condact.{Condact}
 use Rattle.paw_base.specs.declared.fault.SourceKind.{SourceKind}
 use Rattle.paw_base.specs.declared.fault.SourceKind.TheVariants as fault
@@ -16,32 +20,32 @@ use Rattle.paw_grammar.specs.Vocabulary.{place_among, word_or_none}
 
 -- ---- places ----
 
--- the places 252 to 254, where an object may be at first beside the locations
+-- the places where an object may be at first beside the locations, by their numbers from the first on
 abbrev pub place_names : List (List ℕ)
 place_names = codes "NOTCREATED" ∷ codes "WORN" ∷ codes "CARRIED" ∷ []
 
--- a number, or else a place by its name: the names count from 252
+-- a number, or else a place by its name: the names count from the first place that is no location
 abbrev pub or_named : Option ℕ → Option ℕ → Option ℕ
-or_named None name = option_map (λ i. 252 + i) name
+or_named None name = option_map (λ i. NOT_CREATED_PLACE + i) name
 or_named (Some n) name = Some n
 
--- a place, by its number or by its name: a location, or one from 252 to the last
+-- a place, by its number or by its name: a location, or one of the others up to the last that may stand here
 abbrev pub place_up_to : ℕ → (List ℕ → Option ℕ) → ℕ → List (List ℕ) → Result (ℕ × List (List ℕ)) SourceKind
 place_up_to last named locations ts =
     read_by fault.Number (λ t. or_named (number t) (named t)) ts
-    >>= in_range (λ n. nat_lt n locations || is_within 252 last n)
+    >>= in_range (λ n. nat_lt n locations || is_within NOT_CREATED_PLACE last n)
 
 -- the first place of an object
 abbrev pub first_place : ℕ → List (List ℕ) → Result (ℕ × List (List ℕ)) SourceKind
-first_place locations ts = place_up_to 254 (place_among place_names) locations ts
+first_place locations ts = place_up_to CARRIED_PLACE (place_among place_names) locations ts
 
--- the places 252 to 255, which a parameter may be
+-- the places beside the locations that a parameter may be
 abbrev pub parameter_names : List (List ℕ)
 parameter_names = place_names ++ codes "HERE" ∷ []
 
 -- a place that is a parameter
 abbrev pub place : ℕ → List (List ℕ) → Result (ℕ × List (List ℕ)) SourceKind
-place locations ts = place_up_to 255 (place_among parameter_names) locations ts
+place locations ts = place_up_to HERE_PLACE (place_among parameter_names) locations ts
 
 -- ---- parameters ----
 
@@ -63,15 +67,15 @@ parameter bounds ws kind.Absent ts = Ok (0, ts)
 parameter bounds ws kind.Location ts = number_below bounds.locations ts
 parameter bounds ws kind.Place ts = place bounds.locations ts
 parameter bounds ws kind.Object ts = number_below bounds.objects ts
-parameter bounds ws kind.Flag ts = number_below 256 ts
+parameter bounds ws kind.Flag ts = number_below FLAG_COUNT ts
 parameter bounds ws kind.Number ts = number_below 256 ts
 parameter bounds ws kind.Message ts = number_below bounds.messages ts
 parameter bounds ws kind.System ts = number_below bounds.system ts
 parameter bounds ws kind.Table ts = table bounds.tables ts
-parameter bounds ws kind.Adverb ts = word_or_none ws 1 ts
-parameter bounds ws kind.Noun ts = word_or_none ws 2 ts
-parameter bounds ws kind.Adjective ts = word_or_none ws 3 ts
-parameter bounds ws kind.Preposition ts = word_or_none ws 4 ts
+parameter bounds ws kind.Adverb ts = word_or_none ws ADVERB_CLASS ts
+parameter bounds ws kind.Noun ts = word_or_none ws NOUN_CLASS ts
+parameter bounds ws kind.Adjective ts = word_or_none ws ADJECTIVE_CLASS ts
+parameter bounds ws kind.Preposition ts = word_or_none ws PREPOSITION_CLASS ts
 
 -- ---- condacts ----
 
@@ -98,7 +102,7 @@ joined before cs = cs >>= λ more. Ok (before ++ more)
 
 -- an entry has at most 255 condacts
 abbrev pub at_most_255 : List Condact → Result (List Condact) SourceKind
-at_most_255 cs = if nat_lt 255 (length cs) then Err fault.TooBig else Ok cs
+at_most_255 cs = if nat_lt CONDACT_LIMIT (length cs) then Err fault.TooBig else Ok cs
 
 -- an entry's condacts after a line of it
 unfoldable pub more_condacts : Bounds → List Word → List Condact → List (List ℕ) → Result (List Condact) SourceKind

@@ -1,6 +1,8 @@
 -- The rows of the sections that have rows.
 use Rattle.std.specs.Prelude.{ℕ, ◌==◌, Bool, List, [], ◌∷◌, ◌++◌, length, nat_lt, if◌then◌else◌, Result, Ok, Err}
 use Rattle.std.specs.List.{list_any}
+use Rattle.paw_base.specs.declared.words.TheConstants.{NOUN_CLASS, ADJECTIVE_CLASS, LEAST_WORD, GREATEST_WORD}
+use Rattle.paw_base.specs.declared.limits.TheConstants.{ENTRY_LIMIT, WEIGHT_LIMIT}
 use Rattle.paw_base.specs.declared.fault.SourceKind.{SourceKind}
 use Rattle.paw_base.specs.declared.fault.SourceKind.TheVariants as fault
 use Rattle.paw_game.specs.declared.parts.Word.{Word}
@@ -22,7 +24,7 @@ use Rattle.paw_grammar.specs.GrammarState.{Spelt, last_or, with_last}
 unfoldable pub voc_row : List Word → List (List ℕ) → Result (List Word) SourceKind
 voc_row ws ts = do
   w ← word ts
-  v ← number_within 2 254 w.1
+  v ← number_within LEAST_WORD GREATEST_WORD w.1
   c ← class v.1
   end ← ended c.1
   declared (record { letters = w.0; value = v.0; class = c.0 }) ws
@@ -54,10 +56,10 @@ unfoldable pub object_row : List Word → ℕ → ℕ → ℕ → List (List ℕ
 object_row ws locations next count ts = do
   n ← row_number next count ts
   place ← first_place locations n.1
-  weight ← number_within 0 63 place.1
+  weight ← number_within 0 WEIGHT_LIMIT place.1
   k ← object_kind weight.1
-  noun ← word_or_none ws 2 k.1
-  adjective ← word_or_none ws 3 noun.1
+  noun ← word_or_none ws NOUN_CLASS k.1
+  adjective ← word_or_none ws ADJECTIVE_CLASS noun.1
   end ← ended adjective.1
   Ok (record { noun = noun.0; adjective = adjective.0; start = place.0; weight = weight.0; container = k.0.0; wearable = k.0.1 })
 
@@ -84,7 +86,7 @@ entry_row bounds ws es ts = do
   v ← entry_verb ws ts
   n ← entry_noun ws v.1
   cs ← more_condacts bounds ws [] n.1
-  if nat_lt (length es) 4000 then Ok (es ++ (record { verb = v.0; noun = n.0; condacts = cs }) ∷ [])
+  if nat_lt (length es) ENTRY_LIMIT then Ok (es ++ (record { verb = v.0; noun = n.0; condacts = cs }) ∷ [])
       else Err fault.TooBig
 
 abbrev pub no_entry : Entry

@@ -1,5 +1,7 @@
 -- The four sections of texts: items and text lines.
 use Rattle.std.specs.Prelude.{ℕ, ◌==◌, ◌&&◌, Bool, true, false, not, List, [], ◌∷◌, ◌++◌, length, nat_lt, if◌then◌else◌, Result, Ok, Err}
+use Rattle.paw_base.specs.declared.limits.TheConstants.{SYSTEM_LIMIT, MESSAGE_LIMIT, OBJECT_LIMIT, LOCATION_LIMIT}
+use Rattle.paw_base.specs.declared.limits.TheConstants.{TEXT_LIMIT}
 use Rattle.paw_base.specs.declared.fault.SourceKind.{SourceKind}
 use Rattle.paw_base.specs.declared.fault.SourceKind.TheVariants as kind
 use Rattle.paw_grammar.specs.declared.section.Section.{Section}
@@ -44,10 +46,10 @@ with_texts section.Pro begun ts d = d
 
 -- the most items of a section
 abbrev pub text_limit : Section → ℕ
-text_limit section.Stx = 256
-text_limit section.Mtx = 256
-text_limit section.Otx = 255
-text_limit section.Ltx = 252
+text_limit section.Stx = SYSTEM_LIMIT
+text_limit section.Mtx = MESSAGE_LIMIT
+text_limit section.Otx = OBJECT_LIMIT
+text_limit section.Ltx = LOCATION_LIMIT
 text_limit _ = 0
 
 -- the texts with an empty one more: its number is how many there were before, and there may be no more than the limit
@@ -66,10 +68,10 @@ is_in_text d = is_text_section d.section && not (length (texts_of d.section d) =
 abbrev pub joined : Bool → List ℕ → List ℕ → List ℕ
 joined begun text line = text ++ (if begun then 10 ∷ line else line)
 
--- at most 4,095 bytes
+-- the same where it isn't too long
 abbrev pub joined_within : Bool → List ℕ → List ℕ → Result (List ℕ) SourceKind
 joined_within begun line text =
-    if nat_lt 4095 (length (joined begun text line)) then Err kind.TooBig else Ok (joined begun text line)
+    if nat_lt TEXT_LIMIT (length (joined begun text line)) then Err kind.TooBig else Ok (joined begun text line)
 
 -- the texts with one line more at the end of the last
 abbrev pub text_line : Bool → List ℕ → List (List ℕ) → Result (List (List ℕ)) SourceKind

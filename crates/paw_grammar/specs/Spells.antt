@@ -1,6 +1,7 @@
 -- Which game a source spells, and which fault it has.
 use Rattle.std.specs.Prelude.{◌≡◌, ℕ, suc, ◌==◌, ◌&&◌, Bool, true, false, not, List, [], ◌∷◌, length, drop, nat_lt, if◌then◌else◌, Result, Ok, Err, codes}
 use Rattle.std.specs.List.{count_by}
+use Rattle.paw_base.specs.declared.limits.TheConstants.{SOURCE_LIMIT, IMAGE_LIMIT, TABLE_LEAST}
 use Rattle.paw_base.specs.declared.fault.SourceKind.{SourceKind}
 use Rattle.paw_base.specs.declared.fault.SourceKind.TheVariants as kind
 use Rattle.paw_base.specs.declared.fault.SourceFault.{SourceFault}
@@ -66,11 +67,11 @@ abbrev pub at_line : ℕ → Result Spelt SourceKind → (Spelt → Result GameL
 at_line n (Err k) go = Err (fault n k)
 at_line n (Ok d) go = go d
 
--- what n lines spell, where no line has a fault: three tables at least, and an image of at most 4,194,304 bytes
+-- what n lines spell, where no line has a fault: enough tables, and an image that isn't too long
 abbrev pub whole : ℕ → Spelt → Result GameLists SourceFault
 whole n d =
-    if nat_lt (length d.tables) 3 then Err (fault (suc n) kind.Missing)
-    else if nat_lt 4194304 (length (image (game_of d))) then Err (fault (suc n) kind.TooBig)
+    if nat_lt (length d.tables) TABLE_LEAST then Err (fault (suc n) kind.Missing)
+    else if nat_lt IMAGE_LIMIT (length (image (game_of d))) then Err (fault (suc n) kind.TooBig)
     else Ok (game_of d)
 
 -- what is spelled by what n lines spell and the lines after them
@@ -82,7 +83,7 @@ reading p n d (l ∷ ls) = at_line (suc n) (step p d l) (λ e. reading p (suc n)
 -- begin one.
 unfoldable pub spelled : List ℕ → Result GameLists SourceFault
 spelled source =
-    if nat_lt 8388608 (length source) then Err (fault 0 kind.TooBig)
+    if nat_lt SOURCE_LIMIT (length source) then Err (fault 0 kind.TooBig)
     else reading (count_by begins_table (lines_of source)) 0 nothing_yet (lines_of source)
 
 abbrev pub Spells : List ℕ → GameLists → Type 0

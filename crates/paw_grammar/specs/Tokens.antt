@@ -4,8 +4,8 @@ use Rattle.std.specs.Str.{str_eq_ignore_ascii_case}
 use Rattle.paw_base.specs.declared.fault.SourceKind.{SourceKind}
 use Rattle.paw_base.specs.declared.fault.SourceKind.TheVariants as kind
 
--- what comes first has the first fault
 infixl 10 ◌>>=◌
+-- what comes first has the first fault
 abbrev pub ◌>>=◌ : {A B : Type 0} → Result A SourceKind → (A → Result B SourceKind) → Result B SourceKind
 (Ok x) >>= f = f x
 (Err k) >>= f = Err k

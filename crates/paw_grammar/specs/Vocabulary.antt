@@ -4,6 +4,9 @@ use Rattle.std.specs.Char.{is_ascii_alphanumeric}
 use Rattle.std.specs.List.{list_all, position}
 use Rattle.std.specs.Ordering.{is_lt, nat_cmp}
 use Rattle.std.specs.Cmp.Lexicographic.{slice_cmp}
+use Rattle.paw_base.specs.declared.codes.TheConstants.{ADVERB}
+use Rattle.paw_base.specs.declared.words.TheConstants.{VERB_CLASS, NOUN_CLASS, ANY_WORD, NO_WORD, FIRST_PLAIN_NOUN}
+use Rattle.paw_base.specs.declared.limits.TheConstants.{WORD_LENGTH, WORD_LIMIT}
 use Rattle.paw_base.specs.declared.fault.SourceKind.{SourceKind}
 use Rattle.paw_base.specs.declared.fault.SourceKind.TheVariants as kind
 use Rattle.paw_base.specs.Condacts.{capitals}
@@ -19,7 +22,7 @@ is_word_token t = nat_lt 0 (length t) && list_all is_ascii_alphanumeric t
 
 -- capitals, cut to five letters, filled up with spaces
 abbrev pub letters_of : List ℕ → List ℕ
-letters_of t = take 5 (capitals t) ++ replicate (5 - length t) 32
+letters_of t = take WORD_LENGTH (capitals t) ++ replicate (WORD_LENGTH - length t) 32
 
 -- the five letters of a token that spells a word
 abbrev pub letters_in : List ℕ → Option (List ℕ)
@@ -29,7 +32,7 @@ letters_in t = if is_word_token t then Some (letters_of t) else None
 abbrev pub word : List (List ℕ) → Result (List ℕ × List (List ℕ)) SourceKind
 word ts = read_by kind.Word letters_in ts
 
--- the names of the classes 0 to 6
+-- the names of the classes, by their numbers
 abbrev pub class_names : List (List ℕ)
 class_names =
     codes "VERB" ∷ codes "ADVERB" ∷ codes "NOUN" ∷ codes "ADJECTIVE" ∷ codes "PREPOSITION" ∷ codes "CONJUNCTION"
@@ -66,11 +69,11 @@ put w (v ∷ vs) = if is_lt (slice_cmp nat_cmp w.letters v.letters) then w ∷ v
 abbrev pub is_declared : List ℕ → List Word → Bool
 is_declared letters ws = is_some (word_of letters ws)
 
--- the words with one more: Duplicate where its letters are declared, TooBig where there are 2,000 words
+-- the words with one more: Duplicate where its letters are declared, TooBig where there are as many as may be
 abbrev pub declared : Word → List Word → Result (List Word) SourceKind
 declared w ws =
     if is_declared w.letters ws then Err kind.Duplicate
-    else if length ws == 2000 then Err kind.TooBig
+    else if length ws == WORD_LIMIT then Err kind.TooBig
     else Ok (put w ws)
 
 -- ---- looking up ----
@@ -80,22 +83,23 @@ abbrev pub in_class : ℕ → Option Word → Option ℕ
 in_class class None = None
 in_class class (Some w) = if w.class == class then Some w.value else None
 
--- a verb value: that of a verb, or of a noun below 20
+-- a verb value: that of a verb, or of a noun that serves as one
 abbrev pub as_verb : Option Word → Option ℕ
 as_verb None = None
-as_verb (Some w) = if (w.class == 0) || ((w.class == 2) && nat_lt w.value 20) then Some w.value else None
+as_verb (Some w) =
+    if (w.class == VERB_CLASS) || ((w.class == NOUN_CLASS) && nat_lt w.value FIRST_PLAIN_NOUN) then Some w.value else None
 
 -- the declared word that a token spells
 abbrev pub known : List Word → List ℕ → Option Word
 known ws t = if is_word_token t then word_of (letters_of t) ws else None
 
--- `_` is 255
+-- `_` is no word
 abbrev pub or_none : (List ℕ → Option ℕ) → List ℕ → Option ℕ
-or_none meaning t = if bytes_eq t (codes "_") then Some 255 else meaning t
+or_none meaning t = if bytes_eq t (codes "_") then Some NO_WORD else meaning t
 
--- `*` is 1, and `_` is 255
+-- `*` is any word, and `_` is no word
 abbrev pub or_any : (List ℕ → Option ℕ) → List ℕ → Option ℕ
-or_any meaning t = if bytes_eq t (codes "*") then Some 1 else or_none meaning t
+or_any meaning t = if bytes_eq t (codes "*") then Some ANY_WORD else or_none meaning t
 
 -- an object's word, or one that is a parameter
 abbrev pub word_or_none : List Word → ℕ → List (List ℕ) → Result (ℕ × List (List ℕ)) SourceKind
@@ -111,4 +115,4 @@ entry_verb ws ts = read_by kind.Word (or_any (λ t. as_verb (known ws t))) ts
 
 -- the noun of an entry
 abbrev pub entry_noun : List Word → List (List ℕ) → Result (ℕ × List (List ℕ)) SourceKind
-entry_noun ws ts = read_by kind.Word (or_any (λ t. in_class 2 (known ws t))) ts
+entry_noun ws ts = read_by kind.Word (or_any (λ t. in_class NOUN_CLASS (known ws t))) ts

@@ -14,9 +14,9 @@ use crate::tokens::Tokens;
 use crate::vocabulary::Vocabulary;
 use crate::words::{ADJECTIVE, ADVERB, NOUN, PREPOSITION};
 use paw_base::fault::SourceKind;
+use paw_base::limits::CONDACT_LIMIT;
 use paw_base::parts::Condact;
 use paw_base::rows::{ParamKind, condact_named, condact_row};
-use paw_game::limits::CONDACT_LIMIT;
 
 /// How many values flags, and numbers, have.
 const BYTES: u16 = 256;

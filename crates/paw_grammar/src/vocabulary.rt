@@ -12,7 +12,7 @@ use crate::refusal::ReadError;
 use crate::tokens::Tokens;
 use crate::words::{LETTERS, NOUN, VERB, letters_in};
 use paw_base::fault::{NoRoom, SourceKind};
-use paw_game::limits::WORD_LIMIT;
+use paw_base::limits::WORD_LIMIT;
 use paw_game::parts::Word;
 use std::alloc::Global;
 use std::collections::BTreeMap;

@@ -6,11 +6,11 @@ ghost use Rattle.paw_image.specs.Reading.{Gives};
 use crate::fault::ReadFault;
 use crate::fields::{fault_at, read_array, read_byte, read_within};
 use crate::parts::{MARK, VERSION};
-use paw_base::parts::Counts;
-use paw_game::limits::{
+use paw_base::limits::{
     LOCATION_LEAST, LOCATION_LIMIT, MESSAGE_LIMIT, OBJECT_LIMIT, SYSTEM_LIMIT, TABLE_LEAST,
     TABLE_LIMIT, WORD_LIMIT,
 };
+use paw_base::parts::Counts;
 
 /// The bytes after the mark and the version.
 #[tactic(auto, unfolding(crate::specs::Damage::after_version))]

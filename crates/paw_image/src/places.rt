@@ -13,7 +13,7 @@ use crate::fields::read_within;
 use crate::in_place::pass_rows;
 use crate::order::{Head, order_of};
 use crate::rules::Rules;
-use paw_game::limits::ENTRY_LIMIT;
+use paw_base::limits::ENTRY_LIMIT;
 use paw_game::parts::{Entry, Exits, ObjectRow, Text};
 use std::alloc::Global;
 

@@ -12,9 +12,9 @@ use crate::fields::{fault_at, read_byte, read_number, read_within, write_number}
 use crate::in_place::{InPlace, pass_each};
 use crate::rows::{Row, length_of_rows, read_rows, write_rows};
 use crate::rules::Rules;
+use paw_base::limits::ENTRY_LIMIT;
 use paw_base::parts::Condact;
 use paw_base::rows::{CondactRow, ParamKind, condact_row};
-use paw_game::limits::ENTRY_LIMIT;
 use paw_game::parts::{Condacts, Entry, Table};
 use paw_game::values::is_any;
 use std::alloc::{AllocError, Global};

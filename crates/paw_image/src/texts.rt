@@ -11,7 +11,7 @@ use crate::fields::{fault_at, read_bytes, read_number, read_within, write_number
 use crate::in_place::InPlace;
 use crate::rows::Row;
 use crate::rules::Rules;
-use paw_game::limits::TEXT_LIMIT;
+use paw_base::limits::TEXT_LIMIT;
 use paw_game::parts::Text;
 use paw_game::texts::is_printed;
 use std::alloc::{AllocError, Global};

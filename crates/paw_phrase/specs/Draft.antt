@@ -1,5 +1,6 @@
 -- A phrase as it is read, mark by mark. The contracts of private functions alone speak of this.
 use Rattle.std.specs.Prelude.{ℕ, ◌==◌, List, Option, Some, None, if◌then◌else◌}
+use Rattle.paw_base.specs.declared.words.TheConstants.{CONJUNCTION_CLASS}
 use Rattle.paw_game.specs.Game.{GameLists}
 use Rattle.paw_game.specs.Tables.{word_at}
 use Rattle.paw_phrase.specs.declared.Found.{Found}
@@ -11,7 +12,7 @@ use Rattle.paw_phrase.specs.Sentence.{blank, with_word, finished, Parsed, IsSent
 
 abbrev pub part_of_word : Option (ℕ × ℕ) → Part
 part_of_word None = part.Unknown
-part_of_word (Some word) = if word.1 == 5 then part.Break else part.Word word.0 word.1
+part_of_word (Some word) = if word.1 == CONJUNCTION_CLASS then part.Break else part.Word word.0 word.1
 
 -- what a token or a separator is in a phrase
 abbrev pub part_of : GameLists → Option (List ℕ) → Part

@@ -2,6 +2,8 @@
 use Rattle.std.specs.Prelude.{ℕ, ◌-◌, ◌==◌, Bool, true, false, List, [], ◌∷◌, ◌++◌, Option, Some, None, length, take, replicate, codes, if◌then◌else◌}
 use Rattle.std.specs.Char.{to_ascii_uppercase, is_ascii_alphanumeric}
 use Rattle.std.specs.List.{list_any}
+use Rattle.paw_base.specs.declared.words.TheConstants.{CONJUNCTION_CLASS}
+use Rattle.paw_base.specs.declared.limits.TheConstants.{WORD_LENGTH}
 use Rattle.paw_game.specs.Game.{GameLists}
 use Rattle.paw_game.specs.Tables.{word_at}
 
@@ -11,7 +13,7 @@ is_separator b = list_any (λ s. s == b) (codes ".,;:!?\"")
 
 -- a token cut to five letters, filled up with spaces
 abbrev pub five_letters : List ℕ → List ℕ
-five_letters token = take 5 token ++ replicate (5 - length token) 32
+five_letters token = take WORD_LENGTH token ++ replicate (WORD_LENGTH - length token) 32
 
 -- a token, or a separator (which has none), and the bytes behind it
 pub record Mark : Type 0 where
@@ -40,7 +42,7 @@ marks bytes = marks_from [] bytes
 -- a known word, by its value and its class, is a conjunction
 abbrev pub is_conjunction : Option (ℕ × ℕ) → Bool
 is_conjunction None = false
-is_conjunction (Some word) = word.1 == 5
+is_conjunction (Some word) = word.1 == CONJUNCTION_CLASS
 
 abbrev pub is_parting : GameLists → Option (List ℕ) → Bool
 is_parting g None = true

@@ -1,26 +1,29 @@
 -- How a phrase becomes a sentence.
 use Rattle.std.specs.Prelude.{ℕ, ◌==◌, ◌&&◌, ◌||◌, Bool, true, false, List, [], ◌∷◌, Option, Some, None, nat_lt, nat_le, if◌then◌else◌}
+use Rattle.paw_base.specs.declared.words.TheConstants.{VERB_CLASS, ADVERB_CLASS, NOUN_CLASS, ADJECTIVE_CLASS}
+use Rattle.paw_base.specs.declared.words.TheConstants.{PREPOSITION_CLASS, PRONOUN_CLASS, NO_WORD, GREATEST_WORD}
+use Rattle.paw_base.specs.declared.words.TheConstants.{FIRST_PLAIN_NOUN, FIRST_NAMED_NOUN}
 use Rattle.paw_game.specs.Game.{GameLists}
 use Rattle.paw_game.specs.Tables.{word_at}
 use Rattle.paw_phrase.specs.Phrase.{Phrase, phrase}
 use Rattle.paw_phrase.specs.declared.Sentence.{Sentence}
 
--- no word yet (255); a pronoun stands for this noun and this adjective
+-- no word yet; a pronoun stands for this noun and this adjective
 abbrev pub blank : ℕ → ℕ → Sentence
 blank noun adjective = record {
-  verb = 255;
-  noun = 255;
-  adjective = 255;
-  adverb = 255;
-  preposition = 255;
-  second_noun = 255;
-  second_adjective = 255;
+  verb = NO_WORD;
+  noun = NO_WORD;
+  adjective = NO_WORD;
+  adverb = NO_WORD;
+  preposition = NO_WORD;
+  second_noun = NO_WORD;
+  second_adjective = NO_WORD;
   pronoun_noun = noun;
   pronoun_adjective = adjective;
 }
 
 abbrev pub is_absent : ℕ → Bool
-is_absent value = value == 255
+is_absent value = value == NO_WORD
 
 -- the value where there is none yet
 abbrev pub or_value : ℕ → ℕ → ℕ
@@ -44,16 +47,16 @@ with_pronoun s =
     if is_absent s.noun then record s { noun = s.pronoun_noun; adjective = s.pronoun_adjective } else
     if is_absent s.second_noun then record s { second_noun = s.pronoun_noun; second_adjective = s.pronoun_adjective } else s
 
--- A word of this value and class is added: a verb (0), an adverb (1) or a preposition (4) where there is none yet, a
--- noun (2), an adjective (3) or a pronoun (6). A conjunction (5) is in no phrase.
+-- A word of this value and class is added: a verb, an adverb or a preposition where there is none yet, a noun, an
+-- adjective or a pronoun. A conjunction is in no phrase.
 abbrev pub with_word : ℕ → ℕ → Sentence → Sentence
 with_word value class s =
-    if class == 0 then record s { verb = or_value s.verb value } else
-    if class == 1 then record s { adverb = or_value s.adverb value } else
-    if class == 2 then with_noun value s else
-    if class == 3 then with_adjective value s else
-    if class == 4 then record s { preposition = or_value s.preposition value } else
-    if class == 6 then with_pronoun s else s
+    if class == VERB_CLASS then record s { verb = or_value s.verb value } else
+    if class == ADVERB_CLASS then record s { adverb = or_value s.adverb value } else
+    if class == NOUN_CLASS then with_noun value s else
+    if class == ADJECTIVE_CLASS then with_adjective value s else
+    if class == PREPOSITION_CLASS then record s { preposition = or_value s.preposition value } else
+    if class == PRONOUN_CLASS then with_pronoun s else s
 
 abbrev pub with_known : Option (ℕ × ℕ) → Sentence → Sentence
 with_known None s = s
@@ -73,15 +76,16 @@ abbrev pub has_known : GameLists → List (List ℕ) → Bool
 has_known g [] = false
 has_known g (token ∷ tokens) = is_known (word_at g token) || has_known g tokens
 
--- where there is no verb, a first noun below 20 stands for it, and else the verb of the sentence before
+-- where there is no verb, a first noun that serves as one stands for it, and else the verb of the sentence before
 abbrev pub with_verb : ℕ → Sentence → Sentence
 with_verb earlier s =
-    if is_absent s.verb then (if nat_lt s.noun 20 then record s { verb = s.noun } else record s { verb = earlier }) else s
+    if is_absent s.verb then (if nat_lt s.noun FIRST_PLAIN_NOUN then record s { verb = s.noun } else record s { verb = earlier }) else s
 
--- a first noun from 50 to 254 is what a pronoun stands for from now on
+-- a first noun that a pronoun may stand for is what it stands for from now on
 abbrev pub with_meaning : Sentence → Sentence
 with_meaning s =
-    if nat_le 50 s.noun && nat_le s.noun 254 then record s { pronoun_noun = s.noun; pronoun_adjective = s.adjective } else s
+    if nat_le FIRST_NAMED_NOUN s.noun && nat_le s.noun GREATEST_WORD
+    then record s { pronoun_noun = s.noun; pronoun_adjective = s.adjective } else s
 
 -- the words of a phrase become its sentence, after this verb
 abbrev pub finished : ℕ → Sentence → Sentence

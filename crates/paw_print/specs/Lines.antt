@@ -2,6 +2,8 @@
 use Rattle.std.specs.Prelude.{ℕ, ◌==◌, ◌&&◌, Bool, List, [], ◌∷◌, ◌++◌, codes, decimal, flat_map, Option, Some, None, if◌then◌else◌}
 use Rattle.std.specs.List.{before_first, find, slice_split}
 use Rattle.std.specs.Option.{option_or}
+use Rattle.paw_base.specs.declared.words.TheConstants.{VERB_CLASS, ADVERB_CLASS, NOUN_CLASS, ADJECTIVE_CLASS}
+use Rattle.paw_base.specs.declared.words.TheConstants.{PREPOSITION_CLASS, CONJUNCTION_CLASS, ANY_WORD, NO_WORD}
 use Rattle.paw_base.specs.declared.parts.Condact.{Condact}
 use Rattle.paw_base.specs.declared.parts.ObjectFacts.{ObjectFacts}
 use Rattle.paw_base.specs.declared.rows.ParamKind.{ParamKind}
@@ -36,16 +38,16 @@ first_word ws class value = find (means class value) ws
 
 -- a verb value stands for the first verb with it, and where there is none for the first noun
 abbrev pub first_verb : List Word → ℕ → Option Word
-first_verb ws value = option_or (first_word ws 0 value) (first_word ws 2 value)
+first_verb ws value = option_or (first_word ws VERB_CLASS value) (first_word ws NOUN_CLASS value)
 
--- the letters of a word; a game has a word for each of its values but 1 and 255
+-- the letters of a word; a game has a word for each of its values but those of `*` and `_`
 abbrev pub letters_or_none : Option Word → List ℕ
 letters_or_none None = []
 letters_or_none (Some w) = letters_of w
 
--- where a word stands, 1 is `*`, 255 is `_`, and any other value its word
+-- where a word stands, a value is `*`, `_` or its word
 abbrev pub word_token : ℕ → Option Word → List ℕ
-word_token value word = if value == 1 then codes "*" else (if value == 255 then codes "_" else letters_or_none word)
+word_token value word = if value == ANY_WORD then codes "*" else (if value == NO_WORD then codes "_" else letters_or_none word)
 
 -- the token of a value of this class
 abbrev pub value_token : List Word → ℕ → ℕ → List ℕ
@@ -55,15 +57,15 @@ value_token ws class value = word_token value (first_word ws class value)
 abbrev pub verb_token : List Word → ℕ → List ℕ
 verb_token ws value = word_token value (first_verb ws value)
 
--- 0 verb, 1 adverb, 2 noun, 3 adjective, 4 preposition, 5 conjunction, 6 pronoun
+-- the name of a class
 abbrev pub class_name : ℕ → List ℕ
 class_name class =
-    if class == 0 then codes "verb"
-    else (if class == 1 then codes "adverb"
-    else (if class == 2 then codes "noun"
-    else (if class == 3 then codes "adjective"
-    else (if class == 4 then codes "preposition"
-    else (if class == 5 then codes "conjunction"
+    if class == VERB_CLASS then codes "verb"
+    else (if class == ADVERB_CLASS then codes "adverb"
+    else (if class == NOUN_CLASS then codes "noun"
+    else (if class == ADJECTIVE_CLASS then codes "adjective"
+    else (if class == PREPOSITION_CLASS then codes "preposition"
+    else (if class == CONJUNCTION_CLASS then codes "conjunction"
     else codes "pronoun")))))
 
 -- letters, value, class
@@ -102,7 +104,7 @@ kind_token container wearable =
 abbrev pub object_tokens : List Word → ℕ → ObjectFacts → List (List ℕ)
 object_tokens ws n f =
     decimal n ∷ decimal f.start ∷ decimal f.weight ∷ kind_token f.container f.wearable
-    ∷ value_token ws 2 f.noun ∷ value_token ws 3 f.adjective ∷ []
+    ∷ value_token ws NOUN_CLASS f.noun ∷ value_token ws ADJECTIVE_CLASS f.adjective ∷ []
 
 -- ---- tables ----
 
@@ -117,10 +119,10 @@ parameter_tokens ws kind.Number x = decimal x ∷ []
 parameter_tokens ws kind.Message x = decimal x ∷ []
 parameter_tokens ws kind.System x = decimal x ∷ []
 parameter_tokens ws kind.Table x = decimal x ∷ []
-parameter_tokens ws kind.Adverb x = value_token ws 1 x ∷ []
-parameter_tokens ws kind.Noun x = value_token ws 2 x ∷ []
-parameter_tokens ws kind.Adjective x = value_token ws 3 x ∷ []
-parameter_tokens ws kind.Preposition x = value_token ws 4 x ∷ []
+parameter_tokens ws kind.Adverb x = value_token ws ADVERB_CLASS x ∷ []
+parameter_tokens ws kind.Noun x = value_token ws NOUN_CLASS x ∷ []
+parameter_tokens ws kind.Adjective x = value_token ws ADJECTIVE_CLASS x ∷ []
+parameter_tokens ws kind.Preposition x = value_token ws PREPOSITION_CLASS x ∷ []
 
 -- name, parameters
 abbrev pub condact_tokens : List Word → Condact → List (List ℕ)
@@ -133,7 +135,7 @@ condact_line ws c = behind_spaces (condact_tokens ws c)
 
 -- verb, noun
 abbrev pub entry_tokens : List Word → Entry → List (List ℕ)
-entry_tokens ws e = verb_token ws e.verb ∷ value_token ws 2 e.noun ∷ []
+entry_tokens ws e = verb_token ws e.verb ∷ value_token ws NOUN_CLASS e.noun ∷ []
 
 -- the name of the header, and the number of the table
 abbrev pub table_tokens : ℕ → List (List ℕ)

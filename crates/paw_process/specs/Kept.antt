@@ -1,5 +1,7 @@
 -- What is kept of a machine that waits, and the rules that it keeps.
 use Rattle.std.specs.Prelude.{ℕ, suc, ◌-◌, ◌==◌, ◌&&◌, Bool, false, not, List, [], ◌∷◌, ◌++◌, Option, Some, None, length, reverse, replicate, take, slice_get, nat_lt, nat_le, if◌then◌else◌}
+use Rattle.paw_base.specs.declared.codes.TheConstants.{PROCESS, DOALL}
+use Rattle.paw_base.specs.declared.limits.TheConstants.{READ_LIMIT}
 use Rattle.paw_base.specs.declared.parts.Condact.{Condact}
 use Rattle.paw_base.specs.Steps.{no_steps}
 use Rattle.paw_game.specs.Game.{GameLists}
@@ -10,6 +12,7 @@ use Rattle.paw_effects.specs.declared.act.Prompt.TheVariants as prompt
 use Rattle.paw_reading.specs.declared.places.Frame.{Frame}
 use Rattle.paw_reading.specs.declared.places.OpenLoop.{OpenLoop}
 pub use Rattle.paw_reading.specs.Places.{waiting_code}
+use Rattle.paw_process.specs.declared.machine.TheConstants.{MOST_FRAMES}
 use Rattle.paw_process.specs.OpenTables.{OpenTables, IsWaiting, IsClosed}
 use Rattle.paw_process.specs.declared.kept.Frames.{Frames}
 
@@ -17,11 +20,11 @@ use Rattle.paw_process.specs.declared.kept.Frames.{Frames}
 abbrev pub unused : Frame
 unused = record { table = 0; entry = 0; at = 0; acted = false }
 
--- the frames with the outermost first, and unused rows up to eleven
+-- the frames with the outermost first, and unused rows up to the most that may be open
 abbrev pub kept : OpenTables → Frames
 kept m = record {
   count = length m.frames;
-  rows = reverse m.frames ++ replicate (11 - length m.frames) unused;
+  rows = reverse m.frames ++ replicate (MOST_FRAMES - length m.frames) unused;
   turning = m.turning;
 }
 
@@ -31,7 +34,7 @@ restored k waiting = record {
   frames = reverse (take k.count k.rows);
   turning = k.turning;
   waiting = waiting;
-  left = 200000;
+  left = READ_LIMIT;
   steps = no_steps;
 }
 
@@ -60,7 +63,7 @@ is_unused f = (f.table == 0) && ((f.entry == 0) && ((f.at == 0) && not f.acted))
 abbrev pub row_stands : GameLists → ℕ → Option ℕ → ℕ → Frame → Bool
 row_stands g code caller n f =
     if n == 0 then is_unused f
-    else may_open caller f.table && has_code (if n == 1 then code else 85) (condact_of g f)
+    else may_open caller f.table && has_code (if n == 1 then code else PROCESS) (condact_of g f)
 
 -- the depth of the first row that doesn't stand, counted from d on; each PROCESS calls the next row's table
 unfoldable pub rows_fault : GameLists → ℕ → Option ℕ → ℕ → ℕ → List Frame → Option ℕ
@@ -81,22 +84,22 @@ is_table (Some u) t = t == u
 abbrev pub loop_stands : GameLists → Frames → OpenLoop → Bool
 loop_stands g k l =
     nat_lt l.level k.count && (is_table (table_of (slice_get k.rows l.level)) l.table
-    && (has_code 86 (condact_at g l.table l.entry l.at)
+    && (has_code DOALL (condact_at g l.table l.entry l.at)
     && (is_place (length g.locations) l.place && nat_lt l.last (length g.objects))))
 
--- the depth of a loop that breaks its rule is 11
+-- the depth of a loop that breaks its rule is that behind all rows
 abbrev pub loop_fault : GameLists → Frames → Option OpenLoop → Option ℕ
 loop_fault g k None = None
-loop_fault g k (Some l) = if loop_stands g k l then None else Some 11
+loop_fault g k (Some l) = if loop_stands g k l then None else Some MOST_FRAMES
 
 abbrev pub first_fault : Option ℕ → Option ℕ → Option ℕ
 first_fault None later = later
 first_fault (Some d) later = Some d
 
--- one to eleven tables are open where a machine waits inside tables; else none is
+-- tables are open, and not too many, where a machine waits inside tables; else none is
 abbrev pub count_fits : Option ℕ → ℕ → Bool
 count_fits None n = n == 0
-count_fits (Some code) n = nat_lt 0 n && nat_le n 11
+count_fits (Some code) n = nat_lt 0 n && nat_le n MOST_FRAMES
 
 abbrev pub or_none : Option ℕ → ℕ
 or_none None = 0
@@ -107,8 +110,8 @@ fault_at g code k =
     if count_fits code k.count
     then first_fault (rows_fault g (or_none code) None k.count 0 k.rows) (loop_fault g k k.turning) else Some 0
 
--- the least depth at which what is kept of a machine that waits at this prompt breaks a rule: a frame, 11 for the loop, 0
--- for the number of frames; nothing where it keeps them all
+-- the least depth at which what is kept of a machine that waits at this prompt breaks a rule: a frame, that behind all
+-- rows for the loop, 0 for the number of frames; nothing where it keeps them all
 abbrev pub frames_fault : GameLists → Prompt → Frames → Option ℕ
 frames_fault g p k = fault_at g (waiting_code p) k
 

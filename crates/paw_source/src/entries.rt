@@ -6,7 +6,7 @@ ghost use Rattle.paw_grammar.specs.Condacts.{AreSmall, more_condacts};
 ghost use Rattle.paw_grammar.specs.GrammarRows.{entry_row, more_row};
 
 use paw_base::fault::SourceKind;
-use paw_game::limits::ENTRY_LIMIT;
+use paw_base::limits::ENTRY_LIMIT;
 use paw_game::parts::{Condacts, Entry, Table};
 use paw_grammar::bounds::Bounds;
 use paw_grammar::condacts::more_condacts;

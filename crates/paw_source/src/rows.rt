@@ -4,8 +4,8 @@ ghost use Rattle.std.specs.Prelude.{◌≡◌, ◌≤◌, ◌<◌, OnOk};
 ghost use Rattle.paw_grammar.specs.Gives.{Gives};
 ghost use Rattle.paw_grammar.specs.GrammarRows.{voc_row, object_row};
 
+use paw_base::limits::WEIGHT_LIMIT;
 use paw_base::parts::ObjectFacts;
-use paw_game::limits::WEIGHT_LIMIT;
 use paw_game::parts::Word;
 use paw_grammar::numbers::{number_within, row_number};
 use paw_grammar::places::first_place;

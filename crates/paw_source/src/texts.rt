@@ -5,7 +5,7 @@ ghost use Rattle.paw_grammar.specs.Gives.{Gives};
 ghost use Rattle.paw_grammar.specs.GrammarTexts.{joined_within, text_item, text_line};
 
 use paw_base::fault::SourceKind;
-use paw_game::limits::TEXT_LIMIT;
+use paw_base::limits::TEXT_LIMIT;
 use paw_game::parts::Text;
 use paw_grammar::refusal::ReadError;
 use std::alloc::Global;

@@ -1,5 +1,7 @@
 -- The first field of a state that breaks its rule.
 use Rattle.std.specs.Prelude.{ℕ, suc, ◌+◌, ◌-◌, ◌*◌, ◌==◌, ◌||◌, Bool, List, [], ◌∷◌, Option, Some, None, length, take, drop, is_some, nat_lt, nat_le, slice_get, Result, Ok, Err, if◌then◌else◌}
+use Rattle.paw_base.specs.declared.codes.TheConstants.{PROCESS, DOALL}
+use Rattle.paw_base.specs.declared.limits.TheConstants.{READ_LIMIT, EVENT_LIMIT}
 use Rattle.paw_game.specs.Game.{GameLists}
 use Rattle.paw_game.specs.Tables.{head_at, condact_at}
 use Rattle.paw_game.specs.Valid.{is_place}
@@ -7,6 +9,10 @@ use Rattle.paw_effects.specs.declared.act.Prompt.{Prompt}
 use Rattle.paw_effects.specs.declared.act.Prompt.TheVariants as prompt
 use Rattle.paw_reading.specs.declared.places.OpenLoop.{OpenLoop}
 use Rattle.paw_process.specs.Kept.{waiting_code, may_open, has_code, parameter_of, is_table, count_fits, or_none}
+use Rattle.paw_state.specs.declared.layout.TheConstants.{PLACES, SAVED, HELD_FLAGS, HELD_PLACES, HELD_LENGTH, DRAWS}
+use Rattle.paw_state.specs.declared.layout.TheConstants.{EVENTS, PROMPT, COUNT, ROWS, ROW_LENGTH, ROW_ENTRY, ROW_AT}
+use Rattle.paw_state.specs.declared.layout.TheConstants.{ROW_ACTED, LOOPING, LOOP_LEVEL, LOOP_TABLE, LOOP_ENTRY}
+use Rattle.paw_state.specs.declared.layout.TheConstants.{LOOP_AT, LOOP_PLACE, LOOP_LAST, PENDING, LINE, KEPT}
 use Rattle.paw_state.specs.declared.StateFault.{StateFault}
 use Rattle.paw_state.specs.declared.fields.Row.{Row}
 use Rattle.paw_state.specs.declared.fields.Fields.{Fields}
@@ -42,7 +48,7 @@ first_not p at (b ∷ bs) = if p b then first_not p (suc at) bs else Some at
 abbrev pub is_zero : ℕ → Bool
 is_zero b = b == 0
 
--- of 255 places the first are those of the objects, each a place of the game; the others are 0
+-- of the bytes for places the first are those of the objects, each a place of the game; the others are 0
 abbrev pub places_fault : GameLists → ℕ → List ℕ → Option ℕ
 places_fault g at places = first (
     first_not (is_place (length g.locations)) at (take (length g.objects) places)
@@ -51,25 +57,25 @@ places_fault g at places = first (
 
 -- the flags and the places of a position that isn't there are 0
 abbrev pub absent_fault : ℕ → Held → Option ℕ
-absent_fault at h = first (first_not is_zero (at + 1) h.flags ∷ first_not is_zero (at + 257) h.places ∷ [])
+absent_fault at h = first (first_not is_zero (at + HELD_FLAGS) h.flags ∷ first_not is_zero (at + HELD_PLACES) h.places ∷ [])
 
 -- a position is there or not, and the places of one that is are as those now
 abbrev pub held_fault : GameLists → ℕ → Held → Option ℕ
 held_fault g at h = first (
     rule at (nat_le h.there 1)
-    ∷ (if h.there == 0 then absent_fault at h else places_fault g (at + 257) h.places)
+    ∷ (if h.there == 0 then absent_fault at h else places_fault g (at + HELD_PLACES) h.places)
     ∷ [])
 
--- positions of 512 bytes, one after the other from this place on
+-- positions, one after the other from this place on
 unfoldable pub kept_fault : GameLists → ℕ → List Held → Option ℕ
 kept_fault g at [] = None
-kept_fault g at (h ∷ hs) = or_first (held_fault g at h) (kept_fault g (at + 512) hs)
+kept_fault g at (h ∷ hs) = or_first (held_fault g at h) (kept_fault g (at + HELD_LENGTH) hs)
 
--- at most 1,000,000,000 lines were taken, and each piece drew at most 200,000 words
+-- not too many lines were taken, and no piece drew more words than it may read condacts
 abbrev pub numbers_fault : Fields → Option ℕ
 numbers_fault f = first (
-    rule 1039 (nat_le f.events 1000000000)
-    ∷ rule 1031 (nat_le f.draws (200000 * (f.events + 1)))
+    rule EVENTS (nat_le f.events EVENT_LIMIT)
+    ∷ rule DRAWS (nat_le f.draws (READ_LIMIT * (f.events + 1)))
     ∷ [])
 
 -- the prompt of a code from 0 to 4
@@ -77,35 +83,35 @@ abbrev pub prompt_of : ℕ → Prompt
 prompt_of n =
     if n == 0 then prompt.Main else if n == 1 then prompt.Quit else if n == 2 then prompt.Again else if n == 3 then prompt.Key else prompt.Over
 
--- one to eleven tables are open at the prompts inside tables, and none at the others
+-- tables are open, and not too many, at the prompts inside tables, and none at the others
 abbrev pub prompt_fault : Fields → Option ℕ
 prompt_fault f = first (
-    rule 1047 (nat_le f.prompt 4)
-    ∷ rule 1048 (count_fits (waiting_code (prompt_of f.prompt)) f.count)
+    rule PROMPT (nat_le f.prompt 4)
+    ∷ rule COUNT (count_fits (waiting_code (prompt_of f.prompt)) f.count)
     ∷ [])
 
 -- a row that is not used is 0
 abbrev pub unused_fault : ℕ → Row → Option ℕ
 unused_fault at r = first (
     rule at (r.table == 0)
-    ∷ rule (at + 1) (r.entry == 0)
-    ∷ rule (at + 3) (r.at == 0)
-    ∷ rule (at + 4) (r.acted == 0)
+    ∷ rule (at + ROW_ENTRY) (r.entry == 0)
+    ∷ rule (at + ROW_AT) (r.at == 0)
+    ∷ rule (at + ROW_ACTED) (r.acted == 0)
     ∷ [])
 
 -- one that is used is of the table that was called (the outermost of table 0, 1 or 2), and stands at a condact of this code
 abbrev pub used_fault : GameLists → ℕ → Option ℕ → ℕ → Row → Option ℕ
 used_fault g code caller at r = first (
     rule at (may_open caller r.table)
-    ∷ rule (at + 1) (is_some (head_at g r.table r.entry))
-    ∷ rule (at + 3) (has_code code (condact_at g r.table r.entry r.at))
-    ∷ rule (at + 4) (nat_le r.acted 1)
+    ∷ rule (at + ROW_ENTRY) (is_some (head_at g r.table r.entry))
+    ∷ rule (at + ROW_AT) (has_code code (condact_at g r.table r.entry r.at))
+    ∷ rule (at + ROW_ACTED) (nat_le r.acted 1)
     ∷ [])
 
--- of n rows that are used from this one on, each but the last is at a PROCESS (85), and the last at the prompt's condact
+-- of n rows that are used from this one on, each but the last is at a PROCESS, and the last at the prompt's condact
 abbrev pub row_fault : GameLists → ℕ → Option ℕ → ℕ → ℕ → Row → Option ℕ
 row_fault g code caller n at r =
-    if n == 0 then unused_fault at r else used_fault g (if n == 1 then code else 85) caller at r
+    if n == 0 then unused_fault at r else used_fault g (if n == 1 then code else PROCESS) caller at r
 
 -- the table that the PROCESS of a row calls
 abbrev pub called : GameLists → Row → Option ℕ
@@ -114,17 +120,17 @@ called g r = Some (parameter_of (condact_at g r.table r.entry r.at))
 unfoldable pub rows_fault : GameLists → ℕ → Option ℕ → ℕ → ℕ → List Row → Option ℕ
 rows_fault g code caller n at [] = None
 rows_fault g code caller n at (r ∷ rs) =
-    or_first (row_fault g code caller n at r) (rows_fault g code (called g r) (n - 1) (at + 5) rs)
+    or_first (row_fault g code caller n at r) (rows_fault g code (called g r) (n - 1) (at + ROW_LENGTH) rs)
 
 -- without an open loop its bytes are 0
 abbrev pub no_loop_fault : OpenLoop → Option ℕ
 no_loop_fault l = first (
-    rule 1105 (l.level == 0)
-    ∷ rule 1106 (l.table == 0)
-    ∷ rule 1107 (l.entry == 0)
-    ∷ rule 1109 (l.at == 0)
-    ∷ rule 1110 (l.place == 0)
-    ∷ rule 1111 (l.last == 0)
+    rule LOOP_LEVEL (l.level == 0)
+    ∷ rule LOOP_TABLE (l.table == 0)
+    ∷ rule LOOP_ENTRY (l.entry == 0)
+    ∷ rule LOOP_AT (l.at == 0)
+    ∷ rule LOOP_PLACE (l.place == 0)
+    ∷ rule LOOP_LAST (l.last == 0)
     ∷ [])
 
 -- the table of a row
@@ -132,45 +138,45 @@ abbrev pub row_table : Option Row → Option ℕ
 row_table None = None
 row_table (Some r) = Some r.table
 
--- an open loop is at a DOALL (86) of the table of its level, and its place and its last object are the game's
+-- an open loop is at a DOALL of the table of its level, and its place and its last object are the game's
 abbrev pub loop_fault : GameLists → Fields → OpenLoop → Option ℕ
 loop_fault g f l = first (
-    rule 1105 (nat_lt l.level f.count)
-    ∷ rule 1106 (is_table (row_table (slice_get f.rows l.level)) l.table)
-    ∷ rule 1107 (is_some (head_at g l.table l.entry))
-    ∷ rule 1109 (has_code 86 (condact_at g l.table l.entry l.at))
-    ∷ rule 1110 (is_place (length g.locations) l.place)
-    ∷ rule 1111 (nat_lt l.last (length g.objects))
+    rule LOOP_LEVEL (nat_lt l.level f.count)
+    ∷ rule LOOP_TABLE (is_table (row_table (slice_get f.rows l.level)) l.table)
+    ∷ rule LOOP_ENTRY (is_some (head_at g l.table l.entry))
+    ∷ rule LOOP_AT (has_code DOALL (condact_at g l.table l.entry l.at))
+    ∷ rule LOOP_PLACE (is_place (length g.locations) l.place)
+    ∷ rule LOOP_LAST (nat_lt l.last (length g.objects))
     ∷ [])
 
 -- no loop is open where no table is
 abbrev pub turning_fault : GameLists → Fields → Option ℕ
 turning_fault g f = first (
-    rule 1104 (nat_le f.looping (if f.count == 0 then 0 else 1))
+    rule LOOPING (nat_le f.looping (if f.count == 0 then 0 else 1))
     ∷ (if f.looping == 0 then no_loop_fault f.turning else loop_fault g f f.turning)
     ∷ [])
 
 -- the condact of the prompt, and which tables are open
 abbrev pub frames_fault : GameLists → Fields → Option ℕ
-frames_fault g f = rows_fault g (or_none (waiting_code (prompt_of f.prompt))) None f.count 1049 f.rows
+frames_fault g f = rows_fault g (or_none (waiting_code (prompt_of f.prompt))) None f.count ROWS f.rows
 
 -- nothing is pending where no table is open; the bytes behind what is pending are 0
 abbrev pub pending_fault : Fields → Option ℕ
 pending_fault f = first (
-    rule 1113 (is_some (waiting_code (prompt_of f.prompt)) || (f.pending == 0))
-    ∷ first_not is_zero (1114 + f.pending) (drop f.pending f.line)
+    rule PENDING (is_some (waiting_code (prompt_of f.prompt)) || (f.pending == 0))
+    ∷ first_not is_zero (LINE + f.pending) (drop f.pending f.line)
     ∷ [])
 
 -- The place of the first field that breaks its rule, in the order of the fields, but for one: how many lines were taken is
 -- looked at before how many words were drawn
 abbrev pub fields_fault : GameLists → Fields → Option ℕ
 fields_fault g f = first (
-    places_fault g 256 f.places
-    ∷ held_fault g 511 f.saved
+    places_fault g PLACES f.places
+    ∷ held_fault g SAVED f.saved
     ∷ numbers_fault f
     ∷ prompt_fault f
     ∷ frames_fault g f
     ∷ turning_fault g f
     ∷ pending_fault f
-    ∷ kept_fault g 1371 f.kept
+    ∷ kept_fault g KEPT f.kept
     ∷ [])

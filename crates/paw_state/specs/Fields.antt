@@ -1,12 +1,19 @@
 -- The fields of a state's bytes. Numbers of several bytes have the low one first.
 use Rattle.std.specs.Prelude.{ℕ, zero, suc, ◌+◌, ◌-◌, List, [], ◌∷◌, ◌++◌, Option, Some, None, length, map, flat_map, drop, replicate, slice_index, slice_range, if◌then◌else◌}
 use Rattle.std.specs.Int.{w16, w64, to_le_bytes, from_le_bytes}
+use Rattle.paw_base.specs.declared.limits.TheConstants.{OBJECT_LIMIT, FLAG_COUNT, LINE_LIMIT}
 use Rattle.paw_game.specs.Image.{two_bytes}
 use Rattle.paw_world.specs.World.{Position}
 use Rattle.paw_effects.specs.declared.act.Prompt.{Prompt}
 use Rattle.paw_effects.specs.declared.act.Prompt.TheVariants as prompt
 use Rattle.paw_reading.specs.declared.places.Frame.{Frame}
 use Rattle.paw_reading.specs.declared.places.OpenLoop.{OpenLoop}
+use Rattle.paw_process.specs.declared.machine.TheConstants.{MOST_FRAMES}
+use Rattle.paw_state.specs.declared.layout.TheConstants.{FLAGS, PLACES, SAVED, HELD_FLAGS, HELD_PLACES, HELD_LENGTH}
+use Rattle.paw_state.specs.declared.layout.TheConstants.{SEED, DRAWS, EVENTS, PROMPT, COUNT, ROWS, ROW_LENGTH}
+use Rattle.paw_state.specs.declared.layout.TheConstants.{ROW_ENTRY, ROW_AT, ROW_ACTED, LOOPING, LOOP_LEVEL, LOOP_TABLE}
+use Rattle.paw_state.specs.declared.layout.TheConstants.{LOOP_ENTRY, LOOP_AT, LOOP_PLACE, LOOP_LAST, EARLIER, PENDING}
+use Rattle.paw_state.specs.declared.layout.TheConstants.{LINE, PIECE, KEPT}
 use Rattle.paw_state.specs.declared.fields.Row.{Row}
 use Rattle.paw_state.specs.declared.fields.Fields.{Fields}
 use Rattle.paw_state.specs.declared.held.Held.{Held}
@@ -39,7 +46,7 @@ abbrev pub joined : List (List ℕ) → List ℕ
 joined [] = []
 joined (field ∷ fields) = field ++ joined fields
 
--- a position that may be there, in 512 bytes: whether it is, its flags, and its places
+-- a position that may be there: whether it is, its flags, and its places
 unfoldable pub held_bytes : Held → List ℕ
 held_bytes h = joined ((h.there ∷ []) ∷ h.flags ∷ h.places ∷ [])
 
@@ -59,11 +66,11 @@ table_bytes f = joined ((f.prompt ∷ f.count ∷ []) ∷ flat_map row_bytes f.r
 unfoldable pub pending_bytes : Fields → List ℕ
 pending_bytes f = joined ((f.earlier ∷ f.pending ∷ []) ∷ f.line ∷ two_bytes f.piece ∷ [])
 
--- the four kept positions
+-- the kept positions
 unfoldable pub kept_bytes : Fields → List ℕ
 kept_bytes f = flat_map held_bytes f.kept
 
--- the 3,419 bytes of a state's fields
+-- the bytes of a state's fields
 abbrev pub field_bytes : Fields → List ℕ
 field_bytes f = joined (world_bytes f ∷ number_bytes f ∷ table_bytes f ∷ pending_bytes f ∷ kept_bytes f ∷ [])
 
@@ -74,8 +81,8 @@ presence (Some x) = 1
 
 -- a position that is there, with its flags and places; all 0 where there is none
 abbrev pub held_of : Option Position → Held
-held_of None = record { there = 0; flags = zeros 256; places = zeros 255 }
-held_of (Some q) = record { there = 1; flags = q.flags; places = filled 255 q.places }
+held_of None = record { there = 0; flags = zeros FLAG_COUNT; places = zeros OBJECT_LIMIT }
+held_of (Some q) = record { there = 1; flags = q.flags; places = filled OBJECT_LIMIT q.places }
 
 abbrev pub prompt_code : Prompt → ℕ
 prompt_code prompt.Main = 0
@@ -95,7 +102,7 @@ loop_or_zeros (Some l) = l
 abbrev pub fields_of : State → Fields
 fields_of s = record {
   flags = s.world.flags;
-  places = filled 255 s.world.places;
+  places = filled OBJECT_LIMIT s.world.places;
   saved = held_of s.world.saved;
   kept = map held_of s.world.kept;
   seed = s.world.seed;
@@ -108,7 +115,7 @@ fields_of s = record {
   turning = loop_or_zeros s.frames.turning;
   earlier = s.pending.earlier;
   pending = length s.pending.bytes;
-  line = filled 255 s.pending.bytes;
+  line = filled LINE_LIMIT s.pending.bytes;
   piece = s.piece;
 }
 
@@ -118,7 +125,7 @@ state_bytes s = field_bytes (fields_of s)
 
 -- ---- from bytes to the fields that they are ----
 
--- the number in the two bytes, or in the eight, from a place on
+-- the number in the two bytes from a place on
 abbrev pub two_at : List ℕ → ℕ → ℕ
 two_at bytes at = from_le_bytes w16 (slice_range bytes at (at + 2))
 
@@ -126,41 +133,55 @@ abbrev pub eight_at : List ℕ → ℕ → ℕ
 eight_at bytes at = from_le_bytes w64 (slice_range bytes at (at + 8))
 
 abbrev pub row_at : List ℕ → Row
-row_at bytes = record { table = slice_index bytes 0; entry = two_at bytes 1; at = slice_index bytes 3; acted = slice_index bytes 4 }
+row_at bytes = record {
+  table = slice_index bytes 0;
+  entry = two_at bytes ROW_ENTRY;
+  at = slice_index bytes ROW_AT;
+  acted = slice_index bytes ROW_ACTED;
+}
 
--- the position in the first 512 bytes
+-- the position in the bytes from the first on
 abbrev pub held_at : List ℕ → Held
-held_at bytes = record { there = slice_index bytes 0; flags = slice_range bytes 1 257; places = slice_range bytes 257 512 }
+held_at bytes = record {
+  there = slice_index bytes 0;
+  flags = slice_range bytes HELD_FLAGS HELD_PLACES;
+  places = slice_range bytes HELD_PLACES HELD_LENGTH;
+}
 
--- so many rows of five bytes
+-- so many rows
 unfoldable pub rows_at : ℕ → List ℕ → List Row
 rows_at zero bytes = []
-rows_at (suc n) bytes = row_at bytes ∷ rows_at n (drop 5 bytes)
+rows_at (suc n) bytes = row_at bytes ∷ rows_at n (drop ROW_LENGTH bytes)
 
 -- where each field stands
 abbrev pub fields_at : List ℕ → Fields
 fields_at bytes = record {
-  flags = slice_range bytes 0 256;
-  places = slice_range bytes 256 511;
-  saved = held_at (drop 511 bytes);
-  kept = held_at (drop 1371 bytes) ∷ held_at (drop 1883 bytes) ∷ held_at (drop 2395 bytes) ∷ held_at (drop 2907 bytes) ∷ [];
-  seed = eight_at bytes 1023;
-  draws = eight_at bytes 1031;
-  events = eight_at bytes 1039;
-  prompt = slice_index bytes 1047;
-  count = slice_index bytes 1048;
-  rows = rows_at 11 (drop 1049 bytes);
-  looping = slice_index bytes 1104;
+  flags = slice_range bytes FLAGS PLACES;
+  places = slice_range bytes PLACES SAVED;
+  saved = held_at (drop SAVED bytes);
+  kept =
+      held_at (drop KEPT bytes)
+      ∷ held_at (drop (KEPT + HELD_LENGTH) bytes)
+      ∷ held_at (drop (KEPT + HELD_LENGTH + HELD_LENGTH) bytes)
+      ∷ held_at (drop (KEPT + HELD_LENGTH + HELD_LENGTH + HELD_LENGTH) bytes)
+      ∷ [];
+  seed = eight_at bytes SEED;
+  draws = eight_at bytes DRAWS;
+  events = eight_at bytes EVENTS;
+  prompt = slice_index bytes PROMPT;
+  count = slice_index bytes COUNT;
+  rows = rows_at MOST_FRAMES (drop ROWS bytes);
+  looping = slice_index bytes LOOPING;
   turning = record {
-    level = slice_index bytes 1105;
-    table = slice_index bytes 1106;
-    entry = two_at bytes 1107;
-    at = slice_index bytes 1109;
-    place = slice_index bytes 1110;
-    last = slice_index bytes 1111;
+    level = slice_index bytes LOOP_LEVEL;
+    table = slice_index bytes LOOP_TABLE;
+    entry = two_at bytes LOOP_ENTRY;
+    at = slice_index bytes LOOP_AT;
+    place = slice_index bytes LOOP_PLACE;
+    last = slice_index bytes LOOP_LAST;
   };
-  earlier = slice_index bytes 1112;
-  pending = slice_index bytes 1113;
-  line = slice_range bytes 1114 1369;
-  piece = two_at bytes 1369;
+  earlier = slice_index bytes EARLIER;
+  pending = slice_index bytes PENDING;
+  line = slice_range bytes LINE PIECE;
+  piece = two_at bytes PIECE;
 }

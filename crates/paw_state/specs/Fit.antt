@@ -2,17 +2,18 @@
 use Rattle.std.specs.Prelude.{◌≡◌, ℕ, List, Option, take}
 use Rattle.paw_game.specs.Game.{GameLists}
 use Rattle.paw_process.specs.Kept.{kept, restored, waiting_at, StandsAt}
+use Rattle.paw_state.specs.declared.layout.TheConstants.{STATE_LENGTH}
 use Rattle.paw_state.specs.declared.Restored.{Restored}
 use Rattle.paw_state.specs.State.{State, state_of, Keeps, FitsFields}
 use Rattle.paw_state.specs.Fields.{state_bytes, fields_at}
 use Rattle.paw_state.specs.Faults.{fields_fault}
 
--- bytes are fit for a game where the first 3,419 are those of a state that keeps its rules
+-- bytes are fit for a game where those that a state has are of one that keeps its rules
 pub record Fit (g : GameLists) (bytes : List ℕ) : Type 0 where
   pub state : State
   pub keeps : Keeps g state
   pub fits : FitsFields state
-  pub are : take 3419 bytes ≡ state_bytes state
+  pub are : take STATE_LENGTH bytes ≡ state_bytes state
 
 -- the place of the first field that breaks its rule; nothing where the bytes are fit
 abbrev pub unfit : GameLists → List ℕ → Option ℕ
@@ -25,7 +26,7 @@ state_read r = state_of r.world r.machine r.pending r.prompt r.events r.piece
 -- Parts that were read from bytes: the bytes are those of their state, which keeps its rules; the machine waits at the
 -- prompt with a full budget
 pub record IsRead (g : GameLists) (bytes : List ℕ) (r : Restored) : Type 0 where
-  pub are : take 3419 bytes ≡ state_bytes (state_read r)
+  pub are : take STATE_LENGTH bytes ≡ state_bytes (state_read r)
   pub keeps : Keeps g (state_read r)
   pub fits : FitsFields (state_read r)
   pub machine : r.machine ≡ restored (kept r.machine) (waiting_at r.prompt)

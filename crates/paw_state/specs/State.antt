@@ -1,10 +1,12 @@
 -- What a session keeps of a game that is played, and the rules that it keeps.
 use Rattle.std.specs.Prelude.{◌≡◌, ℕ, ◌+◌, ◌*◌, ◌^◌, ◌<◌, ◌≤◌, List, [], Option, None, length, All, IfSome, IfNone}
+use Rattle.paw_base.specs.declared.limits.TheConstants.{LINE_LIMIT, READ_LIMIT, EVENT_LIMIT}
 use Rattle.paw_game.specs.Game.{GameLists}
 use Rattle.paw_world.specs.World.{World, Position, IsWorld}
 use Rattle.paw_phrase.specs.Pending.{PendingLine}
 use Rattle.paw_effects.specs.declared.act.Prompt.{Prompt}
 use Rattle.paw_effects.specs.Built.{IsOf, StandAtPlaces}
+use Rattle.paw_process.specs.declared.machine.TheConstants.{MOST_FRAMES}
 use Rattle.paw_process.specs.OpenTables.{OpenTables}
 use Rattle.paw_process.specs.Kept.{kept, waiting_code, frames_fault}
 use Rattle.paw_process.specs.declared.kept.Frames.{Frames}
@@ -24,18 +26,18 @@ abbrev pub state_of : World → OpenTables → PendingLine → Prompt → ℕ �
 state_of w m p at events piece = record { world = w; frames = kept m; pending = p; prompt = at; events = events; piece = piece }
 
 -- The rules of a state: the world is the game's, with each object at a place, now, in the saved position and in the kept
--- ones; at most 1,000,000,000 lines were taken, and each piece drew at most 200,000 random words; the open tables and
--- the open loop are such as a game waits in at the prompt, with room for eleven; at most 255 bytes are pending, and none
--- where no table is open
+-- ones; not too many lines were taken, and no piece drew more words than it may read condacts; the open tables and
+-- the open loop are such as a game waits in at the prompt, with room for all that may be; not too many bytes are pending,
+-- and none where no table is open
 pub record Keeps (g : GameLists) (s : State) : Type 0 where
   pub world : IsOf g s.world
   pub sound : IsWorld s.world
   pub places : StandAtPlaces g s.world
-  pub events : s.events ≤ 1000000000
-  pub draws : s.world.draws ≤ 200000 * (s.events + 1)
-  pub rows : length s.frames.rows ≡ 11
+  pub events : s.events ≤ EVENT_LIMIT
+  pub draws : s.world.draws ≤ READ_LIMIT * (s.events + 1)
+  pub rows : length s.frames.rows ≡ MOST_FRAMES
   pub frames : frames_fault g s.prompt s.frames ≡ None
-  pub line : length s.pending.bytes ≤ 255
+  pub line : length s.pending.bytes ≤ LINE_LIMIT
   pub pending : IfNone (waiting_code s.prompt) (s.pending.bytes ≡ [])
 
 -- these are bytes

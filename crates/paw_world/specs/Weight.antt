@@ -1,5 +1,6 @@
 -- What objects weigh.
 use Rattle.std.specs.Prelude.{ℕ, zero, suc, ◌+◌, ◌==◌, ◌&&◌, Bool, false, not, List, [], ◌∷◌, sum_by, min, Option, None, Some, slice_get, if◌then◌else◌}
+use Rattle.paw_base.specs.declared.places.TheConstants.{WORN_PLACE, CARRIED_PLACE}
 use Rattle.paw_base.specs.declared.parts.ObjectFacts.{ObjectFacts}
 use Rattle.paw_world.specs.World.{World}
 
@@ -39,4 +40,5 @@ weight_with w n own p = min 255 (own + sum_by (weight_down w n) (objects_at w p)
 
 -- what is worn and carried weighs, at most 255
 abbrev pub carried_weight : World → ℕ
-carried_weight w = min 255 (sum_by (weight w) (objects_at w 253) + sum_by (weight w) (objects_at w 254))
+carried_weight w =
+    min 255 (sum_by (weight w) (objects_at w WORN_PLACE) + sum_by (weight w) (objects_at w CARRIED_PLACE))

@@ -1,6 +1,13 @@
 -- The world of a game: what it changes while it is played.
 use Rattle.std.specs.Prelude.{◌≡◌, ℕ, suc, ◌+◌, ◌-◌, ◌≤◌, ◌==◌, ◌&&◌, ◌||◌, Bool, not, List, ◌++◌, length, map, take, drop, count_by, replicate, min, Option, None, Some, nat_lt, slice_index, slice_index_or, slice_set, if◌then◌else◌, IfSome}
 use Rattle.std.specs.List.{All}
+use Rattle.paw_base.specs.declared.flags.TheConstants.{DARK_FLAG, CARRIED_FLAG, VERB_FLAG, NOUN_FLAG, ADJECTIVE_FLAG}
+use Rattle.paw_base.specs.declared.flags.TheConstants.{ADVERB_FLAG, MOST_CARRIED_FLAG, LOCATION_FLAG, PREPOSITION_FLAG}
+use Rattle.paw_base.specs.declared.flags.TheConstants.{SECOND_NOUN_FLAG, SECOND_ADJECTIVE_FLAG, PRONOUN_NOUN_FLAG}
+use Rattle.paw_base.specs.declared.flags.TheConstants.{PRONOUN_ADJECTIVE_FLAG, REFERRED_FLAG, MOST_WEIGHT_FLAG}
+use Rattle.paw_base.specs.declared.places.TheConstants.{NOT_CREATED_PLACE, WORN_PLACE, CARRIED_PLACE}
+use Rattle.paw_base.specs.declared.words.TheConstants.{NO_WORD}
+use Rattle.paw_base.specs.declared.limits.TheConstants.{OBJECT_LIMIT, FLAG_COUNT, POSITION_COUNT}
 use Rattle.paw_base.specs.declared.parts.ObjectFacts.{ObjectFacts}
 use Rattle.paw_world.specs.Places.{least_at, left_above}
 
@@ -9,8 +16,8 @@ pub record Position : Type 0 where
   pub flags : List ℕ
   pub places : List ℕ
 
--- the facts of the objects and the number of locations, which never change; 256 flags; the place of each object; the
--- saved position; the four kept positions; the seed of the random words, and how many of them were drawn
+-- the facts of the objects and the number of locations, which never change; the flags; the place of each object; the
+-- saved position; the kept positions; the seed of the random words, and how many of them were drawn
 pub record World : Type 0 where
   pub facts : List ObjectFacts
   pub locations : ℕ
@@ -35,16 +42,18 @@ with_place w o p = record w { places = slice_set w.places o p }
 
 -- how many objects begin carried
 abbrev pub first_carried : List ObjectFacts → ℕ
-first_carried facts = count_by (λ f. f.start == 254) facts
+first_carried facts = count_by (λ f. f.start == CARRIED_PLACE) facts
 
--- all flags are 0 but these: flag 1 counts what is carried, the words of a sentence and the object last referred to are
--- none (255), four objects and a weight of ten may be carried
+-- all flags are 0 but these: one counts what is carried, the words of a sentence and the object last referred to are
+-- none, four objects and a weight of ten may be carried
 unfoldable pub flags_with : ℕ → List ℕ
 flags_with carried =
-    let none : List ℕ → ℕ → List ℕ = λ flags f. slice_set flags f 255 in
-    let words = none (none (none (none (slice_set (replicate 256 0) 1 carried) 33) 34) 35) 36 in
-    let more = none (none (none (none (none (none words 43) 44) 45) 46) 47) 51 in
-    slice_set (slice_set more 37 4) 52 10
+    let none : List ℕ → ℕ → List ℕ = λ flags f. slice_set flags f NO_WORD in
+    let counted = slice_set (replicate FLAG_COUNT 0) CARRIED_FLAG carried in
+    let words = none (none (none (none counted VERB_FLAG) NOUN_FLAG) ADJECTIVE_FLAG) ADVERB_FLAG in
+    let second = none (none (none words PREPOSITION_FLAG) SECOND_NOUN_FLAG) SECOND_ADJECTIVE_FLAG in
+    let more = none (none (none second PRONOUN_NOUN_FLAG) PRONOUN_ADJECTIVE_FLAG) REFERRED_FLAG in
+    slice_set (slice_set more MOST_CARRIED_FLAG 4) MOST_WEIGHT_FLAG 10
 
 -- the flags at the start of a game with these objects
 abbrev pub opening_flags : List ObjectFacts → List ℕ
@@ -62,7 +71,7 @@ opened facts locations seed = record {
   flags = opening_flags facts;
   places = opening_places facts;
   saved = None;
-  kept = replicate 4 None;
+  kept = replicate POSITION_COUNT None;
   seed = seed;
   draws = 0;
 }
@@ -71,33 +80,33 @@ opened facts locations seed = record {
 abbrev pub restarted : World → World
 restarted w = record w { flags = opening_flags w.facts; places = opening_places w.facts }
 
--- all objects go back to where they begin, and flag 1 counts those that begin carried; the other flags stay
+-- all objects go back to where they begin, and a flag counts those that begin carried; the other flags stay
 abbrev pub with_objects_returned : World → World
-with_objects_returned w = record w { flags = slice_set w.flags 1 (first_carried w.facts); places = opening_places w.facts }
+with_objects_returned w = record w { flags = slice_set w.flags CARRIED_FLAG (first_carried w.facts); places = opening_places w.facts }
 
 -- the current location is one of the game's
 abbrev pub is_somewhere : World → Bool
-is_somewhere w = nat_lt (flag w 38) w.locations
+is_somewhere w = nat_lt (flag w LOCATION_FLAG) w.locations
 
--- the current location, or not created (252)
+-- the current location, or not created where that is none of the game's
 abbrev pub here : World → ℕ
-here w = if is_somewhere w then flag w 38 else 252
+here w = if is_somewhere w then flag w LOCATION_FLAG else NOT_CREATED_PLACE
 
 -- an object stands at the current location
 abbrev pub is_here : World → ℕ → Bool
-is_here w o = is_somewhere w && (place w o == flag w 38)
+is_here w o = is_somewhere w && (place w o == flag w LOCATION_FLAG)
 
--- an object is worn (253), carried (254) or here
+-- an object is worn, carried or here
 abbrev pub is_present : World → ℕ → Bool
-is_present w o = (place w o == 253) || ((place w o == 254) || is_here w o)
+is_present w o = (place w o == WORN_PLACE) || ((place w o == CARRIED_PLACE) || is_here w o)
 
 -- the light source, object 0, is present; with no objects it isn't
 abbrev pub is_lit : World → Bool
 is_lit w = nat_lt 0 (length w.places) && is_present w 0
 
--- it is dark: flag 0 isn't 0
+-- it is dark: its flag isn't 0
 abbrev pub is_dark : World → Bool
-is_dark w = not (flag w 0 == 0)
+is_dark w = not (flag w DARK_FLAG == 0)
 
 -- it is dark, and the light source isn't present
 abbrev pub is_unlit : World → Bool
@@ -110,13 +119,13 @@ fallen f w = with_flag w f (flag w f - 1)
 abbrev pub fallen_if : Bool → ℕ → World → World
 fallen_if b f w = if b then fallen f w else w
 
--- one object less is carried where one leaves 254
+-- one object less is carried where one leaves the place of what is carried
 abbrev pub let_go : World → ℕ → World
-let_go w p = if p == 254 then with_flag w 1 (flag w 1 - 1) else w
+let_go w p = if p == CARRIED_PLACE then with_flag w CARRIED_FLAG (flag w CARRIED_FLAG - 1) else w
 
--- one object more is carried where one comes to 254; flag 1 stays at most 255
+-- one object more is carried where one comes to that place; their count stays at most 255
 abbrev pub taken_up : World → ℕ → World
-taken_up w p = if p == 254 then with_flag w 1 (min 255 (flag w 1 + 1)) else w
+taken_up w p = if p == CARRIED_PLACE then with_flag w CARRIED_FLAG (min 255 (flag w CARRIED_FLAG + 1)) else w
 
 -- an object moves to a place; nothing happens where it stands there
 abbrev pub moved : World → ℕ → ℕ → World
@@ -195,33 +204,33 @@ kept_place w n o = place_in (kept_position w n) o
 abbrev pub drawn_on : World → ℕ → World
 drawn_on w n = record w { draws = w.draws + n }
 
--- a position has 256 flags and a place for each of so many objects
+-- a position has all flags and a place for each of so many objects
 pub record IsPosition (objects : ℕ) (q : Position) : Type 0 where
-  pub flags : length q.flags ≡ 256
+  pub flags : length q.flags ≡ FLAG_COUNT
   pub places : length q.places ≡ objects
 
 -- a saved position, where there is one, is one for so many objects
 abbrev pub IsSavedFor : ℕ → Option Position → Type 0
 IsSavedFor objects saved = IfSome saved (IsPosition objects)
 
--- there are four kept positions, each of them nothing or one for so many objects
+-- all kept positions are there, each of them nothing or one for so many objects
 pub record AreSavedFor (objects : ℕ) (kept : List (Option Position)) : Type 0 where
-  pub four : length kept ≡ 4
+  pub four : length kept ≡ POSITION_COUNT
   pub each : All (IsSavedFor objects) kept
 
--- the parts of a world: 256 flags, at most 255 places, room for the facts of 255 objects, and positions of the same size
+-- the parts of a world: its flags, not too many places, room for the facts of all objects, and positions of the same size
 pub record IsStored (facts : List ObjectFacts) (flags places : List ℕ) (saved : Option Position) (kept : List (Option Position)) : Type 0 where
-  pub objects : length places ≤ 255
-  pub facts_room : length facts ≡ 255
-  pub flags_all : length flags ≡ 256
+  pub objects : length places ≤ OBJECT_LIMIT
+  pub facts_room : length facts ≡ OBJECT_LIMIT
+  pub flags_all : length flags ≡ FLAG_COUNT
   pub saved_alike : IsSavedFor (length places) saved
   pub kept_alike : AreSavedFor (length places) kept
 
--- what holds of every world: at most 255 objects, with facts and a place for each, and 256 flags; so in the saved position
--- and in the kept ones
+-- what holds of every world: not too many objects, with facts and a place for each, and its flags; so in the saved
+-- position and in the kept ones
 pub record IsWorld (w : World) : Type 0 where
-  pub objects : length w.places ≤ 255
+  pub objects : length w.places ≤ OBJECT_LIMIT
   pub facts : length w.facts ≡ length w.places
-  pub flags : length w.flags ≡ 256
+  pub flags : length w.flags ≡ FLAG_COUNT
   pub saved : IsSavedFor (length w.places) w.saved
   pub kept : AreSavedFor (length w.places) w.kept
