@@ -12,6 +12,7 @@ pub record CondactLine : Type 0 where
   pub first : ParamKind
   pub second : ParamKind
 
+-- a line of the table, by its parts
 abbrev pub condact : List ℕ → ParamKind → ParamKind → CondactLine
 condact name first second = record { name = name; first = first; second = second }
 
@@ -136,6 +137,7 @@ IsCode code = code ≤ 107
 unfoldable pub line_of : ℕ → CondactLine
 line_of code = slice_index_or condact_lines code (condact [] Absent Absent)
 
+-- the name of a code
 abbrev pub name_of : ℕ → List ℕ
 name_of code = (line_of code).name
 

@@ -47,6 +47,7 @@ acted_on_found g w a None = refuses g w (if some_fits w then missing a else Says
 abbrev pub acted_by_name : GameLists → World → Action → Done
 acted_by_name g w a = acted_on_found g w a (first_fitting w (looks_at a))
 
+-- referring to the object that was found, or to none
 abbrev pub referred_to_found : World → Option ℕ → World
 referred_to_found w (Some o) = referred w o
 referred_to_found w None = referred_to_none w
@@ -55,12 +56,15 @@ referred_to_found w None = referred_to_none w
 abbrev pub referred_by_name : World → World
 referred_by_name w = referred_to_found w (first_fitting w (At CARRIED_PLACE ∷ At WORN_PLACE ∷ Here ∷ []))
 
+-- the codes of actions on the object that is their parameter
 abbrev pub acts_on_given : ℕ → Bool
 acts_on_given code = is_within GET TAKEOUT code
 
+-- the codes of actions that find their object
 abbrev pub acts_by_name : ℕ → Bool
 acts_by_name code = is_within AUTOG AUTOT code
 
+-- the codes of all actions on objects, WHATO among them
 abbrev pub is_object_action : ℕ → Bool
 is_object_action code = acts_by_name code || acts_on_given code || (code == WHATO)
 

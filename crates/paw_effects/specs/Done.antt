@@ -42,5 +42,6 @@ DoesAs d old new world act effect.Spent = PIECE_LIMIT < length old + length d.te
 DoesAs d old new world act e =
     (length old + length d.text ≤ PIECE_LIMIT) × (new ≡ old ++ d.text) × (world ≡ d.world) × (act ≡ d.act)
 
+-- the same by what the action answers
 abbrev pub Does : Done → List ℕ → List ℕ → World → Act → Type 0
 Does d old new world act = DoesAs d old new world act act.effect

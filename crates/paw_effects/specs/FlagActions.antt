@@ -10,6 +10,7 @@ use Rattle.paw_world.specs.World.{World, flag, with_flag, ramsaved, ramloaded, d
 use Rattle.paw_world.specs.Weight.{weight, carried_weight}
 use Rattle.paw_effects.specs.Chance.{rolled}
 
+-- the codes of these actions
 abbrev pub is_change : ℕ → Bool
 is_change code =
     is_within RAMSAVE RAMLOAD code || (code == GOTO) || is_within SET RANDOM code || (code == COPYFF)

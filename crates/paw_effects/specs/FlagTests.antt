@@ -8,6 +8,7 @@ use Rattle.paw_base.specs.declared.parts.Condact.{Condact}
 use Rattle.paw_game.specs.Valid.{is_within}
 use Rattle.paw_world.specs.World.{World, flag}
 
+-- the codes of these conditions
 abbrev pub tests_flag : ℕ → Bool
 tests_flag code = is_within ZERO ADJECT2 code || (code == TIMEOUT)
 

@@ -12,6 +12,7 @@ use Rattle.paw_effects.specs.Done.{Done, tells, leads}
 use Rattle.paw_effects.specs.Presence.{named_place}
 use Rattle.paw_effects.specs.Texts.{put_text, say_text}
 
+-- the codes of these actions
 abbrev pub is_flow : ℕ → Bool
 is_flow code = is_within DESC ANYKEY code || is_within PARSE DOALL code
 

@@ -25,6 +25,7 @@ is_condition c = nat_le c.code MOVE
 abbrev pub truth_of : Bool → Truth
 truth_of b = if b then truth.Yes else truth.No
 
+-- a condition answers by whether it holds, and changes nothing
 abbrev pub answers : World → Bool → Tested
 answers w b = record { answer = truth_of b; world = w }
 
@@ -37,6 +38,7 @@ abbrev pub moves_to : World → ℕ → Option ℕ → Tested
 moves_to w f None = answers w false
 moves_to w f (Some to) = answers (with_flag w f to) true
 
+-- MOVE by the flag that names a location
 abbrev pub moves : GameLists → World → ℕ → Tested
 moves g w f = moves_to w f (exit_at g (flag w f) (flag w VERB_FLAG))
 

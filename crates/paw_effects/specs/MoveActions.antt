@@ -9,6 +9,7 @@ use Rattle.paw_game.specs.Valid.{is_within}
 use Rattle.paw_world.specs.World.{World, flag, with_flag, place, moved, here, with_objects_returned}
 use Rattle.paw_effects.specs.Presence.{named_place, held_objects}
 
+-- the codes of these actions
 abbrev pub is_move : ℕ → Bool
 is_move code = (code == DROPALL) || is_within CREATE PUTO code || is_within COPYOO COPYFO code
 

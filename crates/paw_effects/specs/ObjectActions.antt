@@ -25,16 +25,20 @@ use Rattle.paw_effects.specs.ObjectWords.{spoken, ends_loop}
 
 -- ---- what is looked at ----
 
+-- an object is worn
 abbrev pub is_worn : World → ℕ → Bool
 is_worn w o = place w o == WORN_PLACE
 
+-- an object is carried
 abbrev pub is_carried : World → ℕ → Bool
 is_carried w o = place w o == CARRIED_PLACE
 
+-- these facts let an object be worn
 abbrev pub is_wearable : Option ObjectFacts → Bool
 is_wearable None = false
 is_wearable (Some f) = f.wearable
 
+-- an object may be worn
 abbrev pub can_be_worn : World → ℕ → Bool
 can_be_worn w o = is_wearable (slice_get w.facts o)
 
@@ -107,6 +111,7 @@ refuses g w said = record {
   act = record { effect = effect.Exit true; drop_line = true; cancel_loop = ends_loop said };
 }
 
+-- an action on an object where this is said against it, or nothing is
 abbrev pub tried : GameLists → World → ℕ → Action → Option Words → Done
 tried g w o a (Some said) = refuses g w said
 tried g w o a None = let after = moved w o (destination w a) in prints after (spoken g after (outcome a))

@@ -16,6 +16,7 @@ names w f =
     not (flag w NOUN_FLAG == NO_WORD) && ((f.noun == flag w NOUN_FLAG)
     && ((flag w ADJECTIVE_FLAG == NO_WORD) || (f.adjective == flag w ADJECTIVE_FLAG)))
 
+-- the same of an object, where there is one
 abbrev pub has_names : World → Option ObjectFacts → Bool
 has_names w None = false
 has_names w (Some f) = names w f

@@ -9,6 +9,7 @@ use Rattle.paw_game.specs.Valid.{is_within}
 use Rattle.paw_world.specs.World.{World, flag, place, is_present}
 use Rattle.paw_effects.specs.Presence.{named_place}
 
+-- the codes of these conditions: AT to NOTCARR, ISAT and ISNOTAT
 abbrev pub tests_place : ℕ → Bool
 tests_place code = is_within AT NOTCARR code || is_within ISAT ISNOTAT code
 

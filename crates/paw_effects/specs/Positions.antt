@@ -11,6 +11,7 @@ use Rattle.paw_effects.specs.declared.act.Effect.TheVariants as effect
 use Rattle.paw_effects.specs.Done.{Done, tells, leads}
 use Rattle.paw_effects.specs.Texts.{say_text}
 
+-- the codes of SAVE and LOAD
 abbrev pub is_keeping : ℕ → Bool
 is_keeping code = (code == SAVE) || (code == LOAD)
 

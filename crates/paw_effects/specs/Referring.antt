@@ -8,9 +8,11 @@ use Rattle.paw_base.specs.declared.parts.ObjectFacts.{ObjectFacts}
 use Rattle.paw_world.specs.World.{World, place, with_flag}
 use Rattle.paw_world.specs.Weight.{weight}
 
+-- how a flag tells that an object is so: 128, half of a byte, or 0
 abbrev pub weight_class : Bool → ℕ
 weight_class b = if b then 128 else 0
 
+-- the flags of the object last referred to, by its facts; they stay where there is no such object
 abbrev pub facts_written : World → ℕ → Option ObjectFacts → World
 facts_written w o None = w
 facts_written w o (Some f) =

@@ -12,6 +12,7 @@ use Rattle.paw_effects.specs.Lists.{inventory_text, here_list_text, place_list_t
 use Rattle.paw_effects.specs.Marks.{mark_text}
 use Rattle.paw_effects.specs.Presence.{named_place}
 
+-- the codes of these actions
 abbrev pub is_print : ℕ → Bool
 is_print code =
     (code == INVEN) || is_within TURNS SCORE code || is_within MES PRINT code || is_within LISTOBJ LISTAT code

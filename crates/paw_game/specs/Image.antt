@@ -39,6 +39,7 @@ object_image o =
     text_image o.text ++ o.facts.noun ∷ o.facts.adjective ∷ o.facts.start
     ∷ weight_byte o.facts.weight o.facts.container o.facts.wearable ∷ []
 
+-- verb, location
 abbrev pub exit_image : Exit → List ℕ
 exit_image x = x.verb ∷ x.to ∷ []
 
@@ -62,6 +63,7 @@ parameter_image kind.Noun x = x ∷ []
 parameter_image kind.Adjective x = x ∷ []
 parameter_image kind.Preposition x = x ∷ []
 
+-- code, and the parameters that it has
 abbrev pub condact_image : Condact → List ℕ
 condact_image c = c.code ∷ (parameter_image (first_kind c.code) c.a ++ parameter_image (second_kind c.code) c.b)
 

@@ -19,6 +19,7 @@ abbrev pub or_empty : {A : Type 0} → Option (List A) → List A
 or_empty None = []
 or_empty (Some xs) = xs
 
+-- how many rows each part of a game has
 abbrev pub counts_of : GameLists → Counts
 counts_of g = record {
   words = length g.words;
@@ -29,6 +30,7 @@ counts_of g = record {
   tables = length g.tables;
 }
 
+-- the facts of an object, where there is one
 abbrev pub facts_of : Option ObjectRow → Option ObjectFacts
 facts_of None = None
 facts_of (Some o) = Some o.facts
@@ -37,6 +39,7 @@ facts_of (Some o) = Some o.facts
 abbrev pub facts_at : GameLists → ℕ → Option ObjectFacts
 facts_at g o = facts_of (slice_get g.objects o)
 
+-- the text of an object, where there is one
 abbrev pub text_of : Option ObjectRow → Option (List ℕ)
 text_of None = None
 text_of (Some o) = Some o.text
@@ -56,6 +59,7 @@ abbrev pub exit_of : List Exit → ℕ → Option ℕ
 exit_of [] verb = None
 exit_of (x ∷ xs) verb = if x.verb == verb then Some x.to else exit_of xs verb
 
+-- where the exit of this verb leads from a location
 abbrev pub exit_at : GameLists → ℕ → ℕ → Option ℕ
 exit_at g location verb = exit_of (or_empty (slice_get g.exits location)) verb
 
@@ -63,13 +67,16 @@ exit_at g location verb = exit_of (or_empty (slice_get g.exits location)) verb
 abbrev pub table_at : GameLists → ℕ → List Entry
 table_at g t = or_empty (slice_get g.tables t)
 
+-- an entry of a table
 abbrev pub entry_at : GameLists → ℕ → ℕ → Option Entry
 entry_at g t e = slice_get (table_at g t) e
 
+-- the condacts of an entry; none where there is no entry
 abbrev pub condacts_of : Option Entry → List Condact
 condacts_of None = []
 condacts_of (Some e) = e.condacts
 
+-- the verb and the noun of an entry, where there is one
 abbrev pub head_of : Option Entry → Option (ℕ × ℕ)
 head_of None = None
 head_of (Some e) = Some (record { 0 = e.verb; 1 = e.noun })
@@ -78,6 +85,7 @@ head_of (Some e) = Some (record { 0 = e.verb; 1 = e.noun })
 abbrev pub head_at : GameLists → ℕ → ℕ → Option (ℕ × ℕ)
 head_at g t e = head_of (entry_at g t e)
 
+-- a condact of an entry of a table
 abbrev pub condact_at : GameLists → ℕ → ℕ → ℕ → Option Condact
 condact_at g t e k = slice_get (condacts_of (entry_at g t e)) k
 
@@ -107,6 +115,7 @@ abbrev pub word_of : List ℕ → List Word → Option Word
 word_of letters [] = None
 word_of letters (w ∷ ws) = if bytes_eq w.letters letters then Some w else word_of letters ws
 
+-- the value and the class of a word, where there is one
 abbrev pub meaning_of : Option Word → Option (ℕ × ℕ)
 meaning_of None = None
 meaning_of (Some w) = Some (record { 0 = w.value; 1 = w.class })

@@ -52,6 +52,7 @@ words_rise [] = true
 words_rise (w ∷ []) = true
 words_rise (w ∷ v ∷ ws) = is_lt (slice_cmp nat_cmp w.letters v.letters) && words_rise (v ∷ ws)
 
+-- the rules of words: not too many, each a word, and in order
 abbrev pub words_kept : List Word → Bool
 words_kept ws = nat_le (length ws) WORD_LIMIT && (list_all is_word ws && words_rise ws)
 
@@ -82,6 +83,7 @@ is_printed first (b ∷ bs) = (is_text_byte b && not (first && begins_no_line b)
 abbrev pub is_text : List ℕ → Bool
 is_text bytes = nat_le (length bytes) TEXT_LIMIT && is_printed true bytes
 
+-- the rules of texts: at most so many, and each a text
 abbrev pub texts_kept : ℕ → List (List ℕ) → Bool
 texts_kept most texts = nat_le (length texts) most && list_all is_text texts
 
@@ -101,9 +103,11 @@ are_facts ws locations f =
     is_word_or_none ws NOUN_CLASS f.noun && (is_word_or_none ws ADJECTIVE_CLASS f.adjective
     && (is_place locations f.start && nat_le f.weight WEIGHT_LIMIT))
 
+-- an object: its text, and its facts
 abbrev pub is_object : List Word → ℕ → ObjectRow → Bool
 is_object ws locations o = is_text o.text && are_facts ws locations o.facts
 
+-- the rules of objects: not too many, and each an object
 abbrev pub objects_kept : List Word → ℕ → List ObjectRow → Bool
 objects_kept ws locations os = nat_le (length os) OBJECT_LIMIT && list_all (is_object ws locations) os
 
@@ -164,11 +168,13 @@ is_right g c = nat_le c.code 107 && (is_argument g (first_kind c.code) c.a && is
 abbrev pub is_any : ℕ → Bool
 is_any value = (value == ANY_WORD) || (value == NO_WORD)
 
+-- an entry: its verb, its noun, and its condacts, which are not too many
 abbrev pub is_entry : GameLists → Entry → Bool
 is_entry g e =
     (is_any e.verb || is_verb_value g.words e.verb) && ((is_any e.noun || has_word g.words NOUN_CLASS e.noun)
     && (nat_le (length e.condacts) CONDACT_LIMIT && list_all (is_condact g) e.condacts))
 
+-- a table: its entries, which are not too many
 abbrev pub is_table : GameLists → List Entry → Bool
 is_table g es = nat_le (length es) ENTRY_LIMIT && list_all (is_entry g) es
 

@@ -15,12 +15,15 @@ use Rattle.paw_game.specs.Game.{GameLists}
 
 -- ---- how many ----
 
+-- how many locations the game of a number has
 abbrev pub location_count : ℕ → ℕ
 location_count n = 20 + n % 200
 
+-- how many objects it has
 abbrev pub object_count : ℕ → ℕ
 object_count n = 10 + n % 100
 
+-- how many lines its session has
 abbrev pub line_count : ℕ → ℕ
 line_count n = 10 + n % 90
 
@@ -48,6 +51,7 @@ object_text k = numbered (codes "thing ") [] k
 
 -- ---- words ----
 
+-- a word, by its parts
 abbrev pub word : List ℕ → ℕ → ℕ → Word
 word letters value class = record { letters = letters; value = value; class = class }
 
@@ -80,6 +84,7 @@ object_facts locations k = record {
   wearable = false;
 }
 
+-- object k, in a game of so many locations
 abbrev pub object_row : ℕ → ℕ → ObjectRow
 object_row locations k = record { text = object_text k; facts = object_facts locations k }
 
@@ -93,6 +98,7 @@ ring_exits locations k = record { verb = 2; to = (k + 1) % locations } ∷ recor
 abbrev pub condact : ℕ → ℕ → Condact
 condact code a = record { code = code; a = a; b = 0 }
 
+-- an entry, by its parts
 abbrev pub entry : ℕ → ℕ → List Condact → Entry
 entry verb noun condacts = record { verb = verb; noun = noun; condacts = condacts }
 

@@ -97,6 +97,7 @@ new_exits d n =
     if nat_lt n (length d.exits) || not (nat_lt n (length d.locations)) then Err kind.Range
     else Ok (record d { exits = d.exits ++ replicate (suc n - length d.exits) [] })
 
+-- an item of a section; only texts and exits have items
 abbrev pub item_in : Section → Spelt → ℕ → Result Spelt SourceKind
 item_in section.Before d n = Err kind.Section
 item_in section.Voc d n = Err kind.Section

@@ -31,6 +31,7 @@ voc_row ws ts = do
 
 -- ---- /CON ----
 
+-- an exit has this verb
 abbrev pub has_exit : ℕ → List Exit → Bool
 has_exit verb xs = list_any (λ x. x.verb == verb) xs
 
@@ -63,6 +64,7 @@ object_row ws locations next count ts = do
   end ← ended adjective.1
   Ok (record { noun = noun.0; adjective = adjective.0; start = place.0; weight = weight.0; container = k.0.0; wearable = k.0.1 })
 
+-- of the objects, one more
 abbrev pub obj_row : Spelt → List (List ℕ) → Result Spelt SourceKind
 obj_row d ts =
     object_row d.words (length d.locations) (length d.facts) (length d.names) ts
@@ -89,6 +91,7 @@ entry_row bounds ws es ts = do
   if nat_lt (length es) ENTRY_LIMIT then Ok (es ++ (record { verb = v.0; noun = n.0; condacts = cs }) ∷ [])
       else Err fault.TooBig
 
+-- an entry with nothing in it
 abbrev pub no_entry : Entry
 no_entry = record { verb = 0; noun = 0; condacts = [] }
 
@@ -108,6 +111,7 @@ pro_row p d more ts =
 
 -- ---- a row ----
 
+-- a row of a section; texts have none
 abbrev pub row_in : Section → ℕ → Spelt → Bool → List (List ℕ) → Result Spelt SourceKind
 row_in section.Before p d more ts = Err fault.Section
 row_in section.Voc p d more ts = voc_row d.words ts >>= λ ws. Ok (record d { words = ws })

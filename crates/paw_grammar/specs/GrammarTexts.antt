@@ -9,6 +9,7 @@ use Rattle.paw_grammar.specs.declared.section.Section.TheVariants as section
 use Rattle.paw_grammar.specs.Tokens.{◌>>=◌}
 use Rattle.paw_grammar.specs.GrammarState.{Spelt, last_or, with_last}
 
+-- a section of texts
 abbrev pub is_text_section : Section → Bool
 is_text_section section.Before = false
 is_text_section section.Voc = false

@@ -5,6 +5,7 @@ use Rattle.paw_base.specs.declared.fault.SourceKind.TheVariants as kind
 use Rattle.paw_game.specs.Valid.{is_within}
 use Rattle.paw_grammar.specs.Tokens.{◌>>=◌, read_by}
 
+-- a decimal digit
 abbrev pub is_digit : ℕ → Bool
 is_digit b = is_within 48 57 b
 

@@ -33,6 +33,7 @@ begins_with_blank (b ∷ bs) = is_blank b
 abbrev pub is_text_line : Spelt → List ℕ → Bool
 is_text_line d l = is_in_text d && not (begins_with_slash l)
 
+-- what is spelled with a text line more
 abbrev pub text_added : Spelt → List ℕ → Result Spelt SourceKind
 text_added d l = text_line d.begun l (texts_of d.section d) >>= λ ts. Ok (with_texts d.section true ts d)
 
@@ -52,6 +53,7 @@ step p d l =
 
 -- ---- all lines ----
 
+-- the first of these tokens is the header of a table
 abbrev pub is_pro_token : List (List ℕ) → Bool
 is_pro_token [] = false
 is_pro_token (t ∷ ts) = is_named t (codes "/PRO")
@@ -60,9 +62,11 @@ is_pro_token (t ∷ ts) = is_named t (codes "/PRO")
 abbrev pub begins_table : List ℕ → Bool
 begins_table l = begins_with_slash l && is_pro_token (tokens_of l)
 
+-- a fault of this line and this kind
 abbrev pub fault : ℕ → SourceKind → SourceFault
 fault line kind = record { line = line; kind = kind }
 
+-- what comes first has the first fault, which is of this line
 abbrev pub at_line : ℕ → Result Spelt SourceKind → (Spelt → Result GameLists SourceFault) → Result GameLists SourceFault
 at_line n (Err k) go = Err (fault n k)
 at_line n (Ok d) go = go d
@@ -86,5 +90,6 @@ spelled source =
     if nat_lt SOURCE_LIMIT (length source) then Err (fault 0 kind.TooBig)
     else reading (count_by begins_table (lines_of source)) 0 nothing_yet (lines_of source)
 
+-- a source spells this game
 abbrev pub Spells : List ℕ → GameLists → Type 0
 Spells source g = spelled source ≡ Ok g

@@ -55,6 +55,7 @@ kind_named t =
     else if is_named t (codes "CW") then Some (true, true)
     else None
 
+-- the kind of an object
 abbrev pub object_kind : List (List ℕ) → Result ((Bool × Bool) × List (List ℕ)) SourceKind
 object_kind ts = read_by kind.Word kind_named ts
 

@@ -7,9 +7,11 @@ use Rattle.paw_journal.specs.declared.refusal.SessionPart.TheVariants as part
 abbrev pub header_length : ℕ
 header_length = 128
 
+-- The bytes of a slot.
 abbrev pub slot_length : ℕ
 slot_length = 86080
 
+-- The bytes of a session: its header and two slots.
 abbrev pub session_length : ℕ
 session_length = 172288
 
@@ -17,6 +19,7 @@ session_length = 172288
 abbrev pub stretch : ℕ → ℕ → List ℕ → List ℕ
 stretch at n bytes = take n (drop at bytes)
 
+-- So many bytes that are 0.
 unfoldable pub zeros : ℕ → List ℕ
 zeros n = replicate n 0
 
@@ -28,12 +31,15 @@ number_at at bytes = slice_index bytes at + 256 * slice_index bytes (at + 1)
 abbrev pub made_mark : ℕ
 made_mark = 80
 
+-- Byte 0.
 abbrev pub mark : List ℕ → ℕ
 mark bytes = slice_index bytes 0
 
+-- Which slot is in use: 0 or 1.
 abbrev pub chosen : List ℕ → ℕ
 chosen bytes = slice_index bytes 1 % 2
 
+-- Byte 2: the version of the session.
 abbrev pub version : List ℕ → ℕ
 version bytes = slice_index bytes 2
 
@@ -41,6 +47,7 @@ version bytes = slice_index bytes 2
 abbrev pub is_known : ℕ → Bool
 is_known n = (n == 1) || (n == 2)
 
+-- The digest of the game that it is a session of.
 abbrev pub kept_digest : List ℕ → List ℕ
 kept_digest bytes = stretch 32 32 bytes
 
@@ -49,9 +56,11 @@ kept_digest bytes = stretch 32 32 bytes
 abbrev pub slot : ℕ → List ℕ → List ℕ
 slot k bytes = stretch (header_length + slot_length * k) slot_length bytes
 
+-- The bytes of a slot's base.
 abbrev pub base_length : ℕ
 base_length = 4096
 
+-- The most change records of a slot.
 abbrev pub most_changes : ℕ
 most_changes = 4096
 
@@ -59,6 +68,7 @@ most_changes = 4096
 abbrev pub is_second : List ℕ → Bool
 is_second bytes = slice_index bytes 2 == 2
 
+-- The base of a slot.
 abbrev pub base : List ℕ → List ℕ
 base bytes = stretch 64 base_length bytes
 
@@ -68,6 +78,7 @@ pub record Change : Type 0 where
   pub byte : ℕ
   pub last : ℕ
 
+-- A change is sound where its place is one of the base, and its last byte is 0.
 abbrev pub is_sound : Change → Bool
 is_sound c = nat_lt c.at base_length && (c.last == 0)
 
@@ -93,6 +104,7 @@ changed (c ∷ more) bytes = changed more (slice_set bytes c.at c.byte)
 abbrev pub has_state : List ℕ → Bool
 has_state bytes = nat_le (number_at 0 bytes) most_changes && is_none (first_unsound (slot_changes bytes))
 
+-- The state of a slot: its base with its change records applied.
 abbrev pub slot_state : List ℕ → List ℕ
 slot_state bytes = changed (slot_changes bytes) (base bytes)
 
@@ -101,6 +113,7 @@ slot_state bytes = changed (slot_changes bytes) (base bytes)
 abbrev pub state_length : ℕ
 state_length = 3419
 
+-- The bytes of a state in version 1.
 abbrev pub first_length : ℕ
 first_length = 1371
 
@@ -109,9 +122,11 @@ abbrev pub shown_state : List ℕ → List ℕ
 shown_state bytes =
     if is_second bytes then take state_length (slot_state bytes) else take first_length (slot_state bytes) ++ zeros 2048
 
+-- How many bytes the piece of a state has.
 abbrev pub piece_length : List ℕ → ℕ
 piece_length state = number_at 1369 state
 
+-- The piece of a slot.
 abbrev pub slot_piece : List ℕ → List ℕ
 slot_piece bytes = stretch 4160 (piece_length (slot_state bytes)) bytes
 
@@ -127,6 +142,7 @@ abbrev pub shown_unless : List ℕ → List ℕ → Option ℕ → Recovered
 shown_unless digest bytes (Some n) = Damaged part.Slot (69696 + 4 * n)
 shown_unless digest bytes None = Shown digest (shown_state bytes) (slot_piece bytes)
 
+-- What a slot shows, where it doesn't have too many change records.
 unfoldable pub slot_shows : List ℕ → List ℕ → Recovered
 slot_shows digest bytes =
     if nat_le (number_at 0 bytes) most_changes
@@ -140,6 +156,7 @@ recover_by k bytes =
     then (if is_known (version bytes) then slot_shows (kept_digest bytes) (slot k bytes) else Damaged part.Header 2)
     else Unmade (length bytes) (mark bytes)
 
+-- What the bytes stand for, by the slot that they choose.
 unfoldable pub recover : List ℕ → Recovered
 recover bytes = recover_by (chosen bytes) bytes
 

@@ -20,10 +20,12 @@ pub record Mark : Type 0 where
   pub token : Option (List ℕ)
   pub after : List ℕ
 
+-- the token of a run of its bytes; none where the run is empty
 abbrev pub token_mark : List ℕ → List ℕ → List Mark
 token_mark [] after = []
 token_mark (b ∷ bs) after = record { token = Some (five_letters (b ∷ bs)); after = after } ∷ []
 
+-- a separator, where this byte is one
 abbrev pub separator_mark : ℕ → List ℕ → List Mark
 separator_mark b after = if is_separator b then record { token = None; after = after } ∷ [] else []
 
@@ -44,6 +46,7 @@ abbrev pub is_conjunction : Option (ℕ × ℕ) → Bool
 is_conjunction None = false
 is_conjunction (Some word) = word.1 == CONJUNCTION_CLASS
 
+-- a separator, or a token with these letters that is a conjunction
 abbrev pub is_parting : GameLists → Option (List ℕ) → Bool
 is_parting g None = true
 is_parting g (Some letters) = is_conjunction (word_at g letters)
@@ -57,6 +60,7 @@ abbrev pub from_phrase : GameLists → List Mark → List Mark
 from_phrase g [] = []
 from_phrase g (m ∷ ms) = if parts_phrases g m then from_phrase g ms else m ∷ ms
 
+-- the token of a mark; a separator has none
 abbrev pub token_of : Option (List ℕ) → List (List ℕ)
 token_of None = []
 token_of (Some letters) = letters ∷ []
@@ -76,6 +80,7 @@ pub record Phrase : Type 0 where
   pub tokens : List (List ℕ)
   pub rest : List ℕ
 
+-- the phrase at the head of these marks; none where there are none
 abbrev pub phrase_of : GameLists → List Mark → Option Phrase
 phrase_of g [] = None
 phrase_of g (m ∷ ms) = Some (record { tokens = tokens_of g (m ∷ ms); rest = bytes_after g (m ∷ ms) })

@@ -22,6 +22,7 @@ blank noun adjective = record {
   pronoun_adjective = adjective;
 }
 
+-- no word is there
 abbrev pub is_absent : ℕ → Bool
 is_absent value = value == NO_WORD
 
@@ -58,6 +59,7 @@ with_word value class s =
     if class == PREPOSITION_CLASS then record s { preposition = or_value s.preposition value } else
     if class == PRONOUN_CLASS then with_pronoun s else s
 
+-- the word of a token is added, by its value and its class, where the token is known
 abbrev pub with_known : Option (ℕ × ℕ) → Sentence → Sentence
 with_known None s = s
 with_known (Some word) s = with_word word.0 word.1 s
@@ -67,6 +69,7 @@ abbrev pub filled : GameLists → List (List ℕ) → Sentence → Sentence
 filled g [] s = s
 filled g (token ∷ tokens) s = filled g tokens (with_known (word_at g token) s)
 
+-- a token is known, by the value and the class of its word
 abbrev pub is_known : Option (ℕ × ℕ) → Bool
 is_known None = false
 is_known (Some word) = true
@@ -102,6 +105,7 @@ pub data Parsed : Type 0 where
   IsUnknown : (rest : List ℕ) → Parsed
   IsNoPhrase : Parsed
 
+-- what a phrase is, or where there is none
 abbrev pub parsed_phrase : GameLists → ℕ → ℕ → ℕ → Option Phrase → Parsed
 parsed_phrase g earlier noun adjective None = IsNoPhrase
 parsed_phrase g earlier noun adjective (Some p) =

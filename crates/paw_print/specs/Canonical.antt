@@ -29,6 +29,7 @@ location_lines ws n (x ∷ xs) = item_token n ∷ map (λ y. spaced (exit_tokens
 abbrev pub exits_lines : List Word → List (List Exit) → List (List ℕ)
 exits_lines ws exits = codes "/CON" ∷ numbered (location_lines ws) 0 exits
 
+-- the line of an object
 abbrev pub object_lines : List Word → ℕ → ObjectRow → List (List ℕ)
 object_lines ws n o = spaced (object_tokens ws n o.facts) ∷ []
 

@@ -45,17 +45,21 @@ abbrev pub may_open : Option ℕ → ℕ → Bool
 may_open None t = nat_le t 2
 may_open (Some u) t = t == u
 
+-- a condact is there, and has this code
 abbrev pub has_code : ℕ → Option Condact → Bool
 has_code code None = false
 has_code code (Some c) = c.code == code
 
+-- the first parameter of a condact; 0 where there is none
 abbrev pub parameter_of : Option Condact → ℕ
 parameter_of None = 0
 parameter_of (Some c) = c.a
 
+-- the condact at which a frame stands
 abbrev pub condact_of : GameLists → Frame → Option Condact
 condact_of g f = condact_at g f.table f.entry f.at
 
+-- a row that isn't used
 abbrev pub is_unused : Frame → Bool
 is_unused f = (f.table == 0) && ((f.entry == 0) && ((f.at == 0) && not f.acted))
 
@@ -72,10 +76,12 @@ rows_fault g code caller n d (f ∷ fs) =
     if row_stands g code caller n f
     then rows_fault g code (Some (parameter_of (condact_of g f))) (n - 1) (suc d) fs else Some d
 
+-- the table of a row
 abbrev pub table_of : Option Frame → Option ℕ
 table_of None = None
 table_of (Some f) = Some f.table
 
+-- a table is there, and it is this one
 abbrev pub is_table : Option ℕ → ℕ → Bool
 is_table None t = false
 is_table (Some u) t = t == u
@@ -92,6 +98,7 @@ abbrev pub loop_fault : GameLists → Frames → Option OpenLoop → Option ℕ
 loop_fault g k None = None
 loop_fault g k (Some l) = if loop_stands g k l then None else Some MOST_FRAMES
 
+-- the first of two faults
 abbrev pub first_fault : Option ℕ → Option ℕ → Option ℕ
 first_fault None later = later
 first_fault (Some d) later = Some d
@@ -101,10 +108,12 @@ abbrev pub count_fits : Option ℕ → ℕ → Bool
 count_fits None n = n == 0
 count_fits (Some code) n = nat_lt 0 n && nat_le n MOST_FRAMES
 
+-- the code of a condact; 0 where there is none
 abbrev pub or_none : Option ℕ → ℕ
 or_none None = 0
 or_none (Some code) = code
 
+-- the first fault of what is kept of a machine that waits at a condact of this code
 abbrev pub fault_at : GameLists → Option ℕ → Frames → Option ℕ
 fault_at g code k =
     if count_fits code k.count

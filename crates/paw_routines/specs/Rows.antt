@@ -2,6 +2,7 @@
 use Rattle.std.specs.Prelude.{◌≡◌, ℕ, ◌<◌, List, length, All, Option, None, Some, slice_get, slice_index}
 use Rattle.std.specs.Fn.{Shared}
 
+-- the value at a number of a row, where there is a row
 abbrev pub value_in : Option (List ℕ) → ℕ → Option ℕ
 value_in None x = None
 value_in (Some row) x = Some (slice_index row x)

@@ -34,6 +34,7 @@ abbrev pub or_first : Option ℕ → Option ℕ → Option ℕ
 or_first None later = later
 or_first (Some at) later = Some at
 
+-- the first of these faults
 abbrev pub first : List (Option ℕ) → Option ℕ
 first [] = None
 first (o ∷ later) = or_first o (first later)
@@ -45,6 +46,7 @@ first_not p at (b ∷ bs) = if p b then first_not p (suc at) bs else Some at
 
 -- ---- the rules of the fields ----
 
+-- a byte is 0
 abbrev pub is_zero : ℕ → Bool
 is_zero b = b == 0
 
@@ -117,6 +119,7 @@ row_fault g code caller n at r =
 abbrev pub called : GameLists → Row → Option ℕ
 called g r = Some (parameter_of (condact_at g r.table r.entry r.at))
 
+-- the first fault of rows that stand from this place on, of which n are used, the first of them of the table that was called
 unfoldable pub rows_fault : GameLists → ℕ → Option ℕ → ℕ → ℕ → List Row → Option ℕ
 rows_fault g code caller n at [] = None
 rows_fault g code caller n at (r ∷ rs) =

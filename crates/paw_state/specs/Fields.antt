@@ -84,6 +84,7 @@ abbrev pub held_of : Option Position → Held
 held_of None = record { there = 0; flags = zeros FLAG_COUNT; places = zeros OBJECT_LIMIT }
 held_of (Some q) = record { there = 1; flags = q.flags; places = filled OBJECT_LIMIT q.places }
 
+-- the code of a prompt
 abbrev pub prompt_code : Prompt → ℕ
 prompt_code prompt.Main = 0
 prompt_code prompt.Quit = 1
@@ -91,9 +92,11 @@ prompt_code prompt.Again = 2
 prompt_code prompt.Key = 3
 prompt_code prompt.Over = 4
 
+-- the row of a frame
 abbrev pub row_of : Frame → Row
 row_of f = record { table = f.table; entry = f.entry; at = f.at; acted = (if f.acted then 1 else 0) }
 
+-- the loop, or one that is all 0 where there is none
 abbrev pub loop_or_zeros : Option OpenLoop → OpenLoop
 loop_or_zeros None = record { level = 0; table = 0; entry = 0; at = 0; place = 0; last = 0 }
 loop_or_zeros (Some l) = l
@@ -129,9 +132,11 @@ state_bytes s = field_bytes (fields_of s)
 abbrev pub two_at : List ℕ → ℕ → ℕ
 two_at bytes at = from_le_bytes w16 (slice_range bytes at (at + 2))
 
+-- the number in the eight bytes from a place on
 abbrev pub eight_at : List ℕ → ℕ → ℕ
 eight_at bytes at = from_le_bytes w64 (slice_range bytes at (at + 8))
 
+-- the row in the bytes from the first on
 abbrev pub row_at : List ℕ → Row
 row_at bytes = record {
   table = slice_index bytes 0;

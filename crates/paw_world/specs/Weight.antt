@@ -13,6 +13,7 @@ at_from p o (q ∷ qs) = if q == p then o ∷ at_from p (suc o) qs else at_from 
 abbrev pub objects_at : World → ℕ → List ℕ
 objects_at w p = at_from p 0 w.places
 
+-- what an object weighs of itself; 0 where there is none
 abbrev pub own_weight : Option ObjectFacts → ℕ
 own_weight None = 0
 own_weight (Some f) = f.weight

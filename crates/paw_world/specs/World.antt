@@ -28,15 +28,19 @@ pub record World : Type 0 where
   pub seed : ℕ
   pub draws : ℕ
 
+-- the value of a flag
 abbrev pub flag : World → ℕ → ℕ
 flag w f = slice_index w.flags f
 
+-- a flag gets this value
 abbrev pub with_flag : World → ℕ → ℕ → World
 with_flag w f x = record w { flags = slice_set w.flags f x }
 
+-- the place of an object
 abbrev pub place : World → ℕ → ℕ
 place w o = slice_index w.places o
 
+-- an object gets this place; no flag changes
 abbrev pub with_place : World → ℕ → ℕ → World
 with_place w o p = record w { places = slice_set w.places o p }
 
@@ -116,6 +120,7 @@ is_unlit w = is_dark w && not (is_lit w)
 abbrev pub fallen : ℕ → World → World
 fallen f w = with_flag w f (flag w f - 1)
 
+-- a flag loses one where this is so
 abbrev pub fallen_if : Bool → ℕ → World → World
 fallen_if b f w = if b then fallen f w else w
 
@@ -147,6 +152,7 @@ ramsaved w = record w { saved = Some (position_of w) }
 abbrev pub at_position : World → ℕ → Position → World
 at_position w n q = record w { flags = take (suc n) q.flags ++ drop (suc n) w.flags; places = q.places }
 
+-- flags 0 to n and all places are taken from a position; where there is none nothing changes
 abbrev pub taken_from : World → ℕ → Option Position → World
 taken_from w n None = w
 taken_from w n (Some q) = at_position w n q
@@ -155,10 +161,12 @@ taken_from w n (Some q) = at_position w n q
 abbrev pub ramloaded : World → ℕ → World
 ramloaded w n = taken_from w n w.saved
 
+-- a flag of a position; 0 where there is none
 abbrev pub flag_in : Option Position → ℕ → ℕ
 flag_in None f = 0
 flag_in (Some q) f = slice_index q.flags f
 
+-- the place of an object in a position; 0 where there is none
 abbrev pub place_in : Option Position → ℕ → ℕ
 place_in None o = 0
 place_in (Some q) o = slice_index q.places o
