@@ -10,7 +10,7 @@ use Rattle.paw_base.proofs.Filled.{has_space-plain, before_space-filled_up}
 use Rattle.paw_base.specs.declared.rows.ParamKind.{ParamKind}
 use Rattle.paw_base.specs.declared.rows.ParamKind.TheVariants.{Absent}
 use Rattle.paw_base.specs.declared.rows.TheConstants.{CONDACTS}
-use Rattle.paw_base.specs.Condacts.{CondactLine, condact, condact_lines, filled_up, before_space, line_of, name_of, first_kind, second_kind, param_count, row_of, capitals, HasName, IsCode, is_plain, acts}
+use Rattle.paw_base.specs.Condacts.{CondactLine, named_line, condact_lines, filled_up, before_space, line_of, name_of, first_kind, second_kind, param_count, row_of, capitals, HasName, IsCode, is_plain, acts}
 
 -- ---- the code's table is the definition's
 
@@ -33,7 +33,7 @@ unfolding line_of
 held_is_line code row h e =
     e
     ∙ ap (λ rows. slice_index_or rows code row) CONDACTS_are
-    ∙ get_or-map held condact_lines code (condact [] Absent Absent) row (rw length-condact_lines h)
+    ∙ get_or-map held condact_lines code (named_line [] Absent Absent) row (rw length-condact_lines h)
 
 pub row_is : (code : ℕ) (row : Held) → code < 108 → row ≡ slice_index_or CONDACTS code row → record { name = row.0; first = row.1; second = row.2; acts = acts code } ≡ row_of code
 row_is code row h e = rw (held_is_line code row h e) refl

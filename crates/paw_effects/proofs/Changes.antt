@@ -19,7 +19,7 @@ use Rattle.paw_game.specs.Tables.{exit_at}
 use Rattle.paw_game.specs.Valid.{Valid, is_condact, is_parameter, is_within}
 use Rattle.paw_game.proofs.Kept.{condact-first, condact-second, exit-leads}
 use Rattle.paw_world.specs.World.{World, Position, is_somewhere, flag, with_flag, place, here, moved, with_objects_returned, taken_from, drawn_on, position_of, keeping, kept_position}
-use Rattle.paw_world.specs.Draws.{word}
+use Rattle.paw_world.specs.Draws.{random_word}
 use Rattle.paw_routines.specs.Rows.{value_in, value_at}
 use Rattle.paw_world.specs.Weight.{weight, carried_weight, objects_at}
 use Rattle.paw_effects.specs.Done.{Done}
@@ -27,7 +27,7 @@ use Rattle.paw_effects.specs.Chance.{rolled}
 use Rattle.paw_effects.specs.FlowActions.{is_flow, flow_of}
 use Rattle.paw_effects.specs.Positions.{is_keeping, position_number, loaded, keeping_of}
 use Rattle.paw_effects.specs.TextActions.{is_print}
-use Rattle.paw_effects.specs.FlagActions.{change_of, answered}
+use Rattle.paw_effects.specs.FlagActions.{change_of, routine_answered}
 use Rattle.paw_effects.specs.MoveActions.{is_move, move_of, names_place}
 use Rattle.paw_effects.specs.Presence.{named_place, held_objects}
 use Rattle.paw_effects.specs.declared.object_actions.Action.{Action}
@@ -37,7 +37,7 @@ use Rattle.paw_effects.specs.declared.object_search.Spot.TheVariants as spot
 use Rattle.paw_effects.specs.declared.object_search.Spot.TheVariants.{Here, At}
 use Rattle.paw_effects.specs.declared.object_words.Words.{Words}
 use Rattle.paw_effects.specs.ObjectActions.{first_that_holds, hindrances, destination, tried, acted_on}
-use Rattle.paw_effects.specs.ObjectSearch.{fits, has_names, least_fitting, fitting_at, first_fitting}
+use Rattle.paw_effects.specs.ObjectSearch.{fits_sentence, has_names, least_fitting, fitting_at, first_fitting}
 use Rattle.paw_effects.specs.AutoActions.{looks_at, acted_on_found, referred_to_found, acts_on_given, acts_by_name, is_object_action, action_of, object_action_of}
 use Rattle.paw_effects.specs.Referring.{referred, referred_to_none, facts_written, weight_class}
 use Rattle.paw_effects.specs.Effects.{effect_of}
@@ -162,7 +162,7 @@ module _ (g : GameLists) (v : Valid g) (seed n : ℕ) where
       (next _ (back_so w k (kept_position w (position_number w)) (kept_at w k (position_number w))))
 
   rolled_small : (w : World) → rolled w < 256
-  rolled_small w = of_hundred (word w.seed w.draws)
+  rolled_small w = of_hundred (random_word w.seed w.draws)
     where
       of_hundred : (x : ℕ) → 1 + x % 100 < 256
       of_hundred x = omega arith
@@ -292,7 +292,7 @@ module _ (g : GameLists) (v : Valid g) (seed n : ℕ) where
   meant_so w k None small = none_so w k
 
   -- an object that fits is one of the game's
-  fits_small : (w : World) → Is w → (o : ℕ) → fits w o ≡ true → o < 256
+  fits_small : (w : World) → Is w → (o : ℕ) → fits_sentence w o ≡ true → o < 256
   fits_small w k o h = go (slice_get w.facts o) refl h
     where
       count : length w.facts ≡ length g.objects
@@ -314,9 +314,9 @@ module _ (g : GameLists) (v : Valid g) (seed n : ℕ) where
   spot_small w k spot.Here o e = go (is_somewhere w) e
     where
       go : (b : Bool) → ◌≡◌ {A = Option ℕ} (if b then least_fitting w (flag w 38) else None) (Some o) → o < 256
-      go true h = fits_small w k o (found_fits (fits w) (objects_at w (flag w 38)) o h)
+      go true h = fits_small w k o (found_fits (fits_sentence w) (objects_at w (flag w 38)) o h)
       go false h = cc
-  spot_small w k (spot.At p) o e = fits_small w k o (found_fits (fits w) (objects_at w p) o e)
+  spot_small w k (spot.At p) o e = fits_small w k o (found_fits (fits_sentence w) (objects_at w p) o e)
 
   first_small : (w : World) → Is w → (spots : List Spot) (o : ℕ) → first_fitting w spots ≡ Some o → o < 256
   first_small w k [] o e = cc
@@ -375,7 +375,7 @@ module _ (g : GameLists) (v : Valid g) (seed n : ℕ) where
       let at : AreBytes row = subst AreBytes (get_or_from_slice_get rows m row row e) (bytes m row (slice_get_within rows m row e)) in
       subst (λ z. z < 256) (same_Some (slice_index row x) y is) (byte_at row x at)
 
-  answered_so : (w : World) → Is w → (f : ℕ) (answer : Option ℕ) → ((y : ℕ) → answer ≡ Some y → y < 256) → Is (answered w f answer)
+  answered_so : (w : World) → Is w → (f : ℕ) (answer : Option ℕ) → ((y : ℕ) → answer ≡ Some y → y < 256) → Is (routine_answered w f answer)
   answered_so w k f None small = k
   answered_so w k f (Some y) small = flagged g v seed n w k f y (small y refl)
 

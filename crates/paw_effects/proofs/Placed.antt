@@ -28,7 +28,7 @@ use Rattle.paw_routines.specs.Rows.{value_at}
 use Rattle.paw_effects.specs.FlowActions.{is_flow, flow_of}
 use Rattle.paw_effects.specs.Positions.{is_keeping, keeping_of, loaded, position_number}
 use Rattle.paw_effects.specs.TextActions.{is_print}
-use Rattle.paw_effects.specs.FlagActions.{change_of, answered}
+use Rattle.paw_effects.specs.FlagActions.{change_of, routine_answered}
 use Rattle.paw_effects.specs.Presence.{named_place, held_objects}
 use Rattle.paw_effects.specs.MoveActions.{is_move, names_place, moved_if_place, move_of}
 use Rattle.paw_effects.specs.Referring.{facts_written, referred}
@@ -357,7 +357,7 @@ keeping_placed g w c k =
     (λ own. (k.0, (k.1.0, (k.1.1.0, (k.1.1.1.0, All-set (StandsIn g) w.kept (position_number w) (Some (position_of w)) k.1.1.0 k.1.1.1.1)))))
     (λ other. taken_placed g w (kept_position w (position_number w)) (kept_stands g w (position_number w) k) k)
 
-answered_placed : (g : GameLists) (w : World) (f : ℕ) (answer : Option ℕ) → IsPlaced g w → IsPlaced g (answered w f answer)
+answered_placed : (g : GameLists) (w : World) (f : ℕ) (answer : Option ℕ) → IsPlaced g w → IsPlaced g (routine_answered w f answer)
 answered_placed g w f None k = k
 answered_placed g w f (Some y) k = k
 

@@ -11,7 +11,7 @@ pub use Rattle.paw_effects.specs.Referring.{referred}
 use Rattle.paw_effects.specs.FlowActions.{is_flow, flow_of}
 use Rattle.paw_effects.specs.Positions.{is_keeping, keeping_of}
 use Rattle.paw_effects.specs.TextActions.{is_print, print_of}
-use Rattle.paw_effects.specs.FlagActions.{change_of, answered}
+use Rattle.paw_effects.specs.FlagActions.{change_of, routine_answered}
 use Rattle.paw_effects.specs.MoveActions.{is_move, move_of, reset}
 use Rattle.paw_effects.specs.AutoActions.{is_object_action, object_action_of}
 
@@ -25,5 +25,5 @@ effect_of s w c =
     if is_move c.code then makes (move_of w c) else
     if c.code == NEWTEXT then record { text = []; world = w; act = dropping effect.Go } else
     if c.code == RESET then leads (reset w c.a) effect.Redescribe else
-    if c.code == EXTERN then makes (answered w c.b (value_at s.rows c.a (flag w c.b))) else
+    if c.code == EXTERN then makes (routine_answered w c.b (value_at s.rows c.a (flag w c.b))) else
     makes (change_of w c)

@@ -38,6 +38,6 @@ change_of w c =
     with_flag (with_flag w TIMEOUT_FLAG c.a) TIMED_OUT_FLAG c.b  -- TIME
 
 -- a flag becomes the answer of a routine; it stays where there is no such routine
-abbrev pub answered : World → ℕ → Option ℕ → World
-answered w f None = w
-answered w f (Some y) = with_flag w f y
+abbrev pub routine_answered : World → ℕ → Option ℕ → World
+routine_answered w f None = w
+routine_answered w f (Some y) = with_flag w f y

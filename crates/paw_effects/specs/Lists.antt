@@ -21,14 +21,14 @@ joint [] = codes " and "
 joint (_ ∷ _) = codes ", "
 
 -- the texts behind the first one, and the end of the sentence
-abbrev pub joined : List (List ℕ) → List ℕ
-joined [] = codes ".\n"
-joined (text ∷ texts) = joint texts ++ (text ++ joined texts)
+abbrev pub others_joined : List (List ℕ) → List ℕ
+others_joined [] = codes ".\n"
+others_joined (text ∷ texts) = joint texts ++ (text ++ others_joined texts)
 
 -- the texts joined by `, `, the last one by ` and `, and `.` and a newline
 abbrev pub as_sentence : List (List ℕ) → List ℕ
 as_sentence [] = []
-as_sentence (text ∷ texts) = text ++ joined texts
+as_sentence (text ∷ texts) = text ++ others_joined texts
 
 -- lists are sentences where bit 6 of the flag of lists is set
 abbrev pub lists_are_sentences : World → Bool

@@ -21,7 +21,7 @@ use Rattle.paw_effects.specs.declared.object_words.Words.TheVariants.{Says, Name
 use Rattle.paw_effects.specs.Done.{Done, prints}
 use Rattle.paw_effects.specs.Presence.{is_held}
 use Rattle.paw_effects.specs.Referring.{referred}
-use Rattle.paw_effects.specs.ObjectWords.{spoken, ends_loop}
+use Rattle.paw_effects.specs.ObjectWords.{spoken_words, ends_loop}
 
 -- ---- what is looked at ----
 
@@ -106,7 +106,7 @@ outcome (action.TakeOut l) = Says TAKEN_MESSAGE
 -- an action is refused: this is said, the rest of the line is dropped, and the table is left with an action carried out
 abbrev pub refuses : GameLists → World → Words → Done
 refuses g w said = record {
-  text = spoken g w said;
+  text = spoken_words g w said;
   world = w;
   act = record { effect = effect.Exit true; drop_line = true; cancel_loop = ends_loop said };
 }
@@ -114,7 +114,7 @@ refuses g w said = record {
 -- an action on an object where this is said against it, or nothing is
 abbrev pub tried : GameLists → World → ℕ → Action → Option Words → Done
 tried g w o a (Some said) = refuses g w said
-tried g w o a None = let after = moved w o (destination w a) in prints after (spoken g after (outcome a))
+tried g w o a None = let after = moved w o (destination w a) in prints after (spoken_words g after (outcome a))
 
 -- an action on an object, which is referred to first
 abbrev pub acted_on : GameLists → World → ℕ → Action → Done

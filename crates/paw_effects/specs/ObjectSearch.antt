@@ -22,8 +22,8 @@ has_names w None = false
 has_names w (Some f) = names w f
 
 -- an object fits the sentence
-abbrev pub fits : World → ℕ → Bool
-fits w o = has_names w (slice_get w.facts o)
+abbrev pub fits_sentence : World → ℕ → Bool
+fits_sentence w o = has_names w (slice_get w.facts o)
 
 -- some object of the game fits the sentence, wherever it is
 abbrev pub some_fits : World → Bool
@@ -31,7 +31,7 @@ some_fits w = list_any (names w) w.facts
 
 -- the least object at a place that fits; nothing where none does
 abbrev pub least_fitting : World → ℕ → Option ℕ
-least_fitting w p = find (fits w) (objects_at w p)
+least_fitting w p = find (fits_sentence w) (objects_at w p)
 
 -- the same at the current location, where there is one
 abbrev pub fitting_at : World → Spot → Option ℕ

@@ -8,9 +8,9 @@ use Rattle.paw_effects.specs.declared.object_words.Words.TheVariants as words
 use Rattle.paw_effects.specs.Texts.{object_text, put_text, say_text}
 
 -- a system message with its newline; or one behind which the name of a container stands, and what ends such a line
-abbrev pub spoken : GameLists → World → Words → List ℕ
-spoken g w (words.Says m) = say_text g w m
-spoken g w (words.Names m l) = put_text g w m ++ object_text g l ++ say_text g w NAME_END_MESSAGE
+abbrev pub spoken_words : GameLists → World → Words → List ℕ
+spoken_words g w (words.Says m) = say_text g w m
+spoken_words g w (words.Names m l) = put_text g w m ++ object_text g l ++ say_text g w NAME_END_MESSAGE
 
 -- that no more can be held ends the loop over objects
 abbrev pub ends_loop : Words → Bool

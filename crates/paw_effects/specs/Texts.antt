@@ -2,12 +2,12 @@
 use Rattle.std.specs.Prelude.{ℕ, ◌==◌, List, [], ◌∷◌, ◌++◌, slice_get, if◌then◌else◌}
 use Rattle.paw_base.specs.declared.flags.TheConstants.{REFERRED_FLAG}
 use Rattle.paw_game.specs.Game.{GameLists}
-use Rattle.paw_game.specs.Tables.{or_empty, text_of}
+use Rattle.paw_game.specs.Tables.{or_empty, row_text}
 use Rattle.paw_world.specs.World.{World, flag}
 
 -- the text of an object, as it is; none where there is no such object
 abbrev pub object_text : GameLists → ℕ → List ℕ
-object_text g o = or_empty (text_of (slice_get g.objects o))
+object_text g o = or_empty (row_text (slice_get g.objects o))
 
 -- the text of the object last referred to
 abbrev pub referred_text : GameLists → World → List ℕ
@@ -23,9 +23,9 @@ abbrev pub printed_text : GameLists → World → List ℕ → List ℕ
 printed_text g w text = with_name (referred_text g w) text
 
 -- a text and a newline; nothing where the text is empty
-abbrev pub line_of : GameLists → World → List ℕ → List ℕ
-line_of g w [] = []
-line_of g w (b ∷ bs) = printed_text g w (b ∷ bs) ++ 10 ∷ []
+abbrev pub ended_text : GameLists → World → List ℕ → List ℕ
+ended_text g w [] = []
+ended_text g w (b ∷ bs) = printed_text g w (b ∷ bs) ++ 10 ∷ []
 
 -- putting a system message prints it where there is one
 abbrev pub put_text : GameLists → World → ℕ → List ℕ
@@ -33,11 +33,11 @@ put_text g w s = printed_text g w (or_empty (slice_get g.system s))
 
 -- saying a system message prints it with a newline, where there is one that isn't empty
 abbrev pub say_text : GameLists → World → ℕ → List ℕ
-say_text g w s = line_of g w (or_empty (slice_get g.system s))
+say_text g w s = ended_text g w (or_empty (slice_get g.system s))
 
 -- the description of a location, with a newline, where there is one that isn't empty
 abbrev pub location_text : GameLists → World → ℕ → List ℕ
-location_text g w l = line_of g w (or_empty (slice_get g.locations l))
+location_text g w l = ended_text g w (or_empty (slice_get g.locations l))
 
 -- a message
 abbrev pub message_text : GameLists → World → ℕ → List ℕ

@@ -6,7 +6,7 @@ ghost use Rattle.paw_game.specs.Valid.{is_right};
 ghost use Rattle.paw_effects.specs.Built.{IsOf};
 ghost use Rattle.paw_effects.specs.Holds.{is_condition, holds, truth_of, moves};
 ghost use Rattle.paw_effects.specs.Effects.{effect_of, Does};
-ghost use Rattle.paw_effects.specs.FlagActions.{answered};
+ghost use Rattle.paw_effects.specs.FlagActions.{routine_answered};
 ghost use Rattle.paw_effects.specs.Story.{story_of};
 ghost use Rattle.paw_game.specs.Game.{GameLists};
 ghost use Rattle.paw_routines.specs.Routines.{AreRowsOf, HaveRows};
@@ -84,7 +84,7 @@ fn moves<T: Tables>(tables: &T, world: &mut World, f: u8) -> bool
 /// EXTERN gives a flag the answer of a routine on the flag's value. Nothing changes where there is no such routine.
 fn answer_by_routine<F: Fn(u8, u8) -> u8>(world: &mut World, routines: &Routines<F>, n: u8, f: u8)
     requires rows { HaveRows F.Fn routines.now }
-    ensures value { (X : List (List ℕ)) → AreRowsOf F.Fn routines.now X → world.new ≡ answered world.old f (value_at X n (flag world.old f)) }
+    ensures value { (X : List (List ℕ)) → AreRowsOf F.Fn routines.now X → world.new ≡ routine_answered world.old f (value_at X n (flag world.old f)) }
     ensures game { (g : GameLists) → IsOf g world.old → IsOf g world.new }
     ensures draws { world.new.draws ≡ world.old.draws }
 {

@@ -2,7 +2,7 @@
 
 ghost use Rattle.std.specs.Prelude.{◌≡◌, ◌<◌, ◌++◌, ◌∷◌, [], length, IfSome, IfNone, Some, None};
 ghost use Rattle.paw_base.specs.Piece.{Puts};
-ghost use Rattle.paw_effects.specs.Lists.{lists_are_sentences, worn_text, as_lines, joint, joined, list_of, list_or_say, inventory_text, place_list_text, here_list_text};
+ghost use Rattle.paw_effects.specs.Lists.{lists_are_sentences, worn_text, as_lines, joint, others_joined, list_of, list_or_say, inventory_text, place_list_text, here_list_text};
 ghost use Rattle.paw_effects.specs.Listing.{lesser, listed_above, listed_text, texts_above};
 
 use crate::presence::{CARRIED, LOCATION, WORN, is_somewhere};
@@ -159,7 +159,7 @@ fn print_others<T: Tables>(
     listed: Listed,
     first: u8,
 ) -> bool
-    ensures puts { Puts piece.old piece.new result (joined (texts_above (T.game tables.now) world.now listed (Some first))) }
+    ensures puts { Puts piece.old piece.new result (others_joined (texts_above (T.game tables.now) world.now listed (Some first))) }
 {
     let mut last = first;
     while let Some(o) = next(world, listed, Some(last)) {

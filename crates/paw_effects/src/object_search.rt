@@ -1,7 +1,7 @@
 // The object that a sentence means.
 
 ghost use Rattle.std.specs.Prelude.{◌≡◌, ◌<◌, length, IfSome};
-ghost use Rattle.paw_effects.specs.ObjectSearch.{fits, some_fits, least_fitting, fitting_at, first_fitting};
+ghost use Rattle.paw_effects.specs.ObjectSearch.{fits_sentence, some_fits, least_fitting, fitting_at, first_fitting};
 
 use crate::presence::{CARRIED, LOCATION, WORN, is_somewhere};
 use paw_world::flags::{ADJECTIVE, NOUN};
@@ -26,7 +26,7 @@ impl Spot {
 /// Whether an object fits the sentence: by its noun, and by its adjective where the sentence has one.
 fn fits(world: &World, o: u8) -> bool
     requires known { o < length world.now.places }
-    ensures value { result ≡ fits world.now o }
+    ensures value { result ≡ fits_sentence world.now o }
 {
     let facts = world.facts(o);
     let noun = world.flag(NOUN);

@@ -2,7 +2,7 @@
 
 ghost use Rattle.std.specs.Prelude.{◌≡◌};
 ghost use Rattle.paw_base.specs.Piece.{Puts};
-ghost use Rattle.paw_effects.specs.ObjectWords.{spoken, ends_loop};
+ghost use Rattle.paw_effects.specs.ObjectWords.{spoken_words, ends_loop};
 
 use crate::text::{print_object, put, say};
 use paw_base::piece::Piece;
@@ -105,7 +105,7 @@ impl Words {
 
 /// Says this. False exactly where it doesn't fit; what the piece holds then is open.
 pub(crate) fn speak<T: Tables>(tables: &T, world: &World, piece: &mut Piece, words: Words) -> bool
-    ensures puts { Puts piece.old piece.new result (spoken (T.game tables.now) world.now words) }
+    ensures puts { Puts piece.old piece.new result (spoken_words (T.game tables.now) world.now words) }
 {
     match words {
         Words::Says(message) => say(tables, world, piece, message),

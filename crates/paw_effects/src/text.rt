@@ -2,7 +2,7 @@
 
 ghost use Rattle.std.specs.Prelude.{◌≡◌, ◌+◌, ◌++◌, ◌<◌, ◌≤◌, List, [], ℕ, length, IfSome, IfNone, ◌==◌, Some, decimal};
 ghost use Rattle.paw_base.specs.Piece.{Puts, piece_limit};
-ghost use Rattle.paw_effects.specs.Texts.{with_name, object_text, printed_text, line_of, put_text, say_text, location_text, message_text};
+ghost use Rattle.paw_effects.specs.Texts.{with_name, object_text, printed_text, ended_text, put_text, say_text, location_text, message_text};
 
 use itoa::Buffer;
 use paw_base::piece::Piece;
@@ -75,7 +75,7 @@ pub(crate) fn print_line<T: Tables>(
     piece: &mut Piece,
     text: &[u8],
 ) -> bool
-    ensures puts { Puts piece.old piece.new result (line_of (T.game tables.now) world.now text.now) }
+    ensures puts { Puts piece.old piece.new result (ended_text (T.game tables.now) world.now text.now) }
 {
     if text.is_empty() {
         return piece.push(&[]);

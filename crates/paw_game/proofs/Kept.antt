@@ -17,7 +17,7 @@ use Rattle.paw_game.specs.declared.parts.GamePart.{GamePart}
 use Rattle.paw_game.specs.declared.parts.GamePart.TheVariants as part
 use Rattle.paw_game.specs.Game.{GameLists}
 use Rattle.paw_game.specs.Valid.{Valid, begins_no_line, is_parameter, is_printed, is_text_byte, are_exits, are_facts, is_condact, is_entry, is_exits, is_object, is_place, is_table, is_text, is_word_or_none, is_verb_value, is_within, is_any, has_word}
-use Rattle.paw_game.specs.Tables.{condact_at, condacts_of, entry_at, exit_at, exit_of, facts_at, facts_of, head_at, head_of, or_empty, table_at, text_at, text_of}
+use Rattle.paw_game.specs.Tables.{condact_at, condacts_of, entry_at, exit_at, exit_of, facts_at, facts_of, head_at, head_of, or_empty, table_at, text_at, row_text}
 
 -- ---- tests
 
@@ -79,16 +79,16 @@ facts-weight g v o f e =
 
 -- ---- texts
 
-text_of-Some : (o : Option ObjectRow) (t : List ℕ) → text_of o ≡ Some t → (row : ObjectRow) × (o ≡ Some row) × (row.text ≡ t)
-text_of-Some None t e = absurd (none-some t e)
-text_of-Some (Some row) t e = (row, refl, same_Some row.text t e)
+row_text-Some : (o : Option ObjectRow) (t : List ℕ) → row_text o ≡ Some t → (row : ObjectRow) × (o ≡ Some row) × (row.text ≡ t)
+row_text-Some None t e = absurd (none-some t e)
+row_text-Some (Some row) t e = (row, refl, same_Some row.text t e)
 
 pub text_kept : (g : GameLists) → Valid g → (p : GamePart) (n : ℕ) (t : List ℕ) → text_at g p n ≡ Some t → IsTrue (is_text t)
 text_kept g v part.Words n t e = absurd (none-some t e)
 text_kept g v part.System n t e = list_all-at is_text g.system n t (second_of_and (nat_le (length g.system) 256) _ v.system) e
 text_kept g v part.Messages n t e = list_all-at is_text g.messages n t (second_of_and (nat_le (length g.messages) 256) _ v.messages) e
 text_kept g v part.Objects n t e =
-    let at = text_of-Some (slice_get g.objects n) t e in
+    let at = row_text-Some (slice_get g.objects n) t e in
     rw (← at.2) (first_of_and (is_text at.0.text) _ (object_kept g v n at.0 at.1))
 text_kept g v part.Locations n t e =
     list_all-at is_text g.locations n t

@@ -40,16 +40,16 @@ abbrev pub facts_at : GameLists → ℕ → Option ObjectFacts
 facts_at g o = facts_of (slice_get g.objects o)
 
 -- the text of an object, where there is one
-abbrev pub text_of : Option ObjectRow → Option (List ℕ)
-text_of None = None
-text_of (Some o) = Some o.text
+abbrev pub row_text : Option ObjectRow → Option (List ℕ)
+row_text None = None
+row_text (Some o) = Some o.text
 
 -- a text of one of the parts that have texts
 abbrev pub text_at : GameLists → GamePart → ℕ → Option (List ℕ)
 text_at g part.Words n = None
 text_at g part.System n = slice_get g.system n
 text_at g part.Messages n = slice_get g.messages n
-text_at g part.Objects n = text_of (slice_get g.objects n)
+text_at g part.Objects n = row_text (slice_get g.objects n)
 text_at g part.Locations n = slice_get g.locations n
 text_at g part.Exits n = None
 text_at g part.Tables n = None

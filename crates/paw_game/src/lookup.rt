@@ -3,7 +3,7 @@
 ghost use Rattle.std.specs.Prelude.{◌≡◌, ◌≤◌, ◌<◌, IfSome, IsTrue, drop, length, slice_get};
 ghost use Rattle.std.specs.Option.{option_copied};
 ghost use Rattle.paw_game.specs.Valid.{words_rise};
-ghost use Rattle.paw_game.specs.Tables.{condact_at, entry_at, exit_at, exit_of, facts_at, first_match, head_at, is_for, match_at, matches, text_at, text_of, word_at, word_of};
+ghost use Rattle.paw_game.specs.Tables.{condact_at, entry_at, exit_at, exit_of, facts_at, first_match, head_at, is_for, match_at, matches, text_at, row_text, word_at, word_of};
 
 use crate::parts::{Entry, Exit, GamePart, GameParts, ObjectRow, Text, Word};
 use paw_base::parts::{Condact, ObjectFacts};
@@ -35,7 +35,7 @@ fn text_in(texts: &[Text], number: u8) -> Option<&[u8]>
 }
 
 fn object_text(objects: &[ObjectRow], number: u8) -> Option<&[u8]>
-    ensures value { option_copied result ≡ text_of (slice_get objects.now number) }
+    ensures value { option_copied result ≡ row_text (slice_get objects.now number) }
 {
     let row = objects.get(number as usize)?;
     let text = &row.text;

@@ -3,7 +3,7 @@ use Rattle.std.proofs.Common.{◌≡◌, true, ◌++◌, refl}
 use Rattle.std.specs.List.{list_all}
 use Rattle.std.specs.Fmt.{digits}
 use Rattle.paw_game.specs.Valid.{is_text, is_word, words_rise}
-use Rattle.paw_gen.specs.Trial.{rows, named_words, object_word, system_text, location_text, object_text}
+use Rattle.paw_gen.specs.Trial.{rows, named_words, object_word, system_text, trial_location_text, trial_object_text}
 
 pub all_words : list_all is_word (named_words ++ rows 109 object_word) ≡ true
 all_words = refl
@@ -15,10 +15,10 @@ pub system_texts : list_all is_text (rows 54 system_text) ≡ true
 unfolding digits
 system_texts = refl
 
-pub location_texts : list_all is_text (rows 219 location_text) ≡ true
+pub location_texts : list_all is_text (rows 219 trial_location_text) ≡ true
 unfolding digits
 location_texts = refl
 
-pub object_texts : list_all is_text (rows 109 object_text) ≡ true
+pub object_texts : list_all is_text (rows 109 trial_object_text) ≡ true
 unfolding digits
 object_texts = refl

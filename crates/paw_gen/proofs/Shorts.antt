@@ -9,7 +9,7 @@ use Rattle.paw_game.specs.declared.parts.ObjectRow.{ObjectRow}
 use Rattle.paw_game.specs.Game.{GameLists}
 use Rattle.paw_game.specs.Valid.{is_letter, is_filled, are_letters, is_within, is_word, is_text, is_printed}
 use Rattle.paw_game.specs.Image.{image, head_image, two_bytes, word_image, text_image, object_image, weight_byte, exits_image, table_image}
-use Rattle.paw_gen.specs.Trial.{rows, object_word, object_count, location_count, object_row, object_text, location_text, system_text, ring_exits, answers, listing, trial_game}
+use Rattle.paw_gen.specs.Trial.{rows, object_word, object_count, location_count, trial_object, trial_object_text, trial_location_text, system_text, ring_exits, answer_entries, listing, trial_game}
 use Rattle.paw_gen.proofs.Truths.{and_both, le_true, le_from, eq_from}
 use Rattle.paw_gen.proofs.Rows.{length_rows, all_rows, all_at}
 use Rattle.paw_gen.proofs.Computed.{system_texts, location_texts, object_texts}
@@ -47,7 +47,7 @@ object_short o h =
 head_size : (g : GameLists) → length (head_image g) ≡ 17
 head_size g = refl
 
-tables_size : length (flat_map table_image (answers ∷ listing ∷ [] ∷ [])) ≡ 39
+tables_size : length (flat_map table_image (answer_entries ∷ listing ∷ [] ∷ [])) ≡ 39
 unfolding condact_lines line_of
 tables_size = refl
 
@@ -95,7 +95,7 @@ unfolding trial_game
 trial_short n =
     let words : length (flat_map word_image (words_of n)) ≤ 7 * (8 + object_count n) = words_short n in
     let system : length (flat_map text_image (rows 54 system_text)) ≤ 4097 * 54 = rows_short text_image system_text 4097 54 (λ k low. text_short (system_text k) (all_at is_text system_text 54 k system_texts low)) in
-    let objects : length (flat_map object_image (rows (object_count n) (object_row (location_count n)))) ≤ 4101 * object_count n = rows_short object_image (object_row (location_count n)) 4101 (object_count n) (λ k low. object_short (object_row (location_count n) k) (all_at is_text object_text 109 k object_texts (omega (arith, low)))) in
-    let locations : length (flat_map text_image (rows (location_count n) location_text)) ≤ 4097 * location_count n = rows_short text_image location_text 4097 (location_count n) (λ k low. text_short (location_text k) (all_at is_text location_text 219 k location_texts (omega (arith, low)))) in
+    let objects : length (flat_map object_image (rows (object_count n) (trial_object (location_count n)))) ≤ 4101 * object_count n = rows_short object_image (trial_object (location_count n)) 4101 (object_count n) (λ k low. object_short (trial_object (location_count n) k) (all_at is_text trial_object_text 109 k object_texts (omega (arith, low)))) in
+    let locations : length (flat_map text_image (rows (location_count n) trial_location_text)) ≤ 4097 * location_count n = rows_short text_image trial_location_text 4097 (location_count n) (λ k low. text_short (trial_location_text k) (all_at is_text trial_location_text 219 k location_texts (omega (arith, low)))) in
     let exits : length (flat_map exits_image (rows (location_count n) (ring_exits (location_count n)))) ≤ 5 * location_count n = rows_short exits_image (ring_exits (location_count n)) 5 (location_count n) (λ k low. omega arith) in
     limited_game (trial_game n) (object_count n) (location_count n) words system refl objects locations exits tables_size (omega arith) (omega arith)

@@ -10,7 +10,7 @@ use Rattle.paw_base.specs.Condacts.{condact_lines, line_of}
 use Rattle.paw_game.specs.declared.parts.Word.{Word}
 use Rattle.paw_game.specs.Game.{GameLists}
 use Rattle.paw_game.specs.Valid.{Valid, is_within, is_word, is_text, words_rise, words_kept, has_word, is_word_or_none, is_verb_value, is_object, objects_kept, is_exits, exits_kept, locations_kept, is_condact, tables_kept}
-use Rattle.paw_gen.specs.Trial.{rows, named_words, object_word, object_count, location_count, object_row, object_text, location_text, ring_exits, condact, trial_game}
+use Rattle.paw_gen.specs.Trial.{rows, named_words, object_word, object_count, location_count, trial_object, trial_object_text, trial_location_text, ring_exits, condact_with, trial_game}
 use Rattle.paw_gen.proofs.Truths.{and_both, or_true, or_right, le_true, lt_true, eq_true}
 use Rattle.paw_gen.proofs.Rows.{length_rows, rows_fewer, all_rows, all_at, any_row}
 use Rattle.paw_gen.proofs.Computed.{all_words, all_rise, system_texts, location_texts, object_texts}
@@ -51,26 +51,26 @@ noun_known n k low =
     or_right (50 + k == 255) (list_any-append rule named_words (rows (object_count n) object_word)
     ∙ or_right (list_any rule named_words) (any_row rule object_word (object_count n) k low (eq_true (50 + k) (50 + k) refl)))
 
-object_fine : (n k : ℕ) → k < object_count n → is_object (words_of n) (location_count n) (object_row (location_count n) k) ≡ true
+object_fine : (n k : ℕ) → k < object_count n → is_object (words_of n) (location_count n) (trial_object (location_count n) k) ≡ true
 object_fine n k low =
-    and_both (all_at is_text object_text 109 k object_texts (omega (arith, low)))
+    and_both (all_at is_text trial_object_text 109 k object_texts (omega (arith, low)))
     (and_both (noun_known n k low) (and_both {b = nat_le (k % 4) 63}
     (ap (λ b. b || is_within 252 254 (7 * k % location_count n)) (lt_true (7 * k % location_count n) (location_count n) (omega arith)))
     (le_true (k % 4) 63 (omega arith))))
 
-objects_fine : (n : ℕ) → objects_kept (words_of n) (location_count n) (rows (object_count n) (object_row (location_count n))) ≡ true
+objects_fine : (n : ℕ) → objects_kept (words_of n) (location_count n) (rows (object_count n) (trial_object (location_count n))) ≡ true
 objects_fine n =
-    and_both (le_true (length (rows (object_count n) (object_row (location_count n)))) 255 (omega (arith, length_rows (object_row (location_count n)) (object_count n))))
-    (all_rows (is_object (words_of n) (location_count n)) (object_row (location_count n)) (object_count n) (λ k low. object_fine n k low))
+    and_both (le_true (length (rows (object_count n) (trial_object (location_count n)))) 255 (omega (arith, length_rows (trial_object (location_count n)) (object_count n))))
+    (all_rows (is_object (words_of n) (location_count n)) (trial_object (location_count n)) (object_count n) (λ k low. object_fine n k low))
 
 -- ---- locations and exits ----
 
-locations_fine : (n : ℕ) → locations_kept (rows (location_count n) location_text) ≡ true
+locations_fine : (n : ℕ) → locations_kept (rows (location_count n) trial_location_text) ≡ true
 locations_fine n =
-    let size : length (rows (location_count n) location_text) ≡ location_count n = length_rows location_text (location_count n) in
-    and_both (le_true 1 (length (rows (location_count n) location_text)) (omega (arith, size)))
-    (and_both (le_true (length (rows (location_count n) location_text)) 252 (omega (arith, size)))
-    (all_rows is_text location_text (location_count n) (λ k low. all_at is_text location_text 219 k location_texts (omega (arith, low)))))
+    let size : length (rows (location_count n) trial_location_text) ≡ location_count n = length_rows trial_location_text (location_count n) in
+    and_both (le_true 1 (length (rows (location_count n) trial_location_text)) (omega (arith, size)))
+    (and_both (le_true (length (rows (location_count n) trial_location_text)) 252 (omega (arith, size)))
+    (all_rows is_text trial_location_text (location_count n) (λ k low. all_at is_text trial_location_text 219 k location_texts (omega (arith, low)))))
 
 north_known : (n : ℕ) → is_verb_value (words_of n) 2 ≡ true
 north_known n = or_true (has_word (words_of n) 0 2)
@@ -92,7 +92,7 @@ exits_fine n =
 -- ---- tables ----
 
 -- DOALL at HERE or CARRIED
-doall_fine : (g : GameLists) (p : ℕ) → is_within 252 255 p ≡ true → is_condact g (condact 86 p) ≡ true
+doall_fine : (g : GameLists) (p : ℕ) → is_within 252 255 p ≡ true → is_condact g (condact_with 86 p) ≡ true
 unfolding condact_lines line_of
 doall_fine g p h = and_both (or_right (nat_lt p (length g.locations)) h) refl
 
@@ -106,12 +106,12 @@ tables_fine n =
 pub trial_valid : (n : ℕ) → Valid (trial_game n)
 unfolding trial_game
 trial_valid n =
-    let size : length (rows (location_count n) location_text) ≡ location_count n = length_rows location_text (location_count n) in
+    let size : length (rows (location_count n) trial_location_text) ≡ location_count n = length_rows trial_location_text (location_count n) in
     record {
       words = words_fine n;
       system = system_texts;
       messages = refl;
-      objects = subst (λ m. objects_kept (words_of n) m (rows (object_count n) (object_row (location_count n))) ≡ true) (sym size) (objects_fine n);
+      objects = subst (λ m. objects_kept (words_of n) m (rows (object_count n) (trial_object (location_count n))) ≡ true) (sym size) (objects_fine n);
       locations = locations_fine n;
       exits = subst (λ m. exits_kept (words_of n) m (rows (location_count n) (ring_exits (location_count n))) ≡ true) (sym size) (exits_fine n);
       tables = tables_fine n;

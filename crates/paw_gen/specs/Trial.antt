@@ -34,34 +34,34 @@ rows count row = map row (range_with_len 0 count)
 -- ---- texts ----
 
 -- a number between two texts
-abbrev pub numbered : List ℕ → List ℕ → ℕ → List ℕ
-numbered before after k = before ++ (decimal k ++ after)
+abbrev pub number_between : List ℕ → List ℕ → ℕ → List ℕ
+number_between before after k = before ++ (decimal k ++ after)
 
 -- `s` and the number of a system message
 abbrev pub system_text : ℕ → List ℕ
-system_text k = numbered (codes "s") [] k
+system_text k = number_between (codes "s") [] k
 
 -- `Place 7.`
-abbrev pub location_text : ℕ → List ℕ
-location_text k = numbered (codes "Place ") (codes ".") k
+abbrev pub trial_location_text : ℕ → List ℕ
+trial_location_text k = number_between (codes "Place ") (codes ".") k
 
 -- `thing 7`
-abbrev pub object_text : ℕ → List ℕ
-object_text k = numbered (codes "thing ") [] k
+abbrev pub trial_object_text : ℕ → List ℕ
+trial_object_text k = number_between (codes "thing ") [] k
 
 -- ---- words ----
 
 -- a word, by its parts
-abbrev pub word : List ℕ → ℕ → ℕ → Word
-word letters value class = record { letters = letters; value = value; class = class }
+abbrev pub word_with : List ℕ → ℕ → ℕ → Word
+word_with letters value class = record { letters = letters; value = value; class = class }
 
 -- the words that all these games have
 abbrev pub named_words : List Word
 named_words =
-    word (codes "ALL  ") 20 NOUN_CLASS ∷ word (codes "AND  ") 2 CONJUNCTION_CLASS
-    ∷ word (codes "DROP ") 31 VERB_CLASS ∷ word (codes "GET  ") 30 VERB_CLASS
-    ∷ word (codes "INVEN") 33 VERB_CLASS ∷ word (codes "LOOK ") 32 VERB_CLASS
-    ∷ word (codes "NORTH") 2 NOUN_CLASS ∷ word (codes "SOUTH") 3 NOUN_CLASS ∷ []
+    word_with (codes "ALL  ") 20 NOUN_CLASS ∷ word_with (codes "AND  ") 2 CONJUNCTION_CLASS
+    ∷ word_with (codes "DROP ") 31 VERB_CLASS ∷ word_with (codes "GET  ") 30 VERB_CLASS
+    ∷ word_with (codes "INVEN") 33 VERB_CLASS ∷ word_with (codes "LOOK ") 32 VERB_CLASS
+    ∷ word_with (codes "NORTH") 2 NOUN_CLASS ∷ word_with (codes "SOUTH") 3 NOUN_CLASS ∷ []
 
 -- T and the number in three digits, as `T007 `
 abbrev pub object_letters : ℕ → List ℕ
@@ -69,7 +69,7 @@ object_letters k = 84 ∷ (48 + k / 100) ∷ (48 + k / 10 % 10) ∷ (48 + k % 10
 
 -- the noun of an object
 abbrev pub object_word : ℕ → Word
-object_word k = word (object_letters k) (FIRST_NAMED_NOUN + k) NOUN_CLASS
+object_word k = word_with (object_letters k) (FIRST_NAMED_NOUN + k) NOUN_CLASS
 
 -- ---- objects and exits ----
 
@@ -85,8 +85,8 @@ object_facts locations k = record {
 }
 
 -- object k, in a game of so many locations
-abbrev pub object_row : ℕ → ℕ → ObjectRow
-object_row locations k = record { text = object_text k; facts = object_facts locations k }
+abbrev pub trial_object : ℕ → ℕ → ObjectRow
+trial_object locations k = record { text = trial_object_text k; facts = object_facts locations k }
 
 -- the locations are a ring: NORTH leads to the next, SOUTH to the one before
 abbrev pub ring_exits : ℕ → ℕ → List Exit
@@ -95,27 +95,27 @@ ring_exits locations k = record { verb = 2; to = (k + 1) % locations } ∷ recor
 -- ---- tables ----
 
 -- a condact of this code, and its first parameter, which is 0 where it has none
-abbrev pub condact : ℕ → ℕ → Condact
-condact code a = record { code = code; a = a; b = 0 }
+abbrev pub condact_with : ℕ → ℕ → Condact
+condact_with code a = record { code = code; a = a; b = 0 }
 
 -- an entry, by its parts
 abbrev pub entry : ℕ → ℕ → List Condact → Entry
 entry verb noun condacts = record { verb = verb; noun = noun; condacts = condacts }
 
 -- the answers to lines: `GET ALL` and `DROP ALL` go over the objects here and over those that are carried
-abbrev pub answers : List Entry
-answers =
-    entry 30 20 (condact DOALL HERE_PLACE ∷ []) ∷  -- GET ALL
-    entry 30 NO_WORD (condact AUTOG 0 ∷ condact DONE 0 ∷ []) ∷  -- GET _
-    entry 31 20 (condact DOALL CARRIED_PLACE ∷ []) ∷  -- DROP ALL
-    entry 31 NO_WORD (condact AUTOD 0 ∷ condact DONE 0 ∷ []) ∷  -- DROP _
-    entry 32 NO_WORD (condact DESC 0 ∷ []) ∷  -- LOOK _
-    entry 33 NO_WORD (condact INVEN 0 ∷ condact DONE 0 ∷ []) ∷  -- INVEN _
+abbrev pub answer_entries : List Entry
+answer_entries =
+    entry 30 20 (condact_with DOALL HERE_PLACE ∷ []) ∷  -- GET ALL
+    entry 30 NO_WORD (condact_with AUTOG 0 ∷ condact_with DONE 0 ∷ []) ∷  -- GET _
+    entry 31 20 (condact_with DOALL CARRIED_PLACE ∷ []) ∷  -- DROP ALL
+    entry 31 NO_WORD (condact_with AUTOD 0 ∷ condact_with DONE 0 ∷ []) ∷  -- DROP _
+    entry 32 NO_WORD (condact_with DESC 0 ∷ []) ∷  -- LOOK _
+    entry 33 NO_WORD (condact_with INVEN 0 ∷ condact_with DONE 0 ∷ []) ∷  -- INVEN _
     []
 
 -- behind a location's text the objects there are listed
 abbrev pub listing : List Entry
-listing = entry NO_WORD NO_WORD (condact LISTOBJ 0 ∷ []) ∷ []
+listing = entry NO_WORD NO_WORD (condact_with LISTOBJ 0 ∷ []) ∷ []
 
 -- ---- the game and its lines ----
 
@@ -125,10 +125,10 @@ trial_game n = record {
   words = named_words ++ rows (object_count n) object_word;
   system = rows 54 system_text;
   messages = [];
-  objects = rows (object_count n) (object_row (location_count n));
-  locations = rows (location_count n) location_text;
+  objects = rows (object_count n) (trial_object (location_count n));
+  locations = rows (location_count n) trial_location_text;
   exits = rows (location_count n) (ring_exits (location_count n));
-  tables = answers ∷ listing ∷ [] ∷ [];
+  tables = answer_entries ∷ listing ∷ [] ∷ [];
 }
 
 -- the lines come round, by their number

@@ -1,7 +1,7 @@
 // Words, objects and exits.
 
 ghost use Rattle.std.specs.Prelude.{◌≡◌, ◌++◌, ◌<◌, ◌≤◌, IfOk};
-ghost use Rattle.paw_gen.specs.Trial.{named_words, object_facts, object_letters, object_row, object_word, ring_exits, rows, word};
+ghost use Rattle.paw_gen.specs.Trial.{named_words, object_facts, object_letters, trial_object, object_word, ring_exits, rows, word_with};
 
 use crate::texts::numbered;
 use paw_base::fault::NoRoom;
@@ -28,7 +28,7 @@ const NO_WORD: u8 = 255;
 const FIRST_NOUN: u8 = 50;
 
 fn word(letters: &[u8; 5], value: u8, class: u8) -> Word
-    ensures { result ≡ word letters.now value class }
+    ensures { result ≡ word_with letters.now value class }
 {
     Word {
         letters: *letters,
@@ -106,7 +106,7 @@ pub(crate) fn objects(alloc: Global, locations: u16, objects: u16) -> Result<Vec
     requires some { 0 < locations }
     requires places { locations ≤ 252 }
     requires objects { objects ≤ 200 }
-    ensures { IfOk result (λ all. all.items ≡ rows objects (object_row locations)) }
+    ensures { IfOk result (λ all. all.items ≡ rows objects (trial_object locations)) }
 {
     let mut all = Vec::new(alloc);
     for number in 0..objects {

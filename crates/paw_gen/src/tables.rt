@@ -1,7 +1,7 @@
 // The tables of the game.
 
 ghost use Rattle.std.specs.Prelude.{◌≡◌, ◌∷◌, [], IfOk};
-ghost use Rattle.paw_gen.specs.Trial.{answers, condact, entry, listing};
+ghost use Rattle.paw_gen.specs.Trial.{answer_entries, condact_with, entry, listing};
 
 use paw_base::fault::NoRoom;
 use paw_base::parts::Condact;
@@ -91,7 +91,7 @@ fn entry(alloc: Global, verb: u8, noun: u8, condacts: &[Condact]) -> Result<Entr
 
 /// The answers to lines.
 fn answers(alloc: Global) -> Result<Table, NoRoom>
-    ensures { IfOk result (λ table. table ≡ answers) }
+    ensures { IfOk result (λ table. table ≡ answer_entries) }
 {
     let entries = vec![in alloc;
         entry(alloc, GET, ALL, &[EACH_HERE])?,
@@ -114,7 +114,7 @@ fn listing(alloc: Global) -> Result<Table, NoRoom>
 
 /// The three tables; the last has no entries.
 pub(crate) fn tables(alloc: Global) -> Result<Vec<Table>, NoRoom>
-    ensures { IfOk result (λ tables. tables.items ≡ answers ∷ listing ∷ [] ∷ []) }
+    ensures { IfOk result (λ tables. tables.items ≡ answer_entries ∷ listing ∷ [] ∷ []) }
 {
     let none = Table {
         entries: Vec::new(alloc),

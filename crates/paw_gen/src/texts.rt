@@ -1,7 +1,7 @@
 // Texts with numbers.
 
 ghost use Rattle.std.specs.Prelude.{◌≡◌, IfOk};
-ghost use Rattle.paw_gen.specs.Trial.{numbered, rows};
+ghost use Rattle.paw_gen.specs.Trial.{number_between, rows};
 
 use itoa::Buffer;
 use paw_base::fault::NoRoom;
@@ -15,7 +15,7 @@ pub(crate) fn numbered(
     number: u16,
     after: &[u8],
 ) -> Result<Text, NoRoom>
-    ensures { IfOk result (λ text. text ≡ numbered before.now after.now number) }
+    ensures { IfOk result (λ text. text ≡ number_between before.now after.now number) }
 {
     let mut digits = Buffer::new();
     let mut bytes = Vec::from_slice(alloc, before)?;
@@ -31,7 +31,7 @@ pub(crate) fn numbered_texts(
     after: &[u8],
     count: u16,
 ) -> Result<Vec<Text>, NoRoom>
-    ensures { IfOk result (λ texts. texts.items ≡ rows count (numbered before.now after.now)) }
+    ensures { IfOk result (λ texts. texts.items ≡ rows count (number_between before.now after.now)) }
 {
     let mut texts = Vec::new(alloc);
     for number in 0..count {

@@ -12,7 +12,7 @@ use Rattle.paw_game.specs.declared.parts.Word.{Word}
 use Rattle.paw_game.specs.Tables.{word_of}
 use Rattle.paw_grammar.specs.declared.vocabulary.Meaning.{Meaning}
 use Rattle.paw_grammar.specs.WordMap.{word_from, words_in}
-use Rattle.paw_grammar.specs.Vocabulary.{put}
+use Rattle.paw_grammar.specs.Vocabulary.{words_with}
 
 abbrev Entry : Type 0
 Entry = List ℕ × Meaning
@@ -42,13 +42,13 @@ is_same k l e = bytes_eq-sym l k ∙ sym (is_eq-slice_cmp k l) ∙ ap is_eq e
 
 -- a word with new letters goes to its place
 pub put_in : (es : List Entry) (w : Word) → word_of w.letters (words_in es) ≡ None
-    → words_in (insert_entry (slice_cmp nat_cmp) es w.letters (record { value = w.value; class = w.class })) ≡ put w (words_in es)
-unfolding put
+    → words_in (insert_entry (slice_cmp nat_cmp) es w.letters (record { value = w.value; class = w.class })) ≡ words_with w (words_in es)
+unfolding words_with
 put_in [] w none = refl
 put_in (e ∷ es) w none =
     let m : Meaning = record { value = w.value; class = w.class } in
     let two = none_here (bytes_eq e.0 w.letters) (word_from e) (word_of w.letters (words_in es)) none in
-    elim (slice_cmp nat_cmp w.letters e.0) as (λ o. slice_cmp nat_cmp w.letters e.0 ≡ o → words_in (match_ordering o ((w.letters, m) ∷ e ∷ es) ((e.0, m) ∷ es) (e ∷ insert_entry (slice_cmp nat_cmp) es w.letters m)) ≡ cond (is_lt o) (w ∷ word_from e ∷ words_in es) (word_from e ∷ put w (words_in es))) [
+    elim (slice_cmp nat_cmp w.letters e.0) as (λ o. slice_cmp nat_cmp w.letters e.0 ≡ o → words_in (match_ordering o ((w.letters, m) ∷ e ∷ es) ((e.0, m) ∷ es) (e ∷ insert_entry (slice_cmp nat_cmp) es w.letters m)) ≡ cond (is_lt o) (w ∷ word_from e ∷ words_in es) (word_from e ∷ words_with w (words_in es))) [
       | Less ↦ λ h. refl
       | Equal ↦ λ h. let same = is_same w.letters e.0 h in let other = two.0 in absurd cc
       | Greater ↦ λ h. ap (λ ws. word_from e ∷ ws) (put_in es w two.1)

@@ -97,8 +97,8 @@ condacts bounds ws zero (t ∷ ts) = do
   Ok (c.0 ∷ cs)
 
 -- the condacts of an entry, and those of a line of it after them
-abbrev pub joined : List Condact → Result (List Condact) SourceKind → Result (List Condact) SourceKind
-joined before cs = cs >>= λ more. Ok (before ++ more)
+abbrev pub with_more_condacts : List Condact → Result (List Condact) SourceKind → Result (List Condact) SourceKind
+with_more_condacts before cs = cs >>= λ more. Ok (before ++ more)
 
 -- an entry has at most 255 condacts
 abbrev pub at_most_255 : List Condact → Result (List Condact) SourceKind
@@ -106,4 +106,4 @@ at_most_255 cs = if nat_lt CONDACT_LIMIT (length cs) then Err fault.TooBig else 
 
 -- an entry's condacts after a line of it
 unfoldable pub more_condacts : Bounds → List Word → List Condact → List (List ℕ) → Result (List Condact) SourceKind
-more_condacts bounds ws before ts = joined before (condacts bounds ws 0 ts) >>= at_most_255
+more_condacts bounds ws before ts = with_more_condacts before (condacts bounds ws 0 ts) >>= at_most_255

@@ -38,17 +38,17 @@ header_name section.Obj = codes "/OBJ"
 header_name section.Pro = codes "/PRO"
 
 -- a section opens
-abbrev pub opened : Section → Spelt → Spelt
-opened s d = record d { section = s; begun = false }
+abbrev pub section_opened : Section → Spelt → Spelt
+section_opened s d = record d { section = s; begun = false }
 
 -- a header of one token
 abbrev pub plain_header : Section → Spelt → List (List ℕ) → Result Spelt SourceKind
-plain_header s d ts = ended ts >>= λ _. Ok (opened s d)
+plain_header s d ts = ended ts >>= λ _. Ok (section_opened s d)
 
 -- exits lead from location to location, so there has to be one
 abbrev pub con_header : Spelt → List (List ℕ) → Result Spelt SourceKind
 con_header d ts = ended ts >>= λ _.
-    if length d.locations == 0 then Err kind.Missing else Ok (opened section.Con d)
+    if length d.locations == 0 then Err kind.Missing else Ok (section_opened section.Con d)
 
 -- the first table needs a row for each object
 abbrev pub lacks_rows : Spelt → Bool
@@ -61,7 +61,7 @@ table_header d ts (Some n) =
     if nat_lt 255 n then Err kind.Range
     else if not (n == length d.tables) then Err kind.Section
     else ended ts >>= λ _.
-    if lacks_rows d then Err kind.Missing else Ok (record (opened section.Pro d) { tables = d.tables ++ [] ∷ [] })
+    if lacks_rows d then Err kind.Missing else Ok (record (section_opened section.Pro d) { tables = d.tables ++ [] ∷ [] })
 
 -- a header of two tokens
 abbrev pub pro_header : Spelt → List (List ℕ) → Result Spelt SourceKind

@@ -66,13 +66,13 @@ abbrev pub is_in_text : Spelt → Bool
 is_in_text d = is_text_section d.section && not (length (texts_of d.section d) == 0)
 
 -- a text and one line more: lines are joined by LF
-abbrev pub joined : Bool → List ℕ → List ℕ → List ℕ
-joined begun text line = text ++ (if begun then 10 ∷ line else line)
+abbrev pub with_line : Bool → List ℕ → List ℕ → List ℕ
+with_line begun text line = text ++ (if begun then 10 ∷ line else line)
 
 -- the same where it isn't too long
 abbrev pub joined_within : Bool → List ℕ → List ℕ → Result (List ℕ) SourceKind
 joined_within begun line text =
-    if nat_lt TEXT_LIMIT (length (joined begun text line)) then Err kind.TooBig else Ok (joined begun text line)
+    if nat_lt TEXT_LIMIT (length (with_line begun text line)) then Err kind.TooBig else Ok (with_line begun text line)
 
 -- the texts with one line more at the end of the last
 abbrev pub text_line : Bool → List ℕ → List (List ℕ) → Result (List (List ℕ)) SourceKind

@@ -62,9 +62,9 @@ object_kind ts = read_by kind.Word kind_named ts
 -- ---- declaring ----
 
 -- the words, which stand in order of their letters, with one more in its place
-unfoldable pub put : Word → List Word → List Word
-put w [] = w ∷ []
-put w (v ∷ vs) = if is_lt (slice_cmp nat_cmp w.letters v.letters) then w ∷ v ∷ vs else v ∷ put w vs
+unfoldable pub words_with : Word → List Word → List Word
+words_with w [] = w ∷ []
+words_with w (v ∷ vs) = if is_lt (slice_cmp nat_cmp w.letters v.letters) then w ∷ v ∷ vs else v ∷ words_with w vs
 
 -- some word has these letters, whatever its class
 abbrev pub is_declared : List ℕ → List Word → Bool
@@ -75,7 +75,7 @@ abbrev pub declared : Word → List Word → Result (List Word) SourceKind
 declared w ws =
     if is_declared w.letters ws then Err kind.Duplicate
     else if length ws == WORD_LIMIT then Err kind.TooBig
-    else Ok (put w ws)
+    else Ok (words_with w ws)
 
 -- ---- looking up ----
 

@@ -4,7 +4,7 @@ ghost use Rattle.std.specs.Prelude.{◌≡◌, ◌≤◌, min};
 ghost use Rattle.paw_grammar.specs.Gives.{Gives};
 ghost use Rattle.paw_grammar.specs.Numbers.{number_below};
 ghost use Rattle.paw_grammar.specs.Vocabulary.{word_or_none};
-ghost use Rattle.paw_grammar.specs.Condacts.{AreSmall, table, parameter, condact, condacts, joined, at_most_255, more_condacts};
+ghost use Rattle.paw_grammar.specs.Condacts.{AreSmall, table, parameter, condact, condacts, with_more_condacts, at_most_255, more_condacts};
 
 use crate::bounds::Bounds;
 use crate::numbers::{byte_below, number_below};
@@ -86,7 +86,7 @@ fn add_condacts(
     rows: &mut Vec<Condact>,
 ) -> Result<(), ReadError>
     requires { AreSmall bounds.now }
-    ensures { Gives (λ _. rows.new.items) result (joined rows.old.items (condacts bounds.now words.now 0 tokens.old)) }
+    ensures { Gives (λ _. rows.new.items) result (with_more_condacts rows.old.items (condacts bounds.now words.now 0 tokens.old)) }
 {
     while let Some(name) = tokens.next() {
         match condact(bounds, words, name, tokens) {

@@ -5,7 +5,7 @@ ghost use Rattle.std.specs.Option.{ok_or};
 ghost use Rattle.paw_game.specs.Tables.{word_of};
 ghost use Rattle.paw_grammar.specs.Gives.{Gives};
 ghost use Rattle.paw_grammar.specs.Tokens.{read_by};
-ghost use Rattle.paw_grammar.specs.Vocabulary.{put, declared, known, in_class, as_verb, or_none, or_any, word_or_none, verb_word, entry_verb, entry_noun};
+ghost use Rattle.paw_grammar.specs.Vocabulary.{words_with, declared, known, in_class, as_verb, or_none, or_any, word_or_none, verb_word, entry_verb, entry_noun};
 ghost use Rattle.paw_grammar.specs.WordMap.{words_in};
 
 use crate::refusal::ReadError;
@@ -56,7 +56,7 @@ fn count(words: &BTreeMap<[u8; LETTERS], Meaning>) -> usize
 /// Puts a word that isn't among the words in its place.
 fn put(words: &mut BTreeMap<[u8; LETTERS], Meaning>, word: Word) -> Result<(), ReadError>
     requires { word_of word.letters (words_in words.old.entries) ≡ None }
-    ensures { Gives (λ _. words_in words.new.entries) result (Ok (put word (words_in words.old.entries))) }
+    ensures { Gives (λ _. words_in words.new.entries) result (Ok (words_with word (words_in words.old.entries))) }
 {
     let meaning = Meaning {
         value: word.value,

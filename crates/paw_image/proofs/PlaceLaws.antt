@@ -12,7 +12,7 @@ use Rattle.paw_game.specs.declared.parts.Entry.{Entry}
 use Rattle.paw_game.specs.declared.parts.GamePart.{GamePart}
 use Rattle.paw_game.specs.declared.parts.GamePart.TheVariants as part
 use Rattle.paw_game.specs.Game.{GameLists}
-use Rattle.paw_game.specs.Tables.{counts_of, or_empty, text_at, text_of, exit_of, facts_at, facts_of}
+use Rattle.paw_game.specs.Tables.{counts_of, or_empty, text_at, row_text, exit_of, facts_at, facts_of}
 use Rattle.paw_game.specs.Image.{two_bytes, word_image, text_image, object_image, exit_image, exits_image, condact_image, entry_image, table_image, weight_byte, image}
 use Rattle.paw_image.specs.Reading.{◌>>=◌, condact_at}
 use Rattle.paw_image.specs.Reading as reading
@@ -105,7 +105,7 @@ lists_lie bytes g e =
 text_there : (bytes : List ℕ) (texts : List (List ℕ)) (k p : ℕ) → AllByRecursion FitsText texts → RowAt text_image bytes (slice_get texts k) p → value_of (reading.text_at (drop p bytes)) ≡ slice_get texts k
 text_there bytes texts k p fits r = rw (r.lies, text_again r.row r.after (all_at FitsText texts k r.row fits r.is)) (sym r.is)
 
-text_of_object : (bytes : List ℕ) (os : List ObjectRow) (k p : ℕ) → AllByRecursion FitsObject os → RowAt object_image bytes (slice_get os k) p → value_of (reading.text_at (drop p bytes)) ≡ text_of (slice_get os k)
+text_of_object : (bytes : List ℕ) (os : List ObjectRow) (k p : ℕ) → AllByRecursion FitsObject os → RowAt object_image bytes (slice_get os k) p → value_of (reading.text_at (drop p bytes)) ≡ row_text (slice_get os k)
 text_of_object bytes os k p fits r =
     let o = r.row in
     let facts = o.facts.noun ∷ o.facts.adjective ∷ o.facts.start ∷ weight_byte o.facts.weight o.facts.container o.facts.wearable ∷ [] in

@@ -3,7 +3,7 @@ use Rattle.std.proofs.Common.{◌≡◌, ℕ, ◌+◌, ◌-◌, ◌*◌, ◌%◌
 use Rattle.paw_stage.specs.Disk.{Disk, put, stable, IsStable, touched}
 use Rattle.paw_stage.specs.Stage.{Standing, wrote}
 use Rattle.paw_stage.specs.Moments.{Moment, InWrite, InSync}
-use Rattle.paw_journal.specs.Session.{recover, recover_by, is_known, slot, chosen, kept_digest, session_length, header_length, slot_length}
+use Rattle.paw_journal.specs.Session.{recover, recover_by, is_version, slot, chosen, kept_digest, session_length, header_length, slot_length}
 use Rattle.paw_journal.specs.Store.{InStore, Leaves}
 use Rattle.paw_journal.specs.Steps.{IsMade, IsWithin, IsFilling}
 use Rattle.paw_journal.proofs.Parts.{stretch_same}
@@ -84,7 +84,7 @@ pub filled_made : (k : ℕ) (s t : Standing) → IsFilling k s t → IsMade t.di
 filled_made k s t h = record {
   long = h.within.long ∙ h.made.long;
   marked = h.within.same 0 (inl (omega arith)) ∙ h.made.marked;
-  versioned = ap is_known (h.within.same 2 (inl (omega arith))) ∙ h.made.versioned;
+  versioned = ap is_version (h.within.same 2 (inl (omega arith))) ∙ h.made.versioned;
 }
 
 pub filled_digest : (k : ℕ) (s t : Standing) → IsFilling k s t → kept_digest t.disk.bytes ≡ kept_digest s.disk.bytes

@@ -2,7 +2,7 @@
 use Rattle.std.proofs.Common.{◌≡◌, ◌≢◌, ℕ, ◌%◌, ◌<◌, true, false, List, [], length, take, refl, sym, ap, ◌∙◌, arith, get_or, inl, inr}
 use Rattle.std.proofs.lemmas.List.{get_or-take, nil_from_length}
 use Rattle.paw_journal.specs.declared.refusal.SessionPart.TheVariants as part
-use Rattle.paw_journal.specs.Session.{Unmade, Damaged, recover, recover_by, slot, mark, version, is_known, stretch, header_length, session_length, made_mark}
+use Rattle.paw_journal.specs.Session.{Unmade, Damaged, recover, recover_by, slot, mark, version, is_version, stretch, header_length, session_length, made_mark}
 use Rattle.paw_journal.specs.Steps.{Introduces}
 use Rattle.paw_journal.proofs.Parts.{stretch_stretch}
 use Rattle.paw_journal.proofs.Recovers.{unmade_is}
@@ -24,16 +24,16 @@ other_mark bytes whole n b ne =
     unmade_is whole (inr (λ q. ne (m ∙ q)))
     ∙ (ap (λ n. Unmade n (mark whole)) n ∙ ap (Unmade session_length) (sym m))
 
-pub other_version : (bytes whole : List ℕ) → length whole ≡ session_length → bytes ≡ take header_length whole → get_or bytes 0 0 ≡ made_mark → is_known (get_or bytes 2 0) ≡ false → recover whole ≡ Damaged part.Header 2
+pub other_version : (bytes whole : List ℕ) → length whole ≡ session_length → bytes ≡ take header_length whole → get_or bytes 0 0 ≡ made_mark → is_version (get_or bytes 2 0) ≡ false → recover whole ≡ Damaged part.Header 2
 unfolding recover recover_by
 other_version bytes whole n b m ne =
     let k : mark whole ≡ made_mark = sym (first_byte 128 0 bytes whole (omega arith) b) ∙ m in
-    let v : is_known (version whole) ≡ false = ap is_known (sym (first_byte 128 2 bytes whole (omega arith) b)) ∙ ne in
+    let v : is_version (version whole) ≡ false = ap is_version (sym (first_byte 128 2 bytes whole (omega arith) b)) ∙ ne in
     rw (n, k, v) refl
 
-pub introduces : (slot : ℕ) (digest bytes whole : List ℕ) → length whole ≡ session_length → bytes ≡ take header_length whole → get_or bytes 0 0 ≡ made_mark → is_known (get_or bytes 2 0) ≡ true → slot ≡ get_or bytes 1 0 % 2 → digest ≡ stretch 32 32 bytes → Introduces slot digest whole
+pub introduces : (slot : ℕ) (digest bytes whole : List ℕ) → length whole ≡ session_length → bytes ≡ take header_length whole → get_or bytes 0 0 ≡ made_mark → is_version (get_or bytes 2 0) ≡ true → slot ≡ get_or bytes 1 0 % 2 → digest ≡ stretch 32 32 bytes → Introduces slot digest whole
 introduces slot digest bytes whole n b m v s d = record {
-  made = record { long = n; marked = sym (first_byte 128 0 bytes whole (omega arith) b) ∙ m; versioned = ap is_known (sym (first_byte 128 2 bytes whole (omega arith) b)) ∙ v };
+  made = record { long = n; marked = sym (first_byte 128 0 bytes whole (omega arith) b) ∙ m; versioned = ap is_version (sym (first_byte 128 2 bytes whole (omega arith) b)) ∙ v };
   slot = s ∙ ap (λ x. x % 2) (first_byte 128 1 bytes whole (omega arith) b);
   digest = d ∙ (ap (stretch 32 32) b ∙ stretch_stretch 32 32 0 128 whole (omega arith));
 }

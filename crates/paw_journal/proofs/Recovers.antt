@@ -3,7 +3,7 @@ use Rattle.std.proofs.Common.{◌≡◌, ◌≢◌, ℕ, ◌+◌, ◌*◌, ◌�
 use Rattle.std.specs.Prelude.{if◌then◌else◌, ◌==◌, ◌&&◌}
 use Rattle.std.proofs.lemmas.Bool.Decides.{nat_tests}
 use Rattle.paw_journal.specs.declared.refusal.SessionPart.TheVariants as part
-use Rattle.paw_journal.specs.Session.{Recovered, Unmade, Damaged, Shown, IsUnmade, recover, recover_by, slot_shows, slot, chosen, mark, version, is_known, kept_digest, session_length, slot_length, header_length, made_mark}
+use Rattle.paw_journal.specs.Session.{Recovered, Unmade, Damaged, Shown, IsUnmade, recover, recover_by, slot_shows, slot, chosen, mark, version, is_version, kept_digest, session_length, slot_length, header_length, made_mark}
 use Rattle.paw_journal.specs.Steps.{IsMade}
 use Rattle.paw_journal.proofs.Parts.{stretch_same}
 
@@ -46,7 +46,7 @@ unmade a h = let e = unmade_is a h in rw e tt
 pub shown_made : (bytes digest state piece : List ℕ) → recover bytes ≡ Shown digest state piece → IsMade bytes
 unfolding recover recover_by
 shown_made bytes digest state piece e =
-    let t = tests (length bytes == session_length) (mark bytes == made_mark) (is_known (version bytes)) _ _ _ _ _ _ e in
+    let t = tests (length bytes == session_length) (mark bytes == made_mark) (is_version (version bytes)) _ _ _ _ _ _ e in
     record { long = is_true _ _ t.0; marked = is_true _ _ t.1; versioned = t.2 }
   where
     tests : (a b c : Bool) (x : Recovered) (n m : ℕ) (digest state piece : List ℕ) → (if a && b then (if c then x else Damaged part.Header 2) else Unmade n m) ≡ Shown digest state piece → (a ≡ true) × (b ≡ true) × (c ≡ true)

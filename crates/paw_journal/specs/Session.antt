@@ -1,5 +1,6 @@
 -- How a session lies in the bytes of a store, and what bytes of a store stand for.
-use Rattle.std.specs.Prelude.{◌==◌, ◌&&◌, ◌||◌, ℕ, ◌+◌, ◌-◌, ◌*◌, ◌%◌, Bool, not, is_none, nat_lt, nat_le, List, [], ◌∷◌, ◌++◌, length, take, drop, replicate, slice_index, slice_set, position, Option, Some, None, if◌then◌else◌}
+use Rattle.std.specs.Prelude.{◌==◌, ◌&&◌, ◌||◌, ℕ, ◌+◌, ◌-◌, ◌*◌, ◌%◌, Bool, not, is_none, nat_lt, nat_le, List, [], ◌∷◌, ◌++◌, length, take, drop, slice_index, slice_set, position, Option, Some, None, if◌then◌else◌}
+pub use Rattle.paw_base.specs.Bytes.{zeros}
 use Rattle.paw_journal.specs.declared.refusal.SessionPart.{SessionPart}
 use Rattle.paw_journal.specs.declared.refusal.SessionPart.TheVariants as part
 
@@ -18,10 +19,6 @@ session_length = 172288
 -- So many bytes from a place on.
 abbrev pub stretch : ℕ → ℕ → List ℕ → List ℕ
 stretch at n bytes = take n (drop at bytes)
-
--- So many bytes that are 0.
-unfoldable pub zeros : ℕ → List ℕ
-zeros n = replicate n 0
 
 -- The number of 16 bits at a place, its low byte first.
 abbrev pub number_at : ℕ → List ℕ → ℕ
@@ -44,8 +41,8 @@ abbrev pub version : List ℕ → ℕ
 version bytes = slice_index bytes 2
 
 -- The versions of a session. Each slot has one of its own, and the session's decides nothing else.
-abbrev pub is_known : ℕ → Bool
-is_known n = (n == 1) || (n == 2)
+abbrev pub is_version : ℕ → Bool
+is_version n = (n == 1) || (n == 2)
 
 -- The digest of the game that it is a session of.
 abbrev pub kept_digest : List ℕ → List ℕ
@@ -153,7 +150,7 @@ slot_shows digest bytes =
 unfoldable pub recover_by : ℕ → List ℕ → Recovered
 recover_by k bytes =
     if (length bytes == session_length) && (mark bytes == made_mark)
-    then (if is_known (version bytes) then slot_shows (kept_digest bytes) (slot k bytes) else Damaged part.Header 2)
+    then (if is_version (version bytes) then slot_shows (kept_digest bytes) (slot k bytes) else Damaged part.Header 2)
     else Unmade (length bytes) (mark bytes)
 
 -- What the bytes stand for, by the slot that they choose.

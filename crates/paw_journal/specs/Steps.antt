@@ -4,7 +4,7 @@ use Rattle.paw_stage.specs.Disk.{Disk, is_dirty, put}
 use Rattle.paw_stage.specs.Stage.{Standing}
 use Rattle.paw_journal.specs.declared.drafting.SlotState.{SlotState}
 use Rattle.paw_journal.specs.declared.drafting.Draft.{Draft}
-use Rattle.paw_journal.specs.Session.{session_length, header_length, slot_length, made_mark, mark, chosen, version, is_known, kept_digest, changes, changed, first_unsound}
+use Rattle.paw_journal.specs.Session.{session_length, header_length, slot_length, made_mark, mark, chosen, version, is_version, kept_digest, changes, changed, first_unsound}
 use Rattle.paw_journal.specs.Room.{kept_slot}
 use Rattle.paw_journal.specs.Written.{differing, most_written}
 use Rattle.paw_journal.specs.Store.{IsBeside}
@@ -13,7 +13,7 @@ use Rattle.paw_journal.specs.Store.{IsBeside}
 pub record IsMade (bytes : List ℕ) : Type 0 where
   pub long : length bytes ≡ session_length
   pub marked : mark bytes ≡ made_mark
-  pub versioned : is_known (version bytes) ≡ true
+  pub versioned : is_version (version bytes) ≡ true
 
 -- The store has these bytes, and no crash leaves the mark of a session: byte 0 is stable, and it is 0.
 pub record IsBlank (held : List ℕ) (d : Disk) : Type 0 where

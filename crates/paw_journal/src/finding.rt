@@ -4,7 +4,7 @@ ghost use Rattle.std.specs.Prelude.{◌≡◌, ◌≢◌, ◌↔◌, ℕ, None, 
 ghost use Rattle.paw_stage.specs.declared.StageCall.{StageCall};
 ghost use Rattle.paw_stage.specs.Stage.{Grows, Faulted};
 ghost use Rattle.paw_stage.specs.Moments.{Passes, Still};
-ghost use Rattle.paw_journal.specs.Session.{recover, is_known, header_length, session_length};
+ghost use Rattle.paw_journal.specs.Session.{recover, is_version, header_length, session_length};
 ghost use Rattle.paw_journal.specs.Steps.{Introduces};
 ghost use Rattle.paw_journal.specs.Journal.{slot_number, IsRefused, IsCaused, refused_call, outside};
 
@@ -105,7 +105,7 @@ fn header_in(bytes: &[u8; HEADER_LENGTH]) -> Result<Header, JournalRefusal>
 
 // Whether a session may have this version.
 fn is_known_version(version: u8) -> bool
-    ensures { result ≡ is_known version }
+    ensures { result ≡ is_version version }
 {
     version == FIRST_VERSION || version == VERSION
 }

@@ -48,7 +48,7 @@ fn write_header<S: Stage>(stage: &mut S, game: &[u8; 32]) -> Result<(), StageCal
 }
 
 // The header of a session of this game, with byte 0 as 0.
-#[tactic(auto, unfolding(crate::specs::Session::zeros))]
+#[tactic(auto, unfolding(paw_base::specs::Bytes::zeros))]
 fn header_of(game: &[u8; 32]) -> [u8; HEADER_LENGTH]
     ensures value { result ≡ made_header 0 game.now }
 {

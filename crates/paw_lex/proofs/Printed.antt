@@ -6,7 +6,7 @@ use Rattle.std.proofs.lemmas.Bool.{leb-true, ltb-true, ne_eqb, and_parts, cases_
 use Rattle.std.proofs.lemmas.List.{append-nil, append_assoc, take_at, drop_at, get_or_past}
 use Rattle.std.proofs.lemmas.List.Splits.{slice_split_at, length-slice_split}
 use Rattle.std.proofs.lemmas.List.Sums.{AllPass-from_list_all}
-use Rattle.paw_lex.specs.Bytes.{is_printed}
+use Rattle.paw_lex.specs.Bytes.{is_printed_byte}
 use Rattle.paw_lex.specs.Lines.{lines_of}
 use Rattle.paw_lex.specs.Tokens.{ends_token, tokens_of}
 use Rattle.paw_lex.proofs.LineCuts.{lines_of_parts-cons}
@@ -14,22 +14,22 @@ use Rattle.paw_lex.proofs.Slices.{before_first-cons}
 use Rattle.paw_lex.proofs.TokenCuts.{tokens_of-blank, token_first}
 
 -- no printed byte is below the space
-printed_is_not : (n b : ℕ) → n < 32 → is_printed b ≡ true → eqb b n ≡ false
+printed_is_not : (n b : ℕ) → n < 32 → is_printed_byte b ≡ true → eqb b n ≡ false
 printed_is_not n b h e =
     let above = leb-true 32 b (and_parts _ _ e).0 in
     ne_eqb b n (λ same. omega arith)
 
-none_is : (n : ℕ) (line : List ℕ) → n < 32 → list_all is_printed line ≡ true → All (λ b. eqb b n ≡ false) line
-none_is n line h e = λ k d l. printed_is_not n (get_or line k d) h (AllPass-from_list_all is_printed line e k d l)
+none_is : (n : ℕ) (line : List ℕ) → n < 32 → list_all is_printed_byte line ≡ true → All (λ b. eqb b n ≡ false) line
+none_is n line h e = λ k d l. printed_is_not n (get_or line k d) h (AllPass-from_list_all is_printed_byte line e k d l)
 
 -- the text of a source goes on past printed bytes
-text-append : (line rest : List ℕ) → list_all is_printed line ≡ true → before_first (λ b. eqb b 26) (line ++ rest) ≡ line ++ before_first (λ b. eqb b 26) rest
+text-append : (line rest : List ℕ) → list_all is_printed_byte line ≡ true → before_first (λ b. eqb b 26) (line ++ rest) ≡ line ++ before_first (λ b. eqb b 26) rest
 text-append [] rest e = refl
 text-append (b ∷ bs) rest e =
     let both = and_parts _ _ e in
     before_first-cons (λ b. eqb b 26) b (bs ++ rest) (printed_is_not 26 b (omega arith) both.0) ∙ ap (λ (bytes : List ℕ). b ∷ bytes) (text-append bs rest both.1)
 
-no_return : (line : List ℕ) → list_all is_printed line ≡ true → strip_carriage_return line ≡ line
+no_return : (line : List ℕ) → list_all is_printed_byte line ≡ true → strip_carriage_return line ≡ line
 no_return line e =
     let last : eqb (get_or line (length line - 1) 0) 13 ≡ false = elim (cases_lt (length line - 1) (length line)) [
       | inl h ↦ none_is 13 line (omega arith) e (length line - 1) 0 h
@@ -38,7 +38,7 @@ no_return line e =
     rw last refl
 
 -- a printed line and its LF
-pub lines_of-line : (line rest : List ℕ) → list_all is_printed line ≡ true → lines_of (line ++ 10 ∷ rest) ≡ line ∷ lines_of rest
+pub lines_of-line : (line rest : List ℕ) → list_all is_printed_byte line ≡ true → lines_of (line ++ 10 ∷ rest) ≡ line ∷ lines_of rest
 unfolding lines_of
 lines_of-line line rest e =
     let text = before_first (λ b. eqb b 26) rest in
@@ -52,7 +52,7 @@ lines_of-line line rest e =
 abbrev pub printed_lines : List (List ℕ) → List ℕ
 printed_lines = flat_map (λ line. line ++ 10 ∷ [])
 
-pub lines_of-printed_lines : (ls : List (List ℕ)) → list_all (list_all is_printed) ls ≡ true → lines_of (printed_lines ls) ≡ ls
+pub lines_of-printed_lines : (ls : List (List ℕ)) → list_all (list_all is_printed_byte) ls ≡ true → lines_of (printed_lines ls) ≡ ls
 unfolding lines_of
 lines_of-printed_lines [] e = refl
 lines_of-printed_lines (line ∷ ls) e =

@@ -8,12 +8,12 @@ is_comment [] = false
 is_comment (b ∷ bs) = b == 59
 
 -- a byte from the space to `~`
-abbrev pub is_printed : ℕ → Bool
-is_printed b = nat_le 0x20 b && nat_le b 0x7E
+abbrev pub is_printed_byte : ℕ → Bool
+is_printed_byte b = nat_le 0x20 b && nat_le b 0x7E
 
 -- a text line may hold printed bytes, any other line tabs too
 abbrev pub is_allowed : Bool → ℕ → Bool
-is_allowed text b = is_printed b || (not text && b == 9)
+is_allowed text b = is_printed_byte b || (not text && b == 9)
 
 -- the line is no comment and holds a byte that isn't allowed in it
 abbrev pub has_forbidden_byte : Bool → List ℕ → Bool

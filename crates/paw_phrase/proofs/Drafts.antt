@@ -9,8 +9,8 @@ use Rattle.paw_phrase.specs.declared.Found.TheVariants as found
 use Rattle.paw_phrase.specs.declared.next.Part.{Part}
 use Rattle.paw_phrase.specs.declared.next.Part.TheVariants as part
 use Rattle.paw_phrase.specs.declared.next.Draft.{Draft}
-use Rattle.paw_phrase.specs.Phrase.{Mark, marks, is_parting, from_phrase, token_of, tokens_of, bytes_after, Phrase, phrase_of, phrase}
-use Rattle.paw_phrase.specs.Sentence.{blank, with_word, filled, has_known, finished, Parsed, IsSentence, IsUnknown, IsNoPhrase, parsed_phrase, parsed}
+use Rattle.paw_phrase.specs.Phrase.{Mark, marks, is_parting, from_phrase, token_of, phrase_tokens, bytes_after, Phrase, phrase_of, phrase}
+use Rattle.paw_phrase.specs.Sentence.{blank, with_word, with_tokens, has_known, finished, Parsed, IsSentence, IsUnknown, IsNoPhrase, parsed_phrase, parsed}
 use Rattle.paw_phrase.specs.Draft.{part_of_word, part_of, with_part, started, outcome}
 
 -- after a part the draft goes on, or its phrase has ended
@@ -27,9 +27,9 @@ along g e (m ∷ ms) d = after_part (with_part (part_of g m.token) d) (outcome e
 abbrev Means : GameLists → Option (List ℕ) → Part → Type 0
 Means g t part.Break = is_parting g t ≡ true
 Means g t part.Unknown =
-    (is_parting g t ≡ false) × ((ts : List (List ℕ)) (s : Sentence) → filled g (token_of t ++ ts) s ≡ filled g ts s) × ((ts : List (List ℕ)) → has_known g (token_of t ++ ts) ≡ has_known g ts)
+    (is_parting g t ≡ false) × ((ts : List (List ℕ)) (s : Sentence) → with_tokens g (token_of t ++ ts) s ≡ with_tokens g ts s) × ((ts : List (List ℕ)) → has_known g (token_of t ++ ts) ≡ has_known g ts)
 Means g t (part.Word value class) =
-    (is_parting g t ≡ false) × ((ts : List (List ℕ)) (s : Sentence) → filled g (token_of t ++ ts) s ≡ filled g ts (with_word value class s)) × ((ts : List (List ℕ)) → has_known g (token_of t ++ ts) ≡ true)
+    (is_parting g t ≡ false) × ((ts : List (List ℕ)) (s : Sentence) → with_tokens g (token_of t ++ ts) s ≡ with_tokens g ts (with_word value class s)) × ((ts : List (List ℕ)) → has_known g (token_of t ++ ts) ≡ true)
 
 known_means : (g : GameLists) (letters : List ℕ) (word : ℕ × ℕ) → word_at g letters ≡ Some word → (b : Bool) → eqb word.1 5 ≡ b → Means g (Some letters) (cond b part.Break (part.Word word.0 word.1))
 known_means g letters word e true parts = rw e parts
@@ -48,40 +48,40 @@ draft f s = record { found = f; words = s }
 
 -- what the tokens of a phrase come to, where s is filled before them
 abbrev parsed_tokens : GameLists → ℕ → Sentence → List (List ℕ) → List ℕ → Parsed
-parsed_tokens g e s ts rest = cond (has_known g ts) (IsSentence (finished e (filled g ts s)) rest) (IsUnknown rest)
+parsed_tokens g e s ts rest = cond (has_known g ts) (IsSentence (finished e (with_tokens g ts s)) rest) (IsUnknown rest)
 
 -- a part after a known word
-part_of_sentence : (g : GameLists) (e : ℕ) (m : Mark) (ms : List Mark) → ((s : Sentence) → along g e ms (draft found.Sentence s) ≡ IsSentence (finished e (filled g (tokens_of g ms) s)) (bytes_after g ms)) → (s : Sentence) (p : Part) → Means g m.token p → after_part (with_part p (draft found.Sentence s)) (outcome e (draft found.Sentence s) m.after) (along g e ms) ≡ IsSentence (finished e (filled g (tokens_of g (m ∷ ms)) s)) (bytes_after g (m ∷ ms))
+part_of_sentence : (g : GameLists) (e : ℕ) (m : Mark) (ms : List Mark) → ((s : Sentence) → along g e ms (draft found.Sentence s) ≡ IsSentence (finished e (with_tokens g (phrase_tokens g ms) s)) (bytes_after g ms)) → (s : Sentence) (p : Part) → Means g m.token p → after_part (with_part p (draft found.Sentence s)) (outcome e (draft found.Sentence s) m.after) (along g e ms) ≡ IsSentence (finished e (with_tokens g (phrase_tokens g (m ∷ ms)) s)) (bytes_after g (m ∷ ms))
 part_of_sentence g e m ms again s part.Break h = rw h refl
-part_of_sentence g e m ms again s part.Unknown h = again s ∙ rw (h.0) (ap (λ x. IsSentence (finished e x) (bytes_after g ms)) (sym (h.1 (tokens_of g ms) s)))
-part_of_sentence g e m ms again s (part.Word value class) h = again (with_word value class s) ∙ rw (h.0) (ap (λ x. IsSentence (finished e x) (bytes_after g ms)) (sym (h.1 (tokens_of g ms) s)))
+part_of_sentence g e m ms again s part.Unknown h = again s ∙ rw (h.0) (ap (λ x. IsSentence (finished e x) (bytes_after g ms)) (sym (h.1 (phrase_tokens g ms) s)))
+part_of_sentence g e m ms again s (part.Word value class) h = again (with_word value class s) ∙ rw (h.0) (ap (λ x. IsSentence (finished e x) (bytes_after g ms)) (sym (h.1 (phrase_tokens g ms) s)))
 
 -- with a known word
-with_known_word : (g : GameLists) (e : ℕ) (ms : List Mark) (s : Sentence) → along g e ms (draft found.Sentence s) ≡ IsSentence (finished e (filled g (tokens_of g ms) s)) (bytes_after g ms)
+with_known_word : (g : GameLists) (e : ℕ) (ms : List Mark) (s : Sentence) → along g e ms (draft found.Sentence s) ≡ IsSentence (finished e (with_tokens g (phrase_tokens g ms) s)) (bytes_after g ms)
 unfolding along
 with_known_word g e [] s = refl
 with_known_word g e (m ∷ ms) s = part_of_sentence g e m ms (with_known_word g e ms) s (part_of g m.token) (means g m.token)
 
-parsed_tokens_are : (g : GameLists) (e : ℕ) (s x : Sentence) (ts : List (List ℕ)) (rest : List ℕ) (b : Bool) → has_known g ts ≡ b → filled g ts s ≡ x → parsed_tokens g e s ts rest ≡ cond b (IsSentence (finished e x) rest) (IsUnknown rest)
+parsed_tokens_are : (g : GameLists) (e : ℕ) (s x : Sentence) (ts : List (List ℕ)) (rest : List ℕ) (b : Bool) → has_known g ts ≡ b → with_tokens g ts s ≡ x → parsed_tokens g e s ts rest ≡ cond b (IsSentence (finished e x) rest) (IsUnknown rest)
 parsed_tokens_are g e s x ts rest b known words =
-    ap (λ c. cond c (IsSentence (finished e (filled g ts s)) rest) (IsUnknown rest)) known
+    ap (λ c. cond c (IsSentence (finished e (with_tokens g ts s)) rest) (IsUnknown rest)) known
     ∙ ap (λ y. cond b (IsSentence (finished e y) rest) (IsUnknown rest)) words
 
 -- a part after unknown tokens alone
-part_of_unknown : (g : GameLists) (e : ℕ) (m : Mark) (ms : List Mark) → ((s : Sentence) → along g e ms (draft found.Nothing s) ≡ parsed_tokens g e s (tokens_of g ms) (bytes_after g ms)) → (s : Sentence) (p : Part) → Means g m.token p → after_part (with_part p (draft found.Nothing s)) (outcome e (draft found.Nothing s) m.after) (along g e ms) ≡ parsed_tokens g e s (tokens_of g (m ∷ ms)) (bytes_after g (m ∷ ms))
+part_of_unknown : (g : GameLists) (e : ℕ) (m : Mark) (ms : List Mark) → ((s : Sentence) → along g e ms (draft found.Nothing s) ≡ parsed_tokens g e s (phrase_tokens g ms) (bytes_after g ms)) → (s : Sentence) (p : Part) → Means g m.token p → after_part (with_part p (draft found.Nothing s)) (outcome e (draft found.Nothing s) m.after) (along g e ms) ≡ parsed_tokens g e s (phrase_tokens g (m ∷ ms)) (bytes_after g (m ∷ ms))
 part_of_unknown g e m ms again s part.Break h = rw h refl
 part_of_unknown g e m ms again s part.Unknown h =
-    let ts = tokens_of g ms in
+    let ts = phrase_tokens g ms in
     again s
-    ∙ rw (h.0) (sym (parsed_tokens_are g e s (filled g ts s) (token_of m.token ++ ts) (bytes_after g ms) (has_known g ts) (h.2 ts) (h.1 ts s)))
+    ∙ rw (h.0) (sym (parsed_tokens_are g e s (with_tokens g ts s) (token_of m.token ++ ts) (bytes_after g ms) (has_known g ts) (h.2 ts) (h.1 ts s)))
 part_of_unknown g e m ms again s (part.Word value class) h =
-    let ts = tokens_of g ms in
+    let ts = phrase_tokens g ms in
     let word = with_word value class s in
     with_known_word g e ms word
-    ∙ rw (h.0) (sym (parsed_tokens_are g e s (filled g ts word) (token_of m.token ++ ts) (bytes_after g ms) true (h.2 ts) (h.1 ts s)))
+    ∙ rw (h.0) (sym (parsed_tokens_are g e s (with_tokens g ts word) (token_of m.token ++ ts) (bytes_after g ms) true (h.2 ts) (h.1 ts s)))
 
 -- with unknown tokens alone
-with_no_word : (g : GameLists) (e : ℕ) (ms : List Mark) (s : Sentence) → along g e ms (draft found.Nothing s) ≡ parsed_tokens g e s (tokens_of g ms) (bytes_after g ms)
+with_no_word : (g : GameLists) (e : ℕ) (ms : List Mark) (s : Sentence) → along g e ms (draft found.Nothing s) ≡ parsed_tokens g e s (phrase_tokens g ms) (bytes_after g ms)
 unfolding along
 with_no_word g e [] s = refl
 with_no_word g e (m ∷ ms) s = part_of_unknown g e m ms (with_no_word g e ms) s (part_of g m.token) (means g m.token)
@@ -90,21 +90,21 @@ abbrev parsed_from : GameLists → ℕ → Sentence → Option Phrase → Parsed
 parsed_from g e s None = IsNoPhrase
 parsed_from g e s (Some p) = parsed_tokens g e s p.tokens p.rest
 
-parsed_from-token : (g : GameLists) (e : ℕ) (m : Mark) (ms : List Mark) (s : Sentence) → is_parting g m.token ≡ false → parsed_from g e s (phrase_of g (from_phrase g (m ∷ ms))) ≡ parsed_tokens g e s (token_of m.token ++ tokens_of g ms) (bytes_after g ms)
+parsed_from-token : (g : GameLists) (e : ℕ) (m : Mark) (ms : List Mark) (s : Sentence) → is_parting g m.token ≡ false → parsed_from g e s (phrase_of g (from_phrase g (m ∷ ms))) ≡ parsed_tokens g e s (token_of m.token ++ phrase_tokens g ms) (bytes_after g ms)
 parsed_from-token g e m ms s h = rw h (rw h refl)
 
 -- a part before the phrase
 part_of_nothing : (g : GameLists) (e : ℕ) (m : Mark) (ms : List Mark) → ((s : Sentence) → along g e ms (draft found.Empty s) ≡ parsed_from g e s (phrase_of g (from_phrase g ms))) → (s : Sentence) (p : Part) → Means g m.token p → after_part (with_part p (draft found.Empty s)) (outcome e (draft found.Empty s) m.after) (along g e ms) ≡ parsed_from g e s (phrase_of g (from_phrase g (m ∷ ms)))
 part_of_nothing g e m ms again s part.Break h = again s ∙ rw h refl
 part_of_nothing g e m ms again s part.Unknown h =
-    let ts = tokens_of g ms in
+    let ts = phrase_tokens g ms in
     with_no_word g e ms s
-    ∙ sym (parsed_from-token g e m ms s (h.0) ∙ parsed_tokens_are g e s (filled g ts s) (token_of m.token ++ ts) (bytes_after g ms) (has_known g ts) (h.2 ts) (h.1 ts s))
+    ∙ sym (parsed_from-token g e m ms s (h.0) ∙ parsed_tokens_are g e s (with_tokens g ts s) (token_of m.token ++ ts) (bytes_after g ms) (has_known g ts) (h.2 ts) (h.1 ts s))
 part_of_nothing g e m ms again s (part.Word value class) h =
-    let ts = tokens_of g ms in
+    let ts = phrase_tokens g ms in
     let word = with_word value class s in
     with_known_word g e ms word
-    ∙ sym (parsed_from-token g e m ms s (h.0) ∙ parsed_tokens_are g e s (filled g ts word) (token_of m.token ++ ts) (bytes_after g ms) true (h.2 ts) (h.1 ts s))
+    ∙ sym (parsed_from-token g e m ms s (h.0) ∙ parsed_tokens_are g e s (with_tokens g ts word) (token_of m.token ++ ts) (bytes_after g ms) true (h.2 ts) (h.1 ts s))
 
 -- with no token
 with_no_token : (g : GameLists) (e : ℕ) (ms : List Mark) (s : Sentence) → along g e ms (draft found.Empty s) ≡ parsed_from g e s (phrase_of g (from_phrase g ms))

@@ -6,7 +6,7 @@ use Rattle.std.proofs.lemmas.List.{drop_all}
 use Rattle.std.proofs.lemmas.List.Elements.{All-drop}
 use Rattle.paw_game.specs.Game.{GameLists}
 use Rattle.paw_phrase.specs.declared.Sentence.{Sentence}
-use Rattle.paw_phrase.specs.Phrase.{is_separator, Mark, token_mark, separator_mark, marks_from, marks, is_parting, from_phrase, tokens_of, bytes_after, phrase_of}
+use Rattle.paw_phrase.specs.Phrase.{is_separator, Mark, token_mark, separator_mark, marks_from, marks, is_parting, from_phrase, phrase_tokens, bytes_after, phrase_of}
 use Rattle.paw_phrase.specs.Sentence.{has_known, sentence, Parsed, IsSentence, IsUnknown, IsNoPhrase, parsed_phrase, parsed}
 
 -- the bytes that stay pending: those behind the first few
@@ -101,7 +101,7 @@ leaves P false s rest h = h
 parsed_phrase-rest : (g : GameLists) (pending : List ℕ) (e n a : ℕ) (ms : List Mark) → Each (IsRest pending) ms → Leaves (IsRest pending) (parsed_phrase g e n a (phrase_of g ms))
 parsed_phrase-rest g pending e n a [] h = tt
 parsed_phrase-rest g pending e n a (m ∷ ms) h =
-    leaves (IsRest pending) (has_known g (tokens_of g (m ∷ ms))) (sentence g (tokens_of g (m ∷ ms)) e n a) (bytes_after g (m ∷ ms))
+    leaves (IsRest pending) (has_known g (phrase_tokens g (m ∷ ms))) (sentence g (phrase_tokens g (m ∷ ms)) e n a) (bytes_after g (m ∷ ms))
     (bytes_after-each (IsRest pending) g (m ∷ ms) (rest-none pending m.after h.0) h)
 
 -- what stays pending is what stands behind the first few bytes

@@ -9,7 +9,7 @@ use Rattle.paw_game.specs.Valid.{are_letters, is_within, is_word, words_rise, Va
 use Rattle.paw_game.specs.Tables.{word_of, meaning_of, word_at}
 use Rattle.paw_phrase.specs.declared.Sentence.{Sentence}
 use Rattle.paw_phrase.specs.Phrase.{Phrase, phrase}
-use Rattle.paw_phrase.specs.Sentence.{blank, or_value, with_noun, with_adjective, with_pronoun, with_word, with_known, filled, has_known, with_verb, with_meaning, sentence, Parsed, IsSentence, IsUnknown, IsNoPhrase, parsed_phrase, parsed}
+use Rattle.paw_phrase.specs.Sentence.{blank, or_value, with_noun, with_adjective, with_pronoun, with_word, with_known, with_tokens, has_known, with_verb, with_meaning, sentence, Parsed, IsSentence, IsUnknown, IsNoPhrase, parsed_phrase, parsed}
 
 -- each part of the sentence is a byte
 pub record AreBytes (s : Sentence) : Type 0 where
@@ -118,16 +118,16 @@ with_known-bytes : (word : Option (ℕ × ℕ)) (s : Sentence) → HasByte word 
 with_known-bytes None s h k = k
 with_known-bytes (Some word) s h k = with_word-bytes word.0 word.1 s h k
 
-filled-bytes : (g : GameLists) (tokens : List (List ℕ)) (s : Sentence) → Valid g → AreBytes s → AreBytes (filled g tokens s)
-filled-bytes g [] s valid k = k
-filled-bytes g (token ∷ tokens) s valid k =
-    filled-bytes g tokens (with_known (word_at g token) s) valid (with_known-bytes (word_at g token) s (word_at-byte g token valid) k)
+with_tokens-bytes : (g : GameLists) (tokens : List (List ℕ)) (s : Sentence) → Valid g → AreBytes s → AreBytes (with_tokens g tokens s)
+with_tokens-bytes g [] s valid k = k
+with_tokens-bytes g (token ∷ tokens) s valid k =
+    with_tokens-bytes g tokens (with_known (word_at g token) s) valid (with_known-bytes (word_at g token) s (word_at-byte g token valid) k)
 
 -- a sentence of bytes, where the bytes of the pronoun and the earlier verb are
 pub sentence-bytes : (g : GameLists) (tokens : List (List ℕ)) (earlier noun adjective : ℕ) → Valid g → earlier < 256 → noun < 256 → adjective < 256 → AreBytes (sentence g tokens earlier noun adjective)
 sentence-bytes g tokens e n a valid he hn ha =
-    let words = filled g tokens (blank n a) in
-    with_meaning-bytes (with_verb e words) (with_verb-bytes e words he (filled-bytes g tokens (blank n a) valid (blank-bytes n a hn ha)))
+    let words = with_tokens g tokens (blank n a) in
+    with_meaning-bytes (with_verb e words) (with_verb-bytes e words he (with_tokens-bytes g tokens (blank n a) valid (blank-bytes n a hn ha)))
 
 -- a fact of the sentence, where there is one
 abbrev Gives : (Sentence → Type 0) → Parsed → Type 0

@@ -66,9 +66,9 @@ token_of None = []
 token_of (Some letters) = letters ∷ []
 
 -- the tokens up to the next mark that parts phrases
-abbrev pub tokens_of : GameLists → List Mark → List (List ℕ)
-tokens_of g [] = []
-tokens_of g (m ∷ ms) = if parts_phrases g m then [] else token_of m.token ++ tokens_of g ms
+abbrev pub phrase_tokens : GameLists → List Mark → List (List ℕ)
+phrase_tokens g [] = []
+phrase_tokens g (m ∷ ms) = if parts_phrases g m then [] else token_of m.token ++ phrase_tokens g ms
 
 -- the bytes behind the next mark that parts phrases; none where there is no such mark
 abbrev pub bytes_after : GameLists → List Mark → List ℕ
@@ -83,7 +83,7 @@ pub record Phrase : Type 0 where
 -- the phrase at the head of these marks; none where there are none
 abbrev pub phrase_of : GameLists → List Mark → Option Phrase
 phrase_of g [] = None
-phrase_of g (m ∷ ms) = Some (record { tokens = tokens_of g (m ∷ ms); rest = bytes_after g (m ∷ ms) })
+phrase_of g (m ∷ ms) = Some (record { tokens = phrase_tokens g (m ∷ ms); rest = bytes_after g (m ∷ ms) })
 
 -- the first phrase of the bytes: the tokens between two separators; a stretch with no token is none
 abbrev pub phrase : GameLists → List ℕ → Option Phrase

@@ -65,9 +65,9 @@ with_known None s = s
 with_known (Some word) s = with_word word.0 word.1 s
 
 -- the tokens' words are added from left to right; an unknown token is skipped
-abbrev pub filled : GameLists → List (List ℕ) → Sentence → Sentence
-filled g [] s = s
-filled g (token ∷ tokens) s = filled g tokens (with_known (word_at g token) s)
+abbrev pub with_tokens : GameLists → List (List ℕ) → Sentence → Sentence
+with_tokens g [] s = s
+with_tokens g (token ∷ tokens) s = with_tokens g tokens (with_known (word_at g token) s)
 
 -- a token is known, by the value and the class of its word
 abbrev pub is_known : Option (ℕ × ℕ) → Bool
@@ -96,7 +96,7 @@ finished earlier s = with_meaning (with_verb earlier s)
 
 -- the sentence of these tokens
 abbrev pub sentence : GameLists → List (List ℕ) → ℕ → ℕ → ℕ → Sentence
-sentence g tokens earlier noun adjective = finished earlier (filled g tokens (blank noun adjective))
+sentence g tokens earlier noun adjective = finished earlier (with_tokens g tokens (blank noun adjective))
 
 -- what the next phrase of the pending bytes is: a sentence, or a phrase with no known word, each with the bytes that
 -- stay pending; or no phrase

@@ -10,7 +10,7 @@ use Rattle.paw_reading.specs.declared.places.Frame.{Frame}
 use Rattle.paw_reading.specs.declared.places.OpenLoop.{OpenLoop}
 use Rattle.paw_reading.specs.Turn.{first_table}
 use Rattle.paw_reading.specs.Places.{LeadsTo, tables_of, IsLoopIn, AreOpenAt}
-use Rattle.paw_process.specs.Kept.{unused, condact_of, has_code, may_open, parameter_of, row_stands, rows_fault, table_of, is_table, loop_fault, first_fault, count_fits, fault_at}
+use Rattle.paw_process.specs.Kept.{unused, condact_of, has_code, may_open, parameter_of, row_stands, rows_fault, table_of, is_that_table, loop_fault, first_fault, count_fits, fault_at}
 use Rattle.paw_state.specs.Record.{frames_at}
 
 -- ---- of places their rows stand ----
@@ -52,7 +52,7 @@ path_stands g code caller (f ∷ h ∷ path) d k leads opens =
 
 -- ---- and their loop ----
 
-row_of : (path rows : List Frame) (i t : ℕ) → slice_get (tables_of path) i ≡ Some t → is_table (table_of (slice_get (path ++ rows) i)) t ≡ true
+row_of : (path rows : List Frame) (i t : ℕ) → slice_get (tables_of path) i ≡ Some t → is_that_table (table_of (slice_get (path ++ rows) i)) t ≡ true
 row_of [] rows i t h = cc
 row_of (f ∷ path) rows zero t h = let e : f.table ≡ t = cc in rw e (grind (arith, nat_tests))
 row_of (f ∷ path) rows (suc i) t h = row_of path rows i t h

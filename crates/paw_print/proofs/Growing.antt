@@ -4,7 +4,7 @@ use Rattle.std.specs.Prelude.{OnOk}
 use Rattle.std.specs.List.{flat_map}
 use Rattle.std.proofs.lemmas.Grind.{flat_map-append}
 use Rattle.std.proofs.lemmas.List.{append_assoc, append-nil, take_more, map-append, length-take-le}
-use Rattle.paw_print.specs.Canonical.{numbered, ended, written}
+use Rattle.paw_print.specs.Canonical.{numbered, with_line_end, written}
 
 -- more lines
 pub written_more : (a b c z : List ℕ) (xs ys : List (List ℕ)) → b ≡ a ++ written xs → c ≡ b ++ z → z ≡ written ys → c ≡ a ++ written (xs ++ ys)
@@ -13,7 +13,7 @@ written_more a b c z xs ys first second is =
     ∙ ap (λ (t : List ℕ). t ++ z) first
     ∙ append_assoc a (written xs) z
     ∙ ap (λ (t : List ℕ). a ++ (written xs ++ t)) is
-    ∙ ap (λ (t : List ℕ). a ++ t) (sym (flat_map-append ended xs ys))
+    ∙ ap (λ (t : List ℕ). a ++ t) (sym (flat_map-append with_line_end xs ys))
 
 -- the same where the last step may have failed
 pub written_last : {T E : Type 0} (r : Result T E) (a b c z : List ℕ) (xs ys : List (List ℕ)) → b ≡ a ++ written xs → OnOk r (c ≡ b ++ z) → z ≡ written ys → OnOk r (c ≡ a ++ written (xs ++ ys))
@@ -26,9 +26,9 @@ take_next {A} xs i x h is = sym (take_more xs i x h ∙ ap (λ (y : A). take i x
 
 -- a line for each row
 pub map_more : {A : Type 0} (f : A → List ℕ) (before : List (List ℕ)) (xs : List A) (i : ℕ) (x : A) (a b c : List ℕ) → i < length xs → x ≡ get_or xs i x
-    → b ≡ a ++ written (before ++ map f (take i xs)) → c ≡ b ++ ended (f x) → c ≡ a ++ written (before ++ map f (take (i + 1) xs))
+    → b ≡ a ++ written (before ++ map f (take i xs)) → c ≡ b ++ with_line_end (f x) → c ≡ a ++ written (before ++ map f (take (i + 1) xs))
 map_more {A} f before xs i x a b c h is first second =
-    written_more a b c (ended (f x)) (before ++ map f (take i xs)) (f x ∷ []) first second (sym (append-nil (ended (f x))))
+    written_more a b c (with_line_end (f x)) (before ++ map f (take i xs)) (f x ∷ []) first second (sym (append-nil (with_line_end (f x))))
     ∙ ap (λ (ls : List (List ℕ)). a ++ written ls)
     (append_assoc before (map f (take i xs)) (f x ∷ [])
     ∙ ap (λ (ls : List (List ℕ)). before ++ ls) (sym (map-append f (take i xs) (x ∷ [])))

@@ -58,12 +58,12 @@ canonical_lines g =
     ++ numbered (table_lines g.words) 0 g.tables
 
 -- a line and its end
-abbrev pub ended : List ℕ → List ℕ
-ended line = line ++ 10 ∷ []
+abbrev pub with_line_end : List ℕ → List ℕ
+with_line_end line = line ++ 10 ∷ []
 
 -- lines, each with its end
 abbrev pub written : List (List ℕ) → List ℕ
-written lines = flat_map ended lines
+written lines = flat_map with_line_end lines
 
 -- the canonical source: its lines, each ended by LF
 unfoldable pub canonical_of : GameLists → List ℕ

@@ -25,8 +25,8 @@ spaced (t ∷ ts) = t ++ behind_spaces ts
 -- ---- words ----
 
 -- the letters of a word, without the spaces that fill them up
-abbrev pub letters_of : Word → List ℕ
-letters_of w = before_first (λ b. b == 32) w.letters
+abbrev pub spelled_letters : Word → List ℕ
+spelled_letters w = before_first (λ b. b == 32) w.letters
 
 -- a word of this class with this value
 abbrev pub means : ℕ → ℕ → Word → Bool
@@ -43,7 +43,7 @@ first_verb ws value = option_or (first_word ws VERB_CLASS value) (first_word ws 
 -- the letters of a word; a game has a word for each of its values but those of `*` and `_`
 abbrev pub letters_or_none : Option Word → List ℕ
 letters_or_none None = []
-letters_or_none (Some w) = letters_of w
+letters_or_none (Some w) = spelled_letters w
 
 -- where a word stands, a value is `*`, `_` or its word
 abbrev pub word_token : ℕ → Option Word → List ℕ
@@ -70,7 +70,7 @@ class_name class =
 
 -- letters, value, class
 abbrev pub word_tokens : Word → List (List ℕ)
-word_tokens w = letters_of w ∷ decimal w.value ∷ class_name w.class ∷ []
+word_tokens w = spelled_letters w ∷ decimal w.value ∷ class_name w.class ∷ []
 
 -- ---- texts ----
 

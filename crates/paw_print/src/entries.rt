@@ -3,7 +3,7 @@
 ghost use Rattle.std.specs.Prelude.{◌≡◌, ◌++◌, OnOk, flat_map, map};
 ghost use Rattle.std.specs.List.{AllByRecursion};
 ghost use Rattle.paw_print.specs.Lines.{behind_spaces, condact_line, entry_tokens, parameter_tokens, spaced, table_tokens};
-ghost use Rattle.paw_print.specs.Canonical.{ended, entry_lines, numbered, table_lines, written};
+ghost use Rattle.paw_print.specs.Canonical.{with_line_end, entry_lines, numbered, table_lines, written};
 ghost use Rattle.paw_print.specs.Known.{IsKnown, IsKnownEntry, IsKnownTable};
 
 use crate::rows::{end_line, write_number, write_token};
@@ -39,7 +39,7 @@ fn write_condact(
     out: &mut Vec<u8>,
 ) -> Result<(), AllocError>
     requires known { IsKnown condact }
-    ensures writes { OnOk result (out.new.items ≡ out.old.items ++ ended (condact_line vocabulary.now condact)) }
+    ensures writes { OnOk result (out.new.items ≡ out.old.items ++ with_line_end (condact_line vocabulary.now condact)) }
 {
     let row = condact_row(condact.code).unwrap();
     write_token(row.trimmed_name(), out)?;
@@ -65,7 +65,7 @@ fn write_condacts(
 
 /// Writes the line of an entry's words.
 fn write_head(vocabulary: &Vocabulary, entry: &Entry, out: &mut Vec<u8>) -> Result<(), AllocError>
-    ensures writes { OnOk result (out.new.items ≡ out.old.items ++ ended (spaced (entry_tokens vocabulary.now entry.now))) }
+    ensures writes { OnOk result (out.new.items ≡ out.old.items ++ with_line_end (spaced (entry_tokens vocabulary.now entry.now))) }
 {
     vocabulary.write_verb(entry.verb, out)?;
     vocabulary.write_noun(entry.noun, out)?;
@@ -83,7 +83,7 @@ fn write_entry(vocabulary: &Vocabulary, entry: &Entry, out: &mut Vec<u8>) -> Res
 
 /// Writes the header of a table.
 fn write_table_header(number: usize, out: &mut Vec<u8>) -> Result<(), AllocError>
-    ensures writes { OnOk result (out.new.items ≡ out.old.items ++ ended (spaced (table_tokens number))) }
+    ensures writes { OnOk result (out.new.items ≡ out.old.items ++ with_line_end (spaced (table_tokens number))) }
 {
     out.extend_from_slice(b"/PRO")?;
     write_number(number, out)?;

@@ -2,7 +2,7 @@
 
 ghost use Rattle.std.specs.Prelude.{◌≡◌, ◌++◌, OnOk, map};
 ghost use Rattle.paw_print.specs.Lines.{exit_tokens, spaced};
-ghost use Rattle.paw_print.specs.Canonical.{ended, exits_lines, location_lines, written};
+ghost use Rattle.paw_print.specs.Canonical.{with_line_end, exits_lines, location_lines, written};
 
 use crate::rows::{end_line, write_header, write_number};
 use crate::texts::write_item;
@@ -12,7 +12,7 @@ use std::alloc::AllocError;
 
 /// Writes the line of an exit.
 fn write_exit(vocabulary: &Vocabulary, exit: &Exit, out: &mut Vec<u8>) -> Result<(), AllocError>
-    ensures writes { OnOk result (out.new.items ≡ out.old.items ++ ended (spaced (exit_tokens vocabulary.now exit.now))) }
+    ensures writes { OnOk result (out.new.items ≡ out.old.items ++ with_line_end (spaced (exit_tokens vocabulary.now exit.now))) }
 {
     vocabulary.write_verb(exit.verb, out)?;
     write_number(exit.to as usize, out)?;

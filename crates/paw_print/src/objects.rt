@@ -2,7 +2,7 @@
 
 ghost use Rattle.std.specs.Prelude.{◌≡◌, ◌++◌, ◌∷◌, List, [], OnOk, decimal};
 ghost use Rattle.paw_print.specs.Lines.{behind_spaces, kind_token, object_tokens, spaced, value_token};
-ghost use Rattle.paw_print.specs.Canonical.{ended, objects_lines, written};
+ghost use Rattle.paw_print.specs.Canonical.{with_line_end, objects_lines, written};
 
 use crate::rows::{end_line, write_digits, write_header, write_number, write_token};
 use crate::vocabulary::Vocabulary;
@@ -39,7 +39,7 @@ fn write_object(
     facts: &ObjectFacts,
     out: &mut Vec<u8>,
 ) -> Result<(), AllocError>
-    ensures writes { OnOk result (out.new.items ≡ out.old.items ++ ended (spaced (object_tokens vocabulary.now number facts.now))) }
+    ensures writes { OnOk result (out.new.items ≡ out.old.items ++ with_line_end (spaced (object_tokens vocabulary.now number facts.now))) }
 {
     write_digits(number, out)?;
     write_place_and_kind(facts, out)?;

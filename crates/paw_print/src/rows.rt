@@ -1,7 +1,7 @@
 // The parts of a line.
 
 ghost use Rattle.std.specs.Prelude.{◌≡◌, ◌++◌, ◌∷◌, List, [], OnOk, decimal};
-ghost use Rattle.paw_print.specs.Canonical.{ended};
+ghost use Rattle.paw_print.specs.Canonical.{with_line_end};
 
 use itoa::Buffer;
 use std::alloc::AllocError;
@@ -16,7 +16,7 @@ pub(crate) fn end_line(out: &mut Vec<u8>) -> Result<(), AllocError>
 
 /// Writes a line that is one token.
 pub(crate) fn write_header(token: &[u8], out: &mut Vec<u8>) -> Result<(), AllocError>
-    ensures writes { OnOk result (out.new.items ≡ out.old.items ++ ended token.now) }
+    ensures writes { OnOk result (out.new.items ≡ out.old.items ++ with_line_end token.now) }
 {
     out.extend_from_slice(token)?;
     end_line(out)

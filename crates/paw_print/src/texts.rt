@@ -2,7 +2,7 @@
 
 ghost use Rattle.std.specs.Prelude.{◌≡◌, ◌++◌, OnOk, codes, map};
 ghost use Rattle.paw_print.specs.Lines.{item_token, lines_of_text, text_lines};
-ghost use Rattle.paw_print.specs.Canonical.{ended, texts_lines, written};
+ghost use Rattle.paw_print.specs.Canonical.{with_line_end, texts_lines, written};
 
 use crate::rows::{end_line, write_digits, write_header};
 use paw_game::parts::{ObjectRow, Text};
@@ -10,7 +10,7 @@ use std::alloc::AllocError;
 
 /// Writes the line that begins an item.
 pub(crate) fn write_item(number: usize, out: &mut Vec<u8>) -> Result<(), AllocError>
-    ensures writes { OnOk result (out.new.items ≡ out.old.items ++ ended (item_token number)) }
+    ensures writes { OnOk result (out.new.items ≡ out.old.items ++ with_line_end (item_token number)) }
 {
     out.push(b'/')?;
     write_digits(number, out)?;

@@ -2,8 +2,8 @@
 
 ghost use Rattle.std.specs.Prelude.{◌≡◌, ◌≤◌, ◌++◌, ◌∷◌, ◌==◌, OnOk, length, map};
 ghost use Rattle.std.specs.List.{position_or_len};
-ghost use Rattle.paw_print.specs.Lines.{class_name, letters_of, letters_or_none, spaced, value_token, verb_token, word_token, word_tokens};
-ghost use Rattle.paw_print.specs.Canonical.{ended, words_lines, written};
+ghost use Rattle.paw_print.specs.Lines.{class_name, spelled_letters, letters_or_none, spaced, value_token, verb_token, word_token, word_tokens};
+ghost use Rattle.paw_print.specs.Canonical.{with_line_end, words_lines, written};
 ghost use Rattle.paw_print.specs.Words.{TellsFirst};
 
 use crate::rows::{end_line, write_header, write_number, write_token};
@@ -148,7 +148,7 @@ fn write_letters(word: Option<Word>, out: &mut Vec<u8>) -> Result<(), AllocError
 
 /// The letters of a word, without the spaces that fill them up.
 fn letters_of(word: &Word) -> &[u8]
-    ensures value { result.now ≡ letters_of word.now }
+    ensures value { result.now ≡ spelled_letters word.now }
 {
     let count = letter_count(&word.letters);
     &word.letters[..count]
@@ -179,7 +179,7 @@ fn class_name(class: u8) -> &'static [u8]
 
 /// Writes the line of a word.
 fn write_word(word: &Word, out: &mut Vec<u8>) -> Result<(), AllocError>
-    ensures writes { OnOk result (out.new.items ≡ out.old.items ++ ended (spaced (word_tokens word.now))) }
+    ensures writes { OnOk result (out.new.items ≡ out.old.items ++ with_line_end (spaced (word_tokens word.now))) }
 {
     out.extend_from_slice(letters_of(word))?;
     write_number(word.value as usize, out)?;

@@ -14,7 +14,7 @@ use Rattle.paw_process.specs.declared.kept.Frames.{Frames}
 use Rattle.paw_process.specs.OpenTables.{OpenTables}
 use Rattle.paw_process.proofs.Rows.{length_rows}
 use Rattle.paw_process.proofs.Restored.{first_of, second, no_first}
-use Rattle.paw_process.specs.Kept.{unused, kept, restored, is_unused, row_stands, rows_fault, condact_of, parameter_of, first_fault, loop_fault, count_fits, fault_at, frames_fault, waiting_code, or_none, waiting_at, StandsAt}
+use Rattle.paw_process.specs.Kept.{unused, kept, restored, is_unused, row_stands, rows_fault, condact_of, parameter_of, first_fault, loop_fault, count_fits, fault_at, frames_fault, waiting_code, code_or_zero, waiting_at, StandsAt}
 
 -- ---- the machine again ----
 
@@ -100,11 +100,11 @@ low_count (Some code) n h = leb-true n 11 (second (nat_lt 0 n) _ h)
 kept_at : (g : GameLists) (code : Option ℕ) (waiting : Option Prompt) (k : Frames) → length k.rows ≡ 11 → fault_at g code k ≡ None → kept (restored k waiting) ≡ k
 kept_at g code waiting k size h = go (count_fits code k.count) refl h
   where
-    go : (b : Bool) → count_fits code k.count ≡ b → ◌≡◌ {A = Option ℕ} (if b then first_fault (rows_fault g (or_none code) None k.count 0 k.rows) (loop_fault g k k.turning) else Some 0) None
+    go : (b : Bool) → count_fits code k.count ≡ b → ◌≡◌ {A = Option ℕ} (if b then first_fault (rows_fault g (code_or_zero code) None k.count 0 k.rows) (loop_fault g k k.turning) else Some 0) None
         → kept (restored k waiting) ≡ k
     go true e q =
-        let fits = no_first (rows_fault g (or_none code) None k.count 0 k.rows) (loop_fault g k k.turning) q in
-        kept_of k.count k.rows k.turning (low_count code k.count e) size (used_then_not g (or_none code) None k.count 0 k.rows fits.0)
+        let fits = no_first (rows_fault g (code_or_zero code) None k.count 0 k.rows) (loop_fault g k k.turning) q in
+        kept_of k.count k.rows k.turning (low_count code k.count e) size (used_then_not g (code_or_zero code) None k.count 0 k.rows fits.0)
     go false e q = cc
 
 pub restored_kept : (g : GameLists) (p : Prompt) (waiting : Option Prompt) (k : Frames) → length k.rows ≡ 11 → frames_fault g p k ≡ None → kept (restored k waiting) ≡ k

@@ -15,7 +15,7 @@ use Rattle.paw_reading.specs.declared.places.OpenLoop.{OpenLoop}
 use Rattle.paw_reading.specs.Turn.{first_table}
 use Rattle.paw_reading.specs.Places.{LeadsTo, tables_of, IsLoopIn, AreOpenTo, ArePlaces}
 use Rattle.paw_process.specs.OpenTables.{OpenTables, IsClosed}
-use Rattle.paw_process.specs.Kept.{unused, kept, condact_of, has_code, may_open, parameter_of, row_stands, rows_fault, table_of, is_table, loop_stands, loop_fault, first_fault, count_fits, fault_at, frames_fault, StandsAt}
+use Rattle.paw_process.specs.Kept.{unused, kept, condact_of, has_code, may_open, parameter_of, row_stands, rows_fault, table_of, is_that_table, loop_stands, loop_fault, first_fault, count_fits, fault_at, frames_fault, StandsAt}
 use Rattle.paw_process.specs.declared.kept.Frames.{Frames}
 use Rattle.paw_process.proofs.Restored.{first_of, second, no_first, none_open}
 
@@ -58,7 +58,7 @@ path_stands g code caller (f ∷ h ∷ path) d k leads opens =
 
 -- ---- and their loop ----
 
-row_of : (path rows : List Frame) (i t : ℕ) → slice_get (tables_of path) i ≡ Some t → is_table (table_of (slice_get (path ++ rows) i)) t ≡ true
+row_of : (path rows : List Frame) (i t : ℕ) → slice_get (tables_of path) i ≡ Some t → is_that_table (table_of (slice_get (path ++ rows) i)) t ≡ true
 row_of [] rows i t h = cc
 row_of (f ∷ path) rows zero t h = let e : f.table ≡ t = cc in rw e (grind (arith, nat_tests))
 row_of (f ∷ path) rows (suc i) t h = row_of path rows i t h
@@ -150,7 +150,7 @@ rows_lead g code caller (suc n) d (f ∷ i ∷ fs) size h =
     let rest = rows_lead g code (Some (parameter_of (condact_of g f))) n (suc d) (i ∷ fs) (omega arith) rows.1 in
     ((record { condact = row.condact; stands = row.stands; process = row.is; called = opened_by row.condact i.table (condact_of g f) row.stands rest.1 }, rest.0), row.opens)
 
-table_in : (rows : List Frame) (count i t : ℕ) → i < count → is_table (table_of (slice_get rows i)) t ≡ true → slice_get (tables_of (take count rows)) i ≡ Some t
+table_in : (rows : List Frame) (count i t : ℕ) → i < count → is_that_table (table_of (slice_get rows i)) t ≡ true → slice_get (tables_of (take count rows)) i ≡ Some t
 table_in [] count i t low h = cc
 table_in (f ∷ rows) zero i t low h = absurd (omega arith)
 table_in (f ∷ rows) (suc count) zero t low h = ap Some (sym (eqb-true t f.table h))
@@ -163,11 +163,11 @@ loop_in g k (Some l) h = go (loop_stands g k l) refl h
     go : (b : Bool) → loop_stands g k l ≡ b → ◌≡◌ {A = Option ℕ} (if b then None else Some 11) None → IsLoopIn g (tables_of (take k.count k.rows)) l
     go true e q =
         let own = second (nat_lt l.level k.count) _ e in
-        let later = second (is_table (table_of (slice_get k.rows l.level)) l.table) _ own in
+        let later = second (is_that_table (table_of (slice_get k.rows l.level)) l.table) _ own in
         let last = second (has_code 86 (condact_at g l.table l.entry l.at)) _ later in
         let at = coded 86 (condact_at g l.table l.entry l.at) (first_of (has_code 86 (condact_at g l.table l.entry l.at)) _ later) in
         record {
-          level = table_in k.rows k.count l.level l.table (ltb-true l.level k.count (first_of (nat_lt l.level k.count) _ e)) (first_of (is_table (table_of (slice_get k.rows l.level)) l.table) _ own);
+          level = table_in k.rows k.count l.level l.table (ltb-true l.level k.count (first_of (nat_lt l.level k.count) _ e)) (first_of (is_that_table (table_of (slice_get k.rows l.level)) l.table) _ own);
           doall = record { condact = at.0; stands = at.1.0; is = at.1.1 };
           place = first_of (is_place (length g.locations) l.place) _ last;
           last = ltb-true l.last (length g.objects) (second (is_place (length g.locations) l.place) _ last);

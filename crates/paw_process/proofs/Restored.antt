@@ -14,7 +14,7 @@ use Rattle.paw_effects.specs.declared.act.Prompt.{Prompt}
 use Rattle.paw_effects.specs.declared.act.Prompt.TheVariants as prompt
 use Rattle.paw_reading.specs.declared.places.Frame.{Frame}
 use Rattle.paw_reading.specs.declared.places.OpenLoop.{OpenLoop}
-use Rattle.paw_process.specs.Kept.{restored, condact_of, has_code, may_open, parameter_of, row_stands, rows_fault, table_of, is_table, loop_stands, loop_fault, first_fault, count_fits, fault_at, frames_fault, waiting_at, StandsAt}
+use Rattle.paw_process.specs.Kept.{restored, condact_of, has_code, may_open, parameter_of, row_stands, rows_fault, table_of, is_that_table, loop_stands, loop_fault, first_fault, count_fits, fault_at, frames_fault, waiting_at, StandsAt}
 use Rattle.paw_process.specs.declared.kept.Frames.{Frames}
 use Rattle.paw_process.specs.OpenTables.{below, IsAtCondact, AtCondacts, InTable, IsLoopIn, LoopFits, IsWaiting, IsClosed}
 
@@ -87,7 +87,7 @@ loop_in g k (Some l) v h = go (loop_stands g k l) refl h
     go : (b : Bool) → loop_stands g k l ≡ b → ◌≡◌ {A = Option ℕ} (if b then None else Some 11) None → IsLoopIn k.count l
     go true e q =
         let later = second (nat_lt l.level k.count) _ e in
-        let coded_at = first_of (has_code 86 (condact_at g l.table l.entry l.at)) _ (second (is_table (table_of (slice_get k.rows l.level)) l.table) _ later) in
+        let coded_at = first_of (has_code 86 (condact_at g l.table l.entry l.at)) _ (second (is_that_table (table_of (slice_get k.rows l.level)) l.table) _ later) in
         let c = coded g (record { table = l.table; entry = l.entry; at = l.at; acted = false }) 86 (condact_at g l.table l.entry l.at) v refl coded_at in
         record { at = c.at; entry = c.entry; level = ltb-true l.level k.count (first_of (nat_lt l.level k.count) _ e) }
     go false e q = cc

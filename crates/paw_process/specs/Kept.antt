@@ -82,14 +82,14 @@ table_of None = None
 table_of (Some f) = Some f.table
 
 -- a table is there, and it is this one
-abbrev pub is_table : Option ℕ → ℕ → Bool
-is_table None t = false
-is_table (Some u) t = t == u
+abbrev pub is_that_table : Option ℕ → ℕ → Bool
+is_that_table None t = false
+is_that_table (Some u) t = t == u
 
 -- the open loop is at a DOALL of the table of its level, and its place and its last object are the game's
 abbrev pub loop_stands : GameLists → Frames → OpenLoop → Bool
 loop_stands g k l =
-    nat_lt l.level k.count && (is_table (table_of (slice_get k.rows l.level)) l.table
+    nat_lt l.level k.count && (is_that_table (table_of (slice_get k.rows l.level)) l.table
     && (has_code DOALL (condact_at g l.table l.entry l.at)
     && (is_place (length g.locations) l.place && nat_lt l.last (length g.objects))))
 
@@ -109,15 +109,15 @@ count_fits None n = n == 0
 count_fits (Some code) n = nat_lt 0 n && nat_le n MOST_FRAMES
 
 -- the code of a condact; 0 where there is none
-abbrev pub or_none : Option ℕ → ℕ
-or_none None = 0
-or_none (Some code) = code
+abbrev pub code_or_zero : Option ℕ → ℕ
+code_or_zero None = 0
+code_or_zero (Some code) = code
 
 -- the first fault of what is kept of a machine that waits at a condact of this code
 abbrev pub fault_at : GameLists → Option ℕ → Frames → Option ℕ
 fault_at g code k =
     if count_fits code k.count
-    then first_fault (rows_fault g (or_none code) None k.count 0 k.rows) (loop_fault g k k.turning) else Some 0
+    then first_fault (rows_fault g (code_or_zero code) None k.count 0 k.rows) (loop_fault g k k.turning) else Some 0
 
 -- the least depth at which what is kept of a machine that waits at this prompt breaks a rule: a frame, that behind all
 -- rows for the loop, 0 for the number of frames; nothing where it keeps them all

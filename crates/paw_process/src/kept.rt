@@ -2,7 +2,7 @@
 
 ghost use Rattle.std.specs.Prelude.{◌≡◌, ℕ, ◌+◌, ◌<◌, ◌≤◌, ◌-◌, ◌==◌, if◌then◌else◌, length, slice_get};
 ghost use Rattle.paw_game.specs.Valid.{is_place};
-ghost use Rattle.paw_process.specs.Kept.{waiting_code, waiting_at, may_open, has_code, parameter_of, is_unused, row_stands, rows_fault, table_of, is_table, loop_stands, loop_fault, count_fits, frames_fault};
+ghost use Rattle.paw_process.specs.Kept.{waiting_code, waiting_at, may_open, has_code, parameter_of, is_unused, row_stands, rows_fault, table_of, is_that_table, loop_stands, loop_fault, count_fits, frames_fault};
 
 use crate::machine::MOST_FRAMES;
 use paw_base::parts::Condact;
@@ -136,7 +136,7 @@ pub fn is_place(locations: u16, place: u8) -> bool
 
 /// Whether the row of this level is of this table.
 fn is_table(rows: &[Frame], level: u8, table: u8) -> bool
-    ensures value { result ≡ is_table (table_of (slice_get rows.now level)) table }
+    ensures value { result ≡ is_that_table (table_of (slice_get rows.now level)) table }
 {
     match rows.get(level as usize) {
         None => false,

@@ -17,7 +17,7 @@ use Rattle.paw_grammar.specs.Tokens.{◌>>=◌, token, ended, is_named}
 use Rattle.paw_grammar.specs.Numbers.{number, number_from, is_digit}
 use Rattle.paw_grammar.specs.GrammarState.{Spelt, last_or, with_last}
 use Rattle.paw_grammar.specs.GrammarTexts.{texts_of, with_texts, text_limit, text_item, text_line, is_in_text}
-use Rattle.paw_grammar.specs.GrammarHeads.{next_section, header_name, opened, plain_header, con_header, lacks_rows, table_header, pro_header, header_of, header, new_text, new_exits, item_in, is_letters, slash_line}
+use Rattle.paw_grammar.specs.GrammarHeads.{next_section, header_name, section_opened, plain_header, con_header, lacks_rows, table_header, pro_header, header_of, header, new_text, new_exits, item_in, is_letters, slash_line}
 use Rattle.paw_grammar.specs.GrammarRows.{voc_row, exit_row, con_row, object_row, bounds_of, entry_row, more_row, pro_row, row_in}
 use Rattle.paw_grammar.specs.Spells.{begins_with_slash, begins_with_blank, is_text_line, text_added, tokens_added, step, is_pro_token, begins_table}
 use Rattle.paw_source.specs.Laws.{after_lines, CountsTables}
@@ -90,18 +90,18 @@ number_not_pro (b ∷ c ∷ cs) n h =
     rw (digit_no_letter c (is_first_digit c n cs h)) (elim (eqb (to_ascii_lowercase b) 47) as (λ v. (v && false) ≡ false) [ true ↦ refl | false ↦ refl ])
 
 plain_same : (s : Section) (d e : Spelt) (ts : List (List ℕ)) → plain_header s d ts ≡ Ok e → tables e ≡ tables d
-plain_same s d e ts h = ap tables (sym (ok_is (opened s d) e (at_end ts (Ok (opened s d)) e h)))
+plain_same s d e ts h = ap tables (sym (ok_is (section_opened s d) e (at_end ts (Ok (section_opened s d)) e h)))
 
 con_same : (d e : Spelt) (ts : List (List ℕ)) → con_header d ts ≡ Ok e → tables e ≡ tables d
 con_same d e ts h =
-    let a = at_end ts (cond (eqb (length d.locations) 0) (Err kind.Missing) (Ok (opened section.Con d))) e h in
-    let b = passes (eqb (length d.locations) 0) kind.Missing (Ok (opened section.Con d)) e a in
-    ap tables (sym (ok_is (opened section.Con d) e b.1))
+    let a = at_end ts (cond (eqb (length d.locations) 0) (Err kind.Missing) (Ok (section_opened section.Con d))) e h in
+    let b = passes (eqb (length d.locations) 0) kind.Missing (Ok (section_opened section.Con d)) e a in
+    ap tables (sym (ok_is (section_opened section.Con d) e b.1))
 
 table_more : (d e : Spelt) (ts : List (List ℕ)) (o : Option ℕ) → table_header d ts o ≡ Ok e → tables e ≡ tables d + 1
 table_more d e ts None h = absurd cc
 table_more d e ts (Some n) h =
-    let made : Spelt = record (opened section.Pro d) { tables = d.tables ++ [] ∷ [] } in
+    let made : Spelt = record (section_opened section.Pro d) { tables = d.tables ++ [] ∷ [] } in
     let a = passes (nat_lt 255 n) kind.Range (cond (not (eqb n (length d.tables))) (Err kind.Section) (ended ts >>= λ _. cond (lacks_rows d) (Err kind.Missing) (Ok made))) e h in
     let b = passes (not (eqb n (length d.tables))) kind.Section (ended ts >>= λ _. cond (lacks_rows d) (Err kind.Missing) (Ok made)) e a.1 in
     let c = at_end ts (cond (lacks_rows d) (Err kind.Missing) (Ok made)) e b.1 in

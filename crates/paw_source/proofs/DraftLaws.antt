@@ -21,7 +21,7 @@ use Rattle.paw_grammar.specs.Tokens.{◌>>=◌, token, ended, is_named}
 use Rattle.paw_grammar.specs.Numbers.{number}
 use Rattle.paw_grammar.specs.GrammarState.{Spelt, last_or, with_last}
 use Rattle.paw_grammar.specs.GrammarTexts.{texts_of, with_texts, text_limit, text_item, text_line, is_in_text}
-use Rattle.paw_grammar.specs.GrammarHeads.{next_section, header_name, opened, plain_header, con_header, lacks_rows, table_header, pro_header, header_of, header, new_text, new_exits, item_in, is_letters, slash_line}
+use Rattle.paw_grammar.specs.GrammarHeads.{next_section, header_name, section_opened, plain_header, con_header, lacks_rows, table_header, pro_header, header_of, header, new_text, new_exits, item_in, is_letters, slash_line}
 use Rattle.paw_grammar.specs.GrammarRows.{voc_row, exit_row, con_row, object_row, obj_row, bounds_of, entry_row, more_row, pro_row, row_in}
 use Rattle.paw_grammar.specs.Spells.{begins_with_slash, begins_with_blank, is_text_line, text_added, tokens_added, step}
 use Rattle.paw_source.proofs.Faultless.{passes, holds, bound, ok_is, at_end}
@@ -225,7 +225,7 @@ item_keeps p section.Pro n d e here k h = absurd cc
 -- ---- headers
 
 -- a section that opens adds no row
-open_keeps : (p : ℕ) (s : Section) (d : Spelt) → Keeps p d → InOrder s (opened s d) → Keeps p (opened s d)
+open_keeps : (p : ℕ) (s : Section) (d : Spelt) → Keeps p d → InOrder s (section_opened s d) → Keeps p (section_opened s d)
 open_keeps p s d k order = record {
   words = k.words;
   system = k.system;
@@ -241,17 +241,17 @@ open_keeps p s d k order = record {
   order = order;
 }
 
-plain_keeps : (p : ℕ) (s : Section) (d e : Spelt) (ts : List (List ℕ)) → Keeps p d → InOrder s (opened s d) → plain_header s d ts ≡ Ok e → Keeps p e
+plain_keeps : (p : ℕ) (s : Section) (d e : Spelt) (ts : List (List ℕ)) → Keeps p d → InOrder s (section_opened s d) → plain_header s d ts ≡ Ok e → Keeps p e
 plain_keeps p s d e ts k order h =
-    subst (Keeps p) (ok_is (opened s d) e (at_end ts (Ok (opened s d)) e h)) (open_keeps p s d k order)
+    subst (Keeps p) (ok_is (section_opened s d) e (at_end ts (Ok (section_opened s d)) e h)) (open_keeps p s d k order)
 
 con_keeps : (p : ℕ) (d e : Spelt) (ts : List (List ℕ)) → Keeps p d → NoRows d → con_header d ts ≡ Ok e → Keeps p e
 con_keeps p d e ts k none h =
-    let a = at_end ts (cond (eqb (length d.locations) 0) (Err kind.Missing) (Ok (opened section.Con d))) e h in
-    let b = passes (eqb (length d.locations) 0) kind.Missing (Ok (opened section.Con d)) e a in
+    let a = at_end ts (cond (eqb (length d.locations) 0) (Err kind.Missing) (Ok (section_opened section.Con d))) e h in
+    let b = passes (eqb (length d.locations) 0) kind.Missing (Ok (section_opened section.Con d)) e a in
     let some = eqb-false (length d.locations) 0 b.0 in
-    let order : AtExits (opened section.Con d) = record { facts = none.facts; tables = none.tables; locations = omega (arith, some) } in
-    subst (Keeps p) (ok_is (opened section.Con d) e b.1) (open_keeps p section.Con d k order)
+    let order : AtExits (section_opened section.Con d) = record { facts = none.facts; tables = none.tables; locations = omega (arith, some) } in
+    subst (Keeps p) (ok_is (section_opened section.Con d) e b.1) (open_keeps p section.Con d k order)
 
 -- what a section has to bring for a table to begin
 pub record Ready (d : Spelt) : Type 0 where
@@ -261,7 +261,7 @@ pub record Ready (d : Spelt) : Type 0 where
 table_keeps : (p : ℕ) (d e : Spelt) (ts : List (List ℕ)) (o : Option ℕ) → Keeps p d → Ready d → table_header d ts o ≡ Ok e → Keeps p e
 table_keeps p d e ts None k ready h = absurd cc
 table_keeps p d e ts (Some n) k ready h =
-    let made : Spelt = record (opened section.Pro d) { tables = d.tables ++ [] ∷ [] } in
+    let made : Spelt = record (section_opened section.Pro d) { tables = d.tables ++ [] ∷ [] } in
     let a = passes (nat_lt 255 n) kind.Range (cond (not (eqb n (length d.tables))) (Err kind.Section) (ended ts >>= λ _. cond (lacks_rows d) (Err kind.Missing) (Ok made))) e h in
     let b = passes (not (eqb n (length d.tables))) kind.Section (ended ts >>= λ _. cond (lacks_rows d) (Err kind.Missing) (Ok made)) e a.1 in
     let c = at_end ts (cond (lacks_rows d) (Err kind.Missing) (Ok made)) e b.1 in

@@ -23,7 +23,7 @@ use Rattle.paw_grammar.specs.declared.bounds.Bounds.{Bounds}
 use Rattle.paw_grammar.specs.Tokens.{◌>>=◌, ended, or_fault, read_by}
 use Rattle.paw_grammar.specs.Numbers.{number, in_range, number_within, number_below, row_number}
 use Rattle.paw_grammar.specs.Vocabulary.{place_among, word, class, object_kind, declared, word_or_none, verb_word, entry_verb, entry_noun}
-use Rattle.paw_grammar.specs.Condacts.{or_named, first_place, place, place_names, place_up_to, table, parameter, condact, condacts, joined, at_most_255, more_condacts}
+use Rattle.paw_grammar.specs.Condacts.{or_named, first_place, place, place_names, place_up_to, table, parameter, condact, condacts, with_more_condacts, at_most_255, more_condacts}
 use Rattle.paw_grammar.specs.GrammarState.{last_or, with_last}
 use Rattle.paw_grammar.specs.GrammarRows.{voc_row, has_exit, exit_row, object_row, entry_row, no_entry, more_row}
 use Rattle.paw_source.proofs.Faultless.{passes, holds, bound, ok_is, at_end, in_range_ok, number_ok}
@@ -240,7 +240,7 @@ condacts_ok bounds ws g zero (t ∷ ts) cs has h =
 more_condacts_ok : (bounds : Bounds) (ws : List Word) (g : GameLists) (before : List Condact) (ts : List (List ℕ)) (cs : List Condact) → Has bounds ws g → list_all (is_condact g) before ≡ true → more_condacts bounds ws before ts ≡ Ok cs → (nat_le (length cs) 255 ≡ true) × (list_all (is_condact g) cs ≡ true)
 unfolding more_condacts
 more_condacts_ok bounds ws g before ts cs has old h =
-    let a = bound (joined before (condacts bounds ws 0 ts)) at_most_255 cs h in
+    let a = bound (with_more_condacts before (condacts bounds ws 0 ts)) at_most_255 cs h in
     let c = bound (condacts bounds ws 0 ts) (λ more. Ok (before ++ more)) a.0 a.1 in
     let same = ok_is (before ++ c.0) a.0 c.2 in
     let b = passes (nat_lt 255 (length a.0)) fault.TooBig (Ok a.0) cs a.2 in

@@ -10,7 +10,7 @@ use Rattle.paw_base.specs.declared.fault.SourceKind.TheVariants as kind
 use Rattle.paw_game.specs.Valid.{is_text, is_text_byte, begins_no_line, is_printed}
 use Rattle.paw_lex.specs.Bytes.{is_comment, is_allowed, has_forbidden_byte}
 use Rattle.paw_grammar.specs.GrammarState.{last_or, with_last}
-use Rattle.paw_grammar.specs.GrammarTexts.{joined, joined_within, text_line, text_item}
+use Rattle.paw_grammar.specs.GrammarTexts.{with_line, joined_within, text_line, text_item}
 use Rattle.paw_grammar.specs.Spells.{begins_with_slash}
 use Rattle.paw_source.proofs.Faultless.{passes, bound, ok_is}
 
@@ -91,7 +91,7 @@ behind first (b ∷ bs) l h any =
     let p = and_parts (is_text_byte b && not (first && begins_no_line b)) (is_printed (eqb b 10) bs) h in
     both (is_text_byte b && not (first && begins_no_line b)) (is_printed (eqb b 10) (bs ++ l)) p.0 (behind (eqb b 10) bs l p.1 any)
 
-joined_printed : (begun : Bool) (t l : List ℕ) → is_printed true t ≡ true → ((f : Bool) → is_printed f l ≡ true) → is_printed true (joined begun t l) ≡ true
+joined_printed : (begun : Bool) (t l : List ℕ) → is_printed true t ≡ true → ((f : Bool) → is_printed f l ≡ true) → is_printed true (with_line begun t l) ≡ true
 joined_printed true t l h any = behind true t (10 ∷ l) h (λ f. elim f as (λ f. is_printed f (10 ∷ l) ≡ true) [ true ↦ any true | false ↦ any true ])
 joined_printed false t l h any = behind true t l h any
 
@@ -107,9 +107,9 @@ text_line_ok begun l ts us all comment slash bytes h =
     let printed_old = (and_parts (nat_le (length (last_or [] ts)) 4095) (is_printed true (last_or [] ts)) old).1 in
     let plain_l : list_all plain l ≡ true = plain_line l (allowed (is_comment l) (list_any (λ b. not (is_allowed true b)) l) comment bytes) in
     let printed_new = joined_printed begun (last_or [] ts) l printed_old (λ f. whole_line f l plain_l comment slash) in
-    let short = passes (nat_lt 4095 (length (joined begun (last_or [] ts) l))) kind.TooBig (Ok (joined begun (last_or [] ts) l)) b.0 b.1 in
-    let few : nat_le (length (joined begun (last_or [] ts) l)) 4095 ≡ true = grind (arith, nat_tests, short.0) in
-    let good : is_text b.0 ≡ true = rw (← ok_is (joined begun (last_or [] ts) l) b.0 short.1) (both (nat_le (length (joined begun (last_or [] ts) l)) 4095) (is_printed true (joined begun (last_or [] ts) l)) few printed_new) in
+    let short = passes (nat_lt 4095 (length (with_line begun (last_or [] ts) l))) kind.TooBig (Ok (with_line begun (last_or [] ts) l)) b.0 b.1 in
+    let few : nat_le (length (with_line begun (last_or [] ts) l)) 4095 ≡ true = grind (arith, nat_tests, short.0) in
+    let good : is_text b.0 ≡ true = rw (← ok_is (with_line begun (last_or [] ts) l) b.0 short.1) (both (nat_le (length (with_line begun (last_or [] ts) l)) 4095) (is_printed true (with_line begun (last_or [] ts) l)) few printed_new) in
     let made = ok_is (with_last b.0 ts) us b.2 in
     rw (← made) (all_set is_text ts (length ts - 1) b.0 all good, length-set ts (length ts - 1) b.0)
 

@@ -18,7 +18,7 @@ use Rattle.paw_game.specs.declared.parts.Word.{Word}
 use Rattle.paw_game.specs.Valid.{is_letter, is_filled, are_letters, is_word, words_rise, words_kept, has_word, is_verb_value, is_word_or_none, is_any}
 use Rattle.paw_game.specs.Tables.{word_of}
 use Rattle.paw_grammar.specs.Tokens.{is_named}
-use Rattle.paw_grammar.specs.Vocabulary.{is_word_token, letters_of, letters_in, word, class_names, place_among, class, put, is_declared, declared, in_class, as_verb, known, or_none, or_any, word_or_none, verb_word, entry_verb, entry_noun}
+use Rattle.paw_grammar.specs.Vocabulary.{is_word_token, letters_of, letters_in, word, class_names, place_among, class, words_with, is_declared, declared, in_class, as_verb, known, or_none, or_any, word_or_none, verb_word, entry_verb, entry_noun}
 use Rattle.paw_source.proofs.Faultless.{passes, ok_is, some_is, read_ok}
 
 -- ---- letters
@@ -112,42 +112,42 @@ undeclared l v vs h =
       | false ↦ λ e. (refl, e)
     ] h
 
-rise_put : (v w : Word) (ws : List Word) → words_rise (v ∷ ws) ≡ true → is_lt (slice_cmp nat_cmp v.letters w.letters) ≡ true → is_declared w.letters ws ≡ false → words_rise (v ∷ put w ws) ≡ true
-unfolding put
+rise_put : (v w : Word) (ws : List Word) → words_rise (v ∷ ws) ≡ true → is_lt (slice_cmp nat_cmp v.letters w.letters) ≡ true → is_declared w.letters ws ≡ false → words_rise (v ∷ words_with w ws) ≡ true
+unfolding words_with
 rise_put v w [] rise above new = rw above refl
 rise_put v w (u ∷ us) rise above new =
     let p = and_parts (is_lt (slice_cmp nat_cmp v.letters u.letters)) (words_rise (u ∷ us)) rise in
     let n = undeclared w.letters u us new in
-    elim (is_lt (slice_cmp nat_cmp w.letters u.letters)) as (λ b. is_lt (slice_cmp nat_cmp w.letters u.letters) ≡ b → words_rise (v ∷ cond b (w ∷ u ∷ us) (u ∷ put w us)) ≡ true) [
+    elim (is_lt (slice_cmp nat_cmp w.letters u.letters)) as (λ b. is_lt (slice_cmp nat_cmp w.letters u.letters) ≡ b → words_rise (v ∷ cond b (w ∷ u ∷ us) (u ∷ words_with w us)) ≡ true) [
       | true ↦ λ e. rw (above, e, p.1) refl
       | false ↦ λ e. rw p.0 (rise_put u w us p.1 (other_way w.letters u.letters e n.0) n.1)
     ] refl
 
-put_rises : (w : Word) (ws : List Word) → words_rise ws ≡ true → is_declared w.letters ws ≡ false → words_rise (put w ws) ≡ true
-unfolding put
+put_rises : (w : Word) (ws : List Word) → words_rise ws ≡ true → is_declared w.letters ws ≡ false → words_rise (words_with w ws) ≡ true
+unfolding words_with
 put_rises w [] rise new = refl
 put_rises w (u ∷ us) rise new =
     let n = undeclared w.letters u us new in
-    elim (is_lt (slice_cmp nat_cmp w.letters u.letters)) as (λ b. is_lt (slice_cmp nat_cmp w.letters u.letters) ≡ b → words_rise (cond b (w ∷ u ∷ us) (u ∷ put w us)) ≡ true) [
+    elim (is_lt (slice_cmp nat_cmp w.letters u.letters)) as (λ b. is_lt (slice_cmp nat_cmp w.letters u.letters) ≡ b → words_rise (cond b (w ∷ u ∷ us) (u ∷ words_with w us)) ≡ true) [
       | true ↦ λ e. rw (e, rise) refl
       | false ↦ λ e. rise_put u w us rise (other_way w.letters u.letters e n.0) n.1
     ] refl
 
-put_length : (w : Word) (ws : List Word) → length (put w ws) ≡ suc (length ws)
-unfolding put
+put_length : (w : Word) (ws : List Word) → length (words_with w ws) ≡ suc (length ws)
+unfolding words_with
 put_length w [] = refl
 put_length w (u ∷ us) =
-    elim (is_lt (slice_cmp nat_cmp w.letters u.letters)) as (λ b. length (cond b (w ∷ u ∷ us) (u ∷ put w us)) ≡ suc (suc (length us))) [
+    elim (is_lt (slice_cmp nat_cmp w.letters u.letters)) as (λ b. length (cond b (w ∷ u ∷ us) (u ∷ words_with w us)) ≡ suc (suc (length us))) [
       | true ↦ refl
       | false ↦ ap suc (put_length w us)
     ]
 
-put_words : (w : Word) (ws : List Word) → is_word w ≡ true → list_all is_word ws ≡ true → list_all is_word (put w ws) ≡ true
-unfolding put
+put_words : (w : Word) (ws : List Word) → is_word w ≡ true → list_all is_word ws ≡ true → list_all is_word (words_with w ws) ≡ true
+unfolding words_with
 put_words w [] one all = rw one refl
 put_words w (u ∷ us) one all =
     let p = and_parts (is_word u) (list_all is_word us) all in
-    elim (is_lt (slice_cmp nat_cmp w.letters u.letters)) as (λ b. list_all is_word (cond b (w ∷ u ∷ us) (u ∷ put w us)) ≡ true) [
+    elim (is_lt (slice_cmp nat_cmp w.letters u.letters)) as (λ b. list_all is_word (cond b (w ∷ u ∷ us) (u ∷ words_with w us)) ≡ true) [
       | true ↦ rw one all
       | false ↦ rw p.0 (put_words w us one p.1)
     ]
@@ -157,11 +157,11 @@ pub declared_ok : (w : Word) (ws vs : List Word) → is_word w ≡ true → word
 declared_ok w ws vs one kept h =
     let p = and_parts (nat_le (length ws) 2000) (list_all is_word ws && words_rise ws) kept in
     let q = and_parts (list_all is_word ws) (words_rise ws) p.1 in
-    let a = passes (is_declared w.letters ws) kind.Duplicate (cond (eqb (length ws) 2000) (Err kind.TooBig) (Ok (put w ws))) vs h in
-    let b = passes (eqb (length ws) 2000) kind.TooBig (Ok (put w ws)) vs a.1 in
+    let a = passes (is_declared w.letters ws) kind.Duplicate (cond (eqb (length ws) 2000) (Err kind.TooBig) (Ok (words_with w ws))) vs h in
+    let b = passes (eqb (length ws) 2000) kind.TooBig (Ok (words_with w ws)) vs a.1 in
     let long = put_length w ws in
-    let few : nat_le (length (put w ws)) 2000 ≡ true = grind (arith, nat_tests, long, leb-true (length ws) 2000 p.0, eqb-false (length ws) 2000 b.0) in
-    rw (← ok_is (put w ws) vs b.1, few, put_words w ws one q.0, put_rises w ws q.1 a.0) refl
+    let few : nat_le (length (words_with w ws)) 2000 ≡ true = grind (arith, nat_tests, long, leb-true (length ws) 2000 p.0, eqb-false (length ws) 2000 b.0) in
+    rw (← ok_is (words_with w ws) vs b.1, few, put_words w ws one q.0, put_rises w ws q.1 a.0) refl
 
 -- ---- looking up
 

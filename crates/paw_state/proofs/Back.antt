@@ -12,7 +12,7 @@ use Rattle.paw_effects.specs.declared.act.Prompt.{Prompt}
 use Rattle.paw_effects.specs.declared.act.Prompt.TheVariants as prompt
 use Rattle.paw_reading.specs.declared.places.OpenLoop.{OpenLoop}
 use Rattle.paw_process.specs.declared.kept.Frames.{Frames}
-use Rattle.paw_process.specs.Kept.{waiting_code, or_none}
+use Rattle.paw_process.specs.Kept.{waiting_code, code_or_zero}
 use Rattle.paw_state.specs.declared.fields.Fields.{Fields}
 use Rattle.paw_state.specs.declared.held.Held.{Held}
 use Rattle.paw_state.specs.State.{State, Keeps}
@@ -90,7 +90,7 @@ state_back g f v z s =
     refl refl refl
     (code_back f.prompt (leb-true f.prompt 4 s.prompt))
     refl
-    (rows_back g (or_none (waiting_code (prompt_of f.prompt))) None f.count 1049 f.rows s.frames)
+    (rows_back g (code_or_zero (waiting_code (prompt_of f.prompt))) None f.count 1049 f.rows s.frames)
     (presence_back f.turning f.looping (looping_low f.looping f.count s.looping))
     (turning_back g f s.turning)
     refl n

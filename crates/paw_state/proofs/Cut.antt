@@ -9,7 +9,7 @@ use Rattle.paw_reading.specs.declared.places.OpenLoop.{OpenLoop}
 use Rattle.paw_state.specs.declared.fields.Row.{Row}
 use Rattle.paw_state.specs.declared.fields.Fields.{Fields}
 use Rattle.paw_state.specs.declared.held.Held.{Held}
-use Rattle.paw_state.specs.Fields.{joined, eight_bytes, row_bytes, loop_bytes, held_bytes, two_at, eight_at, row_at, rows_at, held_at, fields_at, world_bytes, number_bytes, table_bytes, pending_bytes, kept_bytes, field_bytes}
+use Rattle.paw_state.specs.Fields.{in_sequence, eight_bytes, row_bytes, loop_bytes, held_bytes, two_at, eight_at, row_at, rows_at, held_at, fields_at, world_bytes, number_bytes, table_bytes, pending_bytes, kept_position_bytes, field_bytes}
 use Rattle.paw_state.proofs.Pieces.{range_is, behind, byte_is}
 use Rattle.paw_state.proofs.Written.{length-rows}
 
@@ -36,11 +36,11 @@ pub record AreSized (f : Fields) : Type 0 where
   pub kept : All IsSizedHeld f.kept
 
 -- a field stands where it is, and the others behind it
-here : (bytes x q : List ℕ) (xs : List (List ℕ)) (at n : ℕ) → drop at bytes ≡ joined (x ∷ xs) ++ q → length x ≡ n → slice_range bytes at (at + n) ≡ x
-here bytes x q xs at n h k = range_is bytes x (joined xs ++ q) at n (h ∙ append_assoc x (joined xs) q) k
+here : (bytes x q : List ℕ) (xs : List (List ℕ)) (at n : ℕ) → drop at bytes ≡ in_sequence (x ∷ xs) ++ q → length x ≡ n → slice_range bytes at (at + n) ≡ x
+here bytes x q xs at n h k = range_is bytes x (in_sequence xs ++ q) at n (h ∙ append_assoc x (in_sequence xs) q) k
 
-later : (bytes x q : List ℕ) (xs : List (List ℕ)) (at n : ℕ) → drop at bytes ≡ joined (x ∷ xs) ++ q → length x ≡ n → drop (at + n) bytes ≡ joined xs ++ q
-later bytes x q xs at n h k = behind bytes x (joined xs ++ q) at n (h ∙ append_assoc x (joined xs) q) k
+later : (bytes x q : List ℕ) (xs : List (List ℕ)) (at n : ℕ) → drop at bytes ≡ in_sequence (x ∷ xs) ++ q → length x ≡ n → drop (at + n) bytes ≡ in_sequence xs ++ q
+later bytes x q xs at n h k = behind bytes x (in_sequence xs ++ q) at n (h ∙ append_assoc x (in_sequence xs) q) k
 
 -- numbers
 two_cut : (bytes : List ℕ) (at n : ℕ) → slice_range bytes at (at + 2) ≡ two_bytes n → n < 2 ^ 16 → two_at bytes at ≡ n
@@ -59,8 +59,8 @@ held_cut : (h : Held) (q : List ℕ) → IsSizedHeld h → held_at (held_bytes h
 unfolding held_bytes
 held_cut h q s =
     let bytes = held_bytes h ++ q in
-    let h1 : drop 1 bytes ≡ joined (h.flags ∷ h.places ∷ []) ++ q = later bytes (h.there ∷ []) q (h.flags ∷ h.places ∷ []) 0 1 refl refl in
-    let h2 : drop 257 bytes ≡ joined (h.places ∷ []) ++ q = later bytes h.flags q (h.places ∷ []) 1 256 h1 s.flags in
+    let h1 : drop 1 bytes ≡ in_sequence (h.flags ∷ h.places ∷ []) ++ q = later bytes (h.there ∷ []) q (h.flags ∷ h.places ∷ []) 0 1 refl refl in
+    let h2 : drop 257 bytes ≡ in_sequence (h.places ∷ []) ++ q = later bytes h.flags q (h.places ∷ []) 1 256 h1 s.flags in
     same_held (held_at bytes) h refl (here bytes h.flags q (h.places ∷ []) 1 256 h1 s.flags) (here bytes h.places q [] 257 255 h2 s.places)
 
 length-held : (h : Held) → IsSizedHeld h → length (held_bytes h) ≡ 512
@@ -84,9 +84,9 @@ world_cut : (bytes : List ℕ) (f : Fields) (q : List ℕ) → AreSized f → dr
 unfolding world_bytes
 world_cut bytes f q s h0 =
     let xs1 = f.places ∷ held_bytes f.saved ∷ [] in
-    let h1 : drop 256 bytes ≡ joined xs1 ++ q = later bytes f.flags q xs1 0 256 h0 s.flags in
+    let h1 : drop 256 bytes ≡ in_sequence xs1 ++ q = later bytes f.flags q xs1 0 256 h0 s.flags in
     let xs2 = held_bytes f.saved ∷ [] in
-    let h2 : drop 511 bytes ≡ joined xs2 ++ q = later bytes f.places q xs2 256 255 h1 s.places in
+    let h2 : drop 511 bytes ≡ in_sequence xs2 ++ q = later bytes f.places q xs2 256 255 h1 s.places in
     let saved = held_here bytes f.saved q 511 s.saved (h2 ∙ append_assoc (held_bytes f.saved) [] q) in
     record {
       flags = here bytes f.flags q xs1 0 256 h0 s.flags;
@@ -104,11 +104,11 @@ record HasNumbers (bytes : List ℕ) (f : Fields) (q : List ℕ) : Type 0 where
   after : drop 1047 bytes ≡ q
 
 -- three numbers, whatever their bytes are
-numbers_cut : (bytes : List ℕ) (x y z q : List ℕ) → length x ≡ 8 → length y ≡ 8 → length z ≡ 8 → drop 1023 bytes ≡ joined (x ∷ y ∷ z ∷ []) ++ q
+numbers_cut : (bytes : List ℕ) (x y z q : List ℕ) → length x ≡ 8 → length y ≡ 8 → length z ≡ 8 → drop 1023 bytes ≡ in_sequence (x ∷ y ∷ z ∷ []) ++ q
     → (slice_range bytes 1023 1031 ≡ x) × (slice_range bytes 1031 1039 ≡ y) × (slice_range bytes 1039 1047 ≡ z) × (drop 1047 bytes ≡ q)
 numbers_cut bytes x y z q kx ky kz h0 =
-    let h1 : drop 1031 bytes ≡ joined (y ∷ z ∷ []) ++ q = later bytes x q (y ∷ z ∷ []) 1023 8 h0 kx in
-    let h2 : drop 1039 bytes ≡ joined (z ∷ []) ++ q = later bytes y q (z ∷ []) 1031 8 h1 ky in (
+    let h1 : drop 1031 bytes ≡ in_sequence (y ∷ z ∷ []) ++ q = later bytes x q (y ∷ z ∷ []) 1023 8 h0 kx in
+    let h2 : drop 1039 bytes ≡ in_sequence (z ∷ []) ++ q = later bytes y q (z ∷ []) 1031 8 h1 ky in (
       here bytes x q (y ∷ z ∷ []) 1023 8 h0 kx,
       here bytes y q (z ∷ []) 1031 8 h1 ky,
       here bytes z q [] 1039 8 h2 kz,
@@ -176,19 +176,19 @@ unfolding table_bytes
 tables_cut bytes f q s h0 =
     let rows = flat_map row_bytes f.rows in
     let xs1 = (f.count ∷ []) ∷ rows ∷ (f.looping ∷ []) ∷ loop_bytes f.turning ∷ [] in
-    let h1 : drop 1048 bytes ≡ joined xs1 ++ q = later bytes (f.prompt ∷ []) q xs1 1047 1 h0 refl in
+    let h1 : drop 1048 bytes ≡ in_sequence xs1 ++ q = later bytes (f.prompt ∷ []) q xs1 1047 1 h0 refl in
     let xs2 = rows ∷ (f.looping ∷ []) ∷ loop_bytes f.turning ∷ [] in
-    let h2 : drop 1049 bytes ≡ joined xs2 ++ q = later bytes (f.count ∷ []) q xs2 1048 1 h1 refl in
+    let h2 : drop 1049 bytes ≡ in_sequence xs2 ++ q = later bytes (f.count ∷ []) q xs2 1048 1 h1 refl in
     let n : length rows ≡ 55 = length-rows f.rows ∙ ap (λ k. 5 * k) s.rows in
     let xs3 = (f.looping ∷ []) ∷ loop_bytes f.turning ∷ [] in
-    let h3 : drop 1104 bytes ≡ joined xs3 ++ q = later bytes rows q xs3 1049 55 h2 n in
-    let h4 : drop 1105 bytes ≡ joined (loop_bytes f.turning ∷ []) ++ q = later bytes (f.looping ∷ []) q (loop_bytes f.turning ∷ []) 1104 1 h3 refl in
+    let h3 : drop 1104 bytes ≡ in_sequence xs3 ++ q = later bytes rows q xs3 1049 55 h2 n in
+    let h4 : drop 1105 bytes ≡ in_sequence (loop_bytes f.turning ∷ []) ++ q = later bytes (f.looping ∷ []) q (loop_bytes f.turning ∷ []) 1104 1 h3 refl in
     record {
-      prompt = byte_is bytes (joined xs1 ++ q) 1047 f.prompt h0;
-      count = byte_is bytes (joined xs2 ++ q) 1048 f.count h1;
-      rows = ap (rows_at 11) (h2 ∙ append_assoc rows (joined xs3) q)
-          ∙ (ap (λ k. rows_at k (rows ++ (joined xs3 ++ q))) (sym s.rows) ∙ rows_cut f.rows (joined xs3 ++ q) s.entries);
-      looping = byte_is bytes (joined (loop_bytes f.turning ∷ []) ++ q) 1104 f.looping h3;
+      prompt = byte_is bytes (in_sequence xs1 ++ q) 1047 f.prompt h0;
+      count = byte_is bytes (in_sequence xs2 ++ q) 1048 f.count h1;
+      rows = ap (rows_at 11) (h2 ∙ append_assoc rows (in_sequence xs3) q)
+          ∙ (ap (λ k. rows_at k (rows ++ (in_sequence xs3 ++ q))) (sym s.rows) ∙ rows_cut f.rows (in_sequence xs3 ++ q) s.entries);
+      looping = byte_is bytes (in_sequence (loop_bytes f.turning ∷ []) ++ q) 1104 f.looping h3;
       turning = loop_cut bytes f.turning q s.loop_entry (h4 ∙ append_assoc (loop_bytes f.turning) [] q);
       after = later bytes (loop_bytes f.turning) q [] 1105 7 h4 refl;
     }
@@ -207,13 +207,13 @@ unfolding pending_bytes
 pending_cut bytes f q s h0 =
     let two = two_bytes f.piece in
     let xs1 = (f.pending ∷ []) ∷ f.line ∷ two ∷ [] in
-    let h1 : drop 1113 bytes ≡ joined xs1 ++ q = later bytes (f.earlier ∷ []) q xs1 1112 1 h0 refl in
+    let h1 : drop 1113 bytes ≡ in_sequence xs1 ++ q = later bytes (f.earlier ∷ []) q xs1 1112 1 h0 refl in
     let xs2 = f.line ∷ two ∷ [] in
-    let h2 : drop 1114 bytes ≡ joined xs2 ++ q = later bytes (f.pending ∷ []) q xs2 1113 1 h1 refl in
-    let h3 : drop 1369 bytes ≡ joined (two ∷ []) ++ q = later bytes f.line q (two ∷ []) 1114 255 h2 s.line in
+    let h2 : drop 1114 bytes ≡ in_sequence xs2 ++ q = later bytes (f.pending ∷ []) q xs2 1113 1 h1 refl in
+    let h3 : drop 1369 bytes ≡ in_sequence (two ∷ []) ++ q = later bytes f.line q (two ∷ []) 1114 255 h2 s.line in
     record {
-      earlier = byte_is bytes (joined xs1 ++ q) 1112 f.earlier h0;
-      pending = byte_is bytes (joined xs2 ++ q) 1113 f.pending h1;
+      earlier = byte_is bytes (in_sequence xs1 ++ q) 1112 f.earlier h0;
+      pending = byte_is bytes (in_sequence xs2 ++ q) 1113 f.pending h1;
       line = here bytes f.line q (two ∷ []) 1114 255 h2 s.line;
       piece = two_cut bytes 1369 f.piece (here bytes two q [] 1369 2 h3 refl) s.piece;
       after = later bytes two q [] 1369 2 h3 refl;
@@ -241,8 +241,8 @@ four_cut bytes q (a ∷ b ∷ c ∷ d ∷ []) n s h0 =
     let pd = one_cut bytes q d [] 2907 (s 3 a (lit< tt)) pc.1 in
     rw (pa.0, pb.0, pc.0, pd.0) refl
 
-kept_cut : (bytes : List ℕ) (f : Fields) (q : List ℕ) → AreSized f → drop 1371 bytes ≡ kept_bytes f ++ q → (fields_at bytes).kept ≡ f.kept
-unfolding kept_bytes
+kept_cut : (bytes : List ℕ) (f : Fields) (q : List ℕ) → AreSized f → drop 1371 bytes ≡ kept_position_bytes f ++ q → (fields_at bytes).kept ≡ f.kept
+unfolding kept_position_bytes
 kept_cut bytes f q s h = four_cut bytes q f.kept s.four s.kept h
 
 -- ---- all fields ----
@@ -258,15 +258,15 @@ same_fields a b flags places saved seed draws events prompt count rows looping t
 pub fields_cut : (f : Fields) (q : List ℕ) → AreSized f → fields_at (field_bytes f ++ q) ≡ f
 fields_cut f q s =
     let bytes = field_bytes f ++ q in
-    let xs1 = number_bytes f ∷ table_bytes f ∷ pending_bytes f ∷ kept_bytes f ∷ [] in
-    let xs2 = table_bytes f ∷ pending_bytes f ∷ kept_bytes f ∷ [] in
-    let xs3 = pending_bytes f ∷ kept_bytes f ∷ [] in
-    let xs4 = kept_bytes f ∷ [] in
-    let w = world_cut bytes f (joined xs1 ++ q) s (append_assoc (world_bytes f) (joined xs1) q) in
-    let n = number_cut bytes f (joined xs2 ++ q) s (w.after ∙ append_assoc (number_bytes f) (joined xs2) q) in
-    let t = tables_cut bytes f (joined xs3 ++ q) s (n.after ∙ append_assoc (table_bytes f) (joined xs3) q) in
-    let p = pending_cut bytes f (joined xs4 ++ q) s (t.after ∙ append_assoc (pending_bytes f) (joined xs4) q) in
-    let k = kept_cut bytes f q s (p.after ∙ append_assoc (kept_bytes f) [] q) in
+    let xs1 = number_bytes f ∷ table_bytes f ∷ pending_bytes f ∷ kept_position_bytes f ∷ [] in
+    let xs2 = table_bytes f ∷ pending_bytes f ∷ kept_position_bytes f ∷ [] in
+    let xs3 = pending_bytes f ∷ kept_position_bytes f ∷ [] in
+    let xs4 = kept_position_bytes f ∷ [] in
+    let w = world_cut bytes f (in_sequence xs1 ++ q) s (append_assoc (world_bytes f) (in_sequence xs1) q) in
+    let n = number_cut bytes f (in_sequence xs2 ++ q) s (w.after ∙ append_assoc (number_bytes f) (in_sequence xs2) q) in
+    let t = tables_cut bytes f (in_sequence xs3 ++ q) s (n.after ∙ append_assoc (table_bytes f) (in_sequence xs3) q) in
+    let p = pending_cut bytes f (in_sequence xs4 ++ q) s (t.after ∙ append_assoc (pending_bytes f) (in_sequence xs4) q) in
+    let k = kept_cut bytes f q s (p.after ∙ append_assoc (kept_position_bytes f) [] q) in
     same_fields (fields_at bytes) f w.flags w.places w.saved n.seed n.draws n.events t.prompt t.count t.rows t.looping t.turning
     p.earlier p.pending p.line p.piece k
 
@@ -294,8 +294,8 @@ length-helds (h ∷ hs) s =
     let rest = length-helds hs (λ k d low. s (suc k) d (omega (arith, low))) in
     omega (arith, length-append (held_bytes h) (flat_map held_bytes hs), length-held h (s 0 h (omega arith)), rest)
 
-pub kept-length : (f : Fields) → AreSized f → length (kept_bytes f) ≡ 2048
-unfolding kept_bytes
+pub kept-length : (f : Fields) → AreSized f → length (kept_position_bytes f) ≡ 2048
+unfolding kept_position_bytes
 kept-length f s = omega (arith, length-helds f.kept s.kept, s.four)
 
 pub length-fields : (f : Fields) → AreSized f → length (field_bytes f) ≡ 3419

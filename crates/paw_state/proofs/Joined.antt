@@ -6,7 +6,7 @@ use Rattle.std.proofs.lemmas.List.{length-drop}
 use Rattle.std.proofs.Math.Seq.{take-add}
 use Rattle.paw_game.specs.Image.{two_bytes}
 use Rattle.paw_state.specs.State.{AreBytes}
-use Rattle.paw_state.specs.Fields.{eight_bytes, row_bytes, loop_bytes, held_bytes, two_at, eight_at, row_at, rows_at, held_at, fields_at, world_bytes, number_bytes, table_bytes, pending_bytes, kept_bytes, field_bytes}
+use Rattle.paw_state.specs.Fields.{eight_bytes, row_bytes, loop_bytes, held_bytes, two_at, eight_at, row_at, rows_at, held_at, fields_at, world_bytes, number_bytes, table_bytes, pending_bytes, kept_position_bytes, field_bytes}
 use Rattle.paw_state.proofs.Pieces.{range_join, byte_range, length_range, range_bytes, drop_bytes, each_byte}
 
 two_join : (bytes : List ℕ) (at : ℕ) → at + 2 ≤ length bytes → AreBytes bytes → two_bytes (two_at bytes at) ≡ slice_range bytes at (at + 2)
@@ -98,8 +98,8 @@ pending_join bytes h b =
     (onto bytes f.line _ 1114 1369 1371 (lit≤ tt) (lit≤ tt) refl
     (onto bytes (two_bytes f.piece) [] 1369 1371 1371 (lit≤ tt) (lit≤ tt) (two_join bytes 1369 (omega arith) b) refl)))
 
-kept_join : (bytes : List ℕ) → 3419 ≤ length bytes → kept_bytes (fields_at bytes) ≡ slice_range bytes 1371 3419
-unfolding kept_bytes
+kept_join : (bytes : List ℕ) → 3419 ≤ length bytes → kept_position_bytes (fields_at bytes) ≡ slice_range bytes 1371 3419
+unfolding kept_position_bytes
 kept_join bytes h =
     let held : ℕ → List ℕ = λ at. held_bytes (held_at (drop at bytes)) in
     onto bytes (held 1371) _ 1371 1883 3419 (lit≤ tt) (lit≤ tt) (held_range bytes 1371 (omega arith))
@@ -113,4 +113,4 @@ fields_join bytes h b =
     (onto bytes (number_bytes (fields_at bytes)) _ 1023 1047 3419 (lit≤ tt) (lit≤ tt) (number_join bytes h b)
     (onto bytes (table_bytes (fields_at bytes)) _ 1047 1112 3419 (lit≤ tt) (lit≤ tt) (table_join bytes h b)
     (onto bytes (pending_bytes (fields_at bytes)) _ 1112 1371 3419 (lit≤ tt) (lit≤ tt) (pending_join bytes h b)
-    (onto bytes (kept_bytes (fields_at bytes)) [] 1371 3419 3419 (lit≤ tt) (lit≤ tt) (kept_join bytes h) refl))))
+    (onto bytes (kept_position_bytes (fields_at bytes)) [] 1371 3419 3419 (lit≤ tt) (lit≤ tt) (kept_join bytes h) refl))))

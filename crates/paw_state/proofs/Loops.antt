@@ -11,14 +11,14 @@ use Rattle.paw_game.specs.Tables.{head_at, condact_at}
 use Rattle.paw_reading.specs.declared.places.Frame.{Frame}
 use Rattle.paw_reading.specs.declared.places.OpenLoop.{OpenLoop}
 use Rattle.paw_process.specs.declared.kept.Frames.{Frames}
-use Rattle.paw_process.specs.Kept.{has_code, table_of, is_table, loop_stands}
-use Rattle.paw_process.specs.Kept.{loop_fault as machine_fault}
+use Rattle.paw_process.specs.Kept.{has_code, table_of, is_that_table, loop_stands}
+use Rattle.paw_process.specs.Kept.{loop_fields_fault as machine_fault}
 use Rattle.paw_process.proofs.Restored.{first_of, second}
 use Rattle.paw_state.specs.declared.fields.Row.{Row}
 use Rattle.paw_state.specs.declared.fields.Fields.{Fields}
 use Rattle.paw_state.specs.Fields.{presence, row_of, loop_or_zeros}
 use Rattle.paw_state.specs.Parts.{frame_in, turning_in, frames_in}
-use Rattle.paw_state.specs.Faults.{rule, first, no_loop_fault, loop_fault, row_table}
+use Rattle.paw_state.specs.Faults.{rule, first, no_loop_fault, loop_fields_fault, row_table}
 use Rattle.paw_state.proofs.Found.{rule_holds, no_rule, no_first, none_first}
 use Rattle.paw_state.proofs.Rows.{both, four, four_none, head_there}
 use Rattle.paw_state.proofs.Sound.{turning_rest}
@@ -51,7 +51,7 @@ zeros_loop l h =
 pub turning_back : (g : GameLists) (f : Fields) → turning_rest g f ≡ None → loop_or_zeros (turning_in f) ≡ f.turning
 turning_back g f h = go (f.looping == 0) h
   where
-    go : (b : Bool) → (if b then no_loop_fault f.turning else loop_fault g f f.turning) ≡ None
+    go : (b : Bool) → (if b then no_loop_fault f.turning else loop_fields_fault g f f.turning) ≡ None
         → loop_or_zeros (if b then None else Some f.turning) ≡ f.turning
     go true q = zeros_loop f.turning q
     go false q = refl
@@ -76,15 +76,15 @@ same_table (Some r) = refl
 row_of_level : (rows : List Row) (i : ℕ) → row_table (slice_get rows i) ≡ table_of (slice_get (map frame_in rows) i)
 row_of_level rows i = same_table (slice_get rows i) ∙ ap table_of (sym (slice_get-map frame_in rows i))
 
-stands : (g : GameLists) (f : Fields) (l : OpenLoop) → loop_fault g f l ≡ None → loop_stands g (frames_in f) l ≡ true
+stands : (g : GameLists) (f : Fields) (l : OpenLoop) → loop_fields_fault g f l ≡ None → loop_stands g (frames_in f) l ≡ true
 stands g f l h =
-    let table = is_table (row_table (slice_get f.rows l.level)) l.table in
+    let table = is_that_table (row_table (slice_get f.rows l.level)) l.table in
     let p = six (rule 1105 (nat_lt l.level f.count)) (rule 1106 table) (rule 1107 (is_some (head_at g l.table l.entry)))
     (rule 1109 (has_code 86 (condact_at g l.table l.entry l.at))) (rule 1110 (is_place (length g.locations) l.place)) (rule 1111 (nat_lt l.last (length g.objects))) h in
-    let t : is_table (table_of (slice_get (map frame_in f.rows) l.level)) l.table ≡ true =
-    ap (λ (o : Option ℕ). is_table o l.table) (sym (row_of_level f.rows l.level)) ∙ rule_holds 1106 table p.1 in
+    let t : is_that_table (table_of (slice_get (map frame_in f.rows) l.level)) l.table ≡ true =
+    ap (λ (o : Option ℕ). is_that_table o l.table) (sym (row_of_level f.rows l.level)) ∙ rule_holds 1106 table p.1 in
     both (nat_lt l.level f.count) _ (rule_holds 1105 (nat_lt l.level f.count) p.0)
-    (both (is_table (table_of (slice_get (map frame_in f.rows) l.level)) l.table) _ t
+    (both (is_that_table (table_of (slice_get (map frame_in f.rows) l.level)) l.table) _ t
     (both (has_code 86 (condact_at g l.table l.entry l.at)) _ (rule_holds 1109 (has_code 86 (condact_at g l.table l.entry l.at)) p.3)
     (both (is_place (length g.locations) l.place) (nat_lt l.last (length g.objects))
     (rule_holds 1110 (is_place (length g.locations) l.place) p.4) (rule_holds 1111 (nat_lt l.last (length g.objects)) p.5))))
@@ -92,7 +92,7 @@ stands g f l h =
 pub loop_sound : (g : GameLists) (f : Fields) → turning_rest g f ≡ None → machine_fault g (frames_in f) (turning_in f) ≡ None
 loop_sound g f h = go (f.looping == 0) h
   where
-    go : (b : Bool) → (if b then no_loop_fault f.turning else loop_fault g f f.turning) ≡ None
+    go : (b : Bool) → (if b then no_loop_fault f.turning else loop_fields_fault g f f.turning) ≡ None
         → machine_fault g (frames_in f) (if b then None else Some f.turning) ≡ None
     go true q = refl
     go false q = let s = stands g f f.turning q in rw s refl
@@ -107,31 +107,31 @@ frame_of_level : (frames : List Frame) (i : ℕ) → table_of (slice_get frames 
 frame_of_level frames i = same_row (slice_get frames i) ∙ ap row_table (sym (slice_get-map row_of frames i))
 
 pub loop_found : (g : GameLists) (k : Frames) (f : Fields) → f.count ≡ k.count → f.rows ≡ map row_of k.rows → machine_fault g k k.turning ≡ None
-    → (if presence k.turning == 0 then no_loop_fault (loop_or_zeros k.turning) else loop_fault g f (loop_or_zeros k.turning)) ≡ None
+    → (if presence k.turning == 0 then no_loop_fault (loop_or_zeros k.turning) else loop_fields_fault g f (loop_or_zeros k.turning)) ≡ None
 loop_found g k f count rows h = go k.turning h
   where
-    kept : (l : OpenLoop) → loop_stands g k l ≡ true → loop_fault g f l ≡ None
+    kept : (l : OpenLoop) → loop_stands g k l ≡ true → loop_fields_fault g f l ≡ None
     kept l s =
         let s1 = second (nat_lt l.level k.count) _ s in
-        let s2 = second (is_table (table_of (slice_get k.rows l.level)) l.table) _ s1 in
+        let s2 = second (is_that_table (table_of (slice_get k.rows l.level)) l.table) _ s1 in
         let s3 = second (has_code 86 (condact_at g l.table l.entry l.at)) _ s2 in
         let code = first_of (has_code 86 (condact_at g l.table l.entry l.at)) _ s2 in
         let low : nat_lt l.level f.count ≡ true = ap (nat_lt l.level) count ∙ first_of (nat_lt l.level k.count) _ s in
-        let table : is_table (row_table (slice_get f.rows l.level)) l.table ≡ true =
-        ap (λ (rs : List Row). is_table (row_table (slice_get rs l.level)) l.table) rows
-        ∙ (ap (λ (o : Option ℕ). is_table o l.table) (sym (frame_of_level k.rows l.level))
-        ∙ first_of (is_table (table_of (slice_get k.rows l.level)) l.table) _ s1) in
-        six_none (rule 1105 (nat_lt l.level f.count)) (rule 1106 (is_table (row_table (slice_get f.rows l.level)) l.table)) (rule 1107 (is_some (head_at g l.table l.entry)))
+        let table : is_that_table (row_table (slice_get f.rows l.level)) l.table ≡ true =
+        ap (λ (rs : List Row). is_that_table (row_table (slice_get rs l.level)) l.table) rows
+        ∙ (ap (λ (o : Option ℕ). is_that_table o l.table) (sym (frame_of_level k.rows l.level))
+        ∙ first_of (is_that_table (table_of (slice_get k.rows l.level)) l.table) _ s1) in
+        six_none (rule 1105 (nat_lt l.level f.count)) (rule 1106 (is_that_table (row_table (slice_get f.rows l.level)) l.table)) (rule 1107 (is_some (head_at g l.table l.entry)))
         (rule 1109 (has_code 86 (condact_at g l.table l.entry l.at))) (rule 1110 (is_place (length g.locations) l.place)) (rule 1111 (nat_lt l.last (length g.objects)))
         (no_rule 1105 _ low) (no_rule 1106 _ table) (no_rule 1107 _ (head_there g 86 l.table l.entry l.at code)) (no_rule 1109 _ code)
         (no_rule 1110 _ (first_of (is_place (length g.locations) l.place) _ s3)) (no_rule 1111 _ (second (is_place (length g.locations) l.place) _ s3))
 
-    tested : (l : OpenLoop) (b : Bool) → loop_stands g k l ≡ b → ◌≡◌ {A = Option ℕ} (if b then None else Some 11) None → loop_fault g f l ≡ None
+    tested : (l : OpenLoop) (b : Bool) → loop_stands g k l ≡ b → ◌≡◌ {A = Option ℕ} (if b then None else Some 11) None → loop_fields_fault g f l ≡ None
     tested l true e q = kept l e
     tested l false e q = cc
 
     go : (o : Option OpenLoop) → machine_fault g k o ≡ None
-        → (if presence o == 0 then no_loop_fault (loop_or_zeros o) else loop_fault g f (loop_or_zeros o)) ≡ None
+        → (if presence o == 0 then no_loop_fault (loop_or_zeros o) else loop_fields_fault g f (loop_or_zeros o)) ≡ None
     go None q = refl
     go (Some l) q = tested l (loop_stands g k l) refl q
 

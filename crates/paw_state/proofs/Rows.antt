@@ -7,12 +7,12 @@ use Rattle.paw_game.specs.Game.{GameLists}
 use Rattle.paw_game.specs.Tables.{condacts_of, entry_at, head_of, head_at, condact_at}
 use Rattle.paw_reading.specs.declared.places.Frame.{Frame}
 use Rattle.paw_process.specs.Kept.{may_open, has_code, parameter_of, condact_of, is_unused, row_stands}
-use Rattle.paw_process.specs.Kept.{rows_fault as machine_fault}
+use Rattle.paw_process.specs.Kept.{row_fields_fault as machine_fault}
 use Rattle.paw_process.proofs.Restored.{first_of, second}
 use Rattle.paw_state.specs.declared.fields.Row.{Row}
 use Rattle.paw_state.specs.Fields.{row_of}
 use Rattle.paw_state.specs.Parts.{frame_in}
-use Rattle.paw_state.specs.Faults.{rule, or_first, first, unused_fault, used_fault, row_fault, rows_fault, called}
+use Rattle.paw_state.specs.Faults.{rule, or_first, first, unused_fault, used_fault, row_fault, row_fields_fault, called_table}
 use Rattle.paw_state.proofs.Found.{rule_holds, no_rule, no_first, none_first}
 
 pub both : (a b : Bool) → a ≡ true → b ≡ true → (a && b) ≡ true
@@ -94,22 +94,22 @@ acted_back (suc (suc n)) low = absurd (omega (arith, low))
 row_back : (r : Row) → r.acted ≤ 1 → row_of (frame_in r) ≡ r
 row_back r low = ap (λ (acted : ℕ). record { table = r.table; entry = r.entry; at = r.at; acted = acted }) (acted_back r.acted low)
 
-pub rows_sound : (g : GameLists) (code : ℕ) (caller : Option ℕ) (n at d : ℕ) (rows : List Row) → rows_fault g code caller n at rows ≡ None
+pub rows_sound : (g : GameLists) (code : ℕ) (caller : Option ℕ) (n at d : ℕ) (rows : List Row) → row_fields_fault g code caller n at rows ≡ None
     → machine_fault g code caller n d (map frame_in rows) ≡ None
-unfolding rows_fault machine_fault
+unfolding row_fields_fault machine_fault
 rows_sound g code caller n at d [] h = refl
 rows_sound g code caller n at d (r ∷ rs) h =
-    let p = no_first (row_fault g code caller n at r) (rows_fault g code (called g r) (n - 1) (at + 5) rs) h in
-    rw (row_sound g code caller n at r p.0) (rows_sound g code (called g r) (n - 1) (at + 5) (suc d) rs p.1)
+    let p = no_first (row_fault g code caller n at r) (row_fields_fault g code (called_table g r) (n - 1) (at + 5) rs) h in
+    rw (row_sound g code caller n at r p.0) (rows_sound g code (called_table g r) (n - 1) (at + 5) (suc d) rs p.1)
 
-pub rows_back : (g : GameLists) (code : ℕ) (caller : Option ℕ) (n at : ℕ) (rows : List Row) → rows_fault g code caller n at rows ≡ None
+pub rows_back : (g : GameLists) (code : ℕ) (caller : Option ℕ) (n at : ℕ) (rows : List Row) → row_fields_fault g code caller n at rows ≡ None
     → map row_of (map frame_in rows) ≡ rows
-unfolding rows_fault
+unfolding row_fields_fault
 rows_back g code caller n at [] h = refl
 rows_back g code caller n at (r ∷ rs) h =
-    let p = no_first (row_fault g code caller n at r) (rows_fault g code (called g r) (n - 1) (at + 5) rs) h in
+    let p = no_first (row_fault g code caller n at r) (row_fields_fault g code (called_table g r) (n - 1) (at + 5) rs) h in
     let e : row_of (frame_in r) ≡ r = row_back r (row_acted g code caller n at r p.0) in
-    let q = rows_back g code (called g r) (n - 1) (at + 5) rs p.1 in
+    let q = rows_back g code (called_table g r) (n - 1) (at + 5) rs p.1 in
     cc
 
 -- ---- frames that stand ----
@@ -149,15 +149,15 @@ frame_sound g code caller n at f h = go (n == 0) h
         (no_rule (at + 3) _ c) (no_rule (at + 4) _ (acted_low f.acted))
 
 pub frames_sound : (g : GameLists) (code : ℕ) (caller : Option ℕ) (n at d : ℕ) (frames : List Frame) → machine_fault g code caller n d frames ≡ None
-    → rows_fault g code caller n at (map row_of frames) ≡ None
-unfolding rows_fault machine_fault
+    → row_fields_fault g code caller n at (map row_of frames) ≡ None
+unfolding row_fields_fault machine_fault
 frames_sound g code caller n at d [] h = refl
 frames_sound g code caller n at d (f ∷ fs) h = go (frames_sound g code (Some (parameter_of (condact_of g f))) (n - 1) (at + 5) (suc d) fs) (row_stands g code caller n f) refl h
   where
-    go : (machine_fault g code (Some (parameter_of (condact_of g f))) (n - 1) (suc d) fs ≡ None → rows_fault g code (Some (parameter_of (condact_of g f))) (n - 1) (at + 5) (map row_of fs) ≡ None)
+    go : (machine_fault g code (Some (parameter_of (condact_of g f))) (n - 1) (suc d) fs ≡ None → row_fields_fault g code (Some (parameter_of (condact_of g f))) (n - 1) (at + 5) (map row_of fs) ≡ None)
         → (b : Bool) → row_stands g code caller n f ≡ b
         → ◌≡◌ {A = Option ℕ} (if b then machine_fault g code (Some (parameter_of (condact_of g f))) (n - 1) (suc d) fs else Some d) None
-        → or_first (row_fault g code caller n at (row_of f)) (rows_fault g code (called g (row_of f)) (n - 1) (at + 5) (map row_of fs)) ≡ None
+        → or_first (row_fault g code caller n at (row_of f)) (row_fields_fault g code (called_table g (row_of f)) (n - 1) (at + 5) (map row_of fs)) ≡ None
     go later true e q = none_first (row_fault g code caller n at (row_of f)) _ (frame_sound g code caller n at f e) (later q)
     go later false e q = cc
 

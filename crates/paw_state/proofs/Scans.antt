@@ -7,7 +7,7 @@ use Rattle.paw_game.specs.Game.{GameLists}
 use Rattle.paw_state.specs.declared.fields.Row.{Row}
 use Rattle.paw_state.specs.declared.held.Held.{Held}
 use Rattle.paw_state.specs.Fields.{row_at, rows_at}
-use Rattle.paw_state.specs.Faults.{rule, or_first, first_not, held_fault, kept_fault, row_fault, rows_fault, called}
+use Rattle.paw_state.specs.Faults.{rule, or_first, first_not, held_fault, kept_fault, row_fault, row_fields_fault, called_table}
 
 -- ---- bytes ----
 
@@ -52,25 +52,25 @@ at_end p at i bytes low h = sym (none_left p (at + i)) ∙ (ap (first_not p (at 
 
 -- ---- rows ----
 
-pub no_rows : (g : GameLists) (code : ℕ) (caller : Option ℕ) (n at : ℕ) (rows : List Row) → length rows ≡ 0 → None ≡ rows_fault g code caller n at rows
-unfolding rows_fault
+pub no_rows : (g : GameLists) (code : ℕ) (caller : Option ℕ) (n at : ℕ) (rows : List Row) → length rows ≡ 0 → None ≡ row_fields_fault g code caller n at rows
+unfolding row_fields_fault
 no_rows g code caller n at [] h = refl
 no_rows g code caller n at (r ∷ rs) h = absurd (omega arith)
 
 first_row : (g : GameLists) (code : ℕ) (caller : Option ℕ) (n at : ℕ) (rows : List Row) (r : Row) (rs : List Row) → rows ≡ r ∷ rs
-    → or_first (row_fault g code caller n at r) (rows_fault g code (called g r) (n - 1) (at + 5) rs) ≡ rows_fault g code caller n at rows
-unfolding rows_fault
+    → or_first (row_fault g code caller n at r) (row_fields_fault g code (called_table g r) (n - 1) (at + 5) rs) ≡ row_fields_fault g code caller n at rows
+unfolding row_fields_fault
 first_row g code caller n at rows r rs e = rw e refl
 
 pub row_stops : (g : GameLists) (code : ℕ) (caller : Option ℕ) (n at x : ℕ) (rows : List Row) (r : Row) (rs : List Row) → rows ≡ r ∷ rs
-    → Some x ≡ row_fault g code caller n at r → Some x ≡ rows_fault g code caller n at rows
+    → Some x ≡ row_fault g code caller n at r → Some x ≡ row_fields_fault g code caller n at rows
 row_stops g code caller n at x rows r rs e h =
-    ap (λ (o : Option ℕ). or_first o (rows_fault g code (called g r) (n - 1) (at + 5) rs)) h ∙ first_row g code caller n at rows r rs e
+    ap (λ (o : Option ℕ). or_first o (row_fields_fault g code (called_table g r) (n - 1) (at + 5) rs)) h ∙ first_row g code caller n at rows r rs e
 
 pub row_passes : (g : GameLists) (code : ℕ) (caller : Option ℕ) (n at : ℕ) (rows : List Row) (r : Row) (rs : List Row) → rows ≡ r ∷ rs
-    → None ≡ row_fault g code caller n at r → rows_fault g code (called g r) (n - 1) (at + 5) rs ≡ rows_fault g code caller n at rows
+    → None ≡ row_fault g code caller n at r → row_fields_fault g code (called_table g r) (n - 1) (at + 5) rs ≡ row_fields_fault g code caller n at rows
 row_passes g code caller n at rows r rs e h =
-    ap (λ (o : Option ℕ). or_first o (rows_fault g code (called g r) (n - 1) (at + 5) rs)) h ∙ first_row g code caller n at rows r rs e
+    ap (λ (o : Option ℕ). or_first o (row_fields_fault g code (called_table g r) (n - 1) (at + 5) rs)) h ∙ first_row g code caller n at rows r rs e
 
 -- ---- kept positions ----
 

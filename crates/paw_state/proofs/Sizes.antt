@@ -14,7 +14,7 @@ use Rattle.paw_world.specs.World.{Position}
 use Rattle.paw_reading.specs.declared.places.Frame.{Frame}
 use Rattle.paw_reading.specs.declared.places.OpenLoop.{OpenLoop}
 use Rattle.paw_process.specs.declared.kept.Frames.{Frames}
-use Rattle.paw_process.specs.Kept.{may_open, has_code, parameter_of, condact_of, is_unused, row_stands, table_of, is_table, loop_stands, waiting_code, or_none}
+use Rattle.paw_process.specs.Kept.{may_open, has_code, parameter_of, condact_of, is_unused, row_stands, table_of, is_that_table, loop_stands, waiting_code, code_or_zero}
 use Rattle.paw_process.specs.Kept.{rows_fault as machine_rows, loop_fault as machine_loop}
 use Rattle.paw_process.proofs.Restored.{first_of, second}
 use Rattle.paw_state.specs.declared.fields.Row.{Row}
@@ -151,7 +151,7 @@ loop_fits g k (Some l) v h = go (loop_stands g k l) refl h
     go : (b : Bool) → loop_stands g k l ≡ b → ◌≡◌ {A = Option ℕ} (if b then None else Some 11) None → l.entry < 2 ^ 16
     go true e q =
         let s1 = second (nat_lt l.level k.count) _ e in
-        let s2 = second (is_table (table_of (slice_get k.rows l.level)) l.table) _ s1 in
+        let s2 = second (is_that_table (table_of (slice_get k.rows l.level)) l.table) _ s1 in
         coded g l.table l.entry l.at 86 (condact_at g l.table l.entry l.at) v refl (first_of (has_code 86 (condact_at g l.table l.entry l.at)) _ s2)
     go false e q = cc
 
@@ -173,7 +173,7 @@ sized_of g s v k h =
       draws = h.draws;
       events = h.events;
       rows = length-map s.frames.rows row_of ∙ k.rows;
-      entries = entries_fit g (or_none (waiting_code s.prompt)) None s.frames.count 0 s.frames.rows v m.rows;
+      entries = entries_fit g (code_or_zero (waiting_code s.prompt)) None s.frames.count 0 s.frames.rows v m.rows;
       loop_entry = loop_fits g s.frames s.frames.turning v m.turning;
       pending = omega (arith, k.line);
       line = length-filled s.pending.bytes k.line;

@@ -4,12 +4,12 @@ use Rattle.std.specs.Prelude.{if◌then◌else◌}
 use Rattle.paw_game.specs.Game.{GameLists}
 use Rattle.paw_process.specs.Kept.{waiting_code, count_fits}
 use Rattle.paw_state.specs.declared.fields.Fields.{Fields}
-use Rattle.paw_state.specs.Faults.{rule, or_first, first, first_not, is_zero, places_fault, held_fault, kept_fault, numbers_fault, prompt_of, prompt_fault, frames_fault, no_loop_fault, loop_fault, turning_fault, pending_fault, fields_fault}
+use Rattle.paw_state.specs.Faults.{rule, or_first, first, first_not, is_zero, places_fault, held_fault, kept_fault, numbers_fault, prompt_of, prompt_fault, frame_fields_fault, no_loop_fault, loop_fields_fault, turning_fault, pending_fault, fields_fault}
 use Rattle.paw_state.proofs.Found.{rule_holds, no_rule, no_first, none_first}
 
 -- where no loop is open the loop's bytes are 0; else the loop keeps its rules
 abbrev pub turning_rest : GameLists → Fields → Option ℕ
-turning_rest g f = if f.looping == 0 then no_loop_fault f.turning else loop_fault g f f.turning
+turning_rest g f = if f.looping == 0 then no_loop_fault f.turning else loop_fields_fault g f f.turning
 
 -- each part keeps its rules
 pub record AreSound (g : GameLists) (f : Fields) : Type 0 where
@@ -19,7 +19,7 @@ pub record AreSound (g : GameLists) (f : Fields) : Type 0 where
   pub draws : nat_le f.draws (200000 * (f.events + 1)) ≡ true
   pub prompt : nat_le f.prompt 4 ≡ true
   pub count : count_fits (waiting_code (prompt_of f.prompt)) f.count ≡ true
-  pub frames : frames_fault g f ≡ None
+  pub frames : frame_fields_fault g f ≡ None
   pub looping : nat_le f.looping (if f.count == 0 then 0 else 1) ≡ true
   pub turning : turning_rest g f ≡ None
   pub pending : (is_some (waiting_code (prompt_of f.prompt)) || (f.pending == 0)) ≡ true
@@ -56,7 +56,7 @@ eight_none a b c d e f g h ka kb kc kd ke kf kg kh =
 
 pub sound_of : (g : GameLists) (f : Fields) → fields_fault g f ≡ None → AreSound g f
 sound_of g f h =
-    let p = eight (places_fault g 256 f.places) (held_fault g 511 f.saved) (numbers_fault f) (prompt_fault f) (frames_fault g f) (turning_fault g f)
+    let p = eight (places_fault g 256 f.places) (held_fault g 511 f.saved) (numbers_fault f) (prompt_fault f) (frame_fields_fault g f) (turning_fault g f)
     (pending_fault f) (kept_fault g 1371 f.kept) h in
     let n = two (rule 1039 (nat_le f.events 1000000000)) (rule 1031 (nat_le f.draws (200000 * (f.events + 1)))) p.2 in
     let q = two (rule 1047 (nat_le f.prompt 4)) (rule 1048 (count_fits (waiting_code (prompt_of f.prompt)) f.count)) p.3 in
@@ -79,7 +79,7 @@ sound_of g f h =
 
 pub none_of : (g : GameLists) (f : Fields) → AreSound g f → fields_fault g f ≡ None
 none_of g f s =
-    eight_none (places_fault g 256 f.places) (held_fault g 511 f.saved) (numbers_fault f) (prompt_fault f) (frames_fault g f) (turning_fault g f)
+    eight_none (places_fault g 256 f.places) (held_fault g 511 f.saved) (numbers_fault f) (prompt_fault f) (frame_fields_fault g f) (turning_fault g f)
     (pending_fault f) (kept_fault g 1371 f.kept) s.places s.saved
     (two_none (rule 1039 (nat_le f.events 1000000000)) (rule 1031 (nat_le f.draws (200000 * (f.events + 1))))
     (no_rule 1039 (nat_le f.events 1000000000) s.events) (no_rule 1031 (nat_le f.draws (200000 * (f.events + 1))) s.draws))

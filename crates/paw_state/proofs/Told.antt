@@ -5,7 +5,7 @@ use Rattle.paw_state.proofs.Found.{length-zeros}
 use Rattle.paw_game.specs.Image.{two_bytes}
 use Rattle.paw_state.specs.declared.fields.Fields.{Fields}
 use Rattle.paw_state.specs.State.{State}
-use Rattle.paw_state.specs.Fields.{world_bytes, number_bytes, table_bytes, pending_bytes, kept_bytes, field_bytes, fields_of, state_bytes, zeros}
+use Rattle.paw_state.specs.Fields.{world_bytes, number_bytes, table_bytes, pending_bytes, kept_position_bytes, field_bytes, fields_of, state_bytes, zeros}
 
 inner_join : (d e p k : List ℕ) → (d ++ (e ++ (p ++ []))) ++ (k ++ []) ≡ (d ++ e) ++ (p ++ k)
 inner_join d e p k = simp (append_assoc, append-nil)
@@ -18,11 +18,11 @@ outer_join a b c x p =
 front : Fields → List ℕ
 front f = world_bytes f ++ (number_bytes f ++ (table_bytes f ++ ((f.earlier ∷ f.pending ∷ []) ++ f.line)))
 
-state_ends : (f : Fields) → field_bytes f ≡ front f ++ (two_bytes f.piece ++ kept_bytes f)
+state_ends : (f : Fields) → field_bytes f ≡ front f ++ (two_bytes f.piece ++ kept_position_bytes f)
 unfolding front pending_bytes
 state_ends f =
-    ap (λ q. world_bytes f ++ (number_bytes f ++ (table_bytes f ++ q))) (inner_join (f.earlier ∷ f.pending ∷ []) f.line (two_bytes f.piece) (kept_bytes f))
-    ∙ outer_join (world_bytes f) (number_bytes f) (table_bytes f) ((f.earlier ∷ f.pending ∷ []) ++ f.line) (two_bytes f.piece ++ kept_bytes f)
+    ap (λ q. world_bytes f ++ (number_bytes f ++ (table_bytes f ++ q))) (inner_join (f.earlier ∷ f.pending ∷ []) f.line (two_bytes f.piece) (kept_position_bytes f))
+    ∙ outer_join (world_bytes f) (number_bytes f) (table_bytes f) ((f.earlier ∷ f.pending ∷ []) ++ f.line) (two_bytes f.piece ++ kept_position_bytes f)
 
 -- two bytes behind 1,369
 two_there : (front : List ℕ) (n : ℕ) (q : List ℕ) → length front ≡ 1369 → n < 2 ^ 16
@@ -42,13 +42,13 @@ front_long front n q l k =
 -- the bytes of a state, and of its kept positions
 pub record AreLong (s : State) : Type 0 where
   pub all : length (state_bytes s) ≡ 3419
-  pub kept : length (kept_bytes (fields_of s)) ≡ 2048
+  pub kept : length (kept_position_bytes (fields_of s)) ≡ 2048
 
 pub piece_told : (s : State) → AreLong s → s.piece < 2 ^ 16 → get_or (state_bytes s) 1369 0 + 256 * get_or (state_bytes s) 1370 0 ≡ s.piece
 piece_told s l h =
     let f = fields_of s in
     let e = state_ends f in
-    rw e (two_there (front f) s.piece (kept_bytes f) (front_long (front f) s.piece (kept_bytes f) (ap length (sym e) ∙ l.all) l.kept) h)
+    rw e (two_there (front f) s.piece (kept_position_bytes f) (front_long (front f) s.piece (kept_position_bytes f) (ap length (sym e) ∙ l.all) l.kept) h)
 
 -- as it stands in a buffer
 pub piece_in : (s : State) (rest into : List ℕ) → into ≡ state_bytes s ++ rest → AreLong s → s.piece < 2 ^ 16 → get_or into 1369 0 + 256 * get_or into 1370 0 ≡ s.piece

@@ -8,7 +8,7 @@ use Rattle.paw_game.specs.Valid.{is_place}
 use Rattle.paw_effects.specs.declared.act.Prompt.{Prompt}
 use Rattle.paw_effects.specs.declared.act.Prompt.TheVariants as prompt
 use Rattle.paw_reading.specs.declared.places.OpenLoop.{OpenLoop}
-use Rattle.paw_process.specs.Kept.{waiting_code, may_open, has_code, parameter_of, is_table, count_fits, or_none}
+use Rattle.paw_process.specs.Kept.{waiting_code, may_open, has_code, parameter_of, is_that_table, count_fits, code_or_zero}
 use Rattle.paw_state.specs.declared.layout.TheConstants.{PLACES, SAVED, HELD_FLAGS, HELD_PLACES, HELD_LENGTH, DRAWS}
 use Rattle.paw_state.specs.declared.layout.TheConstants.{EVENTS, PROMPT, COUNT, ROWS, ROW_LENGTH, ROW_ENTRY, ROW_AT}
 use Rattle.paw_state.specs.declared.layout.TheConstants.{ROW_ACTED, LOOPING, LOOP_LEVEL, LOOP_TABLE, LOOP_ENTRY}
@@ -116,14 +116,14 @@ row_fault g code caller n at r =
     if n == 0 then unused_fault at r else used_fault g (if n == 1 then code else PROCESS) caller at r
 
 -- the table that the PROCESS of a row calls
-abbrev pub called : GameLists → Row → Option ℕ
-called g r = Some (parameter_of (condact_at g r.table r.entry r.at))
+abbrev pub called_table : GameLists → Row → Option ℕ
+called_table g r = Some (parameter_of (condact_at g r.table r.entry r.at))
 
 -- the first fault of rows that stand from this place on, of which n are used, the first of them of the table that was called
-unfoldable pub rows_fault : GameLists → ℕ → Option ℕ → ℕ → ℕ → List Row → Option ℕ
-rows_fault g code caller n at [] = None
-rows_fault g code caller n at (r ∷ rs) =
-    or_first (row_fault g code caller n at r) (rows_fault g code (called g r) (n - 1) (at + ROW_LENGTH) rs)
+unfoldable pub row_fields_fault : GameLists → ℕ → Option ℕ → ℕ → ℕ → List Row → Option ℕ
+row_fields_fault g code caller n at [] = None
+row_fields_fault g code caller n at (r ∷ rs) =
+    or_first (row_fault g code caller n at r) (row_fields_fault g code (called_table g r) (n - 1) (at + ROW_LENGTH) rs)
 
 -- without an open loop its bytes are 0
 abbrev pub no_loop_fault : OpenLoop → Option ℕ
@@ -142,10 +142,10 @@ row_table None = None
 row_table (Some r) = Some r.table
 
 -- an open loop is at a DOALL of the table of its level, and its place and its last object are the game's
-abbrev pub loop_fault : GameLists → Fields → OpenLoop → Option ℕ
-loop_fault g f l = first (
+abbrev pub loop_fields_fault : GameLists → Fields → OpenLoop → Option ℕ
+loop_fields_fault g f l = first (
     rule LOOP_LEVEL (nat_lt l.level f.count)
-    ∷ rule LOOP_TABLE (is_table (row_table (slice_get f.rows l.level)) l.table)
+    ∷ rule LOOP_TABLE (is_that_table (row_table (slice_get f.rows l.level)) l.table)
     ∷ rule LOOP_ENTRY (is_some (head_at g l.table l.entry))
     ∷ rule LOOP_AT (has_code DOALL (condact_at g l.table l.entry l.at))
     ∷ rule LOOP_PLACE (is_place (length g.locations) l.place)
@@ -156,12 +156,12 @@ loop_fault g f l = first (
 abbrev pub turning_fault : GameLists → Fields → Option ℕ
 turning_fault g f = first (
     rule LOOPING (nat_le f.looping (if f.count == 0 then 0 else 1))
-    ∷ (if f.looping == 0 then no_loop_fault f.turning else loop_fault g f f.turning)
+    ∷ (if f.looping == 0 then no_loop_fault f.turning else loop_fields_fault g f f.turning)
     ∷ [])
 
 -- the condact of the prompt, and which tables are open
-abbrev pub frames_fault : GameLists → Fields → Option ℕ
-frames_fault g f = rows_fault g (or_none (waiting_code (prompt_of f.prompt))) None f.count ROWS f.rows
+abbrev pub frame_fields_fault : GameLists → Fields → Option ℕ
+frame_fields_fault g f = row_fields_fault g (code_or_zero (waiting_code (prompt_of f.prompt))) None f.count ROWS f.rows
 
 -- nothing is pending where no table is open; the bytes behind what is pending are 0
 abbrev pub pending_fault : Fields → Option ℕ
@@ -178,7 +178,7 @@ fields_fault g f = first (
     ∷ held_fault g SAVED f.saved
     ∷ numbers_fault f
     ∷ prompt_fault f
-    ∷ frames_fault g f
+    ∷ frame_fields_fault g f
     ∷ turning_fault g f
     ∷ pending_fault f
     ∷ kept_fault g KEPT f.kept

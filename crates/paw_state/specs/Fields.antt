@@ -1,6 +1,7 @@
 -- The fields of a state's bytes. Numbers of several bytes have the low one first.
-use Rattle.std.specs.Prelude.{ℕ, zero, suc, ◌+◌, ◌-◌, List, [], ◌∷◌, ◌++◌, Option, Some, None, length, map, flat_map, drop, replicate, slice_index, slice_range, if◌then◌else◌}
+use Rattle.std.specs.Prelude.{ℕ, zero, suc, ◌+◌, ◌-◌, List, [], ◌∷◌, ◌++◌, Option, Some, None, length, map, flat_map, drop, slice_index, slice_range, if◌then◌else◌}
 use Rattle.std.specs.Int.{w16, w64, to_le_bytes, from_le_bytes}
+pub use Rattle.paw_base.specs.Bytes.{zeros}
 use Rattle.paw_base.specs.declared.limits.TheConstants.{OBJECT_LIMIT, FLAG_COUNT, LINE_LIMIT}
 use Rattle.paw_game.specs.Image.{two_bytes}
 use Rattle.paw_world.specs.World.{Position}
@@ -21,10 +22,6 @@ use Rattle.paw_state.specs.State.{State}
 
 -- ---- from a state to its bytes ----
 
--- so many bytes that are 0
-unfoldable pub zeros : ℕ → List ℕ
-zeros n = replicate n 0
-
 -- these bytes, filled up with zeros to so many
 abbrev pub filled : ℕ → List ℕ → List ℕ
 filled n bytes = bytes ++ zeros (n - length bytes)
@@ -42,37 +39,37 @@ abbrev pub loop_bytes : OpenLoop → List ℕ
 loop_bytes l = l.level ∷ l.table ∷ (two_bytes l.entry ++ l.at ∷ l.place ∷ l.last ∷ [])
 
 -- fields one after the other
-abbrev pub joined : List (List ℕ) → List ℕ
-joined [] = []
-joined (field ∷ fields) = field ++ joined fields
+abbrev pub in_sequence : List (List ℕ) → List ℕ
+in_sequence [] = []
+in_sequence (field ∷ fields) = field ++ in_sequence fields
 
 -- a position that may be there: whether it is, its flags, and its places
 unfoldable pub held_bytes : Held → List ℕ
-held_bytes h = joined ((h.there ∷ []) ∷ h.flags ∷ h.places ∷ [])
+held_bytes h = in_sequence ((h.there ∷ []) ∷ h.flags ∷ h.places ∷ [])
 
 -- flags and places, now and in the saved position
 unfoldable pub world_bytes : Fields → List ℕ
-world_bytes f = joined (f.flags ∷ f.places ∷ held_bytes f.saved ∷ [])
+world_bytes f = in_sequence (f.flags ∷ f.places ∷ held_bytes f.saved ∷ [])
 
 -- the seed, how many words were drawn, and how many lines were taken
 unfoldable pub number_bytes : Fields → List ℕ
-number_bytes f = joined (eight_bytes f.seed ∷ eight_bytes f.draws ∷ eight_bytes f.events ∷ [])
+number_bytes f = in_sequence (eight_bytes f.seed ∷ eight_bytes f.draws ∷ eight_bytes f.events ∷ [])
 
 -- the prompt, the rows of the open tables, and the open loop
 unfoldable pub table_bytes : Fields → List ℕ
-table_bytes f = joined ((f.prompt ∷ f.count ∷ []) ∷ flat_map row_bytes f.rows ∷ (f.looping ∷ []) ∷ loop_bytes f.turning ∷ [])
+table_bytes f = in_sequence ((f.prompt ∷ f.count ∷ []) ∷ flat_map row_bytes f.rows ∷ (f.looping ∷ []) ∷ loop_bytes f.turning ∷ [])
 
 -- what is pending, and how many bytes the last piece has
 unfoldable pub pending_bytes : Fields → List ℕ
-pending_bytes f = joined ((f.earlier ∷ f.pending ∷ []) ∷ f.line ∷ two_bytes f.piece ∷ [])
+pending_bytes f = in_sequence ((f.earlier ∷ f.pending ∷ []) ∷ f.line ∷ two_bytes f.piece ∷ [])
 
 -- the kept positions
-unfoldable pub kept_bytes : Fields → List ℕ
-kept_bytes f = flat_map held_bytes f.kept
+unfoldable pub kept_position_bytes : Fields → List ℕ
+kept_position_bytes f = flat_map held_bytes f.kept
 
 -- the bytes of a state's fields
 abbrev pub field_bytes : Fields → List ℕ
-field_bytes f = joined (world_bytes f ∷ number_bytes f ∷ table_bytes f ∷ pending_bytes f ∷ kept_bytes f ∷ [])
+field_bytes f = in_sequence (world_bytes f ∷ number_bytes f ∷ table_bytes f ∷ pending_bytes f ∷ kept_position_bytes f ∷ [])
 
 -- 1 for what is there, 0 for what isn't
 abbrev pub presence : {A : Type 0} → Option A → ℕ

@@ -6,6 +6,7 @@ use Rattle.paw_world.specs.World.{World, Position, IsWorld}
 use Rattle.paw_phrase.specs.Pending.{PendingLine}
 use Rattle.paw_effects.specs.declared.act.Prompt.{Prompt}
 use Rattle.paw_effects.specs.Built.{IsOf, StandAtPlaces}
+pub use Rattle.paw_effects.specs.Standing.{AreBytes}
 use Rattle.paw_process.specs.declared.machine.TheConstants.{MOST_FRAMES}
 use Rattle.paw_process.specs.OpenTables.{OpenTables}
 use Rattle.paw_process.specs.Kept.{kept, waiting_code, frames_fault}
@@ -39,10 +40,6 @@ pub record Keeps (g : GameLists) (s : State) : Type 0 where
   pub frames : frames_fault g s.prompt s.frames ≡ None
   pub line : length s.pending.bytes ≤ LINE_LIMIT
   pub pending : IfNone (waiting_code s.prompt) (s.pending.bytes ≡ [])
-
--- these are bytes
-abbrev pub AreBytes : List ℕ → Type 0
-AreBytes bytes = All (λ b. b < 256) bytes
 
 -- the flags and the places of a position, where there is one, are bytes
 abbrev pub HoldsBytes : Option Position → Type 0

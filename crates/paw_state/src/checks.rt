@@ -2,8 +2,8 @@
 
 ghost use Rattle.std.specs.Prelude.{◌≡◌, ◌+◌, ◌<◌, ◌≤◌, ◌^◌, ◌*◌, length, slice_get};
 ghost use Rattle.paw_game.specs.Valid.{Valid, is_place};
-ghost use Rattle.paw_process.specs.Kept.{is_table};
-ghost use Rattle.paw_state.specs.Faults.{fault_of, rule, first_not, is_zero, places_fault, absent_fault, held_fault, kept_fault, numbers_fault, prompt_of, prompt_fault, unused_fault, used_fault, row_fault, rows_fault, no_loop_fault, row_table, loop_fault, turning_fault, frames_fault, pending_fault, fields_fault};
+ghost use Rattle.paw_process.specs.Kept.{is_that_table};
+ghost use Rattle.paw_state.specs.Faults.{fault_of, rule, first_not, is_zero, places_fault, absent_fault, held_fault, kept_fault, numbers_fault, prompt_of, prompt_fault, unused_fault, used_fault, row_fault, row_fields_fault, no_loop_fault, row_table, loop_fields_fault, turning_fault, frame_fields_fault, pending_fault, fields_fault};
 
 use crate::StateFault;
 use crate::fields::{Fields, Row};
@@ -199,7 +199,7 @@ fn check_rows<T: Tables>(
     rows: &[Row],
 ) -> Result<(), StateFault>
     requires near { at + 5 * length rows.now < 4096 }
-    ensures value { fault_of result ≡ rows_fault (T.game tables.now) code caller used at rows.now }
+    ensures value { fault_of result ≡ row_fields_fault (T.game tables.now) code caller used at rows.now }
 {
     let Some((row, rest)) = rows.split_first() else {
         return Ok(());
@@ -212,7 +212,7 @@ fn check_rows<T: Tables>(
 
 /// The rows of the open tables, and the unused ones behind them.
 fn check_frames<T: Tables>(tables: &T, fields: &Fields) -> Result<(), StateFault>
-    ensures value { fault_of result ≡ frames_fault (T.game tables.now) fields.now }
+    ensures value { fault_of result ≡ frame_fields_fault (T.game tables.now) fields.now }
 {
     let code = waiting_code(prompt_of(fields.prompt)).unwrap_or(0);
     check_rows(tables, code, None, fields.count, ROWS, &fields.rows)
@@ -232,7 +232,7 @@ fn check_no_loop(turning: &OpenLoop) -> Result<(), StateFault>
 
 /// An open loop.
 fn check_loop<T: Tables>(tables: &T, fields: &Fields, turning: &OpenLoop) -> Result<(), StateFault>
-    ensures value { fault_of result ≡ loop_fault (T.game tables.now) fields.now turning.now }
+    ensures value { fault_of result ≡ loop_fields_fault (T.game tables.now) fields.now turning.now }
 {
     let counts = tables.counts();
     let condact = tables.condact(turning.table, turning.entry, turning.at);
@@ -252,7 +252,7 @@ fn check_loop<T: Tables>(tables: &T, fields: &Fields, turning: &OpenLoop) -> Res
 
 /// Whether the row of this level is of this table.
 fn is_table_at(rows: &[Row], level: u8, table: u8) -> bool
-    ensures value { result ≡ is_table (row_table (slice_get rows.now level)) table }
+    ensures value { result ≡ is_that_table (row_table (slice_get rows.now level)) table }
 {
     match rows.get(level as usize) {
         None => false,

@@ -2,7 +2,7 @@
 
 ghost use Rattle.std.specs.Prelude.{◌≡◌, ◌+◌, ◌≤◌, ◌++◌, length, drop, flat_map, slice_range};
 ghost use Rattle.paw_state.specs.State.{AreBytes};
-ghost use Rattle.paw_state.specs.Fields.{zeros, two_at, eight_at, held_at, row_at, rows_at, held_bytes, row_bytes, loop_bytes, fields_at, world_bytes, number_bytes, table_bytes, pending_bytes, kept_bytes, field_bytes};
+ghost use Rattle.paw_state.specs.Fields.{zeros, two_at, eight_at, held_at, row_at, rows_at, held_bytes, row_bytes, loop_bytes, fields_at, world_bytes, number_bytes, table_bytes, pending_bytes, kept_position_bytes, field_bytes};
 
 use crate::held::Held;
 use crate::layout::{
@@ -173,7 +173,7 @@ impl Fields {
     /// The bytes of these fields, and zeros behind them.
     pub(crate) fn bytes(&self) -> [u8; STATE_ROOM]
         ensures value { result ≡ field_bytes self.now ++ zeros 677 }
-        ensures kept { length (kept_bytes self.now) ≡ 2048 }
+        ensures kept { length (kept_position_bytes self.now) ≡ 2048 }
         ensures room { length result ≡ 4096 }
     {
         let mut writer = Writer::new();
@@ -262,7 +262,7 @@ impl Fields {
     #[tactic(auto, unfolding(crate::specs::Fields::kept_bytes))]
     fn put_kept(&self, writer: &mut Writer)
         requires room { length writer.old + 2048 ≤ 4096 }
-        ensures puts { writer.new ≡ writer.old ++ kept_bytes self.now }
+        ensures puts { writer.new ≡ writer.old ++ kept_position_bytes self.now }
         ensures length { length writer.new ≡ length writer.old + 2048 }
     {
         for held in &self.kept {

@@ -5,7 +5,7 @@ use Rattle.std.proofs.lemmas.Bool.{and_from}
 use Rattle.std.proofs.lemmas.List.Folds.{list_all-append}
 use Rattle.paw_base.specs.declared.fault.SourceKind.{SourceKind}
 use Rattle.paw_game.specs.Image.{image}
-use Rattle.paw_lex.specs.Bytes.{is_printed}
+use Rattle.paw_lex.specs.Bytes.{is_printed_byte}
 use Rattle.paw_grammar.specs.Tokens.{◌>>=◌}
 use Rattle.paw_grammar.specs.GrammarState.{Spelt, game_of}
 use Rattle.paw_grammar.specs.Spells.{step, at_line, whole, reading}
@@ -15,12 +15,12 @@ use Rattle.paw_source.proofs.Faultless.{ok_is}
 -- after d the line has no fault, and then e is spelled; its bytes are printed
 pub record LineReads (p : ℕ) (d : Spelt) (l : List ℕ) (e : Spelt) : Type 0 where
   pub is : step p d l ≡ Ok e
-  pub printed : list_all is_printed l ≡ true
+  pub printed : list_all is_printed_byte l ≡ true
 
 -- after d the lines have no fault, and then e is spelled; their bytes are printed
 pub record Reads (p : ℕ) (d : Spelt) (ls : List (List ℕ)) (e : Spelt) : Type 0 where
   pub is : after_lines p d ls ≡ Ok e
-  pub printed : list_all (list_all is_printed) ls ≡ true
+  pub printed : list_all (list_all is_printed_byte) ls ≡ true
 
 pub reads_none : (p : ℕ) (d : Spelt) → Reads p d [] d
 unfolding after_lines
@@ -45,7 +45,7 @@ after_lines-append p d (l ∷ ls) ms =
 pub reads_append : (p : ℕ) (d e f : Spelt) (ls ms : List (List ℕ)) → Reads p d ls e → Reads p e ms f → Reads p d (ls ++ ms) f
 reads_append p d e f ls ms first rest = record {
   is = after_lines-append p d ls ms ∙ ap (λ (r : Result Spelt SourceKind). r >>= λ x. after_lines p x ms) first.is ∙ rest.is;
-  printed = list_all-append (list_all is_printed) ls ms ∙ and_from _ _ first.printed rest.printed;
+  printed = list_all-append (list_all is_printed_byte) ls ms ∙ and_from _ _ first.printed rest.printed;
 }
 
 reading_is : (p n : ℕ) (d e : Spelt) (ls : List (List ℕ)) → after_lines p d ls ≡ Ok e → ltb (length e.tables) 3 ≡ false → ltb 4194304 (length (image (game_of e))) ≡ false

@@ -15,7 +15,7 @@ use Rattle.paw_game.specs.Valid.{are_letters, is_within, is_word, words_rise, ha
 use Rattle.paw_game.specs.Tables.{word_of}
 use Rattle.paw_grammar.specs.Vocabulary.{known, in_class, as_verb, word_or_none, verb_word, entry_verb, entry_noun}
 use Rattle.paw_source.proofs.Faultless.{some_is}
-use Rattle.paw_print.specs.Lines.{letters_of, means, first_word, first_verb, word_token, value_token, verb_token}
+use Rattle.paw_print.specs.Lines.{spelled_letters, means, first_word, first_verb, word_token, value_token, verb_token}
 use Rattle.paw_top.proofs.Rows.{is_plain}
 use Rattle.paw_top.proofs.Letters.{Spelling, spelling}
 
@@ -93,8 +93,8 @@ record First (ws : List Word) (class value : ℕ) (w : Word) : Type 0 where
   value_is : w.value ≡ value
   low : 2 ≤ value
   high : value ≤ 254
-  spelled : Spelling (letters_of w) w.letters
-  known_is : known ws (letters_of w) ≡ Some w
+  spelled : Spelling (spelled_letters w) w.letters
+  known_is : known ws (spelled_letters w) ≡ Some w
 
 first_is : (ws : List Word) (class value : ℕ) (w : Word) → Words ws → first_word ws class value ≡ Some w → First ws class value w
 first_is ws class value w words h =
@@ -114,7 +114,7 @@ first_is ws class value w words h =
       known_is = rw (s.word, s.is) (found_word (means class value) ws w words.rise h);
     }
 
-no_sign : (value : ℕ) (w : Word) → 2 ≤ value → value ≤ 254 → word_token value (Some w) ≡ letters_of w
+no_sign : (value : ℕ) (w : Word) → 2 ≤ value → value ≤ 254 → word_token value (Some w) ≡ spelled_letters w
 no_sign value w low high =
     let one : eqb value 1 ≡ false = ne_eqb value 1 (λ e. omega arith) in
     let none : eqb value 255 ≡ false = ne_eqb value 255 (λ e. omega arith) in
@@ -128,7 +128,7 @@ pub record ReadsBack (t : List ℕ) (read : List (List ℕ) → Result (ℕ × L
   pub slash : begins_with_slash t ≡ false
   pub is : (ts : List (List ℕ)) → read (t ∷ ts) ≡ Ok (value, ts)
 
-in_class-is : (ws : List Word) (class value : ℕ) (w : Word) → First ws class value w → in_class class (known ws (letters_of w)) ≡ Some value
+in_class-is : (ws : List Word) (class value : ℕ) (w : Word) → First ws class value w → in_class class (known ws (spelled_letters w)) ≡ Some value
 in_class-is ws class value w f =
     let same : eqb w.class class ≡ true = eq-eqb w.class class f.class_is in
     rw f.known_is (rw same (ap Some f.value_is))
@@ -138,7 +138,7 @@ value_back : (ws : List Word) (class value : ℕ) → Words ws → has_word ws c
 value_back ws class value words has =
     let found = find_some (means class value) ws has in
     let f = first_is ws class value found.0 words found.1 in
-    let token : value_token ws class value ≡ letters_of found.0 = ap (word_token value) found.1 ∙ no_sign value found.0 f.low f.high in
+    let token : value_token ws class value ≡ spelled_letters found.0 = ap (word_token value) found.1 ∙ no_sign value found.0 f.low f.high in
     rw token (record {
       plain = f.spelled.plain;
       slash = f.spelled.slash;
@@ -164,7 +164,7 @@ entry_noun_back ws value words h =
       | inr has ↦
           let found = find_some (means 2 value) ws has in
           let f = first_is ws 2 value found.0 words found.1 in
-          let token : value_token ws 2 value ≡ letters_of found.0 = ap (word_token value) found.1 ∙ no_sign value found.0 f.low f.high in
+          let token : value_token ws 2 value ≡ spelled_letters found.0 = ap (word_token value) found.1 ∙ no_sign value found.0 f.low f.high in
           rw token (record {
             plain = f.spelled.plain;
             slash = f.spelled.slash;
@@ -179,8 +179,8 @@ record Verb (ws : List Word) (value : ℕ) (w : Word) : Type 0 where
   stands : first_verb ws value ≡ Some w
   low : 2 ≤ value
   high : value ≤ 254
-  spelled : Spelling (letters_of w) w.letters
-  read : as_verb (known ws (letters_of w)) ≡ Some value
+  spelled : Spelling (spelled_letters w) w.letters
+  read : as_verb (known ws (spelled_letters w)) ≡ Some value
 
 verb_is : (ws : List Word) (value : ℕ) (w : Word) → Words ws → first_word ws 0 value ≡ Some w → Verb ws value w
 verb_is ws value w words h =
@@ -221,7 +221,7 @@ some_verb ws value words h =
       ]
     ] refl
 
-verb_token-is : (ws : List Word) (value : ℕ) (w : Word) → Verb ws value w → verb_token ws value ≡ letters_of w
+verb_token-is : (ws : List Word) (value : ℕ) (w : Word) → Verb ws value w → verb_token ws value ≡ spelled_letters w
 verb_token-is ws value w v = ap (word_token value) v.stands ∙ no_sign value w v.low v.high
 
 -- the verb of an exit

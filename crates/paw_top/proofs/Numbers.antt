@@ -4,7 +4,8 @@ use Rattle.std.specs.Prelude.{◌&&◌, IfSome, IfNone, nat_le, nat_lt}
 use Rattle.std.specs.List.{list_all}
 use Rattle.std.proofs.lemmas.Bool.{and_parts}
 use Rattle.std.proofs.lemmas.Bool.Decides.{nat_tests}
-use Rattle.paw_top.specs.Commands.{is_digit, number_after, has_seed_shape, has_trial_shape, seed_of}
+use Rattle.paw_grammar.specs.Numbers.{is_digit}
+use Rattle.paw_top.specs.Commands.{number_after, has_seed_shape, has_trial_shape, seed_of}
 
 -- digits never make a number smaller
 pub number_after-least : (n : ℕ) (ds : List ℕ) → n ≤ number_after n ds

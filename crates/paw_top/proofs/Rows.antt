@@ -4,7 +4,7 @@ use Rattle.std.specs.List.{list_all, list_any, join_with_byte}
 use Rattle.std.proofs.lemmas.Bool.{and_parts, and_from, and_right, not-true, not_from_false, ne_eqb, leb-true, le-leb, lt-ltb}
 use Rattle.std.proofs.lemmas.List.{append-nil}
 use Rattle.std.proofs.lemmas.List.Folds.{list_all-append}
-use Rattle.paw_lex.specs.Bytes.{is_printed, is_allowed, is_comment, has_forbidden_byte}
+use Rattle.paw_lex.specs.Bytes.{is_printed_byte, is_allowed, is_comment, has_forbidden_byte}
 use Rattle.paw_lex.specs.Tokens.{is_blank, ends_token, tokens_of}
 use Rattle.paw_lex.proofs.Printed.{is_token, tokens_of-join}
 use Rattle.paw_lex.proofs.TokenCuts.{tokens_of-blank}
@@ -27,7 +27,7 @@ is_plain (b ∷ bs) = is_clean b && list_all is_clean bs
 
 -- what a clean byte is
 record Clean (b : ℕ) : Type 0 where
-  printed : is_printed b ≡ true
+  printed : is_printed_byte b ≡ true
   no_end : ends_token b ≡ false
   no_blank : is_blank b ≡ false
   no_semicolon : eqb b 59 ≡ false
@@ -54,9 +54,9 @@ all_weaker p q gives (b ∷ bs) h =
     let both = and_parts (p b) (list_all p bs) h in
     and_from (q b) (list_all q bs) (gives b both.0) (all_weaker p q gives bs both.1)
 
-pub plain_printed : (t : List ℕ) → is_plain t ≡ true → list_all is_printed t ≡ true
+pub plain_printed : (t : List ℕ) → is_plain t ≡ true → list_all is_printed_byte t ≡ true
 plain_printed [] h = refl
-plain_printed (b ∷ bs) h = all_weaker is_clean is_printed (λ c e. (clean c e).printed) (b ∷ bs) h
+plain_printed (b ∷ bs) h = all_weaker is_clean is_printed_byte (λ c e. (clean c e).printed) (b ∷ bs) h
 
 plain_token : (t : List ℕ) → is_plain t ≡ true → is_token t ≡ true
 plain_token [] h = absurd cc
@@ -82,24 +82,24 @@ tokens_of-spaced t ts h = ap tokens_of (spaced-join t ts) ∙ tokens_of-join (t 
 tokens_of-behind : (t : List ℕ) (ts : List (List ℕ)) → list_all is_plain (t ∷ ts) ≡ true → tokens_of (behind_spaces (t ∷ ts)) ≡ t ∷ ts
 tokens_of-behind t ts h = tokens_of-blank 32 (spaced (t ∷ ts)) refl ∙ tokens_of-spaced t ts h
 
-pub printed-behind : (ts : List (List ℕ)) → list_all is_plain ts ≡ true → list_all is_printed (behind_spaces ts) ≡ true
+pub printed-behind : (ts : List (List ℕ)) → list_all is_plain ts ≡ true → list_all is_printed_byte (behind_spaces ts) ≡ true
 printed-behind [] h = refl
 printed-behind (t ∷ ts) h =
     let both = and_parts (is_plain t) _ h in
-    list_all-append is_printed t (behind_spaces ts) ∙ and_from _ _ (plain_printed t both.0) (printed-behind ts both.1)
+    list_all-append is_printed_byte t (behind_spaces ts) ∙ and_from _ _ (plain_printed t both.0) (printed-behind ts both.1)
 
-pub printed-spaced : (t : List ℕ) (ts : List (List ℕ)) → list_all is_plain (t ∷ ts) ≡ true → list_all is_printed (spaced (t ∷ ts)) ≡ true
+pub printed-spaced : (t : List ℕ) (ts : List (List ℕ)) → list_all is_plain (t ∷ ts) ≡ true → list_all is_printed_byte (spaced (t ∷ ts)) ≡ true
 printed-spaced t ts h = printed-behind (t ∷ ts) h
 
 -- ---- bytes ----
 
-none_forbidden : (text : Bool) (l : List ℕ) → list_all is_printed l ≡ true → list_any (λ b. not (is_allowed text b)) l ≡ false
+none_forbidden : (text : Bool) (l : List ℕ) → list_all is_printed_byte l ≡ true → list_any (λ b. not (is_allowed text b)) l ≡ false
 none_forbidden text [] h = refl
 none_forbidden text (b ∷ bs) h =
-    let both = and_parts (is_printed b) (list_all is_printed bs) h in
+    let both = and_parts (is_printed_byte b) (list_all is_printed_byte bs) h in
     rw both.0 (none_forbidden text bs both.1)
 
-pub no_forbidden_byte : (text : Bool) (l : List ℕ) → list_all is_printed l ≡ true → has_forbidden_byte text l ≡ false
+pub no_forbidden_byte : (text : Bool) (l : List ℕ) → list_all is_printed_byte l ≡ true → has_forbidden_byte text l ≡ false
 no_forbidden_byte text l h = and_right (not (is_comment l)) _ (none_forbidden text l h)
 
 -- ---- one line ----
@@ -134,7 +134,7 @@ slash_step p d bs ts h =
     rw (no_forbidden_byte (is_text_line d l) l (printed-spaced (47 ∷ bs) ts h), text, tokens_of-spaced (47 ∷ bs) ts h) refl
 
 -- a line of a text: printed bytes, of which the first is neither `/` nor `;`
-pub text_step : (p : ℕ) (d : Spelt) (l : List ℕ) → list_all is_printed l ≡ true → begins_with_slash l ≡ false → is_comment l ≡ false → is_in_text d ≡ true
+pub text_step : (p : ℕ) (d : Spelt) (l : List ℕ) → list_all is_printed_byte l ≡ true → begins_with_slash l ≡ false → is_comment l ≡ false → is_in_text d ≡ true
     → step p d l ≡ text_added d l
 unfolding step
 text_step p d l h slash comment text =

@@ -3,7 +3,7 @@ use Rattle.std.proofs.Common.{◌≡◌, ℕ, Bool, true, false, not, ◌&&◌, 
 use Rattle.std.specs.List.{list_all, flat_map, slice_split, onto_first}
 use Rattle.std.proofs.lemmas.Bool.{and_parts, and_from, or_cases, or_parts, eqb-true, not-true, false≢true}
 use Rattle.paw_game.specs.Valid.{is_within, is_text_byte, begins_no_line, is_printed}
-use Rattle.paw_lex.specs.Bytes.{is_printed as is_print, is_comment}
+use Rattle.paw_lex.specs.Bytes.{is_printed_byte as is_print, is_comment}
 use Rattle.paw_grammar.specs.Spells.{begins_with_slash}
 
 -- lines with an LF between each two

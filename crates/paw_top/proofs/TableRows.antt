@@ -18,7 +18,7 @@ use Rattle.paw_grammar.specs.Numbers.{number_from}
 use Rattle.paw_grammar.specs.Vocabulary.{entry_verb, entry_noun}
 use Rattle.paw_grammar.specs.Condacts.{condacts, more_condacts}
 use Rattle.paw_grammar.specs.GrammarState.{Spelt, with_last}
-use Rattle.paw_grammar.specs.GrammarHeads.{next_section, opened, lacks_rows, table_header}
+use Rattle.paw_grammar.specs.GrammarHeads.{next_section, section_opened, lacks_rows, table_header}
 use Rattle.paw_grammar.specs.GrammarRows.{entry_row, no_entry, more_row}
 use Rattle.paw_print.specs.Lines.{verb_token, value_token, entry_tokens, condact_tokens, condact_line, table_tokens, spaced}
 use Rattle.paw_print.specs.Canonical.{numbered, entry_lines, table_lines}
@@ -132,7 +132,7 @@ entries_read p g exits ts done (e ∷ es) s few h =
 
 -- a table begins
 abbrev table_begun : Spelt → Spelt
-table_begun d = record (opened section.Pro d) { tables = d.tables ++ [] ∷ [] }
+table_begun d = record (section_opened section.Pro d) { tables = d.tables ++ [] ∷ [] }
 
 header_step : (p : ℕ) (d : Spelt) (n : ℕ) → next_section d.section ≡ section.Pro → n ≡ length d.tables → n ≤ 255 → lacks_rows d ≡ false → LineReads p d (spaced (table_tokens n)) (table_begun d)
 unfolding number_from

@@ -10,7 +10,7 @@ use Rattle.paw_grammar.specs.declared.section.Section.{Section}
 use Rattle.paw_grammar.specs.declared.section.Section.TheVariants as section
 use Rattle.paw_grammar.specs.Tokens.{◌>>=◌}
 use Rattle.paw_grammar.specs.GrammarState.{Spelt}
-use Rattle.paw_grammar.specs.GrammarTexts.{is_text_section, texts_of, with_texts, text_limit, text_item, is_in_text, joined, text_line}
+use Rattle.paw_grammar.specs.GrammarTexts.{is_text_section, texts_of, with_texts, text_limit, text_item, is_in_text, with_line, text_line}
 use Rattle.paw_grammar.specs.GrammarHeads.{new_text, item_in, slash_line}
 use Rattle.paw_grammar.specs.Spells.{step}
 use Rattle.paw_print.specs.Lines.{item_token, lines_of_text, text_lines}
@@ -99,13 +99,13 @@ in_text s b before t d at text =
     ap (λ x. is_text_section x && not (eqb (length (texts_of x e)) 0)) here
     ∙ rw (text, texts_of-with s b (before ++ t ∷ []) d text, some) refl
 
-line_joined : (b : Bool) (before : List (List ℕ)) (t l : List ℕ) → length (joined b t l) ≤ 4095 → text_line b l (before ++ t ∷ []) ≡ Ok (before ++ joined b t l ∷ [])
+line_joined : (b : Bool) (before : List (List ℕ)) (t l : List ℕ) → length (with_line b t l) ≤ 4095 → text_line b l (before ++ t ∷ []) ≡ Ok (before ++ with_line b t l ∷ [])
 line_joined b before t l short =
-    let within : ltb 4095 (length (joined b t l)) ≡ false = le-ltb 4095 (length (joined b t l)) short in
-    rw (last_or-push [] before t, within, with_last-push (joined b t l) before t) refl
+    let within : ltb 4095 (length (with_line b t l)) ≡ false = le-ltb 4095 (length (with_line b t l)) short in
+    rw (last_or-push [] before t, within, with_last-push (with_line b t l) before t) refl
 
-line_step : (p : ℕ) (s : Section) (b : Bool) (d : Spelt) (before : List (List ℕ)) (t l : List ℕ) → d.section ≡ s → is_text_section s ≡ true → TextLine l → length (joined b t l) ≤ 4095
-    → LineReads p (with_texts s b (before ++ t ∷ []) d) l (with_texts s true (before ++ joined b t l ∷ []) d)
+line_step : (p : ℕ) (s : Section) (b : Bool) (d : Spelt) (before : List (List ℕ)) (t l : List ℕ) → d.section ≡ s → is_text_section s ≡ true → TextLine l → length (with_line b t l) ≤ 4095
+    → LineReads p (with_texts s b (before ++ t ∷ []) d) l (with_texts s true (before ++ with_line b t l ∷ []) d)
 line_step p s b d before t l at text line short =
     let ts : List (List ℕ) = before ++ t ∷ [] in
     let e : Spelt = with_texts s b ts d in
@@ -118,7 +118,7 @@ line_step p s b d before t l at text line short =
           ∙ ap (λ x. text_line x l (texts_of s e) >>= λ us. Ok (with_texts s true us e)) (begun-with s b ts d text)
           ∙ ap (λ (us : List (List ℕ)). text_line b l us >>= λ vs. Ok (with_texts s true vs e)) (texts_of-with s b ts d text)
           ∙ ap (λ (r : Result (List (List ℕ)) SourceKind). r >>= λ vs. Ok (with_texts s true vs e)) (line_joined b before t l short)
-          ∙ ap Ok (with-with s b true ts (before ++ joined b t l ∷ []) d);
+          ∙ ap Ok (with-with s b true ts (before ++ with_line b t l ∷ []) d);
     }
 
 -- ---- a text ----

@@ -17,7 +17,7 @@ use Rattle.paw_grammar.specs.declared.section.Section.{Section}
 use Rattle.paw_grammar.specs.declared.section.Section.TheVariants as section
 use Rattle.paw_grammar.specs.GrammarState.{Spelt, nothing_yet, all_exits, game_of}
 use Rattle.paw_grammar.specs.GrammarTexts.{is_text_section, with_texts, text_limit}
-use Rattle.paw_grammar.specs.GrammarHeads.{opened, lacks_rows}
+use Rattle.paw_grammar.specs.GrammarHeads.{section_opened, lacks_rows}
 use Rattle.paw_grammar.specs.Spells.{begins_table, reading, spelled}
 use Rattle.paw_source.specs.Laws.{CountsTables}
 use Rattle.paw_print.specs.Lines.{spaced, word_tokens, text_lines}
@@ -105,11 +105,11 @@ texts_of_objects ws locations (o ∷ os) h =
 
 -- ---- sections ----
 
-texts_section : (p : ℕ) (s : Section) (d : Spelt) (header : List ℕ) (texts : List (List ℕ)) → LineReads p d header (opened s d) → with_texts s false [] (opened s d) ≡ opened s d → is_text_section s ≡ true
-    → length texts ≤ text_limit s → list_all is_text texts ≡ true → (b : Bool) × Reads p d (texts_lines header texts) (with_texts s b texts (opened s d))
+texts_section : (p : ℕ) (s : Section) (d : Spelt) (header : List ℕ) (texts : List (List ℕ)) → LineReads p d header (section_opened s d) → with_texts s false [] (section_opened s d) ≡ section_opened s d → is_text_section s ≡ true
+    → length texts ≤ text_limit s → list_all is_text texts ≡ true → (b : Bool) × Reads p d (texts_lines header texts) (with_texts s b texts (section_opened s d))
 texts_section p s d header texts first none text room all =
-    let items = items_read p s false (opened s d) [] 0 texts refl text refl room all in
-    let rest : Reads p (opened s d) (numbered text_lines 0 texts) (with_texts s items.0 texts (opened s d)) = rw none at items.1 in
+    let items = items_read p s false (section_opened s d) [] 0 texts refl text refl room all in
+    let rest : Reads p (section_opened s d) (numbered text_lines 0 texts) (with_texts s items.0 texts (section_opened s d)) = rw none at items.1 in
     (items.0, reads_line p _ _ _ header (numbered text_lines 0 texts) first rest)
 
 -- what is spelled before the tables
@@ -145,7 +145,7 @@ whole_read p g r s =
     let as_many = length-map g.objects (λ (o : ObjectRow). o.text) in
     let names_few : length names ≤ 255 = omega (arith, as_many, r.few_objects) in
     -- the words
-    let d0 : Spelt = opened section.Voc nothing_yet in
+    let d0 : Spelt = section_opened section.Voc nothing_yet in
     let d1 : Spelt = record d0 { words = g.words } in
     let l1 : List (List ℕ) = words_lines g.words in
     let r1 : Reads p nothing_yet l1 d1 =
@@ -154,26 +154,26 @@ whole_read p g r s =
     -- the texts
     let stx : List (List ℕ) = texts_lines (codes "/STX") g.system in
     let t2 = texts_section p section.Stx d1 (codes "/STX") g.system (stx_header p d1 refl) refl refl r.few_system r.system in
-    let d2 : Spelt = with_texts section.Stx t2.0 g.system (opened section.Stx d1) in
+    let d2 : Spelt = with_texts section.Stx t2.0 g.system (section_opened section.Stx d1) in
     let r2 : Reads p nothing_yet (l1 ++ stx) d2 = reads_append p nothing_yet d1 d2 l1 stx r1 t2.1 in
     let mtx : List (List ℕ) = texts_lines (codes "/MTX") g.messages in
     let t3 = texts_section p section.Mtx d2 (codes "/MTX") g.messages (mtx_header p d2 refl) refl refl r.few_messages r.messages in
-    let d3 : Spelt = with_texts section.Mtx t3.0 g.messages (opened section.Mtx d2) in
+    let d3 : Spelt = with_texts section.Mtx t3.0 g.messages (section_opened section.Mtx d2) in
     let l3 : List (List ℕ) = l1 ++ stx ++ mtx in
     let r3 : Reads p nothing_yet l3 d3 = reads_append p nothing_yet d2 d3 (l1 ++ stx) mtx r2 t3.1 in
     let otx : List (List ℕ) = texts_lines (codes "/OTX") names in
     let all_names = texts_of_objects g.words (length g.locations) g.objects r.objects in
     let t4 = texts_section p section.Otx d3 (codes "/OTX") names (otx_header p d3 refl) refl refl names_few all_names in
-    let d4 : Spelt = with_texts section.Otx t4.0 names (opened section.Otx d3) in
+    let d4 : Spelt = with_texts section.Otx t4.0 names (section_opened section.Otx d3) in
     let r4 : Reads p nothing_yet (l3 ++ otx) d4 = reads_append p nothing_yet d3 d4 l3 otx r3 t4.1 in
     let ltx : List (List ℕ) = texts_lines (codes "/LTX") g.locations in
     let t5 = texts_section p section.Ltx d4 (codes "/LTX") g.locations (ltx_header p d4 refl) refl refl r.few_locations r.locations in
-    let d5 : Spelt = with_texts section.Ltx t5.0 g.locations (opened section.Ltx d4) in
+    let d5 : Spelt = with_texts section.Ltx t5.0 g.locations (section_opened section.Ltx d4) in
     let l5 : List (List ℕ) = l3 ++ otx ++ ltx in
     let r5 : Reads p nothing_yet l5 d5 = reads_append p nothing_yet d4 d5 (l3 ++ otx) ltx r4 t5.1 in
     -- the exits
     let some : eqb (length g.locations) 0 ≡ false = ne_eqb (length g.locations) 0 (λ e. omega (arith, r.some_locations)) in
-    let c5 : Spelt = opened section.Con d5 in
+    let c5 : Spelt = section_opened section.Con d5 in
     let scene5 : Scene c5 = record { words = s.words; few = r.few_locations } in
     let none : Filled [] 0 [] = record { short = omega arith; is = refl } in
     let m : length g.locations ≡ 0 + length g.exits = omega (arith, r.one_each) in
@@ -183,7 +183,7 @@ whole_read p g r s =
     let t6 : Reads p d5 con d6 = reads_line p d5 c5 d6 (codes "/CON") (numbered (location_lines g.words) 0 g.exits) (con_header_is p d5 refl some) x6.reads in
     let r6 : Reads p nothing_yet (l5 ++ con) d6 = reads_append p nothing_yet d5 d6 l5 con r5 t6 in
     -- the objects
-    let c6 : Spelt = opened section.Obj d6 in
+    let c6 : Spelt = section_opened section.Obj d6 in
     let scene6 : Scene c6 = record { words = s.words; few = r.few_locations } in
     let rows : 0 + length g.objects ≤ length names = omega (arith, as_many) in
     let d7 : Spelt = record c6 { facts = map (λ (o : ObjectRow). o.facts) g.objects } in

@@ -15,11 +15,11 @@ use Rattle.paw_game.specs.Valid.{are_letters, is_within, is_word, words_rise}
 use Rattle.paw_game.specs.Tables.{word_of}
 use Rattle.paw_grammar.specs.declared.section.Section.TheVariants as section
 use Rattle.paw_grammar.specs.Tokens.{◌>>=◌}
-use Rattle.paw_grammar.specs.Vocabulary.{class_names, place_among, put}
+use Rattle.paw_grammar.specs.Vocabulary.{class_names, place_among, words_with}
 use Rattle.paw_grammar.specs.GrammarState.{Spelt}
 use Rattle.paw_grammar.specs.GrammarTexts.{is_in_text}
 use Rattle.paw_grammar.specs.GrammarRows.{voc_row}
-use Rattle.paw_print.specs.Lines.{letters_of, class_name, word_tokens, spaced}
+use Rattle.paw_print.specs.Lines.{spelled_letters, class_name, word_tokens, spaced}
 use Rattle.paw_top.proofs.Rows.{is_plain, row_step, printed-spaced}
 use Rattle.paw_top.proofs.Digits.{number-decimal, plain-decimal}
 use Rattle.paw_top.proofs.Letters.{Spelling, spelling}
@@ -57,8 +57,8 @@ not_declared (v ∷ vs) w ws h =
     let differs : bytes_eq v.letters w.letters ≡ false = sym (is_eq-slice_cmp v.letters w.letters) ∙ ap is_eq (stands_above v vs w ws h) in
     rw differs (not_declared vs w ws (rest_rises v (vs ++ w ∷ ws) h))
 
-put_last : (vs : List Word) (w : Word) (ws : List Word) → words_rise (vs ++ w ∷ ws) ≡ true → put w vs ≡ vs ++ w ∷ []
-unfolding put
+put_last : (vs : List Word) (w : Word) (ws : List Word) → words_rise (vs ++ w ∷ ws) ≡ true → words_with w vs ≡ vs ++ w ∷ []
+unfolding words_with
 put_last [] w ws h = refl
 put_last (v ∷ vs) w ws h =
     let below : slice_cmp nat_cmp w.letters v.letters ≡ ordering_reverse Less = nat_list_cmp_total.antisymm w.letters v.letters ∙ ap ordering_reverse (stands_above v vs w ws h) in
@@ -68,7 +68,7 @@ put_last (v ∷ vs) w ws h =
 
 -- the row of a word
 record WordRow (w : Word) : Type 0 where
-  spelled : Spelling (letters_of w) w.letters
+  spelled : Spelling (spelled_letters w) w.letters
   value : is_within 2 254 w.value ≡ true
   small : w.value ≤ 65535
   class : ClassName w.class
@@ -99,9 +99,9 @@ word_step p d vs w ws at h rise few =
     let out : is_in_text e ≡ false = rw at refl in
     record {
       is =
-          row_step p e (letters_of w) (decimal w.value ∷ class_name w.class ∷ []) (plain_row w r) r.spelled.slash out
+          row_step p e (spelled_letters w) (decimal w.value ∷ class_name w.class ∷ []) (plain_row w r) r.spelled.slash out
           ∙ rw at (ap (λ (x : Result (List Word) SourceKind). x >>= λ us. Ok (record d { section = section.Voc; words = us })) (voc_row-is vs w ws r rise few));
-      printed = printed-spaced (letters_of w) (decimal w.value ∷ class_name w.class ∷ []) (plain_row w r);
+      printed = printed-spaced (spelled_letters w) (decimal w.value ∷ class_name w.class ∷ []) (plain_row w r);
     }
 
 -- the rows of words behind those that were read

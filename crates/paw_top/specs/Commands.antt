@@ -2,6 +2,7 @@
 use Rattle.std.specs.Prelude.{◌≡◌, ℕ, ◌+◌, ◌-◌, ◌*◌, ◌^◌, Bool, ◌&&◌, List, [], ◌∷◌, length, Option, Some, None, nat_lt, nat_le, codes, if◌then◌else◌}
 use Rattle.std.specs.List.{list_all}
 use Rattle.std.specs.Str.{bytes_eq}
+use Rattle.paw_grammar.specs.Numbers.{is_digit}
 use Rattle.paw_top.specs.declared.commands.Command.{Command as Given}
 use Rattle.paw_top.specs.declared.commands.Command.TheVariants as given
 
@@ -16,9 +17,6 @@ pub data Command : Type 0 where
   Play : (image store : List ℕ) (seed : ℕ) → Command
   Resume : (image store : List ℕ) → Command
   Trial : (n : ℕ) → Command
-
-abbrev pub is_digit : ℕ → Bool
-is_digit c = nat_le 48 c && nat_le c 57
 
 -- the number that digits spell, behind one that stands before them
 abbrev pub number_after : ℕ → List ℕ → ℕ

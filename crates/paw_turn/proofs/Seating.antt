@@ -19,7 +19,7 @@ use Rattle.paw_reading.specs.Turn.{first_table}
 use Rattle.paw_reading.specs.Places.{ArePlaces}
 use Rattle.paw_phrase.specs.Pending.{PendingLine}
 use Rattle.paw_process.specs.OpenTables.{OpenTables, HasRead, IsWaiting, IsClosed}
-use Rattle.paw_process.specs.Kept.{kept, restored, waiting_at, rows_fault, table_of, is_table, loop_stands, loop_fault, first_fault, count_fits, fault_at, frames_fault}
+use Rattle.paw_process.specs.Kept.{kept, restored, waiting_at, rows_fault, table_of, is_that_table, loop_stands, loop_fault, first_fault, count_fits, fault_at, frames_fault}
 use Rattle.paw_process.specs.Kept.{StandsAt as MachineStandsAt}
 use Rattle.paw_process.specs.declared.kept.Frames.{Frames}
 use Rattle.paw_process.proofs.Restored.{first_of, second, no_first}
@@ -35,7 +35,7 @@ use Rattle.paw_turn.specs.Parts.{step_at, prompt_at, IsStanding, Fits, seat_at, 
 
 -- ---- a restored machine ----
 
-first_is : (rows : List Frame) (count t : ℕ) → 0 < count → is_table (table_of (slice_get rows 0)) t ≡ true → t ≡ first_table (take count rows)
+first_is : (rows : List Frame) (count t : ℕ) → 0 < count → is_that_table (table_of (slice_get rows 0)) t ≡ true → t ≡ first_table (take count rows)
 first_is [] count t some h = cc
 first_is (f ∷ fs) zero t some h = absurd (omega arith)
 first_is (f ∷ fs) (suc n) t some h = eqb-true t f.table h
@@ -48,7 +48,7 @@ first_loop g k (Some l) h = go (loop_stands g k l) refl h
     go : (b : Bool) → loop_stands g k l ≡ b → ◌≡◌ {A = Option ℕ} (if b then None else Some 11) None → l.level ≡ 0 → l.table ≡ first_table (take k.count k.rows)
     go true e q = λ outermost.
         let low = ltb-true l.level k.count (first_of (nat_lt l.level k.count) _ e) in
-        let own = first_of (is_table (table_of (slice_get k.rows l.level)) l.table) _ (second (nat_lt l.level k.count) _ e) in
+        let own = first_of (is_that_table (table_of (slice_get k.rows l.level)) l.table) _ (second (nat_lt l.level k.count) _ e) in
         first_is k.rows k.count l.table (omega arith) (rw outermost at own)
     go false e q = cc
 

@@ -2,7 +2,7 @@
 use Rattle.std.proofs.Common.{◌≡◌, ℕ, zero, suc, ◌+◌, refl, sym, ap, ◌∙◌, zero-add, suc-add}
 use Rattle.rand_pcg.specs.Lcg.{Lcg, next, advance, state_after, next_state, started, increment_of}
 use Rattle.rand_pcg.specs.Pcg.{multiplier_64, pcg32}
-use Rattle.paw_world.specs.Draws.{generator_after, word}
+use Rattle.paw_world.specs.Draws.{generator_after, random_word}
 
 -- n steps after k steps
 state_after-state_after : (w m p k n s : ℕ) → state_after w m p n (state_after w m p k s) ≡ state_after w m p (k + n) s
@@ -31,6 +31,6 @@ words_on seed k n g given =
 pub word_on : (seed k : ℕ) (g : Lcg) → g ≡ generator_after seed k → next 64 multiplier_64 g ≡ generator_after seed (k + 1)
 word_on seed k g given = next-is_advance 64 multiplier_64 g ∙ words_on seed k 1 g given
 
-pub word_is : (seed k : ℕ) (g : Lcg) → g ≡ generator_after seed k → (pcg32 g).0 ≡ word seed k
-unfolding word
+pub word_is : (seed k : ℕ) (g : Lcg) → g ≡ generator_after seed k → (pcg32 g).0 ≡ random_word seed k
+unfolding random_word
 word_is seed k g given = ap (λ (h : Lcg). (pcg32 h).0) given

@@ -13,5 +13,5 @@ abbrev pub generator_after : ℕ → ℕ → Lcg
 generator_after seed k = advance 64 multiplier_64 k (started 64 multiplier_64 seed (increment_of 64 0))
 
 -- the word that it gives then: word k of a seed, counted from 0
-unfoldable pub word : ℕ → ℕ → ℕ
-word seed k = (pcg32 (generator_after seed k)).0
+unfoldable pub random_word : ℕ → ℕ → ℕ
+random_word seed k = (pcg32 (generator_after seed k)).0

@@ -1,7 +1,7 @@
 // Random words.
 
 ghost use Rattle.std.specs.Prelude.{◌≡◌, ◌+◌, ◌-◌, ◌<◌, ◌^◌};
-ghost use Rattle.paw_world.specs.Draws.{word};
+ghost use Rattle.paw_world.specs.Draws.{random_word};
 
 use rand_core::utils::NextWord;
 use rand_pcg::Lcg64Xsh32;
@@ -53,7 +53,7 @@ impl Draws {
     /// The next word.
     pub fn draw(&mut self) -> u32
         requires { self.old.count < 2 ^ 64 - 1 }
-        ensures word { result ≡ word self.old.seed self.old.count }
+        ensures word { result ≡ random_word self.old.seed self.old.count }
         ensures counts { self.new ≡ record self.old { count = self.old.count + 1 } }
     {
         self.count += 1;

@@ -1,7 +1,7 @@
 // The world of a game.
 
 ghost use Rattle.std.specs.Prelude.{◌≡◌, ◌+◌, ◌-◌, ◌^◌, ◌<◌, ◌≤◌, length, take, slice_get, is_some, IsSome, IfSome, MatchOption};
-ghost use Rattle.paw_world.specs.Draws.{word};
+ghost use Rattle.paw_world.specs.Draws.{random_word};
 ghost use Rattle.paw_world.specs.World.{opened, flag, with_flag, place, moved, first_at, ramsaved, ramloaded, saved_flag, saved_place, kept_position, with_kept, keeping, recalled, kept_flag, kept_place, restarted, with_objects_returned, drawn_on, first_carried, opening_flags, IsWorld};
 ghost use Rattle.paw_world.specs.Weight.{weight, weight_down, weight_with, carried_weight};
 
@@ -316,7 +316,7 @@ impl World {
     /// The next random word: 32 bits.
     pub fn draw(&mut self) -> u32
         requires room { self.old.draws < 2 ^ 64 - 1 }
-        ensures value { result ≡ word self.old.seed self.old.draws }
+        ensures value { result ≡ random_word self.old.seed self.old.draws }
         ensures change { self.new ≡ drawn_on self.old 1 }
     {
         self.draws.draw()

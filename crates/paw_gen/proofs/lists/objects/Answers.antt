@@ -1,9 +1,9 @@
 use Rattle.std.proofs.Common.{[]}
-use Rattle.paw_gen.specs.Trial.{object_row}
+use Rattle.paw_gen.specs.Trial.{trial_object}
 use Rattle.paw_gen.proofs.Rows.{pushed}
 use Rattle.paw_gen.proofs.lists.objects.Goals as goal
 
 pub loop-number-preserved : goal.loop-number-preserved
 loop-number-preserved c =
-    pushed (object_row c.args.locations) [] c.loop-number.number c.loop-number.all.items c.push.new.self.items (record { text = c.in_ok-numbered.field-0; facts = c.object_facts.result })
+    pushed (trial_object c.args.locations) [] c.loop-number.number c.loop-number.all.items c.push.new.self.items (record { text = c.in_ok-numbered.field-0; facts = c.object_facts.result })
     c.loop-number.invariant (cc (c.in_ok-numbered.ensures, c.object_facts.ensures)) c.in_ok-push.ensures.items

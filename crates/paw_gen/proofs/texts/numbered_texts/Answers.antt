@@ -1,9 +1,9 @@
 use Rattle.std.proofs.Common.{[]}
-use Rattle.paw_gen.specs.Trial.{numbered}
+use Rattle.paw_gen.specs.Trial.{number_between}
 use Rattle.paw_gen.proofs.Rows.{pushed}
 use Rattle.paw_gen.proofs.texts.numbered_texts.Goals as goal
 
 pub loop-number-preserved : goal.loop-number-preserved
 loop-number-preserved c =
-    pushed (numbered c.args.before.now c.args.after.now) [] c.loop-number.number c.loop-number.texts.items c.push.new.self.items c.in_ok-numbered.field-0
+    pushed (number_between c.args.before.now c.args.after.now) [] c.loop-number.number c.loop-number.texts.items c.push.new.self.items c.in_ok-numbered.field-0
     c.loop-number.invariant c.in_ok-numbered.ensures c.in_ok-push.ensures.items

@@ -1,7 +1,7 @@
 use Rattle.std.proofs.Common.{◌≡◌, ◌++◌, length, sym, ap, ◌∙◌}
 use Rattle.paw_process.specs.declared.kept.Frames.{Frames}
 use Rattle.paw_state.specs.State.{State, state_of}
-use Rattle.paw_state.specs.Fields.{zeros, fields_of, field_bytes, kept_bytes, state_bytes}
+use Rattle.paw_state.specs.Fields.{zeros, fields_of, field_bytes, kept_position_bytes, state_bytes}
 use Rattle.paw_state.proofs.Told.{AreLong, buffer_long, piece_in}
 use Rattle.paw_state.proofs.write.write_state.Goals as goal
 
@@ -21,6 +21,6 @@ returns-clause-piece c =
     let is : c.bytes.result ≡ state_bytes s ++ zeros 677 = c.bytes.ensures.value ∙ ap (λ f. field_bytes f ++ zeros 677) same in
     let long : AreLong s = record {
       all = buffer_long (state_bytes s) c.bytes.result is c.bytes.ensures.room;
-      kept = ap (λ f. length (kept_bytes f)) (sym same) ∙ c.bytes.ensures.kept;
+      kept = ap (λ f. length (kept_position_bytes f)) (sym same) ∙ c.bytes.ensures.kept;
     } in
     piece_in s (zeros 677) c.bytes.result is long c.ranges.piece.fits
