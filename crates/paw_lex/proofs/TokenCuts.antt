@@ -1,11 +1,11 @@
 -- The first token of a line.
 use Rattle.std.proofs.Common.{◌≡◌, ℕ, zero, suc, ◌<◌, ◌≤◌, ◌+◌, ◌-◌, ◌≢◌, true, false, not, cond, ◌||◌, eqb, ltb, List, [], ◌∷◌, filter, length, take, drop, get_or, refl, sym, ap, ◌∙◌, inl, inr, one-add, arith}
-use Rattle.std.specs.List.{before_first, position_or_len, prefix_len, slice_split, onto_first, slice_range}
+use Rattle.std.specs.List.{before_first, list_all, position_or_len, prefix_len, slice_split, onto_first, slice_range}
 use Rattle.std.proofs.lemmas.Bool.{eqb-true, lt-ltb, or_right, cases_lt}
 use Rattle.std.proofs.lemmas.List.{length-take-le, take_rest, drop-drop}
 use Rattle.std.proofs.lemmas.List.Sums.{prefix_len-le-length, prefix_len-drop_no, prefix_len-drop_all, prefix_len_stops}
 use Rattle.paw_lex.specs.Tokens.{is_blank, ends_token, tokens_of}
-use Rattle.paw_lex.proofs.Slices.{before_first-cons, drop-slice_range, slice_range-slice_range}
+use Rattle.paw_lex.proofs.Slices.{before_first-cons, drop-slice_range, slice_range-slice_range, take-slice_range}
 
 abbrev pieces : List ℕ → List (List ℕ)
 pieces s = slice_split is_blank (before_first (λ b. eqb b 59) s)
@@ -42,6 +42,24 @@ past_blanks (b ∷ bs) (suc n) h =
       | true ↦ λ e g. past_blanks bs n (omega arith) ∙ sym (tokens_of-blank b bs e)
       | false ↦ λ e g. absurd (omega arith)
     ] refl h
+
+all_blank : (s : List ℕ) → list_all is_blank (take (prefix_len is_blank s) s) ≡ true
+all_blank [] = refl
+all_blank (b ∷ bs) =
+    elim (is_blank b) as (λ v.
+    is_blank b ≡ v → list_all is_blank (take (cond v (1 + prefix_len is_blank bs) 0) (b ∷ bs)) ≡ true) [
+      | true ↦ λ e. rw (one-add, e) (all_blank bs)
+      | false ↦ λ e. refl
+    ] refl
+
+-- the blanks at the front are blanks
+pub blanks_first : (s : List ℕ) (n : ℕ) → n ≡ prefix_len is_blank s → list_all is_blank (take n s) ≡ true
+blanks_first s n e = ap (λ k. list_all is_blank (take k s)) e ∙ all_blank s
+
+-- they stand in the bytes that are looked at
+pub blanks_at : (s : List ℕ) (from to n : ℕ) → n ≤ to - from
+    → list_all is_blank (take n (slice_range s from to)) ≡ true → list_all is_blank (slice_range s from (from + n)) ≡ true
+blanks_at s from to n h e = ap (list_all is_blank) (sym (take-slice_range s from to n h)) ∙ e
 
 -- where neither a blank nor a token stands, nothing or a `;` does
 pub no_token : (s : List ℕ) → prefix_len is_blank s ≡ 0 → position_or_len ends_token s ≡ 0 → tokens_of s ≡ []

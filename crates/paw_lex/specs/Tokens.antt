@@ -1,11 +1,15 @@
 -- The tokens of a line.
-use Rattle.std.specs.Prelude.{ℕ, Bool, ◌||◌, ◌==◌, nat_lt, List, filter, length, slice_range}
-use Rattle.std.specs.List.{before_first, slice_split}
+use Rattle.std.specs.Prelude.{ℕ, Bool, ◌||◌, ◌==◌, nat_lt, List, filter, length, slice_range, IsTrue}
+use Rattle.std.specs.List.{before_first, list_all, slice_split}
 use Rattle.paw_lex.specs.declared.lines.Line.{Line}
 
 -- a space or a tab
 abbrev pub is_blank : ℕ → Bool
 is_blank b = b == 0x20 || b == 9
+
+-- nothing but blanks
+abbrev pub AreBlanks : List ℕ → Type 0
+AreBlanks bytes = IsTrue (list_all is_blank bytes)
 
 -- a byte that ends a token: a blank or `;`
 abbrev pub ends_token : ℕ → Bool

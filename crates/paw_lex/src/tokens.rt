@@ -1,9 +1,9 @@
 // The tokens of a line, one after another.
 
-ghost use Rattle.std.specs.Prelude.{◌≡◌, ◌<◌, ◌≤◌, List, [], ◌∷◌, length, drop, slice_range, MatchOption, IfSome};
+ghost use Rattle.std.specs.Prelude.{◌≡◌, ◌<◌, ◌≤◌, List, [], ◌∷◌, length, take, drop, slice_range, MatchOption, IfSome};
 ghost use Rattle.std.specs.List.{prefix_len, position_or_len};
 ghost use Rattle.paw_lex.specs.Lines.{LiesIn};
-ghost use Rattle.paw_lex.specs.Tokens.{is_blank, ends_token, tokens_of, tokens_from};
+ghost use Rattle.paw_lex.specs.Tokens.{is_blank, AreBlanks, ends_token, tokens_of, tokens_from};
 
 use crate::lines::Line;
 
@@ -46,6 +46,7 @@ fn first_token(bytes: &[u8]) -> Option<Token>
         ≡ slice_range bytes.now token.from token.to ∷ tokens_of (drop token.to bytes.now)) }
     ensures places { IfSome result (λ token.
         (token.from < token.to) × (token.to ≤ length bytes.now)) }
+    ensures blanks { IfSome result (λ token. AreBlanks (take token.from bytes.now)) }
 {
     let from = blanks(bytes);
     let len = token_len(&bytes[from..]);
@@ -58,9 +59,9 @@ fn first_token(bytes: &[u8]) -> Option<Token>
     })
 }
 
-/// The next token of a line from the place `from` on, or `None` exactly where none is left. `from` is the line's first place,
-/// or the place after its token before: what stands in front of it isn't looked at. A line is cut into tokens at spaces and
-/// tabs, up to its first `;`.
+/// The next token of a line from the place `from` on, with only blanks in between, or `None` exactly where none is left.
+/// `from` is the line's first place, or the place after its token before: what stands in front of it isn't looked at. A
+/// line is cut into tokens at spaces and tabs, up to its first `;`.
 pub fn next_token(source: &[u8], line: &Line, from: usize) -> Option<Token>
     requires span { LiesIn source.now line.now }
     requires place { (line.now.from ≤ from) × (from ≤ line.now.to) }
@@ -69,6 +70,7 @@ pub fn next_token(source: &[u8], line: &Line, from: usize) -> Option<Token>
         (λ token. left from ≡ slice_range source.now token.from token.to ∷ left token.to) }
     ensures places { IfSome result (λ token.
         (from ≤ token.from) × (token.from < token.to) × (token.to ≤ line.now.to)) }
+    ensures blanks { IfSome result (λ token. AreBlanks (slice_range source.now from token.from)) }
 {
     match first_token(&source[from..line.to]) {
         None => None,
