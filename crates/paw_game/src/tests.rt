@@ -141,6 +141,15 @@ fn talks_much(alloc: Global) -> Result<GameParts, AllocError> {
     Ok(parts)
 }
 
+/// The small game with two bad messages behind a good one, and a bad object in an earlier row.
+fn broken_twice(alloc: Global) -> Result<GameParts, AllocError> {
+    let mut parts = broken(alloc, GamePart::Objects)?;
+    for line in [b"Go.".as_slice(), b"/Stay.", b";"] {
+        parts.messages.push(text(alloc, line)?)?;
+    }
+    Ok(parts)
+}
+
 #[test]
 fn names_the_first_fault(rt: HostRuntime) -> Result<(), Fail> {
     let alloc = rt.alloc();
@@ -164,6 +173,13 @@ fn names_limits_and_places(rt: HostRuntime) -> Result<(), Fail> {
     let alloc = rt.alloc();
     assert_eq!(rt; fault(leads_nowhere(alloc)?), Some((GamePart::Exits, 1)));
     assert_eq!(rt; fault(talks_much(alloc)?), Some((GamePart::Messages, 256)));
+    Ok(())
+}
+
+#[test]
+fn names_the_least_row_of_the_first_part(rt: HostRuntime) -> Result<(), Fail> {
+    let parts = broken_twice(rt.alloc())?;
+    assert_eq!(rt; fault(parts), Some((GamePart::Messages, 2)));
     Ok(())
 }
 
