@@ -490,7 +490,7 @@ SING _ AT 1 GOTO 0 DESC
 /PRO 2
 ";
 
-/// Six objects, and all kinds of words; some of its condacts aren't built.
+/// Six objects, and all kinds of words.
 const HALL: &str = "/VOC
 N 2 noun
 NORTH 2 noun
