@@ -17,12 +17,12 @@ pub record IsFound (verb noun from : ℕ) (es : List Entry) (e : ℕ) : Type 0 w
   pub is : slice_get es (e - from) ≡ Some entry
   pub matching : IsTrue (matches verb noun entry)
 
-found_here : (verb noun from : ℕ) (en : Entry) (es : List Entry) (e : ℕ) → IsTrue (matches verb noun en) → from ≡ e → IsFound verb noun from (en ∷ es) e
+pub found_here : (verb noun from : ℕ) (en : Entry) (es : List Entry) (e : ℕ) → IsTrue (matches verb noun en) → from ≡ e → IsFound verb noun from (en ∷ es) e
 found_here verb noun from en es e m h =
     let first : e - from ≡ 0 = omega arith in
     record { reached = omega arith; entry = en; is = rw first refl; matching = m }
 
-found_later : (verb noun from : ℕ) (en : Entry) (es : List Entry) (e : ℕ) → IsFound verb noun (suc from) es e → IsFound verb noun from (en ∷ es) e
+pub found_later : (verb noun from : ℕ) (en : Entry) (es : List Entry) (e : ℕ) → IsFound verb noun (suc from) es e → IsFound verb noun from (en ∷ es) e
 found_later verb noun from en es e f =
     let later : e - from ≡ suc (e - suc from) = omega (arith, f.reached) in
     record { reached = omega (arith, f.reached); entry = f.entry; is = rw later f.is; matching = f.matching }
@@ -35,7 +35,7 @@ first_match-found verb noun from (en ∷ es) e h =
       | inr m ↦ found_later verb noun from en es e (first_match-found verb noun (suc from) es e (rw m at h))
     ]
 
-slice_get-drop : {X : Type 0} (n : ℕ) (xs : List X) (k : ℕ) → slice_get (drop n xs) k ≡ slice_get xs (n + k)
+pub slice_get-drop : {X : Type 0} (n : ℕ) (xs : List X) (k : ℕ) → slice_get (drop n xs) k ≡ slice_get xs (n + k)
 slice_get-drop zero xs k = rw zero-add refl
 slice_get-drop (suc n) [] k = refl
 slice_get-drop (suc n) (x ∷ xs) k = slice_get-drop n xs k ∙ rw suc-add refl
