@@ -8,24 +8,26 @@ syntax sync fromstart
 syntax match pawsRemark /^;.*$/
 syntax match pawsRemark /;.*$/ contained
 syntax match pawsTextRemark /^;.*$/ contained
-syntax match pawsHeader /^\/\(VOC\|STX\|MTX\|OTX\|LTX\|CON\|OBJ\|PRO\s\+\d\+\)\ze\s*\(;.*\)\?$/ contained
-syntax match pawsItem /^\/\d\+\ze\s*\(;.*\)\?$/ contained
+syntax match pawsHeader /^\/\(VOC\|STX\|MTX\|OTX\|LTX\|CON\|OBJ\|PRO\s\+\d\+\)\ze\s*\(;.*\)\?$/ contained nextgroup=pawsRemark skipwhite
+syntax match pawsItem /^\/\d\+\ze\s*\(;.*\)\?$/ contained nextgroup=pawsRemark skipwhite
 syntax match pawsNumber /\<\d\+\>/ contained
-syntax keyword pawsPlace NOTCREATED WORN CARRIED HERE contained
-syntax match pawsAny /\(^\|\s\)\zs[_*]\ze\(\s\|$\)/ contained
-syntax match pawsFault /\v<(25[6-9]|2[6-9]\d|[3-9]\d\d|0*[1-9]\d{3,})>/ contained
-syntax match pawsNoValue /\v^\w+\s+\zs(0*[01]|255|25[6-9]|2[6-9]\d|[3-9]\d\d|0*[1-9]\d{3,})>/ contained
-syntax match pawsNoWeight /\v^\d+\s+\w+\s+\zs(6[4-9]|[7-9]\d|\d{3,})>/ contained
+syntax keyword pawsPlace NOTCREATED HERE WORN CARRIED contained
+syntax match pawsAny /\(^\|\s\)\@<=[_*]\ze\([ \t;]\|$\)/ contained
+syntax match pawsFault /\v<0*%(25[6-9]|2[6-9]\d|[3-9]\d\d|[1-9]\d{3,})>/ contained
+syntax match pawsTerm /^\s*\zs\w\+/ contained
+syntax match pawsNoValue /\v(^\s*\w+\s+)@<=0*%([01]|25[5-9]|2[6-9]\d|[3-9]\d\d|[1-9]\d{3,})>/ contained
+syntax match pawsNoWeight /\v(^\s*\d+\s+\w+\s+)@<=0*%(6[4-9]|[7-9]\d|[1-9]\d{2,})>/ contained
 syntax match pawsNoText /[^\x20-\x7e]/ contained
 syntax match pawsSubject /_/ contained
 syntax keyword pawsClass verb adverb noun adjective preposition conjunction pronoun contained
-syntax match pawsEntry /^[^;\/ \t]\S*\s\+[^; \t]\+/ contained contains=pawsAny nextgroup=pawsSteps
-
+syntax match pawsKind /\(\d\s\+\)\@<=\(-\|CW\=\|W\)\ze\s/ contained nextgroup=pawsNoun skipwhite
+syntax match pawsNoun /[^; \t]\+\(\s\+[^; \t]\+\)\=/ contained contains=pawsAny
+syntax match pawsEntry /^[^;\/ \t][^; \t]*\s\+[^; \t]\+/ contained contains=pawsAny nextgroup=pawsSteps
+syntax match pawsWord /[^; \t]\+/ contained contains=pawsAny
 syntax keyword pawsCondition contained
-  \ AT NOTAT ATGT ATLT PRESENT ABSENT WORN NOTWORN
-  \ CARRIED NOTCARR CHANCE ZERO NOTZERO EQ NOTEQ GT
-  \ LT SAME NOTSAME ADJECT1 ADVERB PREP NOUN2 ADJECT2
-  \ ISAT ISNOTAT TIMEOUT QUIT MOVE
+  \ AT NOTAT ATGT ATLT PRESENT ABSENT NOTWORN NOTCARR
+  \ CHANCE ZERO NOTZERO EQ NOTEQ GT LT SAME
+  \ NOTSAME ISAT ISNOTAT TIMEOUT QUIT MOVE
 syntax keyword pawsFlow contained
   \ DESC END DONE NOTDONE OK SAVE LOAD PARSE
   \ PROCESS DOALL NEWTEXT RESET
@@ -43,13 +45,19 @@ syntax keyword pawsState contained
   \ RAMSAVE RAMLOAD GOTO SET CLEAR PLUS MINUS LET
   \ ADD SUB RANDOM COPYFF WEIGH WEIGHT ABILITY PROMPT
   \ TIME EXTERN
+syntax keyword pawsAsks contained nextgroup=pawsWord skipwhite
+  \ ADJECT1 ADVERB PREP NOUN2 ADJECT2
+syntax match pawsBoth /\<\(WORN\|CARRIED\)\>\ze\s\+\d/ contained
+syntax match pawsAt /\<\(WORN\|CARRIED\)\>\(\s\+\d\)\@!/ contained
+syntax keyword pawsAt NOTCREATED HERE contained
 
-syntax region pawsWords start=/^\/VOC\>/ end=/^\ze\/\a/ keepend contains=pawsHeader,pawsRemark,pawsNumber,pawsClass,pawsFault,pawsNoValue
-syntax region pawsTexts start=/^\/\(STX\|MTX\|OTX\|LTX\)\>/ end=/^\ze\/\a/ keepend contains=pawsHeader,pawsItem,pawsTextRemark,pawsNoText,pawsSubject
-syntax region pawsExits start=/^\/CON\>/ end=/^\ze\/\a/ keepend contains=pawsHeader,pawsRemark,pawsNumber,pawsItem,pawsFault
-syntax region pawsThings start=/^\/OBJ\>/ end=/^\ze\/\a/ keepend contains=pawsHeader,pawsRemark,pawsNumber,pawsPlace,pawsAny,pawsFault,pawsNoWeight
-syntax match pawsSteps /.*$/ contained contains=pawsCondition,pawsFlow,pawsTelling,pawsThing,pawsMark,pawsState,pawsNumber,pawsPlace,pawsAny,pawsFault,pawsRemark
-syntax match pawsMore /^\s.*$/ contained contains=pawsCondition,pawsFlow,pawsTelling,pawsThing,pawsMark,pawsState,pawsNumber,pawsPlace,pawsAny,pawsFault,pawsRemark
+syntax region pawsWords start=/^\/VOC\>/ end=/^\ze\/\a/ keepend contains=pawsHeader,pawsRemark,pawsNumber,pawsClass,pawsTerm,pawsNoValue
+syntax region pawsTexts start=/^\/\(STX\|MTX\|LTX\)\>/ end=/^\ze\/\a/ keepend contains=pawsHeader,pawsItem,pawsTextRemark,pawsNoText,pawsSubject
+syntax region pawsNames start=/^\/OTX\>/ end=/^\ze\/\a/ keepend contains=pawsHeader,pawsItem,pawsTextRemark,pawsNoText
+syntax region pawsExits start=/^\/CON\>/ end=/^\ze\/\a/ keepend contains=pawsHeader,pawsRemark,pawsTerm,pawsItem,pawsNumber,pawsFault
+syntax region pawsThings start=/^\/OBJ\>/ end=/^\ze\/\a/ keepend contains=pawsHeader,pawsRemark,pawsNumber,pawsKind,pawsPlace,pawsAny,pawsFault,pawsNoWeight
+syntax match pawsSteps /.*$/ contained contains=pawsCondition,pawsFlow,pawsTelling,pawsThing,pawsMark,pawsState,pawsAsks,pawsBoth,pawsAt,pawsNumber,pawsAny,pawsFault,pawsRemark
+syntax match pawsMore /^\s.*$/ contained contains=pawsCondition,pawsFlow,pawsTelling,pawsThing,pawsMark,pawsState,pawsAsks,pawsBoth,pawsAt,pawsNumber,pawsAny,pawsFault,pawsRemark
 syntax region pawsTable start=/^\/PRO\>/ end=/^\ze\/\a/ keepend contains=pawsHeader,pawsRemark,pawsEntry,pawsMore
 
 highlight default link pawsRemark Comment
@@ -58,6 +66,7 @@ highlight default link pawsHeader Title
 highlight default link pawsItem Label
 highlight default link pawsNumber Number
 highlight default link pawsPlace Constant
+highlight default link pawsAt Constant
 highlight default link pawsAny Special
 highlight default link pawsFault Error
 highlight default link pawsNoValue Error
@@ -65,9 +74,16 @@ highlight default link pawsNoWeight Error
 highlight default link pawsNoText Error
 highlight default link pawsSubject Special
 highlight default link pawsClass Type
+highlight default link pawsKind Type
+highlight default link pawsTerm Identifier
 highlight default link pawsEntry Identifier
+highlight default link pawsWord Identifier
+highlight default link pawsNoun Identifier
 highlight default link pawsTexts String
+highlight default link pawsNames String
 highlight default link pawsCondition Conditional
+highlight default link pawsAsks Conditional
+highlight default link pawsBoth Conditional
 highlight default link pawsFlow Statement
 highlight default link pawsTelling Function
 highlight default link pawsThing Operator
