@@ -67,7 +67,7 @@ highlight default link pawsItem Label
 highlight default link pawsNumber Number
 highlight default link pawsPlace Constant
 highlight default link pawsAt Constant
-highlight default link pawsAny Special
+highlight default link pawsAny Delimiter
 highlight default link pawsFault Error
 highlight default link pawsNoValue Error
 highlight default link pawsNoWeight Error
@@ -84,10 +84,10 @@ highlight default link pawsNames String
 highlight default link pawsCondition Conditional
 highlight default link pawsAsks Conditional
 highlight default link pawsBoth Conditional
-highlight default link pawsFlow Statement
-highlight default link pawsTelling Function
-highlight default link pawsThing Operator
-highlight default link pawsMark PreProc
-highlight default link pawsState StorageClass
+highlight default link pawsFlow PreProc
+highlight default link pawsTelling Special
+highlight default link pawsThing Type
+highlight default link pawsMark Underlined
+highlight default link pawsState Function
 
 let b:current_syntax = 'paws'
