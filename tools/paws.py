@@ -209,10 +209,10 @@ class Source:
         self.fault("no %s of the name %s" % (kind, token))
 
     def name(self, value, kind):
-        """The first word with the value, as the canonical source would have it."""
+        """The first word with the value, in the order of the source."""
         kinds = [kind, "noun"] if kind == "verb" else [kind]
         for wanted in kinds:
-            found = sorted(word.letters for word in self.words if word.value == value and word.kind == wanted)
+            found = [word.letters for word in self.words if word.value == value and word.kind == wanted]
             if found:
                 return found[0]
         return {1: "*", 255: "_"}.get(value, str(value))
