@@ -1,14 +1,17 @@
--- What is looked up in order of verb is the first entry that matches.
-use Rattle.std.proofs.Common.{◌≡◌, ℕ, zero, suc, ◌+◌, ◌-◌, ◌*◌, ◌^◌, ◌<◌, ◌≤◌, Bool, true, false, eqb, ltb, List, [], ◌∷◌, ◌++◌, length, get_or, take, drop, min, Option, Some, None, IsTrue, refl, sym, ap, subst, ◌∙◌, inl, inr, zero-add, suc-add, arith}
-use Rattle.std.specs.Prelude.{slice_get, ◌⊎◌}
-use Rattle.std.specs.List.{All, AllWithin}
-use Rattle.std.specs.List.Sorted.{IsPermutation, IsNonDecreasingBy, IsPartitionPoint}
-use Rattle.std.proofs.lemmas.Bool.{cases_Bool, cases_lt, eqb-true, eqb-false, ltb-true, ltb-false, and_parts, false≢true}
-use Rattle.std.proofs.lemmas.List.{take_all, length-drop}
-use Rattle.std.proofs.lemmas.Option.{none-some, same_Some, slice_get_within, get_or_from_slice_get}
+-- What is looked up in order of verb and noun is the first entry that matches.
+use Rattle.std.proofs.Common.{◌≡◌, ℕ, suc, ◌+◌, ◌-◌, ◌<◌, ◌≤◌, ◌&&◌, ◌||◌, Bool, true, false, eqb, ltb, List, [], ◌∷◌, length, get_or, take, drop, min, Option, Some, None, refl, sym, ap, subst, ◌∙◌, inl, inr, arith, length-take, length-drop}
+use Rattle.std.specs.Prelude.{◌⊎◌}
+use Rattle.std.specs.List.{All}
+use Rattle.std.specs.List.Sorted.{IsNonDecreasingBy, IsPartitionPoint, IsPermutation}
+use Rattle.std.proofs.lemmas.Bool.{cases_lt, eqb-true, eq-eqb, ltb-true, ltb-false, and_parts}
+use Rattle.std.proofs.lemmas.List.{get_or-take, get_or-drop, get_or_default}
+use Rattle.std.proofs.lemmas.List.Elements.{All-cons, All-contains, All-take, All-drop}
+use Rattle.std.proofs.lemmas.List.Sorted.{All-permutation, IsNonDecreasingBy-take, IsNonDecreasingBy-drop}
 use Rattle.paw_game.specs.Tables.{is_for}
 use Rattle.paw_image.specs.declared.order.Head.{Head}
-use Rattle.paw_image.specs.Orders.{ranked, rank, IsLeast, HasHead, IsHeadFrom, first_in, lower}
+use Rattle.paw_image.specs.Orders.{ranked, rank, lower, heads_at, AreStarts, IsLeast, IsMatch, IsRun, IsSmall, IsStart, Rises}
+use Rattle.paw_image.proofs.FieldLaws.{IsBytes}
+use Rattle.paw_image.proofs.Stands.{and_true}
 
 -- ---- the first number with a property ----
 
@@ -24,7 +27,7 @@ one_least P (Some e) None h k = absurd (k e h.0)
 one_least P (Some e) (Some f) h k = let same : e ≡ f = omega (arith, h.1 f k.0, k.1 e h.0) in ap Some same
 
 -- the first with one property or the other
-pub lower_least : (P Q : ℕ → Type 0) (r s : Option ℕ) → IsLeast P r → IsLeast Q s → IsLeast (λ e. P e ⊎ Q e) (lower r s)
+lower_least : (P Q : ℕ → Type 0) (r s : Option ℕ) → IsLeast P r → IsLeast Q s → IsLeast (λ e. P e ⊎ Q e) (lower r s)
 lower_least P Q None None h k = λ e either. elim either [ inl p ↦ h e p | inr q ↦ k e q ]
 lower_least P Q None (Some f) h k = (inr k.0, λ e either. elim either [ inl p ↦ absurd (h e p) | inr q ↦ k.1 e q ])
 lower_least P Q (Some e) None h k = (inl h.0, λ f either. elim either [ inl p ↦ h.1 f p | inr q ↦ absurd (k f q) ])
@@ -35,130 +38,203 @@ lower_least P Q (Some e) (Some f) h k =
     ] in
     (either_one, λ g either. elim either [ inl p ↦ omega (arith, h.1 g p) | inr q ↦ omega (arith, k.1 g q) ])
 
+-- ---- one test or another ----
+
+or_left : (a b : Bool) → a ≡ true → (a || b) ≡ true
+or_left a b e = rw e refl
+
+or_right : (a b : Bool) → b ≡ true → (a || b) ≡ true
+or_right true b e = refl
+or_right false b e = e
+
+or_cases : (a b : Bool) → (a || b) ≡ true → (a ≡ true) ⊎ (b ≡ true)
+or_cases true b e = inl refl
+or_cases false b e = inr e
+
+IsMatch-other : (heads : List Head) (p q : Head → Bool) → ((h : Head) → p h ≡ true → q h ≡ true) → (from e : ℕ) → IsMatch heads p from e → IsMatch heads q from e
+IsMatch-other heads p q weaker from e m = record { reached = m.reached; head = m.head; is = m.is; number = m.number; matching = weaker m.head m.matching }
+
+-- the first of a head that passes one test or the other
+pub either_least : (heads : List Head) (p q : Head → Bool) (from : ℕ) (r s : Option ℕ) → IsLeast (IsMatch heads p from) r → IsLeast (IsMatch heads q from) s
+    → IsLeast (IsMatch heads (λ h. p h || q h) from) (lower r s)
+either_least heads p q from r s h k =
+    IsLeast-same (λ e. IsMatch heads p from e ⊎ IsMatch heads q from e) (IsMatch heads (λ x. p x || q x) from)
+    (λ e either. elim either [
+      | inl m ↦ IsMatch-other heads p (λ x. p x || q x) (λ x t. or_left (p x) (q x) t) from e m
+      | inr m ↦ IsMatch-other heads q (λ x. p x || q x) (λ x t. or_right (p x) (q x) t) from e m
+    ])
+    (λ e m. elim (or_cases (p m.head) (q m.head) m.matching) [
+      | inl t ↦ inl (record { reached = m.reached; head = m.head; is = m.is; number = m.number; matching = t })
+      | inr t ↦ inr (record { reached = m.reached; head = m.head; is = m.is; number = m.number; matching = t })
+    ])
+    (lower r s) (lower_least (IsMatch heads p from) (IsMatch heads q from) r s h k)
+
 -- ---- heads that rise ----
 
-Rising : List Head → Type 0
-Rising hs = (i j : ℕ) (x y : Head) → i ≤ j → slice_get hs i ≡ Some x → slice_get hs j ≡ Some y → rank x ≤ rank y
+heads_small : (bytes : List ℕ) (n : ℕ) (ps : List ℕ) → IsBytes bytes → n + length ps ≤ 65536 → All IsSmall (heads_at bytes n ps)
+heads_small bytes n [] fits few = λ k d lt. absurd (omega arith)
+heads_small bytes n (p ∷ ps) fits few =
+    All-cons IsSmall _ (heads_at bytes (suc n) ps) (fits (p + 1), omega arith) (heads_small bytes (suc n) ps fits (omega arith))
 
-Small : List Head → Type 0
-Small hs = (i : ℕ) (x : Head) → slice_get hs i ≡ Some x → x.entry < 2 ^ 16
+pub heads_long : (bytes : List ℕ) (n : ℕ) (ps : List ℕ) → length (heads_at bytes n ps) ≡ length ps
+heads_long bytes n [] = refl
+heads_long bytes n (p ∷ ps) = ap suc (heads_long bytes (suc n) ps)
 
-NotBelow : ℕ → List Head → Type 0
-NotBelow least hs = (i : ℕ) (x : Head) → slice_get hs i ≡ Some x → least ≤ rank x
+-- the heads at these places, in order, rise
+pub sorted_rise : (bytes places : List ℕ) (heads : List Head) → IsBytes bytes → length places ≤ 4000 → IsPermutation (heads_at bytes 0 places) heads → IsNonDecreasingBy rank heads → Rises heads
+sorted_rise bytes places heads fits few same rises =
+    record { small = All-permutation IsSmall (heads_at bytes 0 places) heads same (heads_small bytes 0 places fits (omega arith)); rises = rises }
 
-later_head : (h : Head) (hs : List Head) (verb noun e : ℕ) → HasHead hs verb noun e → HasHead (h ∷ hs) verb noun e
-later_head h hs verb noun e p = record { at = suc p.at; head = p.head; is = p.is; same_verb = p.same_verb; same_entry = p.same_entry; matching = p.matching }
+-- ---- where the heads of a verb begin ----
 
--- a head of the list is the first, or one of the others
-here_or_later : (h : Head) (hs : List Head) (verb noun e k : ℕ) (x : Head) → slice_get (h ∷ hs) k ≡ Some x → x.verb ≡ verb → x.entry ≡ e → IsTrue (is_for x.noun noun) → (h ≡ x) ⊎ HasHead hs verb noun e
-here_or_later h hs verb noun e zero x is v n m = inl (same_Some h x is)
-here_or_later h hs verb noun e (suc k) x is v n m = inr (record { at = k; head = x; is = is; same_verb = v; same_entry = n; matching = m })
+pub verbs_rise : (heads : List Head) → Rises heads → IsNonDecreasingBy (λ h. h.verb) heads
+verbs_rise heads r i j d le lt =
+    let small = r.small i d (omega arith) in
+    let small_too = r.small j d lt in
+    omega (arith, r.rises i j d le lt, small.0, small.1, small_too.0, small_too.1)
 
-Rising-rest : (h : Head) (hs : List Head) → Rising (h ∷ hs) → Rising hs
-unfolding Rising
-Rising-rest h hs r = λ i j x y le p q. r (suc i) (suc j) x y (omega arith) p q
+pub start_is : (heads : List Head) (verb start : ℕ) → start ≤ length heads → IsPartitionPoint (λ h. ltb h.verb verb ≡ true) (λ h. ltb h.verb verb ≡ false) heads start → IsStart heads verb start
+start_is heads verb start within parted =
+    record { within = within; parts = (λ k d low high. ltb-true _ verb (parted.0 k d low high), λ k d low high. ltb-false _ verb (parted.1 k d low high)) }
 
-Small-rest : (h : Head) (hs : List Head) → Small (h ∷ hs) → Small hs
-unfolding Small
-Small-rest h hs s = λ i x p. s (suc i) x p
+pub start_at : (heads : List Head) (starts : List ℕ) → AreStarts heads starts → (verb start : ℕ) → verb ≤ 256 → start ≡ get_or starts verb start → IsStart heads verb start
+start_at heads starts a verb start le e =
+    subst (IsStart heads verb) (get_or_default starts verb 0 start (omega (arith, a.long)) ∙ sym e) (a.each verb le)
 
-NotBelow-rest : (least : ℕ) (h : Head) (hs : List Head) → NotBelow least (h ∷ hs) → NotBelow least hs
-unfolding NotBelow
-NotBelow-rest least h hs s = λ i x p. s (suc i) x p
-
--- the first head, where it has the verb and matches
-here_least : (verb from noun : ℕ) (h : Head) (hs : List Head) → Rising (h ∷ hs) → Small (h ∷ hs) → NotBelow (ranked verb from) (h ∷ hs) → h.verb ≡ verb → is_for h.noun noun ≡ true → IsLeast (IsHeadFrom (h ∷ hs) verb from noun) (Some h.entry)
-unfolding Rising Small NotBelow
-here_least verb from noun h hs r s n v m =
-    let low : ranked verb from ≤ rank h = n 0 h refl in (
-      (omega (arith, low, v), record { at = 0; head = h; is = refl; same_verb = v; same_entry = refl; matching = m }),
-      λ f p. let up : rank h ≤ rank p.1.head = r 0 p.1.at h p.1.head (omega arith) refl p.1.is in omega (arith, up, v, p.1.same_verb, p.1.same_entry),
-    )
-
--- where the first head has another verb, none of them has this one
-past_all : (verb from noun : ℕ) (h : Head) (hs : List Head) → Rising (h ∷ hs) → Small (h ∷ hs) → NotBelow (ranked verb from) (h ∷ hs) → (h.verb ≡ verb → ⊥) → (e : ℕ) → IsHeadFrom (h ∷ hs) verb from noun e → ⊥
-unfolding Rising Small NotBelow
-past_all verb from noun h hs r s n other e p =
-    let low : ranked verb from ≤ rank h = n 0 h refl in
-    let up : rank h ≤ rank p.1.head = r 0 p.1.at h p.1.head (omega arith) refl p.1.is in
-    let small : h.entry < 65536 = s 0 h refl in
-    let small_too : p.1.head.entry < 65536 = s p.1.at p.1.head p.1.is in
-    omega (arith, low, up, small, small_too, other, p.1.same_verb)
-
--- among heads that rise, the first with this verb whose noun matches is that of the least entry
-least_in : (verb from noun : ℕ) (hs : List Head) → Rising hs → Small hs → NotBelow (ranked verb from) hs → IsLeast (IsHeadFrom hs verb from noun) (first_in verb noun hs)
-unfolding Rising Small NotBelow
-least_in verb from noun [] r s n = λ e p. none-some p.1.head p.1.is
-least_in verb from noun (h ∷ hs) r s n =
-    elim (cases_Bool (eqb h.verb verb)) [
-      | inl same ↦
-          let v : h.verb ≡ verb = eqb-true h.verb verb same in
-          elim (cases_Bool (is_for h.noun noun)) [
-            | inl m ↦ rw (same, m) (here_least verb from noun h hs r s n v m)
-            | inr m ↦
-                let later = least_in verb from noun hs (Rising-rest h hs r) (Small-rest h hs s) (NotBelow-rest (ranked verb from) h hs n) in
-                rw (same, m) (IsLeast-same (IsHeadFrom hs verb from noun) (IsHeadFrom (h ∷ hs) verb from noun)
-                (λ e p. (p.0, later_head h hs verb noun e p.1))
-                (λ e p. (
-                  p.0,
-                  elim (here_or_later h hs verb noun e p.1.at p.1.head p.1.is p.1.same_verb p.1.same_entry p.1.matching) [
-                    | inl here ↦ absurd (false≢true (sym m ∙ ap (λ (x : Head). is_for x.noun noun) here ∙ p.1.matching))
-                    | inr q ↦ q
-                  ],
-                ))
-                (first_in verb noun hs) later)
-          ]
-      | inr other ↦ rw other (λ e p. past_all verb from noun h hs r s n (eqb-false h.verb verb other) e p)
+-- the heads of a verb end where those of the next one begin
+pub starts_rise : (heads : List Head) (verb start end : ℕ) → IsStart heads verb start → IsStart heads (verb + 1) end → start ≤ end
+starts_rise heads verb start end s e =
+    let d : Head = record { verb = 0; noun = 0; entry = 0 } in
+    elim (cases_lt end start) [
+      | inl before ↦ absurd (omega (arith, s.parts.0 end d (omega arith) before, e.parts.1 end d (omega arith) (omega (arith, s.within))))
+      | inr le ↦ le
     ]
 
--- ---- the whole order ----
+module _ (heads : List Head) (r : Rises heads) (verb start end : ℕ) (s : IsStart heads verb start) (e : IsStart heads (verb + 1) end) where
+  run : List Head
+  run = take (end - start) (drop start heads)
 
-pub slice_get-drop : {X : Type 0} (n : ℕ) (xs : List X) (k : ℕ) → slice_get (drop n xs) k ≡ slice_get xs (n + k)
-slice_get-drop zero xs k = rw zero-add refl
-slice_get-drop (suc n) [] k = refl
-slice_get-drop (suc n) (x ∷ xs) k = slice_get-drop n xs k ∙ rw suc-add refl
+  in_run : (k : ℕ) (d : Head) → k < length run → (start + k < end) × (get_or run k d ≡ get_or heads (start + k) d)
+  unfolding run
+  in_run k d lt =
+      let long = length-take (end - start) (drop start heads) in
+      (omega (arith, long), get_or-take (end - start) (drop start heads) k d (omega (arith, long)) ∙ get_or-drop start heads k d)
 
-rising_from : (order : List Head) (start : ℕ) → IsNonDecreasingBy rank order → Rising (drop start order)
-unfolding Rising
-rising_from order start up = λ i j x y le p q.
-    let px = sym (slice_get-drop start order i) ∙ p in
-    let qy = sym (slice_get-drop start order j) ∙ q in
-    rw (get_or_from_slice_get order (start + i) x x px, get_or_from_slice_get order (start + j) y x qy) at (up (start + i) (start + j) x (omega arith) (slice_get_within order (start + j) y qy))
+  pub run_is : IsRun heads verb (take (end - start) (drop start heads))
+  unfolding run
+  run_is = record {
+    rises = record {
+      small = All-take IsSmall (end - start) (drop start heads) (All-drop IsSmall start heads r.small);
+      rises = IsNonDecreasingBy-take rank (end - start) (drop start heads) (IsNonDecreasingBy-drop rank start heads r.rises);
+    };
+    verbs = λ k d lt.
+        let here = in_run k d lt in
+        rw here.1 (omega (arith, s.parts.1 (start + k) d (omega arith) (omega (arith, here.0, e.within)), e.parts.0 (start + k) d (omega arith) here.0));
+    inside = λ h p. let here = in_run p.0 h p.1 in (start + p.0, omega (arith, here.0, e.within), sym here.1 ∙ p.2);
+    whole = λ h p v.
+        let above : start ≤ p.0 = elim (cases_lt p.0 start) [
+          | inl before ↦ absurd (omega (arith, rw p.2 at (s.parts.0 p.0 h (omega arith) before), v))
+          | inr le ↦ le
+        ] in
+        let below : p.0 < end = elim (cases_lt p.0 end) [
+          | inl lt ↦ lt
+          | inr past ↦ absurd (omega (arith, rw p.2 at (e.parts.1 p.0 h past p.1), v))
+        ] in
+        let long = length-take (end - start) (drop start heads) in
+        let rest = length-drop start heads in
+        let place : start + (p.0 - start) ≡ p.0 = omega (arith, above) in (
+          p.0 - start,
+          omega (arith, long, rest, above, below, e.within),
+          get_or-take (end - start) (drop start heads) (p.0 - start) h (omega (arith, above, below)) ∙ get_or-drop start heads (p.0 - start) h ∙ ap (λ (i : ℕ). get_or heads i h) place ∙ p.2,
+        );
+  }
 
-small_from : (order : List Head) (start : ℕ) → All (λ h. h.entry < 2 ^ 16) order → Small (drop start order)
-unfolding Small
-small_from order start all = λ i x p.
-    let px = sym (slice_get-drop start order i) ∙ p in
-    rw (get_or_from_slice_get order (start + i) x x px) at (all (start + i) x (slice_get_within order (start + i) x px))
+-- ---- in the run of a verb ----
 
-not_below_from : (order : List Head) (start least : ℕ) → AllWithin (λ y. ltb (rank y) least ≡ false) order start (length order) → NotBelow least (drop start order)
-unfolding NotBelow
-not_below_from order start least past = λ i x p.
-    let px = sym (slice_get-drop start order i) ∙ p in
-    ltb-false (rank x) least (rw (get_or_from_slice_get order (start + i) x x px) at (past (start + i) x (omega arith) (slice_get_within order (start + i) x px)))
-
-pub first_for_least : (order : List Head) (verb from noun start : ℕ) → IsNonDecreasingBy rank order → All (λ h. h.entry < 2 ^ 16) order
-    → IsPartitionPoint (λ y. ltb (rank y) (ranked verb from) ≡ true) (λ y. ltb (rank y) (ranked verb from) ≡ false) order start
-    → IsLeast (IsHeadFrom order verb from noun) (first_in verb noun (drop start order))
-first_for_least order verb from noun start up small parted =
-    let found = least_in verb from noun (drop start order) (rising_from order start up) (small_from order start small) (not_below_from order start (ranked verb from) parted.1) in
-    IsLeast-same (IsHeadFrom (drop start order) verb from noun) (IsHeadFrom order verb from noun)
-    (λ e p. (p.0, record { at = start + p.1.at; head = p.1.head; is = sym (slice_get-drop start order p.1.at) ∙ p.1.is; same_verb = p.1.same_verb; same_entry = p.1.same_entry; matching = p.1.matching }))
-    (λ e p. (
-      p.0,
-      elim (cases_lt p.1.at start) [
+module _ (heads : List Head) (verb noun from at : ℕ) (r : Rises heads) (verbs : All (λ h. h.verb ≡ verb) heads)
+    (parted : IsPartitionPoint (λ h. ltb (rank h) (ranked verb noun from) ≡ true) (λ h. ltb (rank h) (ranked verb noun from) ≡ false) heads at) where
+  -- a match stands not before the place that was searched for
+  pub not_before : (e : ℕ) (m : IsMatch heads (λ h. eqb h.noun noun) from e) → at ≤ m.is.0
+  not_before e m =
+      elim (cases_lt m.is.0 at) [
         | inl before ↦
-            let is = get_or_from_slice_get order p.1.at p.1.head p.1.head p.1.is in
-            let low = ltb-true (rank p.1.head) (ranked verb from) (rw is at (parted.0 p.1.at p.1.head (omega arith) before)) in
-            absurd (omega (arith, low, p.0, p.1.same_verb, p.1.same_entry))
-        | inr le ↦
-            let k = p.1.at - start in
-            let place : start + k ≡ p.1.at = omega (arith, le) in
-            record { at = k; head = p.1.head; is = slice_get-drop start order k ∙ ap (λ (i : ℕ). slice_get order i) place ∙ p.1.is; same_verb = p.1.same_verb; same_entry = p.1.same_entry; matching = p.1.matching }
-      ],
-    ))
-    (first_in verb noun (drop start order)) found
+            let low = ltb-true (rank m.head) (ranked verb noun from) (rw m.is.2 at (parted.0 m.is.0 m.head (omega arith) before)) in
+            let same = All-contains (λ (h : Head). h.verb ≡ verb) heads m.head verbs m.is in
+            absurd (omega (arith, low, same, eqb-true m.head.noun noun m.matching, m.reached, m.number))
+        | inr le ↦ le
+      ]
 
--- the rest of a list, taken whole
-pub whole_drop : {X : Type 0} (n : ℕ) (xs : List X) → take (length xs - n) (drop n xs) ≡ drop n xs
-whole_drop n xs = take_all (length xs - n) (drop n xs) (omega (arith, length-drop n xs))
+  pub none_past : length heads ≤ at → IsLeast (IsMatch heads (λ h. eqb h.noun noun) from) None
+  none_past past = λ e m. omega (arith, not_before e m, m.is.1)
+
+  -- the head there is no later than a match
+  no_later : (h : Head) → at < length heads → h ≡ get_or heads at h → (e : ℕ) (m : IsMatch heads (λ x. eqb x.noun noun) from e) → rank h ≤ rank m.head
+  no_later h lt is e m =
+      let up = r.rises at m.is.0 m.head (not_before e m) m.is.1 in
+      let here : rank h ≡ rank (get_or heads at m.head) = ap rank (is ∙ get_or_default heads at h m.head lt) in
+      let there : rank (get_or heads m.is.0 m.head) ≡ rank m.head = ap rank m.is.2 in
+      omega (arith, up, here, there)
+
+  at_least : (h : Head) → at < length heads → h ≡ get_or heads at h → ranked verb noun from ≤ rank h
+  at_least h lt is = let low = ltb-false _ _ (parted.1 at h (omega arith) lt) in rw (← is) at low
+
+  pub first_is : (h : Head) → at < length heads → h ≡ get_or heads at h → h.noun ≡ noun → IsLeast (IsMatch heads (λ x. eqb x.noun noun) from) (Some h.entry)
+  first_is h lt is same =
+      let here : h.verb ≡ verb = All-contains (λ (x : Head). x.verb ≡ verb) heads h verbs (at, lt, sym is) in (
+        record { reached = omega (arith, at_least h lt is, here, same); head = h; is = (at, lt, sym is); number = refl; matching = eq-eqb h.noun noun same },
+        λ f m.
+            let there = All-contains (λ (x : Head). x.verb ≡ verb) heads m.head verbs m.is in
+            omega (arith, no_later h lt is f m, here, same, there, eqb-true m.head.noun noun m.matching, m.number),
+      )
+
+  pub other_is : (h : Head) → at < length heads → h ≡ get_or heads at h → (h.noun ≡ noun → ⊥) → IsLeast (IsMatch heads (λ x. eqb x.noun noun) from) None
+  other_is h lt is other = λ e m.
+      let here = All-contains (λ (x : Head). x.verb ≡ verb) heads h verbs (at, lt, sym is) in
+      let there = All-contains (λ (x : Head). x.verb ≡ verb) heads m.head verbs m.is in
+      let small = All-contains IsSmall heads h r.small (at, lt, sym is) in
+      let small_too = All-contains IsSmall heads m.head r.small m.is in
+      let same : h.noun ≡ noun = omega (arith, at_least h lt is, no_later h lt is e m, here, there, eqb-true m.head.noun noun m.matching, small.1, small_too.1) in
+      other same
+
+-- ---- in the whole order ----
+
+pub least_in_run : (heads run : List Head) (verb noun from : ℕ) → IsRun heads verb run → (r : Option ℕ) → IsLeast (IsMatch run (λ h. is_for h.noun noun) from) r
+    → IsLeast (IsMatch heads (λ h. eqb h.verb verb && is_for h.noun noun) from) r
+least_in_run heads run verb noun from is r least =
+    IsLeast-same (IsMatch run (λ h. is_for h.noun noun) from) (IsMatch heads (λ h. eqb h.verb verb && is_for h.noun noun) from)
+    (λ e m. record {
+      reached = m.reached;
+      head = m.head;
+      is = is.inside m.head m.is;
+      number = m.number;
+      matching = and_true (eqb m.head.verb verb) (is_for m.head.noun noun) (eq-eqb m.head.verb verb (All-contains (λ (x : Head). x.verb ≡ verb) run m.head is.verbs m.is)) m.matching;
+    })
+    (λ e m.
+    let both = and_parts (eqb m.head.verb verb) (is_for m.head.noun noun) m.matching in
+    record { reached = m.reached; head = m.head; is = is.whole m.head m.is (eqb-true m.head.verb verb both.0); number = m.number; matching = both.1 })
+    r least
+
+one_of_three : (a b c m : Bool) → ((a && m) || ((b && m) || (c && m))) ≡ ((a || (b || c)) && m)
+one_of_three true b c true = refl
+one_of_three true true true false = refl
+one_of_three true true false false = refl
+one_of_three true false true false = refl
+one_of_three true false false false = refl
+one_of_three false true c true = refl
+one_of_three false true true false = refl
+one_of_three false true false false = refl
+one_of_three false false true m = refl
+one_of_three false false false m = refl
+
+-- an entry's verb matches where it is any verb, none, or this one
+pub least_of_three : (heads : List Head) (verb noun from : ℕ) (any none same : Option ℕ) → IsLeast (IsMatch heads (λ h. eqb h.verb 1 && is_for h.noun noun) from) any
+    → IsLeast (IsMatch heads (λ h. eqb h.verb 255 && is_for h.noun noun) from) none → IsLeast (IsMatch heads (λ h. eqb h.verb verb && is_for h.noun noun) from) same
+    → IsLeast (IsMatch heads (λ h. is_for h.verb verb && is_for h.noun noun) from) (lower any (lower none same))
+least_of_three heads verb noun from any none same a n s =
+    let with = λ (w : ℕ) (h : Head). eqb h.verb w && is_for h.noun noun in
+    let either = λ (h : Head). with 1 h || (with 255 h || with verb h) in
+    let whole = λ (h : Head). is_for h.verb verb && is_for h.noun noun in
+    let is = λ (h : Head). one_of_three (eqb h.verb 1) (eqb h.verb 255) (eqb h.verb verb) (is_for h.noun noun) in
+    IsLeast-same (IsMatch heads either from) (IsMatch heads whole from) (λ e m. IsMatch-other heads either whole (λ h t. sym (is h) ∙ t) from e m) (λ e m. IsMatch-other heads whole either (λ h t. is h ∙ t) from e m)
+    (lower any (lower none same))
+    (either_least heads (with 1) (λ h. with 255 h || with verb h) from any (lower none same) a (either_least heads (with 255) (with verb) from none same n s))

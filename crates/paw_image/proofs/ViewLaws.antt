@@ -1,28 +1,26 @@
 -- What a view keeps, and what its look-ups answer.
-use Rattle.std.proofs.Common.{◌≡◌, ℕ, zero, suc, ◌+◌, ◌<◌, ◌≤◌, List, [], ◌∷◌, ◌++◌, length, drop, Option, Some, None, Result, Ok, Err, IsTrue, refl, sym, ap, subst, ◌∙◌, inl, inr, arith}
+use Rattle.std.proofs.Common.{◌≡◌, ℕ, zero, suc, ◌+◌, ◌≤◌, ◌&&◌, List, [], length, drop, Option, Some, None, Ok, refl, sym, ap, subst, ◌∙◌}
 use Rattle.std.specs.Prelude.{slice_get}
-use Rattle.std.specs.List.{flat_map, All, AllByRecursion}
+use Rattle.std.specs.List.{AllByRecursion}
 use Rattle.std.specs.Option.{option_map}
-use Rattle.std.proofs.lemmas.Bool.{cases_lt, le-ltb, lt-ltb}
-use Rattle.std.proofs.lemmas.Option.{none-some, same_Some, slice_get-map}
+use Rattle.std.proofs.lemmas.Bool.{le-ltb}
+use Rattle.std.proofs.lemmas.Option.{none-some, slice_get-map}
 use Rattle.paw_base.specs.declared.parts.Counts.{Counts}
-use Rattle.paw_base.specs.declared.parts.Condact.{Condact}
 use Rattle.paw_game.specs.declared.parts.Word.{Word}
 use Rattle.paw_game.specs.declared.parts.Entry.{Entry}
 use Rattle.paw_game.specs.declared.parts.GamePart.{GamePart}
 use Rattle.paw_game.specs.Game.{GameLists}
-use Rattle.paw_game.specs.Valid.{Valid}
 use Rattle.paw_game.specs.Image.{entry_image}
-use Rattle.paw_game.specs.Tables.{counts_of, text_at, or_empty, head_at, condact_at, entry_at, match_at}
-use Rattle.paw_image.specs.Damage.{Declared, front, after_all, bad}
+use Rattle.paw_game.specs.Tables.{text_at, or_empty, head_at, condact_at, entry_at, match_at, is_for}
+use Rattle.paw_image.specs.Damage.{Declared, after_all, bad}
 use Rattle.paw_image.specs.Images.{IsImage, AtDamage}
-use Rattle.paw_image.specs.Orders.{IsOrder, IsLeast, IsMatchIn}
-use Rattle.paw_image.specs.Places.{places, entry_places, entries_of, AreGoneOver, IsPassed}
+use Rattle.paw_image.specs.Orders.{IsOrder, IsLeast, IsMatch}
+use Rattle.paw_image.specs.Places.{entry_places, entries_of, IsPassed}
 use Rattle.paw_image.specs.Reading as reading
 use Rattle.paw_image.specs.Reading.{all_of}
 use Rattle.paw_image.specs.Rows.{value_of, head_here, nth_condact, entry_here}
 use Rattle.paw_image.specs.Sizes.{FitsGame, FitsCondact, FitsEntry, FitsTable}
-use Rattle.paw_image.specs.Views.{game_of, rows_begin, system_begins, tables_begin_at, spanned, span_at, AreOrdered, IsIndex}
+use Rattle.paw_image.specs.Views.{game_of, rows_begin, tables_begin_at, span_at, IsIndex}
 use Rattle.paw_image.specs.declared.TheConstants.{IMAGE_LIMIT}
 use Rattle.paw_image.specs.declared.places.Places.{Places}
 use Rattle.paw_image.specs.declared.places.TableIndex.{TableIndex}
@@ -31,9 +29,9 @@ use Rattle.paw_image.specs.declared.refusal.ImageRefusal.TheVariants as refusal
 use Rattle.paw_image.proofs.FieldLaws.{IsBytes}
 use Rattle.paw_image.proofs.GameLaws.{all_takes}
 use Rattle.paw_image.proofs.MatchLaws.{next_match_is}
-use Rattle.paw_image.proofs.PlaceLaws.{all_at, ListsAt, lists_lie, RowAt, TableAt, table_lies, no_table, entry_lies, no_entry, text_of_part, no_text_of_part, head_there, condact_there, entry_bytes_there}
+use Rattle.paw_image.proofs.PlaceLaws.{all_at, ListsAt, lists_lie, RowAt, table_lies, no_table, entry_lies, no_entry, text_of_part, head_there, condact_there, entry_bytes_there}
 use Rattle.paw_image.proofs.ValidLaws.{valid_fits}
-use Rattle.paw_image.proofs.WholeLaws.{IsWhole, StandAt, all_sound, nothing_left, image_is_whole}
+use Rattle.paw_image.proofs.WholeLaws.{all_sound, nothing_left, image_is_whole}
 
 -- ---- the index ----
 
@@ -122,8 +120,8 @@ drop_nothing : (n : ℕ) → drop {A = Entry} n [] ≡ []
 drop_nothing zero = refl
 drop_nothing (suc n) = refl
 
-pub ordered_at : (bytes : List ℕ) (ts : List TableIndex) (k : ℕ) (t : TableIndex) → AllByRecursion (λ x. IsOrder bytes x.entries.items x.order.items) ts → slice_get ts k ≡ Some t → IsOrder bytes t.entries.items t.order.items
-ordered_at bytes ts k t h e = all_at (λ (x : TableIndex). IsOrder bytes x.entries.items x.order.items) ts k t h e
+pub ordered_at : (bytes : List ℕ) (ts : List TableIndex) (k : ℕ) (t : TableIndex) → AllByRecursion (λ x. IsOrder bytes x.entries.items x.order) ts → slice_get ts k ≡ Some t → IsOrder bytes t.entries.items t.order
+ordered_at bytes ts k t h e = all_at (λ (x : TableIndex). IsOrder bytes x.entries.items x.order) ts k t h e
 
 -- the entries kept of a table are where its entries begin
 entries_at : (ts : List TableIndex) (k : ℕ) (t : TableIndex) (ps : List (List ℕ)) → entries_of ts ≡ ps → slice_get ts k ≡ Some t → slice_get ps k ≡ Some t.entries.items
@@ -133,11 +131,11 @@ no_entries_at : (ts : List TableIndex) (k : ℕ) (ps : List (List ℕ)) → entr
 no_entries_at ts k ps e h = ap (λ (l : List (List ℕ)). slice_get l k) (sym e) ∙ slice_get-map (λ (x : TableIndex). x.entries.items) ts k ∙ rw h refl
 
 pub match_read : (bytes : List ℕ) (counts : Counts) (words : List Word) (p : Places) → IsIndex bytes counts words p → (t : ℕ) (i : TableIndex) → slice_get p.tables.items t ≡ Some i
-    → (from verb noun : ℕ) (r : Option ℕ) → IsLeast (IsMatchIn i.order.items verb from noun) r → r ≡ match_at (game_of bytes) t from verb noun
+    → (from verb noun : ℕ) (r : Option ℕ) → IsLeast (IsMatch i.order.heads.items (λ h. is_for h.verb verb && is_for h.noun noun) from) r → r ≡ match_at (game_of bytes) t from verb noun
 match_read bytes counts words p is t i h from verb noun r least =
     let table = table_lies bytes [] (game_of bytes).tables (tables_begin_at (game_of bytes)) (lists_of bytes is.image).tables t i.entries.items (entries_at p.tables.items t i _ is.tables h) in
-    let order = subst (λ (ps : List ℕ). IsOrder bytes ps i.order.items) table.begin (ordered_at bytes p.tables.items t i is.ordered h) in
-    rw table.is (next_match_is bytes table.after table.rows table.at i.order.items order table.lies verb from noun r least)
+    let order = subst (λ (ps : List ℕ). IsOrder bytes ps i.order) table.begin (ordered_at bytes p.tables.items t i is.ordered h) in
+    rw table.is (next_match_is bytes table.after table.rows table.at i.order order table.lies verb from noun r least)
 
 pub no_match_read : (bytes : List ℕ) (counts : Counts) (words : List Word) (p : Places) → IsIndex bytes counts words p → (t : ℕ) → slice_get p.tables.items t ≡ None → (from verb noun : ℕ) → match_at (game_of bytes) t from verb noun ≡ None
 no_match_read bytes counts words p is t h from verb noun =

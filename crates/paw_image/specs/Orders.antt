@@ -1,59 +1,80 @@
--- The entries of a table in order of verb, and what is looked up in it.
-use Rattle.std.specs.Prelude.{◌≡◌, ◌⊎◌, ℕ, suc, ◌+◌, ◌*◌, ◌≤◌, ◌==◌, List, [], ◌∷◌, length, Option, Some, None, IsTrue, slice_get, slice_index, min, if◌then◌else◌}
-use Rattle.std.specs.List.Sorted.{IsPermutation, IsNonDecreasingBy}
+-- The entries of a table in order of verb and noun, and what is looked up in it.
+use Rattle.std.specs.Prelude.{◌≡◌, ℕ, suc, ◌+◌, ◌*◌, ◌≤◌, ◌<◌, Bool, List, [], ◌∷◌, length, Option, Some, None, IsTrue, slice_index, min}
+use Rattle.std.specs.List.{All, Contains}
+use Rattle.std.specs.List.Sorted.{IsPermutation, IsNonDecreasingBy, IsPartitionPoint}
 use Rattle.paw_game.specs.declared.parts.Entry.{Entry}
-use Rattle.paw_game.specs.Tables.{is_for}
 use Rattle.paw_image.specs.declared.order.Head.{Head}
+use Rattle.paw_image.specs.declared.order.Order.{Order}
 
 -- the verb and the noun at each of these places, numbered from n on
 abbrev pub heads_at : List ℕ → ℕ → List ℕ → List Head
 heads_at bytes n [] = []
-heads_at bytes n (p ∷ ps) = record { verb = slice_index bytes p; noun = slice_index bytes (p + 1); entry = n } ∷ heads_at bytes (suc n) ps
+heads_at bytes n (p ∷ ps) =
+    record { verb = slice_index bytes p; noun = slice_index bytes (p + 1); entry = n } ∷ heads_at bytes (suc n) ps
 
 -- the same of entries
 abbrev pub heads_of : ℕ → List Entry → List Head
 heads_of n [] = []
 heads_of n (e ∷ es) = record { verb = e.verb; noun = e.noun; entry = n } ∷ heads_of (suc n) es
 
--- a verb before a number of an entry
-abbrev pub ranked : ℕ → ℕ → ℕ
-ranked verb entry = verb * 65536 + entry
+-- ---- the order ----
+
+-- a verb before a noun before a number of an entry
+abbrev pub ranked : ℕ → ℕ → ℕ → ℕ
+ranked verb noun entry = (verb * 256 + noun) * 65536 + entry
 
 abbrev pub rank : Head → ℕ
-rank h = ranked h.verb h.entry
+rank h = ranked h.verb h.noun h.entry
 
--- the heads at these places, in order of verb and then of number
-pub record IsOrder (bytes places : List ℕ) (order : List Head) : Type 0 where
-  pub few : length places ≤ 4000
-  pub same : IsPermutation (heads_at bytes 0 places) order
-  pub rises : IsNonDecreasingBy rank order
+-- a noun is a byte, and a number of an entry two bytes: so a rank tells all three
+abbrev pub IsSmall : Head → Type 0
+IsSmall h = (h.noun < 256) × (h.entry < 65536)
+
+-- heads in order of verb, noun and number
+pub record Rises (heads : List Head) : Type 0 where
+  pub small : All IsSmall heads
+  pub rises : IsNonDecreasingBy rank heads
+
+-- before this place stand the heads with a verb below this one, and no others
+pub record IsStart (heads : List Head) (verb start : ℕ) : Type 0 where
+  pub within : start ≤ length heads
+  pub parts : IsPartitionPoint (λ h. h.verb < verb) (λ h. verb ≤ h.verb) heads start
+
+-- such a place for each verb, and one behind the last
+pub record AreStarts (heads : List Head) (starts : List ℕ) : Type 0 where
+  pub long : length starts ≡ 257
+  pub each : (verb : ℕ) → verb ≤ 256 → IsStart heads verb (slice_index starts verb)
+
+pub record IsSorted (order : Order) : Type 0 where
+  pub heads : Rises order.heads.items
+  pub starts : AreStarts order.heads.items order.starts.items
+
+-- the heads at these places, sorted
+pub record IsOrder (bytes places : List ℕ) (order : Order) : Type 0 where
+  pub same : IsPermutation (heads_at bytes 0 places) order.heads.items
+  pub sorted : IsSorted order
+
+-- the heads with this verb, in order
+pub record IsRun (heads : List Head) (verb : ℕ) (run : List Head) : Type 0 where
+  pub rises : Rises run
+  pub verbs : All (λ h. h.verb ≡ verb) run
+  pub inside : (h : Head) → Contains run h → Contains heads h
+  pub whole : (h : Head) → Contains heads h → h.verb ≡ verb → Contains run h
+
+-- ---- what is looked up ----
 
 -- the first number with a property; None where no number has it
 abbrev pub IsLeast : (ℕ → Type 0) → Option ℕ → Type 0
 IsLeast P None = (e : ℕ) → P e → ⊥
 IsLeast P (Some e) = P e × ((f : ℕ) → P f → e ≤ f)
 
--- a head with this verb, of this entry, whose noun matches
-pub record HasHead (order : List Head) (verb noun e : ℕ) : Type 0 where
-  pub at : ℕ
+-- an entry not below from, of a head that matches
+pub record IsMatch (heads : List Head) (matches : Head → Bool) (from e : ℕ) : Type 0 where
+  pub reached : from ≤ e
   pub head : Head
-  pub is : slice_get order at ≡ Some head
-  pub same_verb : head.verb ≡ verb
-  pub same_entry : head.entry ≡ e
-  pub matching : IsTrue (is_for head.noun noun)
-
--- such a head of an entry not below from
-abbrev pub IsHeadFrom : List Head → ℕ → ℕ → ℕ → ℕ → Type 0
-IsHeadFrom order verb from noun e = (from ≤ e) × HasHead order verb noun e
-
--- a head with this verb, or one that matches any
-abbrev pub IsMatchIn : List Head → ℕ → ℕ → ℕ → ℕ → Type 0
-IsMatchIn order verb from noun e = (IsHeadFrom order verb from noun e ⊎ IsHeadFrom order 1 from noun e) ⊎ IsHeadFrom order 255 from noun e
-
--- of these heads, while they have this verb, the first whose noun matches
-abbrev pub first_in : ℕ → ℕ → List Head → Option ℕ
-first_in verb noun [] = None
-first_in verb noun (h ∷ hs) = if h.verb == verb then (if is_for h.noun noun then Some h.entry else first_in verb noun hs) else None
+  pub is : Contains heads head
+  pub number : head.entry ≡ e
+  pub matching : IsTrue (matches head)
 
 -- the lower of two numbers, where there are two
 abbrev pub lower : Option ℕ → Option ℕ → Option ℕ

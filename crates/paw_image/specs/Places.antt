@@ -80,4 +80,4 @@ pub record IsPassed (bytes : List ℕ) (counts : Counts) (words : List Word) (p 
   pub rest : List ℕ
   pub declared : front bytes ≡ Ok (record { counts = counts; words = words }, rest)
   pub over : AreGoneOver (record { counts = counts; words = words }) (length bytes) rest p
-  pub order : AllByRecursion (λ t. IsOrder bytes t.entries.items t.order.items) p.tables.items
+  pub order : AllByRecursion (λ t. IsOrder bytes t.entries.items t.order) p.tables.items

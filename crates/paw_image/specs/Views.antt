@@ -1,21 +1,18 @@
 -- The game whose image some bytes are, where its rows stand in them, and what a view keeps of it.
-use Rattle.std.specs.Prelude.{◌≡◌, ℕ, ◌+◌, List, [], ◌∷◌, ◌++◌, length, map, drop, Option, Some, None, Result, Ok, Err, flat_map, slice_get, if◌then◌else◌, ◌==◌, nat_lt, zero, suc}
+use Rattle.std.specs.Prelude.{◌≡◌, ℕ, ◌+◌, List, [], length, Option, Some, None, Result, Ok, Err, flat_map, slice_get}
 use Rattle.std.specs.List.{AllByRecursion}
 use Rattle.paw_base.specs.declared.parts.Counts.{Counts}
 use Rattle.paw_game.specs.declared.parts.Word.{Word}
 use Rattle.paw_game.specs.declared.parts.GamePart.{GamePart}
 use Rattle.paw_game.specs.declared.parts.GamePart.TheVariants as part
 use Rattle.paw_game.specs.Game.{GameLists}
-use Rattle.paw_game.specs.Image.{word_image, text_image, object_image, exits_image, table_image}
+use Rattle.paw_game.specs.Image.{word_image, text_image, object_image, exits_image}
 use Rattle.paw_game.specs.Tables.{counts_of, text_at}
 use Rattle.paw_image.specs.declared.places.Places.{Places}
 use Rattle.paw_image.specs.Images.{IsImage}
 use Rattle.paw_image.specs.Orders.{IsOrder}
 use Rattle.paw_image.specs.Places.{places, entry_places, entries_of}
-use Rattle.paw_image.specs.Reading.{◌>>=◌, Reading, all_of, byte_at, condact_at}
-use Rattle.paw_base.specs.declared.parts.Condact.{Condact}
-use Rattle.paw_base.specs.declared.parts.ObjectFacts.{ObjectFacts}
-use Rattle.paw_game.specs.declared.parts.ObjectRow.{ObjectRow}
+use Rattle.paw_image.specs.Reading.{all_of}
 
 -- the game that was read; one with no rows where none was
 abbrev pub or_no_game : Result GameLists ℕ → GameLists
@@ -68,9 +65,9 @@ span_at g p n = spanned (slice_get (rows_begin g p) n) (text_at g p n)
 
 -- ---- what a view keeps ----
 
--- each table's entries are in order of verb
+-- each table's entries are in order of verb and noun
 abbrev pub AreOrdered : List ℕ → Places → Type 0
-AreOrdered bytes p = AllByRecursion (λ t. IsOrder bytes t.entries.items t.order.items) p.tables.items
+AreOrdered bytes p = AllByRecursion (λ t. IsOrder bytes t.entries.items t.order) p.tables.items
 
 -- bytes that are the image of a game; its counts and words; where its rows begin
 pub record IsIndex (bytes : List ℕ) (counts : Counts) (words : List Word) (p : Places) : Type 0 where

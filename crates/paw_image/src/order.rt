@@ -1,18 +1,17 @@
-// The entries of a table in order of verb.
+// The entries of a table in order of verb and noun.
 
-ghost use Rattle.std.specs.Prelude.{◌≡◌, ◌≤◌, ◌<◌, ◌^◌, IfOk, drop, length, nat_lt, slice_index};
+ghost use Rattle.std.specs.Prelude.{◌≡◌, ◌≤◌, ◌&&◌, ◌==◌, IfOk, IsTrue, drop, length, nat_lt, slice_index};
 ghost use Rattle.std.specs.List.{All};
-ghost use Rattle.std.specs.List.Sorted.{IsNonDecreasingBy};
-ghost use Rattle.paw_image.specs.Orders.{first_in, heads_at, lower, rank, ranked, IsHeadFrom, IsLeast, IsMatchIn, IsOrder};
+ghost use Rattle.std.specs.List.Sorted.{IsPermutation};
+ghost use Rattle.paw_game.specs.Tables.{is_for};
+ghost use Rattle.paw_image.specs.Orders.{heads_at, lower, rank, ranked, AreStarts, IsLeast, IsMatch, IsOrder, IsRun, IsSorted, IsStart, Rises};
 
-use paw_game::lookup::is_for;
+use paw_base::limits::ENTRY_LIMIT;
+use paw_base::words::{ANY_WORD, NO_WORD};
 use std::alloc::{AllocError, Global};
 
-/// The verb of an entry that is for any verb.
-const ANY_VERB: u8 = 1;
-
-/// The verb of an entry that names no verb.
-const NO_VERB: u8 = 255;
+/// One more than the greatest verb.
+const VERB_COUNT: u16 = 256;
 
 /// The verb, the noun and the number of an entry.
 #[derive(Clone, Copy, Drop, PartialEq, Eq, Debug)]
@@ -22,17 +21,25 @@ pub struct Head {
     pub entry: u16,
 }
 
-/// Where an entry comes in order of verb, and then of number.
-fn ranked(verb: u8, entry: u16) -> u32
-    ensures value { result ≡ ranked verb entry }
+/// The heads of a table's entries in order of verb, noun and number.
+#[derive(Drop)]
+pub struct Order {
+    pub heads: Vec<Head>,
+    /// Where the heads of each verb begin, and where those of the last one end.
+    pub starts: Vec<u16>,
+}
+
+/// Where an entry comes in order of verb, noun and number.
+fn ranked(verb: u8, noun: u8, entry: u16) -> u32
+    ensures value { result ≡ ranked verb noun entry }
 {
-    verb as u32 * 65536 + entry as u32
+    (verb as u32 * 256 + noun as u32) * 65536 + entry as u32
 }
 
 fn rank(head: &Head) -> u32
     ensures value { result ≡ rank head.now }
 {
-    ranked(head.verb, head.entry)
+    ranked(head.verb, head.noun, head.entry)
 }
 
 /// The byte at a place; 0 past the end.
@@ -63,48 +70,86 @@ fn heads_at(alloc: Global, bytes: &[u8], places: &[u32]) -> Result<Vec<Head>, Al
     Ok(heads)
 }
 
-/// The heads of the entries that begin at these places, in order of verb and then of number.
-pub fn order_of(alloc: Global, bytes: &[u8], places: &[u32]) -> Result<Vec<Head>, AllocError>
+/// The heads of the entries that begin at these places, in order of verb, noun and number.
+fn sorted_heads(alloc: Global, bytes: &[u8], places: &[u32]) -> Result<Vec<Head>, AllocError>
     requires few { length places.now ≤ 4000 }
-    ensures order { IfOk result (λ v. IsOrder bytes.now places.now v.items) }
+    ensures same { IfOk result (λ v. IsPermutation (heads_at bytes.now 0 places.now) v.items) }
+    ensures rises { IfOk result (λ v. Rises v.items) }
+    ensures few { IfOk result (λ v. length v.items ≤ 4000) }
 {
-    let mut order = heads_at(alloc, bytes, places)?;
-    order.sort_unstable_by_key(
+    let mut heads = heads_at(alloc, bytes, places)?;
+    heads.sort_unstable_by_key(
         |head: &Head| -> u32
             ensures { result ≡ rank head.now }
         { rank(head) },
     );
-    Ok(order)
+    Ok(heads)
 }
 
-/// Of these heads, while they have this verb, the first whose noun matches.
-fn first_in(heads: &[Head], verb: u8, noun: u8) -> Option<u16>
-    ensures value { result ≡ first_in verb noun heads.now }
+/// How many of the heads have a verb below this one.
+fn start_of(heads: &[Head], verb: u16) -> u16
+    requires rises { Rises heads.now }
+    requires few { length heads.now ≤ 4000 }
+    ensures start { IsStart heads.now verb result }
 {
-    for head in heads {
-        if head.verb != verb {
-            return None;
-        }
-        if is_for(head.noun, noun) {
-            return Some(head.entry);
-        }
+    let start = heads.partition_point(
+        |head: &Head| -> bool
+            ensures { result ≡ nat_lt head.now.verb verb }
+        { (head.verb as u16) < verb },
+    );
+    start as u16
+}
+
+/// Where the heads of each verb begin, and where those of the last one end.
+fn starts_of(alloc: Global, heads: &[Head]) -> Result<Vec<u16>, AllocError>
+    requires rises { Rises heads.now }
+    requires few { length heads.now ≤ 4000 }
+    ensures starts { IfOk result (λ v. AreStarts heads.now v.items) }
+{
+    let mut starts = Vec::with_capacity(alloc, VERB_COUNT as usize + 1)?;
+    for verb in 0..=VERB_COUNT {
+        starts.push(start_of(heads, verb))?;
     }
-    None
+    Ok(starts)
 }
 
-/// The least entry not below `from` that has this verb itself, and whose noun matches.
-fn first_for(order: &[Head], verb: u8, from: u16, noun: u8) -> Option<u16>
-    requires rises { IsNonDecreasingBy rank order.now }
-    requires small { All (λ h. h.entry < 2 ^ 16) order.now }
-    ensures least { IsLeast (IsHeadFrom order.now verb from noun) result }
+/// The heads of the entries that begin at these places, in order.
+pub fn order_of(alloc: Global, bytes: &[u8], places: &[u32]) -> Result<Order, AllocError>
+    requires few { length places.now ≤ 4000 }
+    ensures order { IfOk result (λ order. IsOrder bytes.now places.now order) }
 {
-    let least = ranked(verb, from);
-    let start = order.partition_point(
+    let heads = sorted_heads(alloc, bytes, places)?;
+    let starts = starts_of(alloc, &heads)?;
+    Ok(Order { heads, starts })
+}
+
+/// The heads with this verb.
+fn run_of(order: &Order, verb: u8) -> &[Head]
+    requires sorted { IsSorted order.now }
+    ensures run { IsRun order.now.heads.items verb result.now }
+{
+    let verb = verb as usize;
+    let start = order.starts[verb] as usize;
+    let end = order.starts[verb + 1] as usize;
+    &order.heads[start..end]
+}
+
+/// Of heads with one verb, the least entry not below `from` that has this noun itself.
+fn first_with(run: &[Head], verb: u8, noun: u8, from: u16) -> Option<u16>
+    requires rises { Rises run.now }
+    requires verb { All (λ h. h.verb ≡ verb) run.now }
+    ensures least { IsLeast (IsMatch run.now (λ h. h.noun == noun) from) result }
+{
+    let least = ranked(verb, noun, from);
+    let at = run.partition_point(
         |head: &Head| -> bool
             ensures { result ≡ nat_lt (rank head.now) least }
         { rank(head) < least },
     );
-    first_in(&order[start..], verb, noun)
+    match run.get(at) {
+        Some(head) if head.noun == noun => Some(head.entry),
+        _ => None,
+    }
 }
 
 /// The lower of two numbers, where there are two.
@@ -118,15 +163,26 @@ fn lower(first: Option<u16>, second: Option<u16>) -> Option<u16>
     }
 }
 
+/// The least entry not below `from` that has this verb itself, and whose noun matches.
+fn first_for(order: &Order, verb: u8, noun: u8, from: u16) -> Option<u16>
+    requires sorted { IsSorted order.now }
+    ensures least { IsLeast (IsMatch order.now.heads.items (λ h. (h.verb == verb) && is_for h.noun noun) from) result }
+{
+    let run = run_of(order, verb);
+    let any = first_with(run, verb, ANY_WORD, from);
+    let none = first_with(run, verb, NO_WORD, from);
+    let same = first_with(run, verb, noun, from);
+    lower(any, lower(none, same))
+}
+
 /// The least entry not below `from` that matches this verb and noun: of the look-ups for the verb itself and for the
 /// two that match any verb, the least.
-pub fn next_in(order: &[Head], from: u16, verb: u8, noun: u8) -> Option<u16>
-    requires rises { IsNonDecreasingBy rank order.now }
-    requires small { All (λ h. h.entry < 2 ^ 16) order.now }
-    ensures least { IsLeast (IsMatchIn order.now verb from noun) result }
+pub fn next_in(order: &Order, from: u16, verb: u8, noun: u8) -> Option<u16>
+    requires sorted { IsSorted order.now }
+    ensures least { IsLeast (IsMatch order.now.heads.items (λ h. is_for h.verb verb && is_for h.noun noun) from) result }
 {
-    let same = first_for(order, verb, from, noun);
-    let any = first_for(order, ANY_VERB, from, noun);
-    let none = first_for(order, NO_VERB, from, noun);
-    lower(lower(same, any), none)
+    let any = first_for(order, ANY_WORD, noun, from);
+    let none = first_for(order, NO_WORD, noun, from);
+    let same = first_for(order, verb, noun, from);
+    lower(any, lower(none, same))
 }

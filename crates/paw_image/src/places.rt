@@ -11,17 +11,17 @@ ghost use Rattle.paw_image.specs.Views.{AreOrdered};
 use crate::fault::ReadFault;
 use crate::fields::read_within;
 use crate::in_place::pass_rows;
-use crate::order::{Head, order_of};
+use crate::order::{Order, order_of};
 use crate::rules::Rules;
 use paw_base::limits::ENTRY_LIMIT;
 use paw_game::parts::{Entry, Exits, ObjectRow, Text};
 use std::alloc::Global;
 
-/// Where the entries of a table begin, and the entries in order of verb.
+/// Where the entries of a table begin, and the entries in order of verb and noun.
 #[derive(Drop)]
 pub struct TableIndex {
     pub entries: Vec<u32>,
-    pub order: Vec<Head>,
+    pub order: Order,
 }
 
 /// Where the rows of each list begin.
@@ -46,7 +46,7 @@ fn pass_table<'a>(
     requires small { length all.now < 2 ^ 32 }
     ensures gives { Gives (λ x. x.1.now) result (after_table rules.now bytes.now) }
     ensures entries { IfOk result (λ x. x.0.entries.items ≡ entries_begin rules.now (length all.now) bytes.now) }
-    ensures order { IfOk result (λ x. IsOrder all.now x.0.entries.items x.0.order.items) }
+    ensures order { IfOk result (λ x. IsOrder all.now x.0.entries.items x.0.order) }
 {
     let (count, rest) = read_within(0, ENTRY_LIMIT, bytes)?;
     let (entries, rest) = pass_rows::<Entry>(alloc, rules, count as usize, all.len(), rest)?;
@@ -65,7 +65,7 @@ fn pass_tables<'a>(
     requires small { length all.now < 2 ^ 32 }
     ensures gives { Gives (λ x. x.1.now) result (each (after_table rules.now) count bytes.now) }
     ensures entries { IfOk result (λ x. entries_of x.0.items ≡ tables_begin rules.now (length all.now) count bytes.now) }
-    ensures order { IfOk result (λ x. AllByRecursion (λ t. IsOrder all.now t.entries.items t.order.items) x.0.items) }
+    ensures order { IfOk result (λ x. AllByRecursion (λ t. IsOrder all.now t.entries.items t.order) x.0.items) }
 {
     let mut tables = Vec::new(alloc);
     let mut rest = bytes;

@@ -25,7 +25,7 @@ use std::alloc::Global;
 use std::marker::Model;
 
 /// A valid game in the bytes of its image: texts and entries are lent out of them. It keeps the words, where each text,
-/// the exits of each location and each entry begin, and the entries of each table in order of verb. Contracts see the
+/// the exits of each location and each entry begin, and the entries of each table in order of verb and noun. Contracts see the
 /// bytes.
 #[derive(Drop)]
 pub struct View<'a> {

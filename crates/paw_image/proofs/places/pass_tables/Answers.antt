@@ -18,7 +18,7 @@ loop-preserved c = record {
       (tables_go_on c.args.rules.now (length c.args.all.now) c.loop.tables.items c.args.count c.loop.counter c.loop.rest.now _ c.in_ok-table.table c.in_ok-table.after.now c.loop-test.true
       c.in_ok-table.ensures.gives c.in_ok-table.ensures.entries c.loop.invariant.kept);
   order = rw c.in_ok-push.ensures.items
-      (all_more (λ (t : TableIndex). IsOrder c.args.all.now t.entries.items t.order.items) c.loop.tables.items c.in_ok-table.table c.loop.invariant.order c.in_ok-table.ensures.order);
+      (all_more (λ (t : TableIndex). IsOrder c.args.all.now t.entries.items t.order) c.loop.tables.items c.in_ok-table.table c.loop.invariant.order c.in_ok-table.ensures.order);
 }
 
 pub returns-clause-gives : goal.returns-clause-gives

@@ -9,5 +9,5 @@ abbrev pub invariant-loop : goal.invariant-loop
 invariant-loop l = record {
   left : each (after_table l.rules) (l.count - l.counter) l.rest ≡ each (after_table l.rules) l.count l.bytes;
   kept : entries_of l.tables.items ++ tables_begin l.rules (length l.all) (l.count - l.counter) l.rest ≡ tables_begin l.rules (length l.all) l.count l.bytes;
-  order : AllByRecursion (λ t. IsOrder l.all t.entries.items t.order.items) l.tables.items;
+  order : AllByRecursion (λ t. IsOrder l.all t.entries.items t.order) l.tables.items;
 }

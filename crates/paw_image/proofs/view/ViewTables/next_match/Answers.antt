@@ -1,13 +1,10 @@
-use Rattle.std.proofs.Common.{◌≡◌, ◌<◌, ℕ, List, None, Option, IsTrue, ap, sym, subst, ◌∙◌}
+use Rattle.std.proofs.Common.{◌<◌, ℕ, List, IsTrue, ap, sym, ◌∙◌}
 use Rattle.std.specs.Prelude.{slice_get}
-use Rattle.paw_game.specs.Tables.{match_at, matches_at}
+use Rattle.paw_game.specs.Tables.{matches_at}
 use Rattle.paw_game.proofs.Kept.{IfSome-from}
 use Rattle.paw_game.proofs.Matches.{match-matches, match-small}
-use Rattle.paw_image.specs.declared.order.Head.{Head}
 use Rattle.paw_image.specs.declared.places.TableIndex.{TableIndex}
-use Rattle.paw_image.specs.Orders.{IsLeast, IsMatchIn}
 use Rattle.paw_image.specs.Views.{game_of}
-use Rattle.paw_image.proofs.MatchLaws.{order_small}
 use Rattle.paw_image.proofs.ViewLaws.{match_read, no_match_read, ordered_at}
 use Rattle.paw_image.proofs.view.ViewTables.next_match.Goals as goal
 
@@ -17,30 +14,27 @@ returns-in_err-index-clause-value c =
     let is = no_match_read c.self.inside.bytes.now c.self.inside.counts c.self.inside.words.items c.self.inside.places c.self.invariant c.args.table none c.args.from c.args.verb c.args.noun in
     c.from_residual.ensures ∙ sym (rw c.self.view_is at is)
 
-pub next_in-requires-clause-small : goal.next_in-requires-clause-small
-next_in-requires-clause-small c =
+pub next_in-requires : goal.next_in-requires
+next_in-requires c =
     let at = ap (λ (ts : List TableIndex). slice_get ts c.args.table) (sym c.deref.ensures.value) ∙ sym c.in_ok-index.ensures.value in
-    rw c.deref-2.ensures.value (order_small c.self.inside.bytes.now _ _ (ordered_at c.self.inside.bytes.now c.self.inside.places.tables.items c.args.table c.in_ok-index.index.now c.self.invariant.ordered at))
+    record { sorted = (ordered_at c.self.inside.bytes.now c.self.inside.places.tables.items c.args.table c.in_ok-index.index.now c.self.invariant.ordered at).sorted }
 
 pub returns-clause-value : goal.returns-clause-value
 returns-clause-value c =
     let at = ap (λ (ts : List TableIndex). slice_get ts c.args.table) (sym c.deref.ensures.value) ∙ sym c.in_ok-index.ensures.value in
-    let least = subst (λ (hs : List Head). IsLeast (IsMatchIn hs c.args.verb c.args.from c.args.noun) c.next_in.result) c.deref-2.ensures.value c.next_in.ensures.least in
-    let is = match_read c.self.inside.bytes.now c.self.inside.counts c.self.inside.words.items c.self.inside.places c.self.invariant c.args.table c.in_ok-index.index.now at c.args.from c.args.verb c.args.noun c.next_in.result least in
+    let is = match_read c.self.inside.bytes.now c.self.inside.counts c.self.inside.words.items c.self.inside.places c.self.invariant c.args.table c.in_ok-index.index.now at c.args.from c.args.verb c.args.noun c.next_in.result c.next_in.ensures.least in
     rw c.self.view_is at is
 
 pub returns-clause-small : goal.returns-clause-small
 returns-clause-small c =
     let at = ap (λ (ts : List TableIndex). slice_get ts c.args.table) (sym c.deref.ensures.value) ∙ sym c.in_ok-index.ensures.value in
-    let least = subst (λ (hs : List Head). IsLeast (IsMatchIn hs c.args.verb c.args.from c.args.noun) c.next_in.result) c.deref-2.ensures.value c.next_in.ensures.least in
-    let is = match_read c.self.inside.bytes.now c.self.inside.counts c.self.inside.words.items c.self.inside.places c.self.invariant c.args.table c.in_ok-index.index.now at c.args.from c.args.verb c.args.noun c.next_in.result least in
+    let is = match_read c.self.inside.bytes.now c.self.inside.counts c.self.inside.words.items c.self.inside.places c.self.invariant c.args.table c.in_ok-index.index.now at c.args.from c.args.verb c.args.noun c.next_in.result c.next_in.ensures.least in
     IfSome-from (λ (e : ℕ). e < 4000) c.next_in.result _ is (match-small (game_of c.self.inside.bytes.now) c.self.invariant.image.valid c.args.table c.args.from c.args.verb c.args.noun)
 
 pub returns-clause-matching : goal.returns-clause-matching
 returns-clause-matching c =
     let at = ap (λ (ts : List TableIndex). slice_get ts c.args.table) (sym c.deref.ensures.value) ∙ sym c.in_ok-index.ensures.value in
-    let least = subst (λ (hs : List Head). IsLeast (IsMatchIn hs c.args.verb c.args.from c.args.noun) c.next_in.result) c.deref-2.ensures.value c.next_in.ensures.least in
-    let found = match_read c.self.inside.bytes.now c.self.inside.counts c.self.inside.words.items c.self.inside.places c.self.invariant c.args.table c.in_ok-index.index.now at c.args.from c.args.verb c.args.noun c.next_in.result least in
+    let found = match_read c.self.inside.bytes.now c.self.inside.counts c.self.inside.words.items c.self.inside.places c.self.invariant c.args.table c.in_ok-index.index.now at c.args.from c.args.verb c.args.noun c.next_in.result c.next_in.ensures.least in
     let is = rw c.self.view_is at found in
     IfSome-from (λ (e : ℕ). IsTrue (matches_at (game_of c.args.self.now) c.args.table e c.args.verb c.args.noun)) c.next_in.result _ is
     (match-matches (game_of c.args.self.now) c.args.table c.args.from c.args.verb c.args.noun)
