@@ -1,5 +1,5 @@
 -- Looking for the exit of a verb, as a loop does.
-use Rattle.std.proofs.Common.{◌≡◌, ℕ, suc, ◌+◌, ◌-◌, ◌<◌, ◌≤◌, List, Option, Some, None, refl, arith}
+use Rattle.std.proofs.Common.{◌≡◌, ℕ, suc, ◌+◌, ◌-◌, ◌<◌, ◌≤◌, List, Some, None, refl, arith}
 use Rattle.paw_game.specs.declared.parts.Exit.{Exit}
 use Rattle.paw_image.specs.Rows.{exit_here, led, exit_in}
 

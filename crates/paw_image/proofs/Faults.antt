@@ -1,5 +1,5 @@
 -- Where a first step has no value, what follows it has none.
-use Rattle.std.proofs.Common.{◌≡◌, ℕ, suc, ◌+◌, ◌-◌, ◌<◌, List, Option, None, Result, Ok, Err, refl, sym, subst, ◌∙◌, arith}
+use Rattle.std.proofs.Common.{◌≡◌, ℕ, suc, ◌+◌, ◌-◌, ◌<◌, List, None, Result, Ok, Err, refl, sym, subst, ◌∙◌, arith}
 use Rattle.paw_image.specs.declared.fault.ReadFault.{ReadFault}
 use Rattle.paw_image.specs.declared.fault.ReadFault.TheVariants as fault
 use Rattle.paw_image.specs.Damage.{Passing, each}

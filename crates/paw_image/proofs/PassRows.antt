@@ -1,19 +1,16 @@
 -- Each row: the image of a row that keeps its rule is passed.
-use Rattle.std.proofs.Common.{◌≡◌, ℕ, zero, suc, ◌+◌, ◌^◌, ◌<◌, ◌≤◌, ◌&&◌, ◌||◌, Bool, true, false, not, cond, ltb, leb, eqb, List, [], ◌∷◌, ◌++◌, length, Ok, Err, refl, sym, ap, ◌∙◌, append_assoc, arith, lit<}
+use Rattle.std.proofs.Common.{◌≡◌, ℕ, ◌^◌, ◌<◌, ◌≤◌, ◌&&◌, ◌||◌, Bool, true, not, ltb, leb, eqb, List, [], ◌∷◌, ◌++◌, length, Ok, refl, ap, ◌∙◌, append_assoc, arith, lit<}
 use Rattle.std.specs.List.{flat_map, list_all, list_any}
 use Rattle.std.proofs.lemmas.Bool.{and_parts, leb-true, le-leb}
-use Rattle.paw_base.specs.declared.parts.Condact.{Condact}
 use Rattle.paw_base.specs.declared.parts.ObjectFacts.{ObjectFacts}
 use Rattle.paw_base.specs.declared.rows.ParamKind.{ParamKind}
 use Rattle.paw_base.specs.declared.rows.ParamKind.TheVariants as kind
 use Rattle.paw_base.specs.Condacts.{first_kind, second_kind}
-use Rattle.paw_game.specs.declared.parts.ObjectRow.{ObjectRow}
 use Rattle.paw_game.specs.declared.parts.Exit.{Exit}
-use Rattle.paw_game.specs.declared.parts.Entry.{Entry}
 use Rattle.paw_game.specs.Image.{two_bytes, text_image, weight_byte, object_image, exit_image, exits_image, parameter_image, condact_image, entry_image, table_image}
 use Rattle.paw_game.specs.Valid.{is_within, is_printed, is_text, is_word_or_none, is_place, are_facts, is_object, is_verb_value, are_exits, is_exits, is_any, has_word}
 use Rattle.paw_image.specs.Reading.{◌>>=◌, byte_at}
-use Rattle.paw_image.specs.Damage.{Declared, kept, each, number_within, after_text, after_facts, after_object, exit_kept, after_exits_of, after_exits, keeps_kind, after_parameter, after_condact, after_entry, after_table}
+use Rattle.paw_image.specs.Damage.{Declared, kept, number_within, after_text, after_facts, after_object, exit_kept, after_exits_of, after_exits, keeps_kind, after_parameter, after_condact, after_entry, after_table}
 use Rattle.paw_image.proofs.FieldLaws.{bytes_again, number_again}
 use Rattle.paw_image.proofs.SoundRows.{none_of, none_of-one_more, none_of-none, keeps_condact, keeps_entry, keeps_table}
 use Rattle.paw_image.proofs.Stands.{and_true, PassesRow, each_passes}

@@ -1,5 +1,5 @@
 -- What stands in an image where a row begins.
-use Rattle.std.proofs.Common.{◌≡◌, ℕ, zero, suc, ◌+◌, ◌-◌, ◌<◌, ◌≤◌, List, [], ◌∷◌, ◌++◌, length, take, drop, Option, Some, None, Ok, refl, sym, ap, subst, ◌∙◌, append_assoc, inl, inr, arith}
+use Rattle.std.proofs.Common.{◌≡◌, ℕ, zero, suc, ◌+◌, ◌-◌, ◌<◌, List, [], ◌∷◌, ◌++◌, length, take, drop, Option, Some, None, Ok, refl, sym, ap, subst, ◌∙◌, append_assoc, inl, inr, arith}
 use Rattle.std.specs.Prelude.{slice_get, codes}
 use Rattle.std.specs.List.{flat_map, AllByRecursion}
 use Rattle.std.proofs.lemmas.Bool.{lt-ltb, le-ltb, cases_lt}
@@ -12,7 +12,7 @@ use Rattle.paw_game.specs.declared.parts.Entry.{Entry}
 use Rattle.paw_game.specs.declared.parts.GamePart.{GamePart}
 use Rattle.paw_game.specs.declared.parts.GamePart.TheVariants as part
 use Rattle.paw_game.specs.Game.{GameLists}
-use Rattle.paw_game.specs.Tables.{counts_of, or_empty, text_at, row_text, exit_of, facts_at, facts_of}
+use Rattle.paw_game.specs.Tables.{counts_of, or_empty, text_at, text_of, exit_of, facts_at}
 use Rattle.paw_game.specs.Image.{two_bytes, word_image, text_image, object_image, exit_image, exits_image, condact_image, entry_image, table_image, weight_byte, image}
 use Rattle.paw_image.specs.Reading.{◌>>=◌, condact_at}
 use Rattle.paw_image.specs.Reading as reading

@@ -1,33 +1,32 @@
 -- The bytes in which no rule is broken are the images of the valid games.
-use Rattle.std.proofs.Common.{◌≡◌, ℕ, zero, suc, ◌+◌, ◌-◌, ◌^◌, ◌<◌, ◌≤◌, ◌&&◌, Bool, true, false, cond, ltb, leb, eqb, List, [], ◌∷◌, ◌++◌, length, Option, Some, None, Result, Ok, Err, refl, sym, ap, subst, ◌∙◌, append_assoc, inl, inr, arith, lit<}
+use Rattle.std.proofs.Common.{◌≡◌, ℕ, zero, suc, ◌+◌, ◌<◌, ◌&&◌, true, leb, eqb, List, [], ◌∷◌, ◌++◌, length, Some, None, Ok, Err, refl, sym, ap, subst, ◌∙◌, append_assoc, inl, inr, arith, lit<}
 use Rattle.std.specs.Prelude.{codes}
 use Rattle.std.specs.List.{flat_map, list_all}
 use Rattle.std.specs.Str.{bytes_eq}
 use Rattle.std.specs.Ordering.{is_lt, nat_cmp}
 use Rattle.std.specs.Cmp.Lexicographic.{slice_cmp}
-use Rattle.std.proofs.lemmas.Bool.{and_parts, cases_lt, leb-true, le-leb, lt-ltb, le-ltb, eqb-true, eq-eqb}
+use Rattle.std.proofs.lemmas.Bool.{and_parts, cases_lt, le-leb, lt-ltb, le-ltb, eqb-true, eq-eqb}
 use Rattle.std.proofs.lemmas.Option.{none-some}
-use Rattle.std.proofs.lemmas.List.{append-nil}
 use Rattle.paw_base.specs.declared.parts.Counts.{Counts}
 use Rattle.paw_game.specs.declared.parts.Word.{Word}
 use Rattle.paw_game.specs.Game.{GameLists}
 use Rattle.paw_game.specs.Tables.{counts_of}
-use Rattle.paw_game.specs.Valid.{Valid, is_within, are_letters, is_word, words_rise, is_text, is_object, is_exits, is_table}
+use Rattle.paw_game.specs.Valid.{Valid, is_within, are_letters, is_word, words_rise, is_text, is_object, is_exits}
 use Rattle.paw_game.specs.Image.{two_bytes, word_image, text_image, object_image, exits_image, table_image, image}
 use Rattle.paw_game.proofs.Faults.{rise_after, rise_after-none}
 use Rattle.paw_image.specs.declared.TheConstants.{IMAGE_LIMIT}
 use Rattle.paw_image.specs.Images.{IsImage}
-use Rattle.paw_image.specs.Reading.{◌>>=◌, byte_at, bytes_at, number_at, rows_at, word_at, text_at, object_at, exits_at, table_at, mark_at, version_at, counts_at, lists_at, all_of}
-use Rattle.paw_image.specs.Damage.{Declared, Passing, kept, each, after_version, number_within, counts_kept, word_kept, words_kept, after_text, after_object, after_exits, after_table, after_lists, front, after_all, place_in, bad}
+use Rattle.paw_image.specs.Reading.{byte_at, bytes_at, number_at, rows_at, word_at, text_at, object_at, exits_at, table_at, mark_at, version_at, counts_at, lists_at, all_of}
+use Rattle.paw_image.specs.Damage.{Declared, Passing, each, after_version, counts_kept, word_kept, words_kept, after_text, after_object, after_exits, after_table, after_lists, front, after_all, place_in, bad}
 use Rattle.paw_image.specs.Places.{places, entry_places, entries_of, AreGoneOver}
 use Rattle.paw_image.specs.Views.{system_begins}
 use Rattle.paw_image.specs.declared.places.Places.{Places}
-use Rattle.paw_image.proofs.FieldLaws.{IsBytes, Takes, read_ok, at_ok, bind_then, byte_takes, bytes_take, bytes_again, number_takes, number_again}
+use Rattle.paw_image.proofs.FieldLaws.{IsBytes, Takes, read_ok, at_ok, bind_then, bytes_again}
 use Rattle.paw_image.proofs.ListLaws.{rows_take}
 use Rattle.paw_image.proofs.RowLaws.{word_takes, text_takes, object_takes, exits_take, table_takes}
 use Rattle.paw_image.proofs.GameLaws.{mark_takes, version_takes, counts_take, counts_image, lists_image, image_is, all_takes}
 use Rattle.paw_image.proofs.ValidLaws.{letters_fit}
-use Rattle.paw_image.proofs.Stands.{and_true, kept_then, Stands, rest_fits, each_sound, each_passes, taken_length}
+use Rattle.paw_image.proofs.Stands.{and_true, kept_then, each_sound, each_passes, taken_length}
 use Rattle.paw_image.proofs.SoundRows.{declared_by, text_sound, object_sound, exits_sound, tables_placed, keeps_table, tables_are}
 use Rattle.paw_image.proofs.PassRows.{within_passes, text_passes, object_passes, exits_pass, table_passes}
 

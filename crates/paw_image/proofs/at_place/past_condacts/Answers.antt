@@ -1,4 +1,4 @@
-use Rattle.std.proofs.Common.{Ok, refl}
+use Rattle.std.proofs.Common.{refl}
 use Rattle.std.proofs.lemmas.Result.{err_from_is_err_and}
 use Rattle.paw_image.specs.Reading.{condact_at}
 use Rattle.paw_image.specs.Rows.{past_condact}

@@ -1,6 +1,5 @@
-use Rattle.std.proofs.Common.{◌≡◌, ◌-◌, ℕ, [], ◌∷◌, refl, arith}
+use Rattle.std.proofs.Common.{◌≡◌, ◌-◌, [], ◌∷◌, refl, arith}
 use Rattle.std.proofs.lemmas.Result.{err_from_is_err_and}
-use Rattle.paw_image.specs.Damage.{after_exits_of}
 use Rattle.paw_image.proofs.EachLoop.{exits_go_on, exits_end, exits_are_done}
 use Rattle.paw_image.proofs.MarkLaws.{no_marks, one_more}
 use Rattle.paw_image.proofs.exits.pass_exits.Goals as goal

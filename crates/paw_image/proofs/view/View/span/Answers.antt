@@ -1,4 +1,4 @@
-use Rattle.std.proofs.Common.{refl, ◌≡◌, List, ℕ, Option, sym, ap, ◌∙◌}
+use Rattle.std.proofs.Common.{refl, ℕ, Option, sym, ap, ◌∙◌}
 use Rattle.paw_game.specs.Tables.{text_at}
 use Rattle.paw_image.specs.Views.{game_of, spanned}
 use Rattle.paw_image.proofs.ViewLaws.{span_read, text_read}

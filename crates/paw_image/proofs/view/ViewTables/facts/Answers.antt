@@ -1,4 +1,4 @@
-use Rattle.std.proofs.Common.{◌≡◌, ◌≤◌, IsTrue, length, sym, ◌∙◌}
+use Rattle.std.proofs.Common.{◌≤◌, IsTrue, length, sym, ◌∙◌}
 use Rattle.paw_base.specs.declared.parts.ObjectFacts.{ObjectFacts}
 use Rattle.paw_game.specs.Valid.{is_place}
 use Rattle.paw_game.proofs.Kept.{IfSome-from, facts-start, facts-weight}

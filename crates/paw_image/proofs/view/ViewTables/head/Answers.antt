@@ -1,4 +1,4 @@
-use Rattle.std.proofs.Common.{◌≡◌, ◌<◌, List, ℕ, sym, ap, ◌∙◌}
+use Rattle.std.proofs.Common.{◌<◌, List, ℕ, sym, ap, ◌∙◌}
 use Rattle.std.specs.Prelude.{slice_get}
 use Rattle.paw_game.specs.Tables.{head_of, or_empty}
 use Rattle.paw_game.proofs.Kept.{IfSome-from, head-small}
