@@ -14,6 +14,9 @@ fault_first (Err left) f h = tt
 pub fault_next : {A B : Type 0} (r : Result A ℕ) (f : A → Result B ℕ) (x : A) → r ≡ Ok x → IsFault (f x) → IsFault (r >>= f)
 fault_next r f x e h = rw e h
 
+-- that a fault of a first step, or of the second, is one of both
+pub ruleset fault_steps = (fault_first, fault_next)
+
 pub no_value : {A : Type 0} (r : Reading A) → IsFault r → value_of r ≡ None
 no_value (Ok x) h = absurd h
 no_value (Err left) h = refl

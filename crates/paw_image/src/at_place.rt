@@ -114,7 +114,7 @@ fn past_condacts(count: u8, bytes: &[u8]) -> Result<&[u8], ReadFault>
 }
 
 /// The condact after so many condacts.
-#[tactic(auto, using(crate::proofs::Faults::fault_first, crate::proofs::Faults::fault_next))]
+#[tactic(auto, using(crate::proofs::Faults::fault_steps))]
 fn condact_after(count: u8, bytes: &[u8]) -> Result<(Condact, &[u8]), ReadFault>
     ensures gives { Gives (λ x. (x.0, x.1.now)) result (condact_after count bytes.now) }
     ensures fails { OnErr result (IsFault (condact_after count bytes.now)) }

@@ -69,7 +69,8 @@ fn read_exit<'a>(
     marks: &[bool; 256],
     bytes: &'a [u8],
 ) -> Result<(u8, &'a [u8]), ReadFault>
-    ensures gives { (verbs : List ℕ) → Marks marks.now verbs → Gives (λ x. (x.0, x.1.now)) result (exit_kept rules.now verbs bytes.now) }
+    ensures gives { (verbs : List ℕ) → Marks marks.now verbs →
+        Gives (λ x. (x.0, x.1.now)) result (exit_kept rules.now verbs bytes.now) }
 {
     let (verb, places) = read_byte(bytes)?;
     if !rules.is_verb_value(verb) || marks[verb as usize] {

@@ -27,7 +27,7 @@ const CONTAINER_BIT: u8 = 0b0100_0000;
 const WEARABLE_BIT: u8 = 0b1000_0000;
 
 /// What is said of an object beside its text.
-#[tactic(auto, using(crate::proofs::Faults::fault_first, crate::proofs::Faults::fault_next), unfolding(crate::specs::Reading::facts_at))]
+#[tactic(auto, using(crate::proofs::Faults::fault_steps), unfolding(crate::specs::Reading::facts_at))]
 pub fn read_facts(bytes: &[u8]) -> Result<(ObjectFacts, &[u8]), ReadFault>
     ensures gives { Gives (λ x. (x.0, x.1.now)) result (facts_at bytes.now) }
     ensures fails { OnErr result (IsFault (facts_at bytes.now)) }
@@ -48,7 +48,7 @@ pub fn read_facts(bytes: &[u8]) -> Result<(ObjectFacts, &[u8]), ReadFault>
 }
 
 /// What is said of the object at the front.
-#[tactic(auto, using(crate::proofs::Faults::fault_first, crate::proofs::Faults::fault_next))]
+#[tactic(auto, using(crate::proofs::Faults::fault_steps))]
 pub fn read_after_text(bytes: &[u8]) -> Result<(ObjectFacts, &[u8]), ReadFault>
     ensures gives { Gives (λ x. (x.0, x.1.now)) result (after_text_facts bytes.now) }
     ensures fails { OnErr result (IsFault (after_text_facts bytes.now)) }
