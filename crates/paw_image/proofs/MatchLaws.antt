@@ -13,7 +13,7 @@ use Rattle.paw_game.specs.Tables.{is_for, matches, first_match}
 use Rattle.paw_game.proofs.Matches.{IsFound, found_here, found_later, slice_get-drop}
 use Rattle.paw_image.specs.declared.order.Head.{Head}
 use Rattle.paw_image.specs.declared.order.Order.{Order}
-use Rattle.paw_image.specs.Orders.{heads_at, heads_of, IsOrder, IsLeast, IsMatch}
+use Rattle.paw_image.specs.Orders.{heads_at, heads_of, is_match, IsOrder, IsLeast, IsMatch}
 use Rattle.paw_image.specs.Places.{places}
 use Rattle.paw_image.proofs.OrderLaws.{IsLeast-same, one_least}
 use Rattle.paw_image.proofs.PlaceLaws.{next_at}
@@ -89,16 +89,12 @@ contains_at xs k x e = (k, slice_get_within xs k x e, get_or_from_slice_get xs k
 at_contains : {X : Type 0} (xs : List X) (x : X) → Contains xs x → (k : ℕ) × (slice_get xs k ≡ Some x)
 at_contains xs x c = (c.0, slice_get-get_or xs c.0 x c.1 ∙ ap Some c.2)
 
-words_match : (h : Head) (x : Entry) (verb noun : ℕ) → h.verb ≡ x.verb → h.noun ≡ x.noun → IsTrue (is_for h.verb verb && is_for h.noun noun) → IsTrue (matches verb noun x)
+words_match : (h : Head) (x : Entry) (verb noun : ℕ) → h.verb ≡ x.verb → h.noun ≡ x.noun → IsTrue (is_match verb noun h) → IsTrue (matches verb noun x)
 words_match h x verb noun same same_too both = rw (same, same_too) at both
 
 module _ (es : List Entry) (heads : List Head) (perm : IsPermutation (heads_of 0 es) heads) (verb from noun : ℕ) where
-  for_words : Head → Bool
-  for_words h = is_for h.verb verb && is_for h.noun noun
-
   -- the entry of a head that matches
-  entry_found : (e : ℕ) → IsMatch heads for_words from e → IsFound verb noun from (drop from es) e
-  unfolding for_words
+  entry_found : (e : ℕ) → IsMatch heads (is_match verb noun) from e → IsFound verb noun from (drop from es) e
   entry_found e m =
       let found = at_contains (heads_of 0 es) m.head (Contains-permutation heads (heads_of 0 es) m.head (IsPermutation-sym (heads_of 0 es) heads perm) m.is) in
       let o = entry_of_head es 0 found.0 m.head found.1 in
@@ -106,8 +102,7 @@ module _ (es : List Entry) (heads : List Head) (perm : IsPermutation (heads_of 0
       record { reached = m.reached; entry = o.entry; is = slice_get-drop from es (e - from) ∙ ap (slice_get es) place ∙ o.is; matching = words_match m.head o.entry verb noun o.verb o.noun m.matching }
 
   -- the head of an entry that matches
-  head_found : (e : ℕ) → IsFound verb noun from (drop from es) e → IsMatch heads for_words from e
-  unfolding for_words
+  head_found : (e : ℕ) → IsFound verb noun from (drop from es) e → IsMatch heads (is_match verb noun) from e
   head_found e f =
       let place : e ≡ from + (e - from) = omega (arith, f.reached) in
       let is = ap (slice_get es) place ∙ sym (slice_get-drop from es (e - from)) ∙ f.is in
@@ -120,14 +115,13 @@ module _ (es : List Entry) (heads : List Head) (perm : IsPermutation (heads_of 0
         matching = f.matching;
       }
 
-  pub least_match : (r : Option ℕ) → IsLeast (IsMatch heads (λ h. is_for h.verb verb && is_for h.noun noun) from) r → r ≡ first_match verb noun from (drop from es)
-  unfolding for_words
+  pub least_match : (r : Option ℕ) → IsLeast (IsMatch heads (is_match verb noun) from) r → r ≡ first_match verb noun from (drop from es)
   least_match r least =
       one_least (IsFound verb noun from (drop from es)) r (first_match verb noun from (drop from es))
-      (IsLeast-same (IsMatch heads for_words from) (IsFound verb noun from (drop from es)) entry_found head_found r least)
+      (IsLeast-same (IsMatch heads (is_match verb noun) from) (IsFound verb noun from (drop from es)) entry_found head_found r least)
       (first_match_least verb noun from (drop from es))
 
 pub next_match_is : (bytes rest : List ℕ) (es : List Entry) (at : ℕ) (order : Order) → IsOrder bytes (places entry_image at es) order → drop at bytes ≡ flat_map entry_image es ++ rest
-    → (verb from noun : ℕ) (r : Option ℕ) → IsLeast (IsMatch order.heads.items (λ h. is_for h.verb verb && is_for h.noun noun) from) r → r ≡ first_match verb noun from (drop from es)
+    → (verb from noun : ℕ) (r : Option ℕ) → IsLeast (IsMatch order.heads.items (is_match verb noun) from) r → r ≡ first_match verb noun from (drop from es)
 next_match_is bytes rest es at order o e verb from noun r least =
     least_match es order.heads.items (subst (λ (hs : List Head). IsPermutation hs order.heads.items) (heads_same bytes rest es 0 at e) o.same) verb from noun r least

@@ -9,7 +9,7 @@ use Rattle.std.proofs.lemmas.List.Elements.{All-cons, All-contains, All-take, Al
 use Rattle.std.proofs.lemmas.List.Sorted.{All-permutation, IsNonDecreasingBy-take, IsNonDecreasingBy-drop}
 use Rattle.paw_game.specs.Tables.{is_for}
 use Rattle.paw_image.specs.declared.order.Head.{Head}
-use Rattle.paw_image.specs.Orders.{ranked, rank, lower, heads_at, AreStarts, IsLeast, IsMatch, IsRun, IsSmall, IsStart, Rises}
+use Rattle.paw_image.specs.Orders.{ranked, rank, lower, heads_at, is_match, AreStarts, IsLeast, IsMatch, IsRun, IsSmall, IsStart, Rises}
 use Rattle.paw_image.proofs.FieldLaws.{IsBytes}
 use Rattle.paw_image.proofs.Stands.{and_true}
 
@@ -229,11 +229,11 @@ one_of_three false false false m = refl
 -- an entry's verb matches where it is any verb, none, or this one
 pub least_of_three : (heads : List Head) (verb noun from : ℕ) (any none same : Option ℕ) → IsLeast (IsMatch heads (λ h. eqb h.verb 1 && is_for h.noun noun) from) any
     → IsLeast (IsMatch heads (λ h. eqb h.verb 255 && is_for h.noun noun) from) none → IsLeast (IsMatch heads (λ h. eqb h.verb verb && is_for h.noun noun) from) same
-    → IsLeast (IsMatch heads (λ h. is_for h.verb verb && is_for h.noun noun) from) (lower any (lower none same))
+    → IsLeast (IsMatch heads (is_match verb noun) from) (lower any (lower none same))
 least_of_three heads verb noun from any none same a n s =
     let with = λ (w : ℕ) (h : Head). eqb h.verb w && is_for h.noun noun in
     let either = λ (h : Head). with 1 h || (with 255 h || with verb h) in
-    let whole = λ (h : Head). is_for h.verb verb && is_for h.noun noun in
+    let whole = is_match verb noun in
     let is = λ (h : Head). one_of_three (eqb h.verb 1) (eqb h.verb 255) (eqb h.verb verb) (is_for h.noun noun) in
     IsLeast-same (IsMatch heads either from) (IsMatch heads whole from) (λ e m. IsMatch-other heads either whole (λ h t. sym (is h) ∙ t) from e m) (λ e m. IsMatch-other heads whole either (λ h t. is h ∙ t) from e m)
     (lower any (lower none same))

@@ -1,5 +1,5 @@
 -- What a view keeps, and what its look-ups answer.
-use Rattle.std.proofs.Common.{◌≡◌, ℕ, zero, suc, ◌+◌, ◌≤◌, ◌&&◌, List, [], length, drop, Option, Some, None, Ok, refl, sym, ap, subst, ◌∙◌}
+use Rattle.std.proofs.Common.{◌≡◌, ℕ, zero, suc, ◌+◌, ◌≤◌, List, [], length, drop, Option, Some, None, Ok, refl, sym, ap, subst, ◌∙◌}
 use Rattle.std.specs.Prelude.{slice_get}
 use Rattle.std.specs.List.{AllByRecursion}
 use Rattle.std.specs.Option.{option_map}
@@ -11,10 +11,10 @@ use Rattle.paw_game.specs.declared.parts.Entry.{Entry}
 use Rattle.paw_game.specs.declared.parts.GamePart.{GamePart}
 use Rattle.paw_game.specs.Game.{GameLists}
 use Rattle.paw_game.specs.Image.{entry_image}
-use Rattle.paw_game.specs.Tables.{text_at, or_empty, head_at, condact_at, entry_at, match_at, is_for}
+use Rattle.paw_game.specs.Tables.{text_at, or_empty, head_at, condact_at, entry_at, match_at}
 use Rattle.paw_image.specs.Damage.{Declared, after_all, bad}
 use Rattle.paw_image.specs.Images.{IsImage, AtDamage}
-use Rattle.paw_image.specs.Orders.{IsOrder, IsLeast, IsMatch}
+use Rattle.paw_image.specs.Orders.{is_match, IsOrder, IsLeast, IsMatch}
 use Rattle.paw_image.specs.Places.{entry_places, entries_of, IsPassed}
 use Rattle.paw_image.specs.Reading as reading
 use Rattle.paw_image.specs.Reading.{all_of}
@@ -131,7 +131,7 @@ no_entries_at : (ts : List TableIndex) (k : ℕ) (ps : List (List ℕ)) → entr
 no_entries_at ts k ps e h = ap (λ (l : List (List ℕ)). slice_get l k) (sym e) ∙ slice_get-map (λ (x : TableIndex). x.entries.items) ts k ∙ rw h refl
 
 pub match_read : (bytes : List ℕ) (counts : Counts) (words : List Word) (p : Places) → IsIndex bytes counts words p → (t : ℕ) (i : TableIndex) → slice_get p.tables.items t ≡ Some i
-    → (from verb noun : ℕ) (r : Option ℕ) → IsLeast (IsMatch i.order.heads.items (λ h. is_for h.verb verb && is_for h.noun noun) from) r → r ≡ match_at (game_of bytes) t from verb noun
+    → (from verb noun : ℕ) (r : Option ℕ) → IsLeast (IsMatch i.order.heads.items (is_match verb noun) from) r → r ≡ match_at (game_of bytes) t from verb noun
 match_read bytes counts words p is t i h from verb noun r least =
     let table = table_lies bytes [] (game_of bytes).tables (tables_begin_at (game_of bytes)) (lists_of bytes is.image).tables t i.entries.items (entries_at p.tables.items t i _ is.tables h) in
     let order = subst (λ (ps : List ℕ). IsOrder bytes ps i.order) table.begin (ordered_at bytes p.tables.items t i is.ordered h) in

@@ -1,12 +1,17 @@
--- The first rule of an image that bytes break. The bytes are read once, in order, and each field is written with its rule
--- over itself and what was read before it. A fault tells how many bytes are left at the first byte of the first field
--- that breaks its rule or isn't all there.
+-- The first rule of an image that bytes break. The bytes are read once, in order, and each field is written with its
+-- rule over itself and what was read before it. A fault tells how many bytes are left at the first byte of the first
+-- field that breaks its rule or isn't all there.
 use Rattle.std.specs.Prelude.{ℕ, zero, suc, ◌-◌, ◌==◌, ◌&&◌, ◌||◌, Bool, true, not, List, [], ◌∷◌, length, Option, Some, None, Result, Ok, Err, nat_lt, nat_le, codes, if◌then◌else◌}
 use Rattle.std.specs.List.{list_any}
 use Rattle.std.specs.Str.{bytes_eq}
 use Rattle.std.specs.Ordering.{is_lt, nat_cmp}
 use Rattle.std.specs.Cmp.Lexicographic.{slice_cmp}
+use Rattle.paw_base.specs.declared.limits.TheConstants.{WORD_LENGTH, WORD_LIMIT, SYSTEM_LIMIT, MESSAGE_LIMIT, OBJECT_LIMIT}
+use Rattle.paw_base.specs.declared.limits.TheConstants.{LOCATION_LEAST, LOCATION_LIMIT, TABLE_LEAST, TABLE_LIMIT, TEXT_LIMIT, ENTRY_LIMIT}
 use Rattle.paw_base.specs.declared.parts.Counts.{Counts}
+use Rattle.paw_base.specs.declared.places.TheConstants.{NOT_CREATED_PLACE, HERE_PLACE}
+use Rattle.paw_base.specs.declared.words.TheConstants.{ADVERB_CLASS, NOUN_CLASS, ADJECTIVE_CLASS, PREPOSITION_CLASS, PRONOUN_CLASS}
+use Rattle.paw_base.specs.declared.words.TheConstants.{LEAST_WORD, GREATEST_WORD}
 use Rattle.paw_base.specs.declared.rows.ParamKind.{ParamKind}
 use Rattle.paw_base.specs.declared.rows.ParamKind.TheVariants as kind
 use Rattle.paw_base.specs.Condacts.{first_kind, second_kind}
@@ -44,22 +49,32 @@ number_within least most = kept (is_within least most) number_at
 -- how many words, system messages, messages, objects, locations and tables follow
 unfoldable pub counts_kept : List ℕ → Reading Counts
 counts_kept bytes = do
-  words ← number_within 0 2000 bytes
-  system ← number_within 0 256 words.1
-  messages ← number_within 0 256 system.1
-  objects ← number_within 0 255 messages.1
-  locations ← number_within 1 252 objects.1
-  tables ← number_within 3 256 locations.1
-  Ok (record { words = words.0; system = system.0; messages = messages.0; objects = objects.0; locations = locations.0; tables = tables.0 }, tables.1)
+  words ← number_within 0 WORD_LIMIT bytes
+  system ← number_within 0 SYSTEM_LIMIT words.1
+  messages ← number_within 0 MESSAGE_LIMIT system.1
+  objects ← number_within 0 OBJECT_LIMIT messages.1
+  locations ← number_within LOCATION_LEAST LOCATION_LIMIT objects.1
+  tables ← number_within TABLE_LEAST TABLE_LIMIT locations.1
+  Ok (
+    record {
+      words = words.0;
+      system = system.0;
+      messages = messages.0;
+      objects = objects.0;
+      locations = locations.0;
+      tables = tables.0;
+    },
+    tables.1,
+  )
 
 -- ---- words ----
 
 -- letters above those before, value, class
 unfoldable pub word_kept : List ℕ → List ℕ → Reading Word
 word_kept before bytes = do
-  letters ← kept (λ l. are_letters l && is_lt (slice_cmp nat_cmp before l)) (bytes_at 5) bytes
-  value ← kept (is_within 2 254) byte_at letters.1
-  class ← kept (λ c. nat_le c 6) byte_at value.1
+  letters ← kept (λ l. are_letters l && is_lt (slice_cmp nat_cmp before l)) (bytes_at WORD_LENGTH) bytes
+  value ← kept (is_within LEAST_WORD GREATEST_WORD) byte_at letters.1
+  class ← kept (λ c. nat_le c PRONOUN_CLASS) byte_at value.1
   Ok (record { letters = letters.0; value = value.0; class = class.0 }, class.1)
 
 -- so many words, each above the one before
@@ -80,15 +95,15 @@ pub record Declared : Type 0 where
 -- a length of at most 4,095, and a text of bytes that may stand in one
 unfoldable pub after_text : List ℕ → Passing
 after_text bytes = do
-  len ← number_within 0 4095 bytes
+  len ← number_within 0 TEXT_LIMIT bytes
   text ← kept (is_printed true) (bytes_at len.0) len.1
   Ok text.1
 
 -- noun, adjective, first place, and any byte for the weight
 unfoldable pub after_facts : Declared → List ℕ → Passing
 after_facts d bytes = do
-  noun ← kept (is_word_or_none d.words 2) byte_at bytes
-  adjective ← kept (is_word_or_none d.words 3) byte_at noun.1
+  noun ← kept (is_word_or_none d.words NOUN_CLASS) byte_at bytes
+  adjective ← kept (is_word_or_none d.words ADJECTIVE_CLASS) byte_at noun.1
   start ← kept (is_place d.counts.locations) byte_at adjective.1
   weight ← byte_at start.1
   Ok weight.1
@@ -121,17 +136,17 @@ after_exits d bytes = do
 abbrev pub keeps_kind : Declared → ParamKind → ℕ → Bool
 keeps_kind d kind.Absent x = x == 0
 keeps_kind d kind.Location x = nat_lt x d.counts.locations
-keeps_kind d kind.Place x = nat_lt x d.counts.locations || is_within 252 255 x
+keeps_kind d kind.Place x = nat_lt x d.counts.locations || is_within NOT_CREATED_PLACE HERE_PLACE x
 keeps_kind d kind.Object x = nat_lt x d.counts.objects
 keeps_kind d kind.Flag x = nat_lt x 256
 keeps_kind d kind.Number x = nat_lt x 256
 keeps_kind d kind.Message x = nat_lt x d.counts.messages
 keeps_kind d kind.System x = nat_lt x d.counts.system
 keeps_kind d kind.Table x = nat_lt x d.counts.tables
-keeps_kind d kind.Adverb x = is_word_or_none d.words 1 x
-keeps_kind d kind.Noun x = is_word_or_none d.words 2 x
-keeps_kind d kind.Adjective x = is_word_or_none d.words 3 x
-keeps_kind d kind.Preposition x = is_word_or_none d.words 4 x
+keeps_kind d kind.Adverb x = is_word_or_none d.words ADVERB_CLASS x
+keeps_kind d kind.Noun x = is_word_or_none d.words NOUN_CLASS x
+keeps_kind d kind.Adjective x = is_word_or_none d.words ADJECTIVE_CLASS x
+keeps_kind d kind.Preposition x = is_word_or_none d.words PREPOSITION_CLASS x
 
 -- a parameter of this kind; one that a code doesn't have takes no byte
 abbrev pub after_parameter : Declared → ParamKind → List ℕ → Passing
@@ -149,14 +164,14 @@ after_condact d bytes = do
 unfoldable pub after_entry : Declared → List ℕ → Passing
 after_entry d bytes = do
   verb ← kept (λ v. is_any v || is_verb_value d.words v) byte_at bytes
-  noun ← kept (λ n. is_any n || has_word d.words 2 n) byte_at verb.1
+  noun ← kept (λ n. is_any n || has_word d.words NOUN_CLASS n) byte_at verb.1
   count ← byte_at noun.1
   each (after_condact d) count.0 count.1
 
 -- how many entries, at most 4,000, and each
 unfoldable pub after_table : Declared → List ℕ → Passing
 after_table d bytes = do
-  count ← number_within 0 4000 bytes
+  count ← number_within 0 ENTRY_LIMIT bytes
   each (after_entry d) count.0 count.1
 
 -- ---- the whole image ----

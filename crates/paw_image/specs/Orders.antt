@@ -1,8 +1,9 @@
 -- The entries of a table in order of verb and noun, and what is looked up in it.
-use Rattle.std.specs.Prelude.{◌≡◌, ℕ, suc, ◌+◌, ◌*◌, ◌≤◌, ◌<◌, Bool, List, [], ◌∷◌, length, Option, Some, None, IsTrue, slice_index, min}
+use Rattle.std.specs.Prelude.{◌≡◌, ℕ, suc, ◌+◌, ◌*◌, ◌≤◌, ◌<◌, ◌&&◌, Bool, List, [], ◌∷◌, length, Option, Some, None, IsTrue, slice_index, min}
 use Rattle.std.specs.List.{All, Contains}
 use Rattle.std.specs.List.Sorted.{IsPermutation, IsNonDecreasingBy, IsPartitionPoint}
 use Rattle.paw_game.specs.declared.parts.Entry.{Entry}
+use Rattle.paw_game.specs.Tables.{is_for}
 use Rattle.paw_image.specs.declared.order.Head.{Head}
 use Rattle.paw_image.specs.declared.order.Order.{Order}
 
@@ -68,13 +69,17 @@ abbrev pub IsLeast : (ℕ → Type 0) → Option ℕ → Type 0
 IsLeast P None = (e : ℕ) → P e → ⊥
 IsLeast P (Some e) = P e × ((f : ℕ) → P f → e ≤ f)
 
--- an entry not below from, of a head that matches
-pub record IsMatch (heads : List Head) (matches : Head → Bool) (from e : ℕ) : Type 0 where
+-- the words of a head match this verb and noun
+abbrev pub is_match : ℕ → ℕ → Head → Bool
+is_match verb noun h = is_for h.verb verb && is_for h.noun noun
+
+-- an entry not below from, of a head with a property
+pub record IsMatch (heads : List Head) (has : Head → Bool) (from e : ℕ) : Type 0 where
   pub reached : from ≤ e
   pub head : Head
   pub is : Contains heads head
   pub number : head.entry ≡ e
-  pub matching : IsTrue (matches head)
+  pub matching : IsTrue (has head)
 
 -- the lower of two numbers, where there are two
 abbrev pub lower : Option ℕ → Option ℕ → Option ℕ

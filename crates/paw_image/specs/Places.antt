@@ -1,6 +1,7 @@
 -- Where rows begin.
 use Rattle.std.specs.Prelude.{◌≡◌, ℕ, zero, suc, ◌+◌, ◌-◌, List, [], ◌∷◌, length, map, Result, Ok, Err}
 use Rattle.std.specs.List.{AllByRecursion}
+use Rattle.paw_base.specs.declared.limits.TheConstants.{ENTRY_LIMIT}
 use Rattle.paw_base.specs.declared.parts.Counts.{Counts}
 use Rattle.paw_game.specs.declared.parts.Word.{Word}
 use Rattle.paw_game.specs.declared.parts.Entry.{Entry}
@@ -39,12 +40,13 @@ entries_after d total (Err left) = []
 
 -- where the entries of the table at the front begin
 unfoldable pub entries_begin : Declared → ℕ → List ℕ → List ℕ
-entries_begin d total bytes = entries_after d total (number_within 0 4000 bytes)
+entries_begin d total bytes = entries_after d total (number_within 0 ENTRY_LIMIT bytes)
 
 -- the same of so many tables
 unfoldable pub tables_begin : Declared → ℕ → ℕ → List ℕ → List (List ℕ)
 tables_begin d total zero bytes = []
-tables_begin d total (suc n) bytes = entries_begin d total bytes ∷ on_rest (tables_begin d total n) (after_table d bytes)
+tables_begin d total (suc n) bytes =
+    entries_begin d total bytes ∷ on_rest (tables_begin d total n) (after_table d bytes)
 
 -- the bytes after the system messages, then after the lists up to each further one
 abbrev pub to_messages : Declared → List ℕ → Passing

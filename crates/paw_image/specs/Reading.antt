@@ -183,7 +183,17 @@ counts_at bytes = do
   objects ← number_at messages.1
   locations ← number_at objects.1
   tables ← number_at locations.1
-  Ok (record { words = words.0; system = system.0; messages = messages.0; objects = objects.0; locations = locations.0; tables = tables.0 }, tables.1)
+  Ok (
+    record {
+      words = words.0;
+      system = system.0;
+      messages = messages.0;
+      objects = objects.0;
+      locations = locations.0;
+      tables = tables.0;
+    },
+    tables.1,
+  )
 
 -- the lists, with so many rows; each location has its exits
 unfoldable pub lists_at : Counts → List ℕ → Reading GameLists
@@ -195,7 +205,18 @@ lists_at counts bytes = do
   locations ← rows_at text_at counts.locations objects.1
   exits ← rows_at exits_at counts.locations locations.1
   tables ← rows_at table_at counts.tables exits.1
-  Ok (record { words = words.0; system = system.0; messages = messages.0; objects = objects.0; locations = locations.0; exits = exits.0; tables = tables.0 }, tables.1)
+  Ok (
+    record {
+      words = words.0;
+      system = system.0;
+      messages = messages.0;
+      objects = objects.0;
+      locations = locations.0;
+      exits = exits.0;
+      tables = tables.0;
+    },
+    tables.1,
+  )
 
 -- all of the bytes, with none after the lists
 unfoldable pub all_of : List ℕ → Result GameLists ℕ

@@ -17,7 +17,15 @@ use Rattle.paw_image.specs.Reading.{all_of}
 -- the game that was read; one with no rows where none was
 abbrev pub or_no_game : Result GameLists ℕ → GameLists
 or_no_game (Ok g) = g
-or_no_game (Err left) = record { words = []; system = []; messages = []; objects = []; locations = []; exits = []; tables = [] }
+or_no_game (Err left) = record {
+  words = [];
+  system = [];
+  messages = [];
+  objects = [];
+  locations = [];
+  exits = [];
+  tables = [];
+}
 
 -- the game whose image the bytes are
 unfoldable pub game_of : List ℕ → GameLists

@@ -4,7 +4,7 @@ ghost use Rattle.std.specs.Prelude.{◌≡◌, ◌≤◌, ◌&&◌, ◌==◌, If
 ghost use Rattle.std.specs.List.{All};
 ghost use Rattle.std.specs.List.Sorted.{IsPermutation};
 ghost use Rattle.paw_game.specs.Tables.{is_for};
-ghost use Rattle.paw_image.specs.Orders.{heads_at, lower, rank, ranked, AreStarts, IsLeast, IsMatch, IsOrder, IsRun, IsSorted, IsStart, Rises};
+ghost use Rattle.paw_image.specs.Orders.{heads_at, is_match, lower, rank, ranked, AreStarts, IsLeast, IsMatch, IsOrder, IsRun, IsSorted, IsStart, Rises};
 
 use paw_base::limits::ENTRY_LIMIT;
 use paw_base::words::{ANY_WORD, NO_WORD};
@@ -54,7 +54,7 @@ fn byte_at(bytes: &[u8], place: usize) -> u8
 
 /// The heads of the entries that begin at these places.
 fn heads_at(alloc: Global, bytes: &[u8], places: &[u32]) -> Result<Vec<Head>, AllocError>
-    requires few { length places.now ≤ 4000 }
+    requires few { length places.now ≤ ENTRY_LIMIT }
     ensures value { IfOk result (λ v. v.items ≡ heads_at bytes.now 0 places.now) }
 {
     let mut heads = Vec::with_capacity(alloc, places.len())?;
@@ -72,10 +72,10 @@ fn heads_at(alloc: Global, bytes: &[u8], places: &[u32]) -> Result<Vec<Head>, Al
 
 /// The heads of the entries that begin at these places, in order of verb, noun and number.
 fn sorted_heads(alloc: Global, bytes: &[u8], places: &[u32]) -> Result<Vec<Head>, AllocError>
-    requires few { length places.now ≤ 4000 }
+    requires few { length places.now ≤ ENTRY_LIMIT }
     ensures same { IfOk result (λ v. IsPermutation (heads_at bytes.now 0 places.now) v.items) }
     ensures rises { IfOk result (λ v. Rises v.items) }
-    ensures few { IfOk result (λ v. length v.items ≤ 4000) }
+    ensures few { IfOk result (λ v. length v.items ≤ ENTRY_LIMIT) }
 {
     let mut heads = heads_at(alloc, bytes, places)?;
     heads.sort_unstable_by_key(
@@ -89,7 +89,7 @@ fn sorted_heads(alloc: Global, bytes: &[u8], places: &[u32]) -> Result<Vec<Head>
 /// How many of the heads have a verb below this one.
 fn start_of(heads: &[Head], verb: u16) -> u16
     requires rises { Rises heads.now }
-    requires few { length heads.now ≤ 4000 }
+    requires few { length heads.now ≤ ENTRY_LIMIT }
     ensures start { IsStart heads.now verb result }
 {
     let start = heads.partition_point(
@@ -103,7 +103,7 @@ fn start_of(heads: &[Head], verb: u16) -> u16
 /// Where the heads of each verb begin, and where those of the last one end.
 fn starts_of(alloc: Global, heads: &[Head]) -> Result<Vec<u16>, AllocError>
     requires rises { Rises heads.now }
-    requires few { length heads.now ≤ 4000 }
+    requires few { length heads.now ≤ ENTRY_LIMIT }
     ensures starts { IfOk result (λ v. AreStarts heads.now v.items) }
 {
     let mut starts = Vec::with_capacity(alloc, VERB_COUNT as usize + 1)?;
@@ -115,7 +115,7 @@ fn starts_of(alloc: Global, heads: &[Head]) -> Result<Vec<u16>, AllocError>
 
 /// The heads of the entries that begin at these places, in order.
 pub fn order_of(alloc: Global, bytes: &[u8], places: &[u32]) -> Result<Order, AllocError>
-    requires few { length places.now ≤ 4000 }
+    requires few { length places.now ≤ ENTRY_LIMIT }
     ensures order { IfOk result (λ order. IsOrder bytes.now places.now order) }
 {
     let heads = sorted_heads(alloc, bytes, places)?;
@@ -179,7 +179,7 @@ fn first_for(order: &Order, verb: u8, noun: u8, from: u16) -> Option<u16>
 /// two that match any verb, the least.
 pub fn next_in(order: &Order, from: u16, verb: u8, noun: u8) -> Option<u16>
     requires sorted { IsSorted order.now }
-    ensures least { IsLeast (IsMatch order.now.heads.items (λ h. is_for h.verb verb && is_for h.noun noun) from) result }
+    ensures least { IsLeast (IsMatch order.now.heads.items (is_match verb noun) from) result }
 {
     let any = first_for(order, ANY_WORD, noun, from);
     let none = first_for(order, NO_WORD, noun, from);

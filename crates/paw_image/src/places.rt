@@ -64,7 +64,7 @@ fn pass_tables<'a>(
 ) -> Result<(Vec<TableIndex>, &'a [u8]), ReadFault>
     requires small { length all.now < 2 ^ 32 }
     ensures gives { Gives (λ x. x.1.now) result (each (after_table rules.now) count bytes.now) }
-    ensures entries { IfOk result (λ x. entries_of x.0.items ≡ tables_begin rules.now (length all.now) count bytes.now) }
+    ensures begin { IfOk result (λ x. entries_of x.0.items ≡ tables_begin rules.now (length all.now) count bytes.now) }
     ensures order { IfOk result (λ x. AllByRecursion (λ t. IsOrder all.now t.entries.items t.order) x.0.items) }
 {
     let mut tables = Vec::new(alloc);

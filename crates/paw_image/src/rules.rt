@@ -5,7 +5,11 @@ ghost use Rattle.paw_game.specs.Valid.{has_word, is_place, is_verb_value, is_wor
 ghost use Rattle.paw_image.specs.Damage.{Declared, keeps_kind};
 
 use paw_base::parts::Counts;
+use paw_base::places::{CARRIED_PLACE, NOT_CREATED_PLACE};
 use paw_base::rows::ParamKind;
+use paw_base::words::{
+    ADJECTIVE_CLASS, ADVERB_CLASS, FIRST_PLAIN_NOUN, NOUN_CLASS, PREPOSITION_CLASS, VERB_CLASS,
+};
 use paw_game::parts::Word;
 use paw_game::values::{is_in_or_none, values_of};
 use std::marker::Model;
@@ -23,6 +27,8 @@ pub struct Rules {
 }
 
 impl Model for Rules {
+    ghost use Rattle.paw_base.specs.declared.words.TheConstants.{VERB_CLASS, ADVERB_CLASS, NOUN_CLASS};
+    ghost use Rattle.paw_base.specs.declared.words.TheConstants.{ADJECTIVE_CLASS, PREPOSITION_CLASS};
     ghost use Rattle.paw_game.specs.Values.{Tells};
     ghost use Rattle.paw_image.specs.Damage.{Declared};
 
@@ -30,22 +36,22 @@ impl Model for Rules {
 
     ghost view = { λ r. record { counts = r.counts; words = r.words.items } };
 
-    ghost invariant = { λ r. Tells r.verbs r.words.items 0
-        × Tells r.adverbs r.words.items 1
-        × Tells r.nouns r.words.items 2
-        × Tells r.adjectives r.words.items 3
-        × Tells r.prepositions r.words.items 4 };
+    ghost invariant = { λ r. Tells r.verbs r.words.items VERB_CLASS
+        × Tells r.adverbs r.words.items ADVERB_CLASS
+        × Tells r.nouns r.words.items NOUN_CLASS
+        × Tells r.adjectives r.words.items ADJECTIVE_CLASS
+        × Tells r.prepositions r.words.items PREPOSITION_CLASS };
 }
 
 impl Rules {
     pub fn new(counts: Counts, words: Vec<Word>) -> Rules
         ensures value { result ≡ record { counts = counts; words = words.items } }
     {
-        let verbs = values_of(words.as_slice(), 0);
-        let adverbs = values_of(words.as_slice(), 1);
-        let nouns = values_of(words.as_slice(), 2);
-        let adjectives = values_of(words.as_slice(), 3);
-        let prepositions = values_of(words.as_slice(), 4);
+        let verbs = values_of(words.as_slice(), VERB_CLASS);
+        let adverbs = values_of(words.as_slice(), ADVERB_CLASS);
+        let nouns = values_of(words.as_slice(), NOUN_CLASS);
+        let adjectives = values_of(words.as_slice(), ADJECTIVE_CLASS);
+        let prepositions = values_of(words.as_slice(), PREPOSITION_CLASS);
         Rules {
             counts,
             words,
@@ -75,26 +81,26 @@ impl Rules {
     pub fn is_verb_value(&self, value: u8) -> bool
         ensures value { result ≡ is_verb_value self.now.words value }
     {
-        self.verbs[value as usize] || value < 20 && self.nouns[value as usize]
+        self.verbs[value as usize] || value < FIRST_PLAIN_NOUN && self.nouns[value as usize]
     }
 
     /// The value of a noun.
     pub fn is_noun(&self, value: u8) -> bool
-        ensures value { result ≡ has_word self.now.words 2 value }
+        ensures value { result ≡ has_word self.now.words NOUN_CLASS value }
     {
         self.nouns[value as usize]
     }
 
     /// 255, or the value of a noun.
     pub fn is_noun_or_none(&self, value: u8) -> bool
-        ensures value { result ≡ is_word_or_none self.now.words 2 value }
+        ensures value { result ≡ is_word_or_none self.now.words NOUN_CLASS value }
     {
         is_in_or_none(&self.nouns, value)
     }
 
     /// 255, or the value of an adjective.
     pub fn is_adjective_or_none(&self, value: u8) -> bool
-        ensures value { result ≡ is_word_or_none self.now.words 3 value }
+        ensures value { result ≡ is_word_or_none self.now.words ADJECTIVE_CLASS value }
     {
         is_in_or_none(&self.adjectives, value)
     }
@@ -109,7 +115,7 @@ impl Rules {
     pub fn is_place(&self, place: u8) -> bool
         ensures value { result ≡ is_place self.now.counts.locations place }
     {
-        self.is_location(place) || matches!(place, 252..=254)
+        self.is_location(place) || matches!(place, NOT_CREATED_PLACE..=CARRIED_PLACE)
     }
 
     /// Whether a parameter keeps the rule of its kind.
@@ -120,7 +126,7 @@ impl Rules {
         match kind {
             ParamKind::Absent => value == 0,
             ParamKind::Location => self.is_location(value),
-            ParamKind::Place => self.is_location(value) || value >= 252,
+            ParamKind::Place => self.is_location(value) || value >= NOT_CREATED_PLACE,
             ParamKind::Object => number < self.counts.objects,
             ParamKind::Flag | ParamKind::Number => true,
             ParamKind::Message => number < self.counts.messages,

@@ -55,7 +55,7 @@ fn write_parameter(kind: ParamKind, value: u8, out: &mut Vec<u8>) -> Result<(), 
 }
 
 /// The condact at the front.
-#[tactic(auto, using(crate::proofs::Faults::fault_first, crate::proofs::Faults::fault_next), unfolding(crate::specs::Reading::condact_at))]
+#[tactic(auto, using(crate::proofs::Faults::fault_steps), unfolding(crate::specs::Reading::condact_at))]
 pub fn read_condact(bytes: &[u8]) -> Result<(Condact, &[u8]), ReadFault>
     ensures gives { Gives (λ x. (x.0, x.1.now)) result (condact_at bytes.now) }
     ensures fails { OnErr result (IsFault (condact_at bytes.now)) }

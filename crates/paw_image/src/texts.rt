@@ -17,7 +17,7 @@ use paw_game::texts::is_printed;
 use std::alloc::{AllocError, Global};
 
 /// The text at the front, lent.
-#[tactic(auto, using(crate::proofs::Faults::fault_first, crate::proofs::Faults::fault_next), unfolding(crate::specs::Reading::text_at))]
+#[tactic(auto, using(crate::proofs::Faults::fault_steps), unfolding(crate::specs::Reading::text_at))]
 pub fn read_text(bytes: &[u8]) -> Result<(&[u8], &[u8]), ReadFault>
     ensures gives { Gives (λ x. (x.0.now, x.1.now)) result (text_at bytes.now) }
     ensures fails { OnErr result (IsFault (text_at bytes.now)) }

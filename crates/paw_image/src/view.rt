@@ -25,8 +25,8 @@ use std::alloc::Global;
 use std::marker::Model;
 
 /// A valid game in the bytes of its image: texts and entries are lent out of them. It keeps the words, where each text,
-/// the exits of each location and each entry begin, and the entries of each table in order of verb and noun. Contracts see the
-/// bytes.
+/// the exits of each location and each entry begin, and the entries of each table in order of verb and noun. Contracts
+/// see the bytes.
 #[derive(Drop)]
 pub struct View<'a> {
     bytes: &'a [u8],
@@ -72,8 +72,8 @@ impl<'a> View<'a> {
     /// The game whose image the bytes are, read in place.
     ///
     /// # Errors
-    /// As `decode`: Damaged exactly where the bytes aren't the image of a valid game, or more than 4,194,304; the place is
-    /// that of the first field, in order, that breaks its rule or isn't all there. Memory only for want of memory.
+    /// As `decode`: Damaged exactly where the bytes aren't the image of a valid game, or more than 4,194,304; the place
+    /// is that of the first field, in order, that breaks its rule or isn't all there. Memory only for want of memory.
     pub fn new(alloc: Global, bytes: &'a [u8]) -> Result<View<'a>, ImageRefusal>
         ensures bytes { IfOk result (λ view. view ≡ bytes.now) }
         ensures found { OnOk result (IsImage bytes.now (game_of bytes.now)) }

@@ -10,6 +10,7 @@ ghost use Rattle.paw_image.specs.Sizes.{FitsWord};
 use crate::fault::ReadFault;
 use crate::fields::{fault_at, read_array, read_byte};
 use crate::rows::Row;
+use paw_base::words::{GREATEST_WORD, LEAST_WORD, PRONOUN_CLASS};
 use paw_game::parts::Word;
 use paw_game::words::are_letters;
 use std::alloc::{AllocError, Global};
@@ -54,11 +55,11 @@ fn read_kept<'a>(before: &[u8], bytes: &'a [u8]) -> Result<(Word, &'a [u8]), Rea
         return Err(fault_at(bytes));
     }
     let (value, classes) = read_byte(values)?;
-    if value < 2 || value > 254 {
+    if value < LEAST_WORD || value > GREATEST_WORD {
         return Err(fault_at(values));
     }
     let (class, rest) = read_byte(classes)?;
-    if class > 6 {
+    if class > PRONOUN_CLASS {
         return Err(fault_at(classes));
     }
     let word = Word {

@@ -24,6 +24,6 @@ loop-preserved c = record {
 pub returns-clause-gives : goal.returns-clause-gives
 returns-clause-gives c = each_is_done (after_table c.args.rules.now) c.args.count c.loop.counter c.loop.rest.now _ c.loop-test.false c.loop.invariant.left
 
-pub returns-clause-entries : goal.returns-clause-entries
-returns-clause-entries c =
+pub returns-clause-begin : goal.returns-clause-begin
+returns-clause-begin c =
     tables_are_done c.args.rules.now (length c.args.all.now) c.loop.tables.items c.args.count c.loop.counter c.loop.rest.now _ c.loop-test.false c.loop.invariant.kept
