@@ -11,7 +11,8 @@ use Rattle.paw_effects.specs.declared.act.Prompt.{Prompt}
 use Rattle.paw_effects.specs.declared.act.Prompt.TheVariants as prompt
 use Rattle.paw_reading.specs.declared.places.Frame.{Frame}
 use Rattle.paw_reading.specs.Run.{Run, Step}
-use Rattle.paw_reading.specs.Turn.{Ending, WaitsAt, IsOver, RunsOut, CallsTooDeep, Unended, reading, on, run_of, pieces_of, text_of}
+use Rattle.paw_reading.specs.Reading.{IsOver}
+use Rattle.paw_reading.specs.Turn.{Ending, WaitsAt, Halted, Unended, reading, on, run_of, pieces_of, text_of}
 use Rattle.paw_reading.specs.GoingOn.{with_lines}
 use Rattle.paw_reading.specs.Longer.{ending_with_past, with_past, without_past}
 use Rattle.paw_reading.specs.Pieces.{Counted}
@@ -39,10 +40,8 @@ pub record Settles (g : GameLists) (n : ℕ) (p : Prompt) (path : List Frame) (r
 
 abbrev pub IsSettled : GameLists → ℕ → Ending → Type 0
 IsSettled g n (WaitsAt p path r) = Settles g n p path r
-IsSettled g n (IsOver r) = Settles g n prompt.Over [] r
-IsSettled g n (RunsOut kind r) = Unit {0}
-IsSettled g n (CallsTooDeep u r) = Unit {0}
-IsSettled g n Unended = Unit {0}
+IsSettled g n (Halted IsOver r) = Settles g n prompt.Over [] r
+IsSettled g n _ = Unit {0}
 
 -- ---- a reading from one of its pieces on ----
 
@@ -74,17 +73,13 @@ module _ (n : ℕ) (ps : List (List ℕ)) (ts : List (List Step)) (all : length 
   -- an ending with closed pieces before it, from the last of those on
   since_past : (e : Ending) → ending_since n (ending_with_past ps ts e) ≡ ending_with_past (last_piece ps ∷ []) [] e
   since_past (WaitsAt p path r) = ap (WaitsAt p path) (run_since r)
-  since_past (IsOver r) = ap IsOver (run_since r)
-  since_past (RunsOut kind r) = ap (RunsOut kind) (run_since r)
-  since_past (CallsTooDeep u r) = ap (CallsTooDeep u) (run_since r)
+  since_past (Halted halt r) = ap (Halted halt) (run_since r)
   since_past Unended = refl
 
 -- its text
 pub text_since_is : (n : ℕ) (e : Ending) → text_of (ending_since n e) ≡ joined (drop n (pieces_of (run_of e)))
 text_since_is n (WaitsAt p path r) = refl
-text_since_is n (IsOver r) = refl
-text_since_is n (RunsOut kind r) = refl
-text_since_is n (CallsTooDeep u r) = refl
+text_since_is n (Halted halt r) = refl
 text_since_is zero Unended = refl
 text_since_is (suc n) Unended = refl
 
@@ -93,12 +88,10 @@ pub whole_kept : (digest : List ℕ) (n m lines : ℕ) (e : Ending) (r : Recover
 whole_kept digest n m lines (WaitsAt p path s) r counted few k =
     let low : n < length s.pieces = omega (arith, counted.1, ap length counted.0) in
     record { played = tt; shown = k.shown ∙ ap (λ q. Shown digest (kept_bytes (record (state_at m p path s) { piece = length q })) q) (last_dropped n s.pieces low) }
-whole_kept digest n m lines (IsOver s) r counted few k =
+whole_kept digest n m lines (Halted IsOver s) r counted few k =
     let low : n < length s.pieces = omega (arith, counted, ap length k.played) in
     record { played = k.played; shown = k.shown ∙ ap (λ q. Shown digest (kept_bytes (record (state_at m prompt.Over [] s) { piece = length q })) q) (last_dropped n s.pieces low) }
-whole_kept digest n m lines (RunsOut kind s) r counted few k = absurd k.played
-whole_kept digest n m lines (CallsTooDeep u s) r counted few k = absurd k.played
-whole_kept digest n m lines Unended r counted few k = absurd k.played
+whole_kept digest n m lines _ r counted few k = absurd k.played
 
 -- ---- going on from a state of a reading ----
 
@@ -142,14 +135,14 @@ module _ (g : Story) (seed : ℕ) (es fs : List (List ℕ)) where
         ∙ past_stays g (last_piece r.pieces ∷ []) [] p path (with_lines fs (without_past r)),
   )
 
-  over_goes : (r : Run) → reading g seed es ≡ IsOver r → Settles g.game (length es) prompt.Over [] r → r.events ≡ [] →
-      Counted (length es) (IsOver r) → GoesOnFrom (IsOver r) (state_at (length es) prompt.Over [] r) (last_piece r.pieces)
+  over_goes : (r : Run) → reading g seed es ≡ Halted IsOver r → Settles g.game (length es) prompt.Over [] r → r.events ≡ [] →
+      Counted (length es) (Halted IsOver r) → GoesOnFrom (Halted IsOver r) (state_at (length es) prompt.Over [] r) (last_piece r.pieces)
   over_goes r is k none counted = (
     all_pieces (length es) r.pieces r.events counted none,
     k.traced ∙ all_pieces (length es) r.pieces r.events counted none,
-    IsOver (with_lines fs (without_past r)),
-    rw is at (going_on_is_reading g seed es fs) ∙ ap IsOver (rw (append-nil r.pieces, append-nil r.traces) refl),
-    ap IsOver (taken_past r (last_piece r.pieces) fs k.current k.read none),
+    Halted IsOver (with_lines fs (without_past r)),
+    rw is at (going_on_is_reading g seed es fs) ∙ ap (Halted IsOver) (rw (append-nil r.pieces, append-nil r.traces) refl),
+    ap (Halted IsOver) (taken_past r (last_piece r.pieces) fs k.current k.read none),
   )
 
   ended_goes : (e : Ending) → reading g seed es ≡ e → IsSettled g.game (length es) e → Counted (length es) e → (digest : List ℕ) (r : Recovered) (kept : IsKept digest (length es) e r)
@@ -161,14 +154,12 @@ module _ (g : Story) (seed : ℕ) (es fs : List (List ℕ)) where
       let same : st ≡ state_at (length es) p path s = bytes_tell_the_state g.game st (state_at (length es) p path s) v keeps fits k.keeps k.fits cc in
       let piece_is : piece ≡ last_piece s.pieces = cc in
       rw (same, piece_is) (refl, waiting_goes p path s is k counted)
-  ended_goes (IsOver s) is k counted digest r kept st piece v keeps fits shown =
+  ended_goes (Halted IsOver s) is k counted digest r kept st piece v keeps fits shown =
       let both : Shown digest (kept_bytes st) piece ≡ Shown digest (state_bytes (state_at (length es) prompt.Over [] s)) (last_piece s.pieces) = sym shown ∙ kept.shown in
       let same : st ≡ state_at (length es) prompt.Over [] s = bytes_tell_the_state g.game st (state_at (length es) prompt.Over [] s) v keeps fits k.keeps k.fits cc in
       let piece_is : piece ≡ last_piece s.pieces = cc in
       rw (same, piece_is) (refl, over_goes s is k kept.played counted)
-  ended_goes (RunsOut kind s) is k counted digest r kept st piece v keeps fits shown = absurd kept.played
-  ended_goes (CallsTooDeep u s) is k counted digest r kept st piece v keeps fits shown = absurd kept.played
-  ended_goes Unended is k counted digest r kept st piece v keeps fits shown = absurd kept.played
+  ended_goes _ is k counted digest r kept st piece v keeps fits shown = absurd kept.played
 
   -- going on from the state that a store shows is reading the longer list
   pub goes_on : IsSettled g.game (length es) (reading g seed es) → (bytes : List ℕ) (st : State) (piece : List ℕ) → Valid g.game

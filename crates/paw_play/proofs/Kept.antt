@@ -4,7 +4,8 @@ use Rattle.std.specs.Prelude.{reverse, replicate, ◌-◌}
 use Rattle.paw_effects.specs.declared.act.Prompt.{Prompt}
 use Rattle.paw_effects.specs.declared.act.Prompt.TheVariants as prompt
 use Rattle.paw_reading.specs.Run.{Step as Read}
-use Rattle.paw_reading.specs.Turn.{Ending, WaitsAt, IsOver}
+use Rattle.paw_reading.specs.Reading.{IsOver}
+use Rattle.paw_reading.specs.Turn.{Ending, WaitsAt, Halted}
 use Rattle.paw_turn.specs.Player.{Seat, run_at, PlaysTo, Stands}
 use Rattle.paw_turn.specs.declared.Step.{Step}
 use Rattle.paw_turn.specs.declared.Step.TheVariants as step
@@ -39,7 +40,7 @@ waits_kept g digest events e p next pieces traces last is = rw (is, last) (recor
 })
 
 over_kept : {F : Type 0} (g : Story) (digest : List ℕ) (events : ℕ) (e : Ending) (next : Seat F) (pieces : List (List ℕ)) (traces : List (List Read)) → next.last ≡ step.Ended → next.machine.frames ≡ [] →
-    e ≡ IsOver (run_at next (pieces ++ next.piece ∷ []) traces []) → IsKept digest events e (Shown digest (seat_state events next) next.piece)
+    e ≡ Halted IsOver (run_at next (pieces ++ next.piece ∷ []) traces []) → IsKept digest events e (Shown digest (seat_state events next) next.piece)
 over_kept g digest events e next pieces traces last closed is = rw (is, last) (record {
   played = refl;
   shown = ap (λ (k : Frames). Shown digest (kept_bytes (record { world = next.world; frames = k; pending = next.pending; prompt = prompt.Over; events = events; piece = length next.piece })) next.piece) (kept_is next.machine ∙ ap (λ fs. frames_at (reverse fs) next.machine.turning) closed)

@@ -14,7 +14,8 @@ use Rattle.paw_effects.specs.Standing.{AreBytes, MayBePosition, IsWorldOf}
 use Rattle.paw_effects.proofs.Worlds.{few_objects, place_small}
 use Rattle.paw_reading.specs.declared.places.Frame.{Frame}
 use Rattle.paw_reading.specs.Run.{Run}
-use Rattle.paw_reading.specs.Turn.{Ending, WaitsAt, IsOver, RunsOut, CallsTooDeep, Unended, reading}
+use Rattle.paw_reading.specs.Reading.{IsOver}
+use Rattle.paw_reading.specs.Turn.{Ending, WaitsAt, Halted, reading}
 use Rattle.paw_reading.specs.Bounds.{IsBounded}
 use Rattle.paw_reading.specs.Pieces.{Counted}
 use Rattle.paw_reading.specs.Places.{waiting_code, AreOpenAt, StandsRightly, StopsRightly, StopsBounded}
@@ -106,10 +107,8 @@ module _ (g : GameLists) (v : Valid g) (seed : ℕ) (n : ℕ) (fits : seed < 2 ^
 
   ending_settles : (e : Ending) → StopsRightly g e → StopsBounded seed 0 e → Counted n e → IsSettled g n e
   ending_settles (WaitsAt p path r) at bound count = settles p path r at.1 bound count.1
-  ending_settles (IsOver r) at bound count = settles prompt.Over [] r at bound count
-  ending_settles (RunsOut kind r) at bound count = tt
-  ending_settles (CallsTooDeep u r) at bound count = tt
-  ending_settles Unended at bound count = tt
+  ending_settles (Halted IsOver r) at bound count = settles prompt.Over [] r at bound count
+  ending_settles _ at bound count = tt
 
 pub reading_settles : (g : Story) (seed : ℕ) (es : List (List ℕ)) → IsPlayedWith g seed es → length es ≤ 1000000000 → IsSettled g.game (length es) (reading g seed es)
 reading_settles g seed es played few =

@@ -10,7 +10,8 @@ use Rattle.paw_game.specs.Image.{image}
 use Rattle.paw_stage.specs.Stage.{Standing}
 use Rattle.paw_stage.specs.Moments.{Moment}
 use Rattle.paw_effects.specs.declared.act.Prompt.TheVariants as prompt
-use Rattle.paw_reading.specs.Turn.{Ending, WaitsAt, IsOver, RunsOut, CallsTooDeep, Unended, reading, text_of}
+use Rattle.paw_reading.specs.Reading.{IsOver}
+use Rattle.paw_reading.specs.Turn.{Ending, WaitsAt, Halted, reading, text_of}
 use Rattle.paw_reading.proofs.Counts.{pieces_of_lines}
 use Rattle.paw_effects.specs.Standing.{AreBytes}
 use Rattle.paw_reading.specs.Bounds.{IsLine}
@@ -40,11 +41,9 @@ use Rattle.paw_effects.specs.Story.{Story}
 ending_shows : (g : GameLists) (n : ℕ) (bytes : List ℕ) (e : Ending) → IsSettled g n e → IsKept (sha256 (image g)) n e (recover bytes) → ShowsSome g bytes
 ending_shows g n bytes (WaitsAt p path r) k kept =
     record { state = state_at n p path r; piece = last_piece r.pieces; shows = record { keeps = k.keeps; fits = k.fits; shown = kept.shown } }
-ending_shows g n bytes (IsOver r) k kept =
+ending_shows g n bytes (Halted IsOver r) k kept =
     record { state = state_at n prompt.Over [] r; piece = last_piece r.pieces; shows = record { keeps = k.keeps; fits = k.fits; shown = kept.shown } }
-ending_shows g n bytes (RunsOut kind r) k kept = absurd kept.played
-ending_shows g n bytes (CallsTooDeep u r) k kept = absurd kept.played
-ending_shows g n bytes Unended k kept = absurd kept.played
+ending_shows g n bytes _ k kept = absurd kept.played
 
 pub standing_shows : StandingShows
 standing_shows g seed es bytes played stands =

@@ -10,7 +10,8 @@ use Rattle.paw_effects.specs.Story.{Story}
 use Rattle.paw_effects.specs.declared.act.Prompt.{Prompt}
 use Rattle.paw_effects.specs.declared.act.Prompt.TheVariants as prompt
 use Rattle.paw_reading.specs.Run.{Run, Step as Read}
-use Rattle.paw_reading.specs.Turn.{RunsOut, CallsTooDeep, reading, on, text_of}
+use Rattle.paw_reading.specs.Reading.{RunsOut, CallsTooDeep}
+use Rattle.paw_reading.specs.Turn.{Halted, reading, on, text_of}
 use Rattle.paw_turn.specs.Player.{Seat, run_at}
 use Rattle.paw_turn.specs.Parts.{prompt_at}
 use Rattle.paw_turn.specs.declared.Step.{Step}
@@ -154,8 +155,8 @@ pub record IsStore (name : List ℕ) (s : Standing) : Type 0 where
 
 -- what making a new session comes to, once its store is attached
 abbrev pub BegunAs : Played → Standing → Standing → PlayEnd → Type 0
-BegunAs s first now (end.Spent kind) = (r : Run) × (s.whole [] ≡ RunsOut kind r) × (now ≡ first)
-BegunAs s first now (end.TooDeep table) = (r : Run) × (s.whole [] ≡ CallsTooDeep table r) × (now ≡ first)
+BegunAs s first now (end.Spent kind) = (r : Run) × (s.whole [] ≡ Halted (RunsOut kind) r) × (now ≡ first)
+BegunAs s first now (end.TooDeep table) = (r : Run) × (s.whole [] ≡ Halted (CallsTooDeep table) r) × (now ≡ first)
 BegunAs s first now (end.Outside call.Write) = now ≡ with_store now first
 BegunAs s first now (end.Outside call.Sync) = now ≡ with_store now first
 BegunAs s first now o = PlaysOn s MOST_EVENTS first now o

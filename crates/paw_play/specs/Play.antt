@@ -9,7 +9,8 @@ use Rattle.paw_base.specs.declared.fault.SpentKind.{SpentKind}
 use Rattle.paw_game.specs.Game.{GameLists}
 use Rattle.paw_effects.specs.Story.{Story}
 use Rattle.paw_reading.specs.Run.{Run}
-use Rattle.paw_reading.specs.Turn.{RunsOut, CallsTooDeep, reading, on, text_of}
+use Rattle.paw_reading.specs.Reading.{RunsOut, CallsTooDeep}
+use Rattle.paw_reading.specs.Turn.{Halted, reading, on, text_of}
 use Rattle.paw_journal.specs.Session.{Recovered, Unmade, Damaged, Shown, recover, state_length}
 use Rattle.paw_journal.specs.Journal.{IsWriting}
 use Rattle.paw_journal.specs.declared.refusal.JournalRefusal.{JournalRefusal}
@@ -79,8 +80,10 @@ pub record NotYet (name : List ℕ) (old : Standing) (m : Moment) : Type 0 where
 pub data PlaysIn (Kept : ℕ → List ℕ → Type 0) (whole : Reading) (name : List ℕ) (old new : Standing) : PlayEnd → Type 0 where
   memory : new ≡ old → PlaysIn Kept whole name old new end.Memory
   -- the piece before the first line is spent, or calls too deep: no session is made
-  spent : (kind : SpentKind) (r : Run) → whole [] ≡ RunsOut kind r → new ≡ old → PlaysIn Kept whole name old new (end.Spent kind)
-  too_deep : (table : ℕ) (r : Run) → whole [] ≡ CallsTooDeep table r → new ≡ old → PlaysIn Kept whole name old new (end.TooDeep table)
+  spent : (kind : SpentKind) (r : Run) → whole [] ≡ Halted (RunsOut kind) r → new ≡ old →
+      PlaysIn Kept whole name old new (end.Spent kind)
+  too_deep : (table : ℕ) (r : Run) → whole [] ≡ Halted (CallsTooDeep table) r → new ≡ old →
+      PlaysIn Kept whole name old new (end.TooDeep table)
   -- the session couldn't be made; nothing was asked or shown
   unmade : (c : StageCall) → IsWriting c → new ≡ with_store new old → PlaysIn Kept whole name old new (end.Outside c)
   plays : (o : PlayEnd) → PlaysWith Kept whole 0 name MOST_EVENTS old new o → PlaysIn Kept whole name old new o

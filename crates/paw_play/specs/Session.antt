@@ -1,7 +1,8 @@
 -- What a session keeps of a reading.
 use Rattle.std.specs.Prelude.{◌≡◌, ℕ, List, []}
 use Rattle.paw_effects.specs.declared.act.Prompt.TheVariants as prompt
-use Rattle.paw_reading.specs.Turn.{Ending, WaitsAt, IsOver, RunsOut, CallsTooDeep, Unended, run_of, pieces_of}
+use Rattle.paw_reading.specs.Reading.{IsOver}
+use Rattle.paw_reading.specs.Turn.{Ending, WaitsAt, Halted, run_of, pieces_of}
 use Rattle.paw_journal.specs.Session.{Recovered, Shown}
 use Rattle.paw_state.specs.State.{State}
 use Rattle.paw_state.specs.Fields.{state_bytes}
@@ -14,18 +15,14 @@ kept_bytes s = state_bytes s
 -- the bytes of the state where a reading ended
 abbrev pub state_after : ℕ → Ending → List ℕ
 state_after events (WaitsAt p path r) = kept_bytes (state_at events p path r)
-state_after events (IsOver r) = kept_bytes (state_at events prompt.Over [] r)
-state_after events (RunsOut kind r) = []
-state_after events (CallsTooDeep u r) = []
-state_after events Unended = []
+state_after events (Halted IsOver r) = kept_bytes (state_at events prompt.Over [] r)
+state_after events _ = []
 
 -- the reading waits, or is over with its last line
 abbrev pub IsPlayed : Ending → Type 0
 IsPlayed (WaitsAt p path r) = Unit {0}
-IsPlayed (IsOver r) = r.events ≡ []
-IsPlayed (RunsOut kind r) = ⊥
-IsPlayed (CallsTooDeep u r) = ⊥
-IsPlayed Unended = ⊥
+IsPlayed (Halted IsOver r) = r.events ≡ []
+IsPlayed _ = ⊥
 
 -- a session of the game with this digest stands where a reading ended, after so many lines: it shows the state there, and
 -- the last piece

@@ -4,7 +4,7 @@ use Rattle.sha2.specs.Sha256.{sha256}
 use Rattle.paw_effects.specs.Story.{Story}
 use Rattle.paw_game.specs.Image.{image}
 use Rattle.paw_reading.specs.Run.{Run}
-use Rattle.paw_reading.specs.Turn.{Ending, WaitsAt, IsOver, RunsOut, CallsTooDeep, Unended, reading, run_of, pieces_of}
+use Rattle.paw_reading.specs.Turn.{Ending, WaitsAt, Halted, Unended, reading, run_of, pieces_of}
 use Rattle.paw_reading.specs.Bounds.{IsLine, ValidStory}
 use Rattle.paw_journal.specs.Session.{recover}
 use Rattle.paw_play.specs.declared.TheConstants.{MOST_EVENTS}
@@ -39,9 +39,7 @@ since_piece n r = record r { pieces = drop n r.pieces; traces = drop (suc n) r.t
 
 abbrev pub ending_since : ℕ → Ending → Ending
 ending_since n (WaitsAt p path r) = WaitsAt p path (since_piece n r)
-ending_since n (IsOver r) = IsOver (since_piece n r)
-ending_since n (RunsOut kind r) = RunsOut kind (since_piece n r)
-ending_since n (CallsTooDeep u r) = CallsTooDeep u (since_piece n r)
+ending_since n (Halted halt r) = Halted halt (since_piece n r)
 ending_since n Unended = Unended
 
 -- the reading of the lines es and others, from the last piece of es on

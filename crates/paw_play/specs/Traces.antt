@@ -3,7 +3,7 @@ use Rattle.std.specs.Prelude.{ℕ, zero, suc, ◌-◌, Bool, true, false, List, 
 use Rattle.paw_base.specs.Condacts.{name_of}
 use Rattle.paw_base.specs.declared.limits.TheConstants.{STEP_LIMIT}
 use Rattle.paw_reading.specs.Run.{Run, Step}
-use Rattle.paw_reading.specs.Turn.{Ending, WaitsAt, IsOver, RunsOut, CallsTooDeep, Unended}
+use Rattle.paw_reading.specs.Turn.{Ending, WaitsAt, Halted, Unended}
 use Rattle.paw_play.specs.Walk.{Reading}
 
 -- ---- the text of steps ----
@@ -42,9 +42,7 @@ traced_run r = record r { pieces = traced_pieces r.pieces r.traces }
 
 abbrev pub traced_ending : Ending → Ending
 traced_ending (WaitsAt p path r) = WaitsAt p path (traced_run r)
-traced_ending (IsOver r) = IsOver (traced_run r)
-traced_ending (RunsOut kind r) = RunsOut kind (traced_run r)
-traced_ending (CallsTooDeep table r) = CallsTooDeep table (traced_run r)
+traced_ending (Halted halt r) = Halted halt (traced_run r)
 traced_ending Unended = Unended
 
 -- a reading whose pieces are told so

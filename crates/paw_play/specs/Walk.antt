@@ -5,7 +5,8 @@ use Rattle.paw_stage.specs.declared.StageCall.TheVariants as call
 use Rattle.paw_effects.specs.declared.act.Prompt.{Prompt}
 use Rattle.paw_reading.specs.declared.places.Frame.{Frame}
 use Rattle.paw_reading.specs.Run.{Run}
-use Rattle.paw_reading.specs.Turn.{Ending, WaitsAt, IsOver, RunsOut, CallsTooDeep, text_of}
+use Rattle.paw_reading.specs.Reading.{Halt, IsOver, RunsOut, CallsTooDeep}
+use Rattle.paw_reading.specs.Turn.{Ending, WaitsAt, Halted, text_of}
 use Rattle.paw_play.specs.declared.PlayEnd.{PlayEnd}
 use Rattle.paw_play.specs.declared.PlayEnd.TheVariants as end
 use Rattle.paw_play.specs.declared.TheConstants.{MOST_EVENTS}
@@ -54,17 +55,19 @@ pub record ReadsPart (whole : Reading) (old new : Standing) (n : ℕ) : Type 0 w
   pub there : n ≤ length old.lines
   pub stands : new ≡ played old n shown
 
+-- so many lines were taken, of which the last ended the reading so for good
+abbrev pub WalkHalts : Reading → ℕ → Standing → Standing → Halt → Type 0
+WalkHalts whole most old new halt =
+    (n : ℕ) × (n ≤ most) × (r : Run) × (r.events ≡ []) × Reads whole old new n (Halted halt r)
+
 -- What a walk comes to that may take so many lines. No line is taken behind the one that ends it. One more is asked for
 -- only where fewer than the most were taken, so where the player still waits after that many the walk is Long.
 abbrev pub Walks : Reading → ℕ → Standing → Standing → PlayEnd → Type 0
-Walks whole most old new end.Ended =
-    (n : ℕ) × (n ≤ most) × (r : Run) × (r.events ≡ []) × Reads whole old new n (IsOver r)
+Walks whole most old new end.Ended = WalkHalts whole most old new IsOver
 Walks whole most old new end.InputEnded =
     (length old.lines < most) × (p : Prompt) × (path : List Frame) × (r : Run) × Reads whole old new (length old.lines) (WaitsAt p path r)
-Walks whole most old new (end.Spent kind) =
-    (n : ℕ) × (n ≤ most) × (r : Run) × (r.events ≡ []) × Reads whole old new n (RunsOut kind r)
-Walks whole most old new (end.TooDeep table) =
-    (n : ℕ) × (n ≤ most) × (r : Run) × (r.events ≡ []) × Reads whole old new n (CallsTooDeep table r)
+Walks whole most old new (end.Spent kind) = WalkHalts whole most old new (RunsOut kind)
+Walks whole most old new (end.TooDeep table) = WalkHalts whole most old new (CallsTooDeep table)
 Walks whole most old new (end.Long events) =
     (events ≡ MOST_EVENTS) × (p : Prompt) × (path : List Frame) × (r : Run) × Reads whole old new most (WaitsAt p path r)
 Walks whole most old new (end.Outside call.Ask) =

@@ -26,7 +26,7 @@ use Rattle.paw_effects.specs.Texts.{put_text}
 use Rattle.paw_reading.specs.declared.places.Frame.{Frame}
 use Rattle.paw_reading.specs.declared.places.OpenLoop.{OpenLoop}
 use Rattle.paw_reading.specs.Run.{Run, Step, closed, with_world}
-use Rattle.paw_reading.specs.Reading.{Out, IsSpent, step_at, noted, printing, waits, tests, acts, parses, carried_out, after_action, loop_of, deeper}
+use Rattle.paw_reading.specs.Reading.{RunsOut, Out, halts, step_at, noted, printing, waits, tests, acts, parses, carried_out, after_action, loop_of, deeper}
 use Rattle.paw_reading.specs.GoingOn.{along, on_path}
 use Rattle.paw_process.specs.OpenTables.{OpenTables, HasRead, ReadsNone, ReadsStep, below}
 use Rattle.paw_process.specs.Meaning.{Held, held, Shows, showing, with_steps, to_come, going_on, ComesTo, RunsTo}
@@ -106,7 +106,7 @@ act_follows g old mid f c w w' p p' piece piece' a e r kind does unspent same eq
     ∙ act_at g (below old.frames) f (effect_of g w c) w w' p p' old.turning (if a.cancel_loop then None else old.turning) piece piece' a (noted f c true r) m.0 m.1 m.2 m.3 eq refl)
 
 -- an action whose text doesn't fit
-pub act_spends : (g : Story) (old : OpenTables) (f : Frame) (c : Condact) (w w' : World) (p : PendingLine) (piece piece' : List ℕ) (a : Act) (r : Run) → is_condition c ≡ false → Does (effect_of g w c) piece piece' w' a → effect.Spent ≡ a.effect → one_at g (below old.frames) f c (showing (held w p old piece) r) ≡ IsSpent spent.Text (noted f c true (showing (held w p old piece) r))
+pub act_spends : (g : Story) (old : OpenTables) (f : Frame) (c : Condact) (w w' : World) (p : PendingLine) (piece piece' : List ℕ) (a : Act) (r : Run) → is_condition c ≡ false → Does (effect_of g w c) piece piece' w' a → effect.Spent ≡ a.effect → one_at g (below old.frames) f c (showing (held w p old piece) r) ≡ halts (RunsOut spent.Text) (noted f c true (showing (held w p old piece) r))
 act_spends g old f c w w' p piece piece' a r kind does is =
     one_acts g (below old.frames) f c (showing (held w p old piece) r) kind
     ∙ ask_spent g (below old.frames) (effect_of g w c).text

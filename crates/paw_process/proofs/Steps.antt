@@ -11,12 +11,12 @@ use Rattle.paw_effects.specs.declared.act.Effect.TheVariants as effect
 use Rattle.paw_reading.specs.declared.places.Frame.{Frame}
 use Rattle.paw_reading.specs.declared.places.OpenLoop.{OpenLoop}
 use Rattle.paw_reading.specs.Run.{Run, closed, without_loop}
-use Rattle.paw_reading.specs.Reading.{Out, Left, Redescribes, IsSpent, at_level, again, taken, turns, loop_of, waits, plain, looped, deeper, rest, reads_one}
+use Rattle.paw_reading.specs.Reading.{RunsOut, Redescribes, Halts, Out, Left, Stopped, halts, at_level, again, taken, turns, loop_of, waits, plain, looped, deeper, rest, reads_one}
 use Rattle.paw_reading.specs.GoingOn.{along, on_path}
 use Rattle.paw_reading.proofs.Onward.{taken_again}
 use Rattle.paw_reading.proofs.Keeps.{at_level_own, plain_keeps, turns_closes, deeper_keeps}
 use Rattle.paw_reading.proofs.Rules.{within_budget, within_none, inside_end, inside_condact, plain_left, plain_match, plain_inside, again_closed, after_call_again}
-use Rattle.paw_reading.proofs.Along.{along_spent, along_redescribes, on_path_reverse}
+use Rattle.paw_reading.proofs.Along.{along_stopped, on_path_reverse}
 use Rattle.paw_process.specs.Objects.{is_next, least_taken}
 use Rattle.paw_process.specs.Meaning.{going_on}
 use Rattle.paw_process.specs.Moves.{settled, next_of, past_of, reading_at, acted_at, turning_at}
@@ -83,11 +83,11 @@ acted_loop g fs f p r =
     (turns_closes g (length fs) (loop_of (length fs) f p) (past_of g fs f true) refl
     (plain_keeps g sub (length fs) (deeper_keeps g (length fs)) f.table f.entry (suc f.at) true) (length g.game.objects) r))
 
-pub acted_redescribes : (g : Story) (fs : List Frame) (f : Frame) (r : Run) → acted_at g fs f effect.Redescribe r ≡ Redescribes (without_loop r)
-acted_redescribes g fs f r = along_redescribes g fs (without_loop r)
+pub acted_redescribes : (g : Story) (fs : List Frame) (f : Frame) (r : Run) → acted_at g fs f effect.Redescribe r ≡ Stopped Redescribes (without_loop r)
+acted_redescribes g fs f r = along_stopped g fs Redescribes (without_loop r)
 
-pub acted_spent : (g : Story) (fs : List Frame) (f : Frame) (r : Run) → acted_at g fs f effect.Spent r ≡ IsSpent spent.Text r
-acted_spent g fs f r = along_spent g fs spent.Text r
+pub acted_spent : (g : Story) (fs : List Frame) (f : Frame) (r : Run) → acted_at g fs f effect.Spent r ≡ halts (RunsOut spent.Text) r
+acted_spent g fs f r = along_stopped g fs (Halts (RunsOut spent.Text)) r
 
 -- the piece is closed, and the run goes on at the prompt along the frames
 pub settled_waits : (g : Story) (fs : List Frame) (f : Frame) (p : Prompt) (r : Run) → settled g fs (waits g p f (past_of g fs f) r) ≡ on_path g p 0 (reverse (f ∷ fs)) (closed r)
@@ -125,7 +125,7 @@ reading_condact g fs f r c h low =
     ap (settled g fs) (inside_condact g (deeper g (length fs)) (length fs) f.table f.entry f.at f.acted r c h ∙ within_budget r _ low)
 
 -- the budget is used up
-pub reading_none : (g : Story) (fs : List Frame) (f : Frame) (r : Run) (c : Condact) → condact_at g.game f.table f.entry f.at ≡ Some c → 200000 ≤ length r.read → reading_at g fs f r ≡ IsSpent spent.Condacts r
+pub reading_none : (g : Story) (fs : List Frame) (f : Frame) (r : Run) (c : Condact) → condact_at g.game f.table f.entry f.at ≡ Some c → 200000 ≤ length r.read → reading_at g fs f r ≡ halts (RunsOut spent.Condacts) r
 reading_none g fs f r c h low =
     ap (settled g fs) (inside_condact g (deeper g (length fs)) (length fs) f.table f.entry f.at f.acted r c h ∙ within_none r _ low)
-    ∙ along_spent g fs spent.Condacts r
+    ∙ along_stopped g fs (Halts (RunsOut spent.Condacts)) r

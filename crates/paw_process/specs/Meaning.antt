@@ -7,7 +7,7 @@ use Rattle.paw_phrase.specs.Pending.{PendingLine}
 use Rattle.paw_effects.specs.declared.act.Prompt.TheVariants as prompt
 use Rattle.paw_reading.specs.declared.places.Frame.{Frame}
 use Rattle.paw_reading.specs.Run.{Run, Step, closed, is_ignored, heard, reply, is_yes}
-use Rattle.paw_reading.specs.Reading.{Out, Left, Redescribes, IsSpent, IsDeep, rest}
+use Rattle.paw_reading.specs.Reading.{Halt, RunsOut, CallsTooDeep, Redescribes, Out, Left, Stopped, halts, rest}
 use Rattle.paw_reading.specs.GoingOn.{on_path, along}
 use Rattle.paw_process.specs.OpenTables.{OpenTables, HasRead, IsWaiting, IsClosed}
 use Rattle.paw_process.specs.declared.Turned.{Turned}
@@ -65,15 +65,19 @@ pub record SamePast (old new : Run) : Type 0 where
   pub traces : new.traces ≡ old.traces
   pub events : new.events ≡ old.events
 
--- What a reading comes to, where the machine turned out so, with these frames and this run: the outermost table was left;
--- the location is described again; the piece is closed, and the run goes on at the prompt along the frames; or the piece
--- is spent or a call too deep, and what world and piece then hold is open
+-- the reading ends so for good, in a run with the same past; what world and piece then hold is open
+abbrev pub TableHalts : Halt → Run → Out → Type 0
+TableHalts halt r x = (s : Run) × (x ≡ halts halt s) × SamePast r s
+
+-- What a reading comes to, where the machine turned out so, with these frames and this run: the outermost table was
+-- left; the location is described again; the piece is closed, and the run goes on at the prompt along the frames; or
+-- the piece is spent or a call too deep
 abbrev pub ComesTo : Story → Turned → List Frame → Run → Out → Type 0
 ComesTo g (turned.Left acted) fs r x = x ≡ Left acted r
-ComesTo g turned.Redescribe fs r x = x ≡ Redescribes r
+ComesTo g turned.Redescribe fs r x = x ≡ Stopped Redescribes r
 ComesTo g (turned.Waits p) fs r x = x ≡ on_path g p 0 (reverse fs) (closed r)
-ComesTo g (turned.Spent kind) fs r x = (s : Run) × (x ≡ IsSpent kind s) × SamePast r s
-ComesTo g (turned.TooDeep u) fs r x = (s : Run) × (x ≡ IsDeep u s) × SamePast r s
+ComesTo g (turned.Spent kind) fs r x = TableHalts (RunsOut kind) r x
+ComesTo g (turned.TooDeep u) fs r x = TableHalts (CallsTooDeep u) r x
 
 -- Running on from what was held to what is held now: for every run that shows what was held there are the condacts that
 -- were read besides, of which the machine keeps the steps, so that whatever lines come, going on comes to what is said

@@ -6,18 +6,18 @@ use Rattle.paw_effects.specs.Story.{Story}
 use Rattle.paw_effects.specs.declared.act.Prompt.{Prompt}
 use Rattle.paw_reading.specs.declared.places.Frame.{Frame}
 use Rattle.paw_reading.specs.Run.{Run}
-use Rattle.paw_reading.specs.Reading.{Redescribes, IsSpent, IsDeep}
+use Rattle.paw_reading.specs.Reading.{RunsOut, CallsTooDeep, Redescribes, Stopped, halts}
 use Rattle.paw_reading.specs.GoingOn.{along, on_path}
 
-pub along_spent : (g : Story) (fs : List Frame) (kind : SpentKind) (r : Run) → along g fs (IsSpent kind r) ≡ IsSpent kind r
+pub along_spent : (g : Story) (fs : List Frame) (kind : SpentKind) (r : Run) → along g fs (halts (RunsOut kind) r) ≡ halts (RunsOut kind) r
 along_spent g [] kind r = refl
 along_spent g (f ∷ fs) kind r = along_spent g fs kind r
 
-pub along_redescribes : (g : Story) (fs : List Frame) (r : Run) → along g fs (Redescribes r) ≡ Redescribes r
+pub along_redescribes : (g : Story) (fs : List Frame) (r : Run) → along g fs (Stopped Redescribes r) ≡ Stopped Redescribes r
 along_redescribes g [] r = refl
 along_redescribes g (f ∷ fs) r = along_redescribes g fs r
 
-pub along_deep : (g : Story) (fs : List Frame) (u : ℕ) (r : Run) → along g fs (IsDeep u r) ≡ IsDeep u r
+pub along_deep : (g : Story) (fs : List Frame) (u : ℕ) (r : Run) → along g fs (halts (CallsTooDeep u) r) ≡ halts (CallsTooDeep u) r
 along_deep g [] u r = refl
 along_deep g (f ∷ fs) u r = along_deep g fs u r
 

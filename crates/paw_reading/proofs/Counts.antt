@@ -1,6 +1,7 @@
 -- Reading closes one piece for each line, and one before them.
 use Rattle.std.proofs.Common.{◌≡◌, ℕ, zero, suc, ◌+◌, ◌-◌, Bool, true, false, ◌||◌, List, [], ◌∷◌, Option, Some, None, refl, drop, length, arith, length-append}
 use Rattle.std.specs.Prelude.{nat_lt, if◌then◌else◌}
+use Rattle.paw_base.specs.declared.messages.TheConstants.{QUIT_MESSAGE, GOODBYE_MESSAGE, UNKNOWN_MESSAGE}
 use Rattle.paw_base.specs.declared.parts.Condact.{Condact}
 use Rattle.paw_base.specs.declared.fault.SpentKind.TheVariants as spent
 use Rattle.paw_game.specs.declared.parts.Entry.{Entry}
@@ -20,8 +21,8 @@ use Rattle.paw_effects.specs.Effects.{Done, effect_of}
 use Rattle.paw_reading.specs.declared.places.Frame.{Frame}
 use Rattle.paw_reading.specs.declared.places.OpenLoop.{OpenLoop}
 use Rattle.paw_reading.specs.Run.{Run, closed, fits, printed, with_world, without_loop, line_dropped, anew, is_timeout, is_ignored, heard, with_timeout, reply, is_yes, is_no, taken_phrase}
-use Rattle.paw_reading.specs.Reading.{Out, Left, Waits, Redescribes, Restarts, Ends, IsSpent, IsDeep, noted, after_call, at_level, again, is_taken, taken, turns, loop_of, over, answered, asked, waits, after_test, after_parse, after_action, carried_out, acts, reads_one, condacts, is_for_now, entries, plain, looped, reads, called, deeper, rest, table_read}
-use Rattle.paw_reading.specs.Turn.{Stage, AtDescribe, AtFrame, AtPhrase, AtResponse, Ending, RunsOut, saying, described, framed, view_text, counted, prompt_text, line_set, at_main, after_phrase, refusal_text, connected, after_left, table_done, turn, stages_left, opening}
+use Rattle.paw_reading.specs.Reading.{IsOver, RunsOut, Redescribes, Restarts, Halts, Out, Left, Waits, Stopped, halts, noted, after_call, at_level, again, is_taken, taken, turns, loop_of, over, answered, asked, waits, after_test, after_parse, after_action, carried_out, acts, reads_one, condacts, is_for_now, entries, plain, looped, reads, called, deeper, rest, table_read, phrase_of}
+use Rattle.paw_reading.specs.Turn.{Stage, AtDescribe, AtFrame, AtPhrase, AtResponse, Ending, Halted, saying, described, framed, view_text, counted, prompt_text, line_set, at_main, after_phrase, refusal_text, connected, after_left, table_done, turn, stages_left, opening, timeout_text}
 use Rattle.paw_reading.specs.Pieces.{count, Counted, PiecesOfLines}
 use Rattle.paw_reading.proofs.Keeps.{either, open_or_not}
 
@@ -29,11 +30,8 @@ use Rattle.paw_reading.proofs.Keeps.{either, open_or_not}
 abbrev pub Counts : ℕ → Out → Type 0
 Counts v (Left a r) = count r ≡ v
 Counts v (Waits p path r) = (r.events ≡ []) × (count r ≡ suc v)
-Counts v (Redescribes r) = count r ≡ v
-Counts v (Restarts r) = count r ≡ v
-Counts v (Ends r) = count r ≡ suc v
-Counts v (IsSpent kind r) = count r ≡ v
-Counts v (IsDeep u r) = count r ≡ v
+Counts v (Stopped (Halts IsOver) r) = count r ≡ suc v
+Counts v (Stopped _ r) = count r ≡ v
 
 abbrev IsCounting : (Run → Out) → Type 0
 IsCounting f = (v : ℕ) (r : Run) → count r ≡ v → Counts v (f r)
@@ -53,11 +51,7 @@ closed_counts r = let e : length (closed r).pieces ≡ length r.pieces + 1 = len
 again_counts : (lv : ℕ) (next : OpenLoop → Run → Out) → ((l : OpenLoop) → IsCounting (next l)) → (v : ℕ) (x : Out) → Counts v x → Counts v (again lv next x)
 again_counts lv next h v (Left a r) k = open_or_not (Counts v) (λ l. next l r) (Left a r) (at_level lv r.turning) (λ l e. h l v r k) (λ e. k)
 again_counts lv next h v (Waits p path r) k = k
-again_counts lv next h v (Redescribes r) k = k
-again_counts lv next h v (Restarts r) k = k
-again_counts lv next h v (Ends r) k = k
-again_counts lv next h v (IsSpent kind r) k = k
-again_counts lv next h v (IsDeep u r) k = k
+again_counts lv next h v (Stopped stop r) k = k
 
 turns_count : (g : Story) (lv : ℕ) (l : OpenLoop) (body : Run → Out) → IsCounting body → (n : ℕ) → IsCounting (turns g lv l body n)
 unfolding turns
@@ -71,23 +65,19 @@ turns_count g lv l body h (suc n) v r k =
 after_call_counts : (f : Frame) (go : Bool → Run → Out) → AreCounting go → (v : ℕ) (x : Out) → Counts v x → Counts v (after_call f go x)
 after_call_counts f go h v (Left b r) k = h (f.acted || b) v r k
 after_call_counts f go h v (Waits p path r) k = k
-after_call_counts f go h v (Redescribes r) k = k
-after_call_counts f go h v (Restarts r) k = k
-after_call_counts f go h v (Ends r) k = k
-after_call_counts f go h v (IsSpent kind r) k = k
-after_call_counts f go h v (IsDeep u r) k = k
+after_call_counts f go h v (Stopped stop r) k = k
 
 -- ---- prompts ----
 
 over_counts : (g : Story) → IsCounting (over g)
 over_counts g v r k =
-    either (Counts v) (fits r (say_text g.game r.world 14)) (Ends (closed (without_loop (line_dropped (printed (say_text g.game r.world 14) r))))) (IsSpent spent.Text r)
-    (omega (arith, closed_counts (without_loop (line_dropped (printed (say_text g.game r.world 14) r))), k)) k
+    either (Counts v) (fits r (say_text g.game r.world GOODBYE_MESSAGE)) (halts IsOver (closed (without_loop (line_dropped (printed (say_text g.game r.world GOODBYE_MESSAGE) r))))) (halts (RunsOut spent.Text) r)
+    (omega (arith, closed_counts (without_loop (line_dropped (printed (say_text g.game r.world GOODBYE_MESSAGE) r))), k)) k
 
 answered_counts : (g : Story) (p : Prompt) (f : Frame) (go : Bool → Run → Out) → AreCounting go → (line : List ℕ) → IsCounting (answered g p f go line)
 answered_counts g prompt.Main f go h line v r k = h f.acted v r k
 answered_counts g prompt.Quit f go h line v r k = either (Counts v) (is_yes line) _ (Left true r) (h f.acted v r k) k
-answered_counts g prompt.Again f go h line v r k = either (Counts v) (is_no line) (over g r) (Restarts (anew r)) (over_counts g v r k) k
+answered_counts g prompt.Again f go h line v r k = either (Counts v) (is_no line) (over g r) (Stopped Restarts (anew r)) (over_counts g v r k) k
 answered_counts g prompt.Key f go h line v r k = h true v r k
 answered_counts g prompt.Over f go h line v r k = h f.acted v r k
 
@@ -117,8 +107,8 @@ module _ (g : Story) (sub : ℕ → Run → Out) (lv : ℕ) (calls : CallsCounti
   after_test_counts f next go hn hg c truth.Yes v r k = hg f.acted v (noted f c true r) k
   after_test_counts f next go hn hg c truth.No v r k = hn f.acted v (noted f c false r) k
   after_test_counts f next go hn hg c truth.Ask v r k =
-      either (Counts v) (fits (noted f c true r) (put_text g.game r.world 12)) _ (IsSpent spent.Text (noted f c true r))
-      (waits_counts g prompt.Quit f go hg v (printed (put_text g.game r.world 12) (noted f c true r)) k) k
+      either (Counts v) (fits (noted f c true r) (put_text g.game r.world QUIT_MESSAGE)) _ (halts (RunsOut spent.Text) (noted f c true r))
+      (waits_counts g prompt.Quit f go hg v (printed (put_text g.game r.world QUIT_MESSAGE) (noted f c true r)) k) k
 
   after_action_counts : (f : Frame) (next go : Bool → Run → Out) → AreCounting next → AreCounting go → (e : Effect) → IsCounting (after_action g sub lv f next go e)
   after_action_counts f next go hn hg effect.Go v r k = hg true v r k
@@ -128,12 +118,12 @@ module _ (g : Story) (sub : ℕ → Run → Out) (lv : ℕ) (calls : CallsCounti
   after_action_counts f next go hn hg (effect.Loop p) v r k = turns_count g lv (loop_of lv f p) (go true) (hg true) (length g.game.objects) v r k
   after_action_counts f next go hn hg (effect.Ask p) v r k = waits_counts g p f go hg v r k
   after_action_counts f next go hn hg effect.Parse v r k =
-      after_parse_counts f next go hn hg (parsed g.game r.pending r.earlier (flag r.world 46) (flag r.world 47)) v r k
+      after_parse_counts f next go hn hg (phrase_of g r) v r k
   after_action_counts f next go hn hg effect.Spent v r k = k
 
   acts_count : (f : Frame) (next go : Bool → Run → Out) → AreCounting next → AreCounting go → (d : Done) → IsCounting (acts g sub lv f next go d)
   acts_count f next go hn hg d v r k =
-      either (Counts v) (fits r d.text) _ (IsSpent spent.Text r) (after_action_counts f next go hn hg d.act.effect v (carried_out d (printed d.text r)) k) k
+      either (Counts v) (fits r d.text) _ (halts (RunsOut spent.Text) r) (after_action_counts f next go hn hg d.act.effect v (carried_out d (printed d.text r)) k) k
 
   reads_one_counts : (f : Frame) (next go : Bool → Run → Out) → AreCounting next → AreCounting go → (c : Condact) → IsCounting (reads_one g sub lv f next go c)
   reads_one_counts f next go hn hg c v r k =
@@ -147,7 +137,7 @@ module _ (g : Story) (sub : ℕ → Run → Out) (lv : ℕ) (calls : CallsCounti
   unfolding condacts
   condacts_count t e next hn k [] a v r h = hn a v r h
   condacts_count t e next hn k (c ∷ cs) a v r h =
-      either (Counts v) (nat_lt (length r.read) 200000) _ (IsSpent spent.Condacts r)
+      either (Counts v) (nat_lt (length r.read) 200000) _ (halts (RunsOut spent.Condacts) r)
       (reads_one_counts (record { table = t; entry = e; at = k; acted = a }) next _ hn (condacts_count t e next hn (suc k) cs) c v r h) h
 
   entries_count : (t e : ℕ) (es : List Entry) → AreCounting (entries g sub lv t e es)
@@ -188,7 +178,7 @@ one_of P true x y h k = h
 one_of P false x y h k = k
 
 saying_counts : (text : List ℕ) (go : Run → Ending) → TurnsCounting go → TurnsCounting (saying text go)
-saying_counts text go h v r k = one_of (Counted v) (fits r text) _ (RunsOut spent.Text r) (h v (printed text r) k) k
+saying_counts text go h v r k = one_of (Counted v) (fits r text) _ (Halted (RunsOut spent.Text) r) (h v (printed text r) k) k
 
 module _ (g : Story) (go : Stage → Run → Ending) (counts : (s : Stage) → TurnsCounting (go s)) where
   connected_counts : (to : Option ℕ) → TurnsCounting (λ r. connected g (go AtDescribe) (go AtFrame) r to)
@@ -204,11 +194,10 @@ module _ (g : Story) (go : Stage → Run → Ending) (counts : (s : Stage) → T
   table_done_counts : (t v : ℕ) (x : Out) → Counts v x → Counted v (table_done g go t x)
   table_done_counts t v (Left a r) k = after_left_counts t a v r k
   table_done_counts t v (Waits p path r) k = k
-  table_done_counts t v (Redescribes r) k = counts AtDescribe v r k
-  table_done_counts t v (Restarts r) k = counts AtDescribe v r k
-  table_done_counts t v (Ends r) k = k
-  table_done_counts t v (IsSpent kind r) k = k
-  table_done_counts t v (IsDeep u r) k = k
+  table_done_counts t v (Stopped Redescribes r) k = counts AtDescribe v r k
+  table_done_counts t v (Stopped Restarts r) k = counts AtDescribe v r k
+  table_done_counts t v (Stopped (Halts IsOver) r) k = k
+  table_done_counts t v (Stopped (Halts _) r) k = k
 
   read_counts : (t : ℕ) → TurnsCounting (λ r. table_done g go t (table_read g t r))
   read_counts t v r k = table_done_counts t v (table_read g t r) (table_counts g t v r k)
@@ -222,12 +211,12 @@ module _ (g : Story) (go : Stage → Run → Ending) (counts : (s : Stage) → T
       one_of (Counted v) (is_ignored r.world line) _ _
       (at_main_counts v (closed s) lines (omega (arith, closed_counts s, k')))
       (one_of (Counted v) (is_timeout line) _ _
-      (saying_counts (say_text g.game (with_timeout true r.world) 35) (go AtFrame) (counts AtFrame) v (heard line s) k')
+      (saying_counts (timeout_text g.game r.world) (go AtFrame) (counts AtFrame) v (heard line s) k')
       (counts AtPhrase v (line_set line s) k'))
 
   after_phrase_counts : (p : Parsed) → TurnsCounting (λ r. after_phrase g (go AtFrame) (go AtPhrase) (go AtResponse) r p)
   after_phrase_counts (IsSentence s rest) v r k = counts AtResponse v (with_world (counted (taken_phrase s rest r).world) (taken_phrase s rest r)) k
-  after_phrase_counts (IsUnknown rest) v r k = saying_counts (say_text g.game r.world 6) (go AtFrame) (counts AtFrame) v (line_dropped r) k
+  after_phrase_counts (IsUnknown rest) v r k = saying_counts (say_text g.game r.world UNKNOWN_MESSAGE) (go AtFrame) (counts AtFrame) v (line_dropped r) k
   after_phrase_counts IsNoPhrase v r k =
       saying_counts (prompt_text g.game r.world) (λ s. at_main g (go AtFrame) (go AtPhrase) (closed s) s.events)
       (λ w s h. at_main_counts w (closed s) s.events (omega (arith, closed_counts s, h))) v (line_dropped r) k
@@ -240,7 +229,7 @@ turn_counts g (suc n) AtDescribe v r k =
     (with_world (described r.world) r) k
 turn_counts g (suc n) AtFrame v r k = read_counts g (turn g n) (turn_counts g n) 2 v r k
 turn_counts g (suc n) AtPhrase v r k =
-    after_phrase_counts g (turn g n) (turn_counts g n) (parsed g.game r.pending r.earlier (flag r.world 46) (flag r.world 47)) v r k
+    after_phrase_counts g (turn g n) (turn_counts g n) (phrase_of g r) v r k
 turn_counts g (suc n) AtResponse v r k = read_counts g (turn g n) (turn_counts g n) 0 v r k
 
 pub pieces_of_lines : PiecesOfLines

@@ -1,6 +1,7 @@
 -- Turns end, and more stages change nothing.
 use Rattle.std.proofs.Common.{◌≡◌, ◌≢◌, ℕ, zero, suc, ◌+◌, ◌-◌, ◌*◌, ◌≤◌, ◌<◌, Bool, true, false, List, [], ◌∷◌, ◌⊎◌, inl, inr, Option, Some, None, refl, sym, ◌∙◌, length, arith}
 use Rattle.std.specs.Prelude.{if◌then◌else◌}
+use Rattle.paw_base.specs.declared.messages.TheConstants.{UNKNOWN_MESSAGE}
 use Rattle.paw_base.specs.declared.fault.SpentKind.TheVariants as spent
 use Rattle.paw_effects.specs.Story.{Story}
 use Rattle.paw_game.specs.Tables.{exit_at}
@@ -12,8 +13,8 @@ use Rattle.paw_effects.specs.declared.act.Prompt.TheVariants as prompt
 use Rattle.paw_effects.specs.Texts.{say_text}
 use Rattle.paw_reading.specs.declared.places.Frame.{Frame}
 use Rattle.paw_reading.specs.Run.{Run, closed, fits, printed, with_world, line_dropped, is_timeout, is_ignored, heard, with_timeout}
-use Rattle.paw_reading.specs.Reading.{Out, Left, Waits, Redescribes, Restarts, Ends, IsSpent, IsDeep, table_read}
-use Rattle.paw_reading.specs.Turn.{Stage, AtDescribe, AtFrame, AtPhrase, AtResponse, Ending, RunsOut, Unended, saying, described, framed, view_text, prompt_text, line_set, at_main, after_phrase, refusal_text, connected, responded, after_left, table_done, turn, left_to_read, stages_left, first_table, in_table, goes_on, TurnsEnd, EndsOnce, GoingOnEnds, GoesOnOnce}
+use Rattle.paw_reading.specs.Reading.{RunsOut, Redescribes, Restarts, Halts, Out, Left, Waits, Stopped, table_read}
+use Rattle.paw_reading.specs.Turn.{Stage, AtDescribe, AtFrame, AtPhrase, AtResponse, Ending, Halted, Unended, saying, described, framed, view_text, prompt_text, line_set, at_main, after_phrase, refusal_text, connected, responded, after_left, table_done, turn, left_to_read, stages_left, first_table, in_table, goes_on, TurnsEnd, EndsOnce, GoingOnEnds, GoesOnOnce}
 use Rattle.paw_reading.proofs.Spends.{brought, brought_more, Spends, table_spends, path_spends}
 
 -- ---- turns end ----
@@ -25,7 +26,7 @@ EndsWithin n go = (s : Stage) (r : Run) → stages_left s r ≤ n → go s r ≢
 saying_ends : (text : List ℕ) (go : Run → Ending) (r : Run) → go (printed text r) ≢ Unended → saying text go r ≢ Unended
 saying_ends text go r h = by_test (fits r text)
   where
-    by_test : (b : Bool) → (if b then go (printed text r) else RunsOut spent.Text r) ≢ Unended
+    by_test : (b : Bool) → (if b then go (printed text r) else Halted (RunsOut spent.Text) r) ≢ Unended
     by_test true = h
     by_test false = λ e. cc
 
@@ -59,12 +60,10 @@ rank_after-pos (suc (suc t)) = omega arith
 
 table_done_ends : (g : Story) (n : ℕ) (go : Stage → Run → Ending) → EndsWithin n go → (t v : ℕ) → 4 * v + rank_after t ≤ n → (x : Out) → Spends v x → table_done g go t x ≢ Unended
 table_done_ends g n go h t v k (Left a r) s = after_left_ends g n go h t a r (omega arith)
-table_done_ends g n go h t v k (Redescribes r) s = h AtDescribe r (omega (arith, rank_after-pos t))
-table_done_ends g n go h t v k (Restarts r) s = h AtDescribe r (omega (arith, rank_after-pos t))
+table_done_ends g n go h t v k (Stopped Redescribes r) s = h AtDescribe r (omega (arith, rank_after-pos t))
+table_done_ends g n go h t v k (Stopped Restarts r) s = h AtDescribe r (omega (arith, rank_after-pos t))
+table_done_ends g n go h t v k (Stopped (Halts halt) r) s = λ e. cc
 table_done_ends g n go h t v k (Waits p path r) s = λ e. cc
-table_done_ends g n go h t v k (Ends r) s = λ e. cc
-table_done_ends g n go h t v k (IsSpent kind r) s = λ e. cc
-table_done_ends g n go h t v k (IsDeep u r) s = λ e. cc
 
 at_main_ends : (g : Story) (n : ℕ) (go : Stage → Run → Ending) → EndsWithin n go → (r : Run) (lines : List (List ℕ)) → 4 * (length r.pending + brought lines) ≤ n →
     at_main g (go AtFrame) (go AtPhrase) r lines ≢ Unended
@@ -88,7 +87,7 @@ after_phrase_ends : (g : Story) (n : ℕ) (go : Stage → Run → Ending) → En
     Leaves (λ rest. length rest < length r.pending) p → after_phrase g (go AtFrame) (go AtPhrase) (go AtResponse) r p ≢ Unended
 after_phrase_ends g n go h r k (IsSentence s rest) less = h AtResponse _ (omega arith)
 after_phrase_ends g n go h r k (IsUnknown rest) less =
-    saying_ends (say_text g.game r.world 6) (go AtFrame) (line_dropped r) (h AtFrame (printed (say_text g.game r.world 6) (line_dropped r)) (omega arith))
+    saying_ends (say_text g.game r.world UNKNOWN_MESSAGE) (go AtFrame) (line_dropped r) (h AtFrame (printed (say_text g.game r.world UNKNOWN_MESSAGE) (line_dropped r)) (omega arith))
 after_phrase_ends g n go h r k IsNoPhrase less =
     let text : List ℕ = prompt_text g.game r.world in
     let shown : Run = closed (printed text (line_dropped r)) in
@@ -148,8 +147,8 @@ saying_more : (text : List ℕ) (go more : Run → Ending) (r : Run) → ((s : R
     saying text more r ≡ saying text go r
 saying_more text go more r h = by_test (fits r text)
   where
-    by_test : (b : Bool) → (if b then go (printed text r) else RunsOut spent.Text r) ≢ Unended →
-        (if b then more (printed text r) else RunsOut spent.Text r) ≡ (if b then go (printed text r) else RunsOut spent.Text r)
+    by_test : (b : Bool) → (if b then go (printed text r) else Halted (RunsOut spent.Text) r) ≢ Unended →
+        (if b then more (printed text r) else Halted (RunsOut spent.Text) r) ≡ (if b then go (printed text r) else Halted (RunsOut spent.Text) r)
     by_test true k = h (printed text r) k
     by_test false k = refl
 
@@ -168,12 +167,10 @@ after_left_more g go more h (suc (suc t)) acted r k = h AtPhrase _ k
 pub table_done_more : (g : Story) (go more : Stage → Run → Ending) → Refines go more → (t : ℕ) (x : Out) →
     table_done g go t x ≢ Unended → table_done g more t x ≡ table_done g go t x
 table_done_more g go more h t (Left a r) k = after_left_more g go more h t a r k
-table_done_more g go more h t (Redescribes r) k = h AtDescribe r k
-table_done_more g go more h t (Restarts r) k = h AtDescribe r k
+table_done_more g go more h t (Stopped Redescribes r) k = h AtDescribe r k
+table_done_more g go more h t (Stopped Restarts r) k = h AtDescribe r k
+table_done_more g go more h t (Stopped (Halts halt) r) k = refl
 table_done_more g go more h t (Waits p path r) k = refl
-table_done_more g go more h t (Ends r) k = refl
-table_done_more g go more h t (IsSpent kind r) k = refl
-table_done_more g go more h t (IsDeep u r) k = refl
 
 pub at_main_more : (g : Story) (go more : Stage → Run → Ending) → Refines go more → (r : Run) (lines : List (List ℕ)) →
     at_main g (go AtFrame) (go AtPhrase) r lines ≢ Unended → at_main g (more AtFrame) (more AtPhrase) r lines ≡ at_main g (go AtFrame) (go AtPhrase) r lines

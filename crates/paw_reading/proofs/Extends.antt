@@ -2,6 +2,7 @@
 use Rattle.std.proofs.Common.{◌≡◌, ℕ, zero, suc, ◌+◌, ◌-◌, ◌≤◌, ◌<◌, Bool, true, false, ◌||◌, List, [], ◌∷◌, ◌++◌, inl, inr, Option, Some, None, refl, sym, ap, ◌∙◌, length, arith, append_assoc}
 use Rattle.std.specs.Prelude.{if◌then◌else◌, nat_lt}
 use Rattle.std.proofs.lemmas.Option.{slice_get_past}
+use Rattle.paw_base.specs.declared.messages.TheConstants.{QUIT_MESSAGE, GOODBYE_MESSAGE}
 use Rattle.paw_base.specs.declared.parts.Condact.{Condact}
 use Rattle.paw_base.specs.declared.fault.SpentKind.TheVariants as spent
 use Rattle.paw_game.specs.declared.parts.Entry.{Entry}
@@ -21,7 +22,7 @@ use Rattle.paw_effects.specs.Effects.{Done, effect_of}
 use Rattle.paw_reading.specs.declared.places.Frame.{Frame}
 use Rattle.paw_reading.specs.declared.places.OpenLoop.{OpenLoop}
 use Rattle.paw_reading.specs.Run.{Run, Step, closed, fits, printed, with_world, without_loop, line_dropped, anew, is_ignored, heard, reply, is_yes, is_no, taken_phrase}
-use Rattle.paw_reading.specs.Reading.{Out, Left, Waits, Redescribes, Restarts, Ends, IsSpent, IsDeep, noted, printing, after_call, at_level, if_open, again, is_taken, taken, turns, loop_of, over, answered, asked, waits, after_test, after_parse, after_action, carried_out, acts, reads_one, is_for_now, inside, plain, looped, deeper, rest}
+use Rattle.paw_reading.specs.Reading.{IsOver, RunsOut, Restarts, Out, Left, Waits, Stopped, halts, noted, printing, after_call, at_level, if_open, again, is_taken, taken, turns, loop_of, over, answered, asked, waits, after_test, after_parse, after_action, carried_out, acts, reads_one, is_for_now, inside, plain, looped, deeper, rest, phrase_of}
 use Rattle.paw_reading.specs.GoingOn.{on_path}
 use Rattle.paw_reading.proofs.Keeps.{Keeps, at_level_own, at_level_is, turns_closes, plain_keeps, looped_closes, deeper_keeps}
 use Rattle.paw_reading.proofs.Rules.{inside_end, inside_condact, again_closed, again_again, after_call_again, deeper_rest, deeper_none}
@@ -40,11 +41,7 @@ module _ (g : Story) (ps : List (List ℕ)) (ts : List (List Step)) (lines : Lis
   abbrev pub extends : ℕ → Out → Out
   extends lv (Left a r) = Left a (around ps ts lines r)
   extends lv (Waits p path r) = on_path g p lv path (around ps ts lines r)
-  extends lv (Redescribes r) = Redescribes (around ps ts lines r)
-  extends lv (Restarts r) = Restarts (around ps ts lines r)
-  extends lv (Ends r) = Ends (around ps ts lines r)
-  extends lv (IsSpent kind r) = IsSpent kind (around ps ts lines r)
-  extends lv (IsDeep u r) = IsDeep u (around ps ts lines r)
+  extends lv (Stopped stop r) = Stopped stop (around ps ts lines r)
 
   -- reading on at the entry after a frame's, and at the condact after it
   abbrev next_of : ℕ → Frame → Bool → Run → Out
@@ -61,11 +58,7 @@ module _ (g : Story) (ps : List (List ℕ)) (ts : List (List Step)) (lines : Lis
   abbrev settles : ℕ → Out → Out
   settles lv (Left a r) = loops lv (Left a (around ps ts lines r))
   settles lv (Waits p path r) = on_path g p lv path (around ps ts lines r)
-  settles lv (Redescribes r) = Redescribes (around ps ts lines r)
-  settles lv (Restarts r) = Restarts (around ps ts lines r)
-  settles lv (Ends r) = Ends (around ps ts lines r)
-  settles lv (IsSpent kind r) = IsSpent kind (around ps ts lines r)
-  settles lv (IsDeep u r) = IsDeep u (around ps ts lines r)
+  settles lv (Stopped stop r) = Stopped stop (around ps ts lines r)
 
   abbrev IsSettling : ℕ → (Run → Out) → Type 0
   IsSettling lv f = (r : Run) → loops lv (f (around ps ts lines r)) ≡ settles lv (f r)
@@ -83,7 +76,7 @@ module _ (g : Story) (ps : List (List ℕ)) (ts : List (List Step)) (lines : Lis
     settles_printing : (text : List ℕ) (go : Run → Out) (r : Run) → loops lv (go (around ps ts lines (printed text r))) ≡ settles lv (go (printed text r)) →
         loops lv (printing text go (around ps ts lines r)) ≡ settles lv (printing text go r)
     settles_printing text go r h =
-        settles_or (fits r text) (go (around ps ts lines (printed text r))) (IsSpent spent.Text (around ps ts lines r)) (go (printed text r)) (IsSpent spent.Text r) h refl
+        settles_or (fits r text) (go (around ps ts lines (printed text r))) (halts (RunsOut spent.Text) (around ps ts lines r)) (go (printed text r)) (halts (RunsOut spent.Text) r) h refl
 
     -- ---- calls ----
 
@@ -94,23 +87,19 @@ module _ (g : Story) (ps : List (List ℕ)) (ts : List (List Step)) (lines : Lis
     settles_call f hg (Waits p [] r) k = absurd (k.some refl)
     settles_call f hg (Waits p (h ∷ path) r) k =
         after_call_again g (deeper g lv) lv f (past_of lv f) (on_path g p (suc lv) (h ∷ path) (around ps ts lines r))
-    settles_call f hg (Redescribes r) k = refl
-    settles_call f hg (Restarts r) k = refl
-    settles_call f hg (Ends r) k = refl
-    settles_call f hg (IsSpent kind r) k = refl
-    settles_call f hg (IsDeep u r) k = refl
+    settles_call f hg (Stopped stop r) k = refl
 
     -- ---- prompts ----
 
     settles_over : IsSettling lv (over g)
     settles_over r =
-        settles_printing (say_text g.game r.world 14) (λ s. Ends (closed (without_loop (line_dropped s)))) r
-        (ap Ends (closed_around ps ts lines (without_loop (line_dropped (printed (say_text g.game r.world 14) r)))))
+        settles_printing (say_text g.game r.world GOODBYE_MESSAGE) (λ s. halts IsOver (closed (without_loop (line_dropped s)))) r
+        (ap (halts IsOver) (closed_around ps ts lines (without_loop (line_dropped (printed (say_text g.game r.world GOODBYE_MESSAGE) r)))))
 
     settles_answered : (p : Prompt) (f : Frame) (go : Bool → Run → Out) → ((a : Bool) → IsSettling lv (go a)) → (line : List ℕ) → IsSettling lv (answered g p f go line)
     settles_answered prompt.Main f go hg line r = hg f.acted r
     settles_answered prompt.Quit f go hg line r = settles_or (is_yes line) _ _ (go f.acted r) (Left true r) (hg f.acted r) refl
-    settles_answered prompt.Again f go hg line r = settles_or (is_no line) _ _ (over g r) (Restarts (anew r)) (settles_over r) refl
+    settles_answered prompt.Again f go hg line r = settles_or (is_no line) _ _ (over g r) (Stopped Restarts (anew r)) (settles_over r) refl
     settles_answered prompt.Key f go hg line r = hg true r
     settles_answered prompt.Over f go hg line r = hg f.acted r
 
@@ -165,11 +154,7 @@ module _ (g : Story) (ps : List (List ℕ)) (ts : List (List Step)) (lines : Lis
             ∙ ih s)
         after o e ih (Left a s) (inr k) = rw k refl
         after o e ih (Waits p path s) k = refl
-        after o e ih (Redescribes s) k = refl
-        after o e ih (Restarts s) k = refl
-        after o e ih (Ends s) k = refl
-        after o e ih (IsSpent kind s) k = refl
-        after o e ih (IsDeep u s) k = refl
+        after o e ih (Stopped stop s) k = refl
 
         takes : (o : ℕ) → length g.game.objects - suc o ≡ n → IsSettling lv more →
             loops lv (again lv (λ _. more) (body (taken g.game l o (around ps ts lines r)))) ≡ settles lv (again lv (λ _. more) (body (taken g.game l o r)))
@@ -192,7 +177,7 @@ module _ (g : Story) (ps : List (List ℕ)) (ts : List (List Step)) (lines : Lis
       settles_action f hn hg (effect.Call u) r = rw (calls u r) (settles_call f hg (deeper g lv u r) (deeper_stops g lv u r))
       settles_action f hn hg (effect.Loop p) r = settles_turns (loop_of lv f p) refl (hg true) (length g.game.objects) (omega arith) r
       settles_action f hn hg (effect.Ask p) r = settles_waits p f hg r
-      settles_action f hn hg effect.Parse r = settles_parse f (next_of lv f) (past_of lv f) hn hg r (parsed g.game r.pending r.earlier (flag r.world 46) (flag r.world 47))
+      settles_action f hn hg effect.Parse r = settles_parse f (next_of lv f) (past_of lv f) hn hg r (phrase_of g r)
       settles_action f hn hg effect.Spent r = refl
 
       settles_acts : (f : Frame) → ((a : Bool) → IsSettling lv (next_of lv f a)) →
@@ -208,7 +193,7 @@ module _ (g : Story) (ps : List (List ℕ)) (ts : List (List Step)) (lines : Lis
       settles_test f hn hg c r truth.Yes = hg f.acted (noted f c true r)
       settles_test f hn hg c r truth.No = hn f.acted (noted f c false r)
       settles_test f hn hg c r truth.Ask =
-          settles_printing (put_text g.game r.world 12) (waits g prompt.Quit f (past_of lv f)) (noted f c true r) (settles_waits prompt.Quit f hg (printed (put_text g.game r.world 12) (noted f c true r)))
+          settles_printing (put_text g.game r.world QUIT_MESSAGE) (waits g prompt.Quit f (past_of lv f)) (noted f c true r) (settles_waits prompt.Quit f hg (printed (put_text g.game r.world QUIT_MESSAGE) (noted f c true r)))
 
       settles_one : (f : Frame) → ((a : Bool) → IsSettling lv (next_of lv f a)) →
           ((a : Bool) → IsSettling lv (past_of lv f a)) → (c : Condact) →
@@ -232,7 +217,7 @@ module _ (g : Story) (ps : List (List ℕ)) (ts : List (List Step)) (lines : Lis
           at_condact None n ih = rw (inside_end g (deeper g lv) lv t e k a (around ps ts lines r) n, inside_end g (deeper g lv) lv t e k a r n) (hn a r)
           at_condact (Some c) n ih =
               rw (inside_condact g (deeper g lv) lv t e k a (around ps ts lines r) c n, inside_condact g (deeper g lv) lv t e k a r c n)
-              (settles_or (nat_lt (length r.read) 200000) _ (IsSpent spent.Condacts (around ps ts lines r)) _ (IsSpent spent.Condacts r)
+              (settles_or (nat_lt (length r.read) 200000) _ (halts (RunsOut spent.Condacts) (around ps ts lines r)) _ (halts (RunsOut spent.Condacts) r)
               (settles_one (record { table = t; entry = e; at = k; acted = a }) hn ih c r) refl)
 
       settles_entries : (t m e : ℕ) → length (table_at g.game t) ≤ e + m → (a : Bool) → IsSettling lv (plain g (deeper g lv) lv t e 0 a)
@@ -257,11 +242,7 @@ module _ (g : Story) (ps : List (List ℕ)) (ts : List (List Step)) (lines : Lis
       settles_closed (Left a r) (inl k) = rw k refl
       settles_closed (Left a r) (inr k) = rw k refl
       settles_closed (Waits p path r) k = refl
-      settles_closed (Redescribes r) k = refl
-      settles_closed (Restarts r) k = refl
-      settles_closed (Ends r) k = refl
-      settles_closed (IsSpent kind r) k = refl
-      settles_closed (IsDeep u r) k = refl
+      settles_closed (Stopped stop r) k = refl
 
       -- the loop that is open goes on
       settles_extends : (x : Out) → settles lv x ≡ extends lv (loops lv x)
@@ -278,11 +259,7 @@ module _ (g : Story) (ps : List (List ℕ)) (ts : List (List Step)) (lines : Lis
               ∙ settles_turns l own (settles_plain l.table l.entry (suc l.at) true) (length g.game.objects - suc l.last) (omega arith) r
               ∙ settles_closed (looped g (deeper g lv) lv l r) (looped_closes g (deeper g lv) lv (deeper_keeps g lv) l r own))
       settles_extends (Waits p path r) = refl
-      settles_extends (Redescribes r) = refl
-      settles_extends (Restarts r) = refl
-      settles_extends (Ends r) = refl
-      settles_extends (IsSpent kind r) = refl
-      settles_extends (IsDeep u r) = refl
+      settles_extends (Stopped stop r) = refl
 
       reads_extend : (t e k : ℕ) (a : Bool) (r : Run) → rest g lv t e k a (around ps ts lines r) ≡ extends lv (rest g lv t e k a r)
       reads_extend t e k a r = settles_plain t e k a r ∙ settles_extends (plain g (deeper g lv) lv t e k a r)
@@ -310,11 +287,7 @@ module _ (g : Story) (ps : List (List ℕ)) (ts : List (List Step)) (lines : Lis
   after_call_extends lv f (Left b r) k = rest_extends lv f.table f.entry (suc f.at) (f.acted || b) r
   after_call_extends lv f (Waits p [] r) k = absurd (k.some refl)
   after_call_extends lv f (Waits p (h ∷ path) r) k = refl
-  after_call_extends lv f (Redescribes r) k = refl
-  after_call_extends lv f (Restarts r) k = refl
-  after_call_extends lv f (Ends r) k = refl
-  after_call_extends lv f (IsSpent kind r) k = refl
-  after_call_extends lv f (IsDeep u r) k = refl
+  after_call_extends lv f (Stopped stop r) k = refl
 
   -- so does going on along a path
   pub path_extends : (p : Prompt) (lv : ℕ) (path : List Frame) (r : Run) → on_path g p lv path (around ps ts lines r) ≡ extends lv (on_path g p lv path r)

@@ -1,6 +1,7 @@
 -- Turns with more lines are turns with fewer, and then going on from where these wait.
 use Rattle.std.proofs.Common.{◌≡◌, ◌≢◌, ℕ, zero, suc, ◌+◌, Bool, true, false, List, [], ◌∷◌, ◌++◌, inl, inr, Option, Some, None, refl, sym, ◌∙◌, subst, arith}
 use Rattle.std.specs.Prelude.{if◌then◌else◌}
+use Rattle.paw_base.specs.declared.messages.TheConstants.{UNKNOWN_MESSAGE}
 use Rattle.paw_base.specs.declared.fault.SpentKind.TheVariants as spent
 use Rattle.paw_effects.specs.Story.{Story}
 use Rattle.paw_game.specs.Tables.{exit_at}
@@ -11,9 +12,9 @@ use Rattle.paw_effects.specs.declared.act.Prompt.TheVariants as prompt
 use Rattle.paw_effects.specs.Texts.{say_text}
 use Rattle.paw_reading.specs.declared.places.Frame.{Frame}
 use Rattle.paw_reading.specs.Run.{Run, closed, fits, printed, with_world, line_dropped, is_timeout, is_ignored, heard, with_timeout, taken_phrase}
-use Rattle.paw_reading.specs.Reading.{Out, Left, Waits, Redescribes, Restarts, Ends, IsSpent, IsDeep, deeper, table_read}
+use Rattle.paw_reading.specs.Reading.{RunsOut, Redescribes, Restarts, Halts, Out, Left, Waits, Stopped, deeper, table_read, phrase_of}
 use Rattle.paw_reading.specs.GoingOn.{on_path, with_lines, extended}
-use Rattle.paw_reading.specs.Turn.{Stage, AtDescribe, AtFrame, AtPhrase, AtResponse, Ending, WaitsAt, IsOver, RunsOut, CallsTooDeep, Unended, saying, described, framed, view_text, counted, prompt_text, line_set, at_main, after_phrase, refusal_text, connected, after_left, table_done, turn, stages_left, turns_from, opening, first_table, goes_on, followed, GoingOnIsReading}
+use Rattle.paw_reading.specs.Turn.{Stage, AtDescribe, AtFrame, AtPhrase, AtResponse, Ending, WaitsAt, Halted, Unended, saying, described, framed, view_text, counted, prompt_text, line_set, at_main, after_phrase, refusal_text, connected, after_left, table_done, turn, stages_left, turns_from, opening, first_table, goes_on, followed, GoingOnIsReading, timeout_text}
 use Rattle.paw_reading.specs.Longer.{TurnsGoOn}
 use Rattle.paw_reading.proofs.Keeps.{Keeps, IsLoopOf, reads_keeps, deeper_keeps}
 use Rattle.paw_reading.proofs.Stops.{Stops, rest_stops}
@@ -30,9 +31,7 @@ module _ (g : Story) (lines : List (List ℕ)) where
   -- going on with these lines, in at most m stages more
   abbrev pub goes_from : ℕ → Ending → Ending
   goes_from m (WaitsAt p path r) = goes_on g m p path (with_lines lines r)
-  goes_from m (IsOver r) = IsOver (with_lines lines r)
-  goes_from m (RunsOut kind r) = RunsOut kind (with_lines lines r)
-  goes_from m (CallsTooDeep u r) = CallsTooDeep u (with_lines lines r)
+  goes_from m (Halted halt r) = Halted halt (with_lines lines r)
   goes_from m Unended = Unended
 
   -- where going on ends, the turn with more lines comes to that
@@ -46,8 +45,8 @@ module _ (g : Story) (lines : List (List ℕ)) where
       Follows m (saying text go r) (saying text more (with_lines lines r))
   saying_follows m text go more r h = by_test (fits r text)
     where
-      by_test : (b : Bool) → Follows m (if b then go (printed text r) else RunsOut spent.Text r)
-          (if b then more (with_lines lines (printed text r)) else RunsOut spent.Text (with_lines lines r))
+      by_test : (b : Bool) → Follows m (if b then go (printed text r) else Halted (RunsOut spent.Text) r)
+          (if b then more (with_lines lines (printed text r)) else Halted (RunsOut spent.Text) (with_lines lines r))
       by_test true k = h k
       by_test false k = refl
 
@@ -82,11 +81,9 @@ module _ (g : Story) (lines : List (List ℕ)) where
     table_done_follows : (t : ℕ) (x : Out) → Keeps None x → Stops x → Stays t 0 x → Follows m (table_done g go t x) (table_done g more t (extended g lines 0 x))
     table_done_follows t (Left a r) keeps stops stays k = after_left_follows t a r (left_none a r keeps) k
     table_done_follows t (Waits p path r) keeps stops stays k = waits_follow t p path r stays.inner (stays.first refl) k
-    table_done_follows t (Redescribes r) keeps stops stays k = follows AtDescribe r stops k
-    table_done_follows t (Restarts r) keeps stops stays k = follows AtDescribe r stops k
-    table_done_follows t (Ends r) keeps stops stays k = refl
-    table_done_follows t (IsSpent kind r) keeps stops stays k = refl
-    table_done_follows t (IsDeep u r) keeps stops stays k = refl
+    table_done_follows t (Stopped Redescribes r) keeps stops stays k = follows AtDescribe r stops k
+    table_done_follows t (Stopped Restarts r) keeps stops stays k = follows AtDescribe r stops k
+    table_done_follows t (Stopped (Halts halt) r) keeps stops stays k = refl
 
     -- a table that is read from its start
     read_follows : (t : ℕ) (r : Run) → r.turning ≡ None → Follows m (table_done g go t (table_read g t r)) (table_done g more t (table_read g t (with_lines lines r)))
@@ -104,11 +101,11 @@ module _ (g : Story) (lines : List (List ℕ)) where
     at_main_follows r (line ∷ es) none k =
         by_test (is_ignored r.world line) (is_timeout line)
         (at_main g (go AtFrame) (go AtPhrase) (closed (record r { events = es })) es)
-        (saying (say_text g.game (with_timeout true r.world) 35) (go AtFrame) (heard line (record r { events = es })))
+        (saying (timeout_text g.game r.world) (go AtFrame) (heard line (record r { events = es })))
         (go AtPhrase (line_set line (record r { events = es })))
         (at_main_follows (closed (record r { events = es })) es none)
-        (saying_follows m (say_text g.game (with_timeout true r.world) 35) (go AtFrame) (more AtFrame) (heard line (record r { events = es }))
-        (follows AtFrame (printed (say_text g.game (with_timeout true r.world) 35) (heard line (record r { events = es }))) none))
+        (saying_follows m (timeout_text g.game r.world) (go AtFrame) (more AtFrame) (heard line (record r { events = es }))
+        (follows AtFrame (printed (timeout_text g.game r.world) (heard line (record r { events = es }))) none))
         (follows AtPhrase (line_set line (record r { events = es })) none) k
       where
         by_test : (ignored timeout : Bool) (x y z : Ending) → {x' y' z' : Ending} → Follows m x x' → Follows m y y' → Follows m z z' →
@@ -121,7 +118,7 @@ module _ (g : Story) (lines : List (List ℕ)) where
         Follows m (after_phrase g (go AtFrame) (go AtPhrase) (go AtResponse) r p) (after_phrase g (more AtFrame) (more AtPhrase) (more AtResponse) (with_lines lines r) p)
     after_phrase_follows r none (IsSentence s rest) k = follows AtResponse (with_world (counted (taken_phrase s rest r).world) (taken_phrase s rest r)) none k
     after_phrase_follows r none (IsUnknown rest) k =
-        saying_follows m (say_text g.game r.world 6) (go AtFrame) (more AtFrame) (line_dropped r) (follows AtFrame (printed (say_text g.game r.world 6) (line_dropped r)) none) k
+        saying_follows m (say_text g.game r.world UNKNOWN_MESSAGE) (go AtFrame) (more AtFrame) (line_dropped r) (follows AtFrame (printed (say_text g.game r.world UNKNOWN_MESSAGE) (line_dropped r)) none) k
     after_phrase_follows r none IsNoPhrase k =
         saying_follows m (prompt_text g.game r.world) (λ s. at_main g (go AtFrame) (go AtPhrase) (closed s) s.events) (λ s. at_main g (more AtFrame) (more AtPhrase) (closed s) s.events) (line_dropped r)
         (at_main_follows (closed (printed (prompt_text g.game r.world) (line_dropped r))) r.events none) k
@@ -145,7 +142,7 @@ module _ (g : Story) (lines : List (List ℕ)) where
   turn_follows (suc n) m AtPhrase r none k =
       let e : suc n + m ≡ suc (n + m) = omega arith in
       rw e (after_phrase_follows m (turn g n) (turn g (n + m)) (turn_follows n m) (more_stages n m) r none
-      (parsed g.game r.pending r.earlier (flag r.world 46) (flag r.world 47)) k)
+      (phrase_of g r) k)
   turn_follows (suc n) m AtResponse r none k =
       let e : suc n + m ≡ suc (n + m) = omega arith in
       rw e (read_follows m (turn g n) (turn g (n + m)) (turn_follows n m) (more_stages n m) 0 r none k)
@@ -165,9 +162,7 @@ turns_go_on g lines s r none = by_ending (turns_from g s r) refl
 
     by_ending : (x : Ending) → turns_from g s r ≡ x → turns_from g s (with_lines lines r) ≡ followed g lines x
     by_ending (WaitsAt p path q) e = at (stages_left AtResponse (with_lines lines q)) (WaitsAt p path q) e (going_on_ends g p path (with_lines lines q))
-    by_ending (IsOver q) e = at 0 (IsOver q) e (λ u. cc)
-    by_ending (RunsOut kind q) e = at 0 (RunsOut kind q) e (λ u. cc)
-    by_ending (CallsTooDeep t q) e = at 0 (CallsTooDeep t q) e (λ u. cc)
+    by_ending (Halted halt q) e = at 0 (Halted halt q) e (λ u. cc)
     by_ending Unended e = absurd (turns_end g s r e)
 
 -- reading more lines is reading some, and going on with the others

@@ -3,6 +3,7 @@ use Rattle.std.proofs.Common.{◌≡◌, ℕ, zero, suc, ◌+◌, ◌-◌, ◌�
 use Rattle.std.specs.Prelude.{if◌then◌else◌, nat_lt, IfSome}
 use Rattle.std.proofs.lemmas.Bool.Decides.{nat_tests}
 use Rattle.std.proofs.lemmas.Option.{same_Some}
+use Rattle.paw_base.specs.declared.messages.TheConstants.{QUIT_MESSAGE, GOODBYE_MESSAGE}
 use Rattle.paw_base.specs.declared.parts.Condact.{Condact}
 use Rattle.paw_base.specs.declared.parts.ObjectFacts.{ObjectFacts}
 use Rattle.paw_base.specs.declared.fault.SpentKind.TheVariants as spent
@@ -28,7 +29,7 @@ use Rattle.paw_effects.proofs.Placed.{IsPlaced, doall_place, effect_placed, cond
 use Rattle.paw_reading.specs.declared.places.Frame.{Frame}
 use Rattle.paw_reading.specs.declared.places.OpenLoop.{OpenLoop}
 use Rattle.paw_reading.specs.Run.{Run, closed, fits, printed, with_world, without_loop, line_dropped, anew, is_ignored, heard, reply, is_yes, is_no, taken_phrase}
-use Rattle.paw_reading.specs.Reading.{Out, Left, Waits, Redescribes, Restarts, Ends, IsSpent, IsDeep, noted, after_call, at_level, again, is_taken, named, taken, turns, loop_of, over, answered, asked, after_test, after_parse, after_action, carried_out, acts, reads_one, condacts, is_for_now, entries, plain, looped, reads, called, deeper, rest, table_read}
+use Rattle.paw_reading.specs.Reading.{IsOver, RunsOut, Restarts, Halts, Out, Left, Waits, Stopped, halts, noted, after_call, at_level, again, is_taken, named, taken, turns, loop_of, over, answered, asked, after_test, after_parse, after_action, carried_out, acts, reads_one, condacts, is_for_now, entries, plain, looped, reads, called, deeper, rest, table_read}
 use Rattle.paw_reading.specs.GoingOn.{on_path}
 use Rattle.paw_reading.specs.Turn.{first_table}
 use Rattle.paw_reading.specs.Places.{IsAt, LeadsTo, tables_of, IsLoopIn}
@@ -76,11 +77,9 @@ pub record WaitsAbove (g : GameLists) (ts : List ℕ) (u : ℕ) (p : Prompt) (pa
 abbrev pub Held : GameLists → List ℕ → List ℕ → ℕ → Out → Type 0
 Held g left ts u (Left a r) = Sound g left r.world r.turning
 Held g left ts u (Waits p path r) = WaitsAbove g ts u p path r.world r.turning
-Held g left ts u (Redescribes r) = Sound g [] r.world r.turning
-Held g left ts u (Restarts r) = Sound g [] r.world r.turning
-Held g left ts u (Ends r) = (r.turning ≡ None) × ((r.pending ≡ []) × IsPlaced g r.world)
-Held g left ts u (IsSpent kind r) = Unit {0}
-Held g left ts u (IsDeep t r) = Unit {0}
+Held g left ts u (Stopped (Halts IsOver) r) = (r.turning ≡ None) × ((r.pending ≡ []) × IsPlaced g r.world)
+Held g left ts u (Stopped (Halts _) r) = Unit {0}
+Held g left ts u (Stopped _ r) = Sound g [] r.world r.turning
 
 in_front : (g : GameLists) (ts us : List ℕ) (l : OpenLoop) → IsLoopIn g ts l → IsLoopIn g (ts ++ us) l
 in_front g ts us l k = record { level = get_front ts us l.level l.table k.level; doall = k.doall; place = k.place; last = k.last }
@@ -113,11 +112,7 @@ none_open g w (Some l) k = let at = k.loop.level in cc
 left_wider : (g : GameLists) (ts : List ℕ) (u : ℕ) (x : Out) → Held g ts ts u x → Held g (ts ++ u ∷ []) ts u x
 left_wider g ts u (Left a r) k = widened g ts u r.world r.turning k
 left_wider g ts u (Waits p path r) k = k
-left_wider g ts u (Redescribes r) k = k
-left_wider g ts u (Restarts r) k = k
-left_wider g ts u (Ends r) k = k
-left_wider g ts u (IsSpent kind r) k = tt
-left_wider g ts u (IsDeep t r) k = tt
+left_wider g ts u (Stopped stop r) k = k
 
 named_placed : (g : GameLists) (w : World) (f : Option ObjectFacts) → IsPlaced g w → IsPlaced g (named w f)
 named_placed g w None k = k
@@ -171,11 +166,7 @@ module _ (g : Story) (v : Valid g.game) (ts : List ℕ) (lv : ℕ) (deep : lengt
   again_held next h (Left a r) k =
       open_or_not (Held g.game ts ts u) (λ l. next l r) (Left a r) (at_level lv r.turning) (λ l e. h l r e k) (λ none. narrowed g.game ts lv u r.world r.turning deep none k)
   again_held next h (Waits p path r) k = k
-  again_held next h (Redescribes r) k = k
-  again_held next h (Restarts r) k = k
-  again_held next h (Ends r) k = k
-  again_held next h (IsSpent kind r) k = tt
-  again_held next h (IsDeep t r) k = tt
+  again_held next h (Stopped stop r) k = k
 
   turns_held : (l : OpenLoop) (body : Run → Out) → ((o : ℕ) → o < length g.game.objects → IsLoopIn g.game (ts ++ u ∷ []) (record l { last = o }))
       → ((r : Run) → IsSound r → Inside (body r)) → (n : ℕ) → n ≤ length g.game.objects → (r : Run) → IsPlaced g.game r.world
@@ -213,19 +204,15 @@ module _ (g : Story) (v : Valid g.game) (ts : List ℕ) (lv : ℕ) (deep : lengt
     leads = call_leads f c t k.code path at is called k.first k.leads;
     sound = below f path r.world r.turning own k.sound;
   }
-  after_call_held left f go c t own at is called h (Redescribes r) k = k
-  after_call_held left f go c t own at is called h (Restarts r) k = k
-  after_call_held left f go c t own at is called h (Ends r) k = k
-  after_call_held left f go c t own at is called h (IsSpent kind r) k = tt
-  after_call_held left f go c t own at is called h (IsDeep s r) k = tt
+  after_call_held left f go c t own at is called h (Stopped stop r) k = k
 
   answered_held : (p : Prompt) (f : Frame) (go : Bool → Run → Out) → GoesHeld (ts ++ u ∷ []) go → (line : List ℕ) (r : Run) → IsSound r
       → Inside (answered g p f go line r)
   answered_held prompt.Main f go h line r k = h f.acted r k
   answered_held prompt.Quit f go h line r k = either Inside (is_yes line) _ (Left true r) (h f.acted r k) k
   answered_held prompt.Again f go h line r k =
-      either Inside (is_no line) (over g r) (Restarts (anew r))
-      (either Inside (fits r (say_text g.game r.world 14)) (Ends (closed (without_loop (line_dropped (printed (say_text g.game r.world 14) r))))) (IsSpent spent.Text r) (refl, (refl, k.of)) tt)
+      either Inside (is_no line) (over g r) (Stopped Restarts (anew r))
+      (either Inside (fits r (say_text g.game r.world GOODBYE_MESSAGE)) (halts IsOver (closed (without_loop (line_dropped (printed (say_text g.game r.world GOODBYE_MESSAGE) r))))) (halts (RunsOut spent.Text) r) (refl, (refl, k.of)) tt)
       (record { of = restarted_placed g.game r.world v k.of; loop = tt })
   answered_held prompt.Key f go h line r k = h true r k
   answered_held prompt.Over f go h line r k = h f.acted r k
@@ -264,8 +251,8 @@ module _ (g : Story) (v : Valid g.game) (ts : List ℕ) (lv : ℕ) (deep : lengt
     after_test_held f next go c own at hn hg r truth.Yes asks k = hg f.acted (noted f c true r) k
     after_test_held f next go c own at hn hg r truth.No asks k = hn f.acted (noted f c false r) k
     after_test_held f next go c own at hn hg r truth.Ask asks k =
-        either Inside (fits (noted f c true r) (put_text g.game r.world 12)) _ (IsSpent spent.Text (noted f c true r))
-        (asked_held prompt.Quit f c.code go (asks refl) own (record { condact = c; stands = at; is = refl }) hg (closed (printed (put_text g.game r.world 12) (noted f c true r))) r.events k) tt
+        either Inside (fits (noted f c true r) (put_text g.game r.world QUIT_MESSAGE)) _ (halts (RunsOut spent.Text) (noted f c true r))
+        (asked_held prompt.Quit f c.code go (asks refl) own (record { condact = c; stands = at; is = refl }) hg (closed (printed (put_text g.game r.world QUIT_MESSAGE) (noted f c true r))) r.events k) tt
 
     after_action_held : (f : Frame) (next go : Bool → Run → Out) (c : Condact) → f.table ≡ u → condact_at g.game f.table f.entry f.at ≡ Some c
         → GoesHeld (ts ++ u ∷ []) next → GoesHeld (ts ++ u ∷ []) go → (e : Effect) → LeadsIn g.game c e → (r : Run) → IsSound r
@@ -293,7 +280,7 @@ module _ (g : Story) (v : Valid g.game) (ts : List ℕ) (lv : ℕ) (deep : lengt
         → GoesHeld (ts ++ u ∷ []) next → GoesHeld (ts ++ u ∷ []) go → (d : Done) → LeadsIn g.game c d.act.effect → (r : Run) → Sound g.game (ts ++ u ∷ []) d.world r.turning
         → Inside (acts g sub lv f next go d r)
     acts_held f next go c own at hn hg d leads r k =
-        either Inside (fits r d.text) _ (IsSpent spent.Text r)
+        either Inside (fits r d.text) _ (halts (RunsOut spent.Text) r)
         (after_action_held f next go c own at hn hg d.act.effect leads (carried_out d (printed d.text r)) (cancelled g.game (ts ++ u ∷ []) d.world d.act.cancel_loop r.turning k)) tt
 
     reads_one_held : (f : Frame) (next go : Bool → Run → Out) (c : Condact) → f.table ≡ u → condact_at g.game f.table f.entry f.at ≡ Some c
@@ -313,7 +300,7 @@ module _ (g : Story) (v : Valid g.game) (ts : List ℕ) (lv : ℕ) (deep : lengt
     condacts_held e next hn k [] d a r h = hn a r h
     condacts_held e next hn k (c ∷ cs) d a r h =
         let at = drop_more (condacts_of (entry_at g.game u e)) cs k c d in
-        either Inside (nat_lt (length r.read) 200000) _ (IsSpent spent.Condacts r)
+        either Inside (nat_lt (length r.read) 200000) _ (halts (RunsOut spent.Condacts) r)
         (reads_one_held (record { table = u; entry = e; at = k; acted = a }) next _ c refl at.0 hn (condacts_held e next hn (suc k) cs at.1) r h) tt
 
     entries_held : (e : ℕ) (es : List Entry) → drop e (table_at g.game u) ≡ es → GoesHeld (ts ++ u ∷ []) (entries g sub lv u e es)

@@ -3,6 +3,7 @@ use Rattle.std.proofs.Common.{◌≡◌, ℕ, zero, suc, ◌-◌, Bool, true, fa
 use Rattle.std.specs.Prelude.{◌==◌, if◌then◌else◌, nat_lt, IfSome}
 use Rattle.std.proofs.lemmas.Bool.Decides.{nat_tests}
 use Rattle.std.proofs.lemmas.Bool.{eqb-true}
+use Rattle.paw_base.specs.declared.messages.TheConstants.{QUIT_MESSAGE, GOODBYE_MESSAGE}
 use Rattle.paw_base.specs.declared.parts.Condact.{Condact}
 use Rattle.paw_base.specs.declared.fault.SpentKind.TheVariants as spent
 use Rattle.paw_game.specs.declared.parts.Entry.{Entry}
@@ -21,7 +22,7 @@ use Rattle.paw_effects.specs.Effects.{Done, effect_of}
 use Rattle.paw_reading.specs.declared.places.Frame.{Frame}
 use Rattle.paw_reading.specs.declared.places.OpenLoop.{OpenLoop}
 use Rattle.paw_reading.specs.Run.{Run, closed, fits, printed, with_world, without_loop, line_dropped, anew, is_ignored, heard, reply, is_yes, is_no, taken_phrase}
-use Rattle.paw_reading.specs.Reading.{Out, Left, Waits, Redescribes, Restarts, Ends, IsSpent, IsDeep, noted, after_call, at_level, if_open, again, taken, turns, loop_of, over, answered, asked, after_test, after_parse, after_action, carried_out, acts, reads_one, condacts, is_for_now, entries, plain, looped, reads, called, deeper}
+use Rattle.paw_reading.specs.Reading.{IsOver, RunsOut, Restarts, Out, Left, Waits, Stopped, halts, noted, after_call, at_level, if_open, again, taken, turns, loop_of, over, answered, asked, after_test, after_parse, after_action, carried_out, acts, reads_one, condacts, is_for_now, entries, plain, looped, reads, called, deeper}
 
 -- the loop is this one, or there is none
 abbrev pub IsOrNone : Option OpenLoop → Option OpenLoop → Type 0
@@ -34,11 +35,7 @@ IsLoopOf t turning = IfSome turning (λ l. l.level ≡ 0 → l.table ≡ t)
 abbrev pub Keeps : Option OpenLoop → Out → Type 0
 Keeps o (Left a r) = IsOrNone o r.turning
 Keeps o (Waits p path r) = Unit {0}
-Keeps o (Redescribes r) = Unit {0}
-Keeps o (Restarts r) = Unit {0}
-Keeps o (Ends r) = Unit {0}
-Keeps o (IsSpent kind r) = Unit {0}
-Keeps o (IsDeep u r) = Unit {0}
+Keeps o (Stopped stop r) = Unit {0}
 
 -- reading on keeps the loop of each run
 abbrev pub GoesKeeping : (Bool → Run → Out) → Type 0
@@ -53,11 +50,7 @@ pub Keeps_none : (o : Option OpenLoop) (x : Out) → Keeps None x → Keeps o x
 Keeps_none o (Left a r) (inl h) = inr h
 Keeps_none o (Left a r) (inr h) = inr h
 Keeps_none o (Waits p path r) h = tt
-Keeps_none o (Redescribes r) h = tt
-Keeps_none o (Restarts r) h = tt
-Keeps_none o (Ends r) h = tt
-Keeps_none o (IsSpent kind r) h = tt
-Keeps_none o (IsDeep u r) h = tt
+Keeps_none o (Stopped stop r) h = tt
 
 pub Keeps_from : (o q : Option OpenLoop) (x : Out) → IsOrNone o q → Keeps q x → Keeps o x
 Keeps_from o q x (inl e) h = subst (λ p. Keeps p x) e h
@@ -92,11 +85,7 @@ again_closes lv l next own h (Left a r) k =
     open_or_not (Keeps None) (λ m. next m r) (Left a r) (at_level lv r.turning) (λ m e. h m r)
     (λ none. elim k [ inl e ↦ let q : at_level lv r.turning ≡ Some l = rw e (at_level_own lv l own) in cc | inr e ↦ inr e ])
 again_closes lv l next own h (Waits p path r) k = tt
-again_closes lv l next own h (Redescribes r) k = tt
-again_closes lv l next own h (Restarts r) k = tt
-again_closes lv l next own h (Ends r) k = tt
-again_closes lv l next own h (IsSpent kind r) k = tt
-again_closes lv l next own h (IsDeep u r) k = tt
+again_closes lv l next own h (Stopped stop r) k = tt
 
 pub turns_closes : (g : Story) (lv : ℕ) (l : OpenLoop) (body : Run → Out) → l.level ≡ lv → ((r : Run) → Keeps r.turning (body r)) → (n : ℕ) (r : Run) → Keeps None (turns g lv l body n r)
 unfolding turns
@@ -112,17 +101,13 @@ turns_closes g lv l body own h (suc n) r =
 pub after_call_keeps : (f : Frame) (go : Bool → Run → Out) → GoesKeeping go → (o : Option OpenLoop) (x : Out) → Keeps o x → Keeps o (after_call f go x)
 after_call_keeps f go h o (Left b r) k = Keeps_from o r.turning _ k (h (f.acted || b) r)
 after_call_keeps f go h o (Waits p path r) k = tt
-after_call_keeps f go h o (Redescribes r) k = tt
-after_call_keeps f go h o (Restarts r) k = tt
-after_call_keeps f go h o (Ends r) k = tt
-after_call_keeps f go h o (IsSpent kind r) k = tt
-after_call_keeps f go h o (IsDeep u r) k = tt
+after_call_keeps f go h o (Stopped stop r) k = tt
 
 answered_keeps : (g : Story) (p : Prompt) (f : Frame) (go : Bool → Run → Out) → GoesKeeping go → (line : List ℕ) (r : Run) → Keeps r.turning (answered g p f go line r)
 answered_keeps g prompt.Main f go h line r = h f.acted r
 answered_keeps g prompt.Quit f go h line r = either (Keeps r.turning) (is_yes line) _ (Left true r) (h f.acted r) (inl refl)
 answered_keeps g prompt.Again f go h line r =
-    either (Keeps r.turning) (is_no line) (over g r) (Restarts (anew r)) (either (Keeps r.turning) (fits r (say_text g.game r.world 14)) (Ends (closed (without_loop (line_dropped (printed (say_text g.game r.world 14) r))))) (IsSpent spent.Text r) tt tt) tt
+    either (Keeps r.turning) (is_no line) (over g r) (Stopped Restarts (anew r)) (either (Keeps r.turning) (fits r (say_text g.game r.world GOODBYE_MESSAGE)) (halts IsOver (closed (without_loop (line_dropped (printed (say_text g.game r.world GOODBYE_MESSAGE) r))))) (halts (RunsOut spent.Text) r) tt tt) tt
 answered_keeps g prompt.Key f go h line r = h true r
 answered_keeps g prompt.Over f go h line r = h f.acted r
 
@@ -145,8 +130,8 @@ module _ (g : Story) (sub : ℕ → Run → Out) (lv : ℕ) (calls : CallsKeepin
   after_test_keeps f next go hn hg c r truth.Yes = hg f.acted (noted f c true r)
   after_test_keeps f next go hn hg c r truth.No = hn f.acted (noted f c false r)
   after_test_keeps f next go hn hg c r truth.Ask =
-      either (Keeps r.turning) (fits (noted f c true r) (put_text g.game r.world 12)) _ (IsSpent spent.Text (noted f c true r))
-      (asked_keeps g prompt.Quit f go hg (closed (printed (put_text g.game r.world 12) (noted f c true r))) r.events) tt
+      either (Keeps r.turning) (fits (noted f c true r) (put_text g.game r.world QUIT_MESSAGE)) _ (halts (RunsOut spent.Text) (noted f c true r))
+      (asked_keeps g prompt.Quit f go hg (closed (printed (put_text g.game r.world QUIT_MESSAGE) (noted f c true r))) r.events) tt
 
   after_action_keeps : (f : Frame) (next go : Bool → Run → Out) → GoesKeeping next → GoesKeeping go → (e : Effect) (r : Run) → Keeps r.turning (after_action g sub lv f next go e r)
   after_action_keeps f next go hn hg effect.Go r = hg true r
@@ -166,7 +151,7 @@ module _ (g : Story) (sub : ℕ → Run → Out) (lv : ℕ) (calls : CallsKeepin
   acts_keeps : (f : Frame) (next go : Bool → Run → Out) → GoesKeeping next → GoesKeeping go → (d : Done) (r : Run) → Keeps r.turning (acts g sub lv f next go d r)
   acts_keeps f next go hn hg d r =
       let s : Run = carried_out d (printed d.text r) in
-      either (Keeps r.turning) (fits r d.text) _ (IsSpent spent.Text r)
+      either (Keeps r.turning) (fits r d.text) _ (halts (RunsOut spent.Text) r)
       (Keeps_from r.turning s.turning _ (cancelled d.act.cancel_loop r.turning) (after_action_keeps f next go hn hg d.act.effect s)) tt
 
   reads_one_keeps : (f : Frame) (next go : Bool → Run → Out) → GoesKeeping next → GoesKeeping go → (c : Condact) (r : Run) → Keeps r.turning (reads_one g sub lv f next go c r)
@@ -181,7 +166,7 @@ module _ (g : Story) (sub : ℕ → Run → Out) (lv : ℕ) (calls : CallsKeepin
   unfolding condacts
   condacts_keeps t e next hn k [] a r = hn a r
   condacts_keeps t e next hn k (c ∷ cs) a r =
-      either (Keeps r.turning) (nat_lt (length r.read) 200000) _ (IsSpent spent.Condacts r)
+      either (Keeps r.turning) (nat_lt (length r.read) 200000) _ (halts (RunsOut spent.Condacts) r)
       (reads_one_keeps (record { table = t; entry = e; at = k; acted = a }) next _ hn (condacts_keeps t e next hn (suc k) cs) c r) tt
 
   entries_keeps : (t e : ℕ) (es : List Entry) → GoesKeeping (entries g sub lv t e es)
@@ -206,11 +191,7 @@ module _ (g : Story) (sub : ℕ → Run → Out) (lv : ℕ) (calls : CallsKeepin
       open_or_not (Keeps o) (λ l. looped g sub lv l r) (Left a r) (at_level lv r.turning)
       (λ l e. Keeps_none o _ (looped_closes l r (at_level_is lv r.turning l e).0)) (λ none. k)
   again_keeps o (Waits p path r) k = tt
-  again_keeps o (Redescribes r) k = tt
-  again_keeps o (Restarts r) k = tt
-  again_keeps o (Ends r) k = tt
-  again_keeps o (IsSpent kind r) k = tt
-  again_keeps o (IsDeep u r) k = tt
+  again_keeps o (Stopped stop r) k = tt
 
   pub reads_keeps : (t e k : ℕ) → GoesKeeping (reads g sub lv t e k)
   reads_keeps t e k a r = again_keeps r.turning _ (plain_keeps t e k a r)

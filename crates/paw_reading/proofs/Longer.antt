@@ -1,7 +1,7 @@
 -- Reading with more lines, over the definitions.
 use Rattle.std.proofs.Common.{◌≡◌, ℕ, List, [], refl, ◌∙◌}
 use Rattle.paw_effects.specs.Story.{Story}
-use Rattle.paw_reading.specs.Reading.{Out, Left, Waits, Redescribes, Restarts, Ends, IsSpent, IsDeep, rest}
+use Rattle.paw_reading.specs.Reading.{Out, Left, Waits, Stopped, rest}
 use Rattle.paw_reading.specs.GoingOn.{on_path, extended}
 use Rattle.paw_reading.specs.Longer.{TablesGoOn, PathsGoOn}
 use Rattle.paw_reading.proofs.Extends.{extends, rest_extends, path_extends}
@@ -9,11 +9,7 @@ use Rattle.paw_reading.proofs.Extends.{extends, rest_extends, path_extends}
 pub extends_lines : (g : Story) (lines : List (List ℕ)) (lv : ℕ) (x : Out) → extends g [] [] lines lv x ≡ extended g lines lv x
 extends_lines g lines lv (Left a r) = refl
 extends_lines g lines lv (Waits p path r) = refl
-extends_lines g lines lv (Redescribes r) = refl
-extends_lines g lines lv (Restarts r) = refl
-extends_lines g lines lv (Ends r) = refl
-extends_lines g lines lv (IsSpent kind r) = refl
-extends_lines g lines lv (IsDeep u r) = refl
+extends_lines g lines lv (Stopped stop r) = refl
 
 pub tables_go_on : TablesGoOn
 tables_go_on g lines lv t e k a r = rest_extends g [] [] lines lv t e k a r ∙ extends_lines g lines lv (rest g lv t e k a r)

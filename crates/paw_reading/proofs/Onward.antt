@@ -1,6 +1,7 @@
 -- Reading on keeps its rules.
 use Rattle.std.proofs.Common.{◌≡◌, ℕ, suc, ◌-◌, Bool, true, false, List, [], ◌∷◌, Some, None, inl, inr, refl, sym, ap, ◌∙◌, length, arith}
 use Rattle.std.specs.Prelude.{if◌then◌else◌}
+use Rattle.paw_base.specs.declared.messages.TheConstants.{GOODBYE_MESSAGE}
 use Rattle.paw_base.specs.declared.parts.Condact.{Condact}
 use Rattle.paw_base.specs.declared.fault.SpentKind.TheVariants as spent
 use Rattle.paw_game.specs.declared.parts.Entry.{Entry}
@@ -12,7 +13,7 @@ use Rattle.paw_effects.specs.Texts.{say_text}
 use Rattle.paw_reading.specs.declared.places.Frame.{Frame}
 use Rattle.paw_reading.specs.declared.places.OpenLoop.{OpenLoop}
 use Rattle.paw_reading.specs.Run.{Run, closed, fits, printed, without_loop, line_dropped, heard}
-use Rattle.paw_reading.specs.Reading.{Out, Left, Waits, Redescribes, Restarts, Ends, IsSpent, IsDeep, after_call, at_level, again, is_taken, taken, turns, loop_of, over, asked, reads_one, entries, is_for_now, inside, plain, looped, deeper, rest}
+use Rattle.paw_reading.specs.Reading.{IsOver, RunsOut, Out, Left, Waits, Stopped, halts, after_call, at_level, again, is_taken, taken, turns, loop_of, over, asked, reads_one, entries, is_for_now, inside, plain, looped, deeper, rest}
 use Rattle.paw_reading.specs.GoingOn.{on_path}
 use Rattle.paw_reading.specs.Rules.{past, at_frame, leaves, looks, goes, MayRead, ReadsEntries, ReadsCondacts, FollowsActions, TurnsLoops, AnswersPrompts, ReadingOn}
 use Rattle.paw_reading.proofs.Lists.{drop_none, drop_some}
@@ -42,11 +43,7 @@ taken_again g sub lv l o (Left a r) own (inl k) =
     let q : at_level lv r.turning ≡ Some (record l { last = o }) = rw k (at_level_own lv (record l { last = o }) own) in rw q refl
 taken_again g sub lv l o (Left a r) own (inr k) = rw k refl
 taken_again g sub lv l o (Waits p path r) own k = refl
-taken_again g sub lv l o (Redescribes r) own k = refl
-taken_again g sub lv l o (Restarts r) own k = refl
-taken_again g sub lv l o (Ends r) own k = refl
-taken_again g sub lv l o (IsSpent kind r) own k = refl
-taken_again g sub lv l o (IsDeep u r) own k = refl
+taken_again g sub lv l o (Stopped stop r) own k = refl
 
 -- ---- the rules ----
 
@@ -74,12 +71,12 @@ module _ (g : Story) (lv : ℕ) where
   reads_condacts : ReadsCondacts g lv
   reads_condacts = record {
     used_up = λ f c r h n. same (inside_condact g (deeper g lv) lv f.table f.entry f.at f.acted r c h ∙ within_none r _ n);
-    holding = λ f c r h is y. one_read f c r h ∙ rw (is, y) refl;
-    failing = λ f c r h is y. one_read f c r h ∙ rw (is, y) refl;
-    asking = λ f c r h is y fit. one_read f c r h ∙ rw (is, y, fit) refl;
-    asking_too_long = λ f c r h is y fit. one_read f c r h ∙ rw (is, y, fit) refl;
-    acting = λ f c r h is fit. one_read f c r h ∙ rw (is, fit) refl;
-    acting_too_long = λ f c r h is fit. one_read f c r h ∙ rw (is, fit) refl;
+    holding = λ f c r h. one_read f c r h.may ∙ rw (h.is, h.answers) refl;
+    failing = λ f c r h. one_read f c r h.may ∙ rw (h.is, h.answers) refl;
+    asking = λ f c r h fit. one_read f c r h.may ∙ rw (h.is, h.answers, fit) refl;
+    asking_too_long = λ f c r h fit. one_read f c r h.may ∙ rw (h.is, h.answers, fit) refl;
+    acting = λ f c r h. one_read f c r h.may ∙ rw (h.is, h.room) refl;
+    acting_too_long = λ f c r h. one_read f c r h.may ∙ rw (h.is, h.room) refl;
   }
 
   begins : (f : Frame) (p : ℕ) (r : Run) → goes g lv f (effect.Loop p) r ≡ looks g lv (loop_of lv f p) 0 r
@@ -143,10 +140,10 @@ module _ (g : Story) (lv : ℕ) where
 
   -- the end of the game is final
   over_stays : (r : Run) → again lv (looped g (deeper g lv) lv) (over g r) ≡ over g r
-  over_stays r = by_test (fits r (say_text g.game r.world 14))
+  over_stays r = by_test (fits r (say_text g.game r.world GOODBYE_MESSAGE))
     where
-      by_test : (b : Bool) → again lv (looped g (deeper g lv) lv) (if b then Ends (closed (without_loop (line_dropped (printed (say_text g.game r.world 14) r)))) else IsSpent spent.Text r)
-          ≡ (if b then Ends (closed (without_loop (line_dropped (printed (say_text g.game r.world 14) r)))) else IsSpent spent.Text r)
+      by_test : (b : Bool) → again lv (looped g (deeper g lv) lv) (if b then halts IsOver (closed (without_loop (line_dropped (printed (say_text g.game r.world GOODBYE_MESSAGE) r)))) else halts (RunsOut spent.Text) r)
+          ≡ (if b then halts IsOver (closed (without_loop (line_dropped (printed (say_text g.game r.world GOODBYE_MESSAGE) r)))) else halts (RunsOut spent.Text) r)
       by_test true = refl
       by_test false = refl
 

@@ -2,6 +2,7 @@
 use Rattle.std.proofs.Common.{◌≡◌, ◌≢◌, ℕ, zero, suc, Bool, true, false, List, [], ◌∷◌, ◌++◌, Option, Some, None, refl, sym, ap, ◌∙◌, append_assoc, append-nil}
 use Rattle.std.specs.Prelude.{flat_map, if◌then◌else◌}
 use Rattle.std.proofs.lemmas.Grind.{flat_map-append}
+use Rattle.paw_base.specs.declared.messages.TheConstants.{UNKNOWN_MESSAGE}
 use Rattle.paw_base.specs.declared.fault.SpentKind.TheVariants as spent
 use Rattle.paw_effects.specs.Story.{Story}
 use Rattle.paw_game.specs.Tables.{exit_at}
@@ -12,9 +13,9 @@ use Rattle.paw_effects.specs.declared.act.Prompt.TheVariants as prompt
 use Rattle.paw_effects.specs.Texts.{say_text}
 use Rattle.paw_reading.specs.declared.places.Frame.{Frame}
 use Rattle.paw_reading.specs.Run.{Run, Step, closed, fits, printed, with_world, line_dropped, is_timeout, is_ignored, heard, with_timeout, taken_phrase}
-use Rattle.paw_reading.specs.Reading.{Out, Left, Waits, Redescribes, Restarts, Ends, IsSpent, IsDeep, rest, table_read}
+use Rattle.paw_reading.specs.Reading.{RunsOut, Redescribes, Restarts, Halts, Out, Left, Waits, Stopped, rest, table_read, phrase_of}
 use Rattle.paw_reading.specs.GoingOn.{on_path, with_lines}
-use Rattle.paw_reading.specs.Turn.{Stage, AtDescribe, AtFrame, AtPhrase, AtResponse, Ending, WaitsAt, IsOver, RunsOut, CallsTooDeep, Unended, saying, described, framed, view_text, counted, prompt_text, line_set, at_main, after_phrase, refusal_text, connected, after_left, table_done, turn, stages_left, first_table, in_table, goes_on, on, reading, text_of}
+use Rattle.paw_reading.specs.Turn.{Stage, AtDescribe, AtFrame, AtPhrase, AtResponse, Ending, WaitsAt, Halted, Unended, saying, described, framed, view_text, counted, prompt_text, line_set, at_main, after_phrase, refusal_text, connected, after_left, table_done, turn, stages_left, first_table, in_table, goes_on, on, reading, text_of, timeout_text}
 use Rattle.paw_reading.specs.Longer.{with_past, without_past, ending_with_past, PastStays, LongerReading, LongerText}
 use Rattle.paw_reading.proofs.Onward.{waits_on}
 use Rattle.paw_reading.proofs.Stops.{Stops, rest_stops, path_stops}
@@ -33,11 +34,7 @@ module _ (g : Story) (ps : List (List ℕ)) (ts : List (List Step)) where
   abbrev out_with_past : Out → Out
   out_with_past (Left a r) = Left a (with_past ps ts r)
   out_with_past (Waits p path r) = Waits p path (with_past ps ts r)
-  out_with_past (Redescribes r) = Redescribes (with_past ps ts r)
-  out_with_past (Restarts r) = Restarts (with_past ps ts r)
-  out_with_past (Ends r) = Ends (with_past ps ts r)
-  out_with_past (IsSpent kind r) = IsSpent kind (with_past ps ts r)
-  out_with_past (IsDeep u r) = IsDeep u (with_past ps ts r)
+  out_with_past (Stopped stop r) = Stopped stop (with_past ps ts r)
 
   closed_past : (r : Run) → closed (with_past ps ts r) ≡ with_past ps ts (closed r)
   closed_past r = rw (append_assoc ps r.pieces (r.current ∷ []), append_assoc ts r.traces (r.read ∷ [])) refl
@@ -49,11 +46,7 @@ module _ (g : Story) (ps : List (List ℕ)) (ts : List (List Step)) where
   extends_past : (lv : ℕ) (x : Out) → Stops x → extends g ps ts [] lv x ≡ out_with_past x
   extends_past lv (Left a r) k = ap (Left a) (past_around r)
   extends_past lv (Waits p path r) k = rw (past_around r) (waits_there g p lv path (with_past ps ts r) k.some k.none_left)
-  extends_past lv (Redescribes r) k = ap Redescribes (past_around r)
-  extends_past lv (Restarts r) k = ap Restarts (past_around r)
-  extends_past lv (Ends r) k = ap Ends (past_around r)
-  extends_past lv (IsSpent kind r) k = ap (IsSpent kind) (past_around r)
-  extends_past lv (IsDeep u r) k = ap (IsDeep u) (past_around r)
+  extends_past lv (Stopped stop r) k = ap (Stopped stop) (past_around r)
 
   table_past : (t : ℕ) (r : Run) → table_read g t (with_past ps ts r) ≡ out_with_past (table_read g t r)
   table_past t r =
@@ -69,7 +62,7 @@ module _ (g : Story) (ps : List (List ℕ)) (ts : List (List Step)) where
       saying text go (with_past ps ts r) ≡ ending_with_past ps ts (saying text go r)
   saying_past text go r h = by_test (fits r text)
     where
-      by_test : (b : Bool) → (if b then go (with_past ps ts (printed text r)) else RunsOut spent.Text (with_past ps ts r)) ≡ ending_with_past ps ts (if b then go (printed text r) else RunsOut spent.Text r)
+      by_test : (b : Bool) → (if b then go (with_past ps ts (printed text r)) else Halted (RunsOut spent.Text) (with_past ps ts r)) ≡ ending_with_past ps ts (if b then go (printed text r) else Halted (RunsOut spent.Text) r)
       by_test true = h
       by_test false = refl
 
@@ -87,11 +80,9 @@ module _ (g : Story) (ps : List (List ℕ)) (ts : List (List Step)) where
     table_done_past : (t : ℕ) (x : Out) → table_done g go t (out_with_past x) ≡ ending_with_past ps ts (table_done g go t x)
     table_done_past t (Left a r) = after_left_past t a r
     table_done_past t (Waits p path r) = refl
-    table_done_past t (Redescribes r) = pasts AtDescribe r
-    table_done_past t (Restarts r) = pasts AtDescribe r
-    table_done_past t (Ends r) = refl
-    table_done_past t (IsSpent kind r) = refl
-    table_done_past t (IsDeep u r) = refl
+    table_done_past t (Stopped Redescribes r) = pasts AtDescribe r
+    table_done_past t (Stopped Restarts r) = pasts AtDescribe r
+    table_done_past t (Stopped (Halts halt) r) = refl
 
     read_past : (t : ℕ) (r : Run) → table_done g go t (table_read g t (with_past ps ts r)) ≡ ending_with_past ps ts (table_done g go t (table_read g t r))
     read_past t r = rw (table_past t r) (table_done_past t (table_read g t r))
@@ -102,11 +93,11 @@ module _ (g : Story) (ps : List (List ℕ)) (ts : List (List Step)) where
     at_main_past r (line ∷ es) =
         by_test (is_ignored r.world line) (is_timeout line)
         (at_main g (go AtFrame) (go AtPhrase) (closed (record r { events = es })) es)
-        (saying (say_text g.game (with_timeout true r.world) 35) (go AtFrame) (heard line (record r { events = es })))
+        (saying (timeout_text g.game r.world) (go AtFrame) (heard line (record r { events = es })))
         (go AtPhrase (line_set line (record r { events = es })))
         (rw (closed_past (record r { events = es })) (at_main_past (closed (record r { events = es })) es))
-        (saying_past (say_text g.game (with_timeout true r.world) 35) (go AtFrame) (heard line (record r { events = es }))
-        (pasts AtFrame (printed (say_text g.game (with_timeout true r.world) 35) (heard line (record r { events = es })))))
+        (saying_past (timeout_text g.game r.world) (go AtFrame) (heard line (record r { events = es }))
+        (pasts AtFrame (printed (timeout_text g.game r.world) (heard line (record r { events = es })))))
         (pasts AtPhrase (line_set line (record r { events = es })))
       where
         by_test : (ignored timeout : Bool) (x y z : Ending) → {x' y' z' : Ending} → x' ≡ ending_with_past ps ts x → y' ≡ ending_with_past ps ts y → z' ≡ ending_with_past ps ts z →
@@ -117,7 +108,7 @@ module _ (g : Story) (ps : List (List ℕ)) (ts : List (List Step)) where
 
     after_phrase_past : (r : Run) (p : Parsed) → after_phrase g (go AtFrame) (go AtPhrase) (go AtResponse) (with_past ps ts r) p ≡ ending_with_past ps ts (after_phrase g (go AtFrame) (go AtPhrase) (go AtResponse) r p)
     after_phrase_past r (IsSentence s rest) = pasts AtResponse (with_world (counted (taken_phrase s rest r).world) (taken_phrase s rest r))
-    after_phrase_past r (IsUnknown rest) = saying_past (say_text g.game r.world 6) (go AtFrame) (line_dropped r) (pasts AtFrame (printed (say_text g.game r.world 6) (line_dropped r)))
+    after_phrase_past r (IsUnknown rest) = saying_past (say_text g.game r.world UNKNOWN_MESSAGE) (go AtFrame) (line_dropped r) (pasts AtFrame (printed (say_text g.game r.world UNKNOWN_MESSAGE) (line_dropped r)))
     after_phrase_past r IsNoPhrase =
         saying_past (prompt_text g.game r.world) (λ s. at_main g (go AtFrame) (go AtPhrase) (closed s) s.events) (line_dropped r)
         (rw (closed_past (printed (prompt_text g.game r.world) (line_dropped r))) (at_main_past (closed (printed (prompt_text g.game r.world) (line_dropped r))) r.events))
@@ -129,7 +120,7 @@ module _ (g : Story) (ps : List (List ℕ)) (ts : List (List Step)) where
       saying_past (view_text g.game (described r.world)) (λ q. table_done g (turn g n) 1 (table_read g 1 q)) (with_world (described r.world) r)
       (read_past (turn g n) (turn_past n) 1 (printed (view_text g.game (described r.world)) (with_world (described r.world) r)))
   turn_past (suc n) AtFrame r = read_past (turn g n) (turn_past n) 2 r
-  turn_past (suc n) AtPhrase r = after_phrase_past (turn g n) (turn_past n) r (parsed g.game r.pending r.earlier (flag r.world 46) (flag r.world 47))
+  turn_past (suc n) AtPhrase r = after_phrase_past (turn g n) (turn_past n) r (phrase_of g r)
   turn_past (suc n) AtResponse r = read_past (turn g n) (turn_past n) 0 r
 
   in_table_past : (n : ℕ) (p : Prompt) (path : List Frame) (r : Run) → in_table g n p path (with_past ps ts r) ≡ ending_with_past ps ts (in_table g n p path r)
@@ -154,9 +145,7 @@ longer_reading g seed es fs p path r e =
 
 past_text : (ps : List (List ℕ)) (ts : List (List Step)) (x : Ending) → x ≢ Unended → text_of (ending_with_past ps ts x) ≡ flat_map (λ piece. piece) ps ++ text_of x
 past_text ps ts (WaitsAt p path r) h = flat_map-append (λ piece. piece) ps r.pieces
-past_text ps ts (IsOver r) h = flat_map-append (λ piece. piece) ps r.pieces
-past_text ps ts (RunsOut kind r) h = flat_map-append (λ piece. piece) ps r.pieces
-past_text ps ts (CallsTooDeep u r) h = flat_map-append (λ piece. piece) ps r.pieces
+past_text ps ts (Halted halt r) h = flat_map-append (λ piece. piece) ps r.pieces
 past_text ps ts Unended h = absurd (h refl)
 
 -- and so has its text

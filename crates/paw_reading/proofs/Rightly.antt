@@ -2,6 +2,7 @@
 use Rattle.std.proofs.Common.{◌≡◌, ◌≢◌, ℕ, zero, suc, ◌+◌, ◌*◌, ◌≤◌, Bool, true, false, List, [], ◌∷◌, Option, Some, None, refl, sym, ap, subst, length, arith, append-nil}
 use Rattle.std.specs.Prelude.{if◌then◌else◌, All}
 use Rattle.std.proofs.Math.ListN.{get_or}
+use Rattle.paw_base.specs.declared.messages.TheConstants.{UNKNOWN_MESSAGE}
 use Rattle.paw_base.specs.declared.fault.SpentKind.TheVariants as spent
 use Rattle.paw_game.specs.Game.{GameLists}
 use Rattle.paw_game.specs.Tables.{exit_at}
@@ -19,8 +20,8 @@ use Rattle.paw_effects.proofs.Placed.{IsPlaced, opened_placed}
 use Rattle.paw_reading.specs.declared.places.Frame.{Frame}
 use Rattle.paw_reading.specs.declared.places.OpenLoop.{OpenLoop}
 use Rattle.paw_reading.specs.Run.{Run, Step, closed, fits, printed, with_world, line_dropped, is_timeout, is_ignored, heard, with_timeout, taken_phrase}
-use Rattle.paw_reading.specs.Reading.{Out, Left, Waits, Redescribes, Restarts, Ends, IsSpent, IsDeep, table_read}
-use Rattle.paw_reading.specs.Turn.{Stage, AtDescribe, AtFrame, AtPhrase, AtResponse, Ending, WaitsAt, IsOver, RunsOut, CallsTooDeep, Unended, reading, on, saying, described, framed, view_text, counted, prompt_text, line_set, at_main, after_phrase, refusal_text, connected, after_left, table_done, turn, stages_left, opening, first_table, in_table, goes_on}
+use Rattle.paw_reading.specs.Reading.{IsOver, RunsOut, Redescribes, Restarts, Halts, Out, Left, Waits, Stopped, table_read, phrase_of}
+use Rattle.paw_reading.specs.Turn.{Stage, AtDescribe, AtFrame, AtPhrase, AtResponse, Ending, WaitsAt, Halted, reading, on, saying, described, framed, view_text, counted, prompt_text, line_set, at_main, after_phrase, refusal_text, connected, after_left, table_done, turn, stages_left, opening, first_table, in_table, goes_on, timeout_text}
 use Rattle.paw_reading.specs.Bounds.{IsLine, ValidStory, IsBounded}
 use Rattle.paw_reading.specs.Longer.{without_past, with_past, ending_with_past}
 use Rattle.paw_reading.specs.Places.{LeadsTo, tables_of, AreOpenTo, ArePlaces, IsLineTaken, StandsRightly, StopsRightly, StopsBounded, ReadingsStopRightly, GoingOnStopsRightly, ReadingsAreBounded, GoingOnIsBounded}
@@ -74,10 +75,8 @@ record IsPlacedRightly (g : GameLists) (p : Prompt) (path : List Frame) (r : Run
 
 abbrev StopsPlaced : GameLists → Ending → Type 0
 StopsPlaced g (WaitsAt p path r) = (p ≢ prompt.Over) × IsPlacedRightly g p path r
-StopsPlaced g (IsOver r) = IsPlacedRightly g prompt.Over [] r
-StopsPlaced g (RunsOut kind r) = Unit {0}
-StopsPlaced g (CallsTooDeep u r) = Unit {0}
-StopsPlaced g Unended = Unit {0}
+StopsPlaced g (Halted IsOver r) = IsPlacedRightly g prompt.Over [] r
+StopsPlaced g _ = Unit {0}
 
 -- what holds in both cases
 one_of : (P : Ending → Type 0) (b : Bool) (x y : Ending) → P x → P y → P (if b then x else y)
@@ -98,7 +97,7 @@ module _ (g : Story) (v : Valid g.game) where
 
   saying_rightly : (text : List ℕ) (go : Run → Ending) → GoRightly go → GoRightly (saying text go)
   saying_rightly text go h r k =
-      one_of IsRightly (fits r text) _ (RunsOut spent.Text r) (h (printed text r) (record { of = k.of; none = k.none })) tt
+      one_of IsRightly (fits r text) _ (Halted (RunsOut spent.Text) r) (h (printed text r) (record { of = k.of; none = k.none })) tt
 
   module _ (go : Stage → Run → Ending) (goes : (s : Stage) → GoRightly (go s)) where
     connected_rightly : (to : Option ℕ) → GoRightly (λ r. connected g (go AtDescribe) (go AtFrame) r to)
@@ -121,11 +120,10 @@ module _ (g : Story) (v : Valid g.game) where
     table_done_rightly t low (Waits p path r) k =
         let rightly = waits_rightly g.game t k.code p path r low k.asks (omega (arith, k.few)) k.first k.leads k.sound in
         (rightly.0, record { places = rightly.1; line = some_path g.game k.code path r k.leads })
-    table_done_rightly t low (Redescribes r) k = goes AtDescribe r (between r k)
-    table_done_rightly t low (Restarts r) k = goes AtDescribe r (between r k)
-    table_done_rightly t low (Ends r) k = record { places = (refl, k.0); line = λ e. k.1.0 }
-    table_done_rightly t low (IsSpent kind r) k = tt
-    table_done_rightly t low (IsDeep u r) k = tt
+    table_done_rightly t low (Stopped Redescribes r) k = goes AtDescribe r (between r k)
+    table_done_rightly t low (Stopped Restarts r) k = goes AtDescribe r (between r k)
+    table_done_rightly t low (Stopped (Halts IsOver) r) k = record { places = (refl, k.0); line = λ e. k.1.0 }
+    table_done_rightly t low (Stopped (Halts _) r) k = tt
 
     read_rightly : (t : ℕ) → t ≤ 2 → GoRightly (λ r. table_done g go t (table_read g t r))
     read_rightly t low r k = table_done_rightly t low (table_read g t r) (table_held g v t r k.of k.none)
@@ -138,16 +136,16 @@ module _ (g : Story) (v : Valid g.game) where
         one_of IsRightly (is_ignored r.world line) _ _
         (at_main_rightly (closed s) lines (record { of = k.of; none = k.none }) empty)
         (one_of IsRightly (is_timeout line) _ _
-        (saying_rightly (say_text g.game (with_timeout true r.world) 35) (go AtFrame) (goes AtFrame) (heard line s) (record { of = k.of; none = k.none }))
+        (saying_rightly (timeout_text g.game r.world) (go AtFrame) (goes AtFrame) (heard line s) (record { of = k.of; none = k.none }))
         (goes AtPhrase (line_set line s) (record { of = k.of; none = k.none })))
 
     after_phrase_rightly : (p : Parsed) → GoRightly (λ r. after_phrase g (go AtFrame) (go AtPhrase) (go AtResponse) r p)
     after_phrase_rightly (IsSentence s rest) r k =
         goes AtResponse (with_world (counted (taken_phrase s rest r).world) (taken_phrase s rest r)) (record { of = k.of; none = k.none })
     after_phrase_rightly (IsUnknown rest) r k =
-        saying_rightly (say_text g.game r.world 6) (go AtFrame) (goes AtFrame) (line_dropped r) (record { of = k.of; none = k.none })
+        saying_rightly (say_text g.game r.world UNKNOWN_MESSAGE) (go AtFrame) (goes AtFrame) (line_dropped r) (record { of = k.of; none = k.none })
     after_phrase_rightly IsNoPhrase r k =
-        one_of IsRightly (fits (line_dropped r) (prompt_text g.game r.world)) _ (RunsOut spent.Text (line_dropped r))
+        one_of IsRightly (fits (line_dropped r) (prompt_text g.game r.world)) _ (Halted (RunsOut spent.Text) (line_dropped r))
         (at_main_rightly (closed (printed (prompt_text g.game r.world) (line_dropped r))) r.events (record { of = k.of; none = k.none }) refl) tt
 
   turn_rightly : (n : ℕ) (s : Stage) → GoRightly (turn g n s)
@@ -158,7 +156,7 @@ module _ (g : Story) (v : Valid g.game) where
       (with_world (described r.world) r) (record { of = described_placed g.game r.world k.of; none = k.none })
   turn_rightly (suc n) AtFrame r k = read_rightly (turn g n) (turn_rightly n) 2 (omega arith) r k
   turn_rightly (suc n) AtPhrase r k =
-      after_phrase_rightly (turn g n) (turn_rightly n) (parsed g.game r.pending r.earlier (flag r.world 46) (flag r.world 47)) r k
+      after_phrase_rightly (turn g n) (turn_rightly n) (phrase_of g r) r k
   turn_rightly (suc n) AtResponse r k = read_rightly (turn g n) (turn_rightly n) 0 (omega arith) r k
 
   -- ---- going on ----
@@ -195,10 +193,8 @@ stands g valid seed n p path r at k = record {
 
 stop_rightly : (g : Story) (valid : ValidStory g) (seed n : ℕ) (e : Ending) → StopsPlaced g.game e → EndsSound g valid seed n e → StopsRightly g.game e
 stop_rightly g valid seed n (WaitsAt p path r) at k = (at.0, stands g valid seed n p path r at.1 k)
-stop_rightly g valid seed n (IsOver r) at k = stands g valid seed n prompt.Over [] r at k
-stop_rightly g valid seed n (RunsOut kind r) at k = tt
-stop_rightly g valid seed n (CallsTooDeep u r) at k = tt
-stop_rightly g valid seed n Unended at k = tt
+stop_rightly g valid seed n (Halted IsOver r) at k = stands g valid seed n prompt.Over [] r at k
+stop_rightly g valid seed n _ at k = tt
 
 bounded : (g : GameLists) (seed n : ℕ) (r : Run) → IsResting g seed n r → IsBounded seed n r
 bounded g seed n r k = record {
@@ -210,10 +206,8 @@ bounded g seed n r k = record {
 
 stop_bounded : (g : Story) (valid : ValidStory g) (seed n : ℕ) (e : Ending) → EndsSound g valid seed n e → StopsBounded seed n e
 stop_bounded g valid seed n (WaitsAt p path r) k = bounded g.game seed n r k
-stop_bounded g valid seed n (IsOver r) k = bounded g.game seed n r k
-stop_bounded g valid seed n (RunsOut kind r) k = tt
-stop_bounded g valid seed n (CallsTooDeep u r) k = tt
-stop_bounded g valid seed n Unended k = tt
+stop_bounded g valid seed n (Halted IsOver r) k = bounded g.game seed n r k
+stop_bounded g valid seed n _ k = tt
 
 -- each reading
 pub readings_stop_rightly : ReadingsStopRightly
@@ -253,10 +247,8 @@ apart r = rw (append-nil r.pieces, append-nil r.traces) refl
 
 placed_past : (g : GameLists) (ps : List (List ℕ)) (ts : List (List Step)) (e : Ending) → StopsRightly g e → StopsRightly g (ending_with_past ps ts e)
 placed_past g ps ts (WaitsAt p path r) k = (k.0, record { world = k.1.world; places = k.1.places; line = k.1.line; pending = k.1.pending; earlier = k.1.earlier; piece = k.1.piece; read = k.1.read })
-placed_past g ps ts (IsOver r) k = record { world = k.world; places = k.places; line = k.line; pending = k.pending; earlier = k.earlier; piece = k.piece; read = k.read }
-placed_past g ps ts (RunsOut kind r) k = tt
-placed_past g ps ts (CallsTooDeep u r) k = tt
-placed_past g ps ts Unended k = tt
+placed_past g ps ts (Halted IsOver r) k = record { world = k.world; places = k.places; line = k.line; pending = k.pending; earlier = k.earlier; piece = k.piece; read = k.read }
+placed_past g ps ts _ k = tt
 
 alone : (g : GameLists) (p : Prompt) (path : List Frame) (r : Run) → StandsRightly g p path r → StandsRightly g p path (without_past r)
 alone g p path r k = record { world = k.world; places = k.places; line = k.line; pending = k.pending; earlier = k.earlier; piece = k.piece; read = k.read }

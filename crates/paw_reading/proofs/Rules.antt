@@ -14,7 +14,7 @@ use Rattle.paw_world.specs.World.{flag}
 use Rattle.paw_reading.specs.declared.places.Frame.{Frame}
 use Rattle.paw_reading.specs.declared.places.OpenLoop.{OpenLoop}
 use Rattle.paw_reading.specs.Run.{Run}
-use Rattle.paw_reading.specs.Reading.{Out, Left, Waits, Redescribes, Restarts, Ends, IsSpent, IsDeep, within, after_call, at_level, if_open, again, reads_one, condacts, is_for_now, entries, inside, plain, looped, called, deeper, rest}
+use Rattle.paw_reading.specs.Reading.{RunsOut, CallsTooDeep, Out, Left, Waits, Stopped, halts, within, after_call, at_level, if_open, again, reads_one, condacts, is_for_now, entries, inside, plain, looped, called, deeper, rest}
 use Rattle.paw_reading.proofs.Lists.{drop_none, drop_some, drop_more}
 use Rattle.paw_reading.proofs.Keeps.{Keeps, CallsKeeping, at_level_is, looped_closes}
 
@@ -22,7 +22,7 @@ use Rattle.paw_reading.proofs.Keeps.{Keeps, CallsKeeping, at_level_is, looped_cl
 pub within_budget : (r : Run) (x : Out) → length r.read < 200000 → within r x ≡ x
 within_budget r x h = let t : nat_lt (length r.read) 200000 ≡ true = grind (arith, nat_tests) in rw t refl
 
-pub within_none : (r : Run) (x : Out) → 200000 ≤ length r.read → within r x ≡ IsSpent spent.Condacts r
+pub within_none : (r : Run) (x : Out) → 200000 ≤ length r.read → within r x ≡ halts (RunsOut spent.Condacts) r
 within_none r x h = let t : nat_lt (length r.read) 200000 ≡ false = grind (arith, nat_tests) in rw t refl
 
 module _ (g : Story) (sub : ℕ → Run → Out) (lv : ℕ) where
@@ -85,11 +85,7 @@ module _ (g : Story) (sub : ℕ → Run → Out) (lv : ℕ) where
   again_closed next (Left a r) (inl k) = rw k refl
   again_closed next (Left a r) (inr k) = rw k refl
   again_closed next (Waits p path r) k = refl
-  again_closed next (Redescribes r) k = refl
-  again_closed next (Restarts r) k = refl
-  again_closed next (Ends r) k = refl
-  again_closed next (IsSpent kind r) k = refl
-  again_closed next (IsDeep u r) k = refl
+  again_closed next (Stopped stop r) k = refl
 
   -- once is as good as twice
   pub again_again : CallsKeeping sub → (x : Out) → again lv (looped g sub lv) (again lv (looped g sub lv) x) ≡ again lv (looped g sub lv) x
@@ -99,21 +95,13 @@ module _ (g : Story) (sub : ℕ → Run → Out) (lv : ℕ) where
       go None e = rw e refl
       go (Some l) e = again_closed _ _ (looped_closes g sub lv calls l r (at_level_is lv r.turning l e).0)
   again_again calls (Waits p path r) = refl
-  again_again calls (Redescribes r) = refl
-  again_again calls (Restarts r) = refl
-  again_again calls (Ends r) = refl
-  again_again calls (IsSpent kind r) = refl
-  again_again calls (IsDeep u r) = refl
+  again_again calls (Stopped stop r) = refl
 
   -- the loop goes on after the call
   pub after_call_again : (f : Frame) (go : Bool → Run → Out) (x : Out) → again lv (looped g sub lv) (after_call f go x) ≡ after_call f (λ a r. again lv (looped g sub lv) (go a r)) x
   after_call_again f go (Left b r) = refl
   after_call_again f go (Waits p path r) = refl
-  after_call_again f go (Redescribes r) = refl
-  after_call_again f go (Restarts r) = refl
-  after_call_again f go (Ends r) = refl
-  after_call_again f go (IsSpent kind r) = refl
-  after_call_again f go (IsDeep u r) = refl
+  after_call_again f go (Stopped stop r) = refl
 
 -- a table that is called is read at the next level
 pub deeper_rest : (g : Story) (lv u : ℕ) (r : Run) → lv < 10 → deeper g lv u r ≡ rest g (suc lv) u 0 0 false r
@@ -121,7 +109,7 @@ unfolding called
 deeper_rest g lv u r h = let e : 10 - lv ≡ suc (10 - suc lv) = omega arith in rw e refl
 
 -- at the deepest level no table can be called
-pub deeper_none : (g : Story) (lv u : ℕ) (r : Run) → 10 ≤ lv → deeper g lv u r ≡ IsDeep u r
+pub deeper_none : (g : Story) (lv u : ℕ) (r : Run) → 10 ≤ lv → deeper g lv u r ≡ halts (CallsTooDeep u) r
 unfolding called
 deeper_none g lv u r h = let e : 10 - lv ≡ 0 = omega arith in rw e refl
 

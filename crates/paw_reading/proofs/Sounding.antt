@@ -5,6 +5,7 @@ use Rattle.std.specs.List.{list_all}
 use Rattle.std.proofs.Math.Nat.{min-le_left}
 use Rattle.std.proofs.lemmas.Bool.{ltb-true, leb-true}
 use Rattle.std.proofs.lemmas.List.Elements.{All-append}
+use Rattle.paw_base.specs.declared.messages.TheConstants.{QUIT_MESSAGE, GOODBYE_MESSAGE, UNKNOWN_MESSAGE}
 use Rattle.paw_base.specs.declared.parts.Condact.{Condact}
 use Rattle.paw_base.specs.declared.parts.ObjectFacts.{ObjectFacts}
 use Rattle.paw_base.specs.declared.fault.SpentKind.TheVariants as spent
@@ -32,9 +33,9 @@ use Rattle.paw_effects.specs.Effects.{Done, effect_of}
 use Rattle.paw_reading.specs.declared.places.Frame.{Frame}
 use Rattle.paw_reading.specs.declared.places.OpenLoop.{OpenLoop}
 use Rattle.paw_reading.specs.Run.{Run, closed, fits, printed, with_world, without_loop, line_dropped, anew, is_timeout, is_ignored, heard, with_timeout, reply, is_yes, is_no, spoken, taken_phrase}
-use Rattle.paw_reading.specs.Reading.{Out, Left, Waits, Redescribes, Restarts, Ends, IsSpent, IsDeep, noted, printing, after_call, at_level, again, is_taken, named, taken, turns, loop_of, over, answered, asked, waits, after_test, after_parse, after_action, carried_out, acts, reads_one, condacts, is_for_now, entries, plain, looped, reads, called, deeper, table_read}
+use Rattle.paw_reading.specs.Reading.{IsOver, RunsOut, Redescribes, Restarts, Halts, Out, Left, Waits, Stopped, halts, noted, printing, after_call, at_level, again, is_taken, named, taken, turns, loop_of, over, answered, asked, waits, after_test, after_parse, after_action, carried_out, acts, reads_one, condacts, is_for_now, entries, plain, looped, reads, called, deeper, table_read}
 use Rattle.paw_reading.specs.GoingOn.{on_path}
-use Rattle.paw_reading.specs.Turn.{Stage, AtDescribe, AtFrame, AtPhrase, AtResponse, Ending, WaitsAt, IsOver, RunsOut, CallsTooDeep, Unended, saying, described, framed, view_text, counted, prompt_text, line_set, at_main, after_phrase, refusal_text, connected, after_left, table_done, turn, stages_left, opening, reading, first_table, in_table, goes_on, on}
+use Rattle.paw_reading.specs.Turn.{Stage, AtDescribe, AtFrame, AtPhrase, AtResponse, Ending, WaitsAt, Halted, saying, described, framed, view_text, counted, prompt_text, line_set, at_main, after_phrase, refusal_text, connected, after_left, table_done, turn, stages_left, opening, reading, first_table, in_table, goes_on, on, timeout_text}
 use Rattle.paw_reading.proofs.Keeps.{either, open_or_not}
 use Rattle.paw_reading.specs.Bounds.{IsLine, ValidStory}
 use Rattle.paw_effects.proofs.Worlds.{IsWorldAt, few_locations, few_objects, facts_small, later, flag_small, flagged, start_so, anew_so}
@@ -96,11 +97,9 @@ module _ (g : Story) (valid : ValidStory g) (seed base : ℕ) where
   abbrev Sounds : Out → Type 0
   Sounds (Left a r) = Is r
   Sounds (Waits p path r) = Rests r
-  Sounds (Redescribes r) = Is r
-  Sounds (Restarts r) = Is r
-  Sounds (Ends r) = Rests r
-  Sounds (IsSpent kind r) = Unit {0}
-  Sounds (IsDeep u r) = Unit {0}
+  Sounds (Stopped (Halts IsOver) r) = Rests r
+  Sounds (Stopped (Halts _) r) = Unit {0}
+  Sounds (Stopped _ r) = Is r
 
   abbrev GoesSound : (Bool → Run → Out) → Type 0
   GoesSound go = (a : Bool) (r : Run) → Is r → Sounds (go a r)
@@ -260,11 +259,7 @@ module _ (g : Story) (valid : ValidStory g) (seed base : ℕ) where
   again_sounds : (lv : ℕ) (next : OpenLoop → Run → Out) → ((l : OpenLoop) (r : Run) → Is r → Sounds (next l r)) → (x : Out) → Sounds x → Sounds (again lv next x)
   again_sounds lv next h (Left a r) k = open_or_not Sounds (λ l. next l r) (Left a r) (at_level lv r.turning) (λ l e. h l r k) (λ e. k)
   again_sounds lv next h (Waits p path r) k = k
-  again_sounds lv next h (Redescribes r) k = k
-  again_sounds lv next h (Restarts r) k = k
-  again_sounds lv next h (Ends r) k = k
-  again_sounds lv next h (IsSpent kind r) k = tt
-  again_sounds lv next h (IsDeep u r) k = tt
+  again_sounds lv next h (Stopped stop r) k = k
 
   turns_sound : (lv : ℕ) (l : OpenLoop) (body : Run → Out) → ((r : Run) → Is r → Sounds (body r)) → (n : ℕ) (r : Run) → Is r → Sounds (turns g lv l body n r)
   unfolding turns
@@ -279,26 +274,22 @@ module _ (g : Story) (valid : ValidStory g) (seed base : ℕ) where
   after_call_sounds : (f : Frame) (go : Bool → Run → Out) → GoesSound go → (x : Out) → Sounds x → Sounds (after_call f go x)
   after_call_sounds f go h (Left b r) k = h (f.acted || b) r k
   after_call_sounds f go h (Waits p path r) k = k
-  after_call_sounds f go h (Redescribes r) k = k
-  after_call_sounds f go h (Restarts r) k = k
-  after_call_sounds f go h (Ends r) k = k
-  after_call_sounds f go h (IsSpent kind r) k = tt
-  after_call_sounds f go h (IsDeep u r) k = tt
+  after_call_sounds f go h (Stopped stop r) k = k
 
   -- ---- prompts ----
 
   printing_sounds : (text : List ℕ) (go : Run → Out) → ((r : Run) → Is r → Sounds (go r)) → (r : Run) → Is r → Sounds (printing text go r)
-  printing_sounds text go h r k = by_test Sounds (fits r text) _ (IsSpent spent.Text r) (λ fit. h (printed text r) (printed_so r text k fit)) tt
+  printing_sounds text go h r k = by_test Sounds (fits r text) _ (halts (RunsOut spent.Text) r) (λ fit. h (printed text r) (printed_so r text k fit)) tt
 
   over_sounds : (r : Run) → Is r → Sounds (over g r)
   over_sounds r k =
-      printing_sounds (say_text g.game r.world 14) (λ s. Ends (closed (without_loop (line_dropped s))))
+      printing_sounds (say_text g.game r.world GOODBYE_MESSAGE) (λ s. halts IsOver (closed (without_loop (line_dropped s))))
       (λ s j. closed_rests (without_loop (line_dropped s)) (no_loop (line_dropped s) (dropped s j) None)) r k
 
   answered_sounds : (p : Prompt) (f : Frame) (go : Bool → Run → Out) → GoesSound go → (line : List ℕ) (r : Run) → Is r → Sounds (answered g p f go line r)
   answered_sounds prompt.Main f go h line r k = h f.acted r k
   answered_sounds prompt.Quit f go h line r k = either Sounds (is_yes line) _ (Left true r) (h f.acted r k) k
-  answered_sounds prompt.Again f go h line r k = either Sounds (is_no line) (over g r) (Restarts (anew r)) (over_sounds r k) (anew_run r k)
+  answered_sounds prompt.Again f go h line r k = either Sounds (is_no line) (over g r) (Stopped Restarts (anew r)) (over_sounds r k) (anew_run r k)
   answered_sounds prompt.Key f go h line r k = h true r k
   answered_sounds prompt.Over f go h line r k = h f.acted r k
 
@@ -330,7 +321,7 @@ module _ (g : Story) (valid : ValidStory g) (seed base : ℕ) where
         Sounds (after_test g f next go c r t)
     after_test_sounds f next go hn hg c r truth.Yes k = hg f.acted (noted f c true r) (k true)
     after_test_sounds f next go hn hg c r truth.No k = hn f.acted (noted f c false r) (k false)
-    after_test_sounds f next go hn hg c r truth.Ask k = printing_sounds (put_text g.game r.world 12) (waits g prompt.Quit f go) (waits_sounds prompt.Quit f go hg) (noted f c true r) (k true)
+    after_test_sounds f next go hn hg c r truth.Ask k = printing_sounds (put_text g.game r.world QUIT_MESSAGE) (waits g prompt.Quit f go) (waits_sounds prompt.Quit f go hg) (noted f c true r) (k true)
 
     after_action_sounds : (f : Frame) (next go : Bool → Run → Out) → GoesSound next → GoesSound go → (e : Effect) (r : Run) → Is r → Sounds (after_action g sub lv f next go e r)
     after_action_sounds f next go hn hg effect.Go r k = hg true r k
@@ -357,7 +348,7 @@ module _ (g : Story) (valid : ValidStory g) (seed base : ℕ) where
     acts_sound : (f : Frame) (next go : Bool → Run → Out) → GoesSound next → GoesSound go → (d : Done) (r : Run) → Is r → IsWorldAt g.game seed (bound r) d.world →
         Sounds (acts g sub lv f next go d r)
     acts_sound f next go hn hg d r k world =
-        by_test Sounds (fits r d.text) _ (IsSpent spent.Text r)
+        by_test Sounds (fits r d.text) _ (halts (RunsOut spent.Text) r)
         (λ fit. after_action_sounds f next go hn hg d.act.effect (carried_out d (printed d.text r)) (carried_so d (printed d.text r) (printed_so r d.text k fit) world)) tt
 
     reads_one_sounds : (f : Frame) (next go : Bool → Run → Out) → GoesSound next → GoesSound go → (c : Condact) (r : Run) → is_condact g.game c ≡ true → length r.read < 200000 → Is r →
@@ -378,7 +369,7 @@ module _ (g : Story) (valid : ValidStory g) (seed base : ℕ) where
     unfolding condacts
     condacts_sound t e next hn k [] all a r h = hn a r h
     condacts_sound t e next hn k (c ∷ cs) all a r h =
-        by_test Sounds (nat_lt (length r.read) 200000) _ (IsSpent spent.Condacts r)
+        by_test Sounds (nat_lt (length r.read) 200000) _ (halts (RunsOut spent.Condacts) r)
         (λ few. reads_one_sounds (record { table = t; entry = e; at = k; acted = a }) next _ hn (condacts_sound t e next hn (suc k) cs (second_of_and (is_condact g.game c) _ all)) c r
         (first_of_and (is_condact g.game c) _ all) (ltb-true (length r.read) 200000 few) h) tt
 
@@ -436,10 +427,8 @@ module _ (g : Story) (valid : ValidStory g) (seed base : ℕ) where
 
   abbrev pub EndsSound : Ending → Type 0
   EndsSound (WaitsAt p path r) = Rests r
-  EndsSound (IsOver r) = Rests r
-  EndsSound (RunsOut kind r) = Unit {0}
-  EndsSound (CallsTooDeep u r) = Unit {0}
-  EndsSound Unended = Unit {0}
+  EndsSound (Halted IsOver r) = Rests r
+  EndsSound _ = Unit {0}
 
   abbrev TurnsSound : (Run → Ending) → Type 0
   TurnsSound go = (r : Run) → Is r → EndsSound (go r)
@@ -449,7 +438,7 @@ module _ (g : Story) (valid : ValidStory g) (seed base : ℕ) where
   one_of false x y h k = k
 
   saying_sounds : (text : List ℕ) (go : Run → Ending) → TurnsSound go → TurnsSound (saying text go)
-  saying_sounds text go h r k = one_of (fits r text) _ (RunsOut spent.Text r) (λ fit. h (printed text r) (printed_so r text k fit)) tt
+  saying_sounds text go h r k = one_of (fits r text) _ (Halted (RunsOut spent.Text) r) (λ fit. h (printed text r) (printed_so r text k fit)) tt
 
   fallen_so : (n f : ℕ) (w : World) → IsWorldAt g.game seed n w → IsWorldAt g.game seed n (fallen f w)
   fallen_so n f w k = flagged g.game v seed n w k f (flag w f - 1) (omega (arith, flag_small g.game v seed n w k f))
@@ -496,11 +485,10 @@ module _ (g : Story) (valid : ValidStory g) (seed base : ℕ) where
     table_done_sounds : (t : ℕ) (x : Out) → Sounds x → EndsSound (table_done g go t x)
     table_done_sounds t (Left a r) k = after_left_sounds t a r k
     table_done_sounds t (Waits p path r) k = k
-    table_done_sounds t (Redescribes r) k = goes AtDescribe r k
-    table_done_sounds t (Restarts r) k = goes AtDescribe r k
-    table_done_sounds t (Ends r) k = k
-    table_done_sounds t (IsSpent kind r) k = tt
-    table_done_sounds t (IsDeep u r) k = tt
+    table_done_sounds t (Stopped Redescribes r) k = goes AtDescribe r k
+    table_done_sounds t (Stopped Restarts r) k = goes AtDescribe r k
+    table_done_sounds t (Stopped (Halts IsOver) r) k = k
+    table_done_sounds t (Stopped (Halts _) r) k = tt
 
     read_sounds : (t : ℕ) → TurnsSound (λ r. table_done g go t (table_read g t r))
     read_sounds t r k = table_done_sounds t (table_read g t r) (table_sounds t r k)
@@ -526,7 +514,7 @@ module _ (g : Story) (valid : ValidStory g) (seed base : ℕ) where
         one_of (is_ignored r.world line) _ _
         (λ e. at_main_sounds (closed s) lines (closed_rests s s_so) are.1)
         (one_of (is_timeout line) _ _
-        (λ e. saying_sounds (say_text g.game (with_timeout true r.world) 35) (go AtFrame) (goes AtFrame) (heard line s) (heard_so line s s_so))
+        (λ e. saying_sounds (timeout_text g.game r.world) (go AtFrame) (goes AtFrame) (heard line s) (heard_so line s s_so))
         (goes AtPhrase (line_set line s) (line_set_so line s are.0 s_so)))
 
     after_phrase_sounds : (r : Run) → Is r → (p : Parsed) → next_phrase r ≡ p → EndsSound (after_phrase g (go AtFrame) (go AtPhrase) (go AtResponse) r p)
@@ -534,7 +522,7 @@ module _ (g : Story) (valid : ValidStory g) (seed base : ℕ) where
         let taken_run : Is (taken_phrase s left r) = phrase_so r k s left e in
         goes AtResponse (with_world (counted (taken_phrase s left r).world) (taken_phrase s left r))
         (in_world (taken_phrase s left r) taken_run (counted (taken_phrase s left r).world) (counted_so (bound r) (taken_phrase s left r).world taken_run.world))
-    after_phrase_sounds r k (IsUnknown left) e = saying_sounds (say_text g.game r.world 6) (go AtFrame) (goes AtFrame) (line_dropped r) (dropped r k)
+    after_phrase_sounds r k (IsUnknown left) e = saying_sounds (say_text g.game r.world UNKNOWN_MESSAGE) (go AtFrame) (goes AtFrame) (line_dropped r) (dropped r k)
     after_phrase_sounds r k IsNoPhrase e =
         saying_sounds (prompt_text g.game r.world) (λ s. at_main g (go AtFrame) (go AtPhrase) (closed s) s.events)
         (λ s j. at_main_sounds (closed s) s.events (closed_rests s j) j.lines) (line_dropped r) (dropped r k)

@@ -3,6 +3,7 @@ use Rattle.std.proofs.Common.{◌≡◌, ℕ, zero, suc, ◌+◌, ◌-◌, ◌�
 use Rattle.std.specs.Prelude.{if◌then◌else◌, nat_lt, sum_by}
 use Rattle.std.proofs.lemmas.Bool.Decides.{nat_tests}
 use Rattle.std.proofs.lemmas.List.Sums.{sum_by-cons}
+use Rattle.paw_base.specs.declared.messages.TheConstants.{QUIT_MESSAGE, GOODBYE_MESSAGE}
 use Rattle.paw_base.specs.declared.parts.Condact.{Condact}
 use Rattle.paw_base.specs.declared.fault.SpentKind.TheVariants as spent
 use Rattle.paw_game.specs.declared.parts.Entry.{Entry}
@@ -23,7 +24,7 @@ use Rattle.paw_effects.specs.Effects.{Done, effect_of}
 use Rattle.paw_reading.specs.declared.places.Frame.{Frame}
 use Rattle.paw_reading.specs.declared.places.OpenLoop.{OpenLoop}
 use Rattle.paw_reading.specs.Run.{Run, closed, fits, printed, with_world, anew, is_ignored, heard, reply, is_yes, is_no, taken_phrase}
-use Rattle.paw_reading.specs.Reading.{Out, Left, Waits, Redescribes, Restarts, Ends, IsSpent, IsDeep, within, noted, after_call, at_level, again, is_taken, taken, turns, loop_of, over, answered, asked, after_test, after_parse, after_action, carried_out, acts, reads_one, condacts, is_for_now, entries, plain, looped, reads, called, deeper, rest, table_read}
+use Rattle.paw_reading.specs.Reading.{RunsOut, Restarts, Halts, Out, Left, Waits, Stopped, halts, within, noted, after_call, at_level, again, is_taken, taken, turns, loop_of, over, answered, asked, after_test, after_parse, after_action, carried_out, acts, reads_one, condacts, is_for_now, entries, plain, looped, reads, called, deeper, rest, table_read, phrase_of}
 use Rattle.paw_reading.specs.GoingOn.{on_path}
 use Rattle.paw_reading.specs.Turn.{left_to_read}
 use Rattle.paw_reading.proofs.Keeps.{either, open_or_not}
@@ -40,20 +41,14 @@ brought_more line lines = sum_by-cons (λ l. length l + 200001) line lines
 abbrev pub Spends : ℕ → Out → Type 0
 Spends v (Left a r) = left_to_read r ≤ v
 Spends v (Waits p path r) = Unit {0}
-Spends v (Redescribes r) = left_to_read r < v
-Spends v (Restarts r) = left_to_read r < v
-Spends v (Ends r) = Unit {0}
-Spends v (IsSpent kind r) = Unit {0}
-Spends v (IsDeep u r) = Unit {0}
+Spends v (Stopped (Halts _) r) = Unit {0}
+Spends v (Stopped _ r) = left_to_read r < v
 
 pub Spends_up : (v w : ℕ) → v ≤ w → (x : Out) → Spends v x → Spends w x
 Spends_up v w h (Left a r) k = omega arith
 Spends_up v w h (Waits p path r) k = tt
-Spends_up v w h (Redescribes r) k = omega arith
-Spends_up v w h (Restarts r) k = omega arith
-Spends_up v w h (Ends r) k = tt
-Spends_up v w h (IsSpent kind r) k = tt
-Spends_up v w h (IsDeep u r) k = tt
+Spends_up v w h (Stopped (Halts halt) r) k = tt
+Spends_up v w h (Stopped _ r) k = omega arith
 
 -- reading on from a run spends
 abbrev pub IsSpending : (Run → Out) → Type 0
@@ -71,11 +66,7 @@ again_spends : (lv : ℕ) (next : OpenLoop → Run → Out) → ((l : OpenLoop) 
 again_spends lv next h v (Left a r) k =
     open_or_not (Spends v) (λ l. next l r) (Left a r) (at_level lv r.turning) (λ l e. Spends_up (left_to_read r) v k (next l r) (h l r)) (λ e. k)
 again_spends lv next h v (Waits p path r) k = tt
-again_spends lv next h v (Redescribes r) k = k
-again_spends lv next h v (Restarts r) k = k
-again_spends lv next h v (Ends r) k = tt
-again_spends lv next h v (IsSpent kind r) k = tt
-again_spends lv next h v (IsDeep u r) k = tt
+again_spends lv next h v (Stopped stop r) k = k
 
 turns_spend : (g : Story) (lv : ℕ) (l : OpenLoop) (body : Run → Out) → IsSpending body → (n : ℕ) → IsSpending (turns g lv l body n)
 unfolding turns
@@ -89,23 +80,19 @@ turns_spend g lv l body h (suc n) r =
 after_call_spends : (f : Frame) (go : Bool → Run → Out) → AreSpending go → (v : ℕ) (x : Out) → Spends v x → Spends v (after_call f go x)
 after_call_spends f go h v (Left b r) k = Spends_up (left_to_read r) v k (go (f.acted || b) r) (h (f.acted || b) r)
 after_call_spends f go h v (Waits p path r) k = tt
-after_call_spends f go h v (Redescribes r) k = k
-after_call_spends f go h v (Restarts r) k = k
-after_call_spends f go h v (Ends r) k = tt
-after_call_spends f go h v (IsSpent kind r) k = tt
-after_call_spends f go h v (IsDeep u r) k = tt
+after_call_spends f go h v (Stopped stop r) k = k
 
 -- ---- prompts ----
 
 over_spends : (g : Story) (v : ℕ) (r : Run) → Spends v (over g r)
-over_spends g v r = either (Spends v) (fits r (say_text g.game r.world 14)) _ (IsSpent spent.Text r) tt tt
+over_spends g v r = either (Spends v) (fits r (say_text g.game r.world GOODBYE_MESSAGE)) _ (halts (RunsOut spent.Text) r) tt tt
 
 answered_spends : (g : Story) (p : Prompt) (f : Frame) (go : Bool → Run → Out) → AreSpending go → (line : List ℕ) (r : Run) (v : ℕ) →
     left_to_read r < v → brought r.events + 200000 < v → Spends v (answered g p f go line r)
 answered_spends g prompt.Main f go h line r v k n = Spends_up (left_to_read r) v (omega arith) _ (h f.acted r)
 answered_spends g prompt.Quit f go h line r v k n =
     either (Spends v) (is_yes line) _ (Left true r) (Spends_up (left_to_read r) v (omega arith) _ (h f.acted r)) (omega arith)
-answered_spends g prompt.Again f go h line r v k n = either (Spends v) (is_no line) (over g r) (Restarts (anew r)) (over_spends g v r) (omega arith)
+answered_spends g prompt.Again f go h line r v k n = either (Spends v) (is_no line) (over g r) (Stopped Restarts (anew r)) (over_spends g v r) (omega arith)
 answered_spends g prompt.Key f go h line r v k n = Spends_up (left_to_read r) v (omega arith) _ (h true r)
 answered_spends g prompt.Over f go h line r v k n = Spends_up (left_to_read r) v (omega arith) _ (h f.acted r)
 
@@ -134,9 +121,9 @@ module _ (g : Story) (sub : ℕ → Run → Out) (lv : ℕ) (calls : CallsSpendi
   after_test_spends f next go hn hg c r truth.Yes v k n = Spends_up (left_to_read (noted f c true r)) v k _ (hg f.acted (noted f c true r))
   after_test_spends f next go hn hg c r truth.No v k n = Spends_up (left_to_read (noted f c false r)) v n _ (hn f.acted (noted f c false r))
   after_test_spends f next go hn hg c r truth.Ask v k n =
-      either (Spends v) (fits (noted f c true r) (put_text g.game r.world 12)) _ (IsSpent spent.Text (noted f c true r))
+      either (Spends v) (fits (noted f c true r) (put_text g.game r.world QUIT_MESSAGE)) _ (halts (RunsOut spent.Text) (noted f c true r))
       (Spends_up (length r.pending + brought r.events) v (omega arith) _
-      (asked_spends g prompt.Quit f go hg (closed (printed (put_text g.game r.world 12) (noted f c true r))) r.events)) tt
+      (asked_spends g prompt.Quit f go hg (closed (printed (put_text g.game r.world QUIT_MESSAGE) (noted f c true r))) r.events)) tt
 
   -- redescribing leaves as much as there is, so it counts what was read before it
   after_action_spends : (f : Frame) (next go : Bool → Run → Out) → AreSpending next → AreSpending go → (e : Effect) (r : Run) →
@@ -152,7 +139,7 @@ module _ (g : Story) (sub : ℕ → Run → Out) (lv : ℕ) (calls : CallsSpendi
       Spends_up (length r.pending + brought r.events) _ (omega arith) _ (asked_spends g p f go hg (closed r) r.events)
   after_action_spends f next go hn hg effect.Parse r =
       Spends_up (left_to_read r) _ (omega arith) _
-      (after_parse_spends f next go hn hg r (parsed g.game r.pending r.earlier (flag r.world 46) (flag r.world 47))
+      (after_parse_spends f next go hn hg r (phrase_of g r)
       (parsed-shorter g.game r.pending r.earlier (flag r.world 46) (flag r.world 47)))
   after_action_spends f next go hn hg effect.Spent r = tt
 
@@ -165,7 +152,7 @@ module _ (g : Story) (sub : ℕ → Run → Out) (lv : ℕ) (calls : CallsSpendi
   acts_spend f next go hn hg d r =
       let s : Run = carried_out d (printed d.text r) in
       let less : length s.pending ≤ length r.pending = dropped_less d.act.drop_line r.pending in
-      either (Spends (suc (left_to_read r))) (fits r d.text) _ (IsSpent spent.Text r)
+      either (Spends (suc (left_to_read r))) (fits r d.text) _ (halts (RunsOut spent.Text) r)
       (Spends_up (suc (left_to_read s)) _ (omega (arith, less)) _ (after_action_spends f next go hn hg d.act.effect s)) tt
 
   reads_one_spends : (f : Frame) (next go : Bool → Run → Out) → AreSpending next → AreSpending go → (c : Condact) (r : Run) → length r.read < 200000 →
@@ -182,7 +169,7 @@ module _ (g : Story) (sub : ℕ → Run → Out) (lv : ℕ) (calls : CallsSpendi
   within_spends : (r : Run) (x : Out) → (length r.read < 200000 → Spends (left_to_read r) x) → Spends (left_to_read r) (within r x)
   within_spends r x h = by_test (nat_lt (length r.read) 200000) refl
     where
-      by_test : (b : Bool) → nat_lt (length r.read) 200000 ≡ b → Spends (left_to_read r) (if b then x else IsSpent spent.Condacts r)
+      by_test : (b : Bool) → nat_lt (length r.read) 200000 ≡ b → Spends (left_to_read r) (if b then x else halts (RunsOut spent.Condacts) r)
       by_test false q = tt
       by_test true q = h (grind (arith, nat_tests))
 

@@ -1,6 +1,7 @@
 -- Where reading waits: the outermost of the tables that are open is the one that is read, and so is that of its loop.
 use Rattle.std.proofs.Common.{◌≡◌, ℕ, zero, suc, ◌-◌, Bool, true, false, ◌||◌, List, [], ◌∷◌, Option, Some, None, refl, sym, ◌∙◌, subst, length, drop}
 use Rattle.std.specs.Prelude.{if◌then◌else◌, nat_lt}
+use Rattle.paw_base.specs.declared.messages.TheConstants.{QUIT_MESSAGE, GOODBYE_MESSAGE}
 use Rattle.paw_base.specs.declared.parts.Condact.{Condact}
 use Rattle.paw_base.specs.declared.fault.SpentKind.TheVariants as spent
 use Rattle.paw_game.specs.declared.parts.Entry.{Entry}
@@ -21,7 +22,7 @@ use Rattle.paw_effects.proofs.Asking.{AsksInner, effect_asks}
 use Rattle.paw_reading.specs.declared.places.Frame.{Frame}
 use Rattle.paw_reading.specs.declared.places.OpenLoop.{OpenLoop}
 use Rattle.paw_reading.specs.Run.{Run, closed, fits, printed, with_world, without_loop, line_dropped, anew, is_ignored, heard, reply, is_yes, is_no, taken_phrase}
-use Rattle.paw_reading.specs.Reading.{Out, Left, Waits, Redescribes, Restarts, Ends, IsSpent, IsDeep, noted, after_call, at_level, again, is_taken, taken, turns, loop_of, over, answered, asked, after_test, after_parse, after_action, carried_out, acts, reads_one, condacts, is_for_now, entries, plain, looped, reads, called, deeper, rest, table_read}
+use Rattle.paw_reading.specs.Reading.{IsOver, RunsOut, Restarts, Out, Left, Waits, Stopped, halts, noted, after_call, at_level, again, is_taken, taken, turns, loop_of, over, answered, asked, after_test, after_parse, after_action, carried_out, acts, reads_one, condacts, is_for_now, entries, plain, looped, reads, called, deeper, rest, table_read}
 use Rattle.paw_reading.specs.GoingOn.{on_path}
 use Rattle.paw_reading.specs.Turn.{first_table}
 use Rattle.paw_reading.proofs.Keeps.{either, open_or_not, at_level_is, IsLoopOf}
@@ -35,11 +36,7 @@ pub record WaitsThere (t lv : ℕ) (p : Prompt) (path : List Frame) (turning : O
 abbrev pub Stays : ℕ → ℕ → Out → Type 0
 Stays t lv (Left a r) = IsLoopOf t r.turning
 Stays t lv (Waits p path r) = WaitsThere t lv p path r.turning
-Stays t lv (Redescribes r) = Unit {0}
-Stays t lv (Restarts r) = Unit {0}
-Stays t lv (Ends r) = Unit {0}
-Stays t lv (IsSpent kind r) = Unit {0}
-Stays t lv (IsDeep u r) = Unit {0}
+Stays t lv (Stopped stop r) = Unit {0}
 
 module _ (t : ℕ) where
   -- reading on at a level stays so
@@ -58,11 +55,7 @@ module _ (t : ℕ) where
       → (x : Out) → Stays t lv x → Stays t lv (again lv next x)
   again_stays lv next h (Left a r) k = open_or_not (Stays t lv) (λ l. next l r) (Left a r) (at_level lv r.turning) (λ l e. h l r e k) (λ none. k)
   again_stays lv next h (Waits p path r) k = k
-  again_stays lv next h (Redescribes r) k = tt
-  again_stays lv next h (Restarts r) k = tt
-  again_stays lv next h (Ends r) k = tt
-  again_stays lv next h (IsSpent kind r) k = tt
-  again_stays lv next h (IsDeep u r) k = tt
+  again_stays lv next h (Stopped stop r) k = tt
 
   turns_stays : (g : Story) (lv : ℕ) (l : OpenLoop) (body : Run → Out) → IsOwn l.level l.table → ((r : Run) → IsLoopOf t r.turning → Stays t lv (body r))
       → (n : ℕ) (r : Run) → Stays t lv (turns g lv l body n r)
@@ -79,19 +72,15 @@ module _ (t : ℕ) where
   after_call_stays : (lv : ℕ) (f : Frame) (go : Bool → Run → Out) → IsOwn lv f.table → GoesStaying lv go → (x : Out) → Stays t (suc lv) x → Stays t lv (after_call f go x)
   after_call_stays lv f go own h (Left b r) k = h (f.acted || b) r k
   after_call_stays lv f go own h (Waits p path r) k = record { inner = k.inner; first = own; loop = k.loop }
-  after_call_stays lv f go own h (Redescribes r) k = tt
-  after_call_stays lv f go own h (Restarts r) k = tt
-  after_call_stays lv f go own h (Ends r) k = tt
-  after_call_stays lv f go own h (IsSpent kind r) k = tt
-  after_call_stays lv f go own h (IsDeep u r) k = tt
+  after_call_stays lv f go own h (Stopped stop r) k = tt
 
   answered_stays : (g : Story) (p : Prompt) (lv : ℕ) (f : Frame) (go : Bool → Run → Out) → GoesStaying lv go → (line : List ℕ) (r : Run) → IsLoopOf t r.turning
       → Stays t lv (answered g p f go line r)
   answered_stays g prompt.Main lv f go h line r k = h f.acted r k
   answered_stays g prompt.Quit lv f go h line r k = either (Stays t lv) (is_yes line) _ (Left true r) (h f.acted r k) k
   answered_stays g prompt.Again lv f go h line r k =
-      either (Stays t lv) (is_no line) (over g r) (Restarts (anew r))
-      (either (Stays t lv) (fits r (say_text g.game r.world 14)) (Ends (closed (without_loop (line_dropped (printed (say_text g.game r.world 14) r))))) (IsSpent spent.Text r) tt tt) tt
+      either (Stays t lv) (is_no line) (over g r) (Stopped Restarts (anew r))
+      (either (Stays t lv) (fits r (say_text g.game r.world GOODBYE_MESSAGE)) (halts IsOver (closed (without_loop (line_dropped (printed (say_text g.game r.world GOODBYE_MESSAGE) r))))) (halts (RunsOut spent.Text) r) tt tt) tt
   answered_stays g prompt.Key lv f go h line r k = h true r k
   answered_stays g prompt.Over lv f go h line r k = h f.acted r k
 
@@ -121,8 +110,8 @@ module _ (t : ℕ) where
     after_test_stays f next go own hn hg c r truth.Yes k = hg f.acted (noted f c true r) k
     after_test_stays f next go own hn hg c r truth.No k = hn f.acted (noted f c false r) k
     after_test_stays f next go own hn hg c r truth.Ask k =
-        either (Stays t lv) (fits (noted f c true r) (put_text g.game r.world 12)) _ (IsSpent spent.Text (noted f c true r))
-        (asked_stays g prompt.Quit lv f go tt own hg (closed (printed (put_text g.game r.world 12) (noted f c true r))) r.events k) tt
+        either (Stays t lv) (fits (noted f c true r) (put_text g.game r.world QUIT_MESSAGE)) _ (halts (RunsOut spent.Text) (noted f c true r))
+        (asked_stays g prompt.Quit lv f go tt own hg (closed (printed (put_text g.game r.world QUIT_MESSAGE) (noted f c true r))) r.events k) tt
 
     after_action_stays : (f : Frame) (next go : Bool → Run → Out) → IsOwn lv f.table → GoesStaying lv next → GoesStaying lv go → (e : Effect) → AsksInner e → (r : Run) → IsLoopOf t r.turning
         → Stays t lv (after_action g sub lv f next go e r)
@@ -138,7 +127,7 @@ module _ (t : ℕ) where
     acts_stays : (f : Frame) (next go : Bool → Run → Out) → IsOwn lv f.table → GoesStaying lv next → GoesStaying lv go → (d : Done) → AsksInner d.act.effect → (r : Run) → IsLoopOf t r.turning
         → Stays t lv (acts g sub lv f next go d r)
     acts_stays f next go own hn hg d asks r k =
-        either (Stays t lv) (fits r d.text) _ (IsSpent spent.Text r)
+        either (Stays t lv) (fits r d.text) _ (halts (RunsOut spent.Text) r)
         (after_action_stays f next go own hn hg d.act.effect asks (carried_out d (printed d.text r)) (cancelled d.act.cancel_loop r.turning k)) tt
 
     reads_one_stays : (f : Frame) (next go : Bool → Run → Out) → IsOwn lv f.table → GoesStaying lv next → GoesStaying lv go → (c : Condact) (r : Run) → IsLoopOf t r.turning
@@ -154,7 +143,7 @@ module _ (t : ℕ) where
     unfolding condacts
     condacts_stay u e next own hn k [] a r h = hn a r h
     condacts_stay u e next own hn k (c ∷ cs) a r h =
-        either (Stays t lv) (nat_lt (length r.read) 200000) _ (IsSpent spent.Condacts r)
+        either (Stays t lv) (nat_lt (length r.read) 200000) _ (halts (RunsOut spent.Condacts) r)
         (reads_one_stays (record { table = u; entry = e; at = k; acted = a }) next _ own hn (condacts_stay u e next own hn (suc k) cs) c r h) tt
 
     entries_stay : (u e : ℕ) (es : List Entry) → IsOwn lv u → GoesStaying lv (entries g sub lv u e es)

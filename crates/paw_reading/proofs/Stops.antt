@@ -1,6 +1,7 @@
 -- Where reading stops: a wait has a table open and has taken every line, and where the turn begins anew no loop is open.
 use Rattle.std.proofs.Common.{◌≡◌, ◌≢◌, ℕ, zero, suc, ◌-◌, Bool, true, false, ◌||◌, List, [], ◌∷◌, None, refl, drop, length}
 use Rattle.std.specs.Prelude.{nat_lt}
+use Rattle.paw_base.specs.declared.messages.TheConstants.{QUIT_MESSAGE, GOODBYE_MESSAGE}
 use Rattle.paw_base.specs.declared.parts.Condact.{Condact}
 use Rattle.paw_base.specs.declared.fault.SpentKind.TheVariants as spent
 use Rattle.paw_game.specs.declared.parts.Entry.{Entry}
@@ -19,7 +20,7 @@ use Rattle.paw_effects.specs.Effects.{Done, effect_of}
 use Rattle.paw_reading.specs.declared.places.Frame.{Frame}
 use Rattle.paw_reading.specs.declared.places.OpenLoop.{OpenLoop}
 use Rattle.paw_reading.specs.Run.{Run, closed, fits, printed, with_world, anew, is_ignored, heard, reply, is_yes, is_no, taken_phrase}
-use Rattle.paw_reading.specs.Reading.{Out, Left, Waits, Redescribes, Restarts, Ends, IsSpent, IsDeep, noted, after_call, at_level, again, is_taken, taken, turns, loop_of, over, answered, asked, after_test, after_parse, after_action, carried_out, acts, reads_one, condacts, is_for_now, entries, plain, looped, reads, called, deeper, rest}
+use Rattle.paw_reading.specs.Reading.{RunsOut, Restarts, Halts, Out, Left, Waits, Stopped, halts, noted, after_call, at_level, again, is_taken, taken, turns, loop_of, over, answered, asked, after_test, after_parse, after_action, carried_out, acts, reads_one, condacts, is_for_now, entries, plain, looped, reads, called, deeper, rest}
 use Rattle.paw_reading.specs.GoingOn.{on_path}
 use Rattle.paw_reading.proofs.Keeps.{either, open_or_not}
 
@@ -31,11 +32,8 @@ pub record WaitsOpen (path : List Frame) (r : Run) : Type 0 where
 abbrev pub Stops : Out → Type 0
 Stops (Left a r) = Unit {0}
 Stops (Waits p path r) = WaitsOpen path r
-Stops (Redescribes r) = r.turning ≡ None
-Stops (Restarts r) = r.turning ≡ None
-Stops (Ends r) = Unit {0}
-Stops (IsSpent kind r) = Unit {0}
-Stops (IsDeep u r) = Unit {0}
+Stops (Stopped (Halts _) r) = Unit {0}
+Stops (Stopped _ r) = r.turning ≡ None
 
 abbrev pub AreStopping : (Bool → Run → Out) → Type 0
 AreStopping go = (a : Bool) (r : Run) → Stops (go a r)
@@ -48,11 +46,7 @@ CallsStopping sub = (u : ℕ) (r : Run) → Stops (sub u r)
 again_stops : (lv : ℕ) (next : OpenLoop → Run → Out) → ((l : OpenLoop) (r : Run) → Stops (next l r)) → (x : Out) → Stops x → Stops (again lv next x)
 again_stops lv next h (Left a r) k = open_or_not Stops (λ l. next l r) (Left a r) (at_level lv r.turning) (λ l e. h l r) (λ e. tt)
 again_stops lv next h (Waits p path r) k = k
-again_stops lv next h (Redescribes r) k = k
-again_stops lv next h (Restarts r) k = k
-again_stops lv next h (Ends r) k = tt
-again_stops lv next h (IsSpent kind r) k = tt
-again_stops lv next h (IsDeep u r) k = tt
+again_stops lv next h (Stopped stop r) k = k
 
 turns_stop : (g : Story) (lv : ℕ) (l : OpenLoop) (body : Run → Out) → ((r : Run) → Stops (body r)) → (n : ℕ) (r : Run) → Stops (turns g lv l body n r)
 unfolding turns
@@ -66,11 +60,7 @@ turns_stop g lv l body h (suc n) r =
 pub after_call_stops : (f : Frame) (go : Bool → Run → Out) → AreStopping go → (x : Out) → Stops x → Stops (after_call f go x)
 after_call_stops f go h (Left b r) k = h (f.acted || b) r
 after_call_stops f go h (Waits p path r) k = record { some = λ e. cc; none_left = k.none_left }
-after_call_stops f go h (Redescribes r) k = k
-after_call_stops f go h (Restarts r) k = k
-after_call_stops f go h (Ends r) k = tt
-after_call_stops f go h (IsSpent kind r) k = tt
-after_call_stops f go h (IsDeep u r) k = tt
+after_call_stops f go h (Stopped stop r) k = k
 
 -- ---- prompts ----
 
@@ -78,7 +68,7 @@ answered_stops : (g : Story) (p : Prompt) (f : Frame) (go : Bool → Run → Out
 answered_stops g prompt.Main f go h line r = h f.acted r
 answered_stops g prompt.Quit f go h line r = either Stops (is_yes line) _ (Left true r) (h f.acted r) tt
 answered_stops g prompt.Again f go h line r =
-    either Stops (is_no line) (over g r) (Restarts (anew r)) (either Stops (fits r (say_text g.game r.world 14)) _ (IsSpent spent.Text r) tt tt) refl
+    either Stops (is_no line) (over g r) (Stopped Restarts (anew r)) (either Stops (fits r (say_text g.game r.world GOODBYE_MESSAGE)) _ (halts (RunsOut spent.Text) r) tt tt) refl
 answered_stops g prompt.Key f go h line r = h true r
 answered_stops g prompt.Over f go h line r = h f.acted r
 
@@ -101,8 +91,8 @@ module _ (g : Story) (sub : ℕ → Run → Out) (lv : ℕ) (calls : CallsStoppi
   after_test_stops f next go hn hg c r truth.Yes = hg f.acted (noted f c true r)
   after_test_stops f next go hn hg c r truth.No = hn f.acted (noted f c false r)
   after_test_stops f next go hn hg c r truth.Ask =
-      either Stops (fits (noted f c true r) (put_text g.game r.world 12)) _ (IsSpent spent.Text (noted f c true r))
-      (asked_stops g prompt.Quit f go hg (closed (printed (put_text g.game r.world 12) (noted f c true r))) r.events) tt
+      either Stops (fits (noted f c true r) (put_text g.game r.world QUIT_MESSAGE)) _ (halts (RunsOut spent.Text) (noted f c true r))
+      (asked_stops g prompt.Quit f go hg (closed (printed (put_text g.game r.world QUIT_MESSAGE) (noted f c true r))) r.events) tt
 
   after_action_stops : (f : Frame) (next go : Bool → Run → Out) → AreStopping next → AreStopping go → (e : Effect) (r : Run) → Stops (after_action g sub lv f next go e r)
   after_action_stops f next go hn hg effect.Go r = hg true r
@@ -116,7 +106,7 @@ module _ (g : Story) (sub : ℕ → Run → Out) (lv : ℕ) (calls : CallsStoppi
 
   acts_stop : (f : Frame) (next go : Bool → Run → Out) → AreStopping next → AreStopping go → (d : Done) (r : Run) → Stops (acts g sub lv f next go d r)
   acts_stop f next go hn hg d r =
-      either Stops (fits r d.text) _ (IsSpent spent.Text r) (after_action_stops f next go hn hg d.act.effect (carried_out d (printed d.text r))) tt
+      either Stops (fits r d.text) _ (halts (RunsOut spent.Text) r) (after_action_stops f next go hn hg d.act.effect (carried_out d (printed d.text r))) tt
 
   reads_one_stops : (f : Frame) (next go : Bool → Run → Out) → AreStopping next → AreStopping go → (c : Condact) (r : Run) → Stops (reads_one g sub lv f next go c r)
   reads_one_stops f next go hn hg c r =
@@ -130,7 +120,7 @@ module _ (g : Story) (sub : ℕ → Run → Out) (lv : ℕ) (calls : CallsStoppi
   unfolding condacts
   condacts_stop t e next hn k [] a r = hn a r
   condacts_stop t e next hn k (c ∷ cs) a r =
-      either Stops (nat_lt (length r.read) 200000) _ (IsSpent spent.Condacts r)
+      either Stops (nat_lt (length r.read) 200000) _ (halts (RunsOut spent.Condacts) r)
       (reads_one_stops (record { table = t; entry = e; at = k; acted = a }) next _ hn (condacts_stop t e next hn (suc k) cs) c r) tt
 
   entries_stop : (t e : ℕ) (es : List Entry) → AreStopping (entries g sub lv t e es)

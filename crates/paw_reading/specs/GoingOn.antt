@@ -4,10 +4,10 @@ use Rattle.paw_effects.specs.Story.{Story}
 use Rattle.paw_effects.specs.declared.act.Prompt.{Prompt}
 use Rattle.paw_reading.specs.declared.places.Frame.{Frame}
 use Rattle.paw_reading.specs.Run.{Run}
-use Rattle.paw_reading.specs.Reading.{Out, Left, Waits, Redescribes, Restarts, Ends, IsSpent, IsDeep, after_call, again, asked, looped, plain, deeper, rest}
+use Rattle.paw_reading.specs.Reading.{Out, Left, Waits, Stopped, after_call, again, asked, looped, plain, deeper, rest}
 
--- going on along the path of a wait, from level lv on, the outermost frame first: the innermost takes the lines, and each
--- other goes on after its call
+-- going on along the path of a wait, from level lv on, the outermost frame first: the innermost takes the lines, and
+-- each other goes on after its call
 abbrev pub on_path : Story → Prompt → ℕ → List Frame → Run → Out
 on_path g p lv [] r = Left true r
 on_path g p lv (f ∷ []) r =
@@ -28,8 +28,4 @@ with_lines lines r = record r { events = r.events ++ lines }
 abbrev pub extended : Story → List (List ℕ) → ℕ → Out → Out
 extended g lines lv (Left a r) = Left a (with_lines lines r)
 extended g lines lv (Waits p path r) = on_path g p lv path (with_lines lines r)
-extended g lines lv (Redescribes r) = Redescribes (with_lines lines r)
-extended g lines lv (Restarts r) = Restarts (with_lines lines r)
-extended g lines lv (Ends r) = Ends (with_lines lines r)
-extended g lines lv (IsSpent kind r) = IsSpent kind (with_lines lines r)
-extended g lines lv (IsDeep u r) = IsDeep u (with_lines lines r)
+extended g lines lv (Stopped stop r) = Stopped stop (with_lines lines r)

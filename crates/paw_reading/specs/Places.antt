@@ -1,5 +1,7 @@
 -- Where a run may wait: the tables that are open, the condacts at which they stand, and the object loop.
-use Rattle.std.specs.Prelude.{◌≡◌, ◌≢◌, ℕ, ◌<◌, ◌≤◌, List, [], ◌∷◌, Option, Some, None, length, map, slice_get, IfSome, IsTrue, All}
+use Rattle.std.specs.Prelude.{◌≡◌, ◌≢◌, ℕ, suc, ◌<◌, ◌≤◌, List, [], ◌∷◌, Option, Some, None, length, map, slice_get, IfSome, IsTrue, All}
+use Rattle.paw_base.specs.declared.codes.TheConstants.{QUIT, END, ANYKEY, PROCESS, DOALL}
+use Rattle.paw_base.specs.declared.limits.TheConstants.{LEVEL_LIMIT}
 use Rattle.paw_base.specs.declared.parts.Condact.{Condact}
 use Rattle.paw_game.specs.Game.{GameLists}
 use Rattle.paw_game.specs.Tables.{condact_at}
@@ -12,7 +14,8 @@ use Rattle.paw_reading.specs.declared.places.Frame.{Frame}
 use Rattle.paw_reading.specs.declared.places.OpenLoop.{OpenLoop}
 use Rattle.paw_reading.specs.Run.{Run}
 use Rattle.paw_reading.specs.Bounds.{IsLine, ValidStory, IsBounded}
-use Rattle.paw_reading.specs.Turn.{Ending, WaitsAt, IsOver, RunsOut, CallsTooDeep, Unended, reading, first_table, on}
+use Rattle.paw_reading.specs.Reading.{IsOver}
+use Rattle.paw_reading.specs.Turn.{Ending, WaitsAt, Halted, reading, first_table, on}
 
 -- a condact with this code stands there
 pub record IsAt (g : GameLists) (code t e k : ℕ) : Type 0 where
@@ -24,7 +27,7 @@ pub record IsAt (g : GameLists) (code t e k : ℕ) : Type 0 where
 pub record IsCallOf (g : GameLists) (u : ℕ) (f : Frame) : Type 0 where
   pub condact : Condact
   pub stands : condact_at g f.table f.entry f.at ≡ Some condact
-  pub process : condact.code ≡ 85
+  pub process : condact.code ≡ PROCESS
   pub called : condact.a ≡ u
 
 -- each frame but the last stands at a call of the next one's table, and the last at a condact with this code
@@ -37,17 +40,17 @@ LeadsTo g code (f ∷ h ∷ path) = IsCallOf g h.table f × LeadsTo g code (h �
 abbrev pub tables_of : List Frame → List ℕ
 tables_of path = map (λ f. f.table) path
 
--- a loop of one of these tables, by its level: it was opened by a DOALL, goes over the objects at a place of the game, and
--- took one of the game's objects last
+-- a loop of one of these tables, by its level: it was opened by a DOALL, goes over the objects at a place of the game,
+-- and took one of the game's objects last
 pub record IsLoopIn (g : GameLists) (tables : List ℕ) (l : OpenLoop) : Type 0 where
   pub level : slice_get tables l.level ≡ Some l.table
-  pub doall : IsAt g 86 l.table l.entry l.at
+  pub doall : IsAt g DOALL l.table l.entry l.at
   pub place : IsTrue (is_place (length g.locations) l.place)
   pub last : l.last < length g.objects
 
 -- tables are open from 0, 1 or 2 to a condact with this code, eleven at most, and the loop is one of theirs
 pub record AreOpenTo (g : GameLists) (code : ℕ) (path : List Frame) (turning : Option OpenLoop) : Type 0 where
-  pub few : length path ≤ 11
+  pub few : length path ≤ suc LEVEL_LIMIT
   pub outermost : first_table path ≤ 2
   pub leads : LeadsTo g code path
   pub loop : IfSome turning (IsLoopIn g (tables_of path))
@@ -55,9 +58,9 @@ pub record AreOpenTo (g : GameLists) (code : ℕ) (path : List Frame) (turning :
 -- the condact at which a run waits for this prompt: QUIT, END or ANYKEY
 abbrev pub waiting_code : Prompt → Option ℕ
 waiting_code prompt.Main = None
-waiting_code prompt.Quit = Some 27
-waiting_code prompt.Again = Some 31
-waiting_code prompt.Key = Some 35
+waiting_code prompt.Quit = Some QUIT
+waiting_code prompt.Again = Some END
+waiting_code prompt.Key = Some ANYKEY
 waiting_code prompt.Over = None
 
 -- open to this condact; without one nothing is open
@@ -73,8 +76,8 @@ ArePlaces g p path turning = AreOpenAt g (waiting_code p) path turning
 abbrev pub IsLineTaken : List Frame → Run → Type 0
 IsLineTaken path r = path ≡ [] → r.pending ≡ []
 
--- A run stands as it may at its prompt: its world is the game's; what is left of the line has at most 255 bytes, and with no
--- table open nothing is left; the earlier verb is a byte; and the open piece is empty, with nothing read in it
+-- A run stands as it may at its prompt: its world is the game's; what is left of the line has at most 255 bytes, and
+-- with no table open nothing is left; the earlier verb is a byte; and the open piece is empty, with nothing read in it
 pub record StandsRightly (g : GameLists) (p : Prompt) (path : List Frame) (r : Run) : Type 0 where
   pub world : IsWorldOf g r.world
   pub places : ArePlaces g p path r.turning
@@ -87,10 +90,8 @@ pub record StandsRightly (g : GameLists) (p : Prompt) (path : List Frame) (r : R
 -- so does a reading that waits, or is over
 abbrev pub StopsRightly : GameLists → Ending → Type 0
 StopsRightly g (WaitsAt p path r) = (p ≢ prompt.Over) × StandsRightly g p path r
-StopsRightly g (IsOver r) = StandsRightly g prompt.Over [] r
-StopsRightly g (RunsOut kind r) = Unit {0}
-StopsRightly g (CallsTooDeep u r) = Unit {0}
-StopsRightly g Unended = Unit {0}
+StopsRightly g (Halted IsOver r) = StandsRightly g prompt.Over [] r
+StopsRightly g _ = Unit {0}
 
 -- ---- the laws ----
 
@@ -108,10 +109,8 @@ GoingOnStopsRightly =
 -- a reading that waits, or is over, keeps the bounds
 abbrev pub StopsBounded : ℕ → ℕ → Ending → Type 0
 StopsBounded seed n (WaitsAt p path r) = IsBounded seed n r
-StopsBounded seed n (IsOver r) = IsBounded seed n r
-StopsBounded seed n (RunsOut kind r) = Unit {0}
-StopsBounded seed n (CallsTooDeep u r) = Unit {0}
-StopsBounded seed n Unended = Unit {0}
+StopsBounded seed n (Halted IsOver r) = IsBounded seed n r
+StopsBounded seed n _ = Unit {0}
 
 -- each reading of a valid story keeps the bounds
 abbrev pub ReadingsAreBounded : Type 0

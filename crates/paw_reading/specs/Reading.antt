@@ -1,5 +1,9 @@
 -- Reading tables in written order.
 use Rattle.std.specs.Prelude.{ℕ, zero, suc, ◌-◌, ◌==◌, ◌&&◌, ◌||◌, Bool, true, false, not, List, [], ◌∷◌, ◌++◌, Option, Some, None, length, drop, nat_lt, if◌then◌else◌}
+use Rattle.paw_base.specs.declared.flags.TheConstants.{VERB_FLAG, NOUN_FLAG, ADJECTIVE_FLAG, SECOND_NOUN_FLAG, SECOND_ADJECTIVE_FLAG, PRONOUN_NOUN_FLAG, PRONOUN_ADJECTIVE_FLAG, LOOP_FLAG}
+use Rattle.paw_base.specs.declared.limits.TheConstants.{READ_LIMIT, LEVEL_LIMIT}
+use Rattle.paw_base.specs.declared.messages.TheConstants.{QUIT_MESSAGE, GOODBYE_MESSAGE}
+use Rattle.paw_base.specs.declared.words.TheConstants.{NO_WORD}
 use Rattle.paw_base.specs.declared.parts.Condact.{Condact}
 use Rattle.paw_base.specs.declared.parts.ObjectFacts.{ObjectFacts}
 use Rattle.paw_base.specs.declared.fault.SpentKind.{SpentKind}
@@ -23,23 +27,43 @@ use Rattle.paw_reading.specs.declared.places.Frame.{Frame}
 use Rattle.paw_reading.specs.declared.places.OpenLoop.{OpenLoop}
 use Rattle.paw_reading.specs.Run.{Run, Step, closed, fits, printed, with_world, without_loop, line_dropped, anew, is_ignored, heard, reply, is_yes, is_no, taken_phrase}
 
+-- What ends play for good: the game is over; a piece would read or hold too much; or a call is too deep.
+pub data Halt : Type 0 where
+  IsOver : Halt
+  RunsOut : (kind : SpentKind) → Halt
+  CallsTooDeep : (table : ℕ) → Halt
+
+-- What stops a table, and all that called it: the location is described again; the game starts anew; or play ends for
+-- good.
+pub data Stop : Type 0 where
+  Redescribes : Stop
+  Restarts : Stop
+  Halts : (halt : Halt) → Stop
+
 -- What reading a table comes to: it was left, with an action carried out or not; no line is left at a prompt, with the
--- places that are open, the outermost first; the location is described again; the game starts anew; the game is over; a
--- piece would read or hold too much; or a call is too deep.
+-- places that are open, the outermost first; or it was stopped.
 pub data Out : Type 0 where
   Left : (acted : Bool) (r : Run) → Out
   Waits : (p : Prompt) (path : List Frame) (r : Run) → Out
-  Redescribes : (r : Run) → Out
-  Restarts : (r : Run) → Out
-  Ends : (r : Run) → Out
-  IsSpent : (kind : SpentKind) (r : Run) → Out
-  IsDeep : (table : ℕ) (r : Run) → Out
+  Stopped : (stop : Stop) (r : Run) → Out
+
+-- play ends for good in this run
+abbrev pub halts : Halt → Run → Out
+halts halt r = Stopped (Halts halt) r
+
+-- reading on in a table, with an action carried out there before or not
+abbrev pub Onward : Type 0
+Onward = Bool → Run → Out
+
+-- the reading of a table, by its number
+abbrev pub Called : Type 0
+Called = ℕ → Run → Out
 
 -- ---- budget and text ----
 
 -- a piece reads at most 200,000 condacts
 abbrev pub within : Run → Out → Out
-within r x = if nat_lt (length r.read) 200000 then x else IsSpent spent.Condacts r
+within r x = if nat_lt (length r.read) READ_LIMIT then x else halts (RunsOut spent.Condacts) r
 
 -- the step at a condact of this frame, with yes or no
 abbrev pub step_at : Frame → Condact → Bool → Step
@@ -51,19 +75,15 @@ noted f c passed r = record r { read = r.read ++ step_at f c passed ∷ [] }
 
 -- the text is printed where it fits, and then reading goes on
 abbrev pub printing : List ℕ → (Run → Out) → Run → Out
-printing text go r = if fits r text then go (printed text r) else IsSpent spent.Text r
+printing text go r = if fits r text then go (printed text r) else halts (RunsOut spent.Text) r
 
 -- ---- calls ----
 
 -- after a call: with what the called table was left with, or with a frame before the path of one that waits
-abbrev pub after_call : Frame → (Bool → Run → Out) → Out → Out
+abbrev pub after_call : Frame → Onward → Out → Out
 after_call f go (Left b r) = go (f.acted || b) r
 after_call f go (Waits p path r) = Waits p (f ∷ path) r
-after_call f go (Redescribes r) = Redescribes r
-after_call f go (Restarts r) = Restarts r
-after_call f go (Ends r) = Ends r
-after_call f go (IsSpent kind r) = IsSpent kind r
-after_call f go (IsDeep u r) = IsDeep u r
+after_call f go (Stopped stop r) = Stopped stop r
 
 -- ---- the object loop ----
 
@@ -72,6 +92,7 @@ abbrev pub at_level : ℕ → Option OpenLoop → Option OpenLoop
 at_level lv None = None
 at_level lv (Some l) = if l.level == lv then Some l else None
 
+-- with the open loop, where there is one
 abbrev pub if_open : (OpenLoop → Out) → Out → Option OpenLoop → Out
 if_open next left None = left
 if_open next left (Some l) = next l
@@ -80,38 +101,38 @@ if_open next left (Some l) = next l
 abbrev pub again : ℕ → (OpenLoop → Run → Out) → Out → Out
 again lv next (Left a r) = if_open (λ l. next l r) (Left a r) (at_level lv r.turning)
 again lv next (Waits p path r) = Waits p path r
-again lv next (Redescribes r) = Redescribes r
-again lv next (Restarts r) = Restarts r
-again lv next (Ends r) = Ends r
-again lv next (IsSpent kind r) = IsSpent kind r
-again lv next (IsDeep u r) = IsDeep u r
+again lv next (Stopped stop r) = Stopped stop r
 
 -- the sentence excepts an object by its second noun, and by its second adjective where it has one
 abbrev pub is_excepted : World → ObjectFacts → Bool
 is_excepted w f =
-    not (flag w 44 == 255) && ((f.noun == flag w 44) && ((flag w 45 == 255) || (f.adjective == flag w 45)))
+    not (flag w SECOND_NOUN_FLAG == NO_WORD)
+    && ((f.noun == flag w SECOND_NOUN_FLAG)
+    && ((flag w SECOND_ADJECTIVE_FLAG == NO_WORD) || (f.adjective == flag w SECOND_ADJECTIVE_FLAG)))
 
+-- an object with these facts may be taken: it has a noun, and isn't excepted
 abbrev pub may_be_taken : World → Option ObjectFacts → Bool
 may_be_taken w None = false
-may_be_taken w (Some f) = not (f.noun == 255) && not (is_excepted w f)
+may_be_taken w (Some f) = not (f.noun == NO_WORD) && not (is_excepted w f)
 
--- the loop takes this object: it stands at the place now, has a noun, and isn't excepted
+-- the loop takes this object: it stands at the place now, and may be taken
 abbrev pub is_taken : GameLists → World → OpenLoop → ℕ → Bool
 is_taken g w l o = (place w o == l.place) && may_be_taken w (facts_at g o)
 
+-- the object's noun and adjective stand in the sentence
 abbrev pub named : World → Option ObjectFacts → World
 named w None = w
-named w (Some f) = with_flag (with_flag w 34 f.noun) 35 f.adjective
+named w (Some f) = with_flag (with_flag w NOUN_FLAG f.noun) ADJECTIVE_FLAG f.adjective
 
--- the loop's object stands in the sentence and in flag 50, and is referred to
+-- the loop's object stands in the sentence and in the loop's flag, and is referred to
 abbrev pub taken : GameLists → OpenLoop → ℕ → Run → Run
 taken g l o r = record r {
   turning = Some (record l { last = o });
-  world = referred (with_flag (named r.world (facts_at g o)) 50 o) o;
+  world = referred (with_flag (named r.world (facts_at g o)) LOOP_FLAG o) o;
 }
 
--- the loop goes over the last n objects in rising number, and takes each that it may when its turn comes; with none left
--- it is closed, and the table is left with an action carried out
+-- the loop goes over the last n objects in rising number, and takes each that it may when its turn comes; with none
+-- left it is closed, and the table is left with an action carried out
 unfoldable pub turns : Story → ℕ → OpenLoop → (Run → Out) → ℕ → Run → Out
 turns g lv l body zero r = Left true (without_loop r)
 turns g lv l body (suc n) r =
@@ -119,6 +140,7 @@ turns g lv l body (suc n) r =
     then again lv (λ _. turns g lv l body n) (body (taken g.game l (length g.game.objects - suc n) r))
     else turns g lv l body n r
 
+-- the loop over a place that the DOALL at a frame opens
 abbrev pub loop_of : ℕ → Frame → ℕ → OpenLoop
 loop_of lv f p = record { level = lv; table = f.table; entry = f.entry; at = f.at; place = p; last = 0 }
 
@@ -126,56 +148,64 @@ loop_of lv f p = record { level = lv; table = f.table; entry = f.entry; at = f.a
 
 -- END's question answered with no: the game says goodbye and is over
 abbrev pub over : Story → Run → Out
-over g r = printing (say_text g.game r.world 14) (λ r'. Ends (closed (without_loop (line_dropped r')))) r
+over g r =
+    printing (say_text g.game r.world GOODBYE_MESSAGE) (λ s. halts IsOver (closed (without_loop (line_dropped s)))) r
 
 -- the answer to a prompt in a table: QUIT goes on at yes and leaves the table at no; END ends the game at no and starts
 -- it anew otherwise; a key goes on
-abbrev pub answered : Story → Prompt → Frame → (Bool → Run → Out) → List ℕ → Run → Out
+abbrev pub answered : Story → Prompt → Frame → Onward → List ℕ → Run → Out
 answered g prompt.Main f go line r = go f.acted r
 answered g prompt.Quit f go line r = if is_yes line then go f.acted r else Left true r
-answered g prompt.Again f go line r = if is_no line then over g r else Restarts (anew r)
+answered g prompt.Again f go line r = if is_no line then over g r else Stopped Restarts (anew r)
 answered g prompt.Key f go line r = go true r
 answered g prompt.Over f go line r = go f.acted r
 
 -- at a prompt in a table, the piece closed: with no line left the run waits; an ignored line closes an empty piece, and
 -- the run waits on; any other is heard and answers
-unfoldable pub asked : Story → Prompt → Frame → (Bool → Run → Out) → Run → List (List ℕ) → Out
+unfoldable pub asked : Story → Prompt → Frame → Onward → Run → List (List ℕ) → Out
 asked g p f go r [] = Waits p (f ∷ []) (record r { events = [] })
 asked g p f go r (line ∷ lines) =
     if is_ignored r.world line then asked g p f go (closed (record r { events = lines })) lines
     else answered g p f go (reply line) (heard line (record r { events = lines }))
 
 -- the open piece is closed, and the run waits
-abbrev pub waits : Story → Prompt → Frame → (Bool → Run → Out) → Run → Out
+abbrev pub waits : Story → Prompt → Frame → Onward → Run → Out
 waits g p f go r = asked g p f go (closed r) r.events
 
 -- ---- one condact ----
 
 -- after a condition: go reads on at the next condact, next at the next entry
-abbrev pub after_test : Story → Frame → (Bool → Run → Out) → (Bool → Run → Out) → Condact → Run → Truth → Out
+abbrev pub after_test : Story → Frame → Onward → Onward → Condact → Run → Truth → Out
 after_test g f next go c r truth.Yes = go f.acted (noted f c true r)
 after_test g f next go c r truth.No = next f.acted (noted f c false r)
-after_test g f next go c r truth.Ask = printing (put_text g.game r.world 12) (waits g prompt.Quit f go) (noted f c true r)
+after_test g f next go c r truth.Ask =
+    printing (put_text g.game r.world QUIT_MESSAGE) (waits g prompt.Quit f go) (noted f c true r)
 
-abbrev pub after_parse : Frame → (Bool → Run → Out) → (Bool → Run → Out) → Run → Parsed → Out
+-- after PARSE: at a sentence next reads on at the next entry, else go at the next condact
+abbrev pub after_parse : Frame → Onward → Onward → Run → Parsed → Out
 after_parse f next go r (IsSentence s rest) = next f.acted (taken_phrase s rest r)
 after_parse f next go r (IsUnknown rest) = go f.acted (record r { pending = rest })
 after_parse f next go r IsNoPhrase = go f.acted r
 
+-- the next phrase of the line, where pronouns stand for what the sentences before said
+abbrev pub phrase_of : Story → Run → Parsed
+phrase_of g r =
+    parsed g.game r.pending r.earlier (flag r.world PRONOUN_NOUN_FLAG) (flag r.world PRONOUN_ADJECTIVE_FLAG)
+
 -- PARSE takes the next phrase: a sentence leads to the next entry
-abbrev pub parses : Story → Frame → (Bool → Run → Out) → (Bool → Run → Out) → Run → Out
-parses g f next go r = after_parse f next go r (parsed g.game r.pending r.earlier (flag r.world 46) (flag r.world 47))
+abbrev pub parses : Story → Frame → Onward → Onward → Run → Out
+parses g f next go r = after_parse f next go r (phrase_of g r)
 
 -- how reading goes on after an action; sub reads a table one level deeper
-abbrev pub after_action : Story → (ℕ → Run → Out) → ℕ → Frame → (Bool → Run → Out) → (Bool → Run → Out) → Effect → Run → Out
+abbrev pub after_action : Story → Called → ℕ → Frame → Onward → Onward → Effect → Run → Out
 after_action g sub lv f next go effect.Go r = go true r
 after_action g sub lv f next go (effect.Exit a) r = Left a r
-after_action g sub lv f next go effect.Redescribe r = Redescribes (without_loop r)
+after_action g sub lv f next go effect.Redescribe r = Stopped Redescribes (without_loop r)
 after_action g sub lv f next go (effect.Call u) r = after_call f go (sub u r)
 after_action g sub lv f next go (effect.Loop p) r = turns g lv (loop_of lv f p) (go true) (length g.game.objects) r
 after_action g sub lv f next go (effect.Ask p) r = waits g p f go r
 after_action g sub lv f next go effect.Parse r = parses g f next go r
-after_action g sub lv f next go effect.Spent r = IsSpent spent.Text r
+after_action g sub lv f next go effect.Spent r = halts (RunsOut spent.Text) r
 
 -- the line is dropped and the loop cancelled where the action says so
 abbrev pub carried_out : Done → Run → Run
@@ -186,65 +216,77 @@ carried_out d r = record r {
 }
 
 -- an action prints its text, and is carried out
-abbrev pub acts : Story → (ℕ → Run → Out) → ℕ → Frame → (Bool → Run → Out) → (Bool → Run → Out) → Done → Run → Out
+abbrev pub acts : Story → Called → ℕ → Frame → Onward → Onward → Done → Run → Out
 acts g sub lv f next go d r = printing d.text (λ r'. after_action g sub lv f next go d.act.effect (carried_out d r')) r
 
-abbrev pub tests : Story → Frame → (Bool → Run → Out) → (Bool → Run → Out) → Condact → Run → Tested → Out
+-- a condition is tested, in the world that its test leaves
+abbrev pub tests : Story → Frame → Onward → Onward → Condact → Run → Tested → Out
 tests g f next go c r tested = after_test g f next go c (with_world tested.world r) tested.answer
 
 -- a condact is read
-abbrev pub reads_one : Story → (ℕ → Run → Out) → ℕ → Frame → (Bool → Run → Out) → (Bool → Run → Out) → Condact → Run → Out
+abbrev pub reads_one : Story → Called → ℕ → Frame → Onward → Onward → Condact → Run → Out
 reads_one g sub lv f next go c r =
     if is_condition c then tests g f next go c r (holds g.game r.world c)
     else acts g sub lv f next go (effect_of g r.world c) (noted f c true r)
 
 -- ---- entries, tables, levels ----
 
+-- the frame at a condact
+abbrev pub frame_at : ℕ → ℕ → ℕ → Bool → Frame
+frame_at t e k acted = record { table = t; entry = e; at = k; acted = acted }
+
 -- the condacts of an entry from number k on; next goes on with the next entry
-unfoldable pub condacts : Story → (ℕ → Run → Out) → ℕ → ℕ → ℕ → (Bool → Run → Out) → ℕ → List Condact → Bool → Run → Out
+unfoldable pub condacts : Story → Called → ℕ → ℕ → ℕ → Onward → ℕ → List Condact → Bool → Run → Out
 condacts g sub lv t e next k [] acted r = next acted r
 condacts g sub lv t e next k (c ∷ cs) acted r =
-    within r (reads_one g sub lv (record { table = t; entry = e; at = k; acted = acted }) next (condacts g sub lv t e next (suc k) cs) c r)
+    within r (reads_one g sub lv (frame_at t e k acted) next (condacts g sub lv t e next (suc k) cs) c r)
 
--- an entry is read where it matches flags 33 and 34 at the moment when it is reached
+-- an entry is read where it matches the verb and the noun at the moment when it is reached
 abbrev pub is_for_now : Run → Entry → Bool
-is_for_now r en = matches (flag r.world 33) (flag r.world 34) en
+is_for_now r en = matches (flag r.world VERB_FLAG) (flag r.world NOUN_FLAG) en
 
 -- the entries of a table from number e on; past the last the table is left
-unfoldable pub entries : Story → (ℕ → Run → Out) → ℕ → ℕ → ℕ → List Entry → Bool → Run → Out
+unfoldable pub entries : Story → Called → ℕ → ℕ → ℕ → List Entry → Bool → Run → Out
 entries g sub lv t e [] acted r = Left acted r
 entries g sub lv t e (en ∷ es) acted r =
     if is_for_now r en
     then condacts g sub lv t e (entries g sub lv t (suc e) es) 0 en.condacts acted r
     else entries g sub lv t (suc e) es acted r
 
+-- the entries of a table after entry e
+abbrev pub following : Story → Called → ℕ → ℕ → ℕ → Bool → Run → Out
+following g sub lv t e = entries g sub lv t (suc e) (drop (suc e) (table_at g.game t))
+
 -- from condact k of entry e on, past the test of the entry
-abbrev pub inside : Story → (ℕ → Run → Out) → ℕ → ℕ → ℕ → ℕ → Bool → Run → Out
-inside g sub lv t e k =
-    condacts g sub lv t e (entries g sub lv t (suc e) (drop (suc e) (table_at g.game t))) k (drop k (condacts_of (entry_at g.game t e)))
+abbrev pub inside : Story → Called → ℕ → ℕ → ℕ → ℕ → Bool → Run → Out
+inside g sub lv t e k = condacts g sub lv t e (following g sub lv t e) k (drop k (condacts_of (entry_at g.game t e)))
 
 -- from a place on, to the end of the table; condact 0 is before the test of the entry
-abbrev pub plain : Story → (ℕ → Run → Out) → ℕ → ℕ → ℕ → ℕ → Bool → Run → Out
+abbrev pub plain : Story → Called → ℕ → ℕ → ℕ → ℕ → Bool → Run → Out
 plain g sub lv t e zero = entries g sub lv t e (drop e (table_at g.game t))
 plain g sub lv t e (suc k) = inside g sub lv t e (suc k)
 
+-- the open loop of the level looks for its next object from number o on, and reads on after its DOALL
+abbrev pub looks_from : Story → Called → ℕ → OpenLoop → ℕ → Run → Out
+looks_from g sub lv l o =
+    turns g lv (record l { last = 0 }) (plain g sub lv l.table l.entry (suc l.at) true) (length g.game.objects - o)
+
 -- the open loop of the level goes on after the object that it took last
-abbrev pub looped : Story → (ℕ → Run → Out) → ℕ → OpenLoop → Run → Out
-looped g sub lv l =
-    turns g lv (record l { last = 0 }) (plain g sub lv l.table l.entry (suc l.at) true) (length g.game.objects - suc l.last)
+abbrev pub looped : Story → Called → ℕ → OpenLoop → Run → Out
+looped g sub lv l = looks_from g sub lv l (suc l.last)
 
 -- reading on at a level, with the loop that may be open there
-abbrev pub reads : Story → (ℕ → Run → Out) → ℕ → ℕ → ℕ → ℕ → Bool → Run → Out
+abbrev pub reads : Story → Called → ℕ → ℕ → ℕ → ℕ → Bool → Run → Out
 reads g sub lv t e k acted r = again lv (looped g sub lv) (plain g sub lv t e k acted r)
 
 -- a table called from level lv, below which n levels are left
 unfoldable pub called : Story → ℕ → ℕ → ℕ → Run → Out
-called g zero lv u r = IsDeep u r
+called g zero lv u r = halts (CallsTooDeep u) r
 called g (suc n) lv u r = reads g (called g n (suc lv)) (suc lv) u 0 0 false r
 
 -- levels go from 0 to 10
 abbrev pub deeper : Story → ℕ → ℕ → Run → Out
-deeper g lv = called g (10 - lv) lv
+deeper g lv = called g (LEVEL_LIMIT - lv) lv
 
 -- reading on at level lv in table t from condact k of entry e
 abbrev pub rest : Story → ℕ → ℕ → ℕ → ℕ → Bool → Run → Out

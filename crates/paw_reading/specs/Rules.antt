@@ -1,15 +1,17 @@
 -- The rules of reading on in written order, as equations.
-use Rattle.std.specs.Prelude.{◌≡◌, ℕ, suc, ◌-◌, ◌<◌, ◌≤◌, Bool, true, false, List, [], ◌∷◌, Some, None, length}
+use Rattle.std.specs.Prelude.{◌≡◌, ℕ, suc, ◌<◌, ◌≤◌, Bool, true, false, List, [], ◌∷◌, Some, None, length}
+use Rattle.paw_base.specs.declared.limits.TheConstants.{READ_LIMIT, LEVEL_LIMIT}
+use Rattle.paw_base.specs.declared.messages.TheConstants.{QUIT_MESSAGE}
 use Rattle.paw_base.specs.declared.parts.Condact.{Condact}
 use Rattle.paw_base.specs.declared.fault.SpentKind.TheVariants as spent
 use Rattle.paw_game.specs.declared.parts.Entry.{Entry}
 use Rattle.paw_game.specs.Tables.{entry_at, condact_at}
-use Rattle.paw_world.specs.World.{flag}
 use Rattle.paw_phrase.specs.declared.Sentence.{Sentence}
-use Rattle.paw_phrase.specs.Sentence.{IsSentence, IsUnknown, IsNoPhrase, parsed}
+use Rattle.paw_phrase.specs.Sentence.{IsSentence, IsUnknown, IsNoPhrase}
 use Rattle.paw_effects.specs.Story.{Story}
 use Rattle.paw_effects.specs.declared.act.Prompt.{Prompt}
 use Rattle.paw_effects.specs.declared.act.Prompt.TheVariants as prompt
+use Rattle.paw_effects.specs.declared.act.Truth.{Truth}
 use Rattle.paw_effects.specs.declared.act.Truth.TheVariants as truth
 use Rattle.paw_effects.specs.declared.act.Effect.{Effect}
 use Rattle.paw_effects.specs.declared.act.Effect.TheVariants as effect
@@ -19,7 +21,7 @@ use Rattle.paw_effects.specs.Effects.{effect_of}
 use Rattle.paw_reading.specs.declared.places.Frame.{Frame}
 use Rattle.paw_reading.specs.declared.places.OpenLoop.{OpenLoop}
 use Rattle.paw_reading.specs.Run.{Run, closed, fits, printed, with_world, without_loop, anew, is_ignored, heard, reply, is_yes, is_no, taken_phrase}
-use Rattle.paw_reading.specs.Reading.{Out, Left, Waits, Redescribes, Restarts, IsSpent, IsDeep, noted, after_call, at_level, again, is_taken, taken, turns, loop_of, over, after_action, carried_out, is_for_now, inside, plain, looped, deeper, rest}
+use Rattle.paw_reading.specs.Reading.{RunsOut, CallsTooDeep, Redescribes, Restarts, Out, Left, Waits, Stopped, halts, noted, after_call, at_level, again, is_taken, taken, loop_of, over, phrase_of, after_action, carried_out, frame_at, is_for_now, inside, plain, looks_from, looped, deeper, rest}
 use Rattle.paw_reading.specs.GoingOn.{on_path}
 
 -- ---- words ----
@@ -42,28 +44,65 @@ leaves g lv acted r = again lv (looped g (deeper g lv) lv) (Left acted r)
 
 -- a loop looks for its next object from number o on
 abbrev pub looks : Story → ℕ → OpenLoop → ℕ → Run → Out
-looks g lv l o r =
-    turns g lv (record l { last = 0 }) (plain g (deeper g lv) lv l.table l.entry (suc l.at) true) (length g.game.objects - o) r
+looks g lv l o r = looks_from g (deeper g lv) lv l o r
+
+-- the table at the condact after a frame's, whatever loop is open
+abbrev pub plain_past : Story → ℕ → Frame → Bool → Run → Out
+plain_past g lv f = plain g (deeper g lv) lv f.table f.entry (suc f.at)
+
+-- the table at the entry after a frame's, whatever loop is open
+abbrev pub plain_next : Story → ℕ → Frame → Bool → Run → Out
+plain_next g lv f = plain g (deeper g lv) lv f.table (suc f.entry) 0
 
 -- how reading goes on after the action at a frame
 abbrev pub goes : Story → ℕ → Frame → Effect → Run → Out
 goes g lv f e r =
     again lv (looped g (deeper g lv) lv)
-    (after_action g (deeper g lv) lv f (plain g (deeper g lv) lv f.table (suc f.entry) 0) (plain g (deeper g lv) lv f.table f.entry (suc f.at)) e r)
+    (after_action g (deeper g lv) lv f (plain_next g lv f) (plain_past g lv f) e r)
 
--- the world after a condition
+-- the run after a condition
 abbrev pub tested : Story → Condact → Run → Run
 tested g c r = with_world (holds g.game r.world c).world r
+
+-- the run after a condition that didn't fail
+abbrev pub passed : Story → Frame → Condact → Run → Run
+passed g f c r = noted f c true (tested g c r)
+
+-- the question of QUIT
+abbrev pub question : Story → Condact → Run → List ℕ
+question g c r = put_text g.game (tested g c r).world QUIT_MESSAGE
+
+-- the run after an action: its text is printed, and it is carried out
+abbrev pub done : Story → Frame → Condact → Run → Run
+done g f c r =
+    let d = effect_of g r.world c in
+    carried_out d (printed d.text (noted f c true r))
 
 -- the condact stands at the frame, and the open piece may read one more
 pub record MayRead (g : Story) (f : Frame) (c : Condact) (r : Run) : Type 0 where
   pub stands : condact_at g.game f.table f.entry f.at ≡ Some c
-  pub left : length r.read < 200000
+  pub left : length r.read < READ_LIMIT
+
+-- the condact is a condition, and its test answers so
+pub record IsTested (g : Story) (f : Frame) (c : Condact) (r : Run) (answer : Truth) : Type 0 where
+  pub may : MayRead g f c r
+  pub is : is_condition c ≡ true
+  pub answers : (holds g.game r.world c).answer ≡ answer
+
+-- the condact is an action, and its text fits or not
+pub record IsActing (g : Story) (f : Frame) (c : Condact) (r : Run) (fit : Bool) : Type 0 where
+  pub may : MayRead g f c r
+  pub is : is_condition c ≡ false
+  pub room : fits r (effect_of g r.world c).text ≡ fit
 
 -- this line is the next, and it is heard
 pub record Hears (line : List ℕ) (lines : List (List ℕ)) (r : Run) : Type 0 where
   pub comes : r.events ≡ line ∷ lines
   pub counts : is_ignored r.world line ≡ false
+
+-- the run once this line is heard, with these to come
+abbrev pub hearing : List ℕ → List (List ℕ) → Run → Run
+hearing line lines r = heard line (record r { events = lines })
 
 -- ---- rules ----
 
@@ -71,34 +110,31 @@ pub record Hears (line : List ℕ) (lines : List (List ℕ)) (r : Run) : Type 0 
 -- are read, and past the last of them comes the next entry
 pub record ReadsEntries (g : Story) (lv : ℕ) : Type 0 where
   pub past_last : (t e : ℕ) (a : Bool) (r : Run) → entry_at g.game t e ≡ None → rest g lv t e 0 a r ≡ leaves g lv a r
-  pub passed_over : (t e : ℕ) (en : Entry) (a : Bool) (r : Run) → entry_at g.game t e ≡ Some en → is_for_now r en ≡ false →
-      rest g lv t e 0 a r ≡ rest g lv t (suc e) 0 a r
-  pub matched : (t e : ℕ) (en : Entry) (a : Bool) (r : Run) → entry_at g.game t e ≡ Some en → is_for_now r en ≡ true →
-      rest g lv t e 0 a r ≡ at_frame g lv (record { table = t; entry = e; at = 0; acted = a }) r
-  pub in_entry : (t e k : ℕ) (a : Bool) (r : Run) →
-      rest g lv t e (suc k) a r ≡ at_frame g lv (record { table = t; entry = e; at = suc k; acted = a }) r
-  pub past_condacts : (f : Frame) (r : Run) → condact_at g.game f.table f.entry f.at ≡ None → at_frame g lv f r ≡ next g lv f f.acted r
+  pub passed_over : (t e : ℕ) (en : Entry) (a : Bool) (r : Run) → entry_at g.game t e ≡ Some en →
+      is_for_now r en ≡ false → rest g lv t e 0 a r ≡ rest g lv t (suc e) 0 a r
+  pub matched : (t e : ℕ) (en : Entry) (a : Bool) (r : Run) → entry_at g.game t e ≡ Some en →
+      is_for_now r en ≡ true → rest g lv t e 0 a r ≡ at_frame g lv (frame_at t e 0 a) r
+  pub in_entry : (t e k : ℕ) (a : Bool) (r : Run) → rest g lv t e (suc k) a r ≡ at_frame g lv (frame_at t e (suc k) a) r
+  pub past_condacts : (f : Frame) (r : Run) → condact_at g.game f.table f.entry f.at ≡ None →
+      at_frame g lv f r ≡ next g lv f f.acted r
 
 -- Condacts: a piece reads at most 200,000. A condition that holds leads to the next condact, one that fails to the next
--- entry; QUIT puts message 12 and waits. An action prints its text and is carried out; then its effect follows
+-- entry; QUIT puts its question and waits. An action prints its text and is carried out; then its effect follows
 pub record ReadsCondacts (g : Story) (lv : ℕ) : Type 0 where
-  pub used_up : (f : Frame) (c : Condact) (r : Run) → condact_at g.game f.table f.entry f.at ≡ Some c → 200000 ≤ length r.read →
-      at_frame g lv f r ≡ IsSpent spent.Condacts r
-  pub holding : (f : Frame) (c : Condact) (r : Run) → MayRead g f c r → is_condition c ≡ true → (holds g.game r.world c).answer ≡ truth.Yes →
-      at_frame g lv f r ≡ past g lv f f.acted (noted f c true (tested g c r))
-  pub failing : (f : Frame) (c : Condact) (r : Run) → MayRead g f c r → is_condition c ≡ true → (holds g.game r.world c).answer ≡ truth.No →
+  pub used_up : (f : Frame) (c : Condact) (r : Run) → condact_at g.game f.table f.entry f.at ≡ Some c →
+      READ_LIMIT ≤ length r.read → at_frame g lv f r ≡ halts (RunsOut spent.Condacts) r
+  pub holding : (f : Frame) (c : Condact) (r : Run) → IsTested g f c r truth.Yes →
+      at_frame g lv f r ≡ past g lv f f.acted (passed g f c r)
+  pub failing : (f : Frame) (c : Condact) (r : Run) → IsTested g f c r truth.No →
       at_frame g lv f r ≡ next g lv f f.acted (noted f c false (tested g c r))
-  pub asking : (f : Frame) (c : Condact) (r : Run) → MayRead g f c r → is_condition c ≡ true → (holds g.game r.world c).answer ≡ truth.Ask →
-      fits r (put_text g.game (tested g c r).world 12) ≡ true →
-      at_frame g lv f r ≡ on_path g prompt.Quit lv (f ∷ []) (closed (printed (put_text g.game (tested g c r).world 12) (noted f c true (tested g c r))))
-  pub asking_too_long : (f : Frame) (c : Condact) (r : Run) → MayRead g f c r → is_condition c ≡ true → (holds g.game r.world c).answer ≡ truth.Ask →
-      fits r (put_text g.game (tested g c r).world 12) ≡ false →
-      at_frame g lv f r ≡ IsSpent spent.Text (noted f c true (tested g c r))
-  pub acting : (f : Frame) (c : Condact) (r : Run) → MayRead g f c r → is_condition c ≡ false → fits r (effect_of g r.world c).text ≡ true →
-      at_frame g lv f r ≡ goes g lv f (effect_of g r.world c).act.effect
-      (carried_out (effect_of g r.world c) (printed (effect_of g r.world c).text (noted f c true r)))
-  pub acting_too_long : (f : Frame) (c : Condact) (r : Run) → MayRead g f c r → is_condition c ≡ false → fits r (effect_of g r.world c).text ≡ false →
-      at_frame g lv f r ≡ IsSpent spent.Text (noted f c true r)
+  pub asking : (f : Frame) (c : Condact) (r : Run) → IsTested g f c r truth.Ask → fits r (question g c r) ≡ true →
+      at_frame g lv f r ≡ on_path g prompt.Quit lv (f ∷ []) (closed (printed (question g c r) (passed g f c r)))
+  pub asking_too_long : (f : Frame) (c : Condact) (r : Run) → IsTested g f c r truth.Ask →
+      fits r (question g c r) ≡ false → at_frame g lv f r ≡ halts (RunsOut spent.Text) (passed g f c r)
+  pub acting : (f : Frame) (c : Condact) (r : Run) → IsActing g f c r true →
+      at_frame g lv f r ≡ goes g lv f (effect_of g r.world c).act.effect (done g f c r)
+  pub acting_too_long : (f : Frame) (c : Condact) (r : Run) → IsActing g f c r false →
+      at_frame g lv f r ≡ halts (RunsOut spent.Text) (noted f c true r)
 
 -- What follows an action: the next condact, with an action carried out; the way out of the table; the description, with
 -- no loop; a table one level deeper, down to level 10; a loop, from its first object on; a prompt, the piece closed; or
@@ -106,49 +142,57 @@ pub record ReadsCondacts (g : Story) (lv : ℕ) : Type 0 where
 pub record FollowsActions (g : Story) (lv : ℕ) : Type 0 where
   pub go : (f : Frame) (r : Run) → goes g lv f effect.Go r ≡ past g lv f true r
   pub exit : (f : Frame) (a : Bool) (r : Run) → goes g lv f (effect.Exit a) r ≡ leaves g lv a r
-  pub redescribe : (f : Frame) (r : Run) → goes g lv f effect.Redescribe r ≡ Redescribes (without_loop r)
-  pub call : (f : Frame) (u : ℕ) (r : Run) → lv < 10 → goes g lv f (effect.Call u) r ≡ after_call f (past g lv f) (rest g (suc lv) u 0 0 false r)
-  pub deep : (f : Frame) (u : ℕ) (r : Run) → 10 ≤ lv → goes g lv f (effect.Call u) r ≡ IsDeep u r
+  pub redescribe : (f : Frame) (r : Run) → goes g lv f effect.Redescribe r ≡ Stopped Redescribes (without_loop r)
+  pub call : (f : Frame) (u : ℕ) (r : Run) → lv < LEVEL_LIMIT →
+      goes g lv f (effect.Call u) r ≡ after_call f (past g lv f) (rest g (suc lv) u 0 0 false r)
+  pub deep : (f : Frame) (u : ℕ) (r : Run) → LEVEL_LIMIT ≤ lv → goes g lv f (effect.Call u) r ≡ halts (CallsTooDeep u) r
   pub loop : (f : Frame) (p : ℕ) (r : Run) → goes g lv f (effect.Loop p) r ≡ looks g lv (loop_of lv f p) 0 r
   pub ask : (f : Frame) (p : Prompt) (r : Run) → goes g lv f (effect.Ask p) r ≡ on_path g p lv (f ∷ []) (closed r)
-  pub sentence : (f : Frame) (s : Sentence) (bytes : List ℕ) (r : Run) → parsed g.game r.pending r.earlier (flag r.world 46) (flag r.world 47) ≡ IsSentence s bytes →
+  pub sentence : (f : Frame) (s : Sentence) (bytes : List ℕ) (r : Run) → phrase_of g r ≡ IsSentence s bytes →
       goes g lv f effect.Parse r ≡ next g lv f f.acted (taken_phrase s bytes r)
-  pub unknown : (f : Frame) (bytes : List ℕ) (r : Run) → parsed g.game r.pending r.earlier (flag r.world 46) (flag r.world 47) ≡ IsUnknown bytes →
+  pub unknown : (f : Frame) (bytes : List ℕ) (r : Run) → phrase_of g r ≡ IsUnknown bytes →
       goes g lv f effect.Parse r ≡ past g lv f f.acted (record r { pending = bytes })
-  pub no_phrase : (f : Frame) (r : Run) → parsed g.game r.pending r.earlier (flag r.world 46) (flag r.world 47) ≡ IsNoPhrase →
+  pub no_phrase : (f : Frame) (r : Run) → phrase_of g r ≡ IsNoPhrase →
       goes g lv f effect.Parse r ≡ past g lv f f.acted r
-  pub too_long : (f : Frame) (r : Run) → goes g lv f effect.Spent r ≡ IsSpent spent.Text r
+  pub too_long : (f : Frame) (r : Run) → goes g lv f effect.Spent r ≡ halts (RunsOut spent.Text) r
 
 -- The object loop: a table is left where no loop is open at its level; else the loop looks on above the object that it
 -- took last. It takes the least object that it may take now, and reads on after its DOALL; with none it is closed, and
 -- the table is left
 pub record TurnsLoops (g : Story) (lv : ℕ) : Type 0 where
   pub left : (a : Bool) (r : Run) → at_level lv r.turning ≡ None → leaves g lv a r ≡ Left a r
-  pub looks_on : (a : Bool) (l : OpenLoop) (r : Run) → r.turning ≡ Some l → l.level ≡ lv → leaves g lv a r ≡ looks g lv l (suc l.last) r
-  pub passed_by : (l : OpenLoop) (o : ℕ) (r : Run) → o < length g.game.objects → is_taken g.game r.world l o ≡ false →
-      looks g lv l o r ≡ looks g lv l (suc o) r
-  pub takes : (l : OpenLoop) (o : ℕ) (r : Run) → l.level ≡ lv → o < length g.game.objects → is_taken g.game r.world l o ≡ true →
+  pub looks_on : (a : Bool) (l : OpenLoop) (r : Run) → r.turning ≡ Some l → l.level ≡ lv →
+      leaves g lv a r ≡ looks g lv l (suc l.last) r
+  pub passed_by : (l : OpenLoop) (o : ℕ) (r : Run) → o < length g.game.objects →
+      is_taken g.game r.world l o ≡ false → looks g lv l o r ≡ looks g lv l (suc o) r
+  pub takes : (l : OpenLoop) (o : ℕ) (r : Run) → l.level ≡ lv → o < length g.game.objects →
+      is_taken g.game r.world l o ≡ true →
       looks g lv l o r ≡ rest g lv l.table l.entry (suc l.at) true (taken g.game l o r)
-  pub none_left : (l : OpenLoop) (o : ℕ) (r : Run) → length g.game.objects ≤ o → looks g lv l o r ≡ Left true (without_loop r)
+  pub none_left : (l : OpenLoop) (o : ℕ) (r : Run) → length g.game.objects ≤ o →
+      looks g lv l o r ≡ Left true (without_loop r)
 
--- Prompts: along two frames or more, the outermost goes on after its call with what the others come to. With no line the run waits; an ignored one closes an empty piece, and the run waits on. QUIT reads on at yes
--- and leaves the table at no; a key reads on; END ends the game at no and starts it anew otherwise
+-- Prompts: along two frames or more, the outermost goes on after its call with what the others come to. With no line
+-- the run waits; an ignored one closes an empty piece, and the run waits on. QUIT reads on at yes and leaves the table
+-- at no; a key reads on; END ends the game at no and starts it anew otherwise
 pub record AnswersPrompts (g : Story) (lv : ℕ) : Type 0 where
   pub above : (p : Prompt) (f h : Frame) (path : List Frame) (r : Run) →
       on_path g p lv (f ∷ h ∷ path) r ≡ after_call f (past g lv f) (on_path g p (suc lv) (h ∷ path) r)
   pub no_line : (p : Prompt) (f : Frame) (r : Run) → r.events ≡ [] → on_path g p lv (f ∷ []) r ≡ Waits p (f ∷ []) r
-  pub ignored : (p : Prompt) (f : Frame) (line : List ℕ) (lines : List (List ℕ)) (r : Run) → r.events ≡ line ∷ lines → is_ignored r.world line ≡ true →
+  pub ignored : (p : Prompt) (f : Frame) (line : List ℕ) (lines : List (List ℕ)) (r : Run) →
+      r.events ≡ line ∷ lines → is_ignored r.world line ≡ true →
       on_path g p lv (f ∷ []) r ≡ on_path g p lv (f ∷ []) (closed (record r { events = lines }))
-  pub quit_yes : (f : Frame) (line : List ℕ) (lines : List (List ℕ)) (r : Run) → Hears line lines r → is_yes (reply line) ≡ true →
-      on_path g prompt.Quit lv (f ∷ []) r ≡ past g lv f f.acted (heard line (record r { events = lines }))
-  pub quit_no : (f : Frame) (line : List ℕ) (lines : List (List ℕ)) (r : Run) → Hears line lines r → is_yes (reply line) ≡ false →
-      on_path g prompt.Quit lv (f ∷ []) r ≡ leaves g lv true (heard line (record r { events = lines }))
+  pub quit_yes : (f : Frame) (line : List ℕ) (lines : List (List ℕ)) (r : Run) → Hears line lines r →
+      is_yes (reply line) ≡ true →
+      on_path g prompt.Quit lv (f ∷ []) r ≡ past g lv f f.acted (hearing line lines r)
+  pub quit_no : (f : Frame) (line : List ℕ) (lines : List (List ℕ)) (r : Run) → Hears line lines r →
+      is_yes (reply line) ≡ false → on_path g prompt.Quit lv (f ∷ []) r ≡ leaves g lv true (hearing line lines r)
   pub key : (f : Frame) (line : List ℕ) (lines : List (List ℕ)) (r : Run) → Hears line lines r →
-      on_path g prompt.Key lv (f ∷ []) r ≡ past g lv f true (heard line (record r { events = lines }))
-  pub end_no : (f : Frame) (line : List ℕ) (lines : List (List ℕ)) (r : Run) → Hears line lines r → is_no (reply line) ≡ true →
-      on_path g prompt.Again lv (f ∷ []) r ≡ over g (heard line (record r { events = lines }))
-  pub end_anew : (f : Frame) (line : List ℕ) (lines : List (List ℕ)) (r : Run) → Hears line lines r → is_no (reply line) ≡ false →
-      on_path g prompt.Again lv (f ∷ []) r ≡ Restarts (anew (heard line (record r { events = lines })))
+      on_path g prompt.Key lv (f ∷ []) r ≡ past g lv f true (hearing line lines r)
+  pub end_no : (f : Frame) (line : List ℕ) (lines : List (List ℕ)) (r : Run) → Hears line lines r →
+      is_no (reply line) ≡ true → on_path g prompt.Again lv (f ∷ []) r ≡ over g (hearing line lines r)
+  pub end_anew : (f : Frame) (line : List ℕ) (lines : List (List ℕ)) (r : Run) → Hears line lines r →
+      is_no (reply line) ≡ false →
+      on_path g prompt.Again lv (f ∷ []) r ≡ Stopped Restarts (anew (hearing line lines r))
 
 -- the rules of reading on, at each level of each game
 pub record ReadingOn : Type 0 where

@@ -1,14 +1,17 @@
 -- A run of a game.
 use Rattle.std.specs.Prelude.{ℕ, ◌+◌, ◌%◌, ◌==◌, ◌&&◌, ◌||◌, Bool, false, List, [], ◌∷◌, ◌++◌, Option, None, length, nat_le, if◌then◌else◌}
 use Rattle.std.specs.Str.{bytes_eq}
+use Rattle.paw_base.specs.declared.flags.TheConstants.{VERB_FLAG, NOUN_FLAG, ADJECTIVE_FLAG, ADVERB_FLAG, PREPOSITION_FLAG, SECOND_NOUN_FLAG, SECOND_ADJECTIVE_FLAG, PRONOUN_NOUN_FLAG, PRONOUN_ADJECTIVE_FLAG, TIMEOUT_FLAG, TIMED_OUT_FLAG}
+use Rattle.paw_base.specs.declared.limits.TheConstants.{PIECE_LIMIT}
+use Rattle.paw_base.specs.declared.words.TheConstants.{NO_WORD}
 pub use Rattle.paw_base.specs.declared.steps.StepRow.{StepRow as Step}
 use Rattle.paw_world.specs.World.{World, flag, with_flag, restarted}
 use Rattle.paw_phrase.specs.declared.Sentence.{Sentence}
 use Rattle.paw_reading.specs.declared.places.OpenLoop.{OpenLoop}
 
 -- the world; the bytes of the line that are not yet read, and the verb of the phrase before; the open loop; the text of
--- the open piece, and its steps: the condacts read in it, in order, each with yes, or no where it is a condition that failed;
--- the texts and the steps of the closed pieces; the lines not yet taken
+-- the open piece, and its steps: the condacts read in it, in order, each with yes, or no where it is a condition that
+-- failed; the texts and the steps of the closed pieces; the lines not yet taken
 pub record Run : Type 0 where
   pub world : World
   pub pending : List ℕ
@@ -26,15 +29,17 @@ closed r = record r { current = []; read = []; pieces = r.pieces ++ r.current �
 
 -- a piece holds at most 65,535 bytes
 abbrev pub fits : Run → List ℕ → Bool
-fits r text = nat_le (length r.current + length text) 65535
+fits r text = nat_le (length r.current + length text) PIECE_LIMIT
 
 -- the text is printed
 abbrev pub printed : List ℕ → Run → Run
 printed text r = record r { current = r.current ++ text }
 
+-- the world is this one
 abbrev pub with_world : World → Run → Run
 with_world w r = record r { world = w }
 
+-- no loop is open
 abbrev pub without_loop : Run → Run
 without_loop r = record r { turning = None }
 
@@ -44,7 +49,7 @@ line_dropped r = record r { pending = [] }
 
 -- the game starts anew: the draws, the saved position and the number of lines stay
 abbrev pub anew : Run → Run
-anew r = record r { world = restarted r.world; pending = []; earlier = 255; turning = None }
+anew r = record r { world = restarted r.world; pending = []; earlier = NO_WORD; turning = None }
 
 -- ---- lines ----
 
@@ -52,13 +57,14 @@ anew r = record r { world = restarted r.world; pending = []; earlier = 255; turn
 abbrev pub is_timeout : List ℕ → Bool
 is_timeout line = bytes_eq line (126 ∷ [])
 
--- a timeout where flag 48 is 0 changes nothing
+-- a timeout changes nothing where the flag that lets prompts run out of time is 0
 abbrev pub is_ignored : World → List ℕ → Bool
-is_ignored w line = is_timeout line && (flag w 48 == 0)
+is_ignored w line = is_timeout line && (flag w TIMEOUT_FLAG == 0)
 
--- bit 7 of flag 49 tells that the last line was a timeout
+-- bit 7 of a flag tells that the last line was a timeout
 abbrev pub with_timeout : Bool → World → World
-with_timeout b w = with_flag w 49 (if b then 128 + flag w 49 % 128 else flag w 49 % 128)
+with_timeout b w =
+    with_flag w TIMED_OUT_FLAG (if b then 128 + flag w TIMED_OUT_FLAG % 128 else flag w TIMED_OUT_FLAG % 128)
 
 -- the line is heard
 abbrev pub heard : List ℕ → Run → Run
@@ -74,10 +80,11 @@ begins_with capital [] = false
 begins_with capital (b ∷ bs) =
     if b == 32 then begins_with capital bs else (b == capital) || (b == capital + 32)
 
--- Y answers yes, N answers no
+-- Y answers yes
 abbrev pub is_yes : List ℕ → Bool
 is_yes line = begins_with 89 line
 
+-- N answers no
 abbrev pub is_no : List ℕ → Bool
 is_no line = begins_with 78 line
 
@@ -86,9 +93,10 @@ is_no line = begins_with 78 line
 -- the sentence stands in the flags
 abbrev pub spoken : Sentence → World → World
 spoken s w =
-    let first = with_flag (with_flag (with_flag (with_flag w 33 s.verb) 34 s.noun) 35 s.adjective) 36 s.adverb in
-    let second = with_flag (with_flag (with_flag first 43 s.preposition) 44 s.second_noun) 45 s.second_adjective in
-    with_flag (with_flag second 46 s.pronoun_noun) 47 s.pronoun_adjective
+    let noun = with_flag (with_flag (with_flag w VERB_FLAG s.verb) NOUN_FLAG s.noun) ADJECTIVE_FLAG s.adjective in
+    let first = with_flag (with_flag noun ADVERB_FLAG s.adverb) PREPOSITION_FLAG s.preposition in
+    let second = with_flag (with_flag first SECOND_NOUN_FLAG s.second_noun) SECOND_ADJECTIVE_FLAG s.second_adjective in
+    with_flag (with_flag second PRONOUN_NOUN_FLAG s.pronoun_noun) PRONOUN_ADJECTIVE_FLAG s.pronoun_adjective
 
 -- the phrase is taken: its sentence stands in the flags, and its verb is the earlier one for the next
 abbrev pub taken_phrase : Sentence → List ℕ → Run → Run

@@ -1,6 +1,9 @@
 -- The turn, and the reading of a list of lines.
 use Rattle.std.specs.Prelude.{◌≡◌, ◌≢◌, ℕ, zero, suc, ◌+◌, ◌-◌, ◌*◌, ◌/◌, ◌%◌, ◌<◌, ◌==◌, Bool, true, false, List, [], ◌∷◌, ◌++◌, Option, Some, None, length, map, sum_by, flat_map, nat_lt, min, if◌then◌else◌}
-use Rattle.paw_base.specs.declared.fault.SpentKind.{SpentKind}
+use Rattle.paw_base.specs.declared.flags.TheConstants.{VIEW_FLAG, DARK_VIEW_FLAG, UNLIT_VIEW_FLAG, FIRST_FRAME_FLAG, LAST_FRAME_FLAG, DARK_FRAME_FLAG, UNLIT_FRAME_FLAG, LOW_TURNS_FLAG, HIGH_TURNS_FLAG, VERB_FLAG, LOCATION_FLAG, PROMPT_FLAG}
+use Rattle.paw_base.specs.declared.limits.TheConstants.{READ_LIMIT}
+use Rattle.paw_base.specs.declared.messages.TheConstants.{DARK_MESSAGE, PROMPT_MESSAGE, UNKNOWN_MESSAGE, NO_WAY_MESSAGE, IMPOSSIBLE_MESSAGE, LINE_MESSAGE, TIMEOUT_MESSAGE}
+use Rattle.paw_base.specs.declared.words.TheConstants.{NO_WORD, FIRST_PLAIN_VERB}
 use Rattle.paw_base.specs.declared.fault.SpentKind.TheVariants as spent
 use Rattle.paw_game.specs.Game.{GameLists}
 use Rattle.paw_game.specs.Tables.{exit_at}
@@ -13,7 +16,7 @@ use Rattle.paw_effects.specs.Counts.{turns_taken}
 use Rattle.paw_effects.specs.Texts.{put_text, say_text, location_text}
 use Rattle.paw_reading.specs.declared.places.Frame.{Frame}
 use Rattle.paw_reading.specs.Run.{Run, closed, fits, printed, with_world, line_dropped, is_timeout, is_ignored, heard, with_timeout, taken_phrase}
-use Rattle.paw_reading.specs.Reading.{Out, Left, Waits, Redescribes, Restarts, Ends, IsSpent, IsDeep, table_read}
+use Rattle.paw_reading.specs.Reading.{Halt, IsOver, RunsOut, Stop, Redescribes, Restarts, Halts, Out, Left, Waits, Stopped, Onward, phrase_of, table_read}
 use Rattle.paw_reading.specs.GoingOn.{on_path, with_lines}
 
 -- the four stages of a turn
@@ -23,93 +26,112 @@ pub data Stage : Type 0 where
   AtPhrase : Stage
   AtResponse : Stage
 
--- How a reading ends: no line is left at a prompt, with the places that are open (none at the main prompt); the game is
--- over; a piece would read or hold too much; a call is too deep. Unended comes only where too few stages were granted.
+-- How a reading ends: no line is left at a prompt, with the places that are open (none at the main prompt); or play
+-- ends for good. Unended comes only where too few stages were granted.
 pub data Ending : Type 0 where
   WaitsAt : (p : Prompt) (path : List Frame) (r : Run) → Ending
-  IsOver : (r : Run) → Ending
-  RunsOut : (kind : SpentKind) (r : Run) → Ending
-  CallsTooDeep : (table : ℕ) (r : Run) → Ending
+  Halted : (halt : Halt) (r : Run) → Ending
   Unended : Ending
 
+-- how a turn goes on from a run
+abbrev pub Turning : Type 0
+Turning = Run → Ending
+
 -- the text is printed where it fits, and then the turn goes on
-abbrev pub saying : List ℕ → (Run → Ending) → Run → Ending
-saying text go r = if fits r text then go (printed text r) else RunsOut spent.Text r
+abbrev pub saying : List ℕ → Turning → Run → Ending
+saying text go r = if fits r text then go (printed text r) else Halted (RunsOut spent.Text) r
 
--- after a table at level 0: left with an action carried out or not, or described again
-abbrev pub after_table : (Run → Ending) → (Bool → Run → Ending) → Out → Ending
+-- after a stop the location is described, or the reading ends
+abbrev pub after_stop : Turning → Stop → Run → Ending
+after_stop describe Redescribes r = describe r
+after_stop describe Restarts r = describe r
+after_stop describe (Halts halt) r = Halted halt r
+
+-- after a table at level 0: left with an action carried out or not, waiting, or stopped
+abbrev pub after_table : Turning → (Bool → Turning) → Out → Ending
 after_table describe next (Left a r) = next a r
-after_table describe next (Redescribes r) = describe r
-after_table describe next (Restarts r) = describe r
 after_table describe next (Waits p path r) = WaitsAt p path r
-after_table describe next (Ends r) = IsOver r
-after_table describe next (IsSpent kind r) = RunsOut kind r
-after_table describe next (IsDeep u r) = CallsTooDeep u r
+after_table describe next (Stopped stop r) = after_stop describe stop r
 
--- flags that fall when a location is described: 2; 3 in the dark; 4 without light
+-- flags that fall when a location is described: one always, one in the dark, one without light
 abbrev pub described : World → World
-described w = fallen_if (is_unlit w) 4 (fallen_if (is_dark w) 3 (fallen 2 w))
+described w =
+    fallen_if (is_unlit w) UNLIT_VIEW_FLAG (fallen_if (is_dark w) DARK_VIEW_FLAG (fallen VIEW_FLAG w))
 
--- flags that fall in each frame: 5 to 8; 9 in the dark; 10 without light
+-- flags that fall in each frame: 5 to 8; one more in the dark, and one without light
 abbrev pub framed : World → World
-framed w = fallen_if (is_unlit w) 10 (fallen_if (is_dark w) 9 (fallen 8 (fallen 7 (fallen 6 (fallen 5 w)))))
+framed w =
+    let always = fallen LAST_FRAME_FLAG (fallen 7 (fallen 6 (fallen FIRST_FRAME_FLAG w))) in
+    fallen_if (is_unlit w) UNLIT_FRAME_FLAG (fallen_if (is_dark w) DARK_FRAME_FLAG always)
 
--- in the dark without light message 0 is said; else the location is described
+-- in the dark without light a message is said; else the location is described
 abbrev pub view_text : GameLists → World → List ℕ
-view_text g w = if is_unlit w then say_text g w 0 else location_text g w (flag w 38)
+view_text g w = if is_unlit w then say_text g w DARK_MESSAGE else location_text g w (flag w LOCATION_FLAG)
 
--- the number of turns; flag 31 is its low byte and flag 32 the high one
+-- the number of turns stands in two flags, the low byte and the high one
 abbrev pub with_turns : ℕ → World → World
-with_turns n w = with_flag (with_flag w 31 (n % 256)) 32 (n / 256)
+with_turns n w = with_flag (with_flag w LOW_TURNS_FLAG (n % 256)) HIGH_TURNS_FLAG (n / 256)
 
 -- one more turn, up to 65,535
 abbrev pub counted : World → World
 counted w = with_turns (min 65535 (turns_taken w + 1)) w
 
--- the prompt is message flag 42, or 2 where that is 0
+-- the prompt is the message that a flag names, or the usual one where that is 0
 abbrev pub prompt_message : World → ℕ
-prompt_message w = if flag w 42 == 0 then 2 else flag w 42
+prompt_message w = if flag w PROMPT_FLAG == 0 then PROMPT_MESSAGE else flag w PROMPT_FLAG
 
+-- the prompt, and the mark at which a line is typed
 abbrev pub prompt_text : GameLists → World → List ℕ
-prompt_text g w = say_text g w (prompt_message w) ++ put_text g w 33
+prompt_text g w = say_text g w (prompt_message w) ++ put_text g w LINE_MESSAGE
 
--- a line at the main prompt: an ignored one closes an empty piece; a timeout says 35 and leads to the frame; any other
--- becomes the pending bytes
+-- a line becomes the pending bytes, with no verb before
 abbrev pub line_set : List ℕ → Run → Run
-line_set line r = record r { world = with_timeout false r.world; pending = line; earlier = 255 }
+line_set line r = record r { world = with_timeout false r.world; pending = line; earlier = NO_WORD }
 
-unfoldable pub at_main : Story → (Run → Ending) → (Run → Ending) → Run → List (List ℕ) → Ending
+-- what a timeout at the main prompt says
+abbrev pub timeout_text : GameLists → World → List ℕ
+timeout_text g w = say_text g (with_timeout true w) TIMEOUT_MESSAGE
+
+-- at the main prompt: with no line left the run waits; an ignored line closes an empty piece, and the run waits on; a
+-- timeout leads to the frame, any other line to its first phrase
+unfoldable pub at_main : Story → Turning → Turning → Run → List (List ℕ) → Ending
 at_main g frame phrase r [] = WaitsAt prompt.Main [] (record r { events = [] })
 at_main g frame phrase r (line ∷ lines) =
     if is_ignored r.world line then at_main g frame phrase (closed (record r { events = lines })) lines
-    else if is_timeout line then saying (say_text g.game (with_timeout true r.world) 35) frame (heard line (record r { events = lines }))
+    else if is_timeout line then saying (timeout_text g.game r.world) frame (heard line (record r { events = lines }))
     else phrase (line_set line (record r { events = lines }))
 
 -- the prompt is shown, the piece is closed, and the game waits for a line
-abbrev pub prompts : Story → (Run → Ending) → (Run → Ending) → Run → Ending
-prompts g frame phrase r = saying (prompt_text g.game r.world) (λ s. at_main g frame phrase (closed s) s.events) (line_dropped r)
+abbrev pub prompts : Story → Turning → Turning → Run → Ending
+prompts g frame phrase r =
+    saying (prompt_text g.game r.world) (λ s. at_main g frame phrase (closed s) s.events) (line_dropped r)
 
--- the next phrase: a sentence counts a turn and is responded to; at one with no known word message 6 is said, and the
+-- the next phrase: a sentence counts a turn and is responded to; at one with no known word a message is said, and the
 -- rest of the line is dropped; with none left comes the prompt
-abbrev pub after_phrase : Story → (Run → Ending) → (Run → Ending) → (Run → Ending) → Run → Parsed → Ending
+abbrev pub after_phrase : Story → Turning → Turning → Turning → Run → Parsed → Ending
 after_phrase g frame phrase response r (IsSentence s rest) =
     response (with_world (counted (taken_phrase s rest r).world) (taken_phrase s rest r))
-after_phrase g frame phrase response r (IsUnknown rest) = saying (say_text g.game r.world 6) frame (line_dropped r)
+after_phrase g frame phrase response r (IsUnknown rest) =
+    saying (say_text g.game r.world UNKNOWN_MESSAGE) frame (line_dropped r)
 after_phrase g frame phrase response r IsNoPhrase = prompts g frame phrase r
 
--- no entry answered: the exit for the verb is taken, or message 7 (a verb below 14) or 8 is said and the line is dropped
+-- no entry answered and there is no exit: there is no way for a direction, and else the verb is impossible
 abbrev pub refusal_text : GameLists → World → List ℕ
-refusal_text g w = say_text g w (if nat_lt (flag w 33) 14 then 7 else 8)
+refusal_text g w =
+    say_text g w (if nat_lt (flag w VERB_FLAG) FIRST_PLAIN_VERB then NO_WAY_MESSAGE else IMPOSSIBLE_MESSAGE)
 
-abbrev pub connected : Story → (Run → Ending) → (Run → Ending) → Run → Option ℕ → Ending
+-- the exit for the verb is taken; where there is none that is said, and the line is dropped
+abbrev pub connected : Story → Turning → Turning → Run → Option ℕ → Ending
 connected g describe frame r None = saying (refusal_text g.game r.world) frame (line_dropped r)
-connected g describe frame r (Some to) = describe (with_world (with_flag r.world 38 to) r)
+connected g describe frame r (Some to) = describe (with_world (with_flag r.world LOCATION_FLAG to) r)
 
-abbrev pub connections : Story → (Run → Ending) → (Run → Ending) → Run → Ending
-connections g describe frame r = connected g describe frame r (exit_at g.game (flag r.world 38) (flag r.world 33))
+-- the exit of the location for the verb is looked for
+abbrev pub connections : Story → Turning → Turning → Run → Ending
+connections g describe frame r =
+    connected g describe frame r (exit_at g.game (flag r.world LOCATION_FLAG) (flag r.world VERB_FLAG))
 
 -- after table 0: with an action carried out comes the frame, else the connections are tried
-abbrev pub responded : Story → (Run → Ending) → (Run → Ending) → Bool → Run → Ending
+abbrev pub responded : Story → Turning → Turning → Bool → Run → Ending
 responded g describe frame true r = frame r
 responded g describe frame false r = connections g describe frame r
 
@@ -127,16 +149,18 @@ table_done g go t x = after_table (go AtDescribe) (after_left g go t) x
 unfoldable pub turn : Story → ℕ → Stage → Run → Ending
 turn g zero s r = Unended
 turn g (suc n) AtDescribe r =
-    saying (view_text g.game (described r.world)) (λ s. table_done g (turn g n) 1 (table_read g 1 s)) (with_world (described r.world) r)
+    let view = view_text g.game (described r.world) in
+    saying view (λ s. table_done g (turn g n) 1 (table_read g 1 s)) (with_world (described r.world) r)
 turn g (suc n) AtFrame r = table_done g (turn g n) 2 (table_read g 2 r)
 turn g (suc n) AtPhrase r =
-    after_phrase g (turn g n AtFrame) (turn g n AtPhrase) (turn g n AtResponse) r
-    (parsed g.game r.pending r.earlier (flag r.world 46) (flag r.world 47))
+    after_phrase g (turn g n AtFrame) (turn g n AtPhrase) (turn g n AtResponse) r (phrase_of g r)
 turn g (suc n) AtResponse r = table_done g (turn g n) 0 (table_read g 0 r)
 
--- how much a run may still read: what is left of the line, what the open piece may still read, and what each line brings
+-- how much a run may still read: what is left of the line, what the open piece may still read, and what each line
+-- brings
 abbrev pub left_to_read : Run → ℕ
-left_to_read r = length r.pending + (200000 - length r.read) + sum_by (λ line. length line + 200001) r.events
+left_to_read r =
+    length r.pending + (READ_LIMIT - length r.read) + sum_by (λ line. length line + suc READ_LIMIT) r.events
 
 -- so many stages are enough from a stage on
 abbrev pub stages_left : Stage → Run → ℕ
@@ -156,7 +180,7 @@ abbrev pub opening : Story → ℕ → List (List ℕ) → Run
 opening g seed es = record {
   world = opened (map (λ o. o.facts) g.game.objects) (length g.game.locations) seed;
   pending = [];
-  earlier = 255;
+  earlier = NO_WORD;
   turning = None;
   current = [];
   read = [];
@@ -172,11 +196,10 @@ reading g seed es = turns_from g AtDescribe (opening g seed es)
 -- the run in which a reading ended
 abbrev pub run_of : Ending → Option Run
 run_of (WaitsAt p path r) = Some r
-run_of (IsOver r) = Some r
-run_of (RunsOut kind r) = Some r
-run_of (CallsTooDeep u r) = Some r
+run_of (Halted halt r) = Some r
 run_of Unended = None
 
+-- its closed pieces
 abbrev pub pieces_of : Option Run → List (List ℕ)
 pieces_of None = []
 pieces_of (Some r) = r.pieces
@@ -187,6 +210,7 @@ text_of e = flat_map (λ piece. piece) (pieces_of (run_of e))
 
 -- ---- going on ----
 
+-- the table of the outermost frame
 abbrev pub first_table : List Frame → ℕ
 first_table [] = 0
 first_table (f ∷ path) = f.table
@@ -195,13 +219,14 @@ first_table (f ∷ path) = f.table
 abbrev pub in_table : Story → ℕ → Prompt → List Frame → Run → Ending
 in_table g n p path r = table_done g (turn g n) (first_table path) (on_path g p 0 path r)
 
--- going on from a prompt with the run's lines, in at most n stages more; nothing is put again, and no piece is closed first
+-- going on from a prompt with the run's lines, in at most n stages more; nothing is put again, and no piece is closed
+-- first
 abbrev pub goes_on : Story → ℕ → Prompt → List Frame → Run → Ending
 goes_on g n prompt.Main path r = at_main g (turn g n AtFrame) (turn g n AtPhrase) r r.events
 goes_on g n prompt.Quit path r = in_table g n prompt.Quit path r
 goes_on g n prompt.Again path r = in_table g n prompt.Again path r
 goes_on g n prompt.Key path r = in_table g n prompt.Key path r
-goes_on g n prompt.Over path r = IsOver r
+goes_on g n prompt.Over path r = Halted IsOver r
 
 -- going on from a prompt with the run's lines
 abbrev pub on : Story → Prompt → List Frame → Run → Ending
@@ -210,9 +235,7 @@ on g p path r = goes_on g (stages_left AtResponse r) p path r
 -- a reading that waits goes on with these lines; another stays as it ended, with the lines untaken
 abbrev pub followed : Story → List (List ℕ) → Ending → Ending
 followed g lines (WaitsAt p path r) = on g p path (with_lines lines r)
-followed g lines (IsOver r) = IsOver (with_lines lines r)
-followed g lines (RunsOut kind r) = RunsOut kind (with_lines lines r)
-followed g lines (CallsTooDeep u r) = CallsTooDeep u (with_lines lines r)
+followed g lines (Halted halt r) = Halted halt (with_lines lines r)
 followed g lines Unended = Unended
 
 -- ---- the laws ----
@@ -244,7 +267,8 @@ MayWaitAlong prompt.Over path = ⊥
 
 -- with no line going on is the wait itself
 abbrev pub WaitsOn : Type 0
-WaitsOn = (g : Story) (p : Prompt) (path : List Frame) (r : Run) → MayWaitAlong p path → r.events ≡ [] → on g p path r ≡ WaitsAt p path r
+WaitsOn = (g : Story) (p : Prompt) (path : List Frame) (r : Run) → MayWaitAlong p path → r.events ≡ [] →
+    on g p path r ≡ WaitsAt p path r
 
 -- reading more lines is reading some, and going on with the others
 abbrev pub GoingOnIsReading : Type 0

@@ -3,7 +3,8 @@ use Rattle.std.proofs.Common.{◌≡◌, ℕ, List, refl, sym, subst}
 use Rattle.paw_stage.specs.Stage.{Standing, Rose}
 use Rattle.paw_stage.specs.declared.StageCall.{StageCall}
 use Rattle.paw_stage.specs.declared.StageCall.TheVariants as call
-use Rattle.paw_reading.specs.Turn.{Ending, WaitsAt, IsOver, RunsOut, CallsTooDeep, Unended}
+use Rattle.paw_reading.specs.Reading.{IsOver, RunsOut, CallsTooDeep}
+use Rattle.paw_reading.specs.Turn.{Ending, WaitsAt, Halted}
 use Rattle.paw_trial.specs.declared.TrialEnd.{TrialEnd}
 use Rattle.paw_trial.specs.declared.TrialEnd.TheVariants as end
 use Rattle.paw_trial.specs.Trial.{IsTextOf, StopsAs, trial_reading}
@@ -24,28 +25,16 @@ stopped end.Memory = outcome.Memory memory.Trial
 
 pub halted : (n : ℕ) (s : Standing) (stop : TrialEnd) (e : Ending) → trial_reading n ≡ e → StopsAs stop e → Tries n s s (stopped stop)
 halted n s end.Memory e is h = wanting refl
-halted n s end.Ended (IsOver r) is h = ends r is refl
-halted n s end.Ended (WaitsAt p path r) is h = absurd h
-halted n s end.Ended (RunsOut kind r) is h = absurd h
-halted n s end.Ended (CallsTooDeep table r) is h = absurd h
-halted n s end.Ended Unended is h = absurd h
-halted n s (end.Spent kind) (RunsOut found r) is h = spent kind r (subst (λ k. trial_reading n ≡ RunsOut k r) (sym h) is) refl
-halted n s (end.Spent kind) (WaitsAt p path r) is h = absurd h
-halted n s (end.Spent kind) (IsOver r) is h = absurd h
-halted n s (end.Spent kind) (CallsTooDeep table r) is h = absurd h
-halted n s (end.Spent kind) Unended is h = absurd h
-halted n s (end.TooDeep table) (CallsTooDeep found r) is h = too_deep table r (subst (λ t. trial_reading n ≡ CallsTooDeep t r) (sym h) is) refl
-halted n s (end.TooDeep table) (WaitsAt p path r) is h = absurd h
-halted n s (end.TooDeep table) (IsOver r) is h = absurd h
-halted n s (end.TooDeep table) (RunsOut kind r) is h = absurd h
-halted n s (end.TooDeep table) Unended is h = absurd h
+halted n s end.Ended (Halted IsOver r) is h = ends r is refl
+halted n s (end.Spent kind) (Halted (RunsOut found) r) is h =
+    spent kind r (subst (λ k. trial_reading n ≡ Halted (RunsOut k) r) (sym h) is) refl
+halted n s (end.TooDeep table) (Halted (CallsTooDeep found) r) is h =
+    too_deep table r (subst (λ t. trial_reading n ≡ Halted (CallsTooDeep t) r) (sym h) is) refl
+halted n s stop e is h = absurd h
 
 pub told : (n : ℕ) (old new : Standing) (o : Outcome) (text : List ℕ) (e : Ending) → trial_reading n ≡ e → IsTextOf n e text → Shows text old new o → Tries n old new o
 told n old new o text (WaitsAt p path r) is t s = shows o p path r is (subst (λ x. Shows x old new o) t s)
-told n old new o text (IsOver r) is t s = absurd t
-told n old new o text (RunsOut kind r) is t s = absurd t
-told n old new o text (CallsTooDeep table r) is t s = absurd t
-told n old new o text Unended is t s = absurd t
+told n old new o text _ is t s = absurd t
 
 -- where no call fails the line is shown
 shown_comes : (text : List ℕ) (old new : Standing) (first last : StageCall → ℕ) (o : Outcome) → Shows text old new o → IfOutside o (λ c. IsTrialCall c × Rose (first c) (last c)) →

@@ -10,7 +10,8 @@ use Rattle.paw_state.specs.State.{State}
 use Rattle.paw_journal.specs.Session.{Shown, recover}
 use Rattle.paw_journal.specs.declared.refusal.SessionPart.TheVariants as part
 use Rattle.paw_journal.specs.declared.refusal.JournalRefusal.{JournalRefusal}
-use Rattle.paw_reading.specs.Turn.{Ending, WaitsAt, IsOver, RunsOut, CallsTooDeep, Unended}
+use Rattle.paw_reading.specs.Reading.{IsOver, RunsOut, CallsTooDeep}
+use Rattle.paw_reading.specs.Turn.{Ending, WaitsAt, Halted, Unended}
 use Rattle.paw_trial.specs.Trial.{trial_reading}
 use Rattle.paw_play.specs.Play.{ShowsState, Refuses, store_bytes}
 use Rattle.paw_top.specs.Commands.{Command, Compile, Decompile, Walk, Trace, Play, Resume, Trial}
@@ -96,9 +97,9 @@ pub record CompletesPlay (name : List ℕ) (Such : GameLists → Outcome → Typ
 -- the answer that a trial is due, by how the reading of its lines ends
 abbrev pub due : Ending → Outcome
 due (WaitsAt p path r) = outcome.Done
-due (IsOver r) = outcome.Ended
-due (RunsOut kind r) = outcome.Spent kind
-due (CallsTooDeep table r) = outcome.TooDeep table
+due (Halted IsOver r) = outcome.Ended
+due (Halted (RunsOut kind) r) = outcome.Spent kind
+due (Halted (CallsTooDeep table) r) = outcome.TooDeep table
 due Unended = outcome.Done
 
 -- what a command comes to where the file that it loads is there

@@ -5,7 +5,7 @@ use Rattle.std.proofs.lemmas.List.{get_or_append_left, get_or-take}
 use Rattle.sha2.specs.Sha256.{sha256}
 use Rattle.paw_game.specs.Game.{GameLists}
 use Rattle.paw_game.specs.Image.{image}
-use Rattle.paw_reading.specs.Turn.{Ending, WaitsAt, IsOver, RunsOut, CallsTooDeep, Unended}
+use Rattle.paw_reading.specs.Turn.{Ending, WaitsAt}
 use Rattle.paw_journal.specs.Session.{Recovered, Shown, recover, state_length}
 use Rattle.paw_state.specs.State.{State}
 use Rattle.paw_state.specs.Record.{state_at}
@@ -46,10 +46,7 @@ module _ (g : GameLists) (n : ℕ) (buffer piece : List ℕ) (r : Recovered) (is
       let c = flag_at 38 (omega arith) in
       let d = flag_at 1 (omega arith) in
       cc
-  counts (IsOver s) settled w kept = absurd w
-  counts (RunsOut kind s) settled w kept = absurd w
-  counts (CallsTooDeep table s) settled w kept = absurd w
-  counts Unended settled w kept = absurd w
+  counts _ settled w kept = absurd w
 
 pub trial_counts : (n : ℕ) (bytes buffer piece : List ℕ) → n < 65536 → Waits (trial_reading n) → Stands (trial_story n) n (trial_lines n) bytes →
     recover bytes ≡ Shown (sha256 (image (trial_game n))) (take state_length buffer) piece → IsTallyOf (trial_reading n) (tally_in buffer)
@@ -76,7 +73,4 @@ told_counts n locations objects events (WaitsAt p path r) t text is l o ev e =
     e ∙ ap (λ (x : Counted). codes "TRIAL " ++ (decimal n ++ (codes ": " ++ (decimal x.locations ++ (codes " locations, " ++ (decimal x.objects ++ (codes " objects, "
     ++ (decimal x.events ++ (codes " events, " ++ (decimal x.tally.turns ++ (codes " turns, at " ++ (decimal x.tally.at ++ (codes " with " ++ (decimal x.tally.carried ++ codes "\n"))))))))))))))
     (all_counted n locations objects events t (tally_of r.world) l o ev is)
-told_counts n locations objects events (IsOver r) t text is l o ev e = absurd is
-told_counts n locations objects events (RunsOut kind r) t text is l o ev e = absurd is
-told_counts n locations objects events (CallsTooDeep table r) t text is l o ev e = absurd is
-told_counts n locations objects events Unended t text is l o ev e = absurd is
+told_counts n locations objects events _ t text is l o ev e = absurd is

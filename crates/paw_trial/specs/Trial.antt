@@ -3,7 +3,8 @@ use Rattle.std.specs.Prelude.{◌≡◌, ℕ, List, [], ◌++◌, codes, decimal
 use Rattle.paw_world.specs.World.{World, flag}
 use Rattle.paw_effects.specs.Counts.{turns_taken}
 use Rattle.paw_effects.specs.Story.{Story, story_of}
-use Rattle.paw_reading.specs.Turn.{Ending, WaitsAt, IsOver, RunsOut, CallsTooDeep, reading}
+use Rattle.paw_reading.specs.Reading.{IsOver, RunsOut, CallsTooDeep}
+use Rattle.paw_reading.specs.Turn.{Ending, WaitsAt, Halted, reading}
 use Rattle.paw_gen.specs.Trial.{trial_game, trial_lines, location_count, object_count, line_count}
 use Rattle.paw_trial.specs.declared.TrialEnd.{TrialEnd}
 use Rattle.paw_trial.specs.declared.TrialEnd.TheVariants as end
@@ -36,7 +37,7 @@ IsTextOf n _ text = ⊥
 -- a trial has no text where the reading ends otherwise, or where memory was wanting
 abbrev pub StopsAs : TrialEnd → Ending → Type 0
 StopsAs end.Memory e = Unit {0}
-StopsAs end.Ended (IsOver r) = Unit {0}
-StopsAs (end.Spent kind) (RunsOut found r) = kind ≡ found
-StopsAs (end.TooDeep table) (CallsTooDeep found r) = table ≡ found
+StopsAs end.Ended (Halted IsOver r) = Unit {0}
+StopsAs (end.Spent kind) (Halted (RunsOut found) r) = kind ≡ found
+StopsAs (end.TooDeep table) (Halted (CallsTooDeep found) r) = table ≡ found
 StopsAs _ _ = ⊥

@@ -14,9 +14,9 @@ use Rattle.paw_effects.specs.Texts.{say_text}
 use Rattle.paw_reading.specs.declared.places.Frame.{Frame}
 use Rattle.paw_reading.specs.declared.places.OpenLoop.{OpenLoop}
 use Rattle.paw_reading.specs.Run.{Run, closed, fits, printed, without_loop, line_dropped, anew, is_timeout, is_ignored, heard, with_timeout, reply, is_no}
-use Rattle.paw_reading.specs.Reading.{Out, Restarts, Ends, IsSpent, after_call, again, asked, looped, deeper, rest}
+use Rattle.paw_reading.specs.Reading.{IsOver, RunsOut, Restarts, Out, Stopped, halts, after_call, again, asked, looped, deeper, rest}
 use Rattle.paw_reading.specs.GoingOn.{on_path}
-use Rattle.paw_reading.specs.Turn.{Ending, IsOver, RunsOut, AtDescribe, Stage, table_done, turn, first_table}
+use Rattle.paw_reading.specs.Turn.{Ending, Halted, AtDescribe, Stage, table_done, turn, first_table}
 use Rattle.paw_process.specs.Meaning.{to_come}
 use Rattle.paw_turn.specs.declared.Step.TheVariants as step
 use Rattle.paw_turn.specs.declared.stage.Stage.TheVariants as stage
@@ -28,7 +28,7 @@ use Rattle.paw_turn.specs.Stages.{Past, run_of, PlaysAs, from_prompt, ChangesFla
 
 -- at no the game is over or the piece is spent, and else it starts anew
 abbrev final : Bool → Bool → Run → Run → Run → Out
-final declines fit e s d = if declines then (if fit then Ends e else IsSpent spent.Text s) else Restarts d
+final declines fit e s d = if declines then (if fit then halts IsOver e else halts (RunsOut spent.Text) s) else Stopped Restarts d
 
 -- the answer, once it is heard
 abbrev answer_of : Story → List ℕ → Run → Out
@@ -70,10 +70,10 @@ again_is g old line some hears n past lines =
 final_restarts : (g : Story) (go : Stage → Run → Ending) (t : ℕ) (declines fit : Bool) (e s d : Run) → declines ≡ false → table_done g go t (final declines fit e s d) ≡ go AtDescribe d
 final_restarts g go t declines fit e s d is = rw is refl
 
-final_ends : (g : Story) (go : Stage → Run → Ending) (t : ℕ) (declines fit : Bool) (e s d : Run) → declines ≡ true → fit ≡ true → table_done g go t (final declines fit e s d) ≡ IsOver e
+final_ends : (g : Story) (go : Stage → Run → Ending) (t : ℕ) (declines fit : Bool) (e s d : Run) → declines ≡ true → fit ≡ true → table_done g go t (final declines fit e s d) ≡ Halted IsOver e
 final_ends g go t declines fit e s d is fitting = rw (is, fitting) refl
 
-final_spends : (g : Story) (go : Stage → Run → Ending) (t : ℕ) (declines fit : Bool) (e s d : Run) → declines ≡ true → fit ≡ false → table_done g go t (final declines fit e s d) ≡ RunsOut spent.Text s
+final_spends : (g : Story) (go : Stage → Run → Ending) (t : ℕ) (declines fit : Bool) (e s d : Run) → declines ≡ true → fit ≡ false → table_done g go t (final declines fit e s d) ≡ Halted (RunsOut spent.Text) s
 final_spends g go t declines fit e s d is fitting = rw (is, fitting) refl
 
 -- at any answer but no the game starts anew
@@ -110,7 +110,7 @@ again_ends g old new line w some hears declines world fit piece stays bytes earl
         λ n lines. (
           n,
           again_is g old line some hears n past lines ∙ (final_ends g (turn g n) _ _ _ _ _ _ declines t
-              ∙ ap IsOver (held_is past lines (with_timeout (is_timeout line) old.world) (old.piece ++ text) new.world new.pending.bytes new.pending.earlier new.machine.turning new.piece world' bytes earlier turning piece')),
+              ∙ ap (Halted IsOver) (held_is past lines (with_timeout (is_timeout line) old.world) (old.piece ++ text) new.world new.pending.bytes new.pending.earlier new.machine.turning new.piece world' bytes earlier turning piece')),
         ),
       ),
     )

@@ -4,12 +4,13 @@ use Rattle.std.specs.Prelude.{nat_le}
 use Rattle.std.proofs.lemmas.Bool.Decides.{nat_tests}
 use Rattle.paw_base.specs.declared.fault.SpentKind.TheVariants as spent
 use Rattle.paw_reading.specs.Run.{Run, printed}
-use Rattle.paw_reading.specs.Turn.{Ending, RunsOut, saying}
+use Rattle.paw_reading.specs.Reading.{RunsOut}
+use Rattle.paw_reading.specs.Turn.{Ending, Halted, saying}
 
 -- a text that fits is printed
 pub said : (text : List ℕ) (go : Run → Ending) (r : Run) → length r.current + length text ≤ 65535 → saying text go r ≡ go (printed text r)
 said text go r h = let t : nat_le (length r.current + length text) 65535 ≡ true = grind (arith, nat_tests) in rw t refl
 
 -- at one that doesn't the piece is spent
-pub unsaid : (text : List ℕ) (go : Run → Ending) (r : Run) → 65535 < length r.current + length text → saying text go r ≡ RunsOut spent.Text r
+pub unsaid : (text : List ℕ) (go : Run → Ending) (r : Run) → 65535 < length r.current + length text → saying text go r ≡ Halted (RunsOut spent.Text) r
 unsaid text go r h = let t : nat_le (length r.current + length text) 65535 ≡ false = grind (arith, nat_tests) in rw t refl

@@ -12,7 +12,8 @@ use Rattle.paw_effects.specs.Opening.{opening_world}
 use Rattle.paw_effects.specs.Story.{Story}
 use Rattle.paw_reading.specs.declared.places.OpenLoop.{OpenLoop}
 use Rattle.paw_reading.specs.Run.{Run, Step as Read}
-use Rattle.paw_reading.specs.Turn.{Ending, IsOver, RunsOut, CallsTooDeep, first_table, on}
+use Rattle.paw_reading.specs.Reading.{Halt, IsOver, RunsOut, CallsTooDeep}
+use Rattle.paw_reading.specs.Turn.{Ending, Halted, first_table, on}
 use Rattle.paw_reading.specs.Places.{StandsRightly}
 use Rattle.paw_process.specs.OpenTables.{OpenTables, IsWaiting, IsClosed}
 use Rattle.paw_turn.specs.declared.Step.{Step}
@@ -47,20 +48,25 @@ run_with w m p pieces traces lines = record {
 abbrev pub run_at : {F : Type 0} → Seat F → List (List ℕ) → List (List Read) → List (List ℕ) → Run
 run_at p pieces traces lines = run_with p.world p.machine p.pending pieces traces lines
 
--- Playing on in a story comes to this: whatever lines come after, the whole reading of them goes on from the player's prompt
--- with one piece more; or is over with one piece more, as the player stands; or is spent, or a call is too deep, with no piece
--- more and none to show. Of what was read in the piece that was closed the player keeps the steps
+-- whatever lines come after, the whole reading of them ends so, with no piece more and none to show
+abbrev pub PlayHalts : {F : Type 0} → (List (List ℕ) → Ending) → Halt → Seat F → List (List ℕ) → List (List Read) →
+    Type 0
+PlayHalts whole halt new pieces traces =
+    (new.piece ≡ []) × ((lines : List (List ℕ)) → (r : Run) × (whole lines ≡ Halted halt r)
+    × (r.pieces ≡ pieces) × (r.traces ≡ traces) × (r.events ≡ lines))
+
+-- Playing on in a story comes to this: whatever lines come after, the whole reading of them goes on from the player's
+-- prompt with one piece more; or is over with one piece more, as the player stands; or is spent, or a call is too deep,
+-- with no piece more and none to show. Of what was read in the piece that was closed the player keeps the steps
 abbrev pub PlaysTo : {F : Type 0} → Story → (List (List ℕ) → Ending) → Step → Seat F → List (List ℕ) → List (List Read) → Type 0
 PlaysTo g whole (step.Waits p) new pieces traces =
     (read : List Read) × ((new.machine.steps ≡ kept_steps read) × ((lines : List (List ℕ)) →
     whole lines ≡ on g p (reverse new.machine.frames) (run_at new (pieces ++ new.piece ∷ []) (traces ++ read ∷ []) lines)))
 PlaysTo g whole step.Ended new pieces traces =
     (read : List Read) × ((new.machine.steps ≡ kept_steps read) × ((lines : List (List ℕ)) →
-    whole lines ≡ IsOver (run_at new (pieces ++ new.piece ∷ []) (traces ++ read ∷ []) lines)))
-PlaysTo g whole (step.Spent kind) new pieces traces =
-    (new.piece ≡ []) × ((lines : List (List ℕ)) → (r : Run) × (whole lines ≡ RunsOut kind r) × (r.pieces ≡ pieces) × (r.traces ≡ traces) × (r.events ≡ lines))
-PlaysTo g whole (step.TooDeep u) new pieces traces =
-    (new.piece ≡ []) × ((lines : List (List ℕ)) → (r : Run) × (whole lines ≡ CallsTooDeep u r) × (r.pieces ≡ pieces) × (r.traces ≡ traces) × (r.events ≡ lines))
+    whole lines ≡ Halted IsOver (run_at new (pieces ++ new.piece ∷ []) (traces ++ read ∷ []) lines)))
+PlaysTo g whole (step.Spent kind) new pieces traces = PlayHalts whole (RunsOut kind) new pieces traces
+PlaysTo g whole (step.TooDeep u) new pieces traces = PlayHalts whole (CallsTooDeep u) new pieces traces
 
 -- a loop of the outermost level belongs to this table
 abbrev pub IsLoopOf : ℕ → Option OpenLoop → Type 0

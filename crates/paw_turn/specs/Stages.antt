@@ -11,10 +11,10 @@ use Rattle.paw_effects.specs.Built.{IsOf}
 use Rattle.paw_effects.specs.Story.{Story}
 use Rattle.paw_reading.specs.declared.places.Frame.{Frame}
 use Rattle.paw_reading.specs.Run.{Run, Step as Read, closed}
-use Rattle.paw_reading.specs.Reading.{Out, table_read}
+use Rattle.paw_reading.specs.Reading.{Halt, IsOver, RunsOut, CallsTooDeep, Out, table_read}
 use Rattle.paw_reading.specs.GoingOn.{on_path}
-use Rattle.paw_reading.specs.Turn.{Ending, IsOver, RunsOut, CallsTooDeep, AtDescribe, AtFrame, AtPhrase, AtResponse, table_done, turn, first_table, goes_on}
-use Rattle.paw_reading.specs.Turn.{Stage as TurnStage}
+use Rattle.paw_reading.specs.Turn.{Ending, Halted, AtDescribe, AtFrame, AtPhrase, AtResponse, table_done, turn, first_table, goes_on}
+use Rattle.paw_reading.specs.Turn.{Ending, Halted, Stage as TurnStage}
 use Rattle.paw_process.specs.OpenTables.{OpenTables, HasRead, IsClosed}
 use Rattle.paw_process.specs.Meaning.{SamePast, ComesTo}
 use Rattle.paw_process.specs.declared.Turned.{Turned}
@@ -65,13 +65,17 @@ at_stage stage.Frame = AtFrame
 at_stage stage.Phrase = AtPhrase
 at_stage stage.Response = AtResponse
 
--- a turn stops here: it waits along the frames, or it is over, with the piece closed; or it is spent or a call is too deep,
--- with no piece more
+-- a turn ends so for good, in a run with the same past
+abbrev pub TurnHalts : Halt → Run → Ending → Type 0
+TurnHalts halt r x = (s : Run) × (x ≡ Halted halt s) × SamePast r s
+
+-- a turn stops here: it waits along the frames, or it is over, with the piece closed; or it is spent or a call is too
+-- deep, with no piece more
 abbrev pub StopsAs : Story → ℕ → Step → List Frame → Run → Ending → Type 0
 StopsAs g n (step.Waits p) fs r x = x ≡ goes_on g n p (reverse fs) (closed r)
-StopsAs g n step.Ended fs r x = x ≡ IsOver (closed r)
-StopsAs g n (step.Spent kind) fs r x = (s : Run) × (x ≡ RunsOut kind s) × SamePast r s
-StopsAs g n (step.TooDeep u) fs r x = (s : Run) × (x ≡ CallsTooDeep u s) × SamePast r s
+StopsAs g n step.Ended fs r x = x ≡ Halted IsOver (closed r)
+StopsAs g n (step.Spent kind) fs r x = TurnHalts (RunsOut kind) r x
+StopsAs g n (step.TooDeep u) fs r x = TurnHalts (CallsTooDeep u) r x
 
 -- what a turn comes to is going on with the next stage, or it stops here
 abbrev pub GoesOnAs : Story → ℕ → Next → List Frame → Run → Ending → Type 0
