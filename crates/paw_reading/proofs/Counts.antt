@@ -1,30 +1,28 @@
 -- Reading closes one piece for each line, and one before them.
 use Rattle.std.proofs.Common.{◌≡◌, ℕ, zero, suc, ◌+◌, ◌-◌, Bool, true, false, ◌||◌, List, [], ◌∷◌, Option, Some, None, refl, drop, length, arith, length-append}
-use Rattle.std.specs.Prelude.{nat_lt, if◌then◌else◌}
-use Rattle.paw_base.specs.declared.messages.TheConstants.{QUIT_MESSAGE, GOODBYE_MESSAGE, UNKNOWN_MESSAGE}
+use Rattle.std.specs.Prelude.{nat_lt}
 use Rattle.paw_base.specs.declared.parts.Condact.{Condact}
 use Rattle.paw_base.specs.declared.fault.SpentKind.TheVariants as spent
 use Rattle.paw_game.specs.declared.parts.Entry.{Entry}
 use Rattle.paw_effects.specs.Story.{Story}
 use Rattle.paw_game.specs.Tables.{table_at, entry_at, condacts_of, exit_at}
 use Rattle.paw_world.specs.World.{flag, with_flag}
-use Rattle.paw_phrase.specs.Sentence.{Parsed, IsSentence, IsUnknown, IsNoPhrase, parsed}
+use Rattle.paw_phrase.specs.Sentence.{Parsed, IsSentence, IsUnknown, IsNoPhrase}
 use Rattle.paw_effects.specs.declared.act.Prompt.{Prompt}
 use Rattle.paw_effects.specs.declared.act.Prompt.TheVariants as prompt
 use Rattle.paw_effects.specs.declared.act.Truth.{Truth}
 use Rattle.paw_effects.specs.declared.act.Truth.TheVariants as truth
 use Rattle.paw_effects.specs.declared.act.Effect.{Effect}
 use Rattle.paw_effects.specs.declared.act.Effect.TheVariants as effect
-use Rattle.paw_effects.specs.Texts.{put_text, say_text}
 use Rattle.paw_effects.specs.Holds.{is_condition, holds}
 use Rattle.paw_effects.specs.Effects.{Done, effect_of}
 use Rattle.paw_reading.specs.declared.places.Frame.{Frame}
 use Rattle.paw_reading.specs.declared.places.OpenLoop.{OpenLoop}
-use Rattle.paw_reading.specs.Run.{Run, closed, fits, printed, with_world, without_loop, line_dropped, anew, is_timeout, is_ignored, heard, with_timeout, reply, is_yes, is_no, taken_phrase}
-use Rattle.paw_reading.specs.Reading.{IsOver, RunsOut, Redescribes, Restarts, Halts, Out, Left, Waits, Stopped, halts, noted, after_call, at_level, again, is_taken, taken, turns, loop_of, over, answered, asked, waits, after_test, after_parse, after_action, carried_out, acts, reads_one, condacts, is_for_now, entries, plain, looped, reads, called, deeper, rest, table_read, phrase_of}
-use Rattle.paw_reading.specs.Turn.{Stage, AtDescribe, AtFrame, AtPhrase, AtResponse, Ending, Halted, saying, described, framed, view_text, counted, prompt_text, line_set, at_main, after_phrase, refusal_text, connected, after_left, table_done, turn, stages_left, opening, timeout_text}
+use Rattle.paw_reading.specs.Run.{Run, closed, fits, printed, with_world, without_loop, line_dropped, anew, is_timeout, is_ignored, heard, reply, is_yes, is_no, taken_phrase}
+use Rattle.paw_reading.specs.Reading.{IsOver, RunsOut, Redescribes, Restarts, Halts, Out, Left, Waits, Stopped, halts, noted, after_call, at_level, again, is_taken, taken, turns, loop_of, over, answered, asked, waits, after_test, after_parse, after_action, carried_out, acts, reads_one, condacts, is_for_now, entries, plain, looped, reads, called, deeper, rest, table_read, phrase_of, goodbye, ended, quit_question}
+use Rattle.paw_reading.specs.Turn.{Stage, AtDescribe, AtFrame, AtPhrase, AtResponse, Ending, Halted, saying, described, framed, view_text, counted, prompt_text, line_set, at_main, after_phrase, refusal_text, connected, after_left, table_done, turn, stages_left, opening, timeout_text, unknown_text}
 use Rattle.paw_reading.specs.Pieces.{count, Counted, PiecesOfLines}
-use Rattle.paw_reading.proofs.Keeps.{either, open_or_not}
+use Rattle.paw_reading.proofs.Keeps.{either, open_or_not, prints}
 
 -- what reading tables comes to where v pieces and lines were there
 abbrev pub Counts : ℕ → Out → Type 0
@@ -71,13 +69,14 @@ after_call_counts f go h v (Stopped stop r) k = k
 
 over_counts : (g : Story) → IsCounting (over g)
 over_counts g v r k =
-    either (Counts v) (fits r (say_text g.game r.world GOODBYE_MESSAGE)) (halts IsOver (closed (without_loop (line_dropped (printed (say_text g.game r.world GOODBYE_MESSAGE) r))))) (halts (RunsOut spent.Text) r)
-    (omega (arith, closed_counts (without_loop (line_dropped (printed (say_text g.game r.world GOODBYE_MESSAGE) r))), k)) k
+    let last : Run = without_loop (line_dropped (printed (goodbye g r) r)) in
+    prints (Counts v) (goodbye g r) ended r (omega (arith, closed_counts last, k)) k
 
 answered_counts : (g : Story) (p : Prompt) (f : Frame) (go : Bool → Run → Out) → AreCounting go → (line : List ℕ) → IsCounting (answered g p f go line)
 answered_counts g prompt.Main f go h line v r k = h f.acted v r k
 answered_counts g prompt.Quit f go h line v r k = either (Counts v) (is_yes line) _ (Left true r) (h f.acted v r k) k
-answered_counts g prompt.Again f go h line v r k = either (Counts v) (is_no line) (over g r) (Stopped Restarts (anew r)) (over_counts g v r k) k
+answered_counts g prompt.Again f go h line v r k =
+    either (Counts v) (is_no line) (over g r) (Stopped Restarts (anew r)) (over_counts g v r k) k
 answered_counts g prompt.Key f go h line v r k = h true v r k
 answered_counts g prompt.Over f go h line v r k = h f.acted v r k
 
@@ -107,8 +106,8 @@ module _ (g : Story) (sub : ℕ → Run → Out) (lv : ℕ) (calls : CallsCounti
   after_test_counts f next go hn hg c truth.Yes v r k = hg f.acted v (noted f c true r) k
   after_test_counts f next go hn hg c truth.No v r k = hn f.acted v (noted f c false r) k
   after_test_counts f next go hn hg c truth.Ask v r k =
-      either (Counts v) (fits (noted f c true r) (put_text g.game r.world QUIT_MESSAGE)) _ (halts (RunsOut spent.Text) (noted f c true r))
-      (waits_counts g prompt.Quit f go hg v (printed (put_text g.game r.world QUIT_MESSAGE) (noted f c true r)) k) k
+      prints (Counts v) (quit_question g r) (waits g prompt.Quit f go) (noted f c true r)
+      (waits_counts g prompt.Quit f go hg v (printed (quit_question g r) (noted f c true r)) k) k
 
   after_action_counts : (f : Frame) (next go : Bool → Run → Out) → AreCounting next → AreCounting go → (e : Effect) → IsCounting (after_action g sub lv f next go e)
   after_action_counts f next go hn hg effect.Go v r k = hg true v r k
@@ -123,7 +122,8 @@ module _ (g : Story) (sub : ℕ → Run → Out) (lv : ℕ) (calls : CallsCounti
 
   acts_count : (f : Frame) (next go : Bool → Run → Out) → AreCounting next → AreCounting go → (d : Done) → IsCounting (acts g sub lv f next go d)
   acts_count f next go hn hg d v r k =
-      either (Counts v) (fits r d.text) _ (halts (RunsOut spent.Text) r) (after_action_counts f next go hn hg d.act.effect v (carried_out d (printed d.text r)) k) k
+      either (Counts v) (fits r d.text) _ (halts (RunsOut spent.Text) r)
+      (after_action_counts f next go hn hg d.act.effect v (carried_out d (printed d.text r)) k) k
 
   reads_one_counts : (f : Frame) (next go : Bool → Run → Out) → AreCounting next → AreCounting go → (c : Condact) → IsCounting (reads_one g sub lv f next go c)
   reads_one_counts f next go hn hg c v r k =
@@ -172,13 +172,9 @@ table_counts g t = reads_count g (deeper g 0) 0 (called_counts g 10 0) t 0 0 fal
 abbrev TurnsCounting : (Run → Ending) → Type 0
 TurnsCounting go = (v : ℕ) (r : Run) → count r ≡ v → Counted v (go r)
 
--- what holds in both cases
-one_of : (P : Ending → Type 0) (b : Bool) (x y : Ending) → P x → P y → P (if b then x else y)
-one_of P true x y h k = h
-one_of P false x y h k = k
-
 saying_counts : (text : List ℕ) (go : Run → Ending) → TurnsCounting go → TurnsCounting (saying text go)
-saying_counts text go h v r k = one_of (Counted v) (fits r text) _ (Halted (RunsOut spent.Text) r) (h v (printed text r) k) k
+saying_counts text go h v r k =
+    either (Counted v) (fits r text) _ (Halted (RunsOut spent.Text) r) (h v (printed text r) k) k
 
 module _ (g : Story) (go : Stage → Run → Ending) (counts : (s : Stage) → TurnsCounting (go s)) where
   connected_counts : (to : Option ℕ) → TurnsCounting (λ r. connected g (go AtDescribe) (go AtFrame) r to)
@@ -208,15 +204,16 @@ module _ (g : Story) (go : Stage → Run → Ending) (counts : (s : Stage) → T
   at_main_counts v r (line ∷ lines) k =
       let s : Run = record r { events = lines } in
       let k' : count s ≡ v = omega (arith, k) in
-      one_of (Counted v) (is_ignored r.world line) _ _
+      either (Counted v) (is_ignored r.world line) _ _
       (at_main_counts v (closed s) lines (omega (arith, closed_counts s, k')))
-      (one_of (Counted v) (is_timeout line) _ _
+      (either (Counted v) (is_timeout line) _ _
       (saying_counts (timeout_text g.game r.world) (go AtFrame) (counts AtFrame) v (heard line s) k')
       (counts AtPhrase v (line_set line s) k'))
 
   after_phrase_counts : (p : Parsed) → TurnsCounting (λ r. after_phrase g (go AtFrame) (go AtPhrase) (go AtResponse) r p)
   after_phrase_counts (IsSentence s rest) v r k = counts AtResponse v (with_world (counted (taken_phrase s rest r).world) (taken_phrase s rest r)) k
-  after_phrase_counts (IsUnknown rest) v r k = saying_counts (say_text g.game r.world UNKNOWN_MESSAGE) (go AtFrame) (counts AtFrame) v (line_dropped r) k
+  after_phrase_counts (IsUnknown rest) v r k =
+      saying_counts (unknown_text g.game r.world) (go AtFrame) (counts AtFrame) v (line_dropped r) k
   after_phrase_counts IsNoPhrase v r k =
       saying_counts (prompt_text g.game r.world) (λ s. at_main g (go AtFrame) (go AtPhrase) (closed s) s.events)
       (λ w s h. at_main_counts w (closed s) s.events (omega (arith, closed_counts s, h))) v (line_dropped r) k

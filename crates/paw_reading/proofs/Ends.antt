@@ -1,7 +1,6 @@
 -- Turns end, and more stages change nothing.
 use Rattle.std.proofs.Common.{◌≡◌, ◌≢◌, ℕ, zero, suc, ◌+◌, ◌-◌, ◌*◌, ◌≤◌, ◌<◌, Bool, true, false, List, [], ◌∷◌, ◌⊎◌, inl, inr, Option, Some, None, refl, sym, ◌∙◌, length, arith}
 use Rattle.std.specs.Prelude.{if◌then◌else◌}
-use Rattle.paw_base.specs.declared.messages.TheConstants.{UNKNOWN_MESSAGE}
 use Rattle.paw_base.specs.declared.fault.SpentKind.TheVariants as spent
 use Rattle.paw_effects.specs.Story.{Story}
 use Rattle.paw_game.specs.Tables.{exit_at}
@@ -14,7 +13,7 @@ use Rattle.paw_effects.specs.Texts.{say_text}
 use Rattle.paw_reading.specs.declared.places.Frame.{Frame}
 use Rattle.paw_reading.specs.Run.{Run, closed, fits, printed, with_world, line_dropped, is_timeout, is_ignored, heard, with_timeout}
 use Rattle.paw_reading.specs.Reading.{RunsOut, Redescribes, Restarts, Halts, Out, Left, Waits, Stopped, table_read}
-use Rattle.paw_reading.specs.Turn.{Stage, AtDescribe, AtFrame, AtPhrase, AtResponse, Ending, Halted, Unended, saying, described, framed, view_text, prompt_text, line_set, at_main, after_phrase, refusal_text, connected, responded, after_left, table_done, turn, left_to_read, stages_left, first_table, in_table, goes_on, TurnsEnd, EndsOnce, GoingOnEnds, GoesOnOnce}
+use Rattle.paw_reading.specs.Turn.{Stage, AtDescribe, AtFrame, AtPhrase, AtResponse, Ending, Halted, Unended, saying, described, framed, view_text, prompt_text, line_set, at_main, after_phrase, refusal_text, connected, responded, after_left, table_done, turn, left_to_read, stages_left, first_table, in_table, goes_on, TurnsEnd, EndsOnce, GoingOnEnds, GoesOnOnce, unknown_text}
 use Rattle.paw_reading.proofs.Spends.{brought, brought_more, Spends, table_spends, path_spends}
 
 -- ---- turns end ----
@@ -87,7 +86,8 @@ after_phrase_ends : (g : Story) (n : ℕ) (go : Stage → Run → Ending) → En
     Leaves (λ rest. length rest < length r.pending) p → after_phrase g (go AtFrame) (go AtPhrase) (go AtResponse) r p ≢ Unended
 after_phrase_ends g n go h r k (IsSentence s rest) less = h AtResponse _ (omega arith)
 after_phrase_ends g n go h r k (IsUnknown rest) less =
-    saying_ends (say_text g.game r.world UNKNOWN_MESSAGE) (go AtFrame) (line_dropped r) (h AtFrame (printed (say_text g.game r.world UNKNOWN_MESSAGE) (line_dropped r)) (omega arith))
+    let text : List ℕ = unknown_text g.game r.world in
+    saying_ends text (go AtFrame) (line_dropped r) (h AtFrame (printed text (line_dropped r)) (omega arith))
 after_phrase_ends g n go h r k IsNoPhrase less =
     let text : List ℕ = prompt_text g.game r.world in
     let shown : Run = closed (printed text (line_dropped r)) in
@@ -148,7 +148,8 @@ saying_more : (text : List ℕ) (go more : Run → Ending) (r : Run) → ((s : R
 saying_more text go more r h = by_test (fits r text)
   where
     by_test : (b : Bool) → (if b then go (printed text r) else Halted (RunsOut spent.Text) r) ≢ Unended →
-        (if b then more (printed text r) else Halted (RunsOut spent.Text) r) ≡ (if b then go (printed text r) else Halted (RunsOut spent.Text) r)
+        (if b then more (printed text r) else Halted (RunsOut spent.Text) r)
+        ≡ (if b then go (printed text r) else Halted (RunsOut spent.Text) r)
     by_test true k = h (printed text r) k
     by_test false k = refl
 

@@ -2,27 +2,24 @@
 use Rattle.std.proofs.Common.{◌≡◌, ℕ, zero, suc, ◌+◌, ◌-◌, ◌≤◌, ◌<◌, Bool, true, false, ◌||◌, List, [], ◌∷◌, ◌++◌, inl, inr, Option, Some, None, refl, sym, ap, ◌∙◌, length, arith, append_assoc}
 use Rattle.std.specs.Prelude.{if◌then◌else◌, nat_lt}
 use Rattle.std.proofs.lemmas.Option.{slice_get_past}
-use Rattle.paw_base.specs.declared.messages.TheConstants.{QUIT_MESSAGE, GOODBYE_MESSAGE}
 use Rattle.paw_base.specs.declared.parts.Condact.{Condact}
 use Rattle.paw_base.specs.declared.fault.SpentKind.TheVariants as spent
 use Rattle.paw_game.specs.declared.parts.Entry.{Entry}
 use Rattle.paw_effects.specs.Story.{Story}
 use Rattle.paw_game.specs.Tables.{table_at, entry_at, condacts_of, condact_at}
-use Rattle.paw_phrase.specs.Sentence.{Parsed, IsSentence, IsUnknown, IsNoPhrase, parsed}
-use Rattle.paw_world.specs.World.{flag}
+use Rattle.paw_phrase.specs.Sentence.{Parsed, IsSentence, IsUnknown, IsNoPhrase}
 use Rattle.paw_effects.specs.declared.act.Prompt.{Prompt}
 use Rattle.paw_effects.specs.declared.act.Prompt.TheVariants as prompt
 use Rattle.paw_effects.specs.declared.act.Truth.{Truth}
 use Rattle.paw_effects.specs.declared.act.Truth.TheVariants as truth
 use Rattle.paw_effects.specs.declared.act.Effect.{Effect}
 use Rattle.paw_effects.specs.declared.act.Effect.TheVariants as effect
-use Rattle.paw_effects.specs.Texts.{put_text, say_text}
 use Rattle.paw_effects.specs.Holds.{is_condition, holds}
 use Rattle.paw_effects.specs.Effects.{Done, effect_of}
 use Rattle.paw_reading.specs.declared.places.Frame.{Frame}
 use Rattle.paw_reading.specs.declared.places.OpenLoop.{OpenLoop}
 use Rattle.paw_reading.specs.Run.{Run, Step, closed, fits, printed, with_world, without_loop, line_dropped, anew, is_ignored, heard, reply, is_yes, is_no, taken_phrase}
-use Rattle.paw_reading.specs.Reading.{IsOver, RunsOut, Restarts, Out, Left, Waits, Stopped, halts, noted, printing, after_call, at_level, if_open, again, is_taken, taken, turns, loop_of, over, answered, asked, waits, after_test, after_parse, after_action, carried_out, acts, reads_one, is_for_now, inside, plain, looped, deeper, rest, phrase_of}
+use Rattle.paw_reading.specs.Reading.{IsOver, RunsOut, Restarts, Out, Left, Waits, Stopped, halts, noted, printing, after_call, at_level, if_open, again, is_taken, taken, turns, loop_of, over, answered, asked, waits, after_test, after_parse, after_action, carried_out, acts, reads_one, is_for_now, inside, plain, looped, deeper, rest, phrase_of, goodbye, ended, quit_question}
 use Rattle.paw_reading.specs.GoingOn.{on_path}
 use Rattle.paw_reading.proofs.Keeps.{Keeps, at_level_own, at_level_is, turns_closes, plain_keeps, looped_closes, deeper_keeps}
 use Rattle.paw_reading.proofs.Rules.{inside_end, inside_condact, again_closed, again_again, after_call_again, deeper_rest, deeper_none}
@@ -76,7 +73,8 @@ module _ (g : Story) (ps : List (List ℕ)) (ts : List (List Step)) (lines : Lis
     settles_printing : (text : List ℕ) (go : Run → Out) (r : Run) → loops lv (go (around ps ts lines (printed text r))) ≡ settles lv (go (printed text r)) →
         loops lv (printing text go (around ps ts lines r)) ≡ settles lv (printing text go r)
     settles_printing text go r h =
-        settles_or (fits r text) (go (around ps ts lines (printed text r))) (halts (RunsOut spent.Text) (around ps ts lines r)) (go (printed text r)) (halts (RunsOut spent.Text) r) h refl
+        settles_or (fits r text) (go (around ps ts lines (printed text r)))
+        (halts (RunsOut spent.Text) (around ps ts lines r)) (go (printed text r)) (halts (RunsOut spent.Text) r) h refl
 
     -- ---- calls ----
 
@@ -93,13 +91,14 @@ module _ (g : Story) (ps : List (List ℕ)) (ts : List (List Step)) (lines : Lis
 
     settles_over : IsSettling lv (over g)
     settles_over r =
-        settles_printing (say_text g.game r.world GOODBYE_MESSAGE) (λ s. halts IsOver (closed (without_loop (line_dropped s)))) r
-        (ap (halts IsOver) (closed_around ps ts lines (without_loop (line_dropped (printed (say_text g.game r.world GOODBYE_MESSAGE) r)))))
+        settles_printing (goodbye g r) ended r
+        (ap (halts IsOver) (closed_around ps ts lines (without_loop (line_dropped (printed (goodbye g r) r)))))
 
     settles_answered : (p : Prompt) (f : Frame) (go : Bool → Run → Out) → ((a : Bool) → IsSettling lv (go a)) → (line : List ℕ) → IsSettling lv (answered g p f go line)
     settles_answered prompt.Main f go hg line r = hg f.acted r
     settles_answered prompt.Quit f go hg line r = settles_or (is_yes line) _ _ (go f.acted r) (Left true r) (hg f.acted r) refl
-    settles_answered prompt.Again f go hg line r = settles_or (is_no line) _ _ (over g r) (Stopped Restarts (anew r)) (settles_over r) refl
+    settles_answered prompt.Again f go hg line r =
+        settles_or (is_no line) _ _ (over g r) (Stopped Restarts (anew r)) (settles_over r) refl
     settles_answered prompt.Key f go hg line r = hg true r
     settles_answered prompt.Over f go hg line r = hg f.acted r
 
@@ -193,7 +192,8 @@ module _ (g : Story) (ps : List (List ℕ)) (ts : List (List Step)) (lines : Lis
       settles_test f hn hg c r truth.Yes = hg f.acted (noted f c true r)
       settles_test f hn hg c r truth.No = hn f.acted (noted f c false r)
       settles_test f hn hg c r truth.Ask =
-          settles_printing (put_text g.game r.world QUIT_MESSAGE) (waits g prompt.Quit f (past_of lv f)) (noted f c true r) (settles_waits prompt.Quit f hg (printed (put_text g.game r.world QUIT_MESSAGE) (noted f c true r)))
+          settles_printing (quit_question g r) (waits g prompt.Quit f (past_of lv f)) (noted f c true r)
+          (settles_waits prompt.Quit f hg (printed (quit_question g r) (noted f c true r)))
 
       settles_one : (f : Frame) → ((a : Bool) → IsSettling lv (next_of lv f a)) →
           ((a : Bool) → IsSettling lv (past_of lv f a)) → (c : Condact) →
@@ -217,7 +217,8 @@ module _ (g : Story) (ps : List (List ℕ)) (ts : List (List Step)) (lines : Lis
           at_condact None n ih = rw (inside_end g (deeper g lv) lv t e k a (around ps ts lines r) n, inside_end g (deeper g lv) lv t e k a r n) (hn a r)
           at_condact (Some c) n ih =
               rw (inside_condact g (deeper g lv) lv t e k a (around ps ts lines r) c n, inside_condact g (deeper g lv) lv t e k a r c n)
-              (settles_or (nat_lt (length r.read) 200000) _ (halts (RunsOut spent.Condacts) (around ps ts lines r)) _ (halts (RunsOut spent.Condacts) r)
+              (settles_or (nat_lt (length r.read) 200000) _ (halts (RunsOut spent.Condacts) (around ps ts lines r)) _
+              (halts (RunsOut spent.Condacts) r)
               (settles_one (record { table = t; entry = e; at = k; acted = a }) hn ih c r) refl)
 
       settles_entries : (t m e : ℕ) → length (table_at g.game t) ≤ e + m → (a : Bool) → IsSettling lv (plain g (deeper g lv) lv t e 0 a)

@@ -1,20 +1,18 @@
 -- Turns with more lines are turns with fewer, and then going on from where these wait.
 use Rattle.std.proofs.Common.{◌≡◌, ◌≢◌, ℕ, zero, suc, ◌+◌, Bool, true, false, List, [], ◌∷◌, ◌++◌, inl, inr, Option, Some, None, refl, sym, ◌∙◌, subst, arith}
 use Rattle.std.specs.Prelude.{if◌then◌else◌}
-use Rattle.paw_base.specs.declared.messages.TheConstants.{UNKNOWN_MESSAGE}
 use Rattle.paw_base.specs.declared.fault.SpentKind.TheVariants as spent
 use Rattle.paw_effects.specs.Story.{Story}
 use Rattle.paw_game.specs.Tables.{exit_at}
 use Rattle.paw_world.specs.World.{flag, with_flag}
-use Rattle.paw_phrase.specs.Sentence.{Parsed, IsSentence, IsUnknown, IsNoPhrase, parsed}
+use Rattle.paw_phrase.specs.Sentence.{Parsed, IsSentence, IsUnknown, IsNoPhrase}
 use Rattle.paw_effects.specs.declared.act.Prompt.{Prompt}
 use Rattle.paw_effects.specs.declared.act.Prompt.TheVariants as prompt
-use Rattle.paw_effects.specs.Texts.{say_text}
 use Rattle.paw_reading.specs.declared.places.Frame.{Frame}
-use Rattle.paw_reading.specs.Run.{Run, closed, fits, printed, with_world, line_dropped, is_timeout, is_ignored, heard, with_timeout, taken_phrase}
+use Rattle.paw_reading.specs.Run.{Run, closed, fits, printed, with_world, line_dropped, is_timeout, is_ignored, heard, taken_phrase}
 use Rattle.paw_reading.specs.Reading.{RunsOut, Redescribes, Restarts, Halts, Out, Left, Waits, Stopped, deeper, table_read, phrase_of}
 use Rattle.paw_reading.specs.GoingOn.{on_path, with_lines, extended}
-use Rattle.paw_reading.specs.Turn.{Stage, AtDescribe, AtFrame, AtPhrase, AtResponse, Ending, WaitsAt, Halted, Unended, saying, described, framed, view_text, counted, prompt_text, line_set, at_main, after_phrase, refusal_text, connected, after_left, table_done, turn, stages_left, turns_from, opening, first_table, goes_on, followed, GoingOnIsReading, timeout_text}
+use Rattle.paw_reading.specs.Turn.{Stage, AtDescribe, AtFrame, AtPhrase, AtResponse, Ending, WaitsAt, Halted, Unended, saying, described, framed, view_text, counted, prompt_text, line_set, at_main, after_phrase, refusal_text, connected, after_left, table_done, turn, stages_left, turns_from, opening, first_table, goes_on, followed, GoingOnIsReading, timeout_text, unknown_text}
 use Rattle.paw_reading.specs.Longer.{TurnsGoOn}
 use Rattle.paw_reading.proofs.Keeps.{Keeps, IsLoopOf, reads_keeps, deeper_keeps}
 use Rattle.paw_reading.proofs.Stops.{Stops, rest_stops}
@@ -104,7 +102,8 @@ module _ (g : Story) (lines : List (List ℕ)) where
         (saying (timeout_text g.game r.world) (go AtFrame) (heard line (record r { events = es })))
         (go AtPhrase (line_set line (record r { events = es })))
         (at_main_follows (closed (record r { events = es })) es none)
-        (saying_follows m (timeout_text g.game r.world) (go AtFrame) (more AtFrame) (heard line (record r { events = es }))
+        (saying_follows m (timeout_text g.game r.world) (go AtFrame) (more AtFrame)
+        (heard line (record r { events = es }))
         (follows AtFrame (printed (timeout_text g.game r.world) (heard line (record r { events = es }))) none))
         (follows AtPhrase (line_set line (record r { events = es })) none) k
       where
@@ -118,7 +117,9 @@ module _ (g : Story) (lines : List (List ℕ)) where
         Follows m (after_phrase g (go AtFrame) (go AtPhrase) (go AtResponse) r p) (after_phrase g (more AtFrame) (more AtPhrase) (more AtResponse) (with_lines lines r) p)
     after_phrase_follows r none (IsSentence s rest) k = follows AtResponse (with_world (counted (taken_phrase s rest r).world) (taken_phrase s rest r)) none k
     after_phrase_follows r none (IsUnknown rest) k =
-        saying_follows m (say_text g.game r.world UNKNOWN_MESSAGE) (go AtFrame) (more AtFrame) (line_dropped r) (follows AtFrame (printed (say_text g.game r.world UNKNOWN_MESSAGE) (line_dropped r)) none) k
+        let text : List ℕ = unknown_text g.game r.world in
+        saying_follows m text (go AtFrame) (more AtFrame) (line_dropped r)
+        (follows AtFrame (printed text (line_dropped r)) none) k
     after_phrase_follows r none IsNoPhrase k =
         saying_follows m (prompt_text g.game r.world) (λ s. at_main g (go AtFrame) (go AtPhrase) (closed s) s.events) (λ s. at_main g (more AtFrame) (more AtPhrase) (closed s) s.events) (line_dropped r)
         (at_main_follows (closed (printed (prompt_text g.game r.world) (line_dropped r))) r.events none) k

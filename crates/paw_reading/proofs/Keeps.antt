@@ -3,7 +3,6 @@ use Rattle.std.proofs.Common.{◌≡◌, ℕ, zero, suc, ◌-◌, Bool, true, fa
 use Rattle.std.specs.Prelude.{◌==◌, if◌then◌else◌, nat_lt, IfSome}
 use Rattle.std.proofs.lemmas.Bool.Decides.{nat_tests}
 use Rattle.std.proofs.lemmas.Bool.{eqb-true}
-use Rattle.paw_base.specs.declared.messages.TheConstants.{QUIT_MESSAGE, GOODBYE_MESSAGE}
 use Rattle.paw_base.specs.declared.parts.Condact.{Condact}
 use Rattle.paw_base.specs.declared.fault.SpentKind.TheVariants as spent
 use Rattle.paw_game.specs.declared.parts.Entry.{Entry}
@@ -16,13 +15,12 @@ use Rattle.paw_effects.specs.declared.act.Truth.{Truth}
 use Rattle.paw_effects.specs.declared.act.Truth.TheVariants as truth
 use Rattle.paw_effects.specs.declared.act.Effect.{Effect}
 use Rattle.paw_effects.specs.declared.act.Effect.TheVariants as effect
-use Rattle.paw_effects.specs.Texts.{put_text, say_text}
 use Rattle.paw_effects.specs.Holds.{is_condition, holds}
 use Rattle.paw_effects.specs.Effects.{Done, effect_of}
 use Rattle.paw_reading.specs.declared.places.Frame.{Frame}
 use Rattle.paw_reading.specs.declared.places.OpenLoop.{OpenLoop}
-use Rattle.paw_reading.specs.Run.{Run, closed, fits, printed, with_world, without_loop, line_dropped, anew, is_ignored, heard, reply, is_yes, is_no, taken_phrase}
-use Rattle.paw_reading.specs.Reading.{IsOver, RunsOut, Restarts, Out, Left, Waits, Stopped, halts, noted, after_call, at_level, if_open, again, taken, turns, loop_of, over, answered, asked, after_test, after_parse, after_action, carried_out, acts, reads_one, condacts, is_for_now, entries, plain, looped, reads, called, deeper}
+use Rattle.paw_reading.specs.Run.{Run, closed, fits, printed, with_world, anew, is_ignored, heard, reply, is_yes, is_no, taken_phrase}
+use Rattle.paw_reading.specs.Reading.{RunsOut, Restarts, Out, Left, Waits, Stopped, halts, noted, after_call, at_level, if_open, again, taken, turns, loop_of, over, answered, asked, after_test, after_parse, after_action, carried_out, acts, reads_one, condacts, is_for_now, entries, plain, looped, reads, called, deeper, goodbye, ended, quit_question, printing, waits}
 
 -- the loop is this one, or there is none
 abbrev pub IsOrNone : Option OpenLoop → Option OpenLoop → Type 0
@@ -57,9 +55,14 @@ Keeps_from o q x (inl e) h = subst (λ p. Keeps p x) e h
 Keeps_from o q x (inr e) h = Keeps_none o x (subst (λ p. Keeps p x) e h)
 
 -- what holds in both cases
-pub either : (P : Out → Type 0) (b : Bool) (x y : Out) → P x → P y → P (if b then x else y)
+pub either : {A : Type 0} (P : A → Type 0) (b : Bool) (x y : A) → P x → P y → P (if b then x else y)
 either P true x y h k = h
 either P false x y h k = k
+
+-- what holds after a print, whether its text fits or not
+pub prints : (P : Out → Type 0) (text : List ℕ) (go : Run → Out) (r : Run) → P (go (printed text r)) →
+    P (halts (RunsOut spent.Text) r) → P (printing text go r)
+prints P text go r h k = either P (fits r text) (go (printed text r)) (halts (RunsOut spent.Text) r) h k
 
 pub open_or_not : (P : Out → Type 0) (next : OpenLoop → Out) (x : Out) (o : Option OpenLoop) → ((l : OpenLoop) → o ≡ Some l → P (next l)) → (o ≡ None → P x) → P (if_open next x o)
 open_or_not P next x None h k = k refl
@@ -107,7 +110,8 @@ answered_keeps : (g : Story) (p : Prompt) (f : Frame) (go : Bool → Run → Out
 answered_keeps g prompt.Main f go h line r = h f.acted r
 answered_keeps g prompt.Quit f go h line r = either (Keeps r.turning) (is_yes line) _ (Left true r) (h f.acted r) (inl refl)
 answered_keeps g prompt.Again f go h line r =
-    either (Keeps r.turning) (is_no line) (over g r) (Stopped Restarts (anew r)) (either (Keeps r.turning) (fits r (say_text g.game r.world GOODBYE_MESSAGE)) (halts IsOver (closed (without_loop (line_dropped (printed (say_text g.game r.world GOODBYE_MESSAGE) r))))) (halts (RunsOut spent.Text) r) tt tt) tt
+    let ends : Keeps r.turning (over g r) = prints (Keeps r.turning) (goodbye g r) ended r tt tt in
+    either (Keeps r.turning) (is_no line) (over g r) (Stopped Restarts (anew r)) ends tt
 answered_keeps g prompt.Key f go h line r = h true r
 answered_keeps g prompt.Over f go h line r = h f.acted r
 
@@ -130,8 +134,8 @@ module _ (g : Story) (sub : ℕ → Run → Out) (lv : ℕ) (calls : CallsKeepin
   after_test_keeps f next go hn hg c r truth.Yes = hg f.acted (noted f c true r)
   after_test_keeps f next go hn hg c r truth.No = hn f.acted (noted f c false r)
   after_test_keeps f next go hn hg c r truth.Ask =
-      either (Keeps r.turning) (fits (noted f c true r) (put_text g.game r.world QUIT_MESSAGE)) _ (halts (RunsOut spent.Text) (noted f c true r))
-      (asked_keeps g prompt.Quit f go hg (closed (printed (put_text g.game r.world QUIT_MESSAGE) (noted f c true r))) r.events) tt
+      prints (Keeps r.turning) (quit_question g r) (waits g prompt.Quit f go) (noted f c true r)
+      (asked_keeps g prompt.Quit f go hg (closed (printed (quit_question g r) (noted f c true r))) r.events) tt
 
   after_action_keeps : (f : Frame) (next go : Bool → Run → Out) → GoesKeeping next → GoesKeeping go → (e : Effect) (r : Run) → Keeps r.turning (after_action g sub lv f next go e r)
   after_action_keeps f next go hn hg effect.Go r = hg true r

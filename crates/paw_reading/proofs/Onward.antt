@@ -1,23 +1,20 @@
 -- Reading on keeps its rules.
-use Rattle.std.proofs.Common.{◌≡◌, ℕ, suc, ◌-◌, Bool, true, false, List, [], ◌∷◌, Some, None, inl, inr, refl, sym, ap, ◌∙◌, length, arith}
+use Rattle.std.proofs.Common.{◌≡◌, ℕ, suc, ◌-◌, Bool, true, false, [], ◌∷◌, Some, None, inl, inr, refl, sym, ap, ◌∙◌, length, arith}
 use Rattle.std.specs.Prelude.{if◌then◌else◌}
-use Rattle.paw_base.specs.declared.messages.TheConstants.{GOODBYE_MESSAGE}
 use Rattle.paw_base.specs.declared.parts.Condact.{Condact}
-use Rattle.paw_base.specs.declared.fault.SpentKind.TheVariants as spent
 use Rattle.paw_game.specs.declared.parts.Entry.{Entry}
 use Rattle.paw_effects.specs.Story.{Story}
 use Rattle.paw_game.specs.Tables.{table_at, entry_at}
 use Rattle.paw_effects.specs.declared.act.Prompt.{Prompt}
 use Rattle.paw_effects.specs.declared.act.Effect.TheVariants as effect
-use Rattle.paw_effects.specs.Texts.{say_text}
 use Rattle.paw_reading.specs.declared.places.Frame.{Frame}
 use Rattle.paw_reading.specs.declared.places.OpenLoop.{OpenLoop}
-use Rattle.paw_reading.specs.Run.{Run, closed, fits, printed, without_loop, line_dropped, heard}
-use Rattle.paw_reading.specs.Reading.{IsOver, RunsOut, Out, Left, Waits, Stopped, halts, after_call, at_level, again, is_taken, taken, turns, loop_of, over, asked, reads_one, entries, is_for_now, inside, plain, looped, deeper, rest}
+use Rattle.paw_reading.specs.Run.{Run, without_loop, heard}
+use Rattle.paw_reading.specs.Reading.{Out, Left, Waits, Stopped, after_call, at_level, again, is_taken, taken, turns, loop_of, over, asked, reads_one, entries, is_for_now, inside, plain, looped, deeper, rest, goodbye, ended}
 use Rattle.paw_reading.specs.GoingOn.{on_path}
 use Rattle.paw_reading.specs.Rules.{past, at_frame, leaves, looks, goes, MayRead, ReadsEntries, ReadsCondacts, FollowsActions, TurnsLoops, AnswersPrompts, ReadingOn}
 use Rattle.paw_reading.proofs.Lists.{drop_none, drop_some}
-use Rattle.paw_reading.proofs.Keeps.{Keeps, at_level_own, turns_closes, plain_keeps, deeper_keeps}
+use Rattle.paw_reading.proofs.Keeps.{Keeps, prints, at_level_own, turns_closes, plain_keeps, deeper_keeps}
 use Rattle.paw_reading.proofs.Rules.{within_budget, within_none, inside_end, inside_condact, again_closed, after_call_again, deeper_rest, deeper_none}
 
 -- ---- entries ----
@@ -140,12 +137,7 @@ module _ (g : Story) (lv : ℕ) where
 
   -- the end of the game is final
   over_stays : (r : Run) → again lv (looped g (deeper g lv) lv) (over g r) ≡ over g r
-  over_stays r = by_test (fits r (say_text g.game r.world GOODBYE_MESSAGE))
-    where
-      by_test : (b : Bool) → again lv (looped g (deeper g lv) lv) (if b then halts IsOver (closed (without_loop (line_dropped (printed (say_text g.game r.world GOODBYE_MESSAGE) r)))) else halts (RunsOut spent.Text) r)
-          ≡ (if b then halts IsOver (closed (without_loop (line_dropped (printed (say_text g.game r.world GOODBYE_MESSAGE) r)))) else halts (RunsOut spent.Text) r)
-      by_test true = refl
-      by_test false = refl
+  over_stays r = prints (λ x. again lv (looped g (deeper g lv) lv) x ≡ x) (goodbye g r) ended r refl refl
 
   answers_prompts : AnswersPrompts g lv
   unfolding asked

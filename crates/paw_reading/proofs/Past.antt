@@ -2,20 +2,18 @@
 use Rattle.std.proofs.Common.{◌≡◌, ◌≢◌, ℕ, zero, suc, Bool, true, false, List, [], ◌∷◌, ◌++◌, Option, Some, None, refl, sym, ap, ◌∙◌, append_assoc, append-nil}
 use Rattle.std.specs.Prelude.{flat_map, if◌then◌else◌}
 use Rattle.std.proofs.lemmas.Grind.{flat_map-append}
-use Rattle.paw_base.specs.declared.messages.TheConstants.{UNKNOWN_MESSAGE}
 use Rattle.paw_base.specs.declared.fault.SpentKind.TheVariants as spent
 use Rattle.paw_effects.specs.Story.{Story}
 use Rattle.paw_game.specs.Tables.{exit_at}
 use Rattle.paw_world.specs.World.{flag, with_flag}
-use Rattle.paw_phrase.specs.Sentence.{Parsed, IsSentence, IsUnknown, IsNoPhrase, parsed}
+use Rattle.paw_phrase.specs.Sentence.{Parsed, IsSentence, IsUnknown, IsNoPhrase}
 use Rattle.paw_effects.specs.declared.act.Prompt.{Prompt}
 use Rattle.paw_effects.specs.declared.act.Prompt.TheVariants as prompt
-use Rattle.paw_effects.specs.Texts.{say_text}
 use Rattle.paw_reading.specs.declared.places.Frame.{Frame}
-use Rattle.paw_reading.specs.Run.{Run, Step, closed, fits, printed, with_world, line_dropped, is_timeout, is_ignored, heard, with_timeout, taken_phrase}
+use Rattle.paw_reading.specs.Run.{Run, Step, closed, fits, printed, with_world, line_dropped, is_timeout, is_ignored, heard, taken_phrase}
 use Rattle.paw_reading.specs.Reading.{RunsOut, Redescribes, Restarts, Halts, Out, Left, Waits, Stopped, rest, table_read, phrase_of}
 use Rattle.paw_reading.specs.GoingOn.{on_path, with_lines}
-use Rattle.paw_reading.specs.Turn.{Stage, AtDescribe, AtFrame, AtPhrase, AtResponse, Ending, WaitsAt, Halted, Unended, saying, described, framed, view_text, counted, prompt_text, line_set, at_main, after_phrase, refusal_text, connected, after_left, table_done, turn, stages_left, first_table, in_table, goes_on, on, reading, text_of, timeout_text}
+use Rattle.paw_reading.specs.Turn.{Stage, AtDescribe, AtFrame, AtPhrase, AtResponse, Ending, WaitsAt, Halted, Unended, saying, described, framed, view_text, counted, prompt_text, line_set, at_main, after_phrase, refusal_text, connected, after_left, table_done, turn, stages_left, first_table, in_table, goes_on, on, reading, text_of, timeout_text, unknown_text}
 use Rattle.paw_reading.specs.Longer.{with_past, without_past, ending_with_past, PastStays, LongerReading, LongerText}
 use Rattle.paw_reading.proofs.Onward.{waits_on}
 use Rattle.paw_reading.proofs.Stops.{Stops, rest_stops, path_stops}
@@ -62,7 +60,9 @@ module _ (g : Story) (ps : List (List ℕ)) (ts : List (List Step)) where
       saying text go (with_past ps ts r) ≡ ending_with_past ps ts (saying text go r)
   saying_past text go r h = by_test (fits r text)
     where
-      by_test : (b : Bool) → (if b then go (with_past ps ts (printed text r)) else Halted (RunsOut spent.Text) (with_past ps ts r)) ≡ ending_with_past ps ts (if b then go (printed text r) else Halted (RunsOut spent.Text) r)
+      by_test : (b : Bool) →
+          (if b then go (with_past ps ts (printed text r)) else Halted (RunsOut spent.Text) (with_past ps ts r))
+          ≡ ending_with_past ps ts (if b then go (printed text r) else Halted (RunsOut spent.Text) r)
       by_test true = h
       by_test false = refl
 
@@ -108,7 +108,9 @@ module _ (g : Story) (ps : List (List ℕ)) (ts : List (List Step)) where
 
     after_phrase_past : (r : Run) (p : Parsed) → after_phrase g (go AtFrame) (go AtPhrase) (go AtResponse) (with_past ps ts r) p ≡ ending_with_past ps ts (after_phrase g (go AtFrame) (go AtPhrase) (go AtResponse) r p)
     after_phrase_past r (IsSentence s rest) = pasts AtResponse (with_world (counted (taken_phrase s rest r).world) (taken_phrase s rest r))
-    after_phrase_past r (IsUnknown rest) = saying_past (say_text g.game r.world UNKNOWN_MESSAGE) (go AtFrame) (line_dropped r) (pasts AtFrame (printed (say_text g.game r.world UNKNOWN_MESSAGE) (line_dropped r)))
+    after_phrase_past r (IsUnknown rest) =
+        let text : List ℕ = unknown_text g.game r.world in
+        saying_past text (go AtFrame) (line_dropped r) (pasts AtFrame (printed text (line_dropped r)))
     after_phrase_past r IsNoPhrase =
         saying_past (prompt_text g.game r.world) (λ s. at_main g (go AtFrame) (go AtPhrase) (closed s) s.events) (line_dropped r)
         (rw (closed_past (printed (prompt_text g.game r.world) (line_dropped r))) (at_main_past (closed (printed (prompt_text g.game r.world) (line_dropped r))) r.events))

@@ -1,31 +1,30 @@
 -- Each reading of a valid game stops rightly.
 use Rattle.std.proofs.Common.{◌≡◌, ◌≢◌, ℕ, zero, suc, ◌+◌, ◌*◌, ◌≤◌, Bool, true, false, List, [], ◌∷◌, Option, Some, None, refl, sym, ap, subst, length, arith, append-nil}
-use Rattle.std.specs.Prelude.{if◌then◌else◌, All}
+use Rattle.std.specs.Prelude.{All}
 use Rattle.std.proofs.Math.ListN.{get_or}
-use Rattle.paw_base.specs.declared.messages.TheConstants.{UNKNOWN_MESSAGE}
 use Rattle.paw_base.specs.declared.fault.SpentKind.TheVariants as spent
 use Rattle.paw_game.specs.Game.{GameLists}
 use Rattle.paw_game.specs.Tables.{exit_at}
 use Rattle.paw_game.specs.Valid.{Valid}
 use Rattle.paw_world.specs.World.{World, Position, flag, with_flag, is_dark, is_unlit, fallen, fallen_if}
-use Rattle.paw_phrase.specs.Sentence.{Parsed, IsSentence, IsUnknown, IsNoPhrase, parsed}
+use Rattle.paw_phrase.specs.Sentence.{Parsed, IsSentence, IsUnknown, IsNoPhrase}
 use Rattle.paw_effects.specs.Built.{StandsIn}
 use Rattle.paw_effects.specs.Standing.{MayBePosition}
 use Rattle.paw_effects.specs.Story.{Story}
 use Rattle.paw_effects.specs.declared.act.Prompt.{Prompt}
 use Rattle.paw_effects.specs.declared.act.Prompt.TheVariants as prompt
-use Rattle.paw_effects.specs.Texts.{say_text}
 use Rattle.paw_effects.proofs.Asking.{AsksAt}
 use Rattle.paw_effects.proofs.Placed.{IsPlaced, opened_placed}
 use Rattle.paw_reading.specs.declared.places.Frame.{Frame}
 use Rattle.paw_reading.specs.declared.places.OpenLoop.{OpenLoop}
-use Rattle.paw_reading.specs.Run.{Run, Step, closed, fits, printed, with_world, line_dropped, is_timeout, is_ignored, heard, with_timeout, taken_phrase}
+use Rattle.paw_reading.specs.Run.{Run, Step, closed, fits, printed, with_world, line_dropped, is_timeout, is_ignored, heard, taken_phrase}
 use Rattle.paw_reading.specs.Reading.{IsOver, RunsOut, Redescribes, Restarts, Halts, Out, Left, Waits, Stopped, table_read, phrase_of}
-use Rattle.paw_reading.specs.Turn.{Stage, AtDescribe, AtFrame, AtPhrase, AtResponse, Ending, WaitsAt, Halted, reading, on, saying, described, framed, view_text, counted, prompt_text, line_set, at_main, after_phrase, refusal_text, connected, after_left, table_done, turn, stages_left, opening, first_table, in_table, goes_on, timeout_text}
+use Rattle.paw_reading.specs.Turn.{Stage, AtDescribe, AtFrame, AtPhrase, AtResponse, Ending, WaitsAt, Halted, reading, on, saying, described, framed, view_text, counted, prompt_text, line_set, at_main, after_phrase, refusal_text, connected, after_left, table_done, turn, stages_left, opening, first_table, in_table, goes_on, timeout_text, unknown_text}
 use Rattle.paw_reading.specs.Bounds.{IsLine, ValidStory, IsBounded}
 use Rattle.paw_reading.specs.Longer.{without_past, with_past, ending_with_past}
 use Rattle.paw_reading.specs.Places.{LeadsTo, tables_of, AreOpenTo, ArePlaces, IsLineTaken, StandsRightly, StopsRightly, StopsBounded, ReadingsStopRightly, GoingOnStopsRightly, ReadingsAreBounded, GoingOnIsBounded}
 use Rattle.paw_reading.proofs.Held.{Sound, Held, none_open, table_held, path_held}
+use Rattle.paw_reading.proofs.Keeps.{either}
 use Rattle.paw_reading.proofs.Past.{past_stays}
 use Rattle.paw_effects.proofs.Worlds.{world_at, world_is}
 use Rattle.paw_reading.proofs.Sounding.{IsResting, EndsSound, are_lines, reading_sounds, going_on_sounds}
@@ -78,11 +77,6 @@ StopsPlaced g (WaitsAt p path r) = (p ≢ prompt.Over) × IsPlacedRightly g p pa
 StopsPlaced g (Halted IsOver r) = IsPlacedRightly g prompt.Over [] r
 StopsPlaced g _ = Unit {0}
 
--- what holds in both cases
-one_of : (P : Ending → Type 0) (b : Bool) (x y : Ending) → P x → P y → P (if b then x else y)
-one_of P true x y h k = h
-one_of P false x y h k = k
-
 module _ (g : Story) (v : Valid g.game) where
   abbrev IsRightly : Ending → Type 0
   IsRightly e = StopsPlaced g.game e
@@ -97,7 +91,8 @@ module _ (g : Story) (v : Valid g.game) where
 
   saying_rightly : (text : List ℕ) (go : Run → Ending) → GoRightly go → GoRightly (saying text go)
   saying_rightly text go h r k =
-      one_of IsRightly (fits r text) _ (Halted (RunsOut spent.Text) r) (h (printed text r) (record { of = k.of; none = k.none })) tt
+      let printed_so : IsBetween (printed text r) = record { of = k.of; none = k.none } in
+      either IsRightly (fits r text) _ (Halted (RunsOut spent.Text) r) (h (printed text r) printed_so) tt
 
   module _ (go : Stage → Run → Ending) (goes : (s : Stage) → GoRightly (go s)) where
     connected_rightly : (to : Option ℕ) → GoRightly (λ r. connected g (go AtDescribe) (go AtFrame) r to)
@@ -133,19 +128,22 @@ module _ (g : Story) (v : Valid g.game) where
     at_main_rightly r [] k empty = (λ e. cc, record { places = (refl, k.none); line = λ e. empty })
     at_main_rightly r (line ∷ lines) k empty =
         let s : Run = record r { events = lines } in
-        one_of IsRightly (is_ignored r.world line) _ _
+        either IsRightly (is_ignored r.world line) _ _
         (at_main_rightly (closed s) lines (record { of = k.of; none = k.none }) empty)
-        (one_of IsRightly (is_timeout line) _ _
-        (saying_rightly (timeout_text g.game r.world) (go AtFrame) (goes AtFrame) (heard line s) (record { of = k.of; none = k.none }))
+        (either IsRightly (is_timeout line) _ _
+        (saying_rightly (timeout_text g.game r.world) (go AtFrame) (goes AtFrame) (heard line s)
+        (record { of = k.of; none = k.none }))
         (goes AtPhrase (line_set line s) (record { of = k.of; none = k.none })))
 
     after_phrase_rightly : (p : Parsed) → GoRightly (λ r. after_phrase g (go AtFrame) (go AtPhrase) (go AtResponse) r p)
     after_phrase_rightly (IsSentence s rest) r k =
         goes AtResponse (with_world (counted (taken_phrase s rest r).world) (taken_phrase s rest r)) (record { of = k.of; none = k.none })
     after_phrase_rightly (IsUnknown rest) r k =
-        saying_rightly (say_text g.game r.world UNKNOWN_MESSAGE) (go AtFrame) (goes AtFrame) (line_dropped r) (record { of = k.of; none = k.none })
+        saying_rightly (unknown_text g.game r.world) (go AtFrame) (goes AtFrame) (line_dropped r)
+        (record { of = k.of; none = k.none })
     after_phrase_rightly IsNoPhrase r k =
-        one_of IsRightly (fits (line_dropped r) (prompt_text g.game r.world)) _ (Halted (RunsOut spent.Text) (line_dropped r))
+        either IsRightly (fits (line_dropped r) (prompt_text g.game r.world)) _
+        (Halted (RunsOut spent.Text) (line_dropped r))
         (at_main_rightly (closed (printed (prompt_text g.game r.world) (line_dropped r))) r.events (record { of = k.of; none = k.none }) refl) tt
 
   turn_rightly : (n : ℕ) (s : Stage) → GoRightly (turn g n s)
@@ -247,7 +245,15 @@ apart r = rw (append-nil r.pieces, append-nil r.traces) refl
 
 placed_past : (g : GameLists) (ps : List (List ℕ)) (ts : List (List Step)) (e : Ending) → StopsRightly g e → StopsRightly g (ending_with_past ps ts e)
 placed_past g ps ts (WaitsAt p path r) k = (k.0, record { world = k.1.world; places = k.1.places; line = k.1.line; pending = k.1.pending; earlier = k.1.earlier; piece = k.1.piece; read = k.1.read })
-placed_past g ps ts (Halted IsOver r) k = record { world = k.world; places = k.places; line = k.line; pending = k.pending; earlier = k.earlier; piece = k.piece; read = k.read }
+placed_past g ps ts (Halted IsOver r) k = record {
+  world = k.world;
+  places = k.places;
+  line = k.line;
+  pending = k.pending;
+  earlier = k.earlier;
+  piece = k.piece;
+  read = k.read;
+}
 placed_past g ps ts _ k = tt
 
 alone : (g : GameLists) (p : Prompt) (path : List Frame) (r : Run) → StandsRightly g p path r → StandsRightly g p path (without_past r)

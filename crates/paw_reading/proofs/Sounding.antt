@@ -5,7 +5,6 @@ use Rattle.std.specs.List.{list_all}
 use Rattle.std.proofs.Math.Nat.{min-le_left}
 use Rattle.std.proofs.lemmas.Bool.{ltb-true, leb-true}
 use Rattle.std.proofs.lemmas.List.Elements.{All-append}
-use Rattle.paw_base.specs.declared.messages.TheConstants.{QUIT_MESSAGE, GOODBYE_MESSAGE, UNKNOWN_MESSAGE}
 use Rattle.paw_base.specs.declared.parts.Condact.{Condact}
 use Rattle.paw_base.specs.declared.parts.ObjectFacts.{ObjectFacts}
 use Rattle.paw_base.specs.declared.fault.SpentKind.TheVariants as spent
@@ -26,16 +25,15 @@ use Rattle.paw_effects.specs.declared.act.Truth.{Truth}
 use Rattle.paw_effects.specs.declared.act.Truth.TheVariants as truth
 use Rattle.paw_effects.specs.declared.act.Effect.{Effect}
 use Rattle.paw_effects.specs.declared.act.Effect.TheVariants as effect
-use Rattle.paw_effects.specs.Texts.{put_text, say_text}
 use Rattle.paw_effects.specs.Counts.{turns_taken}
 use Rattle.paw_effects.specs.Holds.{is_condition, holds}
 use Rattle.paw_effects.specs.Effects.{Done, effect_of}
 use Rattle.paw_reading.specs.declared.places.Frame.{Frame}
 use Rattle.paw_reading.specs.declared.places.OpenLoop.{OpenLoop}
 use Rattle.paw_reading.specs.Run.{Run, closed, fits, printed, with_world, without_loop, line_dropped, anew, is_timeout, is_ignored, heard, with_timeout, reply, is_yes, is_no, spoken, taken_phrase}
-use Rattle.paw_reading.specs.Reading.{IsOver, RunsOut, Redescribes, Restarts, Halts, Out, Left, Waits, Stopped, halts, noted, printing, after_call, at_level, again, is_taken, named, taken, turns, loop_of, over, answered, asked, waits, after_test, after_parse, after_action, carried_out, acts, reads_one, condacts, is_for_now, entries, plain, looped, reads, called, deeper, table_read}
+use Rattle.paw_reading.specs.Reading.{IsOver, RunsOut, Redescribes, Restarts, Halts, Out, Left, Waits, Stopped, halts, noted, printing, after_call, at_level, again, is_taken, named, taken, turns, loop_of, over, answered, asked, waits, after_test, after_parse, after_action, carried_out, acts, reads_one, condacts, is_for_now, entries, plain, looped, reads, called, deeper, table_read, goodbye, ended, quit_question}
 use Rattle.paw_reading.specs.GoingOn.{on_path}
-use Rattle.paw_reading.specs.Turn.{Stage, AtDescribe, AtFrame, AtPhrase, AtResponse, Ending, WaitsAt, Halted, saying, described, framed, view_text, counted, prompt_text, line_set, at_main, after_phrase, refusal_text, connected, after_left, table_done, turn, stages_left, opening, reading, first_table, in_table, goes_on, on, timeout_text}
+use Rattle.paw_reading.specs.Turn.{Stage, AtDescribe, AtFrame, AtPhrase, AtResponse, Ending, WaitsAt, Halted, saying, described, framed, view_text, counted, prompt_text, line_set, at_main, after_phrase, refusal_text, connected, after_left, table_done, turn, stages_left, opening, reading, first_table, in_table, goes_on, on, timeout_text, unknown_text}
 use Rattle.paw_reading.proofs.Keeps.{either, open_or_not}
 use Rattle.paw_reading.specs.Bounds.{IsLine, ValidStory}
 use Rattle.paw_effects.proofs.Worlds.{IsWorldAt, few_locations, few_objects, facts_small, later, flag_small, flagged, start_so, anew_so}
@@ -279,17 +277,20 @@ module _ (g : Story) (valid : ValidStory g) (seed base : ℕ) where
   -- ---- prompts ----
 
   printing_sounds : (text : List ℕ) (go : Run → Out) → ((r : Run) → Is r → Sounds (go r)) → (r : Run) → Is r → Sounds (printing text go r)
-  printing_sounds text go h r k = by_test Sounds (fits r text) _ (halts (RunsOut spent.Text) r) (λ fit. h (printed text r) (printed_so r text k fit)) tt
+  printing_sounds text go h r k =
+      by_test Sounds (fits r text) _ (halts (RunsOut spent.Text) r)
+      (λ fit. h (printed text r) (printed_so r text k fit)) tt
 
   over_sounds : (r : Run) → Is r → Sounds (over g r)
   over_sounds r k =
-      printing_sounds (say_text g.game r.world GOODBYE_MESSAGE) (λ s. halts IsOver (closed (without_loop (line_dropped s))))
+      printing_sounds (goodbye g r) ended
       (λ s j. closed_rests (without_loop (line_dropped s)) (no_loop (line_dropped s) (dropped s j) None)) r k
 
   answered_sounds : (p : Prompt) (f : Frame) (go : Bool → Run → Out) → GoesSound go → (line : List ℕ) (r : Run) → Is r → Sounds (answered g p f go line r)
   answered_sounds prompt.Main f go h line r k = h f.acted r k
   answered_sounds prompt.Quit f go h line r k = either Sounds (is_yes line) _ (Left true r) (h f.acted r k) k
-  answered_sounds prompt.Again f go h line r k = either Sounds (is_no line) (over g r) (Stopped Restarts (anew r)) (over_sounds r k) (anew_run r k)
+  answered_sounds prompt.Again f go h line r k =
+      either Sounds (is_no line) (over g r) (Stopped Restarts (anew r)) (over_sounds r k) (anew_run r k)
   answered_sounds prompt.Key f go h line r k = h true r k
   answered_sounds prompt.Over f go h line r k = h f.acted r k
 
@@ -321,7 +322,9 @@ module _ (g : Story) (valid : ValidStory g) (seed base : ℕ) where
         Sounds (after_test g f next go c r t)
     after_test_sounds f next go hn hg c r truth.Yes k = hg f.acted (noted f c true r) (k true)
     after_test_sounds f next go hn hg c r truth.No k = hn f.acted (noted f c false r) (k false)
-    after_test_sounds f next go hn hg c r truth.Ask k = printing_sounds (put_text g.game r.world QUIT_MESSAGE) (waits g prompt.Quit f go) (waits_sounds prompt.Quit f go hg) (noted f c true r) (k true)
+    after_test_sounds f next go hn hg c r truth.Ask k =
+        printing_sounds (quit_question g r) (waits g prompt.Quit f go) (waits_sounds prompt.Quit f go hg)
+        (noted f c true r) (k true)
 
     after_action_sounds : (f : Frame) (next go : Bool → Run → Out) → GoesSound next → GoesSound go → (e : Effect) (r : Run) → Is r → Sounds (after_action g sub lv f next go e r)
     after_action_sounds f next go hn hg effect.Go r k = hg true r k
@@ -438,7 +441,8 @@ module _ (g : Story) (valid : ValidStory g) (seed base : ℕ) where
   one_of false x y h k = k
 
   saying_sounds : (text : List ℕ) (go : Run → Ending) → TurnsSound go → TurnsSound (saying text go)
-  saying_sounds text go h r k = one_of (fits r text) _ (Halted (RunsOut spent.Text) r) (λ fit. h (printed text r) (printed_so r text k fit)) tt
+  saying_sounds text go h r k =
+      one_of (fits r text) _ (Halted (RunsOut spent.Text) r) (λ fit. h (printed text r) (printed_so r text k fit)) tt
 
   fallen_so : (n f : ℕ) (w : World) → IsWorldAt g.game seed n w → IsWorldAt g.game seed n (fallen f w)
   fallen_so n f w k = flagged g.game v seed n w k f (flag w f - 1) (omega (arith, flag_small g.game v seed n w k f))
@@ -514,7 +518,8 @@ module _ (g : Story) (valid : ValidStory g) (seed base : ℕ) where
         one_of (is_ignored r.world line) _ _
         (λ e. at_main_sounds (closed s) lines (closed_rests s s_so) are.1)
         (one_of (is_timeout line) _ _
-        (λ e. saying_sounds (timeout_text g.game r.world) (go AtFrame) (goes AtFrame) (heard line s) (heard_so line s s_so))
+        (λ e.
+        saying_sounds (timeout_text g.game r.world) (go AtFrame) (goes AtFrame) (heard line s) (heard_so line s s_so))
         (goes AtPhrase (line_set line s) (line_set_so line s are.0 s_so)))
 
     after_phrase_sounds : (r : Run) → Is r → (p : Parsed) → next_phrase r ≡ p → EndsSound (after_phrase g (go AtFrame) (go AtPhrase) (go AtResponse) r p)
@@ -522,7 +527,8 @@ module _ (g : Story) (valid : ValidStory g) (seed base : ℕ) where
         let taken_run : Is (taken_phrase s left r) = phrase_so r k s left e in
         goes AtResponse (with_world (counted (taken_phrase s left r).world) (taken_phrase s left r))
         (in_world (taken_phrase s left r) taken_run (counted (taken_phrase s left r).world) (counted_so (bound r) (taken_phrase s left r).world taken_run.world))
-    after_phrase_sounds r k (IsUnknown left) e = saying_sounds (say_text g.game r.world UNKNOWN_MESSAGE) (go AtFrame) (goes AtFrame) (line_dropped r) (dropped r k)
+    after_phrase_sounds r k (IsUnknown left) e =
+        saying_sounds (unknown_text g.game r.world) (go AtFrame) (goes AtFrame) (line_dropped r) (dropped r k)
     after_phrase_sounds r k IsNoPhrase e =
         saying_sounds (prompt_text g.game r.world) (λ s. at_main g (go AtFrame) (go AtPhrase) (closed s) s.events)
         (λ s j. at_main_sounds (closed s) s.events (closed_rests s j) j.lines) (line_dropped r) (dropped r k)

@@ -3,14 +3,13 @@ use Rattle.std.proofs.Common.{◌≡◌, ℕ, zero, suc, ◌+◌, ◌-◌, ◌�
 use Rattle.std.specs.Prelude.{if◌then◌else◌, nat_lt, sum_by}
 use Rattle.std.proofs.lemmas.Bool.Decides.{nat_tests}
 use Rattle.std.proofs.lemmas.List.Sums.{sum_by-cons}
-use Rattle.paw_base.specs.declared.messages.TheConstants.{QUIT_MESSAGE, GOODBYE_MESSAGE}
 use Rattle.paw_base.specs.declared.parts.Condact.{Condact}
 use Rattle.paw_base.specs.declared.fault.SpentKind.TheVariants as spent
 use Rattle.paw_game.specs.declared.parts.Entry.{Entry}
 use Rattle.paw_effects.specs.Story.{Story}
 use Rattle.paw_game.specs.Tables.{table_at, entry_at, condacts_of}
 use Rattle.paw_world.specs.World.{flag}
-use Rattle.paw_phrase.specs.Sentence.{Parsed, IsSentence, IsUnknown, IsNoPhrase, parsed}
+use Rattle.paw_phrase.specs.Sentence.{Parsed, IsSentence, IsUnknown, IsNoPhrase}
 use Rattle.paw_phrase.proofs.Phrases.{Leaves, parsed-shorter}
 use Rattle.paw_effects.specs.declared.act.Prompt.{Prompt}
 use Rattle.paw_effects.specs.declared.act.Prompt.TheVariants as prompt
@@ -18,16 +17,15 @@ use Rattle.paw_effects.specs.declared.act.Truth.{Truth}
 use Rattle.paw_effects.specs.declared.act.Truth.TheVariants as truth
 use Rattle.paw_effects.specs.declared.act.Effect.{Effect}
 use Rattle.paw_effects.specs.declared.act.Effect.TheVariants as effect
-use Rattle.paw_effects.specs.Texts.{put_text, say_text}
 use Rattle.paw_effects.specs.Holds.{is_condition, holds}
 use Rattle.paw_effects.specs.Effects.{Done, effect_of}
 use Rattle.paw_reading.specs.declared.places.Frame.{Frame}
 use Rattle.paw_reading.specs.declared.places.OpenLoop.{OpenLoop}
 use Rattle.paw_reading.specs.Run.{Run, closed, fits, printed, with_world, anew, is_ignored, heard, reply, is_yes, is_no, taken_phrase}
-use Rattle.paw_reading.specs.Reading.{RunsOut, Restarts, Halts, Out, Left, Waits, Stopped, halts, within, noted, after_call, at_level, again, is_taken, taken, turns, loop_of, over, answered, asked, after_test, after_parse, after_action, carried_out, acts, reads_one, condacts, is_for_now, entries, plain, looped, reads, called, deeper, rest, table_read, phrase_of}
+use Rattle.paw_reading.specs.Reading.{RunsOut, Restarts, Halts, Out, Left, Waits, Stopped, halts, within, noted, after_call, at_level, again, is_taken, taken, turns, loop_of, over, answered, asked, after_test, after_parse, after_action, carried_out, acts, reads_one, condacts, is_for_now, entries, plain, looped, reads, called, deeper, rest, table_read, phrase_of, goodbye, ended, quit_question, waits}
 use Rattle.paw_reading.specs.GoingOn.{on_path}
 use Rattle.paw_reading.specs.Turn.{left_to_read}
-use Rattle.paw_reading.proofs.Keeps.{either, open_or_not}
+use Rattle.paw_reading.proofs.Keeps.{either, open_or_not, prints}
 
 -- what lines bring
 abbrev pub brought : List (List ℕ) → ℕ
@@ -85,14 +83,15 @@ after_call_spends f go h v (Stopped stop r) k = k
 -- ---- prompts ----
 
 over_spends : (g : Story) (v : ℕ) (r : Run) → Spends v (over g r)
-over_spends g v r = either (Spends v) (fits r (say_text g.game r.world GOODBYE_MESSAGE)) _ (halts (RunsOut spent.Text) r) tt tt
+over_spends g v r = prints (Spends v) (goodbye g r) ended r tt tt
 
 answered_spends : (g : Story) (p : Prompt) (f : Frame) (go : Bool → Run → Out) → AreSpending go → (line : List ℕ) (r : Run) (v : ℕ) →
     left_to_read r < v → brought r.events + 200000 < v → Spends v (answered g p f go line r)
 answered_spends g prompt.Main f go h line r v k n = Spends_up (left_to_read r) v (omega arith) _ (h f.acted r)
 answered_spends g prompt.Quit f go h line r v k n =
     either (Spends v) (is_yes line) _ (Left true r) (Spends_up (left_to_read r) v (omega arith) _ (h f.acted r)) (omega arith)
-answered_spends g prompt.Again f go h line r v k n = either (Spends v) (is_no line) (over g r) (Stopped Restarts (anew r)) (over_spends g v r) (omega arith)
+answered_spends g prompt.Again f go h line r v k n =
+    either (Spends v) (is_no line) (over g r) (Stopped Restarts (anew r)) (over_spends g v r) (omega arith)
 answered_spends g prompt.Key f go h line r v k n = Spends_up (left_to_read r) v (omega arith) _ (h true r)
 answered_spends g prompt.Over f go h line r v k n = Spends_up (left_to_read r) v (omega arith) _ (h f.acted r)
 
@@ -121,9 +120,9 @@ module _ (g : Story) (sub : ℕ → Run → Out) (lv : ℕ) (calls : CallsSpendi
   after_test_spends f next go hn hg c r truth.Yes v k n = Spends_up (left_to_read (noted f c true r)) v k _ (hg f.acted (noted f c true r))
   after_test_spends f next go hn hg c r truth.No v k n = Spends_up (left_to_read (noted f c false r)) v n _ (hn f.acted (noted f c false r))
   after_test_spends f next go hn hg c r truth.Ask v k n =
-      either (Spends v) (fits (noted f c true r) (put_text g.game r.world QUIT_MESSAGE)) _ (halts (RunsOut spent.Text) (noted f c true r))
+      prints (Spends v) (quit_question g r) (waits g prompt.Quit f go) (noted f c true r)
       (Spends_up (length r.pending + brought r.events) v (omega arith) _
-      (asked_spends g prompt.Quit f go hg (closed (printed (put_text g.game r.world QUIT_MESSAGE) (noted f c true r))) r.events)) tt
+      (asked_spends g prompt.Quit f go hg (closed (printed (quit_question g r) (noted f c true r))) r.events)) tt
 
   -- redescribing leaves as much as there is, so it counts what was read before it
   after_action_spends : (f : Frame) (next go : Bool → Run → Out) → AreSpending next → AreSpending go → (e : Effect) (r : Run) →
@@ -169,7 +168,8 @@ module _ (g : Story) (sub : ℕ → Run → Out) (lv : ℕ) (calls : CallsSpendi
   within_spends : (r : Run) (x : Out) → (length r.read < 200000 → Spends (left_to_read r) x) → Spends (left_to_read r) (within r x)
   within_spends r x h = by_test (nat_lt (length r.read) 200000) refl
     where
-      by_test : (b : Bool) → nat_lt (length r.read) 200000 ≡ b → Spends (left_to_read r) (if b then x else halts (RunsOut spent.Condacts) r)
+      by_test : (b : Bool) → nat_lt (length r.read) 200000 ≡ b →
+          Spends (left_to_read r) (if b then x else halts (RunsOut spent.Condacts) r)
       by_test false q = tt
       by_test true q = h (grind (arith, nat_tests))
 

@@ -1,7 +1,6 @@
 -- Where reading waits: the outermost of the tables that are open is the one that is read, and so is that of its loop.
 use Rattle.std.proofs.Common.{◌≡◌, ℕ, zero, suc, ◌-◌, Bool, true, false, ◌||◌, List, [], ◌∷◌, Option, Some, None, refl, sym, ◌∙◌, subst, length, drop}
 use Rattle.std.specs.Prelude.{if◌then◌else◌, nat_lt}
-use Rattle.paw_base.specs.declared.messages.TheConstants.{QUIT_MESSAGE, GOODBYE_MESSAGE}
 use Rattle.paw_base.specs.declared.parts.Condact.{Condact}
 use Rattle.paw_base.specs.declared.fault.SpentKind.TheVariants as spent
 use Rattle.paw_game.specs.declared.parts.Entry.{Entry}
@@ -14,18 +13,17 @@ use Rattle.paw_effects.specs.declared.act.Truth.{Truth}
 use Rattle.paw_effects.specs.declared.act.Truth.TheVariants as truth
 use Rattle.paw_effects.specs.declared.act.Effect.{Effect}
 use Rattle.paw_effects.specs.declared.act.Effect.TheVariants as effect
-use Rattle.paw_effects.specs.Texts.{put_text, say_text}
 use Rattle.paw_effects.specs.Holds.{is_condition, holds}
 use Rattle.paw_effects.specs.Effects.{Done, effect_of}
 pub use Rattle.paw_effects.proofs.Asking.{IsInner}
 use Rattle.paw_effects.proofs.Asking.{AsksInner, effect_asks}
 use Rattle.paw_reading.specs.declared.places.Frame.{Frame}
 use Rattle.paw_reading.specs.declared.places.OpenLoop.{OpenLoop}
-use Rattle.paw_reading.specs.Run.{Run, closed, fits, printed, with_world, without_loop, line_dropped, anew, is_ignored, heard, reply, is_yes, is_no, taken_phrase}
-use Rattle.paw_reading.specs.Reading.{IsOver, RunsOut, Restarts, Out, Left, Waits, Stopped, halts, noted, after_call, at_level, again, is_taken, taken, turns, loop_of, over, answered, asked, after_test, after_parse, after_action, carried_out, acts, reads_one, condacts, is_for_now, entries, plain, looped, reads, called, deeper, rest, table_read}
+use Rattle.paw_reading.specs.Run.{Run, closed, fits, printed, with_world, anew, is_ignored, heard, reply, is_yes, is_no, taken_phrase}
+use Rattle.paw_reading.specs.Reading.{RunsOut, Restarts, Out, Left, Waits, Stopped, halts, noted, after_call, at_level, again, is_taken, taken, turns, loop_of, over, answered, asked, after_test, after_parse, after_action, carried_out, acts, reads_one, condacts, is_for_now, entries, plain, looped, reads, called, deeper, rest, table_read, goodbye, ended, quit_question, waits}
 use Rattle.paw_reading.specs.GoingOn.{on_path}
 use Rattle.paw_reading.specs.Turn.{first_table}
-use Rattle.paw_reading.proofs.Keeps.{either, open_or_not, at_level_is, IsLoopOf}
+use Rattle.paw_reading.proofs.Keeps.{either, open_or_not, at_level_is, IsLoopOf, prints}
 
 -- a wait at this level, where table t is the one at level 0
 pub record WaitsThere (t lv : ℕ) (p : Prompt) (path : List Frame) (turning : Option OpenLoop) : Type 0 where
@@ -80,7 +78,7 @@ module _ (t : ℕ) where
   answered_stays g prompt.Quit lv f go h line r k = either (Stays t lv) (is_yes line) _ (Left true r) (h f.acted r k) k
   answered_stays g prompt.Again lv f go h line r k =
       either (Stays t lv) (is_no line) (over g r) (Stopped Restarts (anew r))
-      (either (Stays t lv) (fits r (say_text g.game r.world GOODBYE_MESSAGE)) (halts IsOver (closed (without_loop (line_dropped (printed (say_text g.game r.world GOODBYE_MESSAGE) r))))) (halts (RunsOut spent.Text) r) tt tt) tt
+      (prints (Stays t lv) (goodbye g r) ended r tt tt) tt
   answered_stays g prompt.Key lv f go h line r k = h true r k
   answered_stays g prompt.Over lv f go h line r k = h f.acted r k
 
@@ -110,8 +108,9 @@ module _ (t : ℕ) where
     after_test_stays f next go own hn hg c r truth.Yes k = hg f.acted (noted f c true r) k
     after_test_stays f next go own hn hg c r truth.No k = hn f.acted (noted f c false r) k
     after_test_stays f next go own hn hg c r truth.Ask k =
-        either (Stays t lv) (fits (noted f c true r) (put_text g.game r.world QUIT_MESSAGE)) _ (halts (RunsOut spent.Text) (noted f c true r))
-        (asked_stays g prompt.Quit lv f go tt own hg (closed (printed (put_text g.game r.world QUIT_MESSAGE) (noted f c true r))) r.events k) tt
+        prints (Stays t lv) (quit_question g r) (waits g prompt.Quit f go) (noted f c true r)
+        (asked_stays g prompt.Quit lv f go tt own hg (closed (printed (quit_question g r) (noted f c true r)))
+        r.events k) tt
 
     after_action_stays : (f : Frame) (next go : Bool → Run → Out) → IsOwn lv f.table → GoesStaying lv next → GoesStaying lv go → (e : Effect) → AsksInner e → (r : Run) → IsLoopOf t r.turning
         → Stays t lv (after_action g sub lv f next go e r)

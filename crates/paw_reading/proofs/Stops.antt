@@ -1,7 +1,6 @@
 -- Where reading stops: a wait has a table open and has taken every line, and where the turn begins anew no loop is open.
 use Rattle.std.proofs.Common.{◌≡◌, ◌≢◌, ℕ, zero, suc, ◌-◌, Bool, true, false, ◌||◌, List, [], ◌∷◌, None, refl, drop, length}
 use Rattle.std.specs.Prelude.{nat_lt}
-use Rattle.paw_base.specs.declared.messages.TheConstants.{QUIT_MESSAGE, GOODBYE_MESSAGE}
 use Rattle.paw_base.specs.declared.parts.Condact.{Condact}
 use Rattle.paw_base.specs.declared.fault.SpentKind.TheVariants as spent
 use Rattle.paw_game.specs.declared.parts.Entry.{Entry}
@@ -14,15 +13,14 @@ use Rattle.paw_effects.specs.declared.act.Truth.{Truth}
 use Rattle.paw_effects.specs.declared.act.Truth.TheVariants as truth
 use Rattle.paw_effects.specs.declared.act.Effect.{Effect}
 use Rattle.paw_effects.specs.declared.act.Effect.TheVariants as effect
-use Rattle.paw_effects.specs.Texts.{put_text, say_text}
 use Rattle.paw_effects.specs.Holds.{is_condition, holds}
 use Rattle.paw_effects.specs.Effects.{Done, effect_of}
 use Rattle.paw_reading.specs.declared.places.Frame.{Frame}
 use Rattle.paw_reading.specs.declared.places.OpenLoop.{OpenLoop}
 use Rattle.paw_reading.specs.Run.{Run, closed, fits, printed, with_world, anew, is_ignored, heard, reply, is_yes, is_no, taken_phrase}
-use Rattle.paw_reading.specs.Reading.{RunsOut, Restarts, Halts, Out, Left, Waits, Stopped, halts, noted, after_call, at_level, again, is_taken, taken, turns, loop_of, over, answered, asked, after_test, after_parse, after_action, carried_out, acts, reads_one, condacts, is_for_now, entries, plain, looped, reads, called, deeper, rest}
+use Rattle.paw_reading.specs.Reading.{RunsOut, Restarts, Halts, Out, Left, Waits, Stopped, halts, noted, after_call, at_level, again, is_taken, taken, turns, loop_of, over, answered, asked, after_test, after_parse, after_action, carried_out, acts, reads_one, condacts, is_for_now, entries, plain, looped, reads, called, deeper, rest, goodbye, ended, quit_question, waits}
 use Rattle.paw_reading.specs.GoingOn.{on_path}
-use Rattle.paw_reading.proofs.Keeps.{either, open_or_not}
+use Rattle.paw_reading.proofs.Keeps.{either, open_or_not, prints}
 
 -- a wait
 pub record WaitsOpen (path : List Frame) (r : Run) : Type 0 where
@@ -68,7 +66,7 @@ answered_stops : (g : Story) (p : Prompt) (f : Frame) (go : Bool → Run → Out
 answered_stops g prompt.Main f go h line r = h f.acted r
 answered_stops g prompt.Quit f go h line r = either Stops (is_yes line) _ (Left true r) (h f.acted r) tt
 answered_stops g prompt.Again f go h line r =
-    either Stops (is_no line) (over g r) (Stopped Restarts (anew r)) (either Stops (fits r (say_text g.game r.world GOODBYE_MESSAGE)) _ (halts (RunsOut spent.Text) r) tt tt) refl
+    either Stops (is_no line) (over g r) (Stopped Restarts (anew r)) (prints Stops (goodbye g r) ended r tt tt) refl
 answered_stops g prompt.Key f go h line r = h true r
 answered_stops g prompt.Over f go h line r = h f.acted r
 
@@ -91,8 +89,8 @@ module _ (g : Story) (sub : ℕ → Run → Out) (lv : ℕ) (calls : CallsStoppi
   after_test_stops f next go hn hg c r truth.Yes = hg f.acted (noted f c true r)
   after_test_stops f next go hn hg c r truth.No = hn f.acted (noted f c false r)
   after_test_stops f next go hn hg c r truth.Ask =
-      either Stops (fits (noted f c true r) (put_text g.game r.world QUIT_MESSAGE)) _ (halts (RunsOut spent.Text) (noted f c true r))
-      (asked_stops g prompt.Quit f go hg (closed (printed (put_text g.game r.world QUIT_MESSAGE) (noted f c true r))) r.events) tt
+      prints Stops (quit_question g r) (waits g prompt.Quit f go) (noted f c true r)
+      (asked_stops g prompt.Quit f go hg (closed (printed (quit_question g r) (noted f c true r))) r.events) tt
 
   after_action_stops : (f : Frame) (next go : Bool → Run → Out) → AreStopping next → AreStopping go → (e : Effect) (r : Run) → Stops (after_action g sub lv f next go e r)
   after_action_stops f next go hn hg effect.Go r = hg true r
@@ -106,7 +104,8 @@ module _ (g : Story) (sub : ℕ → Run → Out) (lv : ℕ) (calls : CallsStoppi
 
   acts_stop : (f : Frame) (next go : Bool → Run → Out) → AreStopping next → AreStopping go → (d : Done) (r : Run) → Stops (acts g sub lv f next go d r)
   acts_stop f next go hn hg d r =
-      either Stops (fits r d.text) _ (halts (RunsOut spent.Text) r) (after_action_stops f next go hn hg d.act.effect (carried_out d (printed d.text r))) tt
+      either Stops (fits r d.text) _ (halts (RunsOut spent.Text) r)
+      (after_action_stops f next go hn hg d.act.effect (carried_out d (printed d.text r))) tt
 
   reads_one_stops : (f : Frame) (next go : Bool → Run → Out) → AreStopping next → AreStopping go → (c : Condact) (r : Run) → Stops (reads_one g sub lv f next go c r)
   reads_one_stops f next go hn hg c r =

@@ -146,10 +146,17 @@ loop_of lv f p = record { level = lv; table = f.table; entry = f.entry; at = f.a
 
 -- ---- prompts ----
 
+-- what a game says last
+abbrev pub goodbye : Story → Run → List ℕ
+goodbye g r = say_text g.game r.world GOODBYE_MESSAGE
+
+-- the game is over, with its last piece closed
+abbrev pub ended : Run → Out
+ended r = halts IsOver (closed (without_loop (line_dropped r)))
+
 -- END's question answered with no: the game says goodbye and is over
 abbrev pub over : Story → Run → Out
-over g r =
-    printing (say_text g.game r.world GOODBYE_MESSAGE) (λ s. halts IsOver (closed (without_loop (line_dropped s)))) r
+over g r = printing (goodbye g r) ended r
 
 -- the answer to a prompt in a table: QUIT goes on at yes and leaves the table at no; END ends the game at no and starts
 -- it anew otherwise; a key goes on
@@ -174,12 +181,15 @@ waits g p f go r = asked g p f go (closed r) r.events
 
 -- ---- one condact ----
 
+-- the question of QUIT
+abbrev pub quit_question : Story → Run → List ℕ
+quit_question g r = put_text g.game r.world QUIT_MESSAGE
+
 -- after a condition: go reads on at the next condact, next at the next entry
 abbrev pub after_test : Story → Frame → Onward → Onward → Condact → Run → Truth → Out
 after_test g f next go c r truth.Yes = go f.acted (noted f c true r)
 after_test g f next go c r truth.No = next f.acted (noted f c false r)
-after_test g f next go c r truth.Ask =
-    printing (put_text g.game r.world QUIT_MESSAGE) (waits g prompt.Quit f go) (noted f c true r)
+after_test g f next go c r truth.Ask = printing (quit_question g r) (waits g prompt.Quit f go) (noted f c true r)
 
 -- after PARSE: at a sentence next reads on at the next entry, else go at the next condact
 abbrev pub after_parse : Frame → Onward → Onward → Run → Parsed → Out

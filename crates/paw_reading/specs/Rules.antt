@@ -1,7 +1,6 @@
 -- The rules of reading on in written order, as equations.
 use Rattle.std.specs.Prelude.{◌≡◌, ℕ, suc, ◌<◌, ◌≤◌, Bool, true, false, List, [], ◌∷◌, Some, None, length}
 use Rattle.paw_base.specs.declared.limits.TheConstants.{READ_LIMIT, LEVEL_LIMIT}
-use Rattle.paw_base.specs.declared.messages.TheConstants.{QUIT_MESSAGE}
 use Rattle.paw_base.specs.declared.parts.Condact.{Condact}
 use Rattle.paw_base.specs.declared.fault.SpentKind.TheVariants as spent
 use Rattle.paw_game.specs.declared.parts.Entry.{Entry}
@@ -15,13 +14,12 @@ use Rattle.paw_effects.specs.declared.act.Truth.{Truth}
 use Rattle.paw_effects.specs.declared.act.Truth.TheVariants as truth
 use Rattle.paw_effects.specs.declared.act.Effect.{Effect}
 use Rattle.paw_effects.specs.declared.act.Effect.TheVariants as effect
-use Rattle.paw_effects.specs.Texts.{put_text}
 use Rattle.paw_effects.specs.Holds.{is_condition, holds}
 use Rattle.paw_effects.specs.Effects.{effect_of}
 use Rattle.paw_reading.specs.declared.places.Frame.{Frame}
 use Rattle.paw_reading.specs.declared.places.OpenLoop.{OpenLoop}
 use Rattle.paw_reading.specs.Run.{Run, closed, fits, printed, with_world, without_loop, anew, is_ignored, heard, reply, is_yes, is_no, taken_phrase}
-use Rattle.paw_reading.specs.Reading.{RunsOut, CallsTooDeep, Redescribes, Restarts, Out, Left, Waits, Stopped, halts, noted, after_call, at_level, again, is_taken, taken, loop_of, over, phrase_of, after_action, carried_out, frame_at, is_for_now, inside, plain, looks_from, looped, deeper, rest}
+use Rattle.paw_reading.specs.Reading.{RunsOut, CallsTooDeep, Redescribes, Restarts, Out, Left, Waits, Stopped, halts, noted, after_call, at_level, again, is_taken, taken, loop_of, over, quit_question, phrase_of, after_action, carried_out, frame_at, is_for_now, inside, plain, looks_from, looped, deeper, rest}
 use Rattle.paw_reading.specs.GoingOn.{on_path}
 
 -- ---- words ----
@@ -68,9 +66,9 @@ tested g c r = with_world (holds g.game r.world c).world r
 abbrev pub passed : Story → Frame → Condact → Run → Run
 passed g f c r = noted f c true (tested g c r)
 
--- the question of QUIT
+-- the question of QUIT after its test
 abbrev pub question : Story → Condact → Run → List ℕ
-question g c r = put_text g.game (tested g c r).world QUIT_MESSAGE
+question g c r = quit_question g (tested g c r)
 
 -- the run after an action: its text is printed, and it is carried out
 abbrev pub done : Story → Frame → Condact → Run → Run

@@ -8,7 +8,7 @@ use Rattle.paw_base.specs.declared.fault.SpentKind.TheVariants as spent
 use Rattle.paw_game.specs.Game.{GameLists}
 use Rattle.paw_game.specs.Tables.{exit_at}
 use Rattle.paw_world.specs.World.{World, flag, with_flag, opened, is_dark, is_unlit, fallen, fallen_if}
-use Rattle.paw_phrase.specs.Sentence.{Parsed, IsSentence, IsUnknown, IsNoPhrase, parsed}
+use Rattle.paw_phrase.specs.Sentence.{Parsed, IsSentence, IsUnknown, IsNoPhrase}
 use Rattle.paw_effects.specs.Story.{Story}
 use Rattle.paw_effects.specs.declared.act.Prompt.{Prompt}
 use Rattle.paw_effects.specs.declared.act.Prompt.TheVariants as prompt
@@ -16,7 +16,7 @@ use Rattle.paw_effects.specs.Counts.{turns_taken}
 use Rattle.paw_effects.specs.Texts.{put_text, say_text, location_text}
 use Rattle.paw_reading.specs.declared.places.Frame.{Frame}
 use Rattle.paw_reading.specs.Run.{Run, closed, fits, printed, with_world, line_dropped, is_timeout, is_ignored, heard, with_timeout, taken_phrase}
-use Rattle.paw_reading.specs.Reading.{Halt, IsOver, RunsOut, Stop, Redescribes, Restarts, Halts, Out, Left, Waits, Stopped, Onward, phrase_of, table_read}
+use Rattle.paw_reading.specs.Reading.{Halt, IsOver, RunsOut, Stop, Redescribes, Restarts, Halts, Out, Left, Waits, Stopped, phrase_of, table_read}
 use Rattle.paw_reading.specs.GoingOn.{on_path, with_lines}
 
 -- the four stages of a turn
@@ -106,13 +106,16 @@ abbrev pub prompts : Story → Turning → Turning → Run → Ending
 prompts g frame phrase r =
     saying (prompt_text g.game r.world) (λ s. at_main g frame phrase (closed s) s.events) (line_dropped r)
 
--- the next phrase: a sentence counts a turn and is responded to; at one with no known word a message is said, and the
+-- what is said to a phrase with no known word
+abbrev pub unknown_text : GameLists → World → List ℕ
+unknown_text g w = say_text g w UNKNOWN_MESSAGE
+
+-- the next phrase: a sentence counts a turn and is responded to; at one with no known word that is said, and the
 -- rest of the line is dropped; with none left comes the prompt
 abbrev pub after_phrase : Story → Turning → Turning → Turning → Run → Parsed → Ending
 after_phrase g frame phrase response r (IsSentence s rest) =
     response (with_world (counted (taken_phrase s rest r).world) (taken_phrase s rest r))
-after_phrase g frame phrase response r (IsUnknown rest) =
-    saying (say_text g.game r.world UNKNOWN_MESSAGE) frame (line_dropped r)
+after_phrase g frame phrase response r (IsUnknown rest) = saying (unknown_text g.game r.world) frame (line_dropped r)
 after_phrase g frame phrase response r IsNoPhrase = prompts g frame phrase r
 
 -- no entry answered and there is no exit: there is no way for a direction, and else the verb is impossible
