@@ -30,7 +30,7 @@ use Rattle.paw_reading.specs.Reading.{RunsOut, Out, halts, step_at, noted, print
 use Rattle.paw_reading.specs.GoingOn.{along, on_path}
 use Rattle.paw_process.specs.OpenTables.{OpenTables, HasRead, ReadsNone, ReadsStep, below}
 use Rattle.paw_process.specs.Meaning.{Held, held, Shows, showing, with_steps, to_come, going_on, ComesTo, RunsTo}
-use Rattle.paw_process.specs.Moves.{Continues, settled, next_of, past_of, reading_at, acted_at, turning_at, running, reading_with, one_at, Reads, ReadsOne, after_phrase}
+use Rattle.paw_process.specs.Moves.{Continues, settled, next_of, past_of, reading_at, acted_at, turning_at, running, reading_with, one_at, Reads, ReadsOne, after_found}
 use Rattle.paw_process.specs.Phrases.{Speaks}
 use Rattle.paw_process.specs.declared.Turned.{Turned}
 use Rattle.paw_process.specs.declared.Turned.TheVariants as turned
@@ -71,7 +71,11 @@ loop_at g fs f p r l n e q = rw (e, q) (acted_loop g fs f p r)
 pub ask_at : (g : Story) (old fs : List Frame) (f : Frame) (p : Prompt) (r : Run) → old ≡ f ∷ fs → acted_at g fs f (effect.Ask p) r ≡ on_path g p 0 (reverse old) (closed r)
 ask_at g old fs f p r top = settled_waits g fs f p r ∙ rw top refl
 
-pub parse_at : (g : Story) (fs : List Frame) (f : Frame) (x : Found) (w w' : World) (p p' : PendingLine) (o : Option OpenLoop) (r : Run) → Speaks (parsed g.game p.bytes p.earlier (flag w 46) (flag w 47)) x w w' p p' → settled g fs (parses g f (next_of g fs f) (past_of g fs f) (running w p o r)) ≡ going_on g (after_phrase x f ∷ fs) (running w' p' o r)
+pub parse_at : (g : Story) (fs : List Frame) (f : Frame) (x : Found) (w w' : World) (p p' : PendingLine)
+    (o : Option OpenLoop) (r : Run) →
+    Speaks (parsed g.game p.bytes p.earlier (flag w 46) (flag w 47)) x w w' p p' →
+    settled g fs (parses g f (next_of g fs f) (past_of g fs f) (running w p o r))
+    ≡ going_on g (after_found x f ∷ fs) (running w' p' o r)
 parse_at g fs f found.Sentence w w' p p' o r (s, e, ew, ev) = rw (e, ew, ev, add-one) refl
 parse_at g fs f found.Nothing w w' p p' o r (e, ew, ev) = rw (e, ew, ev, add-one) refl
 parse_at g fs f found.Empty w w' p p' o r (e, ew, ep) = rw (e, ew, ep, add-one) refl
@@ -106,7 +110,11 @@ act_follows g old mid f c w w' p p' piece piece' a e r kind does unspent same eq
     ∙ act_at g (below old.frames) f (effect_of g w c) w w' p p' old.turning (if a.cancel_loop then None else old.turning) piece piece' a (noted f c true r) m.0 m.1 m.2 m.3 eq refl)
 
 -- an action whose text doesn't fit
-pub act_spends : (g : Story) (old : OpenTables) (f : Frame) (c : Condact) (w w' : World) (p : PendingLine) (piece piece' : List ℕ) (a : Act) (r : Run) → is_condition c ≡ false → Does (effect_of g w c) piece piece' w' a → effect.Spent ≡ a.effect → one_at g (below old.frames) f c (showing (held w p old piece) r) ≡ halts (RunsOut spent.Text) (noted f c true (showing (held w p old piece) r))
+pub act_spends : (g : Story) (old : OpenTables) (f : Frame) (c : Condact) (w w' : World) (p : PendingLine)
+    (piece piece' : List ℕ) (a : Act) (r : Run) →
+    is_condition c ≡ false → Does (effect_of g w c) piece piece' w' a → effect.Spent ≡ a.effect →
+    one_at g (below old.frames) f c (showing (held w p old piece) r)
+    ≡ halts (RunsOut spent.Text) (noted f c true (showing (held w p old piece) r))
 act_spends g old f c w w' p piece piece' a r kind does is =
     one_acts g (below old.frames) f c (showing (held w p old piece) r) kind
     ∙ ask_spent g (below old.frames) (effect_of g w c).text

@@ -16,7 +16,7 @@ use Rattle.paw_reading.specs.declared.places.Frame.{Frame}
 use Rattle.paw_reading.specs.declared.places.OpenLoop.{OpenLoop}
 use Rattle.paw_process.specs.Kept.{restored, condact_of, has_code, may_open, parameter_of, row_stands, rows_fault, table_of, is_that_table, loop_stands, loop_fault, first_fault, count_fits, fault_at, frames_fault, waiting_at, StandsAt}
 use Rattle.paw_process.specs.declared.kept.Frames.{Frames}
-use Rattle.paw_process.specs.OpenTables.{below, IsAtCondact, AtCondacts, InTable, IsLoopIn, LoopFits, IsWaiting, IsClosed}
+use Rattle.paw_process.specs.OpenTables.{below, IsAtCondact, AtCondacts, InTable, IsLoopWithin, LoopFits, IsWaiting, IsClosed}
 
 -- the rows one by one
 pub rows_none : (g : GameLists) (code : ℕ) (caller : Option ℕ) (n d : ℕ) (rows : List Frame) → length rows ≡ 0 → None ≡ rows_fault g code caller n d rows
@@ -84,7 +84,8 @@ loop_in : (g : GameLists) (k : Frames) (o : Option OpenLoop) → Valid g → loo
 loop_in g k None v h = tt
 loop_in g k (Some l) v h = go (loop_stands g k l) refl h
   where
-    go : (b : Bool) → loop_stands g k l ≡ b → ◌≡◌ {A = Option ℕ} (if b then None else Some 11) None → IsLoopIn k.count l
+    go : (b : Bool) → loop_stands g k l ≡ b → ◌≡◌ {A = Option ℕ} (if b then None else Some 11) None →
+        IsLoopWithin k.count l
     go true e q =
         let later = second (nat_lt l.level k.count) _ e in
         let coded_at = first_of (has_code 86 (condact_at g l.table l.entry l.at)) _ (second (is_that_table (table_of (slice_get k.rows l.level)) l.table) _ later) in

@@ -83,10 +83,12 @@ acted_loop g fs f p r =
     (turns_closes g (length fs) (loop_of (length fs) f p) (past_of g fs f true) refl
     (plain_keeps g sub (length fs) (deeper_keeps g (length fs)) f.table f.entry (suc f.at) true) (length g.game.objects) r))
 
-pub acted_redescribes : (g : Story) (fs : List Frame) (f : Frame) (r : Run) → acted_at g fs f effect.Redescribe r ≡ Stopped Redescribes (without_loop r)
+pub acted_redescribes : (g : Story) (fs : List Frame) (f : Frame) (r : Run) →
+    acted_at g fs f effect.Redescribe r ≡ Stopped Redescribes (without_loop r)
 acted_redescribes g fs f r = along_stopped g fs Redescribes (without_loop r)
 
-pub acted_spent : (g : Story) (fs : List Frame) (f : Frame) (r : Run) → acted_at g fs f effect.Spent r ≡ halts (RunsOut spent.Text) r
+pub acted_spent : (g : Story) (fs : List Frame) (f : Frame) (r : Run) →
+    acted_at g fs f effect.Spent r ≡ halts (RunsOut spent.Text) r
 acted_spent g fs f r = along_stopped g fs (Halts (RunsOut spent.Text)) r
 
 -- the piece is closed, and the run goes on at the prompt along the frames
@@ -125,7 +127,9 @@ reading_condact g fs f r c h low =
     ap (settled g fs) (inside_condact g (deeper g (length fs)) (length fs) f.table f.entry f.at f.acted r c h ∙ within_budget r _ low)
 
 -- the budget is used up
-pub reading_none : (g : Story) (fs : List Frame) (f : Frame) (r : Run) (c : Condact) → condact_at g.game f.table f.entry f.at ≡ Some c → 200000 ≤ length r.read → reading_at g fs f r ≡ halts (RunsOut spent.Condacts) r
+pub reading_none : (g : Story) (fs : List Frame) (f : Frame) (r : Run) (c : Condact) →
+    condact_at g.game f.table f.entry f.at ≡ Some c → 200000 ≤ length r.read →
+    reading_at g fs f r ≡ halts (RunsOut spent.Condacts) r
 reading_none g fs f r c h low =
     ap (settled g fs) (inside_condact g (deeper g (length fs)) (length fs) f.table f.entry f.at f.acted r c h ∙ within_none r _ low)
     ∙ along_stopped g fs (Halts (RunsOut spent.Condacts)) r

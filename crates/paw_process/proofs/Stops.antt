@@ -25,16 +25,19 @@ length_below [] h = absurd (omega arith)
 length_below (f ∷ fs) h = refl
 
 -- the piece is spent in a run with the same past
-pub stops_spent : (g : Story) (x : Out) (t : Option Turned) (kind : SpentKind) (fs : List Frame) (r s : Run) → t ≡ Some (turned.Spent kind) → x ≡ halts (RunsOut kind) s → SamePast r s → Continues g x t fs r
+pub stops_spent : (g : Story) (x : Out) (t : Option Turned) (kind : SpentKind) (fs : List Frame) (r s : Run) →
+    t ≡ Some (turned.Spent kind) → x ≡ halts (RunsOut kind) s → SamePast r s → Continues g x t fs r
 stops_spent g x t kind fs r s e h past = rw e (s, h, past)
 
 -- a call is too deep in a run with the same past
-pub stops_deep : (g : Story) (x : Out) (t : Option Turned) (u : ℕ) (fs : List Frame) (r s : Run) → t ≡ Some (turned.TooDeep u) → x ≡ halts (CallsTooDeep u) s → SamePast r s → Continues g x t fs r
+pub stops_deep : (g : Story) (x : Out) (t : Option Turned) (u : ℕ) (fs : List Frame) (r s : Run) →
+    t ≡ Some (turned.TooDeep u) → x ≡ halts (CallsTooDeep u) s → SamePast r s → Continues g x t fs r
 stops_deep g x t u fs r s e h past = rw e (s, h, past)
 
 -- ---- calls ----
 
-pub call_deep : (g : Story) (fs : List Frame) (u : ℕ) (r : Run) → 11 ≤ length fs → along g fs (deeper g (length (below fs)) u r) ≡ halts (CallsTooDeep u) r
+pub call_deep : (g : Story) (fs : List Frame) (u : ℕ) (r : Run) → 11 ≤ length fs →
+    along g fs (deeper g (length (below fs)) u r) ≡ halts (CallsTooDeep u) r
 call_deep g fs u r h =
     let low : 10 ≤ length (below fs) = omega (arith, length_below fs (omega arith)) in
     ap (along g fs) (deeper_none g (length (below fs)) u r low) ∙ along_stopped g fs (Halts (CallsTooDeep u)) r
@@ -46,7 +49,8 @@ call_goes g fs u r some low =
 
 -- ---- prompts ----
 
-pub no_fit : (r : Run) (text : List ℕ) (go : Run → Out) → 65535 < length r.current + length text → printing text go r ≡ halts (RunsOut spent.Text) r
+pub no_fit : (r : Run) (text : List ℕ) (go : Run → Out) → 65535 < length r.current + length text →
+    printing text go r ≡ halts (RunsOut spent.Text) r
 no_fit r text go h =
     let t : nat_le (length r.current + length text) 65535 ≡ false = grind (arith, nat_tests) in rw t refl
 
@@ -55,7 +59,8 @@ fit r text go h =
     let t : nat_le (length r.current + length text) 65535 ≡ true = grind (arith, nat_tests) in rw t refl
 
 -- the question doesn't fit
-pub ask_spent : (g : Story) (fs : List Frame) (text : List ℕ) (go : Run → Out) (r : Run) → 65535 < length r.current + length text → settled g fs (printing text go r) ≡ halts (RunsOut spent.Text) r
+pub ask_spent : (g : Story) (fs : List Frame) (text : List ℕ) (go : Run → Out) (r : Run) →
+    65535 < length r.current + length text → settled g fs (printing text go r) ≡ halts (RunsOut spent.Text) r
 ask_spent g fs text go r h = ap (settled g fs) (no_fit r text go h) ∙ along_stopped g fs (Halts (RunsOut spent.Text)) r
 
 -- the question is put, and the run goes on at the prompt along the frames

@@ -99,7 +99,7 @@ abbrev pub after_key : Frame → Frame
 after_key f = record f { at = f.at + 1; acted = true }
 
 -- where reading goes on after PARSE: after a sentence at the next entry, else at the next condact
-abbrev pub after_phrase : Found → Frame → Frame
-after_phrase found.Sentence f = record { table = f.table; entry = f.entry + 1; at = 0; acted = f.acted }
-after_phrase found.Nothing f = record f { at = f.at + 1 }
-after_phrase found.Empty f = record f { at = f.at + 1 }
+abbrev pub after_found : Found → Frame → Frame
+after_found found.Sentence f = record { table = f.table; entry = f.entry + 1; at = 0; acted = f.acted }
+after_found found.Nothing f = record f { at = f.at + 1 }
+after_found found.Empty f = record f { at = f.at + 1 }

@@ -53,13 +53,13 @@ InTable [] = Unit {0}
 InTable (f ∷ fs) = 0 < f.at → f.entry < ENTRY_LIMIT
 
 -- the loop stands at a condact, and is one of these levels'
-pub record IsLoopIn (levels : ℕ) (l : OpenLoop) : Type 0 where
-  pub at : l.at < CONDACT_LIMIT
-  pub entry : l.entry < ENTRY_LIMIT
+pub record IsLoopWithin (levels : ℕ) (l : OpenLoop) : Type 0 where
+  pub at : l.at < 255
+  pub entry : l.entry < 4000
   pub level : l.level < levels
 
 abbrev pub LoopFits : ℕ → Option OpenLoop → Type 0
-LoopFits levels o = IfSome o (IsLoopIn levels)
+LoopFits levels o = IfSome o (IsLoopWithin levels)
 
 -- tables are open, and not too many, and each but the innermost stands at a condact
 pub record AreOpen (frames : List Frame) (turning : Option OpenLoop) : Type 0 where

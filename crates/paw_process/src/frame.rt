@@ -1,7 +1,7 @@
 // Places in a table.
 
 ghost use Rattle.std.specs.Prelude.{◌≡◌, ◌+◌, ◌<◌, false, true, Some};
-ghost use Rattle.paw_process.specs.Moves.{after_quit, after_key, after_phrase};
+ghost use Rattle.paw_process.specs.Moves.{after_quit, after_key, after_found};
 ghost use Rattle.paw_effects.specs.declared.act.Prompt.TheVariants as prompt;
 
 use paw_effects::act::Prompt;
@@ -77,10 +77,10 @@ pub fn answered(waiting: Option<Prompt>, f: Frame, yes: bool) -> Frame
 }
 
 /// Where reading goes on after PARSE: after a sentence at the next entry, else at the next condact.
-pub fn after_phrase(found: Found, f: Frame) -> Frame
+pub fn after_found(found: Found, f: Frame) -> Frame
     requires at { f.at < 255 }
     requires entry { f.entry < 4000 }
-    ensures value { result ≡ after_phrase found f }
+    ensures value { result ≡ after_found found f }
     ensures in_table { 0 < result.at → result.entry ≡ f.entry }
 {
     match found {

@@ -16,14 +16,14 @@ ghost use Rattle.paw_game.specs.Valid.{is_right};
 ghost use Rattle.paw_reading.specs.Run.{Run};
 ghost use Rattle.paw_reading.specs.Reading.{Left, deeper, noted, acts, tests, parses, printing, waits, loop_of};
 ghost use Rattle.paw_reading.specs.GoingOn.{along};
-ghost use Rattle.paw_process.specs.OpenTables.{below, ReadsNone, IsAtCondact, AtCondacts, IsLoopIn, LoopFits, IsReading};
+ghost use Rattle.paw_process.specs.OpenTables.{below, ReadsNone, IsAtCondact, AtCondacts, IsLoopWithin, LoopFits, IsReading};
 ghost use Rattle.paw_process.specs.Meaning.{held, going_on, showing};
 ghost use Rattle.paw_process.specs.Moves.{Continues, Stands, turning_as, reading_with, looping, running, settled, acted_at, next_of, past_of, turning_at, reading_at, Reads, ReadsOne};
 ghost use Rattle.paw_process.specs.Work.{work, frames_work, Progress};
 ghost use Rattle.paw_world.specs.Places.{left_above};
 
 use crate::Turned;
-use crate::frame::{after_phrase, next_entry, past, start_of};
+use crate::frame::{after_found, next_entry, past, start_of};
 use crate::machine::{MOST_FRAMES, Machine};
 use crate::objects::{next_taken, take};
 use crate::phrase::take_phrase;
@@ -90,7 +90,7 @@ impl Machine {
     ) -> Option<Turned>
         requires reading { IsReading self.old }
         requires game { IsOf (T.game tables.now) world.old }
-        requires own { IsLoopIn (length self.old.frames) l }
+        requires own { IsLoopWithin (length self.old.frames) l }
         requires level { l.level ≡ length (below self.old.frames) }
         ensures meaning { (X : List (List ℕ)) (r : Run) → let g = story_of (T.game tables.now) X in
             Continues g (turning_at g (below self.old.frames) l (left_above world.old.places above) (looping world.old self.old.turning r))
@@ -190,7 +190,7 @@ impl Machine {
         ensures draws { world.new.draws ≡ world.old.draws }
     {
         let found = take_phrase(tables, world, pending);
-        self.set_top(after_phrase(found, f));
+        self.set_top(after_found(found, f));
     }
 
     /// Reading goes on after an action of the innermost frame.

@@ -28,7 +28,8 @@ use Rattle.paw_turn.specs.Stages.{Past, run_of, PlaysAs, from_prompt, ChangesFla
 
 -- at no the game is over or the piece is spent, and else it starts anew
 abbrev final : Bool → Bool → Run → Run → Run → Out
-final declines fit e s d = if declines then (if fit then halts IsOver e else halts (RunsOut spent.Text) s) else Stopped Restarts d
+final declines fit e s d =
+    if declines then (if fit then halts IsOver e else halts (RunsOut spent.Text) s) else Stopped Restarts d
 
 -- the answer, once it is heard
 abbrev answer_of : Story → List ℕ → Run → Out
@@ -70,10 +71,12 @@ again_is g old line some hears n past lines =
 final_restarts : (g : Story) (go : Stage → Run → Ending) (t : ℕ) (declines fit : Bool) (e s d : Run) → declines ≡ false → table_done g go t (final declines fit e s d) ≡ go AtDescribe d
 final_restarts g go t declines fit e s d is = rw is refl
 
-final_ends : (g : Story) (go : Stage → Run → Ending) (t : ℕ) (declines fit : Bool) (e s d : Run) → declines ≡ true → fit ≡ true → table_done g go t (final declines fit e s d) ≡ Halted IsOver e
+final_ends : (g : Story) (go : Stage → Run → Ending) (t : ℕ) (declines fit : Bool) (e s d : Run) → declines ≡ true →
+    fit ≡ true → table_done g go t (final declines fit e s d) ≡ Halted IsOver e
 final_ends g go t declines fit e s d is fitting = rw (is, fitting) refl
 
-final_spends : (g : Story) (go : Stage → Run → Ending) (t : ℕ) (declines fit : Bool) (e s d : Run) → declines ≡ true → fit ≡ false → table_done g go t (final declines fit e s d) ≡ Halted (RunsOut spent.Text) s
+final_spends : (g : Story) (go : Stage → Run → Ending) (t : ℕ) (declines fit : Bool) (e s d : Run) → declines ≡ true →
+    fit ≡ false → table_done g go t (final declines fit e s d) ≡ Halted (RunsOut spent.Text) s
 final_spends g go t declines fit e s d is fitting = rw (is, fitting) refl
 
 -- at any answer but no the game starts anew
@@ -110,7 +113,9 @@ again_ends g old new line w some hears declines world fit piece stays bytes earl
         λ n lines. (
           n,
           again_is g old line some hears n past lines ∙ (final_ends g (turn g n) _ _ _ _ _ _ declines t
-              ∙ ap (Halted IsOver) (held_is past lines (with_timeout (is_timeout line) old.world) (old.piece ++ text) new.world new.pending.bytes new.pending.earlier new.machine.turning new.piece world' bytes earlier turning piece')),
+              ∙ ap (Halted IsOver) (held_is past lines (with_timeout (is_timeout line) old.world) (old.piece ++ text)
+              new.world new.pending.bytes new.pending.earlier new.machine.turning new.piece world' bytes earlier turning
+              piece')),
         ),
       ),
     )

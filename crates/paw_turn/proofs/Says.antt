@@ -12,5 +12,6 @@ pub said : (text : List ℕ) (go : Run → Ending) (r : Run) → length r.curren
 said text go r h = let t : nat_le (length r.current + length text) 65535 ≡ true = grind (arith, nat_tests) in rw t refl
 
 -- at one that doesn't the piece is spent
-pub unsaid : (text : List ℕ) (go : Run → Ending) (r : Run) → 65535 < length r.current + length text → saying text go r ≡ Halted (RunsOut spent.Text) r
+pub unsaid : (text : List ℕ) (go : Run → Ending) (r : Run) → 65535 < length r.current + length text →
+    saying text go r ≡ Halted (RunsOut spent.Text) r
 unsaid text go r h = let t : nat_le (length r.current + length text) 65535 ≡ false = grind (arith, nat_tests) in rw t refl
