@@ -135,13 +135,15 @@ module _ (g : Story) (seed : ℕ) (es fs : List (List ℕ)) where
         ∙ past_stays g (last_piece r.pieces ∷ []) [] p path (with_lines fs (without_past r)),
   )
 
-  over_goes : (r : Run) → reading g seed es ≡ Halted IsOver r → Settles g.game (length es) prompt.Over [] r → r.events ≡ [] →
-      Counted (length es) (Halted IsOver r) → GoesOnFrom (Halted IsOver r) (state_at (length es) prompt.Over [] r) (last_piece r.pieces)
+  over_goes : (r : Run) → reading g seed es ≡ Halted IsOver r → Settles g.game (length es) prompt.Over [] r →
+      r.events ≡ [] → Counted (length es) (Halted IsOver r) →
+      GoesOnFrom (Halted IsOver r) (state_at (length es) prompt.Over [] r) (last_piece r.pieces)
   over_goes r is k none counted = (
     all_pieces (length es) r.pieces r.events counted none,
     k.traced ∙ all_pieces (length es) r.pieces r.events counted none,
     Halted IsOver (with_lines fs (without_past r)),
-    rw is at (going_on_is_reading g seed es fs) ∙ ap (Halted IsOver) (rw (append-nil r.pieces, append-nil r.traces) refl),
+    rw is at (going_on_is_reading g seed es fs)
+        ∙ ap (Halted IsOver) (rw (append-nil r.pieces, append-nil r.traces) refl),
     ap (Halted IsOver) (taken_past r (last_piece r.pieces) fs k.current k.read none),
   )
 

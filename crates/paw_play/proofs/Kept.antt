@@ -40,7 +40,8 @@ waits_kept g digest events e p next pieces traces last is = rw (is, last) (recor
 })
 
 over_kept : {F : Type 0} (g : Story) (digest : List ℕ) (events : ℕ) (e : Ending) (next : Seat F) (pieces : List (List ℕ)) (traces : List (List Read)) → next.last ≡ step.Ended → next.machine.frames ≡ [] →
-    e ≡ Halted IsOver (run_at next (pieces ++ next.piece ∷ []) traces []) → IsKept digest events e (Shown digest (seat_state events next) next.piece)
+    e ≡ Halted IsOver (run_at next (pieces ++ next.piece ∷ []) traces []) →
+    IsKept digest events e (Shown digest (seat_state events next) next.piece)
 over_kept g digest events e next pieces traces last closed is = rw (is, last) (record {
   played = refl;
   shown = ap (λ (k : Frames). Shown digest (kept_bytes (record { world = next.world; frames = k; pending = next.pending; prompt = prompt.Over; events = events; piece = length next.piece })) next.piece) (kept_is next.machine ∙ ap (λ fs. frames_at (reverse fs) next.machine.turning) closed)

@@ -19,7 +19,7 @@ use Rattle.paw_effects.specs.Effects.{Done, effect_of}
 use Rattle.paw_reading.specs.declared.places.Frame.{Frame}
 use Rattle.paw_reading.specs.declared.places.OpenLoop.{OpenLoop}
 use Rattle.paw_reading.specs.Run.{Run, closed, fits, printed, with_world, without_loop, line_dropped, anew, is_timeout, is_ignored, heard, reply, is_yes, is_no, taken_phrase}
-use Rattle.paw_reading.specs.Reading.{IsOver, RunsOut, Redescribes, Restarts, Halts, Out, Left, Waits, Stopped, halts, noted, after_call, at_level, again, is_taken, taken, turns, loop_of, over, answered, asked, waits, after_test, after_parse, after_action, carried_out, acts, reads_one, condacts, is_for_now, entries, plain, looped, reads, called, deeper, rest, table_read, phrase_of, goodbye, ended, quit_question}
+use Rattle.paw_reading.specs.Reading.{IsOver, RunsOut, Redescribes, Restarts, Halts, Out, Left, Waits, Stopped, halts, noted, after_call, at_level, again, is_taken, taken, turns, loop_of, over, answered, asked, waits, after_test, after_parse, after_action, carried_out, acts, reads_one, condacts, is_for_now, entries, plain, looped, reads, called, deeper, rest, table_read, coming_phrase, goodbye, game_over, quit_question}
 use Rattle.paw_reading.specs.Turn.{Stage, AtDescribe, AtFrame, AtPhrase, AtResponse, Ending, Halted, saying, described, framed, view_text, counted, prompt_text, line_set, at_main, after_phrase, refusal_text, connected, after_left, table_done, turn, stages_left, opening, timeout_text, unknown_text}
 use Rattle.paw_reading.specs.Pieces.{count, Counted, PiecesOfLines}
 use Rattle.paw_reading.proofs.Keeps.{either, open_or_not, prints}
@@ -70,7 +70,7 @@ after_call_counts f go h v (Stopped stop r) k = k
 over_counts : (g : Story) → IsCounting (over g)
 over_counts g v r k =
     let last : Run = without_loop (line_dropped (printed (goodbye g r) r)) in
-    prints (Counts v) (goodbye g r) ended r (omega (arith, closed_counts last, k)) k
+    prints (Counts v) (goodbye g r) game_over r (omega (arith, closed_counts last, k)) k
 
 answered_counts : (g : Story) (p : Prompt) (f : Frame) (go : Bool → Run → Out) → AreCounting go → (line : List ℕ) → IsCounting (answered g p f go line)
 answered_counts g prompt.Main f go h line v r k = h f.acted v r k
@@ -117,7 +117,7 @@ module _ (g : Story) (sub : ℕ → Run → Out) (lv : ℕ) (calls : CallsCounti
   after_action_counts f next go hn hg (effect.Loop p) v r k = turns_count g lv (loop_of lv f p) (go true) (hg true) (length g.game.objects) v r k
   after_action_counts f next go hn hg (effect.Ask p) v r k = waits_counts g p f go hg v r k
   after_action_counts f next go hn hg effect.Parse v r k =
-      after_parse_counts f next go hn hg (phrase_of g r) v r k
+      after_parse_counts f next go hn hg (coming_phrase g r) v r k
   after_action_counts f next go hn hg effect.Spent v r k = k
 
   acts_count : (f : Frame) (next go : Bool → Run → Out) → AreCounting next → AreCounting go → (d : Done) → IsCounting (acts g sub lv f next go d)
@@ -226,7 +226,7 @@ turn_counts g (suc n) AtDescribe v r k =
     (with_world (described r.world) r) k
 turn_counts g (suc n) AtFrame v r k = read_counts g (turn g n) (turn_counts g n) 2 v r k
 turn_counts g (suc n) AtPhrase v r k =
-    after_phrase_counts g (turn g n) (turn_counts g n) (phrase_of g r) v r k
+    after_phrase_counts g (turn g n) (turn_counts g n) (coming_phrase g r) v r k
 turn_counts g (suc n) AtResponse v r k = read_counts g (turn g n) (turn_counts g n) 0 v r k
 
 pub pieces_of_lines : PiecesOfLines

@@ -19,7 +19,7 @@ use Rattle.paw_effects.specs.Effects.{Done, effect_of}
 use Rattle.paw_reading.specs.declared.places.Frame.{Frame}
 use Rattle.paw_reading.specs.declared.places.OpenLoop.{OpenLoop}
 use Rattle.paw_reading.specs.Run.{Run, Step, closed, fits, printed, with_world, without_loop, line_dropped, anew, is_ignored, heard, reply, is_yes, is_no, taken_phrase}
-use Rattle.paw_reading.specs.Reading.{IsOver, RunsOut, Restarts, Out, Left, Waits, Stopped, halts, noted, printing, after_call, at_level, if_open, again, is_taken, taken, turns, loop_of, over, answered, asked, waits, after_test, after_parse, after_action, carried_out, acts, reads_one, is_for_now, inside, plain, looped, deeper, rest, phrase_of, goodbye, ended, quit_question}
+use Rattle.paw_reading.specs.Reading.{IsOver, RunsOut, Restarts, Out, Left, Waits, Stopped, halts, noted, printing, after_call, at_level, if_open, again, is_taken, taken, turns, loop_of, over, answered, asked, waits, after_test, after_parse, after_action, carried_out, acts, reads_one, is_for_now, inside, plain, looped, deeper, rest, coming_phrase, goodbye, game_over, quit_question}
 use Rattle.paw_reading.specs.GoingOn.{on_path}
 use Rattle.paw_reading.proofs.Keeps.{Keeps, at_level_own, at_level_is, turns_closes, plain_keeps, looped_closes, deeper_keeps}
 use Rattle.paw_reading.proofs.Rules.{inside_end, inside_condact, again_closed, again_again, after_call_again, deeper_rest, deeper_none}
@@ -91,7 +91,7 @@ module _ (g : Story) (ps : List (List ℕ)) (ts : List (List Step)) (lines : Lis
 
     settles_over : IsSettling lv (over g)
     settles_over r =
-        settles_printing (goodbye g r) ended r
+        settles_printing (goodbye g r) game_over r
         (ap (halts IsOver) (closed_around ps ts lines (without_loop (line_dropped (printed (goodbye g r) r)))))
 
     settles_answered : (p : Prompt) (f : Frame) (go : Bool → Run → Out) → ((a : Bool) → IsSettling lv (go a)) → (line : List ℕ) → IsSettling lv (answered g p f go line)
@@ -176,7 +176,7 @@ module _ (g : Story) (ps : List (List ℕ)) (ts : List (List Step)) (lines : Lis
       settles_action f hn hg (effect.Call u) r = rw (calls u r) (settles_call f hg (deeper g lv u r) (deeper_stops g lv u r))
       settles_action f hn hg (effect.Loop p) r = settles_turns (loop_of lv f p) refl (hg true) (length g.game.objects) (omega arith) r
       settles_action f hn hg (effect.Ask p) r = settles_waits p f hg r
-      settles_action f hn hg effect.Parse r = settles_parse f (next_of lv f) (past_of lv f) hn hg r (phrase_of g r)
+      settles_action f hn hg effect.Parse r = settles_parse f (next_of lv f) (past_of lv f) hn hg r (coming_phrase g r)
       settles_action f hn hg effect.Spent r = refl
 
       settles_acts : (f : Frame) → ((a : Bool) → IsSettling lv (next_of lv f a)) →

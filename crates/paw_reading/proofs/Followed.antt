@@ -10,7 +10,7 @@ use Rattle.paw_effects.specs.declared.act.Prompt.{Prompt}
 use Rattle.paw_effects.specs.declared.act.Prompt.TheVariants as prompt
 use Rattle.paw_reading.specs.declared.places.Frame.{Frame}
 use Rattle.paw_reading.specs.Run.{Run, closed, fits, printed, with_world, line_dropped, is_timeout, is_ignored, heard, taken_phrase}
-use Rattle.paw_reading.specs.Reading.{RunsOut, Redescribes, Restarts, Halts, Out, Left, Waits, Stopped, deeper, table_read, phrase_of}
+use Rattle.paw_reading.specs.Reading.{RunsOut, Redescribes, Restarts, Halts, Out, Left, Waits, Stopped, deeper, table_read, coming_phrase}
 use Rattle.paw_reading.specs.GoingOn.{on_path, with_lines, extended}
 use Rattle.paw_reading.specs.Turn.{Stage, AtDescribe, AtFrame, AtPhrase, AtResponse, Ending, WaitsAt, Halted, Unended, saying, described, framed, view_text, counted, prompt_text, line_set, at_main, after_phrase, refusal_text, connected, after_left, table_done, turn, stages_left, turns_from, opening, first_table, goes_on, followed, GoingOnIsReading, timeout_text, unknown_text}
 use Rattle.paw_reading.specs.Longer.{TurnsGoOn}
@@ -143,7 +143,7 @@ module _ (g : Story) (lines : List (List ℕ)) where
   turn_follows (suc n) m AtPhrase r none k =
       let e : suc n + m ≡ suc (n + m) = omega arith in
       rw e (after_phrase_follows m (turn g n) (turn g (n + m)) (turn_follows n m) (more_stages n m) r none
-      (phrase_of g r) k)
+      (coming_phrase g r) k)
   turn_follows (suc n) m AtResponse r none k =
       let e : suc n + m ≡ suc (n + m) = omega arith in
       rw e (read_follows m (turn g n) (turn g (n + m)) (turn_follows n m) (more_stages n m) 0 r none k)

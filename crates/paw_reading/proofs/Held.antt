@@ -27,7 +27,7 @@ use Rattle.paw_effects.proofs.Placed.{IsPlaced, doall_place, effect_placed, cond
 use Rattle.paw_reading.specs.declared.places.Frame.{Frame}
 use Rattle.paw_reading.specs.declared.places.OpenLoop.{OpenLoop}
 use Rattle.paw_reading.specs.Run.{Run, closed, fits, printed, with_world, anew, is_ignored, heard, reply, is_yes, is_no, taken_phrase}
-use Rattle.paw_reading.specs.Reading.{IsOver, RunsOut, Restarts, Halts, Out, Left, Waits, Stopped, halts, noted, after_call, at_level, again, is_taken, named, taken, turns, loop_of, over, answered, asked, after_test, after_parse, after_action, carried_out, acts, reads_one, condacts, is_for_now, entries, plain, looped, reads, called, deeper, rest, table_read, goodbye, ended, quit_question, waits}
+use Rattle.paw_reading.specs.Reading.{IsOver, RunsOut, Restarts, Halts, Out, Left, Waits, Stopped, halts, noted, after_call, at_level, again, is_taken, named, taken, turns, loop_of, over, answered, asked, after_test, after_parse, after_action, carried_out, acts, reads_one, condacts, is_for_now, entries, plain, looped, reads, called, deeper, rest, table_read, goodbye, game_over, quit_question, waits}
 use Rattle.paw_reading.specs.GoingOn.{on_path}
 use Rattle.paw_reading.specs.Turn.{first_table}
 use Rattle.paw_reading.specs.Places.{IsAt, LeadsTo, tables_of, IsLoopIn}
@@ -210,7 +210,7 @@ module _ (g : Story) (v : Valid g.game) (ts : List ℕ) (lv : ℕ) (deep : lengt
   answered_held prompt.Quit f go h line r k = either Inside (is_yes line) _ (Left true r) (h f.acted r k) k
   answered_held prompt.Again f go h line r k =
       either Inside (is_no line) (over g r) (Stopped Restarts (anew r))
-      (prints Inside (goodbye g r) ended r (refl, (refl, k.of)) tt)
+      (prints Inside (goodbye g r) game_over r (refl, (refl, k.of)) tt)
       (record { of = restarted_placed g.game r.world v k.of; loop = tt })
   answered_held prompt.Key f go h line r k = h true r k
   answered_held prompt.Over f go h line r k = h f.acted r k

@@ -20,7 +20,7 @@ use Rattle.paw_effects.specs.Effects.{Done, effect_of}
 use Rattle.paw_reading.specs.declared.places.Frame.{Frame}
 use Rattle.paw_reading.specs.declared.places.OpenLoop.{OpenLoop}
 use Rattle.paw_reading.specs.Run.{Run, closed, fits, printed, with_world, anew, is_ignored, heard, reply, is_yes, is_no, taken_phrase}
-use Rattle.paw_reading.specs.Reading.{RunsOut, Restarts, Out, Left, Waits, Stopped, halts, noted, after_call, at_level, if_open, again, taken, turns, loop_of, over, answered, asked, after_test, after_parse, after_action, carried_out, acts, reads_one, condacts, is_for_now, entries, plain, looped, reads, called, deeper, goodbye, ended, quit_question, printing, waits}
+use Rattle.paw_reading.specs.Reading.{RunsOut, Restarts, Out, Left, Waits, Stopped, halts, noted, after_call, at_level, if_open, again, taken, turns, loop_of, over, answered, asked, after_test, after_parse, after_action, carried_out, acts, reads_one, condacts, is_for_now, entries, plain, looped, reads, called, deeper, goodbye, game_over, quit_question, printing, waits}
 
 -- the loop is this one, or there is none
 abbrev pub IsOrNone : Option OpenLoop → Option OpenLoop → Type 0
@@ -110,7 +110,7 @@ answered_keeps : (g : Story) (p : Prompt) (f : Frame) (go : Bool → Run → Out
 answered_keeps g prompt.Main f go h line r = h f.acted r
 answered_keeps g prompt.Quit f go h line r = either (Keeps r.turning) (is_yes line) _ (Left true r) (h f.acted r) (inl refl)
 answered_keeps g prompt.Again f go h line r =
-    let ends : Keeps r.turning (over g r) = prints (Keeps r.turning) (goodbye g r) ended r tt tt in
+    let ends : Keeps r.turning (over g r) = prints (Keeps r.turning) (goodbye g r) game_over r tt tt in
     either (Keeps r.turning) (is_no line) (over g r) (Stopped Restarts (anew r)) ends tt
 answered_keeps g prompt.Key f go h line r = h true r
 answered_keeps g prompt.Over f go h line r = h f.acted r

@@ -10,7 +10,7 @@ use Rattle.paw_effects.specs.declared.act.Effect.TheVariants as effect
 use Rattle.paw_reading.specs.declared.places.Frame.{Frame}
 use Rattle.paw_reading.specs.declared.places.OpenLoop.{OpenLoop}
 use Rattle.paw_reading.specs.Run.{Run, without_loop, heard}
-use Rattle.paw_reading.specs.Reading.{Out, Left, Waits, Stopped, after_call, at_level, again, is_taken, taken, turns, loop_of, over, asked, reads_one, entries, is_for_now, inside, plain, looped, deeper, rest, goodbye, ended}
+use Rattle.paw_reading.specs.Reading.{Out, Left, Waits, Stopped, after_call, at_level, again, is_taken, taken, turns, loop_of, over, asked, reads_one, entries, is_for_now, inside, plain, looped, deeper, rest, goodbye, game_over}
 use Rattle.paw_reading.specs.GoingOn.{on_path}
 use Rattle.paw_reading.specs.Rules.{past, at_frame, leaves, looks, goes, MayRead, ReadsEntries, ReadsCondacts, FollowsActions, TurnsLoops, AnswersPrompts, ReadingOn}
 use Rattle.paw_reading.proofs.Lists.{drop_none, drop_some}
@@ -137,7 +137,7 @@ module _ (g : Story) (lv : ℕ) where
 
   -- the end of the game is final
   over_stays : (r : Run) → again lv (looped g (deeper g lv) lv) (over g r) ≡ over g r
-  over_stays r = prints (λ x. again lv (looped g (deeper g lv) lv) x ≡ x) (goodbye g r) ended r refl refl
+  over_stays r = prints (λ x. again lv (looped g (deeper g lv) lv) x ≡ x) (goodbye g r) game_over r refl refl
 
   answers_prompts : AnswersPrompts g lv
   unfolding asked

@@ -11,7 +11,7 @@ use Rattle.paw_effects.specs.declared.act.Prompt.{Prompt}
 use Rattle.paw_effects.specs.declared.act.Prompt.TheVariants as prompt
 use Rattle.paw_reading.specs.declared.places.Frame.{Frame}
 use Rattle.paw_reading.specs.Run.{Run, Step, closed, fits, printed, with_world, line_dropped, is_timeout, is_ignored, heard, taken_phrase}
-use Rattle.paw_reading.specs.Reading.{RunsOut, Redescribes, Restarts, Halts, Out, Left, Waits, Stopped, rest, table_read, phrase_of}
+use Rattle.paw_reading.specs.Reading.{RunsOut, Redescribes, Restarts, Halts, Out, Left, Waits, Stopped, rest, table_read, coming_phrase}
 use Rattle.paw_reading.specs.GoingOn.{on_path, with_lines}
 use Rattle.paw_reading.specs.Turn.{Stage, AtDescribe, AtFrame, AtPhrase, AtResponse, Ending, WaitsAt, Halted, Unended, saying, described, framed, view_text, counted, prompt_text, line_set, at_main, after_phrase, refusal_text, connected, after_left, table_done, turn, stages_left, first_table, in_table, goes_on, on, reading, text_of, timeout_text, unknown_text}
 use Rattle.paw_reading.specs.Longer.{with_past, without_past, ending_with_past, PastStays, LongerReading, LongerText}
@@ -122,7 +122,7 @@ module _ (g : Story) (ps : List (List ℕ)) (ts : List (List Step)) where
       saying_past (view_text g.game (described r.world)) (λ q. table_done g (turn g n) 1 (table_read g 1 q)) (with_world (described r.world) r)
       (read_past (turn g n) (turn_past n) 1 (printed (view_text g.game (described r.world)) (with_world (described r.world) r)))
   turn_past (suc n) AtFrame r = read_past (turn g n) (turn_past n) 2 r
-  turn_past (suc n) AtPhrase r = after_phrase_past (turn g n) (turn_past n) r (phrase_of g r)
+  turn_past (suc n) AtPhrase r = after_phrase_past (turn g n) (turn_past n) r (coming_phrase g r)
   turn_past (suc n) AtResponse r = read_past (turn g n) (turn_past n) 0 r
 
   in_table_past : (n : ℕ) (p : Prompt) (path : List Frame) (r : Run) → in_table g n p path (with_past ps ts r) ≡ ending_with_past ps ts (in_table g n p path r)

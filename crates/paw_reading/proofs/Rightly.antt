@@ -18,7 +18,7 @@ use Rattle.paw_effects.proofs.Placed.{IsPlaced, opened_placed}
 use Rattle.paw_reading.specs.declared.places.Frame.{Frame}
 use Rattle.paw_reading.specs.declared.places.OpenLoop.{OpenLoop}
 use Rattle.paw_reading.specs.Run.{Run, Step, closed, fits, printed, with_world, line_dropped, is_timeout, is_ignored, heard, taken_phrase}
-use Rattle.paw_reading.specs.Reading.{IsOver, RunsOut, Redescribes, Restarts, Halts, Out, Left, Waits, Stopped, table_read, phrase_of}
+use Rattle.paw_reading.specs.Reading.{IsOver, RunsOut, Redescribes, Restarts, Halts, Out, Left, Waits, Stopped, table_read, coming_phrase}
 use Rattle.paw_reading.specs.Turn.{Stage, AtDescribe, AtFrame, AtPhrase, AtResponse, Ending, WaitsAt, Halted, reading, on, saying, described, framed, view_text, counted, prompt_text, line_set, at_main, after_phrase, refusal_text, connected, after_left, table_done, turn, stages_left, opening, first_table, in_table, goes_on, timeout_text, unknown_text}
 use Rattle.paw_reading.specs.Bounds.{IsLine, ValidStory, IsBounded}
 use Rattle.paw_reading.specs.Longer.{without_past, with_past, ending_with_past}
@@ -154,7 +154,7 @@ module _ (g : Story) (v : Valid g.game) where
       (with_world (described r.world) r) (record { of = described_placed g.game r.world k.of; none = k.none })
   turn_rightly (suc n) AtFrame r k = read_rightly (turn g n) (turn_rightly n) 2 (omega arith) r k
   turn_rightly (suc n) AtPhrase r k =
-      after_phrase_rightly (turn g n) (turn_rightly n) (phrase_of g r) r k
+      after_phrase_rightly (turn g n) (turn_rightly n) (coming_phrase g r) r k
   turn_rightly (suc n) AtResponse r k = read_rightly (turn g n) (turn_rightly n) 0 (omega arith) r k
 
   -- ---- going on ----

@@ -15,7 +15,7 @@ use Rattle.paw_game.specs.Valid.{Valid, is_condact, is_entry, is_any, is_verb_va
 use Rattle.paw_game.proofs.Kept.{first_of_and, second_of_and, table_kept, entry_kept, exit-leads}
 use Rattle.paw_world.specs.World.{World, flag, with_flag, is_dark, is_unlit, fallen, fallen_if}
 use Rattle.paw_phrase.specs.declared.Sentence.{Sentence}
-use Rattle.paw_phrase.specs.Sentence.{Parsed, IsSentence, IsUnknown, IsNoPhrase, parsed}
+use Rattle.paw_phrase.specs.Sentence.{Parsed, IsSentence, IsUnknown, IsNoPhrase}
 use Rattle.paw_phrase.proofs.Phrases.{IsRest as IsRestOf, rest-shorter, rest-all, sentence-rest, unknown-rest}
 use Rattle.paw_phrase.proofs.SentenceBytes.{AreBytes as AreWords, parsed-bytes}
 use Rattle.paw_effects.specs.Story.{Story}
@@ -31,7 +31,7 @@ use Rattle.paw_effects.specs.Effects.{Done, effect_of}
 use Rattle.paw_reading.specs.declared.places.Frame.{Frame}
 use Rattle.paw_reading.specs.declared.places.OpenLoop.{OpenLoop}
 use Rattle.paw_reading.specs.Run.{Run, closed, fits, printed, with_world, without_loop, line_dropped, anew, is_timeout, is_ignored, heard, with_timeout, reply, is_yes, is_no, spoken, taken_phrase}
-use Rattle.paw_reading.specs.Reading.{IsOver, RunsOut, Redescribes, Restarts, Halts, Out, Left, Waits, Stopped, halts, noted, printing, after_call, at_level, again, is_taken, named, taken, turns, loop_of, over, answered, asked, waits, after_test, after_parse, after_action, carried_out, acts, reads_one, condacts, is_for_now, entries, plain, looped, reads, called, deeper, table_read, goodbye, ended, quit_question}
+use Rattle.paw_reading.specs.Reading.{IsOver, RunsOut, Redescribes, Restarts, Halts, Out, Left, Waits, Stopped, halts, noted, printing, after_call, at_level, again, is_taken, named, taken, turns, loop_of, over, answered, asked, waits, after_test, after_parse, after_action, carried_out, acts, reads_one, condacts, is_for_now, entries, plain, looped, reads, called, deeper, table_read, goodbye, game_over, quit_question, coming_phrase}
 use Rattle.paw_reading.specs.GoingOn.{on_path}
 use Rattle.paw_reading.specs.Turn.{Stage, AtDescribe, AtFrame, AtPhrase, AtResponse, Ending, WaitsAt, Halted, saying, described, framed, view_text, counted, prompt_text, line_set, at_main, after_phrase, refusal_text, connected, after_left, table_done, turn, stages_left, opening, reading, first_table, in_table, goes_on, on, timeout_text, unknown_text}
 use Rattle.paw_reading.proofs.Keeps.{either, open_or_not}
@@ -210,10 +210,8 @@ module _ (g : Story) (valid : ValidStory g) (seed base : ℕ) where
   }
 
   -- the words of the phrase that is taken
-  abbrev next_phrase : Run → Parsed
-  next_phrase r = parsed g.game r.pending r.earlier (flag r.world 46) (flag r.world 47)
-
-  phrase_so : (r : Run) → Is r → (s : Sentence) (left : List ℕ) → next_phrase r ≡ IsSentence s left → Is (taken_phrase s left r)
+  phrase_so : (r : Run) → Is r → (s : Sentence) (left : List ℕ) → coming_phrase g r ≡ IsSentence s left →
+      Is (taken_phrase s left r)
   phrase_so r k s left e =
       let words = parsed-bytes g.game r.pending r.earlier (flag r.world 46) (flag r.world 47) s left v k.earlier (flag_small g.game v seed (bound r) r.world k.world 46) (flag_small g.game v seed (bound r) r.world k.world 47) e in
       record {
@@ -227,7 +225,8 @@ module _ (g : Story) (valid : ValidStory g) (seed base : ℕ) where
         traced = k.traced;
       }
 
-  unknown_so : (r : Run) → Is r → (left : List ℕ) → next_phrase r ≡ IsUnknown left → Is (record r { pending = left })
+  unknown_so : (r : Run) → Is r → (left : List ℕ) → coming_phrase g r ≡ IsUnknown left →
+      Is (record r { pending = left })
   unknown_so r k left e =
       with_pending r k left (left_line r.pending left (unknown-rest g.game r.pending r.earlier (flag r.world 46) (flag r.world 47) left e) k.line)
 
@@ -283,7 +282,7 @@ module _ (g : Story) (valid : ValidStory g) (seed base : ℕ) where
 
   over_sounds : (r : Run) → Is r → Sounds (over g r)
   over_sounds r k =
-      printing_sounds (goodbye g r) ended
+      printing_sounds (goodbye g r) game_over
       (λ s j. closed_rests (without_loop (line_dropped s)) (no_loop (line_dropped s) (dropped s j) None)) r k
 
   answered_sounds : (p : Prompt) (f : Frame) (go : Bool → Run → Out) → GoesSound go → (line : List ℕ) (r : Run) → Is r → Sounds (answered g p f go line r)
@@ -308,7 +307,8 @@ module _ (g : Story) (valid : ValidStory g) (seed base : ℕ) where
 
   -- ---- one condact ----
 
-  after_parse_sounds : (f : Frame) (next go : Bool → Run → Out) → GoesSound next → GoesSound go → (r : Run) → Is r → (p : Parsed) → next_phrase r ≡ p → Sounds (after_parse f next go r p)
+  after_parse_sounds : (f : Frame) (next go : Bool → Run → Out) → GoesSound next → GoesSound go → (r : Run) → Is r →
+      (p : Parsed) → coming_phrase g r ≡ p → Sounds (after_parse f next go r p)
   after_parse_sounds f next go hn hg r k (IsSentence s left) e = hn f.acted (taken_phrase s left r) (phrase_so r k s left e)
   after_parse_sounds f next go hn hg r k (IsUnknown left) e = hg f.acted (record r { pending = left }) (unknown_so r k left e)
   after_parse_sounds f next go hn hg r k IsNoPhrase e = hg f.acted r k
@@ -333,7 +333,8 @@ module _ (g : Story) (valid : ValidStory g) (seed base : ℕ) where
     after_action_sounds f next go hn hg (effect.Call u) r k = after_call_sounds f go hg (sub u r) (calls u r k)
     after_action_sounds f next go hn hg (effect.Loop p) r k = turns_sound lv (loop_of lv f p) (go true) (hg true) (length g.game.objects) r k
     after_action_sounds f next go hn hg (effect.Ask p) r k = waits_sounds p f go hg r k
-    after_action_sounds f next go hn hg effect.Parse r k = after_parse_sounds f next go hn hg r k (next_phrase r) refl
+    after_action_sounds f next go hn hg effect.Parse r k =
+        after_parse_sounds f next go hn hg r k (coming_phrase g r) refl
     after_action_sounds f next go hn hg effect.Spent r k = tt
 
     carried_so : (d : Done) (r : Run) → Is r → IsWorldAt g.game seed (bound r) d.world → Is (carried_out d r)
@@ -522,7 +523,8 @@ module _ (g : Story) (valid : ValidStory g) (seed base : ℕ) where
         saying_sounds (timeout_text g.game r.world) (go AtFrame) (goes AtFrame) (heard line s) (heard_so line s s_so))
         (goes AtPhrase (line_set line s) (line_set_so line s are.0 s_so)))
 
-    after_phrase_sounds : (r : Run) → Is r → (p : Parsed) → next_phrase r ≡ p → EndsSound (after_phrase g (go AtFrame) (go AtPhrase) (go AtResponse) r p)
+    after_phrase_sounds : (r : Run) → Is r → (p : Parsed) → coming_phrase g r ≡ p →
+        EndsSound (after_phrase g (go AtFrame) (go AtPhrase) (go AtResponse) r p)
     after_phrase_sounds r k (IsSentence s left) e =
         let taken_run : Is (taken_phrase s left r) = phrase_so r k s left e in
         goes AtResponse (with_world (counted (taken_phrase s left r).world) (taken_phrase s left r))
@@ -540,7 +542,7 @@ module _ (g : Story) (valid : ValidStory g) (seed base : ℕ) where
       saying_sounds (view_text g.game (described r.world)) (λ q. table_done g (turn g n) 1 (table_read g 1 q)) (read_sounds (turn g n) (turn_sounds n) 1)
       (with_world (described r.world) r) (in_world r k (described r.world) (described_so (bound r) r.world k.world))
   turn_sounds (suc n) AtFrame r k = read_sounds (turn g n) (turn_sounds n) 2 r k
-  turn_sounds (suc n) AtPhrase r k = after_phrase_sounds (turn g n) (turn_sounds n) r k (next_phrase r) refl
+  turn_sounds (suc n) AtPhrase r k = after_phrase_sounds (turn g n) (turn_sounds n) r k (coming_phrase g r) refl
   turn_sounds (suc n) AtResponse r k = read_sounds (turn g n) (turn_sounds n) 0 r k
 
   opening_so : (es : List (List ℕ)) → AreLines es → Is (opening g seed es)

@@ -22,7 +22,7 @@ use Rattle.paw_effects.specs.Effects.{Done, effect_of}
 use Rattle.paw_reading.specs.declared.places.Frame.{Frame}
 use Rattle.paw_reading.specs.declared.places.OpenLoop.{OpenLoop}
 use Rattle.paw_reading.specs.Run.{Run, closed, fits, printed, with_world, anew, is_ignored, heard, reply, is_yes, is_no, taken_phrase}
-use Rattle.paw_reading.specs.Reading.{RunsOut, Restarts, Halts, Out, Left, Waits, Stopped, halts, within, noted, after_call, at_level, again, is_taken, taken, turns, loop_of, over, answered, asked, after_test, after_parse, after_action, carried_out, acts, reads_one, condacts, is_for_now, entries, plain, looped, reads, called, deeper, rest, table_read, phrase_of, goodbye, ended, quit_question, waits}
+use Rattle.paw_reading.specs.Reading.{RunsOut, Restarts, Halts, Out, Left, Waits, Stopped, halts, within, noted, after_call, at_level, again, is_taken, taken, turns, loop_of, over, answered, asked, after_test, after_parse, after_action, carried_out, acts, reads_one, condacts, is_for_now, entries, plain, looped, reads, called, deeper, rest, table_read, coming_phrase, goodbye, game_over, quit_question, waits}
 use Rattle.paw_reading.specs.GoingOn.{on_path}
 use Rattle.paw_reading.specs.Turn.{left_to_read}
 use Rattle.paw_reading.proofs.Keeps.{either, open_or_not, prints}
@@ -83,7 +83,7 @@ after_call_spends f go h v (Stopped stop r) k = k
 -- ---- prompts ----
 
 over_spends : (g : Story) (v : ℕ) (r : Run) → Spends v (over g r)
-over_spends g v r = prints (Spends v) (goodbye g r) ended r tt tt
+over_spends g v r = prints (Spends v) (goodbye g r) game_over r tt tt
 
 answered_spends : (g : Story) (p : Prompt) (f : Frame) (go : Bool → Run → Out) → AreSpending go → (line : List ℕ) (r : Run) (v : ℕ) →
     left_to_read r < v → brought r.events + 200000 < v → Spends v (answered g p f go line r)
@@ -138,7 +138,7 @@ module _ (g : Story) (sub : ℕ → Run → Out) (lv : ℕ) (calls : CallsSpendi
       Spends_up (length r.pending + brought r.events) _ (omega arith) _ (asked_spends g p f go hg (closed r) r.events)
   after_action_spends f next go hn hg effect.Parse r =
       Spends_up (left_to_read r) _ (omega arith) _
-      (after_parse_spends f next go hn hg r (phrase_of g r)
+      (after_parse_spends f next go hn hg r (coming_phrase g r)
       (parsed-shorter g.game r.pending r.earlier (flag r.world 46) (flag r.world 47)))
   after_action_spends f next go hn hg effect.Spent r = tt
 

@@ -18,7 +18,7 @@ use Rattle.paw_effects.specs.Effects.{Done, effect_of}
 use Rattle.paw_reading.specs.declared.places.Frame.{Frame}
 use Rattle.paw_reading.specs.declared.places.OpenLoop.{OpenLoop}
 use Rattle.paw_reading.specs.Run.{Run, closed, fits, printed, with_world, anew, is_ignored, heard, reply, is_yes, is_no, taken_phrase}
-use Rattle.paw_reading.specs.Reading.{RunsOut, Restarts, Halts, Out, Left, Waits, Stopped, halts, noted, after_call, at_level, again, is_taken, taken, turns, loop_of, over, answered, asked, after_test, after_parse, after_action, carried_out, acts, reads_one, condacts, is_for_now, entries, plain, looped, reads, called, deeper, rest, goodbye, ended, quit_question, waits}
+use Rattle.paw_reading.specs.Reading.{RunsOut, Restarts, Halts, Out, Left, Waits, Stopped, halts, noted, after_call, at_level, again, is_taken, taken, turns, loop_of, over, answered, asked, after_test, after_parse, after_action, carried_out, acts, reads_one, condacts, is_for_now, entries, plain, looped, reads, called, deeper, rest, goodbye, game_over, quit_question, waits}
 use Rattle.paw_reading.specs.GoingOn.{on_path}
 use Rattle.paw_reading.proofs.Keeps.{either, open_or_not, prints}
 
@@ -66,7 +66,7 @@ answered_stops : (g : Story) (p : Prompt) (f : Frame) (go : Bool → Run → Out
 answered_stops g prompt.Main f go h line r = h f.acted r
 answered_stops g prompt.Quit f go h line r = either Stops (is_yes line) _ (Left true r) (h f.acted r) tt
 answered_stops g prompt.Again f go h line r =
-    either Stops (is_no line) (over g r) (Stopped Restarts (anew r)) (prints Stops (goodbye g r) ended r tt tt) refl
+    either Stops (is_no line) (over g r) (Stopped Restarts (anew r)) (prints Stops (goodbye g r) game_over r tt tt) refl
 answered_stops g prompt.Key f go h line r = h true r
 answered_stops g prompt.Over f go h line r = h f.acted r
 

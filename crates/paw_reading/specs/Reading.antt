@@ -97,11 +97,10 @@ abbrev pub if_open : (OpenLoop → Out) → Out → Option OpenLoop → Out
 if_open next left None = left
 if_open next left (Some l) = next l
 
--- a table that is left at the level of the open loop goes on with the loop's next object
+-- a table that is left at the level of the open loop goes on with the loop's next object; else it is as it is
 abbrev pub again : ℕ → (OpenLoop → Run → Out) → Out → Out
 again lv next (Left a r) = if_open (λ l. next l r) (Left a r) (at_level lv r.turning)
-again lv next (Waits p path r) = Waits p path r
-again lv next (Stopped stop r) = Stopped stop r
+again lv next x = x
 
 -- the sentence excepts an object by its second noun, and by its second adjective where it has one
 abbrev pub is_excepted : World → ObjectFacts → Bool
@@ -151,12 +150,12 @@ abbrev pub goodbye : Story → Run → List ℕ
 goodbye g r = say_text g.game r.world GOODBYE_MESSAGE
 
 -- the game is over, with its last piece closed
-abbrev pub ended : Run → Out
-ended r = halts IsOver (closed (without_loop (line_dropped r)))
+abbrev pub game_over : Run → Out
+game_over r = halts IsOver (closed (without_loop (line_dropped r)))
 
 -- END's question answered with no: the game says goodbye and is over
 abbrev pub over : Story → Run → Out
-over g r = printing (goodbye g r) ended r
+over g r = printing (goodbye g r) game_over r
 
 -- the answer to a prompt in a table: QUIT goes on at yes and leaves the table at no; END ends the game at no and starts
 -- it anew otherwise; a key goes on
@@ -198,13 +197,13 @@ after_parse f next go r (IsUnknown rest) = go f.acted (record r { pending = rest
 after_parse f next go r IsNoPhrase = go f.acted r
 
 -- the next phrase of the line, where pronouns stand for what the sentences before said
-abbrev pub phrase_of : Story → Run → Parsed
-phrase_of g r =
+abbrev pub coming_phrase : Story → Run → Parsed
+coming_phrase g r =
     parsed g.game r.pending r.earlier (flag r.world PRONOUN_NOUN_FLAG) (flag r.world PRONOUN_ADJECTIVE_FLAG)
 
 -- PARSE takes the next phrase: a sentence leads to the next entry
 abbrev pub parses : Story → Frame → Onward → Onward → Run → Out
-parses g f next go r = after_parse f next go r (phrase_of g r)
+parses g f next go r = after_parse f next go r (coming_phrase g r)
 
 -- how reading goes on after an action; sub reads a table one level deeper
 abbrev pub after_action : Story → Called → ℕ → Frame → Onward → Onward → Effect → Run → Out

@@ -19,7 +19,7 @@ use Rattle.paw_effects.specs.Effects.{effect_of}
 use Rattle.paw_reading.specs.declared.places.Frame.{Frame}
 use Rattle.paw_reading.specs.declared.places.OpenLoop.{OpenLoop}
 use Rattle.paw_reading.specs.Run.{Run, closed, fits, printed, with_world, without_loop, anew, is_ignored, heard, reply, is_yes, is_no, taken_phrase}
-use Rattle.paw_reading.specs.Reading.{RunsOut, CallsTooDeep, Redescribes, Restarts, Out, Left, Waits, Stopped, halts, noted, after_call, at_level, again, is_taken, taken, loop_of, over, quit_question, phrase_of, after_action, carried_out, frame_at, is_for_now, inside, plain, looks_from, looped, deeper, rest}
+use Rattle.paw_reading.specs.Reading.{RunsOut, CallsTooDeep, Redescribes, Restarts, Out, Left, Waits, Stopped, halts, noted, after_call, at_level, again, is_taken, taken, loop_of, over, quit_question, coming_phrase, after_action, carried_out, frame_at, is_for_now, inside, plain, looks_from, looped, deeper, rest}
 use Rattle.paw_reading.specs.GoingOn.{on_path}
 
 -- ---- words ----
@@ -146,11 +146,11 @@ pub record FollowsActions (g : Story) (lv : ℕ) : Type 0 where
   pub deep : (f : Frame) (u : ℕ) (r : Run) → LEVEL_LIMIT ≤ lv → goes g lv f (effect.Call u) r ≡ halts (CallsTooDeep u) r
   pub loop : (f : Frame) (p : ℕ) (r : Run) → goes g lv f (effect.Loop p) r ≡ looks g lv (loop_of lv f p) 0 r
   pub ask : (f : Frame) (p : Prompt) (r : Run) → goes g lv f (effect.Ask p) r ≡ on_path g p lv (f ∷ []) (closed r)
-  pub sentence : (f : Frame) (s : Sentence) (bytes : List ℕ) (r : Run) → phrase_of g r ≡ IsSentence s bytes →
+  pub sentence : (f : Frame) (s : Sentence) (bytes : List ℕ) (r : Run) → coming_phrase g r ≡ IsSentence s bytes →
       goes g lv f effect.Parse r ≡ next g lv f f.acted (taken_phrase s bytes r)
-  pub unknown : (f : Frame) (bytes : List ℕ) (r : Run) → phrase_of g r ≡ IsUnknown bytes →
+  pub unknown : (f : Frame) (bytes : List ℕ) (r : Run) → coming_phrase g r ≡ IsUnknown bytes →
       goes g lv f effect.Parse r ≡ past g lv f f.acted (record r { pending = bytes })
-  pub no_phrase : (f : Frame) (r : Run) → phrase_of g r ≡ IsNoPhrase →
+  pub no_phrase : (f : Frame) (r : Run) → coming_phrase g r ≡ IsNoPhrase →
       goes g lv f effect.Parse r ≡ past g lv f f.acted r
   pub too_long : (f : Frame) (r : Run) → goes g lv f effect.Spent r ≡ halts (RunsOut spent.Text) r
 

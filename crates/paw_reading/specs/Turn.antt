@@ -16,7 +16,7 @@ use Rattle.paw_effects.specs.Counts.{turns_taken}
 use Rattle.paw_effects.specs.Texts.{put_text, say_text, location_text}
 use Rattle.paw_reading.specs.declared.places.Frame.{Frame}
 use Rattle.paw_reading.specs.Run.{Run, closed, fits, printed, with_world, line_dropped, is_timeout, is_ignored, heard, with_timeout, taken_phrase}
-use Rattle.paw_reading.specs.Reading.{Halt, IsOver, RunsOut, Stop, Redescribes, Restarts, Halts, Out, Left, Waits, Stopped, phrase_of, table_read}
+use Rattle.paw_reading.specs.Reading.{Halt, IsOver, RunsOut, Stop, Redescribes, Restarts, Halts, Out, Left, Waits, Stopped, coming_phrase, table_read}
 use Rattle.paw_reading.specs.GoingOn.{on_path, with_lines}
 
 -- the four stages of a turn
@@ -156,7 +156,7 @@ turn g (suc n) AtDescribe r =
     saying view (λ s. table_done g (turn g n) 1 (table_read g 1 s)) (with_world (described r.world) r)
 turn g (suc n) AtFrame r = table_done g (turn g n) 2 (table_read g 2 r)
 turn g (suc n) AtPhrase r =
-    after_phrase g (turn g n AtFrame) (turn g n AtPhrase) (turn g n AtResponse) r (phrase_of g r)
+    after_phrase g (turn g n AtFrame) (turn g n AtPhrase) (turn g n AtResponse) r (coming_phrase g r)
 turn g (suc n) AtResponse r = table_done g (turn g n) 0 (table_read g 0 r)
 
 -- how much a run may still read: what is left of the line, what the open piece may still read, and what each line
