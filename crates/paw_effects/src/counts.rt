@@ -5,38 +5,20 @@ ghost use Rattle.paw_base.specs.Piece.{Puts};
 ghost use Rattle.paw_effects.specs.Counts.{turns_taken, plural_text, turns_text, score_text};
 
 use crate::text::{print_number, put, say};
+use paw_base::flags::{HIGH_TURNS_FLAG, LOW_TURNS_FLAG, SCORE_FLAG};
+use paw_base::messages::{
+    PLURAL_MESSAGE, SCORE_END_MESSAGE, SCORE_MESSAGE, TURN_MESSAGE, TURNS_END_MESSAGE,
+    TURNS_MESSAGE,
+};
 use paw_base::piece::Piece;
 use paw_game::tables::Tables;
 use paw_world::world::World;
-
-/// The score.
-const SCORE: u8 = 30;
-
-/// The number of turns, its low byte.
-pub const TURNS_LOW: u8 = 31;
-
-/// The number of turns, its high byte.
-pub const TURNS_HIGH: u8 = 32;
-
-/// The system messages round the number of turns.
-const BEFORE_TURNS: u8 = 17;
-
-const AFTER_TURNS: u8 = 18;
-
-const PLURAL: u8 = 19;
-
-const END_OF_TURNS: u8 = 20;
-
-/// The system messages round the score.
-const BEFORE_SCORE: u8 = 21;
-
-const AFTER_SCORE: u8 = 22;
 
 /// The number of turns: 0 to 65,535.
 pub fn turns_taken(world: &World) -> u16
     ensures value { result ≡ turns_taken world.now }
 {
-    u16::from(world.flag(TURNS_LOW)) + 256 * u16::from(world.flag(TURNS_HIGH))
+    u16::from(world.flag(LOW_TURNS_FLAG)) + 256 * u16::from(world.flag(HIGH_TURNS_FLAG))
 }
 
 /// Puts what makes a word of more than one, unless the number is 1.
@@ -46,7 +28,7 @@ fn put_plural<T: Tables>(tables: &T, world: &World, piece: &mut Piece, number: u
     if number == 1 {
         piece.push(&[])
     } else {
-        put(tables, world, piece, PLURAL)
+        put(tables, world, piece, PLURAL_MESSAGE)
     }
 }
 
@@ -55,18 +37,18 @@ pub(crate) fn tell_turns<T: Tables>(tables: &T, world: &World, piece: &mut Piece
     ensures puts { Puts piece.old piece.new result (turns_text (T.game tables.now) world.now) }
 {
     let turns = turns_taken(world);
-    put(tables, world, piece, BEFORE_TURNS)
+    put(tables, world, piece, TURNS_MESSAGE)
         && print_number(piece, turns)
-        && put(tables, world, piece, AFTER_TURNS)
+        && put(tables, world, piece, TURN_MESSAGE)
         && put_plural(tables, world, piece, turns)
-        && say(tables, world, piece, END_OF_TURNS)
+        && say(tables, world, piece, TURNS_END_MESSAGE)
 }
 
 /// Tells the score.
 pub(crate) fn tell_score<T: Tables>(tables: &T, world: &World, piece: &mut Piece) -> bool
     ensures puts { Puts piece.old piece.new result (score_text (T.game tables.now) world.now) }
 {
-    put(tables, world, piece, BEFORE_SCORE)
-        && print_number(piece, u16::from(world.flag(SCORE)))
-        && say(tables, world, piece, AFTER_SCORE)
+    put(tables, world, piece, SCORE_MESSAGE)
+        && print_number(piece, u16::from(world.flag(SCORE_FLAG)))
+        && say(tables, world, piece, SCORE_END_MESSAGE)
 }

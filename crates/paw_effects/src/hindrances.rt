@@ -6,22 +6,23 @@ ghost use Rattle.paw_effects.specs.declared.object_actions.Action.TheVariants as
 
 use crate::object_actions::Action;
 use crate::object_words::Words;
-use crate::presence::{CARRIED, WORN, is_held, is_here};
-use paw_world::flags;
+use crate::presence::{is_held, is_here};
+use paw_base::flags::{CARRIED_FLAG, MOST_CARRIED_FLAG, MOST_WEIGHT_FLAG};
+use paw_base::places::{CARRIED_PLACE, WORN_PLACE};
 use paw_world::world::World;
 
 fn is_worn(world: &World, o: u8) -> bool
     requires known { o < length world.now.places }
     ensures value { result ≡ is_worn world.now o }
 {
-    world.place(o) == WORN
+    world.place(o) == WORN_PLACE
 }
 
 fn is_carried(world: &World, o: u8) -> bool
     requires known { o < length world.now.places }
     ensures value { result ≡ is_carried world.now o }
 {
-    world.place(o) == CARRIED
+    world.place(o) == CARRIED_PLACE
 }
 
 fn can_be_worn(world: &World, o: u8) -> bool
@@ -37,14 +38,14 @@ fn is_too_heavy(world: &World, o: u8) -> bool
     ensures value { result ≡ is_too_heavy world.now o }
 {
     let total = u16::from(world.carried_weight()) + u16::from(world.weight(o));
-    total > u16::from(world.flag(flags::MOST_WEIGHT))
+    total > u16::from(world.flag(MOST_WEIGHT_FLAG))
 }
 
 /// Whether as many objects are carried as may be.
 fn is_laden(world: &World) -> bool
     ensures value { result ≡ is_laden world.now }
 {
-    world.flag(flags::CARRIED) >= world.flag(flags::MOST_CARRIED)
+    world.flag(CARRIED_FLAG) >= world.flag(MOST_CARRIED_FLAG)
 }
 
 /// Whether the object whose number is that of a place is worn or carried.

@@ -5,31 +5,19 @@ ghost use Rattle.paw_base.specs.Piece.{Puts};
 ghost use Rattle.paw_effects.specs.Lists.{lists_are_sentences, worn_text, as_lines, joint, others_joined, list_of, list_or_say, inventory_text, place_list_text, here_list_text};
 ghost use Rattle.paw_effects.specs.Listing.{lesser, listed_above, listed_text, texts_above};
 
-use crate::presence::{CARRIED, LOCATION, WORN, is_somewhere};
+use crate::presence::is_somewhere;
 use crate::text::{print_object, put, say};
+use paw_base::flags::{LISTING_FLAG, LOCATION_FLAG};
+use paw_base::messages::{
+    EMPTY_HANDED_MESSAGE, INVENTORY_MESSAGE, IS_WORN_MESSAGE, NOTHING_THERE_MESSAGE, SEEN_MESSAGE,
+};
 use paw_base::piece::Piece;
+use paw_base::places::{CARRIED_PLACE, WORN_PLACE};
 use paw_game::tables::Tables;
 use paw_world::world::World;
 
-/// Bit 6 tells that lists are sentences.
-const LISTING: u8 = 53;
-
+/// Bit 6 of its flag tells that lists are sentences.
 const SENTENCES: u8 = 64;
-
-/// The system message before the objects at the current location.
-const SEEN: u8 = 1;
-
-/// The system message before the inventory.
-const INVENTORY: u8 = 9;
-
-/// The system message behind what is worn.
-const IS_WORN: u8 = 10;
-
-/// The system message of an empty inventory.
-const EMPTY_INVENTORY: u8 = 11;
-
-/// The system message of a place where nothing stands.
-const EMPTY_PLACE: u8 = 53;
 
 /// The objects of a list: those at a place, or those that are worn or carried.
 #[derive(Clone, Copy, Drop, PartialEq, Eq, Debug)]
@@ -59,7 +47,10 @@ fn next(world: &World, listed: Listed, above: Option<u8>) -> Option<u8>
 {
     match listed {
         Listed::At(p) => world.first_at(p, above),
-        Listed::Held => lesser(world.first_at(WORN, above), world.first_at(CARRIED, above)),
+        Listed::Held => lesser(
+            world.first_at(WORN_PLACE, above),
+            world.first_at(CARRIED_PLACE, above),
+        ),
     }
 }
 
@@ -67,7 +58,7 @@ fn next(world: &World, listed: Listed, above: Option<u8>) -> Option<u8>
 fn lists_are_sentences(world: &World) -> bool
     ensures value { result ≡ lists_are_sentences world.now }
 {
-    world.flag(LISTING) & SENTENCES != 0
+    world.flag(LISTING_FLAG) & SENTENCES != 0
 }
 
 /// Puts the message behind what is worn, where the object is.
@@ -75,8 +66,8 @@ fn put_if_worn<T: Tables>(tables: &T, world: &World, piece: &mut Piece, o: u8) -
     requires known { o < length world.now.places }
     ensures puts { Puts piece.old piece.new result (worn_text (T.game tables.now) world.now o) }
 {
-    if world.place(o) == WORN {
-        put(tables, world, piece, IS_WORN)
+    if world.place(o) == WORN_PLACE {
+        put(tables, world, piece, IS_WORN_MESSAGE)
     } else {
         piece.push(&[])
     }
@@ -211,15 +202,15 @@ fn list_or_say<T: Tables>(
 pub(crate) fn print_inventory<T: Tables>(tables: &T, world: &World, piece: &mut Piece) -> bool
     ensures puts { Puts piece.old piece.new result (inventory_text (T.game tables.now) world.now) }
 {
-    say(tables, world, piece, INVENTORY)
-        && list_or_say(tables, world, piece, Listed::Held, EMPTY_INVENTORY)
+    say(tables, world, piece, INVENTORY_MESSAGE)
+        && list_or_say(tables, world, piece, Listed::Held, EMPTY_HANDED_MESSAGE)
 }
 
 /// Prints what stands at a place.
 pub(crate) fn print_place<T: Tables>(tables: &T, world: &World, piece: &mut Piece, p: u8) -> bool
     ensures puts { Puts piece.old piece.new result (place_list_text (T.game tables.now) world.now p) }
 {
-    list_or_say(tables, world, piece, Listed::At(p), EMPTY_PLACE)
+    list_or_say(tables, world, piece, Listed::At(p), NOTHING_THERE_MESSAGE)
 }
 
 /// Prints what stands at the current location, where anything does.
@@ -229,10 +220,10 @@ pub(crate) fn print_here<T: Tables>(tables: &T, world: &World, piece: &mut Piece
     if !is_somewhere(world) {
         return piece.push(&[]);
     }
-    let here = Listed::At(world.flag(LOCATION));
+    let here = Listed::At(world.flag(LOCATION_FLAG));
     match next(world, here, None) {
         Some(first) => {
-            say(tables, world, piece, SEEN) && print_list(tables, world, piece, here, first)
+            say(tables, world, piece, SEEN_MESSAGE) && print_list(tables, world, piece, here, first)
         }
         None => piece.push(&[]),
     }

@@ -6,9 +6,10 @@ ghost use Rattle.paw_effects.specs.Built.{IsOf};
 ghost use Rattle.paw_effects.specs.Parameters.{takes_object, takes_second_object};
 ghost use Rattle.paw_effects.specs.MoveActions.{is_move, move_of, all_dropped, swapped, referred_moved, moved_if_place, names_place, reset};
 
-use crate::presence::{LOCATION, NOT_CREATED, here, is_held, named_place};
+use crate::presence::{here, is_held, named_place};
+use paw_base::flags::{LOCATION_FLAG, REFERRED_FLAG};
 use paw_base::parts::Condact;
-use paw_world::flags::REFERRED;
+use paw_base::places::NOT_CREATED_PLACE;
 use paw_world::world::World;
 
 /// Whether a code is an action that moves objects, or the one that tells a place.
@@ -46,7 +47,7 @@ fn swap(world: &mut World, o: u8, k: u8)
 fn move_referred(world: &mut World, p: u8)
     ensures value { world.new ≡ referred_moved world.old p }
 {
-    let o = world.flag(REFERRED);
+    let o = world.flag(REFERRED_FLAG);
     if o < world.objects() {
         world.move_to(o, p);
     }
@@ -56,7 +57,7 @@ fn move_referred(world: &mut World, p: u8)
 fn names_place(world: &World, p: u8) -> bool
     ensures value { result ≡ names_place world.now p }
 {
-    p < world.locations() || p >= NOT_CREATED
+    p < world.locations() || p >= NOT_CREATED_PLACE
 }
 
 /// Moves an object to the place that a number names, where it names one.
@@ -82,7 +83,7 @@ pub(crate) fn move_objects(world: &mut World, c: Condact)
     match c.code {
         42 => drop_all(world), // DROPALL
         61 => world.move_to(c.a, here(world)), // CREATE
-        62 => world.move_to(c.a, NOT_CREATED), // DESTROY
+        62 => world.move_to(c.a, NOT_CREATED_PLACE), // DESTROY
         63 => swap(world, c.a, c.b), // SWAP
         64 => world.move_to(c.a, named_place(world, c.b)), // PLACE
         65 => move_referred(world, named_place(world, c.a)), // PUTO
@@ -100,5 +101,5 @@ pub(crate) fn reset(world: &mut World, location: u8)
     ensures draws { world.new.draws ≡ world.old.draws }
 {
     world.return_objects();
-    world.set_flag(LOCATION, location);
+    world.set_flag(LOCATION_FLAG, location);
 }

@@ -8,9 +8,10 @@ ghost use Rattle.paw_effects.specs.ObjectActions.{destination, outcome, refuses,
 use crate::act::{Act, Effect, after, on};
 use crate::hindrances::hindrance;
 use crate::object_words::{Words, speak};
-use crate::presence::{CARRIED, WORN, here};
+use crate::presence::here;
 use crate::referring::refer;
 use paw_base::piece::Piece;
+use paw_base::places::{CARRIED_PLACE, WORN_PLACE};
 use paw_game::tables::Tables;
 use paw_world::world::World;
 
@@ -31,9 +32,9 @@ impl Action {
         ensures value { result ≡ destination world.now self }
     {
         match self {
-            Action::Get | Action::Remove | Action::TakeOut(_) => CARRIED,
+            Action::Get | Action::Remove | Action::TakeOut(_) => CARRIED_PLACE,
             Action::Drop => here(world),
-            Action::Wear => WORN,
+            Action::Wear => WORN_PLACE,
             Action::PutIn(place) => place,
         }
     }

@@ -3,12 +3,11 @@
 ghost use Rattle.std.specs.Prelude.{◌≡◌, ◌<◌, length, IfSome};
 ghost use Rattle.paw_effects.specs.ObjectSearch.{fits_sentence, some_fits, least_fitting, fitting_at, first_fitting};
 
-use crate::presence::{CARRIED, LOCATION, WORN, is_somewhere};
-use paw_world::flags::{ADJECTIVE, NOUN};
+use crate::presence::is_somewhere;
+use paw_base::flags::{ADJECTIVE_FLAG, LOCATION_FLAG, NOUN_FLAG};
+use paw_base::places::{CARRIED_PLACE, WORN_PLACE};
+use paw_base::words::NO_WORD;
 use paw_world::world::World;
-
-/// No word.
-const NONE: u8 = 255;
 
 /// A place to look at: the current location, where it is one of the game's, or a place by its number.
 #[derive(Clone, Copy, Drop, PartialEq, Eq, Debug)]
@@ -18,9 +17,9 @@ pub(crate) enum Spot {
 }
 
 impl Spot {
-    pub(crate) const WORN: Spot = Spot::At(WORN);
+    pub(crate) const WORN: Spot = Spot::At(WORN_PLACE);
 
-    pub(crate) const CARRIED: Spot = Spot::At(CARRIED);
+    pub(crate) const CARRIED: Spot = Spot::At(CARRIED_PLACE);
 }
 
 /// Whether an object fits the sentence: by its noun, and by its adjective where the sentence has one.
@@ -29,9 +28,9 @@ fn fits(world: &World, o: u8) -> bool
     ensures value { result ≡ fits_sentence world.now o }
 {
     let facts = world.facts(o);
-    let noun = world.flag(NOUN);
-    let adjective = world.flag(ADJECTIVE);
-    noun != NONE && facts.noun == noun && (adjective == NONE || facts.adjective == adjective)
+    let noun = world.flag(NOUN_FLAG);
+    let adjective = world.flag(ADJECTIVE_FLAG);
+    noun != NO_WORD && facts.noun == noun && (adjective == NO_WORD || facts.adjective == adjective)
 }
 
 /// Whether some object of the game fits the sentence, wherever it is.
@@ -67,7 +66,7 @@ fn fitting_at(world: &World, spot: Spot) -> Option<u8>
     ensures known { IfSome result (λ o. o < length world.now.places) }
 {
     match spot {
-        Spot::Here if is_somewhere(world) => least_fitting(world, world.flag(LOCATION)),
+        Spot::Here if is_somewhere(world) => least_fitting(world, world.flag(LOCATION_FLAG)),
         Spot::Here => None,
         Spot::At(place) => least_fitting(world, place),
     }

@@ -5,12 +5,16 @@ ghost use Rattle.paw_base.specs.Piece.{Puts};
 ghost use Rattle.paw_effects.specs.ObjectWords.{spoken_words, ends_loop};
 
 use crate::text::{print_object, put, say};
+use paw_base::messages::{
+    DROPPED_MESSAGE, HANDS_FULL_MESSAGE, HELD_MESSAGE, IMPOSSIBLE_MESSAGE, NAME_END_MESSAGE,
+    NOT_CARRIED_MESSAGE, NOT_HELD_MESSAGE, NOT_HERE_MESSAGE, NOT_INSIDE_MESSAGE,
+    NOT_PUT_ON_MESSAGE, NOT_REMOVABLE_MESSAGE, NOT_TAKEN_OUT_MESSAGE, NOT_WEARABLE_MESSAGE,
+    NOT_WORN_MESSAGE, PUT_IN_MESSAGE, PUT_ON_MESSAGE, TAKEN_MESSAGE, TAKEN_OFF_MESSAGE,
+    TOO_HEAVY_MESSAGE, TOO_MANY_MESSAGE, WORN_ALREADY_MESSAGE, WORN_MESSAGE,
+};
 use paw_base::piece::Piece;
 use paw_game::tables::Tables;
 use paw_world::world::World;
-
-/// The system message that ends a sentence which names a container.
-const END_OF_NAMING: u8 = 51;
 
 /// What is said of an action: a system message; or a system message and then the name of a container.
 #[derive(Clone, Copy, Drop, PartialEq, Eq, Debug)]
@@ -21,78 +25,78 @@ pub(crate) enum Words {
 
 impl Words {
     /// Nothing of the game is meant.
-    pub(crate) const NO_SUCH_OBJECT: Words = Words::Says(8);
+    pub(crate) const NO_SUCH_OBJECT: Words = Words::Says(IMPOSSIBLE_MESSAGE);
 
     /// It isn't worn.
-    pub(crate) const NOT_WORN: Words = Words::Says(23);
+    pub(crate) const NOT_WORN: Words = Words::Says(NOT_WORN_MESSAGE);
 
     /// It is worn, so it can't be dropped or put away.
-    pub(crate) const WORN: Words = Words::Says(24);
+    pub(crate) const WORN: Words = Words::Says(WORN_MESSAGE);
 
     /// It is worn or carried already.
-    pub(crate) const HELD: Words = Words::Says(25);
+    pub(crate) const HELD: Words = Words::Says(HELD_MESSAGE);
 
     /// It isn't here.
-    pub(crate) const NOT_HERE: Words = Words::Says(26);
+    pub(crate) const NOT_HERE: Words = Words::Says(NOT_HERE_MESSAGE);
 
     /// No more objects can be carried. It ends the loop over objects.
-    pub(crate) const TOO_MANY: Words = Words::Says(27);
+    pub(crate) const TOO_MANY: Words = Words::Says(TOO_MANY_MESSAGE);
 
     /// It isn't carried.
-    pub(crate) const NOT_CARRIED: Words = Words::Says(28);
+    pub(crate) const NOT_CARRIED: Words = Words::Says(NOT_CARRIED_MESSAGE);
 
     /// It is worn already.
-    pub(crate) const WORN_ALREADY: Words = Words::Says(29);
+    pub(crate) const WORN_ALREADY: Words = Words::Says(WORN_ALREADY_MESSAGE);
 
     /// It was taken.
-    pub(crate) const TAKEN: Words = Words::Says(36);
+    pub(crate) const TAKEN: Words = Words::Says(TAKEN_MESSAGE);
 
     /// It was put on.
-    pub(crate) const PUT_ON: Words = Words::Says(37);
+    pub(crate) const PUT_ON: Words = Words::Says(PUT_ON_MESSAGE);
 
     /// It was taken off.
-    pub(crate) const TAKEN_OFF: Words = Words::Says(38);
+    pub(crate) const TAKEN_OFF: Words = Words::Says(TAKEN_OFF_MESSAGE);
 
     /// It was dropped.
-    pub(crate) const DROPPED: Words = Words::Says(39);
+    pub(crate) const DROPPED: Words = Words::Says(DROPPED_MESSAGE);
 
     /// It can't be worn.
-    pub(crate) const NOT_WEARABLE: Words = Words::Says(40);
+    pub(crate) const NOT_WEARABLE: Words = Words::Says(NOT_WEARABLE_MESSAGE);
 
     /// It can't be taken off.
-    pub(crate) const NOT_REMOVABLE: Words = Words::Says(41);
+    pub(crate) const NOT_REMOVABLE: Words = Words::Says(NOT_REMOVABLE_MESSAGE);
 
     /// No more objects can be carried once it is taken off. It ends the loop over objects.
-    pub(crate) const HANDS_FULL: Words = Words::Says(42);
+    pub(crate) const HANDS_FULL: Words = Words::Says(HANDS_FULL_MESSAGE);
 
     /// It is too heavy.
-    pub(crate) const TOO_HEAVY: Words = Words::Says(43);
+    pub(crate) const TOO_HEAVY: Words = Words::Says(TOO_HEAVY_MESSAGE);
 
     /// It is here, and not carried.
-    pub(crate) const NOT_HELD: Words = Words::Says(49);
+    pub(crate) const NOT_HELD: Words = Words::Says(NOT_HELD_MESSAGE);
 
     /// It is carried or here, and not worn.
-    pub(crate) const NOT_PUT_ON: Words = Words::Says(50);
+    pub(crate) const NOT_PUT_ON: Words = Words::Says(NOT_PUT_ON_MESSAGE);
 
     /// It was put into this container.
     pub(crate) fn now_in(container: u8) -> Words
         ensures value { result ≡ Words.Names 44 container }
     {
-        Words::Names(44, container)
+        Words::Names(PUT_IN_MESSAGE, container)
     }
 
     /// It is here, and not in this container.
     pub(crate) fn outside(container: u8) -> Words
         ensures value { result ≡ Words.Names 45 container }
     {
-        Words::Names(45, container)
+        Words::Names(NOT_TAKEN_OUT_MESSAGE, container)
     }
 
     /// It isn't in this container.
     pub(crate) fn not_in(container: u8) -> Words
         ensures value { result ≡ Words.Names 52 container }
     {
-        Words::Names(52, container)
+        Words::Names(NOT_INSIDE_MESSAGE, container)
     }
 
     /// Whether the loop over objects ends once this was said.
@@ -112,7 +116,7 @@ pub(crate) fn speak<T: Tables>(tables: &T, world: &World, piece: &mut Piece, wor
         Words::Names(message, container) => {
             put(tables, world, piece, message)
                 && print_object(tables, piece, container)
-                && say(tables, world, piece, END_OF_NAMING)
+                && say(tables, world, piece, NAME_END_MESSAGE)
         }
     }
 }

@@ -4,9 +4,11 @@ ghost use Rattle.std.specs.Prelude.{◌≡◌, ◌≤◌, length, map};
 ghost use Rattle.paw_game.specs.Valid.{Valid};
 ghost use Rattle.paw_effects.specs.Opening.{opening_world};
 
+use paw_base::limits::OBJECT_LIMIT;
 use paw_base::parts::ObjectFacts;
+use paw_base::places::NOT_CREATED_PLACE;
+use paw_base::words::NO_WORD;
 use paw_game::tables::Tables;
-use paw_world::MOST_OBJECTS;
 use paw_world::world::World;
 
 /// Writes down the facts of a game's objects.
@@ -30,14 +32,14 @@ pub fn opening_world<T: Tables>(tables: &T, seed: u64) -> World
 {
     let counts = tables.counts();
     let none = ObjectFacts {
-        noun: 255,
-        adjective: 255,
-        start: 252,
+        noun: NO_WORD,
+        adjective: NO_WORD,
+        start: NOT_CREATED_PLACE,
         weight: 0,
         container: false,
         wearable: false,
     };
-    let mut facts = [none; MOST_OBJECTS];
+    let mut facts = [none; OBJECT_LIMIT];
     let all = &mut facts[..counts.objects as usize];
     take_facts(tables, all);
     World::new(all, counts.locations as u8, seed)

@@ -4,23 +4,15 @@ ghost use Rattle.std.specs.Prelude.{◌≡◌, ◌<◌, length};
 ghost use Rattle.paw_world.specs.World.{here, is_somewhere, is_here, is_present, is_lit};
 ghost use Rattle.paw_effects.specs.Presence.{named_place, is_held};
 
+use paw_base::flags::LOCATION_FLAG;
+use paw_base::places::{CARRIED_PLACE, HERE_PLACE, NOT_CREATED_PLACE, WORN_PLACE};
 use paw_world::world::World;
-
-/// The flag of the current location.
-pub(crate) const LOCATION: u8 = 38;
-
-/// The places of what isn't created, of what is worn and of what is carried.
-pub(crate) const NOT_CREATED: u8 = 252;
-
-pub(crate) const WORN: u8 = 253;
-
-pub(crate) const CARRIED: u8 = 254;
 
 /// Whether the current location is one of the game's.
 pub fn is_somewhere(world: &World) -> bool
     ensures value { result ≡ is_somewhere world.now }
 {
-    world.flag(LOCATION) < world.locations()
+    world.flag(LOCATION_FLAG) < world.locations()
 }
 
 /// The current location, or not created (252).
@@ -28,9 +20,9 @@ pub fn here(world: &World) -> u8
     ensures value { result ≡ here world.now }
 {
     if is_somewhere(world) {
-        world.flag(LOCATION)
+        world.flag(LOCATION_FLAG)
     } else {
-        NOT_CREATED
+        NOT_CREATED_PLACE
     }
 }
 
@@ -38,7 +30,7 @@ pub fn here(world: &World) -> u8
 pub fn named_place(world: &World, p: u8) -> u8
     ensures value { result ≡ named_place world.now p }
 {
-    if p == 255 { here(world) } else { p }
+    if p == HERE_PLACE { here(world) } else { p }
 }
 
 /// Whether an object is worn or carried.
@@ -46,7 +38,7 @@ pub(crate) fn is_held(world: &World, o: u8) -> bool
     requires object { o < length world.now.places }
     ensures value { result ≡ is_held world.now o }
 {
-    matches!(world.place(o), WORN | CARRIED)
+    matches!(world.place(o), WORN_PLACE | CARRIED_PLACE)
 }
 
 /// Whether an object stands at the current location.
@@ -54,7 +46,7 @@ pub fn is_here(world: &World, o: u8) -> bool
     requires object { o < length world.now.places }
     ensures value { result ≡ is_here world.now o }
 {
-    is_somewhere(world) && world.place(o) == world.flag(LOCATION)
+    is_somewhere(world) && world.place(o) == world.flag(LOCATION_FLAG)
 }
 
 /// Whether an object is worn, carried or here.
@@ -63,7 +55,7 @@ pub fn is_present(world: &World, o: u8) -> bool
     ensures value { result ≡ is_present world.now o }
 {
     let place = world.place(o);
-    place == WORN || (place == CARRIED || is_here(world, o))
+    place == WORN_PLACE || (place == CARRIED_PLACE || is_here(world, o))
 }
 
 /// Whether the light source, object 0, is present.

@@ -4,23 +4,14 @@ ghost use Rattle.std.specs.Prelude.{◌≡◌, ◌<◌, length};
 ghost use Rattle.paw_effects.specs.Built.{IsOf};
 ghost use Rattle.paw_effects.specs.Referring.{weight_class, referred, referred_to_none};
 
-use crate::presence::NOT_CREATED;
+use paw_base::flags::{
+    REFERRED_CONTAINER_FLAG, REFERRED_FLAG, REFERRED_PLACE_FLAG, REFERRED_WEARABLE_FLAG,
+    REFERRED_WEIGHT_FLAG,
+};
+use paw_base::places::NOT_CREATED_PLACE;
+use paw_base::words::NO_WORD;
 use paw_game::tables::Tables;
-use paw_world::flags::REFERRED;
 use paw_world::world::World;
-
-/// No object.
-const NONE: u8 = 255;
-
-/// The flags of the place and of the weight of the object last referred to, and those that tell whether it is a
-/// container, and whether it may be worn.
-const PLACE: u8 = 54;
-
-const WEIGHT: u8 = 55;
-
-const CONTAINER: u8 = 56;
-
-const WEARABLE: u8 = 57;
 
 /// Refers to an object: the flags 51 and 54 to 57 become its number, its place, its weight, and 128 where it is a
 /// container and where it may be worn, else 0.
@@ -33,13 +24,13 @@ pub fn refer<T: Tables>(tables: &T, world: &mut World, o: u8)
 {
     let _ = tables;
     let place = world.place(o);
-    world.set_flag(REFERRED, o);
-    world.set_flag(PLACE, place);
+    world.set_flag(REFERRED_FLAG, o);
+    world.set_flag(REFERRED_PLACE_FLAG, place);
     let facts = world.facts(o);
     let weight = world.weight(o);
-    world.set_flag(WEIGHT, weight);
-    world.set_flag(CONTAINER, class(facts.container));
-    world.set_flag(WEARABLE, class(facts.wearable));
+    world.set_flag(REFERRED_WEIGHT_FLAG, weight);
+    world.set_flag(REFERRED_CONTAINER_FLAG, class(facts.container));
+    world.set_flag(REFERRED_WEARABLE_FLAG, class(facts.wearable));
 }
 
 // What a flag says of whether an object is of a class.
@@ -53,9 +44,9 @@ fn class(member: bool) -> u8
 pub(crate) fn refer_to_none(world: &mut World)
     ensures value { world.new ≡ referred_to_none world.old }
 {
-    world.set_flag(REFERRED, NONE);
-    world.set_flag(PLACE, NOT_CREATED);
-    world.set_flag(WEIGHT, 0);
-    world.set_flag(CONTAINER, 0);
-    world.set_flag(WEARABLE, 0);
+    world.set_flag(REFERRED_FLAG, NO_WORD);
+    world.set_flag(REFERRED_PLACE_FLAG, NOT_CREATED_PLACE);
+    world.set_flag(REFERRED_WEIGHT_FLAG, 0);
+    world.set_flag(REFERRED_CONTAINER_FLAG, 0);
+    world.set_flag(REFERRED_WEARABLE_FLAG, 0);
 }

@@ -5,10 +5,10 @@ ghost use Rattle.paw_base.specs.Piece.{Puts, piece_limit};
 ghost use Rattle.paw_effects.specs.Texts.{with_name, object_text, printed_text, ended_text, put_text, say_text, location_text, message_text};
 
 use itoa::Buffer;
+use paw_base::flags::REFERRED_FLAG;
 use paw_base::piece::Piece;
 use paw_game::parts::GamePart;
 use paw_game::tables::Tables;
-use paw_world::flags::REFERRED;
 use paw_world::world::World;
 
 /// The text before the first underscore, and the text behind it; None where there is no underscore.
@@ -65,7 +65,7 @@ pub(crate) fn print_text<T: Tables>(
 ) -> bool
     ensures puts { Puts piece.old piece.new result (printed_text (T.game tables.now) world.now text.now) }
 {
-    print(piece, object_text(tables, world.flag(REFERRED)), text)
+    print(piece, object_text(tables, world.flag(REFERRED_FLAG)), text)
 }
 
 /// Prints a text and a newline; nothing where it is empty.

@@ -6,26 +6,15 @@ ghost use Rattle.paw_gen.specs.Trial.{named_words, object_facts, object_letters,
 use crate::texts::numbered;
 use paw_base::fault::NoRoom;
 use paw_base::parts::ObjectFacts;
+use paw_base::words::{CONJUNCTION_CLASS, FIRST_NAMED_NOUN, NO_WORD, NOUN_CLASS, VERB_CLASS};
 use paw_game::parts::{Exit, Exits, ObjectRow, Word};
 use std::alloc::Global;
-
-const VERB: u8 = 0;
-
-const NOUN: u8 = 2;
-
-const CONJUNCTION: u8 = 5;
 
 /// The value of NORTH, a noun that may stand as a verb.
 const NORTH: u8 = 2;
 
 /// The value of SOUTH, a noun that may stand as a verb.
 const SOUTH: u8 = 3;
-
-/// What stands for no word.
-const NO_WORD: u8 = 255;
-
-/// The value of the first object's noun.
-const FIRST_NOUN: u8 = 50;
 
 fn word(letters: &[u8; 5], value: u8, class: u8) -> Word
     ensures { result ≡ word_with letters.now value class }
@@ -42,14 +31,14 @@ fn named_words() -> [Word; 8]
     ensures { result ≡ named_words }
 {
     [
-        word(b"ALL  ", 20, NOUN),
-        word(b"AND  ", 2, CONJUNCTION),
-        word(b"DROP ", 31, VERB),
-        word(b"GET  ", 30, VERB),
-        word(b"INVEN", 33, VERB),
-        word(b"LOOK ", 32, VERB),
-        word(b"NORTH", NORTH, NOUN),
-        word(b"SOUTH", SOUTH, NOUN),
+        word(b"ALL  ", 20, NOUN_CLASS),
+        word(b"AND  ", 2, CONJUNCTION_CLASS),
+        word(b"DROP ", 31, VERB_CLASS),
+        word(b"GET  ", 30, VERB_CLASS),
+        word(b"INVEN", 33, VERB_CLASS),
+        word(b"LOOK ", 32, VERB_CLASS),
+        word(b"NORTH", NORTH, NOUN_CLASS),
+        word(b"SOUTH", SOUTH, NOUN_CLASS),
     ]
 }
 
@@ -69,7 +58,11 @@ fn object_word(number: u16) -> Word
     requires { number < 200 }
     ensures { result ≡ object_word number }
 {
-    word(&object_letters(number), FIRST_NOUN + number as u8, NOUN)
+    word(
+        &object_letters(number),
+        FIRST_NAMED_NOUN + number as u8,
+        NOUN_CLASS,
+    )
 }
 
 /// The words, in the order of their letters.
@@ -92,7 +85,7 @@ fn object_facts(locations: u16, number: u16) -> ObjectFacts
     ensures { result ≡ object_facts locations number }
 {
     ObjectFacts {
-        noun: FIRST_NOUN + number as u8,
+        noun: FIRST_NAMED_NOUN + number as u8,
         adjective: NO_WORD,
         start: (7 * number % locations) as u8,
         weight: (number % 4) as u8,

@@ -3,8 +3,11 @@
 ghost use Rattle.std.specs.Prelude.{◌≡◌, ◌∷◌, [], IfOk};
 ghost use Rattle.paw_gen.specs.Trial.{answer_entries, condact_with, entry, listing};
 
+use paw_base::codes;
 use paw_base::fault::NoRoom;
 use paw_base::parts::Condact;
+use paw_base::places::{CARRIED_PLACE, HERE_PLACE};
+use paw_base::words::NO_WORD;
 use paw_game::parts::{Condacts, Entry, Table};
 use std::alloc::Global;
 
@@ -19,61 +22,52 @@ const LOOK: u8 = 32;
 
 const INVEN: u8 = 33;
 
-/// What stands for any word.
-const ANY: u8 = 255;
-
-/// The player's place, as a parameter.
-const HERE: u8 = 255;
-
-/// Where what the player carries is, as a parameter.
-const CARRIED: u8 = 254;
-
 /// The condacts, each without a parameter but the last two.
 const SHOW_CARRIED: Condact = Condact {
-    code: 29,
+    code: codes::INVEN,
     a: 0,
     b: 0,
 };
 
 const DESCRIBE: Condact = Condact {
-    code: 30,
+    code: codes::DESC,
     a: 0,
     b: 0,
 };
 
 const DONE: Condact = Condact {
-    code: 32,
+    code: codes::DONE,
     a: 0,
     b: 0,
 };
 
 const GET_NAMED: Condact = Condact {
-    code: 43,
+    code: codes::AUTOG,
     a: 0,
     b: 0,
 };
 
 const DROP_NAMED: Condact = Condact {
-    code: 44,
+    code: codes::AUTOD,
     a: 0,
     b: 0,
 };
 
 const LIST_OBJECTS: Condact = Condact {
-    code: 78,
+    code: codes::LISTOBJ,
     a: 0,
     b: 0,
 };
 
 const EACH_HERE: Condact = Condact {
-    code: 86,
-    a: HERE,
+    code: codes::DOALL,
+    a: HERE_PLACE,
     b: 0,
 };
 
 const EACH_CARRIED: Condact = Condact {
-    code: 86,
-    a: CARRIED,
+    code: codes::DOALL,
+    a: CARRIED_PLACE,
     b: 0,
 };
 
@@ -95,11 +89,11 @@ fn answers(alloc: Global) -> Result<Table, NoRoom>
 {
     let entries = vec![in alloc;
         entry(alloc, GET, ALL, &[EACH_HERE])?,
-        entry(alloc, GET, ANY, &[GET_NAMED, DONE])?,
+        entry(alloc, GET, NO_WORD, &[GET_NAMED, DONE])?,
         entry(alloc, DROP, ALL, &[EACH_CARRIED])?,
-        entry(alloc, DROP, ANY, &[DROP_NAMED, DONE])?,
-        entry(alloc, LOOK, ANY, &[DESCRIBE])?,
-        entry(alloc, INVEN, ANY, &[SHOW_CARRIED, DONE])?,
+        entry(alloc, DROP, NO_WORD, &[DROP_NAMED, DONE])?,
+        entry(alloc, LOOK, NO_WORD, &[DESCRIBE])?,
+        entry(alloc, INVEN, NO_WORD, &[SHOW_CARRIED, DONE])?,
     ]?;
     Ok(Table { entries })
 }
@@ -108,7 +102,7 @@ fn answers(alloc: Global) -> Result<Table, NoRoom>
 fn listing(alloc: Global) -> Result<Table, NoRoom>
     ensures { IfOk result (λ table. table ≡ listing) }
 {
-    let entries = vec![in alloc; entry(alloc, ANY, ANY, &[LIST_OBJECTS])?]?;
+    let entries = vec![in alloc; entry(alloc, NO_WORD, NO_WORD, &[LIST_OBJECTS])?]?;
     Ok(Table { entries })
 }
 

@@ -12,11 +12,11 @@ use crate::places::place;
 use crate::refusal::ReadError;
 use crate::tokens::Tokens;
 use crate::vocabulary::Vocabulary;
-use crate::words::{ADJECTIVE, ADVERB, NOUN, PREPOSITION};
 use paw_base::fault::SourceKind;
 use paw_base::limits::CONDACT_LIMIT;
 use paw_base::parts::Condact;
 use paw_base::rows::{ParamKind, condact_named, condact_row};
+use paw_base::words::{ADJECTIVE_CLASS, ADVERB_CLASS, NOUN_CLASS, PREPOSITION_CLASS};
 
 /// How many values flags, and numbers, have.
 const BYTES: u16 = 256;
@@ -49,10 +49,10 @@ fn parameter(
         ParamKind::Message => byte_below(tokens, bounds.messages),
         ParamKind::System => byte_below(tokens, bounds.system),
         ParamKind::Table => table(tokens, bounds.tables),
-        ParamKind::Adverb => words.word_or_none(ADVERB, tokens),
-        ParamKind::Noun => words.word_or_none(NOUN, tokens),
-        ParamKind::Adjective => words.word_or_none(ADJECTIVE, tokens),
-        ParamKind::Preposition => words.word_or_none(PREPOSITION, tokens),
+        ParamKind::Adverb => words.word_or_none(ADVERB_CLASS, tokens),
+        ParamKind::Noun => words.word_or_none(NOUN_CLASS, tokens),
+        ParamKind::Adjective => words.word_or_none(ADJECTIVE_CLASS, tokens),
+        ParamKind::Preposition => words.word_or_none(PREPOSITION_CLASS, tokens),
     }
 }
 

@@ -7,9 +7,10 @@ use crate::places::first_place;
 use crate::refusal::ReadError;
 use crate::tokens::Tokens;
 use crate::vocabulary::Vocabulary;
-use crate::words::{ADJECTIVE, NOUN, VERB, class, object_kind, word};
+use crate::words::{class, object_kind, word};
 use paw_base::fault::SourceKind;
 use paw_base::parts::Condact;
+use paw_base::words::{ADJECTIVE_CLASS, NOUN_CLASS, VERB_CLASS};
 use paw_game::parts::Word;
 use paw_lex::Line;
 use std::alloc::Global;
@@ -41,11 +42,11 @@ fn fault<T>(kind: SourceKind) -> Result<T, ReadError> {
 fn declared(alloc: Global) -> Result<Vocabulary, ReadError> {
     let mut words = Vocabulary::new(alloc);
     for (letters, value, class) in [
-        (*b"TAKE ", 30, VERB),
-        (*b"N    ", 2, NOUN),
-        (*b"GET  ", 30, VERB),
-        (*b"BAG  ", 52, NOUN),
-        (*b"LANTE", 50, NOUN),
+        (*b"TAKE ", 30, VERB_CLASS),
+        (*b"N    ", 2, NOUN_CLASS),
+        (*b"GET  ", 30, VERB_CLASS),
+        (*b"BAG  ", 52, NOUN_CLASS),
+        (*b"LANTE", 50, NOUN_CLASS),
     ] {
         words.declare(Word {
             letters,
@@ -62,7 +63,7 @@ fn words_stand_in_order_of_their_letters(rt: HostRuntime) -> Result<(), Fail> {
     let again = Word {
         letters: *b"LANTE",
         value: 9,
-        class: ADJECTIVE,
+        class: ADJECTIVE_CLASS,
     };
     assert_eq!(rt; words.declare(again), fault(SourceKind::Duplicate));
     let list = words.into_words(rt.alloc()).ok().ok_or(NO_ROOM)?;
@@ -88,15 +89,15 @@ fn tokens_of_rows_are_read(rt: HostRuntime) -> Result<(), Fail> {
     assert_eq!(rt; first_place(&mut object, 4), Ok(254));
     assert_eq!(rt; number_within(&mut object, 0, 63), Ok(2));
     assert_eq!(rt; object_kind(&mut object), Ok((true, true)));
-    assert_eq!(rt; words.word_or_none(NOUN, &mut object), Ok(50));
-    assert_eq!(rt; words.word_or_none(ADJECTIVE, &mut object), Ok(255));
+    assert_eq!(rt; words.word_or_none(NOUN_CLASS, &mut object), Ok(50));
+    assert_eq!(rt; words.word_or_none(ADJECTIVE_CLASS, &mut object), Ok(255));
     assert_eq!(rt; object.ended(), fault(SourceKind::Extra));
 
     let mut head = tokens(b"N * *");
     assert_eq!(rt; words.entry_verb(&mut head), Ok(2));
     assert_eq!(rt; words.entry_noun(&mut head), Ok(1));
     assert_eq!(rt;
-        words.word_or_none(NOUN, &mut head),
+        words.word_or_none(NOUN_CLASS, &mut head),
         fault(SourceKind::Word)
     );
     assert_eq!(rt; words.verb_word(&mut head), fault(SourceKind::Missing));

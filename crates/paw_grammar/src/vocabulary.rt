@@ -10,22 +10,14 @@ ghost use Rattle.paw_grammar.specs.WordMap.{words_in};
 
 use crate::refusal::ReadError;
 use crate::tokens::Tokens;
-use crate::words::{LETTERS, NOUN, VERB, letters_in};
+use crate::words::letters_in;
 use paw_base::fault::{NoRoom, SourceKind};
-use paw_base::limits::WORD_LIMIT;
+use paw_base::limits::{WORD_LENGTH, WORD_LIMIT};
+use paw_base::words::{ANY_WORD, FIRST_PLAIN_NOUN, NO_WORD, NOUN_CLASS, VERB_CLASS};
 use paw_game::parts::Word;
 use std::alloc::Global;
 use std::collections::BTreeMap;
 use std::marker::Model;
-
-/// Nouns below this value are verbs too.
-const VERB_NOUN_LIMIT: u8 = 20;
-
-/// What stands for any word at all.
-const ANY: u8 = 1;
-
-/// What stands for no word.
-const NONE: u8 = 255;
 
 /// What a word means: its value, and its class.
 #[derive(Clone, Copy, Drop, PartialEq, Eq, Debug)]
@@ -34,7 +26,7 @@ struct Meaning {
     class: u8,
 }
 
-fn find(words: &BTreeMap<[u8; LETTERS], Meaning>, letters: [u8; LETTERS]) -> Option<Word>
+fn find(words: &BTreeMap<[u8; WORD_LENGTH], Meaning>, letters: [u8; WORD_LENGTH]) -> Option<Word>
     ensures { result ≡ word_of letters (words_in words.now.entries) }
 {
     match words.get(&letters) {
@@ -47,14 +39,14 @@ fn find(words: &BTreeMap<[u8; LETTERS], Meaning>, letters: [u8; LETTERS]) -> Opt
     }
 }
 
-fn count(words: &BTreeMap<[u8; LETTERS], Meaning>) -> usize
+fn count(words: &BTreeMap<[u8; WORD_LENGTH], Meaning>) -> usize
     ensures { result ≡ length (words_in words.now.entries) }
 {
     words.len()
 }
 
 /// Puts a word that isn't among the words in its place.
-fn put(words: &mut BTreeMap<[u8; LETTERS], Meaning>, word: Word) -> Result<(), ReadError>
+fn put(words: &mut BTreeMap<[u8; WORD_LENGTH], Meaning>, word: Word) -> Result<(), ReadError>
     requires { word_of word.letters (words_in words.old.entries) ≡ None }
     ensures { Gives (λ _. words_in words.new.entries) result (Ok (words_with word (words_in words.old.entries))) }
 {
@@ -69,7 +61,7 @@ fn put(words: &mut BTreeMap<[u8; LETTERS], Meaning>, word: Word) -> Result<(), R
 }
 
 /// The words in order of their letters.
-fn listed(alloc: Global, words: &BTreeMap<[u8; LETTERS], Meaning>) -> Result<Vec<Word>, NoRoom>
+fn listed(alloc: Global, words: &BTreeMap<[u8; WORD_LENGTH], Meaning>) -> Result<Vec<Word>, NoRoom>
     ensures { IfOk result (λ list. list.items ≡ words_in words.now.entries) }
 {
     let mut list = Vec::with_capacity(alloc, words.len())?;
@@ -98,7 +90,7 @@ fn as_verb(word: Option<Word>) -> Option<u8>
     ensures { result ≡ as_verb word }
 {
     let word = word?;
-    if word.class == VERB || word.class == NOUN && word.value < VERB_NOUN_LIMIT {
+    if word.class == VERB_CLASS || word.class == NOUN_CLASS && word.value < FIRST_PLAIN_NOUN {
         Some(word.value)
     } else {
         None
@@ -118,7 +110,7 @@ fn or_word_fault(value: Option<u8>) -> Result<u8, ReadError>
 /// The declared words, no two with the same letters; contracts see them as a list in order of their letters.
 #[derive(Drop)]
 pub struct Vocabulary {
-    words: BTreeMap<[u8; LETTERS], Meaning>,
+    words: BTreeMap<[u8; WORD_LENGTH], Meaning>,
 }
 
 impl Model for Vocabulary {
@@ -197,7 +189,7 @@ impl Vocabulary {
     {
         let token = tokens.token()?;
         match token {
-            [b'_'] => Ok(NONE),
+            [b'_'] => Ok(NO_WORD),
             _ => or_word_fault(self.word_value(class, token)),
         }
     }
@@ -222,8 +214,8 @@ impl Vocabulary {
     {
         let token = tokens.token()?;
         match token {
-            [b'*'] => Ok(ANY),
-            [b'_'] => Ok(NONE),
+            [b'*'] => Ok(ANY_WORD),
+            [b'_'] => Ok(NO_WORD),
             _ => or_word_fault(self.verb_value(token)),
         }
     }
@@ -237,9 +229,9 @@ impl Vocabulary {
     {
         let token = tokens.token()?;
         match token {
-            [b'*'] => Ok(ANY),
-            [b'_'] => Ok(NONE),
-            _ => or_word_fault(self.word_value(NOUN, token)),
+            [b'*'] => Ok(ANY_WORD),
+            [b'_'] => Ok(NO_WORD),
+            _ => or_word_fault(self.word_value(NOUN_CLASS, token)),
         }
     }
 }

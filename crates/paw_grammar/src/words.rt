@@ -10,24 +10,7 @@ ghost use Rattle.paw_grammar.specs.Vocabulary.{is_word_token, letters_of, letter
 use crate::refusal::ReadError;
 use crate::tokens::{Tokens, is_named};
 use paw_base::fault::SourceKind;
-
-/// How many letters of a word count.
-pub const LETTERS: usize = 5;
-
-/// The class of verbs.
-pub const VERB: u8 = 0;
-
-/// The class of adverbs.
-pub const ADVERB: u8 = 1;
-
-/// The class of nouns.
-pub const NOUN: u8 = 2;
-
-/// The class of adjectives.
-pub const ADJECTIVE: u8 = 3;
-
-/// The class of prepositions.
-pub const PREPOSITION: u8 = 4;
+use paw_base::limits::WORD_LENGTH;
 
 /// The names of the classes of words, by class; conjunctions and pronouns are the last.
 static CLASS_NAMES: [&[u8]; 7] = [
@@ -53,18 +36,18 @@ fn is_word_token(token: &[u8]) -> bool
 }
 
 /// The letters of a word: capitals, cut to five, filled up with spaces.
-fn letters_of(token: &[u8]) -> [u8; LETTERS]
+fn letters_of(token: &[u8]) -> [u8; WORD_LENGTH]
     ensures { result ≡ letters_of token.now }
 {
-    let mut letters = [b' '; LETTERS];
-    let kept = token.len().min(LETTERS);
+    let mut letters = [b' '; WORD_LENGTH];
+    let kept = token.len().min(WORD_LENGTH);
     letters[..kept].copy_from_slice(&token[..kept]);
     letters.make_ascii_uppercase();
     letters
 }
 
 /// The five letters of a token that spells a word.
-pub(crate) fn letters_in(token: &[u8]) -> Option<[u8; LETTERS]>
+pub(crate) fn letters_in(token: &[u8]) -> Option<[u8; WORD_LENGTH]>
     ensures { result ≡ letters_in token.now }
 {
     if is_word_token(token) {
@@ -78,7 +61,7 @@ pub(crate) fn letters_in(token: &[u8]) -> Option<[u8; LETTERS]>
 ///
 /// # Errors
 /// Missing exactly where the line ends, and Word exactly where the token has another byte.
-pub fn word(tokens: &mut Tokens) -> Result<[u8; LETTERS], ReadError>
+pub fn word(tokens: &mut Tokens) -> Result<[u8; WORD_LENGTH], ReadError>
     ensures { Gives (λ letters. (letters, tokens.new)) result (word tokens.old) }
 {
     let token = tokens.token()?;

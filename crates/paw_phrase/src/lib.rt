@@ -4,19 +4,19 @@
 ghost use Rattle.std.specs.Prelude.{◌≡◌};
 ghost use Rattle.paw_phrase.specs.Sentence.{or_value, blank, with_noun, with_adjective, with_pronoun, with_word, finished};
 
+use paw_base::words::{
+    ADJECTIVE_CLASS, ADVERB_CLASS, FIRST_NAMED_NOUN, FIRST_PLAIN_NOUN, NO_WORD, NOUN_CLASS,
+    PREPOSITION_CLASS, PRONOUN_CLASS, VERB_CLASS,
+};
+
 mod line;
 mod next;
 #[cfg(test)]
 mod tests;
 mod tokens;
-pub mod words;
 
-pub use line::{LINE_LIMIT, Pending};
+pub use line::Pending;
 pub use next::next_phrase;
-use words::{
-    ADJECTIVE, ADVERB, FIRST_NAMED_NOUN, FIRST_PLAIN_NOUN, NO_WORD, NOUN, PREPOSITION, PRONOUN,
-    VERB,
-};
 
 /// A sentence: the values of its words, 255 where it has none, and the noun and adjective that a pronoun stands for
 /// afterwards.
@@ -100,12 +100,12 @@ impl Sentence {
         ensures value { self.new ≡ with_word value class self.old }
     {
         match class {
-            VERB => fill(&mut self.verb, value),
-            ADVERB => fill(&mut self.adverb, value),
-            NOUN => self.add_noun(value),
-            ADJECTIVE => self.add_adjective(value),
-            PREPOSITION => fill(&mut self.preposition, value),
-            PRONOUN => self.add_pronoun(),
+            VERB_CLASS => fill(&mut self.verb, value),
+            ADVERB_CLASS => fill(&mut self.adverb, value),
+            NOUN_CLASS => self.add_noun(value),
+            ADJECTIVE_CLASS => self.add_adjective(value),
+            PREPOSITION_CLASS => fill(&mut self.preposition, value),
+            PRONOUN_CLASS => self.add_pronoun(),
             _ => {}
         }
     }

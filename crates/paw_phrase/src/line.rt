@@ -1,13 +1,11 @@
 // What is pending of a typed line.
 
 ghost use Rattle.std.specs.Prelude.{◌≡◌, ◌≤◌, ℕ, [], length, drop};
-ghost use Rattle.paw_phrase.specs.declared.words.TheConstants.{NO_WORD};
+ghost use Rattle.paw_base.specs.declared.words.TheConstants.{NO_WORD};
 
-use crate::words::NO_WORD;
+use paw_base::limits::LINE_LIMIT;
+use paw_base::words::NO_WORD;
 use std::marker::Model;
-
-/// The most bytes that a line may have.
-pub const LINE_LIMIT: usize = 255;
 
 /// What is left of a line after the phrases that were taken from it, and the verb of the last sentence, which stands
 /// for a verb that is left out. Contracts see the bytes and that verb.
@@ -22,7 +20,7 @@ pub struct Pending {
 impl Model for Pending {
     ghost use Rattle.std.specs.Prelude.{◌≤◌, slice_range};
     ghost use Rattle.paw_phrase.specs.Pending.{PendingLine};
-    ghost use Rattle.paw_phrase.specs.declared.line.TheConstants.{LINE_LIMIT};
+    ghost use Rattle.paw_base.specs.declared.limits.TheConstants.{LINE_LIMIT};
 
     ghost Value = { PendingLine };
 

@@ -7,8 +7,8 @@ ghost use Rattle.paw_phrase.specs.Taking.{TakesPhrase};
 
 use crate::line::Pending;
 use crate::tokens::{LETTERS, first_mark};
-use crate::words::CONJUNCTION;
 use crate::{Found, Sentence};
+use paw_base::words::CONJUNCTION_CLASS;
 use paw_game::tables::Tables;
 
 /// What a token or a separator is in a phrase.
@@ -40,7 +40,7 @@ fn part_of<T: Tables>(tables: &T, token: Option<[u8; LETTERS]>) -> Part
         None => Part::Break,
         Some(letters) => match tables.word(&letters) {
             None => Part::Unknown,
-            Some((_, CONJUNCTION)) => Part::Break,
+            Some((_, CONJUNCTION_CLASS)) => Part::Break,
             Some((value, class)) => Part::Word { value, class },
         },
     }

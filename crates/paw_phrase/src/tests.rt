@@ -1,4 +1,5 @@
-use crate::{Found, LINE_LIMIT, Pending, Sentence, next_phrase};
+use crate::{Found, Pending, Sentence, next_phrase};
+use paw_base::limits::LINE_LIMIT;
 use paw_game::game::Game;
 use paw_game::parts::{Exits, GameParts, Table, Text, Word};
 use std::alloc::{AllocError, Global};

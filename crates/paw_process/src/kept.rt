@@ -5,16 +5,11 @@ ghost use Rattle.paw_game.specs.Valid.{is_place};
 ghost use Rattle.paw_process.specs.Kept.{waiting_code, waiting_at, may_open, has_code, parameter_of, is_unused, row_stands, rows_fault, table_of, is_that_table, loop_stands, loop_fault, count_fits, frames_fault};
 
 use crate::machine::MOST_FRAMES;
+use paw_base::codes::{DOALL, PROCESS};
 use paw_base::parts::Condact;
 use paw_effects::act::Prompt;
 use paw_game::tables::Tables;
 use paw_reading::places::{Frame, OpenLoop};
-
-/// The code of PROCESS.
-const PROCESS: u8 = 85;
-
-/// The code of DOALL.
-const DOALL: u8 = 86;
 
 /// Places of a machine that waits, as they are kept: how many tables are open, their frames, the outermost first and the
 /// rows behind them unused, and the open loop.

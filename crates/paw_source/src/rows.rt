@@ -6,6 +6,7 @@ ghost use Rattle.paw_grammar.specs.GrammarRows.{voc_row, object_row};
 
 use paw_base::limits::WEIGHT_LIMIT;
 use paw_base::parts::ObjectFacts;
+use paw_base::words::{ADJECTIVE_CLASS, NOUN_CLASS};
 use paw_game::parts::Word;
 use paw_grammar::numbers::{number_within, row_number};
 use paw_grammar::places::first_place;
@@ -13,12 +14,6 @@ use paw_grammar::refusal::ReadError;
 use paw_grammar::tokens::Tokens;
 use paw_grammar::vocabulary::Vocabulary;
 use paw_grammar::words::{class, object_kind, word};
-
-/// The class of nouns.
-const NOUN: u8 = 2;
-
-/// The class of adjectives.
-const ADJECTIVE: u8 = 3;
 
 /// Declares the word of a row of `/VOC`.
 ///
@@ -60,8 +55,8 @@ pub(crate) fn object_row(
     let start = first_place(tokens, locations)?;
     let weight = number_within(tokens, 0, WEIGHT_LIMIT)?;
     let (container, wearable) = object_kind(tokens)?;
-    let noun = words.word_or_none(NOUN, tokens)?;
-    let adjective = words.word_or_none(ADJECTIVE, tokens)?;
+    let noun = words.word_or_none(NOUN_CLASS, tokens)?;
+    let adjective = words.word_or_none(ADJECTIVE_CLASS, tokens)?;
     tokens.ended()?;
     Ok(ObjectFacts {
         noun,

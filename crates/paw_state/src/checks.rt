@@ -13,22 +13,15 @@ use crate::layout::{
     LOOP_LAST, LOOP_LEVEL, LOOP_PLACE, LOOP_TABLE, LOOPING, PENDING, PLACES, PROMPT, ROW_ACTED,
     ROW_AT, ROW_ENTRY, ROW_LENGTH, ROWS, SAVED,
 };
+use paw_base::codes::{DOALL, PROCESS};
+use paw_base::limits::EVENT_LIMIT;
 use paw_effects::act::Prompt;
 use paw_game::tables::Tables;
 use paw_process::{count_fits, has_code, is_place, may_open, parameter_of, waiting_code};
 use paw_reading::places::OpenLoop;
 
-/// Lines that a session may take.
-const MOST_EVENTS: u64 = 1_000_000_000;
-
 /// Random words that may be drawn in a piece.
 const MOST_DRAWS: u64 = 200_000;
-
-/// The code of PROCESS.
-const PROCESS: u8 = 85;
-
-/// The code of DOALL.
-const DOALL: u8 = 86;
 
 /// A fault at this place where the rule doesn't hold.
 fn rule(at: usize, holds: bool) -> Result<(), StateFault>
@@ -113,7 +106,7 @@ fn check_kept<T: Tables>(tables: &T, at: usize, kept: &[Held]) -> Result<(), Sta
 fn check_numbers(fields: &Fields) -> Result<(), StateFault>
     ensures value { fault_of result ≡ numbers_fault fields.now }
 {
-    rule(EVENTS, fields.events <= MOST_EVENTS)?;
+    rule(EVENTS, fields.events <= EVENT_LIMIT)?;
     rule(DRAWS, fields.draws <= MOST_DRAWS * (fields.events + 1))
 }
 

@@ -6,42 +6,13 @@ ghost use Rattle.paw_reading.specs.Run.{with_timeout};
 ghost use Rattle.paw_reading.specs.Turn.{described, framed, counted};
 ghost use Rattle.paw_turn.specs.Stages.{ChangesFlags};
 
-use paw_effects::counts::{TURNS_HIGH, TURNS_LOW, turns_taken};
+use paw_base::flags::{
+    DARK_FLAG, DARK_FRAME_FLAG, DARK_VIEW_FLAG, FIRST_FRAME_FLAG, HIGH_TURNS_FLAG, LOW_TURNS_FLAG,
+    TIMED_OUT_FLAG, UNLIT_FRAME_FLAG, UNLIT_VIEW_FLAG, VIEW_FLAG,
+};
+use paw_effects::counts::turns_taken;
 use paw_effects::presence::is_lit;
 use paw_world::world::World;
-
-/// Not 0 where it is dark.
-const DARK: u8 = 0;
-
-/// Falls at each description of a location.
-const DESCRIPTIONS: u8 = 2;
-
-/// Falls at each description in the dark.
-const DARK_DESCRIPTIONS: u8 = 3;
-
-/// Falls at each description in the dark without light.
-const UNLIT_DESCRIPTIONS: u8 = 4;
-
-/// The first of four flags that fall in each frame.
-const FRAMES: u8 = 5;
-
-/// Falls in each frame in the dark.
-const DARK_FRAMES: u8 = 9;
-
-/// Falls in each frame in the dark without light.
-const UNLIT_FRAMES: u8 = 10;
-
-/// The current location.
-pub(crate) const LOCATION: u8 = 38;
-
-/// The message that is the prompt; 0 stands for message 2.
-pub(crate) const PROMPT: u8 = 42;
-
-/// 0 where a timeout is to be ignored.
-pub(crate) const TIMEOUT: u8 = 48;
-
-/// Bit 7 tells that the last line was a timeout.
-const STATUS: u8 = 49;
 
 /// A flag loses one unless it is 0.
 fn fall(world: &mut World, f: u8)
@@ -56,7 +27,7 @@ fn fall(world: &mut World, f: u8)
 fn is_dark(world: &World) -> bool
     ensures value { result ≡ is_dark world.now }
 {
-    world.flag(DARK) != 0
+    world.flag(DARK_FLAG) != 0
 }
 
 /// It is dark, and the light source isn't present.
@@ -71,12 +42,12 @@ pub(crate) fn describe(world: &mut World)
     ensures value { world.new ≡ described world.old }
     ensures only { ChangesFlags world.old world.new }
 {
-    fall(world, DESCRIPTIONS);
+    fall(world, VIEW_FLAG);
     if is_dark(world) {
-        fall(world, DARK_DESCRIPTIONS);
+        fall(world, DARK_VIEW_FLAG);
     }
     if is_unlit(world) {
-        fall(world, UNLIT_DESCRIPTIONS);
+        fall(world, UNLIT_VIEW_FLAG);
     }
 }
 
@@ -85,15 +56,15 @@ pub(crate) fn frame(world: &mut World)
     ensures value { world.new ≡ framed world.old }
     ensures only { ChangesFlags world.old world.new }
 {
-    fall(world, FRAMES);
-    fall(world, FRAMES + 1);
-    fall(world, FRAMES + 2);
-    fall(world, FRAMES + 3);
+    fall(world, FIRST_FRAME_FLAG);
+    fall(world, FIRST_FRAME_FLAG + 1);
+    fall(world, FIRST_FRAME_FLAG + 2);
+    fall(world, FIRST_FRAME_FLAG + 3);
     if is_dark(world) {
-        fall(world, DARK_FRAMES);
+        fall(world, DARK_FRAME_FLAG);
     }
     if is_unlit(world) {
-        fall(world, UNLIT_FRAMES);
+        fall(world, UNLIT_FRAME_FLAG);
     }
 }
 
@@ -103,8 +74,8 @@ pub(crate) fn count_turn(world: &mut World)
     ensures only { ChangesFlags world.old world.new }
 {
     let next = turns_taken(world).saturating_add(1);
-    world.set_flag(TURNS_LOW, (next % 256) as u8);
-    world.set_flag(TURNS_HIGH, (next / 256) as u8);
+    world.set_flag(LOW_TURNS_FLAG, (next % 256) as u8);
+    world.set_flag(HIGH_TURNS_FLAG, (next / 256) as u8);
 }
 
 /// Tells by bit 7 of flag 49 whether the last line was a timeout.
@@ -112,6 +83,6 @@ pub(crate) fn tell_timeout(world: &mut World, timeout: bool)
     ensures value { world.new ≡ with_timeout timeout world.old }
     ensures only { ChangesFlags world.old world.new }
 {
-    let rest = world.flag(STATUS) % 128;
-    world.set_flag(STATUS, if timeout { 128 + rest } else { rest });
+    let rest = world.flag(TIMED_OUT_FLAG) % 128;
+    world.set_flag(TIMED_OUT_FLAG, if timeout { 128 + rest } else { rest });
 }

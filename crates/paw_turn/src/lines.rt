@@ -14,11 +14,11 @@ ghost use Rattle.paw_turn.specs.declared.stage.Next.TheVariants as next;
 ghost use Rattle.paw_turn.specs.Player.{WaitsIn, StandsAt};
 ghost use Rattle.paw_turn.specs.Stages.{PlaysAs, RunsAs, from_prompt, from_path, IsPlayable, HasReadSome, Keeps, StopsInTable, AwaitsAt};
 
-use crate::Step;
-use crate::flags::{self, TIMEOUT};
 use crate::stage::{Next, Stage};
 use crate::turn::Turn;
+use crate::{Step, flags};
 use paw_base::fault::SpentKind;
+use paw_base::flags::TIMEOUT_FLAG;
 use paw_base::messages::{GOODBYE_MESSAGE, TIMEOUT_MESSAGE};
 use paw_effects::act::Prompt;
 use paw_effects::text::say;
@@ -38,7 +38,7 @@ fn is_timeout(line: &[u8]) -> bool
 fn is_ignored(world: &World, line: &[u8]) -> bool
     ensures value { result ≡ is_ignored world.now line.now }
 {
-    is_timeout(line) && world.flag(TIMEOUT) == 0
+    is_timeout(line) && world.flag(TIMEOUT_FLAG) == 0
 }
 
 /// What a line answers to a question: a timeout answers with an empty line.

@@ -17,14 +17,15 @@ ghost use Rattle.paw_turn.specs.declared.stage.Stage.TheVariants as stage;
 ghost use Rattle.paw_turn.specs.declared.stage.Next.TheVariants as next;
 ghost use Rattle.paw_turn.specs.Stages.{at_stage, settled, opened_piece, Moves, Reads, Plays, MovesAfter, IsPlayable, HasReadSome, Keeps, StopsInTable, left_of, work, Falls, or_spent, table_rank, FallsAfter, RunsAs, from_table, Uses};
 
-use crate::Step;
-use crate::flags::{self, LOCATION, PROMPT};
 use crate::stage::{Next, Stage};
+use crate::{Step, flags};
 use paw_base::fault::SpentKind;
+use paw_base::flags::{LOCATION_FLAG, PROMPT_FLAG, VERB_FLAG};
 use paw_base::messages::{
     DARK_MESSAGE, IMPOSSIBLE_MESSAGE, LINE_MESSAGE, NO_WAY_MESSAGE, PROMPT_MESSAGE, UNKNOWN_MESSAGE,
 };
 use paw_base::piece::Piece;
+use paw_base::words::FIRST_PLAIN_VERB;
 use paw_effects::act::Prompt;
 use paw_effects::opening::opening_world;
 use paw_effects::text::{place_text, put, say};
@@ -32,7 +33,6 @@ use paw_game::tables::Tables;
 use paw_phrase::{Found, Pending};
 use paw_process::{Machine, Turned, take_phrase};
 use paw_routines::routines::Routines;
-use paw_world::flags::VERB;
 use paw_world::world::World;
 
 /// The table that answers a sentence.
@@ -43,9 +43,6 @@ const DESCRIBED_TABLE: u8 = 1;
 
 /// The table that is read in each frame.
 const FRAME_TABLE: u8 = 2;
-
-/// Verbs below this number lead to another location.
-const FIRST_PLAIN_VERB: u8 = 14;
 
 /// A turn in work: the world, what is left of the line, the machine, and the open piece.
 #[derive(Drop)]
@@ -163,7 +160,7 @@ impl Turn {
                 tables,
                 &self.world,
                 &mut self.piece,
-                self.world.flag(LOCATION),
+                self.world.flag(LOCATION_FLAG),
             )
         }
     }
@@ -173,7 +170,7 @@ impl Turn {
         ensures puts { Puts self.old.piece self.new.piece result (prompt_text (T.game tables.now) self.old.world) }
         ensures same { self.new ≡ record self.old { piece = self.new.piece } }
     {
-        let message = match self.world.flag(PROMPT) {
+        let message = match self.world.flag(PROMPT_FLAG) {
             0 => PROMPT_MESSAGE,
             message => message,
         };
@@ -210,7 +207,7 @@ impl Turn {
         ensures machine { self.new.machine ≡ self.old.machine }
     {
         self.pending.drop_line();
-        let message = if self.world.flag(VERB) < FIRST_PLAIN_VERB {
+        let message = if self.world.flag(VERB_FLAG) < FIRST_PLAIN_VERB {
             NO_WAY_MESSAGE
         } else {
             IMPOSSIBLE_MESSAGE
@@ -228,9 +225,9 @@ impl Turn {
         ensures falls { Falls (work stage.Response self.old) result self.new }
         ensures machine { self.new.machine ≡ self.old.machine }
     {
-        match tables.exit(self.world.flag(LOCATION), self.world.flag(VERB)) {
+        match tables.exit(self.world.flag(LOCATION_FLAG), self.world.flag(VERB_FLAG)) {
             Some(to) => {
-                self.world.set_flag(LOCATION, to);
+                self.world.set_flag(LOCATION_FLAG, to);
                 Next::Go(Stage::Describe)
             }
             None => self.refuse(tables),

@@ -2,14 +2,9 @@
 #![tactic(auto)]
 
 mod draws;
-pub mod flags;
 mod places;
 mod position;
 mod set;
-pub mod world;
-
-/// Objects at most.
-pub const MOST_OBJECTS: usize = 255;
-
 #[cfg(test)]
 mod tests;
+pub mod world;

@@ -1,5 +1,5 @@
-use crate::flags;
 use crate::world::World;
+use paw_base::flags;
 use paw_base::parts::ObjectFacts;
 use std::process::Abort;
 
@@ -121,7 +121,7 @@ fn the_least_object_at_a_place(rt: HostRuntime) {
     move_to(&rt, &mut world, 0, 3);
     move_to(&rt, &mut world, 64, 3);
     move_to(&rt, &mut world, 199, 3);
-    assert_eq!(rt; world.flag(flags::CARRIED), 197);
+    assert_eq!(rt; world.flag(flags::CARRIED_FLAG), 197);
     assert_eq!(rt; world.first_at(3, None), Some(0));
     assert_eq!(rt; world.first_at(3, Some(0)), Some(64));
     assert_eq!(rt; world.first_at(3, Some(64)), Some(199));
@@ -130,7 +130,7 @@ fn the_least_object_at_a_place(rt: HostRuntime) {
     assert_eq!(rt; world.first_at(254, Some(255)), None);
     world.return_objects();
     assert_eq!(rt; world.first_at(3, None), None);
-    assert_eq!(rt; world.flag(flags::CARRIED), 200);
+    assert_eq!(rt; world.flag(flags::CARRIED_FLAG), 200);
 }
 
 #[test]
@@ -146,7 +146,7 @@ fn a_saved_position(rt: HostRuntime) {
     world.set_flag(30, 0);
     world.set_flag(31, 0);
     world.ramload(30);
-    assert_eq!(rt; world.flag(flags::CARRIED), 0);
+    assert_eq!(rt; world.flag(flags::CARRIED_FLAG), 0);
     assert_eq!(rt; world.flag(30), 9);
     assert_eq!(rt; world.flag(31), 0, "flags above 30 stay");
     assert_eq!(rt; place(&rt, &world, 0), 3);
@@ -161,8 +161,8 @@ fn a_game_begun_anew(rt: HostRuntime) {
     world.ramsave();
     world.restart();
     assert_eq!(rt; place(&rt, &world, 0), 254);
-    assert_eq!(rt; world.flag(flags::CARRIED), 1);
-    assert_eq!(rt; world.flag(flags::VERB), 255);
+    assert_eq!(rt; world.flag(flags::CARRIED_FLAG), 1);
+    assert_eq!(rt; world.flag(flags::VERB_FLAG), 255);
     assert_eq!(rt; world.locations(), 252);
     assert!(rt; world.saved());
 }
@@ -225,7 +225,7 @@ fn kept_positions(rt: HostRuntime) {
     assert!(rt; world.recall(1));
     assert_eq!(rt; world.flag(30), 9);
     assert_eq!(rt; world.flag(255), 0);
-    assert_eq!(rt; world.flag(flags::CARRIED), 1, "nothing is counted");
+    assert_eq!(rt; world.flag(flags::CARRIED_FLAG), 1, "nothing is counted");
     assert_eq!(rt; place(&rt, &world, 0), 3);
     assert_eq!(rt; world.first_at(254, None), Some(1));
     assert_eq!(rt; saved_flag(&rt, &world, 30), 9);
@@ -246,7 +246,7 @@ fn a_kept_position_that_is_put_back(rt: HostRuntime) {
     assert_eq!(rt; kept_place(&rt, &world, 0, 1), 253);
     assert_eq!(rt; place(&rt, &world, 1), 254);
     assert!(rt; world.recall(0));
-    assert_eq!(rt; world.flag(flags::CARRIED), 6);
+    assert_eq!(rt; world.flag(flags::CARRIED_FLAG), 6);
     assert_eq!(rt; place(&rt, &world, 1), 253);
 }
 

@@ -8,27 +8,22 @@ ghost use Rattle.paw_world.specs.Weight.{weight, weight_down, weight_with, carri
 use crate::draws::Draws;
 use crate::places::Places;
 use crate::position::Position;
-use crate::{MOST_OBJECTS, flags};
+use paw_base::flags;
+use paw_base::limits::OBJECT_LIMIT;
 use paw_base::parts::ObjectFacts;
+use paw_base::places::{CARRIED_PLACE, NOT_CREATED_PLACE, WORN_PLACE};
+use paw_base::words::NO_WORD;
 use std::marker::Model;
 
 // The places of what isn't created, of what is worn and of what is carried.
-const NOT_CREATED: u8 = 252;
-
-const WORN: u8 = 253;
-
-const CARRIED: u8 = 254;
-
 // No word, and no object.
-const NONE: u8 = 255;
-
 // How many levels below an object its contents count.
 const LEVELS: u8 = 10;
 
 /// What a game changes while it is played, with the facts of its objects and the number of its locations.
 #[derive(Drop)]
 pub struct World {
-    facts: [ObjectFacts; MOST_OBJECTS],
+    facts: [ObjectFacts; OBJECT_LIMIT],
     locations: u8,
     flags: [u8; 256],
     places: Places,
@@ -152,12 +147,12 @@ impl World {
         if old == p {
             return;
         }
-        let carried = self.flag(flags::CARRIED);
-        if old == CARRIED {
-            self.set_flag(flags::CARRIED, carried.saturating_sub(1));
+        let carried = self.flag(flags::CARRIED_FLAG);
+        if old == CARRIED_PLACE {
+            self.set_flag(flags::CARRIED_FLAG, carried.saturating_sub(1));
         }
-        if p == CARRIED {
-            self.set_flag(flags::CARRIED, carried.saturating_add(1));
+        if p == CARRIED_PLACE {
+            self.set_flag(flags::CARRIED_FLAG, carried.saturating_add(1));
         }
         self.places.set_place(o, p);
     }
@@ -361,7 +356,7 @@ impl World {
     {
         let objects = self.places.count() as usize;
         let facts = &self.facts[..objects];
-        self.flags[flags::CARRIED as usize] = first_carried(facts);
+        self.flags[flags::CARRIED_FLAG as usize] = first_carried(facts);
         self.places = Places::opening(facts);
     }
 
@@ -405,25 +400,25 @@ impl World {
     pub fn carried_weight(&self) -> u8
         ensures value { result ≡ carried_weight self.now }
     {
-        let worn = self.weight_with(0, WORN, LEVELS);
-        self.weight_with(worn, CARRIED, LEVELS)
+        let worn = self.weight_with(0, WORN_PLACE, LEVELS);
+        self.weight_with(worn, CARRIED_PLACE, LEVELS)
     }
 }
 
 /// These facts, followed by others up to the greatest number of objects.
-fn filled(facts: &[ObjectFacts]) -> [ObjectFacts; MOST_OBJECTS]
+fn filled(facts: &[ObjectFacts]) -> [ObjectFacts; OBJECT_LIMIT]
     requires { length facts.now ≤ 255 }
     ensures { take (length facts.now) result ≡ facts.now }
 {
     let none = ObjectFacts {
-        noun: NONE,
-        adjective: NONE,
-        start: NOT_CREATED,
+        noun: NO_WORD,
+        adjective: NO_WORD,
+        start: NOT_CREATED_PLACE,
         weight: 0,
         container: false,
         wearable: false,
     };
-    let mut all = [none; MOST_OBJECTS];
+    let mut all = [none; OBJECT_LIMIT];
     all[..facts.len()].copy_from_slice(facts);
     all
 }
@@ -433,7 +428,7 @@ fn first_carried(facts: &[ObjectFacts]) -> u8
     requires { length facts.now ≤ 255 }
     ensures { result ≡ first_carried facts.now }
 {
-    facts.iter().filter(|f| f.start == CARRIED).count() as u8
+    facts.iter().filter(|f| f.start == CARRIED_PLACE).count() as u8
 }
 
 /// The flags at the start of a game.
@@ -442,18 +437,18 @@ fn opening_flags(facts: &[ObjectFacts]) -> [u8; 256]
     ensures { result ≡ opening_flags facts.now }
 {
     let mut all = [0; 256];
-    all[flags::CARRIED as usize] = first_carried(facts);
-    all[flags::VERB as usize] = NONE;
-    all[flags::NOUN as usize] = NONE;
-    all[flags::ADJECTIVE as usize] = NONE;
-    all[flags::ADVERB as usize] = NONE;
-    all[flags::PREPOSITION as usize] = NONE;
-    all[flags::SECOND_NOUN as usize] = NONE;
-    all[flags::SECOND_ADJECTIVE as usize] = NONE;
-    all[flags::PRONOUN_NOUN as usize] = NONE;
-    all[flags::PRONOUN_ADJECTIVE as usize] = NONE;
-    all[flags::REFERRED as usize] = NONE;
-    all[flags::MOST_CARRIED as usize] = 4;
-    all[flags::MOST_WEIGHT as usize] = 10;
+    all[flags::CARRIED_FLAG as usize] = first_carried(facts);
+    all[flags::VERB_FLAG as usize] = NO_WORD;
+    all[flags::NOUN_FLAG as usize] = NO_WORD;
+    all[flags::ADJECTIVE_FLAG as usize] = NO_WORD;
+    all[flags::ADVERB_FLAG as usize] = NO_WORD;
+    all[flags::PREPOSITION_FLAG as usize] = NO_WORD;
+    all[flags::SECOND_NOUN_FLAG as usize] = NO_WORD;
+    all[flags::SECOND_ADJECTIVE_FLAG as usize] = NO_WORD;
+    all[flags::PRONOUN_NOUN_FLAG as usize] = NO_WORD;
+    all[flags::PRONOUN_ADJECTIVE_FLAG as usize] = NO_WORD;
+    all[flags::REFERRED_FLAG as usize] = NO_WORD;
+    all[flags::MOST_CARRIED_FLAG as usize] = 4;
+    all[flags::MOST_WEIGHT_FLAG as usize] = 10;
     all
 }
