@@ -131,6 +131,7 @@ pub fn resume_loop<S: Stage, T: Tables, F: Fn(u8, u8) -> u8>(
         Passes (S.clock stage.old) (S.clock stage.new) (S.since stage.old) (S.since stage.new)
         (InAgain (kept_session (story_of (T.game tables.now) X) st piece game.now name.now) (S.standing stage.old)) }
 {
+    // Its clause says that the game is valid, which the proof wants. No call of it is left in the program.
     let _counts = tables.counts();
     let at = match attach(stage, name) {
         Ok(at) => at,

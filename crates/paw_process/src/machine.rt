@@ -183,6 +183,7 @@ impl Machine {
         ensures sound { IfOk result (λ m. frames_fault (T.game tables.now) prompt kept.now ≡ None) }
         ensures fault { IfErr result (λ e. frames_fault (T.game tables.now) prompt kept.now ≡ Some e.depth) }
     {
+        // Its clause says that the game is valid, which the proof wants. No call of it is left in the program.
         let _counts = tables.counts();
         if let Some(depth) = frames_fault(tables, prompt, kept) {
             return Err(FrameFault { depth });

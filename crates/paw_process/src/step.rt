@@ -457,6 +457,7 @@ impl Machine {
         ensures game { IsOf (T.game tables.now) world.new }
         ensures draws { world.new.draws + self.new.left ≤ world.old.draws + self.old.left }
     {
+        // Its clause says that the game is valid, which the proof wants. No call of it is left in the program.
         let _counts = tables.counts();
         let f = self.top();
         if f.at > 0 {

@@ -103,6 +103,7 @@ impl<'a, T: Tables, F: Fn(u8, u8) -> u8> Player<'a, T, F> {
         ensures value { IfOk result (λ p. p ≡ seat_at (T.game tables.now) routines.now world machine pending prompt) }
         ensures seated { IfOk result IsSeated }
     {
+        // Its clause says that the game is valid, which the proof wants. No call of it is left in the program.
         let _counts = tables.counts();
         let piece = Piece::new(alloc)?;
         Ok(Player {
