@@ -12,7 +12,7 @@ use Rattle.paw_game.specs.declared.parts.Entry.{Entry}
 use Rattle.paw_game.specs.declared.parts.GamePart.{GamePart}
 use Rattle.paw_game.specs.declared.parts.GamePart.TheVariants as part
 use Rattle.paw_game.specs.Game.{GameLists}
-use Rattle.paw_game.specs.Tables.{counts_of, or_empty, text_at, text_of, exit_of, facts_at}
+use Rattle.paw_game.specs.Tables.{counts_of, or_empty, text_at, row_text, exit_of, facts_at, facts_of}
 use Rattle.paw_game.specs.Image.{two_bytes, word_image, text_image, object_image, exit_image, exits_image, condact_image, entry_image, table_image, weight_byte, image}
 use Rattle.paw_image.specs.Reading.{◌>>=◌, condact_at}
 use Rattle.paw_image.specs.Reading as reading

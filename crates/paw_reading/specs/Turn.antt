@@ -256,6 +256,7 @@ EndsOnce = (g : Story) (n : ℕ) (s : Stage) (r : Run) →
 abbrev pub GoingOnEnds : Type 0
 GoingOnEnds = (g : Story) (p : Prompt) (path : List Frame) (r : Run) → on g p path r ≢ Unended
 
+-- more stages, or fewer that are enough, change nothing of it
 abbrev pub GoesOnOnce : Type 0
 GoesOnOnce = (g : Story) (n : ℕ) (p : Prompt) (path : List Frame) (r : Run) →
     goes_on g n p path r ≢ Unended → goes_on g n p path r ≡ on g p path r
