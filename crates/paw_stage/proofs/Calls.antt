@@ -4,9 +4,9 @@ use Rattle.std.specs.Prelude.{Option, Some, None, if◌then◌else◌, Bool, tru
 use Rattle.std.specs.Str.{bytes_eq}
 use Rattle.std.proofs.lemmas.Slice.Eq.{bytes_eq-Decides}
 use Rattle.paw_stage.specs.Disk.{Disk, MayLeave, put, stable}
-use Rattle.paw_stage.specs.Stage.{Standing, Saves, bytes_or_none}
+use Rattle.paw_stage.specs.Stage.{Standing, Saves, bytes_or_none, opened}
 use Rattle.paw_stage.specs.Moments.{Moment, Passes, InAsk, InSave, InAttach, InWrite, InSync}
-use Rattle.paw_stage.specs.Done.{Done, fresh, step, after, filed, opened, is_attached, saved, attached_store, wrote_store, synced_store}
+use Rattle.paw_stage.specs.Done.{Done, fresh, step, after, filed, is_attached, saved, attached_store, wrote_store, synced_store}
 use Rattle.paw_stage.specs.Replay.{StandsIn, StandsInside, since_of}
 use Rattle.paw_stage.specs.declared.log.Kind.{Kind}
 use Rattle.paw_stage.specs.declared.log.Kind.TheVariants as kind

@@ -1,19 +1,24 @@
 -- Counts of faults over several calls.
-use Rattle.std.proofs.Common.{ℕ, ◌≤◌, inl, inr, refl, sym, ◌∙◌, subst, arith}
+use Rattle.std.proofs.Common.{ℕ, ◌≤◌, ◌<◌, ◌≢◌, inl, inr, refl, sym, ◌∙◌, subst, arith}
+use Rattle.std.proofs.lemmas.Bool.{cases_lt}
 use Rattle.std.specs.Prelude.{Option, Some, None}
 use Rattle.paw_stage.specs.declared.StageCall.{StageCall}
-use Rattle.paw_stage.specs.Stage.{Rose, Grows, Faulted}
+use Rattle.paw_stage.specs.Stage.{Rose, Faulted}
 
-pub Grows_same : (old : StageCall → ℕ) → Grows old old
-Grows_same old c = omega arith
+-- a count that rose hasn't fallen
+Rose_grows : (old new : ℕ) → Rose old new → old ≤ new
+Rose_grows old new (inl h) = omega (arith, h)
+Rose_grows old new (inr h) = omega (arith, h.0, h.1)
 
-pub Grows_on : (old mid new : StageCall → ℕ) → Grows old mid → Grows mid new → Grows old new
-Grows_on old mid new g h c = let a = g c in let b = h c in omega (arith, a, b)
-
--- a count that rose in the last of some calls rose over all of them
-pub Rose_after : (old mid new : ℕ) → old ≤ mid → Rose mid new → Rose old new
-Rose_after old mid new g (inl h) = inl (omega (arith, g, h))
-Rose_after old mid new g (inr h) = inr h
+-- no count falls
+pub Faulted_grows : (failed : Option StageCall) (old new : StageCall → ℕ) → Faulted failed old new → (c : StageCall) → old c ≤ new c
+Faulted_grows None old new f c = let same = f c in omega (arith, same)
+Faulted_grows (Some failed) old new f c = elim (cases_lt (new c) (old c)) [
+  | inr le ↦ le
+  | inl lt ↦
+      let other : c ≢ failed = λ e. (let own = Rose_grows _ _ f.0 in let less = subst (λ k. new k < old k) e lt in omega (arith, own, less)) in
+      let same = f.1 c other in omega (arith, same, lt)
+]
 
 -- no call
 pub Faulted_same : (old : StageCall → ℕ) → Faulted None old old

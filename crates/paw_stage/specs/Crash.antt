@@ -11,7 +11,11 @@ abbrev pub spoiled : List Range → ℕ → List ℕ → List ℕ
 spoiled dirty i [] = []
 spoiled dirty i (x ∷ xs) = spoiled_if (is_dirty dirty i) x ∷ spoiled dirty (i + 1) xs
 
--- By pick 0 the bytes at the last sync are left, by pick 1 those that a read gives, and by any other these with 255 for
--- each that was written since the last sync.
+-- The bytes that a read gives, with 255 for each that was written since the last sync.
+abbrev pub all_spoiled : Disk → List ℕ
+all_spoiled d = spoiled d.dirty 0 d.bytes
+
+-- By pick 0 the bytes at the last sync are left, by pick 1 those that a read gives, and by any other these, all
+-- spoiled.
 abbrev pub crashed : Disk → ℕ → List ℕ
-crashed d pick = if pick == 0 then d.synced else if pick == 1 then d.bytes else spoiled d.dirty 0 d.bytes
+crashed d pick = if pick == 0 then d.synced else if pick == 1 then d.bytes else all_spoiled d

@@ -1,5 +1,6 @@
 -- A store's bytes, and what a crash may leave of them.
-use Rattle.std.specs.Prelude.{◌≡◌, ◌⊎◌, ℕ, ◌+◌, ◌<◌, ◌≤◌, max, List, [], ◌∷◌, ◌++◌, length, take, drop, slice_index, Bool, false, ◌&&◌, ◌||◌, nat_le, nat_lt}
+use Rattle.std.specs.Prelude.{◌≡◌, ◌⊎◌, ℕ, ◌+◌, ◌<◌, ◌≤◌, max, List, [], ◌∷◌, ◌++◌, length, take, drop, slice_index}
+use Rattle.std.specs.Prelude.{Bool, false, ◌&&◌, ◌||◌, nat_le, nat_lt}
 
 -- The places from one up to, but not with, another.
 pub record Range : Type 0 where
@@ -18,8 +19,8 @@ abbrev pub is_dirty : List Range → ℕ → Bool
 is_dirty [] i = false
 is_dirty (r ∷ ranges) i = (nat_le r.from i && nat_lt i r.to) || is_dirty ranges i
 
--- A crash may leave these bytes: any where it was written since the last sync, and any past the length of that time. All
--- others stay.
+-- A crash may leave these bytes: any where it was written since the last sync, and any past the length of that time.
+-- All others stay.
 pub record MayLeave (d : Disk) (image : List ℕ) : Type 0 where
   pub no_shorter : length d.synced ≤ length image
   pub no_longer : length image ≤ d.longest

@@ -1,8 +1,8 @@
 -- What a stage in memory was asked to do, and what stands after it.
-use Rattle.std.specs.Prelude.{ℕ, ◌+◌, List, [], ◌++◌, length, fold, Option, Some, None, Bool, false, if◌then◌else◌}
+use Rattle.std.specs.Prelude.{ℕ, ◌+◌, List, [], length, fold, Option, Some, None, Bool, false, if◌then◌else◌}
 use Rattle.std.specs.Str.{bytes_eq}
-use Rattle.paw_stage.specs.Disk.{touched, stable}
-use Rattle.paw_stage.specs.Stage.{Standing, holds, bytes_or_none, made_if_missing, wrote}
+use Rattle.paw_stage.specs.Disk.{stable}
+use Rattle.paw_stage.specs.Stage.{Standing, holds, bytes_or_none, with_shown, opened, with_written, settled}
 use Rattle.paw_stage.specs.declared.log.Kind.{Kind}
 use Rattle.paw_stage.specs.declared.log.Kind.TheVariants as kind
 
@@ -12,41 +12,45 @@ pub record Done : Type 0 where
   pub name : List ℕ
   pub bytes : List ℕ
 
+-- A call of this kind, to which this name and these bytes were handed.
+abbrev pub call_of : Kind → List ℕ → List ℕ → Done
+call_of kind name bytes = record { kind = kind; name = name; bytes = bytes }
+
 -- How many bytes were handed to a call.
 abbrev pub size_of : Done → ℕ
 size_of d = length d.name + length d.bytes
 
 -- A file was put there between the calls; a call loaded, saved, took a line, found no line left, showed a text.
 abbrev pub added : List ℕ → List ℕ → Done
-added name bytes = record { kind = kind.Add; name = name; bytes = bytes }
+added name bytes = call_of kind.Add name bytes
 
 abbrev pub loaded : List ℕ → Done
-loaded name = record { kind = kind.Load; name = name; bytes = [] }
+loaded name = call_of kind.Load name []
 
 abbrev pub saved : List ℕ → List ℕ → Done
-saved name bytes = record { kind = kind.Save; name = name; bytes = bytes }
+saved name bytes = call_of kind.Save name bytes
 
 abbrev pub took : Done
-took = record { kind = kind.Take; name = []; bytes = [] }
+took = call_of kind.Take [] []
 
 abbrev pub ended : Done
-ended = record { kind = kind.End; name = []; bytes = [] }
+ended = call_of kind.End [] []
 
 abbrev pub showed : List ℕ → Done
-showed text = record { kind = kind.Show; name = []; bytes = text }
+showed text = call_of kind.Show [] text
 
 -- A call attached a store, read it, wrote bytes to it from a place on, synced it.
 abbrev pub attached_store : List ℕ → Done
-attached_store name = record { kind = kind.Attach; name = name; bytes = [] }
+attached_store name = call_of kind.Attach name []
 
 abbrev pub read_store : Done
-read_store = record { kind = kind.Read; name = []; bytes = [] }
+read_store = call_of kind.Read [] []
 
 abbrev pub wrote_store : ℕ → List ℕ → Done
-wrote_store at bytes = record { kind = kind.Write at; name = []; bytes = bytes }
+wrote_store at bytes = call_of (kind.Write at) [] bytes
 
 abbrev pub synced_store : Done
-synced_store = record { kind = kind.Sync; name = []; bytes = [] }
+synced_store = call_of kind.Sync [] []
 
 -- With nothing there.
 abbrev pub fresh : Standing
@@ -65,18 +69,6 @@ filed name bytes s = record s {
   disk = if is_attached s.attached name then stable (bytes_or_none bytes) else s.disk;
 }
 
--- What stands once the file of this name is the attached store. It was made empty where it was missing.
-abbrev pub opened : List ℕ → Standing → Standing
-opened name s = record s {
-  files = made_if_missing name (s.files name) s.files;
-  attached = Some name;
-  disk = stable (bytes_or_none (s.files name));
-}
-
--- What stands once the store is synced.
-abbrev pub settled : Standing → Standing
-settled s = record s { disk = stable s.disk.bytes }
-
 -- What a call of a kind makes of what stands. The lines that are left stand elsewhere.
 abbrev pub stepped : Kind → List ℕ → List ℕ → Standing → Standing
 stepped kind.Add name bytes s = filed name (Some bytes) s
@@ -84,11 +76,11 @@ stepped kind.Load name bytes s = s
 stepped kind.Save name bytes s = filed name (Some bytes) s
 stepped kind.Attach name bytes s = opened name s
 stepped kind.Read name bytes s = s
-stepped (kind.Write at) name bytes s = wrote s (touched at (length bytes) bytes s.disk) (length bytes)
+stepped (kind.Write at) name bytes s = with_written at bytes s
 stepped kind.Sync name bytes s = settled s
 stepped kind.Take name bytes s = record s { asked = s.asked + 1 }
 stepped kind.End name bytes s = s
-stepped kind.Show name bytes s = record s { shown = s.shown ++ bytes }
+stepped kind.Show name bytes s = with_shown bytes s
 
 -- What stands after a call.
 abbrev pub step : Standing → Done → Standing

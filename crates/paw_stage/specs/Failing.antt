@@ -8,6 +8,11 @@ pub record Listing : Type 0 where
   pub calls : List ℕ
   pub next : ℕ
 
+-- These calls are to fail, and none was made yet.
+abbrev pub listing : List ℕ → Listing
+listing calls = record { calls = calls; next = 0 }
+
+-- Whether the next call is to fail.
 abbrev pub is_listed : Listing → Bool
 is_listed l = list_any (λ n. n == l.next) l.calls
 

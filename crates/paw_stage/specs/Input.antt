@@ -1,5 +1,7 @@
 -- What a reader of lines takes from its bytes.
 use Rattle.std.specs.Prelude.{◌≡◌, ◌≢◌, ℕ, ◌<◌, ◌≤◌, ⊤, Bool, List, [], ◌∷◌, length, take, min, Option, Some, None}
+use Rattle.std.specs.Prelude.{IfSome, Result, IfOk}
+use Rattle.std.specs.Option.{option_to_list}
 use Rattle.std.specs.Io.KnownBytes.{prepend_known, Consumes}
 use Rattle.std.specs.Io.BufRead.{ends_with_byte, first_line, drop_through}
 use Rattle.paw_stage.specs.Stage.{IsCut}
@@ -15,7 +17,8 @@ unread remaining s = prepend_known s.ahead (remaining s.reader)
 -- them where there is none, and gives the line without its LF or CR LF.
 abbrev pub TakesLine : List ℕ → Option (List ℕ) → Asked → List ℕ → Type 0
 TakesLine bytes left (asked.Line n) into =
-    (0 < length bytes) × (length (first_line bytes) ≤ 1048576) × IsCut (first_line bytes) into n × (left ≡ Some (drop_through 10 bytes))
+    (0 < length bytes) × (length (first_line bytes) ≤ 1048576) × IsCut (first_line bytes) into n
+    × (left ≡ Some (drop_through 10 bytes))
 TakesLine bytes left asked.End into = (bytes ≡ []) × (left ≡ Some [])
 TakesLine bytes left asked.Failed into = ⊤
 
@@ -23,7 +26,20 @@ TakesLine bytes left asked.Failed into = ⊤
 abbrev pub GathersLine : List ℕ → Option (List ℕ) → Option ℕ → List ℕ → Type 0
 GathersLine bytes left None into = (bytes ≡ []) × (left ≡ Some [])
 GathersLine bytes left (Some len) into =
-    (0 < length bytes) × (len ≡ length (first_line bytes)) × (take (min len 255) into ≡ take 255 (first_line bytes)) × (left ≡ Some (drop_through 10 bytes))
+    (0 < length bytes) × (len ≡ length (first_line bytes)) × (take (min len 255) into ≡ take 255 (first_line bytes))
+    × (left ≡ Some (drop_through 10 bytes))
+
+-- What an ask, the gathering of a line and the taking of a byte do to a reader, where its bytes are known.
+module _ {R : Type 0} (remaining : R → Option (List ℕ)) (old new : LineReader R) where
+  abbrev pub AsksOf : Asked → List ℕ → Type 0
+  AsksOf asked into = IfSome (unread remaining old) (λ bytes. TakesLine bytes (unread remaining new) asked into)
+
+  abbrev pub GathersOf : {E : Type 0} → Result (Option ℕ) E → List ℕ → Type 0
+  GathersOf gathered into =
+      IfSome (unread remaining old) (λ bytes. IfOk gathered (λ len. GathersLine bytes (unread remaining new) len into))
+
+  abbrev pub TakesByteOf : {E : Type 0} → Result (Option ℕ) E → Type 0
+  TakesByteOf taken = IfOk taken (λ byte. Consumes (unread remaining old) (unread remaining new) (option_to_list byte))
 
 -- No byte of these is an LF.
 abbrev pub HasNoEnd : List ℕ → Type 0

@@ -1,6 +1,7 @@
 pub mod Disk
 pub mod Stage
 pub mod Moments
+pub mod Across
 pub mod Faults
 pub mod Files
 pub mod Done

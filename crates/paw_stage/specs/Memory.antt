@@ -1,11 +1,12 @@
 -- A stage in memory: the lines that are left, its record of calls, and its counts of faults.
-use Rattle.std.specs.Prelude.{◌≡◌, ℕ, Bool, List, [], ◌∷◌, ◌++◌, length}
+use Rattle.std.specs.Prelude.{◌≡◌, ℕ, Bool, List, [], ◌∷◌, ◌++◌, length, drop}
 use Rattle.paw_stage.specs.declared.StageCall.{StageCall}
+use Rattle.paw_stage.specs.declared.StageCall.TheVariants as call
 use Rattle.paw_stage.specs.declared.faults.FaultCounts.{FaultCounts}
 use Rattle.paw_stage.specs.Stage.{Standing}
-use Rattle.paw_stage.specs.Moments.{Moment, moment_of}
+use Rattle.paw_stage.specs.Moments.{Moment, Moments, moment_of}
 use Rattle.paw_stage.specs.Faults.{raised, no_faults}
-use Rattle.paw_stage.specs.Done.{Done, size_of, added, fresh, after}
+use Rattle.paw_stage.specs.Done.{Done, size_of, added, loaded, took, fresh, after}
 use Rattle.paw_stage.specs.Replay.{since_of, only_now}
 use Rattle.paw_stage.specs.Log.{Logged, has_room, logged, given}
 
@@ -16,7 +17,11 @@ pub record Memory : Type 0 where
 
 -- With nothing in it, and spare room for so many calls and bytes.
 abbrev pub empty : ℕ → ℕ → Memory
-empty calls bytes = record { lines = []; log = record { calls = []; calls_left = calls; bytes_left = bytes }; counts = no_faults }
+empty calls bytes = record {
+  lines = [];
+  log = record { calls = []; calls_left = calls; bytes_left = bytes };
+  counts = no_faults;
+}
 
 -- What stands at it: what its calls, played again, make of nothing, and the lines that are left.
 abbrev pub standing_of : Memory → Standing
@@ -52,3 +57,15 @@ with_line line m = record m { lines = m.lines ++ line ∷ [] }
 -- With one fault more of a call, and all else as it was.
 abbrev pub failed : StageCall → Memory → Memory
 failed c m = record m { counts = raised c m.counts }
+
+-- The moments of a call are those before it, and besides only such ones, by what stood before.
+abbrev pub Throughout : Memory → Memory → (Standing → Moment → Type 0) → Type 0
+Throughout old new Inside = Moments clock_of moments_of old new (Inside (standing_of old))
+
+-- After a load that found no file: it was recorded, and counts as a fault.
+abbrev pub found_none : List ℕ → Memory → Memory
+found_none name m = failed call.LoadAbsent (noted (loaded name) m)
+
+-- After an ask that took the next line.
+abbrev pub line_taken : Memory → Memory
+line_taken m = record (noted took m) { lines = drop 1 m.lines }

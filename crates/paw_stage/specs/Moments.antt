@@ -16,11 +16,17 @@ pub record Moment : Type 0 where
 abbrev pub moment_of : Standing → Moment
 moment_of s = record { files = s.files; asked = s.asked; shown = s.shown; attached = s.attached; disk = s.disk }
 
--- The moments since a time, before a call and after it. Those after it are those before and those inside the call.
+-- The time and the moments since a time, before a call and after it. The moments after it are those before and those
+-- inside the call.
 pub record Passes (before now : ℕ) (past since : ℕ → Moment → Type 0) (Inside : Moment → Type 0) : Type 0 where
   pub later : before ≤ now
   pub nothing_else : (t : ℕ) (m : Moment) → t ≤ before → since t m → past t m ⊎ Inside m
   pub keeps : (t : ℕ) (m : Moment) → t ≤ before → past t m → since t m
+
+-- The moments of a call, or of several, are those before, and besides only such ones. `clock` and `since` tell the time
+-- and the moments of what the calls make of `old`.
+abbrev pub Moments : {S : Type 0} → (S → ℕ) → (S → ℕ → Moment → Type 0) → S → S → (Moment → Type 0) → Type 0
+Moments clock since old new Inside = Passes (clock old) (clock new) (since old) (since new) Inside
 
 -- Inside a call that changes nothing.
 abbrev pub Still : Standing → Moment → Type 0
@@ -52,8 +58,8 @@ pub record InAttach (old new : Standing) (name : List ℕ) (m : Moment) : Type 0
   pub files : (m.files ≡ old.files) ⊎ (m.files ≡ made_if_missing name (old.files name) old.files)
   pub store : ((m.attached ≡ old.attached) × (m.disk ≡ old.disk)) ⊎ ((m.attached ≡ new.attached) × (m.disk ≡ new.disk))
 
--- Inside a write of n bytes: the store's file may hold any bytes, and a crash leaves what it left before, or any bytes in
--- the range.
+-- Inside a write of n bytes: the store's file may hold any bytes, and a crash leaves what it left before, or any bytes
+-- in the range.
 pub record InWrite (old : Standing) (at n : ℕ) (m : Moment) : Type 0 where
   pub asked : m.asked ≡ old.asked
   pub shown : m.shown ≡ old.shown

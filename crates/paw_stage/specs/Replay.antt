@@ -2,9 +2,9 @@
 use Rattle.std.specs.Prelude.{◌≡◌, ◌⊎◌, ℕ, ◌+◌, ◌≤◌, List, [], ◌∷◌, ◌++◌, length, take, drop, Option, Some}
 use Rattle.std.proofs.Common.{inl, inr}
 use Rattle.paw_stage.specs.Disk.{touched}
-use Rattle.paw_stage.specs.Stage.{Standing, made_if_missing, wrote}
+use Rattle.paw_stage.specs.Stage.{Standing, made_if_missing, opened, wrote, settled}
 use Rattle.paw_stage.specs.Moments.{Moment, moment_of}
-use Rattle.paw_stage.specs.Done.{Done, fresh, filed, opened, settled, step, after}
+use Rattle.paw_stage.specs.Done.{Done, fresh, filed, step, after}
 use Rattle.paw_stage.specs.declared.log.Kind.{Kind}
 use Rattle.paw_stage.specs.declared.log.Kind.TheVariants as kind
 
@@ -12,8 +12,8 @@ use Rattle.paw_stage.specs.declared.log.Kind.TheVariants as kind
 abbrev pub IsEither : Standing → Standing → Moment → Type 0
 IsEither s t m = (m ≡ moment_of s) ⊎ (m ≡ moment_of t)
 
--- What may stand at the moments inside a call, its start and its end among them. Inside a save the file may hold any bytes
--- or be gone, and inside a write any bytes may stand in the range that is written, or in a first part of it.
+-- What may stand at the moments inside a call, its start and its end among them. Inside a save the file may hold any
+-- bytes or be gone, and inside a write any bytes may stand in the range that is written, or in a first part of it.
 abbrev pub StandsIn : Kind → List ℕ → List ℕ → Standing → Moment → Type 0
 StandsIn kind.Add name bytes s m = IsEither s (filed name (Some bytes) s) m
 StandsIn kind.Load name bytes s m = m ≡ moment_of s
@@ -22,7 +22,9 @@ StandsIn kind.Attach name bytes s m =
     (m ≡ record (moment_of s) { files = made_if_missing name (s.files name) s.files }) ⊎ IsEither s (opened name s) m
 StandsIn kind.Read name bytes s m = m ≡ moment_of s
 StandsIn (kind.Write at) name bytes s m =
-    (m ≡ moment_of s) ⊎ ((new : List ℕ) × (length new ≤ length bytes) × (m ≡ moment_of (wrote s (touched at (length bytes) new s.disk) 0)))
+    (m ≡ moment_of s)
+    ⊎ ((new : List ℕ) × (length new ≤ length bytes)
+    × (m ≡ moment_of (wrote s (touched at (length bytes) new s.disk) 0)))
 StandsIn kind.Sync name bytes s m = IsEither s (settled s) m
 StandsIn kind.Take name bytes s m = IsEither s (record s { asked = s.asked + 1 }) m
 StandsIn kind.End name bytes s m = m ≡ moment_of s
@@ -37,7 +39,8 @@ abbrev pub StoodInside : Standing → List Done → Moment → Type 0
 StoodInside s [] m = ⊥
 StoodInside s (d ∷ ds) m = StandsInside s d m ⊎ StoodInside (step s d) ds m
 
--- The moments since so many of these calls were done: what stands after all of them, and what stood inside the later ones.
+-- The moments since so many of these calls were done: what stands after all of them, and what stood inside the later
+-- ones.
 abbrev pub since_of : List Done → ℕ → Moment → Type 0
 since_of ds t m = (m ≡ moment_of (after fresh ds)) ⊎ StoodInside (after fresh (take t ds)) (drop t ds) m
 

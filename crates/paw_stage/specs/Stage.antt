@@ -1,7 +1,10 @@
 -- What a stage tells, and what its calls do to it.
-use Rattle.std.specs.Prelude.{◌≡◌, ◌≢◌, ◌⊎◌, ℕ, ◌+◌, ◌-◌, ◌<◌, ◌≤◌, ◌^◌, List, [], ◌∷◌, length, take, Option, Some, None, Result, Ok, Err, if◌then◌else◌}
+use Rattle.std.specs.Prelude.{◌≡◌, ◌≢◌, ◌⊎◌, ℕ, ◌+◌, ◌-◌, ◌<◌, ◌≤◌, ◌^◌, List, [], ◌∷◌, ◌++◌, length, take, drop}
+use Rattle.std.specs.Prelude.{Option, Some, None, IsSome, Result, Ok, Err, if◌then◌else◌}
+use Rattle.std.specs.declared.vec.Vec.{Vec}
+use Rattle.std.specs.declared.alloc.Global.{Global}
 use Rattle.std.specs.Str.{bytes_eq}
-use Rattle.paw_stage.specs.Disk.{Disk, stable, IsInWrite}
+use Rattle.paw_stage.specs.Disk.{Disk, stable, touched, IsInWrite}
 use Rattle.paw_stage.specs.declared.StageCall.{StageCall}
 use Rattle.paw_stage.specs.declared.StageCall.TheVariants as call
 use Rattle.paw_stage.specs.declared.LoadRefusal.{LoadRefusal}
@@ -45,13 +48,17 @@ pub record Standing : Type 0 where
   pub disk : Disk
   pub written : ℕ
 
--- A count of faults rose in a call. Once a count stands at its last value, it counts as having risen.
-abbrev pub Rose : ℕ → ℕ → Type 0
-Rose old new = (old < new) ⊎ (new ≡ 2 ^ 64 - 1)
+-- The bytes of the file of a name; none where it is missing.
+abbrev pub file_bytes : Standing → List ℕ → List ℕ
+file_bytes s name = bytes_or_none (s.files name)
 
--- No count of faults falls.
-abbrev pub Grows : (StageCall → ℕ) → (StageCall → ℕ) → Type 0
-Grows old new = (c : StageCall) → old c ≤ new c
+-- A fact of what a crash may leave of the store, where one is attached.
+abbrev pub IfAttached : Standing → (Disk → Type 0) → Type 0
+IfAttached s P = IsSome s.attached → P s.disk
+
+-- A count of faults rose in a call. At its last value it stays, and counts as having risen.
+abbrev pub Rose : ℕ → ℕ → Type 0
+Rose old new = (old < new) ⊎ ((old ≡ 2 ^ 64 - 1) × (new ≡ 2 ^ 64 - 1))
 
 -- What a call did to the counts, or several calls one after the other, by which one of them failed: its count rose, and
 -- no other changed. Where none failed, none changed.
@@ -90,6 +97,14 @@ AsksTo old new (asked.Line n) into =
 AsksTo old new asked.End into = (old.lines ≡ []) × (new ≡ old)
 AsksTo old new asked.Failed into = new ≡ old
 
+-- What a load answers. Of the file of this name it gives the bytes, or the first `most + 1` of them where it has more.
+-- Memory is never wanting for a file that is missing.
+abbrev pub LoadsTo : Standing → List ℕ → ℕ → Result (Vec ℕ Global) LoadRefusal → Type 0
+LoadsTo s name most (Ok given) = (bytes : List ℕ) × (s.files name ≡ Some bytes) × (given.items ≡ take (most + 1) bytes)
+LoadsTo s name most (Err refusal.Absent) = s.files name ≡ None
+LoadsTo s name most (Err refusal.Failed) = Unit {0}
+LoadsTo s name most (Err refusal.Memory) = s.files name ≢ None
+
 -- What a save does: the file of this name now holds these bytes, or is gone where there are none. Where it is that of
 -- the attached store, the store has these bytes, and what a crash may leave of it is open.
 pub record Saves (old new : Standing) (name : List ℕ) (bytes : Option (List ℕ)) : Type 0 where
@@ -98,21 +113,40 @@ pub record Saves (old new : Standing) (name : List ℕ) (bytes : Option (List �
   pub store : old.attached ≡ Some name → disk.bytes ≡ bytes_or_none bytes
   pub stands : new ≡ record old { files = holds name bytes old.files; disk = disk }
 
--- What an attach does. The file of this name is the store, and was made empty where it was missing; its bytes are stable.
--- Where it failed, nothing changed, or no store is attached any more.
+-- What a save leaves. Where it failed nothing changed, or the file holds any bytes, or is gone.
+abbrev pub SavesTo : {A : Type 0} → Standing → Standing → List ℕ → List ℕ → Result A Failed → Type 0
+SavesTo old new name bytes (Ok done) = Saves old new name (Some bytes)
+SavesTo old new name bytes (Err e) = (new ≡ old) ⊎ ((left : Option (List ℕ)) × Saves old new name left)
+
+-- What stands once the file of this name is the attached store. It was made empty where it was missing; its bytes are
+-- stable.
+abbrev pub opened : List ℕ → Standing → Standing
+opened name s = record s {
+  files = made_if_missing name (s.files name) s.files;
+  attached = Some name;
+  disk = stable (file_bytes s name);
+}
+
+-- What an attach that failed leaves: nothing changed, or no store is attached any more.
+abbrev pub Unattached : Standing → Standing → Type 0
+Unattached old new = (new ≡ old) ⊎ (new ≡ record old { attached = None; disk = stable [] })
+
+-- What an attach does. It answers the length of the store.
 abbrev pub AttachesTo : Standing → Standing → List ℕ → Result ℕ Failed → Type 0
-AttachesTo old new name (Ok n) =
-    (n ≡ length (bytes_or_none (old.files name)))
-    × (new ≡ record old {
-      files = made_if_missing name (old.files name) old.files;
-      attached = Some name;
-      disk = stable (bytes_or_none (old.files name));
-    })
-AttachesTo old new name (Err e) = (new ≡ old) ⊎ (new ≡ record old { attached = None; disk = stable [] })
+AttachesTo old new name (Ok n) = (n ≡ length (file_bytes old name)) × (new ≡ opened name old)
+AttachesTo old new name (Err e) = Unattached old new
 
 -- What stands once the store's bytes are those of this disk, and n bytes more were written.
 abbrev pub wrote : Standing → Disk → ℕ → Standing
 wrote old d n = record old { files = held old.attached d.bytes old.files; disk = d; written = old.written + n }
+
+-- What stands once these bytes were written to the store from a place on.
+abbrev pub with_written : ℕ → List ℕ → Standing → Standing
+with_written at bytes s = wrote s (touched at (length bytes) bytes s.disk) (length bytes)
+
+-- What stands once the store is synced.
+abbrev pub settled : Standing → Standing
+settled s = record s { disk = stable s.disk.bytes }
 
 -- What a write of n bytes leaves where it failed in the middle.
 pub record WritesPart (old new : Standing) (at n : ℕ) : Type 0 where
@@ -121,3 +155,39 @@ pub record WritesPart (old new : Standing) (at n : ℕ) : Type 0 where
   pub inside : IsInWrite at n old.disk disk
   pub no_more : count ≤ n
   pub stands : new ≡ wrote old disk count
+
+-- What a write of these bytes that failed leaves: nothing changed, or it failed in the middle.
+abbrev pub WritesSome : Standing → Standing → ℕ → List ℕ → Type 0
+WritesSome old new at bytes = (new ≡ old) ⊎ WritesPart old new at (length bytes)
+
+-- At most n bytes were written to stores.
+abbrev pub WritesAtMost : ℕ → Standing → Standing → Type 0
+WritesAtMost n old new = new.written ≤ old.written + n
+
+-- What a write of these bytes leaves.
+abbrev pub WritesTo : {A : Type 0} → Standing → Standing → ℕ → List ℕ → Result A Failed → Type 0
+WritesTo old new at bytes (Ok done) = new ≡ with_written at bytes old
+WritesTo old new at bytes (Err e) = WritesSome old new at bytes
+
+-- So many bytes of the store, from a place on.
+abbrev pub part_of : Standing → ℕ → ℕ → List ℕ
+part_of s at n = take n (drop at s.disk.bytes)
+
+-- What a read gives. Where it failed the bytes may be any.
+abbrev pub ReadsTo : {A : Type 0} → Standing → ℕ → ℕ → List ℕ → Result A Failed → Type 0
+ReadsTo s at n given (Ok done) = given ≡ part_of s at n
+ReadsTo s at n given (Err e) = Unit {0}
+
+-- What a sync leaves. Where it failed nothing changed.
+abbrev pub SyncsTo : {A : Type 0} → Standing → Standing → Result A Failed → Type 0
+SyncsTo old new (Ok done) = new ≡ settled old
+SyncsTo old new (Err e) = new ≡ old
+
+-- What stands once this text is shown behind the text that was.
+abbrev pub with_shown : List ℕ → Standing → Standing
+with_shown text s = record s { shown = s.shown ++ text }
+
+-- What a show leaves. Where it failed a first part of the text was shown.
+abbrev pub ShowsTo : {A : Type 0} → Standing → Standing → List ℕ → Result A Failed → Type 0
+ShowsTo old new text (Ok done) = new ≡ with_shown text old
+ShowsTo old new text (Err e) = (n : ℕ) × (new ≡ with_shown (take n text) old)

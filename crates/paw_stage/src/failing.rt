@@ -2,7 +2,7 @@
 
 ghost use Rattle.std.specs.Prelude.{◌≡◌};
 ghost use Rattle.paw_stage.specs.Faults.{no_faults};
-ghost use Rattle.paw_stage.specs.Failing.{is_listed, counted};
+ghost use Rattle.paw_stage.specs.Failing.{listing, is_listed, counted};
 
 use crate::MemoryStage;
 use crate::refusing::{Refusals, RefusingStage};
@@ -42,7 +42,7 @@ impl Refusals for Listed {
 impl RefusingStage<Listed> {
     /// A stage over this one, of which the calls with these numbers fail. They need not be in order.
     pub fn new(inner: MemoryStage, calls: Vec<u64>) -> FailStage
-        ensures { result ≡ record { inner = inner; rule = record { calls = calls.items; next = 0 }; counts = no_faults } }
+        ensures { result ≡ record { inner = inner; rule = listing calls.items; counts = no_faults } }
     {
         RefusingStage::over(inner, Listed { calls, next: 0 })
     }

@@ -1,8 +1,8 @@
 // A count of faults for each call, kept by every stage.
 
-ghost use Rattle.std.specs.Prelude.{◌≡◌, IsErr, OnOk, OnErr, Some};
+ghost use Rattle.std.specs.Prelude.{◌≡◌, OnOk, OnErr, Some};
 ghost use Rattle.paw_stage.specs.Faults.{count_of, no_faults, raised};
-ghost use Rattle.paw_stage.specs.Stage.{Rose, Grows, Faulted, failed_in};
+ghost use Rattle.paw_stage.specs.Stage.{Faulted, failed_in};
 
 use crate::{Failed, StageCall};
 
@@ -41,8 +41,6 @@ impl FaultCounts {
     /// Counts one more fault of a call. Its own count rises, and no other changes.
     pub fn raise(&mut self, call: StageCall)
         ensures raised { self.new ≡ raised call self.old }
-        ensures rose { Rose (count_of self.old call) (count_of self.new call) }
-        ensures grows { Grows (count_of self.old) (count_of self.new) }
         ensures faulted { Faulted (Some call) (count_of self.old) (count_of self.new) }
     {
         match call {
@@ -63,8 +61,6 @@ impl FaultCounts {
         ensures same { result ≡ answer }
         ensures fine { OnOk result (self.new ≡ self.old) }
         ensures raised { OnErr result (self.new ≡ raised call self.old) }
-        ensures rose { IsErr result → Rose (count_of self.old call) (count_of self.new call) }
-        ensures grows { Grows (count_of self.old) (count_of self.new) }
         ensures faulted { Faulted (failed_in call result) (count_of self.old) (count_of self.new) }
     {
         if answer.is_err() {

@@ -1,9 +1,8 @@
 // Real files, whole and in parts.
 
 ghost use Rattle.std.specs.Prelude.{◌≡◌, OnOk};
-ghost use Rattle.std.specs.Io.KnownBytes.{Consumes, Appends};
 ghost use Rattle.std.specs.Path.{path_bytes};
-ghost use Rattle.paw_stage.specs.Files.{StandsAt, folder_of};
+ghost use Rattle.paw_stage.specs.Files.{StandsAt, GivesAt, TakesAt, folder_of};
 
 use crate::streams::{read_first, write_whole};
 use crate::{Failed, LoadRefusal};
@@ -47,8 +46,8 @@ pub fn open_store<R: Files>(rt: &R, name: &str) -> Result<(R::File, u64), Failed
 
 // Opens a file, makes it where it is missing, and syncs it and its folder.
 //
-// A file that is opened takes the lowest free descriptor. Where the program was started with a standard stream closed, that
-// is the stream's, and what is shown would be written to the file. A copy has a descriptor above those three.
+// A file that is opened takes the lowest free descriptor. Where the program was started with a standard stream closed,
+// that is the stream's, and what is shown would be written to the file. A copy has a descriptor above those three.
 fn open_synced<R: Files>(rt: &R, name: &str) -> io::Result<R::File> {
     let file = File::options()
         .read(true)
@@ -72,7 +71,7 @@ fn folder_of(name: &str) -> Path<'_>
 
 /// Reads as many bytes as `into` has from a place on. It fails where the file ends before.
 pub fn read_part<F: Read + Seek>(file: &mut F, at: u64, into: &mut [u8]) -> Result<(), Failed>
-    ensures read { OnOk result ((there : F) × StandsAt (F.stream_position file.old) (F.stream_position there) at × Consumes (F.remaining there) (F.remaining file.new) into.new) }
+    ensures read { OnOk result (GivesAt F.stream_position F.remaining file.old file.new at into.new) }
 {
     seek_to(file, at)?;
     file.read_exact(into).map_err(|_| Failed)
@@ -80,7 +79,7 @@ pub fn read_part<F: Read + Seek>(file: &mut F, at: u64, into: &mut [u8]) -> Resu
 
 /// Writes bytes from a place on. What lies between the end of the file and a place behind it becomes zeros.
 pub fn write_part<F: Write + Seek>(file: &mut F, at: u64, bytes: &[u8]) -> Result<(), Failed>
-    ensures written { OnOk result ((there : F) × StandsAt (F.stream_position file.old) (F.stream_position there) at × Appends (F.contents there) (F.contents file.new) bytes.now) }
+    ensures written { OnOk result (TakesAt F.stream_position F.contents file.old file.new at bytes.now) }
 {
     seek_to(file, at)?;
     write_whole(file, bytes)

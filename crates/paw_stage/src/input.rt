@@ -1,8 +1,7 @@
 // The lines of a reader.
 
-ghost use Rattle.std.specs.Prelude.{◌≡◌, ◌<◌, ◌≤◌, ◌-◌, ◌↔◌, nat_lt, if◌then◌else◌, slice_set, IsTrue, IsNone, IfOk, IfSome, Some};
-ghost use Rattle.std.specs.Option.{option_to_list};
-ghost use Rattle.std.specs.Io.KnownBytes.{Consumes, IsAtEnd};
+ghost use Rattle.std.specs.Prelude.{◌≡◌, ◌<◌, ◌-◌, ◌↔◌, nat_lt, if◌then◌else◌, slice_set, IsTrue, IsNone, IfOk};
+ghost use Rattle.std.specs.Io.KnownBytes.{IsAtEnd};
 ghost use Rattle.paw_stage.specs.declared.Asked.TheVariants as asked;
 
 use crate::ahead::Ahead;
@@ -24,7 +23,7 @@ pub struct LineReader<R: Drop> {
 }
 
 impl<R: Read + Drop> LineReader<R> {
-    ghost use Rattle.paw_stage.specs.Input.{unread, GathersLine, TakesLine};
+    ghost use Rattle.paw_stage.specs.Input.{unread, AsksOf, GathersOf, TakesByteOf};
 
     /// The lines of a reader, of which nothing was read yet.
     pub fn new(reader: R) -> LineReader<R>
@@ -40,7 +39,7 @@ impl<R: Read + Drop> LineReader<R> {
     /// Takes the next line and gives its first 255 bytes, without its line end. A line of more than 1,048,576 bytes,
     /// its end not counted, is Failed, and so is a fault of the reader.
     pub fn next_line(&mut self, into: &mut [u8; 255]) -> Asked
-        ensures line { IfSome (unread R.remaining self.old) (λ bytes. TakesLine bytes (unread R.remaining self.new) result into.new) }
+        ensures line { AsksOf R.remaining self.old self.new result into.new }
         ensures breaks { (result ≡ asked.Failed) ↔ IsTrue self.new.broken }
         ensures stays { IsTrue self.old.broken → result ≡ asked.Failed }
     {
@@ -60,7 +59,7 @@ impl<R: Read + Drop> LineReader<R> {
     // Takes the next line, keeps its first 255 bytes, and gives its length, or nothing where no byte is
     // left. It fails where the line and its CR are longer than the greatest length and one byte.
     fn gather(&mut self, into: &mut [u8; 255]) -> Result<Option<u32>, Failed>
-        ensures line { IfSome (unread R.remaining self.old) (λ bytes. IfOk result (λ len. GathersLine bytes (unread R.remaining self.new) len into.new)) }
+        ensures line { GathersOf R.remaining self.old self.new result into.new }
         ensures rest { self.new.broken ≡ self.old.broken }
     {
         let mut returned = false;
@@ -79,7 +78,7 @@ impl<R: Read + Drop> LineReader<R> {
 
     // Takes the next byte, if there is one.
     fn next_byte(&mut self) -> Result<Option<u8>, Failed>
-        ensures taken { IfOk result (λ byte. Consumes (unread R.remaining self.old) (unread R.remaining self.new) (option_to_list byte)) }
+        ensures taken { TakesByteOf R.remaining self.old self.new result }
         ensures end { IfOk result (λ byte. IsNone byte → IsAtEnd (unread R.remaining self.new)) }
         ensures rest { self.new.broken ≡ self.old.broken }
     {

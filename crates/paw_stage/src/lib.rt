@@ -59,23 +59,24 @@ pub enum Asked {
     Failed,
 }
 
-/// The outside: files by name, one of which may be attached as a store, the lines of a player and the text shown to them.
+/// The outside: files by name, one of which may be attached as a store, the lines of a player and the text shown to
+/// them.
 ///
-/// A stage that *tells* says what stands at it, and what stood at each moment, inside its calls too; every stage tells how
-/// often each call has failed. A call that fails raises its own count and no other, and one that doesn't fail raises none.
-/// What a clause doesn't name stays as it was before the call.
+/// A stage that *tells* says what stands at it, and what stood at each moment, inside its calls too; every stage tells
+/// how often each call has failed. A call that fails raises its own count and no other, and one that doesn't fail
+/// raises none. What a clause doesn't name stays as it was before the call.
 ///
-/// A store is a file. What a crash leaves of it follows the disk of `specs/Disk.antt`: any bytes wherever it was written
-/// since the last sync, and all others as they were.
+/// A store is a file. What a crash leaves of it follows the disk of `specs/Disk.antt`: any bytes wherever it was
+/// written since the last sync, and all others as they were.
 pub trait Stage {
-    ghost use Rattle.std.specs.Prelude.{◌≡◌, ◌⊎◌, ◌≤◌, ◌+◌, ◌++◌, ◌↔◌, List, ℕ, length, take, drop, Option, Some, None, Ok, Err, IsSome, OnOk, OnErr, IfOk, IsErr};
+    ghost use Rattle.std.specs.Prelude.{◌≡◌, ◌≤◌, ◌+◌, ◌↔◌, ℕ, length, IsSome};
     ghost use Rattle.paw_stage.specs.declared.StageCall.{StageCall};
     ghost use Rattle.paw_stage.specs.declared.StageCall.TheVariants as call;
-    ghost use Rattle.paw_stage.specs.declared.LoadRefusal.TheVariants as refusal;
-    ghost use Rattle.paw_stage.specs.declared.Asked.TheVariants as asked;
-    ghost use Rattle.paw_stage.specs.Disk.{IsStable, stable, touched};
-    ghost use Rattle.paw_stage.specs.Stage.{Standing, Rose, Grows, Faulted, failed_in, failed_load, failed_ask, AsksTo, Saves, AttachesTo, WritesPart, wrote};
-    ghost use Rattle.paw_stage.specs.Moments.{Moment, moment_of, Passes, Still, InAsk, InShow, InSave, InAttach, InWrite, InSync};
+    ghost use Rattle.paw_stage.specs.Disk.{IsStable};
+    ghost use Rattle.paw_stage.specs.Stage.{Standing, Faulted, failed_in, failed_load, failed_ask};
+    ghost use Rattle.paw_stage.specs.Stage.{LoadsTo, SavesTo, AttachesTo, ReadsTo, WritesTo, SyncsTo, AsksTo, ShowsTo};
+    ghost use Rattle.paw_stage.specs.Moments.{Moment, Moments, moment_of, Still};
+    ghost use Rattle.paw_stage.specs.Moments.{InAsk, InShow, InSave, InAttach, InWrite, InSync};
 
     /// Whether the stage tells what stands at it. The clauses on what stands hold only of a stage that does; one
     /// over a real system tells nothing but its counts. No call changes whether a stage tells.
@@ -101,38 +102,29 @@ pub trait Stage {
     /// memory. Absent counts as a fault of `LoadAbsent`, and Failed as one of `Load`.
     fn load(&mut self, alloc: Global, name: &str, most: usize) -> Result<Vec<u8>, LoadRefusal>
         ensures tells { Tells self.old ↔ Tells self.new }
-        ensures counts { Grows (faults self.old) (faults self.new) }
-        ensures absent { result ≡ Err refusal.Absent → Rose (faults self.old call.LoadAbsent) (faults self.new call.LoadAbsent) }
-        ensures cause { result ≡ Err refusal.Failed → Rose (faults self.old call.Load) (faults self.new call.Load) }
         ensures faulted { Faulted (failed_load result) (faults self.old) (faults self.new) }
         ensures still { Tells self.old → standing self.new ≡ standing self.old }
-        ensures found { Tells self.old → IfOk result (λ v. (bytes : List ℕ) × ((standing self.old).files name.now ≡ Some bytes) × (v.items ≡ take (most + 1) bytes)) }
-        ensures missing { Tells self.old → result ≡ Err refusal.Absent → (standing self.old).files name.now ≡ None }
-        ensures nowhere { Tells self.old → (standing self.old).files name.now ≡ None → (result ≡ Err refusal.Absent) ⊎ (result ≡ Err refusal.Failed) }
-        ensures time { Tells self.old → Passes (clock self.old) (clock self.new) (since self.old) (since self.new) (Still (standing self.old)) };
+        ensures answer { Tells self.old → LoadsTo (standing self.old) name.now most result }
+        ensures time { Tells self.old → Moments clock since self.old self.new (Still (standing self.old)) };
 
     /// Makes the file of a name hold these bytes. After Failed the file may hold any bytes, or be gone.
     fn save(&mut self, name: &str, bytes: &[u8]) -> Result<(), Failed>
         ensures tells { Tells self.old ↔ Tells self.new }
-        ensures counts { Grows (faults self.old) (faults self.new) }
-        ensures cause { IsErr result → Rose (faults self.old call.Save) (faults self.new call.Save) }
         ensures faulted { Faulted (failed_in call.Save result) (faults self.old) (faults self.new) }
-        ensures saved { Tells self.old → OnOk result (Saves (standing self.old) (standing self.new) name.now (Some bytes.now)) }
-        ensures part { Tells self.old → OnErr result ((standing self.new ≡ standing self.old) ⊎ ((left : Option (List ℕ)) × Saves (standing self.old) (standing self.new) name.now left)) }
-        ensures time { Tells self.old → Passes (clock self.old) (clock self.new) (since self.old) (since self.new) (InSave (standing self.old) name.now) };
+        ensures answer { Tells self.old → SavesTo (standing self.old) (standing self.new) name.now bytes.now result }
+        ensures time { Tells self.old → Moments clock since self.old self.new (InSave (standing self.old) name.now) };
 
-    /// Makes the file of a name the attached store, and answers its length in bytes. A missing file is made empty. It is
-    /// asked for only while all that was written to the store before is synced.
+    /// Makes the file of a name the attached store, and answers its length in bytes. A missing file is made empty. It
+    /// is asked for only while all that was written to the store before is synced.
     ///
     /// After Failed the store attached before is still attached, or none is.
     fn attach(&mut self, name: &str) -> Result<u64, Failed>
         requires synced { Tells self.old → IsStable (standing self.old).disk }
         ensures tells { Tells self.old ↔ Tells self.new }
-        ensures counts { Grows (faults self.old) (faults self.new) }
-        ensures cause { IsErr result → Rose (faults self.old call.Attach) (faults self.new call.Attach) }
         ensures faulted { Faulted (failed_in call.Attach result) (faults self.old) (faults self.new) }
         ensures answer { Tells self.old → AttachesTo (standing self.old) (standing self.new) name.now result }
-        ensures time { Tells self.old → Passes (clock self.old) (clock self.new) (since self.old) (since self.new) (InAttach (standing self.old) (standing self.new) name.now) };
+        ensures time { Tells self.old →
+            Moments clock since self.old self.new (InAttach (standing self.old) (standing self.new) name.now) };
 
     /// Reads bytes of the attached store, as many as `into` has, from a place on. All of them lie in the store. After
     /// Failed the bytes of `into` may be any.
@@ -140,12 +132,10 @@ pub trait Stage {
         requires attached { Tells self.old → IsSome (standing self.old).attached }
         requires within { Tells self.old → at + length into.old ≤ length (standing self.old).disk.bytes }
         ensures tells { Tells self.old ↔ Tells self.new }
-        ensures counts { Grows (faults self.old) (faults self.new) }
-        ensures cause { IsErr result → Rose (faults self.old call.Read) (faults self.new call.Read) }
         ensures faulted { Faulted (failed_in call.Read result) (faults self.old) (faults self.new) }
         ensures still { Tells self.old → standing self.new ≡ standing self.old }
-        ensures read { Tells self.old → OnOk result (into.new ≡ take (length into.old) (drop at (standing self.old).disk.bytes)) }
-        ensures time { Tells self.old → Passes (clock self.old) (clock self.new) (since self.old) (since self.new) (Still (standing self.old)) };
+        ensures answer { Tells self.old → ReadsTo (standing self.old) at (length into.old) into.new result }
+        ensures time { Tells self.old → Moments clock since self.old self.new (Still (standing self.old)) };
 
     /// Writes bytes to the attached store from a place on, which lies in the store or right behind it. After Failed any
     /// part of the range may hold any bytes, and as many bytes as were handed in, or fewer, count as written.
@@ -153,22 +143,17 @@ pub trait Stage {
         requires attached { Tells self.old → IsSome (standing self.old).attached }
         requires within { Tells self.old → at ≤ length (standing self.old).disk.bytes }
         ensures tells { Tells self.old ↔ Tells self.new }
-        ensures counts { Grows (faults self.old) (faults self.new) }
-        ensures cause { IsErr result → Rose (faults self.old call.Write) (faults self.new call.Write) }
         ensures faulted { Faulted (failed_in call.Write result) (faults self.old) (faults self.new) }
-        ensures written { Tells self.old → OnOk result (standing self.new ≡ wrote (standing self.old) (touched at (length bytes.now) bytes.now (standing self.old).disk) (length bytes.now)) }
-        ensures part { Tells self.old → OnErr result ((standing self.new ≡ standing self.old) ⊎ WritesPart (standing self.old) (standing self.new) at (length bytes.now)) }
-        ensures time { Tells self.old → Passes (clock self.old) (clock self.new) (since self.old) (since self.new) (InWrite (standing self.old) at (length bytes.now)) };
+        ensures answer { Tells self.old → WritesTo (standing self.old) (standing self.new) at bytes.now result }
+        ensures time { Tells self.old →
+            Moments clock since self.old self.new (InWrite (standing self.old) at (length bytes.now)) };
 
     /// Makes what was written to the attached store last: a crash leaves just what a read gives.
     fn sync(&mut self) -> Result<(), Failed>
         ensures tells { Tells self.old ↔ Tells self.new }
-        ensures counts { Grows (faults self.old) (faults self.new) }
-        ensures cause { IsErr result → Rose (faults self.old call.Sync) (faults self.new call.Sync) }
         ensures faulted { Faulted (failed_in call.Sync result) (faults self.old) (faults self.new) }
-        ensures synced { Tells self.old → OnOk result (standing self.new ≡ record (standing self.old) { disk = stable (standing self.old).disk.bytes }) }
-        ensures part { Tells self.old → OnErr result (standing self.new ≡ standing self.old) }
-        ensures time { Tells self.old → Passes (clock self.old) (clock self.new) (since self.old) (since self.new) (InSync (standing self.old)) };
+        ensures answer { Tells self.old → SyncsTo (standing self.old) (standing self.new) result }
+        ensures time { Tells self.old → Moments clock since self.old self.new (InSync (standing self.old)) };
 
     /// Takes the next line and gives its first 255 bytes, without its line end. The bytes of `into` past the answered
     /// length may be any.
@@ -176,21 +161,16 @@ pub trait Stage {
     /// The answer is End exactly where no line is left and the call didn't fail. After End and Failed no line is taken.
     fn ask(&mut self, into: &mut [u8; 255]) -> Asked
         ensures tells { Tells self.old ↔ Tells self.new }
-        ensures counts { Grows (faults self.old) (faults self.new) }
-        ensures cause { result ≡ asked.Failed → Rose (faults self.old call.Ask) (faults self.new call.Ask) }
         ensures faulted { Faulted (failed_ask result) (faults self.old) (faults self.new) }
         ensures answer { Tells self.old → AsksTo (standing self.old) (standing self.new) result into.new }
-        ensures time { Tells self.old → Passes (clock self.old) (clock self.new) (since self.old) (since self.new) (InAsk (standing self.old) result) };
+        ensures time { Tells self.old → Moments clock since self.old self.new (InAsk (standing self.old) result) };
 
     /// Shows a text after the text shown before. After Failed some first part of the text was shown, maybe nothing.
     fn show(&mut self, text: &[u8]) -> Result<(), Failed>
         ensures tells { Tells self.old ↔ Tells self.new }
-        ensures counts { Grows (faults self.old) (faults self.new) }
-        ensures cause { IsErr result → Rose (faults self.old call.Show) (faults self.new call.Show) }
         ensures faulted { Faulted (failed_in call.Show result) (faults self.old) (faults self.new) }
-        ensures shown { Tells self.old → OnOk result (standing self.new ≡ record (standing self.old) { shown = (standing self.old).shown ++ text.now }) }
-        ensures part { Tells self.old → OnErr result ((n : ℕ) × (standing self.new ≡ record (standing self.old) { shown = (standing self.old).shown ++ take n text.now })) }
-        ensures time { Tells self.old → Passes (clock self.old) (clock self.new) (since self.old) (since self.new) (InShow (standing self.old) text.now) };
+        ensures answer { Tells self.old → ShowsTo (standing self.old) (standing self.new) text.now result }
+        ensures time { Tells self.old → Moments clock since self.old self.new (InShow (standing self.old) text.now) };
 
     /// Since now there is no moment but this.
     ghost only_now: { (s : Self) (m : Moment) → Tells s → since s (clock s) m → m ≡ moment_of (standing s) };

@@ -1,18 +1,20 @@
 // A record of calls, kept in rooms that were taken beforehand.
 
-ghost use Rattle.std.specs.Prelude.{◌≡◌, ◌≤◌, ◌<◌, ◌+◌, ◌++◌, ◌∷◌, [], IsTrue, IsFalse, IfOk, IfSome, IfNone, IsSome, Some, None, OnOk, OnErr, length, take, drop, vec_len, vec_capacity, List, ℕ};
-ghost use Rattle.paw_stage.specs.Stage.{Standing, bytes_or_none};
-ghost use Rattle.paw_stage.specs.Done.{added, fresh, stepped, after};
+ghost use Rattle.std.specs.Prelude.{◌≡◌, ◌≤◌, ◌<◌, ◌+◌, ◌++◌, ◌∷◌, [], IsTrue, IsFalse, IfOk, IfSome, IfNone, IsSome};
+ghost use Rattle.std.specs.Prelude.{None, OnOk, OnErr, length, take, drop, vec_len, vec_capacity, List, ℕ};
+ghost use Rattle.paw_stage.specs.Stage.{Standing, IfAttached, bytes_or_none};
+ghost use Rattle.paw_stage.specs.Done.{call_of, added, fresh, stepped, after};
 ghost use Rattle.paw_stage.specs.Crash.{crashed};
-ghost use Rattle.paw_stage.specs.Log.{has_room, logged, given, all_done, AreLaid};
+ghost use Rattle.paw_stage.specs.Log.{has_room, logged, given, all_done, AreLaid, KeepsText};
+ghost use Rattle.paw_stage.specs.Seen.{HasLength};
 
 use crate::replay::{crash, file_len, first_bytes, read_store, store_len};
 use paw_base::fault::NoRoom;
 use std::alloc::Global;
 use std::marker::Model;
 
-/// What was done: a file was put there between the calls, or a call loaded, saved, attached a store, read it, wrote to it
-/// from a place on, synced it, took a line, found no line left, or showed a text.
+/// What was done: a file was put there between the calls, or a call loaded, saved, attached a store, read it, wrote to
+/// it from a place on, synced it, took a line, found no line left, or showed a text.
 #[derive(Clone, Copy, Drop, PartialEq, Eq, Debug)]
 pub enum Kind {
     Add,
@@ -36,8 +38,8 @@ pub struct Call {
     pub to: usize,
 }
 
-/// The calls so far with the bytes handed to them, the text shown, the number of bytes written to stores, and spare room
-/// for more calls and bytes.
+/// The calls so far with the bytes handed to them, the text shown, the number of bytes written to stores, and spare
+/// room for more calls and bytes.
 #[derive(Drop)]
 pub struct Log {
     calls: Vec<Call>,
@@ -78,7 +80,7 @@ impl Log {
     /// Records a call, and answers whether there was room for it.
     pub fn add(&mut self, kind: Kind, name: &[u8], bytes: &[u8]) -> bool
         ensures exact { result ≡ has_room self.old (length name.now + length bytes.now) }
-        ensures kept { IsTrue result → self.new ≡ logged (record { kind = kind; name = name.now; bytes = bytes.now }) self.old }
+        ensures kept { IsTrue result → self.new ≡ logged (call_of kind name.now bytes.now) self.old }
         ensures full { IsFalse result → self.new ≡ self.old }
     {
         let n = name.len() + bytes.len();
@@ -121,7 +123,7 @@ impl Log {
 
     /// The length of a file, where it is there.
     pub fn file_len(&self, name: &[u8]) -> Option<usize>
-        ensures some { IfSome result (λ n. (bytes : List ℕ) × ((after fresh self.now.calls).files name.now ≡ Some bytes) × (n ≡ length bytes)) }
+        ensures some { IfSome result (HasLength ((after fresh self.now.calls).files name.now)) }
         ensures none { IfNone result ((after fresh self.now.calls).files name.now ≡ None) }
     {
         file_len(self.calls.as_slice(), self.room.as_slice(), name)
@@ -154,7 +156,7 @@ impl Log {
 
     /// The attached store as a crash may leave it, by a pick, and no bytes where none is attached.
     pub fn crash(&self, alloc: Global, pick: u8) -> Result<Vec<u8>, NoRoom>
-        ensures made { IsSome (after fresh self.now.calls).attached → IfOk result (λ v. v.items ≡ crashed (after fresh self.now.calls).disk pick) }
+        ensures made { IfAttached (after fresh self.now.calls) (λ d. IfOk result (λ v. v.items ≡ crashed d pick)) }
         ensures none { (after fresh self.now.calls).attached ≡ None → IfOk result (λ v. v.items ≡ []) }
     {
         crash(self.calls.as_slice(), self.room.as_slice(), alloc, pick)
@@ -199,7 +201,8 @@ fn record_call(calls: &mut Vec<Call>, room: &mut Vec<u8>, kind: Kind, name: &[u8
     requires bytes_fit { vec_len room.old + length name.now + length bytes.now ≤ vec_capacity room.old }
     requires laid { AreLaid calls.old.items 0 (length room.old.items) }
     ensures laid { AreLaid calls.new.items 0 (length room.new.items) }
-    ensures done { all_done room.new.items calls.new.items ≡ all_done room.old.items calls.old.items ++ record { kind = kind; name = name.now; bytes = bytes.now } ∷ [] }
+    ensures done { all_done room.new.items calls.new.items
+        ≡ all_done room.old.items calls.old.items ++ call_of kind name.now bytes.now ∷ [] }
     ensures calls_len { vec_len calls.new ≡ vec_len calls.old + 1 }
     ensures room_len { vec_len room.new ≡ vec_len room.old + length name.now + length bytes.now }
     ensures calls_capacity { vec_capacity calls.old ≤ vec_capacity calls.new }
@@ -224,7 +227,7 @@ fn record_call(calls: &mut Vec<Call>, room: &mut Vec<u8>, kind: Kind, name: &[u8
 // Adds to the text what a call showed.
 fn show_text(text: &mut Vec<u8>, kind: Kind, bytes: &[u8])
     requires { vec_len text.old + length bytes.now ≤ vec_capacity text.old }
-    ensures shown { (s : Standing) (name : List ℕ) → s.shown ≡ text.old.items → (stepped kind name bytes.now s).shown ≡ text.new.items }
+    ensures shown { KeepsText kind bytes.now text.old.items text.new.items }
     ensures len { vec_len text.new ≤ vec_len text.old + length bytes.now }
     ensures capacity { vec_capacity text.old ≤ vec_capacity text.new }
 {

@@ -1,17 +1,21 @@
 // A stage in memory.
 
-ghost use Rattle.std.specs.Prelude.{◌≡◌, ◌⊎◌, ◌<◌, ◌≤◌, ◌+◌, ◌++◌, ◌∷◌, ◌↔◌, [], List, ℕ, length, take, drop, min, IsTrue, IsFalse, IfOk, OnOk, OnErr, IfSome, IfNone, IsSome, IsErr, Option, Some, None};
+ghost use Rattle.std.specs.Prelude.{◌≡◌, ◌≤◌, ◌+◌, ◌↔◌, [], List, ℕ, length, min, IsFalse, IfOk, OnOk, OnErr, IsSome};
+ghost use Rattle.std.specs.Prelude.{IsErr, None};
 ghost use Rattle.std.proofs.Common.{inl, refl};
 ghost use Rattle.paw_stage.specs.declared.StageCall.TheVariants as call;
 ghost use Rattle.paw_stage.specs.declared.LoadRefusal.TheVariants as refusal;
 ghost use Rattle.paw_stage.specs.declared.Asked.TheVariants as asked;
-ghost use Rattle.paw_stage.specs.Disk.{MayLeave, IsStable, stable, touched};
-ghost use Rattle.paw_stage.specs.Stage.{Rose, Grows, Faulted, failed_in, failed_load, failed_ask, IsCut, AsksTo, Saves, AttachesTo, WritesPart, wrote};
-ghost use Rattle.paw_stage.specs.Moments.{Passes, Still, InAsk, InShow, InSave, InAttach, InWrite, InSync};
+ghost use Rattle.paw_stage.specs.Disk.{MayLeave, IsStable};
+ghost use Rattle.paw_stage.specs.Stage.{IfAttached, Faulted, failed_in, failed_load, failed_ask, IsCut};
+ghost use Rattle.paw_stage.specs.Stage.{LoadsTo, SavesTo, AttachesTo, ReadsTo, WritesTo, SyncsTo, AsksTo, ShowsTo};
+ghost use Rattle.paw_stage.specs.Moments.{Still, InAsk, InShow, InSave, InAttach, InWrite, InSync};
 ghost use Rattle.paw_stage.specs.Faults.{count_of};
 ghost use Rattle.paw_stage.specs.Crash.{crashed};
-ghost use Rattle.paw_stage.specs.Done.{loaded, saved, attached_store, read_store, wrote_store, synced_store, took, ended, showed};
-ghost use Rattle.paw_stage.specs.Memory.{empty, standing_of, clock_of, moments_of, only_moment, can_note, noted, with_file, with_line, failed};
+ghost use Rattle.paw_stage.specs.Done.{loaded, saved, attached_store, read_store, wrote_store, synced_store, took};
+ghost use Rattle.paw_stage.specs.Done.{ended, showed};
+ghost use Rattle.paw_stage.specs.Memory.{empty, standing_of, clock_of, moments_of, only_moment, Throughout};
+ghost use Rattle.paw_stage.specs.Memory.{can_note, noted, failed, found_none, line_taken, with_file, with_line};
 
 use crate::log::{Kind, Log};
 use crate::{Asked, Failed, FaultCounts, LoadRefusal, Stage, StageCall};
@@ -101,12 +105,12 @@ impl MemoryStage {
         self.log.written() as u64
     }
 
-    /// The attached store as a crash may leave it, and no bytes where none is attached. Pick 0 gives the bytes at the last
-    /// sync, pick 1 those that a read gives, and any other pick these with 255 for each that was written since the last
-    /// sync.
+    /// The attached store as a crash may leave it, and no bytes where none is attached. Pick 0 gives the bytes at the
+    /// last sync, pick 1 those that a read gives, and any other pick these with 255 for each that was written since the
+    /// last sync.
     pub fn crash(&self, alloc: Global, pick: u8) -> Result<Vec<u8>, NoRoom>
-        ensures made { IsSome (standing_of self.now).attached → IfOk result (λ v. v.items ≡ crashed (standing_of self.now).disk pick) }
-        ensures among { IsSome (standing_of self.now).attached → IfOk result (λ v. MayLeave (standing_of self.now).disk v.items) }
+        ensures made { IfAttached (standing_of self.now) (λ d. IfOk result (λ v. v.items ≡ crashed d pick)) }
+        ensures among { IfAttached (standing_of self.now) (λ d. IfOk result (λ v. MayLeave d v.items)) }
         ensures none { (standing_of self.now).attached ≡ None → IfOk result (λ v. v.items ≡ []) }
     {
         self.log.crash(alloc, pick)
@@ -125,22 +129,17 @@ impl Stage for MemoryStage {
     ghost since = { moments_of };
 
     fn load(&mut self, alloc: Global, name: &str, most: usize) -> Result<Vec<u8>, LoadRefusal>
-        ensures counts { Grows (count_of self.old.counts) (count_of self.new.counts) }
-        ensures absent { result ≡ Err refusal.Absent → Rose (count_of self.old.counts call.LoadAbsent) (count_of self.new.counts call.LoadAbsent) }
-        ensures cause { result ≡ Err refusal.Failed → Rose (count_of self.old.counts call.Load) (count_of self.new.counts call.Load) }
         ensures faulted { Faulted (failed_load result) (count_of self.old.counts) (count_of self.new.counts) }
         ensures still { standing_of self.new ≡ standing_of self.old }
-        ensures found { IfOk result (λ v. (bytes : List ℕ) × ((standing_of self.old).files name.now ≡ Some bytes) × (v.items ≡ take (most + 1) bytes)) }
-        ensures missing { result ≡ Err refusal.Absent → (standing_of self.old).files name.now ≡ None }
-        ensures nowhere { (standing_of self.old).files name.now ≡ None → (result ≡ Err refusal.Absent) ⊎ (result ≡ Err refusal.Failed) }
-        ensures time { Passes (clock_of self.old) (clock_of self.new) (moments_of self.old) (moments_of self.new) (Still (standing_of self.old)) }
+        ensures answer { LoadsTo (standing_of self.old) name.now most result }
+        ensures time { Throughout self.old self.new Still }
 
         // It fails exactly for want of room, and leaves no trace then but its count.
         ensures exact { (result ≡ Err refusal.Failed) ↔ IsFalse (can_note (loaded name.now) self.old) }
         ensures failed { result ≡ Err refusal.Failed → self.new ≡ failed call.Load self.old }
         ensures noted { OnOk result (self.new ≡ noted (loaded name.now) self.old) }
-        ensures noted_absent { result ≡ Err refusal.Absent → self.new ≡ failed call.LoadAbsent (noted (loaded name.now) self.old) }
-        ensures noted_memory { result ≡ Err refusal.Memory → self.new ≡ noted (loaded name.now) self.old }
+        ensures absent { result ≡ Err refusal.Absent → self.new ≡ found_none name.now self.old }
+        ensures wanting { result ≡ Err refusal.Memory → self.new ≡ noted (loaded name.now) self.old }
     {
         if !self.log.add(Kind::Load, name.as_bytes(), &[]) {
             self.counts.raise(StageCall::Load);
@@ -156,12 +155,9 @@ impl Stage for MemoryStage {
     }
 
     fn save(&mut self, name: &str, bytes: &[u8]) -> Result<(), Failed>
-        ensures counts { Grows (count_of self.old.counts) (count_of self.new.counts) }
-        ensures cause { IsErr result → Rose (count_of self.old.counts call.Save) (count_of self.new.counts call.Save) }
         ensures faulted { Faulted (failed_in call.Save result) (count_of self.old.counts) (count_of self.new.counts) }
-        ensures saved { OnOk result (Saves (standing_of self.old) (standing_of self.new) name.now (Some bytes.now)) }
-        ensures part { OnErr result ((standing_of self.new ≡ standing_of self.old) ⊎ ((left : Option (List ℕ)) × Saves (standing_of self.old) (standing_of self.new) name.now left)) }
-        ensures time { Passes (clock_of self.old) (clock_of self.new) (moments_of self.old) (moments_of self.new) (InSave (standing_of self.old) name.now) }
+        ensures answer { SavesTo (standing_of self.old) (standing_of self.new) name.now bytes.now result }
+        ensures time { Throughout self.old self.new (λ s. InSave s name.now) }
 
         // It fails exactly for want of room, and leaves no trace then but its count.
         ensures exact { IsErr result ↔ IsFalse (can_note (saved name.now bytes.now) self.old) }
@@ -177,11 +173,9 @@ impl Stage for MemoryStage {
 
     fn attach(&mut self, name: &str) -> Result<u64, Failed>
         requires synced { IsStable (standing_of self.old).disk }
-        ensures counts { Grows (count_of self.old.counts) (count_of self.new.counts) }
-        ensures cause { IsErr result → Rose (count_of self.old.counts call.Attach) (count_of self.new.counts call.Attach) }
         ensures faulted { Faulted (failed_in call.Attach result) (count_of self.old.counts) (count_of self.new.counts) }
         ensures answer { AttachesTo (standing_of self.old) (standing_of self.new) name.now result }
-        ensures time { Passes (clock_of self.old) (clock_of self.new) (moments_of self.old) (moments_of self.new) (InAttach (standing_of self.old) (standing_of self.new) name.now) }
+        ensures time { Throughout self.old self.new (λ s. InAttach s (standing_of self.new) name.now) }
 
         // It fails exactly for want of room, and leaves no trace then but its count.
         ensures exact { IsErr result ↔ IsFalse (can_note (attached_store name.now) self.old) }
@@ -198,12 +192,10 @@ impl Stage for MemoryStage {
     fn read_at(&mut self, at: u64, into: &mut [u8]) -> Result<(), Failed>
         requires attached { IsSome (standing_of self.old).attached }
         requires within { at + length into.old ≤ length (standing_of self.old).disk.bytes }
-        ensures counts { Grows (count_of self.old.counts) (count_of self.new.counts) }
-        ensures cause { IsErr result → Rose (count_of self.old.counts call.Read) (count_of self.new.counts call.Read) }
         ensures faulted { Faulted (failed_in call.Read result) (count_of self.old.counts) (count_of self.new.counts) }
         ensures still { standing_of self.new ≡ standing_of self.old }
-        ensures read { OnOk result (into.new ≡ take (length into.old) (drop at (standing_of self.old).disk.bytes)) }
-        ensures time { Passes (clock_of self.old) (clock_of self.new) (moments_of self.old) (moments_of self.new) (Still (standing_of self.old)) }
+        ensures answer { ReadsTo (standing_of self.old) at (length into.old) into.new result }
+        ensures time { Throughout self.old self.new Still }
 
         // It fails exactly for want of room, and leaves no trace then but its count.
         ensures exact { IsErr result ↔ IsFalse (can_note read_store self.old) }
@@ -221,12 +213,9 @@ impl Stage for MemoryStage {
     fn write_at(&mut self, at: u64, bytes: &[u8]) -> Result<(), Failed>
         requires attached { IsSome (standing_of self.old).attached }
         requires within { at ≤ length (standing_of self.old).disk.bytes }
-        ensures counts { Grows (count_of self.old.counts) (count_of self.new.counts) }
-        ensures cause { IsErr result → Rose (count_of self.old.counts call.Write) (count_of self.new.counts call.Write) }
         ensures faulted { Faulted (failed_in call.Write result) (count_of self.old.counts) (count_of self.new.counts) }
-        ensures written { OnOk result (standing_of self.new ≡ wrote (standing_of self.old) (touched at (length bytes.now) bytes.now (standing_of self.old).disk) (length bytes.now)) }
-        ensures part { OnErr result ((standing_of self.new ≡ standing_of self.old) ⊎ WritesPart (standing_of self.old) (standing_of self.new) at (length bytes.now)) }
-        ensures time { Passes (clock_of self.old) (clock_of self.new) (moments_of self.old) (moments_of self.new) (InWrite (standing_of self.old) at (length bytes.now)) }
+        ensures answer { WritesTo (standing_of self.old) (standing_of self.new) at bytes.now result }
+        ensures time { Throughout self.old self.new (λ s. InWrite s at (length bytes.now)) }
 
         // It fails exactly for want of room, and leaves no trace then but its count.
         ensures exact { IsErr result ↔ IsFalse (can_note (wrote_store at bytes.now) self.old) }
@@ -241,12 +230,9 @@ impl Stage for MemoryStage {
     }
 
     fn sync(&mut self) -> Result<(), Failed>
-        ensures counts { Grows (count_of self.old.counts) (count_of self.new.counts) }
-        ensures cause { IsErr result → Rose (count_of self.old.counts call.Sync) (count_of self.new.counts call.Sync) }
         ensures faulted { Faulted (failed_in call.Sync result) (count_of self.old.counts) (count_of self.new.counts) }
-        ensures synced { OnOk result (standing_of self.new ≡ record (standing_of self.old) { disk = stable (standing_of self.old).disk.bytes }) }
-        ensures part { OnErr result (standing_of self.new ≡ standing_of self.old) }
-        ensures time { Passes (clock_of self.old) (clock_of self.new) (moments_of self.old) (moments_of self.new) (InSync (standing_of self.old)) }
+        ensures answer { SyncsTo (standing_of self.old) (standing_of self.new) result }
+        ensures time { Throughout self.old self.new InSync }
 
         // It fails exactly for want of room, and leaves no trace then but its count.
         ensures exact { IsErr result ↔ IsFalse (can_note synced_store self.old) }
@@ -261,16 +247,14 @@ impl Stage for MemoryStage {
     }
 
     fn ask(&mut self, into: &mut [u8; 255]) -> Asked
-        ensures counts { Grows (count_of self.old.counts) (count_of self.new.counts) }
-        ensures cause { result ≡ asked.Failed → Rose (count_of self.old.counts call.Ask) (count_of self.new.counts call.Ask) }
         ensures faulted { Faulted (failed_ask result) (count_of self.old.counts) (count_of self.new.counts) }
         ensures answer { AsksTo (standing_of self.old) (standing_of self.new) result into.new }
-        ensures time { Passes (clock_of self.old) (clock_of self.new) (moments_of self.old) (moments_of self.new) (InAsk (standing_of self.old) result) }
+        ensures time { Throughout self.old self.new (λ s. InAsk s result) }
 
         // It fails exactly for want of room, and leaves no trace then but its count.
         ensures exact { (result ≡ asked.Failed) ↔ IsFalse (can_note took self.old) }
         ensures failed { result ≡ asked.Failed → self.new ≡ failed call.Ask self.old }
-        ensures noted { (n : ℕ) → result ≡ asked.Line n → self.new ≡ record (noted took self.old) { lines = drop 1 self.old.lines } }
+        ensures noted { (n : ℕ) → result ≡ asked.Line n → self.new ≡ line_taken self.old }
         ensures noted_end { result ≡ asked.End → self.new ≡ noted ended self.old }
     {
         let kind = if self.lines.is_empty() {
@@ -289,12 +273,9 @@ impl Stage for MemoryStage {
     }
 
     fn show(&mut self, text: &[u8]) -> Result<(), Failed>
-        ensures counts { Grows (count_of self.old.counts) (count_of self.new.counts) }
-        ensures cause { IsErr result → Rose (count_of self.old.counts call.Show) (count_of self.new.counts call.Show) }
         ensures faulted { Faulted (failed_in call.Show result) (count_of self.old.counts) (count_of self.new.counts) }
-        ensures shown { OnOk result (standing_of self.new ≡ record (standing_of self.old) { shown = (standing_of self.old).shown ++ text.now }) }
-        ensures part { OnErr result ((n : ℕ) × (standing_of self.new ≡ record (standing_of self.old) { shown = (standing_of self.old).shown ++ take n text.now })) }
-        ensures time { Passes (clock_of self.old) (clock_of self.new) (moments_of self.old) (moments_of self.new) (InShow (standing_of self.old) text.now) }
+        ensures answer { ShowsTo (standing_of self.old) (standing_of self.new) text.now result }
+        ensures time { Throughout self.old self.new (λ s. InShow s text.now) }
 
         // It fails exactly for want of room, and leaves no trace then but its count.
         ensures exact { IsErr result ↔ IsFalse (can_note (showed text.now) self.old) }

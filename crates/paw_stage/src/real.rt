@@ -1,10 +1,10 @@
 // Real files and the standard streams as a stage.
 
-ghost use Rattle.std.specs.Prelude.{◌≡◌, ◌≢◌, IsErr, OnOk, OnErr};
+ghost use Rattle.std.specs.Prelude.{◌≡◌, ◌≢◌, OnOk, OnErr};
 ghost use Rattle.paw_stage.specs.declared.StageCall.TheVariants as call;
 ghost use Rattle.paw_stage.specs.declared.LoadRefusal.TheVariants as refusal;
 ghost use Rattle.paw_stage.specs.declared.Asked.TheVariants as asked;
-ghost use Rattle.paw_stage.specs.Stage.{Rose, Grows, Faulted, failed_in, failed_load, failed_ask};
+ghost use Rattle.paw_stage.specs.Stage.{Faulted, failed_in, failed_load, failed_ask};
 ghost use Rattle.paw_stage.specs.Faults.{count_of, no_faults, raised};
 ghost use Rattle.paw_stage.specs.Done.{fresh};
 
@@ -22,14 +22,14 @@ mod tests;
 
 /// Real files, standard input and standard output, which tell nothing but how often each call has failed.
 ///
-/// Standard input is read ahead through a buffer, so nothing else may read it. A line ends with LF or CR LF. One of more
-/// than 1,048,576 bytes, its end not counted, fails, and so does a fault of the system; once an ask has failed each
-/// later one fails, so that no rest of a line is taken for a line.
+/// Standard input is read ahead through a buffer, so nothing else may read it. A line ends with LF or CR LF. One of
+/// more than 1,048,576 bytes, its end not counted, fails, and so does a fault of the system; once an ask has failed
+/// each later one fails, so that no rest of a line is taken for a line.
 ///
-/// The attached store is a file that is kept open. Its descriptor is none of those of the standard streams, though one of
-/// them was closed when the program started. An attach syncs the file and its folder, so that what it answers is there
-/// after a crash too. Once a sync has failed the store is let go, since a system may drop what it failed to write and
-/// still answer that a later sync succeeded: every call to the store fails until one is attached again.
+/// The attached store is a file that is kept open. Its descriptor is none of those of the standard streams, though one
+/// of them was closed when the program started. An attach syncs the file and its folder, so that what it answers is
+/// there after a crash too. Once a sync has failed the store is let go, since a system may drop what it failed to write
+/// and still answer that a later sync succeeded: every call to the store fails until one is attached again.
 #[derive(Drop)]
 pub struct RealStage<R: Files + Input + Print + Drop> {
     rt: R,
@@ -74,9 +74,6 @@ impl<R: Files + Input + Print + Drop> Stage for RealStage<R> {
 
     // Only a name that is missing is Absent: a folder, or a file that may not be read, is Failed.
     fn load(&mut self, alloc: Global, name: &str, most: usize) -> Result<Vec<u8>, LoadRefusal>
-        ensures counts { Grows (count_of self.old) (count_of self.new) }
-        ensures absent { result ≡ Err refusal.Absent → Rose (count_of self.old call.LoadAbsent) (count_of self.new call.LoadAbsent) }
-        ensures cause { result ≡ Err refusal.Failed → Rose (count_of self.old call.Load) (count_of self.new call.Load) }
         ensures faulted { Faulted (failed_load result) (count_of self.old) (count_of self.new) }
 
         // A count rises exactly at a failure.
@@ -96,8 +93,6 @@ impl<R: Files + Input + Print + Drop> Stage for RealStage<R> {
     }
 
     fn save(&mut self, name: &str, bytes: &[u8]) -> Result<(), Failed>
-        ensures counts { Grows (count_of self.old) (count_of self.new) }
-        ensures cause { IsErr result → Rose (count_of self.old call.Save) (count_of self.new call.Save) }
         ensures faulted { Faulted (failed_in call.Save result) (count_of self.old) (count_of self.new) }
 
         // A count rises exactly at a failure.
@@ -109,8 +104,6 @@ impl<R: Files + Input + Print + Drop> Stage for RealStage<R> {
     }
 
     fn attach(&mut self, name: &str) -> Result<u64, Failed>
-        ensures counts { Grows (count_of self.old) (count_of self.new) }
-        ensures cause { IsErr result → Rose (count_of self.old call.Attach) (count_of self.new call.Attach) }
         ensures faulted { Faulted (failed_in call.Attach result) (count_of self.old) (count_of self.new) }
 
         // A count rises exactly at a failure.
@@ -124,8 +117,6 @@ impl<R: Files + Input + Print + Drop> Stage for RealStage<R> {
     }
 
     fn read_at(&mut self, at: u64, into: &mut [u8]) -> Result<(), Failed>
-        ensures counts { Grows (count_of self.old) (count_of self.new) }
-        ensures cause { IsErr result → Rose (count_of self.old call.Read) (count_of self.new call.Read) }
         ensures faulted { Faulted (failed_in call.Read result) (count_of self.old) (count_of self.new) }
 
         // A count rises exactly at a failure.
@@ -140,8 +131,6 @@ impl<R: Files + Input + Print + Drop> Stage for RealStage<R> {
     }
 
     fn write_at(&mut self, at: u64, bytes: &[u8]) -> Result<(), Failed>
-        ensures counts { Grows (count_of self.old) (count_of self.new) }
-        ensures cause { IsErr result → Rose (count_of self.old call.Write) (count_of self.new call.Write) }
         ensures faulted { Faulted (failed_in call.Write result) (count_of self.old) (count_of self.new) }
 
         // A count rises exactly at a failure.
@@ -156,8 +145,6 @@ impl<R: Files + Input + Print + Drop> Stage for RealStage<R> {
     }
 
     fn sync(&mut self) -> Result<(), Failed>
-        ensures counts { Grows (count_of self.old) (count_of self.new) }
-        ensures cause { IsErr result → Rose (count_of self.old call.Sync) (count_of self.new call.Sync) }
         ensures faulted { Faulted (failed_in call.Sync result) (count_of self.old) (count_of self.new) }
 
         // A count rises exactly at a failure.
@@ -175,8 +162,6 @@ impl<R: Files + Input + Print + Drop> Stage for RealStage<R> {
     }
 
     fn ask(&mut self, into: &mut [u8; 255]) -> Asked
-        ensures counts { Grows (count_of self.old) (count_of self.new) }
-        ensures cause { result ≡ asked.Failed → Rose (count_of self.old call.Ask) (count_of self.new call.Ask) }
         ensures faulted { Faulted (failed_ask result) (count_of self.old) (count_of self.new) }
 
         // A count rises exactly at a failure.
@@ -191,8 +176,6 @@ impl<R: Files + Input + Print + Drop> Stage for RealStage<R> {
     }
 
     fn show(&mut self, text: &[u8]) -> Result<(), Failed>
-        ensures counts { Grows (count_of self.old) (count_of self.new) }
-        ensures cause { IsErr result → Rose (count_of self.old call.Show) (count_of self.new call.Show) }
         ensures faulted { Faulted (failed_in call.Show result) (count_of self.old) (count_of self.new) }
 
         // A count rises exactly at a failure.

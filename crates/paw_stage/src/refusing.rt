@@ -1,17 +1,20 @@
 // A stage in memory of which some calls are made to fail.
 
-ghost use Rattle.std.specs.Prelude.{◌≡◌, ◌⊎◌, ◌≤◌, ◌+◌, ◌++◌, ◌↔◌, List, ℕ, length, take, drop, IsTrue, IsFalse, IfOk, OnOk, OnErr, IsErr, IsSome, Option};
+ghost use Rattle.std.specs.Prelude.{◌≡◌, ◌≤◌, ◌+◌, ◌↔◌, ℕ, length, IsTrue, OnOk, OnErr, IsErr, IsSome};
 ghost use Rattle.std.proofs.Common.{inl, refl};
 ghost use Rattle.paw_stage.specs.declared.StageCall.TheVariants as call;
 ghost use Rattle.paw_stage.specs.declared.LoadRefusal.TheVariants as refusal;
 ghost use Rattle.paw_stage.specs.declared.Asked.TheVariants as asked;
-ghost use Rattle.paw_stage.specs.Disk.{IsStable, stable, touched};
-ghost use Rattle.paw_stage.specs.Stage.{Rose, Grows, Faulted, failed_in, failed_load, failed_ask, AsksTo, Saves, AttachesTo, WritesPart, wrote};
-ghost use Rattle.paw_stage.specs.Moments.{Passes, Still, InAsk, InShow, InSave, InAttach, InWrite, InSync};
+ghost use Rattle.paw_stage.specs.Disk.{IsStable};
+ghost use Rattle.paw_stage.specs.Stage.{Faulted, failed_in, failed_load, failed_ask};
+ghost use Rattle.paw_stage.specs.Stage.{LoadsTo, SavesTo, AttachesTo, ReadsTo, WritesTo, SyncsTo, AsksTo, ShowsTo};
+ghost use Rattle.paw_stage.specs.Moments.{Still, InAsk, InShow, InSave, InAttach, InWrite, InSync};
 ghost use Rattle.paw_stage.specs.Faults.{no_faults};
-ghost use Rattle.paw_stage.specs.Done.{loaded, saved, attached_store, read_store, wrote_store, synced_store, took, ended, showed};
-ghost use Rattle.paw_stage.specs.Memory.{standing_of, clock_of, moments_of, only_moment, can_note, noted, failed};
-ghost use Rattle.paw_stage.specs.Refusing.{faults_of, refused, passed};
+ghost use Rattle.paw_stage.specs.Done.{loaded, saved, attached_store, read_store, wrote_store, synced_store, took};
+ghost use Rattle.paw_stage.specs.Done.{ended, showed};
+ghost use Rattle.paw_stage.specs.Memory.{clock_of, moments_of, only_moment, noted, found_none, line_taken};
+ghost use Rattle.paw_stage.specs.Refusing.{faults_of, standing_of, Throughout};
+ghost use Rattle.paw_stage.specs.Refusing.{refused, passed, FailsBelow, CannotPass};
 
 use crate::{Asked, Failed, FaultCounts, LoadRefusal, MemoryStage, Stage, StageCall};
 use std::alloc::Global;
@@ -78,7 +81,7 @@ impl<R: Refusals + Drop> RefusingStage<R> {
 impl<R: Refusals + Drop> Stage for RefusingStage<R> {
     ghost Tells = { λ _. Unit {0} };
 
-    ghost standing = { λ s. standing_of s.inner };
+    ghost standing = { standing_of };
 
     ghost faults = { faults_of };
 
@@ -87,23 +90,18 @@ impl<R: Refusals + Drop> Stage for RefusingStage<R> {
     ghost since = { λ s. moments_of s.inner };
 
     fn load(&mut self, alloc: Global, name: &str, most: usize) -> Result<Vec<u8>, LoadRefusal>
-        ensures counts { Grows (faults_of self.old) (faults_of self.new) }
-        ensures absent { result ≡ Err refusal.Absent → Rose (faults_of self.old call.LoadAbsent) (faults_of self.new call.LoadAbsent) }
-        ensures cause { result ≡ Err refusal.Failed → Rose (faults_of self.old call.Load) (faults_of self.new call.Load) }
         ensures faulted { Faulted (failed_load result) (faults_of self.old) (faults_of self.new) }
-        ensures still { standing_of self.new.inner ≡ standing_of self.old.inner }
-        ensures found { IfOk result (λ v. (bytes : List ℕ) × ((standing_of self.old.inner).files name.now ≡ Some bytes) × (v.items ≡ take (most + 1) bytes)) }
-        ensures missing { result ≡ Err refusal.Absent → (standing_of self.old.inner).files name.now ≡ None }
-        ensures nowhere { (standing_of self.old.inner).files name.now ≡ None → (result ≡ Err refusal.Absent) ⊎ (result ≡ Err refusal.Failed) }
-        ensures time { Passes (clock_of self.old.inner) (clock_of self.new.inner) (moments_of self.old.inner) (moments_of self.new.inner) (Still (standing_of self.old.inner)) }
+        ensures still { standing_of self.new ≡ standing_of self.old }
+        ensures answer { LoadsTo (standing_of self.old) name.now most result }
+        ensures time { Throughout self.old self.new Still }
 
         // It fails exactly where the rule refuses it, or where there is no room below.
-        ensures exact { (result ≡ Err refusal.Failed) ↔ (IsTrue (R.refuses self.old.rule) ⊎ IsFalse (can_note (loaded name.now) self.old.inner)) }
+        ensures exact { (result ≡ Err refusal.Failed) ↔ CannotPass R.refuses (loaded name.now) self.old }
         ensures refused { IsTrue (R.refuses self.old.rule) → self.new ≡ refused R.later call.Load self.old }
-        ensures failed { IsFalse (R.refuses self.old.rule) → result ≡ Err refusal.Failed → self.new ≡ passed R.later (failed call.Load self.old.inner) self.old }
-        ensures noted { OnOk result (self.new ≡ passed R.later (noted (loaded name.now) self.old.inner) self.old) }
-        ensures noted_absent { result ≡ Err refusal.Absent → self.new ≡ passed R.later (failed call.LoadAbsent (noted (loaded name.now) self.old.inner)) self.old }
-        ensures noted_memory { result ≡ Err refusal.Memory → self.new ≡ passed R.later (noted (loaded name.now) self.old.inner) self.old }
+        ensures failed { result ≡ Err refusal.Failed → FailsBelow R.refuses R.later call.Load self.old self.new }
+        ensures noted { OnOk result (self.new ≡ passed R.later (noted (loaded name.now)) self.old) }
+        ensures absent { result ≡ Err refusal.Absent → self.new ≡ passed R.later (found_none name.now) self.old }
+        ensures wanting { result ≡ Err refusal.Memory → self.new ≡ passed R.later (noted (loaded name.now)) self.old }
     {
         if self.rule.refuses_next() {
             self.counts.raise(StageCall::Load);
@@ -113,18 +111,15 @@ impl<R: Refusals + Drop> Stage for RefusingStage<R> {
     }
 
     fn save(&mut self, name: &str, bytes: &[u8]) -> Result<(), Failed>
-        ensures counts { Grows (faults_of self.old) (faults_of self.new) }
-        ensures cause { IsErr result → Rose (faults_of self.old call.Save) (faults_of self.new call.Save) }
         ensures faulted { Faulted (failed_in call.Save result) (faults_of self.old) (faults_of self.new) }
-        ensures saved { OnOk result (Saves (standing_of self.old.inner) (standing_of self.new.inner) name.now (Some bytes.now)) }
-        ensures part { OnErr result ((standing_of self.new.inner ≡ standing_of self.old.inner) ⊎ ((left : Option (List ℕ)) × Saves (standing_of self.old.inner) (standing_of self.new.inner) name.now left)) }
-        ensures time { Passes (clock_of self.old.inner) (clock_of self.new.inner) (moments_of self.old.inner) (moments_of self.new.inner) (InSave (standing_of self.old.inner) name.now) }
+        ensures answer { SavesTo (standing_of self.old) (standing_of self.new) name.now bytes.now result }
+        ensures time { Throughout self.old self.new (λ s. InSave s name.now) }
 
         // It fails exactly where the rule refuses it, or where there is no room below.
-        ensures exact { IsErr result ↔ (IsTrue (R.refuses self.old.rule) ⊎ IsFalse (can_note (saved name.now bytes.now) self.old.inner)) }
+        ensures exact { IsErr result ↔ CannotPass R.refuses (saved name.now bytes.now) self.old }
         ensures refused { IsTrue (R.refuses self.old.rule) → self.new ≡ refused R.later call.Save self.old }
-        ensures failed { IsFalse (R.refuses self.old.rule) → OnErr result (self.new ≡ passed R.later (failed call.Save self.old.inner) self.old) }
-        ensures noted { OnOk result (self.new ≡ passed R.later (noted (saved name.now bytes.now) self.old.inner) self.old) }
+        ensures failed { OnErr result (FailsBelow R.refuses R.later call.Save self.old self.new) }
+        ensures noted { OnOk result (self.new ≡ passed R.later (noted (saved name.now bytes.now)) self.old) }
     {
         if self.rule.refuses_next() {
             self.counts.raise(StageCall::Save);
@@ -134,18 +129,16 @@ impl<R: Refusals + Drop> Stage for RefusingStage<R> {
     }
 
     fn attach(&mut self, name: &str) -> Result<u64, Failed>
-        requires synced { IsStable (standing_of self.old.inner).disk }
-        ensures counts { Grows (faults_of self.old) (faults_of self.new) }
-        ensures cause { IsErr result → Rose (faults_of self.old call.Attach) (faults_of self.new call.Attach) }
+        requires synced { IsStable (standing_of self.old).disk }
         ensures faulted { Faulted (failed_in call.Attach result) (faults_of self.old) (faults_of self.new) }
-        ensures answer { AttachesTo (standing_of self.old.inner) (standing_of self.new.inner) name.now result }
-        ensures time { Passes (clock_of self.old.inner) (clock_of self.new.inner) (moments_of self.old.inner) (moments_of self.new.inner) (InAttach (standing_of self.old.inner) (standing_of self.new.inner) name.now) }
+        ensures answer { AttachesTo (standing_of self.old) (standing_of self.new) name.now result }
+        ensures time { Throughout self.old self.new (λ s. InAttach s (standing_of self.new) name.now) }
 
         // It fails exactly where the rule refuses it, or where there is no room below.
-        ensures exact { IsErr result ↔ (IsTrue (R.refuses self.old.rule) ⊎ IsFalse (can_note (attached_store name.now) self.old.inner)) }
+        ensures exact { IsErr result ↔ CannotPass R.refuses (attached_store name.now) self.old }
         ensures refused { IsTrue (R.refuses self.old.rule) → self.new ≡ refused R.later call.Attach self.old }
-        ensures failed { IsFalse (R.refuses self.old.rule) → OnErr result (self.new ≡ passed R.later (failed call.Attach self.old.inner) self.old) }
-        ensures noted { OnOk result (self.new ≡ passed R.later (noted (attached_store name.now) self.old.inner) self.old) }
+        ensures failed { OnErr result (FailsBelow R.refuses R.later call.Attach self.old self.new) }
+        ensures noted { OnOk result (self.new ≡ passed R.later (noted (attached_store name.now)) self.old) }
     {
         if self.rule.refuses_next() {
             self.counts.raise(StageCall::Attach);
@@ -155,20 +148,18 @@ impl<R: Refusals + Drop> Stage for RefusingStage<R> {
     }
 
     fn read_at(&mut self, at: u64, into: &mut [u8]) -> Result<(), Failed>
-        requires attached { IsSome (standing_of self.old.inner).attached }
-        requires within { at + length into.old ≤ length (standing_of self.old.inner).disk.bytes }
-        ensures counts { Grows (faults_of self.old) (faults_of self.new) }
-        ensures cause { IsErr result → Rose (faults_of self.old call.Read) (faults_of self.new call.Read) }
+        requires attached { IsSome (standing_of self.old).attached }
+        requires within { at + length into.old ≤ length (standing_of self.old).disk.bytes }
         ensures faulted { Faulted (failed_in call.Read result) (faults_of self.old) (faults_of self.new) }
-        ensures still { standing_of self.new.inner ≡ standing_of self.old.inner }
-        ensures read { OnOk result (into.new ≡ take (length into.old) (drop at (standing_of self.old.inner).disk.bytes)) }
-        ensures time { Passes (clock_of self.old.inner) (clock_of self.new.inner) (moments_of self.old.inner) (moments_of self.new.inner) (Still (standing_of self.old.inner)) }
+        ensures still { standing_of self.new ≡ standing_of self.old }
+        ensures answer { ReadsTo (standing_of self.old) at (length into.old) into.new result }
+        ensures time { Throughout self.old self.new Still }
 
         // It fails exactly where the rule refuses it, or where there is no room below.
-        ensures exact { IsErr result ↔ (IsTrue (R.refuses self.old.rule) ⊎ IsFalse (can_note read_store self.old.inner)) }
+        ensures exact { IsErr result ↔ CannotPass R.refuses read_store self.old }
         ensures refused { IsTrue (R.refuses self.old.rule) → self.new ≡ refused R.later call.Read self.old }
-        ensures failed { IsFalse (R.refuses self.old.rule) → OnErr result (self.new ≡ passed R.later (failed call.Read self.old.inner) self.old) }
-        ensures noted { OnOk result (self.new ≡ passed R.later (noted read_store self.old.inner) self.old) }
+        ensures failed { OnErr result (FailsBelow R.refuses R.later call.Read self.old self.new) }
+        ensures noted { OnOk result (self.new ≡ passed R.later (noted read_store) self.old) }
     {
         if self.rule.refuses_next() {
             self.counts.raise(StageCall::Read);
@@ -178,20 +169,17 @@ impl<R: Refusals + Drop> Stage for RefusingStage<R> {
     }
 
     fn write_at(&mut self, at: u64, bytes: &[u8]) -> Result<(), Failed>
-        requires attached { IsSome (standing_of self.old.inner).attached }
-        requires within { at ≤ length (standing_of self.old.inner).disk.bytes }
-        ensures counts { Grows (faults_of self.old) (faults_of self.new) }
-        ensures cause { IsErr result → Rose (faults_of self.old call.Write) (faults_of self.new call.Write) }
+        requires attached { IsSome (standing_of self.old).attached }
+        requires within { at ≤ length (standing_of self.old).disk.bytes }
         ensures faulted { Faulted (failed_in call.Write result) (faults_of self.old) (faults_of self.new) }
-        ensures written { OnOk result (standing_of self.new.inner ≡ wrote (standing_of self.old.inner) (touched at (length bytes.now) bytes.now (standing_of self.old.inner).disk) (length bytes.now)) }
-        ensures part { OnErr result ((standing_of self.new.inner ≡ standing_of self.old.inner) ⊎ WritesPart (standing_of self.old.inner) (standing_of self.new.inner) at (length bytes.now)) }
-        ensures time { Passes (clock_of self.old.inner) (clock_of self.new.inner) (moments_of self.old.inner) (moments_of self.new.inner) (InWrite (standing_of self.old.inner) at (length bytes.now)) }
+        ensures answer { WritesTo (standing_of self.old) (standing_of self.new) at bytes.now result }
+        ensures time { Throughout self.old self.new (λ s. InWrite s at (length bytes.now)) }
 
         // It fails exactly where the rule refuses it, or where there is no room below.
-        ensures exact { IsErr result ↔ (IsTrue (R.refuses self.old.rule) ⊎ IsFalse (can_note (wrote_store at bytes.now) self.old.inner)) }
+        ensures exact { IsErr result ↔ CannotPass R.refuses (wrote_store at bytes.now) self.old }
         ensures refused { IsTrue (R.refuses self.old.rule) → self.new ≡ refused R.later call.Write self.old }
-        ensures failed { IsFalse (R.refuses self.old.rule) → OnErr result (self.new ≡ passed R.later (failed call.Write self.old.inner) self.old) }
-        ensures noted { OnOk result (self.new ≡ passed R.later (noted (wrote_store at bytes.now) self.old.inner) self.old) }
+        ensures failed { OnErr result (FailsBelow R.refuses R.later call.Write self.old self.new) }
+        ensures noted { OnOk result (self.new ≡ passed R.later (noted (wrote_store at bytes.now)) self.old) }
     {
         if self.rule.refuses_next() {
             self.counts.raise(StageCall::Write);
@@ -201,18 +189,15 @@ impl<R: Refusals + Drop> Stage for RefusingStage<R> {
     }
 
     fn sync(&mut self) -> Result<(), Failed>
-        ensures counts { Grows (faults_of self.old) (faults_of self.new) }
-        ensures cause { IsErr result → Rose (faults_of self.old call.Sync) (faults_of self.new call.Sync) }
         ensures faulted { Faulted (failed_in call.Sync result) (faults_of self.old) (faults_of self.new) }
-        ensures synced { OnOk result (standing_of self.new.inner ≡ record (standing_of self.old.inner) { disk = stable (standing_of self.old.inner).disk.bytes }) }
-        ensures part { OnErr result (standing_of self.new.inner ≡ standing_of self.old.inner) }
-        ensures time { Passes (clock_of self.old.inner) (clock_of self.new.inner) (moments_of self.old.inner) (moments_of self.new.inner) (InSync (standing_of self.old.inner)) }
+        ensures answer { SyncsTo (standing_of self.old) (standing_of self.new) result }
+        ensures time { Throughout self.old self.new InSync }
 
         // It fails exactly where the rule refuses it, or where there is no room below.
-        ensures exact { IsErr result ↔ (IsTrue (R.refuses self.old.rule) ⊎ IsFalse (can_note synced_store self.old.inner)) }
+        ensures exact { IsErr result ↔ CannotPass R.refuses synced_store self.old }
         ensures refused { IsTrue (R.refuses self.old.rule) → self.new ≡ refused R.later call.Sync self.old }
-        ensures failed { IsFalse (R.refuses self.old.rule) → OnErr result (self.new ≡ passed R.later (failed call.Sync self.old.inner) self.old) }
-        ensures noted { OnOk result (self.new ≡ passed R.later (noted synced_store self.old.inner) self.old) }
+        ensures failed { OnErr result (FailsBelow R.refuses R.later call.Sync self.old self.new) }
+        ensures noted { OnOk result (self.new ≡ passed R.later (noted synced_store) self.old) }
     {
         if self.rule.refuses_next() {
             self.counts.raise(StageCall::Sync);
@@ -222,18 +207,16 @@ impl<R: Refusals + Drop> Stage for RefusingStage<R> {
     }
 
     fn ask(&mut self, into: &mut [u8; 255]) -> Asked
-        ensures counts { Grows (faults_of self.old) (faults_of self.new) }
-        ensures cause { result ≡ asked.Failed → Rose (faults_of self.old call.Ask) (faults_of self.new call.Ask) }
         ensures faulted { Faulted (failed_ask result) (faults_of self.old) (faults_of self.new) }
-        ensures answer { AsksTo (standing_of self.old.inner) (standing_of self.new.inner) result into.new }
-        ensures time { Passes (clock_of self.old.inner) (clock_of self.new.inner) (moments_of self.old.inner) (moments_of self.new.inner) (InAsk (standing_of self.old.inner) result) }
+        ensures answer { AsksTo (standing_of self.old) (standing_of self.new) result into.new }
+        ensures time { Throughout self.old self.new (λ s. InAsk s result) }
 
         // It fails exactly where the rule refuses it, or where there is no room below.
-        ensures exact { (result ≡ asked.Failed) ↔ (IsTrue (R.refuses self.old.rule) ⊎ IsFalse (can_note took self.old.inner)) }
+        ensures exact { (result ≡ asked.Failed) ↔ CannotPass R.refuses took self.old }
         ensures refused { IsTrue (R.refuses self.old.rule) → self.new ≡ refused R.later call.Ask self.old }
-        ensures failed { IsFalse (R.refuses self.old.rule) → result ≡ asked.Failed → self.new ≡ passed R.later (failed call.Ask self.old.inner) self.old }
-        ensures noted { (n : ℕ) → result ≡ asked.Line n → self.new ≡ passed R.later (record (noted took self.old.inner) { lines = drop 1 self.old.inner.lines }) self.old }
-        ensures noted_end { result ≡ asked.End → self.new ≡ passed R.later (noted ended self.old.inner) self.old }
+        ensures failed { result ≡ asked.Failed → FailsBelow R.refuses R.later call.Ask self.old self.new }
+        ensures noted { (n : ℕ) → result ≡ asked.Line n → self.new ≡ passed R.later line_taken self.old }
+        ensures noted_end { result ≡ asked.End → self.new ≡ passed R.later (noted ended) self.old }
     {
         if self.rule.refuses_next() {
             self.counts.raise(StageCall::Ask);
@@ -243,18 +226,15 @@ impl<R: Refusals + Drop> Stage for RefusingStage<R> {
     }
 
     fn show(&mut self, text: &[u8]) -> Result<(), Failed>
-        ensures counts { Grows (faults_of self.old) (faults_of self.new) }
-        ensures cause { IsErr result → Rose (faults_of self.old call.Show) (faults_of self.new call.Show) }
         ensures faulted { Faulted (failed_in call.Show result) (faults_of self.old) (faults_of self.new) }
-        ensures shown { OnOk result (standing_of self.new.inner ≡ record (standing_of self.old.inner) { shown = (standing_of self.old.inner).shown ++ text.now }) }
-        ensures part { OnErr result ((n : ℕ) × (standing_of self.new.inner ≡ record (standing_of self.old.inner) { shown = (standing_of self.old.inner).shown ++ take n text.now })) }
-        ensures time { Passes (clock_of self.old.inner) (clock_of self.new.inner) (moments_of self.old.inner) (moments_of self.new.inner) (InShow (standing_of self.old.inner) text.now) }
+        ensures answer { ShowsTo (standing_of self.old) (standing_of self.new) text.now result }
+        ensures time { Throughout self.old self.new (λ s. InShow s text.now) }
 
         // It fails exactly where the rule refuses it, or where there is no room below.
-        ensures exact { IsErr result ↔ (IsTrue (R.refuses self.old.rule) ⊎ IsFalse (can_note (showed text.now) self.old.inner)) }
+        ensures exact { IsErr result ↔ CannotPass R.refuses (showed text.now) self.old }
         ensures refused { IsTrue (R.refuses self.old.rule) → self.new ≡ refused R.later call.Show self.old }
-        ensures failed { IsFalse (R.refuses self.old.rule) → OnErr result (self.new ≡ passed R.later (failed call.Show self.old.inner) self.old) }
-        ensures noted { OnOk result (self.new ≡ passed R.later (noted (showed text.now) self.old.inner) self.old) }
+        ensures failed { OnErr result (FailsBelow R.refuses R.later call.Show self.old self.new) }
+        ensures noted { OnOk result (self.new ≡ passed R.later (noted (showed text.now)) self.old) }
     {
         if self.rule.refuses_next() {
             self.counts.raise(StageCall::Show);

@@ -1,13 +1,16 @@
 // What a record of calls makes of a file and of the attached store, found by playing the calls again.
 
-ghost use Rattle.std.specs.Prelude.{◌≡◌, ◌⊎◌, ◌≤◌, ◌<◌, ◌+◌, ◌-◌, ◌^◌, ◌++◌, ◌∷◌, ◌&&◌, ◌||◌, nat_le, nat_lt, min, max, true, [], IfOk, IfSome, IfNone, IsSome, Some, None, length, take, drop, slice_index, slice_range, replicate, List, ℕ};
+ghost use Rattle.std.specs.Prelude.{◌≡◌, ◌⊎◌, ◌≤◌, ◌<◌, ◌+◌, ◌-◌, ◌^◌, ◌++◌, ◌∷◌, ◌||◌, min, max};
+ghost use Rattle.std.specs.Prelude.{true, [], IfOk, IfSome, IfNone, IsSome, Some, None, length, take, drop};
+ghost use Rattle.std.specs.Prelude.{slice_range, replicate, List};
 ghost use Rattle.paw_stage.specs.declared.log.Kind.TheVariants as kind;
 ghost use Rattle.paw_stage.specs.Disk.{put};
-ghost use Rattle.paw_stage.specs.Stage.{Standing, bytes_or_none};
-ghost use Rattle.paw_stage.specs.Done.{Done, fresh, step, after};
-ghost use Rattle.paw_stage.specs.Crash.{crashed, spoiled, spoiled_if};
-ghost use Rattle.paw_stage.specs.Log.{done_in, all_done, AreLaid};
-ghost use Rattle.paw_stage.specs.Seen.{Sees, IsFiled, IsNamed, FindsStore, laid_over, writes, is_written};
+ghost use Rattle.paw_stage.specs.Stage.{Standing, IfAttached, file_bytes};
+ghost use Rattle.paw_stage.specs.Done.{Done, step};
+ghost use Rattle.paw_stage.specs.Crash.{crashed, all_spoiled};
+ghost use Rattle.paw_stage.specs.Log.{done_in, all_done, replayed, AreLaid};
+ghost use Rattle.paw_stage.specs.Seen.{HasLength, Sees, IsFiled, IsNamed, FindsStore, FindsNext, LaysOver, Spoils};
+ghost use Rattle.paw_stage.specs.Seen.{writes, is_written};
 
 use crate::log::{Call, Kind};
 use paw_base::fault::NoRoom;
@@ -34,8 +37,8 @@ pub struct Store {
 /// The length of a file, where it is there.
 pub fn file_len(calls: &[Call], room: &[u8], name: &[u8]) -> Option<usize>
     requires { AreLaid calls.now 0 (length room.now) }
-    ensures some { IfSome result (λ n. (bytes : List ℕ) × ((after fresh (all_done room.now calls.now)).files name.now ≡ Some bytes) × (n ≡ length bytes)) }
-    ensures none { IfNone result ((after fresh (all_done room.now calls.now)).files name.now ≡ None) }
+    ensures some { IfSome result (HasLength ((replayed room.now calls.now).files name.now)) }
+    ensures none { IfNone result ((replayed room.now calls.now).files name.now ≡ None) }
 {
     let seen = see(calls, room, name, 0, &mut []);
     if seen.here { Some(seen.len) } else { None }
@@ -50,8 +53,8 @@ pub fn first_bytes(
     n: usize,
 ) -> Result<Vec<u8>, NoRoom>
     requires laid { AreLaid calls.now 0 (length room.now) }
-    requires within { n ≤ length (bytes_or_none ((after fresh (all_done room.now calls.now)).files name.now)) }
-    ensures { IfOk result (λ v. v.items ≡ take n (bytes_or_none ((after fresh (all_done room.now calls.now)).files name.now))) }
+    requires within { n ≤ length (file_bytes (replayed room.now calls.now) name.now) }
+    ensures { IfOk result (λ v. v.items ≡ take n (file_bytes (replayed room.now calls.now) name.now)) }
 {
     let mut bytes = vec![in alloc; 0u8; n]?;
     read_file(calls, room, name, 0, bytes.as_mut_slice());
@@ -61,8 +64,8 @@ pub fn first_bytes(
 /// The length of the attached store.
 pub fn store_len(calls: &[Call], room: &[u8]) -> usize
     requires laid { AreLaid calls.now 0 (length room.now) }
-    requires attached { IsSome (after fresh (all_done room.now calls.now)).attached }
-    ensures { result ≡ length (after fresh (all_done room.now calls.now)).disk.bytes }
+    requires attached { IsSome (replayed room.now calls.now).attached }
+    ensures { result ≡ length (replayed room.now calls.now).disk.bytes }
 {
     match find_store(calls, room) {
         None => 0,
@@ -73,9 +76,9 @@ pub fn store_len(calls: &[Call], room: &[u8]) -> usize
 /// Fills a slice with bytes of the attached store from a place on.
 pub fn read_store(calls: &[Call], room: &[u8], at: usize, into: &mut [u8])
     requires laid { AreLaid calls.now 0 (length room.now) }
-    requires attached { IsSome (after fresh (all_done room.now calls.now)).attached }
-    requires within { at + length into.old ≤ length (after fresh (all_done room.now calls.now)).disk.bytes }
-    ensures { into.new ≡ take (length into.old) (drop at (after fresh (all_done room.now calls.now)).disk.bytes) }
+    requires attached { IsSome (replayed room.now calls.now).attached }
+    requires within { at + length into.old ≤ length (replayed room.now calls.now).disk.bytes }
+    ensures { into.new ≡ take (length into.old) (drop at (replayed room.now calls.now).disk.bytes) }
 {
     match find_store(calls, room) {
         None => {}
@@ -86,8 +89,8 @@ pub fn read_store(calls: &[Call], room: &[u8], at: usize, into: &mut [u8])
 /// The attached store as a crash may leave it, by a pick, and no bytes where none is attached.
 pub fn crash(calls: &[Call], room: &[u8], alloc: Global, pick: u8) -> Result<Vec<u8>, NoRoom>
     requires { AreLaid calls.now 0 (length room.now) }
-    ensures made { IsSome (after fresh (all_done room.now calls.now)).attached → IfOk result (λ v. v.items ≡ crashed (after fresh (all_done room.now calls.now)).disk pick) }
-    ensures none { (after fresh (all_done room.now calls.now)).attached ≡ None → IfOk result (λ v. v.items ≡ []) }
+    ensures made { IfAttached (replayed room.now calls.now) (λ d. IfOk result (λ v. v.items ≡ crashed d pick)) }
+    ensures none { (replayed room.now calls.now).attached ≡ None → IfOk result (λ v. v.items ≡ []) }
 {
     match find_store(calls, room) {
         None => Ok(Vec::new(alloc)),
@@ -105,7 +108,7 @@ fn leave(
 ) -> Result<Vec<u8>, NoRoom>
     requires laid { AreLaid calls.now 0 (length room.now) }
     requires found { FindsStore room.now (all_done room.now calls.now) (Some store) }
-    ensures { IfOk result (λ v. v.items ≡ crashed (after fresh (all_done room.now calls.now)).disk pick) }
+    ensures { IfOk result (λ v. v.items ≡ crashed (replayed room.now calls.now).disk pick) }
 {
     let name = name_of(room, store);
     if pick == 0 {
@@ -126,7 +129,7 @@ fn spoiled_store(
 ) -> Result<Vec<u8>, NoRoom>
     requires laid { AreLaid calls.now 0 (length room.now) }
     requires found { FindsStore room.now (all_done room.now calls.now) (Some store) }
-    ensures { IfOk result (λ v. v.items ≡ spoiled (after fresh (all_done room.now calls.now)).disk.dirty 0 (after fresh (all_done room.now calls.now)).disk.bytes) }
+    ensures { IfOk result (λ v. v.items ≡ all_spoiled (replayed room.now calls.now).disk) }
 {
     let mut bytes = whole_file(calls, room, alloc, name_of(room, store))?;
     spoil(&calls[store.synced..], room, bytes.as_mut_slice());
@@ -136,7 +139,7 @@ fn spoiled_store(
 // Gives another value to each byte of a store that one of these calls wrote.
 fn spoil(calls: &[Call], room: &[u8], store: &mut [u8])
     requires { AreLaid calls.now 0 (length room.now) }
-    ensures { (j : ℕ) → j < length store.old → slice_index store.new j ≡ spoiled_if (is_written (all_done room.now calls.now) j) (slice_index store.old j) }
+    ensures { Spoils (is_written (all_done room.now calls.now)) store.old store.new }
 {
     for call in calls {
         spoil_after(*call, room, store);
@@ -146,7 +149,7 @@ fn spoil(calls: &[Call], room: &[u8], store: &mut [u8])
 // Gives another value to each byte of a store that a call wrote.
 fn spoil_after(call: Call, room: &[u8], store: &mut [u8])
     requires { (call.from ≤ call.mid) × (call.mid ≤ call.to) × (call.to ≤ length room.now) }
-    ensures { (j : ℕ) → j < length store.old → slice_index store.new j ≡ spoiled_if (writes call.kind (length (done_in room.now call).bytes) j) (slice_index store.old j) }
+    ensures { Spoils (writes call.kind (length (done_in room.now call).bytes)) store.old store.new }
 {
     let bytes = part(room, call.mid, call.to);
     if let Kind::Write(place) = call.kind {
@@ -167,7 +170,7 @@ fn spoil_range(place: usize, n: usize, store: &mut [u8])
 // All bytes of a file; none where it is missing.
 fn whole_file(calls: &[Call], room: &[u8], alloc: Global, name: &[u8]) -> Result<Vec<u8>, NoRoom>
     requires { AreLaid calls.now 0 (length room.now) }
-    ensures { IfOk result (λ v. v.items ≡ bytes_or_none ((after fresh (all_done room.now calls.now)).files name.now)) }
+    ensures { IfOk result (λ v. v.items ≡ file_bytes (replayed room.now calls.now) name.now) }
 {
     let n = see(calls, room, name, 0, &mut []).len;
     first_bytes(calls, room, alloc, name, n)
@@ -176,8 +179,8 @@ fn whole_file(calls: &[Call], room: &[u8], alloc: Global, name: &[u8]) -> Result
 // Fills a slice with bytes of a file from a place on.
 fn read_file(calls: &[Call], room: &[u8], name: &[u8], at: usize, into: &mut [u8])
     requires laid { AreLaid calls.now 0 (length room.now) }
-    requires within { at + length into.old ≤ length (bytes_or_none ((after fresh (all_done room.now calls.now)).files name.now)) }
-    ensures { into.new ≡ take (length into.old) (drop at (bytes_or_none ((after fresh (all_done room.now calls.now)).files name.now))) }
+    requires within { at + length into.old ≤ length (file_bytes (replayed room.now calls.now) name.now) }
+    ensures { into.new ≡ take (length into.old) (drop at (file_bytes (replayed room.now calls.now) name.now)) }
 {
     let _ = see(calls, room, name, at, into);
 }
@@ -185,7 +188,7 @@ fn read_file(calls: &[Call], room: &[u8], name: &[u8], at: usize, into: &mut [u8
 // What is seen of a file. A slice is filled with its bytes from a place on, as far as they go.
 fn see(calls: &[Call], room: &[u8], name: &[u8], at: usize, into: &mut [u8]) -> Seen
     requires { AreLaid calls.now 0 (length room.now) }
-    ensures { Sees (after fresh (all_done room.now calls.now)) name.now at result into.new }
+    ensures { Sees (replayed room.now calls.now) name.now at result into.new }
 {
     let mut seen = Seen {
         here: false,
@@ -202,7 +205,8 @@ fn see(calls: &[Call], room: &[u8], name: &[u8], at: usize, into: &mut [u8]) -> 
 fn seen_after(call: Call, room: &[u8], name: &[u8], at: usize, into: &mut [u8], seen: Seen) -> Seen
     requires order { (call.from ≤ call.mid) × (call.mid ≤ call.to) × (call.to ≤ length room.now) }
     requires small { seen.len ≤ call.from }
-    ensures sees { (s : Standing) → IsFiled s → Sees s name.now at seen into.old → Sees (step s (done_in room.now call)) name.now at result into.new }
+    ensures sees { (s : Standing) → IsFiled s → Sees s name.now at seen into.old →
+        Sees (step s (done_in room.now call)) name.now at result into.new }
     ensures small { result.len ≤ call.to }
 {
     let named = part(room, call.from, call.mid) == name;
@@ -236,7 +240,7 @@ fn seen_after(call: Call, room: &[u8], name: &[u8], at: usize, into: &mut [u8], 
 // What is seen of a file once it holds these bytes.
 fn seen_filed(bytes: &[u8], at: usize, into: &mut [u8], seen: Seen) -> Seen
     ensures seen { result ≡ record { here = true; attached = seen.attached; len = length bytes.now } }
-    ensures laid { (j : ℕ) → j < length into.old → slice_index into.new j ≡ laid_over 0 bytes.now (at + j) (slice_index into.old j) }
+    ensures laid { LaysOver 0 bytes.now at into.old into.new }
 {
     lay_over(0, bytes, at, into);
     Seen {
@@ -260,8 +264,8 @@ fn seen_opened(named: bool, seen: Seen) -> Seen
 // What is seen of the attached store once bytes were written to it, or behind it where the place lies past its end.
 fn seen_written(place: u64, bytes: &[u8], at: usize, into: &mut [u8], seen: Seen) -> Seen
     requires { seen.len + length bytes.now < 2 ^ 64 }
-    ensures seen { result ≡ record { here = seen.here; attached = seen.attached; len = max seen.len (min place seen.len + length bytes.now) } }
-    ensures laid { (j : ℕ) → j < length into.old → slice_index into.new j ≡ laid_over (min place seen.len) bytes.now (at + j) (slice_index into.old j) }
+    ensures seen { result ≡ record seen { len = max seen.len (min place seen.len + length bytes.now) } }
+    ensures laid { LaysOver (min place seen.len) bytes.now at into.old into.new }
 {
     let place = (place as usize).min(seen.len);
     lay_over(place, bytes, at, into);
@@ -274,7 +278,7 @@ fn seen_written(place: u64, bytes: &[u8], at: usize, into: &mut [u8], seen: Seen
 
 // Lays bytes that stand from a place on over those in a slice, which stand from `at` on.
 fn lay_over(place: usize, bytes: &[u8], at: usize, into: &mut [u8])
-    ensures { (j : ℕ) → j < length into.old → slice_index into.new j ≡ laid_over place bytes.now (at + j) (slice_index into.old j) }
+    ensures { LaysOver place bytes.now at into.old into.new }
 {
     let from = at.saturating_sub(place).min(bytes.len());
     let to = place.saturating_sub(at).min(into.len());
@@ -315,7 +319,7 @@ fn find_store(calls: &[Call], room: &[u8]) -> Option<Store>
 fn store_after(call: Call, room: &[u8], done: usize, store: Option<Store>) -> Option<Store>
     requires order { (call.from ≤ call.mid) × (call.mid ≤ call.to) × (call.to ≤ length room.now) }
     requires named { IsNamed room.now store }
-    ensures { (ds : List Done) → done ≡ length ds + 1 → FindsStore room.now ds store → FindsStore room.now (ds ++ done_in room.now call ∷ []) result }
+    ensures { FindsNext room.now call done store result }
 {
     match call.kind {
         Kind::Add => store_filed(call, room, done, store),
@@ -352,7 +356,9 @@ fn store_synced(done: usize, store: Option<Store>) -> Option<Store>
 fn store_filed(call: Call, room: &[u8], done: usize, store: Option<Store>) -> Option<Store>
     requires order { (call.from ≤ call.mid) × (call.mid ≤ call.to) × (call.to ≤ length room.now) }
     requires named { IsNamed room.now store }
-    ensures { (ds : List Done) → done ≡ length ds + 1 → FindsStore room.now ds store → (call.kind ≡ kind.Add) ⊎ (call.kind ≡ kind.Save) → FindsStore room.now (ds ++ done_in room.now call ∷ []) result }
+    ensures { (ds : List Done) → done ≡ length ds + 1 → FindsStore room.now ds store →
+        (call.kind ≡ kind.Add) ⊎ (call.kind ≡ kind.Save) →
+        FindsStore room.now (ds ++ done_in room.now call ∷ []) result }
 {
     match store {
         None => None,

@@ -1,8 +1,9 @@
 // Whole texts through readers and writers.
 
-ghost use Rattle.std.specs.Prelude.{◌≡◌, ◌≢◌, ◌<◌, ◌≤◌, ◌+◌, ◌-◌, ◌^◌, ℕ, length, min, take, IfOk, IfSome, OnOk, OnErr};
+ghost use Rattle.std.specs.Prelude.{◌≢◌, ◌<◌, ◌≤◌, ◌+◌, ◌-◌, ◌^◌, ℕ, length, min, take, IfOk, OnOk, OnErr};
 ghost use Rattle.std.specs.Io.KnownBytes.{Appends, WriteAppends};
 ghost use Rattle.paw_stage.specs.declared.LoadRefusal.TheVariants as refusal;
+ghost use Rattle.paw_stage.specs.Files.{GivesFirst};
 
 use crate::{Failed, LoadRefusal};
 use std::alloc::Global;
@@ -14,7 +15,7 @@ pub fn read_first<R: Read + Drop>(
     reader: R,
     most: usize,
 ) -> Result<Vec<u8>, LoadRefusal>
-    ensures first { IfOk result (λ v. IfSome (R.remaining reader) (λ xs. v.items ≡ take (min (most + 1) (2 ^ 64 - 1)) xs)) }
+    ensures first { IfOk result (λ v. GivesFirst (R.remaining reader) (min (most + 1) (2 ^ 64 - 1)) v.items) }
     ensures there { result ≢ Err refusal.Absent }
 {
     let mut bytes = Vec::new(alloc);

@@ -7,8 +7,8 @@ use Rattle.paw_stage.proofs.Time.{Passes_map}
 use Rattle.paw_stage.proofs.Calls.{stood, passed, saves, in_save}
 use Rattle.paw_stage.proofs.memory.MemoryStageStage.save.Goals as goal
 
-pub returns-clause-saved : goal.returns-clause-saved
-returns-clause-saved c =
+pub returns-clause-answer : goal.returns-clause-answer
+returns-clause-answer c =
     let kept = rw c.as_bytes.ensures.value at (c.if-not-add.ensures.kept refl) in
     saves (standing_of c.args.self.now) _ c.args.name.now (Some c.args.bytes.now) (stood c.args.self.now (the_view (record { lines = c.self.inside.lines; log = c.add.new.self; counts = c.self.inside.counts })) c.self.inside.log (saved c.args.name.now c.args.bytes.now) (ap (λ m. m.log) (sym c.self.view_is)) kept (ap (λ m. m.lines) c.self.view_is))
 
