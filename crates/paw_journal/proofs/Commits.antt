@@ -7,10 +7,10 @@ use Rattle.paw_journal.specs.declared.layout.Slot.TheVariants as which
 use Rattle.paw_journal.specs.declared.drafting.SlotState.{SlotState}
 use Rattle.paw_journal.specs.declared.drafting.Draft.{Draft}
 use Rattle.paw_journal.specs.Session.{Shown, recover, recover_by, chosen, slot, slot_shows, stretch, kept_digest, piece_length, state_length}
-use Rattle.paw_journal.specs.Room.{Room, kept_slot, kept_of, with_kept, KeepsSlots}
+use Rattle.paw_journal.specs.Room.{Room, kept_slot, kept_of, with_kept, KeepsSlots, slot_number}
 use Rattle.paw_journal.specs.Written.{most_written}
 use Rattle.paw_journal.specs.Steps.{IsFilling, Drafts, written_slot}
-use Rattle.paw_journal.specs.Journal.{slot_number, IsAtRest, Keeps}
+use Rattle.paw_journal.specs.Journal.{IsAtRest, Keeps}
 use Rattle.paw_journal.proofs.Recovers.{recover_made}
 use Rattle.paw_journal.proofs.Kept.{IsKept, is_kept, kept_shows, written_piece}
 use Rattle.paw_journal.proofs.Slots.{state_stays, piece_stays}

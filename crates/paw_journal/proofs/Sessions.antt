@@ -11,8 +11,8 @@ use Rattle.paw_stage.proofs.Time.{Passes_on}
 use Rattle.paw_journal.specs.declared.drafting.SlotState.{SlotState}
 use Rattle.paw_journal.specs.declared.layout.Slot.{Slot}
 use Rattle.paw_journal.specs.declared.layout.Slot.TheVariants as which
-use Rattle.paw_journal.specs.Journal.{slot_number, IsAtRest, Keeps}
-use Rattle.paw_journal.specs.Room.{Room, kept_slot, with_kept, KeepsSlots}
+use Rattle.paw_journal.specs.Journal.{IsAtRest, Keeps}
+use Rattle.paw_journal.specs.Room.{Room, kept_slot, with_kept, KeepsSlots, slot_number}
 use Rattle.paw_journal.specs.Session.{Recovered, Shown, IsUnmade, recover, slot_shows, slot, stretch, base, chosen, kept_digest, piece_length, state_length, session_length, slot_length, zeros, made_mark, made_header, made_slot, made_session}
 use Rattle.paw_journal.specs.Store.{IsBeside, InStore, Leaves, IsEither}
 use Rattle.paw_journal.specs.Steps.{Introduces}

@@ -1,33 +1,26 @@
 -- What the calls of a journal answer, and what they leave.
-use Rattle.std.specs.Prelude.{◌≡◌, ◌≢◌, ◌⊎◌, ℕ, List, take, Option, Some, None, Result, Ok, Err, IsSome}
+use Rattle.std.specs.Prelude.{◌≡◌, ◌≢◌, ◌⊎◌, ℕ, List, Option, Some, None, Result, Ok, Err, IsSome}
 use Rattle.paw_stage.specs.declared.StageCall.{StageCall}
 use Rattle.paw_stage.specs.declared.StageCall.TheVariants as call
 use Rattle.paw_stage.specs.Disk.{IsStable}
-use Rattle.paw_stage.specs.Stage.{Standing, Rose}
-use Rattle.paw_journal.specs.declared.layout.Slot.{Slot}
-use Rattle.paw_journal.specs.declared.layout.Slot.TheVariants as which
+use Rattle.paw_stage.specs.Stage.{Standing}
 use Rattle.paw_journal.specs.declared.journal.Journal.{Journal}
 use Rattle.paw_journal.specs.declared.refusal.JournalRefusal.{JournalRefusal}
 use Rattle.paw_journal.specs.declared.refusal.JournalRefusal.TheVariants as refusal
-use Rattle.paw_journal.specs.Session.{Recovered, Unmade, Damaged, Shown, recover, chosen, kept_digest, state_length}
-use Rattle.paw_journal.specs.Room.{Room, KeepsSlots}
-
--- The number of a slot.
-abbrev pub slot_number : Slot → ℕ
-slot_number which.First = 0
-slot_number which.Second = 1
+use Rattle.paw_journal.specs.Session.{Recovered, Unmade, Damaged, Shown, showing, recover, chosen, kept_digest}
+use Rattle.paw_journal.specs.Room.{Room, KeepsSlots, slot_number}
 
 -- A store is attached, and nothing is unsynced: a crash leaves just its bytes.
 pub record IsAtRest (s : Standing) : Type 0 where
   pub attached : IsSome s.attached
   pub stable : IsStable s.disk
 
--- The attached store is at rest and holds the session of this journal, whose state and piece stand in the room beside the
--- states of both slots.
+-- The attached store is at rest and holds the session of this journal, whose state and piece stand in the room beside
+-- the states of both slots.
 pub record Keeps (journal : Journal) (room : Room) (s : Standing) : Type 0 where
   pub rests : IsAtRest s
   pub chosen : chosen s.disk.bytes ≡ slot_number journal.slot
-  pub shown : recover s.disk.bytes ≡ Shown (kept_digest s.disk.bytes) (take state_length room.state) room.piece
+  pub shown : recover s.disk.bytes ≡ showing (kept_digest s.disk.bytes) room.state room.piece
   pub slots : KeepsSlots room s.disk.bytes
 
 -- Why there is no session of this game, by what the store's bytes stand for. A stage call that failed tells nothing of
@@ -42,15 +35,15 @@ IsRefused r game (refusal.Outside c) = Unit {0}
 -- What a search for the session of a game answers: the session, of which state and piece then stand in the room, or why
 -- there is none.
 abbrev pub Finds : Recovered → List ℕ → Room → Result Journal JournalRefusal → Type 0
-Finds r game room (Ok journal) = r ≡ Shown game (take state_length room.state) room.piece
+Finds r game room (Ok journal) = r ≡ showing game room.state room.piece
 Finds r game room (Err e) = IsRefused r game e
 
--- A refusal that names a stage call comes only where the count of that call's faults rose; a search only reads.
-abbrev pub IsCaused : (StageCall → ℕ) → (StageCall → ℕ) → JournalRefusal → Type 0
-IsCaused old new (refusal.Outside c) = (c ≡ call.Read) × Rose (old c) (new c)
-IsCaused old new (refusal.Unmade n mark) = Unit {0}
-IsCaused old new (refusal.Damaged part at) = Unit {0}
-IsCaused old new (refusal.WrongGame kept found) = Unit {0}
+-- A refusal that names a stage call names a read: a search makes no other call.
+abbrev pub IsCaused : JournalRefusal → Type 0
+IsCaused (refusal.Outside c) = c ≡ call.Read
+IsCaused (refusal.Unmade n mark) = Unit {0}
+IsCaused (refusal.Damaged part at) = Unit {0}
+IsCaused (refusal.WrongGame kept found) = Unit {0}
 
 -- The stage call that failed, by what a call answers.
 abbrev pub failed_call : {A : Type 0} → Result A StageCall → Option StageCall

@@ -1,6 +1,8 @@
 -- How a session lies in the bytes of a store, and what bytes of a store stand for.
-use Rattle.std.specs.Prelude.{◌==◌, ◌&&◌, ◌||◌, ℕ, ◌+◌, ◌-◌, ◌*◌, ◌%◌, Bool, not, is_none, nat_lt, nat_le, List, [], ◌∷◌, ◌++◌, length, take, drop, slice_index, slice_set, position, Option, Some, None, if◌then◌else◌}
-pub use Rattle.paw_base.specs.Bytes.{zeros}
+use Rattle.std.specs.Prelude.{◌≡◌, ◌==◌, ◌&&◌, ◌||◌, ℕ, ◌+◌, ◌-◌, ◌*◌, ◌%◌, Bool, not, is_none, nat_lt, nat_le, List}
+use Rattle.std.specs.Prelude.{[]}
+use Rattle.std.specs.Prelude.{◌∷◌, ◌++◌, length, take, drop, replicate, slice_index, slice_set, position, Option, Some}
+use Rattle.std.specs.Prelude.{None, if◌then◌else◌}
 use Rattle.paw_journal.specs.declared.refusal.SessionPart.{SessionPart}
 use Rattle.paw_journal.specs.declared.refusal.SessionPart.TheVariants as part
 
@@ -48,8 +50,8 @@ is_version n = (n == 1) || (n == 2)
 abbrev pub kept_digest : List ℕ → List ℕ
 kept_digest bytes = stretch 32 32 bytes
 
--- The bytes of a slot: the number of its change records (at 0), its version (at 2), its base (at 64), a piece (at 4,160)
--- and the change records (at 69,696).
+-- The bytes of a slot: the number of its change records (at 0), its version (at 2), its base (at 64), a piece (at
+-- 4,160) and the change records (at 69,696).
 abbrev pub slot : ℕ → List ℕ → List ℕ
 slot k bytes = stretch (header_length + slot_length * k) slot_length bytes
 
@@ -105,8 +107,8 @@ has_state bytes = nat_le (number_at 0 bytes) most_changes && is_none (first_unso
 abbrev pub slot_state : List ℕ → List ℕ
 slot_state bytes = changed (slot_changes bytes) (base bytes)
 
--- The bytes of a state, and how many of them version 1 has. Bytes 1,369 and 1,370 tell the length of the piece; behind them
--- stand the positions that are kept, which version 1 has not.
+-- The bytes of a state, and how many of them version 1 has. Bytes 1,369 and 1,370 tell the length of the piece; behind
+-- them stand the positions that are kept, which version 1 has not.
 abbrev pub state_length : ℕ
 state_length = 3419
 
@@ -157,6 +159,14 @@ recover_by k bytes =
 unfoldable pub recover : List ℕ → Recovered
 recover bytes = recover_by (chosen bytes) bytes
 
+-- What the session of the game with this digest shows that has this state and this piece.
+abbrev pub showing : List ℕ → List ℕ → List ℕ → Recovered
+showing digest state piece = Shown digest (take state_length state) piece
+
+-- A slot with these bytes is damaged at this place.
+abbrev pub IsDamagedAt : List ℕ → List ℕ → ℕ → Type 0
+IsDamagedAt digest bytes at = slot_shows digest bytes ≡ Damaged part.Slot at
+
 -- The bytes do not hold a session.
 abbrev pub IsUnmade : Recovered → Type 0
 IsUnmade (Unmade n m) = Unit {0}
@@ -172,3 +182,11 @@ made_header mark digest = mark ∷ 0 ∷ 2 ∷ zeros 29 ++ digest ++ zeros 64
 
 abbrev pub made_session : List ℕ → List ℕ → List ℕ → List ℕ
 made_session digest state piece = made_header made_mark digest ++ made_slot state piece ++ made_slot state piece
+
+-- A session as it is laid out, with these bytes in both slots: all but its mark.
+abbrev pub laid_session : List ℕ → List ℕ → List ℕ
+laid_session digest bytes = made_header 0 digest ++ bytes ++ bytes
+
+-- These bytes, with the mark of a session that is made.
+abbrev pub marked : List ℕ → List ℕ
+marked bytes = made_mark ∷ drop 1 bytes

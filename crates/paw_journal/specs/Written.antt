@@ -1,7 +1,10 @@
 -- What a commit writes, and how much at most.
-use Rattle.std.specs.Prelude.{◌==◌, ℕ, ◌+◌, ◌*◌, nat_le, List, ◌∷◌, length, Option, Some, None, if◌then◌else◌}
+use Rattle.std.specs.Prelude.{◌==◌, ℕ, ◌+◌, ◌-◌, ◌*◌, nat_le, List, ◌∷◌, length, Option, Some, None, if◌then◌else◌}
+use Rattle.paw_stage.specs.Stage.{Standing, WritesAtMost}
 use Rattle.paw_journal.specs.declared.drafting.SlotState.{SlotState}
-use Rattle.paw_journal.specs.Session.{most_changes}
+use Rattle.paw_journal.specs.declared.layout.Slot.{Slot}
+use Rattle.paw_journal.specs.Session.{most_changes, slot}
+use Rattle.paw_journal.specs.Room.{slot_number, kept_slot}
 
 -- The number of positions at which two states differ.
 unfoldable pub differing : List ℕ → List ℕ → ℕ
@@ -17,3 +20,8 @@ most_written (Some kept) state piece =
     if nat_le (kept.records + differing kept.state state) most_changes
     then 128 + length piece + 4 * differing kept.state state
     else 4224 + length piece
+
+-- No more was written than a commit may write to a session that uses this slot: it writes over the other.
+abbrev pub WritesLittle : Slot → List ℕ → List ℕ → Standing → Standing → Type 0
+WritesLittle used state piece old new =
+    WritesAtMost (most_written (kept_slot (slot (1 - slot_number used) old.disk.bytes)) state piece) old new

@@ -1,6 +1,7 @@
 // The change records of a slot.
 
-ghost use Rattle.std.specs.Prelude.{◌≡◌, ◌+◌, ◌*◌, ◌/◌, ◌%◌, ◌<◌, ◌≤◌, [], ◌∷◌, ◌++◌, length, None, IfSome, vec_capacity};
+ghost use Rattle.std.specs.Prelude.{◌≡◌, ◌+◌, ◌*◌, ◌/◌, ◌%◌, ◌<◌, ◌≤◌, [], ◌∷◌, ◌++◌, length, None, IfSome};
+ghost use Rattle.std.specs.Prelude.{vec_capacity};
 ghost use Rattle.paw_journal.specs.Session.{changes, changed, first_unsound};
 ghost use Rattle.paw_journal.specs.Steps.{Turns};
 

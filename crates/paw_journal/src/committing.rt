@@ -1,22 +1,24 @@
 // The steps of a commit: the slot that isn't in use, and then the selector.
 
-ghost use Rattle.std.specs.Prelude.{◌≡◌, ◌+◌, ◌-◌, ◌<◌, ◌≤◌, ◌↔◌, ℕ, length, IsSome, OnOk, IfErr};
+ghost use Rattle.std.specs.Prelude.{◌≡◌, ◌+◌, ◌-◌, ◌≤◌, ◌↔◌, length, IsSome, OnOk, IfErr};
 ghost use Rattle.paw_base.specs.Piece.{piece_limit};
 ghost use Rattle.paw_stage.specs.Disk.{put};
-ghost use Rattle.paw_stage.specs.Stage.{Standing, Rose, Grows, Faulted};
-ghost use Rattle.paw_stage.specs.Moments.{Passes};
-ghost use Rattle.paw_journal.specs.Session.{recover, recover_by, chosen, kept_digest, slot, session_length, slot_length};
-ghost use Rattle.paw_journal.specs.Store.{IsBeside, InStore, Leaves, IsEither};
-ghost use Rattle.paw_journal.specs.Steps.{IsMade, IsFilling, slot_head, written_slot};
-ghost use Rattle.paw_journal.specs.Journal.{slot_number, IsAtRest, IsWriting, failed_call};
+ghost use Rattle.paw_stage.specs.Stage.{Standing, Faulted, WritesAtMost};
+ghost use Rattle.paw_stage.specs.Across.{Across, Once, EachMoment, Throughout};
+ghost use Rattle.paw_journal.specs.Session.{chosen, session_length, slot_length};
+ghost use Rattle.paw_journal.specs.Room.{slot_number};
+ghost use Rattle.paw_journal.specs.Store.{IsBeside, LeavesSame, LeavesSlot};
+ghost use Rattle.paw_journal.specs.Steps.{IsMade, IsFilling, KeepsFilling, Fills, SameSlots, SameDigest, ChoosesSlot};
+ghost use Rattle.paw_journal.specs.Steps.{slot_head, written_slot};
+ghost use Rattle.paw_journal.specs.Journal.{IsAtRest, IsWriting, failed_call};
 
 use crate::drafting::Draft;
 use crate::layout::{PIECE_AT, SELECTOR_AT, Slot, VERSION};
 use crate::store::{sync, write};
 use paw_stage::{Stage, StageCall};
 
-/// Writes what makes the slot that isn't chosen show another state and this piece, and makes the store stable. Whatever a
-/// crash leaves shows what the session showed before.
+/// Writes what makes the slot that isn't chosen show another state and this piece, and makes the store stable. Whatever
+/// a crash leaves shows what the session showed before.
 pub(crate) fn write_slot<S: Stage>(
     stage: &mut S,
     which: Slot,
@@ -30,15 +32,14 @@ pub(crate) fn write_slot<S: Stage>(
     requires inside { draft.at + length bytes.now ≤ slot_length }
     requires short { length piece.now ≤ piece_limit }
     ensures tells { S.Tells stage.old ↔ S.Tells stage.new }
-    ensures counts { Grows (S.faults stage.old) (S.faults stage.new) }
-    ensures cause { IfErr result (λ c. IsWriting c × Rose (S.faults stage.old c) (S.faults stage.new c)) }
+    ensures cause { IfErr result IsWriting }
     ensures faulted { Faulted (failed_call result) (S.faults stage.old) (S.faults stage.new) }
-    ensures few { S.Tells stage.old → (S.standing stage.new).written ≤ (S.standing stage.old).written + (length bytes.now + length piece.now + 3) }
+    ensures few { Across S.Stage stage.old stage.new (WritesAtMost (length bytes.now + length piece.now + 3)) }
     ensures rests { S.Tells stage.old → OnOk result (IsAtRest (S.standing stage.new)) }
-    ensures filled { S.Tells stage.old → OnOk result (IsFilling (slot_number which) (S.standing stage.old) (S.standing stage.new)) }
-    ensures written { S.Tells stage.old → OnOk result (slot (slot_number which) (S.standing stage.new).disk.bytes ≡ written_slot draft bytes.now piece.now (slot (slot_number which) (S.standing stage.old).disk.bytes)) }
-    ensures beside { S.Tells stage.old → IsBeside (S.standing stage.old) (S.standing stage.new) }
-    ensures any_moment { S.Tells stage.old → Passes (S.clock stage.old) (S.clock stage.new) (S.since stage.old) (S.since stage.new) (InStore (S.standing stage.old) (Leaves (λ r. r ≡ recover (S.standing stage.old).disk.bytes))) }
+    ensures filled { Once S.Stage stage.old stage.new result (IsFilling (slot_number which)) }
+    ensures written { Once S.Stage stage.old stage.new result (Fills which (written_slot draft bytes.now piece.now)) }
+    ensures beside { Across S.Stage stage.old stage.new IsBeside }
+    ensures any_moment { Throughout S.Stage stage.old stage.new LeavesSame }
 {
     write_part(stage, which, draft.at, bytes)?;
     write_part(stage, which, PIECE_AT, piece)?;
@@ -64,14 +65,15 @@ fn write_part<S: Stage>(
     requires long { S.Tells stage.old → length (S.standing stage.old).disk.bytes ≡ session_length }
     requires inside { at + length bytes.now ≤ slot_length }
     ensures tells { S.Tells stage.old ↔ S.Tells stage.new }
-    ensures counts { Grows (S.faults stage.old) (S.faults stage.new) }
-    ensures cause { IfErr result (λ c. IsWriting c × Rose (S.faults stage.old c) (S.faults stage.new c)) }
+    ensures cause { IfErr result IsWriting }
     ensures faulted { Faulted (failed_call result) (S.faults stage.old) (S.faults stage.new) }
-    ensures few { S.Tells stage.old → (S.standing stage.new).written ≤ (S.standing stage.old).written + length bytes.now }
-    ensures filling { S.Tells stage.old → (first : Standing) → IsFilling (slot_number which) first (S.standing stage.old) → OnOk result (IsFilling (slot_number which) first (S.standing stage.new)) }
-    ensures written { S.Tells stage.old → OnOk result (slot (slot_number which) (S.standing stage.new).disk.bytes ≡ put at bytes.now (slot (slot_number which) (S.standing stage.old).disk.bytes)) }
-    ensures beside { S.Tells stage.old → IsBeside (S.standing stage.old) (S.standing stage.new) }
-    ensures any_moment { S.Tells stage.old → (first : Standing) → IsFilling (slot_number which) first (S.standing stage.old) → Passes (S.clock stage.old) (S.clock stage.new) (S.since stage.old) (S.since stage.new) (InStore first (Leaves (λ r. r ≡ recover first.disk.bytes))) }
+    ensures few { Across S.Stage stage.old stage.new (WritesAtMost (length bytes.now)) }
+    ensures filling { Once S.Stage stage.old stage.new result (KeepsFilling (slot_number which)) }
+    ensures written { Once S.Stage stage.old stage.new result (Fills which (put at bytes.now)) }
+    ensures beside { Across S.Stage stage.old stage.new IsBeside }
+    ensures any_moment { S.Tells stage.old → (first : Standing) →
+        IsFilling (slot_number which) first (S.standing stage.old) →
+        EachMoment S.Stage stage.old stage.new (LeavesSame first) }
 {
     if bytes.is_empty() {
         return Ok(());
@@ -84,17 +86,16 @@ pub(crate) fn choose<S: Stage>(stage: &mut S, which: Slot) -> Result<(), StageCa
     requires rests { S.Tells stage.old → IsAtRest (S.standing stage.old) }
     requires long { S.Tells stage.old → length (S.standing stage.old).disk.bytes ≡ session_length }
     ensures tells { S.Tells stage.old ↔ S.Tells stage.new }
-    ensures counts { Grows (S.faults stage.old) (S.faults stage.new) }
-    ensures cause { IfErr result (λ c. IsWriting c × Rose (S.faults stage.old c) (S.faults stage.new c)) }
+    ensures cause { IfErr result IsWriting }
     ensures faulted { Faulted (failed_call result) (S.faults stage.old) (S.faults stage.new) }
-    ensures few { S.Tells stage.old → (S.standing stage.new).written ≤ (S.standing stage.old).written + 1 }
+    ensures few { Across S.Stage stage.old stage.new (WritesAtMost 1) }
     ensures rests { S.Tells stage.old → OnOk result (IsAtRest (S.standing stage.new)) }
-    ensures slots { S.Tells stage.old → (k : ℕ) → k < 2 → OnOk result (slot k (S.standing stage.new).disk.bytes ≡ slot k (S.standing stage.old).disk.bytes) }
+    ensures slots { Once S.Stage stage.old stage.new result SameSlots }
     ensures chosen { S.Tells stage.old → OnOk result (chosen (S.standing stage.new).disk.bytes ≡ slot_number which) }
-    ensures shown { S.Tells stage.old → OnOk result (recover (S.standing stage.new).disk.bytes ≡ recover_by (slot_number which) (S.standing stage.old).disk.bytes) }
-    ensures digest { S.Tells stage.old → OnOk result (kept_digest (S.standing stage.new).disk.bytes ≡ kept_digest (S.standing stage.old).disk.bytes) }
-    ensures beside { S.Tells stage.old → IsBeside (S.standing stage.old) (S.standing stage.new) }
-    ensures any_moment { S.Tells stage.old → Passes (S.clock stage.old) (S.clock stage.new) (S.since stage.old) (S.since stage.new) (InStore (S.standing stage.old) (Leaves (IsEither (recover_by (1 - slot_number which) (S.standing stage.old).disk.bytes) (recover_by (slot_number which) (S.standing stage.old).disk.bytes)))) }
+    ensures shown { Once S.Stage stage.old stage.new result (ChoosesSlot which) }
+    ensures digest { Once S.Stage stage.old stage.new result SameDigest }
+    ensures beside { Across S.Stage stage.old stage.new IsBeside }
+    ensures any_moment { Throughout S.Stage stage.old stage.new (LeavesSlot which) }
 {
     write(stage, SELECTOR_AT, &[which.selector()])?;
     sync(stage)

@@ -1,12 +1,12 @@
 // What the header of a session tells.
 
 ghost use Rattle.std.specs.Prelude.{◌≡◌, ◌≢◌, ◌↔◌, ℕ, None, List, length, take, IfOk, IfErr, IsSome};
-ghost use Rattle.paw_stage.specs.declared.StageCall.{StageCall};
-ghost use Rattle.paw_stage.specs.Stage.{Grows, Faulted};
-ghost use Rattle.paw_stage.specs.Moments.{Passes, Still};
-ghost use Rattle.paw_journal.specs.Session.{recover, is_version, header_length, session_length};
-ghost use Rattle.paw_journal.specs.Steps.{Introduces};
-ghost use Rattle.paw_journal.specs.Journal.{slot_number, IsRefused, IsCaused, refused_call, outside};
+ghost use Rattle.paw_stage.specs.Stage.{Faulted};
+ghost use Rattle.paw_stage.specs.Moments.{Still};
+ghost use Rattle.paw_stage.specs.Across.{Throughout};
+ghost use Rattle.paw_journal.specs.Session.{recover, is_known, header_length, session_length};
+ghost use Rattle.paw_journal.specs.Steps.{IsHeaderOf};
+ghost use Rattle.paw_journal.specs.Journal.{IsRefused, IsCaused, refused_call, outside};
 
 use crate::layout::{
     DIGEST_AT, DIGEST_LENGTH, FIRST_VERSION, HEADER_LENGTH, MADE, MARK_AT, SELECTOR_AT,
@@ -31,13 +31,13 @@ pub(crate) fn read_header<S: Stage>(stage: &mut S, size: u64) -> Result<Header, 
     requires attached { S.Tells stage.old → IsSome (S.standing stage.old).attached }
     requires size { S.Tells stage.old → size ≡ length (S.standing stage.old).disk.bytes }
     ensures tells { S.Tells stage.old ↔ S.Tells stage.new }
-    ensures counts { Grows (S.faults stage.old) (S.faults stage.new) }
-    ensures cause { IfErr result (IsCaused (S.faults stage.old) (S.faults stage.new)) }
+    ensures cause { IfErr result IsCaused }
     ensures faulted { Faulted (refused_call result) (S.faults stage.old) (S.faults stage.new) }
     ensures still { S.Tells stage.old → S.standing stage.new ≡ S.standing stage.old }
-    ensures introduced { S.Tells stage.old → IfOk result (λ header. Introduces (slot_number header.slot) header.digest (S.standing stage.old).disk.bytes) }
-    ensures refused { S.Tells stage.old → (game : List ℕ) → IfErr result (IsRefused (recover (S.standing stage.old).disk.bytes) game) }
-    ensures time { S.Tells stage.old → Passes (S.clock stage.old) (S.clock stage.new) (S.since stage.old) (S.since stage.new) (Still (S.standing stage.old)) }
+    ensures introduced { S.Tells stage.old → IfOk result (IsHeaderOf (S.standing stage.old).disk.bytes) }
+    ensures refused { S.Tells stage.old → (game : List ℕ) →
+        IfErr result (IsRefused (recover (S.standing stage.old).disk.bytes) game) }
+    ensures time { Throughout S.Stage stage.old stage.new Still }
 {
     if size != SESSION_LENGTH {
         return Err(unmade(stage, size));
@@ -55,12 +55,12 @@ fn unmade<S: Stage>(stage: &mut S, size: u64) -> JournalRefusal
     requires size { S.Tells stage.old → size ≡ length (S.standing stage.old).disk.bytes }
     requires other { size ≢ session_length }
     ensures tells { S.Tells stage.old ↔ S.Tells stage.new }
-    ensures counts { Grows (S.faults stage.old) (S.faults stage.new) }
-    ensures cause { IsCaused (S.faults stage.old) (S.faults stage.new) result }
+    ensures cause { IsCaused result }
     ensures faulted { Faulted (outside result) (S.faults stage.old) (S.faults stage.new) }
     ensures still { S.Tells stage.old → S.standing stage.new ≡ S.standing stage.old }
-    ensures refused { S.Tells stage.old → (game : List ℕ) → IsRefused (recover (S.standing stage.old).disk.bytes) game result }
-    ensures time { S.Tells stage.old → Passes (S.clock stage.old) (S.clock stage.new) (S.since stage.old) (S.since stage.new) (Still (S.standing stage.old)) }
+    ensures refused { S.Tells stage.old → (game : List ℕ) →
+        IsRefused (recover (S.standing stage.old).disk.bytes) game result }
+    ensures time { Throughout S.Stage stage.old stage.new Still }
 {
     let mut first = [0];
     if size == 0 {
@@ -77,9 +77,11 @@ fn unmade<S: Stage>(stage: &mut S, size: u64) -> JournalRefusal
 
 // What these bytes tell of each session whose header they are.
 fn header_in(bytes: &[u8; HEADER_LENGTH]) -> Result<Header, JournalRefusal>
-    ensures introduced { (whole : List ℕ) → length whole ≡ session_length → bytes.now ≡ take header_length whole → IfOk result (λ header. Introduces (slot_number header.slot) header.digest whole) }
-    ensures refused { (whole game : List ℕ) → length whole ≡ session_length → bytes.now ≡ take header_length whole → IfErr result (IsRefused (recover whole) game) }
-    ensures cause { (old new : StageCall → ℕ) → IfErr result (IsCaused old new) }
+    ensures introduced { (whole : List ℕ) → length whole ≡ session_length → bytes.now ≡ take header_length whole →
+        IfOk result (IsHeaderOf whole) }
+    ensures refused { (whole game : List ℕ) → length whole ≡ session_length → bytes.now ≡ take header_length whole →
+        IfErr result (IsRefused (recover whole) game) }
+    ensures cause { IfErr result IsCaused }
     ensures inside { refused_call result ≡ None }
 {
     let mark = bytes[MARK_AT as usize];

@@ -1,13 +1,14 @@
 // A session: making one, finding one, and committing to it.
 
-ghost use Rattle.std.specs.Prelude.{◌≡◌, ◌⊎◌, ◌↔◌, ◌+◌, ◌-◌, ◌≤◌, length, take, OnOk, IfOk, IfErr};
-ghost use Rattle.paw_stage.specs.Stage.{Rose, Grows, Faulted};
-ghost use Rattle.paw_stage.specs.Moments.{Passes, Still};
-ghost use Rattle.paw_journal.specs.Session.{recover, Shown, IsUnmade, kept_digest, slot, piece_length, state_length, made_session};
-ghost use Rattle.paw_journal.specs.Room.{kept_slot};
-ghost use Rattle.paw_journal.specs.Written.{most_written};
-ghost use Rattle.paw_journal.specs.Store.{IsBeside, InStore, Leaves, IsEither};
-ghost use Rattle.paw_journal.specs.Journal.{slot_number, IsAtRest, Keeps, Finds, IsCaused, IsWriting, failed_call, refused_call};
+ghost use Rattle.std.specs.Prelude.{◌≡◌, ◌↔◌, length, OnOk, IfOk, IfErr};
+ghost use Rattle.paw_stage.specs.Stage.{Faulted};
+ghost use Rattle.paw_stage.specs.Moments.{Still};
+ghost use Rattle.paw_stage.specs.Across.{Across, Once, Throughout};
+ghost use Rattle.paw_journal.specs.Session.{recover, kept_digest, piece_length};
+ghost use Rattle.paw_journal.specs.Written.{WritesLittle};
+ghost use Rattle.paw_journal.specs.Store.{IsBeside, LeavesMade, LeavesOldOr};
+ghost use Rattle.paw_journal.specs.Steps.{HoldsMade, Shows, ShowsNext, SameDigest};
+ghost use Rattle.paw_journal.specs.Journal.{IsAtRest, Keeps, Finds, IsCaused, IsWriting, failed_call, refused_call};
 
 use crate::committing::{choose, write_slot};
 use crate::drafting::SlotState;
@@ -28,8 +29,8 @@ pub struct Journal {
 }
 
 impl Journal {
-    /// Makes a session of the game with this digest in the attached store, which is empty. It shows this state, whose last
-    /// two bytes tell the piece's length, and this piece.
+    /// Makes a session of the game with this digest in the attached store, which is empty. It shows this state, whose
+    /// last two bytes tell the piece's length, and this piece.
     ///
     /// # Errors
     /// Write or Sync where that call of the stage failed. The store then stands for no session, or for that one.
@@ -46,17 +47,16 @@ impl Journal {
         requires empty { at.length ≡ 0 }
         requires piece_length { piece_length state.now ≡ length piece.now }
         ensures tells { S.Tells stage.old ↔ S.Tells stage.new }
-        ensures counts { Grows (S.faults stage.old) (S.faults stage.new) }
-        ensures cause { IfErr result (λ c. IsWriting c × Rose (S.faults stage.old c) (S.faults stage.new c)) }
+        ensures cause { IfErr result IsWriting }
         ensures faulted { Faulted (failed_call result) (S.faults stage.old) (S.faults stage.new) }
         ensures state { OnOk result (room.new.state ≡ state.now) }
         ensures piece { OnOk result (room.new.piece ≡ piece.now) }
-        ensures made { S.Tells stage.old → OnOk result ((S.standing stage.new).disk.bytes ≡ made_session game.now state.now piece.now) }
-        ensures shown { S.Tells stage.old → OnOk result (recover (S.standing stage.new).disk.bytes ≡ Shown game.now (take state_length state.now) piece.now) }
+        ensures made { S.Tells stage.old → OnOk result (HoldsMade game.now state.now piece.now (S.standing stage.new)) }
+        ensures shown { S.Tells stage.old → OnOk result (Shows game.now state.now piece.now (S.standing stage.new)) }
         ensures kept { S.Tells stage.old → IfOk result (λ journal. Keeps journal room.new (S.standing stage.new)) }
         ensures digest { S.Tells stage.old → OnOk result (kept_digest (S.standing stage.new).disk.bytes ≡ game.now) }
-        ensures beside { S.Tells stage.old → IsBeside (S.standing stage.old) (S.standing stage.new) }
-        ensures any_moment { S.Tells stage.old → Passes (S.clock stage.old) (S.clock stage.new) (S.since stage.old) (S.since stage.new) (InStore (S.standing stage.old) (Leaves (λ r. IsUnmade r ⊎ (r ≡ Shown game.now (take state_length state.now) piece.now)))) }
+        ensures beside { Across S.Stage stage.old stage.new IsBeside }
+        ensures any_moment { Throughout S.Stage stage.old stage.new (LeavesMade game.now state.now piece.now) }
     {
         room.hold(state, piece);
         room.lay_slot();
@@ -66,12 +66,12 @@ impl Journal {
         Ok(Journal { slot: Slot::First })
     }
 
-    /// Finds the session of the game with this digest in the attached store, and writes nothing. Its state and its piece
-    /// then stand in the room.
+    /// Finds the session of the game with this digest in the attached store, and writes nothing. Its state and its
+    /// piece then stand in the room.
     ///
     /// # Errors
-    /// Unmade where there is no session, Damaged at its first broken rule, WrongGame where its digest is another one. These
-    /// come in this order. Outside(Read) where a read failed.
+    /// Unmade where there is no session, Damaged at its first broken rule, WrongGame where its digest is another one.
+    /// These come in this order. Outside(Read) where a read failed.
     pub fn find<S: Stage>(
         stage: &mut S,
         room: &mut Room,
@@ -81,14 +81,13 @@ impl Journal {
         requires rests { S.Tells stage.old → IsAtRest (S.standing stage.old) }
         requires attached { S.Tells stage.old → at.length ≡ length (S.standing stage.old).disk.bytes }
         ensures tells { S.Tells stage.old ↔ S.Tells stage.new }
-        ensures counts { Grows (S.faults stage.old) (S.faults stage.new) }
-        ensures cause { IfErr result (IsCaused (S.faults stage.old) (S.faults stage.new)) }
+        ensures cause { IfErr result IsCaused }
         ensures faulted { Faulted (refused_call result) (S.faults stage.old) (S.faults stage.new) }
         ensures still { S.Tells stage.old → S.standing stage.new ≡ S.standing stage.old }
         ensures found { S.Tells stage.old → Finds (recover (S.standing stage.old).disk.bytes) game.now room.new result }
         ensures kept { S.Tells stage.old → IfOk result (λ journal. Keeps journal room.new (S.standing stage.new)) }
         ensures digest { S.Tells stage.old → OnOk result (kept_digest (S.standing stage.new).disk.bytes ≡ game.now) }
-        ensures time { S.Tells stage.old → Passes (S.clock stage.old) (S.clock stage.new) (S.since stage.old) (S.since stage.new) (Still (S.standing stage.old)) }
+        ensures time { Throughout S.Stage stage.old stage.new Still }
     {
         let header = read_header(stage, at.length)?;
         match room.read_slot(stage, header.slot) {
@@ -119,9 +118,9 @@ impl Journal {
         Ok(Journal { slot: header.slot })
     }
 
-    /// Makes the session show this state, whose last two bytes tell the piece's length, and this piece. Whatever a crash
-    /// leaves in the meantime shows the old pair or the new one. It writes little: what differs from the state of the slot
-    /// that isn't in use, and the piece.
+    /// Makes the session show this state, whose last two bytes tell the piece's length, and this piece. Whatever a
+    /// crash leaves in the meantime shows the old pair or the new one. It writes little: what differs from the state of
+    /// the slot that isn't in use, and the piece.
     ///
     /// # Errors
     /// Write or Sync where that call of the stage failed.
@@ -135,17 +134,16 @@ impl Journal {
         requires kept { S.Tells stage.old → Keeps self room.old (S.standing stage.old) }
         requires piece_length { piece_length state.now ≡ length piece.now }
         ensures tells { S.Tells stage.old ↔ S.Tells stage.new }
-        ensures counts { Grows (S.faults stage.old) (S.faults stage.new) }
-        ensures cause { IfErr result (λ c. IsWriting c × Rose (S.faults stage.old c) (S.faults stage.new c)) }
+        ensures cause { IfErr result IsWriting }
         ensures faulted { Faulted (failed_call result) (S.faults stage.old) (S.faults stage.new) }
-        ensures few { S.Tells stage.old → (S.standing stage.new).written ≤ (S.standing stage.old).written + most_written (kept_slot (slot (1 - slot_number self.slot) (S.standing stage.old).disk.bytes)) state.now piece.now }
+        ensures few { Across S.Stage stage.old stage.new (WritesLittle self.slot state.now piece.now) }
         ensures state { OnOk result (room.new.state ≡ state.now) }
         ensures piece { OnOk result (room.new.piece ≡ piece.now) }
-        ensures shown { S.Tells stage.old → OnOk result (recover (S.standing stage.new).disk.bytes ≡ Shown (kept_digest (S.standing stage.old).disk.bytes) (take state_length state.now) piece.now) }
+        ensures shown { Once S.Stage stage.old stage.new result (ShowsNext state.now piece.now) }
         ensures kept { S.Tells stage.old → IfOk result (λ journal. Keeps journal room.new (S.standing stage.new)) }
-        ensures digest { S.Tells stage.old → OnOk result (kept_digest (S.standing stage.new).disk.bytes ≡ kept_digest (S.standing stage.old).disk.bytes) }
-        ensures beside { S.Tells stage.old → IsBeside (S.standing stage.old) (S.standing stage.new) }
-        ensures any_moment { S.Tells stage.old → Passes (S.clock stage.old) (S.clock stage.new) (S.since stage.old) (S.since stage.new) (InStore (S.standing stage.old) (Leaves (IsEither (recover (S.standing stage.old).disk.bytes) (Shown (kept_digest (S.standing stage.old).disk.bytes) (take state_length state.now) piece.now)))) }
+        ensures digest { Once S.Stage stage.old stage.new result SameDigest }
+        ensures beside { Across S.Stage stage.old stage.new IsBeside }
+        ensures any_moment { Throughout S.Stage stage.old stage.new (LeavesOldOr state.now piece.now) }
     {
         let slot = self.slot.other();
         let draft = room.draft(slot, state);

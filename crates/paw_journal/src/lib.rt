@@ -1,5 +1,5 @@
-//! The journal of a session: a store of two slots, of which one shows the state and the piece of the last prompt. A commit
-//! is all or nothing, whatever a crash leaves.
+//! The journal of a session: a store of two slots, of which one shows the state and the piece of the last prompt. A
+//! commit is all or nothing, whatever a crash leaves.
 #![tactic(auto)]
 
 mod changes;

@@ -1,11 +1,11 @@
 // The steps of making a session: a store with byte 0 as 0, the rest of it, and then its mark.
 
-ghost use Rattle.std.specs.Prelude.{◌≡◌, ◌⊎◌, ◌↔◌, [], ◌∷◌, ◌++◌, length, drop, IsSome, OnOk, IfErr};
-ghost use Rattle.paw_stage.specs.Disk.{IsStable, stable};
-ghost use Rattle.paw_stage.specs.Stage.{Rose, Grows, Faulted};
-ghost use Rattle.paw_stage.specs.Moments.{Passes};
-ghost use Rattle.paw_journal.specs.Session.{recover, IsUnmade, session_length, header_length, slot_length, made_mark, made_header};
-ghost use Rattle.paw_journal.specs.Store.{IsBeside, InStore, Leaves};
+ghost use Rattle.std.specs.Prelude.{◌≡◌, ◌↔◌, [], ◌∷◌, length, IsSome, OnOk, IfErr};
+ghost use Rattle.paw_stage.specs.Stage.{Faulted};
+ghost use Rattle.paw_stage.specs.Across.{Across, Once, Throughout};
+ghost use Rattle.paw_journal.specs.Session.{session_length, header_length, slot_length, made_header, laid_session};
+ghost use Rattle.paw_journal.specs.Session.{marked};
+ghost use Rattle.paw_journal.specs.Store.{IsBeside, HoldsStable, LaysSlots, LeavesUnmade, LeavesMarked};
 ghost use Rattle.paw_journal.specs.Steps.{IsBlank};
 ghost use Rattle.paw_journal.specs.Journal.{IsAtRest, IsWriting, failed_call};
 
@@ -20,12 +20,11 @@ fn begin<S: Stage>(stage: &mut S) -> Result<(), StageCall>
     requires rests { S.Tells stage.old → IsAtRest (S.standing stage.old) }
     requires empty { S.Tells stage.old → length (S.standing stage.old).disk.bytes ≡ 0 }
     ensures tells { S.Tells stage.old ↔ S.Tells stage.new }
-    ensures counts { Grows (S.faults stage.old) (S.faults stage.new) }
-    ensures cause { IfErr result (λ c. IsWriting c × Rose (S.faults stage.old c) (S.faults stage.new c)) }
+    ensures cause { IfErr result IsWriting }
     ensures faulted { Faulted (failed_call result) (S.faults stage.old) (S.faults stage.new) }
     ensures blank { S.Tells stage.old → OnOk result (IsBlank (0 ∷ []) (S.standing stage.new).disk) }
-    ensures beside { S.Tells stage.old → IsBeside (S.standing stage.old) (S.standing stage.new) }
-    ensures any_moment { S.Tells stage.old → Passes (S.clock stage.old) (S.clock stage.new) (S.since stage.old) (S.since stage.new) (InStore (S.standing stage.old) (Leaves IsUnmade)) }
+    ensures beside { Across S.Stage stage.old stage.new IsBeside }
+    ensures any_moment { Throughout S.Stage stage.old stage.new LeavesUnmade }
 {
     write(stage, MARK_AT, &[0])?;
     sync(stage)
@@ -36,12 +35,11 @@ fn write_header<S: Stage>(stage: &mut S, game: &[u8; 32]) -> Result<(), StageCal
     requires attached { S.Tells stage.old → IsSome (S.standing stage.old).attached }
     requires blank { S.Tells stage.old → IsBlank (0 ∷ []) (S.standing stage.old).disk }
     ensures tells { S.Tells stage.old ↔ S.Tells stage.new }
-    ensures counts { Grows (S.faults stage.old) (S.faults stage.new) }
-    ensures cause { IfErr result (λ c. IsWriting c × Rose (S.faults stage.old c) (S.faults stage.new c)) }
+    ensures cause { IfErr result IsWriting }
     ensures faulted { Faulted (failed_call result) (S.faults stage.old) (S.faults stage.new) }
     ensures blank { S.Tells stage.old → OnOk result (IsBlank (made_header 0 game.now) (S.standing stage.new).disk) }
-    ensures beside { S.Tells stage.old → IsBeside (S.standing stage.old) (S.standing stage.new) }
-    ensures any_moment { S.Tells stage.old → Passes (S.clock stage.old) (S.clock stage.new) (S.since stage.old) (S.since stage.new) (InStore (S.standing stage.old) (Leaves IsUnmade)) }
+    ensures beside { Across S.Stage stage.old stage.new IsBeside }
+    ensures any_moment { Throughout S.Stage stage.old stage.new LeavesUnmade }
 {
     let header = header_of(game);
     write(stage, SELECTOR_AT, &header[1..])
@@ -65,19 +63,19 @@ fn write_slots<S: Stage>(stage: &mut S, bytes: &[u8]) -> Result<(), StageCall>
     requires header { S.Tells stage.old → length (S.standing stage.old).disk.bytes ≡ header_length }
     requires slot { length bytes.now ≡ slot_length }
     ensures tells { S.Tells stage.old ↔ S.Tells stage.new }
-    ensures counts { Grows (S.faults stage.old) (S.faults stage.new) }
-    ensures cause { IfErr result (λ c. IsWriting c × Rose (S.faults stage.old c) (S.faults stage.new c)) }
+    ensures cause { IfErr result IsWriting }
     ensures faulted { Faulted (failed_call result) (S.faults stage.old) (S.faults stage.new) }
-    ensures written { S.Tells stage.old → OnOk result ((S.standing stage.new).disk ≡ stable ((S.standing stage.old).disk.bytes ++ bytes.now ++ bytes.now)) }
-    ensures beside { S.Tells stage.old → IsBeside (S.standing stage.old) (S.standing stage.new) }
-    ensures any_moment { S.Tells stage.old → Passes (S.clock stage.old) (S.clock stage.new) (S.since stage.old) (S.since stage.new) (InStore (S.standing stage.old) (Leaves IsUnmade)) }
+    ensures written { Once S.Stage stage.old stage.new result (LaysSlots bytes.now) }
+    ensures beside { Across S.Stage stage.old stage.new IsBeside }
+    ensures any_moment { Throughout S.Stage stage.old stage.new LeavesUnmade }
 {
     write(stage, Slot::First.start(), bytes)?;
     write(stage, Slot::Second.start(), bytes)?;
     sync(stage)
 }
 
-/// Lays out a session of this game in the attached store, which is empty: all but its mark, with these bytes in both slots.
+/// Lays out a session of this game in the attached store, which is empty: all but its mark, with these bytes in both
+/// slots.
 pub(crate) fn lay_out<S: Stage>(
     stage: &mut S,
     game: &[u8; 32],
@@ -87,12 +85,11 @@ pub(crate) fn lay_out<S: Stage>(
     requires empty { S.Tells stage.old → length (S.standing stage.old).disk.bytes ≡ 0 }
     requires slot { length bytes.now ≡ slot_length }
     ensures tells { S.Tells stage.old ↔ S.Tells stage.new }
-    ensures counts { Grows (S.faults stage.old) (S.faults stage.new) }
-    ensures cause { IfErr result (λ c. IsWriting c × Rose (S.faults stage.old c) (S.faults stage.new c)) }
+    ensures cause { IfErr result IsWriting }
     ensures faulted { Faulted (failed_call result) (S.faults stage.old) (S.faults stage.new) }
-    ensures laid { S.Tells stage.old → OnOk result ((S.standing stage.new).disk ≡ stable (made_header 0 game.now ++ bytes.now ++ bytes.now)) }
-    ensures beside { S.Tells stage.old → IsBeside (S.standing stage.old) (S.standing stage.new) }
-    ensures any_moment { S.Tells stage.old → Passes (S.clock stage.old) (S.clock stage.new) (S.since stage.old) (S.since stage.new) (InStore (S.standing stage.old) (Leaves IsUnmade)) }
+    ensures laid { Once S.Stage stage.old stage.new result (λ old. HoldsStable (laid_session game.now bytes.now)) }
+    ensures beside { Across S.Stage stage.old stage.new IsBeside }
+    ensures any_moment { Throughout S.Stage stage.old stage.new LeavesUnmade }
 {
     begin(stage)?;
     write_header(stage, game)?;
@@ -104,12 +101,11 @@ pub(crate) fn mark<S: Stage>(stage: &mut S) -> Result<(), StageCall>
     requires rests { S.Tells stage.old → IsAtRest (S.standing stage.old) }
     requires long { S.Tells stage.old → length (S.standing stage.old).disk.bytes ≡ session_length }
     ensures tells { S.Tells stage.old ↔ S.Tells stage.new }
-    ensures counts { Grows (S.faults stage.old) (S.faults stage.new) }
-    ensures cause { IfErr result (λ c. IsWriting c × Rose (S.faults stage.old c) (S.faults stage.new c)) }
+    ensures cause { IfErr result IsWriting }
     ensures faulted { Faulted (failed_call result) (S.faults stage.old) (S.faults stage.new) }
-    ensures marked { S.Tells stage.old → OnOk result ((S.standing stage.new).disk ≡ stable (made_mark ∷ drop 1 (S.standing stage.old).disk.bytes)) }
-    ensures beside { S.Tells stage.old → IsBeside (S.standing stage.old) (S.standing stage.new) }
-    ensures any_moment { S.Tells stage.old → Passes (S.clock stage.old) (S.clock stage.new) (S.since stage.old) (S.since stage.new) (InStore (S.standing stage.old) (Leaves (λ r. IsUnmade r ⊎ (r ≡ recover (made_mark ∷ drop 1 (S.standing stage.old).disk.bytes))))) }
+    ensures marked { Once S.Stage stage.old stage.new result (λ old. HoldsStable (marked old.disk.bytes)) }
+    ensures beside { Across S.Stage stage.old stage.new IsBeside }
+    ensures any_moment { Throughout S.Stage stage.old stage.new LeavesMarked }
 {
     write(stage, MARK_AT, &[MADE])?;
     sync(stage)

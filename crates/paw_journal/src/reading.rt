@@ -1,9 +1,8 @@
 // The state of a slot that was read.
 
 ghost use Rattle.std.specs.Prelude.{◌≡◌, ◌++◌, ℕ, List, length, take, true, false, OnOk, OnErr, IfOk, IfErr};
-ghost use Rattle.paw_journal.specs.declared.refusal.SessionPart.TheVariants as part;
-ghost use Rattle.paw_journal.specs.Session.{slot_length, number_at, is_second, has_state, slot_state, slot_shows, first_length, zeros, Damaged};
-ghost use Rattle.paw_journal.specs.Room.{kept_slot};
+ghost use Rattle.paw_journal.specs.Session.{slot_length, is_second, has_state, IsDamagedAt, first_length, zeros};
+ghost use Rattle.paw_journal.specs.Room.{kept_slot, state_in};
 
 use crate::changes::apply;
 use crate::drafting::SlotState;
@@ -20,8 +19,8 @@ pub(crate) fn state_in(slot: &[u8]) -> Result<SlotState, u64>
     requires whole { length slot.now ≡ slot_length }
     ensures whole { OnOk result (has_state slot.now ≡ true) }
     ensures broken { OnErr result (has_state slot.now ≡ false) }
-    ensures value { IfOk result (λ kept. kept ≡ record { records = number_at 0 slot.now; state = slot_state slot.now }) }
-    ensures damaged { (digest : List ℕ) → IfErr result (λ at. slot_shows digest slot.now ≡ Damaged part.Slot at) }
+    ensures value { IfOk result (λ kept. kept ≡ state_in slot.now) }
+    ensures damaged { (digest : List ℕ) → IfErr result (IsDamagedAt digest slot.now) }
 {
     let count = number_at(slot, 0);
     if count > MOST_CHANGES {

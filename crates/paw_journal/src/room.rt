@@ -1,15 +1,16 @@
 // The buffers of a journal.
 
-ghost use Rattle.std.specs.Prelude.{true, ◌≡◌, ◌+◌, ◌≤◌, ◌↔◌, [], ◌∷◌, ◌++◌, ℕ, List, length, take, IsSome, OnOk, IfErr};
+ghost use Rattle.std.specs.Prelude.{true, ◌≡◌, ◌+◌, ◌≤◌, ◌↔◌, [], ◌∷◌, ◌++◌, ℕ, List, length, IsSome, OnOk, IfErr};
 ghost use Rattle.paw_base.specs.Piece.{piece_limit};
 ghost use Rattle.paw_stage.specs.declared.StageCall.TheVariants as call;
-ghost use Rattle.paw_stage.specs.Stage.{Rose, Grows, Faulted};
-ghost use Rattle.paw_stage.specs.Moments.{Passes, Still};
-ghost use Rattle.paw_journal.specs.declared.refusal.SessionPart.TheVariants as part;
-ghost use Rattle.paw_journal.specs.Session.{slot, slot_length, session_length, number_at, has_state, slot_state, slot_shows, state_length, Damaged, Shown, piece_length, stretch, zeros, made_slot};
-ghost use Rattle.paw_journal.specs.Room.{kept_slot, kept_of, with_kept};
+ghost use Rattle.paw_stage.specs.Stage.{Faulted};
+ghost use Rattle.paw_stage.specs.Moments.{Still};
+ghost use Rattle.paw_stage.specs.Across.{Throughout};
+ghost use Rattle.paw_journal.specs.Session.{slot_length, session_length, has_state, zeros, made_slot, IsDamagedAt};
+ghost use Rattle.paw_journal.specs.Room.{kept_slot, kept_of, with_kept, with_made, with_state, state_in};
+ghost use Rattle.paw_journal.specs.Room.{HasRead, ShowsSlot, KeepsRead};
 ghost use Rattle.paw_journal.specs.Steps.{Drafts};
-ghost use Rattle.paw_journal.specs.Journal.{slot_number, failed_call};
+ghost use Rattle.paw_journal.specs.Journal.{failed_call};
 
 use crate::drafting::{Draft, SlotState, draft_over};
 use crate::layout::{
@@ -41,7 +42,13 @@ impl Model for Room {
 
     ghost Value = { Room };
 
-    ghost view = { λ r. record { slot = r.slot.items; state = r.state; piece = r.piece.items; first = r.first; second = r.second } };
+    ghost view = { λ r. record {
+      slot = r.slot.items;
+      state = r.state;
+      piece = r.piece.items;
+      first = r.first;
+      second = r.second;
+    } };
 
     ghost invariant = { λ r. (slot_length ≤ vec_capacity r.slot) × (piece_limit ≤ vec_capacity r.piece) };
 }
@@ -115,7 +122,7 @@ impl Room {
 
     /// Keeps this state of both slots from now on, which are made with it.
     pub(crate) fn keep_made(&mut self, state: &[u8; 4096])
-        ensures value { self.new ≡ record self.old { first = Some (record { records = 0; state = state.now }); second = Some (record { records = 0; state = state.now }) } }
+        ensures value { self.new ≡ with_made state.now self.old }
     {
         self.first = Some(SlotState {
             records: 0,
@@ -192,14 +199,13 @@ impl Room {
         requires attached { S.Tells stage.old → IsSome (S.standing stage.old).attached }
         requires whole { S.Tells stage.old → length (S.standing stage.old).disk.bytes ≡ session_length }
         ensures tells { S.Tells stage.old ↔ S.Tells stage.new }
-        ensures counts { Grows (S.faults stage.old) (S.faults stage.new) }
-        ensures cause { IfErr result (λ c. (c ≡ call.Read) × Rose (S.faults stage.old c) (S.faults stage.new c)) }
+        ensures cause { IfErr result (λ c. c ≡ call.Read) }
         ensures faulted { Faulted (failed_call result) (S.faults stage.old) (S.faults stage.new) }
         ensures still { S.Tells stage.old → S.standing stage.new ≡ S.standing stage.old }
         ensures same { self.new ≡ record self.old { slot = self.new.slot } }
-        ensures read { S.Tells stage.old → OnOk result (self.new.slot ≡ slot (slot_number which) (S.standing stage.old).disk.bytes) }
+        ensures read { S.Tells stage.old → OnOk result (HasRead which (S.standing stage.old) self.new) }
         ensures length { length self.new.slot ≡ slot_length }
-        ensures time { S.Tells stage.old → Passes (S.clock stage.old) (S.clock stage.new) (S.since stage.old) (S.since stage.new) (Still (S.standing stage.old)) }
+        ensures time { Throughout S.Stage stage.old stage.new Still }
     {
         // The memory was taken by `new`.
         self.slot.resize(SLOT_LENGTH, 0).unwrap();
@@ -212,9 +218,9 @@ impl Room {
     /// The place in the slot of its first broken rule.
     pub(crate) fn unpack(&mut self, which: Slot) -> Result<(), u64>
         requires whole { length self.old.slot ≡ slot_length }
-        ensures shown { (digest : List ℕ) → OnOk result (slot_shows digest self.old.slot ≡ Shown digest (take state_length self.new.state) self.new.piece) }
-        ensures kept { OnOk result (self.new ≡ with_kept which (kept_slot self.old.slot) (record self.old { state = self.new.state; piece = self.new.piece })) }
-        ensures damaged { (digest : List ℕ) → IfErr result (λ at. slot_shows digest self.old.slot ≡ Damaged part.Slot at) }
+        ensures shown { (digest : List ℕ) → OnOk result (ShowsSlot digest self.old self.new) }
+        ensures kept { OnOk result (KeepsRead which self.old self.new) }
+        ensures damaged { (digest : List ℕ) → IfErr result (IsDamagedAt digest self.old.slot) }
     {
         let kept = state_in(self.slot())?;
         self.take_slot(which, kept);
@@ -225,9 +231,9 @@ impl Room {
     fn take_slot(&mut self, which: Slot, kept: SlotState)
         requires whole { length self.old.slot ≡ slot_length }
         requires sound { has_state self.old.slot ≡ true }
-        requires taken { kept ≡ record { records = number_at 0 self.old.slot; state = slot_state self.old.slot } }
-        ensures shown { (digest : List ℕ) → slot_shows digest self.old.slot ≡ Shown digest (take state_length self.new.state) self.new.piece }
-        ensures kept { self.new ≡ with_kept which (kept_slot self.old.slot) (record self.old { state = self.new.state; piece = self.new.piece }) }
+        requires taken { kept ≡ state_in self.old.slot }
+        ensures shown { (digest : List ℕ) → ShowsSlot digest self.old self.new }
+        ensures kept { KeepsRead which self.old self.new }
     {
         if is_current(self.slot()) {
             self.show(&kept.state);
@@ -250,7 +256,7 @@ impl Room {
     // Shows this state of the slot, and the slot's piece, whose length the state tells.
     fn show(&mut self, state: &[u8; 4096])
         requires whole { length self.old.slot ≡ slot_length }
-        ensures value { self.new ≡ record self.old { state = state.now; piece = stretch 4160 (piece_length state.now) self.old.slot } }
+        ensures value { self.new ≡ with_state state.now self.old }
     {
         let length = number_at(state, PIECE_LENGTH_AT);
         self.state = *state;

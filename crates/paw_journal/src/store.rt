@@ -1,11 +1,12 @@
 // The store that a session is kept in.
 
-ghost use Rattle.std.specs.Prelude.{◌≡◌, ◌⊎◌, ◌↔◌, ◌+◌, ◌≤◌, [], length, take, drop, Ok, None, IsSome, OnOk, OnErr, IfOk, IfErr};
+ghost use Rattle.std.specs.Prelude.{◌≡◌, ◌↔◌, ◌+◌, ◌≤◌, length, IsSome, OnOk, OnErr, IfOk, IfErr};
 ghost use Rattle.paw_stage.specs.declared.StageCall.TheVariants as call;
-ghost use Rattle.paw_stage.specs.Disk.{IsStable, stable, touched};
-ghost use Rattle.paw_stage.specs.Stage.{Rose, Grows, AttachesTo, WritesPart, wrote, Faulted};
-ghost use Rattle.paw_stage.specs.Moments.{Passes, Still, InAttach, InWrite, InSync};
-ghost use Rattle.paw_journal.specs.Store.{IsBeside};
+ghost use Rattle.paw_stage.specs.Disk.{IsStable};
+ghost use Rattle.paw_stage.specs.Stage.{Faulted, Unattached, WritesSome, WritesAtMost, part_of, with_written, settled};
+ghost use Rattle.paw_stage.specs.Moments.{Still, InAttach, InWrite, InSync};
+ghost use Rattle.paw_stage.specs.Across.{Across, Once, Throughout};
+ghost use Rattle.paw_journal.specs.Store.{IsBeside, Opens};
 ghost use Rattle.paw_journal.specs.Journal.{IsAtRest, failed_call};
 
 use paw_stage::{Stage, StageCall};
@@ -16,21 +17,21 @@ pub struct Attached {
     pub length: u64,
 }
 
-/// Makes the file of this name the attached store; a missing one is made empty. It is asked for while nothing is unsynced.
+/// Makes the file of this name the attached store; a missing one is made empty. It is asked for while nothing is
+/// unsynced.
 ///
 /// # Errors
 /// Attach where the call of the stage failed. The store attached before is then still attached, or none is.
 pub fn attach<S: Stage>(stage: &mut S, name: &str) -> Result<Attached, StageCall>
     requires synced { S.Tells stage.old → IsStable (S.standing stage.old).disk }
     ensures tells { S.Tells stage.old ↔ S.Tells stage.new }
-    ensures counts { Grows (S.faults stage.old) (S.faults stage.new) }
-    ensures cause { IfErr result (λ c. (c ≡ call.Attach) × Rose (S.faults stage.old c) (S.faults stage.new c)) }
+    ensures cause { IfErr result (λ c. c ≡ call.Attach) }
     ensures faulted { Faulted (failed_call result) (S.faults stage.old) (S.faults stage.new) }
-    ensures attached { S.Tells stage.old → IfOk result (λ at. AttachesTo (S.standing stage.old) (S.standing stage.new) name.now (Ok at.length)) }
+    ensures attached { S.Tells stage.old → IfOk result (Opens (S.standing stage.old) (S.standing stage.new) name.now) }
     ensures length { S.Tells stage.old → IfOk result (λ at. at.length ≡ length (S.standing stage.new).disk.bytes) }
     ensures rests { S.Tells stage.old → OnOk result (IsAtRest (S.standing stage.new)) }
-    ensures left { S.Tells stage.old → OnErr result ((S.standing stage.new ≡ S.standing stage.old) ⊎ (S.standing stage.new ≡ record (S.standing stage.old) { attached = None; disk = stable [] })) }
-    ensures time { S.Tells stage.old → Passes (S.clock stage.old) (S.clock stage.new) (S.since stage.old) (S.since stage.new) (InAttach (S.standing stage.old) (S.standing stage.new) name.now) }
+    ensures left { S.Tells stage.old → OnErr result (Unattached (S.standing stage.old) (S.standing stage.new)) }
+    ensures time { Throughout S.Stage stage.old stage.new (λ s. InAttach s (S.standing stage.new) name.now) }
 {
     match stage.attach(name) {
         Ok(length) => Ok(Attached { length }),
@@ -46,12 +47,11 @@ pub(crate) fn read<S: Stage>(stage: &mut S, at: u64, into: &mut [u8]) -> Result<
     requires attached { S.Tells stage.old → IsSome (S.standing stage.old).attached }
     requires within { S.Tells stage.old → at + length into.old ≤ length (S.standing stage.old).disk.bytes }
     ensures tells { S.Tells stage.old ↔ S.Tells stage.new }
-    ensures counts { Grows (S.faults stage.old) (S.faults stage.new) }
-    ensures cause { IfErr result (λ c. (c ≡ call.Read) × Rose (S.faults stage.old c) (S.faults stage.new c)) }
+    ensures cause { IfErr result (λ c. c ≡ call.Read) }
     ensures faulted { Faulted (failed_call result) (S.faults stage.old) (S.faults stage.new) }
     ensures still { S.Tells stage.old → S.standing stage.new ≡ S.standing stage.old }
-    ensures read { S.Tells stage.old → OnOk result (into.new ≡ take (length into.old) (drop at (S.standing stage.old).disk.bytes)) }
-    ensures time { S.Tells stage.old → Passes (S.clock stage.old) (S.clock stage.new) (S.since stage.old) (S.since stage.new) (Still (S.standing stage.old)) }
+    ensures read { S.Tells stage.old → OnOk result (into.new ≡ part_of (S.standing stage.old) at (length into.old)) }
+    ensures time { Throughout S.Stage stage.old stage.new Still }
 {
     match stage.read_at(at, into) {
         Ok(_) => Ok(()),
@@ -67,13 +67,12 @@ pub(crate) fn write<S: Stage>(stage: &mut S, at: u64, bytes: &[u8]) -> Result<()
     requires attached { S.Tells stage.old → IsSome (S.standing stage.old).attached }
     requires within { S.Tells stage.old → at ≤ length (S.standing stage.old).disk.bytes }
     ensures tells { S.Tells stage.old ↔ S.Tells stage.new }
-    ensures counts { Grows (S.faults stage.old) (S.faults stage.new) }
-    ensures cause { IfErr result (λ c. (c ≡ call.Write) × Rose (S.faults stage.old c) (S.faults stage.new c)) }
+    ensures cause { IfErr result (λ c. c ≡ call.Write) }
     ensures faulted { Faulted (failed_call result) (S.faults stage.old) (S.faults stage.new) }
-    ensures few { S.Tells stage.old → (S.standing stage.new).written ≤ (S.standing stage.old).written + length bytes.now }
-    ensures written { S.Tells stage.old → OnOk result (S.standing stage.new ≡ wrote (S.standing stage.old) (touched at (length bytes.now) bytes.now (S.standing stage.old).disk) (length bytes.now)) }
-    ensures part { S.Tells stage.old → OnErr result ((S.standing stage.new ≡ S.standing stage.old) ⊎ WritesPart (S.standing stage.old) (S.standing stage.new) at (length bytes.now)) }
-    ensures time { S.Tells stage.old → Passes (S.clock stage.old) (S.clock stage.new) (S.since stage.old) (S.since stage.new) (InWrite (S.standing stage.old) at (length bytes.now)) }
+    ensures few { Across S.Stage stage.old stage.new (WritesAtMost (length bytes.now)) }
+    ensures written { Once S.Stage stage.old stage.new result (λ old new. new ≡ with_written at bytes.now old) }
+    ensures part { Across S.Stage stage.old stage.new (λ old new. OnErr result (WritesSome old new at bytes.now)) }
+    ensures time { Throughout S.Stage stage.old stage.new (λ s. InWrite s at (length bytes.now)) }
 {
     match stage.write_at(at, bytes) {
         Ok(_) => Ok(()),
@@ -87,14 +86,13 @@ pub(crate) fn write<S: Stage>(stage: &mut S, at: u64, bytes: &[u8]) -> Result<()
 /// Sync where the call of the stage failed.
 pub(crate) fn sync<S: Stage>(stage: &mut S) -> Result<(), StageCall>
     ensures tells { S.Tells stage.old ↔ S.Tells stage.new }
-    ensures counts { Grows (S.faults stage.old) (S.faults stage.new) }
-    ensures cause { IfErr result (λ c. (c ≡ call.Sync) × Rose (S.faults stage.old c) (S.faults stage.new c)) }
+    ensures cause { IfErr result (λ c. c ≡ call.Sync) }
     ensures faulted { Faulted (failed_call result) (S.faults stage.old) (S.faults stage.new) }
     ensures few { S.Tells stage.old → (S.standing stage.new).written ≡ (S.standing stage.old).written }
-    ensures synced { S.Tells stage.old → OnOk result (S.standing stage.new ≡ record (S.standing stage.old) { disk = stable (S.standing stage.old).disk.bytes }) }
+    ensures synced { Once S.Stage stage.old stage.new result (λ old new. new ≡ settled old) }
     ensures part { S.Tells stage.old → OnErr result (S.standing stage.new ≡ S.standing stage.old) }
-    ensures beside { S.Tells stage.old → IsBeside (S.standing stage.old) (S.standing stage.new) }
-    ensures time { S.Tells stage.old → Passes (S.clock stage.old) (S.clock stage.new) (S.since stage.old) (S.since stage.new) (InSync (S.standing stage.old)) }
+    ensures beside { Across S.Stage stage.old stage.new IsBeside }
+    ensures time { Throughout S.Stage stage.old stage.new InSync }
 {
     match stage.sync() {
         Ok(_) => Ok(()),

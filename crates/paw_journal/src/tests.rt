@@ -284,8 +284,8 @@ fn takes<S: Stage>(
 #[test]
 fn a_commit_writes_what_differs(rt: HostRuntime) -> Result<(), Fail> {
     let mut room = Room::new(rt.alloc())?;
-    // The turns, how many bytes of the state change in each, how much is written in all, with the making, and what is found
-    // then. In two thousand turns the slots fill up, and a base is written whole 24 times in each.
+    // The turns, how many bytes of the state change in each, how much is written in all, with the making, and what is
+    // found then. In two thousand turns the slots fill up, and a base is written whole 24 times in each.
     for (turns, many, written, first) in [(100, 1, 173_397, 100), (2_000, 100, 1_163_705, 208)] {
         let mut stage = memory(rt.alloc(), b"")?;
         assert!(rt; many <= 1_000);

@@ -25,5 +25,5 @@ returns-clause-any_moment g c tells =
     (λ m. in_chosen _ s t m (slot_small c.args.which) (c.requires.long tells) (chose _ s t _ (c.requires.long tells) (c.requires.rests tells).stable (c.in_ok-write.ensures.written tells)))
 
 pub returns-clause-slots : goal.returns-clause-slots
-returns-clause-slots g c tells k low =
-    on_ok_weaker c.sync.result (chosen_slot _ _ _ (g.S.Stage.standing c.args.stage.now) (g.S.Stage.standing c.write.new.stage) (g.S.Stage.standing c.sync.new.stage) low (c.requires.long tells) (c.requires.rests tells).stable (c.in_ok-write.ensures.written tells)) (c.sync.ensures.synced (c.write.ensures.tells.0 tells))
+returns-clause-slots g c tells =
+    on_ok_weaker c.sync.result (λ q k low. chosen_slot _ _ _ (g.S.Stage.standing c.args.stage.now) (g.S.Stage.standing c.write.new.stage) (g.S.Stage.standing c.sync.new.stage) low (c.requires.long tells) (c.requires.rests tells).stable (c.in_ok-write.ensures.written tells) q) (c.sync.ensures.synced (c.write.ensures.tells.0 tells))

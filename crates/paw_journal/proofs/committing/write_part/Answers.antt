@@ -1,7 +1,7 @@
 use Rattle.std.proofs.Common.{◌≡◌, ◌+◌, ◌*◌, ◌∙◌, length, sym, eqb-true, arith}
 use Rattle.std.proofs.lemmas.Result.{on_ok_weaker}
 use Rattle.paw_stage.proofs.Time.{Passes_map}
-use Rattle.paw_journal.specs.Journal.{slot_number}
+use Rattle.paw_journal.specs.Room.{slot_number}
 use Rattle.paw_journal.specs.Session.{header_length, slot_length}
 use Rattle.paw_journal.proofs.Chooses.{slot_small}
 use Rattle.paw_journal.proofs.Fills.{filling_wrote, in_filling_write, wrote_slot, wrote_nothing}
@@ -13,9 +13,9 @@ returns-then-is_empty-clause-written g c tells =
     wrote_nothing _ _ _ _ (slot_small c.args.which) (c.requires.long tells) e c.requires.inside
 
 pub returns-clause-filling : goal.returns-clause-filling
-returns-clause-filling g c tells first h =
+returns-clause-filling g c tells =
     let e : c.start.result + c.args.at ≡ header_length + slot_length * slot_number c.args.which + c.args.at = omega (arith, c.start.ensures) in
-    on_ok_weaker c.write.result (filling_wrote _ _ _ _ first (g.S.Stage.standing c.args.stage.now) (g.S.Stage.standing c.write.new.stage) h e c.requires.inside) (c.write.ensures.written tells)
+    on_ok_weaker c.write.result (λ q first h. filling_wrote _ _ _ _ first (g.S.Stage.standing c.args.stage.now) (g.S.Stage.standing c.write.new.stage) h e c.requires.inside q) (c.write.ensures.written tells)
 
 pub returns-clause-written : goal.returns-clause-written
 returns-clause-written g c tells =

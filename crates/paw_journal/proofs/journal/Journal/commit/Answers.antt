@@ -1,8 +1,7 @@
 use Rattle.std.proofs.Common.{◌-◌, ◌≤◌, ◌∙◌, length, arith, sym, subst}
 use Rattle.paw_stage.proofs.Time.{Passes_map, Passes_on}
-use Rattle.paw_journal.specs.Room.{kept_of}
+use Rattle.paw_journal.specs.Room.{kept_of, slot_number}
 use Rattle.paw_journal.specs.Steps.{Drafts}
-use Rattle.paw_journal.specs.Journal.{slot_number}
 use Rattle.paw_journal.proofs.Recovers.{shown_made}
 use Rattle.paw_journal.proofs.Moved.{beside_none, beside_on}
 use Rattle.paw_journal.proofs.Chooses.{slot_small}

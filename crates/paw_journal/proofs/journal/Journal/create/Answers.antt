@@ -17,6 +17,11 @@ mark-requires-clause-long g c tells =
     let slots : c.slot.result.now ≡ made_slot c.args.state.now c.args.piece.now = c.slot.ensures.value ∙ (ap (λ r. r.slot) c.lay_slot.ensures.value ∙ ap (λ r. made_slot r.state r.piece) c.hold.ensures.value) in
     ap (λ d. length d.bytes) (c.in_ok-lay_out.ensures.laid (c.lay_out.ensures.tells.1 tells)) ∙ laid_long c.args.game.now c.slot.result.now c.told-game (ap length slots ∙ length_slot c.args.state.now c.args.piece.now c.told-state few)
 
+pub returns-in_err-lay_out-clause-any_moment : goal.returns-in_err-lay_out-clause-any_moment
+returns-in_err-lay_out-clause-any_moment g c tells =
+    let s = g.S.Stage.standing c.args.stage.now in
+    Passes_map _ _ _ _ _ _ (c.lay_out.ensures.any_moment tells) (λ m. in_unmade s _ m (beside_none s))
+
 pub returns-in_err-mark-clause-any_moment : goal.returns-in_err-mark-clause-any_moment
 returns-in_err-mark-clause-any_moment g c tells =
     let few : length c.args.piece.now ≤ 65535 = short_piece c.args.state.now c.args.piece.now c.fits-state c.requires.piece_length in

@@ -2,7 +2,7 @@ use Rattle.std.proofs.Common.{◌∙◌, ap, sym, refl}
 use Rattle.std.proofs.lemmas.Result.{err_from_is_err_and}
 use Rattle.std.specs.Prelude.{take}
 use Rattle.paw_journal.specs.Session.{Shown, state_length, slot, kept_digest}
-use Rattle.paw_journal.specs.Journal.{slot_number}
+use Rattle.paw_journal.specs.Room.{slot_number}
 use Rattle.paw_journal.proofs.Sessions.{introduced_shows, still_on, other_game, same_game, found_keeps, found_slots, shown_stays}
 use Rattle.paw_journal.proofs.journal.Journal.find.Goals as goal
 
