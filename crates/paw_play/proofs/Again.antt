@@ -4,17 +4,15 @@ use Rattle.std.proofs.lemmas.List.{append-nil}
 use Rattle.paw_effects.specs.Story.{Story}
 use Rattle.paw_game.specs.Valid.{Valid}
 use Rattle.paw_stage.specs.Disk.{MayLeave, stable}
-use Rattle.paw_stage.specs.Stage.{Standing}
+use Rattle.paw_stage.specs.Stage.{Standing, Faulted}
 use Rattle.paw_stage.specs.Moments.{Moment, moment_of, InAttach, Still}
 use Rattle.paw_reading.specs.Turn.{text_of}
 use Rattle.paw_journal.specs.Session.{recover}
 use Rattle.paw_state.specs.State.{State}
-use Rattle.paw_stage.specs.Stage.{Rose, Grows, Faulted}
 use Rattle.paw_stage.specs.declared.StageCall.{StageCall}
 use Rattle.paw_journal.specs.Journal.{IsRefused, IsCaused, outside}
 use Rattle.paw_journal.specs.declared.refusal.JournalRefusal.{JournalRefusal}
 use Rattle.paw_journal.specs.declared.refusal.JournalRefusal.TheVariants as refusal
-use Rattle.paw_stage.proofs.Counted.{Rose_after}
 use Rattle.paw_play.specs.Calls.{IfOutside, IsSessionCall, failed_call}
 use Rattle.paw_play.specs.Session.{IsKept}
 use Rattle.paw_play.specs.Play.{InPlay, InAgain, ShowsState, attached_to, store_bytes, going_on, kept_session, PlaysAgain, refused, unread}
@@ -67,18 +65,19 @@ module _ (g : Story) (digest name : List ℕ) (st : State) (piece : List ℕ) (o
 
 -- ---- where there is no session ----
 
-pub refused_again : (g : Story) (digest name : List ℕ) (old new : Standing) (before after : StageCall → ℕ) (r : JournalRefusal) → IsRefused (recover (store_bytes old name)) digest r → IsCaused before after r →
-    new ≡ attached_to old name → PlaysAgain g digest name old new (end_of r)
-refused_again g digest name old new before after (refusal.Unmade n mark) h c e = refused (refusal.Unmade n mark) h e
-refused_again g digest name old new before after (refusal.Damaged part at) h c e = refused (refusal.Damaged part at) h e
-refused_again g digest name old new before after (refusal.WrongGame kept found) h c e = refused (refusal.WrongGame kept found) h e
-refused_again g digest name old new before after (refusal.Outside q) h c e = rw c.0 (unread e)
+module _ (g : Story) (digest name : List ℕ) (old new : Standing) where
+  pub refused_again : (r : JournalRefusal) → IsRefused (recover (store_bytes old name)) digest r → IsCaused r →
+      new ≡ attached_to old name → PlaysAgain g digest name old new (end_of r)
+  refused_again (refusal.Unmade n mark) h c e = refused (refusal.Unmade n mark) h e
+  refused_again (refusal.Damaged part at) h c e = refused (refusal.Damaged part at) h e
+  refused_again (refusal.WrongGame kept found) h c e = refused (refusal.WrongGame kept found) h e
+  refused_again (refusal.Outside q) h c e = rw c (unread e)
 
-pub outside_again : (first before after : StageCall → ℕ) (r : JournalRefusal) → Grows first before → IsCaused before after r → IfOutside (end_of r) (λ c. IsSessionCall c × Rose (first c) (after c))
-outside_again first before after (refusal.Unmade n mark) grows c = tt
-outside_again first before after (refusal.Damaged part at) grows c = tt
-outside_again first before after (refusal.WrongGame kept found) grows c = tt
-outside_again first before after (refusal.Outside q) grows c = (rw c.0 tt, Rose_after (first q) (before q) (after q) (grows q) c.1)
+pub outside_again : (r : JournalRefusal) → IsCaused r → IfOutside (end_of r) IsSessionCall
+outside_again (refusal.Unmade n mark) c = tt
+outside_again (refusal.Damaged part at) c = tt
+outside_again (refusal.WrongGame kept found) c = tt
+outside_again (refusal.Outside q) c = rw c tt
 
 -- a search that found no session came to its end by the call that failed
 pub refused_faults : (r : JournalRefusal) (before after : StageCall → ℕ) → Faulted (outside r) before after → Faulted (failed_call (end_of r)) before after

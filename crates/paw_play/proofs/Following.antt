@@ -1,9 +1,8 @@
 -- What holds over calls that follow each other.
 use Rattle.std.proofs.Common.{◌≡◌, ℕ, ◌+◌, List, sym, subst}
-use Rattle.paw_stage.specs.Stage.{Standing, Rose, Grows}
+use Rattle.paw_stage.specs.Stage.{Standing}
 use Rattle.paw_stage.specs.declared.StageCall.{StageCall}
 use Rattle.paw_stage.specs.declared.StageCall.TheVariants as call
-use Rattle.paw_stage.proofs.Counted.{Rose_after}
 use Rattle.paw_journal.specs.declared.journal.Journal.{Journal}
 use Rattle.paw_journal.specs.declared.refusal.JournalRefusal.TheVariants as refusal
 use Rattle.paw_journal.specs.Room.{Room}
@@ -34,14 +33,7 @@ walk_is_play call.Write h = tt
 walk_is_play call.Sync h = tt
 walk_is_play _ h = h
 
-module _ (first before after : StageCall → ℕ) (grows : Grows first before) where
-  -- its count rose since an earlier call
-  pub outside_since : (o : PlayEnd) → IfOutside o (λ c. IsPlayCall c × Rose (before c) (after c)) → IfOutside o (λ c. IsPlayCall c × Rose (first c) (after c))
-  outside_since (end.Outside q) h = (h.0, Rose_after (first q) (before q) (after q) (grows q) h.1)
-  outside_since (end.Refused (refusal.Outside q)) h = h
-  outside_since _ h = tt
-
-  pub outside_walk : (o : PlayEnd) → IfOutside o (λ c. IsWalkCall c × Rose (before c) (after c)) → IfOutside o (λ c. IsPlayCall c × Rose (first c) (after c))
-  outside_walk (end.Outside q) h = (walk_is_play q h.0, Rose_after (first q) (before q) (after q) (grows q) h.1)
-  outside_walk (end.Refused (refusal.Outside q)) h = h
-  outside_walk _ h = tt
+pub outside_walk : (o : PlayEnd) → IfOutside o IsWalkCall → IfOutside o IsPlayCall
+outside_walk (end.Outside q) h = walk_is_play q h
+outside_walk (end.Refused (refusal.Outside q)) h = h
+outside_walk _ h = tt

@@ -1,7 +1,7 @@
 -- What the store of a session keeps, moment by moment and at its end.
 --
--- Here `Kept n bytes` says that these bytes of the store keep the first n lines that are left when a call begins, and `told n`
--- is the text for them. `past` is the number of lines that the session took before.
+-- Here `Kept n bytes` says that these bytes of the store keep the first n lines that are left when a call begins, and
+-- `told n` is the text for them. `past` is the number of lines that the session took before.
 use Rattle.std.specs.Prelude.{◌≡◌, ◌≢◌, ◌⊎◌, ℕ, zero, suc, ◌+◌, ◌≤◌, List, ◌++◌, length, Some}
 use Rattle.paw_stage.specs.Disk.{MayLeave, IsStable}
 use Rattle.paw_stage.specs.Stage.{Standing}
@@ -26,9 +26,9 @@ abbrev pub KeepsUpWith : (ℕ → List ℕ → Type 0) → (ℕ → List ℕ) �
 KeepsUpWith Kept told zero text bytes = AgreesWith Kept told zero text bytes
 KeepsUpWith Kept told (suc n) text bytes = AgreesWith Kept told (suc n) text bytes ⊎ AgreesWith Kept told n text bytes
 
--- A moment at which a session stands. Since the call began n lines were taken, and a text was shown that holds the text for all
--- but the last of them. Whatever a crash leaves of the store keeps up with them, and the text is a first part of what it keeps. No
--- other file has changed.
+-- A moment at which a session stands. Since the call began n lines were taken, and a text was shown that holds the text
+-- for all but the last of them. Whatever a crash leaves of the store keeps up with them, and the text is a first part
+-- of what it keeps. No other file has changed.
 pub record InSession (Kept : ℕ → List ℕ → Type 0) (told : ℕ → List ℕ) (past : ℕ) (name : List ℕ) (old : Standing) (m : Moment) : Type 0 where
   pub taken : ℕ
   pub text : List ℕ
@@ -42,8 +42,8 @@ pub record InSession (Kept : ℕ → List ℕ → Type 0) (told : ℕ → List �
   pub files : (n : List ℕ) → n ≢ name → m.files n ≡ old.files n
   pub leaves : (image : List ℕ) → MayLeave m.disk image → KeepsUpWith Kept told taken text image
 
--- A moment at which a session is made: whatever a crash leaves of the store is no session, or keeps no lines yet. Nothing was
--- asked or shown, and no other file has changed.
+-- A moment at which a session is made: whatever a crash leaves of the store is no session, or keeps no lines yet.
+-- Nothing was asked or shown, and no other file has changed.
 pub record InMakingOf (Kept : ℕ → List ℕ → Type 0) (name : List ℕ) (old : Standing) (m : Moment) : Type 0 where
   pub asked : m.asked ≡ old.asked
   pub shown : m.shown ≡ old.shown
@@ -51,8 +51,8 @@ pub record InMakingOf (Kept : ℕ → List ℕ → Type 0) (name : List ℕ) (ol
   pub files : (n : List ℕ) → n ≢ name → m.files n ≡ old.files n
   pub leaves : (image : List ℕ) → MayLeave m.disk image → IsUnmade (recover image) ⊎ Kept 0 image
 
--- The store is attached and at rest: a crash leaves just its bytes, which are those of its file. They keep n lines, and no other
--- file has changed.
+-- The store is attached and at rest: a crash leaves just its bytes, which are those of its file. They keep n lines, and
+-- no other file has changed.
 pub record RestsWith (Kept : ℕ → List ℕ → Type 0) (past : ℕ) (name : List ℕ) (old new : Standing) (n : ℕ) : Type 0 where
   pub there : n ≤ length old.lines
   pub few : past + n ≤ MOST_EVENTS

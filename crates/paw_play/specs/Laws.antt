@@ -33,15 +33,16 @@ StandingGoesOn =
 
 -- ---- rounds ----
 
--- A round: a session is taken up again, where this stood; and at this moment it comes to its end or a crash, and these bytes are
--- left of its store
+-- A round: a session is taken up again, where this stood; and at this moment it comes to its end or a crash, and these
+-- bytes are left of its store
 pub record Round : Type 0 where
   pub name : List ℕ
   pub old : Standing
   pub moment : Moment
   pub left : List ℕ
 
--- a round over a store of some bytes is such that its moment is one of a session, for whatever lines the store stands for
+-- a round over a store of some bytes is such that its moment is one of a session, for whatever lines the store stands
+-- for
 pub record IsRound (g : Story) (seed : ℕ) (bytes : List ℕ) (r : Round) : Type 0 where
   pub over : store_bytes r.old r.name ≡ bytes
   pub lines : All AreBytes r.old.lines

@@ -1,12 +1,17 @@
 -- What stands on the way, inside a call.
-use Rattle.std.specs.Prelude.{◌≡◌, ◌≢◌, ℕ, suc, ◌-◌, ◌<◌, ◌≤◌, List, [], ◌++◌, length, take, flat_map, reverse, Option, Some, None, Result, Ok, Err}
+use Rattle.std.specs.Prelude.{◌≡◌, ◌≢◌, ◌⊎◌, ℕ, suc, ◌+◌, ◌-◌, ◌<◌, ◌≤◌, List, [], ◌++◌, length, take, flat_map}
+use Rattle.std.specs.Prelude.{reverse, Option, Some, None, Result, Ok, Err}
+use Rattle.std.specs.Fn.{Shared}
 use Rattle.paw_base.specs.Steps.{KeptSteps}
 use Rattle.paw_base.specs.declared.limits.TheConstants.{STEP_LIMIT}
 use Rattle.paw_stage.specs.Disk.{IsStable}
 use Rattle.paw_stage.specs.Stage.{Standing}
 use Rattle.paw_stage.specs.Moments.{Moment}
 use Rattle.paw_stage.specs.declared.StageCall.TheVariants as call
-use Rattle.paw_effects.specs.Story.{Story}
+use Rattle.paw_game.specs.Game.{GameLists}
+use Rattle.paw_routines.specs.Routines.{AreRowsOf}
+use Rattle.paw_routines.specs.declared.routines.Routines.{Routines}
+use Rattle.paw_effects.specs.Story.{Story, story_of}
 use Rattle.paw_effects.specs.declared.act.Prompt.{Prompt}
 use Rattle.paw_effects.specs.declared.act.Prompt.TheVariants as prompt
 use Rattle.paw_reading.specs.Run.{Run, Step as Read}
@@ -16,7 +21,8 @@ use Rattle.paw_turn.specs.Player.{Seat, run_at}
 use Rattle.paw_turn.specs.Parts.{prompt_at}
 use Rattle.paw_turn.specs.declared.Step.{Step}
 use Rattle.paw_turn.specs.declared.Step.TheVariants as step
-use Rattle.paw_journal.specs.Session.{kept_digest}
+use Rattle.paw_journal.specs.Session.{Recovered, Shown, recover, kept_digest}
+use Rattle.paw_journal.specs.Store.{InStore, Leaves, IsEither}
 use Rattle.paw_journal.specs.declared.refusal.JournalRefusal.{JournalRefusal}
 use Rattle.paw_journal.specs.declared.refusal.JournalRefusal.TheVariants as refusal
 use Rattle.paw_state.specs.State.{state_of}
@@ -27,7 +33,7 @@ use Rattle.paw_play.specs.Session.{kept_bytes}
 use Rattle.paw_play.specs.Walk.{Reading, first_lines, played, joined, text_before, Walks}
 use Rattle.paw_play.specs.Traces.{step_line, more_line, traced_pieces, traced}
 use Rattle.paw_play.specs.Keeping.{InMakingOf, RestsWith}
-use Rattle.paw_play.specs.Play.{Played, KeptBy, PlaysOn, PlaysIn, with_store}
+use Rattle.paw_play.specs.Play.{Played, KeptBy, InPlay, PlaysOn, PlaysIn, with_store}
 
 -- ---- a walk ----
 
@@ -35,8 +41,8 @@ use Rattle.paw_play.specs.Play.{Played, KeptBy, PlaysOn, PlaysIn, with_store}
 abbrev pub seat_state : {F : Type 0} → ℕ → Seat F → List ℕ
 seat_state events p = kept_bytes (state_of p.world p.machine p.pending (prompt_at p.last) events (length p.piece))
 
--- the walk is at a prompt: n lines were taken, these pieces were shown, and whatever lines come, the reading of all goes
--- on from the player
+-- the walk is at a prompt: n lines were taken, these pieces were shown, and whatever lines come, the reading of all
+-- goes on from the player
 pub record IsWalking {F : Type 0} (g : Story) (whole : Reading) (old now : Standing) (seat : Seat F) (n : ℕ) : Type 0 where
   pub prompt : Prompt
   pub waits : seat.last ≡ step.Waits prompt
@@ -61,9 +67,9 @@ refusal_of step.Ended = None
 refusal_of (step.Spent kind) = Some (end.Spent kind)
 refusal_of (step.TooDeep table) = Some (end.TooDeep table)
 
--- what showing a step's piece does: it is shown where the player waits or is over, and then no other line may be asked for
--- where it is over; nothing is shown of a piece that is spent or of a call too deep; or a part is shown of a piece that isn't
--- empty, and the call failed
+-- what showing a step's piece does: it is shown where the player waits or is over, and then no other line may be asked
+-- for where it is over; nothing is shown of a piece that is spent or of a call too deep; or a part is shown of a piece
+-- that isn't empty, and the call failed
 abbrev pub Told : Standing → Standing → List ℕ → Step → Option PlayEnd → Type 0
 Told old new piece s None = (p : Prompt) × (s ≡ step.Waits p) × (new ≡ record old { shown = old.shown ++ piece })
 Told old new piece s (Some end.Ended) = (s ≡ step.Ended) × (new ≡ record old { shown = old.shown ++ piece })
@@ -133,8 +139,8 @@ InMaking s old m = InMakingOf (KeptBy s old.lines) s.name old m
 abbrev pub PlaysInStore : Played → Standing → Standing → PlayEnd → Type 0
 PlaysInStore s old new o = PlaysIn (KeptBy s old.lines) s.whole s.name old new o
 
--- The session is at a prompt: the walk is, the store keeps all lines that were taken, and the text of the last piece came
--- last.
+-- The session is at a prompt: the walk is, the store keeps all lines that were taken, and the text of the last piece
+-- came last.
 pub record IsPlaying {F : Type 0} (g : Story) (s : Played) (first now : Standing) (seat : Seat F) (n : ℕ) : Type 0 where
   pub walking : IsWalking g s.whole (with_store now first) now seat n
   pub rests : Rests s first now n
@@ -179,3 +185,38 @@ end_of (refusal.Unmade n mark) = end.Refused (refusal.Unmade n mark)
 end_of (refusal.Damaged part at) = end.Refused (refusal.Damaged part at)
 end_of (refusal.WrongGame kept found) = end.Refused (refusal.WrongGame kept found)
 end_of (refusal.Outside c) = end.Outside c
+
+-- ---- facts of what is under way ----
+
+-- a fact of the game's story, whatever rows stand for its routines
+abbrev pub EachStory : {F : Type 0} → Shared F (ℕ × (ℕ × Unit {0})) ℕ → Routines F → GameLists →
+    (Story → Type 0) → Type 0
+EachStory calls routines game Holds = (X : List (List ℕ)) → AreRowsOf calls routines X → Holds (story_of game X)
+
+-- a fact of each session that is at its prompt with this player, after so many lines in all: n were taken since `first`
+-- stood, of at most `most`
+abbrev pub EachPlaying : {F : Type 0} → Story → Seat F → ℕ → Standing → (Played → ℕ → ℕ → Standing → Type 0) → Type 0
+EachPlaying g seat events now Holds =
+    (s : Played) (most n : ℕ) (first : Standing) → IsPlaying g s first now seat n → events ≡ s.before + n → n < most →
+    Holds s most n first
+
+-- a fact of each session that is at the prompt that it begins at or is taken up at, after so many lines in all
+abbrev pub EachStarting : {F : Type 0} → Story → Seat F → ℕ → Standing → (Played → Standing → Type 0) → Type 0
+EachStarting g seat events now Holds =
+    (s : Played) (first : Standing) → IsPlaying g s first now seat 0 → events ≡ s.before → Holds s first
+
+-- a moment at which a new session is made or played
+abbrev pub InNew : Played → Standing → Moment → Type 0
+InNew s old m = InMaking s old m ⊎ InPlay s old m
+
+-- what the session of a store shows that a player was committed to, after so many lines
+abbrev pub committed : {F : Type 0} → ℕ → Seat F → Standing → Recovered
+committed events seat s = Shown (kept_digest s.disk.bytes) (seat_state events seat) seat.piece
+
+-- the player was committed to the session
+abbrev pub Commits : {F : Type 0} → ℕ → Seat F → Standing → Standing → Type 0
+Commits events seat old new = recover new.disk.bytes ≡ committed events seat old
+
+-- a moment at which a crash leaves what the session showed before, or the player
+abbrev pub InCommit : {F : Type 0} → ℕ → Seat F → Standing → Moment → Type 0
+InCommit events seat old m = InStore old (Leaves (IsEither (recover old.disk.bytes) (committed events seat old))) m

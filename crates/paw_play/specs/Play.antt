@@ -1,7 +1,6 @@
 -- What playing with a session comes to, and what stands at each moment of it.
 use Rattle.std.specs.Prelude.{take, ◌∷◌, ◌-◌, ◌≡◌, ◌≢◌, ◌⊎◌, ℕ, suc, ◌+◌, ◌<◌, ◌≤◌, List, [], length, Some, None}
-use Rattle.paw_stage.specs.Disk.{stable}
-use Rattle.paw_stage.specs.Stage.{Standing, bytes_or_none, made_if_missing}
+use Rattle.paw_stage.specs.Stage.{Standing, Unattached, file_bytes, made_if_missing, opened}
 use Rattle.paw_stage.specs.Moments.{Moment}
 use Rattle.paw_stage.specs.declared.StageCall.{StageCall}
 use Rattle.paw_stage.specs.declared.StageCall.TheVariants as call
@@ -36,8 +35,8 @@ abbrev pub Uncommitted : Reading → ℕ → Standing → Standing → Type 0
 Uncommitted whole most old new =
     (n : ℕ) × (n < most) × (suc n ≤ length old.lines) × (new ≡ played (with_store new old) (suc n) (text_of (whole (first_lines n old.lines))))
 
--- the lines that were taken and the text that was shown, where playing on came to this: as in a walk, but that a commit may
--- fail
+-- the lines that were taken and the text that was shown, where playing on came to this: as in a walk, but that a commit
+-- may fail
 abbrev pub ShowsAs : Reading → ℕ → Standing → Standing → PlayEnd → Type 0
 ShowsAs whole most old new (end.Outside call.Write) = Uncommitted whole most old new
 ShowsAs whole most old new (end.Outside call.Sync) = Uncommitted whole most old new
@@ -52,22 +51,14 @@ pub record PlaysWith (Kept : ℕ → List ℕ → Type 0) (whole : Reading) (pas
 
 -- the bytes of the store of this name
 abbrev pub store_bytes : Standing → List ℕ → List ℕ
-store_bytes s name = bytes_or_none (s.files name)
+store_bytes s name = file_bytes s name
 
 -- what stands once the store of this name is attached
 abbrev pub attached_to : Standing → List ℕ → Standing
-attached_to old name = record old {
-  files = made_if_missing name (old.files name) old.files;
-  attached = Some name;
-  disk = stable (store_bytes old name);
-}
+attached_to old name = opened name old
 
--- a store that couldn't be attached: nothing changed, or no store is attached any more
-abbrev pub Unattached : Standing → Standing → Type 0
-Unattached old new = (new ≡ old) ⊎ (new ≡ record old { attached = None; disk = stable [] })
-
--- A moment at which the store isn't attached yet: nothing was asked or shown, and no file has changed, but that the store's
--- may be there, empty.
+-- A moment at which the store isn't attached yet: nothing was asked or shown, and no file has changed, but that the
+-- store's may be there, empty.
 pub record NotYet (name : List ℕ) (old : Standing) (m : Moment) : Type 0 where
   pub asked : m.asked ≡ old.asked
   pub shown : m.shown ≡ old.shown
@@ -107,8 +98,8 @@ InGame g seed name old m =
 
 -- ---- a session that is taken up again, by the lines of its game ----
 
--- What taking up a session again comes to where its store stands for these lines of its game. It is never refused: its last piece
--- is shown again, and it goes on as the reading of those lines and more.
+-- What taking up a session again comes to where its store stands for these lines of its game. It is never refused: its
+-- last piece is shown again, and it goes on as the reading of those lines and more.
 pub data GoesOn (g : Story) (seed : ℕ) (es : List (List ℕ)) (name : List ℕ) (old new : Standing) : PlayEnd → Type 0 where
   unattached : Unattached old new → GoesOn g seed es name old new (end.Outside call.Attach)
   unread : new ≡ attached_to old name → GoesOn g seed es name old new (end.Outside call.Read)
@@ -176,8 +167,8 @@ Refuses digest bytes (refusal.WrongGame kept found) =
     (state : List ℕ) × (piece : List ℕ) × (recover bytes ≡ Shown kept state piece) × (kept ≢ digest) × (found ≡ digest)
 Refuses digest bytes (refusal.Outside c) = ⊥
 
--- What taking up the session of the attached store comes to. Where it shows a state of the game, its piece is shown again and
--- it is played on.
+-- What taking up the session of the attached store comes to. Where it shows a state of the game, its piece is shown
+-- again and it is played on.
 pub data PlaysUp (g : Story) (digest name : List ℕ) (old new : Standing) : PlayEnd → Type 0 where
   memory : new ≡ old → PlaysUp g digest name old new end.Memory
   -- the bytes that the session shows, and any behind them, are no state of the game

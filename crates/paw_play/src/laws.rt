@@ -13,8 +13,8 @@ pub fn standing_goes_on()
     ensures goes_on { StandingGoesOn }
 {}
 
-/// After any number of rounds, each over what the one before left, the store stands for the lines of all rounds, with the
-/// last line of each kept or left out.
+/// After any number of rounds, each over what the one before left, the store stands for the lines of all rounds, with
+/// the last line of each kept or left out.
 pub fn rounds_stand()
     ensures rounds { RoundsStand }
 {}

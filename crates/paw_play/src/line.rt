@@ -1,17 +1,17 @@
 // Playing with a session: each line is taken, committed and then shown.
 
-ghost use Rattle.std.specs.Prelude.{◌≡◌, ◌+◌, ◌*◌, ◌<◌, ◌≤◌, ◌^◌, ◌↔◌, ℕ, List, take, length, OnOk, IfOk, IfErr};
-ghost use Rattle.paw_stage.specs.Stage.{Standing, Rose, Grows, Faulted};
-ghost use Rattle.paw_stage.specs.Moments.{Passes};
-ghost use Rattle.paw_routines.specs.Routines.{AreRowsOf, HaveRows};
-ghost use Rattle.paw_effects.specs.Story.{story_of};
-ghost use Rattle.paw_turn.specs.Player.{Seat, IsSeated};
+ghost use Rattle.std.specs.Prelude.{◌≡◌, ◌+◌, ◌<◌, ◌≤◌, ◌^◌, ◌↔◌, take, length, IfOk, IfErr};
+ghost use Rattle.paw_stage.specs.Stage.{Faulted};
+ghost use Rattle.paw_stage.specs.Across.{Across, Once, EachMoment, Throughout};
+ghost use Rattle.paw_routines.specs.Routines.{HaveRows};
+ghost use Rattle.paw_turn.specs.Player.{IsSeated};
 ghost use Rattle.paw_turn.specs.Parts.{IsStanding};
-ghost use Rattle.paw_journal.specs.Session.{recover, Shown, kept_digest, state_length, piece_length};
-ghost use Rattle.paw_journal.specs.Store.{IsBeside, InStore, Leaves, IsEither};
+ghost use Rattle.paw_journal.specs.Session.{state_length, piece_length};
+ghost use Rattle.paw_journal.specs.Store.{IsBeside};
+ghost use Rattle.paw_journal.specs.Steps.{SameDigest};
 ghost use Rattle.paw_journal.specs.Journal.{Keeps, IsWriting, failed_call};
-ghost use Rattle.paw_play.specs.Play.{Played, InPlay};
-ghost use Rattle.paw_play.specs.OnTheWay.{seat_state, IsPlaying, PlaysTo};
+ghost use Rattle.paw_play.specs.Play.{InPlay};
+ghost use Rattle.paw_play.specs.OnTheWay.{EachStory, EachPlaying, Commits, InCommit, seat_state, PlaysTo};
 ghost use Rattle.paw_play.specs.Calls.{IfOutside, IsPlayCall, failed_or};
 ghost use Rattle.paw_play.specs.declared.TheConstants.{MOST_EVENTS};
 
@@ -63,15 +63,13 @@ fn commit<S: Stage, T: Tables, F: Fn(u8, u8) -> u8>(
     requires standing { IsStanding player.now.last }
     requires kept { S.Tells stage.old → Keeps journal room.old (S.standing stage.old) }
     ensures tells { S.Tells stage.old ↔ S.Tells stage.new }
-    ensures counts { Grows (S.faults stage.old) (S.faults stage.new) }
     ensures faulted { Faulted (failed_call result) (S.faults stage.old) (S.faults stage.new) }
-    ensures cause { IfErr result (λ c. IsWriting c × Rose (S.faults stage.old c) (S.faults stage.new c)) }
-    ensures shown { S.Tells stage.old → OnOk result (recover (S.standing stage.new).disk.bytes ≡ Shown (kept_digest (S.standing stage.old).disk.bytes) (seat_state events player.now) player.now.piece) }
+    ensures cause { IfErr result IsWriting }
+    ensures shown { Once S.Stage stage.old stage.new result (Commits events player.now) }
     ensures kept { S.Tells stage.old → IfOk result (λ kept. Keeps kept room.new (S.standing stage.new)) }
-    ensures digest { S.Tells stage.old → OnOk result (kept_digest (S.standing stage.new).disk.bytes ≡ kept_digest (S.standing stage.old).disk.bytes) }
-    ensures beside { S.Tells stage.old → IsBeside (S.standing stage.old) (S.standing stage.new) }
-    ensures any_moment { S.Tells stage.old → Passes (S.clock stage.old) (S.clock stage.new) (S.since stage.old) (S.since stage.new) (InStore (S.standing stage.old)
-        (Leaves (IsEither (recover (S.standing stage.old).disk.bytes) (Shown (kept_digest (S.standing stage.old).disk.bytes) (seat_state events player.now) player.now.piece)))) }
+    ensures digest { Once S.Stage stage.old stage.new result SameDigest }
+    ensures beside { Across S.Stage stage.old stage.new IsBeside }
+    ensures any_moment { Throughout S.Stage stage.old stage.new (InCommit events player.now) }
 {
     let mut state = [0u8; STATE_ROOM];
     put_state(player, events, &mut state);
@@ -95,17 +93,18 @@ pub(crate) fn play_line<S: Stage, T: Tables, F: Fn(u8, u8) -> u8>(
     ensures routines { player.new.routines ≡ player.old.routines }
     ensures draws { player.new.world.draws ≤ player.old.world.draws + 200000 }
     ensures tells { S.Tells stage.old ↔ S.Tells stage.new }
-    ensures counts { Grows (S.faults stage.old) (S.faults stage.new) }
     ensures faulted { Faulted (failed_or result) (S.faults stage.old) (S.faults stage.new) }
-    ensures outside { IfErr result (λ o. IfOutside o (λ c. IsPlayCall c × Rose (S.faults stage.old c) (S.faults stage.new c))) }
+    ensures outside { IfErr result (λ o. IfOutside o IsPlayCall) }
     ensures events { IfOk result (λ next. next.events ≡ session.events + 1) }
     ensures kept { S.Tells stage.old → IfOk result (λ next. Keeps next.journal room.new (S.standing stage.new)) }
-    ensures meaning { S.Tells stage.old → (X : List (List ℕ)) → AreRowsOf F.Fn player.old.routines X → (s : Played) (most n : ℕ) (first : Standing) →
-        IsPlaying (story_of player.old.game X) s first (S.standing stage.old) player.old n → session.events ≡ s.before + n → n < most →
-        PlaysTo (story_of player.old.game X) s most first (S.standing stage.new) player.new n result }
-    ensures any_moment { S.Tells stage.old → (X : List (List ℕ)) → AreRowsOf F.Fn player.old.routines X → (s : Played) (most n : ℕ) (first : Standing) →
-        IsPlaying (story_of player.old.game X) s first (S.standing stage.old) player.old n → session.events ≡ s.before + n → n < most →
-        Passes (S.clock stage.old) (S.clock stage.new) (S.since stage.old) (S.since stage.new) (InPlay s first) }
+    ensures meaning { Across S.Stage stage.old stage.new (λ old new.
+        EachStory F.Fn player.old.routines player.old.game (λ g.
+        EachPlaying g player.old session.events old (λ s most n first.
+        PlaysTo g s most first new player.new n result))) }
+    ensures any_moment { Across S.Stage stage.old stage.new (λ old new.
+        EachStory F.Fn player.old.routines player.old.game (λ g.
+        EachPlaying g player.old session.events old (λ s most n first.
+        EachMoment S.Stage stage.old stage.new (InPlay s first)))) }
 {
     let mut line = [0u8; 255];
     let step = match stage.ask(&mut line) {

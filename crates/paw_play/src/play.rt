@@ -1,18 +1,16 @@
 // Playing a new session.
 
-ghost use Rattle.std.specs.Prelude.{◌≡◌, ◌⊎◌, ◌+◌, ◌-◌, ◌*◌, ◌<◌, ◌≤◌, ◌^◌, ◌↔◌, ℕ, [], List, length, IfOk, IfErr, Some};
+ghost use Rattle.std.specs.Prelude.{◌≡◌, ◌+◌, ◌-◌, ◌*◌, ◌≤◌, ◌↔◌, ℕ, [], List, length, IfOk, IfErr};
 ghost use Rattle.sha2.specs.Sha256.{sha256};
 ghost use Rattle.paw_game.specs.Image.{image};
 ghost use Rattle.paw_stage.specs.Disk.{IsStable};
-ghost use Rattle.paw_stage.specs.Stage.{Standing, Rose, Grows, Faulted};
-ghost use Rattle.paw_stage.specs.Moments.{Moment, Passes};
-ghost use Rattle.paw_routines.specs.Routines.{AreRowsOf, HaveRows};
-ghost use Rattle.paw_effects.specs.Story.{story_of};
-ghost use Rattle.paw_reading.specs.Turn.{reading};
+ghost use Rattle.paw_stage.specs.Stage.{Faulted};
+ghost use Rattle.paw_stage.specs.Across.{Across, EachMoment};
+ghost use Rattle.paw_routines.specs.Routines.{HaveRows};
 ghost use Rattle.paw_turn.specs.Player.{IsSeated, IsNew};
 ghost use Rattle.paw_journal.specs.Journal.{IsAtRest, Keeps};
-ghost use Rattle.paw_play.specs.Play.{Played, InPlay, InGame, PlaysOn, PlaysGame, store_bytes};
-ghost use Rattle.paw_play.specs.OnTheWay.{InMaking, IsPlaying, PlaysInStore, Begins, IsStore, new_session};
+ghost use Rattle.paw_play.specs.Play.{InPlay, InGame, PlaysOn, PlaysGame, store_bytes};
+ghost use Rattle.paw_play.specs.OnTheWay.{EachStory, EachStarting, InNew, PlaysInStore, Begins, IsStore, new_session};
 ghost use Rattle.paw_play.specs.Calls.{IfOutside, IsPlayCall, IsSessionCall, failed_call, failed_or};
 ghost use Rattle.paw_play.specs.declared.TheConstants.{MOST_EVENTS};
 
@@ -40,15 +38,16 @@ pub(crate) fn play_lines<S: Stage, T: Tables, F: Fn(u8, u8) -> u8>(
     requires draws { player.old.world.draws ≤ 200000 * (session.events + 1) }
     requires kept { S.Tells stage.old → Keeps session.journal room.old (S.standing stage.old) }
     ensures tells { S.Tells stage.old ↔ S.Tells stage.new }
-    ensures counts { Grows (S.faults stage.old) (S.faults stage.new) }
     ensures faulted { Faulted (failed_call result) (S.faults stage.old) (S.faults stage.new) }
-    ensures outside { IfOutside result (λ c. IsPlayCall c × Rose (S.faults stage.old c) (S.faults stage.new c)) }
-    ensures meaning { S.Tells stage.old → (X : List (List ℕ)) → AreRowsOf F.Fn player.old.routines X → (s : Played) (first : Standing) →
-        IsPlaying (story_of player.old.game X) s first (S.standing stage.old) player.old 0 → session.events ≡ s.before →
-        PlaysOn s (MOST_EVENTS - s.before) first (S.standing stage.new) result }
-    ensures any_moment { S.Tells stage.old → (X : List (List ℕ)) → AreRowsOf F.Fn player.old.routines X → (s : Played) (first : Standing) →
-        IsPlaying (story_of player.old.game X) s first (S.standing stage.old) player.old 0 → session.events ≡ s.before →
-        Passes (S.clock stage.old) (S.clock stage.new) (S.since stage.old) (S.since stage.new) (InPlay s first) }
+    ensures outside { IfOutside result IsPlayCall }
+    ensures meaning { Across S.Stage stage.old stage.new (λ old new.
+        EachStory F.Fn player.old.routines player.old.game (λ g.
+        EachStarting g player.old session.events old (λ s first.
+        PlaysOn s (MOST_EVENTS - s.before) first new result))) }
+    ensures any_moment { Across S.Stage stage.old stage.new (λ old new.
+        EachStory F.Fn player.old.routines player.old.game (λ g.
+        EachStarting g player.old session.events old (λ s first.
+        EachMoment S.Stage stage.old stage.new (InPlay s first)))) }
 {
     let mut session = session;
     for _ in session.events..MOST_EVENTS {
@@ -81,17 +80,16 @@ fn begin<S: Stage, T: Tables, F: Fn(u8, u8) -> u8>(
     ensures routines { player.new.routines ≡ player.old.routines }
     ensures draws { player.new.world.draws ≤ 200000 }
     ensures tells { S.Tells stage.old ↔ S.Tells stage.new }
-    ensures counts { Grows (S.faults stage.old) (S.faults stage.new) }
     ensures faulted { Faulted (failed_or result) (S.faults stage.old) (S.faults stage.new) }
-    ensures outside { IfErr result (λ o. IfOutside o (λ c. IsPlayCall c × Rose (S.faults stage.old c) (S.faults stage.new c))) }
+    ensures outside { IfErr result (λ o. IfOutside o IsPlayCall) }
     ensures events { IfOk result (λ session. session.events ≡ 0) }
     ensures kept { S.Tells stage.old → IfOk result (λ session. Keeps session.journal room.new (S.standing stage.new)) }
-    ensures meaning { S.Tells stage.old → (X : List (List ℕ)) → AreRowsOf F.Fn player.old.routines X → (name : List ℕ) → IsStore name (S.standing stage.old) →
-        Begins (story_of player.old.game X) (new_session (story_of player.old.game X) player.old.world.seed game.now name) (S.standing stage.old) (S.standing stage.new) player.new result }
-    ensures any_moment { S.Tells stage.old → (X : List (List ℕ)) → AreRowsOf F.Fn player.old.routines X → (name : List ℕ) → IsStore name (S.standing stage.old) →
-        Passes (S.clock stage.old) (S.clock stage.new) (S.since stage.old) (S.since stage.new)
-        (λ m. InMaking (new_session (story_of player.old.game X) player.old.world.seed game.now name) (S.standing stage.old) m
-        ⊎ InPlay (new_session (story_of player.old.game X) player.old.world.seed game.now name) (S.standing stage.old) m) }
+    ensures meaning { Across S.Stage stage.old stage.new (λ old new.
+        EachStory F.Fn player.old.routines player.old.game (λ g. (name : List ℕ) → IsStore name old →
+        Begins g (new_session g player.old.world.seed game.now name) old new player.new result)) }
+    ensures any_moment { Across S.Stage stage.old stage.new (λ old new.
+        EachStory F.Fn player.old.routines player.old.game (λ g. (name : List ℕ) → IsStore name old →
+        EachMoment S.Stage stage.old stage.new (InNew (new_session g player.old.world.seed game.now name) old))) }
 {
     let step = player.start();
     if let Some(end) = refused(step) {
@@ -124,15 +122,14 @@ fn play_in<S: Stage, T: Tables, F: Fn(u8, u8) -> u8>(
     requires rests { S.Tells stage.old → IsAtRest (S.standing stage.old) }
     requires attached { S.Tells stage.old → at.length ≡ length (S.standing stage.old).disk.bytes }
     ensures tells { S.Tells stage.old ↔ S.Tells stage.new }
-    ensures counts { Grows (S.faults stage.old) (S.faults stage.new) }
     ensures faulted { Faulted (failed_call result) (S.faults stage.old) (S.faults stage.new) }
-    ensures outside { IfOutside result (λ c. IsPlayCall c × Rose (S.faults stage.old c) (S.faults stage.new c)) }
-    ensures plays { S.Tells stage.old → (X : List (List ℕ)) → AreRowsOf F.Fn routines.now X → (name : List ℕ) → IsStore name (S.standing stage.old) →
-        PlaysInStore (new_session (story_of (T.game tables.now) X) seed game.now name) (S.standing stage.old) (S.standing stage.new) result }
-    ensures any_moment { S.Tells stage.old → (X : List (List ℕ)) → AreRowsOf F.Fn routines.now X → (name : List ℕ) → IsStore name (S.standing stage.old) →
-        Passes (S.clock stage.old) (S.clock stage.new) (S.since stage.old) (S.since stage.new)
-        (λ m. InMaking (new_session (story_of (T.game tables.now) X) seed game.now name) (S.standing stage.old) m
-        ⊎ InPlay (new_session (story_of (T.game tables.now) X) seed game.now name) (S.standing stage.old) m) }
+    ensures outside { IfOutside result IsPlayCall }
+    ensures plays { Across S.Stage stage.old stage.new (λ old new.
+        EachStory F.Fn routines.now (T.game tables.now) (λ g. (name : List ℕ) → IsStore name old →
+        PlaysInStore (new_session g seed game.now name) old new result)) }
+    ensures any_moment { Across S.Stage stage.old stage.new (λ old new.
+        EachStory F.Fn routines.now (T.game tables.now) (λ g. (name : List ℕ) → IsStore name old →
+        EachMoment S.Stage stage.old stage.new (InNew (new_session g seed game.now name) old))) }
 {
     let Ok(mut room) = Room::new(alloc) else {
         return PlayEnd::Memory;
@@ -146,9 +143,10 @@ fn play_in<S: Stage, T: Tables, F: Fn(u8, u8) -> u8>(
     }
 }
 
-/// Plays a game from its start, with a session of it in the file of this name, which is missing or empty: shows the piece
-/// before the first line, and then a piece for each line, until the game is over or no line is left. Each piece is committed
-/// before it is shown. `game` is the digest of the game's image. Memory is taken before anything is written.
+/// Plays a game from its start, with a session of it in the file of this name, which is missing or empty: shows the
+/// piece before the first line, and then a piece for each line, until the game is over or no line is left. Each piece
+/// is committed before it is shown. `game` is the digest of the game's image. Memory is taken before anything is
+/// written.
 pub fn play_loop<S: Stage, T: Tables, F: Fn(u8, u8) -> u8>(
     alloc: Global,
     stage: &mut S,
@@ -162,14 +160,13 @@ pub fn play_loop<S: Stage, T: Tables, F: Fn(u8, u8) -> u8>(
     requires game { game.now ≡ sha256 (image (T.game tables.now)) }
     requires synced { S.Tells stage.old → IsStable (S.standing stage.old).disk }
     ensures tells { S.Tells stage.old ↔ S.Tells stage.new }
-    ensures counts { Grows (S.faults stage.old) (S.faults stage.new) }
     ensures faulted { Faulted (failed_call result) (S.faults stage.old) (S.faults stage.new) }
-    ensures outside { IfOutside result (λ c. IsSessionCall c × Rose (S.faults stage.old c) (S.faults stage.new c)) }
-    ensures plays { S.Tells stage.old → (X : List (List ℕ)) → AreRowsOf F.Fn routines.now X →
-        PlaysGame (story_of (T.game tables.now) X) seed name.now (S.standing stage.old) (S.standing stage.new) result }
-    ensures any_moment { S.Tells stage.old → (X : List (List ℕ)) → AreRowsOf F.Fn routines.now X → store_bytes (S.standing stage.old) name.now ≡ [] →
-        Passes (S.clock stage.old) (S.clock stage.new) (S.since stage.old) (S.since stage.new)
-        (InGame (story_of (T.game tables.now) X) seed name.now (S.standing stage.old)) }
+    ensures outside { IfOutside result IsSessionCall }
+    ensures plays { Across S.Stage stage.old stage.new (λ old new.
+        EachStory F.Fn routines.now (T.game tables.now) (λ g. PlaysGame g seed name.now old new result)) }
+    ensures any_moment { Across S.Stage stage.old stage.new (λ old new.
+        EachStory F.Fn routines.now (T.game tables.now) (λ g. store_bytes old name.now ≡ [] →
+        EachMoment S.Stage stage.old stage.new (InGame g seed name.now old))) }
 {
     let at = match attach(stage, name) {
         Ok(at) => at,

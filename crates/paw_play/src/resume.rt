@@ -1,21 +1,19 @@
 // Taking up a session again.
 
-ghost use Rattle.std.specs.Prelude.{◌≡◌, ◌⊎◌, ◌+◌, ◌-◌, ◌*◌, ◌<◌, ◌≤◌, ◌^◌, ◌↔◌, ℕ, [], List, length, take, IfOk, IfErr, IfSome, Some};
+ghost use Rattle.std.specs.Prelude.{◌≡◌, ◌↔◌, ℕ, List, IfSome};
 ghost use Rattle.sha2.specs.Sha256.{sha256};
 ghost use Rattle.paw_game.specs.Image.{image};
 ghost use Rattle.paw_stage.specs.Disk.{IsStable};
-ghost use Rattle.paw_stage.specs.Stage.{Standing, Rose, Grows, Faulted};
-ghost use Rattle.paw_stage.specs.Moments.{Passes, InShow};
-ghost use Rattle.paw_routines.specs.Routines.{AreRowsOf, HaveRows};
-ghost use Rattle.paw_effects.specs.Story.{story_of};
+ghost use Rattle.paw_stage.specs.Stage.{Faulted};
+ghost use Rattle.paw_stage.specs.Across.{Across, EachMoment, Throughout};
+ghost use Rattle.paw_stage.specs.Moments.{InShow};
+ghost use Rattle.paw_routines.specs.Routines.{HaveRows};
 ghost use Rattle.paw_state.specs.State.{State};
-ghost use Rattle.paw_turn.specs.Player.{IsSeated};
 ghost use Rattle.paw_journal.specs.Session.{kept_digest};
-ghost use Rattle.paw_journal.specs.Journal.{IsAtRest, Keeps};
-ghost use Rattle.paw_play.specs.Play.{Played, InPlay, InAgain, PlaysUp, PlaysAgain, ShowsState, kept_session, store_bytes};
-ghost use Rattle.paw_play.specs.OnTheWay.{IsPlaying, IsStore, ShowsAgain, end_of};
+ghost use Rattle.paw_journal.specs.Journal.{Keeps};
+ghost use Rattle.paw_play.specs.Play.{InPlay, InAgain, PlaysUp, PlaysAgain, ShowsState, kept_session, store_bytes};
+ghost use Rattle.paw_play.specs.OnTheWay.{EachStory, IsStore, ShowsAgain, end_of};
 ghost use Rattle.paw_play.specs.Calls.{IfOutside, IsPlayCall, IsSessionCall, failed_call, failed_so_far};
-ghost use Rattle.paw_play.specs.declared.TheConstants.{MOST_EVENTS};
 
 use crate::PlayEnd;
 use crate::line::Session;
@@ -33,11 +31,10 @@ use std::alloc::Global;
 /// Shows the last piece of a session again. None where the session waits for a line; else what playing it comes to.
 fn show_again<S: Stage>(stage: &mut S, piece: &[u8], prompt: Prompt) -> Option<PlayEnd>
     ensures tells { S.Tells stage.old ↔ S.Tells stage.new }
-    ensures counts { Grows (S.faults stage.old) (S.faults stage.new) }
     ensures faulted { Faulted (failed_so_far result) (S.faults stage.old) (S.faults stage.new) }
-    ensures outside { IfSome result (λ o. IfOutside o (λ c. IsPlayCall c × Rose (S.faults stage.old c) (S.faults stage.new c))) }
-    ensures meaning { S.Tells stage.old → ShowsAgain (S.standing stage.old) (S.standing stage.new) piece.now prompt result }
-    ensures time { S.Tells stage.old → Passes (S.clock stage.old) (S.clock stage.new) (S.since stage.old) (S.since stage.new) (InShow (S.standing stage.old) piece.now) }
+    ensures outside { IfSome result (λ o. IfOutside o IsPlayCall) }
+    ensures meaning { Across S.Stage stage.old stage.new (λ old new. ShowsAgain old new piece.now prompt result) }
+    ensures time { Throughout S.Stage stage.old stage.new (λ s. InShow s piece.now) }
 {
     if show(stage, piece).is_err() {
         return Some(PlayEnd::Outside(StageCall::Show));
@@ -73,16 +70,16 @@ fn take_up<S: Stage, T: Tables, F: Fn(u8, u8) -> u8>(
     requires rows { HaveRows F.Fn routines.now }
     requires kept { S.Tells stage.old → Keeps journal room.old (S.standing stage.old) }
     ensures tells { S.Tells stage.old ↔ S.Tells stage.new }
-    ensures counts { Grows (S.faults stage.old) (S.faults stage.new) }
     ensures faulted { Faulted (failed_call result) (S.faults stage.old) (S.faults stage.new) }
-    ensures outside { IfOutside result (λ c. IsPlayCall c × Rose (S.faults stage.old c) (S.faults stage.new c)) }
-    ensures plays { S.Tells stage.old → (X : List (List ℕ)) → AreRowsOf F.Fn routines.now X → (name : List ℕ) → IsStore name (S.standing stage.old) →
-        PlaysUp (story_of (T.game tables.now) X) (kept_digest (S.standing stage.old).disk.bytes) name (S.standing stage.old) (S.standing stage.new) result }
-    ensures any_moment { S.Tells stage.old → (X : List (List ℕ)) → AreRowsOf F.Fn routines.now X → (name : List ℕ) → IsStore name (S.standing stage.old) →
-        (st : State) (piece : List ℕ) →
-        ShowsState (T.game tables.now) (kept_digest (S.standing stage.old).disk.bytes) (S.standing stage.old).disk.bytes st piece →
-        Passes (S.clock stage.old) (S.clock stage.new) (S.since stage.old) (S.since stage.new)
-        (InPlay (kept_session (story_of (T.game tables.now) X) st piece (kept_digest (S.standing stage.old).disk.bytes) name) (S.standing stage.old)) }
+    ensures outside { IfOutside result IsPlayCall }
+    ensures plays { Across S.Stage stage.old stage.new (λ old new.
+        EachStory F.Fn routines.now (T.game tables.now) (λ g. (name : List ℕ) → IsStore name old →
+        PlaysUp g (kept_digest old.disk.bytes) name old new result)) }
+    ensures any_moment { Across S.Stage stage.old stage.new (λ old new.
+        EachStory F.Fn routines.now (T.game tables.now) (λ g. (name : List ℕ) → IsStore name old →
+        (st : State) (piece : List ℕ) → ShowsState g.game (kept_digest old.disk.bytes) old.disk.bytes st piece →
+        EachMoment S.Stage stage.old stage.new
+        (InPlay (kept_session g st piece (kept_digest old.disk.bytes) name) old))) }
 {
     let restored = match read_state(tables, room.state()) {
         Ok(restored) => restored,
@@ -107,8 +104,8 @@ fn take_up<S: Stage, T: Tables, F: Fn(u8, u8) -> u8>(
     play_lines(stage, &mut player, room, Session { journal, events })
 }
 
-/// Takes up the session of a game that stands in the file of this name: shows its last piece again, and goes on from its
-/// prompt as `play_loop` does; a session that is over asks nothing. `game` is the digest of the game's image.
+/// Takes up the session of a game that stands in the file of this name: shows its last piece again, and goes on from
+/// its prompt as `play_loop` does; a session that is over asks nothing. `game` is the digest of the game's image.
 pub fn resume_loop<S: Stage, T: Tables, F: Fn(u8, u8) -> u8>(
     alloc: Global,
     stage: &mut S,
@@ -121,15 +118,14 @@ pub fn resume_loop<S: Stage, T: Tables, F: Fn(u8, u8) -> u8>(
     requires game { game.now ≡ sha256 (image (T.game tables.now)) }
     requires synced { S.Tells stage.old → IsStable (S.standing stage.old).disk }
     ensures tells { S.Tells stage.old ↔ S.Tells stage.new }
-    ensures counts { Grows (S.faults stage.old) (S.faults stage.new) }
     ensures faulted { Faulted (failed_call result) (S.faults stage.old) (S.faults stage.new) }
-    ensures outside { IfOutside result (λ c. IsSessionCall c × Rose (S.faults stage.old c) (S.faults stage.new c)) }
-    ensures plays { S.Tells stage.old → (X : List (List ℕ)) → AreRowsOf F.Fn routines.now X →
-        PlaysAgain (story_of (T.game tables.now) X) game.now name.now (S.standing stage.old) (S.standing stage.new) result }
-    ensures any_moment { S.Tells stage.old → (X : List (List ℕ)) → AreRowsOf F.Fn routines.now X → (st : State) (piece : List ℕ) →
-        ShowsState (T.game tables.now) game.now (store_bytes (S.standing stage.old) name.now) st piece →
-        Passes (S.clock stage.old) (S.clock stage.new) (S.since stage.old) (S.since stage.new)
-        (InAgain (kept_session (story_of (T.game tables.now) X) st piece game.now name.now) (S.standing stage.old)) }
+    ensures outside { IfOutside result IsSessionCall }
+    ensures plays { Across S.Stage stage.old stage.new (λ old new.
+        EachStory F.Fn routines.now (T.game tables.now) (λ g. PlaysAgain g game.now name.now old new result)) }
+    ensures any_moment { Across S.Stage stage.old stage.new (λ old new.
+        EachStory F.Fn routines.now (T.game tables.now) (λ g.
+        (st : State) (piece : List ℕ) → ShowsState g.game game.now (store_bytes old name.now) st piece →
+        EachMoment S.Stage stage.old stage.new (InAgain (kept_session g st piece game.now name.now) old))) }
 {
     // Its clause says that the game is valid, which the proof wants. No call of it is left in the program.
     let _counts = tables.counts();

@@ -1,17 +1,17 @@
 // A walk that shows what was read.
 
-ghost use Rattle.std.specs.Prelude.{◌≡◌, ◌+◌, ◌<◌, ◌≤◌, ◌^◌, ◌↔◌, ◌++◌, ℕ, List, length, take, IfSome, decimal};
+ghost use Rattle.std.specs.Prelude.{◌≡◌, ◌+◌, ◌<◌, ◌≤◌, ◌^◌, ◌↔◌, ◌++◌, ℕ, length, take, IfSome, decimal};
 ghost use Rattle.paw_base.specs.Piece.{Puts, piece_limit};
 ghost use Rattle.paw_base.specs.Condacts.{name_of};
 ghost use Rattle.paw_base.specs.declared.limits.TheConstants.{STEP_LIMIT};
-ghost use Rattle.paw_routines.specs.Routines.{AreRowsOf, HaveRows};
-ghost use Rattle.paw_effects.specs.Story.{story_of};
-ghost use Rattle.paw_stage.specs.Stage.{Standing, Rose, Grows, Faulted};
+ghost use Rattle.paw_routines.specs.Routines.{HaveRows};
+ghost use Rattle.paw_stage.specs.Stage.{Standing, Faulted};
+ghost use Rattle.paw_stage.specs.Across.{Across};
 ghost use Rattle.paw_reading.specs.Turn.{reading};
 ghost use Rattle.paw_turn.specs.Player.{IsSeated};
 ghost use Rattle.paw_play.specs.Walk.{Reading, Walks};
 ghost use Rattle.paw_play.specs.Traces.{place_text, answer_text, step_line, more_line, traced};
-ghost use Rattle.paw_play.specs.OnTheWay.{IsTracing, TracesOn, Told, kept_text, seat_text};
+ghost use Rattle.paw_play.specs.OnTheWay.{EachStory, IsTracing, TracesOn, Told, kept_text, seat_text};
 ghost use Rattle.paw_play.specs.Calls.{IfOutside, IsWalkCall, failed_call, failed_so_far};
 ghost use Rattle.paw_play.specs.declared.TheConstants.{MOST_EVENTS};
 
@@ -128,10 +128,9 @@ fn told_behind_steps<S: Stage, T: Tables, F: Fn(u8, u8) -> u8>(
 ) -> Option<PlayEnd>
     requires last { player.now.last ≡ step }
     ensures tells { S.Tells stage.old ↔ S.Tells stage.new }
-    ensures counts { Grows (S.faults stage.old) (S.faults stage.new) }
     ensures faulted { Faulted (failed_so_far result) (S.faults stage.old) (S.faults stage.new) }
-    ensures outside { IfSome result (λ o. IfOutside o (λ c. IsWalkCall c × Rose (S.faults stage.old c) (S.faults stage.new c))) }
-    ensures meaning { S.Tells stage.old → Told (S.standing stage.old) (S.standing stage.new) (seat_text player.now) step result }
+    ensures outside { IfSome result (λ o. IfOutside o IsWalkCall) }
+    ensures meaning { Across S.Stage stage.old stage.new (λ old new. Told old new (seat_text player.now) step result) }
 {
     if let Some(end) = refused(step) {
         return Some(end);
@@ -157,12 +156,12 @@ fn trace_line<S: Stage, T: Tables, F: Fn(u8, u8) -> u8>(
     ensures routines { player.new.routines ≡ player.old.routines }
     ensures draws { player.new.world.draws ≤ player.old.world.draws + 200000 }
     ensures tells { S.Tells stage.old ↔ S.Tells stage.new }
-    ensures counts { Grows (S.faults stage.old) (S.faults stage.new) }
     ensures faulted { Faulted (failed_so_far result) (S.faults stage.old) (S.faults stage.new) }
-    ensures outside { IfSome result (λ o. IfOutside o (λ c. IsWalkCall c × Rose (S.faults stage.old c) (S.faults stage.new c))) }
-    ensures meaning { S.Tells stage.old → (X : List (List ℕ)) → AreRowsOf F.Fn player.old.routines X → (whole : Reading) (most n : ℕ) (first : Standing) →
-        IsTracing (story_of player.old.game X) whole first (S.standing stage.old) player.old n → n < most →
-        TracesOn (story_of player.old.game X) whole most first (S.standing stage.new) player.new n result }
+    ensures outside { IfSome result (λ o. IfOutside o IsWalkCall) }
+    ensures meaning { Across S.Stage stage.old stage.new (λ old new.
+        EachStory F.Fn player.old.routines player.old.game (λ g. (whole : Reading) (most n : ℕ) (first : Standing) →
+        IsTracing g whole first old player.old n → n < most →
+        TracesOn g whole most first new player.new n result)) }
 {
     let mut line = [0u8; 255];
     match stage.ask(&mut line) {
@@ -185,12 +184,11 @@ fn trace_lines<S: Stage, T: Tables, F: Fn(u8, u8) -> u8>(
     requires rows { HaveRows F.Fn player.old.routines }
     requires draws { player.old.world.draws ≤ 200000 }
     ensures tells { S.Tells stage.old ↔ S.Tells stage.new }
-    ensures counts { Grows (S.faults stage.old) (S.faults stage.new) }
     ensures faulted { Faulted (failed_call result) (S.faults stage.old) (S.faults stage.new) }
-    ensures outside { IfOutside result (λ c. IsWalkCall c × Rose (S.faults stage.old c) (S.faults stage.new c)) }
-    ensures meaning { S.Tells stage.old → (X : List (List ℕ)) → AreRowsOf F.Fn player.old.routines X → (whole : Reading) (first : Standing) →
-        IsTracing (story_of player.old.game X) whole first (S.standing stage.old) player.old 0 →
-        Walks (traced whole) MOST_EVENTS first (S.standing stage.new) result }
+    ensures outside { IfOutside result IsWalkCall }
+    ensures meaning { Across S.Stage stage.old stage.new (λ old new.
+        EachStory F.Fn player.old.routines player.old.game (λ g. (whole : Reading) (first : Standing) →
+        IsTracing g whole first old player.old 0 → Walks (traced whole) MOST_EVENTS first new result)) }
 {
     for _ in 0..MOST_EVENTS {
         if let Some(end) = trace_line(stage, player, text) {
@@ -202,8 +200,9 @@ fn trace_lines<S: Stage, T: Tables, F: Fn(u8, u8) -> u8>(
     }
 }
 
-/// Walks through a game with a seed, as `walk_loop` does, and shows the steps of each piece before it: a line for each of
-/// its first 1,000 condacts, and then how many more were read. Nothing is kept. It takes memory before anything else.
+/// Walks through a game with a seed, as `walk_loop` does, and shows the steps of each piece before it: a line for each
+/// of its first 1,000 condacts, and then how many more were read. Nothing is kept. It takes memory before anything
+/// else.
 pub fn trace_loop<S: Stage, T: Tables, F: Fn(u8, u8) -> u8>(
     alloc: Global,
     stage: &mut S,
@@ -213,11 +212,10 @@ pub fn trace_loop<S: Stage, T: Tables, F: Fn(u8, u8) -> u8>(
 ) -> PlayEnd
     requires rows { HaveRows F.Fn routines.now }
     ensures tells { S.Tells stage.old ↔ S.Tells stage.new }
-    ensures counts { Grows (S.faults stage.old) (S.faults stage.new) }
     ensures faulted { Faulted (failed_call result) (S.faults stage.old) (S.faults stage.new) }
-    ensures outside { IfOutside result (λ c. IsWalkCall c × Rose (S.faults stage.old c) (S.faults stage.new c)) }
-    ensures traces { S.Tells stage.old → (X : List (List ℕ)) → AreRowsOf F.Fn routines.now X →
-        Walks (traced (reading (story_of (T.game tables.now) X) seed)) MOST_EVENTS (S.standing stage.old) (S.standing stage.new) result }
+    ensures outside { IfOutside result IsWalkCall }
+    ensures traces { Across S.Stage stage.old stage.new (λ old new. EachStory F.Fn routines.now (T.game tables.now)
+        (λ g. Walks (traced (reading g seed)) MOST_EVENTS old new result)) }
 {
     let Ok(mut text) = Piece::new(alloc) else {
         return PlayEnd::Memory;

@@ -1,14 +1,14 @@
 // A walk through a game.
 
-ghost use Rattle.std.specs.Prelude.{◌≡◌, ◌+◌, ◌<◌, ◌≤◌, ◌^◌, ◌↔◌, ℕ, List, IfSome, None};
-ghost use Rattle.paw_routines.specs.Routines.{AreRowsOf, HaveRows};
-ghost use Rattle.paw_effects.specs.Story.{story_of};
-ghost use Rattle.paw_stage.specs.Stage.{Standing, Rose, Grows, Faulted};
+ghost use Rattle.std.specs.Prelude.{◌≡◌, ◌+◌, ◌<◌, ◌≤◌, ◌^◌, ◌↔◌, ℕ, IfSome, None};
+ghost use Rattle.paw_routines.specs.Routines.{HaveRows};
+ghost use Rattle.paw_stage.specs.Stage.{Standing, Faulted};
+ghost use Rattle.paw_stage.specs.Across.{Across, Throughout};
 ghost use Rattle.paw_reading.specs.Turn.{reading};
-ghost use Rattle.paw_stage.specs.Moments.{Passes, InShow};
+ghost use Rattle.paw_stage.specs.Moments.{InShow};
 ghost use Rattle.paw_turn.specs.Player.{IsSeated};
 ghost use Rattle.paw_play.specs.Walk.{Reading, Walks};
-ghost use Rattle.paw_play.specs.OnTheWay.{IsWalking, WalksOn, Told, refusal_of};
+ghost use Rattle.paw_play.specs.OnTheWay.{EachStory, IsWalking, WalksOn, Told, refusal_of};
 ghost use Rattle.paw_play.specs.Calls.{IfOutside, IsWalkCall, failed_call, failed_so_far};
 ghost use Rattle.paw_play.specs.declared.TheConstants.{MOST_EVENTS};
 
@@ -40,11 +40,10 @@ pub(crate) fn told<S: Stage, T: Tables, F: Fn(u8, u8) -> u8>(
 ) -> Option<PlayEnd>
     requires last { player.now.last ≡ step }
     ensures tells { S.Tells stage.old ↔ S.Tells stage.new }
-    ensures counts { Grows (S.faults stage.old) (S.faults stage.new) }
     ensures faulted { Faulted (failed_so_far result) (S.faults stage.old) (S.faults stage.new) }
-    ensures outside { IfSome result (λ o. IfOutside o (λ c. IsWalkCall c × Rose (S.faults stage.old c) (S.faults stage.new c))) }
-    ensures meaning { S.Tells stage.old → Told (S.standing stage.old) (S.standing stage.new) player.now.piece step result }
-    ensures time { S.Tells stage.old → Passes (S.clock stage.old) (S.clock stage.new) (S.since stage.old) (S.since stage.new) (InShow (S.standing stage.old) player.now.piece) }
+    ensures outside { IfSome result (λ o. IfOutside o IsWalkCall) }
+    ensures meaning { Across S.Stage stage.old stage.new (λ old new. Told old new player.now.piece step result) }
+    ensures time { Throughout S.Stage stage.old stage.new (λ s. InShow s player.now.piece) }
 {
     if let Some(end) = refused(step) {
         return Some(end);
@@ -71,13 +70,13 @@ fn walk_line<S: Stage, T: Tables, F: Fn(u8, u8) -> u8>(
     ensures game { player.new.game ≡ player.old.game }
     ensures draws { player.new.world.draws ≤ player.old.world.draws + 200000 }
     ensures tells { S.Tells stage.old ↔ S.Tells stage.new }
-    ensures counts { Grows (S.faults stage.old) (S.faults stage.new) }
     ensures faulted { Faulted (failed_so_far result) (S.faults stage.old) (S.faults stage.new) }
-    ensures outside { IfSome result (λ o. IfOutside o (λ c. IsWalkCall c × Rose (S.faults stage.old c) (S.faults stage.new c))) }
+    ensures outside { IfSome result (λ o. IfOutside o IsWalkCall) }
     ensures routines { player.new.routines ≡ player.old.routines }
-    ensures meaning { S.Tells stage.old → (X : List (List ℕ)) → AreRowsOf F.Fn player.old.routines X → (whole : Reading) (most n : ℕ) (first : Standing) →
-        IsWalking (story_of player.old.game X) whole first (S.standing stage.old) player.old n → n < most →
-        WalksOn (story_of player.old.game X) whole most first (S.standing stage.new) player.new n result }
+    ensures meaning { Across S.Stage stage.old stage.new (λ old new.
+        EachStory F.Fn player.old.routines player.old.game (λ g. (whole : Reading) (most n : ℕ) (first : Standing) →
+        IsWalking g whole first old player.old n → n < most →
+        WalksOn g whole most first new player.new n result)) }
 {
     let mut line = [0u8; 255];
     match stage.ask(&mut line) {
@@ -99,12 +98,11 @@ fn walk_lines<S: Stage, T: Tables, F: Fn(u8, u8) -> u8>(
     requires rows { HaveRows F.Fn player.old.routines }
     requires draws { player.old.world.draws ≤ 200000 }
     ensures tells { S.Tells stage.old ↔ S.Tells stage.new }
-    ensures counts { Grows (S.faults stage.old) (S.faults stage.new) }
     ensures faulted { Faulted (failed_call result) (S.faults stage.old) (S.faults stage.new) }
-    ensures outside { IfOutside result (λ c. IsWalkCall c × Rose (S.faults stage.old c) (S.faults stage.new c)) }
-    ensures meaning { S.Tells stage.old → (X : List (List ℕ)) → AreRowsOf F.Fn player.old.routines X → (whole : Reading) (first : Standing) →
-        IsWalking (story_of player.old.game X) whole first (S.standing stage.old) player.old 0 →
-        Walks whole MOST_EVENTS first (S.standing stage.new) result }
+    ensures outside { IfOutside result IsWalkCall }
+    ensures meaning { Across S.Stage stage.old stage.new (λ old new.
+        EachStory F.Fn player.old.routines player.old.game (λ g. (whole : Reading) (first : Standing) →
+        IsWalking g whole first old player.old 0 → Walks whole MOST_EVENTS first new result)) }
 {
     for _ in 0..MOST_EVENTS {
         if let Some(end) = walk_line(stage, player) {
@@ -116,8 +114,8 @@ fn walk_lines<S: Stage, T: Tables, F: Fn(u8, u8) -> u8>(
     }
 }
 
-/// Walks through a game with a seed: shows the piece before the first line, and then a piece for each line, until the game
-/// is over or no line is left. Nothing is kept. It takes memory before anything else.
+/// Walks through a game with a seed: shows the piece before the first line, and then a piece for each line, until the
+/// game is over or no line is left. Nothing is kept. It takes memory before anything else.
 pub fn walk_loop<S: Stage, T: Tables, F: Fn(u8, u8) -> u8>(
     alloc: Global,
     stage: &mut S,
@@ -127,11 +125,10 @@ pub fn walk_loop<S: Stage, T: Tables, F: Fn(u8, u8) -> u8>(
 ) -> PlayEnd
     requires rows { HaveRows F.Fn routines.now }
     ensures tells { S.Tells stage.old ↔ S.Tells stage.new }
-    ensures counts { Grows (S.faults stage.old) (S.faults stage.new) }
     ensures faulted { Faulted (failed_call result) (S.faults stage.old) (S.faults stage.new) }
-    ensures outside { IfOutside result (λ c. IsWalkCall c × Rose (S.faults stage.old c) (S.faults stage.new c)) }
-    ensures walks { S.Tells stage.old → (X : List (List ℕ)) → AreRowsOf F.Fn routines.now X →
-        Walks (reading (story_of (T.game tables.now) X) seed) MOST_EVENTS (S.standing stage.old) (S.standing stage.new) result }
+    ensures outside { IfOutside result IsWalkCall }
+    ensures walks { Across S.Stage stage.old stage.new (λ old new.
+        EachStory F.Fn routines.now (T.game tables.now) (λ g. Walks (reading g seed) MOST_EVENTS old new result)) }
 {
     let Ok(mut player) = Player::new(alloc, tables, routines, seed) else {
         return PlayEnd::Memory;

@@ -187,7 +187,11 @@ SyncsTo old new (Err e) = new ≡ old
 abbrev pub with_shown : List ℕ → Standing → Standing
 with_shown text s = record s { shown = s.shown ++ text }
 
--- What a show leaves. Where it failed a first part of the text was shown.
+-- A first part of this text was shown.
+abbrev pub ShowsPart : List ℕ → Standing → Standing → Type 0
+ShowsPart text old new = (n : ℕ) × (new ≡ with_shown (take n text) old)
+
+-- What a show leaves.
 abbrev pub ShowsTo : {A : Type 0} → Standing → Standing → List ℕ → Result A Failed → Type 0
 ShowsTo old new text (Ok done) = new ≡ with_shown text old
-ShowsTo old new text (Err e) = (n : ℕ) × (new ≡ with_shown (take n text) old)
+ShowsTo old new text (Err e) = ShowsPart text old new

@@ -3,7 +3,7 @@ use Rattle.std.proofs.Common.{◌≡◌, ℕ, ◌≤◌, None, inl, inr, refl, a
 use Rattle.std.specs.Prelude.{Result}
 use Rattle.paw_base.specs.declared.fault.SourceFault.{SourceFault}
 use Rattle.paw_game.specs.Game.{GameLists}
-use Rattle.paw_stage.specs.Stage.{Rose, Grows, Faulted}
+use Rattle.paw_stage.specs.Stage.{Rose, Faulted}
 use Rattle.paw_stage.proofs.Counted.{Faulted_on}
 use Rattle.paw_stage.specs.declared.StageCall.{StageCall}
 use Rattle.paw_stage.specs.declared.StageCall.TheVariants as call
@@ -35,11 +35,6 @@ answers_so (end.Long events) P Q f h = tt
 answers_so (end.Outside c) P Q f h = f c h
 answers_so end.Memory P Q f h = tt
 
--- a count that rose later rose
-rose_later : (a b c : ℕ) → a ≤ b → Rose b c → Rose a c
-rose_later a b c h (inl k) = inl (omega (arith, h, k))
-rose_later a b c h (inr k) = inr k
-
 walk_call : (c : StageCall) → play.IsWalkCall c → IsCall c
 walk_call call.Ask h = tt
 walk_call call.Show h = tt
@@ -56,17 +51,17 @@ kept_call call.Ask h = tt
 kept_call call.Show h = tt
 kept_call call.Save h = absurd h
 
-pub walk_outside : (first mid last : StageCall → ℕ) (end : PlayEnd) (o : Outcome) → Grows first mid → o ≡ outcome_of end →
-    play.IfOutside end (λ c. play.IsWalkCall c × Rose (mid c) (last c)) → IfOutside o (λ c. IsCall c × Rose (first c) (last c))
-walk_outside first mid last end o grows is h = subst (λ q. IfOutside q (λ c. IsCall c × Rose (first c) (last c))) (sym is)
-    (answers_so end (λ c. play.IsWalkCall c × Rose (mid c) (last c)) (λ c. IsCall c × Rose (first c) (last c))
-    (λ c k. (walk_call c k.0, rose_later (first c) (mid c) (last c) (grows c) k.1)) h)
+pub walk_outside : (end : PlayEnd) (o : Outcome) → o ≡ outcome_of end → play.IfOutside end play.IsWalkCall → IfOutside o IsCall
+walk_outside end o is h = subst (λ q. IfOutside q IsCall) (sym is) (answers_so end play.IsWalkCall IsCall walk_call h)
 
-pub kept_outside : (first mid last : StageCall → ℕ) (end : PlayEnd) (o : Outcome) → Grows first mid → o ≡ outcome_of end →
-    play.IfOutside end (λ c. play.IsSessionCall c × Rose (mid c) (last c)) → IfOutside o (λ c. IsKeptCall c × Rose (first c) (last c))
-kept_outside first mid last end o grows is h = subst (λ q. IfOutside q (λ c. IsKeptCall c × Rose (first c) (last c))) (sym is)
-    (answers_so end (λ c. play.IsSessionCall c × Rose (mid c) (last c)) (λ c. IsKeptCall c × Rose (first c) (last c))
-    (λ c k. (kept_call c k.0, rose_later (first c) (mid c) (last c) (grows c) k.1)) h)
+pub kept_outside : (end : PlayEnd) (o : Outcome) → o ≡ outcome_of end → play.IfOutside end play.IsSessionCall → IfOutside o IsKeptCall
+kept_outside end o is h = subst (λ q. IfOutside q IsKeptCall) (sym is) (answers_so end play.IsSessionCall IsKeptCall kept_call h)
+
+-- the count of the call that is answered rose
+module _ (Is : StageCall → Type 0) (first last : StageCall → ℕ) where
+  pub outside_rose : (o : Outcome) → IfOutside o Is → Faulted (failed_call o) first last → IfOutside o (λ c. Is c × Rose (first c) (last c))
+  outside_rose (outcome.Outside c) h f = (h, f.0)
+  outside_rose _ h f = tt
 
 -- ---- memory ----
 

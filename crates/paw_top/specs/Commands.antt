@@ -1,5 +1,6 @@
 -- The words of a command.
-use Rattle.std.specs.Prelude.{◌≡◌, ℕ, ◌+◌, ◌-◌, ◌*◌, ◌^◌, Bool, ◌&&◌, List, [], ◌∷◌, length, Option, Some, None, nat_lt, nat_le, codes, if◌then◌else◌}
+use Rattle.std.specs.Prelude.{◌≡◌, ℕ, ◌+◌, ◌-◌, ◌*◌, ◌^◌, Bool, ◌&&◌, List, [], ◌∷◌, length, Option, Some, None, nat_lt, nat_le, codes, map, string_bytes, if◌then◌else◌}
+use Rattle.std.specs.declared.string.String.{String}
 use Rattle.std.specs.List.{list_all}
 use Rattle.std.specs.Str.{bytes_eq}
 use Rattle.paw_grammar.specs.Numbers.{is_digit}
@@ -103,6 +104,10 @@ command_of (verb ∷ rest) =
     else if bytes_eq verb (codes "resume") then resume_of rest
     else if bytes_eq verb (codes "trial") then trial_of rest
     else None
+
+-- what the words of a call ask for
+abbrev pub asked : {Z : Type 0} → List (String Z) → Option Command
+asked words = command_of (map string_bytes words)
 
 -- the code's answer spells what is asked for
 abbrev pub Spells : Option Given → Option Command → Type 0

@@ -5,7 +5,8 @@ ghost use Rattle.paw_game.specs.Game.{GameLists};
 ghost use Rattle.paw_game.specs.Image.{image};
 ghost use Rattle.paw_image.specs.declared.TheConstants.{IMAGE_LIMIT};
 ghost use Rattle.paw_grammar.specs.Spells.{spelled};
-ghost use Rattle.paw_stage.specs.Stage.{Standing, Rose, Grows, Faulted};
+ghost use Rattle.paw_stage.specs.Stage.{Faulted};
+ghost use Rattle.paw_stage.specs.Across.{Across};
 ghost use Rattle.paw_top.specs.Answers.{IfOutside, IfMemory, IsCompileCall, IsCompileMemory, failed_call};
 ghost use Rattle.paw_top.specs.Compile.{Compiles, IsRefusal, Keeps, image_line};
 ghost use Rattle.paw_top.specs.declared.outcome.Outcome.TheVariants as outcome;
@@ -65,12 +66,11 @@ fn line_of(alloc: Global, size: usize) -> Result<String, Outcome>
 /// Saves an image, and then shows a line.
 fn keep<S: Stage>(stage: &mut S, name: &str, image: &[u8], line: &[u8]) -> Outcome
     ensures tells { S.Tells stage.old ↔ S.Tells stage.new }
-    ensures counts { Grows (S.faults stage.old) (S.faults stage.new) }
     ensures faulted { Faulted (failed_call result) (S.faults stage.old) (S.faults stage.new) }
-    ensures outside { IfOutside result (λ c. IsCompileCall c × Rose (S.faults stage.old c) (S.faults stage.new c)) }
+    ensures outside { IfOutside result IsCompileCall }
     ensures form { result ≢ outcome.Usage }
     ensures memory { IfMemory result IsCompileMemory }
-    ensures keeps { S.Tells stage.old → Keeps name.now image.now line.now (S.standing stage.old) (S.standing stage.new) result }
+    ensures keeps { Across S.Stage stage.old stage.new (λ old new. Keeps name.now image.now line.now old new result) }
 {
     if stage.save(name, image).is_err() {
         return Outcome::Outside(StageCall::Save);
@@ -81,12 +81,11 @@ fn keep<S: Stage>(stage: &mut S, name: &str, image: &[u8], line: &[u8]) -> Outco
 /// Compiles a source file to an image file, and shows how many bytes the image has.
 pub(crate) fn compile<S: Stage>(alloc: Global, stage: &mut S, source: &str, image: &str) -> Outcome
     ensures tells { S.Tells stage.old ↔ S.Tells stage.new }
-    ensures counts { Grows (S.faults stage.old) (S.faults stage.new) }
     ensures faulted { Faulted (failed_call result) (S.faults stage.old) (S.faults stage.new) }
-    ensures outside { IfOutside result (λ c. IsCompileCall c × Rose (S.faults stage.old c) (S.faults stage.new c)) }
+    ensures outside { IfOutside result IsCompileCall }
     ensures form { result ≢ outcome.Usage }
     ensures memory { IfMemory result IsCompileMemory }
-    ensures compiles { S.Tells stage.old → Compiles source.now image.now (S.standing stage.old) (S.standing stage.new) result }
+    ensures compiles { Across S.Stage stage.old stage.new (λ old new. Compiles source.now image.now old new result) }
 {
     let bytes = match load(alloc, stage, source, MAX_SOURCE_LEN) {
         Ok(bytes) => bytes,

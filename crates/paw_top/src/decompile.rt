@@ -1,7 +1,7 @@
 // From an image to its source.
 
-ghost use Rattle.std.specs.Prelude.{◌≡◌, ◌≢◌, ◌↔◌};
-ghost use Rattle.paw_stage.specs.Stage.{Standing, Rose, Grows, Faulted};
+ghost use Rattle.std.specs.Prelude.{◌≢◌, ◌↔◌};
+ghost use Rattle.paw_stage.specs.Stage.{Faulted};
 ghost use Rattle.paw_top.specs.Answers.{IfOutside, IfMemory, IsDecompileCall, IsDecompileMemory, failed_call};
 ghost use Rattle.paw_top.specs.Decompile.{Decompiles};
 ghost use Rattle.paw_top.specs.declared.outcome.Outcome.TheVariants as outcome;
@@ -18,9 +18,8 @@ use std::alloc::Global;
 /// Shows the canonical source of the game of an image file.
 pub(crate) fn decompile<S: Stage>(alloc: Global, stage: &mut S, image: &str) -> Outcome
     ensures tells { S.Tells stage.old ↔ S.Tells stage.new }
-    ensures counts { Grows (S.faults stage.old) (S.faults stage.new) }
     ensures faulted { Faulted (failed_call result) (S.faults stage.old) (S.faults stage.new) }
-    ensures outside { IfOutside result (λ c. IsDecompileCall c × Rose (S.faults stage.old c) (S.faults stage.new c)) }
+    ensures outside { IfOutside result IsDecompileCall }
     ensures form { result ≢ outcome.Usage }
     ensures memory { IfMemory result IsDecompileMemory }
     ensures decompiles { S.Tells stage.old → Decompiles image.now (S.standing stage.old) (S.standing stage.new) result }

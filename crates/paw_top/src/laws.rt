@@ -11,8 +11,8 @@ pub fn canonical_spells_its_game()
     tables_are_counted();
 }
 
-/// Compiling what was shown when an image was decompiled saves the bytes of that image, where the text is no longer than a
-/// source may be.
+/// Compiling what was shown when an image was decompiled saves the bytes of that image, where the text is no longer
+/// than a source may be.
 pub fn decompiled_games_come_back()
     ensures comes_back { ComesBack }
 {

@@ -1,8 +1,9 @@
 // Loading a file.
 
 ghost use Rattle.std.specs.Prelude.{◌≢◌, ◌↔◌, IfOk, IfErr};
-ghost use Rattle.paw_stage.specs.Moments.{Passes, Still};
-ghost use Rattle.paw_stage.specs.Stage.{Standing, Rose, Grows, Faulted};
+ghost use Rattle.paw_stage.specs.Moments.{Still};
+ghost use Rattle.paw_stage.specs.Stage.{Faulted};
+ghost use Rattle.paw_stage.specs.Across.{Across, Throughout};
 ghost use Rattle.paw_top.specs.Answers.{IfOutside, IfMemory, IsLoadCall, IsLoadMemory, failed_or};
 ghost use Rattle.paw_top.specs.Loads.{LoadsSome, LoadsNone};
 ghost use Rattle.paw_top.specs.declared.outcome.Outcome.TheVariants as outcome;
@@ -19,14 +20,14 @@ pub(crate) fn load<S: Stage>(
     most: usize,
 ) -> Result<Vec<u8>, Outcome>
     ensures tells { S.Tells stage.old ↔ S.Tells stage.new }
-    ensures counts { Grows (S.faults stage.old) (S.faults stage.new) }
     ensures faulted { Faulted (failed_or result) (S.faults stage.old) (S.faults stage.new) }
-    ensures outside { IfErr result (λ o. IfOutside o (λ c. IsLoadCall c × Rose (S.faults stage.old c) (S.faults stage.new c))) }
+    ensures outside { IfErr result (λ o. IfOutside o IsLoadCall) }
     ensures form { IfErr result (λ o. o ≢ outcome.Usage) }
     ensures memory { IfErr result (λ o. IfMemory o IsLoadMemory) }
-    ensures some { S.Tells stage.old → IfOk result (λ v. LoadsSome name.now most (S.standing stage.old) (S.standing stage.new) v.items) }
+    ensures some { Across S.Stage stage.old stage.new (λ old new.
+        IfOk result (λ v. LoadsSome name.now most old new v.items)) }
     ensures none { S.Tells stage.old → IfErr result (LoadsNone name.now (S.standing stage.old) (S.standing stage.new)) }
-    ensures time { S.Tells stage.old → Passes (S.clock stage.old) (S.clock stage.new) (S.since stage.old) (S.since stage.new) (Still (S.standing stage.old)) }
+    ensures time { Throughout S.Stage stage.old stage.new Still }
 {
     match stage.load(alloc, name, most) {
         Ok(bytes) => Ok(bytes),

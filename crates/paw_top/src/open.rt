@@ -18,7 +18,8 @@ use std::alloc::Global;
 
 /// The answer for bytes that give no game.
 fn refused_as(refusal: ImageRefusal) -> Outcome
-    ensures none { (bytes : List ℕ) → AtDamage refusal (λ _. (g : GameLists) → ¬ IsImage bytes g) → AtDamage refusal (λ at. bad bytes ≡ Some at) → GivesNone bytes result }
+    ensures none { (bytes : List ℕ) → AtDamage refusal (λ _. (g : GameLists) → ¬ IsImage bytes g) →
+        AtDamage refusal (λ at. bad bytes ≡ Some at) → GivesNone bytes result }
     ensures form { result ≢ outcome.Usage }
     ensures memory { IfMemory result IsLoadMemory }
     ensures fine { failed_call result ≡ None }

@@ -11,8 +11,8 @@ use paw_play::PlayEnd;
 use paw_stage::StageCall;
 use std::alloc::Global;
 
-/// Where memory was wanting: in a load, in reading a source, in printing one, in decoding or encoding an image, in making
-/// what a game is played with, or in a trial, which has a stage in memory of its own.
+/// Where memory was wanting: in a load, in reading a source, in printing one, in decoding or encoding an image, in
+/// making what a game is played with, or in a trial, which has a stage in memory of its own.
 #[derive(Clone, Copy, Drop, PartialEq, Eq, Debug)]
 pub enum MemoryAt {
     Load,
@@ -23,16 +23,17 @@ pub enum MemoryAt {
     Trial,
 }
 
-/// What a command comes to. Done: the command did what it is for. Ended: the game is over. InputEnded: no line is left at a
-/// prompt. Usage: the words have no form. SourceRefused: the source has a fault; its first is named. ImageDamaged: the file
-/// is no image of a valid game; the place of the first field that breaks its rule.
+/// What a command comes to. Done: the command did what it is for. Ended: the game is over. InputEnded: no line is left
+/// at a prompt. Usage: the words have no form. SourceRefused: the source has a fault; its first is named. ImageDamaged:
+/// the file is no image of a valid game; the place of the first field that breaks its rule.
 ///
-/// Of a store. Occupied: a new session was asked for, and the store has so many bytes already. Unmade: it has no session; its
-/// length in bytes, and its first byte (0 where there is none). SessionDamaged: a rule of the session is broken, first at
-/// this place in this part. WrongGame: the session is of another game; the digest that it keeps, and that of the image.
+/// Of a store. Occupied: a new session was asked for, and the store has so many bytes already. Unmade: it has no
+/// session; its length in bytes, and its first byte (0 where there is none). SessionDamaged: a rule of the session is
+/// broken, first at this place in this part. WrongGame: the session is of another game; the digest that it keeps, and
+/// that of the image.
 ///
-/// Spent: a piece would read or hold too much. TooDeep: a table was called at the deepest level. Outside: a call of the stage
-/// failed. Long: the session has all the lines that it may have. Memory: want of memory.
+/// Spent: a piece would read or hold too much. TooDeep: a table was called at the deepest level. Outside: a call of the
+/// stage failed. Long: the session has all the lines that it may have. Memory: want of memory.
 #[derive(Clone, Copy, Drop, PartialEq, Eq, Debug)]
 pub enum Outcome {
     Done,
@@ -169,9 +170,9 @@ fn wrong_game_text(alloc: Global, kept: &[u8; 32], found: &[u8; 32]) -> Result<S
 }
 
 impl Outcome {
-    /// The exit status of the program: 0 where the command did what it is for, 1 for words with no form, 2 for a source, 3 for an
-    /// image, 4 for a store, 5 and 6 for a piece that is spent and a call too deep, 7 for a failed call, 8 for want of memory, 9 for a session
-    /// that is full.
+    /// The exit status of the program: 0 where the command did what it is for, 1 for words with no form, 2 for a
+    /// source, 3 for an image, 4 for a store, 5 and 6 for a piece that is spent and a call too deep, 7 for a failed
+    /// call, 8 for want of memory, 9 for a session that is full.
     pub fn status(&self) -> u8
         ensures value { result ≡ status_of self.now }
     {

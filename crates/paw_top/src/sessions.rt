@@ -4,8 +4,8 @@ ghost use Rattle.std.specs.Prelude.{◌≡◌, ◌≢◌, ◌↔◌, ℕ, List, 
 ghost use Rattle.paw_routines.specs.Routines.{AreRowsOf, HaveRows};
 ghost use Rattle.paw_effects.specs.Story.{Story};
 ghost use Rattle.paw_stage.specs.Disk.{IsStable};
-ghost use Rattle.paw_stage.specs.Moments.{Passes};
-ghost use Rattle.paw_stage.specs.Stage.{Standing, Rose, Grows, Faulted};
+ghost use Rattle.paw_stage.specs.Stage.{Faulted};
+ghost use Rattle.paw_stage.specs.Across.{Across, EachMoment};
 ghost use Rattle.paw_state.specs.State.{State};
 ghost use Rattle.paw_play.specs.Play.{InGame, InAgain, InGoingOn, ShowsState, store_bytes};
 ghost use Rattle.paw_play.specs.Stands.{Stands, IsPlayedWith};
@@ -37,16 +37,15 @@ pub(crate) fn play<S: Stage, F: Fn(u8, u8) -> u8>(
     requires rows { HaveRows F.Fn routines.now }
     requires synced { S.Tells stage.old → IsStable (S.standing stage.old).disk }
     ensures tells { S.Tells stage.old ↔ S.Tells stage.new }
-    ensures counts { Grows (S.faults stage.old) (S.faults stage.new) }
     ensures faulted { Faulted (failed_call result) (S.faults stage.old) (S.faults stage.new) }
     ensures form { result ≢ outcome.Usage }
     ensures memory { IfMemory result IsPlayMemory }
-    ensures outside { IfOutside result (λ c. IsKeptCall c × Rose (S.faults stage.old c) (S.faults stage.new c)) }
-    ensures plays { S.Tells stage.old → (X : List (List ℕ)) → AreRowsOf F.Fn routines.now X →
-        PlaysNewIn X image.now store.now seed (S.standing stage.old) (S.standing stage.new) result }
-    ensures any_moment { S.Tells stage.old → (s : Story) → AreRowsOf F.Fn routines.now s.rows → Holds (S.standing stage.old) image.now s.game →
-        store_bytes (S.standing stage.old) store.now ≡ [] →
-        Passes (S.clock stage.old) (S.clock stage.new) (S.since stage.old) (S.since stage.new) (InGame s seed store.now (S.standing stage.old)) }
+    ensures outside { IfOutside result IsKeptCall }
+    ensures plays { Across S.Stage stage.old stage.new (λ old new. (X : List (List ℕ)) →
+        AreRowsOf F.Fn routines.now X → PlaysNewIn X image.now store.now seed old new result) }
+    ensures any_moment { Across S.Stage stage.old stage.new (λ old new. (s : Story) →
+        AreRowsOf F.Fn routines.now s.rows → Holds old image.now s.game → store_bytes old store.now ≡ [] →
+        EachMoment S.Stage stage.old stage.new (InGame s seed store.now old)) }
 {
     let bytes = match load(alloc, stage, image, IMAGE_LIMIT) {
         Ok(bytes) => bytes,
@@ -71,22 +70,25 @@ pub(crate) fn resume<S: Stage, F: Fn(u8, u8) -> u8>(
     requires rows { HaveRows F.Fn routines.now }
     requires synced { S.Tells stage.old → IsStable (S.standing stage.old).disk }
     ensures tells { S.Tells stage.old ↔ S.Tells stage.new }
-    ensures counts { Grows (S.faults stage.old) (S.faults stage.new) }
     ensures faulted { Faulted (failed_call result) (S.faults stage.old) (S.faults stage.new) }
     ensures form { result ≢ outcome.Usage }
     ensures memory { IfMemory result IsPlayMemory }
-    ensures outside { IfOutside result (λ c. IsKeptCall c × Rose (S.faults stage.old c) (S.faults stage.new c)) }
-    ensures plays { S.Tells stage.old → (X : List (List ℕ)) → AreRowsOf F.Fn routines.now X →
-        PlaysAgainIn X image.now store.now (S.standing stage.old) (S.standing stage.new) result }
-    ensures any_moment { S.Tells stage.old → (s : Story) (st : State) (piece : List ℕ) → AreRowsOf F.Fn routines.now s.rows →
-        Holds (S.standing stage.old) image.now s.game → ShowsState s.game (digest_of s.game) (store_bytes (S.standing stage.old) store.now) st piece →
-        Passes (S.clock stage.old) (S.clock stage.new) (S.since stage.old) (S.since stage.new) (InAgain (session_from s store.now st piece) (S.standing stage.old)) }
-    ensures goes_on { S.Tells stage.old → (s : Story) (seed : ℕ) (es : List (List ℕ)) → AreRowsOf F.Fn routines.now s.rows →
-        Holds (S.standing stage.old) image.now s.game → IsPlayedWith s seed es → Stands s seed es (store_bytes (S.standing stage.old) store.now) →
-        GoesOnIn image.now store.now s seed es (S.standing stage.old) (S.standing stage.new) result }
-    ensures any_moment_on { S.Tells stage.old → (s : Story) (seed : ℕ) (es : List (List ℕ)) → AreRowsOf F.Fn routines.now s.rows →
-        Holds (S.standing stage.old) image.now s.game → IsPlayedWith s seed es → Stands s seed es (store_bytes (S.standing stage.old) store.now) →
-        Passes (S.clock stage.old) (S.clock stage.new) (S.since stage.old) (S.since stage.new) (InGoingOn s seed es store.now (S.standing stage.old)) }
+    ensures outside { IfOutside result IsKeptCall }
+    ensures plays { Across S.Stage stage.old stage.new (λ old new. (X : List (List ℕ)) →
+        AreRowsOf F.Fn routines.now X → PlaysAgainIn X image.now store.now old new result) }
+    ensures any_moment { Across S.Stage stage.old stage.new (λ old new. (s : Story) (st : State) (piece : List ℕ) →
+        AreRowsOf F.Fn routines.now s.rows → Holds old image.now s.game →
+        ShowsState s.game (digest_of s.game) (store_bytes old store.now) st piece →
+        EachMoment S.Stage stage.old stage.new (InAgain (session_from s store.now st piece) old)) }
+    ensures goes_on { Across S.Stage stage.old stage.new (λ old new. (s : Story) (seed : ℕ) (es : List (List ℕ)) →
+        AreRowsOf F.Fn routines.now s.rows → Holds old image.now s.game →
+        IsPlayedWith s seed es → Stands s seed es (store_bytes old store.now) →
+        GoesOnIn image.now store.now s seed es old new result) }
+    ensures any_moment_on { Across S.Stage stage.old stage.new (λ old new.
+        (s : Story) (seed : ℕ) (es : List (List ℕ)) →
+        AreRowsOf F.Fn routines.now s.rows → Holds old image.now s.game →
+        IsPlayedWith s seed es → Stands s seed es (store_bytes old store.now) →
+        EachMoment S.Stage stage.old stage.new (InGoingOn s seed es store.now old)) }
 {
     let bytes = match load(alloc, stage, image, IMAGE_LIMIT) {
         Ok(bytes) => bytes,

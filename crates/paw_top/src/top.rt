@@ -1,15 +1,16 @@
 // The top call.
 
-ghost use Rattle.std.specs.Prelude.{◌≡◌, ◌↔◌, ℕ, List, [], map, string_bytes, Option, Some, None};
+ghost use Rattle.std.specs.Prelude.{◌≡◌, ◌↔◌, ℕ, List, [], Some, None};
 ghost use Rattle.paw_routines.specs.Routines.{AreRowsOf, HaveRows};
 ghost use Rattle.paw_effects.specs.Story.{Story};
 ghost use Rattle.paw_stage.specs.Disk.{IsStable};
-ghost use Rattle.paw_stage.specs.Moments.{Passes};
-ghost use Rattle.paw_stage.specs.Stage.{Standing, Rose, Grows, Faulted};
+ghost use Rattle.paw_stage.specs.Stage.{Faulted};
+ghost use Rattle.paw_stage.specs.Across.{Across, EachMoment};
 ghost use Rattle.paw_state.specs.State.{State};
 ghost use Rattle.paw_play.specs.Play.{InGame, InAgain, InGoingOn, ShowsState, store_bytes};
 ghost use Rattle.paw_play.specs.Stands.{Stands, IsPlayedWith};
-ghost use Rattle.paw_top.specs.Commands.{Compile as CompileOf, Decompile as DecompileOf, Walk as WalkOf, Trace as TraceOf, Play as PlayOf, Resume as ResumeOf, Trial as TrialOf, command_of};
+ghost use Rattle.paw_top.specs.Commands.{Compile as CompileOf, Decompile as DecompileOf, Walk as WalkOf};
+ghost use Rattle.paw_top.specs.Commands.{Trace as TraceOf, Play as PlayOf, Resume as ResumeOf, Trial as TrialOf, asked};
 ghost use Rattle.paw_top.specs.Compile.{Compiles};
 ghost use Rattle.paw_top.specs.Decompile.{Decompiles};
 ghost use Rattle.paw_top.specs.Loads.{Holds};
@@ -34,28 +35,29 @@ use std::alloc::Global;
 /// Does what the words ask for, over a stage at which nothing is unsynced.
 ///
 /// `compile SOURCE IMAGE` loads the source, saves the image of the game that it spells, and shows how many bytes that
-/// has. `decompile IMAGE` loads the image and shows the canonical source of its game. `walk IMAGE SEED` loads the image,
-/// shows the piece before the first line, and then takes lines and shows the piece that each brings, until the game is
-/// over or no line is left; nothing is kept. `trace IMAGE SEED` does the same, and shows the condacts that were read for a piece
-/// before it. `play IMAGE STORE SEED` walks with a new session in the store, a file
-/// that is missing or empty: each piece is committed there before it is shown. `resume IMAGE STORE` shows the last piece of
-/// the session in the store again, and goes on from its prompt. `trial N` makes a large game and its lines from a number, plays
-/// half of them over a stage in memory, resumes for the rest, and shows a line that tells what the reading of all lines comes to.
+/// has. `decompile IMAGE` loads the image and shows the canonical source of its game. `walk IMAGE SEED` loads the
+/// image, shows the piece before the first line, and then takes lines and shows the piece that each brings, until the
+/// game is over or no line is left; nothing is kept. `trace IMAGE SEED` does the same, and shows the condacts that were
+/// read for a piece before it. `play IMAGE STORE SEED` walks with a new session in the store, a file that is missing or
+/// empty: each piece is committed there before it is shown. `resume IMAGE STORE` shows the last piece of the session in
+/// the store again, and goes on from its prompt. `trial N` makes a large game and its lines from a number, plays half
+/// of them over a stage in memory, resumes for the rest, and shows a line that tells what the reading of all lines
+/// comes to.
 ///
-/// A game's EXTERN calls the routines, and each clause that speaks of play says it with the rows of their values, whatever these
-/// are.
+/// A game's EXTERN calls the routines, and each clause that speaks of play says it with the rows of their values,
+/// whatever these are.
 ///
-/// The answer is Usage exactly where the words have no form, and then nothing at the stage is touched. Each other answer
-/// comes as `Compiles`, `Decompiles`, `WalksIn`, `TracesIn`, `PlaysNewIn`, `PlaysAgainIn` and `Tries` say.
+/// The answer is Usage exactly where the words have no form, and then nothing at the stage is touched. Each other
+/// answer comes as `Compiles`, `Decompiles`, `WalksIn`, `TracesIn`, `PlaysNewIn`, `PlaysAgainIn` and `Tries` say.
 ///
-/// Whatever a crash leaves of the store at any moment of `play` stands for all lines that were taken, or for all but the last
-/// (`InGame`). Where the store stands for some lines, `resume` never refuses it and goes on as the reading of these lines and
-/// more (`GoesOnIn`), and whatever a crash leaves at any moment stands for them and all that were taken since, or for all but
-/// the last (`InGoingOn`).
+/// Whatever a crash leaves of the store at any moment of `play` stands for all lines that were taken, or for all but
+/// the last (`InGame`). Where the store stands for some lines, `resume` never refuses it and goes on as the reading of
+/// these lines and more (`GoesOnIn`), and whatever a crash leaves at any moment stands for them and all that were taken
+/// since, or for all but the last (`InGoingOn`).
 ///
-/// Where the answer is Outside the count of the call that it names rose, which is one that the command makes, and no other
-/// count did; where it isn't, no count of faults rose at all. Where the file to load is there and no call fails, the command
-/// does what it is for or refuses the file or the store, as `Completes` says, or memory was wanting.
+/// Where the answer is Outside the count of the call that it names rose, which is one that the command makes, and no
+/// other count did; where it isn't, no count of faults rose at all. Where the file to load is there and no call fails,
+/// the command does what it is for or refuses the file or the store, as `Completes` says, or memory was wanting.
 pub fn paw<S: Stage, F: Fn(u8, u8) -> u8>(
     alloc: Global,
     stage: &mut S,
@@ -65,43 +67,50 @@ pub fn paw<S: Stage, F: Fn(u8, u8) -> u8>(
     requires rows { HaveRows F.Fn routines.now }
     requires synced { S.Tells stage.old → IsStable (S.standing stage.old).disk }
     ensures tells { S.Tells stage.old ↔ S.Tells stage.new }
-    ensures counts { Grows (S.faults stage.old) (S.faults stage.new) }
     ensures faulted { Faulted (failed_call result) (S.faults stage.old) (S.faults stage.new) }
-    ensures usage { (result ≡ outcome.Usage) ↔ (command_of (map string_bytes words.now) ≡ None) }
-    ensures idle { command_of (map string_bytes words.now) ≡ None → stage.new ≡ stage.old }
-    ensures outside { IfOutside result (λ c. Makes (command_of (map string_bytes words.now)) c × Rose (S.faults stage.old c) (S.faults stage.new c)) }
-    ensures memory { IfMemory result (Needs (command_of (map string_bytes words.now))) }
-    ensures compiles { S.Tells stage.old → (source image : List ℕ) → command_of (map string_bytes words.now) ≡ Some (CompileOf source image) →
-        Compiles source image (S.standing stage.old) (S.standing stage.new) result }
-    ensures decompiles { S.Tells stage.old → (image : List ℕ) → command_of (map string_bytes words.now) ≡ Some (DecompileOf image) →
-        Decompiles image (S.standing stage.old) (S.standing stage.new) result }
-    ensures walks { S.Tells stage.old → (image : List ℕ) (seed : ℕ) → command_of (map string_bytes words.now) ≡ Some (WalkOf image seed) →
-        (X : List (List ℕ)) → AreRowsOf F.Fn routines.now X → WalksIn X image seed (S.standing stage.old) (S.standing stage.new) result }
-    ensures traces { S.Tells stage.old → (image : List ℕ) (seed : ℕ) → command_of (map string_bytes words.now) ≡ Some (TraceOf image seed) →
-        (X : List (List ℕ)) → AreRowsOf F.Fn routines.now X → TracesIn X image seed (S.standing stage.old) (S.standing stage.new) result }
-    ensures plays { S.Tells stage.old → (image store : List ℕ) (seed : ℕ) → command_of (map string_bytes words.now) ≡ Some (PlayOf image store seed) →
-        (X : List (List ℕ)) → AreRowsOf F.Fn routines.now X → PlaysNewIn X image store seed (S.standing stage.old) (S.standing stage.new) result }
-    ensures any_moment_of_play { S.Tells stage.old → (image store : List ℕ) (seed : ℕ) → command_of (map string_bytes words.now) ≡ Some (PlayOf image store seed) →
-        (s : Story) → AreRowsOf F.Fn routines.now s.rows → Holds (S.standing stage.old) image s.game → store_bytes (S.standing stage.old) store ≡ [] →
-        Passes (S.clock stage.old) (S.clock stage.new) (S.since stage.old) (S.since stage.new) (InGame s seed store (S.standing stage.old)) }
-    ensures resumes { S.Tells stage.old → (image store : List ℕ) → command_of (map string_bytes words.now) ≡ Some (ResumeOf image store) →
-        (X : List (List ℕ)) → AreRowsOf F.Fn routines.now X → PlaysAgainIn X image store (S.standing stage.old) (S.standing stage.new) result }
-    ensures any_moment_from_a_state { S.Tells stage.old → (image store : List ℕ) → command_of (map string_bytes words.now) ≡ Some (ResumeOf image store) →
-        (s : Story) (st : State) (piece : List ℕ) → AreRowsOf F.Fn routines.now s.rows → Holds (S.standing stage.old) image s.game →
-        ShowsState s.game (digest_of s.game) (store_bytes (S.standing stage.old) store) st piece →
-        Passes (S.clock stage.old) (S.clock stage.new) (S.since stage.old) (S.since stage.new) (InAgain (session_from s store st piece) (S.standing stage.old)) }
-    ensures goes_on { S.Tells stage.old → (image store : List ℕ) → command_of (map string_bytes words.now) ≡ Some (ResumeOf image store) →
-        (s : Story) (seed : ℕ) (es : List (List ℕ)) → AreRowsOf F.Fn routines.now s.rows → Holds (S.standing stage.old) image s.game →
-        IsPlayedWith s seed es → Stands s seed es (store_bytes (S.standing stage.old) store) →
-        GoesOnIn image store s seed es (S.standing stage.old) (S.standing stage.new) result }
-    ensures any_moment_of_resume { S.Tells stage.old → (image store : List ℕ) → command_of (map string_bytes words.now) ≡ Some (ResumeOf image store) →
-        (s : Story) (seed : ℕ) (es : List (List ℕ)) → AreRowsOf F.Fn routines.now s.rows → Holds (S.standing stage.old) image s.game →
-        IsPlayedWith s seed es → Stands s seed es (store_bytes (S.standing stage.old) store) →
-        Passes (S.clock stage.old) (S.clock stage.new) (S.since stage.old) (S.since stage.new) (InGoingOn s seed es store (S.standing stage.old)) }
-    ensures tries { S.Tells stage.old → (n : ℕ) → command_of (map string_bytes words.now) ≡ Some (TrialOf n) →
-        Tries n (S.standing stage.old) (S.standing stage.new) result }
+    ensures usage { (result ≡ outcome.Usage) ↔ (asked words.now ≡ None) }
+    ensures idle { asked words.now ≡ None → stage.new ≡ stage.old }
+    ensures outside { IfOutside result (Makes (asked words.now)) }
+    ensures memory { IfMemory result (Needs (asked words.now)) }
+    ensures compiles { Across S.Stage stage.old stage.new (λ old new. (source image : List ℕ) →
+        asked words.now ≡ Some (CompileOf source image) → Compiles source image old new result) }
+    ensures decompiles { Across S.Stage stage.old stage.new (λ old new. (image : List ℕ) →
+        asked words.now ≡ Some (DecompileOf image) → Decompiles image old new result) }
+    ensures walks { Across S.Stage stage.old stage.new (λ old new. (image : List ℕ) (seed : ℕ) →
+        asked words.now ≡ Some (WalkOf image seed) → (X : List (List ℕ)) → AreRowsOf F.Fn routines.now X →
+        WalksIn X image seed old new result) }
+    ensures traces { Across S.Stage stage.old stage.new (λ old new. (image : List ℕ) (seed : ℕ) →
+        asked words.now ≡ Some (TraceOf image seed) → (X : List (List ℕ)) → AreRowsOf F.Fn routines.now X →
+        TracesIn X image seed old new result) }
+    ensures plays { Across S.Stage stage.old stage.new (λ old new. (image store : List ℕ) (seed : ℕ) →
+        asked words.now ≡ Some (PlayOf image store seed) → (X : List (List ℕ)) → AreRowsOf F.Fn routines.now X →
+        PlaysNewIn X image store seed old new result) }
+    ensures any_moment_of_play { Across S.Stage stage.old stage.new (λ old new. (image store : List ℕ) (seed : ℕ) →
+        asked words.now ≡ Some (PlayOf image store seed) → (s : Story) → AreRowsOf F.Fn routines.now s.rows →
+        Holds old image s.game → store_bytes old store ≡ [] →
+        EachMoment S.Stage stage.old stage.new (InGame s seed store old)) }
+    ensures resumes { Across S.Stage stage.old stage.new (λ old new. (image store : List ℕ) →
+        asked words.now ≡ Some (ResumeOf image store) → (X : List (List ℕ)) → AreRowsOf F.Fn routines.now X →
+        PlaysAgainIn X image store old new result) }
+    ensures any_moment_from_a_state { Across S.Stage stage.old stage.new (λ old new. (image store : List ℕ) →
+        asked words.now ≡ Some (ResumeOf image store) → (s : Story) (st : State) (piece : List ℕ) →
+        AreRowsOf F.Fn routines.now s.rows → Holds old image s.game →
+        ShowsState s.game (digest_of s.game) (store_bytes old store) st piece →
+        EachMoment S.Stage stage.old stage.new (InAgain (session_from s store st piece) old)) }
+    ensures goes_on { Across S.Stage stage.old stage.new (λ old new. (image store : List ℕ) →
+        asked words.now ≡ Some (ResumeOf image store) → (s : Story) (seed : ℕ) (es : List (List ℕ)) →
+        AreRowsOf F.Fn routines.now s.rows → Holds old image s.game →
+        IsPlayedWith s seed es → Stands s seed es (store_bytes old store) →
+        GoesOnIn image store s seed es old new result) }
+    ensures any_moment_of_resume { Across S.Stage stage.old stage.new (λ old new. (image store : List ℕ) →
+        asked words.now ≡ Some (ResumeOf image store) → (s : Story) (seed : ℕ) (es : List (List ℕ)) →
+        AreRowsOf F.Fn routines.now s.rows → Holds old image s.game →
+        IsPlayedWith s seed es → Stands s seed es (store_bytes old store) →
+        EachMoment S.Stage stage.old stage.new (InGoingOn s seed es store old)) }
+    ensures tries { Across S.Stage stage.old stage.new (λ old new. (n : ℕ) →
+        asked words.now ≡ Some (TrialOf n) → Tries n old new result) }
     ensures completes { S.Tells stage.old → NoFault (S.faults stage.old) (S.faults stage.new) →
-        Completes (S.standing stage.old) (command_of (map string_bytes words.now)) result }
+        Completes (S.standing stage.old) (asked words.now) result }
 {
     match command_of(words) {
         Some(Command::Compile { source, image }) => compile(alloc, stage, source, image),

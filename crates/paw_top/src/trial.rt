@@ -1,7 +1,7 @@
 // Playing a trial.
 
-ghost use Rattle.std.specs.Prelude.{◌≡◌, ◌≢◌, ◌↔◌, ℕ, None, string_bytes};
-ghost use Rattle.paw_stage.specs.Stage.{Standing, Rose, Grows, Faulted};
+ghost use Rattle.std.specs.Prelude.{◌≡◌, ◌≢◌, ◌↔◌, ℕ, None};
+ghost use Rattle.paw_stage.specs.Stage.{Standing, Faulted};
 ghost use Rattle.paw_trial.specs.Trial.{StopsAs, trial_reading};
 ghost use Rattle.paw_top.specs.Answers.{IfOutside, IfMemory, IsTrialCall, IsTrialMemory, failed_call};
 ghost use Rattle.paw_top.specs.Tries.{Tries};
@@ -32,11 +32,10 @@ fn stopped_as(end: TrialEnd) -> Outcome
 /// Plays the trial of this number, and shows its line.
 pub(crate) fn trial<S: Stage>(alloc: Global, stage: &mut S, n: u16) -> Outcome
     ensures tells { S.Tells stage.old ↔ S.Tells stage.new }
-    ensures counts { Grows (S.faults stage.old) (S.faults stage.new) }
     ensures faulted { Faulted (failed_call result) (S.faults stage.old) (S.faults stage.new) }
     ensures form { result ≢ outcome.Usage }
     ensures memory { IfMemory result IsTrialMemory }
-    ensures outside { IfOutside result (λ c. IsTrialCall c × Rose (S.faults stage.old c) (S.faults stage.new c)) }
+    ensures outside { IfOutside result IsTrialCall }
     ensures tries { S.Tells stage.old → Tries n (S.standing stage.old) (S.standing stage.new) result }
 {
     match trial_line(alloc, n) {

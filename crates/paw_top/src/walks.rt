@@ -2,7 +2,8 @@
 
 ghost use Rattle.std.specs.Prelude.{◌≢◌, ◌↔◌, ℕ, List};
 ghost use Rattle.paw_routines.specs.Routines.{AreRowsOf, HaveRows};
-ghost use Rattle.paw_stage.specs.Stage.{Standing, Rose, Grows, Faulted};
+ghost use Rattle.paw_stage.specs.Stage.{Faulted};
+ghost use Rattle.paw_stage.specs.Across.{Across};
 ghost use Rattle.paw_top.specs.Answers.{IfOutside, IfMemory, IsCall, IsPlayMemory, failed_call};
 ghost use Rattle.paw_top.specs.Walk.{WalksIn, TracesIn};
 ghost use Rattle.paw_top.specs.declared.outcome.Outcome.TheVariants as outcome;
@@ -27,13 +28,12 @@ pub(crate) fn walk<S: Stage, F: Fn(u8, u8) -> u8>(
 ) -> Outcome
     requires rows { HaveRows F.Fn routines.now }
     ensures tells { S.Tells stage.old ↔ S.Tells stage.new }
-    ensures counts { Grows (S.faults stage.old) (S.faults stage.new) }
     ensures faulted { Faulted (failed_call result) (S.faults stage.old) (S.faults stage.new) }
     ensures form { result ≢ outcome.Usage }
     ensures memory { IfMemory result IsPlayMemory }
-    ensures outside { IfOutside result (λ c. IsCall c × Rose (S.faults stage.old c) (S.faults stage.new c)) }
-    ensures walks { S.Tells stage.old → (X : List (List ℕ)) → AreRowsOf F.Fn routines.now X →
-        WalksIn X image.now seed (S.standing stage.old) (S.standing stage.new) result }
+    ensures outside { IfOutside result IsCall }
+    ensures walks { Across S.Stage stage.old stage.new (λ old new. (X : List (List ℕ)) →
+        AreRowsOf F.Fn routines.now X → WalksIn X image.now seed old new result) }
 {
     let bytes = match load(alloc, stage, image, IMAGE_LIMIT) {
         Ok(bytes) => bytes,
@@ -56,13 +56,12 @@ pub(crate) fn trace<S: Stage, F: Fn(u8, u8) -> u8>(
 ) -> Outcome
     requires rows { HaveRows F.Fn routines.now }
     ensures tells { S.Tells stage.old ↔ S.Tells stage.new }
-    ensures counts { Grows (S.faults stage.old) (S.faults stage.new) }
     ensures faulted { Faulted (failed_call result) (S.faults stage.old) (S.faults stage.new) }
     ensures form { result ≢ outcome.Usage }
     ensures memory { IfMemory result IsPlayMemory }
-    ensures outside { IfOutside result (λ c. IsCall c × Rose (S.faults stage.old c) (S.faults stage.new c)) }
-    ensures traces { S.Tells stage.old → (X : List (List ℕ)) → AreRowsOf F.Fn routines.now X →
-        TracesIn X image.now seed (S.standing stage.old) (S.standing stage.new) result }
+    ensures outside { IfOutside result IsCall }
+    ensures traces { Across S.Stage stage.old stage.new (λ old new. (X : List (List ℕ)) →
+        AreRowsOf F.Fn routines.now X → TracesIn X image.now seed old new result) }
 {
     let bytes = match load(alloc, stage, image, IMAGE_LIMIT) {
         Ok(bytes) => bytes,

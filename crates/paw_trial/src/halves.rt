@@ -62,7 +62,8 @@ fn stop_of(end: PlayEnd) -> Option<TrialEnd>
     }
 }
 
-/// Plays the first half of the lines, with a new session and no routines. None where the session then waits for another line.
+/// Plays the first half of the lines, with a new session and no routines. None where the session then waits for another
+/// line.
 pub(crate) fn play_first<F: Fn(u8, u8) -> u8>(
     alloc: Global,
     setting: &Setting,
@@ -88,7 +89,8 @@ pub(crate) fn play_first<F: Fn(u8, u8) -> u8>(
     ))
 }
 
-/// Takes the session up again, and plays the second half of the lines. None where the session then waits for another line.
+/// Takes the session up again, and plays the second half of the lines. None where the session then waits for another
+/// line.
 pub(crate) fn play_second<F: Fn(u8, u8) -> u8>(
     alloc: Global,
     setting: &Setting,

@@ -11,8 +11,8 @@ mod trial;
 use paw_base::fault::SpentKind;
 pub use trial::trial_line;
 
-/// Why a trial tells no line. Ended: the game is over. Spent: a piece would read or hold too much. TooDeep: a table was called
-/// at the deepest level. Memory: want of memory, or a call of the trial's own stage failed.
+/// Why a trial tells no line. Ended: the game is over. Spent: a piece would read or hold too much. TooDeep: a table was
+/// called at the deepest level. Memory: want of memory, or a call of the trial's own stage failed.
 #[derive(Clone, Copy, Drop, PartialEq, Eq, Debug)]
 pub enum TrialEnd {
     Ended,

@@ -57,8 +57,9 @@ fn played(alloc: Global, n: u16) -> Result<Tally, TrialEnd>
     }
 }
 
-/// Makes a large game and its lines from a number, plays the first half of them over a stage in memory, resumes from the session
-/// there for the rest, and tells in a line what that session counts. It is what the reading of the game with all lines counts.
+/// Makes a large game and its lines from a number, plays the first half of them over a stage in memory, resumes from
+/// the session there for the rest, and tells in a line what that session counts. It is what the reading of the game
+/// with all lines counts.
 ///
 /// # Errors
 /// Ended, Spent and TooDeep where that reading ends so. Memory for want of memory, or where a call of the stage failed.

@@ -22,16 +22,8 @@ pub returns-in-None-clause-tells : goal.returns-in-None-clause-tells
 returns-in-None-clause-tells g c =
     (λ t. c.told.ensures.tells.0 (c.commit.ensures.tells.0 (c.ask.ensures.tells.0 t)), λ t. c.ask.ensures.tells.1 (c.commit.ensures.tells.1 (c.told.ensures.tells.1 t)))
 
-pub returns-in-Some-told-clause-counts : goal.returns-in-Some-told-clause-counts
-returns-in-Some-told-clause-counts g c = λ k. omega (arith, c.ask.ensures.counts k, c.commit.ensures.counts k, c.told.ensures.counts k)
-
-pub returns-in-None-clause-counts : goal.returns-in-None-clause-counts
-returns-in-None-clause-counts g c = λ k. omega (arith, c.ask.ensures.counts k, c.commit.ensures.counts k, c.told.ensures.counts k)
-
 pub returns-in-Some-told-clause-outside : goal.returns-in-Some-told-clause-outside
-returns-in-Some-told-clause-outside g c =
-    outside_walk (g.S.Stage.faults c.args.stage.now) (g.S.Stage.faults c.commit.new.stage) (g.S.Stage.faults c.told.new.stage) (λ k. omega (arith, c.ask.ensures.counts k, c.commit.ensures.counts k))
-    c.in-Some-told.end c.in-Some-told.ensures.outside
+returns-in-Some-told-clause-outside g c = outside_walk c.in-Some-told.end c.in-Some-told.ensures.outside
 
 pub returns-in-None-clause-kept : goal.returns-in-None-clause-kept
 returns-in-None-clause-kept g c = λ tells.
@@ -72,7 +64,7 @@ returns-in-Err-clause-meaning g c = λ tells X rows s most n first w events few.
     plays_not (story_of c.args.player.now.game X) s most n (c.args.session.events + 1) first _ _ (g.S.Stage.standing c.commit.new.stage) c.args.player.now c.take-step.new.self _ a.0 c.take-step.result w
     c.requires.seated c.take-step.ensures.seated c.take-step.ensures.game c.take-step.ensures.last a.1 a.2.same a.3
     (c.take-step.ensures.meaning X rows w.walking.prompt w.walking.waits w.walking.pieces w.walking.traces) (shows_piece c.take-step.result c.in_default.ensures.value) counts (omega (arith, c.requires.few))
-    c.in-Err.call few (c.commit.ensures.beside now) c.in-Err.ensures.cause.0
+    c.in-Err.call few (c.commit.ensures.beside now) c.in-Err.ensures.cause
 
 pub returns-in-Err-clause-any_moment : goal.returns-in-Err-clause-any_moment
 returns-in-Err-clause-any_moment g c = λ tells X rows s most n first w events few.

@@ -18,15 +18,8 @@ returns-in-Some-told-clause-tells g c = (λ t. c.told.ensures.tells.0 (c.create.
 pub returns-in-None-clause-tells : goal.returns-in-None-clause-tells
 returns-in-None-clause-tells g c = (λ t. c.told.ensures.tells.0 (c.create.ensures.tells.0 t), λ t. c.create.ensures.tells.1 (c.told.ensures.tells.1 t))
 
-pub returns-in-Some-told-clause-counts : goal.returns-in-Some-told-clause-counts
-returns-in-Some-told-clause-counts g c = λ k. omega (arith, c.create.ensures.counts k, c.told.ensures.counts k)
-
-pub returns-in-None-clause-counts : goal.returns-in-None-clause-counts
-returns-in-None-clause-counts g c = λ k. omega (arith, c.create.ensures.counts k, c.told.ensures.counts k)
-
 pub returns-in-Some-told-clause-outside : goal.returns-in-Some-told-clause-outside
-returns-in-Some-told-clause-outside g c =
-    outside_walk (g.S.Stage.faults c.args.stage.now) (g.S.Stage.faults c.create.new.stage) (g.S.Stage.faults c.told.new.stage) c.create.ensures.counts c.in-Some-told.end c.in-Some-told.ensures.outside
+returns-in-Some-told-clause-outside g c = outside_walk c.in-Some-told.end c.in-Some-told.ensures.outside
 
 pub returns-in-None-clause-kept : goal.returns-in-None-clause-kept
 returns-in-None-clause-kept g c = λ tells.

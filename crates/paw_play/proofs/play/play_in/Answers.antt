@@ -9,7 +9,6 @@ use Rattle.paw_play.proofs.Begun.{begun_plays}
 use Rattle.paw_stage.proofs.Counted.{Faulted_on}
 use Rattle.paw_play.specs.Calls.{failed_call}
 use Rattle.paw_effects.specs.Story.{story_of}
-use Rattle.paw_play.proofs.Following.{outside_since}
 use Rattle.paw_play.proofs.play.play_in.Goals as goal
 
 pub begin-requires-clause-rows : goal.begin-requires-clause-rows
@@ -23,10 +22,6 @@ play_lines-requires-clause-kept g c = λ tells. c.in-Ok-begin.ensures.kept (c.be
 
 pub returns-in-Ok-begin-clause-tells : goal.returns-in-Ok-begin-clause-tells
 returns-in-Ok-begin-clause-tells g c = (λ t. c.play_lines.ensures.tells.0 (c.begin.ensures.tells.0 t), λ t. c.begin.ensures.tells.1 (c.play_lines.ensures.tells.1 t))
-
-pub returns-in-Ok-begin-clause-outside : goal.returns-in-Ok-begin-clause-outside
-returns-in-Ok-begin-clause-outside g c =
-    outside_since (g.S.Stage.faults c.args.stage.now) (g.S.Stage.faults c.begin.new.stage) (g.S.Stage.faults c.play_lines.new.stage) c.begin.ensures.counts c.play_lines.result c.play_lines.ensures.outside
 
 pub returns-in_default-clause-plays : goal.returns-in_default-clause-plays
 returns-in_default-clause-plays g c = λ tells X rows name store. memory refl

@@ -1,7 +1,7 @@
 use Rattle.std.proofs.Common.{◌≡◌, ◌+◌, ◌-◌, ◌*◌, ◌≤◌, ◌↔◌, ℕ, List, None}
 use Rattle.paw_routines.specs.Routines.{AreRowsOf, HaveRows}
 use Rattle.paw_effects.specs.Story.{story_of}
-use Rattle.paw_stage.specs.Stage.{Standing, Grows, Faulted}
+use Rattle.paw_stage.specs.Stage.{Standing, Faulted}
 use Rattle.paw_stage.specs.Moments.{Passes}
 use Rattle.paw_turn.specs.Player.{IsSeated}
 use Rattle.paw_journal.specs.Journal.{Keeps}
@@ -21,7 +21,6 @@ invariant-loop g l = record {
   few : l.counter ≤ MOST_EVENTS;
   draws : l.player.world.draws ≤ 200000 * (l.counter + 1);
   tells : g.S.Stage.Tells l.fn.stage ↔ g.S.Stage.Tells l.stage;
-  counts : Grows (g.S.Stage.faults l.fn.stage) (g.S.Stage.faults l.stage);
   faulted : Faulted None (g.S.Stage.faults l.fn.stage) (g.S.Stage.faults l.stage);
   kept : g.S.Stage.Tells l.fn.stage → Keeps l.session.journal l.room (g.S.Stage.standing l.stage);
   playing : g.S.Stage.Tells l.fn.stage → (X : List (List ℕ)) → AreRowsOf g.F.Fn l.fn.player.routines X → (s : Played) (first : Standing) →

@@ -11,7 +11,7 @@ use Rattle.paw_effects.specs.Story.{story_of}
 use Rattle.paw_play.proofs.play.play_loop.Goals as goal
 
 pub returns-in-Err-clause-plays : goal.returns-in-Err-clause-plays
-returns-in-Err-clause-plays g c = λ tells X rows. rw c.in-Err.ensures.cause.0 (unattached (c.in-Err.ensures.left tells))
+returns-in-Err-clause-plays g c = λ tells X rows. rw c.in-Err.ensures.cause (unattached (c.in-Err.ensures.left tells))
 
 pub returns-then-at-ne0-clause-plays : goal.returns-then-at-ne0-clause-plays
 returns-then-at-ne0-clause-plays g c = λ tells X rows.

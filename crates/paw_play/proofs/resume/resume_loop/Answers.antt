@@ -22,7 +22,7 @@ returns-clause-tells g c = (
 )
 
 pub returns-in-Err-clause-plays : goal.returns-in-Err-clause-plays
-returns-in-Err-clause-plays g c = λ tells X rows. rw c.in-Err.ensures.cause.0 (unattached (c.in-Err.ensures.left tells))
+returns-in-Err-clause-plays g c = λ tells X rows. rw c.in-Err.ensures.cause (unattached (c.in-Err.ensures.left tells))
 
 pub returns-in_default-clause-plays : goal.returns-in_default-clause-plays
 returns-in_default-clause-plays g c = λ tells X rows. wanting (c.in-Ok.ensures.attached tells).1
@@ -35,7 +35,7 @@ returns-in_default-clause-any_moment g c = λ tells X rows st piece shows.
 
 pub returns-in-Err-find-clause-outside : goal.returns-in-Err-find-clause-outside
 returns-in-Err-find-clause-outside g c =
-    rw c.not_found.ensures.value (outside_again (g.S.Stage.faults c.args.stage.now) (g.S.Stage.faults c.attach.new.stage) (g.S.Stage.faults c.find.new.stage) c.in-Err-find.refusal c.attach.ensures.counts c.in-Err-find.ensures.cause)
+    rw c.not_found.ensures.value (outside_again c.in-Err-find.refusal c.in-Err-find.ensures.cause)
 
 pub returns-in-Err-find-clause-plays : goal.returns-in-Err-find-clause-plays
 returns-in-Err-find-clause-plays g c = λ tells X rows.
@@ -43,7 +43,7 @@ returns-in-Err-find-clause-plays g c = λ tells X rows.
     let now = c.attach.ensures.tells.0 tells in
     let found = c.in-Err-find.ensures.found now in
     rw c.not_found.ensures.value
-    (refused_again (story_of (g.T.Tables.game c.args.tables.now) X) c.args.game.now c.args.name.now (g.S.Stage.standing c.args.stage.now) (g.S.Stage.standing c.find.new.stage) (g.S.Stage.faults c.attach.new.stage) (g.S.Stage.faults c.find.new.stage) c.in-Err-find.refusal
+    (refused_again (story_of (g.T.Tables.game c.args.tables.now) X) c.args.game.now c.args.name.now (g.S.Stage.standing c.args.stage.now) (g.S.Stage.standing c.find.new.stage) c.in-Err-find.refusal
     (subst (λ (q : Standing). IsRefused (recover q.disk.bytes) c.args.game.now c.in-Err-find.refusal) a.1 found) c.in-Err-find.ensures.cause (c.find.ensures.still now ∙ a.1))
 
 pub returns-in-Err-find-clause-any_moment : goal.returns-in-Err-find-clause-any_moment

@@ -21,7 +21,6 @@ loop-preserved g c = record {
   rows = rw c.walk_line.ensures.routines c.loop.invariant.rows;
   draws = omega (arith, c.walk_line.ensures.draws, c.loop.invariant.draws);
   tells = (λ t. c.walk_line.ensures.tells.0 (c.loop.invariant.tells.0 t), λ t. c.loop.invariant.tells.1 (c.walk_line.ensures.tells.1 t));
-  counts = λ k. omega (arith, c.loop.invariant.counts k, c.walk_line.ensures.counts k);
   faulted = Faulted_on None _ _ _ c.loop.invariant.faulted c.in_default.ensures.faulted;
   walking = λ tells X rows whole first start.
       let w = c.loop.invariant.walking tells X rows whole first start in

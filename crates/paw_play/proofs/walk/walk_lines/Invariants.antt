@@ -1,5 +1,5 @@
 use Rattle.std.proofs.Common.{◌≡◌, ◌+◌, ◌*◌, ◌≤◌, ◌↔◌, ℕ, List, None}
-use Rattle.paw_stage.specs.Stage.{Standing, Grows, Faulted}
+use Rattle.paw_stage.specs.Stage.{Standing, Faulted}
 use Rattle.paw_turn.specs.Player.{IsSeated}
 use Rattle.paw_play.specs.Walk.{Reading}
 use Rattle.paw_play.specs.OnTheWay.{IsWalking}
@@ -14,7 +14,6 @@ invariant-loop g l = record {
   game : l.player.game ≡ l.fn.player.game;
   draws : l.player.world.draws ≤ 200000 * (l.counter + 1);
   tells : g.S.Stage.Tells l.fn.stage ↔ g.S.Stage.Tells l.stage;
-  counts : Grows (g.S.Stage.faults l.fn.stage) (g.S.Stage.faults l.stage);
   faulted : Faulted None (g.S.Stage.faults l.fn.stage) (g.S.Stage.faults l.stage);
   routines : l.player.routines ≡ l.fn.player.routines;
   rows : HaveRows g.F.Fn l.player.routines;

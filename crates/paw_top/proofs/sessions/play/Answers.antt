@@ -37,7 +37,7 @@ pub play_loop-requires-clause-game : goal.play_loop-requires-clause-game
 play_loop-requires-clause-game g c = c.digest-kept.ensures.value ∙ ap sha256 (c.bytes.ensures.value ∙ c.bytes.ensures.image.spelled)
 
 pub returns-clause-outside : goal.returns-clause-outside
-returns-clause-outside g c = kept_outside _ _ _ c.play_loop.result c.outcome_of.result c.load.ensures.counts c.outcome_of.ensures.value c.play_loop.ensures.outside
+returns-clause-outside g c = kept_outside c.play_loop.result c.outcome_of.result c.outcome_of.ensures.value c.play_loop.ensures.outside
 
 pub returns-clause-plays : goal.returns-clause-plays
 returns-clause-plays g c = λ tells X rows.

@@ -21,7 +21,7 @@ returns-in-Err-view_in-clause-traces g c = λ tells X rows.
     (subst (λ b. GivesNone b c.in-Err-view_in.outcome) c.as_slice.ensures.value c.in-Err-view_in.ensures.none))
 
 pub returns-clause-outside : goal.returns-clause-outside
-returns-clause-outside g c = walk_outside _ _ _ c.trace_loop.result c.outcome_of.result c.load.ensures.counts c.outcome_of.ensures.value c.trace_loop.ensures.outside
+returns-clause-outside g c = walk_outside c.trace_loop.result c.outcome_of.result c.outcome_of.ensures.value c.trace_loop.ensures.outside
 
 pub returns-clause-traces : goal.returns-clause-traces
 returns-clause-traces g c = λ tells X rows.

@@ -1,0 +1,20 @@
+use Rattle.std.proofs.Common.{◌≡◌, List, ℕ, refl, ap}
+use Rattle.std.specs.Prelude.{Result, Ok, Err, OnOk, OnErr}
+use Rattle.paw_stage.specs.declared.Failed.{Failed}
+use Rattle.paw_stage.specs.Stage.{Standing, ShowsTo, ShowsPart, with_shown}
+use Rattle.paw_play.proofs.show.show.Goals as goal
+
+-- what a show that was done leaves, and one that failed
+done : {A : Type 0} (old new : Standing) (text : List ℕ) (r : Result A Failed) → ShowsTo old new text r → OnOk r (new ≡ with_shown text old)
+done old new text (Ok a) h = h
+done old new text (Err e) h = tt
+
+failed : {A : Type 0} (old new : Standing) (text : List ℕ) (r : Result A Failed) → ShowsTo old new text r → OnErr r (ShowsPart text old new)
+failed old new text (Ok a) h = tt
+failed old new text (Err e) h = h
+
+pub returns-clause-shown : goal.returns-clause-shown
+returns-clause-shown g c tells = done _ _ c.args.text.now c.show.result (c.show.ensures.answer tells)
+
+pub returns-clause-part : goal.returns-clause-part
+returns-clause-part g c tells = failed _ _ c.args.text.now c.show.result (c.show.ensures.answer tells)
