@@ -16,7 +16,9 @@ first_is : (all : List Change) → first_unsound all ≡ position_from (λ c. no
 first_is all = position_from-zero (λ c. not (is_sound c)) all
 
 pub unsound_end : (all old : List ℕ) (number : ℕ) (rest now : List ℕ) → Applies all old number rest now → length rest < 4 → None ≡ first_unsound (changes all)
-unsound_end all old number rest now h low = sym (first_is (changes all) ∙ (h.unsound ∙ ap (λ r. position_from (λ c. not (is_sound c)) number r) (none rest low)))
+unsound_end all old number rest now h low =
+    sym (first_is (changes all) ∙ (h.unsound
+    ∙ ap (λ r. position_from (λ c. not (is_sound c)) number r) (none rest low)))
   where
     none : (rest : List ℕ) → length rest < 4 → changes rest ≡ []
     none [] low = refl
@@ -25,17 +27,23 @@ unsound_end all old number rest now h low = sym (first_is (changes all) ∙ (h.u
     none (a ∷ b ∷ c ∷ []) low = refl
     none (a ∷ b ∷ c ∷ d ∷ rest) low = absurd (omega arith)
 
-unsound_here : (all old : List ℕ) (number a b c d : ℕ) (rest now : List ℕ) → Applies all old number (a ∷ b ∷ c ∷ d ∷ rest) now → is_sound (record { at = a + 256 * b; byte = c; last = d }) ≡ false → Some number ≡ first_unsound (changes all)
-unsound_here all old number a b c d rest now h e = sym (first_is (changes all) ∙ (h.unsound ∙ ap (λ t. if not t then Some number else position_from (λ c. not (is_sound c)) (number + 1) (changes rest)) e))
+unsound_here : (all old : List ℕ) (number a b c d : ℕ) (rest now : List ℕ) →
+    Applies all old number (a ∷ b ∷ c ∷ d ∷ rest) now →
+    is_sound (record { at = a + 256 * b; byte = c; last = d }) ≡ false → Some number ≡ first_unsound (changes all)
+unsound_here all old number a b c d rest now h e =
+    sym (first_is (changes all) ∙ (h.unsound
+    ∙ ap (λ t. if not t then Some number else position_from (λ c. not (is_sound c)) (number + 1) (changes rest)) e))
 
-pub unsound_place : (all old : List ℕ) (number : ℕ) (rest now : List ℕ) → Applies all old number rest now → 4 ≤ length rest → 4096 ≤ get_or rest 0 0 + 256 * get_or rest 1 0 → Some number ≡ first_unsound (changes all)
+pub unsound_place : (all old : List ℕ) (number : ℕ) (rest now : List ℕ) → Applies all old number rest now →
+    4 ≤ length rest → 4096 ≤ get_or rest 0 0 + 256 * get_or rest 1 0 → Some number ≡ first_unsound (changes all)
 unsound_place all old number (a ∷ b ∷ c ∷ d ∷ rest) now h low e = unsound_here all old number a b c d rest now h (grind (arith, nat_tests))
 unsound_place all old number [] now h low e = absurd (omega arith)
 unsound_place all old number (a ∷ []) now h low e = absurd (omega arith)
 unsound_place all old number (a ∷ b ∷ []) now h low e = absurd (omega arith)
 unsound_place all old number (a ∷ b ∷ c ∷ []) now h low e = absurd (omega arith)
 
-pub unsound_last : (all old : List ℕ) (number : ℕ) (rest now : List ℕ) → Applies all old number rest now → 4 ≤ length rest → get_or rest 3 0 ≢ 0 → Some number ≡ first_unsound (changes all)
+pub unsound_last : (all old : List ℕ) (number : ℕ) (rest now : List ℕ) → Applies all old number rest now →
+    4 ≤ length rest → get_or rest 3 0 ≢ 0 → Some number ≡ first_unsound (changes all)
 unsound_last all old number (a ∷ b ∷ c ∷ d ∷ rest) now h low e = unsound_here all old number a b c d rest now h (grind (arith, nat_tests))
 unsound_last all old number [] now h low e = absurd (omega arith)
 unsound_last all old number (a ∷ []) now h low e = absurd (omega arith)

@@ -19,7 +19,9 @@ slot_small which.First = omega arith
 slot_small which.Second = omega arith
 
 -- the selector hides behind the choice of a slot
-pub selector_hidden : (j : ℕ) (image old : List ℕ) → j < 2 → length image ≡ length old → length old ≡ session_length → ((i : ℕ) → i < length old → (i < 1) ⊎ (2 ≤ i) → get_or image i 0 ≡ get_or old i 0) → recover_by j image ≡ recover_by j old
+pub selector_hidden : (j : ℕ) (image old : List ℕ) → j < 2 → length image ≡ length old → length old ≡ session_length →
+    ((i : ℕ) → i < length old → (i < 1) ⊎ (2 ≤ i) → get_or image i 0 ≡ get_or old i 0) →
+    recover_by j image ≡ recover_by j old
 selector_hidden j image old low n long same =
     recover_by_same j image old n
     (λ i h ne. same i (omega arith) (apart i ne))
@@ -32,7 +34,8 @@ pub either_slot : (b k : ℕ) → k < 2 → (b % 2 ≡ 1 - k) ⊎ (b % 2 ≡ k)
 either_slot b k low = grind arith
 
 -- while the selector is written a crash leaves what one of the slots shows
-pub choosing : (k : ℕ) (old : List ℕ) (d : Disk) → k < 2 → length old ≡ session_length → IsWithin 1 2 old d → Leaves (IsEither (recover_by (1 - k) old) (recover_by k old)) d
+pub choosing : (k : ℕ) (old : List ℕ) (d : Disk) → k < 2 → length old ≡ session_length → IsWithin 1 2 old d →
+    Leaves (IsEither (recover_by (1 - k) old) (recover_by k old)) d
 choosing k old d low long h image l =
     let n : length image ≡ length old = within_long 1 2 old image d h l in
     let same : (i : ℕ) → i < length old → (i < 1) ⊎ (2 ≤ i) → get_or image i 0 ≡ get_or old i 0 = within_same 1 2 old image d h l in
@@ -41,20 +44,28 @@ choosing k old d low long h image l =
       | inr e ↦ inr (recover_is k image e ∙ selector_hidden k image old low n long same)
     ]
 
-pub in_choosing : (k : ℕ) (s : Standing) (m : Moment) → k < 2 → length s.disk.bytes ≡ session_length → IsStable s.disk → InWrite s 1 1 m → InStore s (Leaves (IsEither (recover_by (1 - k) s.disk.bytes) (recover_by k s.disk.bytes))) m
-in_choosing k s m low long h w = in_moved_write 1 2 1 1 s s _ m (moved_none 1 2 s h) (omega arith) (omega arith) (omega arith) (λ d i. choosing k s.disk.bytes d low long i) w
+pub in_choosing : (k : ℕ) (s : Standing) (m : Moment) → k < 2 → length s.disk.bytes ≡ session_length → IsStable s.disk →
+    InWrite s 1 1 m → InStore s (Leaves (IsEither (recover_by (1 - k) s.disk.bytes) (recover_by k s.disk.bytes))) m
+in_choosing k s m low long h w = in_moved_write 1 2 1 1 s s _ m (moved_none 1 2 s h) (omega arith) (omega arith)
+    (omega arith) (λ d i. choosing k s.disk.bytes d low long i) w
 
-pub chose : (x : ℕ) (s t : Standing) (n : ℕ) → length s.disk.bytes ≡ session_length → IsStable s.disk → t ≡ wrote s (touched 1 1 (x ∷ []) s.disk) n → IsMoved 1 2 s t
+pub chose : (x : ℕ) (s t : Standing) (n : ℕ) → length s.disk.bytes ≡ session_length → IsStable s.disk →
+    t ≡ wrote s (touched 1 1 (x ∷ []) s.disk) n → IsMoved 1 2 s t
 chose x s t n long h e = moved_wrote 1 2 1 1 n (x ∷ []) s s t (moved_none 1 2 s h) (omega arith) (omega arith) (omega arith) (omega arith) e
 
-pub in_chosen : (k : ℕ) (s t : Standing) (m : Moment) → k < 2 → length s.disk.bytes ≡ session_length → IsMoved 1 2 s t → InSync t m → InStore s (Leaves (IsEither (recover_by (1 - k) s.disk.bytes) (recover_by k s.disk.bytes))) m
-in_chosen k s t m low long h w = in_moved_sync 1 2 s t (IsEither (recover_by (1 - k) s.disk.bytes) (recover_by k s.disk.bytes)) m h (λ d i. choosing k s.disk.bytes d low long i) w
+pub in_chosen : (k : ℕ) (s t : Standing) (m : Moment) → k < 2 → length s.disk.bytes ≡ session_length → IsMoved 1 2 s t →
+    InSync t m → InStore s (Leaves (IsEither (recover_by (1 - k) s.disk.bytes) (recover_by k s.disk.bytes))) m
+in_chosen k s t m low long h w = in_moved_sync 1 2 s t
+    (IsEither (recover_by (1 - k) s.disk.bytes) (recover_by k s.disk.bytes)) m h
+    (λ d i. choosing k s.disk.bytes d low long i) w
 
 -- the selector is the slot's
 pub selector_is : (k : ℕ) (old : List ℕ) → k < 2 → length old ≡ session_length → chosen (put 1 (k ∷ []) old) ≡ k
 selector_is k old low long = let h : k % 2 ≡ k = grind arith in ap (λ b. b % 2) (put_one 1 k old (omega arith)) ∙ h
 
-pub chosen_shown : (k x n : ℕ) (s t u : Standing) → k < 2 → length s.disk.bytes ≡ session_length → IsStable s.disk → x ≡ k → t ≡ wrote s (touched 1 1 (x ∷ []) s.disk) n → u ≡ record t { disk = stable t.disk.bytes } → recover u.disk.bytes ≡ recover_by k s.disk.bytes
+pub chosen_shown : (k x n : ℕ) (s t u : Standing) → k < 2 → length s.disk.bytes ≡ session_length → IsStable s.disk →
+    x ≡ k → t ≡ wrote s (touched 1 1 (x ∷ []) s.disk) n → u ≡ record t { disk = stable t.disk.bytes } →
+    recover u.disk.bytes ≡ recover_by k s.disk.bytes
 chosen_shown k x n s t u low long h e w q =
     let m : IsMoved 1 2 s t = chose x s t n long h w in
     let b : t.disk.bytes ≡ put 1 (k ∷ []) s.disk.bytes = ap (λ y. y.disk.bytes) w ∙ ap (λ j. put 1 (j ∷ []) s.disk.bytes) e in
@@ -62,12 +73,16 @@ chosen_shown k x n s t u low long h e w q =
     ∙ (recover_is k t.disk.bytes (ap chosen b ∙ selector_is k s.disk.bytes low long)
     ∙ selector_hidden k t.disk.bytes s.disk.bytes low m.within.long long (λ i l o. m.within.same i o))
 
-pub chosen_digest : (x n : ℕ) (s t u : Standing) → length s.disk.bytes ≡ session_length → IsStable s.disk → t ≡ wrote s (touched 1 1 (x ∷ []) s.disk) n → u ≡ record t { disk = stable t.disk.bytes } → kept_digest u.disk.bytes ≡ kept_digest s.disk.bytes
+pub chosen_digest : (x n : ℕ) (s t u : Standing) → length s.disk.bytes ≡ session_length → IsStable s.disk →
+    t ≡ wrote s (touched 1 1 (x ∷ []) s.disk) n → u ≡ record t { disk = stable t.disk.bytes } →
+    kept_digest u.disk.bytes ≡ kept_digest s.disk.bytes
 chosen_digest x n s t u long h w q =
     let m : IsMoved 1 2 s t = chose x s t n long h w in
     ap (λ y. kept_digest y.disk.bytes) q ∙ stretch_same 32 32 t.disk.bytes s.disk.bytes m.within.long (λ i l u. m.within.same i (inr (omega arith)))
 
-pub chosen_slot : (k x n : ℕ) (s t u : Standing) → k < 2 → length s.disk.bytes ≡ session_length → IsStable s.disk → t ≡ wrote s (touched 1 1 (x ∷ []) s.disk) n → u ≡ record t { disk = stable t.disk.bytes } → slot k u.disk.bytes ≡ slot k s.disk.bytes
+pub chosen_slot : (k x n : ℕ) (s t u : Standing) → k < 2 → length s.disk.bytes ≡ session_length → IsStable s.disk →
+    t ≡ wrote s (touched 1 1 (x ∷ []) s.disk) n → u ≡ record t { disk = stable t.disk.bytes } →
+    slot k u.disk.bytes ≡ slot k s.disk.bytes
 chosen_slot k x n s t u low long h w q =
     let m : IsMoved 1 2 s t = chose x s t n long h w in
     ap (λ y. slot k y.disk.bytes) q ∙ stretch_same _ slot_length t.disk.bytes s.disk.bytes m.within.long (λ i l u. m.within.same i (inr (omega arith)))

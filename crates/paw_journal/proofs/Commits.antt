@@ -21,7 +21,10 @@ pub keeps_of : (w : Slot) (room : Room) (bytes : List ℕ) → KeepsSlots room b
 keeps_of which.First room bytes h = h.first
 keeps_of which.Second room bytes h = h.second
 
-module _ (k : ℕ) (draft : Draft) (kept : Option SlotState) (state bytes piece : List ℕ) (s t : Standing) (f : IsFilling k s t) (d : Drafts kept state bytes draft) (e : kept ≡ kept_slot (slot k s.disk.bytes)) (w : slot k t.disk.bytes ≡ written_slot draft bytes piece (slot k s.disk.bytes)) (short : length piece ≤ 65535) where
+module _ (k : ℕ) (draft : Draft) (kept : Option SlotState) (state bytes piece : List ℕ) (s t : Standing)
+    (f : IsFilling k s t) (d : Drafts kept state bytes draft) (e : kept ≡ kept_slot (slot k s.disk.bytes))
+    (w : slot k t.disk.bytes ≡ written_slot draft bytes piece (slot k s.disk.bytes)) (short : length piece ≤ 65535)
+    where
   long : length (slot k s.disk.bytes) ≡ 86080
   long = slot_long k s.disk.bytes f.low f.made.long
 
@@ -41,7 +44,10 @@ module _ (k : ℕ) (draft : Draft) (kept : Option SlotState) (state bytes piece 
       ∙ (kept_shows (kept_digest s.disk.bytes) (slot k t.disk.bytes) draft.records state h ∙ ap (Shown (kept_digest s.disk.bytes) (take state_length state)) p))
 
 -- the states of both slots afterwards
-pub committed_slots : (w : Slot) (x : Option SlotState) (old now : Room) (a b c : List ℕ) → KeepsSlots old a → now.first ≡ (with_kept w x old).first → now.second ≡ (with_kept w x old).second → slot (1 - slot_number w) b ≡ slot (1 - slot_number w) a → kept_slot (slot (slot_number w) b) ≡ x → ((k : ℕ) → k < 2 → slot k c ≡ slot k b) → KeepsSlots now c
+pub committed_slots : (w : Slot) (x : Option SlotState) (old now : Room) (a b c : List ℕ) → KeepsSlots old a →
+    now.first ≡ (with_kept w x old).first → now.second ≡ (with_kept w x old).second →
+    slot (1 - slot_number w) b ≡ slot (1 - slot_number w) a → kept_slot (slot (slot_number w) b) ≡ x →
+    ((k : ℕ) → k < 2 → slot k c ≡ slot k b) → KeepsSlots now c
 committed_slots which.First x old now a b c h f g o n same = record {
   first = f ∙ (sym n ∙ ap kept_slot (sym (same 0 (omega arith))));
   second = g ∙ (h.second ∙ (ap kept_slot (sym o) ∙ ap kept_slot (sym (same 1 (omega arith)))));
@@ -52,7 +58,9 @@ committed_slots which.Second x old now a b c h f g o n same = record {
 }
 
 -- how much it wrote
-pub committed_few : (w : Slot) (k : ℕ) (room : Room) (old bytes state piece : List ℕ) (draft : Draft) → KeepsSlots room old → slot_number w ≡ k → Drafts (kept_of w room) state bytes draft → length bytes + length piece + 4 ≤ most_written (kept_slot (slot k old)) state piece
+pub committed_few : (w : Slot) (k : ℕ) (room : Room) (old bytes state piece : List ℕ) (draft : Draft) →
+    KeepsSlots room old → slot_number w ≡ k → Drafts (kept_of w room) state bytes draft →
+    length bytes + length piece + 4 ≤ most_written (kept_slot (slot k old)) state piece
 committed_few w k room old bytes state piece draft h e d =
     let f : kept_of w room ≡ kept_slot (slot k old) = keeps_of w room old h ∙ ap (λ j. kept_slot (slot j old)) e in
     rw (← f) (d.few piece)
@@ -72,7 +80,15 @@ same_second : (w : Slot) (x : Option SlotState) (a b : Room) → a.second ≡ b.
 same_second which.First x a b e = e
 same_second which.Second x a b e = refl
 
-pub committed_keeps : (w : Slot) (x : SlotState) (old drafted held now : Room) (state piece : List ℕ) (s t u : Standing) → KeepsSlots old s.disk.bytes → drafted ≡ record old { slot = drafted.slot } → held ≡ record drafted { state = state; piece = piece } → now ≡ with_kept w (Some x) held → IsAtRest u → chosen u.disk.bytes ≡ slot_number w → recover u.disk.bytes ≡ Shown (kept_digest s.disk.bytes) (take state_length state) piece → kept_digest u.disk.bytes ≡ kept_digest s.disk.bytes → slot (1 - slot_number w) t.disk.bytes ≡ slot (1 - slot_number w) s.disk.bytes → kept_slot (slot (slot_number w) t.disk.bytes) ≡ Some x → ((k : ℕ) → k < 2 → slot k u.disk.bytes ≡ slot k t.disk.bytes) → Keeps (record { slot = w }) now u
+pub committed_keeps : (w : Slot) (x : SlotState) (old drafted held now : Room) (state piece : List ℕ)
+    (s t u : Standing) → KeepsSlots old s.disk.bytes → drafted ≡ record old { slot = drafted.slot } →
+    held ≡ record drafted { state = state; piece = piece } → now ≡ with_kept w (Some x) held → IsAtRest u →
+    chosen u.disk.bytes ≡ slot_number w →
+    recover u.disk.bytes ≡ Shown (kept_digest s.disk.bytes) (take state_length state) piece →
+    kept_digest u.disk.bytes ≡ kept_digest s.disk.bytes →
+    slot (1 - slot_number w) t.disk.bytes ≡ slot (1 - slot_number w) s.disk.bytes →
+    kept_slot (slot (slot_number w) t.disk.bytes) ≡ Some x →
+    ((k : ℕ) → k < 2 → slot k u.disk.bytes ≡ slot k t.disk.bytes) → Keeps (record { slot = w }) now u
 committed_keeps w x old drafted held now state piece s t u h d e f rests chooses shows digest other new same =
     let a : now.state ≡ state = ap (λ r. r.state) f ∙ (state_stays w (Some x) held ∙ ap (λ r. r.state) e) in
     let b : now.piece ≡ piece = ap (λ r. r.piece) f ∙ (piece_stays w (Some x) held ∙ ap (λ r. r.piece) e) in
@@ -81,6 +97,10 @@ committed_keeps w x old drafted held now state piece s t u h d e f rests chooses
     record {
       rests = rests;
       chosen = chooses;
-      shown = shows ∙ (ap (λ y. Shown y (take state_length state) piece) (sym digest) ∙ (ap (λ l. Shown (kept_digest u.disk.bytes) (take state_length l) piece) (sym a) ∙ ap (Shown (kept_digest u.disk.bytes) (take state_length now.state)) (sym b)));
-      slots = committed_slots w (Some x) old now s.disk.bytes t.disk.bytes u.disk.bytes h (ap (λ r. r.first) f ∙ same_first w (Some x) held old one) (ap (λ r. r.second) f ∙ same_second w (Some x) held old two) other new same;
+      shown = shows ∙ (ap (λ y. Shown y (take state_length state) piece) (sym digest)
+      ∙ (ap (λ l. Shown (kept_digest u.disk.bytes) (take state_length l) piece) (sym a)
+      ∙ ap (Shown (kept_digest u.disk.bytes) (take state_length now.state)) (sym b)));
+      slots = committed_slots w (Some x) old now s.disk.bytes t.disk.bytes u.disk.bytes h
+      (ap (λ r. r.first) f ∙ same_first w (Some x) held old one)
+      (ap (λ r. r.second) f ∙ same_second w (Some x) held old two) other new same;
     }

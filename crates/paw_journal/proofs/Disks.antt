@@ -7,9 +7,11 @@ use Rattle.paw_journal.specs.Steps.{IsWithin}
 use Rattle.paw_journal.proofs.Parts.{length_put, put_below, put_above}
 
 pub within_stable : (lo hi : ℕ) (d : Disk) → IsStable d → IsWithin lo hi d.bytes d
-within_stable lo hi d h = record { long = refl; synced = ap length h.kept; longest = h.longest; same = λ i o. refl; clean = λ i o. ap (λ r. is_dirty r i) h.dirty }
+within_stable lo hi d h = record { long = refl; synced = ap length h.kept; longest = h.longest; same =
+    λ i o. refl; clean = λ i o. ap (λ r. is_dirty r i) h.dirty }
 
-within_touched : (lo hi at n : ℕ) (old new : List ℕ) (d : Disk) → IsWithin lo hi old d → lo ≤ at → at + n ≤ hi → hi ≤ length old → length new ≤ n → IsWithin lo hi old (touched at n new d)
+within_touched : (lo hi at n : ℕ) (old new : List ℕ) (d : Disk) → IsWithin lo hi old d → lo ≤ at → at + n ≤ hi →
+    hi ≤ length old → length new ≤ n → IsWithin lo hi old (touched at n new d)
 within_touched lo hi at n old new d h low high long short =
     record {
       long = omega (arith, length_put at new d.bytes (omega (arith, h.long)), h.long);
@@ -19,15 +21,18 @@ within_touched lo hi at n old new d h low high long short =
         | inl l ↦ put_below at new d.bytes i (omega (arith, h.long)) (omega arith) ∙ h.same i (inl l)
         | inr l ↦ put_above at new d.bytes i (omega (arith, h.long)) (omega arith) ∙ h.same i (inr l)
       ];
-      clean = λ i o. elim o [ inl l ↦ not_in at n i _ (inl (omega arith)) (h.clean i (inl l)) | inr l ↦ not_in at n i _ (inr (omega arith)) (h.clean i (inr l)) ];
+      clean = λ i o. elim o [ inl l ↦ not_in at n i _ (inl (omega arith)) (h.clean i (inl l)) | inr l ↦ not_in at n i _
+      (inr (omega arith)) (h.clean i (inr l)) ];
     }
   where
-    not_in : (at n i : ℕ) (ranges : List Range) → (i < at) ⊎ (at + n ≤ i) → is_dirty ranges i ≡ false → is_dirty (record { from = at; to = at + n } ∷ ranges) i ≡ false
+    not_in : (at n i : ℕ) (ranges : List Range) → (i < at) ⊎ (at + n ≤ i) → is_dirty ranges i ≡ false →
+      is_dirty (record { from = at; to = at + n } ∷ ranges) i ≡ false
     not_in at n i ranges (inl l) c = grind (arith, nat_tests)
     not_in at n i ranges (inr l) c = grind (arith, nat_tests)
 
 -- a write inside the stretch
-pub within_write : (lo hi at n : ℕ) (old : List ℕ) (d m : Disk) → IsWithin lo hi old d → lo ≤ at → at + n ≤ hi → hi ≤ length old → IsInWrite at n d m → IsWithin lo hi old m
+pub within_write : (lo hi at n : ℕ) (old : List ℕ) (d m : Disk) → IsWithin lo hi old d → lo ≤ at → at + n ≤ hi →
+    hi ≤ length old → IsInWrite at n d m → IsWithin lo hi old m
 within_write lo hi at n old d m h low high long (inl e) = subst (λ y. IsWithin lo hi old y) (sym e) h
 within_write lo hi at n old d m h low high long (inr q) = subst (λ y. IsWithin lo hi old y) (sym q.2) (within_touched lo hi at n old q.0 d h low high long q.1)
 
@@ -35,7 +40,8 @@ within_write lo hi at n old d m h low high long (inr q) = subst (λ y. IsWithin 
 pub within_long : (lo hi : ℕ) (old image : List ℕ) (d : Disk) → IsWithin lo hi old d → MayLeave d image → length image ≡ length old
 within_long lo hi old image d h m = omega (arith, h.synced, h.longest, m.no_shorter, m.no_longer)
 
-pub within_same : (lo hi : ℕ) (old image : List ℕ) (d : Disk) → IsWithin lo hi old d → MayLeave d image → (i : ℕ) → i < length old → (i < lo) ⊎ (hi ≤ i) → get_or image i 0 ≡ get_or old i 0
+pub within_same : (lo hi : ℕ) (old image : List ℕ) (d : Disk) → IsWithin lo hi old d → MayLeave d image → (i : ℕ) →
+    i < length old → (i < lo) ⊎ (hi ≤ i) → get_or image i 0 ≡ get_or old i 0
 within_same lo hi old image d h m i low o = m.clean i (omega (arith, h.synced)) (h.clean i o) ∙ h.same i o
 
 pub stable_is : (bytes : List ℕ) → IsStable (stable bytes)

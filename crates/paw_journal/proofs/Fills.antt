@@ -13,17 +13,23 @@ use Rattle.paw_journal.proofs.Disks.{within_stable, within_long, within_same}
 use Rattle.paw_journal.proofs.Moved.{IsMoved, beside_none, beside_on, beside_sync, moved_wrote, in_moved_write, in_moved_sync}
 
 -- one slot hides behind the choice of the other
-pub slot_hidden : (k j : ℕ) (image old : List ℕ) → k < 2 → j ≡ 1 - k → length image ≡ length old → length old ≡ session_length → ((i : ℕ) → i < length old → (i < header_length + slot_length * k) ⊎ (header_length + slot_length * k + slot_length ≤ i) → get_or image i 0 ≡ get_or old i 0) → recover_by j image ≡ recover_by j old
+pub slot_hidden : (k j : ℕ) (image old : List ℕ) → k < 2 → j ≡ 1 - k → length image ≡ length old →
+    length old ≡ session_length → ((i : ℕ) → i < length old →
+    (i < header_length + slot_length * k) ⊎ (header_length + slot_length * k + slot_length ≤ i) →
+    get_or image i 0 ≡ get_or old i 0) → recover_by j image ≡ recover_by j old
 slot_hidden k j image old low e n long same =
     recover_by_same j image old n
     (λ i h ne. same i (omega arith) (inl (omega arith)))
     (λ i l h. same i (omega arith) (apart i l h))
   where
-    apart : (i : ℕ) → header_length + slot_length * j ≤ i → i < header_length + slot_length * j + slot_length → (i < header_length + slot_length * k) ⊎ (header_length + slot_length * k + slot_length ≤ i)
+    apart : (i : ℕ) → header_length + slot_length * j ≤ i → i < header_length + slot_length * j + slot_length →
+      (i < header_length + slot_length * k) ⊎ (header_length + slot_length * k + slot_length ≤ i)
     apart i l h = grind arith
 
 -- while the other slot is written a crash leaves what was shown before
-pub filling : (k : ℕ) (old : List ℕ) (d : Disk) → k < 2 → length old ≡ session_length → chosen old ≡ 1 - k → IsWithin (header_length + slot_length * k) (header_length + slot_length * k + slot_length) old d → Leaves (λ r. r ≡ recover old) d
+pub filling : (k : ℕ) (old : List ℕ) (d : Disk) → k < 2 → length old ≡ session_length → chosen old ≡ 1 - k →
+    IsWithin (header_length + slot_length * k) (header_length + slot_length * k + slot_length) old d →
+    Leaves (λ r. r ≡ recover old) d
 filling k old d low long other h image l =
     let n : length image ≡ length old = within_long _ _ old image d h l in
     let e : chosen image ≡ 1 - k = ap (λ b. b % 2) (within_same _ _ old image d h l 1 (omega arith) (inl (omega arith))) ∙ other in
@@ -40,7 +46,9 @@ moved k s t h = record { beside = h.beside; within = h.within }
 pub filling_same : (k : ℕ) (s t u : Standing) → IsFilling k s t → u ≡ t → IsFilling k s u
 filling_same k s t u h e = subst (λ x. IsFilling k s x) (sym e) h
 
-pub filling_wrote : (k at a : ℕ) (new : List ℕ) (s t u : Standing) → IsFilling k s t → at ≡ header_length + slot_length * k + a → a + length new ≤ slot_length → u ≡ wrote t (touched at (length new) new t.disk) (length new) → IsFilling k s u
+pub filling_wrote : (k at a : ℕ) (new : List ℕ) (s t u : Standing) → IsFilling k s t →
+    at ≡ header_length + slot_length * k + a → a + length new ≤ slot_length →
+    u ≡ wrote t (touched at (length new) new t.disk) (length new) → IsFilling k s u
 filling_wrote k at a new s t u h e fits w =
     let l = h.low in
     let b = h.made.long in
@@ -56,17 +64,24 @@ filling_sync k s t u h e = subst (λ x. IsFilling k s x) (sym e) (record {
   within = record { long = h.within.long; synced = h.within.long; longest = h.within.long; same = h.within.same; clean = λ i o. refl };
 })
 
-pub in_filling_write : (k at a n : ℕ) (s t : Standing) (m : Moment) → IsFilling k s t → at ≡ header_length + slot_length * k + a → a + n ≤ slot_length → InWrite t at n m → InStore s (Leaves (λ r. r ≡ recover s.disk.bytes)) m
+pub in_filling_write : (k at a n : ℕ) (s t : Standing) (m : Moment) → IsFilling k s t →
+    at ≡ header_length + slot_length * k + a → a + n ≤ slot_length → InWrite t at n m →
+    InStore s (Leaves (λ r. r ≡ recover s.disk.bytes)) m
 in_filling_write k at a n s t m h e fits w =
     let l = h.low in
     let b = h.made.long in
-    in_moved_write _ _ at n s t (Leaves (λ r. r ≡ recover s.disk.bytes)) m (moved k s t h) (omega arith) (omega arith) (omega arith) (λ d i. filling k s.disk.bytes d h.low h.made.long h.other i) w
+    in_moved_write _ _ at n s t (Leaves (λ r. r ≡ recover s.disk.bytes)) m (moved k s t h) (omega arith) (omega arith)
+    (omega arith) (λ d i. filling k s.disk.bytes d h.low h.made.long h.other i) w
 
 pub in_filling_sync : (k : ℕ) (s t : Standing) (m : Moment) → IsFilling k s t → InSync t m → InStore s (Leaves (λ r. r ≡ recover s.disk.bytes)) m
-in_filling_sync k s t m h w = in_moved_sync _ _ s t (λ r. r ≡ recover s.disk.bytes) m (moved k s t h) (λ d i. filling k s.disk.bytes d h.low h.made.long h.other i) w
+in_filling_sync k s t m h w = in_moved_sync _ _ s t (λ r. r ≡ recover s.disk.bytes) m (moved k s t h)
+    (λ d i. filling k s.disk.bytes d h.low h.made.long h.other i) w
 
 -- the bytes of the slot itself
-pub wrote_slot : (k at a : ℕ) (new : List ℕ) (t u : Standing) → k < 2 → length t.disk.bytes ≡ session_length → at ≡ header_length + slot_length * k + a → a + length new ≤ slot_length → u ≡ wrote t (touched at (length new) new t.disk) (length new) → slot k u.disk.bytes ≡ put a new (slot k t.disk.bytes)
+pub wrote_slot : (k at a : ℕ) (new : List ℕ) (t u : Standing) → k < 2 → length t.disk.bytes ≡ session_length →
+    at ≡ header_length + slot_length * k + a → a + length new ≤ slot_length →
+    u ≡ wrote t (touched at (length new) new t.disk) (length new) →
+    slot k u.disk.bytes ≡ put a new (slot k t.disk.bytes)
 wrote_slot k at a new t u low long e fits w =
     ap (λ x. slot k x.disk.bytes) w
     ∙ (ap (λ i. slot k (put i new t.disk.bytes)) e
@@ -75,7 +90,8 @@ wrote_slot k at a new t u low long e fits w =
 pub slot_long : (k : ℕ) (bytes : List ℕ) → k < 2 → length bytes ≡ session_length → length (slot k bytes) ≡ slot_length
 slot_long k bytes low long = stretch_long (header_length + slot_length * k) slot_length bytes (omega arith)
 
-pub wrote_nothing : (k at : ℕ) (new bytes : List ℕ) → k < 2 → length bytes ≡ session_length → length new ≡ 0 → at + length new ≤ slot_length → slot k bytes ≡ put at new (slot k bytes)
+pub wrote_nothing : (k at : ℕ) (new bytes : List ℕ) → k < 2 → length bytes ≡ session_length → length new ≡ 0 →
+    at + length new ≤ slot_length → slot k bytes ≡ put at new (slot k bytes)
 wrote_nothing k at new bytes low long none fits = put_nothing at new (slot k bytes) none (omega (arith, slot_long k bytes low long))
 
 -- ---- what stands once it is written ----
@@ -100,5 +116,7 @@ filled_other k s t h =
     let low = h.low in
     stretch_same _ slot_length t.disk.bytes s.disk.bytes h.within.long (λ i l u. h.within.same i (apart k i low l u))
   where
-    apart : (k i : ℕ) → k < 2 → header_length + slot_length * (1 - k) ≤ i → i < header_length + slot_length * (1 - k) + slot_length → (i < header_length + slot_length * k) ⊎ (header_length + slot_length * k + slot_length ≤ i)
+    apart : (k i : ℕ) → k < 2 → header_length + slot_length * (1 - k) ≤ i →
+      i < header_length + slot_length * (1 - k) + slot_length →
+      (i < header_length + slot_length * k) ⊎ (header_length + slot_length * k + slot_length ≤ i)
     apart k i low l h = grind arith

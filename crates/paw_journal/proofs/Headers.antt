@@ -13,27 +13,33 @@ first_byte n i bytes whole low e = ap (λ l. get_or l i 0) e ∙ get_or-take n w
 pub no_bytes : (whole : List ℕ) (size : ℕ) → size ≡ length whole → size ≡ 0 → recover whole ≡ Unmade 0 0
 no_bytes whole size e z = let n : whole ≡ [] = nil_from_length whole (sym e ∙ z) in ap recover n ∙ unmade_is [] (inl (λ q. omega arith))
 
-pub other_length : (size : ℕ) (bytes whole : List ℕ) → size ≡ length whole → size ≢ session_length → bytes ≡ take 1 whole → recover whole ≡ Unmade size (get_or bytes 0 0)
+pub other_length : (size : ℕ) (bytes whole : List ℕ) → size ≡ length whole → size ≢ session_length →
+    bytes ≡ take 1 whole → recover whole ≡ Unmade size (get_or bytes 0 0)
 other_length size bytes whole e ne b =
     unmade_is whole (inl (λ q. ne (e ∙ q)))
     ∙ (ap (λ n. Unmade n (mark whole)) (sym e) ∙ ap (Unmade size) (sym (first_byte 1 0 bytes whole (omega arith) b)))
 
-pub other_mark : (bytes whole : List ℕ) → length whole ≡ session_length → bytes ≡ take header_length whole → get_or bytes 0 0 ≢ made_mark → recover whole ≡ Unmade session_length (get_or bytes 0 0)
+pub other_mark : (bytes whole : List ℕ) → length whole ≡ session_length → bytes ≡ take header_length whole →
+    get_or bytes 0 0 ≢ made_mark → recover whole ≡ Unmade session_length (get_or bytes 0 0)
 other_mark bytes whole n b ne =
     let m : get_or bytes 0 0 ≡ mark whole = first_byte 128 0 bytes whole (omega arith) b in
     unmade_is whole (inr (λ q. ne (m ∙ q)))
     ∙ (ap (λ n. Unmade n (mark whole)) n ∙ ap (Unmade session_length) (sym m))
 
-pub other_version : (bytes whole : List ℕ) → length whole ≡ session_length → bytes ≡ take header_length whole → get_or bytes 0 0 ≡ made_mark → is_version (get_or bytes 2 0) ≡ false → recover whole ≡ Damaged part.Header 2
+pub other_version : (bytes whole : List ℕ) → length whole ≡ session_length → bytes ≡ take header_length whole →
+    get_or bytes 0 0 ≡ made_mark → is_known (get_or bytes 2 0) ≡ false → recover whole ≡ Damaged part.Header 2
 unfolding recover recover_by
 other_version bytes whole n b m ne =
     let k : mark whole ≡ made_mark = sym (first_byte 128 0 bytes whole (omega arith) b) ∙ m in
     let v : is_version (version whole) ≡ false = ap is_version (sym (first_byte 128 2 bytes whole (omega arith) b)) ∙ ne in
     rw (n, k, v) refl
 
-pub introduces : (slot : ℕ) (digest bytes whole : List ℕ) → length whole ≡ session_length → bytes ≡ take header_length whole → get_or bytes 0 0 ≡ made_mark → is_version (get_or bytes 2 0) ≡ true → slot ≡ get_or bytes 1 0 % 2 → digest ≡ stretch 32 32 bytes → Introduces slot digest whole
+pub introduces : (slot : ℕ) (digest bytes whole : List ℕ) → length whole ≡ session_length →
+    bytes ≡ take header_length whole → get_or bytes 0 0 ≡ made_mark → is_known (get_or bytes 2 0) ≡ true →
+    slot ≡ get_or bytes 1 0 % 2 → digest ≡ stretch 32 32 bytes → Introduces slot digest whole
 introduces slot digest bytes whole n b m v s d = record {
-  made = record { long = n; marked = sym (first_byte 128 0 bytes whole (omega arith) b) ∙ m; versioned = ap is_version (sym (first_byte 128 2 bytes whole (omega arith) b)) ∙ v };
+  made = record { long = n; marked = sym (first_byte 128 0 bytes whole (omega arith) b) ∙ m; versioned =
+      ap is_known (sym (first_byte 128 2 bytes whole (omega arith) b)) ∙ v };
   slot = s ∙ ap (λ x. x % 2) (first_byte 128 1 bytes whole (omega arith) b);
   digest = d ∙ (ap (stretch 32 32) b ∙ stretch_stretch 32 32 0 128 whole (omega arith));
 }

@@ -6,7 +6,8 @@ use Rattle.paw_stage.specs.Disk.{put}
 use Rattle.paw_journal.specs.declared.refusal.SessionPart.TheVariants as part
 use Rattle.paw_journal.specs.declared.drafting.SlotState.{SlotState}
 use Rattle.paw_journal.specs.declared.drafting.Draft.{Draft}
-use Rattle.paw_journal.specs.Session.{Damaged, Shown, stretch, number_at, base, changes, changed, first_unsound, slot_changes, slot_state, is_second, has_state, shown_state, first_length, zeros, slot_piece, slot_shows, shown_unless, most_changes, piece_length, state_length}
+use Rattle.paw_journal.specs.Session.{Damaged, Shown, stretch, number_at, base, changes, changed, first_unsound, slot_changes, slot_state, is_second, has_state}
+use Rattle.paw_journal.specs.Session.{shown_state, first_length, zeros, slot_piece, slot_shows, shown_unless, most_changes, piece_length, state_length}
 use Rattle.paw_journal.specs.Room.{kept_slot}
 use Rattle.paw_journal.specs.Written.{differing, most_written}
 use Rattle.paw_journal.specs.Steps.{Turns, Drafts, slot_head}
@@ -27,7 +28,8 @@ holds_state bytes n unsound low e = ap (λ o. nat_le n most_changes && is_none o
 pub has_state_is : (bytes : List ℕ) → number_at 0 bytes ≤ 4096 → first_unsound (slot_changes bytes) ≡ None → has_state bytes ≡ true
 has_state_is bytes low e = holds_state bytes (number_at 0 bytes) (first_unsound (slot_changes bytes)) low e
 
-pub kept_of_both : (bytes : List ℕ) → is_second bytes ≡ true → has_state bytes ≡ true → kept_slot bytes ≡ Some (record { records = number_at 0 bytes; state = slot_state bytes })
+pub kept_of_both : (bytes : List ℕ) → is_second bytes ≡ true → has_state bytes ≡ true →
+    kept_slot bytes ≡ Some (record { records = number_at 0 bytes; state = slot_state bytes })
 kept_of_both bytes e f = both (is_second bytes) (has_state bytes) (Some (record { records = number_at 0 bytes; state = slot_state bytes })) e f
   where
     both : (a b : Bool) (x : Option SlotState) → a ≡ true → b ≡ true → (if a && b then x else None) ≡ x
@@ -43,7 +45,8 @@ kept_of_broken bytes e = neither (is_second bytes) (has_state bytes) (Some (reco
     neither true b x e = ap (λ t. if t then x else None) e
     neither false b x e = refl
 
-pub kept_is : (bytes : List ℕ) (records : ℕ) (state : List ℕ) → IsKept bytes records state → kept_slot bytes ≡ Some (record { records = records; state = state })
+pub kept_is : (bytes : List ℕ) (records : ℕ) (state : List ℕ) → IsKept bytes records state →
+    kept_slot bytes ≡ Some (record { records = records; state = state })
 kept_is bytes records state h =
     let r : stretch 69696 (4 * number_at 0 bytes) bytes ≡ stretch 69696 (4 * records) bytes = ap (λ n. stretch 69696 (4 * n) bytes) h.number in
     let t : has_state bytes ≡ true = has_state_is bytes (omega (arith, h.number, h.few)) (ap (λ l. first_unsound (changes l)) r ∙ h.sound) in
@@ -64,12 +67,15 @@ state_has bytes f e =
     let t = tests (number_at 0 bytes) (first_unsound (slot_changes bytes)) e in
     record { second = f; number = refl; few = t.0; sound = t.1; told = refl }
 
-kept_some : (a b : Bool) (x : SlotState) (records : ℕ) (state : List ℕ) → (if a && b then Some x else None) ≡ Some (record { records = records; state = state }) → (a ≡ true) × (b ≡ true) × (x.records ≡ records) × (x.state ≡ state)
+kept_some : (a b : Bool) (x : SlotState) (records : ℕ) (state : List ℕ) →
+    (if a && b then Some x else None) ≡ Some (record { records = records; state = state }) →
+    (a ≡ true) × (b ≡ true) × (x.records ≡ records) × (x.state ≡ state)
 kept_some true true x records state e = (refl, refl, cc, cc)
 kept_some true false x records state e = absurd (cc e)
 kept_some false b x records state e = absurd (cc e)
 
-pub is_kept : (bytes : List ℕ) (records : ℕ) (state : List ℕ) → kept_slot bytes ≡ Some (record { records = records; state = state }) → IsKept bytes records state
+pub is_kept : (bytes : List ℕ) (records : ℕ) (state : List ℕ) →
+    kept_slot bytes ≡ Some (record { records = records; state = state }) → IsKept bytes records state
 is_kept bytes records state e =
     let k = kept_some (is_second bytes) (has_state bytes) (record { records = number_at 0 bytes; state = slot_state bytes }) records state e in
     let h = state_has bytes k.0 k.1 in
@@ -93,13 +99,15 @@ sound_shows digest bytes e =
     low : (n : ℕ) → n ≤ 4096 → nat_le n most_changes ≡ true
     low n h = grind (arith, nat_tests)
 
-pub kept_shows : (digest bytes : List ℕ) (records : ℕ) (state : List ℕ) → IsKept bytes records state → slot_shows digest bytes ≡ Shown digest (take state_length state) (stretch 4160 (piece_length state) bytes)
+pub kept_shows : (digest bytes : List ℕ) (records : ℕ) (state : List ℕ) → IsKept bytes records state →
+    slot_shows digest bytes ≡ Shown digest (take state_length state) (stretch 4160 (piece_length state) bytes)
 kept_shows digest bytes records state h =
     let r : stretch 69696 (4 * number_at 0 bytes) bytes ≡ stretch 69696 (4 * records) bytes = ap (λ n. stretch 69696 (4 * n) bytes) h.number in
     let t : has_state bytes ≡ true = has_state_is bytes (omega (arith, h.number, h.few)) (ap (λ l. first_unsound (changes l)) r ∙ h.sound) in
     let s : slot_state bytes ≡ state = ap (λ l. changed (changes l) (base bytes)) r ∙ h.told in
     sound_shows digest bytes t
-    ∙ (ap (λ b. Shown digest (if b then take state_length (slot_state bytes) else take first_length (slot_state bytes) ++ zeros 2048) (slot_piece bytes)) h.second
+    ∙ (ap (λ b. Shown digest (if b then take state_length (slot_state bytes) else take first_length (slot_state bytes)
+    ++ zeros 2048) (slot_piece bytes)) h.second
     ∙ ap (λ l. Shown digest (take state_length l) (stretch 4160 (piece_length l) bytes)) s)
 
 -- ---- a slot that was written ----
@@ -110,7 +118,8 @@ head_number records bytes low = whole records (records % 256) (records / 256) re
     whole : (n a b : ℕ) → a ≡ n % 256 → b ≡ n / 256 → a + 256 * b ≡ n
     whole n a b e f = omega arith
 
-module _ (records at : ℕ) (bytes piece old : List ℕ) (long : length old ≡ 86080) (fits : at + length bytes ≤ 86080) (short : length piece ≤ 65535) (few : records ≤ 4096) where
+module _ (records at : ℕ) (bytes piece old : List ℕ) (long : length old ≡ 86080) (fits : at + length bytes ≤ 86080)
+    (short : length piece ≤ 65535) (few : records ≤ 4096) where
   one : length (put at bytes old) ≡ 86080
   one = put_long at bytes old (omega arith) ∙ long
 
@@ -140,17 +149,21 @@ module _ (records at : ℕ) (bytes piece old : List ℕ) (long : length old ≡ 
       ∙ stretch_past 69696 n 4160 piece (put at bytes old) (omega arith) (omega (arith, one))
 
 -- the base whole
-whole_gives : (state piece old : List ℕ) → length state ≡ 4096 → length old ≡ 86080 → length piece ≤ 65535 → IsKept (put 0 (slot_head 0) (put 4160 piece (put 64 state old))) 0 state
+whole_gives : (state piece old : List ℕ) → length state ≡ 4096 → length old ≡ 86080 → length piece ≤ 65535 →
+    IsKept (put 0 (slot_head 0) (put 4160 piece (put 64 state old))) 0 state
 whole_gives state piece old n long short = record {
   second = refl;
   number = written_number 0 64 state piece old long (omega arith) short (omega arith);
   few = omega arith;
   sound = refl;
-  told = written_base 0 64 state piece old long (omega arith) short (omega arith) ∙ (ap (λ k. stretch 64 k (put 64 state old)) (sym n) ∙ stretch_written 64 state old (omega arith));
+  told = written_base 0 64 state piece old long (omega arith) short (omega arith)
+      ∙ (ap (λ k. stretch 64 k (put 64 state old)) (sym n) ∙ stretch_written 64 state old (omega arith));
 }
 
 -- change records behind those that stand
-behind_gives : (n c : ℕ) (was state records piece old : List ℕ) → IsKept old n was → Turns was state records → length records ≡ 4 * c → n + c ≤ 4096 → length old ≡ 86080 → length piece ≤ 65535 → IsKept (put 0 (slot_head (n + c)) (put 4160 piece (put (69696 + 4 * n) records old))) (n + c) state
+behind_gives : (n c : ℕ) (was state records piece old : List ℕ) → IsKept old n was → Turns was state records →
+    length records ≡ 4 * c → n + c ≤ 4096 → length old ≡ 86080 → length piece ≤ 65535 →
+    IsKept (put 0 (slot_head (n + c)) (put 4160 piece (put (69696 + 4 * n) records old))) (n + c) state
 behind_gives n c was state records piece old h t l few long short =
     let at = 69696 + 4 * n in
     let fits : at + length records ≤ 86080 = omega (arith, l) in
@@ -159,7 +172,8 @@ behind_gives n c was state records piece old h t l few long short =
     written_records (n + c) at records piece old long fits short few (4 * (n + c))
     ∙ (ap (λ k. stretch 69696 k (put at records old)) m ∙ stretch_behind 69696 (4 * n) at records old refl (omega (arith, long))) in
     let q : length (stretch 69696 (4 * n) old) ≡ 4 * n = stretch_long 69696 (4 * n) old (omega (arith, h.few, long)) in
-    let all : changes (stretch 69696 (4 * (n + c)) (put 0 (slot_head (n + c)) (put 4160 piece (put at records old)))) ≡ changes (stretch 69696 (4 * n) old) ++ changes records =
+    let all : changes (stretch 69696 (4 * (n + c)) (put 0 (slot_head (n + c)) (put 4160 piece (put at records old))))
+    ≡ changes (stretch 69696 (4 * n) old) ++ changes records =
     ap changes r ∙ changes-append n (stretch 69696 (4 * n) old) records q in
     let b : base (put 0 (slot_head (n + c)) (put 4160 piece (put at records old))) ≡ base old =
     written_base (n + c) at records piece old long fits short few ∙ stretch_before 64 4096 at records old (omega arith) (omega (arith, long)) in
@@ -176,17 +190,23 @@ behind_gives n c was state records piece old h t l few long short =
     }
 
 -- what a commit writes
-pub drafts_whole : (kept : Option SlotState) (state bytes : List ℕ) → bytes ≡ state → length state ≡ 4096 → ((piece : List ℕ) → 4224 + length piece ≤ most_written kept state piece) → Drafts kept state bytes (record { at = 64; records = 0 })
+pub drafts_whole : (kept : Option SlotState) (state bytes : List ℕ) → bytes ≡ state → length state ≡ 4096 →
+    ((piece : List ℕ) → 4224 + length piece ≤ most_written kept state piece) →
+    Drafts kept state bytes (record { at = 64; records = 0 })
 drafts_whole kept state bytes e n most = record {
   inside = omega (arith, ap length e);
-  gives = λ old piece long is short. kept_is (put 0 (slot_head 0) (put 4160 piece (put 64 bytes old))) 0 state (let h = whole_gives state piece old n long short in rw e h);
+  gives = λ old piece long is short. kept_is (put 0 (slot_head 0) (put 4160 piece (put 64 bytes old))) 0 state
+      (let h = whole_gives state piece old n long short in rw e h);
   few = λ piece. omega (arith, most piece, ap length e);
 }
 
-pub drafts_behind : (n c : ℕ) (was state bytes : List ℕ) → Turns was state bytes → length bytes ≡ 4 * c → n + c ≤ 4096 → Drafts (Some (record { records = n; state = was })) state bytes (record { at = 69696 + 4 * n; records = n + c })
+pub drafts_behind : (n c : ℕ) (was state bytes : List ℕ) → Turns was state bytes → length bytes ≡ 4 * c → n + c ≤ 4096 →
+    Drafts (Some (record { records = n; state = was })) state bytes (record { at = 69696 + 4 * n; records = n + c })
 drafts_behind n c was state bytes t l few = record {
   inside = omega (arith, l);
-  gives = λ old piece long is short. kept_is (put 0 (slot_head (n + c)) (put 4160 piece (put (69696 + 4 * n) bytes old))) (n + c) state (behind_gives n c was state bytes piece old (is_kept old n was is) t l few long short);
+  gives = λ old piece long is short. kept_is
+      (put 0 (slot_head (n + c)) (put 4160 piece (put (69696 + 4 * n) bytes old))) (n + c) state
+      (behind_gives n c was state bytes piece old (is_kept old n was is) t l few long short);
   few = λ piece. let d : differing was state ≡ c = omega (arith, l, t.many) in most n c (differing was state) (length bytes) (length piece) d l few;
 }
   where
@@ -197,10 +217,13 @@ drafts_behind n c was state bytes t l few = record {
 pub drafts_base : (state bytes : List ℕ) → bytes ≡ state → length state ≡ 4096 → Drafts None state bytes (record { at = 64; records = 0 })
 drafts_base state bytes e n = drafts_whole None state bytes e n (λ piece. omega arith)
 
-pub drafts_whole_as : (state bytes : List ℕ) (kept : Option SlotState) (draft : Draft) → bytes ≡ state → length state ≡ 4096 → kept ≡ None → draft ≡ record { at = 64; records = 0 } → Drafts kept state bytes draft
+pub drafts_whole_as : (state bytes : List ℕ) (kept : Option SlotState) (draft : Draft) → bytes ≡ state →
+    length state ≡ 4096 → kept ≡ None → draft ≡ record { at = 64; records = 0 } → Drafts kept state bytes draft
 drafts_whole_as state bytes kept draft e n is at = rw (is, at) (drafts_base state bytes e n)
 
-pub drafts_many : (kept : SlotState) (s m : ℕ) (state records bytes : List ℕ) (draft : Draft) → Turns kept.state state records → s ≡ kept.records → m ≡ length records → 4096 < s + m / 4 → bytes ≡ state → length state ≡ 4096 → draft ≡ record { at = 64; records = 0 } → Drafts (Some kept) state bytes draft
+pub drafts_many : (kept : SlotState) (s m : ℕ) (state records bytes : List ℕ) (draft : Draft) →
+    Turns kept.state state records → s ≡ kept.records → m ≡ length records → 4096 < s + m / 4 → bytes ≡ state →
+    length state ≡ 4096 → draft ≡ record { at = 64; records = 0 } → Drafts (Some kept) state bytes draft
 drafts_many kept s m state records bytes draft t e f many b l at =
     let d : differing kept.state state ≡ m / 4 = omega (arith, t.many) in
     rw at (drafts_whole (Some kept) state bytes b l (λ piece. most kept.records s (m / 4) (differing kept.state state) (length piece) d e many))
@@ -208,7 +231,9 @@ drafts_many kept s m state records bytes draft t e f many b l at =
     most : (n s c d p : ℕ) → d ≡ c → s ≡ n → 4096 < s + c → 4224 + p ≤ (if nat_le (n + d) most_changes then 128 + p + 4 * d else 4224 + p)
     most n s c d p e f many = let h : nat_le (n + d) most_changes ≡ false = grind (arith, nat_tests) in rw h (omega arith)
 
-pub drafts_few : (kept : SlotState) (s m : ℕ) (state bytes : List ℕ) → Turns kept.state state bytes → s ≡ kept.records → m ≡ length bytes → s + m / 4 ≤ 4096 → Drafts (Some kept) state bytes (record { at = 69696 + 4 * s; records = s + m / 4 })
+pub drafts_few : (kept : SlotState) (s m : ℕ) (state bytes : List ℕ) → Turns kept.state state bytes → s ≡ kept.records →
+    m ≡ length bytes → s + m / 4 ≤ 4096 →
+    Drafts (Some kept) state bytes (record { at = 69696 + 4 * s; records = s + m / 4 })
 drafts_few kept s m state bytes t e f few =
     subst (λ n. Drafts (Some kept) state bytes (record { at = 69696 + 4 * n; records = n + m / 4 })) (sym e)
     (drafts_behind kept.records (m / 4) kept.state state bytes t (omega (arith, t.many)) (omega arith))

@@ -1,5 +1,6 @@
 -- A session that is being made, and what a crash leaves of it.
-use Rattle.std.proofs.Common.{◌≡◌, ℕ, suc, ◌+◌, ◌≤◌, ◌<◌, max, false, List, [], ◌∷◌, ◌++◌, length, take, drop, refl, sym, ap, subst, ◌∙◌, arith, get_or, inl, inr, ◌⊎◌}
+use Rattle.std.proofs.Common.{◌≡◌, ℕ, suc, ◌+◌, ◌≤◌, ◌<◌, max, false, List, [], ◌∷◌, ◌++◌, length, take, drop, refl, sym, ap, subst, ◌∙◌, arith, get_or, inl}
+use Rattle.std.proofs.Common.{inr, ◌⊎◌}
 use Rattle.std.proofs.lemmas.Bool.{cases_eq}
 use Rattle.std.proofs.lemmas.Bool.Decides.{nat_tests}
 use Rattle.std.proofs.lemmas.List.{length-append, length-drop, length-replicate, take_all, ext_get_or}
@@ -28,7 +29,8 @@ empty_is_short d h n = omega (arith, h.longest)
 pub in_beginning : (s : Standing) (m : Moment) → s.disk.longest ≤ 1 → InWrite s 0 1 m → InStore s (Leaves IsUnmade) m
 in_beginning s m h w = in_write s 0 1 (Leaves IsUnmade) m (λ d i. short_leaves d (short_write s.disk d h i)) w
 
-pub in_begun : (x n : ℕ) (s t : Standing) (m : Moment) → s.disk.longest ≤ 1 → t ≡ wrote s (touched 0 1 (x ∷ []) s.disk) n → InSync t m → InStore s (Leaves IsUnmade) m
+pub in_begun : (x n : ℕ) (s t : Standing) (m : Moment) → s.disk.longest ≤ 1 →
+    t ≡ wrote s (touched 0 1 (x ∷ []) s.disk) n → InSync t m → InStore s (Leaves IsUnmade) m
 in_begun x n s t m h e w =
     let l : t.disk.longest ≤ 1 = let q : t.disk.longest ≡ max s.disk.longest 1 = ap (λ x. x.disk.longest) e in omega arith in
     in_later s t (Leaves IsUnmade) (Leaves IsUnmade) m (beside_wrote s t _ n e) (λ d p. p) (in_sync t IsUnmade m (short_leaves t.disk l) w)
@@ -57,14 +59,17 @@ pub blank_write : (at n : ℕ) (d m : Disk) → IsBlank d.bytes d → 1 ≤ at �
 blank_write at n d m h low high (inl e) = subst (λ x. IsBlank x.bytes x) (sym e) h
 blank_write at n d m h low high (inr q) = subst (λ x. IsBlank x.bytes x) (sym q.2) (blank_touched at n q.0 d h low high)
 
-pub in_blank_write : (at n : ℕ) (s t : Standing) (m : Moment) → IsBeside s t → IsBlank t.disk.bytes t.disk → 1 ≤ at → at ≤ length t.disk.bytes → InWrite t at n m → InStore s (Leaves IsUnmade) m
+pub in_blank_write : (at n : ℕ) (s t : Standing) (m : Moment) → IsBeside s t → IsBlank t.disk.bytes t.disk → 1 ≤ at →
+    at ≤ length t.disk.bytes → InWrite t at n m → InStore s (Leaves IsUnmade) m
 in_blank_write at n s t m b h low high w =
-    in_later s t (Leaves IsUnmade) (Leaves IsUnmade) m b (λ d p. p) (in_write t at n (Leaves IsUnmade) m (λ d i. blank_leaves d.bytes d (blank_write at n t.disk d h low high i)) w)
+    in_later s t (Leaves IsUnmade) (Leaves IsUnmade) m b (λ d p. p)
+    (in_write t at n (Leaves IsUnmade) m (λ d i. blank_leaves d.bytes d (blank_write at n t.disk d h low high i)) w)
 
 pub in_blank_sync : (s t : Standing) (m : Moment) → IsBeside s t → IsBlank t.disk.bytes t.disk → InSync t m → InStore s (Leaves IsUnmade) m
 in_blank_sync s t m b h w = in_later s t (Leaves IsUnmade) (Leaves IsUnmade) m b (λ d p. p) (in_sync t IsUnmade m (blank_leaves t.disk.bytes t.disk h) w)
 
-pub blank_wrote : (at : ℕ) (new : List ℕ) (s t : Standing) (n c : ℕ) → IsBlank s.disk.bytes s.disk → 1 ≤ at → at ≤ length s.disk.bytes → t ≡ wrote s (touched at n new s.disk) c → IsBlank (put at new s.disk.bytes) t.disk
+pub blank_wrote : (at : ℕ) (new : List ℕ) (s t : Standing) (n c : ℕ) → IsBlank s.disk.bytes s.disk → 1 ≤ at →
+    at ≤ length s.disk.bytes → t ≡ wrote s (touched at n new s.disk) c → IsBlank (put at new s.disk.bytes) t.disk
 blank_wrote at new s t n c h low high e = subst (λ d. IsBlank (put at new s.disk.bytes) d) (sym (ap (λ x. x.disk) e)) (blank_touched at n new s.disk h low high)
 
 pub length_zeros : (n : ℕ) → length (zeros n) ≡ n
@@ -73,10 +78,12 @@ length_zeros n = length-replicate n 0
 
 pub length_header : (first : ℕ) (game : List ℕ) → length game ≡ 32 → length (made_header first game) ≡ 128
 length_header first game n =
-    omega (arith, length-append ((first ∷ 0 ∷ 2 ∷ zeros 29) ++ game) (zeros 64), length-append (first ∷ 0 ∷ 2 ∷ zeros 29) game, length_zeros 29, length_zeros 64)
+    omega (arith, length-append ((first ∷ 0 ∷ 2 ∷ zeros 29) ++ game) (zeros 64), length-append
+    (first ∷ 0 ∷ 2 ∷ zeros 29) game, length_zeros 29, length_zeros 64)
 
 -- the header without its first byte, behind that byte
-pub header_written : (game header old : List ℕ) → length game ≡ 32 → header ≡ made_header 0 game → old ≡ 0 ∷ [] → put 1 (take 127 (drop 1 header)) old ≡ made_header 0 game
+pub header_written : (game header old : List ℕ) → length game ≡ 32 → header ≡ made_header 0 game → old ≡ 0 ∷ [] →
+    put 1 (take 127 (drop 1 header)) old ≡ made_header 0 game
 header_written game header old n e o =
     let l : length (drop 1 (made_header 0 game)) ≤ 127 = omega (arith, length-drop 1 (made_header 0 game), length_header 0 game n) in
     ap (λ x. put 1 (take 127 (drop 1 header)) x) o
@@ -88,27 +95,42 @@ header_written game header old n e o =
 pub marking : (old : List ℕ) (d : Disk) → length old ≡ session_length → IsWithin 0 1 old d → Leaves (λ r. IsUnmade r ⊎ (r ≡ recover (made_mark ∷ drop 1 old))) d
 marking old d long h image l =
     elim (cases_eq (mark image) made_mark) [
-      | inl e ↦ inr (ap recover (marked image old (within_long 0 1 old image d h l) long (λ i b. within_same 0 1 old image d h l (suc i) b (inr (omega arith))) e))
+      | inl e ↦ inr
+      (ap recover (marked image old (within_long 0 1 old image d h l) long
+      (λ i b. within_same 0 1 old image d h l (suc i) b (inr (omega arith))) e))
       | inr ne ↦ inl (unmade image (inr ne))
     ]
   where
-    marked : (image old : List ℕ) → length image ≡ length old → length old ≡ session_length → ((i : ℕ) → suc i < length old → get_or image (suc i) 0 ≡ get_or old (suc i) 0) → get_or image 0 0 ≡ made_mark → image ≡ made_mark ∷ drop 1 old
+    marked : (image old : List ℕ) → length image ≡ length old → length old ≡ session_length →
+      ((i : ℕ) → suc i < length old → get_or image (suc i) 0 ≡ get_or old (suc i) 0) → get_or image 0 0 ≡ made_mark →
+      image ≡ made_mark ∷ drop 1 old
     marked image [] n long same e = absurd (omega arith)
     marked [] (y ∷ old) n long same e = absurd (omega arith)
-    marked (x ∷ image) (y ∷ old) n long same e = let f : image ≡ old = ext_get_or 0 image old (omega arith) (λ i b. same i (omega arith)) in ap (λ a. a ∷ image) e ∙ ap (λ l. made_mark ∷ l) f
+    marked (x ∷ image) (y ∷ old) n long same e = let f : image ≡ old =
+      ext_get_or 0 image old (omega arith) (λ i b. same i (omega arith)) in
+      ap (λ a. a ∷ image) e ∙ ap (λ l. made_mark ∷ l) f
 
-pub in_marking : (s : Standing) (m : Moment) → length s.disk.bytes ≡ session_length → IsStable s.disk → InWrite s 0 1 m → InStore s (Leaves (λ r. IsUnmade r ⊎ (r ≡ recover (made_mark ∷ drop 1 s.disk.bytes)))) m
-in_marking s m long h w = in_moved_write 0 1 0 1 s s (Leaves (λ r. IsUnmade r ⊎ (r ≡ recover (made_mark ∷ drop 1 s.disk.bytes)))) m (moved_none 0 1 s h) (omega arith) (omega arith) (omega arith) (λ d i. marking s.disk.bytes d long i) w
+pub in_marking : (s : Standing) (m : Moment) → length s.disk.bytes ≡ session_length → IsStable s.disk →
+    InWrite s 0 1 m → InStore s (Leaves (λ r. IsUnmade r ⊎ (r ≡ recover (made_mark ∷ drop 1 s.disk.bytes)))) m
+in_marking s m long h w = in_moved_write 0 1 0 1 s s
+    (Leaves (λ r. IsUnmade r ⊎ (r ≡ recover (made_mark ∷ drop 1 s.disk.bytes)))) m (moved_none 0 1 s h) (omega arith)
+    (omega arith) (omega arith) (λ d i. marking s.disk.bytes d long i) w
 
-pub in_marked : (x c : ℕ) (s t : Standing) (m : Moment) → length s.disk.bytes ≡ session_length → IsStable s.disk → t ≡ wrote s (touched 0 1 (x ∷ []) s.disk) c → InSync t m → InStore s (Leaves (λ r. IsUnmade r ⊎ (r ≡ recover (made_mark ∷ drop 1 s.disk.bytes)))) m
+pub in_marked : (x c : ℕ) (s t : Standing) (m : Moment) → length s.disk.bytes ≡ session_length → IsStable s.disk →
+    t ≡ wrote s (touched 0 1 (x ∷ []) s.disk) c → InSync t m →
+    InStore s (Leaves (λ r. IsUnmade r ⊎ (r ≡ recover (made_mark ∷ drop 1 s.disk.bytes)))) m
 in_marked x c s t m long h e w =
     in_moved_sync 0 1 s t (λ r. IsUnmade r ⊎ (r ≡ recover (made_mark ∷ drop 1 s.disk.bytes))) m
     (moved_wrote 0 1 0 1 c (x ∷ []) s s t (moved_none 0 1 s h) (omega arith) (omega arith) (omega arith) (omega arith) e)
     (λ d i. marking s.disk.bytes d long i) w
 
 -- bytes behind the end of such a store
-pub blank_end : (at : ℕ) (new : List ℕ) (s t : Standing) (n c : ℕ) → IsBlank s.disk.bytes s.disk → 1 ≤ at → at ≡ length s.disk.bytes → t ≡ wrote s (touched at n new s.disk) c → IsBlank t.disk.bytes t.disk
+pub blank_end : (at : ℕ) (new : List ℕ) (s t : Standing) (n c : ℕ) → IsBlank s.disk.bytes s.disk → 1 ≤ at →
+    at ≡ length s.disk.bytes → t ≡ wrote s (touched at n new s.disk) c → IsBlank t.disk.bytes t.disk
 blank_end at new s t n c h low e w = blank_now _ t.disk (blank_wrote at new s t n c h low (omega arith) w)
 
-pub end_length : (at : ℕ) (new : List ℕ) (s t : Standing) (n c : ℕ) → at ≡ length s.disk.bytes → t ≡ wrote s (touched at n new s.disk) c → length t.disk.bytes ≡ at + length new
-end_length at new s t n c e w = ap (λ x. length x.disk.bytes) w ∙ (ap length (put_end at new s.disk.bytes (sym e)) ∙ (length-append s.disk.bytes new ∙ ap (λ k. k + length new) (sym e)))
+pub end_length : (at : ℕ) (new : List ℕ) (s t : Standing) (n c : ℕ) → at ≡ length s.disk.bytes →
+    t ≡ wrote s (touched at n new s.disk) c → length t.disk.bytes ≡ at + length new
+end_length at new s t n c e w = ap (λ x. length x.disk.bytes) w
+    ∙ (ap length (put_end at new s.disk.bytes (sym e))
+    ∙ (length-append s.disk.bytes new ∙ ap (λ k. k + length new) (sym e)))

@@ -31,7 +31,8 @@ beside_part s t at n (inl e) = subst (λ x. IsBeside s x) (sym e) (beside_none s
 beside_part s t at n (inr q) = beside_wrote s t q.disk q.count q.stands
 
 pub beside_sync : (s t : Standing) → t ≡ record s { disk = stable s.disk.bytes } → IsBeside s t
-beside_sync s t e = subst (λ x. IsBeside s x) (sym e) (record { lines = refl; asked = refl; shown = refl; attached = refl; files = λ n ne. refl; file = λ n a h. h })
+beside_sync s t e = subst (λ x. IsBeside s x) (sym e)
+    (record { lines = refl; asked = refl; shown = refl; attached = refl; files = λ n ne. refl; file = λ n a h. h })
 
 pub beside_same : (s t : Standing) → t ≡ s → IsBeside s t
 beside_same s t e = subst (λ x. IsBeside s x) (sym e) (beside_none s)
@@ -59,7 +60,8 @@ in_write s at n P m f h =
 
 -- inside a sync a crash leaves no more than before it
 pub in_sync : (s : Standing) (P : Recovered → Type 0) (m : Moment) → Leaves P s.disk → InSync s m → InStore s (Leaves P) m
-in_sync s P m f h = record { asked = h.asked; shown = h.shown; attached = h.attached; files = λ k ne. ap (λ x. x k) h.files; disk = λ image l. f image (h.disk image l) }
+in_sync s P m f h = record { asked = h.asked; shown = h.shown; attached = h.attached; files =
+    λ k ne. ap (λ x. x k) h.files; disk = λ image l. f image (h.disk image l) }
 
 pub in_later : (s t : Standing) (P Q : Disk → Type 0) (m : Moment) → IsBeside s t → ((d : Disk) → P d → Q d) → InStore t P m → InStore s Q m
 in_later s t P Q m b f h =
@@ -79,7 +81,8 @@ pub record IsMoved (lo hi : ℕ) (s t : Standing) : Type 0 where
 pub moved_none : (lo hi : ℕ) (s : Standing) → IsStable s.disk → IsMoved lo hi s s
 moved_none lo hi s h = record { beside = beside_none s; within = within_stable lo hi s.disk h }
 
-pub moved_wrote : (lo hi at n c : ℕ) (new : List ℕ) (s t u : Standing) → IsMoved lo hi s t → lo ≤ at → at + n ≤ hi → hi ≤ length s.disk.bytes → length new ≤ n → u ≡ wrote t (touched at n new t.disk) c → IsMoved lo hi s u
+pub moved_wrote : (lo hi at n c : ℕ) (new : List ℕ) (s t u : Standing) → IsMoved lo hi s t → lo ≤ at → at + n ≤ hi →
+    hi ≤ length s.disk.bytes → length new ≤ n → u ≡ wrote t (touched at n new t.disk) c → IsMoved lo hi s u
 moved_wrote lo hi at n c new s t u h low high long short e =
     record {
       beside = beside_on s t u h.beside (beside_wrote t u _ c e);
@@ -87,9 +90,12 @@ moved_wrote lo hi at n c new s t u h low high long short e =
     }
 
 -- at a moment inside a write to the stretch, and inside a sync behind it
-pub in_moved_write : (lo hi at n : ℕ) (s t : Standing) (P : Disk → Type 0) (m : Moment) → IsMoved lo hi s t → lo ≤ at → at + n ≤ hi → hi ≤ length s.disk.bytes → ((d : Disk) → IsWithin lo hi s.disk.bytes d → P d) → InWrite t at n m → InStore s P m
+pub in_moved_write : (lo hi at n : ℕ) (s t : Standing) (P : Disk → Type 0) (m : Moment) → IsMoved lo hi s t → lo ≤ at →
+    at + n ≤ hi → hi ≤ length s.disk.bytes → ((d : Disk) → IsWithin lo hi s.disk.bytes d → P d) → InWrite t at n m →
+    InStore s P m
 in_moved_write lo hi at n s t P m h low high long f w =
     in_later s t P P m h.beside (λ d p. p) (in_write t at n P m (λ d i. f d (within_write lo hi at n s.disk.bytes t.disk d h.within low high long i)) w)
 
-pub in_moved_sync : (lo hi : ℕ) (s t : Standing) (P : Recovered → Type 0) (m : Moment) → IsMoved lo hi s t → ((d : Disk) → IsWithin lo hi s.disk.bytes d → Leaves P d) → InSync t m → InStore s (Leaves P) m
+pub in_moved_sync : (lo hi : ℕ) (s t : Standing) (P : Recovered → Type 0) (m : Moment) → IsMoved lo hi s t →
+    ((d : Disk) → IsWithin lo hi s.disk.bytes d → Leaves P d) → InSync t m → InStore s (Leaves P) m
 in_moved_sync lo hi s t P m h f w = in_later s t (Leaves P) (Leaves P) m h.beside (λ d p. p) (in_sync t P m (f t.disk h.within) w)

@@ -1,6 +1,7 @@
 -- Stretches of lists of bytes.
 use Rattle.std.proofs.Common.{◌≡◌, ℕ, ◌+◌, ◌-◌, ◌≤◌, ◌<◌, min, List, [], ◌∷◌, ◌++◌, length, take, drop, sym, ap, ◌∙◌, arith, get_or, append_assoc}
-use Rattle.std.proofs.lemmas.List.{length-take, length-drop, length-append, get_or-take, get_or-drop, get_or_append_left, get_or-append_right, ext_get_or, drop_all, take_all, append-nil, drop_at, get_or_at, drop-take, take-take, drop-drop}
+use Rattle.std.proofs.lemmas.List.{length-take, length-drop, length-append, get_or-take, get_or-drop, get_or_append_left, get_or-append_right, ext_get_or}
+use Rattle.std.proofs.lemmas.List.{drop_all, take_all, append-nil, drop_at, get_or_at, drop-take, take-take, drop-drop}
 use Rattle.paw_stage.specs.Disk.{put}
 use Rattle.paw_journal.specs.Session.{stretch}
 
@@ -12,13 +13,16 @@ pub length_stretch : (at n : ℕ) (bytes : List ℕ) → length (stretch at n by
 length_stretch at n bytes = length-take n (drop at bytes) ∙ ap (λ k. min n k) (length-drop at bytes)
 
 -- a stretch is the same where its bytes are
-pub stretch_same : (at n : ℕ) (a b : List ℕ) → length a ≡ length b → ((i : ℕ) → at ≤ i → i < at + n → get_or a i 0 ≡ get_or b i 0) → stretch at n a ≡ stretch at n b
+pub stretch_same : (at n : ℕ) (a b : List ℕ) → length a ≡ length b →
+    ((i : ℕ) → at ≤ i → i < at + n → get_or a i 0 ≡ get_or b i 0) → stretch at n a ≡ stretch at n b
 stretch_same at n a b long same =
     ext_get_or 0 _ _ (length_stretch at n a ∙ (ap (λ k. min n (k - at)) long ∙ sym (length_stretch at n b)))
-    (λ i low. let l : i < n = omega (arith, low, length_stretch at n a) in stretch_at at n a i l ∙ (same (at + i) (omega arith) (omega arith) ∙ sym (stretch_at at n b i l)))
+    (λ i low. let l : i < n = omega (arith, low, length_stretch at n a) in
+    stretch_at at n a i l ∙ (same (at + i) (omega arith) (omega arith) ∙ sym (stretch_at at n b i l)))
 
 pub length_put : (at : ℕ) (new old : List ℕ) → at ≤ length old → length (put at new old) ≡ at + length new + (length old - (at + length new))
-length_put at new old low = omega (arith, length-append (take at old ++ new) (drop (at + length new) old), length-append (take at old) new, length-take at old, length-drop (at + length new) old)
+length_put at new old low = omega (arith, length-append (take at old ++ new) (drop (at + length new) old), length-append
+    (take at old) new, length-take at old, length-drop (at + length new) old)
 
 -- a write leaves the bytes below it
 pub put_below : (at : ℕ) (new old : List ℕ) (i : ℕ) → at ≤ length old → i < at → get_or (put at new old) i 0 ≡ get_or old i 0

@@ -14,10 +14,13 @@ put_long at new old low = omega (arith, length_put at new old (omega arith))
 
 -- a write leaves the stretches above it and below it
 pub stretch_past : (s n at : ℕ) (new old : List ℕ) → at + length new ≤ s → at + length new ≤ length old → stretch s n (put at new old) ≡ stretch s n old
-stretch_past s n at new old low long = stretch_same s n (put at new old) old (put_long at new old long) (λ i l h. put_above at new old i (omega arith) (omega arith))
+stretch_past s n at new old low long = stretch_same s n (put at new old) old (put_long at new old long)
+    (λ i l h. put_above at new old i (omega arith) (omega arith))
 
 pub stretch_before : (s n at : ℕ) (new old : List ℕ) → s + n ≤ at → at + length new ≤ length old → stretch s n (put at new old) ≡ stretch s n old
-stretch_before s n at new old low long = stretch_same s n (put at new old) old (put_long at new old long) (λ i l h. put_below at new old i (omega arith) (omega arith))
+stretch_before s n at new old low long =
+    stretch_same s n (put at new old) old (put_long at new old long)
+    (λ i l h. put_below at new old i (omega arith) (omega arith))
 
 -- and what was written stands there
 pub stretch_written : (at : ℕ) (new old : List ℕ) → at ≤ length old → stretch at (length new) (put at new old) ≡ new
@@ -27,11 +30,13 @@ stretch_written at new old low = ap (take (length new)) (drop_put at new old low
     refl_length = omega arith
 
 -- it stands behind what stood before it
-pub stretch_behind : (s m at : ℕ) (new old : List ℕ) → at ≡ s + m → at + length new ≤ length old → stretch s (m + length new) (put at new old) ≡ stretch s m old ++ new
+pub stretch_behind : (s m at : ℕ) (new old : List ℕ) → at ≡ s + m → at + length new ≤ length old →
+    stretch s (m + length new) (put at new old) ≡ stretch s m old ++ new
 stretch_behind s m at new old e long =
     take-add m (length new) (drop s (put at new old))
     ∙ (ap (λ l. l ++ take (length new) (drop m (drop s (put at new old)))) (stretch_before s m at new old (omega arith) long)
-    ∙ ap (λ l. stretch s m old ++ l) (ap (take (length new)) (drop-drop m s (put at new old)) ∙ (ap (λ k. take (length new) (drop k (put at new old))) (sym e) ∙ stretch_written at new old (omega arith))))
+    ∙ ap (λ l. stretch s m old ++ l) (ap (take (length new)) (drop-drop m s (put at new old))
+    ∙ (ap (λ k. take (length new) (drop k (put at new old))) (sym e) ∙ stretch_written at new old (omega arith))))
 
 put_inside : (at : ℕ) (new old : List ℕ) (j : ℕ) → at ≤ length old → j < length new → get_or (put at new old) (at + j) 0 ≡ get_or new j 0
 put_inside at new old j low h =
@@ -39,21 +44,27 @@ put_inside at new old j low h =
     ∙ (ap (λ l. get_or l j 0) (drop_put at new old low) ∙ get_or_append_left new (drop (at + length new) old) 0 j h)
 
 -- a write inside a stretch
-pub stretch_put : (s n a : ℕ) (new whole : List ℕ) → a + length new ≤ n → s + n ≤ length whole → stretch s n (put (s + a) new whole) ≡ put a new (stretch s n whole)
+pub stretch_put : (s n a : ℕ) (new whole : List ℕ) → a + length new ≤ n → s + n ≤ length whole →
+    stretch s n (put (s + a) new whole) ≡ put a new (stretch s n whole)
 stretch_put s n a new whole fits long =
     let l : length (stretch s n whole) ≡ n = stretch_long s n whole long in
     let p : length (put (s + a) new whole) ≡ length whole = put_long (s + a) new whole (omega arith) in
     let q : length (put a new (stretch s n whole)) ≡ n = put_long a new (stretch s n whole) (omega arith) ∙ l in
     let k : length (stretch s n (put (s + a) new whole)) ≡ n = stretch_long s n (put (s + a) new whole) (omega arith) in
-    ext_get_or 0 _ _ (k ∙ sym q) (λ i low. let m : i < n = omega (arith, low, k) in stretch_at s n (put (s + a) new whole) i m ∙ each s n a new whole i fits long l m)
+    ext_get_or 0 _ _ (k ∙ sym q) (λ i low. let m : i < n = omega (arith, low, k) in
+    stretch_at s n (put (s + a) new whole) i m ∙ each s n a new whole i fits long l m)
   where
     order : (i a l : ℕ) → (i < a) ⊎ ((a + l ≤ i) ⊎ ((a ≤ i) × (i < a + l)))
     order i a l = grind arith
 
-    each : (s n a : ℕ) (new whole : List ℕ) (i : ℕ) → a + length new ≤ n → s + n ≤ length whole → length (stretch s n whole) ≡ n → i < n → get_or (put (s + a) new whole) (s + i) 0 ≡ get_or (put a new (stretch s n whole)) i 0
+    each : (s n a : ℕ) (new whole : List ℕ) (i : ℕ) → a + length new ≤ n → s + n ≤ length whole →
+      length (stretch s n whole) ≡ n → i < n →
+      get_or (put (s + a) new whole) (s + i) 0 ≡ get_or (put a new (stretch s n whole)) i 0
     each s n a new whole i fits long l m = elim (order i a (length new)) [
-      | inl h ↦ put_below (s + a) new whole (s + i) (omega arith) (omega arith) ∙ sym (put_below a new (stretch s n whole) i (omega arith) h ∙ stretch_at s n whole i m)
-      | inr (inl h) ↦ put_above (s + a) new whole (s + i) (omega arith) (omega arith) ∙ sym (put_above a new (stretch s n whole) i (omega arith) h ∙ stretch_at s n whole i m)
+      | inl h ↦ put_below (s + a) new whole (s + i) (omega arith) (omega arith)
+      ∙ sym (put_below a new (stretch s n whole) i (omega arith) h ∙ stretch_at s n whole i m)
+      | inr (inl h) ↦ put_above (s + a) new whole (s + i) (omega arith) (omega arith)
+      ∙ sym (put_above a new (stretch s n whole) i (omega arith) h ∙ stretch_at s n whole i m)
       | inr (inr h) ↦
           let e : s + i ≡ s + a + (i - a) = omega arith in
           let f : i ≡ a + (i - a) = omega arith in

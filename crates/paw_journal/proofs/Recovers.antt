@@ -3,7 +3,8 @@ use Rattle.std.proofs.Common.{◌≡◌, ◌≢◌, ℕ, ◌+◌, ◌*◌, ◌�
 use Rattle.std.specs.Prelude.{if◌then◌else◌, ◌==◌, ◌&&◌}
 use Rattle.std.proofs.lemmas.Bool.Decides.{nat_tests}
 use Rattle.paw_journal.specs.declared.refusal.SessionPart.TheVariants as part
-use Rattle.paw_journal.specs.Session.{Recovered, Unmade, Damaged, Shown, IsUnmade, recover, recover_by, slot_shows, slot, chosen, mark, version, is_version, kept_digest, session_length, slot_length, header_length, made_mark}
+use Rattle.paw_journal.specs.Session.{Recovered, Unmade, Damaged, Shown, IsUnmade, recover, recover_by, slot_shows, slot, chosen, mark, version, is_known}
+use Rattle.paw_journal.specs.Session.{kept_digest, session_length, slot_length, header_length, made_mark}
 use Rattle.paw_journal.specs.Steps.{IsMade}
 use Rattle.paw_journal.proofs.Parts.{stretch_same}
 
@@ -12,12 +13,16 @@ unfolding recover
 recover_is k a e = ap (λ j. recover_by j a) e
 
 -- the parts alone tell what bytes stand for
-pub recover_by_parts : (k : ℕ) (a b : List ℕ) → length a ≡ length b → mark a ≡ mark b → version a ≡ version b → kept_digest a ≡ kept_digest b → slot k a ≡ slot k b → recover_by k a ≡ recover_by k b
+pub recover_by_parts : (k : ℕ) (a b : List ℕ) → length a ≡ length b → mark a ≡ mark b → version a ≡ version b →
+    kept_digest a ≡ kept_digest b → slot k a ≡ slot k b → recover_by k a ≡ recover_by k b
 unfolding recover_by
 recover_by_parts k a b n m v d s = cc
 
 -- so they are the same where the header, but for the selector, and the slot are
-pub recover_by_same : (k : ℕ) (a b : List ℕ) → length a ≡ length b → ((i : ℕ) → i < header_length → i ≢ 1 → get_or a i 0 ≡ get_or b i 0) → ((i : ℕ) → header_length + slot_length * k ≤ i → i < header_length + slot_length * k + slot_length → get_or a i 0 ≡ get_or b i 0) → recover_by k a ≡ recover_by k b
+pub recover_by_same : (k : ℕ) (a b : List ℕ) → length a ≡ length b →
+    ((i : ℕ) → i < header_length → i ≢ 1 → get_or a i 0 ≡ get_or b i 0) →
+    ((i : ℕ) → header_length + slot_length * k ≤ i → i < header_length + slot_length * k + slot_length →
+    get_or a i 0 ≡ get_or b i 0) → recover_by k a ≡ recover_by k b
 recover_by_same k a b n header slots =
     recover_by_parts k a b n (header 0 (omega arith) (λ e. omega arith)) (header 2 (omega arith) (λ e. omega arith))
     (stretch_same 32 32 a b n (λ i low high. header i (omega arith) (λ e. omega arith)))
@@ -31,7 +36,8 @@ recover_made k a h = rw (h.long, h.marked, h.versioned) refl
 -- bytes of another length, or without the mark, are no session
 pub unmade_is : (a : List ℕ) → (length a ≢ session_length) ⊎ (mark a ≢ made_mark) → recover a ≡ Unmade (length a) (mark a)
 unfolding recover recover_by
-unmade_is a h = unless (length a == session_length) (mark a == made_mark) _ _ (elim h [ inl n ↦ inl (grind (arith, nat_tests)) | inr m ↦ inr (grind (arith, nat_tests)) ])
+unmade_is a h = unless (length a == session_length) (mark a == made_mark) _ _
+    (elim h [ inl n ↦ inl (grind (arith, nat_tests)) | inr m ↦ inr (grind (arith, nat_tests)) ])
   where
     unless : (p q : Bool) (x y : Recovered) → (p ≡ false) ⊎ (q ≡ false) → (if p && q then x else y) ≡ y
     unless true true x y (inl e) = cc
@@ -49,7 +55,9 @@ shown_made bytes digest state piece e =
     let t = tests (length bytes == session_length) (mark bytes == made_mark) (is_version (version bytes)) _ _ _ _ _ _ e in
     record { long = is_true _ _ t.0; marked = is_true _ _ t.1; versioned = t.2 }
   where
-    tests : (a b c : Bool) (x : Recovered) (n m : ℕ) (digest state piece : List ℕ) → (if a && b then (if c then x else Damaged part.Header 2) else Unmade n m) ≡ Shown digest state piece → (a ≡ true) × (b ≡ true) × (c ≡ true)
+    tests : (a b c : Bool) (x : Recovered) (n m : ℕ) (digest state piece : List ℕ) →
+      (if a && b then (if c then x else Damaged part.Header 2) else Unmade n m) ≡ Shown digest state piece →
+      (a ≡ true) × (b ≡ true) × (c ≡ true)
     tests true true true x n m digest state piece e = (refl, refl, refl)
     tests true true false x n m digest state piece e = cc
     tests true false c x n m digest state piece e = cc

@@ -1,5 +1,6 @@
 -- A session as it is made, and what the calls of a journal leave.
-use Rattle.std.proofs.Common.{◌≡◌, ◌≢◌, ℕ, ◌+◌, ◌-◌, ◌*◌, ◌≤◌, ◌<◌, List, ◌∷◌, ◌++◌, length, take, drop, refl, sym, ap, subst, ◌∙◌, arith, get_or, append_assoc, inl, inr, ◌⊎◌}
+use Rattle.std.proofs.Common.{◌≡◌, ◌≢◌, ℕ, ◌+◌, ◌-◌, ◌*◌, ◌≤◌, ◌<◌, List, ◌∷◌, ◌++◌, length, take, drop, refl, sym, ap, subst, ◌∙◌, arith, get_or, append_assoc}
+use Rattle.std.proofs.Common.{inl, inr, ◌⊎◌}
 use Rattle.std.specs.Prelude.{Bool, true, false, not, Option, Some, IsSome}
 use Rattle.std.specs.Str.{bytes_eq}
 use Rattle.std.proofs.lemmas.List.{length-append, take_at, take_all, drop_at}
@@ -13,7 +14,8 @@ use Rattle.paw_journal.specs.declared.layout.Slot.{Slot}
 use Rattle.paw_journal.specs.declared.layout.Slot.TheVariants as which
 use Rattle.paw_journal.specs.Journal.{IsAtRest, Keeps}
 use Rattle.paw_journal.specs.Room.{Room, kept_slot, with_kept, KeepsSlots, slot_number}
-use Rattle.paw_journal.specs.Session.{Recovered, Shown, IsUnmade, recover, slot_shows, slot, stretch, base, chosen, kept_digest, piece_length, state_length, session_length, slot_length, zeros, made_mark, made_header, made_slot, made_session}
+use Rattle.paw_journal.specs.Session.{Recovered, Shown, IsUnmade, recover, slot_shows, slot, stretch, base, chosen, kept_digest, piece_length, state_length}
+use Rattle.paw_journal.specs.Session.{session_length, slot_length, zeros, made_mark, made_header, made_slot, made_session}
 use Rattle.paw_journal.specs.Store.{IsBeside, InStore, Leaves, IsEither}
 use Rattle.paw_journal.specs.Steps.{Introduces}
 use Rattle.paw_journal.proofs.Recovers.{recover_is, recover_made}
@@ -29,8 +31,11 @@ length_head = omega (arith, length_zeros 61)
 pub length_slot : (state piece : List ℕ) → length state ≡ 4096 → length piece ≤ 65535 → length (made_slot state piece) ≡ slot_length
 length_slot state piece n few = slots (0 ∷ 0 ∷ 2 ∷ zeros 61) state piece (zeros (81920 - length piece)) length_head n few (length_zeros (81920 - length piece))
   where
-    slots : (head state piece behind : List ℕ) → length head ≡ 64 → length state ≡ 4096 → length piece ≤ 65535 → length behind ≡ 81920 - length piece → length (head ++ state ++ piece ++ behind) ≡ 86080
-    slots head state piece behind h n few b = omega (arith, length-append (head ++ state ++ piece) behind, length-append (head ++ state) piece, length-append head state)
+    slots : (head state piece behind : List ℕ) → length head ≡ 64 → length state ≡ 4096 → length piece ≤ 65535 →
+      length behind ≡ 81920 - length piece → length (head ++ state ++ piece ++ behind) ≡ 86080
+    slots head state piece behind h n few b =
+      omega (arith, length-append (head ++ state ++ piece) behind, length-append (head ++ state) piece, length-append
+      head state)
 
 no_changes : (state piece : List ℕ) → get_or (made_slot state piece) 0 0 + 256 * get_or (made_slot state piece) 1 0 ≡ 0
 unfolding zeros
@@ -47,7 +52,8 @@ made_base state piece n =
 made_piece : (state piece : List ℕ) → length state ≡ 4096 → stretch 4160 (length piece) (made_slot state piece) ≡ piece
 made_piece state piece n =
     ap (λ l. take (length piece) (drop 4160 l)) (append_assoc (0 ∷ 0 ∷ 2 ∷ zeros 61 ++ state) piece (zeros (81920 - length piece)))
-    ∙ (ap (take (length piece)) (drop_at (0 ∷ 0 ∷ 2 ∷ zeros 61 ++ state) _ 4160 (head (0 ∷ 0 ∷ 2 ∷ zeros 61) state length_head n)) ∙ take_at piece _ (length piece) refl)
+    ∙ (ap (take (length piece)) (drop_at (0 ∷ 0 ∷ 2 ∷ zeros 61 ++ state) _ 4160
+    (head (0 ∷ 0 ∷ 2 ∷ zeros 61) state length_head n)) ∙ take_at piece _ (length piece) refl)
   where
     head : (z state : List ℕ) → length z ≡ 64 → length state ≡ 4096 → length (z ++ state) ≡ 4160
     head z state h n = omega (arith, length-append z state)
@@ -56,19 +62,24 @@ made_piece state piece n =
 made_slot_kept : (state piece : List ℕ) → length state ≡ 4096 → IsKept (made_slot state piece) 0 state
 made_slot_kept state piece n = record { second = refl; number = no_changes state piece; few = omega arith; sound = refl; told = made_base state piece n }
 
-made_slot_shows : (digest state piece : List ℕ) → length state ≡ 4096 → piece_length state ≡ length piece → slot_shows digest (made_slot state piece) ≡ Shown digest (take state_length state) piece
+made_slot_shows : (digest state piece : List ℕ) → length state ≡ 4096 → piece_length state ≡ length piece →
+    slot_shows digest (made_slot state piece) ≡ Shown digest (take state_length state) piece
 made_slot_shows digest state piece n names =
     kept_shows digest (made_slot state piece) 0 state (made_slot_kept state piece n)
     ∙ ap (Shown digest (take state_length state)) (ap (λ k. stretch 4160 k (made_slot state piece)) names ∙ made_piece state piece n)
 
-made_slot_zero : (digest slots behind : List ℕ) → length digest ≡ 32 → length slots ≡ slot_length → slot 0 (made_header made_mark digest ++ slots ++ behind) ≡ slots
+made_slot_zero : (digest slots behind : List ℕ) → length digest ≡ 32 → length slots ≡ slot_length →
+    slot 0 (made_header made_mark digest ++ slots ++ behind) ≡ slots
 made_slot_zero digest slots behind n l =
     ap (λ x. take slot_length (drop 128 x)) (append_assoc (made_header made_mark digest) slots behind)
-    ∙ (ap (take slot_length) (drop_at (made_header made_mark digest) (slots ++ behind) 128 (length_header made_mark digest n)) ∙ take_at slots behind slot_length l)
+    ∙ (ap (take slot_length) (drop_at (made_header made_mark digest) (slots ++ behind) 128
+    (length_header made_mark digest n)) ∙ take_at slots behind slot_length l)
 
-made_slot_one : (digest first slots : List ℕ) → length digest ≡ 32 → length first ≡ slot_length → length slots ≡ slot_length → slot 1 (made_header made_mark digest ++ first ++ slots) ≡ slots
+made_slot_one : (digest first slots : List ℕ) → length digest ≡ 32 → length first ≡ slot_length →
+    length slots ≡ slot_length → slot 1 (made_header made_mark digest ++ first ++ slots) ≡ slots
 made_slot_one digest first slots n l m =
-    ap (take slot_length) (drop_at (made_header made_mark digest ++ first) slots 86208 (omega (arith, length-append (made_header made_mark digest) first, length_header made_mark digest n)))
+    ap (take slot_length) (drop_at (made_header made_mark digest ++ first) slots 86208
+    (omega (arith, length-append (made_header made_mark digest) first, length_header made_mark digest n)))
     ∙ take_all slot_length slots (omega arith)
 
 made_digest : (digest slots behind : List ℕ) → length digest ≡ 32 → kept_digest (made_header made_mark digest ++ slots ++ behind) ≡ digest
@@ -83,15 +94,19 @@ made_digest digest slots behind n =
     head e = omega (arith, e)
 
 made_long : (digest slots : List ℕ) → length digest ≡ 32 → length slots ≡ slot_length → length (made_header made_mark digest ++ slots ++ slots) ≡ session_length
-made_long digest slots n l = omega (arith, length-append (made_header made_mark digest ++ slots) slots, length-append (made_header made_mark digest) slots, length_header made_mark digest n)
+made_long digest slots n l = omega (arith, length-append (made_header made_mark digest ++ slots) slots, length-append
+    (made_header made_mark digest) slots, length_header made_mark digest n)
 
 pub laid_long : (digest slots : List ℕ) → length digest ≡ 32 → length slots ≡ slot_length → length (made_header 0 digest ++ slots ++ slots) ≡ session_length
-laid_long digest slots n l = omega (arith, length-append (made_header 0 digest ++ slots) slots, length-append (made_header 0 digest) slots, length_header 0 digest n)
+laid_long digest slots n l = omega (arith, length-append (made_header 0 digest ++ slots) slots, length-append
+    (made_header 0 digest) slots, length_header 0 digest n)
 
 pub session_digest : (digest state piece : List ℕ) → length digest ≡ 32 → kept_digest (made_session digest state piece) ≡ digest
 session_digest digest state piece n = made_digest digest (made_slot state piece) (made_slot state piece) n
 
-pub session_shows : (digest state piece : List ℕ) → length digest ≡ 32 → length state ≡ 4096 → length piece ≤ 65535 → piece_length state ≡ length piece → recover (made_session digest state piece) ≡ Shown digest (take state_length state) piece
+pub session_shows : (digest state piece : List ℕ) → length digest ≡ 32 → length state ≡ 4096 → length piece ≤ 65535 →
+    piece_length state ≡ length piece → recover (made_session digest state piece)
+    ≡ Shown digest (take state_length state) piece
 session_shows digest state piece n m few names =
     let s = made_slot state piece in
     let whole = made_session digest state piece in
@@ -109,12 +124,15 @@ introduced_shows k digest held bytes h e =
     ∙ (ap (λ d. slot_shows d (slot k bytes)) (sym h.digest) ∙ ap (slot_shows digest) (sym e)))
 
 -- two calls that change nothing
-pub still_on : (b n n' : ℕ) (past since since' : ℕ → Moment → Type 0) (s t : Standing) → t ≡ s → Passes b n past since (Still s) → Passes n n' since since' (Still t) → Passes b n' past since' (Still s)
+pub still_on : (b n n' : ℕ) (past since since' : ℕ → Moment → Type 0) (s t : Standing) → t ≡ s →
+    Passes b n past since (Still s) → Passes n n' since since' (Still t) → Passes b n' past since' (Still s)
 still_on b n n' past since since' s t e h k = Passes_on b n n' past since since' (Still s) (Still t) h k (λ m q. q ∙ ap moment_of e)
 
 -- what a crash leaves of one of two sessions, in other words
-pub in_either : (s t : Standing) (a b x y : Recovered) (m : Moment) → IsBeside s t → a ≡ x → b ≡ y → InStore t (Leaves (IsEither a b)) m → InStore s (Leaves (IsEither x y)) m
-in_either s t a b x y m h e f i = in_later s t (Leaves (IsEither a b)) (Leaves (IsEither x y)) m h (λ d p image l. elim (p image l) [ inl q ↦ inl (q ∙ e) | inr q ↦ inr (q ∙ f) ]) i
+pub in_either : (s t : Standing) (a b x y : Recovered) (m : Moment) → IsBeside s t → a ≡ x → b ≡ y →
+    InStore t (Leaves (IsEither a b)) m → InStore s (Leaves (IsEither x y)) m
+in_either s t a b x y m h e f i = in_later s t (Leaves (IsEither a b)) (Leaves (IsEither x y)) m h
+    (λ d p image l. elim (p image l) [ inl q ↦ inl (q ∙ e) | inr q ↦ inr (q ∙ f) ]) i
 
 pub in_first_of : (s : Standing) (a b : Recovered) (m : Moment) → IsBeside s s → InStore s (Leaves (λ r. r ≡ a)) m → InStore s (Leaves (IsEither a b)) m
 in_first_of s a b m h i = in_later s s (Leaves (λ r. r ≡ a)) (Leaves (IsEither a b)) m h (λ d p image l. inl (p image l)) i
@@ -122,8 +140,10 @@ in_first_of s a b m h i = in_later s s (Leaves (λ r. r ≡ a)) (Leaves (IsEithe
 pub in_unmade : (s : Standing) (b : Recovered) (m : Moment) → IsBeside s s → InStore s (Leaves IsUnmade) m → InStore s (Leaves (λ r. IsUnmade r ⊎ (r ≡ b))) m
 in_unmade s b m h i = in_later s s (Leaves IsUnmade) (Leaves (λ r. IsUnmade r ⊎ (r ≡ b))) m h (λ d p image l. inl (p image l)) i
 
-pub in_unmade_or : (s t : Standing) (a b : Recovered) (m : Moment) → IsBeside s t → a ≡ b → InStore t (Leaves (λ r. IsUnmade r ⊎ (r ≡ a))) m → InStore s (Leaves (λ r. IsUnmade r ⊎ (r ≡ b))) m
-in_unmade_or s t a b m h e i = in_later s t (Leaves (λ r. IsUnmade r ⊎ (r ≡ a))) (Leaves (λ r. IsUnmade r ⊎ (r ≡ b))) m h (λ d p image l. elim (p image l) [ inl q ↦ inl q | inr q ↦ inr (q ∙ e) ]) i
+pub in_unmade_or : (s t : Standing) (a b : Recovered) (m : Moment) → IsBeside s t → a ≡ b →
+    InStore t (Leaves (λ r. IsUnmade r ⊎ (r ≡ a))) m → InStore s (Leaves (λ r. IsUnmade r ⊎ (r ≡ b))) m
+in_unmade_or s t a b m h e i = in_later s t (Leaves (λ r. IsUnmade r ⊎ (r ≡ a))) (Leaves (λ r. IsUnmade r ⊎ (r ≡ b))) m
+    h (λ d p image l. elim (p image l) [ inl q ↦ inl q | inr q ↦ inr (q ∙ e) ]) i
 
 -- the digest that was found is another one, or the one that was looked for
 pub other_game : (kept game : List ℕ) (ne : Bool) → ne ≡ true → ne ≡ not (bytes_eq kept game) → kept ≢ game
@@ -141,7 +161,10 @@ same_game kept game ne f e = (bytes_eq-Decides kept game).0 (same ne _ f e)
     same ne false f e = absurd (cc (f, e))
 
 -- the session is kept where it was found
-pub found_keeps : (w : Slot) (digest : List ℕ) (room : Room) (s t : Standing) → IsAtRest s → t ≡ s → Introduces (slot_number w) digest s.disk.bytes → recover s.disk.bytes ≡ Shown digest (take state_length room.state) room.piece → KeepsSlots room s.disk.bytes → Keeps (record { slot = w }) room t
+pub found_keeps : (w : Slot) (digest : List ℕ) (room : Room) (s t : Standing) → IsAtRest s → t ≡ s →
+    Introduces (slot_number w) digest s.disk.bytes →
+    recover s.disk.bytes ≡ Shown digest (take state_length room.state) room.piece → KeepsSlots room s.disk.bytes →
+    Keeps (record { slot = w }) room t
 found_keeps w digest room s t r e h f slots = subst (λ u. Keeps (record { slot = w }) room u) (sym e) (record {
   rests = r;
   chosen = sym h.slot;
@@ -150,7 +173,10 @@ found_keeps w digest room s t r e h f slots = subst (λ u. Keeps (record { slot 
 })
 
 -- the states of both slots, once both were read
-pub found_slots : (w o : Slot) (bytes a b : List ℕ) (one two three four : Room) (state piece : List ℕ) → slot_number o ≡ 1 - slot_number w → two ≡ with_kept w (kept_slot a) (record one { state = state; piece = piece }) → three ≡ record two { slot = three.slot } → four ≡ with_kept o (kept_slot b) three → a ≡ slot (slot_number w) bytes → b ≡ slot (slot_number o) bytes → KeepsSlots four bytes
+pub found_slots : (w o : Slot) (bytes a b : List ℕ) (one two three four : Room) (state piece : List ℕ) →
+    slot_number o ≡ 1 - slot_number w → two ≡ with_kept w (kept_slot a) (record one { state = state; piece = piece }) →
+    three ≡ record two { slot = three.slot } → four ≡ with_kept o (kept_slot b) three → a ≡ slot (slot_number w) bytes →
+    b ≡ slot (slot_number o) bytes → KeepsSlots four bytes
 found_slots which.First which.Second bytes a b one two three four state piece n e f g h k = record {
   first = ap (λ r. r.first) g ∙ (ap (λ r. r.first) f ∙ (ap (λ r. r.first) e ∙ ap kept_slot h));
   second = ap (λ r. r.second) g ∙ ap kept_slot k;
@@ -163,7 +189,9 @@ found_slots which.First which.First bytes a b one two three four state piece n e
 found_slots which.Second which.Second bytes a b one two three four state piece n e f g h k = absurd (omega arith)
 
 -- what the room shows is what it showed before the other slot was read
-pub shown_stays : (digest : List ℕ) (r : Recovered) (o : Slot) (kept : Option SlotState) (two three four : Room) → r ≡ Shown digest (take state_length two.state) two.piece → three ≡ record two { slot = three.slot } → four ≡ with_kept o kept three → r ≡ Shown digest (take state_length four.state) four.piece
+pub shown_stays : (digest : List ℕ) (r : Recovered) (o : Slot) (kept : Option SlotState) (two three four : Room) →
+    r ≡ Shown digest (take state_length two.state) two.piece → three ≡ record two { slot = three.slot } →
+    four ≡ with_kept o kept three → r ≡ Shown digest (take state_length four.state) four.piece
 shown_stays digest r o kept two three four s e f =
     let st : four.state ≡ two.state = ap (λ x. x.state) f ∙ (state_stays o kept three ∙ ap (λ x. x.state) e) in
     let p : four.piece ≡ two.piece = ap (λ x. x.piece) f ∙ (piece_stays o kept three ∙ ap (λ x. x.piece) e) in
@@ -174,26 +202,38 @@ pub short_piece : (state piece : List ℕ) → ((i : ℕ) → get_or state i 0 <
 short_piece state piece bytes e = omega (arith, bytes 1369, bytes 1370)
 
 -- what is laid out, once it is marked, is the session
-pub marked_session : (digest slots state piece : List ℕ) (d : Disk) → d ≡ stable (made_header 0 digest ++ slots ++ slots) → slots ≡ made_slot state piece → made_mark ∷ drop 1 d.bytes ≡ made_session digest state piece
+pub marked_session : (digest slots state piece : List ℕ) (d : Disk) →
+    d ≡ stable (made_header 0 digest ++ slots ++ slots) → slots ≡ made_slot state piece →
+    made_mark ∷ drop 1 d.bytes ≡ made_session digest state piece
 marked_session digest slots state piece d e f = ap (λ x. made_mark ∷ drop 1 x.bytes) e ∙ ap (λ x. made_mark ∷ drop 1 (made_header 0 digest ++ x ++ x)) f
 
-made_slots : (digest state piece : List ℕ) (room : Room) → room.first ≡ Some (record { records = 0; state = state }) → room.second ≡ Some (record { records = 0; state = state }) → length digest ≡ 32 → length state ≡ 4096 → length piece ≤ 65535 → KeepsSlots room (made_session digest state piece)
+made_slots : (digest state piece : List ℕ) (room : Room) → room.first ≡ Some (record { records = 0; state = state }) →
+    room.second ≡ Some (record { records = 0; state = state }) → length digest ≡ 32 → length state ≡ 4096 →
+    length piece ≤ 65535 → KeepsSlots room (made_session digest state piece)
 made_slots digest state piece room f g n m few =
     let l : length (made_slot state piece) ≡ slot_length = length_slot state piece m few in
-    let k : kept_slot (made_slot state piece) ≡ Some (record { records = 0; state = state }) = kept_is (made_slot state piece) 0 state (made_slot_kept state piece m) in
+    let k : kept_slot (made_slot state piece) ≡ Some (record { records = 0; state = state }) =
+    kept_is (made_slot state piece) 0 state (made_slot_kept state piece m) in
     record {
       first = f ∙ (sym k ∙ ap kept_slot (sym (made_slot_zero digest (made_slot state piece) (made_slot state piece) n l)));
       second = g ∙ (sym k ∙ ap kept_slot (sym (made_slot_one digest (made_slot state piece) (made_slot state piece) n l l)));
     }
 
 -- and it is kept
-pub made_keeps : (digest state piece bytes : List ℕ) (room : Room) (s t : Standing) → IsAtRest s → t.attached ≡ s.attached → t.disk ≡ stable bytes → bytes ≡ made_session digest state piece → room.state ≡ state → room.piece ≡ piece → room.first ≡ Some (record { records = 0; state = state }) → room.second ≡ Some (record { records = 0; state = state }) → length digest ≡ 32 → length state ≡ 4096 → length piece ≤ 65535 → piece_length state ≡ length piece → Keeps (record { slot = which.First }) room t
+pub made_keeps : (digest state piece bytes : List ℕ) (room : Room) (s t : Standing) → IsAtRest s →
+    t.attached ≡ s.attached → t.disk ≡ stable bytes → bytes ≡ made_session digest state piece → room.state ≡ state →
+    room.piece ≡ piece → room.first ≡ Some (record { records = 0; state = state }) →
+    room.second ≡ Some (record { records = 0; state = state }) → length digest ≡ 32 → length state ≡ 4096 →
+    length piece ≤ 65535 → piece_length state ≡ length piece → Keeps (record { slot = which.First }) room t
 made_keeps digest state piece bytes room s t r a d b e f one two n m few names =
     let h : t.disk.bytes ≡ made_session digest state piece = ap (λ x. x.bytes) d ∙ b in
     let k : kept_digest t.disk.bytes ≡ digest = ap kept_digest h ∙ session_digest digest state piece n in
     record {
       rests = record { attached = subst (λ x. IsSome x) (sym a) r.attached; stable = subst (λ x. IsStable x) (sym d) (stable_is bytes) };
       chosen = ap chosen h;
-      shown = ap recover h ∙ (session_shows digest state piece n m few names ∙ (ap (λ x. Shown x (take state_length state) piece) (sym k) ∙ (ap (λ x. Shown (kept_digest t.disk.bytes) (take state_length x) piece) (sym e) ∙ ap (Shown (kept_digest t.disk.bytes) (take state_length room.state)) (sym f))));
+      shown = ap recover h ∙ (session_shows digest state piece n m few names
+      ∙ (ap (λ x. Shown x (take state_length state) piece) (sym k)
+      ∙ (ap (λ x. Shown (kept_digest t.disk.bytes) (take state_length x) piece) (sym e)
+      ∙ ap (Shown (kept_digest t.disk.bytes) (take state_length room.state)) (sym f))));
       slots = subst (KeepsSlots room) (sym h) (made_slots digest state piece room one two n m few);
     }

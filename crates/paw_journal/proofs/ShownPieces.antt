@@ -3,22 +3,28 @@ use Rattle.std.proofs.Common.{◌≡◌, ℕ, ◌-◌, ◌≤◌, Bool, true, fa
 use Rattle.std.specs.Prelude.{if◌then◌else◌, nat_le}
 use Rattle.std.proofs.lemmas.List.{length-append, length-take-le, length-drop, get_or-take, get_or_append_left}
 use Rattle.paw_journal.specs.declared.refusal.SessionPart.TheVariants as part
-use Rattle.paw_journal.specs.Session.{Damaged, Shown, recover, chosen, kept_digest, slot, slot_shows, shown_unless, first_unsound, slot_changes, slot_state, slot_piece, shown_state, is_second, number_at, piece_length, most_changes, state_length, first_length, zeros}
+use Rattle.paw_journal.specs.Session.{Damaged, Shown, recover, chosen, kept_digest, slot, slot_shows, shown_unless, first_unsound, slot_changes, slot_state}
+use Rattle.paw_journal.specs.Session.{slot_piece, shown_state, is_second, number_at, piece_length, most_changes, state_length, first_length, zeros}
 use Rattle.paw_journal.proofs.Makes.{length_zeros}
 use Rattle.paw_journal.proofs.Recovers.{shown_made, recover_is, recover_made}
 use Rattle.paw_journal.proofs.Fills.{slot_long}
 use Rattle.paw_journal.proofs.Slots.{state_long}
 
 -- both forms of a state tell the piece's length where the slot's state tells it, and have as many bytes
-form_names : (b : Bool) (state : List ℕ) → length state ≡ 4096 → piece_length (if b then take state_length state else take first_length state ++ zeros 2048) ≡ piece_length state
+form_names : (b : Bool) (state : List ℕ) → length state ≡ 4096 →
+    piece_length (if b then take state_length state else take first_length state ++ zeros 2048) ≡ piece_length state
 form_names true state n =
     let a : get_or (take state_length state) 1369 0 ≡ get_or state 1369 0 = get_or-take 3419 state 1369 0 (omega arith) in
     let b : get_or (take state_length state) 1370 0 ≡ get_or state 1370 0 = get_or-take 3419 state 1370 0 (omega arith) in
     omega (arith, a, b)
 form_names false state n =
     let l : length (take first_length state) ≡ 1371 = length-take-le 1371 state (omega arith) in
-    let a : get_or (take first_length state ++ zeros 2048) 1369 0 ≡ get_or state 1369 0 = get_or_append_left (take first_length state) (zeros 2048) 0 1369 (omega arith) ∙ get_or-take 1371 state 1369 0 (omega arith) in
-    let b : get_or (take first_length state ++ zeros 2048) 1370 0 ≡ get_or state 1370 0 = get_or_append_left (take first_length state) (zeros 2048) 0 1370 (omega arith) ∙ get_or-take 1371 state 1370 0 (omega arith) in
+    let a : get_or (take first_length state ++ zeros 2048) 1369 0 ≡ get_or state 1369 0 =
+    get_or_append_left (take first_length state) (zeros 2048) 0 1369 (omega arith)
+    ∙ get_or-take 1371 state 1369 0 (omega arith) in
+    let b : get_or (take first_length state ++ zeros 2048) 1370 0 ≡ get_or state 1370 0 =
+    get_or_append_left (take first_length state) (zeros 2048) 0 1370 (omega arith)
+    ∙ get_or-take 1371 state 1370 0 (omega arith) in
     omega (arith, a, b)
 
 form_long : (b : Bool) (state : List ℕ) → length state ≡ 4096 → length (if b then take state_length state else take first_length state ++ zeros 2048) ≡ 3419
@@ -32,7 +38,9 @@ by_changes : (digest s d st p : List ℕ) (o : Option ℕ) → shown_unless dige
 by_changes digest s d st p None e = same_shown digest (shown_state s) (slot_piece s) d st p e
 by_changes digest s d st p (Some n) e = absurd (cc e)
 
-by_count : (digest s d st p : List ℕ) (b : Bool) → (if b then shown_unless digest s (first_unsound (slot_changes s)) else Damaged part.Slot 0) ≡ Shown d st p → (shown_state s ≡ st) × (slot_piece s ≡ p)
+by_count : (digest s d st p : List ℕ) (b : Bool) →
+    (if b then shown_unless digest s (first_unsound (slot_changes s)) else Damaged part.Slot 0) ≡ Shown d st p →
+    (shown_state s ≡ st) × (slot_piece s ≡ p)
 by_count digest s d st p true e = by_changes digest s d st p (first_unsound (slot_changes s)) e
 by_count digest s d st p false e = absurd (cc e)
 
@@ -40,10 +48,13 @@ by_slot : (digest s d st p : List ℕ) → slot_shows digest s ≡ Shown d st p 
 unfolding slot_shows
 by_slot digest s d st p e = by_count digest s d st p (nat_le (number_at 0 s) most_changes) e
 
-of_chosen : (bytes digest state piece : List ℕ) → recover bytes ≡ Shown digest state piece → (shown_state (slot (chosen bytes) bytes) ≡ state) × (slot_piece (slot (chosen bytes) bytes) ≡ piece) × (length (slot (chosen bytes) bytes) ≡ 86080)
+of_chosen : (bytes digest state piece : List ℕ) → recover bytes ≡ Shown digest state piece →
+    (shown_state (slot (chosen bytes) bytes) ≡ state) × (slot_piece (slot (chosen bytes) bytes) ≡ piece)
+    × (length (slot (chosen bytes) bytes) ≡ 86080)
 of_chosen bytes digest state piece e =
     let made = shown_made bytes digest state piece e in
-    let p = by_slot (kept_digest bytes) (slot (chosen bytes) bytes) digest state piece (sym (recover_is (chosen bytes) bytes refl ∙ recover_made (chosen bytes) bytes made) ∙ e) in
+    let p = by_slot (kept_digest bytes) (slot (chosen bytes) bytes) digest state piece
+    (sym (recover_is (chosen bytes) bytes refl ∙ recover_made (chosen bytes) bytes made) ∙ e) in
     (p.0, p.1, slot_long (chosen bytes) bytes (omega arith) made.long)
 
 -- a state that is shown has 3,419 bytes

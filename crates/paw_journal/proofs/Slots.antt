@@ -1,5 +1,6 @@
 -- A slot that is put together, and one that is read.
-use Rattle.std.proofs.Common.{◌≡◌, ℕ, ◌+◌, ◌-◌, ◌*◌, ◌≤◌, ◌<◌, min, List, [], ◌∷◌, ◌++◌, get_or, length, take, drop, replicate, refl, sym, ap, ◌∙◌, true, false, arith}
+use Rattle.std.proofs.Common.{◌≡◌, ℕ, ◌+◌, ◌-◌, ◌*◌, ◌≤◌, ◌<◌, min, List, [], ◌∷◌, ◌++◌, get_or, length, take, drop, replicate, refl, sym, ap, ◌∙◌, true, false}
+use Rattle.std.proofs.Common.{arith}
 use Rattle.std.specs.Prelude.{slice_set, Bool, ◌&&◌, Option, Some, None, is_none, Result, Ok, is_ok, if◌then◌else◌, nat_le}
 use Rattle.std.proofs.lemmas.Bool.Decides.{nat_tests}
 use Rattle.std.proofs.lemmas.List.{length-append, take-replicate, length-take-le, length-set, get_or-take, get_or_append_left, take_all, take_at}
@@ -8,7 +9,9 @@ use Rattle.paw_journal.specs.declared.layout.Slot.{Slot}
 use Rattle.paw_journal.specs.declared.layout.Slot.TheVariants as which
 use Rattle.paw_journal.specs.declared.drafting.SlotState.{SlotState}
 use Rattle.paw_journal.specs.declared.refusal.SessionPart.TheVariants as part
-use Rattle.paw_journal.specs.Session.{Change, Damaged, Shown, piece_length, state_length, first_length, is_second, slot_piece, stretch, number_at, base, changes, changed, first_unsound, slot_changes, slot_state, has_state, slot_shows, shown_unless, most_changes, slot, slot_length, header_length, session_length, zeros}
+use Rattle.paw_journal.specs.Session.{Change, Damaged, Shown, piece_length, state_length, first_length, is_second, slot_piece, stretch, number_at, base}
+use Rattle.paw_journal.specs.Session.{changes, changed, first_unsound, slot_changes, slot_state, has_state, slot_shows, shown_unless, most_changes, slot}
+use Rattle.paw_journal.specs.Session.{slot_length, header_length, session_length, zeros}
 use Rattle.paw_journal.specs.Room.{Room, kept_slot, with_kept}
 use Rattle.paw_journal.proofs.Kept.{has_state_is, state_has, kept_shows, sound_shows, kept_of_both, kept_of_first, kept_of_broken}
 use Rattle.paw_journal.proofs.Puts.{stretch_long}
@@ -16,17 +19,23 @@ use Rattle.paw_journal.proofs.Makes.{length_zeros}
 use Rattle.paw_journal.proofs.Parts.{length_stretch}
 
 -- a list that is longer by so many zeros
-pub added_zeros : {T E : Type 0} {r : Result T E} {x : T} (was now : List ℕ) (n k count : ℕ) → k ≡ length was → n ≡ k + count → r ≡ Ok x → now ≡ (if is_ok r then take n was ++ replicate (n - k) 0 else was) → now ≡ was ++ zeros count
+pub added_zeros : {T E : Type 0} {r : Result T E} {x : T} (was now : List ℕ) (n k count : ℕ) → k ≡ length was →
+    n ≡ k + count → r ≡ Ok x → now ≡ (if is_ok r then take n was ++ replicate (n - k) 0 else was) →
+    now ≡ was ++ zeros count
 unfolding zeros
 added_zeros was now n k count l e ok is =
     let m : n - k ≡ count = omega arith in
-    is ∙ (ap (λ b. if is_ok b then take n was ++ replicate (n - k) 0 else was) ok ∙ (ap (λ y. y ++ replicate (n - k) 0) (take_all n was (omega arith)) ∙ ap (λ j. was ++ replicate j 0) m))
+    is ∙ (ap (λ b. if is_ok b then take n was ++ replicate (n - k) 0 else was) ok
+    ∙ (ap (λ y. y ++ replicate (n - k) 0) (take_all n was (omega arith)) ∙ ap (λ j. was ++ replicate j 0) m))
 
 -- what a read of a slot gives
-pub read_slot : (k at n m : ℕ) (into rest whole : List ℕ) → k < 2 → at ≡ header_length + slot_length * k → n ≡ slot_length → m ≡ slot_length → length whole ≡ session_length → into ≡ take m (drop at whole) → take n (into ++ rest) ≡ slot k whole
+pub read_slot : (k at n m : ℕ) (into rest whole : List ℕ) → k < 2 → at ≡ header_length + slot_length * k →
+    n ≡ slot_length → m ≡ slot_length → length whole ≡ session_length → into ≡ take m (drop at whole) →
+    take n (into ++ rest) ≡ slot k whole
 read_slot k at n m into rest whole low e p q long r =
     let s : into ≡ slot k whole = r ∙ (ap (λ j. take j (drop at whole)) q ∙ ap (λ j. stretch j slot_length whole) e) in
-    let l : length into ≡ n = slot_is_whole (length into) k n (length whole) low p long (ap length s ∙ length_stretch (header_length + slot_length * k) slot_length whole) in
+    let l : length into ≡ n = slot_is_whole (length into) k n (length whole) low p long
+    (ap length s ∙ length_stretch (header_length + slot_length * k) slot_length whole) in
     take_at into rest n l ∙ s
   where
     slot_is_whole : (l k n size : ℕ) → k < 2 → n ≡ slot_length → size ≡ session_length → l ≡ min slot_length (size - (header_length + slot_length * k)) → l ≡ n
@@ -42,7 +51,9 @@ too_many digest bytes count e h =
     above : (n count : ℕ) → count ≡ n → most_changes < count → nat_le n most_changes ≡ false
     above n count e h = grind (arith, nat_tests)
 
-pub few_changes : (digest bytes records : List ℕ) (count : ℕ) (first : Option ℕ) → count ≡ number_at 0 bytes → count ≤ most_changes → records ≡ stretch 69696 (4 * count) bytes → first ≡ first_unsound (changes records) → slot_shows digest bytes ≡ shown_unless digest bytes first
+pub few_changes : (digest bytes records : List ℕ) (count : ℕ) (first : Option ℕ) → count ≡ number_at 0 bytes →
+    count ≤ most_changes → records ≡ stretch 69696 (4 * count) bytes → first ≡ first_unsound (changes records) →
+    slot_shows digest bytes ≡ shown_unless digest bytes first
 unfolding slot_shows
 few_changes digest bytes records count first e h r u =
     let f : nat_le (number_at 0 bytes) most_changes ≡ true = below (number_at 0 bytes) count e h in
@@ -52,7 +63,9 @@ few_changes digest bytes records count first e h r u =
     below : (n count : ℕ) → count ≡ n → count ≤ most_changes → nat_le n most_changes ≡ true
     below n count e h = grind (arith, nat_tests)
 
-pub state_is : (bytes records old now : List ℕ) (count : ℕ) → count ≡ number_at 0 bytes → records ≡ stretch 69696 (4 * count) bytes → old ≡ base bytes → now ≡ changed (changes records) old → now ≡ slot_state bytes
+pub state_is : (bytes records old now : List ℕ) (count : ℕ) → count ≡ number_at 0 bytes →
+    records ≡ stretch 69696 (4 * count) bytes → old ≡ base bytes → now ≡ changed (changes records) old →
+    now ≡ slot_state bytes
 state_is bytes records old now count e r b n =
     n ∙ (ap (λ l. changed (changes l) old) (r ∙ ap (λ n. stretch 69696 (4 * n) bytes) e) ∙ ap (changed (slot_changes bytes)) b)
 
@@ -62,32 +75,52 @@ broken_many bytes count e h = above (number_at 0 bytes) count (is_none (first_un
     above : (n count : ℕ) (b : Bool) → count ≡ n → most_changes < count → (nat_le n most_changes && b) ≡ false
     above n count b e h = let f : nat_le n most_changes ≡ false = grind (arith, nat_tests) in ap (λ t. t && b) f
 
-same_unsound : (bytes records : List ℕ) (count : ℕ) (first : Option ℕ) → count ≡ number_at 0 bytes → records ≡ stretch 69696 (4 * count) bytes → first ≡ first_unsound (changes records) → first_unsound (slot_changes bytes) ≡ first
-same_unsound bytes records count first e r u = sym (u ∙ (ap (λ l. first_unsound (changes l)) r ∙ ap (λ n. first_unsound (changes (stretch 69696 (4 * n) bytes))) e))
+same_unsound : (bytes records : List ℕ) (count : ℕ) (first : Option ℕ) → count ≡ number_at 0 bytes →
+    records ≡ stretch 69696 (4 * count) bytes → first ≡ first_unsound (changes records) →
+    first_unsound (slot_changes bytes) ≡ first
+same_unsound bytes records count first e r u =
+    sym (u ∙ (ap (λ l. first_unsound (changes l)) r
+    ∙ ap (λ n. first_unsound (changes (stretch 69696 (4 * n) bytes))) e))
 
-pub broken_record : (bytes records : List ℕ) (count number : ℕ) → count ≡ number_at 0 bytes → records ≡ stretch 69696 (4 * count) bytes → Some number ≡ first_unsound (changes records) → has_state bytes ≡ false
-broken_record bytes records count number e r u = ap (λ o. nat_le (number_at 0 bytes) most_changes && is_none o) (same_unsound bytes records count (Some number) e r u) ∙ never (nat_le (number_at 0 bytes) most_changes)
+pub broken_record : (bytes records : List ℕ) (count number : ℕ) → count ≡ number_at 0 bytes →
+    records ≡ stretch 69696 (4 * count) bytes → Some number ≡ first_unsound (changes records) → has_state bytes ≡ false
+broken_record bytes records count number e r u =
+    ap (λ o. nat_le (number_at 0 bytes) most_changes && is_none o)
+    (same_unsound bytes records count (Some number) e r u) ∙ never (nat_le (number_at 0 bytes) most_changes)
   where
     never : (b : Bool) → (b && false) ≡ false
     never true = refl
     never false = refl
 
-pub whole_slot : (bytes records : List ℕ) (count : ℕ) → count ≡ number_at 0 bytes → count ≤ most_changes → records ≡ stretch 69696 (4 * count) bytes → None ≡ first_unsound (changes records) → has_state bytes ≡ true
+pub whole_slot : (bytes records : List ℕ) (count : ℕ) → count ≡ number_at 0 bytes → count ≤ most_changes →
+    records ≡ stretch 69696 (4 * count) bytes → None ≡ first_unsound (changes records) → has_state bytes ≡ true
 whole_slot bytes records count e low r u = has_state_is bytes (omega (arith, e)) (same_unsound bytes records count None e r u)
 
-pub whole_state : (bytes records old now : List ℕ) (count : ℕ) → count ≡ number_at 0 bytes → records ≡ stretch 69696 (4 * count) bytes → old ≡ base bytes → now ≡ changed (changes records) old → ◌≡◌ {A = SlotState} (record { records = count; state = now }) (record { records = number_at 0 bytes; state = slot_state bytes })
+pub whole_state : (bytes records old now : List ℕ) (count : ℕ) → count ≡ number_at 0 bytes →
+    records ≡ stretch 69696 (4 * count) bytes → old ≡ base bytes → now ≡ changed (changes records) old →
+    ◌≡◌ {A = SlotState} (record { records = count; state = now })
+    (record { records = number_at 0 bytes; state = slot_state bytes })
 whole_state bytes records old now count e r b n = let s = state_is bytes records old now count e r b n in cc (e, s)
 
 pub records_are : (count : ℕ) (held bytes : List ℕ) → held ≡ bytes → take (69696 + 4 * count - 69696) (drop 69696 held) ≡ stretch 69696 (4 * count) bytes
-records_are count held bytes e = let n : 69696 + 4 * count - 69696 ≡ 4 * count = omega arith in ap (λ k. take k (drop 69696 held)) n ∙ ap (stretch 69696 (4 * count)) e
+records_are count held bytes e = let n : 69696 + 4 * count - 69696 ≡ 4 * count = omega arith in
+    ap (λ k. take k (drop 69696 held)) n ∙ ap (stretch 69696 (4 * count)) e
 
 -- there is room for state and piece behind the head of a slot, and for as many zeros behind these
-pub room_for_body : (r s : Room) (piece : List ℕ) → s.slot ≡ 0 ∷ 0 ∷ 2 ∷ [] → s.piece ≡ piece → r ≡ record s { slot = s.slot ++ zeros 61 } → length piece ≤ 65535 → length r.slot + 4096 + length r.piece ≤ slot_length
-room_for_body r s piece f g e few = omega (arith, ap (λ x. length x.slot) e, ap (λ x. length x.piece) e, ap length f, ap length g, length-append s.slot (zeros 61), length_zeros 61)
+pub room_for_body : (r s : Room) (piece : List ℕ) → s.slot ≡ 0 ∷ 0 ∷ 2 ∷ [] → s.piece ≡ piece →
+    r ≡ record s { slot = s.slot ++ zeros 61 } → length piece ≤ 65535 →
+    length r.slot + 4096 + length r.piece ≤ slot_length
+room_for_body r s piece f g e few = omega
+    (arith, ap (λ x. length x.slot) e, ap (λ x. length x.piece) e, ap length f, ap length g, length-append s.slot
+    (zeros 61), length_zeros 61)
 
-pub room_behind : (q r s : Room) (state piece : List ℕ) (n : ℕ) → s.slot ≡ 0 ∷ 0 ∷ 2 ∷ [] → s.state ≡ state → s.piece ≡ piece → r ≡ record s { slot = s.slot ++ zeros 61 } → length state ≡ 4096 → length piece ≤ 65535 → q ≡ record r { slot = r.slot ++ r.state ++ r.piece } → n ≡ length piece → length q.slot + (81920 - n) ≤ slot_length
+pub room_behind : (q r s : Room) (state piece : List ℕ) (n : ℕ) → s.slot ≡ 0 ∷ 0 ∷ 2 ∷ [] → s.state ≡ state →
+    s.piece ≡ piece → r ≡ record s { slot = s.slot ++ zeros 61 } → length state ≡ 4096 → length piece ≤ 65535 →
+    q ≡ record r { slot = r.slot ++ r.state ++ r.piece } → n ≡ length piece → length q.slot + (81920 - n) ≤ slot_length
 room_behind q r s state piece n a b d e long few f k =
-    omega (arith, ap (λ x. length x.slot) f, length-append (r.slot ++ r.state) r.piece, length-append r.slot r.state, ap (λ x. length x.slot) e, ap (λ x. length x.state) e, ap (λ x. length x.piece) e, ap length a, ap length b, ap length d, length-append s.slot (zeros 61), length_zeros 61)
+    omega (arith, ap (λ x. length x.slot) f, length-append (r.slot ++ r.state) r.piece, length-append r.slot r.state, ap
+    (λ x. length x.slot) e, ap (λ x. length x.state) e, ap (λ x. length x.piece) e, ap length a, ap length b, ap length
+    d, length-append s.slot (zeros 61), length_zeros 61)
 
 -- what is shown stays in the room while slots are kept in it
 pub state_stays : (w : Slot) (kept : Option SlotState) (room : Room) → (with_kept w kept room).state ≡ room.state
@@ -116,56 +149,84 @@ brought_shown state n =
 brought_names : (state : List ℕ) → length state ≡ 4096 → piece_length (take first_length state ++ zeros 2725) ≡ piece_length state
 brought_names state n =
     let l : length (take first_length state) ≡ 1371 = length-take-le 1371 state (omega arith) in
-    let a : get_or (take first_length state ++ zeros 2725) 1369 0 ≡ get_or state 1369 0 = get_or_append_left (take first_length state) (zeros 2725) 0 1369 (omega arith) ∙ get_or-take 1371 state 1369 0 (omega arith) in
-    let b : get_or (take first_length state ++ zeros 2725) 1370 0 ≡ get_or state 1370 0 = get_or_append_left (take first_length state) (zeros 2725) 0 1370 (omega arith) ∙ get_or-take 1371 state 1370 0 (omega arith) in
+    let a : get_or (take first_length state ++ zeros 2725) 1369 0 ≡ get_or state 1369 0 =
+    get_or_append_left (take first_length state) (zeros 2725) 0 1369 (omega arith)
+    ∙ get_or-take 1371 state 1369 0 (omega arith) in
+    let b : get_or (take first_length state ++ zeros 2725) 1370 0 ≡ get_or state 1370 0 =
+    get_or_append_left (take first_length state) (zeros 2725) 0 1370 (omega arith)
+    ∙ get_or-take 1371 state 1370 0 (omega arith) in
     omega (arith, a, b)
 
 -- a slot that was read, and the state that was taken out of it
-module _ (w : Slot) (kept : SlotState) (old shown now : Room) (n : length old.slot ≡ 86080) (t : has_state old.slot ≡ true) (k : kept ≡ record { records = number_at 0 old.slot; state = slot_state old.slot }) where
+module _ (w : Slot) (kept : SlotState) (old shown now : Room) (n : length old.slot ≡ 86080)
+    (t : has_state old.slot ≡ true) (k : kept ≡ record { records = number_at 0 old.slot; state = slot_state old.slot })
+    where
   told : kept.state ≡ slot_state old.slot
   told = ap (λ x. x.state) k
 
   -- of version 2
-  pub taken_shows : (digest : List ℕ) → is_second old.slot ≡ true → shown ≡ record old { state = kept.state; piece = stretch 4160 (piece_length kept.state) old.slot } → now ≡ with_kept w (Some kept) shown → slot_shows digest old.slot ≡ Shown digest (take state_length now.state) now.piece
+  pub taken_shows : (digest : List ℕ) → is_second old.slot ≡ true →
+      shown ≡ record old { state = kept.state; piece = stretch 4160 (piece_length kept.state) old.slot } →
+      now ≡ with_kept w (Some kept) shown →
+      slot_shows digest old.slot ≡ Shown digest (take state_length now.state) now.piece
   taken_shows digest e s f =
       let a : now.state ≡ slot_state old.slot = ap (λ r. r.state) f ∙ (state_stays w (Some kept) shown ∙ (ap (λ r. r.state) s ∙ told)) in
-      let b : now.piece ≡ stretch 4160 (piece_length (slot_state old.slot)) old.slot = ap (λ r. r.piece) f ∙ (piece_stays w (Some kept) shown ∙ (ap (λ r. r.piece) s ∙ ap (λ l. stretch 4160 (piece_length l) old.slot) told)) in
+      let b : now.piece ≡ stretch 4160 (piece_length (slot_state old.slot)) old.slot =
+      ap (λ r. r.piece) f ∙ (piece_stays w (Some kept) shown
+      ∙ (ap (λ r. r.piece) s ∙ ap (λ l. stretch 4160 (piece_length l) old.slot) told)) in
       kept_shows digest old.slot (number_at 0 old.slot) (slot_state old.slot) (state_has old.slot e t)
-      ∙ (ap (λ l. Shown digest (take state_length l) (stretch 4160 (piece_length (slot_state old.slot)) old.slot)) (sym a) ∙ ap (Shown digest (take state_length now.state)) (sym b))
+      ∙ (ap (λ l. Shown digest (take state_length l) (stretch 4160 (piece_length (slot_state old.slot)) old.slot))
+      (sym a) ∙ ap (Shown digest (take state_length now.state)) (sym b))
 
-  pub taken_kept : is_second old.slot ≡ true → shown ≡ record old { state = kept.state; piece = stretch 4160 (piece_length kept.state) old.slot } → now ≡ with_kept w (Some kept) shown → now ≡ with_kept w (kept_slot old.slot) (record old { state = now.state; piece = now.piece })
+  pub taken_kept : is_second old.slot ≡ true →
+      shown ≡ record old { state = kept.state; piece = stretch 4160 (piece_length kept.state) old.slot } →
+      now ≡ with_kept w (Some kept) shown →
+      now ≡ with_kept w (kept_slot old.slot) (record old { state = now.state; piece = now.piece })
   taken_kept e s f =
       let a : now.state ≡ kept.state = ap (λ r. r.state) f ∙ (state_stays w (Some kept) shown ∙ ap (λ r. r.state) s) in
       let b : now.piece ≡ stretch 4160 (piece_length kept.state) old.slot = ap (λ r. r.piece) f ∙ (piece_stays w (Some kept) shown ∙ ap (λ r. r.piece) s) in
       let q : Some kept ≡ kept_slot old.slot = ap Some k ∙ sym (kept_of_both old.slot e t) in
-      let r : shown ≡ record old { state = now.state; piece = now.piece } = s ∙ (ap (λ l. record old { state = l; piece = stretch 4160 (piece_length kept.state) old.slot }) (sym a) ∙ ap (λ l. record old { state = now.state; piece = l }) (sym b)) in
+      let r : shown ≡ record old { state = now.state; piece = now.piece } =
+      s ∙ (ap (λ l. record old { state = l; piece = stretch 4160 (piece_length kept.state) old.slot }) (sym a)
+      ∙ ap (λ l. record old { state = now.state; piece = l }) (sym b)) in
       f ∙ (ap (λ x. with_kept w x shown) q ∙ ap (with_kept w (kept_slot old.slot)) r)
 
   -- of version 1
-  pub brought_shows : (digest state : List ℕ) → is_second old.slot ≡ false → state ≡ take first_length kept.state ++ zeros 2725 → shown ≡ record old { state = state; piece = stretch 4160 (piece_length state) old.slot } → now ≡ with_kept w None shown → slot_shows digest old.slot ≡ Shown digest (take state_length now.state) now.piece
+  pub brought_shows : (digest state : List ℕ) → is_second old.slot ≡ false →
+      state ≡ take first_length kept.state ++ zeros 2725 →
+      shown ≡ record old { state = state; piece = stretch 4160 (piece_length state) old.slot } →
+      now ≡ with_kept w None shown → slot_shows digest old.slot ≡ Shown digest (take state_length now.state) now.piece
   brought_shows digest state e i s f =
       let long : length (slot_state old.slot) ≡ 4096 = state_long old.slot n in
       let st : state ≡ take first_length (slot_state old.slot) ++ zeros 2725 = i ∙ ap (λ l. take first_length l ++ zeros 2725) told in
       let a : now.state ≡ state = ap (λ r. r.state) f ∙ (state_stays w None shown ∙ ap (λ r. r.state) s) in
       let b : now.piece ≡ stretch 4160 (piece_length state) old.slot = ap (λ r. r.piece) f ∙ (piece_stays w None shown ∙ ap (λ r. r.piece) s) in
-      let c : take state_length now.state ≡ take first_length (slot_state old.slot) ++ zeros 2048 = ap (take state_length) (a ∙ st) ∙ brought_shown (slot_state old.slot) long in
+      let c : take state_length now.state ≡ take first_length (slot_state old.slot) ++ zeros 2048 =
+      ap (take state_length) (a ∙ st) ∙ brought_shown (slot_state old.slot) long in
       let p : now.piece ≡ slot_piece old.slot = b ∙ ap (λ m. stretch 4160 m old.slot) (ap piece_length st ∙ brought_names (slot_state old.slot) long) in
       sound_shows digest old.slot t
-      ∙ (ap (λ x. Shown digest (if x then take state_length (slot_state old.slot) else take first_length (slot_state old.slot) ++ zeros 2048) (slot_piece old.slot)) e
+      ∙ (ap (λ x. Shown digest (if x then take state_length (slot_state old.slot) else take first_length
+      (slot_state old.slot) ++ zeros 2048) (slot_piece old.slot)) e
       ∙ (ap (λ l. Shown digest l (slot_piece old.slot)) (sym c) ∙ ap (Shown digest (take state_length now.state)) (sym p)))
 
-  pub brought_kept : (state : List ℕ) → is_second old.slot ≡ false → shown ≡ record old { state = state; piece = stretch 4160 (piece_length state) old.slot } → now ≡ with_kept w None shown → now ≡ with_kept w (kept_slot old.slot) (record old { state = now.state; piece = now.piece })
+  pub brought_kept : (state : List ℕ) → is_second old.slot ≡ false →
+      shown ≡ record old { state = state; piece = stretch 4160 (piece_length state) old.slot } →
+      now ≡ with_kept w None shown → now
+      ≡ with_kept w (kept_slot old.slot) (record old { state = now.state; piece = now.piece })
   brought_kept state e s f =
       let a : now.state ≡ state = ap (λ r. r.state) f ∙ (state_stays w None shown ∙ ap (λ r. r.state) s) in
       let b : now.piece ≡ stretch 4160 (piece_length state) old.slot = ap (λ r. r.piece) f ∙ (piece_stays w None shown ∙ ap (λ r. r.piece) s) in
-      let r : shown ≡ record old { state = now.state; piece = now.piece } = s ∙ (ap (λ l. record old { state = l; piece = stretch 4160 (piece_length state) old.slot }) (sym a) ∙ ap (λ l. record old { state = now.state; piece = l }) (sym b)) in
+      let r : shown ≡ record old { state = now.state; piece = now.piece } =
+      s ∙ (ap (λ l. record old { state = l; piece = stretch 4160 (piece_length state) old.slot }) (sym a)
+      ∙ ap (λ l. record old { state = now.state; piece = l }) (sym b)) in
       f ∙ (ap (λ x. with_kept w x shown) (sym (kept_of_first old.slot e)) ∙ ap (with_kept w (kept_slot old.slot)) r)
 
 -- what is kept of a slot that was read
 pub kept_is_none : (bytes : List ℕ) → has_state bytes ≡ false → None ≡ kept_slot bytes
 kept_is_none bytes e = sym (kept_of_broken bytes e)
 
-pub kept_is_some : (bytes : List ℕ) (kept : SlotState) → is_second bytes ≡ true → has_state bytes ≡ true → kept ≡ record { records = number_at 0 bytes; state = slot_state bytes } → Some kept ≡ kept_slot bytes
+pub kept_is_some : (bytes : List ℕ) (kept : SlotState) → is_second bytes ≡ true → has_state bytes ≡ true →
+    kept ≡ record { records = number_at 0 bytes; state = slot_state bytes } → Some kept ≡ kept_slot bytes
 kept_is_some bytes kept e f k = ap Some k ∙ sym (kept_of_both bytes e f)
 
 pub kept_is_first : (bytes : List ℕ) → is_second bytes ≡ false → None ≡ kept_slot bytes

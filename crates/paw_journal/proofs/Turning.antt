@@ -1,5 +1,6 @@
 -- Change records that make one state of another.
-use Rattle.std.proofs.Common.{◌≡◌, ◌≢◌, ℕ, zero, suc, ◌+◌, ◌*◌, ◌≤◌, ◌<◌, Bool, true, false, List, [], ◌∷◌, ◌++◌, length, take, drop, refl, sym, ap, subst, ◌∙◌, arith, add-one, get_or, append_assoc, append-nil}
+use Rattle.std.proofs.Common.{◌≡◌, ◌≢◌, ℕ, zero, suc, ◌+◌, ◌*◌, ◌≤◌, ◌<◌, Bool, true, false, List, [], ◌∷◌, ◌++◌, length, take, drop, refl, sym, ap, subst, ◌∙◌}
+use Rattle.std.proofs.Common.{arith, add-one, get_or, append_assoc, append-nil}
 use Rattle.std.specs.Prelude.{Option, Some, None, cond, not, ◌==◌, if◌then◌else◌, slice_set}
 use Rattle.std.specs.List.{position_from}
 use Rattle.std.proofs.lemmas.Bool.Decides.{nat_tests}
@@ -71,16 +72,21 @@ pub record TurnsTo (old new : List ℕ) (i : ℕ) (records : List ℕ) : Type 0 
 
 pub turns_none : (old new records : List ℕ) → records ≡ [] → TurnsTo old new 0 records
 unfolding differing
-turns_none old new records e = record { many = ap length e; few = omega (arith, ap length e); sound = ap (λ r. first_unsound (changes r)) e; turned = ap (λ r. changed (changes r) old) e }
+turns_none old new records e = record { many = ap length e; few = omega (arith, ap length e); sound =
+    ap (λ r. first_unsound (changes r)) e; turned = ap (λ r. changed (changes r) old) e }
 
-more : (old new : List ℕ) (i : ℕ) → length old ≡ length new → i < length old → differing (take (suc i) old) (take (suc i) new) ≡ differing (take i old) (take i new) + (if get_or old i 0 == get_or new i 0 then 0 else 1)
+more : (old new : List ℕ) (i : ℕ) → length old ≡ length new → i < length old →
+    differing (take (suc i) old) (take (suc i) new)
+    ≡ differing (take i old) (take i new) + (if get_or old i 0 == get_or new i 0 then 0 else 1)
 more old new i n low =
     let l : i < length new = omega arith in
     ap (λ a. differing a (take (suc i) new)) (take-suc old i 0 low)
     ∙ (ap (λ b. differing (take i old ++ get_or old i 0 ∷ []) b) (take-suc new i 0 l)
-    ∙ differing-append (take i old) (take i new) (get_or old i 0) (get_or new i 0) (length-take-le i old (omega arith) ∙ sym (length-take-le i new (omega arith))))
+    ∙ differing-append (take i old) (take i new) (get_or old i 0) (get_or new i 0)
+    (length-take-le i old (omega arith) ∙ sym (length-take-le i new (omega arith))))
 
-pub turns_same : (old new records : List ℕ) (i : ℕ) → TurnsTo old new i records → length old ≡ length new → i < length old → get_or old i 0 ≡ get_or new i 0 → TurnsTo old new (suc i) records
+pub turns_same : (old new records : List ℕ) (i : ℕ) → TurnsTo old new i records → length old ≡ length new →
+    i < length old → get_or old i 0 ≡ get_or new i 0 → TurnsTo old new (suc i) records
 turns_same old new records i h n low e =
     let l : i < length new = omega arith in
     let t : (get_or old i 0 == get_or new i 0) ≡ true = grind (arith, nat_tests) in
@@ -99,14 +105,17 @@ turns_same old new records i h n low e =
 one_change : (x y z i : ℕ) → x + 256 * y ≡ i → changes (x ∷ y ∷ z ∷ 0 ∷ []) ≡ record { at = i; byte = z; last = 0 } ∷ []
 one_change x y z i e = ap (λ k. record { at = k; byte = z; last = 0 } ∷ []) e
 
-pub turns_other : (old new records now : List ℕ) (i x y z : ℕ) → TurnsTo old new i records → length old ≡ length new → i < length old → i < 4096 → get_or old i 0 ≢ get_or new i 0 → x + 256 * y ≡ i → z ≡ get_or new i 0 → now ≡ records ++ x ∷ y ∷ z ∷ 0 ∷ [] → TurnsTo old new (suc i) now
+pub turns_other : (old new records now : List ℕ) (i x y z : ℕ) → TurnsTo old new i records → length old ≡ length new →
+    i < length old → i < 4096 → get_or old i 0 ≢ get_or new i 0 → x + 256 * y ≡ i → z ≡ get_or new i 0 →
+    now ≡ records ++ x ∷ y ∷ z ∷ 0 ∷ [] → TurnsTo old new (suc i) now
 turns_other old new records now i x y z h n low short ne p q e =
     let l : i < length new = omega arith in
     let t : (get_or old i 0 == get_or new i 0) ≡ false = grind (arith, nat_tests) in
     let d = more old new i n low ∙ ap (λ b. differing (take i old) (take i new) + (if b then 0 else 1)) t in
     let c : Change = record { at = i; byte = z; last = 0 } in
     let all : changes now ≡ changes records ++ c ∷ [] =
-    ap changes e ∙ (changes-append (differing (take i old) (take i new)) records (x ∷ y ∷ z ∷ 0 ∷ []) h.many ∙ ap (λ l. changes records ++ l) (one_change x y z i p)) in
+    ap changes e ∙ (changes-append (differing (take i old) (take i new)) records (x ∷ y ∷ z ∷ 0 ∷ []) h.many
+    ∙ ap (λ l. changes records ++ l) (one_change x y z i p)) in
     let m : length now ≡ length records + 4 = ap length e ∙ length-append records (x ∷ y ∷ z ∷ 0 ∷ []) in
     let at : i ≡ length (take i new) = sym (length-take-le i new (omega arith)) in
     record {

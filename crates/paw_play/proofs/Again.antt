@@ -21,9 +21,11 @@ use Rattle.paw_journal.proofs.Disks.{stable_is, stable_leaves}
 use Rattle.paw_play.proofs.Attaching.{files_so, other_file, playing_from}
 use Rattle.paw_play.proofs.Showing.{state_kept}
 
-module _ (g : Story) (digest name : List ℕ) (st : State) (piece : List ℕ) (old : Standing) (valid : Valid g.game) (shows : ShowsState g.game digest (store_bytes old name) st piece) where
+module _ (g : Story) (digest name : List ℕ) (st : State) (piece : List ℕ) (old : Standing) (valid : Valid g.game)
+    (shows : ShowsState g.game digest (store_bytes old name) st piece) where
   -- the store is attached, and nothing was asked or shown
-  at_attached : (m : Moment) → m.asked ≡ old.asked → m.shown ≡ old.shown → m.attached ≡ Some name → ((n : List ℕ) → n ≢ name → m.files n ≡ old.files n) → m.disk ≡ stable (store_bytes old name) →
+  at_attached : (m : Moment) → m.asked ≡ old.asked → m.shown ≡ old.shown → m.attached ≡ Some name →
+      ((n : List ℕ) → n ≢ name → m.files n ≡ old.files n) → m.disk ≡ stable (store_bytes old name) →
       InPlay (kept_session g st piece digest name) old m
   at_attached m asked shown attached files disk = record {
     taken = 0;
@@ -45,18 +47,21 @@ module _ (g : Story) (digest name : List ℕ) (st : State) (piece : List ℕ) (o
   }
 
   -- inside the attach
-  pub in_again_attach : (new : Standing) (m : Moment) → new ≡ attached_to old name → InAttach old new name m → InAgain (kept_session g st piece digest name) old m
+  pub in_again_attach : (new : Standing) (m : Moment) → new ≡ attached_to old name → InAttach old new name m →
+      InAgain (kept_session g st piece digest name) old m
   in_again_attach new m is i =
       elim i.store [
         | inl before ↦ inl (record { asked = i.asked; shown = i.shown; files = i.files; store = inl before })
-        | inr after ↦ inr (at_attached m i.asked i.shown (after.0 ∙ ap (λ (q : Standing). q.attached) is) (λ n ne. files_so old name m.files n ne i.files) (after.1 ∙ ap (λ (q : Standing). q.disk) is))
+        | inr after ↦ inr (at_attached m i.asked i.shown (after.0 ∙ ap (λ (q : Standing). q.attached) is)
+        (λ n ne. files_so old name m.files n ne i.files) (after.1 ∙ ap (λ (q : Standing). q.disk) is))
       ]
 
   -- while the session is found
   pub in_finding : (new : Standing) (m : Moment) → new ≡ attached_to old name → Still new m → InAgain (kept_session g st piece digest name) old m
   in_finding new m is e =
       let k : m ≡ moment_of (attached_to old name) = e ∙ ap moment_of is in
-      inr (at_attached m (ap (λ (q : Moment). q.asked) k) (ap (λ (q : Moment). q.shown) k) (ap (λ (q : Moment). q.attached) k) (λ n ne. ap (λ (q : Moment). q.files n) k ∙ other_file old name n ne)
+      inr (at_attached m (ap (λ (q : Moment). q.asked) k) (ap (λ (q : Moment). q.shown) k)
+      (ap (λ (q : Moment). q.attached) k) (λ n ne. ap (λ (q : Moment). q.files n) k ∙ other_file old name n ne)
       (ap (λ (q : Moment). q.disk) k))
 
   -- once it is found

@@ -47,12 +47,14 @@ none_unmade image e = rw e tt
 
 -- ---- moments ----
 
-pub files_so : (old : Standing) (name : List ℕ) (files : Files) (n : List ℕ) → n ≢ name → (files ≡ old.files) ⊎ (files ≡ made_if_missing name (old.files name) old.files) → files n ≡ old.files n
+pub files_so : (old : Standing) (name : List ℕ) (files : Files) (n : List ℕ) → n ≢ name →
+    (files ≡ old.files) ⊎ (files ≡ made_if_missing name (old.files name) old.files) → files n ≡ old.files n
 files_so old name files n ne (inl e) = ap (λ (f : Files). f n) e
 files_so old name files n ne (inr e) = ap (λ (f : Files). f n) e ∙ other_file old name n ne
 
 -- inside the attach of an empty store
-pub in_new_attach : (g : Story) (seed : ℕ) (name : List ℕ) (old new : Standing) (m : Moment) → new ≡ attached_to old name → store_bytes old name ≡ [] → InAttach old new name m →
+pub in_new_attach : (g : Story) (seed : ℕ) (name : List ℕ) (old new : Standing) (m : Moment) →
+    new ≡ attached_to old name → store_bytes old name ≡ [] → InAttach old new name m →
     InGame g seed name old m
 in_new_attach g seed name old new m is empty i =
     elim i.store [
@@ -63,16 +65,19 @@ in_new_attach g seed name old new m is empty i =
         attached = after.0 ∙ ap (λ (q : Standing). q.attached) is;
         files = λ n ne. files_so old name m.files n ne i.files;
         leaves = λ image may. inl (none_unmade image
-            (stable_leaves (stable (store_bytes old name)) image (stable_is (store_bytes old name)) (subst (λ d. MayLeave d image) (after.1 ∙ ap (λ (q : Standing). q.disk) is) may) ∙ empty));
+            (stable_leaves (stable (store_bytes old name)) image (stable_is (store_bytes old name))
+            (subst (λ d. MayLeave d image) (after.1 ∙ ap (λ (q : Standing). q.disk) is) may) ∙ empty));
       }))
     ]
 
 -- what holds from the attached store on holds from before the attach
-pub making_from : (Kept : ℕ → List ℕ → Type 0) (name : List ℕ) (old : Standing) (m : Moment) → InMakingOf Kept name (attached_to old name) m → InMakingOf Kept name old m
+pub making_from : (Kept : ℕ → List ℕ → Type 0) (name : List ℕ) (old : Standing) (m : Moment) →
+    InMakingOf Kept name (attached_to old name) m → InMakingOf Kept name old m
 making_from Kept name old m i =
     record { asked = i.asked; shown = i.shown; attached = i.attached; files = λ n ne. i.files n ne ∙ other_file old name n ne; leaves = i.leaves }
 
-pub playing_from : (Kept : ℕ → List ℕ → Type 0) (told : ℕ → List ℕ) (past : ℕ) (name : List ℕ) (old : Standing) (m : Moment) → InSession Kept told past name (attached_to old name) m →
+pub playing_from : (Kept : ℕ → List ℕ → Type 0) (told : ℕ → List ℕ) (past : ℕ) (name : List ℕ) (old : Standing)
+    (m : Moment) → InSession Kept told past name (attached_to old name) m →
     InSession Kept told past name old m
 playing_from Kept told past name old m i = record {
   taken = i.taken;

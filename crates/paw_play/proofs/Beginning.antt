@@ -32,13 +32,15 @@ beside_is first kept b =
     ∙ ap (λ x. record kept { lines = first.lines; asked = first.asked; shown = x }) b.shown
 
 -- the piece before the first line is spent, or calls too deep
-pub begin_refused : {F : Type 0} (g : Story) (s : Played) (first : Standing) (found : Step) (next : Seat F) (o : PlayEnd) → StepsTo g s.whole found next [] [] → refusal_of found ≡ Some o → BegunAs s first first o
+pub begin_refused : {F : Type 0} (g : Story) (s : Played) (first : Standing) (found : Step) (next : Seat F)
+    (o : PlayEnd) → StepsTo g s.whole found next [] [] → refusal_of found ≡ Some o → BegunAs s first first o
 begin_refused g s first (step.Waits p) next o plays e = cc
 begin_refused g s first step.Ended next o plays e = cc
 begin_refused g s first (step.Spent kind) next o plays e = let k : o ≡ end.Spent kind = cc in let r = plays.1 [] in rw k (r.0, r.1, refl)
 begin_refused g s first (step.TooDeep table) next o plays e = let k : o ≡ end.TooDeep table = cc in let r = plays.1 [] in rw k (r.0, r.1, refl)
 
-module _ {F : Type 0} (g : Story) (s : Played) (first kept : Standing) (next : Seat F) (found : Step) (new_one : s.before ≡ 0) (store : IsStore s.name first) (seated : IsSeated next) (last : next.last ≡ found)
+module _ {F : Type 0} (g : Story) (s : Played) (first kept : Standing) (next : Seat F) (found : Step)
+    (new_one : s.before ≡ 0) (store : IsStore s.name first) (seated : IsSeated next) (last : next.last ≡ found)
     (plays : StepsTo g s.whole found next [] []) (shows : ShowsPiece found) (beside : IsBeside first kept) where
   machine_stands : Stands found next.machine
   machine_stands = subst (λ q. Stands q next.machine) last seated.machine
@@ -97,7 +99,9 @@ module _ {F : Type 0} (g : Story) (s : Played) (first kept : Standing) (next : S
 
   rests_shown : (new : Standing) (text : List ℕ) → new ≡ record kept { shown = text } → Rests s first kept 0 → Rests s first new 0
   rests_shown new text e rests =
-      subst (λ q. Rests s first q 0) (sym e) (record { there = rests.there; few = rests.few; attached = rests.attached; stable = rests.stable; file = rests.file; others = rests.others; keeps = rests.keeps })
+      subst (λ q. Rests s first q 0) (sym e)
+      (record { there = rests.there; few = rests.few; attached = rests.attached; stable = rests.stable; file =
+      rests.file; others = rests.others; keeps = rests.keeps })
 
   store_is : (new : Standing) (text : List ℕ) → new ≡ record kept { shown = text } → kept ≡ with_store new first
   store_is new text e = beside_is first kept beside ∙ ap (λ (q : Standing). with_store q first) (sym e)
@@ -106,9 +110,12 @@ module _ {F : Type 0} (g : Story) (s : Played) (first kept : Standing) (next : S
   asked_is new text e = ap (λ (q : Standing). q.asked) e ∙ beside.asked ∙ omega arith
 
   -- the session is at its first prompt
-  pub begins_next : (new : Standing) → Rests s first kept 0 → kept_digest kept.disk.bytes ≡ s.digest → Told kept new next.piece found None → IsPlaying g s first new next 0
+  pub begins_next : (new : Standing) → Rests s first kept 0 → kept_digest kept.disk.bytes ≡ s.digest →
+      Told kept new next.piece found None → IsPlaying g s first new next 0
   begins_next new rests digest told = record {
-    walking = subst (λ (q : Standing). IsWalking g s.whole q new next 0) (store_is new (kept.shown ++ next.piece) told.2) (walk_begins g s.whole MOST_EVENTS kept new next found None seated last plays told);
+    walking = subst (λ (q : Standing). IsWalking g s.whole q new next 0)
+    (store_is new (kept.shown ++ next.piece) told.2)
+    (walk_begins g s.whole MOST_EVENTS kept new next found None seated last plays told);
     rests = rests_shown new (kept.shown ++ next.piece) told.2 rests;
     digest = ap (λ (q : Standing). kept_digest q.disk.bytes) told.2 ∙ digest;
     last = next.piece;
@@ -118,7 +125,9 @@ module _ {F : Type 0} (g : Story) (s : Played) (first kept : Standing) (next : S
   -- or playing it has come to its end
   pub begins_last : (new : Standing) (o : PlayEnd) → Rests s first kept 0 → Told kept new next.piece found (Some o) → BegunAs s first new o
   begins_last new end.Ended rests told = record {
-    shows = subst (λ (q : Standing). Walks s.whole MOST_EVENTS q new end.Ended) (store_is new (kept.shown ++ next.piece) told.1) (walk_begins g s.whole MOST_EVENTS kept new next found (Some end.Ended) seated last plays told);
+    shows = subst (λ (q : Standing). Walks s.whole MOST_EVENTS q new end.Ended)
+    (store_is new (kept.shown ++ next.piece) told.1)
+    (walk_begins g s.whole MOST_EVENTS kept new next found (Some end.Ended) seated last plays told);
     session = (0, asked_is new (kept.shown ++ next.piece) told.1, rests_shown new (kept.shown ++ next.piece) told.1 rests);
   }
   begins_last new (end.Outside call.Show) rests told = record {

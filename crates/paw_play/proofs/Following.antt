@@ -14,13 +14,15 @@ use Rattle.paw_play.specs.Calls.{IfOutside, IsWalkCall, IsPlayCall}
 -- ---- the store ----
 
 -- a line that was asked for changes nothing of it
-pub keeps_asked : (journal : Journal) (room : Room) (now mid : Standing) → Keeps journal room now → mid ≡ record now { lines = mid.lines; asked = now.asked + 1 } → Keeps journal room mid
+pub keeps_asked : (journal : Journal) (room : Room) (now mid : Standing) → Keeps journal room now →
+    mid ≡ record now { lines = mid.lines; asked = now.asked + 1 } → Keeps journal room mid
 keeps_asked journal room now mid k e =
     subst (λ q. Keeps journal room q) (sym e)
     (record { rests = record { attached = k.rests.attached; stable = k.rests.stable }; chosen = k.chosen; shown = k.shown; slots = k.slots })
 
 -- nor does a text that was shown
-pub keeps_shown : (journal : Journal) (room : Room) (now new : Standing) (text : List ℕ) → Keeps journal room now → new ≡ record now { shown = text } → Keeps journal room new
+pub keeps_shown : (journal : Journal) (room : Room) (now new : Standing) (text : List ℕ) → Keeps journal room now →
+    new ≡ record now { shown = text } → Keeps journal room new
 keeps_shown journal room now new text k e =
     subst (λ q. Keeps journal room q) (sym e)
     (record { rests = record { attached = k.rests.attached; stable = k.rests.stable }; chosen = k.chosen; shown = k.shown; slots = k.slots })

@@ -23,7 +23,8 @@ count_lines n lines there = length-map (take n lines) (take 255) ∙ length-take
 
 module _ (g : Story) (seed : ℕ) (digest name : List ℕ) (is : digest ≡ sha256 (image g.game)) (lines : List (List ℕ)) where
   -- what a new session keeps stands for its lines
-  new_stands : (n : ℕ) (bytes : List ℕ) → n ≤ length lines → 0 + n ≤ MOST_EVENTS → KeptBy (new_session g seed digest name) lines n bytes → StandsFor g seed [] lines n bytes
+  new_stands : (n : ℕ) (bytes : List ℕ) → n ≤ length lines → 0 + n ≤ MOST_EVENTS →
+      KeptBy (new_session g seed digest name) lines n bytes → StandsFor g seed [] lines n bytes
   new_stands n bytes there few kept =
       let count : length (first_lines n lines) ≡ n = count_lines n lines there in
       let all : 0 + n ≡ length (first_lines n lines) = omega (arith, count) in
@@ -38,16 +39,20 @@ module _ (g : Story) (seed : ℕ) (digest name : List ℕ) (is : digest ≡ sha2
   pub game_plays : (new : Standing) (o : PlayEnd) → PlaysInStore (new_session g seed digest name) (attached_to old name) new o →
       PlaysIn (StandsFor g seed [] old.lines) (reading g seed) name (attached_to old name) new o
   game_plays new o p =
-      plays_in_by (KeptBy (new_session g seed digest name) old.lines) (StandsFor g seed [] old.lines) name (attached_to old name) (new_stands g seed digest name is old.lines)
+      plays_in_by (KeptBy (new_session g seed digest name) old.lines) (StandsFor g seed [] old.lines) name
+      (attached_to old name) (new_stands g seed digest name is old.lines)
       (reading g seed) new o p
 
   -- and its moments
-  pub in_game : (m : Moment) → InMaking (new_session g seed digest name) (attached_to old name) m ⊎ InPlay (new_session g seed digest name) (attached_to old name) m →
+  pub in_game : (m : Moment) → InMaking (new_session g seed digest name) (attached_to old name) m
+      ⊎ InPlay (new_session g seed digest name) (attached_to old name) m →
       InGame g seed name old m
   in_game m (inl i) =
-      inr (inl (making_by (KeptBy (new_session g seed digest name) old.lines) (StandsFor g seed [] old.lines) name old (new_stands g seed digest name is old.lines) m
+      inr (inl (making_by (KeptBy (new_session g seed digest name) old.lines) (StandsFor g seed [] old.lines) name old
+      (new_stands g seed digest name is old.lines) m
       (making_from (KeptBy (new_session g seed digest name) old.lines) name old m i)))
   in_game m (inr i) =
-      inr (inr (in_session_by (KeptBy (new_session g seed digest name) old.lines) (StandsFor g seed [] old.lines) 0 name old (new_stands g seed digest name is old.lines)
+      inr (inr (in_session_by (KeptBy (new_session g seed digest name) old.lines) (StandsFor g seed [] old.lines) 0 name
+      old (new_stands g seed digest name is old.lines)
       (λ n. text_of (reading g seed (first_lines n old.lines))) (text_since g seed [] old.lines) (λ n. refl) m
       (playing_from (KeptBy (new_session g seed digest name) old.lines) (λ n. text_of (reading g seed (first_lines n old.lines))) 0 name old m i)))

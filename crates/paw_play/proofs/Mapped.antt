@@ -44,16 +44,19 @@ module _ (Kept By : ℕ → List ℕ → Type 0) (past : ℕ) (name : List ℕ) 
   leaves_by new (end.TooDeep table) k = but_last_by new k
   leaves_by new _ k = tt
 
-  pub plays_by : (whole : Reading) (most : ℕ) (new : Standing) (o : PlayEnd) → PlaysWith Kept whole past name most old new o → PlaysWith By whole past name most old new o
+  pub plays_by : (whole : Reading) (most : ℕ) (new : Standing) (o : PlayEnd) →
+      PlaysWith Kept whole past name most old new o → PlaysWith By whole past name most old new o
   plays_by whole most new o p = record { shows = p.shows; session = leaves_by new o p.session }
 
   -- ---- moments ----
 
   module _ (told by : ℕ → List ℕ) (same : (n : ℕ) → told n ≡ by n) where
-    agrees_by : (n : ℕ) (text bytes : List ℕ) → n ≤ length old.lines → past + n ≤ MOST_EVENTS → AgreesWith Kept told n text bytes → AgreesWith By by n text bytes
+    agrees_by : (n : ℕ) (text bytes : List ℕ) → n ≤ length old.lines → past + n ≤ MOST_EVENTS →
+    AgreesWith Kept told n text bytes → AgreesWith By by n text bytes
     agrees_by n text bytes there few a = (so n bytes there few a.0, (a.1.0, a.1.1 ∙ same n))
 
-    keeps_up_by : (n : ℕ) (text bytes : List ℕ) → n ≤ length old.lines → past + n ≤ MOST_EVENTS → KeepsUpWith Kept told n text bytes → KeepsUpWith By by n text bytes
+    keeps_up_by : (n : ℕ) (text bytes : List ℕ) → n ≤ length old.lines → past + n ≤ MOST_EVENTS →
+    KeepsUpWith Kept told n text bytes → KeepsUpWith By by n text bytes
     keeps_up_by zero text bytes there few k = agrees_by zero text bytes there few k
     keeps_up_by (suc n) text bytes there few (inl k) = inl (agrees_by (suc n) text bytes there few k)
     keeps_up_by (suc n) text bytes there few (inr k) = inr (agrees_by n text bytes (omega arith) (omega arith) k)

@@ -1,5 +1,6 @@
 -- The places of a run that stands at a prompt keep the rules of kept places.
-use Rattle.std.proofs.Common.{◌≡◌, ℕ, zero, suc, ◌-◌, ◌<◌, true, false, ◌&&◌, List, [], ◌∷◌, ◌++◌, Option, Some, None, refl, ◌∙◌, length, replicate, slice_get, arith, length-append}
+use Rattle.std.proofs.Common.{◌≡◌, ℕ, zero, suc, ◌-◌, ◌<◌, true, false, ◌&&◌, List, [], ◌∷◌, ◌++◌, Option, Some, None, refl, ◌∙◌, length, replicate, slice_get}
+use Rattle.std.proofs.Common.{arith, length-append}
 use Rattle.std.specs.Prelude.{◌==◌, nat_lt, IfSome}
 use Rattle.std.proofs.lemmas.Bool.Decides.{nat_tests}
 use Rattle.std.proofs.lemmas.List.{length-replicate}
@@ -10,7 +11,8 @@ use Rattle.paw_reading.specs.declared.places.Frame.{Frame}
 use Rattle.paw_reading.specs.declared.places.OpenLoop.{OpenLoop}
 use Rattle.paw_reading.specs.Turn.{first_table}
 use Rattle.paw_reading.specs.Places.{LeadsTo, tables_of, IsLoopIn, AreOpenAt}
-use Rattle.paw_process.specs.Kept.{unused, condact_of, has_code, may_open, parameter_of, row_stands, rows_fault, table_of, is_that_table, loop_fault, first_fault, count_fits, fault_at}
+use Rattle.paw_process.specs.Kept.{unused, condact_of, has_code, may_open, parameter_of, row_stands, rows_fault, table_of, is_table, loop_fault, first_fault}
+use Rattle.paw_process.specs.Kept.{count_fits, fault_at}
 use Rattle.paw_state.specs.Record.{frames_at}
 
 -- ---- of places their rows stand ----
@@ -33,7 +35,8 @@ unfolding rows_fault
 row_goes g code caller n d f fs stands later = let m : suc n - 1 ≡ n = omega arith in rw (stands, m) later
 
 -- a row before the last that is used
-row_calls : (g : GameLists) (code : ℕ) (caller : Option ℕ) (n : ℕ) (f : Frame) → row_stands g code caller (suc (suc n)) f ≡ (may_open caller f.table && has_code 85 (condact_of g f))
+row_calls : (g : GameLists) (code : ℕ) (caller : Option ℕ) (n : ℕ) (f : Frame) →
+    row_stands g code caller (suc (suc n)) f ≡ (may_open caller f.table && has_code 85 (condact_of g f))
 row_calls g code caller n f =
     let some : (suc (suc n) == 0) ≡ false = grind (arith, nat_tests) in
     let more : (suc (suc n) == 1) ≡ false = grind (arith, nat_tests) in
@@ -48,7 +51,8 @@ path_stands g code caller (f ∷ []) d k leads opens =
 path_stands g code caller (f ∷ h ∷ path) d k leads opens =
     row_goes g code caller (suc (length path)) d f ((h ∷ path) ++ replicate k unused)
     (row_calls g code caller (length path) f ∙ rw (opens, has 85 leads.0.condact (condact_of g f) leads.0.stands leads.0.process) refl)
-    (path_stands g code (Some (parameter_of (condact_of g f))) (h ∷ path) (suc d) k leads.1 (names leads.0.condact h.table (condact_of g f) leads.0.stands leads.0.called))
+    (path_stands g code (Some (parameter_of (condact_of g f))) (h ∷ path) (suc d) k leads.1
+    (names leads.0.condact h.table (condact_of g f) leads.0.stands leads.0.called))
 
 -- ---- and their loop ----
 
@@ -69,7 +73,8 @@ loop_fits g path rows count (Some l) p size k =
     let low : l.level < length path = level_low path l.level l.table k.level in
     let level : nat_lt l.level count ≡ true = grind (arith, nat_tests) in
     let last : nat_lt l.last (length g.objects) ≡ true = let few = k.last in grind (arith, nat_tests) in
-    rw (level, row_of path rows l.level l.table k.level, has 86 k.doall.condact (condact_at g l.table l.entry l.at) k.doall.stands k.doall.is, k.place, last) refl
+    rw (level, row_of path rows l.level l.table k.level, has 86 k.doall.condact (condact_at g l.table l.entry l.at)
+    k.doall.stands k.doall.is, k.place, last) refl
 
 -- ---- the places of a prompt ----
 
@@ -81,7 +86,8 @@ some_table : (g : GameLists) (code : ℕ) (path : List Frame) → LeadsTo g code
 some_table g code [] leads = absurd leads
 some_table g code (f ∷ path) leads = omega arith
 
-pub places_fit : (g : GameLists) (code : Option ℕ) (path : List Frame) (turning : Option OpenLoop) → AreOpenAt g code path turning → fault_at g code (frames_at path turning) ≡ None
+pub places_fit : (g : GameLists) (code : Option ℕ) (path : List Frame) (turning : Option OpenLoop) →
+    AreOpenAt g code path turning → fault_at g code (frames_at path turning) ≡ None
 places_fit g None path turning at = rw (at.0, at.1) (both_none (rows_fault g 0 None 0 0 (replicate 11 unused)) None (unused_stand g 0 None 0 11) refl)
 places_fit g (Some code) path turning at =
     let fits : count_fits (Some code) (length path) ≡ true = let few = at.few in let some = some_table g code path at.leads in grind (arith, nat_tests) in
@@ -92,7 +98,8 @@ places_fit g (Some code) path turning at =
     (loop_fits g path (replicate (11 - length path) unused) (length path) turning turning refl at.loop))
 
 -- there are eleven rows
-pub eleven_rows : (g : GameLists) (code : Option ℕ) (path : List Frame) (turning : Option OpenLoop) → AreOpenAt g code path turning → length (frames_at path turning).rows ≡ 11
+pub eleven_rows : (g : GameLists) (code : Option ℕ) (path : List Frame) (turning : Option OpenLoop) →
+    AreOpenAt g code path turning → length (frames_at path turning).rows ≡ 11
 eleven_rows g None path turning at = rw at.0 refl
 eleven_rows g (Some code) path turning at =
     omega (arith, length-append path (replicate (11 - length path) unused), length-replicate (11 - length path) unused, at.few)

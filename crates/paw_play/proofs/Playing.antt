@@ -1,5 +1,6 @@
 -- A session, line by line.
-use Rattle.std.proofs.Common.{◌≡◌, ◌≢◌, ℕ, zero, suc, ◌+◌, ◌≤◌, ◌<◌, List, [], ◌∷◌, ◌++◌, Option, Some, None, refl, sym, ap, ◌∙◌, subst, length, take, drop, arith, append_assoc, inl, inr}
+use Rattle.std.proofs.Common.{◌≡◌, ◌≢◌, ℕ, zero, suc, ◌+◌, ◌≤◌, ◌<◌, List, [], ◌∷◌, ◌++◌, Option, Some, None, refl, sym, ap, ◌∙◌, subst, length, take, drop}
+use Rattle.std.proofs.Common.{arith, append_assoc, inl, inr}
 use Rattle.std.proofs.lemmas.List.{append-nil, take-append-drop}
 use Rattle.std.specs.Prelude.{reverse}
 use Rattle.paw_stage.specs.Disk.{MayLeave, IsStable}
@@ -45,16 +46,20 @@ whole_text : (s : Played) (lines : List (List ℕ)) (n : ℕ) (text : List ℕ) 
 whole_text s lines n text e = ([], append-nil text ∙ sym e)
 
 -- the text so far
-text_is : {F : Type 0} (g : Story) (s : Played) (first now : Standing) (seat : Seat F) (n : ℕ) (w : IsPlaying g s first now seat n) → IsSeated seat → text_of (s.whole (first_lines n first.lines)) ≡ joined w.walking.pieces
+text_is : {F : Type 0} (g : Story) (s : Played) (first now : Standing) (seat : Seat F) (n : ℕ)
+    (w : IsPlaying g s first now seat n) → IsSeated seat →
+    text_of (s.whole (first_lines n first.lines)) ≡ joined w.walking.pieces
 text_is g s first now seat n w seated = text_so_far g s.whole n (with_store now first) now seat w.walking seated
 
 asked_is : {F : Type 0} (g : Story) (s : Played) (first now : Standing) (seat : Seat F) (n : ℕ) → IsPlaying g s first now seat n → now.asked ≡ first.asked + n
 asked_is g s first now seat n w = ap (λ (q : Standing). q.asked) w.walking.stands
 
-shown_is : {F : Type 0} (g : Story) (s : Played) (first now : Standing) (seat : Seat F) (n : ℕ) (w : IsPlaying g s first now seat n) → now.shown ≡ first.shown ++ joined w.walking.pieces
+shown_is : {F : Type 0} (g : Story) (s : Played) (first now : Standing) (seat : Seat F) (n : ℕ)
+    (w : IsPlaying g s first now seat n) → now.shown ≡ first.shown ++ joined w.walking.pieces
 shown_is g s first now seat n w = ap (λ (q : Standing). q.shown) w.walking.stands
 
-agrees_now : {F : Type 0} (g : Story) (s : Played) (first now : Standing) (seat : Seat F) (n : ℕ) (w : IsPlaying g s first now seat n) → IsSeated seat → (image : List ℕ) → MayLeave now.disk image →
+agrees_now : {F : Type 0} (g : Story) (s : Played) (first now : Standing) (seat : Seat F) (n : ℕ)
+    (w : IsPlaying g s first now seat n) → IsSeated seat → (image : List ℕ) → MayLeave now.disk image →
     Agrees s first.lines n (joined w.walking.pieces) image
 agrees_now g s first now seat n w seated image may = (
   subst (λ b. KeepsLines s first.lines n (recover b)) (sym (stable_leaves now.disk image w.rests.stable may)) w.rests.keeps,
@@ -62,7 +67,8 @@ agrees_now g s first now seat n w seated image may = (
 )
 
 -- at a prompt
-pub at_prompt : {F : Type 0} (g : Story) (s : Played) (first now : Standing) (seat : Seat F) (n : ℕ) → IsPlaying g s first now seat n → IsSeated seat → InPlay s first (moment_of now)
+pub at_prompt : {F : Type 0} (g : Story) (s : Played) (first now : Standing) (seat : Seat F) (n : ℕ) →
+    IsPlaying g s first now seat n → IsSeated seat → InPlay s first (moment_of now)
 at_prompt g s first now seat n w seated = record {
   taken = n;
   text = joined w.walking.pieces;
@@ -78,7 +84,8 @@ at_prompt g s first now seat n w seated = record {
 }
 
 -- inside an ask that takes a line
-line_asked : {F : Type 0} (g : Story) (s : Played) (first now : Standing) (seat : Seat F) (n : ℕ) → IsPlaying g s first now seat n → IsSeated seat → suc n ≤ length first.lines → s.before + suc n ≤ MOST_EVENTS →
+line_asked : {F : Type 0} (g : Story) (s : Played) (first now : Standing) (seat : Seat F) (n : ℕ) →
+    IsPlaying g s first now seat n → IsSeated seat → suc n ≤ length first.lines → s.before + suc n ≤ MOST_EVENTS →
     InPlay s first (record (moment_of now) { asked = now.asked + 1 })
 line_asked g s first now seat n w seated there few = record {
   taken = suc n;
@@ -94,12 +101,14 @@ line_asked g s first now seat n w seated there few = record {
   leaves = λ image may. inr (agrees_now g s first now seat n w seated image may);
 }
 
-is_there : {F : Type 0} (g : Story) (s : Played) (first now mid : Standing) (seat : Seat F) (n : ℕ) (line : List ℕ) → IsPlaying g s first now seat n → now.lines ≡ line ∷ mid.lines → suc n ≤ length first.lines
+is_there : {F : Type 0} (g : Story) (s : Played) (first now mid : Standing) (seat : Seat F) (n : ℕ) (line : List ℕ) →
+    IsPlaying g s first now seat n → now.lines ≡ line ∷ mid.lines → suc n ≤ length first.lines
 is_there g s first now mid seat n line w e =
     (drop_more first.lines n line mid.lines (ap (λ (q : Standing). q.lines) (sym w.walking.stands) ∙ e)).1
 
 -- inside an ask
-pub in_ask : {F : Type 0} (g : Story) (s : Played) (first now mid : Standing) (seat : Seat F) (n : ℕ) (a : Asked) (into : List ℕ) (m : Moment) → IsPlaying g s first now seat n → IsSeated seat →
+pub in_ask : {F : Type 0} (g : Story) (s : Played) (first now mid : Standing) (seat : Seat F) (n : ℕ) (a : Asked)
+    (into : List ℕ) (m : Moment) → IsPlaying g s first now seat n → IsSeated seat →
     s.before + suc n ≤ MOST_EVENTS → AsksTo now mid a into → InAsk now a m → InPlay s first m
 in_ask g s first now mid seat n (asked.Line k) into m w seated few asks (inl e) = subst (InPlay s first) (sym e) (at_prompt g s first now seat n w seated)
 in_ask g s first now mid seat n (asked.Line k) into m w seated few asks (inr e) =
@@ -110,16 +119,20 @@ in_ask g s first now mid seat n asked.Failed into m w seated few asks e = subst 
 -- ---- the store after a commit ----
 
 -- after the ask that took a line
-mid_attached : {F : Type 0} (g : Story) (s : Played) (first now mid : Standing) (seat : Seat F) (n : ℕ) → IsPlaying g s first now seat n → mid ≡ record now { lines = mid.lines; asked = now.asked + 1 } → mid.attached ≡ Some s.name
+mid_attached : {F : Type 0} (g : Story) (s : Played) (first now mid : Standing) (seat : Seat F) (n : ℕ) →
+    IsPlaying g s first now seat n → mid ≡ record now { lines = mid.lines; asked = now.asked + 1 } →
+    mid.attached ≡ Some s.name
 mid_attached g s first now mid seat n w e = ap (λ (q : Standing). q.attached) e ∙ w.rests.attached
 
 module _ {F : Type 0} (g : Story) (s : Played) (most n events : ℕ) (first now mid kept : Standing) (seat next : Seat F) (given line : List ℕ) (step : Step)
     (w : IsPlaying g s first now seat n) (seated : IsSeated seat) (then_seated : IsSeated next) (game : next.game ≡ seat.game) (last : next.last ≡ step)
     (lines : now.lines ≡ line ∷ mid.lines) (cut : given ≡ take 255 line) (took : mid ≡ record now { lines = mid.lines; asked = now.asked + 1 })
-    (plays : StepsTo g (λ more. on g w.walking.prompt (reverse seat.machine.frames) (run_at seat w.walking.pieces w.walking.traces (given ∷ more))) step next w.walking.pieces w.walking.traces)
+    (plays : StepsTo g (λ more. on g w.walking.prompt (reverse seat.machine.frames)
+    (run_at seat w.walking.pieces w.walking.traces (given ∷ more))) step next w.walking.pieces w.walking.traces)
     (shows : ShowsPiece step) (counts : events ≡ s.before + suc n) (fit : events ≤ MOST_EVENTS) where
   -- the text of all lines that were taken
-  whole_is : s.whole (first_lines (suc n) first.lines) ≡ on g w.walking.prompt (reverse seat.machine.frames) (run_at seat w.walking.pieces w.walking.traces (given ∷ []))
+  whole_is : s.whole (first_lines (suc n) first.lines)
+      ≡ on g w.walking.prompt (reverse seat.machine.frames) (run_at seat w.walking.pieces w.walking.traces (given ∷ []))
   whole_is = read_after g s.whole n (with_store now first) now mid kept seat next given line step w.walking seated then_seated game last lines cut took plays
 
   machine_stands : Stands step next.machine
@@ -154,7 +167,9 @@ module _ {F : Type 0} (g : Story) (s : Played) (most n events : ℕ) (first now 
   others_still f other = ap (λ (q : Standing). q.files f) took ∙ w.rests.others f other
 
   -- inside the commit
-  pub in_commit : (m : Moment) → InStore mid (Leaves (IsEither (recover mid.disk.bytes) (Shown (kept_digest mid.disk.bytes) (seat_state events next) next.piece))) m → InPlay s first m
+  pub in_commit : (m : Moment) → InStore mid
+      (Leaves (IsEither (recover mid.disk.bytes)
+      (Shown (kept_digest mid.disk.bytes) (seat_state events next) next.piece))) m → InPlay s first m
   in_commit m i = record {
     taken = suc n;
     text = joined w.walking.pieces;
@@ -167,8 +182,11 @@ module _ {F : Type 0} (g : Story) (s : Played) (most n events : ℕ) (first now 
     attached = i.attached ∙ attached_still;
     files = λ f other. i.files f (not_this f other) ∙ others_still f other;
     leaves = λ image may. elim (i.disk image may) [
-      | inl e ↦ inr (subst (λ r. KeepsLines s first.lines n r) (sym e) before_it, whole_text s first.lines n (joined w.walking.pieces) (text_is g s first now seat n w seated))
-      | inr e ↦ inl (subst (λ r. KeepsLines s first.lines (suc n) r) (sym (e ∙ ap (λ d. Shown d (seat_state events next) next.piece) digest_is)) keeps_more, (next.piece, sym text_more))
+      | inl e ↦ inr (subst (λ r. KeepsLines s first.lines n r) (sym e) before_it, whole_text s first.lines n
+      (joined w.walking.pieces) (text_is g s first now seat n w seated))
+      | inr e ↦ inl (subst (λ r. KeepsLines s first.lines (suc n) r)
+      (sym (e ∙ ap (λ d. Shown d (seat_state events next) next.piece) digest_is)) keeps_more,
+      (next.piece, sym text_more))
     ];
   }
     where
@@ -182,7 +200,9 @@ module _ {F : Type 0} (g : Story) (s : Played) (most n events : ℕ) (first now 
   digest_still = ap (λ (q : Standing). kept_digest q.disk.bytes) took ∙ w.digest
 
   -- once it is committed the store is at rest, and keeps all lines
-  pub rests_more : IsBeside mid kept → IsStable kept.disk → recover kept.disk.bytes ≡ Shown (kept_digest mid.disk.bytes) (seat_state events next) next.piece → Rests s first kept (suc n)
+  pub rests_more : IsBeside mid kept → IsStable kept.disk →
+      recover kept.disk.bytes ≡ Shown (kept_digest mid.disk.bytes) (seat_state events next) next.piece →
+      Rests s first kept (suc n)
   rests_more beside stable is = record {
     there = there;
     few = all_few;
@@ -210,7 +230,8 @@ module _ {F : Type 0} (g : Story) (s : Played) (most n events : ℕ) (first now 
       subst (λ b. KeepsLines s first.lines (suc n) (recover b)) (sym (stable_leaves kept.disk image rests.stable may)) rests.keeps,
       (
         drop i.0 next.piece,
-        append_assoc (joined w.walking.pieces) (take i.0 next.piece) (drop i.0 next.piece) ∙ ap (λ t. joined w.walking.pieces ++ t) (take-append-drop i.0 next.piece) ∙ sym text_more,
+        append_assoc (joined w.walking.pieces) (take i.0 next.piece) (drop i.0 next.piece)
+        ∙ ap (λ t. joined w.walking.pieces ++ t) (take-append-drop i.0 next.piece) ∙ sym text_more,
       ),
     );
   })
@@ -234,7 +255,8 @@ module _ {F : Type 0} (g : Story) (s : Played) (most n events : ℕ) (first now 
       ap (λ x. record kept { asked = x }) a ∙ ap (λ x. record kept { asked = now.asked + 1; shown = x }) b
 
   -- what comes of showing it
-  pub told_as : (new : Standing) (o : Option PlayEnd) → n < most → IsBeside mid kept → Told kept new next.piece step o → WalksOn g s.whole most (with_store kept first) new next n o
+  pub told_as : (new : Standing) (o : Option PlayEnd) → n < most → IsBeside mid kept → Told kept new next.piece step o →
+      WalksOn g s.whole most (with_store kept first) new next n o
   unfolding walking_with
   told_as new o few beside told =
       walks_on g s.whole most n (with_store kept first) (with_store kept now) kept new seat next given line step o walking_with few seated then_seated game last
@@ -242,7 +264,8 @@ module _ {F : Type 0} (g : Story) (s : Played) (most n events : ℕ) (first now 
 
   -- showing leaves the store at rest
   rests_shown : (text : List ℕ) → Rests s first kept (suc n) → Rests s first (record kept { shown = text }) (suc n)
-  rests_shown text rests = record { there = rests.there; few = rests.few; attached = rests.attached; stable = rests.stable; file = rests.file; others = rests.others; keeps = rests.keeps }
+  rests_shown text rests = record { there = rests.there; few = rests.few; attached = rests.attached; stable =
+      rests.stable; file = rests.file; others = rests.others; keeps = rests.keeps }
 
   rests_then : (new : Standing) (text : List ℕ) → new ≡ record kept { shown = text } → Rests s first kept (suc n) → Rests s first new (suc n)
   rests_then new text e rests = subst (λ q. Rests s first q (suc n)) (sym e) (rests_shown text rests)
@@ -262,13 +285,15 @@ module _ {F : Type 0} (g : Story) (s : Played) (most n events : ℕ) (first now 
   }
 
   -- or playing on has come to its end, with the piece shown or not
-  pub plays_last : (new : Standing) (o : PlayEnd) → n < most → IsBeside mid kept → Rests s first kept (suc n) → Told kept new next.piece step (Some o) → PlaysOn s most first new o
+  pub plays_last : (new : Standing) (o : PlayEnd) → n < most → IsBeside mid kept → Rests s first kept (suc n) →
+      Told kept new next.piece step (Some o) → PlaysOn s most first new o
   plays_last new end.Ended few beside rests told = record {
     shows = subst (λ (q : Standing). Walks s.whole most (with_store q first) new end.Ended) (sym told.1) (told_as new (Some end.Ended) few beside told);
     session = (suc n, asked_then new (kept.shown ++ next.piece) told.1 beside, rests_then new (kept.shown ++ next.piece) told.1 rests);
   }
   plays_last new (end.Outside call.Show) few beside rests told = record {
-    shows = subst (λ (q : Standing). Walks s.whole most (with_store q first) new (end.Outside call.Show)) (sym told.3) (told_as new (Some (end.Outside call.Show)) few beside told);
+    shows = subst (λ (q : Standing). Walks s.whole most (with_store q first) new (end.Outside call.Show)) (sym told.3)
+    (told_as new (Some (end.Outside call.Show)) few beside told);
     session = (suc n, asked_then new (kept.shown ++ take told.2 next.piece) told.3 beside, rests_then new (kept.shown ++ take told.2 next.piece) told.3 rests);
   }
   plays_last new (end.Spent kind) few beside rests told = absurd (subst ShowsPiece told.0 shows)
@@ -292,7 +317,8 @@ module _ {F : Type 0} (g : Story) (s : Played) (most n events : ℕ) (first now 
   plays_not c few beside (inr e) = rw e (record { shows = uncommitted few beside; session = tt })
 
 -- all the lines that a session may have were taken
-pub long_play : {F : Type 0} (g : Story) (s : Played) (most n : ℕ) (first now : Standing) (seat : Seat F) → IsPlaying g s first now seat n → IsSeated seat → n ≡ most → PlaysOn s most first now (end.Long 1000000000)
+pub long_play : {F : Type 0} (g : Story) (s : Played) (most n : ℕ) (first now : Standing) (seat : Seat F) →
+    IsPlaying g s first now seat n → IsSeated seat → n ≡ most → PlaysOn s most first now (end.Long 1000000000)
 long_play g s most n first now seat w seated all = record {
   shows = long_walk g s.whole most n (with_store now first) now seat w.walking seated all;
   session = (n, asked_is g s first now seat n w, w.rests);
@@ -307,7 +333,8 @@ shows_piece (step.TooDeep table) h = cc
 
 -- ---- where nothing is committed ----
 
-module _ {F : Type 0} (g : Story) (s : Played) (most n : ℕ) (first now : Standing) (seat : Seat F) (w : IsPlaying g s first now seat n) (seated : IsSeated seat) (few : n < most) where
+module _ {F : Type 0} (g : Story) (s : Played) (most n : ℕ) (first now : Standing) (seat : Seat F)
+    (w : IsPlaying g s first now seat n) (seated : IsSeated seat) (few : n < most) where
   -- no line is left
   pub no_line : (new : Standing) → AsksTo now new asked.End [] → PlaysOn s most first new end.InputEnded
   no_line new e = rw e.1 (record {
@@ -321,26 +348,34 @@ module _ {F : Type 0} (g : Story) (s : Played) (most n : ℕ) (first now : Stand
     session = (n, asked_is g s first now seat n w, w.rests);
   })
 
-  module _ (mid : Standing) (next : Seat F) (given line : List ℕ) (found : Step) (then_seated : IsSeated next) (game : next.game ≡ seat.game) (last : next.last ≡ found)
+  module _ (mid : Standing) (next : Seat F) (given line : List ℕ) (found : Step) (then_seated : IsSeated next)
+      (game : next.game ≡ seat.game) (last : next.last ≡ found)
       (lines : now.lines ≡ line ∷ mid.lines) (cut : given ≡ take 255 line) (took : mid ≡ record now { lines = mid.lines; asked = now.asked + 1 })
-      (plays : StepsTo g (λ more. on g w.walking.prompt (reverse seat.machine.frames) (run_at seat w.walking.pieces w.walking.traces (given ∷ more))) found next w.walking.pieces w.walking.traces) where
+      (plays : StepsTo g (λ more. on g w.walking.prompt (reverse seat.machine.frames)
+      (run_at seat w.walking.pieces w.walking.traces (given ∷ more))) found next w.walking.pieces w.walking.traces)
+      where
     refused_rests : KeepsAllButLast (KeptBy s first.lines) s.before s.name first mid
     refused_rests = (
       n,
       let a = asked_is g s first now seat n w in let b = ap (λ (q : Standing). q.asked) took in omega (arith, a, b),
-      subst (λ q. Rests s first q n) (sym took) (record { there = w.rests.there; few = w.rests.few; attached = w.rests.attached; stable = w.rests.stable; file = w.rests.file; others = w.rests.others; keeps = w.rests.keeps }),
+      subst (λ q. Rests s first q n) (sym took)
+      (record { there = w.rests.there; few = w.rests.few; attached = w.rests.attached; stable = w.rests.stable; file =
+      w.rests.file; others = w.rests.others; keeps = w.rests.keeps }),
     )
 
     refused_shows : (o : PlayEnd) → Told mid mid next.piece found (Some o) → Walks s.whole most (with_store mid first) mid o
     refused_shows o told =
         subst (λ (q : Standing). Walks s.whole most (with_store q first) mid o) (sym took)
-        (walks_on g s.whole most n (with_store now first) now mid mid seat next given line found (Some o) w.walking few seated then_seated game last lines cut took plays told)
+        (walks_on g s.whole most n (with_store now first) now mid mid seat next given line found (Some o) w.walking few
+        seated then_seated game last lines cut took plays told)
 
     -- the piece is spent, or a call is too deep
     pub plays_refused : (o : PlayEnd) → refusal_of found ≡ Some o → PlaysOn s most first mid o
     plays_refused o e = elim found as (λ q. found ≡ q → refusal_of q ≡ Some o → PlaysOn s most first mid o) [
       | step.Waits p ↦ λ is e. cc
       | step.Ended ↦ λ is e. cc
-      | step.Spent kind ↦ λ is e. let k : o ≡ end.Spent kind = cc in rw k (record { shows = refused_shows (end.Spent kind) (is, refl); session = refused_rests })
-      | step.TooDeep table ↦ λ is e. let k : o ≡ end.TooDeep table = cc in rw k (record { shows = refused_shows (end.TooDeep table) (is, refl); session = refused_rests })
+      | step.Spent kind ↦ λ is e. let k : o ≡ end.Spent kind = cc in
+      rw k (record { shows = refused_shows (end.Spent kind) (is, refl); session = refused_rests })
+      | step.TooDeep table ↦ λ is e. let k : o ≡ end.TooDeep table = cc in
+      rw k (record { shows = refused_shows (end.TooDeep table) (is, refl); session = refused_rests })
     ] refl e

@@ -50,7 +50,8 @@ run_from w m p piece lines = record {
 
 -- the path of what is kept of a machine
 path_is : (m : OpenTables) → take (length m.frames) (reverse m.frames ++ replicate (11 - length m.frames) unused) ≡ reverse m.frames
-path_is m = ap (λ n. take n (reverse m.frames ++ replicate (11 - length m.frames) unused)) (sym (length-reverse m.frames)) ∙ take-append_seam (reverse m.frames) _
+path_is m = ap (λ n. take n (reverse m.frames ++ replicate (11 - length m.frames) unused))
+    (sym (length-reverse m.frames)) ∙ take-append_seam (reverse m.frames) _
 
 pub goes_on_from : (g : Story) (w : World) (m : OpenTables) (p : PendingLine) (at : Prompt) (events n : ℕ) (piece : List ℕ) (lines : List (List ℕ)) →
     going_on g (state_of w m p at events n) piece lines ≡ on g at (reverse m.frames) (run_from w m p piece lines)
@@ -66,17 +67,22 @@ module _ (digest : List ℕ) (g : Story) (w : World) (m : OpenTables) (p : Pendi
       ∙ ap (λ k. record { world = w; frames = frames_at (reverse m.frames) m.turning; pending = p; prompt = at; events = k; piece = n }) e
       ∙ ap (λ k. record { world = w; frames = frames_at (reverse m.frames) m.turning; pending = p; prompt = at; events = events + 0; piece = k }) (sym long)
 
-  waits_kept : (at : Prompt) (e : Ending) → e ≡ WaitsAt at (reverse m.frames) (run_from w m p piece []) → IsKept digest (events + 0) e (Shown digest (kept_bytes (state_of w m p at events n)) piece)
+  waits_kept : (at : Prompt) (e : Ending) → e ≡ WaitsAt at (reverse m.frames) (run_from w m p piece []) →
+      IsKept digest (events + 0) e (Shown digest (kept_bytes (state_of w m p at events n)) piece)
   waits_kept at e is = rw is (record { played = tt; shown = ap (λ q. Shown digest (kept_bytes q) piece) (same_state at) })
 
-  pub kept_at : (at : Prompt) → Stands (step_at at) m → IsKept digest (events + 0) (on g at (reverse m.frames) (run_from w m p piece [])) (Shown digest (kept_bytes (state_of w m p at events n)) piece)
+  pub kept_at : (at : Prompt) → Stands (step_at at) m →
+      IsKept digest (events + 0) (on g at (reverse m.frames) (run_from w m p piece []))
+      (Shown digest (kept_bytes (state_of w m p at events n)) piece)
   kept_at prompt.Main h = waits_kept prompt.Main _ (on_waits g prompt.Main m (run_from w m p piece []) h)
   kept_at prompt.Quit h = waits_kept prompt.Quit _ (on_waits g prompt.Quit m (run_from w m p piece []) h)
   kept_at prompt.Again h = waits_kept prompt.Again _ (on_waits g prompt.Again m (run_from w m p piece []) h)
   kept_at prompt.Key h = waits_kept prompt.Key _ (on_waits g prompt.Key m (run_from w m p piece []) h)
   kept_at prompt.Over h = record {
     played = refl;
-    shown = ap (λ q. Shown digest (kept_bytes q) piece) (same_state prompt.Over ∙ ap (λ fs. state_at (events + 0) prompt.Over (reverse fs) (run_from w m p piece [])) h.frames);
+    shown = ap (λ q. Shown digest (kept_bytes q) piece)
+    (same_state prompt.Over ∙ ap (λ fs. state_at (events + 0) prompt.Over (reverse fs) (run_from w m p piece []))
+    h.frames);
   }
 
   pub text_at : (at : Prompt) → Stands (step_at at) m → text_of (on g at (reverse m.frames) (run_from w m p piece [])) ≡ piece
@@ -88,10 +94,12 @@ module _ (digest : List ℕ) (g : Story) (w : World) (m : OpenTables) (p : Pendi
 
 -- ---- a player of these parts ----
 
-pub seat_game : {F : Type 0} (g : GameLists) (routines : Routines F) (w : World) (m : OpenTables) (p : PendingLine) (at : Prompt) (seat : Seat F) → seat ≡ seat_at g routines w m p at → seat.game ≡ g
+pub seat_game : {F : Type 0} (g : GameLists) (routines : Routines F) (w : World) (m : OpenTables) (p : PendingLine)
+    (at : Prompt) (seat : Seat F) → seat ≡ seat_at g routines w m p at → seat.game ≡ g
 seat_game {F} g routines w m p at seat is = ap (λ (q : Seat F). q.game) is
 
-pub seat_routines : {F : Type 0} (g : GameLists) (routines : Routines F) (w : World) (m : OpenTables) (p : PendingLine) (at : Prompt) (seat : Seat F) → seat ≡ seat_at g routines w m p at → seat.routines ≡ routines
+pub seat_routines : {F : Type 0} (g : GameLists) (routines : Routines F) (w : World) (m : OpenTables) (p : PendingLine)
+    (at : Prompt) (seat : Seat F) → seat ≡ seat_at g routines w m p at → seat.routines ≡ routines
 seat_routines {F} g routines w m p at seat is = ap (λ (q : Seat F). q.routines) is
 
 waits_at : (at : Prompt) → at ≢ prompt.Over → step_at at ≡ step.Waits at
@@ -103,8 +111,10 @@ waits_at prompt.Over h = absurd (h refl)
 
 -- ---- the session ----
 
-module _ {F : Type 0} (g : Story) (digest name : List ℕ) (w : World) (m : OpenTables) (p : PendingLine) (at : Prompt) (events n most : ℕ) (piece : List ℕ) (first : Standing) (routines : Routines F) (seat : Seat F)
-    (long : length piece ≡ n) (is : seat ≡ seat_at g.game routines w m p at) (seated : IsSeated seat) (store : IsStore name first) (own : kept_digest first.disk.bytes ≡ digest)
+module _ {F : Type 0} (g : Story) (digest name : List ℕ) (w : World) (m : OpenTables) (p : PendingLine) (at : Prompt)
+    (events n most : ℕ) (piece : List ℕ) (first : Standing) (routines : Routines F) (seat : Seat F)
+    (long : length piece ≡ n) (is : seat ≡ seat_at g.game routines w m p at) (seated : IsSeated seat)
+    (store : IsStore name first) (own : kept_digest first.disk.bytes ≡ digest)
     (shows : recover first.disk.bytes ≡ Shown digest (kept_bytes (state_of w m p at events n)) piece) (fit : events ≤ MOST_EVENTS) where
   session : Played
   session = kept_session g (state_of w m p at events n) piece digest name
@@ -118,18 +128,21 @@ module _ {F : Type 0} (g : Story) (digest name : List ℕ) (w : World) (m : Open
   keeps_now : IsKept digest (events + 0) (going_on g (state_of w m p at events n) piece []) (recover first.disk.bytes)
   keeps_now =
       subst (IsKept digest (events + 0) (going_on g (state_of w m p at events n) piece [])) (sym shows)
-      (subst (λ e. IsKept digest (events + 0) e (Shown digest (kept_bytes (state_of w m p at events n)) piece)) (sym (goes_on_from g w m p at events n piece []))
+      (subst (λ e. IsKept digest (events + 0) e (Shown digest (kept_bytes (state_of w m p at events n)) piece))
+      (sym (goes_on_from g w m p at events n piece []))
       (kept_at digest g w m p events n piece long at machine_stands))
 
   rests_first : Rests session first first 0
   unfolding session
-  rests_first = record { there = omega arith; few = omega (arith, fit); attached = store.attached; stable = store.stable; file = store.file; others = λ f other. refl; keeps = keeps_now }
+  rests_first = record { there = omega arith; few = omega (arith, fit); attached = store.attached; stable =
+      store.stable; file = store.file; others = λ f other. refl; keeps = keeps_now }
 
   rests_shown : (new : Standing) (text : List ℕ) → new ≡ record first { shown = text } → Rests session first new 0
   unfolding session
   rests_shown new text e =
       subst (λ q. Rests session first q 0) (sym e)
-      (record { there = omega arith; few = omega (arith, fit); attached = store.attached; stable = store.stable; file = store.file; others = λ f other. refl; keeps = keeps_now })
+      (record { there = omega arith; few = omega (arith, fit); attached = store.attached; stable = store.stable; file =
+      store.file; others = λ f other. refl; keeps = keeps_now })
 
   store_is : (new : Standing) (text : List ℕ) → new ≡ record first { shown = text } → first ≡ with_store new first
   store_is new text e = ap (λ (q : Standing). with_store q first) (sym e)
@@ -154,13 +167,15 @@ module _ {F : Type 0} (g : Story) (digest name : List ℕ) (w : World) (m : Open
     attached = store.attached;
     files = λ f other. refl;
     leaves = λ image may. (
-      subst (λ b. IsKept digest (events + 0) (going_on g (state_of w m p at events n) piece []) (recover b)) (sym (stable_leaves first.disk image store.stable may)) keeps_now,
+      subst (λ b. IsKept digest (events + 0) (going_on g (state_of w m p at events n) piece []) (recover b))
+      (sym (stable_leaves first.disk image store.stable may)) keeps_now,
       (drop i.0 piece, take-append-drop i.0 piece ∙ sym text_is),
     );
   })
 
   -- the session is at its prompt
-  pub again_next : (new : Standing) → ShowsAgain first new piece at None → IsPlaying g (kept_session g (state_of w m p at events n) piece digest name) first new seat 0
+  pub again_next : (new : Standing) → ShowsAgain first new piece at None →
+      IsPlaying g (kept_session g (state_of w m p at events n) piece digest name) first new seat 0
   unfolding session
   again_next new told = rw is (record {
     walking = record {
@@ -179,7 +194,8 @@ module _ {F : Type 0} (g : Story) (digest name : List ℕ) (w : World) (m : Open
   })
 
   -- or playing it has come to its end
-  pub again_last : (new : Standing) (o : PlayEnd) → ShowsAgain first new piece at (Some o) → PlaysOn (kept_session g (state_of w m p at events n) piece digest name) most first new o
+  pub again_last : (new : Standing) (o : PlayEnd) → ShowsAgain first new piece at (Some o) →
+      PlaysOn (kept_session g (state_of w m p at events n) piece digest name) most first new o
   unfolding session
   again_last new end.Ended told = record {
     shows = (

@@ -31,7 +31,9 @@ use Rattle.paw_play.specs.Play.{ShowsState, going_on}
 use Rattle.paw_play.proofs.Resuming.{goes_on_from, kept_at, text_at}
 
 -- a buffer begins with the bytes of a state
-pub shows_kept : (digest bytes buffer piece : List ℕ) (st : State) → recover bytes ≡ Shown digest (take state_length buffer) piece → take state_length buffer ≡ state_bytes st → recover bytes ≡ Shown digest (kept_bytes st) piece
+pub shows_kept : (digest bytes buffer piece : List ℕ) (st : State) →
+    recover bytes ≡ Shown digest (take state_length buffer) piece → take state_length buffer ≡ state_bytes st →
+    recover bytes ≡ Shown digest (kept_bytes st) piece
 unfolding kept_bytes
 shows_kept digest bytes buffer piece st e k = e ∙ ap (λ b. Shown digest b piece) k
 
@@ -43,7 +45,8 @@ same_shown : (d a p e b q : List ℕ) → Shown d a p ≡ Shown e b q → (a ≡
 same_shown d a p e b q h = (cc, cc)
 
 -- the bytes show one state and one piece
-pub one_state : (g : GameLists) (digest bytes : List ℕ) (s t : State) (p q : List ℕ) → Valid g → ShowsState g digest bytes s p → ShowsState g digest bytes t q → (s ≡ t) × (p ≡ q)
+pub one_state : (g : GameLists) (digest bytes : List ℕ) (s t : State) (p q : List ℕ) → Valid g →
+    ShowsState g digest bytes s p → ShowsState g digest bytes t q → (s ≡ t) × (p ≡ q)
 one_state g digest bytes s t p q valid h k =
     let e = same_shown digest (kept_bytes s) p digest (kept_bytes t) q (sym h.shown ∙ k.shown) in
     (bytes_tell_the_state g s t valid h.keeps h.fits k.keeps k.fits (bytes_same s t e.0), e.1)
@@ -51,7 +54,9 @@ one_state g digest bytes s t p q valid h k =
 -- ---- the piece is as long as the state says ----
 
 -- the piece that stands beside a buffer is as long as the buffer says
-pub buffer_long : (bytes digest buffer piece : List ℕ) (n : ℕ) → recover bytes ≡ Shown digest (take state_length buffer) piece → get_or buffer 1369 0 + 256 * get_or buffer 1370 0 ≡ n → n < 65536 → length piece ≡ n
+pub buffer_long : (bytes digest buffer piece : List ℕ) (n : ℕ) →
+    recover bytes ≡ Shown digest (take state_length buffer) piece →
+    get_or buffer 1369 0 + 256 * get_or buffer 1370 0 ≡ n → n < 65536 → length piece ≡ n
 buffer_long bytes digest buffer piece n e is low =
     let a : get_or (take state_length buffer) 1369 0 ≡ get_or buffer 1369 0 = get_or-take 3419 buffer 1369 0 (omega arith) in
     let b : get_or (take state_length buffer) 1370 0 ≡ get_or buffer 1370 0 = get_or-take 3419 buffer 1370 0 (omega arith) in
@@ -89,7 +94,8 @@ pending_of g s m k fits stands =
 
 pub read_fits : (g : GameLists) (bytes : List ℕ) (r : Restored) → IsRead g bytes r → Fits g r.world r.machine r.pending r.prompt
 read_fits g bytes r is =
-    restored_fits g r.prompt (kept r.machine) r.world r.machine r.pending (world_of g (state_read r) is.keeps is.fits) (pending_of g (state_read r) r.machine is.keeps is.fits is.stands)
+    restored_fits g r.prompt (kept r.machine) r.world r.machine r.pending (world_of g (state_read r) is.keeps is.fits)
+    (pending_of g (state_read r) r.machine is.keeps is.fits is.stands)
     is.keeps.rows is.machine is.stands is.keeps.frames
 
 -- ---- a state that bytes show ----
@@ -107,7 +113,8 @@ module _ (g : Story) (digest bytes : List ℕ) (st : State) (piece : List ℕ) (
   stands : Stands (step_at st.prompt) machine
   unfolding machine
   stands =
-      let at : StandsAt st.prompt (restored st.frames (waiting_at st.prompt)) = stands_at g.game st.prompt st.frames valid shows.keeps.rows shows.keeps.frames in
+      let at : StandsAt st.prompt (restored st.frames (waiting_at st.prompt)) =
+      stands_at g.game st.prompt st.frames valid shows.keeps.rows shows.keeps.frames in
       (restored_fits g.game st.prompt st.frames st.world (restored st.frames (waiting_at st.prompt)) st.pending (world_of g.game st shows.keeps shows.fits)
       (pending_of g.game st (restored st.frames (waiting_at st.prompt)) shows.keeps shows.fits at) shows.keeps.rows refl at shows.keeps.frames).machine
 

@@ -1,5 +1,6 @@
 -- A trace, line by line: a walk that shows the steps of each piece before it.
-use Rattle.std.proofs.Common.{◌≡◌, ℕ, zero, suc, ◌+◌, ◌≤◌, ◌<◌, List, [], ◌∷◌, ◌++◌, Option, Some, None, refl, sym, ap, ◌∙◌, subst, length, take, drop, arith, append_assoc, length-append}
+use Rattle.std.proofs.Common.{◌≡◌, ℕ, zero, suc, ◌+◌, ◌≤◌, ◌<◌, List, [], ◌∷◌, ◌++◌, Option, Some, None, refl, sym, ap, ◌∙◌, subst, length, take, drop, arith}
+use Rattle.std.proofs.Common.{append_assoc, length-append}
 use Rattle.std.proofs.lemmas.List.{append-nil, take-append-drop}
 use Rattle.std.specs.Prelude.{reverse, ◌-◌, flat_map}
 use Rattle.paw_base.specs.Steps.{KeptSteps, kept_steps}
@@ -76,7 +77,8 @@ shown_both old mid new text more e f =
     f ∙ ap (λ (q : Standing). record q { shown = q.shown ++ more }) e ∙ ap (λ t. record old { shown = t }) (append_assoc old.shown text more)
 
 -- the steps were shown, and then what the step brought
-pub told_after : (old mid new : Standing) (text piece : List ℕ) (s : Step) (o : Option PlayEnd) → None ≡ refusal_of s → mid ≡ record old { shown = old.shown ++ text } →
+pub told_after : (old mid new : Standing) (text piece : List ℕ) (s : Step) (o : Option PlayEnd) → None ≡ refusal_of s →
+    mid ≡ record old { shown = old.shown ++ text } →
     Told mid new piece s o → Told old new (text ++ piece) s o
 told_after old mid new text piece s None shows e told = (told.0, told.1, shown_both old mid new text piece e told.2)
 told_after old mid new text piece s (Some end.Ended) shows e told = (told.0, shown_both old mid new text piece e told.1)
@@ -92,7 +94,8 @@ told_after old mid new text piece s (Some (end.Outside call.Show)) shows e told 
 told_after old mid new text piece s (Some _) shows e told = absurd told
 
 -- a part of the steps was shown
-pub told_part : (old new : Standing) (text piece : List ℕ) (s : Step) → None ≡ refusal_of s → 0 < length text → (n : ℕ) × (new ≡ record old { shown = old.shown ++ take n text }) →
+pub told_part : (old new : Standing) (text piece : List ℕ) (s : Step) → None ≡ refusal_of s → 0 < length text →
+    (n : ℕ) × (new ≡ record old { shown = old.shown ++ take n text }) →
     Told old new (text ++ piece) s (Some (end.Outside call.Show))
 told_part old new text piece s shows some e =
     let k = part_of e.0 text piece in
@@ -110,20 +113,23 @@ tracing g whole n first now seat w seated =
       reverse seat.machine.frames,
       traced_run r,
       record {
-        reading = ap (traced whole) (sym (append-nil (first_lines n first.lines))) ∙ ap traced_ending (w.goes_on [] ∙ on_waits g w.prompt seat.machine r stands);
+        reading = ap (traced whole) (sym (append-nil (first_lines n first.lines)))
+        ∙ ap traced_ending (w.goes_on [] ∙ on_waits g w.prompt seat.machine r stands);
         there = w.there;
         stands = w.stands;
       },
     )
 
 -- the text of what was read of the lines so far
-text_so_far : {F : Type 0} (g : Story) (whole : Reading) (n : ℕ) (first now : Standing) (seat : Seat F) (w : IsTracing g whole first now seat n) → IsSeated seat →
+text_so_far : {F : Type 0} (g : Story) (whole : Reading) (n : ℕ) (first now : Standing) (seat : Seat F)
+    (w : IsTracing g whole first now seat n) → IsSeated seat →
     text_of (traced whole (first_lines n first.lines)) ≡ joined (traced_pieces w.pieces w.traces)
 unfolding tracing
 text_so_far g whole n first now seat w seated = ap text_of (tracing g whole n first now seat w seated).3.reading
 
 -- the text of a step that brings a piece
-text_shown : {F : Type 0} (g : Story) (whole : List (List ℕ) → Ending) (s : Step) (next : Seat F) (pieces : List (List ℕ)) (traces : List (List Read)) → ShowsPiece s → Stands s next.machine →
+text_shown : {F : Type 0} (g : Story) (whole : List (List ℕ) → Ending) (s : Step) (next : Seat F)
+    (pieces : List (List ℕ)) (traces : List (List Read)) → ShowsPiece s → Stands s next.machine →
     length traces ≡ length pieces → PlaysTo g whole s next pieces traces → text_of (traced whole []) ≡ joined (traced_pieces pieces traces) ++ seat_text next
 text_shown g whole (step.Waits p) next pieces traces h m each plays =
     ap (λ e. text_of (traced_ending e)) (plays.1.1 [] ∙ on_waits g p next.machine (run_at next (pieces ++ next.piece ∷ []) (traces ++ plays.0 ∷ []) []) m)
@@ -134,7 +140,8 @@ text_shown g whole (step.Spent kind) next pieces traces h m each plays = absurd 
 text_shown g whole (step.TooDeep u) next pieces traces h m each plays = absurd h
 
 -- the closed pieces of a run with these, as they are told
-same_told : (r : Run) (pieces : List (List ℕ)) (traces : List (List Read)) → r.pieces ≡ pieces → r.traces ≡ traces → joined (traced_pieces pieces traces) ≡ joined (traced_run r).pieces
+same_told : (r : Run) (pieces : List (List ℕ)) (traces : List (List Read)) → r.pieces ≡ pieces → r.traces ≡ traces →
+    joined (traced_pieces pieces traces) ≡ joined (traced_run r).pieces
 same_told r pieces traces e f = sym (ap (λ ps. joined (traced_pieces ps r.traces)) e ∙ ap (λ ts. joined (traced_pieces pieces ts)) f)
 
 module _ {F : Type 0} (g : Story) (whole : Reading) (n : ℕ) (first now mid new : Standing) (seat next : Seat F) (given line : List ℕ) (s : Step)
@@ -147,7 +154,9 @@ module _ {F : Type 0} (g : Story) (whole : Reading) (n : ℕ) (first now mid new
   one_more : suc n ≤ length first.lines
   one_more = (drop_more first.lines n line mid.lines line_stands).1
 
-  whole_after : (more : List (List ℕ)) → whole (first_lines (suc n) first.lines ++ more) ≡ on g w.prompt (reverse seat.machine.frames) (run_at seat w.pieces w.traces (given ∷ more))
+  whole_after : (more : List (List ℕ)) →
+      whole (first_lines (suc n) first.lines ++ more)
+      ≡ on g w.prompt (reverse seat.machine.frames) (run_at seat w.pieces w.traces (given ∷ more))
   whole_after more =
       ap whole (lines_more first.lines n line mid.lines more line_stands)
       ∙ w.goes_on (take 255 line ∷ more)
@@ -168,10 +177,13 @@ module _ {F : Type 0} (g : Story) (whole : Reading) (n : ℕ) (first now mid new
   -- nothing was shown
   stands_still : (r : Run) → r.pieces ≡ w.pieces → r.traces ≡ w.traces → new ≡ mid → new ≡ played first (suc n) (joined (traced_run r).pieces)
   stands_still r e f same =
-      stands_with [] (same ∙ shown_nothing mid) ∙ ap (played first (suc n)) (append-nil (joined (traced_pieces w.pieces w.traces)) ∙ same_told r w.pieces w.traces e f)
+      stands_with [] (same ∙ shown_nothing mid)
+      ∙ ap (played first (suc n)) (append-nil (joined (traced_pieces w.pieces w.traces))
+      ∙ same_told r w.pieces w.traces e f)
 
   -- part of the text was shown
-  shown_part : ShowsPiece s → 0 < length (seat_text next) → (m : ℕ) → new ≡ record mid { shown = mid.shown ++ take m (seat_text next) } → ReadsPart (traced whole) first new (suc n)
+  shown_part : ShowsPiece s → 0 < length (seat_text next) → (m : ℕ) →
+      new ≡ record mid { shown = mid.shown ++ take m (seat_text next) } → ReadsPart (traced whole) first new (suc n)
   shown_part shows some m e = record {
     shown = joined (traced_pieces w.pieces w.traces) ++ take m (seat_text next);
     rest = drop m (seat_text next);
@@ -191,7 +203,8 @@ module _ {F : Type 0} (g : Story) (whole : Reading) (n : ℕ) (first now mid new
       earlier = text_so_far g whole n first now seat w seated
 
 -- one line more
-pub traces_on : {F : Type 0} (g : Story) (whole : Reading) (most n : ℕ) (first now mid new : Standing) (seat next : Seat F) (given line : List ℕ) (s : Step) (o : Option PlayEnd)
+pub traces_on : {F : Type 0} (g : Story) (whole : Reading) (most n : ℕ) (first now mid new : Standing)
+    (seat next : Seat F) (given line : List ℕ) (s : Step) (o : Option PlayEnd)
     (w : IsTracing g whole first now seat n) → n < most → IsSeated seat → IsSeated next → next.last ≡ s →
     now.lines ≡ line ∷ mid.lines → given ≡ take 255 line → mid ≡ record now { lines = mid.lines; asked = now.asked + 1 } →
     PlaysTo g (λ more. on g w.prompt (reverse seat.machine.frames) (run_at seat w.pieces w.traces (given ∷ more))) s next w.pieces w.traces →
@@ -253,11 +266,13 @@ traces_on g whole most n first now mid new seat next given line s (Some (end.Too
       },
     )
 traces_on g whole most n first now mid new seat next given line s (Some (end.Outside call.Show)) w few seated then_seated last lines cut took plays told =
-    (suc n, omega (arith, few), shown_part g whole n first now mid new seat next given line s w seated then_seated last lines cut took plays told.0 told.1 told.2 told.3)
+    (suc n, omega (arith, few), shown_part g whole n first now mid new seat next given line s w seated then_seated last
+    lines cut took plays told.0 told.1 told.2 told.3)
 traces_on g whole most n first now mid new seat next given line s (Some _) w few seated then_seated last lines cut took plays told = absurd told
 
 -- no line is left
-pub none_left : {F : Type 0} (g : Story) (whole : Reading) (most n : ℕ) (first now new : Standing) (seat : Seat F) → IsTracing g whole first now seat n → n < most → IsSeated seat → (now.lines ≡ []) × (new ≡ now) →
+pub none_left : {F : Type 0} (g : Story) (whole : Reading) (most n : ℕ) (first now new : Standing) (seat : Seat F) →
+    IsTracing g whole first now seat n → n < most → IsSeated seat → (now.lines ≡ []) × (new ≡ now) →
     (length first.lines < most) × (p : Prompt) × (path : List Frame) × (r : Run) × Reads (traced whole) first new (length first.lines) (WaitsAt p path r)
 none_left g whole most n first now new seat w few seated e =
     let all : n ≡ length first.lines = drop_all first.lines n (ap (λ (q : Standing). q.lines) (sym w.stands) ∙ e.0) w.there in
@@ -265,14 +280,16 @@ none_left g whole most n first now new seat w few seated e =
     (omega (arith, all, few), at.0, at.1, at.2, rw (← all, e.1) at.3)
 
 -- the lines can't be asked for
-pub none_asked : {F : Type 0} (g : Story) (whole : Reading) (most n : ℕ) (first now new : Standing) (seat : Seat F) → IsTracing g whole first now seat n → n < most → IsSeated seat → new ≡ now →
+pub none_asked : {F : Type 0} (g : Story) (whole : Reading) (most n : ℕ) (first now new : Standing) (seat : Seat F) →
+    IsTracing g whole first now seat n → n < most → IsSeated seat → new ≡ now →
     (m : ℕ) × (m < most) × (p : Prompt) × (path : List Frame) × (r : Run) × Reads (traced whole) first new m (WaitsAt p path r)
 none_asked g whole most n first now new seat w few seated e =
     let at = tracing g whole n first now seat w seated in
     (n, few, at.0, at.1, at.2, rw e at.3)
 
 -- all the lines that a session may have were taken
-pub long_trace : {F : Type 0} (g : Story) (whole : Reading) (most n : ℕ) (first now : Standing) (seat : Seat F) → IsTracing g whole first now seat n → IsSeated seat → n ≡ most →
+pub long_trace : {F : Type 0} (g : Story) (whole : Reading) (most n : ℕ) (first now : Standing) (seat : Seat F) →
+    IsTracing g whole first now seat n → IsSeated seat → n ≡ most →
     (1000000000 ≡ MOST_EVENTS) × (p : Prompt) × (path : List Frame) × (r : Run) × Reads (traced whole) first now most (WaitsAt p path r)
 long_trace g whole most n first now seat w seated all =
     let at = tracing g whole n first now seat w seated in
@@ -281,7 +298,8 @@ long_trace g whole most n first now seat w seated all =
 -- ---- the first piece ----
 
 -- after piece 0 the trace is at the first prompt, or has come to this
-trace_begins : {F : Type 0} (g : Story) (whole : Reading) (most : ℕ) (old new : Standing) (seat : Seat F) (s : Step) (o : Option PlayEnd) → IsSeated seat → seat.last ≡ s →
+trace_begins : {F : Type 0} (g : Story) (whole : Reading) (most : ℕ) (old new : Standing) (seat : Seat F) (s : Step)
+    (o : Option PlayEnd) → IsSeated seat → seat.last ≡ s →
     PlaysTo g whole s seat [] [] → Told old new (seat_text seat) s o → TracesFrom g whole most old new seat o
 trace_begins g whole most old new seat s None seated last plays told =
     let at : PlaysTo g whole (step.Waits told.0) seat [] [] = subst (λ q. PlaysTo g whole q seat [] []) told.1 plays in
@@ -310,11 +328,15 @@ trace_begins g whole most old new seat s (Some end.Ended) seated last plays told
 trace_begins g whole most old new seat s (Some (end.Spent kind)) seated last plays told =
     let at : PlaysTo g whole (step.Spent kind) seat [] [] = subst (λ q. PlaysTo g whole q seat [] []) told.0 plays in
     let e = at.1 [] in
-    (0, omega arith, traced_run e.0, e.4, record { reading = ap traced_ending e.1; there = omega arith; stands = first_stands old new [] (told.1 ∙ shown_nothing old) ∙ ap (played old 0) (same_told e.0 [] [] e.2 e.3) })
+    (0, omega arith, traced_run e.0, e.4,
+    record { reading = ap traced_ending e.1; there = omega arith; stands =
+    first_stands old new [] (told.1 ∙ shown_nothing old) ∙ ap (played old 0) (same_told e.0 [] [] e.2 e.3) })
 trace_begins g whole most old new seat s (Some (end.TooDeep table)) seated last plays told =
     let at : PlaysTo g whole (step.TooDeep table) seat [] [] = subst (λ q. PlaysTo g whole q seat [] []) told.0 plays in
     let e = at.1 [] in
-    (0, omega arith, traced_run e.0, e.4, record { reading = ap traced_ending e.1; there = omega arith; stands = first_stands old new [] (told.1 ∙ shown_nothing old) ∙ ap (played old 0) (same_told e.0 [] [] e.2 e.3) })
+    (0, omega arith, traced_run e.0, e.4,
+    record { reading = ap traced_ending e.1; there = omega arith; stands =
+    first_stands old new [] (told.1 ∙ shown_nothing old) ∙ ap (played old 0) (same_told e.0 [] [] e.2 e.3) })
 trace_begins g whole most old new seat s (Some (end.Outside call.Show)) seated last plays told =
     let all : text_of (traced whole []) ≡ seat_text seat
     = text_shown g whole s seat [] [] told.0 (subst (λ q. Stands q seat.machine) last seated.machine) refl plays in (
@@ -334,7 +356,8 @@ trace_begins g whole most old new seat s (Some (end.Outside call.Show)) seated l
 trace_begins g whole most old new seat s (Some _) seated last plays told = absurd told
 
 -- a player that was new has played piece 0
-pub trace_starts : {F : Type 0} (g : Story) (seed most : ℕ) (old new : Standing) (fresh seat : Seat F) (s : Step) (o : Option PlayEnd) → IsNew fresh seed → IsSeated seat → seat.last ≡ s →
+pub trace_starts : {F : Type 0} (g : Story) (seed most : ℕ) (old new : Standing) (fresh seat : Seat F) (s : Step)
+    (o : Option PlayEnd) → IsNew fresh seed → IsSeated seat → seat.last ≡ s →
     PlaysTo g (reading g fresh.world.seed) s seat [] [] → Told old new (seat_text seat) s o → TracesFrom g (reading g seed) most old new seat o
 trace_starts g seed most old new fresh seat s o is seated last plays told =
     let at : fresh.world.seed ≡ seed = ap (λ (w : World). w.seed) is.world in

@@ -1,5 +1,6 @@
 -- A walk, line by line.
-use Rattle.std.proofs.Common.{◌≡◌, ℕ, zero, suc, ◌+◌, ◌≤◌, ◌<◌, List, [], ◌∷◌, ◌++◌, Option, Some, None, refl, sym, ap, ◌∙◌, subst, length, take, drop, map, arith, append_assoc, length-append}
+use Rattle.std.proofs.Common.{◌≡◌, ℕ, zero, suc, ◌+◌, ◌≤◌, ◌<◌, List, [], ◌∷◌, ◌++◌, Option, Some, None, refl, sym, ap, ◌∙◌, subst, length, take, drop, map}
+use Rattle.std.proofs.Common.{arith, append_assoc, length-append}
 use Rattle.std.proofs.lemmas.Grind.{flat_map-append}
 use Rattle.std.proofs.lemmas.List.{append-nil, length-reverse, take-append-drop}
 use Rattle.std.specs.Prelude.{reverse}
@@ -33,7 +34,8 @@ take_more [] (suc n) line rest h = cc
 take_more (l ∷ lines) zero line rest h = let e : l ≡ line = cc in rw e refl
 take_more (l ∷ lines) (suc n) line rest h = ap (λ xs. l ∷ xs) (take_more lines n line rest h)
 
-pub drop_more : (lines : List (List ℕ)) (n : ℕ) (line : List ℕ) (rest : List (List ℕ)) → drop n lines ≡ line ∷ rest → (drop (suc n) lines ≡ rest) × (suc n ≤ length lines)
+pub drop_more : (lines : List (List ℕ)) (n : ℕ) (line : List ℕ) (rest : List (List ℕ)) → drop n lines ≡ line ∷ rest →
+    (drop (suc n) lines ≡ rest) × (suc n ≤ length lines)
 drop_more [] zero line rest h = cc
 drop_more [] (suc n) line rest h = cc
 drop_more (l ∷ lines) zero line rest h = let e : lines ≡ rest = cc in (e, omega arith)
@@ -96,7 +98,8 @@ some_path frames h = omega (arith, length-reverse frames)
 pub on_waits : (g : Story) (p : Prompt) (m : OpenTables) (r : Run) → StandsAt p m →
     on g p (reverse m.frames) (record r { events = [] }) ≡ WaitsAt p (reverse m.frames) (record r { events = [] })
 unfolding at_main
-on_waits g prompt.Main m r h = ap (λ fs. on g prompt.Main (reverse fs) (record r { events = [] })) h.frames ∙ ap (λ fs. WaitsAt prompt.Main (reverse fs) (record r { events = [] })) (sym h.frames)
+on_waits g prompt.Main m r h = ap (λ fs. on g prompt.Main (reverse fs) (record r { events = [] })) h.frames
+    ∙ ap (λ fs. WaitsAt prompt.Main (reverse fs) (record r { events = [] })) (sym h.frames)
 on_waits g prompt.Quit m r h = rw (path_waits g prompt.Quit 0 (reverse m.frames) r (some_path m.frames h.tables.tables.some)) refl
 on_waits g prompt.Again m r h = rw (path_waits g prompt.Again 0 (reverse m.frames) r (some_path m.frames h.tables.tables.some)) refl
 on_waits g prompt.Key m r h = rw (path_waits g prompt.Key 0 (reverse m.frames) r (some_path m.frames h.tables.tables.some)) refl
@@ -121,16 +124,19 @@ waiting g whole n first now seat w seated =
     )
 
 -- the text of what was read of the lines so far
-pub text_so_far : {F : Type 0} (g : Story) (whole : Reading) (n : ℕ) (first now : Standing) (seat : Seat F) (w : IsWalking g whole first now seat n) → IsSeated seat →
+pub text_so_far : {F : Type 0} (g : Story) (whole : Reading) (n : ℕ) (first now : Standing) (seat : Seat F)
+    (w : IsWalking g whole first now seat n) → IsSeated seat →
     text_of (whole (first_lines n first.lines)) ≡ joined w.pieces
 unfolding waiting
 text_so_far g whole n first now seat w seated = ap text_of (waiting g whole n first now seat w seated).3.reading
 
 -- the text of a step that brings a piece
-pub text_shown : {F : Type 0} (g : Story) (whole : List (List ℕ) → Ending) (s : Step) (next : Seat F) (pieces : List (List ℕ)) (traces : List (List Read)) → ShowsPiece s → Stands s next.machine →
+pub text_shown : {F : Type 0} (g : Story) (whole : List (List ℕ) → Ending) (s : Step) (next : Seat F)
+    (pieces : List (List ℕ)) (traces : List (List Read)) → ShowsPiece s → Stands s next.machine →
     PlaysTo g whole s next pieces traces → text_of (whole []) ≡ joined pieces ++ next.piece
 text_shown g whole (step.Waits p) next pieces traces h m plays =
-    ap text_of (plays.1.1 [] ∙ on_waits g p next.machine (run_at next (pieces ++ next.piece ∷ []) (traces ++ plays.0 ∷ []) []) m) ∙ joined_more pieces next.piece
+    ap text_of (plays.1.1 [] ∙ on_waits g p next.machine
+    (run_at next (pieces ++ next.piece ∷ []) (traces ++ plays.0 ∷ []) []) m) ∙ joined_more pieces next.piece
 text_shown g whole step.Ended next pieces traces h m plays =
     ap text_of (plays.1.1 []) ∙ joined_more pieces next.piece
 text_shown g whole (step.Spent kind) next pieces traces h m plays = absurd h
@@ -153,7 +159,9 @@ module _ {F : Type 0} (g : Story) (whole : Reading) (n : ℕ) (first now mid new
   pub one_more : suc n ≤ length first.lines
   one_more = (drop_more first.lines n line mid.lines line_stands).1
 
-  whole_after : (more : List (List ℕ)) → whole (first_lines (suc n) first.lines ++ more) ≡ on g w.prompt (reverse seat.machine.frames) (run_at seat w.pieces w.traces (given ∷ more))
+  whole_after : (more : List (List ℕ)) →
+      whole (first_lines (suc n) first.lines ++ more)
+      ≡ on g w.prompt (reverse seat.machine.frames) (run_at seat w.pieces w.traces (given ∷ more))
   whole_after more =
       ap whole (lines_more first.lines n line mid.lines more line_stands)
       ∙ w.goes_on (take 255 line ∷ more)
@@ -188,7 +196,8 @@ module _ {F : Type 0} (g : Story) (whole : Reading) (n : ℕ) (first now mid new
       earlier = text_so_far g whole n first now seat w seated
 
 -- one line more
-pub walks_on : {F : Type 0} (g : Story) (whole : Reading) (most n : ℕ) (first now mid new : Standing) (seat next : Seat F) (given line : List ℕ) (s : Step) (o : Option PlayEnd)
+pub walks_on : {F : Type 0} (g : Story) (whole : Reading) (most n : ℕ) (first now mid new : Standing)
+    (seat next : Seat F) (given line : List ℕ) (s : Step) (o : Option PlayEnd)
     (w : IsWalking g whole first now seat n) → n < most → IsSeated seat → IsSeated next → next.game ≡ seat.game → next.last ≡ s →
     now.lines ≡ line ∷ mid.lines → given ≡ take 255 line → mid ≡ record now { lines = mid.lines; asked = now.asked + 1 } →
     PlaysTo g (λ more. on g w.prompt (reverse seat.machine.frames) (run_at seat w.pieces w.traces (given ∷ more))) s next w.pieces w.traces →
@@ -231,7 +240,8 @@ walks_on g whole most n first now mid new seat next given line s (Some (end.Spen
       record {
         reading = read_after g whole n first now mid new seat next given line s w seated then_seated game last lines cut took plays ∙ e.1;
         there = one_more g whole n first now mid new seat next given line s w seated then_seated game last lines cut took plays;
-        stands = stands_with g whole n first now mid new seat next given line s w seated then_seated game last lines cut took plays [] (told.1 ∙ shown_nothing mid)
+        stands = stands_with g whole n first now mid new seat next given line s w seated then_seated game last lines cut
+        took plays [] (told.1 ∙ shown_nothing mid)
             ∙ ap (played first (suc n)) (append-nil (joined w.pieces) ∙ sym (ap joined e.2));
       },
     )
@@ -246,16 +256,19 @@ walks_on g whole most n first now mid new seat next given line s (Some (end.TooD
       record {
         reading = read_after g whole n first now mid new seat next given line s w seated then_seated game last lines cut took plays ∙ e.1;
         there = one_more g whole n first now mid new seat next given line s w seated then_seated game last lines cut took plays;
-        stands = stands_with g whole n first now mid new seat next given line s w seated then_seated game last lines cut took plays [] (told.1 ∙ shown_nothing mid)
+        stands = stands_with g whole n first now mid new seat next given line s w seated then_seated game last lines cut
+        took plays [] (told.1 ∙ shown_nothing mid)
             ∙ ap (played first (suc n)) (append-nil (joined w.pieces) ∙ sym (ap joined e.2));
       },
     )
 walks_on g whole most n first now mid new seat next given line s (Some (end.Outside call.Show)) w few seated then_seated game last lines cut took plays told =
-    (suc n, omega (arith, few), shown_part g whole n first now mid new seat next given line s w seated then_seated game last lines cut took plays told.0 told.1 told.2 told.3)
+    (suc n, omega (arith, few), shown_part g whole n first now mid new seat next given line s w seated then_seated game
+    last lines cut took plays told.0 told.1 told.2 told.3)
 walks_on g whole most n first now mid new seat next given line s (Some _) w few seated then_seated game last lines cut took plays told = absurd told
 
 -- no line is left
-pub none_left : {F : Type 0} (g : Story) (whole : Reading) (most n : ℕ) (first now new : Standing) (seat : Seat F) → IsWalking g whole first now seat n → n < most → IsSeated seat → (now.lines ≡ []) × (new ≡ now) →
+pub none_left : {F : Type 0} (g : Story) (whole : Reading) (most n : ℕ) (first now new : Standing) (seat : Seat F) →
+    IsWalking g whole first now seat n → n < most → IsSeated seat → (now.lines ≡ []) × (new ≡ now) →
     (length first.lines < most) × (p : Prompt) × (path : List Frame) × (r : Run) × Reads whole first new (length first.lines) (WaitsAt p path r)
 none_left g whole most n first now new seat w few seated e =
     let all : n ≡ length first.lines = drop_all first.lines n (ap (λ (q : Standing). q.lines) (sym w.stands) ∙ e.0) w.there in
@@ -263,14 +276,16 @@ none_left g whole most n first now new seat w few seated e =
     (omega (arith, all, few), at.0, at.1, at.2, rw (← all, e.1) at.3)
 
 -- the lines can't be asked for
-pub none_asked : {F : Type 0} (g : Story) (whole : Reading) (most n : ℕ) (first now new : Standing) (seat : Seat F) → IsWalking g whole first now seat n → n < most → IsSeated seat → new ≡ now →
+pub none_asked : {F : Type 0} (g : Story) (whole : Reading) (most n : ℕ) (first now new : Standing) (seat : Seat F) →
+    IsWalking g whole first now seat n → n < most → IsSeated seat → new ≡ now →
     (m : ℕ) × (m < most) × (p : Prompt) × (path : List Frame) × (r : Run) × Reads whole first new m (WaitsAt p path r)
 none_asked g whole most n first now new seat w few seated e =
     let at = waiting g whole n first now seat w seated in
     (n, few, at.0, at.1, at.2, rw e at.3)
 
 -- all the lines that a session may have were taken
-pub long_walk : {F : Type 0} (g : Story) (whole : Reading) (most n : ℕ) (first now : Standing) (seat : Seat F) → IsWalking g whole first now seat n → IsSeated seat → n ≡ most →
+pub long_walk : {F : Type 0} (g : Story) (whole : Reading) (most n : ℕ) (first now : Standing) (seat : Seat F) →
+    IsWalking g whole first now seat n → IsSeated seat → n ≡ most →
     (1000000000 ≡ MOST_EVENTS) × (p : Prompt) × (path : List Frame) × (r : Run) × Reads whole first now most (WaitsAt p path r)
 long_walk g whole most n first now seat w seated all =
     let at = waiting g whole n first now seat w seated in
@@ -282,7 +297,8 @@ pub first_stands : (old new : Standing) (part : List ℕ) → new ≡ record old
 first_stands old new part e = let a : old.asked + 0 ≡ old.asked = omega arith in e ∙ rw a refl
 
 -- after piece 0 the walk is at the first prompt, or has come to this
-pub walk_begins : {F : Type 0} (g : Story) (whole : Reading) (most : ℕ) (old new : Standing) (seat : Seat F) (s : Step) (o : Option PlayEnd) → IsSeated seat → seat.last ≡ s →
+pub walk_begins : {F : Type 0} (g : Story) (whole : Reading) (most : ℕ) (old new : Standing) (seat : Seat F) (s : Step)
+    (o : Option PlayEnd) → IsSeated seat → seat.last ≡ s →
     PlaysTo g whole s seat [] [] → Told old new seat.piece s o → WalksFrom g whole most old new seat o
 walk_begins g whole most old new seat s None seated last plays told =
     let at : PlaysTo g whole (step.Waits told.0) seat [] [] = subst (λ q. PlaysTo g whole q seat [] []) told.1 plays in
@@ -310,11 +326,13 @@ walk_begins g whole most old new seat s (Some end.Ended) seated last plays told 
 walk_begins g whole most old new seat s (Some (end.Spent kind)) seated last plays told =
     let at : PlaysTo g whole (step.Spent kind) seat [] [] = subst (λ q. PlaysTo g whole q seat [] []) told.0 plays in
     let e = at.1 [] in
-    (0, omega arith, e.0, e.4, record { reading = e.1; there = omega arith; stands = first_stands old new [] (told.1 ∙ shown_nothing old) ∙ ap (played old 0) (sym (ap joined e.2)) })
+    (0, omega arith, e.0, e.4, record { reading = e.1; there = omega arith; stands =
+    first_stands old new [] (told.1 ∙ shown_nothing old) ∙ ap (played old 0) (sym (ap joined e.2)) })
 walk_begins g whole most old new seat s (Some (end.TooDeep table)) seated last plays told =
     let at : PlaysTo g whole (step.TooDeep table) seat [] [] = subst (λ q. PlaysTo g whole q seat [] []) told.0 plays in
     let e = at.1 [] in
-    (0, omega arith, e.0, e.4, record { reading = e.1; there = omega arith; stands = first_stands old new [] (told.1 ∙ shown_nothing old) ∙ ap (played old 0) (sym (ap joined e.2)) })
+    (0, omega arith, e.0, e.4, record { reading = e.1; there = omega arith; stands =
+    first_stands old new [] (told.1 ∙ shown_nothing old) ∙ ap (played old 0) (sym (ap joined e.2)) })
 walk_begins g whole most old new seat s (Some (end.Outside call.Show)) seated last plays told =
     let all : text_of (whole []) ≡ seat.piece
     = text_shown g whole s seat [] [] told.0 (subst (λ q. Stands q seat.machine) last seated.machine) plays in (
@@ -334,7 +352,8 @@ walk_begins g whole most old new seat s (Some (end.Outside call.Show)) seated la
 walk_begins g whole most old new seat s (Some _) seated last plays told = absurd told
 
 -- a player that was new has played piece 0
-pub walk_starts : {F : Type 0} (g : Story) (seed most : ℕ) (old new : Standing) (fresh seat : Seat F) (s : Step) (o : Option PlayEnd) → IsNew fresh seed → IsSeated seat → seat.last ≡ s →
+pub walk_starts : {F : Type 0} (g : Story) (seed most : ℕ) (old new : Standing) (fresh seat : Seat F) (s : Step)
+    (o : Option PlayEnd) → IsNew fresh seed → IsSeated seat → seat.last ≡ s →
     PlaysTo g (reading g fresh.world.seed) s seat [] [] → Told old new seat.piece s o → WalksFrom g (reading g seed) most old new seat o
 walk_starts g seed most old new fresh seat s o is seated last plays told =
     let at : fresh.world.seed ≡ seed = ap (λ (w : World). w.seed) is.world in

@@ -23,7 +23,8 @@ standing_with : List (List ℕ) → List Done → Standing
 standing_with lines ds = record (after fresh ds) { lines = lines }
 
 -- what stands after a call that was recorded
-pub stood : (m n : Memory) (l : Logged) (d : Done) → m.log ≡ l → n.log ≡ logged d l → n.lines ≡ m.lines → standing_of n ≡ record (step (after fresh m.log.calls) d) { lines = m.lines }
+pub stood : (m n : Memory) (l : Logged) (d : Done) → m.log ≡ l → n.log ≡ logged d l → n.lines ≡ m.lines →
+    standing_of n ≡ record (step (after fresh m.log.calls) d) { lines = m.lines }
 unfolding standing_with
 stood m n l d em en el =
     let calls : n.log.calls ≡ m.log.calls ++ d ∷ [] = ap (λ (k : Logged). k.calls) en ∙ ap (λ (k : Logged). k.calls ++ d ∷ []) (sym em) in
@@ -33,10 +34,12 @@ stood m n l d em en el =
     a ∙ (b ∙ ap {A = Standing} (λ s. record s { lines = m.lines }) last)
 
 -- the moments of a call that was recorded
-pub passed : (m n : Memory) (l : Logged) (d : Done) → m.log ≡ l → n.log ≡ logged d l → Passes (clock_of m) (clock_of n) (moments_of m) (moments_of n) (StandsInside (after fresh m.log.calls) d)
+pub passed : (m n : Memory) (l : Logged) (d : Done) → m.log ≡ l → n.log ≡ logged d l →
+    Passes (clock_of m) (clock_of n) (moments_of m) (moments_of n) (StandsInside (after fresh m.log.calls) d)
 passed m n l d em en =
     let calls : n.log.calls ≡ m.log.calls ++ d ∷ [] = ap (λ (k : Logged). k.calls) en ∙ ap (λ (k : Logged). k.calls ++ d ∷ []) (sym em) in
-    subst (λ ds. Passes (length m.log.calls) (length ds) (since_of m.log.calls) (since_of ds) (StandsInside (after fresh m.log.calls) d)) (sym calls) (passes m.log.calls d)
+    subst (λ ds. Passes (length m.log.calls) (length ds) (since_of m.log.calls) (since_of ds)
+    (StandsInside (after fresh m.log.calls) d)) (sym calls) (passes m.log.calls d)
 
 not_attached : (a : Option (List ℕ)) (name : List ℕ) (x y : Disk) → a ≢ Some name → (if is_attached a name then x else y) ≡ y
 not_attached None name x y ne = refl
@@ -60,7 +63,8 @@ saves s new name bytes e =
 
 pub in_save : (old : Standing) (name bytes : List ℕ) (m : Moment) → StandsInside old (saved name bytes) m → InSave old name m
 in_save old name bytes m (inl e) =
-    record { asked = ap (λ x. x.asked) e; shown = ap (λ x. x.shown) e; attached = ap (λ x. x.attached) e; files = inl (ap (λ x. x.files) e); disk = λ ne. ap (λ x. x.disk) e }
+    record { asked = ap (λ x. x.asked) e; shown = ap (λ x. x.shown) e; attached = ap (λ x. x.attached) e; files =
+    inl (ap (λ x. x.files) e); disk = λ ne. ap (λ x. x.disk) e }
 in_save old name bytes m (inr h) =
     record {
       asked = ap (λ x. x.asked) h.1;
@@ -70,17 +74,22 @@ in_save old name bytes m (inr h) =
       disk = λ ne. ap (λ x. x.disk) h.1 ∙ not_attached old.attached name (stable (bytes_or_none h.0)) old.disk ne;
     }
 
-pub in_attach : (old new : Standing) (name : List ℕ) (m : Moment) → new.attached ≡ (opened name old).attached → new.disk ≡ (opened name old).disk → StandsInside old (attached_store name) m → InAttach old new name m
+pub in_attach : (old new : Standing) (name : List ℕ) (m : Moment) → new.attached ≡ (opened name old).attached →
+    new.disk ≡ (opened name old).disk → StandsInside old (attached_store name) m → InAttach old new name m
 in_attach old new name m ea ed (inl e) =
-    record { asked = ap (λ x. x.asked) e; shown = ap (λ x. x.shown) e; files = inr (ap (λ x. x.files) e); store = inl (ap (λ x. x.attached) e, ap (λ x. x.disk) e) }
+    record { asked = ap (λ x. x.asked) e; shown = ap (λ x. x.shown) e; files = inr (ap (λ x. x.files) e); store =
+    inl (ap (λ x. x.attached) e, ap (λ x. x.disk) e) }
 in_attach old new name m ea ed (inr (inl e)) =
-    record { asked = ap (λ x. x.asked) e; shown = ap (λ x. x.shown) e; files = inl (ap (λ x. x.files) e); store = inl (ap (λ x. x.attached) e, ap (λ x. x.disk) e) }
+    record { asked = ap (λ x. x.asked) e; shown = ap (λ x. x.shown) e; files = inl (ap (λ x. x.files) e); store =
+    inl (ap (λ x. x.attached) e, ap (λ x. x.disk) e) }
 in_attach old new name m ea ed (inr (inr e)) =
-    record { asked = ap (λ x. x.asked) e; shown = ap (λ x. x.shown) e; files = inr (ap (λ x. x.files) e); store = inr (ap (λ x. x.attached) e ∙ sym ea, ap (λ x. x.disk) e ∙ sym ed) }
+    record { asked = ap (λ x. x.asked) e; shown = ap (λ x. x.shown) e; files = inr (ap (λ x. x.files) e); store =
+    inr (ap (λ x. x.attached) e ∙ sym ea, ap (λ x. x.disk) e ∙ sym ed) }
 
 pub in_write : (old : Standing) (at : ℕ) (bytes : List ℕ) (m : Moment) → StandsInside old (wrote_store at bytes) m → InWrite old at (length bytes) m
 in_write old at bytes m (inl e) =
-    record { asked = ap (λ x. x.asked) e; shown = ap (λ x. x.shown) e; attached = ap (λ x. x.attached) e; files = inl (ap (λ x. x.files) e); disk = inl (ap (λ x. x.disk) e) }
+    record { asked = ap (λ x. x.asked) e; shown = ap (λ x. x.shown) e; attached = ap (λ x. x.attached) e; files =
+    inl (ap (λ x. x.files) e); disk = inl (ap (λ x. x.disk) e) }
 in_write old at bytes m (inr h) =
     record {
       asked = ap (λ x. x.asked) h.2;
@@ -92,9 +101,12 @@ in_write old at bytes m (inr h) =
 
 pub in_sync : (old : Standing) (m : Moment) → IsDisk old.disk → StandsInside old synced_store m → InSync old m
 in_sync old m k (inl e) =
-    record { asked = ap (λ x. x.asked) e; shown = ap (λ x. x.shown) e; attached = ap (λ x. x.attached) e; files = ap (λ x. x.files) e; disk = λ image l. subst (λ d. MayLeave d image) (ap (λ x. x.disk) e) l }
+    record { asked = ap (λ x. x.asked) e; shown = ap (λ x. x.shown) e; attached = ap (λ x. x.attached) e; files =
+    ap (λ x. x.files) e; disk = λ image l. subst (λ d. MayLeave d image) (ap (λ x. x.disk) e) l }
 in_sync old m k (inr e) =
-    record { asked = ap (λ x. x.asked) e; shown = ap (λ x. x.shown) e; attached = ap (λ x. x.attached) e; files = ap (λ x. x.files) e; disk = λ image l. synced_leaves old.disk k image (subst (λ d. MayLeave d image) (ap (λ x. x.disk) e) l) }
+    record { asked = ap (λ x. x.asked) e; shown = ap (λ x. x.shown) e; attached = ap (λ x. x.attached) e; files =
+    ap (λ x. x.files) e; disk = λ image l. synced_leaves old.disk k image
+    (subst (λ d. MayLeave d image) (ap (λ x. x.disk) e) l) }
 
 -- the disk that the calls of a stage leave
 pub is_disk : (m : Memory) → IsDisk (standing_of m).disk
@@ -104,6 +116,7 @@ is_disk m = after_disk m.log.calls
 abbrev pub Takes : Kind → Asked → Type 0
 Takes k answer = ((n : ℕ) × (k ≡ kind.Take) × (answer ≡ asked.Line n)) ⊎ ((k ≡ kind.End) × (answer ≡ asked.End))
 
-pub in_ask : (s : Standing) (lines : List (List ℕ)) (k : Kind) (answer : Asked) (m : Moment) → Takes k answer → StandsIn k [] [] s m → InAsk (record s { lines = lines }) answer m
+pub in_ask : (s : Standing) (lines : List (List ℕ)) (k : Kind) (answer : Asked) (m : Moment) → Takes k answer →
+    StandsIn k [] [] s m → InAsk (record s { lines = lines }) answer m
 in_ask s lines k answer m (inl t) h = subst (λ a. InAsk (record s { lines = lines }) a m) (sym t.2) (subst (λ x. StandsIn x [] [] s m) t.1 h)
 in_ask s lines k answer m (inr t) h = subst (λ a. InAsk (record s { lines = lines }) a m) (sym t.1) (subst (λ x. StandsIn x [] [] s m) t.0 h)

@@ -3,11 +3,13 @@ use Rattle.std.proofs.Common.{◌≡◌, ℕ, List, [], ◌++◌, sym, ap, ◌�
 use Rattle.std.specs.Prelude.{Option, Some, None}
 use Rattle.std.specs.Io.KnownBytes.{prepend_known, Consumes, IsAtEnd}
 
-pub consumes_ahead : (remaining : Option (List ℕ)) (ahead left bytes : List ℕ) → ahead ≡ bytes ++ left → Consumes (prepend_known ahead remaining) (prepend_known left remaining) bytes
+pub consumes_ahead : (remaining : Option (List ℕ)) (ahead left bytes : List ℕ) → ahead ≡ bytes ++ left →
+    Consumes (prepend_known ahead remaining) (prepend_known left remaining) bytes
 consumes_ahead None ahead left bytes e = tt
 consumes_ahead (Some xs) ahead left bytes e = ap (λ a. a ++ xs) e ∙ append_assoc bytes left xs
 
-pub consumes_read : (old new : Option (List ℕ)) (ahead left bytes : List ℕ) → Consumes old new ahead → ahead ≡ bytes ++ left → Consumes (prepend_known [] old) (prepend_known left new) bytes
+pub consumes_read : (old new : Option (List ℕ)) (ahead left bytes : List ℕ) → Consumes old new ahead →
+    ahead ≡ bytes ++ left → Consumes (prepend_known [] old) (prepend_known left new) bytes
 consumes_read None new ahead left bytes h e = tt
 consumes_read (Some xs) None ahead left bytes h e = absurd h
 consumes_read (Some xs) (Some ys) ahead left bytes h e = h ∙ (ap (λ a. a ++ ys) e ∙ append_assoc bytes left ys)

@@ -40,7 +40,10 @@ written_is d at bytes h =
       low = omega (arith, n, h.low);
       high = omega (arith, n, h.high);
       same = λ i low clean.
-          let t : (nat_le (min at (length d.bytes)) i && nat_lt i (min at (length d.bytes) + length bytes)) ≡ false = outside at (length bytes) (length d.bytes) i (or_left (nat_le at i && nat_lt i (at + length bytes)) (is_dirty d.dirty i) clean) (omega (arith, h.low, low)) in
+          let t : (nat_le (min at (length d.bytes)) i && nat_lt i (min at (length d.bytes) + length bytes)) ≡ false =
+          outside at (length bytes) (length d.bytes) i
+          (or_left (nat_le at i && nat_lt i (at + length bytes)) (is_dirty d.dirty i) clean)
+          (omega (arith, h.low, low)) in
           h.same i low (or_right (nat_le at i && nat_lt i (at + length bytes)) (is_dirty d.dirty i) clean)
           ∙ sym (index-put at bytes d.bytes i ∙ ap (λ b. if b then slice_index bytes (i - min at (length d.bytes)) else slice_index d.bytes i) t);
     }
@@ -67,13 +70,15 @@ after_disk ds = later_disk fresh ds (stable_is [])
 -- once the bytes are synced a crash leaves no more than before
 pub synced_leaves : (d : Disk) → IsDisk d → LeavesNoMore d (stable d.bytes)
 synced_leaves d h image l =
-    record { no_shorter = omega (arith, h.low, l.no_shorter); no_longer = omega (arith, h.high, l.no_longer); clean = λ i low clean. l.clean i (omega (arith, h.low, low)) refl }
+    record { no_shorter = omega (arith, h.low, l.no_shorter); no_longer = omega (arith, h.high, l.no_longer); clean =
+    λ i low clean. l.clean i (omega (arith, h.low, low)) refl }
 
 pub length-spoiled : (dirty : List Range) (k : ℕ) (xs : List ℕ) → length (spoiled dirty k xs) ≡ length xs
 length-spoiled dirty k [] = refl
 length-spoiled dirty k (x ∷ xs) = ap suc (length-spoiled dirty (k + 1) xs)
 
-pub index-spoiled : (dirty : List Range) (k : ℕ) (xs : List ℕ) (i : ℕ) → i < length xs → slice_index (spoiled dirty k xs) i ≡ spoiled_if (is_dirty dirty (k + i)) (slice_index xs i)
+pub index-spoiled : (dirty : List Range) (k : ℕ) (xs : List ℕ) (i : ℕ) → i < length xs →
+    slice_index (spoiled dirty k xs) i ≡ spoiled_if (is_dirty dirty (k + i)) (slice_index xs i)
 index-spoiled dirty k [] i h = absurd (omega arith)
 index-spoiled dirty k (x ∷ xs) zero h = let e : k ≡ k + 0 = omega arith in ap (λ j. spoiled_if (is_dirty dirty j) x) e
 index-spoiled dirty k (x ∷ xs) (suc i) h =
@@ -87,7 +92,8 @@ leaves false false d h =
     record {
       no_shorter = omega (arith, n, h.low);
       no_longer = omega (arith, n, h.high);
-      clean = λ i low c. index-spoiled d.dirty 0 d.bytes i (omega (arith, h.low, low)) ∙ ap (λ b. spoiled_if b (slice_index d.bytes i)) (ap (is_dirty d.dirty) (zero_plus i) ∙ c);
+      clean = λ i low c. index-spoiled d.dirty 0 d.bytes i (omega (arith, h.low, low))
+      ∙ ap (λ b. spoiled_if b (slice_index d.bytes i)) (ap (is_dirty d.dirty) (zero_plus i) ∙ c);
     }
   where
     zero_plus : (i : ℕ) → 0 + i ≡ i

@@ -1,5 +1,6 @@
 -- The first line of some bytes.
-use Rattle.std.proofs.Common.{◌≡◌, ◌≢◌, ℕ, ◌-◌, ◌<◌, zero, suc, ◌&&◌, Bool, true, false, List, [], ◌∷◌, ◌++◌, length, take, get_or, nat_lt, refl, ap, ◌∙◌, arith, length-append}
+use Rattle.std.proofs.Common.{◌≡◌, ◌≢◌, ℕ, ◌-◌, ◌<◌, zero, suc, ◌&&◌, Bool, true, false, List, [], ◌∷◌, ◌++◌, length, take, get_or, nat_lt, refl, ap, ◌∙◌}
+use Rattle.std.proofs.Common.{arith, length-append}
 use Rattle.std.specs.Prelude.{if◌then◌else◌, ◌==◌}
 use Rattle.std.specs.Io.BufRead.{take_through, drop_through, ends_with_byte, strip_last, first_line}
 use Rattle.std.proofs.Math.Seq.{take-append_seam}
@@ -44,12 +45,14 @@ pub ends_with_byte-push : (b : ℕ) (xs : List ℕ) (x : ℕ) → ends_with_byte
 ends_with_byte-push b xs x =
     let n : length (xs ++ x ∷ []) - 1 ≡ length xs = omega (arith, length-append xs (x ∷ [])) in
     let some : nat_lt 0 (length (xs ++ x ∷ [])) ≡ true = grind (arith, length-append xs (x ∷ [])) in
-    ap (λ t. t && (get_or (xs ++ x ∷ []) (length (xs ++ x ∷ []) - 1) 0 == b)) some ∙ (ap (λ k. get_or (xs ++ x ∷ []) k 0 == b) n ∙ ap (λ v. v == b) (get_last xs x))
+    ap (λ t. t && (get_or (xs ++ x ∷ []) (length (xs ++ x ∷ []) - 1) 0 == b)) some
+    ∙ (ap (λ k. get_or (xs ++ x ∷ []) k 0 == b) n ∙ ap (λ v. v == b) (get_last xs x))
 
 strip_last-push : (b : ℕ) (xs : List ℕ) → strip_last b (xs ++ b ∷ []) ≡ xs
 strip_last-push b xs =
     let n : length (xs ++ b ∷ []) - 1 ≡ length xs = omega (arith, length-append xs (b ∷ [])) in
-    ap (λ t. if t then take (length (xs ++ b ∷ []) - 1) (xs ++ b ∷ []) else xs ++ b ∷ []) (ends_with_byte-push b xs b ∙ same b) ∙ (ap (λ k. take k (xs ++ b ∷ [])) n ∙ take-append_seam xs (b ∷ []))
+    ap (λ t. if t then take (length (xs ++ b ∷ []) - 1) (xs ++ b ∷ []) else xs ++ b ∷ [])
+    (ends_with_byte-push b xs b ∙ same b) ∙ (ap (λ k. take k (xs ++ b ∷ [])) n ∙ take-append_seam xs (b ∷ []))
 
 get_plain : (xs : List ℕ) (i : ℕ) → HasNoEnd xs → i < length xs → get_or xs i 0 ≢ 10
 get_plain [] i h low = absurd (omega arith)
@@ -59,7 +62,9 @@ get_plain (x ∷ xs) (suc i) h low = get_plain xs i h.1 (omega arith)
 not_ended : (xs : List ℕ) → HasNoEnd xs → ends_with_byte 10 xs ≡ false
 not_ended [] h = refl
 not_ended (x ∷ xs) h =
-    ap (λ t. nat_lt 0 (length (x ∷ xs)) && t) (not_same (get_or (x ∷ xs) (length (x ∷ xs) - 1) 0) 10 (get_plain (x ∷ xs) (length (x ∷ xs) - 1) h (omega arith))) ∙ and_false (nat_lt 0 (length (x ∷ xs)))
+    ap (λ t. nat_lt 0 (length (x ∷ xs)) && t)
+    (not_same (get_or (x ∷ xs) (length (x ∷ xs) - 1) 0) 10 (get_plain (x ∷ xs) (length (x ∷ xs) - 1) h (omega arith)))
+    ∙ and_false (nat_lt 0 (length (x ∷ xs)))
 
 -- the line in the bytes up to the first LF, or in all of them
 line_in : List ℕ → List ℕ

@@ -1,5 +1,6 @@
 -- One byte more of the line in work, and its end.
-use Rattle.std.proofs.Common.{◌≡◌, ◌≢◌, ◌≤◌, ◌<◌, ◌⊎◌, inl, inr, ℕ, ◌+◌, ◌-◌, Bool, true, false, List, [], ◌∷◌, ◌++◌, length, take, set, suc, min, nat_lt, sym, ap, ◌∙◌, arith, length-append}
+use Rattle.std.proofs.Common.{◌≡◌, ◌≢◌, ◌≤◌, ◌<◌, ◌⊎◌, inl, inr, ℕ, ◌+◌, ◌-◌, Bool, true, false, List, [], ◌∷◌, ◌++◌, length, take, set, suc, min, nat_lt, sym}
+use Rattle.std.proofs.Common.{ap, ◌∙◌, arith, length-append}
 use Rattle.std.specs.Prelude.{Option, Some, None, IfSome, if◌then◌else◌, ◌==◌}
 use Rattle.std.specs.Io.KnownBytes.{Consumes, IsAtEnd}
 use Rattle.std.specs.Io.BufRead.{strip_last, first_line, drop_through}
@@ -13,7 +14,9 @@ below_or : (k : ℕ) → (k < 255) ⊎ (255 ≤ k)
 below_or k = grind arith
 
 -- the first bytes with one byte more
-kept_more : (into taken : List ℕ) (len byte : ℕ) → length into ≡ 255 → length taken ≡ len → take (min len 255) into ≡ take 255 taken → take (min (len + 1) 255) (if nat_lt len 255 then set into len byte else into) ≡ take 255 (taken ++ byte ∷ [])
+kept_more : (into taken : List ℕ) (len byte : ℕ) → length into ≡ 255 → length taken ≡ len →
+    take (min len 255) into ≡ take 255 taken →
+    take (min (len + 1) 255) (if nat_lt len 255 then set into len byte else into) ≡ take 255 (taken ++ byte ∷ [])
 kept_more into taken len byte size count kept = elim (below_or len) [
   | inl low ↦
       let test : nat_lt len 255 ≡ true = grind arith in
@@ -32,7 +35,9 @@ kept_more into taken len byte size count kept = elim (below_or len) [
       ∙ (ap (λ k. take k into) (new ∙ sym old) ∙ (kept ∙ sym (take-append-le 255 taken (byte ∷ []) (omega arith))))
 ]
 
-pub gathers_more : (first left now : Option (List ℕ)) (into into' : List ℕ) (len byte : ℕ) (returned : Bool) → Gathers first left into len returned → Consumes left now (byte ∷ []) → byte ≢ 10 → length into ≡ 255 → into' ≡ (if nat_lt len 255 then set into len byte else into) → Gathers first now into' (len + 1) (byte == 13)
+pub gathers_more : (first left now : Option (List ℕ)) (into into' : List ℕ) (len byte : ℕ) (returned : Bool) →
+    Gathers first left into len returned → Consumes left now (byte ∷ []) → byte ≢ 10 → length into ≡ 255 →
+    into' ≡ (if nat_lt len 255 then set into len byte else into) → Gathers first now into' (len + 1) (byte == 13)
 gathers_more first left now into into' len byte returned h k ne size e =
     record {
       taken = h.taken ++ byte ∷ [];
@@ -44,7 +49,9 @@ gathers_more first left now into into' len byte returned h k ne size e =
     }
 
 -- the end of the bytes, with a line that has no end of its own
-pub gathered_whole : (first left now : Option (List ℕ)) (into : List ℕ) (len : ℕ) (returned : Bool) → Gathers first left into len returned → Consumes left now [] → IsAtEnd now → 0 < len → IfSome first (λ bytes. GathersLine bytes now (Some len) into)
+pub gathered_whole : (first left now : Option (List ℕ)) (into : List ℕ) (len : ℕ) (returned : Bool) →
+    Gathers first left into len returned → Consumes left now [] → IsAtEnd now → 0 < len →
+    IfSome first (λ bytes. GathersLine bytes now (Some len) into)
 gathered_whole None left now into len returned h k end some = tt
 gathered_whole (Some xs) None now into len returned h k end some = absurd h.consumed
 gathered_whole (Some xs) (Some ys) None into len returned h k end some = absurd k
@@ -64,7 +71,8 @@ take_short m taken = elim (below_or m) [
 ]
 
 -- without the last byte
-cut_last : (into taken : List ℕ) (len : ℕ) → length taken ≡ len → take (min len 255) into ≡ take 255 taken → take (min (len - 1) 255) into ≡ take 255 (take (len - 1) taken)
+cut_last : (into taken : List ℕ) (len : ℕ) → length taken ≡ len → take (min len 255) into ≡ take 255 taken →
+    take (min (len - 1) 255) into ≡ take 255 (take (len - 1) taken)
 cut_last into taken len count kept =
     sym (take-take (min (len - 1) 255) (min len 255) into (omega arith))
     ∙ (ap (take (min (len - 1) 255)) kept ∙ (take-take (min (len - 1) 255) 255 taken (omega arith) ∙ take_short (len - 1) taken))
@@ -77,7 +85,9 @@ without_return true into taken len count kept =
     (omega (arith, length-take (length taken - 1) taken), cut_last into taken len count kept ∙ ap (λ n. take 255 (take (n - 1) taken)) (sym count))
 
 -- the LF that ends the line
-pub gathered_end : (first left now : Option (List ℕ)) (into : List ℕ) (len : ℕ) (returned : Bool) → Gathers first left into len returned → Consumes left now (10 ∷ []) → IfSome first (λ bytes. GathersLine bytes now (Some (if returned then len - 1 else len)) into)
+pub gathered_end : (first left now : Option (List ℕ)) (into : List ℕ) (len : ℕ) (returned : Bool) →
+    Gathers first left into len returned → Consumes left now (10 ∷ []) →
+    IfSome first (λ bytes. GathersLine bytes now (Some (if returned then len - 1 else len)) into)
 gathered_end None left now into len returned h k = tt
 gathered_end (Some xs) None now into len returned h k = absurd h.consumed
 gathered_end (Some xs) (Some ys) None into len returned h k = absurd k
@@ -85,7 +95,8 @@ gathered_end (Some xs) (Some ys) (Some zs) into len returned h k =
     let whole : xs ≡ h.taken ++ 10 ∷ zs = h.consumed ∙ ap (λ l. h.taken ++ l) k in
     let line : first_line xs ≡ strip_last 13 h.taken = ap first_line whole ∙ first_line-end h.taken zs h.plain in
     let cut = without_return returned into h.taken len h.count h.kept in
-    let stripped : (if returned then take (length h.taken - 1) h.taken else h.taken) ≡ first_line xs = ap (λ b. if b then take (length h.taken - 1) h.taken else h.taken) h.last ∙ sym line in (
+    let stripped : (if returned then take (length h.taken - 1) h.taken else h.taken) ≡ first_line xs =
+    ap (λ b. if b then take (length h.taken - 1) h.taken else h.taken) h.last ∙ sym line in (
       omega (arith, ap length whole, length-append h.taken (10 ∷ zs)),
       cut.0 ∙ ap length stripped,
       cut.1 ∙ ap (take 255) stripped,

@@ -21,28 +21,44 @@ spoiled_twice false true x = refl
 spoiled_twice false false x = refl
 
 -- a byte that is spoiled by one call more
-pub spoiled_more : (ds : List Done) (d : Done) (j x y z : ℕ) → z ≡ spoiled_if (writes d.kind (length d.bytes) j) y → y ≡ spoiled_if (is_written ds j) x → z ≡ spoiled_if (is_written (ds ++ d ∷ []) j) x
+pub spoiled_more : (ds : List Done) (d : Done) (j x y z : ℕ) → z ≡ spoiled_if (writes d.kind (length d.bytes) j) y →
+    y ≡ spoiled_if (is_written ds j) x → z ≡ spoiled_if (is_written (ds ++ d ∷ []) j) x
 spoiled_more ds d j x y z ez ey =
-    ez ∙ (ap (spoiled_if (writes d.kind (length d.bytes) j)) ey ∙ (spoiled_twice (is_written ds j) (writes d.kind (length d.bytes) j) x ∙ ap (λ b. spoiled_if b x) (sym (is_written-push ds d j))))
+    ez ∙ (ap (spoiled_if (writes d.kind (length d.bytes) j)) ey
+    ∙ (spoiled_twice (is_written ds j) (writes d.kind (length d.bytes) j) x
+    ∙ ap (λ b. spoiled_if b x) (sym (is_written-push ds d j))))
 
 -- the file of the attached store has its bytes
-pub store_file : (room : List ℕ) (ds : List Done) (store : Store) → FindsStore room ds (Some store) → bytes_or_none ((after fresh ds).files (slice_range room store.opened.from store.opened.mid)) ≡ (after fresh ds).disk.bytes
+pub store_file : (room : List ℕ) (ds : List Done) (store : Store) → FindsStore room ds (Some store) →
+    bytes_or_none ((after fresh ds).files (slice_range room store.opened.from store.opened.mid))
+    ≡ (after fresh ds).disk.bytes
 store_file room ds store h = ap bytes_or_none (after_filed ds (slice_range room store.opened.from store.opened.mid) h.1.attached)
 
 -- it had those at the last sync after the calls up to it
-pub synced_file : (room : List ℕ) (calls : List Call) (store : Store) → FindsStore room (all_done room calls) (Some store) → bytes_or_none ((after fresh (all_done room (take store.synced calls))).files (slice_range room store.opened.from store.opened.mid)) ≡ (after fresh (all_done room calls)).disk.synced
+pub synced_file : (room : List ℕ) (calls : List Call) (store : Store) →
+    FindsStore room (all_done room calls) (Some store) →
+    bytes_or_none ((after fresh (all_done room (take store.synced calls))).files
+    (slice_range room store.opened.from store.opened.mid)) ≡ (after fresh (all_done room calls)).disk.synced
 synced_file room calls store h =
     let name : List ℕ = slice_range room store.opened.from store.opened.mid in
     let front : all_done room (take store.synced calls) ≡ take store.synced (all_done room calls) = sym (take-map (done_in room) store.synced calls) in
-    ap (λ ds. bytes_or_none ((after fresh ds).files name)) front ∙ (ap bytes_or_none (after_filed (take store.synced (all_done room calls)) name h.1.before) ∙ h.1.synced)
+    ap (λ ds. bytes_or_none ((after fresh ds).files name)) front
+    ∙ (ap bytes_or_none (after_filed (take store.synced (all_done room calls)) name h.1.before) ∙ h.1.synced)
 
 -- what is left of its bytes once those are spoiled that later calls wrote
-pub spoiled_file : (room : List ℕ) (calls : List Call) (store : Store) (whole new : List ℕ) → FindsStore room (all_done room calls) (Some store) → whole ≡ (after fresh (all_done room calls)).disk.bytes → length new ≡ length whole
-    → ((j : ℕ) → j < length whole → slice_index new j ≡ spoiled_if (is_written (all_done room (take (length calls - store.synced) (drop store.synced calls))) j) (slice_index whole j))
+pub spoiled_file : (room : List ℕ) (calls : List Call) (store : Store) (whole new : List ℕ) →
+    FindsStore room (all_done room calls) (Some store) → whole ≡ (after fresh (all_done room calls)).disk.bytes →
+    length new ≡ length whole
+    → ((j : ℕ) → j < length whole → slice_index new j
+    ≡ spoiled_if (is_written (all_done room (take (length calls - store.synced) (drop store.synced calls))) j)
+    (slice_index whole j))
     → new ≡ spoiled (after fresh (all_done room calls)).disk.dirty 0 (after fresh (all_done room calls)).disk.bytes
 spoiled_file room calls store whole new h e size each =
     let d : Disk = (after fresh (all_done room calls)).disk in
-    let rest : all_done room (take (length calls - store.synced) (drop store.synced calls)) ≡ drop store.synced (all_done room calls) = ap (all_done room) (take_all (length calls - store.synced) (drop store.synced calls) (omega (arith, length-drop store.synced calls))) ∙ sym (drop-map (done_in room) store.synced calls) in
+    let rest : all_done room (take (length calls - store.synced) (drop store.synced calls))
+    ≡ drop store.synced (all_done room calls) =
+    ap (all_done room) (take_all (length calls - store.synced) (drop store.synced calls)
+    (omega (arith, length-drop store.synced calls))) ∙ sym (drop-map (done_in room) store.synced calls) in
     let long : length (spoiled d.dirty 0 d.bytes) ≡ length d.bytes = length-spoiled d.dirty 0 d.bytes in
     ext_get_or 0 new (spoiled d.dirty 0 d.bytes) (omega (arith, size, long, ap length e)) (λ j low.
     each j (omega (arith, low, size))

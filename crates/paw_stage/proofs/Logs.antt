@@ -1,5 +1,6 @@
 -- One more call in a record of calls.
-use Rattle.std.proofs.Common.{◌≡◌, ◌≤◌, ◌<◌, ℕ, ◌+◌, ◌-◌, List, [], ◌∷◌, ◌++◌, length, take, drop, get_or, zero, suc, refl, ap, ◌∙◌, subst, arith, append_assoc, length-append}
+use Rattle.std.proofs.Common.{◌≡◌, ◌≤◌, ◌<◌, ℕ, ◌+◌, ◌-◌, List, [], ◌∷◌, ◌++◌, length, take, drop, get_or, zero, suc, refl, ap, ◌∙◌, subst, arith, append_assoc}
+use Rattle.std.proofs.Common.{length-append}
 use Rattle.std.specs.Prelude.{slice_range}
 use Rattle.std.proofs.Math.Seq.{take-append_seam, drop-append_seam, take-length}
 use Rattle.std.proofs.lemmas.List.{take-append-le, drop-append-le, length-drop, map-append, take_more, drop_more}
@@ -23,7 +24,9 @@ slice_range-seam : (room bytes extra : List ℕ) (a b : ℕ) → a ≡ length ro
 slice_range-seam room bytes extra a b ea eb =
     let n : b - a ≡ length bytes = omega arith in
     ap (λ r. slice_range r a b) (append_assoc room bytes extra)
-    ∙ (ap (λ k. take (b - a) (drop k (room ++ (bytes ++ extra)))) ea ∙ (ap (take (b - a)) (drop-append_seam room (bytes ++ extra)) ∙ (ap (λ k. take k (bytes ++ extra)) n ∙ take-append_seam bytes extra)))
+    ∙ (ap (λ k. take (b - a) (drop k (room ++ (bytes ++ extra)))) ea
+    ∙ (ap (take (b - a)) (drop-append_seam room (bytes ++ extra))
+    ∙ (ap (λ k. take k (bytes ++ extra)) n ∙ take-append_seam bytes extra)))
 
 -- the part that was added last
 slice_range-last : (room bytes : List ℕ) (a b : ℕ) → a ≡ length room → b ≡ length room + length bytes → slice_range (room ++ bytes) a b ≡ bytes
@@ -40,37 +43,52 @@ done_in-append : (room extra : List ℕ) (c : Call) → c.from ≤ c.mid → c.m
 done_in-append room extra c low high within =
     rw (slice_range-append room extra c.from c.mid low (omega arith), slice_range-append room extra c.mid c.to high within)
 
-all_done-append : (room extra : List ℕ) (calls : List Call) (start : ℕ) → AreLaid calls start (length room) → all_done (room ++ extra) calls ≡ all_done room calls
+all_done-append : (room extra : List ℕ) (calls : List Call) (start : ℕ) → AreLaid calls start (length room) →
+    all_done (room ++ extra) calls ≡ all_done room calls
 all_done-append room extra [] start h = refl
 all_done-append room extra (c ∷ calls) start h =
     let low : c.to ≤ length room = laid_low calls c.to (length room) h.3 in
-    ap (λ d. d ∷ all_done (room ++ extra) calls) (done_in-append room extra c h.1 h.2 low) ∙ ap (λ ds. done_in room c ∷ ds) (all_done-append room extra calls c.to h.3)
+    ap (λ d. d ∷ all_done (room ++ extra) calls) (done_in-append room extra c h.1 h.2 low)
+    ∙ ap (λ ds. done_in room c ∷ ds) (all_done-append room extra calls c.to h.3)
 
-pub all_done-push : (room name bytes : List ℕ) (calls : List Call) (c : Call) (start : ℕ) → AreLaid calls start (length room) → c.from ≡ length room → c.mid ≡ length room + length name → c.to ≡ length room + length name + length bytes → all_done ((room ++ name) ++ bytes) (calls ++ c ∷ []) ≡ all_done room calls ++ record { kind = c.kind; name = name; bytes = bytes } ∷ []
+pub all_done-push : (room name bytes : List ℕ) (calls : List Call) (c : Call) (start : ℕ) →
+    AreLaid calls start (length room) → c.from ≡ length room → c.mid ≡ length room + length name →
+    c.to ≡ length room + length name + length bytes →
+    all_done ((room ++ name) ++ bytes) (calls ++ c ∷ [])
+    ≡ all_done room calls ++ record { kind = c.kind; name = name; bytes = bytes } ∷ []
 all_done-push room name bytes calls c start h from mid to =
-    let old : all_done ((room ++ name) ++ bytes) calls ≡ all_done room calls = ap (λ r. all_done r calls) (append_assoc room name bytes) ∙ all_done-append room (name ++ bytes) calls start h in
+    let old : all_done ((room ++ name) ++ bytes) calls ≡ all_done room calls =
+    ap (λ r. all_done r calls) (append_assoc room name bytes) ∙ all_done-append room (name ++ bytes) calls start h in
     let n : slice_range ((room ++ name) ++ bytes) c.from c.mid ≡ name = slice_range-seam room name bytes c.from c.mid from mid in
-    let b : slice_range ((room ++ name) ++ bytes) c.mid c.to ≡ bytes = slice_range-last (room ++ name) bytes c.mid c.to (omega (arith, length-append room name)) (omega (arith, length-append room name)) in
+    let b : slice_range ((room ++ name) ++ bytes) c.mid c.to ≡ bytes =
+    slice_range-last (room ++ name) bytes c.mid c.to (omega (arith, length-append room name))
+    (omega (arith, length-append room name)) in
     let d : done_in ((room ++ name) ++ bytes) c ≡ record { kind = c.kind; name = name; bytes = bytes } = rw (n, b) in
-    map-append (done_in ((room ++ name) ++ bytes)) calls (c ∷ []) ∙ (ap (λ ds. ds ++ done_in ((room ++ name) ++ bytes) c ∷ []) old ∙ ap (λ x. all_done room calls ++ x ∷ []) d)
+    map-append (done_in ((room ++ name) ++ bytes)) calls (c ∷ [])
+    ∙ (ap (λ ds. ds ++ done_in ((room ++ name) ++ bytes) c ∷ []) old ∙ ap (λ x. all_done room calls ++ x ∷ []) d)
 
-pub laid-push : (calls : List Call) (c : Call) (start mid end : ℕ) → AreLaid calls start mid → c.from ≡ mid → c.from ≤ c.mid → c.mid ≤ c.to → c.to ≡ end → AreLaid (calls ++ c ∷ []) start end
+pub laid-push : (calls : List Call) (c : Call) (start mid end : ℕ) → AreLaid calls start mid → c.from ≡ mid →
+    c.from ≤ c.mid → c.mid ≤ c.to → c.to ≡ end → AreLaid (calls ++ c ∷ []) start end
 laid-push [] c start mid end h from low high to = (omega arith, low, high, omega arith)
 laid-push (x ∷ calls) c start mid end h from low high to = (h.0, h.1, h.2, laid-push calls c x.to mid end h.3 from low high to)
 
 -- each of the calls lies in the room
-pub laid-at : (calls : List Call) (start end k : ℕ) (d : Call) → AreLaid calls start end → k < length calls → ((get_or calls k d).from ≤ (get_or calls k d).mid) × ((get_or calls k d).mid ≤ (get_or calls k d).to) × ((get_or calls k d).to ≤ end)
+pub laid-at : (calls : List Call) (start end k : ℕ) (d : Call) → AreLaid calls start end → k < length calls →
+    ((get_or calls k d).from ≤ (get_or calls k d).mid) × ((get_or calls k d).mid ≤ (get_or calls k d).to)
+    × ((get_or calls k d).to ≤ end)
 laid-at [] start end k d h low = absurd (omega arith)
 laid-at (c ∷ calls) start end zero d h low = (h.1, h.2, laid_low calls c.to end h.3)
 laid-at (c ∷ calls) start end (suc k) d h low = laid-at calls c.to end k d h.3 (omega arith)
 
 -- one call more of those in the room
-pub done-next : (room : List ℕ) (calls : List Call) (k : ℕ) (d : Call) → k < length calls → all_done room (take (k + 1) calls) ≡ all_done room (take k calls) ++ done_in room (get_or calls k d) ∷ []
+pub done-next : (room : List ℕ) (calls : List Call) (k : ℕ) (d : Call) → k < length calls →
+    all_done room (take (k + 1) calls) ≡ all_done room (take k calls) ++ done_in room (get_or calls k d) ∷ []
 done-next room calls k d low =
     ap (all_done room) (take_more calls k d low) ∙ map-append (done_in room) (take k calls) (get_or calls k d ∷ [])
 
 -- the next call lies behind those before it
-pub laid-next : (calls : List Call) (k start end : ℕ) (d : Call) → k < length calls → AreLaid (drop k calls) start end → AreLaid (get_or calls k d ∷ drop (k + 1) calls) start end
+pub laid-next : (calls : List Call) (k start end : ℕ) (d : Call) → k < length calls → AreLaid (drop k calls) start end →
+    AreLaid (get_or calls k d ∷ drop (k + 1) calls) start end
 laid-next calls k start end d low h = subst (λ l. AreLaid l start end) (drop_more calls k d low) h
 
 -- the calls lie behind any earlier place too

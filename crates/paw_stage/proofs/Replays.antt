@@ -1,5 +1,6 @@
 -- The moments of one call more in a record of calls.
-use Rattle.std.proofs.Common.{◌≡◌, ◌⊎◌, ℕ, zero, suc, ◌≤◌, List, [], ◌∷◌, ◌++◌, length, take, drop, inl, inr, refl, sym, ap, ◌∙◌, subst, arith, append-nil, length-append}
+use Rattle.std.proofs.Common.{◌≡◌, ◌⊎◌, ℕ, zero, suc, ◌≤◌, List, [], ◌∷◌, ◌++◌, length, take, drop, inl, inr, refl, sym, ap, ◌∙◌, subst, arith, append-nil}
+use Rattle.std.proofs.Common.{length-append}
 use Rattle.std.specs.Prelude.{Some}
 use Rattle.std.proofs.Math.Seq.{take-length}
 use Rattle.paw_stage.specs.Stage.{Standing}
@@ -70,7 +71,9 @@ passes ds d =
       nothing_else = λ t m low h. elim h [
         | inl k ↦ inr (ends d.kind d.name d.bytes (after fresh ds) m (subst (λ s. m ≡ moment_of s) (after-push fresh ds d) k))
         | inr k ↦ let q = take_push t ds d low in
-            elim (split (after fresh (take t ds)) (drop t ds) d m (subst (λ l. StoodInside (after fresh (take t ds)) l m) q.1 (subst (λ l. StoodInside (after fresh l) (drop t (ds ++ d ∷ [])) m) q.0 k))) [
+            elim (split (after fresh (take t ds)) (drop t ds) d m
+            (subst (λ l. StoodInside (after fresh (take t ds)) l m) q.1
+            (subst (λ l. StoodInside (after fresh l) (drop t (ds ++ d ∷ [])) m) q.0 k))) [
               | inl j ↦ inl (inr j)
               | inr j ↦ inr (subst (λ s. StandsInside s d m) (after_split fresh t ds) j)
             ]
@@ -78,7 +81,9 @@ passes ds d =
       keeps = λ t m low h. inr (let q = take_push t ds d low in
           subst (λ l. StoodInside (after fresh l) (drop t (ds ++ d ∷ [])) m) (sym q.0) (subst (λ l. StoodInside (after fresh (take t ds)) l m) (sym q.1)
           (elim h [
-            | inl k ↦ last (after fresh (take t ds)) (drop t ds) d m (begins d.kind d.name d.bytes (after (after fresh (take t ds)) (drop t ds)) m (subst (λ s. m ≡ moment_of s) (sym (after_split fresh t ds)) k))
+            | inl k ↦ last (after fresh (take t ds)) (drop t ds) d m
+            (begins d.kind d.name d.bytes (after (after fresh (take t ds)) (drop t ds)) m
+            (subst (λ s. m ≡ moment_of s) (sym (after_split fresh t ds)) k))
             | inr k ↦ first (after fresh (take t ds)) (drop t ds) d m k
           ])));
     }

@@ -1,5 +1,6 @@
 -- What is seen of a file after one call more.
-use Rattle.std.proofs.Common.{◌≡◌, inl, inr, ℕ, ◌+◌, ◌≤◌, ◌<◌, Bool, true, false, List, [], ◌∷◌, length, take, drop, max, min, refl, sym, ap, ◌∙◌, subst, arith, slice_index}
+use Rattle.std.proofs.Common.{◌≡◌, inl, inr, ℕ, ◌+◌, ◌≤◌, ◌<◌, Bool, true, false, List, [], ◌∷◌, length, take, drop, max, min, refl, sym, ap, ◌∙◌, subst, arith}
+use Rattle.std.proofs.Common.{slice_index}
 use Rattle.std.specs.Prelude.{Option, Some, None, is_some, if◌then◌else◌}
 use Rattle.std.specs.Str.{bytes_eq}
 use Rattle.std.proofs.lemmas.Slice.Eq.{bytes_eq-Decides}
@@ -15,7 +16,8 @@ use Rattle.paw_stage.proofs.Names.{holds_same}
 use Rattle.paw_stage.proofs.Writes.{length-put, index-put, where_is, laid_before, laid_in, laid_behind}
 
 -- the store's bytes stay those of its file
-either_filed : (b : Bool) (o : Option (List ℕ)) (bytes : List ℕ) (d : Disk) → o ≡ Some d.bytes → (if b then Some bytes else o) ≡ Some (if b then stable bytes else d).bytes
+either_filed : (b : Bool) (o : Option (List ℕ)) (bytes : List ℕ) (d : Disk) → o ≡ Some d.bytes →
+    (if b then Some bytes else o) ≡ Some (if b then stable bytes else d).bytes
 either_filed true o bytes d h = refl
 either_filed false o bytes d h = h
 
@@ -36,7 +38,8 @@ stepped_filed kind.Add name bytes s h n e = saved_filed s name bytes h n e
 stepped_filed kind.Load name bytes s h n e = h n e
 stepped_filed kind.Save name bytes s h n e = saved_filed s name bytes h n e
 stepped_filed kind.Attach name bytes s h n e =
-    subst (λ m. made_if_missing name (s.files name) s.files m ≡ Some (bytes_or_none (s.files name))) (some_same name n e) (made_gives (s.files name) s.files name refl)
+    subst (λ m. made_if_missing name (s.files name) s.files m ≡ Some (bytes_or_none (s.files name)))
+    (some_same name n e) (made_gives (s.files name) s.files name refl)
 stepped_filed kind.Read name bytes s h n e = h n e
 stepped_filed (kind.Write at) name bytes s h n e =
     ap (λ a. held a (put at bytes s.disk.bytes) s.files n) e ∙ holds_same n (Some (put at bytes s.disk.bytes)) s.files
@@ -72,7 +75,8 @@ written_bytes place at bytes old into new j low within seen e =
           laid_behind p bytes (at + j) (slice_index into j) h ∙ (seen (omega arith) ∙ sym (laid_behind p bytes (at + j) (slice_index old (at + j)) h))
     ] ∙ sym (index-put place bytes old (at + j)))
 
-pub sees_written : (s : Standing) (name : List ℕ) (at place : ℕ) (bytes into new : List ℕ) (seen now : Seen) → IsFiled s → Sees s name at seen into → seen.attached ≡ true
+pub sees_written : (s : Standing) (name : List ℕ) (at place : ℕ) (bytes into new : List ℕ) (seen now : Seen) →
+    IsFiled s → Sees s name at seen into → seen.attached ≡ true
     → now ≡ record { here = seen.here; attached = seen.attached; len = max seen.len (min place seen.len + length bytes) }
     → length new ≡ length into
     → ((j : ℕ) → j < length into → slice_index new j ≡ laid_over (min place seen.len) bytes (at + j) (slice_index into j))
@@ -81,9 +85,11 @@ sees_written s name at place bytes into new seen now filed h on is same laid =
     let old : List ℕ = s.disk.bytes in
     let a : s.attached ≡ Some name = attached_is s.attached name (sym h.attached ∙ on) in
     let f : s.files name ≡ Some old = filed name a in
-    let g : held s.attached (put place bytes old) s.files name ≡ Some (put place bytes old) = ap (λ o. held o (put place bytes old) s.files name) a ∙ holds_same name (Some (put place bytes old)) s.files in
+    let g : held s.attached (put place bytes old) s.files name ≡ Some (put place bytes old) =
+    ap (λ o. held o (put place bytes old) s.files name) a ∙ holds_same name (Some (put place bytes old)) s.files in
     let n : seen.len ≡ length old = h.len ∙ ap (λ o. length (bytes_or_none o)) f in
-    let len : now.len ≡ max (length old) (min place (length old) + length bytes) = ap (λ (x : Seen). x.len) is ∙ ap (λ k. max k (min place k + length bytes)) n in
+    let len : now.len ≡ max (length old) (min place (length old) + length bytes) =
+    ap (λ (x : Seen). x.len) is ∙ ap (λ k. max k (min place k + length bytes)) n in
     record {
       here = ap (λ (x : Seen). x.here) is ∙ (h.here ∙ (ap is_some f ∙ sym (ap is_some g)));
       attached = ap (λ (x : Seen). x.attached) is ∙ h.attached;
@@ -96,7 +102,9 @@ sees_written s name at place bytes into new seen now filed h on is same laid =
     }
 
 -- a slice that the file's bytes fill
-pub filled : (s : Standing) (name : List ℕ) (at n : ℕ) (seen : Seen) (into : List ℕ) → Sees s name at seen into → length into ≡ n → at + n ≤ length (bytes_or_none (s.files name)) → into ≡ take n (drop at (bytes_or_none (s.files name)))
+pub filled : (s : Standing) (name : List ℕ) (at n : ℕ) (seen : Seen) (into : List ℕ) → Sees s name at seen into →
+    length into ≡ n → at + n ≤ length (bytes_or_none (s.files name)) →
+    into ≡ take n (drop at (bytes_or_none (s.files name)))
 filled s name at n seen into h size within =
     let bytes : List ℕ = bytes_or_none (s.files name) in
     let long : length (take n (drop at bytes)) ≡ n = omega (arith, length-take n (drop at bytes), length-drop at bytes) in

@@ -1,5 +1,6 @@
 -- The attached store after one call more.
-use Rattle.std.proofs.Common.{◌≡◌, ◌≢◌, ◌⊎◌, inl, inr, ℕ, ◌+◌, Bool, true, false, List, [], ◌∷◌, ◌++◌, length, take, drop, refl, sym, ap, ◌∙◌, subst, arith, length-append}
+use Rattle.std.proofs.Common.{◌≡◌, ◌≢◌, ◌⊎◌, inl, inr, ℕ, ◌+◌, Bool, true, false, List, [], ◌∷◌, ◌++◌, length, take, drop, refl, sym, ap, ◌∙◌, subst, arith}
+use Rattle.std.proofs.Common.{length-append}
 use Rattle.std.specs.Prelude.{Option, Some, None, ◌||◌, if◌then◌else◌}
 use Rattle.std.specs.Str.{bytes_eq}
 use Rattle.std.proofs.lemmas.List.{take-append-le, drop-append-le, take_all, length-drop}
@@ -30,11 +31,15 @@ or_grouped false b c = refl
 pub is_written-push : (ds : List Done) (d : Done) (i : ℕ) → is_written (ds ++ d ∷ []) i ≡ (is_written ds i || writes d.kind (length d.bytes) i)
 is_written-push [] d i = or_false (writes d.kind (length d.bytes) i)
 is_written-push (x ∷ ds) d i =
-    ap (λ b. writes x.kind (length x.bytes) i || b) (is_written-push ds d i) ∙ or_grouped (writes x.kind (length x.bytes) i) (is_written ds i) (writes d.kind (length d.bytes) i)
+    ap (λ b. writes x.kind (length x.bytes) i || b) (is_written-push ds d i)
+    ∙ or_grouped (writes x.kind (length x.bytes) i) (is_written ds i) (writes d.kind (length d.bytes) i)
 
 -- a call that neither attaches nor syncs
-kept_store : (ds : List Done) (d : Done) (name : List ℕ) (n : ℕ) → IsStore ds name n → (step (after fresh ds) d).attached ≡ (after fresh ds).attached → (step (after fresh ds) d).disk.synced ≡ (after fresh ds).disk.synced
-    → ((i : ℕ) → is_dirty (step (after fresh ds) d).disk.dirty i ≡ (writes d.kind (length d.bytes) i || is_dirty (after fresh ds).disk.dirty i)) → IsStore (ds ++ d ∷ []) name n
+kept_store : (ds : List Done) (d : Done) (name : List ℕ) (n : ℕ) → IsStore ds name n →
+    (step (after fresh ds) d).attached ≡ (after fresh ds).attached →
+    (step (after fresh ds) d).disk.synced ≡ (after fresh ds).disk.synced
+    → ((i : ℕ) → is_dirty (step (after fresh ds) d).disk.dirty i
+    ≡ (writes d.kind (length d.bytes) i || is_dirty (after fresh ds).disk.dirty i)) → IsStore (ds ++ d ∷ []) name n
 kept_store ds d name n h ea es ed =
     let last : after fresh (ds ++ d ∷ []) ≡ step (after fresh ds) d = after-push fresh ds d in
     let front : take n (ds ++ d ∷ []) ≡ take n ds = take-append-le n ds (d ∷ []) h.within in
@@ -46,11 +51,13 @@ kept_store ds d name n h ea es ed =
       synced = ap (λ l. (after fresh l).disk.bytes) front ∙ (h.synced ∙ sym (ap (λ (s : Standing). s.disk.synced) last ∙ es));
       dirty = λ i.
           ap (λ (s : Standing). is_dirty s.disk.dirty i) last ∙ (ed i ∙ (ap (λ b. writes d.kind (length d.bytes) i || b) (h.dirty i)
-          ∙ (or_turned (writes d.kind (length d.bytes) i) (is_written (drop n ds) i) ∙ (sym (is_written-push (drop n ds) d i) ∙ sym (ap (λ l. is_written l i) back)))));
+          ∙ (or_turned (writes d.kind (length d.bytes) i) (is_written (drop n ds) i)
+          ∙ (sym (is_written-push (drop n ds) d i) ∙ sym (ap (λ l. is_written l i) back)))));
     }
 
 -- a call after which all of the store's bytes are synced
-settled_store : (ds : List Done) (d : Done) (name bytes : List ℕ) → (step (after fresh ds) d).attached ≡ Some name → (step (after fresh ds) d).disk ≡ stable bytes → IsStore (ds ++ d ∷ []) name (length ds + 1)
+settled_store : (ds : List Done) (d : Done) (name bytes : List ℕ) → (step (after fresh ds) d).attached ≡ Some name →
+    (step (after fresh ds) d).disk ≡ stable bytes → IsStore (ds ++ d ∷ []) name (length ds + 1)
 settled_store ds d name bytes ea ed =
     let last : after fresh (ds ++ d ∷ []) ≡ step (after fresh ds) d = after-push fresh ds d in
     let size : length (ds ++ d ∷ []) ≡ length ds + 1 = length-append ds (d ∷ []) in
@@ -80,18 +87,24 @@ IsQuiet kind.Attach = ⊥
 IsQuiet kind.Sync = ⊥
 IsQuiet _ = Unit {0}
 
-kept_finds : (room : List ℕ) (ds : List Done) (d : Done) (store : Option Store) → FindsStore room ds store → (step (after fresh ds) d).attached ≡ (after fresh ds).attached → (step (after fresh ds) d).disk.synced ≡ (after fresh ds).disk.synced
-    → ((i : ℕ) → is_dirty (step (after fresh ds) d).disk.dirty i ≡ (writes d.kind (length d.bytes) i || is_dirty (after fresh ds).disk.dirty i)) → FindsStore room (ds ++ d ∷ []) store
+kept_finds : (room : List ℕ) (ds : List Done) (d : Done) (store : Option Store) → FindsStore room ds store →
+    (step (after fresh ds) d).attached ≡ (after fresh ds).attached →
+    (step (after fresh ds) d).disk.synced ≡ (after fresh ds).disk.synced
+    → ((i : ℕ) → is_dirty (step (after fresh ds) d).disk.dirty i
+    ≡ (writes d.kind (length d.bytes) i || is_dirty (after fresh ds).disk.dirty i)) →
+    FindsStore room (ds ++ d ∷ []) store
 kept_finds room ds d None h ea es ed = ap (λ (s : Standing). s.attached) (after-push fresh ds d) ∙ (ea ∙ h)
 kept_finds room ds d (Some store) h ea es ed = (h.0, kept_store ds d _ store.synced h.1 ea es ed)
 
-pub quiet_finds : (room : List ℕ) (ds : List Done) (k : Kind) (name bytes : List ℕ) (store : Option Store) → IsQuiet k → FindsStore room ds store → FindsStore room (ds ++ record { kind = k; name = name; bytes = bytes } ∷ []) store
+pub quiet_finds : (room : List ℕ) (ds : List Done) (k : Kind) (name bytes : List ℕ) (store : Option Store) → IsQuiet k →
+    FindsStore room ds store → FindsStore room (ds ++ record { kind = k; name = name; bytes = bytes } ∷ []) store
 quiet_finds room ds kind.Add name bytes store q h = absurd q
 quiet_finds room ds kind.Load name bytes store q h = kept_finds room ds (record { kind = kind.Load; name = name; bytes = bytes }) store h refl refl (λ i. refl)
 quiet_finds room ds kind.Save name bytes store q h = absurd q
 quiet_finds room ds kind.Attach name bytes store q h = absurd q
 quiet_finds room ds kind.Read name bytes store q h = kept_finds room ds (record { kind = kind.Read; name = name; bytes = bytes }) store h refl refl (λ i. refl)
-quiet_finds room ds (kind.Write at) name bytes store q h = kept_finds room ds (record { kind = kind.Write at; name = name; bytes = bytes }) store h refl refl (λ i. refl)
+quiet_finds room ds (kind.Write at) name bytes store q h =
+    kept_finds room ds (record { kind = kind.Write at; name = name; bytes = bytes }) store h refl refl (λ i. refl)
 quiet_finds room ds kind.Sync name bytes store q h = absurd q
 quiet_finds room ds kind.Take name bytes store q h = kept_finds room ds (record { kind = kind.Take; name = name; bytes = bytes }) store h refl refl (λ i. refl)
 quiet_finds room ds kind.End name bytes store q h = kept_finds room ds (record { kind = kind.End; name = name; bytes = bytes }) store h refl refl (λ i. refl)
@@ -106,37 +119,55 @@ if_not : (b : Bool) (x y : Disk) → (b ≡ true → ⊥) → (if b then x else 
 if_not true x y n = absurd (n refl)
 if_not false x y n = refl
 
-other_disk : (s : Standing) (name other bytes : List ℕ) → s.attached ≡ Some name → other ≢ name → (if is_attached s.attached other then stable bytes else s.disk) ≡ s.disk
+other_disk : (s : Standing) (name other bytes : List ℕ) → s.attached ≡ Some name → other ≢ name →
+    (if is_attached s.attached other then stable bytes else s.disk) ≡ s.disk
 other_disk s name other bytes e ne =
-    ap (λ a. if is_attached a other then stable bytes else s.disk) e ∙ if_not (bytes_eq name other) (stable bytes) s.disk (λ t. ne (sym ((bytes_eq-Decides name other).0 t)))
+    ap (λ a. if is_attached a other then stable bytes else s.disk) e
+    ∙ if_not (bytes_eq name other) (stable bytes) s.disk (λ t. ne (sym ((bytes_eq-Decides name other).0 t)))
 
-saved_same : (ds : List Done) (k : Kind) (name bytes : List ℕ) (n : ℕ) → (k ≡ kind.Add) ⊎ (k ≡ kind.Save) → IsStore ds name n → IsStore (ds ++ record { kind = k; name = name; bytes = bytes } ∷ []) name (length ds + 1)
+saved_same : (ds : List Done) (k : Kind) (name bytes : List ℕ) (n : ℕ) → (k ≡ kind.Add) ⊎ (k ≡ kind.Save) →
+    IsStore ds name n → IsStore (ds ++ record { kind = k; name = name; bytes = bytes } ∷ []) name (length ds + 1)
 saved_same ds k name bytes n w h =
     let disk = same_disk (after fresh ds) name bytes h.attached in
     elim w [
-      | inl e ↦ subst (λ x. IsStore (ds ++ record { kind = x; name = name; bytes = bytes } ∷ []) name (length ds + 1)) (sym e) (settled_store ds (record { kind = kind.Add; name = name; bytes = bytes }) name bytes h.attached disk)
-      | inr e ↦ subst (λ x. IsStore (ds ++ record { kind = x; name = name; bytes = bytes } ∷ []) name (length ds + 1)) (sym e) (settled_store ds (record { kind = kind.Save; name = name; bytes = bytes }) name bytes h.attached disk)
+      | inl e ↦ subst (λ x. IsStore (ds ++ record { kind = x; name = name; bytes = bytes } ∷ []) name (length ds + 1))
+      (sym e) (settled_store ds (record { kind = kind.Add; name = name; bytes = bytes }) name bytes h.attached disk)
+      | inr e ↦ subst (λ x. IsStore (ds ++ record { kind = x; name = name; bytes = bytes } ∷ []) name (length ds + 1))
+      (sym e) (settled_store ds (record { kind = kind.Save; name = name; bytes = bytes }) name bytes h.attached disk)
     ]
 
-pub saved_here : (ds : List Done) (k : Kind) (called name bytes : List ℕ) (n done : ℕ) → called ≡ name → done ≡ length ds + 1 → (k ≡ kind.Add) ⊎ (k ≡ kind.Save) → IsStore ds name n → IsStore (ds ++ record { kind = k; name = called; bytes = bytes } ∷ []) name done
+pub saved_here : (ds : List Done) (k : Kind) (called name bytes : List ℕ) (n done : ℕ) → called ≡ name →
+    done ≡ length ds + 1 → (k ≡ kind.Add) ⊎ (k ≡ kind.Save) → IsStore ds name n →
+    IsStore (ds ++ record { kind = k; name = called; bytes = bytes } ∷ []) name done
 saved_here ds k called name bytes n done e count w h =
-    subst (λ x. IsStore (ds ++ record { kind = k; name = called; bytes = bytes } ∷ []) name x) (sym count) (subst (λ x. IsStore (ds ++ record { kind = k; name = x; bytes = bytes } ∷ []) name (length ds + 1)) (sym e) (saved_same ds k name bytes n w h))
+    subst (λ x. IsStore (ds ++ record { kind = k; name = called; bytes = bytes } ∷ []) name x) (sym count)
+    (subst (λ x. IsStore (ds ++ record { kind = k; name = x; bytes = bytes } ∷ []) name (length ds + 1)) (sym e)
+    (saved_same ds k name bytes n w h))
 
-pub saved_other : (ds : List Done) (k : Kind) (name other bytes : List ℕ) (n : ℕ) → (k ≡ kind.Add) ⊎ (k ≡ kind.Save) → other ≢ name → IsStore ds name n → IsStore (ds ++ record { kind = k; name = other; bytes = bytes } ∷ []) name n
+pub saved_other : (ds : List Done) (k : Kind) (name other bytes : List ℕ) (n : ℕ) → (k ≡ kind.Add) ⊎ (k ≡ kind.Save) →
+    other ≢ name → IsStore ds name n → IsStore (ds ++ record { kind = k; name = other; bytes = bytes } ∷ []) name n
 saved_other ds k name other bytes n w ne h =
     let disk = other_disk (after fresh ds) name other bytes h.attached ne in
     let synced = ap (λ (d : Disk). d.synced) disk in
     let dirty = λ (i : ℕ). ap (λ (d : Disk). is_dirty d.dirty i) disk in
     elim w [
-      | inl e ↦ subst (λ x. IsStore (ds ++ record { kind = x; name = other; bytes = bytes } ∷ []) name n) (sym e) (kept_store ds (record { kind = kind.Add; name = other; bytes = bytes }) name n h refl synced dirty)
-      | inr e ↦ subst (λ x. IsStore (ds ++ record { kind = x; name = other; bytes = bytes } ∷ []) name n) (sym e) (kept_store ds (record { kind = kind.Save; name = other; bytes = bytes }) name n h refl synced dirty)
+      | inl e ↦ subst (λ x. IsStore (ds ++ record { kind = x; name = other; bytes = bytes } ∷ []) name n) (sym e)
+      (kept_store ds (record { kind = kind.Add; name = other; bytes = bytes }) name n h refl synced dirty)
+      | inr e ↦ subst (λ x. IsStore (ds ++ record { kind = x; name = other; bytes = bytes } ∷ []) name n) (sym e)
+      (kept_store ds (record { kind = kind.Save; name = other; bytes = bytes }) name n h refl synced dirty)
     ]
 
 -- no store is attached by saving
-pub saved_none : (ds : List Done) (k : Kind) (name bytes : List ℕ) → (k ≡ kind.Add) ⊎ (k ≡ kind.Save) → (after fresh ds).attached ≡ None → (after fresh (ds ++ record { kind = k; name = name; bytes = bytes } ∷ [])).attached ≡ None
+pub saved_none : (ds : List Done) (k : Kind) (name bytes : List ℕ) → (k ≡ kind.Add) ⊎ (k ≡ kind.Save) →
+    (after fresh ds).attached ≡ None → (after fresh
+    (ds ++ record { kind = k; name = name; bytes = bytes } ∷ [])).attached ≡ None
 saved_none ds k name bytes w h = elim w [
-  | inl e ↦ subst (λ x. (after fresh (ds ++ record { kind = x; name = name; bytes = bytes } ∷ [])).attached ≡ None) (sym e) (ap (λ (s : Standing). s.attached) (after-push fresh ds (record { kind = kind.Add; name = name; bytes = bytes })) ∙ h)
-  | inr e ↦ subst (λ x. (after fresh (ds ++ record { kind = x; name = name; bytes = bytes } ∷ [])).attached ≡ None) (sym e) (ap (λ (s : Standing). s.attached) (after-push fresh ds (record { kind = kind.Save; name = name; bytes = bytes })) ∙ h)
+  | inl e ↦ subst (λ x. (after fresh (ds ++ record { kind = x; name = name; bytes = bytes } ∷ [])).attached ≡ None)
+      (sym e) (ap (λ (s : Standing). s.attached)
+      (after-push fresh ds (record { kind = kind.Add; name = name; bytes = bytes })) ∙ h)
+  | inr e ↦ subst (λ x. (after fresh (ds ++ record { kind = x; name = name; bytes = bytes } ∷ [])).attached ≡ None)
+      (sym e) (ap (λ (s : Standing). s.attached)
+      (after-push fresh ds (record { kind = kind.Save; name = name; bytes = bytes })) ∙ h)
 ]
 
 -- the name of the attached store stands in the room

@@ -3,7 +3,8 @@ use Rattle.std.proofs.Common.{ℕ, inl, inr, arith}
 use Rattle.paw_stage.specs.Moments.{Moment, Passes}
 
 -- a weaker word for what stands inside a call
-pub Passes_map : (b n : ℕ) (past since : ℕ → Moment → Type 0) (P Q : Moment → Type 0) → Passes b n past since P → ((m : Moment) → P m → Q m) → Passes b n past since Q
+pub Passes_map : (b n : ℕ) (past since : ℕ → Moment → Type 0) (P Q : Moment → Type 0) → Passes b n past since P →
+    ((m : Moment) → P m → Q m) → Passes b n past since Q
 Passes_map b n past since P Q h f = record {
   later = h.later;
   nothing_else = λ t m low now. elim (h.nothing_else t m low now) [ inl q ↦ inl q | inr q ↦ inr (f m q) ];
@@ -11,7 +12,8 @@ Passes_map b n past since P Q h f = record {
 }
 
 -- two calls, one after the other
-pub Passes_on : (b n n' : ℕ) (past since since' : ℕ → Moment → Type 0) (P Q : Moment → Type 0) → Passes b n past since P → Passes n n' since since' Q → ((m : Moment) → Q m → P m) → Passes b n' past since' P
+pub Passes_on : (b n n' : ℕ) (past since since' : ℕ → Moment → Type 0) (P Q : Moment → Type 0) →
+    Passes b n past since P → Passes n n' since since' Q → ((m : Moment) → Q m → P m) → Passes b n' past since' P
 Passes_on b n n' past since since' P Q h k f = record {
   later = omega (arith, h.later, k.later);
   nothing_else = λ t m low now. elim (k.nothing_else t m (omega (arith, h.later)) now) [ inl q ↦ h.nothing_else t m low q | inr q ↦ inr (f m q) ];

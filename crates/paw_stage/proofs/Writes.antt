@@ -1,15 +1,19 @@
 -- Bytes of a store that was written to.
-use Rattle.std.proofs.Common.{◌≡◌, ◌⊎◌, inl, inr, ℕ, ◌+◌, ◌-◌, ◌≤◌, ◌<◌, true, false, List, ◌++◌, length, take, drop, min, max, sym, ap, ◌∙◌, arith, length-append, get_or, slice_index}
+use Rattle.std.proofs.Common.{◌≡◌, ◌⊎◌, inl, inr, ℕ, ◌+◌, ◌-◌, ◌≤◌, ◌<◌, true, false, List, ◌++◌, length, take, drop, min, max, sym, ap, ◌∙◌, arith}
+use Rattle.std.proofs.Common.{length-append, get_or, slice_index}
 use Rattle.std.specs.Prelude.{nat_le, nat_lt, ◌&&◌, if◌then◌else◌, replicate}
 use Rattle.std.proofs.lemmas.Bool.Decides.{nat_tests}
-use Rattle.std.proofs.lemmas.List.{get_or-append_right, get_or-take, get_or-drop, get_or_past, length-take, length-drop, get_or_append_left, get_or-replicate, length-replicate}
+use Rattle.std.proofs.lemmas.List.{get_or-append_right, get_or-take, get_or-drop, get_or_past, length-take, length-drop, get_or_append_left, get_or-replicate}
+use Rattle.std.proofs.lemmas.List.{length-replicate}
 use Rattle.paw_stage.specs.Crash.{spoiled_if}
 use Rattle.paw_stage.specs.Disk.{put}
 use Rattle.paw_stage.specs.Seen.{laid_over}
 
 pub length-put : (at : ℕ) (new old : List ℕ) → length (put at new old) ≡ max (length old) (min at (length old) + length new)
 length-put at new old =
-    let a : length ((take at old ++ new) ++ drop (at + length new) old) ≡ length (take at old ++ new) + length (drop (at + length new) old) = length-append (take at old ++ new) (drop (at + length new) old) in
+    let a : length ((take at old ++ new) ++ drop (at + length new) old)
+    ≡ length (take at old ++ new) + length (drop (at + length new) old) =
+    length-append (take at old ++ new) (drop (at + length new) old) in
     let b : length (take at old ++ new) ≡ length (take at old) + length new = length-append (take at old) new in
     omega (arith, a, b, length-take at old, length-drop (at + length new) old)
 
@@ -35,7 +39,8 @@ behind : (at n : ℕ) (old : List ℕ) (i : ℕ) → min at (length old) + n ≤
 behind at n old i high =
     elim (near at (length old)) [
       | inl h ↦ (let e : at + n + (i - (min at (length old) + n)) ≡ i = omega arith in ap (λ k. get_or old k 0) e)
-      | inr h ↦ (let a : length old ≤ at + n + (i - (min at (length old) + n)) = omega arith in let b : length old ≤ i = omega arith in get_or_past old (at + n + (i - (min at (length old) + n))) 0 a ∙ sym (get_or_past old i 0 b))
+      | inr h ↦ (let a : length old ≤ at + n + (i - (min at (length old) + n)) = omega arith in let b : length old ≤ i =
+      omega arith in get_or_past old (at + n + (i - (min at (length old) + n))) 0 a ∙ sym (get_or_past old i 0 b))
     ]
   where
     near : (a b : ℕ) → (a ≤ b) ⊎ (b ≤ a)
@@ -64,12 +69,16 @@ index-put at new old i =
     ]
 
 -- bytes laid over those that stand from another place on
-pub lays : (place at from to : ℕ) (bytes into new : List ℕ) (j : ℕ) → from ≡ min (at - place) (length bytes) → to ≡ min (place - at) (length into) → new ≡ put to (take (length into - to) (drop from bytes)) into → j < length into → slice_index new j ≡ laid_over place bytes (at + j) (slice_index into j)
+pub lays : (place at from to : ℕ) (bytes into new : List ℕ) (j : ℕ) → from ≡ min (at - place) (length bytes) →
+    to ≡ min (place - at) (length into) → new ≡ put to (take (length into - to) (drop from bytes)) into →
+    j < length into → slice_index new j ≡ laid_over place bytes (at + j) (slice_index into j)
 lays place at from to bytes into new j ef et e low =
     let part : List ℕ = take (length into - to) (drop from bytes) in
-    let n : length part ≡ min (length into - to) (length bytes - from) = omega (arith, length-take (length into - to) (drop from bytes), length-drop from bytes) in
+    let n : length part ≡ min (length into - to) (length bytes - from) =
+    omega (arith, length-take (length into - to) (drop from bytes), length-drop from bytes) in
     let m : min to (length into) ≡ to = omega arith in
-    ap (λ l. slice_index l j) e ∙ (index-put to part into j ∙ (ap (λ k. laid_over k part j (slice_index into j)) m ∙ elim (where_is (at + j) place (length bytes)) [
+    ap (λ l. slice_index l j) e ∙ (index-put to part into j
+    ∙ (ap (λ k. laid_over k part j (slice_index into j)) m ∙ elim (where_is (at + j) place (length bytes)) [
       | inl h ↦
           laid_before to part j (slice_index into j) (omega (arith, n)) ∙ sym (laid_before place bytes (at + j) (slice_index into j) h)
       | inr (inl h) ↦
@@ -83,7 +92,9 @@ lays place at from to bytes into new j ef et e low =
     ]))
 
 -- another value laid over n bytes, as far as they go
-pub spoils : (place p n : ℕ) (store new : List ℕ) (j : ℕ) → p ≡ min place (length store) → new ≡ put p (replicate (min n (length store - p)) 255) store → j < length store → slice_index new j ≡ spoiled_if (nat_le place j && nat_lt j (place + n)) (slice_index store j)
+pub spoils : (place p n : ℕ) (store new : List ℕ) (j : ℕ) → p ≡ min place (length store) →
+    new ≡ put p (replicate (min n (length store - p)) 255) store → j < length store →
+    slice_index new j ≡ spoiled_if (nat_le place j && nat_lt j (place + n)) (slice_index store j)
 spoils place p n store new j ep e low =
     let m : ℕ = min n (length store - p) in
     let gone : List ℕ = replicate m 255 in

@@ -48,7 +48,8 @@ reads_append p d e f ls ms first rest = record {
   printed = list_all-append (list_all is_printed_byte) ls ms ∙ and_from _ _ first.printed rest.printed;
 }
 
-reading_is : (p n : ℕ) (d e : Spelt) (ls : List (List ℕ)) → after_lines p d ls ≡ Ok e → ltb (length e.tables) 3 ≡ false → ltb 4194304 (length (image (game_of e))) ≡ false
+reading_is : (p n : ℕ) (d e : Spelt) (ls : List (List ℕ)) → after_lines p d ls ≡ Ok e →
+    ltb (length e.tables) 3 ≡ false → ltb 4194304 (length (image (game_of e))) ≡ false
     → reading p n d ls ≡ Ok (game_of e)
 unfolding after_lines reading
 reading_is p n d e [] h many small = ap (whole n) (ok_is d e h) ∙ rw (many, small) refl
@@ -59,6 +60,7 @@ reading_is p n d e (l ∷ ls) h many small =
     ] h
 
 -- what lines with three tables spell
-pub reads_whole : (p : ℕ) (d e : Spelt) (ls : List (List ℕ)) → Reads p d ls e → ltb (length e.tables) 3 ≡ false → ltb 4194304 (length (image (game_of e))) ≡ false
+pub reads_whole : (p : ℕ) (d e : Spelt) (ls : List (List ℕ)) → Reads p d ls e → ltb (length e.tables) 3 ≡ false →
+    ltb 4194304 (length (image (game_of e))) ≡ false
     → reading p 0 d ls ≡ Ok (game_of e)
 reads_whole p d e ls h many small = reading_is p 0 d e ls h.is many small

@@ -142,7 +142,8 @@ failed_same (end.Long events) = refl
 failed_same (end.Outside c) = refl
 failed_same end.Memory = refl
 
-pub played_faulted : (o : PlayEnd) (p : Outcome) (first mid last : StageCall → ℕ) → p ≡ outcome_of o → Faulted None first mid → Faulted (play.failed_call o) mid last →
+pub played_faulted : (o : PlayEnd) (p : Outcome) (first mid last : StageCall → ℕ) → p ≡ outcome_of o →
+    Faulted None first mid → Faulted (play.failed_call o) mid last →
     Faulted (failed_call p) first last
 played_faulted o p first mid last e f g = rw (e, failed_same o) (Faulted_on (play.failed_call o) first mid last f g)
 

@@ -22,6 +22,7 @@ comes_back itself image_name source target bytes text old shown before after fil
     let b : held.0 ≡ bytes = cc in
     let c : text ≡ canonical_of g = append_cancel_left old.shown text (canonical_of g) (sym t ∙ ap (λ s. s.shown) e) in
     let i = held.2 in
-    let m : spelled text ≡ Ok g = ap spelled c ∙ itself g i.valid (subst (λ l. length l ≤ 4194304) i.spelled i.short) (subst (λ l. length l ≤ 8388608) c short) in
+    let m : spelled text ≡ Ok g = ap spelled c
+    ∙ itself g i.valid (subst (λ l. length l ≤ 4194304) i.spelled i.short) (subst (λ l. length l ≤ 8388608) c short) in
     let same : image h ≡ bytes = ap image (sym (same_game text spells.0 g h (sym spells.1 ∙ there) spells.2 m)) ∙ sym i.spelled ∙ b in
     subst (λ l. Kept before after target l (image_line (length l))) same f

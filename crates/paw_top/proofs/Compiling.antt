@@ -55,7 +55,8 @@ keeps_so source target g old new _ s k = absurd k.2
 
 -- an image that is kept is compiled, as far as it was kept
 pub keeps_image : (source target given made line : List ℕ) (old mid new : Standing) (o : Outcome) → LoadsSome source 8388608 old mid given →
-    (g : GameLists) × (spelled given ≡ Ok g) × (made ≡ image g) → line ≡ image_line (length made) → Keeps target made line mid new o → Compiles source target old new o
+    (g : GameLists) × (spelled given ≡ Ok g) × (made ≡ image g) → line ≡ image_line (length made) →
+    Keeps target made line mid new o → Compiles source target old new o
 keeps_image source target given made line old mid new o f m l k =
     keeps_so source target m.0 old new o (f.0, f.1, read_whole given f.0 f.2 ∙ m.1)
     (subst (λ s. Keeps target (image m.0) (image_line (length (image m.0))) s new o) f.3

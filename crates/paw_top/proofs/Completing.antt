@@ -65,7 +65,8 @@ not_both s name g at h k = is_some s name g h (k.0, k.1, k.2)
 pub completes_decompile : (name : List ℕ) (old new : Standing) (first last : StageCall → ℕ) (o : Outcome) → decompile.Decompiles name old new o →
     IfOutside o (λ c. IsDecompileCall c × Rose (first c) (last c)) → NoFault first last → CompletesDecompile name old o
 completes_decompile name old new first last _ (decompile.done g s e) out none = record { image = λ h k. tt; other = λ k. absurd (is_some old name g s k) }
-completes_decompile name old new first last _ (decompile.damaged at s e) out none = record { image = λ h k. absurd (not_both old name h at k s); other = λ k. s }
+completes_decompile name old new first last _ (decompile.damaged at s e) out none =
+    record { image = λ h k. absurd (not_both old name h at k s); other = λ k. s }
 completes_decompile name old new first last _ (decompile.absent s e) out none =
     record { image = λ h k. absurd (is_missing _ k.0 s k.1); other = λ k. absurd (is_missing _ k.0 s k.1) }
 completes_decompile name old new first last _ (decompile.unloaded e) out none =
@@ -89,8 +90,10 @@ completes_game name Such old g o s such = record {
 }
 
 -- the game isn't played
-pub completes_unopened : (name : List ℕ) (Such : GameLists → Outcome → Type 0) (Is : StageCall → Type 0) (old new : Standing) (first last : StageCall → ℕ) (o : Outcome) →
-    ((g : GameLists) (at : MemoryAt) → Such g (outcome.Memory at)) → Unopened name old new o → IfOutside o (λ c. Is c × Rose (first c) (last c)) → NoFault first last →
+pub completes_unopened : (name : List ℕ) (Such : GameLists → Outcome → Type 0) (Is : StageCall → Type 0)
+    (old new : Standing) (first last : StageCall → ℕ) (o : Outcome) →
+    ((g : GameLists) (at : MemoryAt) → Such g (outcome.Memory at)) → Unopened name old new o →
+    IfOutside o (λ c. Is c × Rose (first c) (last c)) → NoFault first last →
     CompletesPlay name Such old o
 completes_unopened name Such Is old new first last _ memory (damaged at s e) out none =
     record { image = λ h k. absurd (not_both old name h at k s); other = λ k. s }
@@ -102,7 +105,8 @@ completes_unopened name Such Is old new first last _ memory (wanting at e) out n
     record { image = λ h k. memory h at; other = λ k. tt }
 
 -- a walk comes to its end
-pub is_walked : (Is : StageCall → Type 0) (whole : Reading) (most : ℕ) (old new : Standing) (first last : StageCall → ℕ) (o : PlayEnd) → Walks whole most old new o →
+pub is_walked : (Is : StageCall → Type 0) (whole : Reading) (most : ℕ) (old new : Standing) (first last : StageCall → ℕ)
+    (o : PlayEnd) → Walks whole most old new o →
     IfOutside (outcome_of o) (λ c. Is c × Rose (first c) (last c)) → NoFault first last → IsWalked (outcome_of o)
 is_walked Is whole most old new first last end.Ended w out none = tt
 is_walked Is whole most old new first last end.InputEnded w out none = tt
@@ -114,9 +118,11 @@ is_walked Is whole most old new first last (end.Outside call.Ask) w out none = a
 is_walked Is whole most old new first last (end.Outside call.Show) w out none = absurd (none call.Show (λ q. cc) out.1)
 is_walked Is whole most old new first last _ w out none = absurd w
 
-pub completes_walk : (told : Story → ℕ → Reading) (rows : List (List ℕ)) (name : List ℕ) (seed : ℕ) (old new : Standing) (first last : StageCall → ℕ) (o : Outcome) →
+pub completes_walk : (told : Story → ℕ → Reading) (rows : List (List ℕ)) (name : List ℕ) (seed : ℕ) (old new : Standing)
+    (first last : StageCall → ℕ) (o : Outcome) →
     walk.WalksAs told rows name seed old new o →
     IfOutside o (λ c. IsCall c × Rose (first c) (last c)) → NoFault first last → CompletesPlay name (λ g. IsWalked) old o
 completes_walk told rows name seed old new first last _ (walk.walks g o s w) out none =
     completes_game name (λ g. IsWalked) old g (outcome_of o) s (is_walked IsCall (told (story_of g rows) seed) MOST_EVENTS old new first last o w out none)
-completes_walk told rows name seed old new first last _ (walk.unopened o u) out none = completes_unopened name (λ g. IsWalked) IsCall old new first last o (λ g at. tt) u out none
+completes_walk told rows name seed old new first last _ (walk.unopened o u) out none =
+    completes_unopened name (λ g. IsWalked) IsCall old new first last o (λ g at. tt) u out none

@@ -57,7 +57,8 @@ no_writing : (c : StageCall) → IsWriting c → c ≢ call.LoadAbsent
 no_writing c (inl h) = λ q. cc
 no_writing c (inr h) = λ q. cc
 
-plays_in : (Kept : ℕ → List ℕ → Type 0) (whole : Reading) (name : List ℕ) (old new : Standing) (first last : StageCall → ℕ) (o : PlayEnd) → PlaysIn Kept whole name old new o →
+plays_in : (Kept : ℕ → List ℕ → Type 0) (whole : Reading) (name : List ℕ) (old new : Standing)
+    (first last : StageCall → ℕ) (o : PlayEnd) → PlaysIn Kept whole name old new o →
     IfOutside (outcome_of o) (λ c. IsKeptCall c × Rose (first c) (last c)) → NoFault first last → IsWalked (outcome_of o)
 plays_in Kept whole name old new first last _ (session.memory e) out none = tt
 plays_in Kept whole name old new first last _ (session.spent kind r is e) out none = tt
@@ -70,7 +71,8 @@ occupied_so : (bytes : List ℕ) → 0 < length bytes → CompletesNew bytes (ou
 occupied_so [] h = absurd (omega (arith, h))
 occupied_so (b ∷ bytes) h = refl
 
-plays_new : (Kept : ℕ → List ℕ → Type 0) (whole : Reading) (name : List ℕ) (old new : Standing) (first last : StageCall → ℕ) (o : PlayEnd) → PlaysFirst Kept whole name old new o →
+plays_new : (Kept : ℕ → List ℕ → Type 0) (whole : Reading) (name : List ℕ) (old new : Standing)
+    (first last : StageCall → ℕ) (o : PlayEnd) → PlaysFirst Kept whole name old new o →
     IfOutside (outcome_of o) (λ c. IsKeptCall c × Rose (first c) (last c)) → NoFault first last → CompletesNew (store_bytes old name) (outcome_of o)
 plays_new Kept whole name old new first last _ (session.unattached u) out none = absurd (none call.Attach (λ q. cc) out.1)
 plays_new Kept whole name old new first last _ (session.occupied h e) out none = occupied_so (store_bytes old name) h
@@ -81,12 +83,14 @@ new_memory : (bytes : List ℕ) (at : MemoryAt) → CompletesNew bytes (outcome.
 new_memory [] at = tt
 new_memory (b ∷ bytes) at = tt
 
-pub completes_play : (rows : List (List ℕ)) (name store : List ℕ) (seed : ℕ) (old new : Standing) (first last : StageCall → ℕ) (o : Outcome) → PlaysNewIn rows name store seed old new o →
+pub completes_play : (rows : List (List ℕ)) (name store : List ℕ) (seed : ℕ) (old new : Standing)
+    (first last : StageCall → ℕ) (o : Outcome) → PlaysNewIn rows name store seed old new o →
     IfOutside o (λ c. IsKeptCall c × Rose (first c) (last c)) → NoFault first last → CompletesPlay name (λ g. CompletesNew (store_bytes old store)) old o
 completes_play rows name store seed old new first last _ (top.plays g o s p) out none =
     completes_game name (λ g. CompletesNew (store_bytes old store)) old g (outcome_of o) s (plays_new _ _ store old new first last o p out none)
 completes_play rows name store seed old new first last _ (top.unopened o u) out none =
-    completes_unopened name (λ g. CompletesNew (store_bytes old store)) IsKeptCall old new first last o (λ g at. new_memory (store_bytes old store) at) u out none
+    completes_unopened name (λ g. CompletesNew (store_bytes old store)) IsKeptCall old new first last o
+    (λ g at. new_memory (store_bytes old store) at) u out none
 
 -- ---- a session that is taken up again ----
 
@@ -162,7 +166,8 @@ plays_up g digest name old new first last _ (session.plays_on o st piece h p) ou
 }
 
 plays_again : (g : Story) (digest name : List ℕ) (old new : Standing) (first last : StageCall → ℕ) (o : PlayEnd) → PlaysAgain g digest name old new o →
-    IfOutside (outcome_of o) (λ c. IsKeptCall c × Rose (first c) (last c)) → NoFault first last → CompletesAgain g.game digest (store_bytes old name) (outcome_of o)
+    IfOutside (outcome_of o) (λ c. IsKeptCall c × Rose (first c) (last c)) → NoFault first last →
+    CompletesAgain g.game digest (store_bytes old name) (outcome_of o)
 plays_again g digest name old new first last _ (session.unattached u) out none = absurd (none call.Attach (λ q. cc) out.1)
 plays_again g digest name old new first last _ (session.unread e) out none = absurd (none call.Read (λ q. cc) out.1)
 plays_again g digest name old new first last _ (session.wanting e) out none = again_memory g.game digest (store_bytes old name) memory.Play
@@ -173,10 +178,13 @@ plays_again g digest name old new first last _ (session.refused r h e) out none 
 }
 plays_again g digest name old new first last _ (session.plays_up o p) out none = plays_up g digest name (attached_to old name) new first last o p out none
 
-pub completes_resume : (rows : List (List ℕ)) (name store : List ℕ) (old new : Standing) (first last : StageCall → ℕ) (o : Outcome) → PlaysAgainIn rows name store old new o →
-    IfOutside o (λ c. IsKeptCall c × Rose (first c) (last c)) → NoFault first last → CompletesPlay name (λ g. CompletesAgain g (digest_of g) (store_bytes old store)) old o
+pub completes_resume : (rows : List (List ℕ)) (name store : List ℕ) (old new : Standing) (first last : StageCall → ℕ)
+    (o : Outcome) → PlaysAgainIn rows name store old new o →
+    IfOutside o (λ c. IsKeptCall c × Rose (first c) (last c)) → NoFault first last →
+    CompletesPlay name (λ g. CompletesAgain g (digest_of g) (store_bytes old store)) old o
 completes_resume rows name store old new first last _ (top.plays g o s p) out none =
-    completes_game name (λ h. CompletesAgain h (digest_of h) (store_bytes old store)) old g (outcome_of o) s (plays_again (story_of g rows) (digest_of g) store old new first last o p out none)
+    completes_game name (λ h. CompletesAgain h (digest_of h) (store_bytes old store)) old g (outcome_of o) s
+    (plays_again (story_of g rows) (digest_of g) store old new first last o p out none)
 completes_resume rows name store old new first last _ (top.unopened o u) out none =
     completes_unopened name (λ h. CompletesAgain h (digest_of h) (store_bytes old store)) IsKeptCall old new first last o
     (λ h at. again_memory h (digest_of h) (store_bytes old store) at) u out none

@@ -1,5 +1,6 @@
 -- The printed line of a condact is read as this condact.
-use Rattle.std.proofs.Common.{◌≡◌, ℕ, ◌<◌, ◌≤◌, true, false, ◌||◌, ltb, leb, min, List, [], ◌∷◌, ◌++◌, length, map, Result, Ok, refl, sym, ap, ◌∙◌, inl, inr, arith, length-append}
+use Rattle.std.proofs.Common.{◌≡◌, ℕ, ◌<◌, ◌≤◌, true, false, ◌||◌, ltb, leb, min, List, [], ◌∷◌, ◌++◌, length, map, Result, Ok, refl, sym, ap, ◌∙◌, inl, inr}
+use Rattle.std.proofs.Common.{arith, length-append}
 use Rattle.std.specs.List.{list_all}
 use Rattle.std.proofs.lemmas.Bool.{and_parts, and_from, or_cases, eqb-true, leb-true, ltb-true, le-ltb}
 use Rattle.std.proofs.lemmas.List.{append-nil}
@@ -64,7 +65,8 @@ record ParameterBack (p : ℕ) (g : GameLists) (k : ParamKind) (x : ℕ) : Type 
 below_small : (x n : ℕ) → n ≤ 256 → ltb x n ≡ true → x ≤ 65535
 below_small x n h g = omega (arith, ltb-true x n g)
 
-word_parameter : (p : ℕ) (g : GameLists) (class x : ℕ) → Small p g → is_word_or_none g.words class x ≡ true → ReadsBack (value_token g.words class x) (word_or_none g.words class) x
+word_parameter : (p : ℕ) (g : GameLists) (class x : ℕ) → Small p g → is_word_or_none g.words class x ≡ true →
+    ReadsBack (value_token g.words class x) (word_or_none g.words class) x
 word_parameter p g class x s h = word_or_none_back g.words class x s.words h
 
 place_kept : (x locations : ℕ) → locations ≤ 252 → (ltb x locations || is_within 252 255 x) ≡ true → x ≤ 65535
@@ -130,7 +132,8 @@ pub record CondactBack (p : ℕ) (g : GameLists) (c : Condact) : Type 0 where
   pub read : condacts (bounds p g) g.words 0 (condact_tokens g.words c) ≡ Ok (c ∷ [])
 
 condact-is : (p : ℕ) (g : GameLists) (c : Condact) → IsCode c.code → ParameterBack p g (first_kind c.code) c.a → ParameterBack p g (second_kind c.code) c.b
-    → condact (bounds p g) g.words (name_of c.code) (parameter_tokens g.words (first_kind c.code) c.a ++ parameter_tokens g.words (second_kind c.code) c.b) ≡ Ok (c, [])
+    → condact (bounds p g) g.words (name_of c.code)
+    (parameter_tokens g.words (first_kind c.code) c.a ++ parameter_tokens g.words (second_kind c.code) c.b) ≡ Ok (c, [])
 unfolding condact
 condact-is p g c code a b =
     let second : parameter (bounds p g) g.words (second_kind c.code) (parameter_tokens g.words (second_kind c.code) c.b) ≡ Ok (c.b, []) =
@@ -138,10 +141,13 @@ condact-is p g c code a b =
     rw (code_named-name_of c.code code, a.read (parameter_tokens g.words (second_kind c.code) c.b), second) refl
 
 skipped_both : (p : ℕ) (g : GameLists) (c : Condact) → ParameterBack p g (first_kind c.code) c.a → ParameterBack p g (second_kind c.code) c.b
-    → condacts (bounds p g) g.words (params_of c.code) (parameter_tokens g.words (first_kind c.code) c.a ++ parameter_tokens g.words (second_kind c.code) c.b) ≡ Ok []
+    → condacts (bounds p g) g.words (params_of c.code)
+    (parameter_tokens g.words (first_kind c.code) c.a ++ parameter_tokens g.words (second_kind c.code) c.b) ≡ Ok []
 skipped_both p g c a b =
     let ts : List (List ℕ) = parameter_tokens g.words (first_kind c.code) c.a ++ parameter_tokens g.words (second_kind c.code) c.b in
-    let count : length ts ≡ params_of c.code = length-append (parameter_tokens g.words (first_kind c.code) c.a) (parameter_tokens g.words (second_kind c.code) c.b) ∙ rw (a.count, b.count) refl in
+    let count : length ts ≡ params_of c.code =
+    length-append (parameter_tokens g.words (first_kind c.code) c.a) (parameter_tokens g.words (second_kind c.code) c.b)
+    ∙ rw (a.count, b.count) refl in
     ap (λ n. condacts (bounds p g) g.words n ts) (sym count) ∙ skipped p g ts
 
 condact_read : (p : ℕ) (g : GameLists) (c : Condact) → IsCode c.code → ParameterBack p g (first_kind c.code) c.a → ParameterBack p g (second_kind c.code) c.b
@@ -157,7 +163,8 @@ condact_back p g c s h =
     let a = parameter_back p g (first_kind c.code) c.a s parameters.0 in
     let b = parameter_back p g (second_kind c.code) c.b s parameters.1 in
     record {
-      plain = and_from _ _ (plain-name_of c.code code) (list_all-append is_plain (parameter_tokens g.words (first_kind c.code) c.a) _ ∙ and_from _ _ a.plain b.plain);
+      plain = and_from _ _ (plain-name_of c.code code)
+      (list_all-append is_plain (parameter_tokens g.words (first_kind c.code) c.a) _ ∙ and_from _ _ a.plain b.plain);
       read = condact_read p g c code a b;
     }
 

@@ -1,5 +1,6 @@
 -- A number that is printed is read as that number.
-use Rattle.std.proofs.Common.{◌≡◌, ℕ, ◌<◌, ◌≤◌, ◌+◌, ◌-◌, ◌*◌, ◌/◌, ◌%◌, ◌^◌, Bool, true, false, eqb, leb, cond, List, [], ◌∷◌, ◌++◌, length, length-append, Some, None, Ok, refl, ap, ◌∙◌, arith}
+use Rattle.std.proofs.Common.{◌≡◌, ℕ, ◌<◌, ◌≤◌, ◌+◌, ◌-◌, ◌*◌, ◌/◌, ◌%◌, ◌^◌, Bool, true, false, eqb, leb, cond, List, [], ◌∷◌, ◌++◌, length, length-append}
+use Rattle.std.proofs.Common.{Some, None, Ok, refl, ap, ◌∙◌, arith}
 use Rattle.std.specs.Fmt.{decimal}
 use Rattle.std.specs.List.{list_all}
 use Rattle.std.proofs.lemmas.Bool.{and_from, and_parts, le-leb, leb-true, ne_eqb, not_from_false}
@@ -16,7 +17,8 @@ number_from-push k m d [] h digit =
     let same : k ≡ m = cc in
     rw digit (ap (λ n. Some (n * 10 + (d - 48))) same)
 number_from-push k m d (c ∷ cs) h digit =
-    elim (is_digit c) as (λ v. cond v (number_from (k * 10 + (c - 48)) cs) None ≡ Some m → cond v (number_from (k * 10 + (c - 48)) (cs ++ d ∷ [])) None ≡ Some (m * 10 + (d - 48))) [
+    elim (is_digit c) as (λ v. cond v (number_from (k * 10 + (c - 48)) cs) None ≡ Some m →
+    cond v (number_from (k * 10 + (c - 48)) (cs ++ d ∷ [])) None ≡ Some (m * 10 + (d - 48))) [
       | true ↦ λ g. number_from-push (k * 10 + (c - 48)) m d cs g digit
       | false ↦ λ g. absurd cc
     ] h

@@ -1,5 +1,6 @@
 -- The printed exits of the locations are read as these exits.
-use Rattle.std.proofs.Common.{◌≡◌, ℕ, suc, ◌<◌, ◌≤◌, ◌+◌, ◌-◌, Bool, true, false, not, ◌&&◌, eqb, ltb, leb, List, [], ◌∷◌, ◌++◌, length, replicate, map, Ok, refl, sym, ap, ◌∙◌, arith, length-append}
+use Rattle.std.proofs.Common.{◌≡◌, ℕ, suc, ◌<◌, ◌≤◌, ◌+◌, ◌-◌, Bool, true, false, not, ◌&&◌, eqb, ltb, leb, List, [], ◌∷◌, ◌++◌, length, replicate, map, Ok}
+use Rattle.std.proofs.Common.{refl, sym, ap, ◌∙◌, arith, length-append}
 use Rattle.std.specs.List.{list_all, list_any}
 use Rattle.std.specs.Fmt.{decimal}
 use Rattle.std.proofs.lemmas.Bool.{and_parts, and_from, or_from, or_parts, le-ltb, lt-ltb, ltb-true, eqb-false, ne_eqb, not-true, not_from_false}
@@ -35,7 +36,8 @@ fresh_at_first (x ∷ xs) = fresh_at_first xs
 other_verb : (a b : ℕ) → eqb a b ≡ false → eqb b a ≡ false
 other_verb a b h = ne_eqb b a (λ e. eqb-false a b h (sym e))
 
-fresh_more : (done : List Exit) (x : Exit) (xs : List Exit) → are_fresh done xs ≡ true → list_any (λ y. eqb y.verb x.verb) xs ≡ false → are_fresh (done ++ x ∷ []) xs ≡ true
+fresh_more : (done : List Exit) (x : Exit) (xs : List Exit) → are_fresh done xs ≡ true →
+    list_any (λ y. eqb y.verb x.verb) xs ≡ false → are_fresh (done ++ x ∷ []) xs ≡ true
 fresh_more done x [] h g = refl
 fresh_more done x (y ∷ ys) h g =
     let here = and_parts (not (has_exit y.verb done)) (are_fresh done ys) h in
@@ -54,7 +56,8 @@ record ExitRow (ws : List Word) (locations : ℕ) (done : List Exit) (x : Exit) 
   small : x.to ≤ 65535
   fresh : has_exit x.verb done ≡ false
 
-exit_row-is : (ws : List Word) (locations : ℕ) (done : List Exit) (x : Exit) → ExitRow ws locations done x → exit_row ws locations done (exit_tokens ws x) ≡ Ok (done ++ x ∷ [])
+exit_row-is : (ws : List Word) (locations : ℕ) (done : List Exit) (x : Exit) → ExitRow ws locations done x →
+    exit_row ws locations done (exit_tokens ws x) ≡ Ok (done ++ x ∷ [])
 unfolding exit_row
 exit_row-is ws locations done x r = rw (r.verb.is (decimal x.to ∷ []), number-decimal x.to r.small, r.to, r.fresh) refl
 
@@ -65,7 +68,8 @@ con_row-is d before done x r =
     rw (some, last_or-push [] before done, exit_row-is d.words (length d.locations) done x r)
     (ap (λ (es : List (List Exit)). Ok (record d { exits = es })) (with_last-push (done ++ x ∷ []) before done))
 
-exit_step : (p : ℕ) (d : Spelt) (before : List (List Exit)) (done : List Exit) (x : Exit) → d.section ≡ section.Con → ExitRow d.words (length d.locations) done x
+exit_step : (p : ℕ) (d : Spelt) (before : List (List Exit)) (done : List Exit) (x : Exit) → d.section ≡ section.Con →
+    ExitRow d.words (length d.locations) done x
     → LineReads p (record d { exits = before ++ done ∷ [] }) (spaced (exit_tokens d.words x)) (record d { exits = before ++ (done ++ x ∷ []) ∷ [] })
 exit_step p d before done x at r =
     let e : Spelt = record d { exits = before ++ done ∷ [] } in
@@ -86,11 +90,14 @@ pub record Scene (d : Spelt) : Type 0 where
   pub words : Words d.words
   pub few : length d.locations ≤ 252
 
-exits_rows : (p : ℕ) (d : Spelt) (before : List (List Exit)) (done xs : List Exit) → d.section ≡ section.Con → Scene d → are_exits d.words (length d.locations) xs ≡ true → are_fresh done xs ≡ true
+exits_rows : (p : ℕ) (d : Spelt) (before : List (List Exit)) (done xs : List Exit) → d.section ≡ section.Con → Scene d →
+    are_exits d.words (length d.locations) xs ≡ true → are_fresh done xs ≡ true
     → Reads p (record d { exits = before ++ done ∷ [] }) (map (λ y. spaced (exit_tokens d.words y)) xs) (record d { exits = before ++ (done ++ xs) ∷ [] })
 exits_rows p d before done [] at scene h fresh = rw (append-nil done) (reads_none p (record d { exits = before ++ done ∷ [] }))
 exits_rows p d before done (x ∷ xs) at scene h fresh =
-    let here = and_parts (is_verb_value d.words x.verb && (ltb x.to (length d.locations) && not (list_any (λ y. eqb y.verb x.verb) xs))) (are_exits d.words (length d.locations) xs) h in
+    let here = and_parts (is_verb_value d.words x.verb &&
+    (ltb x.to (length d.locations) && not (list_any (λ y. eqb y.verb x.verb) xs)))
+    (are_exits d.words (length d.locations) xs) h in
     let verb = and_parts (is_verb_value d.words x.verb) (ltb x.to (length d.locations) && not (list_any (λ y. eqb y.verb x.verb) xs)) here.0 in
     let to = and_parts (ltb x.to (length d.locations)) (not (list_any (λ y. eqb y.verb x.verb) xs)) verb.1 in
     let new = and_parts (not (has_exit x.verb done)) (are_fresh done xs) fresh in
@@ -154,12 +161,15 @@ pub record ReadsExits (p : ℕ) (d : Spelt) (es : List (List Exit)) (lines : Lis
   pub reads : Reads p (record d { exits = es }) lines (record d { exits = exits })
   pub filled : Filled exits n all
 
-reads_then : (p : ℕ) (d : Spelt) (es fs : List (List Exit)) (ls ms : List (List ℕ)) (n : ℕ) (all : List (List Exit)) → Reads p (record d { exits = es }) ls (record d { exits = fs })
+reads_then : (p : ℕ) (d : Spelt) (es fs : List (List Exit)) (ls ms : List (List ℕ)) (n : ℕ) (all : List (List Exit)) →
+    Reads p (record d { exits = es }) ls (record d { exits = fs })
     → ReadsExits p d fs ms n all → ReadsExits p d es (ls ++ ms) n all
 reads_then p d es fs ls ms n all first rest = record { exits = rest.exits; reads = reads_append p _ _ _ ls ms first rest.reads; filled = rest.filled }
 
-pub locations_read : (p : ℕ) (d : Spelt) (es all : List (List Exit)) (n m : ℕ) (xss : List (List Exit)) → d.section ≡ section.Con → Scene d → Filled es n all → n ≡ length all → m ≡ n + length xss
-    → m ≤ length d.locations → list_all (is_exits d.words (length d.locations)) xss ≡ true → ReadsExits p d es (numbered (location_lines d.words) n xss) m (all ++ xss)
+pub locations_read : (p : ℕ) (d : Spelt) (es all : List (List Exit)) (n m : ℕ) (xss : List (List Exit)) →
+    d.section ≡ section.Con → Scene d → Filled es n all → n ≡ length all → m ≡ n + length xss
+    → m ≤ length d.locations → list_all (is_exits d.words (length d.locations)) xss ≡ true →
+    ReadsExits p d es (numbered (location_lines d.words) n xss) m (all ++ xss)
 locations_read p d es all n m [] at scene f is end within h =
     let same : m ≡ n = omega arith in
     rw (append-nil all, same) (record { exits = es; reads = reads_none p (record d { exits = es }); filled = f })
@@ -174,6 +184,7 @@ locations_read p d es all n m ((x ∷ xs) ∷ xss) at scene f is end within h =
     let next : suc n ≡ length (all ++ (x ∷ xs) ∷ []) = omega (arith, length-append all ((x ∷ xs) ∷ [])) in
     let item = con_item_step p d es all n at scene f (omega arith) in
     let rows = exits_rows p d all [] (x ∷ xs) at scene these.1 (fresh_at_first (x ∷ xs)) in
-    let rest = locations_read p d (all ++ (x ∷ xs) ∷ []) (all ++ (x ∷ xs) ∷ []) (suc n) m xss at scene (filled_some all n (x ∷ xs) is) next (omega arith) within both.1 in
+    let rest = locations_read p d (all ++ (x ∷ xs) ∷ []) (all ++ (x ∷ xs) ∷ []) (suc n) m xss at scene
+    (filled_some all n (x ∷ xs) is) next (omega arith) within both.1 in
     rw (append_assoc all ((x ∷ xs) ∷ []) xss) at
     (reads_then p d es (all ++ (x ∷ xs) ∷ []) _ _ m _ (reads_line p _ _ _ _ _ item rows) rest)

@@ -42,6 +42,7 @@ pub holds_loaded : (name given : List ℕ) (old new : Standing) (g : GameLists) 
 holds_loaded name given old new g f h = (f.0, f.1, loaded_image given f.0 g f.2 h)
 
 -- or it has their damage
-pub damage_loaded : (name given : List ℕ) (old new : Standing) (at : ℕ) → LoadsSome name 4194304 old new given → ((g : GameLists) → ¬ IsImage given g) → bad given ≡ Some at →
+pub damage_loaded : (name given : List ℕ) (old new : Standing) (at : ℕ) → LoadsSome name 4194304 old new given →
+    ((g : GameLists) → ¬ IsImage given g) → bad given ≡ Some at →
     HoldsDamage old name at
 damage_loaded name given old new at f none h = (f.0, f.1, loaded_none given f.0 f.2 none, loaded_bad given f.0 at f.2 h)

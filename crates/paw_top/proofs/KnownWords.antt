@@ -1,5 +1,6 @@
 -- The token that is printed for a value of a word is read as that value.
-use Rattle.std.proofs.Common.{◌≡◌, ℕ, ◌<◌, ◌≤◌, Bool, true, false, ◌&&◌, ◌||◌, eqb, ltb, leb, cond, List, [], ◌∷◌, Some, None, Result, Ok, Ordering, refl, sym, ap, ◌∙◌, subst, inl, inr, bytes_eq, arith}
+use Rattle.std.proofs.Common.{◌≡◌, ℕ, ◌<◌, ◌≤◌, Bool, true, false, ◌&&◌, ◌||◌, eqb, ltb, leb, cond, List, [], ◌∷◌, Some, None, Result, Ok, Ordering, refl, sym}
+use Rattle.std.proofs.Common.{ap, ◌∙◌, subst, inl, inr, bytes_eq, arith}
 use Rattle.std.specs.List.{list_all, list_any, find}
 use Rattle.std.specs.declared.cmp.Ordering.TheVariants.{Less, Equal, Greater}
 use Rattle.std.specs.Ordering.{is_eq, is_lt, nat_cmp}
@@ -56,7 +57,8 @@ rest_rises w [] h = refl
 rest_rises w (v ∷ vs) h = (and_parts _ (words_rise (v ∷ vs)) h).1
 
 -- what is found after a word stands above it
-found_above : (p : Word → Bool) (v : Word) (vs : List Word) (w : Word) → words_rise (v ∷ vs) ≡ true → find p vs ≡ Some w → slice_cmp nat_cmp v.letters w.letters ≡ Less
+found_above : (p : Word → Bool) (v : Word) (vs : List Word) (w : Word) → words_rise (v ∷ vs) ≡ true →
+    find p vs ≡ Some w → slice_cmp nat_cmp v.letters w.letters ≡ Less
 found_above p v [] w rise h = absurd cc
 found_above p v (u ∷ us) w rise h =
     let both = and_parts (is_lt (slice_cmp nat_cmp v.letters u.letters)) (words_rise (u ∷ us)) rise in
@@ -134,7 +136,8 @@ in_class-is ws class value w f =
     rw f.known_is (rw same (ap Some f.value_is))
 
 -- a value that some word of the class has
-value_back : (ws : List Word) (class value : ℕ) → Words ws → has_word ws class value ≡ true → ReadsBack (value_token ws class value) (word_or_none ws class) value
+value_back : (ws : List Word) (class value : ℕ) → Words ws → has_word ws class value ≡ true →
+    ReadsBack (value_token ws class value) (word_or_none ws class) value
 value_back ws class value words has =
     let found = find_some (means class value) ws has in
     let f = first_is ws class value found.0 words found.1 in
@@ -146,7 +149,8 @@ value_back ws class value words has =
     })
 
 -- an object's word, or one that is a parameter
-pub word_or_none_back : (ws : List Word) (class value : ℕ) → Words ws → is_word_or_none ws class value ≡ true → ReadsBack (value_token ws class value) (word_or_none ws class) value
+pub word_or_none_back : (ws : List Word) (class value : ℕ) → Words ws → is_word_or_none ws class value ≡ true →
+    ReadsBack (value_token ws class value) (word_or_none ws class) value
 word_or_none_back ws class value words h =
     elim (or_cases (eqb value 255) (has_word ws class value) h) [
       | inl e ↦ rw (eqb-true value 255 e) (record { plain = refl; slash = refl; is = λ ts. refl })
@@ -154,7 +158,8 @@ word_or_none_back ws class value words h =
     ]
 
 -- the noun of an entry
-pub entry_noun_back : (ws : List Word) (value : ℕ) → Words ws → (is_any value || has_word ws 2 value) ≡ true → ReadsBack (value_token ws 2 value) (entry_noun ws) value
+pub entry_noun_back : (ws : List Word) (value : ℕ) → Words ws → (is_any value || has_word ws 2 value) ≡ true →
+    ReadsBack (value_token ws 2 value) (entry_noun ws) value
 entry_noun_back ws value words h =
     elim (or_cases (is_any value) (has_word ws 2 value) h) [
       | inl any ↦ elim (or_cases (eqb value 1) (eqb value 255) any) [
@@ -235,7 +240,8 @@ verb_word_back ws value words h =
     })
 
 -- the verb of an entry
-pub entry_verb_back : (ws : List Word) (value : ℕ) → Words ws → (is_any value || is_verb_value ws value) ≡ true → ReadsBack (verb_token ws value) (entry_verb ws) value
+pub entry_verb_back : (ws : List Word) (value : ℕ) → Words ws → (is_any value || is_verb_value ws value) ≡ true →
+    ReadsBack (verb_token ws value) (entry_verb ws) value
 entry_verb_back ws value words h =
     elim (or_cases (is_any value) (is_verb_value ws value) h) [
       | inl any ↦ elim (or_cases (eqb value 1) (eqb value 255) any) [

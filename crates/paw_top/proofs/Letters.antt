@@ -1,5 +1,6 @@
 -- The printed letters of a word are read as these letters.
-use Rattle.std.proofs.Common.{◌≡◌, ℕ, suc, ◌≤◌, ◌-◌, true, false, ◌&&◌, eqb, leb, cond, List, [], ◌∷◌, ◌++◌, length, take, replicate, refl, sym, ap, ◌∙◌, inl, inr, bytes_eq, arith}
+use Rattle.std.proofs.Common.{◌≡◌, ℕ, suc, ◌≤◌, ◌-◌, true, false, ◌&&◌, eqb, leb, cond, List, [], ◌∷◌, ◌++◌, length, take, replicate, refl, sym, ap, ◌∙◌, inl}
+use Rattle.std.proofs.Common.{inr, bytes_eq, arith}
 use Rattle.std.specs.Prelude.{codes}
 use Rattle.std.specs.List.{list_all, before_first}
 use Rattle.std.specs.Char.{to_ascii_uppercase, is_ascii_alphanumeric}
@@ -108,8 +109,10 @@ trimmed-spaces c cs h =
 trimmed : (s : List ℕ) → is_filled s ≡ true → IsTrimmed s (before_first (λ b. eqb b 32) s)
 trimmed [] h = record { letters = refl; short = omega arith; filled = refl }
 trimmed (c ∷ cs) h =
-    elim (is_letter c) as (λ v. is_letter c ≡ v → cond v (is_filled cs) (list_all (λ d. eqb d 32) (c ∷ cs)) ≡ true → IsTrimmed (c ∷ cs) (before_first (λ b. eqb b 32) (c ∷ cs))) [
-      | true ↦ λ is g. rw (before_first-cons (λ b. eqb b 32) c cs (letter c is).no_space) (trimmed-letter c cs (before_first (λ b. eqb b 32) cs) is (trimmed cs g))
+    elim (is_letter c) as (λ v. is_letter c ≡ v → cond v (is_filled cs) (list_all (λ d. eqb d 32) (c ∷ cs)) ≡ true →
+    IsTrimmed (c ∷ cs) (before_first (λ b. eqb b 32) (c ∷ cs))) [
+      | true ↦ λ is g. rw (before_first-cons (λ b. eqb b 32) c cs (letter c is).no_space)
+      (trimmed-letter c cs (before_first (λ b. eqb b 32) cs) is (trimmed cs g))
       | false ↦ λ is g. trimmed-spaces c cs g
     ] refl h
 
@@ -150,4 +153,5 @@ spelling (c ∷ cs) h =
     let long = and_parts (eqb (length (c ∷ cs)) 5) _ h in
     let first = and_parts (is_letter c) (is_filled cs) long.1 in
     let begins = before_first-cons (λ b. eqb b 32) c cs (letter c first.0).no_space in
-    rw begins (spelling-letters c (before_first (λ b. eqb b 32) cs) (c ∷ cs) (eqb-true _ _ long.0) (trimmed-letter c cs (before_first (λ b. eqb b 32) cs) first.0 (trimmed cs first.1)))
+    rw begins (spelling-letters c (before_first (λ b. eqb b 32) cs) (c ∷ cs) (eqb-true _ _ long.0)
+    (trimmed-letter c cs (before_first (λ b. eqb b 32) cs) first.0 (trimmed cs first.1)))

@@ -1,5 +1,6 @@
 -- Numbers in digits.
-use Rattle.std.proofs.Common.{◌≡◌, ℕ, zero, suc, ◌+◌, ◌-◌, ◌*◌, ◌≤◌, ◌<◌, ◌^◌, true, false, List, [], ◌∷◌, Option, Some, None, length, get_or, drop, arith, refl, ap}
+use Rattle.std.proofs.Common.{◌≡◌, ℕ, zero, suc, ◌+◌, ◌-◌, ◌*◌, ◌≤◌, ◌<◌, ◌^◌, true, false, List, [], ◌∷◌, Option, Some, None, length, get_or, drop, arith}
+use Rattle.std.proofs.Common.{refl, ap}
 use Rattle.std.specs.Prelude.{◌&&◌, IfSome, IfNone, nat_le, nat_lt}
 use Rattle.std.specs.List.{list_all}
 use Rattle.std.proofs.lemmas.Bool.{and_parts}
@@ -10,7 +11,8 @@ use Rattle.paw_top.specs.Commands.{number_after, has_seed_shape, has_trial_shape
 -- digits never make a number smaller
 pub number_after-least : (n : ℕ) (ds : List ℕ) → n ≤ number_after n ds
 number_after-least n [] = omega arith
-number_after-least n (d ∷ ds) = let later : 10 * n + (d - 48) ≤ number_after (10 * n + (d - 48)) ds = number_after-least (10 * n + (d - 48)) ds in omega (arith, later)
+number_after-least n (d ∷ ds) = let later : 10 * n + (d - 48) ≤ number_after (10 * n + (d - 48)) ds =
+    number_after-least (10 * n + (d - 48)) ds in omega (arith, later)
 
 -- one digit more, and those behind it
 pub digit_more : (n : ℕ) (ds : List ℕ) (i : ℕ) → i < length ds → 10 * n + (get_or ds i 0 - 48) ≤ number_after n (drop i ds)

@@ -1,5 +1,6 @@
 -- The printed objects are read as these objects.
-use Rattle.std.proofs.Common.{◌≡◌, ℕ, suc, ◌<◌, ◌≤◌, ◌+◌, Bool, true, false, ltb, leb, List, [], ◌∷◌, ◌++◌, length, map, Some, Result, Ok, refl, ap, ◌∙◌, inl, inr, arith, length-append}
+use Rattle.std.proofs.Common.{◌≡◌, ℕ, suc, ◌<◌, ◌≤◌, ◌+◌, Bool, true, false, ltb, leb, List, [], ◌∷◌, ◌++◌, length, map, Some, Result, Ok, refl, ap, ◌∙◌, inl}
+use Rattle.std.proofs.Common.{inr, arith, length-append}
 use Rattle.std.specs.List.{list_all}
 use Rattle.std.specs.Fmt.{decimal}
 use Rattle.std.proofs.lemmas.Bool.{and_parts, and_from, or_cases, leb-true, ltb-true, lt-ltb, le-leb, eq-eqb}
@@ -46,7 +47,8 @@ record FactsRow (ws : List Word) (locations n count : ℕ) (f : ObjectFacts) : T
   noun : ReadsBack (value_token ws 2 f.noun) (word_or_none ws 2) f.noun
   adjective : ReadsBack (value_token ws 3 f.adjective) (word_or_none ws 3) f.adjective
 
-object_row-is : (ws : List Word) (locations n count : ℕ) (f : ObjectFacts) → FactsRow ws locations n count f → object_row ws locations n count (object_tokens ws n f) ≡ Ok f
+object_row-is : (ws : List Word) (locations n count : ℕ) (f : ObjectFacts) → FactsRow ws locations n count f →
+    object_row ws locations n count (object_tokens ws n f) ≡ Ok f
 unfolding object_row
 object_row-is ws locations n count f r =
     rw (
@@ -69,7 +71,8 @@ place_small locations p few h =
       | inr is ↦ omega (arith, leb-true p 254 (and_parts (leb 252 p) (leb p 254) is).1)
     ]
 
-facts_row : (ws : List Word) (locations n count : ℕ) (f : ObjectFacts) → Words ws → locations ≤ 252 → n < count → count ≤ 65535 → are_facts ws locations f ≡ true → FactsRow ws locations n count f
+facts_row : (ws : List Word) (locations n count : ℕ) (f : ObjectFacts) → Words ws → locations ≤ 252 → n < count →
+    count ≤ 65535 → are_facts ws locations f ≡ true → FactsRow ws locations n count f
 facts_row ws locations n count f words few below most h =
     let noun = and_parts (is_word_or_none ws 2 f.noun) _ h in
     let adjective = and_parts (is_word_or_none ws 3 f.adjective) _ noun.1 in
@@ -88,27 +91,34 @@ facts_row ws locations n count f words few below most h =
 
 plain_facts : (ws : List Word) (locations n count : ℕ) (f : ObjectFacts) → FactsRow ws locations n count f → list_all is_plain (object_tokens ws n f) ≡ true
 plain_facts ws locations n count f r =
-    rw (plain-decimal n r.small, plain-decimal f.start r.start_small, plain-decimal f.weight r.weight_small, kind_plain f.container f.wearable, r.noun.plain, r.adjective.plain) refl
+    rw (plain-decimal n r.small, plain-decimal f.start r.start_small, plain-decimal f.weight r.weight_small, kind_plain
+    f.container f.wearable, r.noun.plain, r.adjective.plain) refl
 
-object_step : (p : ℕ) (d : Spelt) (fs : List ObjectFacts) (f : ObjectFacts) → d.section ≡ section.Obj → FactsRow d.words (length d.locations) (length fs) (length d.names) f
+object_step : (p : ℕ) (d : Spelt) (fs : List ObjectFacts) (f : ObjectFacts) → d.section ≡ section.Obj →
+    FactsRow d.words (length d.locations) (length fs) (length d.names) f
     → LineReads p (record d { facts = fs }) (spaced (object_tokens d.words (length fs) f)) (record d { facts = fs ++ f ∷ [] })
 object_step p d fs f at r =
     let e : Spelt = record d { facts = fs } in
     let ts : List (List ℕ) = object_tokens d.words (length fs) f in
     let out : is_in_text e ≡ false = rw at refl in
-    let others : List (List ℕ) = decimal f.start ∷ decimal f.weight ∷ kind_token f.container f.wearable ∷ value_token d.words 2 f.noun ∷ value_token d.words 3 f.adjective ∷ [] in
+    let others : List (List ℕ) = decimal f.start ∷ decimal f.weight ∷ kind_token f.container f.wearable ∷ value_token
+    d.words 2 f.noun ∷ value_token d.words 3 f.adjective ∷ [] in
     let plain = plain_facts d.words (length d.locations) (length fs) (length d.names) f r in
     record {
       is =
           row_step p e (decimal (length fs)) others plain (decimal-slash (length fs) r.small) out
           ∙ ap (λ s. row_in s p e false ts) at
-          ∙ ap (λ (x : Result ObjectFacts SourceKind). x >>= λ g. Ok (record d { facts = fs ++ g ∷ [] })) (object_row-is d.words (length d.locations) (length fs) (length d.names) f r);
+          ∙ ap (λ (x : Result ObjectFacts SourceKind). x >>= λ g. Ok (record d { facts = fs ++ g ∷ [] }))
+          (object_row-is d.words (length d.locations) (length fs) (length d.names) f r);
       printed = printed-spaced (decimal (length fs)) others plain;
     }
 
 -- the rows of objects behind those that were read
-pub objects_read : (p : ℕ) (d : Spelt) (fs : List ObjectFacts) (n : ℕ) (os : List ObjectRow) → d.section ≡ section.Obj → Scene d → n ≡ length fs → length fs + length os ≤ length d.names → length d.names ≤ 255
-    → list_all (is_object d.words (length d.locations)) os ≡ true → Reads p (record d { facts = fs }) (numbered (object_lines d.words) n os) (record d { facts = fs ++ map (λ o. o.facts) os })
+pub objects_read : (p : ℕ) (d : Spelt) (fs : List ObjectFacts) (n : ℕ) (os : List ObjectRow) → d.section ≡ section.Obj →
+    Scene d → n ≡ length fs → length fs + length os ≤ length d.names → length d.names ≤ 255
+    → list_all (is_object d.words (length d.locations)) os ≡ true →
+    Reads p (record d { facts = fs }) (numbered (object_lines d.words) n os)
+    (record d { facts = fs ++ map (λ o. o.facts) os })
 objects_read p d fs n [] at scene is room most h = rw (append-nil fs) (reads_none p (record d { facts = fs }))
 objects_read p d fs n (o ∷ os) at scene is room most h =
     let both = and_parts (is_object d.words (length d.locations) o) (list_all (is_object d.words (length d.locations)) os) h in

@@ -40,7 +40,8 @@ pub one_kept_session : (g k : Story) (st : State) (piece store kept : List ℕ) 
 one_kept_session g k st piece store kept same is = rw (is, same) refl
 
 -- what playing comes to at a stage where nothing has changed since
-pub plays_game : (g : Story) (seed : ℕ) (store : List ℕ) (old mid new : Standing) (o : PlayEnd) → mid ≡ old → PlaysGame g seed store mid new o → PlaysGame g seed store old new o
+pub plays_game : (g : Story) (seed : ℕ) (store : List ℕ) (old mid new : Standing) (o : PlayEnd) → mid ≡ old →
+    PlaysGame g seed store mid new o → PlaysGame g seed store old new o
 plays_game g seed store old mid new o still p = subst (λ q. PlaysGame g seed store q new o) still p
 
 pub plays_again : (g : Story) (digest kept store : List ℕ) (old mid new : Standing) (o : PlayEnd) → mid ≡ old → kept ≡ digest →
@@ -50,7 +51,8 @@ plays_again g digest kept store old mid new o still same p =
 
 -- and where its store stands for some lines
 pub goes_on_in : (name store : List ℕ) (g k : Story) (seed : ℕ) (es : List (List ℕ)) (old new : Standing) (o : PlayEnd) → k ≡ g → Holds old name k.game →
-    PlaysAgain k (digest_of k.game) store old new o → IsPlayedWith g seed es → Stands g seed es (store_bytes old store) → GoesOnIn name store g seed es old new (outcome_of o)
+    PlaysAgain k (digest_of k.game) store old new o → IsPlayedWith g seed es →
+    Stands g seed es (store_bytes old store) → GoesOnIn name store g seed es old new (outcome_of o)
 goes_on_in name store g k seed es old new o same holds p =
     subst (λ h. IsPlayedWith h seed es → Stands h seed es (store_bytes old store) → GoesOnIn name store h seed es old new (outcome_of o)) same
     (λ played stands. goes o holds (standing_again k seed es store old new played stands o p))
@@ -59,11 +61,13 @@ goes_on_in name store g k seed es old new o same holds p =
 pub shows_same : (g k : GameLists) (kept store : List ℕ) (old mid : Standing) (st : State) (piece : List ℕ) → mid ≡ old → k ≡ g → kept ≡ sha256 (image k) →
     ShowsState g (sha256 (image g)) (store_bytes old store) st piece → ShowsState k kept (store_bytes mid store) st piece
 shows_same g k kept store old mid st piece still same is h =
-    subst (λ q. ShowsState k q (store_bytes mid store) st piece) (sym is) (subst (λ q. ShowsState q (sha256 (image q)) (store_bytes mid store) st piece) (sym same)
+    subst (λ q. ShowsState k q (store_bytes mid store) st piece) (sym is)
+    (subst (λ q. ShowsState q (sha256 (image q)) (store_bytes mid store) st piece) (sym same)
     (subst (λ q. ShowsState g (sha256 (image g)) (store_bytes q store) st piece) (sym still) h))
 
 -- a new session at a stage where nothing has changed since
-pub game_moment : (g k : Story) (seed : ℕ) (store : List ℕ) (old mid : Standing) (m : Moment) → mid ≡ old → k ≡ g → InGame k seed store mid m → InGame g seed store old m
+pub game_moment : (g k : Story) (seed : ℕ) (store : List ℕ) (old mid : Standing) (m : Moment) → mid ≡ old → k ≡ g →
+    InGame k seed store mid m → InGame g seed store old m
 game_moment g k seed store old mid m still same i = subst (λ q. InGame g seed store q m) still (subst (λ q. InGame q seed store mid m) same i)
 
 pub again_moment : (s k : Played) (old mid : Standing) (m : Moment) → mid ≡ old → k ≡ s → InAgain k mid m → InAgain s old m

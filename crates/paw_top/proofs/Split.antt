@@ -74,7 +74,8 @@ begins_here false b h e = absurd (false≢true e)
 all_lines : (ls : List (List ℕ)) → Lines true ls → list_all is_line ls ≡ true
 all_lines ls n = rw n.are (and_from _ _ (and_from _ _ n.printed (n.begins refl)) n.rest)
 
-lines_onto : (first : Bool) (b : ℕ) (ls : List (List ℕ)) → is_print b ≡ true → (first ≡ true → not (begins_no_line b) ≡ true) → Lines false ls → Lines first (onto_first b ls)
+lines_onto : (first : Bool) (b : ℕ) (ls : List (List ℕ)) → is_print b ≡ true →
+    (first ≡ true → not (begins_no_line b) ≡ true) → Lines false ls → Lines first (onto_first b ls)
 lines_onto first b ls printed begins n = record {
   head = b ∷ n.head;
   others = n.others;

@@ -1,5 +1,6 @@
 -- The printed tables of a game are read as its tables.
-use Rattle.std.proofs.Common.{◌≡◌, ℕ, suc, ◌<◌, ◌≤◌, true, false, ◌||◌, eqb, ltb, leb, List, [], ◌∷◌, ◌++◌, length, map, Result, Ok, refl, ap, ◌∙◌, arith, length-append}
+use Rattle.std.proofs.Common.{◌≡◌, ℕ, suc, ◌<◌, ◌≤◌, true, false, ◌||◌, eqb, ltb, leb, List, [], ◌∷◌, ◌++◌, length, map, Result, Ok, refl, ap, ◌∙◌, arith}
+use Rattle.std.proofs.Common.{length-append}
 use Rattle.std.specs.Prelude.{codes}
 use Rattle.std.specs.List.{list_all, flat_map}
 use Rattle.std.specs.Fmt.{decimal}
@@ -60,8 +61,10 @@ more_row-is p g es e done c back few =
     (ap (λ (r : Result (List Condact) SourceKind). r >>= λ cs. Ok (with_last (with_condacts e cs) (es ++ now ∷ []))) (more_condacts-is p g done c back few)
     ∙ ap (λ (xs : List Entry). Ok xs) (with_last-push (with_condacts e (done ++ c ∷ [])) es now))
 
-condact_step : (p : ℕ) (g : GameLists) (exits : List (List Exit)) (ts : List (List Entry)) (es : List Entry) (e : Entry) (done : List Condact) (c : Condact) → CondactBack p g c → length done < 255
-    → LineReads p (spelt_of g exits (ts ++ (es ++ with_condacts e done ∷ []) ∷ [])) (condact_line g.words c) (spelt_of g exits (ts ++ (es ++ with_condacts e (done ++ c ∷ []) ∷ []) ∷ []))
+condact_step : (p : ℕ) (g : GameLists) (exits : List (List Exit)) (ts : List (List Entry)) (es : List Entry) (e : Entry)
+    (done : List Condact) (c : Condact) → CondactBack p g c → length done < 255
+    → LineReads p (spelt_of g exits (ts ++ (es ++ with_condacts e done ∷ []) ∷ [])) (condact_line g.words c)
+    (spelt_of g exits (ts ++ (es ++ with_condacts e (done ++ c ∷ []) ∷ []) ∷ []))
 condact_step p g exits ts es e done c back few =
     let last : List Entry = es ++ with_condacts e done ∷ [] in
     let d : Spelt = spelt_of g exits (ts ++ last ∷ []) in
@@ -69,13 +72,17 @@ condact_step p g exits ts es e done c back few =
       printed = printed-behind (condact_tokens g.words c) back.plain;
       is =
           more_step p d _ _ back.plain refl
-          ∙ ap (λ (xs : List Entry). more_row (bounds p g) g.words xs (condact_tokens g.words c) >>= λ us. Ok (spelt_of g exits (with_last us (ts ++ last ∷ [])))) (last_or-push [] ts last)
-          ∙ ap (λ (r : Result (List Entry) SourceKind). r >>= λ us. Ok (spelt_of g exits (with_last us (ts ++ last ∷ [])))) (more_row-is p g es e done c back few)
+          ∙ ap (λ (xs : List Entry). more_row (bounds p g) g.words xs (condact_tokens g.words c) >>= λ us. Ok
+          (spelt_of g exits (with_last us (ts ++ last ∷ [])))) (last_or-push [] ts last)
+          ∙ ap (λ (r : Result (List Entry) SourceKind). r >>= λ us. Ok
+          (spelt_of g exits (with_last us (ts ++ last ∷ [])))) (more_row-is p g es e done c back few)
           ∙ ap (λ (us : List (List Entry)). Ok (spelt_of g exits us)) (with_last-push (es ++ with_condacts e (done ++ c ∷ []) ∷ []) ts last);
     }
 
-condacts_read : (p : ℕ) (g : GameLists) (exits : List (List Exit)) (ts : List (List Entry)) (es : List Entry) (e : Entry) (done cs : List Condact) → Small p g → length (done ++ cs) ≤ 255 → list_all (is_condact g) cs ≡ true
-    → Reads p (spelt_of g exits (ts ++ (es ++ with_condacts e done ∷ []) ∷ [])) (map (condact_line g.words) cs) (spelt_of g exits (ts ++ (es ++ with_condacts e (done ++ cs) ∷ []) ∷ []))
+condacts_read : (p : ℕ) (g : GameLists) (exits : List (List Exit)) (ts : List (List Entry)) (es : List Entry)
+    (e : Entry) (done cs : List Condact) → Small p g → length (done ++ cs) ≤ 255 → list_all (is_condact g) cs ≡ true
+    → Reads p (spelt_of g exits (ts ++ (es ++ with_condacts e done ∷ []) ∷ [])) (map (condact_line g.words) cs)
+    (spelt_of g exits (ts ++ (es ++ with_condacts e (done ++ cs) ∷ []) ∷ []))
 condacts_read p g exits ts es e done [] s few h = rw (append-nil done) (reads_none p (spelt_of g exits (ts ++ (es ++ with_condacts e done ∷ []) ∷ [])))
 condacts_read p g exits ts es e done (c ∷ cs) s few h =
     let both = and_parts (is_condact g c) (list_all (is_condact g) cs) h in
@@ -108,12 +115,14 @@ entry_step p g exits ts es e r room =
       printed = printed-spaced (verb_token g.words e.verb) (value_token g.words 2 e.noun ∷ []) plain;
       is =
           row_step p d (verb_token g.words e.verb) (value_token g.words 2 e.noun ∷ []) plain r.verb.slash refl
-          ∙ ap (λ (xs : List Entry). entry_row (bounds p g) g.words xs (entry_tokens g.words e) >>= λ us. Ok (spelt_of g exits (with_last us (ts ++ es ∷ [])))) (last_or-push [] ts es)
+          ∙ ap (λ (xs : List Entry). entry_row (bounds p g) g.words xs (entry_tokens g.words e) >>= λ us. Ok
+          (spelt_of g exits (with_last us (ts ++ es ∷ [])))) (last_or-push [] ts es)
           ∙ ap (λ (x : Result (List Entry) SourceKind). x >>= λ us. Ok (spelt_of g exits (with_last us (ts ++ es ∷ [])))) (entry_row-is p g es e r room)
           ∙ ap (λ (us : List (List Entry)). Ok (spelt_of g exits us)) (with_last-push (es ++ with_condacts e [] ∷ []) ts es);
     }
 
-entries_read : (p : ℕ) (g : GameLists) (exits : List (List Exit)) (ts : List (List Entry)) (done es : List Entry) → Small p g → length (done ++ es) ≤ 4000 → list_all (is_entry g) es ≡ true
+entries_read : (p : ℕ) (g : GameLists) (exits : List (List Exit)) (ts : List (List Entry)) (done es : List Entry) →
+    Small p g → length (done ++ es) ≤ 4000 → list_all (is_entry g) es ≡ true
     → Reads p (spelt_of g exits (ts ++ done ∷ [])) (flat_map (entry_lines g.words) es) (spelt_of g exits (ts ++ (done ++ es) ∷ []))
 entries_read p g exits ts done [] s few h = rw (append-nil done) (reads_none p (spelt_of g exits (ts ++ done ∷ [])))
 entries_read p g exits ts done (e ∷ es) s few h =
@@ -134,7 +143,8 @@ entries_read p g exits ts done (e ∷ es) s few h =
 abbrev table_begun : Spelt → Spelt
 table_begun d = record (section_opened section.Pro d) { tables = d.tables ++ [] ∷ [] }
 
-header_step : (p : ℕ) (d : Spelt) (n : ℕ) → next_section d.section ≡ section.Pro → n ≡ length d.tables → n ≤ 255 → lacks_rows d ≡ false → LineReads p d (spaced (table_tokens n)) (table_begun d)
+header_step : (p : ℕ) (d : Spelt) (n : ℕ) → next_section d.section ≡ section.Pro → n ≡ length d.tables → n ≤ 255 →
+    lacks_rows d ≡ false → LineReads p d (spaced (table_tokens n)) (table_begun d)
 unfolding number_from
 header_step p d n at is few rows =
     let small : n ≤ 65535 = omega arith in
@@ -146,8 +156,10 @@ header_step p d n at is few rows =
       printed = printed-spaced (codes "/PRO") (decimal n ∷ []) plain;
     }
 
-pub table_read : (p : ℕ) (g : GameLists) (exits : List (List Exit)) (d : Spelt) (ts : List (List Entry)) (n : ℕ) (es : List Entry) → Small p g → table_begun d ≡ spelt_of g exits (ts ++ [] ∷ [])
-    → next_section d.section ≡ section.Pro → n ≡ length d.tables → n ≤ 255 → lacks_rows d ≡ false → is_table g es ≡ true → Reads p d (table_lines g.words n es) (spelt_of g exits (ts ++ es ∷ []))
+pub table_read : (p : ℕ) (g : GameLists) (exits : List (List Exit)) (d : Spelt) (ts : List (List Entry)) (n : ℕ)
+    (es : List Entry) → Small p g → table_begun d ≡ spelt_of g exits (ts ++ [] ∷ [])
+    → next_section d.section ≡ section.Pro → n ≡ length d.tables → n ≤ 255 → lacks_rows d ≡ false →
+    is_table g es ≡ true → Reads p d (table_lines g.words n es) (spelt_of g exits (ts ++ es ∷ []))
 table_read p g exits d ts n es s begun at is few rows h =
     let both = and_parts (leb (length es) 4000) (list_all (is_entry g) es) h in
     reads_line p _ _ _ _ _ (rw begun at (header_step p d n at is few rows)) (entries_read p g exits ts [] es s (leb-true (length es) 4000 both.0) both.1)
@@ -158,7 +170,8 @@ no_row_lacks g exits ts some =
     rw more refl
 
 -- the tables behind those that were read
-pub tables_read : (p : ℕ) (g : GameLists) (exits : List (List Exit)) (ts : List (List Entry)) (n : ℕ) (rest : List (List Entry)) → Small p g → n ≡ length ts → 0 < n → length (ts ++ rest) ≤ 256
+pub tables_read : (p : ℕ) (g : GameLists) (exits : List (List Exit)) (ts : List (List Entry)) (n : ℕ)
+    (rest : List (List Entry)) → Small p g → n ≡ length ts → 0 < n → length (ts ++ rest) ≤ 256
     → list_all (is_table g) rest ≡ true → Reads p (spelt_of g exits ts) (numbered (table_lines g.words) n rest) (spelt_of g exits (ts ++ rest))
 tables_read p g exits ts n [] s is some few h = rw (append-nil ts) (reads_none p (spelt_of g exits ts))
 tables_read p g exits ts n (es ∷ rest) s is some few h =

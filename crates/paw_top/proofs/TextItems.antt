@@ -1,5 +1,6 @@
 -- The printed texts of a section are read as its texts.
-use Rattle.std.proofs.Common.{◌≡◌, ℕ, suc, ◌<◌, ◌≤◌, Bool, true, false, not, ◌&&◌, eqb, ltb, leb, List, [], ◌∷◌, ◌++◌, length, Result, Ok, refl, sym, ap, ◌∙◌, arith, length-append}
+use Rattle.std.proofs.Common.{◌≡◌, ℕ, suc, ◌<◌, ◌≤◌, Bool, true, false, not, ◌&&◌, eqb, ltb, leb, List, [], ◌∷◌, ◌++◌, length, Result, Ok, refl, sym, ap, ◌∙◌}
+use Rattle.std.proofs.Common.{arith, length-append}
 use Rattle.std.specs.List.{list_all, flat_map}
 use Rattle.std.specs.Fmt.{decimal}
 use Rattle.std.proofs.lemmas.Bool.{and_parts, leb-true, le-ltb, lt-ltb, eq-eqb, ne_eqb}
@@ -91,7 +92,8 @@ small_limit section.Pro = omega arith
 
 -- ---- one line of a text ----
 
-in_text : (s : Section) (b : Bool) (before : List (List ℕ)) (t : List ℕ) (d : Spelt) → d.section ≡ s → is_text_section s ≡ true → is_in_text (with_texts s b (before ++ t ∷ []) d) ≡ true
+in_text : (s : Section) (b : Bool) (before : List (List ℕ)) (t : List ℕ) (d : Spelt) → d.section ≡ s →
+    is_text_section s ≡ true → is_in_text (with_texts s b (before ++ t ∷ []) d) ≡ true
 in_text s b before t d at text =
     let some : eqb (length (before ++ t ∷ [])) 0 ≡ false = ne_eqb _ 0 (λ e. omega (arith, length-append before (t ∷ []))) in
     let e : Spelt = with_texts s b (before ++ t ∷ []) d in
@@ -99,13 +101,15 @@ in_text s b before t d at text =
     ap (λ x. is_text_section x && not (eqb (length (texts_of x e)) 0)) here
     ∙ rw (text, texts_of-with s b (before ++ t ∷ []) d text, some) refl
 
-line_joined : (b : Bool) (before : List (List ℕ)) (t l : List ℕ) → length (with_line b t l) ≤ 4095 → text_line b l (before ++ t ∷ []) ≡ Ok (before ++ with_line b t l ∷ [])
+line_joined : (b : Bool) (before : List (List ℕ)) (t l : List ℕ) → length (joined b t l) ≤ 4095 →
+    text_line b l (before ++ t ∷ []) ≡ Ok (before ++ joined b t l ∷ [])
 line_joined b before t l short =
     let within : ltb 4095 (length (with_line b t l)) ≡ false = le-ltb 4095 (length (with_line b t l)) short in
     rw (last_or-push [] before t, within, with_last-push (with_line b t l) before t) refl
 
-line_step : (p : ℕ) (s : Section) (b : Bool) (d : Spelt) (before : List (List ℕ)) (t l : List ℕ) → d.section ≡ s → is_text_section s ≡ true → TextLine l → length (with_line b t l) ≤ 4095
-    → LineReads p (with_texts s b (before ++ t ∷ []) d) l (with_texts s true (before ++ with_line b t l ∷ []) d)
+line_step : (p : ℕ) (s : Section) (b : Bool) (d : Spelt) (before : List (List ℕ)) (t l : List ℕ) → d.section ≡ s →
+    is_text_section s ≡ true → TextLine l → length (joined b t l) ≤ 4095
+    → LineReads p (with_texts s b (before ++ t ∷ []) d) l (with_texts s true (before ++ joined b t l ∷ []) d)
 line_step p s b d before t l at text line short =
     let ts : List (List ℕ) = before ++ t ∷ [] in
     let e : Spelt = with_texts s b ts d in
@@ -147,18 +151,21 @@ whole_text p s d before t ls at text (has_line l ms are) lines is short =
     let same : l ++ flat_map (λ m. 10 ∷ m) ms ≡ t = rw are at is in
     let whole : length (l ++ flat_map (λ m. 10 ∷ m) ms) ≤ 4095 = rw same short in
     let first : length l ≤ 4095 = omega (arith, length-append l (flat_map (λ m. 10 ∷ m) ms), whole) in
-    rw are (true, reads_line p _ _ _ l ms (line_step p s false d before [] l at text (text_line_is l both.0) first) (rw same at (more_lines p s d before l ms at text both.1 whole)))
+    rw are (true, reads_line p _ _ _ l ms (line_step p s false d before [] l at text (text_line_is l both.0) first)
+    (rw same at (more_lines p s d before l ms at text both.1 whole)))
 
 text_read : (p : ℕ) (s : Section) (d : Spelt) (before : List (List ℕ)) (t : List ℕ) → d.section ≡ s → is_text_section s ≡ true → is_text t ≡ true
     → Then p s d (with_texts s false (before ++ [] ∷ []) d) (lines_of_text t) (before ++ t ∷ [])
 text_read p s d before [] at text h = (false, reads_none p (with_texts s false (before ++ [] ∷ []) d))
 text_read p s d before (b ∷ bs) at text h =
     let both = and_parts (leb (length (b ∷ bs)) 4095) (is_printed true (b ∷ bs)) h in
-    whole_text p s d before (b ∷ bs) (split (b ∷ bs)) at text (split_some (b ∷ bs)) (split_is_lines (b ∷ bs) both.1) (rejoined-split (b ∷ bs)) (leb-true _ 4095 both.0)
+    whole_text p s d before (b ∷ bs) (split (b ∷ bs)) at text (split_some (b ∷ bs)) (split_is_lines (b ∷ bs) both.1)
+    (rejoined-split (b ∷ bs)) (leb-true _ 4095 both.0)
 
 -- ---- items ----
 
-item_step : (p : ℕ) (s : Section) (b : Bool) (d : Spelt) (before : List (List ℕ)) (n : ℕ) → d.section ≡ s → is_text_section s ≡ true → n ≡ length before → n < text_limit s
+item_step : (p : ℕ) (s : Section) (b : Bool) (d : Spelt) (before : List (List ℕ)) (n : ℕ) → d.section ≡ s →
+    is_text_section s ≡ true → n ≡ length before → n < text_limit s
     → LineReads p (with_texts s b before d) (item_token n) (with_texts s false (before ++ [] ∷ []) d)
 item_step p s b d before n at text is room =
     let e : Spelt = with_texts s b before d in
@@ -179,8 +186,10 @@ item_step p s b d before n at text is room =
     }
 
 -- the items of texts behind those that were read
-pub items_read : (p : ℕ) (s : Section) (b : Bool) (d : Spelt) (before : List (List ℕ)) (n : ℕ) (texts : List (List ℕ)) → d.section ≡ s → is_text_section s ≡ true
-    → n ≡ length before → length (before ++ texts) ≤ text_limit s → list_all is_text texts ≡ true → Then p s d (with_texts s b before d) (numbered text_lines n texts) (before ++ texts)
+pub items_read : (p : ℕ) (s : Section) (b : Bool) (d : Spelt) (before : List (List ℕ)) (n : ℕ) (texts : List (List ℕ)) →
+    d.section ≡ s → is_text_section s ≡ true
+    → n ≡ length before → length (before ++ texts) ≤ text_limit s → list_all is_text texts ≡ true →
+    Then p s d (with_texts s b before d) (numbered text_lines n texts) (before ++ texts)
 items_read p s b d before n [] at text is room all = rw (append-nil before) (b, reads_none p (with_texts s b before d))
 items_read p s b d before n (t ∷ ts) at text is room all =
     let both = and_parts (is_text t) (list_all is_text ts) all in

@@ -21,7 +21,8 @@ use Rattle.paw_grammar.specs.GrammarHeads.{section_opened, lacks_rows}
 use Rattle.paw_grammar.specs.Spells.{begins_table, reading, spelled}
 use Rattle.paw_source.specs.Laws.{CountsTables}
 use Rattle.paw_print.specs.Lines.{spaced, word_tokens, text_lines}
-use Rattle.paw_print.specs.Canonical.{words_lines, texts_lines, location_lines, exits_lines, object_lines, objects_lines, table_lines, numbered, canonical_lines, canonical_of}
+use Rattle.paw_print.specs.Canonical.{words_lines, texts_lines, location_lines, exits_lines, object_lines, objects_lines, table_lines, numbered}
+use Rattle.paw_print.specs.Canonical.{canonical_lines, canonical_of}
 use Rattle.paw_top.specs.Round.{SpellsItself}
 use Rattle.paw_top.proofs.After.{LineReads, Reads, reads_line, reads_append, reads_whole}
 use Rattle.paw_top.proofs.Headers.{voc_header, stx_header, mtx_header, otx_header, ltx_header, con_header_is, obj_header}
@@ -97,7 +98,8 @@ small g r = record {
   counted = refl;
 }
 
-texts_of_objects : (ws : List Word) (locations : ℕ) (os : List ObjectRow) → list_all (is_object ws locations) os ≡ true → list_all is_text (map (λ o. o.text) os) ≡ true
+texts_of_objects : (ws : List Word) (locations : ℕ) (os : List ObjectRow) →
+    list_all (is_object ws locations) os ≡ true → list_all is_text (map (λ o. o.text) os) ≡ true
 texts_of_objects ws locations [] h = refl
 texts_of_objects ws locations (o ∷ os) h =
     let both = and_parts (is_object ws locations o) (list_all (is_object ws locations) os) h in
@@ -105,8 +107,9 @@ texts_of_objects ws locations (o ∷ os) h =
 
 -- ---- sections ----
 
-texts_section : (p : ℕ) (s : Section) (d : Spelt) (header : List ℕ) (texts : List (List ℕ)) → LineReads p d header (section_opened s d) → with_texts s false [] (section_opened s d) ≡ section_opened s d → is_text_section s ≡ true
-    → length texts ≤ text_limit s → list_all is_text texts ≡ true → (b : Bool) × Reads p d (texts_lines header texts) (with_texts s b texts (section_opened s d))
+texts_section : (p : ℕ) (s : Section) (d : Spelt) (header : List ℕ) (texts : List (List ℕ)) →
+    LineReads p d header (opened s d) → with_texts s false [] (opened s d) ≡ opened s d → is_text_section s ≡ true
+    → length texts ≤ text_limit s → list_all is_text texts ≡ true → (b : Bool) × Reads p d (texts_lines header texts) (with_texts s b texts (opened s d))
 texts_section p s d header texts first none text room all =
     let items = items_read p s false (section_opened s d) [] 0 texts refl text refl room all in
     let rest : Reads p (section_opened s d) (numbered text_lines 0 texts) (with_texts s items.0 texts (section_opened s d)) = rw none at items.1 in
@@ -122,7 +125,8 @@ no_row_lacks g b exits =
     let names = length-map g.objects (λ (o : ObjectRow). o.text) in
     le-ltb _ _ (omega (arith, facts, names))
 
-tables_section : (p : ℕ) (g : GameLists) (b : Bool) (exits : List (List Exit)) (ts : List (List Entry)) → Small p g → 3 ≤ length ts → length ts ≤ 256 → list_all (is_table g) ts ≡ true
+tables_section : (p : ℕ) (g : GameLists) (b : Bool) (exits : List (List Exit)) (ts : List (List Entry)) → Small p g →
+    3 ≤ length ts → length ts ≤ 256 → list_all (is_table g) ts ≡ true
     → Reads p (before_tables g b exits) (numbered (table_lines g.words) 0 ts) (spelt_of g exits ts)
 tables_section p g b exits [] s some few h = absurd (omega arith)
 tables_section p g b exits (t ∷ ts) s some few h =
@@ -189,7 +193,8 @@ whole_read p g r s =
     let d7 : Spelt = record c6 { facts = map (λ (o : ObjectRow). o.facts) g.objects } in
     let obj : List (List ℕ) = objects_lines g.words g.objects in
     let t7 : Reads p d6 obj d7 =
-    reads_line p d6 c6 d7 (codes "/OBJ") (numbered (object_lines g.words) 0 g.objects) (obj_header p d6 refl) (objects_read p c6 [] 0 g.objects refl scene6 refl rows names_few r.objects) in
+    reads_line p d6 c6 d7 (codes "/OBJ") (numbered (object_lines g.words) 0 g.objects) (obj_header p d6 refl)
+    (objects_read p c6 [] 0 g.objects refl scene6 refl rows names_few r.objects) in
     let l7 : List (List ℕ) = l5 ++ con ++ obj in
     let r7 : Reads p nothing_yet l7 d7 = reads_append p nothing_yet d6 d7 (l5 ++ con) obj r6 t7 in
     -- the tables
@@ -205,10 +210,14 @@ game_is g exits f =
     ap (λ (os : List ObjectRow). record g { objects = os; exits = all_exits (length g.locations) exits }) (objects_of-map g.objects)
     ∙ ap (λ (xs : List (List Exit)). record g { exits = xs }) f.is
 
-counted : CountsTables → (p : ℕ) (g : GameLists) (exits : List (List Exit)) → Reads p nothing_yet (canonical_lines g) (spelt_of g exits g.tables) → count_by begins_table (canonical_lines g) ≡ length g.tables
-counted counts p g exits reads = sym (counts p nothing_yet (spelt_of g exits g.tables) (canonical_lines g) reads.is ∙ zero-add (count_by begins_table (canonical_lines g)))
+counted : CountsTables → (p : ℕ) (g : GameLists) (exits : List (List Exit)) →
+    Reads p nothing_yet (canonical_lines g) (spelt_of g exits g.tables) →
+    count_by begins_table (canonical_lines g) ≡ length g.tables
+counted counts p g exits reads = sym (counts p nothing_yet (spelt_of g exits g.tables) (canonical_lines g) reads.is
+    ∙ zero-add (count_by begins_table (canonical_lines g)))
 
-read_again : CountsTables → (g : GameLists) → Rules g → length (image g) ≤ 4194304 → reading (count_by begins_table (canonical_lines g)) 0 nothing_yet (canonical_lines g) ≡ Ok g
+read_again : CountsTables → (g : GameLists) → Rules g → length (image g) ≤ 4194304 →
+    reading (count_by begins_table (canonical_lines g)) 0 nothing_yet (canonical_lines g) ≡ Ok g
 read_again counts g r within =
     let whole = whole_read (length g.tables) g r (small g r) in
     let e : Spelt = spelt_of g whole.exits g.tables in

@@ -1,5 +1,6 @@
 -- The printed words of a game are read as its words.
-use Rattle.std.proofs.Common.{◌≡◌, ℕ, zero, suc, ◌<◌, ◌≤◌, true, false, eqb, leb, List, [], ◌∷◌, ◌++◌, length, map, Some, None, Result, Ok, refl, sym, ap, ◌∙◌, bytes_eq, arith, length-append}
+use Rattle.std.proofs.Common.{◌≡◌, ℕ, zero, suc, ◌<◌, ◌≤◌, true, false, eqb, leb, List, [], ◌∷◌, ◌++◌, length, map, Some, None, Result, Ok, refl, sym, ap, ◌∙◌}
+use Rattle.std.proofs.Common.{bytes_eq, arith, length-append}
 use Rattle.std.specs.Fmt.{decimal}
 use Rattle.std.specs.List.{list_all}
 use Rattle.std.specs.declared.cmp.Ordering.TheVariants.{Less}
@@ -61,7 +62,8 @@ put_last : (vs : List Word) (w : Word) (ws : List Word) → words_rise (vs ++ w 
 unfolding words_with
 put_last [] w ws h = refl
 put_last (v ∷ vs) w ws h =
-    let below : slice_cmp nat_cmp w.letters v.letters ≡ ordering_reverse Less = nat_list_cmp_total.antisymm w.letters v.letters ∙ ap ordering_reverse (stands_above v vs w ws h) in
+    let below : slice_cmp nat_cmp w.letters v.letters ≡ ordering_reverse Less =
+    nat_list_cmp_total.antisymm w.letters v.letters ∙ ap ordering_reverse (stands_above v vs w ws h) in
     rw below (ap (λ (us : List Word). v ∷ us) (put_last vs w ws (rest_rises v (vs ++ w ∷ ws) h)))
 
 -- ---- a row ----
@@ -83,7 +85,8 @@ word_row w h =
 plain_row : (w : Word) → WordRow w → list_all is_plain (word_tokens w) ≡ true
 plain_row w r = rw (r.spelled.plain, plain-decimal w.value r.small, r.class.plain) refl
 
-voc_row-is : (vs : List Word) (w : Word) (ws : List Word) → WordRow w → words_rise (vs ++ w ∷ ws) ≡ true → length vs < 2000 → voc_row vs (word_tokens w) ≡ Ok (vs ++ w ∷ [])
+voc_row-is : (vs : List Word) (w : Word) (ws : List Word) → WordRow w → words_rise (vs ++ w ∷ ws) ≡ true →
+    length vs < 2000 → voc_row vs (word_tokens w) ≡ Ok (vs ++ w ∷ [])
 unfolding voc_row
 voc_row-is vs w ws r rise few =
     let room : eqb (length vs) 2000 ≡ false = ne_eqb (length vs) 2000 (λ e. omega arith) in
@@ -91,7 +94,8 @@ voc_row-is vs w ws r rise few =
 
 -- ---- all rows ----
 
-word_step : (p : ℕ) (d : Spelt) (vs : List Word) (w : Word) (ws : List Word) → d.section ≡ section.Voc → is_word w ≡ true → words_rise (vs ++ w ∷ ws) ≡ true → length vs < 2000
+word_step : (p : ℕ) (d : Spelt) (vs : List Word) (w : Word) (ws : List Word) → d.section ≡ section.Voc →
+    is_word w ≡ true → words_rise (vs ++ w ∷ ws) ≡ true → length vs < 2000
     → LineReads p (record d { words = vs }) (spaced (word_tokens w)) (record d { words = vs ++ w ∷ [] })
 word_step p d vs w ws at h rise few =
     let r = word_row w h in
@@ -105,7 +109,8 @@ word_step p d vs w ws at h rise few =
     }
 
 -- the rows of words behind those that were read
-pub words_read : (p : ℕ) (d : Spelt) (vs ws : List Word) → d.section ≡ section.Voc → list_all is_word ws ≡ true → words_rise (vs ++ ws) ≡ true → length (vs ++ ws) ≤ 2000
+pub words_read : (p : ℕ) (d : Spelt) (vs ws : List Word) → d.section ≡ section.Voc → list_all is_word ws ≡ true →
+    words_rise (vs ++ ws) ≡ true → length (vs ++ ws) ≤ 2000
     → Reads p (record d { words = vs }) (map (λ w. spaced (word_tokens w)) ws) (record d { words = vs ++ ws })
 words_read p d vs [] at all rise few = rw (append-nil vs) (reads_none p (record d { words = vs }))
 words_read p d vs (w ∷ ws) at all rise few =

@@ -14,7 +14,8 @@ use Rattle.paw_play.specs.declared.PlayEnd.TheVariants as play
 use Rattle.paw_play.specs.declared.TheConstants.{MOST_EVENTS}
 use Rattle.paw_play.specs.Walk.{Reading, first_lines}
 use Rattle.paw_play.specs.Stands.{Stands, StandsFor, reading_since}
-use Rattle.paw_play.specs.Play.{PlaysWith, PlaysIn, memory, spent, too_deep, unmade, plays, unattached, occupied, plays_in, PlaysGame, PlaysAgain, GoesOn, store_bytes, attached_to}
+use Rattle.paw_play.specs.Play.{PlaysWith, PlaysIn, memory, spent, too_deep, unmade, plays, unattached, occupied, plays_in, PlaysGame, PlaysAgain, GoesOn}
+use Rattle.paw_play.specs.Play.{store_bytes, attached_to}
 use Rattle.paw_play.specs.Play as of
 use Rattle.paw_play.proofs.Standing.{standing_again}
 use Rattle.paw_gen.specs.Trial.{trial_game, trial_lines}
@@ -60,9 +61,11 @@ module _ (n : ℕ) (es lines behind : List (List ℕ)) (all : (es ++ lines) ++ b
     (waits : (fs : List (List ℕ)) → Waits (whole fs) → Waits (reading (trial_story n) n (es ++ fs))) where
   -- a trial that stops after k of them
   stopped : (stop : TrialEnd) (k : ℕ) → StopsAs stop (whole (first_lines k lines)) → StopsAs stop (trial_reading n)
-  stopped stop k h = stops_later n (es ++ first_lines k lines) (drop k lines ++ behind) stop (taken_and_left es lines behind k are ∙ all) (stops stop (first_lines k lines) h)
+  stopped stop k h = stops_later n (es ++ first_lines k lines) (drop k lines ++ behind) stop
+      (taken_and_left es lines behind k are ∙ all) (stops stop (first_lines k lines) h)
 
-  half_comes : (past most : ℕ) (old new : Standing) (o : PlayEnd) → old.lines ≡ lines → PlaysWith (StandsFor (trial_story n) n es lines) whole past store_name most old new o →
+  half_comes : (past most : ℕ) (old new : Standing) (o : PlayEnd) → old.lines ≡ lines →
+      PlaysWith (StandsFor (trial_story n) n es lines) whole past store_name most old new o →
       ComesTo n (es ++ lines) new (stop_of o)
   half_comes past most old new play.InputEnded is p =
       let reads = p.shows.4 in
@@ -70,7 +73,9 @@ module _ (n : ℕ) (es lines behind : List (List ℕ)) (all : (es ++ lines) ++ b
       let rests = p.session.2 in
       let taken : first_lines (length lines) lines ≡ lines = all_taken lines are in
       let read : first_lines (length old.lines) old.lines ≡ lines = ap (λ (x : List (List ℕ)). first_lines (length x) x) is ∙ taken in
-      let kept : Stands (trial_story n) n (es ++ lines) new.disk.bytes = subst (λ fs. Stands (trial_story n) n (es ++ fs) new.disk.bytes) (ap (λ k. first_lines k lines) count ∙ taken) rests.keeps in
+      let kept : Stands (trial_story n) n (es ++ lines) new.disk.bytes =
+      subst (λ fs. Stands (trial_story n) n (es ++ fs) new.disk.bytes) (ap (λ k. first_lines k lines) count ∙ taken)
+      rests.keeps in
       record {
         stable = rests.stable;
         none = ap (λ (x : Standing). x.lines) reads.stands ∙ drop_all (length old.lines) old.lines (omega arith);
@@ -82,7 +87,9 @@ module _ (n : ℕ) (es lines behind : List (List ℕ)) (all : (es ++ lines) ++ b
   half_comes past most old new (play.Spent kind) is p =
       stopped (end.Spent kind) p.shows.0 (subst (StopsAs (end.Spent kind)) (sym (sym (ap (λ x. whole (first_lines p.shows.0 x)) is) ∙ p.shows.4.reading)) refl)
   half_comes past most old new (play.TooDeep table) is p =
-      stopped (end.TooDeep table) p.shows.0 (subst (StopsAs (end.TooDeep table)) (sym (sym (ap (λ x. whole (first_lines p.shows.0 x)) is) ∙ p.shows.4.reading)) refl)
+      stopped (end.TooDeep table) p.shows.0
+      (subst (StopsAs (end.TooDeep table))
+      (sym (sym (ap (λ x. whole (first_lines p.shows.0 x)) is) ∙ p.shows.4.reading)) refl)
   half_comes past most old new (play.Occupied size) is p = tt
   half_comes past most old new (play.Refused r) is p = tt
   half_comes past most old new (play.State at) is p = tt
@@ -93,19 +100,24 @@ module _ (n : ℕ) (es lines behind : List (List ℕ)) (all : (es ++ lines) ++ b
 -- ---- the first half ----
 
 module _ (n : ℕ) (old new : Standing) (is : old.lines ≡ first_half n) where
-  begun : (o : PlayEnd) → PlaysIn (StandsFor (trial_story n) n [] (first_half n)) (reading (trial_story n) n) store_name old new o → ComesTo n (first_half n) new (stop_of o)
+  begun : (o : PlayEnd) → PlaysIn (StandsFor (trial_story n) n [] (first_half n)) (reading (trial_story n) n) store_name
+      old new o → ComesTo n (first_half n) new (stop_of o)
   begun _ (memory e) = tt
   begun _ (spent kind r e same) = stops_later n [] (trial_lines n) (end.Spent kind) refl (subst (StopsAs (end.Spent kind)) (sym e) refl)
   begun _ (too_deep table r e same) = stops_later n [] (trial_lines n) (end.TooDeep table) refl (subst (StopsAs (end.TooDeep table)) (sym e) refl)
   begun _ (unmade c w e) = tt
   begun _ (plays o p) =
-      half_comes n [] (first_half n) (second_half n) (both_halves n) (first_are n) (reading (trial_story n) n) (λ stop fs h. h) (λ fs h. h) 0 MOST_EVENTS old new o is p
+      half_comes n [] (first_half n) (second_half n) (both_halves n) (first_are n) (reading (trial_story n) n)
+      (λ stop fs h. h) (λ fs h. h) 0 MOST_EVENTS old new o is p
 
-pub first_comes : (n : ℕ) (old new : Standing) (o : PlayEnd) → old.lines ≡ first_half n → PlaysGame (trial_story n) n store_name old new o → ComesTo n (first_half n) new (stop_of o)
+pub first_comes : (n : ℕ) (old new : Standing) (o : PlayEnd) → old.lines ≡ first_half n →
+    PlaysGame (trial_story n) n store_name old new o → ComesTo n (first_half n) new (stop_of o)
 first_comes n old new _ is (unattached u) = tt
 first_comes n old new _ is (occupied some e) = tt
 first_comes n old new _ is (plays_in o empty p) =
-    begun n (attached_to old store_name) new is o (subst (λ lines. PlaysIn (StandsFor (trial_story n) n [] lines) (reading (trial_story n) n) store_name (attached_to old store_name) new o) is p)
+    begun n (attached_to old store_name) new is o
+    (subst (λ lines. PlaysIn (StandsFor (trial_story n) n [] lines) (reading (trial_story n) n) store_name
+    (attached_to old store_name) new o) is p)
 
 -- ---- the second half ----
 
@@ -115,13 +127,17 @@ module _ (n : ℕ) (old new : Standing) (is : old.lines ≡ second_half n) where
   taken_up _ (of.unread e) = tt
   taken_up _ (of.memory e) = tt
   taken_up _ (of.plays o p) =
-      half_comes n (first_half n) (second_half n) [] (append-nil (first_half n ++ second_half n) ∙ both_halves n) (second_are n) (reading_since (trial_story n) n (first_half n))
+      half_comes n (first_half n) (second_half n) [] (append-nil (first_half n ++ second_half n) ∙ both_halves n)
+      (second_are n) (reading_since (trial_story n) n (first_half n))
       (λ stop fs h. stops_since (length (first_half n)) stop (reading (trial_story n) n (first_half n ++ fs)) h)
       (λ fs h. waits_since (length (first_half n)) (reading (trial_story n) n (first_half n ++ fs)) h)
       (length (first_half n)) (MOST_EVENTS - length (first_half n)) (attached_to old store_name) new o is
-      (subst (λ lines. PlaysWith (StandsFor (trial_story n) n (first_half n) lines) (reading_since (trial_story n) n (first_half n)) (length (first_half n)) store_name (MOST_EVENTS - length (first_half n)) (attached_to old store_name) new o) is p)
+      (subst (λ lines. PlaysWith (StandsFor (trial_story n) n (first_half n) lines)
+      (reading_since (trial_story n) n (first_half n)) (length (first_half n)) store_name
+      (MOST_EVENTS - length (first_half n)) (attached_to old store_name) new o) is p)
 
-pub second_comes : (n : ℕ) (old new : Standing) (o : PlayEnd) → n < 65536 → old.lines ≡ second_half n → Stands (trial_story n) n (first_half n) (store_bytes old store_name) →
+pub second_comes : (n : ℕ) (old new : Standing) (o : PlayEnd) → n < 65536 → old.lines ≡ second_half n →
+    Stands (trial_story n) n (first_half n) (store_bytes old store_name) →
     PlaysAgain (trial_story n) (sha256 (image (trial_game n))) store_name old new o → ComesTo n (trial_lines n) new (stop_of o)
 second_comes n old new o low is stands p =
     subst (λ lines. ComesTo n lines new (stop_of o)) (both_halves n)

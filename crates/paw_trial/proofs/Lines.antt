@@ -1,5 +1,6 @@
 -- The lines of a trial, and how they are taken.
-use Rattle.std.proofs.Common.{◌≡◌, ℕ, ◌/◌, ◌%◌, ◌≤◌, ◌<◌, Bool, true, false, List, [], ◌∷◌, ◌++◌, map, length, get_or, take, drop, refl, sym, ap, ◌∙◌, subst, arith, append_assoc}
+use Rattle.std.proofs.Common.{◌≡◌, ℕ, ◌/◌, ◌%◌, ◌≤◌, ◌<◌, Bool, true, false, List, [], ◌∷◌, ◌++◌, map, length, get_or, take, drop, refl, sym, ap, ◌∙◌, subst}
+use Rattle.std.proofs.Common.{arith, append_assoc}
 use Rattle.std.specs.Prelude.{All, ◌==◌, nat_lt, nat_le, codes, if◌then◌else◌}
 use Rattle.std.specs.List.{list_all}
 use Rattle.std.proofs.lemmas.Bool.Decides.{nat_tests}
@@ -99,7 +100,8 @@ pub all_taken : (lines : List (List ℕ)) → All IsLine lines → first_lines (
 all_taken lines are = first_taken (length lines) lines are ∙ take_all (length lines) lines (omega arith)
 
 -- those that were taken and those that are left
-pub taken_and_left : (before lines behind : List (List ℕ)) (k : ℕ) → All IsLine lines → (before ++ first_lines k lines) ++ (drop k lines ++ behind) ≡ (before ++ lines) ++ behind
+pub taken_and_left : (before lines behind : List (List ℕ)) (k : ℕ) → All IsLine lines →
+    (before ++ first_lines k lines) ++ (drop k lines ++ behind) ≡ (before ++ lines) ++ behind
 taken_and_left before lines behind k are =
     ap (λ xs. (before ++ xs) ++ (drop k lines ++ behind)) (first_taken k lines are)
     ∙ (sym (append_assoc (before ++ take k lines) (drop k lines) behind)

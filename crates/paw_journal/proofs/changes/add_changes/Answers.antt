@@ -9,17 +9,19 @@ loop-at-init c = record { turns = turns_none _ _ _ c.requires.empty; capacity = 
 
 pub loop-at-preserved : goal.loop-at-preserved
 loop-at-preserved c =
+    let told_old = c.told-old ∙ sym c.told-new in
     let at = c.loop-at.at in
     let h = c.loop-at.invariant.turns in
     let low : at < length c.args.old.now = omega (arith, c.told-old, c.loop-at-test.true) in
     elim c.if-old-at.branch [
       | then-old-at w ↦ record {
         turns = subst (λ r. TurnsTo c.args.old.now c.args.new.now (at + 1) r.items) (sym w.records-is)
-            (at_next _ _ _ at (turns_other _ _ _ _ at _ _ _ h (c.told-old ∙ sym c.told-new) low c.loop-at-test.true w.if-old-at.true (omega arith) refl w.add_change.ensures.added));
+            (at_next _ _ _ at (turns_other _ _ _ _ at _ _ _ h told_old low c.loop-at-test.true w.if-old-at.true (omega arith) refl w.add_change.ensures.added));
         capacity = omega (arith, ap vec_capacity w.records-is, w.add_change.ensures.capacity, c.loop-at.invariant.capacity);
       }
       | else-old-at w ↦ record {
-        turns = subst (λ r. TurnsTo c.args.old.now c.args.new.now (at + 1) r.items) (sym w.records-is) (at_next _ _ _ at (turns_same _ _ _ at h (c.told-old ∙ sym c.told-new) low w.if-old-at.false));
+        turns = subst (λ r. TurnsTo c.args.old.now c.args.new.now (at + 1) r.items) (sym w.records-is)
+        (at_next _ _ _ at (turns_same _ _ _ at h told_old low w.if-old-at.false));
         capacity = omega (arith, ap vec_capacity w.records-is, c.loop-at.invariant.capacity);
       }
     ]

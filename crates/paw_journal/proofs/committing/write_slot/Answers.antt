@@ -13,14 +13,19 @@ use Rattle.paw_journal.proofs.committing.write_slot.Goals as goal
 pub returns-in_err-write_part-2-clause-any_moment : goal.returns-in_err-write_part-2-clause-any_moment
 returns-in_err-write_part-2-clause-any_moment g c tells =
     let s = g.S.Stage.standing c.args.stage.now in
-    let none : IsFilling (slot_number c.args.which) s s = filling_none _ s (slot_small c.args.which) (c.requires.rests tells).stable (c.requires.made tells) (c.requires.beside tells) in
+    let none : IsFilling (slot_number c.args.which) s s =
+    filling_none _ s (slot_small c.args.which) (c.requires.rests tells).stable (c.requires.made tells)
+    (c.requires.beside tells) in
     let one = c.in_ok-write_part.ensures.filling tells s none in
-    Passes_on _ _ _ _ _ _ _ _ (c.write_part.ensures.any_moment tells s none) (c.write_part-2.ensures.any_moment (c.write_part.ensures.tells.0 tells) s one) (λ m q. q)
+    Passes_on _ _ _ _ _ _ _ _ (c.write_part.ensures.any_moment tells s none)
+    (c.write_part-2.ensures.any_moment (c.write_part.ensures.tells.0 tells) s one) (λ m q. q)
 
 pub returns-in_err-write_part-3-clause-any_moment : goal.returns-in_err-write_part-3-clause-any_moment
 returns-in_err-write_part-3-clause-any_moment g c tells =
     let s = g.S.Stage.standing c.args.stage.now in
-    let none : IsFilling (slot_number c.args.which) s s = filling_none _ s (slot_small c.args.which) (c.requires.rests tells).stable (c.requires.made tells) (c.requires.beside tells) in
+    let none : IsFilling (slot_number c.args.which) s s =
+    filling_none _ s (slot_small c.args.which) (c.requires.rests tells).stable (c.requires.made tells)
+    (c.requires.beside tells) in
     let one = c.in_ok-write_part.ensures.filling tells s none in
     let later = c.write_part.ensures.tells.0 tells in
     let two = c.in_ok-write_part-2.ensures.filling later s one in
@@ -31,7 +36,9 @@ returns-in_err-write_part-3-clause-any_moment g c tells =
 pub returns-clause-filled : goal.returns-clause-filled
 returns-clause-filled g c tells =
     let s = g.S.Stage.standing c.args.stage.now in
-    let none : IsFilling (slot_number c.args.which) s s = filling_none _ s (slot_small c.args.which) (c.requires.rests tells).stable (c.requires.made tells) (c.requires.beside tells) in
+    let none : IsFilling (slot_number c.args.which) s s =
+    filling_none _ s (slot_small c.args.which) (c.requires.rests tells).stable (c.requires.made tells)
+    (c.requires.beside tells) in
     let one = c.in_ok-write_part.ensures.filling tells s none in
     let later = c.write_part.ensures.tells.0 tells in
     let two = c.in_ok-write_part-2.ensures.filling later s one in
@@ -47,7 +54,9 @@ returns-clause-written g c tells =
     let last = c.write_part-2.ensures.tells.0 later in
     let one = c.in_ok-write_part.ensures.written tells in
     let two = c.in_ok-write_part-2.ensures.written later ∙ ap (put 4160 c.args.piece.now) one in
-    let three = c.in_ok-write_part-3.ensures.written last ∙ (ap (λ h. put 0 h (slot k (g.S.Stage.standing c.write_part-2.new.stage).disk.bytes)) c.head_of.ensures ∙ ap (put 0 (slot_head c.args.draft.records)) two) in
+    let three = c.in_ok-write_part-3.ensures.written last
+    ∙ (ap (λ h. put 0 h (slot k (g.S.Stage.standing c.write_part-2.new.stage).disk.bytes)) c.head_of.ensures
+    ∙ ap (put 0 (slot_head c.args.draft.records)) two) in
     on_ok_weaker c.sync.result (λ q. ap (λ x. slot k x.disk.bytes) q ∙ three) (c.sync.ensures.synced (c.write_part-3.ensures.tells.0 last))
 
 pub returns-clause-beside : goal.returns-clause-beside
@@ -60,7 +69,9 @@ returns-clause-beside g c tells =
 pub returns-clause-any_moment : goal.returns-clause-any_moment
 returns-clause-any_moment g c tells =
     let s = g.S.Stage.standing c.args.stage.now in
-    let none : IsFilling (slot_number c.args.which) s s = filling_none _ s (slot_small c.args.which) (c.requires.rests tells).stable (c.requires.made tells) (c.requires.beside tells) in
+    let none : IsFilling (slot_number c.args.which) s s =
+    filling_none _ s (slot_small c.args.which) (c.requires.rests tells).stable (c.requires.made tells)
+    (c.requires.beside tells) in
     let one = c.in_ok-write_part.ensures.filling tells s none in
     let later = c.write_part.ensures.tells.0 tells in
     let two = c.in_ok-write_part-2.ensures.filling later s one in

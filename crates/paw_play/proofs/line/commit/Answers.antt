@@ -21,6 +21,9 @@ returns-clause-shown g c = λ tells.
 pub returns-clause-any_moment : goal.returns-clause-any_moment
 returns-clause-any_moment g c = λ tells.
     let old : Standing = g.S.Stage.standing c.args.stage.now in
-    subst (λ (x : Recovered). Passes (g.S.Stage.clock c.args.stage.now) (g.S.Stage.clock c.commit.new.stage) (g.S.Stage.since c.args.stage.now) (g.S.Stage.since c.commit.new.stage) (InStore old (Leaves (IsEither (recover old.disk.bytes) x))))
-    (same_shown (kept_digest old.disk.bytes) _ c.piece.result.now (seat_state c.args.events c.args.player.now) c.args.player.now.piece c.put_state.ensures.state c.piece.ensures.value)
+    subst (λ (x : Recovered). Passes (g.S.Stage.clock c.args.stage.now) (g.S.Stage.clock c.commit.new.stage)
+    (g.S.Stage.since c.args.stage.now) (g.S.Stage.since c.commit.new.stage)
+    (InStore old (Leaves (IsEither (recover old.disk.bytes) x))))
+    (same_shown (kept_digest old.disk.bytes) _ c.piece.result.now (seat_state c.args.events c.args.player.now)
+    c.args.player.now.piece c.put_state.ensures.state c.piece.ensures.value)
     (c.commit.ensures.any_moment tells)

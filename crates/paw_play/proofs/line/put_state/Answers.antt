@@ -8,9 +8,11 @@ use Rattle.paw_play.proofs.line.put_state.Goals as goal
 pub returns-clause-state : goal.returns-clause-state
 unfolding kept_bytes
 returns-clause-state g c =
-    cut (state_bytes (state_of c.parts-parts.result.world.now c.parts-parts.result.machine.now c.parts-parts.result.pending.now c.parts-parts.result.prompt c.args.events (length c.piece.result.now)))
+    cut (state_bytes (state_of c.parts-parts.result.world.now c.parts-parts.result.machine.now
+    c.parts-parts.result.pending.now c.parts-parts.result.prompt c.args.events (length c.piece.result.now)))
     (zeros 677) c.write_state.new.into 3419 c.write_state.ensures.value c.write_state.ensures.length
-    ∙ same_parts _ _ _ _ _ _ _ _ c.args.events _ _ c.parts-parts.ensures.world c.parts-parts.ensures.machine c.parts-parts.ensures.pending c.parts-parts.ensures.prompt
+    ∙ same_parts _ _ _ _ _ _ _ _ c.args.events _ _ c.parts-parts.ensures.world c.parts-parts.ensures.machine
+    c.parts-parts.ensures.pending c.parts-parts.ensures.prompt
     (ap length c.piece.ensures.value)
 
 pub returns-clause-piece : goal.returns-clause-piece

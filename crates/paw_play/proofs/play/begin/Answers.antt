@@ -23,63 +23,118 @@ returns-in-Some-told-clause-outside g c = outside_walk c.in-Some-told.end c.in-S
 
 pub returns-in-None-clause-kept : goal.returns-in-None-clause-kept
 returns-in-None-clause-kept g c = λ tells.
-    keeps_shown _ _ (g.S.Stage.standing c.create.new.stage) (g.S.Stage.standing c.told.new.stage) _ (c.in-Ok.ensures.kept tells) (c.in-None.ensures.meaning (c.create.ensures.tells.0 tells)).2
+    keeps_shown _ _ (g.S.Stage.standing c.create.new.stage) (g.S.Stage.standing c.told.new.stage) _
+    (c.in-Ok.ensures.kept tells) (c.in-None.ensures.meaning (c.create.ensures.tells.0 tells)).2
 
 pub returns-in-Some-clause-meaning : goal.returns-in-Some-clause-meaning
 returns-in-Some-clause-meaning g c = λ tells X rows name store.
-    begin_refused (story_of c.args.player.now.game X) (new_session (story_of c.args.player.now.game X) c.args.player.now.world.seed c.args.game.now name) _ c.start-step.result c.start-step.new.self c.in-Some.end (c.start-step.ensures.meaning X rows)
+    let story = story_of c.args.player.now.game X in
+    begin_refused story (new_session story c.args.player.now.world.seed c.args.game.now name) _ c.start-step.result
+    c.start-step.new.self c.in-Some.end (c.start-step.ensures.meaning X rows)
     (sym c.in-Some.ensures.value)
 
 pub returns-in-Err-clause-any_moment : goal.returns-in-Err-clause-any_moment
 returns-in-Err-clause-any_moment g c = λ tells X rows name store.
-    (Passes_map _ _ _ _ _ (λ m. InMaking (new_session (story_of c.args.player.now.game X) c.args.player.now.world.seed c.args.game.now name) (g.S.Stage.standing c.args.stage.now) m ⊎ InPlay (new_session (story_of c.args.player.now.game X) c.args.player.now.world.seed c.args.game.now name) (g.S.Stage.standing c.args.stage.now) m)
+    let story = story_of c.args.player.now.game X in
+    let old = g.S.Stage.standing c.args.stage.now in
+    let session = new_session story c.args.player.now.world.seed c.args.game.now name in
+    (Passes_map _ _ _ _ _ (λ m. InMaking session old m ⊎ InPlay session old m)
     (c.create.ensures.any_moment tells)
-    (λ m i. inl (in_making (story_of c.args.player.now.game X) (new_session (story_of c.args.player.now.game X) c.args.player.now.world.seed c.args.game.now name) _ (g.S.Stage.standing c.create.new.stage) c.start-step.new.self c.start-step.result refl store c.start-step.ensures.seated c.start-step.ensures.last (c.start-step.ensures.meaning X rows) (shows_piece c.start-step.result c.in_default.ensures.value) (c.create.ensures.beside tells) m
-    (subst (λ x. InStore (g.S.Stage.standing c.args.stage.now) (Leaves (λ r. IsUnmade r ⊎ (r ≡ x))) m) (ap (λ x. Shown c.args.game.now x c.piece.result.now) c.put_state.ensures.state ∙ ap (λ x. Shown c.args.game.now (seat_state 0 c.start-step.new.self) x) c.piece.ensures.value) i))))
+    (λ m i. inl (in_making story session _ (g.S.Stage.standing c.create.new.stage) c.start-step.new.self
+    c.start-step.result refl store c.start-step.ensures.seated c.start-step.ensures.last
+    (c.start-step.ensures.meaning X rows) (shows_piece c.start-step.result c.in_default.ensures.value)
+    (c.create.ensures.beside tells) m
+    (subst (λ x. InStore old (Leaves (λ r. IsUnmade r ⊎ (r ≡ x))) m)
+    (ap (λ x. Shown c.args.game.now x c.piece.result.now) c.put_state.ensures.state
+    ∙ ap (λ x. Shown c.args.game.now (seat_state 0 c.start-step.new.self) x) c.piece.ensures.value) i))))
 
 pub returns-in-Some-told-clause-meaning : goal.returns-in-Some-told-clause-meaning
 returns-in-Some-told-clause-meaning g c = λ tells X rows name store.
-    let rests = rests_first (story_of c.args.player.now.game X) (new_session (story_of c.args.player.now.game X) c.args.player.now.world.seed c.args.game.now name) _ (g.S.Stage.standing c.create.new.stage) c.start-step.new.self c.start-step.result refl store c.start-step.ensures.seated
-    c.start-step.ensures.last (c.start-step.ensures.meaning X rows) (shows_piece c.start-step.result c.in_default.ensures.value) (c.create.ensures.beside tells)
-    (c.in-Ok.ensures.kept tells).rests.stable (c.in-Ok.ensures.shown tells ∙ ap (λ x. Shown c.args.game.now x c.piece.result.now) c.put_state.ensures.state ∙ ap (λ x. Shown c.args.game.now (seat_state 0 c.start-step.new.self) x) c.piece.ensures.value) in
-    begins_last (story_of c.args.player.now.game X) (new_session (story_of c.args.player.now.game X) c.args.player.now.world.seed c.args.game.now name) _ (g.S.Stage.standing c.create.new.stage) c.start-step.new.self c.start-step.result refl store c.start-step.ensures.seated
-    c.start-step.ensures.last (c.start-step.ensures.meaning X rows) (shows_piece c.start-step.result c.in_default.ensures.value) (c.create.ensures.beside tells)
+    let beside_of_create = c.create.ensures.beside tells in
+    let story = story_of c.args.player.now.game X in
+    let meaning_of_start_step = c.start-step.ensures.meaning X rows in
+    let after_create = g.S.Stage.standing c.create.new.stage in
+    let piece2 = shows_piece c.start-step.result c.in_default.ensures.value in
+    let session = new_session story c.args.player.now.world.seed c.args.game.now name in
+    let rests = rests_first story session _ after_create c.start-step.new.self c.start-step.result refl store c.start-step.ensures.seated
+    c.start-step.ensures.last meaning_of_start_step piece2 beside_of_create
+    (c.in-Ok.ensures.kept tells).rests.stable
+    (c.in-Ok.ensures.shown tells ∙ ap (λ x. Shown c.args.game.now x c.piece.result.now) c.put_state.ensures.state
+    ∙ ap (λ x. Shown c.args.game.now (seat_state 0 c.start-step.new.self) x) c.piece.ensures.value) in
+    begins_last story session _ after_create c.start-step.new.self c.start-step.result refl store c.start-step.ensures.seated
+    c.start-step.ensures.last meaning_of_start_step piece2 beside_of_create
     _ c.in-Some-told.end rests (c.in-Some-told.ensures.meaning (c.create.ensures.tells.0 tells))
 
 pub returns-in-None-clause-meaning : goal.returns-in-None-clause-meaning
 returns-in-None-clause-meaning g c = λ tells X rows name store.
-    let rests = rests_first (story_of c.args.player.now.game X) (new_session (story_of c.args.player.now.game X) c.args.player.now.world.seed c.args.game.now name) _ (g.S.Stage.standing c.create.new.stage) c.start-step.new.self c.start-step.result refl store c.start-step.ensures.seated
-    c.start-step.ensures.last (c.start-step.ensures.meaning X rows) (shows_piece c.start-step.result c.in_default.ensures.value) (c.create.ensures.beside tells)
-    (c.in-Ok.ensures.kept tells).rests.stable (c.in-Ok.ensures.shown tells ∙ ap (λ x. Shown c.args.game.now x c.piece.result.now) c.put_state.ensures.state ∙ ap (λ x. Shown c.args.game.now (seat_state 0 c.start-step.new.self) x) c.piece.ensures.value) in
-    begins_next (story_of c.args.player.now.game X) (new_session (story_of c.args.player.now.game X) c.args.player.now.world.seed c.args.game.now name) _ (g.S.Stage.standing c.create.new.stage) c.start-step.new.self c.start-step.result refl store c.start-step.ensures.seated
-    c.start-step.ensures.last (c.start-step.ensures.meaning X rows) (shows_piece c.start-step.result c.in_default.ensures.value) (c.create.ensures.beside tells)
+    let beside_of_create = c.create.ensures.beside tells in
+    let story = story_of c.args.player.now.game X in
+    let meaning_of_start_step = c.start-step.ensures.meaning X rows in
+    let after_create = g.S.Stage.standing c.create.new.stage in
+    let piece2 = shows_piece c.start-step.result c.in_default.ensures.value in
+    let session = new_session story c.args.player.now.world.seed c.args.game.now name in
+    let rests = rests_first story session _ after_create c.start-step.new.self c.start-step.result refl store c.start-step.ensures.seated
+    c.start-step.ensures.last meaning_of_start_step piece2 beside_of_create
+    (c.in-Ok.ensures.kept tells).rests.stable
+    (c.in-Ok.ensures.shown tells ∙ ap (λ x. Shown c.args.game.now x c.piece.result.now) c.put_state.ensures.state
+    ∙ ap (λ x. Shown c.args.game.now (seat_state 0 c.start-step.new.self) x) c.piece.ensures.value) in
+    begins_next story session _ after_create c.start-step.new.self c.start-step.result refl store c.start-step.ensures.seated
+    c.start-step.ensures.last meaning_of_start_step piece2 beside_of_create
     _ rests (c.in-Ok.ensures.digest tells) (c.in-None.ensures.meaning (c.create.ensures.tells.0 tells))
 
 pub returns-in-Some-told-clause-any_moment : goal.returns-in-Some-told-clause-any_moment
 returns-in-Some-told-clause-any_moment g c = λ tells X rows name store.
-    let rests = rests_first (story_of c.args.player.now.game X) (new_session (story_of c.args.player.now.game X) c.args.player.now.world.seed c.args.game.now name) _ (g.S.Stage.standing c.create.new.stage) c.start-step.new.self c.start-step.result refl store c.start-step.ensures.seated
-    c.start-step.ensures.last (c.start-step.ensures.meaning X rows) (shows_piece c.start-step.result c.in_default.ensures.value) (c.create.ensures.beside tells)
-    (c.in-Ok.ensures.kept tells).rests.stable (c.in-Ok.ensures.shown tells ∙ ap (λ x. Shown c.args.game.now x c.piece.result.now) c.put_state.ensures.state ∙ ap (λ x. Shown c.args.game.now (seat_state 0 c.start-step.new.self) x) c.piece.ensures.value) in
+    let beside_of_create = c.create.ensures.beside tells in
+    let story = story_of c.args.player.now.game X in
+    let state2 = seat_state 0 c.start-step.new.self in
+    let meaning_of_start_step = c.start-step.ensures.meaning X rows in
+    let old = g.S.Stage.standing c.args.stage.now in
+    let after_create = g.S.Stage.standing c.create.new.stage in
+    let piece2 = shows_piece c.start-step.result c.in_default.ensures.value in
+    let session = new_session story c.args.player.now.world.seed c.args.game.now name in
+    let rests = rests_first story session _ after_create c.start-step.new.self c.start-step.result refl store c.start-step.ensures.seated
+    c.start-step.ensures.last meaning_of_start_step piece2 beside_of_create
+    (c.in-Ok.ensures.kept tells).rests.stable
+    (c.in-Ok.ensures.shown tells ∙ ap (λ x. Shown c.args.game.now x c.piece.result.now) c.put_state.ensures.state
+    ∙ ap (λ x. Shown c.args.game.now state2 x) c.piece.ensures.value) in
     Passes_on _ _ _ _ _ _ _ _
-    (Passes_map _ _ _ _ _ (λ m. InMaking (new_session (story_of c.args.player.now.game X) c.args.player.now.world.seed c.args.game.now name) (g.S.Stage.standing c.args.stage.now) m ⊎ InPlay (new_session (story_of c.args.player.now.game X) c.args.player.now.world.seed c.args.game.now name) (g.S.Stage.standing c.args.stage.now) m)
+    (Passes_map _ _ _ _ _ (λ m. InMaking session old m ⊎ InPlay session old m)
     (c.create.ensures.any_moment tells)
-    (λ m i. inl (in_making (story_of c.args.player.now.game X) (new_session (story_of c.args.player.now.game X) c.args.player.now.world.seed c.args.game.now name) _ (g.S.Stage.standing c.create.new.stage) c.start-step.new.self c.start-step.result refl store c.start-step.ensures.seated c.start-step.ensures.last (c.start-step.ensures.meaning X rows) (shows_piece c.start-step.result c.in_default.ensures.value) (c.create.ensures.beside tells) m
-    (subst (λ x. InStore (g.S.Stage.standing c.args.stage.now) (Leaves (λ r. IsUnmade r ⊎ (r ≡ x))) m) (ap (λ x. Shown c.args.game.now x c.piece.result.now) c.put_state.ensures.state ∙ ap (λ x. Shown c.args.game.now (seat_state 0 c.start-step.new.self) x) c.piece.ensures.value) i))))
+    (λ m i. inl (in_making story session _ after_create c.start-step.new.self c.start-step.result refl store
+    c.start-step.ensures.seated c.start-step.ensures.last meaning_of_start_step piece2 beside_of_create m
+    (subst (λ x. InStore old (Leaves (λ r. IsUnmade r ⊎ (r ≡ x))) m)
+    (ap (λ x. Shown c.args.game.now x c.piece.result.now) c.put_state.ensures.state
+    ∙ ap (λ x. Shown c.args.game.now state2 x) c.piece.ensures.value) i))))
     (c.told.ensures.time (c.create.ensures.tells.0 tells))
-    (λ m i. inr (in_first_show (story_of c.args.player.now.game X) (new_session (story_of c.args.player.now.game X) c.args.player.now.world.seed c.args.game.now name) _ (g.S.Stage.standing c.create.new.stage) c.start-step.new.self c.start-step.result refl store c.start-step.ensures.seated c.start-step.ensures.last (c.start-step.ensures.meaning X rows) (shows_piece c.start-step.result c.in_default.ensures.value) (c.create.ensures.beside tells) m rests i))
+    (λ m i. inr (in_first_show story session _ after_create c.start-step.new.self c.start-step.result refl store
+    c.start-step.ensures.seated c.start-step.ensures.last meaning_of_start_step piece2 beside_of_create m rests i))
 
 pub returns-in-None-clause-any_moment : goal.returns-in-None-clause-any_moment
 returns-in-None-clause-any_moment g c = λ tells X rows name store.
-    let rests = rests_first (story_of c.args.player.now.game X) (new_session (story_of c.args.player.now.game X) c.args.player.now.world.seed c.args.game.now name) _ (g.S.Stage.standing c.create.new.stage) c.start-step.new.self c.start-step.result refl store c.start-step.ensures.seated
-    c.start-step.ensures.last (c.start-step.ensures.meaning X rows) (shows_piece c.start-step.result c.in_default.ensures.value) (c.create.ensures.beside tells)
-    (c.in-Ok.ensures.kept tells).rests.stable (c.in-Ok.ensures.shown tells ∙ ap (λ x. Shown c.args.game.now x c.piece.result.now) c.put_state.ensures.state ∙ ap (λ x. Shown c.args.game.now (seat_state 0 c.start-step.new.self) x) c.piece.ensures.value) in
+    let beside_of_create = c.create.ensures.beside tells in
+    let story = story_of c.args.player.now.game X in
+    let state2 = seat_state 0 c.start-step.new.self in
+    let meaning_of_start_step = c.start-step.ensures.meaning X rows in
+    let old = g.S.Stage.standing c.args.stage.now in
+    let after_create = g.S.Stage.standing c.create.new.stage in
+    let piece2 = shows_piece c.start-step.result c.in_default.ensures.value in
+    let session = new_session story c.args.player.now.world.seed c.args.game.now name in
+    let rests = rests_first story session _ after_create c.start-step.new.self c.start-step.result refl store c.start-step.ensures.seated
+    c.start-step.ensures.last meaning_of_start_step piece2 beside_of_create
+    (c.in-Ok.ensures.kept tells).rests.stable
+    (c.in-Ok.ensures.shown tells ∙ ap (λ x. Shown c.args.game.now x c.piece.result.now) c.put_state.ensures.state
+    ∙ ap (λ x. Shown c.args.game.now state2 x) c.piece.ensures.value) in
     Passes_on _ _ _ _ _ _ _ _
-    (Passes_map _ _ _ _ _ (λ m. InMaking (new_session (story_of c.args.player.now.game X) c.args.player.now.world.seed c.args.game.now name) (g.S.Stage.standing c.args.stage.now) m ⊎ InPlay (new_session (story_of c.args.player.now.game X) c.args.player.now.world.seed c.args.game.now name) (g.S.Stage.standing c.args.stage.now) m)
+    (Passes_map _ _ _ _ _ (λ m. InMaking session old m ⊎ InPlay session old m)
     (c.create.ensures.any_moment tells)
-    (λ m i. inl (in_making (story_of c.args.player.now.game X) (new_session (story_of c.args.player.now.game X) c.args.player.now.world.seed c.args.game.now name) _ (g.S.Stage.standing c.create.new.stage) c.start-step.new.self c.start-step.result refl store c.start-step.ensures.seated c.start-step.ensures.last (c.start-step.ensures.meaning X rows) (shows_piece c.start-step.result c.in_default.ensures.value) (c.create.ensures.beside tells) m
-    (subst (λ x. InStore (g.S.Stage.standing c.args.stage.now) (Leaves (λ r. IsUnmade r ⊎ (r ≡ x))) m) (ap (λ x. Shown c.args.game.now x c.piece.result.now) c.put_state.ensures.state ∙ ap (λ x. Shown c.args.game.now (seat_state 0 c.start-step.new.self) x) c.piece.ensures.value) i))))
+    (λ m i. inl (in_making story session _ after_create c.start-step.new.self c.start-step.result refl store
+    c.start-step.ensures.seated c.start-step.ensures.last meaning_of_start_step piece2 beside_of_create m
+    (subst (λ x. InStore old (Leaves (λ r. IsUnmade r ⊎ (r ≡ x))) m)
+    (ap (λ x. Shown c.args.game.now x c.piece.result.now) c.put_state.ensures.state
+    ∙ ap (λ x. Shown c.args.game.now state2 x) c.piece.ensures.value) i))))
     (c.told.ensures.time (c.create.ensures.tells.0 tells))
-    (λ m i. inr (in_first_show (story_of c.args.player.now.game X) (new_session (story_of c.args.player.now.game X) c.args.player.now.world.seed c.args.game.now name) _ (g.S.Stage.standing c.create.new.stage) c.start-step.new.self c.start-step.result refl store c.start-step.ensures.seated c.start-step.ensures.last (c.start-step.ensures.meaning X rows) (shows_piece c.start-step.result c.in_default.ensures.value) (c.create.ensures.beside tells) m rests i))
+    (λ m i. inr (in_first_show story session _ after_create c.start-step.new.self c.start-step.result refl store
+    c.start-step.ensures.seated c.start-step.ensures.last meaning_of_start_step piece2 beside_of_create m rests i))
 
 pub returns-in-Some-clause-faulted : goal.returns-in-Some-clause-faulted
 returns-in-Some-clause-faulted g c = rw c.in-Some.ensures.fine (λ k. refl)

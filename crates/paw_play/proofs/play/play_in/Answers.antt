@@ -21,7 +21,8 @@ pub play_lines-requires-clause-kept : goal.play_lines-requires-clause-kept
 play_lines-requires-clause-kept g c = λ tells. c.in-Ok-begin.ensures.kept (c.begin.ensures.tells.1 tells)
 
 pub returns-in-Ok-begin-clause-tells : goal.returns-in-Ok-begin-clause-tells
-returns-in-Ok-begin-clause-tells g c = (λ t. c.play_lines.ensures.tells.0 (c.begin.ensures.tells.0 t), λ t. c.begin.ensures.tells.1 (c.play_lines.ensures.tells.1 t))
+returns-in-Ok-begin-clause-tells g c = (λ t. c.play_lines.ensures.tells.0 (c.begin.ensures.tells.0 t), λ t.
+    c.begin.ensures.tells.1 (c.play_lines.ensures.tells.1 t))
 
 pub returns-in_default-clause-plays : goal.returns-in_default-clause-plays
 returns-in_default-clause-plays g c = λ tells X rows name store. memory refl
@@ -31,49 +32,63 @@ returns-in_default-new-clause-plays g c = λ tells X rows name store. memory ref
 
 pub returns-in-Ok-begin-clause-plays : goal.returns-in-Ok-begin-clause-plays
 returns-in-Ok-begin-clause-plays g c = λ tells X rows name store.
+    let game2 = g.T.Tables.game c.args.tables.now in
+    let old = g.S.Stage.standing c.args.stage.now in
     let s : Played = new_session (story_of c.in-Ok-new.player.game X) c.in-Ok-new.player.world.seed c.args.game.now name in
-    let same : s ≡ new_session (story_of (g.T.Tables.game c.args.tables.now) X) c.args.seed c.args.game.now name =
+    let same : s ≡ new_session (story_of game2 X) c.args.seed c.args.game.now name =
     ap (λ k. new_session (story_of k X) c.in-Ok-new.player.world.seed c.args.game.now name) c.in-Ok-new.ensures.game
-    ∙ ap (λ (w : World). new_session (story_of (g.T.Tables.game c.args.tables.now) X) w.seed c.args.game.now name) c.in-Ok-new.ensures.new.world in
+    ∙ ap (λ (w : World). new_session (story_of game2 X) w.seed c.args.game.now name) c.in-Ok-new.ensures.new.world in
     let own = subst (λ r. AreRowsOf g.F.Fn r X) (sym c.in-Ok-new.ensures.routines) rows in
     let later = subst (λ r. AreRowsOf g.F.Fn r X) (sym (c.begin.ensures.routines ∙ c.in-Ok-new.ensures.routines)) rows in
-    let playing = subst (λ k. IsPlaying (story_of k X) s (g.S.Stage.standing c.args.stage.now) (g.S.Stage.standing c.begin.new.stage) c.begin.new.player 0) (sym c.begin.ensures.game)
+    let playing = subst (λ k. IsPlaying (story_of k X) s old (g.S.Stage.standing c.begin.new.stage) c.begin.new.player 0) (sym c.begin.ensures.game)
     (c.in-Ok-begin.ensures.meaning tells X own name store) in
-    subst (λ q. PlaysInStore q (g.S.Stage.standing c.args.stage.now) (g.S.Stage.standing c.play_lines.new.stage) c.play_lines.result) same
-    (plays c.play_lines.result (c.play_lines.ensures.meaning (c.begin.ensures.tells.0 tells) X later s (g.S.Stage.standing c.args.stage.now) playing c.in-Ok-begin.ensures.events))
+    subst (λ q. PlaysInStore q old (g.S.Stage.standing c.play_lines.new.stage) c.play_lines.result) same
+    (plays c.play_lines.result (c.play_lines.ensures.meaning (c.begin.ensures.tells.0 tells) X later s old playing c.in-Ok-begin.ensures.events))
 
 pub returns-clause-plays : goal.returns-clause-plays
 returns-clause-plays g c = λ tells X rows name store.
-    let s : Played = new_session (story_of c.in-Ok-new.player.game X) c.in-Ok-new.player.world.seed c.args.game.now name in
-    let same : s ≡ new_session (story_of (g.T.Tables.game c.args.tables.now) X) c.args.seed c.args.game.now name =
+    let game2 = g.T.Tables.game c.args.tables.now in
+    let story = story_of c.in-Ok-new.player.game X in
+    let old = g.S.Stage.standing c.args.stage.now in
+    let after_begin = g.S.Stage.standing c.begin.new.stage in
+    let s : Played = new_session story c.in-Ok-new.player.world.seed c.args.game.now name in
+    let same : s ≡ new_session (story_of game2 X) c.args.seed c.args.game.now name =
     ap (λ k. new_session (story_of k X) c.in-Ok-new.player.world.seed c.args.game.now name) c.in-Ok-new.ensures.game
-    ∙ ap (λ (w : World). new_session (story_of (g.T.Tables.game c.args.tables.now) X) w.seed c.args.game.now name) c.in-Ok-new.ensures.new.world in
+    ∙ ap (λ (w : World). new_session (story_of game2 X) w.seed c.args.game.now name) c.in-Ok-new.ensures.new.world in
     let own = subst (λ r. AreRowsOf g.F.Fn r X) (sym c.in-Ok-new.ensures.routines) rows in
-    subst (λ q. PlaysInStore q (g.S.Stage.standing c.args.stage.now) (g.S.Stage.standing c.begin.new.stage) c.in-Err.end) same
-    (begun_plays (story_of c.in-Ok-new.player.game X) c.in-Ok-new.player.world.seed c.args.game.now name (g.S.Stage.standing c.args.stage.now) (g.S.Stage.standing c.begin.new.stage) c.in-Err.end (c.in-Err.ensures.meaning tells X own name store))
+    subst (λ q. PlaysInStore q old after_begin c.in-Err.end) same
+    (begun_plays story c.in-Ok-new.player.world.seed c.args.game.now name old after_begin c.in-Err.end (c.in-Err.ensures.meaning tells X own name store))
 
 pub returns-in-Ok-begin-clause-any_moment : goal.returns-in-Ok-begin-clause-any_moment
 returns-in-Ok-begin-clause-any_moment g c = λ tells X rows name store.
+    let game2 = g.T.Tables.game c.args.tables.now in
+    let old = g.S.Stage.standing c.args.stage.now in
     let s : Played = new_session (story_of c.in-Ok-new.player.game X) c.in-Ok-new.player.world.seed c.args.game.now name in
-    let same : s ≡ new_session (story_of (g.T.Tables.game c.args.tables.now) X) c.args.seed c.args.game.now name =
+    let same : s ≡ new_session (story_of game2 X) c.args.seed c.args.game.now name =
     ap (λ k. new_session (story_of k X) c.in-Ok-new.player.world.seed c.args.game.now name) c.in-Ok-new.ensures.game
-    ∙ ap (λ (w : World). new_session (story_of (g.T.Tables.game c.args.tables.now) X) w.seed c.args.game.now name) c.in-Ok-new.ensures.new.world in
+    ∙ ap (λ (w : World). new_session (story_of game2 X) w.seed c.args.game.now name) c.in-Ok-new.ensures.new.world in
     let own = subst (λ r. AreRowsOf g.F.Fn r X) (sym c.in-Ok-new.ensures.routines) rows in
     let later = subst (λ r. AreRowsOf g.F.Fn r X) (sym (c.begin.ensures.routines ∙ c.in-Ok-new.ensures.routines)) rows in
-    let playing = subst (λ k. IsPlaying (story_of k X) s (g.S.Stage.standing c.args.stage.now) (g.S.Stage.standing c.begin.new.stage) c.begin.new.player 0) (sym c.begin.ensures.game)
+    let playing = subst (λ k. IsPlaying (story_of k X) s old (g.S.Stage.standing c.begin.new.stage) c.begin.new.player 0) (sym c.begin.ensures.game)
     (c.in-Ok-begin.ensures.meaning tells X own name store) in
-    subst (λ q. Passes (g.S.Stage.clock c.args.stage.now) (g.S.Stage.clock c.play_lines.new.stage) (g.S.Stage.since c.args.stage.now) (g.S.Stage.since c.play_lines.new.stage) (λ m. InMaking q (g.S.Stage.standing c.args.stage.now) m ⊎ InPlay q (g.S.Stage.standing c.args.stage.now) m)) same
-    (Passes_on _ _ _ _ _ _ (λ m. InMaking s (g.S.Stage.standing c.args.stage.now) m ⊎ InPlay s (g.S.Stage.standing c.args.stage.now) m) _ (c.begin.ensures.any_moment tells X own name store)
-    (c.play_lines.ensures.any_moment (c.begin.ensures.tells.0 tells) X later s (g.S.Stage.standing c.args.stage.now) playing c.in-Ok-begin.ensures.events) (λ m i. inr i))
+    subst (λ q. Passes (g.S.Stage.clock c.args.stage.now) (g.S.Stage.clock c.play_lines.new.stage)
+    (g.S.Stage.since c.args.stage.now) (g.S.Stage.since c.play_lines.new.stage)
+    (λ m. InMaking q old m ⊎ InPlay q old m)) same
+    (Passes_on _ _ _ _ _ _ (λ m. InMaking s old m ⊎ InPlay s old m) _ (c.begin.ensures.any_moment tells X own name store)
+    (c.play_lines.ensures.any_moment (c.begin.ensures.tells.0 tells) X later s old playing c.in-Ok-begin.ensures.events) (λ m i. inr i))
 
 pub returns-clause-any_moment : goal.returns-clause-any_moment
 returns-clause-any_moment g c = λ tells X rows name store.
+    let game2 = g.T.Tables.game c.args.tables.now in
+    let old = g.S.Stage.standing c.args.stage.now in
     let s : Played = new_session (story_of c.in-Ok-new.player.game X) c.in-Ok-new.player.world.seed c.args.game.now name in
-    let same : s ≡ new_session (story_of (g.T.Tables.game c.args.tables.now) X) c.args.seed c.args.game.now name =
+    let same : s ≡ new_session (story_of game2 X) c.args.seed c.args.game.now name =
     ap (λ k. new_session (story_of k X) c.in-Ok-new.player.world.seed c.args.game.now name) c.in-Ok-new.ensures.game
-    ∙ ap (λ (w : World). new_session (story_of (g.T.Tables.game c.args.tables.now) X) w.seed c.args.game.now name) c.in-Ok-new.ensures.new.world in
+    ∙ ap (λ (w : World). new_session (story_of game2 X) w.seed c.args.game.now name) c.in-Ok-new.ensures.new.world in
     let own = subst (λ r. AreRowsOf g.F.Fn r X) (sym c.in-Ok-new.ensures.routines) rows in
-    subst (λ q. Passes (g.S.Stage.clock c.args.stage.now) (g.S.Stage.clock c.begin.new.stage) (g.S.Stage.since c.args.stage.now) (g.S.Stage.since c.begin.new.stage) (λ m. InMaking q (g.S.Stage.standing c.args.stage.now) m ⊎ InPlay q (g.S.Stage.standing c.args.stage.now) m)) same
+    subst (λ q. Passes (g.S.Stage.clock c.args.stage.now) (g.S.Stage.clock c.begin.new.stage)
+    (g.S.Stage.since c.args.stage.now) (g.S.Stage.since c.begin.new.stage) (λ m. InMaking q old m ⊎ InPlay q old m))
+    same
     (c.begin.ensures.any_moment tells X own name store)
 
 pub returns-in-Ok-begin-clause-faulted : goal.returns-in-Ok-begin-clause-faulted

@@ -35,21 +35,26 @@ returns-in-Err-clause-tells g c = (λ t. c.play_line.ensures.tells.0 (c.loop.inv
 
 pub returns-in-Err-clause-meaning : goal.returns-in-Err-clause-meaning
 returns-in-Err-clause-meaning g c = λ tells X rows s first start events.
+    let counter_of_loop = c.loop.counter - s.before in
     let i = c.loop.invariant in
     let few : c.loop.counter - s.before < MOST_EVENTS - s.before = omega (arith, c.loop-test.true, i.from, events) in
-    let at : c.loop.session.events ≡ s.before + (c.loop.counter - s.before) = omega (arith, i.events, i.from, events) in
-    c.in-Err.ensures.meaning (i.tells.0 tells) X (rw i.routines rows) s (MOST_EVENTS - s.before) (c.loop.counter - s.before) first (i.playing tells X rows s first start events) at few
+    let at : c.loop.session.events ≡ s.before + counter_of_loop = omega (arith, i.events, i.from, events) in
+    c.in-Err.ensures.meaning (i.tells.0 tells) X (rw i.routines rows) s (MOST_EVENTS - s.before) counter_of_loop first
+    (i.playing tells X rows s first start events) at few
 
 pub returns-in-Err-clause-any_moment : goal.returns-in-Err-clause-any_moment
 returns-in-Err-clause-any_moment g c = λ tells X rows s first start events.
+    let counter_of_loop = c.loop.counter - s.before in
     let i = c.loop.invariant in
     let few : c.loop.counter - s.before < MOST_EVENTS - s.before = omega (arith, c.loop-test.true, i.from, events) in
-    let at : c.loop.session.events ≡ s.before + (c.loop.counter - s.before) = omega (arith, i.events, i.from, events) in
+    let at : c.loop.session.events ≡ s.before + counter_of_loop = omega (arith, i.events, i.from, events) in
     Passes_on _ _ _ _ _ _ (InPlay s first) _ (i.passes tells X rows s first start events)
-    (c.in-Err.ensures.any_moment (i.tells.0 tells) X (rw i.routines rows) s (MOST_EVENTS - s.before) (c.loop.counter - s.before) first (i.playing tells X rows s first start events) at few) (λ m j. j)
+    (c.in-Err.ensures.any_moment (i.tells.0 tells) X (rw i.routines rows) s (MOST_EVENTS - s.before) counter_of_loop
+    first (i.playing tells X rows s first start events) at few) (λ m j. j)
 
 pub loop-preserved : goal.loop-preserved
 loop-preserved g c =
+    let after_play_line = g.S.Stage.standing c.play_line.new.stage in
     let i = c.loop.invariant in
     record {
       seated = c.play_line.ensures.seated;
@@ -65,22 +70,25 @@ loop-preserved g c =
       playing = λ tells X rows s first start events.
           let few : c.loop.counter - s.before < MOST_EVENTS - s.before = omega (arith, c.loop-test.true, i.from, events) in
           let at : c.loop.session.events ≡ s.before + (c.loop.counter - s.before) = omega (arith, i.events, i.from, events) in
-          let next = c.in-Ok.ensures.meaning (i.tells.0 tells) X (rw i.routines rows) s (MOST_EVENTS - s.before) (c.loop.counter - s.before) first (i.playing tells X rows s first start events) at few in
+          let next = c.in-Ok.ensures.meaning (i.tells.0 tells) X (rw i.routines rows) s (MOST_EVENTS - s.before)
+          (c.loop.counter - s.before) first (i.playing tells X rows s first start events) at few in
           let n : suc (c.loop.counter - s.before) ≡ c.loop.counter + 1 - s.before = omega (arith, i.from, events) in
-          subst (λ k. IsPlaying (story_of k X) s first (g.S.Stage.standing c.play_line.new.stage) c.play_line.new.player (c.loop.counter + 1 - s.before)) (sym c.play_line.ensures.game)
-          (subst (λ k. IsPlaying (story_of c.loop.player.game X) s first (g.S.Stage.standing c.play_line.new.stage) c.play_line.new.player k) n next);
+          subst (λ k. IsPlaying (story_of k X) s first after_play_line c.play_line.new.player (c.loop.counter + 1 - s.before)) (sym c.play_line.ensures.game)
+          (subst (λ k. IsPlaying (story_of c.loop.player.game X) s first after_play_line c.play_line.new.player k) n next);
       passes = λ tells X rows s first start events.
           let few : c.loop.counter - s.before < MOST_EVENTS - s.before = omega (arith, c.loop-test.true, i.from, events) in
           let at : c.loop.session.events ≡ s.before + (c.loop.counter - s.before) = omega (arith, i.events, i.from, events) in
           Passes_on _ _ _ _ _ _ (InPlay s first) _ (i.passes tells X rows s first start events)
-          (c.in-Ok.ensures.any_moment (i.tells.0 tells) X (rw i.routines rows) s (MOST_EVENTS - s.before) (c.loop.counter - s.before) first (i.playing tells X rows s first start events) at few) (λ m j. j);
+          (c.in-Ok.ensures.any_moment (i.tells.0 tells) X (rw i.routines rows) s (MOST_EVENTS - s.before)
+          (c.loop.counter - s.before) first (i.playing tells X rows s first start events) at few) (λ m j. j);
     }
 
 pub returns-clause-meaning : goal.returns-clause-meaning
 returns-clause-meaning g c = λ tells X rows s first start events.
     let i = c.loop.invariant in
     let all : c.loop.counter - s.before ≡ MOST_EVENTS - s.before = omega (arith, c.loop-test.false, i.few) in
-    long_play (story_of c.loop.player.game X) s (MOST_EVENTS - s.before) (c.loop.counter - s.before) first (g.S.Stage.standing c.loop.stage) c.loop.player (i.playing tells X rows s first start events) i.seated all
+    long_play (story_of c.loop.player.game X) s (MOST_EVENTS - s.before) (c.loop.counter - s.before) first
+    (g.S.Stage.standing c.loop.stage) c.loop.player (i.playing tells X rows s first start events) i.seated all
 
 pub returns-in-Err-clause-faulted : goal.returns-in-Err-clause-faulted
 returns-in-Err-clause-faulted g c = Faulted_on (failed_call c.in-Err.end) _ _ _ c.loop.invariant.faulted c.in-Err.ensures.faulted

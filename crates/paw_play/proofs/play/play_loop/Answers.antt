@@ -20,25 +20,30 @@ returns-then-at-ne0-clause-plays g c = λ tells X rows.
 
 pub returns-clause-plays : goal.returns-clause-plays
 returns-clause-plays g c = λ tells X rows.
+    let game2 = g.T.Tables.game c.args.tables.now in
+    let after_play_in = g.S.Stage.standing c.play_in.new.stage in
     let a = c.in-Ok.ensures.attached tells in
     let old : Standing = g.S.Stage.standing c.args.stage.now in
-    let s : Played = new_session (story_of (g.T.Tables.game c.args.tables.now) X) c.args.seed c.args.game.now c.args.name.now in
-    let store : IsStore c.args.name.now (g.S.Stage.standing c.attach.new.stage) = subst (IsStore c.args.name.now) (sym a.1) (store_attached old c.args.name.now) in
+    let s : Played = new_session (story_of game2 X) c.args.seed c.args.game.now c.args.name.now in
+    let store : IsStore c.args.name.now (g.S.Stage.standing c.attach.new.stage) =
+    subst (IsStore c.args.name.now) (sym a.1) (store_attached old c.args.name.now) in
     plays_in c.play_in.result (store_empty old _ c.args.name.now c.in-Ok.at.length a (omega (arith, c.if-at-ne0.false)))
-    (game_plays (story_of (g.T.Tables.game c.args.tables.now) X) c.args.seed c.args.game.now c.args.name.now c.requires.game old (g.S.Stage.standing c.play_in.new.stage) c.play_in.result
-    (subst (λ q. PlaysInStore s q (g.S.Stage.standing c.play_in.new.stage) c.play_in.result) a.1 (c.play_in.ensures.plays (c.attach.ensures.tells.0 tells) X rows c.args.name.now store)))
+    (game_plays (story_of game2 X) c.args.seed c.args.game.now c.args.name.now c.requires.game old after_play_in c.play_in.result
+    (subst (λ q. PlaysInStore s q after_play_in c.play_in.result) a.1 (c.play_in.ensures.plays (c.attach.ensures.tells.0 tells) X rows c.args.name.now store)))
 
 pub returns-clause-any_moment : goal.returns-clause-any_moment
 returns-clause-any_moment g c = λ tells X rows empty.
+    let game2 = g.T.Tables.game c.args.tables.now in
+    let after_attach = g.S.Stage.standing c.attach.new.stage in
     let a = c.in-Ok.ensures.attached tells in
     let old : Standing = g.S.Stage.standing c.args.stage.now in
-    let s : Played = new_session (story_of (g.T.Tables.game c.args.tables.now) X) c.args.seed c.args.game.now c.args.name.now in
-    let store : IsStore c.args.name.now (g.S.Stage.standing c.attach.new.stage) = subst (IsStore c.args.name.now) (sym a.1) (store_attached old c.args.name.now) in
-    Passes_on _ _ _ _ _ _ (InGame (story_of (g.T.Tables.game c.args.tables.now) X) c.args.seed c.args.name.now old) _
-    (Passes_map _ _ _ _ _ (InGame (story_of (g.T.Tables.game c.args.tables.now) X) c.args.seed c.args.name.now old) (c.in-Ok.ensures.time tells)
-    (λ m i. in_new_attach (story_of (g.T.Tables.game c.args.tables.now) X) c.args.seed c.args.name.now old (g.S.Stage.standing c.attach.new.stage) m a.1 empty i))
+    let s : Played = new_session (story_of game2 X) c.args.seed c.args.game.now c.args.name.now in
+    let store : IsStore c.args.name.now after_attach = subst (IsStore c.args.name.now) (sym a.1) (store_attached old c.args.name.now) in
+    Passes_on _ _ _ _ _ _ (InGame (story_of game2 X) c.args.seed c.args.name.now old) _
+    (Passes_map _ _ _ _ _ (InGame (story_of game2 X) c.args.seed c.args.name.now old) (c.in-Ok.ensures.time tells)
+    (λ m i. in_new_attach (story_of game2 X) c.args.seed c.args.name.now old after_attach m a.1 empty i))
     (c.play_in.ensures.any_moment (c.attach.ensures.tells.0 tells) X rows c.args.name.now store)
-    (λ m i. in_game (story_of (g.T.Tables.game c.args.tables.now) X) c.args.seed c.args.game.now c.args.name.now c.requires.game old m (subst (λ q. InMaking s q m ⊎ InPlay s q m) a.1 i))
+    (λ m i. in_game (story_of game2 X) c.args.seed c.args.game.now c.args.name.now c.requires.game old m (subst (λ q. InMaking s q m ⊎ InPlay s q m) a.1 i))
 
 pub returns-clause-faulted : goal.returns-clause-faulted
 returns-clause-faulted g c = Faulted_on (failed_call c.play_in.result) _ _ _ c.in-Ok.ensures.faulted c.play_in.ensures.faulted

@@ -29,9 +29,12 @@ returns-in_default-clause-plays g c = λ tells X rows. wanting (c.in-Ok.ensures.
 
 pub returns-in_default-clause-any_moment : goal.returns-in_default-clause-any_moment
 returns-in_default-clause-any_moment g c = λ tells X rows st piece shows.
+    let game2 = g.T.Tables.game c.args.tables.now in
+    let old = g.S.Stage.standing c.args.stage.now in
     let a = c.in-Ok.ensures.attached tells in
-    Passes_map _ _ _ _ _ (InAgain (kept_session (story_of (g.T.Tables.game c.args.tables.now) X) st piece c.args.game.now c.args.name.now) (g.S.Stage.standing c.args.stage.now)) (c.in-Ok.ensures.time tells)
-    (λ m i. in_again_attach (story_of (g.T.Tables.game c.args.tables.now) X) c.args.game.now c.args.name.now st piece (g.S.Stage.standing c.args.stage.now) c.counts-counts.ensures.valid shows (g.S.Stage.standing c.attach.new.stage) m a.1 i)
+    Passes_map _ _ _ _ _ (InAgain (kept_session (story_of game2 X) st piece c.args.game.now c.args.name.now) old) (c.in-Ok.ensures.time tells)
+    (λ m i. in_again_attach (story_of game2 X) c.args.game.now c.args.name.now st piece old
+    c.counts-counts.ensures.valid shows (g.S.Stage.standing c.attach.new.stage) m a.1 i)
 
 pub returns-in-Err-find-clause-outside : goal.returns-in-Err-find-clause-outside
 returns-in-Err-find-clause-outside g c =
@@ -43,47 +46,64 @@ returns-in-Err-find-clause-plays g c = λ tells X rows.
     let now = c.attach.ensures.tells.0 tells in
     let found = c.in-Err-find.ensures.found now in
     rw c.not_found.ensures.value
-    (refused_again (story_of (g.T.Tables.game c.args.tables.now) X) c.args.game.now c.args.name.now (g.S.Stage.standing c.args.stage.now) (g.S.Stage.standing c.find.new.stage) c.in-Err-find.refusal
-    (subst (λ (q : Standing). IsRefused (recover q.disk.bytes) c.args.game.now c.in-Err-find.refusal) a.1 found) c.in-Err-find.ensures.cause (c.find.ensures.still now ∙ a.1))
+    (refused_again (story_of (g.T.Tables.game c.args.tables.now) X) c.args.game.now c.args.name.now
+    (g.S.Stage.standing c.args.stage.now) (g.S.Stage.standing c.find.new.stage) c.in-Err-find.refusal
+    (subst (λ (q : Standing). IsRefused (recover q.disk.bytes) c.args.game.now c.in-Err-find.refusal) a.1 found)
+    c.in-Err-find.ensures.cause (c.find.ensures.still now ∙ a.1))
 
 pub returns-in-Err-find-clause-any_moment : goal.returns-in-Err-find-clause-any_moment
 returns-in-Err-find-clause-any_moment g c = λ tells X rows st piece shows.
+    let game2 = g.T.Tables.game c.args.tables.now in
+    let old = g.S.Stage.standing c.args.stage.now in
+    let after_attach = g.S.Stage.standing c.attach.new.stage in
+    let session = kept_session (story_of game2 X) st piece c.args.game.now c.args.name.now in
     let a = c.in-Ok.ensures.attached tells in
-    (Passes_on _ _ _ _ _ _ (InAgain (kept_session (story_of (g.T.Tables.game c.args.tables.now) X) st piece c.args.game.now c.args.name.now) (g.S.Stage.standing c.args.stage.now)) _
-    (Passes_map _ _ _ _ _ (InAgain (kept_session (story_of (g.T.Tables.game c.args.tables.now) X) st piece c.args.game.now c.args.name.now) (g.S.Stage.standing c.args.stage.now)) (c.in-Ok.ensures.time tells)
-    (λ m i. in_again_attach (story_of (g.T.Tables.game c.args.tables.now) X) c.args.game.now c.args.name.now st piece (g.S.Stage.standing c.args.stage.now) c.counts-counts.ensures.valid shows (g.S.Stage.standing c.attach.new.stage) m a.1 i))
+    (Passes_on _ _ _ _ _ _ (InAgain session old) _
+    (Passes_map _ _ _ _ _ (InAgain session old) (c.in-Ok.ensures.time tells)
+    (λ m i. in_again_attach (story_of game2 X) c.args.game.now c.args.name.now st piece old c.counts-counts.ensures.valid shows after_attach m a.1 i))
     (c.find.ensures.time (c.attach.ensures.tells.0 tells))
-    (λ m i. in_finding (story_of (g.T.Tables.game c.args.tables.now) X) c.args.game.now c.args.name.now st piece (g.S.Stage.standing c.args.stage.now) c.counts-counts.ensures.valid shows (g.S.Stage.standing c.attach.new.stage) m a.1 i))
+    (λ m i. in_finding (story_of game2 X) c.args.game.now c.args.name.now st piece old c.counts-counts.ensures.valid shows after_attach m a.1 i))
 
 pub returns-clause-plays : goal.returns-clause-plays
 returns-clause-plays g c = λ tells X rows.
+    let game2 = g.T.Tables.game c.args.tables.now in
+    let old = g.S.Stage.standing c.args.stage.now in
+    let after_find = g.S.Stage.standing c.find.new.stage in
+    let after_take_up = g.S.Stage.standing c.take_up.new.stage in
     let a = c.in-Ok.ensures.attached tells in
     let now = c.attach.ensures.tells.0 tells in
-    let is : g.S.Stage.standing c.find.new.stage ≡ attached_to (g.S.Stage.standing c.args.stage.now) c.args.name.now = c.find.ensures.still now ∙ a.1 in
-    let store : IsStore c.args.name.now (g.S.Stage.standing c.find.new.stage) = subst (IsStore c.args.name.now) (sym is) (store_attached (g.S.Stage.standing c.args.stage.now) c.args.name.now) in
+    let is : g.S.Stage.standing c.find.new.stage ≡ attached_to old c.args.name.now = c.find.ensures.still now ∙ a.1 in
+    let store : IsStore c.args.name.now after_find = subst (IsStore c.args.name.now) (sym is) (store_attached old c.args.name.now) in
     let up = c.take_up.ensures.plays (c.find.ensures.tells.0 now) X rows c.args.name.now store in
     plays_up c.take_up.result
-    (subst (λ q. PlaysUp (story_of (g.T.Tables.game c.args.tables.now) X) c.args.game.now c.args.name.now q (g.S.Stage.standing c.take_up.new.stage) c.take_up.result) is
-    (subst (λ d. PlaysUp (story_of (g.T.Tables.game c.args.tables.now) X) d c.args.name.now (g.S.Stage.standing c.find.new.stage) (g.S.Stage.standing c.take_up.new.stage) c.take_up.result) (c.in-Ok-find.ensures.digest now) up))
+    (subst (λ q. PlaysUp (story_of game2 X) c.args.game.now c.args.name.now q after_take_up c.take_up.result) is
+    (subst (λ d. PlaysUp (story_of game2 X) d c.args.name.now after_find after_take_up c.take_up.result) (c.in-Ok-find.ensures.digest now) up))
 
 pub returns-clause-any_moment : goal.returns-clause-any_moment
 returns-clause-any_moment g c = λ tells X rows st piece shows.
+    let game2 = g.T.Tables.game c.args.tables.now in
+    let old = g.S.Stage.standing c.args.stage.now in
+    let after_find = g.S.Stage.standing c.find.new.stage in
+    let after_attach = g.S.Stage.standing c.attach.new.stage in
+    let session = kept_session (story_of game2 X) st piece c.args.game.now c.args.name.now in
     let a = c.in-Ok.ensures.attached tells in
     let now = c.attach.ensures.tells.0 tells in
-    let is : g.S.Stage.standing c.find.new.stage ≡ attached_to (g.S.Stage.standing c.args.stage.now) c.args.name.now = c.find.ensures.still now ∙ a.1 in
-    let store : IsStore c.args.name.now (g.S.Stage.standing c.find.new.stage) = subst (IsStore c.args.name.now) (sym is) (store_attached (g.S.Stage.standing c.args.stage.now) c.args.name.now) in
-    let there = subst (λ (q : Standing). ShowsState (g.T.Tables.game c.args.tables.now) c.args.game.now q.disk.bytes st piece) (sym is) shows in
-    let own = subst (λ d. ShowsState (g.T.Tables.game c.args.tables.now) d (g.S.Stage.standing c.find.new.stage).disk.bytes st piece) (sym (c.in-Ok-find.ensures.digest now)) there in
+    let is : g.S.Stage.standing c.find.new.stage ≡ attached_to old c.args.name.now = c.find.ensures.still now ∙ a.1 in
+    let store : IsStore c.args.name.now after_find = subst (IsStore c.args.name.now) (sym is) (store_attached old c.args.name.now) in
+    let there = subst (λ (q : Standing). ShowsState game2 c.args.game.now q.disk.bytes st piece) (sym is) shows in
+    let own = subst (λ d. ShowsState game2 d after_find.disk.bytes st piece) (sym (c.in-Ok-find.ensures.digest now)) there in
     let up = c.take_up.ensures.any_moment (c.find.ensures.tells.0 now) X rows c.args.name.now store st piece own in
-    Passes_on _ _ _ _ _ _ (InAgain (kept_session (story_of (g.T.Tables.game c.args.tables.now) X) st piece c.args.game.now c.args.name.now) (g.S.Stage.standing c.args.stage.now)) _
-    (Passes_on _ _ _ _ _ _ (InAgain (kept_session (story_of (g.T.Tables.game c.args.tables.now) X) st piece c.args.game.now c.args.name.now) (g.S.Stage.standing c.args.stage.now)) _
-    (Passes_map _ _ _ _ _ (InAgain (kept_session (story_of (g.T.Tables.game c.args.tables.now) X) st piece c.args.game.now c.args.name.now) (g.S.Stage.standing c.args.stage.now)) (c.in-Ok.ensures.time tells)
-    (λ m i. in_again_attach (story_of (g.T.Tables.game c.args.tables.now) X) c.args.game.now c.args.name.now st piece (g.S.Stage.standing c.args.stage.now) c.counts-counts.ensures.valid shows (g.S.Stage.standing c.attach.new.stage) m a.1 i))
+    Passes_on _ _ _ _ _ _ (InAgain session old) _
+    (Passes_on _ _ _ _ _ _ (InAgain session old) _
+    (Passes_map _ _ _ _ _ (InAgain session old) (c.in-Ok.ensures.time tells)
+    (λ m i. in_again_attach (story_of game2 X) c.args.game.now c.args.name.now st piece old c.counts-counts.ensures.valid shows after_attach m a.1 i))
     (c.find.ensures.time (c.attach.ensures.tells.0 tells))
-    (λ m i. in_finding (story_of (g.T.Tables.game c.args.tables.now) X) c.args.game.now c.args.name.now st piece (g.S.Stage.standing c.args.stage.now) c.counts-counts.ensures.valid shows (g.S.Stage.standing c.attach.new.stage) m a.1 i))
+    (λ m i. in_finding (story_of game2 X) c.args.game.now c.args.name.now st piece old c.counts-counts.ensures.valid shows after_attach m a.1 i))
     up
-    (λ m i. in_taking_up (story_of (g.T.Tables.game c.args.tables.now) X) c.args.game.now c.args.name.now st piece (g.S.Stage.standing c.args.stage.now) c.counts-counts.ensures.valid shows m
-    (subst (λ q. InPlay (kept_session (story_of (g.T.Tables.game c.args.tables.now) X) st piece c.args.game.now c.args.name.now) q m) is (subst (λ d. InPlay (kept_session (story_of (g.T.Tables.game c.args.tables.now) X) st piece d c.args.name.now) (g.S.Stage.standing c.find.new.stage) m) (c.in-Ok-find.ensures.digest now) i)))
+    (λ m i. in_taking_up (story_of game2 X) c.args.game.now c.args.name.now st piece old c.counts-counts.ensures.valid shows m
+    (subst (λ q. InPlay session q m) is (subst
+    (λ d. InPlay (kept_session (story_of game2 X) st piece d c.args.name.now) after_find m)
+    (c.in-Ok-find.ensures.digest now) i)))
 
 pub returns-in-Err-find-clause-faulted : goal.returns-in-Err-find-clause-faulted
 returns-in-Err-find-clause-faulted g c =

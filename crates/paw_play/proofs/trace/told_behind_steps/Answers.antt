@@ -19,6 +19,7 @@ returns-in-Ok-clause-meaning g c = λ tells.
     let old : Standing = g.S.Stage.standing c.args.stage.now in
     let steps : List ℕ = kept_text c.args.player.now.machine.steps in
     let is : c.bytes.result.now ≡ steps = c.bytes.ensures.value ∙ c.write_steps.ensures.text ∙ ap kept_text c.steps.ensures.value in
-    told_after old (g.S.Stage.standing c.show.new.stage) (g.S.Stage.standing c.told.new.stage) steps c.args.player.now.piece c.args.step c.told.result c.in_default.ensures.value
+    told_after old (g.S.Stage.standing c.show.new.stage) (g.S.Stage.standing c.told.new.stage) steps
+    c.args.player.now.piece c.args.step c.told.result c.in_default.ensures.value
     (subst (λ t. g.S.Stage.standing c.show.new.stage ≡ record old { shown = old.shown ++ t }) is (c.in-Ok.ensures.shown tells))
     (c.told.ensures.meaning (c.show.ensures.tells.0 tells))

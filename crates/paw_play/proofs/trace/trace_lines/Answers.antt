@@ -14,7 +14,9 @@ returns-in-Some-clause-meaning g c = λ tells X rows whole first start.
     c.in-Some.ensures.meaning (c.loop.invariant.tells.0 tells) X (rw c.loop.invariant.routines rows) whole MOST_EVENTS c.loop.counter first w few
 
 pub loop-preserved : goal.loop-preserved
-loop-preserved g c = record {
+loop-preserved g c =
+    let after_trace_line = g.S.Stage.standing c.trace_line.new.stage in
+    record {
   seated = c.trace_line.ensures.seated;
   game = c.trace_line.ensures.game ∙ c.loop.invariant.game;
   routines = c.trace_line.ensures.routines ∙ c.loop.invariant.routines;
@@ -25,10 +27,11 @@ loop-preserved g c = record {
   tracing = λ tells X rows whole first start.
       let w = c.loop.invariant.tracing tells X rows whole first start in
       let few : c.loop.counter < MOST_EVENTS = omega (arith, c.loop-test.true) in
-      let on = c.in_default.ensures.meaning (c.loop.invariant.tells.0 tells) X (rw c.loop.invariant.routines rows) whole MOST_EVENTS c.loop.counter first w few in
+      let on = c.in_default.ensures.meaning (c.loop.invariant.tells.0 tells) X (rw c.loop.invariant.routines rows) whole
+      MOST_EVENTS c.loop.counter first w few in
       let n : suc c.loop.counter ≡ c.loop.counter + 1 = omega arith in
-      subst (λ k. IsTracing (story_of k X) whole first (g.S.Stage.standing c.trace_line.new.stage) c.trace_line.new.player (c.loop.counter + 1)) (sym c.trace_line.ensures.game)
-      (subst (λ k. IsTracing (story_of c.loop.player.game X) whole first (g.S.Stage.standing c.trace_line.new.stage) c.trace_line.new.player k) n on);
+      subst (λ k. IsTracing (story_of k X) whole first after_trace_line c.trace_line.new.player (c.loop.counter + 1)) (sym c.trace_line.ensures.game)
+      (subst (λ k. IsTracing (story_of c.loop.player.game X) whole first after_trace_line c.trace_line.new.player k) n on);
 }
 
 pub returns-clause-meaning : goal.returns-clause-meaning

@@ -20,19 +20,27 @@ trace_lines-requires-clause-rows g c = subst (λ r. HaveRows g.F.Fn r) (sym (c.s
 pub returns-in-Some-clause-traces : goal.returns-in-Some-clause-traces
 returns-in-Some-clause-traces g c = λ tells X rows.
     let own = subst (λ r. AreRowsOf g.F.Fn r X) (sym c.in-Ok-new.ensures.routines) rows in
-    subst (λ k. Walks (traced (reading (story_of k X) c.args.seed)) MOST_EVENTS (g.S.Stage.standing c.args.stage.now) (g.S.Stage.standing c.told_behind_steps.new.stage) c.in-Some.end) c.in-Ok-new.ensures.game
-    (trace_starts (story_of c.in-Ok-new.player.game X) c.args.seed MOST_EVENTS _ _ c.in-Ok-new.player c.start-step.new.self c.start-step.result (Some c.in-Some.end) c.in-Ok-new.ensures.new c.start-step.ensures.seated
+    subst (λ k. Walks (traced (reading (story_of k X) c.args.seed)) MOST_EVENTS (g.S.Stage.standing c.args.stage.now)
+    (g.S.Stage.standing c.told_behind_steps.new.stage) c.in-Some.end) c.in-Ok-new.ensures.game
+    (trace_starts (story_of c.in-Ok-new.player.game X) c.args.seed MOST_EVENTS _ _ c.in-Ok-new.player
+    c.start-step.new.self c.start-step.result (Some c.in-Some.end) c.in-Ok-new.ensures.new c.start-step.ensures.seated
     c.start-step.ensures.last (c.start-step.ensures.meaning X own) (c.in-Some.ensures.meaning tells))
 
 pub returns-clause-traces : goal.returns-clause-traces
 returns-clause-traces g c = λ tells X rows.
+    let story = story_of c.in-Ok-new.player.game X in
+    let old = g.S.Stage.standing c.args.stage.now in
     let own = subst (λ r. AreRowsOf g.F.Fn r X) (sym c.in-Ok-new.ensures.routines) rows in
     let later = subst (λ r. AreRowsOf g.F.Fn r X) (sym (c.start-step.ensures.routines ∙ c.in-Ok-new.ensures.routines)) rows in
-    let walking = trace_starts (story_of c.in-Ok-new.player.game X) c.args.seed MOST_EVENTS _ _ c.in-Ok-new.player c.start-step.new.self c.start-step.result None c.in-Ok-new.ensures.new c.start-step.ensures.seated
+    let walking = trace_starts story c.args.seed MOST_EVENTS _ _ c.in-Ok-new.player c.start-step.new.self
+    c.start-step.result None c.in-Ok-new.ensures.new c.start-step.ensures.seated
     c.start-step.ensures.last (c.start-step.ensures.meaning X own) (c.in_default-told_behind_steps.ensures.meaning tells) in
-    subst (λ k. Walks (traced (reading (story_of k X) c.args.seed)) MOST_EVENTS (g.S.Stage.standing c.args.stage.now) (g.S.Stage.standing c.trace_lines.new.stage) c.trace_lines.result) c.in-Ok-new.ensures.game
-    (c.trace_lines.ensures.meaning (c.told_behind_steps.ensures.tells.0 tells) X later _ (g.S.Stage.standing c.args.stage.now)
-    (subst (λ k. IsTracing (story_of k X) (reading (story_of c.in-Ok-new.player.game X) c.args.seed) (g.S.Stage.standing c.args.stage.now) (g.S.Stage.standing c.told_behind_steps.new.stage) c.start-step.new.self 0) (sym c.start-step.ensures.game) walking))
+    subst (λ k. Walks (traced (reading (story_of k X) c.args.seed)) MOST_EVENTS old
+    (g.S.Stage.standing c.trace_lines.new.stage) c.trace_lines.result) c.in-Ok-new.ensures.game
+    (c.trace_lines.ensures.meaning (c.told_behind_steps.ensures.tells.0 tells) X later _ old
+    (subst (λ k. IsTracing (story_of k X) (reading story c.args.seed) old
+    (g.S.Stage.standing c.told_behind_steps.new.stage) c.start-step.new.self 0) (sym c.start-step.ensures.game)
+    walking))
 
 pub returns-clause-faulted : goal.returns-clause-faulted
 returns-clause-faulted g c = Faulted_on (failed_call c.trace_lines.result) _ _ _ c.in_default-told_behind_steps.ensures.faulted c.trace_lines.ensures.faulted

@@ -12,7 +12,8 @@ returns c =
     let items : List Step = c.told_steps-step-items.result.now in
     let more : ℕ = c.saturating_sub.result in
     let short : length (more_line more) ≤ 27 = more_short more c.saturating_sub.type_inv in
-    let fits : length c.loop-step.text + length (more_line more) ≤ 65535 = omega (arith, loop.short, c.loop-step.auto.step-index-end, c.told_steps-step-items.ensures.few, short) in
+    let fits : length c.loop-step.text + length (more_line more) ≤ 65535 =
+    omega (arith, loop.short, c.loop-step.auto.step-index-end, c.told_steps-step-items.ensures.few, short) in
     let whole = put_whole c.put_more-fits.result c.loop-step.text c.put_more-fits.new.text (more_line more) c.put_more-fits.ensures.puts fits in
     let all : take c.loop-step.step-index items ≡ take 1000 c.args.steps.now.rows =
     take_all c.loop-step.step-index items c.loop-step-test.false ∙ c.told_steps-step-items.ensures.value ∙ ap (take 1000) c.rows.ensures in

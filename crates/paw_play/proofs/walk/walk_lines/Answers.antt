@@ -14,7 +14,9 @@ returns-in-Some-clause-meaning g c = λ tells X rows whole first start.
     c.in-Some.ensures.meaning (c.loop.invariant.tells.0 tells) X (rw c.loop.invariant.routines rows) whole MOST_EVENTS c.loop.counter first w few
 
 pub loop-preserved : goal.loop-preserved
-loop-preserved g c = record {
+loop-preserved g c =
+    let after_walk_line = g.S.Stage.standing c.walk_line.new.stage in
+    record {
   seated = c.walk_line.ensures.seated;
   game = c.walk_line.ensures.game ∙ c.loop.invariant.game;
   routines = c.walk_line.ensures.routines ∙ c.loop.invariant.routines;
@@ -25,10 +27,11 @@ loop-preserved g c = record {
   walking = λ tells X rows whole first start.
       let w = c.loop.invariant.walking tells X rows whole first start in
       let few : c.loop.counter < MOST_EVENTS = omega (arith, c.loop-test.true) in
-      let on = c.in_default.ensures.meaning (c.loop.invariant.tells.0 tells) X (rw c.loop.invariant.routines rows) whole MOST_EVENTS c.loop.counter first w few in
+      let on = c.in_default.ensures.meaning (c.loop.invariant.tells.0 tells) X (rw c.loop.invariant.routines rows) whole
+      MOST_EVENTS c.loop.counter first w few in
       let n : suc c.loop.counter ≡ c.loop.counter + 1 = omega arith in
-      subst (λ k. IsWalking (story_of k X) whole first (g.S.Stage.standing c.walk_line.new.stage) c.walk_line.new.player (c.loop.counter + 1)) (sym c.walk_line.ensures.game)
-      (subst (λ k. IsWalking (story_of c.loop.player.game X) whole first (g.S.Stage.standing c.walk_line.new.stage) c.walk_line.new.player k) n on);
+      subst (λ k. IsWalking (story_of k X) whole first after_walk_line c.walk_line.new.player (c.loop.counter + 1)) (sym c.walk_line.ensures.game)
+      (subst (λ k. IsWalking (story_of c.loop.player.game X) whole first after_walk_line c.walk_line.new.player k) n on);
 }
 
 pub returns-clause-meaning : goal.returns-clause-meaning

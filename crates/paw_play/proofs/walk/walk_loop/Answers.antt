@@ -19,19 +19,25 @@ walk_lines-requires-clause-rows g c = subst (λ r. HaveRows g.F.Fn r) (sym (c.st
 pub returns-in-Some-clause-walks : goal.returns-in-Some-clause-walks
 returns-in-Some-clause-walks g c = λ tells X rows.
     let own = subst (λ r. AreRowsOf g.F.Fn r X) (sym c.in-Ok.ensures.routines) rows in
-    subst (λ k. Walks (reading (story_of k X) c.args.seed) MOST_EVENTS (g.S.Stage.standing c.args.stage.now) (g.S.Stage.standing c.told.new.stage) c.in-Some.end) c.in-Ok.ensures.game
-    (walk_starts (story_of c.in-Ok.player.game X) c.args.seed MOST_EVENTS _ _ c.in-Ok.player c.start-step.new.self c.start-step.result (Some c.in-Some.end) c.in-Ok.ensures.new c.start-step.ensures.seated
+    subst (λ k. Walks (reading (story_of k X) c.args.seed) MOST_EVENTS (g.S.Stage.standing c.args.stage.now)
+    (g.S.Stage.standing c.told.new.stage) c.in-Some.end) c.in-Ok.ensures.game
+    (walk_starts (story_of c.in-Ok.player.game X) c.args.seed MOST_EVENTS _ _ c.in-Ok.player c.start-step.new.self
+    c.start-step.result (Some c.in-Some.end) c.in-Ok.ensures.new c.start-step.ensures.seated
     c.start-step.ensures.last (c.start-step.ensures.meaning X own) (c.in-Some.ensures.meaning tells))
 
 pub returns-clause-walks : goal.returns-clause-walks
 returns-clause-walks g c = λ tells X rows.
+    let story = story_of c.in-Ok.player.game X in
+    let old = g.S.Stage.standing c.args.stage.now in
     let own = subst (λ r. AreRowsOf g.F.Fn r X) (sym c.in-Ok.ensures.routines) rows in
     let later = subst (λ r. AreRowsOf g.F.Fn r X) (sym (c.start-step.ensures.routines ∙ c.in-Ok.ensures.routines)) rows in
-    let walking = walk_starts (story_of c.in-Ok.player.game X) c.args.seed MOST_EVENTS _ _ c.in-Ok.player c.start-step.new.self c.start-step.result None c.in-Ok.ensures.new c.start-step.ensures.seated
+    let walking = walk_starts story c.args.seed MOST_EVENTS _ _ c.in-Ok.player c.start-step.new.self c.start-step.result
+    None c.in-Ok.ensures.new c.start-step.ensures.seated
     c.start-step.ensures.last (c.start-step.ensures.meaning X own) (c.in_default-told.ensures.meaning tells) in
-    subst (λ k. Walks (reading (story_of k X) c.args.seed) MOST_EVENTS (g.S.Stage.standing c.args.stage.now) (g.S.Stage.standing c.walk_lines.new.stage) c.walk_lines.result) c.in-Ok.ensures.game
-    (c.walk_lines.ensures.meaning (c.told.ensures.tells.0 tells) X later _ (g.S.Stage.standing c.args.stage.now)
-    (subst (λ k. IsWalking (story_of k X) (reading (story_of c.in-Ok.player.game X) c.args.seed) (g.S.Stage.standing c.args.stage.now) (g.S.Stage.standing c.told.new.stage) c.start-step.new.self 0) (sym c.start-step.ensures.game) walking))
+    subst (λ k. Walks (reading (story_of k X) c.args.seed) MOST_EVENTS old (g.S.Stage.standing c.walk_lines.new.stage) c.walk_lines.result) c.in-Ok.ensures.game
+    (c.walk_lines.ensures.meaning (c.told.ensures.tells.0 tells) X later _ old
+    (subst (λ k. IsWalking (story_of k X) (reading story c.args.seed) old (g.S.Stage.standing c.told.new.stage)
+    c.start-step.new.self 0) (sym c.start-step.ensures.game) walking))
 
 pub returns-clause-faulted : goal.returns-clause-faulted
 returns-clause-faulted g c = Faulted_on (failed_call c.walk_lines.result) _ _ _ c.in_default-told.ensures.faulted c.walk_lines.ensures.faulted

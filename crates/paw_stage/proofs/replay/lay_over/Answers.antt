@@ -10,5 +10,7 @@ returns c j low =
     let to = c.min-to.result in
     let bytes = c.args.bytes.now in
     let into = c.args.into.now in
-    let all : take (length bytes - from) (drop from bytes) ≡ drop from bytes = take_all (length bytes - from) (drop from bytes) (omega (arith, length-drop from bytes)) in
-    lays c.args.place c.args.at from to bytes into c.copy_over.new.into j (omega arith) (omega arith) (c.copy_over.ensures ∙ ap (λ b. put to (take (length into - to) b) into) all) low
+    let all : take (length bytes - from) (drop from bytes) ≡ drop from bytes =
+    take_all (length bytes - from) (drop from bytes) (omega (arith, length-drop from bytes)) in
+    lays c.args.place c.args.at from to bytes into c.copy_over.new.into j (omega arith) (omega arith)
+    (c.copy_over.ensures ∙ ap (λ b. put to (take (length into - to) b) into) all) low

@@ -14,7 +14,8 @@ loop-call-preserved c =
     let ds = all_done room (take k calls) in
     let next = laid-next calls k c.loop-call.seen.len (length room) _ c.loop-call-test.true c.loop-call.invariant.rest in
     record {
-      sees = subst (λ s. Sees s c.args.name.now c.args.at c.seen_after-seen.result c.seen_after-seen.new.into) (sym (ap (after fresh) (done-next room calls k _ c.loop-call-test.true) ∙ after-push fresh ds _))
+      sees = subst (λ s. Sees s c.args.name.now c.args.at c.seen_after-seen.result c.seen_after-seen.new.into)
+      (sym (ap (after fresh) (done-next room calls k _ c.loop-call-test.true) ∙ after-push fresh ds _))
           (c.seen_after-seen.ensures.sees (after fresh ds) (after_filed ds) c.loop-call.invariant.sees);
       rest = laid-from (drop (k + 1) calls) _ c.seen_after-seen.result.len (length room) c.seen_after-seen.ensures.small next.3;
     }
@@ -23,4 +24,6 @@ pub seen_after-seen-requires-clause-order : goal.seen_after-seen-requires-clause
 seen_after-seen-requires-clause-order c = laid-at c.args.calls.now 0 (length c.args.room.now) c.loop-call.call-index _ c.requires c.loop-call-test.true
 
 pub seen_after-seen-requires-clause-small : goal.seen_after-seen-requires-clause-small
-seen_after-seen-requires-clause-small c = (laid-next c.args.calls.now c.loop-call.call-index c.loop-call.seen.len (length c.args.room.now) _ c.loop-call-test.true c.loop-call.invariant.rest).0
+seen_after-seen-requires-clause-small c =
+    (laid-next c.args.calls.now c.loop-call.call-index c.loop-call.seen.len (length c.args.room.now) _
+    c.loop-call-test.true c.loop-call.invariant.rest).0

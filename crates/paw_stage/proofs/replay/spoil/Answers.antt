@@ -11,8 +11,11 @@ spoil_after-requires c = laid-at c.args.calls.now 0 (length c.args.room.now) c.l
 
 pub loop-call-preserved : goal.loop-call-preserved
 loop-call-preserved c j low =
+    let index2 = slice_index c.args.store.now j in
     let room = c.args.room.now in
     let calls = c.args.calls.now in
     let k = c.loop-call.call-index in
-    subst (λ ds. slice_index c.spoil_after.new.store j ≡ spoiled_if (is_written ds j) (slice_index c.args.store.now j)) (sym (done-next room calls k _ c.loop-call-test.true))
-    (spoiled_more (all_done room (take k calls)) _ j (slice_index c.args.store.now j) (slice_index c.loop-call.store j) (slice_index c.spoil_after.new.store j) (c.spoil_after.ensures j (omega (arith, low, c.loop-call.auto.store))) (c.loop-call.invariant j low))
+    subst (λ ds. slice_index c.spoil_after.new.store j ≡ spoiled_if (is_written ds j) index2) (sym (done-next room calls k _ c.loop-call-test.true))
+    (spoiled_more (all_done room (take k calls)) _ j index2 (slice_index c.loop-call.store j)
+    (slice_index c.spoil_after.new.store j) (c.spoil_after.ensures j (omega (arith, low, c.loop-call.auto.store)))
+    (c.loop-call.invariant j low))

@@ -7,4 +7,6 @@ use Rattle.paw_stage.proofs.replay.spoil.Given as goal
 
 abbrev pub invariant-loop-call : goal.invariant-loop-call
 invariant-loop-call l =
-    (j : ℕ) → j < length l.initial.store → slice_index l.store j ≡ spoiled_if (is_written (all_done l.room (take l.call-index l.calls)) j) (slice_index l.initial.store j)
+    (j : ℕ) → j < length l.initial.store →
+    slice_index l.store j ≡ spoiled_if (is_written (all_done l.room (take l.call-index l.calls)) j)
+    (slice_index l.initial.store j)

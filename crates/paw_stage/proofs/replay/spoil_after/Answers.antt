@@ -9,4 +9,6 @@ pub returns-in-Write : goal.returns-in-Write
 returns-in-Write c j low =
     let n = length (slice_range c.args.room.now c.args.call.mid c.args.call.to) in
     let e = rw c.part-bytes.ensures at c.spoil_range.ensures in
-    subst (λ k. slice_index c.spoil_range.new.store j ≡ spoiled_if (writes k n j) (slice_index c.args.store.now j)) (sym c.in-Write.is) (spoils c.in-Write.place c.min-place.result n c.args.store.now c.spoil_range.new.store j c.min-place.ensures e low)
+    subst (λ k. slice_index c.spoil_range.new.store j ≡ spoiled_if (writes k n j) (slice_index c.args.store.now j))
+    (sym c.in-Write.is) (spoils c.in-Write.place c.min-place.result n c.args.store.now c.spoil_range.new.store j
+    c.min-place.ensures e low)

@@ -20,7 +20,9 @@ returns c =
     let room = c.args.room.now in
     let calls = c.args.calls.now in
     let new = c.spoil.new.store in
-    let file = ap (λ n. bytes_or_none ((after fresh (all_done room calls)).files n)) c.name_of.ensures ∙ store_file room (all_done room calls) c.args.store c.requires.found in
-    let spoilt = spoiled_file room calls c.args.store c.as_mut_slice.result.now new c.requires.found (c.as_mut_slice.ensures.value ∙ (c.in_ok-bytes.ensures ∙ file)) c.spoil.auto.store c.spoil.ensures in
+    let file = ap (λ n. bytes_or_none ((after fresh (all_done room calls)).files n)) c.name_of.ensures
+    ∙ store_file room (all_done room calls) c.args.store c.requires.found in
+    let spoilt = spoiled_file room calls c.args.store c.as_mut_slice.result.now new c.requires.found
+    (c.as_mut_slice.ensures.value ∙ (c.in_ok-bytes.ensures ∙ file)) c.spoil.auto.store c.spoil.ensures in
     let n : c.in_ok-bytes.bytes.len ≡ length new = omega (arith, c.spoil.auto.store, c.as_mut_slice.ensures.len) in
     ap (λ k. take k (new ++ drop (length new) c.in_ok-bytes.bytes.items)) n ∙ (take-append_seam new (drop (length new) c.in_ok-bytes.bytes.items) ∙ spoilt)

@@ -25,9 +25,11 @@ returns-in-Err-line_of-clause-compiles g c = λ tells.
 pub returns-clause-compiles : goal.returns-clause-compiles
 returns-clause-compiles g c = λ tells.
     let made = c.in-Ok-image_of.ensures.image in
-    keeps_image c.args.source.now c.args.image.now c.in-Ok.bytes.items c.as_slice-2.result.now c.as_bytes.result.now _ _ _ c.keep.result (c.in-Ok.ensures.some tells)
+    keeps_image c.args.source.now c.args.image.now c.in-Ok.bytes.items c.as_slice-2.result.now c.as_bytes.result.now _ _
+    _ c.keep.result (c.in-Ok.ensures.some tells)
     (made.0, ap spelled (sym c.as_slice.ensures.value) ∙ made.1, c.as_slice-2.ensures.value ∙ made.2)
-    (c.as_bytes.ensures.value ∙ c.in-Ok-line_of.ensures.line ∙ ap image_line (c.len.ensures ∙ c.in-Ok-image_of.made.ok.0 ∙ ap length (sym c.as_slice-2.ensures.value)))
+    (c.as_bytes.ensures.value ∙ c.in-Ok-line_of.ensures.line
+    ∙ ap image_line (c.len.ensures ∙ c.in-Ok-image_of.made.ok.0 ∙ ap length (sym c.as_slice-2.ensures.value)))
     (c.keep.ensures.keeps (c.load.ensures.tells.0 tells))
 
 pub returns-in-Err-image_of-clause-faulted : goal.returns-in-Err-image_of-clause-faulted

@@ -23,8 +23,10 @@ returns-in_default-clause-decompiles g c = λ tells. let f = c.in-Ok.ensures.som
 pub returns-clause-decompiles : goal.returns-clause-decompiles
 returns-clause-decompiles g c = λ tells.
     let f = c.in-Ok.ensures.some tells in
-    let holds = holds_loaded c.args.image.now c.in-Ok.bytes.items _ _ c.in-Ok-game_in.game f (subst (λ b. IsImage b c.in-Ok-game_in.game) c.as_slice.ensures.value c.in-Ok-game_in.ensures.found) in
-    shows_source c.args.image.now c.as_slice-2.result.now c.in-Ok-game_in.game _ _ _ c.tell.result holds f.3 (c.as_slice-2.ensures.value ∙ c.in-Ok-canonical.ensures.value)
+    let holds = holds_loaded c.args.image.now c.in-Ok.bytes.items _ _ c.in-Ok-game_in.game f
+    (subst (λ b. IsImage b c.in-Ok-game_in.game) c.as_slice.ensures.value c.in-Ok-game_in.ensures.found) in
+    shows_source c.args.image.now c.as_slice-2.result.now c.in-Ok-game_in.game _ _ _ c.tell.result holds f.3
+    (c.as_slice-2.ensures.value ∙ c.in-Ok-canonical.ensures.value)
     (c.tell.ensures.shows (c.load.ensures.tells.0 tells))
 
 pub returns-clause-faulted : goal.returns-clause-faulted

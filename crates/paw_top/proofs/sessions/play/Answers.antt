@@ -43,8 +43,10 @@ pub returns-clause-plays : goal.returns-clause-plays
 returns-clause-plays g c = λ tells X rows.
     let f = c.in-Ok.ensures.some tells in
     let game = game_of c.in-Ok-view_in.view in
-    let holds = holds_loaded c.args.image.now c.in-Ok.bytes.items _ _ game f (subst (λ b. IsImage b game) c.as_slice.ensures.value c.in-Ok-view_in.ensures.found) in
-    subst (PlaysNewIn X c.args.image.now c.args.store.now c.args.seed (g.S.Stage.standing c.args.stage.now) (g.S.Stage.standing c.play_loop.new.stage)) (sym c.outcome_of.ensures.value)
+    let holds = holds_loaded c.args.image.now c.in-Ok.bytes.items _ _ game f
+    (subst (λ b. IsImage b game) c.as_slice.ensures.value c.in-Ok-view_in.ensures.found) in
+    subst (PlaysNewIn X c.args.image.now c.args.store.now c.args.seed (g.S.Stage.standing c.args.stage.now)
+    (g.S.Stage.standing c.play_loop.new.stage)) (sym c.outcome_of.ensures.value)
     (plays game c.play_loop.result holds
     (plays_game (story_of game X) c.args.seed c.args.store.now _ _ _ c.play_loop.result f.3 (c.play_loop.ensures.plays (c.load.ensures.tells.0 tells) X rows)))
 
@@ -62,4 +64,5 @@ returns-clause-any_moment g c = λ tells s rows holds empty.
     (λ m i. game_moment s (story_of game s.rows) c.args.seed c.args.store.now old (g.S.Stage.standing c.load.new.stage) m f.3 same i)
 
 pub returns-clause-faulted : goal.returns-clause-faulted
-returns-clause-faulted g c = played_faulted c.play_loop.result c.outcome_of.result _ _ _ c.outcome_of.ensures.value c.in-Ok.ensures.faulted c.play_loop.ensures.faulted
+returns-clause-faulted g c = played_faulted c.play_loop.result c.outcome_of.result _ _ _ c.outcome_of.ensures.value
+    c.in-Ok.ensures.faulted c.play_loop.ensures.faulted

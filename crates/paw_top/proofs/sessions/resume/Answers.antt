@@ -65,9 +65,11 @@ pub returns-clause-plays : goal.returns-clause-plays
 returns-clause-plays g c = λ tells X rows.
     let f = c.in-Ok.ensures.some tells in
     let game = game_of c.in-Ok-view_in.view in
-    let holds = holds_loaded c.args.image.now c.in-Ok.bytes.items _ _ game f (subst (λ b. IsImage b game) c.as_slice.ensures.value c.in-Ok-view_in.ensures.found) in
+    let holds = holds_loaded c.args.image.now c.in-Ok.bytes.items _ _ game f
+    (subst (λ b. IsImage b game) c.as_slice.ensures.value c.in-Ok-view_in.ensures.found) in
     let kept = c.digest-kept.ensures.value ∙ ap sha256 (c.bytes.ensures.value ∙ c.bytes.ensures.image.spelled) in
-    subst (PlaysAgainIn X c.args.image.now c.args.store.now (g.S.Stage.standing c.args.stage.now) (g.S.Stage.standing c.resume_loop.new.stage)) (sym c.outcome_of.ensures.value)
+    subst (PlaysAgainIn X c.args.image.now c.args.store.now (g.S.Stage.standing c.args.stage.now)
+    (g.S.Stage.standing c.resume_loop.new.stage)) (sym c.outcome_of.ensures.value)
     (plays game c.resume_loop.result holds
     (plays_again (story_of game X) (digest_of game) c.digest-kept.result c.args.store.now _ _ _ c.resume_loop.result f.3 kept
     (c.resume_loop.ensures.plays (c.load.ensures.tells.0 tells) X rows)))
@@ -84,7 +86,8 @@ returns-clause-any_moment g c = λ tells s st piece rows holds shows.
     let one = same_game old c.args.image.now game s.game mine holds in
     let p : Played = session_from s c.args.store.now st piece in
     let k : Played = kept_session (story_of game s.rows) st piece c.digest-kept.result c.args.store.now in
-    let same = one_kept_session s (story_of game s.rows) st piece c.args.store.now c.digest-kept.result (same_story old c.args.image.now game s mine holds) kept in
+    let same = one_kept_session s (story_of game s.rows) st piece c.args.store.now c.digest-kept.result
+    (same_story old c.args.image.now game s mine holds) kept in
     Passes_on _ _ _ _ _ _ (InAgain p old) _
     (Passes_map _ _ _ _ _ (InAgain p old) (c.load.ensures.time tells) (λ m e. still_again p old m e))
     (c.resume_loop.ensures.any_moment (c.load.ensures.tells.0 tells) s.rows rows st piece
@@ -113,4 +116,5 @@ returns-clause-any_moment_on g c = λ tells s seed es rows holds played stands.
     (λ m i. in_going_on s seed es (store_bytes old c.args.store.now) shown.state shown.piece c.args.store.now played stands shown.shows old m i)
 
 pub returns-clause-faulted : goal.returns-clause-faulted
-returns-clause-faulted g c = played_faulted c.resume_loop.result c.outcome_of.result _ _ _ c.outcome_of.ensures.value c.in-Ok.ensures.faulted c.resume_loop.ensures.faulted
+returns-clause-faulted g c = played_faulted c.resume_loop.result c.outcome_of.result _ _ _ c.outcome_of.ensures.value
+    c.in-Ok.ensures.faulted c.resume_loop.ensures.faulted

@@ -36,28 +36,32 @@ pub returns-in-Some-Walk-clause-completes : goal.returns-in-Some-Walk-clause-com
 returns-in-Some-Walk-clause-completes g c = λ tells none.
     let asked = rw c.in-Some-Walk.field-0-is at c.in-Some-Walk.ensures.value in
     subst (λ q. Completes (g.S.Stage.standing c.args.stage.now) q c.walk.result) (sym asked)
-    (completes_walk reading c.requires.rows.0 c.in-Some-Walk.image.now c.in-Some-Walk.seed _ _ _ _ c.walk.result (c.walk.ensures.walks tells c.requires.rows.0 c.requires.rows.1)
+    (completes_walk reading c.requires.rows.0 c.in-Some-Walk.image.now c.in-Some-Walk.seed _ _ _ _ c.walk.result
+    (c.walk.ensures.walks tells c.requires.rows.0 c.requires.rows.1)
     (outside_rose IsCall _ _ c.walk.result c.walk.ensures.outside c.walk.ensures.faulted) none)
 
 pub returns-in-Some-Trace-clause-completes : goal.returns-in-Some-Trace-clause-completes
 returns-in-Some-Trace-clause-completes g c = λ tells none.
     let asked = rw c.in-Some-Trace.field-0-is at c.in-Some-Trace.ensures.value in
     subst (λ q. Completes (g.S.Stage.standing c.args.stage.now) q c.trace.result) (sym asked)
-    (completes_walk reading_traced c.requires.rows.0 c.in-Some-Trace.image.now c.in-Some-Trace.seed _ _ _ _ c.trace.result (c.trace.ensures.traces tells c.requires.rows.0 c.requires.rows.1)
+    (completes_walk reading_traced c.requires.rows.0 c.in-Some-Trace.image.now c.in-Some-Trace.seed _ _ _ _
+    c.trace.result (c.trace.ensures.traces tells c.requires.rows.0 c.requires.rows.1)
     (outside_rose IsCall _ _ c.trace.result c.trace.ensures.outside c.trace.ensures.faulted) none)
 
 pub returns-in-Some-Play-clause-completes : goal.returns-in-Some-Play-clause-completes
 returns-in-Some-Play-clause-completes g c = λ tells none.
     let asked = rw c.in-Some-Play.field-0-is at c.in-Some-Play.ensures.value in
     subst (λ q. Completes (g.S.Stage.standing c.args.stage.now) q c.play.result) (sym asked)
-    (completes_play c.requires.rows.0 c.in-Some-Play.image.now c.in-Some-Play.store.now c.in-Some-Play.seed _ _ _ _ c.play.result (c.play.ensures.plays tells c.requires.rows.0 c.requires.rows.1)
+    (completes_play c.requires.rows.0 c.in-Some-Play.image.now c.in-Some-Play.store.now c.in-Some-Play.seed _ _ _ _
+    c.play.result (c.play.ensures.plays tells c.requires.rows.0 c.requires.rows.1)
     (outside_rose IsKeptCall _ _ c.play.result c.play.ensures.outside c.play.ensures.faulted) none)
 
 pub returns-in-Some-Resume-clause-completes : goal.returns-in-Some-Resume-clause-completes
 returns-in-Some-Resume-clause-completes g c = λ tells none.
     let asked = rw c.in-Some-Resume.field-0-is at c.in-Some-Resume.ensures.value in
     subst (λ q. Completes (g.S.Stage.standing c.args.stage.now) q c.resume.result) (sym asked)
-    (completes_resume c.requires.rows.0 c.in-Some-Resume.image.now c.in-Some-Resume.store.now _ _ _ _ c.resume.result (c.resume.ensures.plays tells c.requires.rows.0 c.requires.rows.1)
+    (completes_resume c.requires.rows.0 c.in-Some-Resume.image.now c.in-Some-Resume.store.now _ _ _ _ c.resume.result
+    (c.resume.ensures.plays tells c.requires.rows.0 c.requires.rows.1)
     (outside_rose IsKeptCall _ _ c.resume.result c.resume.ensures.outside c.resume.ensures.faulted) none)
 
 pub returns-in-Some-Trial-clause-completes : goal.returns-in-Some-Trial-clause-completes
@@ -77,23 +81,26 @@ returns-in-Some-Play-clause-any_moment_of_play g c = λ tells image store seed a
 
 pub returns-in-Some-Resume-clause-any_moment_from_a_state : goal.returns-in-Some-Resume-clause-any_moment_from_a_state
 returns-in-Some-Resume-clause-any_moment_from_a_state g c = λ tells image store asked.
-    for_resume (λ i t. (s : Story) (st : State) (piece : List ℕ) → AreRowsOf g.F.Fn c.args.routines.now s.rows → Holds (g.S.Stage.standing c.args.stage.now) i s.game →
-    ShowsState s.game (digest_of s.game) (store_bytes (g.S.Stage.standing c.args.stage.now) t) st piece →
+    let old = g.S.Stage.standing c.args.stage.now in
+    for_resume (λ i t. (s : Story) (st : State) (piece : List ℕ) → AreRowsOf g.F.Fn c.args.routines.now s.rows → Holds old i s.game →
+    ShowsState s.game (digest_of s.game) (store_bytes old t) st piece →
     Passes (g.S.Stage.clock c.args.stage.now) (g.S.Stage.clock c.resume.new.stage) (g.S.Stage.since c.args.stage.now) (g.S.Stage.since c.resume.new.stage)
-    (InAgain (session_from s t st piece) (g.S.Stage.standing c.args.stage.now))) _ _ _ image store
+    (InAgain (session_from s t st piece) old)) _ _ _ image store
     (rw c.in-Some-Resume.field-0-is at c.in-Some-Resume.ensures.value) asked (c.resume.ensures.any_moment tells)
 
 pub returns-in-Some-Resume-clause-goes_on : goal.returns-in-Some-Resume-clause-goes_on
 returns-in-Some-Resume-clause-goes_on g c = λ tells image store asked.
-    for_resume (λ i t. (s : Story) (seed : ℕ) (es : List (List ℕ)) → AreRowsOf g.F.Fn c.args.routines.now s.rows → Holds (g.S.Stage.standing c.args.stage.now) i s.game →
-    IsPlayedWith s seed es → Stands s seed es (store_bytes (g.S.Stage.standing c.args.stage.now) t) →
-    GoesOnIn i t s seed es (g.S.Stage.standing c.args.stage.now) (g.S.Stage.standing c.resume.new.stage) c.resume.result) _ _ _ image store
+    let old = g.S.Stage.standing c.args.stage.now in
+    for_resume (λ i t. (s : Story) (seed : ℕ) (es : List (List ℕ)) → AreRowsOf g.F.Fn c.args.routines.now s.rows → Holds old i s.game →
+    IsPlayedWith s seed es → Stands s seed es (store_bytes old t) →
+    GoesOnIn i t s seed es old (g.S.Stage.standing c.resume.new.stage) c.resume.result) _ _ _ image store
     (rw c.in-Some-Resume.field-0-is at c.in-Some-Resume.ensures.value) asked (c.resume.ensures.goes_on tells)
 
 pub returns-in-Some-Resume-clause-any_moment_of_resume : goal.returns-in-Some-Resume-clause-any_moment_of_resume
 returns-in-Some-Resume-clause-any_moment_of_resume g c = λ tells image store asked.
-    for_resume (λ i t. (s : Story) (seed : ℕ) (es : List (List ℕ)) → AreRowsOf g.F.Fn c.args.routines.now s.rows → Holds (g.S.Stage.standing c.args.stage.now) i s.game →
-    IsPlayedWith s seed es → Stands s seed es (store_bytes (g.S.Stage.standing c.args.stage.now) t) →
+    let old = g.S.Stage.standing c.args.stage.now in
+    for_resume (λ i t. (s : Story) (seed : ℕ) (es : List (List ℕ)) → AreRowsOf g.F.Fn c.args.routines.now s.rows → Holds old i s.game →
+    IsPlayedWith s seed es → Stands s seed es (store_bytes old t) →
     Passes (g.S.Stage.clock c.args.stage.now) (g.S.Stage.clock c.resume.new.stage) (g.S.Stage.since c.args.stage.now) (g.S.Stage.since c.resume.new.stage)
-    (InGoingOn s seed es t (g.S.Stage.standing c.args.stage.now))) _ _ _ image store
+    (InGoingOn s seed es t old)) _ _ _ image store
     (rw c.in-Some-Resume.field-0-is at c.in-Some-Resume.ensures.value) asked (c.resume.ensures.any_moment_on tells)

@@ -8,10 +8,12 @@ pub returns-in-Ended-clause-tries : goal.returns-in-Ended-clause-tries
 returns-in-Ended-clause-tries c = λ n s h. halted n s end.Ended (trial_reading n) refl (subst (λ x. StopsAs x (trial_reading n)) c.in-Ended.is h)
 
 pub returns-in-Spent-clause-tries : goal.returns-in-Spent-clause-tries
-returns-in-Spent-clause-tries c = λ n s h. halted n s (end.Spent c.in-Spent.kind) (trial_reading n) refl (subst (λ x. StopsAs x (trial_reading n)) c.in-Spent.is h)
+returns-in-Spent-clause-tries c = λ n s h. halted n s (end.Spent c.in-Spent.kind) (trial_reading n) refl
+    (subst (λ x. StopsAs x (trial_reading n)) c.in-Spent.is h)
 
 pub returns-in-TooDeep-clause-tries : goal.returns-in-TooDeep-clause-tries
-returns-in-TooDeep-clause-tries c = λ n s h. halted n s (end.TooDeep c.in-TooDeep.table) (trial_reading n) refl (subst (λ x. StopsAs x (trial_reading n)) c.in-TooDeep.is h)
+returns-in-TooDeep-clause-tries c = λ n s h. halted n s (end.TooDeep c.in-TooDeep.table) (trial_reading n) refl
+    (subst (λ x. StopsAs x (trial_reading n)) c.in-TooDeep.is h)
 
 pub returns-in-Memory-clause-tries : goal.returns-in-Memory-clause-tries
 returns-in-Memory-clause-tries c = λ n s h. halted n s end.Memory (trial_reading n) refl tt

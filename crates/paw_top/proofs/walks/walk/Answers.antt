@@ -26,13 +26,16 @@ returns-clause-outside g c = walk_outside c.walk_loop.result c.outcome_of.result
 
 pub returns-clause-walks : goal.returns-clause-walks
 returns-clause-walks g c = λ tells X rows.
+    let after_walk_loop = g.S.Stage.standing c.walk_loop.new.stage in
     let f = c.in-Ok.ensures.some tells in
     let game = game_of c.in-Ok-view_in.view in
-    let holds = holds_loaded c.args.image.now c.in-Ok.bytes.items _ _ game f (subst (λ b. IsImage b game) c.as_slice.ensures.value c.in-Ok-view_in.ensures.found) in
-    subst (WalksIn X c.args.image.now c.args.seed (g.S.Stage.standing c.args.stage.now) (g.S.Stage.standing c.walk_loop.new.stage)) (sym c.outcome_of.ensures.value)
+    let holds = holds_loaded c.args.image.now c.in-Ok.bytes.items _ _ game f
+    (subst (λ b. IsImage b game) c.as_slice.ensures.value c.in-Ok-view_in.ensures.found) in
+    subst (WalksIn X c.args.image.now c.args.seed (g.S.Stage.standing c.args.stage.now) after_walk_loop) (sym c.outcome_of.ensures.value)
     (walks game c.walk_loop.result holds
-    (subst (λ s. Walks (reading (story_of game X) c.args.seed) MOST_EVENTS s (g.S.Stage.standing c.walk_loop.new.stage) c.walk_loop.result) f.3
+    (subst (λ s. Walks (reading (story_of game X) c.args.seed) MOST_EVENTS s after_walk_loop c.walk_loop.result) f.3
     (c.walk_loop.ensures.walks (c.load.ensures.tells.0 tells) X rows)))
 
 pub returns-clause-faulted : goal.returns-clause-faulted
-returns-clause-faulted g c = played_faulted c.walk_loop.result c.outcome_of.result _ _ _ c.outcome_of.ensures.value c.in-Ok.ensures.faulted c.walk_loop.ensures.faulted
+returns-clause-faulted g c = played_faulted c.walk_loop.result c.outcome_of.result _ _ _ c.outcome_of.ensures.value
+    c.in-Ok.ensures.faulted c.walk_loop.ensures.faulted

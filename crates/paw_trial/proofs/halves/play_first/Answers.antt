@@ -23,7 +23,8 @@ returns g c =
     let n = c.args.setting.now in
     let old = standing_of c.add_lines.new.stage in
     let new = standing_of c.play_loop.new.stage in
-    let lines = added_lines c.args.stage.now c.add_lines.new.stage c.first_half.result.now c.in-Ok.ensures (ap (λ (m : Memory). m.lines) c.requires.new) ∙ c.first_half.ensures in
+    let lines = added_lines c.args.stage.now c.add_lines.new.stage c.first_half.result.now c.in-Ok.ensures
+    (ap (λ (m : Memory). m.lines) c.requires.new) ∙ c.first_half.ensures in
     let seed : c.from.result ≡ n = omega arith in
     let played = subst (λ g. PlaysGame (story_of g []) n store_name old new c.play_loop.result) c.game.ensures
     (subst (λ s. PlaysGame (story_of c.game.result.now []) s store_name old new c.play_loop.result) seed (c.play_loop.ensures.plays tt [] c.requires.rows)) in

@@ -33,8 +33,12 @@ choose-requires-clause-long g c later =
 pub returns-in_err-write_slot-clause-few : goal.returns-in_err-write_slot-clause-few
 returns-in_err-write_slot-clause-few g c tells =
     let w = c.other-slot.result in
-    let drafts : Drafts (kept_of w c.args.room.now) c.args.state.now c.slot.result.now c.draft-draft.result = subst (λ b. Drafts (kept_of w c.args.room.now) c.args.state.now b c.draft-draft.result) (sym c.slot.ensures.value) c.draft-draft.ensures.drafts in
-    let few = committed_few w (1 - slot_number c.args.self.slot) c.args.room.now (g.S.Stage.standing c.args.stage.now).disk.bytes c.slot.result.now c.args.state.now c.args.piece.now c.draft-draft.result (c.requires.kept tells).slots c.other-slot.ensures drafts in
+    let drafts : Drafts (kept_of w c.args.room.now) c.args.state.now c.slot.result.now c.draft-draft.result =
+    subst (λ b. Drafts (kept_of w c.args.room.now) c.args.state.now b c.draft-draft.result) (sym c.slot.ensures.value)
+    c.draft-draft.ensures.drafts in
+    let few = committed_few w (1 - slot_number c.args.self.slot) c.args.room.now
+    (g.S.Stage.standing c.args.stage.now).disk.bytes c.slot.result.now c.args.state.now c.args.piece.now
+    c.draft-draft.result (c.requires.kept tells).slots c.other-slot.ensures drafts in
     committed_part _ _ _ _ _ (c.write_slot.ensures.few tells) few
 
 pub returns-in_err-write_slot-clause-any_moment : goal.returns-in_err-write_slot-clause-any_moment
@@ -49,8 +53,12 @@ returns-in_err-choose-clause-tells g c =
 pub returns-in_err-choose-clause-few : goal.returns-in_err-choose-clause-few
 returns-in_err-choose-clause-few g c tells =
     let w = c.other-slot.result in
-    let drafts : Drafts (kept_of w c.args.room.now) c.args.state.now c.slot.result.now c.draft-draft.result = subst (λ b. Drafts (kept_of w c.args.room.now) c.args.state.now b c.draft-draft.result) (sym c.slot.ensures.value) c.draft-draft.ensures.drafts in
-    let few = committed_few w (1 - slot_number c.args.self.slot) c.args.room.now (g.S.Stage.standing c.args.stage.now).disk.bytes c.slot.result.now c.args.state.now c.args.piece.now c.draft-draft.result (c.requires.kept tells).slots c.other-slot.ensures drafts in
+    let drafts : Drafts (kept_of w c.args.room.now) c.args.state.now c.slot.result.now c.draft-draft.result =
+    subst (λ b. Drafts (kept_of w c.args.room.now) c.args.state.now b c.draft-draft.result) (sym c.slot.ensures.value)
+    c.draft-draft.ensures.drafts in
+    let few = committed_few w (1 - slot_number c.args.self.slot) c.args.room.now
+    (g.S.Stage.standing c.args.stage.now).disk.bytes c.slot.result.now c.args.state.now c.args.piece.now
+    c.draft-draft.result (c.requires.kept tells).slots c.other-slot.ensures drafts in
     committed_all _ _ _ _ _ _ (c.write_slot.ensures.few tells) (c.choose.ensures.few (c.write_slot.ensures.tells.0 tells)) few
 
 pub returns-in_err-choose-clause-beside : goal.returns-in_err-choose-clause-beside
@@ -60,7 +68,9 @@ returns-in_err-choose-clause-beside g c tells =
 pub returns-in_err-choose-clause-any_moment : goal.returns-in_err-choose-clause-any_moment
 returns-in_err-choose-clause-any_moment g c tells =
     let w = c.other-slot.result in
-    let drafts : Drafts (kept_of w c.args.room.now) c.args.state.now c.slot.result.now c.draft-draft.result = subst (λ b. Drafts (kept_of w c.args.room.now) c.args.state.now b c.draft-draft.result) (sym c.slot.ensures.value) c.draft-draft.ensures.drafts in
+    let drafts : Drafts (kept_of w c.args.room.now) c.args.state.now c.slot.result.now c.draft-draft.result =
+    subst (λ b. Drafts (kept_of w c.args.room.now) c.args.state.now b c.draft-draft.result) (sym c.slot.ensures.value)
+    c.draft-draft.ensures.drafts in
     let s = g.S.Stage.standing c.args.stage.now in
     let t = g.S.Stage.standing c.write_slot.new.stage in
     let k = slot_number w in
@@ -68,8 +78,11 @@ returns-in_err-choose-clause-any_moment g c tells =
     let filled = c.in_ok-write_slot.ensures.filled tells in
     let few : length c.args.piece.now ≤ 65535 = short_piece c.args.state.now c.args.piece.now c.fits-state c.requires.piece_length in
     let keeps = keeps_of w c.args.room.now s.disk.bytes (c.requires.kept tells).slots in
-    let shows = committed_shows k c.draft-draft.result (kept_of w c.args.room.now) c.args.state.now c.slot.result.now c.args.piece.now s t filled drafts keeps (c.in_ok-write_slot.ensures.written tells) few c.requires.piece_length in
-    Passes_on _ _ _ _ _ _ _ _ (Passes_map _ _ _ _ _ _ (c.write_slot.ensures.any_moment tells) (λ m. in_first_of s _ _ m (beside_none s))) (c.choose.ensures.any_moment later) (λ m. in_either s t _ _ _ _ m (c.in_ok-write_slot.ensures.beside tells) (filled_before k s t filled) shows)
+    let shows = committed_shows k c.draft-draft.result (kept_of w c.args.room.now) c.args.state.now c.slot.result.now
+    c.args.piece.now s t filled drafts keeps (c.in_ok-write_slot.ensures.written tells) few c.requires.piece_length in
+    Passes_on _ _ _ _ _ _ _ _ (Passes_map _ _ _ _ _ _ (c.write_slot.ensures.any_moment tells)
+    (λ m. in_first_of s _ _ m (beside_none s))) (c.choose.ensures.any_moment later)
+    (λ m. in_either s t _ _ _ _ m (c.in_ok-write_slot.ensures.beside tells) (filled_before k s t filled) shows)
 
 pub returns-clause-tells : goal.returns-clause-tells
 returns-clause-tells g c =
@@ -78,8 +91,12 @@ returns-clause-tells g c =
 pub returns-clause-few : goal.returns-clause-few
 returns-clause-few g c tells =
     let w = c.other-slot.result in
-    let drafts : Drafts (kept_of w c.args.room.now) c.args.state.now c.slot.result.now c.draft-draft.result = subst (λ b. Drafts (kept_of w c.args.room.now) c.args.state.now b c.draft-draft.result) (sym c.slot.ensures.value) c.draft-draft.ensures.drafts in
-    let few = committed_few w (1 - slot_number c.args.self.slot) c.args.room.now (g.S.Stage.standing c.args.stage.now).disk.bytes c.slot.result.now c.args.state.now c.args.piece.now c.draft-draft.result (c.requires.kept tells).slots c.other-slot.ensures drafts in
+    let drafts : Drafts (kept_of w c.args.room.now) c.args.state.now c.slot.result.now c.draft-draft.result =
+    subst (λ b. Drafts (kept_of w c.args.room.now) c.args.state.now b c.draft-draft.result) (sym c.slot.ensures.value)
+    c.draft-draft.ensures.drafts in
+    let few = committed_few w (1 - slot_number c.args.self.slot) c.args.room.now
+    (g.S.Stage.standing c.args.stage.now).disk.bytes c.slot.result.now c.args.state.now c.args.piece.now
+    c.draft-draft.result (c.requires.kept tells).slots c.other-slot.ensures drafts in
     committed_all _ _ _ _ _ _ (c.write_slot.ensures.few tells) (c.choose.ensures.few (c.write_slot.ensures.tells.0 tells)) few
 
 pub returns-clause-beside : goal.returns-clause-beside
@@ -89,7 +106,9 @@ returns-clause-beside g c tells =
 pub returns-clause-any_moment : goal.returns-clause-any_moment
 returns-clause-any_moment g c tells =
     let w = c.other-slot.result in
-    let drafts : Drafts (kept_of w c.args.room.now) c.args.state.now c.slot.result.now c.draft-draft.result = subst (λ b. Drafts (kept_of w c.args.room.now) c.args.state.now b c.draft-draft.result) (sym c.slot.ensures.value) c.draft-draft.ensures.drafts in
+    let drafts : Drafts (kept_of w c.args.room.now) c.args.state.now c.slot.result.now c.draft-draft.result =
+    subst (λ b. Drafts (kept_of w c.args.room.now) c.args.state.now b c.draft-draft.result) (sym c.slot.ensures.value)
+    c.draft-draft.ensures.drafts in
     let s = g.S.Stage.standing c.args.stage.now in
     let t = g.S.Stage.standing c.write_slot.new.stage in
     let k = slot_number w in
@@ -97,13 +116,18 @@ returns-clause-any_moment g c tells =
     let filled = c.in_ok-write_slot.ensures.filled tells in
     let few : length c.args.piece.now ≤ 65535 = short_piece c.args.state.now c.args.piece.now c.fits-state c.requires.piece_length in
     let keeps = keeps_of w c.args.room.now s.disk.bytes (c.requires.kept tells).slots in
-    let shows = committed_shows k c.draft-draft.result (kept_of w c.args.room.now) c.args.state.now c.slot.result.now c.args.piece.now s t filled drafts keeps (c.in_ok-write_slot.ensures.written tells) few c.requires.piece_length in
-    Passes_on _ _ _ _ _ _ _ _ (Passes_map _ _ _ _ _ _ (c.write_slot.ensures.any_moment tells) (λ m. in_first_of s _ _ m (beside_none s))) (c.choose.ensures.any_moment later) (λ m. in_either s t _ _ _ _ m (c.in_ok-write_slot.ensures.beside tells) (filled_before k s t filled) shows)
+    let shows = committed_shows k c.draft-draft.result (kept_of w c.args.room.now) c.args.state.now c.slot.result.now
+    c.args.piece.now s t filled drafts keeps (c.in_ok-write_slot.ensures.written tells) few c.requires.piece_length in
+    Passes_on _ _ _ _ _ _ _ _ (Passes_map _ _ _ _ _ _ (c.write_slot.ensures.any_moment tells)
+    (λ m. in_first_of s _ _ m (beside_none s))) (c.choose.ensures.any_moment later)
+    (λ m. in_either s t _ _ _ _ m (c.in_ok-write_slot.ensures.beside tells) (filled_before k s t filled) shows)
 
 pub returns-clause-shown : goal.returns-clause-shown
 returns-clause-shown g c tells =
     let w = c.other-slot.result in
-    let drafts : Drafts (kept_of w c.args.room.now) c.args.state.now c.slot.result.now c.draft-draft.result = subst (λ b. Drafts (kept_of w c.args.room.now) c.args.state.now b c.draft-draft.result) (sym c.slot.ensures.value) c.draft-draft.ensures.drafts in
+    let drafts : Drafts (kept_of w c.args.room.now) c.args.state.now c.slot.result.now c.draft-draft.result =
+    subst (λ b. Drafts (kept_of w c.args.room.now) c.args.state.now b c.draft-draft.result) (sym c.slot.ensures.value)
+    c.draft-draft.ensures.drafts in
     let s = g.S.Stage.standing c.args.stage.now in
     let t = g.S.Stage.standing c.write_slot.new.stage in
     let k = slot_number w in
@@ -111,7 +135,8 @@ returns-clause-shown g c tells =
     let filled = c.in_ok-write_slot.ensures.filled tells in
     let few : length c.args.piece.now ≤ 65535 = short_piece c.args.state.now c.args.piece.now c.fits-state c.requires.piece_length in
     let keeps = keeps_of w c.args.room.now s.disk.bytes (c.requires.kept tells).slots in
-    let shows = committed_shows k c.draft-draft.result (kept_of w c.args.room.now) c.args.state.now c.slot.result.now c.args.piece.now s t filled drafts keeps (c.in_ok-write_slot.ensures.written tells) few c.requires.piece_length in
+    let shows = committed_shows k c.draft-draft.result (kept_of w c.args.room.now) c.args.state.now c.slot.result.now
+    c.args.piece.now s t filled drafts keeps (c.in_ok-write_slot.ensures.written tells) few c.requires.piece_length in
     c.in_ok-choose.ensures.shown later ∙ shows
 
 pub returns-clause-digest : goal.returns-clause-digest
@@ -120,8 +145,11 @@ returns-clause-digest g c tells =
 
 pub returns-clause-kept : goal.returns-clause-kept
 returns-clause-kept g c tells =
+    let written_of_in_ok_write_slot = c.in_ok-write_slot.ensures.written tells in
     let w = c.other-slot.result in
-    let drafts : Drafts (kept_of w c.args.room.now) c.args.state.now c.slot.result.now c.draft-draft.result = subst (λ b. Drafts (kept_of w c.args.room.now) c.args.state.now b c.draft-draft.result) (sym c.slot.ensures.value) c.draft-draft.ensures.drafts in
+    let drafts : Drafts (kept_of w c.args.room.now) c.args.state.now c.slot.result.now c.draft-draft.result =
+    subst (λ b. Drafts (kept_of w c.args.room.now) c.args.state.now b c.draft-draft.result) (sym c.slot.ensures.value)
+    c.draft-draft.ensures.drafts in
     let s = g.S.Stage.standing c.args.stage.now in
     let t = g.S.Stage.standing c.write_slot.new.stage in
     let k = slot_number w in
@@ -129,6 +157,13 @@ returns-clause-kept g c tells =
     let filled = c.in_ok-write_slot.ensures.filled tells in
     let few : length c.args.piece.now ≤ 65535 = short_piece c.args.state.now c.args.piece.now c.fits-state c.requires.piece_length in
     let keeps = keeps_of w c.args.room.now s.disk.bytes (c.requires.kept tells).slots in
-    let shows = committed_shows k c.draft-draft.result (kept_of w c.args.room.now) c.args.state.now c.slot.result.now c.args.piece.now s t filled drafts keeps (c.in_ok-write_slot.ensures.written tells) few c.requires.piece_length in
-    let new = committed_kept k c.draft-draft.result (kept_of w c.args.room.now) c.args.state.now c.slot.result.now c.args.piece.now s t filled drafts keeps (c.in_ok-write_slot.ensures.written tells) few in
-    committed_keeps w _ c.args.room.now c.draft-draft.new.self c.hold.new.self c.keep.new.self c.args.state.now c.args.piece.now s t (g.S.Stage.standing c.choose.new.stage) (c.requires.kept tells).slots c.draft-draft.ensures.same c.hold.ensures.value c.keep.ensures.value (c.in_ok-choose.ensures.rests later) (c.in_ok-choose.ensures.chosen later) (c.in_ok-choose.ensures.shown later ∙ shows) (c.in_ok-choose.ensures.digest later ∙ filled_digest k s t filled) (filled_other k s t filled) new (λ j low. c.in_ok-choose.ensures.slots later j low)
+    let shows = committed_shows k c.draft-draft.result (kept_of w c.args.room.now) c.args.state.now c.slot.result.now
+    c.args.piece.now s t filled drafts keeps written_of_in_ok_write_slot few c.requires.piece_length in
+    let new = committed_kept k c.draft-draft.result (kept_of w c.args.room.now) c.args.state.now c.slot.result.now
+    c.args.piece.now s t filled drafts keeps written_of_in_ok_write_slot few in
+    committed_keeps w _ c.args.room.now c.draft-draft.new.self c.hold.new.self c.keep.new.self c.args.state.now
+    c.args.piece.now s t (g.S.Stage.standing c.choose.new.stage) (c.requires.kept tells).slots
+    c.draft-draft.ensures.same c.hold.ensures.value c.keep.ensures.value (c.in_ok-choose.ensures.rests later)
+    (c.in_ok-choose.ensures.chosen later) (c.in_ok-choose.ensures.shown later ∙ shows)
+    (c.in_ok-choose.ensures.digest later ∙ filled_digest k s t filled) (filled_other k s t filled) new
+    (λ j low. c.in_ok-choose.ensures.slots later j low)

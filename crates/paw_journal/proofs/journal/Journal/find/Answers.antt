@@ -19,10 +19,13 @@ returns-in-Err-unpack-clause-found g c tells =
     shows ∙ c.in-Err-unpack.ensures.damaged c.in_ok-header.header.digest
 
 pub returns-in-Err-unpack-clause-time : goal.returns-in-Err-unpack-clause-time
-returns-in-Err-unpack-clause-time g c tells = still_on _ _ _ _ _ _ _ _ (c.read_header.ensures.still tells) (c.read_header.ensures.time tells) (c.in-Ok.ensures.time (c.read_header.ensures.tells.0 tells))
+returns-in-Err-unpack-clause-time g c tells =
+    still_on _ _ _ _ _ _ _ _ (c.read_header.ensures.still tells) (c.read_header.ensures.time tells)
+    (c.in-Ok.ensures.time (c.read_header.ensures.tells.0 tells))
 
 pub returns-then-ne-clause-time : goal.returns-then-ne-clause-time
-returns-then-ne-clause-time g c tells = still_on _ _ _ _ _ _ _ _ (c.read_header.ensures.still tells) (c.read_header.ensures.time tells) (c.in-Ok.ensures.time (c.read_header.ensures.tells.0 tells))
+returns-then-ne-clause-time g c tells = still_on _ _ _ _ _ _ _ _ (c.read_header.ensures.still tells)
+    (c.read_header.ensures.time tells) (c.in-Ok.ensures.time (c.read_header.ensures.tells.0 tells))
 
 pub returns-then-ne-clause-found : goal.returns-then-ne-clause-found
 returns-then-ne-clause-found g c tells =
@@ -40,7 +43,8 @@ returns-clause-found g c tells =
     let introduced = c.in_ok-header.ensures.introduced tells in
     let shows = introduced_shows _ _ _ _ introduced held ∙ c.in-Ok-unpack.ensures.shown c.in_ok-header.header.digest in
     let still = c.in-Ok-read_slot.ensures.still last ∙ (c.in-Ok.ensures.still later ∙ before) in
-    let shown = shown_stays _ _ c.other-other.result _ c.unpack.new.self c.read_slot-2.new.self c.look.new.self shows c.in-Ok-read_slot.ensures.same c.look.ensures.kept in
+    let shown = shown_stays _ _ c.other-other.result _ c.unpack.new.self c.read_slot-2.new.self c.look.new.self shows
+    c.in-Ok-read_slot.ensures.same c.look.ensures.kept in
     shown ∙ ap (λ d. Shown d (take state_length c.look.new.self.state) c.look.new.self.piece) (same_game _ _ _ c.if-ne.false c.ne.ensures)
 
 pub returns-clause-kept : goal.returns-clause-kept
@@ -52,9 +56,12 @@ returns-clause-kept g c tells =
     let introduced = c.in_ok-header.ensures.introduced tells in
     let shows = introduced_shows _ _ _ _ introduced held ∙ c.in-Ok-unpack.ensures.shown c.in_ok-header.header.digest in
     let still = c.in-Ok-read_slot.ensures.still last ∙ (c.in-Ok.ensures.still later ∙ before) in
-    let shown = shown_stays _ _ c.other-other.result _ c.unpack.new.self c.read_slot-2.new.self c.look.new.self shows c.in-Ok-read_slot.ensures.same c.look.ensures.kept in
+    let shown = shown_stays _ _ c.other-other.result _ c.unpack.new.self c.read_slot-2.new.self c.look.new.self shows
+    c.in-Ok-read_slot.ensures.same c.look.ensures.kept in
     let other = c.in-Ok-read_slot.ensures.read last ∙ ap (λ s. slot (slot_number c.other-other.result) s.disk.bytes) (c.in-Ok.ensures.still later ∙ before) in
-    let slots = found_slots c.in_ok-header.header.slot c.other-other.result _ _ _ c.read_slot.new.self c.unpack.new.self c.read_slot-2.new.self c.look.new.self _ _ c.other-other.ensures c.in-Ok-unpack.ensures.kept c.in-Ok-read_slot.ensures.same c.look.ensures.kept held other in
+    let slots = found_slots c.in_ok-header.header.slot c.other-other.result _ _ _ c.read_slot.new.self c.unpack.new.self
+    c.read_slot-2.new.self c.look.new.self _ _ c.other-other.ensures c.in-Ok-unpack.ensures.kept
+    c.in-Ok-read_slot.ensures.same c.look.ensures.kept held other in
     found_keeps _ _ _ _ _ (c.requires.rests tells) still introduced shown slots
 
 pub returns-clause-digest : goal.returns-clause-digest
@@ -70,4 +77,6 @@ returns-clause-time g c tells =
     let before = c.read_header.ensures.still tells in
     let later = c.read_header.ensures.tells.0 tells in
     let last = c.read_slot.ensures.tells.0 later in
-    still_on _ _ _ _ _ _ _ _ (c.in-Ok.ensures.still later ∙ before) (still_on _ _ _ _ _ _ _ _ before (c.read_header.ensures.time tells) (c.in-Ok.ensures.time later)) (c.in-Ok-read_slot.ensures.time last)
+    still_on _ _ _ _ _ _ _ _ (c.in-Ok.ensures.still later ∙ before)
+    (still_on _ _ _ _ _ _ _ _ before (c.read_header.ensures.time tells) (c.in-Ok.ensures.time later))
+    (c.in-Ok-read_slot.ensures.time last)

@@ -6,8 +6,12 @@ use Rattle.paw_journal.proofs.room.Room.add_zeros.Goals as goal
 
 pub returns : goal.returns
 returns c =
-    let longer : c.resize.new.self.items ≡ c.self.inside.slot.items ++ zeros c.args.count = added_zeros _ _ _ _ c.args.count c.self.inside.slot.ok.0 (ap (λ n. n + c.args.count) c.len.ensures) c.unwrap.ensures c.resize.ensures.items in
-    let with_slot : List ℕ → Room = λ l. record { slot = l; state = c.self.inside.state; piece = c.self.inside.piece.items; first = c.self.inside.first; second = c.self.inside.second } in
+    let longer : c.resize.new.self.items ≡ c.self.inside.slot.items ++ zeros c.args.count =
+    added_zeros _ _ _ _ c.args.count c.self.inside.slot.ok.0 (ap (λ n. n + c.args.count) c.len.ensures) c.unwrap.ensures
+    c.resize.ensures.items in
+    let with_slot : List ℕ → Room = λ l.
+    record { slot = l; state = c.self.inside.state; piece = c.self.inside.piece.items; first =
+    c.self.inside.first; second = c.self.inside.second } in
     let add : Room → Room = λ r. record r { slot = r.slot ++ zeros c.args.count } in
     record {
       value =

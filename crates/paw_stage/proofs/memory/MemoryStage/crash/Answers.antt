@@ -10,5 +10,9 @@ use Rattle.paw_stage.proofs.memory.MemoryStage.crash.Goals as goal
 pub returns-clause-among : goal.returns-clause-among
 returns-clause-among c =
     let calls = c.self.inside.log.calls in
-    subst (λ ds. IsSome (after fresh ds).attached → IfOk c.crash.result (λ v. MayLeave (after fresh ds).disk v.items)) (ap (λ m. m.log.calls) c.self.view_is) (λ attached.
-    IfOk-weaker c.crash.result (λ v. v.items ≡ crashed (after fresh calls).disk c.args.pick) (λ v. MayLeave (after fresh calls).disk v.items) (λ v is. subst (λ l. MayLeave (after fresh calls).disk l) (sym is) (crash_leaves calls c.args.pick)) (c.crash.ensures.made attached))
+    subst (λ ds. IsSome (after fresh ds).attached → IfOk c.crash.result (λ v. MayLeave (after fresh ds).disk v.items))
+    (ap (λ m. m.log.calls) c.self.view_is) (λ attached.
+    IfOk-weaker c.crash.result (λ v. v.items ≡ crashed (after fresh calls).disk c.args.pick)
+    (λ v. MayLeave (after fresh calls).disk v.items)
+    (λ v is. subst (λ l. MayLeave (after fresh calls).disk l) (sym is) (crash_leaves calls c.args.pick))
+    (c.crash.ensures.made attached))

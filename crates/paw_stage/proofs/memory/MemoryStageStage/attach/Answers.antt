@@ -11,6 +11,7 @@ returns-clause-time c =
     let name = c.args.name.now in
     let new = (the_view (record { lines = c.self.inside.lines; log = c.add.new.self; counts = c.self.inside.counts })) in
     let kept = rw c.as_bytes.ensures.value at (c.if-not-add.ensures.kept refl) in
-    let stands = stood c.args.self.now new c.self.inside.log (attached_store name) (ap (λ m. m.log) (sym c.self.view_is)) kept (ap (λ m. m.lines) c.self.view_is) in
+    let stands = stood c.args.self.now new c.self.inside.log (attached_store name)
+    (ap (λ m. m.log) (sym c.self.view_is)) kept (ap (λ m. m.lines) c.self.view_is) in
     Passes_map _ _ _ _ _ _ (passed c.args.self.now new c.self.inside.log (attached_store name) (ap (λ m. m.log) (sym c.self.view_is)) kept)
     (λ m. in_attach (standing_of c.args.self.now) (standing_of new) name m (ap (λ s. s.attached) stands) (ap (λ s. s.disk) stands))

@@ -10,9 +10,16 @@ use Rattle.paw_stage.proofs.memory.MemoryStageStage.save.Goals as goal
 pub returns-clause-answer : goal.returns-clause-answer
 returns-clause-answer c =
     let kept = rw c.as_bytes.ensures.value at (c.if-not-add.ensures.kept refl) in
-    saves (standing_of c.args.self.now) _ c.args.name.now (Some c.args.bytes.now) (stood c.args.self.now (the_view (record { lines = c.self.inside.lines; log = c.add.new.self; counts = c.self.inside.counts })) c.self.inside.log (saved c.args.name.now c.args.bytes.now) (ap (λ m. m.log) (sym c.self.view_is)) kept (ap (λ m. m.lines) c.self.view_is))
+    saves (standing_of c.args.self.now) _ c.args.name.now (Some c.args.bytes.now)
+    (stood c.args.self.now
+    (the_view (record { lines = c.self.inside.lines; log = c.add.new.self; counts = c.self.inside.counts }))
+    c.self.inside.log (saved c.args.name.now c.args.bytes.now) (ap (λ m. m.log) (sym c.self.view_is)) kept
+    (ap (λ m. m.lines) c.self.view_is))
 
 pub returns-clause-time : goal.returns-clause-time
 returns-clause-time c =
     let kept = rw c.as_bytes.ensures.value at (c.if-not-add.ensures.kept refl) in
-    Passes_map _ _ _ _ _ _ (passed c.args.self.now (the_view (record { lines = c.self.inside.lines; log = c.add.new.self; counts = c.self.inside.counts })) c.self.inside.log (saved c.args.name.now c.args.bytes.now) (ap (λ m. m.log) (sym c.self.view_is)) kept) (in_save (standing_of c.args.self.now) c.args.name.now c.args.bytes.now)
+    Passes_map _ _ _ _ _ _ (passed c.args.self.now
+    (the_view (record { lines = c.self.inside.lines; log = c.add.new.self; counts = c.self.inside.counts }))
+    c.self.inside.log (saved c.args.name.now c.args.bytes.now) (ap (λ m. m.log) (sym c.self.view_is)) kept)
+    (in_save (standing_of c.args.self.now) c.args.name.now c.args.bytes.now)
