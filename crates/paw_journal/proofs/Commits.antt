@@ -1,5 +1,5 @@
 -- What a commit leaves.
-use Rattle.std.proofs.Common.{◌≡◌, ℕ, ◌+◌, ◌-◌, ◌≤◌, ◌<◌, List, length, take, refl, sym, ap, ◌∙◌, arith}
+use Rattle.std.proofs.Common.{◌≡◌, ℕ, ◌+◌, ◌-◌, ◌≤◌, ◌<◌, List, length, take, refl, sym, ap, ◌∙◌, subst, arith}
 use Rattle.std.specs.Prelude.{Option, Some}
 use Rattle.paw_stage.specs.Stage.{Standing}
 use Rattle.paw_journal.specs.declared.layout.Slot.{Slot}
@@ -20,6 +20,11 @@ use Rattle.paw_journal.proofs.Fills.{filled_made, filled_digest, slot_long}
 pub keeps_of : (w : Slot) (room : Room) (bytes : List ℕ) → KeepsSlots room bytes → kept_of w room ≡ kept_slot (slot (slot_number w) bytes)
 keeps_of which.First room bytes h = h.first
 keeps_of which.Second room bytes h = h.second
+
+-- what was drafted in a buffer was drafted in what shows the buffer
+pub drafts_as : (kept : Option SlotState) (state bytes held : List ℕ) (draft : Draft) → held ≡ bytes →
+    Drafts kept state bytes draft → Drafts kept state held draft
+drafts_as kept state bytes held draft e d = subst (λ b. Drafts kept state b draft) (sym e) d
 
 module _ (k : ℕ) (draft : Draft) (kept : Option SlotState) (state bytes piece : List ℕ) (s t : Standing)
     (f : IsFilling k s t) (d : Drafts kept state bytes draft) (e : kept ≡ kept_slot (slot k s.disk.bytes))

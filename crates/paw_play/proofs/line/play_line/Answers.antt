@@ -15,6 +15,12 @@ commit-requires-clause-kept g c = λ tells.
     keeps_asked c.args.session.journal c.args.room.now (g.S.Stage.standing c.args.stage.now)
     (g.S.Stage.standing c.ask.new.self) (c.requires.kept before) (c.in-Line.ensures.answer before).3
 
+pub returns-in-Err-clause-tells : goal.returns-in-Err-clause-tells
+returns-in-Err-clause-tells g c = (
+  λ t. c.commit.ensures.tells.0 (c.ask.ensures.tells.0 t),
+  λ t. c.ask.ensures.tells.1 (c.commit.ensures.tells.1 t),
+)
+
 pub returns-in-Some-told-clause-tells : goal.returns-in-Some-told-clause-tells
 returns-in-Some-told-clause-tells g c =
     (λ t. c.told.ensures.tells.0 (c.commit.ensures.tells.0 (c.ask.ensures.tells.0 t)), λ t. c.ask.ensures.tells.1

@@ -1,10 +1,46 @@
-use Rattle.std.proofs.Common.{◌∙◌, ap, sym, refl}
+use Rattle.std.proofs.Common.{◌≡◌, ◌∙◌, ap, sym, refl}
 use Rattle.std.proofs.lemmas.Result.{err_from_is_err_and}
 use Rattle.std.specs.Prelude.{take}
-use Rattle.paw_journal.specs.Session.{Shown, state_length, slot, kept_digest}
-use Rattle.paw_journal.specs.Room.{slot_number}
-use Rattle.paw_journal.proofs.Sessions.{introduced_shows, still_on, other_game, same_game, found_keeps, found_slots, shown_stays}
+use Rattle.paw_stage.specs.Stage.{Standing}
+use Rattle.paw_stage.specs.Moments.{Still}
+use Rattle.paw_stage.specs.Across.{EachMoment}
+use Rattle.paw_journal.specs.Session.{Shown, recover, slot_shows, showing, state_length, slot, kept_digest}
+use Rattle.paw_journal.specs.Room.{HasRead, slot_number}
+use Rattle.paw_journal.proofs.Sessions.{introduced_shows, still_on, other_game, same_game, found_keeps, found_slots}
+use Rattle.paw_journal.proofs.Sessions.{shown_stays}
+use Rattle.paw_journal.proofs.journal.Journal.find.Given.{Over}
+use Rattle.paw_journal.proofs.journal.Journal.find.Goals.{After-unpack, After-look}
 use Rattle.paw_journal.proofs.journal.Journal.find.Goals as goal
+
+-- what was found once the slot in use was read
+module _ (g : Over) (c : After-unpack g) (tells : g.S.Stage.Tells c.args.stage.now) where
+  held : HasRead c.in_ok-header.header.slot (g.S.Stage.standing c.args.stage.now) c.read_slot.new.self
+  held = c.in-Ok.ensures.read (c.read_header.ensures.tells.0 tells)
+      ∙ ap (λ s. slot (slot_number c.in_ok-header.header.slot) s.disk.bytes) (c.read_header.ensures.still tells)
+
+  shows : recover (g.S.Stage.standing c.args.stage.now).disk.bytes
+      ≡ slot_shows c.in_ok-header.header.digest c.read_slot.new.self.slot
+  shows = introduced_shows _ _ _ _ (c.in_ok-header.ensures.introduced tells) held
+
+  moments : EachMoment g.S.Stage c.args.stage.now c.read_slot.new.stage (Still (g.S.Stage.standing c.args.stage.now))
+  moments = still_on _ _ _ _ _ _ _ _ (c.read_header.ensures.still tells) (c.read_header.ensures.time tells)
+      (c.in-Ok.ensures.time (c.read_header.ensures.tells.0 tells))
+
+-- and once both were
+module _ (g : Over) (c : After-look g) (tells : g.S.Stage.Tells c.args.stage.now) where
+  first_still : g.S.Stage.standing c.read_slot.new.stage ≡ g.S.Stage.standing c.args.stage.now
+  first_still = c.in-Ok.ensures.still (c.read_header.ensures.tells.0 tells) ∙ c.read_header.ensures.still tells
+
+  still : g.S.Stage.standing c.read_slot-2.new.stage ≡ g.S.Stage.standing c.args.stage.now
+  still = c.in-Ok-read_slot.ensures.still (c.read_slot.ensures.tells.0 (c.read_header.ensures.tells.0 tells)) ∙ first_still
+
+  shown : recover (g.S.Stage.standing c.args.stage.now).disk.bytes
+      ≡ slot_shows c.in_ok-header.header.digest c.read_slot.new.self.slot →
+      recover (g.S.Stage.standing c.args.stage.now).disk.bytes
+      ≡ showing c.in_ok-header.header.digest c.look.new.self.state c.look.new.self.piece
+  shown first = shown_stays _ _ c.other-other.result _ c.unpack.new.self c.read_slot-2.new.self c.look.new.self
+      (first ∙ c.in-Ok-unpack.ensures.shown c.in_ok-header.header.digest)
+      c.in-Ok-read_slot.ensures.same c.look.ensures.kept
 
 pub returns-in_err-header-clause-found : goal.returns-in_err-header-clause-found
 returns-in_err-header-clause-found g c tells =
@@ -13,70 +49,52 @@ returns-in_err-header-clause-found g c tells =
 
 pub returns-in-Err-unpack-clause-found : goal.returns-in-Err-unpack-clause-found
 returns-in-Err-unpack-clause-found g c tells =
-    let before = c.read_header.ensures.still tells in
-    let held = c.in-Ok.ensures.read (c.read_header.ensures.tells.0 tells) ∙ ap (λ s. slot (slot_number c.in_ok-header.header.slot) s.disk.bytes) before in
-    let shows = introduced_shows _ _ _ _ (c.in_ok-header.ensures.introduced tells) held in
-    shows ∙ c.in-Err-unpack.ensures.damaged c.in_ok-header.header.digest
+    shows g (goal.at.returns-in-Err-unpack-clause-found g c).After-unpack tells
+    ∙ c.in-Err-unpack.ensures.damaged c.in_ok-header.header.digest
 
 pub returns-in-Err-unpack-clause-time : goal.returns-in-Err-unpack-clause-time
-returns-in-Err-unpack-clause-time g c tells =
-    still_on _ _ _ _ _ _ _ _ (c.read_header.ensures.still tells) (c.read_header.ensures.time tells)
-    (c.in-Ok.ensures.time (c.read_header.ensures.tells.0 tells))
+returns-in-Err-unpack-clause-time g c tells = moments g (goal.at.returns-in-Err-unpack-clause-time g c).After-unpack tells
 
 pub returns-then-ne-clause-time : goal.returns-then-ne-clause-time
-returns-then-ne-clause-time g c tells = still_on _ _ _ _ _ _ _ _ (c.read_header.ensures.still tells)
-    (c.read_header.ensures.time tells) (c.in-Ok.ensures.time (c.read_header.ensures.tells.0 tells))
+returns-then-ne-clause-time g c tells = moments g (goal.at.returns-then-ne-clause-time g c).After-unpack tells
 
 pub returns-then-ne-clause-found : goal.returns-then-ne-clause-found
-returns-then-ne-clause-found g c tells =
-    let before = c.read_header.ensures.still tells in
-    let held = c.in-Ok.ensures.read (c.read_header.ensures.tells.0 tells) ∙ ap (λ s. slot (slot_number c.in_ok-header.header.slot) s.disk.bytes) before in
-    let shows = introduced_shows _ _ _ _ (c.in_ok-header.ensures.introduced tells) held in
-    (_, _, shows ∙ c.in-Ok-unpack.ensures.shown c.in_ok-header.header.digest, other_game _ _ _ c.if-ne.true c.ne.ensures, refl)
+returns-then-ne-clause-found g c tells = (
+  _,
+  _,
+  shows g (goal.at.returns-then-ne-clause-found g c).After-unpack tells
+  ∙ c.in-Ok-unpack.ensures.shown c.in_ok-header.header.digest,
+  other_game _ _ _ c.if-ne.true c.ne.ensures,
+  refl,
+)
 
 pub returns-clause-found : goal.returns-clause-found
 returns-clause-found g c tells =
-    let before = c.read_header.ensures.still tells in
-    let later = c.read_header.ensures.tells.0 tells in
-    let last = c.read_slot.ensures.tells.0 later in
-    let held = c.in-Ok.ensures.read later ∙ ap (λ s. slot (slot_number c.in_ok-header.header.slot) s.disk.bytes) before in
-    let introduced = c.in_ok-header.ensures.introduced tells in
-    let shows = introduced_shows _ _ _ _ introduced held ∙ c.in-Ok-unpack.ensures.shown c.in_ok-header.header.digest in
-    let still = c.in-Ok-read_slot.ensures.still last ∙ (c.in-Ok.ensures.still later ∙ before) in
-    let shown = shown_stays _ _ c.other-other.result _ c.unpack.new.self c.read_slot-2.new.self c.look.new.self shows
-    c.in-Ok-read_slot.ensures.same c.look.ensures.kept in
-    shown ∙ ap (λ d. Shown d (take state_length c.look.new.self.state) c.look.new.self.piece) (same_game _ _ _ c.if-ne.false c.ne.ensures)
+    let at = goal.at.returns-clause-found g c in
+    shown g at.After-look tells (shows g at.After-unpack tells)
+    ∙ ap (λ d. Shown d (take state_length c.look.new.self.state) c.look.new.self.piece)
+    (same_game _ _ _ c.if-ne.false c.ne.ensures)
 
 pub returns-clause-kept : goal.returns-clause-kept
 returns-clause-kept g c tells =
-    let before = c.read_header.ensures.still tells in
-    let later = c.read_header.ensures.tells.0 tells in
-    let last = c.read_slot.ensures.tells.0 later in
-    let held = c.in-Ok.ensures.read later ∙ ap (λ s. slot (slot_number c.in_ok-header.header.slot) s.disk.bytes) before in
-    let introduced = c.in_ok-header.ensures.introduced tells in
-    let shows = introduced_shows _ _ _ _ introduced held ∙ c.in-Ok-unpack.ensures.shown c.in_ok-header.header.digest in
-    let still = c.in-Ok-read_slot.ensures.still last ∙ (c.in-Ok.ensures.still later ∙ before) in
-    let shown = shown_stays _ _ c.other-other.result _ c.unpack.new.self c.read_slot-2.new.self c.look.new.self shows
-    c.in-Ok-read_slot.ensures.same c.look.ensures.kept in
-    let other = c.in-Ok-read_slot.ensures.read last ∙ ap (λ s. slot (slot_number c.other-other.result) s.disk.bytes) (c.in-Ok.ensures.still later ∙ before) in
+    let at = goal.at.returns-clause-kept g c in
+    let last = c.read_slot.ensures.tells.0 (c.read_header.ensures.tells.0 tells) in
+    let other = c.in-Ok-read_slot.ensures.read last
+    ∙ ap (λ s. slot (slot_number c.other-other.result) s.disk.bytes) (first_still g at.After-look tells) in
     let slots = found_slots c.in_ok-header.header.slot c.other-other.result _ _ _ c.read_slot.new.self c.unpack.new.self
     c.read_slot-2.new.self c.look.new.self _ _ c.other-other.ensures c.in-Ok-unpack.ensures.kept
-    c.in-Ok-read_slot.ensures.same c.look.ensures.kept held other in
-    found_keeps _ _ _ _ _ (c.requires.rests tells) still introduced shown slots
+    c.in-Ok-read_slot.ensures.same c.look.ensures.kept (held g at.After-unpack tells) other in
+    found_keeps _ _ _ _ _ (c.requires.rests tells) (still g at.After-look tells) (c.in_ok-header.ensures.introduced tells)
+    (shown g at.After-look tells (shows g at.After-unpack tells)) slots
 
 pub returns-clause-digest : goal.returns-clause-digest
 returns-clause-digest g c tells =
-    let before = c.read_header.ensures.still tells in
-    let later = c.read_header.ensures.tells.0 tells in
-    let introduced = c.in_ok-header.ensures.introduced tells in
-    let still = c.in-Ok-read_slot.ensures.still (c.read_slot.ensures.tells.0 later) ∙ (c.in-Ok.ensures.still later ∙ before) in
-    ap (λ s. kept_digest s.disk.bytes) still ∙ (sym introduced.digest ∙ same_game _ _ _ c.if-ne.false c.ne.ensures)
+    ap (λ s. kept_digest s.disk.bytes) (still g (goal.at.returns-clause-digest g c).After-look tells)
+    ∙ (sym (c.in_ok-header.ensures.introduced tells).digest ∙ same_game _ _ _ c.if-ne.false c.ne.ensures)
 
 pub returns-clause-time : goal.returns-clause-time
 returns-clause-time g c tells =
-    let before = c.read_header.ensures.still tells in
-    let later = c.read_header.ensures.tells.0 tells in
-    let last = c.read_slot.ensures.tells.0 later in
-    still_on _ _ _ _ _ _ _ _ (c.in-Ok.ensures.still later ∙ before)
-    (still_on _ _ _ _ _ _ _ _ before (c.read_header.ensures.time tells) (c.in-Ok.ensures.time later))
+    let at = goal.at.returns-clause-time g c in
+    let last = c.read_slot.ensures.tells.0 (c.read_header.ensures.tells.0 tells) in
+    still_on _ _ _ _ _ _ _ _ (first_still g at.After-look tells) (moments g at.After-unpack tells)
     (c.in-Ok-read_slot.ensures.time last)
