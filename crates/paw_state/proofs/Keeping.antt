@@ -13,7 +13,7 @@ use Rattle.paw_effects.specs.declared.act.Prompt.{Prompt}
 use Rattle.paw_effects.specs.declared.act.Prompt.TheVariants as prompt
 use Rattle.paw_process.specs.declared.kept.Frames.{Frames}
 use Rattle.paw_process.specs.Kept.{waiting_code, code_or_zero, count_fits, fault_at, first_fault}
-use Rattle.paw_process.specs.Kept.{row_fields_fault as machine_rows, loop_fault as machine_loop}
+use Rattle.paw_process.specs.Kept.{rows_fault as machine_rows, loop_fault as machine_loop}
 use Rattle.paw_process.proofs.Restored.{no_first as no_machine_first}
 use Rattle.paw_state.specs.declared.fields.Fields.{Fields}
 use Rattle.paw_state.specs.declared.held.Held.{Held}

@@ -7,7 +7,7 @@ use Rattle.paw_game.specs.Game.{GameLists}
 use Rattle.paw_game.specs.Tables.{condacts_of, entry_at, head_of, head_at, condact_at}
 use Rattle.paw_reading.specs.declared.places.Frame.{Frame}
 use Rattle.paw_process.specs.Kept.{may_open, has_code, parameter_of, condact_of, is_unused, row_stands}
-use Rattle.paw_process.specs.Kept.{row_fields_fault as machine_fault}
+use Rattle.paw_process.specs.Kept.{rows_fault as machine_fault}
 use Rattle.paw_process.proofs.Restored.{first_of, second}
 use Rattle.paw_state.specs.declared.fields.Row.{Row}
 use Rattle.paw_state.specs.Fields.{row_of}
