@@ -5,19 +5,18 @@ use Rattle.paw_stage.specs.Stage.{Standing}
 use Rattle.paw_stage.specs.Moments.{Moment, Moments}
 use Rattle.paw_stage.specs.declared.Stage.{Ghosts}
 
-module _ {S : Type 0} (g : Ghosts S) where
-  -- Where the stage tells what stands at it, this holds of what stood before and what stands after.
-  abbrev pub Across : S → S → (Standing → Standing → Type 0) → Type 0
-  Across old new Holds = g.Tells old → Holds (g.standing old) (g.standing new)
+-- Where the stage tells what stands at it, this holds of what stood before and what stands after.
+abbrev pub Across : {S : Type 0} → Ghosts S → S → S → (Standing → Standing → Type 0) → Type 0
+Across g old new Holds = g.Tells old → Holds (g.standing old) (g.standing new)
 
-  -- Once the calls were done, the same.
-  abbrev pub Once : {A E : Type 0} → S → S → Result A E → (Standing → Standing → Type 0) → Type 0
-  Once old new result Holds = Across old new (λ before after. OnOk result (Holds before after))
+-- Once the calls were done, the same.
+abbrev pub Once : {S A E : Type 0} → Ghosts S → S → S → Result A E → (Standing → Standing → Type 0) → Type 0
+Once g old new result Holds = Across g old new (λ before after. OnOk result (Holds before after))
 
-  -- The moments of the calls are those before them, and besides only such ones.
-  abbrev pub EachMoment : S → S → (Moment → Type 0) → Type 0
-  EachMoment old new Inside = Moments g.clock g.since old new Inside
+-- The moments of the calls are those before them, and besides only such ones.
+abbrev pub EachMoment : {S : Type 0} → Ghosts S → S → S → (Moment → Type 0) → Type 0
+EachMoment g old new Inside = Moments g.clock g.since old new Inside
 
-  -- Where the stage tells what stands at it, the moments of the calls are such ones, by what stood before.
-  abbrev pub Throughout : S → S → (Standing → Moment → Type 0) → Type 0
-  Throughout old new Inside = g.Tells old → EachMoment old new (Inside (g.standing old))
+-- Where the stage tells what stands at it, the moments of the calls are such ones, by what stood before.
+abbrev pub Throughout : {S : Type 0} → Ghosts S → S → S → (Standing → Moment → Type 0) → Type 0
+Throughout g old new Inside = g.Tells old → EachMoment g old new (Inside (g.standing old))
