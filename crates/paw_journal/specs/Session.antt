@@ -3,6 +3,7 @@ use Rattle.std.specs.Prelude.{◌≡◌, ◌==◌, ◌&&◌, ◌||◌, ℕ, ◌+
 use Rattle.std.specs.Prelude.{[]}
 use Rattle.std.specs.Prelude.{◌∷◌, ◌++◌, length, take, drop, replicate, slice_index, slice_set, position, Option, Some}
 use Rattle.std.specs.Prelude.{None, if◌then◌else◌}
+unfoldable pub use Rattle.paw_base.specs.Bytes.{zeros}
 use Rattle.paw_journal.specs.declared.refusal.SessionPart.{SessionPart}
 use Rattle.paw_journal.specs.declared.refusal.SessionPart.TheVariants as part
 

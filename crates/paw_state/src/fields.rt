@@ -259,7 +259,7 @@ impl Fields {
     }
 
     /// The kept positions.
-    #[tactic(auto, unfolding(crate::specs::Fields::kept_bytes))]
+    #[tactic(auto, unfolding(crate::specs::Fields::kept_position_bytes))]
     fn put_kept(&self, writer: &mut Writer)
         requires room { length writer.old + 2048 ≤ 4096 }
         ensures puts { writer.new ≡ writer.old ++ kept_position_bytes self.now }
