@@ -30,7 +30,7 @@ counts_of g = record {
   tables = length g.tables;
 }
 
--- the facts of an object's row
+-- the facts of an object, where there is one
 abbrev pub facts_of : Option ObjectRow → Option ObjectFacts
 facts_of None = None
 facts_of (Some o) = Some o.facts
@@ -39,7 +39,7 @@ facts_of (Some o) = Some o.facts
 abbrev pub facts_at : GameLists → ℕ → Option ObjectFacts
 facts_at g o = facts_of (slice_get g.objects o)
 
--- the text of an object's row
+-- the text of an object, where there is one
 abbrev pub row_text : Option ObjectRow → Option (List ℕ)
 row_text None = None
 row_text (Some o) = Some o.text

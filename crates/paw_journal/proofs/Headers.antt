@@ -27,7 +27,7 @@ other_mark bytes whole n b ne =
     ∙ (ap (λ n. Unmade n (mark whole)) n ∙ ap (Unmade session_length) (sym m))
 
 pub other_version : (bytes whole : List ℕ) → length whole ≡ session_length → bytes ≡ take header_length whole →
-    get_or bytes 0 0 ≡ made_mark → is_known (get_or bytes 2 0) ≡ false → recover whole ≡ Damaged part.Header 2
+    get_or bytes 0 0 ≡ made_mark → is_version (get_or bytes 2 0) ≡ false → recover whole ≡ Damaged part.Header 2
 unfolding recover recover_by
 other_version bytes whole n b m ne =
     let k : mark whole ≡ made_mark = sym (first_byte 128 0 bytes whole (omega arith) b) ∙ m in
@@ -35,11 +35,11 @@ other_version bytes whole n b m ne =
     rw (n, k, v) refl
 
 pub introduces : (slot : ℕ) (digest bytes whole : List ℕ) → length whole ≡ session_length →
-    bytes ≡ take header_length whole → get_or bytes 0 0 ≡ made_mark → is_known (get_or bytes 2 0) ≡ true →
+    bytes ≡ take header_length whole → get_or bytes 0 0 ≡ made_mark → is_version (get_or bytes 2 0) ≡ true →
     slot ≡ get_or bytes 1 0 % 2 → digest ≡ stretch 32 32 bytes → Introduces slot digest whole
 introduces slot digest bytes whole n b m v s d = record {
   made = record { long = n; marked = sym (first_byte 128 0 bytes whole (omega arith) b) ∙ m; versioned =
-      ap is_known (sym (first_byte 128 2 bytes whole (omega arith) b)) ∙ v };
+      ap is_version (sym (first_byte 128 2 bytes whole (omega arith) b)) ∙ v };
   slot = s ∙ ap (λ x. x % 2) (first_byte 128 1 bytes whole (omega arith) b);
   digest = d ∙ (ap (stretch 32 32) b ∙ stretch_stretch 32 32 0 128 whole (omega arith));
 }

@@ -3,7 +3,7 @@ use Rattle.std.proofs.Common.{◌≡◌, ◌≢◌, ℕ, ◌+◌, ◌*◌, ◌�
 use Rattle.std.specs.Prelude.{if◌then◌else◌, ◌==◌, ◌&&◌}
 use Rattle.std.proofs.lemmas.Bool.Decides.{nat_tests}
 use Rattle.paw_journal.specs.declared.refusal.SessionPart.TheVariants as part
-use Rattle.paw_journal.specs.Session.{Recovered, Unmade, Damaged, Shown, IsUnmade, recover, recover_by, slot_shows, slot, chosen, mark, version, is_known}
+use Rattle.paw_journal.specs.Session.{Recovered, Unmade, Damaged, Shown, IsUnmade, recover, recover_by, slot_shows, slot, chosen, mark, version, is_version}
 use Rattle.paw_journal.specs.Session.{kept_digest, session_length, slot_length, header_length, made_mark}
 use Rattle.paw_journal.specs.Steps.{IsMade}
 use Rattle.paw_journal.proofs.Parts.{stretch_same}

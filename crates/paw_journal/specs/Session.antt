@@ -1,7 +1,7 @@
 -- How a session lies in the bytes of a store, and what bytes of a store stand for.
 use Rattle.std.specs.Prelude.{◌≡◌, ◌==◌, ◌&&◌, ◌||◌, ℕ, ◌+◌, ◌-◌, ◌*◌, ◌%◌, Bool, not, is_none, nat_lt, nat_le, List}
 use Rattle.std.specs.Prelude.{[]}
-use Rattle.std.specs.Prelude.{◌∷◌, ◌++◌, length, take, drop, replicate, slice_index, slice_set, position, Option, Some}
+use Rattle.std.specs.Prelude.{◌∷◌, ◌++◌, length, take, drop, slice_index, slice_set, position, Option, Some}
 use Rattle.std.specs.Prelude.{None, if◌then◌else◌}
 unfoldable pub use Rattle.paw_base.specs.Bytes.{zeros}
 use Rattle.paw_journal.specs.declared.refusal.SessionPart.{SessionPart}

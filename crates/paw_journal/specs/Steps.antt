@@ -8,7 +8,7 @@ use Rattle.paw_journal.specs.declared.drafting.Draft.{Draft}
 use Rattle.paw_journal.specs.declared.layout.Slot.{Slot}
 use Rattle.paw_journal.specs.declared.finding.Header.{Header}
 use Rattle.paw_journal.specs.Session.{session_length, header_length, slot_length, made_mark, mark, chosen, version}
-use Rattle.paw_journal.specs.Session.{is_known}
+use Rattle.paw_journal.specs.Session.{is_version}
 use Rattle.paw_journal.specs.Session.{kept_digest, changes, changed, first_unsound, slot, recover, showing}
 use Rattle.paw_journal.specs.Session.{made_session}
 use Rattle.paw_journal.specs.Room.{slot_number, kept_slot}

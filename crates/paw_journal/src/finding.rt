@@ -4,7 +4,7 @@ ghost use Rattle.std.specs.Prelude.{◌≡◌, ◌≢◌, ◌↔◌, ℕ, None, 
 ghost use Rattle.paw_stage.specs.Stage.{Faulted};
 ghost use Rattle.paw_stage.specs.Moments.{Still};
 ghost use Rattle.paw_stage.specs.Across.{Throughout};
-ghost use Rattle.paw_journal.specs.Session.{recover, is_known, header_length, session_length};
+ghost use Rattle.paw_journal.specs.Session.{recover, is_version, header_length, session_length};
 ghost use Rattle.paw_journal.specs.Steps.{IsHeaderOf};
 ghost use Rattle.paw_journal.specs.Journal.{IsRefused, IsCaused, refused_call, outside};
 

@@ -25,7 +25,7 @@ unfolding condact_lines
 all_short = refl
 
 short_at : (lines : List CondactLine) (n : ℕ) → list_all (λ (l : CondactLine). nat_le (length l.name) 8) lines ≡ true →
-    length (slice_index_or lines n (condact [] Absent Absent)).name ≤ 8
+    length (slice_index_or lines n (named_line [] Absent Absent)).name ≤ 8
 short_at [] n h = omega arith
 short_at (l ∷ lines) zero h = leb-true (length l.name) 8 (first_of_and (nat_le (length l.name) 8) _ h)
 short_at (l ∷ lines) (suc n) h = short_at lines n (second_of_and (nat_le (length l.name) 8) _ h)

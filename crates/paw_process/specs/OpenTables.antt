@@ -54,8 +54,8 @@ InTable (f ∷ fs) = 0 < f.at → f.entry < ENTRY_LIMIT
 
 -- the loop stands at a condact, and is one of these levels'
 pub record IsLoopWithin (levels : ℕ) (l : OpenLoop) : Type 0 where
-  pub at : l.at < 255
-  pub entry : l.entry < 4000
+  pub at : l.at < CONDACT_LIMIT
+  pub entry : l.entry < ENTRY_LIMIT
   pub level : l.level < levels
 
 abbrev pub LoopFits : ℕ → Option OpenLoop → Type 0

@@ -101,15 +101,15 @@ in_text s b before t d at text =
     ap (λ x. is_text_section x && not (eqb (length (texts_of x e)) 0)) here
     ∙ rw (text, texts_of-with s b (before ++ t ∷ []) d text, some) refl
 
-line_joined : (b : Bool) (before : List (List ℕ)) (t l : List ℕ) → length (joined b t l) ≤ 4095 →
-    text_line b l (before ++ t ∷ []) ≡ Ok (before ++ joined b t l ∷ [])
+line_joined : (b : Bool) (before : List (List ℕ)) (t l : List ℕ) → length (with_line b t l) ≤ 4095 →
+    text_line b l (before ++ t ∷ []) ≡ Ok (before ++ with_line b t l ∷ [])
 line_joined b before t l short =
     let within : ltb 4095 (length (with_line b t l)) ≡ false = le-ltb 4095 (length (with_line b t l)) short in
     rw (last_or-push [] before t, within, with_last-push (with_line b t l) before t) refl
 
 line_step : (p : ℕ) (s : Section) (b : Bool) (d : Spelt) (before : List (List ℕ)) (t l : List ℕ) → d.section ≡ s →
-    is_text_section s ≡ true → TextLine l → length (joined b t l) ≤ 4095
-    → LineReads p (with_texts s b (before ++ t ∷ []) d) l (with_texts s true (before ++ joined b t l ∷ []) d)
+    is_text_section s ≡ true → TextLine l → length (with_line b t l) ≤ 4095
+    → LineReads p (with_texts s b (before ++ t ∷ []) d) l (with_texts s true (before ++ with_line b t l ∷ []) d)
 line_step p s b d before t l at text line short =
     let ts : List (List ℕ) = before ++ t ∷ [] in
     let e : Spelt = with_texts s b ts d in

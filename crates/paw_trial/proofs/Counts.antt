@@ -27,7 +27,7 @@ unfolding kept_bytes world_bytes
 flags_first s i low =
     let f = fields_of s in
     let rest = in_sequence (f.places ∷ held_bytes f.saved ∷ []) in
-    let behind = in_sequence (number_bytes f ∷ table_bytes f ∷ pending_bytes f ∷ fields.kept_bytes f ∷ []) in
+    let behind = in_sequence (number_bytes f ∷ table_bytes f ∷ pending_bytes f ∷ fields.kept_position_bytes f ∷ []) in
     get_or_append_left (s.world.flags ++ rest) behind 0 i (omega (arith, low, length-append s.world.flags rest))
     ∙ get_or_append_left s.world.flags rest 0 i low
 
