@@ -8,7 +8,8 @@ use Rattle.std.proofs.lemmas.List.{map-append, drop-replicate}
 use Rattle.std.proofs.Math.ListN.{length-map}
 use Rattle.std.proofs.Math.Numerals.{one-add}
 use Rattle.std.proofs.Math.Seq.{take-append_seam}
-use Rattle.paw_base.specs.Condacts.{filled_up, before_space, capitals, is_plain}
+use Rattle.paw_base.specs.Condacts.{capitals}
+use Rattle.paw_base.specs.inner.Condacts.{filled_up, before_space, is_plain}
 
 abbrev pub has_space : List ℕ → Bool
 has_space name = list_any (λ byte. byte == 32) name

@@ -9,7 +9,8 @@ use Rattle.paw_base.proofs.Filled.{has_space, has_space-plain, bytes_eq-filled_u
 use Rattle.paw_base.proofs.Table.{held, CONDACTS_are, length-condact_lines, below, each_code, is_plain-name_of, HasName-name_of}
 use Rattle.paw_base.specs.declared.rows.ParamKind.TheVariants.{Absent}
 use Rattle.paw_base.specs.declared.rows.TheConstants.{CONDACTS}
-use Rattle.paw_base.specs.Condacts.{CondactLine, named_line, condact_lines, filled_up, line_of, name_of, capitals, code_named, HasName, IsCode, is_plain}
+use Rattle.paw_base.specs.Condacts.{CondactLine, named_line, condact_lines, line_of, name_of, capitals, code_named}
+use Rattle.paw_base.specs.inner.Condacts.{filled_up, HasName, IsCode, is_plain}
 
 abbrev code_with : List ℕ → Option ℕ
 code_with name = position (λ line. bytes_eq line.name name) condact_lines

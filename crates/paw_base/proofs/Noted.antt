@@ -3,7 +3,7 @@ use Rattle.std.proofs.Common.{arith, ℕ, zero, suc, ◌≡◌, ◌<◌, ◌≤�
 use Rattle.std.proofs.Math.Seq.{take-suc-set}
 use Rattle.std.proofs.lemmas.List.{take_all, length-take-le, length-append}
 use Rattle.paw_base.specs.declared.steps.StepRow.{StepRow}
-use Rattle.paw_base.specs.Steps.{kept_steps, noted}
+use Rattle.paw_base.specs.inner.Steps.{kept_steps, noted}
 
 -- a row that is put behind the first n stands behind them
 pub take_put : (xs : List StepRow) (n : ℕ) (y : StepRow) → n < length xs → take (suc n) (slice_set xs n y) ≡ take (length xs) (take n xs ++ y ∷ [])

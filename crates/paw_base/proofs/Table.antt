@@ -10,7 +10,8 @@ use Rattle.paw_base.proofs.Filled.{has_space-plain, before_space-filled_up}
 use Rattle.paw_base.specs.declared.rows.ParamKind.{ParamKind}
 use Rattle.paw_base.specs.declared.rows.ParamKind.TheVariants.{Absent}
 use Rattle.paw_base.specs.declared.rows.TheConstants.{CONDACTS}
-use Rattle.paw_base.specs.Condacts.{CondactLine, named_line, condact_lines, filled_up, before_space, line_of, name_of, first_kind, second_kind, param_count, row_of, capitals, HasName, IsCode, is_plain, acts}
+use Rattle.paw_base.specs.Condacts.{CondactLine, named_line, condact_lines, line_of, name_of, first_kind, second_kind, param_count, capitals}
+use Rattle.paw_base.specs.inner.Condacts.{filled_up, before_space, row_of, HasName, IsCode, is_plain, acts}
 
 -- ---- the code's table is the definition's
 

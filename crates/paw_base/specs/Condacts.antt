@@ -1,10 +1,9 @@
 -- The condacts: their codes, their names, and what their parameters name.
-use Rattle.std.specs.Prelude.{ℕ, ◌≡◌, ◌≤◌, ◌-◌, ◌+◌, ◌++◌, Bool, List, [], ◌∷◌, length, replicate, map, nat_le, Option, codes, bytes_eq, ◌==◌, ◌&&◌, not}
-use Rattle.std.specs.List.{slice_index_or, position, list_any, before_first}
+use Rattle.std.specs.Prelude.{ℕ, ◌-◌, ◌+◌, List, [], ◌∷◌, map, Option, codes, bytes_eq}
+use Rattle.std.specs.List.{slice_index_or, position}
 use Rattle.std.specs.Char.{to_ascii_uppercase}
 use Rattle.paw_base.specs.declared.rows.ParamKind.{ParamKind}
 use Rattle.paw_base.specs.declared.rows.ParamKind.TheVariants.{Absent, Location, Place, Object, Flag, Number, Message, System, Table, Adverb, Noun, Adjective, Preposition}
-use Rattle.paw_base.specs.declared.rows.CondactRow.{CondactRow}
 
 -- a line of the table: the name, and what the first and the second parameter name
 pub record CondactLine : Type 0 where
@@ -129,10 +128,6 @@ condact_lines =
     named_line (codes "INPUT") Number Absent ∷  -- 107
     []
 
--- the codes of the condacts are 0 to 107
-abbrev pub IsCode : ℕ → Type 0
-IsCode code = code ≤ 107
-
 -- the line of a code; above 107 one with no name and no parameters
 unfoldable pub line_of : ℕ → CondactLine
 line_of code = slice_index_or condact_lines code (named_line [] Absent Absent)
@@ -158,34 +153,10 @@ param_count _ = 1
 abbrev pub params_of : ℕ → ℕ
 params_of code = param_count (first_kind code) + param_count (second_kind code)
 
--- the codes from 29 on act; those below test
-abbrev pub acts : ℕ → Bool
-acts code = nat_le 29 code
-
--- a name filled up with spaces to eight bytes
-abbrev pub filled_up : List ℕ → List ℕ
-filled_up name = name ++ replicate (8 - length name) 32
-
--- what stands before the first space
-abbrev pub before_space : List ℕ → List ℕ
-before_space name = before_first (λ byte. byte == 32) name
-
--- what the table says of a code
-abbrev pub row_of : ℕ → CondactRow
-row_of code = record { name = filled_up (name_of code); first = first_kind code; second = second_kind code; acts = acts code }
-
 -- the letters a to z read as capitals
 abbrev pub capitals : List ℕ → List ℕ
 capitals name = map to_ascii_uppercase name
 
--- the condact of this code has this name, its letters read as capitals
-abbrev pub HasName : ℕ → List ℕ → Type 0
-HasName code name = IsCode code × (name_of code ≡ capitals name)
-
 -- the least code with this name, its letters read as capitals, where there is one
 abbrev pub code_named : List ℕ → Option ℕ
 code_named name = position (λ line. bytes_eq line.name (capitals name)) condact_lines
-
--- at most eight bytes, and no space among them
-abbrev pub is_plain : List ℕ → Bool
-is_plain name = nat_le (length name) 8 && not (list_any (λ byte. byte == 32) name)

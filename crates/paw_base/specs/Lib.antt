@@ -1,4 +1,4 @@
 pub mod Bytes
 pub mod Condacts
-pub mod Piece
 pub mod Steps
+pub mod inner

@@ -1,7 +1,7 @@
 // The text of a piece.
 
 ghost use Rattle.std.specs.Prelude.{◌≡◌, ◌≤◌, [], IfOk, false, length};
-ghost use Rattle.paw_base.specs.Piece.{Puts, piece_limit};
+ghost use Rattle.paw_base.specs.inner.Piece.{Puts, piece_limit};
 
 use crate::fault::NoRoom;
 pub use crate::limits::PIECE_LIMIT;
@@ -16,7 +16,7 @@ pub struct Piece {
 
 impl Model for Piece {
     ghost use Rattle.std.specs.Prelude.{◌≤◌, List, ℕ, length, vec_capacity};
-    ghost use Rattle.paw_base.specs.Piece.{piece_limit};
+    ghost use Rattle.paw_base.specs.inner.Piece.{piece_limit};
 
     ghost Value = { List ℕ };
 

@@ -2,7 +2,8 @@
 
 ghost use Rattle.std.specs.Prelude.{◌≡◌, ◌+◌, ℕ, SomeIff, IfSome, is_some, bytes_eq, ◌==◌};
 ghost use Rattle.std.specs.List.{position};
-ghost use Rattle.paw_base.specs.Condacts.{IsCode, HasName, is_plain, param_count, before_space, row_of, name_of, capitals, filled_up, code_named};
+ghost use Rattle.paw_base.specs.Condacts.{param_count, name_of, capitals, code_named};
+ghost use Rattle.paw_base.specs.inner.Condacts.{IsCode, HasName, is_plain, before_space, row_of, filled_up};
 
 use ParamKind::{
     Absent, Adjective, Adverb, Flag, Location, Message, Noun, Number, Object, Place, Preposition,

@@ -1,7 +1,8 @@
 // The steps of a piece: the condacts that were read for it.
 
 ghost use Rattle.std.specs.Prelude.{◌≡◌, ◌<◌, ℕ, suc, List, ◌∷◌, [], ◌++◌, take, length, slice_set};
-ghost use Rattle.paw_base.specs.Steps.{KeptSteps, no_steps, noted};
+ghost use Rattle.paw_base.specs.Steps.{KeptSteps};
+ghost use Rattle.paw_base.specs.inner.Steps.{no_steps, noted};
 
 use crate::limits::STEP_LIMIT;
 use std::marker::Model;

@@ -44,7 +44,8 @@ use Rattle.paw_effects.specs.Effects.{effect_of}
 use Rattle.paw_effects.specs.Story.{story_of}
 use Rattle.paw_effects.specs.Holds.{Tested, moves_to, holds}
 use Rattle.paw_effects.specs.PlaceTests.{tests_place}
-use Rattle.paw_effects.specs.Standing.{AreBytes, IsPositionOf, MayBePosition}
+use Rattle.paw_effects.specs.Standing.{AreBytes}
+use Rattle.paw_effects.specs.inner.Standing.{IsPositionOf, MayBePosition}
 use Rattle.paw_effects.proofs.Worlds.{byte_at, IsWorldAt, IsPlace, few_locations, few_objects, parameter_small, world_of, later, flag_small, flagged, place_of, place_is_small, here_place, named, moved_so, weight_small, returned_so}
 
 module _ (g : GameLists) (v : Valid g) (seed n : ℕ) where

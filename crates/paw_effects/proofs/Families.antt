@@ -2,7 +2,7 @@
 use Rattle.std.proofs.Common.{◌≡◌, ◌==◌, true, refl}
 use Rattle.std.proofs.lemmas.Bool.{eqb-true}
 use Rattle.paw_base.proofs.Table.{below, each_code}
-use Rattle.paw_effects.specs.Families.{families_of, EachHasOneFamily}
+use Rattle.paw_effects.specs.inner.Families.{families_of, EachHasOneFamily}
 
 all_in_one : below (λ code. families_of code == 1) 108 ≡ true
 unfolding below

@@ -7,12 +7,13 @@ use Rattle.std.proofs.lemmas.List.{drop_all}
 use Rattle.std.proofs.lemmas.List.FromFn.{length-range_with_len, get_or-range_with_len}
 use Rattle.std.proofs.lemmas.Bool.{cases_eq}
 use Rattle.std.proofs.lemmas.Bool.Decides.{nat_tests}
-use Rattle.paw_world.specs.Places.{least_at, left_above}
-use Rattle.paw_world.specs.World.{World, first_at}
+use Rattle.paw_world.specs.inner.Places.{least_at, left_above}
+use Rattle.paw_world.specs.World.{World}
+use Rattle.paw_world.specs.inner.World.{first_at}
 use Rattle.paw_world.proofs.Least.{least_at_here, least_at_pass, least_at_end, least_at_is}
 use Rattle.paw_world.proofs.Contents.{above_at_none, above_at_some}
 use Rattle.paw_effects.specs.declared.lists.Listed.TheVariants as listed
-use Rattle.paw_effects.specs.Listing.{lesser, first_above, listed_from, listed_above}
+use Rattle.paw_effects.specs.inner.Listing.{lesser, first_above, listed_from, listed_above}
 use Rattle.paw_effects.specs.Presence.{is_held}
 
 -- the objects at a place above one, where none is found

@@ -4,14 +4,15 @@ use Rattle.std.proofs.lemmas.Bool.{ltb-true}
 use Rattle.paw_base.specs.declared.parts.Condact.{Condact}
 use Rattle.paw_base.specs.declared.rows.ParamKind.{ParamKind}
 use Rattle.paw_base.specs.declared.rows.ParamKind.TheVariants as kind
-use Rattle.paw_base.specs.Condacts.{condact_lines, line_of, first_kind, second_kind, IsCode}
+use Rattle.paw_base.specs.Condacts.{condact_lines, line_of, first_kind, second_kind}
+use Rattle.paw_base.specs.inner.Condacts.{IsCode}
 use Rattle.paw_base.proofs.Table.{below, each_code}
 use Rattle.paw_game.specs.Game.{GameLists}
-use Rattle.paw_game.specs.Valid.{is_right, is_argument}
+use Rattle.paw_game.specs.inner.Valid.{is_right, is_argument}
 use Rattle.paw_game.proofs.Right.{right-code, right-first, right-second}
 use Rattle.paw_world.specs.World.{World}
 use Rattle.paw_effects.specs.Built.{IsOf}
-use Rattle.paw_effects.specs.Parameters.{takes_object, takes_second_object}
+use Rattle.paw_effects.specs.inner.Parameters.{takes_object, takes_second_object}
 
 is_object : ParamKind → Bool
 is_object kind.Absent = false

@@ -14,7 +14,8 @@ use Rattle.paw_base.specs.Condacts.{condact_lines, line_of, first_kind, second_k
 use Rattle.paw_base.proofs.Table.{below, each_code}
 use Rattle.paw_game.specs.Game.{GameLists}
 use Rattle.paw_game.specs.Tables.{facts_of}
-use Rattle.paw_game.specs.Valid.{Valid, is_within, is_place, is_right, is_argument, texts_kept}
+use Rattle.paw_game.specs.Valid.{Valid, is_within, is_place, texts_kept}
+use Rattle.paw_game.specs.inner.Valid.{is_right, is_argument}
 use Rattle.paw_game.proofs.Kept.{first_of_and, facts-start}
 use Rattle.paw_game.proofs.Right.{right-code, right-first, right-second}
 use Rattle.paw_world.specs.World.{World, Position, flag, with_flag, place, with_place, here, let_go, taken_up, moved, opening_places, opened, restarted, with_objects_returned, taken_from, position_of, kept_position}

@@ -1,6 +1,6 @@
 -- What stands in a piece while a text is printed part by part.
 use Rattle.std.proofs.Common.{◌≡◌, ℕ, ◌+◌, ◌<◌, Bool, true, false, List, ◌++◌, length, ap, arith, length-append, ◌∙◌}
-use Rattle.paw_base.specs.Piece.{Puts}
+use Rattle.paw_base.specs.inner.Piece.{Puts}
 
 -- the part that doesn't fit is part of a whole that doesn't
 pub too_long : (held part rest start whole : List ℕ) → held ++ (part ++ rest) ≡ start ++ whole → 65535 < length held + length part →

@@ -5,7 +5,8 @@ use Rattle.std.specs.List.{list_any}
 use Rattle.std.proofs.lemmas.List.Folds.{list_any_at, list_any_more}
 use Rattle.std.proofs.lemmas.Option.{slice_get-get_or}
 use Rattle.paw_base.specs.declared.parts.ObjectFacts.{ObjectFacts}
-use Rattle.paw_world.specs.World.{World, first_at}
+use Rattle.paw_world.specs.World.{World}
+use Rattle.paw_world.specs.inner.World.{first_at}
 use Rattle.paw_world.proofs.Contents.{above_at, above_at_none, above_at_some}
 use Rattle.paw_effects.specs.ObjectSearch.{fits_sentence, names, has_names, some_fits, least_fitting}
 

@@ -21,7 +21,8 @@ use Rattle.paw_world.specs.World.{World, Position, flag, with_flag, place, with_
 use Rattle.paw_world.specs.Weight.{own_weight, weighs_contents, weight_down, weight, objects_at}
 use Rattle.paw_effects.specs.Built.{IsOf, ArePlacesOf}
 use Rattle.paw_effects.specs.Presence.{named_place}
-use Rattle.paw_effects.specs.Standing.{AreBytes, MayBePosition, IsWorldOf}
+use Rattle.paw_effects.specs.Standing.{AreBytes}
+use Rattle.paw_effects.specs.inner.Standing.{MayBePosition, IsWorldOf}
 
 -- a world of the game with this seed, and at most so many words drawn
 pub record IsWorldAt (g : GameLists) (seed n : ℕ) (w : World) : Type 0 where

@@ -1,6 +1,5 @@
 -- What an action does.
-use Rattle.std.specs.Prelude.{◌≡◌, ℕ, ◌+◌, ◌<◌, ◌≤◌, true, false, List, [], ◌++◌, length}
-use Rattle.paw_base.specs.declared.limits.TheConstants.{PIECE_LIMIT}
+use Rattle.std.specs.Prelude.{ℕ, true, false, List, []}
 use Rattle.paw_world.specs.World.{World}
 use Rattle.paw_effects.specs.declared.act.Effect.{Effect}
 use Rattle.paw_effects.specs.declared.act.Effect.TheVariants as effect
@@ -35,13 +34,3 @@ prints w text = tells w text effect.Go
 -- reading goes on at the next condact with this world, and nothing is printed
 abbrev pub makes : World → Done
 makes w = leads w effect.Go
-
--- an action was done in a piece: it holds its text too, or the text doesn't fit and the rest is open
-abbrev pub DoesAs : Done → List ℕ → List ℕ → World → Act → Effect → Type 0
-DoesAs d old new world act effect.Spent = PIECE_LIMIT < length old + length d.text
-DoesAs d old new world act e =
-    (length old + length d.text ≤ PIECE_LIMIT) × (new ≡ old ++ d.text) × (world ≡ d.world) × (act ≡ d.act)
-
--- the same by what the action answers
-abbrev pub Does : Done → List ℕ → List ℕ → World → Act → Type 0
-Does d old new world act = DoesAs d old new world act act.effect

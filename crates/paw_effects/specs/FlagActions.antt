@@ -1,20 +1,13 @@
 -- The actions that change flags, and those that save and load them.
-use Rattle.std.specs.Prelude.{ℕ, ◌+◌, ◌-◌, ◌==◌, ◌||◌, Bool, min, Option, None, Some, if◌then◌else◌}
+use Rattle.std.specs.Prelude.{ℕ, ◌+◌, ◌-◌, ◌==◌, min, Option, None, Some, if◌then◌else◌}
 use Rattle.paw_base.specs.declared.codes.TheConstants.{RAMSAVE, RAMLOAD, GOTO, SET, CLEAR, PLUS, MINUS, LET, ADD, SUB}
 use Rattle.paw_base.specs.declared.codes.TheConstants.{RANDOM, COPYFF, WEIGH, WEIGHT, ABILITY, PROMPT, TIME}
 use Rattle.paw_base.specs.declared.flags.TheConstants.{MOST_CARRIED_FLAG, LOCATION_FLAG, PROMPT_FLAG, TIMEOUT_FLAG}
 use Rattle.paw_base.specs.declared.flags.TheConstants.{TIMED_OUT_FLAG, MOST_WEIGHT_FLAG}
 use Rattle.paw_base.specs.declared.parts.Condact.{Condact}
-use Rattle.paw_game.specs.Valid.{is_within}
 use Rattle.paw_world.specs.World.{World, flag, with_flag, ramsaved, ramloaded, drawn_on}
 use Rattle.paw_world.specs.Weight.{weight, carried_weight}
 use Rattle.paw_effects.specs.Chance.{rolled}
-
--- the codes of these actions
-abbrev pub is_change : ℕ → Bool
-is_change code =
-    is_within RAMSAVE RAMLOAD code || (code == GOTO) || is_within SET RANDOM code || (code == COPYFF)
-    || is_within WEIGH ABILITY code || is_within PROMPT TIME code
 
 -- one line for each of them; a flag is at most 255 and at least 0, and RANDOM makes a draw
 unfoldable pub change_of : World → Condact → World

@@ -1,16 +1,11 @@
 -- The conditions that look at flags.
-use Rattle.std.specs.Prelude.{ℕ, ◌==◌, ◌||◌, Bool, not, nat_lt, nat_le, if◌then◌else◌}
+use Rattle.std.specs.Prelude.{◌==◌, Bool, not, nat_lt, nat_le, if◌then◌else◌}
 use Rattle.paw_base.specs.declared.codes.TheConstants.{ZERO, NOTZERO, EQ, NOTEQ, GT, LT, SAME, NOTSAME, ADJECT1, ADVERB}
 use Rattle.paw_base.specs.declared.codes.TheConstants.{PREP, NOUN2, ADJECT2, TIMEOUT}
 use Rattle.paw_base.specs.declared.flags.TheConstants.{ADJECTIVE_FLAG, ADVERB_FLAG, PREPOSITION_FLAG, SECOND_NOUN_FLAG}
 use Rattle.paw_base.specs.declared.flags.TheConstants.{SECOND_ADJECTIVE_FLAG, TIMED_OUT_FLAG}
 use Rattle.paw_base.specs.declared.parts.Condact.{Condact}
-use Rattle.paw_game.specs.Valid.{is_within}
 use Rattle.paw_world.specs.World.{World, flag}
-
--- the codes of these conditions
-abbrev pub tests_flag : ℕ → Bool
-tests_flag code = is_within ZERO ADJECT2 code || (code == TIMEOUT)
 
 -- one line for each of them; some look at the words of the sentence, and bit 7 of a flag tells a timeout
 unfoldable pub flag_holds : World → Condact → Bool

@@ -1,8 +1,6 @@
-pub mod Parameters
 pub mod Presence
 pub mod Chance
 pub mod Built
-pub mod Opening
 pub mod Texts
 pub mod PlaceTests
 pub mod FlagTests
@@ -15,7 +13,6 @@ pub mod Done
 pub mod Counts
 pub mod Marks
 pub mod Lists
-pub mod Listing
 pub mod FlowActions
 pub mod Positions
 pub mod TextActions
@@ -25,4 +22,4 @@ pub mod Referring
 pub mod ObjectActions
 pub mod AutoActions
 pub mod Effects
-pub mod Families
+pub mod inner

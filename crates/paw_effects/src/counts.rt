@@ -1,7 +1,7 @@
 // The counts that a game tells: its turns and its score.
 
 ghost use Rattle.std.specs.Prelude.{◌≡◌};
-ghost use Rattle.paw_base.specs.Piece.{Puts};
+ghost use Rattle.paw_base.specs.inner.Piece.{Puts};
 ghost use Rattle.paw_effects.specs.Counts.{turns_taken, plural_text, turns_text, score_text};
 
 use crate::text::{print_number, put, say};

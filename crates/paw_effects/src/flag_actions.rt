@@ -5,7 +5,7 @@ ghost use Rattle.paw_game.specs.Game.{GameLists};
 ghost use Rattle.paw_world.specs.World.{with_flag, drawn_on};
 ghost use Rattle.paw_effects.specs.Built.{IsOf};
 ghost use Rattle.paw_effects.specs.Chance.{rolled};
-ghost use Rattle.paw_effects.specs.Parameters.{takes_object};
+ghost use Rattle.paw_effects.specs.inner.Parameters.{takes_object};
 ghost use Rattle.paw_effects.specs.FlagActions.{change_of};
 
 use crate::chance::roll;

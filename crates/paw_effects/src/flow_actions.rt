@@ -1,7 +1,8 @@
 // The actions that say where reading goes on.
 
 ghost use Rattle.std.specs.Prelude.{◌≡◌, true};
-ghost use Rattle.paw_effects.specs.Done.{tells, Does};
+ghost use Rattle.paw_effects.specs.Done.{tells};
+ghost use Rattle.paw_effects.specs.inner.Done.{Does};
 ghost use Rattle.paw_effects.specs.declared.act.Effect.TheVariants as effect;
 ghost use Rattle.paw_effects.specs.Texts.{put_text};
 ghost use Rattle.paw_effects.specs.FlowActions.{is_flow, flow_of};

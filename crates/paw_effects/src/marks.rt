@@ -1,8 +1,8 @@
 // The marks that stand for what a game shows or plays beside its text.
 
 ghost use Rattle.std.specs.Prelude.{◌≡◌};
-ghost use Rattle.paw_base.specs.Condacts.{IsCode};
-ghost use Rattle.paw_base.specs.Piece.{Puts};
+ghost use Rattle.paw_base.specs.inner.Condacts.{IsCode};
+ghost use Rattle.paw_base.specs.inner.Piece.{Puts};
 ghost use Rattle.paw_effects.specs.Marks.{parameter_text, mark_text};
 
 use crate::text::print_number;

@@ -2,7 +2,7 @@
 
 ghost use Rattle.std.specs.Prelude.{◌≡◌, ◌<◌, length};
 ghost use Rattle.paw_effects.specs.Built.{IsOf};
-ghost use Rattle.paw_effects.specs.Done.{Does};
+ghost use Rattle.paw_effects.specs.inner.Done.{Does};
 ghost use Rattle.paw_effects.specs.ObjectActions.{destination, outcome, refuses, acted_on};
 
 use crate::act::{Act, Effect, after, on};

@@ -1,7 +1,7 @@
 // What is said of an action on an object.
 
 ghost use Rattle.std.specs.Prelude.{◌≡◌};
-ghost use Rattle.paw_base.specs.Piece.{Puts};
+ghost use Rattle.paw_base.specs.inner.Piece.{Puts};
 ghost use Rattle.paw_effects.specs.ObjectWords.{spoken_words, ends_loop};
 
 use crate::text::{print_object, put, say};

@@ -2,7 +2,7 @@
 
 ghost use Rattle.std.specs.Prelude.{◌≡◌, ◌≤◌, length, map};
 ghost use Rattle.paw_game.specs.Valid.{Valid};
-ghost use Rattle.paw_effects.specs.Opening.{opening_world};
+ghost use Rattle.paw_effects.specs.inner.Opening.{opening_world};
 
 use paw_base::limits::OBJECT_LIMIT;
 use paw_base::parts::ObjectFacts;

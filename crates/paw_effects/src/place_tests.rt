@@ -1,7 +1,7 @@
 // The conditions that look at where the player and the objects are.
 
 ghost use Rattle.std.specs.Prelude.{◌≡◌, ◌<◌, true, length, IsTrue};
-ghost use Rattle.paw_effects.specs.Parameters.{takes_object};
+ghost use Rattle.paw_effects.specs.inner.Parameters.{takes_object};
 ghost use Rattle.paw_effects.specs.PlaceTests.{tests_place, place_holds};
 
 use crate::presence::{is_present, named_place};

@@ -3,7 +3,7 @@
 ghost use Rattle.std.specs.Prelude.{◌≡◌, ◌<◌, true};
 ghost use Rattle.paw_game.specs.Game.{GameLists};
 ghost use Rattle.paw_effects.specs.Built.{IsOf};
-ghost use Rattle.paw_effects.specs.Done.{Does};
+ghost use Rattle.paw_effects.specs.inner.Done.{Does};
 ghost use Rattle.paw_effects.specs.Positions.{is_keeping, keeping_of, loaded, position_number};
 ghost use Rattle.paw_world.specs.World.{kept_position};
 

@@ -1,7 +1,7 @@
 // The actions that print texts.
 
 ghost use Rattle.std.specs.Prelude.{◌≡◌, true};
-ghost use Rattle.paw_base.specs.Piece.{Puts};
+ghost use Rattle.paw_base.specs.inner.Piece.{Puts};
 ghost use Rattle.paw_effects.specs.TextActions.{is_print, print_of};
 
 use crate::counts::{tell_score, tell_turns};

@@ -13,7 +13,7 @@ use Rattle.paw_game.specs.declared.parts.GamePart.{GamePart}
 use Rattle.paw_game.specs.declared.parts.GamePart.TheVariants as part
 use Rattle.paw_game.specs.Game.{GameLists}
 use Rattle.paw_game.specs.Valid.{Valid, are_letters, is_word, is_text, is_object, is_exits, is_table, words_rise, words_kept, texts_kept, objects_kept, exits_kept, tables_kept}
-use Rattle.paw_game.specs.Fault.{row_fault, first_bad, bad_word, words_fault, texts_fault, objects_fault, exits_fault, tables_fault, fault_in, game_fault}
+use Rattle.paw_game.specs.inner.Fault.{row_fault, first_bad, bad_word, words_fault, texts_fault, objects_fault, exits_fault, tables_fault, fault_in, game_fault}
 
 -- ---- rows
 

@@ -7,7 +7,8 @@ use Rattle.std.proofs.lemmas.List.{drop_all}
 use Rattle.paw_game.specs.declared.parts.Entry.{Entry}
 use Rattle.paw_game.specs.Game.{GameLists}
 use Rattle.paw_game.specs.Valid.{Valid}
-use Rattle.paw_game.specs.Tables.{entry_at, first_match, match_at, matches, matches_at, table_at}
+use Rattle.paw_game.specs.Tables.{entry_at, matches, table_at}
+use Rattle.paw_game.specs.inner.Tables.{first_match, match_at, matches_at}
 use Rattle.paw_game.proofs.Kept.{entry-small}
 
 -- the entry that is found is one of these, and matches

@@ -2,7 +2,7 @@
 use Rattle.std.proofs.Common.{ℕ, false, List, take, replicate}
 use Rattle.std.proofs.lemmas.List.{length-replicate, get_or-replicate}
 use Rattle.paw_game.specs.declared.parts.Word.{Word}
-use Rattle.paw_game.specs.Values.{Tells}
+use Rattle.paw_game.specs.inner.Values.{Tells}
 
 pub Tells-none : (ws : List Word) (class : ℕ) → Tells (replicate 256 false) (take 0 ws) class
 Tells-none ws class = record {

@@ -1,34 +1,19 @@
 -- What a game's lists hold at a number.
-use Rattle.std.specs.Prelude.{ℕ, suc, ◌==◌, ◌&&◌, ◌||◌, Bool, false, List, [], ◌∷◌, length, Option, Some, None, slice_get, drop, if◌then◌else◌}
-use Rattle.std.specs.Option.{option_map_or}
+use Rattle.std.specs.Prelude.{ℕ, ◌==◌, ◌&&◌, ◌||◌, Bool, List, [], ◌∷◌, Option, Some, None, slice_get, if◌then◌else◌}
 use Rattle.std.specs.Str.{bytes_eq}
 use Rattle.paw_base.specs.declared.words.TheConstants.{ANY_WORD, NO_WORD}
 use Rattle.paw_base.specs.declared.parts.Condact.{Condact}
 use Rattle.paw_base.specs.declared.parts.ObjectFacts.{ObjectFacts}
-use Rattle.paw_base.specs.declared.parts.Counts.{Counts}
 use Rattle.paw_game.specs.declared.parts.Word.{Word}
 use Rattle.paw_game.specs.declared.parts.ObjectRow.{ObjectRow}
 use Rattle.paw_game.specs.declared.parts.Exit.{Exit}
 use Rattle.paw_game.specs.declared.parts.Entry.{Entry}
-use Rattle.paw_game.specs.declared.parts.GamePart.{GamePart}
-use Rattle.paw_game.specs.declared.parts.GamePart.TheVariants as part
 use Rattle.paw_game.specs.Game.{GameLists}
 
 -- the list, or none
 abbrev pub or_empty : {A : Type 0} → Option (List A) → List A
 or_empty None = []
 or_empty (Some xs) = xs
-
--- how many rows each part of a game has
-abbrev pub counts_of : GameLists → Counts
-counts_of g = record {
-  words = length g.words;
-  system = length g.system;
-  messages = length g.messages;
-  objects = length g.objects;
-  locations = length g.locations;
-  tables = length g.tables;
-}
 
 -- the facts of an object, where there is one
 abbrev pub facts_of : Option ObjectRow → Option ObjectFacts
@@ -43,16 +28,6 @@ facts_at g o = facts_of (slice_get g.objects o)
 abbrev pub row_text : Option ObjectRow → Option (List ℕ)
 row_text None = None
 row_text (Some o) = Some o.text
-
--- a text of one of the parts that have texts
-abbrev pub text_at : GameLists → GamePart → ℕ → Option (List ℕ)
-text_at g part.Words n = None
-text_at g part.System n = slice_get g.system n
-text_at g part.Messages n = slice_get g.messages n
-text_at g part.Objects n = row_text (slice_get g.objects n)
-text_at g part.Locations n = slice_get g.locations n
-text_at g part.Exits n = None
-text_at g part.Tables n = None
 
 -- where the exit of this verb leads; no two exits of a location have the same verb
 abbrev pub exit_of : List Exit → ℕ → Option ℕ
@@ -96,19 +71,6 @@ is_for word flag = (word == ANY_WORD) || ((word == NO_WORD) || (word == flag))
 -- an entry matches these values of the verb and the noun
 abbrev pub matches : ℕ → ℕ → Entry → Bool
 matches verb noun e = is_for e.verb verb && is_for e.noun noun
-
--- the table has this entry, and it matches
-abbrev pub matches_at : GameLists → ℕ → ℕ → ℕ → ℕ → Bool
-matches_at g t e verb noun = option_map_or (matches verb noun) (entry_at g t e) false
-
--- of these entries, numbered from e on, the first that matches
-abbrev pub first_match : ℕ → ℕ → ℕ → List Entry → Option ℕ
-first_match verb noun e [] = None
-first_match verb noun e (en ∷ es) = if matches verb noun en then Some e else first_match verb noun (suc e) es
-
--- the least matching entry of a table that isn't below from
-abbrev pub match_at : GameLists → ℕ → ℕ → ℕ → ℕ → Option ℕ
-match_at g t from verb noun = first_match verb noun from (drop from (table_at g t))
 
 -- the word with these letters; no two words have the same
 abbrev pub word_of : List ℕ → List Word → Option Word

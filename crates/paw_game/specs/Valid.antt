@@ -152,18 +152,6 @@ is_parameter g kind.Preposition x = is_word_or_none g.words PREPOSITION_CLASS x
 abbrev pub is_condact : GameLists → Condact → Bool
 is_condact g c = nat_le c.code 107 && (is_parameter g (first_kind c.code) c.a && is_parameter g (second_kind c.code) c.b)
 
--- the same where a word may be any byte: one that the game doesn't have is a word that no sentence has
-abbrev pub is_argument : GameLists → ParamKind → ℕ → Bool
-is_argument g kind.Adverb x = nat_lt x 256
-is_argument g kind.Noun x = nat_lt x 256
-is_argument g kind.Adjective x = nat_lt x 256
-is_argument g kind.Preposition x = nat_lt x 256
-is_argument g k x = is_parameter g k x
-
--- a condact that can be carried out: a code from 0 to 107, and parameters that keep their rules, where a word may be any byte
-abbrev pub is_right : GameLists → Condact → Bool
-is_right g c = nat_le c.code 107 && (is_argument g (first_kind c.code) c.a && is_argument g (second_kind c.code) c.b)
-
 -- a word of an entry that matches any word
 abbrev pub is_any : ℕ → Bool
 is_any value = (value == ANY_WORD) || (value == NO_WORD)

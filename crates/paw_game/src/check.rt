@@ -2,7 +2,7 @@
 
 ghost use Rattle.std.specs.Prelude.{◌≡◌};
 ghost use Rattle.std.specs.Result.{result_err};
-ghost use Rattle.paw_game.specs.Fault.{fault_in, game_fault};
+ghost use Rattle.paw_game.specs.inner.Fault.{fault_in, game_fault};
 
 use crate::inspector::Inspector;
 use crate::parts::{GameFault, GamePart, GameParts};
@@ -11,7 +11,7 @@ use crate::words::words_fault;
 use paw_base::limits::{LOCATION_LEAST, LOCATION_LIMIT, MESSAGE_LIMIT, SYSTEM_LIMIT};
 
 /// An error exactly where the lists break a rule: the first part that does, and its row.
-#[tactic(auto, unfolding(crate::specs::Fault::game_fault))]
+#[tactic(auto, unfolding(crate::specs::inner::Fault::game_fault))]
 pub(crate) fn check(parts: &GameParts) -> Result<(), GameFault>
     ensures value { result_err result ≡ game_fault parts.now }
 {

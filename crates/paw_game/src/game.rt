@@ -2,7 +2,7 @@
 
 ghost use Rattle.std.specs.Prelude.{◌≡◌, Some, IfOk, IfErr, OnOk, OnErr};
 ghost use Rattle.paw_game.specs.Valid.{Valid};
-ghost use Rattle.paw_game.specs.Fault.{game_fault};
+ghost use Rattle.paw_game.specs.inner.Fault.{game_fault};
 
 use crate::check::check;
 use crate::lookup;

@@ -2,9 +2,9 @@
 
 ghost use Rattle.std.specs.Prelude.{◌≡◌, ◌&&◌, ◌==◌, ◌<◌, ◌^◌, IfSome, length, nat_lt};
 ghost use Rattle.std.specs.List.{list_all, list_any};
-ghost use Rattle.paw_game.specs.Fault.{exits_fault, first_bad, objects_fault, tables_fault};
+ghost use Rattle.paw_game.specs.inner.Fault.{exits_fault, first_bad, objects_fault, tables_fault};
 ghost use Rattle.paw_game.specs.Valid.{are_exits, are_facts, is_condact, is_entry, is_exits, is_object, is_parameter, is_place, is_table, is_verb_value};
-ghost use Rattle.paw_game.specs.Values.{Tells};
+ghost use Rattle.paw_game.specs.inner.Values.{Tells};
 
 use crate::parts::{Entry, Exit, Exits, GameParts, ObjectRow, Table};
 use crate::rows::row_fault;
@@ -30,7 +30,7 @@ pub(crate) struct Inspector<'a> {
 
 impl<'a> Model for Inspector<'a> {
     ghost use Rattle.paw_game.specs.Game.{GameLists};
-    ghost use Rattle.paw_game.specs.Values.{Tells};
+    ghost use Rattle.paw_game.specs.inner.Values.{Tells};
 
     ghost Value = { GameLists };
 
@@ -87,7 +87,7 @@ impl<'a> Inspector<'a> {
     }
 
     /// The row to name of the objects, where one breaks a rule or there are too many.
-    #[tactic(auto, unfolding(crate::specs::Fault::objects_fault))]
+    #[tactic(auto, unfolding(crate::specs::inner::Fault::objects_fault))]
     pub(crate) fn objects_fault(&self) -> Option<u32>
         ensures value { result ≡ objects_fault self.now.words (length self.now.locations) self.now.objects }
     {
@@ -114,7 +114,7 @@ impl<'a> Inspector<'a> {
     }
 
     /// The row to name of the exits, where one breaks a rule or there are too many or too few.
-    #[tactic(auto, unfolding(crate::specs::Fault::exits_fault))]
+    #[tactic(auto, unfolding(crate::specs::inner::Fault::exits_fault))]
     pub(crate) fn exits_fault(&self) -> Option<u32>
         requires { length self.now.locations < 2 ^ 32 }
         ensures value { result ≡ exits_fault self.now.words (length self.now.locations) self.now.exits }
@@ -158,7 +158,7 @@ impl<'a> Inspector<'a> {
     }
 
     /// The row to name of the tables, where one breaks a rule or there are too many or too few.
-    #[tactic(auto, unfolding(crate::specs::Fault::tables_fault))]
+    #[tactic(auto, unfolding(crate::specs::inner::Fault::tables_fault))]
     pub(crate) fn tables_fault(&self) -> Option<u32>
         ensures value { result ≡ tables_fault self.now }
     {

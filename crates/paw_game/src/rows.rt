@@ -1,7 +1,7 @@
 // The row that a part at fault names.
 
 ghost use Rattle.std.specs.Prelude.{◌≡◌, ◌<◌, ◌^◌, IfSome};
-ghost use Rattle.paw_game.specs.Fault.{row_fault};
+ghost use Rattle.paw_game.specs.inner.Fault.{row_fault};
 
 /// The row to name of a part with so many rows, of which this is the first bad one: the most rows that it may have
 /// where it has more, their number where it has fewer than the least; None where no rule is broken.

@@ -9,7 +9,8 @@ pub trait Tables {
     ghost use Rattle.std.specs.Option.{option_copied};
     ghost use Rattle.paw_game.specs.Game.{GameLists};
     ghost use Rattle.paw_game.specs.Valid.{Valid, is_condact, is_place};
-    ghost use Rattle.paw_game.specs.Tables.{counts_of, facts_at, text_at, exit_at, head_at, condact_at, match_at, matches_at, word_at};
+    ghost use Rattle.paw_game.specs.Tables.{facts_at, exit_at, head_at, condact_at, word_at};
+    ghost use Rattle.paw_game.specs.inner.Tables.{counts_of, text_at, match_at, matches_at};
 
     /// The game.
     ghost game: { Self → GameLists };

@@ -1,7 +1,7 @@
 // The rules of texts.
 
 ghost use Rattle.std.specs.Prelude.{◌≡◌, ◌<◌, ◌^◌, IfSome, length, true};
-ghost use Rattle.paw_game.specs.Fault.{first_bad, texts_fault};
+ghost use Rattle.paw_game.specs.inner.Fault.{first_bad, texts_fault};
 ghost use Rattle.paw_game.specs.Valid.{begins_no_line, is_printed, is_text, is_text_byte};
 
 use crate::parts::Text;
@@ -9,7 +9,7 @@ use crate::rows::row_fault;
 use paw_base::limits::TEXT_LIMIT;
 
 /// The row to name of these texts, where one breaks a rule or there are too few or too many.
-#[tactic(auto, unfolding(crate::specs::Fault::texts_fault))]
+#[tactic(auto, unfolding(crate::specs::inner::Fault::texts_fault))]
 pub(crate) fn texts_fault(least: usize, most: usize, texts: &[Text]) -> Option<u32>
     requires { most < 2 ^ 32 }
     ensures value { result ≡ texts_fault least most texts.now }

@@ -3,7 +3,7 @@
 ghost use Rattle.std.specs.Prelude.{◌≡◌, ◌||◌, ◌==◌, false};
 ghost use Rattle.std.specs.List.{slice_index_or};
 ghost use Rattle.paw_game.specs.Valid.{is_any};
-ghost use Rattle.paw_game.specs.Values.{Tells};
+ghost use Rattle.paw_game.specs.inner.Values.{Tells};
 
 use crate::parts::Word;
 

@@ -2,14 +2,14 @@
 
 ghost use Rattle.std.specs.Prelude.{◌≡◌, ◌<◌, [], IfSome, length};
 ghost use Rattle.paw_game.specs.Valid.{are_letters, is_filled, is_letter, is_word};
-ghost use Rattle.paw_game.specs.Fault.{bad_word, words_fault};
+ghost use Rattle.paw_game.specs.inner.Fault.{bad_word, words_fault};
 
 use crate::parts::Word;
 use crate::rows::row_fault;
 use paw_base::limits::WORD_LIMIT;
 
 /// The row to name of the words, where one breaks a rule or there are too many.
-#[tactic(auto, unfolding(crate::specs::Fault::words_fault))]
+#[tactic(auto, unfolding(crate::specs::inner::Fault::words_fault))]
 pub(crate) fn words_fault(words: &[Word]) -> Option<u32>
     ensures value { result ≡ words_fault words.now }
 {

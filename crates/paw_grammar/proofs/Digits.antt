@@ -2,7 +2,8 @@
 use Rattle.std.proofs.Common.{◌≡◌, ℕ, suc, ◌<◌, ◌≤◌, ◌+◌, ◌-◌, ◌*◌, min, true, false, cond, List, [], ◌∷◌, length, get_or, drop, Option, Some, None, refl, sym, ap, add-one, arith}
 use Rattle.std.proofs.Math.Seq.{drop-cons}
 use Rattle.std.proofs.Math.ListN.{drop_of_length-le}
-use Rattle.paw_grammar.specs.Numbers.{is_digit, number_from, capped}
+use Rattle.paw_grammar.specs.Numbers.{is_digit, number_from}
+use Rattle.paw_grammar.specs.inner.Numbers.{capped}
 
 -- what is capped doesn't tell two numbers above the cap apart
 same_number : (a b : ℕ) (ds : List ℕ) → min a 4294967295 ≡ min b 4294967295 → capped (number_from a ds) ≡ capped (number_from b ds)

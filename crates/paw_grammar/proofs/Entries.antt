@@ -11,7 +11,7 @@ use Rattle.std.proofs.lemmas.Map.Text.{is_eq-slice_cmp}
 use Rattle.paw_game.specs.declared.parts.Word.{Word}
 use Rattle.paw_game.specs.Tables.{word_of}
 use Rattle.paw_grammar.specs.declared.vocabulary.Meaning.{Meaning}
-use Rattle.paw_grammar.specs.WordMap.{word_from, words_in}
+use Rattle.paw_grammar.specs.inner.WordMap.{word_from, words_in}
 use Rattle.paw_grammar.specs.Vocabulary.{words_with}
 
 abbrev Entry : Type 0

@@ -11,7 +11,7 @@ use Rattle.paw_game.specs.declared.parts.Word.{Word}
 use Rattle.paw_grammar.specs.declared.bounds.Bounds.{Bounds}
 use Rattle.paw_grammar.specs.declared.refusal.ReadError.{ReadError}
 use Rattle.paw_grammar.specs.declared.refusal.ReadError.TheVariants as errors
-use Rattle.paw_grammar.specs.Gives.{Fails}
+use Rattle.paw_grammar.specs.inner.Gives.{Fails}
 use Rattle.paw_grammar.specs.Tokens.{◌>>=◌, or_fault, read_by}
 use Rattle.paw_grammar.specs.Numbers.{number, in_range, number_below}
 use Rattle.paw_grammar.specs.Vocabulary.{known, in_class, or_none}

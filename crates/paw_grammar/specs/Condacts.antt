@@ -1,5 +1,5 @@
 -- The condacts of a line.
-use Rattle.std.specs.Prelude.{ℕ, ◌≤◌, zero, suc, ◌+◌, ◌||◌, List, [], ◌∷◌, ◌++◌, length, min, nat_lt, if◌then◌else◌, Option, Some, None, Result, Ok, Err, codes}
+use Rattle.std.specs.Prelude.{ℕ, zero, suc, ◌+◌, ◌||◌, List, [], ◌∷◌, ◌++◌, length, min, nat_lt, if◌then◌else◌, Option, Some, None, Result, Ok, Err, codes}
 use Rattle.std.specs.Option.{option_map}
 use Rattle.paw_base.specs.declared.codes.TheConstants.{WORN, CARRIED}
 use Rattle.paw_base.specs.declared.places.TheConstants.{NOT_CREATED_PLACE, CARRIED_PLACE, HERE_PLACE}
@@ -48,13 +48,6 @@ abbrev pub place : ℕ → List (List ℕ) → Result (ℕ × List (List ℕ)) S
 place locations ts = place_up_to HERE_PLACE (place_among parameter_names) locations ts
 
 -- ---- parameters ----
-
--- a byte holds every number below these, but a table's
-pub record AreSmall (bounds : Bounds) : Type 0 where
-  pub system : bounds.system ≤ 256
-  pub messages : bounds.messages ≤ 256
-  pub objects : bounds.objects ≤ 256
-  pub locations : bounds.locations ≤ 256
 
 -- A table's number is below the number of headers of tables. 255 stands for one that no byte holds: there are then more
 -- than 256 headers, and one of them has a fault.

@@ -1,11 +1,10 @@
-pub mod Gives
 pub mod Tokens
 pub mod Numbers
 pub mod Vocabulary
 pub mod Condacts
-pub mod WordMap
 pub mod GrammarState
 pub mod GrammarTexts
 pub mod GrammarHeads
 pub mod GrammarRows
 pub mod Spells
+pub mod inner

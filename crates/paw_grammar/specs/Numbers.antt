@@ -1,5 +1,5 @@
 -- Numbers.
-use Rattle.std.specs.Prelude.{ℕ, ◌+◌, ◌-◌, ◌*◌, ◌==◌, ◌&&◌, Bool, List, [], ◌∷◌, min, nat_lt, if◌then◌else◌, Option, Some, None, Result, Ok, Err}
+use Rattle.std.specs.Prelude.{ℕ, ◌+◌, ◌-◌, ◌*◌, ◌==◌, ◌&&◌, Bool, List, [], ◌∷◌, nat_lt, if◌then◌else◌, Option, Some, None, Result, Ok, Err}
 use Rattle.paw_base.specs.declared.fault.SourceKind.{SourceKind}
 use Rattle.paw_base.specs.declared.fault.SourceKind.TheVariants as kind
 use Rattle.paw_game.specs.Valid.{is_within}
@@ -18,15 +18,6 @@ number_from n (d ∷ ds) = if is_digit d then number_from (n * 10 + (d - 48)) ds
 abbrev pub number : List ℕ → Option ℕ
 number [] = None
 number (d ∷ ds) = number_from 0 (d ∷ ds)
-
--- a number as four bytes hold it: 4,294,967,295 stands for every number above it too
-abbrev pub capped : Option ℕ → Option ℕ
-capped None = None
-capped (Some n) = Some (min n 4294967295)
-
--- the next number, as four bytes hold it
-abbrev pub capped_number : List (List ℕ) → Result (ℕ × List (List ℕ)) SourceKind
-capped_number ts = read_by kind.Number (λ t. capped (number t)) ts
 
 -- a number that keeps its rule; Range where it doesn't
 abbrev pub in_range : (ℕ → Bool) → ℕ × List (List ℕ) → Result (ℕ × List (List ℕ)) SourceKind

@@ -1,10 +1,11 @@
 // The condacts of a line.
 
 ghost use Rattle.std.specs.Prelude.{◌≡◌, ◌≤◌, min};
-ghost use Rattle.paw_grammar.specs.Gives.{Gives};
+ghost use Rattle.paw_grammar.specs.inner.Gives.{Gives};
 ghost use Rattle.paw_grammar.specs.Numbers.{number_below};
 ghost use Rattle.paw_grammar.specs.Vocabulary.{word_or_none};
-ghost use Rattle.paw_grammar.specs.Condacts.{AreSmall, table, parameter, condact, condacts, with_more_condacts, at_most_255, more_condacts};
+ghost use Rattle.paw_grammar.specs.Condacts.{table, parameter, condact, condacts, with_more_condacts, at_most_255, more_condacts};
+ghost use Rattle.paw_grammar.specs.inner.Condacts.{AreSmall};
 
 use crate::bounds::Bounds;
 use crate::numbers::{byte_below, number_below};

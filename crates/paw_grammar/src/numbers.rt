@@ -1,9 +1,10 @@
 // Numbers.
 
 ghost use Rattle.std.specs.Prelude.{◌≡◌, ◌<◌, ◌≤◌, OnOk};
-ghost use Rattle.paw_grammar.specs.Gives.{Gives};
+ghost use Rattle.paw_grammar.specs.inner.Gives.{Gives};
 ghost use Rattle.paw_grammar.specs.Tokens.{read_by};
-ghost use Rattle.paw_grammar.specs.Numbers.{is_digit, number, capped, capped_number, number_within, number_below, row_number};
+ghost use Rattle.paw_grammar.specs.Numbers.{is_digit, number, number_within, number_below, row_number};
+ghost use Rattle.paw_grammar.specs.inner.Numbers.{capped, capped_number};
 
 use crate::refusal::ReadError;
 use crate::tokens::Tokens;

@@ -2,9 +2,10 @@
 
 ghost use Rattle.std.specs.Prelude.{◌≡◌, ◌<◌, ◌≤◌, ◌+◌, length};
 ghost use Rattle.std.specs.List.{position};
-ghost use Rattle.paw_grammar.specs.Gives.{Gives};
+ghost use Rattle.paw_grammar.specs.inner.Gives.{Gives};
 ghost use Rattle.paw_grammar.specs.Tokens.{is_named};
-ghost use Rattle.paw_grammar.specs.Numbers.{number, capped};
+ghost use Rattle.paw_grammar.specs.Numbers.{number};
+ghost use Rattle.paw_grammar.specs.inner.Numbers.{capped};
 ghost use Rattle.paw_grammar.specs.Condacts.{or_named, first_place, place, place_up_to};
 
 use crate::numbers::number;

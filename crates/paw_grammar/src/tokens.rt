@@ -1,9 +1,10 @@
 // The tokens of a line, taken from left to right.
 
 ghost use Rattle.std.specs.Prelude.{◌≡◌, ◌∷◌, [], MatchOption};
-ghost use Rattle.paw_lex.specs.Lines.{bytes_of, LiesIn};
-ghost use Rattle.paw_lex.specs.Tokens.{tokens_of, tokens_from};
-ghost use Rattle.paw_grammar.specs.Gives.{Gives};
+ghost use Rattle.paw_lex.specs.inner.Lines.{bytes_of, LiesIn};
+ghost use Rattle.paw_lex.specs.Tokens.{tokens_of};
+ghost use Rattle.paw_lex.specs.inner.Tokens.{tokens_from};
+ghost use Rattle.paw_grammar.specs.inner.Gives.{Gives};
 ghost use Rattle.paw_grammar.specs.Tokens.{token, ended, is_named};
 
 use crate::refusal::ReadError;
@@ -22,8 +23,8 @@ pub struct Tokens<'a> {
 
 impl<'a> Model for Tokens<'a> {
     ghost use Rattle.std.specs.Prelude.{List, ℕ, ◌≤◌, length};
-    ghost use Rattle.paw_lex.specs.Lines.{LiesIn};
-    ghost use Rattle.paw_lex.specs.Tokens.{tokens_from};
+    ghost use Rattle.paw_lex.specs.inner.Lines.{LiesIn};
+    ghost use Rattle.paw_lex.specs.inner.Tokens.{tokens_from};
 
     ghost Value = { List (List ℕ) };
 

@@ -3,10 +3,10 @@
 ghost use Rattle.std.specs.Prelude.{◌≡◌, [], length, None, Ok, IfOk};
 ghost use Rattle.std.specs.Option.{ok_or};
 ghost use Rattle.paw_game.specs.Tables.{word_of};
-ghost use Rattle.paw_grammar.specs.Gives.{Gives};
+ghost use Rattle.paw_grammar.specs.inner.Gives.{Gives};
 ghost use Rattle.paw_grammar.specs.Tokens.{read_by};
 ghost use Rattle.paw_grammar.specs.Vocabulary.{words_with, declared, known, in_class, as_verb, or_none, or_any, word_or_none, verb_word, entry_verb, entry_noun};
-ghost use Rattle.paw_grammar.specs.WordMap.{words_in};
+ghost use Rattle.paw_grammar.specs.inner.WordMap.{words_in};
 
 use crate::refusal::ReadError;
 use crate::tokens::Tokens;
@@ -116,7 +116,7 @@ pub struct Vocabulary {
 impl Model for Vocabulary {
     ghost use Rattle.std.specs.Prelude.{List};
     ghost use Rattle.paw_game.specs.declared.parts.Word.{Word};
-    ghost use Rattle.paw_grammar.specs.WordMap.{words_in};
+    ghost use Rattle.paw_grammar.specs.inner.WordMap.{words_in};
 
     ghost Value = { List Word };
 

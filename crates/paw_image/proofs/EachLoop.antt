@@ -6,11 +6,12 @@ use Rattle.std.proofs.lemmas.List.{append-nil, length-append, map-append}
 use Rattle.paw_game.specs.declared.parts.Word.{Word}
 use Rattle.paw_image.specs.declared.fault.ReadFault.{ReadFault}
 use Rattle.paw_image.specs.declared.fault.ReadFault.TheVariants as fault
-use Rattle.paw_image.specs.Reading.{Reading, Fails}
+use Rattle.paw_image.specs.Reading.{Reading}
+use Rattle.paw_image.specs.inner.Reading.{Fails}
 use Rattle.paw_image.specs.Damage.{Declared, Passing, each, word_kept, words_kept, exit_kept, after_exits_of, after_table}
-use Rattle.paw_image.specs.Places.{begins, entries_begin, entries_of, tables_begin}
+use Rattle.paw_image.specs.inner.Places.{begins, entries_begin, entries_of, tables_begin}
 use Rattle.paw_image.specs.declared.places.TableIndex.{TableIndex}
-use Rattle.paw_image.specs.Words.{letters_of, last_letters}
+use Rattle.paw_image.specs.inner.Words.{letters_of, last_letters}
 use Rattle.paw_image.proofs.ListLoop.{with_front, regroup}
 
 -- ---- rows ----

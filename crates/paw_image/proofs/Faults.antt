@@ -3,8 +3,9 @@ use Rattle.std.proofs.Common.{◌≡◌, ℕ, suc, ◌+◌, ◌-◌, ◌<◌, Li
 use Rattle.paw_image.specs.declared.fault.ReadFault.{ReadFault}
 use Rattle.paw_image.specs.declared.fault.ReadFault.TheVariants as fault
 use Rattle.paw_image.specs.Damage.{Passing, each}
-use Rattle.paw_image.specs.Reading.{◌>>=◌, Reading, Fails, IsFault}
-use Rattle.paw_image.specs.Rows.{value_of}
+use Rattle.paw_image.specs.Reading.{◌>>=◌, Reading}
+use Rattle.paw_image.specs.inner.Reading.{Fails, IsFault}
+use Rattle.paw_image.specs.inner.Rows.{value_of}
 
 pub fault_first : {A B : Type 0} (r : Result A ℕ) (f : A → Result B ℕ) → IsFault r → IsFault (r >>= f)
 fault_first (Ok x) f h = absurd h

@@ -9,10 +9,11 @@ use Rattle.std.proofs.lemmas.List.{append-nil, nil_from_length}
 use Rattle.std.proofs.lemmas.Slice.Eq.{bytes_eq-Decides}
 use Rattle.paw_base.specs.declared.parts.Counts.{Counts}
 use Rattle.paw_game.specs.Game.{GameLists}
-use Rattle.paw_game.specs.Tables.{counts_of}
+use Rattle.paw_game.specs.inner.Tables.{counts_of}
 use Rattle.paw_game.specs.Image.{two_bytes, word_image, text_image, object_image, exits_image, table_image, image}
-use Rattle.paw_image.specs.Reading.{byte_at, bytes_at, number_at, rows_at, word_at, text_at, object_at, exits_at, table_at, mark_at, version_at, counts_at, lists_at, all_of}
-use Rattle.paw_image.specs.Sizes.{FitsWord, FitsText, FitsObject, FitsExits, FitsTable, FitsCounts, FitsGame}
+use Rattle.paw_image.specs.Reading.{byte_at, bytes_at, number_at}
+use Rattle.paw_image.specs.inner.Reading.{rows_at, word_at, text_at, object_at, exits_at, table_at, mark_at, version_at, counts_at, lists_at, all_of}
+use Rattle.paw_image.specs.inner.Sizes.{FitsWord, FitsText, FitsObject, FitsExits, FitsTable, FitsCounts, FitsGame}
 use Rattle.paw_image.proofs.FieldLaws.{IsBytes, Takes, Takes-then, bind_then, kept_ok, at_ok, byte_takes, bytes_take, bytes_again, number_takes, number_again}
 use Rattle.paw_image.proofs.ListLaws.{rows_take, rows_again}
 use Rattle.paw_image.proofs.RowLaws.{word_takes, word_again, text_takes, text_again, object_takes, object_again, exits_take, exits_again, table_takes, table_again}

@@ -6,7 +6,7 @@ use Rattle.paw_game.specs.Image.{image}
 use Rattle.paw_image.specs.declared.fault.ReadFault.TheVariants as fault
 use Rattle.paw_image.specs.declared.TheConstants.{IMAGE_LIMIT}
 use Rattle.paw_image.specs.Images.{IsImage}
-use Rattle.paw_image.specs.Reading.{Fails, all_of}
+use Rattle.paw_image.specs.inner.Reading.{Fails, all_of}
 use Rattle.paw_image.proofs.FieldLaws.{IsBytes, read_ok}
 use Rattle.paw_image.proofs.GameLaws.{all_takes, all_again}
 use Rattle.paw_image.proofs.ValidLaws.{valid_fits}

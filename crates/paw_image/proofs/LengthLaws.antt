@@ -14,7 +14,7 @@ use Rattle.paw_game.specs.declared.parts.Entry.{Entry}
 use Rattle.paw_game.specs.Game.{GameLists}
 use Rattle.paw_game.specs.Valid.{Valid, is_within, is_word, is_text, is_object, is_exits, is_condact, is_entry, is_table}
 use Rattle.paw_game.specs.Image.{two_bytes, head_image, word_image, text_image, object_image, exit_image, exits_image, parameter_image, condact_image, entry_image, table_image, image}
-use Rattle.paw_image.specs.Sizes.{FitsWord}
+use Rattle.paw_image.specs.inner.Sizes.{FitsWord}
 use Rattle.paw_image.proofs.ValidLaws.{word_fits}
 
 -- ---- rows ----

@@ -2,7 +2,8 @@
 use Rattle.std.proofs.Common.{◌≡◌, ℕ, zero, suc, List, [], ◌∷◌, ◌++◌, length, Result, Ok, Err, refl, ap, ◌∙◌, append_assoc}
 use Rattle.std.specs.Prelude.{OnOk}
 use Rattle.std.specs.List.{flat_map, AllByRecursion}
-use Rattle.paw_image.specs.Reading.{Reading, rows_at}
+use Rattle.paw_image.specs.Reading.{Reading}
+use Rattle.paw_image.specs.inner.Reading.{rows_at}
 use Rattle.paw_image.proofs.FieldLaws.{IsBytes, Takes, Takes-then, bind_then, at_ok}
 
 -- a row that is read stands there as its image

@@ -3,7 +3,8 @@ use Rattle.std.proofs.Common.{◌≡◌, ℕ, suc, ◌-◌, ◌+◌, ◌≤◌, 
 use Rattle.std.proofs.lemmas.List.{append-nil}
 use Rattle.paw_image.specs.declared.fault.ReadFault.{ReadFault}
 use Rattle.paw_image.specs.declared.fault.ReadFault.TheVariants as fault
-use Rattle.paw_image.specs.Reading.{◌>>=◌, Reading, Fails, rows_at}
+use Rattle.paw_image.specs.Reading.{◌>>=◌, Reading}
+use Rattle.paw_image.specs.inner.Reading.{Fails, rows_at}
 
 -- what was read before, and what is still read
 abbrev pub with_front : {A : Type 0} → List A → Reading (List A) → Reading (List A)

@@ -2,7 +2,7 @@
 use Rattle.std.proofs.Common.{ℕ, ◌<◌, Bool, true, false, List, [], ◌∷◌, length, replicate, refl, sym, ◌∙◌, inl, inr, arith, set}
 use Rattle.std.proofs.lemmas.Bool.{eq-eqb, ne_eqb, cases_eq}
 use Rattle.std.proofs.lemmas.List.{length-replicate, get_or-replicate, length-set, get_or-set_same, get_or-set_other}
-use Rattle.paw_image.specs.Marks.{Marks}
+use Rattle.paw_image.specs.inner.Marks.{Marks}
 
 pub no_marks : Marks (replicate 256 false) []
 no_marks = record { long = length-replicate 256 false; each = λ v h. get_or-replicate 256 v false false h }

@@ -9,12 +9,13 @@ use Rattle.std.proofs.lemmas.List.Sorted.{Contains-permutation, IsPermutation-sy
 use Rattle.std.proofs.lemmas.Option.{none-some, same_Some, slice_get_within, get_or_from_slice_get, slice_get-get_or}
 use Rattle.paw_game.specs.declared.parts.Entry.{Entry}
 use Rattle.paw_game.specs.Image.{entry_image}
-use Rattle.paw_game.specs.Tables.{is_for, matches, first_match}
+use Rattle.paw_game.specs.Tables.{is_for, matches}
+use Rattle.paw_game.specs.inner.Tables.{first_match}
 use Rattle.paw_game.proofs.Matches.{IsFound, found_here, found_later, slice_get-drop}
 use Rattle.paw_image.specs.declared.order.Head.{Head}
 use Rattle.paw_image.specs.declared.order.Order.{Order}
-use Rattle.paw_image.specs.Orders.{heads_at, heads_of, is_match, IsOrder, IsLeast, IsMatch}
-use Rattle.paw_image.specs.Places.{places}
+use Rattle.paw_image.specs.inner.Orders.{heads_at, heads_of, is_match, IsOrder, IsLeast, IsMatch}
+use Rattle.paw_image.specs.inner.Places.{places}
 use Rattle.paw_image.proofs.OrderLaws.{IsLeast-same, one_least}
 use Rattle.paw_image.proofs.PlaceLaws.{next_at}
 

@@ -9,7 +9,7 @@ use Rattle.std.proofs.lemmas.List.Elements.{All-cons, All-contains, All-take, Al
 use Rattle.std.proofs.lemmas.List.Sorted.{All-permutation, IsNonDecreasingBy-take, IsNonDecreasingBy-drop}
 use Rattle.paw_game.specs.Tables.{is_for}
 use Rattle.paw_image.specs.declared.order.Head.{Head}
-use Rattle.paw_image.specs.Orders.{ranked, rank, lower, heads_at, is_match, AreStarts, IsLeast, IsMatch, IsRun, IsSmall, IsStart, Rises}
+use Rattle.paw_image.specs.inner.Orders.{ranked, rank, lower, heads_at, is_match, AreStarts, IsLeast, IsMatch, IsRun, IsSmall, IsStart, Rises}
 use Rattle.paw_image.proofs.FieldLaws.{IsBytes}
 use Rattle.paw_image.proofs.Stands.{and_true}
 

@@ -12,15 +12,17 @@ use Rattle.paw_game.specs.declared.parts.Entry.{Entry}
 use Rattle.paw_game.specs.declared.parts.GamePart.{GamePart}
 use Rattle.paw_game.specs.declared.parts.GamePart.TheVariants as part
 use Rattle.paw_game.specs.Game.{GameLists}
-use Rattle.paw_game.specs.Tables.{counts_of, or_empty, text_at, row_text, exit_of, facts_at, facts_of}
+use Rattle.paw_game.specs.Tables.{or_empty, row_text, exit_of, facts_at, facts_of}
+use Rattle.paw_game.specs.inner.Tables.{counts_of, text_at}
 use Rattle.paw_game.specs.Image.{two_bytes, word_image, text_image, object_image, exit_image, exits_image, condact_image, entry_image, table_image, weight_byte, image}
-use Rattle.paw_image.specs.Reading.{◌>>=◌, condact_at}
-use Rattle.paw_image.specs.Reading as reading
+use Rattle.paw_image.specs.Reading.{◌>>=◌}
+use Rattle.paw_image.specs.inner.Reading.{condact_at}
+use Rattle.paw_image.specs.inner.Reading as inner_reading
 use Rattle.paw_image.specs.Damage.{each}
-use Rattle.paw_image.specs.Sizes.{FitsText, FitsObject, FitsCondact, FitsGame}
-use Rattle.paw_image.specs.Places.{places, entry_places}
-use Rattle.paw_image.specs.Rows.{value_of, facts_here, exit_in, exits_here, head_here, past_condact, nth_condact, entry_here}
-use Rattle.paw_image.specs.Views.{system_begins, messages_begin, objects_begin, locations_begin, exits_begin, tables_begin_at, rows_begin}
+use Rattle.paw_image.specs.inner.Sizes.{FitsText, FitsObject, FitsCondact, FitsGame}
+use Rattle.paw_image.specs.inner.Places.{places, entry_places}
+use Rattle.paw_image.specs.inner.Rows.{value_of, facts_here, exit_in, exits_here, head_here, past_condact, nth_condact, entry_here}
+use Rattle.paw_image.specs.inner.Views.{system_begins, messages_begin, objects_begin, locations_begin, exits_begin, tables_begin_at, rows_begin}
 use Rattle.paw_image.proofs.GameLaws.{image_is, counts_image}
 use Rattle.paw_image.proofs.RowLaws.{facts_image, facts_again, text_again, condact_again}
 
@@ -102,17 +104,17 @@ lists_lie bytes g e =
 
 -- ---- texts ----
 
-text_there : (bytes : List ℕ) (texts : List (List ℕ)) (k p : ℕ) → AllByRecursion FitsText texts → RowAt text_image bytes (slice_get texts k) p → value_of (reading.text_at (drop p bytes)) ≡ slice_get texts k
+text_there : (bytes : List ℕ) (texts : List (List ℕ)) (k p : ℕ) → AllByRecursion FitsText texts → RowAt text_image bytes (slice_get texts k) p → value_of (inner_reading.text_at (drop p bytes)) ≡ slice_get texts k
 text_there bytes texts k p fits r = rw (r.lies, text_again r.row r.after (all_at FitsText texts k r.row fits r.is)) (sym r.is)
 
-text_of_object : (bytes : List ℕ) (os : List ObjectRow) (k p : ℕ) → AllByRecursion FitsObject os → RowAt object_image bytes (slice_get os k) p → value_of (reading.text_at (drop p bytes)) ≡ row_text (slice_get os k)
+text_of_object : (bytes : List ℕ) (os : List ObjectRow) (k p : ℕ) → AllByRecursion FitsObject os → RowAt object_image bytes (slice_get os k) p → value_of (inner_reading.text_at (drop p bytes)) ≡ row_text (slice_get os k)
 text_of_object bytes os k p fits r =
     let o = r.row in
     let facts = o.facts.noun ∷ o.facts.adjective ∷ o.facts.start ∷ weight_byte o.facts.weight o.facts.container o.facts.wearable ∷ [] in
     let text = (all_at FitsObject os k o fits r.is).text in
     rw (r.lies, append_assoc (text_image o.text) facts r.after, text_again o.text (facts ++ r.after) text, r.is) refl
 
-pub text_of_part : (bytes : List ℕ) (g : GameLists) → ListsAt bytes g → FitsGame g → (p : GamePart) (k at : ℕ) → slice_get (rows_begin g p) k ≡ Some at → value_of (reading.text_at (drop at bytes)) ≡ text_at g p k
+pub text_of_part : (bytes : List ℕ) (g : GameLists) → ListsAt bytes g → FitsGame g → (p : GamePart) (k at : ℕ) → slice_get (rows_begin g p) k ≡ Some at → value_of (inner_reading.text_at (drop at bytes)) ≡ text_at g p k
 text_of_part bytes g l fits part.Words k at h = absurd (none-some at h)
 text_of_part bytes g l fits part.System k at h = text_there bytes g.system k at fits.system (row_lies text_image bytes l.after_system g.system (system_begins g) l.system k at h)
 text_of_part bytes g l fits part.Messages k at h = text_there bytes g.messages k at fits.messages (row_lies text_image bytes l.after_messages g.messages (messages_begin g) l.messages k at h)

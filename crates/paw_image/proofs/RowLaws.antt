@@ -17,8 +17,9 @@ use Rattle.paw_game.specs.declared.parts.ObjectRow.{ObjectRow}
 use Rattle.paw_game.specs.declared.parts.Exit.{Exit}
 use Rattle.paw_game.specs.declared.parts.Entry.{Entry}
 use Rattle.paw_game.specs.Image.{two_bytes, word_image, text_image, weight_byte, object_image, exit_image, exits_image, parameter_image, condact_image, entry_image, table_image}
-use Rattle.paw_image.specs.Reading.{byte_at, bytes_at, number_at, rows_at, word_at, text_at, facts_with, facts_at, object_at, exit_at, exits_at, code_at, parameter_at, condact_at, entry_at, table_at}
-use Rattle.paw_image.specs.Sizes.{FitsWord, FitsText, FitsObject, FitsExit, FitsExits, FitsParameter, FitsCondact, FitsEntry, FitsTable}
+use Rattle.paw_image.specs.Reading.{byte_at, bytes_at, number_at}
+use Rattle.paw_image.specs.inner.Reading.{rows_at, word_at, text_at, facts_with, facts_at, object_at, exit_at, exits_at, code_at, parameter_at, condact_at, entry_at, table_at}
+use Rattle.paw_image.specs.inner.Sizes.{FitsWord, FitsText, FitsObject, FitsExit, FitsExits, FitsParameter, FitsCondact, FitsEntry, FitsTable}
 use Rattle.paw_image.proofs.FieldLaws.{IsBytes, Takes, Takes-then, bind_then, kept_ok, at_ok, byte_takes, bytes_take, bytes_again, number_takes, number_again}
 use Rattle.paw_image.proofs.ListLaws.{TakesRow, ReadsAgain, rows_take, rows_again}
 

@@ -12,12 +12,13 @@ use Rattle.paw_base.specs.Condacts.{first_kind, second_kind}
 use Rattle.paw_game.specs.declared.parts.Exit.{Exit}
 use Rattle.paw_game.specs.declared.parts.Entry.{Entry}
 use Rattle.paw_game.specs.Game.{GameLists}
-use Rattle.paw_game.specs.Tables.{counts_of}
+use Rattle.paw_game.specs.inner.Tables.{counts_of}
 use Rattle.paw_game.specs.Image.{two_bytes, text_image, exit_image, parameter_image, condact_image, entry_image, table_image}
 use Rattle.paw_game.specs.Valid.{is_within, is_printed, is_text, is_word_or_none, is_place, are_facts, is_object, is_verb_value, are_exits, is_exits, is_parameter, is_condact, is_any, has_word, is_entry, is_table}
-use Rattle.paw_image.specs.Reading.{◌>>=◌, byte_at, bytes_at, number_at, rows_at, text_at, facts_with, facts_at, object_at, exit_at, exits_at, code_at, parameter_at, condact_at, entry_at, table_at}
+use Rattle.paw_image.specs.Reading.{◌>>=◌, byte_at, bytes_at, number_at}
+use Rattle.paw_image.specs.inner.Reading.{rows_at, text_at, facts_with, facts_at, object_at, exit_at, exits_at, code_at, parameter_at, condact_at, entry_at, table_at}
 use Rattle.paw_image.specs.Damage.{Declared, kept, each, after_text, after_facts, after_object, exit_kept, after_exits_of, after_exits, keeps_kind, after_parameter, after_condact, after_entry, after_table}
-use Rattle.paw_image.specs.Places.{places, entry_places, entries_begin, tables_begin}
+use Rattle.paw_image.specs.inner.Places.{places, entry_places, entries_begin, tables_begin}
 use Rattle.paw_image.proofs.FieldLaws.{IsBytes, at_ok, bind_then, byte_takes, number_takes}
 use Rattle.paw_image.proofs.ListLaws.{rows_take}
 use Rattle.paw_image.proofs.RowLaws.{text_takes, exit_takes, condact_takes, entry_takes, parameter_takes, table_takes}

@@ -3,9 +3,10 @@ use Rattle.std.proofs.Common.{◌≡◌, ℕ, zero, suc, ◌+◌, ◌-◌, ◌�
 use Rattle.std.specs.List.{flat_map, list_all}
 use Rattle.std.proofs.lemmas.Bool.{ltb-false, and_parts}
 use Rattle.std.proofs.lemmas.List.{length-take, length-append}
-use Rattle.paw_image.specs.Reading.{◌>>=◌, Reading, bytes_at, rows_at}
+use Rattle.paw_image.specs.Reading.{◌>>=◌, Reading, bytes_at}
+use Rattle.paw_image.specs.inner.Reading.{rows_at}
 use Rattle.paw_image.specs.Damage.{Passing, kept, each}
-use Rattle.paw_image.specs.Places.{places, begins}
+use Rattle.paw_image.specs.inner.Places.{places, begins}
 use Rattle.paw_image.proofs.FieldLaws.{IsBytes, Takes, read_ok, at_ok, bind_then, guard_ok, kept_ok}
 use Rattle.paw_image.proofs.ListLaws.{TakesRow}
 

@@ -12,7 +12,7 @@ use Rattle.paw_game.specs.declared.parts.Exit.{Exit}
 use Rattle.paw_game.specs.declared.parts.Entry.{Entry}
 use Rattle.paw_game.specs.Game.{GameLists}
 use Rattle.paw_game.specs.Valid.{are_letters, is_word, has_word, is_verb_value, is_word_or_none, is_place, is_any, is_text, is_object, is_exits, is_parameter, is_condact, is_entry, is_table, Valid}
-use Rattle.paw_image.specs.Sizes.{FitsWord, FitsText, FitsObject, FitsExits, FitsParameter, FitsCondact, FitsEntry, FitsTable, FitsGame}
+use Rattle.paw_image.specs.inner.Sizes.{FitsWord, FitsText, FitsObject, FitsExits, FitsParameter, FitsCondact, FitsEntry, FitsTable, FitsGame}
 
 -- what a test gives at each element
 all_give : {A : Type 0} (p : A → Bool) (P : A → Type 0) → ((x : A) → p x ≡ true → P x) → (xs : List A) → list_all p xs ≡ true → AllByRecursion P xs

@@ -11,16 +11,18 @@ use Rattle.paw_game.specs.declared.parts.Entry.{Entry}
 use Rattle.paw_game.specs.declared.parts.GamePart.{GamePart}
 use Rattle.paw_game.specs.Game.{GameLists}
 use Rattle.paw_game.specs.Image.{entry_image}
-use Rattle.paw_game.specs.Tables.{text_at, or_empty, head_at, condact_at, entry_at, match_at}
+use Rattle.paw_game.specs.Tables.{or_empty, head_at, condact_at, entry_at}
+use Rattle.paw_game.specs.inner.Tables.{text_at, match_at}
 use Rattle.paw_image.specs.Damage.{Declared, after_all, bad}
-use Rattle.paw_image.specs.Images.{IsImage, AtDamage}
-use Rattle.paw_image.specs.Orders.{is_match, IsOrder, IsLeast, IsMatch}
-use Rattle.paw_image.specs.Places.{entry_places, entries_of, IsPassed}
-use Rattle.paw_image.specs.Reading as reading
-use Rattle.paw_image.specs.Reading.{all_of}
-use Rattle.paw_image.specs.Rows.{value_of, head_here, nth_condact, entry_here}
-use Rattle.paw_image.specs.Sizes.{FitsGame, FitsCondact, FitsEntry, FitsTable}
-use Rattle.paw_image.specs.Views.{game_of, rows_begin, tables_begin_at, span_at, IsIndex}
+use Rattle.paw_image.specs.Images.{IsImage}
+use Rattle.paw_image.specs.inner.Images.{AtDamage}
+use Rattle.paw_image.specs.inner.Orders.{is_match, IsOrder, IsLeast, IsMatch}
+use Rattle.paw_image.specs.inner.Places.{entry_places, entries_of, IsPassed}
+use Rattle.paw_image.specs.inner.Reading as inner_reading
+use Rattle.paw_image.specs.inner.Reading.{all_of}
+use Rattle.paw_image.specs.inner.Rows.{value_of, head_here, nth_condact, entry_here}
+use Rattle.paw_image.specs.inner.Sizes.{FitsGame, FitsCondact, FitsEntry, FitsTable}
+use Rattle.paw_image.specs.inner.Views.{game_of, rows_begin, tables_begin_at, span_at, IsIndex}
 use Rattle.paw_image.specs.declared.TheConstants.{IMAGE_LIMIT}
 use Rattle.paw_image.specs.declared.places.Places.{Places}
 use Rattle.paw_image.specs.declared.places.TableIndex.{TableIndex}
@@ -74,10 +76,10 @@ fits_of bytes is = valid_fits (game_of bytes) is.valid
 pub lists_of : (bytes : List ℕ) → IsImage bytes (game_of bytes) → ListsAt bytes (game_of bytes)
 lists_of bytes is = lists_lie bytes (game_of bytes) is.spelled
 
-pub text_read : (bytes : List ℕ) → IsImage bytes (game_of bytes) → (p : GamePart) (k at : ℕ) → slice_get (rows_begin (game_of bytes) p) k ≡ Some at → value_of (reading.text_at (drop at bytes)) ≡ text_at (game_of bytes) p k
+pub text_read : (bytes : List ℕ) → IsImage bytes (game_of bytes) → (p : GamePart) (k at : ℕ) → slice_get (rows_begin (game_of bytes) p) k ≡ Some at → value_of (inner_reading.text_at (drop at bytes)) ≡ text_at (game_of bytes) p k
 text_read bytes is p k at h = text_of_part bytes (game_of bytes) (lists_of bytes is) (fits_of bytes is) p k at h
 
-pub span_read : (bytes : List ℕ) → IsImage bytes (game_of bytes) → (p : GamePart) (k at : ℕ) (text : List ℕ) → slice_get (rows_begin (game_of bytes) p) k ≡ Some at → value_of (reading.text_at (drop at bytes)) ≡ Some text
+pub span_read : (bytes : List ℕ) → IsImage bytes (game_of bytes) → (p : GamePart) (k at : ℕ) (text : List ℕ) → slice_get (rows_begin (game_of bytes) p) k ≡ Some at → value_of (inner_reading.text_at (drop at bytes)) ≡ Some text
     → span_at (game_of bytes) p k ≡ Some (at + 2, at + 2 + length text)
 span_read bytes is p k at text h found = rw (h, sym (text_read bytes is p k at h) ∙ found) refl
 

@@ -10,16 +10,17 @@ use Rattle.std.proofs.lemmas.Option.{none-some}
 use Rattle.paw_base.specs.declared.parts.Counts.{Counts}
 use Rattle.paw_game.specs.declared.parts.Word.{Word}
 use Rattle.paw_game.specs.Game.{GameLists}
-use Rattle.paw_game.specs.Tables.{counts_of}
+use Rattle.paw_game.specs.inner.Tables.{counts_of}
 use Rattle.paw_game.specs.Valid.{Valid, is_within, are_letters, is_word, words_rise, is_text, is_object, is_exits}
 use Rattle.paw_game.specs.Image.{two_bytes, word_image, text_image, object_image, exits_image, table_image, image}
 use Rattle.paw_game.proofs.Faults.{rise_after, rise_after-none}
 use Rattle.paw_image.specs.declared.TheConstants.{IMAGE_LIMIT}
 use Rattle.paw_image.specs.Images.{IsImage}
-use Rattle.paw_image.specs.Reading.{byte_at, bytes_at, number_at, rows_at, word_at, text_at, object_at, exits_at, table_at, mark_at, version_at, counts_at, lists_at, all_of}
+use Rattle.paw_image.specs.Reading.{byte_at, bytes_at, number_at}
+use Rattle.paw_image.specs.inner.Reading.{rows_at, word_at, text_at, object_at, exits_at, table_at, mark_at, version_at, counts_at, lists_at, all_of}
 use Rattle.paw_image.specs.Damage.{Declared, Passing, each, after_version, counts_kept, word_kept, words_kept, after_text, after_object, after_exits, after_table, after_lists, front, after_all, place_in, bad}
-use Rattle.paw_image.specs.Places.{places, entry_places, entries_of, AreGoneOver}
-use Rattle.paw_image.specs.Views.{system_begins}
+use Rattle.paw_image.specs.inner.Places.{places, entry_places, entries_of, AreGoneOver}
+use Rattle.paw_image.specs.inner.Views.{system_begins}
 use Rattle.paw_image.specs.declared.places.Places.{Places}
 use Rattle.paw_image.proofs.FieldLaws.{IsBytes, Takes, read_ok, at_ok, bind_then, bytes_again}
 use Rattle.paw_image.proofs.ListLaws.{rows_take}

@@ -1,28 +1,12 @@
 -- Which bytes are an image, and what a refusal says of them.
-use Rattle.std.specs.Prelude.{◌≡◌, ℕ, ◌≤◌, ◌<◌, List, length, slice_index, Result, Ok, Err}
+use Rattle.std.specs.Prelude.{◌≡◌, ℕ, ◌≤◌, List, length}
 use Rattle.paw_game.specs.Game.{GameLists}
 use Rattle.paw_game.specs.Valid.{Valid}
 use Rattle.paw_game.specs.Image.{image}
-use Rattle.paw_image.specs.declared.refusal.ImageRefusal.{ImageRefusal}
-use Rattle.paw_image.specs.declared.refusal.ImageRefusal.TheVariants as refusal
 use Rattle.paw_image.specs.declared.TheConstants.{IMAGE_LIMIT}
-
--- each number is one of a byte
-abbrev pub AreBytes : List ℕ → Type 0
-AreBytes bytes = (i : ℕ) → slice_index bytes i < 256
 
 -- the bytes are the image of this valid game, and no more than an image may have
 pub record IsImage (bytes : List ℕ) (g : GameLists) : Type 0 where
   pub spelled : bytes ≡ image g
   pub valid : Valid g
   pub short : length bytes ≤ IMAGE_LIMIT
-
--- a fact of the place that a refusal names
-abbrev pub AtDamage : ImageRefusal → (ℕ → Type 0) → Type 0
-AtDamage refusal.Memory P = Unit {0}
-AtDamage (refusal.Damaged at) P = P at
-
--- a fact for the answer Damaged, of its place
-abbrev pub IfDamaged : {T : Type 0} → Result T ImageRefusal → (ℕ → Type 0) → Type 0
-IfDamaged (Ok x) P = Unit {0}
-IfDamaged (Err e) P = AtDamage e P

@@ -1,10 +1,4 @@
 pub mod Damage
 pub mod Images
-pub mod Marks
-pub mod Orders
-pub mod Places
 pub mod Reading
-pub mod Rows
-pub mod Sizes
-pub mod Views
-pub mod Words
+pub mod inner

@@ -3,8 +3,8 @@
 ghost use Rattle.std.specs.Prelude.{◌≡◌, drop, OnErr};
 ghost use Rattle.std.specs.Option.{option_copied, option_map};
 ghost use Rattle.paw_image.specs.Damage.{each};
-ghost use Rattle.paw_image.specs.Reading.{Gives, IsFault, text_at};
-ghost use Rattle.paw_image.specs.Rows.{condact_after, condact_of, entry_here, exit_here, exit_in, exits_here, facts_here, head_here, nth_condact, past_condact, up_to, value_of};
+ghost use Rattle.paw_image.specs.inner.Reading.{Gives, IsFault, text_at};
+ghost use Rattle.paw_image.specs.inner.Rows.{condact_after, condact_of, entry_here, exit_here, exit_in, exits_here, facts_here, head_here, nth_condact, past_condact, up_to, value_of};
 
 use crate::fault::ReadFault;
 use crate::objects::read_after_text;
@@ -36,7 +36,7 @@ pub fn text_in(bytes: &[u8], place: u32) -> Option<&[u8]>
 }
 
 /// What is said of the object that begins at a place.
-#[tactic(auto, using(crate::proofs::Faults::no_value), unfolding(crate::specs::Rows::facts_here))]
+#[tactic(auto, using(crate::proofs::Faults::no_value), unfolding(crate::specs::inner::Rows::facts_here))]
 pub fn facts_in(bytes: &[u8], place: u32) -> Option<ObjectFacts>
     ensures value { result ≡ facts_here (drop place bytes.now) }
 {
@@ -79,7 +79,7 @@ fn exit_of(verb: u8, count: u8, bytes: &[u8]) -> Option<u8>
 }
 
 /// Where the exit for a verb leads, of the exits that begin at a place.
-#[tactic(auto, unfolding(crate::specs::Rows::exits_here))]
+#[tactic(auto, unfolding(crate::specs::inner::Rows::exits_here))]
 pub fn exit_at(bytes: &[u8], place: u32, verb: u8) -> Option<u8>
     ensures value { result ≡ exits_here verb (drop place bytes.now) }
 {
@@ -90,7 +90,7 @@ pub fn exit_at(bytes: &[u8], place: u32, verb: u8) -> Option<u8>
 }
 
 /// The verb and the noun of the entry that begins at a place.
-#[tactic(auto, unfolding(crate::specs::Rows::head_here))]
+#[tactic(auto, unfolding(crate::specs::inner::Rows::head_here))]
 pub fn head_in(bytes: &[u8], place: u32) -> Option<(u8, u8)>
     ensures value { result ≡ head_here (drop place bytes.now) }
 {
@@ -138,7 +138,7 @@ fn condact_of(at: u8, count: u8, condacts: &[u8]) -> Option<Condact>
 }
 
 /// A condact of the entry that begins at a place.
-#[tactic(auto, unfolding(crate::specs::Rows::nth_condact))]
+#[tactic(auto, unfolding(crate::specs::inner::Rows::nth_condact))]
 pub fn condact_in(bytes: &[u8], place: u32, at: u8) -> Option<Condact>
     ensures value { result ≡ nth_condact at (drop place bytes.now) }
 {
@@ -159,7 +159,7 @@ fn up_to<'a>(row: &'a [u8], count: u8, condacts: &[u8]) -> Option<&'a [u8]>
 }
 
 /// The bytes of the entry that begins at a place.
-#[tactic(auto, unfolding(crate::specs::Rows::entry_here))]
+#[tactic(auto, unfolding(crate::specs::inner::Rows::entry_here))]
 pub fn entry_in(bytes: &[u8], place: u32) -> Option<&[u8]>
     ensures value { option_copied result ≡ entry_here (drop place bytes.now) }
 {

@@ -3,9 +3,10 @@
 ghost use Rattle.std.specs.Prelude.{◌≡◌, ◌≤◌, ◌<◌, ◌^◌, length, IfOk, OnOk, Some, None};
 ghost use Rattle.paw_game.specs.Game.{GameLists};
 ghost use Rattle.paw_image.specs.Damage.{front, after_all, bad};
-ghost use Rattle.paw_image.specs.Images.{IsImage, AtDamage, IfDamaged};
-ghost use Rattle.paw_image.specs.Places.{IsPassed};
-ghost use Rattle.paw_image.specs.Reading.{Gives};
+ghost use Rattle.paw_image.specs.Images.{IsImage};
+ghost use Rattle.paw_image.specs.inner.Images.{AtDamage, IfDamaged};
+ghost use Rattle.paw_image.specs.inner.Places.{IsPassed};
+ghost use Rattle.paw_image.specs.inner.Reading.{Gives};
 ghost use Rattle.paw_image.specs.declared.TheConstants.{IMAGE_LIMIT};
 
 use crate::fault::ReadFault;

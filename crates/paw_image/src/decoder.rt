@@ -3,7 +3,8 @@
 ghost use Rattle.std.specs.Prelude.{◌≡◌, ◌≤◌, Some, None, length, IfOk, IfErr, IfSome};
 ghost use Rattle.paw_game.specs.Game.{GameLists};
 ghost use Rattle.paw_image.specs.Damage.{bad};
-ghost use Rattle.paw_image.specs.Images.{IsImage, IfDamaged};
+ghost use Rattle.paw_image.specs.Images.{IsImage};
+ghost use Rattle.paw_image.specs.inner.Images.{IfDamaged};
 ghost use Rattle.paw_image.specs.declared.TheConstants.{IMAGE_LIMIT};
 
 use crate::IMAGE_LIMIT;

@@ -2,7 +2,8 @@
 
 ghost use Rattle.std.specs.Prelude.{◌≡◌, ◌<◌, length, IfOk};
 ghost use Rattle.paw_game.specs.Image.{image};
-ghost use Rattle.paw_image.specs.Images.{IsImage, IfDamaged};
+ghost use Rattle.paw_image.specs.Images.{IsImage};
+ghost use Rattle.paw_image.specs.inner.Images.{IfDamaged};
 
 use crate::IMAGE_LIMIT;
 use crate::parts::{length_of_parts, write_parts};

@@ -3,9 +3,9 @@
 ghost use Rattle.paw_game.specs.Image.{exit_image, exits_image};
 ghost use Rattle.std.specs.Prelude.{◌≡◌, ℕ, List, [], ◌∷◌, OnOk};
 ghost use Rattle.paw_image.specs.Damage.{exit_kept, after_exits_of, after_exits};
-ghost use Rattle.paw_image.specs.Marks.{Marks};
-ghost use Rattle.paw_image.specs.Reading.{Gives, exit_at, exits_at};
-ghost use Rattle.paw_image.specs.Sizes.{FitsExit, FitsExits};
+ghost use Rattle.paw_image.specs.inner.Marks.{Marks};
+ghost use Rattle.paw_image.specs.inner.Reading.{Gives, exit_at, exits_at};
+ghost use Rattle.paw_image.specs.inner.Sizes.{FitsExit, FitsExits};
 
 use crate::fault::ReadFault;
 use crate::fields::{fault_at, read_byte};
@@ -22,7 +22,7 @@ impl Row for Exit {
 
     ghost fits = { FitsExit };
 
-    #[tactic(auto, unfolding(crate::specs::Reading::exit_at))]
+    #[tactic(auto, unfolding(crate::specs::inner::Reading::exit_at))]
     fn read(_: Global, bytes: &[u8]) -> Result<(Exit, &[u8]), ReadFault> {
         let (verb, rest) = read_byte(bytes)?;
         let (to, rest) = read_byte(rest)?;
@@ -45,7 +45,7 @@ impl Row for Exits {
 
     ghost fits = { FitsExits };
 
-    #[tactic(auto, unfolding(crate::specs::Reading::exits_at))]
+    #[tactic(auto, unfolding(crate::specs::inner::Reading::exits_at))]
     fn read(alloc: Global, bytes: &[u8]) -> Result<(Exits, &[u8]), ReadFault> {
         let (count, rest) = read_byte(bytes)?;
         let (rows, rest) = read_rows(alloc, count as usize, rest)?;

@@ -3,7 +3,8 @@
 ghost use Rattle.std.specs.Prelude.{◌≡◌, ◌^◌, ◌<◌, ◌++◌, length, OnErr, OnOk};
 ghost use Rattle.paw_game.specs.Image.{two_bytes};
 ghost use Rattle.paw_image.specs.Damage.{number_within};
-ghost use Rattle.paw_image.specs.Reading.{Gives, IsFault, byte_at, bytes_at, number_at};
+ghost use Rattle.paw_image.specs.Reading.{byte_at, bytes_at, number_at};
+ghost use Rattle.paw_image.specs.inner.Reading.{Gives, IsFault};
 ghost use Rattle.paw_image.specs.declared.fault.ReadFault.TheVariants as fault;
 
 use crate::fault::ReadFault;

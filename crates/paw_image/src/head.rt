@@ -1,7 +1,7 @@
 // The fields in front of the words of an image, each tested by its rule.
 
 ghost use Rattle.paw_image.specs.Damage.{after_version, counts_kept};
-ghost use Rattle.paw_image.specs.Reading.{Gives};
+ghost use Rattle.paw_image.specs.inner.Reading.{Gives};
 
 use crate::fault::ReadFault;
 use crate::fields::{fault_at, read_array, read_byte, read_within};

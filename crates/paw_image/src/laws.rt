@@ -5,7 +5,8 @@ ghost use Rattle.paw_game.specs.Game.{GameLists};
 ghost use Rattle.paw_game.specs.Valid.{Valid};
 ghost use Rattle.paw_game.specs.Image.{image};
 ghost use Rattle.paw_image.specs.Damage.{bad};
-ghost use Rattle.paw_image.specs.Images.{AreBytes, IsImage};
+ghost use Rattle.paw_image.specs.Images.{IsImage};
+ghost use Rattle.paw_image.specs.inner.Images.{AreBytes};
 
 /// Two valid games with the same image are the same.
 pub fn image_tells_the_game()

@@ -3,9 +3,9 @@
 ghost use Rattle.std.specs.Prelude.{◌≡◌, ◌<◌, OnErr};
 ghost use Rattle.paw_game.specs.Image.{weight_byte, object_image};
 ghost use Rattle.paw_image.specs.Damage.{after_facts, after_object};
-ghost use Rattle.paw_image.specs.Reading.{Gives, IsFault, facts_at, object_at};
-ghost use Rattle.paw_image.specs.Rows.{after_text_facts};
-ghost use Rattle.paw_image.specs.Sizes.{FitsObject};
+ghost use Rattle.paw_image.specs.inner.Reading.{Gives, IsFault, facts_at, object_at};
+ghost use Rattle.paw_image.specs.inner.Rows.{after_text_facts};
+ghost use Rattle.paw_image.specs.inner.Sizes.{FitsObject};
 
 use crate::fault::ReadFault;
 use crate::fields::{fault_at, read_byte};
@@ -27,7 +27,7 @@ const CONTAINER_BIT: u8 = 0b0100_0000;
 const WEARABLE_BIT: u8 = 0b1000_0000;
 
 /// What is said of an object beside its text.
-#[tactic(auto, using(crate::proofs::Faults::fault_steps), unfolding(crate::specs::Reading::facts_at))]
+#[tactic(auto, using(crate::proofs::Faults::fault_steps), unfolding(crate::specs::inner::Reading::facts_at))]
 pub fn read_facts(bytes: &[u8]) -> Result<(ObjectFacts, &[u8]), ReadFault>
     ensures gives { Gives (λ x. (x.0, x.1.now)) result (facts_at bytes.now) }
     ensures fails { OnErr result (IsFault (facts_at bytes.now)) }
@@ -74,7 +74,7 @@ impl Row for ObjectRow {
 
     ghost fits = { FitsObject };
 
-    #[tactic(auto, unfolding(crate::specs::Reading::object_at))]
+    #[tactic(auto, unfolding(crate::specs::inner::Reading::object_at))]
     fn read(alloc: Global, bytes: &[u8]) -> Result<(ObjectRow, &[u8]), ReadFault> {
         let (text, rest) = Text::read(alloc, bytes)?;
         let (facts, rest) = read_facts(rest)?;

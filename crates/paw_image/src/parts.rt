@@ -2,8 +2,8 @@
 
 ghost use Rattle.std.specs.Prelude.{◌≡◌, ◌<◌, ◌^◌, ◌++◌, length, OnOk};
 ghost use Rattle.paw_game.specs.Image.{head_image, image};
-ghost use Rattle.paw_image.specs.Sizes.{FitsCounts, FitsGame};
-ghost use Rattle.paw_image.specs.Reading.{Gives, mark_at, version_at, counts_at, lists_at, all_of};
+ghost use Rattle.paw_image.specs.inner.Sizes.{FitsCounts, FitsGame};
+ghost use Rattle.paw_image.specs.inner.Reading.{Gives, mark_at, version_at, counts_at, lists_at, all_of};
 
 use crate::fault::ReadFault;
 use crate::fields::{read_array, read_byte, read_number, write_number};
@@ -22,7 +22,7 @@ pub const VERSION: u8 = 1;
 const HEAD_LENGTH: usize = 17;
 
 /// The bytes after the mark.
-#[tactic(auto, unfolding(crate::specs::Reading::mark_at))]
+#[tactic(auto, unfolding(crate::specs::inner::Reading::mark_at))]
 fn read_mark(bytes: &[u8]) -> Result<&[u8], ReadFault>
     ensures gives { Gives (λ x. (tt, x.now)) result (mark_at bytes.now) }
 {
@@ -34,7 +34,7 @@ fn read_mark(bytes: &[u8]) -> Result<&[u8], ReadFault>
 }
 
 /// The bytes after the version.
-#[tactic(auto, unfolding(crate::specs::Reading::version_at))]
+#[tactic(auto, unfolding(crate::specs::inner::Reading::version_at))]
 fn read_version(bytes: &[u8]) -> Result<&[u8], ReadFault>
     ensures gives { Gives (λ x. (tt, x.now)) result (version_at bytes.now) }
 {
@@ -46,7 +46,7 @@ fn read_version(bytes: &[u8]) -> Result<&[u8], ReadFault>
 }
 
 /// How many rows each list has.
-#[tactic(auto, unfolding(crate::specs::Reading::counts_at))]
+#[tactic(auto, unfolding(crate::specs::inner::Reading::counts_at))]
 fn read_counts(bytes: &[u8]) -> Result<(Counts, &[u8]), ReadFault>
     ensures gives { Gives (λ x. (x.0, x.1.now)) result (counts_at bytes.now) }
 {
@@ -68,7 +68,7 @@ fn read_counts(bytes: &[u8]) -> Result<(Counts, &[u8]), ReadFault>
 }
 
 /// The lists, with so many rows.
-#[tactic(auto, unfolding(crate::specs::Reading::lists_at))]
+#[tactic(auto, unfolding(crate::specs::inner::Reading::lists_at))]
 fn read_lists(alloc: Global, counts: Counts, bytes: &[u8]) -> Result<(GameParts, &[u8]), ReadFault>
     ensures gives { Gives (λ x. (x.0, x.1.now)) result (lists_at counts bytes.now) }
 {
@@ -92,7 +92,7 @@ fn read_lists(alloc: Global, counts: Counts, bytes: &[u8]) -> Result<(GameParts,
 }
 
 /// The lists that all of the bytes are the image of.
-#[tactic(auto, unfolding(crate::specs::Reading::all_of))]
+#[tactic(auto, unfolding(crate::specs::inner::Reading::all_of))]
 pub fn read_parts(alloc: Global, bytes: &[u8]) -> Result<GameParts, ReadFault>
     ensures gives { Gives (λ x. x) result (all_of bytes.now) }
 {

@@ -3,10 +3,10 @@
 ghost use Rattle.std.specs.Prelude.{◌≡◌, ◌<◌, ◌^◌, IfOk, length};
 ghost use Rattle.std.specs.List.{AllByRecursion};
 ghost use Rattle.paw_image.specs.Damage.{each, after_lists, after_table};
-ghost use Rattle.paw_image.specs.Orders.{IsOrder};
-ghost use Rattle.paw_image.specs.Places.{begins, entries_begin, entries_of, tables_begin, AreGoneOver};
-ghost use Rattle.paw_image.specs.Reading.{Gives};
-ghost use Rattle.paw_image.specs.Views.{AreOrdered};
+ghost use Rattle.paw_image.specs.inner.Orders.{IsOrder};
+ghost use Rattle.paw_image.specs.inner.Places.{begins, entries_begin, entries_of, tables_begin, AreGoneOver};
+ghost use Rattle.paw_image.specs.inner.Reading.{Gives};
+ghost use Rattle.paw_image.specs.inner.Views.{AreOrdered};
 
 use crate::fault::ReadFault;
 use crate::fields::read_within;
@@ -36,7 +36,7 @@ pub struct Places {
 }
 
 /// Goes over the table at the front of the last of all bytes: its index, and the bytes after it.
-#[tactic(auto, unfolding(crate::specs::Damage::after_table, crate::specs::Places::entries_begin))]
+#[tactic(auto, unfolding(crate::specs::Damage::after_table, crate::specs::inner::Places::entries_begin))]
 fn pass_table<'a>(
     alloc: Global,
     rules: &Rules,

@@ -2,7 +2,7 @@
 
 ghost use Rattle.std.specs.Prelude.{◌≡◌, ◌<◌, ◌^◌, ◌++◌, length, OnOk, flat_map};
 ghost use Rattle.std.specs.List.{AllByRecursion};
-ghost use Rattle.paw_image.specs.Reading.{Gives, rows_at};
+ghost use Rattle.paw_image.specs.inner.Reading.{Gives, rows_at};
 
 use crate::fault::ReadFault;
 use std::alloc::{AllocError, Global};
@@ -10,7 +10,8 @@ use std::alloc::{AllocError, Global};
 /// What an image has a list of: a row is spelled by some bytes, and stands at the front of them.
 pub trait Row: Drop {
     ghost use Rattle.std.specs.Prelude.{◌≡◌, ◌<◌, ◌^◌, ◌++◌, List, ℕ, length, OnOk};
-    ghost use Rattle.paw_image.specs.Reading.{Gives, Reading};
+    ghost use Rattle.paw_image.specs.Reading.{Reading};
+    ghost use Rattle.paw_image.specs.inner.Reading.{Gives};
 
     /// The row at the front of these bytes, and the bytes after it.
     ghost reading: { List ℕ → Reading Self };

@@ -29,7 +29,7 @@ pub struct Rules {
 impl Model for Rules {
     ghost use Rattle.paw_base.specs.declared.words.TheConstants.{VERB_CLASS, ADVERB_CLASS, NOUN_CLASS};
     ghost use Rattle.paw_base.specs.declared.words.TheConstants.{ADJECTIVE_CLASS, PREPOSITION_CLASS};
-    ghost use Rattle.paw_game.specs.Values.{Tells};
+    ghost use Rattle.paw_game.specs.inner.Values.{Tells};
     ghost use Rattle.paw_image.specs.Damage.{Declared};
 
     ghost Value = { Declared };

@@ -2,10 +2,10 @@
 
 ghost use Rattle.std.specs.Prelude.{◌≡◌, ◌++◌, IfOk, OnErr, OnOk};
 ghost use Rattle.paw_game.specs.Image.{parameter_image, condact_image, entry_image, table_image};
-ghost use Rattle.paw_image.specs.Sizes.{FitsCondact, FitsEntry, FitsTable};
+ghost use Rattle.paw_image.specs.inner.Sizes.{FitsCondact, FitsEntry, FitsTable};
 ghost use Rattle.paw_image.specs.Damage.{after_parameter, after_condact, after_entry, after_table};
-ghost use Rattle.paw_image.specs.Reading.{Gives, IsFault, code_at, parameter_at, condact_at, entry_at, table_at};
-ghost use Rattle.paw_base.specs.Condacts.{row_of};
+ghost use Rattle.paw_image.specs.inner.Reading.{Gives, IsFault, code_at, parameter_at, condact_at, entry_at, table_at};
+ghost use Rattle.paw_base.specs.inner.Condacts.{row_of};
 
 use crate::fault::ReadFault;
 use crate::fields::{fault_at, read_byte, read_number, read_within, write_number};
@@ -55,7 +55,7 @@ fn write_parameter(kind: ParamKind, value: u8, out: &mut Vec<u8>) -> Result<(), 
 }
 
 /// The condact at the front.
-#[tactic(auto, using(crate::proofs::Faults::fault_steps), unfolding(crate::specs::Reading::condact_at))]
+#[tactic(auto, using(crate::proofs::Faults::fault_steps), unfolding(crate::specs::inner::Reading::condact_at))]
 pub fn read_condact(bytes: &[u8]) -> Result<(Condact, &[u8]), ReadFault>
     ensures gives { Gives (λ x. (x.0, x.1.now)) result (condact_at bytes.now) }
     ensures fails { OnErr result (IsFault (condact_at bytes.now)) }
@@ -97,7 +97,7 @@ impl Row for Entry {
 
     ghost fits = { FitsEntry };
 
-    #[tactic(auto, unfolding(crate::specs::Reading::entry_at))]
+    #[tactic(auto, unfolding(crate::specs::inner::Reading::entry_at))]
     fn read(alloc: Global, bytes: &[u8]) -> Result<(Entry, &[u8]), ReadFault> {
         let (verb, rest) = read_byte(bytes)?;
         let (noun, rest) = read_byte(rest)?;
@@ -129,7 +129,7 @@ impl Row for Table {
 
     ghost fits = { FitsTable };
 
-    #[tactic(auto, unfolding(crate::specs::Reading::table_at))]
+    #[tactic(auto, unfolding(crate::specs::inner::Reading::table_at))]
     fn read(alloc: Global, bytes: &[u8]) -> Result<(Table, &[u8]), ReadFault> {
         let (count, rest) = read_number(bytes)?;
         let (entries, rest) = read_rows(alloc, count as usize, rest)?;

@@ -3,8 +3,8 @@
 ghost use Rattle.std.specs.Prelude.{OnErr};
 ghost use Rattle.paw_game.specs.Image.{text_image};
 ghost use Rattle.paw_image.specs.Damage.{after_text};
-ghost use Rattle.paw_image.specs.Reading.{Gives, IsFault, text_at};
-ghost use Rattle.paw_image.specs.Sizes.{FitsText};
+ghost use Rattle.paw_image.specs.inner.Reading.{Gives, IsFault, text_at};
+ghost use Rattle.paw_image.specs.inner.Sizes.{FitsText};
 
 use crate::fault::ReadFault;
 use crate::fields::{fault_at, read_bytes, read_number, read_within, write_number};
@@ -17,7 +17,7 @@ use paw_game::texts::is_printed;
 use std::alloc::{AllocError, Global};
 
 /// The text at the front, lent.
-#[tactic(auto, using(crate::proofs::Faults::fault_steps), unfolding(crate::specs::Reading::text_at))]
+#[tactic(auto, using(crate::proofs::Faults::fault_steps), unfolding(crate::specs::inner::Reading::text_at))]
 pub fn read_text(bytes: &[u8]) -> Result<(&[u8], &[u8]), ReadFault>
     ensures gives { Gives (λ x. (x.0.now, x.1.now)) result (text_at bytes.now) }
     ensures fails { OnErr result (IsFault (text_at bytes.now)) }

@@ -7,9 +7,10 @@ ghost use Rattle.paw_game.specs.Game.{GameLists};
 ghost use Rattle.paw_game.specs.Image.{entry_image};
 ghost use Rattle.paw_game.specs.Tables.{entry_at, or_empty};
 ghost use Rattle.paw_image.specs.Damage.{bad};
-ghost use Rattle.paw_image.specs.Images.{IsImage, IfDamaged};
-ghost use Rattle.paw_image.specs.Places.{entries_of, entry_places};
-ghost use Rattle.paw_image.specs.Views.{game_of, rows_begin, span_at, tables_begin_at};
+ghost use Rattle.paw_image.specs.Images.{IsImage};
+ghost use Rattle.paw_image.specs.inner.Images.{IfDamaged};
+ghost use Rattle.paw_image.specs.inner.Places.{entries_of, entry_places};
+ghost use Rattle.paw_image.specs.inner.Views.{game_of, rows_begin, span_at, tables_begin_at};
 
 use crate::IMAGE_LIMIT;
 use crate::at_place::{condact_in, entry_in, exit_at, facts_in, head_in, text_in};
@@ -37,7 +38,7 @@ pub struct View<'a> {
 
 impl<'a> Model for View<'a> {
     ghost use Rattle.std.specs.Prelude.{List, ℕ};
-    ghost use Rattle.paw_image.specs.Views.{IsIndex};
+    ghost use Rattle.paw_image.specs.inner.Views.{IsIndex};
 
     ghost Value = { List ℕ };
 

@@ -3,9 +3,9 @@
 ghost use Rattle.paw_game.specs.Image.{word_image};
 ghost use Rattle.std.specs.Prelude.{◌≡◌, [], codes};
 ghost use Rattle.paw_image.specs.Damage.{word_kept, words_kept};
-ghost use Rattle.paw_image.specs.Reading.{Gives, word_at};
-ghost use Rattle.paw_image.specs.Words.{last_letters};
-ghost use Rattle.paw_image.specs.Sizes.{FitsWord};
+ghost use Rattle.paw_image.specs.inner.Reading.{Gives, word_at};
+ghost use Rattle.paw_image.specs.inner.Words.{last_letters};
+ghost use Rattle.paw_image.specs.inner.Sizes.{FitsWord};
 
 use crate::fault::ReadFault;
 use crate::fields::{fault_at, read_array, read_byte};
@@ -22,7 +22,7 @@ impl Row for Word {
 
     ghost fits = { FitsWord };
 
-    #[tactic(auto, unfolding(crate::specs::Reading::word_at))]
+    #[tactic(auto, unfolding(crate::specs::inner::Reading::word_at))]
     fn read(_: Global, bytes: &[u8]) -> Result<(Word, &[u8]), ReadFault> {
         let (letters, rest) = read_array(bytes)?;
         let (value, rest) = read_byte(rest)?;

@@ -6,9 +6,9 @@ use Rattle.paw_stage.specs.Moments.{Moment, InWrite, InSync}
 use Rattle.paw_journal.specs.declared.layout.Slot.{Slot}
 use Rattle.paw_journal.specs.declared.layout.Slot.TheVariants as which
 use Rattle.paw_journal.specs.Session.{recover, recover_by, chosen, kept_digest, slot, session_length, slot_length}
-use Rattle.paw_journal.specs.Steps.{IsWithin}
-use Rattle.paw_journal.specs.Store.{InStore, Leaves, IsEither}
-use Rattle.paw_journal.specs.Room.{slot_number}
+use Rattle.paw_journal.specs.inner.Steps.{IsWithin}
+use Rattle.paw_journal.specs.inner.Store.{InStore, Leaves, IsEither}
+use Rattle.paw_journal.specs.inner.Room.{slot_number}
 use Rattle.paw_journal.proofs.Parts.{put_one, stretch_same}
 use Rattle.paw_journal.proofs.Recovers.{recover_is, recover_by_same}
 use Rattle.paw_journal.proofs.Disks.{within_long, within_same}

@@ -7,10 +7,10 @@ use Rattle.paw_journal.specs.declared.layout.Slot.TheVariants as which
 use Rattle.paw_journal.specs.declared.drafting.SlotState.{SlotState}
 use Rattle.paw_journal.specs.declared.drafting.Draft.{Draft}
 use Rattle.paw_journal.specs.Session.{Shown, recover, recover_by, chosen, slot, slot_shows, stretch, kept_digest, piece_length, state_length}
-use Rattle.paw_journal.specs.Room.{Room, kept_slot, kept_of, with_kept, KeepsSlots, slot_number}
-use Rattle.paw_journal.specs.Written.{most_written}
-use Rattle.paw_journal.specs.Steps.{IsFilling, Drafts, written_slot}
-use Rattle.paw_journal.specs.Journal.{IsAtRest, Keeps}
+use Rattle.paw_journal.specs.inner.Room.{Room, kept_slot, kept_of, with_kept, KeepsSlots, slot_number}
+use Rattle.paw_journal.specs.inner.Written.{most_written}
+use Rattle.paw_journal.specs.inner.Steps.{IsFilling, Drafts, written_slot}
+use Rattle.paw_journal.specs.inner.Journal.{IsAtRest, Keeps}
 use Rattle.paw_journal.proofs.Recovers.{recover_made}
 use Rattle.paw_journal.proofs.Kept.{IsKept, is_kept, kept_shows, written_piece}
 use Rattle.paw_journal.proofs.Slots.{state_stays, piece_stays}
@@ -29,24 +29,24 @@ drafts_as kept state bytes held draft e d = subst (λ b. Drafts kept state b dra
 module _ (k : ℕ) (draft : Draft) (kept : Option SlotState) (state bytes piece : List ℕ) (s t : Standing)
     (f : IsFilling k s t) (d : Drafts kept state bytes draft) (e : kept ≡ kept_slot (slot k s.disk.bytes))
     (w : slot k t.disk.bytes ≡ written_slot draft bytes piece (slot k s.disk.bytes)) (short : length piece ≤ 65535)
-    where
-  long : length (slot k s.disk.bytes) ≡ 86080
-  long = slot_long k s.disk.bytes f.low f.made.long
+  where
+    long : length (slot k s.disk.bytes) ≡ 86080
+    long = slot_long k s.disk.bytes f.low f.made.long
 
-  -- the slot has the new state
-  pub committed_kept : kept_slot (slot k t.disk.bytes) ≡ Some (record { records = draft.records; state = state })
-  committed_kept = ap kept_slot w ∙ d.gives (slot k s.disk.bytes) piece long (sym e) short
+    -- the slot has the new state
+    pub committed_kept : kept_slot (slot k t.disk.bytes) ≡ Some (record { records = draft.records; state = state })
+    committed_kept = ap kept_slot w ∙ d.gives (slot k s.disk.bytes) piece long (sym e) short
 
-  -- and shows it with the new piece
-  pub committed_shows : piece_length state ≡ length piece → recover_by k t.disk.bytes ≡ Shown (kept_digest s.disk.bytes) (take state_length state) piece
-  committed_shows names =
-      let h : IsKept (slot k t.disk.bytes) draft.records state = is_kept (slot k t.disk.bytes) draft.records state committed_kept in
-      let p : stretch 4160 (piece_length state) (slot k t.disk.bytes) ≡ piece =
-      ap (λ n. stretch 4160 n (slot k t.disk.bytes)) names
-      ∙ (ap (stretch 4160 (length piece)) w ∙ written_piece draft.records draft.at bytes piece (slot k s.disk.bytes) long d.inside short h.few) in
-      recover_made k t.disk.bytes (filled_made k s t f)
-      ∙ (ap (λ x. slot_shows x (slot k t.disk.bytes)) (filled_digest k s t f)
-      ∙ (kept_shows (kept_digest s.disk.bytes) (slot k t.disk.bytes) draft.records state h ∙ ap (Shown (kept_digest s.disk.bytes) (take state_length state)) p))
+    -- and shows it with the new piece
+    pub committed_shows : piece_length state ≡ length piece → recover_by k t.disk.bytes ≡ Shown (kept_digest s.disk.bytes) (take state_length state) piece
+    committed_shows names =
+        let h : IsKept (slot k t.disk.bytes) draft.records state = is_kept (slot k t.disk.bytes) draft.records state committed_kept in
+        let p : stretch 4160 (piece_length state) (slot k t.disk.bytes) ≡ piece =
+        ap (λ n. stretch 4160 n (slot k t.disk.bytes)) names
+        ∙ (ap (stretch 4160 (length piece)) w ∙ written_piece draft.records draft.at bytes piece (slot k s.disk.bytes) long d.inside short h.few) in
+        recover_made k t.disk.bytes (filled_made k s t f)
+        ∙ (ap (λ x. slot_shows x (slot k t.disk.bytes)) (filled_digest k s t f)
+        ∙ (kept_shows (kept_digest s.disk.bytes) (slot k t.disk.bytes) draft.records state h ∙ ap (Shown (kept_digest s.disk.bytes) (take state_length state)) p))
 
 -- the states of both slots afterwards
 pub committed_slots : (w : Slot) (x : Option SlotState) (old now : Room) (a b c : List ℕ) → KeepsSlots old a →
@@ -103,9 +103,9 @@ committed_keeps w x old drafted held now state piece s t u h d e f rests chooses
       rests = rests;
       chosen = chooses;
       shown = shows ∙ (ap (λ y. Shown y (take state_length state) piece) (sym digest)
-      ∙ (ap (λ l. Shown (kept_digest u.disk.bytes) (take state_length l) piece) (sym a)
-      ∙ ap (Shown (kept_digest u.disk.bytes) (take state_length now.state)) (sym b)));
+          ∙ (ap (λ l. Shown (kept_digest u.disk.bytes) (take state_length l) piece) (sym a)
+          ∙ ap (Shown (kept_digest u.disk.bytes) (take state_length now.state)) (sym b)));
       slots = committed_slots w (Some x) old now s.disk.bytes t.disk.bytes u.disk.bytes h
-      (ap (λ r. r.first) f ∙ same_first w (Some x) held old one)
-      (ap (λ r. r.second) f ∙ same_second w (Some x) held old two) other new same;
+          (ap (λ r. r.first) f ∙ same_first w (Some x) held old one)
+          (ap (λ r. r.second) f ∙ same_second w (Some x) held old two) other new same;
     }

@@ -3,12 +3,18 @@ use Rattle.std.proofs.Common.{◌≡◌, ℕ, ◌+◌, ◌≤◌, ◌<◌, false
 use Rattle.std.proofs.lemmas.Bool.Decides.{nat_tests}
 use Rattle.std.proofs.lemmas.List.{ext_get_or}
 use Rattle.paw_stage.specs.Disk.{Range, Disk, is_dirty, MayLeave, touched, stable, IsStable, IsInWrite}
-use Rattle.paw_journal.specs.Steps.{IsWithin}
+use Rattle.paw_journal.specs.inner.Steps.{IsWithin}
 use Rattle.paw_journal.proofs.Parts.{length_put, put_below, put_above}
 
 pub within_stable : (lo hi : ℕ) (d : Disk) → IsStable d → IsWithin lo hi d.bytes d
-within_stable lo hi d h = record { long = refl; synced = ap length h.kept; longest = h.longest; same =
-    λ i o. refl; clean = λ i o. ap (λ r. is_dirty r i) h.dirty }
+within_stable lo hi d h = record {
+  long = refl;
+  synced = ap length h.kept;
+  longest = h.longest;
+  same =
+      λ i o. refl;
+  clean = λ i o. ap (λ r. is_dirty r i) h.dirty;
+}
 
 within_touched : (lo hi at n : ℕ) (old new : List ℕ) (d : Disk) → IsWithin lo hi old d → lo ≤ at → at + n ≤ hi →
     hi ≤ length old → length new ≤ n → IsWithin lo hi old (touched at n new d)
@@ -21,12 +27,15 @@ within_touched lo hi at n old new d h low high long short =
         | inl l ↦ put_below at new d.bytes i (omega (arith, h.long)) (omega arith) ∙ h.same i (inl l)
         | inr l ↦ put_above at new d.bytes i (omega (arith, h.long)) (omega arith) ∙ h.same i (inr l)
       ];
-      clean = λ i o. elim o [ inl l ↦ not_in at n i _ (inl (omega arith)) (h.clean i (inl l)) | inr l ↦ not_in at n i _
-      (inr (omega arith)) (h.clean i (inr l)) ];
+      clean = λ i o. elim o [
+        | inl l ↦ not_in at n i _ (inl (omega arith)) (h.clean i (inl l))
+        | inr l ↦ not_in at n i _
+            (inr (omega arith)) (h.clean i (inr l))
+      ];
     }
   where
     not_in : (at n i : ℕ) (ranges : List Range) → (i < at) ⊎ (at + n ≤ i) → is_dirty ranges i ≡ false →
-      is_dirty (record { from = at; to = at + n } ∷ ranges) i ≡ false
+        is_dirty (record { from = at; to = at + n } ∷ ranges) i ≡ false
     not_in at n i ranges (inl l) c = grind (arith, nat_tests)
     not_in at n i ranges (inr l) c = grind (arith, nat_tests)
 

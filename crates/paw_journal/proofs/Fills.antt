@@ -4,8 +4,8 @@ use Rattle.paw_stage.specs.Disk.{Disk, put, stable, IsStable, touched}
 use Rattle.paw_stage.specs.Stage.{Standing, wrote}
 use Rattle.paw_stage.specs.Moments.{Moment, InWrite, InSync}
 use Rattle.paw_journal.specs.Session.{recover, recover_by, is_version, slot, chosen, kept_digest, session_length, header_length, slot_length}
-use Rattle.paw_journal.specs.Store.{InStore, Leaves}
-use Rattle.paw_journal.specs.Steps.{IsMade, IsWithin, IsFilling}
+use Rattle.paw_journal.specs.inner.Store.{InStore, Leaves}
+use Rattle.paw_journal.specs.inner.Steps.{IsMade, IsWithin, IsFilling}
 use Rattle.paw_journal.proofs.Parts.{stretch_same}
 use Rattle.paw_journal.proofs.Puts.{stretch_put, stretch_long, put_nothing}
 use Rattle.paw_journal.proofs.Recovers.{recover_is, recover_by_same}
@@ -23,7 +23,7 @@ slot_hidden k j image old low e n long same =
     (λ i l h. same i (omega arith) (apart i l h))
   where
     apart : (i : ℕ) → header_length + slot_length * j ≤ i → i < header_length + slot_length * j + slot_length →
-      (i < header_length + slot_length * k) ⊎ (header_length + slot_length * k + slot_length ≤ i)
+        (i < header_length + slot_length * k) ⊎ (header_length + slot_length * k + slot_length ≤ i)
     apart i l h = grind arith
 
 -- while the other slot is written a crash leaves what was shown before
@@ -117,6 +117,6 @@ filled_other k s t h =
     stretch_same _ slot_length t.disk.bytes s.disk.bytes h.within.long (λ i l u. h.within.same i (apart k i low l u))
   where
     apart : (k i : ℕ) → k < 2 → header_length + slot_length * (1 - k) ≤ i →
-      i < header_length + slot_length * (1 - k) + slot_length →
-      (i < header_length + slot_length * k) ⊎ (header_length + slot_length * k + slot_length ≤ i)
+        i < header_length + slot_length * (1 - k) + slot_length →
+        (i < header_length + slot_length * k) ⊎ (header_length + slot_length * k + slot_length ≤ i)
     apart k i low l h = grind arith

@@ -3,7 +3,7 @@ use Rattle.std.proofs.Common.{◌≡◌, ◌≢◌, ℕ, ◌%◌, ◌<◌, true,
 use Rattle.std.proofs.lemmas.List.{get_or-take, nil_from_length}
 use Rattle.paw_journal.specs.declared.refusal.SessionPart.TheVariants as part
 use Rattle.paw_journal.specs.Session.{Unmade, Damaged, recover, recover_by, slot, mark, version, is_version, stretch, header_length, session_length, made_mark}
-use Rattle.paw_journal.specs.Steps.{Introduces}
+use Rattle.paw_journal.specs.inner.Steps.{Introduces}
 use Rattle.paw_journal.proofs.Parts.{stretch_stretch}
 use Rattle.paw_journal.proofs.Recovers.{unmade_is}
 
@@ -38,8 +38,12 @@ pub introduces : (slot : ℕ) (digest bytes whole : List ℕ) → length whole �
     bytes ≡ take header_length whole → get_or bytes 0 0 ≡ made_mark → is_version (get_or bytes 2 0) ≡ true →
     slot ≡ get_or bytes 1 0 % 2 → digest ≡ stretch 32 32 bytes → Introduces slot digest whole
 introduces slot digest bytes whole n b m v s d = record {
-  made = record { long = n; marked = sym (first_byte 128 0 bytes whole (omega arith) b) ∙ m; versioned =
-      ap is_version (sym (first_byte 128 2 bytes whole (omega arith) b)) ∙ v };
+  made = record {
+    long = n;
+    marked = sym (first_byte 128 0 bytes whole (omega arith) b) ∙ m;
+    versioned =
+        ap is_version (sym (first_byte 128 2 bytes whole (omega arith) b)) ∙ v;
+  };
   slot = s ∙ ap (λ x. x % 2) (first_byte 128 1 bytes whole (omega arith) b);
   digest = d ∙ (ap (stretch 32 32) b ∙ stretch_stretch 32 32 0 128 whole (omega arith));
 }

@@ -7,9 +7,10 @@ use Rattle.std.proofs.lemmas.List.{length-append, length-drop, length-replicate,
 use Rattle.paw_stage.specs.Disk.{Range, Disk, is_dirty, IsInWrite, put, IsStable, touched}
 use Rattle.paw_stage.specs.Stage.{Standing, wrote}
 use Rattle.paw_stage.specs.Moments.{Moment, InWrite, InSync}
-use Rattle.paw_journal.specs.Session.{IsUnmade, recover, mark, zeros, made_mark, made_header, session_length}
-use Rattle.paw_journal.specs.Store.{IsBeside, InStore, Leaves}
-use Rattle.paw_journal.specs.Steps.{IsBlank, IsWithin}
+use Rattle.paw_journal.specs.Session.{IsUnmade, recover, mark, zeros, made_mark, session_length}
+use Rattle.paw_journal.specs.inner.Session.{made_header}
+use Rattle.paw_journal.specs.inner.Store.{IsBeside, InStore, Leaves}
+use Rattle.paw_journal.specs.inner.Steps.{IsBlank, IsWithin}
 use Rattle.paw_journal.proofs.Parts.{put_below, put_end}
 use Rattle.paw_journal.proofs.Recovers.{unmade}
 use Rattle.paw_journal.proofs.Disks.{within_long, within_same}
@@ -78,8 +79,14 @@ length_zeros n = length-replicate n 0
 
 pub length_header : (first : ℕ) (game : List ℕ) → length game ≡ 32 → length (made_header first game) ≡ 128
 length_header first game n =
-    omega (arith, length-append ((first ∷ 0 ∷ 2 ∷ zeros 29) ++ game) (zeros 64), length-append
-    (first ∷ 0 ∷ 2 ∷ zeros 29) game, length_zeros 29, length_zeros 64)
+    omega (
+      arith,
+      length-append ((first ∷ 0 ∷ 2 ∷ zeros 29) ++ game) (zeros 64),
+      length-append
+          (first ∷ 0 ∷ 2 ∷ zeros 29) game,
+      length_zeros 29,
+      length_zeros 64,
+    )
 
 -- the header without its first byte, behind that byte
 pub header_written : (game header old : List ℕ) → length game ≡ 32 → header ≡ made_header 0 game → old ≡ 0 ∷ [] →
@@ -96,19 +103,19 @@ pub marking : (old : List ℕ) (d : Disk) → length old ≡ session_length → 
 marking old d long h image l =
     elim (cases_eq (mark image) made_mark) [
       | inl e ↦ inr
-      (ap recover (marked image old (within_long 0 1 old image d h l) long
-      (λ i b. within_same 0 1 old image d h l (suc i) b (inr (omega arith))) e))
+          (ap recover (marked image old (within_long 0 1 old image d h l) long
+          (λ i b. within_same 0 1 old image d h l (suc i) b (inr (omega arith))) e))
       | inr ne ↦ inl (unmade image (inr ne))
     ]
   where
     marked : (image old : List ℕ) → length image ≡ length old → length old ≡ session_length →
-      ((i : ℕ) → suc i < length old → get_or image (suc i) 0 ≡ get_or old (suc i) 0) → get_or image 0 0 ≡ made_mark →
-      image ≡ made_mark ∷ drop 1 old
+        ((i : ℕ) → suc i < length old → get_or image (suc i) 0 ≡ get_or old (suc i) 0) → get_or image 0 0 ≡ made_mark →
+        image ≡ made_mark ∷ drop 1 old
     marked image [] n long same e = absurd (omega arith)
     marked [] (y ∷ old) n long same e = absurd (omega arith)
     marked (x ∷ image) (y ∷ old) n long same e = let f : image ≡ old =
-      ext_get_or 0 image old (omega arith) (λ i b. same i (omega arith)) in
-      ap (λ a. a ∷ image) e ∙ ap (λ l. made_mark ∷ l) f
+        ext_get_or 0 image old (omega arith) (λ i b. same i (omega arith)) in
+        ap (λ a. a ∷ image) e ∙ ap (λ l. made_mark ∷ l) f
 
 pub in_marking : (s : Standing) (m : Moment) → length s.disk.bytes ≡ session_length → IsStable s.disk →
     InWrite s 0 1 m → InStore s (Leaves (λ r. IsUnmade r ⊎ (r ≡ recover (made_mark ∷ drop 1 s.disk.bytes)))) m

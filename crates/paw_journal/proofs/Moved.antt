@@ -6,8 +6,8 @@ use Rattle.paw_stage.specs.Stage.{Standing, WritesPart, Files, held, wrote}
 use Rattle.paw_stage.specs.Moments.{Moment, InWrite, InSync}
 use Rattle.paw_stage.proofs.Names.{held_other, holds_same}
 use Rattle.paw_journal.specs.Session.{Recovered}
-use Rattle.paw_journal.specs.Steps.{IsWithin}
-use Rattle.paw_journal.specs.Store.{IsBeside, InStore, Leaves}
+use Rattle.paw_journal.specs.inner.Steps.{IsWithin}
+use Rattle.paw_journal.specs.inner.Store.{IsBeside, InStore, Leaves}
 use Rattle.paw_journal.proofs.Disks.{within_stable, within_write}
 
 held_same : (attached : Option (List ℕ)) (n bytes : List ℕ) (files : Files) → attached ≡ Some n → held attached bytes files n ≡ Some bytes
@@ -60,8 +60,14 @@ in_write s at n P m f h =
 
 -- inside a sync a crash leaves no more than before it
 pub in_sync : (s : Standing) (P : Recovered → Type 0) (m : Moment) → Leaves P s.disk → InSync s m → InStore s (Leaves P) m
-in_sync s P m f h = record { asked = h.asked; shown = h.shown; attached = h.attached; files =
-    λ k ne. ap (λ x. x k) h.files; disk = λ image l. f image (h.disk image l) }
+in_sync s P m f h = record {
+  asked = h.asked;
+  shown = h.shown;
+  attached = h.attached;
+  files =
+      λ k ne. ap (λ x. x k) h.files;
+  disk = λ image l. f image (h.disk image l);
+}
 
 pub in_later : (s t : Standing) (P Q : Disk → Type 0) (m : Moment) → IsBeside s t → ((d : Disk) → P d → Q d) → InStore t P m → InStore s Q m
 in_later s t P Q m b f h =

@@ -21,8 +21,14 @@ stretch_same at n a b long same =
     stretch_at at n a i l ∙ (same (at + i) (omega arith) (omega arith) ∙ sym (stretch_at at n b i l)))
 
 pub length_put : (at : ℕ) (new old : List ℕ) → at ≤ length old → length (put at new old) ≡ at + length new + (length old - (at + length new))
-length_put at new old low = omega (arith, length-append (take at old ++ new) (drop (at + length new) old), length-append
-    (take at old) new, length-take at old, length-drop (at + length new) old)
+length_put at new old low = omega (
+  arith,
+  length-append (take at old ++ new) (drop (at + length new) old),
+  length-append
+      (take at old) new,
+  length-take at old,
+  length-drop (at + length new) old,
+)
 
 -- a write leaves the bytes below it
 pub put_below : (at : ℕ) (new old : List ℕ) (i : ℕ) → at ≤ length old → i < at → get_or (put at new old) i 0 ≡ get_or old i 0

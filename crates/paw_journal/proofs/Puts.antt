@@ -58,13 +58,13 @@ stretch_put s n a new whole fits long =
     order i a l = grind arith
 
     each : (s n a : ℕ) (new whole : List ℕ) (i : ℕ) → a + length new ≤ n → s + n ≤ length whole →
-      length (stretch s n whole) ≡ n → i < n →
-      get_or (put (s + a) new whole) (s + i) 0 ≡ get_or (put a new (stretch s n whole)) i 0
+        length (stretch s n whole) ≡ n → i < n →
+        get_or (put (s + a) new whole) (s + i) 0 ≡ get_or (put a new (stretch s n whole)) i 0
     each s n a new whole i fits long l m = elim (order i a (length new)) [
       | inl h ↦ put_below (s + a) new whole (s + i) (omega arith) (omega arith)
-      ∙ sym (put_below a new (stretch s n whole) i (omega arith) h ∙ stretch_at s n whole i m)
+          ∙ sym (put_below a new (stretch s n whole) i (omega arith) h ∙ stretch_at s n whole i m)
       | inr (inl h) ↦ put_above (s + a) new whole (s + i) (omega arith) (omega arith)
-      ∙ sym (put_above a new (stretch s n whole) i (omega arith) h ∙ stretch_at s n whole i m)
+          ∙ sym (put_above a new (stretch s n whole) i (omega arith) h ∙ stretch_at s n whole i m)
       | inr (inr h) ↦
           let e : s + i ≡ s + a + (i - a) = omega arith in
           let f : i ≡ a + (i - a) = omega arith in

@@ -5,7 +5,7 @@ use Rattle.std.proofs.lemmas.Bool.Decides.{nat_tests}
 use Rattle.paw_journal.specs.declared.refusal.SessionPart.TheVariants as part
 use Rattle.paw_journal.specs.Session.{Recovered, Unmade, Damaged, Shown, IsUnmade, recover, recover_by, slot_shows, slot, chosen, mark, version, is_version}
 use Rattle.paw_journal.specs.Session.{kept_digest, session_length, slot_length, header_length, made_mark}
-use Rattle.paw_journal.specs.Steps.{IsMade}
+use Rattle.paw_journal.specs.inner.Steps.{IsMade}
 use Rattle.paw_journal.proofs.Parts.{stretch_same}
 
 pub recover_is : (k : ℕ) (a : List ℕ) → chosen a ≡ k → recover a ≡ recover_by k a
@@ -56,8 +56,8 @@ shown_made bytes digest state piece e =
     record { long = is_true _ _ t.0; marked = is_true _ _ t.1; versioned = t.2 }
   where
     tests : (a b c : Bool) (x : Recovered) (n m : ℕ) (digest state piece : List ℕ) →
-      (if a && b then (if c then x else Damaged part.Header 2) else Unmade n m) ≡ Shown digest state piece →
-      (a ≡ true) × (b ≡ true) × (c ≡ true)
+        (if a && b then (if c then x else Damaged part.Header 2) else Unmade n m) ≡ Shown digest state piece →
+        (a ≡ true) × (b ≡ true) × (c ≡ true)
     tests true true true x n m digest state piece e = (refl, refl, refl)
     tests true true false x n m digest state piece e = cc
     tests true false c x n m digest state piece e = cc

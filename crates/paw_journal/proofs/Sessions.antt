@@ -12,12 +12,13 @@ use Rattle.paw_stage.proofs.Time.{Passes_on}
 use Rattle.paw_journal.specs.declared.drafting.SlotState.{SlotState}
 use Rattle.paw_journal.specs.declared.layout.Slot.{Slot}
 use Rattle.paw_journal.specs.declared.layout.Slot.TheVariants as which
-use Rattle.paw_journal.specs.Journal.{IsAtRest, Keeps}
-use Rattle.paw_journal.specs.Room.{Room, kept_slot, with_kept, KeepsSlots, slot_number}
+use Rattle.paw_journal.specs.inner.Journal.{IsAtRest, Keeps}
+use Rattle.paw_journal.specs.inner.Room.{Room, kept_slot, with_kept, KeepsSlots, slot_number}
 use Rattle.paw_journal.specs.Session.{Recovered, Shown, IsUnmade, recover, slot_shows, slot, stretch, base, chosen, kept_digest, piece_length, state_length}
-use Rattle.paw_journal.specs.Session.{session_length, slot_length, zeros, made_mark, made_header, made_slot, made_session}
-use Rattle.paw_journal.specs.Store.{IsBeside, InStore, Leaves, IsEither}
-use Rattle.paw_journal.specs.Steps.{Introduces}
+use Rattle.paw_journal.specs.Session.{session_length, slot_length, zeros, made_mark}
+use Rattle.paw_journal.specs.inner.Session.{made_header, made_slot, made_session}
+use Rattle.paw_journal.specs.inner.Store.{IsBeside, InStore, Leaves, IsEither}
+use Rattle.paw_journal.specs.inner.Steps.{Introduces}
 use Rattle.paw_journal.proofs.Recovers.{recover_is, recover_made}
 use Rattle.paw_journal.proofs.Makes.{length_zeros, length_header}
 use Rattle.paw_journal.proofs.Kept.{IsKept, kept_is, kept_shows}
@@ -32,10 +33,15 @@ pub length_slot : (state piece : List ℕ) → length state ≡ 4096 → length 
 length_slot state piece n few = slots (0 ∷ 0 ∷ 2 ∷ zeros 61) state piece (zeros (81920 - length piece)) length_head n few (length_zeros (81920 - length piece))
   where
     slots : (head state piece behind : List ℕ) → length head ≡ 64 → length state ≡ 4096 → length piece ≤ 65535 →
-      length behind ≡ 81920 - length piece → length (head ++ state ++ piece ++ behind) ≡ 86080
+        length behind ≡ 81920 - length piece → length (head ++ state ++ piece ++ behind) ≡ 86080
     slots head state piece behind h n few b =
-      omega (arith, length-append (head ++ state ++ piece) behind, length-append (head ++ state) piece, length-append
-      head state)
+        omega (
+          arith,
+          length-append (head ++ state ++ piece) behind,
+          length-append (head ++ state) piece,
+          length-append
+              head state,
+        )
 
 no_changes : (state piece : List ℕ) → get_or (made_slot state piece) 0 0 + 256 * get_or (made_slot state piece) 1 0 ≡ 0
 unfolding zeros
@@ -94,12 +100,22 @@ made_digest digest slots behind n =
     head e = omega (arith, e)
 
 made_long : (digest slots : List ℕ) → length digest ≡ 32 → length slots ≡ slot_length → length (made_header made_mark digest ++ slots ++ slots) ≡ session_length
-made_long digest slots n l = omega (arith, length-append (made_header made_mark digest ++ slots) slots, length-append
-    (made_header made_mark digest) slots, length_header made_mark digest n)
+made_long digest slots n l = omega (
+  arith,
+  length-append (made_header made_mark digest ++ slots) slots,
+  length-append
+      (made_header made_mark digest) slots,
+  length_header made_mark digest n,
+)
 
 pub laid_long : (digest slots : List ℕ) → length digest ≡ 32 → length slots ≡ slot_length → length (made_header 0 digest ++ slots ++ slots) ≡ session_length
-laid_long digest slots n l = omega (arith, length-append (made_header 0 digest ++ slots) slots, length-append
-    (made_header 0 digest) slots, length_header 0 digest n)
+laid_long digest slots n l = omega (
+  arith,
+  length-append (made_header 0 digest ++ slots) slots,
+  length-append
+      (made_header 0 digest) slots,
+  length_header 0 digest n,
+)
 
 pub session_digest : (digest state piece : List ℕ) → length digest ≡ 32 → kept_digest (made_session digest state piece) ≡ digest
 session_digest digest state piece n = made_digest digest (made_slot state piece) (made_slot state piece) n
@@ -232,8 +248,8 @@ made_keeps digest state piece bytes room s t r a d b e f one two n m few names =
       rests = record { attached = subst (λ x. IsSome x) (sym a) r.attached; stable = subst (λ x. IsStable x) (sym d) (stable_is bytes) };
       chosen = ap chosen h;
       shown = ap recover h ∙ (session_shows digest state piece n m few names
-      ∙ (ap (λ x. Shown x (take state_length state) piece) (sym k)
-      ∙ (ap (λ x. Shown (kept_digest t.disk.bytes) (take state_length x) piece) (sym e)
-      ∙ ap (Shown (kept_digest t.disk.bytes) (take state_length room.state)) (sym f))));
+          ∙ (ap (λ x. Shown x (take state_length state) piece) (sym k)
+          ∙ (ap (λ x. Shown (kept_digest t.disk.bytes) (take state_length x) piece) (sym e)
+          ∙ ap (Shown (kept_digest t.disk.bytes) (take state_length room.state)) (sym f))));
       slots = subst (KeepsSlots room) (sym h) (made_slots digest state piece room one two n m few);
     }

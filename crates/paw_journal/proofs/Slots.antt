@@ -10,9 +10,10 @@ use Rattle.paw_journal.specs.declared.layout.Slot.TheVariants as which
 use Rattle.paw_journal.specs.declared.drafting.SlotState.{SlotState}
 use Rattle.paw_journal.specs.declared.refusal.SessionPart.TheVariants as part
 use Rattle.paw_journal.specs.Session.{Change, Damaged, Shown, piece_length, state_length, first_length, is_second, slot_piece, stretch, number_at, base}
-use Rattle.paw_journal.specs.Session.{changes, changed, first_unsound, slot_changes, slot_state, has_state, slot_shows, shown_unless, most_changes, slot}
+use Rattle.paw_journal.specs.Session.{changes, changed, first_unsound, slot_changes, slot_state, slot_shows, shown_unless, most_changes, slot}
+use Rattle.paw_journal.specs.inner.Session.{has_state}
 use Rattle.paw_journal.specs.Session.{slot_length, header_length, session_length, zeros}
-use Rattle.paw_journal.specs.Room.{Room, kept_slot, with_kept}
+use Rattle.paw_journal.specs.inner.Room.{Room, kept_slot, with_kept}
 use Rattle.paw_journal.proofs.Kept.{has_state_is, state_has, kept_shows, sound_shows, kept_of_both, kept_of_first, kept_of_broken}
 use Rattle.paw_journal.proofs.Puts.{stretch_long}
 use Rattle.paw_journal.proofs.Makes.{length_zeros}
@@ -110,17 +111,37 @@ records_are count held bytes e = let n : 69696 + 4 * count - 69696 ≡ 4 * count
 pub room_for_body : (r s : Room) (piece : List ℕ) → s.slot ≡ 0 ∷ 0 ∷ 2 ∷ [] → s.piece ≡ piece →
     r ≡ record s { slot = s.slot ++ zeros 61 } → length piece ≤ 65535 →
     length r.slot + 4096 + length r.piece ≤ slot_length
-room_for_body r s piece f g e few = omega
-    (arith, ap (λ x. length x.slot) e, ap (λ x. length x.piece) e, ap length f, ap length g, length-append s.slot
-    (zeros 61), length_zeros 61)
+room_for_body r s piece f g e few = omega (
+  arith,
+  ap (λ x. length x.slot) e,
+  ap (λ x. length x.piece) e,
+  ap length f,
+  ap length g,
+  length-append s.slot
+      (zeros 61),
+  length_zeros 61,
+)
 
 pub room_behind : (q r s : Room) (state piece : List ℕ) (n : ℕ) → s.slot ≡ 0 ∷ 0 ∷ 2 ∷ [] → s.state ≡ state →
     s.piece ≡ piece → r ≡ record s { slot = s.slot ++ zeros 61 } → length state ≡ 4096 → length piece ≤ 65535 →
     q ≡ record r { slot = r.slot ++ r.state ++ r.piece } → n ≡ length piece → length q.slot + (81920 - n) ≤ slot_length
 room_behind q r s state piece n a b d e long few f k =
-    omega (arith, ap (λ x. length x.slot) f, length-append (r.slot ++ r.state) r.piece, length-append r.slot r.state, ap
-    (λ x. length x.slot) e, ap (λ x. length x.state) e, ap (λ x. length x.piece) e, ap length a, ap length b, ap length
-    d, length-append s.slot (zeros 61), length_zeros 61)
+    omega (
+      arith,
+      ap (λ x. length x.slot) f,
+      length-append (r.slot ++ r.state) r.piece,
+      length-append r.slot r.state,
+      ap
+          (λ x. length x.slot) e,
+      ap (λ x. length x.state) e,
+      ap (λ x. length x.piece) e,
+      ap length a,
+      ap length b,
+      ap length
+          d,
+      length-append s.slot (zeros 61),
+      length_zeros 61,
+    )
 
 -- what is shown stays in the room while slots are kept in it
 pub state_stays : (w : Slot) (kept : Option SlotState) (room : Room) → (with_kept w kept room).state ≡ room.state
@@ -160,66 +181,66 @@ brought_names state n =
 -- a slot that was read, and the state that was taken out of it
 module _ (w : Slot) (kept : SlotState) (old shown now : Room) (n : length old.slot ≡ 86080)
     (t : has_state old.slot ≡ true) (k : kept ≡ record { records = number_at 0 old.slot; state = slot_state old.slot })
-    where
-  told : kept.state ≡ slot_state old.slot
-  told = ap (λ x. x.state) k
+  where
+    told : kept.state ≡ slot_state old.slot
+    told = ap (λ x. x.state) k
 
-  -- of version 2
-  pub taken_shows : (digest : List ℕ) → is_second old.slot ≡ true →
-      shown ≡ record old { state = kept.state; piece = stretch 4160 (piece_length kept.state) old.slot } →
-      now ≡ with_kept w (Some kept) shown →
-      slot_shows digest old.slot ≡ Shown digest (take state_length now.state) now.piece
-  taken_shows digest e s f =
-      let a : now.state ≡ slot_state old.slot = ap (λ r. r.state) f ∙ (state_stays w (Some kept) shown ∙ (ap (λ r. r.state) s ∙ told)) in
-      let b : now.piece ≡ stretch 4160 (piece_length (slot_state old.slot)) old.slot =
-      ap (λ r. r.piece) f ∙ (piece_stays w (Some kept) shown
-      ∙ (ap (λ r. r.piece) s ∙ ap (λ l. stretch 4160 (piece_length l) old.slot) told)) in
-      kept_shows digest old.slot (number_at 0 old.slot) (slot_state old.slot) (state_has old.slot e t)
-      ∙ (ap (λ l. Shown digest (take state_length l) (stretch 4160 (piece_length (slot_state old.slot)) old.slot))
-      (sym a) ∙ ap (Shown digest (take state_length now.state)) (sym b))
+    -- of version 2
+    pub taken_shows : (digest : List ℕ) → is_second old.slot ≡ true →
+        shown ≡ record old { state = kept.state; piece = stretch 4160 (piece_length kept.state) old.slot } →
+        now ≡ with_kept w (Some kept) shown →
+        slot_shows digest old.slot ≡ Shown digest (take state_length now.state) now.piece
+    taken_shows digest e s f =
+        let a : now.state ≡ slot_state old.slot = ap (λ r. r.state) f ∙ (state_stays w (Some kept) shown ∙ (ap (λ r. r.state) s ∙ told)) in
+        let b : now.piece ≡ stretch 4160 (piece_length (slot_state old.slot)) old.slot =
+        ap (λ r. r.piece) f ∙ (piece_stays w (Some kept) shown
+        ∙ (ap (λ r. r.piece) s ∙ ap (λ l. stretch 4160 (piece_length l) old.slot) told)) in
+        kept_shows digest old.slot (number_at 0 old.slot) (slot_state old.slot) (state_has old.slot e t)
+        ∙ (ap (λ l. Shown digest (take state_length l) (stretch 4160 (piece_length (slot_state old.slot)) old.slot))
+        (sym a) ∙ ap (Shown digest (take state_length now.state)) (sym b))
 
-  pub taken_kept : is_second old.slot ≡ true →
-      shown ≡ record old { state = kept.state; piece = stretch 4160 (piece_length kept.state) old.slot } →
-      now ≡ with_kept w (Some kept) shown →
-      now ≡ with_kept w (kept_slot old.slot) (record old { state = now.state; piece = now.piece })
-  taken_kept e s f =
-      let a : now.state ≡ kept.state = ap (λ r. r.state) f ∙ (state_stays w (Some kept) shown ∙ ap (λ r. r.state) s) in
-      let b : now.piece ≡ stretch 4160 (piece_length kept.state) old.slot = ap (λ r. r.piece) f ∙ (piece_stays w (Some kept) shown ∙ ap (λ r. r.piece) s) in
-      let q : Some kept ≡ kept_slot old.slot = ap Some k ∙ sym (kept_of_both old.slot e t) in
-      let r : shown ≡ record old { state = now.state; piece = now.piece } =
-      s ∙ (ap (λ l. record old { state = l; piece = stretch 4160 (piece_length kept.state) old.slot }) (sym a)
-      ∙ ap (λ l. record old { state = now.state; piece = l }) (sym b)) in
-      f ∙ (ap (λ x. with_kept w x shown) q ∙ ap (with_kept w (kept_slot old.slot)) r)
+    pub taken_kept : is_second old.slot ≡ true →
+        shown ≡ record old { state = kept.state; piece = stretch 4160 (piece_length kept.state) old.slot } →
+        now ≡ with_kept w (Some kept) shown →
+        now ≡ with_kept w (kept_slot old.slot) (record old { state = now.state; piece = now.piece })
+    taken_kept e s f =
+        let a : now.state ≡ kept.state = ap (λ r. r.state) f ∙ (state_stays w (Some kept) shown ∙ ap (λ r. r.state) s) in
+        let b : now.piece ≡ stretch 4160 (piece_length kept.state) old.slot = ap (λ r. r.piece) f ∙ (piece_stays w (Some kept) shown ∙ ap (λ r. r.piece) s) in
+        let q : Some kept ≡ kept_slot old.slot = ap Some k ∙ sym (kept_of_both old.slot e t) in
+        let r : shown ≡ record old { state = now.state; piece = now.piece } =
+        s ∙ (ap (λ l. record old { state = l; piece = stretch 4160 (piece_length kept.state) old.slot }) (sym a)
+        ∙ ap (λ l. record old { state = now.state; piece = l }) (sym b)) in
+        f ∙ (ap (λ x. with_kept w x shown) q ∙ ap (with_kept w (kept_slot old.slot)) r)
 
-  -- of version 1
-  pub brought_shows : (digest state : List ℕ) → is_second old.slot ≡ false →
-      state ≡ take first_length kept.state ++ zeros 2725 →
-      shown ≡ record old { state = state; piece = stretch 4160 (piece_length state) old.slot } →
-      now ≡ with_kept w None shown → slot_shows digest old.slot ≡ Shown digest (take state_length now.state) now.piece
-  brought_shows digest state e i s f =
-      let long : length (slot_state old.slot) ≡ 4096 = state_long old.slot n in
-      let st : state ≡ take first_length (slot_state old.slot) ++ zeros 2725 = i ∙ ap (λ l. take first_length l ++ zeros 2725) told in
-      let a : now.state ≡ state = ap (λ r. r.state) f ∙ (state_stays w None shown ∙ ap (λ r. r.state) s) in
-      let b : now.piece ≡ stretch 4160 (piece_length state) old.slot = ap (λ r. r.piece) f ∙ (piece_stays w None shown ∙ ap (λ r. r.piece) s) in
-      let c : take state_length now.state ≡ take first_length (slot_state old.slot) ++ zeros 2048 =
-      ap (take state_length) (a ∙ st) ∙ brought_shown (slot_state old.slot) long in
-      let p : now.piece ≡ slot_piece old.slot = b ∙ ap (λ m. stretch 4160 m old.slot) (ap piece_length st ∙ brought_names (slot_state old.slot) long) in
-      sound_shows digest old.slot t
-      ∙ (ap (λ x. Shown digest (if x then take state_length (slot_state old.slot) else take first_length
-      (slot_state old.slot) ++ zeros 2048) (slot_piece old.slot)) e
-      ∙ (ap (λ l. Shown digest l (slot_piece old.slot)) (sym c) ∙ ap (Shown digest (take state_length now.state)) (sym p)))
+    -- of version 1
+    pub brought_shows : (digest state : List ℕ) → is_second old.slot ≡ false →
+        state ≡ take first_length kept.state ++ zeros 2725 →
+        shown ≡ record old { state = state; piece = stretch 4160 (piece_length state) old.slot } →
+        now ≡ with_kept w None shown → slot_shows digest old.slot ≡ Shown digest (take state_length now.state) now.piece
+    brought_shows digest state e i s f =
+        let long : length (slot_state old.slot) ≡ 4096 = state_long old.slot n in
+        let st : state ≡ take first_length (slot_state old.slot) ++ zeros 2725 = i ∙ ap (λ l. take first_length l ++ zeros 2725) told in
+        let a : now.state ≡ state = ap (λ r. r.state) f ∙ (state_stays w None shown ∙ ap (λ r. r.state) s) in
+        let b : now.piece ≡ stretch 4160 (piece_length state) old.slot = ap (λ r. r.piece) f ∙ (piece_stays w None shown ∙ ap (λ r. r.piece) s) in
+        let c : take state_length now.state ≡ take first_length (slot_state old.slot) ++ zeros 2048 =
+        ap (take state_length) (a ∙ st) ∙ brought_shown (slot_state old.slot) long in
+        let p : now.piece ≡ slot_piece old.slot = b ∙ ap (λ m. stretch 4160 m old.slot) (ap piece_length st ∙ brought_names (slot_state old.slot) long) in
+        sound_shows digest old.slot t
+        ∙ (ap (λ x. Shown digest (if x then take state_length (slot_state old.slot) else take first_length
+        (slot_state old.slot) ++ zeros 2048) (slot_piece old.slot)) e
+        ∙ (ap (λ l. Shown digest l (slot_piece old.slot)) (sym c) ∙ ap (Shown digest (take state_length now.state)) (sym p)))
 
-  pub brought_kept : (state : List ℕ) → is_second old.slot ≡ false →
-      shown ≡ record old { state = state; piece = stretch 4160 (piece_length state) old.slot } →
-      now ≡ with_kept w None shown → now
-      ≡ with_kept w (kept_slot old.slot) (record old { state = now.state; piece = now.piece })
-  brought_kept state e s f =
-      let a : now.state ≡ state = ap (λ r. r.state) f ∙ (state_stays w None shown ∙ ap (λ r. r.state) s) in
-      let b : now.piece ≡ stretch 4160 (piece_length state) old.slot = ap (λ r. r.piece) f ∙ (piece_stays w None shown ∙ ap (λ r. r.piece) s) in
-      let r : shown ≡ record old { state = now.state; piece = now.piece } =
-      s ∙ (ap (λ l. record old { state = l; piece = stretch 4160 (piece_length state) old.slot }) (sym a)
-      ∙ ap (λ l. record old { state = now.state; piece = l }) (sym b)) in
-      f ∙ (ap (λ x. with_kept w x shown) (sym (kept_of_first old.slot e)) ∙ ap (with_kept w (kept_slot old.slot)) r)
+    pub brought_kept : (state : List ℕ) → is_second old.slot ≡ false →
+        shown ≡ record old { state = state; piece = stretch 4160 (piece_length state) old.slot } →
+        now ≡ with_kept w None shown → now
+        ≡ with_kept w (kept_slot old.slot) (record old { state = now.state; piece = now.piece })
+    brought_kept state e s f =
+        let a : now.state ≡ state = ap (λ r. r.state) f ∙ (state_stays w None shown ∙ ap (λ r. r.state) s) in
+        let b : now.piece ≡ stretch 4160 (piece_length state) old.slot = ap (λ r. r.piece) f ∙ (piece_stays w None shown ∙ ap (λ r. r.piece) s) in
+        let r : shown ≡ record old { state = now.state; piece = now.piece } =
+        s ∙ (ap (λ l. record old { state = l; piece = stretch 4160 (piece_length state) old.slot }) (sym a)
+        ∙ ap (λ l. record old { state = now.state; piece = l }) (sym b)) in
+        f ∙ (ap (λ x. with_kept w x shown) (sym (kept_of_first old.slot e)) ∙ ap (with_kept w (kept_slot old.slot)) r)
 
 -- what is kept of a slot that was read
 pub kept_is_none : (bytes : List ℕ) → has_state bytes ≡ false → None ≡ kept_slot bytes

@@ -8,8 +8,8 @@ use Rattle.std.proofs.lemmas.Iterator.Adapters.{position_from-zero}
 use Rattle.std.proofs.lemmas.List.{length-append, length-take-le, take_all, drop_all}
 use Rattle.std.proofs.Math.Seq.{take-suc, drop-cons, set-append_seam}
 use Rattle.paw_journal.specs.Session.{Change, changes, changed, is_sound, first_unsound}
-use Rattle.paw_journal.specs.Written.{differing}
-use Rattle.paw_journal.specs.Steps.{Turns}
+use Rattle.paw_journal.specs.inner.Written.{differing}
+use Rattle.paw_journal.specs.inner.Steps.{Turns}
 
 pub changes-append : (n : ℕ) (a b : List ℕ) → length a ≡ 4 * n → changes (a ++ b) ≡ changes a ++ changes b
 changes-append zero [] b e = refl
@@ -72,8 +72,13 @@ pub record TurnsTo (old new : List ℕ) (i : ℕ) (records : List ℕ) : Type 0 
 
 pub turns_none : (old new records : List ℕ) → records ≡ [] → TurnsTo old new 0 records
 unfolding differing
-turns_none old new records e = record { many = ap length e; few = omega (arith, ap length e); sound =
-    ap (λ r. first_unsound (changes r)) e; turned = ap (λ r. changed (changes r) old) e }
+turns_none old new records e = record {
+  many = ap length e;
+  few = omega (arith, ap length e);
+  sound =
+      ap (λ r. first_unsound (changes r)) e;
+  turned = ap (λ r. changed (changes r) old) e;
+}
 
 more : (old new : List ℕ) (i : ℕ) → length old ≡ length new → i < length old →
     differing (take (suc i) old) (take (suc i) new)

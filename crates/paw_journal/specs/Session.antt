@@ -1,5 +1,5 @@
 -- How a session lies in the bytes of a store, and what bytes of a store stand for.
-use Rattle.std.specs.Prelude.{◌≡◌, ◌==◌, ◌&&◌, ◌||◌, ℕ, ◌+◌, ◌-◌, ◌*◌, ◌%◌, Bool, not, is_none, nat_lt, nat_le, List}
+use Rattle.std.specs.Prelude.{◌==◌, ◌&&◌, ◌||◌, ℕ, ◌+◌, ◌-◌, ◌*◌, ◌%◌, Bool, not, nat_lt, nat_le, List}
 use Rattle.std.specs.Prelude.{[]}
 use Rattle.std.specs.Prelude.{◌∷◌, ◌++◌, length, take, drop, slice_index, slice_set, position, Option, Some}
 use Rattle.std.specs.Prelude.{None, if◌then◌else◌}
@@ -100,10 +100,6 @@ abbrev pub changed : List Change → List ℕ → List ℕ
 changed [] bytes = bytes
 changed (c ∷ more) bytes = changed more (slice_set bytes c.at c.byte)
 
--- A slot's state is its base with its change records applied. It has one where these are few enough, and each is sound.
-abbrev pub has_state : List ℕ → Bool
-has_state bytes = nat_le (number_at 0 bytes) most_changes && is_none (first_unsound (slot_changes bytes))
-
 -- The state of a slot: its base with its change records applied.
 abbrev pub slot_state : List ℕ → List ℕ
 slot_state bytes = changed (slot_changes bytes) (base bytes)
@@ -160,34 +156,8 @@ recover_by k bytes =
 unfoldable pub recover : List ℕ → Recovered
 recover bytes = recover_by (chosen bytes) bytes
 
--- What the session of the game with this digest shows that has this state and this piece.
-abbrev pub showing : List ℕ → List ℕ → List ℕ → Recovered
-showing digest state piece = Shown digest (take state_length state) piece
-
--- A slot with these bytes is damaged at this place.
-abbrev pub IsDamagedAt : List ℕ → List ℕ → ℕ → Type 0
-IsDamagedAt digest bytes at = slot_shows digest bytes ≡ Damaged part.Slot at
-
 -- The bytes do not hold a session.
 abbrev pub IsUnmade : Recovered → Type 0
 IsUnmade (Unmade n m) = Unit {0}
 IsUnmade (Damaged p at) = ⊥
 IsUnmade (Shown d s p) = ⊥
-
--- A slot, and a session, as they are made. Both slots show the same.
-abbrev pub made_slot : List ℕ → List ℕ → List ℕ
-made_slot state piece = 0 ∷ 0 ∷ 2 ∷ zeros 61 ++ state ++ piece ++ zeros (81920 - length piece)
-
-abbrev pub made_header : ℕ → List ℕ → List ℕ
-made_header mark digest = mark ∷ 0 ∷ 2 ∷ zeros 29 ++ digest ++ zeros 64
-
-abbrev pub made_session : List ℕ → List ℕ → List ℕ → List ℕ
-made_session digest state piece = made_header made_mark digest ++ made_slot state piece ++ made_slot state piece
-
--- A session as it is laid out, with these bytes in both slots: all but its mark.
-abbrev pub laid_session : List ℕ → List ℕ → List ℕ
-laid_session digest bytes = made_header 0 digest ++ bytes ++ bytes
-
--- These bytes, with the mark of a session that is made.
-abbrev pub marked : List ℕ → List ℕ
-marked bytes = made_mark ∷ drop 1 bytes

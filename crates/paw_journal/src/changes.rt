@@ -3,7 +3,7 @@
 ghost use Rattle.std.specs.Prelude.{◌≡◌, ◌+◌, ◌*◌, ◌/◌, ◌%◌, ◌<◌, ◌≤◌, [], ◌∷◌, ◌++◌, length, None, IfSome};
 ghost use Rattle.std.specs.Prelude.{vec_capacity};
 ghost use Rattle.paw_journal.specs.Session.{changes, changed, first_unsound};
-ghost use Rattle.paw_journal.specs.Steps.{Turns};
+ghost use Rattle.paw_journal.specs.inner.Steps.{Turns};
 
 use crate::layout::BASE_LENGTH;
 

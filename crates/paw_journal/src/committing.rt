@@ -1,16 +1,19 @@
 // The steps of a commit: the slot that isn't in use, and then the selector.
 
 ghost use Rattle.std.specs.Prelude.{◌≡◌, ◌+◌, ◌-◌, ◌≤◌, ◌↔◌, length, IsSome, OnOk, IfErr};
-ghost use Rattle.paw_base.specs.Piece.{piece_limit};
+ghost use Rattle.paw_base.specs.inner.Piece.{piece_limit};
 ghost use Rattle.paw_stage.specs.Disk.{put};
-ghost use Rattle.paw_stage.specs.Stage.{Standing, Faulted, WritesAtMost};
-ghost use Rattle.paw_stage.specs.Across.{Across, Once, EachMoment, Throughout};
+ghost use Rattle.paw_stage.specs.Stage.{Standing, Faulted};
+ghost use Rattle.paw_stage.specs.inner.Stage.{WritesAtMost};
+ghost use Rattle.paw_stage.specs.Across.{Across, EachMoment};
+ghost use Rattle.paw_stage.specs.inner.Across.{Once, Throughout};
 ghost use Rattle.paw_journal.specs.Session.{chosen, session_length, slot_length};
-ghost use Rattle.paw_journal.specs.Room.{slot_number};
-ghost use Rattle.paw_journal.specs.Store.{IsBeside, LeavesSame, LeavesSlot};
-ghost use Rattle.paw_journal.specs.Steps.{IsMade, IsFilling, KeepsFilling, Fills, SameSlots, SameDigest, ChoosesSlot};
-ghost use Rattle.paw_journal.specs.Steps.{slot_head, written_slot};
-ghost use Rattle.paw_journal.specs.Journal.{IsAtRest, IsWriting, failed_call};
+ghost use Rattle.paw_journal.specs.inner.Room.{slot_number};
+ghost use Rattle.paw_journal.specs.inner.Store.{IsBeside, LeavesSame, LeavesSlot};
+ghost use Rattle.paw_journal.specs.inner.Steps.{IsMade, IsFilling, KeepsFilling, Fills, SameSlots, SameDigest, ChoosesSlot};
+ghost use Rattle.paw_journal.specs.inner.Steps.{slot_head, written_slot};
+ghost use Rattle.paw_journal.specs.Journal.{IsWriting};
+ghost use Rattle.paw_journal.specs.inner.Journal.{IsAtRest, failed_call};
 
 use crate::drafting::Draft;
 use crate::layout::{PIECE_AT, SELECTOR_AT, Slot, VERSION};

@@ -3,10 +3,10 @@
 ghost use Rattle.std.specs.Prelude.{◌≡◌, ◌≢◌, ◌↔◌, ℕ, None, List, length, take, IfOk, IfErr, IsSome};
 ghost use Rattle.paw_stage.specs.Stage.{Faulted};
 ghost use Rattle.paw_stage.specs.Moments.{Still};
-ghost use Rattle.paw_stage.specs.Across.{Throughout};
+ghost use Rattle.paw_stage.specs.inner.Across.{Throughout};
 ghost use Rattle.paw_journal.specs.Session.{recover, is_version, header_length, session_length};
-ghost use Rattle.paw_journal.specs.Steps.{IsHeaderOf};
-ghost use Rattle.paw_journal.specs.Journal.{IsRefused, IsCaused, refused_call, outside};
+ghost use Rattle.paw_journal.specs.inner.Steps.{IsHeaderOf};
+ghost use Rattle.paw_journal.specs.inner.Journal.{IsRefused, IsCaused, refused_call, outside};
 
 use crate::layout::{
     DIGEST_AT, DIGEST_LENGTH, FIRST_VERSION, HEADER_LENGTH, MADE, MARK_AT, SELECTOR_AT,

@@ -3,12 +3,14 @@
 ghost use Rattle.std.specs.Prelude.{◌≡◌, ◌↔◌, length, OnOk, IfOk, IfErr};
 ghost use Rattle.paw_stage.specs.Stage.{Faulted};
 ghost use Rattle.paw_stage.specs.Moments.{Still};
-ghost use Rattle.paw_stage.specs.Across.{Across, Once, Throughout};
+ghost use Rattle.paw_stage.specs.Across.{Across};
+ghost use Rattle.paw_stage.specs.inner.Across.{Once, Throughout};
 ghost use Rattle.paw_journal.specs.Session.{recover, kept_digest, piece_length};
-ghost use Rattle.paw_journal.specs.Written.{WritesLittle};
-ghost use Rattle.paw_journal.specs.Store.{IsBeside, LeavesMade, LeavesOldOr};
-ghost use Rattle.paw_journal.specs.Steps.{HoldsMade, Shows, ShowsNext, SameDigest};
-ghost use Rattle.paw_journal.specs.Journal.{IsAtRest, Keeps, Finds, IsCaused, IsWriting, failed_call, refused_call};
+ghost use Rattle.paw_journal.specs.inner.Written.{WritesLittle};
+ghost use Rattle.paw_journal.specs.inner.Store.{IsBeside, LeavesMade, LeavesOldOr};
+ghost use Rattle.paw_journal.specs.inner.Steps.{HoldsMade, Shows, ShowsNext, SameDigest};
+ghost use Rattle.paw_journal.specs.Journal.{IsWriting};
+ghost use Rattle.paw_journal.specs.inner.Journal.{IsAtRest, Keeps, Finds, IsCaused, failed_call, refused_call};
 
 use crate::committing::{choose, write_slot};
 use crate::drafting::SlotState;

@@ -2,7 +2,7 @@
 
 ghost use Rattle.std.specs.Prelude.{◌≡◌, ◌+◌, ◌-◌, ◌*◌, ◌%◌, ◌<◌, ◌≤◌, length};
 ghost use Rattle.paw_journal.specs.Session.{number_at, header_length, slot_length};
-ghost use Rattle.paw_journal.specs.Room.{slot_number};
+ghost use Rattle.paw_journal.specs.inner.Room.{slot_number};
 
 /// The length of a session: a header and two slots.
 pub(crate) const SESSION_LENGTH: u64 = 172_288;

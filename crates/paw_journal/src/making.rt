@@ -2,12 +2,15 @@
 
 ghost use Rattle.std.specs.Prelude.{◌≡◌, ◌↔◌, [], ◌∷◌, length, IsSome, OnOk, IfErr};
 ghost use Rattle.paw_stage.specs.Stage.{Faulted};
-ghost use Rattle.paw_stage.specs.Across.{Across, Once, Throughout};
-ghost use Rattle.paw_journal.specs.Session.{session_length, header_length, slot_length, made_header, laid_session};
-ghost use Rattle.paw_journal.specs.Session.{marked};
-ghost use Rattle.paw_journal.specs.Store.{IsBeside, HoldsStable, LaysSlots, LeavesUnmade, LeavesMarked};
-ghost use Rattle.paw_journal.specs.Steps.{IsBlank};
-ghost use Rattle.paw_journal.specs.Journal.{IsAtRest, IsWriting, failed_call};
+ghost use Rattle.paw_stage.specs.Across.{Across};
+ghost use Rattle.paw_stage.specs.inner.Across.{Once, Throughout};
+ghost use Rattle.paw_journal.specs.Session.{session_length, header_length, slot_length};
+ghost use Rattle.paw_journal.specs.inner.Session.{made_header, laid_session};
+ghost use Rattle.paw_journal.specs.inner.Session.{marked};
+ghost use Rattle.paw_journal.specs.inner.Store.{IsBeside, HoldsStable, LaysSlots, LeavesUnmade, LeavesMarked};
+ghost use Rattle.paw_journal.specs.inner.Steps.{IsBlank};
+ghost use Rattle.paw_journal.specs.Journal.{IsWriting};
+ghost use Rattle.paw_journal.specs.inner.Journal.{IsAtRest, failed_call};
 
 use crate::layout::{
     DIGEST_AT, DIGEST_LENGTH, HEADER_LENGTH, MADE, MARK_AT, SELECTOR_AT, Slot, VERSION, VERSION_AT,

@@ -1,16 +1,17 @@
 // The buffers of a journal.
 
 ghost use Rattle.std.specs.Prelude.{true, ◌≡◌, ◌+◌, ◌≤◌, ◌↔◌, [], ◌∷◌, ◌++◌, ℕ, List, length, IsSome, OnOk, IfErr};
-ghost use Rattle.paw_base.specs.Piece.{piece_limit};
+ghost use Rattle.paw_base.specs.inner.Piece.{piece_limit};
 ghost use Rattle.paw_stage.specs.declared.StageCall.TheVariants as call;
 ghost use Rattle.paw_stage.specs.Stage.{Faulted};
 ghost use Rattle.paw_stage.specs.Moments.{Still};
-ghost use Rattle.paw_stage.specs.Across.{Throughout};
-ghost use Rattle.paw_journal.specs.Session.{slot_length, session_length, has_state, zeros, made_slot, IsDamagedAt};
-ghost use Rattle.paw_journal.specs.Room.{kept_slot, kept_of, with_kept, with_made, with_state, state_in};
-ghost use Rattle.paw_journal.specs.Room.{HasRead, ShowsSlot, KeepsRead};
-ghost use Rattle.paw_journal.specs.Steps.{Drafts};
-ghost use Rattle.paw_journal.specs.Journal.{failed_call};
+ghost use Rattle.paw_stage.specs.inner.Across.{Throughout};
+ghost use Rattle.paw_journal.specs.Session.{slot_length, session_length, zeros};
+ghost use Rattle.paw_journal.specs.inner.Session.{has_state, made_slot, IsDamagedAt};
+ghost use Rattle.paw_journal.specs.inner.Room.{kept_slot, kept_of, with_kept, with_made, with_state, state_in};
+ghost use Rattle.paw_journal.specs.inner.Room.{HasRead, ShowsSlot, KeepsRead};
+ghost use Rattle.paw_journal.specs.inner.Steps.{Drafts};
+ghost use Rattle.paw_journal.specs.inner.Journal.{failed_call};
 
 use crate::drafting::{Draft, SlotState, draft_over};
 use crate::layout::{
@@ -36,9 +37,9 @@ pub struct Room {
 
 impl Model for Room {
     ghost use Rattle.std.specs.Prelude.{◌≤◌, vec_capacity};
-    ghost use Rattle.paw_base.specs.Piece.{piece_limit};
+    ghost use Rattle.paw_base.specs.inner.Piece.{piece_limit};
     ghost use Rattle.paw_journal.specs.Session.{slot_length};
-    ghost use Rattle.paw_journal.specs.Room.{Room};
+    ghost use Rattle.paw_journal.specs.inner.Room.{Room};
 
     ghost Value = { Room };
 

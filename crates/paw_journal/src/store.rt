@@ -3,11 +3,13 @@
 ghost use Rattle.std.specs.Prelude.{◌≡◌, ◌↔◌, ◌+◌, ◌≤◌, length, IsSome, OnOk, OnErr, IfOk, IfErr};
 ghost use Rattle.paw_stage.specs.declared.StageCall.TheVariants as call;
 ghost use Rattle.paw_stage.specs.Disk.{IsStable};
-ghost use Rattle.paw_stage.specs.Stage.{Faulted, Unattached, WritesSome, WritesAtMost, part_of, with_written, settled};
+ghost use Rattle.paw_stage.specs.Stage.{Faulted, Unattached, WritesSome, part_of, with_written, settled};
+ghost use Rattle.paw_stage.specs.inner.Stage.{WritesAtMost};
 ghost use Rattle.paw_stage.specs.Moments.{Still, InAttach, InWrite, InSync};
-ghost use Rattle.paw_stage.specs.Across.{Across, Once, Throughout};
-ghost use Rattle.paw_journal.specs.Store.{IsBeside, Opens};
-ghost use Rattle.paw_journal.specs.Journal.{IsAtRest, failed_call};
+ghost use Rattle.paw_stage.specs.Across.{Across};
+ghost use Rattle.paw_stage.specs.inner.Across.{Once, Throughout};
+ghost use Rattle.paw_journal.specs.inner.Store.{IsBeside, Opens};
+ghost use Rattle.paw_journal.specs.inner.Journal.{IsAtRest, failed_call};
 
 use paw_stage::{Stage, StageCall};
 

@@ -2,9 +2,9 @@
 
 ghost use Rattle.std.specs.Prelude.{◌≡◌, ◌↔◌, ◌<◌, ◌≤◌, true, length, IfOk};
 ghost use Rattle.paw_stage.specs.Disk.{IsStable};
-ghost use Rattle.paw_stage.specs.Memory.{standing_of};
+ghost use Rattle.paw_stage.specs.inner.Memory.{standing_of};
 ghost use Rattle.paw_journal.specs.Session.{piece_length};
-ghost use Rattle.paw_journal.specs.Journal.{Keeps};
+ghost use Rattle.paw_journal.specs.inner.Journal.{Keeps};
 
 use crate::layout::{PIECE_LENGTH_AT, number_at};
 use crate::{Journal, JournalRefusal, Room, SessionPart, attach, digest};

@@ -7,7 +7,8 @@ use Rattle.std.proofs.lemmas.List.{take-take, take_all, drop_all, get_or-take, l
 use Rattle.std.proofs.lemmas.Slice.{between_is}
 use Rattle.std.proofs.lemmas.List.Sums.{fails_before_first, passes_at_first, prefix_len-le-length}
 use Rattle.std.proofs.lemmas.List.Splits.{slice_split_none, slice_split_first, length-slice_split}
-use Rattle.paw_lex.specs.Lines.{IsLineEnd, lines_of}
+use Rattle.paw_lex.specs.Lines.{lines_of}
+use Rattle.paw_lex.specs.inner.Lines.{IsLineEnd}
 use Rattle.paw_lex.proofs.Slices.{take-slice_range, drop-slice_range, slice_range-slice_range, before_first-drop, slice_range-one, slice_range-two}
 
 -- a part with parts behind it is a line that ended

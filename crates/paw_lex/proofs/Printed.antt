@@ -8,7 +8,8 @@ use Rattle.std.proofs.lemmas.List.Splits.{slice_split_at, length-slice_split}
 use Rattle.std.proofs.lemmas.List.Sums.{AllPass-from_list_all}
 use Rattle.paw_lex.specs.Bytes.{is_printed_byte}
 use Rattle.paw_lex.specs.Lines.{lines_of}
-use Rattle.paw_lex.specs.Tokens.{ends_token, tokens_of}
+use Rattle.paw_lex.specs.Tokens.{tokens_of}
+use Rattle.paw_lex.specs.inner.Tokens.{ends_token}
 use Rattle.paw_lex.proofs.LineCuts.{lines_of_parts-cons}
 use Rattle.paw_lex.proofs.Slices.{before_first-cons}
 use Rattle.paw_lex.proofs.TokenCuts.{tokens_of-blank, token_first}

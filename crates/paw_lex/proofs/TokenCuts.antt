@@ -4,7 +4,8 @@ use Rattle.std.specs.List.{before_first, list_all, position_or_len, prefix_len, 
 use Rattle.std.proofs.lemmas.Bool.{eqb-true, lt-ltb, or_right, cases_lt}
 use Rattle.std.proofs.lemmas.List.{length-take-le, take_rest, drop-drop}
 use Rattle.std.proofs.lemmas.List.Sums.{prefix_len-le-length, prefix_len-drop_no, prefix_len-drop_all, prefix_len_stops}
-use Rattle.paw_lex.specs.Tokens.{is_blank, ends_token, tokens_of}
+use Rattle.paw_lex.specs.Tokens.{is_blank, tokens_of}
+use Rattle.paw_lex.specs.inner.Tokens.{ends_token}
 use Rattle.paw_lex.proofs.Slices.{before_first-cons, drop-slice_range, slice_range-slice_range, take-slice_range}
 
 abbrev pieces : List ℕ → List (List ℕ)

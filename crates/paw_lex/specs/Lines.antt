@@ -1,30 +1,9 @@
 -- The lines of a source.
-use Rattle.std.specs.Prelude.{◌≡◌, ℕ, ◌≤◌, ◌⊎◌, ◌==◌, List, [], ◌∷◌, length, slice_range}
+use Rattle.std.specs.Prelude.{ℕ, ◌==◌, List}
 use Rattle.std.specs.List.{before_first}
 use Rattle.std.specs.Str.Lines.{lines}
-use Rattle.paw_lex.specs.declared.lines.Line.{Line}
 
 -- The lines of a source. It ends before its first byte 0x1A, where there is one. An LF ends a line, and a CR right before it
 -- belongs to the line end. A last line without LF is a line; nothing after the last LF is none.
 unfoldable pub lines_of : List ℕ → List (List ℕ)
 lines_of source = lines (before_first (λ b. b == 0x1A) source)
-
--- Where a walk over the lines of a source stands: how many lines it has given, the place where the next one begins, and
--- the lines that are left.
-pub record Walk : Type 0 where
-  pub source : List ℕ
-  pub given : ℕ
-  pub at : ℕ
-  pub left : List (List ℕ)
-
--- the bytes of a line of the source
-abbrev pub bytes_of : List ℕ → Line → List ℕ
-bytes_of source line = slice_range source line.from line.to
-
--- the line's span lies in the source
-abbrev pub LiesIn : List ℕ → Line → Type 0
-LiesIn source line = (line.from ≤ line.to) × (line.to ≤ length source)
-
--- LF, or CR and LF
-abbrev pub IsLineEnd : List ℕ → Type 0
-IsLineEnd bytes = (bytes ≡ 10 ∷ []) ⊎ (bytes ≡ 13 ∷ 10 ∷ [])

@@ -3,7 +3,8 @@
 ghost use Rattle.std.specs.Prelude.{◌≡◌, ℕ, ◌<◌, ◌≤◌, ◌+◌, ◌==◌, ◌⊎◌, List, [], ◌∷◌, length, take, drop, slice_index, slice_range, MatchOption, IfSome, IfNone};
 ghost use Rattle.std.specs.List.{position_or_len};
 ghost use Rattle.std.specs.Str.Lines.{lines, strip_carriage_return};
-ghost use Rattle.paw_lex.specs.Lines.{lines_of, bytes_of, LiesIn, IsLineEnd};
+ghost use Rattle.paw_lex.specs.Lines.{lines_of};
+ghost use Rattle.paw_lex.specs.inner.Lines.{bytes_of, LiesIn, IsLineEnd};
 
 use std::marker::Model;
 
@@ -90,7 +91,8 @@ impl<'a> Model for Lines<'a> {
     ghost use Rattle.std.specs.Prelude.{◌≡◌, ◌≤◌, ◌==◌, length, drop};
     ghost use Rattle.std.specs.List.{position_or_len};
     ghost use Rattle.paw_lex.specs.declared.lines.TheConstants.{MAX_SOURCE_LEN};
-    ghost use Rattle.paw_lex.specs.Lines.{Walk, lines_of};
+    ghost use Rattle.paw_lex.specs.Lines.{lines_of};
+    ghost use Rattle.paw_lex.specs.inner.Lines.{Walk};
 
     ghost Value = { Walk };
 

@@ -2,8 +2,9 @@
 
 ghost use Rattle.std.specs.Prelude.{◌≡◌, ◌<◌, ◌≤◌, List, [], ◌∷◌, length, take, drop, slice_range, MatchOption, IfSome};
 ghost use Rattle.std.specs.List.{prefix_len, position_or_len};
-ghost use Rattle.paw_lex.specs.Lines.{LiesIn};
-ghost use Rattle.paw_lex.specs.Tokens.{is_blank, AreBlanks, ends_token, tokens_of, tokens_from};
+ghost use Rattle.paw_lex.specs.inner.Lines.{LiesIn};
+ghost use Rattle.paw_lex.specs.Tokens.{is_blank, tokens_of};
+ghost use Rattle.paw_lex.specs.inner.Tokens.{AreBlanks, ends_token, tokens_from};
 
 use crate::lines::Line;
 

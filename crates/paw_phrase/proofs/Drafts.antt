@@ -11,7 +11,7 @@ use Rattle.paw_phrase.specs.declared.next.Part.TheVariants as part
 use Rattle.paw_phrase.specs.declared.next.Draft.{Draft}
 use Rattle.paw_phrase.specs.Phrase.{Mark, marks, is_parting, from_phrase, token_of, phrase_tokens, bytes_after, Phrase, phrase_of, phrase}
 use Rattle.paw_phrase.specs.Sentence.{blank, with_word, with_tokens, has_known, finished, Parsed, IsSentence, IsUnknown, IsNoPhrase, parsed_phrase, parsed}
-use Rattle.paw_phrase.specs.Draft.{part_of_word, part_of, with_part, started, outcome}
+use Rattle.paw_phrase.specs.inner.Draft.{part_of_word, part_of, with_part, started, outcome}
 
 -- after a part the draft goes on, or its phrase has ended
 abbrev pub after_part : Option Draft → Parsed → (Draft → Parsed) → Parsed

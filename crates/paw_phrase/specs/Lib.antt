@@ -1,5 +1,4 @@
 pub mod Pending
 pub mod Phrase
 pub mod Sentence
-pub mod Draft
-pub mod Taking
+pub mod inner

@@ -2,8 +2,8 @@
 
 ghost use Rattle.std.specs.Prelude.{◌≡◌, ◌≤◌, ℕ, length, drop};
 ghost use Rattle.paw_phrase.specs.Sentence.{parsed};
-ghost use Rattle.paw_phrase.specs.Draft.{part_of, or_nothing, with_part, outcome};
-ghost use Rattle.paw_phrase.specs.Taking.{TakesPhrase};
+ghost use Rattle.paw_phrase.specs.inner.Draft.{part_of, or_nothing, with_part, outcome};
+ghost use Rattle.paw_phrase.specs.inner.Taking.{TakesPhrase};
 
 use crate::line::Pending;
 use crate::tokens::{LETTERS, first_mark};

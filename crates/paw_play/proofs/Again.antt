@@ -10,13 +10,14 @@ use Rattle.paw_reading.specs.Turn.{text_of}
 use Rattle.paw_journal.specs.Session.{recover}
 use Rattle.paw_state.specs.State.{State}
 use Rattle.paw_stage.specs.declared.StageCall.{StageCall}
-use Rattle.paw_journal.specs.Journal.{IsRefused, IsCaused, outside}
+use Rattle.paw_journal.specs.inner.Journal.{IsRefused, IsCaused, outside}
 use Rattle.paw_journal.specs.declared.refusal.JournalRefusal.{JournalRefusal}
 use Rattle.paw_journal.specs.declared.refusal.JournalRefusal.TheVariants as refusal
-use Rattle.paw_play.specs.Calls.{IfOutside, IsSessionCall, failed_call}
+use Rattle.paw_play.specs.Calls.{IsSessionCall}
+use Rattle.paw_play.specs.inner.Calls.{IfOutside, failed_call}
 use Rattle.paw_play.specs.Session.{IsKept}
 use Rattle.paw_play.specs.Play.{InPlay, InAgain, ShowsState, attached_to, store_bytes, going_on, kept_session, PlaysAgain, refused, unread}
-use Rattle.paw_play.specs.OnTheWay.{end_of}
+use Rattle.paw_play.specs.inner.OnTheWay.{end_of}
 use Rattle.paw_journal.proofs.Disks.{stable_is, stable_leaves}
 use Rattle.paw_play.proofs.Attaching.{files_so, other_file, playing_from}
 use Rattle.paw_play.proofs.Showing.{state_kept}
@@ -53,7 +54,7 @@ module _ (g : Story) (digest name : List ℕ) (st : State) (piece : List ℕ) (o
       elim i.store [
         | inl before ↦ inl (record { asked = i.asked; shown = i.shown; files = i.files; store = inl before })
         | inr after ↦ inr (at_attached m i.asked i.shown (after.0 ∙ ap (λ (q : Standing). q.attached) is)
-        (λ n ne. files_so old name m.files n ne i.files) (after.1 ∙ ap (λ (q : Standing). q.disk) is))
+            (λ n ne. files_so old name m.files n ne i.files) (after.1 ∙ ap (λ (q : Standing). q.disk) is))
       ]
 
   -- while the session is found

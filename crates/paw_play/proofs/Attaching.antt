@@ -9,7 +9,7 @@ use Rattle.paw_journal.proofs.Disks.{stable_is, stable_leaves}
 use Rattle.paw_journal.specs.Session.{IsUnmade, recover, recover_by}
 use Rattle.paw_play.specs.Keeping.{InSession, InMakingOf}
 use Rattle.paw_play.specs.Play.{InGame, attached_to, store_bytes}
-use Rattle.paw_play.specs.OnTheWay.{IsStore}
+use Rattle.paw_play.specs.inner.OnTheWay.{IsStore}
 
 no_bytes : (bytes : List ℕ) → length bytes ≡ 0 → bytes ≡ []
 no_bytes [] h = refl

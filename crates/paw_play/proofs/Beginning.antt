@@ -8,19 +8,19 @@ use Rattle.paw_stage.specs.declared.StageCall.{StageCall}
 use Rattle.paw_stage.specs.declared.StageCall.TheVariants as call
 use Rattle.paw_journal.proofs.Disks.{stable_leaves}
 use Rattle.paw_reading.specs.Turn.{text_of}
-use Rattle.paw_turn.specs.Player.{Seat, IsSeated, Stands}
-use Rattle.paw_turn.specs.Player.{PlaysTo as StepsTo}
+use Rattle.paw_turn.specs.inner.Player.{Seat, IsSeated, Stands}
+use Rattle.paw_turn.specs.inner.Player.{PlaysTo as StepsTo}
 use Rattle.paw_turn.specs.declared.Step.{Step}
 use Rattle.paw_turn.specs.declared.Step.TheVariants as step
 use Rattle.paw_journal.specs.Session.{Shown, IsUnmade, recover, kept_digest}
-use Rattle.paw_journal.specs.Store.{IsBeside, InStore, Leaves}
+use Rattle.paw_journal.specs.inner.Store.{IsBeside, InStore, Leaves}
 use Rattle.paw_journal.specs.Journal.{IsWriting}
 use Rattle.paw_play.specs.declared.PlayEnd.{PlayEnd}
 use Rattle.paw_play.specs.declared.PlayEnd.TheVariants as end
 use Rattle.paw_play.specs.declared.TheConstants.{MOST_EVENTS}
 use Rattle.paw_play.specs.Walk.{Walks}
 use Rattle.paw_play.specs.Play.{Played, KeepsLines, InPlay, with_store}
-use Rattle.paw_play.specs.OnTheWay.{IsWalking, Told, ShowsPiece, refusal_of, seat_state, InMaking, Rests, IsPlaying, IsStore, BegunAs}
+use Rattle.paw_play.specs.inner.OnTheWay.{IsWalking, Told, ShowsPiece, refusal_of, seat_state, InMaking, Rests, IsPlaying, IsStore, BegunAs}
 use Rattle.paw_play.proofs.Kept.{step_kept}
 use Rattle.paw_play.proofs.Walking.{walk_begins, text_shown}
 use Rattle.paw_effects.specs.Story.{Story}
@@ -100,8 +100,16 @@ module _ {F : Type 0} (g : Story) (s : Played) (first kept : Standing) (next : S
   rests_shown : (new : Standing) (text : List ℕ) → new ≡ record kept { shown = text } → Rests s first kept 0 → Rests s first new 0
   rests_shown new text e rests =
       subst (λ q. Rests s first q 0) (sym e)
-      (record { there = rests.there; few = rests.few; attached = rests.attached; stable = rests.stable; file =
-      rests.file; others = rests.others; keeps = rests.keeps })
+      (record {
+        there = rests.there;
+        few = rests.few;
+        attached = rests.attached;
+        stable = rests.stable;
+        file =
+            rests.file;
+        others = rests.others;
+        keeps = rests.keeps;
+      })
 
   store_is : (new : Standing) (text : List ℕ) → new ≡ record kept { shown = text } → kept ≡ with_store new first
   store_is new text e = beside_is first kept beside ∙ ap (λ (q : Standing). with_store q first) (sym e)
@@ -114,8 +122,8 @@ module _ {F : Type 0} (g : Story) (s : Played) (first kept : Standing) (next : S
       Told kept new next.piece found None → IsPlaying g s first new next 0
   begins_next new rests digest told = record {
     walking = subst (λ (q : Standing). IsWalking g s.whole q new next 0)
-    (store_is new (kept.shown ++ next.piece) told.2)
-    (walk_begins g s.whole MOST_EVENTS kept new next found None seated last plays told);
+        (store_is new (kept.shown ++ next.piece) told.2)
+        (walk_begins g s.whole MOST_EVENTS kept new next found None seated last plays told);
     rests = rests_shown new (kept.shown ++ next.piece) told.2 rests;
     digest = ap (λ (q : Standing). kept_digest q.disk.bytes) told.2 ∙ digest;
     last = next.piece;
@@ -126,8 +134,8 @@ module _ {F : Type 0} (g : Story) (s : Played) (first kept : Standing) (next : S
   pub begins_last : (new : Standing) (o : PlayEnd) → Rests s first kept 0 → Told kept new next.piece found (Some o) → BegunAs s first new o
   begins_last new end.Ended rests told = record {
     shows = subst (λ (q : Standing). Walks s.whole MOST_EVENTS q new end.Ended)
-    (store_is new (kept.shown ++ next.piece) told.1)
-    (walk_begins g s.whole MOST_EVENTS kept new next found (Some end.Ended) seated last plays told);
+        (store_is new (kept.shown ++ next.piece) told.1)
+        (walk_begins g s.whole MOST_EVENTS kept new next found (Some end.Ended) seated last plays told);
     session = (0, asked_is new (kept.shown ++ next.piece) told.1, rests_shown new (kept.shown ++ next.piece) told.1 rests);
   }
   begins_last new (end.Outside call.Show) rests told = record {

@@ -6,7 +6,7 @@ use Rattle.paw_stage.specs.declared.StageCall.TheVariants as call
 use Rattle.paw_play.specs.declared.PlayEnd.{PlayEnd}
 use Rattle.paw_play.specs.declared.PlayEnd.TheVariants as end
 use Rattle.paw_play.specs.Play.{spent, too_deep, unmade, plays}
-use Rattle.paw_play.specs.OnTheWay.{BegunAs, PlaysInStore, new_session}
+use Rattle.paw_play.specs.inner.OnTheWay.{BegunAs, PlaysInStore, new_session}
 
 -- what making a session came to is what playing it came to
 pub begun_plays : (g : Story) (seed : ℕ) (digest name : List ℕ) (first now : Standing) (o : PlayEnd) → BegunAs (new_session g seed digest name) first now o →

@@ -5,11 +5,12 @@ use Rattle.paw_stage.specs.declared.StageCall.{StageCall}
 use Rattle.paw_stage.specs.declared.StageCall.TheVariants as call
 use Rattle.paw_journal.specs.declared.journal.Journal.{Journal}
 use Rattle.paw_journal.specs.declared.refusal.JournalRefusal.TheVariants as refusal
-use Rattle.paw_journal.specs.Room.{Room}
-use Rattle.paw_journal.specs.Journal.{Keeps}
+use Rattle.paw_journal.specs.inner.Room.{Room}
+use Rattle.paw_journal.specs.inner.Journal.{Keeps}
 use Rattle.paw_play.specs.declared.PlayEnd.{PlayEnd}
 use Rattle.paw_play.specs.declared.PlayEnd.TheVariants as end
-use Rattle.paw_play.specs.Calls.{IfOutside, IsWalkCall, IsPlayCall}
+use Rattle.paw_play.specs.Calls.{IsWalkCall, IsPlayCall}
+use Rattle.paw_play.specs.inner.Calls.{IfOutside}
 
 -- ---- the store ----
 

@@ -14,7 +14,7 @@ use Rattle.paw_play.specs.Session.{IsKept}
 use Rattle.paw_play.specs.Walk.{first_lines}
 use Rattle.paw_play.specs.Stands.{StandsFor, text_since}
 use Rattle.paw_play.specs.Play.{KeptBy, InPlay, InGame, PlaysIn, attached_to}
-use Rattle.paw_play.specs.OnTheWay.{InMaking, PlaysInStore, new_session}
+use Rattle.paw_play.specs.inner.OnTheWay.{InMaking, PlaysInStore, new_session}
 use Rattle.paw_play.proofs.Attaching.{making_from, playing_from}
 use Rattle.paw_play.proofs.Mapped.{in_session_by, making_by, plays_in_by}
 

@@ -13,9 +13,9 @@ use Rattle.paw_reading.specs.declared.places.Frame.{Frame}
 use Rattle.paw_reading.specs.Run.{Run, Step}
 use Rattle.paw_reading.specs.Reading.{IsOver}
 use Rattle.paw_reading.specs.Turn.{Ending, WaitsAt, Halted, Unended, reading, on, run_of, pieces_of, text_of}
-use Rattle.paw_reading.specs.GoingOn.{with_lines}
-use Rattle.paw_reading.specs.Longer.{ending_with_past, with_past, without_past}
-use Rattle.paw_reading.specs.Pieces.{Counted}
+use Rattle.paw_reading.specs.inner.GoingOn.{with_lines}
+use Rattle.paw_reading.specs.inner.Longer.{ending_with_past, with_past, without_past}
+use Rattle.paw_reading.specs.inner.Pieces.{Counted}
 use Rattle.paw_reading.proofs.Counts.{pieces_of_lines}
 use Rattle.paw_reading.proofs.Followed.{going_on_is_reading}
 use Rattle.paw_reading.proofs.Past.{past_stays, longer_reading}

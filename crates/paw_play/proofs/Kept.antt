@@ -6,7 +6,7 @@ use Rattle.paw_effects.specs.declared.act.Prompt.TheVariants as prompt
 use Rattle.paw_reading.specs.Run.{Step as Read}
 use Rattle.paw_reading.specs.Reading.{IsOver}
 use Rattle.paw_reading.specs.Turn.{Ending, WaitsAt, Halted}
-use Rattle.paw_turn.specs.Player.{Seat, run_at, PlaysTo, Stands}
+use Rattle.paw_turn.specs.inner.Player.{Seat, run_at, PlaysTo, Stands}
 use Rattle.paw_turn.specs.declared.Step.{Step}
 use Rattle.paw_turn.specs.declared.Step.TheVariants as step
 use Rattle.paw_journal.specs.Session.{Shown}
@@ -17,7 +17,7 @@ use Rattle.paw_process.specs.declared.kept.Frames.{Frames}
 use Rattle.paw_state.specs.Record.{last_piece, frames_at}
 use Rattle.paw_play.specs.Session.{kept_bytes, IsKept}
 use Rattle.paw_play.specs.Walk.{Reading}
-use Rattle.paw_play.specs.OnTheWay.{ShowsPiece, seat_state}
+use Rattle.paw_play.specs.inner.OnTheWay.{ShowsPiece, seat_state}
 use Rattle.paw_play.proofs.Walking.{on_waits}
 use Rattle.paw_effects.specs.Story.{Story}
 

@@ -5,9 +5,10 @@ use Rattle.std.specs.List.{slice_index_or, list_all}
 use Rattle.std.proofs.lemmas.Bool.{leb-true}
 use Rattle.std.proofs.lemmas.Fmt.{length-decimal-le}
 use Rattle.std.proofs.lemmas.List.{get_or_past}
-use Rattle.paw_base.specs.Condacts.{CondactLine, named_line, condact_lines, line_of, name_of, IsCode}
+use Rattle.paw_base.specs.Condacts.{CondactLine, named_line, condact_lines, line_of, name_of}
+use Rattle.paw_base.specs.inner.Condacts.{IsCode}
 use Rattle.paw_base.proofs.Table.{length-condact_lines}
-use Rattle.paw_base.specs.Piece.{Puts}
+use Rattle.paw_base.specs.inner.Piece.{Puts}
 use Rattle.paw_base.specs.declared.rows.ParamKind.TheVariants.{Absent}
 use Rattle.paw_game.proofs.Kept.{first_of_and, second_of_and}
 use Rattle.paw_reading.specs.Run.{Step}

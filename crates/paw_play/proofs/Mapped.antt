@@ -52,11 +52,11 @@ module _ (Kept By : ℕ → List ℕ → Type 0) (past : ℕ) (name : List ℕ) 
 
   module _ (told by : ℕ → List ℕ) (same : (n : ℕ) → told n ≡ by n) where
     agrees_by : (n : ℕ) (text bytes : List ℕ) → n ≤ length old.lines → past + n ≤ MOST_EVENTS →
-      AgreesWith Kept told n text bytes → AgreesWith By by n text bytes
+        AgreesWith Kept told n text bytes → AgreesWith By by n text bytes
     agrees_by n text bytes there few a = (so n bytes there few a.0, (a.1.0, a.1.1 ∙ same n))
 
     keeps_up_by : (n : ℕ) (text bytes : List ℕ) → n ≤ length old.lines → past + n ≤ MOST_EVENTS →
-      KeepsUpWith Kept told n text bytes → KeepsUpWith By by n text bytes
+        KeepsUpWith Kept told n text bytes → KeepsUpWith By by n text bytes
     keeps_up_by zero text bytes there few k = agrees_by zero text bytes there few k
     keeps_up_by (suc n) text bytes there few (inl k) = inl (agrees_by (suc n) text bytes there few k)
     keeps_up_by (suc n) text bytes there few (inr k) = inr (agrees_by n text bytes (omega arith) (omega arith) k)

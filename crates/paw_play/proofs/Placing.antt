@@ -10,7 +10,7 @@ use Rattle.paw_game.specs.Tables.{condact_at}
 use Rattle.paw_reading.specs.declared.places.Frame.{Frame}
 use Rattle.paw_reading.specs.declared.places.OpenLoop.{OpenLoop}
 use Rattle.paw_reading.specs.Turn.{first_table}
-use Rattle.paw_reading.specs.Places.{LeadsTo, tables_of, IsLoopIn, AreOpenAt}
+use Rattle.paw_reading.specs.inner.Places.{LeadsTo, tables_of, IsLoopIn, AreOpenAt}
 use Rattle.paw_process.specs.Kept.{unused, condact_of, has_code, may_open, parameter_of, row_stands, rows_fault, table_of, is_that_table, loop_fault, first_fault}
 use Rattle.paw_process.specs.Kept.{count_fits, fault_at}
 use Rattle.paw_state.specs.Record.{frames_at}
@@ -73,8 +73,14 @@ loop_fits g path rows count (Some l) p size k =
     let low : l.level < length path = level_low path l.level l.table k.level in
     let level : nat_lt l.level count ≡ true = grind (arith, nat_tests) in
     let last : nat_lt l.last (length g.objects) ≡ true = let few = k.last in grind (arith, nat_tests) in
-    rw (level, row_of path rows l.level l.table k.level, has 86 k.doall.condact (condact_at g l.table l.entry l.at)
-    k.doall.stands k.doall.is, k.place, last) refl
+    rw (
+      level,
+      row_of path rows l.level l.table k.level,
+      has 86 k.doall.condact (condact_at g l.table l.entry l.at)
+          k.doall.stands k.doall.is,
+      k.place,
+      last,
+    ) refl
 
 -- ---- the places of a prompt ----
 

@@ -12,12 +12,12 @@ use Rattle.paw_stage.specs.declared.Asked.{Asked}
 use Rattle.paw_stage.specs.declared.Asked.TheVariants as asked
 use Rattle.paw_journal.proofs.Disks.{stable_leaves}
 use Rattle.paw_reading.specs.Turn.{on, text_of}
-use Rattle.paw_turn.specs.Player.{Seat, run_at, IsSeated, Stands}
-use Rattle.paw_turn.specs.Player.{PlaysTo as StepsTo}
+use Rattle.paw_turn.specs.inner.Player.{Seat, run_at, IsSeated, Stands}
+use Rattle.paw_turn.specs.inner.Player.{PlaysTo as StepsTo}
 use Rattle.paw_turn.specs.declared.Step.{Step}
 use Rattle.paw_turn.specs.declared.Step.TheVariants as step
 use Rattle.paw_journal.specs.Session.{Shown, recover, kept_digest}
-use Rattle.paw_journal.specs.Store.{IsBeside, InStore, Leaves, IsEither}
+use Rattle.paw_journal.specs.inner.Store.{IsBeside, InStore, Leaves, IsEither}
 use Rattle.paw_journal.specs.Journal.{IsWriting}
 use Rattle.paw_play.specs.declared.PlayEnd.{PlayEnd}
 use Rattle.paw_play.specs.declared.PlayEnd.TheVariants as end
@@ -25,7 +25,7 @@ use Rattle.paw_play.specs.declared.TheConstants.{MOST_EVENTS}
 use Rattle.paw_play.specs.Walk.{first_lines, played, joined, Walks}
 use Rattle.paw_play.specs.Keeping.{IsPart, AgreesWith, KeepsUpWith, KeepsAllButLast}
 use Rattle.paw_play.specs.Play.{Played, KeepsLines, KeptBy, InPlay, with_store, Uncommitted, PlaysOn}
-use Rattle.paw_play.specs.OnTheWay.{IsWalking, WalksOn, Told, ShowsPiece, refusal_of, seat_state, Rests, IsPlaying}
+use Rattle.paw_play.specs.inner.OnTheWay.{IsWalking, WalksOn, Told, ShowsPiece, refusal_of, seat_state, Rests, IsPlaying}
 use Rattle.paw_play.proofs.Kept.{step_kept}
 use Rattle.paw_play.proofs.Walking.{walks_on, long_walk, none_left, none_asked, text_so_far, text_shown, read_after, drop_more, stands_after, shown_nothing}
 use Rattle.paw_effects.specs.Story.{Story}
@@ -182,11 +182,16 @@ module _ {F : Type 0} (g : Story) (s : Played) (most n events : ℕ) (first now 
     attached = i.attached ∙ attached_still;
     files = λ f other. i.files f (not_this f other) ∙ others_still f other;
     leaves = λ image may. elim (i.disk image may) [
-      | inl e ↦ inr (subst (λ r. KeepsLines s first.lines n r) (sym e) before_it, whole_text s first.lines n
-      (joined w.walking.pieces) (text_is g s first now seat n w seated))
-      | inr e ↦ inl (subst (λ r. KeepsLines s first.lines (suc n) r)
-      (sym (e ∙ ap (λ d. Shown d (seat_state events next) next.piece) digest_is)) keeps_more,
-      (next.piece, sym text_more))
+      | inl e ↦ inr (
+        subst (λ r. KeepsLines s first.lines n r) (sym e) before_it,
+        whole_text s first.lines n
+            (joined w.walking.pieces) (text_is g s first now seat n w seated),
+      )
+      | inr e ↦ inl (
+        subst (λ r. KeepsLines s first.lines (suc n) r)
+            (sym (e ∙ ap (λ d. Shown d (seat_state events next) next.piece) digest_is)) keeps_more,
+        (next.piece, sym text_more),
+      )
     ];
   }
     where
@@ -231,7 +236,7 @@ module _ {F : Type 0} (g : Story) (s : Played) (most n events : ℕ) (first now 
       (
         drop i.0 next.piece,
         append_assoc (joined w.walking.pieces) (take i.0 next.piece) (drop i.0 next.piece)
-        ∙ ap (λ t. joined w.walking.pieces ++ t) (take-append-drop i.0 next.piece) ∙ sym text_more,
+            ∙ ap (λ t. joined w.walking.pieces ++ t) (take-append-drop i.0 next.piece) ∙ sym text_more,
       ),
     );
   })
@@ -264,8 +269,16 @@ module _ {F : Type 0} (g : Story) (s : Played) (most n events : ℕ) (first now 
 
   -- showing leaves the store at rest
   rests_shown : (text : List ℕ) → Rests s first kept (suc n) → Rests s first (record kept { shown = text }) (suc n)
-  rests_shown text rests = record { there = rests.there; few = rests.few; attached = rests.attached; stable =
-      rests.stable; file = rests.file; others = rests.others; keeps = rests.keeps }
+  rests_shown text rests = record {
+    there = rests.there;
+    few = rests.few;
+    attached = rests.attached;
+    stable =
+        rests.stable;
+    file = rests.file;
+    others = rests.others;
+    keeps = rests.keeps;
+  }
 
   rests_then : (new : Standing) (text : List ℕ) → new ≡ record kept { shown = text } → Rests s first kept (suc n) → Rests s first new (suc n)
   rests_then new text e rests = subst (λ q. Rests s first q (suc n)) (sym e) (rests_shown text rests)
@@ -293,7 +306,7 @@ module _ {F : Type 0} (g : Story) (s : Played) (most n events : ℕ) (first now 
   }
   plays_last new (end.Outside call.Show) few beside rests told = record {
     shows = subst (λ (q : Standing). Walks s.whole most (with_store q first) new (end.Outside call.Show)) (sym told.3)
-    (told_as new (Some (end.Outside call.Show)) few beside told);
+        (told_as new (Some (end.Outside call.Show)) few beside told);
     session = (suc n, asked_then new (kept.shown ++ take told.2 next.piece) told.3 beside, rests_then new (kept.shown ++ take told.2 next.piece) told.3 rests);
   }
   plays_last new (end.Spent kind) few beside rests told = absurd (subst ShowsPiece told.0 shows)
@@ -353,29 +366,37 @@ module _ {F : Type 0} (g : Story) (s : Played) (most n : ℕ) (first now : Stand
       (lines : now.lines ≡ line ∷ mid.lines) (cut : given ≡ take 255 line) (took : mid ≡ record now { lines = mid.lines; asked = now.asked + 1 })
       (plays : StepsTo g (λ more. on g w.walking.prompt (reverse seat.machine.frames)
       (run_at seat w.walking.pieces w.walking.traces (given ∷ more))) found next w.walking.pieces w.walking.traces)
-      where
-    refused_rests : KeepsAllButLast (KeptBy s first.lines) s.before s.name first mid
-    refused_rests = (
-      n,
-      let a = asked_is g s first now seat n w in let b = ap (λ (q : Standing). q.asked) took in omega (arith, a, b),
-      subst (λ q. Rests s first q n) (sym took)
-      (record { there = w.rests.there; few = w.rests.few; attached = w.rests.attached; stable = w.rests.stable; file =
-      w.rests.file; others = w.rests.others; keeps = w.rests.keeps }),
-    )
+    where
+      refused_rests : KeepsAllButLast (KeptBy s first.lines) s.before s.name first mid
+      refused_rests = (
+        n,
+        let a = asked_is g s first now seat n w in let b = ap (λ (q : Standing). q.asked) took in omega (arith, a, b),
+        subst (λ q. Rests s first q n) (sym took)
+            (record {
+              there = w.rests.there;
+              few = w.rests.few;
+              attached = w.rests.attached;
+              stable = w.rests.stable;
+              file =
+                  w.rests.file;
+              others = w.rests.others;
+              keeps = w.rests.keeps;
+            }),
+      )
 
-    refused_shows : (o : PlayEnd) → Told mid mid next.piece found (Some o) → Walks s.whole most (with_store mid first) mid o
-    refused_shows o told =
-        subst (λ (q : Standing). Walks s.whole most (with_store q first) mid o) (sym took)
-        (walks_on g s.whole most n (with_store now first) now mid mid seat next given line found (Some o) w.walking few
-        seated then_seated game last lines cut took plays told)
+      refused_shows : (o : PlayEnd) → Told mid mid next.piece found (Some o) → Walks s.whole most (with_store mid first) mid o
+      refused_shows o told =
+          subst (λ (q : Standing). Walks s.whole most (with_store q first) mid o) (sym took)
+          (walks_on g s.whole most n (with_store now first) now mid mid seat next given line found (Some o) w.walking few
+          seated then_seated game last lines cut took plays told)
 
-    -- the piece is spent, or a call is too deep
-    pub plays_refused : (o : PlayEnd) → refusal_of found ≡ Some o → PlaysOn s most first mid o
-    plays_refused o e = elim found as (λ q. found ≡ q → refusal_of q ≡ Some o → PlaysOn s most first mid o) [
-      | step.Waits p ↦ λ is e. cc
-      | step.Ended ↦ λ is e. cc
-      | step.Spent kind ↦ λ is e. let k : o ≡ end.Spent kind = cc in
-      rw k (record { shows = refused_shows (end.Spent kind) (is, refl); session = refused_rests })
-      | step.TooDeep table ↦ λ is e. let k : o ≡ end.TooDeep table = cc in
-      rw k (record { shows = refused_shows (end.TooDeep table) (is, refl); session = refused_rests })
-    ] refl e
+      -- the piece is spent, or a call is too deep
+      pub plays_refused : (o : PlayEnd) → refusal_of found ≡ Some o → PlaysOn s most first mid o
+      plays_refused o e = elim found as (λ q. found ≡ q → refusal_of q ≡ Some o → PlaysOn s most first mid o) [
+        | step.Waits p ↦ λ is e. cc
+        | step.Ended ↦ λ is e. cc
+        | step.Spent kind ↦ λ is e. let k : o ≡ end.Spent kind = cc in
+            rw k (record { shows = refused_shows (end.Spent kind) (is, refl); session = refused_rests })
+        | step.TooDeep table ↦ λ is e. let k : o ≡ end.TooDeep table = cc in
+            rw k (record { shows = refused_shows (end.TooDeep table) (is, refl); session = refused_rests })
+      ] refl e

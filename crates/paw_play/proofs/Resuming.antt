@@ -16,11 +16,11 @@ use Rattle.paw_reading.specs.Run.{Run}
 use Rattle.paw_reading.specs.Turn.{Ending, WaitsAt, on, text_of}
 use Rattle.paw_process.specs.OpenTables.{OpenTables}
 use Rattle.paw_process.specs.Kept.{unused}
-use Rattle.paw_turn.specs.Player.{Seat, IsSeated, Stands}
-use Rattle.paw_turn.specs.Parts.{step_at, seat_at}
+use Rattle.paw_turn.specs.inner.Player.{Seat, IsSeated, Stands}
+use Rattle.paw_turn.specs.inner.Parts.{step_at, seat_at}
 use Rattle.paw_turn.specs.declared.Step.TheVariants as step
 use Rattle.paw_journal.specs.Session.{Shown, recover, kept_digest}
-use Rattle.paw_state.specs.State.{state_of}
+use Rattle.paw_state.specs.inner.State.{state_of}
 use Rattle.paw_play.specs.declared.PlayEnd.{PlayEnd}
 use Rattle.paw_play.specs.declared.PlayEnd.TheVariants as end
 use Rattle.paw_play.specs.declared.TheConstants.{MOST_EVENTS}
@@ -28,7 +28,7 @@ use Rattle.paw_state.specs.Record.{frames_at, state_at}
 use Rattle.paw_play.specs.Session.{kept_bytes, IsKept}
 use Rattle.paw_play.specs.Walk.{played}
 use Rattle.paw_play.specs.Play.{Played, InPlay, with_store, PlaysOn, going_on, kept_session}
-use Rattle.paw_play.specs.OnTheWay.{Rests, IsPlaying, IsStore, ShowsAgain}
+use Rattle.paw_play.specs.inner.OnTheWay.{Rests, IsPlaying, IsStore, ShowsAgain}
 use Rattle.paw_play.proofs.Kept.{kept_is}
 use Rattle.paw_play.proofs.Walking.{on_waits, first_stands}
 use Rattle.paw_effects.specs.Story.{Story}
@@ -81,8 +81,8 @@ module _ (digest : List ℕ) (g : Story) (w : World) (m : OpenTables) (p : Pendi
   kept_at prompt.Over h = record {
     played = refl;
     shown = ap (λ q. Shown digest (kept_bytes q) piece)
-    (same_state prompt.Over ∙ ap (λ fs. state_at (events + 0) prompt.Over (reverse fs) (run_from w m p piece []))
-    h.frames);
+        (same_state prompt.Over ∙ ap (λ fs. state_at (events + 0) prompt.Over (reverse fs) (run_from w m p piece []))
+        h.frames);
   }
 
   pub text_at : (at : Prompt) → Stands (step_at at) m → text_of (on g at (reverse m.frames) (run_from w m p piece [])) ≡ piece
@@ -134,15 +134,31 @@ module _ {F : Type 0} (g : Story) (digest name : List ℕ) (w : World) (m : Open
 
   rests_first : Rests session first first 0
   unfolding session
-  rests_first = record { there = omega arith; few = omega (arith, fit); attached = store.attached; stable =
-      store.stable; file = store.file; others = λ f other. refl; keeps = keeps_now }
+  rests_first = record {
+    there = omega arith;
+    few = omega (arith, fit);
+    attached = store.attached;
+    stable =
+        store.stable;
+    file = store.file;
+    others = λ f other. refl;
+    keeps = keeps_now;
+  }
 
   rests_shown : (new : Standing) (text : List ℕ) → new ≡ record first { shown = text } → Rests session first new 0
   unfolding session
   rests_shown new text e =
       subst (λ q. Rests session first q 0) (sym e)
-      (record { there = omega arith; few = omega (arith, fit); attached = store.attached; stable = store.stable; file =
-      store.file; others = λ f other. refl; keeps = keeps_now })
+      (record {
+        there = omega arith;
+        few = omega (arith, fit);
+        attached = store.attached;
+        stable = store.stable;
+        file =
+            store.file;
+        others = λ f other. refl;
+        keeps = keeps_now;
+      })
 
   store_is : (new : Standing) (text : List ℕ) → new ≡ record first { shown = text } → first ≡ with_store new first
   store_is new text e = ap (λ (q : Standing). with_store q first) (sym e)
@@ -168,7 +184,7 @@ module _ {F : Type 0} (g : Story) (digest name : List ℕ) (w : World) (m : Open
     files = λ f other. refl;
     leaves = λ image may. (
       subst (λ b. IsKept digest (events + 0) (going_on g (state_of w m p at events n) piece []) (recover b))
-      (sym (stable_leaves first.disk image store.stable may)) keeps_now,
+          (sym (stable_leaves first.disk image store.stable may)) keeps_now,
       (drop i.0 piece, take-append-drop i.0 piece ∙ sym text_is),
     );
   })

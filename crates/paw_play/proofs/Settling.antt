@@ -10,15 +10,17 @@ use Rattle.paw_effects.specs.declared.act.Prompt.{Prompt}
 use Rattle.paw_effects.specs.declared.act.Prompt.TheVariants as prompt
 use Rattle.paw_effects.specs.Story.{Story}
 use Rattle.paw_effects.specs.Built.{ArePlacesOf, StandsIn}
-use Rattle.paw_effects.specs.Standing.{AreBytes, MayBePosition, IsWorldOf}
+use Rattle.paw_effects.specs.Standing.{AreBytes}
+use Rattle.paw_effects.specs.inner.Standing.{MayBePosition, IsWorldOf}
 use Rattle.paw_effects.proofs.Worlds.{few_objects, place_small}
 use Rattle.paw_reading.specs.declared.places.Frame.{Frame}
 use Rattle.paw_reading.specs.Run.{Run}
 use Rattle.paw_reading.specs.Reading.{IsOver}
 use Rattle.paw_reading.specs.Turn.{Ending, WaitsAt, Halted, reading}
-use Rattle.paw_reading.specs.Bounds.{IsBounded}
-use Rattle.paw_reading.specs.Pieces.{Counted}
-use Rattle.paw_reading.specs.Places.{waiting_code, AreOpenAt, StandsRightly, StopsRightly, StopsBounded}
+use Rattle.paw_reading.specs.inner.Bounds.{IsBounded}
+use Rattle.paw_reading.specs.inner.Pieces.{Counted}
+use Rattle.paw_reading.specs.Places.{waiting_code}
+use Rattle.paw_reading.specs.inner.Places.{AreOpenAt, StandsRightly, StopsRightly, StopsBounded}
 use Rattle.paw_reading.proofs.Counts.{pieces_of_lines}
 use Rattle.paw_reading.proofs.Rightly.{readings_stop_rightly, readings_are_bounded}
 use Rattle.paw_state.specs.Record.{last_piece}

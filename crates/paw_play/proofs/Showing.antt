@@ -9,21 +9,23 @@ use Rattle.paw_effects.specs.declared.act.Prompt.{Prompt}
 use Rattle.paw_effects.specs.declared.act.Prompt.TheVariants as prompt
 use Rattle.paw_effects.specs.Story.{Story}
 use Rattle.paw_effects.specs.Built.{StandsIn}
-use Rattle.paw_effects.specs.Standing.{MayBePosition, IsWorldOf}
+use Rattle.paw_effects.specs.inner.Standing.{MayBePosition, IsWorldOf}
 use Rattle.paw_reading.specs.Turn.{text_of}
 use Rattle.paw_process.specs.OpenTables.{OpenTables}
-use Rattle.paw_process.specs.Kept.{kept, restored, waiting_at, waiting_code, StandsAt}
+use Rattle.paw_process.specs.Kept.{kept, waiting_code}
+use Rattle.paw_process.specs.inner.Kept.{restored, waiting_at, StandsAt}
 use Rattle.paw_process.proofs.Restored.{stands_at}
 use Rattle.paw_process.proofs.Again.{restored_kept}
-use Rattle.paw_turn.specs.Parts.{Fits, IsPending, step_at}
-use Rattle.paw_turn.specs.Player.{Stands}
+use Rattle.paw_turn.specs.inner.Parts.{Fits, IsPending, step_at}
+use Rattle.paw_turn.specs.inner.Player.{Stands}
 use Rattle.paw_turn.proofs.Seating.{restored_fits}
 use Rattle.paw_journal.specs.Session.{Shown, recover, piece_length, state_length}
 use Rattle.paw_journal.proofs.ShownPieces.{shown_long}
-use Rattle.paw_state.specs.State.{State, Keeps, FitsFields, HoldsBytes, state_of}
+use Rattle.paw_state.specs.State.{State, Keeps, FitsFields, HoldsBytes}
+use Rattle.paw_state.specs.inner.State.{state_of}
 use Rattle.paw_state.specs.Fields.{state_bytes}
 use Rattle.paw_state.specs.declared.Restored.{Restored}
-use Rattle.paw_state.specs.Fit.{IsRead, state_read}
+use Rattle.paw_state.specs.inner.Fit.{IsRead, state_read}
 use Rattle.paw_state.proofs.Told.{piece_told}
 use Rattle.paw_state.proofs.Lawful.{bytes_tell_the_state, long_state}
 use Rattle.paw_play.specs.Session.{kept_bytes, IsKept}

@@ -3,7 +3,8 @@ use Rattle.std.proofs.Common.{◌≡◌, ℕ, zero, suc, ◌+◌, ◌≤◌, ◌
 use Rattle.std.proofs.Common.{append_assoc, length-append}
 use Rattle.std.proofs.lemmas.List.{append-nil, take-append-drop}
 use Rattle.std.specs.Prelude.{reverse, ◌-◌, flat_map}
-use Rattle.paw_base.specs.Steps.{KeptSteps, kept_steps}
+use Rattle.paw_base.specs.Steps.{KeptSteps}
+use Rattle.paw_base.specs.inner.Steps.{kept_steps}
 use Rattle.paw_stage.specs.Stage.{Standing}
 use Rattle.paw_stage.specs.declared.StageCall.TheVariants as call
 use Rattle.paw_world.specs.World.{World}
@@ -12,7 +13,7 @@ use Rattle.paw_effects.specs.declared.act.Prompt.{Prompt}
 use Rattle.paw_reading.specs.declared.places.Frame.{Frame}
 use Rattle.paw_reading.specs.Run.{Run, Step as Read}
 use Rattle.paw_reading.specs.Turn.{Ending, WaitsAt, reading, on, text_of}
-use Rattle.paw_turn.specs.Player.{Seat, run_at, PlaysTo, StandsAt, Stands, IsSeated, IsNew}
+use Rattle.paw_turn.specs.inner.Player.{Seat, run_at, PlaysTo, StandsAt, Stands, IsSeated, IsNew}
 use Rattle.paw_turn.specs.declared.Step.{Step}
 use Rattle.paw_turn.specs.declared.Step.TheVariants as step
 use Rattle.paw_play.specs.declared.PlayEnd.{PlayEnd}
@@ -20,7 +21,7 @@ use Rattle.paw_play.specs.declared.PlayEnd.TheVariants as end
 use Rattle.paw_play.specs.declared.TheConstants.{MOST_EVENTS}
 use Rattle.paw_play.specs.Walk.{Reading, first_lines, played, Reads, ReadsPart, joined}
 use Rattle.paw_play.specs.Traces.{step_line, more_line, steps_text, traced_pieces, traced_run, traced_ending, traced}
-use Rattle.paw_play.specs.OnTheWay.{ShowsPiece, Told, refusal_of, kept_text, seat_text, IsTracing, TracesOn, TracesFrom}
+use Rattle.paw_play.specs.inner.OnTheWay.{ShowsPiece, Told, refusal_of, kept_text, seat_text, IsTracing, TracesOn, TracesFrom}
 use Rattle.paw_play.proofs.Playing.{shows_piece}
 use Rattle.paw_play.proofs.Walking.{drop_more, drop_all, lines_more, joined_more, stands_after, shown_nothing, on_waits, first_stands}
 
@@ -114,7 +115,7 @@ tracing g whole n first now seat w seated =
       traced_run r,
       record {
         reading = ap (traced whole) (sym (append-nil (first_lines n first.lines)))
-        ∙ ap traced_ending (w.goes_on [] ∙ on_waits g w.prompt seat.machine r stands);
+            ∙ ap traced_ending (w.goes_on [] ∙ on_waits g w.prompt seat.machine r stands);
         there = w.there;
         stands = w.stands;
       },
@@ -265,9 +266,12 @@ traces_on g whole most n first now mid new seat next given line s (Some (end.Too
         stands = stands_still g whole n first now mid new seat next given line s w seated then_seated last lines cut took plays e.0 e.2 e.3 told.1;
       },
     )
-traces_on g whole most n first now mid new seat next given line s (Some (end.Outside call.Show)) w few seated then_seated last lines cut took plays told =
-    (suc n, omega (arith, few), shown_part g whole n first now mid new seat next given line s w seated then_seated last
-    lines cut took plays told.0 told.1 told.2 told.3)
+traces_on g whole most n first now mid new seat next given line s (Some (end.Outside call.Show)) w few seated then_seated last lines cut took plays told = (
+  suc n,
+  omega (arith, few),
+  shown_part g whole n first now mid new seat next given line s w seated then_seated last
+      lines cut took plays told.0 told.1 told.2 told.3,
+)
 traces_on g whole most n first now mid new seat next given line s (Some _) w few seated then_seated last lines cut took plays told = absurd told
 
 -- no line is left
@@ -327,16 +331,32 @@ trace_begins g whole most old new seat s (Some end.Ended) seated last plays told
     )
 trace_begins g whole most old new seat s (Some (end.Spent kind)) seated last plays told =
     let at : PlaysTo g whole (step.Spent kind) seat [] [] = subst (λ q. PlaysTo g whole q seat [] []) told.0 plays in
-    let e = at.1 [] in
-    (0, omega arith, traced_run e.0, e.4,
-    record { reading = ap traced_ending e.1; there = omega arith; stands =
-    first_stands old new [] (told.1 ∙ shown_nothing old) ∙ ap (played old 0) (same_told e.0 [] [] e.2 e.3) })
+    let e = at.1 [] in (
+      0,
+      omega arith,
+      traced_run e.0,
+      e.4,
+      record {
+        reading = ap traced_ending e.1;
+        there = omega arith;
+        stands =
+            first_stands old new [] (told.1 ∙ shown_nothing old) ∙ ap (played old 0) (same_told e.0 [] [] e.2 e.3);
+      },
+    )
 trace_begins g whole most old new seat s (Some (end.TooDeep table)) seated last plays told =
     let at : PlaysTo g whole (step.TooDeep table) seat [] [] = subst (λ q. PlaysTo g whole q seat [] []) told.0 plays in
-    let e = at.1 [] in
-    (0, omega arith, traced_run e.0, e.4,
-    record { reading = ap traced_ending e.1; there = omega arith; stands =
-    first_stands old new [] (told.1 ∙ shown_nothing old) ∙ ap (played old 0) (same_told e.0 [] [] e.2 e.3) })
+    let e = at.1 [] in (
+      0,
+      omega arith,
+      traced_run e.0,
+      e.4,
+      record {
+        reading = ap traced_ending e.1;
+        there = omega arith;
+        stands =
+            first_stands old new [] (told.1 ∙ shown_nothing old) ∙ ap (played old 0) (same_told e.0 [] [] e.2 e.3);
+      },
+    )
 trace_begins g whole most old new seat s (Some (end.Outside call.Show)) seated last plays told =
     let all : text_of (traced whole []) ≡ seat_text seat
     = text_shown g whole s seat [] [] told.0 (subst (λ q. Stands q seat.machine) last seated.machine) refl plays in (

@@ -14,14 +14,14 @@ use Rattle.paw_reading.specs.GoingOn.{on_path}
 use Rattle.paw_reading.specs.Turn.{Ending, WaitsAt, at_main, reading, on, text_of}
 use Rattle.paw_process.specs.OpenTables.{OpenTables}
 use Rattle.paw_world.specs.World.{World}
-use Rattle.paw_turn.specs.Player.{Seat, run_at, PlaysTo, StandsAt, Stands, IsSeated, IsNew}
+use Rattle.paw_turn.specs.inner.Player.{Seat, run_at, PlaysTo, StandsAt, Stands, IsSeated, IsNew}
 use Rattle.paw_turn.specs.declared.Step.{Step}
 use Rattle.paw_turn.specs.declared.Step.TheVariants as step
 use Rattle.paw_play.specs.declared.PlayEnd.{PlayEnd}
 use Rattle.paw_play.specs.declared.PlayEnd.TheVariants as end
 use Rattle.paw_stage.specs.declared.StageCall.TheVariants as call
 use Rattle.paw_play.specs.Walk.{Reading, first_lines, played, Reads, ReadsPart, joined}
-use Rattle.paw_play.specs.OnTheWay.{IsWalking, ShowsPiece, Told, WalksOn, WalksFrom}
+use Rattle.paw_play.specs.inner.OnTheWay.{IsWalking, ShowsPiece, Told, WalksOn, WalksFrom}
 use Rattle.paw_play.specs.declared.TheConstants.{MOST_EVENTS}
 use Rattle.paw_effects.specs.Story.{Story}
 
@@ -241,7 +241,7 @@ walks_on g whole most n first now mid new seat next given line s (Some (end.Spen
         reading = read_after g whole n first now mid new seat next given line s w seated then_seated game last lines cut took plays ∙ e.1;
         there = one_more g whole n first now mid new seat next given line s w seated then_seated game last lines cut took plays;
         stands = stands_with g whole n first now mid new seat next given line s w seated then_seated game last lines cut
-        took plays [] (told.1 ∙ shown_nothing mid)
+            took plays [] (told.1 ∙ shown_nothing mid)
             ∙ ap (played first (suc n)) (append-nil (joined w.pieces) ∙ sym (ap joined e.2));
       },
     )
@@ -257,13 +257,16 @@ walks_on g whole most n first now mid new seat next given line s (Some (end.TooD
         reading = read_after g whole n first now mid new seat next given line s w seated then_seated game last lines cut took plays ∙ e.1;
         there = one_more g whole n first now mid new seat next given line s w seated then_seated game last lines cut took plays;
         stands = stands_with g whole n first now mid new seat next given line s w seated then_seated game last lines cut
-        took plays [] (told.1 ∙ shown_nothing mid)
+            took plays [] (told.1 ∙ shown_nothing mid)
             ∙ ap (played first (suc n)) (append-nil (joined w.pieces) ∙ sym (ap joined e.2));
       },
     )
-walks_on g whole most n first now mid new seat next given line s (Some (end.Outside call.Show)) w few seated then_seated game last lines cut took plays told =
-    (suc n, omega (arith, few), shown_part g whole n first now mid new seat next given line s w seated then_seated game
-    last lines cut took plays told.0 told.1 told.2 told.3)
+walks_on g whole most n first now mid new seat next given line s (Some (end.Outside call.Show)) w few seated then_seated game last lines cut took plays told = (
+  suc n,
+  omega (arith, few),
+  shown_part g whole n first now mid new seat next given line s w seated then_seated game
+      last lines cut took plays told.0 told.1 told.2 told.3,
+)
 walks_on g whole most n first now mid new seat next given line s (Some _) w few seated then_seated game last lines cut took plays told = absurd told
 
 -- no line is left
@@ -325,14 +328,32 @@ walk_begins g whole most old new seat s (Some end.Ended) seated last plays told 
     )
 walk_begins g whole most old new seat s (Some (end.Spent kind)) seated last plays told =
     let at : PlaysTo g whole (step.Spent kind) seat [] [] = subst (λ q. PlaysTo g whole q seat [] []) told.0 plays in
-    let e = at.1 [] in
-    (0, omega arith, e.0, e.4, record { reading = e.1; there = omega arith; stands =
-    first_stands old new [] (told.1 ∙ shown_nothing old) ∙ ap (played old 0) (sym (ap joined e.2)) })
+    let e = at.1 [] in (
+      0,
+      omega arith,
+      e.0,
+      e.4,
+      record {
+        reading = e.1;
+        there = omega arith;
+        stands =
+            first_stands old new [] (told.1 ∙ shown_nothing old) ∙ ap (played old 0) (sym (ap joined e.2));
+      },
+    )
 walk_begins g whole most old new seat s (Some (end.TooDeep table)) seated last plays told =
     let at : PlaysTo g whole (step.TooDeep table) seat [] [] = subst (λ q. PlaysTo g whole q seat [] []) told.0 plays in
-    let e = at.1 [] in
-    (0, omega arith, e.0, e.4, record { reading = e.1; there = omega arith; stands =
-    first_stands old new [] (told.1 ∙ shown_nothing old) ∙ ap (played old 0) (sym (ap joined e.2)) })
+    let e = at.1 [] in (
+      0,
+      omega arith,
+      e.0,
+      e.4,
+      record {
+        reading = e.1;
+        there = omega arith;
+        stands =
+            first_stands old new [] (told.1 ∙ shown_nothing old) ∙ ap (played old 0) (sym (ap joined e.2));
+      },
+    )
 walk_begins g whole most old new seat s (Some (end.Outside call.Show)) seated last plays told =
     let all : text_of (whole []) ≡ seat.piece
     = text_shown g whole s seat [] [] told.0 (subst (λ q. Stands q seat.machine) last seated.machine) plays in (

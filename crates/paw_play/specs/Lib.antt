@@ -5,5 +5,4 @@ pub mod Session
 pub mod Stands
 pub mod Keeping
 pub mod Play
-pub mod Laws
-pub mod OnTheWay
+pub mod inner

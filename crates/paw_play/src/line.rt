@@ -2,17 +2,20 @@
 
 ghost use Rattle.std.specs.Prelude.{◌≡◌, ◌+◌, ◌<◌, ◌≤◌, ◌^◌, ◌↔◌, take, length, IfOk, IfErr};
 ghost use Rattle.paw_stage.specs.Stage.{Faulted};
-ghost use Rattle.paw_stage.specs.Across.{Across, Once, EachMoment, Throughout};
+ghost use Rattle.paw_stage.specs.Across.{Across, EachMoment};
+ghost use Rattle.paw_stage.specs.inner.Across.{Once, Throughout};
 ghost use Rattle.paw_routines.specs.Routines.{HaveRows};
-ghost use Rattle.paw_turn.specs.Player.{IsSeated};
-ghost use Rattle.paw_turn.specs.Parts.{IsStanding};
+ghost use Rattle.paw_turn.specs.inner.Player.{IsSeated};
+ghost use Rattle.paw_turn.specs.inner.Parts.{IsStanding};
 ghost use Rattle.paw_journal.specs.Session.{state_length, piece_length};
-ghost use Rattle.paw_journal.specs.Store.{IsBeside};
-ghost use Rattle.paw_journal.specs.Steps.{SameDigest};
-ghost use Rattle.paw_journal.specs.Journal.{Keeps, IsWriting, failed_call};
+ghost use Rattle.paw_journal.specs.inner.Store.{IsBeside};
+ghost use Rattle.paw_journal.specs.inner.Steps.{SameDigest};
+ghost use Rattle.paw_journal.specs.Journal.{IsWriting};
+ghost use Rattle.paw_journal.specs.inner.Journal.{Keeps, failed_call};
 ghost use Rattle.paw_play.specs.Play.{InPlay};
-ghost use Rattle.paw_play.specs.OnTheWay.{EachStory, EachPlaying, Commits, InCommit, seat_state, PlaysTo};
-ghost use Rattle.paw_play.specs.Calls.{IfOutside, IsPlayCall, failed_or};
+ghost use Rattle.paw_play.specs.inner.OnTheWay.{EachStory, EachPlaying, Commits, InCommit, seat_state, PlaysTo};
+ghost use Rattle.paw_play.specs.Calls.{IsPlayCall};
+ghost use Rattle.paw_play.specs.inner.Calls.{IfOutside, failed_or};
 ghost use Rattle.paw_play.specs.declared.TheConstants.{MOST_EVENTS};
 
 use crate::walk::{refused, told};

@@ -7,11 +7,12 @@ ghost use Rattle.paw_stage.specs.Disk.{IsStable};
 ghost use Rattle.paw_stage.specs.Stage.{Faulted};
 ghost use Rattle.paw_stage.specs.Across.{Across, EachMoment};
 ghost use Rattle.paw_routines.specs.Routines.{HaveRows};
-ghost use Rattle.paw_turn.specs.Player.{IsSeated, IsNew};
-ghost use Rattle.paw_journal.specs.Journal.{IsAtRest, Keeps};
+ghost use Rattle.paw_turn.specs.inner.Player.{IsSeated, IsNew};
+ghost use Rattle.paw_journal.specs.inner.Journal.{IsAtRest, Keeps};
 ghost use Rattle.paw_play.specs.Play.{InPlay, InGame, PlaysOn, PlaysGame, store_bytes};
-ghost use Rattle.paw_play.specs.OnTheWay.{EachStory, EachStarting, InNew, PlaysInStore, Begins, IsStore, new_session};
-ghost use Rattle.paw_play.specs.Calls.{IfOutside, IsPlayCall, IsSessionCall, failed_call, failed_or};
+ghost use Rattle.paw_play.specs.inner.OnTheWay.{EachStory, EachStarting, InNew, PlaysInStore, Begins, IsStore, new_session};
+ghost use Rattle.paw_play.specs.Calls.{IsPlayCall, IsSessionCall};
+ghost use Rattle.paw_play.specs.inner.Calls.{IfOutside, failed_call, failed_or};
 ghost use Rattle.paw_play.specs.declared.TheConstants.{MOST_EVENTS};
 
 use crate::line::{Session, play_line, put_state};

@@ -3,7 +3,8 @@
 ghost use Rattle.std.specs.Prelude.{◌≡◌, ◌<◌, ◌↔◌, length, OnOk, OnErr, IsErr, Some, None};
 ghost use Rattle.paw_stage.specs.Stage.{Faulted, ShowsPart, with_shown};
 ghost use Rattle.paw_stage.specs.Moments.{InShow};
-ghost use Rattle.paw_stage.specs.Across.{Across, Once, Throughout};
+ghost use Rattle.paw_stage.specs.Across.{Across};
+ghost use Rattle.paw_stage.specs.inner.Across.{Once, Throughout};
 ghost use Rattle.paw_stage.specs.declared.StageCall.TheVariants as call;
 
 use paw_stage::{Failed, Stage};

@@ -1,18 +1,19 @@
 // A walk that shows what was read.
 
 ghost use Rattle.std.specs.Prelude.{◌≡◌, ◌+◌, ◌<◌, ◌≤◌, ◌^◌, ◌↔◌, ◌++◌, ℕ, length, take, IfSome, decimal};
-ghost use Rattle.paw_base.specs.Piece.{Puts, piece_limit};
+ghost use Rattle.paw_base.specs.inner.Piece.{Puts, piece_limit};
 ghost use Rattle.paw_base.specs.Condacts.{name_of};
 ghost use Rattle.paw_base.specs.declared.limits.TheConstants.{STEP_LIMIT};
 ghost use Rattle.paw_routines.specs.Routines.{HaveRows};
 ghost use Rattle.paw_stage.specs.Stage.{Standing, Faulted};
 ghost use Rattle.paw_stage.specs.Across.{Across};
 ghost use Rattle.paw_reading.specs.Turn.{reading};
-ghost use Rattle.paw_turn.specs.Player.{IsSeated};
+ghost use Rattle.paw_turn.specs.inner.Player.{IsSeated};
 ghost use Rattle.paw_play.specs.Walk.{Reading, Walks};
 ghost use Rattle.paw_play.specs.Traces.{place_text, answer_text, step_line, more_line, traced};
-ghost use Rattle.paw_play.specs.OnTheWay.{EachStory, IsTracing, TracesOn, Told, kept_text, seat_text};
-ghost use Rattle.paw_play.specs.Calls.{IfOutside, IsWalkCall, failed_call, failed_so_far};
+ghost use Rattle.paw_play.specs.inner.OnTheWay.{EachStory, IsTracing, TracesOn, Told, kept_text, seat_text};
+ghost use Rattle.paw_play.specs.Calls.{IsWalkCall};
+ghost use Rattle.paw_play.specs.inner.Calls.{IfOutside, failed_call, failed_so_far};
 ghost use Rattle.paw_play.specs.declared.TheConstants.{MOST_EVENTS};
 
 use crate::show::show;

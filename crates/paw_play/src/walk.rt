@@ -3,13 +3,15 @@
 ghost use Rattle.std.specs.Prelude.{◌≡◌, ◌+◌, ◌<◌, ◌≤◌, ◌^◌, ◌↔◌, ℕ, IfSome, None};
 ghost use Rattle.paw_routines.specs.Routines.{HaveRows};
 ghost use Rattle.paw_stage.specs.Stage.{Standing, Faulted};
-ghost use Rattle.paw_stage.specs.Across.{Across, Throughout};
+ghost use Rattle.paw_stage.specs.Across.{Across};
+ghost use Rattle.paw_stage.specs.inner.Across.{Throughout};
 ghost use Rattle.paw_reading.specs.Turn.{reading};
 ghost use Rattle.paw_stage.specs.Moments.{InShow};
-ghost use Rattle.paw_turn.specs.Player.{IsSeated};
+ghost use Rattle.paw_turn.specs.inner.Player.{IsSeated};
 ghost use Rattle.paw_play.specs.Walk.{Reading, Walks};
-ghost use Rattle.paw_play.specs.OnTheWay.{EachStory, IsWalking, WalksOn, Told, refusal_of};
-ghost use Rattle.paw_play.specs.Calls.{IfOutside, IsWalkCall, failed_call, failed_so_far};
+ghost use Rattle.paw_play.specs.inner.OnTheWay.{EachStory, IsWalking, WalksOn, Told, refusal_of};
+ghost use Rattle.paw_play.specs.Calls.{IsWalkCall};
+ghost use Rattle.paw_play.specs.inner.Calls.{IfOutside, failed_call, failed_so_far};
 ghost use Rattle.paw_play.specs.declared.TheConstants.{MOST_EVENTS};
 
 use crate::show::show;

@@ -5,7 +5,7 @@ use Rattle.std.proofs.lemmas.Bool.{cases_eq, eq-eqb, ne_eqb}
 use Rattle.std.proofs.lemmas.List.{length-replicate, get_or-replicate, length-set, get_or-set_same, get_or-set_other, take_more}
 use Rattle.paw_game.specs.declared.parts.Word.{Word}
 use Rattle.paw_print.specs.Lines.{means, first_word}
-use Rattle.paw_print.specs.Words.{TellsFirst}
+use Rattle.paw_print.specs.inner.Words.{TellsFirst}
 
 pub TellsFirst-none : (ws : List Word) (class : ℕ) → TellsFirst (replicate 256 None) (take 0 ws) class
 TellsFirst-none ws class =

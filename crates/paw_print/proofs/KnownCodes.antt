@@ -6,7 +6,7 @@ use Rattle.paw_base.specs.declared.parts.Condact.{Condact}
 use Rattle.paw_game.specs.declared.parts.Entry.{Entry}
 use Rattle.paw_game.specs.Game.{GameLists}
 use Rattle.paw_game.specs.Valid.{has_word, is_verb_value, is_any, is_condact, is_entry, is_table, Valid}
-use Rattle.paw_print.specs.Known.{IsKnown, IsKnownEntry, IsKnownTable}
+use Rattle.paw_print.specs.inner.Known.{IsKnown, IsKnownEntry, IsKnownTable}
 
 -- what a test gives at each element
 all_give : {A : Type 0} (p : A → Bool) (P : A → Type 0) → ((x : A) → p x ≡ true → P x) → (xs : List A) → list_all p xs ≡ true → AllByRecursion P xs

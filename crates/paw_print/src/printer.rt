@@ -3,7 +3,7 @@
 ghost use Rattle.std.specs.Prelude.{◌≡◌, ◌++◌, IfOk, OnOk};
 ghost use Rattle.std.specs.List.{AllByRecursion};
 ghost use Rattle.paw_print.specs.Canonical.{canonical_lines, canonical_of, written};
-ghost use Rattle.paw_print.specs.Known.{IsKnownTable};
+ghost use Rattle.paw_print.specs.inner.Known.{IsKnownTable};
 
 use crate::entries::write_tables;
 use crate::exits::write_exits;

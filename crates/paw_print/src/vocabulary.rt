@@ -4,7 +4,7 @@ ghost use Rattle.std.specs.Prelude.{◌≡◌, ◌≤◌, ◌++◌, ◌∷◌, �
 ghost use Rattle.std.specs.List.{position_or_len};
 ghost use Rattle.paw_print.specs.Lines.{class_name, spelled_letters, letters_or_none, spaced, value_token, verb_token, word_token, word_tokens};
 ghost use Rattle.paw_print.specs.Canonical.{with_line_end, words_lines, written};
-ghost use Rattle.paw_print.specs.Words.{TellsFirst};
+ghost use Rattle.paw_print.specs.inner.Words.{TellsFirst};
 
 use crate::rows::{end_line, write_header, write_number, write_token};
 use paw_game::parts::Word;
@@ -25,7 +25,7 @@ pub(crate) struct Vocabulary<'a> {
 impl<'a> Model for Vocabulary<'a> {
     ghost use Rattle.std.specs.Prelude.{List};
     ghost use Rattle.paw_game.specs.declared.parts.Word.{Word};
-    ghost use Rattle.paw_print.specs.Words.{TellsFirst};
+    ghost use Rattle.paw_print.specs.inner.Words.{TellsFirst};
 
     ghost Value = { List Word };
 

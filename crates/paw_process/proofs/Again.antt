@@ -4,7 +4,7 @@ use Rattle.std.specs.Prelude.{◌==◌, if◌then◌else◌, not, nat_lt}
 use Rattle.std.proofs.Math.Seq.{take-append_seam}
 use Rattle.std.proofs.lemmas.Bool.{eqb-true, leb-true}
 use Rattle.std.proofs.lemmas.List.{length-reverse, reverse-reverse}
-use Rattle.paw_base.specs.Steps.{no_steps}
+use Rattle.paw_base.specs.inner.Steps.{no_steps}
 use Rattle.paw_game.specs.Game.{GameLists}
 use Rattle.paw_effects.specs.declared.act.Prompt.{Prompt}
 use Rattle.paw_effects.specs.declared.act.Prompt.TheVariants as prompt
@@ -14,7 +14,8 @@ use Rattle.paw_process.specs.declared.kept.Frames.{Frames}
 use Rattle.paw_process.specs.OpenTables.{OpenTables}
 use Rattle.paw_process.proofs.Rows.{length_rows}
 use Rattle.paw_process.proofs.Restored.{first_of, second, no_first}
-use Rattle.paw_process.specs.Kept.{unused, kept, restored, is_unused, row_stands, rows_fault, condact_of, parameter_of, first_fault, loop_fault, count_fits, fault_at, frames_fault, waiting_code, code_or_zero, waiting_at, StandsAt}
+use Rattle.paw_process.specs.Kept.{unused, kept, is_unused, row_stands, rows_fault, condact_of, parameter_of, first_fault, loop_fault, count_fits, fault_at, frames_fault, waiting_code, code_or_zero}
+use Rattle.paw_process.specs.inner.Kept.{restored, waiting_at, StandsAt}
 
 -- ---- the machine again ----
 

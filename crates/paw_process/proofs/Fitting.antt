@@ -13,9 +13,11 @@ use Rattle.paw_effects.specs.declared.act.Prompt.TheVariants as prompt
 use Rattle.paw_reading.specs.declared.places.Frame.{Frame}
 use Rattle.paw_reading.specs.declared.places.OpenLoop.{OpenLoop}
 use Rattle.paw_reading.specs.Turn.{first_table}
-use Rattle.paw_reading.specs.Places.{LeadsTo, tables_of, IsLoopIn, AreOpenTo, ArePlaces}
-use Rattle.paw_process.specs.OpenTables.{OpenTables, IsClosed}
-use Rattle.paw_process.specs.Kept.{unused, kept, condact_of, has_code, may_open, parameter_of, row_stands, rows_fault, table_of, is_that_table, loop_stands, loop_fault, first_fault, count_fits, fault_at, frames_fault, StandsAt}
+use Rattle.paw_reading.specs.inner.Places.{LeadsTo, tables_of, IsLoopIn, AreOpenTo, ArePlaces}
+use Rattle.paw_process.specs.OpenTables.{OpenTables}
+use Rattle.paw_process.specs.inner.OpenTables.{IsClosed}
+use Rattle.paw_process.specs.Kept.{unused, kept, condact_of, has_code, may_open, parameter_of, row_stands, rows_fault, table_of, is_that_table, loop_stands, loop_fault, first_fault, count_fits, fault_at, frames_fault}
+use Rattle.paw_process.specs.inner.Kept.{StandsAt}
 use Rattle.paw_process.specs.declared.kept.Frames.{Frames}
 use Rattle.paw_process.proofs.Restored.{first_of, second, no_first, none_open}
 

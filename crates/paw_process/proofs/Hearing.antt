@@ -11,9 +11,9 @@ use Rattle.paw_reading.specs.Reading.{Out, asked, answered, deeper}
 use Rattle.paw_reading.specs.GoingOn.{on_path}
 use Rattle.paw_reading.proofs.Rules.{plain_past}
 use Rattle.paw_reading.proofs.Along.{on_path_reverse}
-use Rattle.paw_process.specs.OpenTables.{below}
-use Rattle.paw_process.specs.Meaning.{to_come, going_on, AnswersQuit, AnswersKey}
-use Rattle.paw_process.specs.Moves.{settled, past_of, after_quit, after_key}
+use Rattle.paw_process.specs.inner.OpenTables.{below}
+use Rattle.paw_process.specs.inner.Meaning.{to_come, going_on, AnswersQuit, AnswersKey}
+use Rattle.paw_process.specs.inner.Moves.{settled, past_of, after_quit, after_key}
 
 -- a line that isn't ignored is heard, and answers
 hears : (g : Story) (p : Prompt) (f : Frame) (go : Bool → Run → Out) (r : Run) (line : List ℕ) (lines : List (List ℕ)) → is_ignored r.world line ≡ false → asked g p f go (to_come (line ∷ lines) r) (line ∷ lines) ≡ answered g p f go (reply line) (heard line (to_come lines r))

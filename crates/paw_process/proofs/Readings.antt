@@ -4,7 +4,7 @@ use Rattle.std.specs.Prelude.{if◌then◌else◌, reverse}
 use Rattle.std.proofs.lemmas.List.{append_assoc, append-nil}
 use Rattle.paw_base.specs.declared.parts.Condact.{Condact}
 use Rattle.paw_base.specs.Steps.{KeptSteps}
-use Rattle.paw_base.specs.Steps.{noted as noted_step}
+use Rattle.paw_base.specs.inner.Steps.{noted as noted_step}
 use Rattle.paw_base.proofs.Noted.{kept_noted}
 use Rattle.paw_base.specs.declared.fault.SpentKind.TheVariants as spent
 use Rattle.paw_effects.specs.Story.{Story}
@@ -27,11 +27,13 @@ use Rattle.paw_reading.specs.declared.places.Frame.{Frame}
 use Rattle.paw_reading.specs.declared.places.OpenLoop.{OpenLoop}
 use Rattle.paw_reading.specs.Run.{Run, Step, closed, with_world}
 use Rattle.paw_reading.specs.Reading.{RunsOut, Out, halts, step_at, noted, printing, waits, tests, acts, parses, carried_out, after_action, loop_of, deeper}
-use Rattle.paw_reading.specs.GoingOn.{along, on_path}
-use Rattle.paw_process.specs.OpenTables.{OpenTables, HasRead, ReadsNone, ReadsStep, below}
-use Rattle.paw_process.specs.Meaning.{Held, held, Shows, showing, with_steps, to_come, going_on, ComesTo, RunsTo}
-use Rattle.paw_process.specs.Moves.{Continues, settled, next_of, past_of, reading_at, acted_at, turning_at, running, reading_with, one_at, Reads, ReadsOne, after_found}
-use Rattle.paw_process.specs.Phrases.{Speaks}
+use Rattle.paw_reading.specs.GoingOn.{on_path}
+use Rattle.paw_reading.specs.inner.GoingOn.{along}
+use Rattle.paw_process.specs.OpenTables.{OpenTables}
+use Rattle.paw_process.specs.inner.OpenTables.{HasRead, ReadsNone, ReadsStep, below}
+use Rattle.paw_process.specs.inner.Meaning.{Held, held, Shows, showing, with_steps, to_come, going_on, ComesTo, RunsTo}
+use Rattle.paw_process.specs.inner.Moves.{Continues, settled, next_of, past_of, reading_at, acted_at, turning_at, running, reading_with, one_at, Reads, ReadsOne, after_found}
+use Rattle.paw_process.specs.inner.Phrases.{Speaks}
 use Rattle.paw_process.specs.declared.Turned.{Turned}
 use Rattle.paw_process.specs.declared.Turned.TheVariants as turned
 use Rattle.paw_process.proofs.Steps.{acted_call, acted_loop, settled_waits, reading_condact, reading_none}

@@ -7,7 +7,8 @@ use Rattle.paw_effects.specs.declared.act.Prompt.{Prompt}
 use Rattle.paw_reading.specs.declared.places.Frame.{Frame}
 use Rattle.paw_reading.specs.declared.places.OpenLoop.{OpenLoop}
 use Rattle.paw_process.specs.Kept.{kept, unused}
-use Rattle.paw_process.specs.OpenTables.{OpenTables, below}
+use Rattle.paw_process.specs.OpenTables.{OpenTables}
+use Rattle.paw_process.specs.inner.OpenTables.{below}
 
 -- what the machine's parts are seen as
 abbrev pub seen : List Frame → ℕ → Option OpenLoop → Option Prompt → ℕ → KeptSteps → OpenTables

@@ -6,10 +6,10 @@ use Rattle.paw_routines.specs.declared.routines.Routines.{Routines}
 use Rattle.paw_routines.specs.Routines.{AreRowsOf}
 use Rattle.paw_effects.specs.Built.{IsOf}
 use Rattle.paw_effects.specs.Story.{story_of}
-use Rattle.paw_process.specs.OpenTables.{IsReading}
-use Rattle.paw_process.specs.Meaning.{Held, going_on, RunsTo}
-use Rattle.paw_process.specs.Moves.{Reads}
-use Rattle.paw_process.specs.Running.{IsRunning}
+use Rattle.paw_process.specs.inner.OpenTables.{IsReading}
+use Rattle.paw_process.specs.inner.Meaning.{Held, going_on, RunsTo}
+use Rattle.paw_process.specs.inner.Moves.{Reads}
+use Rattle.paw_process.specs.inner.Running.{IsRunning}
 use Rattle.paw_process.specs.declared.Turned.{Turned}
 use Rattle.paw_process.proofs.Readings.{reads_nothing, reads_on, runs_to}
 

@@ -4,7 +4,8 @@ use Rattle.std.specs.Prelude.{if◌then◌else◌, reverse}
 use Rattle.paw_base.specs.declared.parts.Condact.{Condact}
 use Rattle.paw_base.specs.declared.fault.SpentKind.TheVariants as spent
 use Rattle.paw_effects.specs.Story.{Story}
-use Rattle.paw_game.specs.Tables.{condact_at, match_at}
+use Rattle.paw_game.specs.Tables.{condact_at}
+use Rattle.paw_game.specs.inner.Tables.{match_at}
 use Rattle.paw_world.specs.World.{flag}
 use Rattle.paw_effects.specs.declared.act.Prompt.{Prompt}
 use Rattle.paw_effects.specs.declared.act.Effect.TheVariants as effect
@@ -12,14 +13,15 @@ use Rattle.paw_reading.specs.declared.places.Frame.{Frame}
 use Rattle.paw_reading.specs.declared.places.OpenLoop.{OpenLoop}
 use Rattle.paw_reading.specs.Run.{Run, closed, without_loop}
 use Rattle.paw_reading.specs.Reading.{RunsOut, Redescribes, Halts, Out, Left, Stopped, halts, at_level, again, taken, turns, loop_of, waits, plain, looped, deeper, rest, reads_one}
-use Rattle.paw_reading.specs.GoingOn.{along, on_path}
+use Rattle.paw_reading.specs.GoingOn.{on_path}
+use Rattle.paw_reading.specs.inner.GoingOn.{along}
 use Rattle.paw_reading.proofs.Onward.{taken_again}
 use Rattle.paw_reading.proofs.Keeps.{at_level_own, plain_keeps, turns_closes, deeper_keeps}
 use Rattle.paw_reading.proofs.Rules.{within_budget, within_none, inside_end, inside_condact, plain_left, plain_match, plain_inside, again_closed, after_call_again}
 use Rattle.paw_reading.proofs.Along.{along_stopped, on_path_reverse}
-use Rattle.paw_process.specs.Objects.{is_next, least_taken}
-use Rattle.paw_process.specs.Meaning.{going_on}
-use Rattle.paw_process.specs.Moves.{settled, next_of, past_of, reading_at, acted_at, turning_at}
+use Rattle.paw_process.specs.inner.Objects.{is_next, least_taken}
+use Rattle.paw_process.specs.inner.Meaning.{going_on}
+use Rattle.paw_process.specs.inner.Moves.{settled, next_of, past_of, reading_at, acted_at, turning_at}
 
 -- ---- the loop ----
 

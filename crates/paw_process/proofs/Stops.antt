@@ -4,19 +4,20 @@ use Rattle.std.specs.Prelude.{nat_le, reverse}
 use Rattle.std.proofs.lemmas.Bool.Decides.{nat_tests}
 use Rattle.paw_base.specs.declared.fault.SpentKind.{SpentKind}
 use Rattle.paw_base.specs.declared.fault.SpentKind.TheVariants as spent
-use Rattle.paw_base.specs.Piece.{Puts}
+use Rattle.paw_base.specs.inner.Piece.{Puts}
 use Rattle.paw_effects.specs.Story.{Story}
 use Rattle.paw_effects.specs.declared.act.Prompt.{Prompt}
 use Rattle.paw_reading.specs.declared.places.Frame.{Frame}
 use Rattle.paw_reading.specs.Run.{Run, closed, printed}
 use Rattle.paw_reading.specs.Reading.{RunsOut, CallsTooDeep, Halts, Out, halts, printing, waits, deeper}
-use Rattle.paw_reading.specs.GoingOn.{along, on_path}
+use Rattle.paw_reading.specs.GoingOn.{on_path}
+use Rattle.paw_reading.specs.inner.GoingOn.{along}
 use Rattle.paw_reading.proofs.Rules.{deeper_rest, deeper_none}
 use Rattle.paw_reading.proofs.Along.{along_stopped}
 use Rattle.paw_process.proofs.Steps.{settled_waits}
-use Rattle.paw_process.specs.OpenTables.{below}
-use Rattle.paw_process.specs.Meaning.{going_on, SamePast}
-use Rattle.paw_process.specs.Moves.{Continues, settled, past_of}
+use Rattle.paw_process.specs.inner.OpenTables.{below}
+use Rattle.paw_process.specs.inner.Meaning.{going_on, SamePast}
+use Rattle.paw_process.specs.inner.Moves.{Continues, settled, past_of}
 use Rattle.paw_process.specs.declared.Turned.{Turned}
 use Rattle.paw_process.specs.declared.Turned.TheVariants as turned
 

@@ -3,10 +3,11 @@ use Rattle.std.proofs.Common.{◌≡◌, ℕ, zero, suc, ◌-◌, ◌≤◌, ◌
 use Rattle.std.specs.Prelude.{◌==◌, if◌then◌else◌}
 use Rattle.paw_game.specs.Game.{GameLists}
 use Rattle.paw_game.specs.Tables.{facts_at}
-use Rattle.paw_world.specs.World.{World, place, first_at}
-use Rattle.paw_world.specs.Places.{least_at, left_above}
+use Rattle.paw_world.specs.World.{World, place}
+use Rattle.paw_world.specs.inner.World.{first_at}
+use Rattle.paw_world.specs.inner.Places.{least_at, left_above}
 use Rattle.paw_reading.specs.Reading.{may_be_taken}
-use Rattle.paw_process.specs.Objects.{is_next, least_taken}
+use Rattle.paw_process.specs.inner.Objects.{is_next, least_taken}
 
 -- the object found at the place, or the next one that is taken
 abbrev pub tried : GameLists → World → ℕ → Option ℕ → Option ℕ

@@ -2,8 +2,9 @@
 use Rattle.std.proofs.Common.{◌≡◌, ◌+◌, ◌-◌, ◌*◌, ◌≤◌, ◌<◌, List, [], ◌∷◌, Option, Some, None, refl, ap, ◌∙◌, length, arith}
 use Rattle.paw_reading.specs.declared.places.Frame.{Frame}
 use Rattle.paw_reading.specs.declared.places.OpenLoop.{OpenLoop}
-use Rattle.paw_process.specs.OpenTables.{OpenTables, below, IsReading}
-use Rattle.paw_process.specs.Work.{frames_work, loop_work, work, Progress, counts, falls}
+use Rattle.paw_process.specs.OpenTables.{OpenTables}
+use Rattle.paw_process.specs.inner.OpenTables.{below, IsReading}
+use Rattle.paw_process.specs.inner.Work.{frames_work, loop_work, work, Progress, counts, falls}
 
 top_work : (fs : List Frame) → 0 < length fs → 1 + frames_work (below fs) ≤ frames_work fs
 top_work [] h = absurd (omega arith)

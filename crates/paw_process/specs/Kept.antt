@@ -1,19 +1,16 @@
 -- What is kept of a machine that waits, and the rules that it keeps.
-use Rattle.std.specs.Prelude.{ℕ, suc, ◌-◌, ◌==◌, ◌&&◌, Bool, false, not, List, [], ◌∷◌, ◌++◌, Option, Some, None, length, reverse, replicate, take, slice_get, nat_lt, nat_le, if◌then◌else◌}
+use Rattle.std.specs.Prelude.{ℕ, suc, ◌-◌, ◌==◌, ◌&&◌, Bool, false, not, List, [], ◌∷◌, ◌++◌, Option, Some, None, length, reverse, replicate, slice_get, nat_lt, nat_le, if◌then◌else◌}
 use Rattle.paw_base.specs.declared.codes.TheConstants.{PROCESS, DOALL}
-use Rattle.paw_base.specs.declared.limits.TheConstants.{READ_LIMIT}
 use Rattle.paw_base.specs.declared.parts.Condact.{Condact}
-use Rattle.paw_base.specs.Steps.{no_steps}
 use Rattle.paw_game.specs.Game.{GameLists}
 use Rattle.paw_game.specs.Tables.{condact_at}
 use Rattle.paw_game.specs.Valid.{is_place}
 use Rattle.paw_effects.specs.declared.act.Prompt.{Prompt}
-use Rattle.paw_effects.specs.declared.act.Prompt.TheVariants as prompt
 use Rattle.paw_reading.specs.declared.places.Frame.{Frame}
 use Rattle.paw_reading.specs.declared.places.OpenLoop.{OpenLoop}
 pub use Rattle.paw_reading.specs.Places.{waiting_code}
 use Rattle.paw_process.specs.declared.machine.TheConstants.{MOST_FRAMES}
-use Rattle.paw_process.specs.OpenTables.{OpenTables, IsWaiting, IsClosed}
+use Rattle.paw_process.specs.OpenTables.{OpenTables}
 use Rattle.paw_process.specs.declared.kept.Frames.{Frames}
 
 -- an unused row
@@ -26,16 +23,6 @@ kept m = record {
   count = length m.frames;
   rows = reverse m.frames ++ replicate (MOST_FRAMES - length m.frames) unused;
   turning = m.turning;
-}
-
--- the machine of what is kept, which waits at this prompt, with a full budget and no steps
-abbrev pub restored : Frames → Option Prompt → OpenTables
-restored k waiting = record {
-  frames = reverse (take k.count k.rows);
-  turning = k.turning;
-  waiting = waiting;
-  left = READ_LIMIT;
-  steps = no_steps;
 }
 
 -- ---- the rules ----
@@ -123,19 +110,3 @@ fault_at g code k =
 -- rows for the loop, 0 for the number of frames; nothing where it keeps them all
 abbrev pub frames_fault : GameLists → Prompt → Frames → Option ℕ
 frames_fault g p k = fault_at g (waiting_code p) k
-
--- inside tables the machine waits at the prompt, and else nothing is open
-abbrev pub StandsAt : Prompt → OpenTables → Type 0
-StandsAt prompt.Main m = IsClosed m
-StandsAt prompt.Quit m = IsWaiting prompt.Quit m
-StandsAt prompt.Again m = IsWaiting prompt.Again m
-StandsAt prompt.Key m = IsWaiting prompt.Key m
-StandsAt prompt.Over m = IsClosed m
-
--- the prompt inside tables
-abbrev pub waiting_at : Prompt → Option Prompt
-waiting_at prompt.Main = None
-waiting_at prompt.Quit = Some prompt.Quit
-waiting_at prompt.Again = Some prompt.Again
-waiting_at prompt.Key = Some prompt.Key
-waiting_at prompt.Over = None

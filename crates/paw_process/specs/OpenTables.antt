@@ -1,12 +1,9 @@
 -- The tables that are open.
-use Rattle.std.specs.Prelude.{◌≡◌, ℕ, ◌+◌, ◌<◌, ◌≤◌, List, [], ◌∷◌, Option, Some, None, length, IfSome}
-use Rattle.paw_base.specs.declared.limits.TheConstants.{ENTRY_LIMIT, CONDACT_LIMIT, READ_LIMIT}
-use Rattle.paw_base.specs.Steps.{KeptSteps, kept_steps, noted}
+use Rattle.std.specs.Prelude.{ℕ, List, Option}
+use Rattle.paw_base.specs.Steps.{KeptSteps}
 use Rattle.paw_effects.specs.declared.act.Prompt.{Prompt}
 use Rattle.paw_reading.specs.declared.places.Frame.{Frame}
 use Rattle.paw_reading.specs.declared.places.OpenLoop.{OpenLoop}
-use Rattle.paw_reading.specs.Run.{Step}
-use Rattle.paw_process.specs.declared.machine.TheConstants.{MOST_FRAMES}
 
 -- what a machine holds: the places in the tables that are open, the innermost first; the open loop; the prompt at which
 -- it waits; how many condacts the open piece may still read; and what is kept of the steps of the piece
@@ -16,72 +13,3 @@ pub record OpenTables : Type 0 where
   pub waiting : Option Prompt
   pub left : ℕ
   pub steps : KeptSteps
-
--- the open piece has read these condacts, and so many in all as a piece may
-pub record HasRead (read : List Step) (m : OpenTables) : Type 0 where
-  pub left : length read + m.left ≡ READ_LIMIT
-  pub steps : m.steps ≡ kept_steps read
-
--- no condact was read
-pub record ReadsNone (old new : OpenTables) : Type 0 where
-  pub left : new.left ≡ old.left
-  pub steps : new.steps ≡ old.steps
-
--- one was read, with this step
-pub record ReadsStep (step : Step) (old new : OpenTables) : Type 0 where
-  pub left : old.left ≡ new.left + 1
-  pub steps : new.steps ≡ noted step old.steps
-
--- the frames below the innermost
-abbrev pub below : List Frame → List Frame
-below [] = []
-below (f ∷ fs) = fs
-
--- the frame stands at a condact
-pub record IsAtCondact (f : Frame) : Type 0 where
-  pub at : f.at < CONDACT_LIMIT
-  pub entry : f.entry < ENTRY_LIMIT
-
--- each of these frames stands at a condact
-abbrev pub AtCondacts : List Frame → Type 0
-AtCondacts [] = Unit {0}
-AtCondacts (f ∷ fs) = IsAtCondact f × AtCondacts fs
-
--- the innermost frame stands before an entry, or in one
-abbrev pub InTable : List Frame → Type 0
-InTable [] = Unit {0}
-InTable (f ∷ fs) = 0 < f.at → f.entry < ENTRY_LIMIT
-
--- the loop stands at a condact, and is one of these levels'
-pub record IsLoopWithin (levels : ℕ) (l : OpenLoop) : Type 0 where
-  pub at : l.at < CONDACT_LIMIT
-  pub entry : l.entry < ENTRY_LIMIT
-  pub level : l.level < levels
-
-abbrev pub LoopFits : ℕ → Option OpenLoop → Type 0
-LoopFits levels o = IfSome o (IsLoopWithin levels)
-
--- tables are open, and not too many, and each but the innermost stands at a condact
-pub record AreOpen (frames : List Frame) (turning : Option OpenLoop) : Type 0 where
-  pub some : 0 < length frames
-  pub depth : length frames ≤ MOST_FRAMES
-  pub top : InTable frames
-  pub below : AtCondacts (below frames)
-  pub loop : LoopFits (length frames) turning
-
--- the machine may read on
-pub record IsReading (m : OpenTables) : Type 0 where
-  pub tables : AreOpen m.frames m.turning
-  pub waiting : m.waiting ≡ None
-
--- the machine waits at this prompt
-pub record IsWaiting (p : Prompt) (m : OpenTables) : Type 0 where
-  pub tables : AreOpen m.frames m.turning
-  pub condacts : AtCondacts m.frames
-  pub waiting : m.waiting ≡ Some p
-
--- no table and no loop is open
-pub record IsClosed (m : OpenTables) : Type 0 where
-  pub frames : m.frames ≡ []
-  pub turning : m.turning ≡ None
-  pub waiting : m.waiting ≡ None

@@ -1,7 +1,7 @@
 // Places in a table.
 
 ghost use Rattle.std.specs.Prelude.{◌≡◌, ◌+◌, ◌<◌, false, true, Some};
-ghost use Rattle.paw_process.specs.Moves.{after_quit, after_key, after_found};
+ghost use Rattle.paw_process.specs.inner.Moves.{after_quit, after_key, after_found};
 ghost use Rattle.paw_effects.specs.declared.act.Prompt.TheVariants as prompt;
 
 use paw_effects::act::Prompt;

@@ -2,7 +2,8 @@
 
 ghost use Rattle.std.specs.Prelude.{◌≡◌, ℕ, ◌+◌, ◌<◌, ◌≤◌, ◌-◌, ◌==◌, if◌then◌else◌, length, slice_get};
 ghost use Rattle.paw_game.specs.Valid.{is_place};
-ghost use Rattle.paw_process.specs.Kept.{waiting_code, waiting_at, may_open, has_code, parameter_of, is_unused, row_stands, rows_fault, table_of, is_that_table, loop_stands, loop_fault, count_fits, frames_fault};
+ghost use Rattle.paw_process.specs.Kept.{waiting_code, may_open, has_code, parameter_of, is_unused, row_stands, rows_fault, table_of, is_that_table, loop_stands, loop_fault, count_fits, frames_fault};
+ghost use Rattle.paw_process.specs.inner.Kept.{waiting_at};
 
 use crate::machine::MOST_FRAMES;
 use paw_base::codes::{DOALL, PROCESS};

@@ -3,7 +3,7 @@
 ghost use Rattle.std.specs.Prelude.{◌≡◌, ℕ, ◌+◌, ◌<◌, ◌≤◌, ◌^◌, List, [], ◌∷◌, length, reverse, nat_lt, true, false, Some, None, IfOk, IfErr};
 ghost use Rattle.paw_game.specs.Game.{GameLists};
 ghost use Rattle.paw_game.specs.Valid.{Valid};
-ghost use Rattle.paw_base.specs.Steps.{no_steps};
+ghost use Rattle.paw_base.specs.inner.Steps.{no_steps};
 ghost use Rattle.paw_routines.specs.Routines.{AreRowsOf, HaveRows};
 ghost use Rattle.paw_effects.specs.Built.{IsOf};
 ghost use Rattle.paw_effects.specs.Story.{story_of};
@@ -13,10 +13,12 @@ ghost use Rattle.paw_reading.specs.Run.{Run, is_ignored, heard, reply, is_yes};
 ghost use Rattle.paw_reading.specs.Reading.{step_at};
 ghost use Rattle.paw_reading.specs.GoingOn.{on_path};
 ghost use Rattle.paw_reading.specs.Turn.{first_table};
-ghost use Rattle.paw_reading.specs.Places.{ArePlaces};
-ghost use Rattle.paw_process.specs.OpenTables.{OpenTables, below, ReadsStep, IsReading, IsWaiting, IsClosed};
-ghost use Rattle.paw_process.specs.Kept.{kept as kept_of, restored, waiting_at, frames_fault, StandsAt};
-ghost use Rattle.paw_process.specs.Meaning.{held, going_on, RunsTo, IsStopped, AwaitsAnswer, AnswersQuit, AnswersKey};
+ghost use Rattle.paw_reading.specs.inner.Places.{ArePlaces};
+ghost use Rattle.paw_process.specs.OpenTables.{OpenTables};
+ghost use Rattle.paw_process.specs.inner.OpenTables.{below, ReadsStep, IsReading, IsWaiting, IsClosed};
+ghost use Rattle.paw_process.specs.Kept.{kept as kept_of, frames_fault};
+ghost use Rattle.paw_process.specs.inner.Kept.{restored, waiting_at, StandsAt};
+ghost use Rattle.paw_process.specs.inner.Meaning.{held, going_on, RunsTo, IsStopped, AwaitsAnswer, AnswersQuit, AnswersKey};
 
 use crate::Turned;
 use crate::frame::{answered, start_of};

@@ -4,8 +4,8 @@ ghost use Rattle.std.specs.Prelude.{◌≡◌, ℕ, ◌<◌, ◌≤◌, ◌-◌,
 ghost use Rattle.paw_effects.specs.Built.{IsOf};
 ghost use Rattle.paw_game.specs.Tables.{facts_at};
 ghost use Rattle.paw_reading.specs.Reading.{may_be_taken, is_excepted, named};
-ghost use Rattle.paw_process.specs.Objects.{least_taken, with_taken};
-ghost use Rattle.paw_world.specs.Places.{left_above};
+ghost use Rattle.paw_process.specs.inner.Objects.{least_taken, with_taken};
+ghost use Rattle.paw_world.specs.inner.Places.{left_above};
 
 use paw_base::parts::ObjectFacts;
 use paw_effects::does::refer;

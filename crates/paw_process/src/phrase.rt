@@ -4,7 +4,7 @@ ghost use Rattle.std.specs.Prelude.{◌≡◌, ◌∷◌};
 ghost use Rattle.paw_effects.specs.Built.{IsOf};
 ghost use Rattle.paw_phrase.specs.Sentence.{parsed};
 ghost use Rattle.paw_reading.specs.Run.{spoken};
-ghost use Rattle.paw_process.specs.Phrases.{Speaks};
+ghost use Rattle.paw_process.specs.inner.Phrases.{Speaks};
 ghost use Rattle.paw_world.specs.World.{flag};
 
 use paw_game::tables::Tables;

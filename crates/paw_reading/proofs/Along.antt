@@ -6,7 +6,8 @@ use Rattle.paw_effects.specs.declared.act.Prompt.{Prompt}
 use Rattle.paw_reading.specs.declared.places.Frame.{Frame}
 use Rattle.paw_reading.specs.Run.{Run}
 use Rattle.paw_reading.specs.Reading.{Stop, Stopped}
-use Rattle.paw_reading.specs.GoingOn.{along, on_path}
+use Rattle.paw_reading.specs.GoingOn.{on_path}
+use Rattle.paw_reading.specs.inner.GoingOn.{along}
 
 -- a stop is handed on as it is
 pub along_stopped : (g : Story) (fs : List Frame) (stop : Stop) (r : Run) → along g fs (Stopped stop r) ≡ Stopped stop r

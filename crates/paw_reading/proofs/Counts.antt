@@ -21,7 +21,7 @@ use Rattle.paw_reading.specs.declared.places.OpenLoop.{OpenLoop}
 use Rattle.paw_reading.specs.Run.{Run, closed, fits, printed, with_world, without_loop, line_dropped, anew, is_timeout, is_ignored, heard, reply, is_yes, is_no, taken_phrase}
 use Rattle.paw_reading.specs.Reading.{IsOver, RunsOut, Redescribes, Restarts, Halts, Out, Left, Waits, Stopped, halts, noted, after_call, at_level, again, is_taken, taken, turns, loop_of, over, answered, asked, waits, after_test, after_parse, after_action, carried_out, acts, reads_one, condacts, is_for_now, entries, plain, looped, reads, called, deeper, rest, table_read, coming_phrase, goodbye, game_over, quit_question}
 use Rattle.paw_reading.specs.Turn.{Stage, AtDescribe, AtFrame, AtPhrase, AtResponse, Ending, Halted, saying, described, framed, view_text, counted, prompt_text, line_set, at_main, after_phrase, refusal_text, connected, after_left, table_done, turn, stages_left, opening, timeout_text, unknown_text}
-use Rattle.paw_reading.specs.Pieces.{count, Counted, PiecesOfLines}
+use Rattle.paw_reading.specs.inner.Pieces.{count, Counted, PiecesOfLines}
 use Rattle.paw_reading.proofs.Keeps.{either, open_or_not, prints}
 
 -- what reading tables comes to where v pieces and lines were there

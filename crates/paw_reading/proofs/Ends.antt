@@ -13,7 +13,8 @@ use Rattle.paw_effects.specs.Texts.{say_text}
 use Rattle.paw_reading.specs.declared.places.Frame.{Frame}
 use Rattle.paw_reading.specs.Run.{Run, closed, fits, printed, with_world, line_dropped, is_timeout, is_ignored, heard, with_timeout}
 use Rattle.paw_reading.specs.Reading.{RunsOut, Redescribes, Restarts, Halts, Out, Left, Waits, Stopped, table_read}
-use Rattle.paw_reading.specs.Turn.{Stage, AtDescribe, AtFrame, AtPhrase, AtResponse, Ending, Halted, Unended, saying, described, framed, view_text, prompt_text, line_set, at_main, after_phrase, refusal_text, connected, responded, after_left, table_done, turn, left_to_read, stages_left, first_table, in_table, goes_on, TurnsEnd, EndsOnce, GoingOnEnds, GoesOnOnce, unknown_text}
+use Rattle.paw_reading.specs.Turn.{Stage, AtDescribe, AtFrame, AtPhrase, AtResponse, Ending, Halted, Unended, saying, described, framed, view_text, prompt_text, line_set, at_main, after_phrase, refusal_text, connected, responded, after_left, table_done, turn, left_to_read, stages_left, first_table, in_table, goes_on, unknown_text}
+use Rattle.paw_reading.specs.inner.Turn.{TurnsEnd, EndsOnce, GoingOnEnds, GoesOnOnce}
 use Rattle.paw_reading.proofs.Spends.{brought, brought_more, Spends, table_spends, path_spends}
 
 -- ---- turns end ----

@@ -11,9 +11,11 @@ use Rattle.paw_effects.specs.declared.act.Prompt.TheVariants as prompt
 use Rattle.paw_reading.specs.declared.places.Frame.{Frame}
 use Rattle.paw_reading.specs.Run.{Run, closed, fits, printed, with_world, line_dropped, is_timeout, is_ignored, heard, taken_phrase}
 use Rattle.paw_reading.specs.Reading.{RunsOut, Redescribes, Restarts, Halts, Out, Left, Waits, Stopped, deeper, table_read, coming_phrase}
-use Rattle.paw_reading.specs.GoingOn.{on_path, with_lines, extended}
-use Rattle.paw_reading.specs.Turn.{Stage, AtDescribe, AtFrame, AtPhrase, AtResponse, Ending, WaitsAt, Halted, Unended, saying, described, framed, view_text, counted, prompt_text, line_set, at_main, after_phrase, refusal_text, connected, after_left, table_done, turn, stages_left, turns_from, opening, first_table, goes_on, followed, GoingOnIsReading, timeout_text, unknown_text}
-use Rattle.paw_reading.specs.Longer.{TurnsGoOn}
+use Rattle.paw_reading.specs.GoingOn.{on_path}
+use Rattle.paw_reading.specs.inner.GoingOn.{with_lines, extended}
+use Rattle.paw_reading.specs.Turn.{Stage, AtDescribe, AtFrame, AtPhrase, AtResponse, Ending, WaitsAt, Halted, Unended, saying, described, framed, view_text, counted, prompt_text, line_set, at_main, after_phrase, refusal_text, connected, after_left, table_done, turn, stages_left, turns_from, opening, first_table, goes_on, timeout_text, unknown_text}
+use Rattle.paw_reading.specs.inner.Turn.{followed, GoingOnIsReading}
+use Rattle.paw_reading.specs.inner.Longer.{TurnsGoOn}
 use Rattle.paw_reading.proofs.Keeps.{Keeps, IsLoopOf, reads_keeps, deeper_keeps}
 use Rattle.paw_reading.proofs.Stops.{Stops, rest_stops}
 use Rattle.paw_reading.proofs.Stays.{IsInner, Stays, rest_stays}

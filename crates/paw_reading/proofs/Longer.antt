@@ -2,8 +2,9 @@
 use Rattle.std.proofs.Common.{◌≡◌, ℕ, List, [], refl, ◌∙◌}
 use Rattle.paw_effects.specs.Story.{Story}
 use Rattle.paw_reading.specs.Reading.{Out, Left, Waits, Stopped, rest}
-use Rattle.paw_reading.specs.GoingOn.{on_path, extended}
-use Rattle.paw_reading.specs.Longer.{TablesGoOn, PathsGoOn}
+use Rattle.paw_reading.specs.GoingOn.{on_path}
+use Rattle.paw_reading.specs.inner.GoingOn.{extended}
+use Rattle.paw_reading.specs.inner.Longer.{TablesGoOn, PathsGoOn}
 use Rattle.paw_reading.proofs.Extends.{extends, rest_extends, path_extends}
 
 pub extends_lines : (g : Story) (lines : List (List ℕ)) (lv : ℕ) (x : Out) → extends g [] [] lines lv x ≡ extended g lines lv x

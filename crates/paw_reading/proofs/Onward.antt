@@ -12,7 +12,7 @@ use Rattle.paw_reading.specs.declared.places.OpenLoop.{OpenLoop}
 use Rattle.paw_reading.specs.Run.{Run, without_loop, heard}
 use Rattle.paw_reading.specs.Reading.{Out, Left, Waits, Stopped, after_call, at_level, again, is_taken, taken, turns, loop_of, over, asked, reads_one, entries, is_for_now, inside, plain, looped, deeper, rest, goodbye, game_over}
 use Rattle.paw_reading.specs.GoingOn.{on_path}
-use Rattle.paw_reading.specs.Rules.{past, at_frame, leaves, looks, goes, MayRead, ReadsEntries, ReadsCondacts, FollowsActions, TurnsLoops, AnswersPrompts, ReadingOn}
+use Rattle.paw_reading.specs.inner.Rules.{past, at_frame, leaves, looks, goes, MayRead, ReadsEntries, ReadsCondacts, FollowsActions, TurnsLoops, AnswersPrompts, ReadingOn}
 use Rattle.paw_reading.proofs.Lists.{drop_none, drop_some}
 use Rattle.paw_reading.proofs.Keeps.{Keeps, prints, at_level_own, turns_closes, plain_keeps, deeper_keeps}
 use Rattle.paw_reading.proofs.Rules.{within_budget, within_none, inside_end, inside_condact, again_closed, after_call_again, deeper_rest, deeper_none}

@@ -12,9 +12,10 @@ use Rattle.paw_effects.specs.declared.act.Prompt.TheVariants as prompt
 use Rattle.paw_reading.specs.declared.places.Frame.{Frame}
 use Rattle.paw_reading.specs.Run.{Run, Step, closed, fits, printed, with_world, line_dropped, is_timeout, is_ignored, heard, taken_phrase}
 use Rattle.paw_reading.specs.Reading.{RunsOut, Redescribes, Restarts, Halts, Out, Left, Waits, Stopped, rest, table_read, coming_phrase}
-use Rattle.paw_reading.specs.GoingOn.{on_path, with_lines}
+use Rattle.paw_reading.specs.GoingOn.{on_path}
+use Rattle.paw_reading.specs.inner.GoingOn.{with_lines}
 use Rattle.paw_reading.specs.Turn.{Stage, AtDescribe, AtFrame, AtPhrase, AtResponse, Ending, WaitsAt, Halted, Unended, saying, described, framed, view_text, counted, prompt_text, line_set, at_main, after_phrase, refusal_text, connected, after_left, table_done, turn, stages_left, first_table, in_table, goes_on, on, reading, text_of, timeout_text, unknown_text}
-use Rattle.paw_reading.specs.Longer.{with_past, without_past, ending_with_past, PastStays, LongerReading, LongerText}
+use Rattle.paw_reading.specs.inner.Longer.{with_past, without_past, ending_with_past, PastStays, LongerReading, LongerText}
 use Rattle.paw_reading.proofs.Onward.{waits_on}
 use Rattle.paw_reading.proofs.Stops.{Stops, rest_stops, path_stops}
 use Rattle.paw_reading.proofs.Extends.{around, extends, rest_extends, path_extends}

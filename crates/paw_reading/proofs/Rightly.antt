@@ -9,7 +9,7 @@ use Rattle.paw_game.specs.Valid.{Valid}
 use Rattle.paw_world.specs.World.{World, Position, flag, with_flag, is_dark, is_unlit, fallen, fallen_if}
 use Rattle.paw_phrase.specs.Sentence.{Parsed, IsSentence, IsUnknown, IsNoPhrase}
 use Rattle.paw_effects.specs.Built.{StandsIn}
-use Rattle.paw_effects.specs.Standing.{MayBePosition}
+use Rattle.paw_effects.specs.inner.Standing.{MayBePosition}
 use Rattle.paw_effects.specs.Story.{Story}
 use Rattle.paw_effects.specs.declared.act.Prompt.{Prompt}
 use Rattle.paw_effects.specs.declared.act.Prompt.TheVariants as prompt
@@ -20,9 +20,10 @@ use Rattle.paw_reading.specs.declared.places.OpenLoop.{OpenLoop}
 use Rattle.paw_reading.specs.Run.{Run, Step, closed, fits, printed, with_world, line_dropped, is_timeout, is_ignored, heard, taken_phrase}
 use Rattle.paw_reading.specs.Reading.{IsOver, RunsOut, Redescribes, Restarts, Halts, Out, Left, Waits, Stopped, table_read, coming_phrase}
 use Rattle.paw_reading.specs.Turn.{Stage, AtDescribe, AtFrame, AtPhrase, AtResponse, Ending, WaitsAt, Halted, reading, on, saying, described, framed, view_text, counted, prompt_text, line_set, at_main, after_phrase, refusal_text, connected, after_left, table_done, turn, stages_left, opening, first_table, in_table, goes_on, timeout_text, unknown_text}
-use Rattle.paw_reading.specs.Bounds.{IsLine, ValidStory, IsBounded}
-use Rattle.paw_reading.specs.Longer.{without_past, with_past, ending_with_past}
-use Rattle.paw_reading.specs.Places.{LeadsTo, tables_of, AreOpenTo, ArePlaces, IsLineTaken, StandsRightly, StopsRightly, StopsBounded, ReadingsStopRightly, GoingOnStopsRightly, ReadingsAreBounded, GoingOnIsBounded}
+use Rattle.paw_reading.specs.Bounds.{IsLine, ValidStory}
+use Rattle.paw_reading.specs.inner.Bounds.{IsBounded}
+use Rattle.paw_reading.specs.inner.Longer.{without_past, with_past, ending_with_past}
+use Rattle.paw_reading.specs.inner.Places.{LeadsTo, tables_of, AreOpenTo, ArePlaces, IsLineTaken, StandsRightly, StopsRightly, StopsBounded, ReadingsStopRightly, GoingOnStopsRightly, ReadingsAreBounded, GoingOnIsBounded}
 use Rattle.paw_reading.proofs.Held.{Sound, Held, none_open, table_held, path_held}
 use Rattle.paw_reading.proofs.Keeps.{either}
 use Rattle.paw_reading.proofs.Past.{past_stays}

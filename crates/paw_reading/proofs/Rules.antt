@@ -9,7 +9,8 @@ use Rattle.paw_base.specs.declared.fault.SpentKind.TheVariants as spent
 use Rattle.paw_game.specs.declared.parts.Entry.{Entry}
 use Rattle.paw_game.specs.Game.{GameLists}
 use Rattle.paw_effects.specs.Story.{Story}
-use Rattle.paw_game.specs.Tables.{table_at, entry_at, condacts_of, condact_at, matches, first_match, match_at}
+use Rattle.paw_game.specs.Tables.{table_at, entry_at, condacts_of, condact_at, matches}
+use Rattle.paw_game.specs.inner.Tables.{first_match, match_at}
 use Rattle.paw_world.specs.World.{flag}
 use Rattle.paw_reading.specs.declared.places.Frame.{Frame}
 use Rattle.paw_reading.specs.declared.places.OpenLoop.{OpenLoop}

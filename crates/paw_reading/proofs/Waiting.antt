@@ -7,7 +7,8 @@ use Rattle.paw_reading.specs.declared.places.Frame.{Frame}
 use Rattle.paw_reading.specs.Run.{Run}
 use Rattle.paw_reading.specs.Reading.{Waits, after_call, asked, rest}
 use Rattle.paw_reading.specs.GoingOn.{on_path}
-use Rattle.paw_reading.specs.Turn.{WaitsAt, AtResponse, at_main, table_done, turn, stages_left, first_table, on, MayWaitAlong, WaitsOn}
+use Rattle.paw_reading.specs.Turn.{WaitsAt, AtResponse, at_main, table_done, turn, stages_left, first_table, on}
+use Rattle.paw_reading.specs.inner.Turn.{MayWaitAlong, WaitsOn}
 
 path_waits : (g : Story) (p : Prompt) (lv : ℕ) (f : Frame) (path : List Frame) (r : Run) → on_path g p lv (f ∷ path) (record r { events = [] }) ≡ Waits p (f ∷ path) (record r { events = [] })
 unfolding asked

@@ -1,9 +1,7 @@
 pub mod Run
 pub mod Reading
 pub mod GoingOn
-pub mod Rules
 pub mod Turn
-pub mod Longer
-pub mod Pieces
 pub mod Bounds
 pub mod Places
+pub mod inner

@@ -1,5 +1,5 @@
 -- The turn, and the reading of a list of lines.
-use Rattle.std.specs.Prelude.{◌≡◌, ◌≢◌, ℕ, zero, suc, ◌+◌, ◌-◌, ◌*◌, ◌/◌, ◌%◌, ◌<◌, ◌==◌, Bool, true, false, List, [], ◌∷◌, ◌++◌, Option, Some, None, length, map, sum_by, flat_map, nat_lt, min, if◌then◌else◌}
+use Rattle.std.specs.Prelude.{ℕ, zero, suc, ◌+◌, ◌-◌, ◌*◌, ◌/◌, ◌%◌, ◌==◌, Bool, true, false, List, [], ◌∷◌, ◌++◌, Option, Some, None, length, map, sum_by, flat_map, nat_lt, min, if◌then◌else◌}
 use Rattle.paw_base.specs.declared.flags.TheConstants.{VIEW_FLAG, DARK_VIEW_FLAG, UNLIT_VIEW_FLAG, FIRST_FRAME_FLAG, LAST_FRAME_FLAG, DARK_FRAME_FLAG, UNLIT_FRAME_FLAG, LOW_TURNS_FLAG, HIGH_TURNS_FLAG, VERB_FLAG, LOCATION_FLAG, PROMPT_FLAG}
 use Rattle.paw_base.specs.declared.limits.TheConstants.{READ_LIMIT}
 use Rattle.paw_base.specs.declared.messages.TheConstants.{DARK_MESSAGE, PROMPT_MESSAGE, UNKNOWN_MESSAGE, NO_WAY_MESSAGE, IMPOSSIBLE_MESSAGE, LINE_MESSAGE, TIMEOUT_MESSAGE}
@@ -17,7 +17,7 @@ use Rattle.paw_effects.specs.Texts.{put_text, say_text, location_text}
 use Rattle.paw_reading.specs.declared.places.Frame.{Frame}
 use Rattle.paw_reading.specs.Run.{Run, closed, fits, printed, with_world, line_dropped, is_timeout, is_ignored, heard, with_timeout, taken_phrase}
 use Rattle.paw_reading.specs.Reading.{Halt, IsOver, RunsOut, Stop, Redescribes, Restarts, Halts, Out, Left, Waits, Stopped, coming_phrase, table_read}
-use Rattle.paw_reading.specs.GoingOn.{on_path, with_lines}
+use Rattle.paw_reading.specs.GoingOn.{on_path}
 
 -- the four stages of a turn
 pub data Stage : Type 0 where
@@ -234,47 +234,3 @@ goes_on g n prompt.Over path r = Halted IsOver r
 -- going on from a prompt with the run's lines
 abbrev pub on : Story → Prompt → List Frame → Run → Ending
 on g p path r = goes_on g (stages_left AtResponse r) p path r
-
--- a reading that waits goes on with these lines; another stays as it ended, with the lines untaken
-abbrev pub followed : Story → List (List ℕ) → Ending → Ending
-followed g lines (WaitsAt p path r) = on g p path (with_lines lines r)
-followed g lines (Halted halt r) = Halted halt (with_lines lines r)
-followed g lines Unended = Unended
-
--- ---- the laws ----
-
--- a reading ends: the stages that are granted are enough
-abbrev pub TurnsEnd : Type 0
-TurnsEnd = (g : Story) (s : Stage) (r : Run) → turns_from g s r ≢ Unended
-
--- more stages, or fewer that are enough, change nothing
-abbrev pub EndsOnce : Type 0
-EndsOnce = (g : Story) (n : ℕ) (s : Stage) (r : Run) →
-    turn g n s r ≢ Unended → turn g n s r ≡ turns_from g s r
-
--- so is it with going on from a prompt
-abbrev pub GoingOnEnds : Type 0
-GoingOnEnds = (g : Story) (p : Prompt) (path : List Frame) (r : Run) → on g p path r ≢ Unended
-
--- more stages, or fewer that are enough, change nothing of it
-abbrev pub GoesOnOnce : Type 0
-GoesOnOnce = (g : Story) (n : ℕ) (p : Prompt) (path : List Frame) (r : Run) →
-    goes_on g n p path r ≢ Unended → goes_on g n p path r ≡ on g p path r
-
--- inside tables a run waits along the frames of those that are open, and at the main prompt none is
-abbrev pub MayWaitAlong : Prompt → List Frame → Type 0
-MayWaitAlong prompt.Main path = path ≡ []
-MayWaitAlong prompt.Quit path = 0 < length path
-MayWaitAlong prompt.Again path = 0 < length path
-MayWaitAlong prompt.Key path = 0 < length path
-MayWaitAlong prompt.Over path = ⊥
-
--- with no line going on is the wait itself
-abbrev pub WaitsOn : Type 0
-WaitsOn = (g : Story) (p : Prompt) (path : List Frame) (r : Run) → MayWaitAlong p path → r.events ≡ [] →
-    on g p path r ≡ WaitsAt p path r
-
--- reading more lines is reading some, and going on with the others
-abbrev pub GoingOnIsReading : Type 0
-GoingOnIsReading = (g : Story) (seed : ℕ) (es fs : List (List ℕ)) →
-    reading g seed (es ++ fs) ≡ followed g fs (reading g seed es)

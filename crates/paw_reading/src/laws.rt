@@ -1,10 +1,10 @@
 // The laws of reading.
 
-ghost use Rattle.paw_reading.specs.Longer.{TablesGoOn, PathsGoOn, TurnsGoOn, PastStays, LongerReading, LongerText};
-ghost use Rattle.paw_reading.specs.Pieces.{PiecesOfLines};
-ghost use Rattle.paw_reading.specs.Places.{ReadingsStopRightly, GoingOnStopsRightly, ReadingsAreBounded, GoingOnIsBounded};
-ghost use Rattle.paw_reading.specs.Rules.{ReadingOn};
-ghost use Rattle.paw_reading.specs.Turn.{TurnsEnd, EndsOnce, GoingOnEnds, GoesOnOnce, WaitsOn, GoingOnIsReading};
+ghost use Rattle.paw_reading.specs.inner.Longer.{TablesGoOn, PathsGoOn, TurnsGoOn, PastStays, LongerReading, LongerText};
+ghost use Rattle.paw_reading.specs.inner.Pieces.{PiecesOfLines};
+ghost use Rattle.paw_reading.specs.inner.Places.{ReadingsStopRightly, GoingOnStopsRightly, ReadingsAreBounded, GoingOnIsBounded};
+ghost use Rattle.paw_reading.specs.inner.Rules.{ReadingOn};
+ghost use Rattle.paw_reading.specs.inner.Turn.{TurnsEnd, EndsOnce, GoingOnEnds, GoesOnOnce, WaitsOn, GoingOnIsReading};
 
 /// Every reading ends: the stages that a turn is granted are enough.
 pub fn turns_end()

@@ -8,12 +8,13 @@ use Rattle.paw_base.specs.declared.fault.SourceKind.TheVariants as kind
 use Rattle.paw_grammar.specs.declared.section.Section.{Section}
 use Rattle.paw_grammar.specs.declared.section.Section.TheVariants as section
 use Rattle.paw_grammar.specs.Tokens.{◌>>=◌}
-use Rattle.paw_grammar.specs.Numbers.{capped, number}
+use Rattle.paw_grammar.specs.Numbers.{number}
+use Rattle.paw_grammar.specs.inner.Numbers.{capped}
 use Rattle.paw_grammar.specs.GrammarState.{Spelt}
 use Rattle.paw_grammar.specs.GrammarTexts.{text_item, texts_of, with_texts, text_limit}
 use Rattle.paw_grammar.specs.GrammarHeads.{new_text, new_exits, item_in, slash_line}
 use Rattle.paw_grammar.specs.Spells.{tokens_added}
-use Rattle.paw_source.specs.Drafts.{IsSmall}
+use Rattle.paw_source.specs.inner.Drafts.{IsSmall}
 
 same_number : (n k : ℕ) → k ≤ 256 → eqb (min n 4294967295) k ≡ eqb n k
 same_number n k h = grind (arith, nat_tests, h)

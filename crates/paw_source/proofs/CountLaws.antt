@@ -20,7 +20,7 @@ use Rattle.paw_grammar.specs.GrammarTexts.{texts_of, with_texts, text_limit, tex
 use Rattle.paw_grammar.specs.GrammarHeads.{next_section, header_name, section_opened, plain_header, con_header, lacks_rows, table_header, pro_header, header_of, header, new_text, new_exits, item_in, is_letters, slash_line}
 use Rattle.paw_grammar.specs.GrammarRows.{voc_row, exit_row, con_row, object_row, bounds_of, entry_row, more_row, pro_row, row_in}
 use Rattle.paw_grammar.specs.Spells.{begins_with_slash, begins_with_blank, is_text_line, text_added, tokens_added, step, is_pro_token, begins_table}
-use Rattle.paw_source.specs.Laws.{after_lines, CountsTables}
+use Rattle.paw_source.specs.inner.Laws.{after_lines, CountsTables}
 use Rattle.paw_source.proofs.Faultless.{passes, holds, bound, ok_is, at_end}
 
 -- how many tables are spelled

@@ -11,7 +11,7 @@ use Rattle.paw_lex.specs.Lines.{lines_of}
 use Rattle.paw_grammar.specs.Tokens.{◌>>=◌}
 use Rattle.paw_grammar.specs.GrammarState.{Spelt, nothing_yet, game_of}
 use Rattle.paw_grammar.specs.Spells.{step, begins_table, fault, at_line, whole, reading, spelled}
-use Rattle.paw_source.specs.Laws.{after_lines, HasFault, HasNone, NamesTheFirst, IsNamedRightly}
+use Rattle.paw_source.specs.inner.Laws.{after_lines, HasFault, HasNone, NamesTheFirst, IsNamedRightly}
 
 found : (p n : ℕ) (d : Spelt) (before : List (List ℕ)) (line : List ℕ) (behind : List (List ℕ)) (e : Spelt) (k : SourceKind) → after_lines p d before ≡ Ok e → step p e line ≡ Err k → reading p n d (before ++ line ∷ behind) ≡ Err (fault (suc (n + length before)) k)
 unfolding reading after_lines

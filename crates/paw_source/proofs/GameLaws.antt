@@ -17,7 +17,7 @@ use Rattle.paw_grammar.specs.declared.section.Section.TheVariants as section
 use Rattle.paw_grammar.specs.GrammarState.{Spelt, nothing_yet, objects_of, all_exits, game_of}
 use Rattle.paw_grammar.specs.GrammarRows.{bounds_of}
 use Rattle.paw_grammar.specs.Spells.{step, begins_table, at_line, fault, whole, reading, spelled}
-use Rattle.paw_source.specs.Laws.{after_lines, DraftsAreValid, SpellsValidGames}
+use Rattle.paw_source.specs.inner.Laws.{after_lines, DraftsAreValid, SpellsValidGames}
 use Rattle.paw_source.proofs.Faultless.{passes, bound, ok_is}
 use Rattle.paw_source.proofs.TextLaws.{both}
 use Rattle.paw_source.proofs.RowLaws.{Has}

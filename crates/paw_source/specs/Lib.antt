@@ -1,3 +1,1 @@
-pub mod Laws
-pub mod Drafts
-pub mod Refusals
+pub mod inner

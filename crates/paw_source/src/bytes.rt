@@ -4,7 +4,7 @@ ghost use Rattle.std.specs.Prelude.{◌≡◌, drop};
 ghost use Rattle.std.specs.List.{list_all};
 ghost use Rattle.std.specs.Char.{is_ascii_alphabetic};
 ghost use Rattle.paw_lex.specs.Bytes.{is_comment, has_forbidden_byte};
-ghost use Rattle.paw_lex.specs.Lines.{bytes_of, LiesIn};
+ghost use Rattle.paw_lex.specs.inner.Lines.{bytes_of, LiesIn};
 ghost use Rattle.paw_grammar.specs.GrammarHeads.{is_letters};
 ghost use Rattle.paw_grammar.specs.Spells.{begins_with_blank, begins_with_slash};
 

@@ -2,14 +2,14 @@
 
 ghost use Rattle.std.specs.Prelude.{◌≡◌, ◌<◌, true, length, Err, IfOk};
 ghost use Rattle.paw_grammar.specs.declared.refusal.ReadError.TheVariants.{Fault};
-ghost use Rattle.paw_grammar.specs.Condacts.{AreSmall};
-ghost use Rattle.paw_grammar.specs.Gives.{Gives};
+ghost use Rattle.paw_grammar.specs.inner.Condacts.{AreSmall};
+ghost use Rattle.paw_grammar.specs.inner.Gives.{Gives};
 ghost use Rattle.paw_grammar.specs.GrammarState.{game_of, nothing_yet};
 ghost use Rattle.paw_grammar.specs.GrammarTexts.{is_in_text};
 ghost use Rattle.paw_grammar.specs.GrammarHeads.{con_header, header, header_name, header_of, item_in, new_exits, next_section, plain_header, pro_header, slash_line, table_header};
 ghost use Rattle.paw_grammar.specs.GrammarRows.{bounds_of, con_row, obj_row, pro_row, row_in};
 ghost use Rattle.paw_grammar.specs.Spells.{text_added};
-ghost use Rattle.paw_source.specs.Drafts.{HasTable};
+ghost use Rattle.paw_source.specs.inner.Drafts.{HasTable};
 
 use crate::bytes::{is_letters, without_first};
 use crate::entries::{entry_row, more_row};
@@ -47,7 +47,7 @@ pub(crate) struct Draft {
 
 impl Model for Draft {
     ghost use Rattle.paw_grammar.specs.GrammarState.{Spelt};
-    ghost use Rattle.paw_source.specs.Drafts.{IsSmall};
+    ghost use Rattle.paw_source.specs.inner.Drafts.{IsSmall};
 
     ghost Value = { Spelt };
 

@@ -1,8 +1,9 @@
 // The lines of a table.
 
 ghost use Rattle.std.specs.Prelude.{◌≡◌, ◌<◌, length};
-ghost use Rattle.paw_grammar.specs.Gives.{Gives};
-ghost use Rattle.paw_grammar.specs.Condacts.{AreSmall, more_condacts};
+ghost use Rattle.paw_grammar.specs.inner.Gives.{Gives};
+ghost use Rattle.paw_grammar.specs.Condacts.{more_condacts};
+ghost use Rattle.paw_grammar.specs.inner.Condacts.{AreSmall};
 ghost use Rattle.paw_grammar.specs.GrammarRows.{entry_row, more_row};
 
 use paw_base::fault::SourceKind;

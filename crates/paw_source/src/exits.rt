@@ -1,7 +1,7 @@
 // The exits of locations.
 
 ghost use Rattle.std.specs.Prelude.{◌≡◌, ◌-◌, ◌++◌, ◌≤◌, [], length, replicate, OnOk};
-ghost use Rattle.paw_grammar.specs.Gives.{Gives};
+ghost use Rattle.paw_grammar.specs.inner.Gives.{Gives};
 ghost use Rattle.paw_grammar.specs.GrammarRows.{exit_row, has_exit};
 
 use paw_base::fault::SourceKind;

@@ -1,6 +1,6 @@
 // Laws of the grammar of sources.
 
-ghost use Rattle.paw_source.specs.Laws.{CountsTables, DraftsAreValid, IsNamedRightly, NamesTheFirst, SpellsValidGames};
+ghost use Rattle.paw_source.specs.inner.Laws.{CountsTables, DraftsAreValid, IsNamedRightly, NamesTheFirst, SpellsValidGames};
 
 /// The first line with a fault is named.
 pub fn the_first_is_named()

@@ -1,9 +1,9 @@
 // A line of a source.
 
 ghost use Rattle.std.specs.Prelude.{◌≡◌};
-ghost use Rattle.paw_lex.specs.Lines.{bytes_of, LiesIn};
+ghost use Rattle.paw_lex.specs.inner.Lines.{bytes_of, LiesIn};
 ghost use Rattle.paw_lex.specs.Tokens.{tokens_of};
-ghost use Rattle.paw_grammar.specs.Gives.{Gives};
+ghost use Rattle.paw_grammar.specs.inner.Gives.{Gives};
 ghost use Rattle.paw_grammar.specs.Spells.{begins_with_blank, begins_with_slash, step, tokens_added};
 
 use crate::bytes::{

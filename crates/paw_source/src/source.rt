@@ -4,12 +4,13 @@ ghost use Rattle.std.specs.Prelude.{◌≡◌, ◌≤◌, ℕ, List, Ok, length,
 ghost use Rattle.std.specs.List.{count_by};
 ghost use Rattle.paw_game.specs.Image.{image};
 ghost use Rattle.paw_game.specs.Valid.{Valid};
-ghost use Rattle.paw_lex.specs.Lines.{bytes_of, LiesIn, lines_of};
+ghost use Rattle.paw_lex.specs.Lines.{lines_of};
+ghost use Rattle.paw_lex.specs.inner.Lines.{bytes_of, LiesIn};
 ghost use Rattle.paw_lex.specs.declared.lines.TheConstants.{MAX_SOURCE_LEN};
 ghost use Rattle.paw_grammar.specs.GrammarState.{Spelt, game_of, nothing_yet};
 ghost use Rattle.paw_grammar.specs.Spells.{begins_table, is_pro_token, reading, spelled, whole};
-ghost use Rattle.paw_source.specs.Laws.{after_lines};
-ghost use Rattle.paw_source.specs.Refusals.{Reads, at_line};
+ghost use Rattle.paw_source.specs.inner.Laws.{after_lines};
+ghost use Rattle.paw_source.specs.inner.Refusals.{Reads, at_line};
 
 use crate::bytes::begins_with_slash;
 use crate::draft::Draft;
@@ -89,7 +90,7 @@ fn whole(alloc: Global, lines: u32, draft: Draft) -> Result<Game, SourceRefusal>
 }
 
 /// The game of the lines of a source, of which so many begin a table.
-#[tactic(auto, unfolding(paw_grammar::specs::Spells::reading, crate::specs::Laws::after_lines))]
+#[tactic(auto, unfolding(paw_grammar::specs::Spells::reading, crate::specs::inner::Laws::after_lines))]
 fn read_lines(alloc: Global, tables: u32, source: &[u8]) -> Result<Game, SourceRefusal>
     requires short { length source.now ≤ MAX_SOURCE_LEN }
     requires valid { (d : Spelt) → after_lines tables nothing_yet (lines_of source.now) ≡ Ok d

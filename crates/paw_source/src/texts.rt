@@ -1,7 +1,7 @@
 // The texts of a section: items and text lines.
 
 ghost use Rattle.std.specs.Prelude.{◌≡◌, ◌<◌, ◌≤◌, ◌+◌, length, nat_le, suc, if◌then◌else◌};
-ghost use Rattle.paw_grammar.specs.Gives.{Gives};
+ghost use Rattle.paw_grammar.specs.inner.Gives.{Gives};
 ghost use Rattle.paw_grammar.specs.GrammarTexts.{joined_within, text_item, text_line};
 
 use paw_base::fault::SourceKind;

@@ -6,14 +6,14 @@ use Rattle.std.proofs.lemmas.Slice.Eq.{bytes_eq-Decides}
 use Rattle.paw_stage.specs.Disk.{Disk, MayLeave, put, stable}
 use Rattle.paw_stage.specs.Stage.{Standing, Saves, bytes_or_none, opened}
 use Rattle.paw_stage.specs.Moments.{Moment, Passes, InAsk, InSave, InAttach, InWrite, InSync}
-use Rattle.paw_stage.specs.Done.{Done, fresh, step, after, filed, is_attached, saved, attached_store, wrote_store, synced_store}
-use Rattle.paw_stage.specs.Replay.{StandsIn, StandsInside, since_of}
+use Rattle.paw_stage.specs.inner.Done.{Done, fresh, step, after, filed, is_attached, saved, attached_store, wrote_store, synced_store}
+use Rattle.paw_stage.specs.inner.Replay.{StandsIn, StandsInside, since_of}
 use Rattle.paw_stage.specs.declared.log.Kind.{Kind}
 use Rattle.paw_stage.specs.declared.log.Kind.TheVariants as kind
 use Rattle.paw_stage.specs.declared.Asked.{Asked}
 use Rattle.paw_stage.specs.declared.Asked.TheVariants as asked
-use Rattle.paw_stage.specs.Log.{Logged, logged}
-use Rattle.paw_stage.specs.Memory.{Memory, standing_of, clock_of, moments_of}
+use Rattle.paw_stage.specs.inner.Log.{Logged, logged}
+use Rattle.paw_stage.specs.inner.Memory.{Memory, standing_of, clock_of, moments_of}
 use Rattle.paw_stage.proofs.Logs.{after-push}
 use Rattle.paw_stage.proofs.Replays.{passes}
 use Rattle.paw_stage.proofs.Disks.{IsDisk, after_disk, synced_leaves}
@@ -63,8 +63,14 @@ saves s new name bytes e =
 
 pub in_save : (old : Standing) (name bytes : List ℕ) (m : Moment) → StandsInside old (saved name bytes) m → InSave old name m
 in_save old name bytes m (inl e) =
-    record { asked = ap (λ x. x.asked) e; shown = ap (λ x. x.shown) e; attached = ap (λ x. x.attached) e; files =
-    inl (ap (λ x. x.files) e); disk = λ ne. ap (λ x. x.disk) e }
+    record {
+      asked = ap (λ x. x.asked) e;
+      shown = ap (λ x. x.shown) e;
+      attached = ap (λ x. x.attached) e;
+      files =
+          inl (ap (λ x. x.files) e);
+      disk = λ ne. ap (λ x. x.disk) e;
+    }
 in_save old name bytes m (inr h) =
     record {
       asked = ap (λ x. x.asked) h.1;
@@ -77,19 +83,40 @@ in_save old name bytes m (inr h) =
 pub in_attach : (old new : Standing) (name : List ℕ) (m : Moment) → new.attached ≡ (opened name old).attached →
     new.disk ≡ (opened name old).disk → StandsInside old (attached_store name) m → InAttach old new name m
 in_attach old new name m ea ed (inl e) =
-    record { asked = ap (λ x. x.asked) e; shown = ap (λ x. x.shown) e; files = inr (ap (λ x. x.files) e); store =
-    inl (ap (λ x. x.attached) e, ap (λ x. x.disk) e) }
+    record {
+      asked = ap (λ x. x.asked) e;
+      shown = ap (λ x. x.shown) e;
+      files = inr (ap (λ x. x.files) e);
+      store =
+          inl (ap (λ x. x.attached) e, ap (λ x. x.disk) e);
+    }
 in_attach old new name m ea ed (inr (inl e)) =
-    record { asked = ap (λ x. x.asked) e; shown = ap (λ x. x.shown) e; files = inl (ap (λ x. x.files) e); store =
-    inl (ap (λ x. x.attached) e, ap (λ x. x.disk) e) }
+    record {
+      asked = ap (λ x. x.asked) e;
+      shown = ap (λ x. x.shown) e;
+      files = inl (ap (λ x. x.files) e);
+      store =
+          inl (ap (λ x. x.attached) e, ap (λ x. x.disk) e);
+    }
 in_attach old new name m ea ed (inr (inr e)) =
-    record { asked = ap (λ x. x.asked) e; shown = ap (λ x. x.shown) e; files = inr (ap (λ x. x.files) e); store =
-    inr (ap (λ x. x.attached) e ∙ sym ea, ap (λ x. x.disk) e ∙ sym ed) }
+    record {
+      asked = ap (λ x. x.asked) e;
+      shown = ap (λ x. x.shown) e;
+      files = inr (ap (λ x. x.files) e);
+      store =
+          inr (ap (λ x. x.attached) e ∙ sym ea, ap (λ x. x.disk) e ∙ sym ed);
+    }
 
 pub in_write : (old : Standing) (at : ℕ) (bytes : List ℕ) (m : Moment) → StandsInside old (wrote_store at bytes) m → InWrite old at (length bytes) m
 in_write old at bytes m (inl e) =
-    record { asked = ap (λ x. x.asked) e; shown = ap (λ x. x.shown) e; attached = ap (λ x. x.attached) e; files =
-    inl (ap (λ x. x.files) e); disk = inl (ap (λ x. x.disk) e) }
+    record {
+      asked = ap (λ x. x.asked) e;
+      shown = ap (λ x. x.shown) e;
+      attached = ap (λ x. x.attached) e;
+      files =
+          inl (ap (λ x. x.files) e);
+      disk = inl (ap (λ x. x.disk) e);
+    }
 in_write old at bytes m (inr h) =
     record {
       asked = ap (λ x. x.asked) h.2;
@@ -101,12 +128,24 @@ in_write old at bytes m (inr h) =
 
 pub in_sync : (old : Standing) (m : Moment) → IsDisk old.disk → StandsInside old synced_store m → InSync old m
 in_sync old m k (inl e) =
-    record { asked = ap (λ x. x.asked) e; shown = ap (λ x. x.shown) e; attached = ap (λ x. x.attached) e; files =
-    ap (λ x. x.files) e; disk = λ image l. subst (λ d. MayLeave d image) (ap (λ x. x.disk) e) l }
+    record {
+      asked = ap (λ x. x.asked) e;
+      shown = ap (λ x. x.shown) e;
+      attached = ap (λ x. x.attached) e;
+      files =
+          ap (λ x. x.files) e;
+      disk = λ image l. subst (λ d. MayLeave d image) (ap (λ x. x.disk) e) l;
+    }
 in_sync old m k (inr e) =
-    record { asked = ap (λ x. x.asked) e; shown = ap (λ x. x.shown) e; attached = ap (λ x. x.attached) e; files =
-    ap (λ x. x.files) e; disk = λ image l. synced_leaves old.disk k image
-    (subst (λ d. MayLeave d image) (ap (λ x. x.disk) e) l) }
+    record {
+      asked = ap (λ x. x.asked) e;
+      shown = ap (λ x. x.shown) e;
+      attached = ap (λ x. x.attached) e;
+      files =
+          ap (λ x. x.files) e;
+      disk = λ image l. synced_leaves old.disk k image
+          (subst (λ d. MayLeave d image) (ap (λ x. x.disk) e) l);
+    }
 
 -- the disk that the calls of a stage leave
 pub is_disk : (m : Memory) → IsDisk (standing_of m).disk

@@ -4,8 +4,8 @@ use Rattle.std.specs.Prelude.{nat_le, nat_lt, ◌&&◌, ◌||◌, ◌==◌, if�
 use Rattle.std.proofs.lemmas.Bool.Decides.{nat_tests}
 use Rattle.paw_stage.specs.Disk.{Disk, Range, is_dirty, MayLeave, LeavesNoMore, put, touched, stable}
 use Rattle.paw_stage.specs.Stage.{Standing, bytes_or_none}
-use Rattle.paw_stage.specs.Done.{Done, step, stepped, fresh, after, is_attached}
-use Rattle.paw_stage.specs.Crash.{spoiled_if, spoiled, crashed}
+use Rattle.paw_stage.specs.inner.Done.{Done, step, stepped, fresh, after, is_attached}
+use Rattle.paw_stage.specs.inner.Crash.{spoiled_if, spoiled, crashed}
 use Rattle.paw_stage.specs.declared.log.Kind.{Kind}
 use Rattle.paw_stage.specs.declared.log.Kind.TheVariants as kind
 use Rattle.paw_stage.proofs.Writes.{length-put, index-put}
@@ -70,8 +70,12 @@ after_disk ds = later_disk fresh ds (stable_is [])
 -- once the bytes are synced a crash leaves no more than before
 pub synced_leaves : (d : Disk) → IsDisk d → LeavesNoMore d (stable d.bytes)
 synced_leaves d h image l =
-    record { no_shorter = omega (arith, h.low, l.no_shorter); no_longer = omega (arith, h.high, l.no_longer); clean =
-    λ i low clean. l.clean i (omega (arith, h.low, low)) refl }
+    record {
+      no_shorter = omega (arith, h.low, l.no_shorter);
+      no_longer = omega (arith, h.high, l.no_longer);
+      clean =
+          λ i low clean. l.clean i (omega (arith, h.low, low)) refl;
+    }
 
 pub length-spoiled : (dirty : List Range) (k : ℕ) (xs : List ℕ) → length (spoiled dirty k xs) ≡ length xs
 length-spoiled dirty k [] = refl
@@ -93,7 +97,7 @@ leaves false false d h =
       no_shorter = omega (arith, n, h.low);
       no_longer = omega (arith, n, h.high);
       clean = λ i low c. index-spoiled d.dirty 0 d.bytes i (omega (arith, h.low, low))
-      ∙ ap (λ b. spoiled_if b (slice_index d.bytes i)) (ap (is_dirty d.dirty) (zero_plus i) ∙ c);
+          ∙ ap (λ b. spoiled_if b (slice_index d.bytes i)) (ap (is_dirty d.dirty) (zero_plus i) ∙ c);
     }
   where
     zero_plus : (i : ℕ) → 0 + i ≡ i

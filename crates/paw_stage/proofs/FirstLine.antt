@@ -4,7 +4,7 @@ use Rattle.std.proofs.Common.{arith, length-append}
 use Rattle.std.specs.Prelude.{if◌then◌else◌, ◌==◌}
 use Rattle.std.specs.Io.BufRead.{take_through, drop_through, ends_with_byte, strip_last, first_line}
 use Rattle.std.proofs.Math.Seq.{take-append_seam}
-use Rattle.paw_stage.specs.Input.{HasNoEnd}
+use Rattle.paw_stage.specs.inner.Input.{HasNoEnd}
 
 not_same : (x y : ℕ) → x ≢ y → (x == y) ≡ false
 not_same x y h = grind arith

@@ -6,7 +6,7 @@ use Rattle.std.specs.Io.KnownBytes.{Consumes, IsAtEnd}
 use Rattle.std.specs.Io.BufRead.{strip_last, first_line, drop_through}
 use Rattle.std.proofs.lemmas.List.{take_all, take-append-le, take-take, length-take, append-nil}
 use Rattle.std.proofs.Math.Seq.{take-suc-set}
-use Rattle.paw_stage.specs.Input.{Gathers, GathersLine}
+use Rattle.paw_stage.specs.inner.Input.{Gathers, GathersLine}
 use Rattle.paw_stage.proofs.Consumed.{Consumes_on}
 use Rattle.paw_stage.proofs.FirstLine.{HasNoEnd-push, ends_with_byte-push, drop_through-end, drop_through-whole, first_line-end, first_line-whole}
 

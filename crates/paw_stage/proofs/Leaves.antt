@@ -4,10 +4,10 @@ use Rattle.std.specs.Prelude.{Some, ◌||◌, ◌==◌, if◌then◌else◌, sli
 use Rattle.std.proofs.lemmas.List.{ext_get_or, take_all, length-drop, take-map, drop-map}
 use Rattle.paw_stage.specs.Disk.{Disk, is_dirty}
 use Rattle.paw_stage.specs.Stage.{bytes_or_none}
-use Rattle.paw_stage.specs.Done.{Done, fresh, after}
-use Rattle.paw_stage.specs.Crash.{crashed, spoiled, spoiled_if}
-use Rattle.paw_stage.specs.Log.{done_in, all_done}
-use Rattle.paw_stage.specs.Seen.{writes, is_written, FindsStore}
+use Rattle.paw_stage.specs.inner.Done.{Done, fresh, after}
+use Rattle.paw_stage.specs.inner.Crash.{crashed, spoiled, spoiled_if}
+use Rattle.paw_stage.specs.inner.Log.{done_in, all_done}
+use Rattle.paw_stage.specs.inner.Seen.{writes, is_written, FindsStore}
 use Rattle.paw_stage.specs.declared.log.Call.{Call}
 use Rattle.paw_stage.specs.declared.replay.Store.{Store}
 use Rattle.paw_stage.proofs.Disks.{length-spoiled, index-spoiled}

@@ -6,8 +6,8 @@ use Rattle.std.proofs.Math.Seq.{take-append_seam, drop-append_seam, take-length}
 use Rattle.std.proofs.lemmas.List.{take-append-le, drop-append-le, length-drop, map-append, take_more, drop_more}
 use Rattle.std.proofs.lemmas.List.Sums.{fold-append}
 use Rattle.paw_stage.specs.Stage.{Standing}
-use Rattle.paw_stage.specs.Done.{Done, step, after}
-use Rattle.paw_stage.specs.Log.{done_in, all_done, AreLaid}
+use Rattle.paw_stage.specs.inner.Done.{Done, step, after}
+use Rattle.paw_stage.specs.inner.Log.{done_in, all_done, AreLaid}
 use Rattle.paw_stage.specs.declared.log.Call.{Call}
 
 -- what stands after one call more

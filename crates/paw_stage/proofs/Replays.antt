@@ -5,8 +5,8 @@ use Rattle.std.specs.Prelude.{Some}
 use Rattle.std.proofs.Math.Seq.{take-length}
 use Rattle.paw_stage.specs.Stage.{Standing}
 use Rattle.paw_stage.specs.Moments.{Moment, moment_of, Passes}
-use Rattle.paw_stage.specs.Done.{Done, fresh, step, stepped, after}
-use Rattle.paw_stage.specs.Replay.{StandsIn, StandsInside, StoodInside, since_of}
+use Rattle.paw_stage.specs.inner.Done.{Done, fresh, step, stepped, after}
+use Rattle.paw_stage.specs.inner.Replay.{StandsIn, StandsInside, StoodInside, since_of}
 use Rattle.paw_stage.specs.declared.log.Kind.{Kind}
 use Rattle.paw_stage.specs.declared.log.Kind.TheVariants as kind
 use Rattle.paw_stage.proofs.Logs.{after-push}
@@ -82,8 +82,8 @@ passes ds d =
           subst (λ l. StoodInside (after fresh l) (drop t (ds ++ d ∷ [])) m) (sym q.0) (subst (λ l. StoodInside (after fresh (take t ds)) l m) (sym q.1)
           (elim h [
             | inl k ↦ last (after fresh (take t ds)) (drop t ds) d m
-            (begins d.kind d.name d.bytes (after (after fresh (take t ds)) (drop t ds)) m
-            (subst (λ s. m ≡ moment_of s) (sym (after_split fresh t ds)) k))
+                (begins d.kind d.name d.bytes (after (after fresh (take t ds)) (drop t ds)) m
+                (subst (λ s. m ≡ moment_of s) (sym (after_split fresh t ds)) k))
             | inr k ↦ first (after fresh (take t ds)) (drop t ds) d m k
           ])));
     }

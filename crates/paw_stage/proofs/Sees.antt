@@ -7,8 +7,8 @@ use Rattle.std.proofs.lemmas.Slice.Eq.{bytes_eq-Decides}
 use Rattle.std.proofs.lemmas.List.{ext_get_or, get_or-take, get_or-drop, length-take, length-drop}
 use Rattle.paw_stage.specs.Disk.{Disk, put, stable, touched}
 use Rattle.paw_stage.specs.Stage.{Standing, Files, held, made_if_missing, bytes_or_none, wrote}
-use Rattle.paw_stage.specs.Done.{Done, fresh, step, stepped, after, is_attached}
-use Rattle.paw_stage.specs.Seen.{Sees, IsFiled, laid_over}
+use Rattle.paw_stage.specs.inner.Done.{Done, fresh, step, stepped, after, is_attached}
+use Rattle.paw_stage.specs.inner.Seen.{Sees, IsFiled, laid_over}
 use Rattle.paw_stage.specs.declared.log.Kind.{Kind}
 use Rattle.paw_stage.specs.declared.log.Kind.TheVariants as kind
 use Rattle.paw_stage.specs.declared.replay.Seen.{Seen}

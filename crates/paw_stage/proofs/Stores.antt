@@ -7,8 +7,8 @@ use Rattle.std.proofs.lemmas.List.{take-append-le, drop-append-le, take_all, len
 use Rattle.std.proofs.lemmas.Slice.Eq.{bytes_eq-Decides}
 use Rattle.paw_stage.specs.Disk.{Disk, is_dirty, stable}
 use Rattle.paw_stage.specs.Stage.{Standing}
-use Rattle.paw_stage.specs.Done.{Done, fresh, step, after, is_attached}
-use Rattle.paw_stage.specs.Seen.{writes, is_written, IsStore, IsNamed, FindsStore}
+use Rattle.paw_stage.specs.inner.Done.{Done, fresh, step, after, is_attached}
+use Rattle.paw_stage.specs.inner.Seen.{writes, is_written, IsStore, IsNamed, FindsStore}
 use Rattle.paw_stage.specs.declared.log.Kind.{Kind}
 use Rattle.paw_stage.specs.declared.log.Kind.TheVariants as kind
 use Rattle.paw_stage.specs.declared.replay.Store.{Store}
@@ -131,9 +131,9 @@ saved_same ds k name bytes n w h =
     let disk = same_disk (after fresh ds) name bytes h.attached in
     elim w [
       | inl e ↦ subst (λ x. IsStore (ds ++ record { kind = x; name = name; bytes = bytes } ∷ []) name (length ds + 1))
-      (sym e) (settled_store ds (record { kind = kind.Add; name = name; bytes = bytes }) name bytes h.attached disk)
+          (sym e) (settled_store ds (record { kind = kind.Add; name = name; bytes = bytes }) name bytes h.attached disk)
       | inr e ↦ subst (λ x. IsStore (ds ++ record { kind = x; name = name; bytes = bytes } ∷ []) name (length ds + 1))
-      (sym e) (settled_store ds (record { kind = kind.Save; name = name; bytes = bytes }) name bytes h.attached disk)
+          (sym e) (settled_store ds (record { kind = kind.Save; name = name; bytes = bytes }) name bytes h.attached disk)
     ]
 
 pub saved_here : (ds : List Done) (k : Kind) (called name bytes : List ℕ) (n done : ℕ) → called ≡ name →
@@ -152,9 +152,9 @@ saved_other ds k name other bytes n w ne h =
     let dirty = λ (i : ℕ). ap (λ (d : Disk). is_dirty d.dirty i) disk in
     elim w [
       | inl e ↦ subst (λ x. IsStore (ds ++ record { kind = x; name = other; bytes = bytes } ∷ []) name n) (sym e)
-      (kept_store ds (record { kind = kind.Add; name = other; bytes = bytes }) name n h refl synced dirty)
+          (kept_store ds (record { kind = kind.Add; name = other; bytes = bytes }) name n h refl synced dirty)
       | inr e ↦ subst (λ x. IsStore (ds ++ record { kind = x; name = other; bytes = bytes } ∷ []) name n) (sym e)
-      (kept_store ds (record { kind = kind.Save; name = other; bytes = bytes }) name n h refl synced dirty)
+          (kept_store ds (record { kind = kind.Save; name = other; bytes = bytes }) name n h refl synced dirty)
     ]
 
 -- no store is attached by saving

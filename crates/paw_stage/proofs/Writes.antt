@@ -5,9 +5,9 @@ use Rattle.std.specs.Prelude.{nat_le, nat_lt, ◌&&◌, if◌then◌else◌, rep
 use Rattle.std.proofs.lemmas.Bool.Decides.{nat_tests}
 use Rattle.std.proofs.lemmas.List.{get_or-append_right, get_or-take, get_or-drop, get_or_past, length-take, length-drop, get_or_append_left, get_or-replicate}
 use Rattle.std.proofs.lemmas.List.{length-replicate}
-use Rattle.paw_stage.specs.Crash.{spoiled_if}
+use Rattle.paw_stage.specs.inner.Crash.{spoiled_if}
 use Rattle.paw_stage.specs.Disk.{put}
-use Rattle.paw_stage.specs.Seen.{laid_over}
+use Rattle.paw_stage.specs.inner.Seen.{laid_over}
 
 pub length-put : (at : ℕ) (new old : List ℕ) → length (put at new old) ≡ max (length old) (min at (length old) + length new)
 length-put at new old =
@@ -40,7 +40,7 @@ behind at n old i high =
     elim (near at (length old)) [
       | inl h ↦ (let e : at + n + (i - (min at (length old) + n)) ≡ i = omega arith in ap (λ k. get_or old k 0) e)
       | inr h ↦ (let a : length old ≤ at + n + (i - (min at (length old) + n)) = omega arith in let b : length old ≤ i =
-      omega arith in get_or_past old (at + n + (i - (min at (length old) + n))) 0 a ∙ sym (get_or_past old i 0 b))
+          omega arith in get_or_past old (at + n + (i - (min at (length old) + n))) 0 a ∙ sym (get_or_past old i 0 b))
     ]
   where
     near : (a b : ℕ) → (a ≤ b) ⊎ (b ≤ a)

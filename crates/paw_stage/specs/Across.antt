@@ -1,6 +1,5 @@
 -- What happened at a stage across a call, or across several one after the other: `old` is the stage before, `new` the
 -- stage after, and `g` has what a stage tells.
-use Rattle.std.specs.Prelude.{Result, OnOk}
 use Rattle.paw_stage.specs.Stage.{Standing}
 use Rattle.paw_stage.specs.Moments.{Moment, Moments}
 use Rattle.paw_stage.specs.declared.Stage.{Ghosts}
@@ -9,14 +8,6 @@ use Rattle.paw_stage.specs.declared.Stage.{Ghosts}
 abbrev pub Across : {S : Type 0} → Ghosts S → S → S → (Standing → Standing → Type 0) → Type 0
 Across g old new Holds = g.Tells old → Holds (g.standing old) (g.standing new)
 
--- Once the calls were done, the same.
-abbrev pub Once : {S A E : Type 0} → Ghosts S → S → S → Result A E → (Standing → Standing → Type 0) → Type 0
-Once g old new result Holds = Across g old new (λ before after. OnOk result (Holds before after))
-
 -- The moments of the calls are those before them, and besides only such ones.
 abbrev pub EachMoment : {S : Type 0} → Ghosts S → S → S → (Moment → Type 0) → Type 0
 EachMoment g old new Inside = Moments g.clock g.since old new Inside
-
--- Where the stage tells what stands at it, the moments of the calls are such ones, by what stood before.
-abbrev pub Throughout : {S : Type 0} → Ghosts S → S → S → (Standing → Moment → Type 0) → Type 0
-Throughout g old new Inside = g.Tells old → EachMoment g old new (Inside (g.standing old))

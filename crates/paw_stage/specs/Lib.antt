@@ -2,15 +2,4 @@ pub mod Disk
 pub mod Stage
 pub mod Moments
 pub mod Across
-pub mod Faults
-pub mod Files
-pub mod Done
-pub mod Replay
-pub mod Crash
-pub mod Seen
-pub mod Log
-pub mod LogInside
-pub mod Memory
-pub mod Refusing
-pub mod Failing
-pub mod Input
+pub mod inner

@@ -1,6 +1,6 @@
 -- What a stage tells, and what its calls do to it.
 use Rattle.std.specs.Prelude.{◌≡◌, ◌≢◌, ◌⊎◌, ℕ, ◌+◌, ◌-◌, ◌<◌, ◌≤◌, ◌^◌, List, [], ◌∷◌, ◌++◌, length, take, drop}
-use Rattle.std.specs.Prelude.{Option, Some, None, IsSome, Result, Ok, Err, if◌then◌else◌}
+use Rattle.std.specs.Prelude.{Option, Some, None, Result, Ok, Err, if◌then◌else◌}
 use Rattle.std.specs.declared.vec.Vec.{Vec}
 use Rattle.std.specs.declared.alloc.Global.{Global}
 use Rattle.std.specs.Str.{bytes_eq}
@@ -51,10 +51,6 @@ pub record Standing : Type 0 where
 -- The bytes of the file of a name; none where it is missing.
 abbrev pub file_bytes : Standing → List ℕ → List ℕ
 file_bytes s name = bytes_or_none (s.files name)
-
--- A fact of what a crash may leave of the store, where one is attached.
-abbrev pub IfAttached : Standing → (Disk → Type 0) → Type 0
-IfAttached s P = IsSome s.attached → P s.disk
 
 -- A count of faults rose in a call. At its last value it stays, and counts as having risen.
 abbrev pub Rose : ℕ → ℕ → Type 0
@@ -159,10 +155,6 @@ pub record WritesPart (old new : Standing) (at n : ℕ) : Type 0 where
 -- What a write of these bytes that failed leaves: nothing changed, or it failed in the middle.
 abbrev pub WritesSome : Standing → Standing → ℕ → List ℕ → Type 0
 WritesSome old new at bytes = (new ≡ old) ⊎ WritesPart old new at (length bytes)
-
--- At most n bytes were written to stores.
-abbrev pub WritesAtMost : ℕ → Standing → Standing → Type 0
-WritesAtMost n old new = new.written ≤ old.written + n
 
 -- What a write of these bytes leaves.
 abbrev pub WritesTo : {A : Type 0} → Standing → Standing → ℕ → List ℕ → Result A Failed → Type 0

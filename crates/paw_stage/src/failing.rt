@@ -1,8 +1,8 @@
 // A stage in memory of which the listed calls fail.
 
 ghost use Rattle.std.specs.Prelude.{◌≡◌};
-ghost use Rattle.paw_stage.specs.Faults.{no_faults};
-ghost use Rattle.paw_stage.specs.Failing.{listing, is_listed, counted};
+ghost use Rattle.paw_stage.specs.inner.Faults.{no_faults};
+ghost use Rattle.paw_stage.specs.inner.Failing.{listing, is_listed, counted};
 
 use crate::MemoryStage;
 use crate::refusing::{Refusals, RefusingStage};
@@ -20,7 +20,7 @@ pub struct Listed {
 }
 
 impl Model for Listed {
-    ghost use Rattle.paw_stage.specs.Failing.{Listing};
+    ghost use Rattle.paw_stage.specs.inner.Failing.{Listing};
 
     ghost Value = { Listing };
 

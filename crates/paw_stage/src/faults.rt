@@ -1,7 +1,7 @@
 // A count of faults for each call, kept by every stage.
 
 ghost use Rattle.std.specs.Prelude.{◌≡◌, OnOk, OnErr, Some};
-ghost use Rattle.paw_stage.specs.Faults.{count_of, no_faults, raised};
+ghost use Rattle.paw_stage.specs.inner.Faults.{count_of, no_faults, raised};
 ghost use Rattle.paw_stage.specs.Stage.{Faulted, failed_in};
 
 use crate::{Failed, StageCall};

@@ -2,7 +2,7 @@
 
 ghost use Rattle.std.specs.Prelude.{◌≡◌, OnOk};
 ghost use Rattle.std.specs.Path.{path_bytes};
-ghost use Rattle.paw_stage.specs.Files.{StandsAt, GivesAt, TakesAt, folder_of};
+ghost use Rattle.paw_stage.specs.inner.Files.{StandsAt, GivesAt, TakesAt, folder_of};
 
 use crate::streams::{read_first, write_whole};
 use crate::{Failed, LoadRefusal};

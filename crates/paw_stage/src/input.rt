@@ -23,7 +23,7 @@ pub struct LineReader<R: Drop> {
 }
 
 impl<R: Read + Drop> LineReader<R> {
-    ghost use Rattle.paw_stage.specs.Input.{unread, AsksOf, GathersOf, TakesByteOf};
+    ghost use Rattle.paw_stage.specs.inner.Input.{unread, AsksOf, GathersOf, TakesByteOf};
 
     /// The lines of a reader, of which nothing was read yet.
     pub fn new(reader: R) -> LineReader<R>

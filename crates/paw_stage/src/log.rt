@@ -2,11 +2,12 @@
 
 ghost use Rattle.std.specs.Prelude.{◌≡◌, ◌≤◌, ◌<◌, ◌+◌, ◌++◌, ◌∷◌, [], IsTrue, IsFalse, IfOk, IfSome, IfNone, IsSome};
 ghost use Rattle.std.specs.Prelude.{None, OnOk, OnErr, length, take, drop, vec_len, vec_capacity, List, ℕ};
-ghost use Rattle.paw_stage.specs.Stage.{Standing, IfAttached, bytes_or_none};
-ghost use Rattle.paw_stage.specs.Done.{call_of, added, fresh, stepped, after};
-ghost use Rattle.paw_stage.specs.Crash.{crashed};
-ghost use Rattle.paw_stage.specs.Log.{has_room, logged, given, all_done, AreLaid, KeepsText};
-ghost use Rattle.paw_stage.specs.Seen.{HasLength};
+ghost use Rattle.paw_stage.specs.Stage.{Standing, bytes_or_none};
+ghost use Rattle.paw_stage.specs.inner.Stage.{IfAttached};
+ghost use Rattle.paw_stage.specs.inner.Done.{call_of, added, fresh, stepped, after};
+ghost use Rattle.paw_stage.specs.inner.Crash.{crashed};
+ghost use Rattle.paw_stage.specs.inner.Log.{has_room, logged, given, all_done, AreLaid, KeepsText};
+ghost use Rattle.paw_stage.specs.inner.Seen.{HasLength};
 
 use crate::replay::{crash, file_len, first_bytes, read_store, store_len};
 use paw_base::fault::NoRoom;
@@ -51,11 +52,11 @@ pub struct Log {
 }
 
 impl Model for Log {
-    ghost use Rattle.paw_stage.specs.Log.{Logged};
+    ghost use Rattle.paw_stage.specs.inner.Log.{Logged};
 
     ghost Value = { Logged };
 
-    ghost use Rattle.paw_stage.specs.LogInside.{logged_in, IsKept};
+    ghost use Rattle.paw_stage.specs.inner.LogInside.{logged_in, IsKept};
 
     ghost view = { logged_in };
 

@@ -7,15 +7,16 @@ ghost use Rattle.paw_stage.specs.declared.StageCall.TheVariants as call;
 ghost use Rattle.paw_stage.specs.declared.LoadRefusal.TheVariants as refusal;
 ghost use Rattle.paw_stage.specs.declared.Asked.TheVariants as asked;
 ghost use Rattle.paw_stage.specs.Disk.{MayLeave, IsStable};
-ghost use Rattle.paw_stage.specs.Stage.{IfAttached, Faulted, failed_in, failed_load, failed_ask, IsCut};
+ghost use Rattle.paw_stage.specs.Stage.{Faulted, failed_in, failed_load, failed_ask, IsCut};
+ghost use Rattle.paw_stage.specs.inner.Stage.{IfAttached};
 ghost use Rattle.paw_stage.specs.Stage.{LoadsTo, SavesTo, AttachesTo, ReadsTo, WritesTo, SyncsTo, AsksTo, ShowsTo};
 ghost use Rattle.paw_stage.specs.Moments.{Still, InAsk, InShow, InSave, InAttach, InWrite, InSync};
-ghost use Rattle.paw_stage.specs.Faults.{count_of};
-ghost use Rattle.paw_stage.specs.Crash.{crashed};
-ghost use Rattle.paw_stage.specs.Done.{loaded, saved, attached_store, read_store, wrote_store, synced_store, took};
-ghost use Rattle.paw_stage.specs.Done.{ended, showed};
-ghost use Rattle.paw_stage.specs.Memory.{empty, standing_of, clock_of, moments_of, only_moment, Throughout};
-ghost use Rattle.paw_stage.specs.Memory.{can_note, noted, failed, found_none, line_taken, with_file, with_line};
+ghost use Rattle.paw_stage.specs.inner.Faults.{count_of};
+ghost use Rattle.paw_stage.specs.inner.Crash.{crashed};
+ghost use Rattle.paw_stage.specs.inner.Done.{loaded, saved, attached_store, read_store, wrote_store, synced_store, took};
+ghost use Rattle.paw_stage.specs.inner.Done.{ended, showed};
+ghost use Rattle.paw_stage.specs.inner.Memory.{empty, standing_of, clock_of, moments_of, only_moment, Throughout};
+ghost use Rattle.paw_stage.specs.inner.Memory.{can_note, noted, failed, found_none, line_taken, with_file, with_line};
 
 use crate::log::{Kind, Log};
 use crate::{Asked, Failed, FaultCounts, LoadRefusal, Stage, StageCall};
@@ -55,7 +56,7 @@ pub struct MemoryStage {
 }
 
 impl Model for MemoryStage {
-    ghost use Rattle.paw_stage.specs.Memory.{Memory};
+    ghost use Rattle.paw_stage.specs.inner.Memory.{Memory};
 
     ghost Value = { Memory };
 

@@ -5,8 +5,8 @@ ghost use Rattle.paw_stage.specs.declared.StageCall.TheVariants as call;
 ghost use Rattle.paw_stage.specs.declared.LoadRefusal.TheVariants as refusal;
 ghost use Rattle.paw_stage.specs.declared.Asked.TheVariants as asked;
 ghost use Rattle.paw_stage.specs.Stage.{Faulted, failed_in, failed_load, failed_ask};
-ghost use Rattle.paw_stage.specs.Faults.{count_of, no_faults, raised};
-ghost use Rattle.paw_stage.specs.Done.{fresh};
+ghost use Rattle.paw_stage.specs.inner.Faults.{count_of, no_faults, raised};
+ghost use Rattle.paw_stage.specs.inner.Done.{fresh};
 
 use crate::files::{open_store, read_file, read_part, sync_bytes, write_file, write_part};
 use crate::input::LineReader;

@@ -9,12 +9,12 @@ ghost use Rattle.paw_stage.specs.Disk.{IsStable};
 ghost use Rattle.paw_stage.specs.Stage.{Faulted, failed_in, failed_load, failed_ask};
 ghost use Rattle.paw_stage.specs.Stage.{LoadsTo, SavesTo, AttachesTo, ReadsTo, WritesTo, SyncsTo, AsksTo, ShowsTo};
 ghost use Rattle.paw_stage.specs.Moments.{Still, InAsk, InShow, InSave, InAttach, InWrite, InSync};
-ghost use Rattle.paw_stage.specs.Faults.{no_faults};
-ghost use Rattle.paw_stage.specs.Done.{loaded, saved, attached_store, read_store, wrote_store, synced_store, took};
-ghost use Rattle.paw_stage.specs.Done.{ended, showed};
-ghost use Rattle.paw_stage.specs.Memory.{clock_of, moments_of, only_moment, noted, found_none, line_taken};
-ghost use Rattle.paw_stage.specs.Refusing.{faults_of, standing_of, Throughout};
-ghost use Rattle.paw_stage.specs.Refusing.{refused, passed, FailsBelow, CannotPass};
+ghost use Rattle.paw_stage.specs.inner.Faults.{no_faults};
+ghost use Rattle.paw_stage.specs.inner.Done.{loaded, saved, attached_store, read_store, wrote_store, synced_store, took};
+ghost use Rattle.paw_stage.specs.inner.Done.{ended, showed};
+ghost use Rattle.paw_stage.specs.inner.Memory.{clock_of, moments_of, only_moment, noted, found_none, line_taken};
+ghost use Rattle.paw_stage.specs.inner.Refusing.{faults_of, standing_of, Throughout};
+ghost use Rattle.paw_stage.specs.inner.Refusing.{refused, passed, FailsBelow, CannotPass};
 
 use crate::{Asked, Failed, FaultCounts, LoadRefusal, MemoryStage, Stage, StageCall};
 use std::alloc::Global;
@@ -51,7 +51,7 @@ pub struct RefusingStage<R: Drop> {
 }
 
 impl<R: Drop> Model for RefusingStage<R> {
-    ghost use Rattle.paw_stage.specs.Refusing.{Refusing};
+    ghost use Rattle.paw_stage.specs.inner.Refusing.{Refusing};
 
     ghost Value = { Refusing R };
 

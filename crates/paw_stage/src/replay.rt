@@ -5,12 +5,13 @@ ghost use Rattle.std.specs.Prelude.{true, [], IfOk, IfSome, IfNone, IsSome, Some
 ghost use Rattle.std.specs.Prelude.{slice_range, replicate, List};
 ghost use Rattle.paw_stage.specs.declared.log.Kind.TheVariants as kind;
 ghost use Rattle.paw_stage.specs.Disk.{put};
-ghost use Rattle.paw_stage.specs.Stage.{Standing, IfAttached, file_bytes};
-ghost use Rattle.paw_stage.specs.Done.{Done, step};
-ghost use Rattle.paw_stage.specs.Crash.{crashed, all_spoiled};
-ghost use Rattle.paw_stage.specs.Log.{done_in, all_done, replayed, AreLaid};
-ghost use Rattle.paw_stage.specs.Seen.{HasLength, Sees, IsFiled, IsNamed, FindsStore, FindsNext, LaysOver, Spoils};
-ghost use Rattle.paw_stage.specs.Seen.{writes, is_written};
+ghost use Rattle.paw_stage.specs.Stage.{Standing, file_bytes};
+ghost use Rattle.paw_stage.specs.inner.Stage.{IfAttached};
+ghost use Rattle.paw_stage.specs.inner.Done.{Done, step};
+ghost use Rattle.paw_stage.specs.inner.Crash.{crashed, all_spoiled};
+ghost use Rattle.paw_stage.specs.inner.Log.{done_in, all_done, replayed, AreLaid};
+ghost use Rattle.paw_stage.specs.inner.Seen.{HasLength, Sees, IsFiled, IsNamed, FindsStore, FindsNext, LaysOver, Spoils};
+ghost use Rattle.paw_stage.specs.inner.Seen.{writes, is_written};
 
 use crate::log::{Call, Kind};
 use paw_base::fault::NoRoom;

@@ -1,7 +1,7 @@
 // A stage in memory that stops after so many calls.
 
 ghost use Rattle.std.specs.Prelude.{◌≡◌, ◌-◌, ◌==◌};
-ghost use Rattle.paw_stage.specs.Faults.{no_faults};
+ghost use Rattle.paw_stage.specs.inner.Faults.{no_faults};
 
 use crate::MemoryStage;
 use crate::refusing::{Refusals, RefusingStage};

@@ -3,7 +3,7 @@
 ghost use Rattle.std.specs.Prelude.{◌≢◌, ◌<◌, ◌≤◌, ◌+◌, ◌-◌, ◌^◌, ℕ, length, min, take, IfOk, OnOk, OnErr};
 ghost use Rattle.std.specs.Io.KnownBytes.{Appends, WriteAppends};
 ghost use Rattle.paw_stage.specs.declared.LoadRefusal.TheVariants as refusal;
-ghost use Rattle.paw_stage.specs.Files.{GivesFirst};
+ghost use Rattle.paw_stage.specs.inner.Files.{GivesFirst};
 
 use crate::{Failed, LoadRefusal};
 use std::alloc::Global;

@@ -3,14 +3,16 @@ use Rattle.std.proofs.Common.{◌≡◌, ℕ, ◌≤◌, List, [], ◌++◌, Non
 use Rattle.std.proofs.lemmas.List.{take-append-drop, take_at}
 use Rattle.paw_game.specs.Game.{GameLists}
 use Rattle.paw_game.specs.Valid.{Valid}
-use Rattle.paw_process.specs.Kept.{kept, restored, waiting_at, StandsAt}
+use Rattle.paw_process.specs.Kept.{kept}
+use Rattle.paw_process.specs.inner.Kept.{restored, waiting_at, StandsAt}
 use Rattle.paw_state.specs.State.{State, Keeps, FitsFields, AreBytes}
 use Rattle.paw_state.specs.Fields.{fields_of, field_bytes, fields_at, state_bytes}
 use Rattle.paw_state.specs.Faults.{fields_fault}
-use Rattle.paw_state.specs.Parts.{state_in}
+use Rattle.paw_state.specs.inner.Parts.{state_in}
 use Rattle.paw_state.specs.declared.Restored.{Restored}
-use Rattle.paw_state.specs.Fit.{Fit, unfit, state_read, IsRead}
-use Rattle.paw_state.specs.Laws.{FitOrUnfit, BytesTellTheState, WrittenIsFit}
+use Rattle.paw_state.specs.Fit.{Fit, unfit}
+use Rattle.paw_state.specs.inner.Fit.{state_read, IsRead}
+use Rattle.paw_state.specs.inner.Laws.{FitOrUnfit, BytesTellTheState, WrittenIsFit}
 use Rattle.paw_state.proofs.Joined.{fields_join}
 use Rattle.paw_state.proofs.Cut.{fields_cut, kept-length, length-fields}
 use Rattle.paw_state.proofs.Sound.{sound_of, none_of}

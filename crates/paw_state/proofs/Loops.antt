@@ -17,7 +17,7 @@ use Rattle.paw_process.proofs.Restored.{first_of, second}
 use Rattle.paw_state.specs.declared.fields.Row.{Row}
 use Rattle.paw_state.specs.declared.fields.Fields.{Fields}
 use Rattle.paw_state.specs.Fields.{presence, row_of, loop_or_zeros}
-use Rattle.paw_state.specs.Parts.{frame_in, turning_in, frames_in}
+use Rattle.paw_state.specs.inner.Parts.{frame_in, turning_in, frames_in}
 use Rattle.paw_state.specs.Faults.{rule, first, no_loop_fault, loop_fields_fault, row_table}
 use Rattle.paw_state.proofs.Found.{rule_holds, no_rule, no_first, none_first}
 use Rattle.paw_state.proofs.Rows.{both, four, four_none, head_there}

@@ -4,7 +4,8 @@ use Rattle.std.proofs.lemmas.List.{length-reverse}
 use Rattle.paw_reading.specs.declared.places.OpenLoop.{OpenLoop}
 use Rattle.paw_process.specs.Kept.{unused}
 use Rattle.paw_state.specs.State.{State}
-use Rattle.paw_state.specs.Record.{last_piece, StateOfParts}
+use Rattle.paw_state.specs.Record.{last_piece}
+use Rattle.paw_state.specs.inner.Record.{StateOfParts}
 
 pub state_of_parts : StateOfParts
 state_of_parts lines at m r turning =

@@ -11,7 +11,7 @@ use Rattle.paw_process.specs.Kept.{rows_fault as machine_fault}
 use Rattle.paw_process.proofs.Restored.{first_of, second}
 use Rattle.paw_state.specs.declared.fields.Row.{Row}
 use Rattle.paw_state.specs.Fields.{row_of}
-use Rattle.paw_state.specs.Parts.{frame_in}
+use Rattle.paw_state.specs.inner.Parts.{frame_in}
 use Rattle.paw_state.specs.Faults.{rule, or_first, first, unused_fault, used_fault, row_fault, row_fields_fault, called_table}
 use Rattle.paw_state.proofs.Found.{rule_holds, no_rule, no_first, none_first}
 

@@ -1,5 +1,5 @@
 -- The first field of a state that breaks its rule.
-use Rattle.std.specs.Prelude.{ℕ, suc, ◌+◌, ◌-◌, ◌*◌, ◌==◌, ◌||◌, Bool, List, [], ◌∷◌, Option, Some, None, length, take, drop, is_some, nat_lt, nat_le, slice_get, Result, Ok, Err, if◌then◌else◌}
+use Rattle.std.specs.Prelude.{ℕ, suc, ◌+◌, ◌-◌, ◌*◌, ◌==◌, ◌||◌, Bool, List, [], ◌∷◌, Option, Some, None, length, take, drop, is_some, nat_lt, nat_le, slice_get, if◌then◌else◌}
 use Rattle.paw_base.specs.declared.codes.TheConstants.{PROCESS, DOALL}
 use Rattle.paw_base.specs.declared.limits.TheConstants.{READ_LIMIT, EVENT_LIMIT}
 use Rattle.paw_game.specs.Game.{GameLists}
@@ -13,17 +13,11 @@ use Rattle.paw_state.specs.declared.layout.TheConstants.{PLACES, SAVED, HELD_FLA
 use Rattle.paw_state.specs.declared.layout.TheConstants.{EVENTS, PROMPT, COUNT, ROWS, ROW_LENGTH, ROW_ENTRY, ROW_AT}
 use Rattle.paw_state.specs.declared.layout.TheConstants.{ROW_ACTED, LOOPING, LOOP_LEVEL, LOOP_TABLE, LOOP_ENTRY}
 use Rattle.paw_state.specs.declared.layout.TheConstants.{LOOP_AT, LOOP_PLACE, LOOP_LAST, PENDING, LINE, KEPT}
-use Rattle.paw_state.specs.declared.StateFault.{StateFault}
 use Rattle.paw_state.specs.declared.fields.Row.{Row}
 use Rattle.paw_state.specs.declared.fields.Fields.{Fields}
 use Rattle.paw_state.specs.declared.held.Held.{Held}
 
 -- ---- rules and faults ----
-
--- a fault is the place of the field that breaks a rule
-abbrev pub fault_of : Result (Unit {0}) StateFault → Option ℕ
-fault_of (Ok u) = None
-fault_of (Err e) = Some e.at
 
 -- the field at this place has a rule, which holds or not
 abbrev pub rule : ℕ → Bool → Option ℕ

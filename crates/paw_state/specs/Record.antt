@@ -1,14 +1,13 @@
 -- What a session keeps of a reading.
-use Rattle.std.specs.Prelude.{◌≡◌, ℕ, ◌-◌, List, [], ◌∷◌, ◌++◌, Option, length, replicate, reverse}
+use Rattle.std.specs.Prelude.{ℕ, ◌-◌, List, [], ◌∷◌, ◌++◌, Option, length, replicate}
 use Rattle.paw_effects.specs.declared.act.Prompt.{Prompt}
 use Rattle.paw_reading.specs.declared.places.Frame.{Frame}
 use Rattle.paw_reading.specs.declared.places.OpenLoop.{OpenLoop}
 use Rattle.paw_reading.specs.Run.{Run}
 use Rattle.paw_process.specs.declared.machine.TheConstants.{MOST_FRAMES}
-use Rattle.paw_process.specs.OpenTables.{OpenTables}
 use Rattle.paw_process.specs.Kept.{unused}
 use Rattle.paw_process.specs.declared.kept.Frames.{Frames}
-use Rattle.paw_state.specs.State.{State, state_of}
+use Rattle.paw_state.specs.State.{State}
 
 -- the piece that was closed last
 abbrev pub last_piece : List (List ℕ) → List ℕ
@@ -34,10 +33,3 @@ state_at lines at path r = record {
   events = lines;
   piece = length (last_piece r.pieces);
 }
-
--- The state of a run is that of the parts that it shows
-abbrev pub StateOfParts : Type 0
-StateOfParts =
-    (lines : ℕ) (at : Prompt) (m : OpenTables) (r : Run) → r.turning ≡ m.turning →
-    state_at lines at (reverse m.frames) r
-    ≡ state_of r.world m (record { bytes = r.pending; earlier = r.earlier }) at lines (length (last_piece r.pieces))

@@ -1,5 +1,5 @@
 -- What a session keeps of a game that is played, and the rules that it keeps.
-use Rattle.std.specs.Prelude.{◌≡◌, ℕ, ◌+◌, ◌*◌, ◌^◌, ◌<◌, ◌≤◌, List, [], Option, None, length, All, IfSome, IfNone}
+use Rattle.std.specs.Prelude.{◌≡◌, ℕ, ◌+◌, ◌*◌, ◌^◌, ◌<◌, ◌≤◌, [], Option, None, length, All, IfSome, IfNone}
 use Rattle.paw_base.specs.declared.limits.TheConstants.{LINE_LIMIT, READ_LIMIT, EVENT_LIMIT}
 use Rattle.paw_game.specs.Game.{GameLists}
 use Rattle.paw_world.specs.World.{World, Position, IsWorld}
@@ -8,7 +8,6 @@ use Rattle.paw_effects.specs.declared.act.Prompt.{Prompt}
 use Rattle.paw_effects.specs.Built.{IsOf, StandAtPlaces}
 pub use Rattle.paw_effects.specs.Standing.{AreBytes}
 use Rattle.paw_process.specs.declared.machine.TheConstants.{MOST_FRAMES}
-use Rattle.paw_process.specs.OpenTables.{OpenTables}
 use Rattle.paw_process.specs.Kept.{kept, waiting_code, frames_fault}
 use Rattle.paw_process.specs.declared.kept.Frames.{Frames}
 
@@ -21,10 +20,6 @@ pub record State : Type 0 where
   pub prompt : Prompt
   pub events : ℕ
   pub piece : ℕ
-
--- the state of a game that waits at a prompt with these parts
-abbrev pub state_of : World → OpenTables → PendingLine → Prompt → ℕ → ℕ → State
-state_of w m p at events piece = record { world = w; frames = kept m; pending = p; prompt = at; events = events; piece = piece }
 
 -- The rules of a state: the world is the game's, with each object at a place, now, in the saved position and in the kept
 -- ones; not too many lines were taken, and no piece drew more words than it may read condacts; the open tables and

@@ -1,7 +1,7 @@
 // The laws of a state's bytes.
 
-ghost use Rattle.paw_state.specs.Laws.{FitOrUnfit, BytesTellTheState, WrittenIsFit};
-ghost use Rattle.paw_state.specs.Record.{StateOfParts};
+ghost use Rattle.paw_state.specs.inner.Laws.{FitOrUnfit, BytesTellTheState, WrittenIsFit};
+ghost use Rattle.paw_state.specs.inner.Record.{StateOfParts};
 
 /// Bytes have a fault exactly where they are no state of the game.
 pub fn fit_or_unfit()

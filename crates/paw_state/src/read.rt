@@ -1,11 +1,13 @@
 // From the bytes of a state to the parts of a game.
 
 ghost use Rattle.std.specs.Prelude.{◌+◌, ◌*◌, slice_index, ◌≡◌, ◌≢◌, ◌<◌, ◌≤◌, ◌++◌, ◌↔◌, None, length, map, replicate, slice_set, IsOk, IfOk, IfErr};
-ghost use Rattle.paw_process.specs.Kept.{kept, restored, waiting_at, frames_fault, StandsAt};
+ghost use Rattle.paw_process.specs.Kept.{kept, frames_fault};
+ghost use Rattle.paw_process.specs.inner.Kept.{restored, waiting_at, StandsAt};
 ghost use Rattle.paw_state.specs.Faults.{fields_fault};
 ghost use Rattle.paw_world.specs.World.{kept_position};
-ghost use Rattle.paw_state.specs.Parts.{SetsSaved, held_in, world_in, frame_in, frames_in, state_in};
-ghost use Rattle.paw_state.specs.Fit.{Fit, unfit, state_read, IsRead};
+ghost use Rattle.paw_state.specs.inner.Parts.{SetsSaved, held_in, world_in, frame_in, frames_in, state_in};
+ghost use Rattle.paw_state.specs.Fit.{Fit, unfit};
+ghost use Rattle.paw_state.specs.inner.Fit.{state_read, IsRead};
 
 use crate::checks::{check, prompt_of};
 use crate::fields::{Fields, Row};

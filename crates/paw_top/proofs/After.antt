@@ -9,7 +9,7 @@ use Rattle.paw_lex.specs.Bytes.{is_printed_byte}
 use Rattle.paw_grammar.specs.Tokens.{◌>>=◌}
 use Rattle.paw_grammar.specs.GrammarState.{Spelt, game_of}
 use Rattle.paw_grammar.specs.Spells.{step, at_line, whole, reading}
-use Rattle.paw_source.specs.Laws.{after_lines}
+use Rattle.paw_source.specs.inner.Laws.{after_lines}
 use Rattle.paw_source.proofs.Faultless.{ok_is}
 
 -- after d the line has no fault, and then e is spelled; its bytes are printed

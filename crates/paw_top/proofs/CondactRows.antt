@@ -10,7 +10,8 @@ use Rattle.paw_base.specs.declared.fault.SourceKind.{SourceKind}
 use Rattle.paw_base.specs.declared.parts.Condact.{Condact}
 use Rattle.paw_base.specs.declared.rows.ParamKind.{ParamKind}
 use Rattle.paw_base.specs.declared.rows.ParamKind.TheVariants as kind
-use Rattle.paw_base.specs.Condacts.{condact_lines, line_of, name_of, first_kind, second_kind, param_count, params_of, IsCode}
+use Rattle.paw_base.specs.Condacts.{condact_lines, line_of, name_of, first_kind, second_kind, param_count, params_of}
+use Rattle.paw_base.specs.inner.Condacts.{IsCode}
 use Rattle.paw_base.proofs.Table.{below, each_code}
 use Rattle.paw_base.proofs.Named.{code_named-name_of}
 use Rattle.paw_game.specs.declared.parts.ObjectRow.{ObjectRow}
@@ -164,7 +165,7 @@ condact_back p g c s h =
     let b = parameter_back p g (second_kind c.code) c.b s parameters.1 in
     record {
       plain = and_from _ _ (plain-name_of c.code code)
-      (list_all-append is_plain (parameter_tokens g.words (first_kind c.code) c.a) _ ∙ and_from _ _ a.plain b.plain);
+          (list_all-append is_plain (parameter_tokens g.words (first_kind c.code) c.a) _ ∙ and_from _ _ a.plain b.plain);
       read = condact_read p g c code a b;
     }
 

@@ -5,7 +5,8 @@ use Rattle.paw_print.specs.Canonical.{canonical_of}
 use Rattle.paw_stage.specs.Stage.{Standing}
 use Rattle.paw_stage.specs.declared.StageCall.TheVariants as call
 use Rattle.paw_top.specs.Decompile.{Decompiles, done, damaged, absent, unloaded, unshown, memory}
-use Rattle.paw_top.specs.Loads.{Holds, LoadsSome, LoadsNone, GivesNone}
+use Rattle.paw_top.specs.Loads.{Holds}
+use Rattle.paw_top.specs.inner.Loads.{LoadsSome, LoadsNone, GivesNone}
 use Rattle.paw_top.specs.Shows.{Shows}
 use Rattle.paw_top.specs.declared.outcome.Outcome.{Outcome}
 use Rattle.paw_top.specs.declared.outcome.Outcome.TheVariants as outcome

@@ -6,7 +6,8 @@ use Rattle.paw_image.specs.Damage.{bad}
 use Rattle.paw_image.specs.Images.{IsImage}
 use Rattle.paw_image.proofs.WholeLaws.{over_is_bad}
 use Rattle.paw_stage.specs.Stage.{Standing}
-use Rattle.paw_top.specs.Loads.{Holds, HoldsDamage, LoadsSome}
+use Rattle.paw_top.specs.Loads.{Holds, HoldsDamage}
+use Rattle.paw_top.specs.inner.Loads.{LoadsSome}
 
 -- bytes of which at most the limit and one more were taken, and of these no more than the limit
 short_enough : (bytes : List ℕ) → length (take 4194305 bytes) ≤ 4194304 → (length bytes ≤ 4194304) ⊎ (4194305 ≤ length bytes) → length bytes ≤ 4194304

@@ -112,7 +112,7 @@ trimmed (c ∷ cs) h =
     elim (is_letter c) as (λ v. is_letter c ≡ v → cond v (is_filled cs) (list_all (λ d. eqb d 32) (c ∷ cs)) ≡ true →
     IsTrimmed (c ∷ cs) (before_first (λ b. eqb b 32) (c ∷ cs))) [
       | true ↦ λ is g. rw (before_first-cons (λ b. eqb b 32) c cs (letter c is).no_space)
-      (trimmed-letter c cs (before_first (λ b. eqb b 32) cs) is (trimmed cs g))
+          (trimmed-letter c cs (before_first (λ b. eqb b 32) cs) is (trimmed cs g))
       | false ↦ λ is g. trimmed-spaces c cs g
     ] refl h
 

@@ -91,8 +91,15 @@ facts_row ws locations n count f words few below most h =
 
 plain_facts : (ws : List Word) (locations n count : ℕ) (f : ObjectFacts) → FactsRow ws locations n count f → list_all is_plain (object_tokens ws n f) ≡ true
 plain_facts ws locations n count f r =
-    rw (plain-decimal n r.small, plain-decimal f.start r.start_small, plain-decimal f.weight r.weight_small, kind_plain
-    f.container f.wearable, r.noun.plain, r.adjective.plain) refl
+    rw (
+      plain-decimal n r.small,
+      plain-decimal f.start r.start_small,
+      plain-decimal f.weight r.weight_small,
+      kind_plain
+          f.container f.wearable,
+      r.noun.plain,
+      r.adjective.plain,
+    ) refl
 
 object_step : (p : ℕ) (d : Spelt) (fs : List ObjectFacts) (f : ObjectFacts) → d.section ≡ section.Obj →
     FactsRow d.words (length d.locations) (length fs) (length d.names) f

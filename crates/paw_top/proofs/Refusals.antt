@@ -4,7 +4,7 @@ use Rattle.paw_stage.specs.Stage.{Standing}
 use Rattle.paw_stage.specs.declared.StageCall.TheVariants as call
 use Rattle.paw_top.specs.declared.outcome.Outcome.{Outcome}
 use Rattle.paw_top.specs.declared.outcome.Outcome.TheVariants as outcome
-use Rattle.paw_top.specs.Loads.{LoadsSome, LoadsNone, GivesNone}
+use Rattle.paw_top.specs.inner.Loads.{LoadsSome, LoadsNone, GivesNone}
 use Rattle.paw_top.specs.Opens.{Unopened, damaged, absent, failed, wanting}
 use Rattle.paw_top.proofs.Images.{damage_loaded}
 

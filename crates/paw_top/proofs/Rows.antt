@@ -5,7 +5,8 @@ use Rattle.std.proofs.lemmas.Bool.{and_parts, and_from, and_right, not-true, not
 use Rattle.std.proofs.lemmas.List.{append-nil}
 use Rattle.std.proofs.lemmas.List.Folds.{list_all-append}
 use Rattle.paw_lex.specs.Bytes.{is_printed_byte, is_allowed, is_comment, has_forbidden_byte}
-use Rattle.paw_lex.specs.Tokens.{is_blank, ends_token, tokens_of}
+use Rattle.paw_lex.specs.Tokens.{is_blank, tokens_of}
+use Rattle.paw_lex.specs.inner.Tokens.{ends_token}
 use Rattle.paw_lex.proofs.Printed.{is_token, tokens_of-join}
 use Rattle.paw_lex.proofs.TokenCuts.{tokens_of-blank}
 use Rattle.paw_grammar.specs.GrammarState.{Spelt}
@@ -113,8 +114,15 @@ row_step p d (b ∷ bs) ts h slash out =
     let all = and_parts (is_plain (b ∷ bs)) (list_all is_plain ts) h in
     let c = clean b (and_parts (is_clean b) (list_all is_clean bs) all.0).0 in
     let text : is_text_line d (spaced ((b ∷ bs) ∷ ts)) ≡ false = rw out refl in
-    rw (c.no_semicolon, none_forbidden (is_text_line d (spaced ((b ∷ bs) ∷ ts))) (spaced ((b ∷ bs) ∷ ts))
-    (printed-spaced (b ∷ bs) ts h), text, slash, c.no_blank, tokens_of-spaced (b ∷ bs) ts h) refl
+    rw (
+      c.no_semicolon,
+      none_forbidden (is_text_line d (spaced ((b ∷ bs) ∷ ts))) (spaced ((b ∷ bs) ∷ ts))
+          (printed-spaced (b ∷ bs) ts h),
+      text,
+      slash,
+      c.no_blank,
+      tokens_of-spaced (b ∷ bs) ts h,
+    ) refl
 
 -- a line of tokens behind spaces
 pub more_step : (p : ℕ) (d : Spelt) (t : List ℕ) (ts : List (List ℕ)) → list_all is_plain (t ∷ ts) ≡ true → is_in_text d ≡ false

@@ -151,8 +151,11 @@ whole_text p s d before t ls at text (has_line l ms are) lines is short =
     let same : l ++ flat_map (λ m. 10 ∷ m) ms ≡ t = rw are at is in
     let whole : length (l ++ flat_map (λ m. 10 ∷ m) ms) ≤ 4095 = rw same short in
     let first : length l ≤ 4095 = omega (arith, length-append l (flat_map (λ m. 10 ∷ m) ms), whole) in
-    rw are (true, reads_line p _ _ _ l ms (line_step p s false d before [] l at text (text_line_is l both.0) first)
-    (rw same at (more_lines p s d before l ms at text both.1 whole)))
+    rw are (
+      true,
+      reads_line p _ _ _ l ms (line_step p s false d before [] l at text (text_line_is l both.0) first)
+          (rw same at (more_lines p s d before l ms at text both.1 whole)),
+    )
 
 text_read : (p : ℕ) (s : Section) (d : Spelt) (before : List (List ℕ)) (t : List ℕ) → d.section ≡ s → is_text_section s ≡ true → is_text t ≡ true
     → Then p s d (with_texts s false (before ++ [] ∷ []) d) (lines_of_text t) (before ++ t ∷ [])

@@ -7,7 +7,8 @@ use Rattle.paw_reading.specs.Reading.{IsOver, RunsOut, CallsTooDeep}
 use Rattle.paw_reading.specs.Turn.{Ending, WaitsAt, Halted}
 use Rattle.paw_trial.specs.declared.TrialEnd.{TrialEnd}
 use Rattle.paw_trial.specs.declared.TrialEnd.TheVariants as end
-use Rattle.paw_trial.specs.Trial.{IsTextOf, StopsAs, trial_reading}
+use Rattle.paw_trial.specs.Trial.{trial_reading}
+use Rattle.paw_trial.specs.inner.Trial.{IsTextOf, StopsAs}
 use Rattle.paw_top.specs.declared.outcome.Outcome.{Outcome}
 use Rattle.paw_top.specs.declared.outcome.Outcome.TheVariants as outcome
 use Rattle.paw_top.specs.declared.outcome.MemoryAt.TheVariants as memory

@@ -19,7 +19,7 @@ use Rattle.paw_grammar.specs.GrammarState.{Spelt, nothing_yet, all_exits, game_o
 use Rattle.paw_grammar.specs.GrammarTexts.{is_text_section, with_texts, text_limit}
 use Rattle.paw_grammar.specs.GrammarHeads.{section_opened, lacks_rows}
 use Rattle.paw_grammar.specs.Spells.{begins_table, reading, spelled}
-use Rattle.paw_source.specs.Laws.{CountsTables}
+use Rattle.paw_source.specs.inner.Laws.{CountsTables}
 use Rattle.paw_print.specs.Lines.{spaced, word_tokens, text_lines}
 use Rattle.paw_print.specs.Canonical.{words_lines, texts_lines, location_lines, exits_lines, object_lines, objects_lines, table_lines, numbered}
 use Rattle.paw_print.specs.Canonical.{canonical_lines, canonical_of}

@@ -1,5 +1,5 @@
 -- Facts of one answer.
-use Rattle.std.specs.Prelude.{Option, Some, None, Result, Ok, Err}
+use Rattle.std.specs.Prelude.{Option, Some, None}
 use Rattle.paw_stage.specs.declared.StageCall.{StageCall}
 use Rattle.paw_stage.specs.declared.StageCall.TheVariants as call
 use Rattle.paw_play.specs.Calls.{IsWalkCall, IsSessionCall}
@@ -18,11 +18,6 @@ IfOutside _ P = Unit {0}
 abbrev pub failed_call : Outcome → Option StageCall
 failed_call (outcome.Outside c) = Some c
 failed_call _ = None
-
--- the same where there is an answer only if something failed
-abbrev pub failed_or : {A : Type 0} → Result A Outcome → Option StageCall
-failed_or (Ok a) = None
-failed_or (Err o) = failed_call o
 
 -- the two counts of a load
 abbrev pub IsLoadCall : StageCall → Type 0

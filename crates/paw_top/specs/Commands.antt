@@ -1,12 +1,10 @@
 -- The words of a command.
-use Rattle.std.specs.Prelude.{◌≡◌, ℕ, ◌+◌, ◌-◌, ◌*◌, ◌^◌, Bool, ◌&&◌, List, [], ◌∷◌, length, Option, Some, None, nat_lt, nat_le, codes, map, string_bytes}
+use Rattle.std.specs.Prelude.{ℕ, ◌+◌, ◌-◌, ◌*◌, ◌^◌, Bool, ◌&&◌, List, [], ◌∷◌, length, Option, Some, None, nat_lt, nat_le, codes, map, string_bytes}
 use Rattle.std.specs.Prelude.{if◌then◌else◌}
 use Rattle.std.specs.declared.string.String.{String}
 use Rattle.std.specs.List.{list_all}
 use Rattle.std.specs.Str.{bytes_eq}
 use Rattle.paw_grammar.specs.Numbers.{is_digit}
-use Rattle.paw_top.specs.declared.commands.Command.{Command as Given}
-use Rattle.paw_top.specs.declared.commands.Command.TheVariants as given
 
 -- what is asked for: to compile a source to an image; to show the source of an image; to walk through the game of an
 -- image, with a seed; to trace that walk; to play it, with a new session in a store; to go on with the session in a store; to play the trial of
@@ -109,14 +107,3 @@ command_of (verb ∷ rest) =
 -- what the words of a call ask for
 abbrev pub asked : {Z : Type 0} → List (String Z) → Option Command
 asked words = command_of (map string_bytes words)
-
--- the code's answer spells what is asked for
-abbrev pub Spells : Option Given → Option Command → Type 0
-Spells None asked = asked ≡ None
-Spells (Some (given.Compile source image)) asked = asked ≡ Some (Compile source.now image.now)
-Spells (Some (given.Decompile image)) asked = asked ≡ Some (Decompile image.now)
-Spells (Some (given.Walk image seed)) asked = asked ≡ Some (Walk image.now seed)
-Spells (Some (given.Trace image seed)) asked = asked ≡ Some (Trace image.now seed)
-Spells (Some (given.Play image store seed)) asked = asked ≡ Some (Play image.now store.now seed)
-Spells (Some (given.Resume image store)) asked = asked ≡ Some (Resume image.now store.now)
-Spells (Some (given.Trial n)) asked = asked ≡ Some (Trial n)

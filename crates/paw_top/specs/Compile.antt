@@ -1,5 +1,5 @@
 -- What compiling a source comes to.
-use Rattle.std.specs.Prelude.{◌≡◌, ◌⊎◌, ℕ, List, ◌++◌, length, take, Result, Ok, Err, Option, Some, None, codes}
+use Rattle.std.specs.Prelude.{◌≡◌, ◌⊎◌, ℕ, List, ◌++◌, length, take, Ok, Err, Option, Some, None, codes}
 use Rattle.std.specs.Fmt.{decimal}
 use Rattle.paw_base.specs.declared.fault.SourceFault.{SourceFault}
 use Rattle.paw_game.specs.Game.{GameLists}
@@ -7,7 +7,7 @@ use Rattle.paw_game.specs.Image.{image}
 use Rattle.paw_grammar.specs.Spells.{spelled}
 use Rattle.paw_stage.specs.Stage.{Standing, Saves}
 use Rattle.paw_stage.specs.declared.StageCall.TheVariants as call
-use Rattle.paw_top.specs.Shows.{showing, Shows}
+use Rattle.paw_top.specs.Shows.{showing}
 use Rattle.paw_top.specs.declared.outcome.Outcome.{Outcome}
 use Rattle.paw_top.specs.declared.outcome.Outcome.TheVariants as outcome
 use Rattle.paw_top.specs.declared.outcome.MemoryAt.{MemoryAt}
@@ -50,16 +50,3 @@ pub data Compiles (source target : List ℕ) (old new : Standing) : Outcome → 
       Compiles source target old new (outcome.Outside call.Show)
   -- memory was wanting; nothing is changed
   memory : (at : MemoryAt) → new ≡ old → Compiles source target old new (outcome.Memory at)
-
--- ---- on the way ----
-
--- why a source that is read so gives no image: its fault, or want of memory
-abbrev pub IsRefusal : Result GameLists SourceFault → Outcome → Type 0
-IsRefusal read (outcome.SourceRefused fault) = read ≡ Err fault
-IsRefusal read (outcome.Memory at) = Unit {0}
-IsRefusal read _ = ⊥
-
--- how saving a file and then showing a line leave what stands, by the answer
-abbrev pub Keeps : List ℕ → List ℕ → List ℕ → Standing → Standing → Outcome → Type 0
-Keeps name bytes line old new (outcome.Outside call.Save) = Unsaved old new name
-Keeps name bytes line old new o = (mid : Standing) × Saves old mid name (Some bytes) × Shows line mid new o

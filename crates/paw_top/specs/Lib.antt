@@ -13,3 +13,4 @@ pub mod Sessions
 pub mod Completes
 pub mod Round
 pub mod Tries
+pub mod inner

@@ -3,7 +3,8 @@
 ghost use Rattle.std.specs.Prelude.{◌≡◌, ◌+◌, ◌-◌, ◌*◌, ◌<◌, ◌≤◌, ◌^◌, ℕ, map, Option, string_bytes, IfSome, IfNone};
 ghost use Rattle.paw_top.specs.Commands.{command_of, compile_of, decompile_of, walk_of, trace_of, play_of, resume_of};
 ghost use Rattle.paw_top.specs.Commands.{trial_of, seed_of, trial_number, has_seed_shape, has_trial_shape};
-ghost use Rattle.paw_top.specs.Commands.{number_after, Spells};
+ghost use Rattle.paw_top.specs.Commands.{number_after};
+ghost use Rattle.paw_top.specs.inner.Commands.{Spells};
 ghost use Rattle.paw_grammar.specs.Numbers.{is_digit};
 ghost use Rattle.std.specs.List.{list_all};
 

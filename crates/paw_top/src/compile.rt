@@ -8,7 +8,8 @@ ghost use Rattle.paw_grammar.specs.Spells.{spelled};
 ghost use Rattle.paw_stage.specs.Stage.{Faulted};
 ghost use Rattle.paw_stage.specs.Across.{Across};
 ghost use Rattle.paw_top.specs.Answers.{IfOutside, IfMemory, IsCompileCall, IsCompileMemory, failed_call};
-ghost use Rattle.paw_top.specs.Compile.{Compiles, IsRefusal, Keeps, image_line};
+ghost use Rattle.paw_top.specs.Compile.{Compiles, image_line};
+ghost use Rattle.paw_top.specs.inner.Compile.{IsRefusal, Keeps};
 ghost use Rattle.paw_top.specs.declared.outcome.Outcome.TheVariants as outcome;
 ghost use Rattle.paw_top.specs.declared.outcome.MemoryAt.TheVariants as memory;
 

@@ -3,9 +3,11 @@
 ghost use Rattle.std.specs.Prelude.{◌≢◌, ◌↔◌, IfOk, IfErr};
 ghost use Rattle.paw_stage.specs.Moments.{Still};
 ghost use Rattle.paw_stage.specs.Stage.{Faulted};
-ghost use Rattle.paw_stage.specs.Across.{Across, Throughout};
-ghost use Rattle.paw_top.specs.Answers.{IfOutside, IfMemory, IsLoadCall, IsLoadMemory, failed_or};
-ghost use Rattle.paw_top.specs.Loads.{LoadsSome, LoadsNone};
+ghost use Rattle.paw_stage.specs.Across.{Across};
+ghost use Rattle.paw_stage.specs.inner.Across.{Throughout};
+ghost use Rattle.paw_top.specs.Answers.{IfOutside, IfMemory, IsLoadCall, IsLoadMemory};
+ghost use Rattle.paw_top.specs.inner.Answers.{failed_or};
+ghost use Rattle.paw_top.specs.inner.Loads.{LoadsSome, LoadsNone};
 ghost use Rattle.paw_top.specs.declared.outcome.Outcome.TheVariants as outcome;
 
 use crate::outcome::{MemoryAt, Outcome};

@@ -3,10 +3,12 @@
 ghost use Rattle.std.specs.Prelude.{◌≡◌, ◌≢◌, ℕ, List, Some, None, IfOk, IfErr};
 ghost use Rattle.paw_game.specs.Game.{GameLists};
 ghost use Rattle.paw_image.specs.Damage.{bad};
-ghost use Rattle.paw_image.specs.Images.{IsImage, AtDamage};
-ghost use Rattle.paw_image.specs.Views.{game_of};
-ghost use Rattle.paw_top.specs.Answers.{IfMemory, IsLoadMemory, failed_call, failed_or};
-ghost use Rattle.paw_top.specs.Loads.{GivesNone};
+ghost use Rattle.paw_image.specs.Images.{IsImage};
+ghost use Rattle.paw_image.specs.inner.Images.{AtDamage};
+ghost use Rattle.paw_image.specs.inner.Views.{game_of};
+ghost use Rattle.paw_top.specs.Answers.{IfMemory, IsLoadMemory, failed_call};
+ghost use Rattle.paw_top.specs.inner.Answers.{failed_or};
+ghost use Rattle.paw_top.specs.inner.Loads.{GivesNone};
 ghost use Rattle.paw_top.specs.declared.outcome.Outcome.TheVariants as outcome;
 
 use crate::outcome::{MemoryAt, Outcome};

@@ -2,7 +2,8 @@
 
 ghost use Rattle.std.specs.Prelude.{◌≡◌, ◌≢◌, ◌↔◌, ℕ, None};
 ghost use Rattle.paw_stage.specs.Stage.{Standing, Faulted};
-ghost use Rattle.paw_trial.specs.Trial.{StopsAs, trial_reading};
+ghost use Rattle.paw_trial.specs.Trial.{trial_reading};
+ghost use Rattle.paw_trial.specs.inner.Trial.{StopsAs};
 ghost use Rattle.paw_top.specs.Answers.{IfOutside, IfMemory, IsTrialCall, IsTrialMemory, failed_call};
 ghost use Rattle.paw_top.specs.Tries.{Tries};
 ghost use Rattle.paw_top.specs.declared.outcome.Outcome.TheVariants as outcome;

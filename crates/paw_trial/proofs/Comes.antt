@@ -5,7 +5,7 @@ use Rattle.std.proofs.lemmas.List.{drop_all}
 use Rattle.sha2.specs.Sha256.{sha256}
 use Rattle.paw_game.specs.Image.{image}
 use Rattle.paw_stage.specs.Disk.{IsStable}
-use Rattle.paw_stage.specs.Memory.{Memory, empty, standing_of}
+use Rattle.paw_stage.specs.inner.Memory.{Memory, empty, standing_of}
 use Rattle.paw_stage.specs.Stage.{Standing, bytes_or_none}
 use Rattle.paw_reading.specs.Turn.{reading}
 use Rattle.paw_reading.specs.Bounds.{IsLine}
@@ -21,8 +21,9 @@ use Rattle.paw_play.proofs.Standing.{standing_again}
 use Rattle.paw_gen.specs.Trial.{trial_game, trial_lines}
 use Rattle.paw_trial.specs.declared.TrialEnd.{TrialEnd}
 use Rattle.paw_trial.specs.declared.TrialEnd.TheVariants as end
-use Rattle.paw_trial.specs.Trial.{StopsAs, trial_story, trial_reading}
-use Rattle.paw_trial.specs.Session.{HoldsLines, Waits, first_half, second_half, stop_of, store_name}
+use Rattle.paw_trial.specs.Trial.{trial_story, trial_reading}
+use Rattle.paw_trial.specs.inner.Trial.{StopsAs}
+use Rattle.paw_trial.specs.inner.Session.{HoldsLines, Waits, first_half, second_half, stop_of, store_name}
 use Rattle.paw_trial.proofs.Lines.{first_are, second_are, both_halves, plays_first, all_taken, taken_and_left}
 use Rattle.paw_trial.proofs.Stops.{stops_later, stops_since, waits_since}
 

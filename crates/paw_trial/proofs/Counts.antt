@@ -17,8 +17,9 @@ use Rattle.paw_play.proofs.Going.{IsSettled}
 use Rattle.paw_play.proofs.Settling.{reading_settles}
 use Rattle.paw_gen.specs.Trial.{trial_game, trial_lines, location_count, object_count, line_count}
 use Rattle.paw_trial.specs.declared.Tally.{Tally}
-use Rattle.paw_trial.specs.Trial.{trial_story, trial_reading, IsTextOf}
-use Rattle.paw_trial.specs.Session.{Waits, IsTallyOf, tally_in, tally_of}
+use Rattle.paw_trial.specs.Trial.{trial_story, trial_reading}
+use Rattle.paw_trial.specs.inner.Trial.{IsTextOf}
+use Rattle.paw_trial.specs.inner.Session.{Waits, IsTallyOf, tally_in, tally_of}
 use Rattle.paw_trial.proofs.Lines.{plays_all, few_lines}
 
 -- the flags come first in a state's bytes

@@ -15,7 +15,7 @@ use Rattle.paw_gen.specs.Trial.{trial_line, trial_lines, line_count}
 use Rattle.paw_gen.proofs.Rows.{length_rows}
 use Rattle.paw_gen.proofs.Valids.{trial_valid}
 use Rattle.paw_trial.specs.Trial.{trial_story}
-use Rattle.paw_trial.specs.Session.{first_half, second_half}
+use Rattle.paw_trial.specs.inner.Session.{first_half, second_half}
 
 -- ---- they are lines ----
 

@@ -2,14 +2,16 @@
 use Rattle.std.proofs.Common.{◌≡◌, ℕ, List, ◌++◌, sym, subst}
 use Rattle.paw_effects.specs.Story.{Story}
 use Rattle.paw_reading.specs.Reading.{IsOver, RunsOut, CallsTooDeep}
-use Rattle.paw_reading.specs.Turn.{Ending, WaitsAt, Halted, reading, followed}
+use Rattle.paw_reading.specs.Turn.{Ending, WaitsAt, Halted, reading}
+use Rattle.paw_reading.specs.inner.Turn.{followed}
 use Rattle.paw_reading.proofs.Followed.{going_on_is_reading}
 use Rattle.paw_play.specs.Stands.{ending_since}
 use Rattle.paw_gen.specs.Trial.{trial_lines}
 use Rattle.paw_trial.specs.declared.TrialEnd.{TrialEnd}
 use Rattle.paw_trial.specs.declared.TrialEnd.TheVariants as end
-use Rattle.paw_trial.specs.Trial.{StopsAs, trial_story, trial_reading}
-use Rattle.paw_trial.specs.Session.{Waits}
+use Rattle.paw_trial.specs.Trial.{trial_story, trial_reading}
+use Rattle.paw_trial.specs.inner.Trial.{StopsAs}
+use Rattle.paw_trial.specs.inner.Session.{Waits}
 
 -- more lines change nothing
 stays : (g : Story) (fs : List (List ℕ)) (stop : TrialEnd) (e : Ending) → StopsAs stop e → StopsAs stop (followed g fs e)

@@ -1,13 +1,10 @@
 -- What a trial tells.
-use Rattle.std.specs.Prelude.{◌≡◌, ℕ, List, [], ◌++◌, codes, decimal}
+use Rattle.std.specs.Prelude.{ℕ, List, [], ◌++◌, codes, decimal}
 use Rattle.paw_world.specs.World.{World, flag}
 use Rattle.paw_effects.specs.Counts.{turns_taken}
 use Rattle.paw_effects.specs.Story.{Story, story_of}
-use Rattle.paw_reading.specs.Reading.{IsOver, RunsOut, CallsTooDeep}
-use Rattle.paw_reading.specs.Turn.{Ending, WaitsAt, Halted, reading}
+use Rattle.paw_reading.specs.Turn.{Ending, reading}
 use Rattle.paw_gen.specs.Trial.{trial_game, trial_lines, location_count, object_count, line_count}
-use Rattle.paw_trial.specs.declared.TrialEnd.{TrialEnd}
-use Rattle.paw_trial.specs.declared.TrialEnd.TheVariants as end
 
 -- the game of a trial, which calls no routine: none is there
 abbrev pub trial_story : ℕ → Story
@@ -28,16 +25,3 @@ trial_text n w =
     ++ (decimal (turns_taken w) ++ (codes " turns, at "
     ++ (decimal (flag w 38) ++ (codes " with "
     ++ (decimal (flag w 1) ++ codes "\n")))))))))))))
-
--- the text of a reading that waits for another line
-abbrev pub IsTextOf : ℕ → Ending → List ℕ → Type 0
-IsTextOf n (WaitsAt p path r) text = text ≡ trial_text n r.world
-IsTextOf n _ text = ⊥
-
--- a trial has no text where the reading ends otherwise, or where memory was wanting
-abbrev pub StopsAs : TrialEnd → Ending → Type 0
-StopsAs end.Memory e = Unit {0}
-StopsAs end.Ended (Halted IsOver r) = Unit {0}
-StopsAs (end.Spent kind) (Halted (RunsOut found) r) = kind ≡ found
-StopsAs (end.TooDeep table) (Halted (CallsTooDeep found) r) = table ≡ found
-StopsAs _ _ = ⊥

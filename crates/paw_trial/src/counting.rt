@@ -1,10 +1,10 @@
 // What the session of a trial counts.
 
 ghost use Rattle.std.specs.Prelude.{◌≡◌, IfOk};
-ghost use Rattle.paw_stage.specs.Memory.{standing_of};
+ghost use Rattle.paw_stage.specs.inner.Memory.{standing_of};
 ghost use Rattle.paw_gen.specs.Trial.{trial_lines};
 ghost use Rattle.paw_trial.specs.Trial.{trial_reading};
-ghost use Rattle.paw_trial.specs.Session.{HoldsLines, IsTallyOf, tally_in};
+ghost use Rattle.paw_trial.specs.inner.Session.{HoldsLines, IsTallyOf, tally_in};
 
 use crate::Tally;
 use crate::halves::STORE;

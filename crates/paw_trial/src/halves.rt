@@ -1,11 +1,12 @@
 // Playing the two halves of a trial, with a session in a stage in memory.
 
 ghost use Rattle.std.specs.Prelude.{◌≡◌, ◌++◌, [], IfOk, IfSome, IfNone, OnOk};
-ghost use Rattle.paw_stage.specs.Memory.{empty, standing_of};
+ghost use Rattle.paw_stage.specs.inner.Memory.{empty, standing_of};
 ghost use Rattle.paw_routines.specs.Routines.{AreRowsOf};
 ghost use Rattle.paw_gen.specs.Trial.{trial_lines};
-ghost use Rattle.paw_trial.specs.Trial.{StopsAs, trial_reading};
-ghost use Rattle.paw_trial.specs.Session.{HoldsLines, first_half, second_half, stop_of};
+ghost use Rattle.paw_trial.specs.Trial.{trial_reading};
+ghost use Rattle.paw_trial.specs.inner.Trial.{StopsAs};
+ghost use Rattle.paw_trial.specs.inner.Session.{HoldsLines, first_half, second_half, stop_of};
 
 use crate::TrialEnd;
 use crate::setting::Setting;

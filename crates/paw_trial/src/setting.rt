@@ -4,7 +4,7 @@ ghost use Rattle.std.specs.Prelude.{◌≡◌, ◌<◌, ◌≤◌, length, IfOk}
 ghost use Rattle.sha2.specs.Sha256.{sha256};
 ghost use Rattle.paw_game.specs.Image.{image};
 ghost use Rattle.paw_gen.specs.Trial.{trial_game};
-ghost use Rattle.paw_trial.specs.Session.{first_half, second_half};
+ghost use Rattle.paw_trial.specs.inner.Session.{first_half, second_half};
 
 use paw_base::fault::NoRoom;
 use paw_game::game::Game;

@@ -1,8 +1,9 @@
 // A trial from its number to its line.
 
 ghost use Rattle.std.specs.Prelude.{◌≡◌, IfOk, IfErr, string_bytes};
-ghost use Rattle.paw_trial.specs.Trial.{IsTextOf, StopsAs, trial_reading};
-ghost use Rattle.paw_trial.specs.Session.{IsTallyOf};
+ghost use Rattle.paw_trial.specs.Trial.{trial_reading};
+ghost use Rattle.paw_trial.specs.inner.Trial.{IsTextOf, StopsAs};
+ghost use Rattle.paw_trial.specs.inner.Session.{IsTallyOf};
 
 use crate::counting::counted;
 use crate::halves::{new_stage, play_first, play_second};

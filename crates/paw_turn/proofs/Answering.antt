@@ -11,15 +11,16 @@ use Rattle.paw_reading.specs.Run.{Run, closed, is_timeout, is_ignored, with_time
 use Rattle.paw_reading.specs.Reading.{Out, Waits, after_call, asked, rest}
 use Rattle.paw_reading.specs.GoingOn.{on_path}
 use Rattle.paw_reading.specs.Turn.{table_done, turn, first_table}
-use Rattle.paw_process.specs.OpenTables.{OpenTables, ReadsNone}
-use Rattle.paw_process.specs.Meaning.{held, to_come, going_on, ComesTo, RunsTo, IsStopped, AnswersQuit, AnswersKey}
+use Rattle.paw_process.specs.OpenTables.{OpenTables}
+use Rattle.paw_process.specs.inner.OpenTables.{ReadsNone}
+use Rattle.paw_process.specs.inner.Meaning.{held, to_come, going_on, ComesTo, RunsTo, IsStopped, AnswersQuit, AnswersKey}
 use Rattle.paw_process.specs.declared.Turned.{Turned}
 use Rattle.paw_turn.specs.declared.Step.TheVariants as step
 use Rattle.paw_turn.specs.declared.stage.Next.{Next}
 use Rattle.paw_turn.specs.declared.stage.Next.TheVariants as next
 use Rattle.paw_turn.specs.declared.turn.Turn.{Turn}
-use Rattle.paw_turn.specs.Player.{IsLoopOf, StandsAt}
-use Rattle.paw_turn.specs.Stages.{Past, run_of, having_read, HasReadSome, GoesOnAs, MovesAfter, PlaysAs, RunsAs, from_prompt, from_path, StopsInTable, AwaitsAt}
+use Rattle.paw_turn.specs.inner.Player.{IsLoopOf, StandsAt}
+use Rattle.paw_turn.specs.inner.Stages.{Past, run_of, having_read, HasReadSome, GoesOnAs, MovesAfter, PlaysAs, RunsAs, from_prompt, from_path, StopsInTable, AwaitsAt}
 use Rattle.paw_turn.proofs.Falling.{some_past, has_still}
 use Rattle.paw_reading.proofs.Stays.{IsInner, WaitsThere, path_waits}
 use Rattle.paw_turn.proofs.Waiting.{stops_in}

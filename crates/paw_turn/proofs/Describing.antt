@@ -10,8 +10,8 @@ use Rattle.paw_turn.specs.declared.Step.TheVariants as step
 use Rattle.paw_turn.specs.declared.stage.Next.{Next}
 use Rattle.paw_turn.specs.declared.stage.Next.TheVariants as next
 use Rattle.paw_turn.specs.declared.turn.Turn.{Turn}
-use Rattle.paw_process.specs.OpenTables.{HasRead}
-use Rattle.paw_turn.specs.Stages.{run_of, GoesOnAs, Reads, having_read}
+use Rattle.paw_process.specs.inner.OpenTables.{HasRead}
+use Rattle.paw_turn.specs.inner.Stages.{run_of, GoesOnAs, Reads, having_read}
 use Rattle.paw_turn.proofs.Says.{said, unsaid}
 
 -- once the location is described table 1 is read

@@ -5,15 +5,16 @@ use Rattle.paw_reading.specs.declared.places.Frame.{Frame}
 use Rattle.paw_reading.specs.Run.{Run, Step as Read}
 use Rattle.paw_reading.specs.Reading.{Out, table_read}
 use Rattle.paw_reading.specs.Turn.{Ending, left_to_read}
-use Rattle.paw_process.specs.OpenTables.{OpenTables, HasRead, ReadsNone}
-use Rattle.paw_process.specs.Meaning.{ComesTo}
+use Rattle.paw_process.specs.OpenTables.{OpenTables}
+use Rattle.paw_process.specs.inner.OpenTables.{HasRead, ReadsNone}
+use Rattle.paw_process.specs.inner.Meaning.{ComesTo}
 use Rattle.paw_process.specs.declared.Turned.{Turned}
 use Rattle.paw_process.specs.declared.Turned.TheVariants as turned
 use Rattle.paw_turn.specs.declared.stage.Stage.TheVariants as stage
 use Rattle.paw_turn.specs.declared.stage.Next.{Next}
 use Rattle.paw_turn.specs.declared.stage.Next.TheVariants as next
 use Rattle.paw_turn.specs.declared.turn.Turn.{Turn}
-use Rattle.paw_turn.specs.Stages.{Past, run_of, HasReadSome, Reads, PlaysAs, having_read, left_of, table_rank, work, Falls, FallsAfter, RunsAs, from_table, Leaves, Uses}
+use Rattle.paw_turn.specs.inner.Stages.{Past, run_of, HasReadSome, Reads, PlaysAs, having_read, left_of, table_rank, work, Falls, FallsAfter, RunsAs, from_table, Leaves, Uses}
 use Rattle.paw_reading.proofs.Spends.{Spends, table_spends}
 
 pub falls_up : (a b : ℕ) (n : Next) (new : Turn) → a ≤ b → Falls a n new → Falls b n new

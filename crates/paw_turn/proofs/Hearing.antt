@@ -11,9 +11,9 @@ use Rattle.paw_turn.specs.declared.stage.Stage.TheVariants as stage
 use Rattle.paw_turn.specs.declared.stage.Next.{Next}
 use Rattle.paw_turn.specs.declared.stage.Next.TheVariants as next
 use Rattle.paw_turn.specs.declared.turn.Turn.{Turn}
-use Rattle.paw_process.specs.OpenTables.{ReadsNone}
+use Rattle.paw_process.specs.inner.OpenTables.{ReadsNone}
 use Rattle.paw_turn.proofs.Falling.{has_still, equal_none}
-use Rattle.paw_turn.specs.Stages.{Past, run_of, at_stage, GoesOnAs, Moves, PlaysAs, from_prompt}
+use Rattle.paw_turn.specs.inner.Stages.{Past, run_of, at_stage, GoesOnAs, Moves, PlaysAs, from_prompt}
 
 -- where the whole is what moves on, and no condact is read
 pub moves_play : (g : Story) (whole : ℕ → Past → List (List ℕ) → Ending) (x : ℕ → Run → Ending) (old mid new : Turn) (nx : Next)

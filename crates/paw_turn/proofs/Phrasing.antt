@@ -10,12 +10,12 @@ use Rattle.paw_phrase.proofs.Phrases.{Leaves, parsed-shorter}
 use Rattle.paw_effects.specs.Texts.{say_text}
 use Rattle.paw_reading.specs.Run.{Run}
 use Rattle.paw_reading.specs.Turn.{Ending, AtFrame, AtPhrase, AtResponse, saying, counted, prompts, after_phrase, turn}
-use Rattle.paw_process.specs.Phrases.{Speaks}
+use Rattle.paw_process.specs.inner.Phrases.{Speaks}
 use Rattle.paw_turn.specs.declared.stage.Next.{Next}
 use Rattle.paw_turn.specs.declared.stage.Next.TheVariants as next
 use Rattle.paw_turn.specs.declared.stage.Stage.TheVariants as stage
 use Rattle.paw_turn.specs.declared.turn.Turn.{Turn}
-use Rattle.paw_turn.specs.Stages.{run_of, GoesOnAs, Moves, at_stage}
+use Rattle.paw_turn.specs.inner.Stages.{run_of, GoesOnAs, Moves, at_stage}
 
 -- what the next phrase of a pending line is
 abbrev pub next_of : GameLists → World → PendingLine → Parsed

@@ -6,7 +6,7 @@ use Rattle.paw_turn.specs.declared.stage.Stage.{Stage}
 use Rattle.paw_turn.specs.declared.stage.Next.{Next}
 use Rattle.paw_turn.specs.declared.stage.Next.TheVariants as next
 use Rattle.paw_turn.specs.declared.turn.Turn.{Turn}
-use Rattle.paw_turn.specs.Stages.{Past, at_stage, run_of, having_read, GoesOnAs, Reads, PlaysAs, Plays}
+use Rattle.paw_turn.specs.inner.Stages.{Past, at_stage, run_of, having_read, GoesOnAs, Reads, PlaysAs, Plays}
 
 -- nothing is played yet
 pub plays_none : (g : Story) (first : Stage) (old : Turn) → Plays g first old (next.Go first) old

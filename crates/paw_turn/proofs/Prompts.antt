@@ -7,7 +7,7 @@ use Rattle.paw_reading.specs.Turn.{AtFrame, AtPhrase, at_main, prompt_text, prom
 use Rattle.paw_turn.specs.declared.Step.TheVariants as step
 use Rattle.paw_turn.specs.declared.stage.Next.TheVariants as next
 use Rattle.paw_turn.specs.declared.turn.Turn.{Turn}
-use Rattle.paw_turn.specs.Stages.{run_of, Moves}
+use Rattle.paw_turn.specs.inner.Stages.{run_of, Moves}
 use Rattle.paw_turn.proofs.Says.{unsaid}
 
 -- a prompt that doesn't fit

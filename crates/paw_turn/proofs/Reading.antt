@@ -4,13 +4,14 @@ use Rattle.paw_effects.specs.Story.{Story}
 use Rattle.paw_reading.specs.Run.{Run}
 use Rattle.paw_reading.specs.Reading.{table_read}
 use Rattle.paw_reading.specs.Turn.{AtFrame, AtResponse, Ending, table_done, turn}
-use Rattle.paw_process.specs.OpenTables.{OpenTables, HasRead, ReadsNone}
-use Rattle.paw_process.specs.Meaning.{held, RunsTo}
+use Rattle.paw_process.specs.OpenTables.{OpenTables}
+use Rattle.paw_process.specs.inner.OpenTables.{HasRead, ReadsNone}
+use Rattle.paw_process.specs.inner.Meaning.{held, RunsTo}
 use Rattle.paw_process.specs.declared.Turned.{Turned}
 use Rattle.paw_turn.specs.declared.stage.Next.{Next}
 use Rattle.paw_turn.specs.declared.turn.Turn.{Turn}
 use Rattle.paw_turn.proofs.Falling.{has_still}
-use Rattle.paw_turn.specs.Stages.{run_of, having_read, Moves, Reads, MovesAfter, RunsAs, from_table}
+use Rattle.paw_turn.specs.inner.Stages.{run_of, having_read, Moves, Reads, MovesAfter, RunsAs, from_table}
 
 -- a machine that has opened a table
 abbrev pub begun : ℕ → OpenTables → OpenTables

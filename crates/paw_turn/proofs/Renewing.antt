@@ -17,14 +17,14 @@ use Rattle.paw_reading.specs.Run.{Run, closed, fits, printed, without_loop, line
 use Rattle.paw_reading.specs.Reading.{IsOver, RunsOut, Restarts, Out, Stopped, halts, after_call, again, asked, looped, deeper, rest}
 use Rattle.paw_reading.specs.GoingOn.{on_path}
 use Rattle.paw_reading.specs.Turn.{Ending, Halted, AtDescribe, Stage, table_done, turn, first_table}
-use Rattle.paw_process.specs.Meaning.{to_come}
+use Rattle.paw_process.specs.inner.Meaning.{to_come}
 use Rattle.paw_turn.specs.declared.Step.TheVariants as step
 use Rattle.paw_turn.specs.declared.stage.Stage.TheVariants as stage
 use Rattle.paw_turn.specs.declared.stage.Next.TheVariants as next
 use Rattle.paw_turn.specs.declared.turn.Turn.{Turn}
-use Rattle.paw_process.specs.OpenTables.{ReadsNone}
+use Rattle.paw_process.specs.inner.OpenTables.{ReadsNone}
 use Rattle.paw_turn.proofs.Falling.{has_still}
-use Rattle.paw_turn.specs.Stages.{Past, run_of, PlaysAs, from_prompt, ChangesFlags}
+use Rattle.paw_turn.specs.inner.Stages.{Past, run_of, PlaysAs, from_prompt, ChangesFlags}
 
 -- at no the game is over or the piece is spent, and else it starts anew
 abbrev final : Bool → Bool → Run → Run → Run → Out

@@ -3,7 +3,8 @@ use Rattle.std.proofs.Common.{◌≡◌, ℕ, zero, suc, ◌<◌, Bool, true, fa
 use Rattle.std.specs.Prelude.{if◌then◌else◌, nat_lt}
 use Rattle.std.proofs.lemmas.Bool.{eqb-true, ltb-true}
 use Rattle.std.proofs.lemmas.List.{reverse-reverse, length-map}
-use Rattle.paw_base.specs.Steps.{KeptSteps, no_steps}
+use Rattle.paw_base.specs.Steps.{KeptSteps}
+use Rattle.paw_base.specs.inner.Steps.{no_steps}
 use Rattle.paw_game.specs.Game.{GameLists}
 use Rattle.paw_routines.specs.declared.routines.Routines.{Routines}
 use Rattle.paw_world.specs.World.{World}
@@ -11,27 +12,29 @@ use Rattle.paw_game.specs.Valid.{Valid}
 use Rattle.paw_effects.specs.declared.act.Prompt.{Prompt}
 use Rattle.paw_effects.specs.declared.act.Prompt.TheVariants as prompt
 use Rattle.paw_effects.specs.Built.{IsOf}
-use Rattle.paw_effects.specs.Opening.{opening_world}
+use Rattle.paw_effects.specs.inner.Opening.{opening_world}
 use Rattle.paw_effects.proofs.Worlds.{world_is, start_so}
 use Rattle.paw_reading.specs.declared.places.Frame.{Frame}
 use Rattle.paw_reading.specs.declared.places.OpenLoop.{OpenLoop}
 use Rattle.paw_reading.specs.Turn.{first_table}
-use Rattle.paw_reading.specs.Places.{ArePlaces}
+use Rattle.paw_reading.specs.inner.Places.{ArePlaces}
 use Rattle.paw_phrase.specs.Pending.{PendingLine}
-use Rattle.paw_process.specs.OpenTables.{OpenTables, HasRead, IsWaiting, IsClosed}
-use Rattle.paw_process.specs.Kept.{kept, restored, waiting_at, rows_fault, table_of, is_that_table, loop_stands, loop_fault, first_fault, count_fits, fault_at, frames_fault}
-use Rattle.paw_process.specs.Kept.{StandsAt as MachineStandsAt}
+use Rattle.paw_process.specs.OpenTables.{OpenTables}
+use Rattle.paw_process.specs.inner.OpenTables.{HasRead, IsWaiting, IsClosed}
+use Rattle.paw_process.specs.Kept.{kept, rows_fault, table_of, is_that_table, loop_stands, loop_fault, first_fault, count_fits, fault_at, frames_fault}
+use Rattle.paw_process.specs.inner.Kept.{restored, waiting_at}
+use Rattle.paw_process.specs.inner.Kept.{StandsAt as MachineStandsAt}
 use Rattle.paw_process.specs.declared.kept.Frames.{Frames}
 use Rattle.paw_process.proofs.Restored.{first_of, second, no_first}
 use Rattle.paw_process.proofs.Again.{restored_again}
 use Rattle.paw_process.proofs.Fitting.{places_fit, kept_places}
 use Rattle.paw_turn.specs.declared.Step.{Step}
 use Rattle.paw_turn.specs.declared.Step.TheVariants as step
-use Rattle.paw_turn.specs.Player.{Seat, IsLoopOf, WaitsIn, Stands, StandRightly, IsSeated, IsNew}
-use Rattle.paw_turn.specs.Stages.{IsPlayable, HasReadSome, seat_of}
+use Rattle.paw_turn.specs.inner.Player.{Seat, IsLoopOf, WaitsIn, Stands, StandRightly, IsSeated, IsNew}
+use Rattle.paw_turn.specs.inner.Stages.{IsPlayable, HasReadSome, seat_of}
 use Rattle.paw_turn.specs.declared.turn.Turn.{Turn}
 use Rattle.paw_turn.proofs.Standing.{unreversed}
-use Rattle.paw_turn.specs.Parts.{step_at, prompt_at, IsStanding, Fits, seat_at, seated_again, RestoredFits}
+use Rattle.paw_turn.specs.inner.Parts.{step_at, prompt_at, IsStanding, Fits, seat_at, seated_again, RestoredFits}
 
 -- ---- a restored machine ----
 

@@ -5,19 +5,20 @@ use Rattle.paw_world.specs.World.{World}
 use Rattle.paw_phrase.specs.Pending.{PendingLine}
 use Rattle.paw_routines.specs.declared.routines.Routines.{Routines}
 use Rattle.paw_effects.specs.declared.act.Prompt.{Prompt}
-use Rattle.paw_effects.specs.Opening.{opening_world}
+use Rattle.paw_effects.specs.inner.Opening.{opening_world}
 use Rattle.paw_reading.specs.declared.places.OpenLoop.{OpenLoop}
 use Rattle.paw_reading.specs.Run.{Run, Step as Read, closed}
 use Rattle.paw_reading.specs.Turn.{Ending, Unended, AtDescribe, AtResponse, turns_from, stages_left, opening, reading, on}
 use Rattle.paw_reading.proofs.Ends.{ends_once, going_on_ends, goes_on_once}
-use Rattle.paw_process.specs.OpenTables.{OpenTables, HasRead}
+use Rattle.paw_process.specs.OpenTables.{OpenTables}
+use Rattle.paw_process.specs.inner.OpenTables.{HasRead}
 use Rattle.paw_turn.specs.declared.Step.{Step}
 use Rattle.paw_turn.specs.declared.Step.TheVariants as step
 use Rattle.paw_turn.specs.declared.stage.Stage.TheVariants as stage
 use Rattle.paw_turn.specs.declared.stage.Next.TheVariants as next
 use Rattle.paw_turn.specs.declared.turn.Turn.{Turn}
-use Rattle.paw_turn.specs.Player.{PlaysTo, IsNew, run_at}
-use Rattle.paw_turn.specs.Stages.{Past, run_of, having_read, StopsAs, PlaysAs, Plays, from_stage, from_prompt, seat_of, settled, opened_piece}
+use Rattle.paw_turn.specs.inner.Player.{PlaysTo, IsNew, run_at}
+use Rattle.paw_turn.specs.inner.Stages.{Past, run_of, having_read, StopsAs, PlaysAs, Plays, from_stage, from_prompt, seat_of, settled, opened_piece}
 
 -- an ending that comes once is the whole's
 abbrev Once : (ℕ → List (List ℕ) → Ending) → (List (List ℕ) → Ending) → Type 0

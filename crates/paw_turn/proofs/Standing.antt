@@ -16,15 +16,17 @@ use Rattle.paw_effects.specs.Standing.{AreBytes}
 use Rattle.paw_effects.specs.Story.{Story, story_of}
 use Rattle.paw_reading.specs.declared.places.Frame.{Frame}
 use Rattle.paw_reading.specs.Run.{Step as Read}
-use Rattle.paw_reading.specs.Turn.{Ending, MayWaitAlong, reading, on}
+use Rattle.paw_reading.specs.Turn.{Ending, reading, on}
+use Rattle.paw_reading.specs.inner.Turn.{MayWaitAlong}
 use Rattle.paw_reading.specs.Bounds.{IsLine, ValidStory}
-use Rattle.paw_reading.specs.Places.{StandsRightly, StopsRightly}
+use Rattle.paw_reading.specs.inner.Places.{StandsRightly, StopsRightly}
 use Rattle.paw_reading.proofs.Waiting.{waits_on}
 use Rattle.paw_reading.proofs.Rightly.{readings_stop_rightly, going_on_stops_rightly}
-use Rattle.paw_process.specs.OpenTables.{OpenTables, IsClosed}
+use Rattle.paw_process.specs.OpenTables.{OpenTables}
+use Rattle.paw_process.specs.inner.OpenTables.{IsClosed}
 use Rattle.paw_turn.specs.declared.Step.{Step}
 use Rattle.paw_turn.specs.declared.Step.TheVariants as step
-use Rattle.paw_turn.specs.Player.{Seat, PlaysTo, Stands, StandsAt, WaitsIn, StandRightly, IsSeated, IsStanding, prompt_at, run_at, run_with}
+use Rattle.paw_turn.specs.inner.Player.{Seat, PlaysTo, Stands, StandsAt, WaitsIn, StandRightly, IsSeated, IsStanding, prompt_at, run_at, run_with}
 
 -- rows that stand for routines make a story of a valid game
 pub valid_story : {F : Type 0} (calls : Shared F (ℕ × (ℕ × Unit {0})) ℕ) (routines : Routines F) (g : GameLists) (X : List (List ℕ)) → Valid g → AreRowsOf calls routines X → ValidStory (story_of g X)

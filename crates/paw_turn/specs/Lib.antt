@@ -1,3 +1,1 @@
-pub mod Player
-pub mod Stages
-pub mod Parts
+pub mod inner

@@ -4,7 +4,7 @@ ghost use Rattle.std.specs.Prelude.{◌≡◌};
 ghost use Rattle.paw_world.specs.World.{fallen, is_dark, is_unlit};
 ghost use Rattle.paw_reading.specs.Run.{with_timeout};
 ghost use Rattle.paw_reading.specs.Turn.{described, framed, counted};
-ghost use Rattle.paw_turn.specs.Stages.{ChangesFlags};
+ghost use Rattle.paw_turn.specs.inner.Stages.{ChangesFlags};
 
 use paw_base::flags::{
     DARK_FLAG, DARK_FRAME_FLAG, DARK_VIEW_FLAG, FIRST_FRAME_FLAG, HIGH_TURNS_FLAG, LOW_TURNS_FLAG,

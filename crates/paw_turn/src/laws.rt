@@ -1,6 +1,6 @@
 // The laws of a player's parts.
 
-ghost use Rattle.paw_turn.specs.Parts.{RestoredFits, SeatedAgain, GoesOnAlike};
+ghost use Rattle.paw_turn.specs.inner.Parts.{RestoredFits, SeatedAgain, GoesOnAlike};
 
 /// A world of the game, a machine that was restored for it, and what may be pending there are what a player is seated with.
 pub fn restored_fits()

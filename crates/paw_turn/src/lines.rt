@@ -1,7 +1,7 @@
 // The lines that a player takes.
 
 ghost use Rattle.std.specs.Prelude.{◌≡◌, ◌+◌, ◌<◌, ◌≤◌, ℕ, List, false, length, reverse};
-ghost use Rattle.paw_base.specs.Piece.{Puts};
+ghost use Rattle.paw_base.specs.inner.Piece.{Puts};
 ghost use Rattle.paw_game.specs.Valid.{Valid};
 ghost use Rattle.paw_routines.specs.Routines.{AreRowsOf, HaveRows};
 ghost use Rattle.paw_effects.specs.Built.{IsOf};
@@ -9,10 +9,10 @@ ghost use Rattle.paw_effects.specs.Story.{story_of};
 ghost use Rattle.paw_effects.specs.declared.act.Prompt.TheVariants as prompt;
 ghost use Rattle.paw_reading.specs.Run.{is_timeout, is_ignored, reply, begins_with};
 ghost use Rattle.paw_reading.specs.Turn.{first_table};
-ghost use Rattle.paw_process.specs.OpenTables.{IsClosed};
+ghost use Rattle.paw_process.specs.inner.OpenTables.{IsClosed};
 ghost use Rattle.paw_turn.specs.declared.stage.Next.TheVariants as next;
-ghost use Rattle.paw_turn.specs.Player.{WaitsIn, StandsAt};
-ghost use Rattle.paw_turn.specs.Stages.{PlaysAs, RunsAs, from_prompt, from_path, IsPlayable, HasReadSome, Keeps, StopsInTable, AwaitsAt};
+ghost use Rattle.paw_turn.specs.inner.Player.{WaitsIn, StandsAt};
+ghost use Rattle.paw_turn.specs.inner.Stages.{PlaysAs, RunsAs, from_prompt, from_path, IsPlayable, HasReadSome, Keeps, StopsInTable, AwaitsAt};
 
 use crate::stage::{Next, Stage};
 use crate::turn::Turn;

@@ -1,7 +1,7 @@
 // What is lent of a player, and where a player stands.
 
 ghost use Rattle.std.specs.Prelude.{◌≡◌};
-ghost use Rattle.paw_turn.specs.Parts.{step_at, prompt_at};
+ghost use Rattle.paw_turn.specs.inner.Parts.{step_at, prompt_at};
 
 use crate::Step;
 use paw_effects::act::Prompt;

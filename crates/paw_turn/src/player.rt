@@ -1,7 +1,7 @@
 // A player of a game.
 
 ghost use Rattle.std.specs.Prelude.{◌≡◌, ℕ, ◌+◌, ◌<◌, ◌≤◌, ◌^◌, List, [], ◌∷◌, None, length, reverse, IfOk};
-ghost use Rattle.paw_base.specs.Piece.{piece_limit};
+ghost use Rattle.paw_base.specs.inner.Piece.{piece_limit};
 ghost use Rattle.paw_routines.specs.Routines.{AreRowsOf, HaveRows};
 ghost use Rattle.paw_effects.specs.Story.{story_of};
 ghost use Rattle.paw_effects.specs.declared.act.Prompt.{Prompt as AtPrompt};
@@ -10,8 +10,8 @@ ghost use Rattle.paw_reading.specs.Run.{Step as Read};
 ghost use Rattle.paw_reading.specs.Turn.{reading, on};
 ghost use Rattle.paw_process.specs.Kept.{kept, frames_fault};
 ghost use Rattle.paw_turn.specs.declared.Step.TheVariants as step;
-ghost use Rattle.paw_turn.specs.Parts.{Fits, IsStanding, seat_at, step_at, prompt_at};
-ghost use Rattle.paw_turn.specs.Player.{IsNew, IsSeated, IsFinished, PlaysTo, run_at};
+ghost use Rattle.paw_turn.specs.inner.Parts.{Fits, IsStanding, seat_at, step_at, prompt_at};
+ghost use Rattle.paw_turn.specs.inner.Player.{IsNew, IsSeated, IsFinished, PlaysTo, run_at};
 
 use crate::Step;
 use crate::parts::{Parts, prompt_at, step_at};
@@ -43,7 +43,7 @@ pub struct Player<'a, T: Tables, F: Fn(u8, u8) -> u8> {
 }
 
 impl<'a, T: Tables, F: Fn(u8, u8) -> u8> Model for Player<'a, T, F> {
-    ghost use Rattle.paw_turn.specs.Player.{Seat};
+    ghost use Rattle.paw_turn.specs.inner.Player.{Seat};
 
     ghost Value = { Seat F };
 

@@ -1,21 +1,21 @@
 // A turn in work, and its stages.
 
 ghost use Rattle.std.specs.Prelude.{◌≡◌, suc, ◌+◌, ◌*◌, ◌<◌, ◌≤◌, ◌^◌, ◌++◌, ℕ, List, [], length, map, None};
-ghost use Rattle.paw_base.specs.Piece.{Puts, piece_limit};
-ghost use Rattle.paw_base.specs.Steps.{no_steps};
+ghost use Rattle.paw_base.specs.inner.Piece.{Puts, piece_limit};
+ghost use Rattle.paw_base.specs.inner.Steps.{no_steps};
 ghost use Rattle.paw_game.specs.Valid.{Valid};
 ghost use Rattle.paw_routines.specs.Routines.{AreRowsOf, HaveRows};
 ghost use Rattle.paw_effects.specs.Built.{IsOf};
 ghost use Rattle.paw_effects.specs.Story.{story_of};
-ghost use Rattle.paw_effects.specs.Opening.{opening_world};
+ghost use Rattle.paw_effects.specs.inner.Opening.{opening_world};
 ghost use Rattle.paw_effects.specs.Texts.{say_text};
 ghost use Rattle.paw_reading.specs.Run.{line_dropped};
 ghost use Rattle.paw_reading.specs.Reading.{table_read};
 ghost use Rattle.paw_reading.specs.Turn.{saying, view_text, prompt_text, refusal_text, AtDescribe, AtFrame, AtPhrase, AtResponse, prompts, connections, after_left, table_done, turn};
-ghost use Rattle.paw_process.specs.OpenTables.{ReadsNone, IsClosed};
+ghost use Rattle.paw_process.specs.inner.OpenTables.{ReadsNone, IsClosed};
 ghost use Rattle.paw_turn.specs.declared.stage.Stage.TheVariants as stage;
 ghost use Rattle.paw_turn.specs.declared.stage.Next.TheVariants as next;
-ghost use Rattle.paw_turn.specs.Stages.{at_stage, settled, opened_piece, Moves, Reads, Plays, MovesAfter, IsPlayable, HasReadSome, Keeps, StopsInTable, left_of, work, Falls, or_spent, table_rank, FallsAfter, RunsAs, from_table, Uses};
+ghost use Rattle.paw_turn.specs.inner.Stages.{at_stage, settled, opened_piece, Moves, Reads, Plays, MovesAfter, IsPlayable, HasReadSome, Keeps, StopsInTable, left_of, work, Falls, or_spent, table_rank, FallsAfter, RunsAs, from_table, Uses};
 
 use crate::stage::{Next, Stage};
 use crate::{Step, flags};

@@ -6,7 +6,7 @@ use Rattle.std.proofs.lemmas.List.{get_or-set_same, get_or-set_other}
 use Rattle.std.proofs.lemmas.Bool.{cases_eq, cases_lt}
 use Rattle.std.proofs.lemmas.Nat.{pow-add}
 use Rattle.std.proofs.Math.Nat.{div-div-eq-div-mul, div-le_self}
-use Rattle.paw_world.specs.ObjectSet.{member, Inserts, Removes, IsLeastFrom, found, IsLowestFrom, lowest, no_bit}
+use Rattle.paw_world.specs.inner.ObjectSet.{member, Inserts, Removes, IsLeastFrom, found, IsLowestFrom, lowest, no_bit}
 
 -- a word of a set is written: the members of other words stay
 member-set_other : (words : List ℕ) (i v k : ℕ) → k / 64 ≢ i → member (set words i v) k ≡ member words k

@@ -6,8 +6,9 @@ use Rattle.std.proofs.lemmas.List.{drop_all}
 use Rattle.std.proofs.lemmas.List.Sums.{sum_by-cons}
 use Rattle.std.proofs.lemmas.Bool.{cases_eq}
 use Rattle.std.proofs.lemmas.Bool.Decides.{nat_tests}
-use Rattle.paw_world.specs.Places.{least_at, left_above}
-use Rattle.paw_world.specs.World.{World, first_at}
+use Rattle.paw_world.specs.inner.Places.{least_at, left_above}
+use Rattle.paw_world.specs.World.{World}
+use Rattle.paw_world.specs.inner.World.{first_at}
 use Rattle.paw_world.specs.Weight.{at_from, objects_at, weight_down}
 use Rattle.paw_world.proofs.Least.{least_at_here, least_at_pass, least_at_end, least_at_is}
 

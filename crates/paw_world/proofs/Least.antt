@@ -3,9 +3,9 @@ use Rattle.std.proofs.Common.{◌≡◌, ◌≢◌, ℕ, zero, suc, ◌+◌, ◌
 use Rattle.std.specs.Prelude.{if◌then◌else◌, ◌==◌}
 use Rattle.std.proofs.lemmas.Bool.{cases_eq, cases_lt}
 use Rattle.std.proofs.lemmas.Bool.Decides.{nat_tests}
-use Rattle.paw_world.specs.ObjectSet.{IsLeastFrom, found, none}
-use Rattle.paw_world.specs.PlaceSets.{stands_in, AreSetsOf}
-use Rattle.paw_world.specs.Places.{least_at, left_above}
+use Rattle.paw_world.specs.inner.ObjectSet.{IsLeastFrom, found, none}
+use Rattle.paw_world.specs.inner.PlaceSets.{stands_in, AreSetsOf}
+use Rattle.paw_world.specs.inner.Places.{least_at, left_above}
 use Rattle.paw_world.proofs.Listed.{count_is, place_is}
 use Rattle.paw_world.proofs.Sets.{at_place_same, at_place_other}
 

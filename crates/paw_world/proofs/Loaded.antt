@@ -2,7 +2,8 @@
 use Rattle.std.proofs.Common.{◌≡◌, ℕ, suc, ◌+◌, ◌<◌, List, ◌++◌, length, take, drop, Option, Some, sym, ap, ◌∙◌, arith, add-one, length-append, length-drop}
 use Rattle.std.proofs.lemmas.List.{length-take-le}
 use Rattle.paw_base.specs.declared.parts.ObjectFacts.{ObjectFacts}
-use Rattle.paw_world.specs.World.{World, Position, ramloaded, taken_from, IsPosition, IsSavedFor, IsStored}
+use Rattle.paw_world.specs.World.{World, Position, ramloaded, taken_from, IsPosition, IsSavedFor}
+use Rattle.paw_world.specs.inner.World.{IsStored}
 
 saved_for : (objects : ℕ) (saved : Option Position) (q : Position) → saved ≡ Some q → IsSavedFor objects saved → IsPosition objects q
 saved_for objects saved q is alike = rw is at alike

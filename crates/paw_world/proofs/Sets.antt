@@ -6,8 +6,8 @@ use Rattle.std.proofs.lemmas.Bool.Decides.{nat_tests}
 use Rattle.std.proofs.lemmas.List.{get_or-set_same, get_or-set_other, length-set, get_or-replicate, get_or_past, get_or_default, length-replicate}
 use Rattle.std.specs.Int.{bit_at}
 use Rattle.std.proofs.lemmas.Nat.Bits.{bit_at-zero}
-use Rattle.paw_world.specs.ObjectSet.{member, Inserts, Removes}
-use Rattle.paw_world.specs.PlaceSets.{stands_in, AreSetsOf}
+use Rattle.paw_world.specs.inner.ObjectSet.{member, Inserts, Removes}
+use Rattle.paw_world.specs.inner.PlaceSets.{stands_in, AreSetsOf}
 
 -- 1 at the object's place, and 0 at every other
 abbrev pub at_place : ℕ → ℕ → ℕ

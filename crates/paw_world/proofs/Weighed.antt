@@ -4,7 +4,8 @@ use Rattle.std.specs.Prelude.{if◌then◌else◌, ◌==◌, ◌&&◌, not, sum_
 use Rattle.std.proofs.lemmas.Bool.Decides.{nat_tests}
 use Rattle.paw_base.specs.declared.parts.ObjectFacts.{ObjectFacts}
 use Rattle.paw_world.specs.World.{World}
-use Rattle.paw_world.specs.Weight.{weight_down, weight_with, own_weight, weighs_contents, objects_at}
+use Rattle.paw_world.specs.Weight.{weight_down, own_weight, weighs_contents, objects_at}
+use Rattle.paw_world.specs.inner.Weight.{weight_with}
 
 weight_down-zero : (w : World) (o : ℕ) → weight_down w 0 o ≡ own_weight (slice_get w.facts o)
 unfolding weight_down

@@ -5,7 +5,8 @@ use Rattle.std.proofs.lemmas.List.{length-set, length-map, length-take-le, get_o
 use Rattle.std.proofs.lemmas.Bool.{cases_eq}
 use Rattle.std.proofs.lemmas.Bool.Decides.{nat_tests}
 use Rattle.paw_base.specs.declared.parts.ObjectFacts.{ObjectFacts}
-use Rattle.paw_world.specs.World.{World, Position, flag, with_flag, place, with_place, flags_with, first_carried, opening_places, with_objects_returned, opened, restarted, let_go, taken_up, moved, ramsaved, ramloaded, taken_from, drawn_on, position_of, kept_position, with_kept, keeping, taken_back, recalled, IsPosition, IsSavedFor, AreSavedFor, IsWorld}
+use Rattle.paw_world.specs.World.{World, Position, flag, with_flag, place, with_place, flags_with, first_carried, opening_places, with_objects_returned, opened, restarted, let_go, taken_up, moved, ramsaved, ramloaded, taken_from, drawn_on, position_of, kept_position, with_kept, keeping, taken_back, IsPosition, IsSavedFor, AreSavedFor, IsWorld}
+use Rattle.paw_world.specs.inner.World.{recalled}
 use Rattle.paw_world.proofs.Kept.{kept_with, kept_alike, none_kept}
 
 -- ---- a flag that was given a value

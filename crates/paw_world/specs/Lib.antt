@@ -1,6 +1,4 @@
 pub mod Draws
-pub mod ObjectSet
-pub mod PlaceSets
-pub mod Places
 pub mod Weight
 pub mod World
+pub mod inner

@@ -35,10 +35,6 @@ weight_down w (suc n) o =
 abbrev pub weight : World → ℕ → ℕ
 weight w o = weight_down w 10 o
 
--- a weight together with that of all objects at a place, at most 255
-abbrev pub weight_with : World → ℕ → ℕ → ℕ → ℕ
-weight_with w n own p = min 255 (own + sum_by (weight_down w n) (objects_at w p))
-
 -- what is worn and carried weighs, at most 255
 abbrev pub carried_weight : World → ℕ
 carried_weight w =

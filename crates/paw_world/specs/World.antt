@@ -9,7 +9,6 @@ use Rattle.paw_base.specs.declared.places.TheConstants.{NOT_CREATED_PLACE, WORN_
 use Rattle.paw_base.specs.declared.words.TheConstants.{NO_WORD}
 use Rattle.paw_base.specs.declared.limits.TheConstants.{OBJECT_LIMIT, FLAG_COUNT, POSITION_COUNT}
 use Rattle.paw_base.specs.declared.parts.ObjectFacts.{ObjectFacts}
-use Rattle.paw_world.specs.Places.{least_at, left_above}
 
 -- flags and places, as they are saved or kept together
 pub record Position : Type 0 where
@@ -136,10 +135,6 @@ taken_up w p = if p == CARRIED_PLACE then with_flag w CARRIED_FLAG (min 255 (fla
 abbrev pub moved : World → ℕ → ℕ → World
 moved w o p = if place w o == p then w else with_place (taken_up (let_go w (place w o)) p) o p
 
--- the least object above this one that stands at a place, or the least of all there; nothing where there is none
-abbrev pub first_at : World → ℕ → Option ℕ → Option ℕ
-first_at w p above = least_at w.places p (left_above w.places above)
-
 -- the flags and places of a world
 abbrev pub position_of : World → Position
 position_of w = record { flags = w.flags; places = w.places }
@@ -161,24 +156,6 @@ taken_from w n (Some q) = at_position w n q
 abbrev pub ramloaded : World → ℕ → World
 ramloaded w n = taken_from w n w.saved
 
--- a flag of a position; 0 where there is none
-abbrev pub flag_in : Option Position → ℕ → ℕ
-flag_in None f = 0
-flag_in (Some q) f = slice_index q.flags f
-
--- the place of an object in a position; 0 where there is none
-abbrev pub place_in : Option Position → ℕ → ℕ
-place_in None o = 0
-place_in (Some q) o = slice_index q.places o
-
--- a flag of the saved position; 0 where nothing is saved
-abbrev pub saved_flag : World → ℕ → ℕ
-saved_flag w f = flag_in w.saved f
-
--- the place of an object in the saved position; 0 where nothing is saved
-abbrev pub saved_place : World → ℕ → ℕ
-saved_place w o = place_in w.saved o
-
 -- the kept position of a number below 4; nothing where none was kept
 abbrev pub kept_position : World → ℕ → Option Position
 kept_position w n = slice_index_or w.kept n None
@@ -195,18 +172,6 @@ keeping w n = with_kept w n (position_of w)
 abbrev pub taken_back : World → Option Position → World
 taken_back w None = w
 taken_back w (Some q) = record w { flags = q.flags; places = q.places }
-
--- all flags and places are taken from the kept position of this number; where none was kept nothing changes
-abbrev pub recalled : World → ℕ → World
-recalled w n = taken_back w (kept_position w n)
-
--- a flag of a kept position; 0 where none was kept
-abbrev pub kept_flag : World → ℕ → ℕ → ℕ
-kept_flag w n f = flag_in (kept_position w n) f
-
--- the place of an object in a kept position; 0 where none was kept
-abbrev pub kept_place : World → ℕ → ℕ → ℕ
-kept_place w n o = place_in (kept_position w n) o
 
 -- n words more were drawn
 abbrev pub drawn_on : World → ℕ → World
@@ -225,14 +190,6 @@ IsSavedFor objects saved = IfSome saved (IsPosition objects)
 pub record AreSavedFor (objects : ℕ) (kept : List (Option Position)) : Type 0 where
   pub four : length kept ≡ POSITION_COUNT
   pub each : All (IsSavedFor objects) kept
-
--- the parts of a world: its flags, not too many places, room for the facts of all objects, and positions of the same size
-pub record IsStored (facts : List ObjectFacts) (flags places : List ℕ) (saved : Option Position) (kept : List (Option Position)) : Type 0 where
-  pub objects : length places ≤ OBJECT_LIMIT
-  pub facts_room : length facts ≡ OBJECT_LIMIT
-  pub flags_all : length flags ≡ FLAG_COUNT
-  pub saved_alike : IsSavedFor (length places) saved
-  pub kept_alike : AreSavedFor (length places) kept
 
 -- what holds of every world: not too many objects, with facts and a place for each, and its flags; so in the saved
 -- position and in the kept ones

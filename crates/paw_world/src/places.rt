@@ -1,7 +1,7 @@
 // Where the objects stand.
 
 ghost use Rattle.std.specs.Prelude.{◌≡◌, ◌+◌, ◌<◌, ◌≤◌, [], ◌∷◌, ◌++◌, length, map, slice_index, slice_set};
-ghost use Rattle.paw_world.specs.Places.{least_at, left_above};
+ghost use Rattle.paw_world.specs.inner.Places.{least_at, left_above};
 
 use crate::set::ObjectSet;
 use paw_base::parts::ObjectFacts;
@@ -17,7 +17,7 @@ pub struct Places {
 
 impl Model for Places {
     ghost use Rattle.std.specs.Prelude.{List, ℕ, take};
-    ghost use Rattle.paw_world.specs.PlaceSets.{AreSetsOf};
+    ghost use Rattle.paw_world.specs.inner.PlaceSets.{AreSetsOf};
 
     ghost Value = { List ℕ };
 

@@ -1,7 +1,7 @@
 // Sets of objects.
 
 ghost use Rattle.std.specs.Prelude.{◌<◌, ◌≤◌};
-ghost use Rattle.paw_world.specs.ObjectSet.{Inserts, Removes, IsLeastFrom, IsLowestFrom};
+ghost use Rattle.paw_world.specs.inner.ObjectSet.{Inserts, Removes, IsLeastFrom, IsLowestFrom};
 
 use std::marker::Model;
 

@@ -2,8 +2,10 @@
 
 ghost use Rattle.std.specs.Prelude.{◌≡◌, ◌+◌, ◌-◌, ◌^◌, ◌<◌, ◌≤◌, length, take, slice_get, is_some, IsSome, IfSome, MatchOption};
 ghost use Rattle.paw_world.specs.Draws.{random_word};
-ghost use Rattle.paw_world.specs.World.{opened, flag, with_flag, place, moved, first_at, ramsaved, ramloaded, saved_flag, saved_place, kept_position, with_kept, keeping, recalled, kept_flag, kept_place, restarted, with_objects_returned, drawn_on, first_carried, opening_flags, IsWorld};
-ghost use Rattle.paw_world.specs.Weight.{weight, weight_down, weight_with, carried_weight};
+ghost use Rattle.paw_world.specs.World.{opened, flag, with_flag, place, moved, ramsaved, ramloaded, kept_position, with_kept, keeping, restarted, with_objects_returned, drawn_on, first_carried, opening_flags, IsWorld};
+ghost use Rattle.paw_world.specs.inner.World.{first_at, saved_flag, saved_place, recalled, kept_flag, kept_place};
+ghost use Rattle.paw_world.specs.Weight.{weight, weight_down, carried_weight};
+ghost use Rattle.paw_world.specs.inner.Weight.{weight_with};
 
 use crate::draws::Draws;
 use crate::places::Places;
@@ -34,7 +36,8 @@ pub struct World {
 
 impl Model for World {
     ghost use Rattle.std.specs.Prelude.{length, take};
-    ghost use Rattle.paw_world.specs.World.{World, IsStored};
+    ghost use Rattle.paw_world.specs.World.{World};
+    ghost use Rattle.paw_world.specs.inner.World.{IsStored};
 
     ghost Value = { World };
 

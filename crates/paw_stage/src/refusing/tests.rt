@@ -2,7 +2,7 @@
 
 ghost use Rattle.std.specs.Prelude.{IfOk};
 ghost use Rattle.paw_stage.specs.Disk.{IsStable};
-ghost use Rattle.paw_stage.specs.Memory.{standing_of};
+ghost use Rattle.paw_stage.specs.inner.Memory.{standing_of};
 
 use crate::{Asked, FailStage, MemoryStage, Stage, StopStage};
 use paw_base::fault::NoRoom;

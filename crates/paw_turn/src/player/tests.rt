@@ -2,7 +2,7 @@
 
 ghost use Rattle.std.specs.Prelude.{◌≡◌, true, IfOk};
 ghost use Rattle.paw_routines.specs.Routines.{HaveRows};
-ghost use Rattle.paw_turn.specs.Player.{IsSeated, IsStanding};
+ghost use Rattle.paw_turn.specs.inner.Player.{IsSeated, IsStanding};
 
 use super::Player;
 use crate::Step;

@@ -1,6 +1,6 @@
 use Rattle.std.proofs.Common.{◌≡◌, [], ◌∷◌, Some, IfSome, IfNone, sym, subst}
 use Rattle.paw_effects.specs.declared.lists.Listed.{Listed}
-use Rattle.paw_effects.specs.Listing.{listed_above}
+use Rattle.paw_effects.specs.inner.Listing.{listed_above}
 use Rattle.paw_effects.proofs.NextListed.{at_ends, at_goes_on, held_ends, held_goes_on}
 use Rattle.paw_effects.proofs.lists.next.Goals as goal
 

@@ -1,7 +1,7 @@
 use Rattle.std.proofs.Common.{◌≡◌, ◌++◌, None}
-use Rattle.paw_world.specs.Places.{left_above}
+use Rattle.paw_world.specs.inner.Places.{left_above}
 use Rattle.paw_effects.specs.Lists.{as_lines}
-use Rattle.paw_effects.specs.Listing.{texts_above}
+use Rattle.paw_effects.specs.inner.Listing.{texts_above}
 use Rattle.paw_effects.proofs.lists.print_lines.Given as goal
 
 -- what the piece holds, and the lines that are still to print, are the whole

@@ -1,7 +1,7 @@
 use Rattle.std.proofs.Common.{◌≡◌, ◌++◌, Some}
-use Rattle.paw_world.specs.Places.{left_above}
+use Rattle.paw_world.specs.inner.Places.{left_above}
 use Rattle.paw_effects.specs.Lists.{others_joined}
-use Rattle.paw_effects.specs.Listing.{texts_above}
+use Rattle.paw_effects.specs.inner.Listing.{texts_above}
 use Rattle.paw_effects.proofs.lists.print_others.Given as goal
 
 -- what the piece holds, and what is still to print of the sentence, are the whole

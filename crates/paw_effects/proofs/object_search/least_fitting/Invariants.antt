@@ -1,6 +1,6 @@
 use Rattle.std.proofs.Common.{◌≡◌}
 use Rattle.std.specs.Prelude.{find}
-use Rattle.paw_world.specs.Places.{left_above}
+use Rattle.paw_world.specs.inner.Places.{left_above}
 use Rattle.paw_world.proofs.Contents.{above_at}
 use Rattle.paw_effects.specs.ObjectSearch.{fits_sentence, least_fitting}
 use Rattle.paw_effects.proofs.object_search.least_fitting.Given as goal

@@ -1,7 +1,7 @@
 use Rattle.std.proofs.Common.{◌≤◌, ◌∙◌, List, ℕ, length, arith, sym, ap}
 use Rattle.paw_game.specs.Game.{GameLists}
 use Rattle.paw_game.specs.declared.parts.GamePart.TheVariants as part
-use Rattle.paw_game.specs.Fault.{fault_in}
+use Rattle.paw_game.specs.inner.Fault.{fault_in}
 use Rattle.paw_game.proofs.Faults.{few_locations}
 use Rattle.paw_game.proofs.check.check.Goals as goal
 

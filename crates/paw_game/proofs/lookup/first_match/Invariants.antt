@@ -1,5 +1,5 @@
 use Rattle.std.proofs.Common.{◌≡◌, drop}
-use Rattle.paw_game.specs.Tables.{first_match}
+use Rattle.paw_game.specs.inner.Tables.{first_match}
 use Rattle.paw_game.proofs.lookup.first_match.Given as goal
 
 abbrev pub invariant-loop-entry : goal.invariant-loop-entry

@@ -1,5 +1,5 @@
 use Rattle.std.proofs.Common.{take}
-use Rattle.paw_game.specs.Values.{Tells}
+use Rattle.paw_game.specs.inner.Values.{Tells}
 use Rattle.paw_game.proofs.values.values_of.Given as goal
 
 abbrev pub invariant-loop-word : goal.invariant-loop-word

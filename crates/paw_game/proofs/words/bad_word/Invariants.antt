@@ -1,5 +1,5 @@
 use Rattle.std.proofs.Common.{◌≡◌, [], drop}
-use Rattle.paw_game.specs.Fault.{bad_word}
+use Rattle.paw_game.specs.inner.Fault.{bad_word}
 use Rattle.paw_game.proofs.words.bad_word.Given as goal
 
 abbrev pub invariant-loop-row : goal.invariant-loop-row

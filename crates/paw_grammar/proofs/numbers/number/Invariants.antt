@@ -1,5 +1,6 @@
 use Rattle.std.proofs.Common.{◌≡◌, ◌≤◌, drop}
-use Rattle.paw_grammar.specs.Numbers.{number, number_from, capped}
+use Rattle.paw_grammar.specs.Numbers.{number, number_from}
+use Rattle.paw_grammar.specs.inner.Numbers.{capped}
 use Rattle.paw_grammar.proofs.numbers.number.Given as goal
 
 abbrev pub invariant-loop-byte : goal.invariant-loop-byte

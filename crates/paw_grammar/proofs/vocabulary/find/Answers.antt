@@ -1,6 +1,6 @@
 use Rattle.std.proofs.Common.{option_map, ap, ◌∙◌}
 use Rattle.paw_grammar.specs.declared.vocabulary.Meaning.{Meaning}
-use Rattle.paw_grammar.specs.WordMap.{word_from}
+use Rattle.paw_grammar.specs.inner.WordMap.{word_from}
 use Rattle.paw_grammar.proofs.Entries.{found}
 use Rattle.paw_grammar.proofs.vocabulary.find.Goals as goal
 

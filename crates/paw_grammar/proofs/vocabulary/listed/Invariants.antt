@@ -1,5 +1,5 @@
 use Rattle.std.proofs.Common.{◌≡◌, ◌++◌}
-use Rattle.paw_grammar.specs.WordMap.{words_in}
+use Rattle.paw_grammar.specs.inner.WordMap.{words_in}
 use Rattle.paw_grammar.proofs.vocabulary.listed.Given as goal
 
 abbrev pub invariant-loop-letters : goal.invariant-loop-letters

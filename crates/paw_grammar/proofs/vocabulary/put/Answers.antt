@@ -1,5 +1,5 @@
 use Rattle.std.proofs.Common.{Ok, sym, ap, ◌∙◌}
-use Rattle.paw_grammar.specs.WordMap.{words_in}
+use Rattle.paw_grammar.specs.inner.WordMap.{words_in}
 use Rattle.paw_grammar.proofs.Entries.{put_in}
 use Rattle.paw_grammar.proofs.vocabulary.put.Goals as goal
 

@@ -1,6 +1,6 @@
 use Rattle.std.proofs.Common.{◌≡◌, ◌-◌, ◌+◌, Some, refl, sym, ◌∙◌}
 use Rattle.std.proofs.lemmas.Bool.{eq-eqb, ne_eqb}
-use Rattle.paw_image.specs.Rows.{exit_in}
+use Rattle.paw_image.specs.inner.Rows.{exit_in}
 use Rattle.paw_image.proofs.ExitLoop.{exit_step}
 use Rattle.paw_image.proofs.at_place.exit_of.Goals as goal
 

@@ -1,5 +1,5 @@
 use Rattle.std.proofs.Common.{◌≡◌, ◌-◌}
-use Rattle.paw_image.specs.Rows.{exit_in}
+use Rattle.paw_image.specs.inner.Rows.{exit_in}
 use Rattle.paw_image.proofs.at_place.exit_of.Given as goal
 
 abbrev pub invariant-loop : goal.invariant-loop

@@ -1,7 +1,7 @@
 use Rattle.std.proofs.Common.{refl}
 use Rattle.std.proofs.lemmas.Result.{err_from_is_err_and}
-use Rattle.paw_image.specs.Reading.{condact_at}
-use Rattle.paw_image.specs.Rows.{past_condact}
+use Rattle.paw_image.specs.inner.Reading.{condact_at}
+use Rattle.paw_image.specs.inner.Rows.{past_condact}
 use Rattle.paw_image.proofs.EachLoop.{each_goes_on, each_ends, each_is_done}
 use Rattle.paw_image.proofs.Faults.{fault_first, fails_next, each_fault}
 use Rattle.paw_image.proofs.at_place.past_condacts.Goals as goal

@@ -1,6 +1,6 @@
 use Rattle.std.proofs.Common.{◌≡◌, ◌-◌}
 use Rattle.paw_image.specs.Damage.{each}
-use Rattle.paw_image.specs.Rows.{past_condact}
+use Rattle.paw_image.specs.inner.Rows.{past_condact}
 use Rattle.paw_image.proofs.at_place.past_condacts.Given as goal
 
 abbrev pub invariant-loop : goal.invariant-loop

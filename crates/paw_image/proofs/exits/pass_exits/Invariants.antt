@@ -1,6 +1,6 @@
 use Rattle.std.proofs.Common.{◌≡◌, ◌-◌, ℕ, List, []}
 use Rattle.paw_image.specs.Damage.{after_exits_of}
-use Rattle.paw_image.specs.Marks.{Marks}
+use Rattle.paw_image.specs.inner.Marks.{Marks}
 use Rattle.paw_image.proofs.exits.pass_exits.Given as goal
 
 abbrev pub invariant-loop : goal.invariant-loop

@@ -1,6 +1,6 @@
 use Rattle.std.proofs.Common.{◌≡◌, ◌-◌, ◌++◌, length}
 use Rattle.paw_image.specs.Damage.{each}
-use Rattle.paw_image.specs.Places.{begins}
+use Rattle.paw_image.specs.inner.Places.{begins}
 use Rattle.paw_image.proofs.in_place.pass_rows.Given as goal
 
 abbrev pub invariant-loop : goal.invariant-loop

@@ -1,7 +1,7 @@
 use Rattle.std.proofs.Common.{rules, ltb, sym}
 use Rattle.std.proofs.lemmas.Bool.{ltb-false}
 use Rattle.std.proofs.lemmas.List.Sorted.{IsPartitionedBy-ltb, IsPartitionPoint-from_clause}
-use Rattle.paw_image.specs.Orders.{rank}
+use Rattle.paw_image.specs.inner.Orders.{rank}
 use Rattle.paw_image.proofs.OrderLaws.{first_is, other_is, none_past}
 use Rattle.paw_image.proofs.order.first_with.Goals as goal
 

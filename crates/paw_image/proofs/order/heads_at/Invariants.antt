@@ -1,5 +1,5 @@
 use Rattle.std.proofs.Common.{◌≡◌, ◌++◌, drop}
-use Rattle.paw_image.specs.Orders.{heads_at}
+use Rattle.paw_image.specs.inner.Orders.{heads_at}
 use Rattle.paw_image.proofs.order.heads_at.Given as goal
 
 abbrev pub invariant-loop-entry : goal.invariant-loop-entry

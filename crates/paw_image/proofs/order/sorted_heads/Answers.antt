@@ -2,7 +2,7 @@ use Rattle.std.proofs.Common.{rules, length, List, ap, subst, arith}
 use Rattle.std.specs.List.Sorted.{IsPermutation}
 use Rattle.std.proofs.lemmas.List.Sorted.{IsNonDecreasingBy-from_sort_by_key}
 use Rattle.paw_image.specs.declared.order.Head.{Head}
-use Rattle.paw_image.specs.Orders.{rank}
+use Rattle.paw_image.specs.inner.Orders.{rank}
 use Rattle.paw_image.proofs.OrderLaws.{heads_long, sorted_rise}
 use Rattle.paw_image.proofs.order.sorted_heads.Goals as goal
 

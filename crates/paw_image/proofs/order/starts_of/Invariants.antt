@@ -1,5 +1,5 @@
 use Rattle.std.proofs.Common.{◌≡◌, ℕ, ◌<◌, get_or, length}
-use Rattle.paw_image.specs.Orders.{IsStart}
+use Rattle.paw_image.specs.inner.Orders.{IsStart}
 use Rattle.paw_image.proofs.order.starts_of.Given as goal
 
 abbrev pub invariant-loop-verb : goal.invariant-loop-verb

@@ -1,7 +1,7 @@
 use Rattle.std.proofs.Common.{length}
 use Rattle.std.proofs.lemmas.Result.{err_from_is_err_and}
 use Rattle.paw_image.specs.Damage.{after_table}
-use Rattle.paw_image.specs.Orders.{IsOrder}
+use Rattle.paw_image.specs.inner.Orders.{IsOrder}
 use Rattle.paw_image.specs.declared.places.TableIndex.{TableIndex}
 use Rattle.paw_image.proofs.EachLoop.{each_goes_on, each_ends, each_is_done, tables_go_on, tables_are_done, all_more}
 use Rattle.paw_image.proofs.places.pass_tables.Goals as goal

@@ -1,8 +1,8 @@
 use Rattle.std.proofs.Common.{◌≡◌, ◌-◌, ◌++◌, length}
 use Rattle.std.specs.List.{AllByRecursion}
 use Rattle.paw_image.specs.Damage.{each, after_table}
-use Rattle.paw_image.specs.Orders.{IsOrder}
-use Rattle.paw_image.specs.Places.{entries_of, tables_begin}
+use Rattle.paw_image.specs.inner.Orders.{IsOrder}
+use Rattle.paw_image.specs.inner.Places.{entries_of, tables_begin}
 use Rattle.paw_image.proofs.places.pass_tables.Given as goal
 
 abbrev pub invariant-loop : goal.invariant-loop

@@ -1,5 +1,5 @@
 use Rattle.std.proofs.lemmas.Result.{err_from_is_err_and}
-use Rattle.paw_image.specs.Reading.{rows_at}
+use Rattle.paw_image.specs.inner.Reading.{rows_at}
 use Rattle.paw_image.proofs.ListLoop.{goes_on, ends, is_done}
 use Rattle.paw_image.proofs.rows.read_rows.Goals as goal
 

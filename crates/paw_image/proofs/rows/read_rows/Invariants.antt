@@ -1,5 +1,5 @@
 use Rattle.std.proofs.Common.{◌≡◌, ◌-◌}
-use Rattle.paw_image.specs.Reading.{rows_at}
+use Rattle.paw_image.specs.inner.Reading.{rows_at}
 use Rattle.paw_image.proofs.ListLoop.{with_front}
 use Rattle.paw_image.proofs.rows.read_rows.Given as goal
 

@@ -1,8 +1,8 @@
 use Rattle.std.proofs.Common.{◌≡◌, List, ℕ, Ok, subst, ap, ◌∙◌}
 use Rattle.std.proofs.lemmas.Result.{err_from_is_err_and}
-use Rattle.paw_image.specs.Reading.{Fails}
+use Rattle.paw_image.specs.inner.Reading.{Fails}
 use Rattle.paw_image.specs.Damage.{word_kept}
-use Rattle.paw_image.specs.Words.{last_letters}
+use Rattle.paw_image.specs.inner.Words.{last_letters}
 use Rattle.paw_image.proofs.EachLoop.{words_go_on, words_end, words_are_done, last_is}
 use Rattle.paw_image.proofs.words.read_words.Goals as goal
 

@@ -1,6 +1,6 @@
 use Rattle.std.proofs.Common.{◌≡◌, ◌-◌, []}
 use Rattle.paw_image.specs.Damage.{words_kept}
-use Rattle.paw_image.specs.Words.{last_letters}
+use Rattle.paw_image.specs.inner.Words.{last_letters}
 use Rattle.paw_image.proofs.ListLoop.{with_front}
 use Rattle.paw_image.proofs.words.read_words.Given as goal
 

@@ -21,7 +21,7 @@ loop-at-preserved c =
       }
       | else-old-at w ↦ record {
         turns = subst (λ r. TurnsTo c.args.old.now c.args.new.now (at + 1) r.items) (sym w.records-is)
-        (at_next _ _ _ at (turns_same _ _ _ at h told_old low w.if-old-at.false));
+            (at_next _ _ _ at (turns_same _ _ _ at h told_old low w.if-old-at.false));
         capacity = omega (arith, ap vec_capacity w.records-is, c.loop-at.invariant.capacity);
       }
     ]

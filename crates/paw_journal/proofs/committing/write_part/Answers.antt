@@ -1,7 +1,7 @@
 use Rattle.std.proofs.Common.{◌≡◌, ◌+◌, ◌*◌, ◌∙◌, length, sym, eqb-true, arith}
 use Rattle.std.proofs.lemmas.Result.{on_ok_weaker}
 use Rattle.paw_stage.proofs.Time.{Passes_map}
-use Rattle.paw_journal.specs.Room.{slot_number}
+use Rattle.paw_journal.specs.inner.Room.{slot_number}
 use Rattle.paw_journal.specs.Session.{header_length, slot_length}
 use Rattle.paw_journal.proofs.Chooses.{slot_small}
 use Rattle.paw_journal.proofs.Fills.{filling_wrote, in_filling_write, wrote_slot, wrote_nothing}

@@ -3,8 +3,8 @@ use Rattle.std.proofs.lemmas.Result.{on_ok_weaker}
 use Rattle.paw_stage.specs.Disk.{put}
 use Rattle.paw_stage.proofs.Time.{Passes_on}
 use Rattle.paw_journal.specs.Session.{slot}
-use Rattle.paw_journal.specs.Steps.{IsFilling, slot_head}
-use Rattle.paw_journal.specs.Room.{slot_number}
+use Rattle.paw_journal.specs.inner.Steps.{IsFilling, slot_head}
+use Rattle.paw_journal.specs.inner.Room.{slot_number}
 use Rattle.paw_journal.proofs.Moved.{beside_on}
 use Rattle.paw_journal.proofs.Chooses.{slot_small}
 use Rattle.paw_journal.proofs.Fills.{filling_none, filling_sync, in_filling_sync}

@@ -1,7 +1,7 @@
 use Rattle.std.proofs.Common.{arith, length, ap, subst}
 use Rattle.std.proofs.lemmas.Result.{on_ok_weaker}
 use Rattle.paw_stage.proofs.Time.{Passes_map}
-use Rattle.paw_journal.specs.Steps.{IsBlank}
+use Rattle.paw_journal.specs.inner.Steps.{IsBlank}
 use Rattle.paw_journal.proofs.Moved.{beside_none}
 use Rattle.paw_journal.proofs.Makes.{in_blank_write, blank_now, blank_wrote, header_written}
 use Rattle.paw_journal.proofs.making.write_header.Goals as goal

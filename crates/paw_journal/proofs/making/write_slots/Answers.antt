@@ -1,6 +1,6 @@
 use Rattle.std.proofs.Common.{◌≡◌, ◌+◌, ◌∙◌, sym, length, arith}
 use Rattle.paw_stage.proofs.Time.{Passes_map, Passes_on}
-use Rattle.paw_journal.specs.Steps.{IsBlank}
+use Rattle.paw_journal.specs.inner.Steps.{IsBlank}
 use Rattle.paw_journal.proofs.Moved.{beside_none, beside_on, beside_wrote, beside_part}
 use Rattle.paw_journal.proofs.Makes.{in_blank_write, in_blank_sync, blank_end, end_length}
 use Rattle.paw_journal.proofs.making.write_slots.Goals as goal

@@ -1,4 +1,4 @@
-use Rattle.paw_journal.specs.Journal.{Keeps}
+use Rattle.paw_journal.specs.inner.Journal.{Keeps}
 use Rattle.paw_journal.proofs.tests.goes_on.Given as goal
 
 abbrev pub invariant-loop-turn : goal.invariant-loop-turn

@@ -3,8 +3,8 @@ use Rattle.std.specs.Prelude.{OnOk, ℕ}
 use Rattle.paw_stage.specs.Stage.{Standing}
 use Rattle.paw_stage.specs.Moments.{Passes}
 use Rattle.paw_journal.specs.Session.{Recovered, Shown, recover, kept_digest}
-use Rattle.paw_journal.specs.Store.{InStore, Leaves, IsEither}
-use Rattle.paw_play.specs.OnTheWay.{seat_state}
+use Rattle.paw_journal.specs.inner.Store.{InStore, Leaves, IsEither}
+use Rattle.paw_play.specs.inner.OnTheWay.{seat_state}
 use Rattle.paw_play.proofs.line.commit.Goals as goal
 
 -- what a player's session shows

@@ -4,7 +4,7 @@ use Rattle.paw_stage.proofs.Time.{Passes_map, Passes_on}
 use Rattle.paw_play.specs.Play.{InPlay}
 use Rattle.paw_play.proofs.Playing.{in_ask, no_line, no_ask, plays_refused, plays_not, plays_next, plays_last, in_commit, in_show, rests_more, shows_piece}
 use Rattle.paw_stage.proofs.Counted.{Faulted_on}
-use Rattle.paw_play.specs.Calls.{failed_call}
+use Rattle.paw_play.specs.inner.Calls.{failed_call}
 use Rattle.paw_effects.specs.Story.{story_of}
 use Rattle.paw_play.proofs.Following.{keeps_asked, keeps_shown, outside_walk}
 use Rattle.paw_play.proofs.line.play_line.Goals as goal
@@ -22,14 +22,18 @@ returns-in-Err-clause-tells g c = (
 )
 
 pub returns-in-Some-told-clause-tells : goal.returns-in-Some-told-clause-tells
-returns-in-Some-told-clause-tells g c =
-    (λ t. c.told.ensures.tells.0 (c.commit.ensures.tells.0 (c.ask.ensures.tells.0 t)), λ t. c.ask.ensures.tells.1
-    (c.commit.ensures.tells.1 (c.told.ensures.tells.1 t)))
+returns-in-Some-told-clause-tells g c = (
+  λ t. c.told.ensures.tells.0 (c.commit.ensures.tells.0 (c.ask.ensures.tells.0 t)),
+  λ t. c.ask.ensures.tells.1
+      (c.commit.ensures.tells.1 (c.told.ensures.tells.1 t)),
+)
 
 pub returns-in-None-clause-tells : goal.returns-in-None-clause-tells
-returns-in-None-clause-tells g c =
-    (λ t. c.told.ensures.tells.0 (c.commit.ensures.tells.0 (c.ask.ensures.tells.0 t)), λ t. c.ask.ensures.tells.1
-    (c.commit.ensures.tells.1 (c.told.ensures.tells.1 t)))
+returns-in-None-clause-tells g c = (
+  λ t. c.told.ensures.tells.0 (c.commit.ensures.tells.0 (c.ask.ensures.tells.0 t)),
+  λ t. c.ask.ensures.tells.1
+      (c.commit.ensures.tells.1 (c.told.ensures.tells.1 t)),
+)
 
 pub returns-in-Some-told-clause-outside : goal.returns-in-Some-told-clause-outside
 returns-in-Some-told-clause-outside g c = outside_walk c.in-Some-told.end c.in-Some-told.ensures.outside

@@ -1,13 +1,13 @@
 use Rattle.std.proofs.Common.{None, ◌≡◌, ◌⊎◌, refl, sym, ap, ◌∙◌, subst, inl, inr, arith}
 use Rattle.paw_stage.proofs.Time.{Passes_map, Passes_on}
 use Rattle.paw_journal.specs.Session.{Shown, IsUnmade}
-use Rattle.paw_journal.specs.Store.{InStore, Leaves}
+use Rattle.paw_journal.specs.inner.Store.{InStore, Leaves}
 use Rattle.paw_play.specs.Play.{InPlay}
-use Rattle.paw_play.specs.OnTheWay.{seat_state, InMaking, new_session}
+use Rattle.paw_play.specs.inner.OnTheWay.{seat_state, InMaking, new_session}
 use Rattle.paw_play.proofs.Playing.{shows_piece}
 use Rattle.paw_play.proofs.Beginning.{begin_refused, in_making, rests_first, in_first_show, begins_next, begins_last}
 use Rattle.paw_stage.proofs.Counted.{Faulted_on}
-use Rattle.paw_play.specs.Calls.{failed_call}
+use Rattle.paw_play.specs.inner.Calls.{failed_call}
 use Rattle.paw_effects.specs.Story.{story_of}
 use Rattle.paw_play.proofs.Following.{keeps_shown, outside_walk}
 use Rattle.paw_play.proofs.play.begin.Goals as goal

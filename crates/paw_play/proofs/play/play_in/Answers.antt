@@ -4,10 +4,10 @@ use Rattle.paw_stage.specs.Moments.{Passes}
 use Rattle.paw_stage.proofs.Time.{Passes_on}
 use Rattle.paw_world.specs.World.{World}
 use Rattle.paw_play.specs.Play.{Played, InPlay, memory, plays}
-use Rattle.paw_play.specs.OnTheWay.{InMaking, IsPlaying, PlaysInStore, new_session}
+use Rattle.paw_play.specs.inner.OnTheWay.{InMaking, IsPlaying, PlaysInStore, new_session}
 use Rattle.paw_play.proofs.Begun.{begun_plays}
 use Rattle.paw_stage.proofs.Counted.{Faulted_on}
-use Rattle.paw_play.specs.Calls.{failed_call}
+use Rattle.paw_play.specs.inner.Calls.{failed_call}
 use Rattle.paw_effects.specs.Story.{story_of}
 use Rattle.paw_play.proofs.play.play_in.Goals as goal
 
@@ -21,8 +21,11 @@ pub play_lines-requires-clause-kept : goal.play_lines-requires-clause-kept
 play_lines-requires-clause-kept g c = λ tells. c.in-Ok-begin.ensures.kept (c.begin.ensures.tells.1 tells)
 
 pub returns-in-Ok-begin-clause-tells : goal.returns-in-Ok-begin-clause-tells
-returns-in-Ok-begin-clause-tells g c = (λ t. c.play_lines.ensures.tells.0 (c.begin.ensures.tells.0 t), λ t.
-    c.begin.ensures.tells.1 (c.play_lines.ensures.tells.1 t))
+returns-in-Ok-begin-clause-tells g c = (
+  λ t. c.play_lines.ensures.tells.0 (c.begin.ensures.tells.0 t),
+  λ t.
+      c.begin.ensures.tells.1 (c.play_lines.ensures.tells.1 t),
+)
 
 pub returns-in_default-clause-plays : goal.returns-in_default-clause-plays
 returns-in_default-clause-plays g c = λ tells X rows name store. memory refl

@@ -1,11 +1,11 @@
 use Rattle.std.proofs.Common.{◌≡◌, ◌+◌, ◌-◌, ◌<◌, ◌∙◌, suc, arith, subst, sym, refl, None}
 use Rattle.paw_stage.proofs.Time.{Passes_on, Passes_none}
 use Rattle.paw_play.specs.Play.{InPlay}
-use Rattle.paw_play.specs.OnTheWay.{IsPlaying}
+use Rattle.paw_play.specs.inner.OnTheWay.{IsPlaying}
 use Rattle.paw_play.specs.declared.TheConstants.{MOST_EVENTS}
 use Rattle.paw_play.proofs.Playing.{long_play}
 use Rattle.paw_stage.proofs.Counted.{Faulted_on, Faulted_same}
-use Rattle.paw_play.specs.Calls.{failed_call}
+use Rattle.paw_play.specs.inner.Calls.{failed_call}
 use Rattle.paw_effects.specs.Story.{story_of}
 use Rattle.paw_play.proofs.play.play_lines.Goals as goal
 

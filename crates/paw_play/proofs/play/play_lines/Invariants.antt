@@ -3,10 +3,10 @@ use Rattle.paw_routines.specs.Routines.{AreRowsOf, HaveRows}
 use Rattle.paw_effects.specs.Story.{story_of}
 use Rattle.paw_stage.specs.Stage.{Standing, Faulted}
 use Rattle.paw_stage.specs.Moments.{Passes}
-use Rattle.paw_turn.specs.Player.{IsSeated}
-use Rattle.paw_journal.specs.Journal.{Keeps}
+use Rattle.paw_turn.specs.inner.Player.{IsSeated}
+use Rattle.paw_journal.specs.inner.Journal.{Keeps}
 use Rattle.paw_play.specs.Play.{Played, InPlay}
-use Rattle.paw_play.specs.OnTheWay.{IsPlaying}
+use Rattle.paw_play.specs.inner.OnTheWay.{IsPlaying}
 use Rattle.paw_play.specs.declared.TheConstants.{MOST_EVENTS}
 use Rattle.paw_play.proofs.play.play_lines.Given as goal
 

@@ -2,11 +2,11 @@ use Rattle.std.proofs.Common.{◌<◌, ◌⊎◌, sym, subst, arith}
 use Rattle.paw_stage.proofs.Time.{Passes_map, Passes_on}
 use Rattle.paw_stage.specs.Stage.{Standing}
 use Rattle.paw_play.specs.Play.{Played, InGame, InPlay, unattached, occupied, plays_in}
-use Rattle.paw_play.specs.OnTheWay.{InMaking, PlaysInStore, IsStore, new_session}
+use Rattle.paw_play.specs.inner.OnTheWay.{InMaking, PlaysInStore, IsStore, new_session}
 use Rattle.paw_play.proofs.Attaching.{store_attached, store_empty, in_new_attach}
 use Rattle.paw_play.proofs.Games.{game_plays, in_game}
 use Rattle.paw_stage.proofs.Counted.{Faulted_on}
-use Rattle.paw_play.specs.Calls.{failed_call}
+use Rattle.paw_play.specs.inner.Calls.{failed_call}
 use Rattle.paw_effects.specs.Story.{story_of}
 use Rattle.paw_play.proofs.play.play_loop.Goals as goal
 

@@ -2,11 +2,11 @@ use Rattle.std.proofs.Common.{None, ◌≡◌, sym, ◌∙◌, subst}
 use Rattle.paw_stage.specs.Stage.{Standing}
 use Rattle.paw_stage.proofs.Time.{Passes_map, Passes_on}
 use Rattle.paw_journal.specs.Session.{recover}
-use Rattle.paw_journal.specs.Journal.{IsRefused}
+use Rattle.paw_journal.specs.inner.Journal.{IsRefused}
 use Rattle.paw_effects.specs.Story.{story_of}
-use Rattle.paw_play.specs.Calls.{failed_call}
+use Rattle.paw_play.specs.inner.Calls.{failed_call}
 use Rattle.paw_play.specs.Play.{InAgain, InPlay, PlaysUp, ShowsState, unattached, wanting, plays_up, attached_to, kept_session}
-use Rattle.paw_play.specs.OnTheWay.{IsStore}
+use Rattle.paw_play.specs.inner.OnTheWay.{IsStore}
 use Rattle.paw_play.proofs.Attaching.{store_attached}
 use Rattle.paw_play.proofs.Again.{in_again_attach, in_finding, in_taking_up, refused_again, outside_again, refused_faults}
 use Rattle.paw_stage.proofs.Counted.{Faulted_on}

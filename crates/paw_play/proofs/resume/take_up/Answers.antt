@@ -8,14 +8,15 @@ use Rattle.paw_journal.specs.Session.{Shown, recover, kept_digest, state_length}
 use Rattle.std.specs.Prelude.{Result, Ok, Err, IsOk}
 use Rattle.paw_state.specs.declared.StateFault.{StateFault}
 use Rattle.paw_state.specs.declared.Restored.{Restored}
-use Rattle.paw_state.specs.Fit.{Fit, state_read, unfit}
+use Rattle.paw_state.specs.Fit.{Fit, unfit}
+use Rattle.paw_state.specs.inner.Fit.{state_read}
 use Rattle.paw_play.specs.declared.TheConstants.{MOST_EVENTS}
 use Rattle.paw_play.specs.Play.{InPlay, ShowsState, kept_session, memory, no_state, plays_on}
-use Rattle.paw_play.specs.OnTheWay.{ShowsAgain, IsPlaying}
+use Rattle.paw_play.specs.inner.OnTheWay.{ShowsAgain, IsPlaying}
 use Rattle.paw_play.proofs.Showing.{shows_kept, buffer_long, one_state, read_fits}
 use Rattle.paw_play.proofs.Resuming.{in_again_show, again_next, again_last, seat_game, seat_routines}
 use Rattle.paw_stage.proofs.Counted.{Faulted_on}
-use Rattle.paw_play.specs.Calls.{failed_call}
+use Rattle.paw_play.specs.inner.Calls.{failed_call}
 use Rattle.paw_play.proofs.Following.{keeps_shown}
 use Rattle.paw_play.proofs.resume.take_up.Goals as goal
 
@@ -32,8 +33,11 @@ play_lines-requires-clause-kept g c = λ tells.
     (c.requires.kept before) (c.in_default-show_again.ensures.meaning before).1
 
 pub returns-clause-tells : goal.returns-clause-tells
-returns-clause-tells g c = (λ t. c.play_lines.ensures.tells.0 (c.show_again.ensures.tells.0 t), λ t.
-    c.show_again.ensures.tells.1 (c.play_lines.ensures.tells.1 t))
+returns-clause-tells g c = (
+  λ t. c.play_lines.ensures.tells.0 (c.show_again.ensures.tells.0 t),
+  λ t.
+      c.show_again.ensures.tells.1 (c.play_lines.ensures.tells.1 t),
+)
 
 not_ok : (r : Result Restored StateFault) (e : StateFault) → r ≡ Err e → IsOk r → ⊥
 not_ok (Ok x) e is h = cc

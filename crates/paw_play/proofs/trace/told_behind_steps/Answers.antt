@@ -1,7 +1,7 @@
 use Rattle.std.proofs.Common.{◌≡◌, List, ℕ, refl, ap, ◌∙◌, subst}
 use Rattle.paw_stage.specs.Stage.{Standing}
 use Rattle.std.specs.Prelude.{◌++◌, ◌<◌, length, take}
-use Rattle.paw_play.specs.OnTheWay.{kept_text}
+use Rattle.paw_play.specs.inner.OnTheWay.{kept_text}
 use Rattle.paw_play.proofs.Tracing.{told_after, told_part}
 use Rattle.paw_play.proofs.trace.told_behind_steps.Goals as goal
 

@@ -1,7 +1,7 @@
 use Rattle.paw_play.proofs.Tracing.{traces_on, none_left, none_asked}
 use Rattle.paw_stage.proofs.Counted.{Faulted_on}
 use Rattle.paw_effects.specs.Story.{story_of}
-use Rattle.paw_play.specs.Calls.{failed_so_far}
+use Rattle.paw_play.specs.inner.Calls.{failed_so_far}
 use Rattle.paw_play.proofs.trace.trace_line.Goals as goal
 
 pub returns-in-Line-clause-meaning : goal.returns-in-Line-clause-meaning

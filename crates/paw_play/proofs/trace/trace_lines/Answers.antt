@@ -2,9 +2,9 @@ use Rattle.std.proofs.Common.{◌≡◌, ◌+◌, ◌<◌, ◌∙◌, suc, arith
 use Rattle.paw_play.specs.declared.TheConstants.{MOST_EVENTS}
 use Rattle.paw_play.proofs.Tracing.{long_trace}
 use Rattle.paw_stage.proofs.Counted.{Faulted_on}
-use Rattle.paw_play.specs.Calls.{failed_call}
+use Rattle.paw_play.specs.inner.Calls.{failed_call}
 use Rattle.paw_effects.specs.Story.{story_of}
-use Rattle.paw_play.specs.OnTheWay.{IsTracing}
+use Rattle.paw_play.specs.inner.OnTheWay.{IsTracing}
 use Rattle.paw_play.proofs.trace.trace_lines.Goals as goal
 
 pub returns-in-Some-clause-meaning : goal.returns-in-Some-clause-meaning
@@ -17,22 +17,22 @@ pub loop-preserved : goal.loop-preserved
 loop-preserved g c =
     let after_trace_line = g.S.Stage.standing c.trace_line.new.stage in
     record {
-  seated = c.trace_line.ensures.seated;
-  game = c.trace_line.ensures.game ∙ c.loop.invariant.game;
-  routines = c.trace_line.ensures.routines ∙ c.loop.invariant.routines;
-  rows = rw c.trace_line.ensures.routines c.loop.invariant.rows;
-  draws = omega (arith, c.trace_line.ensures.draws, c.loop.invariant.draws);
-  tells = (λ t. c.trace_line.ensures.tells.0 (c.loop.invariant.tells.0 t), λ t. c.loop.invariant.tells.1 (c.trace_line.ensures.tells.1 t));
-  faulted = Faulted_on None _ _ _ c.loop.invariant.faulted c.in_default.ensures.faulted;
-  tracing = λ tells X rows whole first start.
-      let w = c.loop.invariant.tracing tells X rows whole first start in
-      let few : c.loop.counter < MOST_EVENTS = omega (arith, c.loop-test.true) in
-      let on = c.in_default.ensures.meaning (c.loop.invariant.tells.0 tells) X (rw c.loop.invariant.routines rows) whole
-      MOST_EVENTS c.loop.counter first w few in
-      let n : suc c.loop.counter ≡ c.loop.counter + 1 = omega arith in
-      subst (λ k. IsTracing (story_of k X) whole first after_trace_line c.trace_line.new.player (c.loop.counter + 1)) (sym c.trace_line.ensures.game)
-      (subst (λ k. IsTracing (story_of c.loop.player.game X) whole first after_trace_line c.trace_line.new.player k) n on);
-}
+      seated = c.trace_line.ensures.seated;
+      game = c.trace_line.ensures.game ∙ c.loop.invariant.game;
+      routines = c.trace_line.ensures.routines ∙ c.loop.invariant.routines;
+      rows = rw c.trace_line.ensures.routines c.loop.invariant.rows;
+      draws = omega (arith, c.trace_line.ensures.draws, c.loop.invariant.draws);
+      tells = (λ t. c.trace_line.ensures.tells.0 (c.loop.invariant.tells.0 t), λ t. c.loop.invariant.tells.1 (c.trace_line.ensures.tells.1 t));
+      faulted = Faulted_on None _ _ _ c.loop.invariant.faulted c.in_default.ensures.faulted;
+      tracing = λ tells X rows whole first start.
+          let w = c.loop.invariant.tracing tells X rows whole first start in
+          let few : c.loop.counter < MOST_EVENTS = omega (arith, c.loop-test.true) in
+          let on = c.in_default.ensures.meaning (c.loop.invariant.tells.0 tells) X (rw c.loop.invariant.routines rows) whole
+          MOST_EVENTS c.loop.counter first w few in
+          let n : suc c.loop.counter ≡ c.loop.counter + 1 = omega arith in
+          subst (λ k. IsTracing (story_of k X) whole first after_trace_line c.trace_line.new.player (c.loop.counter + 1)) (sym c.trace_line.ensures.game)
+          (subst (λ k. IsTracing (story_of c.loop.player.game X) whole first after_trace_line c.trace_line.new.player k) n on);
+    }
 
 pub returns-clause-meaning : goal.returns-clause-meaning
 returns-clause-meaning g c = λ tells X rows whole first start.

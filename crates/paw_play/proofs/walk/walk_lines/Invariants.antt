@@ -1,8 +1,8 @@
 use Rattle.std.proofs.Common.{◌≡◌, ◌+◌, ◌*◌, ◌≤◌, ◌↔◌, ℕ, List, None}
 use Rattle.paw_stage.specs.Stage.{Standing, Faulted}
-use Rattle.paw_turn.specs.Player.{IsSeated}
+use Rattle.paw_turn.specs.inner.Player.{IsSeated}
 use Rattle.paw_play.specs.Walk.{Reading}
-use Rattle.paw_play.specs.OnTheWay.{IsWalking}
+use Rattle.paw_play.specs.inner.OnTheWay.{IsWalking}
 use Rattle.paw_routines.specs.Routines.{AreRowsOf, HaveRows}
 use Rattle.paw_effects.specs.Story.{story_of}
 use Rattle.paw_play.proofs.walk.walk_lines.Given as goal

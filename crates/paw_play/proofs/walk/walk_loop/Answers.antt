@@ -3,11 +3,11 @@ use Rattle.paw_routines.specs.Routines.{AreRowsOf, HaveRows}
 use Rattle.paw_reading.specs.Turn.{reading}
 use Rattle.paw_play.specs.declared.TheConstants.{MOST_EVENTS}
 use Rattle.paw_play.specs.Walk.{Walks}
-use Rattle.paw_play.specs.OnTheWay.{IsWalking}
+use Rattle.paw_play.specs.inner.OnTheWay.{IsWalking}
 use Rattle.paw_play.proofs.Walking.{walk_starts}
 use Rattle.paw_stage.proofs.Counted.{Faulted_on}
 use Rattle.paw_effects.specs.Story.{story_of}
-use Rattle.paw_play.specs.Calls.{failed_call}
+use Rattle.paw_play.specs.inner.Calls.{failed_call}
 use Rattle.paw_play.proofs.walk.walk_loop.Goals as goal
 
 pub start-step-requires-clause-rows : goal.start-step-requires-clause-rows

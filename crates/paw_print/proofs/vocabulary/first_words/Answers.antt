@@ -1,6 +1,6 @@
 use Rattle.std.proofs.Common.{◌+◌, ◌<◌, List, [], get_or, take, set, Option, sym, ◌∙◌, ap, subst, arith}
 use Rattle.paw_game.specs.declared.parts.Word.{Word}
-use Rattle.paw_print.specs.Words.{TellsFirst}
+use Rattle.paw_print.specs.inner.Words.{TellsFirst}
 use Rattle.paw_print.proofs.FirstWords.{TellsFirst-none, TellsFirst-more, TellsFirst-other}
 use Rattle.paw_print.proofs.vocabulary.first_words.Goals as goal
 use Rattle.paw_print.proofs.vocabulary.first_words.Goals.{then-word-class, else-word-class}

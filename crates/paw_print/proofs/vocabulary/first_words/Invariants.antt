@@ -1,5 +1,5 @@
 use Rattle.std.proofs.Common.{take}
-use Rattle.paw_print.specs.Words.{TellsFirst}
+use Rattle.paw_print.specs.inner.Words.{TellsFirst}
 use Rattle.paw_print.proofs.vocabulary.first_words.Given as goal
 
 abbrev pub invariant-loop-word : goal.invariant-loop-word

@@ -1,6 +1,6 @@
 use Rattle.std.proofs.Common.{◌≡◌}
-use Rattle.paw_world.specs.Places.{left_above}
-use Rattle.paw_process.specs.Objects.{least_taken}
+use Rattle.paw_world.specs.inner.Places.{left_above}
+use Rattle.paw_process.specs.inner.Objects.{least_taken}
 use Rattle.paw_process.proofs.objects.next_taken.Given as goal
 
 abbrev pub invariant-loop-o : goal.invariant-loop-o

@@ -2,7 +2,7 @@ use Rattle.std.proofs.Common.{◌≡◌, ◌≤◌, length}
 use Rattle.paw_lex.specs.Lines.{lines_of}
 use Rattle.paw_grammar.specs.GrammarState.{nothing_yet}
 use Rattle.paw_grammar.specs.Spells.{reading}
-use Rattle.paw_source.specs.Laws.{after_lines}
+use Rattle.paw_source.specs.inner.Laws.{after_lines}
 use Rattle.paw_source.proofs.source.read_lines.Given as goal
 
 abbrev pub invariant-loop-line : goal.invariant-loop-line

@@ -1,7 +1,7 @@
 use Rattle.std.proofs.Common.{◌≡◌, ◌+◌, length, take, subst, sym, arith}
 use Rattle.std.proofs.lemmas.List.{length-map, length-take}
-use Rattle.paw_stage.specs.Log.{all_done, done_in}
-use Rattle.paw_stage.specs.Seen.{FindsStore}
+use Rattle.paw_stage.specs.inner.Log.{all_done, done_in}
+use Rattle.paw_stage.specs.inner.Seen.{FindsStore}
 use Rattle.paw_stage.proofs.Logs.{laid-at, done-next}
 use Rattle.paw_stage.proofs.Stores.{found_named}
 use Rattle.paw_stage.proofs.replay.find_store.Goals as goal

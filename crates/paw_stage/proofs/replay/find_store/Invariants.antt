@@ -1,6 +1,6 @@
 use Rattle.std.proofs.Common.{take}
-use Rattle.paw_stage.specs.Log.{all_done}
-use Rattle.paw_stage.specs.Seen.{FindsStore}
+use Rattle.paw_stage.specs.inner.Log.{all_done}
+use Rattle.paw_stage.specs.inner.Seen.{FindsStore}
 use Rattle.paw_stage.proofs.replay.find_store.Given as goal
 
 abbrev pub invariant-loop-k : goal.invariant-loop-k

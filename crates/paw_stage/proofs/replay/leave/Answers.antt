@@ -1,8 +1,8 @@
 use Rattle.std.proofs.Common.{◌≡◌, length, take, subst, sym, ap, ◌∙◌}
 use Rattle.std.specs.Prelude.{IfOk}
 use Rattle.paw_stage.specs.Stage.{bytes_or_none}
-use Rattle.paw_stage.specs.Done.{fresh, after}
-use Rattle.paw_stage.specs.Log.{all_done}
+use Rattle.paw_stage.specs.inner.Done.{fresh, after}
+use Rattle.paw_stage.specs.inner.Log.{all_done}
 use Rattle.paw_stage.proofs.Logs.{laid-take}
 use Rattle.paw_stage.proofs.Leaves.{store_file, synced_file, crashed_synced, crashed_read}
 use Rattle.paw_stage.proofs.replay.leave.Goals as goal

@@ -1,6 +1,6 @@
 use Rattle.std.proofs.Common.{length}
-use Rattle.paw_stage.specs.Done.{fresh, after}
-use Rattle.paw_stage.specs.Log.{all_done}
+use Rattle.paw_stage.specs.inner.Done.{fresh, after}
+use Rattle.paw_stage.specs.inner.Log.{all_done}
 use Rattle.paw_stage.proofs.Sees.{filled}
 use Rattle.paw_stage.proofs.replay.read_file.Goals as goal
 

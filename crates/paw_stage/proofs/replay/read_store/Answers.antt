@@ -1,7 +1,7 @@
 use Rattle.std.proofs.Common.{◌+◌, ◌≤◌, length, take, drop, subst, sym, ap, ◌∙◌}
 use Rattle.paw_stage.specs.Stage.{bytes_or_none}
-use Rattle.paw_stage.specs.Done.{fresh, after}
-use Rattle.paw_stage.specs.Log.{all_done}
+use Rattle.paw_stage.specs.inner.Done.{fresh, after}
+use Rattle.paw_stage.specs.inner.Log.{all_done}
 use Rattle.paw_stage.proofs.Leaves.{store_file}
 use Rattle.paw_stage.proofs.replay.read_store.Goals as goal
 

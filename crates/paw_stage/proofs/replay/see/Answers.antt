@@ -1,7 +1,7 @@
 use Rattle.std.proofs.Common.{◌+◌, length, take, drop, subst, sym, ap, ◌∙◌}
-use Rattle.paw_stage.specs.Done.{fresh, after}
-use Rattle.paw_stage.specs.Log.{all_done}
-use Rattle.paw_stage.specs.Seen.{Sees}
+use Rattle.paw_stage.specs.inner.Done.{fresh, after}
+use Rattle.paw_stage.specs.inner.Log.{all_done}
+use Rattle.paw_stage.specs.inner.Seen.{Sees}
 use Rattle.paw_stage.proofs.Logs.{laid-at, laid-next, laid-from, done-next, after-push}
 use Rattle.paw_stage.proofs.Sees.{after_filed}
 use Rattle.paw_stage.proofs.replay.see.Goals as goal
@@ -15,7 +15,7 @@ loop-call-preserved c =
     let next = laid-next calls k c.loop-call.seen.len (length room) _ c.loop-call-test.true c.loop-call.invariant.rest in
     record {
       sees = subst (λ s. Sees s c.args.name.now c.args.at c.seen_after-seen.result c.seen_after-seen.new.into)
-      (sym (ap (after fresh) (done-next room calls k _ c.loop-call-test.true) ∙ after-push fresh ds _))
+          (sym (ap (after fresh) (done-next room calls k _ c.loop-call-test.true) ∙ after-push fresh ds _))
           (c.seen_after-seen.ensures.sees (after fresh ds) (after_filed ds) c.loop-call.invariant.sees);
       rest = laid-from (drop (k + 1) calls) _ c.seen_after-seen.result.len (length room) c.seen_after-seen.ensures.small next.3;
     }

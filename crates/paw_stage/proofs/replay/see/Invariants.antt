@@ -1,7 +1,7 @@
 use Rattle.std.proofs.Common.{take, drop, length}
-use Rattle.paw_stage.specs.Done.{fresh, after}
-use Rattle.paw_stage.specs.Log.{all_done, AreLaid}
-use Rattle.paw_stage.specs.Seen.{Sees}
+use Rattle.paw_stage.specs.inner.Done.{fresh, after}
+use Rattle.paw_stage.specs.inner.Log.{all_done, AreLaid}
+use Rattle.paw_stage.specs.inner.Seen.{Sees}
 use Rattle.paw_stage.proofs.replay.see.Given as goal
 
 abbrev pub invariant-loop-call : goal.invariant-loop-call

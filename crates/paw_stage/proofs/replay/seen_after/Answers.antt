@@ -1,7 +1,7 @@
 use Rattle.std.proofs.Common.{sym, subst}
 use Rattle.std.specs.Prelude.{slice_range}
-use Rattle.paw_stage.specs.Done.{stepped}
-use Rattle.paw_stage.specs.Seen.{Sees}
+use Rattle.paw_stage.specs.inner.Done.{stepped}
+use Rattle.paw_stage.specs.inner.Seen.{Sees}
 use Rattle.paw_stage.proofs.Sees.{sees_written}
 use Rattle.paw_stage.proofs.replay.seen_after.Goals as goal
 

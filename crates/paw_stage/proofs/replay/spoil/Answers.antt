@@ -1,7 +1,7 @@
 use Rattle.std.proofs.Common.{◌≡◌, length, take, slice_index, subst, sym, arith}
-use Rattle.paw_stage.specs.Crash.{spoiled_if}
-use Rattle.paw_stage.specs.Log.{all_done}
-use Rattle.paw_stage.specs.Seen.{is_written}
+use Rattle.paw_stage.specs.inner.Crash.{spoiled_if}
+use Rattle.paw_stage.specs.inner.Log.{all_done}
+use Rattle.paw_stage.specs.inner.Seen.{is_written}
 use Rattle.paw_stage.proofs.Logs.{laid-at, done-next}
 use Rattle.paw_stage.proofs.Leaves.{spoiled_more}
 use Rattle.paw_stage.proofs.replay.spoil.Goals as goal

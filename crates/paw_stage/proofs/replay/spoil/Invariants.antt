@@ -1,8 +1,8 @@
 use Rattle.std.proofs.Common.{◌≡◌, ◌<◌, ℕ, take, length}
 use Rattle.std.specs.Prelude.{slice_index}
-use Rattle.paw_stage.specs.Crash.{spoiled_if}
-use Rattle.paw_stage.specs.Log.{all_done}
-use Rattle.paw_stage.specs.Seen.{is_written}
+use Rattle.paw_stage.specs.inner.Crash.{spoiled_if}
+use Rattle.paw_stage.specs.inner.Log.{all_done}
+use Rattle.paw_stage.specs.inner.Seen.{is_written}
 use Rattle.paw_stage.proofs.replay.spoil.Given as goal
 
 abbrev pub invariant-loop-call : goal.invariant-loop-call

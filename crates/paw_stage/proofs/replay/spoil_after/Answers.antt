@@ -1,7 +1,7 @@
 use Rattle.std.proofs.Common.{◌≡◌, length, slice_index, sym, subst}
 use Rattle.std.specs.Prelude.{slice_range}
-use Rattle.paw_stage.specs.Crash.{spoiled_if}
-use Rattle.paw_stage.specs.Seen.{writes}
+use Rattle.paw_stage.specs.inner.Crash.{spoiled_if}
+use Rattle.paw_stage.specs.inner.Seen.{writes}
 use Rattle.paw_stage.proofs.Writes.{spoils}
 use Rattle.paw_stage.proofs.replay.spoil_after.Goals as goal
 

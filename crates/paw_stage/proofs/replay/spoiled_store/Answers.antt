@@ -2,8 +2,8 @@ use Rattle.std.proofs.Common.{◌≡◌, ◌-◌, ◌++◌, length, take, drop, 
 use Rattle.std.proofs.Math.Seq.{take-append_seam}
 use Rattle.std.proofs.lemmas.List.{take_all, length-drop}
 use Rattle.paw_stage.specs.Stage.{bytes_or_none}
-use Rattle.paw_stage.specs.Done.{fresh, after}
-use Rattle.paw_stage.specs.Log.{all_done}
+use Rattle.paw_stage.specs.inner.Done.{fresh, after}
+use Rattle.paw_stage.specs.inner.Log.{all_done}
 use Rattle.paw_stage.proofs.Logs.{laid-drop}
 use Rattle.paw_stage.proofs.Leaves.{store_file, spoiled_file}
 use Rattle.paw_stage.proofs.replay.spoiled_store.Goals as goal

@@ -1,7 +1,7 @@
 use Rattle.std.proofs.Common.{◌∙◌, arith}
 use Rattle.std.proofs.lemmas.List.{length-set}
 use Rattle.paw_state.specs.declared.fields.Row.{Row}
-use Rattle.paw_state.specs.Parts.{frame_in}
+use Rattle.paw_state.specs.inner.Parts.{frame_in}
 use Rattle.paw_state.proofs.Written.{mapped_more, mapped_all}
 use Rattle.paw_state.proofs.read.frame_rows.Goals as goal
 

@@ -1,5 +1,5 @@
 use Rattle.std.proofs.Common.{◌≡◌, length, take, map}
-use Rattle.paw_state.specs.Parts.{frame_in}
+use Rattle.paw_state.specs.inner.Parts.{frame_in}
 use Rattle.paw_state.proofs.read.frame_rows.Given as goal
 
 -- there is room for eleven frames, of which the first are those of the rows

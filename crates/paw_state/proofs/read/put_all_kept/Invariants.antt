@@ -1,5 +1,5 @@
 use Rattle.std.proofs.Common.{◌≡◌, ◌-◌, ◌++◌, None, length, map, take, replicate}
-use Rattle.paw_state.specs.Parts.{held_in}
+use Rattle.paw_state.specs.inner.Parts.{held_in}
 use Rattle.paw_state.proofs.read.put_all_kept.Given as goal
 
 -- the positions so far are put, and no other is kept

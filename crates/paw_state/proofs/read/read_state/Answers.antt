@@ -6,8 +6,9 @@ use Rattle.paw_state.specs.declared.StateFault.{StateFault}
 use Rattle.paw_state.specs.declared.fields.Fields.{Fields}
 use Rattle.paw_state.specs.Fields.{fields_at}
 use Rattle.paw_state.specs.Faults.{fields_fault}
-use Rattle.paw_state.specs.Parts.{state_in}
-use Rattle.paw_state.specs.Fit.{unfit, state_read}
+use Rattle.paw_state.specs.inner.Parts.{state_in}
+use Rattle.paw_state.specs.Fit.{unfit}
+use Rattle.paw_state.specs.inner.Fit.{state_read}
 use Rattle.paw_state.proofs.Told.{piece_read}
 use Rattle.paw_state.proofs.Lawful.{fit_has_none, none_is_fit, long_state, is_read}
 use Rattle.paw_state.proofs.read.read_state.Goals as goal

@@ -1,6 +1,7 @@
 use Rattle.std.proofs.Common.{◌≡◌, ◌++◌, length, sym, ap, ◌∙◌}
 use Rattle.paw_process.specs.declared.kept.Frames.{Frames}
-use Rattle.paw_state.specs.State.{State, state_of}
+use Rattle.paw_state.specs.State.{State}
+use Rattle.paw_state.specs.inner.State.{state_of}
 use Rattle.paw_state.specs.Fields.{zeros, fields_of, field_bytes, kept_position_bytes, state_bytes}
 use Rattle.paw_state.proofs.Told.{AreLong, buffer_long, piece_in}
 use Rattle.paw_state.proofs.write.write_state.Goals as goal

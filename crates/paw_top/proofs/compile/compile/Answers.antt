@@ -1,6 +1,7 @@
 use Rattle.std.proofs.Common.{◌∙◌, ap, sym, subst, length}
 use Rattle.paw_grammar.specs.Spells.{spelled}
-use Rattle.paw_top.specs.Compile.{Compiles, IsRefusal, memory, image_line}
+use Rattle.paw_top.specs.Compile.{Compiles, memory, image_line}
+use Rattle.paw_top.specs.inner.Compile.{IsRefusal}
 use Rattle.paw_top.specs.declared.outcome.MemoryAt.TheVariants as at
 use Rattle.paw_top.proofs.Compiling.{no_source, no_image, keeps_image}
 use Rattle.paw_stage.proofs.Counted.{Faulted_on}

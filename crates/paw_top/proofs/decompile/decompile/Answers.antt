@@ -1,7 +1,7 @@
 use Rattle.std.proofs.Common.{◌∙◌, subst}
 use Rattle.paw_image.specs.Images.{IsImage}
 use Rattle.paw_top.specs.Decompile.{memory}
-use Rattle.paw_top.specs.Loads.{GivesNone}
+use Rattle.paw_top.specs.inner.Loads.{GivesNone}
 use Rattle.paw_top.specs.declared.outcome.MemoryAt.TheVariants.{Print}
 use Rattle.paw_top.proofs.Decompiling.{no_file, no_game, shows_source}
 use Rattle.paw_top.proofs.Images.{holds_loaded}

@@ -1,12 +1,13 @@
 use Rattle.std.proofs.Common.{◌≡◌, ◌∙◌, [], refl, sym, subst, ap}
 use Rattle.sha2.specs.Sha256.{sha256}
 use Rattle.paw_image.specs.Images.{IsImage}
-use Rattle.paw_image.specs.Views.{game_of}
+use Rattle.paw_image.specs.inner.Views.{game_of}
 use Rattle.paw_effects.specs.Story.{Story, story_of}
 use Rattle.paw_stage.specs.Stage.{Standing}
 use Rattle.paw_stage.proofs.Time.{Passes_map, Passes_on}
 use Rattle.paw_play.specs.Play.{InGame, store_bytes}
-use Rattle.paw_top.specs.Loads.{Holds, GivesNone}
+use Rattle.paw_top.specs.Loads.{Holds}
+use Rattle.paw_top.specs.inner.Loads.{GivesNone}
 use Rattle.paw_top.specs.Sessions.{PlaysNewIn, plays, unopened}
 use Rattle.paw_top.proofs.Answering.{kept_outside, played_faulted}
 use Rattle.paw_top.proofs.Images.{holds_loaded}

@@ -1,13 +1,14 @@
 use Rattle.std.proofs.Common.{◌≡◌, ◌∙◌, sym, subst, ap}
 use Rattle.sha2.specs.Sha256.{sha256}
 use Rattle.paw_image.specs.Images.{IsImage}
-use Rattle.paw_image.specs.Views.{game_of}
+use Rattle.paw_image.specs.inner.Views.{game_of}
 use Rattle.paw_effects.specs.Story.{Story, story_of}
 use Rattle.paw_stage.specs.Stage.{Standing}
 use Rattle.paw_stage.proofs.Time.{Passes_map, Passes_on}
 use Rattle.paw_play.specs.Play.{Played, InAgain, InGoingOn, kept_session, store_bytes}
 use Rattle.paw_play.proofs.Standing.{standing_shows, in_going_on}
-use Rattle.paw_top.specs.Loads.{Holds, GivesNone}
+use Rattle.paw_top.specs.Loads.{Holds}
+use Rattle.paw_top.specs.inner.Loads.{GivesNone}
 use Rattle.paw_top.specs.Sessions.{PlaysAgainIn, GoesOnIn, plays, unopened, session_from, digest_of}
 use Rattle.paw_top.proofs.Answering.{kept_outside, played_faulted}
 use Rattle.paw_top.proofs.Completing.{same_game}

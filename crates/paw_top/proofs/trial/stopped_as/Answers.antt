@@ -1,6 +1,7 @@
 use Rattle.std.proofs.Common.{refl, subst}
 use Rattle.paw_trial.specs.declared.TrialEnd.TheVariants as end
-use Rattle.paw_trial.specs.Trial.{StopsAs, trial_reading}
+use Rattle.paw_trial.specs.Trial.{trial_reading}
+use Rattle.paw_trial.specs.inner.Trial.{StopsAs}
 use Rattle.paw_top.proofs.Trying.{halted}
 use Rattle.paw_top.proofs.trial.stopped_as.Goals as goal
 

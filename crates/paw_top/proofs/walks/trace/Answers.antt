@@ -1,10 +1,10 @@
 use Rattle.std.proofs.Common.{sym, subst}
 use Rattle.paw_image.specs.Images.{IsImage}
-use Rattle.paw_image.specs.Views.{game_of}
+use Rattle.paw_image.specs.inner.Views.{game_of}
 use Rattle.paw_effects.specs.Story.{story_of}
 use Rattle.paw_play.specs.Walk.{Walks}
 use Rattle.paw_play.specs.declared.TheConstants.{MOST_EVENTS}
-use Rattle.paw_top.specs.Loads.{GivesNone}
+use Rattle.paw_top.specs.inner.Loads.{GivesNone}
 use Rattle.paw_top.specs.Walk.{TracesIn, reading_traced, walks, unopened}
 use Rattle.paw_top.proofs.Answering.{walk_outside, played_faulted}
 use Rattle.paw_top.proofs.Images.{holds_loaded}

@@ -1,10 +1,10 @@
 use Rattle.std.proofs.Common.{◌≡◌, sym, subst, ap, ◌∙◌, take}
-use Rattle.paw_stage.specs.Memory.{standing_of}
+use Rattle.paw_stage.specs.inner.Memory.{standing_of}
 use Rattle.paw_stage.specs.Stage.{Standing}
 use Rattle.paw_journal.specs.Session.{Shown, recover, state_length}
 use Rattle.paw_play.specs.Play.{store_bytes}
 use Rattle.paw_trial.specs.Trial.{trial_reading}
-use Rattle.paw_trial.specs.Session.{IsTallyOf, store_name, tally_in}
+use Rattle.paw_trial.specs.inner.Session.{IsTallyOf, store_name, tally_in}
 use Rattle.paw_trial.proofs.Counts.{trial_counts}
 use Rattle.paw_trial.proofs.counting.counted.Goals as goal
 

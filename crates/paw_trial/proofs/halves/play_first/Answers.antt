@@ -1,10 +1,10 @@
 use Rattle.std.proofs.Common.{◌≡◌, [], arith, sym, subst, ap, ◌∙◌}
 use Rattle.sha2.specs.Sha256.{sha256}
 use Rattle.paw_game.specs.Image.{image}
-use Rattle.paw_stage.specs.Memory.{Memory, standing_of}
+use Rattle.paw_stage.specs.inner.Memory.{Memory, standing_of}
 use Rattle.paw_effects.specs.Story.{story_of}
 use Rattle.paw_play.specs.Play.{PlaysGame}
-use Rattle.paw_trial.specs.Session.{first_half, store_name}
+use Rattle.paw_trial.specs.inner.Session.{first_half, store_name}
 use Rattle.paw_trial.proofs.Comes.{ComesTo, comes_held, comes_stopped, first_comes, added_lines, added_stable, empty_stable}
 use Rattle.paw_trial.proofs.halves.play_first.Goals as goal
 

@@ -1,13 +1,13 @@
 use Rattle.std.proofs.Common.{[], sym, subst, ap, ◌∙◌}
 use Rattle.sha2.specs.Sha256.{sha256}
 use Rattle.paw_game.specs.Image.{image}
-use Rattle.paw_stage.specs.Memory.{standing_of}
+use Rattle.paw_stage.specs.inner.Memory.{standing_of}
 use Rattle.paw_effects.specs.Story.{story_of}
 use Rattle.paw_play.specs.Stands.{Stands}
 use Rattle.paw_play.specs.Play.{PlaysAgain}
 use Rattle.paw_gen.specs.Trial.{trial_game, trial_lines}
 use Rattle.paw_trial.specs.Trial.{trial_story}
-use Rattle.paw_trial.specs.Session.{first_half, store_name}
+use Rattle.paw_trial.specs.inner.Session.{first_half, store_name}
 use Rattle.paw_trial.proofs.Comes.{ComesTo, comes_held, comes_stopped, second_comes, added_lines, added_stable, added_bytes}
 use Rattle.paw_trial.proofs.halves.play_second.Goals as goal
 

@@ -1,6 +1,6 @@
 use Rattle.std.proofs.Common.{◌∙◌, ap}
 use Rattle.paw_base.specs.declared.rows.CondactRow.{CondactRow}
-use Rattle.paw_base.specs.Condacts.{before_space}
+use Rattle.paw_base.specs.inner.Condacts.{before_space}
 use Rattle.paw_base.proofs.Table.{before_space-row_of}
 use Rattle.paw_base.proofs.rows.CondactRow.trimmed_name.Goals as goal
 

@@ -3,7 +3,7 @@ use Rattle.std.specs.Prelude.{slice_get}
 use Rattle.std.specs.Option.{option_copied, option_map}
 use Rattle.paw_game.specs.Image.{entry_image}
 use Rattle.paw_game.specs.Tables.{or_empty}
-use Rattle.paw_image.specs.Places.{entries_of}
+use Rattle.paw_image.specs.inner.Places.{entries_of}
 use Rattle.paw_image.proofs.ViewLaws.{entry_read, no_entry_read}
 use Rattle.paw_image.proofs.view.View.entry.Goals as goal
 

@@ -1,6 +1,6 @@
 use Rattle.std.proofs.Common.{refl, ℕ, Option, sym, ap, ◌∙◌}
-use Rattle.paw_game.specs.Tables.{text_at}
-use Rattle.paw_image.specs.Views.{game_of, spanned}
+use Rattle.paw_game.specs.inner.Tables.{text_at}
+use Rattle.paw_image.specs.inner.Views.{game_of, spanned}
 use Rattle.paw_image.proofs.ViewLaws.{span_read, text_read}
 use Rattle.paw_image.proofs.view.View.span.Goals as goal
 

@@ -5,8 +5,8 @@ use Rattle.paw_game.specs.declared.parts.Entry.{Entry}
 use Rattle.paw_game.specs.Tables.{condacts_of, or_empty}
 use Rattle.paw_game.specs.Valid.{is_condact}
 use Rattle.paw_game.proofs.Kept.{IfSome-from, condact-early, condact-small, condact_kept}
-use Rattle.paw_image.specs.Places.{entries_of}
-use Rattle.paw_image.specs.Views.{game_of}
+use Rattle.paw_image.specs.inner.Places.{entries_of}
+use Rattle.paw_image.specs.inner.Views.{game_of}
 use Rattle.paw_image.proofs.ViewLaws.{condact_read, no_entry_read}
 use Rattle.std.proofs.Common.{Option}
 use Rattle.paw_image.proofs.view.ViewTables.condact.Goals as goal

@@ -2,8 +2,8 @@ use Rattle.std.proofs.Common.{◌<◌, List, ℕ, sym, ap, ◌∙◌}
 use Rattle.std.specs.Prelude.{slice_get}
 use Rattle.paw_game.specs.Tables.{head_of, or_empty}
 use Rattle.paw_game.proofs.Kept.{IfSome-from, head-small}
-use Rattle.paw_image.specs.Places.{entries_of}
-use Rattle.paw_image.specs.Views.{game_of}
+use Rattle.paw_image.specs.inner.Places.{entries_of}
+use Rattle.paw_image.specs.inner.Views.{game_of}
 use Rattle.paw_image.proofs.ViewLaws.{head_read, no_entry_read}
 use Rattle.paw_image.proofs.view.ViewTables.head.Goals as goal
 

@@ -1,10 +1,10 @@
 use Rattle.std.proofs.Common.{◌<◌, ℕ, List, IsTrue, ap, sym, ◌∙◌}
 use Rattle.std.specs.Prelude.{slice_get}
-use Rattle.paw_game.specs.Tables.{matches_at}
+use Rattle.paw_game.specs.inner.Tables.{matches_at}
 use Rattle.paw_game.proofs.Kept.{IfSome-from}
 use Rattle.paw_game.proofs.Matches.{match-matches, match-small}
 use Rattle.paw_image.specs.declared.places.TableIndex.{TableIndex}
-use Rattle.paw_image.specs.Views.{game_of}
+use Rattle.paw_image.specs.inner.Views.{game_of}
 use Rattle.paw_image.proofs.ViewLaws.{match_read, no_match_read, ordered_at}
 use Rattle.paw_image.proofs.view.ViewTables.next_match.Goals as goal
 

@@ -1,7 +1,7 @@
 use Rattle.std.proofs.Common.{◌≤◌, List, ℕ, length, sym, ap, ◌∙◌}
 use Rattle.std.specs.Option.{option_copied}
 use Rattle.paw_game.proofs.Kept.{IfSome-copied, text-short, text_kept}
-use Rattle.paw_image.specs.Views.{game_of}
+use Rattle.paw_image.specs.inner.Views.{game_of}
 use Rattle.paw_image.proofs.PlaceLaws.{no_text_of_part}
 use Rattle.paw_image.proofs.ViewLaws.{text_read}
 use Rattle.paw_image.proofs.view.ViewTables.text.Goals as goal

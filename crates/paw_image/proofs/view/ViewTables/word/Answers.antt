@@ -2,7 +2,7 @@ use Rattle.std.proofs.Common.{List, ap, sym, ◌∙◌}
 use Rattle.paw_game.specs.declared.parts.Word.{Word}
 use Rattle.paw_game.specs.Tables.{meaning_of, word_of}
 use Rattle.paw_game.proofs.Meanings.{meaning_kept}
-use Rattle.paw_image.specs.Views.{game_of}
+use Rattle.paw_image.specs.inner.Views.{game_of}
 use Rattle.paw_image.proofs.view.ViewTables.word.Goals as goal
 
 pub returns-clause-low : goal.returns-clause-low

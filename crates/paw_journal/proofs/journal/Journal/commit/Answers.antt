@@ -3,11 +3,12 @@ use Rattle.std.specs.Prelude.{Some}
 use Rattle.paw_stage.specs.Stage.{Standing}
 use Rattle.paw_stage.specs.Across.{EachMoment}
 use Rattle.paw_stage.proofs.Time.{Passes_map, Passes_on}
-use Rattle.paw_journal.specs.Session.{recover_by, kept_digest, showing, slot}
-use Rattle.paw_journal.specs.Room.{kept_of, kept_slot, slot_number}
-use Rattle.paw_journal.specs.Written.{WritesLittle, most_written}
-use Rattle.paw_journal.specs.Store.{LeavesOldOr}
-use Rattle.paw_journal.specs.Steps.{Drafts, IsFilling}
+use Rattle.paw_journal.specs.Session.{recover_by, kept_digest, slot}
+use Rattle.paw_journal.specs.inner.Session.{showing}
+use Rattle.paw_journal.specs.inner.Room.{kept_of, kept_slot, slot_number}
+use Rattle.paw_journal.specs.inner.Written.{WritesLittle, most_written}
+use Rattle.paw_journal.specs.inner.Store.{LeavesOldOr}
+use Rattle.paw_journal.specs.inner.Steps.{Drafts, IsFilling}
 use Rattle.paw_journal.proofs.Recovers.{shown_made}
 use Rattle.paw_journal.proofs.Moved.{beside_none, beside_on}
 use Rattle.paw_journal.proofs.Chooses.{slot_small}

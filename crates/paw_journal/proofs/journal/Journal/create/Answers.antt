@@ -2,8 +2,9 @@ use Rattle.std.proofs.Common.{◌≡◌, ◌≤◌, ◌∙◌, ap, length}
 use Rattle.paw_stage.specs.Stage.{Standing}
 use Rattle.paw_stage.specs.Across.{EachMoment}
 use Rattle.paw_stage.proofs.Time.{Passes_map, Passes_on}
-use Rattle.paw_journal.specs.Session.{recover, kept_digest, marked, made_slot, made_session, showing, slot_length}
-use Rattle.paw_journal.specs.Store.{LeavesMade}
+use Rattle.paw_journal.specs.Session.{recover, kept_digest, slot_length}
+use Rattle.paw_journal.specs.inner.Session.{marked, made_slot, made_session, showing}
+use Rattle.paw_journal.specs.inner.Store.{LeavesMade}
 use Rattle.paw_journal.proofs.Moved.{beside_none}
 use Rattle.paw_journal.proofs.Sessions.{length_slot, laid_long, short_piece, marked_session, session_digest}
 use Rattle.paw_journal.proofs.Sessions.{session_shows, made_keeps, in_unmade, in_unmade_or}

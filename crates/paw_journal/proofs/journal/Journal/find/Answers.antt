@@ -4,8 +4,9 @@ use Rattle.std.specs.Prelude.{take}
 use Rattle.paw_stage.specs.Stage.{Standing}
 use Rattle.paw_stage.specs.Moments.{Still}
 use Rattle.paw_stage.specs.Across.{EachMoment}
-use Rattle.paw_journal.specs.Session.{Shown, recover, slot_shows, showing, state_length, slot, kept_digest}
-use Rattle.paw_journal.specs.Room.{HasRead, slot_number}
+use Rattle.paw_journal.specs.Session.{Shown, recover, slot_shows, state_length, slot, kept_digest}
+use Rattle.paw_journal.specs.inner.Session.{showing}
+use Rattle.paw_journal.specs.inner.Room.{HasRead, slot_number}
 use Rattle.paw_journal.proofs.Sessions.{introduced_shows, still_on, other_game, same_game, found_keeps, found_slots}
 use Rattle.paw_journal.proofs.Sessions.{shown_stays}
 use Rattle.paw_journal.proofs.journal.Journal.find.Given.{Over}
@@ -63,7 +64,7 @@ returns-then-ne-clause-found g c tells = (
   _,
   _,
   shows g (goal.at.returns-then-ne-clause-found g c).After-unpack tells
-  ∙ c.in-Ok-unpack.ensures.shown c.in_ok-header.header.digest,
+      ∙ c.in-Ok-unpack.ensures.shown c.in_ok-header.header.digest,
   other_game _ _ _ c.if-ne.true c.ne.ensures,
   refl,
 )

@@ -1,6 +1,6 @@
 use Rattle.std.proofs.Common.{◌∙◌, ap, ◌∷◌}
 use Rattle.paw_process.proofs.Hearing.{answers_quit, answers_key}
-use Rattle.paw_process.specs.OpenTables.{below}
+use Rattle.paw_process.specs.inner.OpenTables.{below}
 use Rattle.paw_process.proofs.machine.Machine.answer.Goals as goal
 
 pub returns-clause-quit : goal.returns-clause-quit

@@ -4,8 +4,8 @@ use Rattle.paw_effects.specs.Story.{story_of}
 use Rattle.paw_effects.specs.Texts.{put_text}
 use Rattle.paw_reading.specs.Reading.{waits}
 use Rattle.paw_process.proofs.Stops.{ask_stops, ask_waits}
-use Rattle.paw_process.specs.Moves.{reading_with, past_of}
-use Rattle.paw_process.specs.OpenTables.{below}
+use Rattle.paw_process.specs.inner.Moves.{reading_with, past_of}
+use Rattle.paw_process.specs.inner.OpenTables.{below}
 use Rattle.paw_process.proofs.machine.Machine.ask.Goals as goal
 
 pub returns-then-not-put-clause-meaning : goal.returns-then-not-put-clause-meaning

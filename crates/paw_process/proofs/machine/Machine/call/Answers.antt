@@ -1,6 +1,6 @@
 use Rattle.std.proofs.Common.{arith, refl}
 use Rattle.paw_process.proofs.Stops.{stops_deep, call_deep, call_goes}
-use Rattle.paw_process.specs.Moves.{turning_as}
+use Rattle.paw_process.specs.inner.Moves.{turning_as}
 use Rattle.paw_process.proofs.machine.Machine.call.Goals as goal
 
 pub returns-then-depth-eq-MOST_FRAMES-clause-meaning : goal.returns-then-depth-eq-MOST_FRAMES-clause-meaning

@@ -5,8 +5,8 @@ use Rattle.paw_effects.specs.declared.act.Effect.TheVariants as effect
 use Rattle.paw_process.proofs.Readings.{acted_as, call_at, loop_at, ask_at}
 use Rattle.paw_process.proofs.Steps.{acted_redescribes, acted_spent}
 use Rattle.paw_process.proofs.Stops.{goes_from, stops_spent}
-use Rattle.paw_process.specs.Moves.{running, acted_at}
-use Rattle.paw_process.specs.OpenTables.{below}
+use Rattle.paw_process.specs.inner.Moves.{running, acted_at}
+use Rattle.paw_process.specs.inner.OpenTables.{below}
 use Rattle.paw_process.proofs.machine.Machine.follow.Goals as goal
 
 pub returns-in-Exit-clause-meaning : goal.returns-in-Exit-clause-meaning

@@ -4,9 +4,9 @@ use Rattle.paw_game.proofs.Right.{right_at}
 use Rattle.paw_effects.specs.Story.{story_of}
 use Rattle.paw_process.proofs.Readings.{reads_nothing}
 use Rattle.paw_process.proofs.Steps.{reading_end}
-use Rattle.paw_process.specs.Meaning.{held, showing}
-use Rattle.paw_process.specs.Moves.{reading_at}
-use Rattle.paw_process.specs.OpenTables.{below}
+use Rattle.paw_process.specs.inner.Meaning.{held, showing}
+use Rattle.paw_process.specs.inner.Moves.{reading_at}
+use Rattle.paw_process.specs.inner.OpenTables.{below}
 use Rattle.paw_process.proofs.machine.Machine.inside.Goals as goal
 
 pub read-requires-clause-place : goal.read-requires-clause-place

@@ -3,15 +3,15 @@ use Rattle.std.specs.Prelude.{Option}
 use Rattle.paw_effects.specs.Story.{story_of}
 use Rattle.paw_reading.specs.declared.places.Frame.{Frame}
 use Rattle.paw_reading.specs.Reading.{Left}
-use Rattle.paw_reading.specs.GoingOn.{along}
+use Rattle.paw_reading.specs.inner.GoingOn.{along}
 use Rattle.paw_process.proofs.Steps.{turning_some, turning_none}
 use Rattle.paw_process.proofs.Stops.{goes_from}
 use Rattle.paw_process.proofs.Taking.{left_above_low, taken_above}
 use Rattle.paw_process.proofs.Works.{taking_falls}
-use Rattle.paw_process.specs.Objects.{least_taken}
-use Rattle.paw_world.specs.Places.{left_above}
-use Rattle.paw_process.specs.Moves.{looping}
-use Rattle.paw_process.specs.OpenTables.{below}
+use Rattle.paw_process.specs.inner.Objects.{least_taken}
+use Rattle.paw_world.specs.inner.Places.{left_above}
+use Rattle.paw_process.specs.inner.Moves.{looping}
+use Rattle.paw_process.specs.inner.OpenTables.{below}
 use Rattle.paw_process.proofs.machine.Machine.next_object.Goals as goal
 
 pub returns-in-Some-clause-meaning : goal.returns-in-Some-clause-meaning

@@ -1,6 +1,6 @@
 use Rattle.paw_effects.specs.Story.{story_of}
 use Rattle.paw_process.proofs.Readings.{parse_at}
-use Rattle.paw_process.specs.OpenTables.{below}
+use Rattle.paw_process.specs.inner.OpenTables.{below}
 use Rattle.paw_process.proofs.machine.Machine.parse.Goals as goal
 
 pub returns-clause-meaning : goal.returns-clause-meaning

@@ -1,5 +1,5 @@
 use Rattle.std.proofs.Common.{arith, sym, ◌∙◌}
-use Rattle.paw_process.specs.Kept.{waiting_at}
+use Rattle.paw_process.specs.inner.Kept.{waiting_at}
 use Rattle.paw_process.proofs.Again.{restored_kept}
 use Rattle.paw_process.proofs.Fitting.{kept_places}
 use Rattle.paw_process.proofs.Restored.{stands_at}

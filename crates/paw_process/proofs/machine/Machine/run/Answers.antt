@@ -1,7 +1,7 @@
 use Rattle.std.proofs.Common.{refl}
 use Rattle.paw_process.proofs.Runs.{running_starts, running_on, running_ends}
 use Rattle.paw_process.proofs.Works.{progresses}
-use Rattle.paw_process.specs.Meaning.{held}
+use Rattle.paw_process.specs.inner.Meaning.{held}
 use Rattle.paw_process.proofs.machine.Machine.run.Goals as goal
 
 pub returns-in-Some-clause-meaning : goal.returns-in-Some-clause-meaning

@@ -1,7 +1,7 @@
 use Rattle.std.proofs.Common.{◌+◌, ◌*◌}
-use Rattle.paw_process.specs.Meaning.{held}
-use Rattle.paw_process.specs.Running.{IsRunning}
-use Rattle.paw_process.specs.Work.{work}
+use Rattle.paw_process.specs.inner.Meaning.{held}
+use Rattle.paw_process.specs.inner.Running.{IsRunning}
+use Rattle.paw_process.specs.inner.Work.{work}
 use Rattle.paw_process.proofs.machine.Machine.run.Given as goal
 
 abbrev pub invariant-loop-turned : goal.invariant-loop-turned

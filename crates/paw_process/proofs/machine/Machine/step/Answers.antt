@@ -1,15 +1,15 @@
 use Rattle.std.proofs.Common.{sym, ap, ◌∙◌, ◌∷◌, arith}
 use Rattle.paw_game.proofs.Kept.{table-short}
-use Rattle.paw_game.specs.Tables.{match_at}
+use Rattle.paw_game.specs.inner.Tables.{match_at}
 use Rattle.paw_reading.proofs.Rules.{match_within}
 use Rattle.paw_effects.specs.Story.{story_of}
 use Rattle.paw_process.proofs.Readings.{reads_nothing, reads_from, reads_moved}
 use Rattle.paw_process.proofs.Steps.{going_inside, going_left, going_match}
 use Rattle.paw_process.proofs.Stops.{goes_from}
 use Rattle.paw_process.proofs.Works.{match_progress}
-use Rattle.paw_process.specs.Meaning.{held, showing, going_on}
-use Rattle.paw_process.specs.Moves.{reading_at}
-use Rattle.paw_process.specs.OpenTables.{below}
+use Rattle.paw_process.specs.inner.Meaning.{held, showing, going_on}
+use Rattle.paw_process.specs.inner.Moves.{reading_at}
+use Rattle.paw_process.specs.inner.OpenTables.{below}
 use Rattle.paw_reading.specs.declared.places.Frame.{Frame}
 use Rattle.paw_process.proofs.machine.Machine.step.Goals as goal
 

@@ -1,6 +1,6 @@
 use Rattle.std.proofs.Common.{ap, sym, ◌∙◌, ◌∷◌}
 use Rattle.paw_effects.specs.Story.{story_of}
-use Rattle.paw_process.specs.OpenTables.{below}
+use Rattle.paw_process.specs.inner.OpenTables.{below}
 use Rattle.paw_process.proofs.Readings.{test_yes, test_no, test_ask}
 use Rattle.paw_process.proofs.machine.Machine.test.Goals as goal
 

@@ -1,8 +1,8 @@
 use Rattle.std.proofs.Common.{sym, subst, ◌∙◌}
-use Rattle.paw_lex.specs.Lines.{bytes_of}
+use Rattle.paw_lex.specs.inner.Lines.{bytes_of}
 use Rattle.paw_lex.specs.Tokens.{tokens_of}
 use Rattle.paw_grammar.specs.Spells.{begins_with_blank, begins_with_slash}
-use Rattle.paw_source.specs.Drafts.{IsSmall}
+use Rattle.paw_source.specs.inner.Drafts.{IsSmall}
 use Rattle.paw_source.proofs.Capped.{slash_read}
 use Rattle.paw_source.proofs.draft.Draft.tokens.Goals as goal
 

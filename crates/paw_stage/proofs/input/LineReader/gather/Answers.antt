@@ -20,5 +20,5 @@ loop-len-preserved g c =
       rest = c.in_ok-next_byte.ensures.rest ∙ c.loop-len.invariant.rest;
       size = c.keep.array_long;
       gathered = gathers_more _ _ _ c.loop-len.into c.keep.new.into c.loop-len.len c.in-Some.byte c.loop-len.returned
-      c.loop-len.invariant.gathered taken c.in-Some.byte-test.1 c.loop-len.invariant.size c.keep.ensures;
+          c.loop-len.invariant.gathered taken c.in-Some.byte-test.1 c.loop-len.invariant.size c.keep.ensures;
     }

@@ -1,5 +1,5 @@
 use Rattle.std.proofs.Common.{◌≡◌, length}
-use Rattle.paw_stage.specs.Input.{unread, Gathers}
+use Rattle.paw_stage.specs.inner.Input.{unread, Gathers}
 use Rattle.paw_stage.proofs.input.LineReader.gather.Given as goal
 
 abbrev pub invariant-loop-len : goal.invariant-loop-len

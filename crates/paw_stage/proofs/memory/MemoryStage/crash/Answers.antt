@@ -2,8 +2,8 @@ use Rattle.std.proofs.Common.{◌≡◌, subst, sym, ap}
 use Rattle.std.specs.Prelude.{IsSome, IfOk}
 use Rattle.std.proofs.lemmas.Result.{IfOk-weaker}
 use Rattle.paw_stage.specs.Disk.{MayLeave}
-use Rattle.paw_stage.specs.Done.{fresh, after}
-use Rattle.paw_stage.specs.Crash.{crashed}
+use Rattle.paw_stage.specs.inner.Done.{fresh, after}
+use Rattle.paw_stage.specs.inner.Crash.{crashed}
 use Rattle.paw_stage.proofs.Disks.{crash_leaves}
 use Rattle.paw_stage.proofs.memory.MemoryStage.crash.Goals as goal
 

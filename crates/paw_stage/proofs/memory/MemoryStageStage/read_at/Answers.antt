@@ -1,5 +1,5 @@
 use Rattle.std.proofs.Common.{refl, ap, sym}
-use Rattle.paw_stage.specs.Done.{read_store}
+use Rattle.paw_stage.specs.inner.Done.{read_store}
 use Rattle.paw_stage.specs.contracts.memory.MemoryStage.{the_view}
 use Rattle.paw_stage.proofs.Calls.{passed}
 use Rattle.paw_stage.proofs.memory.MemoryStageStage.read_at.Goals as goal

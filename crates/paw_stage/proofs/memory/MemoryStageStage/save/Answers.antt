@@ -1,7 +1,7 @@
 use Rattle.std.proofs.Common.{refl, ap, sym}
 use Rattle.std.specs.Prelude.{Some}
-use Rattle.paw_stage.specs.Done.{saved}
-use Rattle.paw_stage.specs.Memory.{standing_of}
+use Rattle.paw_stage.specs.inner.Done.{saved}
+use Rattle.paw_stage.specs.inner.Memory.{standing_of}
 use Rattle.paw_stage.specs.contracts.memory.MemoryStage.{the_view}
 use Rattle.paw_stage.proofs.Time.{Passes_map}
 use Rattle.paw_stage.proofs.Calls.{stood, passed, saves, in_save}

@@ -1,6 +1,6 @@
 use Rattle.std.proofs.Common.{refl, ap, sym}
-use Rattle.paw_stage.specs.Done.{wrote_store}
-use Rattle.paw_stage.specs.Memory.{standing_of}
+use Rattle.paw_stage.specs.inner.Done.{wrote_store}
+use Rattle.paw_stage.specs.inner.Memory.{standing_of}
 use Rattle.paw_stage.specs.contracts.memory.MemoryStage.{the_view}
 use Rattle.paw_stage.proofs.Time.{Passes_map}
 use Rattle.paw_stage.proofs.Calls.{passed, in_write}

@@ -1,5 +1,5 @@
 use Rattle.std.proofs.Common.{ap, refl}
-use Rattle.paw_turn.specs.Player.{Seat}
+use Rattle.paw_turn.specs.inner.Player.{Seat}
 use Rattle.paw_turn.proofs.Seating.{renewed}
 use Rattle.paw_turn.proofs.player.Player.renew.Goals as goal
 

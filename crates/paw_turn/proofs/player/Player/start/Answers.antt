@@ -3,8 +3,8 @@ use Rattle.paw_routines.specs.Routines.{AreRowsOf, HaveRows}
 use Rattle.paw_effects.specs.Story.{story_of}
 use Rattle.paw_reading.specs.Turn.{reading}
 use Rattle.paw_turn.specs.declared.turn.Turn.{Turn}
-use Rattle.paw_turn.specs.Player.{Seat, IsNew, IsSeated, PlaysTo, Stands}
-use Rattle.paw_turn.specs.Stages.{seat_of, settled}
+use Rattle.paw_turn.specs.inner.Player.{Seat, IsNew, IsSeated, PlaysTo, Stands}
+use Rattle.paw_turn.specs.inner.Stages.{seat_of, settled}
 use Rattle.paw_turn.proofs.Settling.{start_plays}
 use Rattle.paw_game.specs.Valid.{Valid}
 use Rattle.paw_turn.proofs.Seating.{new_playable, new_read}

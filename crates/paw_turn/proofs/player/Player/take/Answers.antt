@@ -8,8 +8,8 @@ use Rattle.paw_turn.specs.declared.Step.{Step}
 use Rattle.paw_turn.specs.declared.Step.TheVariants as step
 use Rattle.paw_turn.specs.declared.stage.Next.TheVariants as next
 use Rattle.paw_turn.specs.declared.turn.Turn.{Turn}
-use Rattle.paw_turn.specs.Player.{Seat, IsSeated, PlaysTo, Stands, run_at}
-use Rattle.paw_turn.specs.Stages.{PlaysAs, from_prompt, seat_of, settled}
+use Rattle.paw_turn.specs.inner.Player.{Seat, IsSeated, PlaysTo, Stands, run_at}
+use Rattle.paw_turn.specs.inner.Stages.{PlaysAs, from_prompt, seat_of, settled}
 use Rattle.paw_turn.proofs.Settling.{take_plays}
 use Rattle.paw_turn.proofs.Standing.{bytes_each, valid_story, taken_on}
 use Rattle.paw_turn.proofs.player.Player.take.Goals as goal

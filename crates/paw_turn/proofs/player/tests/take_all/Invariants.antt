@@ -1,5 +1,5 @@
 use Rattle.std.proofs.Common.{◌≡◌}
-use Rattle.paw_turn.specs.Player.{IsSeated}
+use Rattle.paw_turn.specs.inner.Player.{IsSeated}
 use Rattle.paw_turn.proofs.player.tests.take_all.Given as goal
 
 abbrev pub invariant-loop-line : goal.invariant-loop-line

@@ -1,9 +1,10 @@
 use Rattle.std.proofs.Common.{◌≡◌, ℕ, List, ap, sym, ◌∙◌, subst}
 use Rattle.paw_phrase.specs.Pending.{PendingLine}
 use Rattle.paw_process.specs.OpenTables.{OpenTables}
-use Rattle.paw_process.specs.Kept.{kept, restored, waiting_at}
+use Rattle.paw_process.specs.Kept.{kept}
+use Rattle.paw_process.specs.inner.Kept.{restored, waiting_at}
 use Rattle.paw_process.specs.declared.kept.Frames.{Frames}
-use Rattle.paw_turn.specs.Player.{Seat, IsStanding}
+use Rattle.paw_turn.specs.inner.Player.{Seat, IsStanding}
 use Rattle.paw_turn.proofs.Seating.{same_fits}
 use Rattle.paw_turn.proofs.player.tests.taken_up.Goals as goal
 

@@ -1,6 +1,6 @@
 use Rattle.std.proofs.Common.{arith, suc}
 use Rattle.paw_reading.specs.Turn.{turn}
-use Rattle.paw_turn.specs.Stages.{at_stage}
+use Rattle.paw_turn.specs.inner.Stages.{at_stage}
 use Rattle.paw_effects.specs.Story.{story_of}
 use Rattle.paw_turn.specs.declared.stage.Next.TheVariants as next
 use Rattle.paw_turn.proofs.Playing.{plays_none, plays_on}

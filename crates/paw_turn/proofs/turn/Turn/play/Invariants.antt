@@ -2,7 +2,7 @@ use Rattle.std.proofs.Common.{ℕ, List}
 use Rattle.paw_routines.specs.Routines.{AreRowsOf}
 use Rattle.paw_effects.specs.Story.{story_of}
 use Rattle.paw_turn.specs.declared.stage.Next.TheVariants as next
-use Rattle.paw_turn.specs.Stages.{Plays, IsPlayable, HasReadSome, Keeps, work}
+use Rattle.paw_turn.specs.inner.Stages.{Plays, IsPlayable, HasReadSome, Keeps, work}
 use Rattle.paw_turn.proofs.turn.Turn.play.Given as goal
 
 abbrev pub invariant-loop-stage : goal.invariant-loop-stage

@@ -2,7 +2,7 @@ use Rattle.paw_effects.specs.Story.{story_of}
 use Rattle.paw_turn.proofs.Playing.{plays_then}
 use Rattle.paw_turn.proofs.Falling.{plays_read}
 use Rattle.paw_turn.specs.declared.stage.Next.TheVariants as next
-use Rattle.paw_turn.specs.Stages.{from_prompt}
+use Rattle.paw_turn.specs.inner.Stages.{from_prompt}
 use Rattle.paw_turn.proofs.turn.Turn.take.Goals as goal
 
 pub returns-in-Go-clause-meaning : goal.returns-in-Go-clause-meaning

@@ -1,5 +1,6 @@
 use Rattle.std.proofs.Common.{ap, ◌∙◌}
-use Rattle.paw_world.specs.Draws.{random_word, Drawn}
+use Rattle.paw_world.specs.Draws.{random_word}
+use Rattle.paw_world.specs.inner.Draws.{Drawn}
 use Rattle.paw_world.proofs.DrawnOn.{word_on, word_is}
 use Rattle.paw_world.proofs.draws.Draws.draw.Goals as goal
 

@@ -1,7 +1,7 @@
 use Rattle.std.proofs.Common.{arith, ℕ, List, ap, ◌∙◌, subst, []}
 use Rattle.std.proofs.lemmas.List.{get_or_default}
-use Rattle.paw_world.specs.ObjectSet.{IsLeastFrom}
-use Rattle.paw_world.specs.Places.{least_at}
+use Rattle.paw_world.specs.inner.ObjectSet.{IsLeastFrom}
+use Rattle.paw_world.specs.inner.Places.{least_at}
 use Rattle.paw_world.proofs.Least.{least_of_set, left_of_all, left_of_some}
 use Rattle.paw_world.proofs.places.Places.first_at.Goals as goal
 use Rattle.paw_world.proofs.places.Places.first_at.Goals.{in-None, in-Some}

@@ -1,5 +1,5 @@
 use Rattle.std.proofs.Common.{arith}
-use Rattle.paw_world.specs.ObjectSet.{none}
+use Rattle.paw_world.specs.inner.ObjectSet.{none}
 use Rattle.paw_world.proofs.Bits.{least_in_word, passed_word}
 use Rattle.paw_world.proofs.set.ObjectSet.least_from.Goals as goal
 

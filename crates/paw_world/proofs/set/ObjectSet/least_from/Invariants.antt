@@ -1,5 +1,5 @@
 use Rattle.std.proofs.Common.{◌≡◌, ℕ, ◌+◌, ◌-◌, ◌*◌, ◌<◌, ◌≤◌}
-use Rattle.paw_world.specs.ObjectSet.{member}
+use Rattle.paw_world.specs.inner.ObjectSet.{member}
 use Rattle.paw_world.proofs.set.ObjectSet.least_from.Given as goal
 
 -- no number that was passed is in the set

@@ -1,6 +1,6 @@
 use Rattle.std.proofs.Common.{◌≡◌, ◌+◌, ◌*◌, ◌≤◌}
-use Rattle.paw_world.specs.Places.{left_above}
-use Rattle.paw_world.specs.Weight.{weight_with}
+use Rattle.paw_world.specs.inner.Places.{left_above}
+use Rattle.paw_world.specs.inner.Weight.{weight_with}
 use Rattle.paw_world.proofs.Contents.{weights_above}
 use Rattle.paw_world.proofs.world.World.+weigh.Given as goal
 

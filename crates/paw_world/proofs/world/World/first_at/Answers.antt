@@ -1,5 +1,6 @@
 use Rattle.std.proofs.Common.{◌≡◌, ap, ◌∙◌}
-use Rattle.paw_world.specs.World.{World, first_at}
+use Rattle.paw_world.specs.World.{World}
+use Rattle.paw_world.specs.inner.World.{first_at}
 use Rattle.paw_world.proofs.Contents.{found_known, found_stands, found_above}
 use Rattle.paw_world.proofs.world.World.first_at.Goals as goal
 

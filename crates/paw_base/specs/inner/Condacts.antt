@@ -1,0 +1,33 @@
+-- The condacts: words that contracts between crates and proofs use beside those of specs/Condacts.antt.
+use Rattle.std.specs.Prelude.{ℕ, ◌≡◌, ◌≤◌, ◌-◌, ◌+◌, ◌++◌, Bool, List, length, replicate, nat_le, codes, ◌==◌, ◌&&◌, not}
+use Rattle.std.specs.List.{list_any, before_first}
+use Rattle.paw_base.specs.declared.rows.CondactRow.{CondactRow}
+use Rattle.paw_base.specs.Condacts.{name_of, first_kind, second_kind, capitals}
+
+-- the codes of the condacts are 0 to 107
+abbrev pub IsCode : ℕ → Type 0
+IsCode code = code ≤ 107
+
+-- the codes from 29 on act; those below test
+abbrev pub acts : ℕ → Bool
+acts code = nat_le 29 code
+
+-- a name filled up with spaces to eight bytes
+abbrev pub filled_up : List ℕ → List ℕ
+filled_up name = name ++ replicate (8 - length name) 32
+
+-- what stands before the first space
+abbrev pub before_space : List ℕ → List ℕ
+before_space name = before_first (λ byte. byte == 32) name
+
+-- what the table says of a code
+abbrev pub row_of : ℕ → CondactRow
+row_of code = record { name = filled_up (name_of code); first = first_kind code; second = second_kind code; acts = acts code }
+
+-- the condact of this code has this name, its letters read as capitals
+abbrev pub HasName : ℕ → List ℕ → Type 0
+HasName code name = IsCode code × (name_of code ≡ capitals name)
+
+-- at most eight bytes, and no space among them
+abbrev pub is_plain : List ℕ → Bool
+is_plain name = nat_le (length name) 8 && not (list_any (λ byte. byte == 32) name)

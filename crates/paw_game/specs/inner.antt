@@ -1,0 +1,5 @@
+-- Words of contracts between crates, and of proofs. What a reader must believe doesn't reach them.
+pub mod Valid
+pub mod Fault
+pub mod Tables
+pub mod Values

@@ -1,0 +1,43 @@
+-- What a game's lists hold at a number: words that contracts between crates and proofs use beside those of specs/Tables.antt.
+use Rattle.std.specs.Prelude.{ℕ, suc, Bool, false, List, [], ◌∷◌, length, Option, Some, None, slice_get, drop, if◌then◌else◌}
+use Rattle.std.specs.Option.{option_map_or}
+use Rattle.paw_base.specs.declared.parts.Counts.{Counts}
+use Rattle.paw_game.specs.declared.parts.Entry.{Entry}
+use Rattle.paw_game.specs.declared.parts.GamePart.{GamePart}
+use Rattle.paw_game.specs.declared.parts.GamePart.TheVariants as part
+use Rattle.paw_game.specs.Game.{GameLists}
+use Rattle.paw_game.specs.Tables.{row_text, table_at, entry_at, matches}
+
+-- how many rows each part of a game has
+abbrev pub counts_of : GameLists → Counts
+counts_of g = record {
+  words = length g.words;
+  system = length g.system;
+  messages = length g.messages;
+  objects = length g.objects;
+  locations = length g.locations;
+  tables = length g.tables;
+}
+
+-- a text of one of the parts that have texts
+abbrev pub text_at : GameLists → GamePart → ℕ → Option (List ℕ)
+text_at g part.Words n = None
+text_at g part.System n = slice_get g.system n
+text_at g part.Messages n = slice_get g.messages n
+text_at g part.Objects n = row_text (slice_get g.objects n)
+text_at g part.Locations n = slice_get g.locations n
+text_at g part.Exits n = None
+text_at g part.Tables n = None
+
+-- the table has this entry, and it matches
+abbrev pub matches_at : GameLists → ℕ → ℕ → ℕ → ℕ → Bool
+matches_at g t e verb noun = option_map_or (matches verb noun) (entry_at g t e) false
+
+-- of these entries, numbered from e on, the first that matches
+abbrev pub first_match : ℕ → ℕ → ℕ → List Entry → Option ℕ
+first_match verb noun e [] = None
+first_match verb noun e (en ∷ es) = if matches verb noun en then Some e else first_match verb noun (suc e) es
+
+-- the least matching entry of a table that isn't below from
+abbrev pub match_at : GameLists → ℕ → ℕ → ℕ → ℕ → Option ℕ
+match_at g t from verb noun = first_match verb noun from (drop from (table_at g t))

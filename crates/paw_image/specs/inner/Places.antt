@@ -1,0 +1,85 @@
+-- Where rows begin.
+use Rattle.std.specs.Prelude.{◌≡◌, ℕ, zero, suc, ◌+◌, ◌-◌, List, [], ◌∷◌, length, map, Result, Ok, Err}
+use Rattle.std.specs.List.{AllByRecursion}
+use Rattle.paw_base.specs.declared.limits.TheConstants.{ENTRY_LIMIT}
+use Rattle.paw_base.specs.declared.parts.Counts.{Counts}
+use Rattle.paw_game.specs.declared.parts.Word.{Word}
+use Rattle.paw_game.specs.declared.parts.Entry.{Entry}
+use Rattle.paw_game.specs.Image.{entry_image, table_image}
+use Rattle.paw_image.specs.declared.places.Places.{Places}
+use Rattle.paw_image.specs.declared.places.TableIndex.{TableIndex}
+use Rattle.paw_image.specs.Damage.{Declared, Passing, front, each, number_within, after_text, after_object, after_exits, after_entry, after_table}
+use Rattle.paw_image.specs.inner.Orders.{IsOrder}
+use Rattle.paw_image.specs.Reading.{◌>>=◌}
+
+-- where rows begin of which the first begins at a place
+abbrev pub places : {A : Type 0} → (A → List ℕ) → ℕ → List A → List ℕ
+places image at [] = []
+places image at (x ∷ xs) = at ∷ places image (at + length (image x)) xs
+
+-- where the entries of tables begin of which the first begins at a place; a table begins with a number of two bytes
+abbrev pub entry_places : ℕ → List (List Entry) → List (List ℕ)
+entry_places at [] = []
+entry_places at (es ∷ ess) = places entry_image (at + 2) es ∷ entry_places (at + length (table_image es)) ess
+
+-- ---- as they are gone over ----
+
+-- what comes of the rest of the bytes; nothing after a fault
+abbrev pub on_rest : {A : Type 0} → (List ℕ → List A) → Passing → List A
+on_rest f (Ok rest) = f rest
+on_rest f (Err left) = []
+
+-- where the rows at the front of the last bytes of so many begin
+unfoldable pub begins : (List ℕ → Passing) → ℕ → ℕ → List ℕ → List ℕ
+begins row total zero bytes = []
+begins row total (suc n) bytes = (total - length bytes) ∷ on_rest (begins row total n) (row bytes)
+
+abbrev pub entries_after : Declared → ℕ → Result (ℕ × List ℕ) ℕ → List ℕ
+entries_after d total (Ok count) = begins (after_entry d) total count.0 count.1
+entries_after d total (Err left) = []
+
+-- where the entries of the table at the front begin
+unfoldable pub entries_begin : Declared → ℕ → List ℕ → List ℕ
+entries_begin d total bytes = entries_after d total (number_within 0 ENTRY_LIMIT bytes)
+
+-- the same of so many tables
+unfoldable pub tables_begin : Declared → ℕ → ℕ → List ℕ → List (List ℕ)
+tables_begin d total zero bytes = []
+tables_begin d total (suc n) bytes =
+    entries_begin d total bytes ∷ on_rest (tables_begin d total n) (after_table d bytes)
+
+-- the bytes after the system messages, then after the lists up to each further one
+abbrev pub to_messages : Declared → List ℕ → Passing
+to_messages d bytes = each after_text d.counts.system bytes
+
+abbrev pub to_objects : Declared → List ℕ → Passing
+to_objects d bytes = to_messages d bytes >>= each after_text d.counts.messages
+
+abbrev pub to_locations : Declared → List ℕ → Passing
+to_locations d bytes = to_objects d bytes >>= each (after_object d) d.counts.objects
+
+abbrev pub to_exits : Declared → List ℕ → Passing
+to_exits d bytes = to_locations d bytes >>= each after_text d.counts.locations
+
+abbrev pub to_tables : Declared → List ℕ → Passing
+to_tables d bytes = to_exits d bytes >>= each (after_exits d) d.counts.locations
+
+-- the entries of tables that are kept as places
+abbrev pub entries_of : List TableIndex → List (List ℕ)
+entries_of ts = map (λ t. t.entries.items) ts
+
+-- where the rows of each list begin, as the lists after the words are gone over
+pub record AreGoneOver (d : Declared) (total : ℕ) (bytes : List ℕ) (p : Places) : Type 0 where
+  pub system : p.system.items ≡ begins after_text total d.counts.system bytes
+  pub messages : p.messages.items ≡ on_rest (begins after_text total d.counts.messages) (to_messages d bytes)
+  pub objects : p.objects.items ≡ on_rest (begins (after_object d) total d.counts.objects) (to_objects d bytes)
+  pub locations : p.locations.items ≡ on_rest (begins after_text total d.counts.locations) (to_locations d bytes)
+  pub exits : p.exits.items ≡ on_rest (begins (after_exits d) total d.counts.locations) (to_exits d bytes)
+  pub tables : entries_of p.tables.items ≡ on_rest (tables_begin d total d.counts.tables) (to_tables d bytes)
+
+-- the counts, the words and the places that come of the bytes as they are gone over
+pub record IsPassed (bytes : List ℕ) (counts : Counts) (words : List Word) (p : Places) : Type 0 where
+  pub rest : List ℕ
+  pub declared : front bytes ≡ Ok (record { counts = counts; words = words }, rest)
+  pub over : AreGoneOver (record { counts = counts; words = words }) (length bytes) rest p
+  pub order : AllByRecursion (λ t. IsOrder bytes t.entries.items t.order) p.tables.items

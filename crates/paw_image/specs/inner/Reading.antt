@@ -1,0 +1,202 @@
+-- Reading an image from left to right: words that contracts between crates and proofs use beside those of specs/Reading.antt.
+use Rattle.std.specs.Prelude.{◌≡◌, ℕ, zero, suc, not, List, [], ◌∷◌, length, Result, Ok, Err, nat_le, ◌==◌, codes, bit_and, if◌then◌else◌}
+use Rattle.std.specs.Str.{bytes_eq}
+use Rattle.paw_base.specs.declared.parts.Condact.{Condact}
+use Rattle.paw_base.specs.declared.parts.Counts.{Counts}
+use Rattle.paw_base.specs.declared.parts.ObjectFacts.{ObjectFacts}
+use Rattle.paw_base.specs.declared.rows.ParamKind.{ParamKind}
+use Rattle.paw_base.specs.declared.rows.ParamKind.TheVariants as kind
+use Rattle.paw_base.specs.Condacts.{first_kind, second_kind}
+use Rattle.paw_game.specs.declared.parts.Word.{Word}
+use Rattle.paw_game.specs.declared.parts.ObjectRow.{ObjectRow}
+use Rattle.paw_game.specs.declared.parts.Exit.{Exit}
+use Rattle.paw_game.specs.declared.parts.Entry.{Entry}
+use Rattle.paw_game.specs.Game.{GameLists}
+use Rattle.paw_image.specs.declared.fault.ReadFault.{ReadFault}
+use Rattle.paw_image.specs.declared.fault.ReadFault.TheVariants as fault
+use Rattle.paw_image.specs.Reading.{◌>>=◌, Reading, byte_at, bytes_at, number_at}
+
+-- ---- what a function of the code gives ----
+
+-- a fault that came is the fault of the reading; want of memory may always come
+abbrev pub Fails : {Y : Type 0} → ReadFault → Result Y ℕ → Type 0
+Fails fault.Memory reading = Unit {0}
+Fails (fault.Damaged left) reading = reading ≡ Err left
+
+-- the function's value, seen by view, is that of the reading
+abbrev pub Gives : {X Y : Type 0} → (X → Y) → Result X ReadFault → Result Y ℕ → Type 0
+Gives view (Ok x) reading = reading ≡ Ok (view x)
+Gives view (Err e) reading = Fails e reading
+
+-- there is no value
+abbrev pub IsFault : {A : Type 0} → Result A ℕ → Type 0
+IsFault (Ok x) = ⊥
+IsFault (Err left) = Unit {0}
+
+-- ---- numbers and bytes ----
+
+-- as many rows as are counted
+unfoldable pub rows_at : {A : Type 0} → (List ℕ → Reading A) → ℕ → List ℕ → Reading (List A)
+rows_at row zero bytes = Ok ([], bytes)
+rows_at row (suc n) bytes = do
+  first ← row bytes
+  others ← rows_at row n first.1
+  Ok (first.0 ∷ others.0, others.1)
+
+-- ---- rows ----
+
+-- five letters, value, class
+unfoldable pub word_at : List ℕ → Reading Word
+word_at bytes = do
+  letters ← bytes_at 5 bytes
+  value ← byte_at letters.1
+  class ← byte_at value.1
+  Ok (record { letters = letters.0; value = value.0; class = class.0 }, class.1)
+
+-- a length of two bytes, and the text
+unfoldable pub text_at : List ℕ → Reading (List ℕ)
+text_at bytes = do
+  len ← number_at bytes
+  bytes_at len.0 len.1
+
+-- bits 0 to 5 are the weight, bit 6 tells a container, bit 7 that it may be worn
+abbrev pub facts_with : ℕ → ℕ → ℕ → ℕ → ObjectFacts
+facts_with noun adjective start weight = record {
+  noun = noun;
+  adjective = adjective;
+  start = start;
+  weight = bit_and weight 63;
+  container = not (bit_and weight 64 == 0);
+  wearable = not (bit_and weight 128 == 0);
+}
+
+-- noun, adjective, first place, and the byte of the weight
+unfoldable pub facts_at : List ℕ → Reading ObjectFacts
+facts_at bytes = do
+  noun ← byte_at bytes
+  adjective ← byte_at noun.1
+  start ← byte_at adjective.1
+  weight ← byte_at start.1
+  Ok (facts_with noun.0 adjective.0 start.0 weight.0, weight.1)
+
+-- a text, and what is said of the object
+unfoldable pub object_at : List ℕ → Reading ObjectRow
+object_at bytes = do
+  text ← text_at bytes
+  facts ← facts_at text.1
+  Ok (record { text = text.0; facts = facts.0 }, facts.1)
+
+-- a verb, and where it leads
+unfoldable pub exit_at : List ℕ → Reading Exit
+exit_at bytes = do
+  verb ← byte_at bytes
+  to ← byte_at verb.1
+  Ok (record { verb = verb.0; to = to.0 }, to.1)
+
+-- how many exits, and each
+unfoldable pub exits_at : List ℕ → Reading (List Exit)
+exits_at bytes = do
+  count ← byte_at bytes
+  rows_at exit_at count.0 count.1
+
+-- ---- tables ----
+
+-- the code of a condact
+abbrev pub code_at : List ℕ → Reading ℕ
+code_at [] = Err 0
+code_at (code ∷ bytes) = if nat_le code 107 then Ok (code, bytes) else Err (suc (length bytes))
+
+-- a parameter of this kind; one that a code doesn't have is 0, and takes no byte
+abbrev pub parameter_at : ParamKind → List ℕ → Reading ℕ
+parameter_at kind.Absent bytes = Ok (0, bytes)
+parameter_at _ bytes = byte_at bytes
+
+-- a code, and the parameters that it has
+unfoldable pub condact_at : List ℕ → Reading Condact
+condact_at bytes = do
+  code ← code_at bytes
+  a ← parameter_at (first_kind code.0) code.1
+  b ← parameter_at (second_kind code.0) a.1
+  Ok (record { code = code.0; a = a.0; b = b.0 }, b.1)
+
+-- verb, noun, how many condacts, and each
+unfoldable pub entry_at : List ℕ → Reading Entry
+entry_at bytes = do
+  verb ← byte_at bytes
+  noun ← byte_at verb.1
+  count ← byte_at noun.1
+  condacts ← rows_at condact_at count.0 count.1
+  Ok (record { verb = verb.0; noun = noun.0; condacts = condacts.0 }, condacts.1)
+
+-- how many entries, and each
+unfoldable pub table_at : List ℕ → Reading (List Entry)
+table_at bytes = do
+  count ← number_at bytes
+  rows_at entry_at count.0 count.1
+
+-- ---- the whole image ----
+
+-- the mark PAWI
+unfoldable pub mark_at : List ℕ → Reading (Unit {0})
+mark_at bytes = do
+  mark ← bytes_at 4 bytes
+  if bytes_eq mark.0 (codes "PAWI") then Ok (tt, mark.1) else Err (length bytes)
+
+-- version 1
+unfoldable pub version_at : List ℕ → Reading (Unit {0})
+version_at bytes = do
+  version ← byte_at bytes
+  if version.0 == 1 then Ok (tt, version.1) else Err (length bytes)
+
+-- how many words, system messages, messages, objects, locations and tables follow
+unfoldable pub counts_at : List ℕ → Reading Counts
+counts_at bytes = do
+  words ← number_at bytes
+  system ← number_at words.1
+  messages ← number_at system.1
+  objects ← number_at messages.1
+  locations ← number_at objects.1
+  tables ← number_at locations.1
+  Ok (
+    record {
+      words = words.0;
+      system = system.0;
+      messages = messages.0;
+      objects = objects.0;
+      locations = locations.0;
+      tables = tables.0;
+    },
+    tables.1,
+  )
+
+-- the lists, with so many rows; each location has its exits
+unfoldable pub lists_at : Counts → List ℕ → Reading GameLists
+lists_at counts bytes = do
+  words ← rows_at word_at counts.words bytes
+  system ← rows_at text_at counts.system words.1
+  messages ← rows_at text_at counts.messages system.1
+  objects ← rows_at object_at counts.objects messages.1
+  locations ← rows_at text_at counts.locations objects.1
+  exits ← rows_at exits_at counts.locations locations.1
+  tables ← rows_at table_at counts.tables exits.1
+  Ok (
+    record {
+      words = words.0;
+      system = system.0;
+      messages = messages.0;
+      objects = objects.0;
+      locations = locations.0;
+      exits = exits.0;
+      tables = tables.0;
+    },
+    tables.1,
+  )
+
+-- all of the bytes, with none after the lists
+unfoldable pub all_of : List ℕ → Result GameLists ℕ
+all_of bytes = do
+  mark ← mark_at bytes
+  version ← version_at mark.1
+  counts ← counts_at version.1
+  lists ← lists_at counts.0 counts.1
+  if length lists.1 == 0 then Ok lists.0 else Err (length lists.1)

@@ -1,0 +1,78 @@
+-- One row, read where it stands at the front of some bytes.
+use Rattle.std.specs.Prelude.{ℕ, zero, suc, ◌-◌, ◌==◌, List, [], ◌∷◌, length, take, Option, Some, None, Ok, Err, nat_lt, if◌then◌else◌}
+use Rattle.paw_base.specs.declared.parts.Condact.{Condact}
+use Rattle.paw_base.specs.declared.parts.ObjectFacts.{ObjectFacts}
+use Rattle.paw_game.specs.declared.parts.Exit.{Exit}
+use Rattle.paw_image.specs.Damage.{Passing, each}
+use Rattle.paw_image.specs.Reading.{◌>>=◌, Reading}
+use Rattle.paw_image.specs.inner.Reading.{text_at, facts_at, condact_at}
+
+-- the value that was read, where there is one
+abbrev pub value_of : {A : Type 0} → Reading A → Option A
+value_of (Ok x) = Some x.0
+value_of (Err left) = None
+
+-- what is said of an object beside its text, which stands at the front
+abbrev pub after_text_facts : List ℕ → Reading ObjectFacts
+after_text_facts bytes = text_at bytes >>= λ text. facts_at text.1
+
+-- what is said of the object at the front
+unfoldable pub facts_here : List ℕ → Option ObjectFacts
+facts_here bytes = value_of (after_text_facts bytes)
+
+-- the exit at the front, and the bytes after it
+abbrev pub exit_here : List ℕ → Option (Exit × List ℕ)
+exit_here [] = None
+exit_here (verb ∷ []) = None
+exit_here (verb ∷ to ∷ bytes) = Some (record { verb = verb; to = to }, bytes)
+
+abbrev pub led : ℕ → (List ℕ → Option ℕ) → Option (Exit × List ℕ) → Option ℕ
+led verb others None = None
+led verb others (Some x) = if x.0.verb == verb then Some x.0.to else others x.1
+
+-- of so many exits, where the first with this verb leads
+unfoldable pub exit_in : ℕ → ℕ → List ℕ → Option ℕ
+exit_in verb zero bytes = None
+exit_in verb (suc n) bytes = led verb (exit_in verb n) (exit_here bytes)
+
+-- where the exit for a verb leads, of the exits at the front
+unfoldable pub exits_here : ℕ → List ℕ → Option ℕ
+exits_here verb [] = None
+exits_here verb (count ∷ bytes) = exit_in verb count bytes
+
+-- the verb and the noun of the entry at the front
+unfoldable pub head_here : List ℕ → Option (ℕ × ℕ)
+head_here [] = None
+head_here (verb ∷ []) = None
+head_here (verb ∷ noun ∷ bytes) = Some (record { 0 = verb; 1 = noun })
+
+-- the bytes after a condact
+abbrev pub past_condact : List ℕ → Passing
+past_condact bytes = condact_at bytes >>= λ x. Ok x.1
+
+-- the condact after so many condacts
+abbrev pub condact_after : ℕ → List ℕ → Reading Condact
+condact_after count bytes = each past_condact count bytes >>= condact_at
+
+-- one of so many condacts
+abbrev pub condact_of : ℕ → ℕ → List ℕ → Option Condact
+condact_of at count bytes = if nat_lt at count then value_of (condact_after at bytes) else None
+
+-- a condact of the entry at the front
+unfoldable pub nth_condact : ℕ → List ℕ → Option Condact
+nth_condact at [] = None
+nth_condact at (verb ∷ []) = None
+nth_condact at (verb ∷ noun ∷ []) = None
+nth_condact at (verb ∷ noun ∷ count ∷ bytes) = condact_of at count bytes
+
+-- a row up to its rest
+abbrev pub up_to : List ℕ → Passing → Option (List ℕ)
+up_to row (Ok after) = Some (take (length row - length after) row)
+up_to row (Err left) = None
+
+-- the bytes of the entry at the front
+unfoldable pub entry_here : List ℕ → Option (List ℕ)
+entry_here [] = None
+entry_here (verb ∷ []) = None
+entry_here (verb ∷ noun ∷ []) = None
+entry_here (verb ∷ noun ∷ count ∷ bytes) = up_to (verb ∷ noun ∷ count ∷ bytes) (each past_condact count bytes)

@@ -1,0 +1,91 @@
+-- The game whose image some bytes are, where its rows stand in them, and what a view keeps of it.
+use Rattle.std.specs.Prelude.{◌≡◌, ℕ, ◌+◌, List, [], length, Option, Some, None, Result, Ok, Err, flat_map, slice_get}
+use Rattle.std.specs.List.{AllByRecursion}
+use Rattle.paw_base.specs.declared.parts.Counts.{Counts}
+use Rattle.paw_game.specs.declared.parts.Word.{Word}
+use Rattle.paw_game.specs.declared.parts.GamePart.{GamePart}
+use Rattle.paw_game.specs.declared.parts.GamePart.TheVariants as part
+use Rattle.paw_game.specs.Game.{GameLists}
+use Rattle.paw_game.specs.Image.{word_image, text_image, object_image, exits_image}
+use Rattle.paw_game.specs.inner.Tables.{counts_of, text_at}
+use Rattle.paw_image.specs.declared.places.Places.{Places}
+use Rattle.paw_image.specs.Images.{IsImage}
+use Rattle.paw_image.specs.inner.Orders.{IsOrder}
+use Rattle.paw_image.specs.inner.Places.{places, entry_places, entries_of}
+use Rattle.paw_image.specs.inner.Reading.{all_of}
+
+-- the game that was read; one with no rows where none was
+abbrev pub or_no_game : Result GameLists ℕ → GameLists
+or_no_game (Ok g) = g
+or_no_game (Err left) = record {
+  words = [];
+  system = [];
+  messages = [];
+  objects = [];
+  locations = [];
+  exits = [];
+  tables = [];
+}
+
+-- the game whose image the bytes are
+unfoldable pub game_of : List ℕ → GameLists
+game_of bytes = or_no_game (all_of bytes)
+
+-- ---- where the lists begin ----
+
+-- after the mark, the version, six counts, and the words
+abbrev pub system_begins : GameLists → ℕ
+system_begins g = 17 + length (flat_map word_image g.words)
+
+abbrev pub messages_begin : GameLists → ℕ
+messages_begin g = system_begins g + length (flat_map text_image g.system)
+
+abbrev pub objects_begin : GameLists → ℕ
+objects_begin g = messages_begin g + length (flat_map text_image g.messages)
+
+abbrev pub locations_begin : GameLists → ℕ
+locations_begin g = objects_begin g + length (flat_map object_image g.objects)
+
+abbrev pub exits_begin : GameLists → ℕ
+exits_begin g = locations_begin g + length (flat_map text_image g.locations)
+
+abbrev pub tables_begin_at : GameLists → ℕ
+tables_begin_at g = exits_begin g + length (flat_map exits_image g.exits)
+
+-- where the rows of the parts begin that have texts
+abbrev pub rows_begin : GameLists → GamePart → List ℕ
+rows_begin g part.Words = []
+rows_begin g part.System = places text_image (system_begins g) g.system
+rows_begin g part.Messages = places text_image (messages_begin g) g.messages
+rows_begin g part.Objects = places object_image (objects_begin g) g.objects
+rows_begin g part.Locations = places text_image (locations_begin g) g.locations
+rows_begin g part.Exits = []
+rows_begin g part.Tables = []
+
+-- between which places a text stands: its row begins with the two bytes of its length
+abbrev pub spanned : Option ℕ → Option (List ℕ) → Option (ℕ × ℕ)
+spanned None text = None
+spanned (Some at) None = None
+spanned (Some at) (Some text) = Some (record { 0 = at + 2; 1 = at + 2 + length text })
+
+abbrev pub span_at : GameLists → GamePart → ℕ → Option (ℕ × ℕ)
+span_at g p n = spanned (slice_get (rows_begin g p) n) (text_at g p n)
+
+-- ---- what a view keeps ----
+
+-- each table's entries are in order of verb and noun
+abbrev pub AreOrdered : List ℕ → Places → Type 0
+AreOrdered bytes p = AllByRecursion (λ t. IsOrder bytes t.entries.items t.order) p.tables.items
+
+-- bytes that are the image of a game; its counts and words; where its rows begin
+pub record IsIndex (bytes : List ℕ) (counts : Counts) (words : List Word) (p : Places) : Type 0 where
+  pub image : IsImage bytes (game_of bytes)
+  pub counted : counts ≡ counts_of (game_of bytes)
+  pub spelled : words ≡ (game_of bytes).words
+  pub system : p.system.items ≡ rows_begin (game_of bytes) part.System
+  pub messages : p.messages.items ≡ rows_begin (game_of bytes) part.Messages
+  pub objects : p.objects.items ≡ rows_begin (game_of bytes) part.Objects
+  pub locations : p.locations.items ≡ rows_begin (game_of bytes) part.Locations
+  pub exits : p.exits.items ≡ places exits_image (exits_begin (game_of bytes)) (game_of bytes).exits
+  pub tables : entries_of p.tables.items ≡ entry_places (tables_begin_at (game_of bytes)) (game_of bytes).tables
+  pub ordered : AreOrdered bytes p

@@ -1,0 +1,72 @@
+-- The buffers of a journal, and what it keeps of the slots of its store.
+use Rattle.std.specs.Prelude.{◌≡◌, ◌&&◌, ℕ, List, Option, Some, None, if◌then◌else◌}
+use Rattle.paw_journal.specs.declared.layout.Slot.{Slot}
+use Rattle.paw_journal.specs.declared.layout.Slot.TheVariants as which
+use Rattle.paw_journal.specs.declared.drafting.SlotState.{SlotState}
+use Rattle.paw_stage.specs.Stage.{Standing}
+use Rattle.paw_journal.specs.Session.{slot, is_second, number_at, slot_state, slot_shows}
+use Rattle.paw_journal.specs.inner.Session.{has_state}
+use Rattle.paw_journal.specs.Session.{stretch, piece_length}
+use Rattle.paw_journal.specs.inner.Session.{showing}
+
+-- The number of a slot.
+abbrev pub slot_number : Slot → ℕ
+slot_number which.First = 0
+slot_number which.Second = 1
+
+-- The state of a slot, with the number of its change records.
+abbrev pub state_in : List ℕ → SlotState
+state_in bytes = record { records = number_at 0 bytes; state = slot_state bytes }
+
+-- The same, for a commit to go on from; none where it has no state, or is
+-- of version 1.
+abbrev pub kept_slot : List ℕ → Option SlotState
+kept_slot bytes = if is_second bytes && has_state bytes then Some (state_in bytes) else None
+
+-- The bytes on their way to the store or from it, the state and the piece that the session shows, and the states of
+-- both slots.
+pub record Room : Type 0 where
+  pub slot : List ℕ
+  pub state : List ℕ
+  pub piece : List ℕ
+  pub first : Option SlotState
+  pub second : Option SlotState
+
+-- What a room keeps of a slot.
+abbrev pub kept_of : Slot → Room → Option SlotState
+kept_of which.First room = room.first
+kept_of which.Second room = room.second
+
+-- A room that keeps another state of a slot.
+abbrev pub with_kept : Slot → Option SlotState → Room → Room
+with_kept which.First kept room = record room { first = kept }
+with_kept which.Second kept room = record room { second = kept }
+
+-- A room that shows this state of the slot that was read, and the slot's piece, whose length the state tells.
+abbrev pub with_state : List ℕ → Room → Room
+with_state state room = record room { state = state; piece = stretch 4160 (piece_length state) room.slot }
+
+-- A room that keeps this state of both slots, which are made with it.
+abbrev pub with_made : List ℕ → Room → Room
+with_made state room = record room {
+  first = Some (record { records = 0; state = state });
+  second = Some (record { records = 0; state = state });
+}
+
+-- The slot that was read is this slot of the store.
+abbrev pub HasRead : Slot → Standing → Room → Type 0
+HasRead which s room = room.slot ≡ slot (slot_number which) s.disk.bytes
+
+-- The room shows what the slot shows that was read.
+abbrev pub ShowsSlot : List ℕ → Room → Room → Type 0
+ShowsSlot digest old new = slot_shows digest old.slot ≡ showing digest new.state new.piece
+
+-- The room keeps the state of this slot, which was read, and may show another state and piece.
+abbrev pub KeepsRead : Slot → Room → Room → Type 0
+KeepsRead which old new =
+    new ≡ with_kept which (kept_slot old.slot) (record old { state = new.state; piece = new.piece })
+
+-- A room keeps the states of both slots of a store.
+pub record KeepsSlots (room : Room) (bytes : List ℕ) : Type 0 where
+  pub first : room.first ≡ kept_slot (slot 0 bytes)
+  pub second : room.second ≡ kept_slot (slot 1 bytes)

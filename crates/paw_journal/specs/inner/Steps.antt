@@ -1,0 +1,113 @@
+-- What the steps of a journal's calls leave.
+use Rattle.std.specs.Prelude.{◌≡◌, ◌⊎◌, ℕ, ◌+◌, ◌-◌, ◌*◌, ◌/◌, ◌%◌, ◌<◌, ◌≤◌, List, [], ◌∷◌, length, slice_index, true}
+use Rattle.std.specs.Prelude.{false, Option, Some, None}
+use Rattle.paw_stage.specs.Disk.{Disk, is_dirty, put}
+use Rattle.paw_stage.specs.Stage.{Standing}
+use Rattle.paw_journal.specs.declared.drafting.SlotState.{SlotState}
+use Rattle.paw_journal.specs.declared.drafting.Draft.{Draft}
+use Rattle.paw_journal.specs.declared.layout.Slot.{Slot}
+use Rattle.paw_journal.specs.declared.finding.Header.{Header}
+use Rattle.paw_journal.specs.Session.{session_length, header_length, slot_length, made_mark, mark, chosen, version}
+use Rattle.paw_journal.specs.Session.{is_version}
+use Rattle.paw_journal.specs.Session.{kept_digest, changes, changed, first_unsound, slot, recover}
+use Rattle.paw_journal.specs.inner.Session.{showing}
+use Rattle.paw_journal.specs.inner.Session.{made_session}
+use Rattle.paw_journal.specs.inner.Room.{slot_number, kept_slot}
+use Rattle.paw_journal.specs.inner.Written.{differing, most_written}
+use Rattle.paw_journal.specs.inner.Store.{IsBeside, shown_by}
+
+-- A session is made of these bytes.
+pub record IsMade (bytes : List ℕ) : Type 0 where
+  pub long : length bytes ≡ session_length
+  pub marked : mark bytes ≡ made_mark
+  pub versioned : is_version (version bytes) ≡ true
+
+-- The store has these bytes, and no crash leaves the mark of a session: byte 0 is stable, and it is 0.
+pub record IsBlank (held : List ℕ) (d : Disk) : Type 0 where
+  pub bytes : d.bytes ≡ held
+  pub long : 1 ≤ length d.synced
+  pub blank : mark d.bytes ≡ 0
+  pub clean : is_dirty d.dirty 0 ≡ false
+
+-- What a header tells of a session that is made of these bytes: the slot in use, and the digest of the game.
+pub record Introduces (number : ℕ) (game : List ℕ) (bytes : List ℕ) : Type 0 where
+  pub made : IsMade bytes
+  pub slot : number ≡ chosen bytes
+  pub digest : game ≡ kept_digest bytes
+
+-- The store is as long as it was, and of its bytes only those from one place up to another may differ.
+pub record IsWithin (lo hi : ℕ) (old : List ℕ) (d : Disk) : Type 0 where
+  pub long : length d.bytes ≡ length old
+  pub synced : length d.synced ≡ length old
+  pub longest : d.longest ≡ length old
+  pub same : (i : ℕ) → (i < lo) ⊎ (hi ≤ i) → slice_index d.bytes i ≡ slice_index old i
+  pub clean : (i : ℕ) → (i < lo) ⊎ (hi ≤ i) → is_dirty d.dirty i ≡ false
+
+-- The first byte of a slot in a session.
+abbrev pub start_of : ℕ → ℕ
+start_of k = header_length + slot_length * k
+
+-- A session was made and at rest, and since then only this slot was written, which isn't in use.
+pub record IsFilling (k : ℕ) (old new : Standing) : Type 0 where
+  pub low : k < 2
+  pub made : IsMade old.disk.bytes
+  pub other : chosen old.disk.bytes ≡ 1 - k
+  pub beside : IsBeside old new
+  pub within : IsWithin (start_of k) (start_of k + slot_length) old.disk.bytes new.disk
+
+-- A session that is being filled still is.
+abbrev pub KeepsFilling : ℕ → Standing → Standing → Type 0
+KeepsFilling k old new = (first : Standing) → IsFilling k first old → IsFilling k first new
+
+-- A slot is what this makes of it.
+abbrev pub Fills : Slot → (List ℕ → List ℕ) → Standing → Standing → Type 0
+Fills which filled old new = slot (slot_number which) new.disk.bytes ≡ filled (slot (slot_number which) old.disk.bytes)
+
+-- Both slots are as they were, and the digest of the game is.
+abbrev pub SameSlots : Standing → Standing → Type 0
+SameSlots old new = (k : ℕ) → k < 2 → slot k new.disk.bytes ≡ slot k old.disk.bytes
+
+abbrev pub SameDigest : Standing → Standing → Type 0
+SameDigest old new = kept_digest new.disk.bytes ≡ kept_digest old.disk.bytes
+
+-- The session shows what this slot showed.
+abbrev pub ChoosesSlot : Slot → Standing → Standing → Type 0
+ChoosesSlot which old new = recover new.disk.bytes ≡ shown_by (slot_number which) old
+
+-- The session shows this state and this piece, of the game of this digest.
+abbrev pub Shows : List ℕ → List ℕ → List ℕ → Standing → Type 0
+Shows digest state piece s = recover s.disk.bytes ≡ showing digest state piece
+
+-- The session shows this state and this piece, of the game that it is of.
+abbrev pub ShowsNext : List ℕ → List ℕ → Standing → Standing → Type 0
+ShowsNext state piece old new = Shows (kept_digest old.disk.bytes) state piece new
+
+-- The store holds the session as it is made.
+abbrev pub HoldsMade : List ℕ → List ℕ → List ℕ → Standing → Type 0
+HoldsMade digest state piece s = s.disk.bytes ≡ made_session digest state piece
+
+-- What a header tells of a session with these bytes.
+abbrev pub IsHeaderOf : List ℕ → Header → Type 0
+IsHeaderOf bytes header = Introduces (slot_number header.slot) header.digest bytes
+
+-- Change records that make one state of another, one for each position that differs.
+pub record Turns (old new records : List ℕ) : Type 0 where
+  pub many : length records ≡ 4 * differing old new
+  pub sound : first_unsound (changes records) ≡ None
+  pub turned : changed (changes records) old ≡ new
+
+-- The first bytes of a slot of version 2 with so many change records.
+abbrev pub slot_head : ℕ → List ℕ
+slot_head records = (records % 256) ∷ (records / 256) ∷ 2 ∷ []
+
+-- The bytes of a slot once a commit has written it.
+abbrev pub written_slot : Draft → List ℕ → List ℕ → List ℕ → List ℕ
+written_slot draft bytes piece old = put 0 (slot_head draft.records) (put 4160 piece (put draft.at bytes old))
+
+-- What a commit writes into a slot beside its head and the piece: so that the slot has this state, and no more bytes
+-- than a commit may write.
+pub record Drafts (kept : Option SlotState) (state bytes : List ℕ) (draft : Draft) : Type 0 where
+  pub inside : draft.at + length bytes ≤ slot_length
+  pub gives : (old piece : List ℕ) → length old ≡ slot_length → kept_slot old ≡ kept → length piece ≤ 65535 →
+      kept_slot (written_slot draft bytes piece old) ≡ Some (record { records = draft.records; state = state })
+  pub few : (piece : List ℕ) → length bytes + length piece + 4 ≤ most_written kept state piece

@@ -1,0 +1,88 @@
+-- Calls that move the attached store alone.
+use Rattle.std.specs.Prelude.{◌≡◌, ◌≢◌, ◌⊎◌, ℕ, ◌-◌, List, ◌++◌, length, Some}
+use Rattle.paw_stage.specs.Disk.{Disk, MayLeave, stable}
+use Rattle.paw_stage.specs.Stage.{Standing, file_bytes, opened}
+use Rattle.paw_stage.specs.Moments.{Moment}
+use Rattle.paw_journal.specs.declared.layout.Slot.{Slot}
+use Rattle.paw_journal.specs.declared.store.Attached.{Attached}
+use Rattle.paw_journal.specs.Session.{Recovered, IsUnmade, recover, recover_by, kept_digest}
+use Rattle.paw_journal.specs.inner.Session.{showing, marked}
+use Rattle.paw_journal.specs.inner.Room.{slot_number}
+
+-- All but the attached store stands as it did. Where its file held the bytes of the store, it still does.
+pub record IsBeside (old new : Standing) : Type 0 where
+  pub lines : new.lines ≡ old.lines
+  pub asked : new.asked ≡ old.asked
+  pub shown : new.shown ≡ old.shown
+  pub attached : new.attached ≡ old.attached
+  pub files : (n : List ℕ) → old.attached ≢ Some n → new.files n ≡ old.files n
+  pub file : (n : List ℕ) → old.attached ≡ Some n → old.files n ≡ Some old.disk.bytes →
+      new.files n ≡ Some new.disk.bytes
+
+-- At a moment inside a call that moves the attached store alone: all else is as it was, and the disk is such.
+pub record InStore (old : Standing) (Inside : Disk → Type 0) (m : Moment) : Type 0 where
+  pub asked : m.asked ≡ old.asked
+  pub shown : m.shown ≡ old.shown
+  pub attached : m.attached ≡ old.attached
+  pub files : (n : List ℕ) → old.attached ≢ Some n → m.files n ≡ old.files n
+  pub disk : Inside m.disk
+
+-- Whatever a crash leaves of the disk stands for such a session.
+abbrev pub Leaves : (Recovered → Type 0) → Disk → Type 0
+Leaves Such d = (image : List ℕ) → MayLeave d image → Such (recover image)
+
+-- What the store stands for if it chooses this slot.
+abbrev pub shown_by : ℕ → Standing → Recovered
+shown_by k s = recover_by k s.disk.bytes
+
+-- One of two.
+abbrev pub IsEither : Recovered → Recovered → Recovered → Type 0
+IsEither old new r = (r ≡ old) ⊎ (r ≡ new)
+
+-- No session, or this one.
+abbrev pub IsUnmadeOr : Recovered → Recovered → Type 0
+IsUnmadeOr made r = IsUnmade r ⊎ (r ≡ made)
+
+-- What attaching the store of this name did, which then has this length.
+abbrev pub Opens : Standing → Standing → List ℕ → Attached → Type 0
+Opens old new name at = (at.length ≡ length (file_bytes old name)) × (new ≡ opened name old)
+
+-- The store holds these bytes, and a crash leaves just these.
+abbrev pub HoldsStable : List ℕ → Standing → Type 0
+HoldsStable bytes s = s.disk ≡ stable bytes
+
+-- Both slots were written with these bytes, behind all that stood.
+abbrev pub LaysSlots : List ℕ → Standing → Standing → Type 0
+LaysSlots bytes old new = HoldsStable (old.disk.bytes ++ bytes ++ bytes) new
+
+-- ---- at a moment inside a call that moves the attached store alone ----
+
+-- A crash leaves no session.
+abbrev pub LeavesUnmade : Standing → Moment → Type 0
+LeavesUnmade old m = InStore old (Leaves IsUnmade) m
+
+-- A crash leaves no session, or one that shows this.
+abbrev pub LeavesUnmadeOr : Recovered → Standing → Moment → Type 0
+LeavesUnmadeOr made old m = InStore old (Leaves (IsUnmadeOr made)) m
+
+-- A crash leaves no session, or the one that is made with this state and this piece.
+abbrev pub LeavesMade : List ℕ → List ℕ → List ℕ → Standing → Moment → Type 0
+LeavesMade digest state piece old m = LeavesUnmadeOr (showing digest state piece) old m
+
+-- A crash leaves no session, or the one that stands there once it is marked.
+abbrev pub LeavesMarked : Standing → Moment → Type 0
+LeavesMarked old m = LeavesUnmadeOr (recover (marked old.disk.bytes)) old m
+
+-- A crash leaves what the session showed before.
+abbrev pub LeavesSame : Standing → Moment → Type 0
+LeavesSame old m = InStore old (Leaves (λ r. r ≡ recover old.disk.bytes)) m
+
+-- A crash leaves what the one slot shows, or the other.
+abbrev pub LeavesSlot : Slot → Standing → Moment → Type 0
+LeavesSlot which old m =
+    InStore old (Leaves (IsEither (shown_by (1 - slot_number which) old) (shown_by (slot_number which) old))) m
+
+-- A crash leaves what the session showed before, or this state and this piece of its game.
+abbrev pub LeavesOldOr : List ℕ → List ℕ → Standing → Moment → Type 0
+LeavesOldOr state piece old m =
+    InStore old (Leaves (IsEither (recover old.disk.bytes) (showing (kept_digest old.disk.bytes) state piece))) m

@@ -1,0 +1,222 @@
+-- What stands on the way, inside a call.
+use Rattle.std.specs.Prelude.{◌≡◌, ◌≢◌, ◌⊎◌, ℕ, suc, ◌+◌, ◌-◌, ◌<◌, ◌≤◌, List, [], ◌++◌, length, take, flat_map}
+use Rattle.std.specs.Prelude.{reverse, Option, Some, None, Result, Ok, Err}
+use Rattle.std.specs.Fn.{Shared}
+use Rattle.paw_base.specs.Steps.{KeptSteps}
+use Rattle.paw_base.specs.declared.limits.TheConstants.{STEP_LIMIT}
+use Rattle.paw_stage.specs.Disk.{IsStable}
+use Rattle.paw_stage.specs.Stage.{Standing}
+use Rattle.paw_stage.specs.Moments.{Moment}
+use Rattle.paw_stage.specs.declared.StageCall.TheVariants as call
+use Rattle.paw_game.specs.Game.{GameLists}
+use Rattle.paw_routines.specs.Routines.{AreRowsOf}
+use Rattle.paw_routines.specs.declared.routines.Routines.{Routines}
+use Rattle.paw_effects.specs.Story.{Story, story_of}
+use Rattle.paw_effects.specs.declared.act.Prompt.{Prompt}
+use Rattle.paw_effects.specs.declared.act.Prompt.TheVariants as prompt
+use Rattle.paw_reading.specs.Run.{Run, Step as Read}
+use Rattle.paw_reading.specs.Reading.{RunsOut, CallsTooDeep}
+use Rattle.paw_reading.specs.Turn.{Halted, reading, on, text_of}
+use Rattle.paw_turn.specs.inner.Player.{Seat, run_at}
+use Rattle.paw_turn.specs.inner.Parts.{prompt_at}
+use Rattle.paw_turn.specs.declared.Step.{Step}
+use Rattle.paw_turn.specs.declared.Step.TheVariants as step
+use Rattle.paw_journal.specs.Session.{Recovered, Shown, recover, kept_digest}
+use Rattle.paw_journal.specs.inner.Store.{InStore, Leaves, IsEither}
+use Rattle.paw_journal.specs.declared.refusal.JournalRefusal.{JournalRefusal}
+use Rattle.paw_journal.specs.declared.refusal.JournalRefusal.TheVariants as refusal
+use Rattle.paw_state.specs.inner.State.{state_of}
+use Rattle.paw_play.specs.declared.PlayEnd.{PlayEnd}
+use Rattle.paw_play.specs.declared.PlayEnd.TheVariants as end
+use Rattle.paw_play.specs.declared.TheConstants.{MOST_EVENTS}
+use Rattle.paw_play.specs.Session.{kept_bytes}
+use Rattle.paw_play.specs.Walk.{Reading, first_lines, played, joined, text_before, Walks}
+use Rattle.paw_play.specs.Traces.{step_line, more_line, traced_pieces, traced}
+use Rattle.paw_play.specs.Keeping.{InMakingOf, RestsWith}
+use Rattle.paw_play.specs.Play.{Played, KeptBy, InPlay, PlaysOn, PlaysIn, with_store}
+
+-- ---- a walk ----
+
+-- the bytes of the state of a player, after so many lines of its session
+abbrev pub seat_state : {F : Type 0} → ℕ → Seat F → List ℕ
+seat_state events p = kept_bytes (state_of p.world p.machine p.pending (prompt_at p.last) events (length p.piece))
+
+-- the walk is at a prompt: n lines were taken, these pieces were shown, and whatever lines come, the reading of all
+-- goes on from the player
+pub record IsWalking {F : Type 0} (g : Story) (whole : Reading) (old now : Standing) (seat : Seat F) (n : ℕ) : Type 0 where
+  pub prompt : Prompt
+  pub waits : seat.last ≡ step.Waits prompt
+  pub pieces : List (List ℕ)
+  pub traces : List (List Read)
+  pub goes_on : (more : List (List ℕ)) →
+      whole (first_lines n old.lines ++ more) ≡ on g prompt (reverse seat.machine.frames) (run_at seat pieces traces more)
+  pub there : n ≤ length old.lines
+  pub stands : now ≡ played old n (joined pieces)
+
+-- a step that brings a piece
+abbrev pub ShowsPiece : Step → Type 0
+ShowsPiece (step.Waits p) = Unit {0}
+ShowsPiece step.Ended = Unit {0}
+ShowsPiece (step.Spent kind) = ⊥
+ShowsPiece (step.TooDeep table) = ⊥
+
+-- what a step comes to that brings no piece
+abbrev pub refusal_of : Step → Option PlayEnd
+refusal_of (step.Waits p) = None
+refusal_of step.Ended = None
+refusal_of (step.Spent kind) = Some (end.Spent kind)
+refusal_of (step.TooDeep table) = Some (end.TooDeep table)
+
+-- what showing a step's piece does: it is shown where the player waits or is over, and then no other line may be asked
+-- for where it is over; nothing is shown of a piece that is spent or of a call too deep; or a part is shown of a piece
+-- that isn't empty, and the call failed
+abbrev pub Told : Standing → Standing → List ℕ → Step → Option PlayEnd → Type 0
+Told old new piece s None = (p : Prompt) × (s ≡ step.Waits p) × (new ≡ record old { shown = old.shown ++ piece })
+Told old new piece s (Some end.Ended) = (s ≡ step.Ended) × (new ≡ record old { shown = old.shown ++ piece })
+Told old new piece s (Some (end.Spent kind)) = (s ≡ step.Spent kind) × (new ≡ old)
+Told old new piece s (Some (end.TooDeep table)) = (s ≡ step.TooDeep table) × (new ≡ old)
+Told old new piece s (Some (end.Outside call.Show)) =
+    ShowsPiece s × (0 < length piece) × (n : ℕ) × (new ≡ record old { shown = old.shown ++ take n piece })
+Told old new piece s (Some _) = ⊥
+
+-- after one line more: the walk is at the next prompt, or has come to this
+abbrev pub WalksOn : {F : Type 0} → Story → Reading → ℕ → Standing → Standing → Seat F → ℕ → Option PlayEnd → Type 0
+WalksOn g whole most first now seat n None = IsWalking g whole first now seat (suc n)
+WalksOn g whole most first now seat n (Some o) = Walks whole most first now o
+
+-- after piece 0
+abbrev pub WalksFrom : {F : Type 0} → Story → Reading → ℕ → Standing → Standing → Seat F → Option PlayEnd → Type 0
+WalksFrom g whole most old now seat None = IsWalking g whole old now seat 0
+WalksFrom g whole most old now seat (Some o) = Walks whole most old now o
+
+-- ---- a trace ----
+
+-- the text of the steps that are kept
+abbrev pub kept_text : KeptSteps → List ℕ
+kept_text kept = flat_map step_line (take STEP_LIMIT kept.rows) ++ more_line (kept.count - STEP_LIMIT)
+
+-- what a trace shows of a player's last piece
+abbrev pub seat_text : {F : Type 0} → Seat F → List ℕ
+seat_text p = kept_text p.machine.steps ++ p.piece
+
+-- the trace is at a prompt: as a walk, but that each piece was shown behind the text of its steps
+pub record IsTracing {F : Type 0} (g : Story) (whole : Reading) (old now : Standing) (seat : Seat F) (n : ℕ) : Type 0 where
+  pub prompt : Prompt
+  pub waits : seat.last ≡ step.Waits prompt
+  pub pieces : List (List ℕ)
+  pub traces : List (List Read)
+  pub each : length traces ≡ length pieces
+  pub goes_on : (more : List (List ℕ)) →
+      whole (first_lines n old.lines ++ more) ≡ on g prompt (reverse seat.machine.frames) (run_at seat pieces traces more)
+  pub there : n ≤ length old.lines
+  pub stands : now ≡ played old n (joined (traced_pieces pieces traces))
+
+-- after one line more: the trace is at the next prompt, or has come to this
+abbrev pub TracesOn : {F : Type 0} → Story → Reading → ℕ → Standing → Standing → Seat F → ℕ → Option PlayEnd → Type 0
+TracesOn g whole most old now seat n None = IsTracing g whole old now seat (suc n)
+TracesOn g whole most old now seat n (Some o) = Walks (traced whole) most old now o
+
+-- after piece 0: the trace is at the first prompt, or has come to this
+abbrev pub TracesFrom : {F : Type 0} → Story → Reading → ℕ → Standing → Standing → Seat F → Option PlayEnd → Type 0
+TracesFrom g whole most old now seat None = IsTracing g whole old now seat 0
+TracesFrom g whole most old now seat (Some o) = Walks (traced whole) most old now o
+
+-- ---- a session ----
+
+-- the session of a game that is played from its start
+abbrev pub new_session : Story → ℕ → List ℕ → List ℕ → Played
+new_session g seed digest name = record { whole = reading g seed; before = 0; digest = digest; name = name }
+
+-- the store is at rest, and keeps the first n lines
+abbrev pub Rests : Played → Standing → Standing → ℕ → Type 0
+Rests s old new n = RestsWith (KeptBy s old.lines) s.before s.name old new n
+
+-- a moment at which the session is made
+abbrev pub InMaking : Played → Standing → Moment → Type 0
+InMaking s old m = InMakingOf (KeptBy s old.lines) s.name old m
+
+-- what making a new session in the attached store and playing it comes to
+abbrev pub PlaysInStore : Played → Standing → Standing → PlayEnd → Type 0
+PlaysInStore s old new o = PlaysIn (KeptBy s old.lines) s.whole s.name old new o
+
+-- The session is at a prompt: the walk is, the store keeps all lines that were taken, and the text of the last piece
+-- came last.
+pub record IsPlaying {F : Type 0} (g : Story) (s : Played) (first now : Standing) (seat : Seat F) (n : ℕ) : Type 0 where
+  pub walking : IsWalking g s.whole (with_store now first) now seat n
+  pub rests : Rests s first now n
+  pub digest : kept_digest now.disk.bytes ≡ s.digest
+  pub last : List ℕ
+  pub grown : text_of (s.whole (first_lines n first.lines)) ≡ text_before s.whole first.lines n ++ last
+
+-- after one line more: the session is at the next prompt, or playing on has come to this
+abbrev pub PlaysTo : {A F : Type 0} → Story → Played → ℕ → Standing → Standing → Seat F → ℕ → Result A PlayEnd → Type 0
+PlaysTo g s most first now seat n (Ok a) = IsPlaying g s first now seat (suc n)
+PlaysTo g s most first now seat n (Err o) = PlaysOn s most first now o
+
+-- the store of this name is attached and at rest, and its file holds its bytes
+pub record IsStore (name : List ℕ) (s : Standing) : Type 0 where
+  pub attached : s.attached ≡ Some name
+  pub stable : IsStable s.disk
+  pub file : s.files name ≡ Some s.disk.bytes
+
+-- what making a new session comes to, once its store is attached
+abbrev pub BegunAs : Played → Standing → Standing → PlayEnd → Type 0
+BegunAs s first now (end.Spent kind) = (r : Run) × (s.whole [] ≡ Halted (RunsOut kind) r) × (now ≡ first)
+BegunAs s first now (end.TooDeep table) = (r : Run) × (s.whole [] ≡ Halted (CallsTooDeep table) r) × (now ≡ first)
+BegunAs s first now (end.Outside call.Write) = now ≡ with_store now first
+BegunAs s first now (end.Outside call.Sync) = now ≡ with_store now first
+BegunAs s first now o = PlaysOn s MOST_EVENTS first now o
+
+-- the session is at its first prompt, or making it has come to this
+abbrev pub Begins : {A F : Type 0} → Story → Played → Standing → Standing → Seat F → Result A PlayEnd → Type 0
+Begins g s first now seat (Ok a) = IsPlaying g s first now seat 0
+Begins g s first now seat (Err o) = BegunAs s first now o
+
+-- what showing a piece again does: the session waits at its prompt, or is over, or a part was shown and the call failed
+abbrev pub ShowsAgain : Standing → Standing → List ℕ → Prompt → Option PlayEnd → Type 0
+ShowsAgain old new piece p None = (p ≢ prompt.Over) × (new ≡ record old { shown = old.shown ++ piece })
+ShowsAgain old new piece p (Some end.Ended) = (p ≡ prompt.Over) × (new ≡ record old { shown = old.shown ++ piece })
+ShowsAgain old new piece p (Some (end.Outside call.Show)) = (0 < length piece) × (n : ℕ) × (new ≡ record old { shown = old.shown ++ take n piece })
+ShowsAgain old new piece p (Some _) = ⊥
+
+-- what playing comes to where a session isn't found
+abbrev pub end_of : JournalRefusal → PlayEnd
+end_of (refusal.Unmade n mark) = end.Refused (refusal.Unmade n mark)
+end_of (refusal.Damaged part at) = end.Refused (refusal.Damaged part at)
+end_of (refusal.WrongGame kept found) = end.Refused (refusal.WrongGame kept found)
+end_of (refusal.Outside c) = end.Outside c
+
+-- ---- facts of what is under way ----
+
+-- a fact of the game's story, whatever rows stand for its routines
+abbrev pub EachStory : {F : Type 0} → Shared F (ℕ × (ℕ × Unit {0})) ℕ → Routines F → GameLists →
+    (Story → Type 0) → Type 0
+EachStory calls routines game Holds = (X : List (List ℕ)) → AreRowsOf calls routines X → Holds (story_of game X)
+
+-- a fact of each session that is at its prompt with this player, after so many lines in all: n were taken since `first`
+-- stood, of at most `most`
+abbrev pub EachPlaying : {F : Type 0} → Story → Seat F → ℕ → Standing → (Played → ℕ → ℕ → Standing → Type 0) → Type 0
+EachPlaying g seat events now Holds =
+    (s : Played) (most n : ℕ) (first : Standing) → IsPlaying g s first now seat n → events ≡ s.before + n → n < most →
+    Holds s most n first
+
+-- a fact of each session that is at the prompt that it begins at or is taken up at, after so many lines in all
+abbrev pub EachStarting : {F : Type 0} → Story → Seat F → ℕ → Standing → (Played → Standing → Type 0) → Type 0
+EachStarting g seat events now Holds =
+    (s : Played) (first : Standing) → IsPlaying g s first now seat 0 → events ≡ s.before → Holds s first
+
+-- a moment at which a new session is made or played
+abbrev pub InNew : Played → Standing → Moment → Type 0
+InNew s old m = InMaking s old m ⊎ InPlay s old m
+
+-- what the session of a store shows that a player was committed to, after so many lines
+abbrev pub committed : {F : Type 0} → ℕ → Seat F → Standing → Recovered
+committed events seat s = Shown (kept_digest s.disk.bytes) (seat_state events seat) seat.piece
+
+-- the player was committed to the session
+abbrev pub Commits : {F : Type 0} → ℕ → Seat F → Standing → Standing → Type 0
+Commits events seat old new = recover new.disk.bytes ≡ committed events seat old
+
+-- a moment at which a crash leaves what the session showed before, or the player
+abbrev pub InCommit : {F : Type 0} → ℕ → Seat F → Standing → Moment → Type 0
+InCommit events seat old m = InStore old (Leaves (IsEither (recover old.disk.bytes) (committed events seat old))) m

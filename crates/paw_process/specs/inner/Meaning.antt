@@ -1,0 +1,119 @@
+-- What a machine's answers mean in the reading.
+use Rattle.std.specs.Prelude.{◌≡◌, ◌⊎◌, ℕ, ◌+◌, Bool, false, List, [], ◌∷◌, ◌++◌, length, reverse}
+use Rattle.paw_effects.specs.Story.{Story}
+use Rattle.paw_game.specs.Valid.{Valid}
+use Rattle.paw_world.specs.World.{World}
+use Rattle.paw_phrase.specs.Pending.{PendingLine}
+use Rattle.paw_effects.specs.declared.act.Prompt.TheVariants as prompt
+use Rattle.paw_reading.specs.declared.places.Frame.{Frame}
+use Rattle.paw_reading.specs.Run.{Run, Step, closed, is_ignored, heard, reply, is_yes}
+use Rattle.paw_reading.specs.Reading.{Halt, RunsOut, CallsTooDeep, Redescribes, Out, Left, Stopped, halts, rest}
+use Rattle.paw_reading.specs.GoingOn.{on_path}
+use Rattle.paw_reading.specs.inner.GoingOn.{along}
+use Rattle.paw_process.specs.OpenTables.{OpenTables}
+use Rattle.paw_process.specs.inner.OpenTables.{HasRead, IsWaiting, IsClosed}
+use Rattle.paw_process.specs.declared.Turned.{Turned}
+use Rattle.paw_process.specs.declared.Turned.TheVariants as turned
+
+-- ---- what is held ----
+
+-- what is held between two stops: the world, the pending line, the machine, and the text of the open piece
+pub record Held : Type 0 where
+  pub world : World
+  pub pending : PendingLine
+  pub machine : OpenTables
+  pub piece : List ℕ
+
+abbrev pub held : World → PendingLine → OpenTables → List ℕ → Held
+held w p m piece = record { world = w; pending = p; machine = m; piece = piece }
+
+-- a run shows what is held, with the condacts that the open piece has read
+pub record Shows (r : Run) (h : Held) : Type 0 where
+  pub world : r.world ≡ h.world
+  pub pending : r.pending ≡ h.pending.bytes
+  pub earlier : r.earlier ≡ h.pending.earlier
+  pub turning : r.turning ≡ h.machine.turning
+  pub current : r.current ≡ h.piece
+  pub read : HasRead r.read h.machine
+
+-- the run with what is held now
+abbrev pub showing : Held → Run → Run
+showing h r = record r {
+  world = h.world;
+  pending = h.pending.bytes;
+  earlier = h.pending.earlier;
+  turning = h.machine.turning;
+  current = h.piece;
+}
+
+-- the run with these condacts read besides
+abbrev pub with_steps : List Step → Run → Run
+with_steps steps r = record r { read = r.read ++ steps }
+
+-- the run with these lines to come
+abbrev pub to_come : List (List ℕ) → Run → Run
+to_come lines r = record r { events = lines }
+
+-- ---- going on ----
+
+-- going on in the tables that are open, the innermost first
+abbrev pub going_on : Story → List Frame → Run → Out
+going_on g [] r = Left false r
+going_on g (f ∷ fs) r = along g fs (rest g (length fs) f.table f.entry f.at f.acted r)
+
+-- the closed pieces, what was read in them, and the lines to come are the same
+pub record SamePast (old new : Run) : Type 0 where
+  pub pieces : new.pieces ≡ old.pieces
+  pub traces : new.traces ≡ old.traces
+  pub events : new.events ≡ old.events
+
+-- the reading ends so for good, in a run with the same past; what world and piece then hold is open
+abbrev pub TableHalts : Halt → Run → Out → Type 0
+TableHalts halt r x = (s : Run) × (x ≡ halts halt s) × SamePast r s
+
+-- What a reading comes to, where the machine turned out so, with these frames and this run: the outermost table was
+-- left; the location is described again; the piece is closed, and the run goes on at the prompt along the frames; or
+-- the piece is spent or a call too deep
+abbrev pub ComesTo : Story → Turned → List Frame → Run → Out → Type 0
+ComesTo g (turned.Left acted) fs r x = x ≡ Left acted r
+ComesTo g turned.Redescribe fs r x = x ≡ Stopped Redescribes r
+ComesTo g (turned.Waits p) fs r x = x ≡ on_path g p 0 (reverse fs) (closed r)
+ComesTo g (turned.Spent kind) fs r x = TableHalts (RunsOut kind) r x
+ComesTo g (turned.TooDeep u) fs r x = TableHalts (CallsTooDeep u) r x
+
+-- Running on from what was held to what is held now: for every run that shows what was held there are the condacts that
+-- were read besides, of which the machine keeps the steps, so that whatever lines come, going on comes to what is said
+abbrev pub RunsTo : Story → Held → Turned → Held → Type 0
+RunsTo g old t new =
+    (r : Run) → Shows r old → (steps : List Step) × HasRead (r.read ++ steps) new.machine
+    × ((lines : List (List ℕ)) →
+    ComesTo g t new.machine.frames (to_come lines (showing new (with_steps steps r))) (going_on g old.machine.frames (to_come lines r)))
+
+-- after a stop the machine waits, or nothing is open
+abbrev pub IsStopped : Turned → OpenTables → Type 0
+IsStopped (turned.Left acted) m = IsClosed m
+IsStopped turned.Redescribe m = IsClosed m
+IsStopped (turned.Waits p) m = IsWaiting p m
+IsStopped (turned.Spent kind) m = IsClosed m
+IsStopped (turned.TooDeep u) m = IsClosed m
+
+-- ---- answers ----
+
+-- the machine waits for the answer to QUIT, or for a key
+abbrev pub AwaitsAnswer : OpenTables → Type 0
+AwaitsAnswer m = IsWaiting prompt.Quit m ⊎ IsWaiting prompt.Key m
+
+-- In each valid game, going on along these frames from QUIT's question with a line that answers so is going on in the
+-- new frames once the line is heard
+abbrev pub AnswersQuit : Bool → List Frame → List Frame → Type 0
+AnswersQuit agrees old new =
+    (g : Story) (line : List ℕ) (lines : List (List ℕ)) (r : Run) →
+    Valid g.game → is_ignored r.world line ≡ false → is_yes (reply line) ≡ agrees →
+    on_path g prompt.Quit 0 (reverse old) (to_come (line ∷ lines) r) ≡ going_on g new (heard line (to_come lines r))
+
+-- so is going on from a key with any line
+abbrev pub AnswersKey : List Frame → List Frame → Type 0
+AnswersKey old new =
+    (g : Story) (line : List ℕ) (lines : List (List ℕ)) (r : Run) →
+    is_ignored r.world line ≡ false →
+    on_path g prompt.Key 0 (reverse old) (to_come (line ∷ lines) r) ≡ going_on g new (heard line (to_come lines r))

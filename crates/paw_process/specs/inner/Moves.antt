@@ -1,0 +1,106 @@
+-- What each move of the machine makes of the reading.
+use Rattle.std.specs.Prelude.{◌≡◌, ℕ, suc, ◌+◌, ◌++◌, Bool, true, false, List, Option, Some, None, length}
+use Rattle.paw_base.specs.declared.parts.Condact.{Condact}
+use Rattle.paw_effects.specs.Story.{Story}
+use Rattle.paw_world.specs.World.{World}
+use Rattle.paw_phrase.specs.declared.Found.{Found}
+use Rattle.paw_phrase.specs.declared.Found.TheVariants as found
+use Rattle.paw_phrase.specs.Pending.{PendingLine}
+use Rattle.paw_effects.specs.declared.act.Effect.{Effect}
+use Rattle.paw_reading.specs.declared.places.Frame.{Frame}
+use Rattle.paw_reading.specs.declared.places.OpenLoop.{OpenLoop}
+use Rattle.paw_reading.specs.Run.{Run, Step}
+use Rattle.paw_reading.specs.Reading.{Out, again, turns, looped, deeper, plain, inside, after_action, step_at, noted, reads_one}
+use Rattle.paw_reading.specs.inner.GoingOn.{along}
+use Rattle.paw_process.specs.OpenTables.{OpenTables}
+use Rattle.paw_process.specs.inner.OpenTables.{HasRead, ReadsStep, IsReading}
+use Rattle.paw_process.specs.inner.Meaning.{Held, showing, with_steps, to_come, going_on, ComesTo, IsStopped}
+use Rattle.paw_process.specs.declared.Turned.{Turned}
+
+-- a reading goes on in these frames with this run, or the machine has stopped at what it comes to
+abbrev pub Continues : Story → Out → Option Turned → List Frame → Run → Type 0
+Continues g x None fs r = x ≡ going_on g fs r
+Continues g x (Some t) fs r = ComesTo g t fs r x
+
+-- the machine may read on, or stands as it does after a stop
+abbrev pub Stands : Option Turned → OpenTables → Type 0
+Stands None m = IsReading m
+Stands (Some t) m = IsStopped t m
+
+-- the run with this open loop
+abbrev pub turning_as : Option OpenLoop → Run → Run
+turning_as o r = record r { turning = o }
+
+-- the run with this text in the open piece, and this open loop
+abbrev pub reading_with : List ℕ → Option OpenLoop → Run → Run
+reading_with piece o r = record r { current = piece; turning = o }
+
+-- the run with this world and this open loop
+abbrev pub looping : World → Option OpenLoop → Run → Run
+looping w o r = record r { world = w; turning = o }
+
+-- the run with this world, this pending line and this open loop
+abbrev pub running : World → PendingLine → Option OpenLoop → Run → Run
+running w p o r = record r { world = w; pending = p.bytes; earlier = p.earlier; turning = o }
+
+-- what the reading comes to where the innermost table, above these frames, comes to this: its level's open loop goes on
+abbrev pub settled : Story → List Frame → Out → Out
+settled g fs x = along g fs (again (length fs) (looped g (deeper g (length fs)) (length fs)) x)
+
+-- reading on in the innermost table at the entry after this frame's
+abbrev pub next_of : Story → List Frame → Frame → Bool → Run → Out
+next_of g fs f = plain g (deeper g (length fs)) (length fs) f.table (suc f.entry) 0
+
+-- reading on in the innermost table at the condact after this frame's
+abbrev pub past_of : Story → List Frame → Frame → Bool → Run → Out
+past_of g fs f = plain g (deeper g (length fs)) (length fs) f.table f.entry (suc f.at)
+
+-- reading the condacts of this frame's entry from its condact on
+abbrev pub reading_at : Story → List Frame → Frame → Run → Out
+reading_at g fs f r =
+    settled g fs (inside g (deeper g (length fs)) (length fs) f.table f.entry f.at f.acted r)
+
+-- going on in the innermost table after an action
+abbrev pub acted_at : Story → List Frame → Frame → Effect → Run → Out
+acted_at g fs f e r =
+    settled g fs (after_action g (deeper g (length fs)) (length fs) f (next_of g fs f) (past_of g fs f) e r)
+
+-- a loop of the innermost table takes the next of the last n objects
+abbrev pub turning_at : Story → List Frame → OpenLoop → ℕ → Run → Out
+turning_at g fs l n r =
+    along g fs (turns g (length fs) (record l { last = 0 })
+    (plain g (deeper g (length fs)) (length fs) l.table l.entry (suc l.at) true) n r)
+
+-- Reading what x says comes from what was held to what is held now: there are the condacts that were read, of which the
+-- machine keeps the steps, so that whatever lines come the machine goes on to what x is, or has stopped at it
+abbrev pub Reads : Story → (Run → Out) → Held → Option Turned → Held → Type 0
+Reads g x old t new =
+    (r : Run) → HasRead r.read old.machine → (steps : List Step) × HasRead (r.read ++ steps) new.machine
+    × ((lines : List (List ℕ)) →
+    Continues g (x (to_come lines (showing old r))) t new.machine.frames (to_come lines (showing new (with_steps steps r))))
+
+-- reading one condact of this frame
+abbrev pub one_at : Story → List Frame → Frame → Condact → Run → Out
+one_at g fs f c r =
+    settled g fs (reads_one g (deeper g (length fs)) (length fs) f (next_of g fs f) (past_of g fs f) c r)
+
+-- reading it comes from what was held to what is held now: it is noted with yes or no, and so it is in every run
+abbrev pub ReadsOne : Story → List Frame → Frame → Condact → Held → Option Turned → Held → Type 0
+ReadsOne g fs f c old t new =
+    (passed : Bool) × ReadsStep (step_at f c passed) old.machine new.machine × ((r : Run) →
+    Continues g (one_at g fs f c (showing old r)) t new.machine.frames (noted f c passed (showing new r)))
+
+-- where reading goes on after QUIT's question: at yes at the next condact, at no past the table, as after DONE
+abbrev pub after_quit : Bool → Frame → Frame
+after_quit true f = record f { at = f.at + 1 }
+after_quit false f = record { table = f.table; entry = 4000; at = 0; acted = true }
+
+-- after a key reading goes on at the next condact, with an action carried out
+abbrev pub after_key : Frame → Frame
+after_key f = record f { at = f.at + 1; acted = true }
+
+-- where reading goes on after PARSE: after a sentence at the next entry, else at the next condact
+abbrev pub after_found : Found → Frame → Frame
+after_found found.Sentence f = record { table = f.table; entry = f.entry + 1; at = 0; acted = f.acted }
+after_found found.Nothing f = record f { at = f.at + 1 }
+after_found found.Empty f = record f { at = f.at + 1 }

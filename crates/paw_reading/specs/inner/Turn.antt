@@ -1,0 +1,55 @@
+-- The turn, and the reading of a list of lines: words that contracts between crates and proofs use beside those of specs/Turn.antt.
+use Rattle.std.specs.Prelude.{◌≡◌, ◌≢◌, ℕ, ◌+◌, ◌-◌, ◌<◌, List, [], ◌++◌, length}
+use Rattle.paw_effects.specs.Story.{Story}
+use Rattle.paw_effects.specs.declared.act.Prompt.{Prompt}
+use Rattle.paw_effects.specs.declared.act.Prompt.TheVariants as prompt
+use Rattle.paw_reading.specs.declared.places.Frame.{Frame}
+use Rattle.paw_reading.specs.Run.{Run}
+use Rattle.paw_reading.specs.inner.GoingOn.{with_lines}
+use Rattle.paw_reading.specs.Turn.{Stage, Ending, WaitsAt, Halted, Unended, turn, turns_from, reading, goes_on, on}
+
+-- ---- going on ----
+
+-- a reading that waits goes on with these lines; another stays as it ended, with the lines untaken
+abbrev pub followed : Story → List (List ℕ) → Ending → Ending
+followed g lines (WaitsAt p path r) = on g p path (with_lines lines r)
+followed g lines (Halted halt r) = Halted halt (with_lines lines r)
+followed g lines Unended = Unended
+
+-- ---- the laws ----
+
+-- a reading ends: the stages that are granted are enough
+abbrev pub TurnsEnd : Type 0
+TurnsEnd = (g : Story) (s : Stage) (r : Run) → turns_from g s r ≢ Unended
+
+-- more stages, or fewer that are enough, change nothing
+abbrev pub EndsOnce : Type 0
+EndsOnce = (g : Story) (n : ℕ) (s : Stage) (r : Run) →
+    turn g n s r ≢ Unended → turn g n s r ≡ turns_from g s r
+
+-- so is it with going on from a prompt
+abbrev pub GoingOnEnds : Type 0
+GoingOnEnds = (g : Story) (p : Prompt) (path : List Frame) (r : Run) → on g p path r ≢ Unended
+
+-- more stages, or fewer that are enough, change nothing of it
+abbrev pub GoesOnOnce : Type 0
+GoesOnOnce = (g : Story) (n : ℕ) (p : Prompt) (path : List Frame) (r : Run) →
+    goes_on g n p path r ≢ Unended → goes_on g n p path r ≡ on g p path r
+
+-- inside tables a run waits along the frames of those that are open, and at the main prompt none is
+abbrev pub MayWaitAlong : Prompt → List Frame → Type 0
+MayWaitAlong prompt.Main path = path ≡ []
+MayWaitAlong prompt.Quit path = 0 < length path
+MayWaitAlong prompt.Again path = 0 < length path
+MayWaitAlong prompt.Key path = 0 < length path
+MayWaitAlong prompt.Over path = ⊥
+
+-- with no line going on is the wait itself
+abbrev pub WaitsOn : Type 0
+WaitsOn = (g : Story) (p : Prompt) (path : List Frame) (r : Run) → MayWaitAlong p path → r.events ≡ [] →
+    on g p path r ≡ WaitsAt p path r
+
+-- reading more lines is reading some, and going on with the others
+abbrev pub GoingOnIsReading : Type 0
+GoingOnIsReading = (g : Story) (seed : ℕ) (es fs : List (List ℕ)) →
+    reading g seed (es ++ fs) ≡ followed g fs (reading g seed es)

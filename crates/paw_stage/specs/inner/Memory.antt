@@ -1,0 +1,71 @@
+-- A stage in memory: the lines that are left, its record of calls, and its counts of faults.
+use Rattle.std.specs.Prelude.{◌≡◌, ℕ, Bool, List, [], ◌∷◌, ◌++◌, length, drop}
+use Rattle.paw_stage.specs.declared.StageCall.{StageCall}
+use Rattle.paw_stage.specs.declared.StageCall.TheVariants as call
+use Rattle.paw_stage.specs.declared.faults.FaultCounts.{FaultCounts}
+use Rattle.paw_stage.specs.Stage.{Standing}
+use Rattle.paw_stage.specs.Moments.{Moment, Moments, moment_of}
+use Rattle.paw_stage.specs.inner.Faults.{raised, no_faults}
+use Rattle.paw_stage.specs.inner.Done.{Done, size_of, added, loaded, took, fresh, after}
+use Rattle.paw_stage.specs.inner.Replay.{since_of, only_now}
+use Rattle.paw_stage.specs.inner.Log.{Logged, has_room, logged, given}
+
+pub record Memory : Type 0 where
+  pub lines : List (List ℕ)
+  pub log : Logged
+  pub counts : FaultCounts
+
+-- With nothing in it, and spare room for so many calls and bytes.
+abbrev pub empty : ℕ → ℕ → Memory
+empty calls bytes = record {
+  lines = [];
+  log = record { calls = []; calls_left = calls; bytes_left = bytes };
+  counts = no_faults;
+}
+
+-- What stands at it: what its calls, played again, make of nothing, and the lines that are left.
+abbrev pub standing_of : Memory → Standing
+standing_of m = record (after fresh m.log.calls) { lines = m.lines }
+
+-- The time is the number of calls that were recorded.
+abbrev pub clock_of : Memory → ℕ
+clock_of m = length m.log.calls
+
+-- The moments since a time.
+abbrev pub moments_of : Memory → ℕ → Moment → Type 0
+moments_of m = since_of m.log.calls
+
+pub only_moment : (m : Memory) (x : Moment) → moments_of m (clock_of m) x → x ≡ moment_of (standing_of m)
+only_moment m x h = only_now m.log.calls x h
+
+-- Whether there is room for a call with so many bytes.
+abbrev pub can_note : Done → Memory → Bool
+can_note d m = has_room m.log (size_of d)
+
+-- With one call more in its record.
+abbrev pub noted : Done → Memory → Memory
+noted d m = record m { log = logged d m.log }
+
+-- With a file put there, beside the spare room.
+abbrev pub with_file : List ℕ → List ℕ → Memory → Memory
+with_file name bytes m = record m { log = given (added name bytes) m.log }
+
+-- With one line more, after those that are left.
+abbrev pub with_line : List ℕ → Memory → Memory
+with_line line m = record m { lines = m.lines ++ line ∷ [] }
+
+-- With one fault more of a call, and all else as it was.
+abbrev pub failed : StageCall → Memory → Memory
+failed c m = record m { counts = raised c m.counts }
+
+-- The moments of a call are those before it, and besides only such ones, by what stood before.
+abbrev pub Throughout : Memory → Memory → (Standing → Moment → Type 0) → Type 0
+Throughout old new Inside = Moments clock_of moments_of old new (Inside (standing_of old))
+
+-- After a load that found no file: it was recorded, and counts as a fault.
+abbrev pub found_none : List ℕ → Memory → Memory
+found_none name m = failed call.LoadAbsent (noted (loaded name) m)
+
+-- After an ask that took the next line.
+abbrev pub line_taken : Memory → Memory
+line_taken m = record (noted took m) { lines = drop 1 m.lines }

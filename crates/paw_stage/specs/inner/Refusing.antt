@@ -1,0 +1,44 @@
+-- A stage in memory of which a rule makes some calls fail.
+use Rattle.std.specs.Prelude.{◌≡◌, ◌⊎◌, ℕ, ◌+◌, ◌-◌, ◌^◌, min, Bool, IsTrue, IsFalse}
+use Rattle.paw_stage.specs.declared.StageCall.{StageCall}
+use Rattle.paw_stage.specs.declared.faults.FaultCounts.{FaultCounts}
+use Rattle.paw_stage.specs.Stage.{Standing}
+use Rattle.paw_stage.specs.Moments.{Moment}
+use Rattle.paw_stage.specs.inner.Faults.{count_of, raised}
+use Rattle.paw_stage.specs.inner.Done.{Done}
+use Rattle.paw_stage.specs.inner.Memory as memory
+use Rattle.paw_stage.specs.inner.Memory.{Memory, can_note, failed}
+
+-- The stage below, the rule, and the counts of the calls that the rule made fail.
+pub record Refusing (R : Type 0) : Type 0 where
+  pub inner : Memory
+  pub rule : R
+  pub counts : FaultCounts
+
+-- How often a call has failed here or below, up to the last value of a count.
+abbrev pub faults_of : {R : Type 0} → Refusing R → StageCall → ℕ
+faults_of s c = min (count_of s.counts c + count_of s.inner.counts c) (2 ^ 64 - 1)
+
+-- What stands at it: what stands at the stage below.
+abbrev pub standing_of : {R : Type 0} → Refusing R → Standing
+standing_of s = memory.standing_of s.inner
+
+-- The moments of a call: those of the stage below.
+abbrev pub Throughout : {R : Type 0} → Refusing R → Refusing R → (Standing → Moment → Type 0) → Type 0
+Throughout old new Inside = memory.Throughout old.inner new.inner Inside
+
+-- After a call that was made to fail. It isn't passed on. Then the rule is the later one.
+abbrev pub refused : {R : Type 0} → (R → R) → StageCall → Refusing R → Refusing R
+refused later c s = record { inner = s.inner; rule = later s.rule; counts = raised c s.counts }
+
+-- After a call that was passed on and did this below.
+abbrev pub passed : {R : Type 0} → (R → R) → (Memory → Memory) → Refusing R → Refusing R
+passed later did s = record { inner = did s.inner; rule = later s.rule; counts = s.counts }
+
+-- What a call leaves that was passed on and failed below.
+abbrev pub FailsBelow : {R : Type 0} → (R → Bool) → (R → R) → StageCall → Refusing R → Refusing R → Type 0
+FailsBelow refuses later c old new = IsFalse (refuses old.rule) → new ≡ passed later (failed c) old
+
+-- A call isn't done: the rule makes it fail, or there is no room for it below.
+abbrev pub CannotPass : {R : Type 0} → (R → Bool) → Done → Refusing R → Type 0
+CannotPass refuses d s = IsTrue (refuses s.rule) ⊎ IsFalse (can_note d s.inner)

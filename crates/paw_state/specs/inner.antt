@@ -1,0 +1,7 @@
+-- Words of contracts between crates, and of proofs. What a reader must believe doesn't reach them.
+pub mod State
+pub mod Faults
+pub mod Parts
+pub mod Fit
+pub mod Record
+pub mod Laws

@@ -1,0 +1,23 @@
+-- Bytes that are a state of a game: words that contracts between crates and proofs use beside those of specs/Fit.antt.
+use Rattle.std.specs.Prelude.{◌≡◌, ℕ, List, take}
+use Rattle.paw_game.specs.Game.{GameLists}
+use Rattle.paw_process.specs.Kept.{kept}
+use Rattle.paw_process.specs.inner.Kept.{restored, waiting_at, StandsAt}
+use Rattle.paw_state.specs.declared.layout.TheConstants.{STATE_LENGTH}
+use Rattle.paw_state.specs.declared.Restored.{Restored}
+use Rattle.paw_state.specs.State.{State, Keeps, FitsFields}
+use Rattle.paw_state.specs.inner.State.{state_of}
+use Rattle.paw_state.specs.Fields.{state_bytes}
+
+-- the state of parts that were read
+abbrev pub state_read : Restored → State
+state_read r = state_of r.world r.machine r.pending r.prompt r.events r.piece
+
+-- Parts that were read from bytes: the bytes are those of their state, which keeps its rules; the machine waits at the
+-- prompt with a full budget
+pub record IsRead (g : GameLists) (bytes : List ℕ) (r : Restored) : Type 0 where
+  pub are : take STATE_LENGTH bytes ≡ state_bytes (state_read r)
+  pub keeps : Keeps g (state_read r)
+  pub fits : FitsFields (state_read r)
+  pub machine : r.machine ≡ restored (kept r.machine) (waiting_at r.prompt)
+  pub stands : StandsAt r.prompt r.machine

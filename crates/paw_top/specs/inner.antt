@@ -1,0 +1,5 @@
+-- Words of contracts between crates, and of proofs. What a reader must believe doesn't reach them.
+pub mod Commands
+pub mod Answers
+pub mod Loads
+pub mod Compile

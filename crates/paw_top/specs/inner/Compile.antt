@@ -1,0 +1,25 @@
+-- What compiling a source comes to: words that contracts between crates and proofs use beside those of
+-- specs/Compile.antt.
+use Rattle.std.specs.Prelude.{◌≡◌, ℕ, List, Result, Err, Some}
+use Rattle.paw_base.specs.declared.fault.SourceFault.{SourceFault}
+use Rattle.paw_game.specs.Game.{GameLists}
+use Rattle.paw_game.specs.Image.{image}
+use Rattle.paw_stage.specs.Stage.{Standing, Saves}
+use Rattle.paw_stage.specs.declared.StageCall.TheVariants as call
+use Rattle.paw_top.specs.Shows.{showing, Shows}
+use Rattle.paw_top.specs.declared.outcome.Outcome.{Outcome}
+use Rattle.paw_top.specs.declared.outcome.Outcome.TheVariants as outcome
+use Rattle.paw_top.specs.Compile.{Unsaved, memory}
+
+-- ---- on the way ----
+
+-- why a source that is read so gives no image: its fault, or want of memory
+abbrev pub IsRefusal : Result GameLists SourceFault → Outcome → Type 0
+IsRefusal read (outcome.SourceRefused fault) = read ≡ Err fault
+IsRefusal read (outcome.Memory at) = Unit {0}
+IsRefusal read _ = ⊥
+
+-- how saving a file and then showing a line leave what stands, by the answer
+abbrev pub Keeps : List ℕ → List ℕ → List ℕ → Standing → Standing → Outcome → Type 0
+Keeps name bytes line old new (outcome.Outside call.Save) = Unsaved old new name
+Keeps name bytes line old new o = (mid : Standing) × Saves old mid name (Some bytes) × Shows line mid new o

@@ -1,0 +1,80 @@
+-- The parts of a player: what is lent of it, and a player that stands with such parts.
+use Rattle.std.specs.Prelude.{◌≡◌, ℕ, ◌<◌, List, [], None, length, reverse}
+use Rattle.paw_base.specs.Steps.{KeptSteps}
+use Rattle.paw_base.specs.inner.Steps.{no_steps}
+use Rattle.paw_game.specs.Game.{GameLists}
+use Rattle.paw_world.specs.World.{World}
+use Rattle.paw_phrase.specs.Pending.{PendingLine}
+use Rattle.paw_effects.specs.declared.act.Prompt.{Prompt}
+use Rattle.paw_effects.specs.declared.act.Prompt.TheVariants as prompt
+use Rattle.paw_routines.specs.declared.routines.Routines.{Routines}
+use Rattle.paw_effects.specs.inner.Standing.{IsWorldOf}
+use Rattle.paw_effects.specs.Story.{Story}
+use Rattle.paw_reading.specs.Run.{Step as Read}
+use Rattle.paw_reading.specs.Turn.{on}
+use Rattle.paw_reading.specs.Bounds.{IsLine}
+use Rattle.paw_process.specs.OpenTables.{OpenTables}
+use Rattle.paw_process.specs.Kept.{kept, frames_fault}
+use Rattle.paw_process.specs.inner.Kept.{restored, waiting_at}
+use Rattle.paw_process.specs.inner.Kept.{StandsAt as MachineStandsAt}
+use Rattle.paw_process.specs.declared.kept.Frames.{Frames}
+use Rattle.paw_turn.specs.declared.Step.{Step}
+use Rattle.paw_turn.specs.declared.Step.TheVariants as step
+pub use Rattle.paw_turn.specs.inner.Player.{prompt_at, IsStanding}
+use Rattle.paw_turn.specs.inner.Player.{Seat, IsSeated, Stands, StandRightly, run_at}
+
+-- a player waits at its prompt, and where the game is over it has ended
+abbrev pub step_at : Prompt → Step
+step_at prompt.Main = step.Waits prompt.Main
+step_at prompt.Quit = step.Waits prompt.Quit
+step_at prompt.Again = step.Waits prompt.Again
+step_at prompt.Key = step.Waits prompt.Key
+step_at prompt.Over = step.Ended
+
+-- Parts fit a game at a prompt: they stand there as a run may, and the machine waits at the prompt, or no table is open where
+-- it is the main one or the game is over
+pub record Fits (g : GameLists) (w : World) (m : OpenTables) (p : PendingLine) (at : Prompt) : Type 0 where
+  pub machine : Stands (step_at at) m
+  pub rightly : StandRightly g at w m p
+
+-- the player of a game that stands at a prompt with these parts, and shows no piece
+abbrev pub seat_at : {F : Type 0} → GameLists → Routines F → World → OpenTables → PendingLine → Prompt → Seat F
+seat_at g routines w m p at = record { game = g; routines = routines; world = w; pending = p; machine = m; piece = []; last = step_at at }
+
+-- ---- laws ----
+
+-- with no table open nothing is left of the line
+abbrev pub IsLineTaken : OpenTables → PendingLine → Type 0
+IsLineTaken m p = m.frames ≡ [] → p.bytes ≡ []
+
+-- what is pending is a line of at most 255 bytes, of which nothing is left where no table is open; the earlier verb is a byte
+pub record IsPending (m : OpenTables) (p : PendingLine) : Type 0 where
+  pub bytes : IsLine p.bytes
+  pub taken : IsLineTaken m p
+  pub earlier : p.earlier < 256
+
+-- a world of the game, a machine that was restored for it, and what may be pending there fit the game
+abbrev pub RestoredFits : Type 0
+RestoredFits =
+    (g : GameLists) (at : Prompt) (k : Frames) (w : World) (m : OpenTables) (p : PendingLine) → IsWorldOf g w → IsPending m p →
+    length k.rows ≡ 11 → m ≡ restored k (waiting_at at) → MachineStandsAt at m → frames_fault g at k ≡ None → Fits g w m p at
+
+-- the player that stands with what is kept of a player's machine, and with its other parts
+abbrev pub seated_again : {F : Type 0} → Seat F → Seat F
+seated_again p =
+    seat_at p.game p.routines p.world (restored (kept p.machine) (waiting_at (prompt_at p.last))) p.pending (prompt_at p.last)
+
+-- it is the same player, but that it shows no piece and keeps no steps, and its budget is full
+abbrev pub SeatedAgain : Type 0 → Type 0
+SeatedAgain F =
+    (p : Seat F) → IsSeated p → IsStanding p.last →
+    seated_again p ≡ record p { piece = []; machine = record p.machine { left = 200000; steps = no_steps } }
+
+-- what lines lead to depends on neither the last piece, nor the budget that it left, nor its steps: each line opens a piece of
+-- its own
+abbrev pub GoesOnAlike : Type 0 → Type 0
+GoesOnAlike F =
+    (g : Story) (p : Seat F) (at : Prompt) (piece : List ℕ) (left : ℕ) (steps : KeptSteps) (pieces : List (List ℕ)) (traces : List (List Read))
+    (lines : List (List ℕ)) →
+    on g at (reverse p.machine.frames) (run_at (record p { piece = piece; machine = record p.machine { left = left; steps = steps } }) pieces traces lines)
+    ≡ on g at (reverse p.machine.frames) (run_at p pieces traces lines)

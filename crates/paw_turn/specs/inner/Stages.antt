@@ -1,0 +1,265 @@
+-- What the stages of a turn come to in the reading. The contracts of private functions alone speak of this.
+use Rattle.std.specs.Prelude.{◌≡◌, ℕ, zero, suc, ◌+◌, ◌*◌, ◌<◌, ◌≤◌, ◌^◌, Bool, List, [], ◌∷◌, ◌++◌, length, reverse, if◌then◌else◌}
+use Rattle.paw_base.specs.declared.fault.SpentKind.TheVariants as spent
+use Rattle.paw_game.specs.Game.{GameLists}
+use Rattle.paw_base.specs.inner.Steps.{no_steps}
+use Rattle.paw_world.specs.World.{World}
+use Rattle.paw_routines.specs.declared.routines.Routines.{Routines}
+use Rattle.paw_effects.specs.declared.act.Prompt.{Prompt}
+use Rattle.paw_effects.specs.declared.act.Prompt.TheVariants as prompt
+use Rattle.paw_effects.specs.Built.{IsOf}
+use Rattle.paw_effects.specs.Story.{Story}
+use Rattle.paw_reading.specs.declared.places.Frame.{Frame}
+use Rattle.paw_reading.specs.Run.{Run, Step as Read, closed}
+use Rattle.paw_reading.specs.Reading.{Halt, IsOver, RunsOut, CallsTooDeep, Out, table_read}
+use Rattle.paw_reading.specs.GoingOn.{on_path}
+use Rattle.paw_reading.specs.Turn.{Ending, Halted, AtDescribe, AtFrame, AtPhrase, AtResponse, table_done, turn, first_table, goes_on}
+use Rattle.paw_reading.specs.Turn.{Ending, Halted, Stage as TurnStage}
+use Rattle.paw_process.specs.OpenTables.{OpenTables}
+use Rattle.paw_process.specs.inner.OpenTables.{HasRead, IsClosed}
+use Rattle.paw_process.specs.inner.Meaning.{SamePast, ComesTo}
+use Rattle.paw_process.specs.declared.Turned.{Turned}
+use Rattle.paw_process.specs.declared.Turned.TheVariants as turned
+use Rattle.paw_turn.specs.declared.Step.{Step}
+use Rattle.paw_turn.specs.declared.Step.TheVariants as step
+use Rattle.paw_turn.specs.declared.stage.Stage.{Stage}
+use Rattle.paw_turn.specs.declared.stage.Stage.TheVariants as stage
+use Rattle.paw_turn.specs.declared.stage.Next.{Next}
+use Rattle.paw_turn.specs.declared.stage.Next.TheVariants as next
+use Rattle.paw_turn.specs.declared.turn.Turn.{Turn}
+use Rattle.paw_turn.specs.inner.Player.{Seat, WaitsIn, Stands}
+
+-- ---- runs ----
+
+-- what was read in the open piece, and the closed pieces with what was read in them
+pub record Past : Type 0 where
+  pub read : List Read
+  pub pieces : List (List ℕ)
+  pub traces : List (List Read)
+
+-- the run that shows what is held, with this past and these lines to come
+abbrev pub run_of : Turn → Past → List (List ℕ) → Run
+run_of h past lines = record {
+  world = h.world;
+  pending = h.pending.bytes;
+  earlier = h.pending.earlier;
+  turning = h.machine.turning;
+  current = h.piece;
+  read = past.read;
+  pieces = past.pieces;
+  traces = past.traces;
+  events = lines;
+}
+
+-- the open piece has read some condacts
+abbrev pub HasReadSome : OpenTables → Type 0
+HasReadSome m = (read : List Read) × HasRead read m
+
+abbrev pub having_read : List Read → Past → Past
+having_read read past = record past { read = read }
+
+-- ---- stages ----
+
+abbrev pub at_stage : Stage → TurnStage
+at_stage stage.Describe = AtDescribe
+at_stage stage.Frame = AtFrame
+at_stage stage.Phrase = AtPhrase
+at_stage stage.Response = AtResponse
+
+-- a turn ends so for good, in a run with the same past
+abbrev pub TurnHalts : Halt → Run → Ending → Type 0
+TurnHalts halt r x = (s : Run) × (x ≡ Halted halt s) × SamePast r s
+
+-- a turn stops here: it waits along the frames, or it is over, with the piece closed; or it is spent or a call is too
+-- deep, with no piece more
+abbrev pub StopsAs : Story → ℕ → Step → List Frame → Run → Ending → Type 0
+StopsAs g n (step.Waits p) fs r x = x ≡ goes_on g n p (reverse fs) (closed r)
+StopsAs g n step.Ended fs r x = x ≡ Halted IsOver (closed r)
+StopsAs g n (step.Spent kind) fs r x = TurnHalts (RunsOut kind) r x
+StopsAs g n (step.TooDeep u) fs r x = TurnHalts (CallsTooDeep u) r x
+
+-- what a turn comes to is going on with the next stage, or it stops here
+abbrev pub GoesOnAs : Story → ℕ → Next → List Frame → Run → Ending → Type 0
+GoesOnAs g n (next.Go s) fs r x = x ≡ turn g n (at_stage s) r
+GoesOnAs g n (next.Stop step) fs r x = StopsAs g n step fs r x
+
+-- what x says leads from what was held to what is held now, and no condact is read
+abbrev pub Moves : Story → (ℕ → Run → Ending) → Turn → Next → Turn → Type 0
+Moves g x old next new =
+    (past : Past) (n : ℕ) (lines : List (List ℕ)) →
+    GoesOnAs g n next new.machine.frames (run_of new past lines) (x n (run_of old past lines))
+
+-- what x says leads from what was held to what is held now: there is what the open piece has read by then
+abbrev pub Reads : Story → (ℕ → Run → Ending) → Turn → Next → Turn → Type 0
+Reads g x old next new =
+    (past : Past) → HasRead past.read old.machine → (read : List Read) × (HasRead read new.machine × ((n : ℕ) (lines : List (List ℕ)) →
+    GoesOnAs g n next new.machine.frames (run_of new (having_read read past) lines) (x n (run_of old past lines))))
+
+-- a whole, of which more may be granted, leads from what was held to what is held now
+abbrev pub PlaysAs : Story → (ℕ → Past → List (List ℕ) → Ending) → Turn → Next → Turn → Type 0
+PlaysAs g whole old next new =
+    (past : Past) → HasRead past.read old.machine → (read : List Read) × (HasRead read new.machine × ((n : ℕ) (lines : List (List ℕ)) →
+    (m : ℕ) × GoesOnAs g n next new.machine.frames (run_of new (having_read read past) lines) (whole m past lines)))
+
+-- the turn from a stage on
+abbrev pub from_stage : Story → Stage → Turn → ℕ → Past → List (List ℕ) → Ending
+from_stage g s h m past lines = turn g m (at_stage s) (run_of h past lines)
+
+-- going on from a prompt with a line
+abbrev pub from_prompt : Story → Prompt → Turn → List ℕ → ℕ → Past → List (List ℕ) → Ending
+from_prompt g p h line m past lines = goes_on g m p (reverse h.machine.frames) (run_of h past (line ∷ lines))
+
+-- some stages from the first on lead from what was held to what is held now
+abbrev pub Plays : Story → Stage → Turn → Next → Turn → Type 0
+Plays g first old next new = PlaysAs g (from_stage g first old) old next new
+
+-- the machine has read what x says, from what was held to a stop
+abbrev pub RunsAs : Story → (Past → List (List ℕ) → Out) → Turn → Turned → Turn → Type 0
+RunsAs g x old turned new =
+    (past : Past) → HasRead past.read old.machine → (steps : List Read) × (HasRead (past.read ++ steps) new.machine × ((lines : List (List ℕ)) →
+    ComesTo g turned new.machine.frames (run_of new (having_read (past.read ++ steps) past) lines) (x past lines)))
+
+-- a table from its start
+abbrev pub from_table : Story → ℕ → Turn → Past → List (List ℕ) → Out
+from_table g t h past lines = table_read g t (run_of h past lines)
+
+-- going on in the tables that are open, with a line
+abbrev pub from_path : Story → Prompt → Turn → List ℕ → Past → List (List ℕ) → Out
+from_path g p h line past lines = on_path g p 0 (reverse h.machine.frames) (run_of h past (line ∷ lines))
+
+-- a table at level 0 came to what the machine turned out; the turn goes on from there, and no condact is read
+abbrev pub MovesAfter : Story → ℕ → Turned → Turn → Next → Turn → Type 0
+MovesAfter g t turned old next new =
+    (past : Past) (n : ℕ) (lines : List (List ℕ)) (x : Out) → ComesTo g turned old.machine.frames (run_of old past lines) x →
+    GoesOnAs g n next new.machine.frames (run_of new past lines) (table_done g (turn g n) t x)
+
+-- ---- what stands between two stages ----
+
+-- the world is the game's, and it can make all draws that the piece may still ask for
+pub record IsPlayable (g : GameLists) (h : Turn) : Type 0 where
+  pub world : IsOf g h.world
+  pub budget : h.machine.left ≤ 200000
+  pub draws : h.world.draws + h.machine.left < 2 ^ 64
+
+-- before the next stage no table is open, and after a stop the machine stands as it does there
+abbrev pub StandsFor : Next → OpenTables → Type 0
+StandsFor (next.Go s) m = IsClosed m
+StandsFor (next.Stop step) m = Stands step m
+
+-- the world is the game's still, and each draw is paid for by a condact
+pub record Keeps (g : GameLists) (old : Turn) (next : Next) (new : Turn) : Type 0 where
+  pub world : IsOf g new.world
+  pub machine : StandsFor next new.machine
+  pub left : new.machine.left ≤ old.machine.left
+  pub draws : new.world.draws + new.machine.left ≤ old.world.draws + old.machine.left
+
+-- the machine waits at a prompt in this table
+abbrev pub WaitsInTable : ℕ → Prompt → OpenTables → Type 0
+WaitsInTable t prompt.Main m = ⊥
+WaitsInTable t prompt.Quit m = WaitsIn prompt.Quit m × (first_table (reverse m.frames) ≡ t)
+WaitsInTable t prompt.Again m = WaitsIn prompt.Again m × (first_table (reverse m.frames) ≡ t)
+WaitsInTable t prompt.Key m = WaitsIn prompt.Key m × (first_table (reverse m.frames) ≡ t)
+WaitsInTable t prompt.Over m = ⊥
+
+-- where the machine stopped in this table it waits, or no table is open
+abbrev pub StopsInTable : ℕ → Turned → OpenTables → Type 0
+StopsInTable t (turned.Left acted) m = IsClosed m
+StopsInTable t turned.Redescribe m = IsClosed m
+StopsInTable t (turned.Waits p) m = WaitsInTable t p m
+StopsInTable t (turned.Spent kind) m = IsClosed m
+StopsInTable t (turned.TooDeep u) m = IsClosed m
+
+-- ---- turns end ----
+
+-- how much may still be read
+abbrev pub left_of : Turn → ℕ
+left_of h = length h.pending.bytes + h.machine.left
+
+abbrev pub rank : Stage → ℕ
+rank stage.Phrase = 1
+rank stage.Frame = 2
+rank stage.Describe = 3
+rank stage.Response = 4
+
+abbrev pub work : Stage → Turn → ℕ
+work s h = 4 * left_of h + rank s
+
+-- with the next stage there is less to do
+abbrev pub Falls : ℕ → Next → Turn → Type 0
+Falls most (next.Go s) new = work s new < most
+Falls most (next.Stop step) new = Unit {0}
+
+-- a table leaves at most so much to read, and less where the location is described again
+abbrev pub Leaves : Turned → ℕ → ℕ → Type 0
+Leaves (turned.Left acted) old new = new ≤ old
+Leaves turned.Redescribe old new = new < old
+Leaves (turned.Waits p) old new = Unit {0}
+Leaves (turned.Spent kind) old new = Unit {0}
+Leaves (turned.TooDeep u) old new = Unit {0}
+
+-- what a table's reading uses up
+pub record Uses (turned : Turned) (old new : Turn) : Type 0 where
+  pub left : new.machine.left ≤ old.machine.left
+  pub leaves : Leaves turned (left_of old) (left_of new)
+
+-- ---- worlds ----
+
+-- of the world at most flags were changed
+pub record ChangesFlags (old new : World) : Type 0 where
+  pub facts : new.facts ≡ old.facts
+  pub locations : new.locations ≡ old.locations
+  pub flags : length new.flags ≡ length old.flags
+  pub places : new.places ≡ old.places
+  pub draws : new.draws ≡ old.draws
+
+-- ---- texts ----
+
+-- the next stage where the text was shown, and else the piece is spent
+abbrev pub or_spent : Bool → Stage → Next
+or_spent shown s = if shown then next.Go s else next.Stop (step.Spent spent.Text)
+
+-- ---- tables ----
+
+-- the stage in which table 0, 1 or 2 is read, by its rank
+abbrev pub table_rank : ℕ → ℕ
+table_rank zero = 4
+table_rank (suc zero) = 3
+table_rank (suc (suc t)) = 2
+
+-- once a table is left there is less to do than in its stage; where the location is described again, nothing was done yet
+abbrev pub FallsAfter : ℕ → Turned → Turn → Next → Turn → Type 0
+FallsAfter t (turned.Left acted) old next new = Falls (4 * left_of old + table_rank t) next new
+FallsAfter t turned.Redescribe old n new = (n ≡ next.Go stage.Describe) × (new ≡ old)
+FallsAfter t (turned.Waits p) old next new = (m : ℕ) → Falls m next new
+FallsAfter t (turned.Spent kind) old next new = (m : ℕ) → Falls m next new
+FallsAfter t (turned.TooDeep u) old next new = (m : ℕ) → Falls m next new
+
+-- ---- lines ----
+
+-- the machine waits for an answer at this prompt
+abbrev pub AwaitsAt : Prompt → OpenTables → Type 0
+AwaitsAt prompt.Main m = ⊥
+AwaitsAt prompt.Quit m = WaitsIn prompt.Quit m
+AwaitsAt prompt.Again m = ⊥
+AwaitsAt prompt.Key m = WaitsIn prompt.Key m
+AwaitsAt prompt.Over m = ⊥
+
+-- ---- players ----
+
+-- what a player is seen as
+abbrev pub seat_of : {F : Type 0} → GameLists → Routines F → Turn → Step → Seat F
+seat_of g routines h last = record { game = g; routines = routines; world = h.world; pending = h.pending; machine = h.machine; piece = h.piece; last = last }
+
+-- nothing is shown of a piece that is spent, or in which a call is too deep
+abbrev pub shown : Step → List ℕ → List ℕ
+shown (step.Waits p) piece = piece
+shown step.Ended piece = piece
+shown (step.Spent kind) piece = []
+shown (step.TooDeep u) piece = []
+
+abbrev pub settled : Step → Turn → Turn
+settled step h = record h { piece = shown step h.piece }
+
+-- a new piece may be read
+abbrev pub opened_piece : Turn → Turn
+opened_piece h = record h { piece = []; machine = record h.machine { left = 200000; steps = no_steps } }

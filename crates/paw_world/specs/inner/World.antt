@@ -1,0 +1,48 @@
+-- The world of a game: words that contracts between crates and proofs use beside those of specs/World.antt.
+use Rattle.std.specs.Prelude.{◌≡◌, ℕ, ◌-◌, ◌≤◌, not, List, length, Option, None, Some, slice_index}
+use Rattle.paw_base.specs.declared.limits.TheConstants.{OBJECT_LIMIT, FLAG_COUNT}
+use Rattle.paw_base.specs.declared.parts.ObjectFacts.{ObjectFacts}
+use Rattle.paw_world.specs.inner.Places.{least_at, left_above}
+use Rattle.paw_world.specs.World.{Position, World, flag, place, kept_position, taken_back, IsSavedFor, AreSavedFor}
+
+-- the least object above this one that stands at a place, or the least of all there; nothing where there is none
+abbrev pub first_at : World → ℕ → Option ℕ → Option ℕ
+first_at w p above = least_at w.places p (left_above w.places above)
+
+-- a flag of a position; 0 where there is none
+abbrev pub flag_in : Option Position → ℕ → ℕ
+flag_in None f = 0
+flag_in (Some q) f = slice_index q.flags f
+
+-- the place of an object in a position; 0 where there is none
+abbrev pub place_in : Option Position → ℕ → ℕ
+place_in None o = 0
+place_in (Some q) o = slice_index q.places o
+
+-- a flag of the saved position; 0 where nothing is saved
+abbrev pub saved_flag : World → ℕ → ℕ
+saved_flag w f = flag_in w.saved f
+
+-- the place of an object in the saved position; 0 where nothing is saved
+abbrev pub saved_place : World → ℕ → ℕ
+saved_place w o = place_in w.saved o
+
+-- all flags and places are taken from the kept position of this number; where none was kept nothing changes
+abbrev pub recalled : World → ℕ → World
+recalled w n = taken_back w (kept_position w n)
+
+-- a flag of a kept position; 0 where none was kept
+abbrev pub kept_flag : World → ℕ → ℕ → ℕ
+kept_flag w n f = flag_in (kept_position w n) f
+
+-- the place of an object in a kept position; 0 where none was kept
+abbrev pub kept_place : World → ℕ → ℕ → ℕ
+kept_place w n o = place_in (kept_position w n) o
+
+-- the parts of a world: its flags, not too many places, room for the facts of all objects, and positions of the same size
+pub record IsStored (facts : List ObjectFacts) (flags places : List ℕ) (saved : Option Position) (kept : List (Option Position)) : Type 0 where
+  pub objects : length places ≤ OBJECT_LIMIT
+  pub facts_room : length facts ≡ OBJECT_LIMIT
+  pub flags_all : length flags ≡ FLAG_COUNT
+  pub saved_alike : IsSavedFor (length places) saved
+  pub kept_alike : AreSavedFor (length places) kept
