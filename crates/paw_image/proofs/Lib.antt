@@ -1,4 +1,6 @@
+pub mod CondactLaws
 pub mod EachLoop
+pub mod EndLaws
 pub mod ExitLoop
 pub mod Faults
 pub mod FieldLaws

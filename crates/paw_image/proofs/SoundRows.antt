@@ -182,7 +182,7 @@ code_is : (bytes : List ℕ) → code_at bytes ≡ kept (λ c. leb c 107) byte_a
 code_is [] = refl
 code_is (code ∷ bytes) = refl
 
-condact_sound : (d : Declared) → SoundRow (after_condact d) condact_at (keeps_condact d)
+pub condact_sound : (d : Declared) → SoundRow (after_condact d) condact_at (keeps_condact d)
 unfolding after_condact condact_at
 condact_sound d bytes rest fits e =
     kept_then _ (λ c. leb c 107) byte_at bytes _ rest e (λ code code_ok code_kept e.
@@ -199,7 +199,7 @@ condact_sound d bytes rest fits e =
       keeps = rw (code_kept, a.keeps, b.keeps) refl;
     }))
 
-entry_sound : (d : Declared) → SoundRow (after_entry d) entry_at (keeps_entry d)
+pub entry_sound : (d : Declared) → SoundRow (after_entry d) entry_at (keeps_entry d)
 unfolding after_entry entry_at
 entry_sound d bytes rest fits e =
     kept_then _ (λ v. is_any v || is_verb_value d.words v) byte_at bytes _ rest e (λ verb verb_ok verb_kept e.

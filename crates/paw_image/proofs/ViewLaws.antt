@@ -1,5 +1,5 @@
 -- What a view keeps, and what its look-ups answer.
-use Rattle.std.proofs.Common.{◌≡◌, ℕ, zero, suc, ◌+◌, ◌≤◌, List, [], length, drop, Option, Some, None, Ok, refl, sym, ap, subst, ◌∙◌}
+use Rattle.std.proofs.Common.{◌≡◌, ℕ, zero, suc, ◌+◌, ◌≤◌, List, [], length, get_or, drop, Option, Some, None, Ok, refl, sym, ap, subst, ◌∙◌}
 use Rattle.std.specs.Prelude.{slice_get}
 use Rattle.std.specs.List.{AllByRecursion}
 use Rattle.std.specs.Option.{option_map}
@@ -14,6 +14,7 @@ use Rattle.paw_game.specs.Image.{entry_image}
 use Rattle.paw_game.specs.Tables.{or_empty, head_at, condact_at, entry_at}
 use Rattle.paw_game.specs.inner.Tables.{text_at, match_at}
 use Rattle.paw_image.specs.Damage.{Declared, after_all, bad}
+use Rattle.paw_image.specs.inner.CondactMarks.{IsMarked, MarkEntry}
 use Rattle.paw_image.specs.Images.{IsImage}
 use Rattle.paw_image.specs.inner.Images.{AtDamage}
 use Rattle.paw_image.specs.inner.Orders.{is_match, IsOrder, IsLeast, IsMatch}
@@ -61,6 +62,7 @@ index_from bytes counts words p fits short whole passed =
       exits = rw is stand.exits;
       tables = rw is stand.tables;
       ordered = passed.order;
+      marked = passed.marked (read.end d passed.declared);
     }
 
 -- a place of damage tells that there is no image
@@ -143,3 +145,27 @@ pub no_match_read : (bytes : List ℕ) (counts : Counts) (words : List Word) (p 
 no_match_read bytes counts words p is t h from verb noun =
     let none = no_table (game_of bytes).tables (tables_begin_at (game_of bytes)) t (no_entries_at p.tables.items t _ is.tables h) in
     rw (none, drop_nothing from) refl
+
+-- ---- the condacts of an entry ----
+
+pub no_index_read : (bytes : List ℕ) (counts : Counts) (words : List Word) (p : Places) → IsIndex bytes counts words p
+    → (t k : ℕ) → slice_get p.tables.items t ≡ None → entry_at (game_of bytes) t k ≡ None
+no_index_read bytes counts words p is t k h = no_entry_read bytes t k (rw (no_entries_at p.tables.items t _ is.tables h) refl)
+
+module _ (bytes : List ℕ) (counts : Counts) (words : List Word) (p : Places) (is : IsIndex bytes counts words p)
+    (t : ℕ) (i : TableIndex) (there : slice_get p.tables.items t ≡ Some i) (k : ℕ) where
+  -- an entry begins where the index of its table says
+  entry_begins : slice_get (or_empty (slice_get (entry_places (tables_begin_at (game_of bytes)) (game_of bytes).tables) t)) k
+      ≡ slice_get i.entries.items k
+  entry_begins = rw (entries_at p.tables.items t i _ is.tables there) refl
+
+  pub no_place_read : slice_get i.entries.items k ≡ None → entry_at (game_of bytes) t k ≡ None
+  no_place_read h = no_entry_read bytes t k (entry_begins ∙ h)
+
+  pub condact_by_index : (at place : ℕ) → slice_get i.entries.items k ≡ Some place
+      → nth_condact at (drop place bytes) ≡ condact_at (game_of bytes) t k at
+  condact_by_index at place h = condact_read bytes is.image t k place at (entry_begins ∙ h)
+
+  pub marks_by_index : (place : ℕ) → slice_get i.entries.items k ≡ Some place
+      → MarkEntry (drop (get_or i.marks.firsts.items k 0) i.marks.marks.items) (drop place bytes)
+  marks_by_index place h = all_at (IsMarked bytes) p.tables.items t i is.marked there k place h

@@ -15,6 +15,7 @@ use Rattle.paw_game.specs.Valid.{Valid, is_within, are_letters, is_word, words_r
 use Rattle.paw_game.specs.Image.{two_bytes, word_image, text_image, object_image, exits_image, table_image, image}
 use Rattle.paw_game.proofs.Faults.{rise_after, rise_after-none}
 use Rattle.paw_image.specs.declared.TheConstants.{IMAGE_LIMIT}
+use Rattle.paw_image.specs.inner.CondactMarks.{IsEnd}
 use Rattle.paw_image.specs.Images.{IsImage}
 use Rattle.paw_image.specs.Reading.{byte_at, bytes_at, number_at}
 use Rattle.paw_image.specs.inner.Reading.{rows_at, word_at, text_at, object_at, exits_at, table_at, mark_at, version_at, counts_at, lists_at, all_of}
@@ -22,7 +23,8 @@ use Rattle.paw_image.specs.Damage.{Declared, Passing, each, after_version, count
 use Rattle.paw_image.specs.inner.Places.{places, entry_places, entries_of, AreGoneOver}
 use Rattle.paw_image.specs.inner.Views.{system_begins}
 use Rattle.paw_image.specs.declared.places.Places.{Places}
-use Rattle.paw_image.proofs.FieldLaws.{IsBytes, Takes, read_ok, at_ok, bind_then, bytes_again}
+use Rattle.paw_image.proofs.EndLaws.{end_taken}
+use Rattle.paw_image.proofs.FieldLaws.{IsBytes, Takes, Takes-then, read_ok, at_ok, bind_then, bytes_again}
 use Rattle.paw_image.proofs.ListLaws.{rows_take}
 use Rattle.paw_image.proofs.RowLaws.{word_takes, text_takes, object_takes, exits_take, table_takes}
 use Rattle.paw_image.proofs.GameLaws.{mark_takes, version_takes, counts_take, counts_image, lists_image, image_is, all_takes}
@@ -262,6 +264,7 @@ pub record IsWhole (bytes : List ℕ) : Type 0 where
   pub reads : all_of bytes ≡ Ok game
   pub valid : Valid game
   pub declared : (d : Declared × List ℕ) → front bytes ≡ Ok d → d.0 ≡ declared_by game
+  pub end : (d : Declared × List ℕ) → front bytes ≡ Ok d → IsEnd bytes d.1
   pub begin : (d : Declared × List ℕ) (p : Places) → front bytes ≡ Ok d → AreGoneOver d.0 (length bytes) d.1 p → StandAt (system_begins game) game p
 
 head_length : (bytes between after head : List ℕ) (counts : Counts) → Takes bytes (codes "PAWI") between → Takes between (1 ∷ []) after → Takes after (counts_image counts) head → length bytes ≡ 17 + length head
@@ -288,12 +291,16 @@ all_sound bytes fits e =
     let lists_read = lists.reads counts.1 words_read.reads in
     let start = 17 + length (flat_map word_image words.0) in
     let long : start + length words.1 ≡ length bytes = omega (arith, head_length bytes headed.between head counts.1 counts.0 mark version six, taken_length counts.1 (flat_map word_image words.0) words.1 words_taken.0) in
+    let read = Takes-then (counts_image counts.0) (flat_map word_image words.0) six words_taken.0 in
+    let headed_read = Takes-then (codes "PAWI") _ mark (Takes-then (1 ∷ []) _ version read) in
     let found : front bytes ≡ Ok here = d_ok ∙ ap (λ (y : Declared × List ℕ). read_ok y) (at_ok (λ (y : Declared × List ℕ). d ≡ y) d here (sym so_far) refl) in
     record {
       game = lists.game;
       reads = rw (headed.mark, headed.version, counts_read.0, lists_read) refl;
       valid = valid_from counts.0 words.0 words.1 [] lists counts_read.1 words_taken.1 words_read.keep words_read.rise;
       declared = λ d2 d2_ok. at_ok (λ (y : Declared × List ℕ). y.0 ≡ declared_by lists.game) here d2 (sym found ∙ d2_ok) (declared_same counts.0 words.0 lists.game (lists.counts words_taken.1) lists.words);
+      end = λ d2 d2_ok.
+          at_ok (λ (y : Declared × List ℕ). IsEnd bytes y.1) here d2 (sym found ∙ d2_ok) (end_taken bytes _ words.1 headed_read);
       begin = λ d2 p d2_ok over.
           let over_here = at_ok (λ (y : Declared × List ℕ). AreGoneOver y.0 (length bytes) y.1 p) d2 here (sym d2_ok ∙ found) over in
           subst (λ (ws : List Word). StandAt (17 + length (flat_map word_image ws)) lists.game p) (sym lists.words) (lists.begin (length bytes) start p long over_here);

@@ -1,7 +1,8 @@
 // One row of an image, read where it stands.
 
-ghost use Rattle.std.specs.Prelude.{◌≡◌, drop, OnErr};
+ghost use Rattle.std.specs.Prelude.{◌≡◌, ◌*◌, ◌/◌, ◌<◌, drop, Ok, OnErr};
 ghost use Rattle.std.specs.Option.{option_copied, option_map};
+ghost use Rattle.paw_image.specs.inner.CondactMarks.{AreMarks, MarkEntry};
 ghost use Rattle.paw_image.specs.Damage.{each};
 ghost use Rattle.paw_image.specs.inner.Reading.{Gives, IsFault, text_at};
 ghost use Rattle.paw_image.specs.inner.Rows.{condact_after, condact_of, entry_here, exit_here, exit_in, exits_here, facts_here, head_here, nth_condact, past_condact, up_to, value_of};
@@ -123,27 +124,42 @@ fn condact_after(count: u8, bytes: &[u8]) -> Result<(Condact, &[u8]), ReadFault>
     read_condact(rest)
 }
 
-/// A condact of the entry whose count of condacts is at the front.
+/// Of so many condacts, those from the last mark on that isn't behind a condact.
+fn from_mark<'a>(marks: &[u16], at: u8, count: u8, condacts: &'a [u8]) -> &'a [u8]
+    requires marks { AreMarks marks.now count condacts.now }
+    requires within { at < count }
+    ensures value { each past_condact (at / 8 * 8) condacts.now ≡ Ok result.now }
+{
+    let eights = at as usize / 8;
+    if eights == 0 {
+        return condacts;
+    }
+    from_place(condacts, marks[eights - 1] as u32)
+}
+
+/// One of so many condacts with these marks.
 #[tactic(auto, using(crate::proofs::Faults::no_value))]
-fn condact_of(at: u8, count: u8, condacts: &[u8]) -> Option<Condact>
+fn condact_of(marks: &[u16], at: u8, count: u8, condacts: &[u8]) -> Option<Condact>
+    requires marks { AreMarks marks.now count condacts.now }
     ensures value { result ≡ condact_of at count condacts.now }
 {
     if at >= count {
         return None;
     }
-    match condact_after(at, condacts) {
+    match condact_after(at % 8, from_mark(marks, at, count, condacts)) {
         Ok((condact, _)) => Some(condact),
         Err(_) => None,
     }
 }
 
-/// A condact of the entry that begins at a place.
+/// A condact of the entry that begins at a place and has these marks.
 #[tactic(auto, unfolding(crate::specs::inner::Rows::nth_condact))]
-pub fn condact_in(bytes: &[u8], place: u32, at: u8) -> Option<Condact>
+pub fn condact_in(bytes: &[u8], place: u32, marks: &[u16], at: u8) -> Option<Condact>
+    requires marks { MarkEntry marks.now (drop place bytes.now) }
     ensures value { result ≡ nth_condact at (drop place bytes.now) }
 {
     match from_place(bytes, place) {
-        [_, _, count, condacts @ ..] => condact_of(at, *count, condacts),
+        [_, _, count, condacts @ ..] => condact_of(marks, at, *count, condacts),
         _ => None,
     }
 }

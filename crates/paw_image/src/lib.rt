@@ -11,6 +11,7 @@ mod fields;
 mod head;
 mod in_place;
 pub mod laws;
+mod marks;
 mod objects;
 mod order;
 mod parts;

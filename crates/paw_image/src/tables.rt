@@ -3,20 +3,18 @@
 ghost use Rattle.std.specs.Prelude.{◌≡◌, ◌++◌, IfOk, OnErr, OnOk};
 ghost use Rattle.paw_game.specs.Image.{parameter_image, condact_image, entry_image, table_image};
 ghost use Rattle.paw_image.specs.inner.Sizes.{FitsCondact, FitsEntry, FitsTable};
-ghost use Rattle.paw_image.specs.Damage.{after_parameter, after_condact, after_entry, after_table};
+ghost use Rattle.paw_image.specs.Damage.{after_parameter, after_condact};
 ghost use Rattle.paw_image.specs.inner.Reading.{Gives, IsFault, code_at, parameter_at, condact_at, entry_at, table_at};
 ghost use Rattle.paw_base.specs.inner.Condacts.{row_of};
 
 use crate::fault::ReadFault;
-use crate::fields::{fault_at, read_byte, read_number, read_within, write_number};
-use crate::in_place::{InPlace, pass_each};
+use crate::fields::{fault_at, read_byte, read_number, write_number};
+use crate::in_place::InPlace;
 use crate::rows::{Row, length_of_rows, read_rows, write_rows};
 use crate::rules::Rules;
-use paw_base::limits::ENTRY_LIMIT;
 use paw_base::parts::Condact;
 use paw_base::rows::{CondactRow, ParamKind, condact_row};
 use paw_game::parts::{Condacts, Entry, Table};
-use paw_game::values::is_any;
 use std::alloc::{AllocError, Global};
 
 /// A code of a condact, and what the table of condacts says of it.
@@ -175,33 +173,5 @@ impl InPlace for Condact {
         };
         let rest = pass_parameter(rules, row.first, rest)?;
         pass_parameter(rules, row.second, rest)
-    }
-}
-
-impl InPlace for Entry {
-    ghost passing = { after_entry };
-
-    #[tactic(auto, unfolding(crate::specs::Damage::after_entry))]
-    fn pass<'a>(rules: &Rules, bytes: &'a [u8]) -> Result<&'a [u8], ReadFault> {
-        let (verb, nouns) = read_byte(bytes)?;
-        if !is_any(verb) && !rules.is_verb_value(verb) {
-            return Err(fault_at(bytes));
-        }
-        let (noun, counts) = read_byte(nouns)?;
-        if !is_any(noun) && !rules.is_noun(noun) {
-            return Err(fault_at(nouns));
-        }
-        let (count, rest) = read_byte(counts)?;
-        pass_each::<Condact>(rules, count as usize, rest)
-    }
-}
-
-impl InPlace for Table {
-    ghost passing = { after_table };
-
-    #[tactic(auto, unfolding(crate::specs::Damage::after_table))]
-    fn pass<'a>(rules: &Rules, bytes: &'a [u8]) -> Result<&'a [u8], ReadFault> {
-        let (count, rest) = read_within(0, ENTRY_LIMIT, bytes)?;
-        pass_each::<Entry>(rules, count as usize, rest)
     }
 }

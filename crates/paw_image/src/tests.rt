@@ -275,6 +275,64 @@ fn both_tell_the_lantern(rt: HostRuntime) -> Result<(), Fail> {
     Ok(())
 }
 
+/// How many condacts the entries of a table have.
+const ENTRY_LENGTHS: [u8; 6] = [0, 1, 8, 9, 64, 255];
+
+/// The condact of this number: one, two or three bytes.
+fn numbered(number: u8) -> Condact {
+    let (code, a, b) = match number % 3 {
+        0 => (32, 0, 0),
+        1 => (11, number, 0),
+        _ => (70, number, 255 - number),
+    };
+    Condact { code, a, b }
+}
+
+/// An image with a table whose entries have these many condacts.
+fn of_many_lengths(alloc: Global) -> Result<Vec<u8>, AllocError> {
+    let mut image = SMALLEST[..20].to_vec(alloc)?;
+    image.extend_from_slice(&[6, 0])?;
+    for count in ENTRY_LENGTHS {
+        image.extend_from_slice(&[255, 255, count])?;
+        for number in 0..count {
+            let Condact { code, a, b } = numbered(number);
+            match number % 3 {
+                0 => image.push(code)?,
+                1 => image.extend_from_slice(&[code, a])?,
+                _ => image.extend_from_slice(&[code, a, b])?,
+            }
+        }
+    }
+    image.extend_from_slice(&[0; 4])?;
+    Ok(image)
+}
+
+/// Whether each entry has its condacts, and none past the last.
+fn has_each_condact<T: Tables>(tables: &T) -> bool {
+    for (entry, count) in ENTRY_LENGTHS.iter().enumerate() {
+        let entry = entry as u16;
+        for at in 0..*count {
+            if tables.condact(0, entry, at) != Some(numbered(at)) {
+                return false;
+            }
+        }
+        if tables.condact(0, entry, *count).is_some() {
+            return false;
+        }
+    }
+    true
+}
+
+#[test]
+fn both_tell_each_condact(rt: HostRuntime) -> Result<(), Fail> {
+    let image = of_many_lengths(rt.alloc())?;
+    let game = decode(rt.alloc(), &image)?;
+    let view = View::new(rt.alloc(), &image)?;
+    assert!(rt; has_each_condact(&game));
+    assert!(rt; has_each_condact(&view));
+    Ok(())
+}
+
 #[test]
 fn a_view_lends_its_bytes(rt: HostRuntime) -> Result<(), Fail> {
     let view = View::new(rt.alloc(), &LANTERN)?;

@@ -26,8 +26,8 @@ use std::alloc::Global;
 use std::marker::Model;
 
 /// A valid game in the bytes of its image: texts and entries are lent out of them. It keeps the words, where each text,
-/// the exits of each location and each entry begin, and the entries of each table in order of verb and noun. Contracts
-/// see the bytes.
+/// the exits of each location and each entry begin, and the entries of each table in order of verb and noun, with
+/// marks in their condacts. Contracts see the bytes.
 #[derive(Drop)]
 pub struct View<'a> {
     bytes: &'a [u8],
@@ -48,10 +48,10 @@ impl<'a> Model for View<'a> {
 }
 
 /// Where a row of this number begins.
-fn place_in(places: &[u32], number: u8) -> Option<u32>
+fn place_in(places: &[u32], number: usize) -> Option<u32>
     ensures value { result ≡ slice_get places.now number }
 {
-    places.get(number as usize).copied()
+    places.get(number).copied()
 }
 
 /// The index of a table.
@@ -156,7 +156,7 @@ impl<'a> Tables for View<'a> {
     }
 
     fn exit(&self, location: u8, verb: u8) -> Option<u8> {
-        let place = place_in(&self.places.exits, location)?;
+        let place = place_in(&self.places.exits, location as usize)?;
         exit_at(self.bytes, place, verb)
     }
 
@@ -166,8 +166,9 @@ impl<'a> Tables for View<'a> {
     }
 
     fn condact(&self, table: u8, entry: u16, at: u8) -> Option<Condact> {
-        let place = entry_place(&self.places.tables, table, entry)?;
-        condact_in(self.bytes, place, at)
+        let index = index_of(&self.places.tables, table)?;
+        let place = place_in(&index.entries, entry as usize)?;
+        condact_in(self.bytes, place, index.marks.from_entry(entry), at)
     }
 
     fn next_match(&self, table: u8, from: u16, verb: u8, noun: u8) -> Option<u16> {

@@ -8,6 +8,7 @@ use Rattle.paw_game.specs.declared.parts.Entry.{Entry}
 use Rattle.paw_game.specs.Image.{entry_image, table_image}
 use Rattle.paw_image.specs.declared.places.Places.{Places}
 use Rattle.paw_image.specs.declared.places.TableIndex.{TableIndex}
+use Rattle.paw_image.specs.inner.CondactMarks.{IsEnd, IsMarked}
 use Rattle.paw_image.specs.Damage.{Declared, Passing, front, each, number_within, after_text, after_object, after_exits, after_entry, after_table}
 use Rattle.paw_image.specs.inner.Orders.{IsOrder}
 use Rattle.paw_image.specs.Reading.{◌>>=◌}
@@ -83,3 +84,4 @@ pub record IsPassed (bytes : List ℕ) (counts : Counts) (words : List Word) (p 
   pub declared : front bytes ≡ Ok (record { counts = counts; words = words }, rest)
   pub over : AreGoneOver (record { counts = counts; words = words }) (length bytes) rest p
   pub order : AllByRecursion (λ t. IsOrder bytes t.entries.items t.order) p.tables.items
+  pub marked : IsEnd bytes rest → AllByRecursion (IsMarked bytes) p.tables.items

@@ -9,6 +9,7 @@ use Rattle.paw_game.specs.Game.{GameLists}
 use Rattle.paw_game.specs.Image.{word_image, text_image, object_image, exits_image}
 use Rattle.paw_game.specs.inner.Tables.{counts_of, text_at}
 use Rattle.paw_image.specs.declared.places.Places.{Places}
+use Rattle.paw_image.specs.inner.CondactMarks.{IsMarked}
 use Rattle.paw_image.specs.Images.{IsImage}
 use Rattle.paw_image.specs.inner.Orders.{IsOrder}
 use Rattle.paw_image.specs.inner.Places.{places, entry_places, entries_of}
@@ -77,7 +78,11 @@ span_at g p n = spanned (slice_get (rows_begin g p) n) (text_at g p n)
 abbrev pub AreOrdered : List ℕ → Places → Type 0
 AreOrdered bytes p = AllByRecursion (λ t. IsOrder bytes t.entries.items t.order) p.tables.items
 
--- bytes that are the image of a game; its counts and words; where its rows begin
+-- each table's entries have their marks
+abbrev pub AreMarked : List ℕ → Places → Type 0
+AreMarked bytes p = AllByRecursion (IsMarked bytes) p.tables.items
+
+-- bytes that are the image of a game; its counts and words; where its rows begin; its entries in order, and their marks
 pub record IsIndex (bytes : List ℕ) (counts : Counts) (words : List Word) (p : Places) : Type 0 where
   pub image : IsImage bytes (game_of bytes)
   pub counted : counts ≡ counts_of (game_of bytes)
@@ -89,3 +94,4 @@ pub record IsIndex (bytes : List ℕ) (counts : Counts) (words : List Word) (p :
   pub exits : p.exits.items ≡ places exits_image (exits_begin (game_of bytes)) (game_of bytes).exits
   pub tables : entries_of p.tables.items ≡ entry_places (tables_begin_at (game_of bytes)) (game_of bytes).tables
   pub ordered : AreOrdered bytes p
+  pub marked : AreMarked bytes p

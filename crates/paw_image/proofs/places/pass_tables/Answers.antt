@@ -1,9 +1,11 @@
-use Rattle.std.proofs.Common.{length}
+use Rattle.std.proofs.Common.{length, arith}
 use Rattle.std.proofs.lemmas.Result.{err_from_is_err_and}
+use Rattle.paw_image.specs.inner.CondactMarks.{IsMarked}
 use Rattle.paw_image.specs.Damage.{after_table}
 use Rattle.paw_image.specs.inner.Orders.{IsOrder}
 use Rattle.paw_image.specs.declared.places.TableIndex.{TableIndex}
 use Rattle.paw_image.proofs.EachLoop.{each_goes_on, each_ends, each_is_done, tables_go_on, tables_are_done, all_more}
+use Rattle.paw_image.proofs.EndLaws.{table_end}
 use Rattle.paw_image.proofs.places.pass_tables.Goals as goal
 
 pub returns-in_err-table-clause-gives : goal.returns-in_err-table-clause-gives
@@ -19,6 +21,10 @@ loop-preserved c = record {
       c.in_ok-table.ensures.gives c.in_ok-table.ensures.entries c.loop.invariant.kept);
   order = rw c.in_ok-push.ensures.items
       (all_more (λ (t : TableIndex). IsOrder c.args.all.now t.entries.items t.order) c.loop.tables.items c.in_ok-table.table c.loop.invariant.order c.in_ok-table.ensures.order);
+  end = λ at.
+      table_end c.args.all.now c.loop.rest.now c.in_ok-table.after.now (λ i. omega (arith, c.type_inv.all i)) (c.loop.invariant.end at) c.args.rules.now c.in_ok-table.ensures.gives;
+  marked = λ at. rw c.in_ok-push.ensures.items
+      (all_more (IsMarked c.args.all.now) c.loop.tables.items c.in_ok-table.table (c.loop.invariant.marked at) (c.in_ok-table.ensures.marked (c.loop.invariant.end at)));
 }
 
 pub returns-clause-gives : goal.returns-clause-gives

@@ -1,5 +1,6 @@
 use Rattle.std.proofs.Common.{◌≡◌, ◌-◌, ◌++◌, length}
 use Rattle.std.specs.List.{AllByRecursion}
+use Rattle.paw_image.specs.inner.CondactMarks.{IsEnd, IsMarked}
 use Rattle.paw_image.specs.Damage.{each, after_table}
 use Rattle.paw_image.specs.inner.Orders.{IsOrder}
 use Rattle.paw_image.specs.inner.Places.{entries_of, tables_begin}
@@ -10,4 +11,6 @@ invariant-loop l = record {
   left : each (after_table l.rules) (l.count - l.counter) l.rest ≡ each (after_table l.rules) l.count l.bytes;
   kept : entries_of l.tables.items ++ tables_begin l.rules (length l.all) (l.count - l.counter) l.rest ≡ tables_begin l.rules (length l.all) l.count l.bytes;
   order : AllByRecursion (λ t. IsOrder l.all t.entries.items t.order) l.tables.items;
+  end : IsEnd l.all l.bytes → IsEnd l.all l.rest;
+  marked : IsEnd l.all l.bytes → AllByRecursion (IsMarked l.all) l.tables.items;
 }

@@ -1,0 +1,115 @@
+// Marks in the condacts of entries, so that a condact is found without those far before it.
+
+ghost use Rattle.std.specs.Prelude.{◌≡◌, ◌+◌, ◌*◌, ◌≤◌, ◌<◌, ◌^◌, IfOk, OnOk, drop, length, slice_index};
+ghost use Rattle.paw_image.specs.inner.CondactMarks.{AreMarks, IsEnd, Keeps, MarkEntries, MarkEntry};
+ghost use Rattle.paw_image.specs.Damage.{after_condact, after_entry, each};
+ghost use Rattle.paw_image.specs.inner.Places.{begins};
+ghost use Rattle.paw_image.specs.inner.Reading.{Gives};
+
+use crate::fault::ReadFault;
+use crate::fields::{fault_at, read_byte};
+use crate::in_place::pass_each;
+use crate::rules::Rules;
+use paw_base::limits::ENTRY_LIMIT;
+use paw_base::parts::Condact;
+use paw_game::values::is_any;
+use std::alloc::Global;
+
+/// Where the condacts of a table's entries go on behind each eight of them.
+#[derive(Drop)]
+pub struct CondactMarks {
+    /// The number of the first mark of each entry.
+    pub firsts: Vec<u32>,
+    /// Each a number of bytes from the first condact of its entry on.
+    pub marks: Vec<u16>,
+}
+
+impl CondactMarks {
+    /// The marks from those of an entry on.
+    pub fn from_entry(&self, entry: u16) -> &[u16]
+        ensures value { result.now ≡ drop (slice_index self.now.firsts.items entry) self.now.marks.items }
+    {
+        let first = match self.firsts.get(entry as usize) {
+            Some(first) => *first as usize,
+            None => 0,
+        };
+        if first > self.marks.len() {
+            return &[];
+        }
+        &self.marks[first..]
+    }
+}
+
+/// The bytes after so many condacts; a mark is kept behind each eight that another follows.
+fn pass_condacts<'a>(
+    rules: &Rules,
+    count: u8,
+    bytes: &'a [u8],
+    marks: &mut Vec<u16>,
+) -> Result<&'a [u8], ReadFault>
+    ensures gives { Gives (λ x. x.now) result (each (after_condact rules.now) count bytes.now) }
+    ensures marks { OnOk result (AreMarks (drop (length marks.old.items) marks.new.items) count bytes.now) }
+    ensures keeps { OnOk result (Keeps marks.old.items marks.new.items) }
+    ensures few { OnOk result (length marks.new.items ≤ length marks.old.items + 31) }
+{
+    let eights = count.saturating_sub(1) / 8;
+    let mut rest = bytes;
+    for _ in 0..eights {
+        rest = pass_each::<Condact>(rules, 8, rest)?;
+        marks.push(bytes.len().saturating_sub(rest.len()) as u16)?;
+    }
+    pass_each::<Condact>(rules, (count - eights * 8) as usize, rest)
+}
+
+/// The bytes after the entry at the front, whose marks are kept.
+#[tactic(auto, unfolding(crate::specs::Damage::after_entry))]
+fn pass_entry<'a>(
+    rules: &Rules,
+    bytes: &'a [u8],
+    marks: &mut Vec<u16>,
+) -> Result<&'a [u8], ReadFault>
+    ensures gives { Gives (λ x. x.now) result (after_entry rules.now bytes.now) }
+    ensures marks { OnOk result (MarkEntry (drop (length marks.old.items) marks.new.items) bytes.now) }
+    ensures keeps { OnOk result (Keeps marks.old.items marks.new.items) }
+    ensures few { OnOk result (length marks.new.items ≤ length marks.old.items + 31) }
+{
+    let (verb, nouns) = read_byte(bytes)?;
+    if !is_any(verb) && !rules.is_verb_value(verb) {
+        return Err(fault_at(bytes));
+    }
+    let (noun, counts) = read_byte(nouns)?;
+    if !is_any(noun) && !rules.is_noun(noun) {
+        return Err(fault_at(nouns));
+    }
+    let (count, rest) = read_byte(counts)?;
+    pass_condacts(rules, count, rest, marks)
+}
+
+/// Goes over so many entries at the front of the last of all bytes: where each begins, their marks, and the bytes after
+/// them.
+pub fn pass_entries<'a>(
+    alloc: Global,
+    rules: &Rules,
+    count: usize,
+    all: &[u8],
+    bytes: &'a [u8],
+) -> Result<((Vec<u32>, CondactMarks), &'a [u8]), ReadFault>
+    requires small { length all.now < 2 ^ 32 }
+    requires few { count ≤ ENTRY_LIMIT }
+    ensures gives { Gives (λ x. x.1.now) result (each (after_entry rules.now) count bytes.now) }
+    ensures places { IfOk result (λ x. x.0.0.items ≡ begins (after_entry rules.now) (length all.now) count bytes.now) }
+    ensures many { IfOk result (λ x. length x.0.0.items ≤ count) }
+    ensures marks { IsEnd all.now bytes.now →
+        IfOk result (λ x. MarkEntries all.now x.0.0.items x.0.1.firsts.items x.0.1.marks.items) }
+{
+    let mut places = Vec::new(alloc);
+    let mut firsts = Vec::new(alloc);
+    let mut marks = Vec::new(alloc);
+    let mut rest = bytes;
+    for _ in 0..count {
+        places.push(all.len().saturating_sub(rest.len()) as u32)?;
+        firsts.push(marks.len() as u32)?;
+        rest = pass_entry(rules, rest, &mut marks)?;
+    }
+    Ok(((places, CondactMarks { firsts, marks }), rest))
+}
