@@ -1,6 +1,8 @@
 //! The top call: a command in words, over a stage.
 #![tactic(auto)]
 
+#[cfg(test)]
+mod call_tests;
 mod commands;
 mod compile;
 #[cfg(test)]

@@ -21,9 +21,9 @@ const CAVE: &str =
 const FIRST: &str = "Hall.\n>\n";
 
 /// The words that play, and those that take the session up again.
-const PLAY: &str = "play\nhall\nstore\n7";
+pub(crate) const PLAY: &str = "play\nhall\nstore\n7";
 
-const RESUME: &str = "resume\nhall\nstore";
+pub(crate) const RESUME: &str = "resume\nhall\nstore";
 
 /// How many bytes a session has.
 const SESSION_LEN: u64 = 172_288;
@@ -46,8 +46,8 @@ struct Round<'a> {
     shown: &'a str,
 }
 
-// A stage with the two games, a store with these bytes, and these lines.
-fn stage_of(
+/// A stage with the two games, a store with these bytes, and these lines.
+pub(crate) fn stage_of(
     rt: &impl Abort,
     alloc: Global,
     store: &[u8],
@@ -266,12 +266,21 @@ fn stores_that_give_no_session_are_refused(rt: HostRuntime) -> Result<(), Fail> 
 /// Where a session and each of its slots tell their version.
 const VERSIONS: [usize; 3] = [VERSION_AT, 128 + 2, 86_208 + 2];
 
+/// Where a state of the earlier form ends in slot 0 and in slot 1: any bytes may stand behind it.
+const EARLIER_ENDS: [usize; 2] = [128 + 64 + 1371, 86_208 + 64 + 1371];
+
+/// A session of the earlier form, which waits for the answer to the first of two questions.
+pub(crate) fn earlier_form(rt: &impl Abort, alloc: Global) -> Result<Vec<u8>, Fail> {
+    let first = round_to_end(PLAY, "WAIT\nSHAKE ALL", "Hall.\n>\nOK.\n>\nSure? ");
+    let store = plays_rounds(rt, alloc, &[first])?;
+    let earlier = with_bytes(alloc, store.as_slice(), &VERSIONS, 1)?;
+    with_bytes(alloc, earlier.as_slice(), &EARLIER_ENDS, 7)
+}
+
 #[test]
 fn a_session_of_the_earlier_form_goes_on(rt: HostRuntime) -> Result<(), Fail> {
     let alloc = rt.alloc();
-    let first = round_to_end(PLAY, "WAIT\nSHAKE ALL", "Hall.\n>\nOK.\n>\nSure? ");
-    let store = plays_rounds(&rt, alloc, &[first])?;
-    let earlier = with_bytes(alloc, store.as_slice(), &VERSIONS, 1)?;
+    let earlier = earlier_form(&rt, alloc)?;
     let on = round_to_end(RESUME, "N\nY", "Sure? Sure? Done.\n>\n");
     let left = plays_round(&rt, alloc, earlier.as_slice(), &on)?;
     let later = round_to_end(RESUME, "WAIT", "Done.\n>\nOK.\n>\n");

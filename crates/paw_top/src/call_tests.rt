@@ -1,0 +1,166 @@
+// The calls that commands make, one by one, and what a crash between them leaves of a session.
+
+use crate::outcome::Outcome;
+use crate::session_tests::{PLAY, RESUME, earlier_form, stage_of};
+use crate::settled::{run, settle, settle_and_run};
+use paw_stage::{FailStage, StageCall, StopStage};
+use std::alloc::Global;
+use std::process::Abort;
+use std::test::Fail;
+
+/// More calls than any command here makes.
+const MOST_CALLS: u64 = 60;
+
+// The calls that a command makes, in their order: it stops at each of them where that one fails, and tells which it is.
+fn calls_of(
+    rt: &impl Abort,
+    alloc: Global,
+    store: &[u8],
+    words: &str,
+    lines: &str,
+) -> Result<Vec<StageCall>, Fail> {
+    let mut calls = Vec::new(alloc);
+    for number in 0..MOST_CALLS {
+        let mut settled = stage_of(rt, alloc, store, lines)?;
+        settle(rt, &mut settled);
+        let listed = [number].to_vec(alloc)?;
+        let mut stage = FailStage::new(settled, listed);
+        match run(alloc, &mut stage, words)? {
+            Outcome::Outside(call) => calls.push(call)?,
+            _ => return Ok(calls),
+        }
+    }
+    Ok(calls)
+}
+
+#[test]
+fn nothing_is_loaded_twice_nor_asked_for_behind_the_end(rt: HostRuntime) -> Result<(), Fail> {
+    use StageCall::{Ask, Attach, Load, Read, Save, Show, Sync, Write};
+    let alloc = rt.alloc();
+    let earlier = earlier_form(&rt, alloc)?;
+    for (words, store, lines, wanted) in [
+        (
+            "compile\nhall source\nhall",
+            b"".as_slice(),
+            "WAIT",
+            [Load, Save, Show].as_slice(),
+        ),
+        ("decompile\nhall", b"", "WAIT", [Load, Show].as_slice()),
+        (
+            "walk\nhall\n7",
+            b"",
+            "WAIT\nWAIT",
+            [Load, Show, Ask, Show, Ask, Show, Ask].as_slice(),
+        ),
+        // The game is over before the last line.
+        (
+            "walk\nhall\n7",
+            b"",
+            "QUIT\nY\nN\nWAIT",
+            [Load, Show, Ask, Show, Ask, Show, Ask, Show].as_slice(),
+        ),
+        (
+            "trace\nhall\n7",
+            b"",
+            "WAIT",
+            [Load, Show, Ask, Show, Show, Ask].as_slice(),
+        ),
+        (
+            PLAY,
+            b"",
+            "WAIT",
+            [
+                Load, Attach, Write, Sync, Write, Write, Write, Sync, Write, Sync, Show, Ask,
+                Write, Write, Write, Sync, Write, Sync, Show, Ask,
+            ]
+            .as_slice(),
+        ),
+        (
+            RESUME,
+            earlier.as_slice(),
+            "Y",
+            [
+                Load, Attach, Read, Read, Read, Show, Ask, Write, Write, Write, Sync, Write, Sync,
+                Show, Ask,
+            ]
+            .as_slice(),
+        ),
+    ] {
+        let calls = calls_of(&rt, alloc, store, words, lines)?;
+        assert_eq!(rt; calls.as_slice(), wanted, "{words:?} {lines:?}");
+    }
+    Ok(())
+}
+
+/// Lines for a session of the earlier form, and what is shown once none, one and two of them were taken.
+const ANSWERS: &str = "Y\nN";
+
+const SHOWN: [&str; 3] = ["Sure? ", "Done.\nSure? ", ">\n"];
+
+// What is shown for so many lines.
+fn shown_for(taken: usize) -> Result<&'static str, Fail> {
+    Ok(*SHOWN.get(taken).ok_or("too many lines")?)
+}
+
+// The last piece of a session is shown again, and it is one of two.
+fn shows_either(
+    rt: &impl Abort,
+    alloc: Global,
+    store: &[u8],
+    (one, other): (&str, &str),
+) -> Result<(), Fail> {
+    let mut stage = stage_of(rt, alloc, store, "")?;
+    let before = stage.shown().len();
+    let outcome = settle_and_run(rt, alloc, &mut stage, RESUME)?;
+    assert_eq!(rt; outcome, Outcome::InputEnded);
+    let shown = stage.shown().get(before..).unwrap_or(b"");
+    if shown != one.as_bytes() {
+        assert_eq!(rt; shown, other.as_bytes());
+    }
+    Ok(())
+}
+
+// A resume of a session of the earlier form stops after so many calls. Whatever a crash leaves then shows one of two
+// pieces.
+fn stops_after(
+    rt: &impl Abort,
+    alloc: Global,
+    earlier: &[u8],
+    passes: u64,
+    either: (&str, &str),
+) -> Result<Outcome, Fail> {
+    let mut settled = stage_of(rt, alloc, earlier, ANSWERS)?;
+    settle(rt, &mut settled);
+    let mut stage = StopStage::new(settled, passes);
+    let outcome = run(alloc, &mut stage, RESUME)?;
+    for pick in 0..3u8 {
+        let crashed = stage.inner().crash(alloc, pick)?;
+        let left = match crashed.is_empty() {
+            // Nothing is attached yet: the store is as it was.
+            true => earlier,
+            false => crashed.as_slice(),
+        };
+        shows_either(rt, alloc, left, either)?;
+    }
+    Ok(outcome)
+}
+
+#[test]
+fn a_resume_of_the_earlier_form_stops_anywhere(rt: HostRuntime) -> Result<(), Fail> {
+    let alloc = rt.alloc();
+    let earlier = earlier_form(&rt, alloc)?;
+    let earlier = earlier.as_slice();
+    let calls = calls_of(&rt, alloc, earlier, RESUME, ANSWERS)?;
+    let mut taken = 0usize;
+    for (passes, call) in calls.as_slice().iter().enumerate() {
+        let asks = *call == StageCall::Ask;
+        let least = if asks { taken } else { taken.saturating_sub(1) };
+        let either = (shown_for(least)?, shown_for(taken)?);
+        let outcome = stops_after(&rt, alloc, earlier, passes as u64, either)?;
+        assert_eq!(rt; outcome, Outcome::Outside(*call));
+        taken = taken.saturating_add(usize::from(asks));
+    }
+    // The last call found no line left.
+    assert_eq!(rt; taken, 3);
+    Ok(())
+}
