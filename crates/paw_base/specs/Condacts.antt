@@ -3,7 +3,9 @@ use Rattle.std.specs.Prelude.{ℕ, ◌-◌, ◌+◌, List, [], ◌∷◌, map, O
 use Rattle.std.specs.List.{slice_index_or, position}
 use Rattle.std.specs.Char.{to_ascii_uppercase}
 use Rattle.paw_base.specs.declared.rows.ParamKind.{ParamKind}
-use Rattle.paw_base.specs.declared.rows.ParamKind.TheVariants.{Absent, Location, Place, Object, Flag, Number, Message, System, Table, Adverb, Noun, Adjective, Preposition}
+use Rattle.paw_base.specs.declared.rows.ParamKind.TheVariants.{Absent, Location, Place, Object, Flag}
+use Rattle.paw_base.specs.declared.rows.ParamKind.TheVariants.{Number, Message, System, Table, Adverb}
+use Rattle.paw_base.specs.declared.rows.ParamKind.TheVariants.{Noun, Adjective, Preposition}
 
 -- a line of the table: the name, and what the first and the second parameter name
 pub record CondactLine : Type 0 where

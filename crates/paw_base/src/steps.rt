@@ -7,8 +7,8 @@ ghost use Rattle.paw_base.specs.inner.Steps.{no_steps, noted};
 use crate::limits::STEP_LIMIT;
 use std::marker::Model;
 
-/// One condact that was read: where it stands, its code, and whether reading went on in its entry. Only a condition that
-/// failed has a no.
+/// One condact that was read: where it stands, its code, and whether reading went on in its entry. Only a condition
+/// that failed has a no.
 #[derive(Clone, Copy, Drop, PartialEq, Eq, Debug)]
 pub struct StepRow {
     pub table: u8,

@@ -1,5 +1,6 @@
 -- The actions on an object.
-use Rattle.std.specs.Prelude.{ℕ, ◌+◌, ◌==◌, ◌&&◌, ◌||◌, Bool, true, false, not, nat_lt, nat_le, List, [], ◌∷◌, length, Option, Some, None, slice_get, if◌then◌else◌}
+use Rattle.std.specs.Prelude.{ℕ, ◌+◌, ◌==◌, ◌&&◌, ◌||◌, Bool, true, false, not, nat_lt, nat_le, List}
+use Rattle.std.specs.Prelude.{[], ◌∷◌, length, Option, Some, None, slice_get, if◌then◌else◌}
 use Rattle.paw_base.specs.declared.flags.TheConstants.{CARRIED_FLAG, MOST_CARRIED_FLAG, MOST_WEIGHT_FLAG}
 use Rattle.paw_base.specs.declared.messages.TheConstants.{NOT_WORN_MESSAGE, WORN_MESSAGE, HELD_MESSAGE}
 use Rattle.paw_base.specs.declared.messages.TheConstants.{NOT_HERE_MESSAGE, TOO_MANY_MESSAGE, NOT_CARRIED_MESSAGE}

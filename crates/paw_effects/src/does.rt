@@ -63,8 +63,8 @@ pub fn test<T: Tables>(tables: &T, world: &mut World, c: Condact) -> Truth
     }
 }
 
-/// MOVE takes the exit for the verb from the location that a flag names, to where it leads. False exactly where there is
-/// no such exit.
+/// MOVE takes the exit for the verb from the location that a flag names, to where it leads. False exactly where there
+/// is no such exit.
 fn moves<T: Tables>(tables: &T, world: &mut World, f: u8) -> bool
     requires game { IsOf (T.game tables.now) world.old }
     ensures answer { truth_of result ≡ (moves (T.game tables.now) world.old f).answer }

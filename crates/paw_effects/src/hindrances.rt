@@ -1,7 +1,8 @@
 // What hinders an action on an object.
 
 ghost use Rattle.std.specs.Prelude.{◌≡◌, ◌<◌, length};
-ghost use Rattle.paw_effects.specs.ObjectActions.{is_worn, is_carried, can_be_worn, is_too_heavy, is_laden, holds_place, first_that_holds, hindrances};
+ghost use Rattle.paw_effects.specs.ObjectActions.{is_worn, is_carried, can_be_worn, is_too_heavy, is_laden};
+ghost use Rattle.paw_effects.specs.ObjectActions.{holds_place, first_that_holds, hindrances};
 ghost use Rattle.paw_effects.specs.declared.object_actions.Action.TheVariants as action;
 
 use crate::object_actions::Action;

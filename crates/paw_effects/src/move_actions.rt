@@ -4,7 +4,8 @@ ghost use Rattle.std.specs.Prelude.{◌≡◌, ◌<◌, true, length, IsTrue};
 ghost use Rattle.paw_game.specs.Game.{GameLists};
 ghost use Rattle.paw_effects.specs.Built.{IsOf};
 ghost use Rattle.paw_effects.specs.inner.Parameters.{takes_object, takes_second_object};
-ghost use Rattle.paw_effects.specs.MoveActions.{is_move, move_of, all_dropped, swapped, referred_moved, moved_if_place, names_place, reset};
+ghost use Rattle.paw_effects.specs.MoveActions.{is_move, move_of, all_dropped, swapped, referred_moved};
+ghost use Rattle.paw_effects.specs.MoveActions.{moved_if_place, names_place, reset};
 
 use crate::presence::{here, is_held, named_place};
 use paw_base::flags::{LOCATION_FLAG, REFERRED_FLAG};

@@ -116,8 +116,8 @@ const CONDITIONS: [Case; 62] = [
     (28, 38, 0, NO),
 ];
 
-/// From 200 in flag 60 on; each sum ends at 255, and each difference at 0. Then weights, and the flags that the turn looks
-/// at.
+/// From 200 in flag 60 on; each sum ends at 255, and each difference at 0. Then weights, and the flags that the turn
+/// looks at.
 const FLAGS: [Case; 40] = [
     (66, 60, 0, GO),
     (13, 60, 255, YES),
@@ -388,7 +388,8 @@ fn entry_of(rows: Vec<Condact>) -> Entry {
     }
 }
 
-/// A game in which table 0 has one entry, of these condacts. System message n is the letter that stands n bytes after A.
+/// A game in which table 0 has one entry, of these condacts. System message n is the letter that stands n bytes after
+/// A.
 fn parts(alloc: Global, cases: &[Case]) -> Result<GameParts, AllocError> {
     let mut system = Vec::new(alloc);
     for letter in b'A'..=b'v' {

@@ -2,7 +2,8 @@
 
 ghost use Rattle.std.specs.Prelude.{◌≡◌, ◌+◌, ◌++◌, ◌<◌, ◌≤◌, List, [], ℕ, length, IfSome, IfNone, ◌==◌, Some, decimal};
 ghost use Rattle.paw_base.specs.inner.Piece.{Puts, piece_limit};
-ghost use Rattle.paw_effects.specs.Texts.{with_name, object_text, printed_text, ended_text, put_text, say_text, location_text, message_text};
+ghost use Rattle.paw_effects.specs.Texts.{with_name, object_text, printed_text, ended_text};
+ghost use Rattle.paw_effects.specs.Texts.{put_text, say_text, location_text, message_text};
 
 use itoa::Buffer;
 use paw_base::flags::REFERRED_FLAG;

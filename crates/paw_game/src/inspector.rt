@@ -3,7 +3,8 @@
 ghost use Rattle.std.specs.Prelude.{◌≡◌, ◌&&◌, ◌==◌, ◌<◌, ◌^◌, IfSome, length, nat_lt};
 ghost use Rattle.std.specs.List.{list_all, list_any};
 ghost use Rattle.paw_game.specs.inner.Fault.{exits_fault, first_bad, objects_fault, tables_fault};
-ghost use Rattle.paw_game.specs.Valid.{are_exits, are_facts, is_condact, is_entry, is_exits, is_object, is_parameter, is_place, is_table, is_verb_value};
+ghost use Rattle.paw_game.specs.Valid.{are_exits, are_facts, is_condact, is_entry, is_exits, is_object};
+ghost use Rattle.paw_game.specs.Valid.{is_parameter, is_place, is_table, is_verb_value};
 ghost use Rattle.paw_game.specs.inner.Values.{Tells};
 
 use crate::parts::{Entry, Exit, Exits, GameParts, ObjectRow, Table};

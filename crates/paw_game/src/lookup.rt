@@ -3,7 +3,8 @@
 ghost use Rattle.std.specs.Prelude.{◌≡◌, ◌≤◌, ◌<◌, IfSome, IsTrue, drop, length, slice_get};
 ghost use Rattle.std.specs.Option.{option_copied};
 ghost use Rattle.paw_game.specs.Valid.{words_rise};
-ghost use Rattle.paw_game.specs.Tables.{condact_at, entry_at, exit_at, exit_of, facts_at, head_at, is_for, matches, row_text, word_at, word_of};
+ghost use Rattle.paw_game.specs.Tables.{condact_at, entry_at, exit_at, exit_of, facts_at, head_at};
+ghost use Rattle.paw_game.specs.Tables.{is_for, matches, row_text, word_at, word_of};
 ghost use Rattle.paw_game.specs.inner.Tables.{first_match, match_at, text_at};
 
 use crate::parts::{Entry, Exit, GamePart, GameParts, ObjectRow, Text, Word};

@@ -1,5 +1,6 @@
 -- The games of trials, and their lines: each is made from a number.
-use Rattle.std.specs.Prelude.{ℕ, ◌+◌, ◌-◌, ◌*◌, ◌/◌, ◌%◌, ◌==◌, false, List, [], ◌∷◌, ◌++◌, map, codes, decimal, if◌then◌else◌}
+use Rattle.std.specs.Prelude.{ℕ, ◌+◌, ◌-◌, ◌*◌, ◌/◌, ◌%◌, ◌==◌, false, List, []}
+use Rattle.std.specs.Prelude.{◌∷◌, ◌++◌, map, codes, decimal, if◌then◌else◌}
 use Rattle.std.specs.List.{range_with_len}
 use Rattle.paw_base.specs.declared.codes.TheConstants.{INVEN, DESC, DONE, AUTOG, AUTOD, GET, DROP, LISTOBJ, DOALL}
 use Rattle.paw_base.specs.declared.places.TheConstants.{CARRIED_PLACE, HERE_PLACE}

@@ -34,8 +34,8 @@ fn parts_of(alloc: Global, n: u16) -> Result<GameParts, NoRoom>
     })
 }
 
-/// The game of a trial, made from its number: hundreds of locations in a ring, and objects spread over them, which lines can
-/// get and drop. Its image is within the limit of images.
+/// The game of a trial, made from its number: hundreds of locations in a ring, and objects spread over them, which
+/// lines can get and drop. Its image is within the limit of images.
 ///
 /// # Errors
 /// NoRoom for want of memory alone: the lists always keep the rules of a game.

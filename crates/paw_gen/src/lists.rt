@@ -1,7 +1,8 @@
 // Words, objects and exits.
 
 ghost use Rattle.std.specs.Prelude.{◌≡◌, ◌++◌, ◌<◌, ◌≤◌, IfOk};
-ghost use Rattle.paw_gen.specs.Trial.{named_words, object_facts, object_letters, trial_object, object_word, ring_exits, rows, word_with};
+ghost use Rattle.paw_gen.specs.Trial.{named_words, object_facts, object_letters, trial_object};
+ghost use Rattle.paw_gen.specs.Trial.{object_word, ring_exits, rows, word_with};
 
 use crate::texts::numbered;
 use paw_base::fault::NoRoom;

@@ -13,7 +13,8 @@ use Rattle.paw_grammar.specs.declared.section.Section.{Section}
 use Rattle.paw_grammar.specs.declared.section.Section.TheVariants as section
 use Rattle.paw_grammar.specs.Tokens.{◌>>=◌, ended}
 use Rattle.paw_grammar.specs.Numbers.{number_within, number_below, row_number}
-use Rattle.paw_grammar.specs.Vocabulary.{word, class, object_kind, declared, word_or_none, verb_word, entry_verb, entry_noun}
+use Rattle.paw_grammar.specs.Vocabulary.{word, class, object_kind, declared, word_or_none}
+use Rattle.paw_grammar.specs.Vocabulary.{verb_word, entry_verb, entry_noun}
 use Rattle.paw_grammar.specs.declared.bounds.Bounds.{Bounds}
 use Rattle.paw_grammar.specs.Condacts.{first_place, more_condacts}
 use Rattle.paw_grammar.specs.GrammarState.{Spelt, last_or, with_last}

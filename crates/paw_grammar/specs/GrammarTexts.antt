@@ -1,5 +1,6 @@
 -- The four sections of texts: items and text lines.
-use Rattle.std.specs.Prelude.{ℕ, ◌==◌, ◌&&◌, Bool, true, false, not, List, [], ◌∷◌, ◌++◌, length, nat_lt, if◌then◌else◌, Result, Ok, Err}
+use Rattle.std.specs.Prelude.{ℕ, ◌==◌, ◌&&◌, Bool, true, false, not, List, [], ◌∷◌}
+use Rattle.std.specs.Prelude.{◌++◌, length, nat_lt, if◌then◌else◌, Result, Ok, Err}
 use Rattle.paw_base.specs.declared.limits.TheConstants.{SYSTEM_LIMIT, MESSAGE_LIMIT, OBJECT_LIMIT, LOCATION_LIMIT}
 use Rattle.paw_base.specs.declared.limits.TheConstants.{TEXT_LIMIT}
 use Rattle.paw_base.specs.declared.fault.SourceKind.{SourceKind}
@@ -60,8 +61,8 @@ text_item limit n ts =
     else if not (nat_lt (length ts) limit) then Err kind.TooBig
     else Ok (ts ++ [] ∷ [])
 
--- A line that doesn't begin with `/` after an item of a section of texts. (A line that begins with `;` is none either, as
--- it is a comment everywhere.)
+-- A line that doesn't begin with `/` after an item of a section of texts. (A line that begins with `;` is none either,
+-- as it is a comment everywhere.)
 abbrev pub is_in_text : Spelt → Bool
 is_in_text d = is_text_section d.section && not (length (texts_of d.section d) == 0)
 

@@ -1,5 +1,6 @@
 -- Which game a source spells, and which fault it has.
-use Rattle.std.specs.Prelude.{◌≡◌, ℕ, suc, ◌==◌, ◌&&◌, Bool, true, false, not, List, [], ◌∷◌, length, drop, nat_lt, if◌then◌else◌, Result, Ok, Err, codes}
+use Rattle.std.specs.Prelude.{◌≡◌, ℕ, suc, ◌==◌, ◌&&◌, Bool, true, false, not, List, [], ◌∷◌}
+use Rattle.std.specs.Prelude.{length, drop, nat_lt, if◌then◌else◌, Result, Ok, Err, codes}
 use Rattle.std.specs.List.{count_by}
 use Rattle.paw_base.specs.declared.limits.TheConstants.{SOURCE_LIMIT, IMAGE_LIMIT, TABLE_LEAST}
 use Rattle.paw_base.specs.declared.fault.SourceKind.{SourceKind}
@@ -43,7 +44,8 @@ tokens_added p d slash blank [] = Ok d
 tokens_added p d slash blank (t ∷ ts) =
     if slash then slash_line d t (number (drop 1 t)) ts else row_in d.section p d blank (t ∷ ts)
 
--- What is spelled after one line more, or the line's first fault. A comment spells nothing. A forbidden byte comes first.
+-- What is spelled after one line more, or the line's first fault. A comment spells nothing. A forbidden byte comes
+-- first.
 unfoldable pub step : ℕ → Spelt → List ℕ → Result Spelt SourceKind
 step p d l =
     if is_comment l then Ok d
@@ -83,8 +85,8 @@ unfoldable pub reading : ℕ → ℕ → Spelt → List (List ℕ) → Result Ga
 reading p n d [] = whole n d
 reading p n d (l ∷ ls) = at_line (suc n) (step p d l) (λ e. reading p (suc n) e ls)
 
--- The game that a source spells, or the line and the kind of its first fault. A parameter may name as many tables as lines
--- begin one.
+-- The game that a source spells, or the line and the kind of its first fault. A parameter may name as many tables as
+-- lines begin one.
 unfoldable pub spelled : List ℕ → Result GameLists SourceFault
 spelled source =
     if nat_lt SOURCE_LIMIT (length source) then Err (fault 0 kind.TooBig)

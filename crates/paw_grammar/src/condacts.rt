@@ -4,7 +4,8 @@ ghost use Rattle.std.specs.Prelude.{◌≡◌, ◌≤◌, min};
 ghost use Rattle.paw_grammar.specs.inner.Gives.{Gives};
 ghost use Rattle.paw_grammar.specs.Numbers.{number_below};
 ghost use Rattle.paw_grammar.specs.Vocabulary.{word_or_none};
-ghost use Rattle.paw_grammar.specs.Condacts.{table, parameter, condact, condacts, with_more_condacts, at_most_255, more_condacts};
+ghost use Rattle.paw_grammar.specs.Condacts.{table, parameter, condact, condacts, with_more_condacts};
+ghost use Rattle.paw_grammar.specs.Condacts.{at_most_255, more_condacts};
 ghost use Rattle.paw_grammar.specs.inner.Condacts.{AreSmall};
 
 use crate::bounds::Bounds;
@@ -101,9 +102,9 @@ fn add_condacts(
 /// Takes all condacts up to the end of the line, and adds them to those of their entry.
 ///
 /// # Errors
-/// The line's first fault, token by token: Condact where a name is none of the 108, and of a parameter Missing, and Word,
-/// Number or Range by its kind. TooBig where no token has a fault and the entry would have more than 255 condacts. NoRoom
-/// where there is no memory. What the entry then holds is open.
+/// The line's first fault, token by token: Condact where a name is none of the 108, and of a parameter Missing, and
+/// Word, Number or Range by its kind. TooBig where no token has a fault and the entry would have more than 255
+/// condacts. NoRoom where there is no memory. What the entry then holds is open.
 #[tactic(auto, unfolding(crate::specs::Condacts::more_condacts))]
 pub fn more_condacts(
     bounds: &Bounds,

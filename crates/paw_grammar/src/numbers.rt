@@ -49,7 +49,8 @@ fn next_number(tokens: &mut Tokens) -> Result<u32, ReadError>
 /// Takes a number from `low` to `high`.
 ///
 /// # Errors
-/// Missing, Number or Range, by this order, exactly where the line ends, the token isn't a number, or it is another one.
+/// Missing, Number or Range, by this order, exactly where the line ends, the token isn't a number, or it is another
+/// one.
 pub fn number_within(tokens: &mut Tokens, low: u8, high: u8) -> Result<u8, ReadError>
     ensures { Gives (λ n. (n, tokens.new)) result (number_within low high tokens.old) }
 {

@@ -63,8 +63,8 @@ fn named_place(tokens: &mut Tokens, names: &[&[u8]], locations: u16) -> Result<u
 /// Takes the first place of an object: a location, or 252 to 254, which may be written `NOTCREATED`, `WORN`, `CARRIED`.
 ///
 /// # Errors
-/// Missing, Number or Range, by this order, exactly where the line ends, the token is neither a number nor such a name, or it
-/// is the number of no such place.
+/// Missing, Number or Range, by this order, exactly where the line ends, the token is neither a number nor such a name,
+/// or it is the number of no such place.
 pub fn first_place(tokens: &mut Tokens, locations: u16) -> Result<u8, ReadError>
     requires { locations ≤ 256 }
     ensures { Gives (λ place. (place, tokens.new)) result (first_place locations tokens.old) }

@@ -5,7 +5,8 @@ ghost use Rattle.std.specs.Option.{ok_or};
 ghost use Rattle.paw_game.specs.Tables.{word_of};
 ghost use Rattle.paw_grammar.specs.inner.Gives.{Gives};
 ghost use Rattle.paw_grammar.specs.Tokens.{read_by};
-ghost use Rattle.paw_grammar.specs.Vocabulary.{words_with, declared, known, in_class, as_verb, or_none, or_any, word_or_none, verb_word, entry_verb, entry_noun};
+ghost use Rattle.paw_grammar.specs.Vocabulary.{words_with, declared, known, in_class, as_verb, or_none};
+ghost use Rattle.paw_grammar.specs.Vocabulary.{or_any, word_or_none, verb_word, entry_verb, entry_noun};
 ghost use Rattle.paw_grammar.specs.inner.WordMap.{words_in};
 
 use crate::refusal::ReadError;
@@ -136,8 +137,8 @@ impl Vocabulary {
     /// Declares a word.
     ///
     /// # Errors
-    /// Duplicate exactly where its letters are declared, of whatever class, and else TooBig exactly where there are 2,000
-    /// words. NoRoom where there is no memory.
+    /// Duplicate exactly where its letters are declared, of whatever class, and else TooBig exactly where there are
+    /// 2,000 words. NoRoom where there is no memory.
     pub fn declare(&mut self, word: Word) -> Result<(), ReadError>
         ensures { Gives (λ _. self.new) result (declared word self.old) }
     {

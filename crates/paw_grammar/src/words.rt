@@ -5,7 +5,8 @@ ghost use Rattle.std.specs.List.{list_all, position};
 ghost use Rattle.std.specs.Char.{is_ascii_alphanumeric};
 ghost use Rattle.paw_grammar.specs.inner.Gives.{Gives};
 ghost use Rattle.paw_grammar.specs.Tokens.{is_named, read_by};
-ghost use Rattle.paw_grammar.specs.Vocabulary.{is_word_token, letters_of, letters_in, word, class_names, place_among, class, kind_named, object_kind};
+ghost use Rattle.paw_grammar.specs.Vocabulary.{is_word_token, letters_of, letters_in, word, class_names};
+ghost use Rattle.paw_grammar.specs.Vocabulary.{place_among, class, kind_named, object_kind};
 
 use crate::refusal::ReadError;
 use crate::tokens::{Tokens, is_named};
@@ -85,8 +86,8 @@ fn class_named(token: &[u8]) -> Option<u8>
     Some(class as u8)
 }
 
-/// Takes the name of a class of words: 0 for `verb`, and then `adverb`, `noun`, `adjective`, `preposition`, `conjunction`
-/// and `pronoun`.
+/// Takes the name of a class of words: 0 for `verb`, and then `adverb`, `noun`, `adjective`, `preposition`,
+/// `conjunction` and `pronoun`.
 ///
 /// # Errors
 /// Missing exactly where the line ends, and Word exactly where the token is none of these names.

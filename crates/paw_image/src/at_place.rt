@@ -5,7 +5,8 @@ ghost use Rattle.std.specs.Option.{option_copied, option_map};
 ghost use Rattle.paw_image.specs.inner.CondactMarks.{AreMarks, MarkEntry};
 ghost use Rattle.paw_image.specs.Damage.{each};
 ghost use Rattle.paw_image.specs.inner.Reading.{Gives, IsFault, text_at};
-ghost use Rattle.paw_image.specs.inner.Rows.{condact_after, condact_of, entry_here, exit_here, exit_in, exits_here, facts_here, head_here, nth_condact, past_condact, up_to, value_of};
+ghost use Rattle.paw_image.specs.inner.Rows.{condact_after, condact_of, entry_here, exit_here, exit_in, exits_here};
+ghost use Rattle.paw_image.specs.inner.Rows.{facts_here, head_here, nth_condact, past_condact, up_to, value_of};
 
 use crate::fault::ReadFault;
 use crate::objects::read_after_text;

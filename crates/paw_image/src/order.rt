@@ -4,7 +4,8 @@ ghost use Rattle.std.specs.Prelude.{◌≡◌, ◌≤◌, ◌&&◌, ◌==◌, If
 ghost use Rattle.std.specs.List.{All};
 ghost use Rattle.std.specs.List.Sorted.{IsPermutation};
 ghost use Rattle.paw_game.specs.Tables.{is_for};
-ghost use Rattle.paw_image.specs.inner.Orders.{heads_at, is_match, lower, rank, ranked, AreStarts, IsLeast, IsMatch, IsOrder, IsRun, IsSorted, IsStart, Rises};
+ghost use Rattle.paw_image.specs.inner.Orders.{heads_at, is_match, lower, rank, ranked, AreStarts, IsLeast};
+ghost use Rattle.paw_image.specs.inner.Orders.{IsMatch, IsOrder, IsRun, IsSorted, IsStart, Rises};
 
 use paw_base::limits::ENTRY_LIMIT;
 use paw_base::words::{ANY_WORD, NO_WORD};

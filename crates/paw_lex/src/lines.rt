@@ -1,6 +1,7 @@
 // The lines of a source, one after another.
 
-ghost use Rattle.std.specs.Prelude.{◌≡◌, ℕ, ◌<◌, ◌≤◌, ◌+◌, ◌==◌, ◌⊎◌, List, [], ◌∷◌, length, take, drop, slice_index, slice_range, MatchOption, IfSome, IfNone};
+ghost use Rattle.std.specs.Prelude.{◌≡◌, ℕ, ◌<◌, ◌≤◌, ◌+◌, ◌==◌, ◌⊎◌, List, [], ◌∷◌, length, take};
+ghost use Rattle.std.specs.Prelude.{drop, slice_index, slice_range, MatchOption, IfSome, IfNone};
 ghost use Rattle.std.specs.List.{position_or_len};
 ghost use Rattle.std.specs.Str.Lines.{lines, strip_carriage_return};
 ghost use Rattle.paw_lex.specs.Lines.{lines_of};
@@ -14,8 +15,8 @@ pub const MAX_SOURCE_LEN: usize = 8_388_608;
 /// The byte before which a source ends.
 const END_MARK: u8 = 0x1A;
 
-/// A line of a source: its number, counted from 1, the place of its first byte, and the place after its last one. The line
-/// end is no part of it.
+/// A line of a source: its number, counted from 1, the place of its first byte, and the place after its last one. The
+/// line end is no part of it.
 #[derive(Clone, Copy, Drop, PartialEq, Eq, Debug)]
 pub struct Line {
     pub number: u32,
@@ -126,9 +127,9 @@ impl<'a> Lines<'a> {
         }
     }
 
-    /// The next line, or `None` exactly where none is left. The source ends before its first byte 0x1A. An LF ends a line,
-    /// and a CR right before it belongs to the line end. A last line without LF is a line; nothing after the last LF is
-    /// none. Lines are numbered from 1, and there are no more of them than bytes.
+    /// The next line, or `None` exactly where none is left. The source ends before its first byte 0x1A. An LF ends a
+    /// line, and a CR right before it belongs to the line end. A last line without LF is a line; nothing after the last
+    /// LF is none. Lines are numbered from 1, and there are no more of them than bytes.
     pub fn next(&mut self) -> Option<Line>
         ensures lines { MatchOption result (self.old.left ≡ [])
             (λ line. self.old.left ≡ bytes_of self.old.source line ∷ self.new.left) }

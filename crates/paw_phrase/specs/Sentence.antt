@@ -1,5 +1,6 @@
 -- How a phrase becomes a sentence.
-use Rattle.std.specs.Prelude.{ℕ, ◌==◌, ◌&&◌, ◌||◌, Bool, true, false, List, [], ◌∷◌, Option, Some, None, nat_lt, nat_le, if◌then◌else◌}
+use Rattle.std.specs.Prelude.{ℕ, ◌==◌, ◌&&◌, ◌||◌, Bool, true, false, List, [], ◌∷◌}
+use Rattle.std.specs.Prelude.{Option, Some, None, nat_lt, nat_le, if◌then◌else◌}
 use Rattle.paw_base.specs.declared.words.TheConstants.{VERB_CLASS, ADVERB_CLASS, NOUN_CLASS, ADJECTIVE_CLASS}
 use Rattle.paw_base.specs.declared.words.TheConstants.{PREPOSITION_CLASS, PRONOUN_CLASS, NO_WORD, GREATEST_WORD}
 use Rattle.paw_base.specs.declared.words.TheConstants.{FIRST_PLAIN_NOUN, FIRST_NAMED_NOUN}

@@ -2,7 +2,8 @@
 #![tactic(auto)]
 
 ghost use Rattle.std.specs.Prelude.{◌≡◌};
-ghost use Rattle.paw_phrase.specs.Sentence.{or_value, blank, with_noun, with_adjective, with_pronoun, with_word, finished};
+ghost use Rattle.paw_phrase.specs.Sentence.{or_value, blank, with_noun, with_adjective};
+ghost use Rattle.paw_phrase.specs.Sentence.{with_pronoun, with_word, finished};
 
 use paw_base::words::{
     ADJECTIVE_CLASS, ADVERB_CLASS, FIRST_NAMED_NOUN, FIRST_PLAIN_NOUN, NO_WORD, NOUN_CLASS,

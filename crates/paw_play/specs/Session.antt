@@ -24,8 +24,8 @@ IsPlayed (WaitsAt p path r) = Unit {0}
 IsPlayed (Halted IsOver r) = r.events ≡ []
 IsPlayed _ = ⊥
 
--- a session of the game with this digest stands where a reading ended, after so many lines: it shows the state there, and
--- the last piece
+-- a session of the game with this digest stands where a reading ended, after so many lines: it shows the state there,
+-- and the last piece
 pub record IsKept (digest : List ℕ) (events : ℕ) (e : Ending) (r : Recovered) : Type 0 where
   pub played : IsPlayed e
   pub shown : r ≡ Shown digest (state_after events e) (last_piece (pieces_of (run_of e)))

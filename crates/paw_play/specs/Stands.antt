@@ -11,8 +11,8 @@ use Rattle.paw_play.specs.declared.TheConstants.{MOST_EVENTS}
 use Rattle.paw_play.specs.Session.{IsKept}
 use Rattle.paw_play.specs.Walk.{Reading, first_lines, joined}
 
--- The bytes of a store stand for these lines of a game that was begun with this seed: a session has room for them, and it
--- keeps the reading of them all
+-- The bytes of a store stand for these lines of a game that was begun with this seed: a session has room for them, and
+-- it keeps the reading of them all
 pub record Stands (g : Story) (seed : ℕ) (es : List (List ℕ)) (bytes : List ℕ) : Type 0 where
   pub few : length es ≤ MOST_EVENTS
   pub keeps : IsKept (sha256 (image g.game)) (length es) (reading g seed es) (recover bytes)

@@ -33,8 +33,8 @@ pub record Reads (whole : Reading) (old new : Standing) (n : ℕ) (e : Ending) :
   pub there : n ≤ length old.lines
   pub stands : new ≡ played old n (text_of e)
 
--- where this is the text for each number of lines: that for all but the last of n lines. Before the first line no text was
--- shown
+-- where this is the text for each number of lines: that for all but the last of n lines. Before the first line no text
+-- was shown
 abbrev pub told_before : (ℕ → List ℕ) → ℕ → List ℕ
 told_before told zero = []
 told_before told (suc n) = told n
@@ -43,8 +43,8 @@ told_before told (suc n) = told n
 abbrev pub text_before : Reading → List (List ℕ) → ℕ → List ℕ
 text_before whole lines n = told_before (λ k. text_of (whole (first_lines k lines))) n
 
--- n lines were taken, and a first part of the text of their reading was shown: the text for all but the last, and a part of
--- the piece that the last one brings, which isn't empty
+-- n lines were taken, and a first part of the text of their reading was shown: the text for all but the last, and a
+-- part of the piece that the last one brings, which isn't empty
 pub record ReadsPart (whole : Reading) (old new : Standing) (n : ℕ) : Type 0 where
   pub shown : List ℕ
   pub rest : List ℕ

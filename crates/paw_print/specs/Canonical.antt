@@ -5,7 +5,8 @@ use Rattle.paw_game.specs.declared.parts.ObjectRow.{ObjectRow}
 use Rattle.paw_game.specs.declared.parts.Exit.{Exit}
 use Rattle.paw_game.specs.declared.parts.Entry.{Entry}
 use Rattle.paw_game.specs.Game.{GameLists}
-use Rattle.paw_print.specs.Lines.{spaced, word_tokens, item_token, text_lines, exit_tokens, object_tokens, condact_line, entry_tokens, table_tokens}
+use Rattle.paw_print.specs.Lines.{spaced, word_tokens, item_token, text_lines, exit_tokens}
+use Rattle.paw_print.specs.Lines.{object_tokens, condact_line, entry_tokens, table_tokens}
 
 -- the lines of rows that are numbered from n on
 abbrev pub numbered : {A : Type 0} → (ℕ → A → List (List ℕ)) → ℕ → List A → List (List ℕ)

@@ -2,7 +2,8 @@
 
 ghost use Rattle.std.specs.Prelude.{◌≡◌, ◌++◌, OnOk, flat_map, map};
 ghost use Rattle.std.specs.List.{AllByRecursion};
-ghost use Rattle.paw_print.specs.Lines.{behind_spaces, condact_line, entry_tokens, parameter_tokens, spaced, table_tokens};
+ghost use Rattle.paw_print.specs.Lines.{behind_spaces, condact_line, entry_tokens};
+ghost use Rattle.paw_print.specs.Lines.{parameter_tokens, spaced, table_tokens};
 ghost use Rattle.paw_print.specs.Canonical.{with_line_end, entry_lines, numbered, table_lines, written};
 ghost use Rattle.paw_print.specs.inner.Known.{IsKnown, IsKnownEntry, IsKnownTable};
 

@@ -2,7 +2,8 @@
 
 ghost use Rattle.std.specs.Prelude.{◌≡◌, ◌≤◌, ◌++◌, ◌∷◌, ◌==◌, OnOk, length, map};
 ghost use Rattle.std.specs.List.{position_or_len};
-ghost use Rattle.paw_print.specs.Lines.{class_name, spelled_letters, letters_or_none, spaced, value_token, verb_token, word_token, word_tokens};
+ghost use Rattle.paw_print.specs.Lines.{class_name, spelled_letters, letters_or_none, spaced};
+ghost use Rattle.paw_print.specs.Lines.{value_token, verb_token, word_token, word_tokens};
 ghost use Rattle.paw_print.specs.Canonical.{with_line_end, words_lines, written};
 ghost use Rattle.paw_print.specs.inner.Words.{TellsFirst};
 

@@ -1,5 +1,6 @@
 -- What is kept of a machine that waits, and the rules that it keeps.
-use Rattle.std.specs.Prelude.{ℕ, suc, ◌-◌, ◌==◌, ◌&&◌, Bool, false, not, List, [], ◌∷◌, ◌++◌, Option, Some, None, length, reverse, replicate, slice_get, nat_lt, nat_le, if◌then◌else◌}
+use Rattle.std.specs.Prelude.{ℕ, suc, ◌-◌, ◌==◌, ◌&&◌, Bool, false, not, List, [], ◌∷◌, ◌++◌, Option, Some}
+use Rattle.std.specs.Prelude.{None, length, reverse, replicate, slice_get, nat_lt, nat_le, if◌then◌else◌}
 use Rattle.paw_base.specs.declared.codes.TheConstants.{PROCESS, DOALL}
 use Rattle.paw_base.specs.declared.parts.Condact.{Condact}
 use Rattle.paw_game.specs.Game.{GameLists}

@@ -2,7 +2,9 @@
 
 ghost use Rattle.std.specs.Prelude.{◌≡◌, ℕ, ◌+◌, ◌<◌, ◌≤◌, ◌-◌, ◌==◌, if◌then◌else◌, length, slice_get};
 ghost use Rattle.paw_game.specs.Valid.{is_place};
-ghost use Rattle.paw_process.specs.Kept.{waiting_code, may_open, has_code, parameter_of, is_unused, row_stands, rows_fault, table_of, is_that_table, loop_stands, loop_fault, count_fits, frames_fault};
+ghost use Rattle.paw_process.specs.Kept.{waiting_code, may_open, has_code, parameter_of, is_unused};
+ghost use Rattle.paw_process.specs.Kept.{row_stands, rows_fault, table_of, is_that_table, loop_stands};
+ghost use Rattle.paw_process.specs.Kept.{loop_fault, count_fits, frames_fault};
 ghost use Rattle.paw_process.specs.inner.Kept.{waiting_at};
 
 use crate::machine::MOST_FRAMES;
@@ -12,8 +14,8 @@ use paw_effects::act::Prompt;
 use paw_game::tables::Tables;
 use paw_reading::places::{Frame, OpenLoop};
 
-/// Places of a machine that waits, as they are kept: how many tables are open, their frames, the outermost first and the
-/// rows behind them unused, and the open loop.
+/// Places of a machine that waits, as they are kept: how many tables are open, their frames, the outermost first and
+/// the rows behind them unused, and the open loop.
 #[derive(Clone, Copy, Drop, PartialEq, Eq, Debug)]
 pub struct Frames {
     pub count: u8,
@@ -21,8 +23,8 @@ pub struct Frames {
     pub turning: Option<OpenLoop>,
 }
 
-/// The least depth at which kept places break a rule: that of a frame from 0 on, or 11 for the open loop. A wrong number
-/// of frames is a fault at depth 0.
+/// The least depth at which kept places break a rule: that of a frame from 0 on, or 11 for the open loop. A wrong
+/// number of frames is a fault at depth 0.
 #[derive(Clone, Copy, Drop, PartialEq, Eq, Debug)]
 pub struct FrameFault {
     pub depth: u8,

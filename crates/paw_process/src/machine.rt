@@ -1,6 +1,7 @@
 // The machine: which tables are open, and what it may still read.
 
-ghost use Rattle.std.specs.Prelude.{◌≡◌, ℕ, ◌+◌, ◌<◌, ◌≤◌, ◌^◌, List, [], ◌∷◌, length, reverse, nat_lt, true, false, Some, None, IfOk, IfErr};
+ghost use Rattle.std.specs.Prelude.{◌≡◌, ℕ, ◌+◌, ◌<◌, ◌≤◌, ◌^◌, List, [], ◌∷◌, length, reverse};
+ghost use Rattle.std.specs.Prelude.{nat_lt, true, false, Some, None, IfOk, IfErr};
 ghost use Rattle.paw_game.specs.Game.{GameLists};
 ghost use Rattle.paw_game.specs.Valid.{Valid};
 ghost use Rattle.paw_base.specs.inner.Steps.{no_steps};
@@ -18,7 +19,8 @@ ghost use Rattle.paw_process.specs.OpenTables.{OpenTables};
 ghost use Rattle.paw_process.specs.inner.OpenTables.{below, ReadsStep, IsReading, IsWaiting, IsClosed};
 ghost use Rattle.paw_process.specs.Kept.{kept as kept_of, frames_fault};
 ghost use Rattle.paw_process.specs.inner.Kept.{restored, waiting_at, StandsAt};
-ghost use Rattle.paw_process.specs.inner.Meaning.{held, going_on, RunsTo, IsStopped, AwaitsAnswer, AnswersQuit, AnswersKey};
+ghost use Rattle.paw_process.specs.inner.Meaning.{held, going_on, RunsTo, IsStopped, AwaitsAnswer};
+ghost use Rattle.paw_process.specs.inner.Meaning.{AnswersQuit, AnswersKey};
 
 use crate::Turned;
 use crate::frame::{answered, start_of};
@@ -39,8 +41,8 @@ use std::marker::Model;
 pub const MOST_FRAMES: usize = 11;
 
 /// Reads a game's tables in written order, up to the next stop. It holds the places in the tables that are open, the
-/// open loop, how many condacts the open piece may still read, and the steps of that piece; contracts see the places with
-/// the innermost first.
+/// open loop, how many condacts the open piece may still read, and the steps of that piece; contracts see the places
+/// with the innermost first.
 #[derive(Drop)]
 pub struct Machine {
     rows: [Frame; MOST_FRAMES],
@@ -123,7 +125,8 @@ impl Machine {
 
     /// Reads on to the next stop. Where it waits, the text of the open piece is complete, and the machine's frames tell
     /// where it waits; otherwise no table and no loop is open. A piece reads at most 200,000 condacts and holds at most
-    /// 65,535 bytes: at more it is Spent, and what the world and the piece hold then is open, as where a call is too deep.
+    /// 65,535 bytes: at more it is Spent, and what the world and the piece hold then is open, as where a call is too
+    /// deep.
     pub fn run<T: Tables, F: Fn(u8, u8) -> u8>(
         &mut self,
         tables: &T,
@@ -150,8 +153,8 @@ impl Machine {
         }
     }
 
-    /// The places of the machine, to be kept where it waits. Restored at the prompt at which it stands, they are the same
-    /// machine with a full budget and no steps; and they are restored wherever they are places of a run.
+    /// The places of the machine, to be kept where it waits. Restored at the prompt at which it stands, they are the
+    /// same machine with a full budget and no steps; and they are restored wherever they are places of a run.
     pub fn frames(&self) -> Frames
         ensures value { result ≡ kept_of self.now }
         ensures again { (p : AtPrompt) → StandsAt p self.now → restored result (waiting_at p) ≡ record self.now { left = READ_LIMIT; steps = no_steps } }
@@ -166,7 +169,8 @@ impl Machine {
         }
     }
 
-    /// A machine of kept places, which waits at this prompt, with a full budget and no steps. Its places are these again.
+    /// A machine of kept places, which waits at this prompt, with a full budget and no steps. Its places are these
+    /// again.
     ///
     /// # Errors
     /// The least depth at which the places break a rule, exactly where they break one for this game: inside tables the
@@ -200,8 +204,8 @@ impl Machine {
         })
     }
 
-    /// The steps of the open piece, or of the piece that was closed last: the first 1,000 condacts that were read for it,
-    /// and how many there were.
+    /// The steps of the open piece, or of the piece that was closed last: the first 1,000 condacts that were read for
+    /// it, and how many there were.
     pub fn steps(&self) -> &Steps
         ensures value { result.now ≡ self.now.steps }
     {

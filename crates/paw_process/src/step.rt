@@ -1,6 +1,7 @@
 // One step of reading.
 
-ghost use Rattle.std.specs.Prelude.{◌≡◌, ◌≢◌, ℕ, ◌+◌, ◌-◌, ◌<◌, ◌≤◌, ◌^◌, List, [], ◌∷◌, length, true, false, Some, None, IsNone, if◌then◌else◌};
+ghost use Rattle.std.specs.Prelude.{◌≡◌, ◌≢◌, ℕ, ◌+◌, ◌-◌, ◌<◌, ◌≤◌, ◌^◌, List, [], ◌∷◌, length};
+ghost use Rattle.std.specs.Prelude.{true, false, Some, None, IsNone, if◌then◌else◌};
 ghost use Rattle.paw_game.specs.Valid.{Valid};
 ghost use Rattle.paw_game.specs.Tables.{condact_at};
 ghost use Rattle.paw_routines.specs.Routines.{AreRowsOf, HaveRows};
@@ -16,9 +17,12 @@ ghost use Rattle.paw_game.specs.inner.Valid.{is_right};
 ghost use Rattle.paw_reading.specs.Run.{Run};
 ghost use Rattle.paw_reading.specs.Reading.{Left, deeper, noted, acts, tests, parses, printing, waits, loop_of};
 ghost use Rattle.paw_reading.specs.inner.GoingOn.{along};
-ghost use Rattle.paw_process.specs.inner.OpenTables.{below, ReadsNone, IsAtCondact, AtCondacts, IsLoopWithin, LoopFits, IsReading};
+ghost use Rattle.paw_process.specs.inner.OpenTables.{below, ReadsNone, IsAtCondact, AtCondacts};
+ghost use Rattle.paw_process.specs.inner.OpenTables.{IsLoopWithin, LoopFits, IsReading};
 ghost use Rattle.paw_process.specs.inner.Meaning.{held, going_on, showing};
-ghost use Rattle.paw_process.specs.inner.Moves.{Continues, Stands, turning_as, reading_with, looping, running, settled, acted_at, next_of, past_of, turning_at, reading_at, Reads, ReadsOne};
+ghost use Rattle.paw_process.specs.inner.Moves.{Continues, Stands, turning_as, reading_with, looping};
+ghost use Rattle.paw_process.specs.inner.Moves.{running, settled, acted_at, next_of, past_of, turning_at};
+ghost use Rattle.paw_process.specs.inner.Moves.{reading_at, Reads, ReadsOne};
 ghost use Rattle.paw_process.specs.inner.Work.{work, frames_work, Progress};
 ghost use Rattle.paw_world.specs.inner.Places.{left_above};
 

@@ -1,6 +1,9 @@
 -- Reading tables in written order.
-use Rattle.std.specs.Prelude.{ℕ, zero, suc, ◌-◌, ◌==◌, ◌&&◌, ◌||◌, Bool, true, false, not, List, [], ◌∷◌, ◌++◌, Option, Some, None, length, drop, nat_lt, if◌then◌else◌}
-use Rattle.paw_base.specs.declared.flags.TheConstants.{VERB_FLAG, NOUN_FLAG, ADJECTIVE_FLAG, SECOND_NOUN_FLAG, SECOND_ADJECTIVE_FLAG, PRONOUN_NOUN_FLAG, PRONOUN_ADJECTIVE_FLAG, LOOP_FLAG}
+use Rattle.std.specs.Prelude.{ℕ, zero, suc, ◌-◌, ◌==◌, ◌&&◌, ◌||◌, Bool, true, false, not, List, []}
+use Rattle.std.specs.Prelude.{◌∷◌, ◌++◌, Option, Some, None, length, drop, nat_lt, if◌then◌else◌}
+use Rattle.paw_base.specs.declared.flags.TheConstants.{VERB_FLAG, NOUN_FLAG, ADJECTIVE_FLAG, SECOND_NOUN_FLAG}
+use Rattle.paw_base.specs.declared.flags.TheConstants.{SECOND_ADJECTIVE_FLAG, PRONOUN_NOUN_FLAG}
+use Rattle.paw_base.specs.declared.flags.TheConstants.{PRONOUN_ADJECTIVE_FLAG, LOOP_FLAG}
 use Rattle.paw_base.specs.declared.limits.TheConstants.{READ_LIMIT, LEVEL_LIMIT}
 use Rattle.paw_base.specs.declared.messages.TheConstants.{QUIT_MESSAGE, GOODBYE_MESSAGE}
 use Rattle.paw_base.specs.declared.words.TheConstants.{NO_WORD}
@@ -25,7 +28,8 @@ use Rattle.paw_effects.specs.Holds.{Tested, is_condition, holds}
 use Rattle.paw_effects.specs.Effects.{Done, effect_of, referred}
 use Rattle.paw_reading.specs.declared.places.Frame.{Frame}
 use Rattle.paw_reading.specs.declared.places.OpenLoop.{OpenLoop}
-use Rattle.paw_reading.specs.Run.{Run, Step, closed, fits, printed, with_world, without_loop, line_dropped, anew, is_ignored, heard, reply, is_yes, is_no, taken_phrase}
+use Rattle.paw_reading.specs.Run.{Run, Step, closed, fits, printed, with_world, without_loop, line_dropped}
+use Rattle.paw_reading.specs.Run.{anew, is_ignored, heard, reply, is_yes, is_no, taken_phrase}
 
 -- What ends play for good: the game is over; a piece would read or hold too much; or a call is too deep.
 pub data Halt : Type 0 where

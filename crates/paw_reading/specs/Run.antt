@@ -1,7 +1,11 @@
 -- A run of a game.
-use Rattle.std.specs.Prelude.{ℕ, ◌+◌, ◌%◌, ◌==◌, ◌&&◌, ◌||◌, Bool, false, List, [], ◌∷◌, ◌++◌, Option, None, length, nat_le, if◌then◌else◌}
+use Rattle.std.specs.Prelude.{ℕ, ◌+◌, ◌%◌, ◌==◌, ◌&&◌, ◌||◌, Bool, false, List, [], ◌∷◌}
+use Rattle.std.specs.Prelude.{◌++◌, Option, None, length, nat_le, if◌then◌else◌}
 use Rattle.std.specs.Str.{bytes_eq}
-use Rattle.paw_base.specs.declared.flags.TheConstants.{VERB_FLAG, NOUN_FLAG, ADJECTIVE_FLAG, ADVERB_FLAG, PREPOSITION_FLAG, SECOND_NOUN_FLAG, SECOND_ADJECTIVE_FLAG, PRONOUN_NOUN_FLAG, PRONOUN_ADJECTIVE_FLAG, TIMEOUT_FLAG, TIMED_OUT_FLAG}
+use Rattle.paw_base.specs.declared.flags.TheConstants.{VERB_FLAG, NOUN_FLAG, ADJECTIVE_FLAG, ADVERB_FLAG}
+use Rattle.paw_base.specs.declared.flags.TheConstants.{PREPOSITION_FLAG, SECOND_NOUN_FLAG, SECOND_ADJECTIVE_FLAG}
+use Rattle.paw_base.specs.declared.flags.TheConstants.{PRONOUN_NOUN_FLAG, PRONOUN_ADJECTIVE_FLAG, TIMEOUT_FLAG}
+use Rattle.paw_base.specs.declared.flags.TheConstants.{TIMED_OUT_FLAG}
 use Rattle.paw_base.specs.declared.limits.TheConstants.{PIECE_LIMIT}
 use Rattle.paw_base.specs.declared.words.TheConstants.{NO_WORD}
 pub use Rattle.paw_base.specs.declared.steps.StepRow.{StepRow as Step}

@@ -1,8 +1,14 @@
 -- The turn, and the reading of a list of lines.
-use Rattle.std.specs.Prelude.{ℕ, zero, suc, ◌+◌, ◌-◌, ◌*◌, ◌/◌, ◌%◌, ◌==◌, Bool, true, false, List, [], ◌∷◌, ◌++◌, Option, Some, None, length, map, sum_by, flat_map, nat_lt, min, if◌then◌else◌}
-use Rattle.paw_base.specs.declared.flags.TheConstants.{VIEW_FLAG, DARK_VIEW_FLAG, UNLIT_VIEW_FLAG, FIRST_FRAME_FLAG, LAST_FRAME_FLAG, DARK_FRAME_FLAG, UNLIT_FRAME_FLAG, LOW_TURNS_FLAG, HIGH_TURNS_FLAG, VERB_FLAG, LOCATION_FLAG, PROMPT_FLAG}
+use Rattle.std.specs.Prelude.{ℕ, zero, suc, ◌+◌, ◌-◌, ◌*◌, ◌/◌, ◌%◌, ◌==◌, Bool, true, false, List, [], ◌∷◌, ◌++◌}
+use Rattle.std.specs.Prelude.{Option, Some, None, length, map, sum_by, flat_map, nat_lt, min, if◌then◌else◌}
+use Rattle.paw_base.specs.declared.flags.TheConstants.{VIEW_FLAG, DARK_VIEW_FLAG, UNLIT_VIEW_FLAG, FIRST_FRAME_FLAG}
+use Rattle.paw_base.specs.declared.flags.TheConstants.{LAST_FRAME_FLAG, DARK_FRAME_FLAG, UNLIT_FRAME_FLAG}
+use Rattle.paw_base.specs.declared.flags.TheConstants.{LOW_TURNS_FLAG, HIGH_TURNS_FLAG, VERB_FLAG, LOCATION_FLAG}
+use Rattle.paw_base.specs.declared.flags.TheConstants.{PROMPT_FLAG}
 use Rattle.paw_base.specs.declared.limits.TheConstants.{READ_LIMIT}
-use Rattle.paw_base.specs.declared.messages.TheConstants.{DARK_MESSAGE, PROMPT_MESSAGE, UNKNOWN_MESSAGE, NO_WAY_MESSAGE, IMPOSSIBLE_MESSAGE, LINE_MESSAGE, TIMEOUT_MESSAGE}
+use Rattle.paw_base.specs.declared.messages.TheConstants.{DARK_MESSAGE, PROMPT_MESSAGE, UNKNOWN_MESSAGE}
+use Rattle.paw_base.specs.declared.messages.TheConstants.{NO_WAY_MESSAGE, IMPOSSIBLE_MESSAGE, LINE_MESSAGE}
+use Rattle.paw_base.specs.declared.messages.TheConstants.{TIMEOUT_MESSAGE}
 use Rattle.paw_base.specs.declared.words.TheConstants.{NO_WORD, FIRST_PLAIN_VERB}
 use Rattle.paw_base.specs.declared.fault.SpentKind.TheVariants as spent
 use Rattle.paw_game.specs.Game.{GameLists}
@@ -15,8 +21,10 @@ use Rattle.paw_effects.specs.declared.act.Prompt.TheVariants as prompt
 use Rattle.paw_effects.specs.Counts.{turns_taken}
 use Rattle.paw_effects.specs.Texts.{put_text, say_text, location_text}
 use Rattle.paw_reading.specs.declared.places.Frame.{Frame}
-use Rattle.paw_reading.specs.Run.{Run, closed, fits, printed, with_world, line_dropped, is_timeout, is_ignored, heard, with_timeout, taken_phrase}
-use Rattle.paw_reading.specs.Reading.{Halt, IsOver, RunsOut, Stop, Redescribes, Restarts, Halts, Out, Left, Waits, Stopped, coming_phrase, table_read}
+use Rattle.paw_reading.specs.Run.{Run, closed, fits, printed, with_world, line_dropped, is_timeout}
+use Rattle.paw_reading.specs.Run.{is_ignored, heard, with_timeout, taken_phrase}
+use Rattle.paw_reading.specs.Reading.{Halt, IsOver, RunsOut, Stop, Redescribes, Restarts, Halts}
+use Rattle.paw_reading.specs.Reading.{Out, Left, Waits, Stopped, coming_phrase, table_read}
 use Rattle.paw_reading.specs.GoingOn.{on_path}
 
 -- the four stages of a turn

@@ -1,8 +1,10 @@
 // The laws of reading.
 
-ghost use Rattle.paw_reading.specs.inner.Longer.{TablesGoOn, PathsGoOn, TurnsGoOn, PastStays, LongerReading, LongerText};
+ghost use Rattle.paw_reading.specs.inner.Longer.{TablesGoOn, PathsGoOn, TurnsGoOn, PastStays};
+ghost use Rattle.paw_reading.specs.inner.Longer.{LongerReading, LongerText};
 ghost use Rattle.paw_reading.specs.inner.Pieces.{PiecesOfLines};
-ghost use Rattle.paw_reading.specs.inner.Places.{ReadingsStopRightly, GoingOnStopsRightly, ReadingsAreBounded, GoingOnIsBounded};
+ghost use Rattle.paw_reading.specs.inner.Places.{ReadingsStopRightly, GoingOnStopsRightly};
+ghost use Rattle.paw_reading.specs.inner.Places.{ReadingsAreBounded, GoingOnIsBounded};
 ghost use Rattle.paw_reading.specs.inner.Rules.{ReadingOn};
 ghost use Rattle.paw_reading.specs.inner.Turn.{TurnsEnd, EndsOnce, GoingOnEnds, GoesOnOnce, WaitsOn, GoingOnIsReading};
 
@@ -61,16 +63,17 @@ pub fn waits_on()
     ensures waits { WaitsOn }
 {}
 
-/// A reading of a valid game waits only where it may: the open tables lead from one to the next, each by its PROCESS, to
-/// QUIT, END or ANYKEY, and the open loop is one of theirs. At the main prompt, and where the game is over, nothing is open
-/// and nothing is left of the line. Each object stands at a place of the game, now and in the saved position, each flag is
-/// a byte, at most 255 bytes are left of the line, and nothing of a piece is open.
+/// A reading of a valid game waits only where it may: the open tables lead from one to the next, each by its PROCESS,
+/// to QUIT, END or ANYKEY, and the open loop is one of theirs. At the main prompt, and where the game is over, nothing
+/// is open and nothing is left of the line. Each object stands at a place of the game, now and in the saved position,
+/// each flag is a byte, at most 255 bytes are left of the line, and nothing of a piece is open.
 pub fn stops_rightly()
     ensures readings { ReadingsStopRightly }
     ensures going_on { GoingOnStopsRightly }
 {}
 
-/// Each piece of a reading draws at most 200,000 random words and has at most 65,535 bytes, and what was read in it is kept.
+/// Each piece of a reading draws at most 200,000 random words and has at most 65,535 bytes, and what was read in it is
+/// kept.
 pub fn stays_bounded()
     ensures readings { ReadingsAreBounded }
     ensures going_on { GoingOnIsBounded }

@@ -6,7 +6,8 @@ ghost use Rattle.paw_grammar.specs.inner.Condacts.{AreSmall};
 ghost use Rattle.paw_grammar.specs.inner.Gives.{Gives};
 ghost use Rattle.paw_grammar.specs.GrammarState.{game_of, nothing_yet};
 ghost use Rattle.paw_grammar.specs.GrammarTexts.{is_in_text};
-ghost use Rattle.paw_grammar.specs.GrammarHeads.{con_header, header, header_name, header_of, item_in, new_exits, next_section, plain_header, pro_header, slash_line, table_header};
+ghost use Rattle.paw_grammar.specs.GrammarHeads.{con_header, header, header_name, header_of, item_in, new_exits};
+ghost use Rattle.paw_grammar.specs.GrammarHeads.{next_section, plain_header, pro_header, slash_line, table_header};
 ghost use Rattle.paw_grammar.specs.GrammarRows.{bounds_of, con_row, obj_row, pro_row, row_in};
 ghost use Rattle.paw_grammar.specs.Spells.{text_added};
 ghost use Rattle.paw_source.specs.inner.Drafts.{HasTable};
@@ -194,8 +195,8 @@ impl Draft {
 
     // ---- lines that begin with `/` ----
 
-    /// Reads a line that begins with `/`, of which the first token was taken; `item` is its number, where `/` and a number
-    /// are that token.
+    /// Reads a line that begins with `/`, of which the first token was taken; `item` is its number, where `/` and a
+    /// number are that token.
     pub(crate) fn slash(
         &mut self,
         alloc: Global,
@@ -341,8 +342,8 @@ impl Draft {
 
     // ---- rows ----
 
-    /// Reads a line of tokens that doesn't begin with `/`; `blank` tells that it begins with a space or a tab, `tables` how
-    /// many headers of tables the source has.
+    /// Reads a line of tokens that doesn't begin with `/`; `blank` tells that it begins with a space or a tab, `tables`
+    /// how many headers of tables the source has.
     pub(crate) fn row(
         &mut self,
         alloc: Global,

@@ -19,8 +19,8 @@ use std::alloc::Global;
 /// Adds the entry of a line to a table.
 ///
 /// # Errors
-/// The first fault of the line: those of its tokens, and TooBig where it has more than 255 condacts or the table has 4,000
-/// entries.
+/// The first fault of the line: those of its tokens, and TooBig where it has more than 255 condacts or the table has
+/// 4,000 entries.
 #[tactic(auto, unfolding(paw_grammar::specs::GrammarRows::entry_row))]
 pub(crate) fn entry_row(
     alloc: Global,
@@ -50,8 +50,8 @@ pub(crate) fn entry_row(
 /// Adds the condacts of a line to the last entry of a table.
 ///
 /// # Errors
-/// Section where the table has no entry; else the first fault of the line, TooBig among them where the entry would have more
-/// than 255 condacts.
+/// Section where the table has no entry; else the first fault of the line, TooBig among them where the entry would have
+/// more than 255 condacts.
 #[tactic(auto, unfolding(paw_grammar::specs::GrammarRows::more_row))]
 pub(crate) fn more_row(
     bounds: &Bounds,

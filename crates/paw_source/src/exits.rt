@@ -34,7 +34,8 @@ fn has_exit(exits: &[Exit], verb: u8) -> bool
 /// Adds the exit of a row of `/CON` to those of its location.
 ///
 /// # Errors
-/// The first fault of the row: those of its two tokens, Extra, and Duplicate where the location has an exit for this verb.
+/// The first fault of the row: those of its two tokens, Extra, and Duplicate where the location has an exit for this
+/// verb.
 #[tactic(auto, unfolding(paw_grammar::specs::GrammarRows::exit_row))]
 pub(crate) fn exit_row(
     words: &Vocabulary,

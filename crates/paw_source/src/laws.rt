@@ -1,6 +1,7 @@
 // Laws of the grammar of sources.
 
-ghost use Rattle.paw_source.specs.inner.Laws.{CountsTables, DraftsAreValid, IsNamedRightly, NamesTheFirst, SpellsValidGames};
+ghost use Rattle.paw_source.specs.inner.Laws.{CountsTables, DraftsAreValid, IsNamedRightly};
+ghost use Rattle.paw_source.specs.inner.Laws.{NamesTheFirst, SpellsValidGames};
 
 /// The first line with a fault is named.
 pub fn the_first_is_named()

@@ -18,8 +18,8 @@ use paw_grammar::words::{class, object_kind, word};
 /// Declares the word of a row of `/VOC`.
 ///
 /// # Errors
-/// The first fault of the row: those of its three tokens, Extra, Duplicate where its letters are declared, and TooBig where
-/// there are 2,000 words.
+/// The first fault of the row: those of its three tokens, Extra, Duplicate where its letters are declared, and TooBig
+/// where there are 2,000 words.
 #[tactic(auto, unfolding(paw_grammar::specs::GrammarRows::voc_row))]
 pub(crate) fn voc_row(words: &mut Vocabulary, tokens: &mut Tokens) -> Result<(), ReadError>
     ensures { Gives (λ _. words.new) result (voc_row words.old tokens.old) }

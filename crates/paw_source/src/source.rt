@@ -114,9 +114,9 @@ fn read_lines(alloc: Global, tables: u32, source: &[u8]) -> Result<Game, SourceR
 /// The game that a source spells.
 ///
 /// # Errors
-/// Fault exactly where the source spells none: the line and the kind of its first fault. Line 0 and TooBig tell of a source
-/// of more than 8,388,608 bytes; the number of lines plus one tells that table 2 is missing, or, by TooBig, that the image
-/// would have more than 4,194,304 bytes. Memory only for want of memory.
+/// Fault exactly where the source spells none: the line and the kind of its first fault. Line 0 and TooBig tell of a
+/// source of more than 8,388,608 bytes; the number of lines plus one tells that table 2 is missing, or, by TooBig, that
+/// the image would have more than 4,194,304 bytes. Memory only for want of memory.
 #[tactic(auto, unfolding(paw_grammar::specs::Spells::spelled))]
 pub fn read_source(alloc: Global, bytes: &[u8]) -> Result<Game, SourceRefusal>
     ensures value { Reads result (spelled bytes.now) }

@@ -13,7 +13,8 @@ ghost use Rattle.paw_stage.specs.Stage.{LoadsTo, SavesTo, AttachesTo, ReadsTo, W
 ghost use Rattle.paw_stage.specs.Moments.{Still, InAsk, InShow, InSave, InAttach, InWrite, InSync};
 ghost use Rattle.paw_stage.specs.inner.Faults.{count_of};
 ghost use Rattle.paw_stage.specs.inner.Crash.{crashed};
-ghost use Rattle.paw_stage.specs.inner.Done.{loaded, saved, attached_store, read_store, wrote_store, synced_store, took};
+ghost use Rattle.paw_stage.specs.inner.Done.{loaded, saved, attached_store, read_store};
+ghost use Rattle.paw_stage.specs.inner.Done.{wrote_store, synced_store, took};
 ghost use Rattle.paw_stage.specs.inner.Done.{ended, showed};
 ghost use Rattle.paw_stage.specs.inner.Memory.{empty, standing_of, clock_of, moments_of, only_moment, Throughout};
 ghost use Rattle.paw_stage.specs.inner.Memory.{can_note, noted, failed, found_none, line_taken, with_file, with_line};

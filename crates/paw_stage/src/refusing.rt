@@ -10,7 +10,8 @@ ghost use Rattle.paw_stage.specs.Stage.{Faulted, failed_in, failed_load, failed_
 ghost use Rattle.paw_stage.specs.Stage.{LoadsTo, SavesTo, AttachesTo, ReadsTo, WritesTo, SyncsTo, AsksTo, ShowsTo};
 ghost use Rattle.paw_stage.specs.Moments.{Still, InAsk, InShow, InSave, InAttach, InWrite, InSync};
 ghost use Rattle.paw_stage.specs.inner.Faults.{no_faults};
-ghost use Rattle.paw_stage.specs.inner.Done.{loaded, saved, attached_store, read_store, wrote_store, synced_store, took};
+ghost use Rattle.paw_stage.specs.inner.Done.{loaded, saved, attached_store, read_store};
+ghost use Rattle.paw_stage.specs.inner.Done.{wrote_store, synced_store, took};
 ghost use Rattle.paw_stage.specs.inner.Done.{ended, showed};
 ghost use Rattle.paw_stage.specs.inner.Memory.{clock_of, moments_of, only_moment, noted, found_none, line_taken};
 ghost use Rattle.paw_stage.specs.inner.Refusing.{faults_of, standing_of, Throughout};

@@ -10,7 +10,8 @@ ghost use Rattle.paw_stage.specs.inner.Stage.{IfAttached};
 ghost use Rattle.paw_stage.specs.inner.Done.{Done, step};
 ghost use Rattle.paw_stage.specs.inner.Crash.{crashed, all_spoiled};
 ghost use Rattle.paw_stage.specs.inner.Log.{done_in, all_done, replayed, AreLaid};
-ghost use Rattle.paw_stage.specs.inner.Seen.{HasLength, Sees, IsFiled, IsNamed, FindsStore, FindsNext, LaysOver, Spoils};
+ghost use Rattle.paw_stage.specs.inner.Seen.{HasLength, Sees, IsFiled, IsNamed, FindsStore};
+ghost use Rattle.paw_stage.specs.inner.Seen.{FindsNext, LaysOver, Spoils};
 ghost use Rattle.paw_stage.specs.inner.Seen.{writes, is_written};
 
 use crate::log::{Call, Kind};

@@ -1,5 +1,6 @@
 -- The first field of a state that breaks its rule.
-use Rattle.std.specs.Prelude.{ℕ, suc, ◌+◌, ◌-◌, ◌*◌, ◌==◌, ◌||◌, Bool, List, [], ◌∷◌, Option, Some, None, length, take, drop, is_some, nat_lt, nat_le, slice_get, if◌then◌else◌}
+use Rattle.std.specs.Prelude.{ℕ, suc, ◌+◌, ◌-◌, ◌*◌, ◌==◌, ◌||◌, Bool, List, [], ◌∷◌, Option, Some, None}
+use Rattle.std.specs.Prelude.{length, take, drop, is_some, nat_lt, nat_le, slice_get, if◌then◌else◌}
 use Rattle.paw_base.specs.declared.codes.TheConstants.{PROCESS, DOALL}
 use Rattle.paw_base.specs.declared.limits.TheConstants.{READ_LIMIT, EVENT_LIMIT}
 use Rattle.paw_game.specs.Game.{GameLists}
@@ -8,7 +9,8 @@ use Rattle.paw_game.specs.Valid.{is_place}
 use Rattle.paw_effects.specs.declared.act.Prompt.{Prompt}
 use Rattle.paw_effects.specs.declared.act.Prompt.TheVariants as prompt
 use Rattle.paw_reading.specs.declared.places.OpenLoop.{OpenLoop}
-use Rattle.paw_process.specs.Kept.{waiting_code, may_open, has_code, parameter_of, is_that_table, count_fits, code_or_zero}
+use Rattle.paw_process.specs.Kept.{waiting_code, may_open, has_code, parameter_of}
+use Rattle.paw_process.specs.Kept.{is_that_table, count_fits, code_or_zero}
 use Rattle.paw_state.specs.declared.layout.TheConstants.{PLACES, SAVED, HELD_FLAGS, HELD_PLACES, HELD_LENGTH, DRAWS}
 use Rattle.paw_state.specs.declared.layout.TheConstants.{EVENTS, PROMPT, COUNT, ROWS, ROW_LENGTH, ROW_ENTRY, ROW_AT}
 use Rattle.paw_state.specs.declared.layout.TheConstants.{ROW_ACTED, LOOPING, LOOP_LEVEL, LOOP_TABLE, LOOP_ENTRY}
@@ -95,7 +97,8 @@ unused_fault at r = first (
     ∷ rule (at + ROW_ACTED) (r.acted == 0)
     ∷ [])
 
--- one that is used is of the table that was called (the outermost of table 0, 1 or 2), and stands at a condact of this code
+-- one that is used is of the table that was called (the outermost of table 0, 1 or 2), and stands at a condact of this
+-- code
 abbrev pub used_fault : GameLists → ℕ → Option ℕ → ℕ → Row → Option ℕ
 used_fault g code caller at r = first (
     rule at (may_open caller r.table)
@@ -113,7 +116,8 @@ row_fault g code caller n at r =
 abbrev pub called_table : GameLists → Row → Option ℕ
 called_table g r = Some (parameter_of (condact_at g r.table r.entry r.at))
 
--- the first fault of rows that stand from this place on, of which n are used, the first of them of the table that was called
+-- the first fault of rows that stand from this place on, of which n are used, the first of them of the table that was
+-- called
 unfoldable pub row_fields_fault : GameLists → ℕ → Option ℕ → ℕ → ℕ → List Row → Option ℕ
 row_fields_fault g code caller n at [] = None
 row_fields_fault g code caller n at (r ∷ rs) =
@@ -164,8 +168,8 @@ pending_fault f = first (
     ∷ first_not is_zero (LINE + f.pending) (drop f.pending f.line)
     ∷ [])
 
--- The place of the first field that breaks its rule, in the order of the fields, but for one: how many lines were taken is
--- looked at before how many words were drawn
+-- The place of the first field that breaks its rule, in the order of the fields, but for one: how many lines were taken
+-- is looked at before how many words were drawn
 abbrev pub fields_fault : GameLists → Fields → Option ℕ
 fields_fault g f = first (
     places_fault g PLACES f.places

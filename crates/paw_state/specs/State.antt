@@ -11,8 +11,8 @@ use Rattle.paw_process.specs.declared.machine.TheConstants.{MOST_FRAMES}
 use Rattle.paw_process.specs.Kept.{kept, waiting_code, frames_fault}
 use Rattle.paw_process.specs.declared.kept.Frames.{Frames}
 
--- the world; the places in the tables that are open; what is pending; the prompt; how many lines were taken; and how many
--- bytes the last piece has
+-- the world; the places in the tables that are open; what is pending; the prompt; how many lines were taken; and how
+-- many bytes the last piece has
 pub record State : Type 0 where
   pub world : World
   pub frames : Frames
@@ -21,10 +21,10 @@ pub record State : Type 0 where
   pub events : ℕ
   pub piece : ℕ
 
--- The rules of a state: the world is the game's, with each object at a place, now, in the saved position and in the kept
--- ones; not too many lines were taken, and no piece drew more words than it may read condacts; the open tables and
--- the open loop are such as a game waits in at the prompt, with room for all that may be; not too many bytes are pending,
--- and none where no table is open
+-- The rules of a state: the world is the game's, with each object at a place, now, in the saved position and in the
+-- kept ones; not too many lines were taken, and no piece drew more words than it may read condacts; the open tables and
+-- the open loop are such as a game waits in at the prompt, with room for all that may be; not too many bytes are
+-- pending, and none where no table is open
 pub record Keeps (g : GameLists) (s : State) : Type 0 where
   pub world : IsOf g s.world
   pub sound : IsWorld s.world

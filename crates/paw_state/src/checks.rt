@@ -3,7 +3,11 @@
 ghost use Rattle.std.specs.Prelude.{◌≡◌, ◌+◌, ◌<◌, ◌≤◌, ◌^◌, ◌*◌, length, slice_get};
 ghost use Rattle.paw_game.specs.Valid.{Valid, is_place};
 ghost use Rattle.paw_process.specs.Kept.{is_that_table};
-ghost use Rattle.paw_state.specs.Faults.{rule, first_not, is_zero, places_fault, absent_fault, held_fault, kept_fault, numbers_fault, prompt_of, prompt_fault, unused_fault, used_fault, row_fault, row_fields_fault, no_loop_fault, row_table, loop_fields_fault, turning_fault, frame_fields_fault, pending_fault, fields_fault};
+ghost use Rattle.paw_state.specs.Faults.{rule, first_not, is_zero, places_fault, absent_fault, held_fault};
+ghost use Rattle.paw_state.specs.Faults.{kept_fault, numbers_fault, prompt_of, prompt_fault, unused_fault};
+ghost use Rattle.paw_state.specs.Faults.{used_fault, row_fault, row_fields_fault, no_loop_fault, row_table};
+ghost use Rattle.paw_state.specs.Faults.{loop_fields_fault, turning_fault, frame_fields_fault, pending_fault};
+ghost use Rattle.paw_state.specs.Faults.{fields_fault};
 ghost use Rattle.paw_state.specs.inner.Faults.{fault_of};
 
 use crate::StateFault;

@@ -2,7 +2,9 @@
 
 ghost use Rattle.std.specs.Prelude.{◌≡◌, ◌+◌, ◌≤◌, ◌++◌, length, drop, flat_map, slice_range};
 ghost use Rattle.paw_state.specs.State.{AreBytes};
-ghost use Rattle.paw_state.specs.Fields.{zeros, two_at, eight_at, held_at, row_at, rows_at, held_bytes, row_bytes, loop_bytes, fields_at, world_bytes, number_bytes, table_bytes, pending_bytes, kept_position_bytes, field_bytes};
+ghost use Rattle.paw_state.specs.Fields.{zeros, two_at, eight_at, held_at, row_at, rows_at, held_bytes};
+ghost use Rattle.paw_state.specs.Fields.{row_bytes, loop_bytes, fields_at, world_bytes, number_bytes, table_bytes};
+ghost use Rattle.paw_state.specs.Fields.{pending_bytes, kept_position_bytes, field_bytes};
 
 use crate::held::Held;
 use crate::layout::{

@@ -1,6 +1,7 @@
 // From the bytes of a state to the parts of a game.
 
-ghost use Rattle.std.specs.Prelude.{◌+◌, ◌*◌, slice_index, ◌≡◌, ◌≢◌, ◌<◌, ◌≤◌, ◌++◌, ◌↔◌, None, length, map, replicate, slice_set, IsOk, IfOk, IfErr};
+ghost use Rattle.std.specs.Prelude.{◌+◌, ◌*◌, slice_index, ◌≡◌, ◌≢◌, ◌<◌, ◌≤◌, ◌++◌, ◌↔◌, None};
+ghost use Rattle.std.specs.Prelude.{length, map, replicate, slice_set, IsOk, IfOk, IfErr};
 ghost use Rattle.paw_process.specs.Kept.{kept, frames_fault};
 ghost use Rattle.paw_process.specs.inner.Kept.{restored, waiting_at, StandsAt};
 ghost use Rattle.paw_state.specs.Faults.{fields_fault};
@@ -22,8 +23,8 @@ use paw_process::{Frames, MOST_FRAMES, Machine};
 use paw_reading::places::Frame;
 use paw_world::world::World;
 
-/// What a state's bytes are of: the parts with which a player of this game goes on. The bytes from 3,419 on aren't read.
-/// Takes no memory.
+/// What a state's bytes are of: the parts with which a player of this game goes on. The bytes from 3,419 on aren't
+/// read. Takes no memory.
 ///
 /// # Errors
 /// The place of the first field that breaks its rule, exactly where the bytes are no state of this game.

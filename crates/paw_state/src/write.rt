@@ -1,10 +1,12 @@
 // From a game that is played to the bytes of its state.
 
-ghost use Rattle.std.specs.Prelude.{◌+◌, ◌*◌, slice_index, ◌≡◌, ◌≤◌, ◌<◌, ◌++◌, length, map, All, IfSome, MatchOption, Some, None};
+ghost use Rattle.std.specs.Prelude.{◌+◌, ◌*◌, slice_index, ◌≡◌, ◌≤◌, ◌<◌, ◌++◌, length};
+ghost use Rattle.std.specs.Prelude.{map, All, IfSome, MatchOption, Some, None};
 ghost use Rattle.paw_world.specs.World.{kept_position, IsWorld};
 ghost use Rattle.paw_state.specs.State.{AreBytes, HoldsBytes, FitsFields};
 ghost use Rattle.paw_state.specs.inner.State.{state_of};
-ghost use Rattle.paw_state.specs.Fields.{zeros, filled, held_of, prompt_code, row_of, loop_or_zeros, fields_of, state_bytes};
+ghost use Rattle.paw_state.specs.Fields.{zeros, filled, held_of, prompt_code, row_of};
+ghost use Rattle.paw_state.specs.Fields.{loop_or_zeros, fields_of, state_bytes};
 
 use crate::fields::{Fields, Row};
 use crate::held::Held;

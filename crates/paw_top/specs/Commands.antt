@@ -1,5 +1,6 @@
 -- The words of a command.
-use Rattle.std.specs.Prelude.{ℕ, ◌+◌, ◌-◌, ◌*◌, ◌^◌, Bool, ◌&&◌, List, [], ◌∷◌, length, Option, Some, None, nat_lt, nat_le, codes, map, string_bytes}
+use Rattle.std.specs.Prelude.{ℕ, ◌+◌, ◌-◌, ◌*◌, ◌^◌, Bool, ◌&&◌, List, [], ◌∷◌, length, Option}
+use Rattle.std.specs.Prelude.{Some, None, nat_lt, nat_le, codes, map, string_bytes}
 use Rattle.std.specs.Prelude.{if◌then◌else◌}
 use Rattle.std.specs.declared.string.String.{String}
 use Rattle.std.specs.List.{list_all}
@@ -7,8 +8,8 @@ use Rattle.std.specs.Str.{bytes_eq}
 use Rattle.paw_grammar.specs.Numbers.{is_digit}
 
 -- what is asked for: to compile a source to an image; to show the source of an image; to walk through the game of an
--- image, with a seed; to trace that walk; to play it, with a new session in a store; to go on with the session in a store; to play the trial of
--- a number
+-- image, with a seed; to trace that walk; to play it, with a new session in a store; to go on with the session in a
+-- store; to play the trial of a number
 pub data Command : Type 0 where
   Compile : (source image : List ℕ) → Command
   Decompile : (image : List ℕ) → Command

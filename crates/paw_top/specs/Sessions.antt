@@ -21,14 +21,15 @@ digest_of g = sha256 (image g)
 abbrev pub session_from : Story → List ℕ → State → List ℕ → Played
 session_from s store st piece = kept_session s st piece (digest_of s.game) store
 
--- a new session of the game that this file holds, with these rows of routines, or why it isn't played, with nothing changed
+-- a new session of the game that this file holds, with these rows of routines, or why it isn't played, with nothing
+-- changed
 pub data PlaysNewIn (rows : List (List ℕ)) (name store : List ℕ) (seed : ℕ) (old new : Standing) : Outcome → Type 0 where
   plays : (g : GameLists) (end : PlayEnd) → Holds old name g → PlaysGame (story_of g rows) seed store old new end →
       PlaysNewIn rows name store seed old new (outcome_of end)
   unopened : (o : Outcome) → Unopened name old new o → PlaysNewIn rows name store seed old new o
 
--- a session that is taken up again, of the game that this file holds, with these rows of routines, or why it isn't, with
--- nothing changed
+-- a session that is taken up again, of the game that this file holds, with these rows of routines, or why it isn't,
+-- with nothing changed
 pub data PlaysAgainIn (rows : List (List ℕ)) (name store : List ℕ) (old new : Standing) : Outcome → Type 0 where
   plays : (g : GameLists) (end : PlayEnd) → Holds old name g → PlaysAgain (story_of g rows) (digest_of g) store old new end →
       PlaysAgainIn rows name store old new (outcome_of end)

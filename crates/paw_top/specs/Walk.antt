@@ -13,7 +13,8 @@ use Rattle.paw_top.specs.Loads.{Holds}
 use Rattle.paw_top.specs.Opens.{Unopened}
 use Rattle.paw_top.specs.declared.outcome.Outcome.{Outcome}
 
--- a walk through the game that this file holds, with these rows of routines, told so, or why there is none, with nothing changed
+-- a walk through the game that this file holds, with these rows of routines, told so, or why there is none, with
+-- nothing changed
 pub data WalksAs (told : Story → ℕ → Reading) (rows : List (List ℕ)) (name : List ℕ) (seed : ℕ) (old new : Standing) : Outcome → Type 0 where
   walks : (g : GameLists) (end : PlayEnd) → Holds old name g → Walks (told (story_of g rows) seed) MOST_EVENTS old new end →
       WalksAs told rows name seed old new (outcome_of end)

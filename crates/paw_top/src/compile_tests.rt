@@ -1,4 +1,5 @@
-// Sources that are compiled and images that are decompiled, over stages in memory, and each way in which one is refused.
+// Sources that are compiled and images that are decompiled, over stages in memory, and each way in which one is
+// refused.
 
 use crate::outcome::{MemoryAt, Outcome};
 use crate::settled::{run, settle, settle_and_run};

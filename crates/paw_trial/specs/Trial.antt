@@ -14,8 +14,8 @@ trial_story n = story_of (trial_game n) []
 abbrev pub trial_reading : ℕ → Ending
 trial_reading n = reading (trial_story n) n (trial_lines n)
 
--- How large the game of a trial is, how many lines were taken and how many turns counted; and of the world at the end the
--- player's location, and how many objects they carry.
+-- How large the game of a trial is, how many lines were taken and how many turns counted; and of the world at the end
+-- the player's location, and how many objects they carry.
 abbrev pub trial_text : ℕ → World → List ℕ
 trial_text n w =
     codes "TRIAL " ++ (decimal n ++ (codes ": "

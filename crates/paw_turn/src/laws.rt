@@ -2,7 +2,8 @@
 
 ghost use Rattle.paw_turn.specs.inner.Parts.{RestoredFits, SeatedAgain, GoesOnAlike};
 
-/// A world of the game, a machine that was restored for it, and what may be pending there are what a player is seated with.
+/// A world of the game, a machine that was restored for it, and what may be pending there are what a player is seated
+/// with.
 pub fn restored_fits()
     ensures fits { RestoredFits }
 {}

@@ -12,7 +12,8 @@ ghost use Rattle.paw_reading.specs.Turn.{first_table};
 ghost use Rattle.paw_process.specs.inner.OpenTables.{IsClosed};
 ghost use Rattle.paw_turn.specs.declared.stage.Next.TheVariants as next;
 ghost use Rattle.paw_turn.specs.inner.Player.{WaitsIn, StandsAt};
-ghost use Rattle.paw_turn.specs.inner.Stages.{PlaysAs, RunsAs, from_prompt, from_path, IsPlayable, HasReadSome, Keeps, StopsInTable, AwaitsAt};
+ghost use Rattle.paw_turn.specs.inner.Stages.{PlaysAs, RunsAs, from_prompt, from_path, IsPlayable};
+ghost use Rattle.paw_turn.specs.inner.Stages.{HasReadSome, Keeps, StopsInTable, AwaitsAt};
 
 use crate::stage::{Next, Stage};
 use crate::turn::Turn;
@@ -115,8 +116,8 @@ impl Turn {
         }
     }
 
-    /// Takes a line that isn't ignored at the main prompt: at a timeout message 35 is said, and the frame comes; any other
-    /// line is pending now.
+    /// Takes a line that isn't ignored at the main prompt: at a timeout message 35 is said, and the frame comes; any
+    /// other line is pending now.
     fn hear_line<T: Tables>(&mut self, tables: &T, line: &[u8]) -> Next
         requires line { length line.now ≤ 255 }
         requires heard { is_ignored self.old.world line.now ≡ false }

@@ -32,8 +32,8 @@ use std::marker::Model;
 #[cfg(test)]
 mod tests;
 
-/// A player of one game, which it borrows with the routines that the game calls: it takes lines, and after each lends the piece of text that the line
-/// brought. It takes all its memory when it is made.
+/// A player of one game, which it borrows with the routines that the game calls: it takes lines, and after each lends
+/// the piece of text that the line brought. It takes all its memory when it is made.
 #[derive(Drop)]
 pub struct Player<'a, T: Tables, F: Fn(u8, u8) -> u8> {
     tables: &'a T,
@@ -85,8 +85,8 @@ impl<'a, T: Tables, F: Fn(u8, u8) -> u8> Player<'a, T, F> {
     }
 
     /// A player of a game that calls these routines, which stands at a prompt with these parts, as they were lent or
-    /// restored: they stand there as a run of the game may. The next line goes on from there; where the game is over the
-    /// player is finished.
+    /// restored: they stand there as a run of the game may. The next line goes on from there; where the game is over
+    /// the player is finished.
     ///
     /// # Errors
     /// NoRoom where there is no memory for a piece. The parts are gone then.
@@ -191,8 +191,8 @@ impl<'a, T: Tables, F: Fn(u8, u8) -> u8> Player<'a, T, F> {
         step
     }
 
-    /// The last piece: what is to be shown before the next line is asked for. It is empty after Spent and TooDeep, and has
-    /// at most 65,535 bytes.
+    /// The last piece: what is to be shown before the next line is asked for. It is empty after Spent and TooDeep, and
+    /// has at most 65,535 bytes.
     pub fn piece(&self) -> &[u8]
         ensures value { result.now ≡ self.now.piece }
         ensures short { length result.now ≤ piece_limit }
@@ -200,8 +200,8 @@ impl<'a, T: Tables, F: Fn(u8, u8) -> u8> Player<'a, T, F> {
         self.turn.piece()
     }
 
-    /// The steps of the last piece: the first 1,000 condacts that were read for it, and how many there were. After Spent
-    /// and TooDeep they are those of the piece that wasn't closed.
+    /// The steps of the last piece: the first 1,000 condacts that were read for it, and how many there were. After
+    /// Spent and TooDeep they are those of the piece that wasn't closed.
     pub fn steps(&self) -> &Steps
         ensures value { result.now ≡ self.now.machine.steps }
     {

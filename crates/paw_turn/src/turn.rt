@@ -11,11 +11,14 @@ ghost use Rattle.paw_effects.specs.inner.Opening.{opening_world};
 ghost use Rattle.paw_effects.specs.Texts.{say_text};
 ghost use Rattle.paw_reading.specs.Run.{line_dropped};
 ghost use Rattle.paw_reading.specs.Reading.{table_read};
-ghost use Rattle.paw_reading.specs.Turn.{saying, view_text, prompt_text, refusal_text, AtDescribe, AtFrame, AtPhrase, AtResponse, prompts, connections, after_left, table_done, turn};
+ghost use Rattle.paw_reading.specs.Turn.{saying, view_text, prompt_text, refusal_text, AtDescribe, AtFrame, AtPhrase};
+ghost use Rattle.paw_reading.specs.Turn.{AtResponse, prompts, connections, after_left, table_done, turn};
 ghost use Rattle.paw_process.specs.inner.OpenTables.{ReadsNone, IsClosed};
 ghost use Rattle.paw_turn.specs.declared.stage.Stage.TheVariants as stage;
 ghost use Rattle.paw_turn.specs.declared.stage.Next.TheVariants as next;
-ghost use Rattle.paw_turn.specs.inner.Stages.{at_stage, settled, opened_piece, Moves, Reads, Plays, MovesAfter, IsPlayable, HasReadSome, Keeps, StopsInTable, left_of, work, Falls, or_spent, table_rank, FallsAfter, RunsAs, from_table, Uses};
+ghost use Rattle.paw_turn.specs.inner.Stages.{at_stage, settled, opened_piece, Moves, Reads, Plays, MovesAfter};
+ghost use Rattle.paw_turn.specs.inner.Stages.{IsPlayable, HasReadSome, Keeps, StopsInTable, left_of, work, Falls};
+ghost use Rattle.paw_turn.specs.inner.Stages.{or_spent, table_rank, FallsAfter, RunsAs, from_table, Uses};
 
 use crate::stage::{Next, Stage};
 use crate::{Step, flags};
@@ -344,8 +347,8 @@ impl Turn {
         }
     }
 
-    /// Takes the next phrase. A sentence counts a turn; at a phrase with no known word message 6 is said, and the rest of
-    /// the line is dropped; with none left comes the prompt.
+    /// Takes the next phrase. A sentence counts a turn; at a phrase with no known word message 6 is said, and the rest
+    /// of the line is dropped; with none left comes the prompt.
     fn phrase<T: Tables>(&mut self, tables: &T) -> Next
         requires playable { IsPlayable (T.game tables.now) self.old }
         requires closed { IsClosed self.old.machine }

@@ -1,5 +1,6 @@
 -- What objects weigh.
-use Rattle.std.specs.Prelude.{ℕ, zero, suc, ◌+◌, ◌==◌, ◌&&◌, Bool, false, not, List, [], ◌∷◌, sum_by, min, Option, None, Some, slice_get, if◌then◌else◌}
+use Rattle.std.specs.Prelude.{ℕ, zero, suc, ◌+◌, ◌==◌, ◌&&◌, Bool, false, not, List, [], ◌∷◌}
+use Rattle.std.specs.Prelude.{sum_by, min, Option, None, Some, slice_get, if◌then◌else◌}
 use Rattle.paw_base.specs.declared.places.TheConstants.{WORN_PLACE, CARRIED_PLACE}
 use Rattle.paw_base.specs.declared.parts.ObjectFacts.{ObjectFacts}
 use Rattle.paw_world.specs.World.{World}
@@ -23,7 +24,8 @@ abbrev pub weighs_contents : Option ObjectFacts → Bool
 weighs_contents None = false
 weighs_contents (Some f) = f.container && not (f.weight == 0)
 
--- what an object weighs where contents count down to n levels below it: at most 255. What stands at place o is in object o
+-- what an object weighs where contents count down to n levels below it: at most 255. What stands at place o is in
+-- object o
 unfoldable pub weight_down : World → ℕ → ℕ → ℕ
 weight_down w zero o = own_weight (slice_get w.facts o)
 weight_down w (suc n) o =

@@ -1,4 +1,5 @@
-//! What a game changes while it is played: flags, places of objects, a saved position, four kept ones, and random draws.
+//! What a game changes while it is played: flags, places of objects, a saved position, four kept ones, and random
+//! draws.
 #![tactic(auto)]
 
 mod draws;

@@ -1,8 +1,11 @@
 // The world of a game.
 
-ghost use Rattle.std.specs.Prelude.{◌≡◌, ◌+◌, ◌-◌, ◌^◌, ◌<◌, ◌≤◌, length, take, slice_get, is_some, IsSome, IfSome, MatchOption};
+ghost use Rattle.std.specs.Prelude.{◌≡◌, ◌+◌, ◌-◌, ◌^◌, ◌<◌, ◌≤◌, length, take, slice_get};
+ghost use Rattle.std.specs.Prelude.{is_some, IsSome, IfSome, MatchOption};
 ghost use Rattle.paw_world.specs.Draws.{random_word};
-ghost use Rattle.paw_world.specs.World.{opened, flag, with_flag, place, moved, ramsaved, ramloaded, kept_position, with_kept, keeping, restarted, with_objects_returned, drawn_on, first_carried, opening_flags, IsWorld};
+ghost use Rattle.paw_world.specs.World.{opened, flag, with_flag, place, moved, ramsaved, ramloaded};
+ghost use Rattle.paw_world.specs.World.{kept_position, with_kept, keeping, restarted, with_objects_returned};
+ghost use Rattle.paw_world.specs.World.{drawn_on, first_carried, opening_flags, IsWorld};
 ghost use Rattle.paw_world.specs.inner.World.{first_at, saved_flag, saved_place, recalled, kept_flag, kept_place};
 ghost use Rattle.paw_world.specs.Weight.{weight, weight_down, carried_weight};
 ghost use Rattle.paw_world.specs.inner.Weight.{weight_with};
@@ -131,7 +134,8 @@ impl World {
         self.places.all()
     }
 
-    /// All flags and the places of all objects become these, as they were kept. No object is moved, so no flag counts it.
+    /// All flags and the places of all objects become these, as they were kept. No object is moved, so no flag counts
+    /// it.
     pub fn set_position(&mut self, flags: &[u8; 256], places: &[u8])
         requires each { length places.now ≡ length self.old.places }
         ensures change { self.new ≡ record self.old { flags = flags.now; places = places.now } }
@@ -352,8 +356,8 @@ impl World {
         self.places = Places::opening(facts);
     }
 
-    /// Puts all objects back to where they begin. Flag 1 becomes the number of those that begin carried; the other flags
-    /// stay.
+    /// Puts all objects back to where they begin. Flag 1 becomes the number of those that begin carried; the other
+    /// flags stay.
     pub fn return_objects(&mut self)
         ensures change { self.new ≡ with_objects_returned self.old }
     {

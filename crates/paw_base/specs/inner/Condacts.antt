@@ -1,5 +1,6 @@
 -- The condacts: words that contracts between crates and proofs use beside those of specs/Condacts.antt.
-use Rattle.std.specs.Prelude.{ℕ, ◌≡◌, ◌≤◌, ◌-◌, ◌+◌, ◌++◌, Bool, List, length, replicate, nat_le, codes, ◌==◌, ◌&&◌, not}
+use Rattle.std.specs.Prelude.{ℕ, ◌≡◌, ◌≤◌, ◌-◌, ◌+◌, ◌++◌, Bool, List, length}
+use Rattle.std.specs.Prelude.{replicate, nat_le, codes, ◌==◌, ◌&&◌, not}
 use Rattle.std.specs.List.{list_any, before_first}
 use Rattle.paw_base.specs.declared.rows.CondactRow.{CondactRow}
 use Rattle.paw_base.specs.Condacts.{name_of, first_kind, second_kind, capitals}

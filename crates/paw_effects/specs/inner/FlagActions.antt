@@ -1,4 +1,5 @@
--- The actions that change flags, and those that save and load them: words that contracts between crates and proofs use beside those of specs/FlagActions.antt.
+-- The actions that change flags, and those that save and load them: words that contracts between crates and proofs use
+-- beside those of specs/FlagActions.antt.
 use Rattle.std.specs.Prelude.{ℕ, ◌-◌, ◌==◌, ◌||◌, Bool}
 use Rattle.paw_base.specs.declared.codes.TheConstants.{RAMSAVE, RAMLOAD, GOTO, SET}
 use Rattle.paw_base.specs.declared.codes.TheConstants.{RANDOM, COPYFF, WEIGH, ABILITY, PROMPT, TIME}

@@ -1,4 +1,5 @@
--- The conditions that look at flags: words that contracts between crates and proofs use beside those of specs/FlagTests.antt.
+-- The conditions that look at flags: words that contracts between crates and proofs use beside those of
+-- specs/FlagTests.antt.
 use Rattle.std.specs.Prelude.{ℕ, ◌==◌, ◌||◌, Bool}
 use Rattle.paw_base.specs.declared.codes.TheConstants.{ZERO}
 use Rattle.paw_base.specs.declared.codes.TheConstants.{ADJECT2, TIMEOUT}

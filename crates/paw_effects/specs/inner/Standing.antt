@@ -17,8 +17,8 @@ pub record IsPositionOf (g : GameLists) (q : Position) : Type 0 where
 abbrev pub MayBePosition : GameLists → Option Position → Type 0
 MayBePosition g q = IfSome q (IsPositionOf g)
 
--- a world as the game may be in: its flags are bytes, each object stands at a place, and so it is in the saved position and
--- in each of the four kept ones
+-- a world as the game may be in: its flags are bytes, each object stands at a place, and so it is in the saved position
+-- and in each of the four kept ones
 pub record IsWorldOf (g : GameLists) (w : World) : Type 0 where
   pub of : IsOf g w
   pub flags : AreBytes w.flags

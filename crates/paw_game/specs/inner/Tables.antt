@@ -1,5 +1,7 @@
--- What a game's lists hold at a number: words that contracts between crates and proofs use beside those of specs/Tables.antt.
-use Rattle.std.specs.Prelude.{ℕ, suc, Bool, false, List, [], ◌∷◌, length, Option, Some, None, slice_get, drop, if◌then◌else◌}
+-- What a game's lists hold at a number: words that contracts between crates and proofs use beside those of
+-- specs/Tables.antt.
+use Rattle.std.specs.Prelude.{ℕ, suc, Bool, false, List, [], ◌∷◌, length, Option}
+use Rattle.std.specs.Prelude.{Some, None, slice_get, drop, if◌then◌else◌}
 use Rattle.std.specs.Option.{option_map_or}
 use Rattle.paw_base.specs.declared.parts.Counts.{Counts}
 use Rattle.paw_game.specs.declared.parts.Entry.{Entry}

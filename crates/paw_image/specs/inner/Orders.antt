@@ -1,5 +1,6 @@
 -- The entries of a table in order of verb and noun, and what is looked up in it.
-use Rattle.std.specs.Prelude.{◌≡◌, ℕ, suc, ◌+◌, ◌*◌, ◌≤◌, ◌<◌, ◌&&◌, Bool, List, [], ◌∷◌, length, Option, Some, None, IsTrue, slice_index, min}
+use Rattle.std.specs.Prelude.{◌≡◌, ℕ, suc, ◌+◌, ◌*◌, ◌≤◌, ◌<◌, ◌&&◌, Bool, List, [], ◌∷◌}
+use Rattle.std.specs.Prelude.{length, Option, Some, None, IsTrue, slice_index, min}
 use Rattle.std.specs.List.{All, Contains}
 use Rattle.std.specs.List.Sorted.{IsPermutation, IsNonDecreasingBy, IsPartitionPoint}
 use Rattle.paw_game.specs.declared.parts.Entry.{Entry}

@@ -1,5 +1,7 @@
--- Reading an image from left to right: words that contracts between crates and proofs use beside those of specs/Reading.antt.
-use Rattle.std.specs.Prelude.{◌≡◌, ℕ, zero, suc, not, List, [], ◌∷◌, length, Result, Ok, Err, nat_le, ◌==◌, codes, bit_and, if◌then◌else◌}
+-- Reading an image from left to right: words that contracts between crates and proofs use beside those of
+-- specs/Reading.antt.
+use Rattle.std.specs.Prelude.{◌≡◌, ℕ, zero, suc, not, List, [], ◌∷◌, length, Result}
+use Rattle.std.specs.Prelude.{Ok, Err, nat_le, ◌==◌, codes, bit_and, if◌then◌else◌}
 use Rattle.std.specs.Str.{bytes_eq}
 use Rattle.paw_base.specs.declared.parts.Condact.{Condact}
 use Rattle.paw_base.specs.declared.parts.Counts.{Counts}

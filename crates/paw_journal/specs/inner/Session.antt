@@ -4,7 +4,8 @@ use Rattle.std.specs.Prelude.{◌≡◌, ◌&&◌, ℕ, ◌+◌, ◌-◌, Bool, 
 use Rattle.std.specs.Prelude.{◌∷◌, ◌++◌, length, take, drop}
 use Rattle.paw_base.specs.Bytes.{zeros}
 use Rattle.paw_journal.specs.declared.refusal.SessionPart.TheVariants as part
-use Rattle.paw_journal.specs.Session.{number_at, made_mark, mark, slot, most_changes, base, slot_changes, first_unsound, state_length, Recovered, Damaged, Shown, slot_shows}
+use Rattle.paw_journal.specs.Session.{number_at, made_mark, mark, slot, most_changes, base, slot_changes}
+use Rattle.paw_journal.specs.Session.{first_unsound, state_length, Recovered, Damaged, Shown, slot_shows}
 
 -- A slot's state is its base with its change records applied. It has one where these are few enough, and each is sound.
 abbrev pub has_state : List ℕ → Bool

@@ -1,4 +1,5 @@
--- What is kept of a machine that waits, and the rules that it keeps: words that contracts between crates and proofs use beside those of specs/Kept.antt.
+-- What is kept of a machine that waits, and the rules that it keeps: words that contracts between crates and proofs use
+-- beside those of specs/Kept.antt.
 use Rattle.std.specs.Prelude.{◌-◌, Option, Some, None, reverse, take}
 use Rattle.paw_base.specs.declared.limits.TheConstants.{READ_LIMIT}
 use Rattle.paw_base.specs.inner.Steps.{no_steps}

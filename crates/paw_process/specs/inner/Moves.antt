@@ -10,7 +10,8 @@ use Rattle.paw_effects.specs.declared.act.Effect.{Effect}
 use Rattle.paw_reading.specs.declared.places.Frame.{Frame}
 use Rattle.paw_reading.specs.declared.places.OpenLoop.{OpenLoop}
 use Rattle.paw_reading.specs.Run.{Run, Step}
-use Rattle.paw_reading.specs.Reading.{Out, again, turns, looped, deeper, plain, inside, after_action, step_at, noted, reads_one}
+use Rattle.paw_reading.specs.Reading.{Out, again, turns, looped, deeper, plain, inside}
+use Rattle.paw_reading.specs.Reading.{after_action, step_at, noted, reads_one}
 use Rattle.paw_reading.specs.inner.GoingOn.{along}
 use Rattle.paw_process.specs.OpenTables.{OpenTables}
 use Rattle.paw_process.specs.inner.OpenTables.{HasRead, ReadsStep, IsReading}

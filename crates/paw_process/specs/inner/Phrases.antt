@@ -8,8 +8,8 @@ use Rattle.paw_phrase.specs.Pending.{PendingLine}
 use Rattle.paw_phrase.specs.Sentence.{Parsed, IsSentence, IsUnknown, IsNoPhrase}
 use Rattle.paw_reading.specs.Run.{spoken}
 
--- The next phrase is p. A sentence stands in the flags, its bytes are gone, and its verb is the earlier one from now on;
--- the bytes of a phrase with no known word are gone; where there is no phrase nothing changes.
+-- The next phrase is p. A sentence stands in the flags, its bytes are gone, and its verb is the earlier one from now
+-- on; the bytes of a phrase with no known word are gone; where there is no phrase nothing changes.
 abbrev pub Speaks : Parsed → Found → World → World → PendingLine → PendingLine → Type 0
 Speaks p found.Sentence w w' old new =
     (s : Sentence) × (p ≡ IsSentence s new.bytes) × (w' ≡ spoken s w) × (new.earlier ≡ s.verb)

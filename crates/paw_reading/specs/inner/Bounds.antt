@@ -1,4 +1,5 @@
--- The bounds that each reading keeps: words that contracts between crates and proofs use beside those of specs/Bounds.antt.
+-- The bounds that each reading keeps: words that contracts between crates and proofs use beside those of
+-- specs/Bounds.antt.
 use Rattle.std.specs.Prelude.{◌≡◌, ℕ, ◌+◌, ◌*◌, ◌≤◌, length, All}
 use Rattle.paw_base.specs.declared.limits.TheConstants.{PIECE_LIMIT, READ_LIMIT}
 use Rattle.paw_reading.specs.Run.{Run}

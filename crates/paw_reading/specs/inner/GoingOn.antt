@@ -1,4 +1,5 @@
--- Going on from where a run waits inside tables: words that contracts between crates and proofs use beside those of specs/GoingOn.antt.
+-- Going on from where a run waits inside tables: words that contracts between crates and proofs use beside those of
+-- specs/GoingOn.antt.
 use Rattle.std.specs.Prelude.{ℕ, suc, List, [], ◌∷◌, ◌++◌, length}
 use Rattle.paw_effects.specs.Story.{Story}
 use Rattle.paw_reading.specs.declared.places.Frame.{Frame}

@@ -18,8 +18,12 @@ use Rattle.paw_effects.specs.Holds.{is_condition, holds}
 use Rattle.paw_effects.specs.Effects.{effect_of}
 use Rattle.paw_reading.specs.declared.places.Frame.{Frame}
 use Rattle.paw_reading.specs.declared.places.OpenLoop.{OpenLoop}
-use Rattle.paw_reading.specs.Run.{Run, closed, fits, printed, with_world, without_loop, anew, is_ignored, heard, reply, is_yes, is_no, taken_phrase}
-use Rattle.paw_reading.specs.Reading.{RunsOut, CallsTooDeep, Redescribes, Restarts, Out, Left, Waits, Stopped, halts, noted, after_call, at_level, again, is_taken, taken, loop_of, over, quit_question, coming_phrase, after_action, carried_out, frame_at, is_for_now, inside, plain, looks_from, looped, deeper, rest}
+use Rattle.paw_reading.specs.Run.{Run, closed, fits, printed, with_world, without_loop, anew}
+use Rattle.paw_reading.specs.Run.{is_ignored, heard, reply, is_yes, is_no, taken_phrase}
+use Rattle.paw_reading.specs.Reading.{RunsOut, CallsTooDeep, Redescribes, Restarts, Out, Left, Waits, Stopped}
+use Rattle.paw_reading.specs.Reading.{halts, noted, after_call, at_level, again, is_taken, taken, loop_of}
+use Rattle.paw_reading.specs.Reading.{over, quit_question, coming_phrase, after_action, carried_out, frame_at}
+use Rattle.paw_reading.specs.Reading.{is_for_now, inside, plain, looks_from, looped, deeper, rest}
 use Rattle.paw_reading.specs.GoingOn.{on_path}
 
 -- ---- words ----

@@ -1,5 +1,6 @@
 -- The session of a trial, on the way.
-use Rattle.std.specs.Prelude.{◌≡◌, ℕ, ◌+◌, ◌*◌, ◌/◌, List, [], length, take, drop, codes, slice_index, Option, Some, None}
+use Rattle.std.specs.Prelude.{◌≡◌, ℕ, ◌+◌, ◌*◌, ◌/◌, List, [], length, take}
+use Rattle.std.specs.Prelude.{drop, codes, slice_index, Option, Some, None}
 use Rattle.paw_stage.specs.Disk.{IsStable}
 use Rattle.paw_stage.specs.Stage.{Standing}
 use Rattle.paw_effects.specs.Counts.{turns_taken}
@@ -31,8 +32,8 @@ abbrev pub Waits : Ending → Type 0
 Waits (WaitsAt p path r) = Unit {0}
 Waits _ = ⊥
 
--- Nothing is unsynced at the stage, and no line is left. Its store stands for these lines of the trial's game, whose reading
--- waits for another.
+-- Nothing is unsynced at the stage, and no line is left. Its store stands for these lines of the trial's game, whose
+-- reading waits for another.
 pub record HoldsLines (n : ℕ) (es : List (List ℕ)) (s : Standing) : Type 0 where
   pub stable : IsStable s.disk
   pub none : s.lines ≡ []

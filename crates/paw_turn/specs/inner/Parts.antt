@@ -31,8 +31,8 @@ step_at prompt.Again = step.Waits prompt.Again
 step_at prompt.Key = step.Waits prompt.Key
 step_at prompt.Over = step.Ended
 
--- Parts fit a game at a prompt: they stand there as a run may, and the machine waits at the prompt, or no table is open where
--- it is the main one or the game is over
+-- Parts fit a game at a prompt: they stand there as a run may, and the machine waits at the prompt, or no table is open
+-- where it is the main one or the game is over
 pub record Fits (g : GameLists) (w : World) (m : OpenTables) (p : PendingLine) (at : Prompt) : Type 0 where
   pub machine : Stands (step_at at) m
   pub rightly : StandRightly g at w m p
@@ -47,7 +47,8 @@ seat_at g routines w m p at = record { game = g; routines = routines; world = w;
 abbrev pub IsLineTaken : OpenTables → PendingLine → Type 0
 IsLineTaken m p = m.frames ≡ [] → p.bytes ≡ []
 
--- what is pending is a line of at most 255 bytes, of which nothing is left where no table is open; the earlier verb is a byte
+-- what is pending is a line of at most 255 bytes, of which nothing is left where no table is open; the earlier verb is
+-- a byte
 pub record IsPending (m : OpenTables) (p : PendingLine) : Type 0 where
   pub bytes : IsLine p.bytes
   pub taken : IsLineTaken m p
@@ -70,8 +71,8 @@ SeatedAgain F =
     (p : Seat F) → IsSeated p → IsStanding p.last →
     seated_again p ≡ record p { piece = []; machine = record p.machine { left = 200000; steps = no_steps } }
 
--- what lines lead to depends on neither the last piece, nor the budget that it left, nor its steps: each line opens a piece of
--- its own
+-- what lines lead to depends on neither the last piece, nor the budget that it left, nor its steps: each line opens a
+-- piece of its own
 abbrev pub GoesOnAlike : Type 0 → Type 0
 GoesOnAlike F =
     (g : Story) (p : Seat F) (at : Prompt) (piece : List ℕ) (left : ℕ) (steps : KeptSteps) (pieces : List (List ℕ)) (traces : List (List Read))

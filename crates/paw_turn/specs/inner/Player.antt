@@ -20,8 +20,8 @@ use Rattle.paw_process.specs.inner.OpenTables.{IsWaiting, IsClosed}
 use Rattle.paw_turn.specs.declared.Step.{Step}
 use Rattle.paw_turn.specs.declared.Step.TheVariants as step
 
--- a player between two lines: its game and the routines that it calls, the world, what is left of the line, the tables that
--- are open with the steps of the last piece, the text of that piece, and what it came to last
+-- a player between two lines: its game and the routines that it calls, the world, what is left of the line, the tables
+-- that are open with the steps of the last piece, the text of that piece, and what it came to last
 pub record Seat (F : Type 0) : Type 0 where
   pub game : GameLists
   pub routines : Routines F

@@ -1,5 +1,6 @@
 -- What the stages of a turn come to in the reading. The contracts of private functions alone speak of this.
-use Rattle.std.specs.Prelude.{◌≡◌, ℕ, zero, suc, ◌+◌, ◌*◌, ◌<◌, ◌≤◌, ◌^◌, Bool, List, [], ◌∷◌, ◌++◌, length, reverse, if◌then◌else◌}
+use Rattle.std.specs.Prelude.{◌≡◌, ℕ, zero, suc, ◌+◌, ◌*◌, ◌<◌, ◌≤◌, ◌^◌, Bool, List}
+use Rattle.std.specs.Prelude.{[], ◌∷◌, ◌++◌, length, reverse, if◌then◌else◌}
 use Rattle.paw_base.specs.declared.fault.SpentKind.TheVariants as spent
 use Rattle.paw_game.specs.Game.{GameLists}
 use Rattle.paw_base.specs.inner.Steps.{no_steps}
@@ -13,7 +14,8 @@ use Rattle.paw_reading.specs.declared.places.Frame.{Frame}
 use Rattle.paw_reading.specs.Run.{Run, Step as Read, closed}
 use Rattle.paw_reading.specs.Reading.{Halt, IsOver, RunsOut, CallsTooDeep, Out, table_read}
 use Rattle.paw_reading.specs.GoingOn.{on_path}
-use Rattle.paw_reading.specs.Turn.{Ending, Halted, AtDescribe, AtFrame, AtPhrase, AtResponse, table_done, turn, first_table, goes_on}
+use Rattle.paw_reading.specs.Turn.{Ending, Halted, AtDescribe, AtFrame, AtPhrase, AtResponse}
+use Rattle.paw_reading.specs.Turn.{table_done, turn, first_table, goes_on}
 use Rattle.paw_reading.specs.Turn.{Ending, Halted, Stage as TurnStage}
 use Rattle.paw_process.specs.OpenTables.{OpenTables}
 use Rattle.paw_process.specs.inner.OpenTables.{HasRead, IsClosed}
@@ -226,7 +228,8 @@ table_rank zero = 4
 table_rank (suc zero) = 3
 table_rank (suc (suc t)) = 2
 
--- once a table is left there is less to do than in its stage; where the location is described again, nothing was done yet
+-- once a table is left there is less to do than in its stage; where the location is described again, nothing was done
+-- yet
 abbrev pub FallsAfter : ℕ → Turned → Turn → Next → Turn → Type 0
 FallsAfter t (turned.Left acted) old next new = Falls (4 * left_of old + table_rank t) next new
 FallsAfter t turned.Redescribe old n new = (n ≡ next.Go stage.Describe) × (new ≡ old)

@@ -1,4 +1,5 @@
-// Players of a game that asks inside calls and loops: each is taken apart between two lines and goes on, or begins again.
+// Players of a game that asks inside calls and loops: each is taken apart between two lines and goes on, or begins
+// again.
 
 ghost use Rattle.std.specs.Prelude.{◌≡◌, true, IfOk};
 ghost use Rattle.paw_routines.specs.Routines.{HaveRows};
@@ -109,7 +110,8 @@ const CASES: [&[Taken]; 14] = [
         ("SHAKE ALL EXCEPT LAMP", SURE, "Are you sure? "),
         ("y", MAIN, "You shake the sword.\nWhat now?\n> "),
     ],
-    // The next phrase is taken inside a loop: its verb matches no entry that follows; where there is none reading goes on.
+    // The next phrase is taken inside a loop: its verb matches no entry that follows; where there is none reading goes
+    // on.
     &[
         ("TURN ALL AND WAIT", MAIN, PROMPT),
         (

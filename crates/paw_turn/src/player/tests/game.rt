@@ -112,8 +112,8 @@ type Code = (u8, u8, u8);
 /// An entry: verb, noun and condacts.
 type Row = (u8, u8, &'static [Code]);
 
-/// SHAKE, TWIST and TURN go round the objects here; NEST calls as deep as it may, and DEEP deeper; QUIT asks twice; SPIN
-/// and FALL never come to an end.
+/// SHAKE, TWIST and TURN go round the objects here; NEST calls as deep as it may, and DEEP deeper; QUIT asks twice;
+/// SPIN and FALL never come to an end.
 const RESPONSES: [Row; 19] = [
     (31, 20, &[(DOALL, HERE, 0)]),
     (31, ANY, &[(PROCESS, 3, 0), (DONE, 0, 0)]),
