@@ -4,6 +4,7 @@ use Rattle.std.specs.Prelude.{◌∷◌, length, nat_lt, nat_le, IsTrue, if◌th
 use Rattle.std.specs.List.{list_all, list_any}
 use Rattle.std.specs.Ordering.{is_lt, nat_cmp}
 use Rattle.std.specs.Cmp.Lexicographic.{slice_cmp}
+use Rattle.paw_base.specs.declared.codes.TheConstants.{LAST_CODE}
 use Rattle.paw_base.specs.declared.places.TheConstants.{NOT_CREATED_PLACE, CARRIED_PLACE, HERE_PLACE}
 use Rattle.paw_base.specs.declared.words.TheConstants.{VERB_CLASS, ADVERB_CLASS, NOUN_CLASS, ADJECTIVE_CLASS}
 use Rattle.paw_base.specs.declared.words.TheConstants.{PREPOSITION_CLASS, PRONOUN_CLASS, ANY_WORD, NO_WORD, LEAST_WORD}
@@ -149,9 +150,10 @@ is_parameter g kind.Noun x = is_word_or_none g.words NOUN_CLASS x
 is_parameter g kind.Adjective x = is_word_or_none g.words ADJECTIVE_CLASS x
 is_parameter g kind.Preposition x = is_word_or_none g.words PREPOSITION_CLASS x
 
--- a condact: a code from 0 to 107, and the parameters that it has; one that it doesn't have is 0
+-- a condact: a code of the table, and the parameters that it has; one that it doesn't have is 0
 abbrev pub is_condact : GameLists → Condact → Bool
-is_condact g c = nat_le c.code 107 && (is_parameter g (first_kind c.code) c.a && is_parameter g (second_kind c.code) c.b)
+is_condact g c =
+  nat_le c.code LAST_CODE && (is_parameter g (first_kind c.code) c.a && is_parameter g (second_kind c.code) c.b)
 
 -- a word of an entry that matches any word
 abbrev pub is_any : ℕ → Bool

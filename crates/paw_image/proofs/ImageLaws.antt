@@ -4,7 +4,7 @@ use Rattle.paw_game.specs.Game.{GameLists}
 use Rattle.paw_game.specs.Valid.{Valid}
 use Rattle.paw_game.specs.Image.{image}
 use Rattle.paw_image.specs.declared.fault.ReadFault.TheVariants as fault
-use Rattle.paw_image.specs.declared.TheConstants.{IMAGE_LIMIT}
+use Rattle.paw_base.specs.declared.limits.TheConstants.{IMAGE_LIMIT}
 use Rattle.paw_image.specs.Images.{IsImage}
 use Rattle.paw_image.specs.inner.Reading.{Fails, all_of}
 use Rattle.paw_image.proofs.FieldLaws.{IsBytes, read_ok}

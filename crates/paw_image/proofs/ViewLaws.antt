@@ -24,7 +24,7 @@ use Rattle.paw_image.specs.inner.Reading.{all_of}
 use Rattle.paw_image.specs.inner.Rows.{value_of, head_here, nth_condact, entry_here}
 use Rattle.paw_image.specs.inner.Sizes.{FitsGame, FitsCondact, FitsEntry, FitsTable}
 use Rattle.paw_image.specs.inner.Views.{game_of, rows_begin, tables_begin_at, span_at, IsIndex}
-use Rattle.paw_image.specs.declared.TheConstants.{IMAGE_LIMIT}
+use Rattle.paw_base.specs.declared.limits.TheConstants.{IMAGE_LIMIT}
 use Rattle.paw_image.specs.declared.places.Places.{Places}
 use Rattle.paw_image.specs.declared.places.TableIndex.{TableIndex}
 use Rattle.paw_image.specs.declared.refusal.ImageRefusal.{ImageRefusal}

@@ -14,7 +14,7 @@ use Rattle.paw_game.specs.inner.Tables.{counts_of}
 use Rattle.paw_game.specs.Valid.{Valid, is_within, are_letters, is_word, words_rise, is_text, is_object, is_exits}
 use Rattle.paw_game.specs.Image.{two_bytes, word_image, text_image, object_image, exits_image, table_image, image}
 use Rattle.paw_game.proofs.Faults.{rise_after, rise_after-none}
-use Rattle.paw_image.specs.declared.TheConstants.{IMAGE_LIMIT}
+use Rattle.paw_base.specs.declared.limits.TheConstants.{IMAGE_LIMIT}
 use Rattle.paw_image.specs.inner.CondactMarks.{IsEnd}
 use Rattle.paw_image.specs.Images.{IsImage}
 use Rattle.paw_image.specs.Reading.{byte_at, bytes_at, number_at}

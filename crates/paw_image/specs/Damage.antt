@@ -7,7 +7,8 @@ use Rattle.std.specs.List.{list_any}
 use Rattle.std.specs.Str.{bytes_eq}
 use Rattle.std.specs.Ordering.{is_lt, nat_cmp}
 use Rattle.std.specs.Cmp.Lexicographic.{slice_cmp}
-use Rattle.paw_base.specs.declared.limits.TheConstants.{WORD_LENGTH, WORD_LIMIT, SYSTEM_LIMIT}
+use Rattle.paw_base.specs.declared.codes.TheConstants.{LAST_CODE}
+use Rattle.paw_base.specs.declared.limits.TheConstants.{IMAGE_LIMIT, WORD_LENGTH, WORD_LIMIT, SYSTEM_LIMIT}
 use Rattle.paw_base.specs.declared.limits.TheConstants.{MESSAGE_LIMIT, OBJECT_LIMIT}
 use Rattle.paw_base.specs.declared.limits.TheConstants.{LOCATION_LEAST, LOCATION_LIMIT, TABLE_LEAST}
 use Rattle.paw_base.specs.declared.limits.TheConstants.{TABLE_LIMIT, TEXT_LIMIT, ENTRY_LIMIT}
@@ -22,7 +23,6 @@ use Rattle.paw_base.specs.Condacts.{first_kind, second_kind}
 use Rattle.paw_game.specs.declared.parts.Word.{Word}
 use Rattle.paw_game.specs.Valid.{is_within, are_letters, has_word, is_verb_value}
 use Rattle.paw_game.specs.Valid.{is_word_or_none, is_printed, is_place, is_any}
-use Rattle.paw_image.specs.declared.TheConstants.{IMAGE_LIMIT}
 use Rattle.paw_image.specs.Reading.{◌>>=◌, Reading, byte_at, bytes_at, number_at}
 
 -- a field that keeps a rule, or a fault at its first byte
@@ -158,10 +158,10 @@ abbrev pub after_parameter : Declared → ParamKind → List ℕ → Passing
 after_parameter d kind.Absent bytes = Ok bytes
 after_parameter d k bytes = kept (keeps_kind d k) byte_at bytes >>= λ x. Ok x.1
 
--- a code up to 107, and the parameters that it has
+-- a code of the table, and the parameters that it has
 unfoldable pub after_condact : Declared → List ℕ → Passing
 after_condact d bytes = do
-  code ← kept (λ c. nat_le c 107) byte_at bytes
+  code ← kept (λ c. nat_le c LAST_CODE) byte_at bytes
   a ← after_parameter d (first_kind code.0) code.1
   after_parameter d (second_kind code.0) a
 

@@ -3,7 +3,7 @@ use Rattle.std.specs.Prelude.{◌≡◌, ℕ, ◌≤◌, List, length}
 use Rattle.paw_game.specs.Game.{GameLists}
 use Rattle.paw_game.specs.Valid.{Valid}
 use Rattle.paw_game.specs.Image.{image}
-use Rattle.paw_image.specs.declared.TheConstants.{IMAGE_LIMIT}
+use Rattle.paw_base.specs.declared.limits.TheConstants.{IMAGE_LIMIT}
 
 -- the bytes are the image of this valid game, and no more than an image may have
 pub record IsImage (bytes : List ℕ) (g : GameLists) : Type 0 where

@@ -7,7 +7,7 @@ ghost use Rattle.paw_image.specs.Images.{IsImage};
 ghost use Rattle.paw_image.specs.inner.Images.{AtDamage, IfDamaged};
 ghost use Rattle.paw_image.specs.inner.Places.{IsPassed};
 ghost use Rattle.paw_image.specs.inner.Reading.{Gives};
-ghost use Rattle.paw_image.specs.declared.TheConstants.{IMAGE_LIMIT};
+ghost use Rattle.paw_base.specs.declared.limits.TheConstants.{IMAGE_LIMIT};
 
 use crate::fault::ReadFault;
 use crate::head::{pass_version, read_counts_kept};

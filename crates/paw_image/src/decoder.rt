@@ -5,9 +5,9 @@ ghost use Rattle.paw_game.specs.Game.{GameLists};
 ghost use Rattle.paw_image.specs.Damage.{bad};
 ghost use Rattle.paw_image.specs.Images.{IsImage};
 ghost use Rattle.paw_image.specs.inner.Images.{IfDamaged};
-ghost use Rattle.paw_image.specs.declared.TheConstants.{IMAGE_LIMIT};
+ghost use Rattle.paw_base.specs.declared.limits.TheConstants.{IMAGE_LIMIT};
 
-use crate::IMAGE_LIMIT;
+use paw_base::limits::IMAGE_LIMIT;
 use crate::damage::damage;
 use crate::fault::ReadFault;
 use crate::parts::read_parts;

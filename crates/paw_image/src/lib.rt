@@ -25,6 +25,3 @@ mod tests;
 mod texts;
 pub mod view;
 mod words;
-
-/// The most bytes that an image may have.
-pub const IMAGE_LIMIT: usize = 4_194_304;

@@ -12,7 +12,7 @@ ghost use Rattle.paw_image.specs.inner.Images.{IfDamaged};
 ghost use Rattle.paw_image.specs.inner.Places.{entries_of, entry_places};
 ghost use Rattle.paw_image.specs.inner.Views.{game_of, rows_begin, span_at, tables_begin_at};
 
-use crate::IMAGE_LIMIT;
+use paw_base::limits::IMAGE_LIMIT;
 use crate::at_place::{condact_in, entry_in, exit_at, facts_in, head_in, text_in};
 use crate::damage::pass_whole;
 use crate::order::next_in;

@@ -6,7 +6,7 @@ mod lines;
 mod tokens;
 
 pub use bytes::{LexFault, byte_fault};
-pub use lines::{Line, Lines, MAX_SOURCE_LEN};
+pub use lines::{Line, Lines};
 pub use tokens::{Token, next_token};
 
 #[cfg(test)]

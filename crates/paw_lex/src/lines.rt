@@ -9,9 +9,6 @@ ghost use Rattle.paw_lex.specs.inner.Lines.{bytes_of, LiesIn, IsLineEnd};
 
 use std::marker::Model;
 
-/// The most bytes that a source may have.
-pub const MAX_SOURCE_LEN: usize = 8_388_608;
-
 /// The byte before which a source ends.
 const END_MARK: u8 = 0x1A;
 
@@ -91,7 +88,7 @@ pub struct Lines<'a> {
 impl<'a> Model for Lines<'a> {
     ghost use Rattle.std.specs.Prelude.{◌≡◌, ◌≤◌, ◌==◌, length, drop};
     ghost use Rattle.std.specs.List.{position_or_len};
-    ghost use Rattle.paw_lex.specs.declared.lines.TheConstants.{MAX_SOURCE_LEN};
+    ghost use Rattle.paw_base.specs.declared.limits.TheConstants.{SOURCE_LIMIT};
     ghost use Rattle.paw_lex.specs.Lines.{lines_of};
     ghost use Rattle.paw_lex.specs.inner.Lines.{Walk};
 
@@ -109,14 +106,14 @@ impl<'a> Model for Lines<'a> {
       ends_inside : l.end ≤ length l.source.now;
       is_inside : l.at ≤ l.end;
       few : l.given ≤ l.at;
-      short : length l.source.now ≤ MAX_SOURCE_LEN;
+      short : length l.source.now ≤ SOURCE_LIMIT;
     } };
 }
 
 impl<'a> Lines<'a> {
     /// A walk that stands before the first line. The source has at most 8,388,608 bytes.
     pub fn new(source: &'a [u8]) -> Lines<'a>
-        requires { length source.now ≤ MAX_SOURCE_LEN }
+        requires { length source.now ≤ SOURCE_LIMIT }
         ensures { result ≡ record { source = source.now; given = 0; at = 0; left = lines_of source.now } }
     {
         Lines {

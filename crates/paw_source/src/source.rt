@@ -6,7 +6,7 @@ ghost use Rattle.paw_game.specs.Image.{image};
 ghost use Rattle.paw_game.specs.Valid.{Valid};
 ghost use Rattle.paw_lex.specs.Lines.{lines_of};
 ghost use Rattle.paw_lex.specs.inner.Lines.{bytes_of, LiesIn};
-ghost use Rattle.paw_lex.specs.declared.lines.TheConstants.{MAX_SOURCE_LEN};
+ghost use Rattle.paw_base.specs.declared.limits.TheConstants.{IMAGE_LIMIT, SOURCE_LIMIT};
 ghost use Rattle.paw_grammar.specs.GrammarState.{Spelt, game_of, nothing_yet};
 ghost use Rattle.paw_grammar.specs.Spells.{begins_table, is_pro_token, reading, spelled, whole};
 ghost use Rattle.paw_source.specs.inner.Laws.{after_lines};
@@ -17,13 +17,12 @@ use crate::draft::Draft;
 use crate::laws::drafts_are_valid;
 use crate::refusal::SourceRefusal;
 use paw_base::fault::{SourceFault, SourceKind};
-use paw_base::limits::TABLE_LEAST;
+use paw_base::limits::{IMAGE_LIMIT, SOURCE_LIMIT, TABLE_LEAST};
 use paw_game::game::Game;
 use paw_grammar::refusal::ReadError;
 use paw_grammar::tokens::{Tokens, is_named};
-use paw_image::IMAGE_LIMIT;
 use paw_image::encoder::image_length;
-use paw_lex::{Line, Lines, MAX_SOURCE_LEN};
+use paw_lex::{Line, Lines};
 use std::alloc::Global;
 
 /// Whether the first token is the header of a table.
@@ -46,7 +45,7 @@ fn begins_table(source: &[u8], line: &Line) -> bool
 
 /// How many lines begin a table.
 fn count_tables(source: &[u8]) -> u32
-    requires { length source.now ≤ MAX_SOURCE_LEN }
+    requires { length source.now ≤ SOURCE_LIMIT }
     ensures { result ≡ count_by begins_table (lines_of source.now) }
 {
     let mut lines = Lines::new(source);
@@ -71,10 +70,10 @@ fn at_line(line: u32, refused: ReadError) -> SourceRefusal
 
 /// The game that a draft of so many lines is.
 fn whole(alloc: Global, lines: u32, draft: Draft) -> Result<Game, SourceRefusal>
-    requires count { lines ≤ MAX_SOURCE_LEN }
+    requires count { lines ≤ SOURCE_LIMIT }
     requires valid { 3 ≤ length draft.tables → Valid (game_of draft) }
     ensures value { Reads result (whole lines draft) }
-    ensures small { IfOk result (λ game. length (image game) ≤ 4194304) }
+    ensures small { IfOk result (λ game. length (image game) ≤ IMAGE_LIMIT) }
 {
     let line = lines + 1;
     if draft.tables() < TABLE_LEAST {
@@ -92,11 +91,11 @@ fn whole(alloc: Global, lines: u32, draft: Draft) -> Result<Game, SourceRefusal>
 /// The game of the lines of a source, of which so many begin a table.
 #[tactic(auto, unfolding(paw_grammar::specs::Spells::reading, crate::specs::inner::Laws::after_lines))]
 fn read_lines(alloc: Global, tables: u32, source: &[u8]) -> Result<Game, SourceRefusal>
-    requires short { length source.now ≤ MAX_SOURCE_LEN }
+    requires short { length source.now ≤ SOURCE_LIMIT }
     requires valid { (d : Spelt) → after_lines tables nothing_yet (lines_of source.now) ≡ Ok d
         → 3 ≤ length d.tables → Valid (game_of d) }
     ensures value { Reads result (reading tables 0 nothing_yet (lines_of source.now)) }
-    ensures small { IfOk result (λ game. length (image game) ≤ 4194304) }
+    ensures small { IfOk result (λ game. length (image game) ≤ IMAGE_LIMIT) }
 {
     let mut draft = Draft::new(alloc);
     let mut lines = Lines::new(source);
@@ -120,9 +119,9 @@ fn read_lines(alloc: Global, tables: u32, source: &[u8]) -> Result<Game, SourceR
 #[tactic(auto, unfolding(paw_grammar::specs::Spells::spelled))]
 pub fn read_source(alloc: Global, bytes: &[u8]) -> Result<Game, SourceRefusal>
     ensures value { Reads result (spelled bytes.now) }
-    ensures small { IfOk result (λ game. length (image game) ≤ 4194304) }
+    ensures small { IfOk result (λ game. length (image game) ≤ IMAGE_LIMIT) }
 {
-    if bytes.len() > MAX_SOURCE_LEN {
+    if bytes.len() > SOURCE_LIMIT {
         return Err(at_line(0, ReadError::Fault(SourceKind::TooBig)));
     }
     drafts_are_valid();

@@ -3,7 +3,7 @@
 ghost use Rattle.std.specs.Prelude.{◌≡◌, ◌≢◌, ◌≤◌, ◌↔◌, length, string_bytes, Ok, IfOk, IfErr};
 ghost use Rattle.paw_game.specs.Game.{GameLists};
 ghost use Rattle.paw_game.specs.Image.{image};
-ghost use Rattle.paw_image.specs.declared.TheConstants.{IMAGE_LIMIT};
+ghost use Rattle.paw_base.specs.declared.limits.TheConstants.{IMAGE_LIMIT};
 ghost use Rattle.paw_grammar.specs.Spells.{spelled};
 ghost use Rattle.paw_stage.specs.Stage.{Faulted};
 ghost use Rattle.paw_stage.specs.Across.{Across};
@@ -19,7 +19,7 @@ use crate::show::tell;
 use paw_game::game::Game;
 use paw_image::encoder::encode;
 use paw_image::refusal::ImageRefusal;
-use paw_lex::MAX_SOURCE_LEN;
+use paw_base::limits::SOURCE_LIMIT;
 use paw_source::read_source;
 use paw_source::refusal::SourceRefusal;
 use paw_stage::{Stage, StageCall};
@@ -88,7 +88,7 @@ pub(crate) fn compile<S: Stage>(alloc: Global, stage: &mut S, source: &str, imag
     ensures memory { IfMemory result IsCompileMemory }
     ensures compiles { Across S.Stage stage.old stage.new (λ old new. Compiles source.now image.now old new result) }
 {
-    let bytes = match load(alloc, stage, source, MAX_SOURCE_LEN) {
+    let bytes = match load(alloc, stage, source, SOURCE_LIMIT) {
         Ok(bytes) => bytes,
         Err(outcome) => return outcome,
     };

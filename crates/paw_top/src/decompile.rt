@@ -10,7 +10,7 @@ use crate::load::load;
 use crate::open::game_in;
 use crate::outcome::{MemoryAt, Outcome};
 use crate::show::tell;
-use paw_image::IMAGE_LIMIT;
+use paw_base::limits::IMAGE_LIMIT;
 use paw_print::canonical;
 use paw_stage::Stage;
 use std::alloc::Global;

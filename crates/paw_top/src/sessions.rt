@@ -17,7 +17,7 @@ ghost use Rattle.paw_top.specs.declared.outcome.Outcome.TheVariants as outcome;
 use crate::load::load;
 use crate::open::view_in;
 use crate::outcome::{Outcome, outcome_of};
-use paw_image::IMAGE_LIMIT;
+use paw_base::limits::IMAGE_LIMIT;
 use paw_journal::digest;
 use paw_play::play::play_loop;
 use paw_play::resume::resume_loop;

@@ -11,7 +11,7 @@ ghost use Rattle.paw_top.specs.declared.outcome.Outcome.TheVariants as outcome;
 use crate::load::load;
 use crate::open::view_in;
 use crate::outcome::{Outcome, outcome_of};
-use paw_image::IMAGE_LIMIT;
+use paw_base::limits::IMAGE_LIMIT;
 use paw_play::trace::trace_loop;
 use paw_play::walk::walk_loop;
 use paw_routines::routines::Routines;

@@ -2,16 +2,18 @@
 use Rattle.std.specs.Prelude.{ℕ, ◌≡◌, ◌≤◌, ◌-◌, ◌+◌, ◌++◌, Bool, List, length}
 use Rattle.std.specs.Prelude.{replicate, nat_le, codes, ◌==◌, ◌&&◌, not}
 use Rattle.std.specs.List.{list_any, before_first}
+use Rattle.paw_base.specs.declared.codes.TheConstants.{LAST_CODE}
+use Rattle.paw_base.specs.declared.codes.TheConstants.{INVEN}
 use Rattle.paw_base.specs.declared.rows.CondactRow.{CondactRow}
 use Rattle.paw_base.specs.Condacts.{name_of, first_kind, second_kind, capitals}
 
--- the codes of the condacts are 0 to 107
+-- the codes of the condacts are those up to the last
 abbrev pub IsCode : ℕ → Type 0
-IsCode code = code ≤ 107
+IsCode code = code ≤ LAST_CODE
 
--- the codes from 29 on act; those below test
+-- the codes from INVEN on act; those below test
 abbrev pub acts : ℕ → Bool
-acts code = nat_le 29 code
+acts code = nat_le INVEN code
 
 -- a name filled up with spaces to eight bytes
 abbrev pub filled_up : List ℕ → List ℕ
@@ -23,7 +25,11 @@ before_space name = before_first (λ byte. byte == 32) name
 
 -- what the table says of a code
 abbrev pub row_of : ℕ → CondactRow
-row_of code = record { name = filled_up (name_of code); first = first_kind code; second = second_kind code; acts = acts code }
+row_of code = record {
+  name = filled_up (name_of code);
+  first = first_kind code;
+  second = second_kind code;
+  acts = acts code }
 
 -- the condact of this code has this name, its letters read as capitals
 abbrev pub HasName : ℕ → List ℕ → Type 0

@@ -3,6 +3,7 @@
 use Rattle.std.specs.Prelude.{◌≡◌, ℕ, zero, suc, not, List, [], ◌∷◌, length, Result}
 use Rattle.std.specs.Prelude.{Ok, Err, nat_le, ◌==◌, codes, bit_and, if◌then◌else◌}
 use Rattle.std.specs.Str.{bytes_eq}
+use Rattle.paw_base.specs.declared.codes.TheConstants.{LAST_CODE}
 use Rattle.paw_base.specs.declared.parts.Condact.{Condact}
 use Rattle.paw_base.specs.declared.parts.Counts.{Counts}
 use Rattle.paw_base.specs.declared.parts.ObjectFacts.{ObjectFacts}
@@ -106,7 +107,7 @@ exits_at bytes = do
 -- the code of a condact
 abbrev pub code_at : List ℕ → Reading ℕ
 code_at [] = Err 0
-code_at (code ∷ bytes) = if nat_le code 107 then Ok (code, bytes) else Err (suc (length bytes))
+code_at (code ∷ bytes) = if nat_le code LAST_CODE then Ok (code, bytes) else Err (suc (length bytes))
 
 -- a parameter of this kind; one that a code doesn't have is 0, and takes no byte
 abbrev pub parameter_at : ParamKind → List ℕ → Reading ℕ
