@@ -13,4 +13,5 @@ parameter_text _ x = 32 ∷ decimal x
 -- `[NAME p q]` and a newline, with as many parameters as the condact has
 abbrev pub mark_text : Condact → List ℕ
 mark_text c =
-    codes "[" ++ (name_of c.code ++ (parameter_text (first_kind c.code) c.a ++ (parameter_text (second_kind c.code) c.b ++ codes "]\n")))
+    codes "[" ++ (name_of c.code ++ (parameter_text (first_kind c.code) c.a
+    ++ (parameter_text (second_kind c.code) c.b ++ codes "]\n")))

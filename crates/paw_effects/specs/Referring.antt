@@ -17,7 +17,8 @@ abbrev pub facts_written : World → ℕ → Option ObjectFacts → World
 facts_written w o None = w
 facts_written w o (Some f) =
     let weighed = with_flag w REFERRED_WEIGHT_FLAG (weight w o) in
-    with_flag (with_flag weighed REFERRED_CONTAINER_FLAG (weight_class f.container)) REFERRED_WEARABLE_FLAG (weight_class f.wearable)
+    let held = with_flag weighed REFERRED_CONTAINER_FLAG (weight_class f.container) in
+    with_flag held REFERRED_WEARABLE_FLAG (weight_class f.wearable)
 
 -- referring to an object: flags become its number, its place and its weight, and tell a container and what may be worn
 abbrev pub referred : World → ℕ → World

@@ -84,7 +84,8 @@ fn moves<T: Tables>(tables: &T, world: &mut World, f: u8) -> bool
 /// EXTERN gives a flag the answer of a routine on the flag's value. Nothing changes where there is no such routine.
 fn answer_by_routine<F: Fn(u8, u8) -> u8>(world: &mut World, routines: &Routines<F>, n: u8, f: u8)
     requires rows { HaveRows F.Fn routines.now }
-    ensures value { (X : List (List ℕ)) → AreRowsOf F.Fn routines.now X → world.new ≡ routine_answered world.old f (value_at X n (flag world.old f)) }
+    ensures value { (X : List (List ℕ)) → AreRowsOf F.Fn routines.now X →
+        world.new ≡ routine_answered world.old f (value_at X n (flag world.old f)) }
     ensures game { (g : GameLists) → IsOf g world.old → IsOf g world.new }
     ensures draws { world.new.draws ≡ world.old.draws }
 {
@@ -108,7 +109,8 @@ pub fn act<T: Tables, F: Fn(u8, u8) -> u8>(
     requires condact { is_right (T.game tables.now) c ≡ true }
     requires rows { HaveRows F.Fn routines.now }
     requires draws { world.old.draws < 2 ^ 64 - 1 }
-    ensures does { (X : List (List ℕ)) → AreRowsOf F.Fn routines.now X → Does (effect_of (story_of (T.game tables.now) X) world.old c) piece.old piece.new world.new result }
+    ensures does { (X : List (List ℕ)) → AreRowsOf F.Fn routines.now X →
+        Does (effect_of (story_of (T.game tables.now) X) world.old c) piece.old piece.new world.new result }
     ensures game { IsOf (T.game tables.now) world.new }
     ensures draws { world.new.draws ≤ world.old.draws + 1 }
 {

@@ -26,7 +26,8 @@ pub(crate) fn is_flow(code: u8) -> bool
 
 /// Puts a question, and waits for its answer.
 fn ask<T: Tables>(tables: &T, world: &World, piece: &mut Piece, question: u8, prompt: Prompt) -> Act
-    ensures does { Does (tells world.now (put_text (T.game tables.now) world.now question) (effect.Ask prompt)) piece.old piece.new world.now result }
+    ensures does { Does (tells world.now (put_text (T.game tables.now) world.now question) (effect.Ask prompt))
+        piece.old piece.new world.now result }
 {
     after(put(tables, world, piece, question), Effect::Ask(prompt))
 }

@@ -42,7 +42,8 @@ fn lesser(a: Option<u8>, b: Option<u8>) -> Option<u8>
 /// object.
 fn next(world: &World, listed: Listed, above: Option<u8>) -> Option<u8>
     ensures none { IfNone result (listed_above world.now listed above ≡ []) }
-    ensures some { IfSome result (λ o. listed_above world.now listed above ≡ o ∷ listed_above world.now listed (Some o)) }
+    ensures some { IfSome result (λ o.
+        listed_above world.now listed above ≡ o ∷ listed_above world.now listed (Some o)) }
     ensures known { IfSome result (λ o. o < length world.now.places) }
     ensures rises { IfSome result (λ o. IfSome above (λ a. a < o)) }
 {
@@ -138,7 +139,9 @@ fn print_joined<T: Tables>(
     o: u8,
 ) -> bool
     requires known { o < length world.now.places }
-    ensures puts { Puts piece.old piece.new result (joint (texts_above (T.game tables.now) world.now listed (Some o)) ++ listed_text (T.game tables.now) world.now listed o) }
+    ensures puts { Puts piece.old piece.new result
+        (joint (texts_above (T.game tables.now) world.now listed (Some o))
+        ++ listed_text (T.game tables.now) world.now listed o) }
 {
     piece.push(joint(world, listed, o)) && print_listed(tables, world, piece, listed, o)
 }
@@ -151,7 +154,8 @@ fn print_others<T: Tables>(
     listed: Listed,
     first: u8,
 ) -> bool
-    ensures puts { Puts piece.old piece.new result (others_joined (texts_above (T.game tables.now) world.now listed (Some first))) }
+    ensures puts { Puts piece.old piece.new result
+        (others_joined (texts_above (T.game tables.now) world.now listed (Some first))) }
 {
     let mut last = first;
     while let Some(o) = next(world, listed, Some(last)) {
@@ -173,7 +177,8 @@ fn print_list<T: Tables>(
 ) -> bool
     requires known { first < length world.now.places }
     requires first { listed_above world.now listed None ≡ first ∷ listed_above world.now listed (Some first) }
-    ensures puts { Puts piece.old piece.new result (list_of world.now (texts_above (T.game tables.now) world.now listed None)) }
+    ensures puts { Puts piece.old piece.new result
+        (list_of world.now (texts_above (T.game tables.now) world.now listed None)) }
 {
     if lists_are_sentences(world) {
         print_listed(tables, world, piece, listed, first)
@@ -191,7 +196,8 @@ fn list_or_say<T: Tables>(
     listed: Listed,
     s: u8,
 ) -> bool
-    ensures puts { Puts piece.old piece.new result (list_or_say (T.game tables.now) world.now s (texts_above (T.game tables.now) world.now listed None)) }
+    ensures puts { Puts piece.old piece.new result
+        (list_or_say (T.game tables.now) world.now s (texts_above (T.game tables.now) world.now listed None)) }
 {
     match next(world, listed, None) {
         Some(first) => print_list(tables, world, piece, listed, first),

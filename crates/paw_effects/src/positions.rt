@@ -35,7 +35,8 @@ fn position_number(world: &World) -> u8
 /// Takes a position back, or says that this can't be done where it wasn't kept.
 fn load<T: Tables>(tables: &T, world: &mut World, piece: &mut Piece, n: u8) -> Act
     requires known { n < 4 }
-    ensures does { Does (loaded (T.game tables.now) world.old (kept_position world.old n)) piece.old piece.new world.new result }
+    ensures does { Does (loaded (T.game tables.now) world.old (kept_position world.old n))
+        piece.old piece.new world.new result }
     ensures game { (g : GameLists) → IsOf g world.old → IsOf g world.new }
     ensures draws { world.new.draws ≡ world.old.draws }
 {

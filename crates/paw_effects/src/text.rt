@@ -15,7 +15,8 @@ use paw_world::world::World;
 /// The text before the first underscore, and the text behind it; None where there is no underscore.
 fn parted(text: &[u8]) -> Option<(&[u8], &[u8])>
     ensures none { IfNone result ((name : List ℕ) → with_name name text.now ≡ text.now) }
-    ensures some { IfSome result (λ p. (name : List ℕ) → with_name name text.now ≡ (p.0.now ++ name) ++ with_name name p.1.now) }
+    ensures some { IfSome result (λ p. (name : List ℕ) →
+        with_name name text.now ≡ (p.0.now ++ name) ++ with_name name p.1.now) }
     ensures shorter { IfSome result (λ p. length p.1.now < length text.now) }
 {
     for (i, &b) in text.iter().enumerate() {

@@ -153,7 +153,7 @@ is_parameter g kind.Preposition x = is_word_or_none g.words PREPOSITION_CLASS x
 -- a condact: a code of the table, and the parameters that it has; one that it doesn't have is 0
 abbrev pub is_condact : GameLists → Condact → Bool
 is_condact g c =
-  nat_le c.code LAST_CODE && (is_parameter g (first_kind c.code) c.a && is_parameter g (second_kind c.code) c.b)
+    nat_le c.code LAST_CODE && (is_parameter g (first_kind c.code) c.a && is_parameter g (second_kind c.code) c.b)
 
 -- a word of an entry that matches any word
 abbrev pub is_any : ℕ → Bool

@@ -153,7 +153,8 @@ impl<'a> Inspector<'a> {
     }
 
     fn is_exit(&self, exit: &Exit) -> bool
-        ensures value { result ≡ (is_verb_value self.now.words exit.now.verb && nat_lt exit.now.to (length self.now.locations)) }
+        ensures value { result ≡
+            (is_verb_value self.now.words exit.now.verb && nat_lt exit.now.to (length self.now.locations)) }
     {
         self.is_verb_value(exit.verb) && self.is_location(exit.to)
     }

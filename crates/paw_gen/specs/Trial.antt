@@ -91,7 +91,9 @@ trial_object locations k = record { text = trial_object_text k; facts = object_f
 
 -- the locations are a ring: NORTH leads to the next, SOUTH to the one before
 abbrev pub ring_exits : ℕ → ℕ → List Exit
-ring_exits locations k = record { verb = 2; to = (k + 1) % locations } ∷ record { verb = 3; to = (k + locations - 1) % locations } ∷ []
+ring_exits locations k =
+    record { verb = 2; to = (k + 1) % locations }
+    ∷ record { verb = 3; to = (k + locations - 1) % locations } ∷ []
 
 -- ---- tables ----
 

@@ -62,7 +62,8 @@ table_header d ts (Some n) =
     if nat_lt 255 n then Err kind.Range
     else if not (n == length d.tables) then Err kind.Section
     else ended ts >>= λ _.
-    if lacks_rows d then Err kind.Missing else Ok (record (section_opened section.Pro d) { tables = d.tables ++ [] ∷ [] })
+    if lacks_rows d then Err kind.Missing
+    else Ok (record (section_opened section.Pro d) { tables = d.tables ++ [] ∷ [] })
 
 -- a header of two tokens
 abbrev pub pro_header : Spelt → List (List ℕ) → Result Spelt SourceKind

@@ -49,7 +49,8 @@ exit_row ws locations xs ts = do
 abbrev pub con_row : Spelt → List (List ℕ) → Result Spelt SourceKind
 con_row d ts =
     if length d.exits == 0 then Err fault.Section
-    else exit_row d.words (length d.locations) (last_or [] d.exits) ts >>= λ xs. Ok (record d { exits = with_last xs d.exits })
+    else exit_row d.words (length d.locations) (last_or [] d.exits) ts >>= λ xs.
+    Ok (record d { exits = with_last xs d.exits })
 
 -- ---- /OBJ ----
 
@@ -63,7 +64,14 @@ object_row ws locations next count ts = do
   noun ← word_or_none ws NOUN_CLASS k.1
   adjective ← word_or_none ws ADJECTIVE_CLASS noun.1
   end ← ended adjective.1
-  Ok (record { noun = noun.0; adjective = adjective.0; start = place.0; weight = weight.0; container = k.0.0; wearable = k.0.1 })
+  Ok (record {
+    noun = noun.0;
+    adjective = adjective.0;
+    start = place.0;
+    weight = weight.0;
+    container = k.0.0;
+    wearable = k.0.1;
+  })
 
 -- of the objects, one more
 abbrev pub obj_row : Spelt → List (List ℕ) → Result Spelt SourceKind

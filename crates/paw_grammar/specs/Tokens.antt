@@ -26,7 +26,8 @@ or_fault k ts None = Err k
 or_fault k ts (Some x) = Ok (x, ts)
 
 -- what the next token means; where it means nothing, this fault
-abbrev pub read_by : {A : Type 0} → SourceKind → (List ℕ → Option A) → List (List ℕ) → Result (A × List (List ℕ)) SourceKind
+abbrev pub read_by : {A : Type 0} → SourceKind → (List ℕ → Option A) → List (List ℕ)
+    → Result (A × List (List ℕ)) SourceKind
 read_by k meaning ts = token ts >>= λ t. or_fault k t.1 (meaning t.0)
 
 -- the token is this name, in any case of letters

@@ -90,7 +90,8 @@ in_class class (Some w) = if w.class == class then Some w.value else None
 abbrev pub as_verb : Option Word → Option ℕ
 as_verb None = None
 as_verb (Some w) =
-    if (w.class == VERB_CLASS) || ((w.class == NOUN_CLASS) && nat_lt w.value FIRST_PLAIN_NOUN) then Some w.value else None
+    if (w.class == VERB_CLASS) || ((w.class == NOUN_CLASS) && nat_lt w.value FIRST_PLAIN_NOUN)
+    then Some w.value else None
 
 -- the declared word that a token spells
 abbrev pub known : List Word → List ℕ → Option Word

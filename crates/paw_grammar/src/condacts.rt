@@ -88,7 +88,8 @@ fn add_condacts(
     rows: &mut Vec<Condact>,
 ) -> Result<(), ReadError>
     requires { AreSmall bounds.now }
-    ensures { Gives (λ _. rows.new.items) result (with_more_condacts rows.old.items (condacts bounds.now words.now 0 tokens.old)) }
+    ensures { Gives (λ _. rows.new.items) result
+        (with_more_condacts rows.old.items (condacts bounds.now words.now 0 tokens.old)) }
 {
     while let Some(name) = tokens.next() {
         match condact(bounds, words, name, tokens) {

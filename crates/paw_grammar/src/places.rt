@@ -43,7 +43,8 @@ fn named_place(tokens: &mut Tokens, names: &[&[u8]], locations: u16) -> Result<u
     requires names { length names.now ≤ 4 }
     requires some { 0 < length names.now }
     ensures { Gives (λ place. (place, tokens.new)) result
-        (place_up_to (251 + length names.now) (λ t. position (λ name. is_named t name.now) names.now) locations tokens.old) }
+        (place_up_to (251 + length names.now)
+        (λ t. position (λ name. is_named t name.now) names.now) locations tokens.old) }
 {
     let token = tokens.token()?;
     match place_by(names, token) {

@@ -7,11 +7,11 @@ ghost use Rattle.paw_image.specs.Images.{IsImage};
 ghost use Rattle.paw_image.specs.inner.Images.{IfDamaged};
 ghost use Rattle.paw_base.specs.declared.limits.TheConstants.{IMAGE_LIMIT};
 
-use paw_base::limits::IMAGE_LIMIT;
 use crate::damage::damage;
 use crate::fault::ReadFault;
 use crate::parts::read_parts;
 use crate::refusal::ImageRefusal;
+use paw_base::limits::IMAGE_LIMIT;
 use paw_game::game::Game;
 use std::alloc::Global;
 

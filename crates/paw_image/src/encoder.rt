@@ -5,9 +5,9 @@ ghost use Rattle.paw_game.specs.Image.{image};
 ghost use Rattle.paw_image.specs.Images.{IsImage};
 ghost use Rattle.paw_image.specs.inner.Images.{IfDamaged};
 
-use paw_base::limits::IMAGE_LIMIT;
 use crate::parts::{length_of_parts, write_parts};
 use crate::refusal::ImageRefusal;
+use paw_base::limits::IMAGE_LIMIT;
 use paw_game::game::Game;
 use std::alloc::Global;
 

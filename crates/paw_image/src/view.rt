@@ -12,12 +12,12 @@ ghost use Rattle.paw_image.specs.inner.Images.{IfDamaged};
 ghost use Rattle.paw_image.specs.inner.Places.{entries_of, entry_places};
 ghost use Rattle.paw_image.specs.inner.Views.{game_of, rows_begin, span_at, tables_begin_at};
 
-use paw_base::limits::IMAGE_LIMIT;
 use crate::at_place::{condact_in, entry_in, exit_at, facts_in, head_in, text_in};
 use crate::damage::pass_whole;
 use crate::order::next_in;
 use crate::places::{Places, TableIndex};
 use crate::refusal::ImageRefusal;
+use paw_base::limits::IMAGE_LIMIT;
 use paw_base::parts::{Condact, Counts, ObjectFacts};
 use paw_game::lookup::word_of;
 use paw_game::parts::{GamePart, Word};

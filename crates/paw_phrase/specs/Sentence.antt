@@ -47,7 +47,8 @@ abbrev pub with_pronoun : Sentence → Sentence
 with_pronoun s =
     if is_absent s.pronoun_noun then s else
     if is_absent s.noun then record s { noun = s.pronoun_noun; adjective = s.pronoun_adjective } else
-    if is_absent s.second_noun then record s { second_noun = s.pronoun_noun; second_adjective = s.pronoun_adjective } else s
+    if is_absent s.second_noun
+    then record s { second_noun = s.pronoun_noun; second_adjective = s.pronoun_adjective } else s
 
 -- A word of this value and class is added: a verb, an adverb or a preposition where there is none yet, a noun, an
 -- adjective or a pronoun. A conjunction is in no phrase.
@@ -83,7 +84,8 @@ has_known g (token ∷ tokens) = is_known (word_at g token) || has_known g token
 -- where there is no verb, a first noun that serves as one stands for it, and else the verb of the sentence before
 abbrev pub with_verb : ℕ → Sentence → Sentence
 with_verb earlier s =
-    if is_absent s.verb then (if nat_lt s.noun FIRST_PLAIN_NOUN then record s { verb = s.noun } else record s { verb = earlier }) else s
+    if is_absent s.verb
+    then (if nat_lt s.noun FIRST_PLAIN_NOUN then record s { verb = s.noun } else record s { verb = earlier }) else s
 
 -- a first noun that a pronoun may stand for is what it stands for from now on
 abbrev pub with_meaning : Sentence → Sentence

@@ -49,7 +49,8 @@ letters_or_none (Some w) = spelled_letters w
 
 -- where a word stands, a value is `*`, `_` or its word
 abbrev pub word_token : ℕ → Option Word → List ℕ
-word_token value word = if value == ANY_WORD then codes "*" else (if value == NO_WORD then codes "_" else letters_or_none word)
+word_token value word =
+    if value == ANY_WORD then codes "*" else (if value == NO_WORD then codes "_" else letters_or_none word)
 
 -- the token of a value of this class
 abbrev pub value_token : List Word → ℕ → ℕ → List ℕ

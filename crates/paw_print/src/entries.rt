@@ -21,7 +21,8 @@ fn write_parameter(
     value: u8,
     out: &mut Vec<u8>,
 ) -> Result<(), AllocError>
-    ensures writes { OnOk result (out.new.items ≡ out.old.items ++ behind_spaces (parameter_tokens vocabulary.now kind value)) }
+    ensures writes { OnOk result
+        (out.new.items ≡ out.old.items ++ behind_spaces (parameter_tokens vocabulary.now kind value)) }
 {
     match kind {
         ParamKind::Absent => Ok(()),
@@ -40,7 +41,8 @@ fn write_condact(
     out: &mut Vec<u8>,
 ) -> Result<(), AllocError>
     requires known { IsKnown condact }
-    ensures writes { OnOk result (out.new.items ≡ out.old.items ++ with_line_end (condact_line vocabulary.now condact)) }
+    ensures writes { OnOk result
+        (out.new.items ≡ out.old.items ++ with_line_end (condact_line vocabulary.now condact)) }
 {
     let row = condact_row(condact.code).unwrap();
     write_token(row.trimmed_name(), out)?;
@@ -56,7 +58,8 @@ fn write_condacts(
     out: &mut Vec<u8>,
 ) -> Result<(), AllocError>
     requires known { AllByRecursion IsKnown condacts.now }
-    ensures writes { OnOk result (out.new.items ≡ out.old.items ++ written (map (condact_line vocabulary.now) condacts.now)) }
+    ensures writes { OnOk result
+        (out.new.items ≡ out.old.items ++ written (map (condact_line vocabulary.now) condacts.now)) }
 {
     for condact in condacts {
         write_condact(vocabulary, *condact, out)?;
@@ -66,7 +69,8 @@ fn write_condacts(
 
 /// Writes the line of an entry's words.
 fn write_head(vocabulary: &Vocabulary, entry: &Entry, out: &mut Vec<u8>) -> Result<(), AllocError>
-    ensures writes { OnOk result (out.new.items ≡ out.old.items ++ with_line_end (spaced (entry_tokens vocabulary.now entry.now))) }
+    ensures writes { OnOk result
+        (out.new.items ≡ out.old.items ++ with_line_end (spaced (entry_tokens vocabulary.now entry.now))) }
 {
     vocabulary.write_verb(entry.verb, out)?;
     vocabulary.write_noun(entry.noun, out)?;
@@ -99,7 +103,8 @@ fn write_table(
     out: &mut Vec<u8>,
 ) -> Result<(), AllocError>
     requires known { IsKnownTable entries.now }
-    ensures writes { OnOk result (out.new.items ≡ out.old.items ++ written (table_lines vocabulary.now number entries.now)) }
+    ensures writes { OnOk result
+        (out.new.items ≡ out.old.items ++ written (table_lines vocabulary.now number entries.now)) }
 {
     write_table_header(number, out)?;
     for entry in entries {
@@ -115,7 +120,8 @@ pub(crate) fn write_tables(
     out: &mut Vec<u8>,
 ) -> Result<(), AllocError>
     requires known { AllByRecursion IsKnownTable tables.now }
-    ensures writes { OnOk result (out.new.items ≡ out.old.items ++ written (numbered (table_lines vocabulary.now) 0 tables.now)) }
+    ensures writes { OnOk result
+        (out.new.items ≡ out.old.items ++ written (numbered (table_lines vocabulary.now) 0 tables.now)) }
 {
     for (number, table) in tables.iter().enumerate() {
         write_table(vocabulary, number, &table.entries, out)?;

@@ -12,7 +12,8 @@ use std::alloc::AllocError;
 
 /// Writes the line of an exit.
 fn write_exit(vocabulary: &Vocabulary, exit: &Exit, out: &mut Vec<u8>) -> Result<(), AllocError>
-    ensures writes { OnOk result (out.new.items ≡ out.old.items ++ with_line_end (spaced (exit_tokens vocabulary.now exit.now))) }
+    ensures writes { OnOk result
+        (out.new.items ≡ out.old.items ++ with_line_end (spaced (exit_tokens vocabulary.now exit.now))) }
 {
     vocabulary.write_verb(exit.verb, out)?;
     write_number(exit.to as usize, out)?;
@@ -26,7 +27,8 @@ fn write_location(
     exits: &[Exit],
     out: &mut Vec<u8>,
 ) -> Result<(), AllocError>
-    ensures writes { OnOk result (out.new.items ≡ out.old.items ++ written (location_lines vocabulary.now number exits.now)) }
+    ensures writes { OnOk result
+        (out.new.items ≡ out.old.items ++ written (location_lines vocabulary.now number exits.now)) }
 {
     if exits.is_empty() {
         return Ok(());

@@ -25,7 +25,8 @@ fn kind_token(container: bool, wearable: bool) -> &'static [u8]
 /// Writes the place, the weight and the kind of an object, each behind one space.
 fn write_place_and_kind(facts: &ObjectFacts, out: &mut Vec<u8>) -> Result<(), AllocError>
     ensures writes { let kind = kind_token facts.now.container facts.now.wearable in
-        OnOk result (out.new.items ≡ out.old.items ++ behind_spaces (decimal facts.now.start ∷ decimal facts.now.weight ∷ kind ∷ [])) }
+        let tokens = decimal facts.now.start ∷ decimal facts.now.weight ∷ kind ∷ [] in
+        OnOk result (out.new.items ≡ out.old.items ++ behind_spaces tokens) }
 {
     write_number(facts.start as usize, out)?;
     write_number(facts.weight as usize, out)?;
@@ -39,7 +40,8 @@ fn write_object(
     facts: &ObjectFacts,
     out: &mut Vec<u8>,
 ) -> Result<(), AllocError>
-    ensures writes { OnOk result (out.new.items ≡ out.old.items ++ with_line_end (spaced (object_tokens vocabulary.now number facts.now))) }
+    ensures writes { OnOk result
+        (out.new.items ≡ out.old.items ++ with_line_end (spaced (object_tokens vocabulary.now number facts.now))) }
 {
     write_digits(number, out)?;
     write_place_and_kind(facts, out)?;

@@ -51,7 +51,8 @@ pub(crate) fn write_texts(
 
 /// Writes the section of the objects' texts.
 pub(crate) fn write_object_texts(objects: &[ObjectRow], out: &mut Vec<u8>) -> Result<(), AllocError>
-    ensures writes { OnOk result (out.new.items ≡ out.old.items ++ written (texts_lines (codes "/OTX") (map (λ o. o.text) objects.now))) }
+    ensures writes { OnOk result
+        (out.new.items ≡ out.old.items ++ written (texts_lines (codes "/OTX") (map (λ o. o.text) objects.now))) }
 {
     write_header(b"/OTX", out)?;
     for (number, object) in objects.iter().enumerate() {

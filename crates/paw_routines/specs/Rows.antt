@@ -13,7 +13,8 @@ value_at rows n x = value_in (slice_get rows n) x
 
 -- rows stand for the first so many routines of f: there is one for each, of 256 bytes; f may be called for each of them
 -- on each value from 0 to 255; and whatever byte it may answer there is the value of the row
-pub record StandFor {F : Type 0} (calls : Shared F (ℕ × (ℕ × Unit {0})) ℕ) (f : F) (count : ℕ) (rows : List (List ℕ)) : Type 0 where
+pub record StandFor {F : Type 0} (calls : Shared F (ℕ × (ℕ × Unit {0})) ℕ) (f : F) (count : ℕ)
+    (rows : List (List ℕ)) : Type 0 where
   pub one_each : length rows ≡ count
   pub whole : All (λ row. length row ≡ 256) rows
   pub bytes : All (λ row. All (λ y. y < 256) row) rows

@@ -87,7 +87,8 @@ restarted w = record w { flags = opening_flags w.facts; places = opening_places 
 
 -- all objects go back to where they begin, and a flag counts those that begin carried; the other flags stay
 abbrev pub with_objects_returned : World → World
-with_objects_returned w = record w { flags = slice_set w.flags CARRIED_FLAG (first_carried w.facts); places = opening_places w.facts }
+with_objects_returned w =
+    record w { flags = slice_set w.flags CARRIED_FLAG (first_carried w.facts); places = opening_places w.facts }
 
 -- the current location is one of the game's
 abbrev pub is_somewhere : World → Bool

@@ -228,7 +228,8 @@ impl World {
 
     /// The flags and the places of the saved position; None where nothing is saved.
     pub fn saved_position(&self) -> Option<(&[u8; 256], &[u8])>
-        ensures value { MatchOption result (self.now.saved ≡ None) (λ p. self.now.saved ≡ Some (record { flags = p.0.now; places = p.1.now })) }
+        ensures value { MatchOption result (self.now.saved ≡ None)
+            (λ p. self.now.saved ≡ Some (record { flags = p.0.now; places = p.1.now })) }
     {
         match &self.saved {
             None => None,
@@ -297,7 +298,8 @@ impl World {
     /// The flags and the places of the kept position of this number; None where none was kept.
     pub fn kept_position(&self, n: u8) -> Option<(&[u8; 256], &[u8])>
         requires known { n < 4 }
-        ensures value { MatchOption result (kept_position self.now n ≡ None) (λ p. kept_position self.now n ≡ Some (record { flags = p.0.now; places = p.1.now })) }
+        ensures value { MatchOption result (kept_position self.now n ≡ None)
+            (λ p. kept_position self.now n ≡ Some (record { flags = p.0.now; places = p.1.now })) }
     {
         match &self.kept[n as usize] {
             None => None,

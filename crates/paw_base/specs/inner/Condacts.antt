@@ -29,7 +29,8 @@ row_of code = record {
   name = filled_up (name_of code);
   first = first_kind code;
   second = second_kind code;
-  acts = acts code }
+  acts = acts code;
+}
 
 -- the condact of this code has this name, its letters read as capitals
 abbrev pub HasName : ℕ → List ℕ → Type 0

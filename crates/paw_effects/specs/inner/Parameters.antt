@@ -7,8 +7,8 @@ use Rattle.paw_game.specs.Valid.{is_within}
 -- the codes whose first parameter is an object
 abbrev pub takes_object : ℕ → Bool
 takes_object code =
-    is_within PRESENT NOTCARR code || is_within ISAT ISNOTAT code || is_within GET PLACE code || is_within COPYOO COPYOF code
-    || (code == WEIGH)
+    is_within PRESENT NOTCARR code || is_within ISAT ISNOTAT code || is_within GET PLACE code
+    || is_within COPYOO COPYOF code || (code == WEIGH)
 
 -- the codes whose second parameter is an object
 abbrev pub takes_second_object : ℕ → Bool

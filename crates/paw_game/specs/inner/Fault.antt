@@ -18,7 +18,8 @@ use Rattle.paw_game.specs.Valid.{is_word, is_text, is_object, is_exits, is_table
 -- of a part with this many rows: the most that it may have where it has more, their number where it has fewer than the
 -- least, and else the first bad row
 abbrev pub row_fault : ℕ → ℕ → ℕ → Option ℕ → Option ℕ
-row_fault least most count bad = if nat_lt most count then Some most else (if nat_lt count least then Some count else bad)
+row_fault least most count bad =
+    if nat_lt most count then Some most else (if nat_lt count least then Some count else bad)
 
 -- the first row that breaks the rule
 abbrev pub first_bad : {X : Type 0} → (X → Bool) → List X → Option ℕ

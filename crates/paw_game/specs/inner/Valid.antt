@@ -23,4 +23,4 @@ is_argument g k x = is_parameter g k x
 -- any byte
 abbrev pub is_right : GameLists → Condact → Bool
 is_right g c =
-  nat_le c.code LAST_CODE && (is_argument g (first_kind c.code) c.a && is_argument g (second_kind c.code) c.b)
+    nat_le c.code LAST_CODE && (is_argument g (first_kind c.code) c.a && is_argument g (second_kind c.code) c.b)

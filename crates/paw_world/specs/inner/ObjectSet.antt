@@ -18,10 +18,12 @@ pub record Removes (o : ℕ) (old new : List ℕ) : Type 0 where
 
 -- the least number of the set that isn't below this one; nothing where there is none
 pub data IsLeastFrom (words : List ℕ) (from : ℕ) : Option ℕ → Type 0 where
-  found : (o : ℕ) → from ≤ o → o < 256 → member words o ≡ 1 → ((k : ℕ) → from ≤ k → k < o → member words k ≡ 0) → IsLeastFrom words from (Some o)
+  found : (o : ℕ) → from ≤ o → o < 256 → member words o ≡ 1 → ((k : ℕ) → from ≤ k → k < o → member words k ≡ 0) →
+      IsLeastFrom words from (Some o)
   none : ((k : ℕ) → from ≤ k → k < 256 → member words k ≡ 0) → IsLeastFrom words from None
 
 -- the lowest bit of a word that is 1 and isn't below this one; nothing where there is none
 pub data IsLowestFrom (word : ℕ) (from : ℕ) : Option ℕ → Type 0 where
-  lowest : (b : ℕ) → from ≤ b → b < 64 → bit_at word b ≡ 1 → ((k : ℕ) → from ≤ k → k < b → bit_at word k ≡ 0) → IsLowestFrom word from (Some b)
+  lowest : (b : ℕ) → from ≤ b → b < 64 → bit_at word b ≡ 1 → ((k : ℕ) → from ≤ k → k < b → bit_at word k ≡ 0) →
+      IsLowestFrom word from (Some b)
   no_bit : ((k : ℕ) → from ≤ k → k < 64 → bit_at word k ≡ 0) → IsLowestFrom word from None

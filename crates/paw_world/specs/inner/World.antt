@@ -41,7 +41,8 @@ kept_place w n o = place_in (kept_position w n) o
 
 -- the parts of a world: its flags, not too many places, room for the facts of all objects, and positions of the same
 -- size
-pub record IsStored (facts : List ObjectFacts) (flags places : List ℕ) (saved : Option Position) (kept : List (Option Position)) : Type 0 where
+pub record IsStored (facts : List ObjectFacts) (flags places : List ℕ) (saved : Option Position)
+    (kept : List (Option Position)) : Type 0 where
   pub objects : length places ≤ OBJECT_LIMIT
   pub facts_room : length facts ≡ OBJECT_LIMIT
   pub flags_all : length flags ≡ FLAG_COUNT
