@@ -7,9 +7,8 @@ use Rattle.std.proofs.lemmas.List.Quantifiers.{position-Some}
 use Rattle.std.proofs.Math.ListN.{length-map}
 use Rattle.paw_base.proofs.Filled.{has_space, has_space-plain, bytes_eq-filled_up, is_plain-capitals}
 use Rattle.paw_base.proofs.Table.{held, CONDACTS_are, length-condact_lines, below, each_code, is_plain-name_of, HasName-name_of}
-use Rattle.paw_base.specs.declared.rows.ParamKind.TheVariants.{Absent}
 use Rattle.paw_base.specs.declared.rows.TheConstants.{CONDACTS}
-use Rattle.paw_base.specs.Condacts.{CondactLine, named_line, condact_lines, line_of, name_of, capitals, code_named}
+use Rattle.paw_base.specs.Condacts.{CondactLine, no_line, condact_lines, line_of, name_of, capitals, code_named}
 use Rattle.paw_base.specs.inner.Condacts.{filled_up, HasName, IsCode, is_plain}
 
 abbrev code_with : List ℕ → Option ℕ
@@ -41,7 +40,7 @@ code_named-name_of code h = code_named_only code (name_of code) (HasName-name_of
 pub code_named_found : (name : List ℕ) (code : ℕ) → code_named name ≡ Some code → HasName code name
 unfolding line_of
 code_named_found name code e =
-    let p = position-Some (λ line. bytes_eq line.name (capitals name)) condact_lines code (named_line [] Absent Absent) e in
+    let p = position-Some (λ line. bytes_eq line.name (capitals name)) condact_lines code no_line e in
     let within : code < 108 = subst (λ (n : ℕ). code < n) length-condact_lines p.0 in
     (omega arith, (bytes_eq-Decides (line_of code).name (capitals name)).0 p.1)
 

@@ -1,5 +1,5 @@
 -- The table of condacts: as the code holds it, and what is true of each code.
-use Rattle.std.proofs.Common.{◌≡◌, ℕ, zero, suc, ◌≤◌, ◌<◌, Bool, true, ◌&&◌, ◌||◌, List, [], length, map, refl, ap, ◌∙◌, nat_le, nat_lt, bytes_eq, arith}
+use Rattle.std.proofs.Common.{◌≡◌, ℕ, zero, suc, ◌≤◌, ◌<◌, Bool, true, ◌&&◌, ◌||◌, List, length, map, refl, ap, ◌∙◌, nat_le, nat_lt, bytes_eq, arith}
 use Rattle.std.specs.List.{slice_index_or, list_all}
 use Rattle.std.specs.Char.{is_ascii_uppercase, is_ascii_digit}
 use Rattle.std.proofs.lemmas.Bool.Decides.{Decides-below_and}
@@ -7,19 +7,19 @@ use Rattle.std.proofs.lemmas.Bool.{leb-true}
 use Rattle.std.proofs.lemmas.Slice.Eq.{bytes_eq-Decides}
 use Rattle.std.proofs.lemmas.List.{get_or-map}
 use Rattle.paw_base.proofs.Filled.{has_space-plain, before_space-filled_up}
+use Rattle.paw_base.specs.declared.rows.Family.{Family}
 use Rattle.paw_base.specs.declared.rows.ParamKind.{ParamKind}
-use Rattle.paw_base.specs.declared.rows.ParamKind.TheVariants.{Absent}
 use Rattle.paw_base.specs.declared.rows.TheConstants.{CONDACTS}
-use Rattle.paw_base.specs.Condacts.{CondactLine, named_line, condact_lines, line_of, name_of, first_kind, second_kind, param_count, capitals}
+use Rattle.paw_base.specs.Condacts.{CondactLine, no_line, condact_lines, line_of, name_of, first_kind, second_kind, param_count, capitals}
 use Rattle.paw_base.specs.inner.Condacts.{filled_up, before_space, row_of, HasName, IsCode, is_plain, acts}
 
 -- ---- the code's table is the definition's
 
 abbrev pub Held : Type 0
-Held = List ℕ × ParamKind × ParamKind
+Held = List ℕ × ParamKind × ParamKind × Family
 
 abbrev pub held : CondactLine → Held
-held line = (filled_up line.name, line.first, line.second)
+held line = (filled_up line.name, line.first, line.second, line.family)
 
 pub CONDACTS_are : CONDACTS ≡ map held condact_lines
 unfolding condact_lines
@@ -29,15 +29,15 @@ pub length-condact_lines : length condact_lines ≡ 108
 unfolding condact_lines
 length-condact_lines = refl
 
-held_is_line : (code : ℕ) (row : Held) → code < 108 → row ≡ slice_index_or CONDACTS code row → row ≡ held (line_of code)
+pub held_at : (code : ℕ) (row : Held) → code < 108 → slice_index_or CONDACTS code row ≡ held (line_of code)
 unfolding line_of
-held_is_line code row h e =
-    e
-    ∙ ap (λ rows. slice_index_or rows code row) CONDACTS_are
-    ∙ get_or-map held condact_lines code (named_line [] Absent Absent) row (rw length-condact_lines h)
+held_at code row h =
+    ap (λ rows. slice_index_or rows code row) CONDACTS_are
+    ∙ get_or-map held condact_lines code no_line row (rw length-condact_lines h)
 
-pub row_is : (code : ℕ) (row : Held) → code < 108 → row ≡ slice_index_or CONDACTS code row → record { name = row.0; first = row.1; second = row.2; acts = acts code } ≡ row_of code
-row_is code row h e = rw (held_is_line code row h e) refl
+pub row_is : (code : ℕ) (row : Held) → code < 108 → row ≡ slice_index_or CONDACTS code row →
+    record { name = row.0; first = row.1; second = row.2; family = row.3; acts = acts code } ≡ row_of code
+row_is code row h e = rw (e ∙ held_at code row h) refl
 
 -- ---- what a test over the whole table shows of each code
 

@@ -1,11 +1,11 @@
 -- The condacts: words that contracts between crates and proofs use beside those of specs/Condacts.antt.
-use Rattle.std.specs.Prelude.{ℕ, ◌≡◌, ◌≤◌, ◌-◌, ◌+◌, ◌++◌, Bool, List, length}
-use Rattle.std.specs.Prelude.{replicate, nat_le, codes, ◌==◌, ◌&&◌, not}
+use Rattle.std.specs.Prelude.{ℕ, ◌≡◌, ◌≤◌, ◌-◌, ◌++◌, Bool, List, length}
+use Rattle.std.specs.Prelude.{replicate, nat_le, ◌==◌, ◌&&◌, not}
 use Rattle.std.specs.List.{list_any, before_first}
 use Rattle.paw_base.specs.declared.codes.TheConstants.{LAST_CODE}
 use Rattle.paw_base.specs.declared.codes.TheConstants.{INVEN}
 use Rattle.paw_base.specs.declared.rows.CondactRow.{CondactRow}
-use Rattle.paw_base.specs.Condacts.{name_of, first_kind, second_kind, capitals}
+use Rattle.paw_base.specs.Condacts.{name_of, first_kind, second_kind, family_of, capitals}
 
 -- the codes of the condacts are those up to the last
 abbrev pub IsCode : ℕ → Type 0
@@ -29,6 +29,7 @@ row_of code = record {
   name = filled_up (name_of code);
   first = first_kind code;
   second = second_kind code;
+  family = family_of code;
   acts = acts code;
 }
 

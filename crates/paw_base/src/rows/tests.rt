@@ -255,3 +255,53 @@ fn each_named_code_has_its_name(rt: HostRuntime) {
         assert_eq!(rt; condact_named(name.as_bytes()), Some(*code), "{name}");
     }
 }
+
+/// The least and the last code of each run of one family.
+static FAMILIES: [(u8, u8, Family); 32] = [
+    (codes::AT, codes::NOTCARR, Family::PlaceTest),
+    (codes::CHANCE, codes::CHANCE, Family::Chance),
+    (codes::ZERO, codes::ADJECT2, Family::FlagTest),
+    (codes::ISAT, codes::ISNOTAT, Family::PlaceTest),
+    (codes::TIMEOUT, codes::TIMEOUT, Family::FlagTest),
+    (codes::QUIT, codes::QUIT, Family::Quit),
+    (codes::MOVE, codes::MOVE, Family::Exit),
+    (codes::INVEN, codes::INVEN, Family::Print),
+    (codes::DESC, codes::ANYKEY, Family::Flow),
+    (codes::SAVE, codes::LOAD, Family::Keeping),
+    (codes::RAMSAVE, codes::RAMLOAD, Family::Change),
+    (codes::TURNS, codes::SCORE, Family::Print),
+    (codes::DROPALL, codes::DROPALL, Family::Placing),
+    (codes::AUTOG, codes::AUTOT, Family::Handling),
+    (codes::GOTO, codes::GOTO, Family::Change),
+    (codes::MES, codes::PRINT, Family::Print),
+    (codes::GET, codes::TAKEOUT, Family::Handling),
+    (codes::CREATE, codes::PUTO, Family::Placing),
+    (codes::SET, codes::RANDOM, Family::Change),
+    (codes::COPYOO, codes::COPYFO, Family::Placing),
+    (codes::COPYFF, codes::COPYFF, Family::Change),
+    (codes::LISTOBJ, codes::LISTAT, Family::Print),
+    (codes::WHATO, codes::WHATO, Family::Handling),
+    (codes::WEIGH, codes::ABILITY, Family::Change),
+    (codes::PARSE, codes::DOALL, Family::Flow),
+    (codes::PROMPT, codes::TIME, Family::Change),
+    (codes::NEWTEXT, codes::NEWTEXT, Family::NewText),
+    (codes::RESET, codes::RESET, Family::Reset),
+    (codes::EXTERN, codes::EXTERN, Family::Extern),
+    (codes::PICTURE, codes::BEEP, Family::Print),
+    (codes::CLS, codes::PROTECT, Family::Print),
+    (codes::SAVEAT, codes::INPUT, Family::Print),
+];
+
+#[test]
+fn each_condact_is_in_one_family(rt: HostRuntime) -> Result<(), Fail> {
+    let mut next = 0;
+    for (least, last, family) in FAMILIES {
+        assert_eq!(rt; least, next);
+        for code in least..=last {
+            assert_eq!(rt; condact_row(code).map(|row| row.family), Some(family));
+        }
+        next = last.wrapping_add(1);
+    }
+    assert_eq!(rt; next, 108);
+    Ok(())
+}
