@@ -125,6 +125,7 @@ pub record Played : Type 0 where
 abbrev pub KeepsLines : Played → List (List ℕ) → ℕ → Recovered → Type 0
 KeepsLines s lines n r = IsKept s.digest (s.before + n) (s.whole (first_lines n lines)) r
 
+-- the bytes of a store keep the reading of the first n of these lines
 abbrev pub KeptBy : Played → List (List ℕ) → ℕ → List ℕ → Type 0
 KeptBy s lines n bytes = KeepsLines s lines n (recover bytes)
 
@@ -132,6 +133,7 @@ KeptBy s lines n bytes = KeepsLines s lines n (recover bytes)
 abbrev pub InPlay : Played → Standing → Moment → Type 0
 InPlay s old m = InSession (KeptBy s old.lines) (λ n. text_of (s.whole (first_lines n old.lines))) s.before s.name old m
 
+-- what playing the session on comes to, with at most so many lines more
 abbrev pub PlaysOn : Played → ℕ → Standing → Standing → PlayEnd → Type 0
 PlaysOn s most old new o = PlaysWith (KeptBy s old.lines) s.whole s.before s.name most old new o
 

@@ -37,6 +37,7 @@ text_since g seed es lines n = joined (drop (length es) (pieces_of (run_of (read
 abbrev pub since_piece : ℕ → Run → Run
 since_piece n r = record r { pieces = drop n r.pieces; traces = drop (suc n) r.traces }
 
+-- the same ending, its run told from the closed piece of number n on
 abbrev pub ending_since : ℕ → Ending → Ending
 ending_since n (WaitsAt p path r) = WaitsAt p path (since_piece n r)
 ending_since n (Halted halt r) = Halted halt (since_piece n r)

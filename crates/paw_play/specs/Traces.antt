@@ -38,9 +38,11 @@ abbrev pub traced_pieces : List (List ℕ) → List (List Step) → List (List �
 traced_pieces (piece ∷ pieces) (steps ∷ traces) = (steps_text steps ++ piece) ∷ traced_pieces pieces traces
 traced_pieces pieces traces = pieces
 
+-- the run, each of its closed pieces behind the text of its steps
 abbrev pub traced_run : Run → Run
 traced_run r = record r { pieces = traced_pieces r.pieces r.traces }
 
+-- the same ending, its run told so
 abbrev pub traced_ending : Ending → Ending
 traced_ending (WaitsAt p path r) = WaitsAt p path (traced_run r)
 traced_ending (Halted halt r) = Halted halt (traced_run r)

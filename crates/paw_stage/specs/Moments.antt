@@ -13,6 +13,7 @@ pub record Moment : Type 0 where
   pub attached : Option (List ℕ)
   pub disk : Disk
 
+-- The moment between calls at which this stands.
 abbrev pub moment_of : Standing → Moment
 moment_of s = record { files = s.files; asked = s.asked; shown = s.shown; attached = s.attached; disk = s.disk }
 

@@ -32,6 +32,7 @@ has_seed_shape word = nat_le 1 (length word) && (nat_le (length word) 20 && list
 abbrev pub is_seed : List ℕ → Bool
 is_seed word = has_seed_shape word && nat_lt (number_after 0 word) (2 ^ 64)
 
+-- the value of a seed, by its word; none where the word isn't one
 abbrev pub seed_of : List ℕ → Option ℕ
 seed_of word = if is_seed word then Some (number_after 0 word) else None
 

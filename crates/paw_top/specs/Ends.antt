@@ -15,6 +15,7 @@ refused_as (refusal.Damaged p at) = outcome.SessionDamaged p at
 refused_as (refusal.WrongGame kept found) = outcome.WrongGame kept found
 refused_as (refusal.Outside c) = outcome.Outside c
 
+-- the answer for what playing came to
 abbrev pub outcome_of : PlayEnd → Outcome
 outcome_of end.Ended = outcome.Ended
 outcome_of end.InputEnded = outcome.InputEnded

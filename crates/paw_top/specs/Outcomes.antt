@@ -37,6 +37,7 @@ status_of (outcome.Long events) = 9
 unfoldable pub usage : List ℕ
 usage = codes "usage: paw compile S I | decompile I | walk I SEED | play I F SEED | resume I F | trace I SEED | trial N\n"
 
+-- the name of a kind of fault that a source may have
 abbrev pub kind_name : SourceKind → List ℕ
 kind_name kind.Section = codes "Section"
 kind_name kind.Word = codes "Word"
@@ -49,15 +50,18 @@ kind_name kind.Condact = codes "Condact"
 kind_name kind.Text = codes "Text"
 kind_name kind.TooBig = codes "TooBig"
 
+-- the name of a part of a session that may be damaged
 abbrev pub part_name : SessionPart → List ℕ
 part_name part.Header = codes "Header"
 part_name part.Slot = codes "Slot"
 part_name part.State = codes "State"
 
+-- the name of what a piece may spend
 abbrev pub spent_name : SpentKind → List ℕ
 spent_name spent.Condacts = codes "condacts"
 spent_name spent.Text = codes "text"
 
+-- the name of a call of the stage
 abbrev pub call_name : StageCall → List ℕ
 call_name call.Load = codes "Load"
 call_name call.LoadAbsent = codes "LoadAbsent"
@@ -69,6 +73,7 @@ call_name call.Sync = codes "Sync"
 call_name call.Ask = codes "Ask"
 call_name call.Show = codes "Show"
 
+-- the name of a place where memory may be wanting
 abbrev pub memory_name : MemoryAt → List ℕ
 memory_name memory.Load = codes "Load"
 memory_name memory.Source = codes "Source"

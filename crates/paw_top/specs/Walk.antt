@@ -28,5 +28,6 @@ WalksIn rows name seed old new o = WalksAs reading rows name seed old new o
 abbrev pub reading_traced : Story → ℕ → Reading
 reading_traced s seed = traced (reading s seed)
 
+-- a trace through the game that this file holds, or why there is none, with nothing changed
 abbrev pub TracesIn : List (List ℕ) → List ℕ → ℕ → Standing → Standing → Outcome → Type 0
 TracesIn rows name seed old new o = WalksAs reading_traced rows name seed old new o
