@@ -3,7 +3,7 @@ use Rattle.std.proofs.Common.{arith, ℕ, zero, suc, ◌≡◌, ◌<◌, ◌≤�
 use Rattle.std.proofs.Math.Seq.{take-suc-set}
 use Rattle.std.proofs.lemmas.List.{take_all, length-take-le, length-append}
 use Rattle.paw_base.specs.declared.steps.StepRow.{StepRow}
-use Rattle.paw_base.specs.inner.Steps.{kept_steps, noted}
+use Rattle.paw_base.specs.inner.Steps.{kept_steps, with_step_noted}
 
 -- a row that is put behind the first n stands behind them
 pub take_put : (xs : List StepRow) (n : ℕ) (y : StepRow) → n < length xs → take (suc n) (slice_set xs n y) ≡ take (length xs) (take n xs ++ y ∷ [])
@@ -18,7 +18,7 @@ take_again (suc n) [] ys = refl
 take_again (suc n) (x ∷ xs) ys = ap (λ zs. x ∷ zs) (take_again n xs ys)
 
 -- a step that is noted stands at the end of the steps
-pub kept_noted : (steps : List StepRow) (step : StepRow) → noted step (kept_steps steps) ≡ kept_steps (steps ++ step ∷ [])
+pub kept_noted : (steps : List StepRow) (step : StepRow) → with_step_noted step (kept_steps steps) ≡ kept_steps (steps ++ step ∷ [])
 kept_noted steps step =
     let count : suc (length steps) ≡ length (steps ++ step ∷ []) = rw (length-append steps (step ∷ [])) (omega arith) in
     ap (λ rows. record { rows = rows; count = suc (length steps) }) (take_again 1000 steps (step ∷ []))

@@ -11,7 +11,7 @@ use Rattle.paw_base.specs.declared.rows.Family.{Family}
 use Rattle.paw_base.specs.declared.rows.ParamKind.{ParamKind}
 use Rattle.paw_base.specs.declared.rows.TheConstants.{CONDACTS}
 use Rattle.paw_base.specs.Condacts.{CondactLine, no_line, condact_lines, line_of, name_of, first_kind, second_kind, param_count, capitals}
-use Rattle.paw_base.specs.inner.Condacts.{filled_up, before_space, row_of, HasName, IsCode, is_plain, acts}
+use Rattle.paw_base.specs.inner.Condacts.{filled_up, before_space, condact_row_of, HasName, IsCode, is_plain, is_act}
 
 -- ---- the code's table is the definition's
 
@@ -36,7 +36,7 @@ held_at code row h =
     ∙ get_or-map held condact_lines code no_line row (rw length-condact_lines h)
 
 pub row_is : (code : ℕ) (row : Held) → code < 108 → row ≡ slice_index_or CONDACTS code row →
-    record { name = row.0; first = row.1; second = row.2; family = row.3; acts = acts code } ≡ row_of code
+    record { name = row.0; first = row.1; second = row.2; family = row.3; acts = is_act code } ≡ condact_row_of code
 row_is code row h e = rw (e ∙ held_at code row h) refl
 
 -- ---- what a test over the whole table shows of each code
@@ -59,7 +59,7 @@ pub is_plain-name_of : (code : ℕ) → IsCode code → is_plain (name_of code) 
 is_plain-name_of = each_code (λ code. is_plain (name_of code)) plain_names
 
 -- so it is what stands in the row before the first space
-pub before_space-row_of : (code : ℕ) → IsCode code → before_space (row_of code).name ≡ name_of code
+pub before_space-row_of : (code : ℕ) → IsCode code → before_space (condact_row_of code).name ≡ name_of code
 before_space-row_of code h = before_space-filled_up (name_of code) (has_space-plain (name_of code) (is_plain-name_of code h))
 
 some_name : below (λ code. nat_lt 0 (length (name_of code))) 108 ≡ true

@@ -3,7 +3,7 @@
 ghost use Rattle.std.specs.Prelude.{◌≡◌, ◌+◌, ℕ, SomeIff, IfSome, is_some, bytes_eq, ◌==◌};
 ghost use Rattle.std.specs.List.{position};
 ghost use Rattle.paw_base.specs.Condacts.{param_count, name_of, family_of, capitals, code_named};
-ghost use Rattle.paw_base.specs.inner.Condacts.{IsCode, HasName, is_plain, before_space, row_of, filled_up};
+ghost use Rattle.paw_base.specs.inner.Condacts.{IsCode, HasName, is_plain, before_space, condact_row_of, filled_up};
 
 use crate::codes::INVEN;
 use ParamKind::{
@@ -84,7 +84,7 @@ impl CondactRow {
     /// The name without the spaces that fill it up.
     pub fn trimmed_name(&self) -> &[u8]
         ensures value { result.now ≡ before_space self.now.name }
-        ensures of_code { (code : ℕ) → IsCode code → self.now ≡ row_of code → result.now ≡ name_of code }
+        ensures of_code { (code : ℕ) → IsCode code → self.now ≡ condact_row_of code → result.now ≡ name_of code }
     {
         up_to_space(&self.name)
     }
@@ -223,7 +223,7 @@ static CONDACTS: [([u8; 8], ParamKind, ParamKind, Family); 108] = [
 
 /// What the table says of a code; None for a code above 107.
 pub fn condact_row(code: u8) -> Option<CondactRow>
-    ensures { SomeIff result (IsCode code) (row_of code) }
+    ensures { SomeIff result (IsCode code) (condact_row_of code) }
 {
     let (name, first, second, family) = *CONDACTS.get(code as usize)?;
     Some(CondactRow {

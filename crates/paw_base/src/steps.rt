@@ -2,7 +2,7 @@
 
 ghost use Rattle.std.specs.Prelude.{◌≡◌, ◌<◌, ℕ, suc, List, ◌∷◌, [], ◌++◌, take, length, slice_set};
 ghost use Rattle.paw_base.specs.Steps.{KeptSteps};
-ghost use Rattle.paw_base.specs.inner.Steps.{no_steps, noted};
+ghost use Rattle.paw_base.specs.inner.Steps.{no_steps, with_step_noted};
 
 use crate::limits::STEP_LIMIT;
 use std::marker::Model;
@@ -64,7 +64,7 @@ impl Steps {
     /// One step more. It is kept where fewer than 1,000 are.
     pub fn note(&mut self, row: StepRow)
         requires { self.old.count < 4294967295 }
-        ensures { self.new ≡ noted row self.old }
+        ensures { self.new ≡ with_step_noted row self.old }
     {
         keep(&mut self.rows, self.count as usize, row);
         self.count += 1;

@@ -18,7 +18,7 @@ use Rattle.paw_game.specs.Valid.{Valid, is_within, is_place, texts_kept}
 use Rattle.paw_game.specs.inner.Valid.{is_right, is_argument}
 use Rattle.paw_game.proofs.Kept.{first_of_and, facts-start}
 use Rattle.paw_game.proofs.Right.{right-code, right-first, right-second}
-use Rattle.paw_world.specs.World.{World, Position, flag, with_flag, place, with_place, here, let_go, taken_up, moved, opening_places, opened, restarted, with_objects_returned, taken_from, position_of, kept_position}
+use Rattle.paw_world.specs.World.{World, Position, flag, with_flag, place, with_place, here, let_go, taken_up, moved, opening_places, starting_world, restarted, with_objects_returned, taken_from, position_of, kept_position}
 use Rattle.paw_effects.specs.declared.object_actions.Action.{Action}
 use Rattle.paw_effects.specs.declared.object_actions.Action.TheVariants as action
 use Rattle.paw_effects.specs.declared.object_words.Words.{Words}
@@ -115,7 +115,7 @@ opening_at g v =
 begins_placed : (g : GameLists) (facts : List ObjectFacts) → Valid g → facts ≡ map (λ o. o.facts) g.objects → ArePlacesOf g (opening_places facts)
 begins_placed g facts v is = subst (λ fs. ArePlacesOf g (opening_places fs)) (sym is) (opening_at g v)
 
-pub opened_placed : (g : GameLists) (seed : ℕ) → Valid g → IsPlaced g (opened (map (λ o. o.facts) g.objects) (length g.locations) seed)
+pub opened_placed : (g : GameLists) (seed : ℕ) → Valid g → IsPlaced g (starting_world (map (λ o. o.facts) g.objects) (length g.locations) seed)
 opened_placed g seed v = (refl, (refl, (opening_at g v, (tt, All-replicate (StandsIn g) 4 None tt))))
 
 pub restarted_placed : (g : GameLists) (w : World) → Valid g → IsPlaced g w → IsPlaced g (restarted w)

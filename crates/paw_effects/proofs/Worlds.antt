@@ -17,7 +17,7 @@ use Rattle.paw_game.specs.Game.{GameLists}
 use Rattle.paw_game.specs.Tables.{facts_of, facts_at}
 use Rattle.paw_game.specs.Valid.{Valid, is_place, is_parameter, is_within, is_word, words_rise, are_letters, has_word, is_word_or_none, is_object, is_text}
 use Rattle.paw_game.proofs.Kept.{first_of_and, second_of_and, facts_kept, facts-weight}
-use Rattle.paw_world.specs.World.{World, Position, flag, with_flag, place, with_place, here, let_go, taken_up, moved, first_carried, flags_with, opening_places, opened, restarted, with_objects_returned}
+use Rattle.paw_world.specs.World.{World, Position, flag, with_flag, place, with_place, here, let_go, taken_up, moved, first_carried, flags_with, opening_places, starting_world, restarted, with_objects_returned}
 use Rattle.paw_world.specs.Weight.{own_weight, weighs_contents, weight_down, weight, objects_at}
 use Rattle.paw_effects.specs.Built.{IsOf, ArePlacesOf}
 use Rattle.paw_effects.specs.Presence.{named_place}
@@ -270,7 +270,7 @@ module _ (g : GameLists) (v : Valid g) (seed : ℕ) where
       one_set _ (one_set _ (none_set _ (none_set _ (none_set _ (none_set _ (none_set _ (none_set _
       (none_set _ (none_set _ (none_set _ (none_set _ (one_set (replicate 256 0) blank 1 carried small) 33) 34) 35) 36) 43) 44) 45) 46) 47) 51) 37 4 (omega arith)) 52 10 (omega arith)
 
-  pub start_so : IsWorldAt g seed 0 (opened (map (λ o. o.facts) g.objects) (length g.locations) seed)
+  pub start_so : IsWorldAt g seed 0 (starting_world (map (λ o. o.facts) g.objects) (length g.locations) seed)
   start_so =
       let start = flags_at_start (first_carried (map (λ o. o.facts) g.objects)) carried_small in
       record {

@@ -12,8 +12,8 @@ pub record Done : Type 0 where
   pub act : Act
 
 -- reading goes on so, with the line and the loop as they are
-abbrev pub on : Effect → Act
-on e = record { effect = e; drop_line = false; cancel_loop = false }
+abbrev pub plainly : Effect → Act
+plainly e = record { effect = e; drop_line = false; cancel_loop = false }
 
 -- reading goes on so, and the rest of the line is dropped
 abbrev pub dropping : Effect → Act
@@ -21,7 +21,7 @@ dropping e = record { effect = e; drop_line = true; cancel_loop = false }
 
 -- this is printed, and reading goes on so
 abbrev pub tells : World → List ℕ → Effect → Done
-tells w text e = record { text = text; world = w; act = on e }
+tells w text e = record { text = text; world = w; act = plainly e }
 
 -- nothing is printed, and reading goes on so
 abbrev pub leads : World → Effect → Done

@@ -5,7 +5,7 @@ use Rattle.paw_base.specs.declared.parts.Condact.{Condact}
 use Rattle.paw_world.specs.World.{World, flag}
 use Rattle.paw_routines.specs.Rows.{value_at}
 use Rattle.paw_effects.specs.declared.act.Effect.TheVariants as effect
-pub use Rattle.paw_effects.specs.Done.{Done, on, dropping, leads, prints, makes}
+pub use Rattle.paw_effects.specs.Done.{Done, plainly, dropping, leads, prints, makes}
 pub use Rattle.paw_effects.specs.inner.Done.{DoesAs, Does}
 use Rattle.paw_effects.specs.Story.{Story}
 pub use Rattle.paw_effects.specs.Referring.{referred}

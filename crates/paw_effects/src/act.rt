@@ -2,7 +2,7 @@
 
 ghost use Rattle.std.specs.Prelude.{◌≡◌, if◌then◌else◌};
 ghost use Rattle.paw_effects.specs.declared.act.Effect.TheVariants as effect;
-ghost use Rattle.paw_effects.specs.Done.{on, dropping};
+ghost use Rattle.paw_effects.specs.Done.{plainly, dropping};
 
 /// Where a game waits: for a line, for an answer to QUIT, for an answer to END, for a key; or where it is over.
 #[derive(Clone, Copy, Drop, PartialEq, Eq, Debug)]
@@ -48,7 +48,7 @@ pub struct Act {
 
 /// An action that goes on so, with the line and the loop as they are.
 pub(crate) fn on(effect: Effect) -> Act
-    ensures value { result ≡ on effect }
+    ensures value { result ≡ plainly effect }
 {
     Act {
         effect,
@@ -70,7 +70,7 @@ pub(crate) fn dropping(effect: Effect) -> Act
 
 /// An action that goes on so where its text fits, and else is spent.
 pub(crate) fn after(fits: bool, e: Effect) -> Act
-    ensures value { result ≡ on (if fits then e else effect.Spent) }
+    ensures value { result ≡ plainly (if fits then e else effect.Spent) }
 {
     on(if fits { e } else { Effect::Spent })
 }

@@ -13,11 +13,12 @@ use Rattle.paw_game.specs.declared.parts.GamePart.{GamePart}
 use Rattle.paw_game.specs.declared.parts.GamePart.TheVariants as part
 use Rattle.paw_game.specs.Game.{GameLists}
 use Rattle.paw_game.specs.Valid.{Valid, are_letters, is_word, is_text, is_object, is_exits, is_table, words_rise, words_kept, texts_kept, objects_kept, exits_kept, tables_kept}
-use Rattle.paw_game.specs.inner.Fault.{row_fault, first_bad, bad_word, words_fault, texts_fault, objects_fault, exits_fault, tables_fault, fault_in, game_fault}
+use Rattle.paw_game.specs.inner.Fault.{part_row_fault, first_bad, bad_word, words_fault, texts_fault}
+use Rattle.paw_game.specs.inner.Fault.{objects_fault, exits_fault, tables_fault, fault_in, game_fault}
 
 -- ---- rows
 
-is_none-row_fault : (least most count : ℕ) (bad : Option ℕ) → is_none (row_fault least most count bad) ≡ (nat_le least count && (nat_le count most && is_none bad))
+is_none-row_fault : (least most count : ℕ) (bad : Option ℕ) → is_none (part_row_fault least most count bad) ≡ (nat_le least count && (nat_le count most && is_none bad))
 is_none-row_fault least most count bad = grind (arith, nat_tests)
 
 at_least_zero : (n : ℕ) (b : Bool) → (nat_le 0 n && b) ≡ b

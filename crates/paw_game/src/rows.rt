@@ -1,14 +1,14 @@
 // The row that a part at fault names.
 
 ghost use Rattle.std.specs.Prelude.{◌≡◌, ◌<◌, ◌^◌, IfSome};
-ghost use Rattle.paw_game.specs.inner.Fault.{row_fault};
+ghost use Rattle.paw_game.specs.inner.Fault.{part_row_fault};
 
 /// The row to name of a part with so many rows, of which this is the first bad one: the most rows that it may have
 /// where it has more, their number where it has fewer than the least; None where no rule is broken.
 pub(crate) fn row_fault(least: usize, most: usize, count: usize, bad: Option<usize>) -> Option<u32>
     requires limit { most < 2 ^ 32 }
     requires within { IfSome bad (λ row. row < count) }
-    ensures value { result ≡ row_fault least most count bad }
+    ensures value { result ≡ part_row_fault least most count bad }
 {
     if count > most {
         Some(most as u32)

@@ -16,7 +16,7 @@ use Rattle.paw_grammar.specs.Tokens.{◌>>=◌, or_fault, read_by}
 use Rattle.paw_grammar.specs.Numbers.{number, in_range, number_below}
 use Rattle.paw_grammar.specs.Vocabulary.{known, in_class, or_none}
 use Rattle.paw_grammar.proofs.Steps.{Reads, bound, pair_parts, meant, ranged}
-use Rattle.paw_grammar.specs.Condacts.{table, parameter, condact, condacts, with_more_condacts}
+use Rattle.paw_grammar.specs.Condacts.{table, parameter, condact, condacts_in, with_more_condacts}
 
 -- ---- each parameter that is there takes one token
 
@@ -56,11 +56,11 @@ takes bounds ws kind.Preposition ts rest x e = takes_meaning fault.Word (or_none
 
 -- the tokens rest are left of ts after n parameters
 pub record Left (bounds : Bounds) (ws : List Word) (n : ℕ) (ts rest : List (List ℕ)) : Type 0 where
-  pub same : condacts bounds ws n ts ≡ condacts bounds ws 0 rest
+  pub same : condacts_in bounds ws n ts ≡ condacts_in bounds ws 0 rest
   pub shorter : length rest ≤ length ts
 
 skips_two : (bounds : Bounds) (ws : List Word) (m n : ℕ) (ts us rest : List (List ℕ)) → Takes m ts us → Takes n us rest → Left bounds ws (m + n) ts rest
-unfolding condacts
+unfolding condacts_in
 skips_two bounds ws m n ts us rest (none a b) (none c d) = record { same = rw (a, c, b, d) refl; shorter = rw (b, d) (omega arith) }
 skips_two bounds ws m n ts us rest (none a b) (one u c d) = record { same = rw (a, c, b, d) refl; shorter = rw (b, d) (omega arith) }
 skips_two bounds ws m n ts us rest (one t a b) (none c d) = record { same = rw (a, c, b, d) refl; shorter = rw (b, d) (omega arith) }
@@ -96,30 +96,30 @@ skips bounds ws name ts rest c e =
 
 -- one condact more
 one_more : (bounds : Bounds) (ws : List Word) (cs : List Condact) (name : List ℕ) (ts rest : List (List ℕ)) (c : Condact) → condact bounds ws name ts ≡ Ok (c, rest)
-    → with_more_condacts cs (condacts bounds ws 0 (name ∷ ts)) ≡ with_more_condacts (cs ++ c ∷ []) (condacts bounds ws 0 rest)
-unfolding condacts
+    → with_more_condacts cs (condacts_in bounds ws 0 (name ∷ ts)) ≡ with_more_condacts (cs ++ c ∷ []) (condacts_in bounds ws 0 rest)
+unfolding condacts_in
 one_more bounds ws cs name ts rest c e =
     rw (e, (skips bounds ws name ts rest c e).same)
-    (elim (condacts bounds ws 0 rest) as (λ r. with_more_condacts cs (r >>= λ ds. Ok (c ∷ ds)) ≡ with_more_condacts (cs ++ c ∷ []) r) [
+    (elim (condacts_in bounds ws 0 rest) as (λ r. with_more_condacts cs (r >>= λ ds. Ok (c ∷ ds)) ≡ with_more_condacts (cs ++ c ∷ []) r) [
       | Ok ds ↦ ap Ok (sym (append_assoc cs (c ∷ []) ds))
       | Err k ↦ refl
     ])
 
 -- a condact with a fault
-one_fault : (bounds : Bounds) (ws : List Word) (cs : List Condact) (name : List ℕ) (ts : List (List ℕ)) (k : SourceKind) → condact bounds ws name ts ≡ Err k → with_more_condacts cs (condacts bounds ws 0 (name ∷ ts)) ≡ Err k
-unfolding condacts
+one_fault : (bounds : Bounds) (ws : List Word) (cs : List Condact) (name : List ℕ) (ts : List (List ℕ)) (k : SourceKind) → condact bounds ws name ts ≡ Err k → with_more_condacts cs (condacts_in bounds ws 0 (name ∷ ts)) ≡ Err k
+unfolding condacts_in
 one_fault bounds ws cs name ts k e = rw e refl
 
-pub fails_here : (bounds : Bounds) (ws : List Word) (cs : List Condact) (name : List ℕ) (ts old : List (List ℕ)) (whole : Result (List Condact) SourceKind) (e : ReadError) → old ≡ name ∷ ts → with_more_condacts cs (condacts bounds ws 0 old) ≡ whole → Fails e (condact bounds ws name ts) → Fails e whole
+pub fails_here : (bounds : Bounds) (ws : List Word) (cs : List Condact) (name : List ℕ) (ts old : List (List ℕ)) (whole : Result (List Condact) SourceKind) (e : ReadError) → old ≡ name ∷ ts → with_more_condacts cs (condacts_in bounds ws 0 old) ≡ whole → Fails e (condact bounds ws name ts) → Fails e whole
 fails_here bounds ws cs name ts old whole errors.NoRoom next invariant fails = tt
 fails_here bounds ws cs name ts old whole (errors.Fault k) next invariant fails =
-    sym invariant ∙ ap (λ (x : List (List ℕ)). with_more_condacts cs (condacts bounds ws 0 x)) next ∙ one_fault bounds ws cs name ts k fails
+    sym invariant ∙ ap (λ (x : List (List ℕ)). with_more_condacts cs (condacts_in bounds ws 0 x)) next ∙ one_fault bounds ws cs name ts k fails
 
-pub goes_on : (bounds : Bounds) (ws : List Word) (cs more : List Condact) (name : List ℕ) (ts old rest : List (List ℕ)) (c : Condact) (whole : Result (List Condact) SourceKind) → old ≡ name ∷ ts → with_more_condacts cs (condacts bounds ws 0 old) ≡ whole → condact bounds ws name ts ≡ Ok (c, rest) → more ≡ cs ++ c ∷ [] → with_more_condacts more (condacts bounds ws 0 rest) ≡ whole
+pub goes_on : (bounds : Bounds) (ws : List Word) (cs more : List Condact) (name : List ℕ) (ts old rest : List (List ℕ)) (c : Condact) (whole : Result (List Condact) SourceKind) → old ≡ name ∷ ts → with_more_condacts cs (condacts_in bounds ws 0 old) ≡ whole → condact bounds ws name ts ≡ Ok (c, rest) → more ≡ cs ++ c ∷ [] → with_more_condacts more (condacts_in bounds ws 0 rest) ≡ whole
 goes_on bounds ws cs more name ts old rest c whole next invariant is pushed =
-    ap (λ (x : List Condact). with_more_condacts x (condacts bounds ws 0 rest)) pushed ∙ sym (one_more bounds ws cs name ts rest c is) ∙ ap (λ (x : List (List ℕ)). with_more_condacts cs (condacts bounds ws 0 x)) (sym next) ∙ invariant
+    ap (λ (x : List Condact). with_more_condacts x (condacts_in bounds ws 0 rest)) pushed ∙ sym (one_more bounds ws cs name ts rest c is) ∙ ap (λ (x : List (List ℕ)). with_more_condacts cs (condacts_in bounds ws 0 x)) (sym next) ∙ invariant
 
-pub at_end : (bounds : Bounds) (ws : List Word) (cs : List Condact) (old : List (List ℕ)) (whole : Result (List Condact) SourceKind) → old ≡ [] → with_more_condacts cs (condacts bounds ws 0 old) ≡ whole → whole ≡ Ok cs
-unfolding condacts
+pub at_end : (bounds : Bounds) (ws : List Word) (cs : List Condact) (old : List (List ℕ)) (whole : Result (List Condact) SourceKind) → old ≡ [] → with_more_condacts cs (condacts_in bounds ws 0 old) ≡ whole → whole ≡ Ok cs
+unfolding condacts_in
 at_end bounds ws cs old whole empty invariant =
-    sym invariant ∙ ap (λ (x : List (List ℕ)). with_more_condacts cs (condacts bounds ws 0 x)) empty ∙ ap Ok (append-nil cs)
+    sym invariant ∙ ap (λ (x : List (List ℕ)). with_more_condacts cs (condacts_in bounds ws 0 x)) empty ∙ ap Ok (append-nil cs)

@@ -45,8 +45,8 @@ abbrev pub parameter_names : List (List ℕ)
 parameter_names = place_names ++ codes "HERE" ∷ []
 
 -- a place that is a parameter
-abbrev pub place : ℕ → List (List ℕ) → Result (ℕ × List (List ℕ)) SourceKind
-place locations ts = place_up_to HERE_PLACE (place_among parameter_names) locations ts
+abbrev pub any_place : ℕ → List (List ℕ) → Result (ℕ × List (List ℕ)) SourceKind
+any_place locations ts = place_up_to HERE_PLACE (place_among parameter_names) locations ts
 
 -- ---- parameters ----
 
@@ -59,7 +59,7 @@ table tables ts = number_below tables ts >>= λ n. Ok (min n.0 255, n.1)
 abbrev pub parameter : Bounds → List Word → ParamKind → List (List ℕ) → Result (ℕ × List (List ℕ)) SourceKind
 parameter bounds ws kind.Absent ts = Ok (0, ts)
 parameter bounds ws kind.Location ts = number_below bounds.locations ts
-parameter bounds ws kind.Place ts = place bounds.locations ts
+parameter bounds ws kind.Place ts = any_place bounds.locations ts
 parameter bounds ws kind.Object ts = number_below bounds.objects ts
 parameter bounds ws kind.Flag ts = number_below FLAG_COUNT ts
 parameter bounds ws kind.Number ts = number_below 256 ts
@@ -82,12 +82,12 @@ condact bounds ws name ts = do
   Ok (record { code = code.0; a = a.0; b = b.0 }, b.1)
 
 -- the condacts from here to the end of the line, where the next skip tokens are parameters of the one before
-unfoldable pub condacts : Bounds → List Word → ℕ → List (List ℕ) → Result (List Condact) SourceKind
-condacts bounds ws skip [] = Ok []
-condacts bounds ws (suc skip) (t ∷ ts) = condacts bounds ws skip ts
-condacts bounds ws zero (t ∷ ts) = do
+unfoldable pub condacts_in : Bounds → List Word → ℕ → List (List ℕ) → Result (List Condact) SourceKind
+condacts_in bounds ws skip [] = Ok []
+condacts_in bounds ws (suc skip) (t ∷ ts) = condacts_in bounds ws skip ts
+condacts_in bounds ws zero (t ∷ ts) = do
   c ← condact bounds ws t ts
-  cs ← condacts bounds ws (params_of c.0.code) ts
+  cs ← condacts_in bounds ws (params_of c.0.code) ts
   Ok (c.0 ∷ cs)
 
 -- the condacts of an entry, and those of a line of it after them
@@ -100,4 +100,4 @@ at_most_255 cs = if nat_lt CONDACT_LIMIT (length cs) then Err fault.TooBig else 
 
 -- an entry's condacts after a line of it
 unfoldable pub more_condacts : Bounds → List Word → List Condact → List (List ℕ) → Result (List Condact) SourceKind
-more_condacts bounds ws before ts = with_more_condacts before (condacts bounds ws 0 ts) >>= at_most_255
+more_condacts bounds ws before ts = with_more_condacts before (condacts_in bounds ws 0 ts) >>= at_most_255

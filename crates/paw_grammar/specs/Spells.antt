@@ -81,16 +81,16 @@ whole n d =
     else Ok (game_of d)
 
 -- what is spelled by what n lines spell and the lines after them
-unfoldable pub reading : ℕ → ℕ → Spelt → List (List ℕ) → Result GameLists SourceFault
-reading p n d [] = whole n d
-reading p n d (l ∷ ls) = at_line (suc n) (step p d l) (λ e. reading p (suc n) e ls)
+unfoldable pub spelled_after : ℕ → ℕ → Spelt → List (List ℕ) → Result GameLists SourceFault
+spelled_after p n d [] = whole n d
+spelled_after p n d (l ∷ ls) = at_line (suc n) (step p d l) (λ e. spelled_after p (suc n) e ls)
 
 -- The game that a source spells, or the line and the kind of its first fault. A parameter may name as many tables as
 -- lines begin one.
 unfoldable pub spelled : List ℕ → Result GameLists SourceFault
 spelled source =
     if nat_lt SOURCE_LIMIT (length source) then Err (fault 0 kind.TooBig)
-    else reading (count_by begins_table (lines_of source)) 0 nothing_yet (lines_of source)
+    else spelled_after (count_by begins_table (lines_of source)) 0 nothing_yet (lines_of source)
 
 -- a source spells this game
 abbrev pub Spells : List ℕ → GameLists → Type 0

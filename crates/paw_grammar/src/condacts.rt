@@ -4,7 +4,7 @@ ghost use Rattle.std.specs.Prelude.{◌≡◌, ◌≤◌, min};
 ghost use Rattle.paw_grammar.specs.inner.Gives.{Gives};
 ghost use Rattle.paw_grammar.specs.Numbers.{number_below};
 ghost use Rattle.paw_grammar.specs.Vocabulary.{word_or_none};
-ghost use Rattle.paw_grammar.specs.Condacts.{table, parameter, condact, condacts, with_more_condacts};
+ghost use Rattle.paw_grammar.specs.Condacts.{table, parameter, condact, condacts_in, with_more_condacts};
 ghost use Rattle.paw_grammar.specs.Condacts.{at_most_255, more_condacts};
 ghost use Rattle.paw_grammar.specs.inner.Condacts.{AreSmall};
 
@@ -89,7 +89,7 @@ fn add_condacts(
 ) -> Result<(), ReadError>
     requires { AreSmall bounds.now }
     ensures { Gives (λ _. rows.new.items) result
-        (with_more_condacts rows.old.items (condacts bounds.now words.now 0 tokens.old)) }
+        (with_more_condacts rows.old.items (condacts_in bounds.now words.now 0 tokens.old)) }
 {
     while let Some(name) = tokens.next() {
         match condact(bounds, words, name, tokens) {

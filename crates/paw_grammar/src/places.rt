@@ -6,7 +6,7 @@ ghost use Rattle.paw_grammar.specs.inner.Gives.{Gives};
 ghost use Rattle.paw_grammar.specs.Tokens.{is_named};
 ghost use Rattle.paw_grammar.specs.Numbers.{number};
 ghost use Rattle.paw_grammar.specs.inner.Numbers.{capped};
-ghost use Rattle.paw_grammar.specs.Condacts.{or_named, first_place, place, place_up_to};
+ghost use Rattle.paw_grammar.specs.Condacts.{or_named, first_place, any_place, place_up_to};
 
 use crate::numbers::number;
 use crate::refusal::ReadError;
@@ -79,7 +79,7 @@ pub fn first_place(tokens: &mut Tokens, locations: u16) -> Result<u8, ReadError>
 /// As `first_place`.
 pub fn place(tokens: &mut Tokens, locations: u16) -> Result<u8, ReadError>
     requires { locations ≤ 256 }
-    ensures { Gives (λ place. (place, tokens.new)) result (place locations tokens.old) }
+    ensures { Gives (λ place. (place, tokens.new)) result (any_place locations tokens.old) }
 {
     named_place(tokens, &PLACE_NAMES, locations)
 }

@@ -11,11 +11,11 @@ use Rattle.paw_base.specs.declared.rows.ParamKind.{ParamKind}
 use Rattle.paw_base.specs.declared.rows.ParamKind.TheVariants as kind
 use Rattle.paw_base.specs.Condacts.{first_kind, second_kind}
 use Rattle.paw_game.specs.Image.{parameter_image, condact_image}
-use Rattle.paw_image.specs.inner.CondactMarks.{IsEnd, GoesOnAt, AreMarks, Keeps, MarkEntry, MarkEntries}
+use Rattle.paw_image.specs.inner.CondactMarks.{IsEnd, GoesOnAt, AreMarks, KeepsPlaces, MarkEntry, MarkEntries}
 use Rattle.paw_image.specs.Damage.{Declared, Passing, each, after_condact}
 use Rattle.paw_image.specs.Reading.{◌>>=◌, byte_at}
-use Rattle.paw_image.specs.inner.Reading.{Fails, condact_at}
-use Rattle.paw_image.specs.inner.Rows.{past_condact, condact_after, condact_of, value_of}
+use Rattle.paw_image.specs.inner.Reading.{Fails, leading_condact}
+use Rattle.paw_image.specs.inner.Rows.{past_condact, condact_after, condact_among, value_of}
 use Rattle.paw_image.specs.declared.fault.ReadFault.{ReadFault}
 use Rattle.paw_image.proofs.EndLaws.{end_whole, end_taken, end_of_end}
 use Rattle.paw_image.proofs.Faults.{fails_next}
@@ -147,7 +147,7 @@ mark_is d n bytes rest fits e =
     walked.past ∙ ap (λ (r : List ℕ). Ok r) (sym walked.end)
 
 -- marks that are kept mark the same entry
-pub entry_kept : (first : ℕ) (marks more bytes : List ℕ) → Keeps marks more → MarkEntry (drop first marks) bytes → MarkEntry (drop first more) bytes
+pub entry_kept : (first : ℕ) (marks more bytes : List ℕ) → KeepsPlaces marks more → MarkEntry (drop first marks) bytes → MarkEntry (drop first more) bytes
 entry_kept first marks more [] keeps h = tt
 entry_kept first marks more (verb ∷ []) keeps h = tt
 entry_kept first marks more (verb ∷ noun ∷ []) keeps h = tt
@@ -156,7 +156,7 @@ entry_kept first marks more (verb ∷ noun ∷ count ∷ condacts) keeps h = λ 
     (m.0, get_drop first more k ∙ keeps (first + k) m.0 (sym (get_drop first marks k) ∙ m.1), m.2)
 
 pub one_more_entry : (all places firsts marks more : List ℕ) (p : ℕ) → length places ≡ length firsts → MarkEntries all places firsts marks
-    → Keeps marks more → MarkEntry (drop (length marks) more) (drop p all)
+    → KeepsPlaces marks more → MarkEntry (drop (length marks) more) (drop p all)
     → MarkEntries all (places ++ p ∷ []) (firsts ++ length marks ∷ []) more
 one_more_entry all places firsts marks more p same so_far keeps last e q found =
     elim (cases_lt e (length places)) [
@@ -183,7 +183,7 @@ mark_of marks condacts count at eights are lt e =
 
 -- a condact is read from its mark on
 pub condact_from : (at count : ℕ) (condacts rest : List ℕ) (x : Option Condact) → at < count → each past_condact (at / 8 * 8) condacts ≡ Ok rest
-    → value_of (condact_after (at % 8) rest) ≡ x → x ≡ condact_of at count condacts
+    → value_of (condact_after (at % 8) rest) ≡ x → x ≡ condact_among at count condacts
 condact_from at count condacts rest x lt e is =
     let same = each_more past_condact (at / 8 * 8) (at % 8) at condacts rest (omega arith) e in
     sym (rw (lt-ltb at count lt, same) is)

@@ -8,10 +8,10 @@ use Rattle.paw_image.specs.declared.fault.ReadFault.{ReadFault}
 use Rattle.paw_image.specs.declared.fault.ReadFault.TheVariants as fault
 use Rattle.paw_image.specs.Reading.{Reading}
 use Rattle.paw_image.specs.inner.Reading.{Fails}
-use Rattle.paw_image.specs.Damage.{Declared, Passing, each, word_kept, words_kept, exit_kept, after_exits_of, after_table}
+use Rattle.paw_image.specs.Damage.{Declared, Passing, each, word_kept, words_above, exit_kept, after_exits_of, after_table}
 use Rattle.paw_image.specs.inner.Places.{begins, entries_begin, entries_of, tables_begin}
 use Rattle.paw_image.specs.declared.places.TableIndex.{TableIndex}
-use Rattle.paw_image.specs.inner.Words.{letters_of, last_letters}
+use Rattle.paw_image.specs.inner.Words.{letters_if_word, last_letters}
 use Rattle.paw_image.proofs.ListLoop.{with_front, regroup}
 
 -- ---- rows ----
@@ -42,27 +42,27 @@ module _ (pass : List ℕ → Passing) (count i : ℕ) (bytes : List ℕ) (total
 -- ---- words ----
 
 module _ (before : List ℕ) (front : List Word) (count i : ℕ) (bytes : List ℕ) (total : Reading (List Word)) where
-  pub words_go_on : (w : Word) (after : List ℕ) → i < count → word_kept before bytes ≡ Ok (w, after) → with_front front (words_kept before (count - i) bytes) ≡ total
-      → with_front (front ++ w ∷ []) (words_kept w.letters (count - (i + 1)) after) ≡ total
-  unfolding words_kept
+  pub words_go_on : (w : Word) (after : List ℕ) → i < count → word_kept before bytes ≡ Ok (w, after) → with_front front (words_above before (count - i) bytes) ≡ total
+      → with_front (front ++ w ∷ []) (words_above w.letters (count - (i + 1)) after) ≡ total
+  unfolding words_above
   words_go_on w after lt h so_far =
       let k : count - i ≡ suc (count - (i + 1)) = omega arith in
-      let one : with_front front (words_kept before (count - i) bytes) ≡ with_front (front ++ w ∷ []) (words_kept w.letters (count - (i + 1)) after) = rw (k, h) (regroup front w (words_kept w.letters (count - (i + 1)) after)) in
+      let one : with_front front (words_above before (count - i) bytes) ≡ with_front (front ++ w ∷ []) (words_above w.letters (count - (i + 1)) after) = rw (k, h) (regroup front w (words_above w.letters (count - (i + 1)) after)) in
       sym one ∙ so_far
 
-  pub words_end : (e : ReadFault) → i < count → Fails e (word_kept before bytes) → with_front front (words_kept before (count - i) bytes) ≡ total → Fails e total
-  unfolding words_kept
+  pub words_end : (e : ReadFault) → i < count → Fails e (word_kept before bytes) → with_front front (words_above before (count - i) bytes) ≡ total → Fails e total
+  unfolding words_above
   words_end fault.Memory lt h so_far = tt
   words_end (fault.Damaged left) lt h so_far =
       let k : count - i ≡ suc (count - (i + 1)) = omega arith in
-      let one : with_front front (words_kept before (count - i) bytes) ≡ Err left = rw (k, h) refl in
+      let one : with_front front (words_above before (count - i) bytes) ≡ Err left = rw (k, h) refl in
       sym so_far ∙ one
 
-  pub words_are_done : count ≤ i → with_front front (words_kept before (count - i) bytes) ≡ total → total ≡ Ok (front, bytes)
-  unfolding words_kept
+  pub words_are_done : count ≤ i → with_front front (words_above before (count - i) bytes) ≡ total → total ≡ Ok (front, bytes)
+  unfolding words_above
   words_are_done le so_far =
       let k : count - i ≡ 0 = omega arith in
-      let one : with_front front (words_kept before (count - i) bytes) ≡ Ok (front, bytes) = rw k (ap (λ (xs : List Word). Ok (xs, bytes)) (append-nil front)) in
+      let one : with_front front (words_above before (count - i) bytes) ≡ Ok (front, bytes) = rw k (ap (λ (xs : List Word). Ok (xs, bytes)) (append-nil front)) in
       sym so_far ∙ one
 
 at_end : (ws : List Word) (w : Word) (k : ℕ) → k ≡ length ws → slice_get (ws ++ w ∷ []) k ≡ Some w
@@ -70,7 +70,7 @@ at_end [] w k e = rw e refl
 at_end (v ∷ ws) w k e = rw e (at_end ws w (length ws) refl)
 
 pub last_is : (ws : List Word) (w : Word) → last_letters (ws ++ w ∷ []) ≡ w.letters
-last_is ws w = ap letters_of (at_end ws w (length (ws ++ w ∷ []) - 1) (omega (arith, length-append ws (w ∷ []))))
+last_is ws w = ap letters_if_word (at_end ws w (length (ws ++ w ∷ []) - 1) (omega (arith, length-append ws (w ∷ []))))
 
 -- ---- exits ----
 

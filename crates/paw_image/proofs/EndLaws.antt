@@ -5,7 +5,7 @@ use Rattle.std.proofs.lemmas.List.{drop_at, drop-drop, length-drop, get_or-drop}
 use Rattle.paw_game.specs.Image.{two_bytes, text_image, object_image, exits_image, entry_image, table_image}
 use Rattle.paw_game.specs.Valid.{is_within, is_text, is_object, is_exits}
 use Rattle.paw_image.specs.inner.CondactMarks.{IsEnd}
-use Rattle.paw_image.specs.Damage.{Declared, Passing, kept, each, number_within, after_text, after_object, after_exits, after_entry, after_table}
+use Rattle.paw_image.specs.Damage.{Declared, Passing, field_kept, each, number_kept, after_text, after_object, after_exits, after_entry, after_table}
 use Rattle.paw_image.specs.Reading.{Reading, number_at}
 use Rattle.paw_image.specs.inner.Reading.{text_at, object_at, exits_at}
 use Rattle.paw_image.proofs.FieldLaws.{IsBytes, Takes, read_ok, at_ok, bind_then, kept_ok, number_takes}
@@ -72,7 +72,7 @@ module _ (all bytes rest : List ℕ) (fits : IsBytes all) (end : IsEnd all bytes
       let table = table_placed d bytes rest here e in
       end_of_end all bytes rest end (end_taken bytes (table_image table.value) rest (table_takes bytes (table.value, rest) here table.reads))
 
-  pub within_end : (least most n : ℕ) → number_within least most bytes ≡ Ok (n, rest) → IsEnd all rest
+  pub within_end : (least most n : ℕ) → number_kept least most bytes ≡ Ok (n, rest) → IsEnd all rest
   within_end least most n e =
       let here = end_fits all bytes fits end in
       bind_then _ (number_at bytes) _ (n, rest) e (λ x x_ok e.

@@ -12,7 +12,8 @@ use Rattle.paw_game.specs.Game.{GameLists}
 use Rattle.paw_game.specs.inner.Tables.{counts_of}
 use Rattle.paw_game.specs.Image.{two_bytes, word_image, text_image, object_image, exits_image, table_image, image}
 use Rattle.paw_image.specs.Reading.{byte_at, bytes_at, number_at}
-use Rattle.paw_image.specs.inner.Reading.{rows_at, word_at, text_at, object_at, exits_at, table_at, mark_at, version_at, counts_at, lists_at, all_of}
+use Rattle.paw_image.specs.inner.Reading.{leading_rows, leading_word, text_at, object_at, exits_at, leading_table}
+use Rattle.paw_image.specs.inner.Reading.{mark_at, version_at, counts_at, lists_at, all_of}
 use Rattle.paw_image.specs.inner.Sizes.{FitsWord, FitsText, FitsObject, FitsExits, FitsTable, FitsCounts, FitsGame}
 use Rattle.paw_image.proofs.FieldLaws.{IsBytes, Takes, Takes-then, bind_then, kept_ok, at_ok, byte_takes, bytes_take, bytes_again, number_takes, number_again}
 use Rattle.paw_image.proofs.ListLaws.{rows_take, rows_again}
@@ -93,20 +94,20 @@ counts_are c words system messages objects locations tables a b d e f g = rw (a,
 lists_take : (counts : Counts) (bytes : List ℕ) (x : GameLists × List ℕ) → IsBytes bytes → lists_at counts bytes ≡ Ok x → (bytes ≡ lists_image x.0 x.1) × (counts ≡ counts_of x.0)
 unfolding lists_at
 lists_take counts bytes x fits e =
-    bind_then _ (rows_at word_at counts.words bytes) _ x e (λ words words_ok e.
-    bind_then _ (rows_at text_at counts.system words.1) _ x e (λ system system_ok e.
-    bind_then _ (rows_at text_at counts.messages system.1) _ x e (λ messages messages_ok e.
-    bind_then _ (rows_at object_at counts.objects messages.1) _ x e (λ objects objects_ok e.
-    bind_then _ (rows_at text_at counts.locations objects.1) _ x e (λ locations locations_ok e.
-    bind_then _ (rows_at exits_at counts.locations locations.1) _ x e (λ exits exits_ok e.
-    bind_then _ (rows_at table_at counts.tables exits.1) _ x e (λ tables tables_ok e.
-    let words_taken = rows_take word_at word_image word_takes counts.words bytes words fits words_ok in
+    bind_then _ (leading_rows leading_word counts.words bytes) _ x e (λ words words_ok e.
+    bind_then _ (leading_rows text_at counts.system words.1) _ x e (λ system system_ok e.
+    bind_then _ (leading_rows text_at counts.messages system.1) _ x e (λ messages messages_ok e.
+    bind_then _ (leading_rows object_at counts.objects messages.1) _ x e (λ objects objects_ok e.
+    bind_then _ (leading_rows text_at counts.locations objects.1) _ x e (λ locations locations_ok e.
+    bind_then _ (leading_rows exits_at counts.locations locations.1) _ x e (λ exits exits_ok e.
+    bind_then _ (leading_rows leading_table counts.tables exits.1) _ x e (λ tables tables_ok e.
+    let words_taken = rows_take leading_word word_image word_takes counts.words bytes words fits words_ok in
     let system_taken = rows_take text_at text_image text_takes counts.system words.1 system words_taken.0.rest_fits system_ok in
     let messages_taken = rows_take text_at text_image text_takes counts.messages system.1 messages system_taken.0.rest_fits messages_ok in
     let objects_taken = rows_take object_at object_image object_takes counts.objects messages.1 objects messages_taken.0.rest_fits objects_ok in
     let locations_taken = rows_take text_at text_image text_takes counts.locations objects.1 locations objects_taken.0.rest_fits locations_ok in
     let exits_taken = rows_take exits_at exits_image exits_take counts.locations locations.1 exits locations_taken.0.rest_fits exits_ok in
-    let tables_taken = rows_take table_at table_image table_takes counts.tables exits.1 tables exits_taken.0.rest_fits tables_ok in
+    let tables_taken = rows_take leading_table table_image table_takes counts.tables exits.1 tables exits_taken.0.rest_fits tables_ok in
     at_ok (λ (y : GameLists × List ℕ). (bytes ≡ lists_image y.0 y.1) × (counts ≡ counts_of y.0)) _ x e (
       words_taken.0.parts ∙ ap (λ t. flat_map word_image words.0 ++ t) (system_taken.0.parts ∙ ap (λ t. flat_map text_image system.0 ++ t) (messages_taken.0.parts
           ∙ ap (λ t. flat_map text_image messages.0 ++ t) (objects_taken.0.parts ∙ ap (λ t. flat_map object_image objects.0 ++ t) (locations_taken.0.parts
@@ -123,15 +124,15 @@ lists_again g rest fits =
     let after_messages = flat_map object_image g.objects ++ after_objects in
     let after_system = flat_map text_image g.messages ++ after_messages in
     let after_words = flat_map text_image g.system ++ after_system in
-    let exits : rows_at exits_at (length g.locations) (flat_map exits_image g.exits ++ after_exits) ≡ Ok (g.exits, after_exits) = rw (← fits.counts.exits) (rows_again exits_at exits_image FitsExits exits_again g.exits after_exits fits.exits) in
+    let exits : leading_rows exits_at (length g.locations) (flat_map exits_image g.exits ++ after_exits) ≡ Ok (g.exits, after_exits) = rw (← fits.counts.exits) (rows_again exits_at exits_image FitsExits exits_again g.exits after_exits fits.exits) in
     rw (
-      rows_again word_at word_image FitsWord word_again g.words after_words fits.words,
+      rows_again leading_word word_image FitsWord word_again g.words after_words fits.words,
       rows_again text_at text_image FitsText text_again g.system after_system fits.system,
       rows_again text_at text_image FitsText text_again g.messages after_messages fits.messages,
       rows_again object_at object_image FitsObject object_again g.objects after_objects fits.objects,
       rows_again text_at text_image FitsText text_again g.locations after_locations fits.locations,
       exits,
-      rows_again table_at table_image FitsTable table_again g.tables rest fits.tables,
+      rows_again leading_table table_image FitsTable table_again g.tables rest fits.tables,
     ) refl
 
 pub image_is : (g : GameLists) → image g ≡ codes "PAWI" ++ (1 ∷ (counts_image (counts_of g) ++ lists_image g []))

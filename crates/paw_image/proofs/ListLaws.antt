@@ -3,7 +3,7 @@ use Rattle.std.proofs.Common.{◌≡◌, ℕ, zero, suc, List, [], ◌∷◌, �
 use Rattle.std.specs.Prelude.{OnOk}
 use Rattle.std.specs.List.{flat_map, AllByRecursion}
 use Rattle.paw_image.specs.Reading.{Reading}
-use Rattle.paw_image.specs.inner.Reading.{rows_at}
+use Rattle.paw_image.specs.inner.Reading.{leading_rows}
 use Rattle.paw_image.proofs.FieldLaws.{IsBytes, Takes, Takes-then, bind_then, at_ok}
 
 -- a row that is read stands there as its image
@@ -15,21 +15,21 @@ abbrev pub ReadsAgain : {A : Type 0} → (List ℕ → Reading A) → (A → Lis
 ReadsAgain {A} row image Fits = (x : A) (rest : List ℕ) → Fits x → row (image x ++ rest) ≡ Ok (x, rest)
 
 pub rows_take : {A : Type 0} (row : List ℕ → Reading A) (image : A → List ℕ) → TakesRow row image
-    → (n : ℕ) (bytes : List ℕ) (x : List A × List ℕ) → IsBytes bytes → rows_at row n bytes ≡ Ok x → Takes bytes (flat_map image x.0) x.1 × (length x.0 ≡ n)
-unfolding rows_at
+    → (n : ℕ) (bytes : List ℕ) (x : List A × List ℕ) → IsBytes bytes → leading_rows row n bytes ≡ Ok x → Takes bytes (flat_map image x.0) x.1 × (length x.0 ≡ n)
+unfolding leading_rows
 rows_take {A} row image takes zero bytes x fits e =
     at_ok (λ (y : List A × List ℕ). Takes bytes (flat_map image y.0) y.1 × (length y.0 ≡ 0)) ([], bytes) x e (record { parts = refl; rest_fits = fits }, refl)
 rows_take {A} row image takes (suc n) bytes x fits e =
     bind_then _ (row bytes) _ x e (λ first first_ok e.
-    bind_then _ (rows_at row n first.1) _ x e (λ others others_ok e.
+    bind_then _ (leading_rows row n first.1) _ x e (λ others others_ok e.
     let first_taken = takes bytes first fits first_ok in
     let others_taken = rows_take row image takes n first.1 others first_taken.rest_fits others_ok in
     at_ok (λ (y : List A × List ℕ). Takes bytes (flat_map image y.0) y.1 × (length y.0 ≡ suc n)) _ x e
     (Takes-then (image first.0) (flat_map image others.0) first_taken others_taken.0, ap suc others_taken.1)))
 
 pub rows_again : {A : Type 0} (row : List ℕ → Reading A) (image : A → List ℕ) (Fits : A → Type 0) → ReadsAgain row image Fits
-    → (xs : List A) (rest : List ℕ) → AllByRecursion Fits xs → rows_at row (length xs) (flat_map image xs ++ rest) ≡ Ok (xs, rest)
-unfolding rows_at
+    → (xs : List A) (rest : List ℕ) → AllByRecursion Fits xs → leading_rows row (length xs) (flat_map image xs ++ rest) ≡ Ok (xs, rest)
+unfolding leading_rows
 rows_again row image Fits again [] rest fits = refl
 rows_again row image Fits again (x ∷ xs) rest fits =
     rw (append_assoc (image x) (flat_map image xs) rest, again x (flat_map image xs ++ rest) fits.0, rows_again row image Fits again xs rest fits.1) refl

@@ -10,14 +10,14 @@ use Rattle.paw_game.specs.declared.parts.Exit.{Exit}
 use Rattle.paw_game.specs.Image.{two_bytes, text_image, weight_byte, object_image, exit_image, exits_image, parameter_image, condact_image, entry_image, table_image}
 use Rattle.paw_game.specs.Valid.{is_within, is_printed, is_text, is_word_or_none, is_place, are_facts, is_object, is_verb_value, are_exits, is_exits, is_any, has_word}
 use Rattle.paw_image.specs.Reading.{◌>>=◌, byte_at}
-use Rattle.paw_image.specs.Damage.{Declared, kept, number_within, after_text, after_facts, after_object, exit_kept, after_exits_of, after_exits, keeps_kind, after_parameter, after_condact, after_entry, after_table}
+use Rattle.paw_image.specs.Damage.{Declared, field_kept, number_kept, after_text, after_facts, after_object, exit_kept, after_exits_of, after_exits, keeps_kind, after_parameter, after_condact, after_entry, after_table}
 use Rattle.paw_image.proofs.FieldLaws.{bytes_again, number_again}
 use Rattle.paw_image.proofs.SoundRows.{none_of, none_of-one_more, none_of-none, keeps_condact, keeps_entry, keeps_table}
 use Rattle.paw_image.proofs.Stands.{and_true, PassesRow, each_passes}
 
 -- ---- numbers ----
 
-pub within_passes : (least most n : ℕ) (rest : List ℕ) → most < 2 ^ 16 → is_within least most n ≡ true → number_within least most (two_bytes n ++ rest) ≡ Ok (n, rest)
+pub within_passes : (least most n : ℕ) (rest : List ℕ) → most < 2 ^ 16 → is_within least most n ≡ true → number_kept least most (two_bytes n ++ rest) ≡ Ok (n, rest)
 within_passes least most n rest small h =
     let le : n ≤ most = leb-true _ _ (and_parts (leb least n) (leb n most) h).1 in
     rw (number_again n rest (omega arith), h) refl
@@ -76,7 +76,7 @@ exits_pass d xs rest h = exits_pass_of d [] xs rest (none_of-none xs) (and_parts
 
 -- ---- tables ----
 
-byte_passes : (rule : ℕ → Bool) (x : ℕ) (rest : List ℕ) → rule x ≡ true → (kept rule byte_at (x ∷ rest) >>= λ y. Ok y.1) ≡ Ok rest
+byte_passes : (rule : ℕ → Bool) (x : ℕ) (rest : List ℕ) → rule x ≡ true → (field_kept rule byte_at (x ∷ rest) >>= λ y. Ok y.1) ≡ Ok rest
 byte_passes rule x rest h = rw h refl
 
 parameter_passes : (d : Declared) (k : ParamKind) → PassesRow (after_parameter d k) (parameter_image k) (keeps_kind d k)

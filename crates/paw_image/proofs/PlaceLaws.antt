@@ -16,7 +16,7 @@ use Rattle.paw_game.specs.Tables.{or_empty, row_text, exit_of, facts_at, facts_o
 use Rattle.paw_game.specs.inner.Tables.{counts_of, text_at}
 use Rattle.paw_game.specs.Image.{two_bytes, word_image, text_image, object_image, exit_image, exits_image, condact_image, entry_image, table_image, weight_byte, image}
 use Rattle.paw_image.specs.Reading.{◌>>=◌}
-use Rattle.paw_image.specs.inner.Reading.{condact_at}
+use Rattle.paw_image.specs.inner.Reading.{leading_condact}
 use Rattle.paw_image.specs.inner.Reading as inner_reading
 use Rattle.paw_image.specs.Damage.{each}
 use Rattle.paw_image.specs.inner.Sizes.{FitsText, FitsObject, FitsCondact, FitsGame}
@@ -224,7 +224,7 @@ condacts_pass [] rest fits = refl
 condacts_pass (c ∷ cs) rest fits =
     rw (append_assoc (condact_image c) (flat_map condact_image cs) rest, condact_again c (flat_map condact_image cs ++ rest) fits.0) (condacts_pass cs rest fits.1)
 
-condact_found : (cs : List Condact) (rest : List ℕ) (k : ℕ) → AllByRecursion FitsCondact cs → k < length cs → value_of (each past_condact k (flat_map condact_image cs ++ rest) >>= condact_at) ≡ slice_get cs k
+condact_found : (cs : List Condact) (rest : List ℕ) (k : ℕ) → AllByRecursion FitsCondact cs → k < length cs → value_of (each past_condact k (flat_map condact_image cs ++ rest) >>= leading_condact) ≡ slice_get cs k
 unfolding each
 condact_found [] rest k fits lt = absurd (omega arith)
 condact_found (c ∷ cs) rest zero fits lt = rw (append_assoc (condact_image c) (flat_map condact_image cs) rest, condact_again c (flat_map condact_image cs ++ rest) fits.0) refl

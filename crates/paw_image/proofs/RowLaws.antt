@@ -18,15 +18,15 @@ use Rattle.paw_game.specs.declared.parts.Exit.{Exit}
 use Rattle.paw_game.specs.declared.parts.Entry.{Entry}
 use Rattle.paw_game.specs.Image.{two_bytes, word_image, text_image, weight_byte, object_image, exit_image, exits_image, parameter_image, condact_image, entry_image, table_image}
 use Rattle.paw_image.specs.Reading.{byte_at, bytes_at, number_at}
-use Rattle.paw_image.specs.inner.Reading.{rows_at, word_at, text_at, facts_with, facts_at, object_at, exit_at, exits_at, code_at, parameter_at, condact_at, entry_at, table_at}
+use Rattle.paw_image.specs.inner.Reading.{leading_rows, leading_word, text_at, facts_with, leading_facts, object_at, leading_exit, exits_at, code_at, parameter_at, leading_condact, leading_entry, leading_table}
 use Rattle.paw_image.specs.inner.Sizes.{FitsWord, FitsText, FitsObject, FitsExit, FitsExits, FitsParameter, FitsCondact, FitsEntry, FitsTable}
 use Rattle.paw_image.proofs.FieldLaws.{IsBytes, Takes, Takes-then, bind_then, kept_ok, at_ok, byte_takes, bytes_take, bytes_again, number_takes, number_again}
 use Rattle.paw_image.proofs.ListLaws.{TakesRow, ReadsAgain, rows_take, rows_again}
 
 -- ---- words ----
 
-pub word_takes : TakesRow word_at word_image
-unfolding word_at
+pub word_takes : TakesRow leading_word word_image
+unfolding leading_word
 word_takes bytes x fits e =
     bind_then _ (bytes_at 5 bytes) _ x e (λ letters letters_ok e.
     bind_then _ (byte_at letters.1) _ x e (λ value value_ok e.
@@ -37,11 +37,11 @@ word_takes bytes x fits e =
     at_ok (λ (y : Word × List ℕ). Takes bytes (word_image y.0) y.1) _ x e
     (Takes-then letters.0 (value.0 ∷ class.0 ∷ []) letters_taken (Takes-then (value.0 ∷ []) (class.0 ∷ []) value_taken class_taken)))))
 
-pub word_again : ReadsAgain word_at word_image FitsWord
-unfolding word_at
+pub word_again : ReadsAgain leading_word word_image FitsWord
+unfolding leading_word
 word_again w rest fits =
     let regrouped : word_image w ++ rest ≡ w.letters ++ (w.value ∷ w.class ∷ rest) = append_assoc w.letters (w.value ∷ w.class ∷ []) rest in
-    ap word_at regrouped ∙ rw (bytes_again 5 w.letters (w.value ∷ w.class ∷ rest) fits) refl
+    ap leading_word regrouped ∙ rw (bytes_again 5 w.letters (w.value ∷ w.class ∷ rest) fits) refl
 
 -- ---- texts ----
 
@@ -109,8 +109,8 @@ facts_again_with noun adjective start weight true true lt =
     let w : bit_and (weight + 64 + 128) 63 ≡ weight = and_mask (weight + 64 + 128) 6 ∙ omega arith in
     rw (w, set_64 (weight + 64 + 128) (omega arith), set_128 (weight + 64 + 128) (omega arith)) refl
 
-facts_take : TakesRow facts_at facts_image
-unfolding facts_at
+facts_take : TakesRow leading_facts facts_image
+unfolding leading_facts
 facts_take bytes x fits e =
     bind_then _ (byte_at bytes) _ x e (λ noun noun_ok e.
     bind_then _ (byte_at noun.1) _ x e (λ adjective adjective_ok e.
@@ -125,15 +125,15 @@ facts_take bytes x fits e =
     (Takes-then (noun.0 ∷ []) (adjective.0 ∷ start.0 ∷ weight.0 ∷ []) noun_taken
     (Takes-then (adjective.0 ∷ []) (start.0 ∷ weight.0 ∷ []) adjective_taken (Takes-then (start.0 ∷ []) (weight.0 ∷ []) start_taken weight_taken.0))))))))
 
-pub facts_again : ReadsAgain facts_at facts_image (λ f. f.weight < 64)
-unfolding facts_at
+pub facts_again : ReadsAgain leading_facts facts_image (λ f. f.weight < 64)
+unfolding leading_facts
 facts_again f rest lt = ap (λ (g : ObjectFacts). Ok (g, rest)) (facts_again_with f.noun f.adjective f.start f.weight f.container f.wearable lt)
 
 pub object_takes : TakesRow object_at object_image
 unfolding object_at
 object_takes bytes x fits e =
     bind_then _ (text_at bytes) _ x e (λ text text_ok e.
-    bind_then _ (facts_at text.1) _ x e (λ facts facts_ok e.
+    bind_then _ (leading_facts text.1) _ x e (λ facts facts_ok e.
     let text_taken = text_takes bytes text fits text_ok in
     let facts_taken = facts_take text.1 facts text_taken.rest_fits facts_ok in
     at_ok (λ (y : ObjectRow × List ℕ). Takes bytes (object_image y.0) y.1) _ x e (Takes-then (text_image text.0) (facts_image facts.0) text_taken facts_taken)))
@@ -146,8 +146,8 @@ object_again o rest fits =
 
 -- ---- exits ----
 
-pub exit_takes : TakesRow exit_at exit_image
-unfolding exit_at
+pub exit_takes : TakesRow leading_exit exit_image
+unfolding leading_exit
 exit_takes bytes x fits e =
     bind_then _ (byte_at bytes) _ x e (λ verb verb_ok e.
     bind_then _ (byte_at verb.1) _ x e (λ to to_ok e.
@@ -155,8 +155,8 @@ exit_takes bytes x fits e =
     let to_taken = (byte_takes verb.1 to verb_taken.rest_fits to_ok).0 in
     at_ok (λ (y : Exit × List ℕ). Takes bytes (exit_image y.0) y.1) _ x e (Takes-then (verb.0 ∷ []) (to.0 ∷ []) verb_taken to_taken)))
 
-exit_again : ReadsAgain exit_at exit_image FitsExit
-unfolding exit_at
+exit_again : ReadsAgain leading_exit exit_image FitsExit
+unfolding leading_exit
 exit_again x rest fits = refl
 
 all_exits : (xs : List Exit) → AllByRecursion FitsExit xs
@@ -168,12 +168,12 @@ unfolding exits_at
 exits_take bytes x fits e =
     bind_then _ (byte_at bytes) _ x e (λ count count_ok e.
     let count_taken = (byte_takes bytes count fits count_ok).0 in
-    let rows_taken = rows_take exit_at exit_image exit_takes count.0 count.1 x count_taken.rest_fits e in
+    let rows_taken = rows_take leading_exit exit_image exit_takes count.0 count.1 x count_taken.rest_fits e in
     subst (λ (n : ℕ). Takes bytes (n ∷ flat_map exit_image x.0) x.1) (sym rows_taken.1) (Takes-then (count.0 ∷ []) (flat_map exit_image x.0) count_taken rows_taken.0))
 
 pub exits_again : ReadsAgain exits_at exits_image FitsExits
 unfolding exits_at
-exits_again xs rest fits = rows_again exit_at exit_image FitsExit exit_again xs rest (all_exits xs)
+exits_again xs rest fits = rows_again leading_exit exit_image FitsExit exit_again xs rest (all_exits xs)
 
 -- ---- tables ----
 
@@ -214,8 +214,8 @@ code_takes (code ∷ bytes) x fits e = (byte_takes (code ∷ bytes) x fits (kept
 code_again : (code : ℕ) (rest : List ℕ) → code ≤ 107 → code_at (code ∷ rest) ≡ Ok (code, rest)
 code_again code rest le = rw (le-leb code 107 le) refl
 
-pub condact_takes : TakesRow condact_at condact_image
-unfolding condact_at
+pub condact_takes : TakesRow leading_condact condact_image
+unfolding leading_condact
 condact_takes bytes x fits e =
     bind_then _ (code_at bytes) _ x e (λ code code_ok e.
     bind_then _ (parameter_at (first_kind code.0) code.1) _ x e (λ a a_ok e.
@@ -227,43 +227,43 @@ condact_takes bytes x fits e =
     let second = parameter_image (second_kind code.0) b.0 in
     at_ok (λ (y : Condact × List ℕ). Takes bytes (condact_image y.0) y.1) _ x e (Takes-then (code.0 ∷ []) (first ++ second) code_taken (Takes-then first second a_taken b_taken)))))
 
-pub condact_again : ReadsAgain condact_at condact_image FitsCondact
-unfolding condact_at
+pub condact_again : ReadsAgain leading_condact condact_image FitsCondact
+unfolding leading_condact
 condact_again c rest fits =
     let first = parameter_image (first_kind c.code) c.a in
     let second = parameter_image (second_kind c.code) c.b in
     let regrouped : condact_image c ++ rest ≡ c.code ∷ (first ++ (second ++ rest)) = ap (λ (t : List ℕ). c.code ∷ t) (append_assoc first second rest) in
-    ap condact_at regrouped
+    ap leading_condact regrouped
     ∙ rw (code_again c.code (first ++ (second ++ rest)) fits.code, parameter_again (first_kind c.code) c.a (second ++ rest) fits.a, parameter_again (second_kind c.code) c.b rest fits.b) refl
 
-pub entry_takes : TakesRow entry_at entry_image
-unfolding entry_at
+pub entry_takes : TakesRow leading_entry entry_image
+unfolding leading_entry
 entry_takes bytes x fits e =
     bind_then _ (byte_at bytes) _ x e (λ verb verb_ok e.
     bind_then _ (byte_at verb.1) _ x e (λ noun noun_ok e.
     bind_then _ (byte_at noun.1) _ x e (λ count count_ok e.
-    bind_then _ (rows_at condact_at count.0 count.1) _ x e (λ condacts condacts_ok e.
+    bind_then _ (leading_rows leading_condact count.0 count.1) _ x e (λ condacts condacts_ok e.
     let verb_taken = (byte_takes bytes verb fits verb_ok).0 in
     let noun_taken = (byte_takes verb.1 noun verb_taken.rest_fits noun_ok).0 in
     let count_taken = (byte_takes noun.1 count noun_taken.rest_fits count_ok).0 in
-    let condacts_taken = rows_take condact_at condact_image condact_takes count.0 count.1 condacts count_taken.rest_fits condacts_ok in
+    let condacts_taken = rows_take leading_condact condact_image condact_takes count.0 count.1 condacts count_taken.rest_fits condacts_ok in
     let images = flat_map condact_image condacts.0 in
     at_ok (λ (y : Entry × List ℕ). Takes bytes (entry_image y.0) y.1) _ x e
     (subst (λ (n : ℕ). Takes bytes (verb.0 ∷ noun.0 ∷ n ∷ images) condacts.1) (sym condacts_taken.1)
     (Takes-then (verb.0 ∷ []) (noun.0 ∷ count.0 ∷ images) verb_taken (Takes-then (noun.0 ∷ []) (count.0 ∷ images) noun_taken (Takes-then (count.0 ∷ []) images count_taken condacts_taken.0))))))))
 
-entry_again : ReadsAgain entry_at entry_image FitsEntry
-unfolding entry_at
-entry_again e rest fits = rw (rows_again condact_at condact_image FitsCondact condact_again e.condacts rest fits.condacts) refl
+entry_again : ReadsAgain leading_entry entry_image FitsEntry
+unfolding leading_entry
+entry_again e rest fits = rw (rows_again leading_condact condact_image FitsCondact condact_again e.condacts rest fits.condacts) refl
 
-pub table_takes : TakesRow table_at table_image
-unfolding table_at
+pub table_takes : TakesRow leading_table table_image
+unfolding leading_table
 table_takes bytes x fits e =
     bind_then _ (number_at bytes) _ x e (λ count count_ok e.
     let count_taken = (number_takes bytes count fits count_ok).0 in
-    let entries_taken = rows_take entry_at entry_image entry_takes count.0 count.1 x count_taken.rest_fits e in
+    let entries_taken = rows_take leading_entry entry_image entry_takes count.0 count.1 x count_taken.rest_fits e in
     subst (λ (n : ℕ). Takes bytes (two_bytes n ++ flat_map entry_image x.0) x.1) (sym entries_taken.1) (Takes-then (two_bytes count.0) (flat_map entry_image x.0) count_taken entries_taken.0))
 
-pub table_again : ReadsAgain table_at table_image FitsTable
-unfolding table_at
-table_again es rest fits = rw (number_again (length es) (flat_map entry_image es ++ rest) fits.count, rows_again entry_at entry_image FitsEntry entry_again es rest fits.entries) refl
+pub table_again : ReadsAgain leading_table table_image FitsTable
+unfolding leading_table
+table_again es rest fits = rw (number_again (length es) (flat_map entry_image es ++ rest) fits.count, rows_again leading_entry entry_image FitsEntry entry_again es rest fits.entries) refl

@@ -16,8 +16,8 @@ use Rattle.paw_game.specs.inner.Tables.{counts_of}
 use Rattle.paw_game.specs.Image.{two_bytes, text_image, exit_image, parameter_image, condact_image, entry_image, table_image}
 use Rattle.paw_game.specs.Valid.{is_within, is_printed, is_text, is_word_or_none, is_place, are_facts, is_object, is_verb_value, are_exits, is_exits, is_parameter, is_condact, is_any, has_word, is_entry, is_table}
 use Rattle.paw_image.specs.Reading.{◌>>=◌, byte_at, bytes_at, number_at}
-use Rattle.paw_image.specs.inner.Reading.{rows_at, text_at, facts_with, facts_at, object_at, exit_at, exits_at, code_at, parameter_at, condact_at, entry_at, table_at}
-use Rattle.paw_image.specs.Damage.{Declared, kept, each, after_text, after_facts, after_object, exit_kept, after_exits_of, after_exits, keeps_kind, after_parameter, after_condact, after_entry, after_table}
+use Rattle.paw_image.specs.inner.Reading.{leading_rows, text_at, facts_with, leading_facts, object_at, leading_exit, exits_at, code_at, parameter_at, leading_condact, leading_entry, leading_table}
+use Rattle.paw_image.specs.Damage.{Declared, field_kept, each, after_text, after_facts, after_object, exit_kept, after_exits_of, after_exits, keeps_kind, after_parameter, after_condact, after_entry, after_table}
 use Rattle.paw_image.specs.inner.Places.{places, entry_places, entries_begin, tables_begin}
 use Rattle.paw_image.proofs.FieldLaws.{IsBytes, at_ok, bind_then, byte_takes, number_takes}
 use Rattle.paw_image.proofs.ListLaws.{rows_take}
@@ -47,8 +47,8 @@ text_sound bytes rest fits e =
 light : (w : ℕ) → leb (bit_and w 63) 63 ≡ true
 light w = le-leb (bit_and w 63) 63 (rw (and_mask w 6) (omega arith))
 
-facts_sound : (d : Declared) → SoundRow (after_facts d) facts_at (are_facts d.words d.counts.locations)
-unfolding after_facts facts_at
+facts_sound : (d : Declared) → SoundRow (after_facts d) leading_facts (are_facts d.words d.counts.locations)
+unfolding after_facts leading_facts
 facts_sound d bytes rest fits e =
     kept_then _ (is_word_or_none d.words 2) byte_at bytes _ rest e (λ noun noun_ok noun_kept e.
     kept_then _ (is_word_or_none d.words 3) byte_at noun.1 _ rest e (λ adjective adjective_ok adjective_kept e.
@@ -57,7 +57,7 @@ facts_sound d bytes rest fits e =
     let facts = facts_with noun.0 adjective.0 start.0 weight.0 in
     record {
       value = facts;
-      reads = at_ok (λ (r : List ℕ). facts_at bytes ≡ Ok (facts, r)) weight.1 rest e (rw (noun_ok, adjective_ok, start_ok, weight_ok) refl);
+      reads = at_ok (λ (r : List ℕ). leading_facts bytes ≡ Ok (facts, r)) weight.1 rest e (rw (noun_ok, adjective_ok, start_ok, weight_ok) refl);
       keeps = rw (noun_kept, adjective_kept, start_kept, light weight.0) refl;
     }))))
 
@@ -105,10 +105,10 @@ none_of-none (x ∷ xs) = none_of-none xs
 abbrev keeps_after : Declared → List ℕ → List Exit → Bool
 keeps_after d verbs xs = none_of verbs xs && are_exits d.words d.counts.locations xs
 
-exits_sound_of : (d : Declared) (verbs : List ℕ) (n : ℕ) (bytes rest : List ℕ) → after_exits_of d verbs n bytes ≡ Ok rest → Stands (rows_at exit_at n bytes) (keeps_after d verbs) rest
-unfolding after_exits_of exit_kept rows_at exit_at
+exits_sound_of : (d : Declared) (verbs : List ℕ) (n : ℕ) (bytes rest : List ℕ) → after_exits_of d verbs n bytes ≡ Ok rest → Stands (leading_rows leading_exit n bytes) (keeps_after d verbs) rest
+unfolding after_exits_of exit_kept leading_rows leading_exit
 exits_sound_of d verbs zero bytes rest e =
-    record { value = []; reads = at_ok (λ (r : List ℕ). rows_at exit_at 0 bytes ≡ Ok ([], r)) bytes rest e refl; keeps = refl }
+    record { value = []; reads = at_ok (λ (r : List ℕ). leading_rows leading_exit 0 bytes ≡ Ok ([], r)) bytes rest e refl; keeps = refl }
 exits_sound_of d verbs (suc n) bytes rest e =
     bind_then _ (exit_kept d verbs bytes) _ rest e (λ x x_ok e.
     kept_then _ (λ v. is_verb_value d.words v && not (list_any (λ earlier. eqb earlier v) verbs)) byte_at bytes _ x x_ok (λ verb verb_ok verb_kept x_ok.
@@ -135,7 +135,7 @@ exits_sound d bytes rest fits e =
     let small = (byte_takes bytes count fits count_ok).1 in
     let fits_after = (byte_takes bytes count fits count_ok).0.rest_fits in
     let rows = exits_sound_of d [] count.0 count.1 rest e in
-    let len : length rows.value ≡ count.0 = (rows_take exit_at exit_image exit_takes count.0 count.1 (rows.value, rest) fits_after rows.reads).1 in
+    let len : length rows.value ≡ count.0 = (rows_take leading_exit exit_image exit_takes count.0 count.1 (rows.value, rest) fits_after rows.reads).1 in
     let kept_rows = and_parts (none_of [] rows.value) _ rows.keeps in
     record {
       value = rows.value;
@@ -157,7 +157,7 @@ keeps_entry d e =
 abbrev pub keeps_table : Declared → List Entry → Bool
 keeps_table d es = leb (length es) 4000 && list_all (keeps_entry d) es
 
-byte_sound : (rule : ℕ → Bool) (bytes rest : List ℕ) → (kept rule byte_at bytes >>= λ x. Ok x.1) ≡ Ok rest → Stands (byte_at bytes) rule rest
+byte_sound : (rule : ℕ → Bool) (bytes rest : List ℕ) → (field_kept rule byte_at bytes >>= λ x. Ok x.1) ≡ Ok rest → Stands (byte_at bytes) rule rest
 byte_sound rule bytes rest e =
     kept_then _ rule byte_at bytes _ rest e (λ x x_ok x_kept e.
     record { value = x.0; reads = at_ok (λ (r : List ℕ). byte_at bytes ≡ Ok (x.0, r)) x.1 rest e x_ok; keeps = x_kept })
@@ -178,12 +178,12 @@ parameter_sound d kind.Noun bytes rest fits e = byte_sound (keeps_kind d kind.No
 parameter_sound d kind.Adjective bytes rest fits e = byte_sound (keeps_kind d kind.Adjective) bytes rest e
 parameter_sound d kind.Preposition bytes rest fits e = byte_sound (keeps_kind d kind.Preposition) bytes rest e
 
-code_is : (bytes : List ℕ) → code_at bytes ≡ kept (λ c. leb c 107) byte_at bytes
+code_is : (bytes : List ℕ) → code_at bytes ≡ field_kept (λ c. leb c 107) byte_at bytes
 code_is [] = refl
 code_is (code ∷ bytes) = refl
 
-pub condact_sound : (d : Declared) → SoundRow (after_condact d) condact_at (keeps_condact d)
-unfolding after_condact condact_at
+pub condact_sound : (d : Declared) → SoundRow (after_condact d) leading_condact (keeps_condact d)
+unfolding after_condact leading_condact
 condact_sound d bytes rest fits e =
     kept_then _ (λ c. leb c 107) byte_at bytes _ rest e (λ code code_ok code_kept e.
     bind_then _ (after_parameter d (first_kind code.0) code.1) _ rest e (λ after after_ok e.
@@ -199,8 +199,8 @@ condact_sound d bytes rest fits e =
       keeps = rw (code_kept, a.keeps, b.keeps) refl;
     }))
 
-pub entry_sound : (d : Declared) → SoundRow (after_entry d) entry_at (keeps_entry d)
-unfolding after_entry entry_at
+pub entry_sound : (d : Declared) → SoundRow (after_entry d) leading_entry (keeps_entry d)
+unfolding after_entry leading_entry
 entry_sound d bytes rest fits e =
     kept_then _ (λ v. is_any v || is_verb_value d.words v) byte_at bytes _ rest e (λ verb verb_ok verb_kept e.
     kept_then _ (λ n. is_any n || has_word d.words 2 n) byte_at verb.1 _ rest e (λ noun noun_ok noun_kept e.
@@ -208,8 +208,8 @@ entry_sound d bytes rest fits e =
     let verb_fits = (byte_takes bytes verb fits verb_ok).0.rest_fits in
     let noun_fits = (byte_takes verb.1 noun verb_fits noun_ok).0.rest_fits in
     let count_taken = byte_takes noun.1 count noun_fits count_ok in
-    let rows = each_sound (after_condact d) condact_at condact_image (keeps_condact d) condact_takes (condact_sound d) count.0 count.1 rest count_taken.0.rest_fits e in
-    let len : length rows.value ≡ count.0 = (rows_take condact_at condact_image condact_takes count.0 count.1 (rows.value, rest) count_taken.0.rest_fits rows.reads).1 in
+    let rows = each_sound (after_condact d) leading_condact condact_image (keeps_condact d) condact_takes (condact_sound d) count.0 count.1 rest count_taken.0.rest_fits e in
+    let len : length rows.value ≡ count.0 = (rows_take leading_condact condact_image condact_takes count.0 count.1 (rows.value, rest) count_taken.0.rest_fits rows.reads).1 in
     record {
       value = record { verb = verb.0; noun = noun.0; condacts = rows.value };
       reads = rw (verb_ok, noun_ok, count_ok, rows.reads) refl;
@@ -219,17 +219,18 @@ entry_sound d bytes rest fits e =
 -- a table, with where its entries begin
 pub record TablePlaced (d : Declared) (bytes rest : List ℕ) : Type 0 where
   pub value : List Entry
-  pub reads : table_at bytes ≡ Ok (value, rest)
+  pub reads : leading_table bytes ≡ Ok (value, rest)
   pub keeps : keeps_table d value ≡ true
   pub begin : (total start : ℕ) → start + length bytes ≡ total → entries_begin d total bytes ≡ places entry_image (start + 2) value
 
 pub table_placed : (d : Declared) (bytes rest : List ℕ) → IsBytes bytes → after_table d bytes ≡ Ok rest → TablePlaced d bytes rest
-unfolding after_table table_at entries_begin
+unfolding after_table leading_table entries_begin
 table_placed d bytes rest fits e =
     kept_then _ (is_within 0 4000) number_at bytes _ rest e (λ count count_ok count_kept e.
     let count_taken = number_takes bytes count fits count_ok in
-    let rows = each_sound (after_entry d) entry_at entry_image (keeps_entry d) entry_takes (entry_sound d) count.0 count.1 rest count_taken.0.rest_fits e in
-    let len : length rows.value ≡ count.0 = (rows_take entry_at entry_image entry_takes count.0 count.1 (rows.value, rest) count_taken.0.rest_fits rows.reads).1 in
+    let rows = each_sound (after_entry d) leading_entry entry_image (keeps_entry d) entry_takes (entry_sound d) count.0 count.1 rest count_taken.0.rest_fits e
+    in
+    let len : length rows.value ≡ count.0 = (rows_take leading_entry entry_image entry_takes count.0 count.1 (rows.value, rest) count_taken.0.rest_fits rows.reads).1 in
     record {
       value = rows.value;
       reads = rw (count_ok, rows.reads) refl;
@@ -242,14 +243,19 @@ table_placed d bytes rest fits e =
 -- tables, with where their entries begin
 pub record TablesPlaced (d : Declared) (n : ℕ) (bytes rest : List ℕ) : Type 0 where
   pub value : List (List Entry)
-  pub reads : rows_at table_at n bytes ≡ Ok (value, rest)
+  pub reads : leading_rows leading_table n bytes ≡ Ok (value, rest)
   pub keeps : list_all (keeps_table d) value ≡ true
   pub begin : (total start : ℕ) → start + length bytes ≡ total → tables_begin d total n bytes ≡ entry_places start value
 
 pub tables_placed : (d : Declared) (n : ℕ) (bytes rest : List ℕ) → IsBytes bytes → each (after_table d) n bytes ≡ Ok rest → TablesPlaced d n bytes rest
-unfolding each rows_at tables_begin
+unfolding each leading_rows tables_begin
 tables_placed d zero bytes rest fits e =
-    record { value = []; reads = at_ok (λ (r : List ℕ). rows_at table_at 0 bytes ≡ Ok ([], r)) bytes rest e refl; keeps = refl; begin = λ total start h. refl }
+    record {
+      value = [];
+      reads = at_ok (λ (r : List ℕ). leading_rows leading_table 0 bytes ≡ Ok ([], r)) bytes rest e refl;
+      keeps = refl;
+      begin = λ total start h. refl;
+    }
 tables_placed d (suc n) bytes rest fits e =
     bind_then _ (after_table d bytes) _ rest e (λ after after_ok e.
     let first = table_placed d bytes after fits after_ok in

@@ -4,8 +4,8 @@ use Rattle.std.specs.List.{flat_map, list_all}
 use Rattle.std.proofs.lemmas.Bool.{ltb-false, and_parts}
 use Rattle.std.proofs.lemmas.List.{length-take, length-append}
 use Rattle.paw_image.specs.Reading.{◌>>=◌, Reading, bytes_at}
-use Rattle.paw_image.specs.inner.Reading.{rows_at}
-use Rattle.paw_image.specs.Damage.{Passing, kept, each}
+use Rattle.paw_image.specs.inner.Reading.{leading_rows}
+use Rattle.paw_image.specs.Damage.{Passing, field_kept, each}
 use Rattle.paw_image.specs.inner.Places.{places, begins}
 use Rattle.paw_image.proofs.FieldLaws.{IsBytes, Takes, read_ok, at_ok, bind_then, guard_ok, kept_ok}
 use Rattle.paw_image.proofs.ListLaws.{TakesRow}
@@ -14,10 +14,10 @@ pub and_true : (a b : Bool) → a ≡ true → b ≡ true → (a && b) ≡ true
 and_true a b p q = rw (p, q) refl
 
 -- what follows from a field that kept its rule
-pub kept_then : {A B : Type 0} (P : Type 0) (rule : A → Bool) (field : List ℕ → Reading A) (bytes : List ℕ) (f : A × List ℕ → Result B ℕ) (y : B) → (kept rule field bytes >>= f) ≡ Ok y
+pub kept_then : {A B : Type 0} (P : Type 0) (rule : A → Bool) (field : List ℕ → Reading A) (bytes : List ℕ) (f : A × List ℕ → Result B ℕ) (y : B) → (field_kept rule field bytes >>= f) ≡ Ok y
     → ((x : A × List ℕ) → field bytes ≡ Ok x → rule x.0 ≡ true → f x ≡ Ok y → P) → P
 kept_then {A} P rule field bytes f y e go =
-    bind_then P (kept rule field bytes) f y e (λ x x_ok e.
+    bind_then P (field_kept rule field bytes) f y e (λ x x_ok e.
     bind_then P (field bytes) _ x x_ok (λ z z_ok e2.
     let both = kept_ok (rule z.0) (Ok z) (length bytes) x e2 in
     go z z_ok both.0 (at_ok (λ (w : A × List ℕ). f w ≡ Ok y) x z (sym both.1) e)))
@@ -57,8 +57,8 @@ pub taken_length : (bytes text rest : List ℕ) → Takes bytes text rest → le
 taken_length bytes text rest t = ap (λ (l : List ℕ). length l) t.parts ∙ length-append text rest
 
 pub each_sound : {A : Type 0} (pass : List ℕ → Passing) (row : List ℕ → Reading A) (image : A → List ℕ) (rule : A → Bool) → TakesRow row image → SoundRow pass row rule
-    → (n : ℕ) (bytes rest : List ℕ) → IsBytes bytes → each pass n bytes ≡ Ok rest → Placed pass image n bytes (rows_at row n bytes) rule rest
-unfolding each rows_at begins
+    → (n : ℕ) (bytes rest : List ℕ) → IsBytes bytes → each pass n bytes ≡ Ok rest → Placed pass image n bytes (leading_rows row n bytes) rule rest
+unfolding each leading_rows begins
 each_sound {A} pass row image rule takes sound zero bytes rest fits e =
     let same : bytes ≡ rest = at_ok (λ (t : List ℕ). bytes ≡ t) bytes rest e refl in
     record {

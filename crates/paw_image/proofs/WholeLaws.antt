@@ -18,8 +18,9 @@ use Rattle.paw_base.specs.declared.limits.TheConstants.{IMAGE_LIMIT}
 use Rattle.paw_image.specs.inner.CondactMarks.{IsEnd}
 use Rattle.paw_image.specs.Images.{IsImage}
 use Rattle.paw_image.specs.Reading.{byte_at, bytes_at, number_at}
-use Rattle.paw_image.specs.inner.Reading.{rows_at, word_at, text_at, object_at, exits_at, table_at, mark_at, version_at, counts_at, lists_at, all_of}
-use Rattle.paw_image.specs.Damage.{Declared, Passing, each, after_version, counts_kept, word_kept, words_kept, after_text, after_object, after_exits, after_table, after_lists, front, after_all, place_in, bad}
+use Rattle.paw_image.specs.inner.Reading.{leading_rows, leading_word, text_at, object_at, exits_at, leading_table}
+use Rattle.paw_image.specs.inner.Reading.{mark_at, version_at, counts_at, lists_at, all_of}
+use Rattle.paw_image.specs.Damage.{Declared, Passing, each, after_version, counts_kept, word_kept, words_above, after_text, after_object, after_exits, after_table, after_lists, front, after_all, place_in, bad}
 use Rattle.paw_image.specs.inner.Places.{places, entry_places, entries_of, AreGoneOver}
 use Rattle.paw_image.specs.inner.Views.{system_begins}
 use Rattle.paw_image.specs.declared.places.Places.{Places}
@@ -98,12 +99,12 @@ counts_pass g rest h =
 -- ---- words ----
 
 record IsNext (before bytes : List ℕ) (x : Word × List ℕ) : Type 0 where
-  reads : word_at bytes ≡ Ok x
+  reads : leading_word bytes ≡ Ok x
   keeps : is_word x.0 ≡ true
   above : is_lt (slice_cmp nat_cmp before x.0.letters) ≡ true
 
 word_sound : (before bytes : List ℕ) (x : Word × List ℕ) → word_kept before bytes ≡ Ok x → IsNext before bytes x
-unfolding word_kept word_at
+unfolding word_kept leading_word
 word_sound before bytes x e =
     kept_then _ (λ l. are_letters l && is_lt (slice_cmp nat_cmp before l)) (bytes_at 5) bytes _ x e (λ letters letters_ok letters_kept e.
     kept_then _ (is_within 2 254) byte_at letters.1 _ x e (λ value value_ok value_kept e.
@@ -113,16 +114,16 @@ word_sound before bytes x e =
     (record { reads = rw (letters_ok, value_ok, class_ok) refl; keeps = rw (both.0, value_kept, class_kept) refl; above = both.1 }))))
 
 record AreNext (before : List ℕ) (n : ℕ) (bytes : List ℕ) (x : List Word × List ℕ) : Type 0 where
-  reads : rows_at word_at n bytes ≡ Ok x
+  reads : leading_rows leading_word n bytes ≡ Ok x
   keep : list_all is_word x.0 ≡ true
   rise : rise_after before x.0 ≡ true
 
-words_sound : (before : List ℕ) (n : ℕ) (bytes : List ℕ) (x : List Word × List ℕ) → words_kept before n bytes ≡ Ok x → AreNext before n bytes x
-unfolding words_kept rows_at rise_after
+words_sound : (before : List ℕ) (n : ℕ) (bytes : List ℕ) (x : List Word × List ℕ) → words_above before n bytes ≡ Ok x → AreNext before n bytes x
+unfolding words_above leading_rows rise_after
 words_sound before zero bytes x e = at_ok (λ (y : List Word × List ℕ). AreNext before 0 bytes y) ([], bytes) x e (record { reads = refl; keep = refl; rise = refl })
 words_sound before (suc n) bytes x e =
     bind_then _ (word_kept before bytes) _ x e (λ first first_ok e.
-    bind_then _ (words_kept first.0.letters n first.1) _ x e (λ others others_ok e.
+    bind_then _ (words_above first.0.letters n first.1) _ x e (λ others others_ok e.
     let w = word_sound before bytes first first_ok in
     let ws = words_sound first.0.letters n first.1 others others_ok in
     at_ok (λ (y : List Word × List ℕ). AreNext before (suc n) bytes y) _ x e
@@ -137,8 +138,8 @@ word_passes before w rest h above =
     ap (word_kept before) regrouped
     ∙ rw (bytes_again 5 w.letters (w.value ∷ w.class ∷ rest) (letters_fit w.letters letters.0), letters.0, above, value.0, value.1) refl
 
-words_pass : (before : List ℕ) (ws : List Word) (rest : List ℕ) → list_all is_word ws ≡ true → rise_after before ws ≡ true → words_kept before (length ws) (flat_map word_image ws ++ rest) ≡ Ok (ws, rest)
-unfolding words_kept rise_after
+words_pass : (before : List ℕ) (ws : List Word) (rest : List ℕ) → list_all is_word ws ≡ true → rise_after before ws ≡ true → words_above before (length ws) (flat_map word_image ws ++ rest) ≡ Ok (ws, rest)
+unfolding words_above rise_after
 words_pass before [] rest h rise = refl
 words_pass before (w ∷ ws) rest h rise =
     let both = and_parts (is_word w) (list_all is_word ws) h in
@@ -171,7 +172,7 @@ pub record StandAt (start : ℕ) (g : GameLists) (p : Places) : Type 0 where
 -- the lists after the words, as they are read by their rules
 record AreRead (c : Counts) (ws : List Word) (bytes rest : List ℕ) : Type 0 where
   game : GameLists
-  reads : (front : List ℕ) → rows_at word_at c.words front ≡ Ok (ws, bytes) → lists_at c front ≡ Ok (game, rest)
+  reads : (front : List ℕ) → leading_rows leading_word c.words front ≡ Ok (ws, bytes) → lists_at c front ≡ Ok (game, rest)
   words : game.words ≡ ws
   counts : length ws ≡ c.words → c ≡ counts_of game
   system : list_all is_text game.system ≡ true
@@ -204,7 +205,7 @@ lists_sound c ws bytes rest fits e =
     let exits = each_sound (after_exits d) exits_at exits_image (is_exits ws c.locations) exits_take (exits_sound d) c.locations at_exits at_tables locations_taken.0.rest_fits exits_ok in
     let exits_taken = rows_take exits_at exits_image exits_take c.locations at_exits (exits.value, at_tables) locations_taken.0.rest_fits exits.reads in
     let tables = tables_placed d c.tables at_tables rest exits_taken.0.rest_fits e in
-    let tables_taken = rows_take table_at table_image table_takes c.tables at_tables (tables.value, rest) exits_taken.0.rest_fits tables.reads in
+    let tables_taken = rows_take leading_table table_image table_takes c.tables at_tables (tables.value, rest) exits_taken.0.rest_fits tables.reads in
     record {
       game = record { words = ws; system = system.value; messages = messages.value; objects = objects.value; locations = locations.value; exits = exits.value; tables = tables.value };
       reads = λ front words_read. rw (words_read, system.reads, messages.reads, objects.reads, locations.reads, exits.reads, tables.reads) refl;
@@ -277,7 +278,7 @@ all_sound bytes fits e =
     bind_then _ (front bytes) _ [] e (λ d d_ok e.
     bind_then _ (after_version bytes) _ d d_ok (λ head head_ok so_far.
     bind_then _ (counts_kept head) _ d so_far (λ counts counts_ok so_far.
-    bind_then _ (words_kept [] counts.0.words counts.1) _ d so_far (λ words words_ok so_far.
+    bind_then _ (words_above [] counts.0.words counts.1) _ d so_far (λ words words_ok so_far.
     let here : Declared × List ℕ = (record { counts = counts.0; words = words.0 }, words.1) in
     let e2 : after_lists here.0 here.1 ≡ Ok [] = at_ok (λ (y : Declared × List ℕ). after_lists y.0 y.1 ≡ Ok []) d here (sym so_far) e in
     let headed = version_sound bytes head head_ok in
@@ -286,7 +287,7 @@ all_sound bytes fits e =
     let counts_read = counts_sound head counts counts_ok in
     let six = counts_take head counts version.rest_fits counts_read.0 in
     let words_read = words_sound [] counts.0.words counts.1 words words_ok in
-    let words_taken = rows_take word_at word_image word_takes counts.0.words counts.1 words six.rest_fits words_read.reads in
+    let words_taken = rows_take leading_word word_image word_takes counts.0.words counts.1 words six.rest_fits words_read.reads in
     let lists = lists_sound counts.0 words.0 words.1 [] words_taken.0.rest_fits e2 in
     let lists_read = lists.reads counts.1 words_read.reads in
     let start = 17 + length (flat_map word_image words.0) in

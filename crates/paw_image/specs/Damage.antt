@@ -26,8 +26,8 @@ use Rattle.paw_game.specs.Valid.{is_word_or_none, is_printed, is_place, is_any}
 use Rattle.paw_image.specs.Reading.{◌>>=◌, Reading, byte_at, bytes_at, number_at}
 
 -- a field that keeps a rule, or a fault at its first byte
-abbrev pub kept : {A : Type 0} → (A → Bool) → (List ℕ → Reading A) → List ℕ → Reading A
-kept rule field bytes = field bytes >>= λ x. if rule x.0 then Ok x else Err (length bytes)
+abbrev pub field_kept : {A : Type 0} → (A → Bool) → (List ℕ → Reading A) → List ℕ → Reading A
+field_kept rule field bytes = field bytes >>= λ x. if rule x.0 then Ok x else Err (length bytes)
 
 -- the bytes after something, or a fault in it
 abbrev pub Passing : Type 0
@@ -43,23 +43,23 @@ each row (suc n) bytes = row bytes >>= each row n
 -- the mark PAWI, and version 1
 unfoldable pub after_version : List ℕ → Passing
 after_version bytes = do
-  mark ← kept (λ m. bytes_eq m (codes "PAWI")) (bytes_at 4) bytes
-  version ← kept (λ v. v == 1) byte_at mark.1
+  mark ← field_kept (λ m. bytes_eq m (codes "PAWI")) (bytes_at 4) bytes
+  version ← field_kept (λ v. v == 1) byte_at mark.1
   Ok version.1
 
 -- a number of two bytes, from one to another, both included
-abbrev pub number_within : ℕ → ℕ → List ℕ → Reading ℕ
-number_within least most = kept (is_within least most) number_at
+abbrev pub number_kept : ℕ → ℕ → List ℕ → Reading ℕ
+number_kept least most = field_kept (is_within least most) number_at
 
 -- how many words, system messages, messages, objects, locations and tables follow
 unfoldable pub counts_kept : List ℕ → Reading Counts
 counts_kept bytes = do
-  words ← number_within 0 WORD_LIMIT bytes
-  system ← number_within 0 SYSTEM_LIMIT words.1
-  messages ← number_within 0 MESSAGE_LIMIT system.1
-  objects ← number_within 0 OBJECT_LIMIT messages.1
-  locations ← number_within LOCATION_LEAST LOCATION_LIMIT objects.1
-  tables ← number_within TABLE_LEAST TABLE_LIMIT locations.1
+  words ← number_kept 0 WORD_LIMIT bytes
+  system ← number_kept 0 SYSTEM_LIMIT words.1
+  messages ← number_kept 0 MESSAGE_LIMIT system.1
+  objects ← number_kept 0 OBJECT_LIMIT messages.1
+  locations ← number_kept LOCATION_LEAST LOCATION_LIMIT objects.1
+  tables ← number_kept TABLE_LEAST TABLE_LIMIT locations.1
   Ok (
     record {
       words = words.0;
@@ -77,17 +77,17 @@ counts_kept bytes = do
 -- letters above those before, value, class
 unfoldable pub word_kept : List ℕ → List ℕ → Reading Word
 word_kept before bytes = do
-  letters ← kept (λ l. are_letters l && is_lt (slice_cmp nat_cmp before l)) (bytes_at WORD_LENGTH) bytes
-  value ← kept (is_within LEAST_WORD GREATEST_WORD) byte_at letters.1
-  class ← kept (λ c. nat_le c PRONOUN_CLASS) byte_at value.1
+  letters ← field_kept (λ l. are_letters l && is_lt (slice_cmp nat_cmp before l)) (bytes_at WORD_LENGTH) bytes
+  value ← field_kept (is_within LEAST_WORD GREATEST_WORD) byte_at letters.1
+  class ← field_kept (λ c. nat_le c PRONOUN_CLASS) byte_at value.1
   Ok (record { letters = letters.0; value = value.0; class = class.0 }, class.1)
 
 -- so many words, each above the one before
-unfoldable pub words_kept : List ℕ → ℕ → List ℕ → Reading (List Word)
-words_kept before zero bytes = Ok ([], bytes)
-words_kept before (suc n) bytes = do
+unfoldable pub words_above : List ℕ → ℕ → List ℕ → Reading (List Word)
+words_above before zero bytes = Ok ([], bytes)
+words_above before (suc n) bytes = do
   first ← word_kept before bytes
-  others ← words_kept first.0.letters n first.1
+  others ← words_above first.0.letters n first.1
   Ok (first.0 ∷ others.0, others.1)
 
 -- what the fields so far say that later rules name: how many rows there are, and the words
@@ -100,16 +100,16 @@ pub record Declared : Type 0 where
 -- a length of at most 4,095, and a text of bytes that may stand in one
 unfoldable pub after_text : List ℕ → Passing
 after_text bytes = do
-  len ← number_within 0 TEXT_LIMIT bytes
-  text ← kept (is_printed true) (bytes_at len.0) len.1
+  len ← number_kept 0 TEXT_LIMIT bytes
+  text ← field_kept (is_printed true) (bytes_at len.0) len.1
   Ok text.1
 
 -- noun, adjective, first place, and any byte for the weight
 unfoldable pub after_facts : Declared → List ℕ → Passing
 after_facts d bytes = do
-  noun ← kept (is_word_or_none d.words NOUN_CLASS) byte_at bytes
-  adjective ← kept (is_word_or_none d.words ADJECTIVE_CLASS) byte_at noun.1
-  start ← kept (is_place d.counts.locations) byte_at adjective.1
+  noun ← field_kept (is_word_or_none d.words NOUN_CLASS) byte_at bytes
+  adjective ← field_kept (is_word_or_none d.words ADJECTIVE_CLASS) byte_at noun.1
+  start ← field_kept (is_place d.counts.locations) byte_at adjective.1
   weight ← byte_at start.1
   Ok weight.1
 
@@ -120,8 +120,8 @@ after_object d bytes = after_text bytes >>= after_facts d
 -- an exit after exits with these verbs: a verb value that is none of them, and a location; the verb is told
 unfoldable pub exit_kept : Declared → List ℕ → List ℕ → Reading ℕ
 exit_kept d verbs bytes = do
-  verb ← kept (λ v. is_verb_value d.words v && not (list_any (λ earlier. earlier == v) verbs)) byte_at bytes
-  to ← kept (λ l. nat_lt l d.counts.locations) byte_at verb.1
+  verb ← field_kept (λ v. is_verb_value d.words v && not (list_any (λ earlier. earlier == v) verbs)) byte_at bytes
+  to ← field_kept (λ l. nat_lt l d.counts.locations) byte_at verb.1
   Ok (verb.0, to.1)
 
 -- so many exits, after exits with these verbs
@@ -156,27 +156,27 @@ keeps_kind d kind.Preposition x = is_word_or_none d.words PREPOSITION_CLASS x
 -- a parameter of this kind; one that a code doesn't have takes no byte
 abbrev pub after_parameter : Declared → ParamKind → List ℕ → Passing
 after_parameter d kind.Absent bytes = Ok bytes
-after_parameter d k bytes = kept (keeps_kind d k) byte_at bytes >>= λ x. Ok x.1
+after_parameter d k bytes = field_kept (keeps_kind d k) byte_at bytes >>= λ x. Ok x.1
 
 -- a code of the table, and the parameters that it has
 unfoldable pub after_condact : Declared → List ℕ → Passing
 after_condact d bytes = do
-  code ← kept (λ c. nat_le c LAST_CODE) byte_at bytes
+  code ← field_kept (λ c. nat_le c LAST_CODE) byte_at bytes
   a ← after_parameter d (first_kind code.0) code.1
   after_parameter d (second_kind code.0) a
 
 -- verb, noun, how many condacts, and each
 unfoldable pub after_entry : Declared → List ℕ → Passing
 after_entry d bytes = do
-  verb ← kept (λ v. is_any v || is_verb_value d.words v) byte_at bytes
-  noun ← kept (λ n. is_any n || has_word d.words NOUN_CLASS n) byte_at verb.1
+  verb ← field_kept (λ v. is_any v || is_verb_value d.words v) byte_at bytes
+  noun ← field_kept (λ n. is_any n || has_word d.words NOUN_CLASS n) byte_at verb.1
   count ← byte_at noun.1
   each (after_condact d) count.0 count.1
 
 -- how many entries, at most 4,000, and each
 unfoldable pub after_table : Declared → List ℕ → Passing
 after_table d bytes = do
-  count ← number_within 0 ENTRY_LIMIT bytes
+  count ← number_kept 0 ENTRY_LIMIT bytes
   each (after_entry d) count.0 count.1
 
 -- ---- the whole image ----
@@ -196,7 +196,7 @@ unfoldable pub front : List ℕ → Reading Declared
 front bytes = do
   head ← after_version bytes
   counts ← counts_kept head
-  words ← words_kept [] counts.0.words counts.1
+  words ← words_above [] counts.0.words counts.1
   Ok (record { counts = counts.0; words = words.0 }, words.1)
 
 -- the bytes after the last field

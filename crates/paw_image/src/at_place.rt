@@ -5,7 +5,7 @@ ghost use Rattle.std.specs.Option.{option_copied, option_map};
 ghost use Rattle.paw_image.specs.inner.CondactMarks.{AreMarks, MarkEntry};
 ghost use Rattle.paw_image.specs.Damage.{each};
 ghost use Rattle.paw_image.specs.inner.Reading.{Gives, IsFault, text_at};
-ghost use Rattle.paw_image.specs.inner.Rows.{condact_after, condact_of, entry_here, exit_here, exit_in, exits_here};
+ghost use Rattle.paw_image.specs.inner.Rows.{condact_after, condact_among, entry_here, exit_here, exit_in, exits_here};
 ghost use Rattle.paw_image.specs.inner.Rows.{facts_here, head_here, nth_condact, past_condact, up_to, value_of};
 
 use crate::fault::ReadFault;
@@ -142,7 +142,7 @@ fn from_mark<'a>(marks: &[u16], at: u8, count: u8, condacts: &'a [u8]) -> &'a [u
 #[tactic(auto, using(crate::proofs::Faults::no_value))]
 fn condact_of(marks: &[u16], at: u8, count: u8, condacts: &[u8]) -> Option<Condact>
     requires marks { AreMarks marks.now count condacts.now }
-    ensures value { result ≡ condact_of at count condacts.now }
+    ensures value { result ≡ condact_among at count condacts.now }
 {
     if at >= count {
         return None;

@@ -4,7 +4,7 @@ ghost use Rattle.paw_game.specs.Image.{exit_image, exits_image};
 ghost use Rattle.std.specs.Prelude.{◌≡◌, ℕ, List, [], ◌∷◌, OnOk};
 ghost use Rattle.paw_image.specs.Damage.{exit_kept, after_exits_of, after_exits};
 ghost use Rattle.paw_image.specs.inner.Marks.{Marks};
-ghost use Rattle.paw_image.specs.inner.Reading.{Gives, exit_at, exits_at};
+ghost use Rattle.paw_image.specs.inner.Reading.{Gives, leading_exit, exits_at};
 ghost use Rattle.paw_image.specs.inner.Sizes.{FitsExit, FitsExits};
 
 use crate::fault::ReadFault;
@@ -16,13 +16,13 @@ use paw_game::parts::{Exit, Exits};
 use std::alloc::{AllocError, Global};
 
 impl Row for Exit {
-    ghost reading = { exit_at };
+    ghost reading = { leading_exit };
 
     ghost spelling = { exit_image };
 
     ghost fits = { FitsExit };
 
-    #[tactic(auto, unfolding(crate::specs::inner::Reading::exit_at))]
+    #[tactic(auto, unfolding(crate::specs::inner::Reading::leading_exit))]
     fn read(_: Global, bytes: &[u8]) -> Result<(Exit, &[u8]), ReadFault> {
         let (verb, rest) = read_byte(bytes)?;
         let (to, rest) = read_byte(rest)?;

@@ -2,7 +2,7 @@
 
 ghost use Rattle.std.specs.Prelude.{◌≡◌, ◌^◌, ◌<◌, ◌++◌, length, OnErr, OnOk};
 ghost use Rattle.paw_game.specs.Image.{two_bytes};
-ghost use Rattle.paw_image.specs.Damage.{number_within};
+ghost use Rattle.paw_image.specs.Damage.{number_kept};
 ghost use Rattle.paw_image.specs.Reading.{byte_at, bytes_at, number_at};
 ghost use Rattle.paw_image.specs.inner.Reading.{Gives, IsFault};
 ghost use Rattle.paw_image.specs.declared.fault.ReadFault.TheVariants as fault;
@@ -55,7 +55,7 @@ pub fn read_number(bytes: &[u8]) -> Result<(u16, &[u8]), ReadFault>
 
 /// The number at the front, which is none below the one and none above the other.
 pub fn read_within(least: usize, most: usize, bytes: &[u8]) -> Result<(u16, &[u8]), ReadFault>
-    ensures gives { Gives (λ x. (x.0, x.1.now)) result (number_within least most bytes.now) }
+    ensures gives { Gives (λ x. (x.0, x.1.now)) result (number_kept least most bytes.now) }
 {
     let (number, rest) = read_number(bytes)?;
     if (number as usize) < least || number as usize > most {

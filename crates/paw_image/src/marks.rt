@@ -1,7 +1,7 @@
 // Marks in the condacts of entries, so that a condact is found without those far before it.
 
 ghost use Rattle.std.specs.Prelude.{◌≡◌, ◌+◌, ◌*◌, ◌≤◌, ◌<◌, ◌^◌, IfOk, OnOk, drop, length, slice_index};
-ghost use Rattle.paw_image.specs.inner.CondactMarks.{AreMarks, IsEnd, Keeps, MarkEntries, MarkEntry};
+ghost use Rattle.paw_image.specs.inner.CondactMarks.{AreMarks, IsEnd, KeepsPlaces, MarkEntries, MarkEntry};
 ghost use Rattle.paw_image.specs.Damage.{after_condact, after_entry, each};
 ghost use Rattle.paw_image.specs.inner.Places.{begins};
 ghost use Rattle.paw_image.specs.inner.Reading.{Gives};
@@ -49,7 +49,7 @@ fn pass_condacts<'a>(
 ) -> Result<&'a [u8], ReadFault>
     ensures gives { Gives (λ x. x.now) result (each (after_condact rules.now) count bytes.now) }
     ensures marks { OnOk result (AreMarks (drop (length marks.old.items) marks.new.items) count bytes.now) }
-    ensures keeps { OnOk result (Keeps marks.old.items marks.new.items) }
+    ensures keeps { OnOk result (KeepsPlaces marks.old.items marks.new.items) }
     ensures few { OnOk result (length marks.new.items ≤ length marks.old.items + 31) }
 {
     let eights = count.saturating_sub(1) / 8;
@@ -70,7 +70,7 @@ fn pass_entry<'a>(
 ) -> Result<&'a [u8], ReadFault>
     ensures gives { Gives (λ x. x.now) result (after_entry rules.now bytes.now) }
     ensures marks { OnOk result (MarkEntry (drop (length marks.old.items) marks.new.items) bytes.now) }
-    ensures keeps { OnOk result (Keeps marks.old.items marks.new.items) }
+    ensures keeps { OnOk result (KeepsPlaces marks.old.items marks.new.items) }
     ensures few { OnOk result (length marks.new.items ≤ length marks.old.items + 31) }
 {
     let (verb, nouns) = read_byte(bytes)?;

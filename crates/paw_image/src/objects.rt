@@ -3,7 +3,7 @@
 ghost use Rattle.std.specs.Prelude.{◌≡◌, ◌<◌, OnErr};
 ghost use Rattle.paw_game.specs.Image.{weight_byte, object_image};
 ghost use Rattle.paw_image.specs.Damage.{after_facts, after_object};
-ghost use Rattle.paw_image.specs.inner.Reading.{Gives, IsFault, facts_at, object_at};
+ghost use Rattle.paw_image.specs.inner.Reading.{Gives, IsFault, leading_facts, object_at};
 ghost use Rattle.paw_image.specs.inner.Rows.{after_text_facts};
 ghost use Rattle.paw_image.specs.inner.Sizes.{FitsObject};
 
@@ -27,10 +27,10 @@ const CONTAINER_BIT: u8 = 0b0100_0000;
 const WEARABLE_BIT: u8 = 0b1000_0000;
 
 /// What is said of an object beside its text.
-#[tactic(auto, using(crate::proofs::Faults::fault_steps), unfolding(crate::specs::inner::Reading::facts_at))]
+#[tactic(auto, using(crate::proofs::Faults::fault_steps), unfolding(crate::specs::inner::Reading::leading_facts))]
 pub fn read_facts(bytes: &[u8]) -> Result<(ObjectFacts, &[u8]), ReadFault>
-    ensures gives { Gives (λ x. (x.0, x.1.now)) result (facts_at bytes.now) }
-    ensures fails { OnErr result (IsFault (facts_at bytes.now)) }
+    ensures gives { Gives (λ x. (x.0, x.1.now)) result (leading_facts bytes.now) }
+    ensures fails { OnErr result (IsFault (leading_facts bytes.now)) }
 {
     let (noun, rest) = read_byte(bytes)?;
     let (adjective, rest) = read_byte(rest)?;

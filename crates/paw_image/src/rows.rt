@@ -2,7 +2,7 @@
 
 ghost use Rattle.std.specs.Prelude.{◌≡◌, ◌<◌, ◌^◌, ◌++◌, length, OnOk, flat_map};
 ghost use Rattle.std.specs.List.{AllByRecursion};
-ghost use Rattle.paw_image.specs.inner.Reading.{Gives, rows_at};
+ghost use Rattle.paw_image.specs.inner.Reading.{Gives, leading_rows};
 
 use crate::fault::ReadFault;
 use std::alloc::{AllocError, Global};
@@ -44,7 +44,7 @@ pub fn read_rows<R: Row>(
     count: usize,
     bytes: &[u8],
 ) -> Result<(Vec<R>, &[u8]), ReadFault>
-    ensures gives { Gives (λ x. (x.0.items, x.1.now)) result (rows_at R.reading count bytes.now) }
+    ensures gives { Gives (λ x. (x.0.items, x.1.now)) result (leading_rows R.reading count bytes.now) }
 {
     let mut rows = Vec::new(alloc);
     let mut rest = bytes;

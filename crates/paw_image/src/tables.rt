@@ -4,8 +4,9 @@ ghost use Rattle.std.specs.Prelude.{◌≡◌, ◌++◌, IfOk, OnErr, OnOk};
 ghost use Rattle.paw_game.specs.Image.{parameter_image, condact_image, entry_image, table_image};
 ghost use Rattle.paw_image.specs.inner.Sizes.{FitsCondact, FitsEntry, FitsTable};
 ghost use Rattle.paw_image.specs.Damage.{after_parameter, after_condact};
-ghost use Rattle.paw_image.specs.inner.Reading.{Gives, IsFault, code_at, parameter_at, condact_at, entry_at, table_at};
-ghost use Rattle.paw_base.specs.inner.Condacts.{row_of};
+ghost use Rattle.paw_image.specs.inner.Reading.{Gives, IsFault, code_at, parameter_at};
+ghost use Rattle.paw_image.specs.inner.Reading.{leading_condact, leading_entry, leading_table};
+ghost use Rattle.paw_base.specs.inner.Condacts.{condact_row_of};
 
 use crate::fault::ReadFault;
 use crate::fields::{fault_at, read_byte, read_number, write_number};
@@ -21,7 +22,7 @@ use std::alloc::{AllocError, Global};
 fn read_code(bytes: &[u8]) -> Result<((u8, CondactRow), &[u8]), ReadFault>
     ensures gives { Gives (λ x. (x.0.0, x.1.now)) result (code_at bytes.now) }
     ensures fails { OnErr result (IsFault (code_at bytes.now)) }
-    ensures row { IfOk result (λ x. x.0.1 ≡ row_of x.0.0) }
+    ensures row { IfOk result (λ x. x.0.1 ≡ condact_row_of x.0.0) }
 {
     let (code, rest) = read_byte(bytes)?;
     match condact_row(code) {
@@ -53,10 +54,10 @@ fn write_parameter(kind: ParamKind, value: u8, out: &mut Vec<u8>) -> Result<(), 
 }
 
 /// The condact at the front.
-#[tactic(auto, using(crate::proofs::Faults::fault_steps), unfolding(crate::specs::inner::Reading::condact_at))]
+#[tactic(auto, using(crate::proofs::Faults::fault_steps), unfolding(crate::specs::inner::Reading::leading_condact))]
 pub fn read_condact(bytes: &[u8]) -> Result<(Condact, &[u8]), ReadFault>
-    ensures gives { Gives (λ x. (x.0, x.1.now)) result (condact_at bytes.now) }
-    ensures fails { OnErr result (IsFault (condact_at bytes.now)) }
+    ensures gives { Gives (λ x. (x.0, x.1.now)) result (leading_condact bytes.now) }
+    ensures fails { OnErr result (IsFault (leading_condact bytes.now)) }
 {
     let ((code, row), rest) = read_code(bytes)?;
     let (a, rest) = read_parameter(row.first, rest)?;
@@ -65,7 +66,7 @@ pub fn read_condact(bytes: &[u8]) -> Result<(Condact, &[u8]), ReadFault>
 }
 
 impl Row for Condact {
-    ghost reading = { condact_at };
+    ghost reading = { leading_condact };
 
     ghost spelling = { condact_image };
 
@@ -89,13 +90,13 @@ impl Row for Condact {
 }
 
 impl Row for Entry {
-    ghost reading = { entry_at };
+    ghost reading = { leading_entry };
 
     ghost spelling = { entry_image };
 
     ghost fits = { FitsEntry };
 
-    #[tactic(auto, unfolding(crate::specs::inner::Reading::entry_at))]
+    #[tactic(auto, unfolding(crate::specs::inner::Reading::leading_entry))]
     fn read(alloc: Global, bytes: &[u8]) -> Result<(Entry, &[u8]), ReadFault> {
         let (verb, rest) = read_byte(bytes)?;
         let (noun, rest) = read_byte(rest)?;
@@ -121,13 +122,13 @@ impl Row for Entry {
 }
 
 impl Row for Table {
-    ghost reading = { table_at };
+    ghost reading = { leading_table };
 
     ghost spelling = { table_image };
 
     ghost fits = { FitsTable };
 
-    #[tactic(auto, unfolding(crate::specs::inner::Reading::table_at))]
+    #[tactic(auto, unfolding(crate::specs::inner::Reading::leading_table))]
     fn read(alloc: Global, bytes: &[u8]) -> Result<(Table, &[u8]), ReadFault> {
         let (count, rest) = read_number(bytes)?;
         let (entries, rest) = read_rows(alloc, count as usize, rest)?;

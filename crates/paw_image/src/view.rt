@@ -10,7 +10,7 @@ ghost use Rattle.paw_image.specs.Damage.{bad};
 ghost use Rattle.paw_image.specs.Images.{IsImage};
 ghost use Rattle.paw_image.specs.inner.Images.{IfDamaged};
 ghost use Rattle.paw_image.specs.inner.Places.{entries_of, entry_places};
-ghost use Rattle.paw_image.specs.inner.Views.{game_of, rows_begin, span_at, tables_begin_at};
+ghost use Rattle.paw_image.specs.inner.Views.{game_read, rows_begin, span_at, tables_begin_at};
 
 use crate::at_place::{condact_in, entry_in, exit_at, facts_in, head_in, text_in};
 use crate::damage::pass_whole;
@@ -77,7 +77,7 @@ impl<'a> View<'a> {
     /// is that of the first field, in order, that breaks its rule or isn't all there. Memory only for want of memory.
     pub fn new(alloc: Global, bytes: &'a [u8]) -> Result<View<'a>, ImageRefusal>
         ensures bytes { IfOk result (λ view. view ≡ bytes.now) }
-        ensures found { OnOk result (IsImage bytes.now (game_of bytes.now)) }
+        ensures found { OnOk result (IsImage bytes.now (game_read bytes.now)) }
         ensures damaged { IfDamaged result (λ _. (g : GameLists) → ¬ IsImage bytes.now g) }
         ensures at { IfDamaged result (λ at. bad bytes.now ≡ Some at) }
     {
@@ -99,14 +99,14 @@ impl<'a> View<'a> {
     /// The bytes of the image.
     pub fn bytes(&self) -> &'a [u8]
         ensures value { result.now ≡ self.now }
-        ensures image { IsImage self.now (game_of self.now) }
+        ensures image { IsImage self.now (game_read self.now) }
     {
         self.bytes
     }
 
     /// Where a row begins of a part that has texts.
     fn place(&self, part: GamePart, number: u8) -> Option<u32>
-        ensures value { result ≡ slice_get (rows_begin (game_of self.now) part) number }
+        ensures value { result ≡ slice_get (rows_begin (game_read self.now) part) number }
     {
         let places = &self.places;
         let number = number as usize;
@@ -121,7 +121,7 @@ impl<'a> View<'a> {
 
     /// The places of the bytes between which a text stands; None exactly where there is no such text.
     pub fn span(&self, part: GamePart, number: u8) -> Option<(usize, usize)>
-        ensures value { result ≡ span_at (game_of self.now) part number }
+        ensures value { result ≡ span_at (game_read self.now) part number }
     {
         let place = self.place(part, number)?;
         let text = text_in(self.bytes, place)?;
@@ -131,7 +131,7 @@ impl<'a> View<'a> {
 
     /// The bytes of an entry, its verb first; None exactly where there is no such entry.
     pub fn entry(&self, table: u8, number: u16) -> Option<&'a [u8]>
-        ensures value { option_copied result ≡ option_map entry_image (entry_at (game_of self.now) table number) }
+        ensures value { option_copied result ≡ option_map entry_image (entry_at (game_read self.now) table number) }
     {
         let place = entry_place(&self.places.tables, table, number)?;
         entry_in(self.bytes, place)
@@ -139,7 +139,7 @@ impl<'a> View<'a> {
 }
 
 impl<'a> Tables for View<'a> {
-    ghost game = { game_of };
+    ghost game = { game_read };
 
     fn counts(&self) -> Counts {
         self.counts

@@ -2,8 +2,8 @@
 
 ghost use Rattle.paw_game.specs.Image.{word_image};
 ghost use Rattle.std.specs.Prelude.{◌≡◌, [], codes};
-ghost use Rattle.paw_image.specs.Damage.{word_kept, words_kept};
-ghost use Rattle.paw_image.specs.inner.Reading.{Gives, word_at};
+ghost use Rattle.paw_image.specs.Damage.{word_kept, words_above};
+ghost use Rattle.paw_image.specs.inner.Reading.{Gives, leading_word};
 ghost use Rattle.paw_image.specs.inner.Words.{last_letters};
 ghost use Rattle.paw_image.specs.inner.Sizes.{FitsWord};
 
@@ -16,13 +16,13 @@ use paw_game::words::are_letters;
 use std::alloc::{AllocError, Global};
 
 impl Row for Word {
-    ghost reading = { word_at };
+    ghost reading = { leading_word };
 
     ghost spelling = { word_image };
 
     ghost fits = { FitsWord };
 
-    #[tactic(auto, unfolding(crate::specs::inner::Reading::word_at))]
+    #[tactic(auto, unfolding(crate::specs::inner::Reading::leading_word))]
     fn read(_: Global, bytes: &[u8]) -> Result<(Word, &[u8]), ReadFault> {
         let (letters, rest) = read_array(bytes)?;
         let (value, rest) = read_byte(rest)?;
@@ -86,7 +86,7 @@ pub fn read_words(
     count: usize,
     bytes: &[u8],
 ) -> Result<(Vec<Word>, &[u8]), ReadFault>
-    ensures gives { Gives (λ x. (x.0.items, x.1.now)) result (words_kept [] count bytes.now) }
+    ensures gives { Gives (λ x. (x.0.items, x.1.now)) result (words_above [] count bytes.now) }
 {
     let mut words = Vec::new(alloc);
     let mut rest = bytes;

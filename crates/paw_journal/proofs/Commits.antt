@@ -7,10 +7,10 @@ use Rattle.paw_journal.specs.declared.layout.Slot.TheVariants as which
 use Rattle.paw_journal.specs.declared.drafting.SlotState.{SlotState}
 use Rattle.paw_journal.specs.declared.drafting.Draft.{Draft}
 use Rattle.paw_journal.specs.Session.{Shown, recover, recover_by, chosen, slot, slot_shows, stretch, kept_digest, piece_length, state_length}
-use Rattle.paw_journal.specs.inner.Room.{Room, kept_slot, kept_of, with_kept, KeepsSlots, slot_number}
+use Rattle.paw_journal.specs.inner.Room.{Room, kept_slot, kept_of, with_slot_kept, KeepsSlots, slot_number}
 use Rattle.paw_journal.specs.inner.Written.{most_written}
 use Rattle.paw_journal.specs.inner.Steps.{IsFilling, Drafts, written_slot}
-use Rattle.paw_journal.specs.inner.Journal.{IsAtRest, Keeps}
+use Rattle.paw_journal.specs.inner.Journal.{IsAtRest, KeptIn}
 use Rattle.paw_journal.proofs.Recovers.{recover_made}
 use Rattle.paw_journal.proofs.Kept.{IsKept, is_kept, kept_shows, written_piece}
 use Rattle.paw_journal.proofs.Slots.{state_stays, piece_stays}
@@ -50,7 +50,7 @@ module _ (k : ℕ) (draft : Draft) (kept : Option SlotState) (state bytes piece 
 
 -- the states of both slots afterwards
 pub committed_slots : (w : Slot) (x : Option SlotState) (old now : Room) (a b c : List ℕ) → KeepsSlots old a →
-    now.first ≡ (with_kept w x old).first → now.second ≡ (with_kept w x old).second →
+    now.first ≡ (with_slot_kept w x old).first → now.second ≡ (with_slot_kept w x old).second →
     slot (1 - slot_number w) b ≡ slot (1 - slot_number w) a → kept_slot (slot (slot_number w) b) ≡ x →
     ((k : ℕ) → k < 2 → slot k c ≡ slot k b) → KeepsSlots now c
 committed_slots which.First x old now a b c h f g o n same = record {
@@ -77,23 +77,23 @@ pub committed_all : (old mid now bytes piece most : ℕ) → mid ≤ old + (byte
 committed_all old mid now bytes piece most h j k = omega arith
 
 -- the session is kept once it is committed
-same_first : (w : Slot) (x : Option SlotState) (a b : Room) → a.first ≡ b.first → (with_kept w x a).first ≡ (with_kept w x b).first
+same_first : (w : Slot) (x : Option SlotState) (a b : Room) → a.first ≡ b.first → (with_slot_kept w x a).first ≡ (with_slot_kept w x b).first
 same_first which.First x a b e = refl
 same_first which.Second x a b e = e
 
-same_second : (w : Slot) (x : Option SlotState) (a b : Room) → a.second ≡ b.second → (with_kept w x a).second ≡ (with_kept w x b).second
+same_second : (w : Slot) (x : Option SlotState) (a b : Room) → a.second ≡ b.second → (with_slot_kept w x a).second ≡ (with_slot_kept w x b).second
 same_second which.First x a b e = e
 same_second which.Second x a b e = refl
 
 pub committed_keeps : (w : Slot) (x : SlotState) (old drafted held now : Room) (state piece : List ℕ)
     (s t u : Standing) → KeepsSlots old s.disk.bytes → drafted ≡ record old { slot = drafted.slot } →
-    held ≡ record drafted { state = state; piece = piece } → now ≡ with_kept w (Some x) held → IsAtRest u →
+    held ≡ record drafted { state = state; piece = piece } → now ≡ with_slot_kept w (Some x) held → IsAtRest u →
     chosen u.disk.bytes ≡ slot_number w →
     recover u.disk.bytes ≡ Shown (kept_digest s.disk.bytes) (take state_length state) piece →
     kept_digest u.disk.bytes ≡ kept_digest s.disk.bytes →
     slot (1 - slot_number w) t.disk.bytes ≡ slot (1 - slot_number w) s.disk.bytes →
     kept_slot (slot (slot_number w) t.disk.bytes) ≡ Some x →
-    ((k : ℕ) → k < 2 → slot k u.disk.bytes ≡ slot k t.disk.bytes) → Keeps (record { slot = w }) now u
+    ((k : ℕ) → k < 2 → slot k u.disk.bytes ≡ slot k t.disk.bytes) → KeptIn (record { slot = w }) now u
 committed_keeps w x old drafted held now state piece s t u h d e f rests chooses shows digest other new same =
     let a : now.state ≡ state = ap (λ r. r.state) f ∙ (state_stays w (Some x) held ∙ ap (λ r. r.state) e) in
     let b : now.piece ≡ piece = ap (λ r. r.piece) f ∙ (piece_stays w (Some x) held ∙ ap (λ r. r.piece) e) in

@@ -6,7 +6,7 @@ use Rattle.paw_stage.specs.Disk.{put}
 use Rattle.paw_journal.specs.declared.refusal.SessionPart.TheVariants as part
 use Rattle.paw_journal.specs.declared.drafting.SlotState.{SlotState}
 use Rattle.paw_journal.specs.declared.drafting.Draft.{Draft}
-use Rattle.paw_journal.specs.Session.{Damaged, Shown, stretch, number_at, base, changes, changed, first_unsound, slot_changes, slot_state, is_second}
+use Rattle.paw_journal.specs.Session.{Damaged, Shown, stretch, two_byte_number, base, changes, changed, first_unsound, slot_changes, slot_state, is_second}
 use Rattle.paw_journal.specs.inner.Session.{has_state}
 use Rattle.paw_journal.specs.Session.{shown_state, first_length, zeros, slot_piece, slot_shows, shown_unless, most_changes, piece_length, state_length}
 use Rattle.paw_journal.specs.inner.Room.{kept_slot}
@@ -18,7 +18,7 @@ use Rattle.paw_journal.proofs.Turning.{changes-append, changed-append, sound-app
 -- A slot of version 2 has this state, after so many change records.
 pub record IsKept (bytes : List ℕ) (records : ℕ) (state : List ℕ) : Type 0 where
   pub second : is_second bytes ≡ true
-  pub number : number_at 0 bytes ≡ records
+  pub number : two_byte_number 0 bytes ≡ records
   pub few : records ≤ 4096
   pub sound : first_unsound (changes (stretch 69696 (4 * records) bytes)) ≡ None
   pub told : changed (changes (stretch 69696 (4 * records) bytes)) (base bytes) ≡ state
@@ -26,21 +26,21 @@ pub record IsKept (bytes : List ℕ) (records : ℕ) (state : List ℕ) : Type 0
 holds_state : (bytes : List ℕ) (n : ℕ) (unsound : Option ℕ) → n ≤ 4096 → unsound ≡ None → (nat_le n most_changes && is_none unsound) ≡ true
 holds_state bytes n unsound low e = ap (λ o. nat_le n most_changes && is_none o) e ∙ grind (arith, nat_tests)
 
-pub has_state_is : (bytes : List ℕ) → number_at 0 bytes ≤ 4096 → first_unsound (slot_changes bytes) ≡ None → has_state bytes ≡ true
-has_state_is bytes low e = holds_state bytes (number_at 0 bytes) (first_unsound (slot_changes bytes)) low e
+pub has_state_is : (bytes : List ℕ) → two_byte_number 0 bytes ≤ 4096 → first_unsound (slot_changes bytes) ≡ None → has_state bytes ≡ true
+has_state_is bytes low e = holds_state bytes (two_byte_number 0 bytes) (first_unsound (slot_changes bytes)) low e
 
 pub kept_of_both : (bytes : List ℕ) → is_second bytes ≡ true → has_state bytes ≡ true →
-    kept_slot bytes ≡ Some (record { records = number_at 0 bytes; state = slot_state bytes })
-kept_of_both bytes e f = both (is_second bytes) (has_state bytes) (Some (record { records = number_at 0 bytes; state = slot_state bytes })) e f
+    kept_slot bytes ≡ Some (record { records = two_byte_number 0 bytes; state = slot_state bytes })
+kept_of_both bytes e f = both (is_second bytes) (has_state bytes) (Some (record { records = two_byte_number 0 bytes; state = slot_state bytes })) e f
   where
     both : (a b : Bool) (x : Option SlotState) → a ≡ true → b ≡ true → (if a && b then x else None) ≡ x
     both a b x e f = ap (λ t. if t && b then x else None) e ∙ ap (λ t. if t then x else None) f
 
 pub kept_of_first : (bytes : List ℕ) → is_second bytes ≡ false → kept_slot bytes ≡ None
-kept_of_first bytes e = ap (λ t. if t && has_state bytes then Some (record { records = number_at 0 bytes; state = slot_state bytes }) else None) e
+kept_of_first bytes e = ap (λ t. if t && has_state bytes then Some (record { records = two_byte_number 0 bytes; state = slot_state bytes }) else None) e
 
 pub kept_of_broken : (bytes : List ℕ) → has_state bytes ≡ false → kept_slot bytes ≡ None
-kept_of_broken bytes e = neither (is_second bytes) (has_state bytes) (Some (record { records = number_at 0 bytes; state = slot_state bytes })) e
+kept_of_broken bytes e = neither (is_second bytes) (has_state bytes) (Some (record { records = two_byte_number 0 bytes; state = slot_state bytes })) e
   where
     neither : (a b : Bool) (x : Option SlotState) → b ≡ false → (if a && b then x else None) ≡ None
     neither true b x e = ap (λ t. if t then x else None) e
@@ -49,7 +49,7 @@ kept_of_broken bytes e = neither (is_second bytes) (has_state bytes) (Some (reco
 pub kept_is : (bytes : List ℕ) (records : ℕ) (state : List ℕ) → IsKept bytes records state →
     kept_slot bytes ≡ Some (record { records = records; state = state })
 kept_is bytes records state h =
-    let r : stretch 69696 (4 * number_at 0 bytes) bytes ≡ stretch 69696 (4 * records) bytes = ap (λ n. stretch 69696 (4 * n) bytes) h.number in
+    let r : stretch 69696 (4 * two_byte_number 0 bytes) bytes ≡ stretch 69696 (4 * records) bytes = ap (λ n. stretch 69696 (4 * n) bytes) h.number in
     let t : has_state bytes ≡ true = has_state_is bytes (omega (arith, h.number, h.few)) (ap (λ l. first_unsound (changes l)) r ∙ h.sound) in
     let s : slot_state bytes ≡ state = ap (λ l. changed (changes l) (base bytes)) r ∙ h.told in
     kept_of_both bytes h.second t
@@ -63,9 +63,9 @@ tests n (Some k) e = absurd (never (nat_le n most_changes) e)
     never true e = cc
     never false e = cc
 
-pub state_has : (bytes : List ℕ) → is_second bytes ≡ true → has_state bytes ≡ true → IsKept bytes (number_at 0 bytes) (slot_state bytes)
+pub state_has : (bytes : List ℕ) → is_second bytes ≡ true → has_state bytes ≡ true → IsKept bytes (two_byte_number 0 bytes) (slot_state bytes)
 state_has bytes f e =
-    let t = tests (number_at 0 bytes) (first_unsound (slot_changes bytes)) e in
+    let t = tests (two_byte_number 0 bytes) (first_unsound (slot_changes bytes)) e in
     record { second = f; number = refl; few = t.0; sound = t.1; told = refl }
 
 kept_some : (a b : Bool) (x : SlotState) (records : ℕ) (state : List ℕ) →
@@ -78,9 +78,9 @@ kept_some false b x records state e = absurd (cc e)
 pub is_kept : (bytes : List ℕ) (records : ℕ) (state : List ℕ) →
     kept_slot bytes ≡ Some (record { records = records; state = state }) → IsKept bytes records state
 is_kept bytes records state e =
-    let k = kept_some (is_second bytes) (has_state bytes) (record { records = number_at 0 bytes; state = slot_state bytes }) records state e in
+    let k = kept_some (is_second bytes) (has_state bytes) (record { records = two_byte_number 0 bytes; state = slot_state bytes }) records state e in
     let h = state_has bytes k.0 k.1 in
-    let r : stretch 69696 (4 * records) bytes ≡ stretch 69696 (4 * number_at 0 bytes) bytes = ap (λ n. stretch 69696 (4 * n) bytes) (sym k.2) in
+    let r : stretch 69696 (4 * records) bytes ≡ stretch 69696 (4 * two_byte_number 0 bytes) bytes = ap (λ n. stretch 69696 (4 * n) bytes) (sym k.2) in
     record {
       second = k.0;
       number = k.2;
@@ -93,8 +93,8 @@ is_kept bytes records state e =
 pub sound_shows : (digest bytes : List ℕ) → has_state bytes ≡ true → slot_shows digest bytes ≡ Shown digest (shown_state bytes) (slot_piece bytes)
 unfolding slot_shows
 sound_shows digest bytes e =
-    let t = tests (number_at 0 bytes) (first_unsound (slot_changes bytes)) e in
-    ap (λ b. if b then shown_unless digest bytes (first_unsound (slot_changes bytes)) else Damaged part.Slot 0) (low (number_at 0 bytes) t.0)
+    let t = tests (two_byte_number 0 bytes) (first_unsound (slot_changes bytes)) e in
+    ap (λ b. if b then shown_unless digest bytes (first_unsound (slot_changes bytes)) else Damaged part.Slot 0) (low (two_byte_number 0 bytes) t.0)
     ∙ ap (shown_unless digest bytes) t.1
   where
     low : (n : ℕ) → n ≤ 4096 → nat_le n most_changes ≡ true
@@ -103,7 +103,7 @@ sound_shows digest bytes e =
 pub kept_shows : (digest bytes : List ℕ) (records : ℕ) (state : List ℕ) → IsKept bytes records state →
     slot_shows digest bytes ≡ Shown digest (take state_length state) (stretch 4160 (piece_length state) bytes)
 kept_shows digest bytes records state h =
-    let r : stretch 69696 (4 * number_at 0 bytes) bytes ≡ stretch 69696 (4 * records) bytes = ap (λ n. stretch 69696 (4 * n) bytes) h.number in
+    let r : stretch 69696 (4 * two_byte_number 0 bytes) bytes ≡ stretch 69696 (4 * records) bytes = ap (λ n. stretch 69696 (4 * n) bytes) h.number in
     let t : has_state bytes ≡ true = has_state_is bytes (omega (arith, h.number, h.few)) (ap (λ l. first_unsound (changes l)) r ∙ h.sound) in
     let s : slot_state bytes ≡ state = ap (λ l. changed (changes l) (base bytes)) r ∙ h.told in
     sound_shows digest bytes t
@@ -113,7 +113,7 @@ kept_shows digest bytes records state h =
 
 -- ---- a slot that was written ----
 
-head_number : (records : ℕ) (bytes : List ℕ) → records < 65536 → number_at 0 (put 0 (slot_head records) bytes) ≡ records
+head_number : (records : ℕ) (bytes : List ℕ) → records < 65536 → two_byte_number 0 (put 0 (slot_head records) bytes) ≡ records
 head_number records bytes low = whole records (records % 256) (records / 256) refl refl
   where
     whole : (n a b : ℕ) → a ≡ n % 256 → b ≡ n / 256 → a + 256 * b ≡ n
@@ -130,7 +130,7 @@ module _ (records at : ℕ) (bytes piece old : List ℕ) (long : length old ≡ 
   now : List ℕ
   now = put 0 (slot_head records) (put 4160 piece (put at bytes old))
 
-  pub written_number : number_at 0 (put 0 (slot_head records) (put 4160 piece (put at bytes old))) ≡ records
+  pub written_number : two_byte_number 0 (put 0 (slot_head records) (put 4160 piece (put at bytes old))) ≡ records
   written_number = head_number records (put 4160 piece (put at bytes old)) (omega arith)
 
   -- the piece of a slot that was written

@@ -2,7 +2,7 @@
 use Rattle.std.proofs.Common.{◌≡◌, ℕ, ◌+◌, ◌≤◌, List, length, inl, inr, ◌⊎◌, refl, sym, ap, subst, ◌∙◌}
 use Rattle.std.specs.Prelude.{Option, Some}
 use Rattle.paw_stage.specs.Disk.{Disk, IsInWrite, IsStable, touched, stable}
-use Rattle.paw_stage.specs.Stage.{Standing, WritesPart, Files, held, wrote}
+use Rattle.paw_stage.specs.Stage.{Standing, WritesPart, Files, store_holding, wrote}
 use Rattle.paw_stage.specs.Moments.{Moment, InWrite, InSync}
 use Rattle.paw_stage.proofs.Names.{held_other, holds_same}
 use Rattle.paw_journal.specs.Session.{Recovered}
@@ -10,8 +10,8 @@ use Rattle.paw_journal.specs.inner.Steps.{IsWithin}
 use Rattle.paw_journal.specs.inner.Store.{IsBeside, InStore, Leaves}
 use Rattle.paw_journal.proofs.Disks.{within_stable, within_write}
 
-held_same : (attached : Option (List ℕ)) (n bytes : List ℕ) (files : Files) → attached ≡ Some n → held attached bytes files n ≡ Some bytes
-held_same attached n bytes files e = ap (λ a. held a bytes files n) e ∙ holds_same n (Some bytes) files
+held_same : (attached : Option (List ℕ)) (n bytes : List ℕ) (files : Files) → attached ≡ Some n → store_holding attached bytes files n ≡ Some bytes
+held_same attached n bytes files e = ap (λ a. store_holding a bytes files n) e ∙ holds_same n (Some bytes) files
 
 pub beside_none : (s : Standing) → IsBeside s s
 beside_none s = record { lines = refl; asked = refl; shown = refl; attached = refl; files = λ n ne. refl; file = λ n e h. h }

@@ -12,8 +12,8 @@ use Rattle.paw_stage.proofs.Time.{Passes_on}
 use Rattle.paw_journal.specs.declared.drafting.SlotState.{SlotState}
 use Rattle.paw_journal.specs.declared.layout.Slot.{Slot}
 use Rattle.paw_journal.specs.declared.layout.Slot.TheVariants as which
-use Rattle.paw_journal.specs.inner.Journal.{IsAtRest, Keeps}
-use Rattle.paw_journal.specs.inner.Room.{Room, kept_slot, with_kept, KeepsSlots, slot_number}
+use Rattle.paw_journal.specs.inner.Journal.{IsAtRest, KeptIn}
+use Rattle.paw_journal.specs.inner.Room.{Room, kept_slot, with_slot_kept, KeepsSlots, slot_number}
 use Rattle.paw_journal.specs.Session.{Recovered, Shown, IsUnmade, recover, slot_shows, slot, stretch, base, chosen, kept_digest, piece_length, state_length}
 use Rattle.paw_journal.specs.Session.{session_length, slot_length, zeros, made_mark}
 use Rattle.paw_journal.specs.inner.Session.{made_header, made_slot, made_session}
@@ -180,8 +180,8 @@ same_game kept game ne f e = (bytes_eq-Decides kept game).0 (same ne _ f e)
 pub found_keeps : (w : Slot) (digest : List ℕ) (room : Room) (s t : Standing) → IsAtRest s → t ≡ s →
     Introduces (slot_number w) digest s.disk.bytes →
     recover s.disk.bytes ≡ Shown digest (take state_length room.state) room.piece → KeepsSlots room s.disk.bytes →
-    Keeps (record { slot = w }) room t
-found_keeps w digest room s t r e h f slots = subst (λ u. Keeps (record { slot = w }) room u) (sym e) (record {
+    KeptIn (record { slot = w }) room t
+found_keeps w digest room s t r e h f slots = subst (λ u. KeptIn (record { slot = w }) room u) (sym e) (record {
   rests = r;
   chosen = sym h.slot;
   shown = f ∙ ap (λ d. Shown d (take state_length room.state) room.piece) h.digest;
@@ -190,8 +190,8 @@ found_keeps w digest room s t r e h f slots = subst (λ u. Keeps (record { slot 
 
 -- the states of both slots, once both were read
 pub found_slots : (w o : Slot) (bytes a b : List ℕ) (one two three four : Room) (state piece : List ℕ) →
-    slot_number o ≡ 1 - slot_number w → two ≡ with_kept w (kept_slot a) (record one { state = state; piece = piece }) →
-    three ≡ record two { slot = three.slot } → four ≡ with_kept o (kept_slot b) three → a ≡ slot (slot_number w) bytes →
+    slot_number o ≡ 1 - slot_number w → two ≡ with_slot_kept w (kept_slot a) (record one { state = state; piece = piece }) →
+    three ≡ record two { slot = three.slot } → four ≡ with_slot_kept o (kept_slot b) three → a ≡ slot (slot_number w) bytes →
     b ≡ slot (slot_number o) bytes → KeepsSlots four bytes
 found_slots which.First which.Second bytes a b one two three four state piece n e f g h k = record {
   first = ap (λ r. r.first) g ∙ (ap (λ r. r.first) f ∙ (ap (λ r. r.first) e ∙ ap kept_slot h));
@@ -207,7 +207,7 @@ found_slots which.Second which.Second bytes a b one two three four state piece n
 -- what the room shows is what it showed before the other slot was read
 pub shown_stays : (digest : List ℕ) (r : Recovered) (o : Slot) (kept : Option SlotState) (two three four : Room) →
     r ≡ Shown digest (take state_length two.state) two.piece → three ≡ record two { slot = three.slot } →
-    four ≡ with_kept o kept three → r ≡ Shown digest (take state_length four.state) four.piece
+    four ≡ with_slot_kept o kept three → r ≡ Shown digest (take state_length four.state) four.piece
 shown_stays digest r o kept two three four s e f =
     let st : four.state ≡ two.state = ap (λ x. x.state) f ∙ (state_stays o kept three ∙ ap (λ x. x.state) e) in
     let p : four.piece ≡ two.piece = ap (λ x. x.piece) f ∙ (piece_stays o kept three ∙ ap (λ x. x.piece) e) in
@@ -240,7 +240,7 @@ pub made_keeps : (digest state piece bytes : List ℕ) (room : Room) (s t : Stan
     t.attached ≡ s.attached → t.disk ≡ stable bytes → bytes ≡ made_session digest state piece → room.state ≡ state →
     room.piece ≡ piece → room.first ≡ Some (record { records = 0; state = state }) →
     room.second ≡ Some (record { records = 0; state = state }) → length digest ≡ 32 → length state ≡ 4096 →
-    length piece ≤ 65535 → piece_length state ≡ length piece → Keeps (record { slot = which.First }) room t
+    length piece ≤ 65535 → piece_length state ≡ length piece → KeptIn (record { slot = which.First }) room t
 made_keeps digest state piece bytes room s t r a d b e f one two n m few names =
     let h : t.disk.bytes ≡ made_session digest state piece = ap (λ x. x.bytes) d ∙ b in
     let k : kept_digest t.disk.bytes ≡ digest = ap kept_digest h ∙ session_digest digest state piece n in

@@ -4,7 +4,7 @@ use Rattle.std.specs.Prelude.{if◌then◌else◌, nat_le}
 use Rattle.std.proofs.lemmas.List.{length-append, length-take-le, length-drop, get_or-take, get_or_append_left}
 use Rattle.paw_journal.specs.declared.refusal.SessionPart.TheVariants as part
 use Rattle.paw_journal.specs.Session.{Damaged, Shown, recover, chosen, kept_digest, slot, slot_shows, shown_unless, first_unsound, slot_changes, slot_state}
-use Rattle.paw_journal.specs.Session.{slot_piece, shown_state, is_second, number_at, piece_length, most_changes, state_length, first_length, zeros}
+use Rattle.paw_journal.specs.Session.{slot_piece, shown_state, is_second, two_byte_number, piece_length, most_changes, state_length, first_length, zeros}
 use Rattle.paw_journal.proofs.Makes.{length_zeros}
 use Rattle.paw_journal.proofs.Recovers.{shown_made, recover_is, recover_made}
 use Rattle.paw_journal.proofs.Fills.{slot_long}
@@ -46,7 +46,7 @@ by_count digest s d st p false e = absurd (cc e)
 
 by_slot : (digest s d st p : List ℕ) → slot_shows digest s ≡ Shown d st p → (shown_state s ≡ st) × (slot_piece s ≡ p)
 unfolding slot_shows
-by_slot digest s d st p e = by_count digest s d st p (nat_le (number_at 0 s) most_changes) e
+by_slot digest s d st p e = by_count digest s d st p (nat_le (two_byte_number 0 s) most_changes) e
 
 of_chosen : (bytes digest state piece : List ℕ) → recover bytes ≡ Shown digest state piece →
     (shown_state (slot (chosen bytes) bytes) ≡ state) × (slot_piece (slot (chosen bytes) bytes) ≡ piece)

@@ -9,11 +9,11 @@ use Rattle.paw_journal.specs.declared.layout.Slot.{Slot}
 use Rattle.paw_journal.specs.declared.layout.Slot.TheVariants as which
 use Rattle.paw_journal.specs.declared.drafting.SlotState.{SlotState}
 use Rattle.paw_journal.specs.declared.refusal.SessionPart.TheVariants as part
-use Rattle.paw_journal.specs.Session.{Change, Damaged, Shown, piece_length, state_length, first_length, is_second, slot_piece, stretch, number_at, base}
+use Rattle.paw_journal.specs.Session.{Change, Damaged, Shown, piece_length, state_length, first_length, is_second, slot_piece, stretch, two_byte_number, base}
 use Rattle.paw_journal.specs.Session.{changes, changed, first_unsound, slot_changes, slot_state, slot_shows, shown_unless, most_changes, slot}
 use Rattle.paw_journal.specs.inner.Session.{has_state}
 use Rattle.paw_journal.specs.Session.{slot_length, header_length, session_length, zeros}
-use Rattle.paw_journal.specs.inner.Room.{Room, kept_slot, with_kept}
+use Rattle.paw_journal.specs.inner.Room.{Room, kept_slot, with_slot_kept}
 use Rattle.paw_journal.proofs.Kept.{has_state_is, state_has, kept_shows, sound_shows, kept_of_both, kept_of_first, kept_of_broken}
 use Rattle.paw_journal.proofs.Puts.{stretch_long}
 use Rattle.paw_journal.proofs.Makes.{length_zeros}
@@ -43,64 +43,64 @@ read_slot k at n m into rest whole low e p q long r =
     slot_is_whole l k n size low p long e = omega arith
 
 -- what a slot shows, by its change records
-pub too_many : (digest bytes : List ℕ) (count : ℕ) → count ≡ number_at 0 bytes → most_changes < count → slot_shows digest bytes ≡ Damaged part.Slot 0
+pub too_many : (digest bytes : List ℕ) (count : ℕ) → count ≡ two_byte_number 0 bytes → most_changes < count → slot_shows digest bytes ≡ Damaged part.Slot 0
 unfolding slot_shows
 too_many digest bytes count e h =
-    let f : nat_le (number_at 0 bytes) most_changes ≡ false = above (number_at 0 bytes) count e h in
+    let f : nat_le (two_byte_number 0 bytes) most_changes ≡ false = above (two_byte_number 0 bytes) count e h in
     ap (λ b. if b then shown_unless digest bytes (first_unsound (slot_changes bytes)) else Damaged part.Slot 0) f
   where
     above : (n count : ℕ) → count ≡ n → most_changes < count → nat_le n most_changes ≡ false
     above n count e h = grind (arith, nat_tests)
 
-pub few_changes : (digest bytes records : List ℕ) (count : ℕ) (first : Option ℕ) → count ≡ number_at 0 bytes →
+pub few_changes : (digest bytes records : List ℕ) (count : ℕ) (first : Option ℕ) → count ≡ two_byte_number 0 bytes →
     count ≤ most_changes → records ≡ stretch 69696 (4 * count) bytes → first ≡ first_unsound (changes records) →
     slot_shows digest bytes ≡ shown_unless digest bytes first
 unfolding slot_shows
 few_changes digest bytes records count first e h r u =
-    let f : nat_le (number_at 0 bytes) most_changes ≡ true = below (number_at 0 bytes) count e h in
+    let f : nat_le (two_byte_number 0 bytes) most_changes ≡ true = below (two_byte_number 0 bytes) count e h in
     ap (λ b. if b then shown_unless digest bytes (first_unsound (slot_changes bytes)) else Damaged part.Slot 0) f
     ∙ ap (shown_unless digest bytes) (sym (u ∙ (ap (λ l. first_unsound (changes l)) r ∙ ap (λ n. first_unsound (changes (stretch 69696 (4 * n) bytes))) e)))
   where
     below : (n count : ℕ) → count ≡ n → count ≤ most_changes → nat_le n most_changes ≡ true
     below n count e h = grind (arith, nat_tests)
 
-pub state_is : (bytes records old now : List ℕ) (count : ℕ) → count ≡ number_at 0 bytes →
+pub state_is : (bytes records old now : List ℕ) (count : ℕ) → count ≡ two_byte_number 0 bytes →
     records ≡ stretch 69696 (4 * count) bytes → old ≡ base bytes → now ≡ changed (changes records) old →
     now ≡ slot_state bytes
 state_is bytes records old now count e r b n =
     n ∙ (ap (λ l. changed (changes l) old) (r ∙ ap (λ n. stretch 69696 (4 * n) bytes) e) ∙ ap (changed (slot_changes bytes)) b)
 
-pub broken_many : (bytes : List ℕ) (count : ℕ) → count ≡ number_at 0 bytes → most_changes < count → has_state bytes ≡ false
-broken_many bytes count e h = above (number_at 0 bytes) count (is_none (first_unsound (slot_changes bytes))) e h
+pub broken_many : (bytes : List ℕ) (count : ℕ) → count ≡ two_byte_number 0 bytes → most_changes < count → has_state bytes ≡ false
+broken_many bytes count e h = above (two_byte_number 0 bytes) count (is_none (first_unsound (slot_changes bytes))) e h
   where
     above : (n count : ℕ) (b : Bool) → count ≡ n → most_changes < count → (nat_le n most_changes && b) ≡ false
     above n count b e h = let f : nat_le n most_changes ≡ false = grind (arith, nat_tests) in ap (λ t. t && b) f
 
-same_unsound : (bytes records : List ℕ) (count : ℕ) (first : Option ℕ) → count ≡ number_at 0 bytes →
+same_unsound : (bytes records : List ℕ) (count : ℕ) (first : Option ℕ) → count ≡ two_byte_number 0 bytes →
     records ≡ stretch 69696 (4 * count) bytes → first ≡ first_unsound (changes records) →
     first_unsound (slot_changes bytes) ≡ first
 same_unsound bytes records count first e r u =
     sym (u ∙ (ap (λ l. first_unsound (changes l)) r
     ∙ ap (λ n. first_unsound (changes (stretch 69696 (4 * n) bytes))) e))
 
-pub broken_record : (bytes records : List ℕ) (count number : ℕ) → count ≡ number_at 0 bytes →
+pub broken_record : (bytes records : List ℕ) (count number : ℕ) → count ≡ two_byte_number 0 bytes →
     records ≡ stretch 69696 (4 * count) bytes → Some number ≡ first_unsound (changes records) → has_state bytes ≡ false
 broken_record bytes records count number e r u =
-    ap (λ o. nat_le (number_at 0 bytes) most_changes && is_none o)
-    (same_unsound bytes records count (Some number) e r u) ∙ never (nat_le (number_at 0 bytes) most_changes)
+    ap (λ o. nat_le (two_byte_number 0 bytes) most_changes && is_none o)
+    (same_unsound bytes records count (Some number) e r u) ∙ never (nat_le (two_byte_number 0 bytes) most_changes)
   where
     never : (b : Bool) → (b && false) ≡ false
     never true = refl
     never false = refl
 
-pub whole_slot : (bytes records : List ℕ) (count : ℕ) → count ≡ number_at 0 bytes → count ≤ most_changes →
+pub whole_slot : (bytes records : List ℕ) (count : ℕ) → count ≡ two_byte_number 0 bytes → count ≤ most_changes →
     records ≡ stretch 69696 (4 * count) bytes → None ≡ first_unsound (changes records) → has_state bytes ≡ true
 whole_slot bytes records count e low r u = has_state_is bytes (omega (arith, e)) (same_unsound bytes records count None e r u)
 
-pub whole_state : (bytes records old now : List ℕ) (count : ℕ) → count ≡ number_at 0 bytes →
+pub whole_state : (bytes records old now : List ℕ) (count : ℕ) → count ≡ two_byte_number 0 bytes →
     records ≡ stretch 69696 (4 * count) bytes → old ≡ base bytes → now ≡ changed (changes records) old →
     ◌≡◌ {A = SlotState} (record { records = count; state = now })
-    (record { records = number_at 0 bytes; state = slot_state bytes })
+    (record { records = two_byte_number 0 bytes; state = slot_state bytes })
 whole_state bytes records old now count e r b n = let s = state_is bytes records old now count e r b n in cc (e, s)
 
 pub records_are : (count : ℕ) (held bytes : List ℕ) → held ≡ bytes → take (69696 + 4 * count - 69696) (drop 69696 held) ≡ stretch 69696 (4 * count) bytes
@@ -144,11 +144,11 @@ room_behind q r s state piece n a b d e long few f k =
     )
 
 -- what is shown stays in the room while slots are kept in it
-pub state_stays : (w : Slot) (kept : Option SlotState) (room : Room) → (with_kept w kept room).state ≡ room.state
+pub state_stays : (w : Slot) (kept : Option SlotState) (room : Room) → (with_slot_kept w kept room).state ≡ room.state
 state_stays which.First kept room = refl
 state_stays which.Second kept room = refl
 
-pub piece_stays : (w : Slot) (kept : Option SlotState) (room : Room) → (with_kept w kept room).piece ≡ room.piece
+pub piece_stays : (w : Slot) (kept : Option SlotState) (room : Room) → (with_slot_kept w kept room).piece ≡ room.piece
 piece_stays which.First kept room = refl
 piece_stays which.Second kept room = refl
 
@@ -180,7 +180,7 @@ brought_names state n =
 
 -- a slot that was read, and the state that was taken out of it
 module _ (w : Slot) (kept : SlotState) (old shown now : Room) (n : length old.slot ≡ 86080)
-    (t : has_state old.slot ≡ true) (k : kept ≡ record { records = number_at 0 old.slot; state = slot_state old.slot })
+    (t : has_state old.slot ≡ true) (k : kept ≡ record { records = two_byte_number 0 old.slot; state = slot_state old.slot })
   where
     told : kept.state ≡ slot_state old.slot
     told = ap (λ x. x.state) k
@@ -188,21 +188,21 @@ module _ (w : Slot) (kept : SlotState) (old shown now : Room) (n : length old.sl
     -- of version 2
     pub taken_shows : (digest : List ℕ) → is_second old.slot ≡ true →
         shown ≡ record old { state = kept.state; piece = stretch 4160 (piece_length kept.state) old.slot } →
-        now ≡ with_kept w (Some kept) shown →
+        now ≡ with_slot_kept w (Some kept) shown →
         slot_shows digest old.slot ≡ Shown digest (take state_length now.state) now.piece
     taken_shows digest e s f =
         let a : now.state ≡ slot_state old.slot = ap (λ r. r.state) f ∙ (state_stays w (Some kept) shown ∙ (ap (λ r. r.state) s ∙ told)) in
         let b : now.piece ≡ stretch 4160 (piece_length (slot_state old.slot)) old.slot =
         ap (λ r. r.piece) f ∙ (piece_stays w (Some kept) shown
         ∙ (ap (λ r. r.piece) s ∙ ap (λ l. stretch 4160 (piece_length l) old.slot) told)) in
-        kept_shows digest old.slot (number_at 0 old.slot) (slot_state old.slot) (state_has old.slot e t)
+        kept_shows digest old.slot (two_byte_number 0 old.slot) (slot_state old.slot) (state_has old.slot e t)
         ∙ (ap (λ l. Shown digest (take state_length l) (stretch 4160 (piece_length (slot_state old.slot)) old.slot))
         (sym a) ∙ ap (Shown digest (take state_length now.state)) (sym b))
 
     pub taken_kept : is_second old.slot ≡ true →
         shown ≡ record old { state = kept.state; piece = stretch 4160 (piece_length kept.state) old.slot } →
-        now ≡ with_kept w (Some kept) shown →
-        now ≡ with_kept w (kept_slot old.slot) (record old { state = now.state; piece = now.piece })
+        now ≡ with_slot_kept w (Some kept) shown →
+        now ≡ with_slot_kept w (kept_slot old.slot) (record old { state = now.state; piece = now.piece })
     taken_kept e s f =
         let a : now.state ≡ kept.state = ap (λ r. r.state) f ∙ (state_stays w (Some kept) shown ∙ ap (λ r. r.state) s) in
         let b : now.piece ≡ stretch 4160 (piece_length kept.state) old.slot = ap (λ r. r.piece) f ∙ (piece_stays w (Some kept) shown ∙ ap (λ r. r.piece) s) in
@@ -210,13 +210,13 @@ module _ (w : Slot) (kept : SlotState) (old shown now : Room) (n : length old.sl
         let r : shown ≡ record old { state = now.state; piece = now.piece } =
         s ∙ (ap (λ l. record old { state = l; piece = stretch 4160 (piece_length kept.state) old.slot }) (sym a)
         ∙ ap (λ l. record old { state = now.state; piece = l }) (sym b)) in
-        f ∙ (ap (λ x. with_kept w x shown) q ∙ ap (with_kept w (kept_slot old.slot)) r)
+        f ∙ (ap (λ x. with_slot_kept w x shown) q ∙ ap (with_slot_kept w (kept_slot old.slot)) r)
 
     -- of version 1
     pub brought_shows : (digest state : List ℕ) → is_second old.slot ≡ false →
         state ≡ take first_length kept.state ++ zeros 2725 →
         shown ≡ record old { state = state; piece = stretch 4160 (piece_length state) old.slot } →
-        now ≡ with_kept w None shown → slot_shows digest old.slot ≡ Shown digest (take state_length now.state) now.piece
+        now ≡ with_slot_kept w None shown → slot_shows digest old.slot ≡ Shown digest (take state_length now.state) now.piece
     brought_shows digest state e i s f =
         let long : length (slot_state old.slot) ≡ 4096 = state_long old.slot n in
         let st : state ≡ take first_length (slot_state old.slot) ++ zeros 2725 = i ∙ ap (λ l. take first_length l ++ zeros 2725) told in
@@ -232,22 +232,22 @@ module _ (w : Slot) (kept : SlotState) (old shown now : Room) (n : length old.sl
 
     pub brought_kept : (state : List ℕ) → is_second old.slot ≡ false →
         shown ≡ record old { state = state; piece = stretch 4160 (piece_length state) old.slot } →
-        now ≡ with_kept w None shown → now
-        ≡ with_kept w (kept_slot old.slot) (record old { state = now.state; piece = now.piece })
+        now ≡ with_slot_kept w None shown → now
+        ≡ with_slot_kept w (kept_slot old.slot) (record old { state = now.state; piece = now.piece })
     brought_kept state e s f =
         let a : now.state ≡ state = ap (λ r. r.state) f ∙ (state_stays w None shown ∙ ap (λ r. r.state) s) in
         let b : now.piece ≡ stretch 4160 (piece_length state) old.slot = ap (λ r. r.piece) f ∙ (piece_stays w None shown ∙ ap (λ r. r.piece) s) in
         let r : shown ≡ record old { state = now.state; piece = now.piece } =
         s ∙ (ap (λ l. record old { state = l; piece = stretch 4160 (piece_length state) old.slot }) (sym a)
         ∙ ap (λ l. record old { state = now.state; piece = l }) (sym b)) in
-        f ∙ (ap (λ x. with_kept w x shown) (sym (kept_of_first old.slot e)) ∙ ap (with_kept w (kept_slot old.slot)) r)
+        f ∙ (ap (λ x. with_slot_kept w x shown) (sym (kept_of_first old.slot e)) ∙ ap (with_slot_kept w (kept_slot old.slot)) r)
 
 -- what is kept of a slot that was read
 pub kept_is_none : (bytes : List ℕ) → has_state bytes ≡ false → None ≡ kept_slot bytes
 kept_is_none bytes e = sym (kept_of_broken bytes e)
 
 pub kept_is_some : (bytes : List ℕ) (kept : SlotState) → is_second bytes ≡ true → has_state bytes ≡ true →
-    kept ≡ record { records = number_at 0 bytes; state = slot_state bytes } → Some kept ≡ kept_slot bytes
+    kept ≡ record { records = two_byte_number 0 bytes; state = slot_state bytes } → Some kept ≡ kept_slot bytes
 kept_is_some bytes kept e f k = ap Some k ∙ sym (kept_of_both bytes e f)
 
 pub kept_is_first : (bytes : List ℕ) → is_second bytes ≡ false → None ≡ kept_slot bytes

@@ -24,8 +24,8 @@ abbrev pub stretch : ℕ → ℕ → List ℕ → List ℕ
 stretch at n bytes = take n (drop at bytes)
 
 -- The number of 16 bits at a place, its low byte first.
-abbrev pub number_at : ℕ → List ℕ → ℕ
-number_at at bytes = slice_index bytes at + 256 * slice_index bytes (at + 1)
+abbrev pub two_byte_number : ℕ → List ℕ → ℕ
+two_byte_number at bytes = slice_index bytes at + 256 * slice_index bytes (at + 1)
 
 -- The header. The session is made where byte 0 is the mark; the low bit of byte 1 chooses a slot.
 abbrev pub made_mark : ℕ
@@ -89,7 +89,7 @@ changes bytes = []
 
 -- The change records of a slot.
 abbrev pub slot_changes : List ℕ → List Change
-slot_changes bytes = changes (stretch 69696 (4 * number_at 0 bytes) bytes)
+slot_changes bytes = changes (stretch 69696 (4 * two_byte_number 0 bytes) bytes)
 
 -- The number of the first change that isn't sound.
 abbrev pub first_unsound : List Change → Option ℕ
@@ -120,7 +120,7 @@ shown_state bytes =
 
 -- How many bytes the piece of a state has.
 abbrev pub piece_length : List ℕ → ℕ
-piece_length state = number_at 1369 state
+piece_length state = two_byte_number 1369 state
 
 -- The piece of a slot.
 abbrev pub slot_piece : List ℕ → List ℕ
@@ -141,7 +141,7 @@ shown_unless digest bytes None = Shown digest (shown_state bytes) (slot_piece by
 -- What a slot shows, where it doesn't have too many change records.
 unfoldable pub slot_shows : List ℕ → List ℕ → Recovered
 slot_shows digest bytes =
-    if nat_le (number_at 0 bytes) most_changes
+    if nat_le (two_byte_number 0 bytes) most_changes
     then shown_unless digest bytes (first_unsound (slot_changes bytes))
     else Damaged part.Slot 0
 

@@ -14,7 +14,7 @@ ghost use Rattle.paw_journal.specs.inner.Steps.{IsMade, IsFilling, KeepsFilling,
 ghost use Rattle.paw_journal.specs.inner.Steps.{SameSlots, SameDigest, ChoosesSlot};
 ghost use Rattle.paw_journal.specs.inner.Steps.{slot_head, written_slot};
 ghost use Rattle.paw_journal.specs.Journal.{IsWriting};
-ghost use Rattle.paw_journal.specs.inner.Journal.{IsAtRest, failed_call};
+ghost use Rattle.paw_journal.specs.inner.Journal.{IsAtRest, failed_stage_call};
 
 use crate::drafting::Draft;
 use crate::layout::{PIECE_AT, SELECTOR_AT, Slot, VERSION};
@@ -37,7 +37,7 @@ pub(crate) fn write_slot<S: Stage>(
     requires short { length piece.now ≤ piece_limit }
     ensures tells { S.Tells stage.old ↔ S.Tells stage.new }
     ensures cause { IfErr result IsWriting }
-    ensures faulted { Faulted (failed_call result) (S.faults stage.old) (S.faults stage.new) }
+    ensures faulted { Faulted (failed_stage_call result) (S.faults stage.old) (S.faults stage.new) }
     ensures few { Across S.Stage stage.old stage.new (WritesAtMost (length bytes.now + length piece.now + 3)) }
     ensures rests { S.Tells stage.old → OnOk result (IsAtRest (S.standing stage.new)) }
     ensures filled { Once S.Stage stage.old stage.new result (IsFilling (slot_number which)) }
@@ -70,7 +70,7 @@ fn write_part<S: Stage>(
     requires inside { at + length bytes.now ≤ slot_length }
     ensures tells { S.Tells stage.old ↔ S.Tells stage.new }
     ensures cause { IfErr result IsWriting }
-    ensures faulted { Faulted (failed_call result) (S.faults stage.old) (S.faults stage.new) }
+    ensures faulted { Faulted (failed_stage_call result) (S.faults stage.old) (S.faults stage.new) }
     ensures few { Across S.Stage stage.old stage.new (WritesAtMost (length bytes.now)) }
     ensures filling { Once S.Stage stage.old stage.new result (KeepsFilling (slot_number which)) }
     ensures written { Once S.Stage stage.old stage.new result (Fills which (put at bytes.now)) }
@@ -91,7 +91,7 @@ pub(crate) fn choose<S: Stage>(stage: &mut S, which: Slot) -> Result<(), StageCa
     requires long { S.Tells stage.old → length (S.standing stage.old).disk.bytes ≡ session_length }
     ensures tells { S.Tells stage.old ↔ S.Tells stage.new }
     ensures cause { IfErr result IsWriting }
-    ensures faulted { Faulted (failed_call result) (S.faults stage.old) (S.faults stage.new) }
+    ensures faulted { Faulted (failed_stage_call result) (S.faults stage.old) (S.faults stage.new) }
     ensures few { Across S.Stage stage.old stage.new (WritesAtMost 1) }
     ensures rests { S.Tells stage.old → OnOk result (IsAtRest (S.standing stage.new)) }
     ensures slots { Once S.Stage stage.old stage.new result SameSlots }

@@ -6,7 +6,7 @@ ghost use Rattle.paw_stage.specs.Moments.{Still};
 ghost use Rattle.paw_stage.specs.inner.Across.{Throughout};
 ghost use Rattle.paw_journal.specs.Session.{recover, is_version, header_length, session_length};
 ghost use Rattle.paw_journal.specs.inner.Steps.{IsHeaderOf};
-ghost use Rattle.paw_journal.specs.inner.Journal.{IsRefused, IsCaused, refused_call, outside};
+ghost use Rattle.paw_journal.specs.inner.Journal.{IsSessionRefused, IsCaused, refused_call, outside};
 
 use crate::layout::{
     DIGEST_AT, DIGEST_LENGTH, FIRST_VERSION, HEADER_LENGTH, MADE, MARK_AT, SELECTOR_AT,
@@ -36,7 +36,7 @@ pub(crate) fn read_header<S: Stage>(stage: &mut S, size: u64) -> Result<Header, 
     ensures still { S.Tells stage.old → S.standing stage.new ≡ S.standing stage.old }
     ensures introduced { S.Tells stage.old → IfOk result (IsHeaderOf (S.standing stage.old).disk.bytes) }
     ensures refused { S.Tells stage.old → (game : List ℕ) →
-        IfErr result (IsRefused (recover (S.standing stage.old).disk.bytes) game) }
+        IfErr result (IsSessionRefused (recover (S.standing stage.old).disk.bytes) game) }
     ensures time { Throughout S.Stage stage.old stage.new Still }
 {
     if size != SESSION_LENGTH {
@@ -59,7 +59,7 @@ fn unmade<S: Stage>(stage: &mut S, size: u64) -> JournalRefusal
     ensures faulted { Faulted (outside result) (S.faults stage.old) (S.faults stage.new) }
     ensures still { S.Tells stage.old → S.standing stage.new ≡ S.standing stage.old }
     ensures refused { S.Tells stage.old → (game : List ℕ) →
-        IsRefused (recover (S.standing stage.old).disk.bytes) game result }
+        IsSessionRefused (recover (S.standing stage.old).disk.bytes) game result }
     ensures time { Throughout S.Stage stage.old stage.new Still }
 {
     let mut first = [0];
@@ -80,7 +80,7 @@ fn header_in(bytes: &[u8; HEADER_LENGTH]) -> Result<Header, JournalRefusal>
     ensures introduced { (whole : List ℕ) → length whole ≡ session_length → bytes.now ≡ take header_length whole →
         IfOk result (IsHeaderOf whole) }
     ensures refused { (whole game : List ℕ) → length whole ≡ session_length → bytes.now ≡ take header_length whole →
-        IfErr result (IsRefused (recover whole) game) }
+        IfErr result (IsSessionRefused (recover whole) game) }
     ensures cause { IfErr result IsCaused }
     ensures inside { refused_call result ≡ None }
 {

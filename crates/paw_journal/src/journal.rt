@@ -8,9 +8,9 @@ ghost use Rattle.paw_stage.specs.inner.Across.{Once, Throughout};
 ghost use Rattle.paw_journal.specs.Session.{recover, kept_digest, piece_length};
 ghost use Rattle.paw_journal.specs.inner.Written.{WritesLittle};
 ghost use Rattle.paw_journal.specs.inner.Store.{IsBeside, LeavesMade, LeavesOldOr};
-ghost use Rattle.paw_journal.specs.inner.Steps.{HoldsMade, Shows, ShowsNext, SameDigest};
+ghost use Rattle.paw_journal.specs.inner.Steps.{HoldsMade, ShowsIn, ShowsNext, SameDigest};
 ghost use Rattle.paw_journal.specs.Journal.{IsWriting};
-ghost use Rattle.paw_journal.specs.inner.Journal.{IsAtRest, Keeps, Finds, IsCaused, failed_call, refused_call};
+ghost use Rattle.paw_journal.specs.inner.Journal.{IsAtRest, KeptIn, Finds, IsCaused, failed_stage_call, refused_call};
 
 use crate::committing::{choose, write_slot};
 use crate::drafting::SlotState;
@@ -50,12 +50,12 @@ impl Journal {
         requires piece_length { piece_length state.now ≡ length piece.now }
         ensures tells { S.Tells stage.old ↔ S.Tells stage.new }
         ensures cause { IfErr result IsWriting }
-        ensures faulted { Faulted (failed_call result) (S.faults stage.old) (S.faults stage.new) }
+        ensures faulted { Faulted (failed_stage_call result) (S.faults stage.old) (S.faults stage.new) }
         ensures state { OnOk result (room.new.state ≡ state.now) }
         ensures piece { OnOk result (room.new.piece ≡ piece.now) }
         ensures made { S.Tells stage.old → OnOk result (HoldsMade game.now state.now piece.now (S.standing stage.new)) }
-        ensures shown { S.Tells stage.old → OnOk result (Shows game.now state.now piece.now (S.standing stage.new)) }
-        ensures kept { S.Tells stage.old → IfOk result (λ journal. Keeps journal room.new (S.standing stage.new)) }
+        ensures shown { S.Tells stage.old → OnOk result (ShowsIn game.now state.now piece.now (S.standing stage.new)) }
+        ensures kept { S.Tells stage.old → IfOk result (λ journal. KeptIn journal room.new (S.standing stage.new)) }
         ensures digest { S.Tells stage.old → OnOk result (kept_digest (S.standing stage.new).disk.bytes ≡ game.now) }
         ensures beside { Across S.Stage stage.old stage.new IsBeside }
         ensures any_moment { Throughout S.Stage stage.old stage.new (LeavesMade game.now state.now piece.now) }
@@ -87,7 +87,7 @@ impl Journal {
         ensures faulted { Faulted (refused_call result) (S.faults stage.old) (S.faults stage.new) }
         ensures still { S.Tells stage.old → S.standing stage.new ≡ S.standing stage.old }
         ensures found { S.Tells stage.old → Finds (recover (S.standing stage.old).disk.bytes) game.now room.new result }
-        ensures kept { S.Tells stage.old → IfOk result (λ journal. Keeps journal room.new (S.standing stage.new)) }
+        ensures kept { S.Tells stage.old → IfOk result (λ journal. KeptIn journal room.new (S.standing stage.new)) }
         ensures digest { S.Tells stage.old → OnOk result (kept_digest (S.standing stage.new).disk.bytes ≡ game.now) }
         ensures time { Throughout S.Stage stage.old stage.new Still }
     {
@@ -133,16 +133,16 @@ impl Journal {
         state: &[u8; 4096],
         piece: &[u8],
     ) -> Result<Journal, StageCall>
-        requires kept { S.Tells stage.old → Keeps self room.old (S.standing stage.old) }
+        requires kept { S.Tells stage.old → KeptIn self room.old (S.standing stage.old) }
         requires piece_length { piece_length state.now ≡ length piece.now }
         ensures tells { S.Tells stage.old ↔ S.Tells stage.new }
         ensures cause { IfErr result IsWriting }
-        ensures faulted { Faulted (failed_call result) (S.faults stage.old) (S.faults stage.new) }
+        ensures faulted { Faulted (failed_stage_call result) (S.faults stage.old) (S.faults stage.new) }
         ensures few { Across S.Stage stage.old stage.new (WritesLittle self.slot state.now piece.now) }
         ensures state { OnOk result (room.new.state ≡ state.now) }
         ensures piece { OnOk result (room.new.piece ≡ piece.now) }
         ensures shown { Once S.Stage stage.old stage.new result (ShowsNext state.now piece.now) }
-        ensures kept { S.Tells stage.old → IfOk result (λ journal. Keeps journal room.new (S.standing stage.new)) }
+        ensures kept { S.Tells stage.old → IfOk result (λ journal. KeptIn journal room.new (S.standing stage.new)) }
         ensures digest { Once S.Stage stage.old stage.new result SameDigest }
         ensures beside { Across S.Stage stage.old stage.new IsBeside }
         ensures any_moment { Throughout S.Stage stage.old stage.new (LeavesOldOr state.now piece.now) }

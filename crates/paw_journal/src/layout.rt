@@ -1,7 +1,7 @@
 // Where things stand in a session, in bytes.
 
 ghost use Rattle.std.specs.Prelude.{◌≡◌, ◌+◌, ◌-◌, ◌*◌, ◌%◌, ◌<◌, ◌≤◌, length};
-ghost use Rattle.paw_journal.specs.Session.{number_at, header_length, slot_length};
+ghost use Rattle.paw_journal.specs.Session.{two_byte_number, header_length, slot_length};
 ghost use Rattle.paw_journal.specs.inner.Room.{slot_number};
 
 /// The length of a session: a header and two slots.
@@ -53,7 +53,7 @@ pub(crate) const PIECE_LENGTH_AT: usize = 1_369;
 /// The number of 16 bits at a place, its low byte first.
 pub(crate) fn number_at(bytes: &[u8], at: usize) -> usize
     requires { at + 1 < length bytes.now }
-    ensures value { result ≡ number_at at bytes.now }
+    ensures value { result ≡ two_byte_number at bytes.now }
     ensures small { result ≤ 65535 }
 {
     usize::from(bytes[at]) + 256 * usize::from(bytes[at + 1])

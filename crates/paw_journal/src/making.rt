@@ -10,7 +10,7 @@ ghost use Rattle.paw_journal.specs.inner.Session.{marked};
 ghost use Rattle.paw_journal.specs.inner.Store.{IsBeside, HoldsStable, LaysSlots, LeavesUnmade, LeavesMarked};
 ghost use Rattle.paw_journal.specs.inner.Steps.{IsBlank};
 ghost use Rattle.paw_journal.specs.Journal.{IsWriting};
-ghost use Rattle.paw_journal.specs.inner.Journal.{IsAtRest, failed_call};
+ghost use Rattle.paw_journal.specs.inner.Journal.{IsAtRest, failed_stage_call};
 
 use crate::layout::{
     DIGEST_AT, DIGEST_LENGTH, HEADER_LENGTH, MADE, MARK_AT, SELECTOR_AT, Slot, VERSION, VERSION_AT,
@@ -24,7 +24,7 @@ fn begin<S: Stage>(stage: &mut S) -> Result<(), StageCall>
     requires empty { S.Tells stage.old → length (S.standing stage.old).disk.bytes ≡ 0 }
     ensures tells { S.Tells stage.old ↔ S.Tells stage.new }
     ensures cause { IfErr result IsWriting }
-    ensures faulted { Faulted (failed_call result) (S.faults stage.old) (S.faults stage.new) }
+    ensures faulted { Faulted (failed_stage_call result) (S.faults stage.old) (S.faults stage.new) }
     ensures blank { S.Tells stage.old → OnOk result (IsBlank (0 ∷ []) (S.standing stage.new).disk) }
     ensures beside { Across S.Stage stage.old stage.new IsBeside }
     ensures any_moment { Throughout S.Stage stage.old stage.new LeavesUnmade }
@@ -39,7 +39,7 @@ fn write_header<S: Stage>(stage: &mut S, game: &[u8; 32]) -> Result<(), StageCal
     requires blank { S.Tells stage.old → IsBlank (0 ∷ []) (S.standing stage.old).disk }
     ensures tells { S.Tells stage.old ↔ S.Tells stage.new }
     ensures cause { IfErr result IsWriting }
-    ensures faulted { Faulted (failed_call result) (S.faults stage.old) (S.faults stage.new) }
+    ensures faulted { Faulted (failed_stage_call result) (S.faults stage.old) (S.faults stage.new) }
     ensures blank { S.Tells stage.old → OnOk result (IsBlank (made_header 0 game.now) (S.standing stage.new).disk) }
     ensures beside { Across S.Stage stage.old stage.new IsBeside }
     ensures any_moment { Throughout S.Stage stage.old stage.new LeavesUnmade }
@@ -67,7 +67,7 @@ fn write_slots<S: Stage>(stage: &mut S, bytes: &[u8]) -> Result<(), StageCall>
     requires slot { length bytes.now ≡ slot_length }
     ensures tells { S.Tells stage.old ↔ S.Tells stage.new }
     ensures cause { IfErr result IsWriting }
-    ensures faulted { Faulted (failed_call result) (S.faults stage.old) (S.faults stage.new) }
+    ensures faulted { Faulted (failed_stage_call result) (S.faults stage.old) (S.faults stage.new) }
     ensures written { Once S.Stage stage.old stage.new result (LaysSlots bytes.now) }
     ensures beside { Across S.Stage stage.old stage.new IsBeside }
     ensures any_moment { Throughout S.Stage stage.old stage.new LeavesUnmade }
@@ -89,7 +89,7 @@ pub(crate) fn lay_out<S: Stage>(
     requires slot { length bytes.now ≡ slot_length }
     ensures tells { S.Tells stage.old ↔ S.Tells stage.new }
     ensures cause { IfErr result IsWriting }
-    ensures faulted { Faulted (failed_call result) (S.faults stage.old) (S.faults stage.new) }
+    ensures faulted { Faulted (failed_stage_call result) (S.faults stage.old) (S.faults stage.new) }
     ensures laid { Once S.Stage stage.old stage.new result (λ old. HoldsStable (laid_session game.now bytes.now)) }
     ensures beside { Across S.Stage stage.old stage.new IsBeside }
     ensures any_moment { Throughout S.Stage stage.old stage.new LeavesUnmade }
@@ -105,7 +105,7 @@ pub(crate) fn mark<S: Stage>(stage: &mut S) -> Result<(), StageCall>
     requires long { S.Tells stage.old → length (S.standing stage.old).disk.bytes ≡ session_length }
     ensures tells { S.Tells stage.old ↔ S.Tells stage.new }
     ensures cause { IfErr result IsWriting }
-    ensures faulted { Faulted (failed_call result) (S.faults stage.old) (S.faults stage.new) }
+    ensures faulted { Faulted (failed_stage_call result) (S.faults stage.old) (S.faults stage.new) }
     ensures marked { Once S.Stage stage.old stage.new result (λ old. HoldsStable (marked old.disk.bytes)) }
     ensures beside { Across S.Stage stage.old stage.new IsBeside }
     ensures any_moment { Throughout S.Stage stage.old stage.new LeavesMarked }

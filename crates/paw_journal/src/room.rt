@@ -8,10 +8,10 @@ ghost use Rattle.paw_stage.specs.Moments.{Still};
 ghost use Rattle.paw_stage.specs.inner.Across.{Throughout};
 ghost use Rattle.paw_journal.specs.Session.{slot_length, session_length, zeros};
 ghost use Rattle.paw_journal.specs.inner.Session.{has_state, made_slot, IsDamagedAt};
-ghost use Rattle.paw_journal.specs.inner.Room.{kept_slot, kept_of, with_kept, with_made, with_state, state_in};
+ghost use Rattle.paw_journal.specs.inner.Room.{kept_slot, kept_of, with_slot_kept, with_made, with_state, state_in};
 ghost use Rattle.paw_journal.specs.inner.Room.{HasRead, ShowsSlot, KeepsRead};
 ghost use Rattle.paw_journal.specs.inner.Steps.{Drafts};
-ghost use Rattle.paw_journal.specs.inner.Journal.{failed_call};
+ghost use Rattle.paw_journal.specs.inner.Journal.{failed_stage_call};
 
 use crate::drafting::{Draft, SlotState, draft_over};
 use crate::layout::{
@@ -113,7 +113,7 @@ impl Room {
 
     /// Keeps this state of a slot from now on.
     pub(crate) fn keep(&mut self, which: Slot, kept: Option<SlotState>)
-        ensures value { self.new ≡ with_kept which kept self.old }
+        ensures value { self.new ≡ with_slot_kept which kept self.old }
     {
         match which {
             Slot::First => self.first = kept,
@@ -201,7 +201,7 @@ impl Room {
         requires whole { S.Tells stage.old → length (S.standing stage.old).disk.bytes ≡ session_length }
         ensures tells { S.Tells stage.old ↔ S.Tells stage.new }
         ensures cause { IfErr result (λ c. c ≡ call.Read) }
-        ensures faulted { Faulted (failed_call result) (S.faults stage.old) (S.faults stage.new) }
+        ensures faulted { Faulted (failed_stage_call result) (S.faults stage.old) (S.faults stage.new) }
         ensures still { S.Tells stage.old → S.standing stage.new ≡ S.standing stage.old }
         ensures same { self.new ≡ record self.old { slot = self.new.slot } }
         ensures read { S.Tells stage.old → OnOk result (HasRead which (S.standing stage.old) self.new) }
@@ -248,7 +248,7 @@ impl Room {
     /// Keeps the state of this slot, which was read, where it has one.
     pub(crate) fn look(&mut self, which: Slot)
         requires whole { length self.old.slot ≡ slot_length }
-        ensures kept { self.new ≡ with_kept which (kept_slot self.old.slot) self.old }
+        ensures kept { self.new ≡ with_slot_kept which (kept_slot self.old.slot) self.old }
     {
         let kept = kept_in(self.slot());
         self.keep(which, kept);

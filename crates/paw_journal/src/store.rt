@@ -9,7 +9,7 @@ ghost use Rattle.paw_stage.specs.Moments.{Still, InAttach, InWrite, InSync};
 ghost use Rattle.paw_stage.specs.Across.{Across};
 ghost use Rattle.paw_stage.specs.inner.Across.{Once, Throughout};
 ghost use Rattle.paw_journal.specs.inner.Store.{IsBeside, Opens};
-ghost use Rattle.paw_journal.specs.inner.Journal.{IsAtRest, failed_call};
+ghost use Rattle.paw_journal.specs.inner.Journal.{IsAtRest, failed_stage_call};
 
 use paw_stage::{Stage, StageCall};
 
@@ -28,7 +28,7 @@ pub fn attach<S: Stage>(stage: &mut S, name: &str) -> Result<Attached, StageCall
     requires synced { S.Tells stage.old → IsStable (S.standing stage.old).disk }
     ensures tells { S.Tells stage.old ↔ S.Tells stage.new }
     ensures cause { IfErr result (λ c. c ≡ call.Attach) }
-    ensures faulted { Faulted (failed_call result) (S.faults stage.old) (S.faults stage.new) }
+    ensures faulted { Faulted (failed_stage_call result) (S.faults stage.old) (S.faults stage.new) }
     ensures attached { S.Tells stage.old → IfOk result (Opens (S.standing stage.old) (S.standing stage.new) name.now) }
     ensures length { S.Tells stage.old → IfOk result (λ at. at.length ≡ length (S.standing stage.new).disk.bytes) }
     ensures rests { S.Tells stage.old → OnOk result (IsAtRest (S.standing stage.new)) }
@@ -50,7 +50,7 @@ pub(crate) fn read<S: Stage>(stage: &mut S, at: u64, into: &mut [u8]) -> Result<
     requires within { S.Tells stage.old → at + length into.old ≤ length (S.standing stage.old).disk.bytes }
     ensures tells { S.Tells stage.old ↔ S.Tells stage.new }
     ensures cause { IfErr result (λ c. c ≡ call.Read) }
-    ensures faulted { Faulted (failed_call result) (S.faults stage.old) (S.faults stage.new) }
+    ensures faulted { Faulted (failed_stage_call result) (S.faults stage.old) (S.faults stage.new) }
     ensures still { S.Tells stage.old → S.standing stage.new ≡ S.standing stage.old }
     ensures read { S.Tells stage.old → OnOk result (into.new ≡ part_of (S.standing stage.old) at (length into.old)) }
     ensures time { Throughout S.Stage stage.old stage.new Still }
@@ -70,7 +70,7 @@ pub(crate) fn write<S: Stage>(stage: &mut S, at: u64, bytes: &[u8]) -> Result<()
     requires within { S.Tells stage.old → at ≤ length (S.standing stage.old).disk.bytes }
     ensures tells { S.Tells stage.old ↔ S.Tells stage.new }
     ensures cause { IfErr result (λ c. c ≡ call.Write) }
-    ensures faulted { Faulted (failed_call result) (S.faults stage.old) (S.faults stage.new) }
+    ensures faulted { Faulted (failed_stage_call result) (S.faults stage.old) (S.faults stage.new) }
     ensures few { Across S.Stage stage.old stage.new (WritesAtMost (length bytes.now)) }
     ensures written { Once S.Stage stage.old stage.new result (λ old new. new ≡ with_written at bytes.now old) }
     ensures part { Across S.Stage stage.old stage.new (λ old new. OnErr result (WritesSome old new at bytes.now)) }
@@ -89,7 +89,7 @@ pub(crate) fn write<S: Stage>(stage: &mut S, at: u64, bytes: &[u8]) -> Result<()
 pub(crate) fn sync<S: Stage>(stage: &mut S) -> Result<(), StageCall>
     ensures tells { S.Tells stage.old ↔ S.Tells stage.new }
     ensures cause { IfErr result (λ c. c ≡ call.Sync) }
-    ensures faulted { Faulted (failed_call result) (S.faults stage.old) (S.faults stage.new) }
+    ensures faulted { Faulted (failed_stage_call result) (S.faults stage.old) (S.faults stage.new) }
     ensures few { S.Tells stage.old → (S.standing stage.new).written ≡ (S.standing stage.old).written }
     ensures synced { Once S.Stage stage.old stage.new result (λ old new. new ≡ settled old) }
     ensures part { S.Tells stage.old → OnErr result (S.standing stage.new ≡ S.standing stage.old) }

@@ -4,7 +4,7 @@ ghost use Rattle.std.specs.Prelude.{◌≡◌, ◌↔◌, ◌<◌, ◌≤◌, tr
 ghost use Rattle.paw_stage.specs.Disk.{IsStable};
 ghost use Rattle.paw_stage.specs.inner.Memory.{standing_of};
 ghost use Rattle.paw_journal.specs.Session.{piece_length};
-ghost use Rattle.paw_journal.specs.inner.Journal.{Keeps};
+ghost use Rattle.paw_journal.specs.inner.Journal.{KeptIn};
 
 use crate::layout::{PIECE_LENGTH_AT, number_at};
 use crate::{Journal, JournalRefusal, Room, SessionPart, attach, digest};
@@ -245,7 +245,7 @@ fn goes_on<S: Stage>(
     turns: u32,
     many: usize,
 ) -> bool
-    requires kept { S.Tells stage.old → Keeps made room.old (S.standing stage.old) }
+    requires kept { S.Tells stage.old → KeptIn made room.old (S.standing stage.old) }
     requires many { many ≤ 1000 }
 {
     let mut journal = made;
@@ -266,10 +266,10 @@ fn takes<S: Stage>(
     turn: u32,
     many: usize,
 ) -> Result<Journal, StageCall>
-    requires kept { S.Tells stage.old → Keeps journal room.old (S.standing stage.old) }
+    requires kept { S.Tells stage.old → KeptIn journal room.old (S.standing stage.old) }
     requires many { many ≤ 1000 }
     ensures tells { S.Tells stage.old ↔ S.Tells stage.new }
-    ensures kept { S.Tells stage.old → IfOk result (λ next. Keeps next room.new (S.standing stage.new)) }
+    ensures kept { S.Tells stage.old → IfOk result (λ next. KeptIn next room.new (S.standing stage.new)) }
 {
     let mut state = state_of(0, b"OK.");
     for i in 0..many {

@@ -11,7 +11,7 @@ use Rattle.paw_phrase.specs.declared.next.Part.TheVariants as part
 use Rattle.paw_phrase.specs.declared.next.Draft.{Draft}
 use Rattle.paw_phrase.specs.Phrase.{Mark, marks, is_parting, from_phrase, token_of, phrase_tokens, bytes_after, Phrase, phrase_of, phrase}
 use Rattle.paw_phrase.specs.Sentence.{blank, with_word, with_tokens, has_known, finished, Parsed, IsSentence, IsUnknown, IsNoPhrase, parsed_phrase, parsed}
-use Rattle.paw_phrase.specs.inner.Draft.{part_of_word, part_of, with_part, started, outcome}
+use Rattle.paw_phrase.specs.inner.Draft.{part_of_word, phrase_part_of, with_part, started, draft_outcome}
 
 -- after a part the draft goes on, or its phrase has ended
 abbrev pub after_part : Option Draft → Parsed → (Draft → Parsed) → Parsed
@@ -20,8 +20,8 @@ after_part (Some d) stop go = go d
 
 -- what a draft comes to that is read on over these marks
 unfoldable pub along : GameLists → ℕ → List Mark → Draft → Parsed
-along g e [] d = outcome e d []
-along g e (m ∷ ms) d = after_part (with_part (part_of g m.token) d) (outcome e d m.after) (along g e ms)
+along g e [] d = draft_outcome e d []
+along g e (m ∷ ms) d = after_part (with_part (phrase_part_of g m.token) d) (draft_outcome e d m.after) (along g e ms)
 
 -- what a part says of the tokens that begin with it
 abbrev Means : GameLists → Option (List ℕ) → Part → Type 0
@@ -39,7 +39,7 @@ word_means : (g : GameLists) (letters : List ℕ) → (word : Option (ℕ × ℕ
 word_means g letters None e = (rw e refl, λ ts s. rw e refl, λ ts. rw e refl)
 word_means g letters (Some word) e = known_means g letters word e (eqb word.1 5) refl
 
-means : (g : GameLists) (t : Option (List ℕ)) → Means g t (part_of g t)
+means : (g : GameLists) (t : Option (List ℕ)) → Means g t (phrase_part_of g t)
 means g None = refl
 means g (Some letters) = word_means g letters (word_at g letters) refl
 
@@ -51,7 +51,7 @@ abbrev parsed_tokens : GameLists → ℕ → Sentence → List (List ℕ) → Li
 parsed_tokens g e s ts rest = cond (has_known g ts) (IsSentence (finished e (with_tokens g ts s)) rest) (IsUnknown rest)
 
 -- a part after a known word
-part_of_sentence : (g : GameLists) (e : ℕ) (m : Mark) (ms : List Mark) → ((s : Sentence) → along g e ms (draft found.Sentence s) ≡ IsSentence (finished e (with_tokens g (phrase_tokens g ms) s)) (bytes_after g ms)) → (s : Sentence) (p : Part) → Means g m.token p → after_part (with_part p (draft found.Sentence s)) (outcome e (draft found.Sentence s) m.after) (along g e ms) ≡ IsSentence (finished e (with_tokens g (phrase_tokens g (m ∷ ms)) s)) (bytes_after g (m ∷ ms))
+part_of_sentence : (g : GameLists) (e : ℕ) (m : Mark) (ms : List Mark) → ((s : Sentence) → along g e ms (draft found.Sentence s) ≡ IsSentence (finished e (with_tokens g (phrase_tokens g ms) s)) (bytes_after g ms)) → (s : Sentence) (p : Part) → Means g m.token p → after_part (with_part p (draft found.Sentence s)) (draft_outcome e (draft found.Sentence s) m.after) (along g e ms) ≡ IsSentence (finished e (with_tokens g (phrase_tokens g (m ∷ ms)) s)) (bytes_after g (m ∷ ms))
 part_of_sentence g e m ms again s part.Break h = rw h refl
 part_of_sentence g e m ms again s part.Unknown h = again s ∙ rw (h.0) (ap (λ x. IsSentence (finished e x) (bytes_after g ms)) (sym (h.1 (phrase_tokens g ms) s)))
 part_of_sentence g e m ms again s (part.Word value class) h = again (with_word value class s) ∙ rw (h.0) (ap (λ x. IsSentence (finished e x) (bytes_after g ms)) (sym (h.1 (phrase_tokens g ms) s)))
@@ -60,7 +60,7 @@ part_of_sentence g e m ms again s (part.Word value class) h = again (with_word v
 with_known_word : (g : GameLists) (e : ℕ) (ms : List Mark) (s : Sentence) → along g e ms (draft found.Sentence s) ≡ IsSentence (finished e (with_tokens g (phrase_tokens g ms) s)) (bytes_after g ms)
 unfolding along
 with_known_word g e [] s = refl
-with_known_word g e (m ∷ ms) s = part_of_sentence g e m ms (with_known_word g e ms) s (part_of g m.token) (means g m.token)
+with_known_word g e (m ∷ ms) s = part_of_sentence g e m ms (with_known_word g e ms) s (phrase_part_of g m.token) (means g m.token)
 
 parsed_tokens_are : (g : GameLists) (e : ℕ) (s x : Sentence) (ts : List (List ℕ)) (rest : List ℕ) (b : Bool) → has_known g ts ≡ b → with_tokens g ts s ≡ x → parsed_tokens g e s ts rest ≡ cond b (IsSentence (finished e x) rest) (IsUnknown rest)
 parsed_tokens_are g e s x ts rest b known words =
@@ -68,7 +68,7 @@ parsed_tokens_are g e s x ts rest b known words =
     ∙ ap (λ y. cond b (IsSentence (finished e y) rest) (IsUnknown rest)) words
 
 -- a part after unknown tokens alone
-part_of_unknown : (g : GameLists) (e : ℕ) (m : Mark) (ms : List Mark) → ((s : Sentence) → along g e ms (draft found.Nothing s) ≡ parsed_tokens g e s (phrase_tokens g ms) (bytes_after g ms)) → (s : Sentence) (p : Part) → Means g m.token p → after_part (with_part p (draft found.Nothing s)) (outcome e (draft found.Nothing s) m.after) (along g e ms) ≡ parsed_tokens g e s (phrase_tokens g (m ∷ ms)) (bytes_after g (m ∷ ms))
+part_of_unknown : (g : GameLists) (e : ℕ) (m : Mark) (ms : List Mark) → ((s : Sentence) → along g e ms (draft found.Nothing s) ≡ parsed_tokens g e s (phrase_tokens g ms) (bytes_after g ms)) → (s : Sentence) (p : Part) → Means g m.token p → after_part (with_part p (draft found.Nothing s)) (draft_outcome e (draft found.Nothing s) m.after) (along g e ms) ≡ parsed_tokens g e s (phrase_tokens g (m ∷ ms)) (bytes_after g (m ∷ ms))
 part_of_unknown g e m ms again s part.Break h = rw h refl
 part_of_unknown g e m ms again s part.Unknown h =
     let ts = phrase_tokens g ms in
@@ -84,7 +84,7 @@ part_of_unknown g e m ms again s (part.Word value class) h =
 with_no_word : (g : GameLists) (e : ℕ) (ms : List Mark) (s : Sentence) → along g e ms (draft found.Nothing s) ≡ parsed_tokens g e s (phrase_tokens g ms) (bytes_after g ms)
 unfolding along
 with_no_word g e [] s = refl
-with_no_word g e (m ∷ ms) s = part_of_unknown g e m ms (with_no_word g e ms) s (part_of g m.token) (means g m.token)
+with_no_word g e (m ∷ ms) s = part_of_unknown g e m ms (with_no_word g e ms) s (phrase_part_of g m.token) (means g m.token)
 
 abbrev parsed_from : GameLists → ℕ → Sentence → Option Phrase → Parsed
 parsed_from g e s None = IsNoPhrase
@@ -94,7 +94,7 @@ parsed_from-token : (g : GameLists) (e : ℕ) (m : Mark) (ms : List Mark) (s : S
 parsed_from-token g e m ms s h = rw h (rw h refl)
 
 -- a part before the phrase
-part_of_nothing : (g : GameLists) (e : ℕ) (m : Mark) (ms : List Mark) → ((s : Sentence) → along g e ms (draft found.Empty s) ≡ parsed_from g e s (phrase_of g (from_phrase g ms))) → (s : Sentence) (p : Part) → Means g m.token p → after_part (with_part p (draft found.Empty s)) (outcome e (draft found.Empty s) m.after) (along g e ms) ≡ parsed_from g e s (phrase_of g (from_phrase g (m ∷ ms)))
+part_of_nothing : (g : GameLists) (e : ℕ) (m : Mark) (ms : List Mark) → ((s : Sentence) → along g e ms (draft found.Empty s) ≡ parsed_from g e s (phrase_of g (from_phrase g ms))) → (s : Sentence) (p : Part) → Means g m.token p → after_part (with_part p (draft found.Empty s)) (draft_outcome e (draft found.Empty s) m.after) (along g e ms) ≡ parsed_from g e s (phrase_of g (from_phrase g (m ∷ ms)))
 part_of_nothing g e m ms again s part.Break h = again s ∙ rw h refl
 part_of_nothing g e m ms again s part.Unknown h =
     let ts = phrase_tokens g ms in
@@ -110,7 +110,7 @@ part_of_nothing g e m ms again s (part.Word value class) h =
 with_no_token : (g : GameLists) (e : ℕ) (ms : List Mark) (s : Sentence) → along g e ms (draft found.Empty s) ≡ parsed_from g e s (phrase_of g (from_phrase g ms))
 unfolding along
 with_no_token g e [] s = refl
-with_no_token g e (m ∷ ms) s = part_of_nothing g e m ms (with_no_token g e ms) s (part_of g m.token) (means g m.token)
+with_no_token g e (m ∷ ms) s = part_of_nothing g e m ms (with_no_token g e ms) s (phrase_part_of g m.token) (means g m.token)
 
 parsed_from-phrase : (g : GameLists) (e n a : ℕ) (p : Option Phrase) → parsed_from g e (blank n a) p ≡ parsed_phrase g e n a p
 parsed_from-phrase g e n a None = refl
@@ -121,18 +121,18 @@ unfolding parsed
 along-started g bytes e n a = with_no_token g e (marks bytes) (blank n a) ∙ parsed_from-phrase g e n a (phrase g bytes)
 
 -- one mark more is read, from the bytes from i on
-pub along-mark : (g : GameLists) (e : ℕ) (s : List ℕ) (i k : ℕ) (t : Option (List ℕ)) (d : Draft) (p : Part) (next : Option Draft) (whole : Parsed) → whole ≡ along g e (marks (drop i s)) d → marks (take (length s - i) (drop i s)) ≡ record { token = t; after = drop k (take (length s - i) (drop i s)) } ∷ marks (drop k (take (length s - i) (drop i s))) → p ≡ part_of g t → next ≡ with_part p d → whole ≡ after_part next (outcome e d (drop (i + k) s)) (along g e (marks (drop (i + k) s)))
+pub along-mark : (g : GameLists) (e : ℕ) (s : List ℕ) (i k : ℕ) (t : Option (List ℕ)) (d : Draft) (p : Part) (next : Option Draft) (whole : Parsed) → whole ≡ along g e (marks (drop i s)) d → marks (take (length s - i) (drop i s)) ≡ record { token = t; after = drop k (take (length s - i) (drop i s)) } ∷ marks (drop k (take (length s - i) (drop i s))) → p ≡ phrase_part_of g t → next ≡ with_part p d → whole ≡ after_part next (draft_outcome e d (drop (i + k) s)) (along g e (marks (drop (i + k) s)))
 unfolding along
 along-mark g e s i k t d p next whole so_far first is_part is_next =
     let here : marks (drop i s) ≡ record { token = t; after = drop (i + k) s } ∷ marks (drop (i + k) s) = rw (take_rest s i, drop-drop k i s) at first in
     let go = along g e (marks (drop (i + k) s)) in
     so_far
     ∙ ap (λ ms. along g e ms d) here
-    ∙ ap (λ x. after_part x (outcome e d (drop (i + k) s)) go) (sym (is_next ∙ ap (λ q. with_part q d) is_part))
+    ∙ ap (λ x. after_part x (draft_outcome e d (drop (i + k) s)) go) (sym (is_next ∙ ap (λ q. with_part q d) is_part))
 
 -- no mark is left
-pub along-end : (g : GameLists) (e : ℕ) (s : List ℕ) (i : ℕ) (d : Draft) (whole : Parsed) → whole ≡ along g e (marks (drop i s)) d → marks (take (length s - i) (drop i s)) ≡ [] → whole ≡ outcome e d (drop (length s) s)
+pub along-end : (g : GameLists) (e : ℕ) (s : List ℕ) (i : ℕ) (d : Draft) (whole : Parsed) → whole ≡ along g e (marks (drop i s)) d → marks (take (length s - i) (drop i s)) ≡ [] → whole ≡ draft_outcome e d (drop (length s) s)
 unfolding along
 along-end g e s i d whole so_far none =
     let here : marks (drop i s) ≡ [] = rw take_rest at none in
-    so_far ∙ ap (λ ms. along g e ms d) here ∙ ap (outcome e d) (sym (drop_all (length s) s (omega arith)))
+    so_far ∙ ap (λ ms. along g e ms d) here ∙ ap (draft_outcome e d) (sym (drop_all (length s) s (omega arith)))

@@ -2,7 +2,7 @@
 
 ghost use Rattle.std.specs.Prelude.{◌≡◌, ◌≤◌, ℕ, length, drop};
 ghost use Rattle.paw_phrase.specs.Sentence.{parsed};
-ghost use Rattle.paw_phrase.specs.inner.Draft.{part_of, or_nothing, with_part, outcome};
+ghost use Rattle.paw_phrase.specs.inner.Draft.{phrase_part_of, or_nothing, with_part, draft_outcome};
 ghost use Rattle.paw_phrase.specs.inner.Taking.{TakesPhrase};
 
 use crate::line::Pending;
@@ -34,7 +34,7 @@ struct Reading {
 }
 
 fn part_of<T: Tables>(tables: &T, token: Option<[u8; LETTERS]>) -> Part
-    ensures value { result ≡ part_of (T.game tables.now) token }
+    ensures value { result ≡ phrase_part_of (T.game tables.now) token }
 {
     match token {
         None => Part::Break,
@@ -86,7 +86,7 @@ impl Draft {
 fn read_phrase<T: Tables>(tables: &T, bytes: &[u8], noun: u8, adjective: u8) -> Reading
     ensures within { result.end ≤ length bytes.now }
     ensures value { (earlier : ℕ) → parsed (T.game tables.now) bytes.now earlier noun adjective
-        ≡ outcome earlier result.draft (drop result.end bytes.now) }
+        ≡ draft_outcome earlier result.draft (drop result.end bytes.now) }
 {
     let mut draft = Draft {
         found: Found::Empty,

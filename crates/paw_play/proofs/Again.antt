@@ -10,11 +10,11 @@ use Rattle.paw_reading.specs.Turn.{text_of}
 use Rattle.paw_journal.specs.Session.{recover}
 use Rattle.paw_state.specs.State.{State}
 use Rattle.paw_stage.specs.declared.StageCall.{StageCall}
-use Rattle.paw_journal.specs.inner.Journal.{IsRefused, IsCaused, outside}
+use Rattle.paw_journal.specs.inner.Journal.{IsSessionRefused, IsCaused, outside}
 use Rattle.paw_journal.specs.declared.refusal.JournalRefusal.{JournalRefusal}
 use Rattle.paw_journal.specs.declared.refusal.JournalRefusal.TheVariants as refusal
 use Rattle.paw_play.specs.Calls.{IsSessionCall}
-use Rattle.paw_play.specs.inner.Calls.{IfOutside, failed_call}
+use Rattle.paw_play.specs.inner.Calls.{IfEndOutside, call_of_end}
 use Rattle.paw_play.specs.Session.{IsKept}
 use Rattle.paw_play.specs.Play.{InPlay, InAgain, ShowsState, attached_to, store_bytes, going_on, kept_session, PlaysAgain, refused, unread}
 use Rattle.paw_play.specs.inner.OnTheWay.{end_of}
@@ -72,21 +72,21 @@ module _ (g : Story) (digest name : List ℕ) (st : State) (piece : List ℕ) (o
 -- ---- where there is no session ----
 
 module _ (g : Story) (digest name : List ℕ) (old new : Standing) where
-  pub refused_again : (r : JournalRefusal) → IsRefused (recover (store_bytes old name)) digest r → IsCaused r →
+  pub refused_again : (r : JournalRefusal) → IsSessionRefused (recover (store_bytes old name)) digest r → IsCaused r →
       new ≡ attached_to old name → PlaysAgain g digest name old new (end_of r)
   refused_again (refusal.Unmade n mark) h c e = refused (refusal.Unmade n mark) h e
   refused_again (refusal.Damaged part at) h c e = refused (refusal.Damaged part at) h e
   refused_again (refusal.WrongGame kept found) h c e = refused (refusal.WrongGame kept found) h e
   refused_again (refusal.Outside q) h c e = rw c (unread e)
 
-pub outside_again : (r : JournalRefusal) → IsCaused r → IfOutside (end_of r) IsSessionCall
+pub outside_again : (r : JournalRefusal) → IsCaused r → IfEndOutside (end_of r) IsSessionCall
 outside_again (refusal.Unmade n mark) c = tt
 outside_again (refusal.Damaged part at) c = tt
 outside_again (refusal.WrongGame kept found) c = tt
 outside_again (refusal.Outside q) c = rw c tt
 
 -- a search that found no session came to its end by the call that failed
-pub refused_faults : (r : JournalRefusal) (before after : StageCall → ℕ) → Faulted (outside r) before after → Faulted (failed_call (end_of r)) before after
+pub refused_faults : (r : JournalRefusal) (before after : StageCall → ℕ) → Faulted (outside r) before after → Faulted (call_of_end (end_of r)) before after
 refused_faults (refusal.Unmade n mark) before after h = h
 refused_faults (refusal.Damaged part at) before after h = h
 refused_faults (refusal.WrongGame kept found) before after h = h

@@ -8,7 +8,7 @@ use Rattle.paw_stage.specs.declared.StageCall.{StageCall}
 use Rattle.paw_stage.specs.declared.StageCall.TheVariants as call
 use Rattle.paw_journal.proofs.Disks.{stable_leaves}
 use Rattle.paw_reading.specs.Turn.{text_of}
-use Rattle.paw_turn.specs.inner.Player.{Seat, IsSeated, Stands}
+use Rattle.paw_turn.specs.inner.Player.{Seat, IsSeated, StandsClosed}
 use Rattle.paw_turn.specs.inner.Player.{PlaysTo as StepsTo}
 use Rattle.paw_turn.specs.declared.Step.{Step}
 use Rattle.paw_turn.specs.declared.Step.TheVariants as step
@@ -42,8 +42,8 @@ begin_refused g s first (step.TooDeep table) next o plays e = let k : o ≡ end.
 module _ {F : Type 0} (g : Story) (s : Played) (first kept : Standing) (next : Seat F) (found : Step)
     (new_one : s.before ≡ 0) (store : IsStore s.name first) (seated : IsSeated next) (last : next.last ≡ found)
     (plays : StepsTo g s.whole found next [] []) (shows : ShowsPiece found) (beside : IsBeside first kept) where
-  machine_stands : Stands found next.machine
-  machine_stands = subst (λ q. Stands q next.machine) last seated.machine
+  machine_stands : StandsClosed found next.machine
+  machine_stands = subst (λ q. StandsClosed q next.machine) last seated.machine
 
   text_is : text_of (s.whole []) ≡ next.piece
   text_is = text_shown g s.whole found next [] [] shows machine_stands plays

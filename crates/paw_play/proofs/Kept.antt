@@ -6,7 +6,7 @@ use Rattle.paw_effects.specs.declared.act.Prompt.TheVariants as prompt
 use Rattle.paw_reading.specs.Run.{Step as Read}
 use Rattle.paw_reading.specs.Reading.{IsOver}
 use Rattle.paw_reading.specs.Turn.{Ending, WaitsAt, Halted}
-use Rattle.paw_turn.specs.inner.Player.{Seat, run_at, PlaysTo, Stands}
+use Rattle.paw_turn.specs.inner.Player.{Seat, run_at, PlaysTo, StandsClosed}
 use Rattle.paw_turn.specs.declared.Step.{Step}
 use Rattle.paw_turn.specs.declared.Step.TheVariants as step
 use Rattle.paw_journal.specs.Session.{Shown}
@@ -16,7 +16,7 @@ use Rattle.paw_process.specs.OpenTables.{OpenTables}
 use Rattle.paw_process.specs.declared.kept.Frames.{Frames}
 use Rattle.paw_state.specs.Record.{last_piece, frames_at}
 use Rattle.paw_play.specs.Session.{kept_bytes, IsKept}
-use Rattle.paw_play.specs.Walk.{Reading}
+use Rattle.paw_play.specs.Walk.{EndingOf}
 use Rattle.paw_play.specs.inner.OnTheWay.{ShowsPiece, seat_state}
 use Rattle.paw_play.proofs.Walking.{on_waits}
 use Rattle.paw_effects.specs.Story.{Story}
@@ -49,8 +49,8 @@ over_kept g digest events e next pieces traces last closed is = rw (is, last) (r
 })
 
 -- a step that brings a piece leads to a player whose session keeps the reading
-pub step_kept : {F : Type 0} (g : Story) (digest : List ℕ) (events : ℕ) (whole : Reading) (s : Step) (next : Seat F) (pieces : List (List ℕ)) (traces : List (List Read)) → ShowsPiece s → next.last ≡ s →
-    Stands s next.machine → PlaysTo g whole s next pieces traces → IsKept digest events (whole []) (Shown digest (seat_state events next) next.piece)
+pub step_kept : {F : Type 0} (g : Story) (digest : List ℕ) (events : ℕ) (whole : EndingOf) (s : Step) (next : Seat F) (pieces : List (List ℕ)) (traces : List (List Read)) → ShowsPiece s → next.last ≡ s →
+    StandsClosed s next.machine → PlaysTo g whole s next pieces traces → IsKept digest events (whole []) (Shown digest (seat_state events next) next.piece)
 step_kept g digest events whole (step.Waits p) next pieces traces shows last stands plays =
     waits_kept g digest events (whole []) p next pieces (traces ++ plays.0 ∷ []) last
     (plays.1.1 [] ∙ on_waits g p next.machine (run_at next (pieces ++ next.piece ∷ []) (traces ++ plays.0 ∷ []) []) stands)

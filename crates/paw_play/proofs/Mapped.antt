@@ -6,7 +6,7 @@ use Rattle.paw_stage.specs.declared.StageCall.TheVariants as call
 use Rattle.paw_play.specs.declared.PlayEnd.{PlayEnd}
 use Rattle.paw_play.specs.declared.PlayEnd.TheVariants as end
 use Rattle.paw_play.specs.declared.TheConstants.{MOST_EVENTS}
-use Rattle.paw_play.specs.Walk.{Reading, told_before}
+use Rattle.paw_play.specs.Walk.{EndingOf, told_before}
 use Rattle.paw_play.specs.Keeping.{AgreesWith, KeepsUpWith, InSession, InMakingOf, RestsWith, KeepsAll, KeepsAllButLast, LeavesStore}
 use Rattle.paw_play.specs.Play.{PlaysWith, PlaysIn, memory, spent, too_deep, unmade, plays}
 
@@ -44,7 +44,7 @@ module _ (Kept By : ℕ → List ℕ → Type 0) (past : ℕ) (name : List ℕ) 
   leaves_by new (end.TooDeep table) k = but_last_by new k
   leaves_by new _ k = tt
 
-  pub plays_by : (whole : Reading) (most : ℕ) (new : Standing) (o : PlayEnd) →
+  pub plays_by : (whole : EndingOf) (most : ℕ) (new : Standing) (o : PlayEnd) →
       PlaysWith Kept whole past name most old new o → PlaysWith By whole past name most old new o
   plays_by whole most new o p = record { shows = p.shows; session = leaves_by new o p.session }
 
@@ -92,7 +92,7 @@ module _ (Kept By : ℕ → List ℕ → Type 0) (name : List ℕ) (old : Standi
     ];
   }
 
-  pub plays_in_by : (whole : Reading) (new : Standing) (o : PlayEnd) → PlaysIn Kept whole name old new o → PlaysIn By whole name old new o
+  pub plays_in_by : (whole : EndingOf) (new : Standing) (o : PlayEnd) → PlaysIn Kept whole name old new o → PlaysIn By whole name old new o
   plays_in_by whole new _ (memory e) = memory e
   plays_in_by whole new _ (spent kind r is e) = spent kind r is e
   plays_in_by whole new _ (too_deep table r is e) = too_deep table r is e

@@ -12,7 +12,7 @@ use Rattle.paw_stage.specs.declared.Asked.{Asked}
 use Rattle.paw_stage.specs.declared.Asked.TheVariants as asked
 use Rattle.paw_journal.proofs.Disks.{stable_leaves}
 use Rattle.paw_reading.specs.Turn.{on, text_of}
-use Rattle.paw_turn.specs.inner.Player.{Seat, run_at, IsSeated, Stands}
+use Rattle.paw_turn.specs.inner.Player.{Seat, run_at, IsSeated, StandsClosed}
 use Rattle.paw_turn.specs.inner.Player.{PlaysTo as StepsTo}
 use Rattle.paw_turn.specs.declared.Step.{Step}
 use Rattle.paw_turn.specs.declared.Step.TheVariants as step
@@ -135,8 +135,8 @@ module _ {F : Type 0} (g : Story) (s : Played) (most n events : ℕ) (first now 
       ≡ on g w.walking.prompt (reverse seat.machine.frames) (run_at seat w.walking.pieces w.walking.traces (given ∷ []))
   whole_is = read_after g s.whole n (with_store now first) now mid kept seat next given line step w.walking seated then_seated game last lines cut took plays
 
-  machine_stands : Stands step next.machine
-  machine_stands = subst (λ q. Stands q next.machine) last then_seated.machine
+  machine_stands : StandsClosed step next.machine
+  machine_stands = subst (λ q. StandsClosed q next.machine) last then_seated.machine
 
   text_more : text_of (s.whole (first_lines (suc n) first.lines)) ≡ joined w.walking.pieces ++ next.piece
   text_more = ap text_of whole_is ∙ text_shown g _ step next w.walking.pieces w.walking.traces shows machine_stands plays

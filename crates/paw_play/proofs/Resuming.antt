@@ -16,8 +16,8 @@ use Rattle.paw_reading.specs.Run.{Run}
 use Rattle.paw_reading.specs.Turn.{Ending, WaitsAt, on, text_of}
 use Rattle.paw_process.specs.OpenTables.{OpenTables}
 use Rattle.paw_process.specs.Kept.{unused}
-use Rattle.paw_turn.specs.inner.Player.{Seat, IsSeated, Stands}
-use Rattle.paw_turn.specs.inner.Parts.{step_at, seat_at}
+use Rattle.paw_turn.specs.inner.Player.{Seat, IsSeated, StandsClosed}
+use Rattle.paw_turn.specs.inner.Parts.{prompt_step, seat_at}
 use Rattle.paw_turn.specs.declared.Step.TheVariants as step
 use Rattle.paw_journal.specs.Session.{Shown, recover, kept_digest}
 use Rattle.paw_state.specs.inner.State.{state_of}
@@ -71,7 +71,7 @@ module _ (digest : List ℕ) (g : Story) (w : World) (m : OpenTables) (p : Pendi
       IsKept digest (events + 0) e (Shown digest (kept_bytes (state_of w m p at events n)) piece)
   waits_kept at e is = rw is (record { played = tt; shown = ap (λ q. Shown digest (kept_bytes q) piece) (same_state at) })
 
-  pub kept_at : (at : Prompt) → Stands (step_at at) m →
+  pub kept_at : (at : Prompt) → StandsClosed (prompt_step at) m →
       IsKept digest (events + 0) (on g at (reverse m.frames) (run_from w m p piece []))
       (Shown digest (kept_bytes (state_of w m p at events n)) piece)
   kept_at prompt.Main h = waits_kept prompt.Main _ (on_waits g prompt.Main m (run_from w m p piece []) h)
@@ -85,7 +85,7 @@ module _ (digest : List ℕ) (g : Story) (w : World) (m : OpenTables) (p : Pendi
         h.frames);
   }
 
-  pub text_at : (at : Prompt) → Stands (step_at at) m → text_of (on g at (reverse m.frames) (run_from w m p piece [])) ≡ piece
+  pub text_at : (at : Prompt) → StandsClosed (prompt_step at) m → text_of (on g at (reverse m.frames) (run_from w m p piece [])) ≡ piece
   text_at prompt.Main h = ap text_of (on_waits g prompt.Main m (run_from w m p piece []) h) ∙ append-nil piece
   text_at prompt.Quit h = ap text_of (on_waits g prompt.Quit m (run_from w m p piece []) h) ∙ append-nil piece
   text_at prompt.Again h = ap text_of (on_waits g prompt.Again m (run_from w m p piece []) h) ∙ append-nil piece
@@ -102,7 +102,7 @@ pub seat_routines : {F : Type 0} (g : GameLists) (routines : Routines F) (w : Wo
     (at : Prompt) (seat : Seat F) → seat ≡ seat_at g routines w m p at → seat.routines ≡ routines
 seat_routines {F} g routines w m p at seat is = ap (λ (q : Seat F). q.routines) is
 
-waits_at : (at : Prompt) → at ≢ prompt.Over → step_at at ≡ step.Waits at
+waits_at : (at : Prompt) → at ≢ prompt.Over → prompt_step at ≡ step.Waits at
 waits_at prompt.Main h = refl
 waits_at prompt.Quit h = refl
 waits_at prompt.Again h = refl
@@ -119,8 +119,8 @@ module _ {F : Type 0} (g : Story) (digest name : List ℕ) (w : World) (m : Open
   session : Played
   session = kept_session g (state_of w m p at events n) piece digest name
 
-  machine_stands : Stands (step_at at) m
-  machine_stands = subst (λ (q : Seat F). Stands q.last q.machine) is seated.machine
+  machine_stands : StandsClosed (prompt_step at) m
+  machine_stands = subst (λ (q : Seat F). StandsClosed q.last q.machine) is seated.machine
 
   text_is : text_of (going_on g (state_of w m p at events n) piece []) ≡ piece
   text_is = ap text_of (goes_on_from g w m p at events n piece []) ∙ text_at digest g w m p events n piece long at machine_stands

@@ -16,8 +16,8 @@ use Rattle.paw_process.specs.Kept.{kept, waiting_code}
 use Rattle.paw_process.specs.inner.Kept.{restored, waiting_at, StandsAt}
 use Rattle.paw_process.proofs.Restored.{stands_at}
 use Rattle.paw_process.proofs.Again.{restored_kept}
-use Rattle.paw_turn.specs.inner.Parts.{Fits, IsPending, step_at}
-use Rattle.paw_turn.specs.inner.Player.{Stands}
+use Rattle.paw_turn.specs.inner.Parts.{Fits, IsPending, prompt_step}
+use Rattle.paw_turn.specs.inner.Player.{StandsClosed}
 use Rattle.paw_turn.proofs.Seating.{restored_fits}
 use Rattle.paw_journal.specs.Session.{Shown, recover, piece_length, state_length}
 use Rattle.paw_journal.proofs.ShownPieces.{shown_long}
@@ -112,7 +112,7 @@ module _ (g : Story) (digest bytes : List ℕ) (st : State) (piece : List ℕ) (
   state_is = ap (λ k. record { world = st.world; frames = k; pending = st.pending; prompt = st.prompt; events = st.events; piece = st.piece })
       (sym (restored_kept g.game st.prompt (waiting_at st.prompt) st.frames shows.keeps.rows shows.keeps.frames))
 
-  stands : Stands (step_at st.prompt) machine
+  stands : StandsClosed (prompt_step st.prompt) machine
   unfolding machine
   stands =
       let at : StandsAt st.prompt (restored st.frames (waiting_at st.prompt)) =

@@ -13,13 +13,13 @@ use Rattle.paw_effects.specs.declared.act.Prompt.{Prompt}
 use Rattle.paw_reading.specs.declared.places.Frame.{Frame}
 use Rattle.paw_reading.specs.Run.{Run, Step as Read}
 use Rattle.paw_reading.specs.Turn.{Ending, WaitsAt, reading, on, text_of}
-use Rattle.paw_turn.specs.inner.Player.{Seat, run_at, PlaysTo, StandsAt, Stands, IsSeated, IsNew}
+use Rattle.paw_turn.specs.inner.Player.{Seat, run_at, PlaysTo, StandsAt, StandsClosed, IsSeated, IsNew}
 use Rattle.paw_turn.specs.declared.Step.{Step}
 use Rattle.paw_turn.specs.declared.Step.TheVariants as step
 use Rattle.paw_play.specs.declared.PlayEnd.{PlayEnd}
 use Rattle.paw_play.specs.declared.PlayEnd.TheVariants as end
 use Rattle.paw_play.specs.declared.TheConstants.{MOST_EVENTS}
-use Rattle.paw_play.specs.Walk.{Reading, first_lines, played, Reads, ReadsPart, joined}
+use Rattle.paw_play.specs.Walk.{EndingOf, first_lines, played, Reads, ReadsPart, joined}
 use Rattle.paw_play.specs.Traces.{step_line, more_line, steps_text, traced_pieces, traced_run, traced_ending, traced}
 use Rattle.paw_play.specs.inner.OnTheWay.{ShowsPiece, Told, refusal_of, kept_text, seat_text, IsTracing, TracesOn, TracesFrom}
 use Rattle.paw_play.proofs.Playing.{shows_piece}
@@ -105,10 +105,10 @@ told_part old new text piece s shows some e =
 -- ---- a trace at a prompt ----
 
 -- what was read of the lines so far waits, and its text was shown
-pub tracing : {F : Type 0} (g : Story) (whole : Reading) (n : ℕ) (first now : Standing) (seat : Seat F) → IsTracing g whole first now seat n → IsSeated seat →
+pub tracing : {F : Type 0} (g : Story) (whole : EndingOf) (n : ℕ) (first now : Standing) (seat : Seat F) → IsTracing g whole first now seat n → IsSeated seat →
     (p : Prompt) × (path : List Frame) × (r : Run) × Reads (traced whole) first now n (WaitsAt p path r)
 tracing g whole n first now seat w seated =
-    let stands : StandsAt w.prompt seat.machine = subst (λ s. Stands s seat.machine) w.waits seated.machine in
+    let stands : StandsAt w.prompt seat.machine = subst (λ s. StandsClosed s seat.machine) w.waits seated.machine in
     let r : Run = run_at seat w.pieces w.traces [] in (
       w.prompt,
       reverse seat.machine.frames,
@@ -122,7 +122,7 @@ tracing g whole n first now seat w seated =
     )
 
 -- the text of what was read of the lines so far
-text_so_far : {F : Type 0} (g : Story) (whole : Reading) (n : ℕ) (first now : Standing) (seat : Seat F)
+text_so_far : {F : Type 0} (g : Story) (whole : EndingOf) (n : ℕ) (first now : Standing) (seat : Seat F)
     (w : IsTracing g whole first now seat n) → IsSeated seat →
     text_of (traced whole (first_lines n first.lines)) ≡ joined (traced_pieces w.pieces w.traces)
 unfolding tracing
@@ -130,7 +130,7 @@ text_so_far g whole n first now seat w seated = ap text_of (tracing g whole n fi
 
 -- the text of a step that brings a piece
 text_shown : {F : Type 0} (g : Story) (whole : List (List ℕ) → Ending) (s : Step) (next : Seat F)
-    (pieces : List (List ℕ)) (traces : List (List Read)) → ShowsPiece s → Stands s next.machine →
+    (pieces : List (List ℕ)) (traces : List (List Read)) → ShowsPiece s → StandsClosed s next.machine →
     length traces ≡ length pieces → PlaysTo g whole s next pieces traces → text_of (traced whole []) ≡ joined (traced_pieces pieces traces) ++ seat_text next
 text_shown g whole (step.Waits p) next pieces traces h m each plays =
     ap (λ e. text_of (traced_ending e)) (plays.1.1 [] ∙ on_waits g p next.machine (run_at next (pieces ++ next.piece ∷ []) (traces ++ plays.0 ∷ []) []) m)
@@ -145,7 +145,7 @@ same_told : (r : Run) (pieces : List (List ℕ)) (traces : List (List Read)) →
     joined (traced_pieces pieces traces) ≡ joined (traced_run r).pieces
 same_told r pieces traces e f = sym (ap (λ ps. joined (traced_pieces ps r.traces)) e ∙ ap (λ ts. joined (traced_pieces pieces ts)) f)
 
-module _ {F : Type 0} (g : Story) (whole : Reading) (n : ℕ) (first now mid new : Standing) (seat next : Seat F) (given line : List ℕ) (s : Step)
+module _ {F : Type 0} (g : Story) (whole : EndingOf) (n : ℕ) (first now mid new : Standing) (seat next : Seat F) (given line : List ℕ) (s : Step)
     (w : IsTracing g whole first now seat n) (seated : IsSeated seat) (then_seated : IsSeated next) (last : next.last ≡ s)
     (lines : now.lines ≡ line ∷ mid.lines) (cut : given ≡ take 255 line) (took : mid ≡ record now { lines = mid.lines; asked = now.asked + 1 })
     (plays : PlaysTo g (λ more. on g w.prompt (reverse seat.machine.frames) (run_at seat w.pieces w.traces (given ∷ more))) s next w.pieces w.traces) where
@@ -172,8 +172,8 @@ module _ {F : Type 0} (g : Story) (whole : Reading) (n : ℕ) (first now mid new
   stands_with : (part : List ℕ) → new ≡ record mid { shown = mid.shown ++ part } → new ≡ played first (suc n) (joined (traced_pieces w.pieces w.traces) ++ part)
   stands_with part e = stands_after first now mid new n (joined (traced_pieces w.pieces w.traces)) part line w.stands lines took e
 
-  machine_stands : Stands s next.machine
-  machine_stands = subst (λ q. Stands q next.machine) last then_seated.machine
+  machine_stands : StandsClosed s next.machine
+  machine_stands = subst (λ q. StandsClosed q next.machine) last then_seated.machine
 
   -- nothing was shown
   stands_still : (r : Run) → r.pieces ≡ w.pieces → r.traces ≡ w.traces → new ≡ mid → new ≡ played first (suc n) (joined (traced_run r).pieces)
@@ -204,14 +204,14 @@ module _ {F : Type 0} (g : Story) (whole : Reading) (n : ℕ) (first now mid new
       earlier = text_so_far g whole n first now seat w seated
 
 -- one line more
-pub traces_on : {F : Type 0} (g : Story) (whole : Reading) (most n : ℕ) (first now mid new : Standing)
+pub traces_on : {F : Type 0} (g : Story) (whole : EndingOf) (most n : ℕ) (first now mid new : Standing)
     (seat next : Seat F) (given line : List ℕ) (s : Step) (o : Option PlayEnd)
     (w : IsTracing g whole first now seat n) → n < most → IsSeated seat → IsSeated next → next.last ≡ s →
     now.lines ≡ line ∷ mid.lines → given ≡ take 255 line → mid ≡ record now { lines = mid.lines; asked = now.asked + 1 } →
     PlaysTo g (λ more. on g w.prompt (reverse seat.machine.frames) (run_at seat w.pieces w.traces (given ∷ more))) s next w.pieces w.traces →
     Told mid new (seat_text next) s o → TracesOn g whole most first new next n o
 traces_on g whole most n first now mid new seat next given line s None w few seated then_seated last lines cut took plays told =
-    let after_line : Reading = λ more. on g w.prompt (reverse seat.machine.frames) (run_at seat w.pieces w.traces (given ∷ more)) in
+    let after_line : EndingOf = λ more. on g w.prompt (reverse seat.machine.frames) (run_at seat w.pieces w.traces (given ∷ more)) in
     let at : PlaysTo g after_line (step.Waits told.0) next w.pieces w.traces = subst (λ q. PlaysTo g after_line q next w.pieces w.traces) told.1 plays in
     record {
       prompt = told.0;
@@ -225,7 +225,7 @@ traces_on g whole most n first now mid new seat next given line s None w few sea
           ∙ ap (played first (suc n)) (sym (joined_traced next w.pieces w.traces at.0 w.each at.1.0));
     }
 traces_on g whole most n first now mid new seat next given line s (Some end.Ended) w few seated then_seated last lines cut took plays told =
-    let after_line : Reading = λ more. on g w.prompt (reverse seat.machine.frames) (run_at seat w.pieces w.traces (given ∷ more)) in
+    let after_line : EndingOf = λ more. on g w.prompt (reverse seat.machine.frames) (run_at seat w.pieces w.traces (given ∷ more)) in
     let at : PlaysTo g after_line step.Ended next w.pieces w.traces = subst (λ q. PlaysTo g after_line q next w.pieces w.traces) told.0 plays in (
       suc n,
       omega (arith, few),
@@ -239,7 +239,7 @@ traces_on g whole most n first now mid new seat next given line s (Some end.Ende
       },
     )
 traces_on g whole most n first now mid new seat next given line s (Some (end.Spent kind)) w few seated then_seated last lines cut took plays told =
-    let after_line : Reading = λ more. on g w.prompt (reverse seat.machine.frames) (run_at seat w.pieces w.traces (given ∷ more)) in
+    let after_line : EndingOf = λ more. on g w.prompt (reverse seat.machine.frames) (run_at seat w.pieces w.traces (given ∷ more)) in
     let at : PlaysTo g after_line (step.Spent kind) next w.pieces w.traces = subst (λ q. PlaysTo g after_line q next w.pieces w.traces) told.0 plays in
     let e = at.1 [] in (
       suc n,
@@ -253,7 +253,7 @@ traces_on g whole most n first now mid new seat next given line s (Some (end.Spe
       },
     )
 traces_on g whole most n first now mid new seat next given line s (Some (end.TooDeep table)) w few seated then_seated last lines cut took plays told =
-    let after_line : Reading = λ more. on g w.prompt (reverse seat.machine.frames) (run_at seat w.pieces w.traces (given ∷ more)) in
+    let after_line : EndingOf = λ more. on g w.prompt (reverse seat.machine.frames) (run_at seat w.pieces w.traces (given ∷ more)) in
     let at : PlaysTo g after_line (step.TooDeep table) next w.pieces w.traces = subst (λ q. PlaysTo g after_line q next w.pieces w.traces) told.0 plays in
     let e = at.1 [] in (
       suc n,
@@ -275,7 +275,7 @@ traces_on g whole most n first now mid new seat next given line s (Some (end.Out
 traces_on g whole most n first now mid new seat next given line s (Some _) w few seated then_seated last lines cut took plays told = absurd told
 
 -- no line is left
-pub none_left : {F : Type 0} (g : Story) (whole : Reading) (most n : ℕ) (first now new : Standing) (seat : Seat F) →
+pub none_left : {F : Type 0} (g : Story) (whole : EndingOf) (most n : ℕ) (first now new : Standing) (seat : Seat F) →
     IsTracing g whole first now seat n → n < most → IsSeated seat → (now.lines ≡ []) × (new ≡ now) →
     (length first.lines < most) × (p : Prompt) × (path : List Frame) × (r : Run) × Reads (traced whole) first new (length first.lines) (WaitsAt p path r)
 none_left g whole most n first now new seat w few seated e =
@@ -284,7 +284,7 @@ none_left g whole most n first now new seat w few seated e =
     (omega (arith, all, few), at.0, at.1, at.2, rw (← all, e.1) at.3)
 
 -- the lines can't be asked for
-pub none_asked : {F : Type 0} (g : Story) (whole : Reading) (most n : ℕ) (first now new : Standing) (seat : Seat F) →
+pub none_asked : {F : Type 0} (g : Story) (whole : EndingOf) (most n : ℕ) (first now new : Standing) (seat : Seat F) →
     IsTracing g whole first now seat n → n < most → IsSeated seat → new ≡ now →
     (m : ℕ) × (m < most) × (p : Prompt) × (path : List Frame) × (r : Run) × Reads (traced whole) first new m (WaitsAt p path r)
 none_asked g whole most n first now new seat w few seated e =
@@ -292,7 +292,7 @@ none_asked g whole most n first now new seat w few seated e =
     (n, few, at.0, at.1, at.2, rw e at.3)
 
 -- all the lines that a session may have were taken
-pub long_trace : {F : Type 0} (g : Story) (whole : Reading) (most n : ℕ) (first now : Standing) (seat : Seat F) →
+pub long_trace : {F : Type 0} (g : Story) (whole : EndingOf) (most n : ℕ) (first now : Standing) (seat : Seat F) →
     IsTracing g whole first now seat n → IsSeated seat → n ≡ most →
     (1000000000 ≡ MOST_EVENTS) × (p : Prompt) × (path : List Frame) × (r : Run) × Reads (traced whole) first now most (WaitsAt p path r)
 long_trace g whole most n first now seat w seated all =
@@ -302,7 +302,7 @@ long_trace g whole most n first now seat w seated all =
 -- ---- the first piece ----
 
 -- after piece 0 the trace is at the first prompt, or has come to this
-trace_begins : {F : Type 0} (g : Story) (whole : Reading) (most : ℕ) (old new : Standing) (seat : Seat F) (s : Step)
+trace_begins : {F : Type 0} (g : Story) (whole : EndingOf) (most : ℕ) (old new : Standing) (seat : Seat F) (s : Step)
     (o : Option PlayEnd) → IsSeated seat → seat.last ≡ s →
     PlaysTo g whole s seat [] [] → Told old new (seat_text seat) s o → TracesFrom g whole most old new seat o
 trace_begins g whole most old new seat s None seated last plays told =
@@ -359,7 +359,7 @@ trace_begins g whole most old new seat s (Some (end.TooDeep table)) seated last 
     )
 trace_begins g whole most old new seat s (Some (end.Outside call.Show)) seated last plays told =
     let all : text_of (traced whole []) ≡ seat_text seat
-    = text_shown g whole s seat [] [] told.0 (subst (λ q. Stands q seat.machine) last seated.machine) refl plays in (
+    = text_shown g whole s seat [] [] told.0 (subst (λ q. StandsClosed q seat.machine) last seated.machine) refl plays in (
       0,
       omega arith,
       record {

@@ -14,13 +14,13 @@ use Rattle.paw_reading.specs.GoingOn.{on_path}
 use Rattle.paw_reading.specs.Turn.{Ending, WaitsAt, at_main, reading, on, text_of}
 use Rattle.paw_process.specs.OpenTables.{OpenTables}
 use Rattle.paw_world.specs.World.{World}
-use Rattle.paw_turn.specs.inner.Player.{Seat, run_at, PlaysTo, StandsAt, Stands, IsSeated, IsNew}
+use Rattle.paw_turn.specs.inner.Player.{Seat, run_at, PlaysTo, StandsAt, StandsClosed, IsSeated, IsNew}
 use Rattle.paw_turn.specs.declared.Step.{Step}
 use Rattle.paw_turn.specs.declared.Step.TheVariants as step
 use Rattle.paw_play.specs.declared.PlayEnd.{PlayEnd}
 use Rattle.paw_play.specs.declared.PlayEnd.TheVariants as end
 use Rattle.paw_stage.specs.declared.StageCall.TheVariants as call
-use Rattle.paw_play.specs.Walk.{Reading, first_lines, played, Reads, ReadsPart, joined}
+use Rattle.paw_play.specs.Walk.{EndingOf, first_lines, played, Reads, ReadsPart, joined}
 use Rattle.paw_play.specs.inner.OnTheWay.{IsWalking, ShowsPiece, Told, WalksOn, WalksFrom}
 use Rattle.paw_play.specs.declared.TheConstants.{MOST_EVENTS}
 use Rattle.paw_effects.specs.Story.{Story}
@@ -108,10 +108,10 @@ on_waits g prompt.Over m r h = absurd h
 -- ---- a walk at a prompt ----
 
 -- what was read of the lines so far waits, and its text was shown
-pub waiting : {F : Type 0} (g : Story) (whole : Reading) (n : ℕ) (first now : Standing) (seat : Seat F) → IsWalking g whole first now seat n → IsSeated seat →
+pub waiting : {F : Type 0} (g : Story) (whole : EndingOf) (n : ℕ) (first now : Standing) (seat : Seat F) → IsWalking g whole first now seat n → IsSeated seat →
     (p : Prompt) × (path : List Frame) × (r : Run) × Reads whole first now n (WaitsAt p path r)
 waiting g whole n first now seat w seated =
-    let stands : StandsAt w.prompt seat.machine = subst (λ s. Stands s seat.machine) w.waits seated.machine in
+    let stands : StandsAt w.prompt seat.machine = subst (λ s. StandsClosed s seat.machine) w.waits seated.machine in
     let r : Run = run_at seat w.pieces w.traces [] in (
       w.prompt,
       reverse seat.machine.frames,
@@ -124,7 +124,7 @@ waiting g whole n first now seat w seated =
     )
 
 -- the text of what was read of the lines so far
-pub text_so_far : {F : Type 0} (g : Story) (whole : Reading) (n : ℕ) (first now : Standing) (seat : Seat F)
+pub text_so_far : {F : Type 0} (g : Story) (whole : EndingOf) (n : ℕ) (first now : Standing) (seat : Seat F)
     (w : IsWalking g whole first now seat n) → IsSeated seat →
     text_of (whole (first_lines n first.lines)) ≡ joined w.pieces
 unfolding waiting
@@ -132,7 +132,7 @@ text_so_far g whole n first now seat w seated = ap text_of (waiting g whole n fi
 
 -- the text of a step that brings a piece
 pub text_shown : {F : Type 0} (g : Story) (whole : List (List ℕ) → Ending) (s : Step) (next : Seat F)
-    (pieces : List (List ℕ)) (traces : List (List Read)) → ShowsPiece s → Stands s next.machine →
+    (pieces : List (List ℕ)) (traces : List (List Read)) → ShowsPiece s → StandsClosed s next.machine →
     PlaysTo g whole s next pieces traces → text_of (whole []) ≡ joined pieces ++ next.piece
 text_shown g whole (step.Waits p) next pieces traces h m plays =
     ap text_of (plays.1.1 [] ∙ on_waits g p next.machine
@@ -146,7 +146,7 @@ text_shown g whole (step.TooDeep u) next pieces traces h m plays = absurd h
 pub shown_nothing : (mid : Standing) → mid ≡ record mid { shown = mid.shown ++ [] }
 shown_nothing mid = ap (λ t. record mid { shown = t }) (sym (append-nil mid.shown))
 
-module _ {F : Type 0} (g : Story) (whole : Reading) (n : ℕ) (first now mid new : Standing) (seat next : Seat F) (given line : List ℕ) (s : Step)
+module _ {F : Type 0} (g : Story) (whole : EndingOf) (n : ℕ) (first now mid new : Standing) (seat next : Seat F) (given line : List ℕ) (s : Step)
     (w : IsWalking g whole first now seat n) (seated : IsSeated seat) (then_seated : IsSeated next) (game : next.game ≡ seat.game) (last : next.last ≡ s)
     (lines : now.lines ≡ line ∷ mid.lines) (cut : given ≡ take 255 line) (took : mid ≡ record now { lines = mid.lines; asked = now.asked + 1 })
     (plays : PlaysTo g (λ more. on g w.prompt (reverse seat.machine.frames) (run_at seat w.pieces w.traces (given ∷ more))) s next w.pieces w.traces) where
@@ -173,8 +173,8 @@ module _ {F : Type 0} (g : Story) (whole : Reading) (n : ℕ) (first now mid new
   stands_with : (part : List ℕ) → new ≡ record mid { shown = mid.shown ++ part } → new ≡ played first (suc n) (joined w.pieces ++ part)
   stands_with part e = stands_after first now mid new n (joined w.pieces) part line w.stands lines took e
 
-  machine_stands : Stands s next.machine
-  machine_stands = subst (λ q. Stands q next.machine) last then_seated.machine
+  machine_stands : StandsClosed s next.machine
+  machine_stands = subst (λ q. StandsClosed q next.machine) last then_seated.machine
 
   -- part of the piece was shown
   shown_part : ShowsPiece s → 0 < length next.piece → (m : ℕ) → new ≡ record mid { shown = mid.shown ++ take m next.piece } → ReadsPart whole first new (suc n)
@@ -196,14 +196,14 @@ module _ {F : Type 0} (g : Story) (whole : Reading) (n : ℕ) (first now mid new
       earlier = text_so_far g whole n first now seat w seated
 
 -- one line more
-pub walks_on : {F : Type 0} (g : Story) (whole : Reading) (most n : ℕ) (first now mid new : Standing)
+pub walks_on : {F : Type 0} (g : Story) (whole : EndingOf) (most n : ℕ) (first now mid new : Standing)
     (seat next : Seat F) (given line : List ℕ) (s : Step) (o : Option PlayEnd)
     (w : IsWalking g whole first now seat n) → n < most → IsSeated seat → IsSeated next → next.game ≡ seat.game → next.last ≡ s →
     now.lines ≡ line ∷ mid.lines → given ≡ take 255 line → mid ≡ record now { lines = mid.lines; asked = now.asked + 1 } →
     PlaysTo g (λ more. on g w.prompt (reverse seat.machine.frames) (run_at seat w.pieces w.traces (given ∷ more))) s next w.pieces w.traces →
     Told mid new next.piece s o → WalksOn g whole most first new next n o
 walks_on g whole most n first now mid new seat next given line s None w few seated then_seated game last lines cut took plays told =
-    let after_line : Reading = λ more. on g w.prompt (reverse seat.machine.frames) (run_at seat w.pieces w.traces (given ∷ more)) in
+    let after_line : EndingOf = λ more. on g w.prompt (reverse seat.machine.frames) (run_at seat w.pieces w.traces (given ∷ more)) in
     let at : PlaysTo g after_line (step.Waits told.0) next w.pieces w.traces = subst (λ q. PlaysTo g after_line q next w.pieces w.traces) told.1 plays in
     record {
       prompt = told.0;
@@ -216,7 +216,7 @@ walks_on g whole most n first now mid new seat next given line s None w few seat
           ∙ ap (played first (suc n)) (sym (joined_more w.pieces next.piece));
     }
 walks_on g whole most n first now mid new seat next given line s (Some end.Ended) w few seated then_seated game last lines cut took plays told =
-    let after_line : Reading = λ more. on g w.prompt (reverse seat.machine.frames) (run_at seat w.pieces w.traces (given ∷ more)) in
+    let after_line : EndingOf = λ more. on g w.prompt (reverse seat.machine.frames) (run_at seat w.pieces w.traces (given ∷ more)) in
     let at : PlaysTo g after_line step.Ended next w.pieces w.traces = subst (λ q. PlaysTo g after_line q next w.pieces w.traces) told.0 plays in (
       suc n,
       omega (arith, few),
@@ -230,7 +230,7 @@ walks_on g whole most n first now mid new seat next given line s (Some end.Ended
       },
     )
 walks_on g whole most n first now mid new seat next given line s (Some (end.Spent kind)) w few seated then_seated game last lines cut took plays told =
-    let after_line : Reading = λ more. on g w.prompt (reverse seat.machine.frames) (run_at seat w.pieces w.traces (given ∷ more)) in
+    let after_line : EndingOf = λ more. on g w.prompt (reverse seat.machine.frames) (run_at seat w.pieces w.traces (given ∷ more)) in
     let at : PlaysTo g after_line (step.Spent kind) next w.pieces w.traces = subst (λ q. PlaysTo g after_line q next w.pieces w.traces) told.0 plays in
     let e = at.1 [] in (
       suc n,
@@ -246,7 +246,7 @@ walks_on g whole most n first now mid new seat next given line s (Some (end.Spen
       },
     )
 walks_on g whole most n first now mid new seat next given line s (Some (end.TooDeep table)) w few seated then_seated game last lines cut took plays told =
-    let after_line : Reading = λ more. on g w.prompt (reverse seat.machine.frames) (run_at seat w.pieces w.traces (given ∷ more)) in
+    let after_line : EndingOf = λ more. on g w.prompt (reverse seat.machine.frames) (run_at seat w.pieces w.traces (given ∷ more)) in
     let at : PlaysTo g after_line (step.TooDeep table) next w.pieces w.traces = subst (λ q. PlaysTo g after_line q next w.pieces w.traces) told.0 plays in
     let e = at.1 [] in (
       suc n,
@@ -270,7 +270,7 @@ walks_on g whole most n first now mid new seat next given line s (Some (end.Outs
 walks_on g whole most n first now mid new seat next given line s (Some _) w few seated then_seated game last lines cut took plays told = absurd told
 
 -- no line is left
-pub none_left : {F : Type 0} (g : Story) (whole : Reading) (most n : ℕ) (first now new : Standing) (seat : Seat F) →
+pub none_left : {F : Type 0} (g : Story) (whole : EndingOf) (most n : ℕ) (first now new : Standing) (seat : Seat F) →
     IsWalking g whole first now seat n → n < most → IsSeated seat → (now.lines ≡ []) × (new ≡ now) →
     (length first.lines < most) × (p : Prompt) × (path : List Frame) × (r : Run) × Reads whole first new (length first.lines) (WaitsAt p path r)
 none_left g whole most n first now new seat w few seated e =
@@ -279,7 +279,7 @@ none_left g whole most n first now new seat w few seated e =
     (omega (arith, all, few), at.0, at.1, at.2, rw (← all, e.1) at.3)
 
 -- the lines can't be asked for
-pub none_asked : {F : Type 0} (g : Story) (whole : Reading) (most n : ℕ) (first now new : Standing) (seat : Seat F) →
+pub none_asked : {F : Type 0} (g : Story) (whole : EndingOf) (most n : ℕ) (first now new : Standing) (seat : Seat F) →
     IsWalking g whole first now seat n → n < most → IsSeated seat → new ≡ now →
     (m : ℕ) × (m < most) × (p : Prompt) × (path : List Frame) × (r : Run) × Reads whole first new m (WaitsAt p path r)
 none_asked g whole most n first now new seat w few seated e =
@@ -287,7 +287,7 @@ none_asked g whole most n first now new seat w few seated e =
     (n, few, at.0, at.1, at.2, rw e at.3)
 
 -- all the lines that a session may have were taken
-pub long_walk : {F : Type 0} (g : Story) (whole : Reading) (most n : ℕ) (first now : Standing) (seat : Seat F) →
+pub long_walk : {F : Type 0} (g : Story) (whole : EndingOf) (most n : ℕ) (first now : Standing) (seat : Seat F) →
     IsWalking g whole first now seat n → IsSeated seat → n ≡ most →
     (1000000000 ≡ MOST_EVENTS) × (p : Prompt) × (path : List Frame) × (r : Run) × Reads whole first now most (WaitsAt p path r)
 long_walk g whole most n first now seat w seated all =
@@ -300,7 +300,7 @@ pub first_stands : (old new : Standing) (part : List ℕ) → new ≡ record old
 first_stands old new part e = let a : old.asked + 0 ≡ old.asked = omega arith in e ∙ rw a refl
 
 -- after piece 0 the walk is at the first prompt, or has come to this
-pub walk_begins : {F : Type 0} (g : Story) (whole : Reading) (most : ℕ) (old new : Standing) (seat : Seat F) (s : Step)
+pub walk_begins : {F : Type 0} (g : Story) (whole : EndingOf) (most : ℕ) (old new : Standing) (seat : Seat F) (s : Step)
     (o : Option PlayEnd) → IsSeated seat → seat.last ≡ s →
     PlaysTo g whole s seat [] [] → Told old new seat.piece s o → WalksFrom g whole most old new seat o
 walk_begins g whole most old new seat s None seated last plays told =
@@ -356,7 +356,7 @@ walk_begins g whole most old new seat s (Some (end.TooDeep table)) seated last p
     )
 walk_begins g whole most old new seat s (Some (end.Outside call.Show)) seated last plays told =
     let all : text_of (whole []) ≡ seat.piece
-    = text_shown g whole s seat [] [] told.0 (subst (λ q. Stands q seat.machine) last seated.machine) plays in (
+    = text_shown g whole s seat [] [] told.0 (subst (λ q. StandsClosed q seat.machine) last seated.machine) plays in (
       0,
       omega arith,
       record {

@@ -19,7 +19,7 @@ use Rattle.paw_state.specs.Fit.{Fit, unfit}
 use Rattle.paw_play.specs.declared.PlayEnd.{PlayEnd}
 use Rattle.paw_play.specs.declared.PlayEnd.TheVariants as end
 use Rattle.paw_play.specs.declared.TheConstants.{MOST_EVENTS}
-use Rattle.paw_play.specs.Walk.{Reading, first_lines, played, Walks}
+use Rattle.paw_play.specs.Walk.{EndingOf, first_lines, played, Walks}
 use Rattle.paw_play.specs.Session.{kept_bytes, IsKept}
 use Rattle.paw_play.specs.Stands.{StandsFor, text_since, reading_since}
 use Rattle.paw_play.specs.Keeping.{InSession, InMakingOf, LeavesStore}
@@ -31,19 +31,19 @@ abbrev pub with_store : Standing → Standing → Standing
 with_store now old = record old { files = now.files; attached = now.attached; disk = now.disk; written = now.written }
 
 -- a line was taken that couldn't be committed: nothing of its piece was shown
-abbrev pub Uncommitted : Reading → ℕ → Standing → Standing → Type 0
+abbrev pub Uncommitted : EndingOf → ℕ → Standing → Standing → Type 0
 Uncommitted whole most old new =
     (n : ℕ) × (n < most) × (suc n ≤ length old.lines) × (new ≡ played (with_store new old) (suc n) (text_of (whole (first_lines n old.lines))))
 
 -- the lines that were taken and the text that was shown, where playing on came to this: as in a walk, but that a commit
 -- may fail
-abbrev pub ShowsAs : Reading → ℕ → Standing → Standing → PlayEnd → Type 0
+abbrev pub ShowsAs : EndingOf → ℕ → Standing → Standing → PlayEnd → Type 0
 ShowsAs whole most old new (end.Outside call.Write) = Uncommitted whole most old new
 ShowsAs whole most old new (end.Outside call.Sync) = Uncommitted whole most old new
 ShowsAs whole most old new o = Walks whole most (with_store new old) new o
 
 -- What playing on comes to, where so many lines more may be taken.
-pub record PlaysWith (Kept : ℕ → List ℕ → Type 0) (whole : Reading) (past : ℕ) (name : List ℕ) (most : ℕ) (old new : Standing) (o : PlayEnd) : Type 0 where
+pub record PlaysWith (Kept : ℕ → List ℕ → Type 0) (whole : EndingOf) (past : ℕ) (name : List ℕ) (most : ℕ) (old new : Standing) (o : PlayEnd) : Type 0 where
   pub shows : ShowsAs whole most old new o
   pub session : LeavesStore Kept past name old new o
 
@@ -68,7 +68,7 @@ pub record NotYet (name : List ℕ) (old : Standing) (m : Moment) : Type 0 where
 -- ---- a new session ----
 
 -- what making a new session in the attached store, which is empty, and playing it comes to
-pub data PlaysIn (Kept : ℕ → List ℕ → Type 0) (whole : Reading) (name : List ℕ) (old new : Standing) : PlayEnd → Type 0 where
+pub data PlaysIn (Kept : ℕ → List ℕ → Type 0) (whole : EndingOf) (name : List ℕ) (old new : Standing) : PlayEnd → Type 0 where
   memory : new ≡ old → PlaysIn Kept whole name old new end.Memory
   -- the piece before the first line is spent, or calls too deep: no session is made
   spent : (kind : SpentKind) (r : Run) → whole [] ≡ Halted (RunsOut kind) r → new ≡ old →
@@ -80,7 +80,7 @@ pub data PlaysIn (Kept : ℕ → List ℕ → Type 0) (whole : Reading) (name : 
   plays : (o : PlayEnd) → PlaysWith Kept whole 0 name MOST_EVENTS old new o → PlaysIn Kept whole name old new o
 
 -- what playing a new session comes to
-pub data PlaysFirst (Kept : ℕ → List ℕ → Type 0) (whole : Reading) (name : List ℕ) (old new : Standing) : PlayEnd → Type 0 where
+pub data PlaysFirst (Kept : ℕ → List ℕ → Type 0) (whole : EndingOf) (name : List ℕ) (old new : Standing) : PlayEnd → Type 0 where
   unattached : Unattached old new → PlaysFirst Kept whole name old new (end.Outside call.Attach)
   -- the store has bytes already
   occupied : 0 < length (store_bytes old name) → new ≡ attached_to old name → PlaysFirst Kept whole name old new (end.Occupied (length (store_bytes old name)))
@@ -116,7 +116,7 @@ InGoingOn g seed es name old m = NotYet name old m ⊎ InSession (StandsFor g se
 -- A session is played: the reading of its lines, how many lines came before the first of them, the digest of its game,
 -- and the name of its store.
 pub record Played : Type 0 where
-  pub whole : Reading
+  pub whole : EndingOf
   pub before : ℕ
   pub digest : List ℕ
   pub name : List ℕ
@@ -138,7 +138,7 @@ abbrev pub PlaysOn : Played → ℕ → Standing → Standing → PlayEnd → Ty
 PlaysOn s most old new o = PlaysWith (KeptBy s old.lines) s.whole s.before s.name most old new o
 
 -- going on from a state whose last piece was this
-abbrev pub going_on : Story → State → List ℕ → Reading
+abbrev pub going_on : Story → State → List ℕ → EndingOf
 going_on g st piece lines = on g st.prompt (take st.frames.count st.frames.rows) (record {
   world = st.world;
   pending = st.pending.bytes;

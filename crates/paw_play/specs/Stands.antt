@@ -9,7 +9,7 @@ use Rattle.paw_reading.specs.Bounds.{IsLine, ValidStory}
 use Rattle.paw_journal.specs.Session.{recover}
 use Rattle.paw_play.specs.declared.TheConstants.{MOST_EVENTS}
 use Rattle.paw_play.specs.Session.{IsKept}
-use Rattle.paw_play.specs.Walk.{Reading, first_lines, joined}
+use Rattle.paw_play.specs.Walk.{EndingOf, first_lines, joined}
 
 -- The bytes of a store stand for these lines of a game that was begun with this seed: a session has room for them, and
 -- it keeps the reading of them all
@@ -44,5 +44,5 @@ ending_since n (Halted halt r) = Halted halt (since_piece n r)
 ending_since n Unended = Unended
 
 -- the reading of the lines es and others, from the last piece of es on
-abbrev pub reading_since : Story → ℕ → List (List ℕ) → Reading
+abbrev pub reading_since : Story → ℕ → List (List ℕ) → EndingOf
 reading_since g seed es lines = ending_since (length es) (reading g seed (es ++ lines))

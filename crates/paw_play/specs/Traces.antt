@@ -5,7 +5,7 @@ use Rattle.paw_base.specs.Condacts.{name_of}
 use Rattle.paw_base.specs.declared.limits.TheConstants.{STEP_LIMIT}
 use Rattle.paw_reading.specs.Run.{Run, Step}
 use Rattle.paw_reading.specs.Turn.{Ending, WaitsAt, Halted, Unended}
-use Rattle.paw_play.specs.Walk.{Reading}
+use Rattle.paw_play.specs.Walk.{EndingOf}
 
 -- ---- the text of steps ----
 
@@ -49,5 +49,5 @@ traced_ending (Halted halt r) = Halted halt (traced_run r)
 traced_ending Unended = Unended
 
 -- a reading whose pieces are told so
-abbrev pub traced : Reading → Reading
+abbrev pub traced : EndingOf → EndingOf
 traced whole lines = traced_ending (whole lines)

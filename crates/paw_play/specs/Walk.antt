@@ -12,8 +12,8 @@ use Rattle.paw_play.specs.declared.PlayEnd.TheVariants as end
 use Rattle.paw_play.specs.declared.TheConstants.{MOST_EVENTS}
 
 -- how the reading of some lines ends: that of a game from its start, or going on from a state
-abbrev pub Reading : Type 0
-Reading = List (List ℕ) → Ending
+abbrev pub EndingOf : Type 0
+EndingOf = List (List ℕ) → Ending
 
 -- the first n lines, each cut to its first 255 bytes
 abbrev pub first_lines : ℕ → List (List ℕ) → List (List ℕ)
@@ -28,7 +28,7 @@ abbrev pub played : Standing → ℕ → List ℕ → Standing
 played old n text = record old { lines = drop n old.lines; asked = old.asked + n; shown = old.shown ++ text }
 
 -- n lines were taken, the reading of them ends so, and the text of its closed pieces was shown
-pub record Reads (whole : Reading) (old new : Standing) (n : ℕ) (e : Ending) : Type 0 where
+pub record Reads (whole : EndingOf) (old new : Standing) (n : ℕ) (e : Ending) : Type 0 where
   pub reading : whole (first_lines n old.lines) ≡ e
   pub there : n ≤ length old.lines
   pub stands : new ≡ played old n (text_of e)
@@ -40,12 +40,12 @@ told_before told zero = []
 told_before told (suc n) = told n
 
 -- the text for all but the last of n lines
-abbrev pub text_before : Reading → List (List ℕ) → ℕ → List ℕ
+abbrev pub text_before : EndingOf → List (List ℕ) → ℕ → List ℕ
 text_before whole lines n = told_before (λ k. text_of (whole (first_lines k lines))) n
 
 -- n lines were taken, and a first part of the text of their reading was shown: the text for all but the last, and a
 -- part of the piece that the last one brings, which isn't empty
-pub record ReadsPart (whole : Reading) (old new : Standing) (n : ℕ) : Type 0 where
+pub record ReadsPart (whole : EndingOf) (old new : Standing) (n : ℕ) : Type 0 where
   pub shown : List ℕ
   pub rest : List ℕ
   pub part : shown ++ rest ≡ text_of (whole (first_lines n old.lines))
@@ -56,13 +56,13 @@ pub record ReadsPart (whole : Reading) (old new : Standing) (n : ℕ) : Type 0 w
   pub stands : new ≡ played old n shown
 
 -- so many lines were taken, of which the last ended the reading so for good
-abbrev pub WalkHalts : Reading → ℕ → Standing → Standing → Halt → Type 0
+abbrev pub WalkHalts : EndingOf → ℕ → Standing → Standing → Halt → Type 0
 WalkHalts whole most old new halt =
     (n : ℕ) × (n ≤ most) × (r : Run) × (r.events ≡ []) × Reads whole old new n (Halted halt r)
 
 -- What a walk comes to that may take so many lines. No line is taken behind the one that ends it. One more is asked for
 -- only where fewer than the most were taken, so where the player still waits after that many the walk is Long.
-abbrev pub Walks : Reading → ℕ → Standing → Standing → PlayEnd → Type 0
+abbrev pub Walks : EndingOf → ℕ → Standing → Standing → PlayEnd → Type 0
 Walks whole most old new end.Ended = WalkHalts whole most old new IsOver
 Walks whole most old new end.InputEnded =
     (length old.lines < most) × (p : Prompt) × (path : List Frame) × (r : Run) × Reads whole old new (length old.lines) (WaitsAt p path r)

@@ -11,11 +11,11 @@ ghost use Rattle.paw_journal.specs.Session.{state_length, piece_length};
 ghost use Rattle.paw_journal.specs.inner.Store.{IsBeside};
 ghost use Rattle.paw_journal.specs.inner.Steps.{SameDigest};
 ghost use Rattle.paw_journal.specs.Journal.{IsWriting};
-ghost use Rattle.paw_journal.specs.inner.Journal.{Keeps, failed_call};
+ghost use Rattle.paw_journal.specs.inner.Journal.{KeptIn, failed_stage_call};
 ghost use Rattle.paw_play.specs.Play.{InPlay};
 ghost use Rattle.paw_play.specs.inner.OnTheWay.{EachStory, EachPlaying, Commits, InCommit, seat_state, PlaysTo};
 ghost use Rattle.paw_play.specs.Calls.{IsPlayCall};
-ghost use Rattle.paw_play.specs.inner.Calls.{IfOutside, failed_or};
+ghost use Rattle.paw_play.specs.inner.Calls.{IfEndOutside, failed_or};
 ghost use Rattle.paw_play.specs.declared.TheConstants.{MOST_EVENTS};
 
 use crate::walk::{refused, told};
@@ -64,12 +64,12 @@ fn commit<S: Stage, T: Tables, F: Fn(u8, u8) -> u8>(
 ) -> Result<Journal, StageCall>
     requires seated { IsSeated player.now }
     requires standing { IsStanding player.now.last }
-    requires kept { S.Tells stage.old → Keeps journal room.old (S.standing stage.old) }
+    requires kept { S.Tells stage.old → KeptIn journal room.old (S.standing stage.old) }
     ensures tells { S.Tells stage.old ↔ S.Tells stage.new }
-    ensures faulted { Faulted (failed_call result) (S.faults stage.old) (S.faults stage.new) }
+    ensures faulted { Faulted (failed_stage_call result) (S.faults stage.old) (S.faults stage.new) }
     ensures cause { IfErr result IsWriting }
     ensures shown { Once S.Stage stage.old stage.new result (Commits events player.now) }
-    ensures kept { S.Tells stage.old → IfOk result (λ kept. Keeps kept room.new (S.standing stage.new)) }
+    ensures kept { S.Tells stage.old → IfOk result (λ kept. KeptIn kept room.new (S.standing stage.new)) }
     ensures digest { Once S.Stage stage.old stage.new result SameDigest }
     ensures beside { Across S.Stage stage.old stage.new IsBeside }
     ensures any_moment { Throughout S.Stage stage.old stage.new (InCommit events player.now) }
@@ -90,16 +90,16 @@ pub(crate) fn play_line<S: Stage, T: Tables, F: Fn(u8, u8) -> u8>(
     requires rows { HaveRows F.Fn player.old.routines }
     requires draws { player.old.world.draws + 200000 < 2 ^ 64 }
     requires few { session.events < MOST_EVENTS }
-    requires kept { S.Tells stage.old → Keeps session.journal room.old (S.standing stage.old) }
+    requires kept { S.Tells stage.old → KeptIn session.journal room.old (S.standing stage.old) }
     ensures seated { IsSeated player.new }
     ensures game { player.new.game ≡ player.old.game }
     ensures routines { player.new.routines ≡ player.old.routines }
     ensures draws { player.new.world.draws ≤ player.old.world.draws + 200000 }
     ensures tells { S.Tells stage.old ↔ S.Tells stage.new }
     ensures faulted { Faulted (failed_or result) (S.faults stage.old) (S.faults stage.new) }
-    ensures outside { IfErr result (λ o. IfOutside o IsPlayCall) }
+    ensures outside { IfErr result (λ o. IfEndOutside o IsPlayCall) }
     ensures events { IfOk result (λ next. next.events ≡ session.events + 1) }
-    ensures kept { S.Tells stage.old → IfOk result (λ next. Keeps next.journal room.new (S.standing stage.new)) }
+    ensures kept { S.Tells stage.old → IfOk result (λ next. KeptIn next.journal room.new (S.standing stage.new)) }
     ensures meaning { Across S.Stage stage.old stage.new (λ old new.
         EachStory F.Fn player.old.routines player.old.game (λ g.
         EachPlaying g player.old session.events old (λ s most n first.

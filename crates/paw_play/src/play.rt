@@ -8,12 +8,12 @@ ghost use Rattle.paw_stage.specs.Stage.{Faulted};
 ghost use Rattle.paw_stage.specs.Across.{Across, EachMoment};
 ghost use Rattle.paw_routines.specs.Routines.{HaveRows};
 ghost use Rattle.paw_turn.specs.inner.Player.{IsSeated, IsNew};
-ghost use Rattle.paw_journal.specs.inner.Journal.{IsAtRest, Keeps};
+ghost use Rattle.paw_journal.specs.inner.Journal.{IsAtRest, KeptIn};
 ghost use Rattle.paw_play.specs.Play.{InPlay, InGame, PlaysOn, PlaysGame, store_bytes};
 ghost use Rattle.paw_play.specs.inner.OnTheWay.{EachStory, EachStarting, InNew, PlaysInStore};
 ghost use Rattle.paw_play.specs.inner.OnTheWay.{Begins, IsStore, new_session};
 ghost use Rattle.paw_play.specs.Calls.{IsPlayCall, IsSessionCall};
-ghost use Rattle.paw_play.specs.inner.Calls.{IfOutside, failed_call, failed_or};
+ghost use Rattle.paw_play.specs.inner.Calls.{IfEndOutside, call_of_end, failed_or};
 ghost use Rattle.paw_play.specs.declared.TheConstants.{MOST_EVENTS};
 
 use crate::line::{Session, play_line, put_state};
@@ -38,10 +38,10 @@ pub(crate) fn play_lines<S: Stage, T: Tables, F: Fn(u8, u8) -> u8>(
     requires rows { HaveRows F.Fn player.old.routines }
     requires few { session.events ≤ MOST_EVENTS }
     requires draws { player.old.world.draws ≤ 200000 * (session.events + 1) }
-    requires kept { S.Tells stage.old → Keeps session.journal room.old (S.standing stage.old) }
+    requires kept { S.Tells stage.old → KeptIn session.journal room.old (S.standing stage.old) }
     ensures tells { S.Tells stage.old ↔ S.Tells stage.new }
-    ensures faulted { Faulted (failed_call result) (S.faults stage.old) (S.faults stage.new) }
-    ensures outside { IfOutside result IsPlayCall }
+    ensures faulted { Faulted (call_of_end result) (S.faults stage.old) (S.faults stage.new) }
+    ensures outside { IfEndOutside result IsPlayCall }
     ensures meaning { Across S.Stage stage.old stage.new (λ old new.
         EachStory F.Fn player.old.routines player.old.game (λ g.
         EachStarting g player.old session.events old (λ s first.
@@ -83,9 +83,9 @@ fn begin<S: Stage, T: Tables, F: Fn(u8, u8) -> u8>(
     ensures draws { player.new.world.draws ≤ 200000 }
     ensures tells { S.Tells stage.old ↔ S.Tells stage.new }
     ensures faulted { Faulted (failed_or result) (S.faults stage.old) (S.faults stage.new) }
-    ensures outside { IfErr result (λ o. IfOutside o IsPlayCall) }
+    ensures outside { IfErr result (λ o. IfEndOutside o IsPlayCall) }
     ensures events { IfOk result (λ session. session.events ≡ 0) }
-    ensures kept { S.Tells stage.old → IfOk result (λ session. Keeps session.journal room.new (S.standing stage.new)) }
+    ensures kept { S.Tells stage.old → IfOk result (λ session. KeptIn session.journal room.new (S.standing stage.new)) }
     ensures meaning { Across S.Stage stage.old stage.new (λ old new.
         EachStory F.Fn player.old.routines player.old.game (λ g. (name : List ℕ) → IsStore name old →
         Begins g (new_session g player.old.world.seed game.now name) old new player.new result)) }
@@ -124,8 +124,8 @@ fn play_in<S: Stage, T: Tables, F: Fn(u8, u8) -> u8>(
     requires rests { S.Tells stage.old → IsAtRest (S.standing stage.old) }
     requires attached { S.Tells stage.old → at.length ≡ length (S.standing stage.old).disk.bytes }
     ensures tells { S.Tells stage.old ↔ S.Tells stage.new }
-    ensures faulted { Faulted (failed_call result) (S.faults stage.old) (S.faults stage.new) }
-    ensures outside { IfOutside result IsPlayCall }
+    ensures faulted { Faulted (call_of_end result) (S.faults stage.old) (S.faults stage.new) }
+    ensures outside { IfEndOutside result IsPlayCall }
     ensures plays { Across S.Stage stage.old stage.new (λ old new.
         EachStory F.Fn routines.now (T.game tables.now) (λ g. (name : List ℕ) → IsStore name old →
         PlaysInStore (new_session g seed game.now name) old new result)) }
@@ -162,8 +162,8 @@ pub fn play_loop<S: Stage, T: Tables, F: Fn(u8, u8) -> u8>(
     requires game { game.now ≡ sha256 (image (T.game tables.now)) }
     requires synced { S.Tells stage.old → IsStable (S.standing stage.old).disk }
     ensures tells { S.Tells stage.old ↔ S.Tells stage.new }
-    ensures faulted { Faulted (failed_call result) (S.faults stage.old) (S.faults stage.new) }
-    ensures outside { IfOutside result IsSessionCall }
+    ensures faulted { Faulted (call_of_end result) (S.faults stage.old) (S.faults stage.new) }
+    ensures outside { IfEndOutside result IsSessionCall }
     ensures plays { Across S.Stage stage.old stage.new (λ old new.
         EachStory F.Fn routines.now (T.game tables.now) (λ g. PlaysGame g seed name.now old new result)) }
     ensures any_moment { Across S.Stage stage.old stage.new (λ old new.

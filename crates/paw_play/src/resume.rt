@@ -11,11 +11,11 @@ ghost use Rattle.paw_stage.specs.Moments.{InShow};
 ghost use Rattle.paw_routines.specs.Routines.{HaveRows};
 ghost use Rattle.paw_state.specs.State.{State};
 ghost use Rattle.paw_journal.specs.Session.{kept_digest};
-ghost use Rattle.paw_journal.specs.inner.Journal.{Keeps};
+ghost use Rattle.paw_journal.specs.inner.Journal.{KeptIn};
 ghost use Rattle.paw_play.specs.Play.{InPlay, InAgain, PlaysUp, PlaysAgain, ShowsState, kept_session, store_bytes};
 ghost use Rattle.paw_play.specs.inner.OnTheWay.{EachStory, IsStore, ShowsAgain, end_of};
 ghost use Rattle.paw_play.specs.Calls.{IsPlayCall, IsSessionCall};
-ghost use Rattle.paw_play.specs.inner.Calls.{IfOutside, failed_call, failed_so_far};
+ghost use Rattle.paw_play.specs.inner.Calls.{IfEndOutside, call_of_end, failed_so_far};
 
 use crate::PlayEnd;
 use crate::line::Session;
@@ -34,7 +34,7 @@ use std::alloc::Global;
 fn show_again<S: Stage>(stage: &mut S, piece: &[u8], prompt: Prompt) -> Option<PlayEnd>
     ensures tells { S.Tells stage.old ↔ S.Tells stage.new }
     ensures faulted { Faulted (failed_so_far result) (S.faults stage.old) (S.faults stage.new) }
-    ensures outside { IfSome result (λ o. IfOutside o IsPlayCall) }
+    ensures outside { IfSome result (λ o. IfEndOutside o IsPlayCall) }
     ensures meaning { Across S.Stage stage.old stage.new (λ old new. ShowsAgain old new piece.now prompt result) }
     ensures time { Throughout S.Stage stage.old stage.new (λ s. InShow s piece.now) }
 {
@@ -70,10 +70,10 @@ fn take_up<S: Stage, T: Tables, F: Fn(u8, u8) -> u8>(
     journal: Journal,
 ) -> PlayEnd
     requires rows { HaveRows F.Fn routines.now }
-    requires kept { S.Tells stage.old → Keeps journal room.old (S.standing stage.old) }
+    requires kept { S.Tells stage.old → KeptIn journal room.old (S.standing stage.old) }
     ensures tells { S.Tells stage.old ↔ S.Tells stage.new }
-    ensures faulted { Faulted (failed_call result) (S.faults stage.old) (S.faults stage.new) }
-    ensures outside { IfOutside result IsPlayCall }
+    ensures faulted { Faulted (call_of_end result) (S.faults stage.old) (S.faults stage.new) }
+    ensures outside { IfEndOutside result IsPlayCall }
     ensures plays { Across S.Stage stage.old stage.new (λ old new.
         EachStory F.Fn routines.now (T.game tables.now) (λ g. (name : List ℕ) → IsStore name old →
         PlaysUp g (kept_digest old.disk.bytes) name old new result)) }
@@ -120,8 +120,8 @@ pub fn resume_loop<S: Stage, T: Tables, F: Fn(u8, u8) -> u8>(
     requires game { game.now ≡ sha256 (image (T.game tables.now)) }
     requires synced { S.Tells stage.old → IsStable (S.standing stage.old).disk }
     ensures tells { S.Tells stage.old ↔ S.Tells stage.new }
-    ensures faulted { Faulted (failed_call result) (S.faults stage.old) (S.faults stage.new) }
-    ensures outside { IfOutside result IsSessionCall }
+    ensures faulted { Faulted (call_of_end result) (S.faults stage.old) (S.faults stage.new) }
+    ensures outside { IfEndOutside result IsSessionCall }
     ensures plays { Across S.Stage stage.old stage.new (λ old new.
         EachStory F.Fn routines.now (T.game tables.now) (λ g. PlaysAgain g game.now name.now old new result)) }
     ensures any_moment { Across S.Stage stage.old stage.new (λ old new.

@@ -9,11 +9,11 @@ ghost use Rattle.paw_stage.specs.Stage.{Standing, Faulted};
 ghost use Rattle.paw_stage.specs.Across.{Across};
 ghost use Rattle.paw_reading.specs.Turn.{reading};
 ghost use Rattle.paw_turn.specs.inner.Player.{IsSeated};
-ghost use Rattle.paw_play.specs.Walk.{Reading, Walks};
+ghost use Rattle.paw_play.specs.Walk.{EndingOf, Walks};
 ghost use Rattle.paw_play.specs.Traces.{place_text, answer_text, step_line, more_line, traced};
 ghost use Rattle.paw_play.specs.inner.OnTheWay.{EachStory, IsTracing, TracesOn, Told, kept_text, seat_text};
 ghost use Rattle.paw_play.specs.Calls.{IsWalkCall};
-ghost use Rattle.paw_play.specs.inner.Calls.{IfOutside, failed_call, failed_so_far};
+ghost use Rattle.paw_play.specs.inner.Calls.{IfEndOutside, call_of_end, failed_so_far};
 ghost use Rattle.paw_play.specs.declared.TheConstants.{MOST_EVENTS};
 
 use crate::show::show;
@@ -130,7 +130,7 @@ fn told_behind_steps<S: Stage, T: Tables, F: Fn(u8, u8) -> u8>(
     requires last { player.now.last ≡ step }
     ensures tells { S.Tells stage.old ↔ S.Tells stage.new }
     ensures faulted { Faulted (failed_so_far result) (S.faults stage.old) (S.faults stage.new) }
-    ensures outside { IfSome result (λ o. IfOutside o IsWalkCall) }
+    ensures outside { IfSome result (λ o. IfEndOutside o IsWalkCall) }
     ensures meaning { Across S.Stage stage.old stage.new (λ old new. Told old new (seat_text player.now) step result) }
 {
     if let Some(end) = refused(step) {
@@ -158,9 +158,9 @@ fn trace_line<S: Stage, T: Tables, F: Fn(u8, u8) -> u8>(
     ensures draws { player.new.world.draws ≤ player.old.world.draws + 200000 }
     ensures tells { S.Tells stage.old ↔ S.Tells stage.new }
     ensures faulted { Faulted (failed_so_far result) (S.faults stage.old) (S.faults stage.new) }
-    ensures outside { IfSome result (λ o. IfOutside o IsWalkCall) }
+    ensures outside { IfSome result (λ o. IfEndOutside o IsWalkCall) }
     ensures meaning { Across S.Stage stage.old stage.new (λ old new.
-        EachStory F.Fn player.old.routines player.old.game (λ g. (whole : Reading) (most n : ℕ) (first : Standing) →
+        EachStory F.Fn player.old.routines player.old.game (λ g. (whole : EndingOf) (most n : ℕ) (first : Standing) →
         IsTracing g whole first old player.old n → n < most →
         TracesOn g whole most first new player.new n result)) }
 {
@@ -185,10 +185,10 @@ fn trace_lines<S: Stage, T: Tables, F: Fn(u8, u8) -> u8>(
     requires rows { HaveRows F.Fn player.old.routines }
     requires draws { player.old.world.draws ≤ 200000 }
     ensures tells { S.Tells stage.old ↔ S.Tells stage.new }
-    ensures faulted { Faulted (failed_call result) (S.faults stage.old) (S.faults stage.new) }
-    ensures outside { IfOutside result IsWalkCall }
+    ensures faulted { Faulted (call_of_end result) (S.faults stage.old) (S.faults stage.new) }
+    ensures outside { IfEndOutside result IsWalkCall }
     ensures meaning { Across S.Stage stage.old stage.new (λ old new.
-        EachStory F.Fn player.old.routines player.old.game (λ g. (whole : Reading) (first : Standing) →
+        EachStory F.Fn player.old.routines player.old.game (λ g. (whole : EndingOf) (first : Standing) →
         IsTracing g whole first old player.old 0 → Walks (traced whole) MOST_EVENTS first new result)) }
 {
     for _ in 0..MOST_EVENTS {
@@ -213,8 +213,8 @@ pub fn trace_loop<S: Stage, T: Tables, F: Fn(u8, u8) -> u8>(
 ) -> PlayEnd
     requires rows { HaveRows F.Fn routines.now }
     ensures tells { S.Tells stage.old ↔ S.Tells stage.new }
-    ensures faulted { Faulted (failed_call result) (S.faults stage.old) (S.faults stage.new) }
-    ensures outside { IfOutside result IsWalkCall }
+    ensures faulted { Faulted (call_of_end result) (S.faults stage.old) (S.faults stage.new) }
+    ensures outside { IfEndOutside result IsWalkCall }
     ensures traces { Across S.Stage stage.old stage.new (λ old new. EachStory F.Fn routines.now (T.game tables.now)
         (λ g. Walks (traced (reading g seed)) MOST_EVENTS old new result)) }
 {

@@ -8,10 +8,10 @@ ghost use Rattle.paw_stage.specs.inner.Across.{Throughout};
 ghost use Rattle.paw_reading.specs.Turn.{reading};
 ghost use Rattle.paw_stage.specs.Moments.{InShow};
 ghost use Rattle.paw_turn.specs.inner.Player.{IsSeated};
-ghost use Rattle.paw_play.specs.Walk.{Reading, Walks};
+ghost use Rattle.paw_play.specs.Walk.{EndingOf, Walks};
 ghost use Rattle.paw_play.specs.inner.OnTheWay.{EachStory, IsWalking, WalksOn, Told, refusal_of};
 ghost use Rattle.paw_play.specs.Calls.{IsWalkCall};
-ghost use Rattle.paw_play.specs.inner.Calls.{IfOutside, failed_call, failed_so_far};
+ghost use Rattle.paw_play.specs.inner.Calls.{IfEndOutside, call_of_end, failed_so_far};
 ghost use Rattle.paw_play.specs.declared.TheConstants.{MOST_EVENTS};
 
 use crate::show::show;
@@ -43,7 +43,7 @@ pub(crate) fn told<S: Stage, T: Tables, F: Fn(u8, u8) -> u8>(
     requires last { player.now.last ≡ step }
     ensures tells { S.Tells stage.old ↔ S.Tells stage.new }
     ensures faulted { Faulted (failed_so_far result) (S.faults stage.old) (S.faults stage.new) }
-    ensures outside { IfSome result (λ o. IfOutside o IsWalkCall) }
+    ensures outside { IfSome result (λ o. IfEndOutside o IsWalkCall) }
     ensures meaning { Across S.Stage stage.old stage.new (λ old new. Told old new player.now.piece step result) }
     ensures time { Throughout S.Stage stage.old stage.new (λ s. InShow s player.now.piece) }
 {
@@ -73,10 +73,10 @@ fn walk_line<S: Stage, T: Tables, F: Fn(u8, u8) -> u8>(
     ensures draws { player.new.world.draws ≤ player.old.world.draws + 200000 }
     ensures tells { S.Tells stage.old ↔ S.Tells stage.new }
     ensures faulted { Faulted (failed_so_far result) (S.faults stage.old) (S.faults stage.new) }
-    ensures outside { IfSome result (λ o. IfOutside o IsWalkCall) }
+    ensures outside { IfSome result (λ o. IfEndOutside o IsWalkCall) }
     ensures routines { player.new.routines ≡ player.old.routines }
     ensures meaning { Across S.Stage stage.old stage.new (λ old new.
-        EachStory F.Fn player.old.routines player.old.game (λ g. (whole : Reading) (most n : ℕ) (first : Standing) →
+        EachStory F.Fn player.old.routines player.old.game (λ g. (whole : EndingOf) (most n : ℕ) (first : Standing) →
         IsWalking g whole first old player.old n → n < most →
         WalksOn g whole most first new player.new n result)) }
 {
@@ -100,10 +100,10 @@ fn walk_lines<S: Stage, T: Tables, F: Fn(u8, u8) -> u8>(
     requires rows { HaveRows F.Fn player.old.routines }
     requires draws { player.old.world.draws ≤ 200000 }
     ensures tells { S.Tells stage.old ↔ S.Tells stage.new }
-    ensures faulted { Faulted (failed_call result) (S.faults stage.old) (S.faults stage.new) }
-    ensures outside { IfOutside result IsWalkCall }
+    ensures faulted { Faulted (call_of_end result) (S.faults stage.old) (S.faults stage.new) }
+    ensures outside { IfEndOutside result IsWalkCall }
     ensures meaning { Across S.Stage stage.old stage.new (λ old new.
-        EachStory F.Fn player.old.routines player.old.game (λ g. (whole : Reading) (first : Standing) →
+        EachStory F.Fn player.old.routines player.old.game (λ g. (whole : EndingOf) (first : Standing) →
         IsWalking g whole first old player.old 0 → Walks whole MOST_EVENTS first new result)) }
 {
     for _ in 0..MOST_EVENTS {
@@ -127,8 +127,8 @@ pub fn walk_loop<S: Stage, T: Tables, F: Fn(u8, u8) -> u8>(
 ) -> PlayEnd
     requires rows { HaveRows F.Fn routines.now }
     ensures tells { S.Tells stage.old ↔ S.Tells stage.new }
-    ensures faulted { Faulted (failed_call result) (S.faults stage.old) (S.faults stage.new) }
-    ensures outside { IfOutside result IsWalkCall }
+    ensures faulted { Faulted (call_of_end result) (S.faults stage.old) (S.faults stage.new) }
+    ensures outside { IfEndOutside result IsWalkCall }
     ensures walks { Across S.Stage stage.old stage.new (λ old new.
         EachStory F.Fn routines.now (T.game tables.now) (λ g. Walks (reading g seed) MOST_EVENTS old new result)) }
 {

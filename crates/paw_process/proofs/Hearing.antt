@@ -12,22 +12,22 @@ use Rattle.paw_reading.specs.GoingOn.{on_path}
 use Rattle.paw_reading.proofs.Rules.{plain_past}
 use Rattle.paw_reading.proofs.Along.{on_path_reverse}
 use Rattle.paw_process.specs.inner.OpenTables.{below}
-use Rattle.paw_process.specs.inner.Meaning.{to_come, going_on, AnswersQuit, AnswersKey}
-use Rattle.paw_process.specs.inner.Moves.{settled, past_of, after_quit, after_key}
+use Rattle.paw_process.specs.inner.Meaning.{to_come, going_in, AnswersQuit, AnswersKey}
+use Rattle.paw_process.specs.inner.Moves.{resolved, past_of, after_quit, after_key}
 
 -- a line that isn't ignored is heard, and answers
 hears : (g : Story) (p : Prompt) (f : Frame) (go : Bool → Run → Out) (r : Run) (line : List ℕ) (lines : List (List ℕ)) → is_ignored r.world line ≡ false → asked g p f go (to_come (line ∷ lines) r) (line ∷ lines) ≡ answered g p f go (reply line) (heard line (to_come lines r))
 unfolding asked
 hears g p f go r line lines h = rw h refl
 
-heard_at : (g : Story) (p : Prompt) (f : Frame) (fs : List Frame) (r : Run) (line : List ℕ) (lines : List (List ℕ)) → is_ignored r.world line ≡ false → on_path g p 0 (reverse (f ∷ fs)) (to_come (line ∷ lines) r) ≡ settled g fs (answered g p f (past_of g fs f) (reply line) (heard line (to_come lines r)))
+heard_at : (g : Story) (p : Prompt) (f : Frame) (fs : List Frame) (r : Run) (line : List ℕ) (lines : List (List ℕ)) → is_ignored r.world line ≡ false → on_path g p 0 (reverse (f ∷ fs)) (to_come (line ∷ lines) r) ≡ resolved g fs (answered g p f (past_of g fs f) (reply line) (heard line (to_come lines r)))
 heard_at g p f fs r line lines h =
-    on_path_reverse g p f fs (to_come (line ∷ lines) r) ∙ ap (settled g fs) (hears g p f (past_of g fs f) r line lines h)
+    on_path_reverse g p f fs (to_come (line ∷ lines) r) ∙ ap (resolved g fs) (hears g p f (past_of g fs f) r line lines h)
 
-quits : (g : Story) (f : Frame) (fs : List Frame) (line : List ℕ) (r : Run) (agrees : Bool) → Valid g.game → is_yes (reply line) ≡ agrees → settled g fs (answered g prompt.Quit f (past_of g fs f) (reply line) r) ≡ going_on g (after_quit agrees f ∷ fs) r
+quits : (g : Story) (f : Frame) (fs : List Frame) (line : List ℕ) (r : Run) (agrees : Bool) → Valid g.game → is_yes (reply line) ≡ agrees → resolved g fs (answered g prompt.Quit f (past_of g fs f) (reply line) r) ≡ going_in g (after_quit agrees f ∷ fs) r
 quits g f fs line r true v h = rw (h, add-one) refl
 quits g f fs line r false v h =
-    rw h (ap (settled g fs) (sym (plain_past g (deeper g (length fs)) (length fs) f.table 4000 true r (table-short g.game v f.table))))
+    rw h (ap (resolved g fs) (sym (plain_past g (deeper g (length fs)) (length fs) f.table 4000 true r (table-short g.game v f.table))))
 
 pub answers_quit : (agrees : Bool) (old new : List Frame) (f : Frame) → old ≡ f ∷ below old → new ≡ after_quit agrees f ∷ below old → AnswersQuit agrees old new
 answers_quit agrees old new f top e g line lines r v ignored h =

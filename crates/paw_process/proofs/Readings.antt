@@ -4,7 +4,7 @@ use Rattle.std.specs.Prelude.{if◌then◌else◌, reverse}
 use Rattle.std.proofs.lemmas.List.{append_assoc, append-nil}
 use Rattle.paw_base.specs.declared.parts.Condact.{Condact}
 use Rattle.paw_base.specs.Steps.{KeptSteps}
-use Rattle.paw_base.specs.inner.Steps.{noted as noted_step}
+use Rattle.paw_base.specs.inner.Steps.{with_step_noted as noted_step}
 use Rattle.paw_base.proofs.Noted.{kept_noted}
 use Rattle.paw_base.specs.declared.fault.SpentKind.TheVariants as spent
 use Rattle.paw_effects.specs.Story.{Story}
@@ -31,8 +31,8 @@ use Rattle.paw_reading.specs.GoingOn.{on_path}
 use Rattle.paw_reading.specs.inner.GoingOn.{along}
 use Rattle.paw_process.specs.OpenTables.{OpenTables}
 use Rattle.paw_process.specs.inner.OpenTables.{HasRead, ReadsNone, ReadsStep, below}
-use Rattle.paw_process.specs.inner.Meaning.{Held, held, Shows, showing, with_steps, to_come, going_on, ComesTo, RunsTo}
-use Rattle.paw_process.specs.inner.Moves.{Continues, settled, next_of, past_of, reading_at, acted_at, turning_at, running, reading_with, one_at, Reads, ReadsOne, after_found}
+use Rattle.paw_process.specs.inner.Meaning.{Held, having, ShowsHeld, run_held, with_steps, to_come, going_in, ComesTo, RunsTo}
+use Rattle.paw_process.specs.inner.Moves.{Continues, resolved, next_of, past_of, reading_at, acted_at, turning_at, running, reading_with, one_at, ReadsTable, ReadsOne, after_found}
 use Rattle.paw_process.specs.inner.Phrases.{Speaks}
 use Rattle.paw_process.specs.declared.Turned.{Turned}
 use Rattle.paw_process.specs.declared.Turned.TheVariants as turned
@@ -42,19 +42,19 @@ use Rattle.paw_process.proofs.Stops.{goes_from, stops_spent, fit, ask_spent}
 -- ---- conditions ----
 
 module _ (g : Story) (fs : List Frame) (f : Frame) (c : Condact) (r : Run) where
-  pub one_tests : is_condition c ≡ true → one_at g fs f c r ≡ settled g fs (tests g f (next_of g fs f) (past_of g fs f) c r (holds g.game r.world c))
+  pub one_tests : is_condition c ≡ true → one_at g fs f c r ≡ resolved g fs (tests g f (next_of g fs f) (past_of g fs f) c r (holds g.game r.world c))
   one_tests h = rw h refl
 
-  pub one_acts : is_condition c ≡ false → one_at g fs f c r ≡ settled g fs (acts g (deeper g (length fs)) (length fs) f (next_of g fs f) (past_of g fs f) (effect_of g r.world c) (noted f c true r))
+  pub one_acts : is_condition c ≡ false → one_at g fs f c r ≡ resolved g fs (acts g (deeper g (length fs)) (length fs) f (next_of g fs f) (past_of g fs f) (effect_of g r.world c) (noted f c true r))
   one_acts h = rw h refl
 
-  pub test_holds : (w : World) → is_condition c ≡ true → truth.Yes ≡ (holds g.game r.world c).answer → w ≡ (holds g.game r.world c).world → one_at g fs f c r ≡ going_on g (record { table = f.table; entry = f.entry; at = f.at + 1; acted = f.acted } ∷ fs) (noted f c true (with_world w r))
+  pub test_holds : (w : World) → is_condition c ≡ true → truth.Yes ≡ (holds g.game r.world c).answer → w ≡ (holds g.game r.world c).world → one_at g fs f c r ≡ going_in g (record { table = f.table; entry = f.entry; at = f.at + 1; acted = f.acted } ∷ fs) (noted f c true (with_world w r))
   test_holds w kind h e = one_tests kind ∙ rw (← h, e, add-one) refl
 
-  pub test_fails : (w : World) → is_condition c ≡ true → truth.No ≡ (holds g.game r.world c).answer → w ≡ (holds g.game r.world c).world → one_at g fs f c r ≡ going_on g (record { table = f.table; entry = f.entry + 1; at = 0; acted = f.acted } ∷ fs) (noted f c false (with_world w r))
+  pub test_fails : (w : World) → is_condition c ≡ true → truth.No ≡ (holds g.game r.world c).answer → w ≡ (holds g.game r.world c).world → one_at g fs f c r ≡ going_in g (record { table = f.table; entry = f.entry + 1; at = 0; acted = f.acted } ∷ fs) (noted f c false (with_world w r))
   test_fails w kind h e = one_tests kind ∙ rw (← h, e, add-one) refl
 
-  pub test_asks : (w : World) → is_condition c ≡ true → truth.Ask ≡ (holds g.game r.world c).answer → w ≡ (holds g.game r.world c).world → one_at g fs f c r ≡ settled g fs (printing (put_text g.game w 12) (waits g prompt.Quit f (past_of g fs f)) (noted f c true (with_world w r)))
+  pub test_asks : (w : World) → is_condition c ≡ true → truth.Ask ≡ (holds g.game r.world c).answer → w ≡ (holds g.game r.world c).world → one_at g fs f c r ≡ resolved g fs (printing (put_text g.game w 12) (waits g prompt.Quit f (past_of g fs f)) (noted f c true (with_world w r)))
   test_asks w kind h e = one_tests kind ∙ rw (← h, e) refl
 
 -- ---- actions ----
@@ -76,8 +76,8 @@ ask_at g old fs f p r top = settled_waits g fs f p r ∙ rw top refl
 pub parse_at : (g : Story) (fs : List Frame) (f : Frame) (x : Found) (w w' : World) (p p' : PendingLine)
     (o : Option OpenLoop) (r : Run) →
     Speaks (parsed g.game p.bytes p.earlier (flag w 46) (flag w 47)) x w w' p p' →
-    settled g fs (parses g f (next_of g fs f) (past_of g fs f) (running w p o r))
-    ≡ going_on g (after_found x f ∷ fs) (running w' p' o r)
+    resolved g fs (parses g f (next_of g fs f) (past_of g fs f) (running w p o r))
+    ≡ going_in g (after_found x f ∷ fs) (running w' p' o r)
 parse_at g fs f found.Sentence w w' p p' o r (s, e, ew, ev) = rw (e, ew, ev, add-one) refl
 parse_at g fs f found.Nothing w w' p p' o r (e, ew, ev) = rw (e, ew, ev, add-one) refl
 parse_at g fs f found.Empty w w' p p' o r (e, ew, ep) = rw (e, ew, ep, add-one) refl
@@ -100,28 +100,28 @@ pub did_spent : (d : Done) (old new : List ℕ) (w : World) (a : Act) → Does d
 did_spent d old new w a h e = subst (DoesAs d old new w a) (sym e) h
 
 -- an action is carried out
-pub act_at : (g : Story) (fs : List Frame) (f : Frame) (d : Done) (w w' : World) (p p' : PendingLine) (o o' : Option OpenLoop) (piece piece' : List ℕ) (a : Act) (r : Run) → length piece + length d.text ≤ 65535 → piece' ≡ piece ++ d.text → w' ≡ d.world → a ≡ d.act → p' ≡ record p { bytes = if a.drop_line then [] else p.bytes } → o' ≡ (if a.cancel_loop then None else o) → settled g fs (acts g (deeper g (length fs)) (length fs) f (next_of g fs f) (past_of g fs f) d (record (running w p o r) { current = piece })) ≡ acted_at g fs f a.effect (running w' p' o' (record r { current = piece' }))
+pub act_at : (g : Story) (fs : List Frame) (f : Frame) (d : Done) (w w' : World) (p p' : PendingLine) (o o' : Option OpenLoop) (piece piece' : List ℕ) (a : Act) (r : Run) → length piece + length d.text ≤ 65535 → piece' ≡ piece ++ d.text → w' ≡ d.world → a ≡ d.act → p' ≡ record p { bytes = if a.drop_line then [] else p.bytes } → o' ≡ (if a.cancel_loop then None else o) → resolved g fs (acts g (deeper g (length fs)) (length fs) f (next_of g fs f) (past_of g fs f) d (record (running w p o r) { current = piece })) ≡ acted_at g fs f a.effect (running w' p' o' (record r { current = piece' }))
 act_at g fs f d w w' p p' o o' piece piece' a r low ep ew ea eq eo =
-    ap (settled g fs) (fit (record (running w p o r) { current = piece }) d.text (λ s. after_action g (deeper g (length fs)) (length fs) f (next_of g fs f) (past_of g fs f) d.act.effect (carried_out d s)) low) ∙ rw (eq, eo, ep, ew, ea) refl
+    ap (resolved g fs) (fit (record (running w p o r) { current = piece }) d.text (λ s. after_action g (deeper g (length fs)) (length fs) f (next_of g fs f) (past_of g fs f) d.act.effect (carried_out d s)) low) ∙ rw (eq, eo, ep, ew, ea) refl
 
 -- an action that isn't spent is carried out, and reading goes on
-pub act_follows : (g : Story) (old mid : OpenTables) (f : Frame) (c : Condact) (w w' : World) (p p' : PendingLine) (piece piece' : List ℕ) (a : Act) (e : Effect) (r : Run) → is_condition c ≡ false → Does (effect_of g w c) piece piece' w' a → (a.effect ≡ effect.Spent → ⊥) → e ≡ a.effect → p' ≡ record p { bytes = if a.drop_line then [] else p.bytes } → mid ≡ record old { turning = if a.cancel_loop then None else old.turning } → one_at g (below old.frames) f c (showing (held w p old piece) r) ≡ acted_at g (below mid.frames) f e (running w' p' mid.turning (noted f c true (record r { current = piece' })))
+pub act_follows : (g : Story) (old mid : OpenTables) (f : Frame) (c : Condact) (w w' : World) (p p' : PendingLine) (piece piece' : List ℕ) (a : Act) (e : Effect) (r : Run) → is_condition c ≡ false → Does (effect_of g w c) piece piece' w' a → (a.effect ≡ effect.Spent → ⊥) → e ≡ a.effect → p' ≡ record p { bytes = if a.drop_line then [] else p.bytes } → mid ≡ record old { turning = if a.cancel_loop then None else old.turning } → one_at g (below old.frames) f c (run_held (having w p old piece) r) ≡ acted_at g (below mid.frames) f e (running w' p' mid.turning (noted f c true (record r { current = piece' })))
 act_follows g old mid f c w w' p p' piece piece' a e r kind does unspent same eq em =
     let m = did (effect_of g w c) piece piece' w' a does unspent in
-    rw (em, same) (one_acts g (below old.frames) f c (showing (held w p old piece) r) kind
+    rw (em, same) (one_acts g (below old.frames) f c (run_held (having w p old piece) r) kind
     ∙ act_at g (below old.frames) f (effect_of g w c) w w' p p' old.turning (if a.cancel_loop then None else old.turning) piece piece' a (noted f c true r) m.0 m.1 m.2 m.3 eq refl)
 
 -- an action whose text doesn't fit
 pub act_spends : (g : Story) (old : OpenTables) (f : Frame) (c : Condact) (w w' : World) (p : PendingLine)
     (piece piece' : List ℕ) (a : Act) (r : Run) →
     is_condition c ≡ false → Does (effect_of g w c) piece piece' w' a → effect.Spent ≡ a.effect →
-    one_at g (below old.frames) f c (showing (held w p old piece) r)
-    ≡ halts (RunsOut spent.Text) (noted f c true (showing (held w p old piece) r))
+    one_at g (below old.frames) f c (run_held (having w p old piece) r)
+    ≡ halts (RunsOut spent.Text) (noted f c true (run_held (having w p old piece) r))
 act_spends g old f c w w' p piece piece' a r kind does is =
-    one_acts g (below old.frames) f c (showing (held w p old piece) r) kind
+    one_acts g (below old.frames) f c (run_held (having w p old piece) r) kind
     ∙ ask_spent g (below old.frames) (effect_of g w c).text
     (λ s. after_action g (deeper g (length (below old.frames))) (length (below old.frames)) f (next_of g (below old.frames) f) (past_of g (below old.frames) f) (effect_of g w c).act.effect (carried_out (effect_of g w c) s))
-    (noted f c true (showing (held w p old piece) r)) (did_spent (effect_of g w c) piece piece' w' a does is)
+    (noted f c true (run_held (having w p old piece) r)) (did_spent (effect_of g w c) piece piece' w' a does is)
 
 -- ---- what one condact is ----
 
@@ -133,34 +133,34 @@ module _ (g : Story) (old mid : OpenTables) (f : Frame) (c : Condact) (w : World
   pub test_yes : (w' : World) (new : OpenTables) → is_condition c ≡ true → truth.Yes ≡ (holds g.game w c).answer → w' ≡ (holds g.game w c).world
       → ReadsStep (step_at f c true) old mid → mid ≡ record old { left = left; steps = steps }
       → new ≡ record mid { frames = record { table = f.table; entry = f.entry; at = f.at + 1; acted = f.acted } ∷ below mid.frames }
-      → ReadsOne g (below old.frames) f c (held w p old piece) None (held w' p new piece)
+      → ReadsOne g (below old.frames) f c (having w p old piece) None (having w' p new piece)
   test_yes w' new kind answer is one em en = (
     true,
     step_then (step_at f c true) old mid new one (record { left = ap (λ (m : OpenTables). m.left) en; steps = ap (λ (m : OpenTables). m.steps) en }),
-    λ r. rw (en, em) (test_holds g (below old.frames) f c (showing (held w p old piece) r) w' kind answer is),
+    λ r. rw (en, em) (test_holds g (below old.frames) f c (run_held (having w p old piece) r) w' kind answer is),
   )
 
   pub test_no : (w' : World) (new : OpenTables) → is_condition c ≡ true → truth.No ≡ (holds g.game w c).answer → w' ≡ (holds g.game w c).world
       → ReadsStep (step_at f c false) old mid → mid ≡ record old { left = left; steps = steps }
       → new ≡ record mid { frames = record { table = f.table; entry = f.entry + 1; at = 0; acted = f.acted } ∷ below mid.frames }
-      → ReadsOne g (below old.frames) f c (held w p old piece) None (held w' p new piece)
+      → ReadsOne g (below old.frames) f c (having w p old piece) None (having w' p new piece)
   test_no w' new kind answer is one em en = (
     false,
     step_then (step_at f c false) old mid new one (record { left = ap (λ (m : OpenTables). m.left) en; steps = ap (λ (m : OpenTables). m.steps) en }),
-    λ r. rw (en, em) (test_fails g (below old.frames) f c (showing (held w p old piece) r) w' kind answer is),
+    λ r. rw (en, em) (test_fails g (below old.frames) f c (run_held (having w p old piece) r) w' kind answer is),
   )
 
   pub test_ask : (w' : World) (new : OpenTables) (piece' : List ℕ) (t : Option Turned) → is_condition c ≡ true → truth.Ask ≡ (holds g.game w c).answer → w' ≡ (holds g.game w c).world
       → ReadsStep (step_at f c true) old mid → mid ≡ record old { left = left; steps = steps } → ReadsNone mid new
-      → ((r : Run) → Continues g (settled g (below mid.frames) (printing (put_text g.game w' 12) (waits g prompt.Quit f (past_of g (below mid.frames) f)) (reading_with piece mid.turning r))) t new.frames (reading_with piece' new.turning r))
-      → ReadsOne g (below old.frames) f c (held w p old piece) t (held w' p new piece')
+      → ((r : Run) → Continues g (resolved g (below mid.frames) (printing (put_text g.game w' 12) (waits g prompt.Quit f (past_of g (below mid.frames) f)) (reading_with piece mid.turning r))) t new.frames (reading_with piece' new.turning r))
+      → ReadsOne g (below old.frames) f c (having w p old piece) t (having w' p new piece')
   test_ask w' new piece' t kind answer is one em none asks = (
     true,
     step_then (step_at f c true) old mid new one none,
     λ r.
-        goes_from g _ _ t new.frames (noted f c true (showing (held w' p new piece') r))
-        (test_asks g (below old.frames) f c (showing (held w p old piece) r) w' kind answer is)
-        (rw em at (asks (noted f c true (showing (held w' p old piece) r)))),
+        goes_from g _ _ t new.frames (noted f c true (run_held (having w' p new piece') r))
+        (test_asks g (below old.frames) f c (run_held (having w p old piece) r) w' kind answer is)
+        (rw em at (asks (noted f c true (run_held (having w' p old piece) r)))),
   )
 
   pub act_on : (w' : World) (p' : PendingLine) (cancelled new : OpenTables) (piece' : List ℕ) (a : Act) (w'' : World) (p'' : PendingLine) (t : Option Turned) → is_condition c ≡ false
@@ -168,12 +168,12 @@ module _ (g : Story) (old mid : OpenTables) (f : Frame) (c : Condact) (w : World
       → ReadsStep (step_at f c true) old mid → mid ≡ record old { left = left; steps = steps } → cancelled ≡ record mid { turning = if a.cancel_loop then None else mid.turning }
       → ReadsNone cancelled new
       → ((r : Run) → Continues g (acted_at g (below cancelled.frames) f a.effect (running w' p' cancelled.turning r)) t new.frames (running w'' p'' new.turning r))
-      → ReadsOne g (below old.frames) f c (held w p old piece) t (held w'' p'' new piece')
+      → ReadsOne g (below old.frames) f c (having w p old piece) t (having w'' p'' new piece')
   act_on w' p' cancelled new piece' a w'' p'' t kind does unspent ep one em ec none follows = (
     true,
     step_then (step_at f c true) old cancelled new (step_then (step_at f c true) old mid cancelled one (record { left = ap (λ (m : OpenTables). m.left) ec; steps = ap (λ (m : OpenTables). m.steps) ec })) none,
     λ r.
-        goes_from g _ _ t new.frames (noted f c true (showing (held w'' p'' new piece') r))
+        goes_from g _ _ t new.frames (noted f c true (run_held (having w'' p'' new piece') r))
         (act_follows g old (record old { turning = if a.cancel_loop then None else old.turning }) f c w w' p p' piece piece' a a.effect r kind does unspent refl ep refl)
         (rw (ec, em) at (follows (noted f c true (record r { current = piece' })))),
   )
@@ -181,13 +181,13 @@ module _ (g : Story) (old mid : OpenTables) (f : Frame) (c : Condact) (w : World
   pub act_ends : (w' : World) (new : OpenTables) (piece' : List ℕ) (a : Act) (t : Option Turned) → is_condition c ≡ false
       → Does (effect_of g w c) piece piece' w' a → effect.Spent ≡ a.effect
       → ReadsStep (step_at f c true) old mid → ReadsNone mid new → t ≡ Some (turned.Spent spent.Text)
-      → ReadsOne g (below old.frames) f c (held w p old piece) t (held w' p new piece')
+      → ReadsOne g (below old.frames) f c (having w p old piece) t (having w' p new piece')
   act_ends w' new piece' a t kind does is one none e = (
     true,
     step_then (step_at f c true) old mid new one none,
     λ r.
-        stops_spent g (one_at g (below old.frames) f c (showing (held w p old piece) r)) t spent.Text new.frames (noted f c true (showing (held w' p new piece') r))
-        (noted f c true (showing (held w p old piece) r)) e
+        stops_spent g (one_at g (below old.frames) f c (run_held (having w p old piece) r)) t spent.Text new.frames (noted f c true (run_held (having w' p new piece') r))
+        (noted f c true (run_held (having w p old piece) r)) e
         (act_spends g old f c w w' p piece piece' a r kind does is)
         (record { pieces = refl; traces = refl; events = refl }),
   )
@@ -195,7 +195,7 @@ module _ (g : Story) (old mid : OpenTables) (f : Frame) (c : Condact) (w : World
 -- ---- steps ----
 
 -- nothing was read
-pub reads_nothing : (g : Story) (x : Run → Out) (old : Held) (t : Option Turned) (new : Held) → ReadsNone old.machine new.machine → ((r : Run) → Continues g (x (showing old r)) t new.machine.frames (showing new r)) → Reads g x old t new
+pub reads_nothing : (g : Story) (x : Run → Out) (old : Held) (t : Option Turned) (new : Held) → ReadsNone old.machine new.machine → ((r : Run) → Continues g (x (run_held old r)) t new.machine.frames (run_held new r)) → ReadsTable g x old t new
 reads_nothing g x old t new none h r has = (
   [],
   rw (append-nil r.read) (record { left = omega (arith, none.left, has.left); steps = none.steps ∙ has.steps }),
@@ -203,13 +203,13 @@ reads_nothing g x old t new none h r has = (
 )
 
 -- what reads the same as something reads as it does
-pub reads_from : (g : Story) (x y : Run → Out) (old : Held) (t : Option Turned) (new : Held) → ((r : Run) → x (showing old r) ≡ y (showing old r)) → Reads g y old t new → Reads g x old t new
+pub reads_from : (g : Story) (x y : Run → Out) (old : Held) (t : Option Turned) (new : Held) → ((r : Run) → x (run_held old r) ≡ y (run_held old r)) → ReadsTable g y old t new → ReadsTable g x old t new
 reads_from g x y old t new h k r has =
     let m = k r has in
     (m.0, m.1, λ lines. goes_from g _ _ t new.machine.frames _ (h (to_come lines r)) (m.2 lines))
 
 -- a machine that moved in its tables has read the same
-pub reads_moved : (g : Story) (x : Run → Out) (old : Held) (fs : List Frame) (t : Option Turned) (new : Held) → Reads g x (record old { machine = record old.machine { frames = fs } }) t new → Reads g x old t new
+pub reads_moved : (g : Story) (x : Run → Out) (old : Held) (fs : List Frame) (t : Option Turned) (new : Held) → ReadsTable g x (record old { machine = record old.machine { frames = fs } }) t new → ReadsTable g x old t new
 reads_moved g x old fs t new k r has = k r (record { left = has.left; steps = has.steps })
 
 -- the steps with one more
@@ -220,29 +220,29 @@ more_read read step old new has one = record {
 }
 
 -- a condact was read
-pub reads_one : (g : Story) (f : Frame) (c : Condact) (old : Held) (t : Option Turned) (new : Held) → condact_at g.game f.table f.entry f.at ≡ Some c → 0 < old.machine.left → ReadsOne g (below old.machine.frames) f c old t new → Reads g (reading_at g (below old.machine.frames) f) old t new
+pub reads_one : (g : Story) (f : Frame) (c : Condact) (old : Held) (t : Option Turned) (new : Held) → condact_at g.game f.table f.entry f.at ≡ Some c → 0 < old.machine.left → ReadsOne g (below old.machine.frames) f c old t new → ReadsTable g (reading_at g (below old.machine.frames) f) old t new
 reads_one g f c old t new is may one r has = (
   step_at f c one.0 ∷ [],
   more_read r.read (step_at f c one.0) old.machine new.machine has one.1,
   λ lines.
       goes_from g _ _ t new.machine.frames _
-      (reading_condact g (below old.machine.frames) f (showing old (to_come lines r)) c is (omega (arith, has.left, may)))
+      (reading_condact g (below old.machine.frames) f (run_held old (to_come lines r)) c is (omega (arith, has.left, may)))
       (one.2 (to_come lines r)),
 )
 
 -- the budget is used up
-pub reads_spent : (g : Story) (fs : List Frame) (f : Frame) (c : Condact) (old : Held) (t : Option Turned) (new : Held) → condact_at g.game f.table f.entry f.at ≡ Some c → old.machine.left ≡ 0 → ReadsNone old.machine new.machine → t ≡ Some (turned.Spent spent.Condacts) → Reads g (reading_at g fs f) old t new
+pub reads_spent : (g : Story) (fs : List Frame) (f : Frame) (c : Condact) (old : Held) (t : Option Turned) (new : Held) → condact_at g.game f.table f.entry f.at ≡ Some c → old.machine.left ≡ 0 → ReadsNone old.machine new.machine → t ≡ Some (turned.Spent spent.Condacts) → ReadsTable g (reading_at g fs f) old t new
 reads_spent g fs f c old t new is none same e r has = (
   [],
   rw (append-nil r.read) (record { left = omega (arith, same.left, has.left); steps = same.steps ∙ has.steps }),
   λ lines.
-      stops_spent g _ t spent.Condacts new.machine.frames _ (to_come lines (showing old r)) e
-      (reading_none g fs f (to_come lines (showing old r)) c is (omega (arith, has.left, none)))
+      stops_spent g _ t spent.Condacts new.machine.frames _ (to_come lines (run_held old r)) e
+      (reading_none g fs f (to_come lines (run_held old r)) c is (omega (arith, has.left, none)))
       (record { pieces = refl; traces = refl; events = refl }),
 )
 
 -- one reading after another
-pub reads_on : (g : Story) (x : Run → Out) (old mid : Held) (t : Option Turned) (new : Held) → Reads g x old None mid → Reads g (going_on g mid.machine.frames) mid t new → Reads g x old t new
+pub reads_on : (g : Story) (x : Run → Out) (old mid : Held) (t : Option Turned) (new : Held) → ReadsTable g x old None mid → ReadsTable g (going_in g mid.machine.frames) mid t new → ReadsTable g x old t new
 reads_on g x old mid t new h k r has =
     let m = h r has in
     let n = k (with_steps m.0 r) m.1 in (
@@ -250,19 +250,19 @@ reads_on g x old mid t new h k r has =
       subst (λ (s : List Step). HasRead s new.machine) (append_assoc r.read m.0 n.0) n.1,
       λ lines.
           goes_from g _ _ t new.machine.frames _ (m.2 lines)
-          (subst (λ (s : List Step). Continues g (going_on g mid.machine.frames (to_come lines (showing mid (with_steps m.0 r)))) t new.machine.frames (to_come lines (showing new (record r { read = s })))) (append_assoc r.read m.0 n.0) (n.2 lines)),
+          (subst (λ (s : List Step). Continues g (going_in g mid.machine.frames (to_come lines (run_held mid (with_steps m.0 r)))) t new.machine.frames (to_come lines (run_held new (record r { read = s })))) (append_assoc r.read m.0 n.0) (n.2 lines)),
     )
 
 -- a run that shows what is held is the run with it
-showing_shown : (r : Run) (h : Held) → Shows r h → showing h r ≡ r
+showing_shown : (r : Run) (h : Held) → ShowsHeld r h → run_held h r ≡ r
 showing_shown r h s = rw (← s.world, ← s.pending, ← s.earlier, ← s.turning, ← s.current) refl
 
 -- what was read, for every run that shows what was held
-pub runs_to : (g : Story) (old : Held) (t : Turned) (new : Held) → Reads g (going_on g old.machine.frames) old (Some t) new → RunsTo g old t new
+pub runs_to : (g : Story) (old : Held) (t : Turned) (new : Held) → ReadsTable g (going_in g old.machine.frames) old (Some t) new → RunsTo g old t new
 runs_to g old t new h r s =
     let m = h r s.read in (
       m.0,
       m.1,
       λ lines.
-          subst (λ (q : Run). ComesTo g t new.machine.frames (to_come lines (showing new (with_steps m.0 r))) (going_on g old.machine.frames (to_come lines q))) (showing_shown r old s) (m.2 lines),
+          subst (λ (q : Run). ComesTo g t new.machine.frames (to_come lines (run_held new (with_steps m.0 r))) (going_in g old.machine.frames (to_come lines q))) (showing_shown r old s) (m.2 lines),
     )

@@ -20,8 +20,8 @@ use Rattle.paw_reading.proofs.Keeps.{at_level_own, plain_keeps, turns_closes, de
 use Rattle.paw_reading.proofs.Rules.{within_budget, within_none, inside_end, inside_condact, plain_left, plain_match, plain_inside, again_closed, after_call_again}
 use Rattle.paw_reading.proofs.Along.{along_stopped, on_path_reverse}
 use Rattle.paw_process.specs.inner.Objects.{is_next, least_taken}
-use Rattle.paw_process.specs.inner.Meaning.{going_on}
-use Rattle.paw_process.specs.inner.Moves.{settled, next_of, past_of, reading_at, acted_at, turning_at}
+use Rattle.paw_process.specs.inner.Meaning.{going_in}
+use Rattle.paw_process.specs.inner.Moves.{resolved, next_of, past_of, reading_at, acted_at, turning_at}
 
 -- ---- the loop ----
 
@@ -62,11 +62,11 @@ turning_some g fs l n r o own low h =
 -- ---- a table is left ----
 
 -- at a level with no loop of its own
-pub settled_left : (g : Story) (fs : List Frame) (a : Bool) (r : Run) → at_level (length fs) r.turning ≡ None → settled g fs (Left a r) ≡ along g fs (Left a r)
+pub settled_left : (g : Story) (fs : List Frame) (a : Bool) (r : Run) → at_level (length fs) r.turning ≡ None → resolved g fs (Left a r) ≡ along g fs (Left a r)
 settled_left g fs a r h = rw h refl
 
 -- at the level of the open loop
-pub settled_looped : (g : Story) (fs : List Frame) (a : Bool) (r : Run) (l : OpenLoop) → r.turning ≡ Some l → l.level ≡ length fs → settled g fs (Left a r) ≡ turning_at g fs l (length g.game.objects - suc l.last) r
+pub settled_looped : (g : Story) (fs : List Frame) (a : Bool) (r : Run) (l : OpenLoop) → r.turning ≡ Some l → l.level ≡ length fs → resolved g fs (Left a r) ≡ turning_at g fs l (length g.game.objects - suc l.last) r
 settled_looped g fs a r l h own =
     let q : at_level (length fs) r.turning ≡ Some l = rw h (at_level_own (length fs) l own) in rw q refl
 
@@ -94,44 +94,44 @@ pub acted_spent : (g : Story) (fs : List Frame) (f : Frame) (r : Run) →
 acted_spent g fs f r = along_stopped g fs (Halts (RunsOut spent.Text)) r
 
 -- the piece is closed, and the run goes on at the prompt along the frames
-pub settled_waits : (g : Story) (fs : List Frame) (f : Frame) (p : Prompt) (r : Run) → settled g fs (waits g p f (past_of g fs f) r) ≡ on_path g p 0 (reverse (f ∷ fs)) (closed r)
+pub settled_waits : (g : Story) (fs : List Frame) (f : Frame) (p : Prompt) (r : Run) → resolved g fs (waits g p f (past_of g fs f) r) ≡ on_path g p 0 (reverse (f ∷ fs)) (closed r)
 settled_waits g fs f p r = sym (on_path_reverse g p f fs (closed r))
 
 -- ---- places ----
 
 -- in an entry
-pub going_inside : (g : Story) (fs : List Frame) (f : Frame) (r : Run) → 0 < f.at → going_on g (f ∷ fs) r ≡ reading_at g fs f r
+pub going_inside : (g : Story) (fs : List Frame) (f : Frame) (r : Run) → 0 < f.at → going_in g (f ∷ fs) r ≡ reading_at g fs f r
 going_inside g fs f r h =
-    ap (settled g fs) (plain_inside g (deeper g (length fs)) (length fs) f.table f.entry f.at f.acted r h)
+    ap (resolved g fs) (plain_inside g (deeper g (length fs)) (length fs) f.table f.entry f.at f.acted r h)
 
 -- before an entry
-going_before : (g : Story) (fs : List Frame) (f : Frame) (r : Run) → f.at ≡ 0 → going_on g (f ∷ fs) r ≡ settled g fs (plain g (deeper g (length fs)) (length fs) f.table f.entry 0 f.acted r)
+going_before : (g : Story) (fs : List Frame) (f : Frame) (r : Run) → f.at ≡ 0 → going_in g (f ∷ fs) r ≡ resolved g fs (plain g (deeper g (length fs)) (length fs) f.table f.entry 0 f.acted r)
 going_before g fs f r h = rw h refl
 
-pub going_left : (g : Story) (fs : List Frame) (f : Frame) (r : Run) → f.at ≡ 0 → match_at g.game f.table f.entry (flag r.world 33) (flag r.world 34) ≡ None → going_on g (f ∷ fs) r ≡ settled g fs (Left f.acted r)
+pub going_left : (g : Story) (fs : List Frame) (f : Frame) (r : Run) → f.at ≡ 0 → match_at g.game f.table f.entry (flag r.world 33) (flag r.world 34) ≡ None → going_in g (f ∷ fs) r ≡ resolved g fs (Left f.acted r)
 going_left g fs f r zero_at h =
     going_before g fs f r zero_at
-    ∙ ap (settled g fs) (plain_left g (deeper g (length fs)) (length fs) f.table f.entry f.acted r h)
+    ∙ ap (resolved g fs) (plain_left g (deeper g (length fs)) (length fs) f.table f.entry f.acted r h)
 
-pub going_match : (g : Story) (fs : List Frame) (f : Frame) (r : Run) (found : ℕ) → f.at ≡ 0 → match_at g.game f.table f.entry (flag r.world 33) (flag r.world 34) ≡ Some found → going_on g (f ∷ fs) r ≡ reading_at g fs (record { table = f.table; entry = found; at = 0; acted = f.acted }) r
+pub going_match : (g : Story) (fs : List Frame) (f : Frame) (r : Run) (found : ℕ) → f.at ≡ 0 → match_at g.game f.table f.entry (flag r.world 33) (flag r.world 34) ≡ Some found → going_in g (f ∷ fs) r ≡ reading_at g fs (record { table = f.table; entry = found; at = 0; acted = f.acted }) r
 going_match g fs f r found zero_at h =
     going_before g fs f r zero_at
-    ∙ ap (settled g fs) (plain_match g (deeper g (length fs)) (length fs) f.table f.entry found f.acted r h)
+    ∙ ap (resolved g fs) (plain_match g (deeper g (length fs)) (length fs) f.table f.entry found f.acted r h)
 
 -- past the last condact of an entry
 pub reading_end : (g : Story) (fs : List Frame) (f : Frame) (r : Run) → condact_at g.game f.table f.entry f.at ≡ None → reading_at g fs f r ≡ along g fs (rest g (length fs) f.table (f.entry + 1) 0 f.acted r)
 reading_end g fs f r h =
-    ap (settled g fs) (inside_end g (deeper g (length fs)) (length fs) f.table f.entry f.at f.acted r h) ∙ rw add-one refl
+    ap (resolved g fs) (inside_end g (deeper g (length fs)) (length fs) f.table f.entry f.at f.acted r h) ∙ rw add-one refl
 
 -- at a condact
-pub reading_condact : (g : Story) (fs : List Frame) (f : Frame) (r : Run) (c : Condact) → condact_at g.game f.table f.entry f.at ≡ Some c → length r.read < 200000 → reading_at g fs f r ≡ settled g fs (reads_one g (deeper g (length fs)) (length fs) f (next_of g fs f) (past_of g fs f) c r)
+pub reading_condact : (g : Story) (fs : List Frame) (f : Frame) (r : Run) (c : Condact) → condact_at g.game f.table f.entry f.at ≡ Some c → length r.read < 200000 → reading_at g fs f r ≡ resolved g fs (reads_one g (deeper g (length fs)) (length fs) f (next_of g fs f) (past_of g fs f) c r)
 reading_condact g fs f r c h low =
-    ap (settled g fs) (inside_condact g (deeper g (length fs)) (length fs) f.table f.entry f.at f.acted r c h ∙ within_budget r _ low)
+    ap (resolved g fs) (inside_condact g (deeper g (length fs)) (length fs) f.table f.entry f.at f.acted r c h ∙ within_budget r _ low)
 
 -- the budget is used up
 pub reading_none : (g : Story) (fs : List Frame) (f : Frame) (r : Run) (c : Condact) →
     condact_at g.game f.table f.entry f.at ≡ Some c → 200000 ≤ length r.read →
     reading_at g fs f r ≡ halts (RunsOut spent.Condacts) r
 reading_none g fs f r c h low =
-    ap (settled g fs) (inside_condact g (deeper g (length fs)) (length fs) f.table f.entry f.at f.acted r c h ∙ within_none r _ low)
+    ap (resolved g fs) (inside_condact g (deeper g (length fs)) (length fs) f.table f.entry f.at f.acted r c h ∙ within_none r _ low)
     ∙ along_stopped g fs (Halts (RunsOut spent.Condacts)) r

@@ -19,7 +19,7 @@ ghost use Rattle.paw_process.specs.OpenTables.{OpenTables};
 ghost use Rattle.paw_process.specs.inner.OpenTables.{below, ReadsStep, IsReading, IsWaiting, IsClosed};
 ghost use Rattle.paw_process.specs.Kept.{kept as kept_of, frames_fault};
 ghost use Rattle.paw_process.specs.inner.Kept.{restored, waiting_at, StandsAt};
-ghost use Rattle.paw_process.specs.inner.Meaning.{held, going_on, RunsTo, IsStopped, AwaitsAnswer};
+ghost use Rattle.paw_process.specs.inner.Meaning.{having, going_in, RunsTo, IsStopped, AwaitsAnswer};
 ghost use Rattle.paw_process.specs.inner.Meaning.{AnswersQuit, AnswersKey};
 
 use crate::Turned;
@@ -140,7 +140,7 @@ impl Machine {
         requires game { IsOf (T.game tables.now) world.old }
         requires draws { world.old.draws + self.old.left < 2 ^ 64 }
         ensures meaning { (X : List (List ℕ)) → AreRowsOf F.Fn routines.now X →
-            RunsTo (story_of (T.game tables.now) X) (held world.old pending.old self.old piece.old) result (held world.new pending.new self.new piece.new) }
+            RunsTo (story_of (T.game tables.now) X) (having world.old pending.old self.old piece.old) result (having world.new pending.new self.new piece.new) }
         ensures stopped { IsStopped result self.new }
         ensures game { IsOf (T.game tables.now) world.new }
         ensures draws { world.new.draws + self.new.left ≤ world.old.draws + self.old.left }

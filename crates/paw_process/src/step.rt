@@ -19,10 +19,10 @@ ghost use Rattle.paw_reading.specs.Reading.{Left, deeper, noted, acts, tests, pa
 ghost use Rattle.paw_reading.specs.inner.GoingOn.{along};
 ghost use Rattle.paw_process.specs.inner.OpenTables.{below, ReadsNone, IsAtCondact, AtCondacts};
 ghost use Rattle.paw_process.specs.inner.OpenTables.{IsLoopWithin, LoopFits, IsReading};
-ghost use Rattle.paw_process.specs.inner.Meaning.{held, going_on, showing};
-ghost use Rattle.paw_process.specs.inner.Moves.{Continues, Stands, turning_as, reading_with, looping};
-ghost use Rattle.paw_process.specs.inner.Moves.{running, settled, acted_at, next_of, past_of, turning_at};
-ghost use Rattle.paw_process.specs.inner.Moves.{reading_at, Reads, ReadsOne};
+ghost use Rattle.paw_process.specs.inner.Meaning.{having, going_in, run_held};
+ghost use Rattle.paw_process.specs.inner.Moves.{Continues, StandsOrTurned, turning_as, reading_with, looping};
+ghost use Rattle.paw_process.specs.inner.Moves.{running, resolved, acted_at, next_of, past_of, turning_at};
+ghost use Rattle.paw_process.specs.inner.Moves.{reading_at, ReadsTable, ReadsOne};
 ghost use Rattle.paw_process.specs.inner.Work.{work, frames_work, Progress};
 ghost use Rattle.paw_world.specs.inner.Places.{left_above};
 
@@ -61,7 +61,7 @@ impl Machine {
         requires no_loop { LoopFits (length (below self.old.frames)) self.old.turning }
         ensures meaning { (g : Story) (r : Run) →
             Continues g (along g (below self.old.frames) (Left acted r)) result self.new.frames r }
-        ensures stands { Stands result self.new }
+        ensures stands { StandsOrTurned result self.new }
         ensures same { self.new ≡ record self.old { frames = self.new.frames } }
         ensures falls { frames_work self.new.frames < frames_work self.old.frames }
     {
@@ -99,7 +99,7 @@ impl Machine {
         ensures meaning { (X : List (List ℕ)) (r : Run) → let g = story_of (T.game tables.now) X in
             Continues g (turning_at g (below self.old.frames) l (left_above world.old.places above) (looping world.old self.old.turning r))
             result self.new.frames (looping world.new self.new.turning r) }
-        ensures stands { Stands result self.new }
+        ensures stands { StandsOrTurned result self.new }
         ensures left { ReadsNone self.old self.new }
         ensures game { IsOf (T.game tables.now) world.new }
         ensures draws { world.new.draws ≡ world.old.draws }
@@ -141,9 +141,9 @@ impl Machine {
         requires reading { IsReading self.old }
         requires game { IsOf (T.game tables.now) world.old }
         ensures meaning { (X : List (List ℕ)) (r : Run) → let g = story_of (T.game tables.now) X in
-            Continues g (settled g (below self.old.frames) (Left acted (looping world.old self.old.turning r)))
+            Continues g (resolved g (below self.old.frames) (Left acted (looping world.old self.old.turning r)))
             result self.new.frames (looping world.new self.new.turning r) }
-        ensures stands { Stands result self.new }
+        ensures stands { StandsOrTurned result self.new }
         ensures left { ReadsNone self.old self.new }
         ensures game { IsOf (T.game tables.now) world.new }
         ensures draws { world.new.draws ≡ world.old.draws }
@@ -168,7 +168,7 @@ impl Machine {
         ensures meaning { (g : Story) (r : Run) →
             Continues g (along g self.old.frames (deeper g (length (below self.old.frames)) table (turning_as self.old.turning r)))
             result self.new.frames (turning_as self.new.turning r) }
-        ensures stands { Stands result self.new }
+        ensures stands { StandsOrTurned result self.new }
         ensures left { ReadsNone self.old self.new }
     {
         if self.depth() == MOST_FRAMES {
@@ -185,9 +185,9 @@ impl Machine {
         requires place { IsAtCondact f }
         requires game { IsOf (T.game tables.now) world.old }
         ensures meaning { (X : List (List ℕ)) (r : Run) → let g = story_of (T.game tables.now) X in
-            settled g (below self.old.frames)
+            resolved g (below self.old.frames)
             (parses g f (next_of g (below self.old.frames) f) (past_of g (below self.old.frames) f) (running world.old pending.old self.old.turning r))
-            ≡ going_on g self.new.frames (running world.new pending.new self.new.turning r) }
+            ≡ going_in g self.new.frames (running world.new pending.new self.new.turning r) }
         ensures same { self.new ≡ record self.old { frames = self.new.frames } }
         ensures reading { IsReading self.new }
         ensures game { IsOf (T.game tables.now) world.new }
@@ -213,7 +213,7 @@ impl Machine {
         ensures meaning { (X : List (List ℕ)) (r : Run) → let g = story_of (T.game tables.now) X in
             Continues g (acted_at g (below self.old.frames) f effect (running world.old pending.old self.old.turning r))
             result self.new.frames (running world.new pending.new self.new.turning r) }
-        ensures stands { Stands result self.new }
+        ensures stands { StandsOrTurned result self.new }
         ensures left { ReadsNone self.old self.new }
         ensures game { IsOf (T.game tables.now) world.new }
         ensures draws { world.new.draws ≡ world.old.draws }
@@ -275,8 +275,8 @@ impl Machine {
         requires condact { is_right (T.game tables.now) c ≡ true }
         requires draws { world.old.draws < 2 ^ 64 - 1 }
         ensures meaning { (X : List (List ℕ)) (p : PendingLine) → let g = story_of (T.game tables.now) X in
-            ReadsOne g (below self.old.frames) f c (held world.old p self.old piece.old) result (held world.new p self.new piece.new) }
-        ensures stands { Stands result self.new }
+            ReadsOne g (below self.old.frames) f c (having world.old p self.old piece.old) result (having world.new p self.new piece.new) }
+        ensures stands { StandsOrTurned result self.new }
         ensures counts { self.old.left ≡ self.new.left + 1 }
         ensures game { IsOf (T.game tables.now) world.new }
         ensures draws { world.new.draws ≤ world.old.draws + 1 }
@@ -306,11 +306,11 @@ impl Machine {
         requires game { IsOf (T.game tables.now) world.now }
         ensures meaning { (X : List (List ℕ)) (f : Frame) (r : Run) → self.old.frames ≡ f ∷ below self.old.frames →
             let g = story_of (T.game tables.now) X in
-            Continues g (settled g (below self.old.frames)
+            Continues g (resolved g (below self.old.frames)
             (printing (put_text (T.game tables.now) world.now 12) (waits g prompt.Quit f (past_of g (below self.old.frames) f))
             (reading_with piece.old self.old.turning r)))
             result self.new.frames (reading_with piece.new self.new.turning r) }
-        ensures stands { Stands result self.new }
+        ensures stands { StandsOrTurned result self.new }
         ensures left { ReadsNone self.old self.new }
     {
         if !put(tables, world, piece, QUIT_MESSAGE) {
@@ -342,8 +342,8 @@ impl Machine {
         requires draws { world.old.draws < 2 ^ 64 - 1 }
         ensures meaning { (X : List (List ℕ)) → AreRowsOf F.Fn routines.now X → let g = story_of (T.game tables.now) X in
             ReadsOne g (below self.old.frames) f c
-            (held world.old pending.old self.old piece.old) result (held world.new pending.new self.new piece.new) }
-        ensures stands { Stands result self.new }
+            (having world.old pending.old self.old piece.old) result (having world.new pending.new self.new piece.new) }
+        ensures stands { StandsOrTurned result self.new }
         ensures counts { self.old.left ≡ self.new.left + 1 }
         ensures game { IsOf (T.game tables.now) world.new }
         ensures draws { world.new.draws ≤ world.old.draws + 1 }
@@ -389,9 +389,9 @@ impl Machine {
         requires condact { is_right (T.game tables.now) c ≡ true }
         requires draws { world.old.draws + self.old.left < 2 ^ 64 }
         ensures meaning { (X : List (List ℕ)) → AreRowsOf F.Fn routines.now X → let g = story_of (T.game tables.now) X in
-            Reads g (reading_at g (below self.old.frames) f)
-            (held world.old pending.old self.old piece.old) result (held world.new pending.new self.new piece.new) }
-        ensures stands { Stands result self.new }
+            ReadsTable g (reading_at g (below self.old.frames) f)
+            (having world.old pending.old self.old piece.old) result (having world.new pending.new self.new piece.new) }
+        ensures stands { StandsOrTurned result self.new }
         ensures counts { IsNone result → self.old.left ≡ self.new.left + 1 }
         ensures game { IsOf (T.game tables.now) world.new }
         ensures draws { world.new.draws + self.new.left ≤ world.old.draws + self.old.left }
@@ -424,9 +424,9 @@ impl Machine {
         requires game { IsOf (T.game tables.now) world.old }
         requires draws { world.old.draws + self.old.left < 2 ^ 64 }
         ensures meaning { (X : List (List ℕ)) → AreRowsOf F.Fn routines.now X → let g = story_of (T.game tables.now) X in
-            Reads g (reading_at g (below self.old.frames) f)
-            (held world.old pending.old self.old piece.old) result (held world.new pending.new self.new piece.new) }
-        ensures stands { Stands result self.new }
+            ReadsTable g (reading_at g (below self.old.frames) f)
+            (having world.old pending.old self.old piece.old) result (having world.new pending.new self.new piece.new) }
+        ensures stands { StandsOrTurned result self.new }
         ensures progress { IsNone result → Progress self.old self.new }
         ensures game { IsOf (T.game tables.now) world.new }
         ensures draws { world.new.draws + self.new.left ≤ world.old.draws + self.old.left }
@@ -454,9 +454,9 @@ impl Machine {
         requires game { IsOf (T.game tables.now) world.old }
         requires draws { world.old.draws + self.old.left < 2 ^ 64 }
         ensures meaning { (X : List (List ℕ)) → AreRowsOf F.Fn routines.now X → let g = story_of (T.game tables.now) X in
-            Reads g (going_on g self.old.frames)
-            (held world.old pending.old self.old piece.old) result (held world.new pending.new self.new piece.new) }
-        ensures stands { Stands result self.new }
+            ReadsTable g (going_in g self.old.frames)
+            (having world.old pending.old self.old piece.old) result (having world.new pending.new self.new piece.new) }
+        ensures stands { StandsOrTurned result self.new }
         ensures progress { IsNone result → Progress self.old self.new }
         ensures game { IsOf (T.game tables.now) world.new }
         ensures draws { world.new.draws + self.new.left ≤ world.old.draws + self.old.left }

@@ -13,7 +13,7 @@ use Rattle.paw_base.specs.declared.words.TheConstants.{NO_WORD, FIRST_PLAIN_VERB
 use Rattle.paw_base.specs.declared.fault.SpentKind.TheVariants as spent
 use Rattle.paw_game.specs.Game.{GameLists}
 use Rattle.paw_game.specs.Tables.{exit_at}
-use Rattle.paw_world.specs.World.{World, flag, with_flag, opened, is_dark, is_unlit, fallen, fallen_if}
+use Rattle.paw_world.specs.World.{World, flag, with_flag, starting_world, is_dark, is_unlit, fallen, fallen_if}
 use Rattle.paw_phrase.specs.Sentence.{Parsed, IsSentence, IsUnknown, IsNoPhrase}
 use Rattle.paw_effects.specs.Story.{Story}
 use Rattle.paw_effects.specs.declared.act.Prompt.{Prompt}
@@ -56,10 +56,10 @@ after_stop describe Restarts r = describe r
 after_stop describe (Halts halt) r = Halted halt r
 
 -- after a table at level 0: left with an action carried out or not, waiting, or stopped
-abbrev pub after_table : Turning → (Bool → Turning) → Out → Ending
-after_table describe next (Left a r) = next a r
-after_table describe next (Waits p path r) = WaitsAt p path r
-after_table describe next (Stopped stop r) = after_stop describe stop r
+abbrev pub after_outermost : Turning → (Bool → Turning) → Out → Ending
+after_outermost describe next (Left a r) = next a r
+after_outermost describe next (Waits p path r) = WaitsAt p path r
+after_outermost describe next (Stopped stop r) = after_stop describe stop r
 
 -- flags that fall when a location is described: one always, one in the dark, one without light
 abbrev pub described : World → World
@@ -154,7 +154,7 @@ after_left g go (suc (suc t)) acted r = go AtPhrase (with_world (framed r.world)
 
 -- how the turn goes on after a table
 abbrev pub table_done : Story → (Stage → Run → Ending) → ℕ → Out → Ending
-table_done g go t x = after_table (go AtDescribe) (after_left g go t) x
+table_done g go t x = after_outermost (go AtDescribe) (after_left g go t) x
 
 -- at most n stages of the turn
 unfoldable pub turn : Story → ℕ → Stage → Run → Ending
@@ -189,7 +189,7 @@ turns_from g s r = turn g (stages_left s r) s r
 -- the run at the start of a game, with these lines to come
 abbrev pub opening : Story → ℕ → List (List ℕ) → Run
 opening g seed es = record {
-  world = opened (map (λ o. o.facts) g.game.objects) (length g.game.locations) seed;
+  world = starting_world (map (λ o. o.facts) g.game.objects) (length g.game.locations) seed;
   pending = [];
   earlier = NO_WORD;
   turning = None;

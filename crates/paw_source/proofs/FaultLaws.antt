@@ -10,11 +10,11 @@ use Rattle.paw_game.specs.Image.{image}
 use Rattle.paw_lex.specs.Lines.{lines_of}
 use Rattle.paw_grammar.specs.Tokens.{◌>>=◌}
 use Rattle.paw_grammar.specs.GrammarState.{Spelt, nothing_yet, game_of}
-use Rattle.paw_grammar.specs.Spells.{step, begins_table, fault, at_line, whole, reading, spelled}
+use Rattle.paw_grammar.specs.Spells.{step, begins_table, fault, at_line, whole, spelled_after, spelled}
 use Rattle.paw_source.specs.inner.Laws.{after_lines, HasFault, HasNone, NamesTheFirst, IsNamedRightly}
 
-found : (p n : ℕ) (d : Spelt) (before : List (List ℕ)) (line : List ℕ) (behind : List (List ℕ)) (e : Spelt) (k : SourceKind) → after_lines p d before ≡ Ok e → step p e line ≡ Err k → reading p n d (before ++ line ∷ behind) ≡ Err (fault (suc (n + length before)) k)
-unfolding reading after_lines
+found : (p n : ℕ) (d : Spelt) (before : List (List ℕ)) (line : List ℕ) (behind : List (List ℕ)) (e : Spelt) (k : SourceKind) → after_lines p d before ≡ Ok e → step p e line ≡ Err k → spelled_after p n d (before ++ line ∷ behind) ≡ Err (fault (suc (n + length before)) k)
+unfolding spelled_after after_lines
 found p n d [] line behind e k none here =
     let same : d ≡ e = cc in
     let also : step p d line ≡ Err k = ap (λ (x : Spelt). step p x line) same ∙ here in
@@ -22,13 +22,13 @@ found p n d [] line behind e k none here =
     rw also (ap (λ (m : ℕ). Err (fault m k)) number)
 found p n d (l ∷ before) line behind e k none here =
     let number : suc (suc n + length before) ≡ suc (n + length (l ∷ before)) = omega arith in
-    elim (step p d l) as (λ r. (r >>= λ x. after_lines p x before) ≡ Ok e → at_line (suc n) r (λ x. reading p (suc n) x (before ++ line ∷ behind)) ≡ Err (fault (suc (n + length (l ∷ before))) k)) [
+    elim (step p d l) as (λ r. (r >>= λ x. after_lines p x before) ≡ Ok e → at_line (suc n) r (λ x. spelled_after p (suc n) x (before ++ line ∷ behind)) ≡ Err (fault (suc (n + length (l ∷ before))) k)) [
       | Ok x ↦ λ h. found p (suc n) x before line behind e k h here ∙ ap (λ (m : ℕ). Err (fault m k)) number
       | Err j ↦ λ h. absurd cc
     ] none
 
 -- a source that isn't too long is read line by line
-short : (source : List ℕ) → length source ≤ 8388608 → spelled source ≡ reading (count_by begins_table (lines_of source)) 0 nothing_yet (lines_of source)
+short : (source : List ℕ) → length source ≤ 8388608 → spelled source ≡ spelled_after (count_by begins_table (lines_of source)) 0 nothing_yet (lines_of source)
 unfolding spelled
 short source h =
     let no : nat_lt 8388608 (length source) ≡ false = grind (arith, nat_tests, h) in
@@ -39,7 +39,7 @@ names_the_first source n k small h =
     let p = count_by begins_table (lines_of source) in
     let number : suc (0 + length h.before) ≡ suc n = let q = h.place in omega (arith, q) in
     short source small
-    ∙ ap (reading (count_by begins_table (lines_of source)) 0 nothing_yet) h.parts
+    ∙ ap (spelled_after (count_by begins_table (lines_of source)) 0 nothing_yet) h.parts
     ∙ found (count_by begins_table (lines_of source)) 0 nothing_yet h.before h.line h.behind h.draft k h.no_fault h.fault
     ∙ ap (λ (m : ℕ). Err (fault m k)) number
 
@@ -60,13 +60,13 @@ ended n d f h =
       ] g
     ] h
 
-named : (p n : ℕ) (d : Spelt) (ls : List (List ℕ)) (f : SourceFault) → reading p n d ls ≡ Err f → Named p n d ls f
-unfolding reading after_lines
+named : (p n : ℕ) (d : Spelt) (ls : List (List ℕ)) (f : SourceFault) → spelled_after p n d ls ≡ Err f → Named p n d ls f
+unfolding spelled_after after_lines
 named p n d [] f h =
     let at = ended n d f h in
     inr (omega (arith, at), record { draft = d; no_fault = refl })
 named p n d (l ∷ ls) f h =
-    elim (step p d l) as (λ r. step p d l ≡ r → at_line (suc n) r (λ x. reading p (suc n) x ls) ≡ Err f → Named p n d (l ∷ ls) f) [
+    elim (step p d l) as (λ r. step p d l ≡ r → at_line (suc n) r (λ x. spelled_after p (suc n) x ls) ≡ Err f → Named p n d (l ∷ ls) f) [
       | Err j ↦ λ e g.
           let same = err_is (fault (suc n) j) f g in
           let at = ap (λ (x : SourceFault). x.line) same in

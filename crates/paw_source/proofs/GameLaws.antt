@@ -16,7 +16,7 @@ use Rattle.paw_grammar.specs.declared.section.Section.{Section}
 use Rattle.paw_grammar.specs.declared.section.Section.TheVariants as section
 use Rattle.paw_grammar.specs.GrammarState.{Spelt, nothing_yet, objects_of, all_exits, game_of}
 use Rattle.paw_grammar.specs.GrammarRows.{bounds_of}
-use Rattle.paw_grammar.specs.Spells.{step, begins_table, at_line, fault, whole, reading, spelled}
+use Rattle.paw_grammar.specs.Spells.{step, begins_table, at_line, fault, whole, spelled_after, spelled}
 use Rattle.paw_source.specs.inner.Laws.{after_lines, DraftsAreValid, SpellsValidGames}
 use Rattle.paw_source.proofs.Faultless.{passes, bound, ok_is}
 use Rattle.paw_source.proofs.TextLaws.{both}
@@ -90,11 +90,11 @@ whole_valid p n d g k counted h =
     let three : 3 ≤ length d.tables = grind (arith, nat_tests, a.0) in
     subst Valid (ok_is (game_of d) g b.1) (valid_game p d k three counted)
 
-reading_valid : (p n : ℕ) (d : Spelt) (ls : List (List ℕ)) (g : GameLists) → Keeps p d → length d.tables + count_by begins_table ls ≡ p → reading p n d ls ≡ Ok g → Valid g
-unfolding reading
+reading_valid : (p n : ℕ) (d : Spelt) (ls : List (List ℕ)) (g : GameLists) → Keeps p d → length d.tables + count_by begins_table ls ≡ p → spelled_after p n d ls ≡ Ok g → Valid g
+unfolding spelled_after
 reading_valid p n d [] g k counted h = whole_valid p n d g k (omega (arith, counted)) h
 reading_valid p n d (l ∷ ls) g k counted h =
-    elim (step p d l) as (λ r. step p d l ≡ r → at_line (suc n) r (λ e. reading p (suc n) e ls) ≡ Ok g → Valid g) [
+    elim (step p d l) as (λ r. step p d l ≡ r → at_line (suc n) r (λ e. spelled_after p (suc n) e ls) ≡ Ok g → Valid g) [
       | Ok e ↦ λ s f.
           let one = step_counts p d e l s in
           let more = sum_by-cons (λ x. cond (begins_table x) 1 0) l ls in
@@ -136,5 +136,5 @@ drafts_are_valid source d h three =
 pub spells_valid_games : SpellsValidGames
 unfolding spelled
 spells_valid_games source g h =
-    let a = passes (nat_lt 8388608 (length source)) (fault 0 kind.TooBig) (reading (count_by begins_table (lines_of source)) 0 nothing_yet (lines_of source)) g h in
+    let a = passes (nat_lt 8388608 (length source)) (fault 0 kind.TooBig) (spelled_after (count_by begins_table (lines_of source)) 0 nothing_yet (lines_of source)) g h in
     reading_valid (count_by begins_table (lines_of source)) 0 nothing_yet (lines_of source) g (nothing_keeps (count_by begins_table (lines_of source))) (omega arith) a.1

@@ -23,7 +23,7 @@ use Rattle.paw_grammar.specs.declared.bounds.Bounds.{Bounds}
 use Rattle.paw_grammar.specs.Tokens.{◌>>=◌, ended, or_fault, read_by}
 use Rattle.paw_grammar.specs.Numbers.{number, in_range, number_within, number_below, row_number}
 use Rattle.paw_grammar.specs.Vocabulary.{place_among, word, class, object_kind, declared, word_or_none, verb_word, entry_verb, entry_noun}
-use Rattle.paw_grammar.specs.Condacts.{or_named, first_place, place, place_names, place_up_to, table, parameter, condact, condacts, with_more_condacts, at_most_255, more_condacts}
+use Rattle.paw_grammar.specs.Condacts.{or_named, first_place, any_place, place_names, place_up_to, table, parameter, condact, condacts_in, with_more_condacts, at_most_255, more_condacts}
 use Rattle.paw_grammar.specs.GrammarState.{last_or, with_last}
 use Rattle.paw_grammar.specs.GrammarRows.{voc_row, has_exit, exit_row, object_row, entry_row, no_entry, more_row}
 use Rattle.paw_source.proofs.Faultless.{passes, holds, bound, ok_is, at_end, in_range_ok, number_ok}
@@ -188,7 +188,7 @@ table_ok tables ts x h =
     let made : min b.0.0 255 ≡ x.0 = ap (λ (z : ℕ × List (List ℕ)). z.0) (ok_is (min b.0.0 255, b.0.1) x b.2) in
     rw (← made) (let below = ltb-true b.0.0 tables low in grind (arith, nat_tests, below))
 
-place_ok : (locations : ℕ) (ts : List (List ℕ)) (x : ℕ × List (List ℕ)) → place locations ts ≡ Ok x → (nat_lt x.0 locations || is_within 252 255 x.0) ≡ true
+place_ok : (locations : ℕ) (ts : List (List ℕ)) (x : ℕ × List (List ℕ)) → any_place locations ts ≡ Ok x → (nat_lt x.0 locations || is_within 252 255 x.0) ≡ true
 place_ok locations ts x h = place_within 255 (place_among (place_names ++ codes "HERE" ∷ [])) locations ts x h
 
 parameter_ok : (bounds : Bounds) (ws : List Word) (g : GameLists) (k : ParamKind) (ts : List (List ℕ)) (x : ℕ × List (List ℕ)) → Has bounds ws g → parameter bounds ws k ts ≡ Ok x → is_parameter g k x.0 ≡ true
@@ -228,20 +228,20 @@ condact_ok bounds ws g name ts x has h =
     let low : nat_le c.0.0 107 ≡ true = grind (arith, nat_tests, small) in
     rw (← same, low, parameter_ok bounds ws g (first_kind c.0.0) c.0.1 a.0 has a.1, parameter_ok bounds ws g (second_kind c.0.0) a.0.1 b.0 has b.1) refl
 
-condacts_ok : (bounds : Bounds) (ws : List Word) (g : GameLists) (skip : ℕ) (ts : List (List ℕ)) (cs : List Condact) → Has bounds ws g → condacts bounds ws skip ts ≡ Ok cs → list_all (is_condact g) cs ≡ true
-unfolding condacts
+condacts_ok : (bounds : Bounds) (ws : List Word) (g : GameLists) (skip : ℕ) (ts : List (List ℕ)) (cs : List Condact) → Has bounds ws g → condacts_in bounds ws skip ts ≡ Ok cs → list_all (is_condact g) cs ≡ true
+unfolding condacts_in
 condacts_ok bounds ws g skip [] cs has h = rw (← ok_is [] cs h) refl
 condacts_ok bounds ws g (suc skip) (t ∷ ts) cs has h = condacts_ok bounds ws g skip ts cs has h
 condacts_ok bounds ws g zero (t ∷ ts) cs has h =
-    let b = bound (condact bounds ws t ts) (λ c. condacts bounds ws (params_of c.0.code) ts >>= λ ds. Ok (c.0 ∷ ds)) cs h in
-    let c = bound (condacts bounds ws (params_of b.0.0.code) ts) (λ ds. Ok (b.0.0 ∷ ds)) cs b.2 in
+    let b = bound (condact bounds ws t ts) (λ c. condacts_in bounds ws (params_of c.0.code) ts >>= λ ds. Ok (c.0 ∷ ds)) cs h in
+    let c = bound (condacts_in bounds ws (params_of b.0.0.code) ts) (λ ds. Ok (b.0.0 ∷ ds)) cs b.2 in
     rw (← ok_is (b.0.0 ∷ c.0) cs c.2, condact_ok bounds ws g t ts b.0 has b.1) (condacts_ok bounds ws g (params_of b.0.0.code) ts c.0 has c.1)
 
 more_condacts_ok : (bounds : Bounds) (ws : List Word) (g : GameLists) (before : List Condact) (ts : List (List ℕ)) (cs : List Condact) → Has bounds ws g → list_all (is_condact g) before ≡ true → more_condacts bounds ws before ts ≡ Ok cs → (nat_le (length cs) 255 ≡ true) × (list_all (is_condact g) cs ≡ true)
 unfolding more_condacts
 more_condacts_ok bounds ws g before ts cs has old h =
-    let a = bound (with_more_condacts before (condacts bounds ws 0 ts)) at_most_255 cs h in
-    let c = bound (condacts bounds ws 0 ts) (λ more. Ok (before ++ more)) a.0 a.1 in
+    let a = bound (with_more_condacts before (condacts_in bounds ws 0 ts)) at_most_255 cs h in
+    let c = bound (condacts_in bounds ws 0 ts) (λ more. Ok (before ++ more)) a.0 a.1 in
     let same = ok_is (before ++ c.0) a.0 c.2 in
     let b = passes (nat_lt 255 (length a.0)) fault.TooBig (Ok a.0) cs a.2 in
     let few : nat_le (length a.0) 255 ≡ true = grind (arith, nat_tests, b.0) in

@@ -8,9 +8,9 @@ ghost use Rattle.paw_lex.specs.Lines.{lines_of};
 ghost use Rattle.paw_lex.specs.inner.Lines.{bytes_of, LiesIn};
 ghost use Rattle.paw_base.specs.declared.limits.TheConstants.{IMAGE_LIMIT, SOURCE_LIMIT};
 ghost use Rattle.paw_grammar.specs.GrammarState.{Spelt, game_of, nothing_yet};
-ghost use Rattle.paw_grammar.specs.Spells.{begins_table, is_pro_token, reading, spelled, whole};
+ghost use Rattle.paw_grammar.specs.Spells.{begins_table, is_pro_token, spelled_after, spelled, whole};
 ghost use Rattle.paw_source.specs.inner.Laws.{after_lines};
-ghost use Rattle.paw_source.specs.inner.Refusals.{Reads, at_line};
+ghost use Rattle.paw_source.specs.inner.Refusals.{ReadsSource, refused_at_line};
 
 use crate::bytes::begins_with_slash;
 use crate::draft::Draft;
@@ -60,7 +60,7 @@ fn count_tables(source: &[u8]) -> u32
 
 /// The refusal of a source for a line that is refused.
 fn at_line(line: u32, refused: ReadError) -> SourceRefusal
-    ensures { result ≡ at_line line refused }
+    ensures { result ≡ refused_at_line line refused }
 {
     match refused {
         ReadError::NoRoom => SourceRefusal::Memory,
@@ -72,7 +72,7 @@ fn at_line(line: u32, refused: ReadError) -> SourceRefusal
 fn whole(alloc: Global, lines: u32, draft: Draft) -> Result<Game, SourceRefusal>
     requires count { lines ≤ SOURCE_LIMIT }
     requires valid { 3 ≤ length draft.tables → Valid (game_of draft) }
-    ensures value { Reads result (whole lines draft) }
+    ensures value { ReadsSource result (whole lines draft) }
     ensures small { IfOk result (λ game. length (image game) ≤ IMAGE_LIMIT) }
 {
     let line = lines + 1;
@@ -89,12 +89,12 @@ fn whole(alloc: Global, lines: u32, draft: Draft) -> Result<Game, SourceRefusal>
 }
 
 /// The game of the lines of a source, of which so many begin a table.
-#[tactic(auto, unfolding(paw_grammar::specs::Spells::reading, crate::specs::inner::Laws::after_lines))]
+#[tactic(auto, unfolding(paw_grammar::specs::Spells::spelled_after, crate::specs::inner::Laws::after_lines))]
 fn read_lines(alloc: Global, tables: u32, source: &[u8]) -> Result<Game, SourceRefusal>
     requires short { length source.now ≤ SOURCE_LIMIT }
     requires valid { (d : Spelt) → after_lines tables nothing_yet (lines_of source.now) ≡ Ok d
         → 3 ≤ length d.tables → Valid (game_of d) }
-    ensures value { Reads result (reading tables 0 nothing_yet (lines_of source.now)) }
+    ensures value { ReadsSource result (spelled_after tables 0 nothing_yet (lines_of source.now)) }
     ensures small { IfOk result (λ game. length (image game) ≤ IMAGE_LIMIT) }
 {
     let mut draft = Draft::new(alloc);
@@ -118,7 +118,7 @@ fn read_lines(alloc: Global, tables: u32, source: &[u8]) -> Result<Game, SourceR
 /// the image would have more than 4,194,304 bytes. Memory only for want of memory.
 #[tactic(auto, unfolding(paw_grammar::specs::Spells::spelled))]
 pub fn read_source(alloc: Global, bytes: &[u8]) -> Result<Game, SourceRefusal>
-    ensures value { Reads result (spelled bytes.now) }
+    ensures value { ReadsSource result (spelled bytes.now) }
     ensures small { IfOk result (λ game. length (image game) ≤ IMAGE_LIMIT) }
 {
     if bytes.len() > SOURCE_LIMIT {

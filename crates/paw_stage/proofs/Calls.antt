@@ -6,8 +6,8 @@ use Rattle.std.proofs.lemmas.Slice.Eq.{bytes_eq-Decides}
 use Rattle.paw_stage.specs.Disk.{Disk, MayLeave, put, stable}
 use Rattle.paw_stage.specs.Stage.{Standing, Saves, bytes_or_none, opened}
 use Rattle.paw_stage.specs.Moments.{Moment, Passes, InAsk, InSave, InAttach, InWrite, InSync}
-use Rattle.paw_stage.specs.inner.Done.{Done, fresh, step, after, filed, is_attached, saved, attached_store, wrote_store, synced_store}
-use Rattle.paw_stage.specs.inner.Replay.{StandsIn, StandsInside, since_of}
+use Rattle.paw_stage.specs.inner.Done.{DoneCall, fresh, step_done, after, filed, is_attached, saved, attached_store, wrote_store, synced_store}
+use Rattle.paw_stage.specs.inner.Replay.{MayStand, StandsInside, since_of}
 use Rattle.paw_stage.specs.declared.log.Kind.{Kind}
 use Rattle.paw_stage.specs.declared.log.Kind.TheVariants as kind
 use Rattle.paw_stage.specs.declared.Asked.{Asked}
@@ -19,22 +19,22 @@ use Rattle.paw_stage.proofs.Replays.{passes}
 use Rattle.paw_stage.proofs.Disks.{IsDisk, after_disk, synced_leaves}
 
 -- what stands at a stage that has these lines and had these calls
-standing_with : List (List ℕ) → List Done → Standing
+standing_with : List (List ℕ) → List DoneCall → Standing
 standing_with lines ds = record (after fresh ds) { lines = lines }
 
 -- what stands after a call that was recorded
-pub stood : (m n : Memory) (l : Logged) (d : Done) → m.log ≡ l → n.log ≡ logged d l → n.lines ≡ m.lines →
-    standing_of n ≡ record (step (after fresh m.log.calls) d) { lines = m.lines }
+pub stood : (m n : Memory) (l : Logged) (d : DoneCall) → m.log ≡ l → n.log ≡ logged d l → n.lines ≡ m.lines →
+    standing_of n ≡ record (step_done (after fresh m.log.calls) d) { lines = m.lines }
 unfolding standing_with
 stood m n l d em en el =
     let calls : n.log.calls ≡ m.log.calls ++ d ∷ [] = ap (λ (k : Logged). k.calls) en ∙ ap (λ (k : Logged). k.calls ++ d ∷ []) (sym em) in
     let a : standing_with n.lines n.log.calls ≡ standing_with m.lines n.log.calls = ap (λ k. standing_with k n.log.calls) el in
     let b : standing_with m.lines n.log.calls ≡ standing_with m.lines (m.log.calls ++ d ∷ []) = ap (standing_with m.lines) calls in
-    let last : after fresh (m.log.calls ++ d ∷ []) ≡ step (after fresh m.log.calls) d = after-push fresh m.log.calls d in
+    let last : after fresh (m.log.calls ++ d ∷ []) ≡ step_done (after fresh m.log.calls) d = after-push fresh m.log.calls d in
     a ∙ (b ∙ ap {A = Standing} (λ s. record s { lines = m.lines }) last)
 
 -- the moments of a call that was recorded
-pub passed : (m n : Memory) (l : Logged) (d : Done) → m.log ≡ l → n.log ≡ logged d l →
+pub passed : (m n : Memory) (l : Logged) (d : DoneCall) → m.log ≡ l → n.log ≡ logged d l →
     Passes (clock_of m) (clock_of n) (moments_of m) (moments_of n) (StandsInside (after fresh m.log.calls) d)
 passed m n l d em en =
     let calls : n.log.calls ≡ m.log.calls ++ d ∷ [] = ap (λ (k : Logged). k.calls) en ∙ ap (λ (k : Logged). k.calls ++ d ∷ []) (sym em) in
@@ -156,6 +156,6 @@ abbrev pub Takes : Kind → Asked → Type 0
 Takes k answer = ((n : ℕ) × (k ≡ kind.Take) × (answer ≡ asked.Line n)) ⊎ ((k ≡ kind.End) × (answer ≡ asked.End))
 
 pub in_ask : (s : Standing) (lines : List (List ℕ)) (k : Kind) (answer : Asked) (m : Moment) → Takes k answer →
-    StandsIn k [] [] s m → InAsk (record s { lines = lines }) answer m
-in_ask s lines k answer m (inl t) h = subst (λ a. InAsk (record s { lines = lines }) a m) (sym t.2) (subst (λ x. StandsIn x [] [] s m) t.1 h)
-in_ask s lines k answer m (inr t) h = subst (λ a. InAsk (record s { lines = lines }) a m) (sym t.1) (subst (λ x. StandsIn x [] [] s m) t.0 h)
+    MayStand k [] [] s m → InAsk (record s { lines = lines }) answer m
+in_ask s lines k answer m (inl t) h = subst (λ a. InAsk (record s { lines = lines }) a m) (sym t.2) (subst (λ x. MayStand x [] [] s m) t.1 h)
+in_ask s lines k answer m (inr t) h = subst (λ a. InAsk (record s { lines = lines }) a m) (sym t.1) (subst (λ x. MayStand x [] [] s m) t.0 h)

@@ -4,7 +4,7 @@ use Rattle.std.specs.Prelude.{nat_le, nat_lt, ◌&&◌, ◌||◌, ◌==◌, if�
 use Rattle.std.proofs.lemmas.Bool.Decides.{nat_tests}
 use Rattle.paw_stage.specs.Disk.{Disk, Range, is_dirty, MayLeave, LeavesNoMore, put, touched, stable}
 use Rattle.paw_stage.specs.Stage.{Standing, bytes_or_none}
-use Rattle.paw_stage.specs.inner.Done.{Done, step, stepped, fresh, after, is_attached}
+use Rattle.paw_stage.specs.inner.Done.{DoneCall, step_done, stepped, fresh, after, is_attached}
 use Rattle.paw_stage.specs.inner.Crash.{spoiled_if, spoiled, crashed}
 use Rattle.paw_stage.specs.declared.log.Kind.{Kind}
 use Rattle.paw_stage.specs.declared.log.Kind.TheVariants as kind
@@ -60,11 +60,11 @@ stepped_is kind.Take name bytes s h = h
 stepped_is kind.End name bytes s h = h
 stepped_is kind.Show name bytes s h = h
 
-later_disk : (s : Standing) (ds : List Done) → IsDisk s.disk → IsDisk (after s ds).disk
+later_disk : (s : Standing) (ds : List DoneCall) → IsDisk s.disk → IsDisk (after s ds).disk
 later_disk s [] h = h
-later_disk s (d ∷ ds) h = later_disk (step s d) ds (stepped_is d.kind d.name d.bytes s h)
+later_disk s (d ∷ ds) h = later_disk (step_done s d) ds (stepped_is d.kind d.name d.bytes s h)
 
-pub after_disk : (ds : List Done) → IsDisk (after fresh ds).disk
+pub after_disk : (ds : List DoneCall) → IsDisk (after fresh ds).disk
 after_disk ds = later_disk fresh ds (stable_is [])
 
 -- once the bytes are synced a crash leaves no more than before
@@ -103,5 +103,5 @@ leaves false false d h =
     zero_plus : (i : ℕ) → 0 + i ≡ i
     zero_plus i = omega arith
 
-pub crash_leaves : (ds : List Done) (pick : ℕ) → MayLeave (after fresh ds).disk (crashed (after fresh ds).disk pick)
+pub crash_leaves : (ds : List DoneCall) (pick : ℕ) → MayLeave (after fresh ds).disk (crashed (after fresh ds).disk pick)
 crash_leaves ds pick = leaves (pick == 0) (pick == 1) (after fresh ds).disk (after_disk ds)

@@ -4,7 +4,7 @@ use Rattle.std.specs.Prelude.{Some, ◌||◌, ◌==◌, if◌then◌else◌, sli
 use Rattle.std.proofs.lemmas.List.{ext_get_or, take_all, length-drop, take-map, drop-map}
 use Rattle.paw_stage.specs.Disk.{Disk, is_dirty}
 use Rattle.paw_stage.specs.Stage.{bytes_or_none}
-use Rattle.paw_stage.specs.inner.Done.{Done, fresh, after}
+use Rattle.paw_stage.specs.inner.Done.{DoneCall, fresh, after}
 use Rattle.paw_stage.specs.inner.Crash.{crashed, spoiled, spoiled_if}
 use Rattle.paw_stage.specs.inner.Log.{done_in, all_done}
 use Rattle.paw_stage.specs.inner.Seen.{writes, is_written, FindsStore}
@@ -21,7 +21,7 @@ spoiled_twice false true x = refl
 spoiled_twice false false x = refl
 
 -- a byte that is spoiled by one call more
-pub spoiled_more : (ds : List Done) (d : Done) (j x y z : ℕ) → z ≡ spoiled_if (writes d.kind (length d.bytes) j) y →
+pub spoiled_more : (ds : List DoneCall) (d : DoneCall) (j x y z : ℕ) → z ≡ spoiled_if (writes d.kind (length d.bytes) j) y →
     y ≡ spoiled_if (is_written ds j) x → z ≡ spoiled_if (is_written (ds ++ d ∷ []) j) x
 spoiled_more ds d j x y z ez ey =
     ez ∙ (ap (spoiled_if (writes d.kind (length d.bytes) j)) ey
@@ -29,7 +29,7 @@ spoiled_more ds d j x y z ez ey =
     ∙ ap (λ b. spoiled_if b x) (sym (is_written-push ds d j))))
 
 -- the file of the attached store has its bytes
-pub store_file : (room : List ℕ) (ds : List Done) (store : Store) → FindsStore room ds (Some store) →
+pub store_file : (room : List ℕ) (ds : List DoneCall) (store : Store) → FindsStore room ds (Some store) →
     bytes_or_none ((after fresh ds).files (slice_range room store.opened.from store.opened.mid))
     ≡ (after fresh ds).disk.bytes
 store_file room ds store h = ap bytes_or_none (after_filed ds (slice_range room store.opened.from store.opened.mid) h.1.attached)

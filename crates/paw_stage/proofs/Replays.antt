@@ -5,14 +5,14 @@ use Rattle.std.specs.Prelude.{Some}
 use Rattle.std.proofs.Math.Seq.{take-length}
 use Rattle.paw_stage.specs.Stage.{Standing}
 use Rattle.paw_stage.specs.Moments.{Moment, moment_of, Passes}
-use Rattle.paw_stage.specs.inner.Done.{Done, fresh, step, stepped, after}
-use Rattle.paw_stage.specs.inner.Replay.{StandsIn, StandsInside, StoodInside, since_of}
+use Rattle.paw_stage.specs.inner.Done.{DoneCall, fresh, step_done, stepped, after}
+use Rattle.paw_stage.specs.inner.Replay.{MayStand, StandsInside, StoodInside, since_of}
 use Rattle.paw_stage.specs.declared.log.Kind.{Kind}
 use Rattle.paw_stage.specs.declared.log.Kind.TheVariants as kind
 use Rattle.paw_stage.proofs.Logs.{after-push}
 
 -- what stands before a call is inside it
-begins : (k : Kind) (name bytes : List ℕ) (s : Standing) (m : Moment) → m ≡ moment_of s → StandsIn k name bytes s m
+begins : (k : Kind) (name bytes : List ℕ) (s : Standing) (m : Moment) → m ≡ moment_of s → MayStand k name bytes s m
 begins kind.Add name bytes s m e = inl e
 begins kind.Load name bytes s m e = e
 begins kind.Save name bytes s m e = inl e
@@ -25,7 +25,7 @@ begins kind.End name bytes s m e = e
 begins kind.Show name bytes s m e = (0, e ∙ ap (λ t. record (moment_of s) { shown = t }) (sym (append-nil s.shown)))
 
 -- what stands after a call is inside it
-ends : (k : Kind) (name bytes : List ℕ) (s : Standing) (m : Moment) → m ≡ moment_of (stepped k name bytes s) → StandsIn k name bytes s m
+ends : (k : Kind) (name bytes : List ℕ) (s : Standing) (m : Moment) → m ≡ moment_of (stepped k name bytes s) → MayStand k name bytes s m
 ends kind.Add name bytes s m e = inr e
 ends kind.Load name bytes s m e = e
 ends kind.Save name bytes s m e = inr (Some bytes, e)
@@ -37,34 +37,35 @@ ends kind.Take name bytes s m e = inr e
 ends kind.End name bytes s m e = e
 ends kind.Show name bytes s m e = (length bytes, e ∙ ap (λ t. record (moment_of s) { shown = s.shown ++ t }) (sym (take-length bytes)))
 
-split : (s : Standing) (ds : List Done) (d : Done) (m : Moment) → StoodInside s (ds ++ d ∷ []) m → StoodInside s ds m ⊎ StandsInside (after s ds) d m
+split : (s : Standing) (ds : List DoneCall) (d : DoneCall) (m : Moment) → StoodInside s (ds ++ d ∷ []) m → StoodInside s ds m ⊎ StandsInside (after s ds) d m
 split s [] d m (inl h) = inr h
 split s [] d m (inr h) = absurd h
 split s (x ∷ ds) d m (inl h) = inl (inl h)
-split s (x ∷ ds) d m (inr h) = elim (split (step s x) ds d m h) [ inl k ↦ inl (inr k) | inr k ↦ inr k ]
+split s (x ∷ ds) d m (inr h) = elim (split (step_done s x) ds d m h) [ inl k ↦ inl (inr k) | inr k ↦ inr k ]
 
-first : (s : Standing) (ds : List Done) (d : Done) (m : Moment) → StoodInside s ds m → StoodInside s (ds ++ d ∷ []) m
+first : (s : Standing) (ds : List DoneCall) (d : DoneCall) (m : Moment) → StoodInside s ds m → StoodInside s (ds ++ d ∷ []) m
 first s [] d m h = absurd h
 first s (x ∷ ds) d m (inl h) = inl h
-first s (x ∷ ds) d m (inr h) = inr (first (step s x) ds d m h)
+first s (x ∷ ds) d m (inr h) = inr (first (step_done s x) ds d m h)
 
-last : (s : Standing) (ds : List Done) (d : Done) (m : Moment) → StandsInside (after s ds) d m → StoodInside s (ds ++ d ∷ []) m
+last : (s : Standing) (ds : List DoneCall) (d : DoneCall) (m : Moment) → StandsInside (after s ds) d m → StoodInside s (ds ++ d ∷ []) m
 last s [] d m h = inl h
-last s (x ∷ ds) d m h = inr (last (step s x) ds d m h)
+last s (x ∷ ds) d m h = inr (last (step_done s x) ds d m h)
 
-after_split : (s : Standing) (t : ℕ) (ds : List Done) → after (after s (take t ds)) (drop t ds) ≡ after s ds
+after_split : (s : Standing) (t : ℕ) (ds : List DoneCall) → after (after s (take t ds)) (drop t ds) ≡ after s ds
 after_split s zero ds = refl
 after_split s (suc t) [] = refl
-after_split s (suc t) (d ∷ ds) = after_split (step s d) t ds
+after_split s (suc t) (d ∷ ds) = after_split (step_done s d) t ds
 
-take_push : (t : ℕ) (ds : List Done) (d : Done) → t ≤ length ds → (take t (ds ++ d ∷ []) ≡ take t ds) × (drop t (ds ++ d ∷ []) ≡ drop t ds ++ d ∷ [])
+take_push : (t : ℕ) (ds : List DoneCall) (d : DoneCall) → t ≤ length ds → (take t (ds ++ d ∷ []) ≡ take t ds) × (drop t (ds ++ d ∷ []) ≡ drop t ds ++ d ∷ [])
 take_push zero ds d h = (refl, refl)
 take_push (suc t) [] d h = absurd (omega arith)
 take_push (suc t) (x ∷ ds) d h =
     let k : (take t (ds ++ d ∷ []) ≡ take t ds) × (drop t (ds ++ d ∷ []) ≡ drop t ds ++ d ∷ []) = take_push t ds d (omega arith) in (ap (λ l. x ∷ l) k.0, k.1)
 
 -- one call more
-pub passes : (ds : List Done) (d : Done) → Passes (length ds) (length (ds ++ d ∷ [])) (since_of ds) (since_of (ds ++ d ∷ [])) (StandsInside (after fresh ds) d)
+pub passes : (ds : List DoneCall) (d : DoneCall) → Passes (length ds) (length (ds ++ d ∷ [])) (since_of ds) (since_of (ds ++ d ∷ []))
+    (StandsInside (after fresh ds) d)
 passes ds d =
     record {
       later = omega (arith, length-append ds (d ∷ []));

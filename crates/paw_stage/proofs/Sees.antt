@@ -6,8 +6,8 @@ use Rattle.std.specs.Str.{bytes_eq}
 use Rattle.std.proofs.lemmas.Slice.Eq.{bytes_eq-Decides}
 use Rattle.std.proofs.lemmas.List.{ext_get_or, get_or-take, get_or-drop, length-take, length-drop}
 use Rattle.paw_stage.specs.Disk.{Disk, put, stable, touched}
-use Rattle.paw_stage.specs.Stage.{Standing, Files, held, made_if_missing, bytes_or_none, wrote}
-use Rattle.paw_stage.specs.inner.Done.{Done, fresh, step, stepped, after, is_attached}
+use Rattle.paw_stage.specs.Stage.{Standing, Files, store_holding, made_if_missing, bytes_or_none, wrote}
+use Rattle.paw_stage.specs.inner.Done.{DoneCall, fresh, step_done, stepped, after, is_attached}
 use Rattle.paw_stage.specs.inner.Seen.{Sees, IsFiled, laid_over}
 use Rattle.paw_stage.specs.declared.log.Kind.{Kind}
 use Rattle.paw_stage.specs.declared.log.Kind.TheVariants as kind
@@ -42,17 +42,17 @@ stepped_filed kind.Attach name bytes s h n e =
     (some_same name n e) (made_gives (s.files name) s.files name refl)
 stepped_filed kind.Read name bytes s h n e = h n e
 stepped_filed (kind.Write at) name bytes s h n e =
-    ap (λ a. held a (put at bytes s.disk.bytes) s.files n) e ∙ holds_same n (Some (put at bytes s.disk.bytes)) s.files
+    ap (λ a. store_holding a (put at bytes s.disk.bytes) s.files n) e ∙ holds_same n (Some (put at bytes s.disk.bytes)) s.files
 stepped_filed kind.Sync name bytes s h n e = h n e
 stepped_filed kind.Take name bytes s h n e = h n e
 stepped_filed kind.End name bytes s h n e = h n e
 stepped_filed kind.Show name bytes s h n e = h n e
 
-later_filed : (s : Standing) (ds : List Done) → IsFiled s → IsFiled (after s ds)
+later_filed : (s : Standing) (ds : List DoneCall) → IsFiled s → IsFiled (after s ds)
 later_filed s [] h = h
-later_filed s (d ∷ ds) h = later_filed (step s d) ds (stepped_filed d.kind d.name d.bytes s h)
+later_filed s (d ∷ ds) h = later_filed (step_done s d) ds (stepped_filed d.kind d.name d.bytes s h)
 
-pub after_filed : (ds : List Done) → IsFiled (after fresh ds)
+pub after_filed : (ds : List DoneCall) → IsFiled (after fresh ds)
 after_filed ds = later_filed fresh ds (λ n e. cc)
 
 attached_is : (a : Option (List ℕ)) (name : List ℕ) → is_attached a name ≡ true → a ≡ Some name
@@ -85,8 +85,8 @@ sees_written s name at place bytes into new seen now filed h on is same laid =
     let old : List ℕ = s.disk.bytes in
     let a : s.attached ≡ Some name = attached_is s.attached name (sym h.attached ∙ on) in
     let f : s.files name ≡ Some old = filed name a in
-    let g : held s.attached (put place bytes old) s.files name ≡ Some (put place bytes old) =
-    ap (λ o. held o (put place bytes old) s.files name) a ∙ holds_same name (Some (put place bytes old)) s.files in
+    let g : store_holding s.attached (put place bytes old) s.files name ≡ Some (put place bytes old) =
+    ap (λ o. store_holding o (put place bytes old) s.files name) a ∙ holds_same name (Some (put place bytes old)) s.files in
     let n : seen.len ≡ length old = h.len ∙ ap (λ o. length (bytes_or_none o)) f in
     let len : now.len ≡ max (length old) (min place (length old) + length bytes) =
     ap (λ (x : Seen). x.len) is ∙ ap (λ k. max k (min place k + length bytes)) n in

@@ -7,7 +7,7 @@ use Rattle.std.proofs.lemmas.List.{take-append-le, drop-append-le, take_all, len
 use Rattle.std.proofs.lemmas.Slice.Eq.{bytes_eq-Decides}
 use Rattle.paw_stage.specs.Disk.{Disk, is_dirty, stable}
 use Rattle.paw_stage.specs.Stage.{Standing}
-use Rattle.paw_stage.specs.inner.Done.{Done, fresh, step, after, is_attached}
+use Rattle.paw_stage.specs.inner.Done.{DoneCall, fresh, step_done, after, is_attached}
 use Rattle.paw_stage.specs.inner.Seen.{writes, is_written, IsStore, IsNamed, FindsStore}
 use Rattle.paw_stage.specs.declared.log.Kind.{Kind}
 use Rattle.paw_stage.specs.declared.log.Kind.TheVariants as kind
@@ -28,20 +28,20 @@ or_grouped : (a b c : Bool) → (a || (b || c)) ≡ ((a || b) || c)
 or_grouped true b c = refl
 or_grouped false b c = refl
 
-pub is_written-push : (ds : List Done) (d : Done) (i : ℕ) → is_written (ds ++ d ∷ []) i ≡ (is_written ds i || writes d.kind (length d.bytes) i)
+pub is_written-push : (ds : List DoneCall) (d : DoneCall) (i : ℕ) → is_written (ds ++ d ∷ []) i ≡ (is_written ds i || writes d.kind (length d.bytes) i)
 is_written-push [] d i = or_false (writes d.kind (length d.bytes) i)
 is_written-push (x ∷ ds) d i =
     ap (λ b. writes x.kind (length x.bytes) i || b) (is_written-push ds d i)
     ∙ or_grouped (writes x.kind (length x.bytes) i) (is_written ds i) (writes d.kind (length d.bytes) i)
 
 -- a call that neither attaches nor syncs
-kept_store : (ds : List Done) (d : Done) (name : List ℕ) (n : ℕ) → IsStore ds name n →
-    (step (after fresh ds) d).attached ≡ (after fresh ds).attached →
-    (step (after fresh ds) d).disk.synced ≡ (after fresh ds).disk.synced
-    → ((i : ℕ) → is_dirty (step (after fresh ds) d).disk.dirty i
+kept_store : (ds : List DoneCall) (d : DoneCall) (name : List ℕ) (n : ℕ) → IsStore ds name n →
+    (step_done (after fresh ds) d).attached ≡ (after fresh ds).attached →
+    (step_done (after fresh ds) d).disk.synced ≡ (after fresh ds).disk.synced
+    → ((i : ℕ) → is_dirty (step_done (after fresh ds) d).disk.dirty i
     ≡ (writes d.kind (length d.bytes) i || is_dirty (after fresh ds).disk.dirty i)) → IsStore (ds ++ d ∷ []) name n
 kept_store ds d name n h ea es ed =
-    let last : after fresh (ds ++ d ∷ []) ≡ step (after fresh ds) d = after-push fresh ds d in
+    let last : after fresh (ds ++ d ∷ []) ≡ step_done (after fresh ds) d = after-push fresh ds d in
     let front : take n (ds ++ d ∷ []) ≡ take n ds = take-append-le n ds (d ∷ []) h.within in
     let back : drop n (ds ++ d ∷ []) ≡ drop n ds ++ d ∷ [] = drop-append-le n ds (d ∷ []) h.within in
     record {
@@ -56,10 +56,10 @@ kept_store ds d name n h ea es ed =
     }
 
 -- a call after which all of the store's bytes are synced
-settled_store : (ds : List Done) (d : Done) (name bytes : List ℕ) → (step (after fresh ds) d).attached ≡ Some name →
-    (step (after fresh ds) d).disk ≡ stable bytes → IsStore (ds ++ d ∷ []) name (length ds + 1)
+settled_store : (ds : List DoneCall) (d : DoneCall) (name bytes : List ℕ) → (step_done (after fresh ds) d).attached ≡ Some name →
+    (step_done (after fresh ds) d).disk ≡ stable bytes → IsStore (ds ++ d ∷ []) name (length ds + 1)
 settled_store ds d name bytes ea ed =
-    let last : after fresh (ds ++ d ∷ []) ≡ step (after fresh ds) d = after-push fresh ds d in
+    let last : after fresh (ds ++ d ∷ []) ≡ step_done (after fresh ds) d = after-push fresh ds d in
     let size : length (ds ++ d ∷ []) ≡ length ds + 1 = length-append ds (d ∷ []) in
     let all : take (length ds + 1) (ds ++ d ∷ []) ≡ ds ++ d ∷ [] = take_all (length ds + 1) (ds ++ d ∷ []) (omega arith) in
     let disk : (after fresh (ds ++ d ∷ [])).disk ≡ stable bytes = ap (λ (s : Standing). s.disk) last ∙ ed in
@@ -72,10 +72,10 @@ settled_store ds d name bytes ea ed =
       dirty = λ i. ap (λ (k : Disk). is_dirty k.dirty i) disk ∙ sym (ap (λ l. is_written l i) (none_left (ds ++ d ∷ []) (length ds + 1) size));
     }
   where
-    none_left : (l : List Done) (n : ℕ) → length l ≡ n → drop n l ≡ []
+    none_left : (l : List DoneCall) (n : ℕ) → length l ≡ n → drop n l ≡ []
     none_left l n e = empty (drop n l) (omega (arith, length-drop n l))
       where
-        empty : (l : List Done) → length l ≡ 0 → l ≡ []
+        empty : (l : List DoneCall) → length l ≡ 0 → l ≡ []
         empty [] h = refl
         empty (x ∷ l) h = absurd (omega arith)
 
@@ -87,16 +87,16 @@ IsQuiet kind.Attach = ⊥
 IsQuiet kind.Sync = ⊥
 IsQuiet _ = Unit {0}
 
-kept_finds : (room : List ℕ) (ds : List Done) (d : Done) (store : Option Store) → FindsStore room ds store →
-    (step (after fresh ds) d).attached ≡ (after fresh ds).attached →
-    (step (after fresh ds) d).disk.synced ≡ (after fresh ds).disk.synced
-    → ((i : ℕ) → is_dirty (step (after fresh ds) d).disk.dirty i
+kept_finds : (room : List ℕ) (ds : List DoneCall) (d : DoneCall) (store : Option Store) → FindsStore room ds store →
+    (step_done (after fresh ds) d).attached ≡ (after fresh ds).attached →
+    (step_done (after fresh ds) d).disk.synced ≡ (after fresh ds).disk.synced
+    → ((i : ℕ) → is_dirty (step_done (after fresh ds) d).disk.dirty i
     ≡ (writes d.kind (length d.bytes) i || is_dirty (after fresh ds).disk.dirty i)) →
     FindsStore room (ds ++ d ∷ []) store
 kept_finds room ds d None h ea es ed = ap (λ (s : Standing). s.attached) (after-push fresh ds d) ∙ (ea ∙ h)
 kept_finds room ds d (Some store) h ea es ed = (h.0, kept_store ds d _ store.synced h.1 ea es ed)
 
-pub quiet_finds : (room : List ℕ) (ds : List Done) (k : Kind) (name bytes : List ℕ) (store : Option Store) → IsQuiet k →
+pub quiet_finds : (room : List ℕ) (ds : List DoneCall) (k : Kind) (name bytes : List ℕ) (store : Option Store) → IsQuiet k →
     FindsStore room ds store → FindsStore room (ds ++ record { kind = k; name = name; bytes = bytes } ∷ []) store
 quiet_finds room ds kind.Add name bytes store q h = absurd q
 quiet_finds room ds kind.Load name bytes store q h = kept_finds room ds (record { kind = kind.Load; name = name; bytes = bytes }) store h refl refl (λ i. refl)
@@ -125,7 +125,7 @@ other_disk s name other bytes e ne =
     ap (λ a. if is_attached a other then stable bytes else s.disk) e
     ∙ if_not (bytes_eq name other) (stable bytes) s.disk (λ t. ne (sym ((bytes_eq-Decides name other).0 t)))
 
-saved_same : (ds : List Done) (k : Kind) (name bytes : List ℕ) (n : ℕ) → (k ≡ kind.Add) ⊎ (k ≡ kind.Save) →
+saved_same : (ds : List DoneCall) (k : Kind) (name bytes : List ℕ) (n : ℕ) → (k ≡ kind.Add) ⊎ (k ≡ kind.Save) →
     IsStore ds name n → IsStore (ds ++ record { kind = k; name = name; bytes = bytes } ∷ []) name (length ds + 1)
 saved_same ds k name bytes n w h =
     let disk = same_disk (after fresh ds) name bytes h.attached in
@@ -136,7 +136,7 @@ saved_same ds k name bytes n w h =
           (sym e) (settled_store ds (record { kind = kind.Save; name = name; bytes = bytes }) name bytes h.attached disk)
     ]
 
-pub saved_here : (ds : List Done) (k : Kind) (called name bytes : List ℕ) (n done : ℕ) → called ≡ name →
+pub saved_here : (ds : List DoneCall) (k : Kind) (called name bytes : List ℕ) (n done : ℕ) → called ≡ name →
     done ≡ length ds + 1 → (k ≡ kind.Add) ⊎ (k ≡ kind.Save) → IsStore ds name n →
     IsStore (ds ++ record { kind = k; name = called; bytes = bytes } ∷ []) name done
 saved_here ds k called name bytes n done e count w h =
@@ -144,7 +144,7 @@ saved_here ds k called name bytes n done e count w h =
     (subst (λ x. IsStore (ds ++ record { kind = k; name = x; bytes = bytes } ∷ []) name (length ds + 1)) (sym e)
     (saved_same ds k name bytes n w h))
 
-pub saved_other : (ds : List Done) (k : Kind) (name other bytes : List ℕ) (n : ℕ) → (k ≡ kind.Add) ⊎ (k ≡ kind.Save) →
+pub saved_other : (ds : List DoneCall) (k : Kind) (name other bytes : List ℕ) (n : ℕ) → (k ≡ kind.Add) ⊎ (k ≡ kind.Save) →
     other ≢ name → IsStore ds name n → IsStore (ds ++ record { kind = k; name = other; bytes = bytes } ∷ []) name n
 saved_other ds k name other bytes n w ne h =
     let disk = other_disk (after fresh ds) name other bytes h.attached ne in
@@ -158,7 +158,7 @@ saved_other ds k name other bytes n w ne h =
     ]
 
 -- no store is attached by saving
-pub saved_none : (ds : List Done) (k : Kind) (name bytes : List ℕ) → (k ≡ kind.Add) ⊎ (k ≡ kind.Save) →
+pub saved_none : (ds : List DoneCall) (k : Kind) (name bytes : List ℕ) → (k ≡ kind.Add) ⊎ (k ≡ kind.Save) →
     (after fresh ds).attached ≡ None → (after fresh
     (ds ++ record { kind = k; name = name; bytes = bytes } ∷ [])).attached ≡ None
 saved_none ds k name bytes w h = elim w [
@@ -171,6 +171,6 @@ saved_none ds k name bytes w h = elim w [
 ]
 
 -- the name of the attached store stands in the room
-pub found_named : (room : List ℕ) (ds : List Done) (store : Option Store) → FindsStore room ds store → IsNamed room store
+pub found_named : (room : List ℕ) (ds : List DoneCall) (store : Option Store) → FindsStore room ds store → IsNamed room store
 found_named room ds None h = tt
 found_named room ds (Some store) h = h.0

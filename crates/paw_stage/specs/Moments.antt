@@ -1,7 +1,7 @@
 -- What may stand at each moment inside the calls of a stage.
 use Rattle.std.specs.Prelude.{◌≡◌, ◌≢◌, ◌⊎◌, ℕ, ◌+◌, ◌≤◌, List, ◌++◌, take, Option, Some}
 use Rattle.paw_stage.specs.Disk.{Disk, LeavesNoMore, IsInWrite}
-use Rattle.paw_stage.specs.Stage.{Files, Standing, holds, held, made_if_missing}
+use Rattle.paw_stage.specs.Stage.{Files, Standing, file_holding, store_holding, made_if_missing}
 use Rattle.paw_stage.specs.declared.Asked.{Asked}
 use Rattle.paw_stage.specs.declared.Asked.TheVariants as asked
 
@@ -49,7 +49,7 @@ pub record InSave (old : Standing) (name : List ℕ) (m : Moment) : Type 0 where
   pub asked : m.asked ≡ old.asked
   pub shown : m.shown ≡ old.shown
   pub attached : m.attached ≡ old.attached
-  pub files : (m.files ≡ old.files) ⊎ ((bytes : Option (List ℕ)) × (m.files ≡ holds name bytes old.files))
+  pub files : (m.files ≡ old.files) ⊎ ((bytes : Option (List ℕ)) × (m.files ≡ file_holding name bytes old.files))
   pub disk : old.attached ≢ Some name → m.disk ≡ old.disk
 
 -- Inside an attach: a missing file may be there already, and the store is that before the call or that after it.
@@ -65,7 +65,7 @@ pub record InWrite (old : Standing) (at n : ℕ) (m : Moment) : Type 0 where
   pub asked : m.asked ≡ old.asked
   pub shown : m.shown ≡ old.shown
   pub attached : m.attached ≡ old.attached
-  pub files : (m.files ≡ old.files) ⊎ ((bytes : List ℕ) × (m.files ≡ held old.attached bytes old.files))
+  pub files : (m.files ≡ old.files) ⊎ ((bytes : List ℕ) × (m.files ≡ store_holding old.attached bytes old.files))
   pub disk : IsInWrite at n old.disk m.disk
 
 -- Inside a sync: a crash leaves no more than before it.

@@ -18,8 +18,8 @@ abbrev pub Files : Type 0
 Files = List ℕ → Option (List ℕ)
 
 -- The files, once the file of this name holds these bytes, or is gone where there are none.
-abbrev pub holds : List ℕ → Option (List ℕ) → Files → Files
-holds name bytes files = λ n. if bytes_eq n name then bytes else files n
+abbrev pub file_holding : List ℕ → Option (List ℕ) → Files → Files
+file_holding name bytes files = λ n. if bytes_eq n name then bytes else files n
 
 -- The bytes of a file; none where it is missing.
 abbrev pub bytes_or_none : Option (List ℕ) → List ℕ
@@ -28,13 +28,13 @@ bytes_or_none (Some bytes) = bytes
 
 -- The files, once the file of this name is there: it was made empty where it was missing.
 abbrev pub made_if_missing : List ℕ → Option (List ℕ) → Files → Files
-made_if_missing name None files = holds name (Some []) files
+made_if_missing name None files = file_holding name (Some []) files
 made_if_missing name (Some bytes) files = files
 
 -- The files, once the attached store holds these bytes: they are those of its file.
-abbrev pub held : Option (List ℕ) → List ℕ → Files → Files
-held None bytes files = files
-held (Some name) bytes files = holds name (Some bytes) files
+abbrev pub store_holding : Option (List ℕ) → List ℕ → Files → Files
+store_holding None bytes files = files
+store_holding (Some name) bytes files = file_holding name (Some bytes) files
 
 -- What stands at a stage: the files, the lines that are left (the next one first), the number of lines that were
 -- taken, the whole text shown, the name of the attached store, its bytes with what a crash may leave of them, and the
@@ -107,7 +107,7 @@ pub record Saves (old new : Standing) (name : List ℕ) (bytes : Option (List �
   pub disk : Disk
   pub apart : old.attached ≢ Some name → disk ≡ old.disk
   pub store : old.attached ≡ Some name → disk.bytes ≡ bytes_or_none bytes
-  pub stands : new ≡ record old { files = holds name bytes old.files; disk = disk }
+  pub stands : new ≡ record old { files = file_holding name bytes old.files; disk = disk }
 
 -- What a save leaves. Where it failed nothing changed, or the file holds any bytes, or is gone.
 abbrev pub SavesTo : {A : Type 0} → Standing → Standing → List ℕ → List ℕ → Result A Failed → Type 0
@@ -134,7 +134,7 @@ AttachesTo old new name (Err e) = Unattached old new
 
 -- What stands once the store's bytes are those of this disk, and n bytes more were written.
 abbrev pub wrote : Standing → Disk → ℕ → Standing
-wrote old d n = record old { files = held old.attached d.bytes old.files; disk = d; written = old.written + n }
+wrote old d n = record old { files = store_holding old.attached d.bytes old.files; disk = d; written = old.written + n }
 
 -- What stands once these bytes were written to the store from a place on.
 abbrev pub with_written : ℕ → List ℕ → Standing → Standing

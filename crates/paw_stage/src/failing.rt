@@ -2,7 +2,7 @@
 
 ghost use Rattle.std.specs.Prelude.{◌≡◌};
 ghost use Rattle.paw_stage.specs.inner.Faults.{no_faults};
-ghost use Rattle.paw_stage.specs.inner.Failing.{listing, is_listed, counted};
+ghost use Rattle.paw_stage.specs.inner.Failing.{listing_of, is_listed, call_counted};
 
 use crate::MemoryStage;
 use crate::refusing::{Refusals, RefusingStage};
@@ -30,7 +30,7 @@ impl Model for Listed {
 impl Refusals for Listed {
     ghost refuses = { is_listed };
 
-    ghost later = { counted };
+    ghost later = { call_counted };
 
     fn refuses_next(&mut self) -> bool {
         let number = self.next;
@@ -42,7 +42,7 @@ impl Refusals for Listed {
 impl RefusingStage<Listed> {
     /// A stage over this one, of which the calls with these numbers fail. They need not be in order.
     pub fn new(inner: MemoryStage, calls: Vec<u64>) -> FailStage
-        ensures { result ≡ record { inner = inner; rule = listing calls.items; counts = no_faults } }
+        ensures { result ≡ record { inner = inner; rule = listing_of calls.items; counts = no_faults } }
     {
         RefusingStage::over(inner, Listed { calls, next: 0 })
     }

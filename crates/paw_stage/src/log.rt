@@ -6,7 +6,7 @@ ghost use Rattle.paw_stage.specs.Stage.{Standing, bytes_or_none};
 ghost use Rattle.paw_stage.specs.inner.Stage.{IfAttached};
 ghost use Rattle.paw_stage.specs.inner.Done.{call_of, added, fresh, stepped, after};
 ghost use Rattle.paw_stage.specs.inner.Crash.{crashed};
-ghost use Rattle.paw_stage.specs.inner.Log.{has_room, logged, given, all_done, AreLaid, KeepsText};
+ghost use Rattle.paw_stage.specs.inner.Log.{has_room, logged, call_logged, all_done, AreLaid, KeepsText};
 ghost use Rattle.paw_stage.specs.inner.Seen.{HasLength};
 
 use crate::replay::{crash, file_len, first_bytes, read_store, store_len};
@@ -56,11 +56,11 @@ impl Model for Log {
 
     ghost Value = { Logged };
 
-    ghost use Rattle.paw_stage.specs.inner.LogInside.{logged_in, IsKept};
+    ghost use Rattle.paw_stage.specs.inner.LogInside.{logged_in, IsLogKept};
 
     ghost view = { logged_in };
 
-    ghost invariant = { IsKept };
+    ghost invariant = { IsLogKept };
 }
 
 impl Log {
@@ -98,7 +98,7 @@ impl Log {
 
     /// Records that a file was put there, for which new room is taken. The spare room stays.
     pub fn add_file(&mut self, name: &[u8], bytes: &[u8]) -> Result<(), NoRoom>
-        ensures ok { OnOk result (self.new ≡ given (added name.now bytes.now) self.old) }
+        ensures ok { OnOk result (self.new ≡ call_logged (added name.now bytes.now) self.old) }
         ensures err { OnErr result (self.new ≡ self.old) }
     {
         let n = name.len() + bytes.len();

@@ -13,11 +13,12 @@ ghost use Rattle.paw_stage.specs.Stage.{LoadsTo, SavesTo, AttachesTo, ReadsTo, W
 ghost use Rattle.paw_stage.specs.Moments.{Still, InAsk, InShow, InSave, InAttach, InWrite, InSync};
 ghost use Rattle.paw_stage.specs.inner.Faults.{count_of};
 ghost use Rattle.paw_stage.specs.inner.Crash.{crashed};
-ghost use Rattle.paw_stage.specs.inner.Done.{loaded, saved, attached_store, read_store};
+ghost use Rattle.paw_stage.specs.inner.Done.{loaded_file, saved, attached_store, read_store};
 ghost use Rattle.paw_stage.specs.inner.Done.{wrote_store, synced_store, took};
-ghost use Rattle.paw_stage.specs.inner.Done.{ended, showed};
+ghost use Rattle.paw_stage.specs.inner.Done.{end_done, showed};
 ghost use Rattle.paw_stage.specs.inner.Memory.{empty, standing_of, clock_of, moments_of, only_moment, Throughout};
-ghost use Rattle.paw_stage.specs.inner.Memory.{can_note, noted, failed, found_none, line_taken, with_file, with_line};
+ghost use Rattle.paw_stage.specs.inner.Memory.{can_note, recorded, failed, found_none};
+ghost use Rattle.paw_stage.specs.inner.Memory.{line_taken, with_file, with_line_left};
 
 use crate::log::{Kind, Log};
 use crate::{Asked, Failed, FaultCounts, LoadRefusal, Stage, StageCall};
@@ -86,7 +87,7 @@ impl MemoryStage {
 
     /// Adds a line, without a line end, after those that are left. The spare room stays as it is.
     pub fn add_line(&mut self, alloc: Global, line: &[u8]) -> Result<(), NoRoom>
-        ensures ok { OnOk result (self.new ≡ with_line line.now self.old) }
+        ensures ok { OnOk result (self.new ≡ with_line_left line.now self.old) }
         ensures err { OnErr result (self.new ≡ self.old) }
     {
         let bytes = Vec::from_slice(alloc, line)?;
@@ -137,11 +138,11 @@ impl Stage for MemoryStage {
         ensures time { Throughout self.old self.new Still }
 
         // It fails exactly for want of room, and leaves no trace then but its count.
-        ensures exact { (result ≡ Err refusal.Failed) ↔ IsFalse (can_note (loaded name.now) self.old) }
+        ensures exact { (result ≡ Err refusal.Failed) ↔ IsFalse (can_note (loaded_file name.now) self.old) }
         ensures failed { result ≡ Err refusal.Failed → self.new ≡ failed call.Load self.old }
-        ensures noted { OnOk result (self.new ≡ noted (loaded name.now) self.old) }
+        ensures noted { OnOk result (self.new ≡ recorded (loaded_file name.now) self.old) }
         ensures absent { result ≡ Err refusal.Absent → self.new ≡ found_none name.now self.old }
-        ensures wanting { result ≡ Err refusal.Memory → self.new ≡ noted (loaded name.now) self.old }
+        ensures wanting { result ≡ Err refusal.Memory → self.new ≡ recorded (loaded_file name.now) self.old }
     {
         if !self.log.add(Kind::Load, name.as_bytes(), &[]) {
             self.counts.raise(StageCall::Load);
@@ -164,7 +165,7 @@ impl Stage for MemoryStage {
         // It fails exactly for want of room, and leaves no trace then but its count.
         ensures exact { IsErr result ↔ IsFalse (can_note (saved name.now bytes.now) self.old) }
         ensures failed { OnErr result (self.new ≡ failed call.Save self.old) }
-        ensures noted { OnOk result (self.new ≡ noted (saved name.now bytes.now) self.old) }
+        ensures noted { OnOk result (self.new ≡ recorded (saved name.now bytes.now) self.old) }
     {
         if !self.log.add(Kind::Save, name.as_bytes(), bytes) {
             self.counts.raise(StageCall::Save);
@@ -182,7 +183,7 @@ impl Stage for MemoryStage {
         // It fails exactly for want of room, and leaves no trace then but its count.
         ensures exact { IsErr result ↔ IsFalse (can_note (attached_store name.now) self.old) }
         ensures failed { OnErr result (self.new ≡ failed call.Attach self.old) }
-        ensures noted { OnOk result (self.new ≡ noted (attached_store name.now) self.old) }
+        ensures noted { OnOk result (self.new ≡ recorded (attached_store name.now) self.old) }
     {
         if !self.log.add(Kind::Attach, name.as_bytes(), &[]) {
             self.counts.raise(StageCall::Attach);
@@ -202,7 +203,7 @@ impl Stage for MemoryStage {
         // It fails exactly for want of room, and leaves no trace then but its count.
         ensures exact { IsErr result ↔ IsFalse (can_note read_store self.old) }
         ensures failed { OnErr result (self.new ≡ failed call.Read self.old) }
-        ensures noted { OnOk result (self.new ≡ noted read_store self.old) }
+        ensures noted { OnOk result (self.new ≡ recorded read_store self.old) }
     {
         if !self.log.add(Kind::Read, &[], &[]) {
             self.counts.raise(StageCall::Read);
@@ -222,7 +223,7 @@ impl Stage for MemoryStage {
         // It fails exactly for want of room, and leaves no trace then but its count.
         ensures exact { IsErr result ↔ IsFalse (can_note (wrote_store at bytes.now) self.old) }
         ensures failed { OnErr result (self.new ≡ failed call.Write self.old) }
-        ensures noted { OnOk result (self.new ≡ noted (wrote_store at bytes.now) self.old) }
+        ensures noted { OnOk result (self.new ≡ recorded (wrote_store at bytes.now) self.old) }
     {
         if !self.log.add(Kind::Write(at), &[], bytes) {
             self.counts.raise(StageCall::Write);
@@ -239,7 +240,7 @@ impl Stage for MemoryStage {
         // It fails exactly for want of room, and leaves no trace then but its count.
         ensures exact { IsErr result ↔ IsFalse (can_note synced_store self.old) }
         ensures failed { OnErr result (self.new ≡ failed call.Sync self.old) }
-        ensures noted { OnOk result (self.new ≡ noted synced_store self.old) }
+        ensures noted { OnOk result (self.new ≡ recorded synced_store self.old) }
     {
         if !self.log.add(Kind::Sync, &[], &[]) {
             self.counts.raise(StageCall::Sync);
@@ -257,7 +258,7 @@ impl Stage for MemoryStage {
         ensures exact { (result ≡ asked.Failed) ↔ IsFalse (can_note took self.old) }
         ensures failed { result ≡ asked.Failed → self.new ≡ failed call.Ask self.old }
         ensures noted { (n : ℕ) → result ≡ asked.Line n → self.new ≡ line_taken self.old }
-        ensures noted_end { result ≡ asked.End → self.new ≡ noted ended self.old }
+        ensures noted_end { result ≡ asked.End → self.new ≡ recorded end_done self.old }
     {
         let kind = if self.lines.is_empty() {
             Kind::End
@@ -282,7 +283,7 @@ impl Stage for MemoryStage {
         // It fails exactly for want of room, and leaves no trace then but its count.
         ensures exact { IsErr result ↔ IsFalse (can_note (showed text.now) self.old) }
         ensures failed { OnErr result (self.new ≡ failed call.Show self.old) }
-        ensures noted { OnOk result (self.new ≡ noted (showed text.now) self.old) }
+        ensures noted { OnOk result (self.new ≡ recorded (showed text.now) self.old) }
     {
         if !self.log.add(Kind::Show, &[], text) {
             self.counts.raise(StageCall::Show);

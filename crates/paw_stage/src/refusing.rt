@@ -10,10 +10,10 @@ ghost use Rattle.paw_stage.specs.Stage.{Faulted, failed_in, failed_load, failed_
 ghost use Rattle.paw_stage.specs.Stage.{LoadsTo, SavesTo, AttachesTo, ReadsTo, WritesTo, SyncsTo, AsksTo, ShowsTo};
 ghost use Rattle.paw_stage.specs.Moments.{Still, InAsk, InShow, InSave, InAttach, InWrite, InSync};
 ghost use Rattle.paw_stage.specs.inner.Faults.{no_faults};
-ghost use Rattle.paw_stage.specs.inner.Done.{loaded, saved, attached_store, read_store};
+ghost use Rattle.paw_stage.specs.inner.Done.{loaded_file, saved, attached_store, read_store};
 ghost use Rattle.paw_stage.specs.inner.Done.{wrote_store, synced_store, took};
-ghost use Rattle.paw_stage.specs.inner.Done.{ended, showed};
-ghost use Rattle.paw_stage.specs.inner.Memory.{clock_of, moments_of, only_moment, noted, found_none, line_taken};
+ghost use Rattle.paw_stage.specs.inner.Done.{end_done, showed};
+ghost use Rattle.paw_stage.specs.inner.Memory.{clock_of, moments_of, only_moment, recorded, found_none, line_taken};
 ghost use Rattle.paw_stage.specs.inner.Refusing.{faults_of, standing_of, Throughout};
 ghost use Rattle.paw_stage.specs.inner.Refusing.{refused, passed, FailsBelow, CannotPass};
 
@@ -97,12 +97,13 @@ impl<R: Refusals + Drop> Stage for RefusingStage<R> {
         ensures time { Throughout self.old self.new Still }
 
         // It fails exactly where the rule refuses it, or where there is no room below.
-        ensures exact { (result ≡ Err refusal.Failed) ↔ CannotPass R.refuses (loaded name.now) self.old }
+        ensures exact { (result ≡ Err refusal.Failed) ↔ CannotPass R.refuses (loaded_file name.now) self.old }
         ensures refused { IsTrue (R.refuses self.old.rule) → self.new ≡ refused R.later call.Load self.old }
         ensures failed { result ≡ Err refusal.Failed → FailsBelow R.refuses R.later call.Load self.old self.new }
-        ensures noted { OnOk result (self.new ≡ passed R.later (noted (loaded name.now)) self.old) }
+        ensures noted { OnOk result (self.new ≡ passed R.later (recorded (loaded_file name.now)) self.old) }
         ensures absent { result ≡ Err refusal.Absent → self.new ≡ passed R.later (found_none name.now) self.old }
-        ensures wanting { result ≡ Err refusal.Memory → self.new ≡ passed R.later (noted (loaded name.now)) self.old }
+        ensures wanting { result ≡ Err refusal.Memory → self.new ≡ passed R.later (recorded (loaded_file name.now))
+            self.old }
     {
         if self.rule.refuses_next() {
             self.counts.raise(StageCall::Load);
@@ -120,7 +121,7 @@ impl<R: Refusals + Drop> Stage for RefusingStage<R> {
         ensures exact { IsErr result ↔ CannotPass R.refuses (saved name.now bytes.now) self.old }
         ensures refused { IsTrue (R.refuses self.old.rule) → self.new ≡ refused R.later call.Save self.old }
         ensures failed { OnErr result (FailsBelow R.refuses R.later call.Save self.old self.new) }
-        ensures noted { OnOk result (self.new ≡ passed R.later (noted (saved name.now bytes.now)) self.old) }
+        ensures noted { OnOk result (self.new ≡ passed R.later (recorded (saved name.now bytes.now)) self.old) }
     {
         if self.rule.refuses_next() {
             self.counts.raise(StageCall::Save);
@@ -139,7 +140,7 @@ impl<R: Refusals + Drop> Stage for RefusingStage<R> {
         ensures exact { IsErr result ↔ CannotPass R.refuses (attached_store name.now) self.old }
         ensures refused { IsTrue (R.refuses self.old.rule) → self.new ≡ refused R.later call.Attach self.old }
         ensures failed { OnErr result (FailsBelow R.refuses R.later call.Attach self.old self.new) }
-        ensures noted { OnOk result (self.new ≡ passed R.later (noted (attached_store name.now)) self.old) }
+        ensures noted { OnOk result (self.new ≡ passed R.later (recorded (attached_store name.now)) self.old) }
     {
         if self.rule.refuses_next() {
             self.counts.raise(StageCall::Attach);
@@ -160,7 +161,7 @@ impl<R: Refusals + Drop> Stage for RefusingStage<R> {
         ensures exact { IsErr result ↔ CannotPass R.refuses read_store self.old }
         ensures refused { IsTrue (R.refuses self.old.rule) → self.new ≡ refused R.later call.Read self.old }
         ensures failed { OnErr result (FailsBelow R.refuses R.later call.Read self.old self.new) }
-        ensures noted { OnOk result (self.new ≡ passed R.later (noted read_store) self.old) }
+        ensures noted { OnOk result (self.new ≡ passed R.later (recorded read_store) self.old) }
     {
         if self.rule.refuses_next() {
             self.counts.raise(StageCall::Read);
@@ -180,7 +181,7 @@ impl<R: Refusals + Drop> Stage for RefusingStage<R> {
         ensures exact { IsErr result ↔ CannotPass R.refuses (wrote_store at bytes.now) self.old }
         ensures refused { IsTrue (R.refuses self.old.rule) → self.new ≡ refused R.later call.Write self.old }
         ensures failed { OnErr result (FailsBelow R.refuses R.later call.Write self.old self.new) }
-        ensures noted { OnOk result (self.new ≡ passed R.later (noted (wrote_store at bytes.now)) self.old) }
+        ensures noted { OnOk result (self.new ≡ passed R.later (recorded (wrote_store at bytes.now)) self.old) }
     {
         if self.rule.refuses_next() {
             self.counts.raise(StageCall::Write);
@@ -198,7 +199,7 @@ impl<R: Refusals + Drop> Stage for RefusingStage<R> {
         ensures exact { IsErr result ↔ CannotPass R.refuses synced_store self.old }
         ensures refused { IsTrue (R.refuses self.old.rule) → self.new ≡ refused R.later call.Sync self.old }
         ensures failed { OnErr result (FailsBelow R.refuses R.later call.Sync self.old self.new) }
-        ensures noted { OnOk result (self.new ≡ passed R.later (noted synced_store) self.old) }
+        ensures noted { OnOk result (self.new ≡ passed R.later (recorded synced_store) self.old) }
     {
         if self.rule.refuses_next() {
             self.counts.raise(StageCall::Sync);
@@ -217,7 +218,7 @@ impl<R: Refusals + Drop> Stage for RefusingStage<R> {
         ensures refused { IsTrue (R.refuses self.old.rule) → self.new ≡ refused R.later call.Ask self.old }
         ensures failed { result ≡ asked.Failed → FailsBelow R.refuses R.later call.Ask self.old self.new }
         ensures noted { (n : ℕ) → result ≡ asked.Line n → self.new ≡ passed R.later line_taken self.old }
-        ensures noted_end { result ≡ asked.End → self.new ≡ passed R.later (noted ended) self.old }
+        ensures noted_end { result ≡ asked.End → self.new ≡ passed R.later (recorded end_done) self.old }
     {
         if self.rule.refuses_next() {
             self.counts.raise(StageCall::Ask);
@@ -235,7 +236,7 @@ impl<R: Refusals + Drop> Stage for RefusingStage<R> {
         ensures exact { IsErr result ↔ CannotPass R.refuses (showed text.now) self.old }
         ensures refused { IsTrue (R.refuses self.old.rule) → self.new ≡ refused R.later call.Show self.old }
         ensures failed { OnErr result (FailsBelow R.refuses R.later call.Show self.old self.new) }
-        ensures noted { OnOk result (self.new ≡ passed R.later (noted (showed text.now)) self.old) }
+        ensures noted { OnOk result (self.new ≡ passed R.later (recorded (showed text.now)) self.old) }
     {
         if self.rule.refuses_next() {
             self.counts.raise(StageCall::Show);

@@ -7,7 +7,7 @@ ghost use Rattle.paw_stage.specs.declared.log.Kind.TheVariants as kind;
 ghost use Rattle.paw_stage.specs.Disk.{put};
 ghost use Rattle.paw_stage.specs.Stage.{Standing, file_bytes};
 ghost use Rattle.paw_stage.specs.inner.Stage.{IfAttached};
-ghost use Rattle.paw_stage.specs.inner.Done.{Done, step};
+ghost use Rattle.paw_stage.specs.inner.Done.{DoneCall, step_done};
 ghost use Rattle.paw_stage.specs.inner.Crash.{crashed, all_spoiled};
 ghost use Rattle.paw_stage.specs.inner.Log.{done_in, all_done, replayed, AreLaid};
 ghost use Rattle.paw_stage.specs.inner.Seen.{HasLength, Sees, IsFiled, IsNamed, FindsStore};
@@ -208,7 +208,7 @@ fn seen_after(call: Call, room: &[u8], name: &[u8], at: usize, into: &mut [u8], 
     requires order { (call.from ≤ call.mid) × (call.mid ≤ call.to) × (call.to ≤ length room.now) }
     requires small { seen.len ≤ call.from }
     ensures sees { (s : Standing) → IsFiled s → Sees s name.now at seen into.old →
-        Sees (step s (done_in room.now call)) name.now at result into.new }
+        Sees (step_done s (done_in room.now call)) name.now at result into.new }
     ensures small { result.len ≤ call.to }
 {
     let named = part(room, call.from, call.mid) == name;
@@ -358,7 +358,7 @@ fn store_synced(done: usize, store: Option<Store>) -> Option<Store>
 fn store_filed(call: Call, room: &[u8], done: usize, store: Option<Store>) -> Option<Store>
     requires order { (call.from ≤ call.mid) × (call.mid ≤ call.to) × (call.to ≤ length room.now) }
     requires named { IsNamed room.now store }
-    ensures { (ds : List Done) → done ≡ length ds + 1 → FindsStore room.now ds store →
+    ensures { (ds : List DoneCall) → done ≡ length ds + 1 → FindsStore room.now ds store →
         (call.kind ≡ kind.Add) ⊎ (call.kind ≡ kind.Save) →
         FindsStore room.now (ds ++ done_in room.now call ∷ []) result }
 {

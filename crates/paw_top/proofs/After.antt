@@ -8,7 +8,7 @@ use Rattle.paw_game.specs.Image.{image}
 use Rattle.paw_lex.specs.Bytes.{is_printed_byte}
 use Rattle.paw_grammar.specs.Tokens.{◌>>=◌}
 use Rattle.paw_grammar.specs.GrammarState.{Spelt, game_of}
-use Rattle.paw_grammar.specs.Spells.{step, at_line, whole, reading}
+use Rattle.paw_grammar.specs.Spells.{step, at_line, whole, spelled_after}
 use Rattle.paw_source.specs.inner.Laws.{after_lines}
 use Rattle.paw_source.proofs.Faultless.{ok_is}
 
@@ -50,11 +50,11 @@ reads_append p d e f ls ms first rest = record {
 
 reading_is : (p n : ℕ) (d e : Spelt) (ls : List (List ℕ)) → after_lines p d ls ≡ Ok e →
     ltb (length e.tables) 3 ≡ false → ltb 4194304 (length (image (game_of e))) ≡ false
-    → reading p n d ls ≡ Ok (game_of e)
-unfolding after_lines reading
+    → spelled_after p n d ls ≡ Ok (game_of e)
+unfolding after_lines spelled_after
 reading_is p n d e [] h many small = ap (whole n) (ok_is d e h) ∙ rw (many, small) refl
 reading_is p n d e (l ∷ ls) h many small =
-    elim (step p d l) as (λ r. (r >>= λ x. after_lines p x ls) ≡ Ok e → at_line (suc n) r (λ x. reading p (suc n) x ls) ≡ Ok (game_of e)) [
+    elim (step p d l) as (λ r. (r >>= λ x. after_lines p x ls) ≡ Ok e → at_line (suc n) r (λ x. spelled_after p (suc n) x ls) ≡ Ok (game_of e)) [
       | Ok x ↦ λ g. reading_is p (suc n) x e ls g many small
       | Err k ↦ λ g. absurd cc
     ] h
@@ -62,5 +62,5 @@ reading_is p n d e (l ∷ ls) h many small =
 -- what lines with three tables spell
 pub reads_whole : (p : ℕ) (d e : Spelt) (ls : List (List ℕ)) → Reads p d ls e → ltb (length e.tables) 3 ≡ false →
     ltb 4194304 (length (image (game_of e))) ≡ false
-    → reading p 0 d ls ≡ Ok (game_of e)
+    → spelled_after p 0 d ls ≡ Ok (game_of e)
 reads_whole p d e ls h many small = reading_is p 0 d e ls h.is many small

@@ -21,7 +21,7 @@ use Rattle.paw_top.specs.declared.outcome.MemoryAt.{MemoryAt}
 use Rattle.paw_top.specs.declared.outcome.MemoryAt.TheVariants as memory
 
 -- the call that playing ended for is the one that is answered
-answers_so : (o : PlayEnd) (P Q : StageCall → Type 0) → ((c : StageCall) → P c → Q c) → inner_play.IfOutside o P → IfOutside (outcome_of o) Q
+answers_so : (o : PlayEnd) (P Q : StageCall → Type 0) → ((c : StageCall) → P c → Q c) → inner_play.IfEndOutside o P → IfOutside (outcome_of o) Q
 answers_so end.Ended P Q f h = tt
 answers_so end.InputEnded P Q f h = tt
 answers_so (end.Occupied n) P Q f h = tt
@@ -52,10 +52,10 @@ kept_call call.Ask h = tt
 kept_call call.Show h = tt
 kept_call call.Save h = absurd h
 
-pub walk_outside : (end : PlayEnd) (o : Outcome) → o ≡ outcome_of end → inner_play.IfOutside end play.IsWalkCall → IfOutside o IsCall
+pub walk_outside : (end : PlayEnd) (o : Outcome) → o ≡ outcome_of end → inner_play.IfEndOutside end play.IsWalkCall → IfOutside o IsCall
 walk_outside end o is h = subst (λ q. IfOutside q IsCall) (sym is) (answers_so end play.IsWalkCall IsCall walk_call h)
 
-pub kept_outside : (end : PlayEnd) (o : Outcome) → o ≡ outcome_of end → inner_play.IfOutside end play.IsSessionCall → IfOutside o IsKeptCall
+pub kept_outside : (end : PlayEnd) (o : Outcome) → o ≡ outcome_of end → inner_play.IfEndOutside end play.IsSessionCall → IfOutside o IsKeptCall
 kept_outside end o is h = subst (λ q. IfOutside q IsKeptCall) (sym is) (answers_so end play.IsSessionCall IsKeptCall kept_call h)
 
 -- the count of the call that is answered rose
@@ -128,7 +128,7 @@ played_memory o p e = subst (λ q. IfMemory q IsPlayMemory) (sym e) (ended_memor
 -- ---- counts of faults ----
 
 -- the call that failed is the one that is answered
-failed_same : (o : PlayEnd) → failed_call (outcome_of o) ≡ inner_play.failed_call o
+failed_same : (o : PlayEnd) → failed_call (outcome_of o) ≡ inner_play.call_of_end o
 failed_same end.Ended = refl
 failed_same end.InputEnded = refl
 failed_same (end.Occupied n) = refl
@@ -144,9 +144,9 @@ failed_same (end.Outside c) = refl
 failed_same end.Memory = refl
 
 pub played_faulted : (o : PlayEnd) (p : Outcome) (first mid last : StageCall → ℕ) → p ≡ outcome_of o →
-    Faulted None first mid → Faulted (inner_play.failed_call o) mid last →
+    Faulted None first mid → Faulted (inner_play.call_of_end o) mid last →
     Faulted (failed_call p) first last
-played_faulted o p first mid last e f g = rw (e, failed_same o) (Faulted_on (inner_play.failed_call o) first mid last f g)
+played_faulted o p first mid last e f g = rw (e, failed_same o) (Faulted_on (inner_play.call_of_end o) first mid last f g)
 
 -- a source that is refused made no call fail
 pub refused_faulted : (read : Result GameLists SourceFault) (o : Outcome) → IsRefusal read o → failed_call o ≡ None

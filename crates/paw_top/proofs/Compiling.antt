@@ -10,7 +10,7 @@ use Rattle.paw_grammar.specs.Spells.{spelled}
 use Rattle.paw_stage.specs.Stage.{Standing}
 use Rattle.paw_stage.specs.declared.StageCall.TheVariants as call
 use Rattle.paw_top.specs.Compile.{Compiles, done, refused, absent, unloaded, unsaved, unshown, memory, HoldsSource, image_line}
-use Rattle.paw_top.specs.inner.Compile.{IsRefusal, Keeps}
+use Rattle.paw_top.specs.inner.Compile.{IsRefusal, SavesSo}
 use Rattle.paw_top.specs.inner.Loads.{LoadsSome, LoadsNone}
 use Rattle.paw_top.specs.declared.outcome.Outcome.{Outcome}
 use Rattle.paw_top.specs.declared.outcome.Outcome.TheVariants as outcome
@@ -48,7 +48,7 @@ no_image source target given old new (outcome.Memory at) f h = memory at f.3
 no_image source target given old new _ f h = absurd h
 
 keeps_so : (source target : List ℕ) (g : GameLists) (old new : Standing) (o : Outcome) → HoldsSource old source g →
-    Keeps target (image g) (image_line (length (image g))) old new o → Compiles source target old new o
+    SavesSo target (image g) (image_line (length (image g))) old new o → Compiles source target old new o
 keeps_so source target g old new outcome.Done s k = done g s k
 keeps_so source target g old new (outcome.Outside call.Save) s k = unsaved g s k
 keeps_so source target g old new (outcome.Outside call.Show) s k = unshown g k.2.0 s (k.0, k.1, k.2.1)
@@ -57,8 +57,8 @@ keeps_so source target g old new _ s k = absurd k.2
 -- an image that is kept is compiled, as far as it was kept
 pub keeps_image : (source target given made line : List ℕ) (old mid new : Standing) (o : Outcome) → LoadsSome source 8388608 old mid given →
     (g : GameLists) × (spelled given ≡ Ok g) × (made ≡ image g) → line ≡ image_line (length made) →
-    Keeps target made line mid new o → Compiles source target old new o
+    SavesSo target made line mid new o → Compiles source target old new o
 keeps_image source target given made line old mid new o f m l k =
     keeps_so source target m.0 old new o (f.0, f.1, read_whole given f.0 f.2 ∙ m.1)
-    (subst (λ s. Keeps target (image m.0) (image_line (length (image m.0))) s new o) f.3
-    (subst (λ b. Keeps target b (image_line (length b)) mid new o) m.2 (subst (λ t. Keeps target made t mid new o) l k)))
+    (subst (λ s. SavesSo target (image m.0) (image_line (length (image m.0))) s new o) f.3
+    (subst (λ b. SavesSo target b (image_line (length b)) mid new o) m.2 (subst (λ t. SavesSo target made t mid new o) l k)))

@@ -18,7 +18,7 @@ use Rattle.paw_top.specs.Loads.{Holds, HoldsNone, HoldsDamage}
 use Rattle.paw_top.specs.Walk as walk
 use Rattle.paw_top.specs.Ends.{outcome_of}
 use Rattle.paw_top.specs.Opens.{Unopened, damaged, absent, failed, wanting}
-use Rattle.paw_play.specs.Walk.{Reading, Walks}
+use Rattle.paw_play.specs.Walk.{EndingOf, Walks}
 use Rattle.paw_play.specs.declared.PlayEnd.{PlayEnd}
 use Rattle.paw_play.specs.declared.PlayEnd.TheVariants as end
 use Rattle.paw_play.specs.declared.TheConstants.{MOST_EVENTS}
@@ -105,7 +105,7 @@ completes_unopened name Such Is old new first last _ memory (wanting at e) out n
     record { image = λ h k. memory h at; other = λ k. tt }
 
 -- a walk comes to its end
-pub is_walked : (Is : StageCall → Type 0) (whole : Reading) (most : ℕ) (old new : Standing) (first last : StageCall → ℕ)
+pub is_walked : (Is : StageCall → Type 0) (whole : EndingOf) (most : ℕ) (old new : Standing) (first last : StageCall → ℕ)
     (o : PlayEnd) → Walks whole most old new o →
     IfOutside (outcome_of o) (λ c. Is c × Rose (first c) (last c)) → NoFault first last → IsWalked (outcome_of o)
 is_walked Is whole most old new first last end.Ended w out none = tt
@@ -118,7 +118,7 @@ is_walked Is whole most old new first last (end.Outside call.Ask) w out none = a
 is_walked Is whole most old new first last (end.Outside call.Show) w out none = absurd (none call.Show (λ q. cc) out.1)
 is_walked Is whole most old new first last _ w out none = absurd w
 
-pub completes_walk : (told : Story → ℕ → Reading) (rows : List (List ℕ)) (name : List ℕ) (seed : ℕ) (old new : Standing)
+pub completes_walk : (told : Story → ℕ → EndingOf) (rows : List (List ℕ)) (name : List ℕ) (seed : ℕ) (old new : Standing)
     (first last : StageCall → ℕ) (o : Outcome) →
     walk.WalksAs told rows name seed old new o →
     IfOutside o (λ c. IsCall c × Rose (first c) (last c)) → NoFault first last → CompletesPlay name (λ g. IsWalked) old o

@@ -12,7 +12,7 @@ use Rattle.paw_journal.specs.Journal.{IsWriting}
 use Rattle.paw_journal.specs.declared.refusal.JournalRefusal.{JournalRefusal}
 use Rattle.paw_journal.specs.declared.refusal.JournalRefusal.TheVariants as refusal
 use Rattle.paw_play.specs.Session.{kept_bytes}
-use Rattle.paw_play.specs.Walk.{Reading}
+use Rattle.paw_play.specs.Walk.{EndingOf}
 use Rattle.paw_play.specs.Play as session
 use Rattle.paw_play.specs.Play.{ShowsAs, PlaysIn, PlaysFirst, PlaysUp, PlaysAgain, ShowsState, Refuses, attached_to, store_bytes, with_store}
 use Rattle.paw_play.specs.declared.PlayEnd.{PlayEnd}
@@ -29,7 +29,7 @@ use Rattle.paw_top.specs.declared.outcome.MemoryAt.TheVariants as memory
 use Rattle.paw_top.proofs.Completing.{completes_game, completes_unopened}
 
 -- playing on comes to its end
-plays_on : (whole : Reading) (most : ℕ) (old new : Standing) (first last : StageCall → ℕ) (o : PlayEnd) → ShowsAs whole most old new o →
+plays_on : (whole : EndingOf) (most : ℕ) (old new : Standing) (first last : StageCall → ℕ) (o : PlayEnd) → ShowsAs whole most old new o →
     IfOutside (outcome_of o) (λ c. IsKeptCall c × Rose (first c) (last c)) → NoFault first last → IsWalked (outcome_of o)
 plays_on whole most old new first last (end.Outside call.Write) s out none = absurd (none call.Write (λ q. cc) out.1)
 plays_on whole most old new first last (end.Outside call.Sync) s out none = absurd (none call.Sync (λ q. cc) out.1)
@@ -57,7 +57,7 @@ no_writing : (c : StageCall) → IsWriting c → c ≢ call.LoadAbsent
 no_writing c (inl h) = λ q. cc
 no_writing c (inr h) = λ q. cc
 
-plays_in : (Kept : ℕ → List ℕ → Type 0) (whole : Reading) (name : List ℕ) (old new : Standing)
+plays_in : (Kept : ℕ → List ℕ → Type 0) (whole : EndingOf) (name : List ℕ) (old new : Standing)
     (first last : StageCall → ℕ) (o : PlayEnd) → PlaysIn Kept whole name old new o →
     IfOutside (outcome_of o) (λ c. IsKeptCall c × Rose (first c) (last c)) → NoFault first last → IsWalked (outcome_of o)
 plays_in Kept whole name old new first last _ (session.memory e) out none = tt
@@ -71,7 +71,7 @@ occupied_so : (bytes : List ℕ) → 0 < length bytes → CompletesNew bytes (ou
 occupied_so [] h = absurd (omega (arith, h))
 occupied_so (b ∷ bytes) h = refl
 
-plays_new : (Kept : ℕ → List ℕ → Type 0) (whole : Reading) (name : List ℕ) (old new : Standing)
+plays_new : (Kept : ℕ → List ℕ → Type 0) (whole : EndingOf) (name : List ℕ) (old new : Standing)
     (first last : StageCall → ℕ) (o : PlayEnd) → PlaysFirst Kept whole name old new o →
     IfOutside (outcome_of o) (λ c. IsKeptCall c × Rose (first c) (last c)) → NoFault first last → CompletesNew (store_bytes old name) (outcome_of o)
 plays_new Kept whole name old new first last _ (session.unattached u) out none = absurd (none call.Attach (λ q. cc) out.1)

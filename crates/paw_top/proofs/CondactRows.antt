@@ -20,7 +20,7 @@ use Rattle.paw_game.specs.Valid.{is_within, is_parameter, is_condact, is_word_or
 use Rattle.paw_grammar.specs.declared.bounds.Bounds.{Bounds}
 use Rattle.paw_grammar.specs.Tokens.{◌>>=◌}
 use Rattle.paw_grammar.specs.Vocabulary.{word_or_none}
-use Rattle.paw_grammar.specs.Condacts.{parameter, condact, condacts, with_more_condacts, at_most_255, more_condacts}
+use Rattle.paw_grammar.specs.Condacts.{parameter, condact, condacts_in, with_more_condacts, at_most_255, more_condacts}
 use Rattle.paw_print.specs.Lines.{value_token, parameter_tokens, condact_tokens}
 use Rattle.paw_top.proofs.Rows.{is_plain}
 use Rattle.paw_top.proofs.Digits.{number-decimal, plain-decimal}
@@ -122,15 +122,15 @@ parameter_back p g kind.Preposition x s h =
 
 -- ---- a condact ----
 
-skipped : (p : ℕ) (g : GameLists) (ts : List (List ℕ)) → condacts (bounds p g) g.words (length ts) ts ≡ Ok []
-unfolding condacts
+skipped : (p : ℕ) (g : GameLists) (ts : List (List ℕ)) → condacts_in (bounds p g) g.words (length ts) ts ≡ Ok []
+unfolding condacts_in
 skipped p g [] = refl
 skipped p g (t ∷ ts) = skipped p g ts
 
 -- the tokens of a condact are plain and read as this condact
 pub record CondactBack (p : ℕ) (g : GameLists) (c : Condact) : Type 0 where
   pub plain : list_all is_plain (condact_tokens g.words c) ≡ true
-  pub read : condacts (bounds p g) g.words 0 (condact_tokens g.words c) ≡ Ok (c ∷ [])
+  pub read : condacts_in (bounds p g) g.words 0 (condact_tokens g.words c) ≡ Ok (c ∷ [])
 
 condact-is : (p : ℕ) (g : GameLists) (c : Condact) → IsCode c.code → ParameterBack p g (first_kind c.code) c.a → ParameterBack p g (second_kind c.code) c.b
     → condact (bounds p g) g.words (name_of c.code)
@@ -142,18 +142,18 @@ condact-is p g c code a b =
     rw (code_named-name_of c.code code, a.read (parameter_tokens g.words (second_kind c.code) c.b), second) refl
 
 skipped_both : (p : ℕ) (g : GameLists) (c : Condact) → ParameterBack p g (first_kind c.code) c.a → ParameterBack p g (second_kind c.code) c.b
-    → condacts (bounds p g) g.words (params_of c.code)
+    → condacts_in (bounds p g) g.words (params_of c.code)
     (parameter_tokens g.words (first_kind c.code) c.a ++ parameter_tokens g.words (second_kind c.code) c.b) ≡ Ok []
 skipped_both p g c a b =
     let ts : List (List ℕ) = parameter_tokens g.words (first_kind c.code) c.a ++ parameter_tokens g.words (second_kind c.code) c.b in
     let count : length ts ≡ params_of c.code =
     length-append (parameter_tokens g.words (first_kind c.code) c.a) (parameter_tokens g.words (second_kind c.code) c.b)
     ∙ rw (a.count, b.count) refl in
-    ap (λ n. condacts (bounds p g) g.words n ts) (sym count) ∙ skipped p g ts
+    ap (λ n. condacts_in (bounds p g) g.words n ts) (sym count) ∙ skipped p g ts
 
 condact_read : (p : ℕ) (g : GameLists) (c : Condact) → IsCode c.code → ParameterBack p g (first_kind c.code) c.a → ParameterBack p g (second_kind c.code) c.b
-    → condacts (bounds p g) g.words 0 (condact_tokens g.words c) ≡ Ok (c ∷ [])
-unfolding condacts
+    → condacts_in (bounds p g) g.words 0 (condact_tokens g.words c) ≡ Ok (c ∷ [])
+unfolding condacts_in
 condact_read p g c code a b = rw (condact-is p g c code a b, skipped_both p g c a b) refl
 
 pub condact_back : (p : ℕ) (g : GameLists) (c : Condact) → Small p g → is_condact g c ≡ true → CondactBack p g c

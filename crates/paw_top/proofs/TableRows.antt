@@ -17,7 +17,7 @@ use Rattle.paw_grammar.specs.declared.section.Section.TheVariants as section
 use Rattle.paw_grammar.specs.Tokens.{◌>>=◌}
 use Rattle.paw_grammar.specs.Numbers.{number_from}
 use Rattle.paw_grammar.specs.Vocabulary.{entry_verb, entry_noun}
-use Rattle.paw_grammar.specs.Condacts.{condacts, more_condacts}
+use Rattle.paw_grammar.specs.Condacts.{condacts_in, more_condacts}
 use Rattle.paw_grammar.specs.GrammarState.{Spelt, with_last}
 use Rattle.paw_grammar.specs.GrammarHeads.{next_section, section_opened, lacks_rows, table_header}
 use Rattle.paw_grammar.specs.GrammarRows.{entry_row, no_entry, more_row}
@@ -100,7 +100,7 @@ record EntryRow (ws : List Word) (e : Entry) : Type 0 where
 
 entry_row-is : (p : ℕ) (g : GameLists) (es : List Entry) (e : Entry) → EntryRow g.words e → length es < 4000
     → entry_row (bounds p g) g.words es (entry_tokens g.words e) ≡ Ok (es ++ with_condacts e [] ∷ [])
-unfolding entry_row more_condacts condacts
+unfolding entry_row more_condacts condacts_in
 entry_row-is p g es e r room =
     let below : ltb (length es) 4000 ≡ true = lt-ltb (length es) 4000 room in
     let few : ltb 255 0 ≡ false = refl in

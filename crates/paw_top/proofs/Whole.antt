@@ -18,7 +18,7 @@ use Rattle.paw_grammar.specs.declared.section.Section.TheVariants as section
 use Rattle.paw_grammar.specs.GrammarState.{Spelt, nothing_yet, all_exits, game_of}
 use Rattle.paw_grammar.specs.GrammarTexts.{is_text_section, with_texts, text_limit}
 use Rattle.paw_grammar.specs.GrammarHeads.{section_opened, lacks_rows}
-use Rattle.paw_grammar.specs.Spells.{begins_table, reading, spelled}
+use Rattle.paw_grammar.specs.Spells.{begins_table, spelled_after, spelled}
 use Rattle.paw_source.specs.inner.Laws.{CountsTables}
 use Rattle.paw_print.specs.Lines.{spaced, word_tokens, text_lines}
 use Rattle.paw_print.specs.Canonical.{words_lines, texts_lines, location_lines, exits_lines, object_lines, objects_lines, table_lines, numbered}
@@ -217,14 +217,14 @@ counted counts p g exits reads = sym (counts p nothing_yet (spelt_of g exits g.t
     ∙ zero-add (count_by begins_table (canonical_lines g)))
 
 read_again : CountsTables → (g : GameLists) → Rules g → length (image g) ≤ 4194304 →
-    reading (count_by begins_table (canonical_lines g)) 0 nothing_yet (canonical_lines g) ≡ Ok g
+    spelled_after (count_by begins_table (canonical_lines g)) 0 nothing_yet (canonical_lines g) ≡ Ok g
 read_again counts g r within =
     let whole = whole_read (length g.tables) g r (small g r) in
     let e : Spelt = spelt_of g whole.exits g.tables in
     let same : game_of e ≡ g = game_is g whole.exits whole.filled in
     let many : ltb (length g.tables) 3 ≡ false = le-ltb _ _ r.some_tables in
     let short : ltb 4194304 (length (image (game_of e))) ≡ false = ap (λ h. ltb 4194304 (length (image h))) same ∙ le-ltb _ _ within in
-    ap (λ p. reading p 0 nothing_yet (canonical_lines g)) (counted counts (length g.tables) g whole.exits whole.reads)
+    ap (λ p. spelled_after p 0 nothing_yet (canonical_lines g)) (counted counts (length g.tables) g whole.exits whole.reads)
     ∙ reads_whole (length g.tables) nothing_yet e (canonical_lines g) whole.reads many short
     ∙ ap (λ (h : GameLists). Ok h) same
 
@@ -238,4 +238,4 @@ unfolding spelled
 spells_itself counts = λ g v within short.
     let r = rules g v in
     let fits : ltb 8388608 (length (canonical_of g)) ≡ false = le-ltb _ _ short in
-    rw fits (ap (λ (ls : List (List ℕ)). reading (count_by begins_table ls) 0 nothing_yet ls) (lines_are g r) ∙ read_again counts g r within)
+    rw fits (ap (λ (ls : List (List ℕ)). spelled_after (count_by begins_table ls) 0 nothing_yet ls) (lines_are g r) ∙ read_again counts g r within)

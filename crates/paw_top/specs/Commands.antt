@@ -107,5 +107,5 @@ command_of (verb ∷ rest) =
     else None
 
 -- what the words of a call ask for
-abbrev pub asked : {Z : Type 0} → List (String Z) → Option Command
-asked words = command_of (map string_bytes words)
+abbrev pub asked_for : {Z : Type 0} → List (String Z) → Option Command
+asked_for words = command_of (map string_bytes words)

@@ -83,20 +83,20 @@ memory_name memory.Play = codes "Play"
 memory_name memory.Trial = codes "Trial"
 
 -- what is written to standard error
-abbrev pub text_of : Outcome → List ℕ
-text_of outcome.Done = []
-text_of outcome.Ended = []
-text_of outcome.InputEnded = []
-text_of outcome.Usage = usage
-text_of (outcome.SourceRefused fault) = codes "source line " ++ (decimal fault.line ++ (codes ": " ++ (kind_name fault.kind ++ codes "\n")))
-text_of (outcome.ImageDamaged at) = codes "image damaged at " ++ (decimal at ++ codes "\n")
-text_of (outcome.Occupied n) = codes "session has " ++ (decimal n ++ codes " bytes already\n")
-text_of (outcome.Unmade n mark) = codes "no session: length " ++ (decimal n ++ (codes ", mark " ++ (decimal mark ++ codes "\n")))
-text_of (outcome.SessionDamaged p at) = codes "session damaged: " ++ (part_name p ++ (codes " at " ++ (decimal at ++ codes "\n")))
-text_of (outcome.WrongGame kept found) =
+abbrev pub error_text : Outcome → List ℕ
+error_text outcome.Done = []
+error_text outcome.Ended = []
+error_text outcome.InputEnded = []
+error_text outcome.Usage = usage
+error_text (outcome.SourceRefused fault) = codes "source line " ++ (decimal fault.line ++ (codes ": " ++ (kind_name fault.kind ++ codes "\n")))
+error_text (outcome.ImageDamaged at) = codes "image damaged at " ++ (decimal at ++ codes "\n")
+error_text (outcome.Occupied n) = codes "session has " ++ (decimal n ++ codes " bytes already\n")
+error_text (outcome.Unmade n mark) = codes "no session: length " ++ (decimal n ++ (codes ", mark " ++ (decimal mark ++ codes "\n")))
+error_text (outcome.SessionDamaged p at) = codes "session damaged: " ++ (part_name p ++ (codes " at " ++ (decimal at ++ codes "\n")))
+error_text (outcome.WrongGame kept found) =
     codes "session is of another game: kept " ++ (encode_lower kept ++ (codes " found " ++ (encode_lower found ++ codes "\n")))
-text_of (outcome.Spent kind) = codes "piece spent its " ++ (spent_name kind ++ codes "\n")
-text_of (outcome.TooDeep table) = codes "too many calls at table " ++ (decimal table ++ codes "\n")
-text_of (outcome.Outside c) = codes "outside failed: " ++ (call_name c ++ codes "\n")
-text_of (outcome.Memory at) = codes "no memory: " ++ (memory_name at ++ codes "\n")
-text_of (outcome.Long events) = codes "session is full: " ++ (decimal events ++ codes " events\n")
+error_text (outcome.Spent kind) = codes "piece spent its " ++ (spent_name kind ++ codes "\n")
+error_text (outcome.TooDeep table) = codes "too many calls at table " ++ (decimal table ++ codes "\n")
+error_text (outcome.Outside c) = codes "outside failed: " ++ (call_name c ++ codes "\n")
+error_text (outcome.Memory at) = codes "no memory: " ++ (memory_name at ++ codes "\n")
+error_text (outcome.Long events) = codes "session is full: " ++ (decimal events ++ codes " events\n")

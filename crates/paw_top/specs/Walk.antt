@@ -7,7 +7,7 @@ use Rattle.paw_stage.specs.Stage.{Standing}
 use Rattle.paw_play.specs.declared.PlayEnd.{PlayEnd}
 use Rattle.paw_play.specs.declared.TheConstants.{MOST_EVENTS}
 use Rattle.paw_play.specs.Traces.{traced}
-use Rattle.paw_play.specs.Walk.{Reading, Walks}
+use Rattle.paw_play.specs.Walk.{EndingOf, Walks}
 use Rattle.paw_top.specs.Ends.{outcome_of}
 use Rattle.paw_top.specs.Loads.{Holds}
 use Rattle.paw_top.specs.Opens.{Unopened}
@@ -15,7 +15,7 @@ use Rattle.paw_top.specs.declared.outcome.Outcome.{Outcome}
 
 -- a walk through the game that this file holds, with these rows of routines, told so, or why there is none, with
 -- nothing changed
-pub data WalksAs (told : Story → ℕ → Reading) (rows : List (List ℕ)) (name : List ℕ) (seed : ℕ) (old new : Standing) : Outcome → Type 0 where
+pub data WalksAs (told : Story → ℕ → EndingOf) (rows : List (List ℕ)) (name : List ℕ) (seed : ℕ) (old new : Standing) : Outcome → Type 0 where
   walks : (g : GameLists) (end : PlayEnd) → Holds old name g → Walks (told (story_of g rows) seed) MOST_EVENTS old new end →
       WalksAs told rows name seed old new (outcome_of end)
   unopened : (o : Outcome) → Unopened name old new o → WalksAs told rows name seed old new o
@@ -25,7 +25,7 @@ abbrev pub WalksIn : List (List ℕ) → List ℕ → ℕ → Standing → Stand
 WalksIn rows name seed old new o = WalksAs reading rows name seed old new o
 
 -- a trace shows the steps of each piece before it
-abbrev pub reading_traced : Story → ℕ → Reading
+abbrev pub reading_traced : Story → ℕ → EndingOf
 reading_traced s seed = traced (reading s seed)
 
 -- a trace through the game that this file holds, or why there is none, with nothing changed

@@ -4,7 +4,7 @@ ghost use Rattle.std.specs.Prelude.{◌≡◌, ◌+◌, ◌-◌, ◌*◌, ◌<�
 ghost use Rattle.paw_top.specs.Commands.{command_of, compile_of, decompile_of, walk_of, trace_of, play_of, resume_of};
 ghost use Rattle.paw_top.specs.Commands.{trial_of, seed_of, trial_number, has_seed_shape, has_trial_shape};
 ghost use Rattle.paw_top.specs.Commands.{number_after};
-ghost use Rattle.paw_top.specs.inner.Commands.{Spells};
+ghost use Rattle.paw_top.specs.inner.Commands.{SpellsCommand};
 ghost use Rattle.paw_grammar.specs.Numbers.{is_digit};
 ghost use Rattle.std.specs.List.{list_all};
 
@@ -118,7 +118,7 @@ fn trial_number(word: &str) -> Option<u16>
 
 // SOURCE IMAGE, behind `compile`.
 fn compile_of<'a>(names: &'a [String]) -> Option<Command<'a>>
-    ensures value { Spells result (compile_of (map string_bytes names.now)) }
+    ensures value { SpellsCommand result (compile_of (map string_bytes names.now)) }
 {
     if names.len() != 2 || names[0].is_empty() || names[1].is_empty() {
         return None;
@@ -131,7 +131,7 @@ fn compile_of<'a>(names: &'a [String]) -> Option<Command<'a>>
 
 // IMAGE, behind `decompile`.
 fn decompile_of<'a>(names: &'a [String]) -> Option<Command<'a>>
-    ensures value { Spells result (decompile_of (map string_bytes names.now)) }
+    ensures value { SpellsCommand result (decompile_of (map string_bytes names.now)) }
 {
     if names.len() != 1 || names[0].is_empty() {
         return None;
@@ -143,7 +143,7 @@ fn decompile_of<'a>(names: &'a [String]) -> Option<Command<'a>>
 
 // IMAGE SEED, behind `walk`.
 fn walk_of<'a>(names: &'a [String]) -> Option<Command<'a>>
-    ensures value { Spells result (walk_of (map string_bytes names.now)) }
+    ensures value { SpellsCommand result (walk_of (map string_bytes names.now)) }
 {
     if names.len() != 2 || names[0].is_empty() {
         return None;
@@ -157,7 +157,7 @@ fn walk_of<'a>(names: &'a [String]) -> Option<Command<'a>>
 
 // IMAGE SEED, behind `trace`.
 fn trace_of<'a>(names: &'a [String]) -> Option<Command<'a>>
-    ensures value { Spells result (trace_of (map string_bytes names.now)) }
+    ensures value { SpellsCommand result (trace_of (map string_bytes names.now)) }
 {
     if names.len() != 2 || names[0].is_empty() {
         return None;
@@ -171,7 +171,7 @@ fn trace_of<'a>(names: &'a [String]) -> Option<Command<'a>>
 
 // IMAGE STORE SEED, behind `play`.
 fn play_of<'a>(names: &'a [String]) -> Option<Command<'a>>
-    ensures value { Spells result (play_of (map string_bytes names.now)) }
+    ensures value { SpellsCommand result (play_of (map string_bytes names.now)) }
 {
     if names.len() != 3 || names[0].is_empty() || names[1].is_empty() {
         return None;
@@ -186,7 +186,7 @@ fn play_of<'a>(names: &'a [String]) -> Option<Command<'a>>
 
 // IMAGE STORE, behind `resume`.
 fn resume_of<'a>(names: &'a [String]) -> Option<Command<'a>>
-    ensures value { Spells result (resume_of (map string_bytes names.now)) }
+    ensures value { SpellsCommand result (resume_of (map string_bytes names.now)) }
 {
     if names.len() != 2 || names[0].is_empty() || names[1].is_empty() {
         return None;
@@ -199,7 +199,7 @@ fn resume_of<'a>(names: &'a [String]) -> Option<Command<'a>>
 
 // N, behind `trial`.
 fn trial_of<'a>(names: &'a [String]) -> Option<Command<'a>>
-    ensures value { Spells result (trial_of (map string_bytes names.now)) }
+    ensures value { SpellsCommand result (trial_of (map string_bytes names.now)) }
 {
     if names.len() != 1 {
         return None;
@@ -210,7 +210,7 @@ fn trial_of<'a>(names: &'a [String]) -> Option<Command<'a>>
 
 /// What these words ask for; None where they have no form.
 pub(crate) fn command_of<'a>(words: &'a [String]) -> Option<Command<'a>>
-    ensures value { Spells result (command_of (map string_bytes words.now)) }
+    ensures value { SpellsCommand result (command_of (map string_bytes words.now)) }
 {
     let (verb, names) = words.split_first()?;
     match verb.as_str() {

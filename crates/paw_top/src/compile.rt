@@ -9,7 +9,7 @@ ghost use Rattle.paw_stage.specs.Stage.{Faulted};
 ghost use Rattle.paw_stage.specs.Across.{Across};
 ghost use Rattle.paw_top.specs.Answers.{IfOutside, IfMemory, IsCompileCall, IsCompileMemory, failed_call};
 ghost use Rattle.paw_top.specs.Compile.{Compiles, image_line};
-ghost use Rattle.paw_top.specs.inner.Compile.{IsRefusal, Keeps};
+ghost use Rattle.paw_top.specs.inner.Compile.{IsRefusal, SavesSo};
 ghost use Rattle.paw_top.specs.declared.outcome.Outcome.TheVariants as outcome;
 ghost use Rattle.paw_top.specs.declared.outcome.MemoryAt.TheVariants as memory;
 
@@ -71,7 +71,7 @@ fn keep<S: Stage>(stage: &mut S, name: &str, image: &[u8], line: &[u8]) -> Outco
     ensures outside { IfOutside result IsCompileCall }
     ensures form { result ≢ outcome.Usage }
     ensures memory { IfMemory result IsCompileMemory }
-    ensures keeps { Across S.Stage stage.old stage.new (λ old new. Keeps name.now image.now line.now old new result) }
+    ensures keeps { Across S.Stage stage.old stage.new (λ old new. SavesSo name.now image.now line.now old new result) }
 {
     if stage.save(name, image).is_err() {
         return Outcome::Outside(StageCall::Save);

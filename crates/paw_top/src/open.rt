@@ -5,7 +5,7 @@ ghost use Rattle.paw_game.specs.Game.{GameLists};
 ghost use Rattle.paw_image.specs.Damage.{bad};
 ghost use Rattle.paw_image.specs.Images.{IsImage};
 ghost use Rattle.paw_image.specs.inner.Images.{AtDamage};
-ghost use Rattle.paw_image.specs.inner.Views.{game_of};
+ghost use Rattle.paw_image.specs.inner.Views.{game_read};
 ghost use Rattle.paw_top.specs.Answers.{IfMemory, IsLoadMemory, failed_call};
 ghost use Rattle.paw_top.specs.inner.Answers.{failed_or};
 ghost use Rattle.paw_top.specs.inner.Loads.{GivesNone};
@@ -34,7 +34,7 @@ fn refused_as(refusal: ImageRefusal) -> Outcome
 
 /// The game whose image the bytes are, read in place, or why there is none.
 pub(crate) fn view_in<'a>(alloc: Global, bytes: &'a [u8]) -> Result<View<'a>, Outcome>
-    ensures found { IfOk result (λ view. IsImage bytes.now (game_of view)) }
+    ensures found { IfOk result (λ view. IsImage bytes.now (game_read view)) }
     ensures none { IfErr result (GivesNone bytes.now) }
     ensures form { IfErr result (λ o. o ≢ outcome.Usage) }
     ensures memory { IfErr result (λ o. IfMemory o IsLoadMemory) }

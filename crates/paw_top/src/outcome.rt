@@ -3,7 +3,8 @@
 ghost use Rattle.std.specs.Prelude.{◌≡◌, IfOk, string_bytes};
 ghost use Rattle.paw_top.specs.Ends.{outcome_of, refused_as};
 ghost use Rattle.paw_top.specs.declared.outcome.Outcome.TheVariants as outcome;
-ghost use Rattle.paw_top.specs.Outcomes.{status_of, text_of, call_name, kind_name, memory_name, part_name, spent_name};
+ghost use Rattle.paw_top.specs.Outcomes.{status_of, error_text, call_name, kind_name};
+ghost use Rattle.paw_top.specs.Outcomes.{memory_name, part_name, spent_name};
 
 use paw_base::fault::{NoRoom, SourceFault, SourceKind, SpentKind};
 use paw_journal::{JournalRefusal, SessionPart};
@@ -162,7 +163,7 @@ fn spent_name(kind: SpentKind) -> &'static str
 
 // The text that names two digests, in hexadecimal digits.
 fn wrong_game_text(alloc: Global, kept: &[u8; 32], found: &[u8; 32]) -> Result<String, NoRoom>
-    ensures value { IfOk result (λ text. string_bytes text ≡ text_of (outcome.WrongGame kept.now found.now)) }
+    ensures value { IfOk result (λ text. string_bytes text ≡ error_text (outcome.WrongGame kept.now found.now)) }
 {
     let kept = hex::encode(alloc, kept.as_slice())?;
     let found = hex::encode(alloc, found.as_slice())?;
@@ -199,7 +200,7 @@ impl Outcome {
     /// NoRoom only for want of memory.
     #[tactic(auto, unfolding(crate::specs::Outcomes::usage))]
     pub fn text(&self, alloc: Global) -> Result<String, NoRoom>
-        ensures value { IfOk result (λ text. string_bytes text ≡ text_of self.now) }
+        ensures value { IfOk result (λ text. string_bytes text ≡ error_text self.now) }
     {
         match *self {
             Outcome::Done | Outcome::Ended | Outcome::InputEnded => Ok(String::new(alloc)),

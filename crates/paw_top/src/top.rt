@@ -10,7 +10,8 @@ ghost use Rattle.paw_state.specs.State.{State};
 ghost use Rattle.paw_play.specs.Play.{InGame, InAgain, InGoingOn, ShowsState, store_bytes};
 ghost use Rattle.paw_play.specs.Stands.{Stands, IsPlayedWith};
 ghost use Rattle.paw_top.specs.Commands.{Compile as CompileOf, Decompile as DecompileOf, Walk as WalkOf};
-ghost use Rattle.paw_top.specs.Commands.{Trace as TraceOf, Play as PlayOf, Resume as ResumeOf, Trial as TrialOf, asked};
+ghost use Rattle.paw_top.specs.Commands.{Trace as TraceOf, Play as PlayOf, Resume as ResumeOf};
+ghost use Rattle.paw_top.specs.Commands.{Trial as TrialOf, asked_for};
 ghost use Rattle.paw_top.specs.Compile.{Compiles};
 ghost use Rattle.paw_top.specs.Decompile.{Decompiles};
 ghost use Rattle.paw_top.specs.Loads.{Holds};
@@ -68,49 +69,49 @@ pub fn paw<S: Stage, F: Fn(u8, u8) -> u8>(
     requires synced { S.Tells stage.old → IsStable (S.standing stage.old).disk }
     ensures tells { S.Tells stage.old ↔ S.Tells stage.new }
     ensures faulted { Faulted (failed_call result) (S.faults stage.old) (S.faults stage.new) }
-    ensures usage { (result ≡ outcome.Usage) ↔ (asked words.now ≡ None) }
-    ensures idle { asked words.now ≡ None → stage.new ≡ stage.old }
-    ensures outside { IfOutside result (Makes (asked words.now)) }
-    ensures memory { IfMemory result (Needs (asked words.now)) }
+    ensures usage { (result ≡ outcome.Usage) ↔ (asked_for words.now ≡ None) }
+    ensures idle { asked_for words.now ≡ None → stage.new ≡ stage.old }
+    ensures outside { IfOutside result (Makes (asked_for words.now)) }
+    ensures memory { IfMemory result (Needs (asked_for words.now)) }
     ensures compiles { Across S.Stage stage.old stage.new (λ old new. (source image : List ℕ) →
-        asked words.now ≡ Some (CompileOf source image) → Compiles source image old new result) }
+        asked_for words.now ≡ Some (CompileOf source image) → Compiles source image old new result) }
     ensures decompiles { Across S.Stage stage.old stage.new (λ old new. (image : List ℕ) →
-        asked words.now ≡ Some (DecompileOf image) → Decompiles image old new result) }
+        asked_for words.now ≡ Some (DecompileOf image) → Decompiles image old new result) }
     ensures walks { Across S.Stage stage.old stage.new (λ old new. (image : List ℕ) (seed : ℕ) →
-        asked words.now ≡ Some (WalkOf image seed) → (X : List (List ℕ)) → AreRowsOf F.Fn routines.now X →
+        asked_for words.now ≡ Some (WalkOf image seed) → (X : List (List ℕ)) → AreRowsOf F.Fn routines.now X →
         WalksIn X image seed old new result) }
     ensures traces { Across S.Stage stage.old stage.new (λ old new. (image : List ℕ) (seed : ℕ) →
-        asked words.now ≡ Some (TraceOf image seed) → (X : List (List ℕ)) → AreRowsOf F.Fn routines.now X →
+        asked_for words.now ≡ Some (TraceOf image seed) → (X : List (List ℕ)) → AreRowsOf F.Fn routines.now X →
         TracesIn X image seed old new result) }
     ensures plays { Across S.Stage stage.old stage.new (λ old new. (image store : List ℕ) (seed : ℕ) →
-        asked words.now ≡ Some (PlayOf image store seed) → (X : List (List ℕ)) → AreRowsOf F.Fn routines.now X →
+        asked_for words.now ≡ Some (PlayOf image store seed) → (X : List (List ℕ)) → AreRowsOf F.Fn routines.now X →
         PlaysNewIn X image store seed old new result) }
     ensures any_moment_of_play { Across S.Stage stage.old stage.new (λ old new. (image store : List ℕ) (seed : ℕ) →
-        asked words.now ≡ Some (PlayOf image store seed) → (s : Story) → AreRowsOf F.Fn routines.now s.rows →
+        asked_for words.now ≡ Some (PlayOf image store seed) → (s : Story) → AreRowsOf F.Fn routines.now s.rows →
         Holds old image s.game → store_bytes old store ≡ [] →
         EachMoment S.Stage stage.old stage.new (InGame s seed store old)) }
     ensures resumes { Across S.Stage stage.old stage.new (λ old new. (image store : List ℕ) →
-        asked words.now ≡ Some (ResumeOf image store) → (X : List (List ℕ)) → AreRowsOf F.Fn routines.now X →
+        asked_for words.now ≡ Some (ResumeOf image store) → (X : List (List ℕ)) → AreRowsOf F.Fn routines.now X →
         PlaysAgainIn X image store old new result) }
     ensures any_moment_from_a_state { Across S.Stage stage.old stage.new (λ old new. (image store : List ℕ) →
-        asked words.now ≡ Some (ResumeOf image store) → (s : Story) (st : State) (piece : List ℕ) →
+        asked_for words.now ≡ Some (ResumeOf image store) → (s : Story) (st : State) (piece : List ℕ) →
         AreRowsOf F.Fn routines.now s.rows → Holds old image s.game →
         ShowsState s.game (digest_of s.game) (store_bytes old store) st piece →
         EachMoment S.Stage stage.old stage.new (InAgain (session_from s store st piece) old)) }
     ensures goes_on { Across S.Stage stage.old stage.new (λ old new. (image store : List ℕ) →
-        asked words.now ≡ Some (ResumeOf image store) → (s : Story) (seed : ℕ) (es : List (List ℕ)) →
+        asked_for words.now ≡ Some (ResumeOf image store) → (s : Story) (seed : ℕ) (es : List (List ℕ)) →
         AreRowsOf F.Fn routines.now s.rows → Holds old image s.game →
         IsPlayedWith s seed es → Stands s seed es (store_bytes old store) →
         GoesOnIn image store s seed es old new result) }
     ensures any_moment_of_resume { Across S.Stage stage.old stage.new (λ old new. (image store : List ℕ) →
-        asked words.now ≡ Some (ResumeOf image store) → (s : Story) (seed : ℕ) (es : List (List ℕ)) →
+        asked_for words.now ≡ Some (ResumeOf image store) → (s : Story) (seed : ℕ) (es : List (List ℕ)) →
         AreRowsOf F.Fn routines.now s.rows → Holds old image s.game →
         IsPlayedWith s seed es → Stands s seed es (store_bytes old store) →
         EachMoment S.Stage stage.old stage.new (InGoingOn s seed es store old)) }
     ensures tries { Across S.Stage stage.old stage.new (λ old new. (n : ℕ) →
-        asked words.now ≡ Some (TrialOf n) → Tries n old new result) }
+        asked_for words.now ≡ Some (TrialOf n) → Tries n old new result) }
     ensures completes { S.Tells stage.old → NoFault (S.faults stage.old) (S.faults stage.new) →
-        Completes (S.standing stage.old) (asked words.now) result }
+        Completes (S.standing stage.old) (asked_for words.now) result }
 {
     match command_of(words) {
         Some(Command::Compile { source, image }) => compile(alloc, stage, source, image),

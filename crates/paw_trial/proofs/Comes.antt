@@ -12,7 +12,7 @@ use Rattle.paw_reading.specs.Bounds.{IsLine}
 use Rattle.paw_play.specs.declared.PlayEnd.{PlayEnd}
 use Rattle.paw_play.specs.declared.PlayEnd.TheVariants as play
 use Rattle.paw_play.specs.declared.TheConstants.{MOST_EVENTS}
-use Rattle.paw_play.specs.Walk.{Reading, first_lines}
+use Rattle.paw_play.specs.Walk.{EndingOf, first_lines}
 use Rattle.paw_play.specs.Stands.{Stands, StandsFor, reading_since}
 use Rattle.paw_play.specs.Play.{PlaysWith, PlaysIn, memory, spent, too_deep, unmade, plays, unattached, occupied, plays_in, PlaysGame, PlaysAgain, GoesOn}
 use Rattle.paw_play.specs.Play.{store_bytes, attached_to}
@@ -57,7 +57,7 @@ comes_stopped n es new None h = tt
 comes_stopped n es new (Some stop) h = h
 
 -- Lines are played behind others, with more lines behind them. Whole is a reading that ends as that of the others and these.
-module _ (n : ℕ) (es lines behind : List (List ℕ)) (all : (es ++ lines) ++ behind ≡ trial_lines n) (are : All IsLine lines) (whole : Reading)
+module _ (n : ℕ) (es lines behind : List (List ℕ)) (all : (es ++ lines) ++ behind ≡ trial_lines n) (are : All IsLine lines) (whole : EndingOf)
     (stops : (stop : TrialEnd) (fs : List (List ℕ)) → StopsAs stop (whole fs) → StopsAs stop (reading (trial_story n) n (es ++ fs)))
     (waits : (fs : List (List ℕ)) → Waits (whole fs) → Waits (reading (trial_story n) n (es ++ fs))) where
   -- a trial that stops after k of them

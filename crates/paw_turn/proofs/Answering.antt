@@ -13,14 +13,14 @@ use Rattle.paw_reading.specs.GoingOn.{on_path}
 use Rattle.paw_reading.specs.Turn.{table_done, turn, first_table}
 use Rattle.paw_process.specs.OpenTables.{OpenTables}
 use Rattle.paw_process.specs.inner.OpenTables.{ReadsNone}
-use Rattle.paw_process.specs.inner.Meaning.{held, to_come, going_on, ComesTo, RunsTo, IsStopped, AnswersQuit, AnswersKey}
+use Rattle.paw_process.specs.inner.Meaning.{having, to_come, going_in, ComesTo, RunsTo, IsStopped, AnswersQuit, AnswersKey}
 use Rattle.paw_process.specs.declared.Turned.{Turned}
 use Rattle.paw_turn.specs.declared.Step.TheVariants as step
 use Rattle.paw_turn.specs.declared.stage.Next.{Next}
 use Rattle.paw_turn.specs.declared.stage.Next.TheVariants as next
 use Rattle.paw_turn.specs.declared.turn.Turn.{Turn}
 use Rattle.paw_turn.specs.inner.Player.{IsLoopOf, StandsAt}
-use Rattle.paw_turn.specs.inner.Stages.{Past, run_of, having_read, HasReadSome, GoesOnAs, MovesAfter, PlaysAs, RunsAs, from_prompt, from_path, StopsInTable, AwaitsAt}
+use Rattle.paw_turn.specs.inner.Stages.{Past, run_now, having_read, HasReadSome, GoesOnAs, MovesAfter, PlaysAs, RunsAs, from_prompt, from_path, StopsInTable, AwaitsAt}
 use Rattle.paw_turn.proofs.Falling.{some_past, has_still}
 use Rattle.paw_reading.proofs.Stays.{IsInner, WaitsThere, path_waits}
 use Rattle.paw_turn.proofs.Waiting.{stops_in}
@@ -44,11 +44,11 @@ some_ignores g p (f ∷ path) r line lines some ignored = path_ignores g p 0 f p
 -- a prompt in tables at which an ignored line comes
 in_table_ignored : (g : Story) (p : Prompt) (old : Turn) (line : List ℕ) → 0 < length old.machine.frames → is_ignored old.world line ≡ true
     → (n : ℕ) (past : Past) (lines : List (List ℕ))
-    → table_done g (turn g n) (first_table (reverse old.machine.frames)) (on_path g p 0 (reverse old.machine.frames) (run_of old past (line ∷ lines)))
-    ≡ table_done g (turn g n) (first_table (reverse old.machine.frames)) (on_path g p 0 (reverse old.machine.frames) (closed (run_of old past lines)))
+    → table_done g (turn g n) (first_table (reverse old.machine.frames)) (on_path g p 0 (reverse old.machine.frames) (run_now old past (line ∷ lines)))
+    ≡ table_done g (turn g n) (first_table (reverse old.machine.frames)) (on_path g p 0 (reverse old.machine.frames) (closed (run_now old past lines)))
 in_table_ignored g p old line some ignored n past lines =
     let many : 0 < length (reverse old.machine.frames) = omega (arith, length-reverse old.machine.frames) in
-    ap (table_done g (turn g n) (first_table (reverse old.machine.frames))) (some_ignores g p (reverse old.machine.frames) (run_of old past []) line lines many ignored)
+    ap (table_done g (turn g n) (first_table (reverse old.machine.frames))) (some_ignores g p (reverse old.machine.frames) (run_now old past []) line lines many ignored)
 
 -- an ignored line closes an empty piece, and the game waits on
 pub ignored_plays : (g : Story) (p : Prompt) (old : Turn) (line : List ℕ) → StandsAt p old.machine → is_ignored old.world line ≡ true
@@ -67,13 +67,13 @@ answered_path : (g : Story) (p : Prompt) (old : Turn) (line : List ℕ) (w : Wor
     → (old.machine.waiting ≡ Some prompt.Key → AnswersKey old.machine.frames m.frames)
     → m.turning ≡ old.machine.turning
     → (past : Past) (lines : List (List ℕ))
-    → from_path g p old line past lines ≡ going_on g m.frames (run_of (record { world = w; pending = old.pending; machine = m; piece = old.piece }) past lines)
+    → from_path g p old line past lines ≡ going_in g m.frames (run_now (record { world = w; pending = old.pending; machine = m; piece = old.piece }) past lines)
 answered_path g prompt.Main old line w m agrees awaits valid hears same world quit key turning past lines = absurd awaits
 answered_path g prompt.Quit old line w m agrees awaits valid hears same world quit key turning past lines =
-    quit awaits.tables.waiting g line lines (run_of old past []) valid hears same ∙ ap (going_on g m.frames) (cc (world, turning))
+    quit awaits.tables.waiting g line lines (run_now old past []) valid hears same ∙ ap (going_in g m.frames) (cc (world, turning))
 answered_path g prompt.Again old line w m agrees awaits valid hears same world quit key turning past lines = absurd awaits
 answered_path g prompt.Key old line w m agrees awaits valid hears same world quit key turning past lines =
-    key awaits.tables.waiting g line lines (run_of old past []) hears ∙ ap (going_on g m.frames) (cc (world, turning))
+    key awaits.tables.waiting g line lines (run_now old past []) hears ∙ ap (going_in g m.frames) (cc (world, turning))
 answered_path g prompt.Over old line w m agrees awaits valid hears same world quit key turning past lines = absurd awaits
 
 -- the machine reads on where it was answered
@@ -82,16 +82,16 @@ pub answered_runs : (g : Story) (p : Prompt) (old mid : Turn) (line : List ℕ) 
     → (old.machine.waiting ≡ Some prompt.Quit → AnswersQuit agrees old.machine.frames m.frames)
     → (old.machine.waiting ≡ Some prompt.Key → AnswersKey old.machine.frames m.frames)
     → m.turning ≡ old.machine.turning → ReadsNone old.machine m
-    → RunsTo g (held w old.pending m old.piece) turned (held mid.world mid.pending mid.machine mid.piece)
+    → RunsTo g (having w old.pending m old.piece) turned (having mid.world mid.pending mid.machine mid.piece)
     → RunsAs g (from_path g p old line) old turned mid
 answered_runs g p old mid line w m agrees turned awaits valid hears same world quit key turning none runs past has =
     let h : Turn = record { world = w; pending = old.pending; machine = m; piece = old.piece } in
-    let t = runs (run_of h past []) (record { world = refl; pending = refl; earlier = refl; turning = refl; current = refl; read = has_still past.read old.machine m has none }) in (
+    let t = runs (run_now h past []) (record { world = refl; pending = refl; earlier = refl; turning = refl; current = refl; read = has_still past.read old.machine m has none }) in (
       t.0,
       (
         t.1,
         λ lines.
-            subst (ComesTo g turned mid.machine.frames (run_of mid (having_read (past.read ++ t.0) past) lines))
+            subst (ComesTo g turned mid.machine.frames (run_now mid (having_read (past.read ++ t.0) past) lines))
             (sym (answered_path g p old line w m agrees awaits valid hears same world quit key turning past lines)) (t.2 lines),
       ),
     )
@@ -116,7 +116,7 @@ answer_plays g p t old mid new line turned nx awaits first runs moves same past 
         has_still (past.read ++ k.0) mid.machine new.machine k.1.0 same,
         λ n lines. (
           n,
-          subst (GoesOnAs g n nx new.machine.frames (run_of new (having_read (past.read ++ k.0) past) lines))
+          subst (GoesOnAs g n nx new.machine.frames (run_now new (having_read (past.read ++ k.0) past) lines))
               (ap (λ (u : ℕ). table_done g (turn g n) u (from_path g p old line past lines)) first ∙ sym (awaited g p old line awaits n past lines))
               (moves (having_read (past.read ++ k.0) past) n lines _ (k.1.1 lines)),
         ),
@@ -142,10 +142,10 @@ answered_stops g prompt.Main old mid line turned awaits budget = absurd awaits
 answered_stops g prompt.Quit old mid line turned awaits budget =
     let many : 0 < length (reverse old.machine.frames) = omega (arith, length-reverse old.machine.frames, awaits.tables.tables.some) in
     stops_in g (first_table (reverse old.machine.frames)) (from_path g prompt.Quit old line) old mid turned budget
-    (λ past p path s is. wait_after g prompt.Quit p (reverse old.machine.frames) path (run_of old past (line ∷ [])) s tt many awaits.loop is)
+    (λ past p path s is. wait_after g prompt.Quit p (reverse old.machine.frames) path (run_now old past (line ∷ [])) s tt many awaits.loop is)
 answered_stops g prompt.Again old mid line turned awaits budget = absurd awaits
 answered_stops g prompt.Key old mid line turned awaits budget =
     let many : 0 < length (reverse old.machine.frames) = omega (arith, length-reverse old.machine.frames, awaits.tables.tables.some) in
     stops_in g (first_table (reverse old.machine.frames)) (from_path g prompt.Key old line) old mid turned budget
-    (λ past p path s is. wait_after g prompt.Key p (reverse old.machine.frames) path (run_of old past (line ∷ [])) s tt many awaits.loop is)
+    (λ past p path s is. wait_after g prompt.Key p (reverse old.machine.frames) path (run_now old past (line ∷ [])) s tt many awaits.loop is)
 answered_stops g prompt.Over old mid line turned awaits budget = absurd awaits

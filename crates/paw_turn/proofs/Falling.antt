@@ -14,7 +14,7 @@ use Rattle.paw_turn.specs.declared.stage.Stage.TheVariants as stage
 use Rattle.paw_turn.specs.declared.stage.Next.{Next}
 use Rattle.paw_turn.specs.declared.stage.Next.TheVariants as next
 use Rattle.paw_turn.specs.declared.turn.Turn.{Turn}
-use Rattle.paw_turn.specs.inner.Stages.{Past, run_of, HasReadSome, Reads, PlaysAs, having_read, left_of, table_rank, work, Falls, FallsAfter, RunsAs, from_table, Leaves, Uses}
+use Rattle.paw_turn.specs.inner.Stages.{Past, run_now, HasReadSome, ReadsTurn, PlaysAs, having_read, left_of, table_rank, work, Falls, FallsAfter, RunsAs, from_table, Leaves, Uses}
 use Rattle.paw_reading.proofs.Spends.{Spends, table_spends}
 
 pub falls_up : (a b : ℕ) (n : Next) (new : Turn) → a ≤ b → Falls a n new → Falls b n new
@@ -36,11 +36,11 @@ equal_none old new e = record { left = ap (λ (m : OpenTables). m.left) e; steps
 pub plays_read : (g : Story) (whole : ℕ → Past → List (List ℕ) → Ending) (old : Turn) (n : Next) (new : Turn) → PlaysAs g whole old n new → HasReadSome old.machine → HasReadSome new.machine
 plays_read g whole old n new plays some = let k = plays (record { read = some.0; pieces = []; traces = [] }) some.1 in (k.0, k.1.0)
 
-pub reads_read : (g : Story) (x : ℕ → Run → Ending) (old : Turn) (n : Next) (new : Turn) → Reads g x old n new → HasReadSome old.machine → HasReadSome new.machine
+pub reads_read : (g : Story) (x : ℕ → Run → Ending) (old : Turn) (n : Next) (new : Turn) → ReadsTurn g x old n new → HasReadSome old.machine → HasReadSome new.machine
 reads_read g x old n new reads some = let k = reads (record { read = some.0; pieces = []; traces = [] }) some.1 in (k.0, k.1.0)
 
 -- the run of a machine shows what may still be read
-left_shown : (h : Turn) (past : Past) → HasRead past.read h.machine → left_to_read (run_of h past []) ≡ left_of h
+left_shown : (h : Turn) (past : Past) → HasRead past.read h.machine → left_to_read (run_now h past []) ≡ left_of h
 left_shown h past has = omega (arith, has.left)
 
 leaves_by : (g : Story) (turned : Turned) (fs : List Frame) (first r : Run) (x : Out) (old new : ℕ) → ComesTo g turned fs r x
@@ -61,8 +61,8 @@ uses g t old mid turned budget runs =
     let has : HasRead read mid.machine = run.1.0 in
     record {
       left = omega (arith, has.left, some.1.left, length-append some.0.read run.0);
-      leaves = leaves_by g turned mid.machine.frames (run_of old some.0 []) (run_of mid (having_read read some.0) []) (table_read g t (run_of old some.0 []))
-          (left_of old) (left_of mid) (run.1.1 []) (left_shown old some.0 some.1) (left_shown mid (having_read read some.0) has) (table_spends g t (run_of old some.0 []));
+      leaves = leaves_by g turned mid.machine.frames (run_now old some.0 []) (run_now mid (having_read read some.0) []) (table_read g t (run_now old some.0 []))
+          (left_of old) (left_of mid) (run.1.1 []) (left_shown old some.0 some.1) (left_shown mid (having_read read some.0) has) (table_spends g t (run_now old some.0 []));
     }
 
 table_rank_low : (t : ℕ) → 2 ≤ table_rank t

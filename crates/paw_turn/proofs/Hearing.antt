@@ -13,18 +13,18 @@ use Rattle.paw_turn.specs.declared.stage.Next.TheVariants as next
 use Rattle.paw_turn.specs.declared.turn.Turn.{Turn}
 use Rattle.paw_process.specs.inner.OpenTables.{ReadsNone}
 use Rattle.paw_turn.proofs.Falling.{has_still, equal_none}
-use Rattle.paw_turn.specs.inner.Stages.{Past, run_of, at_stage, GoesOnAs, Moves, PlaysAs, from_prompt}
+use Rattle.paw_turn.specs.inner.Stages.{Past, run_now, at_stage, GoesOnAs, Moves, PlaysAs, from_prompt}
 
 -- where the whole is what moves on, and no condact is read
 pub moves_play : (g : Story) (whole : ℕ → Past → List (List ℕ) → Ending) (x : ℕ → Run → Ending) (old mid new : Turn) (nx : Next)
-    → ((m : ℕ) (past : Past) (lines : List (List ℕ)) → whole m past lines ≡ x m (run_of mid past lines))
+    → ((m : ℕ) (past : Past) (lines : List (List ℕ)) → whole m past lines ≡ x m (run_now mid past lines))
     → Moves g x mid nx new → ReadsNone old.machine new.machine → PlaysAs g whole old nx new
 moves_play g whole x old mid new nx same moves none past has = (
   past.read,
   (
     has_still past.read old.machine new.machine has none,
     λ n lines.
-        (n, subst (GoesOnAs g n nx new.machine.frames (run_of new past lines)) (sym (same n past lines)) (moves past n lines)),
+        (n, subst (GoesOnAs g n nx new.machine.frames (run_now new past lines)) (sym (same n past lines)) (moves past n lines)),
   ),
 )
 
@@ -40,7 +40,7 @@ timeout_heard g old new line w nx heard timeout world moves machine =
     (λ m past lines. is m past lines) moves (equal_none old.machine new.machine machine)
   where
     is : (m : ℕ) (past : Past) (lines : List (List ℕ)) → from_prompt g prompt.Main old line m past lines
-        ≡ saying (say_text g.game w 35) (turn g m AtFrame) (run_of (record { world = w; pending = old.pending; machine = old.machine; piece = old.piece }) past lines)
+        ≡ saying (say_text g.game w 35) (turn g m AtFrame) (run_now (record { world = w; pending = old.pending; machine = old.machine; piece = old.piece }) past lines)
     is m past lines = rw (heard, timeout, world) refl
 
 -- any other line is pending now
@@ -50,11 +50,12 @@ pub line_heard : (g : Story) (old new : Turn) (line : List ℕ) → is_ignored o
 unfolding at_main
 line_heard g old new line heard timeout is =
     moves_play g (from_prompt g prompt.Main old line) (λ n r. turn g n AtPhrase r) old new new (next.Go stage.Phrase)
-    (λ m past lines. subst (λ (h : Turn). from_prompt g prompt.Main old line m past lines ≡ turn g m AtPhrase (run_of h past lines)) (sym is) (at m past lines))
+    (λ m past lines. subst (λ (h : Turn). from_prompt g prompt.Main old line m past lines ≡ turn g m AtPhrase (run_now h past lines)) (sym is)
+    (at m past lines))
     (λ past n lines. refl) (equal_none old.machine new.machine (ap (λ (h : Turn). h.machine) is))
   where
     at : (m : ℕ) (past : Past) (lines : List (List ℕ)) → from_prompt g prompt.Main old line m past lines
-        ≡ turn g m AtPhrase (run_of (record { world = with_timeout false old.world; pending = record { bytes = line; earlier = 255 }; machine = old.machine; piece = old.piece }) past lines)
+        ≡ turn g m AtPhrase (run_now (record { world = with_timeout false old.world; pending = record { bytes = line; earlier = 255 }; machine = old.machine; piece = old.piece }) past lines)
     at m past lines = rw (heard, timeout) refl
 
 -- an ignored line closes an empty piece, and the game waits on
@@ -63,5 +64,5 @@ pub main_ignored : (g : Story) (old : Turn) (line : List ℕ) → is_ignored old
 unfolding at_main
 main_ignored g old line ignored past has = (past.read, (has, λ n lines. (n, is n lines)))
   where
-    is : (n : ℕ) (lines : List (List ℕ)) → from_prompt g prompt.Main old line n past lines ≡ goes_on g n prompt.Main [] (closed (run_of old past lines))
+    is : (n : ℕ) (lines : List (List ℕ)) → from_prompt g prompt.Main old line n past lines ≡ goes_on g n prompt.Main [] (closed (run_now old past lines))
     is n lines = rw ignored refl

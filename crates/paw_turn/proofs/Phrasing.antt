@@ -15,7 +15,7 @@ use Rattle.paw_turn.specs.declared.stage.Next.{Next}
 use Rattle.paw_turn.specs.declared.stage.Next.TheVariants as next
 use Rattle.paw_turn.specs.declared.stage.Stage.TheVariants as stage
 use Rattle.paw_turn.specs.declared.turn.Turn.{Turn}
-use Rattle.paw_turn.specs.inner.Stages.{run_of, GoesOnAs, Moves, at_stage}
+use Rattle.paw_turn.specs.inner.Stages.{run_now, GoesOnAs, Moves, at_stage}
 
 -- what the next phrase of a pending line is
 abbrev pub next_of : GameLists → World → PendingLine → Parsed
@@ -32,7 +32,7 @@ pub sentence_moves : (g : Story) (old new : Turn) (w : World)
     → Moves g (λ n r. turn g (suc n) AtPhrase r) old (next.Go stage.Response) new
 unfolding turn
 sentence_moves g old new w speaks world machine piece past n lines =
-    ap (phrased g n (run_of old past lines)) speaks.1 ∙ ap (turn g n AtResponse) cc
+    ap (phrased g n (run_now old past lines)) speaks.1 ∙ ap (turn g n AtResponse) cc
 
 -- at an unknown phrase message 6 is said, and the rest of the line is dropped
 pub unknown_moves : (g : Story) (old new : Turn) (nx : Next) (rest : List ℕ) (w : World) (p : PendingLine)
@@ -44,8 +44,8 @@ unknown_moves g old new nx rest w p is world pending moves past n lines =
     let M : World → PendingLine → Type 0 = λ w' p'. Moves g (λ n' r. saying (say_text g.game w' 6) (turn g n' (at_stage stage.Frame)) r)
     (record { world = w'; pending = p'; machine = old.machine; piece = old.piece }) nx new in
     let from = subst (λ w'. M w' (record { bytes = []; earlier = old.pending.earlier })) world (subst (M w) pending moves) in
-    subst (GoesOnAs g n nx new.machine.frames (run_of new past lines))
-    (sym (ap (phrased g n (run_of old past lines)) is))
+    subst (GoesOnAs g n nx new.machine.frames (run_now new past lines))
+    (sym (ap (phrased g n (run_now old past lines)) is))
     (from past n lines)
 
 -- with no phrase left comes the prompt
@@ -58,8 +58,8 @@ none_moves g old new nx w p is world pending moves past n lines =
     let M : World → PendingLine → Type 0 = λ w' p'. Moves g (λ n' r. prompts g (turn g n' AtFrame) (turn g n' AtPhrase) r)
     (record { world = w'; pending = p'; machine = old.machine; piece = old.piece }) nx new in
     let from = subst (λ w'. M w' old.pending) world (subst (M w) pending moves) in
-    subst (GoesOnAs g n nx new.machine.frames (run_of new past lines))
-    (sym (ap (phrased g n (run_of old past lines)) is))
+    subst (GoesOnAs g n nx new.machine.frames (run_now new past lines))
+    (sym (ap (phrased g n (run_now old past lines)) is))
     (from past n lines)
 
 -- a phrase that is taken makes what is pending shorter

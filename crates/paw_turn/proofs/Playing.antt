@@ -6,7 +6,7 @@ use Rattle.paw_turn.specs.declared.stage.Stage.{Stage}
 use Rattle.paw_turn.specs.declared.stage.Next.{Next}
 use Rattle.paw_turn.specs.declared.stage.Next.TheVariants as next
 use Rattle.paw_turn.specs.declared.turn.Turn.{Turn}
-use Rattle.paw_turn.specs.inner.Stages.{Past, at_stage, run_of, having_read, GoesOnAs, Reads, PlaysAs, Plays}
+use Rattle.paw_turn.specs.inner.Stages.{Past, at_stage, run_now, having_read, GoesOnAs, ReadsTurn, PlaysAs, Plays}
 
 -- nothing is played yet
 pub plays_none : (g : Story) (first : Stage) (old : Turn) → Plays g first old (next.Go first) old
@@ -14,7 +14,7 @@ plays_none g first old past has = (past.read, (has, λ n lines. (n, refl)))
 
 -- one stage more
 pub plays_on : (g : Story) (first s : Stage) (old mid new : Turn) (nx : Next)
-    → Plays g first old (next.Go s) mid → Reads g (λ n r. turn g (suc n) (at_stage s) r) mid nx new → Plays g first old nx new
+    → Plays g first old (next.Go s) mid → ReadsTurn g (λ n r. turn g (suc n) (at_stage s) r) mid nx new → Plays g first old nx new
 plays_on g first s old mid new nx plays reads past has =
     let a = plays past has in
     let b = reads (having_read a.0 past) a.1.0 in (
@@ -23,7 +23,7 @@ plays_on g first s old mid new nx plays reads past has =
         b.1.0,
         λ n lines.
             let k = a.1.1 (suc n) lines in
-            (k.0, subst (GoesOnAs g n nx new.machine.frames (run_of new (having_read b.0 past) lines)) (sym k.1) (b.1.1 n lines)),
+            (k.0, subst (GoesOnAs g n nx new.machine.frames (run_now new (having_read b.0 past) lines)) (sym k.1) (b.1.1 n lines)),
       ),
     )
 
@@ -39,6 +39,6 @@ plays_then g whole s old mid new nx first plays past has =
         λ n lines.
             let j = b.1.1 n lines in
             let k = a.1.1 j.0 lines in
-            (k.0, subst (GoesOnAs g n nx new.machine.frames (run_of new (having_read b.0 past) lines)) (sym k.1) j.1),
+            (k.0, subst (GoesOnAs g n nx new.machine.frames (run_now new (having_read b.0 past) lines)) (sym k.1) j.1),
       ),
     )

@@ -7,11 +7,11 @@ use Rattle.paw_reading.specs.Turn.{AtFrame, AtPhrase, at_main, prompt_text, prom
 use Rattle.paw_turn.specs.declared.Step.TheVariants as step
 use Rattle.paw_turn.specs.declared.stage.Next.TheVariants as next
 use Rattle.paw_turn.specs.declared.turn.Turn.{Turn}
-use Rattle.paw_turn.specs.inner.Stages.{run_of, Moves}
+use Rattle.paw_turn.specs.inner.Stages.{run_now, Moves}
 use Rattle.paw_turn.proofs.Says.{unsaid}
 
 -- a prompt that doesn't fit
 pub prompt_unsaid : (g : Story) (old new : Turn) → 65535 < length old.piece + length (prompt_text g.game old.world)
     → Moves g (λ n r. prompts g (turn g n AtFrame) (turn g n AtPhrase) r) old (next.Stop (step.Spent spent.Text)) new
 prompt_unsaid g old new h past n lines =
-    (line_dropped (run_of old past lines), unsaid (prompt_text g.game old.world) (λ x. at_main g (turn g n AtFrame) (turn g n AtPhrase) (closed x) x.events) (line_dropped (run_of old past lines)) h, record { pieces = refl; traces = refl; events = refl })
+    (line_dropped (run_now old past lines), unsaid (prompt_text g.game old.world) (λ x. at_main g (turn g n AtFrame) (turn g n AtPhrase) (closed x) x.events) (line_dropped (run_now old past lines)) h, record { pieces = refl; traces = refl; events = refl })

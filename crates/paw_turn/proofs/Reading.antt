@@ -6,12 +6,12 @@ use Rattle.paw_reading.specs.Reading.{table_read}
 use Rattle.paw_reading.specs.Turn.{AtFrame, AtResponse, Ending, table_done, turn}
 use Rattle.paw_process.specs.OpenTables.{OpenTables}
 use Rattle.paw_process.specs.inner.OpenTables.{HasRead, ReadsNone}
-use Rattle.paw_process.specs.inner.Meaning.{held, RunsTo}
+use Rattle.paw_process.specs.inner.Meaning.{having, RunsTo}
 use Rattle.paw_process.specs.declared.Turned.{Turned}
 use Rattle.paw_turn.specs.declared.stage.Next.{Next}
 use Rattle.paw_turn.specs.declared.turn.Turn.{Turn}
 use Rattle.paw_turn.proofs.Falling.{has_still}
-use Rattle.paw_turn.specs.inner.Stages.{run_of, having_read, Moves, Reads, MovesAfter, RunsAs, from_table}
+use Rattle.paw_turn.specs.inner.Stages.{run_now, having_read, Moves, ReadsTurn, MovesAfter, RunsAs, from_table}
 
 -- a machine that has opened a table
 abbrev pub begun : ℕ → OpenTables → OpenTables
@@ -19,17 +19,17 @@ begun t m = record m { frames = record { table = t; entry = 0; at = 0; acted = f
 
 -- the machine has read the table that it opened
 pub begun_runs : (g : Story) (t : ℕ) (old mid : Turn) (m : OpenTables) (turned : Turned) → m ≡ begun t old.machine
-    → RunsTo g (held old.world old.pending m old.piece) turned (held mid.world mid.pending mid.machine mid.piece)
+    → RunsTo g (having old.world old.pending m old.piece) turned (having mid.world mid.pending mid.machine mid.piece)
     → RunsAs g (from_table g t old) old turned mid
 begun_runs g t old mid m turned is runs past has =
-    let from = subst (λ (n : OpenTables). RunsTo g (held old.world old.pending n old.piece) turned (held mid.world mid.pending mid.machine mid.piece)) is runs in
-    let t = from (run_of old past []) (record { world = refl; pending = refl; earlier = refl; turning = refl; current = refl; read = record { left = has.left; steps = has.steps } }) in
+    let from = subst (λ (n : OpenTables). RunsTo g (having old.world old.pending n old.piece) turned (having mid.world mid.pending mid.machine mid.piece)) is runs in
+    let t = from (run_now old past []) (record { world = refl; pending = refl; earlier = refl; turning = refl; current = refl; read = record { left = has.left; steps = has.steps } }) in
     (t.0, (t.1, λ lines. t.2 lines))
 
 -- what the machine has read, and how the turn goes on
 pub read_on : (g : Story) (t : ℕ) (old mid new : Turn) (turned : Turned) (nx : Next)
     → RunsAs g (from_table g t old) old turned mid → MovesAfter g t turned mid nx new → ReadsNone mid.machine new.machine
-    → Reads g (λ n r. table_done g (turn g n) t (table_read g t r)) old nx new
+    → ReadsTurn g (λ n r. table_done g (turn g n) t (table_read g t r)) old nx new
 read_on g t old mid new turned nx runs moves same past has =
     let t = runs past has in (
       past.read ++ t.0,
@@ -41,15 +41,15 @@ read_on g t old mid new turned nx runs moves same past has =
     )
 
 -- a stage in which nothing is read
-pub moves_read : (g : Story) (x : ℕ → Run → Ending) (old new : Turn) (nx : Next) → Moves g x old nx new → new.machine ≡ old.machine → Reads g x old nx new
+pub moves_read : (g : Story) (x : ℕ → Run → Ending) (old new : Turn) (nx : Next) → Moves g x old nx new → new.machine ≡ old.machine → ReadsTurn g x old nx new
 moves_read g x old new nx moves same past has =
     (past.read, (subst (HasRead past.read) (sym same) has, λ n lines. moves past n lines))
 
 -- the frame reads table 2, and the response table 0
-pub frame_reads : (g : Story) (old new : Turn) (nx : Next) → Reads g (λ n r. table_done g (turn g n) 2 (table_read g 2 r)) old nx new → Reads g (λ n r. turn g (suc n) AtFrame r) old nx new
+pub frame_reads : (g : Story) (old new : Turn) (nx : Next) → ReadsTurn g (λ n r. table_done g (turn g n) 2 (table_read g 2 r)) old nx new → ReadsTurn g (λ n r. turn g (suc n) AtFrame r) old nx new
 unfolding turn
 frame_reads g old new nx reads = reads
 
-pub response_reads : (g : Story) (old new : Turn) (nx : Next) → Reads g (λ n r. table_done g (turn g n) 0 (table_read g 0 r)) old nx new → Reads g (λ n r. turn g (suc n) AtResponse r) old nx new
+pub response_reads : (g : Story) (old new : Turn) (nx : Next) → ReadsTurn g (λ n r. table_done g (turn g n) 0 (table_read g 0 r)) old nx new → ReadsTurn g (λ n r. turn g (suc n) AtResponse r) old nx new
 unfolding turn
 response_reads g old new nx reads = reads

@@ -24,7 +24,7 @@ use Rattle.paw_turn.specs.declared.stage.Next.TheVariants as next
 use Rattle.paw_turn.specs.declared.turn.Turn.{Turn}
 use Rattle.paw_process.specs.inner.OpenTables.{ReadsNone}
 use Rattle.paw_turn.proofs.Falling.{has_still}
-use Rattle.paw_turn.specs.inner.Stages.{Past, run_of, PlaysAs, from_prompt, ChangesFlags}
+use Rattle.paw_turn.specs.inner.Stages.{Past, run_now, PlaysAs, from_prompt, ChangesFlags}
 
 -- at no the game is over or the piece is spent, and else it starts anew
 abbrev final : Bool → Bool → Run → Run → Run → Out
@@ -63,10 +63,10 @@ some_again g (f ∷ path) r line lines some hears = path_again g 0 f path r line
 -- the whole is the answer
 again_is : (g : Story) (old : Turn) (line : List ℕ) → 0 < length old.machine.frames → is_ignored old.world line ≡ false → (n : ℕ) (past : Past) (lines : List (List ℕ))
     → from_prompt g prompt.Again old line n past lines
-    ≡ table_done g (turn g n) (first_table (reverse old.machine.frames)) (answer_of g line (heard line (run_of old past lines)))
+    ≡ table_done g (turn g n) (first_table (reverse old.machine.frames)) (answer_of g line (heard line (run_now old past lines)))
 again_is g old line some hears n past lines =
     let many : 0 < length (reverse old.machine.frames) = omega (arith, length-reverse old.machine.frames) in
-    ap (table_done g (turn g n) (first_table (reverse old.machine.frames))) (some_again g (reverse old.machine.frames) (run_of old past []) line lines many hears)
+    ap (table_done g (turn g n) (first_table (reverse old.machine.frames))) (some_again g (reverse old.machine.frames) (run_now old past []) line lines many hears)
 
 final_restarts : (g : Story) (go : Stage → Run → Ending) (t : ℕ) (declines fit : Bool) (e s d : Run) → declines ≡ false → table_done g go t (final declines fit e s d) ≡ go AtDescribe d
 final_restarts g go t declines fit e s d is = rw is refl
@@ -140,7 +140,7 @@ again_spends g old new line w some hears declines world full none past has =
         λ n lines. (
           n,
           (
-            heard line (run_of old past lines),
+            heard line (run_now old past lines),
             again_is g old line some hears n past lines ∙ final_spends g (turn g n) _ _ _ _ _ _ declines t,
             record { pieces = refl; traces = refl; events = refl },
           ),

@@ -30,11 +30,11 @@ use Rattle.paw_process.proofs.Again.{restored_again}
 use Rattle.paw_process.proofs.Fitting.{places_fit, kept_places}
 use Rattle.paw_turn.specs.declared.Step.{Step}
 use Rattle.paw_turn.specs.declared.Step.TheVariants as step
-use Rattle.paw_turn.specs.inner.Player.{Seat, IsLoopOf, WaitsIn, Stands, StandRightly, IsSeated, IsNew}
+use Rattle.paw_turn.specs.inner.Player.{Seat, IsLoopOf, WaitsIn, StandsClosed, StandRightly, IsSeated, IsNew}
 use Rattle.paw_turn.specs.inner.Stages.{IsPlayable, HasReadSome, seat_of}
 use Rattle.paw_turn.specs.declared.turn.Turn.{Turn}
 use Rattle.paw_turn.proofs.Standing.{unreversed}
-use Rattle.paw_turn.specs.inner.Parts.{step_at, prompt_at, IsStanding, Fits, seat_at, seated_again, RestoredFits}
+use Rattle.paw_turn.specs.inner.Parts.{prompt_step, prompt_at, IsStanding, Fits, seat_at, seated_again, RestoredFits}
 
 -- ---- a restored machine ----
 
@@ -67,7 +67,7 @@ waits_again : (g : GameLists) (p : Prompt) (code : ℕ) (k : Frames) (m : OpenTa
 waits_again g p code k m is stands sound =
     record { tables = stands; loop = subst (λ (n : OpenTables). IsLoopOf (first_table (reverse n.frames)) n.turning) (sym is) (kept_loop g code k sound) }
 
-stands_again : (g : GameLists) (at : Prompt) (k : Frames) (m : OpenTables) → m ≡ restored k (waiting_at at) → MachineStandsAt at m → frames_fault g at k ≡ None → Stands (step_at at) m
+stands_again : (g : GameLists) (at : Prompt) (k : Frames) (m : OpenTables) → m ≡ restored k (waiting_at at) → MachineStandsAt at m → frames_fault g at k ≡ None → StandsClosed (prompt_step at) m
 stands_again g prompt.Main k m is stands sound = stands
 stands_again g prompt.Quit k m is stands sound = waits_again g prompt.Quit 27 k m is stands sound
 stands_again g prompt.Again k m is stands sound = waits_again g prompt.Again 31 k m is stands sound
@@ -91,7 +91,7 @@ restored_fits g at k w m p world pending size is stands sound = record {
 -- ---- a player that stands ----
 
 -- it stands at its prompt
-step_again : (s : Step) (m : OpenTables) → Stands s m → IsStanding s → step_at (prompt_at s) ≡ s
+step_again : (s : Step) (m : OpenTables) → StandsClosed s m → IsStanding s → prompt_step (prompt_at s) ≡ s
 step_again (step.Waits prompt.Main) m stands standing = refl
 step_again (step.Waits prompt.Quit) m stands standing = refl
 step_again (step.Waits prompt.Again) m stands standing = refl
@@ -101,7 +101,7 @@ step_again step.Ended m stands standing = refl
 step_again (step.Spent kind) m stands standing = absurd standing
 step_again (step.TooDeep u) m stands standing = absurd standing
 
-machine_stands : (s : Step) (m : OpenTables) → Stands s m → IsStanding s → MachineStandsAt (prompt_at s) m
+machine_stands : (s : Step) (m : OpenTables) → StandsClosed s m → IsStanding s → MachineStandsAt (prompt_at s) m
 machine_stands (step.Waits prompt.Main) m stands standing = stands
 machine_stands (step.Waits prompt.Quit) m stands standing = stands.tables
 machine_stands (step.Waits prompt.Again) m stands standing = stands.tables
@@ -115,7 +115,7 @@ module _ {F : Type 0} (p : Seat F) (seated : IsSeated p) (standing : IsStanding 
   -- its parts fit its game
   pub parts_fit : Fits p.game p.world p.machine p.pending (prompt_at p.last)
   parts_fit = record {
-    machine = subst (λ s. Stands s p.machine) (sym (step_again p.last p.machine seated.machine standing)) seated.machine;
+    machine = subst (λ s. StandsClosed s p.machine) (sym (step_again p.last p.machine seated.machine standing)) seated.machine;
     rightly = seated.rightly standing;
   }
 
@@ -141,7 +141,7 @@ module _ {F : Type 0} (p : Seat F) (seated : IsSeated p) (standing : IsStanding 
 pub fits_seated : {F : Type 0} (g : GameLists) (routines : Routines F) (w : World) (m : OpenTables) (p : PendingLine) (at : Prompt) → Valid g → Fits g w m p at → IsSeated (seat_at g routines w m p at)
 fits_seated g routines w m p at v fits = record { valid = v; machine = fits.machine; rightly = λ standing. same at (fits.rightly) }
   where
-    same : (q : Prompt) → StandRightly g q w m p → StandRightly g (prompt_at (step_at q)) w m p
+    same : (q : Prompt) → StandRightly g q w m p → StandRightly g (prompt_at (prompt_step q)) w m p
     same prompt.Main k = k
     same prompt.Quit k = k
     same prompt.Again k = k
@@ -156,7 +156,7 @@ waits_alike : (p : Prompt) (m : OpenTables) (left : ℕ) (steps : KeptSteps) →
 waits_alike p m left steps k =
     record { tables = record { tables = k.tables.tables; condacts = k.tables.condacts; waiting = k.tables.waiting }; loop = k.loop }
 
-machine_alike : (at : Prompt) (m : OpenTables) (left : ℕ) (steps : KeptSteps) → Stands (step_at at) m → Stands (step_at at) (record m { left = left; steps = steps })
+machine_alike : (at : Prompt) (m : OpenTables) (left : ℕ) (steps : KeptSteps) → StandsClosed (prompt_step at) m → StandsClosed (prompt_step at) (record m { left = left; steps = steps })
 machine_alike prompt.Main m left steps k = closed_alike m left steps k
 machine_alike prompt.Quit m left steps k = waits_alike prompt.Quit m left steps k
 machine_alike prompt.Again m left steps k = waits_alike prompt.Again m left steps k

@@ -18,7 +18,7 @@ use Rattle.paw_turn.specs.declared.stage.Stage.TheVariants as stage
 use Rattle.paw_turn.specs.declared.stage.Next.TheVariants as next
 use Rattle.paw_turn.specs.declared.turn.Turn.{Turn}
 use Rattle.paw_turn.specs.inner.Player.{PlaysTo, IsNew, run_at}
-use Rattle.paw_turn.specs.inner.Stages.{Past, run_of, having_read, StopsAs, PlaysAs, Plays, from_stage, from_prompt, seat_of, settled, opened_piece}
+use Rattle.paw_turn.specs.inner.Stages.{Past, run_now, having_read, StopsAs, PlaysAs, Plays, from_stage, from_prompt, seat_of, turn_settled, opened_piece}
 
 -- an ending that comes once is the whole's
 abbrev Once : (ℕ → List (List ℕ) → Ending) → (List (List ℕ) → Ending) → Type 0
@@ -27,14 +27,14 @@ Once whole total = (m : ℕ) (lines : List (List ℕ)) → whole m lines ≢ Une
 -- where some stages of the whole stop, it stops
 settles : {F : Type 0} (g : Story) (routines : Routines F) (whole : ℕ → List (List ℕ) → Ending) (total : List (List ℕ) → Ending) → Once whole total
     → (s last : Step) (new : Turn) (past : Past) → HasRead past.read new.machine
-    → ((n : ℕ) (lines : List (List ℕ)) → (m : ℕ) × StopsAs g n s new.machine.frames (run_of new past lines) (whole m lines))
-    → PlaysTo g total s (seat_of g.game routines (settled s new) last) past.pieces past.traces
+    → ((n : ℕ) (lines : List (List ℕ)) → (m : ℕ) × StopsAs g n s new.machine.frames (run_now new past lines) (whole m lines))
+    → PlaysTo g total s (seat_of g.game routines (turn_settled s new) last) past.pieces past.traces
 settles g routines whole total once (step.Waits p) last new past has stops = (
   past.read,
   (
     has.steps,
     λ lines.
-        let r : Run = closed (run_of new past lines) in
+        let r : Run = closed (run_now new past lines) in
         let k = stops (stages_left AtResponse r) lines in
         sym (once k.0 lines (λ e. going_on_ends g p (reverse new.machine.frames) r (sym k.1 ∙ e))) ∙ k.1,
   ),
@@ -71,7 +71,7 @@ before pieces traces = record { read = []; pieces = pieces; traces = traces }
 -- a new player's first piece is that of the reading
 pub start_plays : {F : Type 0} (g : Story) (routines : Routines F) (old new : Turn) (s last : Step) → Plays g stage.Describe old (next.Stop s) new
     → IsNew (seat_of g.game routines old last) old.world.seed
-    → PlaysTo g (reading g old.world.seed) s (seat_of g.game routines (settled s new) s) [] []
+    → PlaysTo g (reading g old.world.seed) s (seat_of g.game routines (turn_settled s new) s) [] []
 start_plays g routines old new s last plays fresh =
     let bytes = ap (λ (q : PendingLine). q.bytes) fresh.pending in
     let earlier = ap (λ (q : PendingLine). q.earlier) fresh.pending in
@@ -80,8 +80,8 @@ start_plays g routines old new s last plays fresh =
     let t = plays (before [] []) has in
     settles g routines (λ m lines. from_stage g stage.Describe old m (before [] []) lines) (reading g old.world.seed)
     (λ m lines differs.
-    let same : run_of old (before [] []) lines ≡ opening g old.world.seed lines = opens old.world old.pending.bytes old.pending.earlier old.machine.turning old.piece lines fresh.world bytes earlier turning fresh.piece in
-    ends_once g m AtDescribe (run_of old (before [] []) lines) differs ∙ ap (turns_from g AtDescribe) same)
+    let same : run_now old (before [] []) lines ≡ opening g old.world.seed lines = opens old.world old.pending.bytes old.pending.earlier old.machine.turning old.piece lines fresh.world bytes earlier turning fresh.piece in
+    ends_once g m AtDescribe (run_now old (before [] []) lines) differs ∙ ap (turns_from g AtDescribe) same)
     s s new (having_read t.0 (before [] [])) t.1.0 t.1.1
   where
     opens : (w : World) (bytes : List ℕ) (earlier : ℕ) (turning : Option OpenLoop) (piece : List ℕ) (lines : List (List ℕ))
@@ -92,7 +92,7 @@ start_plays g routines old new s last plays fresh =
 -- a line leads from a player's prompt to the next
 pub take_plays : {F : Type 0} (g : Story) (routines : Routines F) (p : Prompt) (old new : Turn) (line : List ℕ) (s : Step) → (pieces : List (List ℕ)) (traces : List (List Read))
     → PlaysAs g (from_prompt g p (opened_piece old) line) (opened_piece old) (next.Stop s) new
-    → PlaysTo g (λ lines. on g p (reverse old.machine.frames) (run_at (seat_of g.game routines old (step.Waits p)) pieces traces (line ∷ lines))) s (seat_of g.game routines (settled s new) s) pieces traces
+    → PlaysTo g (λ lines. on g p (reverse old.machine.frames) (run_at (seat_of g.game routines old (step.Waits p)) pieces traces (line ∷ lines))) s (seat_of g.game routines (turn_settled s new) s) pieces traces
 take_plays g routines p old new line s pieces traces plays =
     let t = plays (before pieces traces) (record { left = refl; steps = refl }) in
     settles g routines (λ m lines. from_prompt g p (opened_piece old) line m (before pieces traces) lines)

@@ -26,7 +26,7 @@ use Rattle.paw_process.specs.OpenTables.{OpenTables}
 use Rattle.paw_process.specs.inner.OpenTables.{IsClosed}
 use Rattle.paw_turn.specs.declared.Step.{Step}
 use Rattle.paw_turn.specs.declared.Step.TheVariants as step
-use Rattle.paw_turn.specs.inner.Player.{Seat, PlaysTo, Stands, StandsAt, WaitsIn, StandRightly, IsSeated, IsStanding, prompt_at, run_at, run_with}
+use Rattle.paw_turn.specs.inner.Player.{Seat, PlaysTo, StandsClosed, StandsAt, WaitsIn, StandRightly, IsSeated, IsStanding, prompt_at, run_at, run_with}
 
 -- rows that stand for routines make a story of a valid game
 pub valid_story : {F : Type 0} (calls : Shared F (ℕ × (ℕ × Unit {0})) ℕ) (routines : Routines F) (g : GameLists) (X : List (List ℕ)) → Valid g → AreRowsOf calls routines X → ValidStory (story_of g X)
@@ -67,7 +67,7 @@ stands_over : (g : GameLists) (w : World) (m : OpenTables) (p : PendingLine) (pi
 stands_over g w m p pieces traces closed k =
     record { world = k.world; places = (reversed m.frames closed.frames, closed.turning); line = λ e. k.line refl; pending = k.pending; earlier = k.earlier; piece = refl; read = refl }
 
-stands_at : {F : Type 0} (g : Story) (whole : List (List ℕ) → Ending) (s : Step) (p : Seat F) (pieces : List (List ℕ)) (traces : List (List Read)) → Stands s p.machine
+stands_at : {F : Type 0} (g : Story) (whole : List (List ℕ) → Ending) (s : Step) (p : Seat F) (pieces : List (List ℕ)) (traces : List (List Read)) → StandsClosed s p.machine
     → PlaysTo g whole s p pieces traces → StopsRightly g.game (whole []) → IsStanding s → StandRightly g.game (prompt_at s) p.world p.machine p.pending
 stands_at g whole (step.Waits q) p pieces traces stands plays rightly standing =
     let at = subst (StopsRightly g.game) (plays.1.1 [] ∙ waits_on g q (reverse p.machine.frames) (run_at p (pieces ++ p.piece ∷ []) (traces ++ plays.0 ∷ []) []) (may_wait q p.machine stands) refl) rightly in
@@ -79,7 +79,7 @@ stands_at g whole (step.Spent kind) p pieces traces closed plays rightly standin
 stands_at g whole (step.TooDeep u) p pieces traces closed plays rightly standing = absurd standing
 
 -- a player that was started
-pub started : {F : Type 0} (g : Story) (seed : ℕ) (s : Step) (p : Seat F) → ValidStory g → Stands s p.machine → PlaysTo g (reading g seed) s p [] []
+pub started : {F : Type 0} (g : Story) (seed : ℕ) (s : Step) (p : Seat F) → ValidStory g → StandsClosed s p.machine → PlaysTo g (reading g seed) s p [] []
     → IsStanding s → StandRightly g.game (prompt_at s) p.world p.machine p.pending
 started g seed s p v stands plays =
     stands_at g (reading g seed) s p [] [] stands plays (readings_stop_rightly g seed [] v (λ k d low. absurd (omega arith)))
@@ -90,7 +90,7 @@ one_line line is (suc k) d low = absurd (omega arith)
 
 -- a player that took a line where it stood at a prompt
 pub taken_on : {F : Type 0} (g : Story) (old new : Seat F) (line : List ℕ) (q : Prompt) (s : Step) → ValidStory g → old.game ≡ g.game → IsSeated old → old.last ≡ step.Waits q → IsLine line
-    → Stands s new.machine → PlaysTo g (λ lines. on g q (reverse old.machine.frames) (run_at old [] [] (line ∷ lines))) s new [] []
+    → StandsClosed s new.machine → PlaysTo g (λ lines. on g q (reverse old.machine.frames) (run_at old [] [] (line ∷ lines))) s new [] []
     → IsStanding s → StandRightly g.game (prompt_at s) new.world new.machine new.pending
 taken_on g old new line q s v game seated waits is stands plays =
     let standing : IsStanding old.last = subst IsStanding (sym waits) tt in

@@ -15,7 +15,7 @@ use Rattle.paw_process.specs.declared.Turned.{Turned}
 use Rattle.paw_process.specs.declared.Turned.TheVariants as turned
 use Rattle.paw_turn.specs.declared.turn.Turn.{Turn}
 use Rattle.paw_turn.specs.inner.Player.{IsLoopOf}
-use Rattle.paw_turn.specs.inner.Stages.{Past, run_of, having_read, HasReadSome, RunsAs, from_table, WaitsInTable, StopsInTable}
+use Rattle.paw_turn.specs.inner.Stages.{Past, run_now, having_read, HasReadSome, RunsAs, from_table, WaitsInTable, StopsInTable}
 use Rattle.paw_reading.proofs.Stays.{WaitsThere, table_waits}
 use Rattle.paw_reading.proofs.Waiting.{some_waits}
 use Rattle.paw_turn.proofs.Falling.{some_past}
@@ -36,7 +36,7 @@ stops_in g t x old mid turned.Redescribe budget there runs stopped = stopped
 stops_in g t x old mid (turned.Waits p) budget there runs stopped =
     let some = some_past old budget in
     let run = runs some.0 some.1 in
-    let r : Run = closed (run_of mid (having_read (some.0.read ++ run.0) some.0) []) in
+    let r : Run = closed (run_now mid (having_read (some.0.read ++ run.0) some.0) []) in
     let many : 0 < length (reverse mid.machine.frames) = omega (arith, length-reverse mid.machine.frames, stopped.tables.some) in
     waits_in p t mid.machine stopped
     (there some.0 p (reverse mid.machine.frames) r (run.1.1 [] ∙ some_waits g p (reverse mid.machine.frames) r many))
@@ -46,4 +46,4 @@ stops_in g t x old mid (turned.TooDeep u) budget there runs stopped = stopped
 pub table_stops : (g : Story) (t : ℕ) (old mid : Turn) (turned : Turned) → HasReadSome old.machine → IsClosed old.machine
     → RunsAs g (from_table g t old) old turned mid → IsStopped turned mid.machine → StopsInTable t turned mid.machine
 table_stops g t old mid turned budget none =
-    stops_in g t (from_table g t old) old mid turned budget (λ past p path s is. table_waits g t (run_of old past []) s p path none.turning is)
+    stops_in g t (from_table g t old) old mid turned budget (λ past p path s is. table_waits g t (run_now old past []) s p path none.turning is)

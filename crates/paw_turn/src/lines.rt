@@ -13,7 +13,7 @@ ghost use Rattle.paw_process.specs.inner.OpenTables.{IsClosed};
 ghost use Rattle.paw_turn.specs.declared.stage.Next.TheVariants as next;
 ghost use Rattle.paw_turn.specs.inner.Player.{WaitsIn, StandsAt};
 ghost use Rattle.paw_turn.specs.inner.Stages.{PlaysAs, RunsAs, from_prompt, from_path, IsPlayable};
-ghost use Rattle.paw_turn.specs.inner.Stages.{HasReadSome, Keeps, StopsInTable, AwaitsAt};
+ghost use Rattle.paw_turn.specs.inner.Stages.{HasReadSome, KeepsGame, StopsInTable, AwaitsAt};
 
 use crate::stage::{Next, Stage};
 use crate::turn::Turn;
@@ -79,7 +79,7 @@ impl Turn {
         requires stands { StandsAt prompt self.old.machine }
         ensures meaning { (X : List (List ℕ)) → AreRowsOf F.Fn routines.now X → let g = story_of (T.game tables.now) X in
             PlaysAs g (from_prompt g prompt self.old line.now) self.old (next.Stop result) self.new }
-        ensures keeps { Keeps (T.game tables.now) self.old (next.Stop result) self.new }
+        ensures keeps { KeepsGame (T.game tables.now) self.old (next.Stop result) self.new }
     {
         match self.hear(tables, routines, prompt, line) {
             Next::Go(stage) => self.play(tables, routines, stage),
@@ -103,7 +103,7 @@ impl Turn {
         requires stands { StandsAt prompt self.old.machine }
         ensures meaning { (X : List (List ℕ)) → AreRowsOf F.Fn routines.now X → let g = story_of (T.game tables.now) X in
             PlaysAs g (from_prompt g prompt self.old line.now) self.old result self.new }
-        ensures keeps { Keeps (T.game tables.now) self.old result self.new }
+        ensures keeps { KeepsGame (T.game tables.now) self.old result self.new }
     {
         if is_ignored(&self.world, line) {
             return Next::Stop(Step::Waits(prompt));
@@ -125,7 +125,7 @@ impl Turn {
         requires closed { IsClosed self.old.machine }
         ensures meaning { (X : List (List ℕ)) → let g = story_of (T.game tables.now) X in
             PlaysAs g (from_prompt g prompt.Main self.old line.now) self.old result self.new }
-        ensures keeps { Keeps (T.game tables.now) self.old result self.new }
+        ensures keeps { KeepsGame (T.game tables.now) self.old result self.new }
     {
         if is_timeout(line) {
             flags::tell_timeout(&mut self.world, true);
@@ -153,7 +153,7 @@ impl Turn {
         requires awaits { AwaitsAt prompt self.old.machine }
         ensures meaning { (X : List (List ℕ)) → AreRowsOf F.Fn routines.now X → let g = story_of (T.game tables.now) X in
             PlaysAs g (from_prompt g prompt self.old line.now) self.old result self.new }
-        ensures keeps { Keeps (T.game tables.now) self.old result self.new }
+        ensures keeps { KeepsGame (T.game tables.now) self.old result self.new }
     {
         let table = self.machine.first_table();
         let turned = self.run_answered(tables, routines, prompt, line);
@@ -199,7 +199,7 @@ impl Turn {
         requires waits { WaitsIn prompt.Again self.old.machine }
         ensures meaning { (X : List (List ℕ)) → let g = story_of (T.game tables.now) X in
             PlaysAs g (from_prompt g prompt.Again self.old line.now) self.old result self.new }
-        ensures keeps { Keeps (T.game tables.now) self.old result self.new }
+        ensures keeps { KeepsGame (T.game tables.now) self.old result self.new }
     {
         flags::tell_timeout(&mut self.world, is_timeout(line));
         self.machine.close();

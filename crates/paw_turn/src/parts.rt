@@ -1,7 +1,7 @@
 // What is lent of a player, and where a player stands.
 
 ghost use Rattle.std.specs.Prelude.{◌≡◌};
-ghost use Rattle.paw_turn.specs.inner.Parts.{step_at, prompt_at};
+ghost use Rattle.paw_turn.specs.inner.Parts.{prompt_step, prompt_at};
 
 use crate::Step;
 use paw_effects::act::Prompt;
@@ -20,7 +20,7 @@ pub struct Parts<'p> {
 
 /// What a player came to that stands at this prompt.
 pub(crate) fn step_at(prompt: Prompt) -> Step
-    ensures value { result ≡ step_at prompt }
+    ensures value { result ≡ prompt_step prompt }
 {
     match prompt {
         Prompt::Main | Prompt::Quit | Prompt::Again | Prompt::Key => Step::Waits(prompt),

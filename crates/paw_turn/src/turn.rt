@@ -16,8 +16,9 @@ ghost use Rattle.paw_reading.specs.Turn.{AtResponse, prompts, connections, after
 ghost use Rattle.paw_process.specs.inner.OpenTables.{ReadsNone, IsClosed};
 ghost use Rattle.paw_turn.specs.declared.stage.Stage.TheVariants as stage;
 ghost use Rattle.paw_turn.specs.declared.stage.Next.TheVariants as next;
-ghost use Rattle.paw_turn.specs.inner.Stages.{at_stage, settled, opened_piece, Moves, Reads, Plays, MovesAfter};
-ghost use Rattle.paw_turn.specs.inner.Stages.{IsPlayable, HasReadSome, Keeps, StopsInTable, left_of, work, Falls};
+ghost use Rattle.paw_turn.specs.inner.Stages.{at_stage, turn_settled, opened_piece, Moves};
+ghost use Rattle.paw_turn.specs.inner.Stages.{ReadsTurn, Plays, MovesAfter};
+ghost use Rattle.paw_turn.specs.inner.Stages.{IsPlayable, HasReadSome, KeepsGame, StopsInTable, left_of, work, Falls};
 ghost use Rattle.paw_turn.specs.inner.Stages.{or_spent, table_rank, FallsAfter, RunsAs, from_table, Uses};
 
 use crate::stage::{Next, Stage};
@@ -130,7 +131,7 @@ impl Turn {
 
     /// Takes the text out of a piece of which nothing is to be shown.
     pub(crate) fn settle(&mut self, step: Step)
-        ensures value { self.new ≡ settled step self.old }
+        ensures value { self.new ≡ turn_settled step self.old }
     {
         match step {
             Step::Waits(_) | Step::Ended => {}
@@ -146,7 +147,7 @@ impl Turn {
             Moves g (λ n r. saying (say_text (T.game tables.now) self.old.world message) (turn g n (at_stage stage)) r) self.old result self.new }
         ensures same { self.new ≡ record self.old { piece = self.new.piece } }
         ensures falls { Falls (work stage self.old + 1) result self.new }
-        ensures keeps { Keeps (T.game tables.now) self.old result self.new }
+        ensures keeps { KeepsGame (T.game tables.now) self.old result self.new }
     {
         or_spent(say(tables, &self.world, &mut self.piece, message), stage)
     }
@@ -187,7 +188,7 @@ impl Turn {
         requires closed { IsClosed self.old.machine }
         ensures meaning { (X : List (List ℕ)) → let g = story_of (T.game tables.now) X in
             Moves g (λ n r. prompts g (turn g n AtFrame) (turn g n AtPhrase) r) self.old result self.new }
-        ensures keeps { Keeps (T.game tables.now) self.old result self.new }
+        ensures keeps { KeepsGame (T.game tables.now) self.old result self.new }
         ensures falls { (most : ℕ) → Falls most result self.new }
         ensures machine { self.new.machine ≡ self.old.machine }
     {
@@ -205,7 +206,7 @@ impl Turn {
         requires closed { IsClosed self.old.machine }
         ensures meaning { (X : List (List ℕ)) → let g = story_of (T.game tables.now) X in
             Moves g (λ n r. saying (refusal_text (T.game tables.now) r.world) (turn g n AtFrame) (line_dropped r)) self.old result self.new }
-        ensures keeps { Keeps (T.game tables.now) self.old result self.new }
+        ensures keeps { KeepsGame (T.game tables.now) self.old result self.new }
         ensures falls { Falls (work stage.Response self.old) result self.new }
         ensures machine { self.new.machine ≡ self.old.machine }
     {
@@ -224,7 +225,7 @@ impl Turn {
         requires closed { IsClosed self.old.machine }
         ensures meaning { (X : List (List ℕ)) → let g = story_of (T.game tables.now) X in
             Moves g (λ n r. connections g (turn g n AtDescribe) (turn g n AtFrame) r) self.old result self.new }
-        ensures keeps { Keeps (T.game tables.now) self.old result self.new }
+        ensures keeps { KeepsGame (T.game tables.now) self.old result self.new }
         ensures falls { Falls (work stage.Response self.old) result self.new }
         ensures machine { self.new.machine ≡ self.old.machine }
     {
@@ -243,7 +244,7 @@ impl Turn {
         requires closed { IsClosed self.old.machine }
         ensures meaning { (X : List (List ℕ)) → let g = story_of (T.game tables.now) X in
             Moves g (λ n r. after_left g (turn g n) table acted r) self.old result self.new }
-        ensures keeps { Keeps (T.game tables.now) self.old result self.new }
+        ensures keeps { KeepsGame (T.game tables.now) self.old result self.new }
         ensures falls { Falls (4 * left_of self.old + table_rank table) result self.new }
         ensures machine { self.new.machine ≡ self.old.machine }
     {
@@ -264,7 +265,7 @@ impl Turn {
         requires stops { StopsInTable table turned self.old.machine }
         ensures meaning { (X : List (List ℕ)) → MovesAfter (story_of (T.game tables.now) X) table turned self.old result self.new }
         ensures left { ReadsNone self.old.machine self.new.machine }
-        ensures keeps { Keeps (T.game tables.now) self.old result self.new }
+        ensures keeps { KeepsGame (T.game tables.now) self.old result self.new }
         ensures falls { FallsAfter table turned self.old result self.new }
     {
         match turned {
@@ -316,8 +317,8 @@ impl Turn {
         requires playable { IsPlayable (T.game tables.now) self.old }
         requires closed { IsClosed self.old.machine }
         ensures meaning { (X : List (List ℕ)) → AreRowsOf F.Fn routines.now X → let g = story_of (T.game tables.now) X in
-            Reads g (λ n r. table_done g (turn g n) table (table_read g table r)) self.old result self.new }
-        ensures keeps { Keeps (T.game tables.now) self.old result self.new }
+            ReadsTurn g (λ n r. table_done g (turn g n) table (table_read g table r)) self.old result self.new }
+        ensures keeps { KeepsGame (T.game tables.now) self.old result self.new }
         ensures falls { Falls (4 * left_of self.old + table_rank table) result self.new }
     {
         let turned = self.run_table(tables, routines, table);
@@ -335,8 +336,8 @@ impl Turn {
         requires playable { IsPlayable (T.game tables.now) self.old }
         requires closed { IsClosed self.old.machine }
         ensures meaning { (X : List (List ℕ)) → AreRowsOf F.Fn routines.now X → let g = story_of (T.game tables.now) X in
-            Reads g (λ n r. turn g (suc n) AtDescribe r) self.old result self.new }
-        ensures keeps { Keeps (T.game tables.now) self.old result self.new }
+            ReadsTurn g (λ n r. turn g (suc n) AtDescribe r) self.old result self.new }
+        ensures keeps { KeepsGame (T.game tables.now) self.old result self.new }
         ensures falls { Falls (work stage.Describe self.old) result self.new }
     {
         flags::describe(&mut self.world);
@@ -354,7 +355,7 @@ impl Turn {
         requires closed { IsClosed self.old.machine }
         ensures meaning { (X : List (List ℕ)) → let g = story_of (T.game tables.now) X in
             Moves g (λ n r. turn g (suc n) AtPhrase r) self.old result self.new }
-        ensures keeps { Keeps (T.game tables.now) self.old result self.new }
+        ensures keeps { KeepsGame (T.game tables.now) self.old result self.new }
         ensures falls { Falls (work stage.Phrase self.old) result self.new }
         ensures machine { self.new.machine ≡ self.old.machine }
     {
@@ -383,8 +384,8 @@ impl Turn {
         requires playable { IsPlayable (T.game tables.now) self.old }
         requires closed { IsClosed self.old.machine }
         ensures meaning { (X : List (List ℕ)) → AreRowsOf F.Fn routines.now X → let g = story_of (T.game tables.now) X in
-            Reads g (λ n r. turn g (suc n) (at_stage stage) r) self.old result self.new }
-        ensures keeps { Keeps (T.game tables.now) self.old result self.new }
+            ReadsTurn g (λ n r. turn g (suc n) (at_stage stage) r) self.old result self.new }
+        ensures keeps { KeepsGame (T.game tables.now) self.old result self.new }
         ensures falls { Falls (work stage self.old) result self.new }
     {
         match stage {
@@ -408,7 +409,7 @@ impl Turn {
         requires closed { IsClosed self.old.machine }
         ensures meaning { (X : List (List ℕ)) → AreRowsOf F.Fn routines.now X →
             Plays (story_of (T.game tables.now) X) first self.old (next.Stop result) self.new }
-        ensures keeps { Keeps (T.game tables.now) self.old (next.Stop result) self.new }
+        ensures keeps { KeepsGame (T.game tables.now) self.old (next.Stop result) self.new }
     {
         let mut stage = first;
         loop {

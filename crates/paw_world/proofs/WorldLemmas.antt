@@ -5,7 +5,7 @@ use Rattle.std.proofs.lemmas.List.{length-set, length-map, length-take-le, get_o
 use Rattle.std.proofs.lemmas.Bool.{cases_eq}
 use Rattle.std.proofs.lemmas.Bool.Decides.{nat_tests}
 use Rattle.paw_base.specs.declared.parts.ObjectFacts.{ObjectFacts}
-use Rattle.paw_world.specs.World.{World, Position, flag, with_flag, place, with_place, flags_with, first_carried, opening_places, with_objects_returned, opened, restarted, let_go, taken_up, moved, ramsaved, ramloaded, taken_from, drawn_on, position_of, kept_position, with_kept, keeping, taken_back, IsPosition, IsSavedFor, AreSavedFor, IsWorld}
+use Rattle.paw_world.specs.World.{World, Position, flag, with_flag, place, with_place, flags_with, first_carried, opening_places, with_objects_returned, starting_world, restarted, let_go, taken_up, moved, ramsaved, ramloaded, taken_from, drawn_on, position_of, kept_position, with_kept, keeping, taken_back, IsPosition, IsSavedFor, AreSavedFor, IsWorld}
 use Rattle.paw_world.specs.inner.World.{recalled}
 use Rattle.paw_world.proofs.Kept.{kept_with, kept_alike, none_kept}
 
@@ -101,7 +101,7 @@ length-flags_with : (carried : ℕ) → length (flags_with carried) ≡ 256
 unfolding flags_with
 length-flags_with carried = refl
 
-pub IsWorld-opened : (facts : List ObjectFacts) (locations seed : ℕ) → length facts ≤ 255 → IsWorld (opened facts locations seed)
+pub IsWorld-opened : (facts : List ObjectFacts) (locations seed : ℕ) → length facts ≤ 255 → IsWorld (starting_world facts locations seed)
 IsWorld-opened facts locations seed few = record {
   objects = omega (arith, length-map facts (λ (f : ObjectFacts). f.start));
   facts = sym (length-map facts (λ (f : ObjectFacts). f.start));

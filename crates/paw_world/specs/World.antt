@@ -69,8 +69,8 @@ abbrev pub opening_places : List ObjectFacts → List ℕ
 opening_places facts = map (λ f. f.start) facts
 
 -- the world at the start of a game
-abbrev pub opened : List ObjectFacts → ℕ → ℕ → World
-opened facts locations seed = record {
+abbrev pub starting_world : List ObjectFacts → ℕ → ℕ → World
+starting_world facts locations seed = record {
   facts = facts;
   locations = locations;
   flags = opening_flags facts;

@@ -3,7 +3,7 @@
 ghost use Rattle.std.specs.Prelude.{◌≡◌, ◌+◌, ◌-◌, ◌^◌, ◌<◌, ◌≤◌, length, take, slice_get};
 ghost use Rattle.std.specs.Prelude.{is_some, IsSome, IfSome, MatchOption};
 ghost use Rattle.paw_world.specs.Draws.{random_word};
-ghost use Rattle.paw_world.specs.World.{opened, flag, with_flag, place, moved, ramsaved, ramloaded};
+ghost use Rattle.paw_world.specs.World.{starting_world, flag, with_flag, place, moved, ramsaved, ramloaded};
 ghost use Rattle.paw_world.specs.World.{kept_position, with_kept, keeping, restarted, with_objects_returned};
 ghost use Rattle.paw_world.specs.World.{drawn_on, first_carried, opening_flags, IsWorld};
 ghost use Rattle.paw_world.specs.inner.World.{first_at, saved_flag, saved_place, recalled, kept_flag, kept_place};
@@ -62,7 +62,7 @@ impl World {
     /// The world at the start of a game with these objects, so many locations and this seed.
     pub fn new(facts: &[ObjectFacts], locations: u8, seed: u64) -> World
         requires few { length facts.now ≤ 255 }
-        ensures value { result ≡ opened facts.now locations seed }
+        ensures value { result ≡ starting_world facts.now locations seed }
     {
         World {
             facts: filled(facts),

@@ -12,8 +12,8 @@ abbrev pub IsCode : ℕ → Type 0
 IsCode code = code ≤ LAST_CODE
 
 -- the codes from INVEN on act; those below test
-abbrev pub acts : ℕ → Bool
-acts code = nat_le INVEN code
+abbrev pub is_act : ℕ → Bool
+is_act code = nat_le INVEN code
 
 -- a name filled up with spaces to eight bytes
 abbrev pub filled_up : List ℕ → List ℕ
@@ -24,13 +24,13 @@ abbrev pub before_space : List ℕ → List ℕ
 before_space name = before_first (λ byte. byte == 32) name
 
 -- what the table says of a code
-abbrev pub row_of : ℕ → CondactRow
-row_of code = record {
+abbrev pub condact_row_of : ℕ → CondactRow
+condact_row_of code = record {
   name = filled_up (name_of code);
   first = first_kind code;
   second = second_kind code;
   family = family_of code;
-  acts = acts code;
+  acts = is_act code;
 }
 
 -- the condact of this code has this name, its letters read as capitals

@@ -13,5 +13,5 @@ abbrev pub no_steps : KeptSteps
 no_steps = record { rows = []; count = 0 }
 
 -- one step more, which is kept where fewer than 1,000 are
-abbrev pub noted : StepRow → KeptSteps → KeptSteps
-noted step kept = record { rows = take STEP_LIMIT (kept.rows ++ step ∷ []); count = suc kept.count }
+abbrev pub with_step_noted : StepRow → KeptSteps → KeptSteps
+with_step_noted step kept = record { rows = take STEP_LIMIT (kept.rows ++ step ∷ []); count = suc kept.count }

@@ -1,6 +1,6 @@
 -- The families of the condacts.
 use Rattle.std.specs.Prelude.{ℕ, ◌≡◌, ◌==◌, Bool, List, [], ◌∷◌, count_by, if◌then◌else◌}
-use Rattle.paw_base.specs.inner.Condacts.{IsCode, acts}
+use Rattle.paw_base.specs.inner.Condacts.{IsCode, is_act}
 use Rattle.paw_base.specs.declared.codes.TheConstants.{CHANCE, QUIT, MOVE, NEWTEXT, RESET, EXTERN}
 use Rattle.paw_effects.specs.PlaceTests.{tests_place}
 use Rattle.paw_effects.specs.inner.FlagTests.{tests_flag}
@@ -23,7 +23,7 @@ action_families code =
 
 -- in how many families a code is
 abbrev pub families_of : ℕ → ℕ
-families_of code = count_by (λ in_it. in_it) (if acts code then action_families code else condition_families code)
+families_of code = count_by (λ in_it. in_it) (if is_act code then action_families code else condition_families code)
 
 -- each condact is in one family of its kind, so none is done as another by falling through
 abbrev pub EachHasOneFamily : Type 0

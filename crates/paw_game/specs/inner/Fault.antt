@@ -17,8 +17,8 @@ use Rattle.paw_game.specs.Valid.{is_word, is_text, is_object, is_exits, is_table
 
 -- of a part with this many rows: the most that it may have where it has more, their number where it has fewer than the
 -- least, and else the first bad row
-abbrev pub row_fault : ℕ → ℕ → ℕ → Option ℕ → Option ℕ
-row_fault least most count bad =
+abbrev pub part_row_fault : ℕ → ℕ → ℕ → Option ℕ → Option ℕ
+part_row_fault least most count bad =
     if nat_lt most count then Some most else (if nat_lt count least then Some count else bad)
 
 -- the first row that breaks the rule
@@ -33,19 +33,19 @@ bad_word n before (w ∷ ws) =
 
 -- no letters at all stand below all words, so the first word has only its own rule to keep
 unfoldable pub words_fault : List Word → Option ℕ
-words_fault ws = row_fault 0 WORD_LIMIT (length ws) (bad_word 0 [] ws)
+words_fault ws = part_row_fault 0 WORD_LIMIT (length ws) (bad_word 0 [] ws)
 
 unfoldable pub texts_fault : ℕ → ℕ → List (List ℕ) → Option ℕ
-texts_fault least most texts = row_fault least most (length texts) (first_bad is_text texts)
+texts_fault least most texts = part_row_fault least most (length texts) (first_bad is_text texts)
 
 unfoldable pub objects_fault : List Word → ℕ → List ObjectRow → Option ℕ
-objects_fault ws locations os = row_fault 0 OBJECT_LIMIT (length os) (first_bad (is_object ws locations) os)
+objects_fault ws locations os = part_row_fault 0 OBJECT_LIMIT (length os) (first_bad (is_object ws locations) os)
 
 unfoldable pub exits_fault : List Word → ℕ → List (List Exit) → Option ℕ
-exits_fault ws locations es = row_fault locations locations (length es) (first_bad (is_exits ws locations) es)
+exits_fault ws locations es = part_row_fault locations locations (length es) (first_bad (is_exits ws locations) es)
 
 unfoldable pub tables_fault : GameLists → Option ℕ
-tables_fault g = row_fault TABLE_LEAST TABLE_LIMIT (length g.tables) (first_bad (is_table g) g.tables)
+tables_fault g = part_row_fault TABLE_LEAST TABLE_LIMIT (length g.tables) (first_bad (is_table g) g.tables)
 
 abbrev pub fault_in : GamePart → Option ℕ → Option GameFault
 fault_in p None = None

@@ -18,8 +18,8 @@ AreMarks marks count condacts =
     (k : ℕ) → suc k * 8 < count → (mark : ℕ) × (slice_get marks k ≡ Some mark) × GoesOnAt (suc k * 8) condacts mark
 
 -- every number of a list stands in another at the same place
-abbrev pub Keeps : (old new : List ℕ) → Type 0
-Keeps old new = (k x : ℕ) → slice_get old k ≡ Some x → slice_get new k ≡ Some x
+abbrev pub KeepsPlaces : (old new : List ℕ) → Type 0
+KeepsPlaces old new = (k x : ℕ) → slice_get old k ≡ Some x → slice_get new k ≡ Some x
 
 -- the first of the marks are those of the entry at the front
 abbrev pub MarkEntry : List ℕ → List ℕ → Type 0

@@ -9,7 +9,7 @@ use Rattle.paw_game.specs.Image.{entry_image, table_image}
 use Rattle.paw_image.specs.declared.places.Places.{Places}
 use Rattle.paw_image.specs.declared.places.TableIndex.{TableIndex}
 use Rattle.paw_image.specs.inner.CondactMarks.{IsEnd, IsMarked}
-use Rattle.paw_image.specs.Damage.{Declared, Passing, front, each, number_within, after_text}
+use Rattle.paw_image.specs.Damage.{Declared, Passing, front, each, number_kept, after_text}
 use Rattle.paw_image.specs.Damage.{after_object, after_exits, after_entry, after_table}
 use Rattle.paw_image.specs.inner.Orders.{IsOrder}
 use Rattle.paw_image.specs.Reading.{◌>>=◌}
@@ -42,7 +42,7 @@ entries_after d total (Err left) = []
 
 -- where the entries of the table at the front begin
 unfoldable pub entries_begin : Declared → ℕ → List ℕ → List ℕ
-entries_begin d total bytes = entries_after d total (number_within 0 ENTRY_LIMIT bytes)
+entries_begin d total bytes = entries_after d total (number_kept 0 ENTRY_LIMIT bytes)
 
 -- the same of so many tables
 unfoldable pub tables_begin : Declared → ℕ → ℕ → List ℕ → List (List ℕ)

@@ -39,18 +39,18 @@ IsFault (Err left) = Unit {0}
 -- ---- numbers and bytes ----
 
 -- as many rows as are counted
-unfoldable pub rows_at : {A : Type 0} → (List ℕ → Reading A) → ℕ → List ℕ → Reading (List A)
-rows_at row zero bytes = Ok ([], bytes)
-rows_at row (suc n) bytes = do
+unfoldable pub leading_rows : {A : Type 0} → (List ℕ → Reading A) → ℕ → List ℕ → Reading (List A)
+leading_rows row zero bytes = Ok ([], bytes)
+leading_rows row (suc n) bytes = do
   first ← row bytes
-  others ← rows_at row n first.1
+  others ← leading_rows row n first.1
   Ok (first.0 ∷ others.0, others.1)
 
 -- ---- rows ----
 
 -- five letters, value, class
-unfoldable pub word_at : List ℕ → Reading Word
-word_at bytes = do
+unfoldable pub leading_word : List ℕ → Reading Word
+leading_word bytes = do
   letters ← bytes_at 5 bytes
   value ← byte_at letters.1
   class ← byte_at value.1
@@ -74,8 +74,8 @@ facts_with noun adjective start weight = record {
 }
 
 -- noun, adjective, first place, and the byte of the weight
-unfoldable pub facts_at : List ℕ → Reading ObjectFacts
-facts_at bytes = do
+unfoldable pub leading_facts : List ℕ → Reading ObjectFacts
+leading_facts bytes = do
   noun ← byte_at bytes
   adjective ← byte_at noun.1
   start ← byte_at adjective.1
@@ -86,12 +86,12 @@ facts_at bytes = do
 unfoldable pub object_at : List ℕ → Reading ObjectRow
 object_at bytes = do
   text ← text_at bytes
-  facts ← facts_at text.1
+  facts ← leading_facts text.1
   Ok (record { text = text.0; facts = facts.0 }, facts.1)
 
 -- a verb, and where it leads
-unfoldable pub exit_at : List ℕ → Reading Exit
-exit_at bytes = do
+unfoldable pub leading_exit : List ℕ → Reading Exit
+leading_exit bytes = do
   verb ← byte_at bytes
   to ← byte_at verb.1
   Ok (record { verb = verb.0; to = to.0 }, to.1)
@@ -100,7 +100,7 @@ exit_at bytes = do
 unfoldable pub exits_at : List ℕ → Reading (List Exit)
 exits_at bytes = do
   count ← byte_at bytes
-  rows_at exit_at count.0 count.1
+  leading_rows leading_exit count.0 count.1
 
 -- ---- tables ----
 
@@ -115,27 +115,27 @@ parameter_at kind.Absent bytes = Ok (0, bytes)
 parameter_at _ bytes = byte_at bytes
 
 -- a code, and the parameters that it has
-unfoldable pub condact_at : List ℕ → Reading Condact
-condact_at bytes = do
+unfoldable pub leading_condact : List ℕ → Reading Condact
+leading_condact bytes = do
   code ← code_at bytes
   a ← parameter_at (first_kind code.0) code.1
   b ← parameter_at (second_kind code.0) a.1
   Ok (record { code = code.0; a = a.0; b = b.0 }, b.1)
 
 -- verb, noun, how many condacts, and each
-unfoldable pub entry_at : List ℕ → Reading Entry
-entry_at bytes = do
+unfoldable pub leading_entry : List ℕ → Reading Entry
+leading_entry bytes = do
   verb ← byte_at bytes
   noun ← byte_at verb.1
   count ← byte_at noun.1
-  condacts ← rows_at condact_at count.0 count.1
+  condacts ← leading_rows leading_condact count.0 count.1
   Ok (record { verb = verb.0; noun = noun.0; condacts = condacts.0 }, condacts.1)
 
 -- how many entries, and each
-unfoldable pub table_at : List ℕ → Reading (List Entry)
-table_at bytes = do
+unfoldable pub leading_table : List ℕ → Reading (List Entry)
+leading_table bytes = do
   count ← number_at bytes
-  rows_at entry_at count.0 count.1
+  leading_rows leading_entry count.0 count.1
 
 -- ---- the whole image ----
 
@@ -175,13 +175,13 @@ counts_at bytes = do
 -- the lists, with so many rows; each location has its exits
 unfoldable pub lists_at : Counts → List ℕ → Reading GameLists
 lists_at counts bytes = do
-  words ← rows_at word_at counts.words bytes
-  system ← rows_at text_at counts.system words.1
-  messages ← rows_at text_at counts.messages system.1
-  objects ← rows_at object_at counts.objects messages.1
-  locations ← rows_at text_at counts.locations objects.1
-  exits ← rows_at exits_at counts.locations locations.1
-  tables ← rows_at table_at counts.tables exits.1
+  words ← leading_rows leading_word counts.words bytes
+  system ← leading_rows text_at counts.system words.1
+  messages ← leading_rows text_at counts.messages system.1
+  objects ← leading_rows object_at counts.objects messages.1
+  locations ← leading_rows text_at counts.locations objects.1
+  exits ← leading_rows exits_at counts.locations locations.1
+  tables ← leading_rows leading_table counts.tables exits.1
   Ok (
     record {
       words = words.0;

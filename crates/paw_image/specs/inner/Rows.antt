@@ -6,7 +6,7 @@ use Rattle.paw_base.specs.declared.parts.ObjectFacts.{ObjectFacts}
 use Rattle.paw_game.specs.declared.parts.Exit.{Exit}
 use Rattle.paw_image.specs.Damage.{Passing, each}
 use Rattle.paw_image.specs.Reading.{◌>>=◌, Reading}
-use Rattle.paw_image.specs.inner.Reading.{text_at, facts_at, condact_at}
+use Rattle.paw_image.specs.inner.Reading.{text_at, leading_facts, leading_condact}
 
 -- the value that was read, where there is one
 abbrev pub value_of : {A : Type 0} → Reading A → Option A
@@ -15,7 +15,7 @@ value_of (Err left) = None
 
 -- what is said of an object beside its text, which stands at the front
 abbrev pub after_text_facts : List ℕ → Reading ObjectFacts
-after_text_facts bytes = text_at bytes >>= λ text. facts_at text.1
+after_text_facts bytes = text_at bytes >>= λ text. leading_facts text.1
 
 -- what is said of the object at the front
 unfoldable pub facts_here : List ℕ → Option ObjectFacts
@@ -49,22 +49,22 @@ head_here (verb ∷ noun ∷ bytes) = Some (record { 0 = verb; 1 = noun })
 
 -- the bytes after a condact
 abbrev pub past_condact : List ℕ → Passing
-past_condact bytes = condact_at bytes >>= λ x. Ok x.1
+past_condact bytes = leading_condact bytes >>= λ x. Ok x.1
 
 -- the condact after so many condacts
 abbrev pub condact_after : ℕ → List ℕ → Reading Condact
-condact_after count bytes = each past_condact count bytes >>= condact_at
+condact_after count bytes = each past_condact count bytes >>= leading_condact
 
 -- one of so many condacts
-abbrev pub condact_of : ℕ → ℕ → List ℕ → Option Condact
-condact_of at count bytes = if nat_lt at count then value_of (condact_after at bytes) else None
+abbrev pub condact_among : ℕ → ℕ → List ℕ → Option Condact
+condact_among at count bytes = if nat_lt at count then value_of (condact_after at bytes) else None
 
 -- a condact of the entry at the front
 unfoldable pub nth_condact : ℕ → List ℕ → Option Condact
 nth_condact at [] = None
 nth_condact at (verb ∷ []) = None
 nth_condact at (verb ∷ noun ∷ []) = None
-nth_condact at (verb ∷ noun ∷ count ∷ bytes) = condact_of at count bytes
+nth_condact at (verb ∷ noun ∷ count ∷ bytes) = condact_among at count bytes
 
 -- a row up to its rest
 abbrev pub up_to : List ℕ → Passing → Option (List ℕ)

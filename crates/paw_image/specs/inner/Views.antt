@@ -29,8 +29,8 @@ or_no_game (Err left) = record {
 }
 
 -- the game whose image the bytes are
-unfoldable pub game_of : List ℕ → GameLists
-game_of bytes = or_no_game (all_of bytes)
+unfoldable pub game_read : List ℕ → GameLists
+game_read bytes = or_no_game (all_of bytes)
 
 -- ---- where the lists begin ----
 
@@ -84,14 +84,14 @@ AreMarked bytes p = AllByRecursion (IsMarked bytes) p.tables.items
 
 -- bytes that are the image of a game; its counts and words; where its rows begin; its entries in order, and their marks
 pub record IsIndex (bytes : List ℕ) (counts : Counts) (words : List Word) (p : Places) : Type 0 where
-  pub image : IsImage bytes (game_of bytes)
-  pub counted : counts ≡ counts_of (game_of bytes)
-  pub spelled : words ≡ (game_of bytes).words
-  pub system : p.system.items ≡ rows_begin (game_of bytes) part.System
-  pub messages : p.messages.items ≡ rows_begin (game_of bytes) part.Messages
-  pub objects : p.objects.items ≡ rows_begin (game_of bytes) part.Objects
-  pub locations : p.locations.items ≡ rows_begin (game_of bytes) part.Locations
-  pub exits : p.exits.items ≡ places exits_image (exits_begin (game_of bytes)) (game_of bytes).exits
-  pub tables : entries_of p.tables.items ≡ entry_places (tables_begin_at (game_of bytes)) (game_of bytes).tables
+  pub image : IsImage bytes (game_read bytes)
+  pub counted : counts ≡ counts_of (game_read bytes)
+  pub spelled : words ≡ (game_read bytes).words
+  pub system : p.system.items ≡ rows_begin (game_read bytes) part.System
+  pub messages : p.messages.items ≡ rows_begin (game_read bytes) part.Messages
+  pub objects : p.objects.items ≡ rows_begin (game_read bytes) part.Objects
+  pub locations : p.locations.items ≡ rows_begin (game_read bytes) part.Locations
+  pub exits : p.exits.items ≡ places exits_image (exits_begin (game_read bytes)) (game_read bytes).exits
+  pub tables : entries_of p.tables.items ≡ entry_places (tables_begin_at (game_read bytes)) (game_read bytes).tables
   pub ordered : AreOrdered bytes p
   pub marked : AreMarked bytes p

@@ -2,10 +2,10 @@
 use Rattle.std.specs.Prelude.{ℕ, ◌-◌, List, [], length, Option, Some, None, slice_get}
 use Rattle.paw_game.specs.declared.parts.Word.{Word}
 
-abbrev pub letters_of : Option Word → List ℕ
-letters_of None = []
-letters_of (Some w) = w.letters
+abbrev pub letters_if_word : Option Word → List ℕ
+letters_if_word None = []
+letters_if_word (Some w) = w.letters
 
 -- the letters of the last word; none where there is no word
 abbrev pub last_letters : List Word → List ℕ
-last_letters ws = letters_of (slice_get ws (length ws - 1))
+last_letters ws = letters_if_word (slice_get ws (length ws - 1))

@@ -9,7 +9,7 @@ use Rattle.paw_journal.specs.declared.journal.Journal.{Journal}
 use Rattle.paw_journal.specs.declared.refusal.JournalRefusal.{JournalRefusal}
 use Rattle.paw_journal.specs.declared.refusal.JournalRefusal.TheVariants as refusal
 use Rattle.paw_journal.specs.Session.{Recovered, Unmade, Damaged, Shown, recover, chosen, kept_digest}
-use Rattle.paw_journal.specs.inner.Session.{showing}
+use Rattle.paw_journal.specs.inner.Session.{session_shown}
 use Rattle.paw_journal.specs.inner.Room.{Room, KeepsSlots, slot_number}
 
 -- A store is attached, and nothing is unsynced: a crash leaves just its bytes.
@@ -19,26 +19,26 @@ pub record IsAtRest (s : Standing) : Type 0 where
 
 -- The attached store is at rest and holds the session of this journal, whose state and piece stand in the room beside
 -- the states of both slots.
-pub record Keeps (journal : Journal) (room : Room) (s : Standing) : Type 0 where
+pub record KeptIn (journal : Journal) (room : Room) (s : Standing) : Type 0 where
   pub rests : IsAtRest s
   pub chosen : chosen s.disk.bytes ≡ slot_number journal.slot
-  pub shown : recover s.disk.bytes ≡ showing (kept_digest s.disk.bytes) room.state room.piece
+  pub shown : recover s.disk.bytes ≡ session_shown (kept_digest s.disk.bytes) room.state room.piece
   pub slots : KeepsSlots room s.disk.bytes
 
 -- Why there is no session of this game, by what the store's bytes stand for. A stage call that failed tells nothing of
 -- the store.
-abbrev pub IsRefused : Recovered → List ℕ → JournalRefusal → Type 0
-IsRefused r game (refusal.Unmade n mark) = r ≡ Unmade n mark
-IsRefused r game (refusal.Damaged part at) = r ≡ Damaged part at
-IsRefused r game (refusal.WrongGame kept found) =
+abbrev pub IsSessionRefused : Recovered → List ℕ → JournalRefusal → Type 0
+IsSessionRefused r game (refusal.Unmade n mark) = r ≡ Unmade n mark
+IsSessionRefused r game (refusal.Damaged part at) = r ≡ Damaged part at
+IsSessionRefused r game (refusal.WrongGame kept found) =
     (state : List ℕ) × (piece : List ℕ) × (r ≡ Shown kept state piece) × (kept ≢ game) × (found ≡ game)
-IsRefused r game (refusal.Outside c) = Unit {0}
+IsSessionRefused r game (refusal.Outside c) = Unit {0}
 
 -- What a search for the session of a game answers: the session, of which state and piece then stand in the room, or why
 -- there is none.
 abbrev pub Finds : Recovered → List ℕ → Room → Result Journal JournalRefusal → Type 0
-Finds r game room (Ok journal) = r ≡ showing game room.state room.piece
-Finds r game room (Err e) = IsRefused r game e
+Finds r game room (Ok journal) = r ≡ session_shown game room.state room.piece
+Finds r game room (Err e) = IsSessionRefused r game e
 
 -- A refusal that names a stage call names a read: a search makes no other call.
 abbrev pub IsCaused : JournalRefusal → Type 0
@@ -48,9 +48,9 @@ IsCaused (refusal.Damaged part at) = Unit {0}
 IsCaused (refusal.WrongGame kept found) = Unit {0}
 
 -- The stage call that failed, by what a call answers.
-abbrev pub failed_call : {A : Type 0} → Result A StageCall → Option StageCall
-failed_call (Ok answer) = None
-failed_call (Err c) = Some c
+abbrev pub failed_stage_call : {A : Type 0} → Result A StageCall → Option StageCall
+failed_stage_call (Ok answer) = None
+failed_stage_call (Err c) = Some c
 
 abbrev pub outside : JournalRefusal → Option StageCall
 outside (refusal.Outside c) = Some c

@@ -4,10 +4,10 @@ use Rattle.paw_journal.specs.declared.layout.Slot.{Slot}
 use Rattle.paw_journal.specs.declared.layout.Slot.TheVariants as which
 use Rattle.paw_journal.specs.declared.drafting.SlotState.{SlotState}
 use Rattle.paw_stage.specs.Stage.{Standing}
-use Rattle.paw_journal.specs.Session.{slot, is_second, number_at, slot_state, slot_shows}
+use Rattle.paw_journal.specs.Session.{slot, is_second, two_byte_number, slot_state, slot_shows}
 use Rattle.paw_journal.specs.inner.Session.{has_state}
 use Rattle.paw_journal.specs.Session.{stretch, piece_length}
-use Rattle.paw_journal.specs.inner.Session.{showing}
+use Rattle.paw_journal.specs.inner.Session.{session_shown}
 
 -- The number of a slot.
 abbrev pub slot_number : Slot → ℕ
@@ -16,7 +16,7 @@ slot_number which.Second = 1
 
 -- The state of a slot, with the number of its change records.
 abbrev pub state_in : List ℕ → SlotState
-state_in bytes = record { records = number_at 0 bytes; state = slot_state bytes }
+state_in bytes = record { records = two_byte_number 0 bytes; state = slot_state bytes }
 
 -- The same, for a commit to go on from; none where it has no state, or is
 -- of version 1.
@@ -38,9 +38,9 @@ kept_of which.First room = room.first
 kept_of which.Second room = room.second
 
 -- A room that keeps another state of a slot.
-abbrev pub with_kept : Slot → Option SlotState → Room → Room
-with_kept which.First kept room = record room { first = kept }
-with_kept which.Second kept room = record room { second = kept }
+abbrev pub with_slot_kept : Slot → Option SlotState → Room → Room
+with_slot_kept which.First kept room = record room { first = kept }
+with_slot_kept which.Second kept room = record room { second = kept }
 
 -- A room that shows this state of the slot that was read, and the slot's piece, whose length the state tells.
 abbrev pub with_state : List ℕ → Room → Room
@@ -59,12 +59,12 @@ HasRead which s room = room.slot ≡ slot (slot_number which) s.disk.bytes
 
 -- The room shows what the slot shows that was read.
 abbrev pub ShowsSlot : List ℕ → Room → Room → Type 0
-ShowsSlot digest old new = slot_shows digest old.slot ≡ showing digest new.state new.piece
+ShowsSlot digest old new = slot_shows digest old.slot ≡ session_shown digest new.state new.piece
 
 -- The room keeps the state of this slot, which was read, and may show another state and piece.
 abbrev pub KeepsRead : Slot → Room → Room → Type 0
 KeepsRead which old new =
-    new ≡ with_kept which (kept_slot old.slot) (record old { state = new.state; piece = new.piece })
+    new ≡ with_slot_kept which (kept_slot old.slot) (record old { state = new.state; piece = new.piece })
 
 -- A room keeps the states of both slots of a store.
 pub record KeepsSlots (room : Room) (bytes : List ℕ) : Type 0 where

@@ -4,16 +4,16 @@ use Rattle.std.specs.Prelude.{◌≡◌, ◌&&◌, ℕ, ◌+◌, ◌-◌, Bool, 
 use Rattle.std.specs.Prelude.{◌∷◌, ◌++◌, length, take, drop}
 use Rattle.paw_base.specs.Bytes.{zeros}
 use Rattle.paw_journal.specs.declared.refusal.SessionPart.TheVariants as part
-use Rattle.paw_journal.specs.Session.{number_at, made_mark, mark, slot, most_changes, base, slot_changes}
+use Rattle.paw_journal.specs.Session.{two_byte_number, made_mark, mark, slot, most_changes, base, slot_changes}
 use Rattle.paw_journal.specs.Session.{first_unsound, state_length, Recovered, Damaged, Shown, slot_shows}
 
 -- A slot's state is its base with its change records applied. It has one where these are few enough, and each is sound.
 abbrev pub has_state : List ℕ → Bool
-has_state bytes = nat_le (number_at 0 bytes) most_changes && is_none (first_unsound (slot_changes bytes))
+has_state bytes = nat_le (two_byte_number 0 bytes) most_changes && is_none (first_unsound (slot_changes bytes))
 
 -- What the session of the game with this digest shows that has this state and this piece.
-abbrev pub showing : List ℕ → List ℕ → List ℕ → Recovered
-showing digest state piece = Shown digest (take state_length state) piece
+abbrev pub session_shown : List ℕ → List ℕ → List ℕ → Recovered
+session_shown digest state piece = Shown digest (take state_length state) piece
 
 -- A slot with these bytes is damaged at this place.
 abbrev pub IsDamagedAt : List ℕ → List ℕ → ℕ → Type 0

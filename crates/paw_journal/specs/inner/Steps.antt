@@ -10,7 +10,7 @@ use Rattle.paw_journal.specs.declared.finding.Header.{Header}
 use Rattle.paw_journal.specs.Session.{session_length, header_length, slot_length, made_mark, mark, chosen, version}
 use Rattle.paw_journal.specs.Session.{is_version}
 use Rattle.paw_journal.specs.Session.{kept_digest, changes, changed, first_unsound, slot, recover}
-use Rattle.paw_journal.specs.inner.Session.{showing}
+use Rattle.paw_journal.specs.inner.Session.{session_shown}
 use Rattle.paw_journal.specs.inner.Session.{made_session}
 use Rattle.paw_journal.specs.inner.Room.{slot_number, kept_slot}
 use Rattle.paw_journal.specs.inner.Written.{differing, most_written}
@@ -75,12 +75,12 @@ abbrev pub ChoosesSlot : Slot → Standing → Standing → Type 0
 ChoosesSlot which old new = recover new.disk.bytes ≡ shown_by (slot_number which) old
 
 -- The session shows this state and this piece, of the game of this digest.
-abbrev pub Shows : List ℕ → List ℕ → List ℕ → Standing → Type 0
-Shows digest state piece s = recover s.disk.bytes ≡ showing digest state piece
+abbrev pub ShowsIn : List ℕ → List ℕ → List ℕ → Standing → Type 0
+ShowsIn digest state piece s = recover s.disk.bytes ≡ session_shown digest state piece
 
 -- The session shows this state and this piece, of the game that it is of.
 abbrev pub ShowsNext : List ℕ → List ℕ → Standing → Standing → Type 0
-ShowsNext state piece old new = Shows (kept_digest old.disk.bytes) state piece new
+ShowsNext state piece old new = ShowsIn (kept_digest old.disk.bytes) state piece new
 
 -- The store holds the session as it is made.
 abbrev pub HoldsMade : List ℕ → List ℕ → List ℕ → Standing → Type 0

@@ -6,7 +6,7 @@ use Rattle.paw_stage.specs.Moments.{Moment}
 use Rattle.paw_journal.specs.declared.layout.Slot.{Slot}
 use Rattle.paw_journal.specs.declared.store.Attached.{Attached}
 use Rattle.paw_journal.specs.Session.{Recovered, IsUnmade, recover, recover_by, kept_digest}
-use Rattle.paw_journal.specs.inner.Session.{showing, marked}
+use Rattle.paw_journal.specs.inner.Session.{session_shown, marked}
 use Rattle.paw_journal.specs.inner.Room.{slot_number}
 
 -- All but the attached store stands as it did. Where its file held the bytes of the store, it still does.
@@ -67,7 +67,7 @@ LeavesUnmadeOr made old m = InStore old (Leaves (IsUnmadeOr made)) m
 
 -- A crash leaves no session, or the one that is made with this state and this piece.
 abbrev pub LeavesMade : List ℕ → List ℕ → List ℕ → Standing → Moment → Type 0
-LeavesMade digest state piece old m = LeavesUnmadeOr (showing digest state piece) old m
+LeavesMade digest state piece old m = LeavesUnmadeOr (session_shown digest state piece) old m
 
 -- A crash leaves no session, or the one that stands there once it is marked.
 abbrev pub LeavesMarked : Standing → Moment → Type 0
@@ -85,4 +85,4 @@ LeavesSlot which old m =
 -- A crash leaves what the session showed before, or this state and this piece of its game.
 abbrev pub LeavesOldOr : List ℕ → List ℕ → Standing → Moment → Type 0
 LeavesOldOr state piece old m =
-    InStore old (Leaves (IsEither (recover old.disk.bytes) (showing (kept_digest old.disk.bytes) state piece))) m
+    InStore old (Leaves (IsEither (recover old.disk.bytes) (session_shown (kept_digest old.disk.bytes) state piece))) m

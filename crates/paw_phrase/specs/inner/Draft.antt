@@ -15,9 +15,9 @@ part_of_word None = part.Unknown
 part_of_word (Some word) = if word.1 == CONJUNCTION_CLASS then part.Break else part.Word word.0 word.1
 
 -- what a token or a separator is in a phrase
-abbrev pub part_of : GameLists → Option (List ℕ) → Part
-part_of g None = part.Break
-part_of g (Some letters) = part_of_word (word_at g letters)
+abbrev pub phrase_part_of : GameLists → Option (List ℕ) → Part
+phrase_part_of g None = part.Break
+phrase_part_of g (Some letters) = part_of_word (word_at g letters)
 
 -- a phrase that has begun ends at a break
 abbrev pub past_break : Found → Draft → Option Draft
@@ -42,10 +42,10 @@ abbrev pub started : ℕ → ℕ → Draft
 started noun adjective = record { found = found.Empty; words = blank noun adjective }
 
 -- what a draft comes to where its phrase ends, with the bytes behind it
-abbrev pub outcome_of : ℕ → Found → Draft → List ℕ → Parsed
-outcome_of earlier found.Sentence d rest = IsSentence (finished earlier d.words) rest
-outcome_of earlier found.Nothing d rest = IsUnknown rest
-outcome_of earlier found.Empty d rest = IsNoPhrase
+abbrev pub found_outcome : ℕ → Found → Draft → List ℕ → Parsed
+found_outcome earlier found.Sentence d rest = IsSentence (finished earlier d.words) rest
+found_outcome earlier found.Nothing d rest = IsUnknown rest
+found_outcome earlier found.Empty d rest = IsNoPhrase
 
-abbrev pub outcome : ℕ → Draft → List ℕ → Parsed
-outcome earlier d rest = outcome_of earlier d.found d rest
+abbrev pub draft_outcome : ℕ → Draft → List ℕ → Parsed
+draft_outcome earlier d rest = found_outcome earlier d.found d rest

@@ -30,7 +30,7 @@ use Rattle.paw_play.specs.declared.PlayEnd.{PlayEnd}
 use Rattle.paw_play.specs.declared.PlayEnd.TheVariants as end
 use Rattle.paw_play.specs.declared.TheConstants.{MOST_EVENTS}
 use Rattle.paw_play.specs.Session.{kept_bytes}
-use Rattle.paw_play.specs.Walk.{Reading, first_lines, played, joined, text_before, Walks}
+use Rattle.paw_play.specs.Walk.{EndingOf, first_lines, played, joined, text_before, Walks}
 use Rattle.paw_play.specs.Traces.{step_line, more_line, traced_pieces, traced}
 use Rattle.paw_play.specs.Keeping.{InMakingOf, RestsWith}
 use Rattle.paw_play.specs.Play.{Played, KeptBy, InPlay, PlaysOn, PlaysIn, with_store}
@@ -43,7 +43,7 @@ seat_state events p = kept_bytes (state_of p.world p.machine p.pending (prompt_a
 
 -- the walk is at a prompt: n lines were taken, these pieces were shown, and whatever lines come, the reading of all
 -- goes on from the player
-pub record IsWalking {F : Type 0} (g : Story) (whole : Reading) (old now : Standing) (seat : Seat F) (n : ℕ) : Type 0 where
+pub record IsWalking {F : Type 0} (g : Story) (whole : EndingOf) (old now : Standing) (seat : Seat F) (n : ℕ) : Type 0 where
   pub prompt : Prompt
   pub waits : seat.last ≡ step.Waits prompt
   pub pieces : List (List ℕ)
@@ -80,12 +80,12 @@ Told old new piece s (Some (end.Outside call.Show)) =
 Told old new piece s (Some _) = ⊥
 
 -- after one line more: the walk is at the next prompt, or has come to this
-abbrev pub WalksOn : {F : Type 0} → Story → Reading → ℕ → Standing → Standing → Seat F → ℕ → Option PlayEnd → Type 0
+abbrev pub WalksOn : {F : Type 0} → Story → EndingOf → ℕ → Standing → Standing → Seat F → ℕ → Option PlayEnd → Type 0
 WalksOn g whole most first now seat n None = IsWalking g whole first now seat (suc n)
 WalksOn g whole most first now seat n (Some o) = Walks whole most first now o
 
 -- after piece 0
-abbrev pub WalksFrom : {F : Type 0} → Story → Reading → ℕ → Standing → Standing → Seat F → Option PlayEnd → Type 0
+abbrev pub WalksFrom : {F : Type 0} → Story → EndingOf → ℕ → Standing → Standing → Seat F → Option PlayEnd → Type 0
 WalksFrom g whole most old now seat None = IsWalking g whole old now seat 0
 WalksFrom g whole most old now seat (Some o) = Walks whole most old now o
 
@@ -100,7 +100,7 @@ abbrev pub seat_text : {F : Type 0} → Seat F → List ℕ
 seat_text p = kept_text p.machine.steps ++ p.piece
 
 -- the trace is at a prompt: as a walk, but that each piece was shown behind the text of its steps
-pub record IsTracing {F : Type 0} (g : Story) (whole : Reading) (old now : Standing) (seat : Seat F) (n : ℕ) : Type 0 where
+pub record IsTracing {F : Type 0} (g : Story) (whole : EndingOf) (old now : Standing) (seat : Seat F) (n : ℕ) : Type 0 where
   pub prompt : Prompt
   pub waits : seat.last ≡ step.Waits prompt
   pub pieces : List (List ℕ)
@@ -112,12 +112,12 @@ pub record IsTracing {F : Type 0} (g : Story) (whole : Reading) (old now : Stand
   pub stands : now ≡ played old n (joined (traced_pieces pieces traces))
 
 -- after one line more: the trace is at the next prompt, or has come to this
-abbrev pub TracesOn : {F : Type 0} → Story → Reading → ℕ → Standing → Standing → Seat F → ℕ → Option PlayEnd → Type 0
+abbrev pub TracesOn : {F : Type 0} → Story → EndingOf → ℕ → Standing → Standing → Seat F → ℕ → Option PlayEnd → Type 0
 TracesOn g whole most old now seat n None = IsTracing g whole old now seat (suc n)
 TracesOn g whole most old now seat n (Some o) = Walks (traced whole) most old now o
 
 -- after piece 0: the trace is at the first prompt, or has come to this
-abbrev pub TracesFrom : {F : Type 0} → Story → Reading → ℕ → Standing → Standing → Seat F → Option PlayEnd → Type 0
+abbrev pub TracesFrom : {F : Type 0} → Story → EndingOf → ℕ → Standing → Standing → Seat F → Option PlayEnd → Type 0
 TracesFrom g whole most old now seat None = IsTracing g whole old now seat 0
 TracesFrom g whole most old now seat (Some o) = Walks (traced whole) most old now o
 

@@ -24,11 +24,11 @@ pub record Held : Type 0 where
   pub machine : OpenTables
   pub piece : List ℕ
 
-abbrev pub held : World → PendingLine → OpenTables → List ℕ → Held
-held w p m piece = record { world = w; pending = p; machine = m; piece = piece }
+abbrev pub having : World → PendingLine → OpenTables → List ℕ → Held
+having w p m piece = record { world = w; pending = p; machine = m; piece = piece }
 
 -- a run shows what is held, with the condacts that the open piece has read
-pub record Shows (r : Run) (h : Held) : Type 0 where
+pub record ShowsHeld (r : Run) (h : Held) : Type 0 where
   pub world : r.world ≡ h.world
   pub pending : r.pending ≡ h.pending.bytes
   pub earlier : r.earlier ≡ h.pending.earlier
@@ -37,8 +37,8 @@ pub record Shows (r : Run) (h : Held) : Type 0 where
   pub read : HasRead r.read h.machine
 
 -- the run with what is held now
-abbrev pub showing : Held → Run → Run
-showing h r = record r {
+abbrev pub run_held : Held → Run → Run
+run_held h r = record r {
   world = h.world;
   pending = h.pending.bytes;
   earlier = h.pending.earlier;
@@ -57,9 +57,9 @@ to_come lines r = record r { events = lines }
 -- ---- going on ----
 
 -- going on in the tables that are open, the innermost first
-abbrev pub going_on : Story → List Frame → Run → Out
-going_on g [] r = Left false r
-going_on g (f ∷ fs) r = along g fs (rest g (length fs) f.table f.entry f.at f.acted r)
+abbrev pub going_in : Story → List Frame → Run → Out
+going_in g [] r = Left false r
+going_in g (f ∷ fs) r = along g fs (rest g (length fs) f.table f.entry f.at f.acted r)
 
 -- the closed pieces, what was read in them, and the lines to come are the same
 pub record SamePast (old new : Run) : Type 0 where
@@ -85,9 +85,9 @@ ComesTo g (turned.TooDeep u) fs r x = TableHalts (CallsTooDeep u) r x
 -- were read besides, of which the machine keeps the steps, so that whatever lines come, going on comes to what is said
 abbrev pub RunsTo : Story → Held → Turned → Held → Type 0
 RunsTo g old t new =
-    (r : Run) → Shows r old → (steps : List Step) × HasRead (r.read ++ steps) new.machine
+    (r : Run) → ShowsHeld r old → (steps : List Step) × HasRead (r.read ++ steps) new.machine
     × ((lines : List (List ℕ)) →
-    ComesTo g t new.machine.frames (to_come lines (showing new (with_steps steps r))) (going_on g old.machine.frames (to_come lines r)))
+    ComesTo g t new.machine.frames (to_come lines (run_held new (with_steps steps r))) (going_in g old.machine.frames (to_come lines r)))
 
 -- after a stop the machine waits, or nothing is open
 abbrev pub IsStopped : Turned → OpenTables → Type 0
@@ -109,11 +109,11 @@ abbrev pub AnswersQuit : Bool → List Frame → List Frame → Type 0
 AnswersQuit agrees old new =
     (g : Story) (line : List ℕ) (lines : List (List ℕ)) (r : Run) →
     Valid g.game → is_ignored r.world line ≡ false → is_yes (reply line) ≡ agrees →
-    on_path g prompt.Quit 0 (reverse old) (to_come (line ∷ lines) r) ≡ going_on g new (heard line (to_come lines r))
+    on_path g prompt.Quit 0 (reverse old) (to_come (line ∷ lines) r) ≡ going_in g new (heard line (to_come lines r))
 
 -- so is going on from a key with any line
 abbrev pub AnswersKey : List Frame → List Frame → Type 0
 AnswersKey old new =
     (g : Story) (line : List ℕ) (lines : List (List ℕ)) (r : Run) →
     is_ignored r.world line ≡ false →
-    on_path g prompt.Key 0 (reverse old) (to_come (line ∷ lines) r) ≡ going_on g new (heard line (to_come lines r))
+    on_path g prompt.Key 0 (reverse old) (to_come (line ∷ lines) r) ≡ going_in g new (heard line (to_come lines r))

@@ -15,18 +15,18 @@ use Rattle.paw_reading.specs.Reading.{after_action, step_at, noted, reads_one}
 use Rattle.paw_reading.specs.inner.GoingOn.{along}
 use Rattle.paw_process.specs.OpenTables.{OpenTables}
 use Rattle.paw_process.specs.inner.OpenTables.{HasRead, ReadsStep, IsReading}
-use Rattle.paw_process.specs.inner.Meaning.{Held, showing, with_steps, to_come, going_on, ComesTo, IsStopped}
+use Rattle.paw_process.specs.inner.Meaning.{Held, run_held, with_steps, to_come, going_in, ComesTo, IsStopped}
 use Rattle.paw_process.specs.declared.Turned.{Turned}
 
 -- a reading goes on in these frames with this run, or the machine has stopped at what it comes to
 abbrev pub Continues : Story → Out → Option Turned → List Frame → Run → Type 0
-Continues g x None fs r = x ≡ going_on g fs r
+Continues g x None fs r = x ≡ going_in g fs r
 Continues g x (Some t) fs r = ComesTo g t fs r x
 
 -- the machine may read on, or stands as it does after a stop
-abbrev pub Stands : Option Turned → OpenTables → Type 0
-Stands None m = IsReading m
-Stands (Some t) m = IsStopped t m
+abbrev pub StandsOrTurned : Option Turned → OpenTables → Type 0
+StandsOrTurned None m = IsReading m
+StandsOrTurned (Some t) m = IsStopped t m
 
 -- the run with this open loop
 abbrev pub turning_as : Option OpenLoop → Run → Run
@@ -45,8 +45,8 @@ abbrev pub running : World → PendingLine → Option OpenLoop → Run → Run
 running w p o r = record r { world = w; pending = p.bytes; earlier = p.earlier; turning = o }
 
 -- what the reading comes to where the innermost table, above these frames, comes to this: its level's open loop goes on
-abbrev pub settled : Story → List Frame → Out → Out
-settled g fs x = along g fs (again (length fs) (looped g (deeper g (length fs)) (length fs)) x)
+abbrev pub resolved : Story → List Frame → Out → Out
+resolved g fs x = along g fs (again (length fs) (looped g (deeper g (length fs)) (length fs)) x)
 
 -- reading on in the innermost table at the entry after this frame's
 abbrev pub next_of : Story → List Frame → Frame → Bool → Run → Out
@@ -59,12 +59,12 @@ past_of g fs f = plain g (deeper g (length fs)) (length fs) f.table f.entry (suc
 -- reading the condacts of this frame's entry from its condact on
 abbrev pub reading_at : Story → List Frame → Frame → Run → Out
 reading_at g fs f r =
-    settled g fs (inside g (deeper g (length fs)) (length fs) f.table f.entry f.at f.acted r)
+    resolved g fs (inside g (deeper g (length fs)) (length fs) f.table f.entry f.at f.acted r)
 
 -- going on in the innermost table after an action
 abbrev pub acted_at : Story → List Frame → Frame → Effect → Run → Out
 acted_at g fs f e r =
-    settled g fs (after_action g (deeper g (length fs)) (length fs) f (next_of g fs f) (past_of g fs f) e r)
+    resolved g fs (after_action g (deeper g (length fs)) (length fs) f (next_of g fs f) (past_of g fs f) e r)
 
 -- a loop of the innermost table takes the next of the last n objects
 abbrev pub turning_at : Story → List Frame → OpenLoop → ℕ → Run → Out
@@ -74,22 +74,22 @@ turning_at g fs l n r =
 
 -- Reading what x says comes from what was held to what is held now: there are the condacts that were read, of which the
 -- machine keeps the steps, so that whatever lines come the machine goes on to what x is, or has stopped at it
-abbrev pub Reads : Story → (Run → Out) → Held → Option Turned → Held → Type 0
-Reads g x old t new =
+abbrev pub ReadsTable : Story → (Run → Out) → Held → Option Turned → Held → Type 0
+ReadsTable g x old t new =
     (r : Run) → HasRead r.read old.machine → (steps : List Step) × HasRead (r.read ++ steps) new.machine
     × ((lines : List (List ℕ)) →
-    Continues g (x (to_come lines (showing old r))) t new.machine.frames (to_come lines (showing new (with_steps steps r))))
+    Continues g (x (to_come lines (run_held old r))) t new.machine.frames (to_come lines (run_held new (with_steps steps r))))
 
 -- reading one condact of this frame
 abbrev pub one_at : Story → List Frame → Frame → Condact → Run → Out
 one_at g fs f c r =
-    settled g fs (reads_one g (deeper g (length fs)) (length fs) f (next_of g fs f) (past_of g fs f) c r)
+    resolved g fs (reads_one g (deeper g (length fs)) (length fs) f (next_of g fs f) (past_of g fs f) c r)
 
 -- reading it comes from what was held to what is held now: it is noted with yes or no, and so it is in every run
 abbrev pub ReadsOne : Story → List Frame → Frame → Condact → Held → Option Turned → Held → Type 0
 ReadsOne g fs f c old t new =
     (passed : Bool) × ReadsStep (step_at f c passed) old.machine new.machine × ((r : Run) →
-    Continues g (one_at g fs f c (showing old r)) t new.machine.frames (noted f c passed (showing new r)))
+    Continues g (one_at g fs f c (run_held old r)) t new.machine.frames (noted f c passed (run_held new r)))
 
 -- where reading goes on after QUIT's question: at yes at the next condact, at no past the table, as after DONE
 abbrev pub after_quit : Bool → Frame → Frame

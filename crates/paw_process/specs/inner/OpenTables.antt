@@ -1,7 +1,7 @@
 -- The tables that are open: words that contracts between crates and proofs use beside those of specs/OpenTables.antt.
 use Rattle.std.specs.Prelude.{◌≡◌, ℕ, ◌+◌, ◌<◌, ◌≤◌, List, [], ◌∷◌, Option, Some, None, length, IfSome}
 use Rattle.paw_base.specs.declared.limits.TheConstants.{ENTRY_LIMIT, CONDACT_LIMIT, READ_LIMIT}
-use Rattle.paw_base.specs.inner.Steps.{kept_steps, noted}
+use Rattle.paw_base.specs.inner.Steps.{kept_steps, with_step_noted}
 use Rattle.paw_effects.specs.declared.act.Prompt.{Prompt}
 use Rattle.paw_reading.specs.declared.places.Frame.{Frame}
 use Rattle.paw_reading.specs.declared.places.OpenLoop.{OpenLoop}
@@ -22,7 +22,7 @@ pub record ReadsNone (old new : OpenTables) : Type 0 where
 -- one was read, with this step
 pub record ReadsStep (step : Step) (old new : OpenTables) : Type 0 where
   pub left : old.left ≡ new.left + 1
-  pub steps : new.steps ≡ noted step old.steps
+  pub steps : new.steps ≡ with_step_noted step old.steps
 
 -- the frames below the innermost
 abbrev pub below : List Frame → List Frame

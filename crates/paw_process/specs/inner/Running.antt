@@ -7,12 +7,12 @@ use Rattle.paw_routines.specs.Routines.{AreRowsOf}
 use Rattle.paw_effects.specs.Built.{IsOf}
 use Rattle.paw_effects.specs.Story.{story_of}
 use Rattle.paw_process.specs.inner.OpenTables.{IsReading}
-use Rattle.paw_process.specs.inner.Meaning.{Held, going_on}
-use Rattle.paw_process.specs.inner.Moves.{Reads}
+use Rattle.paw_process.specs.inner.Meaning.{Held, going_in}
+use Rattle.paw_process.specs.inner.Moves.{ReadsTable}
 
 -- the machine has read on from what was held at first to what is held now, and may read on
 pub record IsRunning {F : Type 0} (calls : Shared F (ℕ × (ℕ × Unit {0})) ℕ) (routines : Routines F) (g : GameLists) (first now : Held) : Type 0 where
-  pub reads : (X : List (List ℕ)) → AreRowsOf calls routines X → Reads (story_of g X) (going_on (story_of g X) first.machine.frames) first None now
+  pub reads : (X : List (List ℕ)) → AreRowsOf calls routines X → ReadsTable (story_of g X) (going_in (story_of g X) first.machine.frames) first None now
   pub reading : IsReading now.machine
   pub game : IsOf g now.world
   pub draws : now.world.draws + now.machine.left ≤ first.world.draws + first.machine.left

@@ -35,8 +35,8 @@ pub record HasNone (p : ℕ) (d : Spelt) (ls : List (List ℕ)) : Type 0 where
 abbrev pub FirstFault : List ℕ → ℕ → SourceKind → Type 0
 FirstFault source n k = HasFault (count_by begins_table (lines_of source)) nothing_yet (lines_of source) n k
 
-abbrev pub NoFault : List ℕ → Type 0
-NoFault source = HasNone (count_by begins_table (lines_of source)) nothing_yet (lines_of source)
+abbrev pub HasNoFault : List ℕ → Type 0
+HasNoFault source = HasNone (count_by begins_table (lines_of source)) nothing_yet (lines_of source)
 
 -- of a source that isn't too long the first line with a fault is named, by its number
 abbrev pub NamesTheFirst : Type 0
@@ -44,7 +44,7 @@ NamesTheFirst = (source : List ℕ) (n : ℕ) (k : SourceKind) → length source
 
 -- what is named is the first line with a fault, or, where no line has one, the line after the last
 abbrev pub IsNamedRightly : Type 0
-IsNamedRightly = (source : List ℕ) (f : SourceFault) → length source ≤ 8388608 → spelled source ≡ Err f → ((n : ℕ) × (f.line ≡ suc n) × FirstFault source n f.kind) ⊎ ((f.line ≡ suc (length (lines_of source))) × NoFault source)
+IsNamedRightly = (source : List ℕ) (f : SourceFault) → length source ≤ 8388608 → spelled source ≡ Err f → ((n : ℕ) × (f.line ≡ suc n) × FirstFault source n f.kind) ⊎ ((f.line ≡ suc (length (lines_of source))) × HasNoFault source)
 
 -- lines without a fault begin as many tables as were counted
 abbrev pub CountsTables : Type 0

@@ -9,16 +9,16 @@ use Rattle.paw_source.specs.declared.refusal.SourceRefusal.{SourceRefusal}
 use Rattle.paw_source.specs.declared.refusal.SourceRefusal.TheVariants as refusal
 
 -- a fault is the one that the source has; want of memory says nothing
-abbrev pub Refuses : SourceRefusal → Result GameLists SourceFault → Type 0
-Refuses (refusal.Fault f) spelled = spelled ≡ Err f
-Refuses refusal.Memory spelled = Unit {0}
+abbrev pub RefusesSource : SourceRefusal → Result GameLists SourceFault → Type 0
+RefusesSource (refusal.Fault f) spelled = spelled ≡ Err f
+RefusesSource refusal.Memory spelled = Unit {0}
 
 -- the refusal of a source where a line is refused
-abbrev pub at_line : ℕ → ReadError → SourceRefusal
-at_line n errors.NoRoom = refusal.Memory
-at_line n (errors.Fault kind) = refusal.Fault (fault n kind)
+abbrev pub refused_at_line : ℕ → ReadError → SourceRefusal
+refused_at_line n errors.NoRoom = refusal.Memory
+refused_at_line n (errors.Fault kind) = refusal.Fault (fault n kind)
 
 -- what was answered of a source is the game that it spells, or its fault
-abbrev pub Reads : Result GameLists SourceRefusal → Result GameLists SourceFault → Type 0
-Reads (Ok game) spelled = spelled ≡ Ok game
-Reads (Err refused) spelled = Refuses refused spelled
+abbrev pub ReadsSource : Result GameLists SourceRefusal → Result GameLists SourceFault → Type 0
+ReadsSource (Ok game) spelled = spelled ≡ Ok game
+ReadsSource (Err refused) spelled = RefusesSource refused spelled

@@ -2,54 +2,54 @@
 use Rattle.std.specs.Prelude.{ℕ, ◌+◌, List, [], length, fold, Option, Some, None, Bool, false, if◌then◌else◌}
 use Rattle.std.specs.Str.{bytes_eq}
 use Rattle.paw_stage.specs.Disk.{stable}
-use Rattle.paw_stage.specs.Stage.{Standing, holds, bytes_or_none, with_shown, opened, with_written, settled}
+use Rattle.paw_stage.specs.Stage.{Standing, file_holding, bytes_or_none, with_shown, opened, with_written, settled}
 use Rattle.paw_stage.specs.declared.log.Kind.{Kind}
 use Rattle.paw_stage.specs.declared.log.Kind.TheVariants as kind
 
 -- A call that was done, with the name and the bytes that were handed to it.
-pub record Done : Type 0 where
+pub record DoneCall : Type 0 where
   pub kind : Kind
   pub name : List ℕ
   pub bytes : List ℕ
 
 -- A call of this kind, to which this name and these bytes were handed.
-abbrev pub call_of : Kind → List ℕ → List ℕ → Done
+abbrev pub call_of : Kind → List ℕ → List ℕ → DoneCall
 call_of kind name bytes = record { kind = kind; name = name; bytes = bytes }
 
 -- How many bytes were handed to a call.
-abbrev pub size_of : Done → ℕ
+abbrev pub size_of : DoneCall → ℕ
 size_of d = length d.name + length d.bytes
 
 -- A file was put there between the calls; a call loaded, saved, took a line, found no line left, showed a text.
-abbrev pub added : List ℕ → List ℕ → Done
+abbrev pub added : List ℕ → List ℕ → DoneCall
 added name bytes = call_of kind.Add name bytes
 
-abbrev pub loaded : List ℕ → Done
-loaded name = call_of kind.Load name []
+abbrev pub loaded_file : List ℕ → DoneCall
+loaded_file name = call_of kind.Load name []
 
-abbrev pub saved : List ℕ → List ℕ → Done
+abbrev pub saved : List ℕ → List ℕ → DoneCall
 saved name bytes = call_of kind.Save name bytes
 
-abbrev pub took : Done
+abbrev pub took : DoneCall
 took = call_of kind.Take [] []
 
-abbrev pub ended : Done
-ended = call_of kind.End [] []
+abbrev pub end_done : DoneCall
+end_done = call_of kind.End [] []
 
-abbrev pub showed : List ℕ → Done
+abbrev pub showed : List ℕ → DoneCall
 showed text = call_of kind.Show [] text
 
 -- A call attached a store, read it, wrote bytes to it from a place on, synced it.
-abbrev pub attached_store : List ℕ → Done
+abbrev pub attached_store : List ℕ → DoneCall
 attached_store name = call_of kind.Attach name []
 
-abbrev pub read_store : Done
+abbrev pub read_store : DoneCall
 read_store = call_of kind.Read [] []
 
-abbrev pub wrote_store : ℕ → List ℕ → Done
+abbrev pub wrote_store : ℕ → List ℕ → DoneCall
 wrote_store at bytes = call_of (kind.Write at) [] bytes
 
-abbrev pub synced_store : Done
+abbrev pub synced_store : DoneCall
 synced_store = call_of kind.Sync [] []
 
 -- With nothing there.
@@ -65,7 +65,7 @@ is_attached (Some n) name = bytes_eq n name
 -- attached store, the store has these bytes, and all of them are synced.
 abbrev pub filed : List ℕ → Option (List ℕ) → Standing → Standing
 filed name bytes s = record s {
-  files = holds name bytes s.files;
+  files = file_holding name bytes s.files;
   disk = if is_attached s.attached name then stable (bytes_or_none bytes) else s.disk;
 }
 
@@ -83,9 +83,9 @@ stepped kind.End name bytes s = s
 stepped kind.Show name bytes s = with_shown bytes s
 
 -- What stands after a call.
-abbrev pub step : Standing → Done → Standing
-step s d = stepped d.kind d.name d.bytes s
+abbrev pub step_done : Standing → DoneCall → Standing
+step_done s d = stepped d.kind d.name d.bytes s
 
 -- What stands after these calls, one after the other.
-abbrev pub after : Standing → List Done → Standing
-after s ds = fold step s ds
+abbrev pub after : Standing → List DoneCall → Standing
+after s ds = fold step_done s ds

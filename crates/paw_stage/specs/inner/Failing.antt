@@ -9,13 +9,13 @@ pub record Listing : Type 0 where
   pub next : ℕ
 
 -- These calls are to fail, and none was made yet.
-abbrev pub listing : List ℕ → Listing
-listing calls = record { calls = calls; next = 0 }
+abbrev pub listing_of : List ℕ → Listing
+listing_of calls = record { calls = calls; next = 0 }
 
 -- Whether the next call is to fail.
 abbrev pub is_listed : Listing → Bool
 is_listed l = list_any (λ n. n == l.next) l.calls
 
 -- Once one more call was made.
-abbrev pub counted : Listing → Listing
-counted l = record l { next = one_more l.next }
+abbrev pub call_counted : Listing → Listing
+call_counted l = record l { next = one_more l.next }

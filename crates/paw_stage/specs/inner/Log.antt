@@ -1,13 +1,13 @@
 -- A record of calls, kept in rooms that were taken beforehand.
 use Rattle.std.specs.Prelude.{◌≡◌, ℕ, ◌-◌, ◌≤◌, nat_lt, nat_le, ◌&&◌, Bool, List, [], ◌∷◌, ◌++◌, map, slice_range}
 use Rattle.paw_stage.specs.Stage.{Standing}
-use Rattle.paw_stage.specs.inner.Done.{Done, size_of, fresh, stepped, after}
+use Rattle.paw_stage.specs.inner.Done.{DoneCall, size_of, fresh, stepped, after}
 use Rattle.paw_stage.specs.declared.log.Kind.{Kind}
 use Rattle.paw_stage.specs.declared.log.Call.{Call}
 
 -- The calls that were done, and how many calls and bytes may still be recorded.
 pub record Logged : Type 0 where
-  pub calls : List Done
+  pub calls : List DoneCall
   pub calls_left : ℕ
   pub bytes_left : ℕ
 
@@ -16,7 +16,7 @@ abbrev pub has_room : Logged → ℕ → Bool
 has_room l n = nat_lt 0 l.calls_left && nat_le n l.bytes_left
 
 -- One call more, which takes one of the spare calls and its bytes from the spare bytes.
-abbrev pub logged : Done → Logged → Logged
+abbrev pub logged : DoneCall → Logged → Logged
 logged d l = record {
   calls = l.calls ++ d ∷ [];
   calls_left = l.calls_left - 1;
@@ -24,14 +24,14 @@ logged d l = record {
 }
 
 -- One call more, for which room was made beside the spare room.
-abbrev pub given : Done → Logged → Logged
-given d l = record l { calls = l.calls ++ d ∷ [] }
+abbrev pub call_logged : DoneCall → Logged → Logged
+call_logged d l = record l { calls = l.calls ++ d ∷ [] }
 
 -- What a call did, with its name and bytes read from the room.
-abbrev pub done_in : List ℕ → Call → Done
+abbrev pub done_in : List ℕ → Call → DoneCall
 done_in room c = record { kind = c.kind; name = slice_range room c.from c.mid; bytes = slice_range room c.mid c.to }
 
-abbrev pub all_done : List ℕ → List Call → List Done
+abbrev pub all_done : List ℕ → List Call → List DoneCall
 all_done room calls = map (done_in room) calls
 
 -- What stands once calls that lie in this room are played again.

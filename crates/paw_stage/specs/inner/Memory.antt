@@ -6,9 +6,9 @@ use Rattle.paw_stage.specs.declared.faults.FaultCounts.{FaultCounts}
 use Rattle.paw_stage.specs.Stage.{Standing}
 use Rattle.paw_stage.specs.Moments.{Moment, Moments, moment_of}
 use Rattle.paw_stage.specs.inner.Faults.{raised, no_faults}
-use Rattle.paw_stage.specs.inner.Done.{Done, size_of, added, loaded, took, fresh, after}
+use Rattle.paw_stage.specs.inner.Done.{DoneCall, size_of, added, loaded_file, took, fresh, after}
 use Rattle.paw_stage.specs.inner.Replay.{since_of, only_now}
-use Rattle.paw_stage.specs.inner.Log.{Logged, has_room, logged, given}
+use Rattle.paw_stage.specs.inner.Log.{Logged, has_room, logged, call_logged}
 
 pub record Memory : Type 0 where
   pub lines : List (List ℕ)
@@ -39,20 +39,20 @@ pub only_moment : (m : Memory) (x : Moment) → moments_of m (clock_of m) x → 
 only_moment m x h = only_now m.log.calls x h
 
 -- Whether there is room for a call with so many bytes.
-abbrev pub can_note : Done → Memory → Bool
+abbrev pub can_note : DoneCall → Memory → Bool
 can_note d m = has_room m.log (size_of d)
 
 -- With one call more in its record.
-abbrev pub noted : Done → Memory → Memory
-noted d m = record m { log = logged d m.log }
+abbrev pub recorded : DoneCall → Memory → Memory
+recorded d m = record m { log = logged d m.log }
 
 -- With a file put there, beside the spare room.
 abbrev pub with_file : List ℕ → List ℕ → Memory → Memory
-with_file name bytes m = record m { log = given (added name bytes) m.log }
+with_file name bytes m = record m { log = call_logged (added name bytes) m.log }
 
 -- With one line more, after those that are left.
-abbrev pub with_line : List ℕ → Memory → Memory
-with_line line m = record m { lines = m.lines ++ line ∷ [] }
+abbrev pub with_line_left : List ℕ → Memory → Memory
+with_line_left line m = record m { lines = m.lines ++ line ∷ [] }
 
 -- With one fault more of a call, and all else as it was.
 abbrev pub failed : StageCall → Memory → Memory
@@ -64,8 +64,8 @@ Throughout old new Inside = Moments clock_of moments_of old new (Inside (standin
 
 -- After a load that found no file: it was recorded, and counts as a fault.
 abbrev pub found_none : List ℕ → Memory → Memory
-found_none name m = failed call.LoadAbsent (noted (loaded name) m)
+found_none name m = failed call.LoadAbsent (recorded (loaded_file name) m)
 
 -- After an ask that took the next line.
 abbrev pub line_taken : Memory → Memory
-line_taken m = record (noted took m) { lines = drop 1 m.lines }
+line_taken m = record (recorded took m) { lines = drop 1 m.lines }

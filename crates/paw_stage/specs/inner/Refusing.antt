@@ -5,7 +5,7 @@ use Rattle.paw_stage.specs.declared.faults.FaultCounts.{FaultCounts}
 use Rattle.paw_stage.specs.Stage.{Standing}
 use Rattle.paw_stage.specs.Moments.{Moment}
 use Rattle.paw_stage.specs.inner.Faults.{count_of, raised}
-use Rattle.paw_stage.specs.inner.Done.{Done}
+use Rattle.paw_stage.specs.inner.Done.{DoneCall}
 use Rattle.paw_stage.specs.inner.Memory as memory
 use Rattle.paw_stage.specs.inner.Memory.{Memory, can_note, failed}
 
@@ -40,5 +40,5 @@ abbrev pub FailsBelow : {R : Type 0} → (R → Bool) → (R → R) → StageCal
 FailsBelow refuses later c old new = IsFalse (refuses old.rule) → new ≡ passed later (failed c) old
 
 -- A call isn't done: the rule makes it fail, or there is no room for it below.
-abbrev pub CannotPass : {R : Type 0} → (R → Bool) → Done → Refusing R → Type 0
+abbrev pub CannotPass : {R : Type 0} → (R → Bool) → DoneCall → Refusing R → Type 0
 CannotPass refuses d s = IsTrue (refuses s.rule) ⊎ IsFalse (can_note d s.inner)

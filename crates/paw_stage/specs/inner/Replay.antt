@@ -4,7 +4,7 @@ use Rattle.std.proofs.Common.{inl, inr}
 use Rattle.paw_stage.specs.Disk.{touched}
 use Rattle.paw_stage.specs.Stage.{Standing, made_if_missing, opened, wrote, settled}
 use Rattle.paw_stage.specs.Moments.{Moment, moment_of}
-use Rattle.paw_stage.specs.inner.Done.{Done, fresh, filed, step, after}
+use Rattle.paw_stage.specs.inner.Done.{DoneCall, fresh, filed, step_done, after}
 use Rattle.paw_stage.specs.declared.log.Kind.{Kind}
 use Rattle.paw_stage.specs.declared.log.Kind.TheVariants as kind
 
@@ -14,41 +14,41 @@ IsEither s t m = (m ≡ moment_of s) ⊎ (m ≡ moment_of t)
 
 -- What may stand at the moments inside a call, its start and its end among them. Inside a save the file may hold any
 -- bytes or be gone, and inside a write any bytes may stand in the range that is written, or in a first part of it.
-abbrev pub StandsIn : Kind → List ℕ → List ℕ → Standing → Moment → Type 0
-StandsIn kind.Add name bytes s m = IsEither s (filed name (Some bytes) s) m
-StandsIn kind.Load name bytes s m = m ≡ moment_of s
-StandsIn kind.Save name bytes s m = (m ≡ moment_of s) ⊎ ((left : Option (List ℕ)) × (m ≡ moment_of (filed name left s)))
-StandsIn kind.Attach name bytes s m =
+abbrev pub MayStand : Kind → List ℕ → List ℕ → Standing → Moment → Type 0
+MayStand kind.Add name bytes s m = IsEither s (filed name (Some bytes) s) m
+MayStand kind.Load name bytes s m = m ≡ moment_of s
+MayStand kind.Save name bytes s m = (m ≡ moment_of s) ⊎ ((left : Option (List ℕ)) × (m ≡ moment_of (filed name left s)))
+MayStand kind.Attach name bytes s m =
     (m ≡ record (moment_of s) { files = made_if_missing name (s.files name) s.files }) ⊎ IsEither s (opened name s) m
-StandsIn kind.Read name bytes s m = m ≡ moment_of s
-StandsIn (kind.Write at) name bytes s m =
+MayStand kind.Read name bytes s m = m ≡ moment_of s
+MayStand (kind.Write at) name bytes s m =
     (m ≡ moment_of s)
     ⊎ ((new : List ℕ) × (length new ≤ length bytes)
     × (m ≡ moment_of (wrote s (touched at (length bytes) new s.disk) 0)))
-StandsIn kind.Sync name bytes s m = IsEither s (settled s) m
-StandsIn kind.Take name bytes s m = IsEither s (record s { asked = s.asked + 1 }) m
-StandsIn kind.End name bytes s m = m ≡ moment_of s
-StandsIn kind.Show name bytes s m = (n : ℕ) × (m ≡ record (moment_of s) { shown = s.shown ++ take n bytes })
+MayStand kind.Sync name bytes s m = IsEither s (settled s) m
+MayStand kind.Take name bytes s m = IsEither s (record s { asked = s.asked + 1 }) m
+MayStand kind.End name bytes s m = m ≡ moment_of s
+MayStand kind.Show name bytes s m = (n : ℕ) × (m ≡ record (moment_of s) { shown = s.shown ++ take n bytes })
 
 -- What may stand inside a call that was done.
-abbrev pub StandsInside : Standing → Done → Moment → Type 0
-StandsInside s d m = StandsIn d.kind d.name d.bytes s m
+abbrev pub StandsInside : Standing → DoneCall → Moment → Type 0
+StandsInside s d m = MayStand d.kind d.name d.bytes s m
 
 -- What may have stood inside one of these calls, the first of which began with s.
-abbrev pub StoodInside : Standing → List Done → Moment → Type 0
+abbrev pub StoodInside : Standing → List DoneCall → Moment → Type 0
 StoodInside s [] m = ⊥
-StoodInside s (d ∷ ds) m = StandsInside s d m ⊎ StoodInside (step s d) ds m
+StoodInside s (d ∷ ds) m = StandsInside s d m ⊎ StoodInside (step_done s d) ds m
 
 -- The moments since so many of these calls were done: what stands after all of them, and what stood inside the later
 -- ones.
-abbrev pub since_of : List Done → ℕ → Moment → Type 0
+abbrev pub since_of : List DoneCall → ℕ → Moment → Type 0
 since_of ds t m = (m ≡ moment_of (after fresh ds)) ⊎ StoodInside (after fresh (take t ds)) (drop t ds) m
 
-none_later : (s : Standing) (ds : List Done) (m : Moment) → StoodInside s (drop (length ds) ds) m → ⊥
+none_later : (s : Standing) (ds : List DoneCall) (m : Moment) → StoodInside s (drop (length ds) ds) m → ⊥
 none_later s [] m h = h
 none_later s (d ∷ ds) m h = none_later s ds m h
 
 -- Since the last call there is no moment but this.
-pub only_now : (ds : List Done) (m : Moment) → since_of ds (length ds) m → m ≡ moment_of (after fresh ds)
+pub only_now : (ds : List DoneCall) (m : Moment) → since_of ds (length ds) m → m ≡ moment_of (after fresh ds)
 only_now ds m (inl h) = h
 only_now ds m (inr h) = absurd (none_later _ ds m h)

@@ -3,7 +3,7 @@ use Rattle.std.specs.Prelude.{◌≡◌, ℕ, ◌+◌, ◌-◌, ◌<◌, ◌≤�
 use Rattle.std.specs.Prelude.{length, take, drop, slice_index, slice_range, Option, Some, None, is_some, if◌then◌else◌}
 use Rattle.paw_stage.specs.Disk.{is_dirty}
 use Rattle.paw_stage.specs.Stage.{Standing, file_bytes}
-use Rattle.paw_stage.specs.inner.Done.{Done, fresh, after, is_attached}
+use Rattle.paw_stage.specs.inner.Done.{DoneCall, fresh, after, is_attached}
 use Rattle.paw_stage.specs.inner.Crash.{spoiled_if}
 use Rattle.paw_stage.specs.inner.Log.{done_in}
 use Rattle.paw_stage.specs.declared.log.Call.{Call}
@@ -48,13 +48,13 @@ writes (kind.Write at) n i = nat_le at i && nat_lt i (at + n)
 writes _ n i = false
 
 -- Whether one of these calls wrote at place i of the store.
-abbrev pub is_written : List Done → ℕ → Bool
+abbrev pub is_written : List DoneCall → ℕ → Bool
 is_written [] i = false
 is_written (d ∷ ds) i = writes d.kind (length d.bytes) i || is_written ds i
 
 -- The store of this name was attached by then, its bytes were last synced after n of these calls, and what is dirty was
 -- written by the later ones.
-pub record IsStore (ds : List Done) (name : List ℕ) (n : ℕ) : Type 0 where
+pub record IsStore (ds : List DoneCall) (name : List ℕ) (n : ℕ) : Type 0 where
   pub within : n ≤ length ds
   pub attached : (after fresh ds).attached ≡ Some name
   pub before : (after fresh (take n ds)).attached ≡ Some name
@@ -67,7 +67,7 @@ IsNamed room None = Unit {0}
 IsNamed room (Some store) = (store.opened.from ≤ store.opened.mid) × (store.opened.mid ≤ length room)
 
 -- The attached store of these calls, where one is attached.
-abbrev pub FindsStore : List ℕ → List Done → Option Store → Type 0
+abbrev pub FindsStore : List ℕ → List DoneCall → Option Store → Type 0
 FindsStore room ds None = (after fresh ds).attached ≡ None
 FindsStore room ds (Some store) =
     IsNamed room (Some store) × IsStore ds (slice_range room store.opened.from store.opened.mid) store.synced
@@ -75,4 +75,5 @@ FindsStore room ds (Some store) =
 -- A store is that of any calls, so many with this one, where the one before is that of the others.
 abbrev pub FindsNext : List ℕ → Call → ℕ → Option Store → Option Store → Type 0
 FindsNext room call n old new =
-    (ds : List Done) → n ≡ length ds + 1 → FindsStore room ds old → FindsStore room (ds ++ done_in room call ∷ []) new
+    (ds : List DoneCall) → n ≡ length ds + 1 → FindsStore room ds old →
+    FindsStore room (ds ++ done_in room call ∷ []) new

@@ -20,6 +20,6 @@ IsRefusal read (outcome.Memory at) = Unit {0}
 IsRefusal read _ = ⊥
 
 -- how saving a file and then showing a line leave what stands, by the answer
-abbrev pub Keeps : List ℕ → List ℕ → List ℕ → Standing → Standing → Outcome → Type 0
-Keeps name bytes line old new (outcome.Outside call.Save) = Unsaved old new name
-Keeps name bytes line old new o = (mid : Standing) × Saves old mid name (Some bytes) × Shows line mid new o
+abbrev pub SavesSo : List ℕ → List ℕ → List ℕ → Standing → Standing → Outcome → Type 0
+SavesSo name bytes line old new (outcome.Outside call.Save) = Unsaved old new name
+SavesSo name bytes line old new o = (mid : Standing) × Saves old mid name (Some bytes) × Shows line mid new o

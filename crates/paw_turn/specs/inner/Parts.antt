@@ -21,25 +21,25 @@ use Rattle.paw_process.specs.declared.kept.Frames.{Frames}
 use Rattle.paw_turn.specs.declared.Step.{Step}
 use Rattle.paw_turn.specs.declared.Step.TheVariants as step
 pub use Rattle.paw_turn.specs.inner.Player.{prompt_at, IsStanding}
-use Rattle.paw_turn.specs.inner.Player.{Seat, IsSeated, Stands, StandRightly, run_at}
+use Rattle.paw_turn.specs.inner.Player.{Seat, IsSeated, StandsClosed, StandRightly, run_at}
 
 -- a player waits at its prompt, and where the game is over it has ended
-abbrev pub step_at : Prompt → Step
-step_at prompt.Main = step.Waits prompt.Main
-step_at prompt.Quit = step.Waits prompt.Quit
-step_at prompt.Again = step.Waits prompt.Again
-step_at prompt.Key = step.Waits prompt.Key
-step_at prompt.Over = step.Ended
+abbrev pub prompt_step : Prompt → Step
+prompt_step prompt.Main = step.Waits prompt.Main
+prompt_step prompt.Quit = step.Waits prompt.Quit
+prompt_step prompt.Again = step.Waits prompt.Again
+prompt_step prompt.Key = step.Waits prompt.Key
+prompt_step prompt.Over = step.Ended
 
 -- Parts fit a game at a prompt: they stand there as a run may, and the machine waits at the prompt, or no table is open
 -- where it is the main one or the game is over
 pub record Fits (g : GameLists) (w : World) (m : OpenTables) (p : PendingLine) (at : Prompt) : Type 0 where
-  pub machine : Stands (step_at at) m
+  pub machine : StandsClosed (prompt_step at) m
   pub rightly : StandRightly g at w m p
 
 -- the player of a game that stands at a prompt with these parts, and shows no piece
 abbrev pub seat_at : {F : Type 0} → GameLists → Routines F → World → OpenTables → PendingLine → Prompt → Seat F
-seat_at g routines w m p at = record { game = g; routines = routines; world = w; pending = p; machine = m; piece = []; last = step_at at }
+seat_at g routines w m p at = record { game = g; routines = routines; world = w; pending = p; machine = m; piece = []; last = prompt_step at }
 
 -- ---- laws ----
 

@@ -87,11 +87,11 @@ StandsAt prompt.Key m = WaitsIn prompt.Key m
 StandsAt prompt.Over m = ⊥
 
 -- a player that is finished has no table open
-abbrev pub Stands : Step → OpenTables → Type 0
-Stands (step.Waits p) m = StandsAt p m
-Stands step.Ended m = IsClosed m
-Stands (step.Spent kind) m = IsClosed m
-Stands (step.TooDeep u) m = IsClosed m
+abbrev pub StandsClosed : Step → OpenTables → Type 0
+StandsClosed (step.Waits p) m = StandsAt p m
+StandsClosed step.Ended m = IsClosed m
+StandsClosed (step.Spent kind) m = IsClosed m
+StandsClosed (step.TooDeep u) m = IsClosed m
 
 -- a player that is over, spent or too deep takes no more lines
 abbrev pub IsFinished : Step → Type 0
@@ -121,7 +121,7 @@ StandRightly g at w m p = StandsRightly g at (reverse m.frames) (run_with w m p 
 -- a player of a valid game may take lines: where it stands at a prompt it stands as a run may
 pub record IsSeated {F : Type 0} (p : Seat F) : Type 0 where
   pub valid : Valid p.game
-  pub machine : Stands p.last p.machine
+  pub machine : StandsClosed p.last p.machine
   pub rightly : IsStanding p.last → StandRightly p.game (prompt_at p.last) p.world p.machine p.pending
 
 -- a player that is new: the game is at its start, and no piece was made

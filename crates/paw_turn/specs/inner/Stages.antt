@@ -29,7 +29,7 @@ use Rattle.paw_turn.specs.declared.stage.Stage.TheVariants as stage
 use Rattle.paw_turn.specs.declared.stage.Next.{Next}
 use Rattle.paw_turn.specs.declared.stage.Next.TheVariants as next
 use Rattle.paw_turn.specs.declared.turn.Turn.{Turn}
-use Rattle.paw_turn.specs.inner.Player.{Seat, WaitsIn, Stands}
+use Rattle.paw_turn.specs.inner.Player.{Seat, WaitsIn, StandsClosed}
 
 -- ---- runs ----
 
@@ -40,8 +40,8 @@ pub record Past : Type 0 where
   pub traces : List (List Read)
 
 -- the run that shows what is held, with this past and these lines to come
-abbrev pub run_of : Turn → Past → List (List ℕ) → Run
-run_of h past lines = record {
+abbrev pub run_now : Turn → Past → List (List ℕ) → Run
+run_now h past lines = record {
   world = h.world;
   pending = h.pending.bytes;
   earlier = h.pending.earlier;
@@ -89,27 +89,27 @@ GoesOnAs g n (next.Stop step) fs r x = StopsAs g n step fs r x
 abbrev pub Moves : Story → (ℕ → Run → Ending) → Turn → Next → Turn → Type 0
 Moves g x old next new =
     (past : Past) (n : ℕ) (lines : List (List ℕ)) →
-    GoesOnAs g n next new.machine.frames (run_of new past lines) (x n (run_of old past lines))
+    GoesOnAs g n next new.machine.frames (run_now new past lines) (x n (run_now old past lines))
 
 -- what x says leads from what was held to what is held now: there is what the open piece has read by then
-abbrev pub Reads : Story → (ℕ → Run → Ending) → Turn → Next → Turn → Type 0
-Reads g x old next new =
+abbrev pub ReadsTurn : Story → (ℕ → Run → Ending) → Turn → Next → Turn → Type 0
+ReadsTurn g x old next new =
     (past : Past) → HasRead past.read old.machine → (read : List Read) × (HasRead read new.machine × ((n : ℕ) (lines : List (List ℕ)) →
-    GoesOnAs g n next new.machine.frames (run_of new (having_read read past) lines) (x n (run_of old past lines))))
+    GoesOnAs g n next new.machine.frames (run_now new (having_read read past) lines) (x n (run_now old past lines))))
 
 -- a whole, of which more may be granted, leads from what was held to what is held now
 abbrev pub PlaysAs : Story → (ℕ → Past → List (List ℕ) → Ending) → Turn → Next → Turn → Type 0
 PlaysAs g whole old next new =
     (past : Past) → HasRead past.read old.machine → (read : List Read) × (HasRead read new.machine × ((n : ℕ) (lines : List (List ℕ)) →
-    (m : ℕ) × GoesOnAs g n next new.machine.frames (run_of new (having_read read past) lines) (whole m past lines)))
+    (m : ℕ) × GoesOnAs g n next new.machine.frames (run_now new (having_read read past) lines) (whole m past lines)))
 
 -- the turn from a stage on
 abbrev pub from_stage : Story → Stage → Turn → ℕ → Past → List (List ℕ) → Ending
-from_stage g s h m past lines = turn g m (at_stage s) (run_of h past lines)
+from_stage g s h m past lines = turn g m (at_stage s) (run_now h past lines)
 
 -- going on from a prompt with a line
 abbrev pub from_prompt : Story → Prompt → Turn → List ℕ → ℕ → Past → List (List ℕ) → Ending
-from_prompt g p h line m past lines = goes_on g m p (reverse h.machine.frames) (run_of h past (line ∷ lines))
+from_prompt g p h line m past lines = goes_on g m p (reverse h.machine.frames) (run_now h past (line ∷ lines))
 
 -- some stages from the first on lead from what was held to what is held now
 abbrev pub Plays : Story → Stage → Turn → Next → Turn → Type 0
@@ -119,21 +119,21 @@ Plays g first old next new = PlaysAs g (from_stage g first old) old next new
 abbrev pub RunsAs : Story → (Past → List (List ℕ) → Out) → Turn → Turned → Turn → Type 0
 RunsAs g x old turned new =
     (past : Past) → HasRead past.read old.machine → (steps : List Read) × (HasRead (past.read ++ steps) new.machine × ((lines : List (List ℕ)) →
-    ComesTo g turned new.machine.frames (run_of new (having_read (past.read ++ steps) past) lines) (x past lines)))
+    ComesTo g turned new.machine.frames (run_now new (having_read (past.read ++ steps) past) lines) (x past lines)))
 
 -- a table from its start
 abbrev pub from_table : Story → ℕ → Turn → Past → List (List ℕ) → Out
-from_table g t h past lines = table_read g t (run_of h past lines)
+from_table g t h past lines = table_read g t (run_now h past lines)
 
 -- going on in the tables that are open, with a line
 abbrev pub from_path : Story → Prompt → Turn → List ℕ → Past → List (List ℕ) → Out
-from_path g p h line past lines = on_path g p 0 (reverse h.machine.frames) (run_of h past (line ∷ lines))
+from_path g p h line past lines = on_path g p 0 (reverse h.machine.frames) (run_now h past (line ∷ lines))
 
 -- a table at level 0 came to what the machine turned out; the turn goes on from there, and no condact is read
 abbrev pub MovesAfter : Story → ℕ → Turned → Turn → Next → Turn → Type 0
 MovesAfter g t turned old next new =
-    (past : Past) (n : ℕ) (lines : List (List ℕ)) (x : Out) → ComesTo g turned old.machine.frames (run_of old past lines) x →
-    GoesOnAs g n next new.machine.frames (run_of new past lines) (table_done g (turn g n) t x)
+    (past : Past) (n : ℕ) (lines : List (List ℕ)) (x : Out) → ComesTo g turned old.machine.frames (run_now old past lines) x →
+    GoesOnAs g n next new.machine.frames (run_now new past lines) (table_done g (turn g n) t x)
 
 -- ---- what stands between two stages ----
 
@@ -144,14 +144,14 @@ pub record IsPlayable (g : GameLists) (h : Turn) : Type 0 where
   pub draws : h.world.draws + h.machine.left < 2 ^ 64
 
 -- before the next stage no table is open, and after a stop the machine stands as it does there
-abbrev pub StandsFor : Next → OpenTables → Type 0
-StandsFor (next.Go s) m = IsClosed m
-StandsFor (next.Stop step) m = Stands step m
+abbrev pub StandsBefore : Next → OpenTables → Type 0
+StandsBefore (next.Go s) m = IsClosed m
+StandsBefore (next.Stop step) m = StandsClosed step m
 
 -- the world is the game's still, and each draw is paid for by a condact
-pub record Keeps (g : GameLists) (old : Turn) (next : Next) (new : Turn) : Type 0 where
+pub record KeepsGame (g : GameLists) (old : Turn) (next : Next) (new : Turn) : Type 0 where
   pub world : IsOf g new.world
-  pub machine : StandsFor next new.machine
+  pub machine : StandsBefore next new.machine
   pub left : new.machine.left ≤ old.machine.left
   pub draws : new.world.draws + new.machine.left ≤ old.world.draws + old.machine.left
 
@@ -260,8 +260,8 @@ shown step.Ended piece = piece
 shown (step.Spent kind) piece = []
 shown (step.TooDeep u) piece = []
 
-abbrev pub settled : Step → Turn → Turn
-settled step h = record h { piece = shown step h.piece }
+abbrev pub turn_settled : Step → Turn → Turn
+turn_settled step h = record h { piece = shown step h.piece }
 
 -- a new piece may be read
 abbrev pub opened_piece : Turn → Turn

@@ -15,9 +15,9 @@ flag_in None f = 0
 flag_in (Some q) f = slice_index q.flags f
 
 -- the place of an object in a position; 0 where there is none
-abbrev pub place_in : Option Position → ℕ → ℕ
-place_in None o = 0
-place_in (Some q) o = slice_index q.places o
+abbrev pub place_in_position : Option Position → ℕ → ℕ
+place_in_position None o = 0
+place_in_position (Some q) o = slice_index q.places o
 
 -- a flag of the saved position; 0 where nothing is saved
 abbrev pub saved_flag : World → ℕ → ℕ
@@ -25,7 +25,7 @@ saved_flag w f = flag_in w.saved f
 
 -- the place of an object in the saved position; 0 where nothing is saved
 abbrev pub saved_place : World → ℕ → ℕ
-saved_place w o = place_in w.saved o
+saved_place w o = place_in_position w.saved o
 
 -- all flags and places are taken from the kept position of this number; where none was kept nothing changes
 abbrev pub recalled : World → ℕ → World
@@ -37,7 +37,7 @@ kept_flag w n f = flag_in (kept_position w n) f
 
 -- the place of an object in a kept position; 0 where none was kept
 abbrev pub kept_place : World → ℕ → ℕ → ℕ
-kept_place w n o = place_in (kept_position w n) o
+kept_place w n o = place_in_position (kept_position w n) o
 
 -- the parts of a world: its flags, not too many places, room for the facts of all objects, and positions of the same
 -- size

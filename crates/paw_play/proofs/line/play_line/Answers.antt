@@ -4,7 +4,7 @@ use Rattle.paw_stage.proofs.Time.{Passes_map, Passes_on}
 use Rattle.paw_play.specs.Play.{InPlay}
 use Rattle.paw_play.proofs.Playing.{in_ask, no_line, no_ask, plays_refused, plays_not, plays_next, plays_last, in_commit, in_show, rests_more, shows_piece}
 use Rattle.paw_stage.proofs.Counted.{Faulted_on}
-use Rattle.paw_play.specs.inner.Calls.{failed_call}
+use Rattle.paw_play.specs.inner.Calls.{call_of_end}
 use Rattle.paw_effects.specs.Story.{story_of}
 use Rattle.paw_play.proofs.Following.{keeps_asked, keeps_shown, outside_walk}
 use Rattle.paw_play.proofs.line.play_line.Goals as goal
@@ -215,7 +215,7 @@ returns-in-Err-clause-faulted g c = Faulted_on (Some c.in-Err.call) _ _ _ c.in-L
 
 pub returns-in-Some-told-clause-faulted : goal.returns-in-Some-told-clause-faulted
 returns-in-Some-told-clause-faulted g c =
-    Faulted_on (failed_call c.in-Some-told.end) _ _ _ (Faulted_on None _ _ _ c.in-Line.ensures.faulted c.in-Ok.ensures.faulted) c.in-Some-told.ensures.faulted
+    Faulted_on (call_of_end c.in-Some-told.end) _ _ _ (Faulted_on None _ _ _ c.in-Line.ensures.faulted c.in-Ok.ensures.faulted) c.in-Some-told.ensures.faulted
 
 pub returns-in-None-clause-faulted : goal.returns-in-None-clause-faulted
 returns-in-None-clause-faulted g c = Faulted_on None _ _ _ (Faulted_on None _ _ _ c.in-Line.ensures.faulted c.in-Ok.ensures.faulted) c.in-None.ensures.faulted

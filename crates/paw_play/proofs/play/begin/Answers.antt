@@ -7,7 +7,7 @@ use Rattle.paw_play.specs.inner.OnTheWay.{seat_state, InMaking, new_session}
 use Rattle.paw_play.proofs.Playing.{shows_piece}
 use Rattle.paw_play.proofs.Beginning.{begin_refused, in_making, rests_first, in_first_show, begins_next, begins_last}
 use Rattle.paw_stage.proofs.Counted.{Faulted_on}
-use Rattle.paw_play.specs.inner.Calls.{failed_call}
+use Rattle.paw_play.specs.inner.Calls.{call_of_end}
 use Rattle.paw_effects.specs.Story.{story_of}
 use Rattle.paw_play.proofs.Following.{keeps_shown, outside_walk}
 use Rattle.paw_play.proofs.play.begin.Goals as goal
@@ -140,7 +140,7 @@ pub returns-in-Some-clause-faulted : goal.returns-in-Some-clause-faulted
 returns-in-Some-clause-faulted g c = rw c.in-Some.ensures.fine (λ k. refl)
 
 pub returns-in-Some-told-clause-faulted : goal.returns-in-Some-told-clause-faulted
-returns-in-Some-told-clause-faulted g c = Faulted_on (failed_call c.in-Some-told.end) _ _ _ c.in-Ok.ensures.faulted c.in-Some-told.ensures.faulted
+returns-in-Some-told-clause-faulted g c = Faulted_on (call_of_end c.in-Some-told.end) _ _ _ c.in-Ok.ensures.faulted c.in-Some-told.ensures.faulted
 
 pub returns-in-None-clause-faulted : goal.returns-in-None-clause-faulted
 returns-in-None-clause-faulted g c = Faulted_on None _ _ _ c.in-Ok.ensures.faulted c.in-None.ensures.faulted

@@ -7,7 +7,7 @@ use Rattle.paw_play.specs.Play.{Played, InPlay, memory, plays}
 use Rattle.paw_play.specs.inner.OnTheWay.{InMaking, IsPlaying, PlaysInStore, new_session}
 use Rattle.paw_play.proofs.Begun.{begun_plays}
 use Rattle.paw_stage.proofs.Counted.{Faulted_on}
-use Rattle.paw_play.specs.inner.Calls.{failed_call}
+use Rattle.paw_play.specs.inner.Calls.{call_of_end}
 use Rattle.paw_effects.specs.Story.{story_of}
 use Rattle.paw_play.proofs.play.play_in.Goals as goal
 
@@ -95,4 +95,4 @@ returns-clause-any_moment g c = λ tells X rows name store.
     (c.begin.ensures.any_moment tells X own name store)
 
 pub returns-in-Ok-begin-clause-faulted : goal.returns-in-Ok-begin-clause-faulted
-returns-in-Ok-begin-clause-faulted g c = Faulted_on (failed_call c.play_lines.result) _ _ _ c.in-Ok-begin.ensures.faulted c.play_lines.ensures.faulted
+returns-in-Ok-begin-clause-faulted g c = Faulted_on (call_of_end c.play_lines.result) _ _ _ c.in-Ok-begin.ensures.faulted c.play_lines.ensures.faulted

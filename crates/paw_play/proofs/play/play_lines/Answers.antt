@@ -5,7 +5,7 @@ use Rattle.paw_play.specs.inner.OnTheWay.{IsPlaying}
 use Rattle.paw_play.specs.declared.TheConstants.{MOST_EVENTS}
 use Rattle.paw_play.proofs.Playing.{long_play}
 use Rattle.paw_stage.proofs.Counted.{Faulted_on, Faulted_same}
-use Rattle.paw_play.specs.inner.Calls.{failed_call}
+use Rattle.paw_play.specs.inner.Calls.{call_of_end}
 use Rattle.paw_effects.specs.Story.{story_of}
 use Rattle.paw_play.proofs.play.play_lines.Goals as goal
 
@@ -91,4 +91,4 @@ returns-clause-meaning g c = λ tells X rows s first start events.
     (g.S.Stage.standing c.loop.stage) c.loop.player (i.playing tells X rows s first start events) i.seated all
 
 pub returns-in-Err-clause-faulted : goal.returns-in-Err-clause-faulted
-returns-in-Err-clause-faulted g c = Faulted_on (failed_call c.in-Err.end) _ _ _ c.loop.invariant.faulted c.in-Err.ensures.faulted
+returns-in-Err-clause-faulted g c = Faulted_on (call_of_end c.in-Err.end) _ _ _ c.loop.invariant.faulted c.in-Err.ensures.faulted

@@ -4,7 +4,7 @@ use Rattle.paw_effects.specs.Story.{story_of}
 use Rattle.paw_stage.specs.Stage.{Standing, Faulted}
 use Rattle.paw_stage.specs.Moments.{Passes}
 use Rattle.paw_turn.specs.inner.Player.{IsSeated}
-use Rattle.paw_journal.specs.inner.Journal.{Keeps}
+use Rattle.paw_journal.specs.inner.Journal.{KeptIn}
 use Rattle.paw_play.specs.Play.{Played, InPlay}
 use Rattle.paw_play.specs.inner.OnTheWay.{IsPlaying}
 use Rattle.paw_play.specs.declared.TheConstants.{MOST_EVENTS}
@@ -22,7 +22,7 @@ invariant-loop g l = record {
   draws : l.player.world.draws ≤ 200000 * (l.counter + 1);
   tells : g.S.Stage.Tells l.fn.stage ↔ g.S.Stage.Tells l.stage;
   faulted : Faulted None (g.S.Stage.faults l.fn.stage) (g.S.Stage.faults l.stage);
-  kept : g.S.Stage.Tells l.fn.stage → Keeps l.session.journal l.room (g.S.Stage.standing l.stage);
+  kept : g.S.Stage.Tells l.fn.stage → KeptIn l.session.journal l.room (g.S.Stage.standing l.stage);
   playing : g.S.Stage.Tells l.fn.stage → (X : List (List ℕ)) → AreRowsOf g.F.Fn l.fn.player.routines X → (s : Played) (first : Standing) →
       IsPlaying (story_of l.fn.player.game X) s first (g.S.Stage.standing l.fn.stage) l.fn.player 0 → l.fn.session.events ≡ s.before →
       IsPlaying (story_of l.player.game X) s first (g.S.Stage.standing l.stage) l.player (l.counter - s.before);

@@ -6,7 +6,7 @@ use Rattle.paw_play.specs.inner.OnTheWay.{InMaking, PlaysInStore, IsStore, new_s
 use Rattle.paw_play.proofs.Attaching.{store_attached, store_empty, in_new_attach}
 use Rattle.paw_play.proofs.Games.{game_plays, in_game}
 use Rattle.paw_stage.proofs.Counted.{Faulted_on}
-use Rattle.paw_play.specs.inner.Calls.{failed_call}
+use Rattle.paw_play.specs.inner.Calls.{call_of_end}
 use Rattle.paw_effects.specs.Story.{story_of}
 use Rattle.paw_play.proofs.play.play_loop.Goals as goal
 
@@ -46,4 +46,4 @@ returns-clause-any_moment g c = λ tells X rows empty.
     (λ m i. in_game (story_of game2 X) c.args.seed c.args.game.now c.args.name.now c.requires.game old m (subst (λ q. InMaking s q m ⊎ InPlay s q m) a.1 i))
 
 pub returns-clause-faulted : goal.returns-clause-faulted
-returns-clause-faulted g c = Faulted_on (failed_call c.play_in.result) _ _ _ c.in-Ok.ensures.faulted c.play_in.ensures.faulted
+returns-clause-faulted g c = Faulted_on (call_of_end c.play_in.result) _ _ _ c.in-Ok.ensures.faulted c.play_in.ensures.faulted

@@ -2,9 +2,9 @@ use Rattle.std.proofs.Common.{None, ◌≡◌, sym, ◌∙◌, subst}
 use Rattle.paw_stage.specs.Stage.{Standing}
 use Rattle.paw_stage.proofs.Time.{Passes_map, Passes_on}
 use Rattle.paw_journal.specs.Session.{recover}
-use Rattle.paw_journal.specs.inner.Journal.{IsRefused}
+use Rattle.paw_journal.specs.inner.Journal.{IsSessionRefused}
 use Rattle.paw_effects.specs.Story.{story_of}
-use Rattle.paw_play.specs.inner.Calls.{failed_call}
+use Rattle.paw_play.specs.inner.Calls.{call_of_end}
 use Rattle.paw_play.specs.Play.{InAgain, InPlay, PlaysUp, ShowsState, unattached, wanting, plays_up, attached_to, kept_session}
 use Rattle.paw_play.specs.inner.OnTheWay.{IsStore}
 use Rattle.paw_play.proofs.Attaching.{store_attached}
@@ -48,7 +48,7 @@ returns-in-Err-find-clause-plays g c = λ tells X rows.
     rw c.not_found.ensures.value
     (refused_again (story_of (g.T.Tables.game c.args.tables.now) X) c.args.game.now c.args.name.now
     (g.S.Stage.standing c.args.stage.now) (g.S.Stage.standing c.find.new.stage) c.in-Err-find.refusal
-    (subst (λ (q : Standing). IsRefused (recover q.disk.bytes) c.args.game.now c.in-Err-find.refusal) a.1 found)
+    (subst (λ (q : Standing). IsSessionRefused (recover q.disk.bytes) c.args.game.now c.in-Err-find.refusal) a.1 found)
     c.in-Err-find.ensures.cause (c.find.ensures.still now ∙ a.1))
 
 pub returns-in-Err-find-clause-any_moment : goal.returns-in-Err-find-clause-any_moment
@@ -107,9 +107,9 @@ returns-clause-any_moment g c = λ tells X rows st piece shows.
 
 pub returns-in-Err-find-clause-faulted : goal.returns-in-Err-find-clause-faulted
 returns-in-Err-find-clause-faulted g c =
-    Faulted_on (failed_call c.not_found.result) _ _ _ c.in-Ok.ensures.faulted
+    Faulted_on (call_of_end c.not_found.result) _ _ _ c.in-Ok.ensures.faulted
     (rw c.not_found.ensures.value (refused_faults c.in-Err-find.refusal _ _ c.in-Err-find.ensures.faulted))
 
 pub returns-clause-faulted : goal.returns-clause-faulted
 returns-clause-faulted g c =
-    Faulted_on (failed_call c.take_up.result) _ _ _ (Faulted_on None _ _ _ c.in-Ok.ensures.faulted c.in-Ok-find.ensures.faulted) c.take_up.ensures.faulted
+    Faulted_on (call_of_end c.take_up.result) _ _ _ (Faulted_on None _ _ _ c.in-Ok.ensures.faulted c.in-Ok-find.ensures.faulted) c.take_up.ensures.faulted

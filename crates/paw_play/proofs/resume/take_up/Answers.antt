@@ -16,7 +16,7 @@ use Rattle.paw_play.specs.inner.OnTheWay.{ShowsAgain, IsPlaying}
 use Rattle.paw_play.proofs.Showing.{shows_kept, buffer_long, one_state, read_fits}
 use Rattle.paw_play.proofs.Resuming.{in_again_show, again_next, again_last, seat_game, seat_routines}
 use Rattle.paw_stage.proofs.Counted.{Faulted_on}
-use Rattle.paw_play.specs.inner.Calls.{failed_call}
+use Rattle.paw_play.specs.inner.Calls.{call_of_end}
 use Rattle.paw_play.proofs.Following.{keeps_shown}
 use Rattle.paw_play.proofs.resume.take_up.Goals as goal
 
@@ -185,4 +185,4 @@ returns-clause-any_moment g c = λ tells X rows name store st piece shows.
     (c.play_lines.ensures.any_moment (c.show_again.ensures.tells.0 tells) X own session old playing refl) (λ m j. j)))
 
 pub returns-clause-faulted : goal.returns-clause-faulted
-returns-clause-faulted g c = Faulted_on (failed_call c.play_lines.result) _ _ _ c.in_default-show_again.ensures.faulted c.play_lines.ensures.faulted
+returns-clause-faulted g c = Faulted_on (call_of_end c.play_lines.result) _ _ _ c.in_default-show_again.ensures.faulted c.play_lines.ensures.faulted

@@ -2,7 +2,7 @@ use Rattle.std.proofs.Common.{◌≡◌, ◌+◌, ◌<◌, ◌∙◌, suc, arith
 use Rattle.paw_play.specs.declared.TheConstants.{MOST_EVENTS}
 use Rattle.paw_play.proofs.Tracing.{long_trace}
 use Rattle.paw_stage.proofs.Counted.{Faulted_on}
-use Rattle.paw_play.specs.inner.Calls.{failed_call}
+use Rattle.paw_play.specs.inner.Calls.{call_of_end}
 use Rattle.paw_effects.specs.Story.{story_of}
 use Rattle.paw_play.specs.inner.OnTheWay.{IsTracing}
 use Rattle.paw_play.proofs.trace.trace_lines.Goals as goal
@@ -41,4 +41,4 @@ returns-clause-meaning g c = λ tells X rows whole first start.
     (c.loop.invariant.tracing tells X rows whole first start) c.loop.invariant.seated all
 
 pub returns-in-Some-clause-faulted : goal.returns-in-Some-clause-faulted
-returns-in-Some-clause-faulted g c = Faulted_on (failed_call c.in-Some.end) _ _ _ c.loop.invariant.faulted c.in-Some.ensures.faulted
+returns-in-Some-clause-faulted g c = Faulted_on (call_of_end c.in-Some.end) _ _ _ c.loop.invariant.faulted c.in-Some.ensures.faulted

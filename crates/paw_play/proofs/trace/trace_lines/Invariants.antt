@@ -1,7 +1,7 @@
 use Rattle.std.proofs.Common.{◌≡◌, ◌+◌, ◌*◌, ◌≤◌, ◌↔◌, ℕ, List, None}
 use Rattle.paw_stage.specs.Stage.{Standing, Faulted}
 use Rattle.paw_turn.specs.inner.Player.{IsSeated}
-use Rattle.paw_play.specs.Walk.{Reading}
+use Rattle.paw_play.specs.Walk.{EndingOf}
 use Rattle.paw_play.specs.inner.OnTheWay.{IsTracing}
 use Rattle.paw_routines.specs.Routines.{AreRowsOf, HaveRows}
 use Rattle.paw_effects.specs.Story.{story_of}
@@ -17,7 +17,7 @@ invariant-loop g l = record {
   faulted : Faulted None (g.S.Stage.faults l.fn.stage) (g.S.Stage.faults l.stage);
   routines : l.player.routines ≡ l.fn.player.routines;
   rows : HaveRows g.F.Fn l.player.routines;
-  tracing : g.S.Stage.Tells l.fn.stage → (X : List (List ℕ)) → AreRowsOf g.F.Fn l.fn.player.routines X → (whole : Reading) (first : Standing) →
+  tracing : g.S.Stage.Tells l.fn.stage → (X : List (List ℕ)) → AreRowsOf g.F.Fn l.fn.player.routines X → (whole : EndingOf) (first : Standing) →
       IsTracing (story_of l.fn.player.game X) whole first (g.S.Stage.standing l.fn.stage) l.fn.player 0 →
       IsTracing (story_of l.player.game X) whole first (g.S.Stage.standing l.stage) l.player l.counter;
 }

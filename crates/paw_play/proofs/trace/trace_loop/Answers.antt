@@ -8,7 +8,7 @@ use Rattle.paw_play.specs.inner.OnTheWay.{IsTracing}
 use Rattle.paw_play.proofs.Tracing.{trace_starts}
 use Rattle.paw_stage.proofs.Counted.{Faulted_on}
 use Rattle.paw_effects.specs.Story.{story_of}
-use Rattle.paw_play.specs.inner.Calls.{failed_call}
+use Rattle.paw_play.specs.inner.Calls.{call_of_end}
 use Rattle.paw_play.proofs.trace.trace_loop.Goals as goal
 
 pub start-step-requires-clause-rows : goal.start-step-requires-clause-rows
@@ -43,4 +43,4 @@ returns-clause-traces g c = λ tells X rows.
     walking))
 
 pub returns-clause-faulted : goal.returns-clause-faulted
-returns-clause-faulted g c = Faulted_on (failed_call c.trace_lines.result) _ _ _ c.in_default-told_behind_steps.ensures.faulted c.trace_lines.ensures.faulted
+returns-clause-faulted g c = Faulted_on (call_of_end c.trace_lines.result) _ _ _ c.in_default-told_behind_steps.ensures.faulted c.trace_lines.ensures.faulted

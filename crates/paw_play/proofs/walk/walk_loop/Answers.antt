@@ -7,7 +7,7 @@ use Rattle.paw_play.specs.inner.OnTheWay.{IsWalking}
 use Rattle.paw_play.proofs.Walking.{walk_starts}
 use Rattle.paw_stage.proofs.Counted.{Faulted_on}
 use Rattle.paw_effects.specs.Story.{story_of}
-use Rattle.paw_play.specs.inner.Calls.{failed_call}
+use Rattle.paw_play.specs.inner.Calls.{call_of_end}
 use Rattle.paw_play.proofs.walk.walk_loop.Goals as goal
 
 pub start-step-requires-clause-rows : goal.start-step-requires-clause-rows
@@ -40,4 +40,4 @@ returns-clause-walks g c = λ tells X rows.
     c.start-step.new.self 0) (sym c.start-step.ensures.game) walking))
 
 pub returns-clause-faulted : goal.returns-clause-faulted
-returns-clause-faulted g c = Faulted_on (failed_call c.walk_lines.result) _ _ _ c.in_default-told.ensures.faulted c.walk_lines.ensures.faulted
+returns-clause-faulted g c = Faulted_on (call_of_end c.walk_lines.result) _ _ _ c.in_default-told.ensures.faulted c.walk_lines.ensures.faulted

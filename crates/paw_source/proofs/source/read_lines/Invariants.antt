@@ -1,13 +1,13 @@
 use Rattle.std.proofs.Common.{◌≡◌, ◌≤◌, length}
 use Rattle.paw_lex.specs.Lines.{lines_of}
 use Rattle.paw_grammar.specs.GrammarState.{nothing_yet}
-use Rattle.paw_grammar.specs.Spells.{reading}
+use Rattle.paw_grammar.specs.Spells.{spelled_after}
 use Rattle.paw_source.specs.inner.Laws.{after_lines}
 use Rattle.paw_source.proofs.source.read_lines.Given as goal
 
 abbrev pub invariant-loop-line : goal.invariant-loop-line
 invariant-loop-line l =
-    (reading l.tables l.number l.draft l.lines.left ≡ reading l.tables 0 nothing_yet (lines_of l.source))
+    (spelled_after l.tables l.number l.draft l.lines.left ≡ spelled_after l.tables 0 nothing_yet (lines_of l.source))
     × (after_lines l.tables l.draft l.lines.left ≡ after_lines l.tables nothing_yet (lines_of l.source))
     × (l.number ≡ l.lines.given)
     × (l.number ≤ 8388608)

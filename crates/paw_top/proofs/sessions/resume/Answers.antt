@@ -1,7 +1,7 @@
 use Rattle.std.proofs.Common.{◌≡◌, ◌∙◌, sym, subst, ap}
 use Rattle.sha2.specs.Sha256.{sha256}
 use Rattle.paw_image.specs.Images.{IsImage}
-use Rattle.paw_image.specs.inner.Views.{game_of}
+use Rattle.paw_image.specs.inner.Views.{game_read}
 use Rattle.paw_effects.specs.Story.{Story, story_of}
 use Rattle.paw_stage.specs.Stage.{Standing}
 use Rattle.paw_stage.proofs.Time.{Passes_map, Passes_on}
@@ -65,7 +65,7 @@ returns-clause-outside g c = kept_outside c.resume_loop.result c.outcome_of.resu
 pub returns-clause-plays : goal.returns-clause-plays
 returns-clause-plays g c = λ tells X rows.
     let f = c.in-Ok.ensures.some tells in
-    let game = game_of c.in-Ok-view_in.view in
+    let game = game_read c.in-Ok-view_in.view in
     let holds = holds_loaded c.args.image.now c.in-Ok.bytes.items _ _ game f
     (subst (λ b. IsImage b game) c.as_slice.ensures.value c.in-Ok-view_in.ensures.found) in
     let kept = c.digest-kept.ensures.value ∙ ap sha256 (c.bytes.ensures.value ∙ c.bytes.ensures.image.spelled) in
@@ -80,7 +80,7 @@ returns-clause-any_moment g c = λ tells s st piece rows holds shows.
     let f = c.in-Ok.ensures.some tells in
     let old : Standing = g.S.Stage.standing c.args.stage.now in
     let mid : Standing = g.S.Stage.standing c.load.new.stage in
-    let game = game_of c.in-Ok-view_in.view in
+    let game = game_read c.in-Ok-view_in.view in
     let mine : Holds old c.args.image.now game =
     holds_loaded c.args.image.now c.in-Ok.bytes.items _ _ game f (subst (λ b. IsImage b game) c.as_slice.ensures.value c.in-Ok-view_in.ensures.found) in
     let kept = c.digest-kept.ensures.value ∙ ap sha256 (c.bytes.ensures.value ∙ c.bytes.ensures.image.spelled) in
@@ -99,7 +99,7 @@ pub returns-clause-goes_on : goal.returns-clause-goes_on
 returns-clause-goes_on g c = λ tells s seed es rows holds played stands.
     let f = c.in-Ok.ensures.some tells in
     let old : Standing = g.S.Stage.standing c.args.stage.now in
-    let game = game_of c.in-Ok-view_in.view in
+    let game = game_read c.in-Ok-view_in.view in
     let mine : Holds old c.args.image.now game =
     holds_loaded c.args.image.now c.in-Ok.bytes.items _ _ game f (subst (λ b. IsImage b game) c.as_slice.ensures.value c.in-Ok-view_in.ensures.found) in
     let kept = c.digest-kept.ensures.value ∙ ap sha256 (c.bytes.ensures.value ∙ c.bytes.ensures.image.spelled) in

@@ -1,6 +1,6 @@
 use Rattle.std.proofs.Common.{sym, subst}
 use Rattle.paw_image.specs.Images.{IsImage}
-use Rattle.paw_image.specs.inner.Views.{game_of}
+use Rattle.paw_image.specs.inner.Views.{game_read}
 use Rattle.paw_effects.specs.Story.{story_of}
 use Rattle.paw_reading.specs.Turn.{reading}
 use Rattle.paw_play.specs.Walk.{Walks}
@@ -28,7 +28,7 @@ pub returns-clause-walks : goal.returns-clause-walks
 returns-clause-walks g c = λ tells X rows.
     let after_walk_loop = g.S.Stage.standing c.walk_loop.new.stage in
     let f = c.in-Ok.ensures.some tells in
-    let game = game_of c.in-Ok-view_in.view in
+    let game = game_read c.in-Ok-view_in.view in
     let holds = holds_loaded c.args.image.now c.in-Ok.bytes.items _ _ game f
     (subst (λ b. IsImage b game) c.as_slice.ensures.value c.in-Ok-view_in.ensures.found) in
     subst (WalksIn X c.args.image.now c.args.seed (g.S.Stage.standing c.args.stage.now) after_walk_loop) (sym c.outcome_of.ensures.value)

@@ -1,12 +1,12 @@
 use Rattle.std.proofs.Common.{refl, ℕ, Option, sym, ap, ◌∙◌}
 use Rattle.paw_game.specs.inner.Tables.{text_at}
-use Rattle.paw_image.specs.inner.Views.{game_of, spanned}
+use Rattle.paw_image.specs.inner.Views.{game_read, spanned}
 use Rattle.paw_image.proofs.ViewLaws.{span_read, text_read}
 use Rattle.paw_image.proofs.view.View.span.Goals as goal
 
 pub returns-in_err-place : goal.returns-in_err-place
 returns-in_err-place c =
-    let text = text_at (game_of c.args.self.now) c.args.part c.args.number in
+    let text = text_at (game_read c.args.self.now) c.args.part c.args.number in
     record { value = c.from_residual.ensures ∙ ap (λ (o : Option ℕ). spanned o text) c.in_err-place.ensures.value }
 
 pub returns-in_err-text : goal.returns-in_err-text

@@ -5,7 +5,7 @@ use Rattle.paw_game.specs.declared.parts.Entry.{Entry}
 use Rattle.paw_game.specs.Tables.{condacts_of}
 use Rattle.paw_game.specs.Valid.{is_condact}
 use Rattle.paw_game.proofs.Kept.{IfSome-from, condact-early, condact-small, condact_kept}
-use Rattle.paw_image.specs.inner.Views.{game_of}
+use Rattle.paw_image.specs.inner.Views.{game_read}
 use Rattle.paw_image.specs.declared.places.TableIndex.{TableIndex}
 use Rattle.paw_image.proofs.ViewLaws.{no_index_read, no_place_read, condact_by_index, marks_by_index}
 use Rattle.paw_image.proofs.view.ViewTables.condact.Goals as goal
@@ -53,7 +53,7 @@ returns-clause-small c =
     c.condact_in.ensures.value ∙ condact_by_index c.self.inside.bytes.now c.self.inside.counts c.self.inside.words.items c.self.inside.places c.self.invariant c.args.table
     c.in_ok-index.index.now there c.args.entry c.args.at c.in_ok-place.place begins in
     IfSome-from (λ (_ : Condact). c.args.entry < 4000) c.condact_in.result _ found
-    (condact-small (game_of c.self.inside.bytes.now) c.self.invariant.image.valid c.args.table c.args.entry c.args.at)
+    (condact-small (game_read c.self.inside.bytes.now) c.self.invariant.image.valid c.args.table c.args.entry c.args.at)
 
 pub returns-clause-early : goal.returns-clause-early
 returns-clause-early c =
@@ -63,7 +63,7 @@ returns-clause-early c =
     c.condact_in.ensures.value ∙ condact_by_index c.self.inside.bytes.now c.self.inside.counts c.self.inside.words.items c.self.inside.places c.self.invariant c.args.table
     c.in_ok-index.index.now there c.args.entry c.args.at c.in_ok-place.place begins in
     IfSome-from (λ (_ : Condact). c.args.at < 255) c.condact_in.result _ found
-    (condact-early (game_of c.self.inside.bytes.now) c.self.invariant.image.valid c.args.table c.args.entry c.args.at)
+    (condact-early (game_read c.self.inside.bytes.now) c.self.invariant.image.valid c.args.table c.args.entry c.args.at)
 
 pub returns-clause-kept : goal.returns-clause-kept
 returns-clause-kept c =
@@ -74,5 +74,5 @@ returns-clause-kept c =
     c.in_ok-index.index.now there c.args.entry c.args.at c.in_ok-place.place begins in
     let is = rw c.self.view_is at found in
     let image = rw c.self.view_is at c.self.invariant.image in
-    IfSome-from (λ (x : Condact). IsTrue (is_condact (game_of c.args.self.now) x)) c.condact_in.result _ is
-    (condact_kept (game_of c.args.self.now) image.valid c.args.table c.args.entry c.args.at)
+    IfSome-from (λ (x : Condact). IsTrue (is_condact (game_read c.args.self.now) x)) c.condact_in.result _ is
+    (condact_kept (game_read c.args.self.now) image.valid c.args.table c.args.entry c.args.at)

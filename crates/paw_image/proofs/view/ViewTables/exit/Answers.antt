@@ -1,7 +1,7 @@
 use Rattle.std.proofs.Common.{◌<◌, List, ℕ, length, sym, ap, ◌∙◌}
 use Rattle.std.specs.Prelude.{slice_get}
 use Rattle.paw_game.proofs.Kept.{IfSome-from, exit-leads}
-use Rattle.paw_image.specs.inner.Views.{game_of}
+use Rattle.paw_image.specs.inner.Views.{game_read}
 use Rattle.paw_image.proofs.PlaceLaws.{exit_there, no_exit}
 use Rattle.paw_image.proofs.ViewLaws.{lists_of}
 use Rattle.paw_image.proofs.view.ViewTables.exit.Goals as goal
@@ -10,14 +10,14 @@ pub returns-in_err-place-clause-value : goal.returns-in_err-place-clause-value
 returns-in_err-place-clause-value c =
     let bytes = c.self.inside.bytes.now in
     let none = ap (λ (ps : List ℕ). slice_get ps c.args.location) (sym (c.deref.ensures.value ∙ c.self.invariant.exits)) ∙ sym c.in_err-place.ensures.value in
-    let is = no_exit (game_of bytes) c.args.verb c.args.location none in
+    let is = no_exit (game_read bytes) c.args.verb c.args.location none in
     c.from_residual.ensures ∙ sym (rw c.self.view_is at is)
 
 pub returns-clause-value : goal.returns-clause-value
 returns-clause-value c =
     let bytes = c.self.inside.bytes.now in
     let at = ap (λ (ps : List ℕ). slice_get ps c.args.location) (sym (c.deref.ensures.value ∙ c.self.invariant.exits)) ∙ sym c.in_ok-place.ensures.value in
-    let is = exit_there bytes (game_of bytes) (lists_of bytes c.self.invariant.image) c.args.verb c.args.location c.in_ok-place.place at in
+    let is = exit_there bytes (game_read bytes) (lists_of bytes c.self.invariant.image) c.args.verb c.args.location c.in_ok-place.place at in
     let found = c.exit_at.ensures.value ∙ is in
     rw c.self.view_is at found
 
@@ -25,8 +25,8 @@ pub returns-clause-leads : goal.returns-clause-leads
 returns-clause-leads c =
     let bytes = c.self.inside.bytes.now in
     let at = ap (λ (ps : List ℕ). slice_get ps c.args.location) (sym (c.deref.ensures.value ∙ c.self.invariant.exits)) ∙ sym c.in_ok-place.ensures.value in
-    let is = exit_there bytes (game_of bytes) (lists_of bytes c.self.invariant.image) c.args.verb c.args.location c.in_ok-place.place at in
+    let is = exit_there bytes (game_read bytes) (lists_of bytes c.self.invariant.image) c.args.verb c.args.location c.in_ok-place.place at in
     let found = c.exit_at.ensures.value ∙ is in
     let there = rw c.self.view_is at found in
     let image = rw c.self.view_is at c.self.invariant.image in
-    IfSome-from (λ (to : ℕ). to < length (game_of c.args.self.now).locations) c.exit_at.result _ there (exit-leads (game_of c.args.self.now) image.valid c.args.location c.args.verb)
+    IfSome-from (λ (to : ℕ). to < length (game_read c.args.self.now).locations) c.exit_at.result _ there (exit-leads (game_read c.args.self.now) image.valid c.args.location c.args.verb)

@@ -3,7 +3,7 @@ use Rattle.std.specs.Prelude.{slice_get}
 use Rattle.paw_game.specs.Tables.{head_of, or_empty}
 use Rattle.paw_game.proofs.Kept.{IfSome-from, head-small}
 use Rattle.paw_image.specs.inner.Places.{entries_of}
-use Rattle.paw_image.specs.inner.Views.{game_of}
+use Rattle.paw_image.specs.inner.Views.{game_read}
 use Rattle.paw_image.proofs.ViewLaws.{head_read, no_entry_read}
 use Rattle.paw_image.proofs.view.ViewTables.head.Goals as goal
 
@@ -23,4 +23,4 @@ pub returns-clause-small : goal.returns-clause-small
 returns-clause-small c =
     let at = ap (λ (ps : List (List ℕ)). slice_get (or_empty (slice_get ps c.args.table)) c.args.entry) (sym (ap entries_of c.deref.ensures.value ∙ c.self.invariant.tables)) ∙ sym c.in_ok-place.ensures.value in
     let found = c.head_in.ensures.value ∙ head_read c.self.inside.bytes.now c.self.invariant.image c.args.table c.args.entry c.in_ok-place.place at in
-    IfSome-from (λ (_ : ℕ × ℕ). c.args.entry < 4000) c.head_in.result _ found (head-small (game_of c.self.inside.bytes.now) c.self.invariant.image.valid c.args.table c.args.entry)
+    IfSome-from (λ (_ : ℕ × ℕ). c.args.entry < 4000) c.head_in.result _ found (head-small (game_read c.self.inside.bytes.now) c.self.invariant.image.valid c.args.table c.args.entry)

@@ -1,14 +1,14 @@
 use Rattle.std.proofs.Common.{◌≤◌, List, ℕ, length, sym, ap, ◌∙◌}
 use Rattle.std.specs.Option.{option_copied}
 use Rattle.paw_game.proofs.Kept.{IfSome-copied, text-short, text_kept}
-use Rattle.paw_image.specs.inner.Views.{game_of}
+use Rattle.paw_image.specs.inner.Views.{game_read}
 use Rattle.paw_image.proofs.PlaceLaws.{no_text_of_part}
 use Rattle.paw_image.proofs.ViewLaws.{text_read}
 use Rattle.paw_image.proofs.view.ViewTables.text.Goals as goal
 
 pub returns-in_err-place-clause-value : goal.returns-in_err-place-clause-value
 returns-in_err-place-clause-value c =
-    ap option_copied c.from_residual.ensures ∙ sym (no_text_of_part (game_of c.args.self.now) c.args.part c.args.number (sym c.in_err-place.ensures.value))
+    ap option_copied c.from_residual.ensures ∙ sym (no_text_of_part (game_read c.args.self.now) c.args.part c.args.number (sym c.in_err-place.ensures.value))
 
 pub returns-clause-value : goal.returns-clause-value
 returns-clause-value c =
@@ -24,4 +24,4 @@ returns-clause-short c =
     let is = rw c.self.view_is at c.text_in.ensures.value in
     let found = is ∙ text_read bytes image c.args.part c.args.number c.in_ok-place.place (sym c.in_ok-place.ensures.value) in
     IfSome-copied (λ (text : List ℕ). length text ≤ 4095) c.text_in.result _ found
-    (λ text e. text-short text (text_kept (game_of bytes) image.valid c.args.part c.args.number text e))
+    (λ text e. text-short text (text_kept (game_read bytes) image.valid c.args.part c.args.number text e))

@@ -4,7 +4,7 @@ use Rattle.paw_stage.specs.Stage.{Standing}
 use Rattle.paw_stage.specs.Across.{EachMoment}
 use Rattle.paw_stage.proofs.Time.{Passes_map, Passes_on}
 use Rattle.paw_journal.specs.Session.{recover_by, kept_digest, slot}
-use Rattle.paw_journal.specs.inner.Session.{showing}
+use Rattle.paw_journal.specs.inner.Session.{session_shown}
 use Rattle.paw_journal.specs.inner.Room.{kept_of, kept_slot, slot_number}
 use Rattle.paw_journal.specs.inner.Written.{WritesLittle, most_written}
 use Rattle.paw_journal.specs.inner.Store.{LeavesOldOr}
@@ -49,7 +49,7 @@ module _ (g : Over) (c : After-choose g) (tells : g.S.Stage.Tells c.args.stage.n
 
   -- the slot shows the new state and piece
   shows : recover_by (slot_number c.other-slot.result) written.disk.bytes
-      ≡ showing (kept_digest old.disk.bytes) c.args.state.now c.args.piece.now
+      ≡ session_shown (kept_digest old.disk.bytes) c.args.state.now c.args.piece.now
   shows = committed_shows (slot_number c.other-slot.result) c.draft-draft.result
       (kept_of c.other-slot.result c.args.room.now) c.args.state.now c.slot.result.now c.args.piece.now old written
       filled drafts keeps (c.in_ok-write_slot.ensures.written tells) short c.requires.piece_length

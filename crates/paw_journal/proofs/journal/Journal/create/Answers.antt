@@ -3,7 +3,7 @@ use Rattle.paw_stage.specs.Stage.{Standing}
 use Rattle.paw_stage.specs.Across.{EachMoment}
 use Rattle.paw_stage.proofs.Time.{Passes_map, Passes_on}
 use Rattle.paw_journal.specs.Session.{recover, kept_digest, slot_length}
-use Rattle.paw_journal.specs.inner.Session.{marked, made_slot, made_session, showing}
+use Rattle.paw_journal.specs.inner.Session.{marked, made_slot, made_session, session_shown}
 use Rattle.paw_journal.specs.inner.Store.{LeavesMade}
 use Rattle.paw_journal.proofs.Moved.{beside_none}
 use Rattle.paw_journal.proofs.Sessions.{length_slot, laid_long, short_piece, marked_session, session_digest}
@@ -37,7 +37,7 @@ module _ (g : Over) (c : After-mark g) (few : length c.args.piece.now ≤ 65535)
   made = marked_session c.args.game.now c.slot.result.now _ _ laid.disk (c.in_ok-lay_out.ensures.laid tells) are
 
   shows : recover (made_session c.args.game.now c.args.state.now c.args.piece.now)
-      ≡ showing c.args.game.now c.args.state.now c.args.piece.now
+      ≡ session_shown c.args.game.now c.args.state.now c.args.piece.now
   shows = session_shows c.args.game.now c.args.state.now c.args.piece.now c.told-game c.told-state few
       c.requires.piece_length
 

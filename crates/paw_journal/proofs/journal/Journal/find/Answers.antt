@@ -5,7 +5,7 @@ use Rattle.paw_stage.specs.Stage.{Standing}
 use Rattle.paw_stage.specs.Moments.{Still}
 use Rattle.paw_stage.specs.Across.{EachMoment}
 use Rattle.paw_journal.specs.Session.{Shown, recover, slot_shows, state_length, slot, kept_digest}
-use Rattle.paw_journal.specs.inner.Session.{showing}
+use Rattle.paw_journal.specs.inner.Session.{session_shown}
 use Rattle.paw_journal.specs.inner.Room.{HasRead, slot_number}
 use Rattle.paw_journal.proofs.Sessions.{introduced_shows, still_on, other_game, same_game, found_keeps, found_slots}
 use Rattle.paw_journal.proofs.Sessions.{shown_stays}
@@ -38,7 +38,7 @@ module _ (g : Over) (c : After-look g) (tells : g.S.Stage.Tells c.args.stage.now
   shown : recover (g.S.Stage.standing c.args.stage.now).disk.bytes
       ≡ slot_shows c.in_ok-header.header.digest c.read_slot.new.self.slot →
       recover (g.S.Stage.standing c.args.stage.now).disk.bytes
-      ≡ showing c.in_ok-header.header.digest c.look.new.self.state c.look.new.self.piece
+      ≡ session_shown c.in_ok-header.header.digest c.look.new.self.state c.look.new.self.piece
   shown first = shown_stays _ _ c.other-other.result _ c.unpack.new.self c.read_slot-2.new.self c.look.new.self
       (first ∙ c.in-Ok-unpack.ensures.shown c.in_ok-header.header.digest)
       c.in-Ok-read_slot.ensures.same c.look.ensures.kept

@@ -1,26 +1,26 @@
 use Rattle.std.proofs.Common.{refl}
 use Rattle.paw_process.proofs.Runs.{running_starts, running_on, running_ends}
 use Rattle.paw_process.proofs.Works.{progresses}
-use Rattle.paw_process.specs.inner.Meaning.{held}
+use Rattle.paw_process.specs.inner.Meaning.{having}
 use Rattle.paw_process.proofs.machine.Machine.run.Goals as goal
 
 pub returns-in-Some-clause-meaning : goal.returns-in-Some-clause-meaning
 returns-in-Some-clause-meaning g c X rows =
-    running_ends g.F.Fn c.args.routines.now (g.T.Tables.game c.args.tables.now) (held c.args.world.now c.args.pending.now c.args.self.now c.args.piece.now)
-    (held c.loop-turned.world c.loop-turned.pending c.loop-turned.self c.loop-turned.piece) c.in-Some.turned
-    (held c.step.new.world c.step.new.pending c.step.new.self c.step.new.piece) c.loop-turned.invariant X rows (c.in-Some.ensures.meaning X rows)
+    running_ends g.F.Fn c.args.routines.now (g.T.Tables.game c.args.tables.now) (having c.args.world.now c.args.pending.now c.args.self.now c.args.piece.now)
+    (having c.loop-turned.world c.loop-turned.pending c.loop-turned.self c.loop-turned.piece) c.in-Some.turned
+    (having c.step.new.world c.step.new.pending c.step.new.self c.step.new.piece) c.loop-turned.invariant X rows (c.in-Some.ensures.meaning X rows)
 
 pub loop-turned-smaller : goal.loop-turned-smaller
 loop-turned-smaller g c = progresses c.loop-turned.self c.step.new.self c.in-None.ensures.stands (c.in-None.ensures.progress refl)
 
 pub loop-turned-preserved : goal.loop-turned-preserved
 loop-turned-preserved g c =
-    running_on g.F.Fn c.args.routines.now (g.T.Tables.game c.args.tables.now) (held c.args.world.now c.args.pending.now c.args.self.now c.args.piece.now)
-    (held c.loop-turned.world c.loop-turned.pending c.loop-turned.self c.loop-turned.piece)
-    (held c.step.new.world c.step.new.pending c.step.new.self c.step.new.piece) c.loop-turned.invariant
+    running_on g.F.Fn c.args.routines.now (g.T.Tables.game c.args.tables.now) (having c.args.world.now c.args.pending.now c.args.self.now c.args.piece.now)
+    (having c.loop-turned.world c.loop-turned.pending c.loop-turned.self c.loop-turned.piece)
+    (having c.step.new.world c.step.new.pending c.step.new.self c.step.new.piece) c.loop-turned.invariant
     c.in-None.ensures.meaning c.in-None.ensures.stands c.in-None.ensures.game c.in-None.ensures.draws
 
 pub loop-turned-init : goal.loop-turned-init
 loop-turned-init g c =
-    running_starts g.F.Fn c.args.routines.now (g.T.Tables.game c.args.tables.now) (held c.args.world.now c.args.pending.now c.args.self.now c.args.piece.now)
+    running_starts g.F.Fn c.args.routines.now (g.T.Tables.game c.args.tables.now) (having c.args.world.now c.args.pending.now c.args.self.now c.args.piece.now)
     c.requires.reading c.requires.game

@@ -1,5 +1,5 @@
 use Rattle.std.proofs.Common.{◌+◌, ◌*◌}
-use Rattle.paw_process.specs.inner.Meaning.{held}
+use Rattle.paw_process.specs.inner.Meaning.{having}
 use Rattle.paw_process.specs.inner.Running.{IsRunning}
 use Rattle.paw_process.specs.inner.Work.{work}
 use Rattle.paw_process.proofs.machine.Machine.run.Given as goal
@@ -7,7 +7,7 @@ use Rattle.paw_process.proofs.machine.Machine.run.Given as goal
 abbrev pub invariant-loop-turned : goal.invariant-loop-turned
 invariant-loop-turned g l =
     IsRunning g.F.Fn l.routines (g.T.Tables.game l.tables)
-    (held l.initial.world l.initial.pending l.initial.self l.initial.piece) (held l.world l.pending l.self l.piece)
+    (having l.initial.world l.initial.pending l.initial.self l.initial.piece) (having l.world l.pending l.self l.piece)
 
 abbrev pub decreases-loop-turned : goal.decreases-loop-turned
 decreases-loop-turned g l = l.self.left * 134217728 + work l.self

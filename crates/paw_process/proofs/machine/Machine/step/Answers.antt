@@ -7,7 +7,7 @@ use Rattle.paw_process.proofs.Readings.{reads_nothing, reads_from, reads_moved}
 use Rattle.paw_process.proofs.Steps.{going_inside, going_left, going_match}
 use Rattle.paw_process.proofs.Stops.{goes_from}
 use Rattle.paw_process.proofs.Works.{match_progress}
-use Rattle.paw_process.specs.inner.Meaning.{held, showing, going_on}
+use Rattle.paw_process.specs.inner.Meaning.{having, run_held, going_in}
 use Rattle.paw_process.specs.inner.Moves.{reading_at}
 use Rattle.paw_process.specs.inner.OpenTables.{below}
 use Rattle.paw_reading.specs.declared.places.Frame.{Frame}
@@ -17,10 +17,10 @@ pub returns-then-f-gt0-clause-meaning : goal.returns-then-f-gt0-clause-meaning
 returns-then-f-gt0-clause-meaning g c X rows =
     let game = story_of (g.T.Tables.game c.args.tables.now) X in
     let fs = below c.args.self.now.frames in
-    let old = held c.args.world.now c.args.pending.now c.args.self.now c.args.piece.now in
-    reads_from game (going_on game c.args.self.now.frames) (reading_at game fs c.top-f.result) old c.inside.result
-    (held c.inside.new.world c.inside.new.pending c.inside.new.self c.inside.new.piece)
-    (λ r. ap (λ s. going_on game s (showing old r)) c.top-f.ensures.value ∙ going_inside game fs c.top-f.result (showing old r) c.if-f-gt0.true)
+    let old = having c.args.world.now c.args.pending.now c.args.self.now c.args.piece.now in
+    reads_from game (going_in game c.args.self.now.frames) (reading_at game fs c.top-f.result) old c.inside.result
+    (having c.inside.new.world c.inside.new.pending c.inside.new.self c.inside.new.piece)
+    (λ r. ap (λ s. going_in game s (run_held old r)) c.top-f.ensures.value ∙ going_inside game fs c.top-f.result (run_held old r) c.if-f-gt0.true)
     (c.inside.ensures.meaning X rows)
 
 pub inside-requires-in-Some-clause-entry : goal.inside-requires-in-Some-clause-entry
@@ -33,25 +33,25 @@ pub returns-in-None-clause-meaning : goal.returns-in-None-clause-meaning
 returns-in-None-clause-meaning g c X rows =
     let game = story_of (g.T.Tables.game c.args.tables.now) X in
     let fs = below c.args.self.now.frames in
-    let old = held c.args.world.now c.args.pending.now c.args.self.now c.args.piece.now in
-    let new = held c.leave_level.new.world c.args.pending.now c.leave_level.new.self c.args.piece.now in
-    reads_nothing game (going_on game c.args.self.now.frames) old c.leave_level.result new c.leave_level.ensures.left
-    (λ r. goes_from game _ _ c.leave_level.result c.leave_level.new.self.frames (showing new r)
-    (ap (λ s. going_on game s (showing old r)) c.top-f.ensures.value
-    ∙ going_left game fs c.top-f.result (showing old r) (omega arith) (rw (c.flag.ensures.value, c.flag-2.ensures.value) at (sym {b = match_at (g.T.Tables.game c.args.tables.now) c.top-f.result.table c.top-f.result.entry c.flag.result c.flag-2.result} c.in-None.ensures.value)))
-    (c.leave_level.ensures.meaning X (showing old r)))
+    let old = having c.args.world.now c.args.pending.now c.args.self.now c.args.piece.now in
+    let new = having c.leave_level.new.world c.args.pending.now c.leave_level.new.self c.args.piece.now in
+    reads_nothing game (going_in game c.args.self.now.frames) old c.leave_level.result new c.leave_level.ensures.left
+    (λ r. goes_from game _ _ c.leave_level.result c.leave_level.new.self.frames (run_held new r)
+    (ap (λ s. going_in game s (run_held old r)) c.top-f.ensures.value
+    ∙ going_left game fs c.top-f.result (run_held old r) (omega arith) (rw (c.flag.ensures.value, c.flag-2.ensures.value) at (sym {b = match_at (g.T.Tables.game c.args.tables.now) c.top-f.result.table c.top-f.result.entry c.flag.result c.flag-2.result} c.in-None.ensures.value)))
+    (c.leave_level.ensures.meaning X (run_held old r)))
 
 pub returns-in-Some-clause-meaning : goal.returns-in-Some-clause-meaning
 returns-in-Some-clause-meaning g c X rows =
     let game = story_of (g.T.Tables.game c.args.tables.now) X in
     let fs = below c.args.self.now.frames in
-    let old = held c.args.world.now c.args.pending.now c.args.self.now c.args.piece.now in
+    let old = having c.args.world.now c.args.pending.now c.args.self.now c.args.piece.now in
     let f : Frame = record { table = c.top-f.result.table; entry = c.in-Some.entry; at = 0; acted = c.top-f.result.acted } in
-    reads_from game (going_on game c.args.self.now.frames) (reading_at game fs f) old c.inside-in-Some.result
-    (held c.inside-in-Some.new.world c.inside-in-Some.new.pending c.inside-in-Some.new.self c.inside-in-Some.new.piece)
-    (λ r. ap (λ s. going_on game s (showing old r)) c.top-f.ensures.value ∙ going_match game fs c.top-f.result (showing old r) c.in-Some.entry (omega arith) (rw (c.flag.ensures.value, c.flag-2.ensures.value) at (sym {b = match_at (g.T.Tables.game c.args.tables.now) c.top-f.result.table c.top-f.result.entry c.flag.result c.flag-2.result} c.in-Some.ensures.value)))
+    reads_from game (going_in game c.args.self.now.frames) (reading_at game fs f) old c.inside-in-Some.result
+    (having c.inside-in-Some.new.world c.inside-in-Some.new.pending c.inside-in-Some.new.self c.inside-in-Some.new.piece)
+    (λ r. ap (λ s. going_in game s (run_held old r)) c.top-f.ensures.value ∙ going_match game fs c.top-f.result (run_held old r) c.in-Some.entry (omega arith) (rw (c.flag.ensures.value, c.flag-2.ensures.value) at (sym {b = match_at (g.T.Tables.game c.args.tables.now) c.top-f.result.table c.top-f.result.entry c.flag.result c.flag-2.result} c.in-Some.ensures.value)))
     (reads_moved game (reading_at game fs f) old (f ∷ fs) c.inside-in-Some.result
-    (held c.inside-in-Some.new.world c.inside-in-Some.new.pending c.inside-in-Some.new.self c.inside-in-Some.new.piece)
+    (having c.inside-in-Some.new.world c.inside-in-Some.new.pending c.inside-in-Some.new.self c.inside-in-Some.new.piece)
     (rw c.set_top.ensures.value at (c.inside-in-Some.ensures.meaning X rows)))
 
 pub returns-in-Some-clause-progress : goal.returns-in-Some-clause-progress

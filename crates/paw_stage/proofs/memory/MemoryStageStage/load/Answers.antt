@@ -1,5 +1,5 @@
 use Rattle.std.proofs.Common.{refl, ap, sym}
-use Rattle.paw_stage.specs.inner.Done.{loaded}
+use Rattle.paw_stage.specs.inner.Done.{loaded_file}
 use Rattle.paw_stage.specs.contracts.memory.MemoryStage.{the_view}
 use Rattle.paw_stage.proofs.Calls.{passed}
 use Rattle.paw_stage.proofs.memory.MemoryStageStage.load.Goals as goal
@@ -9,11 +9,11 @@ returns-clause-time c =
     let kept = rw c.as_bytes.ensures.value at (c.if-not-add.ensures.kept refl) in
     passed c.args.self.now
     (the_view (record { lines = c.self.inside.lines; log = c.add.new.self; counts = c.self.inside.counts }))
-    c.self.inside.log (loaded c.args.name.now) (ap (λ m. m.log) (sym c.self.view_is)) kept
+    c.self.inside.log (loaded_file c.args.name.now) (ap (λ m. m.log) (sym c.self.view_is)) kept
 
 pub returns-in_default-clause-time : goal.returns-in_default-clause-time
 returns-in_default-clause-time c =
     let kept = rw c.as_bytes.ensures.value at (c.if-not-add.ensures.kept refl) in
     passed c.args.self.now
     (the_view (record { lines = c.self.inside.lines; log = c.add.new.self; counts = c.raise-in_default.new.self }))
-    c.self.inside.log (loaded c.args.name.now) (ap (λ m. m.log) (sym c.self.view_is)) kept
+    c.self.inside.log (loaded_file c.args.name.now) (ap (λ m. m.log) (sym c.self.view_is)) kept

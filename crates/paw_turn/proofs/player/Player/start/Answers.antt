@@ -3,8 +3,8 @@ use Rattle.paw_routines.specs.Routines.{AreRowsOf, HaveRows}
 use Rattle.paw_effects.specs.Story.{story_of}
 use Rattle.paw_reading.specs.Turn.{reading}
 use Rattle.paw_turn.specs.declared.turn.Turn.{Turn}
-use Rattle.paw_turn.specs.inner.Player.{Seat, IsNew, IsSeated, PlaysTo, Stands}
-use Rattle.paw_turn.specs.inner.Stages.{seat_of, settled}
+use Rattle.paw_turn.specs.inner.Player.{Seat, IsNew, IsSeated, PlaysTo, StandsClosed}
+use Rattle.paw_turn.specs.inner.Stages.{seat_of, turn_settled}
 use Rattle.paw_turn.proofs.Settling.{start_plays}
 use Rattle.paw_game.specs.Valid.{Valid}
 use Rattle.paw_turn.proofs.Seating.{new_playable, new_read}
@@ -19,7 +19,7 @@ returns-clause-meaning g c X rows =
     let own_rows = subst (λ (q : Seat g.row.F.Denot). AreRowsOf g.F.Fn q.routines X) (sym c.self.view_is) rows in
     let Told : Seat g.row.F.Denot → Turn → Type 0 = λ q h. PlaysTo (story_of q.game X) (reading (story_of q.game X) q.world.seed) s (seat_of own routines h s) [] [] in
     subst (Told c.args.self.now) (sym c.settle.ensures.value)
-    (subst (λ (q : Seat g.row.F.Denot). IsNew q q.world.seed → Told q (settled s c.play-step.new.self)) c.self.view_is
+    (subst (λ (q : Seat g.row.F.Denot). IsNew q q.world.seed → Told q (turn_settled s c.play-step.new.self)) c.self.view_is
     (start_plays (story_of own X) routines c.self.inside.turn c.play-step.new.self s c.self.inside.last (c.play-step.ensures.meaning X own_rows)) c.requires.new)
 
 pub returns-clause-seated : goal.returns-clause-seated
@@ -29,7 +29,7 @@ returns-clause-seated g c =
     let new : Seat g.row.F.Denot = seat_of own c.self.inside.routines.now c.settle.new.self s in
     let old = c.args.self.now in
     let X = c.requires.rows.0 in
-    let stands = subst (λ (h : Turn). Stands s h.machine) (sym c.settle.ensures.value) c.play-step.ensures.keeps.machine in
+    let stands = subst (λ (h : Turn). StandsClosed s h.machine) (sym c.settle.ensures.value) c.play-step.ensures.keeps.machine in
     let v = valid_story g.F.Fn old.routines old.game X c.requires.seated.valid c.requires.rows.1 in
     subst (λ h. IsSeated (record new { game = h })) (sym (ap (λ (q : Seat g.row.F.Denot). q.game) c.self.view_is))
     (record {

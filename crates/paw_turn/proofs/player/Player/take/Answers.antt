@@ -8,8 +8,8 @@ use Rattle.paw_turn.specs.declared.Step.{Step}
 use Rattle.paw_turn.specs.declared.Step.TheVariants as step
 use Rattle.paw_turn.specs.declared.stage.Next.TheVariants as next
 use Rattle.paw_turn.specs.declared.turn.Turn.{Turn}
-use Rattle.paw_turn.specs.inner.Player.{Seat, IsSeated, PlaysTo, Stands, run_at}
-use Rattle.paw_turn.specs.inner.Stages.{PlaysAs, from_prompt, seat_of, settled}
+use Rattle.paw_turn.specs.inner.Player.{Seat, IsSeated, PlaysTo, StandsClosed, run_at}
+use Rattle.paw_turn.specs.inner.Stages.{PlaysAs, from_prompt, seat_of, turn_settled}
 use Rattle.paw_turn.proofs.Settling.{take_plays}
 use Rattle.paw_turn.proofs.Standing.{bytes_each, valid_story, taken_on}
 use Rattle.paw_turn.proofs.player.Player.take.Goals as goal
@@ -31,7 +31,7 @@ returns-clause-meaning g c X rows = λ p waits pieces traces.
     let plays = subst (λ (h : Turn). PlaysAs (story_of own X) (from_prompt (story_of own X) p h line) h (next.Stop s) new) c.open_piece.ensures.value asked in
     let Told : Seat g.row.F.Denot → Turn → Type 0 = λ q h. PlaysTo (story_of q.game X) (λ lines. on (story_of q.game X) p (reverse q.machine.frames) (run_at q pieces traces (line ∷ lines))) s (seat_of own routines h s) pieces traces in
     subst (Told c.args.self.now) (sym c.settle.ensures.value)
-    (subst (λ (q : Seat g.row.F.Denot). Told q (settled s new)) c.self.view_is (take_plays (story_of own X) routines p old new line s pieces traces plays))
+    (subst (λ (q : Seat g.row.F.Denot). Told q (turn_settled s new)) c.self.view_is (take_plays (story_of own X) routines p old new line s pieces traces plays))
 
 pub returns-clause-seated : goal.returns-clause-seated
 returns-clause-seated g c =
@@ -41,7 +41,7 @@ returns-clause-seated g c =
     let old = c.args.self.now in
     let X = c.requires.rows.0 in
     let waits = sym (ap (λ (q : Seat g.row.F.Denot). q.last) c.self.view_is) ∙ c.in-Waits.is in
-    let stands = subst (λ (h : Turn). Stands s h.machine) (sym c.settle.ensures.value) c.take-step.ensures.keeps.machine in
+    let stands = subst (λ (h : Turn). StandsClosed s h.machine) (sym c.settle.ensures.value) c.take-step.ensures.keeps.machine in
     let v = valid_story g.F.Fn old.routines old.game X c.requires.seated.valid c.requires.rows.1 in
     let line : IsLine c.args.line.now = record { short = c.requires.line; bytes = bytes_each c.args.line.now (λ i. (c.type_inv.line i).fits) } in
     subst (λ h. IsSeated (record new { game = h })) (sym (ap (λ (q : Seat g.row.F.Denot). q.game) c.self.view_is))
