@@ -1,9 +1,11 @@
 -- Which actions ask, call tables and open loops: those of flow alone.
-use Rattle.std.proofs.Common.{◌≡◌, ℕ, ◌==◌, Bool, true, false, Option, Some, None, refl, arith}
+use Rattle.std.proofs.Common.{◌≡◌, ℕ, ◌==◌, Bool, true, false, Option, Some, None, refl}
 use Rattle.std.specs.Prelude.{if◌then◌else◌}
 use Rattle.std.proofs.lemmas.Bool.{eqb-true}
-use Rattle.std.proofs.lemmas.Bool.Decides.{nat_tests}
+use Rattle.paw_base.specs.Condacts.{family_of}
 use Rattle.paw_base.specs.declared.parts.Condact.{Condact}
+use Rattle.paw_base.specs.declared.rows.Family.{Family}
+use Rattle.paw_base.specs.declared.rows.Family.TheVariants as family
 use Rattle.paw_game.specs.Game.{GameLists}
 use Rattle.paw_world.specs.World.{World, Position, kept_position}
 use Rattle.paw_effects.specs.declared.act.Prompt.{Prompt}
@@ -15,18 +17,18 @@ use Rattle.paw_effects.specs.declared.object_actions.Action.{Action}
 use Rattle.paw_effects.specs.declared.object_words.Words.{Words}
 use Rattle.paw_effects.specs.Done.{Done}
 use Rattle.paw_effects.specs.Story.{Story}
-use Rattle.paw_effects.specs.FlowActions.{is_flow, flow_of}
-use Rattle.paw_effects.specs.Positions.{is_keeping, keeping_of, loaded, position_number}
-use Rattle.paw_effects.specs.TextActions.{is_print}
-use Rattle.paw_effects.specs.MoveActions.{is_move}
+use Rattle.paw_effects.specs.FlowActions.{flow_of}
+use Rattle.paw_effects.specs.Positions.{keeping_of, loaded, position_number}
 use Rattle.paw_effects.specs.Referring.{referred}
 use Rattle.paw_effects.specs.ObjectSearch.{first_fitting}
 use Rattle.paw_effects.specs.ObjectActions.{first_that_holds, hindrances, tried}
-use Rattle.paw_effects.specs.AutoActions.{looks_at, action_of, acts_on_given, acts_by_name, acted_on_found, is_object_action, object_action_of}
-use Rattle.paw_effects.specs.Effects.{effect_of}
-use Rattle.paw_effects.specs.Holds.{truth_of, moves_to, Tested, holds}
-use Rattle.paw_effects.specs.PlaceTests.{tests_place}
+use Rattle.paw_effects.specs.AutoActions.{looks_at, action_of, acts_on_given, acts_by_name, acted_on_found, object_action_of}
+use Rattle.paw_effects.specs.Effects.{effect_in, effect_of}
+use Rattle.paw_effects.specs.Holds.{truth_of, moves_to, tested_in, holds}
+use Rattle.paw_effects.specs.FlagTests.{flag_holds}
+use Rattle.paw_effects.specs.PlaceTests.{place_holds}
 use Rattle.paw_effects.specs.Presence.{named_place}
+use Rattle.paw_effects.proofs.Families.{quit_code}
 
 -- ---- plain actions ----
 
@@ -73,15 +75,6 @@ keeping_plain : (g : GameLists) (w : World) (c : Condact) → Plain (keeping_of 
 unfolding keeping_of
 keeping_plain g w c = one_of (c.code == 36) _ _ (record { plain = tt }) (loaded_plain g w (kept_position w (position_number w)))
 
--- the actions that aren't of flow are plain, family by family
-other_plain : (s : Story) (w : World) (c : Condact) → is_flow c.code ≡ false → Plain (effect_of s w c)
-unfolding effect_of
-other_plain s w c other =
-    let fine : Unit {0} = tt in
-    rw other (one_of (is_keeping c.code) _ _ (keeping_plain s.game w c) (one_of (is_print c.code) _ _ (record { plain = fine }) (one_of (is_object_action c.code) _ _ (object_plain s.game w c)
-    (one_of (is_move c.code) _ _ (record { plain = fine }) (one_of (c.code == 89) _ _ (record { plain = fine })
-    (one_of (c.code == 90) _ _ (record { plain = fine }) (one_of (c.code == 91) _ _ (record { plain = fine }) (record { plain = fine }))))))))
-
 -- ---- codes ----
 
 -- the codes of the condacts that ask: QUIT, END and ANYKEY
@@ -116,35 +109,47 @@ plain_leads w c (effect.Ask p) h = absurd h
 plain_leads w c effect.Parse h = tt
 plain_leads w c effect.Spent h = tt
 
--- what holds in both cases, each with its test
-by_code : (w : World) (c : Condact) (b : Bool) (x y : Done) → (b ≡ true → DoneBy w c x) → (b ≡ false → DoneBy w c y) → DoneBy w c (if b then x else y)
+-- what holds in both cases, the first with its test
+by_code : (w : World) (c : Condact) (b : Bool) (x y : Done) → (b ≡ true → DoneBy w c x) → DoneBy w c y → DoneBy w c (if b then x else y)
 by_code w c true x y h k = h refl
-by_code w c false x y h k = k refl
+by_code w c false x y h k = k
 
-last_flow : (code : ℕ) → is_flow code ≡ true → (code == 30) ≡ false → (code == 31) ≡ false → (code == 32) ≡ false → (code == 33) ≡ false → (code == 34) ≡ false
-    → (code == 35) ≡ false → (code == 84) ≡ false → (code == 85) ≡ false → code ≡ 86
-last_flow code flow a b d e f h i j = grind (arith, nat_tests)
-
-flow_leads : (g : GameLists) (w : World) (c : Condact) → is_flow c.code ≡ true → DoneBy w c (flow_of g w c)
+flow_leads : (g : GameLists) (w : World) (c : Condact) → DoneBy w c (flow_of g w c)
 unfolding flow_of
-flow_leads g w c flow =
-    by_code w c (c.code == 30) _ _ (λ own. record { leads = tt }) (λ a.
-    by_code w c (c.code == 31) _ _ (λ own. record { leads = eqb-true c.code 31 own }) (λ b.
-    by_code w c (c.code == 32) _ _ (λ own. record { leads = tt }) (λ d.
-    by_code w c (c.code == 33) _ _ (λ own. record { leads = tt }) (λ e.
-    by_code w c (c.code == 34) _ _ (λ own. record { leads = tt }) (λ f.
-    by_code w c (c.code == 35) _ _ (λ own. record { leads = eqb-true c.code 35 own }) (λ h.
-    by_code w c (c.code == 84) _ _ (λ own. record { leads = tt }) (λ i.
-    by_code w c (c.code == 85) _ _ (λ own. record { leads = (eqb-true c.code 85 own, refl) }) (λ j.
-    record { leads = (last_flow c.code flow a b d e f h i j, refl) }))))))))
+flow_leads g w c =
+    by_code w c (c.code == 31) _ _ (λ own. record { leads = eqb-true c.code 31 own })
+    (by_code w c (c.code == 32) _ _ (λ own. record { leads = tt })
+    (by_code w c (c.code == 33) _ _ (λ own. record { leads = tt })
+    (by_code w c (c.code == 34) _ _ (λ own. record { leads = tt })
+    (by_code w c (c.code == 35) _ _ (λ own. record { leads = eqb-true c.code 35 own })
+    (by_code w c (c.code == 84) _ _ (λ own. record { leads = tt })
+    (by_code w c (c.code == 85) _ _ (λ own. record { leads = (eqb-true c.code 85 own, refl) })
+    (by_code w c (c.code == 86) _ _ (λ own. record { leads = (eqb-true c.code 86 own, refl) })
+    (record { leads = tt }))))))))
 
-effect_done : (s : Story) (w : World) (c : Condact) (flow : Bool) → is_flow c.code ≡ flow → DoneBy w c (effect_of s w c)
-unfolding effect_of
-effect_done s w c true flow = rw flow (flow_leads s.game w c flow)
-effect_done s w c false other = record { leads = plain_leads w c (effect_of s w c).act.effect (other_plain s w c other).plain }
+plain_done : (w : World) (c : Condact) (d : Done) → Plain d → DoneBy w c d
+plain_done w c d h = record { leads = plain_leads w c d.act.effect h.plain }
+
+-- an action of each family; those that aren't of flow are plain
+done_in : (f : Family) (s : Story) (w : World) (c : Condact) → DoneBy w c (effect_in f s w c)
+done_in family.Flow s w c = flow_leads s.game w c
+done_in family.Keeping s w c = plain_done w c (keeping_of s.game w c) (keeping_plain s.game w c)
+done_in family.Print s w c = record { leads = tt }
+done_in family.Handling s w c = plain_done w c (object_action_of s.game w c) (object_plain s.game w c)
+done_in family.Placing s w c = record { leads = tt }
+done_in family.Change s w c = record { leads = tt }
+done_in family.NewText s w c = record { leads = tt }
+done_in family.Reset s w c = record { leads = tt }
+done_in family.Extern s w c = record { leads = tt }
+done_in family.PlaceTest s w c = record { leads = tt }
+done_in family.FlagTest s w c = record { leads = tt }
+done_in family.Chance s w c = record { leads = tt }
+done_in family.Quit s w c = record { leads = tt }
+done_in family.Exit s w c = record { leads = tt }
 
 pub effect_leads : (s : Story) (w : World) (c : Condact) → Leads w c (effect_of s w c).act.effect
-effect_leads s w c = (effect_done s w c (is_flow c.code) refl).leads
+unfolding effect_of
+effect_leads s w c = (done_in (family_of c.code) s w c).leads
 
 -- ---- prompts ----
 
@@ -189,14 +194,6 @@ effect_asks s w c = leads_inner w c (effect_of s w c).act.effect (effect_leads s
 
 -- ---- conditions ----
 
--- of the conditions QUIT alone asks
-abbrev AsksBy : Condact → Tested → Type 0
-AsksBy c t = t.answer ≡ truth.Ask → c.code ≡ 27
-
-by_test : (c : Condact) (b : Bool) (x y : Tested) → (b ≡ true → AsksBy c x) → AsksBy c y → AsksBy c (if b then x else y)
-by_test c true x y h k = h refl
-by_test c false x y h k = k
-
 truth_told : (b : Bool) → truth_of b ≡ truth.Ask → ⊥
 truth_told true h = cc
 truth_told false h = cc
@@ -205,10 +202,23 @@ move_told : (w : World) (f : ℕ) (to : Option ℕ) → (moves_to w f to).answer
 move_told w f None h = cc
 move_told w f (Some to) h = cc
 
+-- of the conditions QUIT alone asks
+asks_in : (f : Family) (g : GameLists) (w : World) (c : Condact) → family_of c.code ≡ f → (tested_in f g w c).answer ≡ truth.Ask → c.code ≡ 27
+asks_in family.PlaceTest g w c own h = absurd (truth_told (place_holds w c) h)
+asks_in family.FlagTest g w c own h = absurd (truth_told (flag_holds w c) h)
+asks_in family.Chance g w c own h = absurd (truth_told _ h)
+asks_in family.Quit g w c own h = quit_code c.code own
+asks_in family.Exit g w c own h = absurd (move_told w c.a _ h)
+asks_in family.Flow g w c own h = absurd (truth_told false h)
+asks_in family.Keeping g w c own h = absurd (truth_told false h)
+asks_in family.Print g w c own h = absurd (truth_told false h)
+asks_in family.Handling g w c own h = absurd (truth_told false h)
+asks_in family.Placing g w c own h = absurd (truth_told false h)
+asks_in family.Change g w c own h = absurd (truth_told false h)
+asks_in family.NewText g w c own h = absurd (truth_told false h)
+asks_in family.Reset g w c own h = absurd (truth_told false h)
+asks_in family.Extern g w c own h = absurd (truth_told false h)
+
 pub condition_asks : (g : GameLists) (w : World) (c : Condact) → (holds g w c).answer ≡ truth.Ask → c.code ≡ 27
 unfolding holds
-condition_asks g w c =
-    by_test c (tests_place c.code) _ _ (λ own h. absurd (truth_told _ h))
-    (by_test c (c.code == 10) _ _ (λ own h. absurd (truth_told _ h))
-    (by_test c (c.code == 27) _ _ (λ own h. eqb-true c.code 27 own)
-    (by_test c (c.code == 28) _ _ (λ own h. absurd (move_told w c.a _ h)) (λ h. absurd (truth_told _ h)))))
+condition_asks g w c = asks_in (family_of c.code) g w c refl

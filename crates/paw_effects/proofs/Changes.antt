@@ -8,11 +8,13 @@ use Rattle.std.proofs.lemmas.Option.{slice_get_within, get_or_from_slice_get, sa
 use Rattle.std.proofs.lemmas.Bool.Decides.{nat_tests}
 use Rattle.std.proofs.lemmas.List.{length-map, length-append, length-take, length-drop, length-set, get_or_past}
 use Rattle.std.proofs.lemmas.List.Elements.{All-take, All-drop, All-append, All-set}
-use Rattle.paw_base.specs.declared.codes.TheConstants.{SAVE, NEWTEXT, RESET, EXTERN}
+use Rattle.paw_base.specs.declared.codes.TheConstants.{SAVE}
 use Rattle.paw_base.specs.declared.parts.Condact.{Condact}
 use Rattle.paw_base.specs.declared.parts.ObjectFacts.{ObjectFacts}
+use Rattle.paw_base.specs.declared.rows.Family.{Family}
+use Rattle.paw_base.specs.declared.rows.Family.TheVariants as family
 use Rattle.paw_base.specs.declared.rows.ParamKind.TheVariants as kind
-use Rattle.paw_base.specs.Condacts.{condact_lines, line_of, first_kind, second_kind}
+use Rattle.paw_base.specs.Condacts.{condact_lines, line_of, first_kind, second_kind, family_of}
 use Rattle.paw_game.specs.declared.parts.ObjectRow.{ObjectRow}
 use Rattle.paw_game.specs.Game.{GameLists}
 use Rattle.paw_game.specs.Tables.{exit_at}
@@ -24,11 +26,10 @@ use Rattle.paw_routines.specs.Rows.{value_in, value_at}
 use Rattle.paw_world.specs.Weight.{weight, carried_weight, objects_at}
 use Rattle.paw_effects.specs.Done.{Done}
 use Rattle.paw_effects.specs.Chance.{rolled}
-use Rattle.paw_effects.specs.FlowActions.{is_flow, flow_of}
-use Rattle.paw_effects.specs.Positions.{is_keeping, position_number, loaded, keeping_of}
-use Rattle.paw_effects.specs.TextActions.{is_print}
+use Rattle.paw_effects.specs.FlowActions.{flow_of}
+use Rattle.paw_effects.specs.Positions.{position_number, loaded, keeping_of}
 use Rattle.paw_effects.specs.FlagActions.{change_of, routine_answered}
-use Rattle.paw_effects.specs.MoveActions.{is_move, move_of, names_place}
+use Rattle.paw_effects.specs.MoveActions.{move_of, names_place}
 use Rattle.paw_effects.specs.Presence.{named_place, held_objects}
 use Rattle.paw_effects.specs.declared.object_actions.Action.{Action}
 use Rattle.paw_effects.specs.declared.object_actions.Action.TheVariants as action
@@ -38,12 +39,11 @@ use Rattle.paw_effects.specs.declared.object_search.Spot.TheVariants.{Here, At}
 use Rattle.paw_effects.specs.declared.object_words.Words.{Words}
 use Rattle.paw_effects.specs.ObjectActions.{first_that_holds, hindrances, destination, tried, acted_on}
 use Rattle.paw_effects.specs.ObjectSearch.{fits_sentence, has_names, least_fitting, fitting_at, first_fitting}
-use Rattle.paw_effects.specs.AutoActions.{looks_at, acted_on_found, referred_to_found, acts_on_given, acts_by_name, is_object_action, action_of, object_action_of}
+use Rattle.paw_effects.specs.AutoActions.{looks_at, acted_on_found, referred_to_found, acts_on_given, acts_by_name, action_of, object_action_of}
 use Rattle.paw_effects.specs.Referring.{referred, referred_to_none, facts_written, weight_class}
-use Rattle.paw_effects.specs.Effects.{effect_of}
+use Rattle.paw_effects.specs.Effects.{effect_in, effect_of}
 use Rattle.paw_effects.specs.Story.{story_of}
-use Rattle.paw_effects.specs.Holds.{Tested, moves_to, holds}
-use Rattle.paw_effects.specs.PlaceTests.{tests_place}
+use Rattle.paw_effects.specs.Holds.{moves_to, tested_in, holds}
 use Rattle.paw_effects.specs.Standing.{AreBytes}
 use Rattle.paw_effects.specs.inner.Standing.{IsPositionOf, MayBePosition}
 use Rattle.paw_effects.proofs.Worlds.{byte_at, IsWorldAt, IsPlace, few_locations, few_objects, parameter_small, world_of, later, flag_small, flagged, place_of, place_is_small, here_place, named, moved_so, weight_small, returned_so}
@@ -73,8 +73,8 @@ module _ (g : GameLists) (v : Valid g) (seed n : ℕ) where
   unfolding flow_of
   flow_so w c k =
       let j : IsNext w = next w k in
-      done_of (c.code == 30) _ _ j (done_of (c.code == 31) _ _ j (done_of (c.code == 32) _ _ j (done_of (c.code == 33) _ _ j
-      (done_of (c.code == 34) _ _ j (done_of (c.code == 35) _ _ j (done_of (c.code == 84) _ _ j (done_of (c.code == 85) _ _ j j)))))))
+      done_of (c.code == 31) _ _ j (done_of (c.code == 32) _ _ j (done_of (c.code == 33) _ _ j (done_of (c.code == 34) _ _ j
+      (done_of (c.code == 35) _ _ j (done_of (c.code == 84) _ _ j (done_of (c.code == 85) _ _ j (done_of (c.code == 86) _ _ j j)))))))
 
   loaded_so : (w : World) (m : ℕ) (saved : Option Position) → IfSome saved (IsPositionOf g) → Is w → Is (taken_from w m saved)
   loaded_so w m None at k = k
@@ -218,7 +218,6 @@ module _ (g : GameLists) (v : Valid g) (seed n : ℕ) where
   move_so w c k kept =
       let j : IsNext w = next w k in
       let to : (o p : ℕ) → IsPlace g v seed p → Is (moved w o p) = λ o p at. moved_so g v seed n w k o p at in
-      by_code (c.code == 42) _ _ (λ own. next _ (all_so (here w) (here_place g v seed n w k) (held_objects w) w k)) (λ a.
       by_code (c.code == 61) _ _ (λ own. next _ (to c.a (here w) (here_place g v seed n w k))) (λ b.
       by_code (c.code == 62) _ _ (λ own. next _ (to c.a 252 not_created)) (λ d.
       by_code (c.code == 63) _ _ (λ own. next _ (moved_so g v seed n (moved w c.a (place w c.b)) (to c.a (place w c.b) (place_of g v seed n w k c.b)) c.b (place w c.a) (place_of g v seed n w k c.a))) (λ e.
@@ -226,7 +225,9 @@ module _ (g : GameLists) (v : Valid g) (seed n : ℕ) where
       by_code (c.code == 65) _ _ (λ own. next _ (world_of g v seed n (nat_lt (flag w 51) (length w.places)) _ w (to (flag w 51) (named_place w c.a) (named g v seed n w k c.a (first_place c kept own))) k)) (λ h.
       by_code (c.code == 74) _ _ (λ own. next _ (to c.b (place w c.a) (place_of g v seed n w k c.a))) (λ i.
       by_code (c.code == 75) _ _ (λ own. flagged g v seed (suc n) w j c.b (place w c.a) (place_is_small g v seed n w k c.a)) (λ l.
-      by_code (names_place w (flag w c.a)) _ _ (λ own. next _ (to c.b (named_place w (flag w c.a)) (names w k (flag w c.a) own))) (λ m. j)))))))))
+      by_code (c.code == 76) _ _
+      (λ own. by_code (names_place w (flag w c.a)) _ _ (λ own. next _ (to c.b (named_place w (flag w c.a)) (names w k (flag w c.a) own))) (λ m. j))
+      (λ m. next _ (all_so (here w) (here_place g v seed n w k) (held_objects w) w k)))))))))
 
   -- ---- referring ----
 
@@ -380,31 +381,52 @@ module _ (g : GameLists) (v : Valid g) (seed n : ℕ) where
   answered_so w k f None small = k
   answered_so w k f (Some y) small = flagged g v seed n w k f y (small y refl)
 
+  so_in : (f : Family) (X : List (List ℕ)) (w : World) (c : Condact) → All AreBytes X → Is w → is_condact g c ≡ true → c.a < 256 → c.b < 256
+      → IsNext (effect_in f (story_of g X) w c).world
+  so_in family.Flow X w c bytes k kept a b = flow_so w c k
+  so_in family.Keeping X w c bytes k kept a b = positions_so w c k
+  so_in family.Print X w c bytes k kept a b = next w k
+  so_in family.Handling X w c bytes k kept a b = next _ (object_so w c k kept)
+  so_in family.Placing X w c bytes k kept a b = move_so w c k kept
+  so_in family.Change X w c bytes k kept a b = change_so w c k a b
+  so_in family.NewText X w c bytes k kept a b = next w k
+  so_in family.Reset X w c bytes k kept a b = next _ (flagged g v seed n (with_objects_returned w) (returned_so g v seed n w k) 38 c.a a)
+  so_in family.Extern X w c bytes k kept a b =
+      next _ (answered_so w k c.b (value_at X c.a (flag w c.b)) (λ y is. value_small X bytes c.a (flag w c.b) y (slice_get X c.a) refl is))
+  so_in family.PlaceTest X w c bytes k kept a b = next w k
+  so_in family.FlagTest X w c bytes k kept a b = next w k
+  so_in family.Chance X w c bytes k kept a b = next w k
+  so_in family.Quit X w c bytes k kept a b = next w k
+  so_in family.Exit X w c bytes k kept a b = next w k
+
   pub effect_so : (X : List (List ℕ)) (w : World) (c : Condact) → All AreBytes X → Is w → is_condact g c ≡ true → IsNext (effect_of (story_of g X) w c).world
   unfolding effect_of
   effect_so X w c bytes k kept =
-      let j : IsNext w = next w k in
-      let a : c.a < 256 = parameter_small g v (first_kind c.code) c.a (condact-first g c kept) in
-      let b : c.b < 256 = parameter_small g v (second_kind c.code) c.b (condact-second g c kept) in
-      done_of (is_flow c.code) _ _ (flow_so w c k) (done_of (is_keeping c.code) _ _ (positions_so w c k) (done_of (is_print c.code) _ _ j
-      (done_of (is_object_action c.code) _ _ (next _ (object_so w c k kept)) (done_of (is_move c.code) _ _ (move_so w c k kept)
-      (done_of (c.code == NEWTEXT) _ _ j (done_of (c.code == RESET) _ _ (next _ (flagged g v seed n (with_objects_returned w) (returned_so g v seed n w k) 38 c.a a))
-      (done_of (c.code == EXTERN) _ _ (next _ (answered_so w k c.b (value_at X c.a (flag w c.b)) (λ y is. value_small X bytes c.a (flag w c.b) y (slice_get X c.a) refl is)))
-      (change_so w c k a b))))))))
+      so_in (family_of c.code) X w c bytes k kept (parameter_small g v (first_kind c.code) c.a (condact-first g c kept))
+      (parameter_small g v (second_kind c.code) c.b (condact-second g c kept))
 
   -- ---- conditions ----
-
-  tested_of : (b : Bool) (x y : Tested) → IsNext x.world → IsNext y.world → IsNext (if b then x else y).world
-  tested_of true x y h k = h
-  tested_of false x y h k = k
 
   moves_so : (w : World) → Is w → (f : ℕ) (to : Option ℕ) → exit_at g (flag w f) (flag w 33) ≡ to → Is (moves_to w f to).world
   moves_so w k f None e = k
   moves_so w k f (Some to) e = flagged g v seed n w k f to (omega (arith, exit-leads g v (flag w f) (flag w 33) to e, (few_locations g v).1))
 
+  tested_so : (f : Family) (w : World) (c : Condact) → Is w → IsNext (tested_in f g w c).world
+  tested_so family.PlaceTest w c k = next w k
+  tested_so family.FlagTest w c k = next w k
+  tested_so family.Chance w c k = drawn_so w k
+  tested_so family.Quit w c k = next w k
+  tested_so family.Exit w c k = next _ (moves_so w k c.a (exit_at g (flag w c.a) (flag w 33)) refl)
+  tested_so family.Flow w c k = next w k
+  tested_so family.Keeping w c k = next w k
+  tested_so family.Print w c k = next w k
+  tested_so family.Handling w c k = next w k
+  tested_so family.Placing w c k = next w k
+  tested_so family.Change w c k = next w k
+  tested_so family.NewText w c k = next w k
+  tested_so family.Reset w c k = next w k
+  tested_so family.Extern w c k = next w k
+
   pub condition_so : (w : World) (c : Condact) → Is w → IsNext (holds g w c).world
   unfolding holds
-  condition_so w c k =
-      let j : IsNext w = next w k in
-      tested_of (tests_place c.code) _ _ j (tested_of (c.code == 10) _ _ (drawn_so w k) (tested_of (c.code == 27) _ _ j
-      (tested_of (c.code == 28) _ _ (next _ (moves_so w k c.a (exit_at g (flag w c.a) (flag w 33)) refl)) j)))
+  condition_so w c = tested_so (family_of c.code) w c

@@ -8,9 +8,11 @@ use Rattle.std.proofs.lemmas.List.Elements.{All-set, All-map, All-replicate}
 use Rattle.std.proofs.lemmas.Option.{slice_get-get_or}
 use Rattle.paw_base.specs.declared.parts.Condact.{Condact}
 use Rattle.paw_base.specs.declared.parts.ObjectFacts.{ObjectFacts}
+use Rattle.paw_base.specs.declared.rows.Family.{Family}
+use Rattle.paw_base.specs.declared.rows.Family.TheVariants as family
 use Rattle.paw_base.specs.declared.rows.ParamKind.{ParamKind}
 use Rattle.paw_base.specs.declared.rows.ParamKind.TheVariants as kind
-use Rattle.paw_base.specs.Condacts.{condact_lines, line_of, first_kind, second_kind}
+use Rattle.paw_base.specs.Condacts.{condact_lines, line_of, first_kind, second_kind, family_of}
 use Rattle.paw_base.proofs.Table.{below, each_code}
 use Rattle.paw_game.specs.Game.{GameLists}
 use Rattle.paw_game.specs.Tables.{facts_of}
@@ -26,19 +28,17 @@ use Rattle.paw_effects.specs.Built.{ArePlacesOf, StandsIn, StandAtPlaces}
 use Rattle.paw_effects.specs.Done.{Done}
 use Rattle.paw_effects.specs.Story.{Story}
 use Rattle.paw_routines.specs.Rows.{value_at}
-use Rattle.paw_effects.specs.FlowActions.{is_flow, flow_of}
-use Rattle.paw_effects.specs.Positions.{is_keeping, keeping_of, loaded, position_number}
-use Rattle.paw_effects.specs.TextActions.{is_print}
+use Rattle.paw_effects.specs.FlowActions.{flow_of}
+use Rattle.paw_effects.specs.Positions.{keeping_of, loaded, position_number}
 use Rattle.paw_effects.specs.FlagActions.{change_of, routine_answered}
 use Rattle.paw_effects.specs.Presence.{named_place, held_objects}
-use Rattle.paw_effects.specs.MoveActions.{is_move, names_place, moved_if_place, move_of}
+use Rattle.paw_effects.specs.MoveActions.{names_place, moved_if_place, move_of}
 use Rattle.paw_effects.specs.Referring.{facts_written, referred}
 use Rattle.paw_effects.specs.ObjectSearch.{first_fitting}
 use Rattle.paw_effects.specs.ObjectActions.{destination, first_that_holds, hindrances, tried}
-use Rattle.paw_effects.specs.AutoActions.{looks_at, action_of, acts_on_given, acts_by_name, acted_on_found, referred_to_found, is_object_action, object_action_of}
-use Rattle.paw_effects.specs.Effects.{effect_of}
-use Rattle.paw_effects.specs.Holds.{Tested, moves_to, holds}
-use Rattle.paw_effects.specs.PlaceTests.{tests_place}
+use Rattle.paw_effects.specs.AutoActions.{looks_at, action_of, acts_on_given, acts_by_name, acted_on_found, referred_to_found, object_action_of}
+use Rattle.paw_effects.specs.Effects.{effect_in, effect_of}
+use Rattle.paw_effects.specs.Holds.{moves_to, tested_in, holds}
 
 -- the facts and the number of locations are the game's, and each object stands at a place of it
 abbrev pub IsPlaced : GameLists → World → Type 0
@@ -57,10 +57,6 @@ by_test g false x y h k = k refl
 done_placed : (g : GameLists) (b : Bool) (x y : Done) → (b ≡ true → IsPlaced g x.world) → (b ≡ false → IsPlaced g y.world) → IsPlaced g (if b then x else y).world
 done_placed g true x y h k = h refl
 done_placed g false x y h k = k refl
-
-tested_placed : (g : GameLists) (b : Bool) (x y : Tested) → IsPlaced g x.world → IsPlaced g y.world → IsPlaced g (if b then x else y).world
-tested_placed g true x y h k = h
-tested_placed g false x y h k = k
 
 -- ---- places ----
 
@@ -227,7 +223,6 @@ move_placed : (g : GameLists) (w : World) (c : Condact) → Valid g → IsTrue (
 unfolding move_of
 move_placed g w c v kept k =
     let at : (o : ℕ) → is_place (length g.locations) (place w o) ≡ true = λ o. at_place g v w.places o k.1.1.0 in
-    by_test g (c.code == 42) _ _ (λ own. dropped g (here w) (held_objects w) w (here_place g w k.1.0) k) (λ a.
     by_test g (c.code == 61) _ _ (λ own. moved_placed g w c.a (here w) (here_place g w k.1.0) k) (λ b.
     by_test g (c.code == 62) _ _ (λ own. moved_placed g w c.a 252 (grind (arith, nat_tests)) k) (λ d.
     by_test g (c.code == 63) _ _ (λ own. moved_placed g (moved w c.a (place w c.b)) c.b (place w c.a) (at c.a) (moved_placed g w c.a (place w c.b) (at c.b) k)) (λ e.
@@ -235,7 +230,8 @@ move_placed g w c v kept k =
     by_test g (c.code == 65) _ _
     (λ own. one_placed g (nat_lt (flag w 51) (length w.places)) (moved w (flag w 51) (named_place w c.a)) w (moved_placed g w (flag w 51) (named_place w c.a) (first_named g w c 65 puto_takes k.1.0 kept (eqb-true c.code 65 own)) k) k) (λ h.
     by_test g (c.code == 74) _ _ (λ own. moved_placed g w c.b (place w c.a) (at c.a) k) (λ i.
-    by_test g (c.code == 75) _ _ (λ own. k) (λ j. if_place g w c.b (flag w c.a) k))))))))
+    by_test g (c.code == 75) _ _ (λ own. k) (λ j.
+    by_test g (c.code == 76) _ _ (λ own. if_place g w c.b (flag w c.a) k) (λ l. dropped g (here w) (held_objects w) w (here_place g w k.1.0) k))))))))
 
 -- ---- actions on objects ----
 
@@ -306,10 +302,10 @@ object_placed g w c v kept k =
 flow_placed : (g : GameLists) (w : World) (c : Condact) → IsPlaced g w → IsPlaced g (flow_of g w c).world
 unfolding flow_of
 flow_placed g w c k =
-    done_placed g (c.code == 30) _ _ (λ own. k) (λ a. done_placed g (c.code == 31) _ _ (λ own. k) (λ b. done_placed g (c.code == 32) _ _ (λ own. k) (λ d.
-    done_placed g (c.code == 33) _ _ (λ own. k) (λ e. done_placed g (c.code == 34) _ _ (λ own. k) (λ f. done_placed g (c.code == 35) _ _ (λ own. k) (λ h.
-    done_placed g (c.code == 84) _ _ (λ own. k) (λ j.
-    done_placed g (c.code == 85) _ _ (λ own. k) (λ m. k))))))))
+    done_placed g (c.code == 31) _ _ (λ own. k) (λ a. done_placed g (c.code == 32) _ _ (λ own. k) (λ b. done_placed g (c.code == 33) _ _ (λ own. k) (λ d.
+    done_placed g (c.code == 34) _ _ (λ own. k) (λ e. done_placed g (c.code == 35) _ _ (λ own. k) (λ f. done_placed g (c.code == 84) _ _ (λ own. k) (λ h.
+    done_placed g (c.code == 85) _ _ (λ own. k) (λ j.
+    done_placed g (c.code == 86) _ _ (λ own. k) (λ m. k))))))))
 
 loaded_placed : (g : GameLists) (w : World) (n : ℕ) (saved : Option Position) → w.saved ≡ saved → IsPlaced g w → IsPlaced g (taken_from w n saved)
 loaded_placed g w n None is k = k
@@ -362,15 +358,26 @@ answered_placed : (g : GameLists) (w : World) (f : ℕ) (answer : Option ℕ) �
 answered_placed g w f None k = k
 answered_placed g w f (Some y) k = k
 
+placed_in : (f : Family) (s : Story) (w : World) (c : Condact) → Valid s.game → IsTrue (is_right s.game c) → IsPlaced s.game w
+    → IsPlaced s.game (effect_in f s w c).world
+placed_in family.Flow s w c v kept k = flow_placed s.game w c k
+placed_in family.Keeping s w c v kept k = keeping_placed s.game w c k
+placed_in family.Print s w c v kept k = k
+placed_in family.Handling s w c v kept k = object_placed s.game w c v kept k
+placed_in family.Placing s w c v kept k = move_placed s.game w c v kept k
+placed_in family.Change s w c v kept k = change_placed s.game w c k
+placed_in family.NewText s w c v kept k = k
+placed_in family.Reset s w c v kept k = returned_placed s.game w v k
+placed_in family.Extern s w c v kept k = answered_placed s.game w c.b (value_at s.rows c.a (flag w c.b)) k
+placed_in family.PlaceTest s w c v kept k = k
+placed_in family.FlagTest s w c v kept k = k
+placed_in family.Chance s w c v kept k = k
+placed_in family.Quit s w c v kept k = k
+placed_in family.Exit s w c v kept k = k
+
 pub effect_placed : (s : Story) (w : World) (c : Condact) → Valid s.game → IsTrue (is_right s.game c) → IsPlaced s.game w → IsPlaced s.game (effect_of s w c).world
 unfolding effect_of
-effect_placed s w c v kept k =
-    let g = s.game in
-    done_placed g (is_flow c.code) _ _ (λ own. flow_placed g w c k) (λ a. done_placed g (is_keeping c.code) _ _ (λ own. keeping_placed g w c k) (λ z. done_placed g (is_print c.code) _ _ (λ own. k) (λ b.
-    done_placed g (is_object_action c.code) _ _ (λ own. object_placed g w c v kept k) (λ d.
-    done_placed g (is_move c.code) _ _ (λ own. move_placed g w c v kept k) (λ e.
-    done_placed g (c.code == 89) _ _ (λ own. k) (λ f. done_placed g (c.code == 90) _ _ (λ own. returned_placed g w v k) (λ h.
-    done_placed g (c.code == 91) _ _ (λ own. answered_placed g w c.b (value_at s.rows c.a (flag w c.b)) k) (λ i. change_placed g w c k))))))))
+effect_placed s w c = placed_in (family_of c.code) s w c
 
 -- ---- conditions ----
 
@@ -378,8 +385,22 @@ moves_placed : (g : GameLists) (w : World) (f : ℕ) (to : Option ℕ) → IsPla
 moves_placed g w f None k = k
 moves_placed g w f (Some to) k = k
 
+tested_placed : (f : Family) (g : GameLists) (w : World) (c : Condact) → IsPlaced g w → IsPlaced g (tested_in f g w c).world
+tested_placed family.PlaceTest g w c k = k
+tested_placed family.FlagTest g w c k = k
+tested_placed family.Chance g w c k = k
+tested_placed family.Quit g w c k = k
+tested_placed family.Exit g w c k = moves_placed g w c.a _ k
+tested_placed family.Flow g w c k = k
+tested_placed family.Keeping g w c k = k
+tested_placed family.Print g w c k = k
+tested_placed family.Handling g w c k = k
+tested_placed family.Placing g w c k = k
+tested_placed family.Change g w c k = k
+tested_placed family.NewText g w c k = k
+tested_placed family.Reset g w c k = k
+tested_placed family.Extern g w c k = k
+
 pub condition_placed : (g : GameLists) (w : World) (c : Condact) → IsPlaced g w → IsPlaced g (holds g w c).world
 unfolding holds
-condition_placed g w c k =
-    tested_placed g (tests_place c.code) _ _ k (tested_placed g (c.code == 10) _ _ k (tested_placed g (c.code == 27) _ _ k
-    (tested_placed g (c.code == 28) _ _ (moves_placed g w c.a _ k) k)))
+condition_placed g w c = tested_placed (family_of c.code) g w c

@@ -1,7 +1,7 @@
 -- The actions that find their object by the sentence.
 use Rattle.std.specs.Prelude.{ℕ, ◌==◌, ◌||◌, Bool, List, [], ◌∷◌, Option, Some, None, if◌then◌else◌}
 use Rattle.paw_base.specs.declared.codes.TheConstants.{AUTOG, AUTOD, AUTOW, AUTOR, AUTOP, AUTOT, GET, DROP, WEAR}
-use Rattle.paw_base.specs.declared.codes.TheConstants.{REMOVE, PUTIN, TAKEOUT, WHATO}
+use Rattle.paw_base.specs.declared.codes.TheConstants.{REMOVE, PUTIN, TAKEOUT}
 use Rattle.paw_base.specs.declared.messages.TheConstants.{IMPOSSIBLE_MESSAGE, NOT_WORN_MESSAGE, NOT_HERE_MESSAGE}
 use Rattle.paw_base.specs.declared.messages.TheConstants.{NOT_CARRIED_MESSAGE, NOT_INSIDE_MESSAGE}
 use Rattle.paw_base.specs.declared.places.TheConstants.{WORN_PLACE, CARRIED_PLACE}
@@ -63,10 +63,6 @@ acts_on_given code = is_within GET TAKEOUT code
 -- the codes of actions that find their object
 abbrev pub acts_by_name : ℕ → Bool
 acts_by_name code = is_within AUTOG AUTOT code
-
--- the codes of all actions on objects, WHATO among them
-abbrev pub is_object_action : ℕ → Bool
-is_object_action code = acts_by_name code || acts_on_given code || (code == WHATO)
 
 -- the action of each code; two of them know a place
 abbrev pub action_of : ℕ → ℕ → Action

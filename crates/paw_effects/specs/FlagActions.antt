@@ -1,7 +1,7 @@
 -- The actions that change flags, and those that save and load them.
 use Rattle.std.specs.Prelude.{ℕ, ◌+◌, ◌-◌, ◌==◌, min, Option, None, Some, if◌then◌else◌}
 use Rattle.paw_base.specs.declared.codes.TheConstants.{RAMSAVE, RAMLOAD, GOTO, SET, CLEAR, PLUS, MINUS, LET, ADD, SUB}
-use Rattle.paw_base.specs.declared.codes.TheConstants.{RANDOM, COPYFF, WEIGH, WEIGHT, ABILITY, PROMPT, TIME}
+use Rattle.paw_base.specs.declared.codes.TheConstants.{RANDOM, COPYFF, WEIGH, WEIGHT, ABILITY, PROMPT}
 use Rattle.paw_base.specs.declared.flags.TheConstants.{MOST_CARRIED_FLAG, LOCATION_FLAG, PROMPT_FLAG, TIMEOUT_FLAG}
 use Rattle.paw_base.specs.declared.flags.TheConstants.{TIMED_OUT_FLAG, MOST_WEIGHT_FLAG}
 use Rattle.paw_base.specs.declared.parts.Condact.{Condact}

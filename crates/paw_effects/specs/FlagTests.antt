@@ -1,7 +1,7 @@
 -- The conditions that look at flags.
 use Rattle.std.specs.Prelude.{◌==◌, Bool, not, nat_lt, nat_le, if◌then◌else◌}
 use Rattle.paw_base.specs.declared.codes.TheConstants.{ZERO, NOTZERO, EQ, NOTEQ, GT, LT, SAME, NOTSAME, ADJECT1, ADVERB}
-use Rattle.paw_base.specs.declared.codes.TheConstants.{PREP, NOUN2, ADJECT2, TIMEOUT}
+use Rattle.paw_base.specs.declared.codes.TheConstants.{PREP, NOUN2, ADJECT2}
 use Rattle.paw_base.specs.declared.flags.TheConstants.{ADJECTIVE_FLAG, ADVERB_FLAG, PREPOSITION_FLAG, SECOND_NOUN_FLAG}
 use Rattle.paw_base.specs.declared.flags.TheConstants.{SECOND_ADJECTIVE_FLAG, TIMED_OUT_FLAG}
 use Rattle.paw_base.specs.declared.parts.Condact.{Condact}

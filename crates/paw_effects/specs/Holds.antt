@@ -1,15 +1,18 @@
 -- The conditions of the condact table: what each answers, and the world after it.
-use Rattle.std.specs.Prelude.{ℕ, ◌==◌, Bool, true, false, nat_le, Option, Some, None, if◌then◌else◌}
-use Rattle.paw_base.specs.declared.codes.TheConstants.{CHANCE, QUIT, MOVE}
+use Rattle.std.specs.Prelude.{ℕ, Bool, true, false, nat_le, Option, Some, None, if◌then◌else◌}
+use Rattle.paw_base.specs.declared.codes.TheConstants.{MOVE}
 use Rattle.paw_base.specs.declared.flags.TheConstants.{VERB_FLAG}
+use Rattle.paw_base.specs.Condacts.{family_of}
 use Rattle.paw_base.specs.declared.parts.Condact.{Condact}
+use Rattle.paw_base.specs.declared.rows.Family.{Family}
+use Rattle.paw_base.specs.declared.rows.Family.TheVariants as family
 use Rattle.paw_game.specs.Game.{GameLists}
 use Rattle.paw_game.specs.Tables.{exit_at}
 use Rattle.paw_world.specs.World.{World, flag, with_flag, drawn_on}
 use Rattle.paw_effects.specs.declared.act.Truth.{Truth}
 use Rattle.paw_effects.specs.declared.act.Truth.TheVariants as truth
 use Rattle.paw_effects.specs.Chance.{rolled}
-use Rattle.paw_effects.specs.PlaceTests.{tests_place, place_holds}
+use Rattle.paw_effects.specs.PlaceTests.{place_holds}
 use Rattle.paw_effects.specs.FlagTests.{flag_holds}
 
 -- what a condition answers, and the world after it: CHANCE makes a draw, MOVE changes a flag
@@ -42,11 +45,15 @@ moves_to w f (Some to) = answers (with_flag w f to) true
 abbrev pub moves : GameLists → World → ℕ → Tested
 moves g w f = moves_to w f (exit_at g (flag w f) (flag w VERB_FLAG))
 
--- three by themselves, and the others by families
+-- a condition of each family; QUIT asks
+abbrev pub tested_in : Family → GameLists → World → Condact → Tested
+tested_in family.PlaceTest g w c = answers w (place_holds w c)
+tested_in family.FlagTest g w c = answers w (flag_holds w c)
+tested_in family.Chance g w c = takes_chance w c.a
+tested_in family.Quit g w c = record { answer = truth.Ask; world = w }
+tested_in family.Exit g w c = moves g w c.a
+tested_in _ g w c = answers w false  -- an action doesn't test
+
+-- a condition tests as its family does
 unfoldable pub holds : GameLists → World → Condact → Tested
-holds g w c =
-    if tests_place c.code then answers w (place_holds w c) else
-    if c.code == CHANCE then takes_chance w c.a else
-    if c.code == QUIT then record { answer = truth.Ask; world = w } else
-    if c.code == MOVE then moves g w c.a else
-    answers w (flag_holds w c)
+holds g w c = tested_in (family_of c.code) g w c

@@ -1,6 +1,6 @@
 -- SAVE and LOAD: positions that are kept, and taken back.
-use Rattle.std.specs.Prelude.{ℕ, ◌==◌, ◌||◌, ◌%◌, Bool, Option, None, Some, if◌then◌else◌}
-use Rattle.paw_base.specs.declared.codes.TheConstants.{SAVE, LOAD}
+use Rattle.std.specs.Prelude.{ℕ, ◌==◌, ◌%◌, Option, None, Some, if◌then◌else◌}
+use Rattle.paw_base.specs.declared.codes.TheConstants.{SAVE}
 use Rattle.paw_base.specs.declared.flags.TheConstants.{POSITION_FLAG}
 use Rattle.paw_base.specs.declared.messages.TheConstants.{IMPOSSIBLE_MESSAGE}
 use Rattle.paw_base.specs.declared.limits.TheConstants.{POSITION_COUNT}
@@ -10,10 +10,6 @@ use Rattle.paw_world.specs.World.{World, Position, flag, keeping, kept_position,
 use Rattle.paw_effects.specs.declared.act.Effect.TheVariants as effect
 use Rattle.paw_effects.specs.Done.{Done, tells, leads}
 use Rattle.paw_effects.specs.Texts.{say_text}
-
--- the codes of SAVE and LOAD
-abbrev pub is_keeping : ℕ → Bool
-is_keeping code = (code == SAVE) || (code == LOAD)
 
 -- which of the kept positions is meant
 abbrev pub position_number : World → ℕ
@@ -28,4 +24,4 @@ loaded g w (Some q) = leads (taken_back w (Some q)) effect.Redescribe
 unfoldable pub keeping_of : GameLists → World → Condact → Done
 keeping_of g w c =
     if c.code == SAVE then leads (keeping w (position_number w)) effect.Redescribe else
-    loaded g w (kept_position w (position_number w))
+    loaded g w (kept_position w (position_number w))  -- LOAD

@@ -1,22 +1,15 @@
 -- The actions that print texts.
-use Rattle.std.specs.Prelude.{ℕ, ◌==◌, ◌||◌, Bool, List, [], ◌∷◌, ◌++◌, decimal, if◌then◌else◌}
+use Rattle.std.specs.Prelude.{ℕ, ◌==◌, List, [], ◌∷◌, ◌++◌, decimal, if◌then◌else◌}
 use Rattle.paw_base.specs.declared.codes.TheConstants.{INVEN, TURNS, SCORE, MES, MESSAGE, SYSMESS, NEWLINE, PRINT}
-use Rattle.paw_base.specs.declared.codes.TheConstants.{LISTOBJ, LISTAT, PICTURE, INPUT}
+use Rattle.paw_base.specs.declared.codes.TheConstants.{LISTOBJ, LISTAT}
 use Rattle.paw_base.specs.declared.parts.Condact.{Condact}
 use Rattle.paw_game.specs.Game.{GameLists}
-use Rattle.paw_game.specs.Valid.{is_within}
 use Rattle.paw_world.specs.World.{World, flag}
 use Rattle.paw_effects.specs.Texts.{message_text, put_text}
 use Rattle.paw_effects.specs.Counts.{turns_text, score_text}
 use Rattle.paw_effects.specs.Lists.{inventory_text, here_list_text, place_list_text}
 use Rattle.paw_effects.specs.Marks.{mark_text}
 use Rattle.paw_effects.specs.Presence.{named_place}
-
--- the codes of these actions
-abbrev pub is_print : ℕ → Bool
-is_print code =
-    (code == INVEN) || is_within TURNS SCORE code || is_within MES PRINT code || is_within LISTOBJ LISTAT code
-    || is_within PICTURE INPUT code
 
 -- one line for each of them
 unfoldable pub print_of : GameLists → World → Condact → List ℕ

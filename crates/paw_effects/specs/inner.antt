@@ -1,9 +1,7 @@
 -- Words of contracts between crates, and of proofs. What a reader must believe doesn't reach them.
 pub mod Parameters
 pub mod Opening
-pub mod FlagTests
 pub mod Standing
 pub mod Done
 pub mod Listing
-pub mod FlagActions
 pub mod Families

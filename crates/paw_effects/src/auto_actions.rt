@@ -1,13 +1,13 @@
 // The actions that find their object by the sentence.
 
-ghost use Rattle.std.specs.Prelude.{◌≡◌, ◌<◌, true, length, IfSome, IsTrue};
+ghost use Rattle.std.specs.Prelude.{◌≡◌, ◌<◌, length, IfSome, IsTrue};
 ghost use Rattle.paw_effects.specs.Built.{IsOf};
 ghost use Rattle.paw_effects.specs.inner.Done.{Does};
 ghost use Rattle.paw_effects.specs.inner.Parameters.{takes_object};
 ghost use Rattle.paw_effects.specs.declared.object_actions.Action.TheVariants as action;
 ghost use Rattle.paw_effects.specs.ObjectSearch.{first_fitting};
 ghost use Rattle.paw_effects.specs.AutoActions.{looks_at, missing, acted_by_name, referred_by_name, acts_on_given};
-ghost use Rattle.paw_effects.specs.AutoActions.{acts_by_name, is_object_action, action_of, object_action_of};
+ghost use Rattle.paw_effects.specs.AutoActions.{acts_by_name, action_of, object_action_of};
 
 use crate::act::{Act, Effect, on};
 use crate::object_actions::{Action, act_on, refuse};
@@ -15,6 +15,9 @@ use crate::object_search::{Spot, first_fitting, some_fits};
 use crate::object_words::Words;
 use crate::referring::{refer, refer_to_none};
 use crate::text::print_nothing;
+use paw_base::codes::{
+    AUTOD, AUTOG, AUTOP, AUTOR, AUTOT, AUTOW, DROP, GET, PUTIN, REMOVE, TAKEOUT, WEAR,
+};
 use paw_base::parts::Condact;
 use paw_base::piece::Piece;
 use paw_game::tables::Tables;
@@ -24,21 +27,14 @@ use paw_world::world::World;
 fn acts_on_given(code: u8) -> bool
     ensures value { result ≡ acts_on_given code }
 {
-    matches!(code, 55..=60)
+    matches!(code, GET..=TAKEOUT)
 }
 
 /// Whether a code is an action on an object that it finds.
 fn acts_by_name(code: u8) -> bool
     ensures value { result ≡ acts_by_name code }
 {
-    matches!(code, 43..=48)
-}
-
-/// Whether a code is an action on an object, or refers to one.
-pub(crate) fn is_object_action(code: u8) -> bool
-    ensures value { result ≡ is_object_action code }
-{
-    acts_by_name(code) || acts_on_given(code) || code == 80
+    matches!(code, AUTOG..=AUTOT)
 }
 
 /// The action of a code; two of them know a place.
@@ -46,11 +42,11 @@ fn action_of(code: u8, place: u8) -> Action
     ensures value { result ≡ action_of code place }
 {
     match code {
-        43 | 55 => Action::Get, // AUTOG, GET
-        44 | 56 => Action::Drop, // AUTOD, DROP
-        45 | 57 => Action::Wear, // AUTOW, WEAR
-        46 | 58 => Action::Remove, // AUTOR, REMOVE
-        47 | 59 => Action::PutIn(place), // AUTOP, PUTIN
+        AUTOG | GET => Action::Get,
+        AUTOD | DROP => Action::Drop,
+        AUTOW | WEAR => Action::Wear,
+        AUTOR | REMOVE => Action::Remove,
+        AUTOP | PUTIN => Action::PutIn(place),
         _ => Action::TakeOut(place), // AUTOT, TAKEOUT
     }
 }
@@ -126,7 +122,6 @@ pub(crate) fn act_on_object<T: Tables>(
     piece: &mut Piece,
     c: Condact,
 ) -> Act
-    requires family { is_object_action c.code ≡ true }
     requires game { IsOf (T.game tables.now) world.old }
     requires object { IsTrue (takes_object c.code) → c.a < length world.old.places }
     ensures does { Does (object_action_of (T.game tables.now) world.old c) piece.old piece.new world.new result }
@@ -138,6 +133,7 @@ pub(crate) fn act_on_object<T: Tables>(
     } else if acts_by_name(c.code) {
         act_by_name(tables, world, piece, action_of(c.code, c.a))
     } else {
+        // WHATO
         print_nothing(piece);
         refer_by_name(tables, world);
         on(Effect::Go)

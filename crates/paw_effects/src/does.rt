@@ -14,21 +14,21 @@ ghost use Rattle.paw_routines.specs.Rows.{value_at};
 ghost use Rattle.paw_world.specs.World.{flag};
 
 use crate::act::{Act, Effect, Truth, after, dropping, on};
-use crate::auto_actions::{act_on_object, is_object_action};
+use crate::auto_actions::act_on_object;
 use crate::chance::roll;
 use crate::flag_actions::change;
 use crate::flag_tests::flag_holds;
-use crate::flow_actions::{flow, is_flow};
-use crate::move_actions::{is_move, move_objects, reset};
-use crate::place_tests::{place_holds, tests_place};
-use crate::positions::{is_keeping, keep_or_load};
+use crate::flow_actions::flow;
+use crate::move_actions::{move_objects, reset};
+use crate::place_tests::place_holds;
+use crate::positions::keep_or_load;
 pub use crate::referring::refer;
 use crate::text::print_nothing;
-use crate::text_actions::{is_print, print};
-use paw_base::codes::{CHANCE, EXTERN, MOVE, NEWTEXT, QUIT, RESET};
+use crate::text_actions::print;
 use paw_base::flags::VERB_FLAG;
 use paw_base::parts::Condact;
 use paw_base::piece::Piece;
+use paw_base::rows::{Family, family_of};
 use paw_game::tables::Tables;
 use paw_routines::routines::Routines;
 use paw_world::world::World;
@@ -52,14 +52,22 @@ pub fn test<T: Tables>(tables: &T, world: &mut World, c: Condact) -> Truth
     ensures game { IsOf (T.game tables.now) world.new }
     ensures draws { world.new.draws ≤ world.old.draws + 1 }
 {
-    if tests_place(c.code) {
-        return truth(place_holds(world, c));
-    }
-    match c.code {
-        CHANCE => truth(roll(world) <= c.a),
-        QUIT => Truth::Ask,
-        MOVE => truth(moves(tables, world, c.a)),
-        _ => truth(flag_holds(world, c)),
+    match family_of(c.code) {
+        Family::PlaceTest => truth(place_holds(world, c)),
+        Family::FlagTest => truth(flag_holds(world, c)),
+        Family::Chance => truth(roll(world) <= c.a),
+        Family::Quit => Truth::Ask,
+        Family::Exit => truth(moves(tables, world, c.a)),
+        // Actions, which don't test.
+        Family::Flow
+        | Family::Keeping
+        | Family::Print
+        | Family::Handling
+        | Family::Placing
+        | Family::Change
+        | Family::NewText
+        | Family::Reset
+        | Family::Extern => Truth::No,
     }
 }
 
@@ -96,7 +104,7 @@ fn answer_by_routine<F: Fn(u8, u8) -> u8>(world: &mut World, routines: &Routines
 
 /// Does an action of this game: changes the world, and prints into the piece. Spent exactly where the piece would pass
 /// its limit; what the piece and the world then hold is open.
-#[tactic(auto, using(crate::proofs::Parameters::object_stands, crate::proofs::Parameters::second_object_stands), unfolding(crate::specs::Effects::effect_of))]
+#[tactic(auto, using(crate::proofs::Parameters::object_stands), unfolding(crate::specs::Effects::effect_of))]
 pub fn act<T: Tables, F: Fn(u8, u8) -> u8>(
     tables: &T,
     world: &mut World,
@@ -114,36 +122,32 @@ pub fn act<T: Tables, F: Fn(u8, u8) -> u8>(
     ensures game { IsOf (T.game tables.now) world.new }
     ensures draws { world.new.draws ≤ world.old.draws + 1 }
 {
-    if is_flow(c.code) {
-        return flow(tables, world, piece, c);
-    }
-    if is_keeping(c.code) {
-        return keep_or_load(tables, world, piece, c);
-    }
-    if is_print(c.code) {
-        return after(print(tables, world, piece, c), Effect::Go);
-    }
-    if is_object_action(c.code) {
-        return act_on_object(tables, world, piece, c);
-    }
     print_nothing(piece);
-    if is_move(c.code) {
-        move_objects(world, c);
-        return on(Effect::Go);
-    }
-    match c.code {
-        NEWTEXT => dropping(Effect::Go),
-        RESET => {
-            reset(world, c.a);
-            on(Effect::Redescribe)
-        }
-        EXTERN => {
-            answer_by_routine(world, routines, c.a, c.b);
+    match family_of(c.code) {
+        Family::Flow => flow(tables, world, piece, c),
+        Family::Keeping => keep_or_load(tables, world, piece, c),
+        Family::Print => after(print(tables, world, piece, c), Effect::Go),
+        Family::Handling => act_on_object(tables, world, piece, c),
+        Family::Placing => {
+            move_objects(world, c);
             on(Effect::Go)
         }
-        _ => {
+        Family::Change => {
             change(world, c);
             on(Effect::Go)
         }
+        Family::NewText => dropping(Effect::Go),
+        Family::Reset => {
+            reset(world, c.a);
+            on(Effect::Redescribe)
+        }
+        Family::Extern => {
+            answer_by_routine(world, routines, c.a, c.b);
+            on(Effect::Go)
+        }
+        // Conditions, which don't act.
+        Family::PlaceTest | Family::FlagTest | Family::Chance | Family::Quit | Family::Exit => on(
+            Effect::Go,
+        ),
     }
 }

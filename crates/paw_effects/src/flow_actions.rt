@@ -1,28 +1,21 @@
 // The actions that say where reading goes on.
 
-ghost use Rattle.std.specs.Prelude.{◌≡◌, true};
+ghost use Rattle.std.specs.Prelude.{◌≡◌};
 ghost use Rattle.paw_effects.specs.Done.{tells};
 ghost use Rattle.paw_effects.specs.inner.Done.{Does};
 ghost use Rattle.paw_effects.specs.declared.act.Effect.TheVariants as effect;
 ghost use Rattle.paw_effects.specs.Texts.{put_text};
-ghost use Rattle.paw_effects.specs.FlowActions.{is_flow, flow_of};
+ghost use Rattle.paw_effects.specs.FlowActions.{flow_of};
 
 use crate::act::{Act, Effect, Prompt, after, on};
 use crate::presence::named_place;
 use crate::text::{print_nothing, put, say};
-use paw_base::codes::{ANYKEY, DESC, DOALL, DONE, END, NOTDONE, OK, PARSE, PROCESS};
+use paw_base::codes::{ANYKEY, DOALL, DONE, END, NOTDONE, OK, PARSE, PROCESS};
 use paw_base::messages::{AGAIN_MESSAGE, KEY_MESSAGE, OK_MESSAGE};
 use paw_base::parts::Condact;
 use paw_base::piece::Piece;
 use paw_game::tables::Tables;
 use paw_world::world::World;
-
-/// Whether a code is an action that says where reading goes on.
-pub(crate) fn is_flow(code: u8) -> bool
-    ensures value { result ≡ is_flow code }
-{
-    matches!(code, DESC..=ANYKEY | PARSE..=DOALL)
-}
 
 /// Puts a question, and waits for its answer.
 fn ask<T: Tables>(tables: &T, world: &World, piece: &mut Piece, question: u8, prompt: Prompt) -> Act
@@ -32,15 +25,13 @@ fn ask<T: Tables>(tables: &T, world: &World, piece: &mut Piece, question: u8, pr
     after(put(tables, world, piece, question), Effect::Ask(prompt))
 }
 
-/// Does such an action.
+/// Does an action that says where reading goes on.
 #[tactic(auto, unfolding(crate::specs::FlowActions::flow_of))]
 pub(crate) fn flow<T: Tables>(tables: &T, world: &World, piece: &mut Piece, c: Condact) -> Act
-    requires family { is_flow c.code ≡ true }
     ensures does { Does (flow_of (T.game tables.now) world.now c) piece.old piece.new world.now result }
 {
     print_nothing(piece);
     match c.code {
-        DESC => on(Effect::Redescribe),
         END => ask(tables, world, piece, AGAIN_MESSAGE, Prompt::Again),
         DONE => on(Effect::Exit(true)),
         NOTDONE => on(Effect::Exit(false)),
@@ -48,6 +39,7 @@ pub(crate) fn flow<T: Tables>(tables: &T, world: &World, piece: &mut Piece, c: C
         ANYKEY => ask(tables, world, piece, KEY_MESSAGE, Prompt::Key),
         PARSE => on(Effect::Parse),
         PROCESS => on(Effect::Call(c.a)),
-        _ => on(Effect::Loop(named_place(world, c.a))), // DOALL
+        DOALL => on(Effect::Loop(named_place(world, c.a))),
+        _ => on(Effect::Redescribe), // DESC
     }
 }

@@ -1,8 +1,8 @@
 // What holds of all condacts.
 
-ghost use Rattle.paw_effects.specs.inner.Families.{EachHasOneFamily};
+ghost use Rattle.paw_effects.specs.inner.Families.{EachActsByFamily};
 
-/// Each condact is in one family of its kind, so none is done as another by falling through.
-pub fn each_has_one_family()
-    ensures law { EachHasOneFamily }
+/// A condact acts exactly where its family does, so none is done by a family that does nothing for it.
+pub fn each_acts_by_family()
+    ensures law { EachActsByFamily }
 {}

@@ -1,24 +1,18 @@
 // The actions that move objects, and the one that tells a place.
 
-ghost use Rattle.std.specs.Prelude.{◌≡◌, ◌<◌, true, length, IsTrue};
+ghost use Rattle.std.specs.Prelude.{◌≡◌, ◌<◌, length, IsTrue};
 ghost use Rattle.paw_game.specs.Game.{GameLists};
 ghost use Rattle.paw_effects.specs.Built.{IsOf};
 ghost use Rattle.paw_effects.specs.inner.Parameters.{takes_object, takes_second_object};
-ghost use Rattle.paw_effects.specs.MoveActions.{is_move, move_of, all_dropped, swapped, referred_moved};
+ghost use Rattle.paw_effects.specs.MoveActions.{move_of, all_dropped, swapped, referred_moved};
 ghost use Rattle.paw_effects.specs.MoveActions.{moved_if_place, names_place, reset};
 
 use crate::presence::{here, is_held, named_place};
+use paw_base::codes::{COPYFO, COPYOF, COPYOO, CREATE, DESTROY, PLACE, PUTO, SWAP};
 use paw_base::flags::{LOCATION_FLAG, REFERRED_FLAG};
 use paw_base::parts::Condact;
 use paw_base::places::NOT_CREATED_PLACE;
 use paw_world::world::World;
-
-/// Whether a code is an action that moves objects, or the one that tells a place.
-pub(crate) fn is_move(code: u8) -> bool
-    ensures value { result ≡ is_move code }
-{
-    matches!(code, 42 | 61..=65 | 74..=76)
-}
 
 /// Moves all that is worn or carried to the current location.
 fn drop_all(world: &mut World)
@@ -71,10 +65,9 @@ fn move_if_place(world: &mut World, o: u8, p: u8)
     }
 }
 
-/// Does such an action.
+/// Does an action that moves objects, or the one that tells a place.
 #[tactic(auto, unfolding(crate::specs::MoveActions::move_of))]
 pub(crate) fn move_objects(world: &mut World, c: Condact)
-    requires family { is_move c.code ≡ true }
     requires object { IsTrue (takes_object c.code) → c.a < length world.old.places }
     requires second_object { IsTrue (takes_second_object c.code) → c.b < length world.old.places }
     ensures value { world.new ≡ move_of world.old c }
@@ -82,15 +75,15 @@ pub(crate) fn move_objects(world: &mut World, c: Condact)
     ensures draws { world.new.draws ≡ world.old.draws }
 {
     match c.code {
-        42 => drop_all(world), // DROPALL
-        61 => world.move_to(c.a, here(world)), // CREATE
-        62 => world.move_to(c.a, NOT_CREATED_PLACE), // DESTROY
-        63 => swap(world, c.a, c.b), // SWAP
-        64 => world.move_to(c.a, named_place(world, c.b)), // PLACE
-        65 => move_referred(world, named_place(world, c.a)), // PUTO
-        74 => world.move_to(c.b, world.place(c.a)), // COPYOO
-        75 => world.set_flag(c.b, world.place(c.a)), // COPYOF
-        _ => move_if_place(world, c.b, world.flag(c.a)), // COPYFO
+        CREATE => world.move_to(c.a, here(world)),
+        DESTROY => world.move_to(c.a, NOT_CREATED_PLACE),
+        SWAP => swap(world, c.a, c.b),
+        PLACE => world.move_to(c.a, named_place(world, c.b)),
+        PUTO => move_referred(world, named_place(world, c.a)),
+        COPYOO => world.move_to(c.b, world.place(c.a)),
+        COPYOF => world.set_flag(c.b, world.place(c.a)),
+        COPYFO => move_if_place(world, c.b, world.flag(c.a)),
+        _ => drop_all(world), // DROPALL
     }
 }
 

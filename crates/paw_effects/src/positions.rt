@@ -1,28 +1,21 @@
 // SAVE and LOAD: positions that are kept, and taken back.
 
-ghost use Rattle.std.specs.Prelude.{◌≡◌, ◌<◌, true};
+ghost use Rattle.std.specs.Prelude.{◌≡◌, ◌<◌};
 ghost use Rattle.paw_game.specs.Game.{GameLists};
 ghost use Rattle.paw_effects.specs.Built.{IsOf};
 ghost use Rattle.paw_effects.specs.inner.Done.{Does};
-ghost use Rattle.paw_effects.specs.Positions.{is_keeping, keeping_of, loaded, position_number};
+ghost use Rattle.paw_effects.specs.Positions.{keeping_of, loaded, position_number};
 ghost use Rattle.paw_world.specs.World.{kept_position};
 
 use crate::act::{Act, Effect, after, on};
 use crate::text::{print_nothing, say};
-use paw_base::codes::{LOAD, SAVE};
+use paw_base::codes::SAVE;
 use paw_base::flags::POSITION_FLAG;
 use paw_base::messages::IMPOSSIBLE_MESSAGE;
 use paw_base::parts::Condact;
 use paw_base::piece::Piece;
 use paw_game::tables::Tables;
 use paw_world::world::World;
-
-/// Whether a code is SAVE or LOAD.
-pub(crate) fn is_keeping(code: u8) -> bool
-    ensures value { result ≡ is_keeping code }
-{
-    matches!(code, SAVE | LOAD)
-}
 
 /// Which of the four positions is meant.
 fn position_number(world: &World) -> u8
@@ -60,16 +53,15 @@ pub(crate) fn keep_or_load<T: Tables>(
     piece: &mut Piece,
     c: Condact,
 ) -> Act
-    requires family { is_keeping c.code ≡ true }
     ensures does { Does (keeping_of (T.game tables.now) world.old c) piece.old piece.new world.new result }
     ensures game { (g : GameLists) → IsOf g world.old → IsOf g world.new }
     ensures draws { world.new.draws ≡ world.old.draws }
 {
     let n = position_number(world);
-    if c.code == LOAD {
-        return load(tables, world, piece, n);
+    if c.code == SAVE {
+        print_nothing(piece);
+        world.keep(n);
+        return on(Effect::Redescribe);
     }
-    print_nothing(piece);
-    world.keep(n);
-    on(Effect::Redescribe)
+    load(tables, world, piece, n) // LOAD
 }
