@@ -4,6 +4,7 @@ ghost use Rattle.std.specs.Prelude.{◌≡◌, ℕ, ◌<◌, ◌≤◌, ◌+◌,
 ghost use Rattle.std.specs.Prelude.{drop, slice_index, slice_range, MatchOption, IfSome, IfNone};
 ghost use Rattle.std.specs.List.{position_or_len};
 ghost use Rattle.std.specs.Str.Lines.{lines, strip_carriage_return};
+ghost use Rattle.paw_base.specs.declared.limits.TheConstants.{SOURCE_LIMIT};
 ghost use Rattle.paw_lex.specs.Lines.{lines_of};
 ghost use Rattle.paw_lex.specs.inner.Lines.{bytes_of, LiesIn, IsLineEnd};
 
