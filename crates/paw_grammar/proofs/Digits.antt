@@ -1,5 +1,6 @@
 -- A number that is capped while it is read.
-use Rattle.std.proofs.Common.{◌≡◌, ℕ, suc, ◌<◌, ◌≤◌, ◌+◌, ◌-◌, ◌*◌, min, true, false, cond, List, [], ◌∷◌, length, get_or, drop, Option, Some, None, refl, sym, ap, add-one, arith}
+use Rattle.std.proofs.Common.{◌≡◌, ℕ, suc, ◌<◌, ◌≤◌, ◌+◌, ◌-◌, ◌*◌, min, true, false, cond, List, [], ◌∷◌}
+use Rattle.std.proofs.Common.{length, get_or, drop, Option, Some, None, refl, sym, ap, add-one, arith}
 use Rattle.std.proofs.Math.Seq.{drop-cons}
 use Rattle.std.proofs.Math.ListN.{drop_of_length-le}
 use Rattle.paw_grammar.specs.Numbers.{is_digit, number_from}
@@ -16,7 +17,9 @@ same_number a b (d ∷ ds) h =
     ]
 
 -- one digit more
-pub digit_read : (n more : ℕ) (t : List ℕ) (i : ℕ) → i < length t → is_digit (get_or t i 0) ≡ true → min more 4294967295 ≡ min (n * 10 + (get_or t i 0 - 48)) 4294967295 → capped (number_from n (drop i t)) ≡ capped (number_from more (drop (i + 1) t))
+pub digit_read : (n more : ℕ) (t : List ℕ) (i : ℕ) → i < length t → is_digit (get_or t i 0) ≡ true
+    → min more 4294967295 ≡ min (n * 10 + (get_or t i 0 - 48)) 4294967295
+    → capped (number_from n (drop i t)) ≡ capped (number_from more (drop (i + 1) t))
 unfolding number_from
 digit_read n more t i h digit e = rw (drop-cons t i 0, add-one, digit) (same_number (n * 10 + (get_or t i 0 - 48)) more (drop (suc i) t) (sym e))
 

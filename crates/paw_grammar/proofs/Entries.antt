@@ -28,7 +28,9 @@ pub found : (es : List Entry) (k : List ℕ) → option_map (λ m. word_from (k,
 found [] k = refl
 found (e ∷ es) k =
     rw (is_eq-slice_cmp k e.0, bytes_eq-sym e.0 k)
-    (elim (bytes_eq k e.0) as (λ b. bytes_eq k e.0 ≡ b → option_map (λ m. word_from (k, m)) (cond b (Some e.1) (lookup (is_at (slice_cmp nat_cmp k)) es)) ≡ cond b (Some (word_from e)) (word_of k (words_in es))) [
+    (elim (bytes_eq k e.0) as (λ b. bytes_eq k e.0 ≡ b
+    → option_map (λ m. word_from (k, m)) (cond b (Some e.1) (lookup (is_at (slice_cmp nat_cmp k)) es))
+    ≡ cond b (Some (word_from e)) (word_of k (words_in es))) [
       | true ↦ λ h. ap (λ (x : List ℕ). Some (word_from (x, e.1))) ((bytes_eq-Decides k e.0).0 h)
       | false ↦ λ h. found es k
     ] refl)
@@ -48,7 +50,10 @@ put_in [] w none = refl
 put_in (e ∷ es) w none =
     let m : Meaning = record { value = w.value; class = w.class } in
     let two = none_here (bytes_eq e.0 w.letters) (word_from e) (word_of w.letters (words_in es)) none in
-    elim (slice_cmp nat_cmp w.letters e.0) as (λ o. slice_cmp nat_cmp w.letters e.0 ≡ o → words_in (match_ordering o ((w.letters, m) ∷ e ∷ es) ((e.0, m) ∷ es) (e ∷ insert_entry (slice_cmp nat_cmp) es w.letters m)) ≡ cond (is_lt o) (w ∷ word_from e ∷ words_in es) (word_from e ∷ words_with w (words_in es))) [
+    elim (slice_cmp nat_cmp w.letters e.0) as (λ o. slice_cmp nat_cmp w.letters e.0 ≡ o
+    → words_in (match_ordering o ((w.letters, m) ∷ e ∷ es) ((e.0, m) ∷ es)
+    (e ∷ insert_entry (slice_cmp nat_cmp) es w.letters m))
+    ≡ cond (is_lt o) (w ∷ word_from e ∷ words_in es) (word_from e ∷ words_with w (words_in es))) [
       | Less ↦ λ h. refl
       | Equal ↦ λ h. let same = is_same w.letters e.0 h in let other = two.0 in absurd cc
       | Greater ↦ λ h. ap (λ ws. word_from e ∷ ws) (put_in es w two.1)

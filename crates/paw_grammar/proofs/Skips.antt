@@ -1,5 +1,6 @@
 -- The condacts of a line, one after another.
-use Rattle.std.proofs.Common.{◌≡◌, ℕ, ◌≤◌, ◌+◌, min, nat_lt, Bool, List, [], ◌∷◌, ◌++◌, length, Option, Some, None, Result, Ok, Err, refl, sym, ap, subst, ◌∙◌, arith, append_assoc}
+use Rattle.std.proofs.Common.{◌≡◌, ℕ, ◌≤◌, ◌+◌, min, nat_lt, Bool, List, [], ◌∷◌, ◌++◌, length, Option, Some}
+use Rattle.std.proofs.Common.{None, Result, Ok, Err, refl, sym, ap, subst, ◌∙◌, arith, append_assoc}
 use Rattle.std.proofs.lemmas.List.{append-nil}
 use Rattle.paw_base.specs.declared.fault.SourceKind.{SourceKind}
 use Rattle.paw_base.specs.declared.fault.SourceKind.TheVariants as fault
@@ -25,10 +26,12 @@ data Takes (n : ℕ) (ts rest : List (List ℕ)) : Type 0 where
   none : n ≡ 0 → ts ≡ rest → Takes n ts rest
   one : (t : List ℕ) → n ≡ 1 → ts ≡ t ∷ rest → Takes n ts rest
 
-takes_meaning : {A : Type 0} (k : SourceKind) (meaning : List ℕ → Option A) (ts rest : List (List ℕ)) (x : A) → read_by k meaning ts ≡ Ok (x, rest) → Takes 1 ts rest
+takes_meaning : {A : Type 0} (k : SourceKind) (meaning : List ℕ → Option A) (ts rest : List (List ℕ)) (x : A)
+    → read_by k meaning ts ≡ Ok (x, rest) → Takes 1 ts rest
 takes_meaning {A} k meaning ts rest x e = let m = meant k meaning ts (x, rest) e in one m.first refl m.all
 
-takes_number : (rule : ℕ → Bool) (k : SourceKind) (meaning : List ℕ → Option ℕ) (ts rest : List (List ℕ)) (x : ℕ) → (read_by k meaning ts >>= in_range rule) ≡ Ok (x, rest) → Takes 1 ts rest
+takes_number : (rule : ℕ → Bool) (k : SourceKind) (meaning : List ℕ → Option ℕ) (ts rest : List (List ℕ)) (x : ℕ)
+    → (read_by k meaning ts >>= in_range rule) ≡ Ok (x, rest) → Takes 1 ts rest
 takes_number rule k meaning ts rest x e = takes_meaning k meaning ts rest x (ranged rule (read_by k meaning ts) (x, rest) e).is
 
 takes_table : (tables : ℕ) (ts rest : List (List ℕ)) (x : ℕ) → table tables ts ≡ Ok (x, rest) → Takes 1 ts rest
@@ -37,7 +40,8 @@ takes_table tables ts rest x e =
     let same = (pair_parts (min b.value.0 255) x b.value.1 rest b.goes_on).1 in
     takes_number (λ n. nat_lt n tables) fault.Number number ts rest b.value.0 (b.is ∙ ap (λ (us : List (List ℕ)). Ok (b.value.0, us)) same)
 
-takes : (bounds : Bounds) (ws : List Word) (k : ParamKind) (ts rest : List (List ℕ)) (x : ℕ) → parameter bounds ws k ts ≡ Ok (x, rest) → Takes (param_count k) ts rest
+takes : (bounds : Bounds) (ws : List Word) (k : ParamKind) (ts rest : List (List ℕ)) (x : ℕ)
+    → parameter bounds ws k ts ≡ Ok (x, rest) → Takes (param_count k) ts rest
 takes bounds ws kind.Absent ts rest x e = none refl (pair_parts 0 x ts rest e).1
 takes bounds ws kind.Location ts rest x e = takes_number (λ n. nat_lt n bounds.locations) fault.Number number ts rest x e
 takes bounds ws kind.Place ts rest x e = takes_number _ fault.Number _ ts rest x e
@@ -76,18 +80,21 @@ rest_same : (k : SourceKind) (ts : List (List ℕ)) (o : Option ℕ) (x : ℕ ×
 rest_same k ts None x e = absurd cc
 rest_same k ts (Some n) x e = (pair_parts n x.0 ts x.1 e).1
 
-pub skips : (bounds : Bounds) (ws : List Word) (name : List ℕ) (ts rest : List (List ℕ)) (c : Condact) → condact bounds ws name ts ≡ Ok (c, rest) → Left bounds ws (params_of c.code) ts rest
+pub skips : (bounds : Bounds) (ws : List Word) (name : List ℕ) (ts rest : List (List ℕ)) (c : Condact)
+    → condact bounds ws name ts ≡ Ok (c, rest) → Left bounds ws (params_of c.code) ts rest
 unfolding condact
 skips bounds ws name ts rest c e =
     let code = bound (or_fault fault.Condact ts (code_named name)) (with_first bounds ws) (c, rest) e in
     let a = bound (parameter bounds ws (first_kind code.value.0) code.value.1) (with_second bounds ws code.value.0) (c, rest) code.goes_on in
-    let b = bound (parameter bounds ws (second_kind code.value.0) a.value.1) (λ b. Ok (record { code = code.value.0; a = a.value.0; b = b.0 }, b.1)) (c, rest) a.goes_on in
+    let b = bound (parameter bounds ws (second_kind code.value.0) a.value.1)
+    (λ b. Ok (record { code = code.value.0; a = a.value.0; b = b.0 }, b.1)) (c, rest) a.goes_on in
     let made : Condact = record { code = code.value.0; a = a.value.0; b = b.value.0 } in
     let parts = pair_parts made c b.value.1 rest b.goes_on in
     let ts_same = rest_same fault.Condact ts (code_named name) code.value code.is in
     let first = takes bounds ws (first_kind code.value.0) code.value.1 a.value.1 a.value.0 a.is in
     let second = takes bounds ws (second_kind code.value.0) a.value.1 b.value.1 b.value.0 b.is in
-    let two = skips_two bounds ws (param_count (first_kind code.value.0)) (param_count (second_kind code.value.0)) code.value.1 a.value.1 b.value.1 first second in
+    let two = skips_two bounds ws (param_count (first_kind code.value.0)) (param_count (second_kind code.value.0))
+    code.value.1 a.value.1 b.value.1 first second in
     subst (λ (us : List (List ℕ)). Left bounds ws (params_of c.code) us rest) (sym ts_same)
     (subst (λ (d : Condact). Left bounds ws (params_of d.code) code.value.1 rest) parts.0
     (subst (λ (us : List (List ℕ)). Left bounds ws (params_of code.value.0) code.value.1 us) parts.1 two))
@@ -95,7 +102,8 @@ skips bounds ws name ts rest c e =
 -- ---- the loop over the condacts
 
 -- one condact more
-one_more : (bounds : Bounds) (ws : List Word) (cs : List Condact) (name : List ℕ) (ts rest : List (List ℕ)) (c : Condact) → condact bounds ws name ts ≡ Ok (c, rest)
+one_more : (bounds : Bounds) (ws : List Word) (cs : List Condact) (name : List ℕ) (ts rest : List (List ℕ))
+    (c : Condact) → condact bounds ws name ts ≡ Ok (c, rest)
     → with_more_condacts cs (condacts_in bounds ws 0 (name ∷ ts)) ≡ with_more_condacts (cs ++ c ∷ []) (condacts_in bounds ws 0 rest)
 unfolding condacts_in
 one_more bounds ws cs name ts rest c e =
@@ -106,20 +114,31 @@ one_more bounds ws cs name ts rest c e =
     ])
 
 -- a condact with a fault
-one_fault : (bounds : Bounds) (ws : List Word) (cs : List Condact) (name : List ℕ) (ts : List (List ℕ)) (k : SourceKind) → condact bounds ws name ts ≡ Err k → with_more_condacts cs (condacts_in bounds ws 0 (name ∷ ts)) ≡ Err k
+one_fault : (bounds : Bounds) (ws : List Word) (cs : List Condact) (name : List ℕ) (ts : List (List ℕ))
+    (k : SourceKind) → condact bounds ws name ts ≡ Err k
+    → with_more_condacts cs (condacts_in bounds ws 0 (name ∷ ts)) ≡ Err k
 unfolding condacts_in
 one_fault bounds ws cs name ts k e = rw e refl
 
-pub fails_here : (bounds : Bounds) (ws : List Word) (cs : List Condact) (name : List ℕ) (ts old : List (List ℕ)) (whole : Result (List Condact) SourceKind) (e : ReadError) → old ≡ name ∷ ts → with_more_condacts cs (condacts_in bounds ws 0 old) ≡ whole → Fails e (condact bounds ws name ts) → Fails e whole
+pub fails_here : (bounds : Bounds) (ws : List Word) (cs : List Condact) (name : List ℕ) (ts old : List (List ℕ))
+    (whole : Result (List Condact) SourceKind) (e : ReadError) → old ≡ name ∷ ts
+    → with_more_condacts cs (condacts_in bounds ws 0 old) ≡ whole → Fails e (condact bounds ws name ts) → Fails e whole
 fails_here bounds ws cs name ts old whole errors.NoRoom next invariant fails = tt
 fails_here bounds ws cs name ts old whole (errors.Fault k) next invariant fails =
     sym invariant ∙ ap (λ (x : List (List ℕ)). with_more_condacts cs (condacts_in bounds ws 0 x)) next ∙ one_fault bounds ws cs name ts k fails
 
-pub goes_on : (bounds : Bounds) (ws : List Word) (cs more : List Condact) (name : List ℕ) (ts old rest : List (List ℕ)) (c : Condact) (whole : Result (List Condact) SourceKind) → old ≡ name ∷ ts → with_more_condacts cs (condacts_in bounds ws 0 old) ≡ whole → condact bounds ws name ts ≡ Ok (c, rest) → more ≡ cs ++ c ∷ [] → with_more_condacts more (condacts_in bounds ws 0 rest) ≡ whole
+pub goes_on : (bounds : Bounds) (ws : List Word) (cs more : List Condact) (name : List ℕ)
+    (ts old rest : List (List ℕ)) (c : Condact) (whole : Result (List Condact) SourceKind) → old ≡ name ∷ ts
+    → with_more_condacts cs (condacts_in bounds ws 0 old) ≡ whole → condact bounds ws name ts ≡ Ok (c, rest)
+    → more ≡ cs ++ c ∷ [] → with_more_condacts more (condacts_in bounds ws 0 rest) ≡ whole
 goes_on bounds ws cs more name ts old rest c whole next invariant is pushed =
-    ap (λ (x : List Condact). with_more_condacts x (condacts_in bounds ws 0 rest)) pushed ∙ sym (one_more bounds ws cs name ts rest c is) ∙ ap (λ (x : List (List ℕ)). with_more_condacts cs (condacts_in bounds ws 0 x)) (sym next) ∙ invariant
+    ap (λ (x : List Condact). with_more_condacts x (condacts_in bounds ws 0 rest)) pushed
+    ∙ sym (one_more bounds ws cs name ts rest c is)
+    ∙ ap (λ (x : List (List ℕ)). with_more_condacts cs (condacts_in bounds ws 0 x)) (sym next) ∙ invariant
 
-pub at_end : (bounds : Bounds) (ws : List Word) (cs : List Condact) (old : List (List ℕ)) (whole : Result (List Condact) SourceKind) → old ≡ [] → with_more_condacts cs (condacts_in bounds ws 0 old) ≡ whole → whole ≡ Ok cs
+pub at_end : (bounds : Bounds) (ws : List Word) (cs : List Condact) (old : List (List ℕ))
+    (whole : Result (List Condact) SourceKind) → old ≡ [] → with_more_condacts cs (condacts_in bounds ws 0 old) ≡ whole
+    → whole ≡ Ok cs
 unfolding condacts_in
 at_end bounds ws cs old whole empty invariant =
     sym invariant ∙ ap (λ (x : List (List ℕ)). with_more_condacts cs (condacts_in bounds ws 0 x)) empty ∙ ap Ok (append-nil cs)

@@ -28,7 +28,8 @@ pub record Meant {A : Type 0} (meaning : List ℕ → Option A) (ts : List (List
   pub all : ts ≡ first ∷ x.1
   pub means : meaning first ≡ Some x.0
 
-pub meant : {A : Type 0} (k : SourceKind) (meaning : List ℕ → Option A) (ts : List (List ℕ)) (x : A × List (List ℕ)) → read_by k meaning ts ≡ Ok x → Meant meaning ts x
+pub meant : {A : Type 0} (k : SourceKind) (meaning : List ℕ → Option A) (ts : List (List ℕ)) (x : A × List (List ℕ))
+    → read_by k meaning ts ≡ Ok x → Meant meaning ts x
 meant {A} k meaning [] x e = absurd cc
 meant {A} k meaning (t ∷ ts) x e =
     elim (meaning t) as (λ o. meaning t ≡ o → or_fault k ts o ≡ Ok x → Meant meaning (t ∷ ts) x) [

@@ -1,5 +1,6 @@
 -- A table of first words, as the words are read one by one.
-use Rattle.std.proofs.Common.{◌≡◌, ◌≢◌, ℕ, ◌<◌, ◌+◌, true, false, cond, eqb, List, [], ◌∷◌, ◌++◌, length, take, get_or, set, replicate, Option, Some, None, refl, sym, ap, ◌∙◌, inl, inr}
+use Rattle.std.proofs.Common.{◌≡◌, ◌≢◌, ℕ, ◌<◌, ◌+◌, true, false, cond, eqb, List, [], ◌∷◌, ◌++◌, length, take}
+use Rattle.std.proofs.Common.{get_or, set, replicate, Option, Some, None, refl, sym, ap, ◌∙◌, inl, inr}
 use Rattle.std.specs.Option.{option_or}
 use Rattle.std.proofs.lemmas.Bool.{cases_eq, eq-eqb, ne_eqb}
 use Rattle.std.proofs.lemmas.List.{length-replicate, get_or-replicate, length-set, get_or-set_same, get_or-set_other, take_more}
@@ -23,15 +24,20 @@ or_none (Some w) = refl
 abbrev one : ℕ → ℕ → Word → Option Word
 one class value w = cond (means class value w) (Some w) None
 
-first_word-push : (ws : List Word) (w : Word) (class value : ℕ) → first_word (ws ++ w ∷ []) class value ≡ option_or (first_word ws class value) (one class value w)
+first_word-push : (ws : List Word) (w : Word) (class value : ℕ)
+    → first_word (ws ++ w ∷ []) class value ≡ option_or (first_word ws class value) (one class value w)
 first_word-push [] w class value = refl
 first_word-push (v ∷ vs) w class value =
-    elim (means class value v) as (λ b. cond b (Some v) (first_word (vs ++ w ∷ []) class value) ≡ option_or (cond b (Some v) (first_word vs class value)) (one class value w)) [
+    elim (means class value v) as
+    (λ b. cond b (Some v) (first_word (vs ++ w ∷ []) class value)
+    ≡ option_or (cond b (Some v) (first_word vs class value)) (one class value w)) [
       | true ↦ refl
       | false ↦ first_word-push vs w class value
     ]
 
-first_word-more : (ws : List Word) (i : ℕ) (d : Word) (class value : ℕ) → i < length ws → first_word (take (i + 1) ws) class value ≡ option_or (first_word (take i ws) class value) (one class value (get_or ws i d))
+first_word-more : (ws : List Word) (i : ℕ) (d : Word) (class value : ℕ) → i < length ws
+    → first_word (take (i + 1) ws) class value
+    ≡ option_or (first_word (take i ws) class value) (one class value (get_or ws i d))
 first_word-more ws i d class value h =
     ap (λ (vs : List Word). first_word vs class value) (take_more ws i d h) ∙ first_word-push (take i ws) (get_or ws i d) class value
 
@@ -49,7 +55,8 @@ TellsFirst-other table ws i d class h other tells =
     }
 
 -- a word of the class
-pub TellsFirst-more : (table : List (Option Word)) (ws : List Word) (i : ℕ) (d : Word) (class : ℕ) → (get_or ws i d).value < 256 → i < length ws → (get_or ws i d).class ≡ class
+pub TellsFirst-more : (table : List (Option Word)) (ws : List Word) (i : ℕ) (d : Word) (class : ℕ)
+    → (get_or ws i d).value < 256 → i < length ws → (get_or ws i d).class ≡ class
     → TellsFirst table (take i ws) class
     → TellsFirst (set table (get_or ws i d).value (option_or (get_or table (get_or ws i d).value None) (Some (get_or ws i d)))) (take (i + 1) ws) class
 TellsFirst-more table ws i d class small h is tells =

@@ -16,7 +16,8 @@ written_more a b c z xs ys first second is =
     ∙ ap (λ (t : List ℕ). a ++ t) (sym (flat_map-append with_line_end xs ys))
 
 -- the same where the last step may have failed
-pub written_last : {T E : Type 0} (r : Result T E) (a b c z : List ℕ) (xs ys : List (List ℕ)) → b ≡ a ++ written xs → OnOk r (c ≡ b ++ z) → z ≡ written ys → OnOk r (c ≡ a ++ written (xs ++ ys))
+pub written_last : {T E : Type 0} (r : Result T E) (a b c z : List ℕ) (xs ys : List (List ℕ)) → b ≡ a ++ written xs
+    → OnOk r (c ≡ b ++ z) → z ≡ written ys → OnOk r (c ≡ a ++ written (xs ++ ys))
 written_last (Ok _) a b c z xs ys first second is = written_more a b c z xs ys first second is
 written_last (Err _) a b c z xs ys first second is = tt
 
@@ -45,7 +46,8 @@ rows_more {A} g before xs i x a b c h is first second =
     ∙ ap (λ (ls : List (List ℕ)). before ++ ls) (sym (flat_map-append g (take i xs) (x ∷ [])))
     ∙ ap (λ (ys : List A). before ++ flat_map g ys) (take_next xs i x h is))
 
-pub numbered-push : {A : Type 0} (g : ℕ → A → List (List ℕ)) (n : ℕ) (xs : List A) (x : A) → numbered g n (xs ++ x ∷ []) ≡ numbered g n xs ++ g (n + length xs) x
+pub numbered-push : {A : Type 0} (g : ℕ → A → List (List ℕ)) (n : ℕ) (xs : List A) (x : A)
+    → numbered g n (xs ++ x ∷ []) ≡ numbered g n xs ++ g (n + length xs) x
 numbered-push g n [] x =
     let e : n + 0 ≡ n = omega arith in
     append-nil (g n x) ∙ ap (λ k. g k x) (sym e)
@@ -55,13 +57,15 @@ numbered-push g n (y ∷ ys) x =
     ∙ sym (append_assoc (g n y) (numbered g (suc n) ys) (g (suc n + length ys) x))
     ∙ ap (λ k. (g n y ++ numbered g (suc n) ys) ++ g k x) e
 
-numbered-take : {A : Type 0} (g : ℕ → A → List (List ℕ)) (xs : List A) (i : ℕ) (x : A) → i < length xs → numbered g 0 (take i xs ++ x ∷ []) ≡ numbered g 0 (take i xs) ++ g i x
+numbered-take : {A : Type 0} (g : ℕ → A → List (List ℕ)) (xs : List A) (i : ℕ) (x : A) → i < length xs
+    → numbered g 0 (take i xs ++ x ∷ []) ≡ numbered g 0 (take i xs) ++ g i x
 numbered-take {A} g xs i x h =
     let e : 0 + length (take i xs) ≡ i = zero-add (length (take i xs)) ∙ length-take-le i xs (omega arith) in
     numbered-push g 0 (take i xs) x ∙ ap (λ k. numbered g 0 (take i xs) ++ g k x) e
 
 -- lines for each row and its number
-pub numbered_more : {A : Type 0} (g : ℕ → A → List (List ℕ)) (before : List (List ℕ)) (xs : List A) (i : ℕ) (x : A) (a b c : List ℕ) → i < length xs → x ≡ get_or xs i x
+pub numbered_more : {A : Type 0} (g : ℕ → A → List (List ℕ)) (before : List (List ℕ)) (xs : List A) (i : ℕ) (x : A)
+    (a b c : List ℕ) → i < length xs → x ≡ get_or xs i x
     → b ≡ a ++ written (before ++ numbered g 0 (take i xs)) → c ≡ b ++ written (g i x) → c ≡ a ++ written (before ++ numbered g 0 (take (i + 1) xs))
 numbered_more {A} g before xs i x a b c h is first second =
     written_more a b c (written (g i x)) (before ++ numbered g 0 (take i xs)) (g i x) first second refl
@@ -71,6 +75,7 @@ numbered_more {A} g before xs i x a b c h is first second =
     ∙ ap (λ (ys : List A). before ++ numbered g 0 ys) (take_next xs i x h is))
 
 -- rows of which a part is printed
-pub numbered-map : {A B : Type 0} (g : ℕ → B → List (List ℕ)) (part : A → B) (n : ℕ) (xs : List A) → numbered g n (map part xs) ≡ numbered (λ k x. g k (part x)) n xs
+pub numbered-map : {A B : Type 0} (g : ℕ → B → List (List ℕ)) (part : A → B) (n : ℕ) (xs : List A)
+    → numbered g n (map part xs) ≡ numbered (λ k x. g k (part x)) n xs
 numbered-map g part n [] = refl
 numbered-map g part n (x ∷ xs) = ap (λ (ls : List (List ℕ)). g n (part x) ++ ls) (numbered-map g part (suc n) xs)

@@ -13,7 +13,9 @@ written-onto_first b (l ∷ ls) h = refl
 written-slice_split : (s : List ℕ) → written (slice_split (λ c. eqb c 10) s) ≡ with_line_end s
 written-slice_split [] = refl
 written-slice_split (b ∷ bs) =
-    elim (eqb b 10) as (λ v. eqb b 10 ≡ v → written (cond v ([] ∷ slice_split (λ c. eqb c 10) bs) (onto_first b (slice_split (λ c. eqb c 10) bs))) ≡ b ∷ with_line_end bs) [
+    elim (eqb b 10) as (λ v. eqb b 10 ≡ v
+    → written (cond v ([] ∷ slice_split (λ c. eqb c 10) bs) (onto_first b (slice_split (λ c. eqb c 10) bs)))
+    ≡ b ∷ with_line_end bs) [
       | true ↦ λ e. ap (λ (t : List ℕ). 10 ∷ t) (written-slice_split bs) ∙ ap (λ c. c ∷ with_line_end bs) (sym (eqb-true b 10 e))
       | false ↦ λ e.
           written-onto_first b (slice_split (λ c. eqb c 10) bs) (omega (arith, length-slice_split (λ c. eqb c 10) bs))

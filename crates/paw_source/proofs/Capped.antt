@@ -1,5 +1,7 @@
 -- Numbers that are held in four bytes: those above stand for one another, as none of them is the number of a row.
-use Rattle.std.proofs.Common.{◌≡◌, ℕ, suc, ◌-◌, ◌≤◌, Bool, true, false, cond, not, ◌||◌, eqb, ltb, min, List, [], ◌∷◌, ◌++◌, length, replicate, drop, Option, Some, None, Result, Ok, Err, refl, sym, ap, ◌∙◌, arith}
+use Rattle.std.proofs.Common.{◌≡◌, ℕ, suc, ◌-◌, ◌≤◌, Bool, true, false, cond, not, ◌||◌, eqb}
+use Rattle.std.proofs.Common.{ltb, min, List, [], ◌∷◌, ◌++◌, length, replicate, drop, Option}
+use Rattle.std.proofs.Common.{Some, None, Result, Ok, Err, refl, sym, ap, ◌∙◌, arith}
 use Rattle.std.specs.Prelude.{nat_lt}
 use Rattle.std.proofs.lemmas.Bool.{ltb-true}
 use Rattle.std.proofs.lemmas.Bool.Decides.{nat_tests}
@@ -20,15 +22,22 @@ same_number : (n k : ℕ) → k ≤ 256 → eqb (min n 4294967295) k ≡ eqb n k
 same_number n k h = grind (arith, nat_tests, h)
 
 text_capped : (limit n : ℕ) (ts : List (List ℕ)) → length ts ≤ 256 → text_item limit (min n 4294967295) ts ≡ text_item limit n ts
-text_capped limit n ts h = ap (λ (b : Bool). cond (not b) (Err kind.Range) (cond (not (ltb (length ts) limit)) (Err kind.TooBig) (Ok (ts ++ [] ∷ [])))) (same_number n (length ts) h)
+text_capped limit n ts h =
+    ap (λ (b : Bool).
+    cond (not b) (Err kind.Range) (cond (not (ltb (length ts) limit)) (Err kind.TooBig) (Ok (ts ++ [] ∷ []))))
+    (same_number n (length ts) h)
 
 new_text_capped : (s : Section) (d : Spelt) (n : ℕ) → length (texts_of s d) ≤ 256 → new_text s d (min n 4294967295) ≡ new_text s d n
-new_text_capped s d n h = ap (λ (r : Result (List (List ℕ)) SourceKind). r >>= λ ts. Ok (with_texts s false ts d)) (text_capped (text_limit s) n (texts_of s d) h)
+new_text_capped s d n h =
+    ap (λ (r : Result (List (List ℕ)) SourceKind). r >>= λ ts. Ok (with_texts s false ts d))
+    (text_capped (text_limit s) n (texts_of s d) h)
 
 -- past the locations there is no item of exits
 past : (d : Spelt) (n : ℕ) → nat_lt n (length d.locations) ≡ false → new_exits d n ≡ Err kind.Range
 past d n h =
-    rw h (elim (nat_lt n (length d.exits)) as (λ b. cond (b || true) (Err kind.Range) (Ok (record d { exits = d.exits ++ replicate (suc n - length d.exits) [] })) ≡ Err kind.Range) [
+    rw h (elim (nat_lt n (length d.exits)) as
+    (λ b. cond (b || true) (Err kind.Range)
+    (Ok (record d { exits = d.exits ++ replicate (suc n - length d.exits) [] })) ≡ Err kind.Range) [
       | true ↦ refl
       | false ↦ refl
     ])
@@ -62,7 +71,9 @@ slash_capped d name (Some n) [] small = item_capped d.section d n small
 slash_capped d name (Some n) (t ∷ ts) small = refl
 
 -- a line that begins with `/`, of which the first token was taken and its number read
-pub slash_read : (p : ℕ) (d : Spelt) (name rest : List ℕ) (left ts : List (List ℕ)) (o : Option ℕ) (slash blank : Bool) → IsSmall d → ts ≡ name ∷ left → slash ≡ true → rest ≡ drop 1 name → o ≡ capped (number rest) → slash_line d name o left ≡ tokens_added p d slash blank ts
+pub slash_read : (p : ℕ) (d : Spelt) (name rest : List ℕ) (left ts : List (List ℕ)) (o : Option ℕ)
+    (slash blank : Bool) → IsSmall d → ts ≡ name ∷ left → slash ≡ true → rest ≡ drop 1 name → o ≡ capped (number rest)
+    → slash_line d name o left ≡ tokens_added p d slash blank ts
 slash_read p d name rest left ts o slash blank small tokens begins cut read =
     ap (λ (x : Option ℕ). slash_line d name x left) read
     ∙ ap (λ (x : List ℕ). slash_line d name (capped (number x)) left) cut

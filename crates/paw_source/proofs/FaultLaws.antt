@@ -13,7 +13,9 @@ use Rattle.paw_grammar.specs.GrammarState.{Spelt, nothing_yet, game_of}
 use Rattle.paw_grammar.specs.Spells.{step, begins_table, fault, at_line, whole, spelled_after, spelled}
 use Rattle.paw_source.specs.inner.Laws.{after_lines, HasFault, HasNone, NamesTheFirst, IsNamedRightly}
 
-found : (p n : ℕ) (d : Spelt) (before : List (List ℕ)) (line : List ℕ) (behind : List (List ℕ)) (e : Spelt) (k : SourceKind) → after_lines p d before ≡ Ok e → step p e line ≡ Err k → spelled_after p n d (before ++ line ∷ behind) ≡ Err (fault (suc (n + length before)) k)
+found : (p n : ℕ) (d : Spelt) (before : List (List ℕ)) (line : List ℕ) (behind : List (List ℕ)) (e : Spelt)
+    (k : SourceKind) → after_lines p d before ≡ Ok e → step p e line ≡ Err k
+    → spelled_after p n d (before ++ line ∷ behind) ≡ Err (fault (suc (n + length before)) k)
 unfolding spelled_after after_lines
 found p n d [] line behind e k none here =
     let same : d ≡ e = cc in
@@ -22,7 +24,9 @@ found p n d [] line behind e k none here =
     rw also (ap (λ (m : ℕ). Err (fault m k)) number)
 found p n d (l ∷ before) line behind e k none here =
     let number : suc (suc n + length before) ≡ suc (n + length (l ∷ before)) = omega arith in
-    elim (step p d l) as (λ r. (r >>= λ x. after_lines p x before) ≡ Ok e → at_line (suc n) r (λ x. spelled_after p (suc n) x (before ++ line ∷ behind)) ≡ Err (fault (suc (n + length (l ∷ before))) k)) [
+    elim (step p d l) as (λ r. (r >>= λ x. after_lines p x before) ≡ Ok e
+    → at_line (suc n) r (λ x. spelled_after p (suc n) x (before ++ line ∷ behind))
+    ≡ Err (fault (suc (n + length (l ∷ before))) k)) [
       | Ok x ↦ λ h. found p (suc n) x before line behind e k h here ∙ ap (λ (m : ℕ). Err (fault m k)) number
       | Err j ↦ λ h. absurd cc
     ] none
@@ -52,12 +56,16 @@ Named p n d ls f = ((m : ℕ) × (f.line ≡ suc (n + m)) × HasFault p d ls m f
 -- at the end no line had a fault
 ended : (n : ℕ) (d : Spelt) (f : SourceFault) → whole n d ≡ Err f → f.line ≡ suc n
 ended n d f h =
-    elim (nat_lt (length d.tables) 3) as (λ b. cond b (Err (fault (suc n) kind.Missing)) (cond (nat_lt 4194304 (length (image (game_of d)))) (Err (fault (suc n) kind.TooBig)) (Ok (game_of d))) ≡ Err f → f.line ≡ suc n) [
+    elim (nat_lt (length d.tables) 3) as
+    (λ b. cond b (Err (fault (suc n) kind.Missing))
+    (cond (nat_lt 4194304 (length (image (game_of d)))) (Err (fault (suc n) kind.TooBig)) (Ok (game_of d)))
+    ≡ Err f → f.line ≡ suc n) [
       | true ↦ λ g. ap (λ (x : SourceFault). x.line) (sym (err_is (fault (suc n) kind.Missing) f g))
-      | false ↦ λ g. elim (nat_lt 4194304 (length (image (game_of d)))) as (λ b. cond b (Err (fault (suc n) kind.TooBig)) (Ok (game_of d)) ≡ Err f → f.line ≡ suc n) [
-        | true ↦ λ i. ap (λ (x : SourceFault). x.line) (sym (err_is (fault (suc n) kind.TooBig) f i))
-        | false ↦ λ i. absurd cc
-      ] g
+      | false ↦ λ g. elim (nat_lt 4194304 (length (image (game_of d)))) as
+          (λ b. cond b (Err (fault (suc n) kind.TooBig)) (Ok (game_of d)) ≡ Err f → f.line ≡ suc n) [
+            | true ↦ λ i. ap (λ (x : SourceFault). x.line) (sym (err_is (fault (suc n) kind.TooBig) f i))
+            | false ↦ λ i. absurd cc
+          ] g
     ] h
 
 named : (p n : ℕ) (d : Spelt) (ls : List (List ℕ)) (f : SourceFault) → spelled_after p n d ls ≡ Err f → Named p n d ls f
@@ -70,12 +78,40 @@ named p n d (l ∷ ls) f h =
       | Err j ↦ λ e g.
           let same = err_is (fault (suc n) j) f g in
           let at = ap (λ (x : SourceFault). x.line) same in
-          inl (0, omega (arith, at), record { before = []; line = l; behind = ls; draft = d; parts = refl; place = refl; no_fault = refl; fault = e ∙ ap (λ (x : SourceFault). Err x.kind) same })
+          inl (
+            0,
+            omega (arith, at),
+            record {
+              before = [];
+              line = l;
+              behind = ls;
+              draft = d;
+              parts = refl;
+              place = refl;
+              no_fault = refl;
+              fault = e ∙ ap (λ (x : SourceFault). Err x.kind) same;
+            },
+          )
       | Ok x ↦ λ e g. elim (named p (suc n) x ls f g) [
         | inl a ↦
             let at = a.1 in
             let some = a.2 in
-            inl (suc a.0, omega (arith, at), record { before = l ∷ some.before; line = some.line; behind = some.behind; draft = some.draft; parts = ap (λ (y : List (List ℕ)). l ∷ y) some.parts; place = ap suc some.place; no_fault = rw e some.no_fault; fault = some.fault })
+            inl (
+              suc a.0,
+              omega (arith, at),
+              record {
+                before = l ∷ some.before;
+                line = some.line;
+                behind = some.behind;
+                draft = some.draft;
+                parts =
+                    ap (λ (y : List (List ℕ)). l ∷ y) some.parts;
+                place = ap suc some.place;
+                no_fault =
+                    rw e some.no_fault;
+                fault = some.fault;
+              },
+            )
         | inr b ↦
             let at = b.0 in
             inr (omega (arith, at), record { draft = b.1.draft; no_fault = rw e b.1.no_fault })

@@ -7,7 +7,8 @@ use Rattle.paw_grammar.specs.GrammarState.{objects_of}
 
 -- ---- a list that is filled up to a length
 
-pub one_filled : {A : Type 0} (a : A) (xs : List A) (count : ℕ) → length xs < count → (xs ++ a ∷ []) ++ replicate (count - length (xs ++ a ∷ [])) a ≡ xs ++ replicate (count - length xs) a
+pub one_filled : {A : Type 0} (a : A) (xs : List A) (count : ℕ) → length xs < count
+    → (xs ++ a ∷ []) ++ replicate (count - length (xs ++ a ∷ [])) a ≡ xs ++ replicate (count - length xs) a
 one_filled a xs count h =
     let long = length-append xs (a ∷ []) in
     let e : count - length xs ≡ suc (count - length (xs ++ a ∷ [])) = omega (arith, long, h) in
@@ -20,7 +21,10 @@ all_filled a xs count h =
 
 -- ---- objects
 
-pub object_more : (done new : List ObjectRow) (old ts : List (List ℕ)) (t : List ℕ) (rest fs : List ObjectFacts) (f : ObjectFacts) (whole : List ObjectRow) → old ≡ t ∷ ts → rest ≡ f ∷ fs → new ≡ done ++ (record { text = t; facts = f }) ∷ [] → done ++ objects_of old rest ≡ whole → new ++ objects_of ts fs ≡ whole
+pub object_more : (done new : List ObjectRow) (old ts : List (List ℕ)) (t : List ℕ) (rest fs : List ObjectFacts)
+    (f : ObjectFacts) (whole : List ObjectRow) → old ≡ t ∷ ts → rest ≡ f ∷ fs
+    → new ≡ done ++ (record { text = t; facts = f }) ∷ [] → done ++ objects_of old rest ≡ whole
+    → new ++ objects_of ts fs ≡ whole
 unfolding objects_of
 object_more done new old ts t rest fs f whole next first pushed invariant =
     ap (λ (x : List ObjectRow). x ++ objects_of ts fs) pushed
@@ -38,7 +42,8 @@ empty : {A : Type 0} (xs : List A) → length xs ≡ 0 → xs ≡ []
 empty [] h = refl
 empty (x ∷ xs) h = absurd (omega (arith, h))
 
-pub objects_cut : (done : List ObjectRow) (ts : List (List ℕ)) (fs : List ObjectFacts) (whole : List ObjectRow) → length fs ≡ 0 → done ++ objects_of ts fs ≡ whole → done ≡ whole
+pub objects_cut : (done : List ObjectRow) (ts : List (List ℕ)) (fs : List ObjectFacts) (whole : List ObjectRow)
+    → length fs ≡ 0 → done ++ objects_of ts fs ≡ whole → done ≡ whole
 objects_cut done ts fs whole none invariant =
     sym (append-nil done) ∙ sym (ap (λ (x : List ObjectRow). done ++ x) (ap (objects_of ts) (empty fs none) ∙ no_facts ts)) ∙ invariant
 
@@ -46,6 +51,7 @@ no_texts : (fs : List ObjectFacts) → objects_of [] fs ≡ []
 unfolding objects_of
 no_texts fs = refl
 
-pub objects_end : (done : List ObjectRow) (ts : List (List ℕ)) (fs : List ObjectFacts) (whole : List ObjectRow) → length ts ≡ 0 → done ++ objects_of ts fs ≡ whole → done ≡ whole
+pub objects_end : (done : List ObjectRow) (ts : List (List ℕ)) (fs : List ObjectFacts) (whole : List ObjectRow)
+    → length ts ≡ 0 → done ++ objects_of ts fs ≡ whole → done ≡ whole
 objects_end done ts fs whole none invariant =
     sym (append-nil done) ∙ sym (ap (λ (x : List ObjectRow). done ++ x) (ap (λ (x : List (List ℕ)). objects_of x fs) (empty ts none) ∙ no_texts fs)) ∙ invariant

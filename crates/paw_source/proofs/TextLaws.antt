@@ -1,5 +1,6 @@
 -- Texts that grow by lines keep the rules of a game's texts.
-use Rattle.std.proofs.Common.{◌≡◌, ℕ, zero, suc, ◌-◌, ◌<◌, ◌≤◌, Bool, true, false, cond, not, ◌&&◌, ◌||◌, eqb, ltb, List, [], ◌∷◌, ◌++◌, length, set, get_or, Ok, Err, refl, arith}
+use Rattle.std.proofs.Common.{◌≡◌, ℕ, zero, suc, ◌-◌, ◌<◌, ◌≤◌, Bool, true, false, cond, not, ◌&&◌, ◌||◌}
+use Rattle.std.proofs.Common.{eqb, ltb, List, [], ◌∷◌, ◌++◌, length, set, get_or, Ok, Err, refl, arith}
 use Rattle.std.specs.Prelude.{nat_le, nat_lt}
 use Rattle.std.specs.List.{list_all, list_any}
 use Rattle.std.proofs.lemmas.Bool.{and_parts}
@@ -53,7 +54,8 @@ plain_byte b h = grind (arith, nat_tests)
 plain_line : (l : List ℕ) → list_any (λ b. not (is_allowed true b)) l ≡ false → list_all plain l ≡ true
 plain_line [] h = refl
 plain_line (b ∷ bs) h =
-    elim (not (is_allowed true b)) as (λ v. not (is_allowed true b) ≡ v → (v || list_any (λ b. not (is_allowed true b)) bs) ≡ false → list_all plain (b ∷ bs) ≡ true) [
+    elim (not (is_allowed true b)) as (λ v. not (is_allowed true b) ≡ v
+    → (v || list_any (λ b. not (is_allowed true b)) bs) ≡ false → list_all plain (b ∷ bs) ≡ true) [
       | true ↦ λ e f. absurd cc
       | false ↦ λ e f. both (plain b) (list_all plain bs) (plain_byte b e) (plain_line bs f)
     ] refl h
@@ -100,7 +102,9 @@ allowed true a e h = absurd cc
 allowed false a e h = h
 
 -- a text line leaves texts that keep the rules
-pub text_line_ok : (begun : Bool) (l : List ℕ) (ts us : List (List ℕ)) → list_all is_text ts ≡ true → is_comment l ≡ false → begins_with_slash l ≡ false → has_forbidden_byte true l ≡ false → text_line begun l ts ≡ Ok us → (list_all is_text us ≡ true) × (length us ≡ length ts)
+pub text_line_ok : (begun : Bool) (l : List ℕ) (ts us : List (List ℕ)) → list_all is_text ts ≡ true
+    → is_comment l ≡ false → begins_with_slash l ≡ false → has_forbidden_byte true l ≡ false
+    → text_line begun l ts ≡ Ok us → (list_all is_text us ≡ true) × (length us ≡ length ts)
 text_line_ok begun l ts us all comment slash bytes h =
     let b = bound (joined_within begun l (last_or [] ts)) (λ t. Ok (with_last t ts)) us h in
     let old = all_get is_text ts (length ts - 1) [] all refl in
@@ -109,11 +113,15 @@ text_line_ok begun l ts us all comment slash bytes h =
     let printed_new = joined_printed begun (last_or [] ts) l printed_old (λ f. whole_line f l plain_l comment slash) in
     let short = passes (nat_lt 4095 (length (with_line begun (last_or [] ts) l))) kind.TooBig (Ok (with_line begun (last_or [] ts) l)) b.0 b.1 in
     let few : nat_le (length (with_line begun (last_or [] ts) l)) 4095 ≡ true = grind (arith, nat_tests, short.0) in
-    let good : is_text b.0 ≡ true = rw (← ok_is (with_line begun (last_or [] ts) l) b.0 short.1) (both (nat_le (length (with_line begun (last_or [] ts) l)) 4095) (is_printed true (with_line begun (last_or [] ts) l)) few printed_new) in
+    let good : is_text b.0 ≡ true =
+    rw (← ok_is (with_line begun (last_or [] ts) l) b.0 short.1)
+    (both (nat_le (length (with_line begun (last_or [] ts) l)) 4095)
+    (is_printed true (with_line begun (last_or [] ts) l)) few printed_new) in
     let made = ok_is (with_last b.0 ts) us b.2 in
     rw (← made) (all_set is_text ts (length ts - 1) b.0 all good, length-set ts (length ts - 1) b.0)
 
-pub text_item_ok : (limit n : ℕ) (ts us : List (List ℕ)) → list_all is_text ts ≡ true → text_item limit n ts ≡ Ok us → (list_all is_text us ≡ true) × (length us ≤ limit)
+pub text_item_ok : (limit n : ℕ) (ts us : List (List ℕ)) → list_all is_text ts ≡ true → text_item limit n ts ≡ Ok us
+    → (list_all is_text us ≡ true) × (length us ≤ limit)
 text_item_ok limit n ts us all h =
     let a = passes (not (eqb n (length ts))) kind.Range (cond (not (ltb (length ts) limit)) (Err kind.TooBig) (Ok (ts ++ [] ∷ []))) us h in
     let b = passes (not (ltb (length ts) limit)) kind.TooBig (Ok (ts ++ [] ∷ [])) us a.1 in

@@ -1,5 +1,7 @@
 -- Words that are read, declared and looked up keep the rules of a game's words.
-use Rattle.std.proofs.Common.{◌≡◌, ℕ, zero, suc, ◌-◌, Bool, true, false, cond, ◌&&◌, ◌||◌, eqb, ltb, List, [], ◌∷◌, ◌++◌, length, take, replicate, Option, Some, None, is_some, Ok, Err, refl, sym, ap, ◌∙◌, arith, length-append}
+use Rattle.std.proofs.Common.{◌≡◌, ℕ, zero, suc, ◌-◌, Bool, true, false, cond, ◌&&◌, ◌||◌, eqb}
+use Rattle.std.proofs.Common.{ltb, List, [], ◌∷◌, ◌++◌, length, take, replicate, Option, Some, None}
+use Rattle.std.proofs.Common.{is_some, Ok, Err, refl, sym, ap, ◌∙◌, arith, length-append}
 use Rattle.std.specs.Prelude.{bytes_eq, nat_le, nat_lt}
 use Rattle.std.specs.Char.{to_ascii_uppercase, is_ascii_alphanumeric}
 use Rattle.std.specs.List.{list_all}
@@ -18,7 +20,9 @@ use Rattle.paw_game.specs.declared.parts.Word.{Word}
 use Rattle.paw_game.specs.Valid.{is_letter, is_filled, are_letters, is_word, words_rise, words_kept, has_word, is_verb_value, is_word_or_none, is_any}
 use Rattle.paw_game.specs.Tables.{word_of}
 use Rattle.paw_grammar.specs.Tokens.{is_named}
-use Rattle.paw_grammar.specs.Vocabulary.{is_word_token, letters_of, letters_in, word, class_names, place_among, class, words_with, is_declared, declared, in_class, as_verb, known, or_none, or_any, word_or_none, verb_word, entry_verb, entry_noun}
+use Rattle.paw_grammar.specs.Vocabulary.{is_word_token, letters_of, letters_in, word, class_names, place_among}
+use Rattle.paw_grammar.specs.Vocabulary.{class, words_with, is_declared, declared, in_class, as_verb, known, or_none}
+use Rattle.paw_grammar.specs.Vocabulary.{or_any, word_or_none, verb_word, entry_verb, entry_noun}
 use Rattle.paw_source.proofs.Faultless.{passes, ok_is, some_is, read_ok}
 
 -- ---- letters
@@ -112,13 +116,16 @@ undeclared l v vs h =
       | false ↦ λ e. (refl, e)
     ] h
 
-rise_put : (v w : Word) (ws : List Word) → words_rise (v ∷ ws) ≡ true → is_lt (slice_cmp nat_cmp v.letters w.letters) ≡ true → is_declared w.letters ws ≡ false → words_rise (v ∷ words_with w ws) ≡ true
+rise_put : (v w : Word) (ws : List Word) → words_rise (v ∷ ws) ≡ true
+    → is_lt (slice_cmp nat_cmp v.letters w.letters) ≡ true → is_declared w.letters ws ≡ false
+    → words_rise (v ∷ words_with w ws) ≡ true
 unfolding words_with
 rise_put v w [] rise above new = rw above refl
 rise_put v w (u ∷ us) rise above new =
     let p = and_parts (is_lt (slice_cmp nat_cmp v.letters u.letters)) (words_rise (u ∷ us)) rise in
     let n = undeclared w.letters u us new in
-    elim (is_lt (slice_cmp nat_cmp w.letters u.letters)) as (λ b. is_lt (slice_cmp nat_cmp w.letters u.letters) ≡ b → words_rise (v ∷ cond b (w ∷ u ∷ us) (u ∷ words_with w us)) ≡ true) [
+    elim (is_lt (slice_cmp nat_cmp w.letters u.letters)) as (λ b. is_lt (slice_cmp nat_cmp w.letters u.letters) ≡ b
+    → words_rise (v ∷ cond b (w ∷ u ∷ us) (u ∷ words_with w us)) ≡ true) [
       | true ↦ λ e. rw (above, e, p.1) refl
       | false ↦ λ e. rw p.0 (rise_put u w us p.1 (other_way w.letters u.letters e n.0) n.1)
     ] refl
@@ -128,7 +135,8 @@ unfolding words_with
 put_rises w [] rise new = refl
 put_rises w (u ∷ us) rise new =
     let n = undeclared w.letters u us new in
-    elim (is_lt (slice_cmp nat_cmp w.letters u.letters)) as (λ b. is_lt (slice_cmp nat_cmp w.letters u.letters) ≡ b → words_rise (cond b (w ∷ u ∷ us) (u ∷ words_with w us)) ≡ true) [
+    elim (is_lt (slice_cmp nat_cmp w.letters u.letters)) as (λ b. is_lt (slice_cmp nat_cmp w.letters u.letters) ≡ b
+    → words_rise (cond b (w ∷ u ∷ us) (u ∷ words_with w us)) ≡ true) [
       | true ↦ λ e. rw (e, rise) refl
       | false ↦ λ e. rise_put u w us rise (other_way w.letters u.letters e n.0) n.1
     ] refl
@@ -181,7 +189,8 @@ known_has ws t w h =
       | false ↦ λ e. absurd cc
     ] h
 
-class_has : (ws : List Word) (c v : ℕ) (o : Option Word) → ((w : Word) → o ≡ Some w → has_word ws w.class w.value ≡ true) → in_class c o ≡ Some v → has_word ws c v ≡ true
+class_has : (ws : List Word) (c v : ℕ) (o : Option Word)
+    → ((w : Word) → o ≡ Some w → has_word ws w.class w.value ≡ true) → in_class c o ≡ Some v → has_word ws c v ≡ true
 class_has ws c v None from h = absurd cc
 class_has ws c v (Some w) from h =
     elim (eqb w.class c) as (λ b. eqb w.class c ≡ b → cond b (Some w.value) None ≡ Some v → has_word ws c v ≡ true) [
@@ -189,7 +198,8 @@ class_has ws c v (Some w) from h =
       | false ↦ λ e f. absurd cc
     ] refl h
 
-verb_has : (ws : List Word) (v : ℕ) (o : Option Word) → ((w : Word) → o ≡ Some w → has_word ws w.class w.value ≡ true) → as_verb o ≡ Some v → is_verb_value ws v ≡ true
+verb_has : (ws : List Word) (v : ℕ) (o : Option Word) → ((w : Word) → o ≡ Some w → has_word ws w.class w.value ≡ true)
+    → as_verb o ≡ Some v → is_verb_value ws v ≡ true
 verb_has ws v None from h = absurd cc
 verb_has ws v (Some w) from h =
     elim (eqb w.class 0) as (λ b. eqb w.class 0 ≡ b → cond (b || (eqb w.class 2 && ltb w.value 20)) (Some w.value) None ≡ Some v → is_verb_value ws v ≡ true) [

@@ -6,7 +6,8 @@ use Rattle.paw_grammar.proofs.condacts.add_condacts.Goals as goal
 pub returns-in-Err : goal.returns-in-Err
 returns-in-Err c =
     fails_here c.args.bounds.now c.args.words.now c.loop-name.rows.items c.in-Some.name.now c.next.new.self c.loop-name.tokens
-    (with_more_condacts c.args.rows.now.items (condacts_in c.args.bounds.now c.args.words.now 0 c.args.tokens.now)) c.in-Err.error c.in-Some.ensures c.loop-name.invariant c.in-Err.ensures
+    (with_more_condacts c.args.rows.now.items (condacts_in c.args.bounds.now c.args.words.now 0 c.args.tokens.now))
+    c.in-Err.error c.in-Some.ensures c.loop-name.invariant c.in-Err.ensures
 
 pub loop-name-smaller : goal.loop-name-smaller
 loop-name-smaller c =
@@ -16,8 +17,10 @@ loop-name-smaller c =
 
 pub loop-name-preserved : goal.loop-name-preserved
 loop-name-preserved c =
-    goes_on c.args.bounds.now c.args.words.now c.loop-name.rows.items c.push.new.self.items c.in-Some.name.now c.next.new.self c.loop-name.tokens c.condact.new.tokens c.in-Ok.condact
-    (with_more_condacts c.args.rows.now.items (condacts_in c.args.bounds.now c.args.words.now 0 c.args.tokens.now)) c.in-Some.ensures c.loop-name.invariant c.in-Ok.ensures c.in_ok-push-in-Ok.ensures.items
+    goes_on c.args.bounds.now c.args.words.now c.loop-name.rows.items c.push.new.self.items c.in-Some.name.now
+    c.next.new.self c.loop-name.tokens c.condact.new.tokens c.in-Ok.condact
+    (with_more_condacts c.args.rows.now.items (condacts_in c.args.bounds.now c.args.words.now 0 c.args.tokens.now))
+    c.in-Some.ensures c.loop-name.invariant c.in-Ok.ensures c.in_ok-push-in-Ok.ensures.items
 
 pub returns : goal.returns
 returns c =

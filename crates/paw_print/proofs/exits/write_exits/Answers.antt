@@ -9,7 +9,8 @@ pub loop-number-preserved : goal.loop-number-preserved
 loop-number-preserved c =
     let ws = c.args.vocabulary.now in
     let row = c.deref.ensures.value ∙ c.row.view_is in
-    numbered_more (location_lines ws) (codes "/CON" ∷ []) c.args.exits.now c.loop-number.number c.index-exits-number.result c.args.out.now.items c.loop-number.out.items _
+    numbered_more (location_lines ws) (codes "/CON" ∷ []) c.args.exits.now c.loop-number.number
+    c.index-exits-number.result c.args.out.now.items c.loop-number.out.items _
     (omega arith) c.index-exits-number.is c.loop-number.invariant
     (c.in_ok-write_location.ensures.writes
     ∙ ap (λ (xs : List Exit). c.loop-number.out.items ++ written (location_lines ws c.loop-number.number xs)) row)

@@ -7,6 +7,7 @@ use Rattle.paw_print.proofs.objects.write_objects.Goals as goal
 
 pub loop-number-preserved : goal.loop-number-preserved
 loop-number-preserved c =
-    numbered_more (object_lines c.args.vocabulary.now) (codes "/OBJ" ∷ []) c.args.objects.now c.loop-number.number c.index-objects-number.result c.args.out.now.items c.loop-number.out.items _
+    numbered_more (object_lines c.args.vocabulary.now) (codes "/OBJ" ∷ []) c.args.objects.now c.loop-number.number
+    c.index-objects-number.result c.args.out.now.items c.loop-number.out.items _
     (omega arith) c.index-objects-number.is c.loop-number.invariant
     (c.in_ok-write_object.ensures.writes ∙ ap (λ (t : List ℕ). c.loop-number.out.items ++ t) (sym (append-nil _)))

@@ -38,7 +38,9 @@ returns c =
     (ap (λ (ts : List (List ℕ)). written (texts_lines (codes "/STX") ts)) system) in
     let w_messages = written_more before _ _ _ to_system (texts_lines (codes "/MTX") g.messages) w_system c.in_ok-write_texts-2.ensures.writes
     (ap (λ (ts : List (List ℕ)). written (texts_lines (codes "/MTX") ts)) messages) in
-    let w_names = written_more before _ _ _ to_messages (texts_lines (codes "/OTX") (map (λ (o : ObjectRow). o.text) g.objects)) w_messages c.in_ok-write_object_texts.ensures.writes
+    let w_names =
+    written_more before _ _ _ to_messages (texts_lines (codes "/OTX") (map (λ (o : ObjectRow). o.text) g.objects))
+    w_messages c.in_ok-write_object_texts.ensures.writes
     (ap (λ (os : List ObjectRow). written (texts_lines (codes "/OTX") (map (λ (o : ObjectRow). o.text) os))) names) in
     let w_locations = written_more before _ _ _ to_names (texts_lines (codes "/LTX") g.locations) w_names c.in_ok-write_texts-3.ensures.writes
     (ap (λ (ts : List (List ℕ)). written (texts_lines (codes "/LTX") ts)) locations) in

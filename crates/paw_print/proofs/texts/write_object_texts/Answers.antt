@@ -12,7 +12,8 @@ text_rows n o = text_lines n o.text
 
 pub loop-number-preserved : goal.loop-number-preserved
 loop-number-preserved c =
-    numbered_more text_rows (codes "/OTX" ∷ []) c.args.objects.now c.loop-number.number c.index-objects-number.result c.args.out.now.items c.loop-number.out.items _
+    numbered_more text_rows (codes "/OTX" ∷ []) c.args.objects.now c.loop-number.number c.index-objects-number.result
+    c.args.out.now.items c.loop-number.out.items _
     (omega arith) c.index-objects-number.is c.loop-number.invariant c.in_ok-write_text.ensures.writes
 
 pub returns : goal.returns
