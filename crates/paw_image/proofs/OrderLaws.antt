@@ -1,5 +1,7 @@
 -- What is looked up in order of verb and noun is the first entry that matches.
-use Rattle.std.proofs.Common.{◌≡◌, ℕ, suc, ◌+◌, ◌-◌, ◌<◌, ◌≤◌, ◌&&◌, ◌||◌, Bool, true, false, eqb, ltb, List, [], ◌∷◌, length, get_or, take, drop, min, Option, Some, None, refl, sym, ap, subst, ◌∙◌, inl, inr, arith, length-take, length-drop}
+use Rattle.std.proofs.Common.{◌≡◌, ℕ, suc, ◌+◌, ◌-◌, ◌<◌, ◌≤◌, ◌&&◌, ◌||◌, Bool, true, false, eqb, ltb}
+use Rattle.std.proofs.Common.{List, [], ◌∷◌, length, get_or, take, drop, min, Option, Some, None, IfSome, refl}
+use Rattle.std.proofs.Common.{sym, ap, subst, ◌∙◌, inl, inr, arith, length-take, length-drop}
 use Rattle.std.specs.Prelude.{◌⊎◌}
 use Rattle.std.specs.List.{All}
 use Rattle.std.specs.List.Sorted.{IsNonDecreasingBy, IsPartitionPoint, IsPermutation}
@@ -9,7 +11,9 @@ use Rattle.std.proofs.lemmas.List.Elements.{All-cons, All-contains, All-take, Al
 use Rattle.std.proofs.lemmas.List.Sorted.{All-permutation, IsNonDecreasingBy-take, IsNonDecreasingBy-drop}
 use Rattle.paw_game.specs.Tables.{is_for}
 use Rattle.paw_image.specs.declared.order.Head.{Head}
-use Rattle.paw_image.specs.inner.Orders.{ranked, rank, lower, heads_at, is_match, AreStarts, IsLeast, IsMatch, IsRun, IsSmall, IsStart, Rises}
+use Rattle.paw_image.specs.declared.order.Order.{Order}
+use Rattle.paw_image.specs.inner.Orders.{ranked, rank, lower, heads_at, is_match, AreStarts, IsLeast, IsMatch, IsRun}
+use Rattle.paw_image.specs.inner.Orders.{IsSmall, IsSorted, IsStart, Rises}
 use Rattle.paw_image.proofs.FieldLaws.{IsBytes}
 use Rattle.paw_image.proofs.Stands.{and_true}
 
@@ -51,7 +55,8 @@ or_cases : (a b : Bool) → (a || b) ≡ true → (a ≡ true) ⊎ (b ≡ true)
 or_cases true b e = inl refl
 or_cases false b e = inr e
 
-IsMatch-other : (heads : List Head) (p q : Head → Bool) → ((h : Head) → p h ≡ true → q h ≡ true) → (from e : ℕ) → IsMatch heads p from e → IsMatch heads q from e
+IsMatch-other : (heads : List Head) (p q : Head → Bool) → ((h : Head) → p h ≡ true → q h ≡ true) → (from e : ℕ)
+    → IsMatch heads p from e → IsMatch heads q from e
 IsMatch-other heads p q weaker from e m = record { reached = m.reached; head = m.head; is = m.is; number = m.number; matching = weaker m.head m.matching }
 
 -- the first of a head that passes one test or the other
@@ -81,7 +86,8 @@ heads_long bytes n [] = refl
 heads_long bytes n (p ∷ ps) = ap suc (heads_long bytes (suc n) ps)
 
 -- the heads at these places, in order, rise
-pub sorted_rise : (bytes places : List ℕ) (heads : List Head) → IsBytes bytes → length places ≤ 4000 → IsPermutation (heads_at bytes 0 places) heads → IsNonDecreasingBy rank heads → Rises heads
+pub sorted_rise : (bytes places : List ℕ) (heads : List Head) → IsBytes bytes → length places ≤ 4000
+    → IsPermutation (heads_at bytes 0 places) heads → IsNonDecreasingBy rank heads → Rises heads
 sorted_rise bytes places heads fits few same rises =
     record { small = All-permutation IsSmall (heads_at bytes 0 places) heads same (heads_small bytes 0 places fits (omega arith)); rises = rises }
 
@@ -93,11 +99,14 @@ verbs_rise heads r i j d le lt =
     let small_too = r.small j d lt in
     omega (arith, r.rises i j d le lt, small.0, small.1, small_too.0, small_too.1)
 
-pub start_is : (heads : List Head) (verb start : ℕ) → start ≤ length heads → IsPartitionPoint (λ h. ltb h.verb verb ≡ true) (λ h. ltb h.verb verb ≡ false) heads start → IsStart heads verb start
+pub start_is : (heads : List Head) (verb start : ℕ) → start ≤ length heads
+    → IsPartitionPoint (λ h. ltb h.verb verb ≡ true) (λ h. ltb h.verb verb ≡ false) heads start
+    → IsStart heads verb start
 start_is heads verb start within parted =
     record { within = within; parts = (λ k d low high. ltb-true _ verb (parted.0 k d low high), λ k d low high. ltb-false _ verb (parted.1 k d low high)) }
 
-pub start_at : (heads : List Head) (starts : List ℕ) → AreStarts heads starts → (verb start : ℕ) → verb ≤ 256 → start ≡ get_or starts verb start → IsStart heads verb start
+pub start_at : (heads : List Head) (starts : List ℕ) → AreStarts heads starts → (verb start : ℕ) → verb ≤ 256
+    → start ≡ get_or starts verb start → IsStart heads verb start
 start_at heads starts a verb start le e =
     subst (IsStart heads verb) (get_or_default starts verb 0 start (omega (arith, a.long)) ∙ sym e) (a.each verb le)
 
@@ -109,6 +118,21 @@ starts_rise heads verb start end s e =
       | inl before ↦ absurd (omega (arith, s.parts.0 end d (omega arith) before, e.parts.1 end d (omega arith) (omega (arith, s.within))))
       | inr le ↦ le
     ]
+
+-- between which places the heads of a verb stand
+pub record RunsAt (order : Order) (verb start end : ℕ) : Type 0 where
+  pub starts : IsStart order.heads.items verb start
+  pub ends : IsStart order.heads.items (verb + 1) end
+  pub rise : start ≤ end
+
+pub runs_at : (order : Order) (verb start end : ℕ) → IsSorted order → verb < 256
+    → start ≡ get_or order.starts.items verb start → end ≡ get_or order.starts.items (verb + 1) end
+    → RunsAt order verb start end
+runs_at order verb start end sorted low s e =
+    let heads = order.heads.items in
+    let starts = start_at heads order.starts.items sorted.starts verb start (omega arith) s in
+    let ends = start_at heads order.starts.items sorted.starts (verb + 1) end (omega arith) e in
+    record { starts = starts; ends = ends; rise = starts_rise heads verb start end starts ends }
 
 module _ (heads : List Head) (r : Rises heads) (verb start end : ℕ) (s : IsStart heads verb start) (e : IsStart heads (verb + 1) end) where
   run : List Head
@@ -145,7 +169,8 @@ module _ (heads : List Head) (r : Rises heads) (verb start end : ℕ) (s : IsSta
         let place : start + (p.0 - start) ≡ p.0 = omega (arith, above) in (
           p.0 - start,
           omega (arith, long, rest, above, below, e.within),
-          get_or-take (end - start) (drop start heads) (p.0 - start) h (omega (arith, above, below)) ∙ get_or-drop start heads (p.0 - start) h ∙ ap (λ (i : ℕ). get_or heads i h) place ∙ p.2,
+          get_or-take (end - start) (drop start heads) (p.0 - start) h (omega (arith, above, below))
+              ∙ get_or-drop start heads (p.0 - start) h ∙ ap (λ (i : ℕ). get_or heads i h) place ∙ p.2,
         );
   }
 
@@ -193,7 +218,17 @@ module _ (heads : List Head) (verb noun from at : ℕ) (r : Rises heads) (verbs 
       let there = All-contains (λ (x : Head). x.verb ≡ verb) heads m.head verbs m.is in
       let small = All-contains IsSmall heads h r.small (at, lt, sym is) in
       let small_too = All-contains IsSmall heads m.head r.small m.is in
-      let same : h.noun ≡ noun = omega (arith, at_least h lt is, no_later h lt is e m, here, there, eqb-true m.head.noun noun m.matching, small.1, small_too.1) in
+      let same : h.noun ≡ noun =
+      omega (
+        arith,
+        at_least h lt is,
+        no_later h lt is e m,
+        here,
+        there,
+        eqb-true m.head.noun noun m.matching,
+        small.1,
+        small_too.1,
+      ) in
       other same
 
 -- ---- in the whole order ----
@@ -207,7 +242,8 @@ least_in_run heads run verb noun from is r least =
       head = m.head;
       is = is.inside m.head m.is;
       number = m.number;
-      matching = and_true (eqb m.head.verb verb) (is_for m.head.noun noun) (eq-eqb m.head.verb verb (All-contains (λ (x : Head). x.verb ≡ verb) run m.head is.verbs m.is)) m.matching;
+      matching = and_true (eqb m.head.verb verb) (is_for m.head.noun noun)
+          (eq-eqb m.head.verb verb (All-contains (λ (x : Head). x.verb ≡ verb) run m.head is.verbs m.is)) m.matching;
     })
     (λ e m.
     let both = and_parts (eqb m.head.verb verb) (is_for m.head.noun noun) m.matching in
@@ -227,14 +263,24 @@ one_of_three false false true m = refl
 one_of_three false false false m = refl
 
 -- an entry's verb matches where it is any verb, none, or this one
-pub least_of_three : (heads : List Head) (verb noun from : ℕ) (any none same : Option ℕ) → IsLeast (IsMatch heads (λ h. eqb h.verb 1 && is_for h.noun noun) from) any
-    → IsLeast (IsMatch heads (λ h. eqb h.verb 255 && is_for h.noun noun) from) none → IsLeast (IsMatch heads (λ h. eqb h.verb verb && is_for h.noun noun) from) same
+pub least_of_three : (heads : List Head) (verb noun from : ℕ) (any none same : Option ℕ)
+    → IsLeast (IsMatch heads (λ h. eqb h.verb 1 && is_for h.noun noun) from) any
+    → IsLeast (IsMatch heads (λ h. eqb h.verb 255 && is_for h.noun noun) from) none
+    → IsLeast (IsMatch heads (λ h. eqb h.verb verb && is_for h.noun noun) from) same
     → IsLeast (IsMatch heads (is_match verb noun) from) (lower any (lower none same))
 least_of_three heads verb noun from any none same a n s =
     let with = λ (w : ℕ) (h : Head). eqb h.verb w && is_for h.noun noun in
     let either = λ (h : Head). with 1 h || (with 255 h || with verb h) in
     let whole = is_match verb noun in
     let is = λ (h : Head). one_of_three (eqb h.verb 1) (eqb h.verb 255) (eqb h.verb verb) (is_for h.noun noun) in
-    IsLeast-same (IsMatch heads either from) (IsMatch heads whole from) (λ e m. IsMatch-other heads either whole (λ h t. sym (is h) ∙ t) from e m) (λ e m. IsMatch-other heads whole either (λ h t. is h ∙ t) from e m)
+    IsLeast-same (IsMatch heads either from) (IsMatch heads whole from)
+    (λ e m. IsMatch-other heads either whole (λ h t. sym (is h) ∙ t) from e m)
+    (λ e m. IsMatch-other heads whole either (λ h t. is h ∙ t) from e m)
     (lower any (lower none same))
     (either_least heads (with 1) (λ h. with 255 h || with verb h) from any (lower none same) a (either_least heads (with 255) (with verb) from none same n s))
+
+-- what was found of the entries not below a number is not below it
+pub least_reached : (heads : List Head) (has : Head → Bool) (from : ℕ) (r : Option ℕ)
+    → IsLeast (IsMatch heads has from) r → IfSome r (λ e. from ≤ e)
+least_reached heads has from None least = tt
+least_reached heads has from (Some e) least = least.0.reached

@@ -32,7 +32,8 @@ use Rattle.paw_image.specs.declared.refusal.ImageRefusal.TheVariants as refusal
 use Rattle.paw_image.proofs.FieldLaws.{IsBytes}
 use Rattle.paw_image.proofs.GameLaws.{all_takes}
 use Rattle.paw_image.proofs.MatchLaws.{next_match_is}
-use Rattle.paw_image.proofs.PlaceLaws.{all_at, ListsAt, lists_lie, RowAt, table_lies, no_table, entry_lies, no_entry, text_of_part, head_there, condact_there, entry_bytes_there}
+use Rattle.paw_image.proofs.PlaceLaws.{all_at, ListsAt, lists_lie, RowAt, table_lies, no_table, entry_lies, no_entry}
+use Rattle.paw_image.proofs.PlaceLaws.{text_of_part, head_there, condact_there, entry_bytes_there}
 use Rattle.paw_image.proofs.ValidLaws.{valid_fits}
 use Rattle.paw_image.proofs.WholeLaws.{all_sound, nothing_left, image_is_whole}
 
@@ -43,7 +44,8 @@ unfolding game_read
 game_is bytes g e = rw e refl
 
 -- the places that come of bytes in which no rule is broken are those of the game
-pub index_from : (bytes : List ℕ) (counts : Counts) (words : List Word) (p : Places) → IsBytes bytes → length bytes ≤ IMAGE_LIMIT → bad bytes ≡ None → IsPassed bytes counts words p → IsIndex bytes counts words p
+pub index_from : (bytes : List ℕ) (counts : Counts) (words : List Word) (p : Places) → IsBytes bytes
+    → length bytes ≤ IMAGE_LIMIT → bad bytes ≡ None → IsPassed bytes counts words p → IsIndex bytes counts words p
 unfolding bad
 index_from bytes counts words p fits short whole passed =
     let read = all_sound bytes fits (nothing_left (length bytes) (after_all bytes) (rw (le-ltb IMAGE_LIMIT (length bytes) short) at whole)) in
@@ -78,44 +80,62 @@ fits_of bytes is = valid_fits (game_read bytes) is.valid
 pub lists_of : (bytes : List ℕ) → IsImage bytes (game_read bytes) → ListsAt bytes (game_read bytes)
 lists_of bytes is = lists_lie bytes (game_read bytes) is.spelled
 
-pub text_read : (bytes : List ℕ) → IsImage bytes (game_read bytes) → (p : GamePart) (k at : ℕ) → slice_get (rows_begin (game_read bytes) p) k ≡ Some at → value_of (inner_reading.text_at (drop at bytes)) ≡ text_at (game_read bytes) p k
+pub text_read : (bytes : List ℕ) → IsImage bytes (game_read bytes) → (p : GamePart) (k at : ℕ)
+    → slice_get (rows_begin (game_read bytes) p) k ≡ Some at
+    → value_of (inner_reading.text_at (drop at bytes)) ≡ text_at (game_read bytes) p k
 text_read bytes is p k at h = text_of_part bytes (game_read bytes) (lists_of bytes is) (fits_of bytes is) p k at h
 
-pub span_read : (bytes : List ℕ) → IsImage bytes (game_read bytes) → (p : GamePart) (k at : ℕ) (text : List ℕ) → slice_get (rows_begin (game_read bytes) p) k ≡ Some at → value_of (inner_reading.text_at (drop at bytes)) ≡ Some text
+pub span_read : (bytes : List ℕ) → IsImage bytes (game_read bytes) → (p : GamePart) (k at : ℕ) (text : List ℕ)
+    → slice_get (rows_begin (game_read bytes) p) k ≡ Some at
+    → value_of (inner_reading.text_at (drop at bytes)) ≡ Some text
     → span_at (game_read bytes) p k ≡ Some (at + 2, at + 2 + length text)
 span_read bytes is p k at text h found = rw (h, sym (text_read bytes is p k at h) ∙ found) refl
 
 -- ---- entries ----
 
-in_table : (found : Option (List Entry)) → ((es : List Entry) → found ≡ Some es → FitsTable es) → (k : ℕ) (e : Entry) → slice_get (or_empty found) k ≡ Some e → AllByRecursion FitsCondact e.condacts
+in_table : (found : Option (List Entry)) → ((es : List Entry) → found ≡ Some es → FitsTable es) → (k : ℕ) (e : Entry)
+    → slice_get (or_empty found) k ≡ Some e → AllByRecursion FitsCondact e.condacts
 in_table None fits k e h = absurd (none-some e h)
 in_table (Some es) fits k e h = (all_at FitsEntry es k e (fits es refl).entries h).condacts
 
 -- the condacts of an entry fit
-entry_fits : (bytes : List ℕ) → IsImage bytes (game_read bytes) → (t k : ℕ) (e : Entry) → slice_get (or_empty (slice_get (game_read bytes).tables t)) k ≡ Some e → AllByRecursion FitsCondact e.condacts
-entry_fits bytes is t k e h = in_table (slice_get (game_read bytes).tables t) (λ es found. all_at FitsTable (game_read bytes).tables t es (fits_of bytes is).tables found) k e h
+entry_fits : (bytes : List ℕ) → IsImage bytes (game_read bytes) → (t k : ℕ) (e : Entry)
+    → slice_get (or_empty (slice_get (game_read bytes).tables t)) k ≡ Some e → AllByRecursion FitsCondact e.condacts
+entry_fits bytes is t k e h =
+    in_table (slice_get (game_read bytes).tables t)
+    (λ es found. all_at FitsTable (game_read bytes).tables t es (fits_of bytes is).tables found) k e h
 
-pub entry_at_place : (bytes : List ℕ) → IsImage bytes (game_read bytes) → (t k p : ℕ) → slice_get (or_empty (slice_get (entry_places (tables_begin_at (game_read bytes)) (game_read bytes).tables) t)) k ≡ Some p
+pub entry_at_place : (bytes : List ℕ) → IsImage bytes (game_read bytes) → (t k p : ℕ)
+    → slice_get (or_empty (slice_get (entry_places (tables_begin_at (game_read bytes)) (game_read bytes).tables) t)) k
+    ≡ Some p
     → RowAt entry_image bytes (entry_at (game_read bytes) t k) p
 entry_at_place bytes is t k p h = entry_lies bytes (game_read bytes) (lists_of bytes is) t k p h
 
-pub head_read : (bytes : List ℕ) → IsImage bytes (game_read bytes) → (t k p : ℕ) → slice_get (or_empty (slice_get (entry_places (tables_begin_at (game_read bytes)) (game_read bytes).tables) t)) k ≡ Some p
+pub head_read : (bytes : List ℕ) → IsImage bytes (game_read bytes) → (t k p : ℕ)
+    → slice_get (or_empty (slice_get (entry_places (tables_begin_at (game_read bytes)) (game_read bytes).tables) t)) k
+    ≡ Some p
     → head_here (drop p bytes) ≡ head_at (game_read bytes) t k
 head_read bytes is t k p h = let r = entry_at_place bytes is t k p h in rw (r.lies, r.is) (head_there r.row r.after)
 
-pub condact_read : (bytes : List ℕ) → IsImage bytes (game_read bytes) → (t k p at : ℕ) → slice_get (or_empty (slice_get (entry_places (tables_begin_at (game_read bytes)) (game_read bytes).tables) t)) k ≡ Some p
+pub condact_read : (bytes : List ℕ) → IsImage bytes (game_read bytes) → (t k p at : ℕ)
+    → slice_get (or_empty (slice_get (entry_places (tables_begin_at (game_read bytes)) (game_read bytes).tables) t)) k
+    ≡ Some p
     → nth_condact at (drop p bytes) ≡ condact_at (game_read bytes) t k at
 condact_read bytes is t k p at h =
     let r = entry_at_place bytes is t k p h in
     rw (r.lies, r.is) (condact_there r.row r.after at (entry_fits bytes is t k r.row r.is))
 
-pub entry_read : (bytes : List ℕ) → IsImage bytes (game_read bytes) → (t k p : ℕ) → slice_get (or_empty (slice_get (entry_places (tables_begin_at (game_read bytes)) (game_read bytes).tables) t)) k ≡ Some p
+pub entry_read : (bytes : List ℕ) → IsImage bytes (game_read bytes) → (t k p : ℕ)
+    → slice_get (or_empty (slice_get (entry_places (tables_begin_at (game_read bytes)) (game_read bytes).tables) t)) k
+    ≡ Some p
     → entry_here (drop p bytes) ≡ option_map entry_image (entry_at (game_read bytes) t k)
 entry_read bytes is t k p h =
     let r = entry_at_place bytes is t k p h in
     rw (r.lies, r.is) (entry_bytes_there r.row r.after (entry_fits bytes is t k r.row r.is))
 
-pub no_entry_read : (bytes : List ℕ) (t k : ℕ) → slice_get (or_empty (slice_get (entry_places (tables_begin_at (game_read bytes)) (game_read bytes).tables) t)) k ≡ None → entry_at (game_read bytes) t k ≡ None
+pub no_entry_read : (bytes : List ℕ) (t k : ℕ)
+    → slice_get (or_empty (slice_get (entry_places (tables_begin_at (game_read bytes)) (game_read bytes).tables) t)) k
+    ≡ None → entry_at (game_read bytes) t k ≡ None
 no_entry_read bytes t k h = no_entry (game_read bytes) t k h
 
 -- ---- the next entry that matches ----
@@ -124,35 +144,42 @@ drop_nothing : (n : ℕ) → drop {A = Entry} n [] ≡ []
 drop_nothing zero = refl
 drop_nothing (suc n) = refl
 
-pub ordered_at : (bytes : List ℕ) (ts : List TableIndex) (k : ℕ) (t : TableIndex) → AllByRecursion (λ x. IsOrder bytes x.entries.items x.order) ts → slice_get ts k ≡ Some t → IsOrder bytes t.entries.items t.order
+pub ordered_at : (bytes : List ℕ) (ts : List TableIndex) (k : ℕ) (t : TableIndex)
+    → AllByRecursion (λ x. IsOrder bytes x.entries.items x.order) ts → slice_get ts k ≡ Some t
+    → IsOrder bytes t.entries.items t.order
 ordered_at bytes ts k t h e = all_at (λ (x : TableIndex). IsOrder bytes x.entries.items x.order) ts k t h e
 
 -- the entries kept of a table are where its entries begin
-entries_at : (ts : List TableIndex) (k : ℕ) (t : TableIndex) (ps : List (List ℕ)) → entries_of ts ≡ ps → slice_get ts k ≡ Some t → slice_get ps k ≡ Some t.entries.items
+entries_at : (ts : List TableIndex) (k : ℕ) (t : TableIndex) (ps : List (List ℕ)) → entries_of ts ≡ ps
+    → slice_get ts k ≡ Some t → slice_get ps k ≡ Some t.entries.items
 entries_at ts k t ps e h = ap (λ (l : List (List ℕ)). slice_get l k) (sym e) ∙ slice_get-map (λ (x : TableIndex). x.entries.items) ts k ∙ rw h refl
 
 no_entries_at : (ts : List TableIndex) (k : ℕ) (ps : List (List ℕ)) → entries_of ts ≡ ps → slice_get ts k ≡ None → slice_get ps k ≡ None
 no_entries_at ts k ps e h = ap (λ (l : List (List ℕ)). slice_get l k) (sym e) ∙ slice_get-map (λ (x : TableIndex). x.entries.items) ts k ∙ rw h refl
 
-pub match_read : (bytes : List ℕ) (counts : Counts) (words : List Word) (p : Places) → IsIndex bytes counts words p → (t : ℕ) (i : TableIndex) → slice_get p.tables.items t ≡ Some i
+pub match_read : {bytes : List ℕ} {counts : Counts} {words : List Word} {p : Places} → IsIndex bytes counts words p
+    → (t : ℕ) (i : TableIndex) → slice_get p.tables.items t ≡ Some i
     → (from verb noun : ℕ) (r : Option ℕ) → IsLeast (IsMatch i.order.heads.items (is_match verb noun) from) r → r ≡ match_at (game_read bytes) t from verb noun
-match_read bytes counts words p is t i h from verb noun r least =
-    let table = table_lies bytes [] (game_read bytes).tables (tables_begin_at (game_read bytes)) (lists_of bytes is.image).tables t i.entries.items (entries_at p.tables.items t i _ is.tables h) in
+match_read {bytes} {counts} {words} {p} is t i h from verb noun r least =
+    let table = table_lies bytes [] (game_read bytes).tables (tables_begin_at (game_read bytes))
+    (lists_of bytes is.image).tables t i.entries.items (entries_at p.tables.items t i _ is.tables h) in
     let order = subst (λ (ps : List ℕ). IsOrder bytes ps i.order) table.begin (ordered_at bytes p.tables.items t i is.ordered h) in
     rw table.is (next_match_is bytes table.after table.rows table.at i.order order table.lies verb from noun r least)
 
-pub no_match_read : (bytes : List ℕ) (counts : Counts) (words : List Word) (p : Places) → IsIndex bytes counts words p → (t : ℕ) → slice_get p.tables.items t ≡ None → (from verb noun : ℕ) → match_at (game_read bytes) t from verb noun ≡ None
-no_match_read bytes counts words p is t h from verb noun =
+pub no_match_read : {bytes : List ℕ} {counts : Counts} {words : List Word} {p : Places} → IsIndex bytes counts words p
+    → (t : ℕ) → slice_get p.tables.items t ≡ None → (from verb noun : ℕ)
+    → match_at (game_read bytes) t from verb noun ≡ None
+no_match_read {bytes} {counts} {words} {p} is t h from verb noun =
     let none = no_table (game_read bytes).tables (tables_begin_at (game_read bytes)) t (no_entries_at p.tables.items t _ is.tables h) in
     rw (none, drop_nothing from) refl
 
 -- ---- the condacts of an entry ----
 
-pub no_index_read : (bytes : List ℕ) (counts : Counts) (words : List Word) (p : Places) → IsIndex bytes counts words p
+pub no_index_read : {bytes : List ℕ} {counts : Counts} {words : List Word} {p : Places} → IsIndex bytes counts words p
     → (t k : ℕ) → slice_get p.tables.items t ≡ None → entry_at (game_read bytes) t k ≡ None
-no_index_read bytes counts words p is t k h = no_entry_read bytes t k (rw (no_entries_at p.tables.items t _ is.tables h) refl)
+no_index_read {bytes} {counts} {words} {p} is t k h = no_entry_read bytes t k (rw (no_entries_at p.tables.items t _ is.tables h) refl)
 
-module _ (bytes : List ℕ) (counts : Counts) (words : List Word) (p : Places) (is : IsIndex bytes counts words p)
+module _ {bytes : List ℕ} {counts : Counts} {words : List Word} {p : Places} (is : IsIndex bytes counts words p)
     (t : ℕ) (i : TableIndex) (there : slice_get p.tables.items t ≡ Some i) (k : ℕ) where
   -- an entry begins where the index of its table says
   entry_begins : slice_get (or_empty (slice_get (entry_places (tables_begin_at (game_read bytes)) (game_read bytes).tables) t)) k

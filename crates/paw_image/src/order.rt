@@ -1,8 +1,8 @@
 // The entries of a table in order of verb and noun.
 
-ghost use Rattle.std.specs.Prelude.{◌≡◌, ◌≤◌, ◌&&◌, ◌==◌, IfOk, IsTrue, drop, length, nat_lt, slice_index};
+ghost use Rattle.std.specs.Prelude.{◌≡◌, ◌≤◌, ◌&&◌, ◌==◌, IfOk, IsTrue, drop, false, length, nat_lt, slice_index, true};
 ghost use Rattle.std.specs.List.{All};
-ghost use Rattle.std.specs.List.Sorted.{IsPermutation};
+ghost use Rattle.std.specs.List.Sorted.{IsPartitionPoint, IsPermutation};
 ghost use Rattle.paw_game.specs.Tables.{is_for};
 ghost use Rattle.paw_image.specs.inner.Orders.{heads_at, is_match, lower, rank, ranked, AreStarts, IsLeast};
 ghost use Rattle.paw_image.specs.inner.Orders.{IsMatch, IsOrder, IsRun, IsSorted, IsStart, Rises};
@@ -135,6 +135,19 @@ fn run_of(order: &Order, verb: u8) -> &[Head]
     &order.heads[start..end]
 }
 
+/// Where the first head stands whose rank isn't below this one.
+fn place_of(run: &[Head], least: u32) -> usize
+    requires rises { Rises run.now }
+    ensures parts { IsPartitionPoint (λ h. nat_lt (rank h) least ≡ true) (λ h. nat_lt (rank h) least ≡ false)
+        run.now result }
+{
+    run.partition_point(
+        |head: &Head| -> bool
+            ensures { result ≡ nat_lt (rank head.now) least }
+        { rank(head) < least },
+    )
+}
+
 /// Of heads with one verb, the least entry not below `from` that has this noun itself.
 fn first_with(run: &[Head], verb: u8, noun: u8, from: u16) -> Option<u16>
     requires rises { Rises run.now }
@@ -142,11 +155,7 @@ fn first_with(run: &[Head], verb: u8, noun: u8, from: u16) -> Option<u16>
     ensures least { IsLeast (IsMatch run.now (λ h. h.noun == noun) from) result }
 {
     let least = ranked(verb, noun, from);
-    let at = run.partition_point(
-        |head: &Head| -> bool
-            ensures { result ≡ nat_lt (rank head.now) least }
-        { rank(head) < least },
-    );
+    let at = place_of(run, least);
     match run.get(at) {
         Some(head) if head.noun == noun => Some(head.entry),
         _ => None,

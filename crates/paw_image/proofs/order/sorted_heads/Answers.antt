@@ -14,5 +14,11 @@ returns c =
     record {
       same = same;
       rises = sorted_rise c.args.bytes.now c.args.places.now heads (λ i. omega (arith, c.type_inv.bytes i)) c.requires.few same up;
-      few = omega (arith, c.sort_unstable_by_key.ensures.len, ap length c.in_ok-heads.ensures.value, heads_long c.args.bytes.now 0 c.args.places.now, c.requires.few);
+      few = omega (
+        arith,
+        c.sort_unstable_by_key.ensures.len,
+        ap length c.in_ok-heads.ensures.value,
+        heads_long c.args.bytes.now 0 c.args.places.now,
+        c.requires.few,
+      );
     }

@@ -22,4 +22,8 @@ returns c =
     let bytes = c.args.self.now in
     let image = rw c.self.view_is at c.self.invariant.image in
     let found = rw c.self.view_is at c.in_ok-text.ensures.value in
-    record { value = sym (span_read bytes image c.args.part c.args.number c.in_ok-place.place c.in_ok-text.text.now (sym c.in_ok-place.ensures.value) (sym found)) }
+    record {
+      value =
+          sym (span_read bytes image c.args.part c.args.number c.in_ok-place.place c.in_ok-text.text.now
+          (sym c.in_ok-place.ensures.value) (sym found));
+    }

@@ -13,20 +13,15 @@ returns-in_err-place-clause-value c =
     let is = no_exit (game_read bytes) c.args.verb c.args.location none in
     c.from_residual.ensures ∙ sym (rw c.self.view_is at is)
 
-pub returns-clause-value : goal.returns-clause-value
-returns-clause-value c =
+pub returns : goal.returns
+returns c =
     let bytes = c.self.inside.bytes.now in
-    let at = ap (λ (ps : List ℕ). slice_get ps c.args.location) (sym (c.deref.ensures.value ∙ c.self.invariant.exits)) ∙ sym c.in_ok-place.ensures.value in
-    let is = exit_there bytes (game_read bytes) (lists_of bytes c.self.invariant.image) c.args.verb c.args.location c.in_ok-place.place at in
-    let found = c.exit_at.ensures.value ∙ is in
-    rw c.self.view_is at found
-
-pub returns-clause-leads : goal.returns-clause-leads
-returns-clause-leads c =
-    let bytes = c.self.inside.bytes.now in
-    let at = ap (λ (ps : List ℕ). slice_get ps c.args.location) (sym (c.deref.ensures.value ∙ c.self.invariant.exits)) ∙ sym c.in_ok-place.ensures.value in
-    let is = exit_there bytes (game_read bytes) (lists_of bytes c.self.invariant.image) c.args.verb c.args.location c.in_ok-place.place at in
-    let found = c.exit_at.ensures.value ∙ is in
-    let there = rw c.self.view_is at found in
-    let image = rw c.self.view_is at c.self.invariant.image in
-    IfSome-from (λ (to : ℕ). to < length (game_read c.args.self.now).locations) c.exit_at.result _ there (exit-leads (game_read c.args.self.now) image.valid c.args.location c.args.verb)
+    let at = ap (λ (ps : List ℕ). slice_get ps c.args.location) (sym (c.deref.ensures.value ∙ c.self.invariant.exits))
+    ∙ sym c.in_ok-place.ensures.value in
+    let there =
+    exit_there bytes (game_read bytes) (lists_of bytes c.self.invariant.image) c.args.verb c.args.location
+    c.in_ok-place.place at in
+    let is = rw c.self.view_is at (c.exit_at.ensures.value ∙ there) in
+    let valid = (rw c.self.view_is at c.self.invariant.image).valid in
+    let leads = exit-leads (game_read c.args.self.now) valid c.args.location c.args.verb in
+    record { value = is; leads = IfSome-from _ c.exit_at.result _ is leads }

@@ -9,18 +9,20 @@ use Rattle.paw_image.proofs.view.ViewTables.head.Goals as goal
 
 pub returns-in_err-place-clause-value : goal.returns-in_err-place-clause-value
 returns-in_err-place-clause-value c =
-    let none = ap (λ (ps : List (List ℕ)). slice_get (or_empty (slice_get ps c.args.table)) c.args.entry) (sym (ap entries_of c.deref.ensures.value ∙ c.self.invariant.tables)) ∙ sym c.in_err-place.ensures.value in
+    let none = ap (λ (ps : List (List ℕ)). slice_get (or_empty (slice_get ps c.args.table)) c.args.entry)
+    (sym (ap entries_of c.deref.ensures.value ∙ c.self.invariant.tables)) ∙ sym c.in_err-place.ensures.value in
     let is = ap head_of (no_entry_read c.self.inside.bytes.now c.args.table c.args.entry none) in
     c.from_residual.ensures ∙ sym (rw c.self.view_is at is)
 
-pub returns-clause-value : goal.returns-clause-value
-returns-clause-value c =
-    let at = ap (λ (ps : List (List ℕ)). slice_get (or_empty (slice_get ps c.args.table)) c.args.entry) (sym (ap entries_of c.deref.ensures.value ∙ c.self.invariant.tables)) ∙ sym c.in_ok-place.ensures.value in
-    let found = c.head_in.ensures.value ∙ head_read c.self.inside.bytes.now c.self.invariant.image c.args.table c.args.entry c.in_ok-place.place at in
-    rw c.self.view_is at found
-
-pub returns-clause-small : goal.returns-clause-small
-returns-clause-small c =
-    let at = ap (λ (ps : List (List ℕ)). slice_get (or_empty (slice_get ps c.args.table)) c.args.entry) (sym (ap entries_of c.deref.ensures.value ∙ c.self.invariant.tables)) ∙ sym c.in_ok-place.ensures.value in
-    let found = c.head_in.ensures.value ∙ head_read c.self.inside.bytes.now c.self.invariant.image c.args.table c.args.entry c.in_ok-place.place at in
-    IfSome-from (λ (_ : ℕ × ℕ). c.args.entry < 4000) c.head_in.result _ found (head-small (game_read c.self.inside.bytes.now) c.self.invariant.image.valid c.args.table c.args.entry)
+pub returns : goal.returns
+returns c =
+    let bytes = c.self.inside.bytes.now in
+    let image = c.self.invariant.image in
+    let at = ap (λ (ps : List (List ℕ)). slice_get (or_empty (slice_get ps c.args.table)) c.args.entry)
+    (sym (ap entries_of c.deref.ensures.value ∙ c.self.invariant.tables)) ∙ sym c.in_ok-place.ensures.value in
+    let found = c.head_in.ensures.value ∙ head_read bytes image c.args.table c.args.entry c.in_ok-place.place at in
+    record {
+      value = rw c.self.view_is at found;
+      small = IfSome-from (λ (_ : ℕ × ℕ). c.args.entry < 4000) c.head_in.result _ found
+          (head-small (game_read bytes) image.valid c.args.table c.args.entry);
+    }

@@ -10,18 +10,14 @@ pub returns-in_err-place-clause-value : goal.returns-in_err-place-clause-value
 returns-in_err-place-clause-value c =
     ap option_copied c.from_residual.ensures ∙ sym (no_text_of_part (game_read c.args.self.now) c.args.part c.args.number (sym c.in_err-place.ensures.value))
 
-pub returns-clause-value : goal.returns-clause-value
-returns-clause-value c =
+pub returns : goal.returns
+returns c =
     let bytes = c.args.self.now in
     let image = rw c.self.view_is at c.self.invariant.image in
-    let is = rw c.self.view_is at c.text_in.ensures.value in
-    is ∙ text_read bytes image c.args.part c.args.number c.in_ok-place.place (sym c.in_ok-place.ensures.value)
-
-pub returns-clause-short : goal.returns-clause-short
-returns-clause-short c =
-    let bytes = c.args.self.now in
-    let image = rw c.self.view_is at c.self.invariant.image in
-    let is = rw c.self.view_is at c.text_in.ensures.value in
-    let found = is ∙ text_read bytes image c.args.part c.args.number c.in_ok-place.place (sym c.in_ok-place.ensures.value) in
-    IfSome-copied (λ (text : List ℕ). length text ≤ 4095) c.text_in.result _ found
-    (λ text e. text-short text (text_kept (game_read bytes) image.valid c.args.part c.args.number text e))
+    let read = rw c.self.view_is at c.text_in.ensures.value in
+    let is = read ∙ text_read bytes image c.args.part c.args.number c.in_ok-place.place (sym c.in_ok-place.ensures.value) in
+    record {
+      value = is;
+      short = IfSome-copied (λ (text : List ℕ). length text ≤ 4095) c.text_in.result _ is
+          (λ text e. text-short text (text_kept (game_read bytes) image.valid c.args.part c.args.number text e));
+    }
