@@ -161,7 +161,8 @@ pub one_more_entry : (all places firsts marks more : List ℕ) (p : ℕ) → len
 one_more_entry all places firsts marks more p same so_far keeps last e q found =
     elim (cases_lt e (length places)) [
       | inl before ↦
-          let first : get_or (firsts ++ length marks ∷ []) e 0 ≡ get_or firsts e 0 = get_or_append_left firsts (length marks ∷ []) 0 e (omega (arith, before, same)) in
+          let first : get_or (firsts ++ length marks ∷ []) e 0 ≡ get_or firsts e 0 =
+          get_or_append_left firsts (length marks ∷ []) 0 e (omega (arith, before, same)) in
           let there = sym (before_it places (p ∷ []) e before) ∙ found in
           rw first (entry_kept (get_or firsts e 0) marks more (drop q all) keeps (so_far e q there))
       | inr le ↦

@@ -1,18 +1,14 @@
 -- Going over rows one after another, as a loop does.
-use Rattle.std.proofs.Common.{◌≡◌, ℕ, suc, ◌-◌, ◌+◌, ◌≤◌, ◌<◌, List, [], ◌∷◌, ◌++◌, length, Some, Ok, Err, refl, sym, ap, ◌∙◌, append_assoc, arith}
-use Rattle.std.specs.Prelude.{slice_get}
+use Rattle.std.proofs.Common.{◌≡◌, ℕ, suc, ◌-◌, ◌+◌, ◌≤◌, ◌<◌, List, [], ◌∷◌, ◌++◌, length, Ok, Err, refl, sym, ap}
+use Rattle.std.proofs.Common.{◌∙◌, append_assoc, arith}
 use Rattle.std.specs.List.{AllByRecursion}
-use Rattle.std.proofs.lemmas.List.{append-nil, length-append, map-append}
-use Rattle.paw_game.specs.declared.parts.Word.{Word}
+use Rattle.std.proofs.lemmas.List.{append-nil, map-append}
 use Rattle.paw_image.specs.declared.fault.ReadFault.{ReadFault}
 use Rattle.paw_image.specs.declared.fault.ReadFault.TheVariants as fault
-use Rattle.paw_image.specs.Reading.{Reading}
 use Rattle.paw_image.specs.inner.Reading.{Fails}
-use Rattle.paw_image.specs.Damage.{Declared, Passing, each, word_kept, words_above, exit_kept, after_exits_of, after_table}
+use Rattle.paw_image.specs.Damage.{Declared, Passing, each, exit_kept, after_exits_of, after_table}
 use Rattle.paw_image.specs.inner.Places.{begins, entries_begin, entries_of, tables_begin}
 use Rattle.paw_image.specs.declared.places.TableIndex.{TableIndex}
-use Rattle.paw_image.specs.inner.Words.{letters_if_word, last_letters}
-use Rattle.paw_image.proofs.ListLoop.{with_front, regroup}
 
 -- ---- rows ----
 
@@ -38,39 +34,6 @@ module _ (pass : List ℕ → Passing) (count i : ℕ) (bytes : List ℕ) (total
       let k : count - i ≡ 0 = omega arith in
       let one : each pass (count - i) bytes ≡ Ok bytes = rw k refl in
       sym so_far ∙ one
-
--- ---- words ----
-
-module _ (before : List ℕ) (front : List Word) (count i : ℕ) (bytes : List ℕ) (total : Reading (List Word)) where
-  pub words_go_on : (w : Word) (after : List ℕ) → i < count → word_kept before bytes ≡ Ok (w, after) → with_front front (words_above before (count - i) bytes) ≡ total
-      → with_front (front ++ w ∷ []) (words_above w.letters (count - (i + 1)) after) ≡ total
-  unfolding words_above
-  words_go_on w after lt h so_far =
-      let k : count - i ≡ suc (count - (i + 1)) = omega arith in
-      let one : with_front front (words_above before (count - i) bytes) ≡ with_front (front ++ w ∷ []) (words_above w.letters (count - (i + 1)) after) = rw (k, h) (regroup front w (words_above w.letters (count - (i + 1)) after)) in
-      sym one ∙ so_far
-
-  pub words_end : (e : ReadFault) → i < count → Fails e (word_kept before bytes) → with_front front (words_above before (count - i) bytes) ≡ total → Fails e total
-  unfolding words_above
-  words_end fault.Memory lt h so_far = tt
-  words_end (fault.Damaged left) lt h so_far =
-      let k : count - i ≡ suc (count - (i + 1)) = omega arith in
-      let one : with_front front (words_above before (count - i) bytes) ≡ Err left = rw (k, h) refl in
-      sym so_far ∙ one
-
-  pub words_are_done : count ≤ i → with_front front (words_above before (count - i) bytes) ≡ total → total ≡ Ok (front, bytes)
-  unfolding words_above
-  words_are_done le so_far =
-      let k : count - i ≡ 0 = omega arith in
-      let one : with_front front (words_above before (count - i) bytes) ≡ Ok (front, bytes) = rw k (ap (λ (xs : List Word). Ok (xs, bytes)) (append-nil front)) in
-      sym so_far ∙ one
-
-at_end : (ws : List Word) (w : Word) (k : ℕ) → k ≡ length ws → slice_get (ws ++ w ∷ []) k ≡ Some w
-at_end [] w k e = rw e refl
-at_end (v ∷ ws) w k e = rw e (at_end ws w (length ws) refl)
-
-pub last_is : (ws : List Word) (w : Word) → last_letters (ws ++ w ∷ []) ≡ w.letters
-last_is ws w = ap letters_if_word (at_end ws w (length (ws ++ w ∷ []) - 1) (omega (arith, length-append ws (w ∷ []))))
 
 -- ---- exits ----
 
@@ -118,7 +81,8 @@ module _ (pass : List ℕ → Passing) (total : ℕ) (front : List ℕ) (count i
 
 module _ (d : Declared) (total : ℕ) (front : List TableIndex) (count i : ℕ) (bytes : List ℕ) (whole : List (List ℕ)) where
   pub tables_go_on : (t : TableIndex) (after : List ℕ) → i < count → after_table d bytes ≡ Ok after → t.entries.items ≡ entries_begin d total bytes
-      → entries_of front ++ tables_begin d total (count - i) bytes ≡ whole → entries_of (front ++ t ∷ []) ++ tables_begin d total (count - (i + 1)) after ≡ whole
+      → entries_of front ++ tables_begin d total (count - i) bytes ≡ whole
+      → entries_of (front ++ t ∷ []) ++ tables_begin d total (count - (i + 1)) after ≡ whole
   unfolding tables_begin
   tables_go_on t after lt h is so_far =
       let k : count - i ≡ suc (count - (i + 1)) = omega arith in

@@ -9,7 +9,7 @@ use Rattle.paw_image.specs.Damage.{Declared, Passing, field_kept, each, number_k
 use Rattle.paw_image.specs.Reading.{Reading, number_at}
 use Rattle.paw_image.specs.inner.Reading.{text_at, object_at, exits_at}
 use Rattle.paw_image.proofs.FieldLaws.{IsBytes, Takes, read_ok, at_ok, bind_then, kept_ok, number_takes}
-use Rattle.paw_image.proofs.ListLaws.{TakesRow, rows_take}
+use Rattle.paw_image.proofs.ListLaws.{TakesRow}
 use Rattle.paw_image.proofs.RowLaws.{text_takes, object_takes, exits_take, entry_takes, table_takes}
 use Rattle.paw_image.proofs.SoundRows.{text_sound, object_sound, exits_sound, entry_sound, table_placed}
 use Rattle.paw_image.proofs.Stands.{SoundRow, each_sound, taken_length}
@@ -46,8 +46,7 @@ module _ (all bytes rest : List ℕ) (fits : IsBytes all) (end : IsEnd all bytes
   rows_end pass row image rule takes sound n e =
       let here = end_fits all bytes fits end in
       let rows = each_sound pass row image rule takes sound n bytes rest here e in
-      let taken = (rows_take row image takes n bytes (rows.value, rest) here rows.reads).0 in
-      end_of_end all bytes rest end (end_taken bytes (flat_map image rows.value) rest taken)
+      end_of_end all bytes rest end (end_taken bytes (flat_map image rows.value) rest rows.taken)
 
   pub texts_end : (n : ℕ) → each after_text n bytes ≡ Ok rest → IsEnd all rest
   texts_end n e = rows_end after_text text_at text_image is_text text_takes text_sound n e

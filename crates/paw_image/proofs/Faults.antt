@@ -28,7 +28,8 @@ fails_next fault.Memory r f h = tt
 fails_next (fault.Damaged left) r f h = rw h refl
 
 -- where one row has no value, so many have none
-pub each_fault : (pass : List ℕ → Passing) (count i : ℕ) (bytes : List ℕ) (total : Passing) → i < count → IsFault (pass bytes) → each pass (count - i) bytes ≡ total → IsFault total
+pub each_fault : (pass : List ℕ → Passing) (count i : ℕ) (bytes : List ℕ) (total : Passing) → i < count
+    → IsFault (pass bytes) → each pass (count - i) bytes ≡ total → IsFault total
 unfolding each
 each_fault pass count i bytes total lt h so_far =
     let k : count - i ≡ suc (count - (i + 1)) = omega arith in

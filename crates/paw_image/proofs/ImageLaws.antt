@@ -9,11 +9,10 @@ use Rattle.paw_image.specs.Images.{IsImage}
 use Rattle.paw_image.specs.inner.Reading.{Fails, all_of}
 use Rattle.paw_image.proofs.FieldLaws.{IsBytes, read_ok}
 use Rattle.paw_image.proofs.GameLaws.{all_takes, all_again}
-use Rattle.paw_image.proofs.ValidLaws.{valid_fits}
 
 -- bytes that are the image of a valid game are read as that game
 pub image_again : (bytes : List ℕ) (g : GameLists) → Valid g → bytes ≡ image g → all_of bytes ≡ read_ok g
-image_again bytes g valid e = ap all_of e ∙ all_again g (valid_fits g valid)
+image_again bytes g valid e = ap all_of e ∙ all_again g valid
 
 -- two valid games with the same image are the same
 pub one_game : (g h : GameLists) → Valid g → Valid h → image g ≡ image h → g ≡ h
@@ -38,7 +37,8 @@ pub fault_is_none : (bytes : List ℕ) (left : ℕ) → Fails (fault.Damaged lef
 fault_is_none bytes left e = unread_is_none bytes left e
 
 -- bytes that are read as the lists of a game are its image, and that of no other
-pub read_is_image : (bytes : List ℕ) (parts g : GameLists) → IsBytes bytes → length bytes ≤ IMAGE_LIMIT → all_of bytes ≡ Ok parts → g ≡ parts → Valid parts → IsImage bytes g
+pub read_is_image : (bytes : List ℕ) (parts g : GameLists) → IsBytes bytes → length bytes ≤ IMAGE_LIMIT
+    → all_of bytes ≡ Ok parts → g ≡ parts → Valid parts → IsImage bytes g
 read_is_image bytes parts g fits short e same valid = rw same (record { spelled = all_takes bytes parts fits e; valid = valid; short = short })
 
 pub read_is_only : (bytes : List ℕ) (parts g : GameLists) → all_of bytes ≡ Ok parts → g ≡ parts → (h : GameLists) → IsImage bytes h → g ≡ h

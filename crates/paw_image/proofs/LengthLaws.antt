@@ -13,9 +13,10 @@ use Rattle.paw_game.specs.declared.parts.Exit.{Exit}
 use Rattle.paw_game.specs.declared.parts.Entry.{Entry}
 use Rattle.paw_game.specs.Game.{GameLists}
 use Rattle.paw_game.specs.Valid.{Valid, is_within, is_word, is_text, is_object, is_exits, is_condact, is_entry, is_table}
-use Rattle.paw_game.specs.Image.{two_bytes, head_image, word_image, text_image, object_image, exit_image, exits_image, parameter_image, condact_image, entry_image, table_image, image}
+use Rattle.paw_game.specs.Image.{two_bytes, head_image, word_image, text_image, object_image, exit_image, exits_image}
+use Rattle.paw_game.specs.Image.{parameter_image, condact_image, entry_image, table_image, image}
 use Rattle.paw_image.specs.inner.Sizes.{FitsWord}
-use Rattle.paw_image.proofs.ValidLaws.{word_fits}
+use Rattle.paw_image.proofs.ValidLaws.{word_fits, parts_of, tables_few}
 
 -- ---- rows ----
 
@@ -54,33 +55,11 @@ exits_most ws locations xs h =
 
 parameter_length : (k : ParamKind) (x : ℕ) → length (parameter_image k x) ≡ param_count k
 parameter_length kind.Absent x = refl
-parameter_length kind.Location x = refl
-parameter_length kind.Place x = refl
-parameter_length kind.Object x = refl
-parameter_length kind.Flag x = refl
-parameter_length kind.Number x = refl
-parameter_length kind.Message x = refl
-parameter_length kind.System x = refl
-parameter_length kind.Table x = refl
-parameter_length kind.Adverb x = refl
-parameter_length kind.Noun x = refl
-parameter_length kind.Adjective x = refl
-parameter_length kind.Preposition x = refl
+parameter_length _ x = refl
 
 param_count-most : (k : ParamKind) → param_count k ≤ 1
 param_count-most kind.Absent = omega arith
-param_count-most kind.Location = omega arith
-param_count-most kind.Place = omega arith
-param_count-most kind.Object = omega arith
-param_count-most kind.Flag = omega arith
-param_count-most kind.Number = omega arith
-param_count-most kind.Message = omega arith
-param_count-most kind.System = omega arith
-param_count-most kind.Table = omega arith
-param_count-most kind.Adverb = omega arith
-param_count-most kind.Noun = omega arith
-param_count-most kind.Adjective = omega arith
-param_count-most kind.Preposition = omega arith
+param_count-most _ = omega arith
 
 pub condact_length : (c : Condact) → length (condact_image c) ≡ 1 + params_of c.code
 condact_length c =
@@ -100,12 +79,20 @@ entry_most g e h =
 table_most : (g : GameLists) (es : List Entry) → is_table g es ≡ true → length (table_image es) ≤ 3072002
 table_most g es h =
     let both = and_parts (leb (length es) 4000) (list_all (is_entry g) es) h in
-    omega (arith, leb-true _ _ both.0, length-append (two_bytes (length es)) (flat_map entry_image es), rows_at_most entry_image (is_entry g) 768 (entry_most g) es both.1)
+    omega (
+      arith,
+      leb-true _ _ both.0,
+      length-append (two_bytes (length es)) (flat_map entry_image es),
+      rows_at_most entry_image (is_entry g) 768 (entry_most g) es both.1,
+    )
 
 -- ---- the whole image ----
 
-pub image_parts : (g : GameLists) → length (image g) ≡ 17 + length (flat_map word_image g.words) + length (flat_map text_image g.system) + length (flat_map text_image g.messages)
-    + length (flat_map object_image g.objects) + length (flat_map text_image g.locations) + length (flat_map exits_image g.exits) + length (flat_map table_image g.tables)
+pub image_parts : (g : GameLists)
+    → length (image g) ≡ 17 + length (flat_map word_image g.words) + length (flat_map text_image g.system)
+    + length (flat_map text_image g.messages) + length (flat_map object_image g.objects)
+    + length (flat_map text_image g.locations)
+    + length (flat_map exits_image g.exits) + length (flat_map table_image g.tables)
 image_parts g =
     let to_words = head_image g ++ flat_map word_image g.words in
     let to_system = to_words ++ flat_map text_image g.system in
@@ -125,29 +112,23 @@ image_parts g =
 
 pub image_short : (g : GameLists) → Valid g → length (image g) < 2 ^ 32
 image_short g v =
-    let words = and_parts (leb (length g.words) 2000) _ v.words in
-    let system = and_parts (leb (length g.system) 256) (list_all is_text g.system) v.system in
-    let messages = and_parts (leb (length g.messages) 256) (list_all is_text g.messages) v.messages in
-    let objects = and_parts (leb (length g.objects) 255) (list_all (is_object g.words (length g.locations)) g.objects) v.objects in
-    let some = and_parts (leb 1 (length g.locations)) _ v.locations in
-    let locations = and_parts (leb (length g.locations) 252) (list_all is_text g.locations) some.1 in
-    let exits = and_parts (eqb (length g.exits) (length g.locations)) (list_all (is_exits g.words (length g.locations)) g.exits) v.exits in
-    let tables = and_parts (is_within 3 256 (length g.tables)) (list_all (is_table g) g.tables) v.tables in
+    let parts = parts_of g v in
+    let locations = length g.locations in
     omega (
       arith,
       image_parts g,
-      leb-true _ _ words.0,
-      rows_at_most word_image is_word 7 word_most g.words (and_parts (list_all is_word g.words) _ words.1).0,
-      leb-true _ _ system.0,
-      rows_at_most text_image is_text 4097 text_most g.system system.1,
-      leb-true _ _ messages.0,
-      rows_at_most text_image is_text 4097 text_most g.messages messages.1,
-      leb-true _ _ objects.0,
-      rows_at_most object_image (is_object g.words (length g.locations)) 4101 (object_most g.words (length g.locations)) g.objects objects.1,
-      leb-true _ _ locations.0,
-      rows_at_most text_image is_text 4097 text_most g.locations locations.1,
-      eqb-true _ _ exits.0,
-      rows_at_most exits_image (is_exits g.words (length g.locations)) 511 (exits_most g.words (length g.locations)) g.exits exits.1,
-      leb-true _ _ (and_parts (leb 3 (length g.tables)) (leb (length g.tables) 256) tables.0).1,
-      rows_at_most table_image (is_table g) 3072002 (table_most g) g.tables tables.1,
+      leb-true _ _ parts.words_few,
+      rows_at_most word_image is_word 7 word_most g.words parts.words_keep,
+      leb-true _ _ parts.system_few,
+      rows_at_most text_image is_text 4097 text_most g.system parts.system_keep,
+      leb-true _ _ parts.messages_few,
+      rows_at_most text_image is_text 4097 text_most g.messages parts.messages_keep,
+      leb-true _ _ parts.objects_few,
+      rows_at_most object_image (is_object g.words locations) 4101 (object_most g.words locations) g.objects parts.objects_keep,
+      leb-true _ _ parts.locations_few,
+      rows_at_most text_image is_text 4097 text_most g.locations parts.locations_keep,
+      parts.exits_many,
+      rows_at_most exits_image (is_exits g.words locations) 511 (exits_most g.words locations) g.exits parts.exits_keep,
+      tables_few g parts,
+      rows_at_most table_image (is_table g) 3072002 (table_most g) g.tables parts.tables_keep,
     )

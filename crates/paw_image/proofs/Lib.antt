@@ -5,6 +5,7 @@ pub mod ExitLoop
 pub mod Faults
 pub mod FieldLaws
 pub mod GameLaws
+pub mod HeadLaws
 pub mod ImageLaws
 pub mod LengthLaws
 pub mod ListLaws

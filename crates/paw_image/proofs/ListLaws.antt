@@ -1,10 +1,10 @@
 -- Lists of rows: what is read is their images one after another, and these are read again.
-use Rattle.std.proofs.Common.{◌≡◌, ℕ, zero, suc, List, [], ◌∷◌, ◌++◌, length, Result, Ok, Err, refl, ap, ◌∙◌, append_assoc}
+use Rattle.std.proofs.Common.{◌≡◌, ℕ, zero, suc, List, [], ◌∷◌, ◌++◌, length, Result, Ok, Err, refl, sym, ap, subst, ◌∙◌, append_assoc}
 use Rattle.std.specs.Prelude.{OnOk}
 use Rattle.std.specs.List.{flat_map, AllByRecursion}
-use Rattle.paw_image.specs.Reading.{Reading}
-use Rattle.paw_image.specs.inner.Reading.{leading_rows}
-use Rattle.paw_image.proofs.FieldLaws.{IsBytes, Takes, Takes-then, bind_then, at_ok}
+use Rattle.paw_image.specs.Reading.{Reading, byte_at}
+use Rattle.paw_image.specs.inner.Reading.{few_at, leading_rows}
+use Rattle.paw_image.proofs.FieldLaws.{IsBytes, Takes, Takes-then, bind_then, at_ok, byte_takes}
 
 -- a row that is read stands there as its image
 abbrev pub TakesRow : {A : Type 0} → (List ℕ → Reading A) → (A → List ℕ) → Type 0
@@ -34,6 +34,23 @@ rows_again row image Fits again [] rest fits = refl
 rows_again row image Fits again (x ∷ xs) rest fits =
     rw (append_assoc (image x) (flat_map image xs) rest, again x (flat_map image xs ++ rest) fits.0, rows_again row image Fits again xs rest fits.1) refl
 
+-- ---- behind a count of one byte ----
+
+pub few_take : {A : Type 0} (row : List ℕ → Reading A) (image : A → List ℕ) → TakesRow row image
+    → TakesRow (few_at row) (λ xs. length xs ∷ flat_map image xs)
+unfolding few_at
+few_take row image takes bytes x fits e =
+    bind_then _ (byte_at bytes) _ x e (λ count count_ok e.
+    let count_taken = (byte_takes bytes count fits count_ok).0 in
+    let rows_taken = rows_take row image takes count.0 count.1 x count_taken.rest_fits e in
+    subst (λ (n : ℕ). Takes bytes (n ∷ flat_map image x.0) x.1) (sym rows_taken.1)
+    (Takes-then (count.0 ∷ []) (flat_map image x.0) count_taken rows_taken.0))
+
+pub few_again : {A : Type 0} (row : List ℕ → Reading A) (image : A → List ℕ) (Fits : A → Type 0) → ReadsAgain row image Fits
+    → ReadsAgain (few_at row) (λ xs. length xs ∷ flat_map image xs) (AllByRecursion Fits)
+unfolding few_at
+few_again row image Fits again xs rest fits = rows_again row image Fits again xs rest fits
+
 -- ---- writing at the end ----
 
 -- what was written, and then more
@@ -41,6 +58,7 @@ pub grows : (a x y : List ℕ) {b c z : List ℕ} → b ≡ a ++ x → c ≡ b +
 grows a x y {b = b} first second is = second ∙ ap (λ (t : List ℕ). b ++ t) is ∙ ap (λ (t : List ℕ). t ++ y) first ∙ append_assoc a x y
 
 -- the same where the last step may have failed
-pub grows_last : {T E : Type 0} (r : Result T E) (a x y : List ℕ) {b z : List ℕ} (c : List ℕ) → b ≡ a ++ x → OnOk r (c ≡ b ++ z) → z ≡ y → OnOk r (c ≡ a ++ (x ++ y))
+pub grows_last : {T E : Type 0} (r : Result T E) (a x y : List ℕ) {b z : List ℕ} (c : List ℕ) → b ≡ a ++ x
+    → OnOk r (c ≡ b ++ z) → z ≡ y → OnOk r (c ≡ a ++ (x ++ y))
 grows_last (Ok _) a x y c first second is = grows a x y first second is
 grows_last (Err _) a x y c first second is = tt

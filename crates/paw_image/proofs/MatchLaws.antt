@@ -1,5 +1,7 @@
 -- The least match in order of verb and noun is the first entry that matches.
-use Rattle.std.proofs.Common.{◌≡◌, ℕ, zero, suc, ◌+◌, ◌-◌, ◌&&◌, Bool, false, List, [], ◌∷◌, ◌++◌, length, get_or, drop, Option, Some, IsTrue, refl, sym, ap, subst, ◌∙◌, append_assoc, inl, inr, arith, add-zero}
+use Rattle.std.proofs.Common.{◌≡◌, ℕ, zero, suc, ◌+◌, ◌-◌, ◌&&◌, Bool, false, List, [], ◌∷◌}
+use Rattle.std.proofs.Common.{◌++◌, length, get_or, drop, Option, Some, IsTrue, refl, sym}
+use Rattle.std.proofs.Common.{ap, subst, ◌∙◌, append_assoc, inl, inr, arith, add-zero}
 use Rattle.std.specs.Prelude.{slice_get}
 use Rattle.std.specs.List.{flat_map, Contains}
 use Rattle.std.specs.List.Sorted.{IsPermutation}
@@ -25,7 +27,8 @@ byte_at_place : (bytes front rest : List ℕ) (at k : ℕ) → drop at bytes ≡
 byte_at_place bytes front rest at k e = sym (get_or-drop at bytes k 0) ∙ ap (λ (l : List ℕ). get_or l k 0) e
 
 -- the heads read where entries begin are those of the entries
-heads_same : (bytes rest : List ℕ) (es : List Entry) (n at : ℕ) → drop at bytes ≡ flat_map entry_image es ++ rest → heads_at bytes n (places entry_image at es) ≡ heads_of n es
+heads_same : (bytes rest : List ℕ) (es : List Entry) (n at : ℕ) → drop at bytes ≡ flat_map entry_image es ++ rest
+    → heads_at bytes n (places entry_image at es) ≡ heads_of n es
 heads_same bytes rest [] n at e = refl
 heads_same bytes rest (x ∷ xs) n at e =
     let others = flat_map entry_image xs ++ rest in
@@ -46,12 +49,19 @@ entry_of_head : (es : List Entry) (n k : ℕ) (h : Head) → slice_get (heads_of
 entry_of_head [] n k h e = absurd (none-some h e)
 entry_of_head (x ∷ xs) n zero h e =
     let same = sym (same_Some _ h e) in
-    record { entry = x; is = refl; verb = ap (λ (y : Head). y.verb) same; noun = ap (λ (y : Head). y.noun) same; number = ap (λ (y : Head). y.entry) same ∙ sym (add-zero n) }
+    record {
+      entry = x;
+      is = refl;
+      verb = ap (λ (y : Head). y.verb) same;
+      noun = ap (λ (y : Head). y.noun) same;
+      number = ap (λ (y : Head). y.entry) same ∙ sym (add-zero n);
+    }
 entry_of_head (x ∷ xs) n (suc k) h e =
     let o = entry_of_head xs (suc n) k h e in
     record { entry = o.entry; is = o.is; verb = o.verb; noun = o.noun; number = omega (arith, o.number) }
 
-head_of_entry : (es : List Entry) (n k : ℕ) (x : Entry) → slice_get es k ≡ Some x → slice_get (heads_of n es) k ≡ Some (record { verb = x.verb; noun = x.noun; entry = n + k })
+head_of_entry : (es : List Entry) (n k : ℕ) (x : Entry) → slice_get es k ≡ Some x
+    → slice_get (heads_of n es) k ≡ Some (record { verb = x.verb; noun = x.noun; entry = n + k })
 head_of_entry [] n k x e = absurd (none-some x e)
 head_of_entry (y ∷ ys) n zero x e = rw (add-zero n, ← same_Some y x e) refl
 head_of_entry (y ∷ ys) n (suc k) x e =
@@ -61,7 +71,8 @@ head_of_entry (y ∷ ys) n (suc k) x e =
 -- ---- the first entry that matches ----
 
 -- the first doesn't match, so it is a later one
-not_here : (n : ℕ) (x : Entry) (xs : List Entry) (verb noun e : ℕ) → matches verb noun x ≡ false → IsFound verb noun n (x ∷ xs) e → IsFound verb noun (suc n) xs e
+not_here : (n : ℕ) (x : Entry) (xs : List Entry) (verb noun e : ℕ) → matches verb noun x ≡ false
+    → IsFound verb noun n (x ∷ xs) e → IsFound verb noun (suc n) xs e
 not_here n x xs verb noun e differs f =
     elim (cases_eq e n) [
       | inl here ↦
@@ -79,7 +90,9 @@ first_match_least verb noun n (x ∷ xs) =
     elim (cases_Bool (matches verb noun x)) [
       | inl m ↦ rw m (found_here verb noun n x xs n m refl, λ e f. f.reached)
       | inr m ↦
-          rw m (IsLeast-same (IsFound verb noun (suc n) xs) (IsFound verb noun n (x ∷ xs)) (found_later verb noun n x xs) (λ e f. not_here n x xs verb noun e m f) (first_match verb noun (suc n) xs) (first_match_least verb noun (suc n) xs))
+          rw m (IsLeast-same (IsFound verb noun (suc n) xs) (IsFound verb noun n (x ∷ xs))
+          (found_later verb noun n x xs) (λ e f. not_here n x xs verb noun e m f)
+          (first_match verb noun (suc n) xs) (first_match_least verb noun (suc n) xs))
     ]
 
 -- ---- in order ----
@@ -100,7 +113,13 @@ module _ (es : List Entry) (heads : List Head) (perm : IsPermutation (heads_of 0
       let found = at_contains (heads_of 0 es) m.head (Contains-permutation heads (heads_of 0 es) m.head (IsPermutation-sym (heads_of 0 es) heads perm) m.is) in
       let o = entry_of_head es 0 found.0 m.head found.1 in
       let place : from + (e - from) ≡ found.0 = omega (arith, m.reached, o.number, m.number) in
-      record { reached = m.reached; entry = o.entry; is = slice_get-drop from es (e - from) ∙ ap (slice_get es) place ∙ o.is; matching = words_match m.head o.entry verb noun o.verb o.noun m.matching }
+      record {
+        reached = m.reached;
+        entry = o.entry;
+        is = slice_get-drop from es (e - from) ∙ ap (slice_get es) place
+            ∙ o.is;
+        matching = words_match m.head o.entry verb noun o.verb o.noun m.matching;
+      }
 
   -- the head of an entry that matches
   head_found : (e : ℕ) → IsFound verb noun from (drop from es) e → IsMatch heads (is_match verb noun) from e
@@ -122,7 +141,10 @@ module _ (es : List Entry) (heads : List Head) (perm : IsPermutation (heads_of 0
       (IsLeast-same (IsMatch heads (is_match verb noun) from) (IsFound verb noun from (drop from es)) entry_found head_found r least)
       (first_match_least verb noun from (drop from es))
 
-pub next_match_is : (bytes rest : List ℕ) (es : List Entry) (at : ℕ) (order : Order) → IsOrder bytes (places entry_image at es) order → drop at bytes ≡ flat_map entry_image es ++ rest
+pub next_match_is : (bytes rest : List ℕ) (es : List Entry) (at : ℕ) (order : Order)
+    → IsOrder bytes (places entry_image at es) order → drop at bytes ≡ flat_map entry_image es ++ rest
     → (verb from noun : ℕ) (r : Option ℕ) → IsLeast (IsMatch order.heads.items (is_match verb noun) from) r → r ≡ first_match verb noun from (drop from es)
 next_match_is bytes rest es at order o e verb from noun r least =
-    least_match es order.heads.items (subst (λ (hs : List Head). IsPermutation hs order.heads.items) (heads_same bytes rest es 0 at e) o.same) verb from noun r least
+    least_match es order.heads.items
+    (subst (λ (hs : List Head). IsPermutation hs order.heads.items) (heads_same bytes rest es 0 at e) o.same) verb
+    from noun r least

@@ -1,5 +1,6 @@
 -- Each row: the image of a row that keeps its rule is passed.
-use Rattle.std.proofs.Common.{◌≡◌, ℕ, ◌^◌, ◌<◌, ◌≤◌, ◌&&◌, ◌||◌, Bool, true, not, ltb, leb, eqb, List, [], ◌∷◌, ◌++◌, length, Ok, refl, ap, ◌∙◌, append_assoc, arith, lit<}
+use Rattle.std.proofs.Common.{◌≡◌, ℕ, ◌^◌, ◌<◌, ◌≤◌, ◌&&◌, ◌||◌, Bool, true, not, ltb, leb, eqb, List}
+use Rattle.std.proofs.Common.{[], ◌∷◌, ◌++◌, length, Ok, refl, ap, ◌∙◌, append_assoc, arith, lit<}
 use Rattle.std.specs.List.{flat_map, list_all, list_any}
 use Rattle.std.proofs.lemmas.Bool.{and_parts, leb-true, le-leb}
 use Rattle.paw_base.specs.declared.parts.ObjectFacts.{ObjectFacts}
@@ -7,17 +8,22 @@ use Rattle.paw_base.specs.declared.rows.ParamKind.{ParamKind}
 use Rattle.paw_base.specs.declared.rows.ParamKind.TheVariants as kind
 use Rattle.paw_base.specs.Condacts.{first_kind, second_kind}
 use Rattle.paw_game.specs.declared.parts.Exit.{Exit}
-use Rattle.paw_game.specs.Image.{two_bytes, text_image, weight_byte, object_image, exit_image, exits_image, parameter_image, condact_image, entry_image, table_image}
-use Rattle.paw_game.specs.Valid.{is_within, is_printed, is_text, is_word_or_none, is_place, are_facts, is_object, is_verb_value, are_exits, is_exits, is_any, has_word}
+use Rattle.paw_game.specs.Image.{two_bytes, text_image, weight_byte, object_image, exit_image, exits_image}
+use Rattle.paw_game.specs.Image.{parameter_image, condact_image, entry_image, table_image}
+use Rattle.paw_game.specs.Valid.{is_within, is_printed, is_text, is_word_or_none, is_place, are_facts}
+use Rattle.paw_game.specs.Valid.{is_object, is_verb_value, are_exits, is_exits, is_any, has_word}
 use Rattle.paw_image.specs.Reading.{◌>>=◌, byte_at}
-use Rattle.paw_image.specs.Damage.{Declared, field_kept, number_kept, after_text, after_facts, after_object, exit_kept, after_exits_of, after_exits, keeps_kind, after_parameter, after_condact, after_entry, after_table}
+use Rattle.paw_image.specs.Damage.{Declared, field_kept, number_kept, after_text, after_facts, after_object}
+use Rattle.paw_image.specs.Damage.{exit_kept, after_exits_of, after_exits, keeps_kind, after_parameter}
+use Rattle.paw_image.specs.Damage.{after_condact, after_entry, after_table}
 use Rattle.paw_image.proofs.FieldLaws.{bytes_again, number_again}
 use Rattle.paw_image.proofs.SoundRows.{none_of, none_of-one_more, none_of-none, keeps_condact, keeps_entry, keeps_table}
 use Rattle.paw_image.proofs.Stands.{and_true, PassesRow, each_passes}
 
 -- ---- numbers ----
 
-pub within_passes : (least most n : ℕ) (rest : List ℕ) → most < 2 ^ 16 → is_within least most n ≡ true → number_kept least most (two_bytes n ++ rest) ≡ Ok (n, rest)
+pub within_passes : (least most n : ℕ) (rest : List ℕ) → most < 2 ^ 16 → is_within least most n ≡ true
+    → number_kept least most (two_bytes n ++ rest) ≡ Ok (n, rest)
 within_passes least most n rest small h =
     let le : n ≤ most = leb-true _ _ (and_parts (leb least n) (leb n most) h).1 in
     rw (number_again n rest (omega arith), h) refl
@@ -40,7 +46,9 @@ text_passes text rest h =
 
 -- ---- objects ----
 
-facts_pass : (d : Declared) (f : ObjectFacts) (weight : ℕ) (rest : List ℕ) → are_facts d.words d.counts.locations f ≡ true → after_facts d (f.noun ∷ f.adjective ∷ f.start ∷ weight ∷ rest) ≡ Ok rest
+facts_pass : (d : Declared) (f : ObjectFacts) (weight : ℕ) (rest : List ℕ)
+    → are_facts d.words d.counts.locations f ≡ true → after_facts d (f.noun ∷ f.adjective ∷ f.start ∷ weight ∷ rest)
+    ≡ Ok rest
 unfolding after_facts
 facts_pass d f weight rest h =
     let noun = and_parts (is_word_or_none d.words 2 f.noun) _ h in
@@ -53,7 +61,8 @@ object_passes d o rest h =
     let both = and_parts (is_text o.text) (are_facts d.words d.counts.locations o.facts) h in
     let weight = weight_byte o.facts.weight o.facts.container o.facts.wearable in
     let after = o.facts.noun ∷ o.facts.adjective ∷ o.facts.start ∷ weight ∷ rest in
-    let regrouped : object_image o ++ rest ≡ text_image o.text ++ after = append_assoc (text_image o.text) (o.facts.noun ∷ o.facts.adjective ∷ o.facts.start ∷ weight ∷ []) rest in
+    let regrouped : object_image o ++ rest ≡ text_image o.text ++ after =
+    append_assoc (text_image o.text) (o.facts.noun ∷ o.facts.adjective ∷ o.facts.start ∷ weight ∷ []) rest in
     ap (after_object d) regrouped ∙ rw (text_passes o.text after both.0) (facts_pass d o.facts weight rest both.1)
 
 -- ---- exits ----
@@ -64,7 +73,9 @@ unfolding after_exits_of exit_kept
 exits_pass_of d verbs [] rest none h = refl
 exits_pass_of d verbs (x ∷ xs) rest none h =
     let first_none = and_parts (not (list_any (λ earlier. eqb earlier x.verb) verbs)) (none_of verbs xs) none in
-    let split = and_parts (is_verb_value d.words x.verb && (ltb x.to d.counts.locations && not (list_any (λ y. eqb y.verb x.verb) xs))) (are_exits d.words d.counts.locations xs) h in
+    let split = and_parts
+    (is_verb_value d.words x.verb && (ltb x.to d.counts.locations && not (list_any (λ y. eqb y.verb x.verb) xs)))
+    (are_exits d.words d.counts.locations xs) h in
     let verb = and_parts (is_verb_value d.words x.verb) _ split.0 in
     let to = and_parts (ltb x.to d.counts.locations) _ verb.1 in
     let others : none_of (x.verb ∷ verbs) xs ≡ true = none_of-one_more x.verb verbs xs ∙ rw (to.1, first_none.1) refl in
@@ -81,18 +92,7 @@ byte_passes rule x rest h = rw h refl
 
 parameter_passes : (d : Declared) (k : ParamKind) → PassesRow (after_parameter d k) (parameter_image k) (keeps_kind d k)
 parameter_passes d kind.Absent x rest h = refl
-parameter_passes d kind.Location x rest h = byte_passes (keeps_kind d kind.Location) x rest h
-parameter_passes d kind.Place x rest h = byte_passes (keeps_kind d kind.Place) x rest h
-parameter_passes d kind.Object x rest h = byte_passes (keeps_kind d kind.Object) x rest h
-parameter_passes d kind.Flag x rest h = byte_passes (keeps_kind d kind.Flag) x rest h
-parameter_passes d kind.Number x rest h = byte_passes (keeps_kind d kind.Number) x rest h
-parameter_passes d kind.Message x rest h = byte_passes (keeps_kind d kind.Message) x rest h
-parameter_passes d kind.System x rest h = byte_passes (keeps_kind d kind.System) x rest h
-parameter_passes d kind.Table x rest h = byte_passes (keeps_kind d kind.Table) x rest h
-parameter_passes d kind.Adverb x rest h = byte_passes (keeps_kind d kind.Adverb) x rest h
-parameter_passes d kind.Noun x rest h = byte_passes (keeps_kind d kind.Noun) x rest h
-parameter_passes d kind.Adjective x rest h = byte_passes (keeps_kind d kind.Adjective) x rest h
-parameter_passes d kind.Preposition x rest h = byte_passes (keeps_kind d kind.Preposition) x rest h
+parameter_passes d k x rest h = byte_passes (keeps_kind d k) x rest h
 
 condact_passes : (d : Declared) → PassesRow (after_condact d) condact_image (keeps_condact d)
 unfolding after_condact
@@ -118,4 +118,8 @@ unfolding after_table
 table_passes d es rest h =
     let both = and_parts (leb (length es) 4000) (list_all (keeps_entry d) es) h in
     let entries = flat_map entry_image es in
-    rw (append_assoc (two_bytes (length es)) entries rest, within_passes 0 4000 (length es) (entries ++ rest) (lit< tt) (up_to 4000 (length es) both.0)) (each_passes (after_entry d) entry_image (keeps_entry d) (entry_passes d) es rest both.1)
+    rw (
+      append_assoc (two_bytes (length es)) entries rest,
+      within_passes 0 4000 (length es) (entries ++ rest) (lit< tt) (up_to 4000 (length es) both.0),
+    )
+    (each_passes (after_entry d) entry_image (keeps_entry d) (entry_passes d) es rest both.1)

@@ -1,6 +1,7 @@
 -- What stands in an image where a row begins.
-use Rattle.std.proofs.Common.{◌≡◌, ℕ, zero, suc, ◌+◌, ◌-◌, ◌<◌, List, [], ◌∷◌, ◌++◌, length, take, drop, Option, Some, None, Ok, refl, sym, ap, subst, ◌∙◌, append_assoc, inl, inr, arith}
-use Rattle.std.specs.Prelude.{slice_get, codes}
+use Rattle.std.proofs.Common.{◌≡◌, ℕ, zero, suc, ◌+◌, ◌-◌, ◌<◌, List, [], ◌∷◌, ◌++◌, length, take, drop, Option}
+use Rattle.std.proofs.Common.{Some, None, Ok, refl, sym, ap, subst, ◌∙◌, append_assoc, inl, inr, arith}
+use Rattle.std.specs.Prelude.{slice_get}
 use Rattle.std.specs.List.{flat_map, AllByRecursion}
 use Rattle.std.proofs.lemmas.Bool.{lt-ltb, le-ltb, cases_lt}
 use Rattle.std.proofs.lemmas.List.{drop_at, drop-drop, length-append, take_at}
@@ -13,8 +14,9 @@ use Rattle.paw_game.specs.declared.parts.GamePart.{GamePart}
 use Rattle.paw_game.specs.declared.parts.GamePart.TheVariants as part
 use Rattle.paw_game.specs.Game.{GameLists}
 use Rattle.paw_game.specs.Tables.{or_empty, row_text, exit_of, facts_at, facts_of}
-use Rattle.paw_game.specs.inner.Tables.{counts_of, text_at}
-use Rattle.paw_game.specs.Image.{two_bytes, word_image, text_image, object_image, exit_image, exits_image, condact_image, entry_image, table_image, weight_byte, image}
+use Rattle.paw_game.specs.inner.Tables.{text_at}
+use Rattle.paw_game.specs.Image.{two_bytes, word_image, text_image, object_image, exit_image, exits_image}
+use Rattle.paw_game.specs.Image.{condact_image, entry_image, table_image, weight_byte, image}
 use Rattle.paw_image.specs.Reading.{◌>>=◌}
 use Rattle.paw_image.specs.inner.Reading.{leading_condact}
 use Rattle.paw_image.specs.inner.Reading as inner_reading
@@ -23,8 +25,11 @@ use Rattle.paw_image.specs.inner.Sizes.{FitsText, FitsObject, FitsCondact, FitsG
 use Rattle.paw_image.specs.inner.Places.{places, entry_places}
 use Rattle.paw_image.specs.inner.Rows.{value_of, facts_here, exit_in, exits_here, head_here, past_condact, nth_condact, entry_here}
 use Rattle.paw_image.specs.inner.Views.{system_begins, messages_begin, objects_begin, locations_begin, exits_begin, tables_begin_at, rows_begin}
-use Rattle.paw_image.proofs.GameLaws.{image_is, counts_image}
+use Rattle.paw_image.proofs.GameLaws.{from_messages, from_objects, from_locations, from_exits, from_tables}
+use Rattle.paw_image.proofs.GameLaws.{image_is, lists_image}
+use Rattle.paw_image.proofs.HeadLaws.{front_image, front_length}
 use Rattle.paw_image.proofs.RowLaws.{facts_image, facts_again, text_again, condact_again}
+use Rattle.paw_image.proofs.SoundRows.{declared_by}
 
 -- ---- rows ----
 
@@ -50,7 +55,9 @@ row_lies image bytes rest [] at e k p h = absurd (none-some p h)
 row_lies image bytes rest (x ∷ xs) at e zero p h =
     record { row = x; after = flat_map image xs ++ rest; is = refl; lies = rw (← same_Some at p h) (e ∙ append_assoc (image x) (flat_map image xs) rest) }
 row_lies image bytes rest (x ∷ xs) at e (suc k) p h =
-    row_lies image bytes rest xs (at + length (image x)) (next_at bytes (image x) (flat_map image xs ++ rest) at (e ∙ append_assoc (image x) (flat_map image xs) rest)) k p h
+    row_lies image bytes rest xs (at + length (image x))
+    (next_at bytes (image x) (flat_map image xs ++ rest) at (e ∙ append_assoc (image x) (flat_map image xs) rest))
+    k p h
 
 pub no_row : {A : Type 0} (image : A → List ℕ) (xs : List A) (at k : ℕ) → slice_get (places image at xs) k ≡ None → slice_get xs k ≡ None
 no_row image [] at k h = refl
@@ -75,51 +82,54 @@ pub record ListsAt (bytes : List ℕ) (g : GameLists) : Type 0 where
 
 pub lists_lie : (bytes : List ℕ) (g : GameLists) → bytes ≡ image g → ListsAt bytes g
 lists_lie bytes g e =
-    let after_exits = flat_map table_image g.tables ++ [] in
-    let after_locations = flat_map exits_image g.exits ++ after_exits in
-    let after_objects = flat_map text_image g.locations ++ after_locations in
-    let after_messages = flat_map object_image g.objects ++ after_objects in
-    let after_system = flat_map text_image g.messages ++ after_messages in
-    let after_words = flat_map text_image g.system ++ after_system in
-    let head = codes "PAWI" ++ (1 ∷ counts_image (counts_of g)) in
-    let words : drop 17 bytes ≡ flat_map word_image g.words ++ after_words = next_at bytes head (flat_map word_image g.words ++ after_words) 0 (e ∙ image_is g) in
-    let system = next_at bytes (flat_map word_image g.words) after_words 17 words in
-    let messages = next_at bytes (flat_map text_image g.system) after_system (system_begins g) system in
-    let objects = next_at bytes (flat_map text_image g.messages) after_messages (messages_begin g) messages in
-    let locations = next_at bytes (flat_map object_image g.objects) after_objects (objects_begin g) objects in
-    let exits = next_at bytes (flat_map text_image g.locations) after_locations (locations_begin g) locations in
+    let start : 0 + length (front_image (declared_by g)) ≡ system_begins g = omega (arith, front_length (declared_by g)) in
+    let whole = next_at bytes (front_image (declared_by g)) (lists_image g []) 0 (e ∙ image_is g) in
+    let system = subst (λ (n : ℕ). drop n bytes ≡ lists_image g []) start whole in
+    let messages = next_at bytes (flat_map text_image g.system) (from_messages g []) (system_begins g) system in
+    let objects = next_at bytes (flat_map text_image g.messages) (from_objects g []) (messages_begin g) messages in
+    let locations = next_at bytes (flat_map object_image g.objects) (from_locations g []) (objects_begin g) objects in
+    let exits = next_at bytes (flat_map text_image g.locations) (from_exits g []) (locations_begin g) locations in
     record {
-      after_system = after_system;
+      after_system = from_messages g [];
       system = system;
-      after_messages = after_messages;
+      after_messages = from_objects g [];
       messages = messages;
-      after_objects = after_objects;
+      after_objects = from_locations g [];
       objects = objects;
-      after_locations = after_locations;
+      after_locations = from_exits g [];
       locations = locations;
-      after_exits = after_exits;
+      after_exits = from_tables g [];
       exits = exits;
-      tables = next_at bytes (flat_map exits_image g.exits) after_exits (exits_begin g) exits;
+      tables = next_at bytes (flat_map exits_image g.exits) (from_tables g []) (exits_begin g) exits;
     }
 
 -- ---- texts ----
 
-text_there : (bytes : List ℕ) (texts : List (List ℕ)) (k p : ℕ) → AllByRecursion FitsText texts → RowAt text_image bytes (slice_get texts k) p → value_of (inner_reading.text_at (drop p bytes)) ≡ slice_get texts k
-text_there bytes texts k p fits r = rw (r.lies, text_again r.row r.after (all_at FitsText texts k r.row fits r.is)) (sym r.is)
+text_there : (bytes rest : List ℕ) (texts : List (List ℕ)) (begin k p : ℕ) → AllByRecursion FitsText texts
+    → drop begin bytes ≡ flat_map text_image texts ++ rest → slice_get (places text_image begin texts) k ≡ Some p
+    → value_of (inner_reading.text_at (drop p bytes)) ≡ slice_get texts k
+text_there bytes rest texts begin k p fits lies h =
+    let r = row_lies text_image bytes rest texts begin lies k p h in
+    rw (r.lies, text_again r.row r.after (all_at FitsText texts k r.row fits r.is)) (sym r.is)
 
-text_of_object : (bytes : List ℕ) (os : List ObjectRow) (k p : ℕ) → AllByRecursion FitsObject os → RowAt object_image bytes (slice_get os k) p → value_of (inner_reading.text_at (drop p bytes)) ≡ row_text (slice_get os k)
+text_of_object : (bytes : List ℕ) (os : List ObjectRow) (k p : ℕ) → AllByRecursion FitsObject os
+    → RowAt object_image bytes (slice_get os k) p
+    → value_of (inner_reading.text_at (drop p bytes)) ≡ row_text (slice_get os k)
 text_of_object bytes os k p fits r =
     let o = r.row in
     let facts = o.facts.noun ∷ o.facts.adjective ∷ o.facts.start ∷ weight_byte o.facts.weight o.facts.container o.facts.wearable ∷ [] in
     let text = (all_at FitsObject os k o fits r.is).text in
     rw (r.lies, append_assoc (text_image o.text) facts r.after, text_again o.text (facts ++ r.after) text, r.is) refl
 
-pub text_of_part : (bytes : List ℕ) (g : GameLists) → ListsAt bytes g → FitsGame g → (p : GamePart) (k at : ℕ) → slice_get (rows_begin g p) k ≡ Some at → value_of (inner_reading.text_at (drop at bytes)) ≡ text_at g p k
+pub text_of_part : (bytes : List ℕ) (g : GameLists) → ListsAt bytes g → FitsGame g → (p : GamePart) (k at : ℕ)
+    → slice_get (rows_begin g p) k ≡ Some at → value_of (inner_reading.text_at (drop at bytes)) ≡ text_at g p k
 text_of_part bytes g l fits part.Words k at h = absurd (none-some at h)
-text_of_part bytes g l fits part.System k at h = text_there bytes g.system k at fits.system (row_lies text_image bytes l.after_system g.system (system_begins g) l.system k at h)
-text_of_part bytes g l fits part.Messages k at h = text_there bytes g.messages k at fits.messages (row_lies text_image bytes l.after_messages g.messages (messages_begin g) l.messages k at h)
-text_of_part bytes g l fits part.Objects k at h = text_of_object bytes g.objects k at fits.objects (row_lies object_image bytes l.after_objects g.objects (objects_begin g) l.objects k at h)
-text_of_part bytes g l fits part.Locations k at h = text_there bytes g.locations k at fits.locations (row_lies text_image bytes l.after_locations g.locations (locations_begin g) l.locations k at h)
+text_of_part bytes g l fits part.System k at h = text_there bytes l.after_system g.system (system_begins g) k at fits.system l.system h
+text_of_part bytes g l fits part.Messages k at h = text_there bytes l.after_messages g.messages (messages_begin g) k at fits.messages l.messages h
+text_of_part bytes g l fits part.Objects k at h =
+    text_of_object bytes g.objects k at fits.objects
+    (row_lies object_image bytes l.after_objects g.objects (objects_begin g) l.objects k at h)
+text_of_part bytes g l fits part.Locations k at h = text_there bytes l.after_locations g.locations (locations_begin g) k at fits.locations l.locations h
 text_of_part bytes g l fits part.Exits k at h = absurd (none-some at h)
 text_of_part bytes g l fits part.Tables k at h = absurd (none-some at h)
 
@@ -134,13 +144,20 @@ no_text_of_part g part.Tables k h = refl
 
 -- ---- objects ----
 
-pub facts_there : (bytes : List ℕ) (g : GameLists) → ListsAt bytes g → FitsGame g → (k at : ℕ) → slice_get (rows_begin g part.Objects) k ≡ Some at → facts_here (drop at bytes) ≡ facts_at g k
+pub facts_there : (bytes : List ℕ) (g : GameLists) → ListsAt bytes g → FitsGame g → (k at : ℕ)
+    → slice_get (rows_begin g part.Objects) k ≡ Some at → facts_here (drop at bytes) ≡ facts_at g k
 unfolding facts_here
 facts_there bytes g l fits k at h =
     let r = row_lies object_image bytes l.after_objects g.objects (objects_begin g) l.objects k at h in
     let o = r.row in
     let o_fits = all_at FitsObject g.objects k o fits.objects r.is in
-    rw (r.lies, append_assoc (text_image o.text) (facts_image o.facts) r.after, text_again o.text (facts_image o.facts ++ r.after) o_fits.text, facts_again o.facts r.after o_fits.weight, r.is) refl
+    rw (
+      r.lies,
+      append_assoc (text_image o.text) (facts_image o.facts) r.after,
+      text_again o.text (facts_image o.facts ++ r.after) o_fits.text,
+      facts_again o.facts r.after o_fits.weight,
+      r.is,
+    ) refl
 
 pub no_facts : (g : GameLists) (k : ℕ) → slice_get (rows_begin g part.Objects) k ≡ None → facts_at g k ≡ None
 no_facts g k h = rw (no_row object_image g.objects (objects_begin g) k h) refl
@@ -152,13 +169,16 @@ unfolding exit_in
 exit_found verb [] rest = refl
 exit_found verb (x ∷ xs) rest = rw (exit_found verb xs rest) refl
 
-pub exit_there : (bytes : List ℕ) (g : GameLists) → ListsAt bytes g → (verb k at : ℕ) → slice_get (places exits_image (exits_begin g) g.exits) k ≡ Some at → exits_here verb (drop at bytes) ≡ exit_of (or_empty (slice_get g.exits k)) verb
+pub exit_there : (bytes : List ℕ) (g : GameLists) → ListsAt bytes g → (verb k at : ℕ)
+    → slice_get (places exits_image (exits_begin g) g.exits) k ≡ Some at
+    → exits_here verb (drop at bytes) ≡ exit_of (or_empty (slice_get g.exits k)) verb
 unfolding exits_here
 exit_there bytes g l verb k at h =
     let r = row_lies exits_image bytes l.after_exits g.exits (exits_begin g) l.exits k at h in
     rw (r.lies, r.is) (exit_found verb r.row r.after)
 
-pub no_exit : (g : GameLists) (verb k : ℕ) → slice_get (places exits_image (exits_begin g) g.exits) k ≡ None → exit_of (or_empty (slice_get g.exits k)) verb ≡ None
+pub no_exit : (g : GameLists) (verb k : ℕ) → slice_get (places exits_image (exits_begin g) g.exits) k ≡ None
+    → exit_of (or_empty (slice_get g.exits k)) verb ≡ None
 no_exit g verb k h = rw (no_row exits_image g.exits (exits_begin g) k h) refl
 
 -- ---- entries ----
@@ -188,7 +208,9 @@ table_lies bytes rest (es ∷ ts) at e zero ps h =
       lies = next_at bytes (two_bytes (length es)) (flat_map entry_image es ++ others) at here;
     }
 table_lies bytes rest (es ∷ ts) at e (suc t) ps h =
-    table_lies bytes rest ts (at + length (table_image es)) (next_at bytes (table_image es) (flat_map table_image ts ++ rest) at (e ∙ append_assoc (table_image es) (flat_map table_image ts) rest)) t ps h
+    table_lies bytes rest ts (at + length (table_image es))
+    (next_at bytes (table_image es) (flat_map table_image ts ++ rest) at
+    (e ∙ append_assoc (table_image es) (flat_map table_image ts) rest)) t ps h
 
 pub no_table : (ts : List (List Entry)) (at t : ℕ) → slice_get (entry_places at ts) t ≡ None → slice_get ts t ≡ None
 no_table [] at t h = refl
@@ -203,36 +225,54 @@ entry_in_table bytes found (Some ps) k p there h =
     rw t.is (row_lies entry_image bytes t.after t.rows t.at t.lies k p (rw t.begin at h))
 
 -- the entry that stands at the place where it begins
-pub entry_lies : (bytes : List ℕ) (g : GameLists) → ListsAt bytes g → (t k p : ℕ) → slice_get (or_empty (slice_get (entry_places (tables_begin_at g) g.tables) t)) k ≡ Some p
+pub entry_lies : (bytes : List ℕ) (g : GameLists) → ListsAt bytes g → (t k p : ℕ)
+    → slice_get (or_empty (slice_get (entry_places (tables_begin_at g) g.tables) t)) k ≡ Some p
     → RowAt entry_image bytes (slice_get (or_empty (slice_get g.tables t)) k) p
 entry_lies bytes g l t k p h =
-    entry_in_table bytes (slice_get g.tables t) (slice_get (entry_places (tables_begin_at g) g.tables) t) k p (table_lies bytes [] g.tables (tables_begin_at g) l.tables t) h
+    entry_in_table bytes (slice_get g.tables t) (slice_get (entry_places (tables_begin_at g) g.tables) t) k p
+    (table_lies bytes [] g.tables (tables_begin_at g) l.tables t) h
 
-no_entry_in : (ts : List (List Entry)) (at t k : ℕ) → slice_get (or_empty (slice_get (entry_places at ts) t)) k ≡ None → slice_get (or_empty (slice_get ts t)) k ≡ None
+no_entry_in : (ts : List (List Entry)) (at t k : ℕ) → slice_get (or_empty (slice_get (entry_places at ts) t)) k ≡ None
+    → slice_get (or_empty (slice_get ts t)) k ≡ None
 no_entry_in [] at t k h = refl
 no_entry_in (es ∷ ts) at zero k h = no_row entry_image es (at + 2) k h
 no_entry_in (es ∷ ts) at (suc t) k h = no_entry_in ts (at + length (table_image es)) t k h
 
-pub no_entry : (g : GameLists) (t k : ℕ) → slice_get (or_empty (slice_get (entry_places (tables_begin_at g) g.tables) t)) k ≡ None → slice_get (or_empty (slice_get g.tables t)) k ≡ None
+pub no_entry : (g : GameLists) (t k : ℕ)
+    → slice_get (or_empty (slice_get (entry_places (tables_begin_at g) g.tables) t)) k ≡ None
+    → slice_get (or_empty (slice_get g.tables t)) k ≡ None
 no_entry g t k h = no_entry_in g.tables (tables_begin_at g) t k h
 
 -- ---- condacts ----
 
-condacts_pass : (cs : List Condact) (rest : List ℕ) → AllByRecursion FitsCondact cs → each past_condact (length cs) (flat_map condact_image cs ++ rest) ≡ Ok rest
+condacts_pass : (cs : List Condact) (rest : List ℕ) → AllByRecursion FitsCondact cs
+    → each past_condact (length cs) (flat_map condact_image cs ++ rest) ≡ Ok rest
 unfolding each
 condacts_pass [] rest fits = refl
 condacts_pass (c ∷ cs) rest fits =
-    rw (append_assoc (condact_image c) (flat_map condact_image cs) rest, condact_again c (flat_map condact_image cs ++ rest) fits.0) (condacts_pass cs rest fits.1)
+    rw (
+      append_assoc (condact_image c) (flat_map condact_image cs) rest,
+      condact_again c (flat_map condact_image cs ++ rest) fits.0,
+    ) (condacts_pass cs rest fits.1)
 
-condact_found : (cs : List Condact) (rest : List ℕ) (k : ℕ) → AllByRecursion FitsCondact cs → k < length cs → value_of (each past_condact k (flat_map condact_image cs ++ rest) >>= leading_condact) ≡ slice_get cs k
+condact_found : (cs : List Condact) (rest : List ℕ) (k : ℕ) → AllByRecursion FitsCondact cs → k < length cs
+    → value_of (each past_condact k (flat_map condact_image cs ++ rest) >>= leading_condact) ≡ slice_get cs k
 unfolding each
 condact_found [] rest k fits lt = absurd (omega arith)
-condact_found (c ∷ cs) rest zero fits lt = rw (append_assoc (condact_image c) (flat_map condact_image cs) rest, condact_again c (flat_map condact_image cs ++ rest) fits.0) refl
+condact_found (c ∷ cs) rest zero fits lt =
+    rw (
+      append_assoc (condact_image c) (flat_map condact_image cs) rest,
+      condact_again c (flat_map condact_image cs ++ rest) fits.0,
+    ) refl
 condact_found (c ∷ cs) rest (suc k) fits lt =
-    rw (append_assoc (condact_image c) (flat_map condact_image cs) rest, condact_again c (flat_map condact_image cs ++ rest) fits.0) (condact_found cs rest k fits.1 (omega arith))
+    rw (
+      append_assoc (condact_image c) (flat_map condact_image cs) rest,
+      condact_again c (flat_map condact_image cs ++ rest) fits.0,
+    ) (condact_found cs rest k fits.1 (omega arith))
 
 -- what the bytes of an entry say
-pub condact_there : (e : Entry) (after : List ℕ) (k : ℕ) → AllByRecursion FitsCondact e.condacts → nth_condact k (entry_image e ++ after) ≡ slice_get e.condacts k
+pub condact_there : (e : Entry) (after : List ℕ) (k : ℕ) → AllByRecursion FitsCondact e.condacts
+    → nth_condact k (entry_image e ++ after) ≡ slice_get e.condacts k
 unfolding nth_condact
 condact_there e after k fits =
     elim (cases_lt k (length e.condacts)) [
@@ -248,4 +288,6 @@ pub entry_bytes_there : (e : Entry) (after : List ℕ) → AllByRecursion FitsCo
 unfolding entry_here
 entry_bytes_there e after fits =
     let n : length (entry_image e ++ after) - length after ≡ length (entry_image e) = omega (arith, length-append (entry_image e) after) in
-    rw (condacts_pass e.condacts after fits) (ap Some (ap (λ (k : ℕ). take k (entry_image e ++ after)) n ∙ take_at (entry_image e) after (length (entry_image e)) refl))
+    rw (condacts_pass e.condacts after fits)
+    (ap Some (ap (λ (k : ℕ). take k (entry_image e ++ after)) n
+    ∙ take_at (entry_image e) after (length (entry_image e)) refl))

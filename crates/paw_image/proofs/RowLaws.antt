@@ -1,6 +1,7 @@
 -- The two laws of each row: what is read as a row stands there as its image, and the image of a row that fits is read as
 -- that row.
-use Rattle.std.proofs.Common.{◌≡◌, ℕ, zero, suc, ◌+◌, ◌*◌, ◌<◌, ◌≤◌, Bool, true, false, not, cond, leb, eqb, List, [], ◌∷◌, ◌++◌, length, Ok, refl, sym, ap, subst, ◌∙◌, append_assoc, arith}
+use Rattle.std.proofs.Common.{◌≡◌, ℕ, zero, suc, ◌+◌, ◌*◌, ◌<◌, ◌≤◌, Bool, true, false, not, cond, leb, eqb, List}
+use Rattle.std.proofs.Common.{[], ◌∷◌, ◌++◌, length, Ok, refl, sym, ap, subst, ◌∙◌, append_assoc, arith}
 use Rattle.std.specs.Prelude.{bit_and}
 use Rattle.std.specs.Int.{bit_at}
 use Rattle.std.specs.List.{flat_map, AllByRecursion}
@@ -12,36 +13,19 @@ use Rattle.paw_base.specs.declared.parts.ObjectFacts.{ObjectFacts}
 use Rattle.paw_base.specs.declared.rows.ParamKind.{ParamKind}
 use Rattle.paw_base.specs.declared.rows.ParamKind.TheVariants as kind
 use Rattle.paw_base.specs.Condacts.{first_kind, second_kind}
-use Rattle.paw_game.specs.declared.parts.Word.{Word}
 use Rattle.paw_game.specs.declared.parts.ObjectRow.{ObjectRow}
 use Rattle.paw_game.specs.declared.parts.Exit.{Exit}
 use Rattle.paw_game.specs.declared.parts.Entry.{Entry}
-use Rattle.paw_game.specs.Image.{two_bytes, word_image, text_image, weight_byte, object_image, exit_image, exits_image, parameter_image, condact_image, entry_image, table_image}
-use Rattle.paw_image.specs.Reading.{byte_at, bytes_at, number_at}
-use Rattle.paw_image.specs.inner.Reading.{leading_rows, leading_word, text_at, facts_with, leading_facts, object_at, leading_exit, exits_at, code_at, parameter_at, leading_condact, leading_entry, leading_table}
-use Rattle.paw_image.specs.inner.Sizes.{FitsWord, FitsText, FitsObject, FitsExit, FitsExits, FitsParameter, FitsCondact, FitsEntry, FitsTable}
-use Rattle.paw_image.proofs.FieldLaws.{IsBytes, Takes, Takes-then, bind_then, kept_ok, at_ok, byte_takes, bytes_take, bytes_again, number_takes, number_again}
-use Rattle.paw_image.proofs.ListLaws.{TakesRow, ReadsAgain, rows_take, rows_again}
-
--- ---- words ----
-
-pub word_takes : TakesRow leading_word word_image
-unfolding leading_word
-word_takes bytes x fits e =
-    bind_then _ (bytes_at 5 bytes) _ x e (λ letters letters_ok e.
-    bind_then _ (byte_at letters.1) _ x e (λ value value_ok e.
-    bind_then _ (byte_at value.1) _ x e (λ class class_ok e.
-    let letters_taken = (bytes_take 5 bytes letters fits letters_ok).0 in
-    let value_taken = (byte_takes letters.1 value letters_taken.rest_fits value_ok).0 in
-    let class_taken = (byte_takes value.1 class value_taken.rest_fits class_ok).0 in
-    at_ok (λ (y : Word × List ℕ). Takes bytes (word_image y.0) y.1) _ x e
-    (Takes-then letters.0 (value.0 ∷ class.0 ∷ []) letters_taken (Takes-then (value.0 ∷ []) (class.0 ∷ []) value_taken class_taken)))))
-
-pub word_again : ReadsAgain leading_word word_image FitsWord
-unfolding leading_word
-word_again w rest fits =
-    let regrouped : word_image w ++ rest ≡ w.letters ++ (w.value ∷ w.class ∷ rest) = append_assoc w.letters (w.value ∷ w.class ∷ []) rest in
-    ap leading_word regrouped ∙ rw (bytes_again 5 w.letters (w.value ∷ w.class ∷ rest) fits) refl
+use Rattle.paw_game.specs.Image.{two_bytes, text_image, weight_byte, object_image, exit_image}
+use Rattle.paw_game.specs.Image.{exits_image, parameter_image, condact_image, entry_image, table_image}
+use Rattle.paw_image.specs.Reading.{byte_at, number_at}
+use Rattle.paw_image.specs.inner.Reading.{few_at, leading_rows, text_at, facts_with, leading_facts, object_at, leading_exit}
+use Rattle.paw_image.specs.inner.Reading.{exits_at, code_at, parameter_at, leading_condact, leading_entry, leading_table}
+use Rattle.paw_image.specs.inner.Sizes.{FitsText, FitsObject, FitsExit, FitsExits, FitsParameter, FitsCondact}
+use Rattle.paw_image.specs.inner.Sizes.{FitsEntry, FitsTable}
+use Rattle.paw_image.proofs.FieldLaws.{IsBytes, Takes, Takes-then, bind_then, kept_ok, at_ok, byte_takes}
+use Rattle.paw_image.proofs.FieldLaws.{bytes_take, bytes_again, number_takes, number_again}
+use Rattle.paw_image.proofs.ListLaws.{TakesRow, ReadsAgain, rows_take, rows_again, few_take, few_again}
 
 -- ---- texts ----
 
@@ -94,20 +78,22 @@ clear_128 : (b : ℕ) → bit_at b 7 ≡ 0 → not (eqb (bit_and b 128) 0) ≡ f
 clear_128 b h = rw (and_pow b 7, h) refl
 
 -- the byte gives the three parts back
-facts_again_with : (noun adjective start weight : ℕ) (container wearable : Bool) → weight < 64
-    → facts_with noun adjective start (weight_byte weight container wearable) ≡ record { noun = noun; adjective = adjective; start = start; weight = weight; container = container; wearable = wearable }
-facts_again_with noun adjective start weight false false lt =
-    let w : bit_and (weight + 0 + 0) 63 ≡ weight = and_mask (weight + 0 + 0) 6 ∙ omega arith in
-    rw (w, clear_64 (weight + 0 + 0) (omega arith), clear_128 (weight + 0 + 0) (omega arith)) refl
-facts_again_with noun adjective start weight true false lt =
-    let w : bit_and (weight + 64 + 0) 63 ≡ weight = and_mask (weight + 64 + 0) 6 ∙ omega arith in
-    rw (w, set_64 (weight + 64 + 0) (omega arith), clear_128 (weight + 64 + 0) (omega arith)) refl
-facts_again_with noun adjective start weight false true lt =
-    let w : bit_and (weight + 0 + 128) 63 ≡ weight = and_mask (weight + 0 + 128) 6 ∙ omega arith in
-    rw (w, clear_64 (weight + 0 + 128) (omega arith), set_128 (weight + 0 + 128) (omega arith)) refl
-facts_again_with noun adjective start weight true true lt =
-    let w : bit_and (weight + 64 + 128) 63 ≡ weight = and_mask (weight + 64 + 128) 6 ∙ omega arith in
-    rw (w, set_64 (weight + 64 + 128) (omega arith), set_128 (weight + 64 + 128) (omega arith)) refl
+byte_gives : (weight : ℕ) (container wearable : Bool) → weight < 64
+    → (bit_and (weight_byte weight container wearable) 63 ≡ weight)
+    × (not (eqb (bit_and (weight_byte weight container wearable) 64) 0) ≡ container)
+    × (not (eqb (bit_and (weight_byte weight container wearable) 128) 0) ≡ wearable)
+byte_gives weight false false lt =
+    let b = weight + 0 + 0 in
+    (and_mask b 6 ∙ omega arith, clear_64 b (omega arith), clear_128 b (omega arith))
+byte_gives weight true false lt =
+    let b = weight + 64 + 0 in
+    (and_mask b 6 ∙ omega arith, set_64 b (omega arith), clear_128 b (omega arith))
+byte_gives weight false true lt =
+    let b = weight + 0 + 128 in
+    (and_mask b 6 ∙ omega arith, clear_64 b (omega arith), set_128 b (omega arith))
+byte_gives weight true true lt =
+    let b = weight + 64 + 128 in
+    (and_mask b 6 ∙ omega arith, set_64 b (omega arith), set_128 b (omega arith))
 
 facts_take : TakesRow leading_facts facts_image
 unfolding leading_facts
@@ -127,7 +113,7 @@ facts_take bytes x fits e =
 
 pub facts_again : ReadsAgain leading_facts facts_image (λ f. f.weight < 64)
 unfolding leading_facts
-facts_again f rest lt = ap (λ (g : ObjectFacts). Ok (g, rest)) (facts_again_with f.noun f.adjective f.start f.weight f.container f.wearable lt)
+facts_again f rest lt = let gives = byte_gives f.weight f.container f.wearable lt in rw (gives.0, gives.1, gives.2) refl
 
 pub object_takes : TakesRow object_at object_image
 unfolding object_at
@@ -164,48 +150,20 @@ all_exits [] = tt
 all_exits (x ∷ xs) = (tt, all_exits xs)
 
 pub exits_take : TakesRow exits_at exits_image
-unfolding exits_at
-exits_take bytes x fits e =
-    bind_then _ (byte_at bytes) _ x e (λ count count_ok e.
-    let count_taken = (byte_takes bytes count fits count_ok).0 in
-    let rows_taken = rows_take leading_exit exit_image exit_takes count.0 count.1 x count_taken.rest_fits e in
-    subst (λ (n : ℕ). Takes bytes (n ∷ flat_map exit_image x.0) x.1) (sym rows_taken.1) (Takes-then (count.0 ∷ []) (flat_map exit_image x.0) count_taken rows_taken.0))
+exits_take bytes x fits e = few_take leading_exit exit_image exit_takes bytes x fits e
 
 pub exits_again : ReadsAgain exits_at exits_image FitsExits
-unfolding exits_at
-exits_again xs rest fits = rows_again leading_exit exit_image FitsExit exit_again xs rest (all_exits xs)
+exits_again xs rest fits = few_again leading_exit exit_image FitsExit exit_again xs rest (all_exits xs)
 
 -- ---- tables ----
 
 pub parameter_takes : (k : ParamKind) → TakesRow (parameter_at k) (parameter_image k)
 parameter_takes kind.Absent bytes x fits e = at_ok (λ (y : ℕ × List ℕ). Takes bytes [] y.1) (0, bytes) x e (record { parts = refl; rest_fits = fits })
-parameter_takes kind.Location bytes x fits e = (byte_takes bytes x fits e).0
-parameter_takes kind.Place bytes x fits e = (byte_takes bytes x fits e).0
-parameter_takes kind.Object bytes x fits e = (byte_takes bytes x fits e).0
-parameter_takes kind.Flag bytes x fits e = (byte_takes bytes x fits e).0
-parameter_takes kind.Number bytes x fits e = (byte_takes bytes x fits e).0
-parameter_takes kind.Message bytes x fits e = (byte_takes bytes x fits e).0
-parameter_takes kind.System bytes x fits e = (byte_takes bytes x fits e).0
-parameter_takes kind.Table bytes x fits e = (byte_takes bytes x fits e).0
-parameter_takes kind.Adverb bytes x fits e = (byte_takes bytes x fits e).0
-parameter_takes kind.Noun bytes x fits e = (byte_takes bytes x fits e).0
-parameter_takes kind.Adjective bytes x fits e = (byte_takes bytes x fits e).0
-parameter_takes kind.Preposition bytes x fits e = (byte_takes bytes x fits e).0
+parameter_takes _ bytes x fits e = (byte_takes bytes x fits e).0
 
 parameter_again : (k : ParamKind) → ReadsAgain (parameter_at k) (parameter_image k) (FitsParameter k)
 parameter_again kind.Absent x rest fits = ap (λ (y : ℕ). Ok (y, rest)) (sym fits)
-parameter_again kind.Location x rest fits = refl
-parameter_again kind.Place x rest fits = refl
-parameter_again kind.Object x rest fits = refl
-parameter_again kind.Flag x rest fits = refl
-parameter_again kind.Number x rest fits = refl
-parameter_again kind.Message x rest fits = refl
-parameter_again kind.System x rest fits = refl
-parameter_again kind.Table x rest fits = refl
-parameter_again kind.Adverb x rest fits = refl
-parameter_again kind.Noun x rest fits = refl
-parameter_again kind.Adjective x rest fits = refl
-parameter_again kind.Preposition x rest fits = refl
+parameter_again _ x rest fits = refl
 
 code_takes : (bytes : List ℕ) (x : ℕ × List ℕ) → IsBytes bytes → code_at bytes ≡ Ok x → Takes bytes (x.0 ∷ []) x.1
 code_takes [] x fits e = absurd cc
@@ -225,7 +183,8 @@ condact_takes bytes x fits e =
     let b_taken = parameter_takes (second_kind code.0) a.1 b a_taken.rest_fits b_ok in
     let first = parameter_image (first_kind code.0) a.0 in
     let second = parameter_image (second_kind code.0) b.0 in
-    at_ok (λ (y : Condact × List ℕ). Takes bytes (condact_image y.0) y.1) _ x e (Takes-then (code.0 ∷ []) (first ++ second) code_taken (Takes-then first second a_taken b_taken)))))
+    at_ok (λ (y : Condact × List ℕ). Takes bytes (condact_image y.0) y.1) _ x e
+    (Takes-then (code.0 ∷ []) (first ++ second) code_taken (Takes-then first second a_taken b_taken)))))
 
 pub condact_again : ReadsAgain leading_condact condact_image FitsCondact
 unfolding leading_condact
@@ -234,27 +193,29 @@ condact_again c rest fits =
     let second = parameter_image (second_kind c.code) c.b in
     let regrouped : condact_image c ++ rest ≡ c.code ∷ (first ++ (second ++ rest)) = ap (λ (t : List ℕ). c.code ∷ t) (append_assoc first second rest) in
     ap leading_condact regrouped
-    ∙ rw (code_again c.code (first ++ (second ++ rest)) fits.code, parameter_again (first_kind c.code) c.a (second ++ rest) fits.a, parameter_again (second_kind c.code) c.b rest fits.b) refl
+    ∙ rw (
+      code_again c.code (first ++ (second ++ rest)) fits.code,
+      parameter_again (first_kind c.code) c.a (second ++ rest) fits.a,
+      parameter_again (second_kind c.code) c.b rest fits.b,
+    ) refl
 
 pub entry_takes : TakesRow leading_entry entry_image
 unfolding leading_entry
 entry_takes bytes x fits e =
     bind_then _ (byte_at bytes) _ x e (λ verb verb_ok e.
     bind_then _ (byte_at verb.1) _ x e (λ noun noun_ok e.
-    bind_then _ (byte_at noun.1) _ x e (λ count count_ok e.
-    bind_then _ (leading_rows leading_condact count.0 count.1) _ x e (λ condacts condacts_ok e.
+    bind_then _ (few_at leading_condact noun.1) _ x e (λ condacts condacts_ok e.
     let verb_taken = (byte_takes bytes verb fits verb_ok).0 in
     let noun_taken = (byte_takes verb.1 noun verb_taken.rest_fits noun_ok).0 in
-    let count_taken = (byte_takes noun.1 count noun_taken.rest_fits count_ok).0 in
-    let condacts_taken = rows_take leading_condact condact_image condact_takes count.0 count.1 condacts count_taken.rest_fits condacts_ok in
-    let images = flat_map condact_image condacts.0 in
+    let condacts_taken = few_take leading_condact condact_image condact_takes noun.1 condacts noun_taken.rest_fits condacts_ok in
+    let images = length condacts.0 ∷ flat_map condact_image condacts.0 in
     at_ok (λ (y : Entry × List ℕ). Takes bytes (entry_image y.0) y.1) _ x e
-    (subst (λ (n : ℕ). Takes bytes (verb.0 ∷ noun.0 ∷ n ∷ images) condacts.1) (sym condacts_taken.1)
-    (Takes-then (verb.0 ∷ []) (noun.0 ∷ count.0 ∷ images) verb_taken (Takes-then (noun.0 ∷ []) (count.0 ∷ images) noun_taken (Takes-then (count.0 ∷ []) images count_taken condacts_taken.0))))))))
+    (Takes-then (verb.0 ∷ []) (noun.0 ∷ images) verb_taken (Takes-then (noun.0 ∷ []) images noun_taken condacts_taken)))))
 
 entry_again : ReadsAgain leading_entry entry_image FitsEntry
 unfolding leading_entry
-entry_again e rest fits = rw (rows_again leading_condact condact_image FitsCondact condact_again e.condacts rest fits.condacts) refl
+entry_again e rest fits =
+    rw (few_again leading_condact condact_image FitsCondact condact_again e.condacts rest fits.condacts) refl
 
 pub table_takes : TakesRow leading_table table_image
 unfolding leading_table
@@ -262,8 +223,13 @@ table_takes bytes x fits e =
     bind_then _ (number_at bytes) _ x e (λ count count_ok e.
     let count_taken = (number_takes bytes count fits count_ok).0 in
     let entries_taken = rows_take leading_entry entry_image entry_takes count.0 count.1 x count_taken.rest_fits e in
-    subst (λ (n : ℕ). Takes bytes (two_bytes n ++ flat_map entry_image x.0) x.1) (sym entries_taken.1) (Takes-then (two_bytes count.0) (flat_map entry_image x.0) count_taken entries_taken.0))
+    subst (λ (n : ℕ). Takes bytes (two_bytes n ++ flat_map entry_image x.0) x.1) (sym entries_taken.1)
+    (Takes-then (two_bytes count.0) (flat_map entry_image x.0) count_taken entries_taken.0))
 
 pub table_again : ReadsAgain leading_table table_image FitsTable
 unfolding leading_table
-table_again es rest fits = rw (number_again (length es) (flat_map entry_image es ++ rest) fits.count, rows_again leading_entry entry_image FitsEntry entry_again es rest fits.entries) refl
+table_again es rest fits =
+    rw (
+      number_again (length es) (flat_map entry_image es ++ rest) fits.count,
+      rows_again leading_entry entry_image FitsEntry entry_again es rest fits.entries,
+    ) refl

@@ -1,5 +1,6 @@
 -- Each row: the bytes that it passes are read as a row that keeps its rule.
-use Rattle.std.proofs.Common.{◌≡◌, ℕ, zero, suc, ◌+◌, ◌<◌, ◌&&◌, ◌||◌, Bool, true, false, not, ltb, leb, eqb, List, [], ◌∷◌, length, Ok, refl, sym, ap, ◌∙◌, arith}
+use Rattle.std.proofs.Common.{◌≡◌, ℕ, zero, suc, ◌+◌, ◌<◌, ◌&&◌, ◌||◌, Bool, true, false, not, ltb}
+use Rattle.std.proofs.Common.{leb, eqb, List, [], ◌∷◌, length, Ok, refl, sym, ap, ◌∙◌, arith}
 use Rattle.std.specs.Prelude.{bit_and}
 use Rattle.std.specs.List.{list_all, list_any}
 use Rattle.std.proofs.lemmas.Bool.{and_parts, le-leb}
@@ -14,10 +15,15 @@ use Rattle.paw_game.specs.declared.parts.Entry.{Entry}
 use Rattle.paw_game.specs.Game.{GameLists}
 use Rattle.paw_game.specs.inner.Tables.{counts_of}
 use Rattle.paw_game.specs.Image.{two_bytes, text_image, exit_image, parameter_image, condact_image, entry_image, table_image}
-use Rattle.paw_game.specs.Valid.{is_within, is_printed, is_text, is_word_or_none, is_place, are_facts, is_object, is_verb_value, are_exits, is_exits, is_parameter, is_condact, is_any, has_word, is_entry, is_table}
+use Rattle.paw_game.specs.Valid.{is_within, is_printed, is_text, is_word_or_none, is_place, are_facts}
+use Rattle.paw_game.specs.Valid.{is_object, is_verb_value, are_exits, is_exits, is_parameter}
+use Rattle.paw_game.specs.Valid.{is_condact, is_any, has_word, is_entry, is_table}
 use Rattle.paw_image.specs.Reading.{◌>>=◌, byte_at, bytes_at, number_at}
-use Rattle.paw_image.specs.inner.Reading.{leading_rows, text_at, facts_with, leading_facts, object_at, leading_exit, exits_at, code_at, parameter_at, leading_condact, leading_entry, leading_table}
-use Rattle.paw_image.specs.Damage.{Declared, field_kept, each, after_text, after_facts, after_object, exit_kept, after_exits_of, after_exits, keeps_kind, after_parameter, after_condact, after_entry, after_table}
+use Rattle.paw_image.specs.inner.Reading.{few_at, leading_rows, text_at, facts_with, leading_facts, object_at, leading_exit, exits_at}
+use Rattle.paw_image.specs.inner.Reading.{code_at, parameter_at, leading_condact, leading_entry, leading_table}
+use Rattle.paw_image.specs.Damage.{Declared, field_kept, each, after_text, after_facts, after_object}
+use Rattle.paw_image.specs.Damage.{exit_kept, after_exits_of, after_exits, keeps_kind, after_parameter}
+use Rattle.paw_image.specs.Damage.{after_condact, after_entry, after_table}
 use Rattle.paw_image.specs.inner.Places.{places, entry_places, entries_begin, tables_begin}
 use Rattle.paw_image.proofs.FieldLaws.{IsBytes, at_ok, bind_then, byte_takes, number_takes}
 use Rattle.paw_image.proofs.ListLaws.{rows_take}
@@ -35,7 +41,8 @@ unfolding after_text text_at
 text_sound bytes rest fits e =
     kept_then _ (is_within 0 4095) number_at bytes _ rest e (λ len len_ok len_kept e.
     kept_then _ (is_printed true) (bytes_at len.0) len.1 _ rest e (λ text text_ok text_kept e.
-    let few : leb (length text.0) 4095 ≡ true = ap (λ (n : ℕ). leb n 4095) (bytes_length len.0 len.1 text text_ok) ∙ (and_parts (leb 0 len.0) (leb len.0 4095) len_kept).1 in
+    let few : leb (length text.0) 4095 ≡ true = ap (λ (n : ℕ). leb n 4095) (bytes_length len.0 len.1 text text_ok)
+    ∙ (and_parts (leb 0 len.0) (leb len.0 4095) len_kept).1 in
     record {
       value = text.0;
       reads = at_ok (λ (r : List ℕ). text_at bytes ≡ Ok (text.0, r)) text.1 rest e (rw (len_ok, text_ok) refl);
@@ -105,7 +112,8 @@ none_of-none (x ∷ xs) = none_of-none xs
 abbrev keeps_after : Declared → List ℕ → List Exit → Bool
 keeps_after d verbs xs = none_of verbs xs && are_exits d.words d.counts.locations xs
 
-exits_sound_of : (d : Declared) (verbs : List ℕ) (n : ℕ) (bytes rest : List ℕ) → after_exits_of d verbs n bytes ≡ Ok rest → Stands (leading_rows leading_exit n bytes) (keeps_after d verbs) rest
+exits_sound_of : (d : Declared) (verbs : List ℕ) (n : ℕ) (bytes rest : List ℕ)
+    → after_exits_of d verbs n bytes ≡ Ok rest → Stands (leading_rows leading_exit n bytes) (keeps_after d verbs) rest
 unfolding after_exits_of exit_kept leading_rows leading_exit
 exits_sound_of d verbs zero bytes rest e =
     record { value = []; reads = at_ok (λ (r : List ℕ). leading_rows leading_exit 0 bytes ≡ Ok ([], r)) bytes rest e refl; keeps = refl }
@@ -113,7 +121,8 @@ exits_sound_of d verbs (suc n) bytes rest e =
     bind_then _ (exit_kept d verbs bytes) _ rest e (λ x x_ok e.
     kept_then _ (λ v. is_verb_value d.words v && not (list_any (λ earlier. eqb earlier v) verbs)) byte_at bytes _ x x_ok (λ verb verb_ok verb_kept x_ok.
     kept_then _ (λ l. ltb l d.counts.locations) byte_at verb.1 _ x x_ok (λ to to_ok to_kept x_ok.
-    let e2 : after_exits_of d (verb.0 ∷ verbs) n to.1 ≡ Ok rest = at_ok (λ (y : ℕ × List ℕ). after_exits_of d (y.0 ∷ verbs) n y.1 ≡ Ok rest) x (verb.0, to.1) (sym x_ok) e in
+    let e2 : after_exits_of d (verb.0 ∷ verbs) n to.1 ≡ Ok rest =
+    at_ok (λ (y : ℕ × List ℕ). after_exits_of d (y.0 ∷ verbs) n y.1 ≡ Ok rest) x (verb.0, to.1) (sym x_ok) e in
     let others = exits_sound_of d (verb.0 ∷ verbs) n to.1 rest e2 in
     let first : Exit = record { verb = verb.0; to = to.0 } in
     let kept_verb = and_parts (is_verb_value d.words verb.0) _ verb_kept in
@@ -129,7 +138,7 @@ few : (n : ℕ) → n < 256 → leb n 255 ≡ true
 few n lt = le-leb n 255 (omega arith)
 
 pub exits_sound : (d : Declared) → SoundRow (after_exits d) exits_at (is_exits d.words d.counts.locations)
-unfolding after_exits exits_at
+unfolding after_exits few_at
 exits_sound d bytes rest fits e =
     bind_then _ (byte_at bytes) _ rest e (λ count count_ok e.
     let small = (byte_takes bytes count fits count_ok).1 in
@@ -165,18 +174,7 @@ byte_sound rule bytes rest e =
 parameter_sound : (d : Declared) (k : ParamKind) → SoundRow (after_parameter d k) (parameter_at k) (keeps_kind d k)
 parameter_sound d kind.Absent bytes rest fits e =
     record { value = 0; reads = at_ok (λ (r : List ℕ). parameter_at kind.Absent bytes ≡ Ok (0, r)) bytes rest e refl; keeps = refl }
-parameter_sound d kind.Location bytes rest fits e = byte_sound (keeps_kind d kind.Location) bytes rest e
-parameter_sound d kind.Place bytes rest fits e = byte_sound (keeps_kind d kind.Place) bytes rest e
-parameter_sound d kind.Object bytes rest fits e = byte_sound (keeps_kind d kind.Object) bytes rest e
-parameter_sound d kind.Flag bytes rest fits e = byte_sound (keeps_kind d kind.Flag) bytes rest e
-parameter_sound d kind.Number bytes rest fits e = byte_sound (keeps_kind d kind.Number) bytes rest e
-parameter_sound d kind.Message bytes rest fits e = byte_sound (keeps_kind d kind.Message) bytes rest e
-parameter_sound d kind.System bytes rest fits e = byte_sound (keeps_kind d kind.System) bytes rest e
-parameter_sound d kind.Table bytes rest fits e = byte_sound (keeps_kind d kind.Table) bytes rest e
-parameter_sound d kind.Adverb bytes rest fits e = byte_sound (keeps_kind d kind.Adverb) bytes rest e
-parameter_sound d kind.Noun bytes rest fits e = byte_sound (keeps_kind d kind.Noun) bytes rest e
-parameter_sound d kind.Adjective bytes rest fits e = byte_sound (keeps_kind d kind.Adjective) bytes rest e
-parameter_sound d kind.Preposition bytes rest fits e = byte_sound (keeps_kind d kind.Preposition) bytes rest e
+parameter_sound d k bytes rest fits e = byte_sound (keeps_kind d k) bytes rest e
 
 code_is : (bytes : List ℕ) → code_at bytes ≡ field_kept (λ c. leb c 107) byte_at bytes
 code_is [] = refl
@@ -191,7 +189,9 @@ condact_sound d bytes rest fits e =
     let second = second_kind code.0 in
     let code_fits = (byte_takes bytes code fits code_ok).0.rest_fits in
     let a = parameter_sound d first code.1 after code_fits after_ok in
-    let b = parameter_sound d second after rest (rest_fits (parameter_at first) (parameter_image first) (keeps_kind d first) (parameter_takes first) code.1 after code_fits a) e in
+    let b = parameter_sound d second after rest
+    (rest_fits (parameter_at first) (parameter_image first) (keeps_kind d first) (parameter_takes first) code.1
+    after code_fits a) e in
     let code_read : code_at bytes ≡ Ok code = code_is bytes ∙ rw (code_ok, code_kept) refl in
     record {
       value = record { code = code.0; a = a.value; b = b.value };
@@ -200,7 +200,7 @@ condact_sound d bytes rest fits e =
     }))
 
 pub entry_sound : (d : Declared) → SoundRow (after_entry d) leading_entry (keeps_entry d)
-unfolding after_entry leading_entry
+unfolding after_entry leading_entry few_at
 entry_sound d bytes rest fits e =
     kept_then _ (λ v. is_any v || is_verb_value d.words v) byte_at bytes _ rest e (λ verb verb_ok verb_kept e.
     kept_then _ (λ n. is_any n || has_word d.words 2 n) byte_at verb.1 _ rest e (λ noun noun_ok noun_kept e.
@@ -208,8 +208,9 @@ entry_sound d bytes rest fits e =
     let verb_fits = (byte_takes bytes verb fits verb_ok).0.rest_fits in
     let noun_fits = (byte_takes verb.1 noun verb_fits noun_ok).0.rest_fits in
     let count_taken = byte_takes noun.1 count noun_fits count_ok in
-    let rows = each_sound (after_condact d) leading_condact condact_image (keeps_condact d) condact_takes (condact_sound d) count.0 count.1 rest count_taken.0.rest_fits e in
-    let len : length rows.value ≡ count.0 = (rows_take leading_condact condact_image condact_takes count.0 count.1 (rows.value, rest) count_taken.0.rest_fits rows.reads).1 in
+    let rows = each_sound (after_condact d) leading_condact condact_image (keeps_condact d) condact_takes
+    (condact_sound d) count.0 count.1 rest count_taken.0.rest_fits e in
+    let len = rows.many in
     record {
       value = record { verb = verb.0; noun = noun.0; condacts = rows.value };
       reads = rw (verb_ok, noun_ok, count_ok, rows.reads) refl;
@@ -230,11 +231,11 @@ table_placed d bytes rest fits e =
     let count_taken = number_takes bytes count fits count_ok in
     let rows = each_sound (after_entry d) leading_entry entry_image (keeps_entry d) entry_takes (entry_sound d) count.0 count.1 rest count_taken.0.rest_fits e
     in
-    let len : length rows.value ≡ count.0 = (rows_take leading_entry entry_image entry_takes count.0 count.1 (rows.value, rest) count_taken.0.rest_fits rows.reads).1 in
     record {
       value = rows.value;
       reads = rw (count_ok, rows.reads) refl;
-      keeps = and_true (leb (length rows.value) 4000) _ (ap (λ (n : ℕ). leb n 4000) len ∙ (and_parts (leb 0 count.0) (leb count.0 4000) count_kept).1) rows.keeps;
+      keeps = and_true (leb (length rows.value) 4000) _ (ap (λ (n : ℕ). leb n 4000) rows.many
+          ∙ (and_parts (leb 0 count.0) (leb count.0 4000) count_kept).1) rows.keeps;
       begin = λ total start h.
           let after : start + 2 + length count.1 ≡ total = omega (arith, h, taken_length bytes (two_bytes count.0) count.1 count_taken.0) in
           rw (count_ok, count_kept) (rows.begin total (start + 2) after);
@@ -266,7 +267,8 @@ tables_placed d (suc n) bytes rest fits e =
       reads = rw (first.reads, others.reads) refl;
       keeps = and_true (keeps_table d first.value) _ first.keeps others.keeps;
       begin = λ total start h.
-          let later = others.begin total (start + length (table_image first.value)) (omega (arith, h, taken_length bytes (table_image first.value) after taken)) in
+          let later = others.begin total (start + length (table_image first.value))
+          (omega (arith, h, taken_length bytes (table_image first.value) after taken)) in
           rw (first.begin total start h, after_ok) (ap (λ (l : List (List ℕ)). places entry_image (start + 2) first.value ∷ l) later);
     })
 
@@ -274,18 +276,7 @@ tables_placed d (suc n) bytes rest fits e =
 
 pub kind_is : (g : GameLists) (k : ParamKind) (x : ℕ) → keeps_kind (declared_by g) k x ≡ is_parameter g k x
 kind_is g kind.Absent x = refl
-kind_is g kind.Location x = refl
-kind_is g kind.Place x = refl
-kind_is g kind.Object x = refl
-kind_is g kind.Flag x = refl
-kind_is g kind.Number x = refl
-kind_is g kind.Message x = refl
-kind_is g kind.System x = refl
-kind_is g kind.Table x = refl
-kind_is g kind.Adverb x = refl
-kind_is g kind.Noun x = refl
-kind_is g kind.Adjective x = refl
-kind_is g kind.Preposition x = refl
+kind_is g _ x = refl
 
 list_all-same : {A : Type 0} (p q : A → Bool) → ((x : A) → p x ≡ q x) → (xs : List A) → list_all p xs ≡ list_all q xs
 list_all-same p q h [] = refl

@@ -1,5 +1,6 @@
 -- What is read by its rules is read without them too, and keeps them.
-use Rattle.std.proofs.Common.{◌≡◌, ℕ, zero, suc, ◌+◌, ◌-◌, ◌≤◌, ◌&&◌, Bool, true, ltb, List, [], ◌∷◌, ◌++◌, length, Result, Ok, refl, sym, ap, ◌∙◌, append_assoc, arith}
+use Rattle.std.proofs.Common.{◌≡◌, ℕ, zero, suc, ◌+◌, ◌-◌, ◌≤◌, ◌&&◌, Bool, true, ltb, List, [], ◌∷◌}
+use Rattle.std.proofs.Common.{◌++◌, length, Result, Ok, refl, sym, ap, subst, ◌∙◌, append_assoc, arith}
 use Rattle.std.specs.List.{flat_map, list_all}
 use Rattle.std.proofs.lemmas.Bool.{ltb-false, and_parts}
 use Rattle.std.proofs.lemmas.List.{length-take, length-append}
@@ -7,14 +8,15 @@ use Rattle.paw_image.specs.Reading.{◌>>=◌, Reading, bytes_at}
 use Rattle.paw_image.specs.inner.Reading.{leading_rows}
 use Rattle.paw_image.specs.Damage.{Passing, field_kept, each}
 use Rattle.paw_image.specs.inner.Places.{places, begins}
-use Rattle.paw_image.proofs.FieldLaws.{IsBytes, Takes, read_ok, at_ok, bind_then, guard_ok, kept_ok}
+use Rattle.paw_image.proofs.FieldLaws.{IsBytes, Takes, Takes-then, read_ok, at_ok, bind_then, guard_ok, kept_ok}
 use Rattle.paw_image.proofs.ListLaws.{TakesRow}
 
 pub and_true : (a b : Bool) → a ≡ true → b ≡ true → (a && b) ≡ true
 and_true a b p q = rw (p, q) refl
 
 -- what follows from a field that kept its rule
-pub kept_then : {A B : Type 0} (P : Type 0) (rule : A → Bool) (field : List ℕ → Reading A) (bytes : List ℕ) (f : A × List ℕ → Result B ℕ) (y : B) → (field_kept rule field bytes >>= f) ≡ Ok y
+pub kept_then : {A B : Type 0} (P : Type 0) (rule : A → Bool) (field : List ℕ → Reading A) (bytes : List ℕ)
+    (f : A × List ℕ → Result B ℕ) (y : B) → (field_kept rule field bytes >>= f) ≡ Ok y
     → ((x : A × List ℕ) → field bytes ≡ Ok x → rule x.0 ≡ true → f x ≡ Ok y → P) → P
 kept_then {A} P rule field bytes f y e go =
     bind_then P (field_kept rule field bytes) f y e (λ x x_ok e.
@@ -42,22 +44,31 @@ SoundRow pass row rule = (bytes rest : List ℕ) → IsBytes bytes → pass byte
 abbrev pub PassesRow : {A : Type 0} → (List ℕ → Passing) → (A → List ℕ) → (A → Bool) → Type 0
 PassesRow {A} pass image rule = (x : A) (rest : List ℕ) → rule x ≡ true → pass (image x ++ rest) ≡ Ok rest
 
-pub rest_fits : {A : Type 0} (row : List ℕ → Reading A) (image : A → List ℕ) (rule : A → Bool) → TakesRow row image → (bytes rest : List ℕ) → IsBytes bytes → Stands (row bytes) rule rest → IsBytes rest
+pub rest_fits : {A : Type 0} (row : List ℕ → Reading A) (image : A → List ℕ) (rule : A → Bool) → TakesRow row image
+    → (bytes rest : List ℕ) → IsBytes bytes → Stands (row bytes) rule rest → IsBytes rest
 rest_fits row image rule takes bytes rest fits s = (takes bytes (s.value, rest) fits s.reads).rest_fits
-
--- the same of so many rows, with where they begin and end in the last bytes of so many
-pub record Placed {A : Type 0} (pass : List ℕ → Passing) (image : A → List ℕ) (n : ℕ) (bytes : List ℕ) (reading : Reading (List A)) (rule : A → Bool) (rest : List ℕ) : Type 0 where
-  pub value : List A
-  pub reads : reading ≡ Ok (value, rest)
-  pub keeps : list_all rule value ≡ true
-  pub begin : (total start : ℕ) → start + length bytes ≡ total → begins pass total n bytes ≡ places image start value
-  pub end : (total start : ℕ) → start + length bytes ≡ total → start + length (flat_map image value) + length rest ≡ total
 
 pub taken_length : (bytes text rest : List ℕ) → Takes bytes text rest → length bytes ≡ length text + length rest
 taken_length bytes text rest t = ap (λ (l : List ℕ). length l) t.parts ∙ length-append text rest
 
-pub each_sound : {A : Type 0} (pass : List ℕ → Passing) (row : List ℕ → Reading A) (image : A → List ℕ) (rule : A → Bool) → TakesRow row image → SoundRow pass row rule
-    → (n : ℕ) (bytes rest : List ℕ) → IsBytes bytes → each pass n bytes ≡ Ok rest → Placed pass image n bytes (leading_rows row n bytes) rule rest
+-- what was taken ends where what is left begins, in the last bytes of so many
+pub taken_ends : (bytes text rest : List ℕ) (total start : ℕ) → Takes bytes text rest → start + length bytes ≡ total
+    → start + length text + length rest ≡ total
+taken_ends bytes text rest total start t h = omega (arith, h, taken_length bytes text rest t)
+
+-- so many rows keep the rule and stand there, with where they begin in the last bytes of so many
+pub record Placed {A : Type 0} (pass : List ℕ → Passing) (image : A → List ℕ) (n : ℕ) (bytes : List ℕ)
+    (reading : Reading (List A)) (rule : A → Bool) (rest : List ℕ) : Type 0 where
+  pub value : List A
+  pub reads : reading ≡ Ok (value, rest)
+  pub keeps : list_all rule value ≡ true
+  pub taken : Takes bytes (flat_map image value) rest
+  pub many : length value ≡ n
+  pub begin : (total start : ℕ) → start + length bytes ≡ total → begins pass total n bytes ≡ places image start value
+
+pub each_sound : {A : Type 0} (pass : List ℕ → Passing) (row : List ℕ → Reading A) (image : A → List ℕ)
+    (rule : A → Bool) → TakesRow row image → SoundRow pass row rule → (n : ℕ) (bytes rest : List ℕ) → IsBytes bytes
+    → each pass n bytes ≡ Ok rest → Placed pass image n bytes (leading_rows row n bytes) rule rest
 unfolding each leading_rows begins
 each_sound {A} pass row image rule takes sound zero bytes rest fits e =
     let same : bytes ≡ rest = at_ok (λ (t : List ℕ). bytes ≡ t) bytes rest e refl in
@@ -65,24 +76,26 @@ each_sound {A} pass row image rule takes sound zero bytes rest fits e =
       value = [];
       reads = ap (λ (t : List ℕ). read_ok ([], t)) same;
       keeps = refl;
+      taken = record { parts = same; rest_fits = subst IsBytes same fits };
+      many = refl;
       begin = λ total start h. refl;
-      end = λ total start h. omega (arith, h, ap (λ (l : List ℕ). length l) same);
     }
 each_sound {A} pass row image rule takes sound (suc n) bytes rest fits e =
     bind_then _ (pass bytes) _ rest e (λ after after_ok e.
     let first = sound bytes after fits after_ok in
-    let others = each_sound pass row image rule takes sound n after rest (rest_fits row image rule takes bytes after fits first) e in
-    let len = taken_length bytes (image first.value) after (takes bytes (first.value, after) fits first.reads) in
+    let first_taken = takes bytes (first.value, after) fits first.reads in
+    let others = each_sound pass row image rule takes sound n after rest first_taken.rest_fits e in
     record {
       value = first.value ∷ others.value;
       reads = rw (first.reads, others.reads) refl;
       keeps = and_true (rule first.value) _ first.keeps others.keeps;
+      taken = Takes-then (image first.value) (flat_map image others.value) first_taken others.taken;
+      many = ap suc others.many;
       begin = λ total start h.
           let at : total - length bytes ≡ start = omega (arith, h) in
-          let later = others.begin total (start + length (image first.value)) (omega (arith, h, len)) in
+          let ends = taken_ends bytes (image first.value) after total start first_taken h in
+          let later = others.begin total (start + length (image first.value)) ends in
           rw (at, after_ok) (ap (λ (l : List ℕ). start ∷ l) later);
-      end = λ total start h.
-          omega (arith, length-append (image first.value) (flat_map image others.value), others.end total (start + length (image first.value)) (omega (arith, h, len)));
     })
 
 pub each_passes : {A : Type 0} (pass : List ℕ → Passing) (image : A → List ℕ) (rule : A → Bool) → PassesRow pass image rule

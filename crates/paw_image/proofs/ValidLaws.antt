@@ -1,5 +1,5 @@
--- A valid game fits its image.
-use Rattle.std.proofs.Common.{◌≡◌, ℕ, Bool, true, leb, eqb, ◌||◌, List, [], ◌∷◌, length, arith}
+-- The rules of a valid game, part by part; and that a valid game fits its image.
+use Rattle.std.proofs.Common.{◌≡◌, ℕ, ◌≤◌, Bool, true, leb, eqb, ◌&&◌, ◌||◌, List, [], ◌∷◌, length, ◌∙◌, arith}
 use Rattle.std.specs.List.{list_all, AllByRecursion}
 use Rattle.std.proofs.lemmas.Bool.{and_parts, leb-true, eqb-true}
 use Rattle.paw_base.specs.declared.parts.Condact.{Condact}
@@ -11,7 +11,9 @@ use Rattle.paw_game.specs.declared.parts.ObjectRow.{ObjectRow}
 use Rattle.paw_game.specs.declared.parts.Exit.{Exit}
 use Rattle.paw_game.specs.declared.parts.Entry.{Entry}
 use Rattle.paw_game.specs.Game.{GameLists}
-use Rattle.paw_game.specs.Valid.{are_letters, is_word, has_word, is_verb_value, is_word_or_none, is_place, is_any, is_text, is_object, is_exits, is_parameter, is_condact, is_entry, is_table, Valid}
+use Rattle.paw_game.proofs.Faults.{rise_after, rise_after-none}
+use Rattle.paw_game.specs.Valid.{is_within, are_letters, is_word, has_word, is_verb_value, is_word_or_none, is_place, is_any}
+use Rattle.paw_game.specs.Valid.{is_text, is_object, is_exits, is_parameter, is_condact, is_entry, is_table, Valid}
 use Rattle.paw_image.specs.inner.Sizes.{FitsWord, FitsText, FitsObject, FitsExits, FitsParameter, FitsCondact, FitsEntry, FitsTable, FitsGame}
 
 -- what a test gives at each element
@@ -66,32 +68,81 @@ table_fits g es e =
     let both = and_parts (leb (length es) 4000) (list_all (is_entry g) es) e in
     record { count = omega (arith, leb-true _ _ both.0); entries = all_give (is_entry g) FitsEntry (entry_fits g) es both.1 }
 
+-- ---- the rules of a valid game, part by part ----
+
+pub record ValidParts (g : GameLists) : Type 0 where
+  pub words_few : leb (length g.words) 2000 ≡ true
+  pub words_keep : list_all is_word g.words ≡ true
+  pub words_rise : rise_after [] g.words ≡ true
+  pub system_few : leb (length g.system) 256 ≡ true
+  pub system_keep : list_all is_text g.system ≡ true
+  pub messages_few : leb (length g.messages) 256 ≡ true
+  pub messages_keep : list_all is_text g.messages ≡ true
+  pub objects_few : leb (length g.objects) 255 ≡ true
+  pub objects_keep : list_all (is_object g.words (length g.locations)) g.objects ≡ true
+  pub locations_some : leb 1 (length g.locations) ≡ true
+  pub locations_few : leb (length g.locations) 252 ≡ true
+  pub locations_keep : list_all is_text g.locations ≡ true
+  pub exits_many : length g.exits ≡ length g.locations
+  pub exits_keep : list_all (is_exits g.words (length g.locations)) g.exits ≡ true
+  pub tables_within : is_within 3 256 (length g.tables) ≡ true
+  pub tables_keep : list_all (is_table g) g.tables ≡ true
+
+-- the two parts of a rule
+few_of : (n most : ℕ) (b : Bool) → (leb n most && b) ≡ true → leb n most ≡ true
+few_of n most b h = (and_parts (leb n most) b h).0
+
+keep_of : (a b : Bool) → (a && b) ≡ true → b ≡ true
+keep_of a b h = (and_parts a b h).1
+
+pub parts_of : (g : GameLists) → Valid g → ValidParts g
+parts_of g valid =
+    let words = keep_of (leb (length g.words) 2000) _ valid.words in
+    let rise = and_parts (list_all is_word g.words) (rise_after [] g.words) (rise_after-none g.words ∙ words) in
+    let some = and_parts (leb 1 (length g.locations)) _ valid.locations in
+    let exits = and_parts (eqb (length g.exits) (length g.locations)) _ valid.exits in
+    record {
+      words_few = few_of (length g.words) 2000 _ valid.words;
+      words_keep = rise.0;
+      words_rise = rise.1;
+      system_few = few_of (length g.system) 256 _ valid.system;
+      system_keep = keep_of (leb (length g.system) 256) _ valid.system;
+      messages_few = few_of (length g.messages) 256 _ valid.messages;
+      messages_keep = keep_of (leb (length g.messages) 256) _ valid.messages;
+      objects_few = few_of (length g.objects) 255 _ valid.objects;
+      objects_keep = keep_of (leb (length g.objects) 255) _ valid.objects;
+      locations_some = some.0;
+      locations_few = few_of (length g.locations) 252 _ some.1;
+      locations_keep = keep_of (leb (length g.locations) 252) _ some.1;
+      exits_many = eqb-true (length g.exits) (length g.locations) exits.0;
+      exits_keep = exits.1;
+      tables_within = (and_parts (is_within 3 256 (length g.tables)) _ valid.tables).0;
+      tables_keep = keep_of (is_within 3 256 (length g.tables)) _ valid.tables;
+    }
+
+pub tables_few : (g : GameLists) → ValidParts g → length g.tables ≤ 256
+tables_few g v = leb-true _ _ (and_parts (leb 3 (length g.tables)) (leb (length g.tables) 256) v.tables_within).1
+
 pub valid_fits : (g : GameLists) → Valid g → FitsGame g
 valid_fits g valid =
-    let words = and_parts (leb (length g.words) 2000) _ valid.words in
-    let system = and_parts (leb (length g.system) 256) (list_all is_text g.system) valid.system in
-    let messages = and_parts (leb (length g.messages) 256) (list_all is_text g.messages) valid.messages in
-    let objects = and_parts (leb (length g.objects) 255) (list_all (is_object g.words (length g.locations)) g.objects) valid.objects in
-    let some = and_parts (leb 1 (length g.locations)) _ valid.locations in
-    let locations = and_parts (leb (length g.locations) 252) (list_all is_text g.locations) some.1 in
-    let exits = and_parts (eqb (length g.exits) (length g.locations)) (list_all (is_exits g.words (length g.locations)) g.exits) valid.exits in
-    let tables = and_parts _ (list_all (is_table g) g.tables) valid.tables in
-    let few = and_parts (leb 3 (length g.tables)) (leb (length g.tables) 256) tables.0 in
+    let v = parts_of g valid in
     record {
       counts = record {
-        words = omega (arith, leb-true _ _ words.0);
-        system = omega (arith, leb-true _ _ system.0);
-        messages = omega (arith, leb-true _ _ messages.0);
-        objects = omega (arith, leb-true _ _ objects.0);
-        locations = omega (arith, leb-true _ _ locations.0);
-        exits = eqb-true _ _ exits.0;
-        tables = omega (arith, leb-true _ _ few.1);
+        words = omega (arith, leb-true _ _ v.words_few);
+        system = omega (arith, leb-true _ _ v.system_few);
+        messages = omega (arith, leb-true _ _ v.messages_few);
+        objects = omega (arith, leb-true _ _ v.objects_few);
+        locations = omega (arith, leb-true _ _ v.locations_few);
+        exits = v.exits_many;
+        tables = omega (arith, tables_few g v);
       };
-      words = all_give is_word FitsWord word_fits g.words (and_parts (list_all is_word g.words) _ words.1).0;
-      system = all_give is_text FitsText text_fits g.system system.1;
-      messages = all_give is_text FitsText text_fits g.messages messages.1;
-      objects = all_give (is_object g.words (length g.locations)) FitsObject (object_fits g.words (length g.locations)) g.objects objects.1;
-      locations = all_give is_text FitsText text_fits g.locations locations.1;
-      exits = all_give (is_exits g.words (length g.locations)) FitsExits (exits_fit g.words (length g.locations)) g.exits exits.1;
-      tables = all_give (is_table g) FitsTable (table_fits g) g.tables tables.1;
+      words = all_give is_word FitsWord word_fits g.words v.words_keep;
+      system = all_give is_text FitsText text_fits g.system v.system_keep;
+      messages = all_give is_text FitsText text_fits g.messages v.messages_keep;
+      objects = all_give (is_object g.words (length g.locations)) FitsObject (object_fits g.words (length g.locations))
+          g.objects v.objects_keep;
+      locations = all_give is_text FitsText text_fits g.locations v.locations_keep;
+      exits = all_give (is_exits g.words (length g.locations)) FitsExits (exits_fit g.words (length g.locations))
+          g.exits v.exits_keep;
+      tables = all_give (is_table g) FitsTable (table_fits g) g.tables v.tables_keep;
     }

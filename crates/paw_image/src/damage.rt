@@ -2,7 +2,7 @@
 
 ghost use Rattle.std.specs.Prelude.{◌≡◌, ◌≤◌, ◌<◌, ◌^◌, length, IfOk, OnOk, Some, None};
 ghost use Rattle.paw_game.specs.Game.{GameLists};
-ghost use Rattle.paw_image.specs.Damage.{front, after_all, bad};
+ghost use Rattle.paw_image.specs.Damage.{after_all, bad};
 ghost use Rattle.paw_image.specs.Images.{IsImage};
 ghost use Rattle.paw_image.specs.inner.Images.{AtDamage, IfDamaged};
 ghost use Rattle.paw_image.specs.inner.Places.{IsPassed};
@@ -10,11 +10,10 @@ ghost use Rattle.paw_image.specs.inner.Reading.{Gives};
 ghost use Rattle.paw_base.specs.declared.limits.TheConstants.{IMAGE_LIMIT};
 
 use crate::fault::ReadFault;
-use crate::head::{pass_version, read_counts_kept};
+use crate::head::read_front;
 use crate::places::{Places, pass_lists};
 use crate::refusal::ImageRefusal;
 use crate::rules::Rules;
-use crate::words::read_words;
 use paw_base::parts::Counts;
 use paw_game::parts::Word;
 use std::alloc::Global;
@@ -27,17 +26,6 @@ pub struct Passed {
     pub places: Places,
 }
 
-/// Goes over mark, version, counts and words: the rules that come of them, and the bytes after them.
-#[tactic(auto, unfolding(crate::specs::Damage::front))]
-fn pass_front(alloc: Global, bytes: &[u8]) -> Result<(Rules, &[u8]), ReadFault>
-    ensures gives { Gives (λ x. (x.0, x.1.now)) result (front bytes.now) }
-{
-    let rest = pass_version(bytes)?;
-    let (counts, rest) = read_counts_kept(rest)?;
-    let (words, rest) = read_words(alloc, counts.words as usize, rest)?;
-    Ok((Rules::new(counts, words), rest))
-}
-
 /// Goes over all fields of an image: what they say of places, and the bytes after the last.
 #[tactic(auto, unfolding(crate::specs::Damage::after_all))]
 fn pass_all(alloc: Global, bytes: &[u8]) -> Result<(Passed, &[u8]), ReadFault>
@@ -45,7 +33,8 @@ fn pass_all(alloc: Global, bytes: &[u8]) -> Result<(Passed, &[u8]), ReadFault>
     ensures gives { Gives (λ x. x.1.now) result (after_all bytes.now) }
     ensures passed { IfOk result (λ x. IsPassed bytes.now x.0.counts x.0.words.items x.0.places) }
 {
-    let (rules, rest) = pass_front(alloc, bytes)?;
+    let ((counts, words), rest) = read_front(alloc, bytes)?;
+    let rules = Rules::new(counts, words);
     let (places, rest) = pass_lists(alloc, &rules, bytes, rest)?;
     let (counts, words) = rules.into_parts();
     let passed = Passed {

@@ -10,17 +10,13 @@ ghost use Rattle.paw_image.specs.inner.Sizes.{FitsExit, FitsExits};
 use crate::fault::ReadFault;
 use crate::fields::{fault_at, read_byte};
 use crate::in_place::InPlace;
-use crate::rows::{Row, length_of_rows, read_rows, write_rows};
+use crate::rows::{ReadRow, Row, length_of_few, read_few, write_few};
 use crate::rules::Rules;
 use paw_game::parts::{Exit, Exits};
 use std::alloc::{AllocError, Global};
 
-impl Row for Exit {
+impl ReadRow for Exit {
     ghost reading = { leading_exit };
-
-    ghost spelling = { exit_image };
-
-    ghost fits = { FitsExit };
 
     #[tactic(auto, unfolding(crate::specs::inner::Reading::leading_exit))]
     fn read(_: Global, bytes: &[u8]) -> Result<(Exit, &[u8]), ReadFault> {
@@ -28,6 +24,12 @@ impl Row for Exit {
         let (to, rest) = read_byte(rest)?;
         Ok((Exit { verb, to }, rest))
     }
+}
+
+impl Row for Exit {
+    ghost spelling = { exit_image };
+
+    ghost fits = { FitsExit };
 
     fn length(&self) -> usize {
         2
@@ -38,27 +40,26 @@ impl Row for Exit {
     }
 }
 
-impl Row for Exits {
+impl ReadRow for Exits {
     ghost reading = { exits_at };
 
+    fn read(alloc: Global, bytes: &[u8]) -> Result<(Exits, &[u8]), ReadFault> {
+        let (rows, rest) = read_few(alloc, bytes)?;
+        Ok((Exits { rows }, rest))
+    }
+}
+
+impl Row for Exits {
     ghost spelling = { exits_image };
 
     ghost fits = { FitsExits };
 
-    #[tactic(auto, unfolding(crate::specs::inner::Reading::exits_at))]
-    fn read(alloc: Global, bytes: &[u8]) -> Result<(Exits, &[u8]), ReadFault> {
-        let (count, rest) = read_byte(bytes)?;
-        let (rows, rest) = read_rows(alloc, count as usize, rest)?;
-        Ok((Exits { rows }, rest))
-    }
-
     fn length(&self) -> usize {
-        1 + length_of_rows(&self.rows)
+        length_of_few(&self.rows)
     }
 
     fn write(&self, out: &mut Vec<u8>) -> Result<(), AllocError> {
-        out.push(self.rows.len() as u8)?;
-        write_rows(&self.rows, out)
+        write_few(&self.rows, out)
     }
 }
 

@@ -10,7 +10,7 @@ ghost use Rattle.paw_image.specs.inner.Sizes.{FitsObject};
 use crate::fault::ReadFault;
 use crate::fields::{fault_at, read_byte};
 use crate::in_place::InPlace;
-use crate::rows::Row;
+use crate::rows::{ReadRow, Row};
 use crate::rules::Rules;
 use crate::texts::read_text;
 use paw_base::parts::ObjectFacts;
@@ -67,12 +67,8 @@ fn last_byte(facts: ObjectFacts) -> u8
     facts.weight + container + wearable
 }
 
-impl Row for ObjectRow {
+impl ReadRow for ObjectRow {
     ghost reading = { object_at };
-
-    ghost spelling = { object_image };
-
-    ghost fits = { FitsObject };
 
     #[tactic(auto, unfolding(crate::specs::inner::Reading::object_at))]
     fn read(alloc: Global, bytes: &[u8]) -> Result<(ObjectRow, &[u8]), ReadFault> {
@@ -80,6 +76,12 @@ impl Row for ObjectRow {
         let (facts, rest) = read_facts(rest)?;
         Ok((ObjectRow { text, facts }, rest))
     }
+}
+
+impl Row for ObjectRow {
+    ghost spelling = { object_image };
+
+    ghost fits = { FitsObject };
 
     fn length(&self) -> usize {
         self.text.length() + 4

@@ -3,77 +3,32 @@
 ghost use Rattle.std.specs.Prelude.{◌≡◌, ◌<◌, ◌^◌, ◌++◌, length, OnOk};
 ghost use Rattle.paw_game.specs.Image.{head_image, image};
 ghost use Rattle.paw_image.specs.inner.Sizes.{FitsCounts, FitsGame};
-ghost use Rattle.paw_image.specs.inner.Reading.{Gives, mark_at, version_at, counts_at, lists_at, all_of};
+ghost use Rattle.paw_image.specs.Damage.{Declared};
+ghost use Rattle.paw_image.specs.inner.Reading.{Gives, lists_at, all_of};
 
 use crate::fault::ReadFault;
-use crate::fields::{read_array, read_byte, read_number, write_number};
+use crate::fields::{fault_at, write_number};
+use crate::head::{MARK, VERSION, read_front};
 use crate::rows::{length_of_rows, read_rows, write_rows};
 use paw_base::parts::Counts;
-use paw_game::parts::GameParts;
+use paw_game::parts::{GameParts, Word};
 use std::alloc::{AllocError, Global};
-
-/// The first bytes of every image.
-pub const MARK: [u8; 4] = *b"PAWI";
-
-/// The version of an image.
-pub const VERSION: u8 = 1;
 
 /// The bytes of the mark, the version and the six counts.
 const HEAD_LENGTH: usize = 17;
 
-/// The bytes after the mark.
-#[tactic(auto, unfolding(crate::specs::inner::Reading::mark_at))]
-fn read_mark(bytes: &[u8]) -> Result<&[u8], ReadFault>
-    ensures gives { Gives (λ x. (tt, x.now)) result (mark_at bytes.now) }
-{
-    let (mark, rest) = read_array(bytes)?;
-    if mark != MARK {
-        return Err(ReadFault::Damaged { left: bytes.len() });
-    }
-    Ok(rest)
-}
-
-/// The bytes after the version.
-#[tactic(auto, unfolding(crate::specs::inner::Reading::version_at))]
-fn read_version(bytes: &[u8]) -> Result<&[u8], ReadFault>
-    ensures gives { Gives (λ x. (tt, x.now)) result (version_at bytes.now) }
-{
-    let (version, rest) = read_byte(bytes)?;
-    if version != VERSION {
-        return Err(ReadFault::Damaged { left: bytes.len() });
-    }
-    Ok(rest)
-}
-
-/// How many rows each list has.
-#[tactic(auto, unfolding(crate::specs::inner::Reading::counts_at))]
-fn read_counts(bytes: &[u8]) -> Result<(Counts, &[u8]), ReadFault>
-    ensures gives { Gives (λ x. (x.0, x.1.now)) result (counts_at bytes.now) }
-{
-    let (words, rest) = read_number(bytes)?;
-    let (system, rest) = read_number(rest)?;
-    let (messages, rest) = read_number(rest)?;
-    let (objects, rest) = read_number(rest)?;
-    let (locations, rest) = read_number(rest)?;
-    let (tables, rest) = read_number(rest)?;
-    let counts = Counts {
-        words,
-        system,
-        messages,
-        objects,
-        locations,
-        tables,
-    };
-    Ok((counts, rest))
-}
-
-/// The lists, with so many rows.
+/// The lists after these words, with so many rows.
 #[tactic(auto, unfolding(crate::specs::inner::Reading::lists_at))]
-fn read_lists(alloc: Global, counts: Counts, bytes: &[u8]) -> Result<(GameParts, &[u8]), ReadFault>
-    ensures gives { Gives (λ x. (x.0, x.1.now)) result (lists_at counts bytes.now) }
+fn read_lists(
+    alloc: Global,
+    counts: Counts,
+    words: Vec<Word>,
+    bytes: &[u8],
+) -> Result<(GameParts, &[u8]), ReadFault>
+    ensures gives { let front : Declared = record { counts = counts; words = words.items } in
+        Gives (λ x. (x.0, x.1.now)) result (lists_at front bytes.now) }
 {
-    let (words, rest) = read_rows(alloc, counts.words as usize, bytes)?;
-    let (system, rest) = read_rows(alloc, counts.system as usize, rest)?;
+    let (system, rest) = read_rows(alloc, counts.system as usize, bytes)?;
     let (messages, rest) = read_rows(alloc, counts.messages as usize, rest)?;
     let (objects, rest) = read_rows(alloc, counts.objects as usize, rest)?;
     let (locations, rest) = read_rows(alloc, counts.locations as usize, rest)?;
@@ -96,12 +51,10 @@ fn read_lists(alloc: Global, counts: Counts, bytes: &[u8]) -> Result<(GameParts,
 pub fn read_parts(alloc: Global, bytes: &[u8]) -> Result<GameParts, ReadFault>
     ensures gives { Gives (λ x. x) result (all_of bytes.now) }
 {
-    let rest = read_mark(bytes)?;
-    let rest = read_version(rest)?;
-    let (counts, rest) = read_counts(rest)?;
-    let (parts, rest) = read_lists(alloc, counts, rest)?;
+    let ((counts, words), rest) = read_front(alloc, bytes)?;
+    let (parts, rest) = read_lists(alloc, counts, words, rest)?;
     if !rest.is_empty() {
-        return Err(ReadFault::Damaged { left: rest.len() });
+        return Err(fault_at(rest));
     }
     Ok(parts)
 }

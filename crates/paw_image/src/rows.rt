@@ -1,30 +1,22 @@
 // The rows of an image, one after another.
 
-ghost use Rattle.std.specs.Prelude.{◌≡◌, ◌<◌, ◌^◌, ◌++◌, length, OnOk, flat_map};
+ghost use Rattle.std.specs.Prelude.{◌≡◌, ◌<◌, ◌^◌, ◌∷◌, ◌++◌, length, OnOk, flat_map};
 ghost use Rattle.std.specs.List.{AllByRecursion};
-ghost use Rattle.paw_image.specs.inner.Reading.{Gives, leading_rows};
+ghost use Rattle.paw_image.specs.inner.Reading.{Gives, few_at, leading_rows};
 
 use crate::fault::ReadFault;
+use crate::fields::read_byte;
 use std::alloc::{AllocError, Global};
 
-/// What an image has a list of: a row is spelled by some bytes, and stands at the front of them.
-pub trait Row: Drop {
+/// What an image has a list of: a row is spelled by some bytes.
+pub trait Row {
     ghost use Rattle.std.specs.Prelude.{◌≡◌, ◌<◌, ◌^◌, ◌++◌, List, ℕ, length, OnOk};
-    ghost use Rattle.paw_image.specs.Reading.{Reading};
-    ghost use Rattle.paw_image.specs.inner.Reading.{Gives};
-
-    /// The row at the front of these bytes, and the bytes after it.
-    ghost reading: { List ℕ → Reading Self };
 
     /// The bytes that spell a row.
     ghost spelling: { Self → List ℕ };
 
     /// What a row must be to be spelled: no number in it is too large for its bytes.
     ghost fits: { Self → Type 0 };
-
-    /// Reads the row at the front of the bytes, and gives the bytes after it.
-    fn read(alloc: Global, bytes: &[u8]) -> Result<(Self, &[u8]), ReadFault>
-        ensures gives { Gives (λ x. (x.0, x.1.now)) result (reading bytes.now) };
 
     /// How many bytes spell the row.
     fn length(&self) -> usize
@@ -38,8 +30,22 @@ pub trait Row: Drop {
         ensures writes { OnOk result (out.new.items ≡ out.old.items ++ spelling self.now) };
 }
 
+/// What an image has a list of, read where it stands at the front of bytes.
+pub trait ReadRow: Drop {
+    ghost use Rattle.std.specs.Prelude.{List, ℕ};
+    ghost use Rattle.paw_image.specs.Reading.{Reading};
+    ghost use Rattle.paw_image.specs.inner.Reading.{Gives};
+
+    /// The row at the front of these bytes, and the bytes after it.
+    ghost reading: { List ℕ → Reading Self };
+
+    /// Reads the row at the front of the bytes, and gives the bytes after it.
+    fn read(alloc: Global, bytes: &[u8]) -> Result<(Self, &[u8]), ReadFault>
+        ensures gives { Gives (λ x. (x.0, x.1.now)) result (reading bytes.now) };
+}
+
 /// Reads the first `count` rows.
-pub fn read_rows<R: Row>(
+pub fn read_rows<R: ReadRow>(
     alloc: Global,
     count: usize,
     bytes: &[u8],
@@ -54,6 +60,15 @@ pub fn read_rows<R: Row>(
         rest = after;
     }
     Ok((rows, rest))
+}
+
+/// Reads rows behind a count of one byte.
+#[tactic(auto, unfolding(crate::specs::inner::Reading::few_at))]
+pub fn read_few<R: ReadRow>(alloc: Global, bytes: &[u8]) -> Result<(Vec<R>, &[u8]), ReadFault>
+    ensures gives { Gives (λ x. (x.0.items, x.1.now)) result (few_at R.reading bytes.now) }
+{
+    let (count, rest) = read_byte(bytes)?;
+    read_rows(alloc, count as usize, rest)
 }
 
 /// How many bytes spell the rows.
@@ -78,4 +93,23 @@ pub fn write_rows<R: Row>(rows: &[R], out: &mut Vec<u8>) -> Result<(), AllocErro
         row.write(out)?;
     }
     Ok(())
+}
+
+/// How many bytes spell the rows and a count of one byte before them.
+pub fn length_of_few<R: Row>(rows: &[R]) -> usize
+    requires fits { AllByRecursion R.fits rows.now }
+    requires short { length (length rows.now ∷ flat_map R.spelling rows.now) < 2 ^ 32 }
+    ensures value { result ≡ length (length rows.now ∷ flat_map R.spelling rows.now) }
+{
+    1 + length_of_rows(rows)
+}
+
+/// Writes the rows at the end, behind a count of one byte.
+pub fn write_few<R: Row>(rows: &[R], out: &mut Vec<u8>) -> Result<(), AllocError>
+    requires few { length rows.now < 256 }
+    requires fits { AllByRecursion R.fits rows.now }
+    ensures writes { OnOk result (out.new.items ≡ out.old.items ++ (length rows.now ∷ flat_map R.spelling rows.now)) }
+{
+    out.push(rows.len() as u8)?;
+    write_rows(rows, out)
 }

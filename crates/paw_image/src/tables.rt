@@ -11,7 +11,9 @@ ghost use Rattle.paw_base.specs.inner.Condacts.{condact_row_of};
 use crate::fault::ReadFault;
 use crate::fields::{fault_at, read_byte, read_number, write_number};
 use crate::in_place::InPlace;
-use crate::rows::{Row, length_of_rows, read_rows, write_rows};
+use crate::rows::{
+    ReadRow, Row, length_of_few, length_of_rows, read_few, read_rows, write_few, write_rows,
+};
 use crate::rules::Rules;
 use paw_base::parts::Condact;
 use paw_base::rows::{CondactRow, ParamKind, condact_row};
@@ -65,16 +67,18 @@ pub fn read_condact(bytes: &[u8]) -> Result<(Condact, &[u8]), ReadFault>
     Ok((Condact { code, a, b }, rest))
 }
 
-impl Row for Condact {
+impl ReadRow for Condact {
     ghost reading = { leading_condact };
-
-    ghost spelling = { condact_image };
-
-    ghost fits = { FitsCondact };
 
     fn read(_: Global, bytes: &[u8]) -> Result<(Condact, &[u8]), ReadFault> {
         read_condact(bytes)
     }
+}
+
+impl Row for Condact {
+    ghost spelling = { condact_image };
+
+    ghost fits = { FitsCondact };
 
     fn length(&self) -> usize {
         let row = condact_row(self.code).unwrap();
@@ -89,44 +93,41 @@ impl Row for Condact {
     }
 }
 
-impl Row for Entry {
+impl ReadRow for Entry {
     ghost reading = { leading_entry };
-
-    ghost spelling = { entry_image };
-
-    ghost fits = { FitsEntry };
 
     #[tactic(auto, unfolding(crate::specs::inner::Reading::leading_entry))]
     fn read(alloc: Global, bytes: &[u8]) -> Result<(Entry, &[u8]), ReadFault> {
         let (verb, rest) = read_byte(bytes)?;
         let (noun, rest) = read_byte(rest)?;
-        let (count, rest) = read_byte(rest)?;
-        let (rows, rest) = read_rows(alloc, count as usize, rest)?;
+        let (rows, rest) = read_few(alloc, rest)?;
+        let condacts = Condacts { rows };
         let entry = Entry {
             verb,
             noun,
-            condacts: Condacts { rows },
+            condacts,
         };
         Ok((entry, rest))
     }
+}
+
+impl Row for Entry {
+    ghost spelling = { entry_image };
+
+    ghost fits = { FitsEntry };
 
     fn length(&self) -> usize {
-        3 + length_of_rows(&self.condacts.rows)
+        2 + length_of_few(&self.condacts.rows)
     }
 
     fn write(&self, out: &mut Vec<u8>) -> Result<(), AllocError> {
-        let condacts = &self.condacts;
-        out.extend_from_slice(&[self.verb, self.noun, condacts.rows.len() as u8])?;
-        write_rows(&condacts.rows, out)
+        out.extend_from_slice(&[self.verb, self.noun])?;
+        write_few(&self.condacts.rows, out)
     }
 }
 
-impl Row for Table {
+impl ReadRow for Table {
     ghost reading = { leading_table };
-
-    ghost spelling = { table_image };
-
-    ghost fits = { FitsTable };
 
     #[tactic(auto, unfolding(crate::specs::inner::Reading::leading_table))]
     fn read(alloc: Global, bytes: &[u8]) -> Result<(Table, &[u8]), ReadFault> {
@@ -134,6 +135,12 @@ impl Row for Table {
         let (entries, rest) = read_rows(alloc, count as usize, rest)?;
         Ok((Table { entries }, rest))
     }
+}
+
+impl Row for Table {
+    ghost spelling = { table_image };
+
+    ghost fits = { FitsTable };
 
     fn length(&self) -> usize {
         2 + length_of_rows(&self.entries)

@@ -9,7 +9,7 @@ ghost use Rattle.paw_image.specs.inner.Sizes.{FitsText};
 use crate::fault::ReadFault;
 use crate::fields::{fault_at, read_bytes, read_number, read_within, write_number};
 use crate::in_place::InPlace;
-use crate::rows::Row;
+use crate::rows::{ReadRow, Row};
 use crate::rules::Rules;
 use paw_base::limits::TEXT_LIMIT;
 use paw_game::parts::Text;
@@ -26,18 +26,20 @@ pub fn read_text(bytes: &[u8]) -> Result<(&[u8], &[u8]), ReadFault>
     read_bytes(length as usize, rest)
 }
 
-impl Row for Text {
+impl ReadRow for Text {
     ghost reading = { text_at };
-
-    ghost spelling = { text_image };
-
-    ghost fits = { FitsText };
 
     fn read(alloc: Global, bytes: &[u8]) -> Result<(Text, &[u8]), ReadFault> {
         let (text, rest) = read_text(bytes)?;
         let bytes = Vec::from_slice(alloc, text)?;
         Ok((Text { bytes }, rest))
     }
+}
+
+impl Row for Text {
+    ghost spelling = { text_image };
+
+    ghost fits = { FitsText };
 
     fn length(&self) -> usize {
         2 + self.bytes.len()

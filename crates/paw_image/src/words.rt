@@ -1,9 +1,9 @@
-// Words, as rows of an image.
+// The words of an image.
 
 ghost use Rattle.paw_game.specs.Image.{word_image};
 ghost use Rattle.std.specs.Prelude.{◌≡◌, [], codes};
 ghost use Rattle.paw_image.specs.Damage.{word_kept, words_above};
-ghost use Rattle.paw_image.specs.inner.Reading.{Gives, leading_word};
+ghost use Rattle.paw_image.specs.inner.Reading.{Gives};
 ghost use Rattle.paw_image.specs.inner.Words.{last_letters};
 ghost use Rattle.paw_image.specs.inner.Sizes.{FitsWord};
 
@@ -16,27 +16,12 @@ use paw_game::words::are_letters;
 use std::alloc::{AllocError, Global};
 
 impl Row for Word {
-    ghost reading = { leading_word };
-
     ghost spelling = { word_image };
 
     ghost fits = { FitsWord };
 
-    #[tactic(auto, unfolding(crate::specs::inner::Reading::leading_word))]
-    fn read(_: Global, bytes: &[u8]) -> Result<(Word, &[u8]), ReadFault> {
-        let (letters, rest) = read_array(bytes)?;
-        let (value, rest) = read_byte(rest)?;
-        let (class, rest) = read_byte(rest)?;
-        let word = Word {
-            letters,
-            value,
-            class,
-        };
-        Ok((word, rest))
-    }
-
     fn length(&self) -> usize {
-        7
+        self.letters.len() + 2
     }
 
     fn write(&self, out: &mut Vec<u8>) -> Result<(), AllocError> {

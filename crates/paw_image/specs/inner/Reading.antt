@@ -1,22 +1,20 @@
 -- Reading an image from left to right: words that contracts between crates and proofs use beside those of
 -- specs/Reading.antt.
 use Rattle.std.specs.Prelude.{◌≡◌, ℕ, zero, suc, not, List, [], ◌∷◌, length, Result}
-use Rattle.std.specs.Prelude.{Ok, Err, nat_le, ◌==◌, codes, bit_and, if◌then◌else◌}
-use Rattle.std.specs.Str.{bytes_eq}
+use Rattle.std.specs.Prelude.{Ok, Err, nat_le, ◌==◌, bit_and, if◌then◌else◌}
 use Rattle.paw_base.specs.declared.codes.TheConstants.{LAST_CODE}
 use Rattle.paw_base.specs.declared.parts.Condact.{Condact}
-use Rattle.paw_base.specs.declared.parts.Counts.{Counts}
 use Rattle.paw_base.specs.declared.parts.ObjectFacts.{ObjectFacts}
 use Rattle.paw_base.specs.declared.rows.ParamKind.{ParamKind}
 use Rattle.paw_base.specs.declared.rows.ParamKind.TheVariants as kind
 use Rattle.paw_base.specs.Condacts.{first_kind, second_kind}
-use Rattle.paw_game.specs.declared.parts.Word.{Word}
 use Rattle.paw_game.specs.declared.parts.ObjectRow.{ObjectRow}
 use Rattle.paw_game.specs.declared.parts.Exit.{Exit}
 use Rattle.paw_game.specs.declared.parts.Entry.{Entry}
 use Rattle.paw_game.specs.Game.{GameLists}
 use Rattle.paw_image.specs.declared.fault.ReadFault.{ReadFault}
 use Rattle.paw_image.specs.declared.fault.ReadFault.TheVariants as fault
+use Rattle.paw_image.specs.Damage.{Declared, front}
 use Rattle.paw_image.specs.Reading.{◌>>=◌, Reading, byte_at, bytes_at, number_at}
 
 -- ---- what a function of the code gives ----
@@ -46,15 +44,13 @@ leading_rows row (suc n) bytes = do
   others ← leading_rows row n first.1
   Ok (first.0 ∷ others.0, others.1)
 
--- ---- rows ----
+-- a count of one byte, and as many rows
+unfoldable pub few_at : {A : Type 0} → (List ℕ → Reading A) → List ℕ → Reading (List A)
+few_at row bytes = do
+  count ← byte_at bytes
+  leading_rows row count.0 count.1
 
--- five letters, value, class
-unfoldable pub leading_word : List ℕ → Reading Word
-leading_word bytes = do
-  letters ← bytes_at 5 bytes
-  value ← byte_at letters.1
-  class ← byte_at value.1
-  Ok (record { letters = letters.0; value = value.0; class = class.0 }, class.1)
+-- ---- rows ----
 
 -- a length of two bytes, and the text
 unfoldable pub text_at : List ℕ → Reading (List ℕ)
@@ -97,10 +93,8 @@ leading_exit bytes = do
   Ok (record { verb = verb.0; to = to.0 }, to.1)
 
 -- how many exits, and each
-unfoldable pub exits_at : List ℕ → Reading (List Exit)
-exits_at bytes = do
-  count ← byte_at bytes
-  leading_rows leading_exit count.0 count.1
+abbrev pub exits_at : List ℕ → Reading (List Exit)
+exits_at bytes = few_at leading_exit bytes
 
 -- ---- tables ----
 
@@ -127,8 +121,7 @@ unfoldable pub leading_entry : List ℕ → Reading Entry
 leading_entry bytes = do
   verb ← byte_at bytes
   noun ← byte_at verb.1
-  count ← byte_at noun.1
-  condacts ← leading_rows leading_condact count.0 count.1
+  condacts ← few_at leading_condact noun.1
   Ok (record { verb = verb.0; noun = noun.0; condacts = condacts.0 }, condacts.1)
 
 -- how many entries, and each
@@ -139,52 +132,18 @@ leading_table bytes = do
 
 -- ---- the whole image ----
 
--- the mark PAWI
-unfoldable pub mark_at : List ℕ → Reading (Unit {0})
-mark_at bytes = do
-  mark ← bytes_at 4 bytes
-  if bytes_eq mark.0 (codes "PAWI") then Ok (tt, mark.1) else Err (length bytes)
-
--- version 1
-unfoldable pub version_at : List ℕ → Reading (Unit {0})
-version_at bytes = do
-  version ← byte_at bytes
-  if version.0 == 1 then Ok (tt, version.1) else Err (length bytes)
-
--- how many words, system messages, messages, objects, locations and tables follow
-unfoldable pub counts_at : List ℕ → Reading Counts
-counts_at bytes = do
-  words ← number_at bytes
-  system ← number_at words.1
-  messages ← number_at system.1
-  objects ← number_at messages.1
-  locations ← number_at objects.1
-  tables ← number_at locations.1
+-- the lists after the words, with so many rows; each location has its exits
+unfoldable pub lists_at : Declared → List ℕ → Reading GameLists
+lists_at d bytes = do
+  system ← leading_rows text_at d.counts.system bytes
+  messages ← leading_rows text_at d.counts.messages system.1
+  objects ← leading_rows object_at d.counts.objects messages.1
+  locations ← leading_rows text_at d.counts.locations objects.1
+  exits ← leading_rows exits_at d.counts.locations locations.1
+  tables ← leading_rows leading_table d.counts.tables exits.1
   Ok (
     record {
-      words = words.0;
-      system = system.0;
-      messages = messages.0;
-      objects = objects.0;
-      locations = locations.0;
-      tables = tables.0;
-    },
-    tables.1,
-  )
-
--- the lists, with so many rows; each location has its exits
-unfoldable pub lists_at : Counts → List ℕ → Reading GameLists
-lists_at counts bytes = do
-  words ← leading_rows leading_word counts.words bytes
-  system ← leading_rows text_at counts.system words.1
-  messages ← leading_rows text_at counts.messages system.1
-  objects ← leading_rows object_at counts.objects messages.1
-  locations ← leading_rows text_at counts.locations objects.1
-  exits ← leading_rows exits_at counts.locations locations.1
-  tables ← leading_rows leading_table counts.tables exits.1
-  Ok (
-    record {
-      words = words.0;
+      words = d.words;
       system = system.0;
       messages = messages.0;
       objects = objects.0;
@@ -198,8 +157,6 @@ lists_at counts bytes = do
 -- all of the bytes, with none after the lists
 unfoldable pub all_of : List ℕ → Result GameLists ℕ
 all_of bytes = do
-  mark ← mark_at bytes
-  version ← version_at mark.1
-  counts ← counts_at version.1
-  lists ← lists_at counts.0 counts.1
+  d ← front bytes
+  lists ← lists_at d.0 d.1
   if length lists.1 == 0 then Ok lists.0 else Err (length lists.1)

@@ -8,7 +8,8 @@ use Rattle.paw_image.proofs.at_place.past_condacts.Goals as goal
 
 pub loop-preserved : goal.loop-preserved
 loop-preserved c =
-    each_goes_on past_condact c.args.count c.loop.counter c.loop.rest.now _ c.in_ok-after.after.now c.loop-test.true (rw c.in_ok-after.ensures.gives refl) c.loop.invariant
+    each_goes_on past_condact c.args.count c.loop.counter c.loop.rest.now _ c.in_ok-after.after.now c.loop-test.true
+    (rw c.in_ok-after.ensures.gives refl) c.loop.invariant
 
 pub returns-in_err-after-clause-gives : goal.returns-in_err-after-clause-gives
 returns-in_err-after-clause-gives c =

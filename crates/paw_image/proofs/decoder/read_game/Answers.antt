@@ -4,10 +4,13 @@ use Rattle.paw_image.proofs.decoder.read_game.Goals as goal
 
 pub returns-in-Ok-new-clause-found : goal.returns-in-Ok-new-clause-found
 returns-in-Ok-new-clause-found c =
-    read_is_image c.args.bytes.now c.in-Ok.parts c.in-Ok-new.game (λ i. omega (arith, c.type_inv.bytes i)) c.requires.short c.in-Ok.ensures.gives c.in-Ok-new.ensures.game c.in-Ok-new.ensures.valid
+    read_is_image c.args.bytes.now c.in-Ok.parts c.in-Ok-new.game (λ i. omega (arith, c.type_inv.bytes i))
+    c.requires.short c.in-Ok.ensures.gives c.in-Ok-new.ensures.game c.in-Ok-new.ensures.valid
 
 pub returns-in-Err-clause-none : goal.returns-in-Err-clause-none
 returns-in-Err-clause-none c = λ _. invalid_is_none c.args.bytes.now c.in-Ok.parts c.in-Ok.ensures.gives c.in-Err.ensures.refused
 
 pub returns-in-Err-Damaged-clause-none : goal.returns-in-Err-Damaged-clause-none
-returns-in-Err-Damaged-clause-none c = λ _. fault_is_none c.args.bytes.now c.in-Err-Damaged.field-0-0 (rw c.in-Err-Damaged.field-0-is at c.in-Err-Damaged.ensures.gives)
+returns-in-Err-Damaged-clause-none c =
+    λ _. fault_is_none c.args.bytes.now c.in-Err-Damaged.field-0-0
+    (rw c.in-Err-Damaged.field-0-is at c.in-Err-Damaged.ensures.gives)

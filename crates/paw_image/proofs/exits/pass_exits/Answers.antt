@@ -11,7 +11,12 @@ pub returns-in_err-verb : goal.returns-in_err-verb
 returns-in_err-verb c =
     let p = err_from_is_err_and c.from_residual.result c.from_residual.ensures.1 in
     let verbs = c.loop.invariant.0 in
-    record { gives = rw (p.1, p.2) (exits_end c.args.rules.now verbs c.args.count c.loop.counter c.loop.rest.now _ c.in_err-verb.field-0.0 c.loop-test.true (c.in_err-verb.ensures.gives verbs c.loop.invariant.1) c.loop.invariant.2) }
+    record {
+      gives =
+          rw (p.1, p.2)
+          (exits_end c.args.rules.now verbs c.args.count c.loop.counter c.loop.rest.now _ c.in_err-verb.field-0.0
+          c.loop-test.true (c.in_err-verb.ensures.gives verbs c.loop.invariant.1) c.loop.invariant.2);
+    }
 
 pub loop-preserved : goal.loop-preserved
 loop-preserved c =
@@ -19,7 +24,8 @@ loop-preserved c =
     let verb = c.in_ok-verb.verb in (
       verb ∷ verbs,
       one_more c.loop.marks verbs verb c.loop.invariant.1,
-      exits_go_on c.args.rules.now verbs c.args.count c.loop.counter c.loop.rest.now _ verb c.in_ok-verb.after.now c.loop-test.true (c.in_ok-verb.ensures.gives verbs c.loop.invariant.1) c.loop.invariant.2,
+      exits_go_on c.args.rules.now verbs c.args.count c.loop.counter c.loop.rest.now _ verb c.in_ok-verb.after.now
+          c.loop-test.true (c.in_ok-verb.ensures.gives verbs c.loop.invariant.1) c.loop.invariant.2,
     )
 
 pub returns : goal.returns

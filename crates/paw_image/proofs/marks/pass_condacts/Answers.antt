@@ -25,7 +25,8 @@ overflow_cast-saturating_sub c =
     let d = c.args.rules.now in
     let n = suc c.loop.counter * 8 in
     let within : n ≤ 255 = omega (arith, c.loop-test.true, c.saturating_sub-eights.ensures, c.ranges.count.fits) in
-    let gone = each_more (after_condact d) (c.loop.counter * 8) 8 n c.args.bytes.now c.loop.rest.now (omega arith) c.loop.invariant.left ∙ c.in_ok-rest.ensures.gives in
+    let gone = each_more (after_condact d) (c.loop.counter * 8) 8 n c.args.bytes.now c.loop.rest.now
+    (omega arith) c.loop.invariant.left ∙ c.in_ok-rest.ensures.gives in
     let small = mark_small d n c.args.bytes.now c.in_ok-rest.rest.now (λ i. omega (arith, c.type_inv.bytes i)) gone within in
     omega (arith, small, c.saturating_sub.ensures)
 

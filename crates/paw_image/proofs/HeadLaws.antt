@@ -1,0 +1,243 @@
+-- The front of an image: what is read of it stands there as its image, and keeps its rules; and the front of the image
+-- of a valid game is read as what the game declares.
+use Rattle.std.proofs.Common.{◌≡◌, ℕ, zero, suc, ◌+◌, ◌&&◌, true, leb, eqb, List, [], ◌∷◌, ◌++◌, length, Result, Ok}
+use Rattle.std.proofs.Common.{refl, ap, subst, ◌∙◌, append_assoc, arith, lit<}
+use Rattle.std.specs.Prelude.{codes}
+use Rattle.std.specs.List.{flat_map, list_all}
+use Rattle.std.specs.Str.{bytes_eq}
+use Rattle.std.specs.Ordering.{is_lt, nat_cmp}
+use Rattle.std.specs.Cmp.Lexicographic.{slice_cmp}
+use Rattle.std.proofs.lemmas.Bool.{and_parts, eqb-true, le-leb}
+use Rattle.std.proofs.lemmas.List.{length-append}
+use Rattle.std.proofs.lemmas.Slice.Eq.{bytes_eq-Decides}
+use Rattle.paw_base.specs.declared.parts.Counts.{Counts}
+use Rattle.paw_game.specs.declared.parts.Word.{Word}
+use Rattle.paw_game.specs.Game.{GameLists}
+use Rattle.paw_game.specs.inner.Tables.{counts_of}
+use Rattle.paw_game.specs.Valid.{is_within, are_letters, is_word}
+use Rattle.paw_game.specs.Image.{two_bytes, word_image}
+use Rattle.paw_game.proofs.Faults.{rise_after}
+use Rattle.paw_image.specs.Reading.{◌>>=◌, byte_at, bytes_at, number_at}
+use Rattle.paw_image.specs.Damage.{Declared, number_kept, after_version, counts_kept, word_kept, words_above, front}
+use Rattle.paw_image.proofs.FieldLaws.{IsBytes, Takes, Takes-then, at_ok, bind_then, byte_takes, bytes_take, bytes_again}
+use Rattle.paw_image.proofs.FieldLaws.{number_takes}
+use Rattle.paw_image.proofs.PassRows.{within_passes}
+use Rattle.paw_image.proofs.SoundRows.{declared_by}
+use Rattle.paw_image.proofs.Stands.{and_true, kept_then}
+use Rattle.paw_image.proofs.ValidLaws.{letters_fit, ValidParts}
+
+-- ---- mark and version ----
+
+version_takes : (bytes rest : List ℕ) → IsBytes bytes → after_version bytes ≡ Ok rest
+    → Takes bytes (codes "PAWI" ++ 1 ∷ []) rest
+unfolding after_version
+version_takes bytes rest fits e =
+    kept_then _ (λ m. bytes_eq m (codes "PAWI")) (bytes_at 4) bytes _ rest e (λ mark mark_ok mark_kept e.
+    kept_then _ (λ v. eqb v 1) byte_at mark.1 _ rest e (λ version version_ok version_kept e.
+    let mark_taken = (bytes_take 4 bytes mark fits mark_ok).0 in
+    let version_taken = (byte_takes mark.1 version mark_taken.rest_fits version_ok).0 in
+    let is_mark = (bytes_eq-Decides mark.0 (codes "PAWI")).0 mark_kept in
+    let is_one = eqb-true version.0 1 version_kept in
+    at_ok (λ (r : List ℕ). Takes bytes (codes "PAWI" ++ 1 ∷ []) r) version.1 rest e
+    (Takes-then (codes "PAWI") (1 ∷ []) (subst (λ (m : List ℕ). Takes bytes m mark.1) is_mark mark_taken)
+    (subst (λ (v : ℕ). Takes mark.1 (v ∷ []) version.1) is_one version_taken))))
+
+version_passes : (rest : List ℕ) → after_version (codes "PAWI" ++ (1 ∷ rest)) ≡ Ok rest
+unfolding after_version
+version_passes rest = rw (bytes_again 4 (codes "PAWI") (1 ∷ rest) refl) refl
+
+-- ---- counts ----
+
+-- the six counts
+abbrev pub counts_image : Counts → List ℕ
+counts_image c =
+    two_bytes c.words ++ two_bytes c.system ++ two_bytes c.messages ++ two_bytes c.objects ++ two_bytes c.locations
+    ++ two_bytes c.tables
+
+-- the counts keep their limits
+pub record AreFew (c : Counts) : Type 0 where
+  pub words : is_within 0 2000 c.words ≡ true
+  pub system : is_within 0 256 c.system ≡ true
+  pub messages : is_within 0 256 c.messages ≡ true
+  pub objects : is_within 0 255 c.objects ≡ true
+  pub locations : is_within 1 252 c.locations ≡ true
+  pub tables : is_within 3 256 c.tables ≡ true
+
+-- what follows from a number that kept its limits
+within_then : {B : Type 0} (P : Type 0) (least most : ℕ) (bytes : List ℕ) (f : ℕ × List ℕ → Result B ℕ) (y : B)
+    → IsBytes bytes → (number_kept least most bytes >>= f) ≡ Ok y
+    → ((x : ℕ × List ℕ) → Takes bytes (two_bytes x.0) x.1 → is_within least most x.0 ≡ true → f x ≡ Ok y → P) → P
+within_then P least most bytes f y fits e go =
+    kept_then P (is_within least most) number_at bytes f y e
+    (λ x x_ok x_kept e. go x (number_takes bytes x fits x_ok).0 x_kept e)
+
+counts_take : (bytes : List ℕ) (x : Counts × List ℕ) → IsBytes bytes → counts_kept bytes ≡ Ok x
+    → Takes bytes (counts_image x.0) x.1 × AreFew x.0
+unfolding counts_kept
+counts_take bytes x fits e =
+    within_then _ 0 2000 bytes _ x fits e (λ words words_taken words_kept e.
+    within_then _ 0 256 words.1 _ x words_taken.rest_fits e (λ system system_taken system_kept e.
+    within_then _ 0 256 system.1 _ x system_taken.rest_fits e (λ messages messages_taken messages_kept e.
+    within_then _ 0 255 messages.1 _ x messages_taken.rest_fits e (λ objects objects_taken objects_kept e.
+    within_then _ 1 252 objects.1 _ x objects_taken.rest_fits e (λ locations locations_taken locations_kept e.
+    within_then _ 3 256 locations.1 _ x locations_taken.rest_fits e (λ tables tables_taken tables_kept e.
+    let four = Takes-then _ _ objects_taken (Takes-then _ _ locations_taken tables_taken) in
+    let taken = Takes-then _ _ words_taken (Takes-then _ _ system_taken (Takes-then _ _ messages_taken four)) in
+    at_ok (λ (y : Counts × List ℕ). Takes bytes (counts_image y.0) y.1 × AreFew y.0) _ x e (
+      taken,
+      record {
+        words = words_kept;
+        system = system_kept;
+        messages = messages_kept;
+        objects = objects_kept;
+        locations = locations_kept;
+        tables = tables_kept;
+      },
+    )))))))
+
+counts_pass : (g : GameLists) (rest : List ℕ) → AreFew (counts_of g)
+    → counts_kept (counts_image (counts_of g) ++ rest) ≡ Ok (counts_of g, rest)
+unfolding counts_kept
+counts_pass g rest h =
+    let after_locations = two_bytes (length g.tables) ++ rest in
+    let after_objects = two_bytes (length g.locations) ++ after_locations in
+    let after_messages = two_bytes (length g.objects) ++ after_objects in
+    let after_system = two_bytes (length g.messages) ++ after_messages in
+    let after_words = two_bytes (length g.system) ++ after_system in
+    rw (
+      within_passes 0 2000 (length g.words) after_words (lit< tt) h.words,
+      within_passes 0 256 (length g.system) after_system (lit< tt) h.system,
+      within_passes 0 256 (length g.messages) after_messages (lit< tt) h.messages,
+      within_passes 0 255 (length g.objects) after_objects (lit< tt) h.objects,
+      within_passes 1 252 (length g.locations) after_locations (lit< tt) h.locations,
+      within_passes 3 256 (length g.tables) rest (lit< tt) h.tables,
+    ) refl
+
+few_counts : (g : GameLists) → ValidParts g → AreFew (counts_of g)
+few_counts g v = record {
+  words = and_true (leb 0 (length g.words)) _ (le-leb 0 _ (omega arith)) v.words_few;
+  system = and_true (leb 0 (length g.system)) _ (le-leb 0 _ (omega arith)) v.system_few;
+  messages = and_true (leb 0 (length g.messages)) _ (le-leb 0 _ (omega arith)) v.messages_few;
+  objects = and_true (leb 0 (length g.objects)) _ (le-leb 0 _ (omega arith)) v.objects_few;
+  locations = and_true (leb 1 (length g.locations)) _ v.locations_some v.locations_few;
+  tables = v.tables_within;
+}
+
+-- ---- words ----
+
+record IsNext (before bytes : List ℕ) (x : Word × List ℕ) : Type 0 where
+  taken : Takes bytes (word_image x.0) x.1
+  keeps : is_word x.0 ≡ true
+  above : is_lt (slice_cmp nat_cmp before x.0.letters) ≡ true
+
+word_takes : (before bytes : List ℕ) (x : Word × List ℕ) → IsBytes bytes → word_kept before bytes ≡ Ok x
+    → IsNext before bytes x
+unfolding word_kept
+word_takes before bytes x fits e =
+    kept_then _ (λ l. are_letters l && is_lt (slice_cmp nat_cmp before l)) (bytes_at 5) bytes _ x e
+    (λ letters letters_ok letters_kept e.
+    kept_then _ (is_within 2 254) byte_at letters.1 _ x e (λ value value_ok value_kept e.
+    kept_then _ (λ c. leb c 6) byte_at value.1 _ x e (λ class class_ok class_kept e.
+    let both = and_parts (are_letters letters.0) _ letters_kept in
+    let letters_taken = (bytes_take 5 bytes letters fits letters_ok).0 in
+    let value_taken = (byte_takes letters.1 value letters_taken.rest_fits value_ok).0 in
+    let class_taken = (byte_takes value.1 class value_taken.rest_fits class_ok).0 in
+    at_ok (λ (y : Word × List ℕ). IsNext before bytes y) _ x e (record {
+      taken = Takes-then letters.0 (value.0 ∷ class.0 ∷ []) letters_taken
+          (Takes-then (value.0 ∷ []) (class.0 ∷ []) value_taken class_taken);
+      keeps = rw (both.0, value_kept, class_kept) refl;
+      above = both.1;
+    }))))
+
+record AreNext (before : List ℕ) (n : ℕ) (bytes : List ℕ) (x : List Word × List ℕ) : Type 0 where
+  taken : Takes bytes (flat_map word_image x.0) x.1
+  many : length x.0 ≡ n
+  keep : list_all is_word x.0 ≡ true
+  rise : rise_after before x.0 ≡ true
+
+words_take : (before : List ℕ) (n : ℕ) (bytes : List ℕ) (x : List Word × List ℕ) → IsBytes bytes
+    → words_above before n bytes ≡ Ok x → AreNext before n bytes x
+unfolding words_above rise_after
+words_take before zero bytes x fits e =
+    at_ok (λ (y : List Word × List ℕ). AreNext before 0 bytes y) ([], bytes) x e
+    (record { taken = record { parts = refl; rest_fits = fits }; many = refl; keep = refl; rise = refl })
+words_take before (suc n) bytes x fits e =
+    bind_then _ (word_kept before bytes) _ x e (λ first first_ok e.
+    bind_then _ (words_above first.0.letters n first.1) _ x e (λ others others_ok e.
+    let w = word_takes before bytes first fits first_ok in
+    let ws = words_take first.0.letters n first.1 others w.taken.rest_fits others_ok in
+    at_ok (λ (y : List Word × List ℕ). AreNext before (suc n) bytes y) _ x e (record {
+      taken = Takes-then (word_image first.0) (flat_map word_image others.0) w.taken ws.taken;
+      many = ap suc ws.many;
+      keep = rw (w.keeps, ws.keep) refl;
+      rise = rw (w.above, ws.rise) refl;
+    })))
+
+word_passes : (before : List ℕ) (w : Word) (rest : List ℕ) → is_word w ≡ true
+    → is_lt (slice_cmp nat_cmp before w.letters) ≡ true → word_kept before (word_image w ++ rest) ≡ Ok (w, rest)
+unfolding word_kept
+word_passes before w rest h above =
+    let letters = and_parts (are_letters w.letters) _ h in
+    let value = and_parts (is_within 2 254 w.value) (leb w.class 6) letters.1 in
+    let regrouped : word_image w ++ rest ≡ w.letters ++ (w.value ∷ w.class ∷ rest) =
+    append_assoc w.letters (w.value ∷ w.class ∷ []) rest in
+    let again = bytes_again 5 w.letters (w.value ∷ w.class ∷ rest) (letters_fit w.letters letters.0) in
+    ap (word_kept before) regrouped ∙ rw (again, letters.0, above, value.0, value.1) refl
+
+words_pass : (before : List ℕ) (ws : List Word) (rest : List ℕ) → list_all is_word ws ≡ true
+    → rise_after before ws ≡ true → words_above before (length ws) (flat_map word_image ws ++ rest) ≡ Ok (ws, rest)
+unfolding words_above rise_after
+words_pass before [] rest h rise = refl
+words_pass before (w ∷ ws) rest h rise =
+    let both = and_parts (is_word w) (list_all is_word ws) h in
+    let up = and_parts (is_lt (slice_cmp nat_cmp before w.letters)) (rise_after w.letters ws) rise in
+    rw (
+      append_assoc (word_image w) (flat_map word_image ws) rest,
+      word_passes before w (flat_map word_image ws ++ rest) both.0 up.0,
+      words_pass w.letters ws rest both.1 up.1,
+    ) refl
+
+-- ---- the front ----
+
+-- mark, version, counts and words
+abbrev pub front_image : Declared → List ℕ
+front_image d = codes "PAWI" ++ (1 ∷ (counts_image d.counts ++ flat_map word_image d.words))
+
+pub front_length : (d : Declared) → length (front_image d) ≡ 17 + length (flat_map word_image d.words)
+front_length d = omega (arith, length-append (counts_image d.counts) (flat_map word_image d.words))
+
+pub record Fronted (bytes : List ℕ) (x : Declared × List ℕ) : Type 0 where
+  pub taken : Takes bytes (front_image x.0) x.1
+  pub few : AreFew x.0.counts
+  pub many : length x.0.words ≡ x.0.counts.words
+  pub keep : list_all is_word x.0.words ≡ true
+  pub rise : rise_after [] x.0.words ≡ true
+
+pub front_takes : (bytes : List ℕ) (x : Declared × List ℕ) → IsBytes bytes → front bytes ≡ Ok x → Fronted bytes x
+unfolding front
+front_takes bytes x fits e =
+    bind_then _ (after_version bytes) _ x e (λ head head_ok e.
+    bind_then _ (counts_kept head) _ x e (λ counts counts_ok e.
+    bind_then _ (words_above [] counts.0.words counts.1) _ x e (λ words words_ok e.
+    let version = version_takes bytes head fits head_ok in
+    let six = counts_take head counts version.rest_fits counts_ok in
+    let ws = words_take [] counts.0.words counts.1 words six.0.rest_fits words_ok in
+    let after_version_ = Takes-then (counts_image counts.0) (flat_map word_image words.0) six.0 ws.taken in
+    at_ok (λ (y : Declared × List ℕ). Fronted bytes y) _ x e (record {
+      taken = Takes-then (codes "PAWI" ++ 1 ∷ []) _ version after_version_;
+      few = six.1;
+      many = ws.many;
+      keep = ws.keep;
+      rise = ws.rise;
+    }))))
+
+pub front_passes : (g : GameLists) (rest : List ℕ) → ValidParts g
+    → front (front_image (declared_by g) ++ rest) ≡ Ok (declared_by g, rest)
+unfolding front
+front_passes g rest v =
+    let after_counts = flat_map word_image g.words ++ rest in
+    rw (
+      version_passes (counts_image (counts_of g) ++ after_counts),
+      counts_pass g after_counts (few_counts g v),
+      words_pass [] g.words rest v.words_keep v.words_rise,
+    ) refl
