@@ -1,5 +1,7 @@
 -- Lines without a fault begin as many tables as were counted.
-use Rattle.std.proofs.Common.{◌≡◌, ℕ, suc, ◌+◌, ◌-◌, ◌*◌, Bool, true, false, cond, not, ◌&&◌, ◌||◌, eqb, List, [], ◌∷◌, ◌++◌, length, replicate, drop, Option, Some, None, Ok, Err, refl, sym, ap, ◌∙◌, arith}
+use Rattle.std.proofs.Common.{◌≡◌, ℕ, suc, ◌+◌, ◌-◌, ◌*◌, Bool, true, false, cond, not, ◌&&◌}
+use Rattle.std.proofs.Common.{◌||◌, eqb, List, [], ◌∷◌, ◌++◌, length, replicate, drop, Option}
+use Rattle.std.proofs.Common.{Some, None, Ok, Err, refl, sym, ap, ◌∙◌, arith}
 use Rattle.std.specs.Prelude.{nat_lt, codes}
 use Rattle.std.specs.Str.{str_to_ascii_lowercase, bytes_eq}
 use Rattle.std.specs.Char.{to_ascii_lowercase}
@@ -17,11 +19,14 @@ use Rattle.paw_grammar.specs.Tokens.{◌>>=◌, token, ended, is_named}
 use Rattle.paw_grammar.specs.Numbers.{number, number_from, is_digit}
 use Rattle.paw_grammar.specs.GrammarState.{Spelt, last_or, with_last}
 use Rattle.paw_grammar.specs.GrammarTexts.{texts_of, with_texts, text_limit, text_item, text_line, is_in_text}
-use Rattle.paw_grammar.specs.GrammarHeads.{next_section, header_name, section_opened, plain_header, con_header, lacks_rows, table_header, pro_header, header_of, header, new_text, new_exits, item_in, is_letters, slash_line}
+use Rattle.paw_grammar.specs.GrammarHeads.{next_section, header_name, section_opened, plain_header, con_header}
+use Rattle.paw_grammar.specs.GrammarHeads.{lacks_rows, table_header, pro_header, header_of, header, new_text}
+use Rattle.paw_grammar.specs.GrammarHeads.{new_exits, item_in, is_letters, slash_line}
 use Rattle.paw_grammar.specs.GrammarRows.{voc_row, exit_row, con_row, object_row, bounds_of, entry_row, more_row, pro_row, row_in}
 use Rattle.paw_grammar.specs.Spells.{begins_with_slash, begins_with_blank, is_text_line, text_added, tokens_added, step, is_pro_token, begins_table}
 use Rattle.paw_source.specs.inner.Laws.{after_lines, CountsTables}
 use Rattle.paw_source.proofs.Faultless.{passes, holds, bound, ok_is, at_end}
+use Rattle.paw_source.proofs.Headers.{table_opened}
 
 -- how many tables are spelled
 abbrev tables : Spelt → ℕ
@@ -70,7 +75,8 @@ item_same section.Pro n d e h = absurd cc
 -- a token has one name
 not_pro : (t name : List ℕ) → is_named t name ≡ true → is_named name (codes "/PRO") ≡ false → is_named t (codes "/PRO") ≡ false
 not_pro t name f other =
-    ap (λ (x : List ℕ). bytes_eq x (str_to_ascii_lowercase (codes "/PRO"))) ((bytes_eq-Decides (str_to_ascii_lowercase t) (str_to_ascii_lowercase name)).0 f) ∙ other
+    ap (λ (x : List ℕ). bytes_eq x (str_to_ascii_lowercase (codes "/PRO")))
+    ((bytes_eq-Decides (str_to_ascii_lowercase t) (str_to_ascii_lowercase name)).0 f) ∙ other
 
 digit_no_letter : (c : ℕ) → is_digit c ≡ true → eqb (to_ascii_lowercase c) 112 ≡ false
 digit_no_letter c h = grind (arith, nat_tests)
@@ -100,13 +106,7 @@ con_same d e ts h =
 
 table_more : (d e : Spelt) (ts : List (List ℕ)) (o : Option ℕ) → table_header d ts o ≡ Ok e → tables e ≡ tables d + 1
 table_more d e ts None h = absurd cc
-table_more d e ts (Some n) h =
-    let made : Spelt = record (section_opened section.Pro d) { tables = d.tables ++ [] ∷ [] } in
-    let a = passes (nat_lt 255 n) kind.Range (cond (not (eqb n (length d.tables))) (Err kind.Section) (ended ts >>= λ _. cond (lacks_rows d) (Err kind.Missing) (Ok made))) e h in
-    let b = passes (not (eqb n (length d.tables))) kind.Section (ended ts >>= λ _. cond (lacks_rows d) (Err kind.Missing) (Ok made)) e a.1 in
-    let c = at_end ts (cond (lacks_rows d) (Err kind.Missing) (Ok made)) e b.1 in
-    let f = passes (lacks_rows d) kind.Missing (Ok made) e c in
-    ap tables (sym (ok_is made e f.1)) ∙ length-append d.tables ([] ∷ [])
+table_more d e ts (Some n) h = ap tables (sym (table_opened n d e ts h).is) ∙ length-append d.tables ([] ∷ [])
 
 pro_more : (d e : Spelt) (ts : List (List ℕ)) → pro_header d ts ≡ Ok e → tables e ≡ tables d + 1
 pro_more d e ts h =
@@ -121,7 +121,9 @@ no_more : (d e : Spelt) (b : Bool) → b ≡ false → tables e ≡ tables d →
 no_more d e true h same = absurd cc
 no_more d e false h same = omega (arith, same)
 
-header_counts : (s : Section) (d e : Spelt) (t : List ℕ) (ts : List (List ℕ)) → is_named t (header_name (next_section s)) ≡ true → header_of (next_section s) d ts ≡ Ok e → tables e ≡ tables d + begun (t ∷ ts)
+header_counts : (s : Section) (d e : Spelt) (t : List ℕ) (ts : List (List ℕ))
+    → is_named t (header_name (next_section s)) ≡ true → header_of (next_section s) d ts ≡ Ok e
+    → tables e ≡ tables d + begun (t ∷ ts)
 header_counts section.Before d e t ts f h = no_more d e (is_named t (codes "/PRO")) (not_pro t (codes "/VOC") f refl) (plain_same section.Voc d e ts h)
 header_counts section.Voc d e t ts f h = no_more d e (is_named t (codes "/PRO")) (not_pro t (codes "/STX") f refl) (plain_same section.Stx d e ts h)
 header_counts section.Stx d e t ts f h = no_more d e (is_named t (codes "/PRO")) (not_pro t (codes "/MTX") f refl) (plain_same section.Mtx d e ts h)
@@ -132,7 +134,8 @@ header_counts section.Con d e t ts f h = no_more d e (is_named t (codes "/PRO"))
 header_counts section.Obj d e t ts f h = rw f (pro_more d e ts h)
 header_counts section.Pro d e t ts f h = rw f (pro_more d e ts h)
 
-slash_counts : (d e : Spelt) (t : List ℕ) (o : Option ℕ) (ts : List (List ℕ)) → number (drop 1 t) ≡ o → slash_line d t o ts ≡ Ok e → tables e ≡ tables d + begun (t ∷ ts)
+slash_counts : (d e : Spelt) (t : List ℕ) (o : Option ℕ) (ts : List (List ℕ)) → number (drop 1 t) ≡ o
+    → slash_line d t o ts ≡ Ok e → tables e ≡ tables d + begun (t ∷ ts)
 slash_counts d e t (Some n) ts o h =
     no_more d e (is_named t (codes "/PRO")) (number_not_pro t n o) (item_same d.section n d e (at_end ts (item_in d.section d n) e h))
 slash_counts d e t None ts o h =
@@ -144,13 +147,18 @@ slash_counts d e t None ts o h =
 
 con_row_same : (d e : Spelt) (ts : List (List ℕ)) → con_row d ts ≡ Ok e → tables e ≡ tables d
 con_row_same d e ts h =
-    let a = passes (eqb (length d.exits) 0) kind.Section (exit_row d.words (length d.locations) (last_or [] d.exits) ts >>= λ xs. Ok (record d { exits = with_last xs d.exits })) e h in
+    let a = passes (eqb (length d.exits) 0) kind.Section
+    (exit_row d.words (length d.locations) (last_or [] d.exits) ts >>= λ xs.
+    Ok (record d { exits = with_last xs d.exits })) e h in
     let b = bound (exit_row d.words (length d.locations) (last_or [] d.exits) ts) (λ xs. Ok (record d { exits = with_last xs d.exits })) e a.1 in
     ap tables (sym (ok_is (record d { exits = with_last b.0 d.exits }) e b.2))
 
 pro_row_same : (p : ℕ) (d e : Spelt) (more : Bool) (ts : List (List ℕ)) → pro_row p d more ts ≡ Ok e → tables e ≡ tables d
 pro_row_same p d e more ts h =
-    let b = bound (cond more (more_row (bounds_of p d) d.words (last_or [] d.tables) ts) (entry_row (bounds_of p d) d.words (last_or [] d.tables) ts)) (λ es. Ok (record d { tables = with_last es d.tables })) e h in
+    let b = bound
+    (cond more (more_row (bounds_of p d) d.words (last_or [] d.tables) ts)
+    (entry_row (bounds_of p d) d.words (last_or [] d.tables) ts))
+    (λ es. Ok (record d { tables = with_last es d.tables })) e h in
     ap tables (sym (ok_is (record d { tables = with_last b.0 d.tables }) e b.2)) ∙ length-set d.tables (length d.tables - 1) b.0
 
 row_same : (p : ℕ) (s : Section) (d e : Spelt) (more : Bool) (ts : List (List ℕ)) → row_in s p d more ts ≡ Ok e → tables e ≡ tables d
@@ -170,7 +178,8 @@ row_same p section.Pro d e more ts h = pro_row_same p d e more ts h
 
 -- ---- a line
 
-tokens_count : (p : ℕ) (d e : Spelt) (slash blank : Bool) (ts : List (List ℕ)) → tokens_added p d slash blank ts ≡ Ok e → tables e ≡ tables d + cond (slash && is_pro_token ts) 1 0
+tokens_count : (p : ℕ) (d e : Spelt) (slash blank : Bool) (ts : List (List ℕ))
+    → tokens_added p d slash blank ts ≡ Ok e → tables e ≡ tables d + cond (slash && is_pro_token ts) 1 0
 tokens_count p d e true blank [] h = let same = ap tables (ok_is d e h) in omega (arith, same)
 tokens_count p d e false blank [] h = let same = ap tables (ok_is d e h) in omega (arith, same)
 tokens_count p d e true blank (t ∷ ts) h = slash_counts d e t (number (drop 1 t)) ts refl h
@@ -190,10 +199,18 @@ no_slash_no_table l a h =
 pub step_counts : (p : ℕ) (d e : Spelt) (l : List ℕ) → step p d l ≡ Ok e → length e.tables ≡ length d.tables + cond (begins_table l) 1 0
 unfolding step
 step_counts p d e l h =
-    elim (is_comment l) as (λ b. is_comment l ≡ b → cond b (Ok d) (cond (has_forbidden_byte (is_text_line d l) l) (Err kind.Text) (cond (is_text_line d l) (text_added d l) (tokens_added p d (begins_with_slash l) (begins_with_blank l) (tokens_of l)))) ≡ Ok e → tables e ≡ tables d + cond (begins_table l) 1 0) [
+    elim (is_comment l) as (λ b. is_comment l ≡ b
+    → cond b (Ok d)
+    (cond (has_forbidden_byte (is_text_line d l) l) (Err kind.Text)
+    (cond (is_text_line d l) (text_added d l)
+    (tokens_added p d (begins_with_slash l) (begins_with_blank l) (tokens_of l)))) ≡ Ok e
+    → tables e ≡ tables d + cond (begins_table l) 1 0) [
       | true ↦ λ c f. no_more d e (begins_table l) (comment_no_table l c) (ap tables (sym (ok_is d e f)))
       | false ↦ λ c f.
-          elim (is_text_line d l) as (λ b. is_text_line d l ≡ b → cond (has_forbidden_byte b l) (Err kind.Text) (cond b (text_added d l) (tokens_added p d (begins_with_slash l) (begins_with_blank l) (tokens_of l))) ≡ Ok e → tables e ≡ tables d + cond (begins_table l) 1 0) [
+          elim (is_text_line d l) as (λ b. is_text_line d l ≡ b
+          → cond (has_forbidden_byte b l) (Err kind.Text)
+          (cond b (text_added d l) (tokens_added p d (begins_with_slash l) (begins_with_blank l) (tokens_of l)))
+          ≡ Ok e → tables e ≡ tables d + cond (begins_table l) 1 0) [
             | true ↦ λ t g.
                 let a = passes (has_forbidden_byte true l) kind.Text (text_added d l) e g in
                 no_more d e (begins_table l) (no_slash_no_table l (is_in_text d) t) (text_same d e l a.1)

@@ -1,5 +1,7 @@
 -- What the lines spell keeps the rules of a game, line by line.
-use Rattle.std.proofs.Common.{◌≡◌, ℕ, zero, suc, ◌+◌, ◌-◌, ◌<◌, ◌≤◌, Bool, true, false, cond, not, ◌&&◌, ◌||◌, eqb, ltb, List, [], ◌∷◌, ◌++◌, length, replicate, drop, Option, Some, None, Result, Ok, Err, refl, sym, ap, subst, ◌∙◌, arith}
+use Rattle.std.proofs.Common.{◌≡◌, ℕ, zero, suc, ◌+◌, ◌-◌, ◌<◌, ◌≤◌, Bool, true, false, cond, not, ◌&&◌}
+use Rattle.std.proofs.Common.{◌||◌, eqb, ltb, List, [], ◌∷◌, ◌++◌, length, replicate, drop, Option}
+use Rattle.std.proofs.Common.{Some, None, Result, Ok, Err, refl, sym, ap, subst, ◌∙◌, arith}
 use Rattle.std.specs.Prelude.{nat_lt}
 use Rattle.std.specs.List.{list_all}
 use Rattle.std.proofs.lemmas.Bool.{eqb-false}
@@ -8,6 +10,7 @@ use Rattle.std.proofs.lemmas.List.{length-append, length-set, length-replicate}
 use Rattle.std.proofs.lemmas.List.Folds.{list_all-append}
 use Rattle.paw_base.specs.declared.fault.SourceKind.{SourceKind}
 use Rattle.paw_base.specs.declared.fault.SourceKind.TheVariants as kind
+use Rattle.paw_base.specs.declared.parts.ObjectFacts.{ObjectFacts}
 use Rattle.paw_game.specs.declared.parts.Word.{Word}
 use Rattle.paw_game.specs.declared.parts.Exit.{Exit}
 use Rattle.paw_game.specs.declared.parts.Entry.{Entry}
@@ -21,10 +24,13 @@ use Rattle.paw_grammar.specs.Tokens.{◌>>=◌, token, ended, is_named}
 use Rattle.paw_grammar.specs.Numbers.{number}
 use Rattle.paw_grammar.specs.GrammarState.{Spelt, last_or, with_last}
 use Rattle.paw_grammar.specs.GrammarTexts.{texts_of, with_texts, text_limit, text_item, text_line, is_in_text}
-use Rattle.paw_grammar.specs.GrammarHeads.{next_section, header_name, section_opened, plain_header, con_header, lacks_rows, table_header, pro_header, header_of, header, new_text, new_exits, item_in, is_letters, slash_line}
+use Rattle.paw_grammar.specs.GrammarHeads.{next_section, header_name, section_opened, plain_header, con_header}
+use Rattle.paw_grammar.specs.GrammarHeads.{lacks_rows, table_header, pro_header, header_of, header, new_text}
+use Rattle.paw_grammar.specs.GrammarHeads.{new_exits, item_in, is_letters, slash_line}
 use Rattle.paw_grammar.specs.GrammarRows.{voc_row, exit_row, con_row, object_row, obj_row, bounds_of, entry_row, more_row, pro_row, row_in}
 use Rattle.paw_grammar.specs.Spells.{begins_with_slash, begins_with_blank, is_text_line, text_added, tokens_added, step}
 use Rattle.paw_source.proofs.Faultless.{passes, holds, bound, ok_is, at_end}
+use Rattle.paw_source.proofs.Headers.{with_table, table_opened}
 use Rattle.paw_source.proofs.TextLaws.{all_set, all_get, all_pushed, text_item_ok, text_line_ok}
 use Rattle.paw_source.proofs.RowLaws.{Has, voc_row_ok, exit_row_ok, object_row_ok, entry_row_ok, more_row_ok}
 
@@ -35,23 +41,35 @@ pub record TextsKept (limit : ℕ) (ts : List (List ℕ)) : Type 0 where
   pub few : length ts ≤ limit
 
 -- no section of rows was reached
-pub record NoRows (d : Spelt) : Type 0 where
-  pub exits : d.exits ≡ []
-  pub facts : d.facts ≡ []
-  pub tables : d.tables ≡ []
+pub record AreNone (es : List (List Exit)) (fs : List ObjectFacts) (ts : List (List Entry)) : Type 0 where
+  pub exits : es ≡ []
+  pub facts : fs ≡ []
+  pub tables : ts ≡ []
 
-pub record AtExits (d : Spelt) : Type 0 where
-  pub facts : d.facts ≡ []
-  pub tables : d.tables ≡ []
-  pub locations : 1 ≤ length d.locations
+abbrev pub NoRows : Spelt → Type 0
+NoRows d = AreNone d.exits d.facts d.tables
 
-pub record AtObjects (d : Spelt) : Type 0 where
-  pub tables : d.tables ≡ []
-  pub locations : 1 ≤ length d.locations
+pub record BeforeObjects (ls : List (List ℕ)) (fs : List ObjectFacts) (ts : List (List Entry)) : Type 0 where
+  pub facts : fs ≡ []
+  pub tables : ts ≡ []
+  pub locations : 1 ≤ length ls
 
-pub record AtTables (d : Spelt) : Type 0 where
-  pub locations : 1 ≤ length d.locations
-  pub rows : length d.names ≤ length d.facts
+abbrev pub AtExits : Spelt → Type 0
+AtExits d = BeforeObjects d.locations d.facts d.tables
+
+pub record BeforeTables (ls : List (List ℕ)) (ts : List (List Entry)) : Type 0 where
+  pub tables : ts ≡ []
+  pub locations : 1 ≤ length ls
+
+abbrev pub AtObjects : Spelt → Type 0
+AtObjects d = BeforeTables d.locations d.tables
+
+pub record WithRows (ns ls : List (List ℕ)) (fs : List ObjectFacts) : Type 0 where
+  pub locations : 1 ≤ length ls
+  pub rows : length ns ≤ length fs
+
+abbrev pub AtTables : Spelt → Type 0
+AtTables d = WithRows d.names d.locations d.facts
 
 -- which lists have rows, by the section that is open
 abbrev pub InOrder : Section → Spelt → Type 0
@@ -65,12 +83,26 @@ InOrder section.Con d = AtExits d
 InOrder section.Obj d = AtObjects d
 InOrder section.Pro d = AtTables d
 
+-- from the section that is open to its name, and back
+at_section : (s : Section) (d : Spelt) → d.section ≡ s → InOrder d.section d → InOrder s d
+at_section s d here h = subst (λ (t : Section). InOrder t d) here h
+
+from_section : (s : Section) (d : Spelt) → d.section ≡ s → InOrder s d → InOrder d.section d
+from_section s d here h = subst (λ (t : Section). InOrder t d) (sym here) h
+
+-- words and texts have rules of their own
+pub record HeadsKept (ws : List Word) (ss ms ns ls : List (List ℕ)) : Type 0 where
+  pub words : words_kept ws ≡ true
+  pub system : TextsKept 256 ss
+  pub messages : TextsKept 256 ms
+  pub names : TextsKept 255 ns
+  pub locations : TextsKept 252 ls
+
+abbrev pub Heads : Spelt → Type 0
+Heads d = HeadsKept d.words d.system d.messages d.names d.locations
+
 pub record Keeps (p : ℕ) (d : Spelt) : Type 0 where
-  pub words : words_kept d.words ≡ true
-  pub system : TextsKept 256 d.system
-  pub messages : TextsKept 256 d.messages
-  pub names : TextsKept 255 d.names
-  pub locations : TextsKept 252 d.locations
+  pub heads : Heads d
   pub exits : list_all (is_exits d.words (length d.locations)) d.exits ≡ true
   pub few_exits : length d.exits ≤ length d.locations
   pub facts : list_all (are_facts d.words (length d.locations)) d.facts ≡ true
@@ -79,25 +111,13 @@ pub record Keeps (p : ℕ) (d : Spelt) : Type 0 where
   pub few_tables : length d.tables ≤ 256
   pub order : InOrder d.section d
 
--- where there are no rows yet, words and texts have rules of their own
-pub record Heads (d : Spelt) : Type 0 where
-  pub words : words_kept d.words ≡ true
-  pub system : TextsKept 256 d.system
-  pub messages : TextsKept 256 d.messages
-  pub names : TextsKept 255 d.names
-  pub locations : TextsKept 252 d.locations
-
 no_rows : (p : ℕ) (d : Spelt) → Heads d → NoRows d → InOrder d.section d → Keeps p d
 no_rows p d heads none order =
     let no_exits = ap length none.exits in
     let no_facts = ap length none.facts in
     let no_tables = ap length none.tables in
     record {
-      words = heads.words;
-      system = heads.system;
-      messages = heads.messages;
-      names = heads.names;
-      locations = heads.locations;
+      heads = heads;
       exits = ap (list_all (is_exits d.words (length d.locations))) none.exits;
       few_exits = omega (arith, no_exits);
       facts = ap (list_all (are_facts d.words (length d.locations))) none.facts;
@@ -109,29 +129,30 @@ no_rows p d heads none order =
 
 -- ---- texts
 
-texts_keep : (p : ℕ) (s : Section) (begun : Bool) (ts : List (List ℕ)) (d : Spelt) → d.section ≡ s → Keeps p d → TextsKept (text_limit s) ts → Keeps p (with_texts s begun ts d)
+texts_keep : (p : ℕ) (s : Section) (begun : Bool) (ts : List (List ℕ)) (d : Spelt) → d.section ≡ s → Keeps p d
+    → TextsKept (text_limit s) ts → Keeps p (with_texts s begun ts d)
 texts_keep p section.Before begun ts d e k new = k
 texts_keep p section.Voc begun ts d e k new = k
 texts_keep p section.Stx begun ts d e k new =
-    let none : NoRows d = subst (λ (s : Section). InOrder s d) e k.order in
+    let h = k.heads in
+    let none = at_section section.Stx d e k.order in
     let made : Spelt = record d { system = ts; begun = begun } in
-    let still : NoRows made = record { exits = none.exits; facts = none.facts; tables = none.tables } in
-    no_rows p made (record { words = k.words; system = new; messages = k.messages; names = k.names; locations = k.locations }) still (subst (λ (s : Section). InOrder s made) (sym e) still)
+    no_rows p made (record { words = h.words; system = new; messages = h.messages; names = h.names; locations = h.locations }) none (from_section section.Stx made e none)
 texts_keep p section.Mtx begun ts d e k new =
-    let none : NoRows d = subst (λ (s : Section). InOrder s d) e k.order in
+    let h = k.heads in
+    let none = at_section section.Mtx d e k.order in
     let made : Spelt = record d { messages = ts; begun = begun } in
-    let still : NoRows made = record { exits = none.exits; facts = none.facts; tables = none.tables } in
-    no_rows p made (record { words = k.words; system = k.system; messages = new; names = k.names; locations = k.locations }) still (subst (λ (s : Section). InOrder s made) (sym e) still)
+    no_rows p made (record { words = h.words; system = h.system; messages = new; names = h.names; locations = h.locations }) none (from_section section.Mtx made e none)
 texts_keep p section.Otx begun ts d e k new =
-    let none : NoRows d = subst (λ (s : Section). InOrder s d) e k.order in
+    let h = k.heads in
+    let none = at_section section.Otx d e k.order in
     let made : Spelt = record d { names = ts; begun = begun } in
-    let still : NoRows made = record { exits = none.exits; facts = none.facts; tables = none.tables } in
-    no_rows p made (record { words = k.words; system = k.system; messages = k.messages; names = new; locations = k.locations }) still (subst (λ (s : Section). InOrder s made) (sym e) still)
+    no_rows p made (record { words = h.words; system = h.system; messages = h.messages; names = new; locations = h.locations }) none (from_section section.Otx made e none)
 texts_keep p section.Ltx begun ts d e k new =
-    let none : NoRows d = subst (λ (s : Section). InOrder s d) e k.order in
+    let h = k.heads in
+    let none = at_section section.Ltx d e k.order in
     let made : Spelt = record d { locations = ts; begun = begun } in
-    let still : NoRows made = record { exits = none.exits; facts = none.facts; tables = none.tables } in
-    no_rows p made (record { words = k.words; system = k.system; messages = k.messages; names = k.names; locations = new }) still (subst (λ (s : Section). InOrder s made) (sym e) still)
+    no_rows p made (record { words = h.words; system = h.system; messages = h.messages; names = h.names; locations = new }) none (from_section section.Ltx made e none)
 texts_keep p section.Con begun ts d e k new = k
 texts_keep p section.Obj begun ts d e k new = k
 texts_keep p section.Pro begun ts d e k new = k
@@ -142,22 +163,24 @@ none_kept limit = record { all = refl; few = omega arith }
 texts_kept_in : (p : ℕ) (s : Section) (d : Spelt) → Keeps p d → TextsKept (text_limit s) (texts_of s d)
 texts_kept_in p section.Before d k = none_kept 0
 texts_kept_in p section.Voc d k = none_kept 0
-texts_kept_in p section.Stx d k = k.system
-texts_kept_in p section.Mtx d k = k.messages
-texts_kept_in p section.Otx d k = k.names
-texts_kept_in p section.Ltx d k = k.locations
+texts_kept_in p section.Stx d k = k.heads.system
+texts_kept_in p section.Mtx d k = k.heads.messages
+texts_kept_in p section.Otx d k = k.heads.names
+texts_kept_in p section.Ltx d k = k.heads.locations
 texts_kept_in p section.Con d k = none_kept 0
 texts_kept_in p section.Obj d k = none_kept 0
 texts_kept_in p section.Pro d k = none_kept 0
 
-text_keeps : (p : ℕ) (d e : Spelt) (l : List ℕ) → Keeps p d → is_comment l ≡ false → begins_with_slash l ≡ false → has_forbidden_byte true l ≡ false → text_added d l ≡ Ok e → Keeps p e
+text_keeps : (p : ℕ) (d e : Spelt) (l : List ℕ) → Keeps p d → is_comment l ≡ false → begins_with_slash l ≡ false
+    → has_forbidden_byte true l ≡ false → text_added d l ≡ Ok e → Keeps p e
 text_keeps p d e l k comment slash bytes h =
     let b = bound (text_line d.begun l (texts_of d.section d)) (λ ts. Ok (with_texts d.section true ts d)) e h in
     let old = texts_kept_in p d.section d k in
     let new = text_line_ok d.begun l (texts_of d.section d) b.0 old.all comment slash bytes b.1 in
     let few = old.few in
     let same = new.1 in
-    subst (Keeps p) (ok_is (with_texts d.section true b.0 d) e b.2) (texts_keep p d.section true b.0 d refl k (record { all = new.0; few = omega (arith, few, same) }))
+    subst (Keeps p) (ok_is (with_texts d.section true b.0 d) e b.2)
+    (texts_keep p d.section true b.0 d refl k (record { all = new.0; few = omega (arith, few, same) }))
 
 -- ---- items
 
@@ -172,7 +195,8 @@ empty_exits : (ws : List Word) (locations n : ℕ) → list_all (is_exits ws loc
 empty_exits ws locations zero = refl
 empty_exits ws locations (suc n) = empty_exits ws locations n
 
-pub filled_exits : (ws : List Word) (locations n : ℕ) (es : List (List Exit)) → list_all (is_exits ws locations) es ≡ true → list_all (is_exits ws locations) (es ++ replicate n []) ≡ true
+pub filled_exits : (ws : List Word) (locations n : ℕ) (es : List (List Exit))
+    → list_all (is_exits ws locations) es ≡ true → list_all (is_exits ws locations) (es ++ replicate n []) ≡ true
 filled_exits ws locations n es all = rw (list_all-append (is_exits ws locations) es (replicate n []), all, empty_exits ws locations n) refl
 
 pub filled_length : (n : ℕ) (es : List (List Exit)) → length (es ++ replicate n []) ≡ length es + n
@@ -193,21 +217,16 @@ new_exits_keep p n d e here k h =
     let low : n < length d.locations = grind (arith, nat_tests, o.1) in
     let long = filled_length (suc n - length d.exits) d.exits in
     let before = k.few_exits in
-    let at : AtExits d = subst (λ (s : Section). InOrder s d) here k.order in
-    let still : AtExits made = record { facts = at.facts; tables = at.tables; locations = at.locations } in
+    let at = at_section section.Con d here k.order in
     let new : Keeps p made = record {
-      words = k.words;
-      system = k.system;
-      messages = k.messages;
-      names = k.names;
-      locations = k.locations;
+      heads = k.heads;
       exits = filled_exits d.words (length d.locations) (suc n - length d.exits) d.exits k.exits;
       few_exits = omega (arith, long, low, before);
       facts = k.facts;
       few_facts = k.few_facts;
       tables = k.tables;
       few_tables = k.few_tables;
-      order = subst (λ (s : Section). InOrder s made) (sym here) still;
+      order = from_section section.Con made here at;
     } in
     subst (Keeps p) (ok_is made e a.1) new
 
@@ -227,11 +246,7 @@ item_keeps p section.Pro n d e here k h = absurd cc
 -- a section that opens adds no row
 open_keeps : (p : ℕ) (s : Section) (d : Spelt) → Keeps p d → InOrder s (section_opened s d) → Keeps p (section_opened s d)
 open_keeps p s d k order = record {
-  words = k.words;
-  system = k.system;
-  messages = k.messages;
-  names = k.names;
-  locations = k.locations;
+  heads = k.heads;
   exits = k.exits;
   few_exits = k.few_exits;
   facts = k.facts;
@@ -261,30 +276,23 @@ pub record Ready (d : Spelt) : Type 0 where
 table_keeps : (p : ℕ) (d e : Spelt) (ts : List (List ℕ)) (o : Option ℕ) → Keeps p d → Ready d → table_header d ts o ≡ Ok e → Keeps p e
 table_keeps p d e ts None k ready h = absurd cc
 table_keeps p d e ts (Some n) k ready h =
-    let made : Spelt = record (section_opened section.Pro d) { tables = d.tables ++ [] ∷ [] } in
-    let a = passes (nat_lt 255 n) kind.Range (cond (not (eqb n (length d.tables))) (Err kind.Section) (ended ts >>= λ _. cond (lacks_rows d) (Err kind.Missing) (Ok made))) e h in
-    let b = passes (not (eqb n (length d.tables))) kind.Section (ended ts >>= λ _. cond (lacks_rows d) (Err kind.Missing) (Ok made)) e a.1 in
-    let c = at_end ts (cond (lacks_rows d) (Err kind.Missing) (Ok made)) e b.1 in
-    let f = passes (lacks_rows d) kind.Missing (Ok made) e c in
-    let low : n ≤ 255 = grind (arith, nat_tests, a.0) in
-    let same : n ≡ length d.tables = grind (arith, nat_tests, b.0) in
+    let t = table_opened n d e ts h in
+    let made = with_table d in
+    let low : n ≤ 255 = grind (arith, nat_tests, t.low) in
+    let same : n ≡ length d.tables = grind (arith, nat_tests, t.next) in
     let long = length-append d.tables ([] ∷ []) in
-    let order : AtTables made = record { locations = ready.locations; rows = ready.rows f.0 } in
+    let order : AtTables made = record { locations = ready.locations; rows = ready.rows t.rows } in
     let new : Keeps p made = record {
-      words = k.words;
-      system = k.system;
-      messages = k.messages;
-      names = k.names;
-      locations = k.locations;
+      heads = k.heads;
       exits = k.exits;
       few_exits = k.few_exits;
       facts = k.facts;
       few_facts = k.few_facts;
-      tables = λ g has. all_pushed (is_table g) d.tables [] (k.tables g (record { words = has.words; system = has.system; messages = has.messages; objects = has.objects; locations = has.locations; tables = has.tables })) refl;
+      tables = λ g has. all_pushed (is_table g) d.tables [] (k.tables g has) refl;
       few_tables = omega (arith, long, low, same);
       order = order;
     } in
-    subst (Keeps p) (ok_is made e f.1) new
+    subst (Keeps p) t.is new
 
 pro_keeps : (p : ℕ) (d e : Spelt) (ts : List (List ℕ)) → Keeps p d → Ready d → pro_header d ts ≡ Ok e → Keeps p e
 pro_keeps p d e ts k ready h =
@@ -299,32 +307,20 @@ first_table d at h =
     grind (arith, nat_tests, enough)
 
 header_of_keeps : (p : ℕ) (s : Section) (d e : Spelt) (ts : List (List ℕ)) → d.section ≡ s → Keeps p d → header_of (next_section s) d ts ≡ Ok e → Keeps p e
-header_of_keeps p section.Before d e ts here k h =
-    let none : NoRows d = subst (λ (s : Section). InOrder s d) here k.order in
-    plain_keeps p section.Voc d e ts k (record { exits = none.exits; facts = none.facts; tables = none.tables }) h
-header_of_keeps p section.Voc d e ts here k h =
-    let none : NoRows d = subst (λ (s : Section). InOrder s d) here k.order in
-    plain_keeps p section.Stx d e ts k (record { exits = none.exits; facts = none.facts; tables = none.tables }) h
-header_of_keeps p section.Stx d e ts here k h =
-    let none : NoRows d = subst (λ (s : Section). InOrder s d) here k.order in
-    plain_keeps p section.Mtx d e ts k (record { exits = none.exits; facts = none.facts; tables = none.tables }) h
-header_of_keeps p section.Mtx d e ts here k h =
-    let none : NoRows d = subst (λ (s : Section). InOrder s d) here k.order in
-    plain_keeps p section.Otx d e ts k (record { exits = none.exits; facts = none.facts; tables = none.tables }) h
-header_of_keeps p section.Otx d e ts here k h =
-    let none : NoRows d = subst (λ (s : Section). InOrder s d) here k.order in
-    plain_keeps p section.Ltx d e ts k (record { exits = none.exits; facts = none.facts; tables = none.tables }) h
-header_of_keeps p section.Ltx d e ts here k h =
-    let none : NoRows d = subst (λ (s : Section). InOrder s d) here k.order in
-    con_keeps p d e ts k none h
+header_of_keeps p section.Before d e ts here k h = plain_keeps p section.Voc d e ts k (at_section section.Before d here k.order) h
+header_of_keeps p section.Voc d e ts here k h = plain_keeps p section.Stx d e ts k (at_section section.Voc d here k.order) h
+header_of_keeps p section.Stx d e ts here k h = plain_keeps p section.Mtx d e ts k (at_section section.Stx d here k.order) h
+header_of_keeps p section.Mtx d e ts here k h = plain_keeps p section.Otx d e ts k (at_section section.Mtx d here k.order) h
+header_of_keeps p section.Otx d e ts here k h = plain_keeps p section.Ltx d e ts k (at_section section.Otx d here k.order) h
+header_of_keeps p section.Ltx d e ts here k h = con_keeps p d e ts k (at_section section.Ltx d here k.order) h
 header_of_keeps p section.Con d e ts here k h =
-    let at : AtExits d = subst (λ (s : Section). InOrder s d) here k.order in
+    let at = at_section section.Con d here k.order in
     plain_keeps p section.Obj d e ts k (record { tables = at.tables; locations = at.locations }) h
 header_of_keeps p section.Obj d e ts here k h =
-    let at : AtObjects d = subst (λ (s : Section). InOrder s d) here k.order in
+    let at = at_section section.Obj d here k.order in
     pro_keeps p d e ts k (record { locations = at.locations; rows = λ f. first_table d at f }) h
 header_of_keeps p section.Pro d e ts here k h =
-    let at : AtTables d = subst (λ (s : Section). InOrder s d) here k.order in
+    let at = at_section section.Pro d here k.order in
     pro_keeps p d e ts k (record { locations = at.locations; rows = λ f. at.rows }) h
 
 slash_keeps : (p : ℕ) (d e : Spelt) (name : List ℕ) (o : Option ℕ) (ts : List (List ℕ)) → Keeps p d → slash_line d name o ts ≡ Ok e → Keeps p e
@@ -336,38 +332,39 @@ slash_keeps p d e name None ts k h =
 
 -- ---- rows
 
-voc_keeps : (p : ℕ) (d e : Spelt) (ts : List (List ℕ)) → d.section ≡ section.Voc → Keeps p d → (voc_row d.words ts >>= λ ws. Ok (record d { words = ws })) ≡ Ok e → Keeps p e
+voc_keeps : (p : ℕ) (d e : Spelt) (ts : List (List ℕ)) → d.section ≡ section.Voc → Keeps p d
+    → (voc_row d.words ts >>= λ ws. Ok (record d { words = ws })) ≡ Ok e → Keeps p e
 voc_keeps p d e ts here k h =
     let b = bound (voc_row d.words ts) (λ ws. Ok (record d { words = ws })) e h in
     let made : Spelt = record d { words = b.0 } in
-    let none : NoRows d = subst (λ (s : Section). InOrder s d) here k.order in
-    let still : NoRows made = record { exits = none.exits; facts = none.facts; tables = none.tables } in
-    subst (Keeps p) (ok_is made e b.2) (no_rows p made (record { words = voc_row_ok d.words b.0 ts k.words b.1; system = k.system; messages = k.messages; names = k.names; locations = k.locations }) still (subst (λ (s : Section). InOrder s made) (sym here) still))
+    let none = at_section section.Voc d here k.order in
+    let h = k.heads in
+    let words = voc_row_ok d.words b.0 ts h.words b.1 in
+    let heads : Heads made = record { words = words; system = h.system; messages = h.messages; names = h.names; locations = h.locations } in
+    subst (Keeps p) (ok_is made e b.2) (no_rows p made heads none (from_section section.Voc made here none))
 
 con_row_keeps : (p : ℕ) (d e : Spelt) (ts : List (List ℕ)) → d.section ≡ section.Con → Keeps p d → con_row d ts ≡ Ok e → Keeps p e
 con_row_keeps p d e ts here k h =
-    let a = passes (eqb (length d.exits) 0) kind.Section (exit_row d.words (length d.locations) (last_or [] d.exits) ts >>= λ xs. Ok (record d { exits = with_last xs d.exits })) e h in
+    let a = passes (eqb (length d.exits) 0) kind.Section
+    (exit_row d.words (length d.locations) (last_or [] d.exits) ts >>= λ xs.
+    Ok (record d { exits = with_last xs d.exits })) e h in
     let b = bound (exit_row d.words (length d.locations) (last_or [] d.exits) ts) (λ xs. Ok (record d { exits = with_last xs d.exits })) e a.1 in
     let made : Spelt = record d { exits = with_last b.0 d.exits } in
-    let old : is_exits d.words (length d.locations) (last_or [] d.exits) ≡ true = all_get (is_exits d.words (length d.locations)) d.exits (length d.exits - 1) [] k.exits refl in
-    let new = exit_row_ok d.words (length d.locations) (last_or [] d.exits) b.0 ts k.words old b.1 in
+    let old : is_exits d.words (length d.locations) (last_or [] d.exits) ≡ true =
+    all_get (is_exits d.words (length d.locations)) d.exits (length d.exits - 1) [] k.exits refl in
+    let new = exit_row_ok d.words (length d.locations) (last_or [] d.exits) b.0 ts k.heads.words old b.1 in
     let long = length-set d.exits (length d.exits - 1) b.0 in
     let few = k.few_exits in
-    let at : AtExits d = subst (λ (s : Section). InOrder s d) here k.order in
-    let still : AtExits made = record { facts = at.facts; tables = at.tables; locations = at.locations } in
+    let at = at_section section.Con d here k.order in
     let kept : Keeps p made = record {
-      words = k.words;
-      system = k.system;
-      messages = k.messages;
-      names = k.names;
-      locations = k.locations;
+      heads = k.heads;
       exits = all_set (is_exits d.words (length d.locations)) d.exits (length d.exits - 1) b.0 k.exits new;
       few_exits = omega (arith, long, few);
       facts = k.facts;
       few_facts = k.few_facts;
       tables = k.tables;
       few_tables = k.few_tables;
-      order = subst (λ (s : Section). InOrder s made) (sym here) still;
+      order = from_section section.Con made here at;
     } in
     subst (Keeps p) (ok_is made e b.2) kept
 
@@ -378,51 +375,49 @@ obj_row_keeps p d e ts here k h =
     let new = object_row_ok d.words (length d.locations) (length d.facts) (length d.names) ts b.0 b.1 in
     let room = new.room in
     let long = length-append d.facts (b.0 ∷ []) in
-    let at : AtObjects d = subst (λ (s : Section). InOrder s d) here k.order in
-    let still : AtObjects made = record { tables = at.tables; locations = at.locations } in
+    let at = at_section section.Obj d here k.order in
     let kept : Keeps p made = record {
-      words = k.words;
-      system = k.system;
-      messages = k.messages;
-      names = k.names;
-      locations = k.locations;
+      heads = k.heads;
       exits = k.exits;
       few_exits = k.few_exits;
       facts = all_pushed (are_facts d.words (length d.locations)) d.facts b.0 k.facts new.facts;
       few_facts = omega (arith, long, room);
       tables = k.tables;
       few_tables = k.few_tables;
-      order = subst (λ (s : Section). InOrder s made) (sym here) still;
+      order = from_section section.Obj made here at;
     } in
     subst (Keeps p) (ok_is made e b.2) kept
 
-table_row_ok : (p : ℕ) (d : Spelt) (more : Bool) (g : GameLists) (es fs : List Entry) (ts : List (List ℕ)) → Has (bounds_of p d) d.words g → is_table g es ≡ true → cond more (more_row (bounds_of p d) d.words es ts) (entry_row (bounds_of p d) d.words es ts) ≡ Ok fs → is_table g fs ≡ true
+table_row_ok : (p : ℕ) (d : Spelt) (more : Bool) (g : GameLists) (es fs : List Entry) (ts : List (List ℕ))
+    → Has (bounds_of p d) d.words g → is_table g es ≡ true
+    → cond more (more_row (bounds_of p d) d.words es ts) (entry_row (bounds_of p d) d.words es ts) ≡ Ok fs
+    → is_table g fs ≡ true
 table_row_ok p d true g es fs ts has kept h = more_row_ok (bounds_of p d) d.words g es fs ts has kept h
 table_row_ok p d false g es fs ts has kept h = entry_row_ok (bounds_of p d) d.words g es fs ts has kept h
 
 pro_row_keeps : (p : ℕ) (d e : Spelt) (more : Bool) (ts : List (List ℕ)) → d.section ≡ section.Pro → Keeps p d → pro_row p d more ts ≡ Ok e → Keeps p e
 pro_row_keeps p d e more ts here k h =
-    let b = bound (cond more (more_row (bounds_of p d) d.words (last_or [] d.tables) ts) (entry_row (bounds_of p d) d.words (last_or [] d.tables) ts)) (λ es. Ok (record d { tables = with_last es d.tables })) e h in
+    let b = bound
+    (cond more (more_row (bounds_of p d) d.words (last_or [] d.tables) ts)
+    (entry_row (bounds_of p d) d.words (last_or [] d.tables) ts))
+    (λ es. Ok (record d { tables = with_last es d.tables })) e h in
     let made : Spelt = record d { tables = with_last b.0 d.tables } in
     let long = length-set d.tables (length d.tables - 1) b.0 in
     let few = k.few_tables in
-    let at : AtTables d = subst (λ (s : Section). InOrder s d) here k.order in
-    let still : AtTables made = record { locations = at.locations; rows = at.rows } in
+    let at = at_section section.Pro d here k.order in
     let kept : Keeps p made = record {
-      words = k.words;
-      system = k.system;
-      messages = k.messages;
-      names = k.names;
-      locations = k.locations;
+      heads = k.heads;
       exits = k.exits;
       few_exits = k.few_exits;
       facts = k.facts;
       few_facts = k.few_facts;
       tables = λ g has.
           let all = k.tables g has in
-          all_set (is_table g) d.tables (length d.tables - 1) b.0 all (table_row_ok p d more g (last_or [] d.tables) b.0 ts has (all_get (is_table g) d.tables (length d.tables - 1) [] all refl) b.1);
+          all_set (is_table g) d.tables (length d.tables - 1) b.0 all
+          (table_row_ok p d more g (last_or [] d.tables) b.0 ts has
+          (all_get (is_table g) d.tables (length d.tables - 1) [] all refl) b.1);
       few_tables = omega (arith, long, few);
-      order = subst (λ (s : Section). InOrder s made) (sym here) still;
+      order = from_section section.Pro made here at;
     } in
     subst (Keeps p) (ok_is made e b.2) kept
 
@@ -453,10 +448,17 @@ pub step_keeps : (p : ℕ) (d e : Spelt) (l : List ℕ) → Keeps p d → step p
 unfolding step
 step_keeps p d e l k h =
     let others : Result Spelt SourceKind = tokens_added p d (begins_with_slash l) (begins_with_blank l) (tokens_of l) in
-    elim (is_comment l) as (λ b. is_comment l ≡ b → cond b (Ok d) (cond (has_forbidden_byte (is_text_line d l) l) (Err kind.Text) (cond (is_text_line d l) (text_added d l) (tokens_added p d (begins_with_slash l) (begins_with_blank l) (tokens_of l)))) ≡ Ok e → Keeps p e) [
+    elim (is_comment l) as (λ b. is_comment l ≡ b
+    → cond b (Ok d)
+    (cond (has_forbidden_byte (is_text_line d l) l) (Err kind.Text)
+    (cond (is_text_line d l) (text_added d l)
+    (tokens_added p d (begins_with_slash l) (begins_with_blank l) (tokens_of l)))) ≡ Ok e → Keeps p e) [
       | true ↦ λ c f. subst (Keeps p) (ok_is d e f) k
       | false ↦ λ c f.
-          elim (is_text_line d l) as (λ b. is_text_line d l ≡ b → cond (has_forbidden_byte b l) (Err kind.Text) (cond b (text_added d l) (tokens_added p d (begins_with_slash l) (begins_with_blank l) (tokens_of l))) ≡ Ok e → Keeps p e) [
+          elim (is_text_line d l) as (λ b. is_text_line d l ≡ b
+          → cond (has_forbidden_byte b l) (Err kind.Text)
+          (cond b (text_added d l) (tokens_added p d (begins_with_slash l) (begins_with_blank l) (tokens_of l)))
+          ≡ Ok e → Keeps p e) [
             | true ↦ λ t g.
                 let a = passes (has_forbidden_byte true l) kind.Text (text_added d l) e g in
                 text_keeps p d e l k c (no_slash (is_in_text d) (begins_with_slash l) t) a.0 a.1

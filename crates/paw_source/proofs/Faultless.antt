@@ -19,6 +19,11 @@ pub bound : {A B : Type 0} (r : Result A SourceKind) (f : A → Result B SourceK
 bound {A} {B} (Ok x) f e h = (x, refl, h)
 bound {A} {B} (Err k) f e h = absurd cc
 
+-- what follows from what is read first
+pub bound_then : {A B : Type 0} (P : Type 0) (r : Result A SourceKind) (f : A → Result B SourceKind) (e : B)
+    → (r >>= f) ≡ Ok e → ((x : A) → r ≡ Ok x → f x ≡ Ok e → P) → P
+bound_then {A} {B} P r f e h go = let b = bound r f e h in go b.0 b.1 b.2
+
 pub ok_is : {A E : Type 0} (x y : A) → ◌≡◌ {A = Result A E} (Ok x) (Ok y) → x ≡ y
 ok_is {A} {E} x y h = cc
 
@@ -39,7 +44,8 @@ or_fault_ok {A} k ts None x h = absurd cc
 or_fault_ok {A} k ts (Some y) x h = ap (λ (z : A × List (List ℕ)). Some z.0) (ok_is (y, ts) x h)
 
 -- the token that was read means what was read
-pub read_ok : {A : Type 0} (k : SourceKind) (f : List ℕ → Option A) (ts : List (List ℕ)) (x : A × List (List ℕ)) → read_by k f ts ≡ Ok x → (t : List ℕ) × (f t ≡ Some x.0)
+pub read_ok : {A : Type 0} (k : SourceKind) (f : List ℕ → Option A) (ts : List (List ℕ)) (x : A × List (List ℕ))
+    → read_by k f ts ≡ Ok x → (t : List ℕ) × (f t ≡ Some x.0)
 read_ok {A} k f [] x h = absurd cc
 read_ok {A} k f (t ∷ ts) x h = (t, or_fault_ok k ts (f t) x h)
 

@@ -37,7 +37,9 @@ objects_count [] fs h = refl
 objects_count (t ∷ ts) [] h = absurd (omega arith)
 objects_count (t ∷ ts) (f ∷ fs) h = ap suc (objects_count ts fs (omega (arith, h)))
 
-objects_all : (ws : List Word) (locations : ℕ) (ts : List (List ℕ)) (fs : List ObjectFacts) → list_all is_text ts ≡ true → list_all (are_facts ws locations) fs ≡ true → list_all (is_object ws locations) (objects_of ts fs) ≡ true
+objects_all : (ws : List Word) (locations : ℕ) (ts : List (List ℕ)) (fs : List ObjectFacts)
+    → list_all is_text ts ≡ true → list_all (are_facts ws locations) fs ≡ true
+    → list_all (is_object ws locations) (objects_of ts fs) ≡ true
 unfolding objects_of
 objects_all ws locations [] fs a b = refl
 objects_all ws locations (t ∷ ts) [] a b = refl
@@ -67,30 +69,48 @@ valid_game p d k three counted =
     let rows = at.rows in
     let some = at.locations in
     let count = objects_count d.names d.facts rows in
-    let few_names = k.names.few in
-    let few_locations = k.locations.few in
+    let few_names = k.heads.names.few in
+    let few_locations = k.heads.locations.few in
     let few_exits = k.few_exits in
     let few_tables = k.few_tables in
     let long = filled_length (length d.locations - length d.exits) d.exits in
-    let has : Has (bounds_of p d) d.words (game_of d) = record { words = refl; system = refl; messages = refl; objects = count; locations = refl; tables = counted } in
+    let has : Has (bounds_of p d) d.words (game_of d) =
     record {
-      words = k.words;
-      system = texts_valid 256 d.system k.system;
-      messages = texts_valid 256 d.messages k.messages;
-      objects = both (nat_le (length (objects_of d.names d.facts)) 255) (list_all (is_object d.words (length d.locations)) (objects_of d.names d.facts)) (grind (arith, nat_tests, count, few_names)) (objects_all d.words (length d.locations) d.names d.facts k.names.all k.facts);
-      locations = both (nat_le 1 (length d.locations)) (texts_kept 252 d.locations) (grind (arith, nat_tests, some)) (texts_valid 252 d.locations k.locations);
-      exits = both (eqb (length (all_exits (length d.locations) d.exits)) (length d.locations)) (list_all (is_exits d.words (length d.locations)) (all_exits (length d.locations) d.exits)) (grind (arith, nat_tests, long, few_exits)) (filled_exits d.words (length d.locations) (length d.locations - length d.exits) d.exits k.exits);
-      tables = both (is_within 3 256 (length d.tables)) (list_all (is_table (game_of d)) d.tables) (grind (arith, nat_tests, three, few_tables)) (k.tables (game_of d) has);
+      words = refl;
+      system = refl;
+      messages = refl;
+      objects = count;
+      locations = refl;
+      tables =
+          counted;
+    } in
+    record {
+      words = k.heads.words;
+      system = texts_valid 256 d.system k.heads.system;
+      messages = texts_valid 256 d.messages k.heads.messages;
+      objects = both (nat_le (length (objects_of d.names d.facts)) 255)
+          (list_all (is_object d.words (length d.locations)) (objects_of d.names d.facts))
+          (grind (arith, nat_tests, count, few_names))
+          (objects_all d.words (length d.locations) d.names d.facts k.heads.names.all k.facts);
+      locations = both (nat_le 1 (length d.locations)) (texts_kept 252 d.locations) (grind (arith, nat_tests, some)) (texts_valid 252 d.locations k.heads.locations);
+      exits = both (eqb (length (all_exits (length d.locations) d.exits)) (length d.locations))
+          (list_all (is_exits d.words (length d.locations)) (all_exits (length d.locations) d.exits))
+          (grind (arith, nat_tests, long, few_exits))
+          (filled_exits d.words (length d.locations) (length d.locations - length d.exits) d.exits k.exits);
+      tables = both (is_within 3 256 (length d.tables)) (list_all (is_table (game_of d)) d.tables)
+          (grind (arith, nat_tests, three, few_tables)) (k.tables (game_of d) has);
     }
 
 whole_valid : (p n : ℕ) (d : Spelt) (g : GameLists) → Keeps p d → length d.tables ≡ p → whole n d ≡ Ok g → Valid g
 whole_valid p n d g k counted h =
-    let a = passes (nat_lt (length d.tables) 3) (fault (suc n) kind.Missing) (cond (nat_lt 4194304 (length (image (game_of d)))) (Err (fault (suc n) kind.TooBig)) (Ok (game_of d))) g h in
+    let a = passes (nat_lt (length d.tables) 3) (fault (suc n) kind.Missing)
+    (cond (nat_lt 4194304 (length (image (game_of d)))) (Err (fault (suc n) kind.TooBig)) (Ok (game_of d))) g h in
     let b = passes (nat_lt 4194304 (length (image (game_of d)))) (fault (suc n) kind.TooBig) (Ok (game_of d)) g a.1 in
     let three : 3 ≤ length d.tables = grind (arith, nat_tests, a.0) in
     subst Valid (ok_is (game_of d) g b.1) (valid_game p d k three counted)
 
-reading_valid : (p n : ℕ) (d : Spelt) (ls : List (List ℕ)) (g : GameLists) → Keeps p d → length d.tables + count_by begins_table ls ≡ p → spelled_after p n d ls ≡ Ok g → Valid g
+reading_valid : (p n : ℕ) (d : Spelt) (ls : List (List ℕ)) (g : GameLists) → Keeps p d
+    → length d.tables + count_by begins_table ls ≡ p → spelled_after p n d ls ≡ Ok g → Valid g
 unfolding spelled_after
 reading_valid p n d [] g k counted h = whole_valid p n d g k (omega (arith, counted)) h
 reading_valid p n d (l ∷ ls) g k counted h =
@@ -106,11 +126,13 @@ nothing_keeps : (p : ℕ) → Keeps p nothing_yet
 nothing_keeps p =
     let none : NoRows nothing_yet = record { exits = refl; facts = refl; tables = refl } in
     record {
-      words = refl;
-      system = record { all = refl; few = omega arith };
-      messages = record { all = refl; few = omega arith };
-      names = record { all = refl; few = omega arith };
-      locations = record { all = refl; few = omega arith };
+      heads = record {
+        words = refl;
+        system = record { all = refl; few = omega arith };
+        messages = record { all = refl; few = omega arith };
+        names = record { all = refl; few = omega arith };
+        locations = record { all = refl; few = omega arith };
+      };
       exits = refl;
       few_exits = omega arith;
       facts = refl;
@@ -131,10 +153,14 @@ pub drafts_are_valid : DraftsAreValid
 drafts_are_valid source d h three =
     let p = count_by begins_table (lines_of source) in
     let counted = counts_tables (count_by begins_table (lines_of source)) nothing_yet d (lines_of source) h in
-    valid_game (count_by begins_table (lines_of source)) d (after_keeps (count_by begins_table (lines_of source)) nothing_yet d (lines_of source) (nothing_keeps (count_by begins_table (lines_of source))) h) three (omega (arith, counted))
+    valid_game (count_by begins_table (lines_of source)) d
+    (after_keeps (count_by begins_table (lines_of source)) nothing_yet d (lines_of source)
+    (nothing_keeps (count_by begins_table (lines_of source))) h) three (omega (arith, counted))
 
 pub spells_valid_games : SpellsValidGames
 unfolding spelled
 spells_valid_games source g h =
-    let a = passes (nat_lt 8388608 (length source)) (fault 0 kind.TooBig) (spelled_after (count_by begins_table (lines_of source)) 0 nothing_yet (lines_of source)) g h in
-    reading_valid (count_by begins_table (lines_of source)) 0 nothing_yet (lines_of source) g (nothing_keeps (count_by begins_table (lines_of source))) (omega arith) a.1
+    let a = passes (nat_lt 8388608 (length source)) (fault 0 kind.TooBig)
+    (spelled_after (count_by begins_table (lines_of source)) 0 nothing_yet (lines_of source)) g h in
+    reading_valid (count_by begins_table (lines_of source)) 0 nothing_yet (lines_of source) g
+    (nothing_keeps (count_by begins_table (lines_of source))) (omega arith) a.1

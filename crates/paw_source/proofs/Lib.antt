@@ -2,6 +2,7 @@ pub mod Faultless
 pub mod WordLaws
 pub mod TextLaws
 pub mod RowLaws
+pub mod Headers
 pub mod DraftLaws
 pub mod CountLaws
 pub mod GameLaws

@@ -1,5 +1,7 @@
 -- Rows of exits, objects and condacts keep the rules of a game.
-use Rattle.std.proofs.Common.{◌≡◌, ℕ, zero, suc, ◌-◌, ◌<◌, ◌≤◌, Bool, true, false, cond, not, ◌&&◌, ◌||◌, eqb, ltb, List, [], ◌∷◌, ◌++◌, length, map, min, Option, Some, None, Ok, Err, refl, ap, ◌∙◌, arith}
+use Rattle.std.proofs.Common.{◌≡◌, ℕ, zero, suc, ◌-◌, ◌<◌, ◌≤◌, Bool, true, false, cond}
+use Rattle.std.proofs.Common.{not, ◌&&◌, ◌||◌, eqb, ltb, List, [], ◌∷◌, ◌++◌, length, map}
+use Rattle.std.proofs.Common.{min, Option, Some, None, Ok, Err, refl, ap, ◌∙◌, arith}
 use Rattle.std.specs.Prelude.{nat_le, nat_lt, codes}
 use Rattle.std.specs.List.{list_all, list_any, IsDistinct, AllByRecursion}
 use Rattle.std.proofs.lemmas.Bool.{and_parts, leb-true, ltb-true, eqb-true, eqb-false}
@@ -18,15 +20,17 @@ use Rattle.paw_game.specs.declared.parts.Exit.{Exit}
 use Rattle.paw_game.specs.declared.parts.Entry.{Entry}
 use Rattle.paw_base.specs.declared.parts.ObjectFacts.{ObjectFacts}
 use Rattle.paw_game.specs.Game.{GameLists}
-use Rattle.paw_game.specs.Valid.{words_kept, has_word, is_verb_value, is_any, is_within, is_place, are_exits, is_exits, are_facts, is_parameter, is_condact, is_entry, is_table, is_word}
+use Rattle.paw_game.specs.Valid.{words_kept, has_word, is_verb_value, is_any, is_within, is_place, are_exits}
+use Rattle.paw_game.specs.Valid.{is_exits, are_facts, is_parameter, is_condact, is_entry, is_table, is_word}
 use Rattle.paw_grammar.specs.declared.bounds.Bounds.{Bounds}
 use Rattle.paw_grammar.specs.Tokens.{◌>>=◌, ended, or_fault, read_by}
 use Rattle.paw_grammar.specs.Numbers.{number, in_range, number_within, number_below, row_number}
 use Rattle.paw_grammar.specs.Vocabulary.{place_among, word, class, object_kind, declared, word_or_none, verb_word, entry_verb, entry_noun}
-use Rattle.paw_grammar.specs.Condacts.{or_named, first_place, any_place, place_names, place_up_to, table, parameter, condact, condacts_in, with_more_condacts, at_most_255, more_condacts}
+use Rattle.paw_grammar.specs.Condacts.{or_named, first_place, any_place, place_names, place_up_to, table, parameter}
+use Rattle.paw_grammar.specs.Condacts.{condact, condacts_in, with_more_condacts, at_most_255, more_condacts}
 use Rattle.paw_grammar.specs.GrammarState.{last_or, with_last}
 use Rattle.paw_grammar.specs.GrammarRows.{voc_row, has_exit, exit_row, object_row, entry_row, no_entry, more_row}
-use Rattle.paw_source.proofs.Faultless.{passes, holds, bound, ok_is, at_end, in_range_ok, number_ok}
+use Rattle.paw_source.proofs.Faultless.{passes, holds, bound, bound_then, ok_is, at_end, in_range_ok, number_ok}
 use Rattle.paw_source.proofs.WordLaws.{word_ok, class_ok, declared_ok, verb_word_ok, word_or_none_ok, entry_verb_ok, entry_noun_ok}
 use Rattle.paw_source.proofs.TextLaws.{all_set, all_at, all_pushed, both}
 
@@ -35,12 +39,12 @@ use Rattle.paw_source.proofs.TextLaws.{all_set, all_at, all_pushed, both}
 pub voc_row_ok : (ws vs : List Word) (ts : List (List ℕ)) → words_kept ws ≡ true → voc_row ws ts ≡ Ok vs → words_kept vs ≡ true
 unfolding voc_row
 voc_row_ok ws vs ts kept h =
-    let a = bound (word ts) (λ w. number_within 2 254 w.1 >>= λ v. class v.1 >>= λ c. ended c.1 >>= λ _. declared (record { letters = w.0; value = v.0; class = c.0 }) ws) vs h in
-    let b = bound (number_within 2 254 a.0.1) (λ v. class v.1 >>= λ c. ended c.1 >>= λ _. declared (record { letters = a.0.0; value = v.0; class = c.0 }) ws) vs a.2 in
-    let c = bound (class b.0.1) (λ c. ended c.1 >>= λ _. declared (record { letters = a.0.0; value = b.0.0; class = c.0 }) ws) vs b.2 in
-    let d = at_end c.0.1 (declared (record { letters = a.0.0; value = b.0.0; class = c.0.0 }) ws) vs c.2 in
-    let one : is_word (record { letters = a.0.0; value = b.0.0; class = c.0.0 }) ≡ true = rw (word_ok ts a.0 a.1, number_ok (is_within 2 254) a.0.1 b.0 b.1, class_ok b.0.1 c.0 c.1) refl in
-    declared_ok (record { letters = a.0.0; value = b.0.0; class = c.0.0 }) ws vs one kept d
+    bound_then _ (word ts) _ vs h (λ a a_ok h.
+    bound_then _ (number_within 2 254 a.1) _ vs h (λ b b_ok h.
+    bound_then _ (class b.1) _ vs h (λ c c_ok h.
+    let made : Word = record { letters = a.0; value = b.0; class = c.0 } in
+    let one : is_word made ≡ true = rw (word_ok ts a a_ok, number_ok (is_within 2 254) a.1 b b_ok, class_ok b.1 c c_ok) refl in
+    declared_ok made ws vs one kept (at_end c.1 (declared made ws) vs h))))
 
 -- ---- exits
 
@@ -59,7 +63,9 @@ shares_more x y (z ∷ zs) h e =
 turned : (a b : ℕ) → eqb a b ≡ false → eqb b a ≡ false
 turned a b h = grind (arith, nat_tests)
 
-exits_more : (ws : List Word) (locations : ℕ) (xs : List Exit) (x : Exit) → are_exits ws locations xs ≡ true → has_exit x.verb xs ≡ false → is_verb_value ws x.verb ≡ true → nat_lt x.to locations ≡ true → are_exits ws locations (xs ++ x ∷ []) ≡ true
+exits_more : (ws : List Word) (locations : ℕ) (xs : List Exit) (x : Exit) → are_exits ws locations xs ≡ true
+    → has_exit x.verb xs ≡ false → is_verb_value ws x.verb ≡ true → nat_lt x.to locations ≡ true
+    → are_exits ws locations (xs ++ x ∷ []) ≡ true
 exits_more ws locations [] x kept none verb to = rw (verb, to) refl
 exits_more ws locations (y ∷ ys) x kept none verb to =
     let p = and_parts (is_verb_value ws y.verb && (nat_lt y.to locations && not (shares y ys))) (are_exits ws locations ys) kept in
@@ -73,10 +79,12 @@ exits_more ws locations (y ∷ ys) x kept none verb to =
     ] refl none
 
 -- no two exits of a location have the same verb
-verbs_apart : (ws : List Word) (locations v : ℕ) (xs : List Exit) → list_any (λ y. eqb y.verb v) xs ≡ false → AllByRecursion (λ y. eqb v y ≡ false) (map (λ (x : Exit). x.verb) xs)
+verbs_apart : (ws : List Word) (locations v : ℕ) (xs : List Exit) → list_any (λ y. eqb y.verb v) xs ≡ false
+    → AllByRecursion (λ y. eqb v y ≡ false) (map (λ (x : Exit). x.verb) xs)
 verbs_apart ws locations v [] h = tt
 verbs_apart ws locations v (x ∷ xs) h =
-    elim (eqb x.verb v) as (λ b. eqb x.verb v ≡ b → (b || list_any (λ y. eqb y.verb v) xs) ≡ false → AllByRecursion (λ y. eqb v y ≡ false) (map (λ (x : Exit). x.verb) (x ∷ xs))) [
+    elim (eqb x.verb v) as (λ b. eqb x.verb v ≡ b → (b || list_any (λ y. eqb y.verb v) xs) ≡ false
+    → AllByRecursion (λ y. eqb v y ≡ false) (map (λ (x : Exit). x.verb) (x ∷ xs))) [
       | true ↦ λ e f. absurd cc
       | false ↦ λ e f. (turned x.verb v e, verbs_apart ws locations v xs f)
     ] refl h
@@ -98,7 +106,8 @@ value_low (w ∷ ws) c v all h =
     let p = and_parts (is_word w) (list_all is_word ws) all in
     let q = and_parts (is_within 2 254 w.value) (nat_le w.class 6) (and_parts _ (is_within 2 254 w.value && nat_le w.class 6) p.0).1 in
     elim (eqb w.class c && eqb w.value v) as (λ b. (eqb w.class c && eqb w.value v) ≡ b → (b || has_word ws c v) ≡ true → v < 255) [
-      | true ↦ λ e f. let same = eqb-true w.value v (and_parts (eqb w.class c) (eqb w.value v) e).1 in let low = leb-true w.value 254 (and_parts (nat_le 2 w.value) (nat_le w.value 254) q.0).1 in omega (arith, same, low)
+      | true ↦ λ e f. let same = eqb-true w.value v (and_parts (eqb w.class c) (eqb w.value v) e).1 in let low =
+          leb-true w.value 254 (and_parts (nat_le 2 w.value) (nat_le w.value 254) q.0).1 in omega (arith, same, low)
       | false ↦ λ e f. value_low ws c v p.1 f
     ] refl h
 
@@ -109,7 +118,8 @@ verb_low ws v all h =
       | false ↦ λ e f. value_low ws 2 v all (and_parts (ltb v 20) (has_word ws 2 v) f).1
     ] refl h
 
-verbs_low : (ws : List Word) (locations : ℕ) (xs : List Exit) (q : ℕ) → list_all is_word ws ≡ true → are_exits ws locations xs ≡ true → list_any (eqb q) (map (λ (x : Exit). x.verb) xs) ≡ true → q < 255
+verbs_low : (ws : List Word) (locations : ℕ) (xs : List Exit) (q : ℕ) → list_all is_word ws ≡ true
+    → are_exits ws locations xs ≡ true → list_any (eqb q) (map (λ (x : Exit). x.verb) xs) ≡ true → q < 255
 verbs_low ws locations [] q all kept h = absurd cc
 verbs_low ws locations (y ∷ ys) q all kept h =
     let p = and_parts (is_verb_value ws y.verb && (nat_lt y.to locations && not (shares y ys))) (are_exits ws locations ys) kept in
@@ -123,25 +133,29 @@ verbs_low ws locations (y ∷ ys) q all kept h =
 pub exits_few : (ws : List Word) (locations : ℕ) (xs : List Exit) → words_kept ws ≡ true → are_exits ws locations xs ≡ true → is_exits ws locations xs ≡ true
 exits_few ws locations xs words kept =
     let all = (and_parts (list_all is_word ws) _ (and_parts (nat_le (length ws) 2000) _ words).1).0 in
-    let few = length-le_from_distinct_below (map (λ (x : Exit). x.verb) xs) 255 (verbs_distinct ws locations xs kept) (λ q h. verbs_low ws locations xs q all kept h) in
+    let few = length-le_from_distinct_below (map (λ (x : Exit). x.verb) xs) 255 (verbs_distinct ws locations xs kept)
+    (λ q h. verbs_low ws locations xs q all kept h) in
     let long = length-map xs (λ (x : Exit). x.verb) in
     both (nat_le (length xs) 255) (are_exits ws locations xs) (grind (arith, nat_tests, few, long)) kept
 
-pub exit_row_ok : (ws : List Word) (locations : ℕ) (xs ys : List Exit) (ts : List (List ℕ)) → words_kept ws ≡ true → is_exits ws locations xs ≡ true → exit_row ws locations xs ts ≡ Ok ys → is_exits ws locations ys ≡ true
+pub exit_row_ok : (ws : List Word) (locations : ℕ) (xs ys : List Exit) (ts : List (List ℕ)) → words_kept ws ≡ true
+    → is_exits ws locations xs ≡ true → exit_row ws locations xs ts ≡ Ok ys → is_exits ws locations ys ≡ true
 unfolding exit_row
 exit_row_ok ws locations xs ys ts words kept h =
-    let a = bound (verb_word ws ts) (λ v. number_below locations v.1 >>= λ to. ended to.1 >>= λ _. cond (has_exit v.0 xs) (Err fault.Duplicate) (Ok (xs ++ (record { verb = v.0; to = to.0 }) ∷ []))) ys h in
-    let b = bound (number_below locations a.0.1) (λ to. ended to.1 >>= λ _. cond (has_exit a.0.0 xs) (Err fault.Duplicate) (Ok (xs ++ (record { verb = a.0.0; to = to.0 }) ∷ []))) ys a.2 in
-    let x : Exit = record { verb = a.0.0; to = b.0.0 } in
-    let c = at_end b.0.1 (cond (has_exit a.0.0 xs) (Err fault.Duplicate) (Ok (xs ++ x ∷ []))) ys b.2 in
-    let d = passes (has_exit a.0.0 xs) fault.Duplicate (Ok (xs ++ x ∷ [])) ys c in
+    bound_then _ (verb_word ws ts) _ ys h (λ a a_ok h.
+    bound_then _ (number_below locations a.1) _ ys h (λ b b_ok h.
+    let x : Exit = record { verb = a.0; to = b.0 } in
+    let c = at_end b.1 (cond (has_exit a.0 xs) (Err fault.Duplicate) (Ok (xs ++ x ∷ []))) ys h in
+    let d = passes (has_exit a.0 xs) fault.Duplicate (Ok (xs ++ x ∷ [])) ys c in
     let old = (and_parts (nat_le (length xs) 255) (are_exits ws locations xs) kept).1 in
-    let new = exits_more ws locations xs x old d.0 (verb_word_ok ws ts a.0 a.1) (number_ok (λ n. nat_lt n locations) a.0.1 b.0 b.1) in
-    rw (← ok_is (xs ++ x ∷ []) ys d.1) (exits_few ws locations (xs ++ x ∷ []) words new)
+    let low = number_ok (λ n. nat_lt n locations) a.1 b b_ok in
+    let new = exits_more ws locations xs x old d.0 (verb_word_ok ws ts a a_ok) low in
+    rw (← ok_is (xs ++ x ∷ []) ys d.1) (exits_few ws locations (xs ++ x ∷ []) words new)))
 
 -- ---- objects
 
-place_within : (last : ℕ) (named : List ℕ → Option ℕ) (locations : ℕ) (ts : List (List ℕ)) (x : ℕ × List (List ℕ)) → place_up_to last named locations ts ≡ Ok x → (nat_lt x.0 locations || is_within 252 last x.0) ≡ true
+place_within : (last : ℕ) (named : List ℕ → Option ℕ) (locations : ℕ) (ts : List (List ℕ)) (x : ℕ × List (List ℕ))
+    → place_up_to last named locations ts ≡ Ok x → (nat_lt x.0 locations || is_within 252 last x.0) ≡ true
 place_within last named locations ts x h =
     let b = bound (read_by fault.Number (λ t. or_named (number t) (named t)) ts) (in_range (λ n. nat_lt n locations || is_within 252 last n)) x h in
     in_range_ok (λ n. nat_lt n locations || is_within 252 last n) b.0 x b.2
@@ -153,22 +167,29 @@ pub record ObjectRowKept (ws : List Word) (locations next count : ℕ) (f : Obje
   pub room : next < count
   pub facts : are_facts ws locations f ≡ true
 
-pub object_row_ok : (ws : List Word) (locations next count : ℕ) (ts : List (List ℕ)) (f : ObjectFacts) → object_row ws locations next count ts ≡ Ok f → ObjectRowKept ws locations next count f
+pub object_row_ok : (ws : List Word) (locations next count : ℕ) (ts : List (List ℕ)) (f : ObjectFacts)
+    → object_row ws locations next count ts ≡ Ok f → ObjectRowKept ws locations next count f
 unfolding object_row
 object_row_ok ws locations next count ts f h =
-    let a = bound (row_number next count ts) (λ n. first_place locations n.1 >>= λ p. number_within 0 63 p.1 >>= λ w. object_kind w.1 >>= λ k. word_or_none ws 2 k.1 >>= λ noun. word_or_none ws 3 noun.1 >>= λ adj. ended adj.1 >>= λ _. Ok (record { noun = noun.0; adjective = adj.0; start = p.0; weight = w.0; container = k.0.0; wearable = k.0.1 })) f h in
-    let b = bound (first_place locations a.0.1) (λ p. number_within 0 63 p.1 >>= λ w. object_kind w.1 >>= λ k. word_or_none ws 2 k.1 >>= λ noun. word_or_none ws 3 noun.1 >>= λ adj. ended adj.1 >>= λ _. Ok (record { noun = noun.0; adjective = adj.0; start = p.0; weight = w.0; container = k.0.0; wearable = k.0.1 })) f a.2 in
-    let c = bound (number_within 0 63 b.0.1) (λ w. object_kind w.1 >>= λ k. word_or_none ws 2 k.1 >>= λ noun. word_or_none ws 3 noun.1 >>= λ adj. ended adj.1 >>= λ _. Ok (record { noun = noun.0; adjective = adj.0; start = b.0.0; weight = w.0; container = k.0.0; wearable = k.0.1 })) f b.2 in
-    let d = bound (object_kind c.0.1) (λ k. word_or_none ws 2 k.1 >>= λ noun. word_or_none ws 3 noun.1 >>= λ adj. ended adj.1 >>= λ _. Ok (record { noun = noun.0; adjective = adj.0; start = b.0.0; weight = c.0.0; container = k.0.0; wearable = k.0.1 })) f c.2 in
-    let e = bound (word_or_none ws 2 d.0.1) (λ noun. word_or_none ws 3 noun.1 >>= λ adj. ended adj.1 >>= λ _. Ok (record { noun = noun.0; adjective = adj.0; start = b.0.0; weight = c.0.0; container = d.0.0.0; wearable = d.0.0.1 })) f d.2 in
-    let g = bound (word_or_none ws 3 e.0.1) (λ adj. ended adj.1 >>= λ _. Ok (record { noun = e.0.0; adjective = adj.0; start = b.0.0; weight = c.0.0; container = d.0.0.0; wearable = d.0.0.1 })) f e.2 in
-    let made : ObjectFacts = record { noun = e.0.0; adjective = g.0.0; start = b.0.0; weight = c.0.0; container = d.0.0.0; wearable = d.0.0.1 } in
-    let i = at_end g.0.1 (Ok made) f g.2 in
-    let room = number_ok (λ m. eqb m next && nat_lt next count) ts a.0 a.1 in
+    bound_then _ (row_number next count ts) _ f h (λ a a_ok h.
+    bound_then _ (first_place locations a.1) _ f h (λ b b_ok h.
+    bound_then _ (number_within 0 63 b.1) _ f h (λ c c_ok h.
+    bound_then _ (object_kind c.1) _ f h (λ d d_ok h.
+    bound_then _ (word_or_none ws 2 d.1) _ f h (λ e e_ok h.
+    bound_then _ (word_or_none ws 3 e.1) _ f h (λ g g_ok h.
+    let made : ObjectFacts = record { noun = e.0; adjective = g.0; start = b.0; weight = c.0; container = d.0.0; wearable = d.0.1 } in
+    let i = at_end g.1 (Ok made) f h in
+    let room = number_ok (λ m. eqb m next && nat_lt next count) ts a a_ok in
     record {
-      room = ltb-true next count (and_parts (eqb a.0.0 next) (nat_lt next count) room).1;
-      facts = rw (← ok_is made f i) (rw (word_or_none_ok ws 2 d.0.1 e.0 e.1, word_or_none_ok ws 3 e.0.1 g.0 g.1, first_place_ok locations a.0.1 b.0 b.1, (and_parts (nat_le 0 c.0.0) (nat_le c.0.0 63) (number_ok (is_within 0 63) b.0.1 c.0 c.1)).1) refl);
-    }
+      room = ltb-true next count (and_parts (eqb a.0 next) (nat_lt next count) room).1;
+      facts = rw (← ok_is made f i)
+          (rw (
+            word_or_none_ok ws 2 d.1 e e_ok,
+            word_or_none_ok ws 3 e.1 g g_ok,
+            first_place_ok locations a.1 b b_ok,
+            (and_parts (nat_le 0 c.0) (nat_le c.0 63) (number_ok (is_within 0 63) b.1 c c_ok)).1,
+          ) refl);
+    }))))))
 
 -- ---- condacts
 
@@ -191,7 +212,8 @@ table_ok tables ts x h =
 place_ok : (locations : ℕ) (ts : List (List ℕ)) (x : ℕ × List (List ℕ)) → any_place locations ts ≡ Ok x → (nat_lt x.0 locations || is_within 252 255 x.0) ≡ true
 place_ok locations ts x h = place_within 255 (place_among (place_names ++ codes "HERE" ∷ [])) locations ts x h
 
-parameter_ok : (bounds : Bounds) (ws : List Word) (g : GameLists) (k : ParamKind) (ts : List (List ℕ)) (x : ℕ × List (List ℕ)) → Has bounds ws g → parameter bounds ws k ts ≡ Ok x → is_parameter g k x.0 ≡ true
+parameter_ok : (bounds : Bounds) (ws : List Word) (g : GameLists) (k : ParamKind) (ts : List (List ℕ))
+    (x : ℕ × List (List ℕ)) → Has bounds ws g → parameter bounds ws k ts ≡ Ok x → is_parameter g k x.0 ≡ true
 parameter_ok bounds ws g kind.Absent ts x has h = rw (← ok_is (0, ts) x h) refl
 parameter_ok bounds ws g kind.Location ts x has h = rw has.locations (number_ok (λ n. nat_lt n bounds.locations) ts x h)
 parameter_ok bounds ws g kind.Place ts x has h = rw has.locations (place_ok bounds.locations ts x h)
@@ -216,19 +238,23 @@ code_low ts t x h =
           omega (arith, same, low)
     ] refl h
 
-condact_ok : (bounds : Bounds) (ws : List Word) (g : GameLists) (name : List ℕ) (ts : List (List ℕ)) (x : Condact × List (List ℕ)) → Has bounds ws g → condact bounds ws name ts ≡ Ok x → is_condact g x.0 ≡ true
+condact_ok : (bounds : Bounds) (ws : List Word) (g : GameLists) (name : List ℕ) (ts : List (List ℕ))
+    (x : Condact × List (List ℕ)) → Has bounds ws g → condact bounds ws name ts ≡ Ok x → is_condact g x.0 ≡ true
 unfolding condact
 condact_ok bounds ws g name ts x has h =
-    let c = bound (or_fault fault.Condact ts (code_named name)) (λ code. parameter bounds ws (first_kind code.0) code.1 >>= λ a. parameter bounds ws (second_kind code.0) a.1 >>= λ b. Ok (record { code = code.0; a = a.0; b = b.0 }, b.1)) x h in
-    let a = bound (parameter bounds ws (first_kind c.0.0) c.0.1) (λ a. parameter bounds ws (second_kind c.0.0) a.1 >>= λ b. Ok (record { code = c.0.0; a = a.0; b = b.0 }, b.1)) x c.2 in
-    let b = bound (parameter bounds ws (second_kind c.0.0) a.0.1) (λ b. Ok (record { code = c.0.0; a = a.0.0; b = b.0 }, b.1)) x a.2 in
-    let made : Condact = record { code = c.0.0; a = a.0.0; b = b.0.0 } in
-    let same : made ≡ x.0 = ap (λ (z : Condact × List (List ℕ)). z.0) (ok_is (made, b.0.1) x b.2) in
-    let small = code_low ts name c.0 c.1 in
-    let low : nat_le c.0.0 107 ≡ true = grind (arith, nat_tests, small) in
-    rw (← same, low, parameter_ok bounds ws g (first_kind c.0.0) c.0.1 a.0 has a.1, parameter_ok bounds ws g (second_kind c.0.0) a.0.1 b.0 has b.1) refl
+    bound_then _ (or_fault fault.Condact ts (code_named name)) _ x h (λ c c_ok h.
+    bound_then _ (parameter bounds ws (first_kind c.0) c.1) _ x h (λ a a_ok h.
+    bound_then _ (parameter bounds ws (second_kind c.0) a.1) _ x h (λ b b_ok h.
+    let made : Condact = record { code = c.0; a = a.0; b = b.0 } in
+    let same : made ≡ x.0 = ap (λ (z : Condact × List (List ℕ)). z.0) (ok_is (made, b.1) x h) in
+    let small = code_low ts name c c_ok in
+    let low : nat_le c.0 107 ≡ true = grind (arith, nat_tests, small) in
+    let first = parameter_ok bounds ws g (first_kind c.0) c.1 a has a_ok in
+    let second = parameter_ok bounds ws g (second_kind c.0) a.1 b has b_ok in
+    rw (← same, low, first, second) refl)))
 
-condacts_ok : (bounds : Bounds) (ws : List Word) (g : GameLists) (skip : ℕ) (ts : List (List ℕ)) (cs : List Condact) → Has bounds ws g → condacts_in bounds ws skip ts ≡ Ok cs → list_all (is_condact g) cs ≡ true
+condacts_ok : (bounds : Bounds) (ws : List Word) (g : GameLists) (skip : ℕ) (ts : List (List ℕ)) (cs : List Condact)
+    → Has bounds ws g → condacts_in bounds ws skip ts ≡ Ok cs → list_all (is_condact g) cs ≡ true
 unfolding condacts_in
 condacts_ok bounds ws g skip [] cs has h = rw (← ok_is [] cs h) refl
 condacts_ok bounds ws g (suc skip) (t ∷ ts) cs has h = condacts_ok bounds ws g skip ts cs has h
@@ -237,7 +263,10 @@ condacts_ok bounds ws g zero (t ∷ ts) cs has h =
     let c = bound (condacts_in bounds ws (params_of b.0.0.code) ts) (λ ds. Ok (b.0.0 ∷ ds)) cs b.2 in
     rw (← ok_is (b.0.0 ∷ c.0) cs c.2, condact_ok bounds ws g t ts b.0 has b.1) (condacts_ok bounds ws g (params_of b.0.0.code) ts c.0 has c.1)
 
-more_condacts_ok : (bounds : Bounds) (ws : List Word) (g : GameLists) (before : List Condact) (ts : List (List ℕ)) (cs : List Condact) → Has bounds ws g → list_all (is_condact g) before ≡ true → more_condacts bounds ws before ts ≡ Ok cs → (nat_le (length cs) 255 ≡ true) × (list_all (is_condact g) cs ≡ true)
+more_condacts_ok : (bounds : Bounds) (ws : List Word) (g : GameLists) (before : List Condact) (ts : List (List ℕ))
+    (cs : List Condact) → Has bounds ws g → list_all (is_condact g) before ≡ true
+    → more_condacts bounds ws before ts ≡ Ok cs → (nat_le (length cs) 255 ≡ true)
+    × (list_all (is_condact g) cs ≡ true)
 unfolding more_condacts
 more_condacts_ok bounds ws g before ts cs has old h =
     let a = bound (with_more_condacts before (condacts_in bounds ws 0 ts)) at_most_255 cs h in
@@ -250,12 +279,19 @@ more_condacts_ok bounds ws g before ts cs has old h =
 
 -- ---- tables
 
-pub entry_row_ok : (bounds : Bounds) (ws : List Word) (g : GameLists) (es fs : List Entry) (ts : List (List ℕ)) → Has bounds ws g → is_table g es ≡ true → entry_row bounds ws es ts ≡ Ok fs → is_table g fs ≡ true
+pub entry_row_ok : (bounds : Bounds) (ws : List Word) (g : GameLists) (es fs : List Entry) (ts : List (List ℕ))
+    → Has bounds ws g → is_table g es ≡ true → entry_row bounds ws es ts ≡ Ok fs → is_table g fs ≡ true
 unfolding entry_row
 entry_row_ok bounds ws g es fs ts has kept h =
-    let a = bound (entry_verb ws ts) (λ v. entry_noun ws v.1 >>= λ n. more_condacts bounds ws [] n.1 >>= λ cs. cond (nat_lt (length es) 4000) (Ok (es ++ (record { verb = v.0; noun = n.0; condacts = cs }) ∷ [])) (Err fault.TooBig)) fs h in
-    let b = bound (entry_noun ws a.0.1) (λ n. more_condacts bounds ws [] n.1 >>= λ cs. cond (nat_lt (length es) 4000) (Ok (es ++ (record { verb = a.0.0; noun = n.0; condacts = cs }) ∷ [])) (Err fault.TooBig)) fs a.2 in
-    let c = bound (more_condacts bounds ws [] b.0.1) (λ cs. cond (nat_lt (length es) 4000) (Ok (es ++ (record { verb = a.0.0; noun = b.0.0; condacts = cs }) ∷ [])) (Err fault.TooBig)) fs b.2 in
+    let a = bound (entry_verb ws ts)
+    (λ v. entry_noun ws v.1 >>= λ n. more_condacts bounds ws [] n.1 >>= λ cs. cond (nat_lt (length es) 4000)
+    (Ok (es ++ (record { verb = v.0; noun = n.0; condacts = cs }) ∷ [])) (Err fault.TooBig)) fs h in
+    let b = bound (entry_noun ws a.0.1)
+    (λ n. more_condacts bounds ws [] n.1 >>= λ cs. cond (nat_lt (length es) 4000)
+    (Ok (es ++ (record { verb = a.0.0; noun = n.0; condacts = cs }) ∷ [])) (Err fault.TooBig)) fs a.2 in
+    let c = bound (more_condacts bounds ws [] b.0.1)
+    (λ cs. cond (nat_lt (length es) 4000) (Ok (es ++ (record { verb = a.0.0; noun = b.0.0; condacts = cs }) ∷ []))
+    (Err fault.TooBig)) fs b.2 in
     let made : Entry = record { verb = a.0.0; noun = b.0.0; condacts = c.0 } in
     let d = holds (nat_lt (length es) 4000) fault.TooBig (Ok (es ++ made ∷ [])) fs c.2 in
     let cs = more_condacts_ok bounds ws g [] b.0.1 c.0 has refl c.1 in
@@ -265,27 +301,36 @@ entry_row_ok bounds ws g es fs ts has kept h =
     let old = (and_parts (nat_le (length es) 4000) (list_all (is_entry g) es) kept).1 in
     let long = length-append es (made ∷ []) in
     let room = ltb-true (length es) 4000 d.0 in
-    rw (← ok_is (es ++ made ∷ []) fs d.1) (both (nat_le (length (es ++ made ∷ [])) 4000) (list_all (is_entry g) (es ++ made ∷ [])) (grind (arith, nat_tests, long, room)) (all_pushed (is_entry g) es made old one))
+    rw (← ok_is (es ++ made ∷ []) fs d.1)
+    (both (nat_le (length (es ++ made ∷ [])) 4000) (list_all (is_entry g) (es ++ made ∷ []))
+    (grind (arith, nat_tests, long, room)) (all_pushed (is_entry g) es made old one))
 
 -- an entry with other condacts
-with_condacts : (g : GameLists) (e : Entry) (cs : List Condact) → is_entry g e ≡ true → nat_le (length cs) 255 ≡ true → list_all (is_condact g) cs ≡ true → is_entry g (record e { condacts = cs }) ≡ true
+with_condacts : (g : GameLists) (e : Entry) (cs : List Condact) → is_entry g e ≡ true → nat_le (length cs) 255 ≡ true
+    → list_all (is_condact g) cs ≡ true → is_entry g (record e { condacts = cs }) ≡ true
 with_condacts g e cs kept few all =
-    let p = and_parts (is_any e.verb || is_verb_value g.words e.verb) ((is_any e.noun || has_word g.words 2 e.noun) && (nat_le (length e.condacts) 255 && list_all (is_condact g) e.condacts)) kept in
+    let p = and_parts (is_any e.verb || is_verb_value g.words e.verb) ((is_any e.noun || has_word g.words 2 e.noun)
+    && (nat_le (length e.condacts) 255 && list_all (is_condact g) e.condacts)) kept in
     let q = and_parts (is_any e.noun || has_word g.words 2 e.noun) (nat_le (length e.condacts) 255 && list_all (is_condact g) e.condacts) p.1 in
     rw (p.0, q.0, few, all) refl
 
 its_condacts : (g : GameLists) (e : Entry) → is_entry g e ≡ true → list_all (is_condact g) e.condacts ≡ true
 its_condacts g e kept =
-    let p = and_parts (is_any e.verb || is_verb_value g.words e.verb) ((is_any e.noun || has_word g.words 2 e.noun) && (nat_le (length e.condacts) 255 && list_all (is_condact g) e.condacts)) kept in
+    let p = and_parts (is_any e.verb || is_verb_value g.words e.verb) ((is_any e.noun || has_word g.words 2 e.noun)
+    && (nat_le (length e.condacts) 255 && list_all (is_condact g) e.condacts)) kept in
     let q = and_parts (is_any e.noun || has_word g.words 2 e.noun) (nat_le (length e.condacts) 255 && list_all (is_condact g) e.condacts) p.1 in
     (and_parts (nat_le (length e.condacts) 255) (list_all (is_condact g) e.condacts) q.1).1
 
-pub more_row_ok : (bounds : Bounds) (ws : List Word) (g : GameLists) (es fs : List Entry) (ts : List (List ℕ)) → Has bounds ws g → is_table g es ≡ true → more_row bounds ws es ts ≡ Ok fs → is_table g fs ≡ true
+pub more_row_ok : (bounds : Bounds) (ws : List Word) (g : GameLists) (es fs : List Entry) (ts : List (List ℕ))
+    → Has bounds ws g → is_table g es ≡ true → more_row bounds ws es ts ≡ Ok fs → is_table g fs ≡ true
 unfolding more_row
 more_row_ok bounds ws g es fs ts has kept h =
     let last = last_or no_entry es in
-    let a = passes (eqb (length es) 0) fault.Section (more_condacts bounds ws (last_or no_entry es).condacts ts >>= λ cs. Ok (with_last (record (last_or no_entry es) { condacts = cs }) es)) fs h in
-    let b = bound (more_condacts bounds ws (last_or no_entry es).condacts ts) (λ cs. Ok (with_last (record (last_or no_entry es) { condacts = cs }) es)) fs a.1 in
+    let a = passes (eqb (length es) 0) fault.Section
+    (more_condacts bounds ws (last_or no_entry es).condacts ts >>= λ cs.
+    Ok (with_last (record (last_or no_entry es) { condacts = cs }) es)) fs h in
+    let b = bound (more_condacts bounds ws (last_or no_entry es).condacts ts)
+    (λ cs. Ok (with_last (record (last_or no_entry es) { condacts = cs }) es)) fs a.1 in
     let made : Entry = record (last_or no_entry es) { condacts = b.0 } in
     let some = eqb-false (length es) 0 a.0 in
     let p = and_parts (nat_le (length es) 4000) (list_all (is_entry g) es) kept in
@@ -293,4 +338,6 @@ more_row_ok bounds ws g es fs ts has kept h =
     let cs = more_condacts_ok bounds ws g (last_or no_entry es).condacts ts b.0 has (its_condacts g (last_or no_entry es) old) b.1 in
     let one = with_condacts g (last_or no_entry es) b.0 old cs.0 cs.1 in
     let long = length-set es (length es - 1) made in
-    rw (← ok_is (with_last made es) fs b.2) (both (nat_le (length (with_last made es)) 4000) (list_all (is_entry g) (with_last made es)) (ap (λ (n : ℕ). nat_le n 4000) long ∙ p.0) (all_set (is_entry g) es (length es - 1) made p.1 one))
+    rw (← ok_is (with_last made es) fs b.2)
+    (both (nat_le (length (with_last made es)) 4000) (list_all (is_entry g) (with_last made es))
+    (ap (λ (n : ℕ). nat_le n 4000) long ∙ p.0) (all_set (is_entry g) es (length es - 1) made p.1 one))
