@@ -75,25 +75,16 @@ counts_take : (bytes : List ℕ) (x : Counts × List ℕ) → IsBytes bytes → 
     → Takes bytes (counts_image x.0) x.1 × AreFew x.0
 unfolding counts_kept
 counts_take bytes x fits e =
-    within_then _ 0 2000 bytes _ x fits e (λ words words_taken words_kept e.
-    within_then _ 0 256 words.1 _ x words_taken.rest_fits e (λ system system_taken system_kept e.
-    within_then _ 0 256 system.1 _ x system_taken.rest_fits e (λ messages messages_taken messages_kept e.
-    within_then _ 0 255 messages.1 _ x messages_taken.rest_fits e (λ objects objects_taken objects_kept e.
-    within_then _ 1 252 objects.1 _ x objects_taken.rest_fits e (λ locations locations_taken locations_kept e.
-    within_then _ 3 256 locations.1 _ x locations_taken.rest_fits e (λ tables tables_taken tables_kept e.
+    within_then _ 0 2000 bytes _ x fits e (λ words words_taken w e.
+    within_then _ 0 256 words.1 _ x words_taken.rest_fits e (λ system system_taken s e.
+    within_then _ 0 256 system.1 _ x system_taken.rest_fits e (λ messages messages_taken m e.
+    within_then _ 0 255 messages.1 _ x messages_taken.rest_fits e (λ objects objects_taken o e.
+    within_then _ 1 252 objects.1 _ x objects_taken.rest_fits e (λ locations locations_taken l e.
+    within_then _ 3 256 locations.1 _ x locations_taken.rest_fits e (λ tables tables_taken t e.
     let four = Takes-then _ _ objects_taken (Takes-then _ _ locations_taken tables_taken) in
     let taken = Takes-then _ _ words_taken (Takes-then _ _ system_taken (Takes-then _ _ messages_taken four)) in
-    at_ok (λ (y : Counts × List ℕ). Takes bytes (counts_image y.0) y.1 × AreFew y.0) _ x e (
-      taken,
-      record {
-        words = words_kept;
-        system = system_kept;
-        messages = messages_kept;
-        objects = objects_kept;
-        locations = locations_kept;
-        tables = tables_kept;
-      },
-    )))))))
+    at_ok (λ (y : Counts × List ℕ). Takes bytes (counts_image y.0) y.1 × AreFew y.0) _ x e
+    (taken, record { words = w; system = s; messages = m; objects = o; locations = l; tables = t })))))))
 
 counts_pass : (g : GameLists) (rest : List ℕ) → AreFew (counts_of g)
     → counts_kept (counts_image (counts_of g) ++ rest) ≡ Ok (counts_of g, rest)

@@ -65,35 +65,24 @@ weight_takes b lt =
     let h128 = worth_128 (bit_at b 7) (omega arith) in
     rw (h64, h128) (omega arith))
 
-set_64 : (b : ℕ) → bit_at b 6 ≡ 1 → not (eqb (bit_and b 64) 0) ≡ true
-set_64 b h = rw (and_pow b 6, h) refl
-
-clear_64 : (b : ℕ) → bit_at b 6 ≡ 0 → not (eqb (bit_and b 64) 0) ≡ false
-clear_64 b h = rw (and_pow b 6, h) refl
-
-set_128 : (b : ℕ) → bit_at b 7 ≡ 1 → not (eqb (bit_and b 128) 0) ≡ true
-set_128 b h = rw (and_pow b 7, h) refl
-
-clear_128 : (b : ℕ) → bit_at b 7 ≡ 0 → not (eqb (bit_and b 128) 0) ≡ false
-clear_128 b h = rw (and_pow b 7, h) refl
+-- the bits of a byte with this weight, and with these two bits above it
+byte_parts : (b weight six seven : ℕ) → b ≡ weight + six * 64 + seven * 128 → weight < 64 → six < 2 → seven < 2
+    → (bit_and b 63 ≡ weight) × (not (eqb (bit_and b 64) 0) ≡ not (eqb (six * 64) 0))
+    × (not (eqb (bit_and b 128) 0) ≡ not (eqb (seven * 128) 0))
+byte_parts b weight six seven is low bit other =
+    let six_is : bit_at b 6 ≡ six = omega (arith, is, low, bit, other) in
+    let seven_is : bit_at b 7 ≡ seven = omega (arith, is, low, bit, other) in
+    (and_mask b 6 ∙ omega (arith, is, low, bit, other), rw (and_pow b 6, six_is) refl, rw (and_pow b 7, seven_is) refl)
 
 -- the byte gives the three parts back
 byte_gives : (weight : ℕ) (container wearable : Bool) → weight < 64
     → (bit_and (weight_byte weight container wearable) 63 ≡ weight)
     × (not (eqb (bit_and (weight_byte weight container wearable) 64) 0) ≡ container)
     × (not (eqb (bit_and (weight_byte weight container wearable) 128) 0) ≡ wearable)
-byte_gives weight false false lt =
-    let b = weight + 0 + 0 in
-    (and_mask b 6 ∙ omega arith, clear_64 b (omega arith), clear_128 b (omega arith))
-byte_gives weight true false lt =
-    let b = weight + 64 + 0 in
-    (and_mask b 6 ∙ omega arith, set_64 b (omega arith), clear_128 b (omega arith))
-byte_gives weight false true lt =
-    let b = weight + 0 + 128 in
-    (and_mask b 6 ∙ omega arith, clear_64 b (omega arith), set_128 b (omega arith))
-byte_gives weight true true lt =
-    let b = weight + 64 + 128 in
-    (and_mask b 6 ∙ omega arith, set_64 b (omega arith), set_128 b (omega arith))
+byte_gives weight false false lt = byte_parts (weight + 0 + 0) weight 0 0 (omega arith) lt (omega arith) (omega arith)
+byte_gives weight true false lt = byte_parts (weight + 64 + 0) weight 1 0 (omega arith) lt (omega arith) (omega arith)
+byte_gives weight false true lt = byte_parts (weight + 0 + 128) weight 0 1 (omega arith) lt (omega arith) (omega arith)
+byte_gives weight true true lt = byte_parts (weight + 64 + 128) weight 1 1 (omega arith) lt (omega arith) (omega arith)
 
 facts_take : TakesRow leading_facts facts_image
 unfolding leading_facts

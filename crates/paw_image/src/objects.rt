@@ -67,17 +67,6 @@ fn last_byte(facts: ObjectFacts) -> u8
     facts.weight + container + wearable
 }
 
-impl ReadRow for ObjectRow {
-    ghost reading = { object_at };
-
-    #[tactic(auto, unfolding(crate::specs::inner::Reading::object_at))]
-    fn read(alloc: Global, bytes: &[u8]) -> Result<(ObjectRow, &[u8]), ReadFault> {
-        let (text, rest) = Text::read(alloc, bytes)?;
-        let (facts, rest) = read_facts(rest)?;
-        Ok((ObjectRow { text, facts }, rest))
-    }
-}
-
 impl Row for ObjectRow {
     ghost spelling = { object_image };
 
@@ -91,6 +80,17 @@ impl Row for ObjectRow {
         self.text.write(out)?;
         let facts = self.facts;
         out.extend_from_slice(&[facts.noun, facts.adjective, facts.start, last_byte(facts)])
+    }
+}
+
+impl ReadRow for ObjectRow {
+    ghost reading = { object_at };
+
+    #[tactic(auto, unfolding(crate::specs::inner::Reading::object_at))]
+    fn read(alloc: Global, bytes: &[u8]) -> Result<(ObjectRow, &[u8]), ReadFault> {
+        let (text, rest) = Text::read(alloc, bytes)?;
+        let (facts, rest) = read_facts(rest)?;
+        Ok((ObjectRow { text, facts }, rest))
     }
 }
 

@@ -170,16 +170,23 @@ fn pass_parameter<'a>(
     Ok(rest)
 }
 
+/// The bytes after the condact at the front.
+#[tactic(auto, unfolding(crate::specs::Damage::after_condact))]
+fn pass_condact<'a>(rules: &Rules, bytes: &'a [u8]) -> Result<&'a [u8], ReadFault>
+    ensures gives { Gives (λ x. x.now) result (after_condact rules.now bytes.now) }
+{
+    let (code, rest) = read_byte(bytes)?;
+    let Some(row) = condact_row(code) else {
+        return Err(fault_at(bytes));
+    };
+    let rest = pass_parameter(rules, row.first, rest)?;
+    pass_parameter(rules, row.second, rest)
+}
+
 impl InPlace for Condact {
     ghost passing = { after_condact };
 
-    #[tactic(auto, unfolding(crate::specs::Damage::after_condact))]
     fn pass<'a>(rules: &Rules, bytes: &'a [u8]) -> Result<&'a [u8], ReadFault> {
-        let (code, rest) = read_byte(bytes)?;
-        let Some(row) = condact_row(code) else {
-            return Err(fault_at(bytes));
-        };
-        let rest = pass_parameter(rules, row.first, rest)?;
-        pass_parameter(rules, row.second, rest)
+        pass_condact(rules, bytes)
     }
 }

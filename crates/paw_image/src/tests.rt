@@ -31,6 +31,19 @@ const LANTERN: [u8; 87] = [
     1, 0, 30, 50, 2, 51, 0, 32, 0, 0, 0, 0,
 ];
 
+/// The condacts of the entry of the lantern game.
+const MESSAGE: Condact = Condact {
+    code: 51,
+    a: 0,
+    b: 0,
+};
+
+const DONE: Condact = Condact {
+    code: 32,
+    a: 0,
+    b: 0,
+};
+
 #[test]
 fn images_are_read_and_written_again(rt: HostRuntime) -> Result<(), Fail> {
     for image in [
@@ -78,17 +91,7 @@ fn a_table_of_the_lantern_game(rt: HostRuntime) -> Result<(), Fail> {
     assert_eq!(rt; parts.tables[0].entries.len(), 1);
     let entry = &parts.tables[0].entries[0];
     assert_eq!(rt; (entry.verb, entry.noun), (30, 50));
-    let message = Condact {
-        code: 51,
-        a: 0,
-        b: 0,
-    };
-    let done = Condact {
-        code: 32,
-        a: 0,
-        b: 0,
-    };
-    assert_eq!(rt; entry.condacts.rows.as_slice(), [message, done].as_slice());
+    assert_eq!(rt; entry.condacts.rows.as_slice(), [MESSAGE, DONE].as_slice());
     Ok(())
 }
 
@@ -260,18 +263,8 @@ fn both_tell_the_lantern(rt: HostRuntime) -> Result<(), Fail> {
     let view = View::new(rt.alloc(), &LANTERN)?;
     assert!(rt; is_lantern(&game));
     assert!(rt; is_lantern(&view));
-    let message = Condact {
-        code: 51,
-        a: 0,
-        b: 0,
-    };
-    let done = Condact {
-        code: 32,
-        a: 0,
-        b: 0,
-    };
-    assert_eq!(rt; condacts(&game), [Some(message), Some(done), None]);
-    assert_eq!(rt; condacts(&view), [Some(message), Some(done), None]);
+    assert_eq!(rt; condacts(&game), [Some(MESSAGE), Some(DONE), None]);
+    assert_eq!(rt; condacts(&view), [Some(MESSAGE), Some(DONE), None]);
     Ok(())
 }
 
@@ -398,11 +391,6 @@ fn has_every_kind<T: Tables>(tables: &T) -> bool {
         container: false,
         wearable: true,
     };
-    let done = Condact {
-        code: 32,
-        a: 0,
-        b: 0,
-    };
     let set = Condact {
         code: 70,
         a: 60,
@@ -411,7 +399,7 @@ fn has_every_kind<T: Tables>(tables: &T) -> bool {
     tables.facts(0) == Some(sack)
         && tables.facts(1) == Some(coat)
         && tables.text(GamePart::Messages, 0) == Some([b'm'; 300].as_slice())
-        && tables.condact(0, 0, 254) == Some(done)
+        && tables.condact(0, 0, 254) == Some(DONE)
         && tables.condact(0, 0, 255).is_none()
         && tables.condact(0, 1, 0) == Some(set)
         && tables.head(0, 1) == Some((1, 255))

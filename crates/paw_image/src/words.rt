@@ -10,6 +10,7 @@ ghost use Rattle.paw_image.specs.inner.Sizes.{FitsWord};
 use crate::fault::ReadFault;
 use crate::fields::{fault_at, read_array, read_byte};
 use crate::rows::Row;
+use paw_base::limits::WORD_LENGTH;
 use paw_base::words::{GREATEST_WORD, LEAST_WORD, PRONOUN_CLASS};
 use paw_game::parts::Word;
 use paw_game::words::are_letters;
@@ -21,7 +22,7 @@ impl Row for Word {
     ghost fits = { FitsWord };
 
     fn length(&self) -> usize {
-        self.letters.len() + 2
+        WORD_LENGTH + 2
     }
 
     fn write(&self, out: &mut Vec<u8>) -> Result<(), AllocError> {

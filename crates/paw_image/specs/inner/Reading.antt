@@ -8,6 +8,7 @@ use Rattle.paw_base.specs.declared.parts.ObjectFacts.{ObjectFacts}
 use Rattle.paw_base.specs.declared.rows.ParamKind.{ParamKind}
 use Rattle.paw_base.specs.declared.rows.ParamKind.TheVariants as kind
 use Rattle.paw_base.specs.Condacts.{first_kind, second_kind}
+use Rattle.paw_game.specs.declared.parts.Word.{Word}
 use Rattle.paw_game.specs.declared.parts.ObjectRow.{ObjectRow}
 use Rattle.paw_game.specs.declared.parts.Exit.{Exit}
 use Rattle.paw_game.specs.declared.parts.Entry.{Entry}
@@ -132,6 +133,18 @@ leading_table bytes = do
 
 -- ---- the whole image ----
 
+abbrev pub game_with : List Word → List (List ℕ) → List (List ℕ) → List ObjectRow → List (List ℕ) → List (List Exit)
+    → List (List Entry) → GameLists
+game_with words system messages objects locations exits tables = record {
+  words = words;
+  system = system;
+  messages = messages;
+  objects = objects;
+  locations = locations;
+  exits = exits;
+  tables = tables;
+}
+
 -- the lists after the words, with so many rows; each location has its exits
 unfoldable pub lists_at : Declared → List ℕ → Reading GameLists
 lists_at d bytes = do
@@ -141,18 +154,7 @@ lists_at d bytes = do
   locations ← leading_rows text_at d.counts.locations objects.1
   exits ← leading_rows exits_at d.counts.locations locations.1
   tables ← leading_rows leading_table d.counts.tables exits.1
-  Ok (
-    record {
-      words = d.words;
-      system = system.0;
-      messages = messages.0;
-      objects = objects.0;
-      locations = locations.0;
-      exits = exits.0;
-      tables = tables.0;
-    },
-    tables.1,
-  )
+  Ok (game_with d.words system.0 messages.0 objects.0 locations.0 exits.0 tables.0, tables.1)
 
 -- all of the bytes, with none after the lists
 unfoldable pub all_of : List ℕ → Result GameLists ℕ
