@@ -19,7 +19,7 @@ use Rattle.paw_game.specs.declared.parts.Entry.{Entry}
 use Rattle.paw_game.specs.Image.{two_bytes, text_image, weight_byte, object_image, exit_image}
 use Rattle.paw_game.specs.Image.{exits_image, parameter_image, condact_image, entry_image, table_image}
 use Rattle.paw_image.specs.Reading.{byte_at, number_at}
-use Rattle.paw_image.specs.inner.Reading.{few_at, leading_rows, text_at, facts_with, leading_facts, object_at, leading_exit}
+use Rattle.paw_image.specs.inner.Reading.{few_at, pair_at, leading_rows, text_at, facts_with, leading_facts, object_at, leading_exit}
 use Rattle.paw_image.specs.inner.Reading.{exits_at, code_at, parameter_at, leading_condact, leading_entry, leading_table}
 use Rattle.paw_image.specs.inner.Sizes.{FitsText, FitsObject, FitsExit, FitsExits, FitsParameter, FitsCondact}
 use Rattle.paw_image.specs.inner.Sizes.{FitsEntry, FitsTable}
@@ -121,17 +121,24 @@ object_again o rest fits =
 
 -- ---- exits ----
 
+pair_takes : TakesRow pair_at (λ p. p.0 ∷ p.1 ∷ [])
+unfolding pair_at
+pair_takes bytes x fits e =
+    bind_then _ (byte_at bytes) _ x e (λ first first_ok e.
+    bind_then _ (byte_at first.1) _ x e (λ second second_ok e.
+    let first_taken = (byte_takes bytes first fits first_ok).0 in
+    let second_taken = (byte_takes first.1 second first_taken.rest_fits second_ok).0 in
+    at_ok (λ (y : (ℕ × ℕ) × List ℕ). Takes bytes (y.0.0 ∷ y.0.1 ∷ []) y.1) _ x e
+    (Takes-then (first.0 ∷ []) (second.0 ∷ []) first_taken second_taken)))
+
 pub exit_takes : TakesRow leading_exit exit_image
 unfolding leading_exit
 exit_takes bytes x fits e =
-    bind_then _ (byte_at bytes) _ x e (λ verb verb_ok e.
-    bind_then _ (byte_at verb.1) _ x e (λ to to_ok e.
-    let verb_taken = (byte_takes bytes verb fits verb_ok).0 in
-    let to_taken = (byte_takes verb.1 to verb_taken.rest_fits to_ok).0 in
-    at_ok (λ (y : Exit × List ℕ). Takes bytes (exit_image y.0) y.1) _ x e (Takes-then (verb.0 ∷ []) (to.0 ∷ []) verb_taken to_taken)))
+    bind_then _ (pair_at bytes) _ x e (λ pair pair_ok e.
+    at_ok (λ (y : Exit × List ℕ). Takes bytes (exit_image y.0) y.1) _ x e (pair_takes bytes pair fits pair_ok))
 
 exit_again : ReadsAgain leading_exit exit_image FitsExit
-unfolding leading_exit
+unfolding leading_exit pair_at
 exit_again x rest fits = refl
 
 all_exits : (xs : List Exit) → AllByRecursion FitsExit xs
@@ -191,18 +198,16 @@ condact_again c rest fits =
 pub entry_takes : TakesRow leading_entry entry_image
 unfolding leading_entry
 entry_takes bytes x fits e =
-    bind_then _ (byte_at bytes) _ x e (λ verb verb_ok e.
-    bind_then _ (byte_at verb.1) _ x e (λ noun noun_ok e.
-    bind_then _ (few_at leading_condact noun.1) _ x e (λ condacts condacts_ok e.
-    let verb_taken = (byte_takes bytes verb fits verb_ok).0 in
-    let noun_taken = (byte_takes verb.1 noun verb_taken.rest_fits noun_ok).0 in
-    let condacts_taken = few_take leading_condact condact_image condact_takes noun.1 condacts noun_taken.rest_fits condacts_ok in
+    bind_then _ (pair_at bytes) _ x e (λ head head_ok e.
+    bind_then _ (few_at leading_condact head.1) _ x e (λ condacts condacts_ok e.
+    let head_taken = pair_takes bytes head fits head_ok in
+    let condacts_taken = few_take leading_condact condact_image condact_takes head.1 condacts head_taken.rest_fits condacts_ok in
     let images = length condacts.0 ∷ flat_map condact_image condacts.0 in
     at_ok (λ (y : Entry × List ℕ). Takes bytes (entry_image y.0) y.1) _ x e
-    (Takes-then (verb.0 ∷ []) (noun.0 ∷ images) verb_taken (Takes-then (noun.0 ∷ []) images noun_taken condacts_taken)))))
+    (Takes-then (head.0.0 ∷ head.0.1 ∷ []) images head_taken condacts_taken)))
 
 entry_again : ReadsAgain leading_entry entry_image FitsEntry
-unfolding leading_entry
+unfolding leading_entry pair_at
 entry_again e rest fits =
     rw (few_again leading_condact condact_image FitsCondact condact_again e.condacts rest fits.condacts) refl
 

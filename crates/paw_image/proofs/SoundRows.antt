@@ -19,7 +19,7 @@ use Rattle.paw_game.specs.Valid.{is_within, is_printed, is_text, is_word_or_none
 use Rattle.paw_game.specs.Valid.{is_object, is_verb_value, are_exits, is_exits, is_parameter}
 use Rattle.paw_game.specs.Valid.{is_condact, is_any, has_word, is_entry, is_table}
 use Rattle.paw_image.specs.Reading.{◌>>=◌, byte_at, bytes_at, number_at}
-use Rattle.paw_image.specs.inner.Reading.{few_at, leading_rows, text_at, facts_with, leading_facts, object_at, leading_exit, exits_at}
+use Rattle.paw_image.specs.inner.Reading.{few_at, pair_at, leading_rows, text_at, facts_with, leading_facts, object_at, leading_exit, exits_at}
 use Rattle.paw_image.specs.inner.Reading.{code_at, parameter_at, leading_condact, leading_entry, leading_table}
 use Rattle.paw_image.specs.Damage.{Declared, field_kept, each, after_text, after_facts, after_object}
 use Rattle.paw_image.specs.Damage.{exit_kept, after_exits_of, after_exits, keeps_kind, after_parameter}
@@ -114,7 +114,7 @@ keeps_after d verbs xs = none_of verbs xs && are_exits d.words d.counts.location
 
 exits_sound_of : (d : Declared) (verbs : List ℕ) (n : ℕ) (bytes rest : List ℕ)
     → after_exits_of d verbs n bytes ≡ Ok rest → Stands (leading_rows leading_exit n bytes) (keeps_after d verbs) rest
-unfolding after_exits_of exit_kept leading_rows leading_exit
+unfolding after_exits_of exit_kept leading_rows leading_exit pair_at
 exits_sound_of d verbs zero bytes rest e =
     record { value = []; reads = at_ok (λ (r : List ℕ). leading_rows leading_exit 0 bytes ≡ Ok ([], r)) bytes rest e refl; keeps = refl }
 exits_sound_of d verbs (suc n) bytes rest e =
@@ -200,7 +200,7 @@ condact_sound d bytes rest fits e =
     }))
 
 pub entry_sound : (d : Declared) → SoundRow (after_entry d) leading_entry (keeps_entry d)
-unfolding after_entry leading_entry few_at
+unfolding after_entry leading_entry pair_at few_at
 entry_sound d bytes rest fits e =
     kept_then _ (λ v. is_any v || is_verb_value d.words v) byte_at bytes _ rest e (λ verb verb_ok verb_kept e.
     kept_then _ (λ n. is_any n || has_word d.words 2 n) byte_at verb.1 _ rest e (λ noun noun_ok noun_kept e.

@@ -8,7 +8,7 @@ ghost use Rattle.paw_image.specs.inner.Reading.{Gives, leading_exit, exits_at};
 ghost use Rattle.paw_image.specs.inner.Sizes.{FitsExit, FitsExits};
 
 use crate::fault::ReadFault;
-use crate::fields::{fault_at, read_byte};
+use crate::fields::{fault_at, read_byte, read_pair};
 use crate::in_place::InPlace;
 use crate::rows::{ReadRow, Row, length_of_few, read_few, write_few};
 use crate::rules::Rules;
@@ -20,8 +20,7 @@ impl ReadRow for Exit {
 
     #[tactic(auto, unfolding(crate::specs::inner::Reading::leading_exit))]
     fn read(_: Global, bytes: &[u8]) -> Result<(Exit, &[u8]), ReadFault> {
-        let (verb, rest) = read_byte(bytes)?;
-        let (to, rest) = read_byte(rest)?;
+        let ((verb, to), rest) = read_pair(bytes)?;
         Ok((Exit { verb, to }, rest))
     }
 }

@@ -4,7 +4,7 @@ ghost use Rattle.std.specs.Prelude.{◌≡◌, ◌^◌, ◌<◌, ◌++◌, lengt
 ghost use Rattle.paw_game.specs.Image.{two_bytes};
 ghost use Rattle.paw_image.specs.Damage.{number_kept};
 ghost use Rattle.paw_image.specs.Reading.{byte_at, bytes_at, number_at};
-ghost use Rattle.paw_image.specs.inner.Reading.{Gives, IsFault};
+ghost use Rattle.paw_image.specs.inner.Reading.{Gives, IsFault, pair_at};
 ghost use Rattle.paw_image.specs.declared.fault.ReadFault.TheVariants as fault;
 
 use crate::fault::ReadFault;
@@ -19,6 +19,16 @@ pub fn read_byte(bytes: &[u8]) -> Result<(u8, &[u8]), ReadFault>
         [] => Err(ReadFault::Damaged { left: 0 }),
         [byte, rest @ ..] => Ok((*byte, rest)),
     }
+}
+
+/// The two bytes at the front.
+#[tactic(auto, unfolding(crate::specs::inner::Reading::pair_at))]
+pub fn read_pair(bytes: &[u8]) -> Result<((u8, u8), &[u8]), ReadFault>
+    ensures gives { Gives (λ x. (x.0, x.1.now)) result (pair_at bytes.now) }
+{
+    let (first, rest) = read_byte(bytes)?;
+    let (second, rest) = read_byte(rest)?;
+    Ok(((first, second), rest))
 }
 
 /// The first `count` bytes.

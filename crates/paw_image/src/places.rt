@@ -19,14 +19,6 @@ use paw_base::limits::ENTRY_LIMIT;
 use paw_game::parts::{Exits, ObjectRow, Text};
 use std::alloc::Global;
 
-/// Where the entries of a table begin, the marks in their condacts, and the entries in order of verb and noun.
-#[derive(Drop)]
-pub struct TableIndex {
-    pub entries: Vec<u32>,
-    pub marks: CondactMarks,
-    pub order: Order,
-}
-
 /// Where the rows of each list begin.
 #[derive(Drop)]
 pub struct Places {
@@ -36,6 +28,14 @@ pub struct Places {
     pub locations: Vec<u32>,
     pub exits: Vec<u32>,
     pub tables: Vec<TableIndex>,
+}
+
+/// Where the entries of a table begin, the marks in their condacts, and the entries in order of verb and noun.
+#[derive(Drop)]
+pub struct TableIndex {
+    pub entries: Vec<u32>,
+    pub marks: CondactMarks,
+    pub order: Order,
 }
 
 /// Goes over the table at the front of the last of all bytes: its index, and the bytes after it.

@@ -9,7 +9,7 @@ ghost use Rattle.paw_image.specs.inner.Reading.{leading_condact, leading_entry, 
 ghost use Rattle.paw_base.specs.inner.Condacts.{condact_row_of};
 
 use crate::fault::ReadFault;
-use crate::fields::{fault_at, read_byte, read_number, write_number};
+use crate::fields::{fault_at, read_byte, read_number, read_pair, write_number};
 use crate::in_place::InPlace;
 use crate::rows::{
     ReadRow, Row, length_of_few, length_of_rows, read_few, read_rows, write_few, write_rows,
@@ -98,8 +98,7 @@ impl ReadRow for Entry {
 
     #[tactic(auto, unfolding(crate::specs::inner::Reading::leading_entry))]
     fn read(alloc: Global, bytes: &[u8]) -> Result<(Entry, &[u8]), ReadFault> {
-        let (verb, rest) = read_byte(bytes)?;
-        let (noun, rest) = read_byte(rest)?;
+        let ((verb, noun), rest) = read_pair(bytes)?;
         let (rows, rest) = read_few(alloc, rest)?;
         let condacts = Condacts { rows };
         let entry = Entry {

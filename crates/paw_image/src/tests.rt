@@ -86,10 +86,10 @@ fn the_lantern_game_is_told(rt: HostRuntime) -> Result<(), Fail> {
 #[test]
 fn a_table_of_the_lantern_game(rt: HostRuntime) -> Result<(), Fail> {
     let game = decode(rt.alloc(), &LANTERN)?;
-    let parts = game.parts();
-    assert_eq!(rt; parts.tables.len(), 3);
-    assert_eq!(rt; parts.tables[0].entries.len(), 1);
-    let entry = &parts.tables[0].entries[0];
+    let tables = &game.parts().tables;
+    assert_eq!(rt; tables.len(), 3);
+    assert_eq!(rt; tables[0].entries.len(), 1);
+    let entry = &tables[0].entries[0];
     assert_eq!(rt; (entry.verb, entry.noun), (30, 50));
     assert_eq!(rt; entry.condacts.rows.as_slice(), [MESSAGE, DONE].as_slice());
     Ok(())

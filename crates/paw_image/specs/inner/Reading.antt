@@ -37,6 +37,13 @@ IsFault (Err left) = Unit {0}
 
 -- ---- numbers and bytes ----
 
+-- two bytes
+unfoldable pub pair_at : List ℕ → Reading (ℕ × ℕ)
+pair_at bytes = do
+  first ← byte_at bytes
+  second ← byte_at first.1
+  Ok ((first.0, second.0), second.1)
+
 -- as many rows as are counted
 unfoldable pub leading_rows : {A : Type 0} → (List ℕ → Reading A) → ℕ → List ℕ → Reading (List A)
 leading_rows row zero bytes = Ok ([], bytes)
@@ -89,9 +96,8 @@ object_at bytes = do
 -- a verb, and where it leads
 unfoldable pub leading_exit : List ℕ → Reading Exit
 leading_exit bytes = do
-  verb ← byte_at bytes
-  to ← byte_at verb.1
-  Ok (record { verb = verb.0; to = to.0 }, to.1)
+  pair ← pair_at bytes
+  Ok (record { verb = pair.0.0; to = pair.0.1 }, pair.1)
 
 -- how many exits, and each
 abbrev pub exits_at : List ℕ → Reading (List Exit)
@@ -120,10 +126,9 @@ leading_condact bytes = do
 -- verb, noun, how many condacts, and each
 unfoldable pub leading_entry : List ℕ → Reading Entry
 leading_entry bytes = do
-  verb ← byte_at bytes
-  noun ← byte_at verb.1
-  condacts ← few_at leading_condact noun.1
-  Ok (record { verb = verb.0; noun = noun.0; condacts = condacts.0 }, condacts.1)
+  head ← pair_at bytes
+  condacts ← few_at leading_condact head.1
+  Ok (record { verb = head.0.0; noun = head.0.1; condacts = condacts.0 }, condacts.1)
 
 -- how many entries, and each
 unfoldable pub leading_table : List ℕ → Reading (List Entry)
