@@ -63,11 +63,16 @@ fn smallest(alloc: Global) -> Result<GameParts, AllocError> {
     })
 }
 
+/// The source of a game with these parts.
+fn source_of(alloc: Global, parts: GameParts) -> Result<Vec<u8>, Fail> {
+    let game = Game::new(parts).ok().ok_or("no game")?;
+    Ok(canonical(alloc, &game).ok().ok_or("no room")?)
+}
+
 #[test]
 fn the_smallest_game_has_eleven_lines(rt: HostRuntime) -> Result<(), Fail> {
-    let game = Game::new(smallest(rt.alloc())?).ok().ok_or("no game")?;
     let wanted = "/VOC\n/STX\n/MTX\n/OTX\n/LTX\n/0\n/CON\n/OBJ\n/PRO 0\n/PRO 1\n/PRO 2\n";
-    let source = canonical(rt.alloc(), &game).ok().ok_or("no room")?;
+    let source = source_of(rt.alloc(), smallest(rt.alloc())?)?;
     assert_eq!(rt; source.as_slice(), wanted.as_bytes());
     Ok(())
 }
@@ -107,13 +112,12 @@ fn lantern(alloc: Global) -> Result<GameParts, AllocError> {
 
 #[test]
 fn the_lantern_game_names_its_first_words(rt: HostRuntime) -> Result<(), Fail> {
-    let game = Game::new(lantern(rt.alloc())?).ok().ok_or("no game")?;
     let wanted = concat!(
         "/VOC\nGET 30 verb\nLAMP 50 noun\nLANTE 50 noun\nTAKE 30 verb\n",
         "/STX\n/MTX\n/0\nTaken.\n/OTX\n/0\na lamp\n/LTX\n/0\nA cave.\n/CON\n",
         "/OBJ\n0 0 1 - LAMP _\n/PRO 0\nGET LAMP\n MESSAGE 0\n DONE\n/PRO 1\n/PRO 2\n",
     );
-    let source = canonical(rt.alloc(), &game).ok().ok_or("no room")?;
+    let source = source_of(rt.alloc(), lantern(rt.alloc())?)?;
     assert_eq!(rt; source.as_slice(), wanted.as_bytes());
     Ok(())
 }
@@ -147,13 +151,12 @@ fn two_rooms(alloc: Global) -> Result<GameParts, AllocError> {
 
 #[test]
 fn two_rooms_keep_an_empty_last_line(rt: HostRuntime) -> Result<(), Fail> {
-    let game = Game::new(two_rooms(rt.alloc())?).ok().ok_or("no game")?;
     let wanted = concat!(
         "/VOC\nN 2 noun\nS 3 noun\nSING 31 verb\n/STX\n/MTX\n/0\nLa la.\n\n/OTX\n",
         "/LTX\n/0\nHall.\n/1\nYard.\n/CON\n/0\nN 1\n/1\nS 0\n/OBJ\n",
         "/PRO 0\nSING _\n NOTAT 1\n MES 0\n DONE\n* N\n/PRO 1\n/PRO 2\n",
     );
-    let source = canonical(rt.alloc(), &game).ok().ok_or("no room")?;
+    let source = source_of(rt.alloc(), two_rooms(rt.alloc())?)?;
     assert_eq!(rt; source.as_slice(), wanted.as_bytes());
     Ok(())
 }
