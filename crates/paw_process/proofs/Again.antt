@@ -1,5 +1,6 @@
 -- What is kept of a machine, and the machine of what is kept.
-use Rattle.std.proofs.Common.{◌≡◌, ℕ, zero, suc, ◌-◌, ◌≤◌, Bool, true, false, List, [], ◌∷◌, ◌++◌, Option, Some, None, length, take, replicate, reverse, refl, sym, ap, ◌∙◌, subst, arith}
+use Rattle.std.proofs.Common.{◌≡◌, ℕ, zero, suc, ◌-◌, ◌≤◌, Bool, true, false, List, [], ◌∷◌, ◌++◌, Option, Some}
+use Rattle.std.proofs.Common.{None, length, take, replicate, reverse, refl, sym, ap, ◌∙◌, subst, arith}
 use Rattle.std.specs.Prelude.{◌==◌, if◌then◌else◌, not, nat_lt}
 use Rattle.std.proofs.Math.Seq.{take-append_seam}
 use Rattle.std.proofs.lemmas.Bool.{eqb-true, leb-true}
@@ -12,9 +13,11 @@ use Rattle.paw_reading.specs.declared.places.Frame.{Frame}
 use Rattle.paw_reading.specs.declared.places.OpenLoop.{OpenLoop}
 use Rattle.paw_process.specs.declared.kept.Frames.{Frames}
 use Rattle.paw_process.specs.OpenTables.{OpenTables}
+use Rattle.paw_process.specs.inner.OpenTables.{refilled}
 use Rattle.paw_process.proofs.Rows.{length_rows}
 use Rattle.paw_process.proofs.Restored.{first_of, second, no_first}
-use Rattle.paw_process.specs.Kept.{unused, kept, is_unused, row_stands, rows_fault, condact_of, parameter_of, first_fault, loop_fault, count_fits, fault_at, frames_fault, waiting_code, code_or_zero}
+use Rattle.paw_process.specs.Kept.{unused, kept, is_unused, row_stands, rows_fault, condact_of, parameter_of, first_fault}
+use Rattle.paw_process.specs.Kept.{loop_fault, count_fits, fault_at, frames_fault, waiting_code, code_or_zero}
 use Rattle.paw_process.specs.inner.Kept.{restored, waiting_at, StandsAt}
 
 -- ---- the machine again ----
@@ -25,19 +28,21 @@ all_again fs unread =
     subst (λ n. take n (reverse fs ++ unread) ≡ reverse fs) (length-reverse fs) (take-append_seam (reverse fs) unread) in
     ap (λ (s : List Frame). reverse s) front ∙ reverse-reverse fs
 
-again_at : (m : OpenTables) (waiting : Option Prompt) → m.waiting ≡ waiting → restored (kept m) waiting ≡ record m { left = 200000; steps = no_steps }
+again_at : (m : OpenTables) (waiting : Option Prompt) → m.waiting ≡ waiting → restored (kept m) waiting ≡ refilled m
 again_at m waiting is =
-    ap (λ (fs : List Frame). record { frames = fs; turning = m.turning; waiting = waiting; left = 200000; steps = no_steps }) (all_again m.frames (replicate (11 - length m.frames) unused))
+    ap (λ (fs : List Frame). record { frames = fs; turning = m.turning; waiting = waiting; left = 200000; steps = no_steps })
+    (all_again m.frames (replicate (11 - length m.frames) unused))
     ∙ ap (λ (w : Option Prompt). record { frames = m.frames; turning = m.turning; waiting = w; left = 200000; steps = no_steps }) (sym is)
 
-pub restored_again : (p : Prompt) (m : OpenTables) → StandsAt p m → restored (kept m) (waiting_at p) ≡ record m { left = 200000; steps = no_steps }
+pub restored_again : (p : Prompt) (m : OpenTables) → StandsAt p m → restored (kept m) (waiting_at p) ≡ refilled m
 restored_again prompt.Main m stands = again_at m None stands.waiting
 restored_again prompt.Quit m stands = again_at m (Some prompt.Quit) stands.waiting
 restored_again prompt.Again m stands = again_at m (Some prompt.Again) stands.waiting
 restored_again prompt.Key m stands = again_at m (Some prompt.Key) stands.waiting
 restored_again prompt.Over m stands = again_at m None stands.waiting
 
-pub kept_again : (p : Prompt) (k : Frames) (m : OpenTables) → k ≡ kept m → StandsAt p m → restored k (waiting_at p) ≡ record m { left = 200000; steps = no_steps }
+pub kept_again : (p : Prompt) (k : Frames) (m : OpenTables) → k ≡ kept m → StandsAt p m
+    → restored k (waiting_at p) ≡ refilled m
 kept_again p k m is stands = ap (λ (u : Frames). restored u (waiting_at p)) is ∙ restored_again p m stands
 
 -- ---- the same places again ----
@@ -58,32 +63,39 @@ unused_is f h =
     (eqb-true f.at 0 (first_of (f.at == 0) _ last)) (is_not f.acted (second (f.at == 0) _ last))
 
 -- with no row in use each is unused
-none_used : (g : GameLists) (code : ℕ) (caller : Option ℕ) (d : ℕ) (rows : List Frame) → rows_fault g code caller 0 d rows ≡ None → rows ≡ replicate (length rows) unused
+none_used : (g : GameLists) (code : ℕ) (caller : Option ℕ) (d : ℕ) (rows : List Frame) → rows_fault g code caller 0 d rows ≡ None
+    → rows ≡ replicate (length rows) unused
 unfolding rows_fault
 none_used g code caller d [] h = refl
 none_used g code caller d (f ∷ fs) h = go (none_used g code (Some (parameter_of (condact_of g f))) (suc d) fs) (is_unused f) refl h
   where
     go : (rows_fault g code (Some (parameter_of (condact_of g f))) 0 (suc d) fs ≡ None → fs ≡ replicate (length fs) unused) → (b : Bool) → is_unused f ≡ b
-        → ◌≡◌ {A = Option ℕ} (if b then rows_fault g code (Some (parameter_of (condact_of g f))) (0 - 1) (suc d) fs else Some d) None → f ∷ fs ≡ replicate (length (f ∷ fs)) unused
+        → ◌≡◌ {A = Option ℕ} (if b then rows_fault g code (Some (parameter_of (condact_of g f))) (0 - 1) (suc d) fs else Some d) None
+        → f ∷ fs ≡ replicate (length (f ∷ fs)) unused
     go later true e q = let same = unused_is f e in let rest = later q in cc (same, rest)
     go later false e q = cc
 
 -- behind the rows in use each is unused
-used_then_not : (g : GameLists) (code : ℕ) (caller : Option ℕ) (n d : ℕ) (rows : List Frame) → rows_fault g code caller n d rows ≡ None → rows ≡ take n rows ++ replicate (length rows - n) unused
+used_then_not : (g : GameLists) (code : ℕ) (caller : Option ℕ) (n d : ℕ) (rows : List Frame) → rows_fault g code caller n d rows ≡ None
+    → rows ≡ take n rows ++ replicate (length rows - n) unused
 unfolding rows_fault
 used_then_not g code caller zero d rows h = let m : length rows - 0 ≡ length rows = omega arith in rw m (none_used g code caller d rows h)
 used_then_not g code caller (suc n) d [] h = let m : 0 - suc n ≡ 0 = omega arith in rw m refl
-used_then_not g code caller (suc n) d (f ∷ fs) h = go (used_then_not g code (Some (parameter_of (condact_of g f))) n (suc d) fs) (row_stands g code caller (suc n) f) refl h
+used_then_not g code caller (suc n) d (f ∷ fs) h =
+    go (used_then_not g code (Some (parameter_of (condact_of g f))) n (suc d) fs) (row_stands g code caller (suc n) f) refl h
   where
-    go : (rows_fault g code (Some (parameter_of (condact_of g f))) n (suc d) fs ≡ None → fs ≡ take n fs ++ replicate (length fs - n) unused) → (b : Bool) → row_stands g code caller (suc n) f ≡ b
-        → ◌≡◌ {A = Option ℕ} (if b then rows_fault g code (Some (parameter_of (condact_of g f))) (suc n - 1) (suc d) fs else Some d) None → f ∷ fs ≡ take (suc n) (f ∷ fs) ++ replicate (length (f ∷ fs) - suc n) unused
+    go : (rows_fault g code (Some (parameter_of (condact_of g f))) n (suc d) fs ≡ None → fs ≡ take n fs ++ replicate (length fs - n) unused)
+        → (b : Bool) → row_stands g code caller (suc n) f ≡ b
+        → ◌≡◌ {A = Option ℕ} (if b then rows_fault g code (Some (parameter_of (condact_of g f))) (suc n - 1) (suc d) fs else Some d) None
+        → f ∷ fs ≡ take (suc n) (f ∷ fs) ++ replicate (length (f ∷ fs) - suc n) unused
     go later true e q =
         let m : suc n - 1 ≡ n = omega arith in
         let l : length (f ∷ fs) - suc n ≡ length fs - n = omega arith in
         rw l (ap (λ (s : List Frame). f ∷ s) (later (rw m at q)))
     go later false e q = cc
 
-kept_of : (count : ℕ) (rows : List Frame) (turning : Option OpenLoop) → count ≤ 11 → length rows ≡ 11 → rows ≡ take count rows ++ replicate (length rows - count) unused
+kept_of : (count : ℕ) (rows : List Frame) (turning : Option OpenLoop) → count ≤ 11 → length rows ≡ 11
+    → rows ≡ take count rows ++ replicate (length rows - count) unused
     → ◌≡◌ {A = Frames} (record {
       count = length (reverse (take count rows));
       rows = reverse (reverse (take count rows)) ++ replicate (11 - length (reverse (take count rows))) unused;
@@ -98,15 +110,19 @@ low_count : (code : Option ℕ) (n : ℕ) → count_fits code n ≡ true → n �
 low_count None n h = let z = eqb-true n 0 h in omega arith
 low_count (Some code) n h = leb-true n 11 (second (nat_lt 0 n) _ h)
 
-kept_at : (g : GameLists) (code : Option ℕ) (waiting : Option Prompt) (k : Frames) → length k.rows ≡ 11 → fault_at g code k ≡ None → kept (restored k waiting) ≡ k
+kept_at : (g : GameLists) (code : Option ℕ) (waiting : Option Prompt) (k : Frames) → length k.rows ≡ 11 → fault_at g code k ≡ None
+    → kept (restored k waiting) ≡ k
 kept_at g code waiting k size h = go (count_fits code k.count) refl h
   where
-    go : (b : Bool) → count_fits code k.count ≡ b → ◌≡◌ {A = Option ℕ} (if b then first_fault (rows_fault g (code_or_zero code) None k.count 0 k.rows) (loop_fault g k k.turning) else Some 0) None
+    go : (b : Bool) → count_fits code k.count ≡ b
+        → ◌≡◌ {A = Option ℕ}
+        (if b then first_fault (rows_fault g (code_or_zero code) None k.count 0 k.rows) (loop_fault g k k.turning) else Some 0) None
         → kept (restored k waiting) ≡ k
     go true e q =
         let fits = no_first (rows_fault g (code_or_zero code) None k.count 0 k.rows) (loop_fault g k k.turning) q in
         kept_of k.count k.rows k.turning (low_count code k.count e) size (used_then_not g (code_or_zero code) None k.count 0 k.rows fits.0)
     go false e q = cc
 
-pub restored_kept : (g : GameLists) (p : Prompt) (waiting : Option Prompt) (k : Frames) → length k.rows ≡ 11 → frames_fault g p k ≡ None → kept (restored k waiting) ≡ k
+pub restored_kept : (g : GameLists) (p : Prompt) (waiting : Option Prompt) (k : Frames) → length k.rows ≡ 11 → frames_fault g p k ≡ None
+    → kept (restored k waiting) ≡ k
 restored_kept g p waiting k size h = kept_at g (waiting_code p) waiting k size h

@@ -1,5 +1,6 @@
 -- Kept places keep their rules exactly where they are places of a run.
-use Rattle.std.proofs.Common.{◌≡◌, ℕ, zero, suc, ◌-◌, ◌≤◌, ◌<◌, Bool, true, false, ◌&&◌, List, [], ◌∷◌, ◌++◌, Option, Some, None, refl, sym, ap, ◌∙◌, subst, length, take, replicate, reverse, slice_get, arith}
+use Rattle.std.proofs.Common.{◌≡◌, ℕ, zero, suc, ◌-◌, ◌≤◌, ◌<◌, Bool, true, false, ◌&&◌, List, [], ◌∷◌, ◌++◌, Option, Some}
+use Rattle.std.proofs.Common.{None, refl, sym, ap, ◌∙◌, subst, length, take, replicate, reverse, slice_get, arith}
 use Rattle.std.specs.Prelude.{◌==◌, if◌then◌else◌, nat_lt, IfSome}
 use Rattle.std.proofs.lemmas.Bool.Decides.{nat_tests}
 use Rattle.std.proofs.lemmas.Bool.{eqb-true, ltb-true, leb-true}
@@ -16,7 +17,8 @@ use Rattle.paw_reading.specs.Turn.{first_table}
 use Rattle.paw_reading.specs.inner.Places.{LeadsTo, tables_of, IsLoopIn, AreOpenTo, ArePlaces}
 use Rattle.paw_process.specs.OpenTables.{OpenTables}
 use Rattle.paw_process.specs.inner.OpenTables.{IsClosed}
-use Rattle.paw_process.specs.Kept.{unused, kept, condact_of, has_code, may_open, parameter_of, row_stands, rows_fault, table_of, is_that_table, loop_stands, loop_fault, first_fault, count_fits, fault_at, frames_fault}
+use Rattle.paw_process.specs.Kept.{unused, kept, condact_of, has_code, may_open, parameter_of, row_stands, rows_fault, table_of}
+use Rattle.paw_process.specs.Kept.{is_that_table, loop_stands, loop_fault, first_fault, count_fits, fault_at, frames_fault}
 use Rattle.paw_process.specs.inner.Kept.{StandsAt}
 use Rattle.paw_process.specs.declared.kept.Frames.{Frames}
 use Rattle.paw_process.proofs.Restored.{first_of, second, no_first, none_open}
@@ -41,7 +43,8 @@ unfolding rows_fault
 row_goes g code caller n d f fs stands later = let m : suc n - 1 ≡ n = omega arith in rw (stands, m) later
 
 -- a row before the last that is used
-row_calls : (g : GameLists) (code : ℕ) (caller : Option ℕ) (n : ℕ) (f : Frame) → row_stands g code caller (suc (suc n)) f ≡ (may_open caller f.table && has_code 85 (condact_of g f))
+row_calls : (g : GameLists) (code : ℕ) (caller : Option ℕ) (n : ℕ) (f : Frame)
+    → row_stands g code caller (suc (suc n)) f ≡ (may_open caller f.table && has_code 85 (condact_of g f))
 row_calls g code caller n f =
     let some : (suc (suc n) == 0) ≡ false = grind (arith, nat_tests) in
     let more : (suc (suc n) == 1) ≡ false = grind (arith, nat_tests) in
@@ -56,7 +59,8 @@ path_stands g code caller (f ∷ []) d k leads opens =
 path_stands g code caller (f ∷ h ∷ path) d k leads opens =
     row_goes g code caller (suc (length path)) d f ((h ∷ path) ++ replicate k unused)
     (row_calls g code caller (length path) f ∙ rw (opens, has 85 leads.0.condact (condact_of g f) leads.0.stands leads.0.process) refl)
-    (path_stands g code (Some (parameter_of (condact_of g f))) (h ∷ path) (suc d) k leads.1 (names leads.0.condact h.table (condact_of g f) leads.0.stands leads.0.called))
+    (path_stands g code (Some (parameter_of (condact_of g f))) (h ∷ path) (suc d) k leads.1
+    (names leads.0.condact h.table (condact_of g f) leads.0.stands leads.0.called))
 
 -- ---- and their loop ----
 
@@ -77,7 +81,14 @@ loop_fits g path rows count (Some l) p size k =
     let low : l.level < length path = level_low path l.level l.table k.level in
     let level : nat_lt l.level count ≡ true = grind (arith, nat_tests) in
     let last : nat_lt l.last (length g.objects) ≡ true = let few = k.last in grind (arith, nat_tests) in
-    rw (level, row_of path rows l.level l.table k.level, has 86 k.doall.condact (condact_at g l.table l.entry l.at) k.doall.stands k.doall.is, k.place, last) refl
+    rw (
+      level,
+      row_of path rows l.level l.table k.level,
+      has 86 k.doall.condact (condact_at g l.table l.entry l.at)
+          k.doall.stands k.doall.is,
+      k.place,
+      last,
+    ) refl
 
 -- ---- places that are kept ----
 
@@ -85,7 +96,8 @@ both_none : (a b : Option ℕ) → a ≡ None → b ≡ None → first_fault a b
 both_none None b h k = k
 both_none (Some d) b h k = cc
 
-open_fit : (g : GameLists) (code : ℕ) (m : OpenTables) → 0 < length m.frames → AreOpenTo g code (reverse m.frames) m.turning → fault_at g (Some code) (kept m) ≡ None
+open_fit : (g : GameLists) (code : ℕ) (m : OpenTables) → 0 < length m.frames → AreOpenTo g code (reverse m.frames) m.turning
+    → fault_at g (Some code) (kept m) ≡ None
 open_fit g code m some at =
     let size : length m.frames ≡ length (reverse m.frames) = sym (length-reverse m.frames) in
     let few : length m.frames ≤ 11 = omega (arith, size, at.few) in
@@ -133,7 +145,8 @@ later_rows : (g : GameLists) (code : ℕ) (caller : Option ℕ) (n d : ℕ) (f :
 unfolding rows_fault
 later_rows g code caller n d f fs h = go (row_stands g code caller (suc n) f) refl h
   where
-    go : (b : Bool) → row_stands g code caller (suc n) f ≡ b → ◌≡◌ {A = Option ℕ} (if b then rows_fault g code (Some (parameter_of (condact_of g f))) (suc n - 1) (suc d) fs else Some d) None
+    go : (b : Bool) → row_stands g code caller (suc n) f ≡ b
+        → ◌≡◌ {A = Option ℕ} (if b then rows_fault g code (Some (parameter_of (condact_of g f))) (suc n - 1) (suc d) fs else Some d) None
         → (row_stands g code caller (suc n) f ≡ true) × (rows_fault g code (Some (parameter_of (condact_of g f))) n (suc d) fs ≡ None)
     go true e q = let m : suc n - 1 ≡ n = omega arith in (e, rw m at q)
     go false e q = cc
@@ -149,10 +162,22 @@ rows_lead g code caller (suc n) d (f ∷ []) size h = absurd (omega arith)
 rows_lead g code caller (suc n) d (f ∷ i ∷ fs) size h =
     let rows = later_rows g code caller (suc n) d f (i ∷ fs) h in
     let row = row_says g 85 caller f (sym (row_calls g code caller n f) ∙ rows.0) in
-    let rest = rows_lead g code (Some (parameter_of (condact_of g f))) n (suc d) (i ∷ fs) (omega arith) rows.1 in
-    ((record { condact = row.condact; stands = row.stands; process = row.is; called = opened_by row.condact i.table (condact_of g f) row.stands rest.1 }, rest.0), row.opens)
+    let rest = rows_lead g code (Some (parameter_of (condact_of g f))) n (suc d) (i ∷ fs) (omega arith) rows.1 in (
+      (
+        record {
+          condact = row.condact;
+          stands = row.stands;
+          process = row.is;
+          called = opened_by row.condact i.table (condact_of g f)
+              row.stands rest.1;
+        },
+        rest.0,
+      ),
+      row.opens,
+    )
 
-table_in : (rows : List Frame) (count i t : ℕ) → i < count → is_that_table (table_of (slice_get rows i)) t ≡ true → slice_get (tables_of (take count rows)) i ≡ Some t
+table_in : (rows : List Frame) (count i t : ℕ) → i < count → is_that_table (table_of (slice_get rows i)) t ≡ true
+    → slice_get (tables_of (take count rows)) i ≡ Some t
 table_in [] count i t low h = cc
 table_in (f ∷ rows) zero i t low h = absurd (omega arith)
 table_in (f ∷ rows) (suc count) zero t low h = ap Some (sym (eqb-true t f.table h))
@@ -169,7 +194,9 @@ loop_in g k (Some l) h = go (loop_stands g k l) refl h
         let last = second (has_code 86 (condact_at g l.table l.entry l.at)) _ later in
         let at = coded 86 (condact_at g l.table l.entry l.at) (first_of (has_code 86 (condact_at g l.table l.entry l.at)) _ later) in
         record {
-          level = table_in k.rows k.count l.level l.table (ltb-true l.level k.count (first_of (nat_lt l.level k.count) _ e)) (first_of (is_that_table (table_of (slice_get k.rows l.level)) l.table) _ own);
+          level =
+              table_in k.rows k.count l.level l.table (ltb-true l.level k.count (first_of (nat_lt l.level k.count) _ e))
+              (first_of (is_that_table (table_of (slice_get k.rows l.level)) l.table) _ own);
           doall = record { condact = at.0; stands = at.1.0; is = at.1.1 };
           place = first_of (is_place (length g.locations) l.place) _ last;
           last = ltb-true l.last (length g.objects) (second (is_place (length g.locations) l.place) _ last);
@@ -179,7 +206,8 @@ loop_in g k (Some l) h = go (loop_stands g k l) refl h
 open_places : (g : GameLists) (code : ℕ) (k : Frames) → length k.rows ≡ 11 → fault_at g (Some code) k ≡ None → AreOpenTo g code (take k.count k.rows) k.turning
 open_places g code k size h = go (count_fits (Some code) k.count) refl h
   where
-    at : (n : ℕ) → 0 < n → n ≤ 11 → n ≡ k.count → rows_fault g code None n 0 k.rows ≡ None → loop_fault g k k.turning ≡ None → AreOpenTo g code (take k.count k.rows) k.turning
+    at : (n : ℕ) → 0 < n → n ≤ 11 → n ≡ k.count → rows_fault g code None n 0 k.rows ≡ None → loop_fault g k k.turning ≡ None
+        → AreOpenTo g code (take k.count k.rows) k.turning
     at zero some few is rows loop = absurd (omega arith)
     at (suc n) some few is rows loop =
         let lead = rows_lead g code None n 0 k.rows (omega (arith, size)) rows in
@@ -190,7 +218,8 @@ open_places g code k size h = go (count_fits (Some code) k.count) refl h
           loop = loop_in g k k.turning loop;
         }
 
-    go : (b : Bool) → count_fits (Some code) k.count ≡ b → ◌≡◌ {A = Option ℕ} (if b then first_fault (rows_fault g code None k.count 0 k.rows) (loop_fault g k k.turning) else Some 0) None
+    go : (b : Bool) → count_fits (Some code) k.count ≡ b
+        → ◌≡◌ {A = Option ℕ} (if b then first_fault (rows_fault g code None k.count 0 k.rows) (loop_fault g k k.turning) else Some 0) None
         → AreOpenTo g code (take k.count k.rows) k.turning
     go true e q =
         let fits = no_first (rows_fault g code None k.count 0 k.rows) (loop_fault g k k.turning) q in
@@ -198,7 +227,8 @@ open_places g code k size h = go (count_fits (Some code) k.count) refl h
     go false e q = cc
 
 -- the other way round: kept places that keep their rules are those of a run
-pub kept_places : (g : GameLists) (p : Prompt) (k : Frames) → length k.rows ≡ 11 → frames_fault g p k ≡ None → ArePlaces g p (reverse (reverse (take k.count k.rows))) k.turning
+pub kept_places : (g : GameLists) (p : Prompt) (k : Frames) → length k.rows ≡ 11 → frames_fault g p k ≡ None
+    → ArePlaces g p (reverse (reverse (take k.count k.rows))) k.turning
 kept_places g prompt.Main k size h = let closed = none_open g k h in (ap (λ (s : List Frame). reverse s) closed.frames, closed.turning)
 kept_places g prompt.Quit k size h = rw (reverse-reverse (take k.count k.rows)) (open_places g 27 k size h)
 kept_places g prompt.Again k size h = rw (reverse-reverse (take k.count k.rows)) (open_places g 31 k size h)

@@ -16,15 +16,20 @@ use Rattle.paw_process.specs.inner.Meaning.{to_come, going_in, AnswersQuit, Answ
 use Rattle.paw_process.specs.inner.Moves.{resolved, past_of, after_quit, after_key}
 
 -- a line that isn't ignored is heard, and answers
-hears : (g : Story) (p : Prompt) (f : Frame) (go : Bool → Run → Out) (r : Run) (line : List ℕ) (lines : List (List ℕ)) → is_ignored r.world line ≡ false → asked g p f go (to_come (line ∷ lines) r) (line ∷ lines) ≡ answered g p f go (reply line) (heard line (to_come lines r))
+hears : (g : Story) (p : Prompt) (f : Frame) (go : Bool → Run → Out) (r : Run) (line : List ℕ) (lines : List (List ℕ))
+    → is_ignored r.world line ≡ false
+    → asked g p f go (to_come (line ∷ lines) r) (line ∷ lines) ≡ answered g p f go (reply line) (heard line (to_come lines r))
 unfolding asked
 hears g p f go r line lines h = rw h refl
 
-heard_at : (g : Story) (p : Prompt) (f : Frame) (fs : List Frame) (r : Run) (line : List ℕ) (lines : List (List ℕ)) → is_ignored r.world line ≡ false → on_path g p 0 (reverse (f ∷ fs)) (to_come (line ∷ lines) r) ≡ resolved g fs (answered g p f (past_of g fs f) (reply line) (heard line (to_come lines r)))
+heard_at : (g : Story) (p : Prompt) (f : Frame) (fs : List Frame) (r : Run) (line : List ℕ) (lines : List (List ℕ)) → is_ignored r.world line ≡ false
+    → on_path g p 0 (reverse (f ∷ fs)) (to_come (line ∷ lines) r)
+    ≡ resolved g fs (answered g p f (past_of g fs f) (reply line) (heard line (to_come lines r)))
 heard_at g p f fs r line lines h =
     on_path_reverse g p f fs (to_come (line ∷ lines) r) ∙ ap (resolved g fs) (hears g p f (past_of g fs f) r line lines h)
 
-quits : (g : Story) (f : Frame) (fs : List Frame) (line : List ℕ) (r : Run) (agrees : Bool) → Valid g.game → is_yes (reply line) ≡ agrees → resolved g fs (answered g prompt.Quit f (past_of g fs f) (reply line) r) ≡ going_in g (after_quit agrees f ∷ fs) r
+quits : (g : Story) (f : Frame) (fs : List Frame) (line : List ℕ) (r : Run) (agrees : Bool) → Valid g.game → is_yes (reply line) ≡ agrees
+    → resolved g fs (answered g prompt.Quit f (past_of g fs f) (reply line) r) ≡ going_in g (after_quit agrees f ∷ fs) r
 quits g f fs line r true v h = rw (h, add-one) refl
 quits g f fs line r false v h =
     rw h (ap (resolved g fs) (sym (plain_past g (deeper g (length fs)) (length fs) f.table 4000 true r (table-short g.game v f.table))))

@@ -1,5 +1,6 @@
 -- Condacts, and how steps of reading follow one another.
-use Rattle.std.proofs.Common.{◌≡◌, ℕ, ◌+◌, ◌≤◌, ◌<◌, true, false, List, [], ◌∷◌, ◌++◌, Option, Some, None, refl, sym, ap, ◌∙◌, subst, length, arith, add-one, length-append}
+use Rattle.std.proofs.Common.{◌≡◌, ℕ, ◌+◌, ◌≤◌, ◌<◌, true, false, List, [], ◌∷◌, ◌++◌, Option, Some, None}
+use Rattle.std.proofs.Common.{refl, sym, ap, ◌∙◌, subst, length, arith, add-one, length-append}
 use Rattle.std.specs.Prelude.{if◌then◌else◌, reverse}
 use Rattle.std.proofs.lemmas.List.{append_assoc, append-nil}
 use Rattle.paw_base.specs.declared.parts.Condact.{Condact}
@@ -9,11 +10,10 @@ use Rattle.paw_base.proofs.Noted.{kept_noted}
 use Rattle.paw_base.specs.declared.fault.SpentKind.TheVariants as spent
 use Rattle.paw_effects.specs.Story.{Story}
 use Rattle.paw_game.specs.Tables.{condact_at}
-use Rattle.paw_world.specs.World.{World, flag}
+use Rattle.paw_world.specs.World.{World}
 use Rattle.paw_phrase.specs.declared.Found.{Found}
 use Rattle.paw_phrase.specs.declared.Found.TheVariants as found
 use Rattle.paw_phrase.specs.Pending.{PendingLine}
-use Rattle.paw_phrase.specs.Sentence.{parsed}
 use Rattle.paw_effects.specs.declared.act.Prompt.{Prompt}
 use Rattle.paw_effects.specs.declared.act.Prompt.TheVariants as prompt
 use Rattle.paw_effects.specs.declared.act.Truth.TheVariants as truth
@@ -26,14 +26,17 @@ use Rattle.paw_effects.specs.Texts.{put_text}
 use Rattle.paw_reading.specs.declared.places.Frame.{Frame}
 use Rattle.paw_reading.specs.declared.places.OpenLoop.{OpenLoop}
 use Rattle.paw_reading.specs.Run.{Run, Step, closed, with_world}
-use Rattle.paw_reading.specs.Reading.{RunsOut, Out, halts, step_at, noted, printing, waits, tests, acts, parses, carried_out, after_action, loop_of, deeper}
+use Rattle.paw_reading.specs.Reading.{RunsOut, Out, halts, step_at, noted, printing, waits, tests}
+use Rattle.paw_reading.specs.Reading.{acts, parses, carried_out, after_action, loop_of, deeper}
 use Rattle.paw_reading.specs.GoingOn.{on_path}
 use Rattle.paw_reading.specs.inner.GoingOn.{along}
 use Rattle.paw_process.specs.OpenTables.{OpenTables}
 use Rattle.paw_process.specs.inner.OpenTables.{HasRead, ReadsNone, ReadsStep, below}
 use Rattle.paw_process.specs.inner.Meaning.{Held, having, ShowsHeld, run_held, with_steps, to_come, going_in, ComesTo, RunsTo}
-use Rattle.paw_process.specs.inner.Moves.{Continues, resolved, next_of, past_of, reading_at, acted_at, turning_at, running, reading_with, one_at, ReadsTable, ReadsOne, after_found}
+use Rattle.paw_process.specs.inner.Moves.{Continues, resolved, next_of, past_of, reading_at, acted_at, turning_at}
+use Rattle.paw_process.specs.inner.Moves.{one_at, ReadsTable, ReadsOne, after_found}
 use Rattle.paw_process.specs.inner.Phrases.{Speaks}
+use Rattle.paw_process.specs.declared.situation.Situation.{Situation}
 use Rattle.paw_process.specs.declared.Turned.{Turned}
 use Rattle.paw_process.specs.declared.Turned.TheVariants as turned
 use Rattle.paw_process.proofs.Steps.{acted_call, acted_loop, settled_waits, reading_condact, reading_none}
@@ -42,19 +45,26 @@ use Rattle.paw_process.proofs.Stops.{goes_from, stops_spent, fit, ask_spent}
 -- ---- conditions ----
 
 module _ (g : Story) (fs : List Frame) (f : Frame) (c : Condact) (r : Run) where
-  pub one_tests : is_condition c ≡ true → one_at g fs f c r ≡ resolved g fs (tests g f (next_of g fs f) (past_of g fs f) c r (holds g.game r.world c))
+  pub one_tests : is_condition c ≡ true
+      → one_at g fs f c r ≡ resolved g fs (tests g f (next_of g fs f) (past_of g fs f) c r (holds g.game r.world c))
   one_tests h = rw h refl
 
-  pub one_acts : is_condition c ≡ false → one_at g fs f c r ≡ resolved g fs (acts g (deeper g (length fs)) (length fs) f (next_of g fs f) (past_of g fs f) (effect_of g r.world c) (noted f c true r))
+  pub one_acts : is_condition c ≡ false
+      → one_at g fs f c r
+      ≡ resolved g fs (acts g (deeper g (length fs)) (length fs) f (next_of g fs f) (past_of g fs f) (effect_of g r.world c) (noted f c true r))
   one_acts h = rw h refl
 
-  pub test_holds : (w : World) → is_condition c ≡ true → truth.Yes ≡ (holds g.game r.world c).answer → w ≡ (holds g.game r.world c).world → one_at g fs f c r ≡ going_in g (record { table = f.table; entry = f.entry; at = f.at + 1; acted = f.acted } ∷ fs) (noted f c true (with_world w r))
+  pub test_holds : (w : World) → is_condition c ≡ true → truth.Yes ≡ (holds g.game r.world c).answer → w ≡ (holds g.game r.world c).world
+      → one_at g fs f c r ≡ going_in g (record f { at = f.at + 1 } ∷ fs) (noted f c true (with_world w r))
   test_holds w kind h e = one_tests kind ∙ rw (← h, e, add-one) refl
 
-  pub test_fails : (w : World) → is_condition c ≡ true → truth.No ≡ (holds g.game r.world c).answer → w ≡ (holds g.game r.world c).world → one_at g fs f c r ≡ going_in g (record { table = f.table; entry = f.entry + 1; at = 0; acted = f.acted } ∷ fs) (noted f c false (with_world w r))
+  pub test_fails : (w : World) → is_condition c ≡ true → truth.No ≡ (holds g.game r.world c).answer → w ≡ (holds g.game r.world c).world
+      → one_at g fs f c r ≡ going_in g (record f { entry = f.entry + 1; at = 0 } ∷ fs) (noted f c false (with_world w r))
   test_fails w kind h e = one_tests kind ∙ rw (← h, e, add-one) refl
 
-  pub test_asks : (w : World) → is_condition c ≡ true → truth.Ask ≡ (holds g.game r.world c).answer → w ≡ (holds g.game r.world c).world → one_at g fs f c r ≡ resolved g fs (printing (put_text g.game w 12) (waits g prompt.Quit f (past_of g fs f)) (noted f c true (with_world w r)))
+  pub test_asks : (w : World) → is_condition c ≡ true → truth.Ask ≡ (holds g.game r.world c).answer → w ≡ (holds g.game r.world c).world
+      → one_at g fs f c r
+      ≡ resolved g fs (printing (put_text g.game w 12) (waits g prompt.Quit f (past_of g fs f)) (noted f c true (with_world w r)))
   test_asks w kind h e = one_tests kind ∙ rw (← h, e) refl
 
 -- ---- actions ----
@@ -63,27 +73,30 @@ module _ (g : Story) (fs : List Frame) (f : Frame) (c : Condact) (r : Run) where
 pub acted_as : (g : Story) (fs : List Frame) (f : Frame) (e e' : Effect) (r : Run) → e ≡ e' → acted_at g fs f e r ≡ acted_at g fs f e' r
 acted_as g fs f e e' r h = ap (λ (x : Effect). acted_at g fs f x r) h
 
-pub call_at : (g : Story) (old : List Frame) (f : Frame) (u : ℕ) (r : Run) → old ≡ f ∷ below old → acted_at g (below old) f (effect.Call u) r ≡ along g old (deeper g (length (below old)) u r)
+pub call_at : (g : Story) (old : List Frame) (f : Frame) (u : ℕ) (r : Run) → old ≡ f ∷ below old
+    → acted_at g (below old) f (effect.Call u) r ≡ along g old (deeper g (length (below old)) u r)
 call_at g old f u r top =
     acted_call g (below old) f u r ∙ ap (λ (s : List Frame). along g s (deeper g (length (below old)) u r)) (sym top)
 
-pub loop_at : (g : Story) (fs : List Frame) (f : Frame) (p : ℕ) (r : Run) (l : OpenLoop) (n : ℕ) → l ≡ loop_of (length fs) f p → n ≡ length g.game.objects → acted_at g fs f (effect.Loop p) r ≡ turning_at g fs l n r
+pub loop_at : (g : Story) (fs : List Frame) (f : Frame) (p : ℕ) (r : Run) (l : OpenLoop) (n : ℕ)
+    → l ≡ loop_of (length fs) f p → n ≡ length g.game.objects → acted_at g fs f (effect.Loop p) r ≡ turning_at g fs l n r
 loop_at g fs f p r l n e q = rw (e, q) (acted_loop g fs f p r)
 
-pub ask_at : (g : Story) (old fs : List Frame) (f : Frame) (p : Prompt) (r : Run) → old ≡ f ∷ fs → acted_at g fs f (effect.Ask p) r ≡ on_path g p 0 (reverse old) (closed r)
+pub ask_at : (g : Story) (old fs : List Frame) (f : Frame) (p : Prompt) (r : Run) → old ≡ f ∷ fs
+    → acted_at g fs f (effect.Ask p) r ≡ on_path g p 0 (reverse old) (closed r)
 ask_at g old fs f p r top = settled_waits g fs f p r ∙ rw top refl
 
-pub parse_at : (g : Story) (fs : List Frame) (f : Frame) (x : Found) (w w' : World) (p p' : PendingLine)
-    (o : Option OpenLoop) (r : Run) →
-    Speaks (parsed g.game p.bytes p.earlier (flag w 46) (flag w 47)) x w w' p p' →
-    resolved g fs (parses g f (next_of g fs f) (past_of g fs f) (running w p o r))
-    ≡ going_in g (after_found x f ∷ fs) (running w' p' o r)
-parse_at g fs f found.Sentence w w' p p' o r (s, e, ew, ev) = rw (e, ew, ev, add-one) refl
-parse_at g fs f found.Nothing w w' p p' o r (e, ew, ev) = rw (e, ew, ev, add-one) refl
-parse_at g fs f found.Empty w w' p p' o r (e, ew, ep) = rw (e, ew, ep, add-one) refl
+pub parse_at : (g : Story) (fs : List Frame) (f : Frame) (x : Found) (s : Situation) (m : OpenTables) (w : World) (p : PendingLine) (r : Run)
+    → Speaks g.game x s.world w s.pending p
+    → resolved g fs (parses g f (next_of g fs f) (past_of g fs f) (run_held (having s m) r))
+    ≡ going_in g (after_found x f ∷ fs) (run_held (having (record s { world = w; pending = p }) m) r)
+parse_at g fs f found.Sentence s m w p r (t, e, ew, ev) = rw (e, ew, ev, add-one) refl
+parse_at g fs f found.Nothing s m w p r (e, ew, ev) = rw (e, ew, ev, add-one) refl
+parse_at g fs f found.Empty s m w p r (e, ew, ep) = rw (e, ew, ep, add-one) refl
 
 -- what an action did where it isn't spent
-did_as : (d : Done) (old new : List ℕ) (w : World) (a : Act) (e : Effect) → DoesAs d old new w a e → (e ≡ effect.Spent → ⊥) → (length old + length d.text ≤ 65535) × (new ≡ old ++ d.text) × (w ≡ d.world) × (a ≡ d.act)
+did_as : (d : Done) (old new : List ℕ) (w : World) (a : Act) (e : Effect) → DoesAs d old new w a e → (e ≡ effect.Spent → ⊥)
+    → (length old + length d.text ≤ 65535) × (new ≡ old ++ d.text) × (w ≡ d.world) × (a ≡ d.act)
 did_as d old new w a effect.Go h n = h
 did_as d old new w a (effect.Exit b) h n = h
 did_as d old new w a effect.Redescribe h n = h
@@ -93,109 +106,141 @@ did_as d old new w a (effect.Ask p) h n = h
 did_as d old new w a effect.Parse h n = h
 did_as d old new w a effect.Spent h n = absurd (n refl)
 
-pub did : (d : Done) (old new : List ℕ) (w : World) (a : Act) → Does d old new w a → (a.effect ≡ effect.Spent → ⊥) → (length old + length d.text ≤ 65535) × (new ≡ old ++ d.text) × (w ≡ d.world) × (a ≡ d.act)
+pub did : (d : Done) (old new : List ℕ) (w : World) (a : Act) → Does d old new w a → (a.effect ≡ effect.Spent → ⊥)
+    → (length old + length d.text ≤ 65535) × (new ≡ old ++ d.text) × (w ≡ d.world) × (a ≡ d.act)
 did d old new w a h n = did_as d old new w a a.effect h n
 
-pub did_spent : (d : Done) (old new : List ℕ) (w : World) (a : Act) → Does d old new w a → effect.Spent ≡ a.effect → 65535 < length old + length d.text
+pub did_spent : (d : Done) (old new : List ℕ) (w : World) (a : Act)
+    → Does d old new w a → effect.Spent ≡ a.effect → 65535 < length old + length d.text
 did_spent d old new w a h e = subst (DoesAs d old new w a) (sym e) h
 
+-- reading goes on once an action is carried out
+abbrev carrying_on : Story → List Frame → Frame → Done → Run → Out
+carrying_on g fs f d r =
+    after_action g (deeper g (length fs)) (length fs) f (next_of g fs f) (past_of g fs f) d.act.effect (carried_out d r)
+
 -- an action is carried out
-pub act_at : (g : Story) (fs : List Frame) (f : Frame) (d : Done) (w w' : World) (p p' : PendingLine) (o o' : Option OpenLoop) (piece piece' : List ℕ) (a : Act) (r : Run) → length piece + length d.text ≤ 65535 → piece' ≡ piece ++ d.text → w' ≡ d.world → a ≡ d.act → p' ≡ record p { bytes = if a.drop_line then [] else p.bytes } → o' ≡ (if a.cancel_loop then None else o) → resolved g fs (acts g (deeper g (length fs)) (length fs) f (next_of g fs f) (past_of g fs f) d (record (running w p o r) { current = piece })) ≡ acted_at g fs f a.effect (running w' p' o' (record r { current = piece' }))
-act_at g fs f d w w' p p' o o' piece piece' a r low ep ew ea eq eo =
-    ap (resolved g fs) (fit (record (running w p o r) { current = piece }) d.text (λ s. after_action g (deeper g (length fs)) (length fs) f (next_of g fs f) (past_of g fs f) d.act.effect (carried_out d s)) low) ∙ rw (eq, eo, ep, ew, ea) refl
+pub act_at : (g : Story) (fs : List Frame) (f : Frame) (d : Done) (s s' : Situation) (m m' : OpenTables) (a : Act) (r : Run)
+    → length s.piece + length d.text ≤ 65535 → s'.piece ≡ s.piece ++ d.text → s'.world ≡ d.world → a ≡ d.act
+    → s'.pending ≡ record s.pending { bytes = if a.drop_line then [] else s.pending.bytes }
+    → m'.turning ≡ (if a.cancel_loop then None else m.turning)
+    → resolved g fs (acts g (deeper g (length fs)) (length fs) f (next_of g fs f) (past_of g fs f) d (run_held (having s m) r))
+    ≡ acted_at g fs f a.effect (run_held (having s' m') r)
+act_at g fs f d s s' m m' a r low ep ew ea eq eo =
+    ap (resolved g fs) (fit (run_held (having s m) r) d.text (carrying_on g fs f d) low) ∙ rw (eq, eo, ep, ew, ea) refl
 
 -- an action that isn't spent is carried out, and reading goes on
-pub act_follows : (g : Story) (old mid : OpenTables) (f : Frame) (c : Condact) (w w' : World) (p p' : PendingLine) (piece piece' : List ℕ) (a : Act) (e : Effect) (r : Run) → is_condition c ≡ false → Does (effect_of g w c) piece piece' w' a → (a.effect ≡ effect.Spent → ⊥) → e ≡ a.effect → p' ≡ record p { bytes = if a.drop_line then [] else p.bytes } → mid ≡ record old { turning = if a.cancel_loop then None else old.turning } → one_at g (below old.frames) f c (run_held (having w p old piece) r) ≡ acted_at g (below mid.frames) f e (running w' p' mid.turning (noted f c true (record r { current = piece' })))
-act_follows g old mid f c w w' p p' piece piece' a e r kind does unspent same eq em =
-    let m = did (effect_of g w c) piece piece' w' a does unspent in
-    rw (em, same) (one_acts g (below old.frames) f c (run_held (having w p old piece) r) kind
-    ∙ act_at g (below old.frames) f (effect_of g w c) w w' p p' old.turning (if a.cancel_loop then None else old.turning) piece piece' a (noted f c true r) m.0 m.1 m.2 m.3 eq refl)
+pub act_follows : (g : Story) (old mid : OpenTables) (f : Frame) (c : Condact) (s s' : Situation) (a : Act) (r : Run)
+    → is_condition c ≡ false → Does (effect_of g s.world c) s.piece s'.piece s'.world a → (a.effect ≡ effect.Spent → ⊥)
+    → s'.pending ≡ record s.pending { bytes = if a.drop_line then [] else s.pending.bytes }
+    → mid ≡ record old { turning = if a.cancel_loop then None else old.turning }
+    → one_at g (below old.frames) f c (run_held (having s old) r)
+    ≡ acted_at g (below mid.frames) f a.effect (run_held (having s' mid) (noted f c true r))
+act_follows g old mid f c s s' a r kind does unspent eq em =
+    let d = effect_of g s.world c in
+    let m = did d s.piece s'.piece s'.world a does unspent in
+    let cancelled : OpenTables = record old { turning = if a.cancel_loop then None else old.turning } in
+    rw em
+    (one_acts g (below old.frames) f c (run_held (having s old) r) kind
+    ∙ act_at g (below old.frames) f d s s' old cancelled a (noted f c true r) m.0 m.1 m.2 m.3 eq refl)
 
 -- an action whose text doesn't fit
-pub act_spends : (g : Story) (old : OpenTables) (f : Frame) (c : Condact) (w w' : World) (p : PendingLine)
-    (piece piece' : List ℕ) (a : Act) (r : Run) →
-    is_condition c ≡ false → Does (effect_of g w c) piece piece' w' a → effect.Spent ≡ a.effect →
-    one_at g (below old.frames) f c (run_held (having w p old piece) r)
-    ≡ halts (RunsOut spent.Text) (noted f c true (run_held (having w p old piece) r))
-act_spends g old f c w w' p piece piece' a r kind does is =
-    one_acts g (below old.frames) f c (run_held (having w p old piece) r) kind
-    ∙ ask_spent g (below old.frames) (effect_of g w c).text
-    (λ s. after_action g (deeper g (length (below old.frames))) (length (below old.frames)) f (next_of g (below old.frames) f) (past_of g (below old.frames) f) (effect_of g w c).act.effect (carried_out (effect_of g w c) s))
-    (noted f c true (run_held (having w p old piece) r)) (did_spent (effect_of g w c) piece piece' w' a does is)
+pub act_spends : (g : Story) (old : OpenTables) (f : Frame) (c : Condact) (s s' : Situation) (a : Act) (r : Run)
+    → is_condition c ≡ false → Does (effect_of g s.world c) s.piece s'.piece s'.world a → effect.Spent ≡ a.effect
+    → one_at g (below old.frames) f c (run_held (having s old) r) ≡ halts (RunsOut spent.Text) (noted f c true (run_held (having s old) r))
+act_spends g old f c s s' a r kind does is =
+    let d = effect_of g s.world c in
+    one_acts g (below old.frames) f c (run_held (having s old) r) kind
+    ∙ ask_spent g (below old.frames) d.text (carrying_on g (below old.frames) f d) (noted f c true (run_held (having s old) r))
+    (did_spent d s.piece s'.piece s'.world a does is)
 
 -- ---- what one condact is ----
+
+-- a machine that moved in its tables has read nothing
+pub moved_none : (old new : OpenTables) (fs : List Frame) (turning : Option OpenLoop) (waiting : Option Prompt)
+    → new ≡ record old { frames = fs; turning = turning; waiting = waiting } → ReadsNone old new
+moved_none old new fs turning waiting e =
+    record { left = ap (λ (m : OpenTables). m.left) e; steps = ap (λ (m : OpenTables). m.steps) e }
 
 -- a step, and then nothing
 pub step_then : (step : Step) (old mid new : OpenTables) → ReadsStep step old mid → ReadsNone mid new → ReadsStep step old new
 step_then step old mid new one none = record { left = omega (arith, one.left, none.left); steps = none.steps ∙ one.steps }
 
-module _ (g : Story) (old mid : OpenTables) (f : Frame) (c : Condact) (w : World) (p : PendingLine) (piece : List ℕ) (left : ℕ) (steps : KeptSteps) where
-  pub test_yes : (w' : World) (new : OpenTables) → is_condition c ≡ true → truth.Yes ≡ (holds g.game w c).answer → w' ≡ (holds g.game w c).world
+module _ (g : Story) (old mid : OpenTables) (f : Frame) (c : Condact) (s : Situation) (left : ℕ) (steps : KeptSteps) where
+  pub test_yes : (w : World) (new : OpenTables) → is_condition c ≡ true
+      → truth.Yes ≡ (holds g.game s.world c).answer → w ≡ (holds g.game s.world c).world
       → ReadsStep (step_at f c true) old mid → mid ≡ record old { left = left; steps = steps }
-      → new ≡ record mid { frames = record { table = f.table; entry = f.entry; at = f.at + 1; acted = f.acted } ∷ below mid.frames }
-      → ReadsOne g (below old.frames) f c (having w p old piece) None (having w' p new piece)
-  test_yes w' new kind answer is one em en = (
+      → new ≡ record mid { frames = record f { at = f.at + 1 } ∷ below mid.frames }
+      → ReadsOne g (below old.frames) f c (having s old) None (having (record s { world = w }) new)
+  test_yes w new kind answer is one em en = (
     true,
-    step_then (step_at f c true) old mid new one (record { left = ap (λ (m : OpenTables). m.left) en; steps = ap (λ (m : OpenTables). m.steps) en }),
-    λ r. rw (en, em) (test_holds g (below old.frames) f c (run_held (having w p old piece) r) w' kind answer is),
+    step_then (step_at f c true) old mid new one (moved_none _ _ _ _ _ en),
+    λ r. rw (en, em) (test_holds g (below old.frames) f c (run_held (having s old) r) w kind answer is),
   )
 
-  pub test_no : (w' : World) (new : OpenTables) → is_condition c ≡ true → truth.No ≡ (holds g.game w c).answer → w' ≡ (holds g.game w c).world
+  pub test_no : (w : World) (new : OpenTables) → is_condition c ≡ true
+      → truth.No ≡ (holds g.game s.world c).answer → w ≡ (holds g.game s.world c).world
       → ReadsStep (step_at f c false) old mid → mid ≡ record old { left = left; steps = steps }
-      → new ≡ record mid { frames = record { table = f.table; entry = f.entry + 1; at = 0; acted = f.acted } ∷ below mid.frames }
-      → ReadsOne g (below old.frames) f c (having w p old piece) None (having w' p new piece)
-  test_no w' new kind answer is one em en = (
+      → new ≡ record mid { frames = record f { entry = f.entry + 1; at = 0 } ∷ below mid.frames }
+      → ReadsOne g (below old.frames) f c (having s old) None (having (record s { world = w }) new)
+  test_no w new kind answer is one em en = (
     false,
-    step_then (step_at f c false) old mid new one (record { left = ap (λ (m : OpenTables). m.left) en; steps = ap (λ (m : OpenTables). m.steps) en }),
-    λ r. rw (en, em) (test_fails g (below old.frames) f c (run_held (having w p old piece) r) w' kind answer is),
+    step_then (step_at f c false) old mid new one (moved_none _ _ _ _ _ en),
+    λ r. rw (en, em) (test_fails g (below old.frames) f c (run_held (having s old) r) w kind answer is),
   )
 
-  pub test_ask : (w' : World) (new : OpenTables) (piece' : List ℕ) (t : Option Turned) → is_condition c ≡ true → truth.Ask ≡ (holds g.game w c).answer → w' ≡ (holds g.game w c).world
+  pub test_ask : (w : World) (new : OpenTables) (s' : Situation) (t : Option Turned) → is_condition c ≡ true
+      → truth.Ask ≡ (holds g.game s.world c).answer → w ≡ (holds g.game s.world c).world
       → ReadsStep (step_at f c true) old mid → mid ≡ record old { left = left; steps = steps } → ReadsNone mid new
-      → ((r : Run) → Continues g (resolved g (below mid.frames) (printing (put_text g.game w' 12) (waits g prompt.Quit f (past_of g (below mid.frames) f)) (reading_with piece mid.turning r))) t new.frames (reading_with piece' new.turning r))
-      → ReadsOne g (below old.frames) f c (having w p old piece) t (having w' p new piece')
-  test_ask w' new piece' t kind answer is one em none asks = (
+      → ((r : Run) → Continues g (resolved g (below mid.frames)
+      (printing (put_text g.game w 12) (waits g prompt.Quit f (past_of g (below mid.frames) f)) (run_held (having (record s { world = w }) mid) r)))
+      t new.frames (run_held (having s' new) r))
+      → ReadsOne g (below old.frames) f c (having s old) t (having s' new)
+  test_ask w new s' t kind answer is one em none asks = (
     true,
     step_then (step_at f c true) old mid new one none,
     λ r.
-        goes_from g _ _ t new.frames (noted f c true (run_held (having w' p new piece') r))
-        (test_asks g (below old.frames) f c (run_held (having w p old piece) r) w' kind answer is)
-        (rw em at (asks (noted f c true (run_held (having w' p old piece) r)))),
+        goes_from g _ _ t new.frames (noted f c true (run_held (having s' new) r))
+        (test_asks g (below old.frames) f c (run_held (having s old) r) w kind answer is)
+        (rw em at (asks (noted f c true r))),
   )
 
-  pub act_on : (w' : World) (p' : PendingLine) (cancelled new : OpenTables) (piece' : List ℕ) (a : Act) (w'' : World) (p'' : PendingLine) (t : Option Turned) → is_condition c ≡ false
-      → Does (effect_of g w c) piece piece' w' a → (a.effect ≡ effect.Spent → ⊥) → p' ≡ record p { bytes = if a.drop_line then [] else p.bytes }
-      → ReadsStep (step_at f c true) old mid → mid ≡ record old { left = left; steps = steps } → cancelled ≡ record mid { turning = if a.cancel_loop then None else mid.turning }
-      → ReadsNone cancelled new
-      → ((r : Run) → Continues g (acted_at g (below cancelled.frames) f a.effect (running w' p' cancelled.turning r)) t new.frames (running w'' p'' new.turning r))
-      → ReadsOne g (below old.frames) f c (having w p old piece) t (having w'' p'' new piece')
-  act_on w' p' cancelled new piece' a w'' p'' t kind does unspent ep one em ec none follows = (
+  pub act_on : (s' s'' : Situation) (cancelled new : OpenTables) (a : Act) (t : Option Turned) → is_condition c ≡ false
+      → Does (effect_of g s.world c) s.piece s'.piece s'.world a → (a.effect ≡ effect.Spent → ⊥)
+      → s'.pending ≡ record s.pending { bytes = if a.drop_line then [] else s.pending.bytes }
+      → ReadsStep (step_at f c true) old mid → mid ≡ record old { left = left; steps = steps }
+      → cancelled ≡ record mid { turning = if a.cancel_loop then None else mid.turning } → ReadsNone cancelled new
+      → ((r : Run) → Continues g (acted_at g (below cancelled.frames) f a.effect (run_held (having s' cancelled) r))
+      t new.frames (run_held (having s'' new) r))
+      → ReadsOne g (below old.frames) f c (having s old) t (having s'' new)
+  act_on s' s'' cancelled new a t kind does unspent ep one em ec none follows = (
     true,
-    step_then (step_at f c true) old cancelled new (step_then (step_at f c true) old mid cancelled one (record { left = ap (λ (m : OpenTables). m.left) ec; steps = ap (λ (m : OpenTables). m.steps) ec })) none,
+    step_then (step_at f c true) old cancelled new (step_then (step_at f c true) old mid cancelled one (moved_none _ _ _ _ _ ec)) none,
     λ r.
-        goes_from g _ _ t new.frames (noted f c true (run_held (having w'' p'' new piece') r))
-        (act_follows g old (record old { turning = if a.cancel_loop then None else old.turning }) f c w w' p p' piece piece' a a.effect r kind does unspent refl ep refl)
-        (rw (ec, em) at (follows (noted f c true (record r { current = piece' })))),
+        goes_from g _ _ t new.frames (noted f c true (run_held (having s'' new) r))
+        (act_follows g old (record old { turning = if a.cancel_loop then None else old.turning }) f c s s' a r kind does unspent ep refl)
+        (rw (ec, em) at (follows (noted f c true r))),
   )
 
-  pub act_ends : (w' : World) (new : OpenTables) (piece' : List ℕ) (a : Act) (t : Option Turned) → is_condition c ≡ false
-      → Does (effect_of g w c) piece piece' w' a → effect.Spent ≡ a.effect
+  pub act_ends : (s' : Situation) (new : OpenTables) (a : Act) (t : Option Turned) → is_condition c ≡ false
+      → Does (effect_of g s.world c) s.piece s'.piece s'.world a → effect.Spent ≡ a.effect
       → ReadsStep (step_at f c true) old mid → ReadsNone mid new → t ≡ Some (turned.Spent spent.Text)
-      → ReadsOne g (below old.frames) f c (having w p old piece) t (having w' p new piece')
-  act_ends w' new piece' a t kind does is one none e = (
+      → ReadsOne g (below old.frames) f c (having s old) t (having s' new)
+  act_ends s' new a t kind does is one none e = (
     true,
     step_then (step_at f c true) old mid new one none,
     λ r.
-        stops_spent g (one_at g (below old.frames) f c (run_held (having w p old piece) r)) t spent.Text new.frames (noted f c true (run_held (having w' p new piece') r))
-        (noted f c true (run_held (having w p old piece) r)) e
-        (act_spends g old f c w w' p piece piece' a r kind does is)
+        stops_spent g (one_at g (below old.frames) f c (run_held (having s old) r)) t spent.Text new.frames
+        (noted f c true (run_held (having s' new) r)) (noted f c true (run_held (having s old) r)) e
+        (act_spends g old f c s s' a r kind does is)
         (record { pieces = refl; traces = refl; events = refl }),
   )
 
 -- ---- steps ----
 
 -- nothing was read
-pub reads_nothing : (g : Story) (x : Run → Out) (old : Held) (t : Option Turned) (new : Held) → ReadsNone old.machine new.machine → ((r : Run) → Continues g (x (run_held old r)) t new.machine.frames (run_held new r)) → ReadsTable g x old t new
+pub reads_nothing : (g : Story) (x : Run → Out) (old : Held) (t : Option Turned) (new : Held) → ReadsNone old.machine new.machine
+    → ((r : Run) → Continues g (x (run_held old r)) t new.machine.frames (run_held new r)) → ReadsTable g x old t new
 reads_nothing g x old t new none h r has = (
   [],
   rw (append-nil r.read) (record { left = omega (arith, none.left, has.left); steps = none.steps ∙ has.steps }),
@@ -203,13 +248,15 @@ reads_nothing g x old t new none h r has = (
 )
 
 -- what reads the same as something reads as it does
-pub reads_from : (g : Story) (x y : Run → Out) (old : Held) (t : Option Turned) (new : Held) → ((r : Run) → x (run_held old r) ≡ y (run_held old r)) → ReadsTable g y old t new → ReadsTable g x old t new
+pub reads_from : (g : Story) (x y : Run → Out) (old : Held) (t : Option Turned) (new : Held) → ((r : Run) → x (run_held old r) ≡ y (run_held old r))
+    → ReadsTable g y old t new → ReadsTable g x old t new
 reads_from g x y old t new h k r has =
     let m = k r has in
     (m.0, m.1, λ lines. goes_from g _ _ t new.machine.frames _ (h (to_come lines r)) (m.2 lines))
 
 -- a machine that moved in its tables has read the same
-pub reads_moved : (g : Story) (x : Run → Out) (old : Held) (fs : List Frame) (t : Option Turned) (new : Held) → ReadsTable g x (record old { machine = record old.machine { frames = fs } }) t new → ReadsTable g x old t new
+pub reads_moved : (g : Story) (x : Run → Out) (old : Held) (fs : List Frame) (t : Option Turned) (new : Held)
+    → ReadsTable g x (record old { machine = record old.machine { frames = fs } }) t new → ReadsTable g x old t new
 reads_moved g x old fs t new k r has = k r (record { left = has.left; steps = has.steps })
 
 -- the steps with one more
@@ -220,7 +267,8 @@ more_read read step old new has one = record {
 }
 
 -- a condact was read
-pub reads_one : (g : Story) (f : Frame) (c : Condact) (old : Held) (t : Option Turned) (new : Held) → condact_at g.game f.table f.entry f.at ≡ Some c → 0 < old.machine.left → ReadsOne g (below old.machine.frames) f c old t new → ReadsTable g (reading_at g (below old.machine.frames) f) old t new
+pub reads_one : (g : Story) (f : Frame) (c : Condact) (old : Held) (t : Option Turned) (new : Held) → condact_at g.game f.table f.entry f.at ≡ Some c
+    → 0 < old.machine.left → ReadsOne g (below old.machine.frames) f c old t new → ReadsTable g (reading_at g (below old.machine.frames) f) old t new
 reads_one g f c old t new is may one r has = (
   step_at f c one.0 ∷ [],
   more_read r.read (step_at f c one.0) old.machine new.machine has one.1,
@@ -231,7 +279,9 @@ reads_one g f c old t new is may one r has = (
 )
 
 -- the budget is used up
-pub reads_spent : (g : Story) (fs : List Frame) (f : Frame) (c : Condact) (old : Held) (t : Option Turned) (new : Held) → condact_at g.game f.table f.entry f.at ≡ Some c → old.machine.left ≡ 0 → ReadsNone old.machine new.machine → t ≡ Some (turned.Spent spent.Condacts) → ReadsTable g (reading_at g fs f) old t new
+pub reads_spent : (g : Story) (fs : List Frame) (f : Frame) (c : Condact) (old : Held) (t : Option Turned) (new : Held)
+    → condact_at g.game f.table f.entry f.at ≡ Some c → old.machine.left ≡ 0 → ReadsNone old.machine new.machine
+    → t ≡ Some (turned.Spent spent.Condacts) → ReadsTable g (reading_at g fs f) old t new
 reads_spent g fs f c old t new is none same e r has = (
   [],
   rw (append-nil r.read) (record { left = omega (arith, same.left, has.left); steps = same.steps ∙ has.steps }),
@@ -242,7 +292,8 @@ reads_spent g fs f c old t new is none same e r has = (
 )
 
 -- one reading after another
-pub reads_on : (g : Story) (x : Run → Out) (old mid : Held) (t : Option Turned) (new : Held) → ReadsTable g x old None mid → ReadsTable g (going_in g mid.machine.frames) mid t new → ReadsTable g x old t new
+pub reads_on : (g : Story) (x : Run → Out) (old mid : Held) (t : Option Turned) (new : Held) → ReadsTable g x old None mid
+    → ReadsTable g (going_in g mid.machine.frames) mid t new → ReadsTable g x old t new
 reads_on g x old mid t new h k r has =
     let m = h r has in
     let n = k (with_steps m.0 r) m.1 in (
@@ -250,7 +301,8 @@ reads_on g x old mid t new h k r has =
       subst (λ (s : List Step). HasRead s new.machine) (append_assoc r.read m.0 n.0) n.1,
       λ lines.
           goes_from g _ _ t new.machine.frames _ (m.2 lines)
-          (subst (λ (s : List Step). Continues g (going_in g mid.machine.frames (to_come lines (run_held mid (with_steps m.0 r)))) t new.machine.frames (to_come lines (run_held new (record r { read = s })))) (append_assoc r.read m.0 n.0) (n.2 lines)),
+          (subst (λ (s : List Step). Continues g (going_in g mid.machine.frames (to_come lines (run_held mid (with_steps m.0 r)))) t new.machine.frames
+          (to_come lines (run_held new (record r { read = s })))) (append_assoc r.read m.0 n.0) (n.2 lines)),
     )
 
 -- a run that shows what is held is the run with it
@@ -264,5 +316,6 @@ runs_to g old t new h r s =
       m.0,
       m.1,
       λ lines.
-          subst (λ (q : Run). ComesTo g t new.machine.frames (to_come lines (run_held new (with_steps m.0 r))) (going_in g old.machine.frames (to_come lines q))) (showing_shown r old s) (m.2 lines),
+          subst (λ (q : Run). ComesTo g t new.machine.frames (to_come lines (run_held new (with_steps m.0 r)))
+          (going_in g old.machine.frames (to_come lines q))) (showing_shown r old s) (m.2 lines),
     )

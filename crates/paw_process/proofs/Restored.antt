@@ -1,5 +1,6 @@
 -- Kept places that keep their rules.
-use Rattle.std.proofs.Common.{◌≡◌, ℕ, zero, suc, ◌-◌, ◌≤◌, ◌<◌, Bool, true, false, ◌&&◌, List, [], ◌∷◌, Option, Some, None, refl, length, take, reverse, slice_get, arith}
+use Rattle.std.proofs.Common.{◌≡◌, ℕ, zero, suc, ◌-◌, ◌≤◌, ◌<◌, Bool, true, false, ◌&&◌, List, [], ◌∷◌}
+use Rattle.std.proofs.Common.{Option, Some, None, refl, length, take, reverse, slice_get, arith}
 use Rattle.std.specs.Prelude.{◌==◌, if◌then◌else◌, nat_lt}
 use mathlib.Core.List.{reverse_aux}
 use Rattle.std.proofs.lemmas.Bool.Decides.{nat_tests}
@@ -14,7 +15,8 @@ use Rattle.paw_effects.specs.declared.act.Prompt.{Prompt}
 use Rattle.paw_effects.specs.declared.act.Prompt.TheVariants as prompt
 use Rattle.paw_reading.specs.declared.places.Frame.{Frame}
 use Rattle.paw_reading.specs.declared.places.OpenLoop.{OpenLoop}
-use Rattle.paw_process.specs.Kept.{condact_of, has_code, may_open, parameter_of, row_stands, rows_fault, table_of, is_that_table, loop_stands, loop_fault, first_fault, count_fits, fault_at, frames_fault}
+use Rattle.paw_process.specs.Kept.{condact_of, has_code, may_open, parameter_of, row_stands, rows_fault, table_of, is_that_table}
+use Rattle.paw_process.specs.Kept.{loop_stands, loop_fault, first_fault, count_fits, fault_at, frames_fault}
 use Rattle.paw_process.specs.inner.Kept.{restored, waiting_at, StandsAt}
 use Rattle.paw_process.specs.declared.kept.Frames.{Frames}
 use Rattle.paw_process.specs.inner.OpenTables.{below, IsAtCondact, AtCondacts, InTable, IsLoopWithin, LoopFits, IsWaiting, IsClosed}
@@ -25,11 +27,14 @@ unfolding rows_fault
 rows_none g code caller n d [] h = refl
 rows_none g code caller n d (f ∷ fs) h = absurd (omega arith)
 
-pub rows_first : (g : GameLists) (code : ℕ) (caller : Option ℕ) (n d : ℕ) (rows : List Frame) (f : Frame) (fs : List Frame) → rows ≡ f ∷ fs → row_stands g code caller n f ≡ false → Some d ≡ rows_fault g code caller n d rows
+pub rows_first : (g : GameLists) (code : ℕ) (caller : Option ℕ) (n d : ℕ) (rows : List Frame) (f : Frame) (fs : List Frame) → rows ≡ f ∷ fs
+    → row_stands g code caller n f ≡ false → Some d ≡ rows_fault g code caller n d rows
 unfolding rows_fault
 rows_first g code caller n d rows f fs e h = rw (e, h) refl
 
-pub rows_later : (g : GameLists) (code : ℕ) (caller : Option ℕ) (n d : ℕ) (rows : List Frame) (f : Frame) (fs : List Frame) → rows ≡ f ∷ fs → row_stands g code caller n f ≡ true → rows_fault g code (Some (parameter_of (condact_of g f))) (n - 1) (suc d) fs ≡ rows_fault g code caller n d rows
+pub rows_later : (g : GameLists) (code : ℕ) (caller : Option ℕ) (n d : ℕ) (rows : List Frame) (f : Frame) (fs : List Frame) → rows ≡ f ∷ fs
+    → row_stands g code caller n f ≡ true
+    → rows_fault g code (Some (parameter_of (condact_of g f))) (n - 1) (suc d) fs ≡ rows_fault g code caller n d rows
 unfolding rows_fault
 rows_later g code caller n d rows f fs e h = rw (e, h) refl
 
@@ -54,14 +59,19 @@ used_row g code caller n f v h =
     let t : (suc n == 0) ≡ false = grind (arith, nat_tests) in
     coded g f (if suc n == 1 then code else 85) (condact_of g f) v refl (second (may_open caller f.table) _ (rw t at h))
 
-pub at_condacts : (g : GameLists) (code : ℕ) (caller : Option ℕ) (n d : ℕ) (rows : List Frame) → Valid g → rows_fault g code caller n d rows ≡ None → AtCondacts (take n rows)
+pub at_condacts : (g : GameLists) (code : ℕ) (caller : Option ℕ) (n d : ℕ) (rows : List Frame) → Valid g → rows_fault g code caller n d rows ≡ None
+    → AtCondacts (take n rows)
 unfolding rows_fault
 at_condacts g code caller zero d [] v h = tt
 at_condacts g code caller zero d (f ∷ fs) v h = tt
 at_condacts g code caller (suc n) d [] v h = tt
-at_condacts g code caller (suc n) d (f ∷ fs) v h = go (at_condacts g code (Some (parameter_of (condact_of g f))) n (suc d) fs v) (row_stands g code caller (suc n) f) refl h
+at_condacts g code caller (suc n) d (f ∷ fs) v h =
+    go (at_condacts g code (Some (parameter_of (condact_of g f))) n (suc d) fs v) (row_stands g code caller (suc n) f) refl h
   where
-    go : (rows_fault g code (Some (parameter_of (condact_of g f))) n (suc d) fs ≡ None → AtCondacts (take n fs)) → (b : Bool) → row_stands g code caller (suc n) f ≡ b → ◌≡◌ {A = Option ℕ} (if b then rows_fault g code (Some (parameter_of (condact_of g f))) (suc n - 1) (suc d) fs else Some d) None → IsAtCondact f × AtCondacts (take n fs)
+    go : (rows_fault g code (Some (parameter_of (condact_of g f))) n (suc d) fs ≡ None → AtCondacts (take n fs)) → (b : Bool)
+        → row_stands g code caller (suc n) f ≡ b
+        → ◌≡◌ {A = Option ℕ} (if b then rows_fault g code (Some (parameter_of (condact_of g f))) (suc n - 1) (suc d) fs else Some d) None
+        → IsAtCondact f × AtCondacts (take n fs)
     go later true e q =
         let m : suc n - 1 ≡ n = omega arith in (used_row g code caller n f v e, later (rw m at q))
     go later false e q = cc
@@ -89,7 +99,8 @@ loop_in g k (Some l) v h = go (loop_stands g k l) refl h
         IsLoopWithin k.count l
     go true e q =
         let later = second (nat_lt l.level k.count) _ e in
-        let coded_at = first_of (has_code 86 (condact_at g l.table l.entry l.at)) _ (second (is_that_table (table_of (slice_get k.rows l.level)) l.table) _ later) in
+        let coded_at = first_of (has_code 86 (condact_at g l.table l.entry l.at)) _
+        (second (is_that_table (table_of (slice_get k.rows l.level)) l.table) _ later) in
         let c = coded g (record { table = l.table; entry = l.entry; at = l.at; acted = false }) 86 (condact_at g l.table l.entry l.at) v refl coded_at in
         record { at = c.at; entry = c.entry; level = ltb-true l.level k.count (first_of (nat_lt l.level k.count) _ e) }
     go false e q = cc
@@ -103,10 +114,13 @@ below_in [] h = tt
 below_in (f ∷ fs) h = h.1
 
 -- places with one to eleven frames are those of a machine that waits
-waits_at : (g : GameLists) (p : Prompt) (code : ℕ) (k : Frames) → Valid g → length k.rows ≡ 11 → fault_at g (Some code) k ≡ None → IsWaiting p (restored k (Some p))
+waits_at : (g : GameLists) (p : Prompt) (code : ℕ) (k : Frames) → Valid g → length k.rows ≡ 11 → fault_at g (Some code) k ≡ None
+    → IsWaiting p (restored k (Some p))
 waits_at g p code k v size h = go (count_fits (Some code) k.count) refl h
   where
-    go : (b : Bool) → count_fits (Some code) k.count ≡ b → ◌≡◌ {A = Option ℕ} (if b then first_fault (rows_fault g code None k.count 0 k.rows) (loop_fault g k k.turning) else Some 0) None → IsWaiting p (restored k (Some p))
+    go : (b : Bool) → count_fits (Some code) k.count ≡ b
+        → ◌≡◌ {A = Option ℕ} (if b then first_fault (rows_fault g code None k.count 0 k.rows) (loop_fault g k k.turning) else Some 0) None
+        → IsWaiting p (restored k (Some p))
     go true e q =
         let fits = no_first (rows_fault g code None k.count 0 k.rows) (loop_fault g k k.turning) q in
         let some : 0 < k.count = ltb-true 0 k.count (first_of (nat_lt 0 k.count) _ e) in
@@ -132,9 +146,14 @@ none_open g k h = go (count_fits None k.count) refl h
   where
     loop_gone : (o : Option OpenLoop) → k.count ≡ 0 → loop_fault g k o ≡ None → o ≡ None
     loop_gone None e q = refl
-    loop_gone (Some l) e q = let t : nat_lt l.level k.count ≡ false = grind (arith, nat_tests) in let f : loop_stands g k l ≡ false = rw t refl in cc (rw f at q)
+    loop_gone (Some l) e q =
+        let t : nat_lt l.level k.count ≡ false = grind (arith, nat_tests) in
+        let f : loop_stands g k l ≡ false = rw t refl in
+        cc (rw f at q)
 
-    go : (b : Bool) → count_fits None k.count ≡ b → ◌≡◌ {A = Option ℕ} (if b then first_fault (rows_fault g 0 None k.count 0 k.rows) (loop_fault g k k.turning) else Some 0) None → IsClosed (restored k None)
+    go : (b : Bool) → count_fits None k.count ≡ b
+        → ◌≡◌ {A = Option ℕ} (if b then first_fault (rows_fault g 0 None k.count 0 k.rows) (loop_fault g k k.turning) else Some 0) None
+        → IsClosed (restored k None)
     go true e q =
         let fits = no_first (rows_fault g 0 None k.count 0 k.rows) (loop_fault g k k.turning) q in
         let z : k.count ≡ 0 = eqb-true k.count 0 e in

@@ -1,5 +1,6 @@
 -- The rows of the machine, as a list with the innermost first.
-use Rattle.std.proofs.Common.{◌≡◌, ℕ, zero, suc, ◌-◌, ◌≤◌, ◌<◌, false, List, [], ◌∷◌, ◌++◌, Option, length, take, drop, replicate, reverse, slice_set, refl, ap, ◌∙◌, subst, arith}
+use Rattle.std.proofs.Common.{◌≡◌, ℕ, zero, suc, ◌-◌, ◌≤◌, ◌<◌, false, List, [], ◌∷◌, ◌++◌, Option, length}
+use Rattle.std.proofs.Common.{take, drop, replicate, reverse, slice_set, refl, ap, ◌∙◌, subst, arith}
 use Rattle.std.proofs.lemmas.List.{reverse-append, reverse-reverse, length-reverse, length-take}
 use Rattle.std.proofs.Math.Seq.{take-suc, take-suc-set}
 use Rattle.paw_base.specs.Steps.{KeptSteps}
@@ -22,19 +23,26 @@ pop_rows rows (suc n) h low =
     let q : take (suc n) rows ≡ take n rows ++ _ = take-suc rows n x (omega arith) in
     rw (e, q, reverse-append (take n rows) _) refl
 
-top_rows : (rows : List Frame) (n : ℕ) (f : Frame) → 0 < length (reverse (take n rows)) → n ≤ length rows → reverse (take n (slice_set rows (n - 1) f)) ≡ f ∷ below (reverse (take n rows))
+top_rows : (rows : List Frame) (n : ℕ) (f : Frame) → 0 < length (reverse (take n rows)) → n ≤ length rows
+    → reverse (take n (slice_set rows (n - 1) f)) ≡ f ∷ below (reverse (take n rows))
 top_rows rows zero f h low = absurd (omega arith)
 top_rows rows (suc n) f h low =
     let e : suc n - 1 ≡ n = omega arith in
-    let q : reverse (take (suc n) (slice_set rows n f)) ≡ f ∷ reverse (take n rows) = ap (λ (s : List Frame). reverse s) (take-suc-set rows n f (omega arith)) ∙ reverse-append (take n rows) (f ∷ []) in
+    let q : reverse (take (suc n) (slice_set rows n f)) ≡ f ∷ reverse (take n rows) =
+    ap (λ (s : List Frame). reverse s) (take-suc-set rows n f (omega arith)) ∙ reverse-append (take n rows) (f ∷ []) in
     rw e (q ∙ ap (λ (s : List Frame). f ∷ s) (rw e at (pop_rows rows (suc n) h low)))
 
-pub popped : (v : OpenTables) (rows : List Frame) (n : ℕ) (turning : Option OpenLoop) (waiting : Option Prompt) (left : ℕ) (steps : KeptSteps) → seen rows n turning waiting left steps ≡ v → 0 < length v.frames → n ≤ length rows → seen rows (n - 1) turning waiting left steps ≡ record v { frames = below v.frames }
+pub popped : (v : OpenTables) (rows : List Frame) (n : ℕ) (turning : Option OpenLoop) (waiting : Option Prompt) (left : ℕ) (steps : KeptSteps)
+    → seen rows n turning waiting left steps ≡ v → 0 < length v.frames → n ≤ length rows
+    → seen rows (n - 1) turning waiting left steps ≡ record v { frames = below v.frames }
 popped v rows n turning waiting left steps e h low =
     subst (λ (u : OpenTables). 0 < length u.frames → seen rows (n - 1) turning waiting left steps ≡ record u { frames = below u.frames }) e
     (λ k. ap (λ (s : List Frame). record { frames = s; turning = turning; waiting = waiting; left = left; steps = steps }) (pop_rows rows n k low)) h
 
-pub topped : (v : OpenTables) (rows : List Frame) (n : ℕ) (f : Frame) (turning : Option OpenLoop) (waiting : Option Prompt) (left : ℕ) (steps : KeptSteps) → seen rows n turning waiting left steps ≡ v → 0 < length v.frames → n ≤ length rows → seen (slice_set rows (n - 1) f) n turning waiting left steps ≡ record v { frames = f ∷ below v.frames }
+pub topped : (v : OpenTables) (rows : List Frame) (n : ℕ) (f : Frame)
+    (turning : Option OpenLoop) (waiting : Option Prompt) (left : ℕ) (steps : KeptSteps)
+    → seen rows n turning waiting left steps ≡ v → 0 < length v.frames → n ≤ length rows
+    → seen (slice_set rows (n - 1) f) n turning waiting left steps ≡ record v { frames = f ∷ below v.frames }
 topped v rows n f turning waiting left steps e h low =
     subst (λ (u : OpenTables). 0 < length u.frames → seen (slice_set rows (n - 1) f) n turning waiting left steps ≡ record u { frames = f ∷ below u.frames }) e
     (λ k. ap (λ (s : List Frame). record { frames = s; turning = turning; waiting = waiting; left = left; steps = steps }) (top_rows rows n f k low)) h
@@ -47,6 +55,9 @@ drop_replicate (suc n) (suc m) f low = let e : suc m - suc n ≡ m - n = omega a
 pub length_rows : (rows : List Frame) (n : ℕ) → n ≤ length rows → length (reverse (take n rows)) ≡ n
 length_rows rows n low = omega (arith, length-reverse (take n rows), length-take n rows)
 
-pub kept_rows : (v : OpenTables) (rows copied : List Frame) (n : ℕ) (turning : Option OpenLoop) (waiting : Option Prompt) (left : ℕ) (steps : KeptSteps) → seen rows n turning waiting left steps ≡ v → copied ≡ take n rows → n ≤ 11 → length rows ≡ 11 → record { count = n; rows = copied ++ drop n (replicate 11 unused); turning = turning } ≡ kept v
+pub kept_rows : (v : OpenTables) (rows copied : List Frame) (n : ℕ)
+    (turning : Option OpenLoop) (waiting : Option Prompt) (left : ℕ) (steps : KeptSteps)
+    → seen rows n turning waiting left steps ≡ v → copied ≡ take n rows → n ≤ 11 → length rows ≡ 11
+    → record { count = n; rows = copied ++ drop n (replicate 11 unused); turning = turning } ≡ kept v
 kept_rows v rows copied n turning waiting left steps e c low size =
     rw (← e, c, length_rows rows n (omega arith), reverse-reverse (take n rows), drop_replicate n 11 unused low) refl

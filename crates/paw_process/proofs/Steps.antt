@@ -1,5 +1,6 @@
 -- What the machine's moves make of the reading.
-use Rattle.std.proofs.Common.{◌≡◌, ℕ, zero, suc, ◌+◌, ◌-◌, ◌≤◌, ◌<◌, Bool, true, false, List, ◌∷◌, Option, Some, None, refl, sym, ap, ◌∙◌, length, arith, add-one}
+use Rattle.std.proofs.Common.{◌≡◌, ℕ, zero, suc, ◌+◌, ◌-◌, ◌≤◌, ◌<◌, Bool, true, false, List, ◌∷◌}
+use Rattle.std.proofs.Common.{Option, Some, None, refl, sym, ap, ◌∙◌, length, arith, add-one}
 use Rattle.std.specs.Prelude.{if◌then◌else◌, reverse}
 use Rattle.paw_base.specs.declared.parts.Condact.{Condact}
 use Rattle.paw_base.specs.declared.fault.SpentKind.TheVariants as spent
@@ -12,12 +13,14 @@ use Rattle.paw_effects.specs.declared.act.Effect.TheVariants as effect
 use Rattle.paw_reading.specs.declared.places.Frame.{Frame}
 use Rattle.paw_reading.specs.declared.places.OpenLoop.{OpenLoop}
 use Rattle.paw_reading.specs.Run.{Run, closed, without_loop}
-use Rattle.paw_reading.specs.Reading.{RunsOut, Redescribes, Halts, Out, Left, Stopped, halts, at_level, again, taken, turns, loop_of, waits, plain, looped, deeper, rest, reads_one}
+use Rattle.paw_reading.specs.Reading.{RunsOut, Redescribes, Halts, Out, Left, Stopped, halts, at_level, again}
+use Rattle.paw_reading.specs.Reading.{taken, turns, loop_of, waits, plain, looped, deeper, rest, reads_one}
 use Rattle.paw_reading.specs.GoingOn.{on_path}
 use Rattle.paw_reading.specs.inner.GoingOn.{along}
 use Rattle.paw_reading.proofs.Onward.{taken_again}
 use Rattle.paw_reading.proofs.Keeps.{at_level_own, plain_keeps, turns_closes, deeper_keeps}
-use Rattle.paw_reading.proofs.Rules.{within_budget, within_none, inside_end, inside_condact, plain_left, plain_match, plain_inside, again_closed, after_call_again}
+use Rattle.paw_reading.proofs.Rules.{within_budget, within_none, inside_end, inside_condact, plain_left}
+use Rattle.paw_reading.proofs.Rules.{plain_match, plain_inside, again_closed, after_call_again}
 use Rattle.paw_reading.proofs.Along.{along_stopped, on_path_reverse}
 use Rattle.paw_process.specs.inner.Objects.{is_next, least_taken}
 use Rattle.paw_process.specs.inner.Meaning.{going_in}
@@ -26,38 +29,55 @@ use Rattle.paw_process.specs.inner.Moves.{resolved, next_of, past_of, reading_at
 -- ---- the loop ----
 
 module _ (g : Story) (lv : ℕ) (l : OpenLoop) (body : Run → Out) where
+  -- the loop over the last n objects
+  abbrev over : ℕ → Run → Out
+  over n r = turns g lv (record l { last = 0 }) body n r
+
+  -- the loop once it has taken an object, with n objects after it
+  abbrev taking : ℕ → ℕ → Run → Out
+  taking o n r = again lv (λ _. over n) (body (taken g.game l o r))
+
   -- no object is left
-  turns_none : (n : ℕ) (r : Run) → least_taken g.game r.world l.place n ≡ None → turns g lv (record l { last = 0 }) body n r ≡ Left true (without_loop r)
+  turns_none : (n : ℕ) (r : Run) → least_taken g.game r.world l.place n ≡ None → over n r ≡ Left true (without_loop r)
   unfolding turns least_taken
   turns_none zero r h = refl
   turns_none (suc n) r h = go (turns_none n r) (is_next g.game r.world l.place (length g.game.objects - suc n)) h
     where
-      go : (least_taken g.game r.world l.place n ≡ None → turns g lv (record l { last = 0 }) body n r ≡ Left true (without_loop r)) → (b : Bool) → ◌≡◌ {A = Option ℕ} (if b then Some (length g.game.objects - suc n) else least_taken g.game r.world l.place n) None → (if b then again lv (λ _. turns g lv (record l { last = 0 }) body n) (body (taken g.game l (length g.game.objects - suc n) r)) else turns g lv (record l { last = 0 }) body n r) ≡ Left true (without_loop r)
+      go : (least_taken g.game r.world l.place n ≡ None → over n r ≡ Left true (without_loop r)) → (b : Bool)
+          → ◌≡◌ {A = Option ℕ} (if b then Some (length g.game.objects - suc n) else least_taken g.game r.world l.place n) None
+          → (if b then taking (length g.game.objects - suc n) n r else over n r) ≡ Left true (without_loop r)
       go later true q = cc
       go later false q = later q
 
   -- the next object
-  turns_some : (n : ℕ) (r : Run) (o : ℕ) → n ≤ length g.game.objects → least_taken g.game r.world l.place n ≡ Some o → turns g lv (record l { last = 0 }) body n r ≡ again lv (λ _. turns g lv (record l { last = 0 }) body (length g.game.objects - suc o)) (body (taken g.game l o r))
+  turns_some : (n : ℕ) (r : Run) (o : ℕ) → n ≤ length g.game.objects → least_taken g.game r.world l.place n ≡ Some o
+      → over n r ≡ taking o (length g.game.objects - suc o) r
   unfolding turns least_taken
   turns_some zero r o low h = cc
   turns_some (suc n) r o low h = go (turns_some n r o (omega arith)) (is_next g.game r.world l.place (length g.game.objects - suc n)) h
     where
-      here : (j : ℕ) → j ≡ length g.game.objects - suc n → again lv (λ _. turns g lv (record l { last = 0 }) body n) (body (taken g.game l j r)) ≡ again lv (λ _. turns g lv (record l { last = 0 }) body (length g.game.objects - suc j)) (body (taken g.game l j r))
+      here : (j : ℕ) → j ≡ length g.game.objects - suc n → taking j n r ≡ taking j (length g.game.objects - suc j) r
       here j q = let m : length g.game.objects - suc j ≡ n = omega arith in rw m refl
 
-      go : (least_taken g.game r.world l.place n ≡ Some o → turns g lv (record l { last = 0 }) body n r ≡ again lv (λ _. turns g lv (record l { last = 0 }) body (length g.game.objects - suc o)) (body (taken g.game l o r))) → (b : Bool) → ◌≡◌ {A = Option ℕ} (if b then Some (length g.game.objects - suc n) else least_taken g.game r.world l.place n) (Some o) → (if b then again lv (λ _. turns g lv (record l { last = 0 }) body n) (body (taken g.game l (length g.game.objects - suc n) r)) else turns g lv (record l { last = 0 }) body n r) ≡ again lv (λ _. turns g lv (record l { last = 0 }) body (length g.game.objects - suc o)) (body (taken g.game l o r))
+      go : (least_taken g.game r.world l.place n ≡ Some o → over n r ≡ taking o (length g.game.objects - suc o) r) → (b : Bool)
+          → ◌≡◌ {A = Option ℕ} (if b then Some (length g.game.objects - suc n) else least_taken g.game r.world l.place n) (Some o)
+          → (if b then taking (length g.game.objects - suc n) n r else over n r) ≡ taking o (length g.game.objects - suc o) r
       go later true q = let m : length g.game.objects - suc n ≡ o = cc in rw m (here o (sym m))
       go later false q = later q
 
 -- a loop with no object left
-pub turning_none : (g : Story) (fs : List Frame) (l : OpenLoop) (n : ℕ) (r : Run) → least_taken g.game r.world l.place n ≡ None → turning_at g fs l n r ≡ along g fs (Left true (without_loop r))
+pub turning_none : (g : Story) (fs : List Frame) (l : OpenLoop) (n : ℕ) (r : Run) → least_taken g.game r.world l.place n ≡ None
+    → turning_at g fs l n r ≡ along g fs (Left true (without_loop r))
 turning_none g fs l n r h = ap (along g fs) (turns_none g (length fs) l _ n r h)
 
 -- a loop takes the next object
-pub turning_some : (g : Story) (fs : List Frame) (l : OpenLoop) (n : ℕ) (r : Run) (o : ℕ) → l.level ≡ length fs → n ≤ length g.game.objects → least_taken g.game r.world l.place n ≡ Some o → turning_at g fs l n r ≡ along g fs (rest g (length fs) l.table l.entry (suc l.at) true (taken g.game l o r))
+pub turning_some : (g : Story) (fs : List Frame) (l : OpenLoop) (n : ℕ) (r : Run) (o : ℕ) → l.level ≡ length fs → n ≤ length g.game.objects
+    → least_taken g.game r.world l.place n ≡ Some o
+    → turning_at g fs l n r ≡ along g fs (rest g (length fs) l.table l.entry (suc l.at) true (taken g.game l o r))
 turning_some g fs l n r o own low h =
     ap (along g fs) (turns_some g (length fs) l _ n r o low h
-    ∙ taken_again g (deeper g (length fs)) (length fs) l o _ own (plain_keeps g (deeper g (length fs)) (length fs) (deeper_keeps g (length fs)) l.table l.entry (suc l.at) true (taken g.game l o r)))
+    ∙ taken_again g (deeper g (length fs)) (length fs) l o _ own
+    (plain_keeps g (deeper g (length fs)) (length fs) (deeper_keeps g (length fs)) l.table l.entry (suc l.at) true (taken g.game l o r)))
 
 -- ---- a table is left ----
 
@@ -66,19 +86,22 @@ pub settled_left : (g : Story) (fs : List Frame) (a : Bool) (r : Run) → at_lev
 settled_left g fs a r h = rw h refl
 
 -- at the level of the open loop
-pub settled_looped : (g : Story) (fs : List Frame) (a : Bool) (r : Run) (l : OpenLoop) → r.turning ≡ Some l → l.level ≡ length fs → resolved g fs (Left a r) ≡ turning_at g fs l (length g.game.objects - suc l.last) r
+pub settled_looped : (g : Story) (fs : List Frame) (a : Bool) (r : Run) (l : OpenLoop) → r.turning ≡ Some l → l.level ≡ length fs
+    → resolved g fs (Left a r) ≡ turning_at g fs l (length g.game.objects - suc l.last) r
 settled_looped g fs a r l h own =
     let q : at_level (length fs) r.turning ≡ Some l = rw h (at_level_own (length fs) l own) in rw q refl
 
 -- ---- actions ----
 
-pub acted_go : (g : Story) (fs : List Frame) (f : Frame) (r : Run) → acted_at g fs f effect.Go r ≡ along g fs (rest g (length fs) f.table f.entry (f.at + 1) true r)
+pub acted_go : (g : Story) (fs : List Frame) (f : Frame) (r : Run)
+    → acted_at g fs f effect.Go r ≡ along g fs (rest g (length fs) f.table f.entry (f.at + 1) true r)
 acted_go g fs f r = rw add-one refl
 
 pub acted_call : (g : Story) (fs : List Frame) (f : Frame) (u : ℕ) (r : Run) → acted_at g fs f (effect.Call u) r ≡ along g (f ∷ fs) (deeper g (length fs) u r)
 acted_call g fs f u r = ap (along g fs) (after_call_again g (deeper g (length fs)) (length fs) f (past_of g fs f) (deeper g (length fs) u r))
 
-pub acted_loop : (g : Story) (fs : List Frame) (f : Frame) (p : ℕ) (r : Run) → acted_at g fs f (effect.Loop p) r ≡ turning_at g fs (loop_of (length fs) f p) (length g.game.objects) r
+pub acted_loop : (g : Story) (fs : List Frame) (f : Frame) (p : ℕ) (r : Run)
+    → acted_at g fs f (effect.Loop p) r ≡ turning_at g fs (loop_of (length fs) f p) (length g.game.objects) r
 acted_loop g fs f p r =
     let sub : ℕ → Run → Out = deeper g (length fs) in
     ap (along g fs) (again_closed g sub (length fs) (looped g sub (length fs)) _
@@ -94,7 +117,8 @@ pub acted_spent : (g : Story) (fs : List Frame) (f : Frame) (r : Run) →
 acted_spent g fs f r = along_stopped g fs (Halts (RunsOut spent.Text)) r
 
 -- the piece is closed, and the run goes on at the prompt along the frames
-pub settled_waits : (g : Story) (fs : List Frame) (f : Frame) (p : Prompt) (r : Run) → resolved g fs (waits g p f (past_of g fs f) r) ≡ on_path g p 0 (reverse (f ∷ fs)) (closed r)
+pub settled_waits : (g : Story) (fs : List Frame) (f : Frame) (p : Prompt) (r : Run)
+    → resolved g fs (waits g p f (past_of g fs f) r) ≡ on_path g p 0 (reverse (f ∷ fs)) (closed r)
 settled_waits g fs f p r = sym (on_path_reverse g p f fs (closed r))
 
 -- ---- places ----
@@ -105,26 +129,33 @@ going_inside g fs f r h =
     ap (resolved g fs) (plain_inside g (deeper g (length fs)) (length fs) f.table f.entry f.at f.acted r h)
 
 -- before an entry
-going_before : (g : Story) (fs : List Frame) (f : Frame) (r : Run) → f.at ≡ 0 → going_in g (f ∷ fs) r ≡ resolved g fs (plain g (deeper g (length fs)) (length fs) f.table f.entry 0 f.acted r)
+going_before : (g : Story) (fs : List Frame) (f : Frame) (r : Run) → f.at ≡ 0
+    → going_in g (f ∷ fs) r ≡ resolved g fs (plain g (deeper g (length fs)) (length fs) f.table f.entry 0 f.acted r)
 going_before g fs f r h = rw h refl
 
-pub going_left : (g : Story) (fs : List Frame) (f : Frame) (r : Run) → f.at ≡ 0 → match_at g.game f.table f.entry (flag r.world 33) (flag r.world 34) ≡ None → going_in g (f ∷ fs) r ≡ resolved g fs (Left f.acted r)
+pub going_left : (g : Story) (fs : List Frame) (f : Frame) (r : Run) → f.at ≡ 0
+    → match_at g.game f.table f.entry (flag r.world 33) (flag r.world 34) ≡ None → going_in g (f ∷ fs) r ≡ resolved g fs (Left f.acted r)
 going_left g fs f r zero_at h =
     going_before g fs f r zero_at
     ∙ ap (resolved g fs) (plain_left g (deeper g (length fs)) (length fs) f.table f.entry f.acted r h)
 
-pub going_match : (g : Story) (fs : List Frame) (f : Frame) (r : Run) (found : ℕ) → f.at ≡ 0 → match_at g.game f.table f.entry (flag r.world 33) (flag r.world 34) ≡ Some found → going_in g (f ∷ fs) r ≡ reading_at g fs (record { table = f.table; entry = found; at = 0; acted = f.acted }) r
+pub going_match : (g : Story) (fs : List Frame) (f : Frame) (r : Run) (found : ℕ) → f.at ≡ 0
+    → match_at g.game f.table f.entry (flag r.world 33) (flag r.world 34) ≡ Some found
+    → going_in g (f ∷ fs) r ≡ reading_at g fs (record { table = f.table; entry = found; at = 0; acted = f.acted }) r
 going_match g fs f r found zero_at h =
     going_before g fs f r zero_at
     ∙ ap (resolved g fs) (plain_match g (deeper g (length fs)) (length fs) f.table f.entry found f.acted r h)
 
 -- past the last condact of an entry
-pub reading_end : (g : Story) (fs : List Frame) (f : Frame) (r : Run) → condact_at g.game f.table f.entry f.at ≡ None → reading_at g fs f r ≡ along g fs (rest g (length fs) f.table (f.entry + 1) 0 f.acted r)
+pub reading_end : (g : Story) (fs : List Frame) (f : Frame) (r : Run) → condact_at g.game f.table f.entry f.at ≡ None
+    → reading_at g fs f r ≡ along g fs (rest g (length fs) f.table (f.entry + 1) 0 f.acted r)
 reading_end g fs f r h =
     ap (resolved g fs) (inside_end g (deeper g (length fs)) (length fs) f.table f.entry f.at f.acted r h) ∙ rw add-one refl
 
 -- at a condact
-pub reading_condact : (g : Story) (fs : List Frame) (f : Frame) (r : Run) (c : Condact) → condact_at g.game f.table f.entry f.at ≡ Some c → length r.read < 200000 → reading_at g fs f r ≡ resolved g fs (reads_one g (deeper g (length fs)) (length fs) f (next_of g fs f) (past_of g fs f) c r)
+pub reading_condact : (g : Story) (fs : List Frame) (f : Frame) (r : Run) (c : Condact) → condact_at g.game f.table f.entry f.at ≡ Some c
+    → length r.read < 200000
+    → reading_at g fs f r ≡ resolved g fs (reads_one g (deeper g (length fs)) (length fs) f (next_of g fs f) (past_of g fs f) c r)
 reading_condact g fs f r c h low =
     ap (resolved g fs) (inside_condact g (deeper g (length fs)) (length fs) f.table f.entry f.at f.acted r c h ∙ within_budget r _ low)
 

@@ -43,7 +43,8 @@ call_deep g fs u r h =
     let low : 10 ≤ length (below fs) = omega (arith, length_below fs (omega arith)) in
     ap (along g fs) (deeper_none g (length (below fs)) u r low) ∙ along_stopped g fs (Halts (CallsTooDeep u)) r
 
-pub call_goes : (g : Story) (fs : List Frame) (u : ℕ) (r : Run) → 0 < length fs → length fs < 11 → along g fs (deeper g (length (below fs)) u r) ≡ going_in g (record { table = u; entry = 0; at = 0; acted = false } ∷ fs) r
+pub call_goes : (g : Story) (fs : List Frame) (u : ℕ) (r : Run) → 0 < length fs → length fs < 11
+    → along g fs (deeper g (length (below fs)) u r) ≡ going_in g (record { table = u; entry = 0; at = 0; acted = false } ∷ fs) r
 call_goes g fs u r some low =
     let deep : length (below fs) < 10 = omega (arith, length_below fs some) in
     ap (along g fs) (deeper_rest g (length (below fs)) u r deep) ∙ rw (length_below fs some) refl
@@ -65,7 +66,9 @@ pub ask_spent : (g : Story) (fs : List Frame) (text : List ℕ) (go : Run → Ou
 ask_spent g fs text go r h = ap (resolved g fs) (no_fit r text go h) ∙ along_stopped g fs (Halts (RunsOut spent.Text)) r
 
 -- the question is put, and the run goes on at the prompt along the frames
-pub ask_waits : (g : Story) (fs old : List Frame) (f : Frame) (p : Prompt) (text piece : List ℕ) (r : Run) → old ≡ f ∷ fs → length r.current + length text ≤ 65535 → piece ≡ r.current ++ text → resolved g fs (printing text (waits g p f (past_of g fs f)) r) ≡ on_path g p 0 (reverse old) (closed (record r { current = piece }))
+pub ask_waits : (g : Story) (fs old : List Frame) (f : Frame) (p : Prompt) (text piece : List ℕ) (r : Run) → old ≡ f ∷ fs
+    → length r.current + length text ≤ 65535 → piece ≡ r.current ++ text
+    → resolved g fs (printing text (waits g p f (past_of g fs f)) r) ≡ on_path g p 0 (reverse old) (closed (record r { current = piece }))
 ask_waits g fs old f p text piece r top h is =
     ap (resolved g fs) (fit r text (waits g p f (past_of g fs f)) h)
     ∙ (settled_waits g fs f p (printed text r) ∙ rw (top, is) refl)
@@ -86,5 +89,7 @@ goes_from g x y (Some (turned.Waits p)) fs r e h = e ∙ h
 goes_from g x y (Some (turned.Spent kind)) fs r e (s, h, past) = (s, e ∙ h, past)
 goes_from g x y (Some (turned.TooDeep u)) fs r e (s, h, past) = (s, e ∙ h, past)
 
-pub ask_stops : (g : Story) (fs : List Frame) (text : List ℕ) (go : Run → Out) (r : Run) (t : Option Turned) (fs' : List Frame) (s : Run) → t ≡ Some (turned.Spent spent.Text) → 65535 < length r.current + length text → SamePast s r → Continues g (resolved g fs (printing text go r)) t fs' s
+pub ask_stops : (g : Story) (fs : List Frame) (text : List ℕ) (go : Run → Out) (r : Run) (t : Option Turned) (fs' : List Frame) (s : Run)
+    → t ≡ Some (turned.Spent spent.Text) → 65535 < length r.current + length text → SamePast s r
+    → Continues g (resolved g fs (printing text go r)) t fs' s
 ask_stops g fs text go r t fs' s e h past = stops_spent g (resolved g fs (printing text go r)) t spent.Text fs' s r e (ask_spent g fs text go r h) past

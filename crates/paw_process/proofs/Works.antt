@@ -11,7 +11,8 @@ top_work [] h = absurd (omega arith)
 top_work (f ∷ fs) h = omega arith
 
 -- the open loop takes a later object
-pub taking_falls : (old new : OpenTables) (f : Frame) (l l' : OpenLoop) → 0 < length old.frames → old.turning ≡ Some l → new.frames ≡ f ∷ below old.frames → new.turning ≡ Some l' → l.last < l'.last → l'.last < 256 → work new < work old
+pub taking_falls : (old new : OpenTables) (f : Frame) (l l' : OpenLoop) → 0 < length old.frames → old.turning ≡ Some l
+    → new.frames ≡ f ∷ below old.frames → new.turning ≡ Some l' → l.last < l'.last → l'.last < 256 → work new < work old
 taking_falls old new f l l' some is ef et later low =
     let a : work new ≡ (4001 - f.entry) + 1 + frames_work (below old.frames) + (256 - l'.last) * 5000 = rw (ef, et) refl in
     let b : work old ≡ frames_work old.frames + (256 - l.last) * 5000 = rw is refl in
@@ -31,7 +32,8 @@ progresses old new h (counts e) = omega (arith, frames_bound new.frames, loop_bo
 progresses old new h (falls e low) = omega arith
 
 -- the entry that matches next leaves no more to do
-match_work : (old new : OpenTables) (f f' : Frame) → old.frames ≡ f ∷ below old.frames → new ≡ record old { frames = f' ∷ below old.frames } → f.entry ≤ f'.entry → work new ≤ work old
+match_work : (old new : OpenTables) (f f' : Frame) → old.frames ≡ f ∷ below old.frames → new ≡ record old { frames = f' ∷ below old.frames }
+    → f.entry ≤ f'.entry → work new ≤ work old
 match_work old new f f' top e low =
     let a : work new ≡ (4001 - f'.entry) + 1 + frames_work (below old.frames) + loop_work old.turning = rw e refl in
     let b : frames_work old.frames ≡ (4001 - f.entry) + 1 + frames_work (below old.frames) = ap (λ (s : List Frame). frames_work s) top in
@@ -41,6 +43,7 @@ progress_after : (old mid new : OpenTables) → mid.left ≡ old.left → work m
 progress_after old mid new e low (counts k) = counts (k ∙ e)
 progress_after old mid new e low (falls k less) = falls (k ∙ e) (omega arith)
 
-pub match_progress : (old mid new : OpenTables) (f f' : Frame) → old.frames ≡ f ∷ below old.frames → mid ≡ record old { frames = f' ∷ below old.frames } → f.entry ≤ f'.entry → Progress mid new → Progress old new
+pub match_progress : (old mid new : OpenTables) (f f' : Frame) → old.frames ≡ f ∷ below old.frames
+    → mid ≡ record old { frames = f' ∷ below old.frames } → f.entry ≤ f'.entry → Progress mid new → Progress old new
 match_progress old mid new f f' top e low h =
     progress_after old mid new (ap (λ (m : OpenTables). m.left) e) (match_work old mid f f' top e low) h

@@ -2,6 +2,7 @@
 pub mod OpenTables
 pub mod Meaning
 pub mod Moves
+pub mod Steps
 pub mod Objects
 pub mod Phrases
 pub mod Work

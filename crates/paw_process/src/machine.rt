@@ -6,7 +6,6 @@ ghost use Rattle.paw_game.specs.Game.{GameLists};
 ghost use Rattle.paw_game.specs.Valid.{Valid};
 ghost use Rattle.paw_base.specs.inner.Steps.{no_steps};
 ghost use Rattle.paw_routines.specs.Routines.{AreRowsOf, HaveRows};
-ghost use Rattle.paw_effects.specs.Built.{IsOf};
 ghost use Rattle.paw_effects.specs.Story.{story_of};
 ghost use Rattle.paw_effects.specs.declared.act.Prompt.{Prompt as AtPrompt};
 ghost use Rattle.paw_effects.specs.declared.act.Prompt.TheVariants as prompt;
@@ -17,24 +16,24 @@ ghost use Rattle.paw_reading.specs.Turn.{first_table};
 ghost use Rattle.paw_reading.specs.inner.Places.{ArePlaces};
 ghost use Rattle.paw_process.specs.OpenTables.{OpenTables};
 ghost use Rattle.paw_process.specs.inner.OpenTables.{below, ReadsStep, IsReading, IsWaiting, IsClosed};
+ghost use Rattle.paw_process.specs.inner.OpenTables.{new_machine, refilled, table_begun};
 ghost use Rattle.paw_process.specs.Kept.{kept as kept_of, frames_fault};
 ghost use Rattle.paw_process.specs.inner.Kept.{restored, waiting_at, StandsAt};
 ghost use Rattle.paw_process.specs.inner.Meaning.{having, going_in, RunsTo, IsStopped, AwaitsAnswer};
 ghost use Rattle.paw_process.specs.inner.Meaning.{AnswersQuit, AnswersKey};
+ghost use Rattle.paw_process.specs.inner.Steps.{IsReady, IsAfterStep};
 
 use crate::Turned;
 use crate::frame::{answered, start_of};
 use crate::kept::{FrameFault, Frames, frames_fault, waiting_at};
+use crate::situation::Situation;
 use paw_base::limits::READ_LIMIT;
 use paw_base::parts::Condact;
-use paw_base::piece::Piece;
 use paw_base::steps::{StepRow, Steps};
 use paw_effects::act::Prompt;
 use paw_game::tables::Tables;
-use paw_phrase::Pending;
 use paw_reading::places::{Frame, OpenLoop};
 use paw_routines::routines::Routines;
-use paw_world::world::World;
 use std::marker::Model;
 
 /// Tables that may be open at once: one, and ten levels of calls.
@@ -61,15 +60,22 @@ impl Model for Machine {
 
     ghost Value = { OpenTables };
 
-    ghost view = { λ m. record { frames = reverse (take m.count m.rows); turning = m.turning; waiting = m.waiting; left = m.left; steps = m.steps } };
+    ghost view = { λ m. record {
+      frames = reverse (take m.count m.rows);
+      turning = m.turning;
+      waiting = m.waiting;
+      left = m.left;
+      steps = m.steps;
+    } };
 
-    ghost invariant = { λ m. (m.count ≤ MOST_FRAMES) × (length m.rows ≡ MOST_FRAMES) × (m.steps.count + m.left ≡ READ_LIMIT) };
+    ghost invariant = { λ m.
+        (m.count ≤ MOST_FRAMES) × (length m.rows ≡ MOST_FRAMES) × (m.steps.count + m.left ≡ READ_LIMIT) };
 }
 
 impl Machine {
     /// No table is open, the budget is full, and there are no steps.
     pub fn new() -> Machine
-        ensures value { result ≡ record { frames = []; turning = None; waiting = None; left = READ_LIMIT; steps = no_steps } }
+        ensures value { result ≡ new_machine }
     {
         Machine {
             rows: [start_of(0); MOST_FRAMES],
@@ -84,7 +90,7 @@ impl Machine {
     /// Opens a table at its start, where no table is open.
     pub fn begin(&mut self, table: u8)
         requires closed { IsClosed self.old }
-        ensures value { self.new ≡ record self.old { frames = record { table = table; entry = 0; at = 0; acted = false } ∷ [] } }
+        ensures value { self.new ≡ table_begun table self.old }
         ensures reading { IsReading self.new }
     {
         self.push(start_of(table));
@@ -92,7 +98,7 @@ impl Machine {
 
     /// The budget is full again and there are no steps, as it is for a new piece.
     pub fn refill(&mut self)
-        ensures value { self.new ≡ record self.old { left = READ_LIMIT; steps = no_steps } }
+        ensures value { self.new ≡ refilled self.old }
     {
         self.left = READ_LIMIT;
         self.steps.clear();
@@ -130,23 +136,20 @@ impl Machine {
     pub fn run<T: Tables, F: Fn(u8, u8) -> u8>(
         &mut self,
         tables: &T,
-        world: &mut World,
-        pending: &mut Pending,
         routines: &Routines<F>,
-        piece: &mut Piece,
+        situation: &mut Situation,
     ) -> Turned
-        requires reading { IsReading self.old }
+        requires ready { IsReady (T.game tables.now) self.old situation.old.world }
         requires rows { HaveRows F.Fn routines.now }
-        requires game { IsOf (T.game tables.now) world.old }
-        requires draws { world.old.draws + self.old.left < 2 ^ 64 }
+        requires draws { situation.old.world.draws + self.old.left < 2 ^ 64 }
         ensures meaning { (X : List (List ℕ)) → AreRowsOf F.Fn routines.now X →
-            RunsTo (story_of (T.game tables.now) X) (having world.old pending.old self.old piece.old) result (having world.new pending.new self.new piece.new) }
+            RunsTo (story_of (T.game tables.now) X) (having situation.old self.old) result
+            (having situation.new self.new) }
         ensures stopped { IsStopped result self.new }
-        ensures game { IsOf (T.game tables.now) world.new }
-        ensures draws { world.new.draws + self.new.left ≤ world.old.draws + self.old.left }
+        ensures after { IsAfterStep (T.game tables.now) (having situation.old self.old) (having situation.new self.new) }
     {
         loop {
-            match self.step(tables, world, pending, routines, piece) {
+            match self.step(tables, routines, situation) {
                 Some(turned) => return turned,
                 None => {}
             }
@@ -157,8 +160,9 @@ impl Machine {
     /// same machine with a full budget and no steps; and they are restored wherever they are places of a run.
     pub fn frames(&self) -> Frames
         ensures value { result ≡ kept_of self.now }
-        ensures again { (p : AtPrompt) → StandsAt p self.now → restored result (waiting_at p) ≡ record self.now { left = READ_LIMIT; steps = no_steps } }
-        ensures sound { (g : GameLists) (p : AtPrompt) → StandsAt p self.now → ArePlaces g p (reverse self.now.frames) self.now.turning → frames_fault g p result ≡ None }
+        ensures again { (p : AtPrompt) → StandsAt p self.now → restored result (waiting_at p) ≡ refilled self.now }
+        ensures sound { (g : GameLists) (p : AtPrompt) → StandsAt p self.now →
+            ArePlaces g p (reverse self.now.frames) self.now.turning → frames_fault g p result ≡ None }
     {
         let mut rows = [start_of(0); MOST_FRAMES];
         rows[..self.count].copy_from_slice(&self.rows[..self.count]);

@@ -2,10 +2,8 @@
 
 ghost use Rattle.std.specs.Prelude.{◌≡◌, ◌∷◌};
 ghost use Rattle.paw_effects.specs.Built.{IsOf};
-ghost use Rattle.paw_phrase.specs.Sentence.{parsed};
 ghost use Rattle.paw_reading.specs.Run.{spoken};
 ghost use Rattle.paw_process.specs.inner.Phrases.{Speaks};
-ghost use Rattle.paw_world.specs.World.{flag};
 
 use paw_game::tables::Tables;
 use paw_phrase::{Found, Pending, Sentence, next_phrase};
@@ -15,7 +13,7 @@ use paw_world::world::World;
 /// the earlier one for the phrase after it. The bytes of a phrase with no known word are dropped. With no phrase left
 /// nothing changes.
 pub fn take_phrase<T: Tables>(tables: &T, world: &mut World, pending: &mut Pending) -> Found
-    ensures value { Speaks (parsed (T.game tables.now) pending.old.bytes pending.old.earlier (flag world.old 46) (flag world.old 47)) result world.old world.new pending.old pending.new }
+    ensures value { Speaks (T.game tables.now) result world.old world.new pending.old pending.new }
     ensures draws { world.new.draws ≡ world.old.draws }
     ensures game { IsOf (T.game tables.now) world.old → IsOf (T.game tables.now) world.new }
 {

@@ -3,26 +3,24 @@
 ghost use Rattle.std.specs.Prelude.{◌≡◌, ◌≢◌, ℕ, ◌+◌, ◌-◌, ◌<◌, ◌≤◌, ◌^◌, List, [], ◌∷◌, length};
 ghost use Rattle.std.specs.Prelude.{true, false, Some, None, IsNone, if◌then◌else◌};
 ghost use Rattle.paw_game.specs.Valid.{Valid};
+ghost use Rattle.paw_game.specs.inner.Valid.{is_right};
 ghost use Rattle.paw_game.specs.Tables.{condact_at};
 ghost use Rattle.paw_routines.specs.Routines.{AreRowsOf, HaveRows};
-ghost use Rattle.paw_effects.specs.Built.{IsOf};
 ghost use Rattle.paw_effects.specs.Story.{Story, story_of};
 ghost use Rattle.paw_effects.specs.Holds.{is_condition, holds};
 ghost use Rattle.paw_effects.specs.Effects.{effect_of};
 ghost use Rattle.paw_effects.specs.Texts.{put_text};
 ghost use Rattle.paw_effects.specs.declared.act.Prompt.TheVariants as prompt;
-ghost use Rattle.paw_phrase.specs.Pending.{PendingLine};
 ghost use Rattle.paw_reading.specs.declared.places.Frame.{Frame};
-ghost use Rattle.paw_game.specs.inner.Valid.{is_right};
 ghost use Rattle.paw_reading.specs.Run.{Run};
 ghost use Rattle.paw_reading.specs.Reading.{Left, deeper, noted, acts, tests, parses, printing, waits, loop_of};
 ghost use Rattle.paw_reading.specs.inner.GoingOn.{along};
-ghost use Rattle.paw_process.specs.inner.OpenTables.{below, ReadsNone, IsAtCondact, AtCondacts};
+ghost use Rattle.paw_process.specs.inner.OpenTables.{below, ReadsNone, AtCondacts};
 ghost use Rattle.paw_process.specs.inner.OpenTables.{IsLoopWithin, LoopFits, IsReading};
 ghost use Rattle.paw_process.specs.inner.Meaning.{having, going_in, run_held};
-ghost use Rattle.paw_process.specs.inner.Moves.{Continues, StandsOrTurned, turning_as, reading_with, looping};
-ghost use Rattle.paw_process.specs.inner.Moves.{running, resolved, acted_at, next_of, past_of, turning_at};
-ghost use Rattle.paw_process.specs.inner.Moves.{reading_at, ReadsTable, ReadsOne};
+ghost use Rattle.paw_process.specs.inner.Moves.{Continues, StandsOrTurned, turning_as, looping, resolved, acted_at};
+ghost use Rattle.paw_process.specs.inner.Moves.{next_of, past_of, turning_at, reading_at, ReadsTable, ReadsOne};
+ghost use Rattle.paw_process.specs.inner.Steps.{IsReady, IsInnermost, MayReadOne, IsAfterMove, IsAfterStep};
 ghost use Rattle.paw_process.specs.inner.Work.{work, frames_work, Progress};
 ghost use Rattle.paw_world.specs.inner.Places.{left_above};
 
@@ -31,11 +29,12 @@ use crate::frame::{after_found, next_entry, past, start_of};
 use crate::machine::{MOST_FRAMES, Machine};
 use crate::objects::{next_taken, take};
 use crate::phrase::take_phrase;
+use crate::situation::Situation;
 use paw_base::codes::MOVE;
 use paw_base::fault::SpentKind;
+use paw_base::flags::{NOUN_FLAG, VERB_FLAG};
 use paw_base::messages::QUIT_MESSAGE;
 use paw_base::parts::Condact;
-use paw_base::piece::Piece;
 use paw_effects::act::{Act, Effect, Prompt, Truth};
 use paw_effects::does::{act, test};
 use paw_effects::text::put;
@@ -92,17 +91,15 @@ impl Machine {
         l: OpenLoop,
         above: Option<u8>,
     ) -> Option<Turned>
-        requires reading { IsReading self.old }
-        requires game { IsOf (T.game tables.now) world.old }
+        requires ready { IsReady (T.game tables.now) self.old world.old }
         requires own { IsLoopWithin (length self.old.frames) l }
         requires level { l.level ≡ length (below self.old.frames) }
         ensures meaning { (X : List (List ℕ)) (r : Run) → let g = story_of (T.game tables.now) X in
-            Continues g (turning_at g (below self.old.frames) l (left_above world.old.places above) (looping world.old self.old.turning r))
+            Continues g (turning_at g (below self.old.frames) l (left_above world.old.places above)
+            (looping world.old self.old.turning r))
             result self.new.frames (looping world.new self.new.turning r) }
         ensures stands { StandsOrTurned result self.new }
-        ensures left { ReadsNone self.old self.new }
-        ensures game { IsOf (T.game tables.now) world.new }
-        ensures draws { world.new.draws ≡ world.old.draws }
+        ensures after { IsAfterMove (T.game tables.now) self.old world.old self.new world.new }
         ensures falls { self.old.turning ≡ Some l → above ≡ Some l.last → work self.new < work self.old }
     {
         match next_taken(tables, world, l.place, above) {
@@ -138,15 +135,12 @@ impl Machine {
         world: &mut World,
         acted: bool,
     ) -> Option<Turned>
-        requires reading { IsReading self.old }
-        requires game { IsOf (T.game tables.now) world.old }
+        requires ready { IsReady (T.game tables.now) self.old world.old }
         ensures meaning { (X : List (List ℕ)) (r : Run) → let g = story_of (T.game tables.now) X in
             Continues g (resolved g (below self.old.frames) (Left acted (looping world.old self.old.turning r)))
             result self.new.frames (looping world.new self.new.turning r) }
         ensures stands { StandsOrTurned result self.new }
-        ensures left { ReadsNone self.old self.new }
-        ensures game { IsOf (T.game tables.now) world.new }
-        ensures draws { world.new.draws ≡ world.old.draws }
+        ensures after { IsAfterMove (T.game tables.now) self.old world.old self.new world.new }
         ensures falls { work self.new < work self.old }
     {
         let level = self.depth() - 1;
@@ -166,7 +160,8 @@ impl Machine {
         requires reading { IsReading self.old }
         requires place { AtCondacts self.old.frames }
         ensures meaning { (g : Story) (r : Run) →
-            Continues g (along g self.old.frames (deeper g (length (below self.old.frames)) table (turning_as self.old.turning r)))
+            Continues g
+            (along g self.old.frames (deeper g (length (below self.old.frames)) table (turning_as self.old.turning r)))
             result self.new.frames (turning_as self.new.turning r) }
         ensures stands { StandsOrTurned result self.new }
         ensures left { ReadsNone self.old self.new }
@@ -179,21 +174,19 @@ impl Machine {
     }
 
     /// The next phrase is taken: at a sentence reading goes on at the next entry, else at the next condact.
-    fn parse<T: Tables>(&mut self, tables: &T, world: &mut World, pending: &mut Pending, f: Frame)
-        requires reading { IsReading self.old }
-        requires top { self.old.frames ≡ f ∷ below self.old.frames }
-        requires place { IsAtCondact f }
-        requires game { IsOf (T.game tables.now) world.old }
+    fn parse<T: Tables>(&mut self, tables: &T, situation: &mut Situation, f: Frame)
+        requires ready { IsReady (T.game tables.now) self.old situation.old.world }
+        requires at { IsInnermost f self.old }
         ensures meaning { (X : List (List ℕ)) (r : Run) → let g = story_of (T.game tables.now) X in
             resolved g (below self.old.frames)
-            (parses g f (next_of g (below self.old.frames) f) (past_of g (below self.old.frames) f) (running world.old pending.old self.old.turning r))
-            ≡ going_in g self.new.frames (running world.new pending.new self.new.turning r) }
+            (parses g f (next_of g (below self.old.frames) f) (past_of g (below self.old.frames) f)
+            (run_held (having situation.old self.old) r))
+            ≡ going_in g self.new.frames (run_held (having situation.new self.new) r) }
         ensures same { self.new ≡ record self.old { frames = self.new.frames } }
         ensures reading { IsReading self.new }
-        ensures game { IsOf (T.game tables.now) world.new }
-        ensures draws { world.new.draws ≡ world.old.draws }
+        ensures after { IsAfterMove (T.game tables.now) self.old situation.old.world self.new situation.new.world }
     {
-        let found = take_phrase(tables, world, pending);
+        let found = take_phrase(tables, &mut situation.world, &mut situation.pending);
         self.set_top(after_found(found, f));
     }
 
@@ -201,41 +194,36 @@ impl Machine {
     fn follow<T: Tables>(
         &mut self,
         tables: &T,
-        world: &mut World,
-        pending: &mut Pending,
+        situation: &mut Situation,
         f: Frame,
         effect: Effect,
     ) -> Option<Turned>
-        requires reading { IsReading self.old }
-        requires top { self.old.frames ≡ f ∷ below self.old.frames }
-        requires place { IsAtCondact f }
-        requires game { IsOf (T.game tables.now) world.old }
+        requires ready { IsReady (T.game tables.now) self.old situation.old.world }
+        requires at { IsInnermost f self.old }
         ensures meaning { (X : List (List ℕ)) (r : Run) → let g = story_of (T.game tables.now) X in
-            Continues g (acted_at g (below self.old.frames) f effect (running world.old pending.old self.old.turning r))
-            result self.new.frames (running world.new pending.new self.new.turning r) }
+            Continues g (acted_at g (below self.old.frames) f effect (run_held (having situation.old self.old) r))
+            result self.new.frames (run_held (having situation.new self.new) r) }
         ensures stands { StandsOrTurned result self.new }
-        ensures left { ReadsNone self.old self.new }
-        ensures game { IsOf (T.game tables.now) world.new }
-        ensures draws { world.new.draws ≡ world.old.draws }
+        ensures after { IsAfterMove (T.game tables.now) self.old situation.old.world self.new situation.new.world }
     {
         match effect {
             Effect::Go => {
                 self.set_top(past(f, true));
                 None
             }
-            Effect::Exit(acted) => self.leave_level(tables, world, acted),
+            Effect::Exit(acted) => self.leave_level(tables, &mut situation.world, acted),
             Effect::Redescribe => self.stop(Turned::Redescribe),
             Effect::Call(table) => self.call(table),
             Effect::Loop(place) => {
                 let l = self.loop_at(f, place);
-                self.next_object(tables, world, l, None)
+                self.next_object(tables, &mut situation.world, l, None)
             }
             Effect::Ask(prompt) => {
                 self.set_waiting(Some(prompt));
                 Some(Turned::Waits(prompt))
             }
             Effect::Parse => {
-                self.parse(tables, world, pending, f);
+                self.parse(tables, situation, f);
                 None
             }
             Effect::Spent => self.stop(Turned::Spent(SpentKind::Text)),
@@ -261,27 +249,22 @@ impl Machine {
     fn test<T: Tables>(
         &mut self,
         tables: &T,
-        world: &mut World,
-        piece: &mut Piece,
+        situation: &mut Situation,
         f: Frame,
         c: Condact,
     ) -> Option<Turned>
-        requires reading { IsReading self.old }
-        requires top { self.old.frames ≡ f ∷ below self.old.frames }
-        requires place { IsAtCondact f }
-        requires game { IsOf (T.game tables.now) world.old }
-        requires may { 0 < self.old.left }
+        requires ready { IsReady (T.game tables.now) self.old situation.old.world }
+        requires at { IsInnermost f self.old }
+        requires may { MayReadOne (T.game tables.now) c self.old situation.old.world }
         requires kind { is_condition c ≡ true }
-        requires condact { is_right (T.game tables.now) c ≡ true }
-        requires draws { world.old.draws < 2 ^ 64 - 1 }
-        ensures meaning { (X : List (List ℕ)) (p : PendingLine) → let g = story_of (T.game tables.now) X in
-            ReadsOne g (below self.old.frames) f c (having world.old p self.old piece.old) result (having world.new p self.new piece.new) }
+        ensures meaning { (X : List (List ℕ)) → let g = story_of (T.game tables.now) X in
+            ReadsOne g (below self.old.frames) f c (having situation.old self.old) result
+            (having situation.new self.new) }
         ensures stands { StandsOrTurned result self.new }
         ensures counts { self.old.left ≡ self.new.left + 1 }
-        ensures game { IsOf (T.game tables.now) world.new }
-        ensures draws { world.new.draws ≤ world.old.draws + 1 }
+        ensures after { IsAfterStep (T.game tables.now) (having situation.old self.old) (having situation.new self.new) }
     {
-        match test(tables, world, c) {
+        match test(tables, &mut situation.world, c) {
             Truth::Yes => {
                 self.note(f, c, true);
                 self.set_top(past(f, f.acted));
@@ -294,26 +277,27 @@ impl Machine {
             }
             Truth::Ask => {
                 self.note(f, c, true);
-                self.ask(tables, world, piece)
+                self.ask(tables, situation)
             }
         }
     }
 
     /// QUIT puts its question and waits for the answer.
-    fn ask<T: Tables>(&mut self, tables: &T, world: &World, piece: &mut Piece) -> Option<Turned>
-        requires reading { IsReading self.old }
+    fn ask<T: Tables>(&mut self, tables: &T, situation: &mut Situation) -> Option<Turned>
+        requires ready { IsReady (T.game tables.now) self.old situation.old.world }
         requires place { AtCondacts self.old.frames }
-        requires game { IsOf (T.game tables.now) world.now }
         ensures meaning { (X : List (List ℕ)) (f : Frame) (r : Run) → self.old.frames ≡ f ∷ below self.old.frames →
             let g = story_of (T.game tables.now) X in
             Continues g (resolved g (below self.old.frames)
-            (printing (put_text (T.game tables.now) world.now 12) (waits g prompt.Quit f (past_of g (below self.old.frames) f))
-            (reading_with piece.old self.old.turning r)))
-            result self.new.frames (reading_with piece.new self.new.turning r) }
+            (printing (put_text g.game situation.old.world 12)
+            (waits g prompt.Quit f (past_of g (below self.old.frames) f))
+            (run_held (having situation.old self.old) r)))
+            result self.new.frames (run_held (having situation.new self.new) r) }
         ensures stands { StandsOrTurned result self.new }
         ensures left { ReadsNone self.old self.new }
+        ensures world { situation.new.world ≡ situation.old.world }
     {
-        if !put(tables, world, piece, QUIT_MESSAGE) {
+        if !put(tables, &situation.world, &mut situation.piece, QUIT_MESSAGE) {
             return self.stop(Turned::Spent(SpentKind::Text));
         }
         self.set_waiting(Some(Prompt::Quit));
@@ -324,38 +308,38 @@ impl Machine {
     fn act<T: Tables, F: Fn(u8, u8) -> u8>(
         &mut self,
         tables: &T,
-        world: &mut World,
-        pending: &mut Pending,
         routines: &Routines<F>,
-        piece: &mut Piece,
+        situation: &mut Situation,
         f: Frame,
         c: Condact,
     ) -> Option<Turned>
-        requires reading { IsReading self.old }
+        requires ready { IsReady (T.game tables.now) self.old situation.old.world }
         requires rows { HaveRows F.Fn routines.now }
-        requires top { self.old.frames ≡ f ∷ below self.old.frames }
-        requires place { IsAtCondact f }
-        requires game { IsOf (T.game tables.now) world.old }
-        requires may { 0 < self.old.left }
+        requires at { IsInnermost f self.old }
+        requires may { MayReadOne (T.game tables.now) c self.old situation.old.world }
         requires kind { is_condition c ≡ false }
-        requires condact { is_right (T.game tables.now) c ≡ true }
-        requires draws { world.old.draws < 2 ^ 64 - 1 }
-        ensures meaning { (X : List (List ℕ)) → AreRowsOf F.Fn routines.now X → let g = story_of (T.game tables.now) X in
-            ReadsOne g (below self.old.frames) f c
-            (having world.old pending.old self.old piece.old) result (having world.new pending.new self.new piece.new) }
+        ensures meaning { (X : List (List ℕ)) → AreRowsOf F.Fn routines.now X →
+            let g = story_of (T.game tables.now) X in
+            ReadsOne g (below self.old.frames) f c (having situation.old self.old) result
+            (having situation.new self.new) }
         ensures stands { StandsOrTurned result self.new }
         ensures counts { self.old.left ≡ self.new.left + 1 }
-        ensures game { IsOf (T.game tables.now) world.new }
-        ensures draws { world.new.draws ≤ world.old.draws + 1 }
+        ensures after { IsAfterStep (T.game tables.now) (having situation.old self.old) (having situation.new self.new) }
     {
         self.note(f, c, true);
-        let done = act(tables, world, routines, piece, c);
+        let done = act(
+            tables,
+            &mut situation.world,
+            routines,
+            &mut situation.piece,
+            c,
+        );
         match done.effect {
             Effect::Spent => self.stop(Turned::Spent(SpentKind::Text)),
             effect => {
-                drop_line(pending, done);
+                drop_line(&mut situation.pending, done);
                 self.cancel_loop(done);
-                self.follow(tables, world, pending, f, effect)
+                self.follow(tables, situation, f, effect)
             }
         }
     }
@@ -373,36 +357,32 @@ impl Machine {
     fn read<T: Tables, F: Fn(u8, u8) -> u8>(
         &mut self,
         tables: &T,
-        world: &mut World,
-        pending: &mut Pending,
         routines: &Routines<F>,
-        piece: &mut Piece,
+        situation: &mut Situation,
         f: Frame,
         c: Condact,
     ) -> Option<Turned>
-        requires reading { IsReading self.old }
+        requires ready { IsReady (T.game tables.now) self.old situation.old.world }
         requires rows { HaveRows F.Fn routines.now }
-        requires top { self.old.frames ≡ f ∷ below self.old.frames }
-        requires place { IsAtCondact f }
-        requires game { IsOf (T.game tables.now) world.old }
+        requires at { IsInnermost f self.old }
         requires found { condact_at (T.game tables.now) f.table f.entry f.at ≡ Some c }
         requires condact { is_right (T.game tables.now) c ≡ true }
-        requires draws { world.old.draws + self.old.left < 2 ^ 64 }
-        ensures meaning { (X : List (List ℕ)) → AreRowsOf F.Fn routines.now X → let g = story_of (T.game tables.now) X in
+        requires draws { situation.old.world.draws + self.old.left < 2 ^ 64 }
+        ensures meaning { (X : List (List ℕ)) → AreRowsOf F.Fn routines.now X →
+            let g = story_of (T.game tables.now) X in
             ReadsTable g (reading_at g (below self.old.frames) f)
-            (having world.old pending.old self.old piece.old) result (having world.new pending.new self.new piece.new) }
+            (having situation.old self.old) result (having situation.new self.new) }
         ensures stands { StandsOrTurned result self.new }
         ensures counts { IsNone result → self.old.left ≡ self.new.left + 1 }
-        ensures game { IsOf (T.game tables.now) world.new }
-        ensures draws { world.new.draws + self.new.left ≤ world.old.draws + self.old.left }
+        ensures after { IsAfterStep (T.game tables.now) (having situation.old self.old) (having situation.new self.new) }
     {
         if !self.may_read() {
             return self.stop(Turned::Spent(SpentKind::Condacts));
         }
         if c.code <= MOVE {
-            self.test(tables, world, piece, f, c)
+            self.test(tables, situation, f, c)
         } else {
-            self.act(tables, world, pending, routines, piece, f, c)
+            self.act(tables, routines, situation, f, c)
         }
     }
 
@@ -410,33 +390,30 @@ impl Machine {
     fn inside<T: Tables, F: Fn(u8, u8) -> u8>(
         &mut self,
         tables: &T,
-        world: &mut World,
-        pending: &mut Pending,
         routines: &Routines<F>,
-        piece: &mut Piece,
+        situation: &mut Situation,
         f: Frame,
     ) -> Option<Turned>
-        requires reading { IsReading self.old }
+        requires ready { IsReady (T.game tables.now) self.old situation.old.world }
         requires rows { HaveRows F.Fn routines.now }
         requires top { self.old.frames ≡ f ∷ below self.old.frames }
         requires entry { f.entry < 4000 }
         requires valid { Valid (T.game tables.now) }
-        requires game { IsOf (T.game tables.now) world.old }
-        requires draws { world.old.draws + self.old.left < 2 ^ 64 }
-        ensures meaning { (X : List (List ℕ)) → AreRowsOf F.Fn routines.now X → let g = story_of (T.game tables.now) X in
+        requires draws { situation.old.world.draws + self.old.left < 2 ^ 64 }
+        ensures meaning { (X : List (List ℕ)) → AreRowsOf F.Fn routines.now X →
+            let g = story_of (T.game tables.now) X in
             ReadsTable g (reading_at g (below self.old.frames) f)
-            (having world.old pending.old self.old piece.old) result (having world.new pending.new self.new piece.new) }
+            (having situation.old self.old) result (having situation.new self.new) }
         ensures stands { StandsOrTurned result self.new }
         ensures progress { IsNone result → Progress self.old self.new }
-        ensures game { IsOf (T.game tables.now) world.new }
-        ensures draws { world.new.draws + self.new.left ≤ world.old.draws + self.old.left }
+        ensures after { IsAfterStep (T.game tables.now) (having situation.old self.old) (having situation.new self.new) }
     {
         match tables.condact(f.table, f.entry, f.at) {
             None => {
                 self.set_top(next_entry(f));
                 None
             }
-            Some(c) => self.read(tables, world, pending, routines, piece, f, c),
+            Some(c) => self.read(tables, routines, situation, f, c),
         }
     }
 
@@ -444,31 +421,30 @@ impl Machine {
     pub(crate) fn step<T: Tables, F: Fn(u8, u8) -> u8>(
         &mut self,
         tables: &T,
-        world: &mut World,
-        pending: &mut Pending,
         routines: &Routines<F>,
-        piece: &mut Piece,
+        situation: &mut Situation,
     ) -> Option<Turned>
-        requires reading { IsReading self.old }
+        requires ready { IsReady (T.game tables.now) self.old situation.old.world }
         requires rows { HaveRows F.Fn routines.now }
-        requires game { IsOf (T.game tables.now) world.old }
-        requires draws { world.old.draws + self.old.left < 2 ^ 64 }
-        ensures meaning { (X : List (List ℕ)) → AreRowsOf F.Fn routines.now X → let g = story_of (T.game tables.now) X in
-            ReadsTable g (going_in g self.old.frames)
-            (having world.old pending.old self.old piece.old) result (having world.new pending.new self.new piece.new) }
+        requires draws { situation.old.world.draws + self.old.left < 2 ^ 64 }
+        ensures meaning { (X : List (List ℕ)) → AreRowsOf F.Fn routines.now X →
+            let g = story_of (T.game tables.now) X in
+            ReadsTable g (going_in g self.old.frames) (having situation.old self.old) result
+            (having situation.new self.new) }
         ensures stands { StandsOrTurned result self.new }
         ensures progress { IsNone result → Progress self.old self.new }
-        ensures game { IsOf (T.game tables.now) world.new }
-        ensures draws { world.new.draws + self.new.left ≤ world.old.draws + self.old.left }
+        ensures after { IsAfterStep (T.game tables.now) (having situation.old self.old) (having situation.new self.new) }
     {
         // Its clause says that the game is valid, which the proof wants. No call of it is left in the program.
         let _counts = tables.counts();
         let f = self.top();
         if f.at > 0 {
-            return self.inside(tables, world, pending, routines, piece, f);
+            return self.inside(tables, routines, situation, f);
         }
-        match tables.next_match(f.table, f.entry, world.flag(33), world.flag(34)) {
-            None => self.leave_level(tables, world, f.acted),
+        let verb = situation.world.flag(VERB_FLAG);
+        let noun = situation.world.flag(NOUN_FLAG);
+        match tables.next_match(f.table, f.entry, verb, noun) {
+            None => self.leave_level(tables, &mut situation.world, f.acted),
             Some(entry) => {
                 let f = Frame {
                     table: f.table,
@@ -477,7 +453,7 @@ impl Machine {
                     acted: f.acted,
                 };
                 self.set_top(f);
-                self.inside(tables, world, pending, routines, piece, f)
+                self.inside(tables, routines, situation, f)
             }
         }
     }

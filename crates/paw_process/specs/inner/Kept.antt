@@ -1,6 +1,6 @@
 -- What is kept of a machine that waits, and the rules that it keeps: words that contracts between crates and proofs use
 -- beside those of specs/Kept.antt.
-use Rattle.std.specs.Prelude.{◌-◌, Option, Some, None, reverse, take}
+use Rattle.std.specs.Prelude.{Option, Some, None, reverse, take}
 use Rattle.paw_base.specs.declared.limits.TheConstants.{READ_LIMIT}
 use Rattle.paw_base.specs.inner.Steps.{no_steps}
 use Rattle.paw_effects.specs.declared.act.Prompt.{Prompt}
@@ -8,7 +8,6 @@ use Rattle.paw_effects.specs.declared.act.Prompt.TheVariants as prompt
 use Rattle.paw_process.specs.OpenTables.{OpenTables}
 use Rattle.paw_process.specs.inner.OpenTables.{IsWaiting, IsClosed}
 use Rattle.paw_process.specs.declared.kept.Frames.{Frames}
-use Rattle.paw_process.specs.Kept.{kept}
 
 -- the machine of what is kept, which waits at this prompt, with a full budget and no steps
 abbrev pub restored : Frames → Option Prompt → OpenTables

@@ -1,9 +1,7 @@
 -- What a machine's answers mean in the reading.
-use Rattle.std.specs.Prelude.{◌≡◌, ◌⊎◌, ℕ, ◌+◌, Bool, false, List, [], ◌∷◌, ◌++◌, length, reverse}
+use Rattle.std.specs.Prelude.{◌≡◌, ◌⊎◌, ℕ, Bool, false, List, [], ◌∷◌, ◌++◌, length, reverse}
 use Rattle.paw_effects.specs.Story.{Story}
 use Rattle.paw_game.specs.Valid.{Valid}
-use Rattle.paw_world.specs.World.{World}
-use Rattle.paw_phrase.specs.Pending.{PendingLine}
 use Rattle.paw_effects.specs.declared.act.Prompt.TheVariants as prompt
 use Rattle.paw_reading.specs.declared.places.Frame.{Frame}
 use Rattle.paw_reading.specs.Run.{Run, Step, closed, is_ignored, heard, reply, is_yes}
@@ -12,38 +10,37 @@ use Rattle.paw_reading.specs.GoingOn.{on_path}
 use Rattle.paw_reading.specs.inner.GoingOn.{along}
 use Rattle.paw_process.specs.OpenTables.{OpenTables}
 use Rattle.paw_process.specs.inner.OpenTables.{HasRead, IsWaiting, IsClosed}
+use Rattle.paw_process.specs.declared.situation.Situation.{Situation}
 use Rattle.paw_process.specs.declared.Turned.{Turned}
 use Rattle.paw_process.specs.declared.Turned.TheVariants as turned
 
 -- ---- what is held ----
 
--- what is held between two stops: the world, the pending line, the machine, and the text of the open piece
+-- what is held between two stops: the situation that reading changes, and the machine
 pub record Held : Type 0 where
-  pub world : World
-  pub pending : PendingLine
+  pub situation : Situation
   pub machine : OpenTables
-  pub piece : List ℕ
 
-abbrev pub having : World → PendingLine → OpenTables → List ℕ → Held
-having w p m piece = record { world = w; pending = p; machine = m; piece = piece }
+abbrev pub having : Situation → OpenTables → Held
+having s m = record { situation = s; machine = m }
 
 -- a run shows what is held, with the condacts that the open piece has read
 pub record ShowsHeld (r : Run) (h : Held) : Type 0 where
-  pub world : r.world ≡ h.world
-  pub pending : r.pending ≡ h.pending.bytes
-  pub earlier : r.earlier ≡ h.pending.earlier
+  pub world : r.world ≡ h.situation.world
+  pub pending : r.pending ≡ h.situation.pending.bytes
+  pub earlier : r.earlier ≡ h.situation.pending.earlier
   pub turning : r.turning ≡ h.machine.turning
-  pub current : r.current ≡ h.piece
+  pub current : r.current ≡ h.situation.piece
   pub read : HasRead r.read h.machine
 
 -- the run with what is held now
 abbrev pub run_held : Held → Run → Run
 run_held h r = record r {
-  world = h.world;
-  pending = h.pending.bytes;
-  earlier = h.pending.earlier;
+  world = h.situation.world;
+  pending = h.situation.pending.bytes;
+  earlier = h.situation.pending.earlier;
   turning = h.machine.turning;
-  current = h.piece;
+  current = h.situation.piece;
 }
 
 -- the run with these condacts read besides
@@ -87,7 +84,8 @@ abbrev pub RunsTo : Story → Held → Turned → Held → Type 0
 RunsTo g old t new =
     (r : Run) → ShowsHeld r old → (steps : List Step) × HasRead (r.read ++ steps) new.machine
     × ((lines : List (List ℕ)) →
-    ComesTo g t new.machine.frames (to_come lines (run_held new (with_steps steps r))) (going_in g old.machine.frames (to_come lines r)))
+    ComesTo g t new.machine.frames (to_come lines (run_held new (with_steps steps r)))
+    (going_in g old.machine.frames (to_come lines r)))
 
 -- after a stop the machine waits, or nothing is open
 abbrev pub IsStopped : Turned → OpenTables → Type 0

@@ -5,7 +5,6 @@ use Rattle.paw_effects.specs.Story.{Story}
 use Rattle.paw_world.specs.World.{World}
 use Rattle.paw_phrase.specs.declared.Found.{Found}
 use Rattle.paw_phrase.specs.declared.Found.TheVariants as found
-use Rattle.paw_phrase.specs.Pending.{PendingLine}
 use Rattle.paw_effects.specs.declared.act.Effect.{Effect}
 use Rattle.paw_reading.specs.declared.places.Frame.{Frame}
 use Rattle.paw_reading.specs.declared.places.OpenLoop.{OpenLoop}
@@ -32,17 +31,9 @@ StandsOrTurned (Some t) m = IsStopped t m
 abbrev pub turning_as : Option OpenLoop → Run → Run
 turning_as o r = record r { turning = o }
 
--- the run with this text in the open piece, and this open loop
-abbrev pub reading_with : List ℕ → Option OpenLoop → Run → Run
-reading_with piece o r = record r { current = piece; turning = o }
-
 -- the run with this world and this open loop
 abbrev pub looping : World → Option OpenLoop → Run → Run
 looping w o r = record r { world = w; turning = o }
-
--- the run with this world, this pending line and this open loop
-abbrev pub running : World → PendingLine → Option OpenLoop → Run → Run
-running w p o r = record r { world = w; pending = p.bytes; earlier = p.earlier; turning = o }
 
 -- what the reading comes to where the innermost table, above these frames, comes to this: its level's open loop goes on
 abbrev pub resolved : Story → List Frame → Out → Out
@@ -78,7 +69,8 @@ abbrev pub ReadsTable : Story → (Run → Out) → Held → Option Turned → H
 ReadsTable g x old t new =
     (r : Run) → HasRead r.read old.machine → (steps : List Step) × HasRead (r.read ++ steps) new.machine
     × ((lines : List (List ℕ)) →
-    Continues g (x (to_come lines (run_held old r))) t new.machine.frames (to_come lines (run_held new (with_steps steps r))))
+    Continues g (x (to_come lines (run_held old r))) t new.machine.frames
+    (to_come lines (run_held new (with_steps steps r))))
 
 -- reading one condact of this frame
 abbrev pub one_at : Story → List Frame → Frame → Condact → Run → Out

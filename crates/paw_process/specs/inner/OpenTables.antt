@@ -1,7 +1,7 @@
 -- The tables that are open: words that contracts between crates and proofs use beside those of specs/OpenTables.antt.
-use Rattle.std.specs.Prelude.{◌≡◌, ℕ, ◌+◌, ◌<◌, ◌≤◌, List, [], ◌∷◌, Option, Some, None, length, IfSome}
+use Rattle.std.specs.Prelude.{◌≡◌, ℕ, ◌+◌, ◌<◌, ◌≤◌, false, List, [], ◌∷◌, Option, Some, None, length, IfSome}
 use Rattle.paw_base.specs.declared.limits.TheConstants.{ENTRY_LIMIT, CONDACT_LIMIT, READ_LIMIT}
-use Rattle.paw_base.specs.inner.Steps.{kept_steps, with_step_noted}
+use Rattle.paw_base.specs.inner.Steps.{no_steps, kept_steps, with_step_noted}
 use Rattle.paw_effects.specs.declared.act.Prompt.{Prompt}
 use Rattle.paw_reading.specs.declared.places.Frame.{Frame}
 use Rattle.paw_reading.specs.declared.places.OpenLoop.{OpenLoop}
@@ -71,6 +71,18 @@ pub record IsWaiting (p : Prompt) (m : OpenTables) : Type 0 where
   pub tables : AreOpen m.frames m.turning
   pub condacts : AtCondacts m.frames
   pub waiting : m.waiting ≡ Some p
+
+-- no table is open, the budget is full, and there are no steps
+abbrev pub new_machine : OpenTables
+new_machine = record { frames = []; turning = None; waiting = None; left = READ_LIMIT; steps = no_steps }
+
+-- the budget is full again, and there are no steps
+abbrev pub refilled : OpenTables → OpenTables
+refilled m = record m { left = READ_LIMIT; steps = no_steps }
+
+-- this table alone is open, at its start
+abbrev pub table_begun : ℕ → OpenTables → OpenTables
+table_begun t m = record m { frames = record { table = t; entry = 0; at = 0; acted = false } ∷ [] }
 
 -- no table and no loop is open
 pub record IsClosed (m : OpenTables) : Type 0 where

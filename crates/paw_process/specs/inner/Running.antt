@@ -1,18 +1,19 @@
 -- The middle of a run.
-use Rattle.std.specs.Prelude.{ℕ, ◌+◌, ◌≤◌, List, None}
+use Rattle.std.specs.Prelude.{ℕ, List, None}
 use Rattle.std.specs.Fn.{Shared}
 use Rattle.paw_game.specs.Game.{GameLists}
 use Rattle.paw_routines.specs.declared.routines.Routines.{Routines}
 use Rattle.paw_routines.specs.Routines.{AreRowsOf}
-use Rattle.paw_effects.specs.Built.{IsOf}
 use Rattle.paw_effects.specs.Story.{story_of}
 use Rattle.paw_process.specs.inner.OpenTables.{IsReading}
 use Rattle.paw_process.specs.inner.Meaning.{Held, going_in}
 use Rattle.paw_process.specs.inner.Moves.{ReadsTable}
+use Rattle.paw_process.specs.inner.Steps.{IsAfterStep}
 
 -- the machine has read on from what was held at first to what is held now, and may read on
-pub record IsRunning {F : Type 0} (calls : Shared F (ℕ × (ℕ × Unit {0})) ℕ) (routines : Routines F) (g : GameLists) (first now : Held) : Type 0 where
-  pub reads : (X : List (List ℕ)) → AreRowsOf calls routines X → ReadsTable (story_of g X) (going_in (story_of g X) first.machine.frames) first None now
+pub record IsRunning {F : Type 0} (calls : Shared F (ℕ × (ℕ × Unit {0})) ℕ) (routines : Routines F) (g : GameLists)
+    (first now : Held) : Type 0 where
+  pub reads : (X : List (List ℕ)) → AreRowsOf calls routines X →
+      ReadsTable (story_of g X) (going_in (story_of g X) first.machine.frames) first None now
   pub reading : IsReading now.machine
-  pub game : IsOf g now.world
-  pub draws : now.world.draws + now.machine.left ≤ first.world.draws + first.machine.left
+  pub after : IsAfterStep g first now

@@ -4,7 +4,8 @@ use Rattle.paw_effects.specs.Story.{story_of}
 use Rattle.paw_effects.specs.Texts.{put_text}
 use Rattle.paw_reading.specs.Reading.{waits}
 use Rattle.paw_process.proofs.Stops.{ask_stops, ask_waits}
-use Rattle.paw_process.specs.inner.Moves.{reading_with, past_of}
+use Rattle.paw_process.specs.inner.Meaning.{having, run_held}
+use Rattle.paw_process.specs.inner.Moves.{past_of}
 use Rattle.paw_process.specs.inner.OpenTables.{below}
 use Rattle.paw_process.proofs.machine.Machine.ask.Goals as goal
 
@@ -13,9 +14,9 @@ returns-then-not-put-clause-meaning g c X f r top =
     let lists = g.T.Tables.game c.args.tables.now in
     let game = story_of lists X in
     let fs = below c.args.self.now.frames in
-    ask_stops game fs (put_text lists c.args.world.now 12) (waits game prompt.Quit f (past_of game fs f))
-    (reading_with c.args.piece.now c.args.self.now.turning r) c.stop.result c.stop.new.self.frames
-    (reading_with c.put.new.piece c.stop.new.self.turning r) c.stop.ensures.value c.if-not-put.ensures.puts
+    ask_stops game fs (put_text lists c.args.situation.now.world 12) (waits game prompt.Quit f (past_of game fs f))
+    (run_held (having c.args.situation.now c.args.self.now) r) c.stop.result c.stop.new.self.frames
+    (run_held (having (record c.args.situation.now { piece = c.put.new.piece }) c.stop.new.self) r) c.stop.ensures.value c.if-not-put.ensures.puts
     (record { pieces = refl; traces = refl; events = refl })
 
 pub returns-clause-meaning : goal.returns-clause-meaning
@@ -24,5 +25,5 @@ returns-clause-meaning g c X f r top =
     let game = story_of lists X in
     let puts = c.if-not-put.ensures.puts in
     rw c.set_waiting.ensures.value
-    (ask_waits game (below c.args.self.now.frames) c.args.self.now.frames f prompt.Quit (put_text lists c.args.world.now 12)
-    c.put.new.piece (reading_with c.args.piece.now c.args.self.now.turning r) top puts.1 puts.0)
+    (ask_waits game (below c.args.self.now.frames) c.args.self.now.frames f prompt.Quit (put_text lists c.args.situation.now.world 12)
+    c.put.new.piece (run_held (having c.args.situation.now c.args.self.now) r) top puts.1 puts.0)

@@ -8,7 +8,9 @@ use Rattle.paw_process.proofs.machine.Machine.frames.Goals as goal
 
 pub returns-clause-value : goal.returns-clause-value
 returns-clause-value c =
-    rw c.start_of-rows.ensures.value (kept_rows c.args.self.now c.self.inside.rows c.copy_from_slice.new.self c.self.inside.count c.self.inside.turning c.self.inside.waiting c.self.inside.left c.self.inside.steps c.self.view_is c.copy_from_slice.ensures.after (omega arith) (omega arith))
+    rw c.start_of-rows.ensures.value
+    (kept_rows c.args.self.now c.self.inside.rows c.copy_from_slice.new.self c.self.inside.count c.self.inside.turning c.self.inside.waiting
+    c.self.inside.left c.self.inside.steps c.self.view_is c.copy_from_slice.ensures.after (omega arith) (omega arith))
 
 pub returns-clause-again : goal.returns-clause-again
 returns-clause-again c = λ p stands. kept_again p _ c.args.self.now (returns-clause-value c) stands

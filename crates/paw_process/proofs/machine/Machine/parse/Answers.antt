@@ -5,5 +5,7 @@ use Rattle.paw_process.proofs.machine.Machine.parse.Goals as goal
 
 pub returns-clause-meaning : goal.returns-clause-meaning
 returns-clause-meaning g c X r =
+    let found = c.take_phrase-found in
     rw (c.set_top.ensures.value, c.after_found.ensures.value)
-    (parse_at (story_of (g.T.Tables.game c.args.tables.now) X) (below c.args.self.now.frames) c.args.f c.take_phrase-found.result c.args.world.now c.take_phrase-found.new.world c.args.pending.now c.take_phrase-found.new.pending c.args.self.now.turning r c.take_phrase-found.ensures.value)
+    (parse_at (story_of (g.T.Tables.game c.args.tables.now) X) (below c.args.self.now.frames) c.args.f found.result
+    c.args.situation.now c.args.self.now found.new.world found.new.pending r found.ensures.value)

@@ -8,11 +8,13 @@ use Rattle.paw_process.proofs.machine.Machine.restore.Goals as goal
 pub returns-clause-stands : goal.returns-clause-stands
 returns-clause-stands g c =
     rw (c.waiting_at.ensures.value, c.new.ensures)
-    (stands_at (g.T.Tables.game c.args.tables.now) c.args.prompt c.args.kept.now c.counts-counts.ensures.valid (omega arith) (sym c.frames_fault.ensures.value ∙ c.in_default.is))
+    (stands_at (g.T.Tables.game c.args.tables.now) c.args.prompt c.args.kept.now c.counts-counts.ensures.valid (omega arith)
+    (sym c.frames_fault.ensures.value ∙ c.in_default.is))
 
 pub returns-clause-again : goal.returns-clause-again
 returns-clause-again g c =
-    restored_kept (g.T.Tables.game c.args.tables.now) c.args.prompt (waiting_at c.args.prompt) c.args.kept.now (omega arith) (sym c.frames_fault.ensures.value ∙ c.in_default.is)
+    restored_kept (g.T.Tables.game c.args.tables.now) c.args.prompt (waiting_at c.args.prompt) c.args.kept.now (omega arith)
+    (sym c.frames_fault.ensures.value ∙ c.in_default.is)
 
 pub returns-clause-places : goal.returns-clause-places
 returns-clause-places g c =

@@ -6,21 +6,19 @@ use Rattle.paw_process.proofs.machine.Machine.run.Goals as goal
 
 pub returns-in-Some-clause-meaning : goal.returns-in-Some-clause-meaning
 returns-in-Some-clause-meaning g c X rows =
-    running_ends g.F.Fn c.args.routines.now (g.T.Tables.game c.args.tables.now) (having c.args.world.now c.args.pending.now c.args.self.now c.args.piece.now)
-    (having c.loop-turned.world c.loop-turned.pending c.loop-turned.self c.loop-turned.piece) c.in-Some.turned
-    (having c.step.new.world c.step.new.pending c.step.new.self c.step.new.piece) c.loop-turned.invariant X rows (c.in-Some.ensures.meaning X rows)
+    running_ends g.F.Fn c.args.routines.now (g.T.Tables.game c.args.tables.now) (having c.args.situation.now c.args.self.now)
+    (having c.loop-turned.situation c.loop-turned.self) c.in-Some.turned (having c.step.new.situation c.step.new.self)
+    c.loop-turned.invariant X rows (c.in-Some.ensures.meaning X rows)
 
 pub loop-turned-smaller : goal.loop-turned-smaller
 loop-turned-smaller g c = progresses c.loop-turned.self c.step.new.self c.in-None.ensures.stands (c.in-None.ensures.progress refl)
 
 pub loop-turned-preserved : goal.loop-turned-preserved
 loop-turned-preserved g c =
-    running_on g.F.Fn c.args.routines.now (g.T.Tables.game c.args.tables.now) (having c.args.world.now c.args.pending.now c.args.self.now c.args.piece.now)
-    (having c.loop-turned.world c.loop-turned.pending c.loop-turned.self c.loop-turned.piece)
-    (having c.step.new.world c.step.new.pending c.step.new.self c.step.new.piece) c.loop-turned.invariant
-    c.in-None.ensures.meaning c.in-None.ensures.stands c.in-None.ensures.game c.in-None.ensures.draws
+    running_on g.F.Fn c.args.routines.now (g.T.Tables.game c.args.tables.now) (having c.args.situation.now c.args.self.now)
+    (having c.loop-turned.situation c.loop-turned.self) (having c.step.new.situation c.step.new.self) c.loop-turned.invariant
+    c.in-None.ensures.meaning c.in-None.ensures.stands c.in-None.ensures.after
 
 pub loop-turned-init : goal.loop-turned-init
 loop-turned-init g c =
-    running_starts g.F.Fn c.args.routines.now (g.T.Tables.game c.args.tables.now) (having c.args.world.now c.args.pending.now c.args.self.now c.args.piece.now)
-    c.requires.reading c.requires.game
+    running_starts g.F.Fn c.args.routines.now (g.T.Tables.game c.args.tables.now) (having c.args.situation.now c.args.self.now) c.requires.ready

@@ -6,8 +6,7 @@ use Rattle.paw_process.proofs.machine.Machine.run.Given as goal
 
 abbrev pub invariant-loop-turned : goal.invariant-loop-turned
 invariant-loop-turned g l =
-    IsRunning g.F.Fn l.routines (g.T.Tables.game l.tables)
-    (having l.initial.world l.initial.pending l.initial.self l.initial.piece) (having l.world l.pending l.self l.piece)
+    IsRunning g.F.Fn l.routines (g.T.Tables.game l.tables) (having l.initial.situation l.initial.self) (having l.situation l.self)
 
 abbrev pub decreases-loop-turned : goal.decreases-loop-turned
 decreases-loop-turned g l = l.self.left * 134217728 + work l.self

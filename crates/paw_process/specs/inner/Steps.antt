@@ -1,0 +1,38 @@
+-- What a step of the machine needs, and what it keeps.
+use Rattle.std.specs.Prelude.{◌≡◌, ◌+◌, ◌-◌, ◌<◌, ◌≤◌, ◌^◌, true, ◌∷◌}
+use Rattle.paw_base.specs.declared.parts.Condact.{Condact}
+use Rattle.paw_game.specs.Game.{GameLists}
+use Rattle.paw_game.specs.inner.Valid.{is_right}
+use Rattle.paw_world.specs.World.{World}
+use Rattle.paw_effects.specs.Built.{IsOf}
+use Rattle.paw_reading.specs.declared.places.Frame.{Frame}
+use Rattle.paw_process.specs.OpenTables.{OpenTables}
+use Rattle.paw_process.specs.inner.OpenTables.{below, ReadsNone, IsAtCondact, IsReading}
+use Rattle.paw_process.specs.inner.Meaning.{Held}
+
+-- the machine may read on, in a world of the game
+pub record IsReady (g : GameLists) (m : OpenTables) (w : World) : Type 0 where
+  pub reading : IsReading m
+  pub game : IsOf g w
+
+-- the innermost frame is this one, and it stands at a condact
+pub record IsInnermost (f : Frame) (m : OpenTables) : Type 0 where
+  pub top : m.frames ≡ f ∷ below m.frames
+  pub place : IsAtCondact f
+
+-- this condact of the game may be read: the budget isn't used up, and the world can make one draw more
+pub record MayReadOne (g : GameLists) (c : Condact) (m : OpenTables) (w : World) : Type 0 where
+  pub left : 0 < m.left
+  pub condact : is_right g c ≡ true
+  pub draws : w.draws < 2 ^ 64 - 1
+
+-- no condact is read, the world is the game's still, and nothing is drawn
+pub record IsAfterMove (g : GameLists) (old : OpenTables) (w : World) (new : OpenTables) (w' : World) : Type 0 where
+  pub left : ReadsNone old new
+  pub game : IsOf g w'
+  pub draws : w'.draws ≡ w.draws
+
+-- the world is the game's still, and each draw is paid for by a condact
+pub record IsAfterStep (g : GameLists) (old new : Held) : Type 0 where
+  pub game : IsOf g new.situation.world
+  pub draws : new.situation.world.draws + new.machine.left ≤ old.situation.world.draws + old.machine.left
