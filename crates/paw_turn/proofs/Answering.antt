@@ -1,5 +1,6 @@
 -- A line at a prompt in tables.
-use Rattle.std.proofs.Common.{◌≡◌, ℕ, suc, ◌<◌, ◌≤◌, Bool, true, false, List, [], ◌∷◌, ◌++◌, Some, length, reverse, refl, sym, ap, ◌∙◌, subst, arith, length-append}
+use Rattle.std.proofs.Common.{◌≡◌, ℕ, suc, ◌<◌, ◌≤◌, Bool, true, false, List, [], ◌∷◌, ◌++◌, Some}
+use Rattle.std.proofs.Common.{length, reverse, refl, sym, ap, ◌∙◌, subst, arith, length-append}
 use Rattle.std.proofs.lemmas.List.{length-reverse}
 use Rattle.paw_effects.specs.Story.{Story}
 use Rattle.paw_game.specs.Valid.{Valid}
@@ -20,7 +21,8 @@ use Rattle.paw_turn.specs.declared.stage.Next.{Next}
 use Rattle.paw_turn.specs.declared.stage.Next.TheVariants as next
 use Rattle.paw_turn.specs.declared.turn.Turn.{Turn}
 use Rattle.paw_turn.specs.inner.Player.{IsLoopOf, StandsAt}
-use Rattle.paw_turn.specs.inner.Stages.{Past, run_now, having_read, HasReadSome, GoesOnAs, MovesAfter, PlaysAs, RunsAs, from_prompt, from_path, StopsInTable, AwaitsAt}
+use Rattle.paw_turn.specs.inner.Stages.{Past, run_now, having_read, HasReadSome, GoesOnAs, MovesAfter, PlaysAs}
+use Rattle.paw_turn.specs.inner.Stages.{RunsAs, from_prompt, from_path, StopsInTable, AwaitsAt, in_world}
 use Rattle.paw_turn.proofs.Falling.{some_past, has_still}
 use Rattle.paw_reading.proofs.Stays.{IsInner, WaitsThere, path_waits}
 use Rattle.paw_turn.proofs.Waiting.{stops_in}
@@ -42,32 +44,37 @@ some_ignores g p [] r line lines some ignored = absurd (omega arith)
 some_ignores g p (f ∷ path) r line lines some ignored = path_ignores g p 0 f path r line lines ignored
 
 -- a prompt in tables at which an ignored line comes
-in_table_ignored : (g : Story) (p : Prompt) (old : Turn) (line : List ℕ) → 0 < length old.machine.frames → is_ignored old.world line ≡ true
+in_table_ignored : (g : Story) (p : Prompt) (old : Turn) (line : List ℕ) → 0 < length old.machine.frames → is_ignored old.situation.world line ≡ true
     → (n : ℕ) (past : Past) (lines : List (List ℕ))
     → table_done g (turn g n) (first_table (reverse old.machine.frames)) (on_path g p 0 (reverse old.machine.frames) (run_now old past (line ∷ lines)))
     ≡ table_done g (turn g n) (first_table (reverse old.machine.frames)) (on_path g p 0 (reverse old.machine.frames) (closed (run_now old past lines)))
 in_table_ignored g p old line some ignored n past lines =
     let many : 0 < length (reverse old.machine.frames) = omega (arith, length-reverse old.machine.frames) in
-    ap (table_done g (turn g n) (first_table (reverse old.machine.frames))) (some_ignores g p (reverse old.machine.frames) (run_now old past []) line lines many ignored)
+    ap (table_done g (turn g n) (first_table (reverse old.machine.frames)))
+    (some_ignores g p (reverse old.machine.frames) (run_now old past []) line lines many ignored)
 
 -- an ignored line closes an empty piece, and the game waits on
-pub ignored_plays : (g : Story) (p : Prompt) (old : Turn) (line : List ℕ) → StandsAt p old.machine → is_ignored old.world line ≡ true
+pub ignored_plays : (g : Story) (p : Prompt) (old : Turn) (line : List ℕ) → StandsAt p old.machine → is_ignored old.situation.world line ≡ true
     → PlaysAs g (from_prompt g p old line) old (next.Stop (step.Waits p)) old
 ignored_plays g prompt.Main old line stands ignored past has = main_ignored g old line ignored past has
-ignored_plays g prompt.Quit old line stands ignored past has = (past.read, (has, λ n lines. (n, in_table_ignored g prompt.Quit old line stands.tables.tables.some ignored n past lines)))
-ignored_plays g prompt.Again old line stands ignored past has = (past.read, (has, λ n lines. (n, in_table_ignored g prompt.Again old line stands.tables.tables.some ignored n past lines)))
-ignored_plays g prompt.Key old line stands ignored past has = (past.read, (has, λ n lines. (n, in_table_ignored g prompt.Key old line stands.tables.tables.some ignored n past lines)))
+ignored_plays g prompt.Quit old line stands ignored past has =
+    (past.read, (has, λ n lines. (n, in_table_ignored g prompt.Quit old line stands.tables.tables.some ignored n past lines)))
+ignored_plays g prompt.Again old line stands ignored past has =
+    (past.read, (has, λ n lines. (n, in_table_ignored g prompt.Again old line stands.tables.tables.some ignored n past lines)))
+ignored_plays g prompt.Key old line stands ignored past has =
+    (past.read, (has, λ n lines. (n, in_table_ignored g prompt.Key old line stands.tables.tables.some ignored n past lines)))
 ignored_plays g prompt.Over old line stands ignored past has = absurd stands
 
 -- ---- the answer to QUIT, and a key ----
 
 answered_path : (g : Story) (p : Prompt) (old : Turn) (line : List ℕ) (w : World) (m : OpenTables) (agrees : Bool)
-    → AwaitsAt p old.machine → Valid g.game → is_ignored old.world line ≡ false → is_yes (reply line) ≡ agrees → w ≡ with_timeout (is_timeout line) old.world
+    → AwaitsAt p old.machine → Valid g.game → is_ignored old.situation.world line ≡ false → is_yes (reply line) ≡ agrees
+    → w ≡ with_timeout (is_timeout line) old.situation.world
     → (old.machine.waiting ≡ Some prompt.Quit → AnswersQuit agrees old.machine.frames m.frames)
     → (old.machine.waiting ≡ Some prompt.Key → AnswersKey old.machine.frames m.frames)
     → m.turning ≡ old.machine.turning
     → (past : Past) (lines : List (List ℕ))
-    → from_path g p old line past lines ≡ going_in g m.frames (run_now (record { world = w; pending = old.pending; machine = m; piece = old.piece }) past lines)
+    → from_path g p old line past lines ≡ going_in g m.frames (run_now (record (in_world w old) { machine = m }) past lines)
 answered_path g prompt.Main old line w m agrees awaits valid hears same world quit key turning past lines = absurd awaits
 answered_path g prompt.Quit old line w m agrees awaits valid hears same world quit key turning past lines =
     quit awaits.tables.waiting g line lines (run_now old past []) valid hears same ∙ ap (going_in g m.frames) (cc (world, turning))
@@ -78,15 +85,17 @@ answered_path g prompt.Over old line w m agrees awaits valid hears same world qu
 
 -- the machine reads on where it was answered
 pub answered_runs : (g : Story) (p : Prompt) (old mid : Turn) (line : List ℕ) (w : World) (m : OpenTables) (agrees : Bool) (turned : Turned)
-    → AwaitsAt p old.machine → Valid g.game → is_ignored old.world line ≡ false → is_yes (reply line) ≡ agrees → w ≡ with_timeout (is_timeout line) old.world
+    → AwaitsAt p old.machine → Valid g.game → is_ignored old.situation.world line ≡ false → is_yes (reply line) ≡ agrees
+    → w ≡ with_timeout (is_timeout line) old.situation.world
     → (old.machine.waiting ≡ Some prompt.Quit → AnswersQuit agrees old.machine.frames m.frames)
     → (old.machine.waiting ≡ Some prompt.Key → AnswersKey old.machine.frames m.frames)
     → m.turning ≡ old.machine.turning → ReadsNone old.machine m
-    → RunsTo g (having w old.pending m old.piece) turned (having mid.world mid.pending mid.machine mid.piece)
+    → RunsTo g (having (record old.situation { world = w }) m) turned (having mid.situation mid.machine)
     → RunsAs g (from_path g p old line) old turned mid
 answered_runs g p old mid line w m agrees turned awaits valid hears same world quit key turning none runs past has =
-    let h : Turn = record { world = w; pending = old.pending; machine = m; piece = old.piece } in
-    let t = runs (run_now h past []) (record { world = refl; pending = refl; earlier = refl; turning = refl; current = refl; read = has_still past.read old.machine m has none }) in (
+    let h : Turn = record (in_world w old) { machine = m } in
+    let t = runs (run_now h past [])
+    (record { world = refl; pending = refl; earlier = refl; turning = refl; current = refl; read = has_still past.read old.machine m has none }) in (
       t.0,
       (
         t.1,

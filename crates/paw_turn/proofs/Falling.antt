@@ -1,12 +1,12 @@
 -- What is left to do falls from stage to stage.
-use Rattle.std.proofs.Common.{◌≡◌, ℕ, zero, suc, ◌+◌, ◌-◌, ◌*◌, ◌<◌, ◌≤◌, false, List, [], ◌++◌, sym, ap, ◌∙◌, subst, arith, lit≤, length-append}
+use Rattle.std.proofs.Common.{◌≡◌, ℕ, zero, suc, ◌+◌, ◌*◌, ◌<◌, ◌≤◌, List, [], ◌++◌, sym, ap, ◌∙◌, subst, arith, lit≤, length-append}
 use Rattle.paw_effects.specs.Story.{Story}
 use Rattle.paw_reading.specs.declared.places.Frame.{Frame}
 use Rattle.paw_reading.specs.Run.{Run, Step as Read}
 use Rattle.paw_reading.specs.Reading.{Out, table_read}
 use Rattle.paw_reading.specs.Turn.{Ending, left_to_read}
 use Rattle.paw_process.specs.OpenTables.{OpenTables}
-use Rattle.paw_process.specs.inner.OpenTables.{HasRead, ReadsNone}
+use Rattle.paw_process.specs.inner.OpenTables.{HasRead, ReadsNone, new_machine}
 use Rattle.paw_process.specs.inner.Meaning.{ComesTo}
 use Rattle.paw_process.specs.declared.Turned.{Turned}
 use Rattle.paw_process.specs.declared.Turned.TheVariants as turned
@@ -14,7 +14,8 @@ use Rattle.paw_turn.specs.declared.stage.Stage.TheVariants as stage
 use Rattle.paw_turn.specs.declared.stage.Next.{Next}
 use Rattle.paw_turn.specs.declared.stage.Next.TheVariants as next
 use Rattle.paw_turn.specs.declared.turn.Turn.{Turn}
-use Rattle.paw_turn.specs.inner.Stages.{Past, run_now, HasReadSome, ReadsTurn, PlaysAs, having_read, left_of, table_rank, work, Falls, FallsAfter, RunsAs, from_table, Leaves, Uses}
+use Rattle.paw_turn.specs.inner.Stages.{Past, run_now, HasReadSome, ReadsTurn, PlaysAs, having_read, left_of, table_rank}
+use Rattle.paw_turn.specs.inner.Stages.{work, Falls, FallsAfter, RunsAs, from_table, Leaves, Uses}
 use Rattle.paw_reading.proofs.Spends.{Spends, table_spends}
 
 pub falls_up : (a b : ℕ) (n : Next) (new : Turn) → a ≤ b → Falls a n new → Falls b n new
@@ -25,6 +26,10 @@ falls_up a b (next.Stop step) new h falls = tt
 pub some_past : (h : Turn) → HasReadSome h.machine → (past : Past) × HasRead past.read h.machine
 some_past h some = (record { read = some.0; pieces = []; traces = [] }, some.1)
 
+-- a new machine has read nothing
+pub none_yet : (m : OpenTables) → m ≡ new_machine → HasRead [] m
+none_yet m e = record { left = omega (arith, ap (λ (n : OpenTables). n.left) e); steps = ap (λ (n : OpenTables). n.steps) e }
+
 -- where nothing is read what was read stays
 pub has_still : (read : List Read) (old new : OpenTables) → HasRead read old → ReadsNone old new → HasRead read new
 has_still read old new has none = record { left = omega (arith, has.left, none.left); steps = none.steps ∙ has.steps }
@@ -33,10 +38,12 @@ pub equal_none : (old new : OpenTables) → new ≡ old → ReadsNone old new
 equal_none old new e = record { left = ap (λ (m : OpenTables). m.left) e; steps = ap (λ (m : OpenTables). m.steps) e }
 
 -- what was played was read
-pub plays_read : (g : Story) (whole : ℕ → Past → List (List ℕ) → Ending) (old : Turn) (n : Next) (new : Turn) → PlaysAs g whole old n new → HasReadSome old.machine → HasReadSome new.machine
+pub plays_read : (g : Story) (whole : ℕ → Past → List (List ℕ) → Ending) (old : Turn) (n : Next) (new : Turn) → PlaysAs g whole old n new
+    → HasReadSome old.machine → HasReadSome new.machine
 plays_read g whole old n new plays some = let k = plays (record { read = some.0; pieces = []; traces = [] }) some.1 in (k.0, k.1.0)
 
-pub reads_read : (g : Story) (x : ℕ → Run → Ending) (old : Turn) (n : Next) (new : Turn) → ReadsTurn g x old n new → HasReadSome old.machine → HasReadSome new.machine
+pub reads_read : (g : Story) (x : ℕ → Run → Ending) (old : Turn) (n : Next) (new : Turn) → ReadsTurn g x old n new → HasReadSome old.machine
+    → HasReadSome new.machine
 reads_read g x old n new reads some = let k = reads (record { read = some.0; pieces = []; traces = [] }) some.1 in (k.0, k.1.0)
 
 -- the run of a machine shows what may still be read
@@ -62,7 +69,8 @@ uses g t old mid turned budget runs =
     record {
       left = omega (arith, has.left, some.1.left, length-append some.0.read run.0);
       leaves = leaves_by g turned mid.machine.frames (run_now old some.0 []) (run_now mid (having_read read some.0) []) (table_read g t (run_now old some.0 []))
-          (left_of old) (left_of mid) (run.1.1 []) (left_shown old some.0 some.1) (left_shown mid (having_read read some.0) has) (table_spends g t (run_now old some.0 []));
+          (left_of old) (left_of mid) (run.1.1 []) (left_shown old some.0 some.1) (left_shown mid (having_read read some.0) has)
+          (table_spends g t (run_now old some.0 []));
     }
 
 table_rank_low : (t : ℕ) → 2 ≤ table_rank t
@@ -71,7 +79,8 @@ table_rank_low (suc zero) = lit≤ tt
 table_rank_low (suc (suc t)) = lit≤ tt
 
 -- with the stage after a table there is less to do
-pub table_falls : (t : ℕ) (turned : Turned) (old mid new : Turn) (n : Next) → Uses turned old mid → FallsAfter t turned mid n new → Falls (4 * left_of old + table_rank t) n new
+pub table_falls : (t : ℕ) (turned : Turned) (old mid new : Turn) (n : Next) → Uses turned old mid → FallsAfter t turned mid n new
+    → Falls (4 * left_of old + table_rank t) n new
 table_falls t (turned.Left acted) old mid new n used falls = falls_up _ _ n new (omega (arith, used.leaves)) falls
 table_falls t turned.Redescribe old mid new n used falls =
     subst (λ (m : Next). Falls (4 * left_of old + table_rank t) m new) (sym falls.0)

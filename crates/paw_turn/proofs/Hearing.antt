@@ -1,5 +1,5 @@
 -- A line at the main prompt.
-use Rattle.std.proofs.Common.{◌≡◌, ℕ, true, false, List, [], refl, sym, ap, subst, arith}
+use Rattle.std.proofs.Common.{◌≡◌, ℕ, true, false, List, [], refl, sym, ap, subst}
 use Rattle.paw_effects.specs.Story.{Story}
 use Rattle.paw_world.specs.World.{World}
 use Rattle.paw_effects.specs.declared.act.Prompt.TheVariants as prompt
@@ -13,7 +13,7 @@ use Rattle.paw_turn.specs.declared.stage.Next.TheVariants as next
 use Rattle.paw_turn.specs.declared.turn.Turn.{Turn}
 use Rattle.paw_process.specs.inner.OpenTables.{ReadsNone}
 use Rattle.paw_turn.proofs.Falling.{has_still, equal_none}
-use Rattle.paw_turn.specs.inner.Stages.{Past, run_now, at_stage, GoesOnAs, Moves, PlaysAs, from_prompt}
+use Rattle.paw_turn.specs.inner.Stages.{Past, run_now, at_stage, GoesOnAs, Moves, PlaysAs, from_prompt, in_world, with_line}
 
 -- where the whole is what moves on, and no condact is read
 pub moves_play : (g : Story) (whole : ℕ → Past → List (List ℕ) → Ending) (x : ℕ → Run → Ending) (old mid new : Turn) (nx : Next)
@@ -29,23 +29,27 @@ moves_play g whole x old mid new nx same moves none past has = (
 )
 
 -- a timeout says message 35, and the frame comes
-pub timeout_heard : (g : Story) (old new : Turn) (line : List ℕ) (w : World) (nx : Next) → is_ignored old.world line ≡ false → is_timeout line ≡ true
-    → w ≡ with_timeout true old.world
-    → Moves g (λ n r. saying (say_text g.game w 35) (turn g n (at_stage stage.Frame)) r) (record { world = w; pending = old.pending; machine = old.machine; piece = old.piece }) nx new
+pub timeout_heard : (g : Story) (old new : Turn) (line : List ℕ) (w : World) (nx : Next) → is_ignored old.situation.world line ≡ false → is_timeout line ≡ true
+    → w ≡ with_timeout true old.situation.world
+    → Moves g (λ n r. saying (say_text g.game w 35) (turn g n (at_stage stage.Frame)) r) (in_world w old) nx new
     → new.machine ≡ old.machine → PlaysAs g (from_prompt g prompt.Main old line) old nx new
 unfolding at_main
 timeout_heard g old new line w nx heard timeout world moves machine =
     moves_play g (from_prompt g prompt.Main old line) (λ n r. saying (say_text g.game w 35) (turn g n AtFrame) r) old
-    (record { world = w; pending = old.pending; machine = old.machine; piece = old.piece }) new nx
+    (in_world w old) new nx
     (λ m past lines. is m past lines) moves (equal_none old.machine new.machine machine)
   where
     is : (m : ℕ) (past : Past) (lines : List (List ℕ)) → from_prompt g prompt.Main old line m past lines
-        ≡ saying (say_text g.game w 35) (turn g m AtFrame) (run_now (record { world = w; pending = old.pending; machine = old.machine; piece = old.piece }) past lines)
+        ≡ saying (say_text g.game w 35) (turn g m AtFrame) (run_now (in_world w old) past lines)
     is m past lines = rw (heard, timeout, world) refl
 
+-- a line that is pending now
+abbrev taking_line : List ℕ → Turn → Turn
+taking_line line h = with_line (with_timeout false h.situation.world) (record { bytes = line; earlier = 255 }) h
+
 -- any other line is pending now
-pub line_heard : (g : Story) (old new : Turn) (line : List ℕ) → is_ignored old.world line ≡ false → is_timeout line ≡ false
-    → new ≡ record { world = with_timeout false old.world; pending = record { bytes = line; earlier = 255 }; machine = old.machine; piece = old.piece }
+pub line_heard : (g : Story) (old new : Turn) (line : List ℕ) → is_ignored old.situation.world line ≡ false → is_timeout line ≡ false
+    → new ≡ taking_line line old
     → PlaysAs g (from_prompt g prompt.Main old line) old (next.Go stage.Phrase) new
 unfolding at_main
 line_heard g old new line heard timeout is =
@@ -55,11 +59,11 @@ line_heard g old new line heard timeout is =
     (λ past n lines. refl) (equal_none old.machine new.machine (ap (λ (h : Turn). h.machine) is))
   where
     at : (m : ℕ) (past : Past) (lines : List (List ℕ)) → from_prompt g prompt.Main old line m past lines
-        ≡ turn g m AtPhrase (run_now (record { world = with_timeout false old.world; pending = record { bytes = line; earlier = 255 }; machine = old.machine; piece = old.piece }) past lines)
+        ≡ turn g m AtPhrase (run_now (taking_line line old) past lines)
     at m past lines = rw (heard, timeout) refl
 
 -- an ignored line closes an empty piece, and the game waits on
-pub main_ignored : (g : Story) (old : Turn) (line : List ℕ) → is_ignored old.world line ≡ true
+pub main_ignored : (g : Story) (old : Turn) (line : List ℕ) → is_ignored old.situation.world line ≡ true
     → PlaysAs g (from_prompt g prompt.Main old line) old (next.Stop (step.Waits prompt.Main)) old
 unfolding at_main
 main_ignored g old line ignored past has = (past.read, (has, λ n lines. (n, is n lines)))

@@ -5,21 +5,17 @@ use Rattle.paw_effects.specs.Story.{Story}
 use Rattle.paw_world.specs.World.{World, flag}
 use Rattle.paw_phrase.specs.declared.Found.TheVariants as found
 use Rattle.paw_phrase.specs.Pending.{PendingLine}
-use Rattle.paw_phrase.specs.Sentence.{Parsed, IsUnknown, IsNoPhrase, parsed}
+use Rattle.paw_phrase.specs.Sentence.{Parsed, IsUnknown, IsNoPhrase}
 use Rattle.paw_phrase.proofs.Phrases.{Leaves, parsed-shorter}
 use Rattle.paw_effects.specs.Texts.{say_text}
 use Rattle.paw_reading.specs.Run.{Run}
 use Rattle.paw_reading.specs.Turn.{Ending, AtFrame, AtPhrase, AtResponse, saying, counted, prompts, after_phrase, turn}
-use Rattle.paw_process.specs.inner.Phrases.{Speaks}
+use Rattle.paw_process.specs.inner.Phrases.{next_phrase, Speaks}
 use Rattle.paw_turn.specs.declared.stage.Next.{Next}
 use Rattle.paw_turn.specs.declared.stage.Next.TheVariants as next
 use Rattle.paw_turn.specs.declared.stage.Stage.TheVariants as stage
 use Rattle.paw_turn.specs.declared.turn.Turn.{Turn}
-use Rattle.paw_turn.specs.inner.Stages.{run_now, GoesOnAs, Moves, at_stage}
-
--- what the next phrase of a pending line is
-abbrev pub next_of : GameLists → World → PendingLine → Parsed
-next_of g w p = parsed g p.bytes p.earlier (flag w 46) (flag w 47)
+use Rattle.paw_turn.specs.inner.Stages.{run_now, GoesOnAs, Moves, at_stage, with_line}
 
 -- the stage with what the next phrase is
 abbrev pub phrased : Story → ℕ → Run → Parsed → Ending
@@ -27,8 +23,8 @@ phrased g n r = after_phrase g (turn g n AtFrame) (turn g n AtPhrase) (turn g n 
 
 -- a sentence counts a turn and is responded to
 pub sentence_moves : (g : Story) (old new : Turn) (w : World)
-    → Speaks (next_of g.game old.world old.pending) found.Sentence old.world w old.pending new.pending
-    → new.world ≡ counted w → new.machine ≡ old.machine → new.piece ≡ old.piece
+    → Speaks g.game found.Sentence old.situation.world w old.situation.pending new.situation.pending
+    → new.situation.world ≡ counted w → new.machine ≡ old.machine → new.situation.piece ≡ old.situation.piece
     → Moves g (λ n r. turn g (suc n) AtPhrase r) old (next.Go stage.Response) new
 unfolding turn
 sentence_moves g old new w speaks world machine piece past n lines =
@@ -36,35 +32,38 @@ sentence_moves g old new w speaks world machine piece past n lines =
 
 -- at an unknown phrase message 6 is said, and the rest of the line is dropped
 pub unknown_moves : (g : Story) (old new : Turn) (nx : Next) (rest : List ℕ) (w : World) (p : PendingLine)
-    → next_of g.game old.world old.pending ≡ IsUnknown rest → w ≡ old.world → p ≡ record { bytes = []; earlier = old.pending.earlier }
-    → Moves g (λ n r. saying (say_text g.game w 6) (turn g n (at_stage stage.Frame)) r) (record { world = w; pending = p; machine = old.machine; piece = old.piece }) nx new
+    → next_phrase g.game old.situation.world old.situation.pending ≡ IsUnknown rest → w ≡ old.situation.world
+    → p ≡ record { bytes = []; earlier = old.situation.pending.earlier }
+    → Moves g (λ n r. saying (say_text g.game w 6) (turn g n (at_stage stage.Frame)) r) (with_line w p old) nx new
     → Moves g (λ n r. turn g (suc n) AtPhrase r) old nx new
 unfolding turn
 unknown_moves g old new nx rest w p is world pending moves past n lines =
     let M : World → PendingLine → Type 0 = λ w' p'. Moves g (λ n' r. saying (say_text g.game w' 6) (turn g n' (at_stage stage.Frame)) r)
-    (record { world = w'; pending = p'; machine = old.machine; piece = old.piece }) nx new in
-    let from = subst (λ w'. M w' (record { bytes = []; earlier = old.pending.earlier })) world (subst (M w) pending moves) in
+    (with_line w' p' old) nx new in
+    let from = subst (λ w'. M w' (record { bytes = []; earlier = old.situation.pending.earlier })) world (subst (M w) pending moves) in
     subst (GoesOnAs g n nx new.machine.frames (run_now new past lines))
     (sym (ap (phrased g n (run_now old past lines)) is))
     (from past n lines)
 
 -- with no phrase left comes the prompt
 pub none_moves : (g : Story) (old new : Turn) (nx : Next) (w : World) (p : PendingLine)
-    → next_of g.game old.world old.pending ≡ IsNoPhrase → w ≡ old.world → p ≡ old.pending
-    → Moves g (λ n r. prompts g (turn g n AtFrame) (turn g n AtPhrase) r) (record { world = w; pending = p; machine = old.machine; piece = old.piece }) nx new
+    → next_phrase g.game old.situation.world old.situation.pending ≡ IsNoPhrase → w ≡ old.situation.world → p ≡ old.situation.pending
+    → Moves g (λ n r. prompts g (turn g n AtFrame) (turn g n AtPhrase) r) (with_line w p old) nx new
     → Moves g (λ n r. turn g (suc n) AtPhrase r) old nx new
 unfolding turn
 none_moves g old new nx w p is world pending moves past n lines =
     let M : World → PendingLine → Type 0 = λ w' p'. Moves g (λ n' r. prompts g (turn g n' AtFrame) (turn g n' AtPhrase) r)
-    (record { world = w'; pending = p'; machine = old.machine; piece = old.piece }) nx new in
-    let from = subst (λ w'. M w' old.pending) world (subst (M w) pending moves) in
+    (with_line w' p' old) nx new in
+    let from = subst (λ w'. M w' old.situation.pending) world (subst (M w) pending moves) in
     subst (GoesOnAs g n nx new.machine.frames (run_now new past lines))
     (sym (ap (phrased g n (run_now old past lines)) is))
     (from past n lines)
 
 -- a phrase that is taken makes what is pending shorter
-pub sentence_shorter : (g : GameLists) (w : World) (p q : PendingLine) (w' : World) → Speaks (next_of g w p) found.Sentence w w' p q → length q.bytes < length p.bytes
-sentence_shorter g w p q w' speaks = subst (Leaves (λ (rest : List ℕ). length rest < length p.bytes)) speaks.1 (parsed-shorter g p.bytes p.earlier (flag w 46) (flag w 47))
+pub sentence_shorter : (g : GameLists) (w : World) (p q : PendingLine) (w' : World) → Speaks g found.Sentence w w' p q → length q.bytes < length p.bytes
+sentence_shorter g w p q w' speaks =
+    subst (Leaves (λ (rest : List ℕ). length rest < length p.bytes)) speaks.1 (parsed-shorter g p.bytes p.earlier (flag w 46) (flag w 47))
 
-pub unknown_shorter : (g : GameLists) (w : World) (p q : PendingLine) (w' : World) → Speaks (next_of g w p) found.Nothing w w' p q → length q.bytes < length p.bytes
-unknown_shorter g w p q w' speaks = subst (Leaves (λ (rest : List ℕ). length rest < length p.bytes)) speaks.0 (parsed-shorter g p.bytes p.earlier (flag w 46) (flag w 47))
+pub unknown_shorter : (g : GameLists) (w : World) (p q : PendingLine) (w' : World) → Speaks g found.Nothing w w' p q → length q.bytes < length p.bytes
+unknown_shorter g w p q w' speaks =
+    subst (Leaves (λ (rest : List ℕ). length rest < length p.bytes)) speaks.0 (parsed-shorter g p.bytes p.earlier (flag w 46) (flag w 47))

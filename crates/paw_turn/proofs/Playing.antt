@@ -1,5 +1,5 @@
 -- One stage after the other.
-use Rattle.std.proofs.Common.{ℕ, suc, List, [], refl, sym, subst}
+use Rattle.std.proofs.Common.{ℕ, suc, List, refl, sym, subst}
 use Rattle.paw_effects.specs.Story.{Story}
 use Rattle.paw_reading.specs.Turn.{Ending, turn}
 use Rattle.paw_turn.specs.declared.stage.Stage.{Stage}

@@ -1,5 +1,5 @@
 -- The prompt.
-use Rattle.std.proofs.Common.{◌+◌, ◌<◌, [], length, refl}
+use Rattle.std.proofs.Common.{◌+◌, ◌<◌, length, refl}
 use Rattle.paw_base.specs.declared.fault.SpentKind.TheVariants as spent
 use Rattle.paw_effects.specs.Story.{Story}
 use Rattle.paw_reading.specs.Run.{line_dropped, closed}
@@ -11,7 +11,12 @@ use Rattle.paw_turn.specs.inner.Stages.{run_now, Moves}
 use Rattle.paw_turn.proofs.Says.{unsaid}
 
 -- a prompt that doesn't fit
-pub prompt_unsaid : (g : Story) (old new : Turn) → 65535 < length old.piece + length (prompt_text g.game old.world)
+pub prompt_unsaid : (g : Story) (old new : Turn) → 65535 < length old.situation.piece + length (prompt_text g.game old.situation.world)
     → Moves g (λ n r. prompts g (turn g n AtFrame) (turn g n AtPhrase) r) old (next.Stop (step.Spent spent.Text)) new
-prompt_unsaid g old new h past n lines =
-    (line_dropped (run_now old past lines), unsaid (prompt_text g.game old.world) (λ x. at_main g (turn g n AtFrame) (turn g n AtPhrase) (closed x) x.events) (line_dropped (run_now old past lines)) h, record { pieces = refl; traces = refl; events = refl })
+prompt_unsaid g old new h past n lines = (
+  line_dropped (run_now old past lines),
+  unsaid (prompt_text g.game old.situation.world)
+      (λ x. at_main g (turn g n AtFrame) (turn g n AtPhrase) (closed x) x.events) (line_dropped (run_now old past lines))
+      h,
+  record { pieces = refl; traces = refl; events = refl },
+)

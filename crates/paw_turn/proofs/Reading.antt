@@ -1,11 +1,11 @@
 -- A table that is read.
-use Rattle.std.proofs.Common.{◌≡◌, ℕ, suc, ◌+◌, false, [], ◌∷◌, ◌++◌, length, refl, sym, subst, arith, length-append}
+use Rattle.std.proofs.Common.{◌≡◌, ℕ, suc, [], ◌++◌, refl, sym, subst}
 use Rattle.paw_effects.specs.Story.{Story}
 use Rattle.paw_reading.specs.Run.{Run}
 use Rattle.paw_reading.specs.Reading.{table_read}
 use Rattle.paw_reading.specs.Turn.{AtFrame, AtResponse, Ending, table_done, turn}
 use Rattle.paw_process.specs.OpenTables.{OpenTables}
-use Rattle.paw_process.specs.inner.OpenTables.{HasRead, ReadsNone}
+use Rattle.paw_process.specs.inner.OpenTables.{HasRead, ReadsNone, table_begun}
 use Rattle.paw_process.specs.inner.Meaning.{having, RunsTo}
 use Rattle.paw_process.specs.declared.Turned.{Turned}
 use Rattle.paw_turn.specs.declared.stage.Next.{Next}
@@ -13,17 +13,14 @@ use Rattle.paw_turn.specs.declared.turn.Turn.{Turn}
 use Rattle.paw_turn.proofs.Falling.{has_still}
 use Rattle.paw_turn.specs.inner.Stages.{run_now, having_read, Moves, ReadsTurn, MovesAfter, RunsAs, from_table}
 
--- a machine that has opened a table
-abbrev pub begun : ℕ → OpenTables → OpenTables
-begun t m = record m { frames = record { table = t; entry = 0; at = 0; acted = false } ∷ [] }
-
 -- the machine has read the table that it opened
-pub begun_runs : (g : Story) (t : ℕ) (old mid : Turn) (m : OpenTables) (turned : Turned) → m ≡ begun t old.machine
-    → RunsTo g (having old.world old.pending m old.piece) turned (having mid.world mid.pending mid.machine mid.piece)
+pub begun_runs : (g : Story) (t : ℕ) (old mid : Turn) (m : OpenTables) (turned : Turned) → m ≡ table_begun t old.machine
+    → RunsTo g (having old.situation m) turned (having mid.situation mid.machine)
     → RunsAs g (from_table g t old) old turned mid
 begun_runs g t old mid m turned is runs past has =
-    let from = subst (λ (n : OpenTables). RunsTo g (having old.world old.pending n old.piece) turned (having mid.world mid.pending mid.machine mid.piece)) is runs in
-    let t = from (run_now old past []) (record { world = refl; pending = refl; earlier = refl; turning = refl; current = refl; read = record { left = has.left; steps = has.steps } }) in
+    let from = subst (λ (n : OpenTables). RunsTo g (having old.situation n) turned (having mid.situation mid.machine)) is runs in
+    let t = from (run_now old past [])
+    (record { world = refl; pending = refl; earlier = refl; turning = refl; current = refl; read = record { left = has.left; steps = has.steps } }) in
     (t.0, (t.1, λ lines. t.2 lines))
 
 -- what the machine has read, and how the turn goes on
@@ -46,10 +43,12 @@ moves_read g x old new nx moves same past has =
     (past.read, (subst (HasRead past.read) (sym same) has, λ n lines. moves past n lines))
 
 -- the frame reads table 2, and the response table 0
-pub frame_reads : (g : Story) (old new : Turn) (nx : Next) → ReadsTurn g (λ n r. table_done g (turn g n) 2 (table_read g 2 r)) old nx new → ReadsTurn g (λ n r. turn g (suc n) AtFrame r) old nx new
+pub frame_reads : (g : Story) (old new : Turn) (nx : Next) → ReadsTurn g (λ n r. table_done g (turn g n) 2 (table_read g 2 r)) old nx new
+    → ReadsTurn g (λ n r. turn g (suc n) AtFrame r) old nx new
 unfolding turn
 frame_reads g old new nx reads = reads
 
-pub response_reads : (g : Story) (old new : Turn) (nx : Next) → ReadsTurn g (λ n r. table_done g (turn g n) 0 (table_read g 0 r)) old nx new → ReadsTurn g (λ n r. turn g (suc n) AtResponse r) old nx new
+pub response_reads : (g : Story) (old new : Turn) (nx : Next) → ReadsTurn g (λ n r. table_done g (turn g n) 0 (table_read g 0 r)) old nx new
+    → ReadsTurn g (λ n r. turn g (suc n) AtResponse r) old nx new
 unfolding turn
 response_reads g old new nx reads = reads

@@ -24,7 +24,7 @@ use Rattle.paw_turn.specs.declared.stage.Next.TheVariants as next
 use Rattle.paw_turn.specs.declared.turn.Turn.{Turn}
 use Rattle.paw_process.specs.inner.OpenTables.{ReadsNone}
 use Rattle.paw_turn.proofs.Falling.{has_still}
-use Rattle.paw_turn.specs.inner.Stages.{Past, run_now, PlaysAs, from_prompt, ChangesFlags}
+use Rattle.paw_turn.specs.inner.Stages.{Past, run_from, run_now, PlaysAs, from_prompt, ChangesFlags}
 
 -- at no the game is over or the piece is spent, and else it starts anew
 abbrev final : Bool → Bool → Run → Run → Run → Out
@@ -61,14 +61,17 @@ some_again g [] r line lines some hears = absurd (omega arith)
 some_again g (f ∷ path) r line lines some hears = path_again g 0 f path r line lines hears
 
 -- the whole is the answer
-again_is : (g : Story) (old : Turn) (line : List ℕ) → 0 < length old.machine.frames → is_ignored old.world line ≡ false → (n : ℕ) (past : Past) (lines : List (List ℕ))
+again_is : (g : Story) (old : Turn) (line : List ℕ) → 0 < length old.machine.frames → is_ignored old.situation.world line ≡ false
+    → (n : ℕ) (past : Past) (lines : List (List ℕ))
     → from_prompt g prompt.Again old line n past lines
     ≡ table_done g (turn g n) (first_table (reverse old.machine.frames)) (answer_of g line (heard line (run_now old past lines)))
 again_is g old line some hears n past lines =
     let many : 0 < length (reverse old.machine.frames) = omega (arith, length-reverse old.machine.frames) in
-    ap (table_done g (turn g n) (first_table (reverse old.machine.frames))) (some_again g (reverse old.machine.frames) (run_now old past []) line lines many hears)
+    ap (table_done g (turn g n) (first_table (reverse old.machine.frames)))
+    (some_again g (reverse old.machine.frames) (run_now old past []) line lines many hears)
 
-final_restarts : (g : Story) (go : Stage → Run → Ending) (t : ℕ) (declines fit : Bool) (e s d : Run) → declines ≡ false → table_done g go t (final declines fit e s d) ≡ go AtDescribe d
+final_restarts : (g : Story) (go : Stage → Run → Ending) (t : ℕ) (declines fit : Bool) (e s d : Run) → declines ≡ false
+    → table_done g go t (final declines fit e s d) ≡ go AtDescribe d
 final_restarts g go t declines fit e s d is = rw is refl
 
 final_ends : (g : Story) (go : Stage → Run → Ending) (t : ℕ) (declines fit : Bool) (e s d : Run) → declines ≡ true →
@@ -80,9 +83,11 @@ final_spends : (g : Story) (go : Stage → Run → Ending) (t : ℕ) (declines f
 final_spends g go t declines fit e s d is fitting = rw (is, fitting) refl
 
 -- at any answer but no the game starts anew
-pub again_restarts : (g : Story) (old new : Turn) (line : List ℕ) → 0 < length old.machine.frames → is_ignored old.world line ≡ false → is_no (reply line) ≡ false
-    → new.world ≡ restarted (with_timeout (is_timeout line) old.world) → new.pending.bytes ≡ [] → new.pending.earlier ≡ 255
-    → new.machine.turning ≡ None → ReadsNone old.machine new.machine → new.piece ≡ old.piece
+pub again_restarts : (g : Story) (old new : Turn) (line : List ℕ) → 0 < length old.machine.frames → is_ignored old.situation.world line ≡ false
+    → is_no (reply line) ≡ false
+    → new.situation.world ≡ restarted (with_timeout (is_timeout line) old.situation.world) → new.situation.pending.bytes ≡ []
+    → new.situation.pending.earlier ≡ 255
+    → new.machine.turning ≡ None → ReadsNone old.machine new.machine → new.situation.piece ≡ old.situation.piece
     → PlaysAs g (from_prompt g prompt.Again old line) old (next.Go stage.Describe) new
 again_restarts g old new line some hears declines world bytes earlier turning none piece past has = (
   past.read,
@@ -90,50 +95,55 @@ again_restarts g old new line some hears declines world bytes earlier turning no
     has_still past.read old.machine new.machine has none,
     λ n lines. (
       n,
-      again_is g old line some hears n past lines ∙ (final_restarts g (turn g n) _ _ _ _ _ _ declines ∙ ap (turn g n AtDescribe) (cc (world, bytes, earlier, turning, piece))),
+      again_is g old line some hears n past lines ∙
+          (final_restarts g (turn g n) _ _ _ _ _ _ declines ∙ ap (turn g n AtDescribe) (cc (world, bytes, earlier, turning, piece))),
     ),
   ),
 )
 
 -- at no the game is over, and the run is what is held
-pub again_ends : (g : Story) (old new : Turn) (line : List ℕ) (w : World) → 0 < length old.machine.frames → is_ignored old.world line ≡ false → is_no (reply line) ≡ true
-    → w ≡ with_timeout (is_timeout line) old.world → length old.piece + length (say_text g.game w 14) ≤ 65535 → new.piece ≡ old.piece ++ say_text g.game w 14
-    → new.world ≡ w → new.pending.bytes ≡ [] → new.pending.earlier ≡ old.pending.earlier → new.machine.turning ≡ None
+pub again_ends : (g : Story) (old new : Turn) (line : List ℕ) (w : World) → 0 < length old.machine.frames
+    → is_ignored old.situation.world line ≡ false → is_no (reply line) ≡ true
+    → w ≡ with_timeout (is_timeout line) old.situation.world → length old.situation.piece + length (say_text g.game w 14) ≤ 65535
+    → new.situation.piece ≡ old.situation.piece ++ say_text g.game w 14
+    → new.situation.world ≡ w → new.situation.pending.bytes ≡ [] → new.situation.pending.earlier ≡ old.situation.pending.earlier → new.machine.turning ≡ None
     → ReadsNone old.machine new.machine
     → PlaysAs g (from_prompt g prompt.Again old line) old (next.Stop step.Ended) new
 again_ends g old new line w some hears declines world fit piece stays bytes earlier turning none past has =
-    let fit' = subst (λ v. length old.piece + length (say_text g.game v 14) ≤ 65535) world fit in
-    let piece' = subst (λ v. new.piece ≡ old.piece ++ say_text g.game v 14) world piece in
+    let fit' = subst (λ v. length old.situation.piece + length (say_text g.game v 14) ≤ 65535) world fit in
+    let piece' = subst (λ v. new.situation.piece ≡ old.situation.piece ++ say_text g.game v 14) world piece in
     let world' = stays ∙ world in
-    let text : List ℕ = say_text g.game (with_timeout (is_timeout line) old.world) 14 in
-    let t : nat_le (length old.piece + length text) 65535 ≡ true = grind (arith, nat_tests, fit') in (
+    let text : List ℕ = say_text g.game (with_timeout (is_timeout line) old.situation.world) 14 in
+    let t : nat_le (length old.situation.piece + length text) 65535 ≡ true = grind (arith, nat_tests, fit') in (
       past.read,
       (
         has_still past.read old.machine new.machine has none,
         λ n lines. (
           n,
           again_is g old line some hears n past lines ∙ (final_ends g (turn g n) _ _ _ _ _ _ declines t
-              ∙ ap (Halted IsOver) (held_is past lines (with_timeout (is_timeout line) old.world) (old.piece ++ text)
-              new.world new.pending.bytes new.pending.earlier new.machine.turning new.piece world' bytes earlier turning
-              piece')),
+              ∙ ap (Halted IsOver) (held_is past lines (with_timeout (is_timeout line) old.situation.world) (old.situation.piece ++ text)
+              new.situation.world new.situation.pending.bytes new.situation.pending.earlier new.machine.turning new.situation.piece
+              world' bytes earlier turning piece')),
         ),
       ),
     )
   where
-    held_is : (past : Past) (lines : List (List ℕ)) (u : World) (text : List ℕ) (v : World) (b : List ℕ) (e : ℕ) (o : Option OpenLoop) (q : List ℕ)
-        → v ≡ u → b ≡ [] → e ≡ old.pending.earlier → o ≡ None → q ≡ text
-        → closed (record { world = u; pending = []; earlier = old.pending.earlier; turning = None; current = text; read = past.read; pieces = past.pieces; traces = past.traces; events = lines })
-        ≡ closed (record { world = v; pending = b; earlier = e; turning = o; current = q; read = past.read; pieces = past.pieces; traces = past.traces; events = lines })
+    held_is : (past : Past) (lines : List (List ℕ)) (u : World) (text : List ℕ)
+        (v : World) (b : List ℕ) (e : ℕ) (o : Option OpenLoop) (q : List ℕ)
+        → v ≡ u → b ≡ [] → e ≡ old.situation.pending.earlier → o ≡ None → q ≡ text
+        → closed (run_from u [] old.situation.pending.earlier None text past lines) ≡ closed (run_from v b e o q past lines)
     held_is past lines u text v b e o q world bytes earlier turning piece = rw (world, bytes, earlier, turning, piece) refl
 
 -- where the farewell doesn't fit the piece is spent
-pub again_spends : (g : Story) (old new : Turn) (line : List ℕ) (w : World) → 0 < length old.machine.frames → is_ignored old.world line ≡ false → is_no (reply line) ≡ true
-    → w ≡ with_timeout (is_timeout line) old.world → 65535 < length old.piece + length (say_text g.game w 14) → ReadsNone old.machine new.machine
+pub again_spends : (g : Story) (old new : Turn) (line : List ℕ) (w : World) → 0 < length old.machine.frames
+    → is_ignored old.situation.world line ≡ false → is_no (reply line) ≡ true
+    → w ≡ with_timeout (is_timeout line) old.situation.world → 65535 < length old.situation.piece + length (say_text g.game w 14)
+    → ReadsNone old.machine new.machine
     → PlaysAs g (from_prompt g prompt.Again old line) old (next.Stop (step.Spent spent.Text)) new
 again_spends g old new line w some hears declines world full none past has =
-    let full' = subst (λ v. 65535 < length old.piece + length (say_text g.game v 14)) world full in
-    let text : List ℕ = say_text g.game (with_timeout (is_timeout line) old.world) 14 in
-    let t : nat_le (length old.piece + length text) 65535 ≡ false = grind (arith, nat_tests, full') in (
+    let full' = subst (λ v. 65535 < length old.situation.piece + length (say_text g.game v 14)) world full in
+    let text : List ℕ = say_text g.game (with_timeout (is_timeout line) old.situation.world) 14 in
+    let t : nat_le (length old.situation.piece + length text) 65535 ≡ false = grind (arith, nat_tests, full') in (
       past.read,
       (
         has_still past.read old.machine new.machine has none,

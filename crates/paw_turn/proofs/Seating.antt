@@ -1,8 +1,9 @@
 -- Players that are seated with parts.
-use Rattle.std.proofs.Common.{◌≡◌, ℕ, zero, suc, ◌<◌, Bool, true, false, List, [], ◌∷◌, Option, Some, None, map, take, reverse, slice_get, refl, sym, ap, ◌∙◌, subst, arith}
+use Rattle.std.proofs.Common.{◌≡◌, ℕ, zero, suc, ◌<◌, Bool, true, false, List, [], ◌∷◌, Option, Some}
+use Rattle.std.proofs.Common.{None, take, reverse, slice_get, refl, sym, ap, ◌∙◌, subst, arith}
 use Rattle.std.specs.Prelude.{if◌then◌else◌, nat_lt}
 use Rattle.std.proofs.lemmas.Bool.{eqb-true, ltb-true}
-use Rattle.std.proofs.lemmas.List.{reverse-reverse, length-map}
+use Rattle.std.proofs.lemmas.List.{reverse-reverse}
 use Rattle.paw_base.specs.Steps.{KeptSteps}
 use Rattle.paw_base.specs.inner.Steps.{no_steps}
 use Rattle.paw_game.specs.Game.{GameLists}
@@ -20,7 +21,7 @@ use Rattle.paw_reading.specs.Turn.{first_table}
 use Rattle.paw_reading.specs.inner.Places.{ArePlaces}
 use Rattle.paw_phrase.specs.Pending.{PendingLine}
 use Rattle.paw_process.specs.OpenTables.{OpenTables}
-use Rattle.paw_process.specs.inner.OpenTables.{HasRead, IsWaiting, IsClosed}
+use Rattle.paw_process.specs.inner.OpenTables.{IsWaiting, IsClosed, new_machine, refilled}
 use Rattle.paw_process.specs.Kept.{kept, rows_fault, table_of, is_that_table, loop_stands, loop_fault, first_fault, count_fits, fault_at, frames_fault}
 use Rattle.paw_process.specs.inner.Kept.{restored, waiting_at}
 use Rattle.paw_process.specs.inner.Kept.{StandsAt as MachineStandsAt}
@@ -31,9 +32,10 @@ use Rattle.paw_process.proofs.Fitting.{places_fit, kept_places}
 use Rattle.paw_turn.specs.declared.Step.{Step}
 use Rattle.paw_turn.specs.declared.Step.TheVariants as step
 use Rattle.paw_turn.specs.inner.Player.{Seat, IsLoopOf, WaitsIn, StandsClosed, StandRightly, IsSeated, IsNew}
-use Rattle.paw_turn.specs.inner.Stages.{IsPlayable, HasReadSome, seat_of}
+use Rattle.paw_turn.specs.inner.Stages.{MayGoOn, HasReadSome, seat_of}
 use Rattle.paw_turn.specs.declared.turn.Turn.{Turn}
 use Rattle.paw_turn.proofs.Standing.{unreversed}
+use Rattle.paw_turn.proofs.Falling.{none_yet}
 use Rattle.paw_turn.specs.inner.Parts.{prompt_step, prompt_at, IsStanding, Fits, seat_at, seated_again, RestoredFits}
 
 -- ---- a restored machine ----
@@ -55,19 +57,23 @@ first_loop g k (Some l) h = go (loop_stands g k l) refl h
         first_is k.rows k.count l.table (omega arith) (rw outermost at own)
     go false e q = cc
 
-kept_loop : (g : GameLists) (code : ℕ) (k : Frames) → fault_at g (Some code) k ≡ None → IsLoopOf (first_table (reverse (reverse (take k.count k.rows)))) k.turning
+kept_loop : (g : GameLists) (code : ℕ) (k : Frames) → fault_at g (Some code) k ≡ None
+    → IsLoopOf (first_table (reverse (reverse (take k.count k.rows)))) k.turning
 kept_loop g code k h = go (count_fits (Some code) k.count) refl h
   where
-    go : (b : Bool) → count_fits (Some code) k.count ≡ b → ◌≡◌ {A = Option ℕ} (if b then first_fault (rows_fault g code None k.count 0 k.rows) (loop_fault g k k.turning) else Some 0) None
+    go : (b : Bool) → count_fits (Some code) k.count ≡ b
+        → ◌≡◌ {A = Option ℕ} (if b then first_fault (rows_fault g code None k.count 0 k.rows) (loop_fault g k k.turning) else Some 0) None
         → IsLoopOf (first_table (reverse (reverse (take k.count k.rows)))) k.turning
     go true e q = rw (reverse-reverse (take k.count k.rows)) (first_loop g k k.turning (no_first _ (loop_fault g k k.turning) q).1)
     go false e q = cc
 
-waits_again : (g : GameLists) (p : Prompt) (code : ℕ) (k : Frames) (m : OpenTables) → m ≡ restored k (Some p) → IsWaiting p m → fault_at g (Some code) k ≡ None → WaitsIn p m
+waits_again : (g : GameLists) (p : Prompt) (code : ℕ) (k : Frames) (m : OpenTables) → m ≡ restored k (Some p) → IsWaiting p m
+    → fault_at g (Some code) k ≡ None → WaitsIn p m
 waits_again g p code k m is stands sound =
     record { tables = stands; loop = subst (λ (n : OpenTables). IsLoopOf (first_table (reverse n.frames)) n.turning) (sym is) (kept_loop g code k sound) }
 
-stands_again : (g : GameLists) (at : Prompt) (k : Frames) (m : OpenTables) → m ≡ restored k (waiting_at at) → MachineStandsAt at m → frames_fault g at k ≡ None → StandsClosed (prompt_step at) m
+stands_again : (g : GameLists) (at : Prompt) (k : Frames) (m : OpenTables) → m ≡ restored k (waiting_at at) → MachineStandsAt at m
+    → frames_fault g at k ≡ None → StandsClosed (prompt_step at) m
 stands_again g prompt.Main k m is stands sound = stands
 stands_again g prompt.Quit k m is stands sound = waits_again g prompt.Quit 27 k m is stands sound
 stands_again g prompt.Again k m is stands sound = waits_again g prompt.Again 31 k m is stands sound
@@ -130,15 +136,25 @@ module _ {F : Type 0} (p : Seat F) (seated : IsSeated p) (standing : IsStanding 
       ap (λ (s : Step). record { game = p.game; routines = p.routines; world = p.world; pending = p.pending; machine = p.machine; piece = []; last = s })
       (step_again p.last p.machine seated.machine standing)
 
-  pub seated_as : seated_again p ≡ record p { piece = []; machine = record p.machine { left = 200000; steps = no_steps } }
+  pub seated_as : seated_again p ≡ record p { piece = []; machine = refilled p.machine }
   seated_as =
       ap (λ (m : OpenTables). seat_at p.game p.routines p.world m p.pending (prompt_at p.last))
       (restored_again (prompt_at p.last) p.machine (machine_stands p.last p.machine seated.machine standing))
-      ∙ ap (λ (s : Step). record { game = p.game; routines = p.routines; world = p.world; pending = p.pending; machine = record p.machine { left = 200000; steps = no_steps }; piece = []; last = s })
+      ∙ ap (λ (s : Step). record {
+        game = p.game;
+        routines = p.routines;
+        world = p.world;
+        pending = p.pending;
+        machine = refilled p.machine;
+        piece =
+            [];
+        last = s;
+      })
       (step_again p.last p.machine seated.machine standing)
 
 -- a player that is seated with parts
-pub fits_seated : {F : Type 0} (g : GameLists) (routines : Routines F) (w : World) (m : OpenTables) (p : PendingLine) (at : Prompt) → Valid g → Fits g w m p at → IsSeated (seat_at g routines w m p at)
+pub fits_seated : {F : Type 0} (g : GameLists) (routines : Routines F) (w : World) (m : OpenTables) (p : PendingLine) (at : Prompt) → Valid g
+    → Fits g w m p at → IsSeated (seat_at g routines w m p at)
 fits_seated g routines w m p at v fits = record { valid = v; machine = fits.machine; rightly = λ standing. same at (fits.rightly) }
   where
     same : (q : Prompt) → StandRightly g q w m p → StandRightly g (prompt_at (prompt_step q)) w m p
@@ -156,7 +172,8 @@ waits_alike : (p : Prompt) (m : OpenTables) (left : ℕ) (steps : KeptSteps) →
 waits_alike p m left steps k =
     record { tables = record { tables = k.tables.tables; condacts = k.tables.condacts; waiting = k.tables.waiting }; loop = k.loop }
 
-machine_alike : (at : Prompt) (m : OpenTables) (left : ℕ) (steps : KeptSteps) → StandsClosed (prompt_step at) m → StandsClosed (prompt_step at) (record m { left = left; steps = steps })
+machine_alike : (at : Prompt) (m : OpenTables) (left : ℕ) (steps : KeptSteps) → StandsClosed (prompt_step at) m
+    → StandsClosed (prompt_step at) (record m { left = left; steps = steps })
 machine_alike prompt.Main m left steps k = closed_alike m left steps k
 machine_alike prompt.Quit m left steps k = waits_alike prompt.Quit m left steps k
 machine_alike prompt.Again m left steps k = waits_alike prompt.Again m left steps k
@@ -187,7 +204,7 @@ same_fits p g w m q at seated standing game world machine pending prompt_is =
 -- ---- a player that starts anew ----
 
 pub begun : {F : Type 0} (p : Seat F) (seed : ℕ) → Valid p.game → p.world ≡ opening_world p.game seed → p.pending ≡ record { bytes = []; earlier = 255 }
-    → p.machine ≡ record { frames = []; turning = None; waiting = None; left = 200000; steps = no_steps } → p.last ≡ step.Waits prompt.Main → IsSeated p
+    → p.machine ≡ new_machine → p.last ≡ step.Waits prompt.Main → IsSeated p
 begun p seed valid world pending machine last = record {
   valid = valid;
   machine = rw (last, machine) (record { frames = refl; turning = refl; waiting = refl });
@@ -203,20 +220,25 @@ begun p seed valid world pending machine last = record {
 }
 
 pub renewed : {F : Type 0} (p q : Seat F) (seed : ℕ) → IsSeated p → q.game ≡ p.game → q.world ≡ opening_world q.game seed
-    → q.pending ≡ record { bytes = []; earlier = 255 } → q.machine ≡ record { frames = []; turning = None; waiting = None; left = 200000; steps = no_steps } → q.last ≡ step.Waits prompt.Main → IsSeated q
+    → q.pending ≡ record { bytes = []; earlier = 255 } → q.machine ≡ new_machine → q.last ≡ step.Waits prompt.Main → IsSeated q
 renewed p q seed seated game = begun q seed (subst Valid (sym game) seated.valid)
 
 -- a new player may play its first piece
-pub new_playable : {F : Type 0} (g : GameLists) (routines : Routines F) (h : Turn) (last : Step) → Valid g → IsNew (seat_of g routines h last) h.world.seed → IsPlayable g h
-new_playable g routines h last v fresh =
+pub new_ready : {F : Type 0} (g : GameLists) (routines : Routines F) (h : Turn) (last : Step) → Valid g
+    → IsNew (seat_of g routines h last) h.situation.world.seed → MayGoOn g h
+new_ready g routines h last v fresh =
     let left : h.machine.left ≡ 200000 = ap (λ (m : OpenTables). m.left) fresh.machine in
-    let draws : h.world.draws ≡ 0 = ap (λ (w : World). w.draws) fresh.world in
+    let draws : h.situation.world.draws ≡ 0 = ap (λ (w : World). w.draws) fresh.world in
     record {
-      world = subst (IsOf g) (sym fresh.world) (start_so g v h.world.seed).of;
-      budget = omega (arith, left);
-      draws = omega (arith, left, draws);
+      playable = record {
+        world = subst (IsOf g) (sym fresh.world) (start_so g v h.situation.world.seed).of;
+        budget = omega (arith, left);
+        draws = omega (arith, left, draws);
+      };
+      closed = subst IsClosed (sym fresh.machine) (record { frames = refl; turning = refl; waiting = refl });
     }
 
-pub new_read : {F : Type 0} (g : GameLists) (routines : Routines F) (h : Turn) (last : Step) → IsNew (seat_of g routines h last) h.world.seed → HasReadSome h.machine
+pub new_read : {F : Type 0} (g : GameLists) (routines : Routines F) (h : Turn) (last : Step)
+    → IsNew (seat_of g routines h last) h.situation.world.seed → HasReadSome h.machine
 new_read g routines h last fresh =
-    ([], record { left = omega (arith, ap (λ (m : OpenTables). m.left) fresh.machine); steps = ap (λ (m : OpenTables). m.steps) fresh.machine })
+    ([], none_yet h.machine fresh.machine)

@@ -1,5 +1,5 @@
 -- From some stages to the whole reading.
-use Rattle.std.proofs.Common.{◌≡◌, ◌≢◌, ℕ, List, [], ◌∷◌, Option, None, reverse, refl, sym, ap, ◌∙◌, arith}
+use Rattle.std.proofs.Common.{◌≡◌, ◌≢◌, ℕ, List, [], ◌∷◌, Option, None, reverse, refl, sym, ap, ◌∙◌}
 use Rattle.paw_effects.specs.Story.{Story}
 use Rattle.paw_world.specs.World.{World}
 use Rattle.paw_phrase.specs.Pending.{PendingLine}
@@ -17,8 +17,10 @@ use Rattle.paw_turn.specs.declared.Step.TheVariants as step
 use Rattle.paw_turn.specs.declared.stage.Stage.TheVariants as stage
 use Rattle.paw_turn.specs.declared.stage.Next.TheVariants as next
 use Rattle.paw_turn.specs.declared.turn.Turn.{Turn}
+use Rattle.paw_turn.proofs.Falling.{none_yet}
 use Rattle.paw_turn.specs.inner.Player.{PlaysTo, IsNew, run_at}
-use Rattle.paw_turn.specs.inner.Stages.{Past, run_now, having_read, StopsAs, PlaysAs, Plays, from_stage, from_prompt, seat_of, turn_settled, opened_piece}
+use Rattle.paw_turn.specs.inner.Stages.{Past, run_from, run_now, having_read, StopsAs, PlaysAs}
+use Rattle.paw_turn.specs.inner.Stages.{Plays, from_stage, from_prompt, seat_of, turn_settled, opened_piece}
 
 -- an ending that comes once is the whole's
 abbrev Once : (ℕ → List (List ℕ) → Ending) → (List (List ℕ) → Ending) → Type 0
@@ -70,32 +72,37 @@ before pieces traces = record { read = []; pieces = pieces; traces = traces }
 
 -- a new player's first piece is that of the reading
 pub start_plays : {F : Type 0} (g : Story) (routines : Routines F) (old new : Turn) (s last : Step) → Plays g stage.Describe old (next.Stop s) new
-    → IsNew (seat_of g.game routines old last) old.world.seed
-    → PlaysTo g (reading g old.world.seed) s (seat_of g.game routines (turn_settled s new) s) [] []
+    → IsNew (seat_of g.game routines old last) old.situation.world.seed
+    → PlaysTo g (reading g old.situation.world.seed) s (seat_of g.game routines (turn_settled s new) s) [] []
 start_plays g routines old new s last plays fresh =
     let bytes = ap (λ (q : PendingLine). q.bytes) fresh.pending in
     let earlier = ap (λ (q : PendingLine). q.earlier) fresh.pending in
     let turning = ap (λ (m : OpenTables). m.turning) fresh.machine in
-    let has : HasRead [] old.machine = record { left = omega (arith, ap (λ (m : OpenTables). m.left) fresh.machine); steps = ap (λ (m : OpenTables). m.steps) fresh.machine } in
-    let t = plays (before [] []) has in
-    settles g routines (λ m lines. from_stage g stage.Describe old m (before [] []) lines) (reading g old.world.seed)
+    let t = plays (before [] []) (none_yet old.machine fresh.machine) in
+    settles g routines (λ m lines. from_stage g stage.Describe old m (before [] []) lines) (reading g old.situation.world.seed)
     (λ m lines differs.
-    let same : run_now old (before [] []) lines ≡ opening g old.world.seed lines = opens old.world old.pending.bytes old.pending.earlier old.machine.turning old.piece lines fresh.world bytes earlier turning fresh.piece in
+    let h = old.situation in
+    let same : run_now old (before [] []) lines ≡ opening g h.world.seed lines =
+    opens h.world h.pending.bytes h.pending.earlier old.machine.turning h.piece lines fresh.world bytes earlier turning fresh.piece in
     ends_once g m AtDescribe (run_now old (before [] []) lines) differs ∙ ap (turns_from g AtDescribe) same)
     s s new (having_read t.0 (before [] [])) t.1.0 t.1.1
   where
     opens : (w : World) (bytes : List ℕ) (earlier : ℕ) (turning : Option OpenLoop) (piece : List ℕ) (lines : List (List ℕ))
-        → w ≡ opening_world g.game old.world.seed → bytes ≡ [] → earlier ≡ 255 → turning ≡ None → piece ≡ []
-        → ◌≡◌ {A = Run} (record { world = w; pending = bytes; earlier = earlier; turning = turning; current = piece; read = []; pieces = []; traces = []; events = lines }) (opening g old.world.seed lines)
+        → w ≡ opening_world g.game old.situation.world.seed → bytes ≡ [] → earlier ≡ 255 → turning ≡ None → piece ≡ []
+        → run_from w bytes earlier turning piece (before [] []) lines ≡ opening g old.situation.world.seed lines
     opens w bytes earlier turning piece lines world b e t p = rw (world, b, e, t, p) refl
 
 -- a line leads from a player's prompt to the next
-pub take_plays : {F : Type 0} (g : Story) (routines : Routines F) (p : Prompt) (old new : Turn) (line : List ℕ) (s : Step) → (pieces : List (List ℕ)) (traces : List (List Read))
+pub take_plays : {F : Type 0} (g : Story) (routines : Routines F) (p : Prompt) (old new : Turn) (line : List ℕ) (s : Step)
+    → (pieces : List (List ℕ)) (traces : List (List Read))
     → PlaysAs g (from_prompt g p (opened_piece old) line) (opened_piece old) (next.Stop s) new
-    → PlaysTo g (λ lines. on g p (reverse old.machine.frames) (run_at (seat_of g.game routines old (step.Waits p)) pieces traces (line ∷ lines))) s (seat_of g.game routines (turn_settled s new) s) pieces traces
+    → let seat = seat_of g.game routines old (step.Waits p) in
+    PlaysTo g (λ lines. on g p (reverse old.machine.frames) (run_at seat pieces traces (line ∷ lines))) s
+    (seat_of g.game routines (turn_settled s new) s) pieces traces
 take_plays g routines p old new line s pieces traces plays =
     let t = plays (before pieces traces) (record { left = refl; steps = refl }) in
+    let seat = seat_of g.game routines old (step.Waits p) in
     settles g routines (λ m lines. from_prompt g p (opened_piece old) line m (before pieces traces) lines)
-    (λ lines. on g p (reverse old.machine.frames) (run_at (seat_of g.game routines old (step.Waits p)) pieces traces (line ∷ lines)))
-    (λ m lines. goes_on_once g m p (reverse old.machine.frames) (run_at (seat_of g.game routines old (step.Waits p)) pieces traces (line ∷ lines)))
+    (λ lines. on g p (reverse old.machine.frames) (run_at seat pieces traces (line ∷ lines)))
+    (λ m lines. goes_on_once g m p (reverse old.machine.frames) (run_at seat pieces traces (line ∷ lines)))
     s s new (having_read t.0 (before pieces traces)) t.1.0 t.1.1

@@ -29,7 +29,8 @@ use Rattle.paw_turn.specs.declared.Step.TheVariants as step
 use Rattle.paw_turn.specs.inner.Player.{Seat, PlaysTo, StandsClosed, StandsAt, WaitsIn, StandRightly, IsSeated, IsStanding, prompt_at, run_at, run_with}
 
 -- rows that stand for routines make a story of a valid game
-pub valid_story : {F : Type 0} (calls : Shared F (ℕ × (ℕ × Unit {0})) ℕ) (routines : Routines F) (g : GameLists) (X : List (List ℕ)) → Valid g → AreRowsOf calls routines X → ValidStory (story_of g X)
+pub valid_story : {F : Type 0} (calls : Shared F (ℕ × (ℕ × Unit {0})) ℕ) (routines : Routines F) (g : GameLists) (X : List (List ℕ)) → Valid g
+    → AreRowsOf calls routines X → ValidStory (story_of g X)
 valid_story calls routines g X v rows = record { game = v; whole = rows.whole; bytes = rows.bytes }
 
 pub bytes_each : (bytes : List ℕ) → ((i : ℕ) → get_or bytes i 0 < 256) → AreBytes bytes
@@ -56,7 +57,8 @@ may_wait prompt.Key m waits = many prompt.Key m waits
 may_wait prompt.Over m none = none
 
 -- what was closed before, and the lines to come, change nothing of how a run stands
-pub stands_alike : (g : GameLists) (at : Prompt) (path : List Frame) (w : World) (m : OpenTables) (p : PendingLine) (pieces pieces' : List (List ℕ)) (traces traces' : List (List Read)) (lines lines' : List (List ℕ))
+pub stands_alike : (g : GameLists) (at : Prompt) (path : List Frame) (w : World) (m : OpenTables) (p : PendingLine)
+    (pieces pieces' : List (List ℕ)) (traces traces' : List (List Read)) (lines lines' : List (List ℕ))
     → StandsRightly g at path (run_with w m p pieces traces lines) → StandsRightly g at path (run_with w m p pieces' traces' lines')
 stands_alike g at path w m p pieces pieces' traces traces' lines lines' k =
     record { world = k.world; places = k.places; line = k.line; pending = k.pending; earlier = k.earlier; piece = refl; read = refl }
@@ -65,12 +67,23 @@ stands_alike g at path w m p pieces pieces' traces traces' lines lines' k =
 stands_over : (g : GameLists) (w : World) (m : OpenTables) (p : PendingLine) (pieces : List (List ℕ)) (traces : List (List Read)) → IsClosed m
     → StandsRightly g prompt.Over [] (run_with w m p pieces traces []) → StandRightly g prompt.Over w m p
 stands_over g w m p pieces traces closed k =
-    record { world = k.world; places = (reversed m.frames closed.frames, closed.turning); line = λ e. k.line refl; pending = k.pending; earlier = k.earlier; piece = refl; read = refl }
+    record {
+      world = k.world;
+      places = (reversed m.frames closed.frames, closed.turning);
+      line = λ e. k.line refl;
+      pending = k.pending;
+      earlier = k.earlier;
+      piece = refl;
+      read = refl;
+    }
 
-stands_at : {F : Type 0} (g : Story) (whole : List (List ℕ) → Ending) (s : Step) (p : Seat F) (pieces : List (List ℕ)) (traces : List (List Read)) → StandsClosed s p.machine
+stands_at : {F : Type 0} (g : Story) (whole : List (List ℕ) → Ending) (s : Step) (p : Seat F) (pieces : List (List ℕ)) (traces : List (List Read))
+    → StandsClosed s p.machine
     → PlaysTo g whole s p pieces traces → StopsRightly g.game (whole []) → IsStanding s → StandRightly g.game (prompt_at s) p.world p.machine p.pending
 stands_at g whole (step.Waits q) p pieces traces stands plays rightly standing =
-    let at = subst (StopsRightly g.game) (plays.1.1 [] ∙ waits_on g q (reverse p.machine.frames) (run_at p (pieces ++ p.piece ∷ []) (traces ++ plays.0 ∷ []) []) (may_wait q p.machine stands) refl) rightly in
+    let r = run_at p (pieces ++ p.piece ∷ []) (traces ++ plays.0 ∷ []) [] in
+    let is = plays.1.1 [] ∙ waits_on g q (reverse p.machine.frames) r (may_wait q p.machine stands) refl in
+    let at = subst (StopsRightly g.game) is rightly in
     stands_alike g.game q (reverse p.machine.frames) p.world p.machine p.pending (pieces ++ p.piece ∷ []) [] (traces ++ plays.0 ∷ []) [] [] [] at.1
 stands_at g whole step.Ended p pieces traces closed plays rightly standing =
     let at = subst (StopsRightly g.game) (plays.1.1 []) rightly in
@@ -89,13 +102,15 @@ one_line line is zero d low = is
 one_line line is (suc k) d low = absurd (omega arith)
 
 -- a player that took a line where it stood at a prompt
-pub taken_on : {F : Type 0} (g : Story) (old new : Seat F) (line : List ℕ) (q : Prompt) (s : Step) → ValidStory g → old.game ≡ g.game → IsSeated old → old.last ≡ step.Waits q → IsLine line
+pub taken_on : {F : Type 0} (g : Story) (old new : Seat F) (line : List ℕ) (q : Prompt) (s : Step) → ValidStory g → old.game ≡ g.game → IsSeated old
+    → old.last ≡ step.Waits q → IsLine line
     → StandsClosed s new.machine → PlaysTo g (λ lines. on g q (reverse old.machine.frames) (run_at old [] [] (line ∷ lines))) s new [] []
     → IsStanding s → StandRightly g.game (prompt_at s) new.world new.machine new.pending
 taken_on g old new line q s v game seated waits is stands plays =
     let standing : IsStanding old.last = subst IsStanding (sym waits) tt in
     let at : StandRightly g.game q old.world old.machine old.pending =
-    subst (λ h. StandRightly h q old.world old.machine old.pending) game (subst (λ t. StandRightly old.game (prompt_at t) old.world old.machine old.pending) waits (seated.rightly standing)) in
+    subst (λ h. StandRightly h q old.world old.machine old.pending) game
+    (subst (λ t. StandRightly old.game (prompt_at t) old.world old.machine old.pending) waits (seated.rightly standing)) in
     stands_at g (λ lines. on g q (reverse old.machine.frames) (run_at old [] [] (line ∷ lines))) s new [] [] stands plays
     (going_on_stops_rightly g q (reverse old.machine.frames) (run_at old [] [] (line ∷ [])) v (one_line line is)
     (stands_alike g.game q (reverse old.machine.frames) old.world old.machine old.pending [] [] [] [] [] (line ∷ []) at))

@@ -1,13 +1,12 @@
 -- Where a machine waits.
-use Rattle.std.proofs.Common.{◌≡◌, ℕ, suc, ◌<◌, ◌≤◌, List, [], ◌∷◌, ◌++◌, length, reverse, refl, sym, ap, ◌∙◌, subst, arith}
+use Rattle.std.proofs.Common.{◌≡◌, ℕ, ◌<◌, List, [], ◌++◌, length, reverse, refl, sym, ◌∙◌, subst, arith}
 use Rattle.std.proofs.lemmas.List.{length-reverse}
 use Rattle.paw_effects.specs.Story.{Story}
 use Rattle.paw_effects.specs.declared.act.Prompt.{Prompt}
 use Rattle.paw_effects.specs.declared.act.Prompt.TheVariants as prompt
 use Rattle.paw_reading.specs.declared.places.Frame.{Frame}
 use Rattle.paw_reading.specs.Run.{Run, closed}
-use Rattle.paw_reading.specs.Reading.{Out, Waits, after_call, asked, rest}
-use Rattle.paw_reading.specs.GoingOn.{on_path}
+use Rattle.paw_reading.specs.Reading.{Out, Waits}
 use Rattle.paw_process.specs.OpenTables.{OpenTables}
 use Rattle.paw_process.specs.inner.OpenTables.{IsWaiting, IsClosed}
 use Rattle.paw_process.specs.inner.Meaning.{IsStopped}
@@ -22,9 +21,12 @@ use Rattle.paw_turn.proofs.Falling.{some_past}
 
 waits_in : (p : Prompt) (t : ℕ) (m : OpenTables) → IsWaiting p m → WaitsThere t 0 p (reverse m.frames) m.turning → WaitsInTable t p m
 waits_in prompt.Main t m waits there = there.inner
-waits_in prompt.Quit t m waits there = (record { tables = waits; loop = subst (λ u. IsLoopOf u m.turning) (sym (there.first refl)) there.loop }, there.first refl)
-waits_in prompt.Again t m waits there = (record { tables = waits; loop = subst (λ u. IsLoopOf u m.turning) (sym (there.first refl)) there.loop }, there.first refl)
-waits_in prompt.Key t m waits there = (record { tables = waits; loop = subst (λ u. IsLoopOf u m.turning) (sym (there.first refl)) there.loop }, there.first refl)
+waits_in prompt.Quit t m waits there =
+    (record { tables = waits; loop = subst (λ u. IsLoopOf u m.turning) (sym (there.first refl)) there.loop }, there.first refl)
+waits_in prompt.Again t m waits there =
+    (record { tables = waits; loop = subst (λ u. IsLoopOf u m.turning) (sym (there.first refl)) there.loop }, there.first refl)
+waits_in prompt.Key t m waits there =
+    (record { tables = waits; loop = subst (λ u. IsLoopOf u m.turning) (sym (there.first refl)) there.loop }, there.first refl)
 waits_in prompt.Over t m waits there = there.inner
 
 -- where a machine stopped in a table, if what it read waits there

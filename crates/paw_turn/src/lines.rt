@@ -4,7 +4,6 @@ ghost use Rattle.std.specs.Prelude.{◌≡◌, ◌+◌, ◌<◌, ◌≤◌, ℕ,
 ghost use Rattle.paw_base.specs.inner.Piece.{Puts};
 ghost use Rattle.paw_game.specs.Valid.{Valid};
 ghost use Rattle.paw_routines.specs.Routines.{AreRowsOf, HaveRows};
-ghost use Rattle.paw_effects.specs.Built.{IsOf};
 ghost use Rattle.paw_effects.specs.Story.{story_of};
 ghost use Rattle.paw_effects.specs.declared.act.Prompt.TheVariants as prompt;
 ghost use Rattle.paw_reading.specs.Run.{is_timeout, is_ignored, reply, begins_with};
@@ -13,7 +12,7 @@ ghost use Rattle.paw_process.specs.inner.OpenTables.{IsClosed};
 ghost use Rattle.paw_turn.specs.declared.stage.Next.TheVariants as next;
 ghost use Rattle.paw_turn.specs.inner.Player.{WaitsIn, StandsAt};
 ghost use Rattle.paw_turn.specs.inner.Stages.{PlaysAs, RunsAs, from_prompt, from_path, IsPlayable};
-ghost use Rattle.paw_turn.specs.inner.Stages.{HasReadSome, KeepsGame, StopsInTable, AwaitsAt};
+ghost use Rattle.paw_turn.specs.inner.Stages.{HasReadSome, MayHear, Stays, KeepsGame, StopsInTable, AwaitsAt};
 
 use crate::stage::{Next, Stage};
 use crate::turn::Turn;
@@ -72,12 +71,10 @@ impl Turn {
         line: &[u8],
     ) -> Step
         requires line { length line.now ≤ 255 }
-        requires valid { Valid (T.game tables.now) }
         requires rows { HaveRows F.Fn routines.now }
-        requires read { HasReadSome self.old.machine }
-        requires playable { IsPlayable (T.game tables.now) self.old }
-        requires stands { StandsAt prompt self.old.machine }
-        ensures meaning { (X : List (List ℕ)) → AreRowsOf F.Fn routines.now X → let g = story_of (T.game tables.now) X in
+        requires ready { MayHear (T.game tables.now) prompt self.old }
+        ensures meaning { (X : List (List ℕ)) → AreRowsOf F.Fn routines.now X →
+            let g = story_of (T.game tables.now) X in
             PlaysAs g (from_prompt g prompt self.old line.now) self.old (next.Stop result) self.new }
         ensures keeps { KeepsGame (T.game tables.now) self.old (next.Stop result) self.new }
     {
@@ -96,16 +93,14 @@ impl Turn {
         line: &[u8],
     ) -> Next
         requires line { length line.now ≤ 255 }
-        requires valid { Valid (T.game tables.now) }
         requires rows { HaveRows F.Fn routines.now }
-        requires read { HasReadSome self.old.machine }
-        requires playable { IsPlayable (T.game tables.now) self.old }
-        requires stands { StandsAt prompt self.old.machine }
-        ensures meaning { (X : List (List ℕ)) → AreRowsOf F.Fn routines.now X → let g = story_of (T.game tables.now) X in
+        requires ready { MayHear (T.game tables.now) prompt self.old }
+        ensures meaning { (X : List (List ℕ)) → AreRowsOf F.Fn routines.now X →
+            let g = story_of (T.game tables.now) X in
             PlaysAs g (from_prompt g prompt self.old line.now) self.old result self.new }
         ensures keeps { KeepsGame (T.game tables.now) self.old result self.new }
     {
-        if is_ignored(&self.world, line) {
+        if is_ignored(&self.situation.world, line) {
             return Next::Stop(Step::Waits(prompt));
         }
         match prompt {
@@ -120,7 +115,7 @@ impl Turn {
     /// other line is pending now.
     fn hear_line<T: Tables>(&mut self, tables: &T, line: &[u8]) -> Next
         requires line { length line.now ≤ 255 }
-        requires heard { is_ignored self.old.world line.now ≡ false }
+        requires heard { is_ignored self.old.situation.world line.now ≡ false }
         requires playable { IsPlayable (T.game tables.now) self.old }
         requires closed { IsClosed self.old.machine }
         ensures meaning { (X : List (List ℕ)) → let g = story_of (T.game tables.now) X in
@@ -128,11 +123,11 @@ impl Turn {
         ensures keeps { KeepsGame (T.game tables.now) self.old result self.new }
     {
         if is_timeout(line) {
-            flags::tell_timeout(&mut self.world, true);
+            flags::tell_timeout(&mut self.situation.world, true);
             self.say(tables, TIMEOUT_MESSAGE, Stage::Frame)
         } else {
-            flags::tell_timeout(&mut self.world, false);
-            self.pending.set(line);
+            flags::tell_timeout(&mut self.situation.world, false);
+            self.situation.pending.set(line);
             Next::Go(Stage::Phrase)
         }
     }
@@ -145,13 +140,14 @@ impl Turn {
         prompt: Prompt,
         line: &[u8],
     ) -> Next
-        requires heard { is_ignored self.old.world line.now ≡ false }
+        requires heard { is_ignored self.old.situation.world line.now ≡ false }
         requires valid { Valid (T.game tables.now) }
         requires rows { HaveRows F.Fn routines.now }
         requires read { HasReadSome self.old.machine }
         requires playable { IsPlayable (T.game tables.now) self.old }
         requires awaits { AwaitsAt prompt self.old.machine }
-        ensures meaning { (X : List (List ℕ)) → AreRowsOf F.Fn routines.now X → let g = story_of (T.game tables.now) X in
+        ensures meaning { (X : List (List ℕ)) → AreRowsOf F.Fn routines.now X →
+            let g = story_of (T.game tables.now) X in
             PlaysAs g (from_prompt g prompt self.old line.now) self.old result self.new }
         ensures keeps { KeepsGame (T.game tables.now) self.old result self.new }
     {
@@ -168,7 +164,7 @@ impl Turn {
         prompt: Prompt,
         line: &[u8],
     ) -> Turned
-        requires heard { is_ignored self.old.world line.now ≡ false }
+        requires heard { is_ignored self.old.situation.world line.now ≡ false }
         requires valid { Valid (T.game tables.now) }
         requires rows { HaveRows F.Fn routines.now }
         requires read { HasReadSome self.old.machine }
@@ -177,39 +173,36 @@ impl Turn {
         ensures runs { (X : List (List ℕ)) → AreRowsOf F.Fn routines.now X → let g = story_of (T.game tables.now) X in
             RunsAs g (from_path g prompt self.old line.now) self.old result self.new }
         ensures stops { StopsInTable (first_table (reverse self.old.machine.frames)) result self.new.machine }
-        ensures left { self.new.machine.left ≤ self.old.machine.left }
-        ensures world { IsOf (T.game tables.now) self.new.world }
-        ensures draws { self.new.world.draws + self.new.machine.left ≤ self.old.world.draws + self.old.machine.left }
+        ensures stays { Stays (T.game tables.now) self.old self.new }
     {
-        flags::tell_timeout(&mut self.world, is_timeout(line));
+        flags::tell_timeout(&mut self.situation.world, is_timeout(line));
         self.machine.answer(begins_with(b'Y', reply(line)));
-        self.machine.run(
-            tables,
-            &mut self.world,
-            &mut self.pending,
-            routines,
-            &mut self.piece,
-        )
+        self.machine.run(tables, routines, &mut self.situation)
     }
 
     /// Takes the answer to END's question that isn't ignored: at no the game is over, and otherwise it starts anew.
     fn hear_again<T: Tables>(&mut self, tables: &T, line: &[u8]) -> Next
-        requires heard { is_ignored self.old.world line.now ≡ false }
+        requires heard { is_ignored self.old.situation.world line.now ≡ false }
         requires playable { IsPlayable (T.game tables.now) self.old }
         requires waits { WaitsIn prompt.Again self.old.machine }
         ensures meaning { (X : List (List ℕ)) → let g = story_of (T.game tables.now) X in
             PlaysAs g (from_prompt g prompt.Again self.old line.now) self.old result self.new }
         ensures keeps { KeepsGame (T.game tables.now) self.old result self.new }
     {
-        flags::tell_timeout(&mut self.world, is_timeout(line));
+        flags::tell_timeout(&mut self.situation.world, is_timeout(line));
         self.machine.close();
         if !begins_with(b'N', reply(line)) {
-            self.world.restart();
-            self.pending.set(&[]);
+            self.situation.world.restart();
+            self.situation.pending.set(&[]);
             return Next::Go(Stage::Describe);
         }
-        self.pending.drop_line();
-        if say(tables, &self.world, &mut self.piece, GOODBYE_MESSAGE) {
+        self.situation.pending.drop_line();
+        if say(
+            tables,
+            &self.situation.world,
+            &mut self.situation.piece,
+            GOODBYE_MESSAGE,
+        ) {
             Next::Stop(Step::Ended)
         } else {
             Next::Stop(Step::Spent(SpentKind::Text))

@@ -23,7 +23,7 @@ use paw_base::steps::Steps;
 use paw_effects::act::Prompt;
 use paw_game::tables::Tables;
 use paw_phrase::Pending;
-use paw_process::Machine;
+use paw_process::{Machine, Situation};
 use paw_routines::routines::Routines;
 use paw_world::world::World;
 use std::alloc::Global;
@@ -50,10 +50,10 @@ impl<'a, T: Tables, F: Fn(u8, u8) -> u8> Model for Player<'a, T, F> {
     ghost view = { λ p. record {
       game = T.game p.tables.now;
       routines = p.routines.now;
-      world = p.turn.world;
-      pending = p.turn.pending;
+      world = p.turn.situation.world;
+      pending = p.turn.situation.pending;
       machine = p.turn.machine;
-      piece = p.turn.piece;
+      piece = p.turn.situation.piece;
       last = p.last;
     } };
 }
@@ -110,10 +110,12 @@ impl<'a, T: Tables, F: Fn(u8, u8) -> u8> Player<'a, T, F> {
             tables,
             routines,
             turn: Turn {
-                world,
-                pending,
+                situation: Situation {
+                    world,
+                    pending,
+                    piece,
+                },
                 machine,
-                piece,
             },
             last: step_at(prompt),
         })
@@ -152,7 +154,8 @@ impl<'a, T: Tables, F: Fn(u8, u8) -> u8> Player<'a, T, F> {
         ensures game { self.new.game ≡ self.old.game }
         ensures routines { self.new.routines ≡ self.old.routines }
         ensures meaning { (X : List (List ℕ)) → AreRowsOf F.Fn self.old.routines X →
-            PlaysTo (story_of self.old.game X) (reading (story_of self.old.game X) self.old.world.seed) result self.new [] [] }
+            let g = story_of self.old.game X in
+            PlaysTo g (reading g self.old.world.seed) result self.new [] [] }
         ensures seated { IsSeated self.new }
         ensures draws { self.new.world.draws ≤ self.old.world.draws + 200000 }
     {
@@ -172,11 +175,14 @@ impl<'a, T: Tables, F: Fn(u8, u8) -> u8> Player<'a, T, F> {
         ensures last { self.new.last ≡ result }
         ensures game { self.new.game ≡ self.old.game }
         ensures routines { self.new.routines ≡ self.old.routines }
-        ensures meaning { (X : List (List ℕ)) → AreRowsOf F.Fn self.old.routines X → (p : AtPrompt) → self.old.last ≡ step.Waits p →
-            (pieces : List (List ℕ)) (traces : List (List Read)) →
-            PlaysTo (story_of self.old.game X) (λ lines. on (story_of self.old.game X) p (reverse self.old.machine.frames) (run_at self.old pieces traces (line.now ∷ lines)))
+        ensures meaning { (X : List (List ℕ)) → AreRowsOf F.Fn self.old.routines X →
+            (p : AtPrompt) → self.old.last ≡ step.Waits p → (pieces : List (List ℕ)) (traces : List (List Read)) →
+            let g = story_of self.old.game X in
+            let frames = self.old.machine.frames in
+            PlaysTo g (λ lines. on g p (reverse frames) (run_at self.old pieces traces (line.now ∷ lines)))
             result self.new pieces traces }
-        ensures finished { IsFinished self.old.last → (result ≡ self.old.last) × (self.new ≡ record self.old { piece = [] }) }
+        ensures finished { IsFinished self.old.last →
+            (result ≡ self.old.last) × (self.new ≡ record self.old { piece = [] }) }
         ensures seated { IsSeated self.new }
         ensures draws { self.new.world.draws ≤ self.old.world.draws + 200000 }
     {
@@ -219,14 +225,15 @@ impl<'a, T: Tables, F: Fn(u8, u8) -> u8> Player<'a, T, F> {
         ensures fits { IsSeated self.now → IsStanding self.now.last →
             Fits self.now.game self.now.world self.now.machine self.now.pending (prompt_at self.now.last) }
         ensures same { IsSeated self.now → IsStanding self.now.last →
-            seat_at self.now.game self.now.routines self.now.world self.now.machine self.now.pending (prompt_at self.now.last) ≡ record self.now { piece = [] } }
+            seat_at self.now.game self.now.routines self.now.world self.now.machine self.now.pending
+            (prompt_at self.now.last) ≡ record self.now { piece = [] } }
         ensures kept { IsSeated self.now → IsStanding self.now.last →
             frames_fault self.now.game (prompt_at self.now.last) (kept self.now.machine) ≡ None }
     {
         Parts {
-            world: &self.turn.world,
+            world: &self.turn.situation.world,
             machine: &self.turn.machine,
-            pending: &self.turn.pending,
+            pending: &self.turn.situation.pending,
             prompt: prompt_at(self.last),
         }
     }

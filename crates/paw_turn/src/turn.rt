@@ -2,10 +2,8 @@
 
 ghost use Rattle.std.specs.Prelude.{◌≡◌, suc, ◌+◌, ◌*◌, ◌<◌, ◌≤◌, ◌^◌, ◌++◌, ℕ, List, [], length, map, None};
 ghost use Rattle.paw_base.specs.inner.Piece.{Puts, piece_limit};
-ghost use Rattle.paw_base.specs.inner.Steps.{no_steps};
 ghost use Rattle.paw_game.specs.Valid.{Valid};
 ghost use Rattle.paw_routines.specs.Routines.{AreRowsOf, HaveRows};
-ghost use Rattle.paw_effects.specs.Built.{IsOf};
 ghost use Rattle.paw_effects.specs.Story.{story_of};
 ghost use Rattle.paw_effects.specs.inner.Opening.{opening_world};
 ghost use Rattle.paw_effects.specs.Texts.{say_text};
@@ -13,12 +11,13 @@ ghost use Rattle.paw_reading.specs.Run.{line_dropped};
 ghost use Rattle.paw_reading.specs.Reading.{table_read};
 ghost use Rattle.paw_reading.specs.Turn.{saying, view_text, prompt_text, refusal_text, AtDescribe, AtFrame, AtPhrase};
 ghost use Rattle.paw_reading.specs.Turn.{AtResponse, prompts, connections, after_left, table_done, turn};
-ghost use Rattle.paw_process.specs.inner.OpenTables.{ReadsNone, IsClosed};
+ghost use Rattle.paw_process.specs.inner.OpenTables.{ReadsNone, IsClosed, new_machine};
 ghost use Rattle.paw_turn.specs.declared.stage.Stage.TheVariants as stage;
 ghost use Rattle.paw_turn.specs.declared.stage.Next.TheVariants as next;
 ghost use Rattle.paw_turn.specs.inner.Stages.{at_stage, turn_settled, opened_piece, Moves};
 ghost use Rattle.paw_turn.specs.inner.Stages.{ReadsTurn, Plays, MovesAfter};
-ghost use Rattle.paw_turn.specs.inner.Stages.{IsPlayable, HasReadSome, KeepsGame, StopsInTable, left_of, work, Falls};
+ghost use Rattle.paw_turn.specs.inner.Stages.{IsPlayable, MayGoOn, HasReadSome, Stays, KeepsGame, StopsInTable};
+ghost use Rattle.paw_turn.specs.inner.Stages.{with_piece, left_of, work, Falls};
 ghost use Rattle.paw_turn.specs.inner.Stages.{or_spent, table_rank, FallsAfter, RunsAs, from_table, Uses};
 
 use crate::stage::{Next, Stage};
@@ -35,7 +34,7 @@ use paw_effects::opening::opening_world;
 use paw_effects::text::{place_text, put, say};
 use paw_game::tables::Tables;
 use paw_phrase::{Found, Pending};
-use paw_process::{Machine, Turned, take_phrase};
+use paw_process::{Machine, Situation, Turned, take_phrase};
 use paw_routines::routines::Routines;
 use paw_world::world::World;
 
@@ -48,13 +47,11 @@ const DESCRIBED_TABLE: u8 = 1;
 /// The table that is read in each frame.
 const FRAME_TABLE: u8 = 2;
 
-/// A turn in work: the world, what is left of the line, the machine, and the open piece.
+/// A turn in work: the situation that it changes, and the machine.
 #[derive(Drop)]
 pub(crate) struct Turn {
-    pub(crate) world: World,
-    pub(crate) pending: Pending,
+    pub(crate) situation: Situation,
     pub(crate) machine: Machine,
-    pub(crate) piece: Piece,
 }
 
 /// Goes on with a stage where the text was shown, and else the piece is spent.
@@ -72,25 +69,27 @@ impl Turn {
     /// A turn at the start of a game, with this piece.
     pub(crate) fn new<T: Tables>(tables: &T, seed: u64, piece: Piece) -> Turn
         ensures valid { Valid (T.game tables.now) }
-        ensures world { result.world ≡ opening_world (T.game tables.now) seed }
-        ensures pending { result.pending ≡ record { bytes = []; earlier = 255 } }
-        ensures machine { result.machine ≡ record { frames = []; turning = None; waiting = None; left = 200000; steps = no_steps } }
-        ensures piece { result.piece ≡ piece }
+        ensures world { result.situation.world ≡ opening_world (T.game tables.now) seed }
+        ensures pending { result.situation.pending ≡ record { bytes = []; earlier = 255 } }
+        ensures machine { result.machine ≡ new_machine }
+        ensures piece { result.situation.piece ≡ piece }
     {
         Turn {
-            world: opening_world(tables, seed),
-            pending: Pending::new(),
+            situation: Situation {
+                world: opening_world(tables, seed),
+                pending: Pending::new(),
+                piece,
+            },
             machine: Machine::new(),
-            piece,
         }
     }
 
     /// Goes back to the start of a game, with an empty piece.
     pub(crate) fn renew<T: Tables>(&mut self, tables: &T, seed: u64)
-        ensures world { self.new.world ≡ opening_world (T.game tables.now) seed }
-        ensures pending { self.new.pending ≡ record { bytes = []; earlier = 255 } }
-        ensures machine { self.new.machine ≡ record { frames = []; turning = None; waiting = None; left = 200000; steps = no_steps } }
-        ensures piece { self.new.piece ≡ [] }
+        ensures world { self.new.situation.world ≡ opening_world (T.game tables.now) seed }
+        ensures pending { self.new.situation.pending ≡ record { bytes = []; earlier = 255 } }
+        ensures machine { self.new.machine ≡ new_machine }
+        ensures piece { self.new.situation.piece ≡ [] }
     {
         let world = opening_world(tables, seed);
         self.seat(world, Machine::new(), Pending::new());
@@ -98,35 +97,38 @@ impl Turn {
 
     /// Goes on with these parts in the place of its own, and with an empty piece.
     pub(crate) fn seat(&mut self, world: World, machine: Machine, pending: Pending)
-        ensures value { self.new ≡ record { world = world; pending = pending; machine = machine; piece = [] } }
+        ensures value { self.new ≡ record {
+          situation = record { world = world; pending = pending; piece = [] };
+          machine = machine;
+        } }
     {
-        self.world = world;
+        self.situation.world = world;
         self.machine = machine;
-        self.pending = pending;
-        self.piece.clear();
+        self.situation.pending = pending;
+        self.situation.piece.clear();
     }
 
     /// Begins a new piece: it is empty, and may read all condacts that a piece may.
     pub(crate) fn open_piece(&mut self)
         ensures value { self.new ≡ opened_piece self.old }
     {
-        self.piece.clear();
+        self.situation.piece.clear();
         self.machine.refill();
     }
 
     /// Takes the text out of the piece.
     pub(crate) fn clear_piece(&mut self)
-        ensures value { self.new ≡ record self.old { piece = [] } }
+        ensures value { self.new ≡ with_piece [] self.old }
     {
-        self.piece.clear();
+        self.situation.piece.clear();
     }
 
     /// The text of the piece.
     pub(crate) fn piece(&self) -> &[u8]
-        ensures value { result.now ≡ self.now.piece }
+        ensures value { result.now ≡ self.now.situation.piece }
         ensures short { length result.now ≤ piece_limit }
     {
-        self.piece.bytes()
+        self.situation.piece.bytes()
     }
 
     /// Takes the text out of a piece of which nothing is to be shown.
@@ -135,64 +137,86 @@ impl Turn {
     {
         match step {
             Step::Waits(_) | Step::Ended => {}
-            Step::Spent(_) | Step::TooDeep { .. } => self.piece.clear(),
+            Step::Spent(_) | Step::TooDeep { .. } => self.situation.piece.clear(),
         }
+    }
+
+    /// Says a system message, unless the piece has no room for it.
+    fn put_message<T: Tables>(&mut self, tables: &T, message: u8) -> bool
+        ensures puts { Puts self.old.situation.piece self.new.situation.piece result
+            (say_text (T.game tables.now) self.old.situation.world message) }
+        ensures same { self.new ≡ with_piece self.new.situation.piece self.old }
+    {
+        say(
+            tables,
+            &self.situation.world,
+            &mut self.situation.piece,
+            message,
+        )
     }
 
     /// Says a system message, and goes on with a stage.
     pub(crate) fn say<T: Tables>(&mut self, tables: &T, message: u8, stage: Stage) -> Next
-        requires playable { IsPlayable (T.game tables.now) self.old }
-        requires closed { IsClosed self.old.machine }
+        requires ready { MayGoOn (T.game tables.now) self.old }
         ensures meaning { (X : List (List ℕ)) → let g = story_of (T.game tables.now) X in
-            Moves g (λ n r. saying (say_text (T.game tables.now) self.old.world message) (turn g n (at_stage stage)) r) self.old result self.new }
-        ensures same { self.new ≡ record self.old { piece = self.new.piece } }
+            Moves g
+            (λ n r. saying (say_text (T.game tables.now) self.old.situation.world message)
+            (turn g n (at_stage stage)) r)
+            self.old result self.new }
+        ensures same { self.new ≡ with_piece self.new.situation.piece self.old }
         ensures falls { Falls (work stage self.old + 1) result self.new }
         ensures keeps { KeepsGame (T.game tables.now) self.old result self.new }
     {
-        or_spent(say(tables, &self.world, &mut self.piece, message), stage)
+        or_spent(self.put_message(tables, message), stage)
     }
 
     /// Shows where the game is: in the dark without light that it is dark, else the location's text.
     fn show_view<T: Tables>(&mut self, tables: &T) -> bool
-        ensures puts { Puts self.old.piece self.new.piece result (view_text (T.game tables.now) self.old.world) }
-        ensures same { self.new ≡ record self.old { piece = self.new.piece } }
+        ensures puts { Puts self.old.situation.piece self.new.situation.piece result
+            (view_text (T.game tables.now) self.old.situation.world) }
+        ensures same { self.new ≡ with_piece self.new.situation.piece self.old }
     {
-        if flags::is_unlit(&self.world) {
-            say(tables, &self.world, &mut self.piece, DARK_MESSAGE)
+        if flags::is_unlit(&self.situation.world) {
+            self.put_message(tables, DARK_MESSAGE)
         } else {
             place_text(
                 tables,
-                &self.world,
-                &mut self.piece,
-                self.world.flag(LOCATION_FLAG),
+                &self.situation.world,
+                &mut self.situation.piece,
+                self.situation.world.flag(LOCATION_FLAG),
             )
         }
     }
 
     /// Shows the prompt.
     fn show_prompt<T: Tables>(&mut self, tables: &T) -> bool
-        ensures puts { Puts self.old.piece self.new.piece result (prompt_text (T.game tables.now) self.old.world) }
-        ensures same { self.new ≡ record self.old { piece = self.new.piece } }
+        ensures puts { Puts self.old.situation.piece self.new.situation.piece result
+            (prompt_text (T.game tables.now) self.old.situation.world) }
+        ensures same { self.new ≡ with_piece self.new.situation.piece self.old }
     {
-        let message = match self.world.flag(PROMPT_FLAG) {
+        let message = match self.situation.world.flag(PROMPT_FLAG) {
             0 => PROMPT_MESSAGE,
             message => message,
         };
-        say(tables, &self.world, &mut self.piece, message)
-            && put(tables, &self.world, &mut self.piece, LINE_MESSAGE)
+        self.put_message(tables, message)
+            && put(
+                tables,
+                &self.situation.world,
+                &mut self.situation.piece,
+                LINE_MESSAGE,
+            )
     }
 
     /// With no phrase left the prompt is shown, and the game waits for a line.
     fn prompt<T: Tables>(&mut self, tables: &T) -> Next
-        requires playable { IsPlayable (T.game tables.now) self.old }
-        requires closed { IsClosed self.old.machine }
+        requires ready { MayGoOn (T.game tables.now) self.old }
         ensures meaning { (X : List (List ℕ)) → let g = story_of (T.game tables.now) X in
             Moves g (λ n r. prompts g (turn g n AtFrame) (turn g n AtPhrase) r) self.old result self.new }
         ensures keeps { KeepsGame (T.game tables.now) self.old result self.new }
         ensures falls { (most : ℕ) → Falls most result self.new }
         ensures machine { self.new.machine ≡ self.old.machine }
     {
-        self.pending.drop_line();
+        self.situation.pending.drop_line();
         if self.show_prompt(tables) {
             Next::Stop(Step::Waits(Prompt::Main))
         } else {
@@ -202,16 +226,16 @@ impl Turn {
 
     /// No entry answered and no exit leads on: says so, drops the rest of the line, and goes on with the frame.
     fn refuse<T: Tables>(&mut self, tables: &T) -> Next
-        requires playable { IsPlayable (T.game tables.now) self.old }
-        requires closed { IsClosed self.old.machine }
+        requires ready { MayGoOn (T.game tables.now) self.old }
         ensures meaning { (X : List (List ℕ)) → let g = story_of (T.game tables.now) X in
-            Moves g (λ n r. saying (refusal_text (T.game tables.now) r.world) (turn g n AtFrame) (line_dropped r)) self.old result self.new }
+            Moves g (λ n r. saying (refusal_text (T.game tables.now) r.world) (turn g n AtFrame) (line_dropped r))
+            self.old result self.new }
         ensures keeps { KeepsGame (T.game tables.now) self.old result self.new }
         ensures falls { Falls (work stage.Response self.old) result self.new }
         ensures machine { self.new.machine ≡ self.old.machine }
     {
-        self.pending.drop_line();
-        let message = if self.world.flag(VERB_FLAG) < FIRST_PLAIN_VERB {
+        self.situation.pending.drop_line();
+        let message = if self.situation.world.flag(VERB_FLAG) < FIRST_PLAIN_VERB {
             NO_WAY_MESSAGE
         } else {
             IMPOSSIBLE_MESSAGE
@@ -221,17 +245,17 @@ impl Turn {
 
     /// Takes the exit for the verb, where the location has one.
     fn connect<T: Tables>(&mut self, tables: &T) -> Next
-        requires playable { IsPlayable (T.game tables.now) self.old }
-        requires closed { IsClosed self.old.machine }
+        requires ready { MayGoOn (T.game tables.now) self.old }
         ensures meaning { (X : List (List ℕ)) → let g = story_of (T.game tables.now) X in
             Moves g (λ n r. connections g (turn g n AtDescribe) (turn g n AtFrame) r) self.old result self.new }
         ensures keeps { KeepsGame (T.game tables.now) self.old result self.new }
         ensures falls { Falls (work stage.Response self.old) result self.new }
         ensures machine { self.new.machine ≡ self.old.machine }
     {
-        match tables.exit(self.world.flag(LOCATION_FLAG), self.world.flag(VERB_FLAG)) {
+        let here = self.situation.world.flag(LOCATION_FLAG);
+        match tables.exit(here, self.situation.world.flag(VERB_FLAG)) {
             Some(to) => {
-                self.world.set_flag(LOCATION_FLAG, to);
+                self.situation.world.set_flag(LOCATION_FLAG, to);
                 Next::Go(Stage::Describe)
             }
             None => self.refuse(tables),
@@ -240,8 +264,7 @@ impl Turn {
 
     /// Goes on after table 0, 1 or 2, which was left with an action carried out or not.
     fn after_left<T: Tables>(&mut self, tables: &T, table: u8, acted: bool) -> Next
-        requires playable { IsPlayable (T.game tables.now) self.old }
-        requires closed { IsClosed self.old.machine }
+        requires ready { MayGoOn (T.game tables.now) self.old }
         ensures meaning { (X : List (List ℕ)) → let g = story_of (T.game tables.now) X in
             Moves g (λ n r. after_left g (turn g n) table acted r) self.old result self.new }
         ensures keeps { KeepsGame (T.game tables.now) self.old result self.new }
@@ -253,7 +276,7 @@ impl Turn {
             0 => self.connect(tables),
             1 => Next::Go(Stage::Frame),
             _ => {
-                flags::frame(&mut self.world);
+                flags::frame(&mut self.situation.world);
                 Next::Go(Stage::Phrase)
             }
         }
@@ -263,7 +286,8 @@ impl Turn {
     pub(crate) fn after_table<T: Tables>(&mut self, tables: &T, table: u8, turned: Turned) -> Next
         requires playable { IsPlayable (T.game tables.now) self.old }
         requires stops { StopsInTable table turned self.old.machine }
-        ensures meaning { (X : List (List ℕ)) → MovesAfter (story_of (T.game tables.now) X) table turned self.old result self.new }
+        ensures meaning { (X : List (List ℕ)) →
+            MovesAfter (story_of (T.game tables.now) X) table turned self.old result self.new }
         ensures left { ReadsNone self.old.machine self.new.machine }
         ensures keeps { KeepsGame (T.game tables.now) self.old result self.new }
         ensures falls { FallsAfter table turned self.old result self.new }
@@ -286,23 +310,15 @@ impl Turn {
     ) -> Turned
         requires rows { HaveRows F.Fn routines.now }
         requires read { HasReadSome self.old.machine }
-        requires playable { IsPlayable (T.game tables.now) self.old }
-        requires closed { IsClosed self.old.machine }
+        requires ready { MayGoOn (T.game tables.now) self.old }
         ensures runs { (X : List (List ℕ)) → AreRowsOf F.Fn routines.now X → let g = story_of (T.game tables.now) X in
             RunsAs g (from_table g table self.old) self.old result self.new }
         ensures stops { StopsInTable table result self.new.machine }
         ensures uses { Uses result self.old self.new }
-        ensures world { IsOf (T.game tables.now) self.new.world }
-        ensures draws { self.new.world.draws + self.new.machine.left ≤ self.old.world.draws + self.old.machine.left }
+        ensures stays { Stays (T.game tables.now) self.old self.new }
     {
         self.machine.begin(table);
-        self.machine.run(
-            tables,
-            &mut self.world,
-            &mut self.pending,
-            routines,
-            &mut self.piece,
-        )
+        self.machine.run(tables, routines, &mut self.situation)
     }
 
     /// Reads table 0, 1 or 2, and goes on after it.
@@ -314,9 +330,9 @@ impl Turn {
     ) -> Next
         requires rows { HaveRows F.Fn routines.now }
         requires read { HasReadSome self.old.machine }
-        requires playable { IsPlayable (T.game tables.now) self.old }
-        requires closed { IsClosed self.old.machine }
-        ensures meaning { (X : List (List ℕ)) → AreRowsOf F.Fn routines.now X → let g = story_of (T.game tables.now) X in
+        requires ready { MayGoOn (T.game tables.now) self.old }
+        ensures meaning { (X : List (List ℕ)) → AreRowsOf F.Fn routines.now X →
+            let g = story_of (T.game tables.now) X in
             ReadsTurn g (λ n r. table_done g (turn g n) table (table_read g table r)) self.old result self.new }
         ensures keeps { KeepsGame (T.game tables.now) self.old result self.new }
         ensures falls { Falls (4 * left_of self.old + table_rank table) result self.new }
@@ -333,14 +349,14 @@ impl Turn {
     ) -> Next
         requires rows { HaveRows F.Fn routines.now }
         requires read { HasReadSome self.old.machine }
-        requires playable { IsPlayable (T.game tables.now) self.old }
-        requires closed { IsClosed self.old.machine }
-        ensures meaning { (X : List (List ℕ)) → AreRowsOf F.Fn routines.now X → let g = story_of (T.game tables.now) X in
+        requires ready { MayGoOn (T.game tables.now) self.old }
+        ensures meaning { (X : List (List ℕ)) → AreRowsOf F.Fn routines.now X →
+            let g = story_of (T.game tables.now) X in
             ReadsTurn g (λ n r. turn g (suc n) AtDescribe r) self.old result self.new }
         ensures keeps { KeepsGame (T.game tables.now) self.old result self.new }
         ensures falls { Falls (work stage.Describe self.old) result self.new }
     {
-        flags::describe(&mut self.world);
+        flags::describe(&mut self.situation.world);
         if self.show_view(tables) {
             self.read_table(tables, routines, DESCRIBED_TABLE)
         } else {
@@ -351,21 +367,24 @@ impl Turn {
     /// Takes the next phrase. A sentence counts a turn; at a phrase with no known word message 6 is said, and the rest
     /// of the line is dropped; with none left comes the prompt.
     fn phrase<T: Tables>(&mut self, tables: &T) -> Next
-        requires playable { IsPlayable (T.game tables.now) self.old }
-        requires closed { IsClosed self.old.machine }
+        requires ready { MayGoOn (T.game tables.now) self.old }
         ensures meaning { (X : List (List ℕ)) → let g = story_of (T.game tables.now) X in
             Moves g (λ n r. turn g (suc n) AtPhrase r) self.old result self.new }
         ensures keeps { KeepsGame (T.game tables.now) self.old result self.new }
         ensures falls { Falls (work stage.Phrase self.old) result self.new }
         ensures machine { self.new.machine ≡ self.old.machine }
     {
-        match take_phrase(tables, &mut self.world, &mut self.pending) {
+        match take_phrase(
+            tables,
+            &mut self.situation.world,
+            &mut self.situation.pending,
+        ) {
             Found::Sentence => {
-                flags::count_turn(&mut self.world);
+                flags::count_turn(&mut self.situation.world);
                 Next::Go(Stage::Response)
             }
             Found::Nothing => {
-                self.pending.drop_line();
+                self.situation.pending.drop_line();
                 self.say(tables, UNKNOWN_MESSAGE, Stage::Frame)
             }
             Found::Empty => self.prompt(tables),
@@ -381,9 +400,9 @@ impl Turn {
     ) -> Next
         requires rows { HaveRows F.Fn routines.now }
         requires read { HasReadSome self.old.machine }
-        requires playable { IsPlayable (T.game tables.now) self.old }
-        requires closed { IsClosed self.old.machine }
-        ensures meaning { (X : List (List ℕ)) → AreRowsOf F.Fn routines.now X → let g = story_of (T.game tables.now) X in
+        requires ready { MayGoOn (T.game tables.now) self.old }
+        ensures meaning { (X : List (List ℕ)) → AreRowsOf F.Fn routines.now X →
+            let g = story_of (T.game tables.now) X in
             ReadsTurn g (λ n r. turn g (suc n) (at_stage stage) r) self.old result self.new }
         ensures keeps { KeepsGame (T.game tables.now) self.old result self.new }
         ensures falls { Falls (work stage self.old) result self.new }
@@ -405,8 +424,7 @@ impl Turn {
     ) -> Step
         requires rows { HaveRows F.Fn routines.now }
         requires read { HasReadSome self.old.machine }
-        requires playable { IsPlayable (T.game tables.now) self.old }
-        requires closed { IsClosed self.old.machine }
+        requires ready { MayGoOn (T.game tables.now) self.old }
         ensures meaning { (X : List (List ℕ)) → AreRowsOf F.Fn routines.now X →
             Plays (story_of (T.game tables.now) X) first self.old (next.Stop result) self.new }
         ensures keeps { KeepsGame (T.game tables.now) self.old (next.Stop result) self.new }

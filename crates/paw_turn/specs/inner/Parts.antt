@@ -1,7 +1,6 @@
 -- The parts of a player: what is lent of it, and a player that stands with such parts.
 use Rattle.std.specs.Prelude.{◌≡◌, ℕ, ◌<◌, List, [], None, length, reverse}
 use Rattle.paw_base.specs.Steps.{KeptSteps}
-use Rattle.paw_base.specs.inner.Steps.{no_steps}
 use Rattle.paw_game.specs.Game.{GameLists}
 use Rattle.paw_world.specs.World.{World}
 use Rattle.paw_phrase.specs.Pending.{PendingLine}
@@ -15,6 +14,7 @@ use Rattle.paw_reading.specs.Turn.{on}
 use Rattle.paw_reading.specs.Bounds.{IsLine}
 use Rattle.paw_process.specs.OpenTables.{OpenTables}
 use Rattle.paw_process.specs.Kept.{kept, frames_fault}
+use Rattle.paw_process.specs.inner.OpenTables.{refilled}
 use Rattle.paw_process.specs.inner.Kept.{restored, waiting_at}
 use Rattle.paw_process.specs.inner.Kept.{StandsAt as MachineStandsAt}
 use Rattle.paw_process.specs.declared.kept.Frames.{Frames}
@@ -39,7 +39,15 @@ pub record Fits (g : GameLists) (w : World) (m : OpenTables) (p : PendingLine) (
 
 -- the player of a game that stands at a prompt with these parts, and shows no piece
 abbrev pub seat_at : {F : Type 0} → GameLists → Routines F → World → OpenTables → PendingLine → Prompt → Seat F
-seat_at g routines w m p at = record { game = g; routines = routines; world = w; pending = p; machine = m; piece = []; last = prompt_step at }
+seat_at g routines w m p at = record {
+  game = g;
+  routines = routines;
+  world = w;
+  pending = p;
+  machine = m;
+  piece = [];
+  last = prompt_step at;
+}
 
 -- ---- laws ----
 
@@ -57,25 +65,28 @@ pub record IsPending (m : OpenTables) (p : PendingLine) : Type 0 where
 -- a world of the game, a machine that was restored for it, and what may be pending there fit the game
 abbrev pub RestoredFits : Type 0
 RestoredFits =
-    (g : GameLists) (at : Prompt) (k : Frames) (w : World) (m : OpenTables) (p : PendingLine) → IsWorldOf g w → IsPending m p →
-    length k.rows ≡ 11 → m ≡ restored k (waiting_at at) → MachineStandsAt at m → frames_fault g at k ≡ None → Fits g w m p at
+    (g : GameLists) (at : Prompt) (k : Frames) (w : World) (m : OpenTables) (p : PendingLine) →
+    IsWorldOf g w → IsPending m p → length k.rows ≡ 11 →
+    m ≡ restored k (waiting_at at) → MachineStandsAt at m → frames_fault g at k ≡ None → Fits g w m p at
 
 -- the player that stands with what is kept of a player's machine, and with its other parts
 abbrev pub seated_again : {F : Type 0} → Seat F → Seat F
 seated_again p =
-    seat_at p.game p.routines p.world (restored (kept p.machine) (waiting_at (prompt_at p.last))) p.pending (prompt_at p.last)
+    let at = prompt_at p.last in
+    seat_at p.game p.routines p.world (restored (kept p.machine) (waiting_at at)) p.pending at
 
 -- it is the same player, but that it shows no piece and keeps no steps, and its budget is full
 abbrev pub SeatedAgain : Type 0 → Type 0
 SeatedAgain F =
     (p : Seat F) → IsSeated p → IsStanding p.last →
-    seated_again p ≡ record p { piece = []; machine = record p.machine { left = 200000; steps = no_steps } }
+    seated_again p ≡ record p { piece = []; machine = refilled p.machine }
 
 -- what lines lead to depends on neither the last piece, nor the budget that it left, nor its steps: each line opens a
 -- piece of its own
 abbrev pub GoesOnAlike : Type 0 → Type 0
 GoesOnAlike F =
-    (g : Story) (p : Seat F) (at : Prompt) (piece : List ℕ) (left : ℕ) (steps : KeptSteps) (pieces : List (List ℕ)) (traces : List (List Read))
-    (lines : List (List ℕ)) →
-    on g at (reverse p.machine.frames) (run_at (record p { piece = piece; machine = record p.machine { left = left; steps = steps } }) pieces traces lines)
+    (g : Story) (p : Seat F) (at : Prompt) (piece : List ℕ) (left : ℕ) (steps : KeptSteps)
+    (pieces : List (List ℕ)) (traces : List (List Read)) (lines : List (List ℕ)) →
+    let other : Seat F = record p { piece = piece; machine = record p.machine { left = left; steps = steps } } in
+    on g at (reverse p.machine.frames) (run_at other pieces traces lines)
     ≡ on g at (reverse p.machine.frames) (run_at p pieces traces lines)

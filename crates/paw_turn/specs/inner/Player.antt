@@ -1,6 +1,6 @@
 -- What a player's answers mean in the reading.
-use Rattle.std.specs.Prelude.{◌≡◌, ℕ, List, [], ◌∷◌, ◌++◌, Option, None, length, reverse, IfSome}
-use Rattle.paw_base.specs.inner.Steps.{no_steps, kept_steps}
+use Rattle.std.specs.Prelude.{◌≡◌, ℕ, List, [], ◌∷◌, ◌++◌, Option, reverse, IfSome}
+use Rattle.paw_base.specs.inner.Steps.{kept_steps}
 use Rattle.paw_game.specs.Game.{GameLists}
 use Rattle.paw_game.specs.Valid.{Valid}
 use Rattle.paw_world.specs.World.{World}
@@ -16,7 +16,7 @@ use Rattle.paw_reading.specs.Reading.{Halt, IsOver, RunsOut, CallsTooDeep}
 use Rattle.paw_reading.specs.Turn.{Ending, Halted, first_table, on}
 use Rattle.paw_reading.specs.inner.Places.{StandsRightly}
 use Rattle.paw_process.specs.OpenTables.{OpenTables}
-use Rattle.paw_process.specs.inner.OpenTables.{IsWaiting, IsClosed}
+use Rattle.paw_process.specs.inner.OpenTables.{IsWaiting, IsClosed, new_machine}
 use Rattle.paw_turn.specs.declared.Step.{Step}
 use Rattle.paw_turn.specs.declared.Step.TheVariants as step
 
@@ -59,10 +59,12 @@ PlayHalts whole halt new pieces traces =
 -- Playing on in a story comes to this: whatever lines come after, the whole reading of them goes on from the player's
 -- prompt with one piece more; or is over with one piece more, as the player stands; or is spent, or a call is too deep,
 -- with no piece more and none to show. Of what was read in the piece that was closed the player keeps the steps
-abbrev pub PlaysTo : {F : Type 0} → Story → (List (List ℕ) → Ending) → Step → Seat F → List (List ℕ) → List (List Read) → Type 0
+abbrev pub PlaysTo : {F : Type 0} → Story → (List (List ℕ) → Ending) → Step → Seat F → List (List ℕ) →
+    List (List Read) → Type 0
 PlaysTo g whole (step.Waits p) new pieces traces =
     (read : List Read) × ((new.machine.steps ≡ kept_steps read) × ((lines : List (List ℕ)) →
-    whole lines ≡ on g p (reverse new.machine.frames) (run_at new (pieces ++ new.piece ∷ []) (traces ++ read ∷ []) lines)))
+    whole lines
+    ≡ on g p (reverse new.machine.frames) (run_at new (pieces ++ new.piece ∷ []) (traces ++ read ∷ []) lines)))
 PlaysTo g whole step.Ended new pieces traces =
     (read : List Read) × ((new.machine.steps ≡ kept_steps read) × ((lines : List (List ℕ)) →
     whole lines ≡ Halted IsOver (run_at new (pieces ++ new.piece ∷ []) (traces ++ read ∷ []) lines)))
@@ -128,5 +130,5 @@ pub record IsSeated {F : Type 0} (p : Seat F) : Type 0 where
 pub record IsNew {F : Type 0} (p : Seat F) (seed : ℕ) : Type 0 where
   pub world : p.world ≡ opening_world p.game seed
   pub pending : p.pending ≡ record { bytes = []; earlier = 255 }
-  pub machine : p.machine ≡ record { frames = []; turning = None; waiting = None; left = 200000; steps = no_steps }
+  pub machine : p.machine ≡ new_machine
   pub piece : p.piece ≡ []

@@ -1,24 +1,25 @@
 -- What the stages of a turn come to in the reading. The contracts of private functions alone speak of this.
-use Rattle.std.specs.Prelude.{◌≡◌, ℕ, zero, suc, ◌+◌, ◌*◌, ◌<◌, ◌≤◌, ◌^◌, Bool, List}
+use Rattle.std.specs.Prelude.{◌≡◌, ℕ, zero, suc, ◌+◌, ◌*◌, ◌<◌, ◌≤◌, ◌^◌, Bool, List, Option}
 use Rattle.std.specs.Prelude.{[], ◌∷◌, ◌++◌, length, reverse, if◌then◌else◌}
 use Rattle.paw_base.specs.declared.fault.SpentKind.TheVariants as spent
 use Rattle.paw_game.specs.Game.{GameLists}
-use Rattle.paw_base.specs.inner.Steps.{no_steps}
+use Rattle.paw_game.specs.Valid.{Valid}
 use Rattle.paw_world.specs.World.{World}
+use Rattle.paw_phrase.specs.Pending.{PendingLine}
 use Rattle.paw_routines.specs.declared.routines.Routines.{Routines}
 use Rattle.paw_effects.specs.declared.act.Prompt.{Prompt}
 use Rattle.paw_effects.specs.declared.act.Prompt.TheVariants as prompt
 use Rattle.paw_effects.specs.Built.{IsOf}
 use Rattle.paw_effects.specs.Story.{Story}
 use Rattle.paw_reading.specs.declared.places.Frame.{Frame}
+use Rattle.paw_reading.specs.declared.places.OpenLoop.{OpenLoop}
 use Rattle.paw_reading.specs.Run.{Run, Step as Read, closed}
 use Rattle.paw_reading.specs.Reading.{Halt, IsOver, RunsOut, CallsTooDeep, Out, table_read}
 use Rattle.paw_reading.specs.GoingOn.{on_path}
 use Rattle.paw_reading.specs.Turn.{Ending, Halted, AtDescribe, AtFrame, AtPhrase, AtResponse}
-use Rattle.paw_reading.specs.Turn.{table_done, turn, first_table, goes_on}
-use Rattle.paw_reading.specs.Turn.{Ending, Halted, Stage as TurnStage}
+use Rattle.paw_reading.specs.Turn.{table_done, turn, first_table, goes_on, Stage as TurnStage}
 use Rattle.paw_process.specs.OpenTables.{OpenTables}
-use Rattle.paw_process.specs.inner.OpenTables.{HasRead, IsClosed}
+use Rattle.paw_process.specs.inner.OpenTables.{HasRead, IsClosed, refilled}
 use Rattle.paw_process.specs.inner.Meaning.{SamePast, ComesTo}
 use Rattle.paw_process.specs.declared.Turned.{Turned}
 use Rattle.paw_process.specs.declared.Turned.TheVariants as turned
@@ -29,7 +30,7 @@ use Rattle.paw_turn.specs.declared.stage.Stage.TheVariants as stage
 use Rattle.paw_turn.specs.declared.stage.Next.{Next}
 use Rattle.paw_turn.specs.declared.stage.Next.TheVariants as next
 use Rattle.paw_turn.specs.declared.turn.Turn.{Turn}
-use Rattle.paw_turn.specs.inner.Player.{Seat, WaitsIn, StandsClosed}
+use Rattle.paw_turn.specs.inner.Player.{Seat, WaitsIn, StandsAt, StandsClosed}
 
 -- ---- runs ----
 
@@ -39,19 +40,26 @@ pub record Past : Type 0 where
   pub pieces : List (List ℕ)
   pub traces : List (List Read)
 
--- the run that shows what is held, with this past and these lines to come
-abbrev pub run_now : Turn → Past → List (List ℕ) → Run
-run_now h past lines = record {
-  world = h.world;
-  pending = h.pending.bytes;
-  earlier = h.pending.earlier;
-  turning = h.machine.turning;
-  current = h.piece;
+-- the run with this world, this pending line and its earlier verb, this open loop, this text in the open piece, this
+-- past, and these lines to come
+abbrev pub run_from : World → List ℕ → ℕ → Option OpenLoop → List ℕ → Past → List (List ℕ) → Run
+run_from w bytes earlier turning text past lines = record {
+  world = w;
+  pending = bytes;
+  earlier = earlier;
+  turning = turning;
+  current = text;
   read = past.read;
   pieces = past.pieces;
   traces = past.traces;
   events = lines;
 }
+
+-- the run that shows what is held, with this past and these lines to come
+abbrev pub run_now : Turn → Past → List (List ℕ) → Run
+run_now h past lines =
+    let s = h.situation in
+    run_from s.world s.pending.bytes s.pending.earlier h.machine.turning s.piece past lines
 
 -- the open piece has read some condacts
 abbrev pub HasReadSome : OpenTables → Type 0
@@ -94,13 +102,15 @@ Moves g x old next new =
 -- what x says leads from what was held to what is held now: there is what the open piece has read by then
 abbrev pub ReadsTurn : Story → (ℕ → Run → Ending) → Turn → Next → Turn → Type 0
 ReadsTurn g x old next new =
-    (past : Past) → HasRead past.read old.machine → (read : List Read) × (HasRead read new.machine × ((n : ℕ) (lines : List (List ℕ)) →
+    (past : Past) → HasRead past.read old.machine → (read : List Read) × (HasRead read new.machine
+    × ((n : ℕ) (lines : List (List ℕ)) →
     GoesOnAs g n next new.machine.frames (run_now new (having_read read past) lines) (x n (run_now old past lines))))
 
 -- a whole, of which more may be granted, leads from what was held to what is held now
 abbrev pub PlaysAs : Story → (ℕ → Past → List (List ℕ) → Ending) → Turn → Next → Turn → Type 0
 PlaysAs g whole old next new =
-    (past : Past) → HasRead past.read old.machine → (read : List Read) × (HasRead read new.machine × ((n : ℕ) (lines : List (List ℕ)) →
+    (past : Past) → HasRead past.read old.machine → (read : List Read) × (HasRead read new.machine
+    × ((n : ℕ) (lines : List (List ℕ)) →
     (m : ℕ) × GoesOnAs g n next new.machine.frames (run_now new (having_read read past) lines) (whole m past lines)))
 
 -- the turn from a stage on
@@ -118,7 +128,8 @@ Plays g first old next new = PlaysAs g (from_stage g first old) old next new
 -- the machine has read what x says, from what was held to a stop
 abbrev pub RunsAs : Story → (Past → List (List ℕ) → Out) → Turn → Turned → Turn → Type 0
 RunsAs g x old turned new =
-    (past : Past) → HasRead past.read old.machine → (steps : List Read) × (HasRead (past.read ++ steps) new.machine × ((lines : List (List ℕ)) →
+    (past : Past) → HasRead past.read old.machine → (steps : List Read) × (HasRead (past.read ++ steps) new.machine
+    × ((lines : List (List ℕ)) →
     ComesTo g turned new.machine.frames (run_now new (having_read (past.read ++ steps) past) lines) (x past lines)))
 
 -- a table from its start
@@ -132,16 +143,29 @@ from_path g p h line past lines = on_path g p 0 (reverse h.machine.frames) (run_
 -- a table at level 0 came to what the machine turned out; the turn goes on from there, and no condact is read
 abbrev pub MovesAfter : Story → ℕ → Turned → Turn → Next → Turn → Type 0
 MovesAfter g t turned old next new =
-    (past : Past) (n : ℕ) (lines : List (List ℕ)) (x : Out) → ComesTo g turned old.machine.frames (run_now old past lines) x →
+    (past : Past) (n : ℕ) (lines : List (List ℕ)) (x : Out) →
+    ComesTo g turned old.machine.frames (run_now old past lines) x →
     GoesOnAs g n next new.machine.frames (run_now new past lines) (table_done g (turn g n) t x)
 
 -- ---- what stands between two stages ----
 
 -- the world is the game's, and it can make all draws that the piece may still ask for
 pub record IsPlayable (g : GameLists) (h : Turn) : Type 0 where
-  pub world : IsOf g h.world
+  pub world : IsOf g h.situation.world
   pub budget : h.machine.left ≤ 200000
-  pub draws : h.world.draws + h.machine.left < 2 ^ 64
+  pub draws : h.situation.world.draws + h.machine.left < 2 ^ 64
+
+-- a stage may begin: no table is open
+pub record MayGoOn (g : GameLists) (h : Turn) : Type 0 where
+  pub playable : IsPlayable g h
+  pub closed : IsClosed h.machine
+
+-- a line may be taken at this prompt
+pub record MayHear (g : GameLists) (p : Prompt) (h : Turn) : Type 0 where
+  pub valid : Valid g
+  pub read : HasReadSome h.machine
+  pub playable : IsPlayable g h
+  pub stands : StandsAt p h.machine
 
 -- before the next stage no table is open, and after a stop the machine stands as it does there
 abbrev pub StandsBefore : Next → OpenTables → Type 0
@@ -149,11 +173,15 @@ StandsBefore (next.Go s) m = IsClosed m
 StandsBefore (next.Stop step) m = StandsClosed step m
 
 -- the world is the game's still, and each draw is paid for by a condact
-pub record KeepsGame (g : GameLists) (old : Turn) (next : Next) (new : Turn) : Type 0 where
-  pub world : IsOf g new.world
-  pub machine : StandsBefore next new.machine
+pub record Stays (g : GameLists) (old new : Turn) : Type 0 where
+  pub world : IsOf g new.situation.world
   pub left : new.machine.left ≤ old.machine.left
-  pub draws : new.world.draws + new.machine.left ≤ old.world.draws + old.machine.left
+  pub draws : new.situation.world.draws + new.machine.left ≤ old.situation.world.draws + old.machine.left
+
+-- so it is after a stage, and the machine stands as what comes next wants it
+pub record KeepsGame (g : GameLists) (old : Turn) (next : Next) (new : Turn) : Type 0 where
+  pub stays : Stays g old new
+  pub machine : StandsBefore next new.machine
 
 -- the machine waits at a prompt in this table
 abbrev pub WaitsInTable : ℕ → Prompt → OpenTables → Type 0
@@ -175,7 +203,7 @@ StopsInTable t (turned.TooDeep u) m = IsClosed m
 
 -- how much may still be read
 abbrev pub left_of : Turn → ℕ
-left_of h = length h.pending.bytes + h.machine.left
+left_of h = length h.situation.pending.bytes + h.machine.left
 
 abbrev pub rank : Stage → ℕ
 rank stage.Phrase = 1
@@ -251,7 +279,27 @@ AwaitsAt prompt.Over m = ⊥
 
 -- what a player is seen as
 abbrev pub seat_of : {F : Type 0} → GameLists → Routines F → Turn → Step → Seat F
-seat_of g routines h last = record { game = g; routines = routines; world = h.world; pending = h.pending; machine = h.machine; piece = h.piece; last = last }
+seat_of g routines h last = record {
+  game = g;
+  routines = routines;
+  world = h.situation.world;
+  pending = h.situation.pending;
+  machine = h.machine;
+  piece = h.situation.piece;
+  last = last;
+}
+
+-- with this world
+abbrev pub in_world : World → Turn → Turn
+in_world w h = record h { situation = record h.situation { world = w } }
+
+-- with this world and this pending line
+abbrev pub with_line : World → PendingLine → Turn → Turn
+with_line w p h = record h { situation = record h.situation { world = w; pending = p } }
+
+-- with this piece
+abbrev pub with_piece : List ℕ → Turn → Turn
+with_piece piece h = record h { situation = record h.situation { piece = piece } }
 
 -- nothing is shown of a piece that is spent, or in which a call is too deep
 abbrev pub shown : Step → List ℕ → List ℕ
@@ -261,8 +309,8 @@ shown (step.Spent kind) piece = []
 shown (step.TooDeep u) piece = []
 
 abbrev pub turn_settled : Step → Turn → Turn
-turn_settled step h = record h { piece = shown step h.piece }
+turn_settled step h = with_piece (shown step h.situation.piece) h
 
 -- a new piece may be read
 abbrev pub opened_piece : Turn → Turn
-opened_piece h = record h { piece = []; machine = record h.machine { left = 200000; steps = no_steps } }
+opened_piece h = record h { situation = record h.situation { piece = [] }; machine = refilled h.machine }

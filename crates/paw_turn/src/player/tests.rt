@@ -16,7 +16,7 @@ use paw_base::steps::StepRow;
 use paw_effects::act::Prompt;
 use paw_game::game::Game;
 use paw_phrase::Pending;
-use paw_process::Machine;
+use paw_process::{Machine, Situation};
 use paw_routines::routines::Routines;
 use std::alloc::Global;
 use std::process::Abort;
@@ -199,7 +199,8 @@ fn taken_up<'a, F: Fn(u8, u8) -> u8>(
     let frames = player.parts().machine.frames();
     let machine = Machine::restore(game, &frames, prompt)?;
     let Player { turn, .. } = player;
-    let Turn { world, pending, .. } = turn;
+    let Turn { situation, .. } = turn;
+    let Situation { world, pending, .. } = situation;
     let pending = Pending::of(pending.bytes(), pending.earlier());
     if between == Between::Adopting {
         let other = Player::adopt(alloc, game, routines, world, machine, pending, prompt)?;

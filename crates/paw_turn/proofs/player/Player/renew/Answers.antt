@@ -5,4 +5,5 @@ use Rattle.paw_turn.proofs.player.Player.renew.Goals as goal
 
 pub returns-clause-seated : goal.returns-clause-seated
 returns-clause-seated g c =
-    renewed c.args.self.now _ c.args.seed c.requires.seated (ap (λ (s : Seat g.row.F.Denot). s.game) c.self.view_is) c.renew.ensures.world c.renew.ensures.pending c.renew.ensures.machine refl
+    renewed c.args.self.now _ c.args.seed c.requires.seated (ap (λ (s : Seat g.row.F.Denot). s.game) c.self.view_is)
+    c.renew.ensures.world c.renew.ensures.pending c.renew.ensures.machine refl

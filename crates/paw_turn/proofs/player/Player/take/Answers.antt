@@ -26,10 +26,14 @@ returns-clause-meaning g c X rows = λ p waits pieces traces.
     let new = c.take-step.new.self in
     let s = c.take-step.result in
     let line = c.args.line.now in
-    let same = same_prompt c.in-Waits.prompt p c.self.inside.last c.args.self.now.last c.in-Waits.is (ap (λ (q : Seat g.row.F.Denot). q.last) c.self.view_is) waits in
-    let asked = subst (λ (q : Prompt). PlaysAs (story_of own X) (from_prompt (story_of own X) q c.open_piece.new.self line) c.open_piece.new.self (next.Stop s) new) same (c.take-step.ensures.meaning X own_rows) in
-    let plays = subst (λ (h : Turn). PlaysAs (story_of own X) (from_prompt (story_of own X) p h line) h (next.Stop s) new) c.open_piece.ensures.value asked in
-    let Told : Seat g.row.F.Denot → Turn → Type 0 = λ q h. PlaysTo (story_of q.game X) (λ lines. on (story_of q.game X) p (reverse q.machine.frames) (run_at q pieces traces (line ∷ lines))) s (seat_of own routines h s) pieces traces in
+    let same = same_prompt c.in-Waits.prompt p c.self.inside.last c.args.self.now.last c.in-Waits.is
+    (ap (λ (q : Seat g.row.F.Denot). q.last) c.self.view_is) waits in
+    let From : Prompt → Turn → Type 0 = λ q h. PlaysAs (story_of own X) (from_prompt (story_of own X) q h line) h (next.Stop s) new in
+    let asked = subst (λ (q : Prompt). From q c.open_piece.new.self) same (c.take-step.ensures.meaning X own_rows) in
+    let plays = subst (λ (h : Turn). From p h) c.open_piece.ensures.value asked in
+    let Told : Seat g.row.F.Denot → Turn → Type 0 = λ q h.
+    PlaysTo (story_of q.game X) (λ lines. on (story_of q.game X) p (reverse q.machine.frames) (run_at q pieces traces (line ∷ lines))) s
+    (seat_of own routines h s) pieces traces in
     subst (Told c.args.self.now) (sym c.settle.ensures.value)
     (subst (λ (q : Seat g.row.F.Denot). Told q (turn_settled s new)) c.self.view_is (take_plays (story_of own X) routines p old new line s pieces traces plays))
 

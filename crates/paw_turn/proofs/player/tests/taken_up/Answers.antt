@@ -17,9 +17,12 @@ adopt-requires g c =
     let bytes = c.bytes.ensures.value ∙ ap (λ (p : Seat g.row.F.Denot). p.pending.bytes) c.player.view_is in
     let earlier = c.earlier.ensures.value ∙ ap (λ (p : Seat g.row.F.Denot). p.pending.earlier) c.player.view_is in
     let Line : List ℕ → ℕ → PendingLine = λ b e. record { bytes = b; earlier = e } in
-    let pending : c.of-pending.result ≡ player.pending = c.of-pending.ensures.value ∙ (ap (λ (b : List ℕ). Line b c.earlier.result) bytes ∙ ap (Line player.pending.bytes) earlier) in
+    let pending : c.of-pending.result ≡ player.pending = c.of-pending.ensures.value ∙
+    (ap (λ (b : List ℕ). Line b c.earlier.result) bytes ∙ ap (Line player.pending.bytes) earlier) in
     record {
-      fits = same_fits player c.args.game.now c.player.inside.turn.world c.in_ok-machine.machine c.of-pending.result c.parts-prompt.result.prompt c.requires.seated standing
+      fits =
+          same_fits player c.args.game.now c.player.inside.turn.situation.world c.in_ok-machine.machine c.of-pending.result c.parts-prompt.result.prompt
+          c.requires.seated standing
           (sym c.requires.game) (ap (λ (p : Seat g.row.F.Denot). p.world) c.player.view_is) machine pending c.parts-prompt.ensures.prompt;
     }
 
@@ -32,6 +35,9 @@ seat-requires-clause-fits g c =
     let bytes = c.bytes.ensures.value ∙ ap (λ (p : Seat g.row.F.Denot). p.pending.bytes) c.player.view_is in
     let earlier = c.earlier.ensures.value ∙ ap (λ (p : Seat g.row.F.Denot). p.pending.earlier) c.player.view_is in
     let Line : List ℕ → ℕ → PendingLine = λ b e. record { bytes = b; earlier = e } in
-    let pending : c.of-pending.result ≡ player.pending = c.of-pending.ensures.value ∙ (ap (λ (b : List ℕ). Line b c.earlier.result) bytes ∙ ap (Line player.pending.bytes) earlier) in
-    same_fits player c.start.new.self.game c.player.inside.turn.world c.in_ok-machine.machine c.of-pending.result c.parts-prompt.result.prompt c.requires.seated standing
-    (c.start.ensures.game ∙ (c.in_ok-other-2.ensures.game ∙ sym c.requires.game)) (ap (λ (p : Seat g.row.F.Denot). p.world) c.player.view_is) machine pending c.parts-prompt.ensures.prompt
+    let pending : c.of-pending.result ≡ player.pending = c.of-pending.ensures.value ∙
+    (ap (λ (b : List ℕ). Line b c.earlier.result) bytes ∙ ap (Line player.pending.bytes) earlier) in
+    same_fits player c.start.new.self.game c.player.inside.turn.situation.world c.in_ok-machine.machine c.of-pending.result c.parts-prompt.result.prompt
+    c.requires.seated standing
+    (c.start.ensures.game ∙ (c.in_ok-other-2.ensures.game ∙ sym c.requires.game)) (ap (λ (p : Seat g.row.F.Denot). p.world) c.player.view_is)
+    machine pending c.parts-prompt.ensures.prompt

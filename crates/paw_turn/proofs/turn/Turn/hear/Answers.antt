@@ -5,7 +5,8 @@ use Rattle.paw_turn.proofs.turn.Turn.hear.Goals as goal
 
 pub returns-then-is_ignored-clause-meaning : goal.returns-then-is_ignored-clause-meaning
 returns-then-is_ignored-clause-meaning g c X rows =
-    ignored_plays (story_of (g.T.Tables.game c.args.tables.now) X) c.args.prompt c.args.self.now c.args.line.now c.requires.stands (sym c.if-is_ignored.ensures.value)
+    ignored_plays (story_of (g.T.Tables.game c.args.tables.now) X) c.args.prompt c.args.self.now c.args.line.now c.requires.ready.stands
+    (sym c.if-is_ignored.ensures.value)
 
 pub returns-in-Main-clause-meaning : goal.returns-in-Main-clause-meaning
 returns-in-Main-clause-meaning g c X rows = rw c.in-Main.is (c.hear_line.ensures.meaning X)

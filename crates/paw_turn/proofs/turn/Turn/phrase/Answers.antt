@@ -3,11 +3,12 @@ use Rattle.paw_effects.specs.Story.{story_of}
 use Rattle.paw_phrase.specs.Pending.{PendingLine}
 use Rattle.paw_turn.proofs.Phrasing.{sentence_moves, unknown_moves, none_moves, sentence_shorter, unknown_shorter}
 use Rattle.paw_turn.proofs.Falling.{falls_up}
+use Rattle.paw_turn.specs.inner.Stages.{with_line}
 use Rattle.paw_turn.proofs.turn.Turn.phrase.Goals as goal
 
 pub returns-in-Sentence-clause-meaning : goal.returns-in-Sentence-clause-meaning
 returns-in-Sentence-clause-meaning g c X =
-    sentence_moves (story_of (g.T.Tables.game c.args.tables.now) X) c.args.self.now (record { world = c.count_turn.new.world; pending = c.take_phrase.new.pending; machine = c.args.self.now.machine; piece = c.args.self.now.piece })
+    sentence_moves (story_of (g.T.Tables.game c.args.tables.now) X) c.args.self.now (with_line c.count_turn.new.world c.take_phrase.new.pending c.args.self.now)
     c.take_phrase.new.world c.in-Sentence.ensures.value c.count_turn.ensures.value refl refl
 
 pub returns-in-Sentence-clause-falls : goal.returns-in-Sentence-clause-falls
@@ -27,5 +28,6 @@ returns-in-Nothing-clause-falls g c =
 pub returns-in-Empty-clause-meaning : goal.returns-in-Empty-clause-meaning
 returns-in-Empty-clause-meaning g c X =
     let v = c.in-Empty.ensures.value in
-    none_moves (story_of (g.T.Tables.game c.args.tables.now) X) c.args.self.now c.prompt.new.self c.prompt.result c.take_phrase.new.world c.take_phrase.new.pending
+    none_moves (story_of (g.T.Tables.game c.args.tables.now) X)
+    c.args.self.now c.prompt.new.self c.prompt.result c.take_phrase.new.world c.take_phrase.new.pending
     v.0 v.1 v.2 (c.prompt.ensures.meaning X)

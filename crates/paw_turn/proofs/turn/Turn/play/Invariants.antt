@@ -9,7 +9,8 @@ abbrev pub invariant-loop-stage : goal.invariant-loop-stage
 invariant-loop-stage g l = record {
   playable : IsPlayable (g.T.Tables.game l.tables) l.self;
   read : HasReadSome l.self.machine;
-  plays : (X : List (List ℕ)) → AreRowsOf g.F.Fn l.routines X → Plays (story_of (g.T.Tables.game l.tables) X) l.fn.first l.initial.self (next.Go l.stage) l.self;
+  plays : (X : List (List ℕ)) → AreRowsOf g.F.Fn l.routines X →
+      Plays (story_of (g.T.Tables.game l.tables) X) l.fn.first l.initial.self (next.Go l.stage) l.self;
   keeps : KeepsGame (g.T.Tables.game l.tables) l.initial.self (next.Go l.stage) l.self;
 }
 

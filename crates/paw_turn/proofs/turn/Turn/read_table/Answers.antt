@@ -6,7 +6,8 @@ use Rattle.paw_turn.proofs.turn.Turn.read_table.Goals as goal
 pub returns-clause-meaning : goal.returns-clause-meaning
 returns-clause-meaning g c X rows =
     let a = c.after_table in
-    read_on (story_of (g.T.Tables.game c.args.tables.now) X) c.args.table c.args.self.now c.run_table-turned.new.self a.new.self c.run_table-turned.result a.result
+    read_on (story_of (g.T.Tables.game c.args.tables.now) X)
+    c.args.table c.args.self.now c.run_table-turned.new.self a.new.self c.run_table-turned.result a.result
     (c.run_table-turned.ensures.runs X rows) (a.ensures.meaning X) a.ensures.left
 
 pub returns-clause-falls : goal.returns-clause-falls

@@ -1,5 +1,6 @@
 use Rattle.std.proofs.Common.{ap, arith}
 use Rattle.paw_effects.specs.Story.{story_of}
+use Rattle.paw_turn.specs.declared.turn.Turn.{Turn}
 use Rattle.paw_turn.proofs.Reading.{begun_runs}
 use Rattle.paw_turn.proofs.Falling.{uses}
 use Rattle.paw_turn.proofs.Waiting.{table_stops}
@@ -7,21 +8,23 @@ use Rattle.paw_turn.proofs.turn.Turn.run_table.Goals as goal
 
 pub returns-clause-runs : goal.returns-clause-runs
 returns-clause-runs g c X rows =
-    begun_runs (story_of (g.T.Tables.game c.args.tables.now) X) c.args.table c.args.self.now
-    (record { world = c.run.new.world; pending = c.run.new.pending; machine = c.run.new.self; piece = c.run.new.piece })
+    let new : Turn = record { situation = c.run.new.situation; machine = c.run.new.self } in
+    begun_runs (story_of (g.T.Tables.game c.args.tables.now) X) c.args.table c.args.self.now new
     c.begin.new.self c.run.result c.begin.ensures.value (c.run.ensures.meaning X rows)
 
 pub returns-clause-uses : goal.returns-clause-uses
 returns-clause-uses g c =
-    uses (story_of (g.T.Tables.game c.args.tables.now) c.requires.rows.0) c.args.table c.args.self.now
-    (record { world = c.run.new.world; pending = c.run.new.pending; machine = c.run.new.self; piece = c.run.new.piece })
+    let new : Turn = record { situation = c.run.new.situation; machine = c.run.new.self } in
+    uses (story_of (g.T.Tables.game c.args.tables.now) c.requires.rows.0) c.args.table c.args.self.now new
     c.run.result c.requires.read (returns-clause-runs g c c.requires.rows.0 c.requires.rows.1)
 
 pub returns-clause-stops : goal.returns-clause-stops
 returns-clause-stops g c =
-    table_stops (story_of (g.T.Tables.game c.args.tables.now) c.requires.rows.0) c.args.table c.args.self.now
-    (record { world = c.run.new.world; pending = c.run.new.pending; machine = c.run.new.self; piece = c.run.new.piece })
-    c.run.result c.requires.read c.requires.closed (returns-clause-runs g c c.requires.rows.0 c.requires.rows.1) c.run.ensures.stopped
+    let new : Turn = record { situation = c.run.new.situation; machine = c.run.new.self } in
+    table_stops (story_of (g.T.Tables.game c.args.tables.now) c.requires.rows.0) c.args.table c.args.self.now new
+    c.run.result c.requires.read c.requires.ready.closed (returns-clause-runs g c c.requires.rows.0 c.requires.rows.1) c.run.ensures.stopped
 
-pub returns-clause-draws : goal.returns-clause-draws
-returns-clause-draws g c = let same = ap (λ m. m.left) c.begin.ensures.value in omega arith
+pub returns-clause-stays : goal.returns-clause-stays
+returns-clause-stays g c =
+    let same = ap (λ m. m.left) c.begin.ensures.value in
+    record { world = c.run.ensures.after.game; left = (returns-clause-uses g c).left; draws = omega (arith, c.run.ensures.after.draws) }

@@ -6,7 +6,8 @@ use Rattle.paw_turn.proofs.turn.Turn.stage.Goals as goal
 
 pub returns-in-Frame-clause-meaning : goal.returns-in-Frame-clause-meaning
 returns-in-Frame-clause-meaning g c X rows =
-    rw c.in-Frame.is (frame_reads (story_of (g.T.Tables.game c.args.tables.now) X) c.args.self.now c.read_table.new.self c.read_table.result (c.read_table.ensures.meaning X rows))
+    rw c.in-Frame.is (frame_reads (story_of (g.T.Tables.game c.args.tables.now) X) c.args.self.now c.read_table.new.self c.read_table.result
+    (c.read_table.ensures.meaning X rows))
 
 pub returns-in-Response-clause-meaning : goal.returns-in-Response-clause-meaning
 returns-in-Response-clause-meaning g c X rows =
@@ -19,5 +20,6 @@ returns-in-Describe-clause-meaning g c X rows = rw c.in-Describe.is (c.describe.
 pub returns-in-Phrase-clause-meaning : goal.returns-in-Phrase-clause-meaning
 returns-in-Phrase-clause-meaning g c X rows =
     rw c.in-Phrase.is
-    (moves_read (story_of (g.T.Tables.game c.args.tables.now) X) (λ n r. turn (story_of (g.T.Tables.game c.args.tables.now) X) (suc n) AtPhrase r) c.args.self.now c.phrase.new.self c.phrase.result
+    (moves_read (story_of (g.T.Tables.game c.args.tables.now) X) (λ n r. turn (story_of (g.T.Tables.game c.args.tables.now) X) (suc n) AtPhrase r)
+    c.args.self.now c.phrase.new.self c.phrase.result
     (c.phrase.ensures.meaning X) c.phrase.ensures.machine)

@@ -13,5 +13,7 @@ returns-in-Go-clause-meaning g c X rows =
 pub play-requires-clause-read : goal.play-requires-clause-read
 play-requires-clause-read g c =
     let X = c.requires.rows.0 in
-    plays_read (story_of (g.T.Tables.game c.args.tables.now) X) (from_prompt (story_of (g.T.Tables.game c.args.tables.now) X) c.args.prompt c.args.self.now c.args.line.now) c.args.self.now (next.Go c.in-Go.stage) c.hear.new.self
-    (c.in-Go.ensures.meaning X c.requires.rows.1) c.requires.read
+    plays_read (story_of (g.T.Tables.game c.args.tables.now) X)
+    (from_prompt (story_of (g.T.Tables.game c.args.tables.now) X) c.args.prompt c.args.self.now c.args.line.now) c.args.self.now
+    (next.Go c.in-Go.stage) c.hear.new.self
+    (c.in-Go.ensures.meaning X c.requires.rows.1) c.requires.ready.read
