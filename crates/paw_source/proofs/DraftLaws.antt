@@ -209,6 +209,21 @@ or_false : (a b : Bool) → (a || b) ≡ false → (a ≡ false) × (b ≡ false
 or_false true b h = absurd cc
 or_false false b h = (refl, h)
 
+-- other exits, that keep the rules too
+exits_keep : (p : ℕ) (d : Spelt) (es : List (List Exit)) → d.section ≡ section.Con → Keeps p d
+    → list_all (is_exits d.words (length d.locations)) es ≡ true → length es ≤ length d.locations
+    → Keeps p (record d { exits = es })
+exits_keep p d es here k all few = record {
+  heads = k.heads;
+  exits = all;
+  few_exits = few;
+  facts = k.facts;
+  few_facts = k.few_facts;
+  tables = k.tables;
+  few_tables = k.few_tables;
+  order = from_section section.Con (record d { exits = es }) here (at_section section.Con d here k.order);
+}
+
 new_exits_keep : (p n : ℕ) (d e : Spelt) → d.section ≡ section.Con → Keeps p d → new_exits d n ≡ Ok e → Keeps p e
 new_exits_keep p n d e here k h =
     let made : Spelt = record d { exits = d.exits ++ replicate (suc n - length d.exits) [] } in
@@ -216,19 +231,9 @@ new_exits_keep p n d e here k h =
     let o = or_false (nat_lt n (length d.exits)) (not (nat_lt n (length d.locations))) a.0 in
     let low : n < length d.locations = grind (arith, nat_tests, o.1) in
     let long = filled_length (suc n - length d.exits) d.exits in
-    let before = k.few_exits in
-    let at = at_section section.Con d here k.order in
-    let new : Keeps p made = record {
-      heads = k.heads;
-      exits = filled_exits d.words (length d.locations) (suc n - length d.exits) d.exits k.exits;
-      few_exits = omega (arith, long, low, before);
-      facts = k.facts;
-      few_facts = k.few_facts;
-      tables = k.tables;
-      few_tables = k.few_tables;
-      order = from_section section.Con made here at;
-    } in
-    subst (Keeps p) (ok_is made e a.1) new
+    let few = k.few_exits in
+    let all = filled_exits d.words (length d.locations) (suc n - length d.exits) d.exits k.exits in
+    subst (Keeps p) (ok_is made e a.1) (exits_keep p d made.exits here k all (omega (arith, long, low, few)))
 
 item_keeps : (p : ℕ) (s : Section) (n : ℕ) (d e : Spelt) → d.section ≡ s → Keeps p d → item_in s d n ≡ Ok e → Keeps p e
 item_keeps p section.Before n d e here k h = absurd cc
@@ -355,18 +360,8 @@ con_row_keeps p d e ts here k h =
     let new = exit_row_ok d.words (length d.locations) (last_or [] d.exits) b.0 ts k.heads.words old b.1 in
     let long = length-set d.exits (length d.exits - 1) b.0 in
     let few = k.few_exits in
-    let at = at_section section.Con d here k.order in
-    let kept : Keeps p made = record {
-      heads = k.heads;
-      exits = all_set (is_exits d.words (length d.locations)) d.exits (length d.exits - 1) b.0 k.exits new;
-      few_exits = omega (arith, long, few);
-      facts = k.facts;
-      few_facts = k.few_facts;
-      tables = k.tables;
-      few_tables = k.few_tables;
-      order = from_section section.Con made here at;
-    } in
-    subst (Keeps p) (ok_is made e b.2) kept
+    let all = all_set (is_exits d.words (length d.locations)) d.exits (length d.exits - 1) b.0 k.exits new in
+    subst (Keeps p) (ok_is made e b.2) (exits_keep p d made.exits here k all (omega (arith, long, few)))
 
 obj_row_keeps : (p : ℕ) (d e : Spelt) (ts : List (List ℕ)) → d.section ≡ section.Obj → Keeps p d → obj_row d ts ≡ Ok e → Keeps p e
 obj_row_keeps p d e ts here k h =

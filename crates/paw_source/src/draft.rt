@@ -48,7 +48,7 @@ pub(crate) struct Draft {
 
 impl Model for Draft {
     ghost use Rattle.paw_grammar.specs.GrammarState.{Spelt};
-    ghost use Rattle.paw_source.specs.inner.Drafts.{IsSmall};
+    ghost use Rattle.paw_source.specs.inner.Drafts.{AreShort};
 
     ghost Value = { Spelt };
 
@@ -65,18 +65,8 @@ impl Model for Draft {
       tables = d.tables.items;
     } };
 
-    ghost invariant = { λ d. IsSmall (record {
-      section = d.section;
-      words = d.words;
-      system = d.system.items;
-      messages = d.messages.items;
-      names = d.names.items;
-      locations = d.locations.items;
-      begun = d.begun;
-      exits = d.exits.items;
-      facts = d.facts.items;
-      tables = d.tables.items;
-    }) };
+    ghost invariant = { λ d. AreShort d.section d.system.items d.messages.items d.names.items d.locations.items
+        d.facts.items d.tables.items };
 }
 
 /// A fault of a line.

@@ -1,5 +1,7 @@
 -- What holds of a draft while a source is read.
-use Rattle.std.specs.Prelude.{ℕ, ◌≤◌, ◌<◌, length}
+use Rattle.std.specs.Prelude.{ℕ, ◌≤◌, ◌<◌, List, length}
+use Rattle.paw_base.specs.declared.parts.ObjectFacts.{ObjectFacts}
+use Rattle.paw_game.specs.declared.parts.Entry.{Entry}
 use Rattle.paw_grammar.specs.declared.section.Section.{Section}
 use Rattle.paw_grammar.specs.declared.section.Section.TheVariants as section
 use Rattle.paw_grammar.specs.GrammarState.{Spelt}
@@ -17,11 +19,15 @@ HasTable section.Obj tables = Unit {0}
 HasTable section.Pro tables = 0 < tables
 
 -- how many rows each list has at most
-pub record IsSmall (d : Spelt) : Type 0 where
-  pub system : length d.system ≤ 256
-  pub messages : length d.messages ≤ 256
-  pub names : length d.names ≤ 255
-  pub locations : length d.locations ≤ 252
-  pub facts : length d.facts ≤ 255
-  pub tables : length d.tables ≤ 256
-  pub open_table : HasTable d.section (length d.tables)
+pub record AreShort (opened : Section) (ss ms ns ls : List (List ℕ)) (fs : List ObjectFacts) (ts : List (List Entry))
+    : Type 0 where
+  pub system : length ss ≤ 256
+  pub messages : length ms ≤ 256
+  pub names : length ns ≤ 255
+  pub locations : length ls ≤ 252
+  pub facts : length fs ≤ 255
+  pub tables : length ts ≤ 256
+  pub open_table : HasTable opened (length ts)
+
+abbrev pub IsSmall : Spelt → Type 0
+IsSmall d = AreShort d.section d.system d.messages d.names d.locations d.facts d.tables

@@ -40,19 +40,25 @@ HasNoFault source = HasNone (count_by begins_table (lines_of source)) nothing_ye
 
 -- of a source that isn't too long the first line with a fault is named, by its number
 abbrev pub NamesTheFirst : Type 0
-NamesTheFirst = (source : List ℕ) (n : ℕ) (k : SourceKind) → length source ≤ 8388608 → FirstFault source n k → spelled source ≡ Err (fault (suc n) k)
+NamesTheFirst = (source : List ℕ) (n : ℕ) (k : SourceKind) → length source ≤ 8388608 → FirstFault source n k
+    → spelled source ≡ Err (fault (suc n) k)
 
 -- what is named is the first line with a fault, or, where no line has one, the line after the last
 abbrev pub IsNamedRightly : Type 0
-IsNamedRightly = (source : List ℕ) (f : SourceFault) → length source ≤ 8388608 → spelled source ≡ Err f → ((n : ℕ) × (f.line ≡ suc n) × FirstFault source n f.kind) ⊎ ((f.line ≡ suc (length (lines_of source))) × HasNoFault source)
+IsNamedRightly = (source : List ℕ) (f : SourceFault) → length source ≤ 8388608 → spelled source ≡ Err f
+    → ((n : ℕ) × (f.line ≡ suc n) × FirstFault source n f.kind)
+    ⊎ ((f.line ≡ suc (length (lines_of source))) × HasNoFault source)
 
 -- lines without a fault begin as many tables as were counted
 abbrev pub CountsTables : Type 0
-CountsTables = (p : ℕ) (d e : Spelt) (ls : List (List ℕ)) → after_lines p d ls ≡ Ok e → length e.tables ≡ length d.tables + count_by begins_table ls
+CountsTables = (p : ℕ) (d e : Spelt) (ls : List (List ℕ)) → after_lines p d ls ≡ Ok e
+    → length e.tables ≡ length d.tables + count_by begins_table ls
 
 -- Lines of a source without a fault spell a valid game where they reach table 2, however long its image is.
 abbrev pub DraftsAreValid : Type 0
-DraftsAreValid = (source : List ℕ) (d : Spelt) → after_lines (count_by begins_table (lines_of source)) nothing_yet (lines_of source) ≡ Ok d → 3 ≤ length d.tables → Valid (game_of d)
+DraftsAreValid = (source : List ℕ) (d : Spelt)
+    → after_lines (count_by begins_table (lines_of source)) nothing_yet (lines_of source) ≡ Ok d
+    → 3 ≤ length d.tables → Valid (game_of d)
 
 -- what a source spells is a valid game
 abbrev pub SpellsValidGames : Type 0
