@@ -5,11 +5,10 @@ use Rattle.std.specs.List.{slice_index_or, list_all}
 use Rattle.std.proofs.lemmas.Bool.{leb-true}
 use Rattle.std.proofs.lemmas.Fmt.{length-decimal-le}
 use Rattle.std.proofs.lemmas.List.{get_or_past}
-use Rattle.paw_base.specs.Condacts.{CondactLine, named_line, condact_lines, line_of, name_of}
+use Rattle.paw_base.specs.Condacts.{CondactLine, no_line, condact_lines, line_of, name_of}
 use Rattle.paw_base.specs.inner.Condacts.{IsCode}
 use Rattle.paw_base.proofs.Table.{length-condact_lines}
 use Rattle.paw_base.specs.inner.Piece.{Puts}
-use Rattle.paw_base.specs.declared.rows.ParamKind.TheVariants.{Absent}
 use Rattle.paw_game.proofs.Kept.{first_of_and, second_of_and}
 use Rattle.paw_reading.specs.Run.{Step}
 use Rattle.paw_play.specs.Traces.{place_text, answer_text, step_line, more_line}
@@ -26,7 +25,7 @@ unfolding condact_lines
 all_short = refl
 
 short_at : (lines : List CondactLine) (n : ℕ) → list_all (λ (l : CondactLine). nat_le (length l.name) 8) lines ≡ true →
-    length (slice_index_or lines n (named_line [] Absent Absent)).name ≤ 8
+    length (slice_index_or lines n no_line).name ≤ 8
 short_at [] n h = omega arith
 short_at (l ∷ lines) zero h = leb-true (length l.name) 8 (first_of_and (nat_le (length l.name) 8) _ h)
 short_at (l ∷ lines) (suc n) h = short_at lines n (second_of_and (nat_le (length l.name) 8) _ h)
@@ -40,7 +39,7 @@ pub no_name : (code : ℕ) → ¬ IsCode code → name_of code ≡ []
 unfolding line_of
 no_name code none =
     let past : length condact_lines ≤ code = omega (arith, length-condact_lines, none) in
-    ap (λ (l : CondactLine). l.name) (get_or_past condact_lines code (named_line [] Absent Absent) past)
+    ap (λ (l : CondactLine). l.name) (get_or_past condact_lines code no_line past)
 
 -- ---- lines ----
 
