@@ -3,6 +3,7 @@
 use crate::outcome::{MemoryAt, Outcome};
 use crate::settled::{run, settle, settle_and_run};
 use paw_base::fault::SpentKind;
+use paw_journal::SessionPart;
 use paw_play::MOST_EVENTS;
 use paw_stage::{Asked, FailStage, MemoryStage, Stage, StageCall};
 use std::alloc::Global;
@@ -458,6 +459,52 @@ fn outcomes_have_their_status_and_text(rt: HostRuntime) -> Result<(), Fail> {
             Outcome::ImageDamaged { at: u64::MAX },
             3,
             "image damaged at 18446744073709551615\n",
+        ),
+        (
+            Outcome::Occupied { length: 4096 },
+            4,
+            "session has 4096 bytes already\n",
+        ),
+        (
+            Outcome::Unmade {
+                length: 3,
+                mark: 80,
+            },
+            4,
+            "no session: length 3, mark 80\n",
+        ),
+        (
+            Outcome::SessionDamaged {
+                part: SessionPart::Header,
+                at: 8,
+            },
+            4,
+            "session damaged: Header at 8\n",
+        ),
+        (
+            Outcome::SessionDamaged {
+                part: SessionPart::Slot,
+                at: 16,
+            },
+            4,
+            "session damaged: Slot at 16\n",
+        ),
+        (
+            Outcome::SessionDamaged {
+                part: SessionPart::State,
+                at: 256,
+            },
+            4,
+            "session damaged: State at 256\n",
+        ),
+        (
+            Outcome::WrongGame {
+                kept: [0x1f; 32],
+                found: [0xe0; 32],
+            },
+            4,
+            "session is of another game: kept 1f1f1f1f1f1f1f1f1f1f1f1f1f1f1f1f1f1f1f1f1f1f1f1f1f1f1f1f1f1f1f1f \
+            found e0e0e0e0e0e0e0e0e0e0e0e0e0e0e0e0e0e0e0e0e0e0e0e0e0e0e0e0e0e0e0e0\n",
         ),
         (
             Outcome::Spent(SpentKind::Condacts),
