@@ -10,6 +10,7 @@ use Rattle.paw_journal.specs.Session.{IsUnmade, recover, recover_by}
 use Rattle.paw_play.specs.Keeping.{InSession, InMakingOf}
 use Rattle.paw_play.specs.Play.{InGame, attached_to, store_bytes}
 use Rattle.paw_play.specs.inner.OnTheWay.{IsStore}
+use Rattle.paw_play.proofs.Mapped.{in_session_as}
 
 no_bytes : (bytes : List ℕ) → length bytes ≡ 0 → bytes ≡ []
 no_bytes [] h = refl
@@ -79,16 +80,5 @@ making_from Kept name old m i =
 pub playing_from : (Kept : ℕ → List ℕ → Type 0) (told : ℕ → List ℕ) (past : ℕ) (name : List ℕ) (old : Standing)
     (m : Moment) → InSession Kept told past name (attached_to old name) m →
     InSession Kept told past name old m
-playing_from Kept told past name old m i = record {
-  taken = i.taken;
-  text = i.text;
-  last = i.last;
-  there = i.there;
-  few = i.few;
-  asked = i.asked;
-  shown = i.shown;
-  before = i.before;
-  attached = i.attached;
-  files = λ n ne. i.files n ne ∙ other_file old name n ne;
-  leaves = i.leaves;
-}
+playing_from Kept told past name old m i =
+    in_session_as Kept Kept told told past name (attached_to old name) old refl (other_file old name) m i refl (λ image k. k)

@@ -1,27 +1,29 @@
 -- A new session, from the attach of its store to its first prompt.
-use Rattle.std.proofs.Common.{◌≡◌, ◌≢◌, ℕ, ◌+◌, List, [], ◌++◌, Some, None, refl, sym, ap, ◌∙◌, subst, take, drop, arith, inl, inr, ◌⊎◌}
+use Rattle.std.proofs.Common.{◌≡◌, ◌≢◌, ℕ, ◌+◌, List, [], ◌++◌, Option, Some, None, refl, sym, ap, ◌∙◌, subst, take, drop, arith, inl, inr, ◌⊎◌}
 use Rattle.std.proofs.lemmas.List.{take-append-drop}
 use Rattle.paw_stage.specs.Disk.{IsStable}
 use Rattle.paw_stage.specs.Stage.{Standing}
 use Rattle.paw_stage.specs.Moments.{Moment, InShow}
-use Rattle.paw_stage.specs.declared.StageCall.{StageCall}
 use Rattle.paw_stage.specs.declared.StageCall.TheVariants as call
 use Rattle.paw_journal.proofs.Disks.{stable_leaves}
-use Rattle.paw_reading.specs.Turn.{text_of}
+use Rattle.paw_reading.specs.Turn.{reading, text_of}
 use Rattle.paw_turn.specs.inner.Player.{Seat, IsSeated, StandsClosed}
 use Rattle.paw_turn.specs.inner.Player.{PlaysTo as StepsTo}
 use Rattle.paw_turn.specs.declared.Step.{Step}
 use Rattle.paw_turn.specs.declared.Step.TheVariants as step
 use Rattle.paw_journal.specs.Session.{Shown, IsUnmade, recover, kept_digest}
 use Rattle.paw_journal.specs.inner.Store.{IsBeside, InStore, Leaves}
-use Rattle.paw_journal.specs.Journal.{IsWriting}
 use Rattle.paw_play.specs.declared.PlayEnd.{PlayEnd}
 use Rattle.paw_play.specs.declared.PlayEnd.TheVariants as end
 use Rattle.paw_play.specs.declared.TheConstants.{MOST_EVENTS}
 use Rattle.paw_play.specs.Walk.{Walks}
 use Rattle.paw_play.specs.Play.{Played, KeepsLines, InPlay, with_store}
-use Rattle.paw_play.specs.inner.OnTheWay.{IsWalking, Told, ShowsPiece, refusal_of, seat_state, InMaking, Rests, IsPlaying, IsStore, BegunAs}
+use Rattle.paw_play.specs.inner.Calls.{unless_ended}
+use Rattle.paw_play.specs.inner.Telling.{Plain}
+use Rattle.paw_play.specs.inner.OnTheWay.{IsWalking, Told, ShowsPiece, refusal_of, seat_state, InMaking, Rests, IsStore, BegunAs, Begins, new_session}
 use Rattle.paw_play.proofs.Kept.{step_kept}
+use Rattle.paw_play.proofs.Resting.{rests_on}
+use Rattle.paw_play.proofs.Telling.{shows_piece}
 use Rattle.paw_play.proofs.Walking.{walk_begins, text_shown}
 use Rattle.paw_effects.specs.Story.{Story}
 
@@ -39,27 +41,52 @@ begin_refused g s first step.Ended next o plays e = cc
 begin_refused g s first (step.Spent kind) next o plays e = let k : o ≡ end.Spent kind = cc in let r = plays.1 [] in rw k (r.0, r.1, refl)
 begin_refused g s first (step.TooDeep table) next o plays e = let k : o ≡ end.TooDeep table = cc in let r = plays.1 [] in rw k (r.0, r.1, refl)
 
-module _ {F : Type 0} (g : Story) (s : Played) (first kept : Standing) (next : Seat F) (found : Step)
-    (new_one : s.before ≡ 0) (store : IsStore s.name first) (seated : IsSeated next) (last : next.last ≡ found)
-    (plays : StepsTo g s.whole found next [] []) (shows : ShowsPiece found) (beside : IsBeside first kept) where
+-- the piece before the first line was played, and the store was written, once it was attached
+pub record Begun {F : Type 0} (g : Story) (s : Played) (first kept : Standing) (next : Seat F) (found : Step) : Type 0 where
+  pub new_one : s.before ≡ 0
+  pub store : IsStore s.name first
+  pub seated : IsSeated next
+  pub last : next.last ≡ found
+  pub plays : StepsTo g s.whole found next [] []
+  pub shows : ShowsPiece found
+  pub beside : IsBeside first kept
+
+pub begun : {F : Type 0} (g : Story) (seed : ℕ) (digest name : List ℕ) (first kept : Standing) (next : Seat F) (found : Step) →
+    IsStore name first → IsSeated next → next.last ≡ found → StepsTo g (reading g seed) found next [] [] → None ≡ refusal_of found →
+    IsBeside first kept → Begun g (new_session g seed digest name) first kept next found
+begun g seed digest name first kept next found store seated last plays fine beside = record {
+  store = store;
+  seated = seated;
+  last = last;
+  plays = plays;
+  beside = beside;
+  new_one = refl;
+  shows = shows_piece found fine;
+}
+
+-- what a session shows, by its parts
+pub shown_as : (digest : List ℕ) {state kept piece text : List ℕ} → state ≡ kept → piece ≡ text → Shown digest state piece ≡ Shown digest kept text
+shown_as digest e f = cc
+
+module _ {F : Type 0} {g : Story} {s : Played} {first kept : Standing} {next : Seat F} {found : Step} (b : Begun g s first kept next found) where
   machine_stands : StandsClosed found next.machine
-  machine_stands = subst (λ q. StandsClosed q next.machine) last seated.machine
+  machine_stands = subst (λ q. StandsClosed q next.machine) b.last b.seated.machine
 
   text_is : text_of (s.whole []) ≡ next.piece
-  text_is = text_shown g s.whole found next [] [] shows machine_stands plays
+  text_is = text_shown Plain g s.whole found next [] [] tt b.shows machine_stands b.plays
 
   keeps_none : KeepsLines s first.lines 0 (Shown s.digest (seat_state 0 next) next.piece)
-  keeps_none = rw new_one (step_kept g s.digest 0 s.whole found next [] [] shows last machine_stands plays)
+  keeps_none = let new_one = b.new_one in rw new_one (step_kept g s.digest 0 s.whole found next [] [] b.shows b.last machine_stands b.plays)
 
   not_this : (f : List ℕ) → f ≢ s.name → first.attached ≢ Some f
-  not_this f other e = let a : Some s.name ≡ Some f = sym store.attached ∙ e in other (cc)
+  not_this f other e = let a : Some s.name ≡ Some f = sym b.store.attached ∙ e in other (cc)
 
   -- inside the making
   pub in_making : (m : Moment) → InStore first (Leaves (λ r. IsUnmade r ⊎ (r ≡ Shown s.digest (seat_state 0 next) next.piece))) m → InMaking s first m
   in_making m i = record {
     asked = i.asked;
     shown = i.shown;
-    attached = i.attached ∙ store.attached;
+    attached = i.attached ∙ b.store.attached;
     files = λ f other. i.files f (not_this f other);
     leaves = λ image may. elim (i.disk image may) [
       | inl u ↦ inl u
@@ -67,87 +94,70 @@ module _ {F : Type 0} (g : Story) (s : Played) (first kept : Standing) (next : S
     ];
   }
 
-  pub rests_first : IsStable kept.disk → recover kept.disk.bytes ≡ Shown s.digest (seat_state 0 next) next.piece → Rests s first kept 0
-  rests_first stable is = record {
-    there = omega arith;
-    few = omega (arith, new_one);
-    attached = beside.attached ∙ store.attached;
-    stable = stable;
-    file = beside.file s.name store.attached store.file;
-    others = λ f other. beside.files f (not_this f other);
-    keeps = subst (KeepsLines s first.lines 0) (sym is) keeps_none;
-  }
+  -- once it is made
+  module _ (stable : IsStable kept.disk) (is : recover kept.disk.bytes ≡ Shown s.digest (seat_state 0 next) next.piece) where
+    rests : Rests s first kept 0
+    rests = record {
+      there = omega arith;
+      few = omega (arith, b.new_one);
+      attached = b.beside.attached ∙ b.store.attached;
+      stable = stable;
+      file = b.beside.file s.name b.store.attached b.store.file;
+      others = λ f other. b.beside.files f (not_this f other);
+      keeps = subst (KeepsLines s first.lines 0) (sym is) keeps_none;
+    }
 
-  -- inside the show of the first piece
-  pub in_first_show : (m : Moment) → Rests s first kept 0 → InShow kept next.piece m → InPlay s first m
-  in_first_show m rests i = subst (InPlay s first) (sym i.1) (record {
-    taken = 0;
-    text = take i.0 next.piece;
-    last = take i.0 next.piece;
-    there = omega arith;
-    few = omega (arith, new_one);
-    asked = beside.asked ∙ omega arith;
-    shown = ap (λ t. t ++ take i.0 next.piece) beside.shown;
-    before = refl;
-    attached = rests.attached;
-    files = rests.others;
-    leaves = λ image may. (
-      subst (λ b. KeepsLines s first.lines 0 (recover b)) (sym (stable_leaves kept.disk image rests.stable may)) rests.keeps,
-      (drop i.0 next.piece, take-append-drop i.0 next.piece ∙ sym text_is),
-    );
-  })
+    -- inside the show of the first piece
+    pub in_first_show : (m : Moment) → InShow kept next.piece m → InPlay s first m
+    in_first_show m i = subst (InPlay s first) (sym i.1) (record {
+      taken = 0;
+      text = take i.0 next.piece;
+      last = take i.0 next.piece;
+      there = omega arith;
+      few = omega (arith, b.new_one);
+      asked = b.beside.asked ∙ omega arith;
+      shown = ap (λ t. t ++ take i.0 next.piece) b.beside.shown;
+      before = refl;
+      attached = rests.attached;
+      files = rests.others;
+      leaves = λ image may. (
+        subst (λ x. KeepsLines s first.lines 0 (recover x)) (sym (stable_leaves kept.disk image rests.stable may)) rests.keeps,
+        (drop i.0 next.piece, take-append-drop i.0 next.piece ∙ sym text_is),
+      );
+    })
 
-  rests_shown : (new : Standing) (text : List ℕ) → new ≡ record kept { shown = text } → Rests s first kept 0 → Rests s first new 0
-  rests_shown new text e rests =
-      subst (λ q. Rests s first q 0) (sym e)
-      (record {
-        there = rests.there;
-        few = rests.few;
-        attached = rests.attached;
-        stable = rests.stable;
-        file =
-            rests.file;
-        others = rests.others;
-        keeps = rests.keeps;
-      })
+    rests_then : (new : Standing) (text : List ℕ) → new ≡ record kept { shown = text } → Rests s first new 0
+    rests_then new text e = rests_on s first kept new 0 kept.lines kept.asked text e rests
 
-  store_is : (new : Standing) (text : List ℕ) → new ≡ record kept { shown = text } → kept ≡ with_store new first
-  store_is new text e = beside_is first kept beside ∙ ap (λ (q : Standing). with_store q first) (sym e)
+    store_is : (new : Standing) (text : List ℕ) → new ≡ record kept { shown = text } → kept ≡ with_store new first
+    store_is new text e = beside_is first kept b.beside ∙ ap (λ (q : Standing). with_store q first) (sym e)
 
-  asked_is : (new : Standing) (text : List ℕ) → new ≡ record kept { shown = text } → new.asked ≡ first.asked + 0
-  asked_is new text e = ap (λ (q : Standing). q.asked) e ∙ beside.asked ∙ omega arith
+    asked_is : (new : Standing) (text : List ℕ) → new ≡ record kept { shown = text } → new.asked ≡ first.asked + 0
+    asked_is new text e = ap (λ (q : Standing). q.asked) e ∙ b.beside.asked ∙ omega arith
 
-  -- the session is at its first prompt
-  pub begins_next : (new : Standing) → Rests s first kept 0 → kept_digest kept.disk.bytes ≡ s.digest →
-      Told kept new next.piece found None → IsPlaying g s first new next 0
-  begins_next new rests digest told = record {
-    walking = subst (λ (q : Standing). IsWalking g s.whole q new next 0)
-        (store_is new (kept.shown ++ next.piece) told.2)
-        (walk_begins g s.whole MOST_EVENTS kept new next found None seated last plays told);
-    rests = rests_shown new (kept.shown ++ next.piece) told.2 rests;
-    digest = ap (λ (q : Standing). kept_digest q.disk.bytes) told.2 ∙ digest;
-    last = next.piece;
-    grown = text_is;
-  }
-
-  -- or playing it has come to its end
-  pub begins_last : (new : Standing) (o : PlayEnd) → Rests s first kept 0 → Told kept new next.piece found (Some o) → BegunAs s first new o
-  begins_last new end.Ended rests told = record {
-    shows = subst (λ (q : Standing). Walks s.whole MOST_EVENTS q new end.Ended)
-        (store_is new (kept.shown ++ next.piece) told.1)
-        (walk_begins g s.whole MOST_EVENTS kept new next found (Some end.Ended) seated last plays told);
-    session = (0, asked_is new (kept.shown ++ next.piece) told.1, rests_shown new (kept.shown ++ next.piece) told.1 rests);
-  }
-  begins_last new (end.Outside call.Show) rests told = record {
-    shows = subst (λ (q : Standing). Walks s.whole MOST_EVENTS q new (end.Outside call.Show)) (store_is new (kept.shown ++ take told.2 next.piece) told.3)
-        (walk_begins g s.whole MOST_EVENTS kept new next found (Some (end.Outside call.Show)) seated last plays told);
-    session = (0, asked_is new (kept.shown ++ take told.2 next.piece) told.3, rests_shown new (kept.shown ++ take told.2 next.piece) told.3 rests);
-  }
-  begins_last new (end.Spent kind) rests told = absurd (subst ShowsPiece told.0 shows)
-  begins_last new (end.TooDeep table) rests told = absurd (subst ShowsPiece told.0 shows)
-  begins_last new _ rests told = absurd told
-
-  -- the session couldn't be made
-  pub not_begun : (c : StageCall) → IsWriting c → BegunAs s first kept (end.Outside c)
-  not_begun c (inl e) = rw e (beside_is first kept beside)
-  not_begun c (inr e) = rw e (beside_is first kept beside)
+    -- the session is at its first prompt, or playing it has come to its end
+    pub begins_to : {A : Type 0} (a : A) (new : Standing) (o : Option PlayEnd) → kept_digest kept.disk.bytes ≡ s.digest →
+        Told kept new next.piece found o → Begins g s first new next (unless_ended o a)
+    begins_to a new None digest told = record {
+      walking = subst (λ (q : Standing). IsWalking Plain g s.whole q new next 0)
+          (store_is new (kept.shown ++ next.piece) told.2)
+          (walk_begins Plain g s.whole MOST_EVENTS kept new next found None b.seated b.last b.plays told);
+      rests = rests_then new (kept.shown ++ next.piece) told.2;
+      digest = ap (λ (q : Standing). kept_digest q.disk.bytes) told.2 ∙ digest;
+      last = next.piece;
+      grown = text_is;
+    }
+    begins_to a new (Some end.Ended) digest told = record {
+      shows = subst (λ (q : Standing). Walks s.whole MOST_EVENTS q new end.Ended)
+          (store_is new (kept.shown ++ next.piece) told.1)
+          (walk_begins Plain g s.whole MOST_EVENTS kept new next found (Some end.Ended) b.seated b.last b.plays told);
+      session = (0, asked_is new (kept.shown ++ next.piece) told.1, rests_then new (kept.shown ++ next.piece) told.1);
+    }
+    begins_to a new (Some (end.Outside call.Show)) digest told = record {
+      shows = subst (λ (q : Standing). Walks s.whole MOST_EVENTS q new (end.Outside call.Show)) (store_is new (kept.shown ++ take told.2 next.piece) told.3)
+          (walk_begins Plain g s.whole MOST_EVENTS kept new next found (Some (end.Outside call.Show)) b.seated b.last b.plays told);
+      session = (0, asked_is new (kept.shown ++ take told.2 next.piece) told.3, rests_then new (kept.shown ++ take told.2 next.piece) told.3);
+    }
+    begins_to a new (Some (end.Spent kind)) digest told = absurd (subst ShowsPiece told.0 b.shows)
+    begins_to a new (Some (end.TooDeep table)) digest told = absurd (subst ShowsPiece told.0 b.shows)
+    begins_to a new (Some _) digest told = absurd told

@@ -1,6 +1,9 @@
 -- Making a new session is part of playing it.
-use Rattle.std.proofs.Common.{ℕ, List, refl, inl, inr}
-use Rattle.paw_effects.specs.Story.{Story}
+use Rattle.std.proofs.Common.{◌≡◌, ◌∙◌, ℕ, List, refl, ap, inl, inr}
+use Rattle.paw_effects.specs.Story.{Story, story_of}
+use Rattle.paw_game.specs.Game.{GameLists}
+use Rattle.paw_world.specs.World.{World}
+use Rattle.paw_turn.specs.inner.Player.{Seat, IsNew}
 use Rattle.paw_stage.specs.Stage.{Standing}
 use Rattle.paw_stage.specs.declared.StageCall.TheVariants as call
 use Rattle.paw_play.specs.declared.PlayEnd.{PlayEnd}
@@ -16,3 +19,10 @@ begun_plays g seed digest name first now (end.TooDeep table) b = too_deep table 
 begun_plays g seed digest name first now (end.Outside call.Write) b = unmade call.Write (inl refl) b
 begun_plays g seed digest name first now (end.Outside call.Sync) b = unmade call.Sync (inr refl) b
 begun_plays g seed digest name first now o b = plays o b
+
+-- a session that a new player plays
+pub session_of : {F : Type 0} (fresh : Seat F) (g : GameLists) (X : List (List ℕ)) (seed : ℕ) (digest name : List ℕ) → IsNew fresh seed → fresh.game ≡ g →
+    new_session (story_of fresh.game X) fresh.world.seed digest name ≡ new_session (story_of g X) seed digest name
+session_of fresh g X seed digest name is game =
+    ap (λ k. new_session (story_of k X) fresh.world.seed digest name) game
+    ∙ ap (λ (w : World). new_session (story_of g X) w.seed digest name) is.world

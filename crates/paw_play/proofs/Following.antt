@@ -1,6 +1,7 @@
 -- What holds over calls that follow each other.
-use Rattle.std.proofs.Common.{◌≡◌, ℕ, ◌+◌, List, sym, subst}
-use Rattle.paw_stage.specs.Stage.{Standing}
+use Rattle.std.proofs.Common.{◌≡◌, ℕ, ◌+◌, ◌++◌, List, Option, Some, None, sym, subst}
+use Rattle.std.specs.Prelude.{IfSome, IfOk, IfErr}
+use Rattle.paw_stage.specs.Stage.{Standing, Faulted}
 use Rattle.paw_stage.specs.declared.StageCall.{StageCall}
 use Rattle.paw_stage.specs.declared.StageCall.TheVariants as call
 use Rattle.paw_journal.specs.declared.journal.Journal.{Journal}
@@ -10,7 +11,10 @@ use Rattle.paw_journal.specs.inner.Journal.{KeptIn}
 use Rattle.paw_play.specs.declared.PlayEnd.{PlayEnd}
 use Rattle.paw_play.specs.declared.PlayEnd.TheVariants as end
 use Rattle.paw_play.specs.Calls.{IsWalkCall, IsPlayCall}
-use Rattle.paw_play.specs.inner.Calls.{IfEndOutside}
+use Rattle.paw_play.specs.inner.Calls.{IfEndOutside, failed_so_far, failed_or, unless_ended}
+use Rattle.paw_play.specs.inner.OnTheWay.{Told}
+use Rattle.paw_play.specs.declared.line.Session.{Session}
+use Rattle.paw_turn.specs.declared.Step.{Step}
 
 -- ---- the store ----
 
@@ -40,3 +44,25 @@ pub outside_walk : (o : PlayEnd) → IfEndOutside o IsWalkCall → IfEndOutside 
 outside_walk (end.Outside q) h = walk_is_play q h
 outside_walk (end.Refused (refusal.Outside q)) h = h
 outside_walk _ h = tt
+
+-- ---- where playing goes on unless it has ended ----
+
+pub goes_on_unless : {A : Type 0} (P : A → Type 0) (o : Option PlayEnd) (a : A) → P a → IfOk (unless_ended o a) P
+goes_on_unless P None a h = h
+goes_on_unless P (Some o) a h = tt
+
+pub outside_unless : {A : Type 0} (o : Option PlayEnd) (a : A) → IfSome o (λ e. IfEndOutside e IsWalkCall) →
+    IfErr (unless_ended o a) (λ e. IfEndOutside e IsPlayCall)
+outside_unless None a h = tt
+outside_unless (Some o) a h = outside_walk o h
+
+pub faulted_unless : {A : Type 0} (o : Option PlayEnd) (a : A) (before after : StageCall → ℕ) → Faulted (failed_so_far o) before after →
+    Faulted (failed_or (unless_ended o a)) before after
+faulted_unless None a before after h = h
+faulted_unless (Some o) a before after h = h
+
+-- the store keeps what it did while the piece was shown
+pub keeps_unless : (room : Room) (kept new : Standing) (piece : List ℕ) (step : Step) (o : Option PlayEnd) (session : Session) →
+    KeptIn session.journal room kept → Told kept new piece step o → IfOk (unless_ended o session) (λ next. KeptIn next.journal room new)
+keeps_unless room kept new piece step None session k told = keeps_shown session.journal room kept new (kept.shown ++ piece) k told.2
+keeps_unless room kept new piece step (Some o) session k told = tt

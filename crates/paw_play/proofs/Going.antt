@@ -84,13 +84,22 @@ text_since_is zero Unended = refl
 text_since_is (suc n) Unended = refl
 
 -- a session that keeps it keeps the whole
-pub whole_kept : (digest : List ℕ) (n m lines : ℕ) (e : Ending) (r : Recovered) → Counted lines e → n ≤ lines → IsKept digest m (ending_since n e) r → IsKept digest m e r
+pub whole_kept : (digest : List ℕ) (n m lines : ℕ) (e : Ending) (r : Recovered) → Counted lines e → n ≤ lines → IsKept digest m (ending_since n e) r →
+    IsKept digest m e r
 whole_kept digest n m lines (WaitsAt p path s) r counted few k =
     let low : n < length s.pieces = omega (arith, counted.1, ap length counted.0) in
-    record { played = tt; shown = k.shown ∙ ap (λ q. Shown digest (kept_bytes (record (state_at m p path s) { piece = length q })) q) (last_dropped n s.pieces low) }
+    record {
+      played = tt;
+      shown = k.shown ∙ ap (λ q. Shown digest (kept_bytes (record (state_at m p path s) { piece = length q })) q)
+          (last_dropped n s.pieces low);
+    }
 whole_kept digest n m lines (Halted IsOver s) r counted few k =
     let low : n < length s.pieces = omega (arith, counted, ap length k.played) in
-    record { played = k.played; shown = k.shown ∙ ap (λ q. Shown digest (kept_bytes (record (state_at m prompt.Over [] s) { piece = length q })) q) (last_dropped n s.pieces low) }
+    record {
+      played = k.played;
+      shown = k.shown ∙ ap (λ q. Shown digest (kept_bytes (record (state_at m prompt.Over [] s) { piece = length q })) q)
+          (last_dropped n s.pieces low);
+    }
 whole_kept digest n m lines _ r counted few k = absurd k.played
 
 -- ---- going on from a state of a reading ----
@@ -147,28 +156,34 @@ module _ (g : Story) (seed : ℕ) (es fs : List (List ℕ)) where
     ap (Halted IsOver) (taken_past r (last_piece r.pieces) fs k.current k.read none),
   )
 
-  ended_goes : (e : Ending) → reading g seed es ≡ e → IsSettled g.game (length es) e → Counted (length es) e → (digest : List ℕ) (r : Recovered) (kept : IsKept digest (length es) e r)
+  ended_goes : (e : Ending) → reading g seed es ≡ e → IsSettled g.game (length es) e → Counted (length es) e →
+      (digest : List ℕ) (r : Recovered) (kept : IsKept digest (length es) e r)
       → (st : State) (piece : List ℕ) → Valid g.game → Keeps g.game st → FitsFields st → r ≡ Shown digest (kept_bytes st) piece
       → (st.events ≡ length es) × GoesOnFrom e st piece
   unfolding kept_bytes
   ended_goes (WaitsAt p path s) is k counted digest r kept st piece v keeps fits shown =
-      let both : Shown digest (kept_bytes st) piece ≡ Shown digest (state_bytes (state_at (length es) p path s)) (last_piece s.pieces) = sym shown ∙ kept.shown in
+      let both : Shown digest (kept_bytes st) piece ≡ Shown digest (state_bytes (state_at (length es) p path s)) (last_piece s.pieces) = sym shown
+      ∙ kept.shown in
       let same : st ≡ state_at (length es) p path s = bytes_tell_the_state g.game st (state_at (length es) p path s) v keeps fits k.keeps k.fits cc in
       let piece_is : piece ≡ last_piece s.pieces = cc in
       rw (same, piece_is) (refl, waiting_goes p path s is k counted)
   ended_goes (Halted IsOver s) is k counted digest r kept st piece v keeps fits shown =
-      let both : Shown digest (kept_bytes st) piece ≡ Shown digest (state_bytes (state_at (length es) prompt.Over [] s)) (last_piece s.pieces) = sym shown ∙ kept.shown in
-      let same : st ≡ state_at (length es) prompt.Over [] s = bytes_tell_the_state g.game st (state_at (length es) prompt.Over [] s) v keeps fits k.keeps k.fits cc in
+      let both : Shown digest (kept_bytes st) piece ≡ Shown digest (state_bytes (state_at (length es) prompt.Over [] s)) (last_piece s.pieces) = sym shown
+      ∙ kept.shown in
+      let same : st ≡ state_at (length es) prompt.Over [] s = bytes_tell_the_state g.game st
+      (state_at (length es) prompt.Over [] s) v keeps fits k.keeps k.fits cc in
       let piece_is : piece ≡ last_piece s.pieces = cc in
       rw (same, piece_is) (refl, over_goes s is k kept.played counted)
   ended_goes _ is k counted digest r kept st piece v keeps fits shown = absurd kept.played
 
   -- going on from the state that a store shows is reading the longer list
   pub goes_on : IsSettled g.game (length es) (reading g seed es) → (bytes : List ℕ) (st : State) (piece : List ℕ) → Valid g.game
-      → Stands g seed es bytes → ShowsState g.game (sha256 (image g.game)) bytes st piece → (st.events ≡ length es) × (going_on g st piece fs ≡ reading_since g seed es fs)
+      → Stands g seed es bytes → ShowsState g.game (sha256 (image g.game)) bytes st piece →
+      (st.events ≡ length es) × (going_on g st piece fs ≡ reading_since g seed es fs)
   goes_on settled bytes st piece v stands shows =
       let e : Ending = reading g seed es in
-      let goes = ended_goes e refl settled (pieces_of_lines g seed es) (sha256 (image g.game)) (recover bytes) stands.keeps st piece v shows.keeps shows.fits shows.shown in
+      let goes = ended_goes e refl settled (pieces_of_lines g seed es) (sha256 (image g.game))
+      (recover bytes) stands.keeps st piece v shows.keeps shows.fits shows.shown in
       let ps : List (List ℕ) = pieces_of (run_of e) in
       let ts : List (List Step) = traces_of (run_of e) in
       (goes.0, goes.1.4 ∙ sym (ap (ending_since (length es)) goes.1.3 ∙ since_past (length es) ps ts goes.1.0 goes.1.1 goes.1.2))

@@ -15,6 +15,8 @@ use Rattle.paw_process.specs.Kept.{kept, unused}
 use Rattle.paw_process.specs.OpenTables.{OpenTables}
 use Rattle.paw_process.specs.declared.kept.Frames.{Frames}
 use Rattle.paw_state.specs.Record.{last_piece, frames_at}
+use Rattle.paw_state.specs.State.{State}
+use Rattle.paw_reading.specs.declared.places.Frame.{Frame}
 use Rattle.paw_play.specs.Session.{kept_bytes, IsKept}
 use Rattle.paw_play.specs.Walk.{EndingOf}
 use Rattle.paw_play.specs.inner.OnTheWay.{ShowsPiece, seat_state}
@@ -30,31 +32,46 @@ last_more (p ∷ q ∷ pieces) piece = last_more (q ∷ pieces) piece
 pub kept_is : (m : OpenTables) → kept m ≡ frames_at (reverse m.frames) m.turning
 kept_is m = ap (λ (n : ℕ). record { count = n; rows = reverse m.frames ++ replicate (11 - n) unused; turning = m.turning }) (sym (length-reverse m.frames))
 
--- where a player waits, its session keeps the reading
-waits_kept : {F : Type 0} (g : Story) (digest : List ℕ) (events : ℕ) (e : Ending) (p : Prompt) (next : Seat F) (pieces : List (List ℕ)) (traces : List (List Read)) → next.last ≡ step.Waits p →
-    e ≡ WaitsAt p (reverse next.machine.frames) (run_at next (pieces ++ next.piece ∷ []) traces []) → IsKept digest events e (Shown digest (seat_state events next) next.piece)
-waits_kept g digest events e p next pieces traces last is = rw (is, last) (record {
-  played = tt;
-  shown = ap (λ (k : Frames). Shown digest (kept_bytes (record { world = next.world; frames = k; pending = next.pending; prompt = p; events = events; piece = length next.piece })) next.piece) (kept_is next.machine)
-      ∙ ap (λ (q : List ℕ). Shown digest (kept_bytes (record { world = next.world; frames = frames_at (reverse next.machine.frames) next.machine.turning; pending = next.pending; prompt = p; events = events; piece = length q })) q) (sym (last_more pieces next.piece));
-})
+-- the state of a player's parts, with these frames and a piece of this length
+abbrev parts : {F : Type 0} → ℕ → Prompt → Seat F → Frames → ℕ → State
+parts events p next frames n = record { world = next.world; frames = frames; pending = next.pending; prompt = p; events = events; piece = n }
 
-over_kept : {F : Type 0} (g : Story) (digest : List ℕ) (events : ℕ) (e : Ending) (next : Seat F) (pieces : List (List ℕ)) (traces : List (List Read)) → next.last ≡ step.Ended → next.machine.frames ≡ [] →
+-- what a session shows of them, by the path of the machine and the last piece that was closed
+shown_at : {F : Type 0} (digest : List ℕ) (events : ℕ) (p : Prompt) (path : List Frame) (next : Seat F) (pieces : List (List ℕ)) →
+    kept next.machine ≡ frames_at path next.machine.turning →
+    Shown digest (kept_bytes (parts events p next (kept next.machine) (length next.piece))) next.piece
+    ≡ Shown digest (kept_bytes (parts events p next (frames_at path next.machine.turning) (length (last_piece (pieces ++ next.piece ∷ [])))))
+    (last_piece (pieces ++ next.piece ∷ []))
+shown_at digest events p path next pieces is =
+    ap (λ (k : Frames). Shown digest (kept_bytes (parts events p next k (length next.piece))) next.piece) is
+    ∙ ap (λ (q : List ℕ). Shown digest (kept_bytes (parts events p next (frames_at path next.machine.turning) (length q))) q) (sym (last_more pieces next.piece))
+
+-- where a player waits, its session keeps the reading
+waits_kept : {F : Type 0} (digest : List ℕ) (events : ℕ) (e : Ending) (p : Prompt) (next : Seat F) (pieces : List (List ℕ))
+    (traces : List (List Read)) → next.last ≡ step.Waits p →
+    e ≡ WaitsAt p (reverse next.machine.frames) (run_at next (pieces ++ next.piece ∷ []) traces []) →
+    IsKept digest events e (Shown digest (seat_state events next) next.piece)
+waits_kept digest events e p next pieces traces last is =
+    rw (is, last) (record { played = tt; shown = shown_at digest events p (reverse next.machine.frames) next pieces (kept_is next.machine) })
+
+over_kept : {F : Type 0} (digest : List ℕ) (events : ℕ) (e : Ending) (next : Seat F) (pieces : List (List ℕ)) (traces : List (List Read)) →
+    next.last ≡ step.Ended → next.machine.frames ≡ [] →
     e ≡ Halted IsOver (run_at next (pieces ++ next.piece ∷ []) traces []) →
     IsKept digest events e (Shown digest (seat_state events next) next.piece)
-over_kept g digest events e next pieces traces last closed is = rw (is, last) (record {
+over_kept digest events e next pieces traces last closed is = rw (is, last) (record {
   played = refl;
-  shown = ap (λ (k : Frames). Shown digest (kept_bytes (record { world = next.world; frames = k; pending = next.pending; prompt = prompt.Over; events = events; piece = length next.piece })) next.piece) (kept_is next.machine ∙ ap (λ fs. frames_at (reverse fs) next.machine.turning) closed)
-      ∙ ap (λ (q : List ℕ). Shown digest (kept_bytes (record { world = next.world; frames = frames_at [] next.machine.turning; pending = next.pending; prompt = prompt.Over; events = events; piece = length q })) q) (sym (last_more pieces next.piece));
+  shown = shown_at digest events prompt.Over [] next pieces
+      (kept_is next.machine ∙ ap (λ fs. frames_at (reverse fs) next.machine.turning) closed);
 })
 
 -- a step that brings a piece leads to a player whose session keeps the reading
-pub step_kept : {F : Type 0} (g : Story) (digest : List ℕ) (events : ℕ) (whole : EndingOf) (s : Step) (next : Seat F) (pieces : List (List ℕ)) (traces : List (List Read)) → ShowsPiece s → next.last ≡ s →
+pub step_kept : {F : Type 0} (g : Story) (digest : List ℕ) (events : ℕ) (whole : EndingOf) (s : Step) (next : Seat F) (pieces : List (List ℕ))
+    (traces : List (List Read)) → ShowsPiece s → next.last ≡ s →
     StandsClosed s next.machine → PlaysTo g whole s next pieces traces → IsKept digest events (whole []) (Shown digest (seat_state events next) next.piece)
 step_kept g digest events whole (step.Waits p) next pieces traces shows last stands plays =
-    waits_kept g digest events (whole []) p next pieces (traces ++ plays.0 ∷ []) last
+    waits_kept digest events (whole []) p next pieces (traces ++ plays.0 ∷ []) last
     (plays.1.1 [] ∙ on_waits g p next.machine (run_at next (pieces ++ next.piece ∷ []) (traces ++ plays.0 ∷ []) []) stands)
 step_kept g digest events whole step.Ended next pieces traces shows last stands plays =
-    over_kept g digest events (whole []) next pieces (traces ++ plays.0 ∷ []) last stands.frames (plays.1.1 [])
+    over_kept digest events (whole []) next pieces (traces ++ plays.0 ∷ []) last stands.frames (plays.1.1 [])
 step_kept g digest events whole (step.Spent kind) next pieces traces shows last stands plays = absurd shows
 step_kept g digest events whole (step.TooDeep u) next pieces traces shows last stands plays = absurd shows

@@ -1,10 +1,11 @@
+mod Telling
 pub mod Walking
 mod States
 mod Kept
+mod Resting
 mod Following
 mod Lines
 mod Playing
-mod Tracing
 mod Beginning
 mod Begun
 mod Attaching

@@ -1,5 +1,5 @@
 -- What is said of a session by what its store keeps, in other words.
-use Rattle.std.proofs.Common.{◌≡◌, inl, inr, ℕ, zero, suc, ◌+◌, ◌≤◌, List, ◌++◌, length, refl, ap, ◌∙◌, arith}
+use Rattle.std.proofs.Common.{◌≡◌, ◌≢◌, inl, inr, ℕ, zero, suc, ◌+◌, ◌≤◌, List, ◌++◌, length, refl, ap, ◌∙◌, arith}
 use Rattle.paw_stage.specs.Stage.{Standing}
 use Rattle.paw_stage.specs.Moments.{Moment}
 use Rattle.paw_stage.specs.declared.StageCall.TheVariants as call
@@ -8,25 +8,37 @@ use Rattle.paw_play.specs.declared.PlayEnd.TheVariants as end
 use Rattle.paw_play.specs.declared.TheConstants.{MOST_EVENTS}
 use Rattle.paw_play.specs.Walk.{EndingOf, told_before}
 use Rattle.paw_play.specs.Keeping.{AgreesWith, KeepsUpWith, InSession, InMakingOf, RestsWith, KeepsAll, KeepsAllButLast, LeavesStore}
-use Rattle.paw_play.specs.Play.{PlaysWith, PlaysIn, memory, spent, too_deep, unmade, plays}
+use Rattle.paw_play.specs.Play.{PlaysWith, PlaysIn, memory, spent, too_deep, unmade, plays, with_store}
+use Rattle.paw_play.proofs.Resting.{rests_as}
 
 -- the text for all but the last line
 told_same : (told by : ℕ → List ℕ) → ((n : ℕ) → told n ≡ by n) → (n : ℕ) → told_before told n ≡ told_before by n
 told_same told by same zero = refl
 told_same told by same (suc n) = same n
 
+-- a moment of a session, said otherwise, and from what stood before its store was attached
+pub in_session_as : (Kept By : ℕ → List ℕ → Type 0) (told by : ℕ → List ℕ) (past : ℕ) (name : List ℕ) (first old : Standing) →
+    first ≡ with_store first old → ((n : List ℕ) → n ≢ name → first.files n ≡ old.files n) → (m : Moment) (i : InSession Kept told past name first m) →
+    told_before told i.taken ≡ told_before by i.taken →
+    ((image : List ℕ) → KeepsUpWith Kept told i.taken i.text image → KeepsUpWith By by i.taken i.text image) → InSession By by past name old m
+in_session_as Kept By told by past name first old same others m i said keeps = record {
+  taken = i.taken;
+  text = i.text;
+  last = i.last;
+  there = omega (arith, i.there, ap (λ (q : Standing). length q.lines) same);
+  few = i.few;
+  asked = i.asked ∙ ap (λ (q : Standing). q.asked + i.taken) same;
+  shown = i.shown ∙ ap (λ (q : Standing). q.shown ++ i.text) same;
+  before = i.before ∙ ap (λ t. t ++ i.last) said;
+  attached = i.attached;
+  files = λ n ne. i.files n ne ∙ others n ne;
+  leaves = λ image may. keeps image (i.leaves image may);
+}
+
 module _ (Kept By : ℕ → List ℕ → Type 0) (past : ℕ) (name : List ℕ) (old : Standing)
     (so : (n : ℕ) (bytes : List ℕ) → n ≤ length old.lines → past + n ≤ MOST_EVENTS → Kept n bytes → By n bytes) where
   rests_by : (new : Standing) (n : ℕ) → RestsWith Kept past name old new n → RestsWith By past name old new n
-  rests_by new n r = record {
-    there = r.there;
-    few = r.few;
-    attached = r.attached;
-    stable = r.stable;
-    file = r.file;
-    others = r.others;
-    keeps = so n new.disk.bytes r.there r.few r.keeps;
-  }
+  rests_by new n r = rests_as Kept By past name old new new n new.lines new.asked new.shown refl (so n new.disk.bytes r.there r.few) r
 
   all_by : (new : Standing) → KeepsAll Kept past name old new → KeepsAll By past name old new
   all_by new k = (k.0, k.1, rests_by new k.0 k.2)
@@ -62,19 +74,9 @@ module _ (Kept By : ℕ → List ℕ → Type 0) (past : ℕ) (name : List ℕ) 
     keeps_up_by (suc n) text bytes there few (inr k) = inr (agrees_by n text bytes (omega arith) (omega arith) k)
 
     pub in_session_by : (m : Moment) → InSession Kept told past name old m → InSession By by past name old m
-    in_session_by m i = record {
-      taken = i.taken;
-      text = i.text;
-      last = i.last;
-      there = i.there;
-      few = i.few;
-      asked = i.asked;
-      shown = i.shown;
-      before = i.before ∙ ap (λ t. t ++ i.last) (told_same told by same i.taken);
-      attached = i.attached;
-      files = i.files;
-      leaves = λ image may. keeps_up_by i.taken i.text image i.there i.few (i.leaves image may);
-    }
+    in_session_by m i =
+        in_session_as Kept By told by past name old old refl (λ n ne. refl) m i
+        (told_same told by same i.taken) (λ image k. keeps_up_by i.taken i.text image i.there i.few k)
 
 -- ---- a new session ----
 

@@ -11,7 +11,8 @@ use Rattle.paw_reading.specs.declared.places.Frame.{Frame}
 use Rattle.paw_reading.specs.declared.places.OpenLoop.{OpenLoop}
 use Rattle.paw_reading.specs.Turn.{first_table}
 use Rattle.paw_reading.specs.inner.Places.{LeadsTo, tables_of, IsLoopIn, AreOpenAt}
-use Rattle.paw_process.specs.Kept.{unused, condact_of, has_code, may_open, parameter_of, row_stands, rows_fault, table_of, is_that_table, loop_fault, first_fault}
+use Rattle.paw_process.specs.Kept.{unused, condact_of, has_code, may_open, parameter_of, row_stands, rows_fault}
+use Rattle.paw_process.specs.Kept.{table_of, is_that_table, loop_fault, first_fault}
 use Rattle.paw_process.specs.Kept.{count_fits, fault_at}
 use Rattle.paw_state.specs.Record.{frames_at}
 

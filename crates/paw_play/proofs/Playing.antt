@@ -1,6 +1,6 @@
 -- A session, line by line.
-use Rattle.std.proofs.Common.{◌≡◌, ◌≢◌, ℕ, zero, suc, ◌+◌, ◌≤◌, ◌<◌, List, [], ◌∷◌, ◌++◌, Option, Some, None, refl, sym, ap, ◌∙◌, subst, length, take, drop}
-use Rattle.std.proofs.Common.{arith, append_assoc, inl, inr}
+use Rattle.std.proofs.Common.{◌≡◌, ◌≢◌, ℕ, zero, suc, ◌+◌, ◌≤◌, ◌<◌, List, [], ◌∷◌, ◌++◌, Option, Some, None, refl, sym, ap, ◌∙◌, subst}
+use Rattle.std.proofs.Common.{length, take, drop, arith, append_assoc, inl, inr}
 use Rattle.std.proofs.lemmas.List.{append-nil, take-append-drop}
 use Rattle.std.specs.Prelude.{reverse}
 use Rattle.paw_stage.specs.Disk.{MayLeave, IsStable}
@@ -25,9 +25,14 @@ use Rattle.paw_play.specs.declared.TheConstants.{MOST_EVENTS}
 use Rattle.paw_play.specs.Walk.{first_lines, played, joined, Walks}
 use Rattle.paw_play.specs.Keeping.{IsPart, AgreesWith, KeepsUpWith, KeepsAllButLast}
 use Rattle.paw_play.specs.Play.{Played, KeepsLines, KeptBy, InPlay, with_store, Uncommitted, PlaysOn}
-use Rattle.paw_play.specs.inner.OnTheWay.{IsWalking, WalksOn, Told, ShowsPiece, refusal_of, seat_state, Rests, IsPlaying}
+use Rattle.paw_play.specs.inner.Calls.{unless_ended}
+use Rattle.paw_play.specs.inner.Telling.{Plain}
+use Rattle.paw_play.specs.inner.OnTheWay.{IsWalking, WalksTo, Told, ShowsPiece, refusal_of, seat_state, Rests, IsPlaying, PlaysTo}
 use Rattle.paw_play.proofs.Kept.{step_kept}
-use Rattle.paw_play.proofs.Walking.{walks_on, long_walk, none_left, none_asked, text_so_far, text_shown, read_after, drop_more, stands_after, shown_nothing}
+use Rattle.paw_play.proofs.Resting.{rests_on}
+use Rattle.paw_play.proofs.Telling.{shows_piece}
+use Rattle.paw_play.proofs.Walking.{walks_on, long_walk, none_left, none_asked, text_so_far, text_shown, read_after, drop_more}
+use Rattle.paw_play.proofs.Walking.{stands_after, shown_nothing}
 use Rattle.paw_effects.specs.Story.{Story}
 
 -- ---- at a prompt ----
@@ -49,7 +54,7 @@ whole_text s lines n text e = ([], append-nil text ∙ sym e)
 text_is : {F : Type 0} (g : Story) (s : Played) (first now : Standing) (seat : Seat F) (n : ℕ)
     (w : IsPlaying g s first now seat n) → IsSeated seat →
     text_of (s.whole (first_lines n first.lines)) ≡ joined w.walking.pieces
-text_is g s first now seat n w seated = text_so_far g s.whole n (with_store now first) now seat w.walking seated
+text_is g s first now seat n w seated = text_so_far Plain g s.whole n (with_store now first) now seat w.walking seated
 
 asked_is : {F : Type 0} (g : Story) (s : Played) (first now : Standing) (seat : Seat F) (n : ℕ) → IsPlaying g s first now seat n → now.asked ≡ first.asked + n
 asked_is g s first now seat n w = ap (λ (q : Standing). q.asked) w.walking.stands
@@ -107,14 +112,16 @@ is_there g s first now mid seat n line w e =
     (drop_more first.lines n line mid.lines (ap (λ (q : Standing). q.lines) (sym w.walking.stands) ∙ e)).1
 
 -- inside an ask
-pub in_ask : {F : Type 0} (g : Story) (s : Played) (first now mid : Standing) (seat : Seat F) (n : ℕ) (a : Asked)
-    (into : List ℕ) (m : Moment) → IsPlaying g s first now seat n → IsSeated seat →
-    s.before + suc n ≤ MOST_EVENTS → AsksTo now mid a into → InAsk now a m → InPlay s first m
-in_ask g s first now mid seat n (asked.Line k) into m w seated few asks (inl e) = subst (InPlay s first) (sym e) (at_prompt g s first now seat n w seated)
-in_ask g s first now mid seat n (asked.Line k) into m w seated few asks (inr e) =
+pub in_ask : {F : Type 0} {g : Story} {s : Played} {first now : Standing} {seat : Seat F} {n : ℕ} (w : IsPlaying g s first now seat n) (mid : Standing)
+    (a : Asked) (into : List ℕ) → IsSeated seat → s.before + suc n ≤ MOST_EVENTS → AsksTo now mid a into → (m : Moment) → InAsk now a m → InPlay s first m
+in_ask {F} {g} {s} {first} {now} {seat} {n} w mid (asked.Line k) into seated few asks m (inl e) =
+    subst (InPlay s first) (sym e) (at_prompt g s first now seat n w seated)
+in_ask {F} {g} {s} {first} {now} {seat} {n} w mid (asked.Line k) into seated few asks m (inr e) =
     subst (InPlay s first) (sym e) (line_asked g s first now seat n w seated (is_there g s first now mid seat n asks.0 w asks.1) few)
-in_ask g s first now mid seat n asked.End into m w seated few asks e = subst (InPlay s first) (sym e) (at_prompt g s first now seat n w seated)
-in_ask g s first now mid seat n asked.Failed into m w seated few asks e = subst (InPlay s first) (sym e) (at_prompt g s first now seat n w seated)
+in_ask {F} {g} {s} {first} {now} {seat} {n} w mid asked.End into seated few asks m e =
+    subst (InPlay s first) (sym e) (at_prompt g s first now seat n w seated)
+in_ask {F} {g} {s} {first} {now} {seat} {n} w mid asked.Failed into seated few asks m e =
+    subst (InPlay s first) (sym e) (at_prompt g s first now seat n w seated)
 
 -- ---- the store after a commit ----
 
@@ -124,47 +131,84 @@ mid_attached : {F : Type 0} (g : Story) (s : Played) (first now mid : Standing) 
     mid.attached ≡ Some s.name
 mid_attached g s first now mid seat n w e = ap (λ (q : Standing). q.attached) e ∙ w.rests.attached
 
-module _ {F : Type 0} (g : Story) (s : Played) (most n events : ℕ) (first now mid kept : Standing) (seat next : Seat F) (given line : List ℕ) (step : Step)
-    (w : IsPlaying g s first now seat n) (seated : IsSeated seat) (then_seated : IsSeated next) (game : next.game ≡ seat.game) (last : next.last ≡ step)
-    (lines : now.lines ≡ line ∷ mid.lines) (cut : given ≡ take 255 line) (took : mid ≡ record now { lines = mid.lines; asked = now.asked + 1 })
-    (plays : StepsTo g (λ more. on g w.walking.prompt (reverse seat.machine.frames)
-    (run_at seat w.walking.pieces w.walking.traces (given ∷ more))) step next w.walking.pieces w.walking.traces)
-    (shows : ShowsPiece step) (counts : events ≡ s.before + suc n) (fit : events ≤ MOST_EVENTS) where
+-- a line was taken that brought a piece
+pub record Taken {F : Type 0} (g : Story) (s : Played) (most n events : ℕ) (first now mid : Standing) (seat next : Seat F) (given line : List ℕ) (found : Step)
+    (w : IsPlaying g s first now seat n) : Type 0 where
+  pub few : n < most
+  pub seated : IsSeated seat
+  pub then_seated : IsSeated next
+  pub last : next.last ≡ found
+  pub lines : now.lines ≡ line ∷ mid.lines
+  pub cut : given ≡ take 255 line
+  pub took : mid ≡ record now { lines = mid.lines; asked = now.asked + 1 }
+  pub plays : StepsTo g (λ more. on g w.walking.prompt (reverse seat.machine.frames) (run_at seat w.walking.pieces w.walking.traces (given ∷ more)))
+      found next w.walking.pieces w.walking.traces
+  pub shows : ShowsPiece found
+  pub counts : events ≡ s.before + suc n
+  pub fit : events ≤ MOST_EVENTS
+
+pub taken : {F : Type 0} (g : Story) (s : Played) (most n events : ℕ) (first now mid : Standing) (seat next : Seat F) (given line : List ℕ) (found : Step)
+    (w : IsPlaying g s first now seat n) → n < most → IsSeated seat → IsSeated next → next.last ≡ found →
+    now.lines ≡ line ∷ mid.lines → given ≡ take 255 line → mid ≡ record now { lines = mid.lines; asked = now.asked + 1 } →
+    StepsTo g (λ more. on g w.walking.prompt (reverse seat.machine.frames) (run_at seat w.walking.pieces w.walking.traces (given ∷ more)))
+    found next w.walking.pieces w.walking.traces → None ≡ refusal_of found → events ≡ s.before + suc n → events ≤ MOST_EVENTS →
+    Taken g s most n events first now mid seat next given line found w
+taken g s most n events first now mid seat next given line found w few seated then_seated last lines cut took plays fine counts fit = record {
+  few = few;
+  seated = seated;
+  then_seated = then_seated;
+  last = last;
+  lines = lines;
+  shows = shows_piece found fine;
+  cut = cut;
+  took = took;
+  plays = plays;
+  counts = counts;
+  fit = fit;
+}
+
+module _ {F : Type 0} {g : Story} {s : Played} {most n events : ℕ} {first now mid : Standing} {seat next : Seat F} {given line : List ℕ} {found : Step}
+    {w : IsPlaying g s first now seat n} (t : Taken g s most n events first now mid seat next given line found w) where
   -- the text of all lines that were taken
   whole_is : s.whole (first_lines (suc n) first.lines)
       ≡ on g w.walking.prompt (reverse seat.machine.frames) (run_at seat w.walking.pieces w.walking.traces (given ∷ []))
-  whole_is = read_after g s.whole n (with_store now first) now mid kept seat next given line step w.walking seated then_seated game last lines cut took plays
+  whole_is = read_after Plain g s.whole n (with_store now first) now mid seat given line w.walking t.lines t.cut
 
-  machine_stands : StandsClosed step next.machine
-  machine_stands = subst (λ q. StandsClosed q next.machine) last then_seated.machine
+  machine_stands : StandsClosed found next.machine
+  machine_stands = subst (λ q. StandsClosed q next.machine) t.last t.then_seated.machine
 
   text_more : text_of (s.whole (first_lines (suc n) first.lines)) ≡ joined w.walking.pieces ++ next.piece
-  text_more = ap text_of whole_is ∙ text_shown g _ step next w.walking.pieces w.walking.traces shows machine_stands plays
+  text_more = ap text_of whole_is ∙ text_shown Plain g _ found next w.walking.pieces w.walking.traces tt t.shows machine_stands t.plays
 
   -- the session that is committed keeps them
   keeps_more : KeepsLines s first.lines (suc n) (Shown s.digest (seat_state events next) next.piece)
-  keeps_more = rw (← counts, whole_is) (step_kept g s.digest events _ step next w.walking.pieces w.walking.traces shows last machine_stands plays)
+  keeps_more =
+      let counts = t.counts in
+      rw (← counts, whole_is) (step_kept g s.digest events _ found next w.walking.pieces w.walking.traces t.shows t.last machine_stands t.plays)
 
   there : suc n ≤ length first.lines
-  there = is_there g s first now mid seat n line w lines
+  there = is_there g s first now mid seat n line w t.lines
 
   all_few : s.before + suc n ≤ MOST_EVENTS
-  all_few = omega (arith, counts, fit)
+  all_few = omega (arith, t.counts, t.fit)
 
   asked_more : mid.asked ≡ first.asked + suc n
-  asked_more = let a = asked_is g s first now seat n w in let b = ap (λ (q : Standing). q.asked) took in omega (arith, a, b)
+  asked_more = let a = asked_is g s first now seat n w in let b = ap (λ (q : Standing). q.asked) t.took in omega (arith, a, b)
 
   shown_so_far : mid.shown ≡ first.shown ++ joined w.walking.pieces
-  shown_so_far = ap (λ (q : Standing). q.shown) took ∙ shown_is g s first now seat n w
+  shown_so_far = ap (λ (q : Standing). q.shown) t.took ∙ shown_is g s first now seat n w
 
   attached_still : mid.attached ≡ Some s.name
-  attached_still = mid_attached g s first now mid seat n w took
+  attached_still = mid_attached g s first now mid seat n w t.took
 
   not_this : (f : List ℕ) → f ≢ s.name → mid.attached ≢ Some f
   not_this f other e = let a : Some s.name ≡ Some f = sym attached_still ∙ e in other (cc)
 
   others_still : (f : List ℕ) → f ≢ s.name → mid.files f ≡ first.files f
-  others_still f other = ap (λ (q : Standing). q.files f) took ∙ w.rests.others f other
+  others_still f other = ap (λ (q : Standing). q.files f) t.took ∙ w.rests.others f other
+
+  digest_still : kept_digest mid.disk.bytes ≡ s.digest
+  digest_still = ap (λ (q : Standing). kept_digest q.disk.bytes) t.took ∙ w.digest
 
   -- inside the commit
   pub in_commit : (m : Moment) → InStore mid
@@ -178,171 +222,144 @@ module _ {F : Type 0} (g : Story) (s : Played) (most n events : ℕ) (first now 
     few = all_few;
     asked = i.asked ∙ asked_more;
     shown = i.shown ∙ shown_so_far;
-    before = sym (append-nil (text_of (s.whole (first_lines n first.lines))) ∙ text_is g s first now seat n w seated);
+    before = sym (append-nil (text_of (s.whole (first_lines n first.lines))) ∙ text_is g s first now seat n w t.seated);
     attached = i.attached ∙ attached_still;
     files = λ f other. i.files f (not_this f other) ∙ others_still f other;
     leaves = λ image may. elim (i.disk image may) [
       | inl e ↦ inr (
         subst (λ r. KeepsLines s first.lines n r) (sym e) before_it,
         whole_text s first.lines n
-            (joined w.walking.pieces) (text_is g s first now seat n w seated),
+            (joined w.walking.pieces) (text_is g s first now seat n w t.seated),
       )
       | inr e ↦ inl (
         subst (λ r. KeepsLines s first.lines (suc n) r)
-            (sym (e ∙ ap (λ d. Shown d (seat_state events next) next.piece) digest_is)) keeps_more,
+            (sym (e ∙ ap (λ d. Shown d (seat_state events next) next.piece) digest_still)) keeps_more,
         (next.piece, sym text_more),
       )
     ];
   }
     where
       before_it : KeepsLines s first.lines n (recover mid.disk.bytes)
-      before_it = subst (λ (q : Standing). KeepsLines s first.lines n (recover q.disk.bytes)) (sym took) w.rests.keeps
+      before_it = subst (λ (q : Standing). KeepsLines s first.lines n (recover q.disk.bytes)) (sym t.took) w.rests.keeps
 
-      digest_is : kept_digest mid.disk.bytes ≡ s.digest
-      digest_is = ap (λ (q : Standing). kept_digest q.disk.bytes) took ∙ w.digest
+  -- once it is committed
+  module _ (kept : Standing) (beside : IsBeside mid kept) where
+    -- the walk, with the store as it stands after the commit
+    walking_with : IsWalking Plain g s.whole (with_store kept first) (with_store kept now) seat n
+    walking_with = record {
+      prompt = w.walking.prompt;
+      waits = w.walking.waits;
+      pieces = w.walking.pieces;
+      traces = w.walking.traces;
+      each = tt;
+      goes_on = w.walking.goes_on;
+      there = w.walking.there;
+      stands = ap (with_store kept) w.walking.stands;
+    }
 
-  digest_still : kept_digest mid.disk.bytes ≡ s.digest
-  digest_still = ap (λ (q : Standing). kept_digest q.disk.bytes) took ∙ w.digest
+    kept_is : kept ≡ record (with_store kept now) { lines = kept.lines; asked = (with_store kept now).asked + 1 }
+    kept_is =
+        let a : kept.asked ≡ now.asked + 1 = beside.asked ∙ ap (λ (q : Standing). q.asked) t.took in
+        let b : kept.shown ≡ now.shown = beside.shown ∙ ap (λ (q : Standing). q.shown) t.took in
+        ap (λ x. record kept { asked = x }) a ∙ ap (λ x. record kept { asked = now.asked + 1; shown = x }) b
 
-  -- once it is committed the store is at rest, and keeps all lines
-  pub rests_more : IsBeside mid kept → IsStable kept.disk →
-      recover kept.disk.bytes ≡ Shown (kept_digest mid.disk.bytes) (seat_state events next) next.piece →
-      Rests s first kept (suc n)
-  rests_more beside stable is = record {
-    there = there;
-    few = all_few;
-    attached = beside.attached ∙ attached_still;
-    stable = stable;
-    file = beside.file s.name attached_still (subst (λ (q : Standing). q.files s.name ≡ Some q.disk.bytes) (sym took) w.rests.file);
-    others = λ f other. beside.files f (not_this f other) ∙ others_still f other;
-    keeps = subst (λ r. KeepsLines s first.lines (suc n) r) (sym (is ∙ ap (λ d. Shown d (seat_state events next) next.piece) digest_still)) keeps_more;
-  }
+    -- a commit that failed
+    uncommitted : Uncommitted s.whole most first kept
+    unfolding walking_with
+    uncommitted = (
+      n,
+      t.few,
+      there,
+      stands_after (with_store kept first) (with_store kept now) kept kept n (joined w.walking.pieces) [] line walking_with.stands
+          (t.lines ∙ ap (λ xs. line ∷ xs) (sym beside.lines)) kept_is (shown_nothing kept)
+          ∙ ap (played (with_store kept first) (suc n)) (append-nil (joined w.walking.pieces) ∙ sym (text_is g s first now seat n w t.seated)),
+    )
 
-  -- inside the show of its piece
-  pub in_show : (m : Moment) → Rests s first kept (suc n) → IsBeside mid kept → InShow kept next.piece m → InPlay s first m
-  in_show m rests beside i = subst (InPlay s first) (sym i.1) (record {
-    taken = suc n;
-    text = joined w.walking.pieces ++ take i.0 next.piece;
-    last = take i.0 next.piece;
-    there = there;
-    few = all_few;
-    asked = beside.asked ∙ asked_more;
-    shown = ap (λ t. t ++ take i.0 next.piece) (beside.shown ∙ shown_so_far) ∙ append_assoc first.shown (joined w.walking.pieces) (take i.0 next.piece);
-    before = ap (λ t. t ++ take i.0 next.piece) (sym (text_is g s first now seat n w seated));
-    attached = rests.attached;
-    files = rests.others;
-    leaves = λ image may. inl (
-      subst (λ b. KeepsLines s first.lines (suc n) (recover b)) (sym (stable_leaves kept.disk image rests.stable may)) rests.keeps,
-      (
-        drop i.0 next.piece,
-        append_assoc (joined w.walking.pieces) (take i.0 next.piece) (drop i.0 next.piece)
-            ∙ ap (λ t. joined w.walking.pieces ++ t) (take-append-drop i.0 next.piece) ∙ sym text_more,
-      ),
-    );
-  })
+    pub plays_not : (c : StageCall) → IsWriting c → PlaysOn s most first kept (end.Outside c)
+    plays_not c (inl e) = rw e (record { shows = uncommitted; session = tt })
+    plays_not c (inr e) = rw e (record { shows = uncommitted; session = tt })
 
-  -- the walk, with the store as it stands after the commit
-  walking_with : IsWalking g s.whole (with_store kept first) (with_store kept now) seat n
-  walking_with = record {
-    prompt = w.walking.prompt;
-    waits = w.walking.waits;
-    pieces = w.walking.pieces;
-    traces = w.walking.traces;
-    goes_on = w.walking.goes_on;
-    there = w.walking.there;
-    stands = ap (with_store kept) w.walking.stands;
-  }
+    module _ (stable : IsStable kept.disk) (is : recover kept.disk.bytes ≡ Shown (kept_digest mid.disk.bytes) (seat_state events next) next.piece) where
+      -- the store is at rest, and keeps all lines
+      rests : Rests s first kept (suc n)
+      rests = record {
+        there = there;
+        few = all_few;
+        attached = beside.attached ∙ attached_still;
+        stable = stable;
+        file = beside.file s.name attached_still (subst (λ (q : Standing). q.files s.name ≡ Some q.disk.bytes) (sym t.took) w.rests.file);
+        others = λ f other. beside.files f (not_this f other) ∙ others_still f other;
+        keeps = subst (λ r. KeepsLines s first.lines (suc n) r) (sym (is ∙ ap (λ d. Shown d (seat_state events next) next.piece) digest_still)) keeps_more;
+      }
 
-  kept_is : IsBeside mid kept → kept ≡ record (with_store kept now) { lines = kept.lines; asked = (with_store kept now).asked + 1 }
-  kept_is beside =
-      let a : kept.asked ≡ now.asked + 1 = beside.asked ∙ ap (λ (q : Standing). q.asked) took in
-      let b : kept.shown ≡ now.shown = beside.shown ∙ ap (λ (q : Standing). q.shown) took in
-      ap (λ x. record kept { asked = x }) a ∙ ap (λ x. record kept { asked = now.asked + 1; shown = x }) b
+      -- inside the show of its piece
+      pub in_show : (m : Moment) → InShow kept next.piece m → InPlay s first m
+      in_show m i = subst (InPlay s first) (sym i.1) (record {
+        taken = suc n;
+        text = joined w.walking.pieces ++ take i.0 next.piece;
+        last = take i.0 next.piece;
+        there = there;
+        few = all_few;
+        asked = beside.asked ∙ asked_more;
+        shown = ap (λ x. x ++ take i.0 next.piece) (beside.shown ∙ shown_so_far)
+            ∙ append_assoc first.shown (joined w.walking.pieces) (take i.0 next.piece);
+        before = ap (λ x. x ++ take i.0 next.piece) (sym (text_is g s first now seat n w t.seated));
+        attached = rests.attached;
+        files = rests.others;
+        leaves = λ image may. inl (
+          subst (λ b. KeepsLines s first.lines (suc n) (recover b)) (sym (stable_leaves kept.disk image rests.stable may)) rests.keeps,
+          (
+            drop i.0 next.piece,
+            append_assoc (joined w.walking.pieces) (take i.0 next.piece) (drop i.0 next.piece)
+                ∙ ap (λ x. joined w.walking.pieces ++ x) (take-append-drop i.0 next.piece) ∙ sym text_more,
+          ),
+        );
+      })
 
-  -- what comes of showing it
-  pub told_as : (new : Standing) (o : Option PlayEnd) → n < most → IsBeside mid kept → Told kept new next.piece step o →
-      WalksOn g s.whole most (with_store kept first) new next n o
-  unfolding walking_with
-  told_as new o few beside told =
-      walks_on g s.whole most n (with_store kept first) (with_store kept now) kept new seat next given line step o walking_with few seated then_seated game last
-      (lines ∙ ap (λ xs. line ∷ xs) (sym beside.lines)) cut (kept_is beside) plays told
+      -- what comes of showing it
+      walks_then : (new : Standing) (o : Option PlayEnd) → Told kept new next.piece found o →
+          WalksTo Plain g s.whole most (with_store kept first) new next (suc n) o
+      unfolding walking_with
+      walks_then new o told =
+          walks_on Plain g s.whole most n (with_store kept first) (with_store kept now) kept new seat next given line found o walking_with t.few
+          t.seated t.then_seated t.last (t.lines ∙ ap (λ xs. line ∷ xs) (sym beside.lines)) t.cut kept_is t.plays told
 
-  -- showing leaves the store at rest
-  rests_shown : (text : List ℕ) → Rests s first kept (suc n) → Rests s first (record kept { shown = text }) (suc n)
-  rests_shown text rests = record {
-    there = rests.there;
-    few = rests.few;
-    attached = rests.attached;
-    stable =
-        rests.stable;
-    file = rests.file;
-    others = rests.others;
-    keeps = rests.keeps;
-  }
+      rests_then : (new : Standing) (text : List ℕ) → new ≡ record kept { shown = text } → Rests s first new (suc n)
+      rests_then new text e = rests_on s first kept new (suc n) kept.lines kept.asked text e rests
 
-  rests_then : (new : Standing) (text : List ℕ) → new ≡ record kept { shown = text } → Rests s first kept (suc n) → Rests s first new (suc n)
-  rests_then new text e rests = subst (λ q. Rests s first q (suc n)) (sym e) (rests_shown text rests)
+      asked_then : (new : Standing) (text : List ℕ) → new ≡ record kept { shown = text } → new.asked ≡ first.asked + suc n
+      asked_then new text e = ap (λ (q : Standing). q.asked) e ∙ beside.asked ∙ asked_more
 
-  asked_then : (new : Standing) (text : List ℕ) → new ≡ record kept { shown = text } → IsBeside mid kept → new.asked ≡ first.asked + suc n
-  asked_then new text e beside = ap (λ (q : Standing). q.asked) e ∙ beside.asked ∙ asked_more
-
-  -- the session is at the next prompt
-  pub plays_next : (new : Standing) → n < most → IsBeside mid kept → Rests s first kept (suc n) → kept_digest kept.disk.bytes ≡ kept_digest mid.disk.bytes →
-      Told kept new next.piece step None → IsPlaying g s first new next (suc n)
-  plays_next new few beside rests digest told = record {
-    walking = subst (λ (q : Standing). IsWalking g s.whole (with_store q first) new next (suc n)) (sym told.2) (told_as new None few beside told);
-    rests = rests_then new (kept.shown ++ next.piece) told.2 rests;
-    digest = ap (λ (q : Standing). kept_digest q.disk.bytes) told.2 ∙ digest ∙ digest_still;
-    last = next.piece;
-    grown = text_more ∙ ap (λ t. t ++ next.piece) (sym (text_is g s first now seat n w seated));
-  }
-
-  -- or playing on has come to its end, with the piece shown or not
-  pub plays_last : (new : Standing) (o : PlayEnd) → n < most → IsBeside mid kept → Rests s first kept (suc n) →
-      Told kept new next.piece step (Some o) → PlaysOn s most first new o
-  plays_last new end.Ended few beside rests told = record {
-    shows = subst (λ (q : Standing). Walks s.whole most (with_store q first) new end.Ended) (sym told.1) (told_as new (Some end.Ended) few beside told);
-    session = (suc n, asked_then new (kept.shown ++ next.piece) told.1 beside, rests_then new (kept.shown ++ next.piece) told.1 rests);
-  }
-  plays_last new (end.Outside call.Show) few beside rests told = record {
-    shows = subst (λ (q : Standing). Walks s.whole most (with_store q first) new (end.Outside call.Show)) (sym told.3)
-        (told_as new (Some (end.Outside call.Show)) few beside told);
-    session = (suc n, asked_then new (kept.shown ++ take told.2 next.piece) told.3 beside, rests_then new (kept.shown ++ take told.2 next.piece) told.3 rests);
-  }
-  plays_last new (end.Spent kind) few beside rests told = absurd (subst ShowsPiece told.0 shows)
-  plays_last new (end.TooDeep table) few beside rests told = absurd (subst ShowsPiece told.0 shows)
-  plays_last new _ few beside rests told = absurd told
-
-  -- a commit that failed
-  uncommitted : n < most → IsBeside mid kept → Uncommitted s.whole most first kept
-  unfolding walking_with
-  uncommitted few beside = (
-    n,
-    few,
-    there,
-    stands_after (with_store kept first) (with_store kept now) kept kept n (joined w.walking.pieces) [] line walking_with.stands
-        (lines ∙ ap (λ xs. line ∷ xs) (sym beside.lines)) (kept_is beside) (shown_nothing kept)
-        ∙ ap (played (with_store kept first) (suc n)) (append-nil (joined w.walking.pieces) ∙ sym (text_is g s first now seat n w seated)),
-  )
-
-  pub plays_not : (c : StageCall) → n < most → IsBeside mid kept → IsWriting c → PlaysOn s most first kept (end.Outside c)
-  plays_not c few beside (inl e) = rw e (record { shows = uncommitted few beside; session = tt })
-  plays_not c few beside (inr e) = rw e (record { shows = uncommitted few beside; session = tt })
+      -- the session is at the next prompt, or playing on has come to its end, with the piece shown or not
+      pub plays_to : {A : Type 0} (a : A) (new : Standing) (o : Option PlayEnd) → kept_digest kept.disk.bytes ≡ kept_digest mid.disk.bytes →
+          Told kept new next.piece found o → PlaysTo g s most first new next n (unless_ended o a)
+      plays_to a new None digest told = record {
+        walking = subst (λ (q : Standing). IsWalking Plain g s.whole (with_store q first) new next (suc n)) (sym told.2) (walks_then new None told);
+        rests = rests_then new (kept.shown ++ next.piece) told.2;
+        digest = ap (λ (q : Standing). kept_digest q.disk.bytes) told.2 ∙ digest ∙ digest_still;
+        last = next.piece;
+        grown = text_more ∙ ap (λ x. x ++ next.piece) (sym (text_is g s first now seat n w t.seated));
+      }
+      plays_to a new (Some end.Ended) digest told = record {
+        shows = subst (λ (q : Standing). Walks s.whole most (with_store q first) new end.Ended) (sym told.1) (walks_then new (Some end.Ended) told);
+        session = (suc n, asked_then new (kept.shown ++ next.piece) told.1, rests_then new (kept.shown ++ next.piece) told.1);
+      }
+      plays_to a new (Some (end.Outside call.Show)) digest told = record {
+        shows = subst (λ (q : Standing). Walks s.whole most (with_store q first) new (end.Outside call.Show)) (sym told.3)
+            (walks_then new (Some (end.Outside call.Show)) told);
+        session = (suc n, asked_then new (kept.shown ++ take told.2 next.piece) told.3, rests_then new (kept.shown ++ take told.2 next.piece) told.3);
+      }
+      plays_to a new (Some (end.Spent kind)) digest told = absurd (subst ShowsPiece told.0 t.shows)
+      plays_to a new (Some (end.TooDeep table)) digest told = absurd (subst ShowsPiece told.0 t.shows)
+      plays_to a new (Some _) digest told = absurd told
 
 -- all the lines that a session may have were taken
 pub long_play : {F : Type 0} (g : Story) (s : Played) (most n : ℕ) (first now : Standing) (seat : Seat F) →
     IsPlaying g s first now seat n → IsSeated seat → n ≡ most → PlaysOn s most first now (end.Long 1000000000)
 long_play g s most n first now seat w seated all = record {
-  shows = long_walk g s.whole most n (with_store now first) now seat w.walking seated all;
+  shows = long_walk Plain g s.whole most n (with_store now first) now seat w.walking seated all;
   session = (n, asked_is g s first now seat n w, w.rests);
 }
-
--- a step that isn't refused brings a piece
-pub shows_piece : (found : Step) → None ≡ refusal_of found → ShowsPiece found
-shows_piece (step.Waits p) h = tt
-shows_piece step.Ended h = tt
-shows_piece (step.Spent kind) h = cc
-shows_piece (step.TooDeep table) h = cc
 
 -- ---- where nothing is committed ----
 
@@ -351,18 +368,17 @@ module _ {F : Type 0} (g : Story) (s : Played) (most n : ℕ) (first now : Stand
   -- no line is left
   pub no_line : (new : Standing) → AsksTo now new asked.End [] → PlaysOn s most first new end.InputEnded
   no_line new e = rw e.1 (record {
-    shows = none_left g s.whole most n (with_store now first) now now seat w.walking few seated (e.0, refl);
+    shows = none_left Plain g s.whole most n (with_store now first) now now seat w.walking seated few (e.0, refl);
     session = (n, asked_is g s first now seat n w, w.rests);
   })
 
   pub no_ask : (new : Standing) → new ≡ now → PlaysOn s most first new (end.Outside call.Ask)
   no_ask new e = rw e (record {
-    shows = none_asked g s.whole most n (with_store now first) now now seat w.walking few seated refl;
+    shows = none_asked Plain g s.whole most n (with_store now first) now now seat w.walking seated few refl;
     session = (n, asked_is g s first now seat n w, w.rests);
   })
 
-  module _ (mid : Standing) (next : Seat F) (given line : List ℕ) (found : Step) (then_seated : IsSeated next)
-      (game : next.game ≡ seat.game) (last : next.last ≡ found)
+  module _ (mid : Standing) (next : Seat F) (given line : List ℕ) (found : Step) (then_seated : IsSeated next) (last : next.last ≡ found)
       (lines : now.lines ≡ line ∷ mid.lines) (cut : given ≡ take 255 line) (took : mid ≡ record now { lines = mid.lines; asked = now.asked + 1 })
       (plays : StepsTo g (λ more. on g w.walking.prompt (reverse seat.machine.frames)
       (run_at seat w.walking.pieces w.walking.traces (given ∷ more))) found next w.walking.pieces w.walking.traces)
@@ -371,24 +387,14 @@ module _ {F : Type 0} (g : Story) (s : Played) (most n : ℕ) (first now : Stand
       refused_rests = (
         n,
         let a = asked_is g s first now seat n w in let b = ap (λ (q : Standing). q.asked) took in omega (arith, a, b),
-        subst (λ q. Rests s first q n) (sym took)
-            (record {
-              there = w.rests.there;
-              few = w.rests.few;
-              attached = w.rests.attached;
-              stable = w.rests.stable;
-              file =
-                  w.rests.file;
-              others = w.rests.others;
-              keeps = w.rests.keeps;
-            }),
+        rests_on s first now mid n mid.lines (now.asked + 1) now.shown took w.rests,
       )
 
       refused_shows : (o : PlayEnd) → Told mid mid next.piece found (Some o) → Walks s.whole most (with_store mid first) mid o
       refused_shows o told =
           subst (λ (q : Standing). Walks s.whole most (with_store q first) mid o) (sym took)
-          (walks_on g s.whole most n (with_store now first) now mid mid seat next given line found (Some o) w.walking few
-          seated then_seated game last lines cut took plays told)
+          (walks_on Plain g s.whole most n (with_store now first) now mid mid seat next given line found (Some o) w.walking few
+          seated then_seated last lines cut took plays told)
 
       -- the piece is spent, or a call is too deep
       pub plays_refused : (o : PlayEnd) → refusal_of found ≡ Some o → PlaysOn s most first mid o

@@ -1,5 +1,5 @@
 -- A session that is taken up again, up to its prompt.
-use Rattle.std.proofs.Common.{◌≡◌, ◌≢◌, ℕ, ◌+◌, ◌-◌, ◌≤◌, List, [], ◌∷◌, ◌++◌, Some, None, refl, sym, ap, ◌∙◌, subst, length, take, drop, arith}
+use Rattle.std.proofs.Common.{◌≡◌, ◌≢◌, ℕ, ◌+◌, ◌-◌, List, [], ◌∷◌, ◌++◌, Some, None, refl, sym, ap, ◌∙◌, subst, length, take, drop, arith}
 use Rattle.std.specs.Prelude.{reverse, replicate}
 use Rattle.std.proofs.lemmas.List.{append-nil, take-append-drop, length-reverse}
 use Rattle.std.proofs.Math.Seq.{take-append_seam}
@@ -16,37 +16,29 @@ use Rattle.paw_reading.specs.Run.{Run}
 use Rattle.paw_reading.specs.Turn.{Ending, WaitsAt, on, text_of}
 use Rattle.paw_process.specs.OpenTables.{OpenTables}
 use Rattle.paw_process.specs.Kept.{unused}
-use Rattle.paw_turn.specs.inner.Player.{Seat, IsSeated, StandsClosed}
+use Rattle.paw_turn.specs.inner.Player.{Seat, run_with, IsSeated, StandsClosed}
 use Rattle.paw_turn.specs.inner.Parts.{prompt_step, seat_at}
 use Rattle.paw_turn.specs.declared.Step.TheVariants as step
 use Rattle.paw_journal.specs.Session.{Shown, recover, kept_digest}
 use Rattle.paw_state.specs.inner.State.{state_of}
+use Rattle.paw_state.specs.inner.Fit.{state_read}
+use Rattle.paw_state.specs.declared.Restored.{Restored}
 use Rattle.paw_play.specs.declared.PlayEnd.{PlayEnd}
 use Rattle.paw_play.specs.declared.PlayEnd.TheVariants as end
-use Rattle.paw_play.specs.declared.TheConstants.{MOST_EVENTS}
 use Rattle.paw_state.specs.Record.{frames_at, state_at}
 use Rattle.paw_play.specs.Session.{kept_bytes, IsKept}
 use Rattle.paw_play.specs.Walk.{played}
-use Rattle.paw_play.specs.Play.{Played, InPlay, with_store, PlaysOn, going_on, kept_session}
+use Rattle.paw_play.specs.Play.{Played, InPlay, with_store, PlaysOn, ShowsState, going_on, kept_session}
 use Rattle.paw_play.specs.inner.OnTheWay.{Rests, IsPlaying, IsStore, ShowsAgain}
 use Rattle.paw_play.proofs.Kept.{kept_is}
+use Rattle.paw_play.proofs.Resting.{rests_on}
 use Rattle.paw_play.proofs.Walking.{on_waits, first_stands}
 use Rattle.paw_effects.specs.Story.{Story}
 use Rattle.paw_routines.specs.declared.routines.Routines.{Routines}
 
 -- the run of a state whose last piece was this
 abbrev pub run_from : World → OpenTables → PendingLine → List ℕ → List (List ℕ) → Run
-run_from w m p piece lines = record {
-  world = w;
-  pending = p.bytes;
-  earlier = p.earlier;
-  turning = m.turning;
-  current = [];
-  read = [];
-  pieces = piece ∷ [];
-  traces = [];
-  events = lines;
-}
+run_from w m p piece lines = run_with w m p (piece ∷ []) [] lines
 
 -- the path of what is kept of a machine
 path_is : (m : OpenTables) → take (length m.frames) (reverse m.frames ++ replicate (11 - length m.frames) unused) ≡ reverse m.frames
@@ -111,123 +103,115 @@ waits_at prompt.Over h = absurd (h refl)
 
 -- ---- the session ----
 
-module _ {F : Type 0} (g : Story) (digest name : List ℕ) (w : World) (m : OpenTables) (p : PendingLine) (at : Prompt)
-    (events n most : ℕ) (piece : List ℕ) (first : Standing) (routines : Routines F) (seat : Seat F)
-    (long : length piece ≡ n) (is : seat ≡ seat_at g.game routines w m p at) (seated : IsSeated seat)
-    (store : IsStore name first) (own : kept_digest first.disk.bytes ≡ digest)
-    (shows : recover first.disk.bytes ≡ Shown digest (kept_bytes (state_of w m p at events n)) piece) (fit : events ≤ MOST_EVENTS) where
-  session : Played
-  session = kept_session g (state_of w m p at events n) piece digest name
+-- the session that goes on from what was read of a store's state
+abbrev pub read_session : Story → List ℕ → List ℕ → Restored → Standing → Played
+read_session g name piece r first = kept_session g (state_read r) piece (kept_digest first.disk.bytes) name
 
-  machine_stands : StandsClosed (prompt_step at) m
-  machine_stands = subst (λ (q : Seat F). StandsClosed q.last q.machine) is seated.machine
+-- a player was made of what was read of the state of the attached store
+pub record Resumed {F : Type 0} (g : Story) (name piece : List ℕ) (r : Restored) (first : Standing) (routines : Routines F) (seat : Seat F) : Type 0 where
+  pub long : length piece ≡ r.piece
+  pub is : seat ≡ seat_at g.game routines r.world r.machine r.pending r.prompt
+  pub seated : IsSeated seat
+  pub store : IsStore name first
+  pub state : ShowsState g.game (kept_digest first.disk.bytes) first.disk.bytes (state_read r) piece
 
-  text_is : text_of (going_on g (state_of w m p at events n) piece []) ≡ piece
-  text_is = ap text_of (goes_on_from g w m p at events n piece []) ∙ text_at digest g w m p events n piece long at machine_stands
+module _ {F : Type 0} {g : Story} {name piece : List ℕ} {r : Restored} {first : Standing} {routines : Routines F} {seat : Seat F}
+    (u : Resumed g name piece r first routines seat) where
+  machine_stands : StandsClosed (prompt_step r.prompt) r.machine
+  machine_stands = subst (λ (q : Seat F). StandsClosed q.last q.machine) u.is u.seated.machine
 
-  keeps_now : IsKept digest (events + 0) (going_on g (state_of w m p at events n) piece []) (recover first.disk.bytes)
+  text_is : text_of (going_on g (state_read r) piece []) ≡ piece
+  text_is = ap text_of (goes_on_from g r.world r.machine r.pending r.prompt r.events r.piece piece [])
+      ∙ text_at (kept_digest first.disk.bytes) g r.world r.machine r.pending r.events r.piece piece u.long r.prompt machine_stands
+
+  keeps_now : IsKept (kept_digest first.disk.bytes) (r.events + 0) (going_on g (state_read r) piece []) (recover first.disk.bytes)
   keeps_now =
-      subst (IsKept digest (events + 0) (going_on g (state_of w m p at events n) piece [])) (sym shows)
-      (subst (λ e. IsKept digest (events + 0) e (Shown digest (kept_bytes (state_of w m p at events n)) piece))
-      (sym (goes_on_from g w m p at events n piece []))
-      (kept_at digest g w m p events n piece long at machine_stands))
+      let digest : List ℕ = kept_digest first.disk.bytes in
+      subst (IsKept digest (r.events + 0) (going_on g (state_read r) piece [])) (sym u.state.shown)
+      (subst (λ e. IsKept digest (r.events + 0) e (Shown digest (kept_bytes (state_read r)) piece))
+      (sym (goes_on_from g r.world r.machine r.pending r.prompt r.events r.piece piece []))
+      (kept_at digest g r.world r.machine r.pending r.events r.piece piece u.long r.prompt machine_stands))
 
-  rests_first : Rests session first first 0
-  unfolding session
+  rests_first : Rests (read_session g name piece r first) first first 0
   rests_first = record {
     there = omega arith;
-    few = omega (arith, fit);
-    attached = store.attached;
-    stable =
-        store.stable;
-    file = store.file;
+    few = omega (arith, u.state.keeps.events);
+    attached = u.store.attached;
+    stable = u.store.stable;
+    file = u.store.file;
     others = λ f other. refl;
     keeps = keeps_now;
   }
 
-  rests_shown : (new : Standing) (text : List ℕ) → new ≡ record first { shown = text } → Rests session first new 0
-  unfolding session
-  rests_shown new text e =
-      subst (λ q. Rests session first q 0) (sym e)
-      (record {
-        there = omega arith;
-        few = omega (arith, fit);
-        attached = store.attached;
-        stable = store.stable;
-        file =
-            store.file;
-        others = λ f other. refl;
-        keeps = keeps_now;
-      })
-
-  store_is : (new : Standing) (text : List ℕ) → new ≡ record first { shown = text } → first ≡ with_store new first
-  store_is new text e = ap (λ (q : Standing). with_store q first) (sym e)
+  rests_shown : (new : Standing) (text : List ℕ) → new ≡ record first { shown = text } → Rests (read_session g name piece r first) first new 0
+  rests_shown new text e = rests_on (read_session g name piece r first) first first new 0 first.lines first.asked text e rests_first
 
   stands_with : (new : Standing) (part : List ℕ) → new ≡ record first { shown = first.shown ++ part } → new ≡ played (with_store new first) 0 part
-  stands_with new part e = subst (λ q. new ≡ played q 0 part) (store_is new (first.shown ++ part) e) (first_stands first new part e)
+  stands_with new part e =
+      subst (λ q. new ≡ played q 0 part) (ap (λ (q : Standing). with_store q first) (sym e)) (first_stands first new part e)
 
   asked_is : (new : Standing) (text : List ℕ) → new ≡ record first { shown = text } → new.asked ≡ first.asked + 0
   asked_is new text e = ap (λ (q : Standing). q.asked) e ∙ omega arith
 
   -- inside the show of the piece
-  pub in_again_show : (mo : Moment) → InShow first piece mo → InPlay (kept_session g (state_of w m p at events n) piece digest name) first mo
-  in_again_show mo i = subst (InPlay (kept_session g (state_of w m p at events n) piece digest name) first) (sym i.1) (record {
+  pub in_again_show : (m : Moment) → InShow first piece m → InPlay (read_session g name piece r first) first m
+  in_again_show m i = subst (InPlay (read_session g name piece r first) first) (sym i.1) (record {
     taken = 0;
     text = take i.0 piece;
     last = take i.0 piece;
     there = omega arith;
-    few = omega (arith, fit);
+    few = omega (arith, u.state.keeps.events);
     asked = omega arith;
     shown = refl;
     before = refl;
-    attached = store.attached;
+    attached = u.store.attached;
     files = λ f other. refl;
     leaves = λ image may. (
-      subst (λ b. IsKept digest (events + 0) (going_on g (state_of w m p at events n) piece []) (recover b))
-          (sym (stable_leaves first.disk image store.stable may)) keeps_now,
+      subst (λ b. IsKept (kept_digest first.disk.bytes) (r.events + 0) (going_on g (state_read r) piece []) (recover b))
+          (sym (stable_leaves first.disk image u.store.stable may)) keeps_now,
       (drop i.0 piece, take-append-drop i.0 piece ∙ sym text_is),
     );
   })
 
   -- the session is at its prompt
-  pub again_next : (new : Standing) → ShowsAgain first new piece at None →
-      IsPlaying g (kept_session g (state_of w m p at events n) piece digest name) first new seat 0
-  unfolding session
-  again_next new told = rw is (record {
+  pub again_next : (new : Standing) → ShowsAgain first new piece r.prompt None →
+      IsPlaying (record g { game = seat.game }) (read_session g name piece r first) first new seat 0
+  again_next new told = let is = u.is in rw is (record {
     walking = record {
-      prompt = at;
-      waits = waits_at at told.0;
+      prompt = r.prompt;
+      waits = waits_at r.prompt told.0;
       pieces = piece ∷ [];
       traces = [];
-      goes_on = λ more. goes_on_from g w m p at events n piece more;
+      each = tt;
+      goes_on = λ more. goes_on_from g r.world r.machine r.pending r.prompt r.events r.piece piece more;
       there = omega arith;
       stands = stands_with new piece told.1 ∙ ap (played (with_store new first) 0) (sym (append-nil piece));
     };
     rests = rests_shown new (first.shown ++ piece) told.1;
-    digest = ap (λ (q : Standing). kept_digest q.disk.bytes) told.1 ∙ own;
+    digest = ap (λ (q : Standing). kept_digest q.disk.bytes) told.1;
     last = piece;
     grown = text_is;
   })
 
   -- or playing it has come to its end
-  pub again_last : (new : Standing) (o : PlayEnd) → ShowsAgain first new piece at (Some o) →
-      PlaysOn (kept_session g (state_of w m p at events n) piece digest name) most first new o
-  unfolding session
-  again_last new end.Ended told = record {
+  pub again_last : (most : ℕ) (new : Standing) (o : PlayEnd) → ShowsAgain first new piece r.prompt (Some o) →
+      PlaysOn (read_session g name piece r first) most first new o
+  again_last most new end.Ended told = record {
     shows = (
       0,
       omega arith,
-      run_from w m p piece [],
+      run_from r.world r.machine r.pending piece [],
       refl,
       record {
-        reading = goes_on_from g w m p at events n piece [] ∙ ap (λ q. on g q (reverse m.frames) (run_from w m p piece [])) told.0;
+        reading = goes_on_from g r.world r.machine r.pending r.prompt r.events r.piece piece []
+            ∙ ap (λ q. on g q (reverse r.machine.frames) (run_from r.world r.machine r.pending piece [])) told.0;
         there = omega arith;
         stands = stands_with new piece told.1 ∙ ap (played (with_store new first) 0) (sym (append-nil piece));
       },
     );
     session = (0, asked_is new (first.shown ++ piece) told.1, rests_shown new (first.shown ++ piece) told.1);
   }
-  again_last new (end.Outside call.Show) told = record {
+  again_last most new (end.Outside call.Show) told = record {
     shows = (
       0,
       omega arith,
@@ -244,4 +228,4 @@ module _ {F : Type 0} (g : Story) (digest name : List ℕ) (w : World) (m : Open
     );
     session = (0, asked_is new (first.shown ++ take told.1 piece) told.2, rests_shown new (first.shown ++ take told.1 piece) told.2);
   }
-  again_last new _ told = absurd told
+  again_last most new _ told = absurd told

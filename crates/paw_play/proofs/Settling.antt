@@ -77,7 +77,8 @@ module _ (g : GameLists) (v : Valid g) (seed : ℕ) (n : ℕ) (fits : seed < 2 ^
   drawn : (r : Run) → IsBounded seed 0 r → length r.pieces + length r.events ≡ suc n → r.world.draws ≤ 200000 * (n + 1)
   drawn r bound count = let most : r.world.draws ≤ 0 + 200000 * length r.pieces = bound.draws in omega (arith, most, count)
 
-  settles : (p : Prompt) (path : List Frame) (r : Run) → StandsRightly g p path r → IsBounded seed 0 r → length r.pieces + length r.events ≡ suc n → Settles g n p path r
+  settles : (p : Prompt) (path : List Frame) (r : Run) → StandsRightly g p path r → IsBounded seed 0 r → length r.pieces + length r.events ≡ suc n →
+      Settles g n p path r
   settles p path r k bound count = record {
     keeps = record {
       world = k.world.of;
@@ -112,7 +113,8 @@ module _ (g : GameLists) (v : Valid g) (seed : ℕ) (n : ℕ) (fits : seed < 2 ^
   ending_settles (Halted IsOver r) at bound count = settles prompt.Over [] r at bound count
   ending_settles _ at bound count = tt
 
-pub reading_settles : (g : Story) (seed : ℕ) (es : List (List ℕ)) → IsPlayedWith g seed es → length es ≤ 1000000000 → IsSettled g.game (length es) (reading g seed es)
+pub reading_settles : (g : Story) (seed : ℕ) (es : List (List ℕ)) → IsPlayedWith g seed es → length es ≤ 1000000000 →
+    IsSettled g.game (length es) (reading g seed es)
 reading_settles g seed es played few =
     ending_settles g.game played.valid.game seed (length es) played.fits few (reading g seed es)
     (readings_stop_rightly g seed es played.valid played.lines)

@@ -12,14 +12,16 @@ use Rattle.paw_effects.specs.Built.{StandsIn}
 use Rattle.paw_effects.specs.inner.Standing.{MayBePosition, IsWorldOf}
 use Rattle.paw_reading.specs.Turn.{text_of}
 use Rattle.paw_process.specs.OpenTables.{OpenTables}
+use Rattle.paw_routines.specs.declared.routines.Routines.{Routines}
+use Rattle.paw_stage.specs.Stage.{Standing}
 use Rattle.paw_process.specs.Kept.{kept, waiting_code}
 use Rattle.paw_process.specs.inner.Kept.{restored, waiting_at, StandsAt}
 use Rattle.paw_process.proofs.Restored.{stands_at}
 use Rattle.paw_process.proofs.Again.{restored_kept}
-use Rattle.paw_turn.specs.inner.Parts.{Fits, IsPending, prompt_step}
-use Rattle.paw_turn.specs.inner.Player.{StandsClosed}
+use Rattle.paw_turn.specs.inner.Parts.{Fits, IsPending, prompt_step, seat_at}
+use Rattle.paw_turn.specs.inner.Player.{Seat, StandsClosed, IsSeated}
 use Rattle.paw_turn.proofs.Seating.{restored_fits}
-use Rattle.paw_journal.specs.Session.{Shown, recover, piece_length, state_length}
+use Rattle.paw_journal.specs.Session.{Shown, recover, kept_digest, piece_length, state_length}
 use Rattle.paw_journal.proofs.ShownPieces.{shown_long}
 use Rattle.paw_state.specs.State.{State, Keeps, FitsFields, HoldsBytes}
 use Rattle.paw_state.specs.inner.State.{state_of}
@@ -29,11 +31,12 @@ use Rattle.paw_state.specs.inner.Fit.{IsRead, state_read}
 use Rattle.paw_state.proofs.Told.{piece_told}
 use Rattle.paw_state.proofs.Lawful.{bytes_tell_the_state, long_state}
 use Rattle.paw_play.specs.Session.{kept_bytes, IsKept}
-use Rattle.paw_play.specs.Play.{ShowsState, going_on}
-use Rattle.paw_play.proofs.Resuming.{goes_on_from, kept_at, text_at}
+use Rattle.paw_play.specs.Play.{ShowsState, going_on, kept_session}
+use Rattle.paw_play.specs.inner.OnTheWay.{IsStore}
+use Rattle.paw_play.proofs.Resuming.{goes_on_from, kept_at, text_at, seat_game, read_session, Resumed}
 
 -- a buffer begins with the bytes of a state
-pub shows_kept : (digest bytes buffer piece : List ℕ) (st : State) →
+shows_kept : (digest bytes buffer piece : List ℕ) (st : State) →
     recover bytes ≡ Shown digest (take state_length buffer) piece → take state_length buffer ≡ state_bytes st →
     recover bytes ≡ Shown digest (kept_bytes st) piece
 unfolding kept_bytes
@@ -47,7 +50,7 @@ same_shown : (d a p e b q : List ℕ) → Shown d a p ≡ Shown e b q → (a ≡
 same_shown d a p e b q h = (cc, cc)
 
 -- the bytes show one state and one piece
-pub one_state : (g : GameLists) (digest bytes : List ℕ) (s t : State) (p q : List ℕ) → Valid g →
+one_state : (g : GameLists) (digest bytes : List ℕ) (s t : State) (p q : List ℕ) → Valid g →
     ShowsState g digest bytes s p → ShowsState g digest bytes t q → (s ≡ t) × (p ≡ q)
 one_state g digest bytes s t p q valid h k =
     let e = same_shown digest (kept_bytes s) p digest (kept_bytes t) q (sym h.shown ∙ k.shown) in
@@ -56,7 +59,7 @@ one_state g digest bytes s t p q valid h k =
 -- ---- the piece is as long as the state says ----
 
 -- the piece that stands beside a buffer is as long as the buffer says
-pub buffer_long : (bytes digest buffer piece : List ℕ) (n : ℕ) →
+buffer_long : (bytes digest buffer piece : List ℕ) (n : ℕ) →
     recover bytes ≡ Shown digest (take state_length buffer) piece →
     get_or buffer 1369 0 + 256 * get_or buffer 1370 0 ≡ n → n < 65536 → length piece ≡ n
 buffer_long bytes digest buffer piece n e is low =
@@ -99,6 +102,37 @@ read_fits g bytes r is =
     restored_fits g r.prompt (kept r.machine) r.world r.machine r.pending (world_of g (state_read r) is.keeps is.fits)
     (pending_of g (state_read r) r.machine is.keeps is.fits is.stands)
     is.keeps.rows is.machine is.stands is.keeps.frames
+
+-- ---- a player that was made of what was read ----
+
+pub resumed : {F : Type 0} (g : Story) (name buffer state piece : List ℕ) (r : Restored) (first : Standing) (routines : Routines F) (seat : Seat F) →
+    recover first.disk.bytes ≡ Shown (kept_digest first.disk.bytes) (take state_length state) piece → buffer ≡ state → IsRead g.game buffer r →
+    get_or buffer 1369 0 + 256 * get_or buffer 1370 0 ≡ r.piece →
+    seat ≡ seat_at g.game routines r.world r.machine r.pending r.prompt → IsSeated seat → IsStore name first →
+    Resumed g name piece r first routines seat
+resumed g name buffer state piece r first routines seat shown same read long is seated store =
+    let bytes : List ℕ = first.disk.bytes in
+    let digest : List ℕ = kept_digest first.disk.bytes in
+    let there : recover bytes ≡ Shown digest (take state_length buffer) piece =
+    subst (λ x. recover bytes ≡ Shown digest (take state_length x) piece) (sym same) shown in
+    record {
+      long = buffer_long bytes digest buffer piece r.piece there long read.fits.piece;
+      is = is;
+      seated = seated;
+      store = store;
+      state = record { keeps = read.keeps; fits = read.fits; shown = shows_kept digest bytes buffer piece (state_read r) there read.are };
+    }
+
+-- the store shows no other state and piece
+pub one_session : {F : Type 0} (g : Story) (name piece : List ℕ) (r : Restored) (first : Standing) (routines : Routines F) (seat : Seat F)
+    (st : State) (other : List ℕ) → Resumed g name piece r first routines seat →
+    ShowsState g.game (kept_digest first.disk.bytes) first.disk.bytes st other →
+    read_session g name piece r first ≡ kept_session g st other (kept_digest first.disk.bytes) name
+one_session g name piece r first routines seat st other u shows =
+    let digest : List ℕ = kept_digest first.disk.bytes in
+    let valid : Valid g.game = subst Valid (seat_game g.game routines r.world r.machine r.pending r.prompt seat u.is) u.seated.valid in
+    let one = one_state g.game digest first.disk.bytes (state_read r) st piece other valid u.state shows in
+    ap (λ q. kept_session g q piece digest name) one.0 ∙ ap (λ q. kept_session g st q digest name) one.1
 
 -- ---- a state that bytes show ----
 

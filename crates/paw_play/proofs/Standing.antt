@@ -1,5 +1,6 @@
 -- What a store that stands for some lines shows, and what comes of taking it up again.
-use Rattle.std.proofs.Common.{◌≡◌, inl, inr, ℕ, zero, suc, ◌+◌, ◌<◌, ◌≤◌, List, [], ◌∷◌, ◌++◌, refl, sym, ap, ◌∙◌, subst, length, take, append_assoc, append-nil, arith}
+use Rattle.std.proofs.Common.{◌≡◌, inl, inr, ℕ, zero, suc, ◌+◌, ◌<◌, ◌≤◌, List, [], ◌∷◌, ◌++◌, refl, sym, ap, ◌∙◌, subst}
+use Rattle.std.proofs.Common.{length, take, append_assoc, append-nil, arith}
 use Rattle.std.specs.Prelude.{◌-◌, All}
 use Rattle.std.proofs.Math.Path.{fun_ext}
 use Rattle.std.proofs.lemmas.List.{length-append, length-take}
@@ -28,7 +29,8 @@ use Rattle.paw_play.specs.Session.{kept_bytes, state_after, IsKept}
 use Rattle.paw_play.specs.Walk.{first_lines}
 use Rattle.paw_play.specs.Stands.{Stands, StandsFor, IsPlayedWith, text_since, reading_since}
 use Rattle.paw_play.specs.Keeping.{KeepsUpWith, InSession}
-use Rattle.paw_play.specs.Play.{PlaysWith, PlaysOn, KeptBy, ShowsState, Refuses, PlaysUp, no_state, plays_on, PlaysAgain, refused, wanting, plays_up, GoesOn, memory, unattached, unread, plays, InAgain, InGoingOn, going_on, kept_session, attached_to, store_bytes}
+use Rattle.paw_play.specs.Play.{PlaysWith, PlaysOn, KeptBy, ShowsState, Refuses, PlaysUp, no_state, plays_on, PlaysAgain, refused, wanting, plays_up}
+use Rattle.paw_play.specs.Play.{GoesOn, memory, unattached, unread, plays, InAgain, InGoingOn, going_on, kept_session, attached_to, store_bytes}
 use Rattle.paw_play.specs.inner.Laws.{ShowsSome, StandingShows, StandingGoesOn, Round, AreKept, left_after, RoundsStand}
 use Rattle.paw_play.proofs.Games.{count_lines}
 use Rattle.paw_play.proofs.Going.{IsSettled, goes_on, text_since_is, whole_kept}
@@ -55,7 +57,8 @@ standing_goes_on g seed es fs bytes st piece played stands shows =
 
 -- ---- taking it up again ----
 
-module _ (g : Story) (seed : ℕ) (es : List (List ℕ)) (bytes : List ℕ) (st : State) (piece name : List ℕ) (played : IsPlayedWith g seed es) (stands : Stands g seed es bytes)
+module _ (g : Story) (seed : ℕ) (es : List (List ℕ)) (bytes : List ℕ) (st : State) (piece name : List ℕ) (played : IsPlayedWith g seed es)
+    (stands : Stands g seed es bytes)
     (shows : ShowsState g.game (sha256 (image g.game)) bytes st piece) where
   counts : st.events ≡ length es
   counts = (standing_goes_on g seed es [] bytes st piece played stands shows).0
@@ -71,7 +74,8 @@ module _ (g : Story) (seed : ℕ) (es : List (List ℕ)) (bytes : List ℕ) (st 
       let all : length (es ++ fs) ≡ st.events + n = omega (arith, length-append es fs, count_lines n lines there, counts) in
       record {
         few = omega (arith, all, few);
-        keeps = whole_kept (sha256 (image g.game)) (length es) (length (es ++ fs)) (length (es ++ fs)) (reading g seed (es ++ fs)) (recover left) (pieces_of_lines g seed (es ++ fs))
+        keeps = whole_kept (sha256 (image g.game)) (length es) (length (es ++ fs)) (length (es ++ fs)) (reading g seed (es ++ fs)) (recover left)
+            (pieces_of_lines g seed (es ++ fs))
             (omega (arith, length-append es fs))
             (subst (λ m. IsKept (sha256 (image g.game)) m (reading_since g seed es fs) (recover left)) (sym all)
             (subst (λ e. IsKept (sha256 (image g.game)) (st.events + n) e (recover left)) (goes fs) kept));
@@ -84,7 +88,8 @@ module _ (g : Story) (seed : ℕ) (es : List (List ℕ)) (bytes : List ℕ) (st 
   in_going_on old m (inl i) = inl i
   in_going_on old m (inr i) =
       inr (subst (λ past. InSession (StandsFor g seed es old.lines) (text_since g seed es old.lines) past name old m) counts
-      (in_session_by (KeptBy (kept_session g st piece (sha256 (image g.game)) name) old.lines) (StandsFor g seed es old.lines) st.events name old (kept_stands old.lines)
+      (in_session_by (KeptBy (kept_session g st piece (sha256 (image g.game)) name) old.lines) (StandsFor g seed es old.lines) st.events name old
+      (kept_stands old.lines)
       (λ n. text_of (going_on g st piece (first_lines n old.lines))) (text_since g seed es old.lines) (text_is old.lines) m i))
 
   going_plays : (old new : Standing) (o : PlayEnd) → PlaysOn (kept_session g st piece (sha256 (image g.game)) name) (MOST_EVENTS - st.events) old new o →
@@ -92,7 +97,8 @@ module _ (g : Story) (seed : ℕ) (es : List (List ℕ)) (bytes : List ℕ) (st 
   going_plays old new o p =
       subst (λ whole. PlaysWith (StandsFor g seed es old.lines) whole (length es) name (MOST_EVENTS - length es) old new o) (fun_ext goes)
       (subst (λ past. PlaysWith (StandsFor g seed es old.lines) (going_on g st piece) past name (MOST_EVENTS - past) old new o) counts
-      (plays_by (KeptBy (kept_session g st piece (sha256 (image g.game)) name) old.lines) (StandsFor g seed es old.lines) st.events name old (kept_stands old.lines)
+      (plays_by (KeptBy (kept_session g st piece (sha256 (image g.game)) name) old.lines) (StandsFor g seed es old.lines) st.events name old
+      (kept_stands old.lines)
       (going_on g st piece) (MOST_EVENTS - st.events) new o p))
 
 -- ---- it is never refused ----
@@ -110,12 +116,20 @@ same_state : (digest s p t q : List ℕ) → Shown digest s p ≡ Shown digest t
 same_state digest s p t q e = cc
 
 -- a buffer that begins with the bytes of a state is fit
-is_fit : (g : GameLists) (digest bytes buffer piece q : List ℕ) (st : State) → ShowsState g digest bytes st q → recover bytes ≡ Shown digest (take state_length buffer) piece → Fit g buffer
+is_fit : (g : GameLists) (digest bytes buffer piece q : List ℕ) (st : State) → ShowsState g digest bytes st q →
+    recover bytes ≡ Shown digest (take state_length buffer) piece → Fit g buffer
 unfolding kept_bytes
 is_fit g digest bytes buffer piece q st shows is =
-    record { state = st; keeps = shows.keeps; fits = shows.fits; are = same_state digest (take state_length buffer) piece (state_bytes st) q (sym is ∙ shows.shown) }
+    record {
+      state = st;
+      keeps = shows.keeps;
+      fits = shows.fits;
+      are = same_state digest (take state_length buffer) piece (state_bytes st) q
+          (sym is ∙ shows.shown);
+    }
 
-module _ (g : Story) (seed : ℕ) (es : List (List ℕ)) (name : List ℕ) (old new : Standing) (played : IsPlayedWith g seed es) (stands : Stands g seed es (store_bytes old name)) where
+module _ (g : Story) (seed : ℕ) (es : List (List ℕ)) (name : List ℕ) (old new : Standing) (played : IsPlayedWith g seed es)
+    (stands : Stands g seed es (store_bytes old name)) where
   state_shown : ShowsSome g.game (store_bytes old name)
   state_shown = standing_shows g seed es (store_bytes old name) played stands
 
@@ -123,7 +137,8 @@ module _ (g : Story) (seed : ℕ) (es : List (List ℕ)) (name : List ℕ) (old 
   goes_up _ (memory e) = memory e
   goes_up _ (no_state at state piece is unfit fault e) =
       absurd (unfit (is_fit g.game (sha256 (image g.game)) (store_bytes old name) state piece state_shown.piece state_shown.state state_shown.shows is))
-  goes_up _ (plays_on o st piece shows p) = plays o (going_plays g seed es (store_bytes old name) st piece name played stands shows (attached_to old name) new o p)
+  goes_up _ (plays_on o st piece shows p) = plays o
+      (going_plays g seed es (store_bytes old name) st piece name played stands shows (attached_to old name) new o p)
 
   -- what taking up the session comes to
   pub standing_again : (o : PlayEnd) → PlaysAgain g (sha256 (image g.game)) name old new o → GoesOn g seed es name old new o
@@ -144,7 +159,8 @@ first_are_lines n lines are = All-map IsLine (take 255) (take n lines) (λ k d l
 
 -- so many lines of a round are kept
 round_keeps : (g : Story) (seed : ℕ) (es : List (List ℕ)) (r : Round) (n : ℕ) (text : List ℕ) → r.moment.asked ≡ r.old.asked + n →
-    KeepsUpWith (StandsFor g seed es r.old.lines) (text_since g seed es r.old.lines) n text r.left → (k : ℕ) × AreKept r k × StandsFor g seed es r.old.lines k r.left
+    KeepsUpWith (StandsFor g seed es r.old.lines) (text_since g seed es r.old.lines) n text r.left →
+    (k : ℕ) × AreKept r k × StandsFor g seed es r.old.lines k r.left
 round_keeps g seed es r zero text asked kept = (0, inl asked, kept.0)
 round_keeps g seed es r (suc n) text asked (inl kept) = (suc n, inl asked, kept.0)
 round_keeps g seed es r (suc n) text asked (inr kept) = (n, inr asked, kept.0)

@@ -1,7 +1,6 @@
 -- A walk, line by line.
 use Rattle.std.proofs.Common.{◌≡◌, ℕ, zero, suc, ◌+◌, ◌≤◌, ◌<◌, List, [], ◌∷◌, ◌++◌, Option, Some, None, refl, sym, ap, ◌∙◌, subst, length, take, drop, map}
 use Rattle.std.proofs.Common.{arith, append_assoc, length-append}
-use Rattle.std.proofs.lemmas.Grind.{flat_map-append}
 use Rattle.std.proofs.lemmas.List.{append-nil, length-reverse, take-append-drop}
 use Rattle.std.specs.Prelude.{reverse}
 use Rattle.paw_stage.specs.Stage.{Standing}
@@ -9,19 +8,21 @@ use Rattle.paw_effects.specs.declared.act.Prompt.{Prompt}
 use Rattle.paw_effects.specs.declared.act.Prompt.TheVariants as prompt
 use Rattle.paw_reading.specs.declared.places.Frame.{Frame}
 use Rattle.paw_reading.specs.Run.{Run, Step as Read}
-use Rattle.paw_reading.specs.Reading.{Waits, asked}
+use Rattle.paw_reading.specs.Reading.{Waits, Halt, IsOver, RunsOut, CallsTooDeep, asked}
 use Rattle.paw_reading.specs.GoingOn.{on_path}
-use Rattle.paw_reading.specs.Turn.{Ending, WaitsAt, at_main, reading, on, text_of}
+use Rattle.paw_reading.specs.Turn.{WaitsAt, at_main, reading, on, text_of}
 use Rattle.paw_process.specs.OpenTables.{OpenTables}
 use Rattle.paw_world.specs.World.{World}
-use Rattle.paw_turn.specs.inner.Player.{Seat, run_at, PlaysTo, StandsAt, StandsClosed, IsSeated, IsNew}
+use Rattle.paw_turn.specs.inner.Player.{Seat, run_at, PlayHalts, PlaysTo, StandsAt, StandsClosed, IsSeated, IsNew}
 use Rattle.paw_turn.specs.declared.Step.{Step}
 use Rattle.paw_turn.specs.declared.Step.TheVariants as step
 use Rattle.paw_play.specs.declared.PlayEnd.{PlayEnd}
 use Rattle.paw_play.specs.declared.PlayEnd.TheVariants as end
 use Rattle.paw_stage.specs.declared.StageCall.TheVariants as call
-use Rattle.paw_play.specs.Walk.{EndingOf, first_lines, played, Reads, ReadsPart, joined}
-use Rattle.paw_play.specs.inner.OnTheWay.{IsWalking, ShowsPiece, Told, WalksOn, WalksFrom}
+use Rattle.paw_play.specs.Walk.{EndingOf, first_lines, played, text_before, Reads, ReadsPart, WalkHalts, joined}
+use Rattle.paw_play.specs.inner.Telling.{Telling, seat_text, told_pieces, HaveSteps, told_run, told_ending, told_as}
+use Rattle.paw_play.specs.inner.OnTheWay.{IsWalking, ShowsPiece, Told, WalksTo}
+use Rattle.paw_play.proofs.Telling.{pieces_more, told_more, steps_more, told_none, steps_none, waits_told, halts_told, same_lines, told_is}
 use Rattle.paw_play.specs.declared.TheConstants.{MOST_EVENTS}
 use Rattle.paw_effects.specs.Story.{Story}
 
@@ -57,11 +58,6 @@ pub lines_more : (lines : List (List ℕ)) (n : ℕ) (line : List ℕ) (rest mor
 lines_more lines n line rest more h =
     ap (λ xs. map (take 255) xs ++ more) (take_more lines n line rest h) ∙ ap (λ xs. xs ++ more) (map_append (take n lines) line)
     ∙ append_assoc (first_lines n lines) (take 255 line ∷ []) more
-
--- ---- texts ----
-
-pub joined_more : (pieces : List (List ℕ)) (piece : List ℕ) → joined (pieces ++ piece ∷ []) ≡ joined pieces ++ piece
-joined_more pieces piece = flat_map-append (λ p. p) pieces (piece ∷ []) ∙ ap (λ t. joined pieces ++ t) (append-nil piece)
 
 -- ---- what stands ----
 
@@ -108,51 +104,144 @@ on_waits g prompt.Over m r h = absurd h
 -- ---- a walk at a prompt ----
 
 -- what was read of the lines so far waits, and its text was shown
-pub waiting : {F : Type 0} (g : Story) (whole : EndingOf) (n : ℕ) (first now : Standing) (seat : Seat F) → IsWalking g whole first now seat n → IsSeated seat →
-    (p : Prompt) × (path : List Frame) × (r : Run) × Reads whole first now n (WaitsAt p path r)
-waiting g whole n first now seat w seated =
+waiting : {F : Type 0} (telling : Telling) (g : Story) (whole : EndingOf) (n : ℕ) (first now : Standing) (seat : Seat F) →
+    IsWalking telling g whole first now seat n → IsSeated seat →
+    (p : Prompt) × (path : List Frame) × (r : Run) × Reads (told_as telling whole) first now n (WaitsAt p path r)
+waiting telling g whole n first now seat w seated =
     let stands : StandsAt w.prompt seat.machine = subst (λ s. StandsClosed s seat.machine) w.waits seated.machine in
+    let path : List Frame = reverse seat.machine.frames in
     let r : Run = run_at seat w.pieces w.traces [] in (
       w.prompt,
-      reverse seat.machine.frames,
-      r,
+      path,
+      told_run telling r,
       record {
-        reading = ap whole (sym (append-nil (first_lines n first.lines))) ∙ w.goes_on [] ∙ on_waits g w.prompt seat.machine r stands;
+        reading = ap (told_as telling whole) (sym (append-nil (first_lines n first.lines)))
+            ∙ ap (told_ending telling) (w.goes_on [] ∙ on_waits g w.prompt seat.machine r stands) ∙ waits_told telling w.prompt path r;
         there = w.there;
-        stands = w.stands;
+        stands = w.stands ∙ ap (played first n) (sym (told_is telling r w.pieces w.traces refl refl));
       },
     )
 
 -- the text of what was read of the lines so far
-pub text_so_far : {F : Type 0} (g : Story) (whole : EndingOf) (n : ℕ) (first now : Standing) (seat : Seat F)
-    (w : IsWalking g whole first now seat n) → IsSeated seat →
-    text_of (whole (first_lines n first.lines)) ≡ joined w.pieces
+pub text_so_far : {F : Type 0} (telling : Telling) (g : Story) (whole : EndingOf) (n : ℕ) (first now : Standing) (seat : Seat F)
+    (w : IsWalking telling g whole first now seat n) → IsSeated seat →
+    text_of (told_as telling whole (first_lines n first.lines)) ≡ joined (told_pieces telling w.pieces w.traces)
 unfolding waiting
-text_so_far g whole n first now seat w seated = ap text_of (waiting g whole n first now seat w seated).3.reading
+text_so_far telling g whole n first now seat w seated =
+    ap text_of (waiting telling g whole n first now seat w seated).3.reading
+    ∙ told_is telling (run_at seat w.pieces w.traces []) w.pieces w.traces refl refl
 
 -- the text of a step that brings a piece
-pub text_shown : {F : Type 0} (g : Story) (whole : List (List ℕ) → Ending) (s : Step) (next : Seat F)
-    (pieces : List (List ℕ)) (traces : List (List Read)) → ShowsPiece s → StandsClosed s next.machine →
-    PlaysTo g whole s next pieces traces → text_of (whole []) ≡ joined pieces ++ next.piece
-text_shown g whole (step.Waits p) next pieces traces h m plays =
-    ap text_of (plays.1.1 [] ∙ on_waits g p next.machine
-    (run_at next (pieces ++ next.piece ∷ []) (traces ++ plays.0 ∷ []) []) m) ∙ joined_more pieces next.piece
-text_shown g whole step.Ended next pieces traces h m plays =
-    ap text_of (plays.1.1 []) ∙ joined_more pieces next.piece
-text_shown g whole (step.Spent kind) next pieces traces h m plays = absurd h
-text_shown g whole (step.TooDeep u) next pieces traces h m plays = absurd h
+pub text_shown : {F : Type 0} (telling : Telling) (g : Story) (whole : EndingOf) (s : Step) (next : Seat F)
+    (pieces : List (List ℕ)) (traces : List (List Read)) → HaveSteps telling pieces traces → ShowsPiece s → StandsClosed s next.machine →
+    PlaysTo g whole s next pieces traces →
+    text_of (told_as telling whole []) ≡ joined (told_pieces telling pieces traces) ++ seat_text telling next
+text_shown telling g whole (step.Waits p) next pieces traces each h m plays =
+    let r : Run = run_at next (pieces ++ next.piece ∷ []) (traces ++ plays.0 ∷ []) [] in
+    ap (λ e. text_of (told_ending telling e)) (plays.1.1 [] ∙ on_waits g p next.machine r m)
+    ∙ ap text_of (waits_told telling p (reverse next.machine.frames) r)
+    ∙ told_more telling next pieces traces plays.0 each plays.1.0
+text_shown telling g whole step.Ended next pieces traces each h m plays =
+    let r : Run = run_at next (pieces ++ next.piece ∷ []) (traces ++ plays.0 ∷ []) [] in
+    ap (λ e. text_of (told_ending telling e)) (plays.1.1 []) ∙ ap text_of (halts_told telling IsOver r)
+    ∙ told_more telling next pieces traces plays.0 each plays.1.0
+text_shown telling g whole (step.Spent kind) next pieces traces each h m plays = absurd h
+text_shown telling g whole (step.TooDeep u) next pieces traces each h m plays = absurd h
 
 -- nothing more is shown
 pub shown_nothing : (mid : Standing) → mid ≡ record mid { shown = mid.shown ++ [] }
 shown_nothing mid = ap (λ t. record mid { shown = t }) (sym (append-nil mid.shown))
 
-module _ {F : Type 0} (g : Story) (whole : EndingOf) (n : ℕ) (first now mid new : Standing) (seat next : Seat F) (given line : List ℕ) (s : Step)
-    (w : IsWalking g whole first now seat n) (seated : IsSeated seat) (then_seated : IsSeated next) (game : next.game ≡ seat.game) (last : next.last ≡ s)
-    (lines : now.lines ≡ line ∷ mid.lines) (cut : given ≡ take 255 line) (took : mid ≡ record now { lines = mid.lines; asked = now.asked + 1 })
-    (plays : PlaysTo g (λ more. on g w.prompt (reverse seat.machine.frames) (run_at seat w.pieces w.traces (given ∷ more))) s next w.pieces w.traces) where
-  after : List (List ℕ) → Ending
-  after more = on g w.prompt (reverse seat.machine.frames) (run_at seat w.pieces w.traces (given ∷ more))
+-- what a step comes to after n lines, where `after` is the reading of those that are left then
+module _ {F : Type 0} (telling : Telling) (g : Story) (whole after : EndingOf) (n : ℕ) (first mid new : Standing) (next : Seat F) (s : Step)
+    (pieces : List (List ℕ)) (traces : List (List Read)) (each : HaveSteps telling pieces traces)
+    (last : next.last ≡ s) (seated : IsSeated next) (there : n ≤ length first.lines)
+    (whole_after : (more : List (List ℕ)) → whole (first_lines n first.lines ++ more) ≡ after more)
+    (earlier : text_before (told_as telling whole) first.lines n ≡ joined (told_pieces telling pieces traces))
+    (stands_with : (part : List ℕ) → new ≡ record mid { shown = mid.shown ++ part } →
+    new ≡ played first n (joined (told_pieces telling pieces traces) ++ part))
+    (plays : PlaysTo g after s next pieces traces) where
+  read_all : whole (first_lines n first.lines) ≡ after []
+  read_all = ap whole (sym (append-nil (first_lines n first.lines))) ∙ whole_after []
 
+  -- part of the text was shown
+  shown_part : ShowsPiece s → 0 < length (seat_text telling next) → (m : ℕ) →
+      new ≡ record mid { shown = mid.shown ++ take m (seat_text telling next) } → ReadsPart (told_as telling whole) first new n
+  shown_part shows some m e = record {
+    shown = joined (told_pieces telling pieces traces) ++ take m (seat_text telling next);
+    rest = drop m (seat_text telling next);
+    part = append_assoc (joined (told_pieces telling pieces traces)) (take m (seat_text telling next)) (drop m (seat_text telling next))
+        ∙ ap (λ t. joined (told_pieces telling pieces traces) ++ t) (take-append-drop m (seat_text telling next)) ∙ sym all;
+    last = take m (seat_text telling next);
+    before = ap (λ t. t ++ take m (seat_text telling next)) (sym earlier);
+    grows = omega (arith, some, ap length earlier, ap length all ∙ length-append (joined (told_pieces telling pieces traces)) (seat_text telling next));
+    there = there;
+    stands = stands_with (take m (seat_text telling next)) e;
+  }
+    where
+      machine_stands : StandsClosed s next.machine
+      machine_stands = subst (λ q. StandsClosed q next.machine) last seated.machine
+
+      all : text_of (told_as telling whole (first_lines n first.lines)) ≡ joined (told_pieces telling pieces traces) ++ seat_text telling next
+      all = ap (λ e. text_of (told_ending telling e)) read_all ∙ text_shown telling g after s next pieces traces each shows machine_stands plays
+
+  -- the reading has ended for good, and no more was shown
+  halts : (most : ℕ) → n ≤ most → (halt : Halt) → PlayHalts after halt next pieces traces → new ≡ mid →
+      WalkHalts (told_as telling whole) most first new halt
+  halts most few halt stopped same =
+      let e = stopped.1 [] in (
+        n,
+        few,
+        told_run telling e.0,
+        same_lines telling e.0 ∙ e.4,
+        record {
+          reading = ap (told_ending telling) (read_all ∙ e.1) ∙ halts_told telling halt e.0;
+          there = there;
+          stands = stands_with [] (same ∙ shown_nothing mid)
+              ∙ ap (played first n) (append-nil (joined (told_pieces telling pieces traces)) ∙ sym (told_is telling e.0 pieces traces e.2 e.3));
+        },
+      )
+
+  pub comes_to : (most : ℕ) → n ≤ most → (o : Option PlayEnd) → Told mid new (seat_text telling next) s o →
+      WalksTo telling g whole most first new next n o
+  comes_to most few None told =
+      let at : PlaysTo g after (step.Waits told.0) next pieces traces = subst (λ q. PlaysTo g after q next pieces traces) told.1 plays in
+      record {
+        prompt = told.0;
+        waits = last ∙ told.1;
+        pieces = pieces ++ next.piece ∷ [];
+        traces = traces ++ at.0 ∷ [];
+        each = steps_more telling pieces traces next.piece at.0 each;
+        goes_on = λ more. whole_after more ∙ at.1.1 more;
+        there = there;
+        stands = stands_with (seat_text telling next) told.2
+            ∙ ap (played first n) (sym (pieces_more telling next pieces traces at.0 each at.1.0));
+      }
+  comes_to most few (Some end.Ended) told =
+      let at : PlaysTo g after step.Ended next pieces traces = subst (λ q. PlaysTo g after q next pieces traces) told.0 plays in
+      let r : Run = run_at next (pieces ++ next.piece ∷ []) (traces ++ at.0 ∷ []) [] in (
+        n,
+        few,
+        told_run telling r,
+        same_lines telling r,
+        record {
+          reading = ap (told_ending telling) (read_all ∙ at.1.1 []) ∙ halts_told telling IsOver r;
+          there = there;
+          stands = stands_with (seat_text telling next) told.1
+              ∙ ap (played first n) (sym (told_more telling next pieces traces at.0 each at.1.0));
+        },
+      )
+  comes_to most few (Some (end.Spent kind)) told =
+      halts most few (RunsOut kind) (subst (λ q. PlaysTo g after q next pieces traces) told.0 plays) told.1
+  comes_to most few (Some (end.TooDeep table)) told =
+      halts most few (CallsTooDeep table) (subst (λ q. PlaysTo g after q next pieces traces) told.0 plays) told.1
+  comes_to most few (Some (end.Outside call.Show)) told = (n, few, shown_part told.0 told.1 told.2 told.3)
+  comes_to most few (Some _) told = absurd told
+
+-- ---- one line more ----
+
+module _ {F : Type 0} (telling : Telling) (g : Story) (whole : EndingOf) (n : ℕ) (first now mid : Standing) (seat : Seat F) (given line : List ℕ)
+    (w : IsWalking telling g whole first now seat n) (lines : now.lines ≡ line ∷ mid.lines) (cut : given ≡ take 255 line) where
   line_stands : drop n first.lines ≡ line ∷ mid.lines
   line_stands = ap (λ (q : Standing). q.lines) (sym w.stands) ∙ lines
 
@@ -170,128 +259,45 @@ module _ {F : Type 0} (g : Story) (whole : EndingOf) (n : ℕ) (first now mid ne
   pub read_after : whole (first_lines (suc n) first.lines) ≡ on g w.prompt (reverse seat.machine.frames) (run_at seat w.pieces w.traces (given ∷ []))
   read_after = ap whole (sym (append-nil (first_lines (suc n) first.lines))) ∙ whole_after []
 
-  stands_with : (part : List ℕ) → new ≡ record mid { shown = mid.shown ++ part } → new ≡ played first (suc n) (joined w.pieces ++ part)
-  stands_with part e = stands_after first now mid new n (joined w.pieces) part line w.stands lines took e
-
-  machine_stands : StandsClosed s next.machine
-  machine_stands = subst (λ q. StandsClosed q next.machine) last then_seated.machine
-
-  -- part of the piece was shown
-  shown_part : ShowsPiece s → 0 < length next.piece → (m : ℕ) → new ≡ record mid { shown = mid.shown ++ take m next.piece } → ReadsPart whole first new (suc n)
-  shown_part shows some m e = record {
-    shown = joined w.pieces ++ take m next.piece;
-    rest = drop m next.piece;
-    part = append_assoc (joined w.pieces) (take m next.piece) (drop m next.piece) ∙ ap (λ t. joined w.pieces ++ t) (take-append-drop m next.piece) ∙ sym all;
-    last = take m next.piece;
-    before = ap (λ t. t ++ take m next.piece) (sym earlier);
-    grows = omega (arith, some, ap length earlier, ap length all ∙ length-append (joined w.pieces) next.piece);
-    there = one_more;
-    stands = stands_with (take m next.piece) e;
-  }
-    where
-      all : text_of (whole (first_lines (suc n) first.lines)) ≡ joined w.pieces ++ next.piece
-      all = ap text_of read_after ∙ text_shown g _ s next w.pieces w.traces shows machine_stands plays
-
-      earlier : text_of (whole (first_lines n first.lines)) ≡ joined w.pieces
-      earlier = text_so_far g whole n first now seat w seated
-
--- one line more
-pub walks_on : {F : Type 0} (g : Story) (whole : EndingOf) (most n : ℕ) (first now mid new : Standing)
+pub walks_on : {F : Type 0} (telling : Telling) (g : Story) (whole : EndingOf) (most n : ℕ) (first now mid new : Standing)
     (seat next : Seat F) (given line : List ℕ) (s : Step) (o : Option PlayEnd)
-    (w : IsWalking g whole first now seat n) → n < most → IsSeated seat → IsSeated next → next.game ≡ seat.game → next.last ≡ s →
+    (w : IsWalking telling g whole first now seat n) → n < most → IsSeated seat → IsSeated next → next.last ≡ s →
     now.lines ≡ line ∷ mid.lines → given ≡ take 255 line → mid ≡ record now { lines = mid.lines; asked = now.asked + 1 } →
     PlaysTo g (λ more. on g w.prompt (reverse seat.machine.frames) (run_at seat w.pieces w.traces (given ∷ more))) s next w.pieces w.traces →
-    Told mid new next.piece s o → WalksOn g whole most first new next n o
-walks_on g whole most n first now mid new seat next given line s None w few seated then_seated game last lines cut took plays told =
-    let after_line : EndingOf = λ more. on g w.prompt (reverse seat.machine.frames) (run_at seat w.pieces w.traces (given ∷ more)) in
-    let at : PlaysTo g after_line (step.Waits told.0) next w.pieces w.traces = subst (λ q. PlaysTo g after_line q next w.pieces w.traces) told.1 plays in
-    record {
-      prompt = told.0;
-      waits = last ∙ told.1;
-      pieces = w.pieces ++ next.piece ∷ [];
-      traces = w.traces ++ at.0 ∷ [];
-      goes_on = λ more. whole_after g whole n first now mid new seat next given line s w seated then_seated game last lines cut took plays more ∙ at.1.1 more;
-      there = one_more g whole n first now mid new seat next given line s w seated then_seated game last lines cut took plays;
-      stands = stands_with g whole n first now mid new seat next given line s w seated then_seated game last lines cut took plays next.piece told.2
-          ∙ ap (played first (suc n)) (sym (joined_more w.pieces next.piece));
-    }
-walks_on g whole most n first now mid new seat next given line s (Some end.Ended) w few seated then_seated game last lines cut took plays told =
-    let after_line : EndingOf = λ more. on g w.prompt (reverse seat.machine.frames) (run_at seat w.pieces w.traces (given ∷ more)) in
-    let at : PlaysTo g after_line step.Ended next w.pieces w.traces = subst (λ q. PlaysTo g after_line q next w.pieces w.traces) told.0 plays in (
-      suc n,
-      omega (arith, few),
-      run_at next (w.pieces ++ next.piece ∷ []) (w.traces ++ at.0 ∷ []) [],
-      refl,
-      record {
-        reading = read_after g whole n first now mid new seat next given line s w seated then_seated game last lines cut took plays ∙ at.1.1 [];
-        there = one_more g whole n first now mid new seat next given line s w seated then_seated game last lines cut took plays;
-        stands = stands_with g whole n first now mid new seat next given line s w seated then_seated game last lines cut took plays next.piece told.1
-            ∙ ap (played first (suc n)) (sym (joined_more w.pieces next.piece));
-      },
-    )
-walks_on g whole most n first now mid new seat next given line s (Some (end.Spent kind)) w few seated then_seated game last lines cut took plays told =
-    let after_line : EndingOf = λ more. on g w.prompt (reverse seat.machine.frames) (run_at seat w.pieces w.traces (given ∷ more)) in
-    let at : PlaysTo g after_line (step.Spent kind) next w.pieces w.traces = subst (λ q. PlaysTo g after_line q next w.pieces w.traces) told.0 plays in
-    let e = at.1 [] in (
-      suc n,
-      omega (arith, few),
-      e.0,
-      e.4,
-      record {
-        reading = read_after g whole n first now mid new seat next given line s w seated then_seated game last lines cut took plays ∙ e.1;
-        there = one_more g whole n first now mid new seat next given line s w seated then_seated game last lines cut took plays;
-        stands = stands_with g whole n first now mid new seat next given line s w seated then_seated game last lines cut
-            took plays [] (told.1 ∙ shown_nothing mid)
-            ∙ ap (played first (suc n)) (append-nil (joined w.pieces) ∙ sym (ap joined e.2));
-      },
-    )
-walks_on g whole most n first now mid new seat next given line s (Some (end.TooDeep table)) w few seated then_seated game last lines cut took plays told =
-    let after_line : EndingOf = λ more. on g w.prompt (reverse seat.machine.frames) (run_at seat w.pieces w.traces (given ∷ more)) in
-    let at : PlaysTo g after_line (step.TooDeep table) next w.pieces w.traces = subst (λ q. PlaysTo g after_line q next w.pieces w.traces) told.0 plays in
-    let e = at.1 [] in (
-      suc n,
-      omega (arith, few),
-      e.0,
-      e.4,
-      record {
-        reading = read_after g whole n first now mid new seat next given line s w seated then_seated game last lines cut took plays ∙ e.1;
-        there = one_more g whole n first now mid new seat next given line s w seated then_seated game last lines cut took plays;
-        stands = stands_with g whole n first now mid new seat next given line s w seated then_seated game last lines cut
-            took plays [] (told.1 ∙ shown_nothing mid)
-            ∙ ap (played first (suc n)) (append-nil (joined w.pieces) ∙ sym (ap joined e.2));
-      },
-    )
-walks_on g whole most n first now mid new seat next given line s (Some (end.Outside call.Show)) w few seated then_seated game last lines cut took plays told = (
-  suc n,
-  omega (arith, few),
-  shown_part g whole n first now mid new seat next given line s w seated then_seated game
-      last lines cut took plays told.0 told.1 told.2 told.3,
-)
-walks_on g whole most n first now mid new seat next given line s (Some _) w few seated then_seated game last lines cut took plays told = absurd told
+    Told mid new (seat_text telling next) s o → WalksTo telling g whole most first new next (suc n) o
+walks_on telling g whole most n first now mid new seat next given line s o w few seated then_seated last lines cut took plays told =
+    comes_to telling g whole (λ more. on g w.prompt (reverse seat.machine.frames) (run_at seat w.pieces w.traces (given ∷ more)))
+    (suc n) first mid new next s w.pieces w.traces w.each last then_seated
+    (one_more telling g whole n first now mid seat given line w lines cut)
+    (whole_after telling g whole n first now mid seat given line w lines cut)
+    (text_so_far telling g whole n first now seat w seated)
+    (λ part e. stands_after first now mid new n (joined (told_pieces telling w.pieces w.traces)) part line w.stands lines took e)
+    plays most (omega (arith, few)) o told
 
--- no line is left
-pub none_left : {F : Type 0} (g : Story) (whole : EndingOf) (most n : ℕ) (first now new : Standing) (seat : Seat F) →
-    IsWalking g whole first now seat n → n < most → IsSeated seat → (now.lines ≡ []) × (new ≡ now) →
-    (length first.lines < most) × (p : Prompt) × (path : List Frame) × (r : Run) × Reads whole first new (length first.lines) (WaitsAt p path r)
-none_left g whole most n first now new seat w few seated e =
-    let all : n ≡ length first.lines = drop_all first.lines n (ap (λ (q : Standing). q.lines) (sym w.stands) ∙ e.0) w.there in
-    let at = waiting g whole n first now seat w seated in
-    (omega (arith, all, few), at.0, at.1, at.2, rw (← all, e.1) at.3)
+module _ {F : Type 0} (telling : Telling) (g : Story) (whole : EndingOf) (most n : ℕ) (first now new : Standing) (seat : Seat F)
+    (w : IsWalking telling g whole first now seat n) (seated : IsSeated seat) where
+  -- no line is left
+  pub none_left : n < most → (now.lines ≡ []) × (new ≡ now) →
+      (length first.lines < most) × (p : Prompt) × (path : List Frame) × (r : Run)
+      × Reads (told_as telling whole) first new (length first.lines) (WaitsAt p path r)
+  none_left few e =
+      let all : n ≡ length first.lines = drop_all first.lines n (ap (λ (q : Standing). q.lines) (sym w.stands) ∙ e.0) w.there in
+      let at = waiting telling g whole n first now seat w seated in
+      (omega (arith, all, few), at.0, at.1, at.2, rw (← all, e.1) at.3)
 
--- the lines can't be asked for
-pub none_asked : {F : Type 0} (g : Story) (whole : EndingOf) (most n : ℕ) (first now new : Standing) (seat : Seat F) →
-    IsWalking g whole first now seat n → n < most → IsSeated seat → new ≡ now →
-    (m : ℕ) × (m < most) × (p : Prompt) × (path : List Frame) × (r : Run) × Reads whole first new m (WaitsAt p path r)
-none_asked g whole most n first now new seat w few seated e =
-    let at = waiting g whole n first now seat w seated in
-    (n, few, at.0, at.1, at.2, rw e at.3)
+  -- the lines can't be asked for
+  pub none_asked : n < most → new ≡ now →
+      (m : ℕ) × (m < most) × (p : Prompt) × (path : List Frame) × (r : Run) × Reads (told_as telling whole) first new m (WaitsAt p path r)
+  none_asked few e =
+      let at = waiting telling g whole n first now seat w seated in
+      (n, few, at.0, at.1, at.2, rw e at.3)
 
 -- all the lines that a session may have were taken
-pub long_walk : {F : Type 0} (g : Story) (whole : EndingOf) (most n : ℕ) (first now : Standing) (seat : Seat F) →
-    IsWalking g whole first now seat n → IsSeated seat → n ≡ most →
-    (1000000000 ≡ MOST_EVENTS) × (p : Prompt) × (path : List Frame) × (r : Run) × Reads whole first now most (WaitsAt p path r)
-long_walk g whole most n first now seat w seated all =
-    let at = waiting g whole n first now seat w seated in
+pub long_walk : {F : Type 0} (telling : Telling) (g : Story) (whole : EndingOf) (most n : ℕ) (first now : Standing) (seat : Seat F) →
+    IsWalking telling g whole first now seat n → IsSeated seat → n ≡ most →
+    (1000000000 ≡ MOST_EVENTS) × (p : Prompt) × (path : List Frame) × (r : Run) × Reads (told_as telling whole) first now most (WaitsAt p path r)
+long_walk telling g whole most n first now seat w seated all =
+    let at = waiting telling g whole n first now seat w seated in
     (refl, at.0, at.1, at.2, rw (← all) at.3)
 
 -- ---- the first piece ----
@@ -300,82 +306,19 @@ pub first_stands : (old new : Standing) (part : List ℕ) → new ≡ record old
 first_stands old new part e = let a : old.asked + 0 ≡ old.asked = omega arith in e ∙ rw a refl
 
 -- after piece 0 the walk is at the first prompt, or has come to this
-pub walk_begins : {F : Type 0} (g : Story) (whole : EndingOf) (most : ℕ) (old new : Standing) (seat : Seat F) (s : Step)
+pub walk_begins : {F : Type 0} (telling : Telling) (g : Story) (whole : EndingOf) (most : ℕ) (old new : Standing) (seat : Seat F) (s : Step)
     (o : Option PlayEnd) → IsSeated seat → seat.last ≡ s →
-    PlaysTo g whole s seat [] [] → Told old new seat.piece s o → WalksFrom g whole most old new seat o
-walk_begins g whole most old new seat s None seated last plays told =
-    let at : PlaysTo g whole (step.Waits told.0) seat [] [] = subst (λ q. PlaysTo g whole q seat [] []) told.1 plays in
-    record {
-      prompt = told.0;
-      waits = last ∙ told.1;
-      pieces = seat.piece ∷ [];
-      traces = at.0 ∷ [];
-      goes_on = at.1.1;
-      there = omega arith;
-      stands = first_stands old new seat.piece told.2 ∙ ap (played old 0) (sym (joined_more [] seat.piece));
-    }
-walk_begins g whole most old new seat s (Some end.Ended) seated last plays told =
-    let at : PlaysTo g whole step.Ended seat [] [] = subst (λ q. PlaysTo g whole q seat [] []) told.0 plays in (
-      0,
-      omega arith,
-      run_at seat (seat.piece ∷ []) (at.0 ∷ []) [],
-      refl,
-      record {
-        reading = at.1.1 [];
-        there = omega arith;
-        stands = first_stands old new seat.piece told.1 ∙ ap (played old 0) (sym (joined_more [] seat.piece));
-      },
-    )
-walk_begins g whole most old new seat s (Some (end.Spent kind)) seated last plays told =
-    let at : PlaysTo g whole (step.Spent kind) seat [] [] = subst (λ q. PlaysTo g whole q seat [] []) told.0 plays in
-    let e = at.1 [] in (
-      0,
-      omega arith,
-      e.0,
-      e.4,
-      record {
-        reading = e.1;
-        there = omega arith;
-        stands =
-            first_stands old new [] (told.1 ∙ shown_nothing old) ∙ ap (played old 0) (sym (ap joined e.2));
-      },
-    )
-walk_begins g whole most old new seat s (Some (end.TooDeep table)) seated last plays told =
-    let at : PlaysTo g whole (step.TooDeep table) seat [] [] = subst (λ q. PlaysTo g whole q seat [] []) told.0 plays in
-    let e = at.1 [] in (
-      0,
-      omega arith,
-      e.0,
-      e.4,
-      record {
-        reading = e.1;
-        there = omega arith;
-        stands =
-            first_stands old new [] (told.1 ∙ shown_nothing old) ∙ ap (played old 0) (sym (ap joined e.2));
-      },
-    )
-walk_begins g whole most old new seat s (Some (end.Outside call.Show)) seated last plays told =
-    let all : text_of (whole []) ≡ seat.piece
-    = text_shown g whole s seat [] [] told.0 (subst (λ q. StandsClosed q seat.machine) last seated.machine) plays in (
-      0,
-      omega arith,
-      record {
-        shown = take told.2 seat.piece;
-        rest = drop told.2 seat.piece;
-        part = take-append-drop told.2 seat.piece ∙ sym all;
-        last = take told.2 seat.piece;
-        before = refl;
-        grows = omega (arith, told.1, ap length all);
-        there = omega arith;
-        stands = first_stands old new (take told.2 seat.piece) told.3;
-      },
-    )
-walk_begins g whole most old new seat s (Some _) seated last plays told = absurd told
+    PlaysTo g whole s seat [] [] → Told old new (seat_text telling seat) s o → WalksTo telling g whole most old new seat 0 o
+walk_begins telling g whole most old new seat s o seated last plays told =
+    comes_to telling g whole whole 0 old old new seat s [] [] (steps_none telling) last seated (omega arith) (λ more. refl) (sym (told_none telling))
+    (λ part e. first_stands old new part e ∙ ap (λ t. played old 0 (t ++ part)) (sym (told_none telling)))
+    plays most (omega arith) o told
 
 -- a player that was new has played piece 0
-pub walk_starts : {F : Type 0} (g : Story) (seed most : ℕ) (old new : Standing) (fresh seat : Seat F) (s : Step)
+pub walk_starts : {F : Type 0} (telling : Telling) (g : Story) (seed most : ℕ) (old new : Standing) (fresh seat : Seat F) (s : Step)
     (o : Option PlayEnd) → IsNew fresh seed → IsSeated seat → seat.last ≡ s →
-    PlaysTo g (reading g fresh.world.seed) s seat [] [] → Told old new seat.piece s o → WalksFrom g (reading g seed) most old new seat o
-walk_starts g seed most old new fresh seat s o is seated last plays told =
+    PlaysTo g (reading g fresh.world.seed) s seat [] [] → Told old new (seat_text telling seat) s o →
+    WalksTo telling g (reading g seed) most old new seat 0 o
+walk_starts telling g seed most old new fresh seat s o is seated last plays told =
     let at : fresh.world.seed ≡ seed = ap (λ (w : World). w.seed) is.world in
-    walk_begins g (reading g seed) most old new seat s o seated last (subst (λ n. PlaysTo g (reading g n) s seat [] []) at plays) told
+    walk_begins telling g (reading g seed) most old new seat s o seated last (subst (λ n. PlaysTo g (reading g n) s seat [] []) at plays) told

@@ -29,7 +29,8 @@ KeepsUpWith Kept told (suc n) text bytes = AgreesWith Kept told (suc n) text byt
 -- A moment at which a session stands. Since the call began n lines were taken, and a text was shown that holds the text
 -- for all but the last of them. Whatever a crash leaves of the store keeps up with them, and the text is a first part
 -- of what it keeps. No other file has changed.
-pub record InSession (Kept : ℕ → List ℕ → Type 0) (told : ℕ → List ℕ) (past : ℕ) (name : List ℕ) (old : Standing) (m : Moment) : Type 0 where
+pub record InSession (Kept : ℕ → List ℕ → Type 0) (told : ℕ → List ℕ) (past : ℕ) (name : List ℕ) (old : Standing)
+    (m : Moment) : Type 0 where
   pub taken : ℕ
   pub text : List ℕ
   pub last : List ℕ

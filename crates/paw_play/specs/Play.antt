@@ -33,7 +33,8 @@ with_store now old = record old { files = now.files; attached = now.attached; di
 -- a line was taken that couldn't be committed: nothing of its piece was shown
 abbrev pub Uncommitted : EndingOf → ℕ → Standing → Standing → Type 0
 Uncommitted whole most old new =
-    (n : ℕ) × (n < most) × (suc n ≤ length old.lines) × (new ≡ played (with_store new old) (suc n) (text_of (whole (first_lines n old.lines))))
+    (n : ℕ) × (n < most) × (suc n ≤ length old.lines)
+    × (new ≡ played (with_store new old) (suc n) (text_of (whole (first_lines n old.lines))))
 
 -- the lines that were taken and the text that was shown, where playing on came to this: as in a walk, but that a commit
 -- may fail
@@ -43,7 +44,8 @@ ShowsAs whole most old new (end.Outside call.Sync) = Uncommitted whole most old 
 ShowsAs whole most old new o = Walks whole most (with_store new old) new o
 
 -- What playing on comes to, where so many lines more may be taken.
-pub record PlaysWith (Kept : ℕ → List ℕ → Type 0) (whole : EndingOf) (past : ℕ) (name : List ℕ) (most : ℕ) (old new : Standing) (o : PlayEnd) : Type 0 where
+pub record PlaysWith (Kept : ℕ → List ℕ → Type 0) (whole : EndingOf) (past : ℕ) (name : List ℕ) (most : ℕ)
+    (old new : Standing) (o : PlayEnd) : Type 0 where
   pub shows : ShowsAs whole most old new o
   pub session : LeavesStore Kept past name old new o
 
@@ -68,7 +70,8 @@ pub record NotYet (name : List ℕ) (old : Standing) (m : Moment) : Type 0 where
 -- ---- a new session ----
 
 -- what making a new session in the attached store, which is empty, and playing it comes to
-pub data PlaysIn (Kept : ℕ → List ℕ → Type 0) (whole : EndingOf) (name : List ℕ) (old new : Standing) : PlayEnd → Type 0 where
+pub data PlaysIn (Kept : ℕ → List ℕ → Type 0) (whole : EndingOf) (name : List ℕ)
+    (old new : Standing) : PlayEnd → Type 0 where
   memory : new ≡ old → PlaysIn Kept whole name old new end.Memory
   -- the piece before the first line is spent, or calls too deep: no session is made
   spent : (kind : SpentKind) (r : Run) → whole [] ≡ Halted (RunsOut kind) r → new ≡ old →
@@ -80,12 +83,15 @@ pub data PlaysIn (Kept : ℕ → List ℕ → Type 0) (whole : EndingOf) (name :
   plays : (o : PlayEnd) → PlaysWith Kept whole 0 name MOST_EVENTS old new o → PlaysIn Kept whole name old new o
 
 -- what playing a new session comes to
-pub data PlaysFirst (Kept : ℕ → List ℕ → Type 0) (whole : EndingOf) (name : List ℕ) (old new : Standing) : PlayEnd → Type 0 where
+pub data PlaysFirst (Kept : ℕ → List ℕ → Type 0) (whole : EndingOf) (name : List ℕ)
+    (old new : Standing) : PlayEnd → Type 0 where
   unattached : Unattached old new → PlaysFirst Kept whole name old new (end.Outside call.Attach)
   -- the store has bytes already
-  occupied : 0 < length (store_bytes old name) → new ≡ attached_to old name → PlaysFirst Kept whole name old new (end.Occupied (length (store_bytes old name)))
+  occupied : 0 < length (store_bytes old name) → new ≡ attached_to old name →
+      PlaysFirst Kept whole name old new (end.Occupied (length (store_bytes old name)))
   -- the store is empty: a session is made in it and played
-  plays_in : (o : PlayEnd) → store_bytes old name ≡ [] → PlaysIn Kept whole name (attached_to old name) new o → PlaysFirst Kept whole name old new o
+  plays_in : (o : PlayEnd) → store_bytes old name ≡ [] → PlaysIn Kept whole name (attached_to old name) new o →
+      PlaysFirst Kept whole name old new o
 
 -- what playing a game from its start comes to
 abbrev pub PlaysGame : Story → ℕ → List ℕ → Standing → Standing → PlayEnd → Type 0
@@ -94,22 +100,27 @@ PlaysGame g seed name old new o = PlaysFirst (StandsFor g seed [] old.lines) (re
 -- a moment of it: its store isn't attached yet, or its session is being made, or it is played
 abbrev pub InGame : Story → ℕ → List ℕ → Standing → Moment → Type 0
 InGame g seed name old m =
-    NotYet name old m ⊎ (InMakingOf (StandsFor g seed [] old.lines) name old m ⊎ InSession (StandsFor g seed [] old.lines) (text_since g seed [] old.lines) 0 name old m)
+    NotYet name old m ⊎ (InMakingOf (StandsFor g seed [] old.lines) name old m
+    ⊎ InSession (StandsFor g seed [] old.lines) (text_since g seed [] old.lines) 0 name old m)
 
 -- ---- a session that is taken up again, by the lines of its game ----
 
 -- What taking up a session again comes to where its store stands for these lines of its game. It is never refused: its
 -- last piece is shown again, and it goes on as the reading of those lines and more.
-pub data GoesOn (g : Story) (seed : ℕ) (es : List (List ℕ)) (name : List ℕ) (old new : Standing) : PlayEnd → Type 0 where
+pub data GoesOn (g : Story) (seed : ℕ) (es : List (List ℕ)) (name : List ℕ)
+    (old new : Standing) : PlayEnd → Type 0 where
   unattached : Unattached old new → GoesOn g seed es name old new (end.Outside call.Attach)
   unread : new ≡ attached_to old name → GoesOn g seed es name old new (end.Outside call.Read)
   memory : new ≡ attached_to old name → GoesOn g seed es name old new end.Memory
-  plays : (o : PlayEnd) → PlaysWith (StandsFor g seed es old.lines) (reading_since g seed es) (length es) name (MOST_EVENTS - length es) (attached_to old name) new o →
+  plays : (o : PlayEnd) → PlaysWith (StandsFor g seed es old.lines) (reading_since g seed es) (length es) name
+      (MOST_EVENTS - length es) (attached_to old name) new o →
       GoesOn g seed es name old new o
 
 -- a moment of it: its store isn't attached yet, or it is played
 abbrev pub InGoingOn : Story → ℕ → List (List ℕ) → List ℕ → Standing → Moment → Type 0
-InGoingOn g seed es name old m = NotYet name old m ⊎ InSession (StandsFor g seed es old.lines) (text_since g seed es old.lines) (length es) name old m
+InGoingOn g seed es name old m =
+    NotYet name old m
+    ⊎ InSession (StandsFor g seed es old.lines) (text_since g seed es old.lines) (length es) name old m
 
 -- ---- a session that is taken up again, by the state that its store shows ----
 
@@ -153,7 +164,8 @@ going_on g st piece lines = on g st.prompt (take st.frames.count st.frames.rows)
 
 -- the session of a game that goes on from a state
 abbrev pub kept_session : Story → State → List ℕ → List ℕ → List ℕ → Played
-kept_session g st piece digest name = record { whole = going_on g st piece; before = st.events; digest = digest; name = name }
+kept_session g st piece digest name =
+    record { whole = going_on g st piece; before = st.events; digest = digest; name = name }
 
 -- the bytes of a store show this state of the game, and this piece
 pub record ShowsState (g : GameLists) (digest bytes : List ℕ) (st : State) (piece : List ℕ) : Type 0 where
@@ -174,10 +186,12 @@ Refuses digest bytes (refusal.Outside c) = ⊥
 pub data PlaysUp (g : Story) (digest name : List ℕ) (old new : Standing) : PlayEnd → Type 0 where
   memory : new ≡ old → PlaysUp g digest name old new end.Memory
   -- the bytes that the session shows, and any behind them, are no state of the game
-  no_state : (at : ℕ) (state piece : List ℕ) → recover old.disk.bytes ≡ Shown digest (take state_length state) piece → ¬ Fit g.game state → unfit g.game state ≡ Some at → new ≡ old →
+  no_state : (at : ℕ) (state piece : List ℕ) → recover old.disk.bytes ≡ Shown digest (take state_length state) piece →
+      ¬ Fit g.game state → unfit g.game state ≡ Some at → new ≡ old →
       PlaysUp g digest name old new (end.State at)
   plays_on : (o : PlayEnd) (st : State) (piece : List ℕ) → ShowsState g.game digest old.disk.bytes st piece →
-      PlaysOn (kept_session g st piece digest name) (MOST_EVENTS - st.events) old new o → PlaysUp g digest name old new o
+      PlaysOn (kept_session g st piece digest name) (MOST_EVENTS - st.events) old new o →
+      PlaysUp g digest name old new o
 
 -- what taking up a session again comes to
 pub data PlaysAgain (g : Story) (digest name : List ℕ) (old new : Standing) : PlayEnd → Type 0 where
@@ -185,7 +199,8 @@ pub data PlaysAgain (g : Story) (digest name : List ℕ) (old new : Standing) : 
   unread : new ≡ attached_to old name → PlaysAgain g digest name old new (end.Outside call.Read)
   wanting : new ≡ attached_to old name → PlaysAgain g digest name old new end.Memory
   -- the store has no session of this game
-  refused : (r : JournalRefusal) → Refuses digest (store_bytes old name) r → new ≡ attached_to old name → PlaysAgain g digest name old new (end.Refused r)
+  refused : (r : JournalRefusal) → Refuses digest (store_bytes old name) r → new ≡ attached_to old name →
+      PlaysAgain g digest name old new (end.Refused r)
   plays_up : (o : PlayEnd) → PlaysUp g digest name (attached_to old name) new o → PlaysAgain g digest name old new o
 
 -- a moment of a session that is taken up again: its store isn't attached yet, or it is played

@@ -29,7 +29,8 @@ StandsFor g seed es lines n bytes = Stands g seed (es ++ first_lines n lines) by
 
 -- the text of these, from the last piece of es on
 abbrev pub text_since : Story → ℕ → List (List ℕ) → List (List ℕ) → ℕ → List ℕ
-text_since g seed es lines n = joined (drop (length es) (pieces_of (run_of (reading g seed (es ++ first_lines n lines)))))
+text_since g seed es lines n =
+    joined (drop (length es) (pieces_of (run_of (reading g seed (es ++ first_lines n lines)))))
 
 -- ---- a reading from one of its pieces on ----
 

@@ -65,11 +65,13 @@ WalkHalts whole most old new halt =
 abbrev pub Walks : EndingOf → ℕ → Standing → Standing → PlayEnd → Type 0
 Walks whole most old new end.Ended = WalkHalts whole most old new IsOver
 Walks whole most old new end.InputEnded =
-    (length old.lines < most) × (p : Prompt) × (path : List Frame) × (r : Run) × Reads whole old new (length old.lines) (WaitsAt p path r)
+    (length old.lines < most) × (p : Prompt) × (path : List Frame) × (r : Run)
+    × Reads whole old new (length old.lines) (WaitsAt p path r)
 Walks whole most old new (end.Spent kind) = WalkHalts whole most old new (RunsOut kind)
 Walks whole most old new (end.TooDeep table) = WalkHalts whole most old new (CallsTooDeep table)
 Walks whole most old new (end.Long events) =
-    (events ≡ MOST_EVENTS) × (p : Prompt) × (path : List Frame) × (r : Run) × Reads whole old new most (WaitsAt p path r)
+    (events ≡ MOST_EVENTS) × (p : Prompt) × (path : List Frame) × (r : Run)
+    × Reads whole old new most (WaitsAt p path r)
 Walks whole most old new (end.Outside call.Ask) =
     (n : ℕ) × (n < most) × (p : Prompt) × (path : List Frame) × (r : Run) × Reads whole old new n (WaitsAt p path r)
 Walks whole most old new (end.Outside call.Show) = (n : ℕ) × (n ≤ most) × ReadsPart whole old new n

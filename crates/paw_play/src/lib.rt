@@ -4,6 +4,7 @@
 pub mod laws;
 mod line;
 pub mod play;
+pub mod preface;
 pub mod resume;
 pub mod show;
 pub mod trace;

@@ -15,9 +15,10 @@ ghost use Rattle.paw_journal.specs.inner.Journal.{KeptIn, failed_stage_call};
 ghost use Rattle.paw_play.specs.Play.{InPlay};
 ghost use Rattle.paw_play.specs.inner.OnTheWay.{EachStory, EachPlaying, Commits, InCommit, seat_state, PlaysTo};
 ghost use Rattle.paw_play.specs.Calls.{IsPlayCall};
-ghost use Rattle.paw_play.specs.inner.Calls.{IfEndOutside, failed_or};
+ghost use Rattle.paw_play.specs.inner.Calls.{IfEndOutside, failed_or, unless_ended};
 ghost use Rattle.paw_play.specs.declared.TheConstants.{MOST_EVENTS};
 
+use crate::preface::Nothing;
 use crate::walk::{refused, told};
 use crate::{MOST_EVENTS, PlayEnd};
 use paw_game::tables::Tables;
@@ -79,6 +80,16 @@ fn commit<S: Stage, T: Tables, F: Fn(u8, u8) -> u8>(
     journal.commit(stage, room, &state, player.piece())
 }
 
+/// Goes on with the session, unless playing has come to an end.
+pub(crate) fn unless_ended(end: Option<PlayEnd>, session: Session) -> Result<Session, PlayEnd>
+    ensures value { result ≡ unless_ended end session }
+{
+    match end {
+        Some(end) => Err(end),
+        None => Ok(session),
+    }
+}
+
 /// Asks for a line and takes it; where it brings a piece, commits that and shows it.
 pub(crate) fn play_line<S: Stage, T: Tables, F: Fn(u8, u8) -> u8>(
     stage: &mut S,
@@ -123,8 +134,8 @@ pub(crate) fn play_line<S: Stage, T: Tables, F: Fn(u8, u8) -> u8>(
         Ok(journal) => journal,
         Err(call) => return Err(PlayEnd::Outside(call)),
     };
-    match told(stage, player, step) {
-        Some(end) => Err(end),
-        None => Ok(Session { journal, events }),
-    }
+    unless_ended(
+        told(&mut Nothing, stage, player, step),
+        Session { journal, events },
+    )
 }

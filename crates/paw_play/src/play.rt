@@ -16,7 +16,8 @@ ghost use Rattle.paw_play.specs.Calls.{IsPlayCall, IsSessionCall};
 ghost use Rattle.paw_play.specs.inner.Calls.{IfEndOutside, call_of_end, failed_or};
 ghost use Rattle.paw_play.specs.declared.TheConstants.{MOST_EVENTS};
 
-use crate::line::{Session, play_line, put_state};
+use crate::line::{Session, play_line, put_state, unless_ended};
+use crate::preface::Nothing;
 use crate::walk::{refused, told};
 use crate::{MOST_EVENTS, PlayEnd};
 use paw_game::tables::Tables;
@@ -103,21 +104,21 @@ fn begin<S: Stage, T: Tables, F: Fn(u8, u8) -> u8>(
         Ok(journal) => journal,
         Err(call) => return Err(PlayEnd::Outside(call)),
     };
-    match told(stage, player, step) {
-        Some(end) => Err(end),
-        None => Ok(Session { journal, events: 0 }),
-    }
+    unless_ended(
+        told(&mut Nothing, stage, player, step),
+        Session { journal, events: 0 },
+    )
 }
 
 /// Makes what a new session is played with, and plays it in the attached store, which is empty.
 fn play_in<S: Stage, T: Tables, F: Fn(u8, u8) -> u8>(
     alloc: Global,
     stage: &mut S,
+    at: Attached,
     tables: &T,
     routines: &Routines<F>,
-    at: Attached,
-    game: &[u8; 32],
     seed: u64,
+    game: &[u8; 32],
 ) -> PlayEnd
     requires rows { HaveRows F.Fn routines.now }
     requires empty { at.length ≡ 0 }
@@ -154,9 +155,9 @@ pub fn play_loop<S: Stage, T: Tables, F: Fn(u8, u8) -> u8>(
     stage: &mut S,
     tables: &T,
     routines: &Routines<F>,
+    seed: u64,
     game: &[u8; 32],
     name: &str,
-    seed: u64,
 ) -> PlayEnd
     requires rows { HaveRows F.Fn routines.now }
     requires game { game.now ≡ sha256 (image (T.game tables.now)) }
@@ -177,5 +178,5 @@ pub fn play_loop<S: Stage, T: Tables, F: Fn(u8, u8) -> u8>(
     if at.length != 0 {
         return PlayEnd::Occupied { length: at.length };
     }
-    play_in(alloc, stage, tables, routines, at, game, seed)
+    play_in(alloc, stage, at, tables, routines, seed, game)
 }

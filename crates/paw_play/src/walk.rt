@@ -1,24 +1,28 @@
-// A walk through a game.
+// A walk through a game, and a trace, which is a walk that shows steps before each piece.
 
-ghost use Rattle.std.specs.Prelude.{◌≡◌, ◌+◌, ◌<◌, ◌≤◌, ◌^◌, ◌↔◌, ℕ, IfSome, None};
+ghost use Rattle.std.specs.Prelude.{◌≡◌, ◌+◌, ◌<◌, ◌≤◌, ◌^◌, ◌↔◌, ℕ, suc, length, IfSome, OnOk, OnErr, IsErr};
+ghost use Rattle.std.specs.Prelude.{Some, None};
 ghost use Rattle.paw_routines.specs.Routines.{HaveRows};
-ghost use Rattle.paw_stage.specs.Stage.{Standing, Faulted};
+ghost use Rattle.paw_stage.specs.Stage.{Standing, Faulted, ShowsPart, with_shown};
 ghost use Rattle.paw_stage.specs.Across.{Across};
-ghost use Rattle.paw_stage.specs.inner.Across.{Throughout};
+ghost use Rattle.paw_stage.specs.inner.Across.{Once, Throughout};
+ghost use Rattle.paw_stage.specs.declared.StageCall.TheVariants as call;
 ghost use Rattle.paw_reading.specs.Turn.{reading};
 ghost use Rattle.paw_stage.specs.Moments.{InShow};
 ghost use Rattle.paw_turn.specs.inner.Player.{IsSeated};
 ghost use Rattle.paw_play.specs.Walk.{EndingOf, Walks};
-ghost use Rattle.paw_play.specs.inner.OnTheWay.{EachStory, IsWalking, WalksOn, Told, refusal_of};
+ghost use Rattle.paw_play.specs.inner.Telling.{seat_text, told_as};
+ghost use Rattle.paw_play.specs.inner.OnTheWay.{EachStory, IsWalking, WalksTo, Told, refusal_of};
 ghost use Rattle.paw_play.specs.Calls.{IsWalkCall};
 ghost use Rattle.paw_play.specs.inner.Calls.{IfEndOutside, call_of_end, failed_so_far};
 ghost use Rattle.paw_play.specs.declared.TheConstants.{MOST_EVENTS};
 
+use crate::preface::Preface;
 use crate::show::show;
 use crate::{MOST_EVENTS, PlayEnd};
 use paw_game::tables::Tables;
 use paw_routines::routines::Routines;
-use paw_stage::{Asked, Stage, StageCall};
+use paw_stage::{Asked, Failed, Stage, StageCall};
 use paw_turn::{Player, Step};
 use std::alloc::Global;
 
@@ -34,8 +38,34 @@ pub(crate) fn refused(step: Step) -> Option<PlayEnd>
     }
 }
 
+/// Shows the player's last piece behind its preface, as one text.
+///
+/// # Errors
+/// Failed where a show failed; a first part of the text was shown then.
+fn show_last<P: Preface, S: Stage, T: Tables, F: Fn(u8, u8) -> u8>(
+    preface: &mut P,
+    stage: &mut S,
+    player: &Player<'_, T, F>,
+) -> Result<(), Failed>
+    ensures tells { S.Tells stage.old ↔ S.Tells stage.new }
+    ensures fine { OnOk result (Faulted None (S.faults stage.old) (S.faults stage.new)) }
+    ensures failed { OnErr result (Faulted (Some call.Show) (S.faults stage.old) (S.faults stage.new)) }
+    ensures some { IsErr result → 0 < length (seat_text P.telling player.now) }
+    ensures shown { Once S.Stage stage.old stage.new result (λ old new.
+        new ≡ with_shown (seat_text P.telling player.now) old) }
+    ensures part { Across S.Stage stage.old stage.new (λ old new.
+        OnErr result (ShowsPart (seat_text P.telling player.now) old new)) }
+    ensures time { Throughout S.Stage stage.old stage.new (λ s. InShow s (seat_text P.telling player.now)) }
+{
+    match show(stage, preface.text(player.steps())) {
+        Ok(()) => show(stage, player.piece()),
+        Err(failed) => Err(failed),
+    }
+}
+
 /// Shows what a step brought. None where the player waits for the next line; else what playing comes to.
-pub(crate) fn told<S: Stage, T: Tables, F: Fn(u8, u8) -> u8>(
+pub(crate) fn told<P: Preface, S: Stage, T: Tables, F: Fn(u8, u8) -> u8>(
+    preface: &mut P,
     stage: &mut S,
     player: &Player<'_, T, F>,
     step: Step,
@@ -44,13 +74,14 @@ pub(crate) fn told<S: Stage, T: Tables, F: Fn(u8, u8) -> u8>(
     ensures tells { S.Tells stage.old ↔ S.Tells stage.new }
     ensures faulted { Faulted (failed_so_far result) (S.faults stage.old) (S.faults stage.new) }
     ensures outside { IfSome result (λ o. IfEndOutside o IsWalkCall) }
-    ensures meaning { Across S.Stage stage.old stage.new (λ old new. Told old new player.now.piece step result) }
-    ensures time { Throughout S.Stage stage.old stage.new (λ s. InShow s player.now.piece) }
+    ensures meaning { Across S.Stage stage.old stage.new (λ old new.
+        Told old new (seat_text P.telling player.now) step result) }
+    ensures time { Throughout S.Stage stage.old stage.new (λ s. InShow s (seat_text P.telling player.now)) }
 {
     if let Some(end) = refused(step) {
         return Some(end);
     }
-    if show(stage, player.piece()).is_err() {
+    if show_last(preface, stage, player).is_err() {
         return Some(PlayEnd::Outside(StageCall::Show));
     }
     if step == Step::Ended {
@@ -61,7 +92,8 @@ pub(crate) fn told<S: Stage, T: Tables, F: Fn(u8, u8) -> u8>(
 }
 
 /// Asks for a line, takes it, and shows the piece that it brings.
-fn walk_line<S: Stage, T: Tables, F: Fn(u8, u8) -> u8>(
+fn walk_line<P: Preface, S: Stage, T: Tables, F: Fn(u8, u8) -> u8>(
+    preface: &mut P,
     stage: &mut S,
     player: &mut Player<'_, T, F>,
 ) -> Option<PlayEnd>
@@ -77,14 +109,14 @@ fn walk_line<S: Stage, T: Tables, F: Fn(u8, u8) -> u8>(
     ensures routines { player.new.routines ≡ player.old.routines }
     ensures meaning { Across S.Stage stage.old stage.new (λ old new.
         EachStory F.Fn player.old.routines player.old.game (λ g. (whole : EndingOf) (most n : ℕ) (first : Standing) →
-        IsWalking g whole first old player.old n → n < most →
-        WalksOn g whole most first new player.new n result)) }
+        IsWalking P.telling g whole first old player.old n → n < most →
+        WalksTo P.telling g whole most first new player.new (suc n) result)) }
 {
     let mut line = [0u8; 255];
     match stage.ask(&mut line) {
         Asked::Line(n) => {
             let step = player.take(&line[..n as usize]);
-            told(stage, player, step)
+            told(preface, stage, player, step)
         }
         Asked::End => Some(PlayEnd::InputEnded),
         Asked::Failed => Some(PlayEnd::Outside(StageCall::Ask)),
@@ -92,7 +124,8 @@ fn walk_line<S: Stage, T: Tables, F: Fn(u8, u8) -> u8>(
 }
 
 /// Takes lines until the game is over or no line is left, at most so many.
-fn walk_lines<S: Stage, T: Tables, F: Fn(u8, u8) -> u8>(
+fn walk_lines<P: Preface, S: Stage, T: Tables, F: Fn(u8, u8) -> u8>(
+    preface: &mut P,
     stage: &mut S,
     player: &mut Player<'_, T, F>,
 ) -> PlayEnd
@@ -104,10 +137,11 @@ fn walk_lines<S: Stage, T: Tables, F: Fn(u8, u8) -> u8>(
     ensures outside { IfEndOutside result IsWalkCall }
     ensures meaning { Across S.Stage stage.old stage.new (λ old new.
         EachStory F.Fn player.old.routines player.old.game (λ g. (whole : EndingOf) (first : Standing) →
-        IsWalking g whole first old player.old 0 → Walks whole MOST_EVENTS first new result)) }
+        IsWalking P.telling g whole first old player.old 0 →
+        Walks (told_as P.telling whole) MOST_EVENTS first new result)) }
 {
     for _ in 0..MOST_EVENTS {
-        if let Some(end) = walk_line(stage, player) {
+        if let Some(end) = walk_line(preface, stage, player) {
             return end;
         }
     }
@@ -116,9 +150,9 @@ fn walk_lines<S: Stage, T: Tables, F: Fn(u8, u8) -> u8>(
     }
 }
 
-/// Walks through a game with a seed: shows the piece before the first line, and then a piece for each line, until the
-/// game is over or no line is left. Nothing is kept. It takes memory before anything else.
-pub fn walk_loop<S: Stage, T: Tables, F: Fn(u8, u8) -> u8>(
+/// Walks through a game with a seed: shows the piece before the first line, and then a piece for each line, each behind
+/// its preface, until the game is over or no line is left. Nothing is kept. It takes memory before anything else.
+pub fn walk_loop<P: Preface, S: Stage, T: Tables, F: Fn(u8, u8) -> u8>(
     alloc: Global,
     stage: &mut S,
     tables: &T,
@@ -129,15 +163,18 @@ pub fn walk_loop<S: Stage, T: Tables, F: Fn(u8, u8) -> u8>(
     ensures tells { S.Tells stage.old ↔ S.Tells stage.new }
     ensures faulted { Faulted (call_of_end result) (S.faults stage.old) (S.faults stage.new) }
     ensures outside { IfEndOutside result IsWalkCall }
-    ensures walks { Across S.Stage stage.old stage.new (λ old new.
-        EachStory F.Fn routines.now (T.game tables.now) (λ g. Walks (reading g seed) MOST_EVENTS old new result)) }
+    ensures walks { Across S.Stage stage.old stage.new (λ old new. EachStory F.Fn routines.now (T.game tables.now)
+        (λ g. Walks (told_as P.telling (reading g seed)) MOST_EVENTS old new result)) }
 {
+    let Ok(mut preface) = P::new(alloc) else {
+        return PlayEnd::Memory;
+    };
     let Ok(mut player) = Player::new(alloc, tables, routines, seed) else {
         return PlayEnd::Memory;
     };
     let step = player.start();
-    if let Some(end) = told(stage, &player, step) {
+    if let Some(end) = told(&mut preface, stage, &player, step) {
         return end;
     }
-    walk_lines(stage, &mut player)
+    walk_lines(&mut preface, stage, &mut player)
 }

@@ -15,8 +15,8 @@ use Rattle.paw_top.specs.Compile as compile
 use Rattle.paw_top.specs.Completes.{NoFault, IsWalked, CompletesSource, CompletesCompile, CompletesDecompile, CompletesPlay}
 use Rattle.paw_top.specs.Decompile as decompile
 use Rattle.paw_top.specs.Loads.{Holds, HoldsNone, HoldsDamage}
-use Rattle.paw_top.specs.Walk as walk
-use Rattle.paw_top.specs.Ends.{outcome_of}
+use Rattle.paw_top.specs.Walk.{WalksAs}
+use Rattle.paw_top.specs.Ends.{outcome_of, PlaysFile, plays, unopened}
 use Rattle.paw_top.specs.Opens.{Unopened, damaged, absent, failed, wanting}
 use Rattle.paw_play.specs.Walk.{EndingOf, Walks}
 use Rattle.paw_play.specs.declared.PlayEnd.{PlayEnd}
@@ -82,7 +82,7 @@ pub same_game : (s : Standing) (name : List ℕ) (g k : GameLists) → Holds s n
 same_game s name g k h i = one_game g k h.2.valid i.2.valid (sym h.2.spelled ∙ same_file _ h.0 i.0 h.1 i.1 ∙ i.2.spelled)
 
 -- the file holds a game that is played, with an answer such as it is to be
-pub completes_game : (name : List ℕ) (Such : GameLists → Outcome → Type 0) (old : Standing) (g : GameLists) (o : Outcome) → Holds old name g → Such g o →
+completes_game : (name : List ℕ) (Such : GameLists → Outcome → Type 0) (old : Standing) (g : GameLists) (o : Outcome) → Holds old name g → Such g o →
     CompletesPlay name Such old o
 completes_game name Such old g o s such = record {
   image = λ h k. subst (λ x. Such x o) (sym (same_game old name h g k s)) such;
@@ -90,7 +90,7 @@ completes_game name Such old g o s such = record {
 }
 
 -- the game isn't played
-pub completes_unopened : (name : List ℕ) (Such : GameLists → Outcome → Type 0) (Is : StageCall → Type 0)
+completes_unopened : (name : List ℕ) (Such : GameLists → Outcome → Type 0) (Is : StageCall → Type 0)
     (old new : Standing) (first last : StageCall → ℕ) (o : Outcome) →
     ((g : GameLists) (at : MemoryAt) → Such g (outcome.Memory at)) → Unopened name old new o →
     IfOutside o (λ c. Is c × Rose (first c) (last c)) → NoFault first last →
@@ -103,6 +103,17 @@ completes_unopened name Such Is old new first last _ memory (failed e) out none 
     let fault : ⊥ = none call.Load (λ q. cc) out.1 in record { image = λ h k. absurd fault; other = λ k. absurd fault }
 completes_unopened name Such Is old new first last _ memory (wanting at e) out none =
     record { image = λ h k. memory h at; other = λ k. tt }
+
+-- a file whose game is played, where each end is such as it is to be
+pub completes_file : {Comes : GameLists → PlayEnd → Type 0} (name : List ℕ) (Such : GameLists → Outcome → Type 0) (Is : StageCall → Type 0)
+    (old new : Standing) (first last : StageCall → ℕ) (o : Outcome) → PlaysFile Comes name old new o →
+    ((g : GameLists) (end : PlayEnd) → Comes g end → IfOutside (outcome_of end) (λ c. Is c × Rose (first c) (last c)) → Such g (outcome_of end)) →
+    ((g : GameLists) (at : MemoryAt) → Such g (outcome.Memory at)) →
+    IfOutside o (λ c. Is c × Rose (first c) (last c)) → NoFault first last → CompletesPlay name Such old o
+completes_file name Such Is old new first last _ (plays g end s comes) such memory out none =
+    completes_game name Such old g (outcome_of end) s (such g end comes out)
+completes_file name Such Is old new first last _ (unopened o u) such memory out none =
+    completes_unopened name Such Is old new first last o memory u out none
 
 -- a walk comes to its end
 pub is_walked : (Is : StageCall → Type 0) (whole : EndingOf) (most : ℕ) (old new : Standing) (first last : StageCall → ℕ)
@@ -120,9 +131,8 @@ is_walked Is whole most old new first last _ w out none = absurd w
 
 pub completes_walk : (told : Story → ℕ → EndingOf) (rows : List (List ℕ)) (name : List ℕ) (seed : ℕ) (old new : Standing)
     (first last : StageCall → ℕ) (o : Outcome) →
-    walk.WalksAs told rows name seed old new o →
+    WalksAs told rows name seed old new o →
     IfOutside o (λ c. IsCall c × Rose (first c) (last c)) → NoFault first last → CompletesPlay name (λ g. IsWalked) old o
-completes_walk told rows name seed old new first last _ (walk.walks g o s w) out none =
-    completes_game name (λ g. IsWalked) old g (outcome_of o) s (is_walked IsCall (told (story_of g rows) seed) MOST_EVENTS old new first last o w out none)
-completes_walk told rows name seed old new first last _ (walk.unopened o u) out none =
-    completes_unopened name (λ g. IsWalked) IsCall old new first last o (λ g at. tt) u out none
+completes_walk told rows name seed old new first last o w out none =
+    completes_file name (λ g. IsWalked) IsCall old new first last o w
+    (λ g end p rose. is_walked IsCall (told (story_of g rows) seed) MOST_EVENTS old new first last end p rose none) (λ g at. tt) out none

@@ -21,12 +21,11 @@ use Rattle.paw_top.specs.Answers.{IfOutside, IsKeptCall}
 use Rattle.paw_top.specs.Completes.{NoFault, IsWalked, Comes, CompletesNew, CompletesAgain, CompletesPlay}
 use Rattle.paw_top.specs.Ends.{outcome_of, refused_as}
 use Rattle.paw_top.specs.Sessions.{digest_of, PlaysNewIn, PlaysAgainIn}
-use Rattle.paw_top.specs.Sessions as top
 use Rattle.paw_top.specs.declared.outcome.Outcome.{Outcome}
 use Rattle.paw_top.specs.declared.outcome.Outcome.TheVariants as outcome
 use Rattle.paw_top.specs.declared.outcome.MemoryAt.{MemoryAt}
 use Rattle.paw_top.specs.declared.outcome.MemoryAt.TheVariants as memory
-use Rattle.paw_top.proofs.Completing.{completes_game, completes_unopened}
+use Rattle.paw_top.proofs.Completing.{completes_file}
 
 -- playing on comes to its end
 plays_on : (whole : EndingOf) (most : ℕ) (old new : Standing) (first last : StageCall → ℕ) (o : PlayEnd) → ShowsAs whole most old new o →
@@ -86,11 +85,9 @@ new_memory (b ∷ bytes) at = tt
 pub completes_play : (rows : List (List ℕ)) (name store : List ℕ) (seed : ℕ) (old new : Standing)
     (first last : StageCall → ℕ) (o : Outcome) → PlaysNewIn rows name store seed old new o →
     IfOutside o (λ c. IsKeptCall c × Rose (first c) (last c)) → NoFault first last → CompletesPlay name (λ g. CompletesNew (store_bytes old store)) old o
-completes_play rows name store seed old new first last _ (top.plays g o s p) out none =
-    completes_game name (λ g. CompletesNew (store_bytes old store)) old g (outcome_of o) s (plays_new _ _ store old new first last o p out none)
-completes_play rows name store seed old new first last _ (top.unopened o u) out none =
-    completes_unopened name (λ g. CompletesNew (store_bytes old store)) IsKeptCall old new first last o
-    (λ g at. new_memory (store_bytes old store) at) u out none
+completes_play rows name store seed old new first last o p out none =
+    completes_file name (λ g. CompletesNew (store_bytes old store)) IsKeptCall old new first last o p
+    (λ g end q rose. plays_new _ _ store old new first last end q rose none) (λ g at. new_memory (store_bytes old store) at) out none
 
 -- ---- a session that is taken up again ----
 
@@ -182,9 +179,7 @@ pub completes_resume : (rows : List (List ℕ)) (name store : List ℕ) (old new
     (o : Outcome) → PlaysAgainIn rows name store old new o →
     IfOutside o (λ c. IsKeptCall c × Rose (first c) (last c)) → NoFault first last →
     CompletesPlay name (λ g. CompletesAgain g (digest_of g) (store_bytes old store)) old o
-completes_resume rows name store old new first last _ (top.plays g o s p) out none =
-    completes_game name (λ h. CompletesAgain h (digest_of h) (store_bytes old store)) old g (outcome_of o) s
-    (plays_again (story_of g rows) (digest_of g) store old new first last o p out none)
-completes_resume rows name store old new first last _ (top.unopened o u) out none =
-    completes_unopened name (λ h. CompletesAgain h (digest_of h) (store_bytes old store)) IsKeptCall old new first last o
-    (λ h at. again_memory h (digest_of h) (store_bytes old store) at) u out none
+completes_resume rows name store old new first last o p out none =
+    completes_file name (λ h. CompletesAgain h (digest_of h) (store_bytes old store)) IsKeptCall old new first last o p
+    (λ g end q rose. plays_again (story_of g rows) (digest_of g) store old new first last end q rose none)
+    (λ h at. again_memory h (digest_of h) (store_bytes old store) at) out none

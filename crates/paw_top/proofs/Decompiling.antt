@@ -10,20 +10,22 @@ use Rattle.paw_top.specs.inner.Loads.{LoadsSome, LoadsNone, GivesNone}
 use Rattle.paw_top.specs.Shows.{Shows}
 use Rattle.paw_top.specs.declared.outcome.Outcome.{Outcome}
 use Rattle.paw_top.specs.declared.outcome.Outcome.TheVariants as outcome
-use Rattle.paw_top.proofs.Images.{damage_loaded}
+use Rattle.paw_top.specs.Opens as opens
+use Rattle.paw_top.specs.Opens.{Unopened}
+use Rattle.paw_top.proofs.Refusals as refused
 
--- a load that gives nothing says why nothing is decompiled
+-- a file that isn't opened isn't decompiled
+so_decompiled : (name : List ℕ) (old new : Standing) (o : Outcome) → Unopened name old new o → Decompiles name old new o
+so_decompiled name old new _ (opens.damaged at h e) = damaged at h e
+so_decompiled name old new _ (opens.absent h e) = absent h e
+so_decompiled name old new _ (opens.failed e) = unloaded e
+so_decompiled name old new _ (opens.wanting at e) = memory at e
+
 pub no_file : (name : List ℕ) (old new : Standing) (o : Outcome) → LoadsNone name old new o → Decompiles name old new o
-no_file name old new (outcome.Outside call.LoadAbsent) h = absent h.0 h.1
-no_file name old new (outcome.Outside call.Load) h = unloaded h
-no_file name old new (outcome.Memory at) h = memory at h
-no_file name old new _ h = absurd h
+no_file name old new o h = so_decompiled name old new o (refused.no_file name old new o h)
 
--- and so do bytes that give no game
 pub no_game : (name given : List ℕ) (old new : Standing) (o : Outcome) → LoadsSome name 4194304 old new given → GivesNone given o → Decompiles name old new o
-no_game name given old new (outcome.ImageDamaged at) f h = damaged at (damage_loaded name given old new at f h.0 h.1) f.3
-no_game name given old new (outcome.Memory at) f h = memory at f.3
-no_game name given old new _ f h = absurd h
+no_game name given old new o f h = so_decompiled name old new o (refused.no_image name given old new o f h)
 
 shows_so : (name : List ℕ) (g : GameLists) (old new : Standing) (o : Outcome) → Holds old name g → Shows (canonical_of g) old new o → Decompiles name old new o
 shows_so name g old new outcome.Done h s = done g h s

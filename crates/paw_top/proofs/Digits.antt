@@ -1,14 +1,18 @@
 -- A number that is printed is read as that number.
 use Rattle.std.proofs.Common.{◌≡◌, ℕ, ◌<◌, ◌≤◌, ◌+◌, ◌-◌, ◌*◌, ◌/◌, ◌%◌, ◌^◌, Bool, true, false, eqb, leb, cond, List, [], ◌∷◌, ◌++◌, length, length-append}
-use Rattle.std.proofs.Common.{Some, None, Ok, refl, ap, ◌∙◌, arith}
+use Rattle.std.proofs.Common.{Some, None, Ok, refl, sym, ap, ◌∙◌, arith}
 use Rattle.std.specs.Fmt.{decimal}
 use Rattle.std.specs.List.{list_all}
 use Rattle.std.proofs.lemmas.Bool.{and_from, and_parts, le-leb, leb-true, ne_eqb, not_from_false}
 use Rattle.std.proofs.lemmas.Fmt.{decimal_by_steps}
+use Rattle.std.proofs.lemmas.List.{append-nil}
 use Rattle.std.proofs.lemmas.List.Folds.{list_all-append}
 use Rattle.paw_grammar.specs.Numbers.{is_digit, number_from, number, number_with}
-use Rattle.paw_grammar.specs.Spells.{begins_with_slash}
-use Rattle.paw_top.proofs.Rows.{is_clean, is_plain}
+use Rattle.paw_grammar.specs.Spells.{begins_with_slash, step}
+use Rattle.paw_grammar.specs.GrammarState.{Spelt}
+use Rattle.paw_grammar.specs.GrammarHeads.{item_in, slash_line}
+use Rattle.paw_print.specs.Lines.{item_token}
+use Rattle.paw_top.proofs.Rows.{is_clean, is_plain, slash_step}
 
 -- one digit more
 number_from-push : (k m d : ℕ) (ds : List ℕ) → number_from k ds ≡ Some m → is_digit d ≡ true → number_from k (ds ++ d ∷ []) ≡ Some (m * 10 + (d - 48))
@@ -77,6 +81,13 @@ plain-decimal n h = plain_some n (decimal n) (is_decimal n (omega arith))
 -- and behind a stroke
 pub plain-item : (n : ℕ) → n ≤ 65535 → is_plain (47 ∷ decimal n) ≡ true
 plain-item n h = (is_decimal n (omega arith)).clean
+
+-- an item is begun in the section that is read
+pub item_begins : (p : ℕ) (d : Spelt) (n : ℕ) → n ≤ 65535 → step p d (item_token n) ≡ item_in d.section d n
+item_begins p d n h =
+    ap (step p d) (sym (append-nil (item_token n)))
+    ∙ slash_step p d (decimal n) [] (rw (plain-item n h) refl)
+    ∙ ap (λ x. slash_line d (47 ∷ decimal n) x []) (number-decimal n h)
 
 -- a printed number that keeps a rule
 pub number_with-decimal : (rule : ℕ → Bool) (n : ℕ) (ts : List (List ℕ)) → n ≤ 65535 → rule n ≡ true → number_with rule (decimal n ∷ ts) ≡ Ok (n, ts)

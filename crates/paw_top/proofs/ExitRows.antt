@@ -20,7 +20,7 @@ use Rattle.paw_print.specs.Lines.{verb_token, item_token, exit_tokens, spaced}
 use Rattle.paw_print.specs.Canonical.{numbered, location_lines}
 use Rattle.paw_top.proofs.After.{LineReads, Reads, reads_none, reads_line, reads_append}
 use Rattle.paw_top.proofs.Rows.{is_plain, row_step, slash_step, plain_printed, printed-spaced}
-use Rattle.paw_top.proofs.Digits.{number-decimal, plain-decimal, plain-item}
+use Rattle.paw_top.proofs.Digits.{number-decimal, plain-decimal, plain-item, item_begins}
 use Rattle.paw_top.proofs.Lasts.{last_or-push, with_last-push}
 use Rattle.paw_top.proofs.KnownWords.{Words, ReadsBack, verb_word_back}
 
@@ -148,9 +148,7 @@ con_item_step p d es all n at scene f below =
     record {
       printed = plain_printed (item_token n) (plain-item n small);
       is =
-          ap (step p e) (sym (append-nil (item_token n)))
-          ∙ slash_step p e (decimal n) [] (rw (plain-item n small) refl)
-          ∙ ap (λ x. slash_line e (47 ∷ decimal n) x []) (number-decimal n small)
+          item_begins p e n small
           ∙ ap (λ x. item_in x e n) at
           ∙ rw (new, location) (ap (λ (xs : List (List Exit)). Ok (record d { exits = xs })) (filled_more es n all f));
     }

@@ -28,7 +28,8 @@ pub ltx_header : (p : ℕ) (d : Spelt) → d.section ≡ section.Otx → LineRea
 unfolding number_from
 ltx_header p d h = record { is = slash_step p d (codes "LTX") [] refl ∙ rw h refl; printed = refl }
 
-pub con_header_is : (p : ℕ) (d : Spelt) → d.section ≡ section.Ltx → eqb (length d.locations) 0 ≡ false → LineReads p d (codes "/CON") (section_opened section.Con d)
+pub con_header_is : (p : ℕ) (d : Spelt) → d.section ≡ section.Ltx → eqb (length d.locations) 0 ≡ false →
+    LineReads p d (codes "/CON") (section_opened section.Con d)
 unfolding number_from
 con_header_is p d h some = record { is = slash_step p d (codes "CON") [] refl ∙ rw (h, some) refl; printed = refl }
 

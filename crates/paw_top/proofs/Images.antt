@@ -39,8 +39,12 @@ loaded_bad given bytes at e h = bad_whole bytes at (subst (λ b. bad b ≡ Some 
 -- ---- the file ----
 
 -- a file holds the game of the bytes that were loaded
-pub holds_loaded : (name given : List ℕ) (old new : Standing) (g : GameLists) → LoadsSome name 4194304 old new given → IsImage given g → Holds old name g
+holds_loaded : (name given : List ℕ) (old new : Standing) (g : GameLists) → LoadsSome name 4194304 old new given → IsImage given g → Holds old name g
 holds_loaded name given old new g f h = (f.0, f.1, loaded_image given f.0 g f.2 h)
+
+pub holds_given : (name given bytes : List ℕ) (old new : Standing) (g : GameLists) → bytes ≡ given → LoadsSome name 4194304 old new given →
+    IsImage bytes g → Holds old name g
+holds_given name given bytes old new g e f h = holds_loaded name given old new g f (subst (λ b. IsImage b g) e h)
 
 -- or it has their damage
 pub damage_loaded : (name given : List ℕ) (old new : Standing) (at : ℕ) → LoadsSome name 4194304 old new given →

@@ -21,31 +21,25 @@ record Letter (c : ℕ) : Type 0 where
   clean : is_clean c ≡ true
   no_space : eqb c 32 ≡ false
 
+letter_of : (c : ℕ) → 48 ≤ c → c ≤ 90 → eqb c 59 ≡ false → Letter c
+letter_of c low high semicolon = record {
+  low = low;
+  high = high;
+  clean = and_from _ _ (and_from _ _ (le-leb 33 c (omega arith)) (le-leb c 126 (omega arith))) (not_from_false _ semicolon);
+  no_space = ne_eqb c 32 (λ e. omega arith);
+}
+
 letter : (c : ℕ) → is_letter c ≡ true → Letter c
 letter c h =
     elim (or_cases (leb 65 c && leb c 90) (leb 48 c && leb c 57) h) [
       | inl capital ↦
           let both = and_parts (leb 65 c) _ capital in
           let low : 65 ≤ c = leb-true 65 c both.0 in
-          let high : c ≤ 90 = leb-true c 90 both.1 in
-          let semicolon : eqb c 59 ≡ false = ne_eqb c 59 (λ e. omega arith) in
-          record {
-            low = omega arith;
-            high = high;
-            clean = and_from _ _ (and_from _ _ (le-leb 33 c (omega arith)) (le-leb c 126 (omega arith))) (not_from_false _ semicolon);
-            no_space = ne_eqb c 32 (λ e. omega arith);
-          }
+          letter_of c (omega arith) (leb-true c 90 both.1) (ne_eqb c 59 (λ e. omega arith))
       | inr digit ↦
           let both = and_parts (leb 48 c) _ digit in
-          let low : 48 ≤ c = leb-true 48 c both.0 in
           let high : c ≤ 57 = leb-true c 57 both.1 in
-          let semicolon : eqb c 59 ≡ false = ne_eqb c 59 (λ e. omega arith) in
-          record {
-            low = low;
-            high = omega arith;
-            clean = and_from _ _ (and_from _ _ (le-leb 33 c (omega arith)) (le-leb c 126 (omega arith))) (not_from_false _ semicolon);
-            no_space = ne_eqb c 32 (λ e. omega arith);
-          }
+          letter_of c (leb-true 48 c both.0) (omega arith) (ne_eqb c 59 (λ e. omega arith))
     ]
 
 capital-is : (c : ℕ) → is_letter c ≡ true → to_ascii_uppercase c ≡ c

@@ -14,7 +14,8 @@ use Rattle.paw_play.proofs.Standing.{standing_again}
 use Rattle.paw_top.specs.Commands.{Command, Play, Resume}
 use Rattle.paw_top.specs.Ends.{outcome_of}
 use Rattle.paw_top.specs.Loads.{Holds}
-use Rattle.paw_top.specs.Sessions.{session_from, digest_of, GoesOnIn, goes}
+use Rattle.paw_top.specs.Sessions.{session_from, digest_of, GoesOnIn}
+use Rattle.paw_top.specs.Ends.{plays}
 use Rattle.paw_top.proofs.Completing.{same_game}
 
 -- where nothing has changed, the store isn't attached yet
@@ -55,7 +56,7 @@ pub goes_on_in : (name store : List ℕ) (g k : Story) (seed : ℕ) (es : List (
     Stands g seed es (store_bytes old store) → GoesOnIn name store g seed es old new (outcome_of o)
 goes_on_in name store g k seed es old new o same holds p =
     subst (λ h. IsPlayedWith h seed es → Stands h seed es (store_bytes old store) → GoesOnIn name store h seed es old new (outcome_of o)) same
-    (λ played stands. goes o holds (standing_again k seed es store old new played stands o p))
+    (λ played stands. plays k.game o holds (refl, standing_again k seed es store old new played stands o p))
 
 -- the store shows the same state to the game of the image
 pub shows_same : (g k : GameLists) (kept store : List ℕ) (old mid : Standing) (st : State) (piece : List ℕ) → mid ≡ old → k ≡ g → kept ≡ sha256 (image k) →

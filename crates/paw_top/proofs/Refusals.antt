@@ -1,11 +1,14 @@
 -- An image that isn't opened.
-use Rattle.std.proofs.Common.{ℕ, List}
+use Rattle.std.proofs.Common.{◌≡◌, ℕ, List, subst}
+use Rattle.paw_game.specs.Game.{GameLists}
+use Rattle.paw_play.specs.declared.PlayEnd.{PlayEnd}
 use Rattle.paw_stage.specs.Stage.{Standing}
 use Rattle.paw_stage.specs.declared.StageCall.TheVariants as call
 use Rattle.paw_top.specs.declared.outcome.Outcome.{Outcome}
 use Rattle.paw_top.specs.declared.outcome.Outcome.TheVariants as outcome
 use Rattle.paw_top.specs.inner.Loads.{LoadsSome, LoadsNone, GivesNone}
 use Rattle.paw_top.specs.Opens.{Unopened, damaged, absent, failed, wanting}
+use Rattle.paw_top.specs.Ends.{PlaysFile, unopened}
 use Rattle.paw_top.proofs.Images.{damage_loaded}
 
 -- a load that gives nothing says why its game isn't played
@@ -20,3 +23,12 @@ pub no_image : (name given : List ℕ) (old new : Standing) (o : Outcome) → Lo
 no_image name given old new (outcome.ImageDamaged at) f h = damaged at (damage_loaded name given old new at f h.0 h.1) f.3
 no_image name given old new (outcome.Memory at) f h = wanting at f.3
 no_image name given old new _ f h = absurd h
+
+-- so the game of the file isn't played
+pub unloaded : {Comes : GameLists → PlayEnd → Type 0} (name : List ℕ) (old new : Standing) (o : Outcome) → LoadsNone name old new o →
+    PlaysFile Comes name old new o
+unloaded name old new o h = unopened o (no_file name old new o h)
+
+pub undecoded : {Comes : GameLists → PlayEnd → Type 0} (name given bytes : List ℕ) (old new : Standing) (o : Outcome) → bytes ≡ given →
+    LoadsSome name 4194304 old new given → GivesNone bytes o → PlaysFile Comes name old new o
+undecoded name given bytes old new o e f h = unopened o (no_image name given old new o f (subst (λ b. GivesNone b o) e h))

@@ -18,33 +18,23 @@ use Rattle.paw_print.specs.Lines.{item_token, lines_of_text, text_lines}
 use Rattle.paw_print.specs.Canonical.{numbered}
 use Rattle.paw_top.proofs.After.{LineReads, Reads, reads_none, reads_line, reads_append}
 use Rattle.paw_top.proofs.Rows.{slash_step, text_step, plain_printed}
-use Rattle.paw_top.proofs.Digits.{number-decimal, plain-item}
+use Rattle.paw_top.proofs.Digits.{plain-item, item_begins}
 use Rattle.paw_top.proofs.Lasts.{last_or-push, with_last-push}
 use Rattle.paw_top.proofs.Split.{HasLine, has_line, split, split_some, rejoined, rejoined-split, is_line, split_is_lines, TextLine, text_line_is}
 
 -- ---- the texts of a section ----
 
-texts_of-with : (s : Section) (b : Bool) (ts : List (List ℕ)) (d : Spelt) → is_text_section s ≡ true → texts_of s (with_texts s b ts d) ≡ ts
-texts_of-with section.Before b ts d h = absurd cc
-texts_of-with section.Voc b ts d h = absurd cc
-texts_of-with section.Stx b ts d h = refl
-texts_of-with section.Mtx b ts d h = refl
-texts_of-with section.Otx b ts d h = refl
-texts_of-with section.Ltx b ts d h = refl
-texts_of-with section.Con b ts d h = absurd cc
-texts_of-with section.Obj b ts d h = absurd cc
-texts_of-with section.Pro b ts d h = absurd cc
-
-begun-with : (s : Section) (b : Bool) (ts : List (List ℕ)) (d : Spelt) → is_text_section s ≡ true → (with_texts s b ts d).begun ≡ b
-begun-with section.Before b ts d h = absurd cc
-begun-with section.Voc b ts d h = absurd cc
-begun-with section.Stx b ts d h = refl
-begun-with section.Mtx b ts d h = refl
-begun-with section.Otx b ts d h = refl
-begun-with section.Ltx b ts d h = refl
-begun-with section.Con b ts d h = absurd cc
-begun-with section.Obj b ts d h = absurd cc
-begun-with section.Pro b ts d h = absurd cc
+texts-with : (s : Section) (b : Bool) (ts : List (List ℕ)) (d : Spelt) → is_text_section s ≡ true →
+    (texts_of s (with_texts s b ts d) ≡ ts) × ((with_texts s b ts d).begun ≡ b)
+texts-with section.Before b ts d h = absurd cc
+texts-with section.Voc b ts d h = absurd cc
+texts-with section.Stx b ts d h = (refl, refl)
+texts-with section.Mtx b ts d h = (refl, refl)
+texts-with section.Otx b ts d h = (refl, refl)
+texts-with section.Ltx b ts d h = (refl, refl)
+texts-with section.Con b ts d h = absurd cc
+texts-with section.Obj b ts d h = absurd cc
+texts-with section.Pro b ts d h = absurd cc
 
 section-with : (s : Section) (b : Bool) (ts : List (List ℕ)) (d : Spelt) → (with_texts s b ts d).section ≡ d.section
 section-with section.Before b ts d = refl
@@ -99,7 +89,7 @@ in_text s b before t d at text =
     let e : Spelt = with_texts s b (before ++ t ∷ []) d in
     let here : e.section ≡ s = section-with s b (before ++ t ∷ []) d ∙ at in
     ap (λ x. is_text_section x && not (eqb (length (texts_of x e)) 0)) here
-    ∙ rw (text, texts_of-with s b (before ++ t ∷ []) d text, some) refl
+    ∙ rw (text, (texts-with s b (before ++ t ∷ []) d text).0, some) refl
 
 line_joined : (b : Bool) (before : List (List ℕ)) (t l : List ℕ) → length (with_line b t l) ≤ 4095 →
     text_line b l (before ++ t ∷ []) ≡ Ok (before ++ with_line b t l ∷ [])
@@ -119,8 +109,8 @@ line_step p s b d before t l at text line short =
       is =
           text_step p e l line.printed line.slash line.comment (in_text s b before t d at text)
           ∙ ap (λ x. text_line e.begun l (texts_of x e) >>= λ us. Ok (with_texts x true us e)) here
-          ∙ ap (λ x. text_line x l (texts_of s e) >>= λ us. Ok (with_texts s true us e)) (begun-with s b ts d text)
-          ∙ ap (λ (us : List (List ℕ)). text_line b l us >>= λ vs. Ok (with_texts s true vs e)) (texts_of-with s b ts d text)
+          ∙ ap (λ x. text_line x l (texts_of s e) >>= λ us. Ok (with_texts s true us e)) (texts-with s b ts d text).1
+          ∙ ap (λ (us : List (List ℕ)). text_line b l us >>= λ vs. Ok (with_texts s true vs e)) (texts-with s b ts d text).0
           ∙ ap (λ (r : Result (List (List ℕ)) SourceKind). r >>= λ vs. Ok (with_texts s true vs e)) (line_joined b before t l short)
           ∙ ap Ok (with-with s b true ts (before ++ with_line b t l ∷ []) d);
     }
@@ -179,12 +169,10 @@ item_step p s b d before n at text is room =
     record {
       printed = plain_printed (item_token n) (plain-item n small);
       is =
-          ap (step p e) (sym (append-nil (item_token n)))
-          ∙ slash_step p e (decimal n) [] (rw (plain-item n small) refl)
-          ∙ ap (λ x. slash_line e (47 ∷ decimal n) x []) (number-decimal n small)
+          item_begins p e n small
           ∙ ap (λ x. item_in x e n) here
           ∙ item_in-text s e n text
-          ∙ ap (λ (us : List (List ℕ)). text_item (text_limit s) n us >>= λ vs. Ok (with_texts s false vs e)) (texts_of-with s b before d text)
+          ∙ ap (λ (us : List (List ℕ)). text_item (text_limit s) n us >>= λ vs. Ok (with_texts s false vs e)) (texts-with s b before d text).0
           ∙ rw (next, below) (ap Ok (with-with s b false before (before ++ [] ∷ []) d));
     }
 

@@ -33,18 +33,21 @@ halted n s (end.TooDeep table) (Halted (CallsTooDeep found) r) is h =
     too_deep table r (subst (λ t. trial_reading n ≡ Halted (CallsTooDeep t) r) (sym h) is) refl
 halted n s stop e is h = absurd h
 
-pub told : (n : ℕ) (old new : Standing) (o : Outcome) (text : List ℕ) (e : Ending) → trial_reading n ≡ e → IsTextOf n e text → Shows text old new o → Tries n old new o
+pub told : (n : ℕ) (old new : Standing) (o : Outcome) (text : List ℕ) (e : Ending) → trial_reading n ≡ e → IsTextOf n e text → Shows text old new o →
+    Tries n old new o
 told n old new o text (WaitsAt p path r) is t s = shows o p path r is (subst (λ x. Shows x old new o) t s)
 told n old new o text _ is t s = absurd t
 
 -- where no call fails the line is shown
-shown_comes : (text : List ℕ) (old new : Standing) (first last : StageCall → ℕ) (o : Outcome) → Shows text old new o → IfOutside o (λ c. IsTrialCall c × Rose (first c) (last c)) →
+shown_comes : (text : List ℕ) (old new : Standing) (first last : StageCall → ℕ) (o : Outcome) → Shows text old new o →
+    IfOutside o (λ c. IsTrialCall c × Rose (first c) (last c)) →
     NoFault first last → Comes outcome.Done o
 shown_comes text old new first last outcome.Done s out none = refl
 shown_comes text old new first last (outcome.Outside call.Show) s out none = absurd (none call.Show (λ q. cc) out.1)
 shown_comes text old new first last _ s out none = absurd s
 
-pub completes_trial : (n : ℕ) (old new : Standing) (first last : StageCall → ℕ) (o : Outcome) → Tries n old new o → IfOutside o (λ c. IsTrialCall c × Rose (first c) (last c)) →
+pub completes_trial : (n : ℕ) (old new : Standing) (first last : StageCall → ℕ) (o : Outcome) → Tries n old new o →
+    IfOutside o (λ c. IsTrialCall c × Rose (first c) (last c)) →
     NoFault first last → Comes (due (trial_reading n)) o
 completes_trial n old new first last _ (shows o p path r is s) out none = subst (λ e. Comes (due e) o) (sym is) (shown_comes _ old new first last o s out none)
 completes_trial n old new first last _ (ends r is e) out none = subst (λ x. Comes (due x) outcome.Ended) (sym is) refl

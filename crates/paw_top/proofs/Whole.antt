@@ -109,7 +109,8 @@ texts_of_objects ws locations (o ∷ os) h =
 
 texts_section : (p : ℕ) (s : Section) (d : Spelt) (header : List ℕ) (texts : List (List ℕ)) →
     LineReads p d header (section_opened s d) → with_texts s false [] (section_opened s d) ≡ section_opened s d → is_text_section s ≡ true
-    → length texts ≤ text_limit s → list_all is_text texts ≡ true → (b : Bool) × Reads p d (texts_lines header texts) (with_texts s b texts (section_opened s d))
+    → length texts ≤ text_limit s → list_all is_text texts ≡ true → (b : Bool)
+    × Reads p d (texts_lines header texts) (with_texts s b texts (section_opened s d))
 texts_section p s d header texts first none text room all =
     let items = items_read p s false (section_opened s d) [] 0 texts refl text refl room all in
     let rest : Reads p (section_opened s d) (numbered text_lines 0 texts) (with_texts s items.0 texts (section_opened s d)) = rw none at items.1 in

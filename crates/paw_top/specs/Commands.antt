@@ -75,7 +75,8 @@ trace_of _ = None
 
 -- play IMAGE STORE SEED
 abbrev pub play_of : List (List ℕ) → Option Command
-play_of (image ∷ store ∷ seed ∷ []) = if is_name image && is_name store then with_seed (Play image store) (seed_of seed) else None
+play_of (image ∷ store ∷ seed ∷ []) =
+    if is_name image && is_name store then with_seed (Play image store) (seed_of seed) else None
 play_of _ = None
 
 -- resume IMAGE STORE

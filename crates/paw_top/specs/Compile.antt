@@ -38,15 +38,18 @@ pub data Compiles (source target : List ℕ) (old new : Standing) : Outcome → 
   done : (g : GameLists) → HoldsSource old source g → Kept old new target (image g) (image_line (length (image g))) →
       Compiles source target old new outcome.Done
   -- the source has a fault; nothing is changed
-  refused : (fault : SourceFault) → HoldsFault old source fault → new ≡ old → Compiles source target old new (outcome.SourceRefused fault)
+  refused : (fault : SourceFault) → HoldsFault old source fault → new ≡ old →
+      Compiles source target old new (outcome.SourceRefused fault)
   -- there is no source; nothing is changed
   absent : old.files source ≡ None → new ≡ old → Compiles source target old new (outcome.Outside call.LoadAbsent)
   -- the source couldn't be loaded; nothing is changed
   unloaded : new ≡ old → Compiles source target old new (outcome.Outside call.Load)
   -- the image of the game couldn't be saved; nothing was shown
-  unsaved : (g : GameLists) → HoldsSource old source g → Unsaved old new target → Compiles source target old new (outcome.Outside call.Save)
+  unsaved : (g : GameLists) → HoldsSource old source g → Unsaved old new target →
+      Compiles source target old new (outcome.Outside call.Save)
   -- the line couldn't be shown: the target holds the image, and a first part of the line was shown
-  unshown : (g : GameLists) (n : ℕ) → HoldsSource old source g → Kept old new target (image g) (take n (image_line (length (image g)))) →
+  unshown : (g : GameLists) (n : ℕ) → HoldsSource old source g →
+      Kept old new target (image g) (take n (image_line (length (image g)))) →
       Compiles source target old new (outcome.Outside call.Show)
   -- memory was wanting; nothing is changed
   memory : (at : MemoryAt) → new ≡ old → Compiles source target old new (outcome.Memory at)

@@ -87,10 +87,12 @@ CompletesNew (b ∷ bytes) o = Comes (outcome.Occupied (length (b ∷ bytes))) o
 pub record CompletesAgain (g : GameLists) (digest bytes : List ℕ) (o : Outcome) : Type 0 where
   pub shown : (st : State) (piece : List ℕ) → ShowsState g digest bytes st piece → IsWalked o
   pub refused : (r : JournalRefusal) → Refuses digest bytes r → Comes (refused_as r) o
-  pub no_state : (state piece : List ℕ) → recover bytes ≡ Shown digest state piece → ((st : State) → ¬ ShowsState g digest bytes st piece) → IsNoState o
+  pub no_state : (state piece : List ℕ) → recover bytes ≡ Shown digest state piece →
+      ((st : State) → ¬ ShowsState g digest bytes st piece) → IsNoState o
 
 -- where the image is there, its game is played, with such an answer; where the file is no image, it is refused
-pub record CompletesPlay (name : List ℕ) (Such : GameLists → Outcome → Type 0) (old : Standing) (o : Outcome) : Type 0 where
+pub record CompletesPlay (name : List ℕ) (Such : GameLists → Outcome → Type 0) (old : Standing)
+    (o : Outcome) : Type 0 where
   pub image : (g : GameLists) → Holds old name g → Such g o
   pub other : HoldsNone old name → IsDamaged old name o
 
@@ -110,5 +112,6 @@ Completes old (Some (Decompile image)) o = CompletesDecompile image old o
 Completes old (Some (Walk image seed)) o = CompletesPlay image (λ g. IsWalked) old o
 Completes old (Some (Trace image seed)) o = CompletesPlay image (λ g. IsWalked) old o
 Completes old (Some (Play image store seed)) o = CompletesPlay image (λ g. CompletesNew (store_bytes old store)) old o
-Completes old (Some (Resume image store)) o = CompletesPlay image (λ g. CompletesAgain g (digest_of g) (store_bytes old store)) old o
+Completes old (Some (Resume image store)) o =
+    CompletesPlay image (λ g. CompletesAgain g (digest_of g) (store_bytes old store)) old o
 Completes old (Some (Trial n)) o = Comes (due (trial_reading n)) o

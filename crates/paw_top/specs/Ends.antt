@@ -1,9 +1,14 @@
 -- The answer for what playing comes to.
+use Rattle.std.specs.Prelude.{ℕ, List}
+use Rattle.paw_game.specs.Game.{GameLists}
+use Rattle.paw_stage.specs.Stage.{Standing}
 use Rattle.paw_journal.specs.declared.refusal.JournalRefusal.{JournalRefusal}
 use Rattle.paw_journal.specs.declared.refusal.JournalRefusal.TheVariants as refusal
 use Rattle.paw_journal.specs.declared.refusal.SessionPart.TheVariants as part
 use Rattle.paw_play.specs.declared.PlayEnd.{PlayEnd}
 use Rattle.paw_play.specs.declared.PlayEnd.TheVariants as end
+use Rattle.paw_top.specs.Loads.{Holds}
+use Rattle.paw_top.specs.Opens.{Unopened}
 use Rattle.paw_top.specs.declared.outcome.Outcome.{Outcome}
 use Rattle.paw_top.specs.declared.outcome.Outcome.TheVariants as outcome
 use Rattle.paw_top.specs.declared.outcome.MemoryAt.TheVariants as memory
@@ -27,3 +32,9 @@ outcome_of (end.TooDeep table) = outcome.TooDeep table
 outcome_of (end.Long events) = outcome.Long events
 outcome_of (end.Outside c) = outcome.Outside c
 outcome_of end.Memory = outcome.Memory memory.Play
+
+-- the game that this file holds is played, and comes to such an end; or it isn't played, with nothing changed
+pub data PlaysFile (Comes : GameLists → PlayEnd → Type 0) (name : List ℕ) (old new : Standing) : Outcome → Type 0 where
+  plays : (g : GameLists) (end : PlayEnd) → Holds old name g → Comes g end →
+      PlaysFile Comes name old new (outcome_of end)
+  unopened : (o : Outcome) → Unopened name old new o → PlaysFile Comes name old new o

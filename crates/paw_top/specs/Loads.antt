@@ -15,4 +15,5 @@ HoldsNone s name = (bytes : List ℕ) × (s.files name ≡ Some bytes) × ((g : 
 
 -- the file of this name holds no image of a valid game: the first rule that its bytes break is broken at this place
 abbrev pub HoldsDamage : Standing → List ℕ → ℕ → Type 0
-HoldsDamage s name at = (bytes : List ℕ) × (s.files name ≡ Some bytes) × ((g : GameLists) → ¬ IsImage bytes g) × (bad bytes ≡ Some at)
+HoldsDamage s name at = (bytes : List ℕ) × (s.files name ≡ Some bytes) × ((g : GameLists) → ¬ IsImage bytes g)
+    × (bad bytes ≡ Some at)

@@ -35,7 +35,8 @@ status_of (outcome.Long events) = 9
 
 -- every command of the tool
 unfoldable pub usage : List ℕ
-usage = codes "usage: paw compile S I | decompile I | walk I SEED | play I F SEED | resume I F | trace I SEED | trial N\n"
+usage =
+    codes "usage: paw compile S I | decompile I | walk I SEED | play I F SEED | resume I F | trace I SEED | trial N\n"
 
 -- the name of a kind of fault that a source may have
 abbrev pub kind_name : SourceKind → List ℕ
@@ -88,13 +89,17 @@ error_text outcome.Done = []
 error_text outcome.Ended = []
 error_text outcome.InputEnded = []
 error_text outcome.Usage = usage
-error_text (outcome.SourceRefused fault) = codes "source line " ++ (decimal fault.line ++ (codes ": " ++ (kind_name fault.kind ++ codes "\n")))
+error_text (outcome.SourceRefused fault) = codes "source line "
+    ++ (decimal fault.line ++ (codes ": " ++ (kind_name fault.kind ++ codes "\n")))
 error_text (outcome.ImageDamaged at) = codes "image damaged at " ++ (decimal at ++ codes "\n")
 error_text (outcome.Occupied n) = codes "session has " ++ (decimal n ++ codes " bytes already\n")
-error_text (outcome.Unmade n mark) = codes "no session: length " ++ (decimal n ++ (codes ", mark " ++ (decimal mark ++ codes "\n")))
-error_text (outcome.SessionDamaged p at) = codes "session damaged: " ++ (part_name p ++ (codes " at " ++ (decimal at ++ codes "\n")))
+error_text (outcome.Unmade n mark) = codes "no session: length "
+    ++ (decimal n ++ (codes ", mark " ++ (decimal mark ++ codes "\n")))
+error_text (outcome.SessionDamaged p at) = codes "session damaged: "
+    ++ (part_name p ++ (codes " at " ++ (decimal at ++ codes "\n")))
 error_text (outcome.WrongGame kept found) =
-    codes "session is of another game: kept " ++ (encode_lower kept ++ (codes " found " ++ (encode_lower found ++ codes "\n")))
+    codes "session is of another game: kept "
+    ++ (encode_lower kept ++ (codes " found " ++ (encode_lower found ++ codes "\n")))
 error_text (outcome.Spent kind) = codes "piece spent its " ++ (spent_name kind ++ codes "\n")
 error_text (outcome.TooDeep table) = codes "too many calls at table " ++ (decimal table ++ codes "\n")
 error_text (outcome.Outside c) = codes "outside failed: " ++ (call_name c ++ codes "\n")

@@ -1,16 +1,13 @@
 -- What playing the game of an image with a session comes to.
-use Rattle.std.specs.Prelude.{ℕ, List}
+use Rattle.std.specs.Prelude.{◌≡◌, ℕ, List}
 use Rattle.sha2.specs.Sha256.{sha256}
 use Rattle.paw_game.specs.Game.{GameLists}
 use Rattle.paw_game.specs.Image.{image}
 use Rattle.paw_effects.specs.Story.{Story, story_of}
 use Rattle.paw_stage.specs.Stage.{Standing}
 use Rattle.paw_state.specs.State.{State}
-use Rattle.paw_play.specs.declared.PlayEnd.{PlayEnd}
 use Rattle.paw_play.specs.Play.{Played, PlaysGame, PlaysAgain, GoesOn, kept_session}
-use Rattle.paw_top.specs.Ends.{outcome_of}
-use Rattle.paw_top.specs.Loads.{Holds}
-use Rattle.paw_top.specs.Opens.{Unopened}
+use Rattle.paw_top.specs.Ends.{PlaysFile}
 use Rattle.paw_top.specs.declared.outcome.Outcome.{Outcome}
 
 -- the digest by which a session knows its game
@@ -21,21 +18,17 @@ digest_of g = sha256 (image g)
 abbrev pub session_from : Story → List ℕ → State → List ℕ → Played
 session_from s store st piece = kept_session s st piece (digest_of s.game) store
 
--- a new session of the game that this file holds, with these rows of routines, or why it isn't played, with nothing
--- changed
-pub data PlaysNewIn (rows : List (List ℕ)) (name store : List ℕ) (seed : ℕ) (old new : Standing) : Outcome → Type 0 where
-  plays : (g : GameLists) (end : PlayEnd) → Holds old name g → PlaysGame (story_of g rows) seed store old new end →
-      PlaysNewIn rows name store seed old new (outcome_of end)
-  unopened : (o : Outcome) → Unopened name old new o → PlaysNewIn rows name store seed old new o
+-- a new session of the game that this file holds, with these rows of routines, or why it isn't played
+abbrev pub PlaysNewIn : List (List ℕ) → List ℕ → List ℕ → ℕ → Standing → Standing → Outcome → Type 0
+PlaysNewIn rows name store seed old new o =
+    PlaysFile (λ g end. PlaysGame (story_of g rows) seed store old new end) name old new o
 
--- a session that is taken up again, of the game that this file holds, with these rows of routines, or why it isn't,
--- with nothing changed
-pub data PlaysAgainIn (rows : List (List ℕ)) (name store : List ℕ) (old new : Standing) : Outcome → Type 0 where
-  plays : (g : GameLists) (end : PlayEnd) → Holds old name g → PlaysAgain (story_of g rows) (digest_of g) store old new end →
-      PlaysAgainIn rows name store old new (outcome_of end)
-  unopened : (o : Outcome) → Unopened name old new o → PlaysAgainIn rows name store old new o
+-- a session that is taken up again, of the game that this file holds, with these rows of routines, or why it isn't
+abbrev pub PlaysAgainIn : List (List ℕ) → List ℕ → List ℕ → Standing → Standing → Outcome → Type 0
+PlaysAgainIn rows name store old new o =
+    PlaysFile (λ g end. PlaysAgain (story_of g rows) (digest_of g) store old new end) name old new o
 
 -- the same, where its store stands for these lines of the story
-pub data GoesOnIn (name store : List ℕ) (s : Story) (seed : ℕ) (es : List (List ℕ)) (old new : Standing) : Outcome → Type 0 where
-  goes : (end : PlayEnd) → Holds old name s.game → GoesOn s seed es store old new end → GoesOnIn name store s seed es old new (outcome_of end)
-  unopened : (o : Outcome) → Unopened name old new o → GoesOnIn name store s seed es old new o
+abbrev pub GoesOnIn : List ℕ → List ℕ → Story → ℕ → List (List ℕ) → Standing → Standing → Outcome → Type 0
+GoesOnIn name store s seed es old new o =
+    PlaysFile (λ g end. (g ≡ s.game) × GoesOn s seed es store old new end) name old new o

@@ -16,7 +16,8 @@ use Rattle.paw_top.specs.declared.outcome.MemoryAt.TheVariants as memory
 -- Where the reading of the trial's game with all its lines waits for another, the line of the world there is shown.
 -- Where it ends otherwise, or memory was wanting, nothing is changed.
 pub data Tries (n : ℕ) (old new : Standing) : Outcome → Type 0 where
-  shows : (o : Outcome) (p : Prompt) (path : List Frame) (r : Run) → trial_reading n ≡ WaitsAt p path r → Shows (trial_text n r.world) old new o → Tries n old new o
+  shows : (o : Outcome) (p : Prompt) (path : List Frame) (r : Run) → trial_reading n ≡ WaitsAt p path r →
+      Shows (trial_text n r.world) old new o → Tries n old new o
   ends : (r : Run) → trial_reading n ≡ Halted IsOver r → new ≡ old → Tries n old new outcome.Ended
   spent : (kind : SpentKind) (r : Run) → trial_reading n ≡ Halted (RunsOut kind) r → new ≡ old →
       Tries n old new (outcome.Spent kind)

@@ -1,24 +1,18 @@
 -- What walking through the game of an image comes to.
 use Rattle.std.specs.Prelude.{ℕ, List}
-use Rattle.paw_game.specs.Game.{GameLists}
 use Rattle.paw_effects.specs.Story.{Story, story_of}
 use Rattle.paw_reading.specs.Turn.{reading}
 use Rattle.paw_stage.specs.Stage.{Standing}
-use Rattle.paw_play.specs.declared.PlayEnd.{PlayEnd}
 use Rattle.paw_play.specs.declared.TheConstants.{MOST_EVENTS}
 use Rattle.paw_play.specs.Traces.{traced}
 use Rattle.paw_play.specs.Walk.{EndingOf, Walks}
-use Rattle.paw_top.specs.Ends.{outcome_of}
-use Rattle.paw_top.specs.Loads.{Holds}
-use Rattle.paw_top.specs.Opens.{Unopened}
+use Rattle.paw_top.specs.Ends.{PlaysFile}
 use Rattle.paw_top.specs.declared.outcome.Outcome.{Outcome}
 
--- a walk through the game that this file holds, with these rows of routines, told so, or why there is none, with
--- nothing changed
-pub data WalksAs (told : Story → ℕ → EndingOf) (rows : List (List ℕ)) (name : List ℕ) (seed : ℕ) (old new : Standing) : Outcome → Type 0 where
-  walks : (g : GameLists) (end : PlayEnd) → Holds old name g → Walks (told (story_of g rows) seed) MOST_EVENTS old new end →
-      WalksAs told rows name seed old new (outcome_of end)
-  unopened : (o : Outcome) → Unopened name old new o → WalksAs told rows name seed old new o
+-- a walk through the game that this file holds, with these rows of routines, told so, or why there is none
+abbrev pub WalksAs : (Story → ℕ → EndingOf) → List (List ℕ) → List ℕ → ℕ → Standing → Standing → Outcome → Type 0
+WalksAs told rows name seed old new o =
+    PlaysFile (λ g end. Walks (told (story_of g rows) seed) MOST_EVENTS old new end) name old new o
 
 -- a walk shows the pieces of the reading
 abbrev pub WalksIn : List (List ℕ) → List ℕ → ℕ → Standing → Standing → Outcome → Type 0

@@ -13,7 +13,7 @@ ghost use Rattle.paw_top.specs.inner.Compile.{IsRefusal, SavesSo};
 ghost use Rattle.paw_top.specs.declared.outcome.Outcome.TheVariants as outcome;
 ghost use Rattle.paw_top.specs.declared.outcome.MemoryAt.TheVariants as memory;
 
-use crate::load::load;
+use crate::load::{given, load};
 use crate::outcome::{MemoryAt, Outcome};
 use crate::show::tell;
 use paw_base::limits::SOURCE_LIMIT;
@@ -88,17 +88,11 @@ pub(crate) fn compile<S: Stage>(alloc: Global, stage: &mut S, source: &str, imag
     ensures memory { IfMemory result IsCompileMemory }
     ensures compiles { Across S.Stage stage.old stage.new (λ old new. Compiles source.now image.now old new result) }
 {
-    let bytes = match load(alloc, stage, source, SOURCE_LIMIT) {
-        Ok(bytes) => bytes,
-        Err(outcome) => return outcome,
-    };
+    let bytes = given!(load(alloc, stage, source, SOURCE_LIMIT));
     let made = match image_of(alloc, bytes.as_slice()) {
         Ok(made) => made,
         Err(refusal) => return refusal,
     };
-    let line = match line_of(alloc, made.len()) {
-        Ok(line) => line,
-        Err(outcome) => return outcome,
-    };
+    let line = given!(line_of(alloc, made.len()));
     keep(stage, image, made.as_slice(), line.as_bytes())
 }

@@ -20,15 +20,22 @@ const SMALLEST_IMAGE: [u8; 26] = [
 
 /// A lamp in a cave, with words that mean the same, and one of seven letters.
 pub(crate) const LANTERN: &str =
-    "/VOC\nTAKE 30 verb\nGET 30 verb\nLANTERN 50 noun\nLAMP 50 noun\n/STX\n/MTX\n/0\nTaken.\n/OTX\n/0\na lamp\n/LTX\n/0\nA cave.\n/CON\n/OBJ\n0 0 1 - LANTERN _\n/PRO 0\ntake lantern MESSAGE 0 DONE\n/PRO 1\n/PRO 2\n";
+    "/VOC\nTAKE 30 verb\nGET 30 verb\nLANTERN 50 noun\nLAMP 50 noun\n/STX\n/MTX\n/0\nTaken.\n/OTX\n\
+/0\na lamp\n/LTX\n/0\nA cave.\n/CON\n/OBJ\n0 0 1 - LANTERN _\n/PRO 0\ntake lantern MESSAGE 0 DONE\n\
+/PRO 1\n/PRO 2\n";
 
 /// The canonical source of the same game.
 const LANTERN_CANONICAL: &str =
-    "/VOC\nGET 30 verb\nLAMP 50 noun\nLANTE 50 noun\nTAKE 30 verb\n/STX\n/MTX\n/0\nTaken.\n/OTX\n/0\na lamp\n/LTX\n/0\nA cave.\n/CON\n/OBJ\n0 0 1 - LAMP _\n/PRO 0\nGET LAMP\n MESSAGE 0\n DONE\n/PRO 1\n/PRO 2\n";
+    "/VOC\nGET 30 verb\nLAMP 50 noun\nLANTE 50 noun\nTAKE 30 verb\n/STX\n/MTX\n/0\nTaken.\n/OTX\n\
+/0\na lamp\n/LTX\n/0\nA cave.\n/CON\n/OBJ\n0 0 1 - LAMP _\n/PRO 0\nGET LAMP\n MESSAGE 0\n DONE\n\
+/PRO 1\n/PRO 2\n";
 
 /// The same game with notes, its words in another order, other line ends, and bytes behind the end of the text.
 const LANTERN_OTHERWISE: &str =
-    "; note\r\n/VOC\r\nTAKE 30 verb\r\n; note\r\nLANTE 50 noun\r\nLAMP 50 noun\r\nGET 30 verb\r\n/STX\r\n/MTX\r\n/0\r\nTaken.\r\n/OTX\r\n/0\r\na lamp\r\n/LTX\r\n/0\r\nA cave.\r\n/CON\r\n/OBJ\r\n0 0 1 - LAMP _\r\n/PRO 0\r\n; note\r\nGET LAMP\r\n MESSAGE 0\r\n DONE\r\n/PRO 1\r\n/PRO 2\r\n\u{1a}junk";
+    "; note\r\n/VOC\r\nTAKE 30 verb\r\n; note\r\nLANTE 50 noun\r\nLAMP 50 noun\r\nGET 30 verb\r\n\
+/STX\r\n/MTX\r\n/0\r\nTaken.\r\n/OTX\r\n/0\r\na lamp\r\n/LTX\r\n/0\r\nA cave.\r\n/CON\r\n/OBJ\r\n\
+0 0 1 - LAMP _\r\n/PRO 0\r\n; note\r\nGET LAMP\r\n MESSAGE 0\r\n DONE\r\n/PRO 1\r\n/PRO 2\r\n\
+\u{1a}junk";
 
 /// The image of all three.
 const LANTERN_IMAGE: [u8; 87] = [
@@ -242,26 +249,6 @@ fn a_condact_line_has_two_forms(rt: HostRuntime) -> Result<(), Fail> {
         stage.add_file("source", source.as_bytes())?;
         let outcome = settle_and_run(&rt, alloc, &mut stage, COMPILE)?;
         assert_eq!(rt; outcome, Outcome::Done, "{line}");
-    }
-    Ok(())
-}
-
-#[test]
-fn names_have_at_least_one_byte(rt: HostRuntime) -> Result<(), Fail> {
-    let alloc = rt.alloc();
-    for words in [
-        "compile",
-        "compile\nsource",
-        "compile\n\nimage",
-        "compile\nsource\n\n",
-        "compile\nsource\nimage\nimage",
-        "Compile\nsource\nimage",
-        "decompile",
-        "decompile\n\n",
-        "decompile\nimage\nsource",
-    ] {
-        let case = compiled(words, SMALLEST.as_bytes(), b"", b"");
-        comes_so(&rt, alloc, &refused(Case { words, ..case }, Outcome::Usage))?;
     }
     Ok(())
 }

@@ -6,7 +6,7 @@ ghost use Rattle.paw_top.specs.Answers.{IfOutside, IfMemory, IsDecompileCall, Is
 ghost use Rattle.paw_top.specs.Decompile.{Decompiles};
 ghost use Rattle.paw_top.specs.declared.outcome.Outcome.TheVariants as outcome;
 
-use crate::load::load;
+use crate::load::{given, load};
 use crate::open::game_in;
 use crate::outcome::{MemoryAt, Outcome};
 use crate::show::tell;
@@ -24,14 +24,8 @@ pub(crate) fn decompile<S: Stage>(alloc: Global, stage: &mut S, image: &str) -> 
     ensures memory { IfMemory result IsDecompileMemory }
     ensures decompiles { S.Tells stage.old → Decompiles image.now (S.standing stage.old) (S.standing stage.new) result }
 {
-    let bytes = match load(alloc, stage, image, IMAGE_LIMIT) {
-        Ok(bytes) => bytes,
-        Err(outcome) => return outcome,
-    };
-    let game = match game_in(alloc, bytes.as_slice()) {
-        Ok(game) => game,
-        Err(outcome) => return outcome,
-    };
+    let bytes = given!(load(alloc, stage, image, IMAGE_LIMIT));
+    let game = given!(game_in(alloc, bytes.as_slice()));
     let Ok(source) = canonical(alloc, &game) else {
         return Outcome::Memory(MemoryAt::Print);
     };

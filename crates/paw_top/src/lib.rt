@@ -25,4 +25,3 @@ mod source_tests;
 mod tests;
 pub mod top;
 mod trial;
-mod walks;

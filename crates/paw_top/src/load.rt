@@ -14,6 +14,18 @@ use crate::outcome::{MemoryAt, Outcome};
 use paw_stage::{LoadRefusal, Stage, StageCall};
 use std::alloc::Global;
 
+/// What a step gives; where it gives an answer, that is the answer of the command.
+macro_rules! given {
+    ($result:expr) => {
+        match $result {
+            Ok(given) => given,
+            Err(outcome) => return outcome,
+        }
+    };
+}
+
+pub(crate) use given;
+
 /// The bytes of a file, its first `most + 1` where it is longer, or why there are none.
 pub(crate) fn load<S: Stage>(
     alloc: Global,

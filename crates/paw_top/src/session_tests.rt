@@ -11,7 +11,13 @@ use std::test::Fail;
 /// A hall with a lamp and a sword. SHAKE ALL asks for each of them, in a called table; TWIST ALL wants a key for each;
 /// ROLL prints a random number; DEEP calls a table that calls itself.
 const HALL: &str =
-    "/VOC\nALL 20 noun\nLAMP 50 noun\nSWORD 51 noun\nSHAKE 30 verb\nTWIST 31 verb\nWAIT 32 verb\nQUIT 33 verb\nROLL 34 verb\nDEEP 35 verb\n/STX\n/0\n/1\n/2\n>\n/3\n/4\n/5\n/6\nWhat?\n/7\nNo way.\n/8\nNo.\n/9\n/10\n/11\n/12\nSure? \n/13\nAgain? \n/14\nBye.\n/15\nOK.\n/16\nKey. \n/MTX\n/0\nDone.\n/OTX\n/0\nlamp\n/1\nsword\n/LTX\n/0\nHall.\n/CON\n/OBJ\n0 0 1 - LAMP _\n1 0 1 - SWORD _\n/PRO 0\nSHAKE ALL DOALL HERE\nSHAKE _ PROCESS 3 DONE\nTWIST ALL DOALL HERE\nTWIST _ ANYKEY MESSAGE 0 DONE\nWAIT _ OK\nQUIT _ QUIT END\nROLL _ CHANCE 50 MESSAGE 0 DONE\nROLL _ OK\nDEEP _ PROCESS 4\n/PRO 1\n/PRO 2\n/PRO 3\n_ _ QUIT MESSAGE 0\n/PRO 4\n_ _ PROCESS 4\n";
+    "/VOC\nALL 20 noun\nLAMP 50 noun\nSWORD 51 noun\nSHAKE 30 verb\nTWIST 31 verb\nWAIT 32 verb\n\
+QUIT 33 verb\nROLL 34 verb\nDEEP 35 verb\n/STX\n/0\n/1\n/2\n>\n/3\n/4\n/5\n/6\nWhat?\n/7\nNo way.\n\
+/8\nNo.\n/9\n/10\n/11\n/12\nSure? \n/13\nAgain? \n/14\nBye.\n/15\nOK.\n/16\nKey. \n/MTX\n/0\nDone.\n\
+/OTX\n/0\nlamp\n/1\nsword\n/LTX\n/0\nHall.\n/CON\n/OBJ\n0 0 1 - LAMP _\n1 0 1 - SWORD _\n/PRO 0\n\
+SHAKE ALL DOALL HERE\nSHAKE _ PROCESS 3 DONE\nTWIST ALL DOALL HERE\nTWIST _ ANYKEY MESSAGE 0 DONE\n\
+WAIT _ OK\nQUIT _ QUIT END\nROLL _ CHANCE 50 MESSAGE 0 DONE\nROLL _ OK\nDEEP _ PROCESS 4\n/PRO 1\n\
+/PRO 2\n/PRO 3\n_ _ QUIT MESSAGE 0\n/PRO 4\n_ _ PROCESS 4\n";
 
 /// Another game.
 const CAVE: &str =

@@ -1,29 +1,57 @@
-// Playing with a session.
+// Playing the game of an image file: a walk, a new session, and one that is taken up again.
 
 ghost use Rattle.std.specs.Prelude.{◌≡◌, ◌≢◌, ◌↔◌, ℕ, List, []};
-ghost use Rattle.paw_routines.specs.Routines.{AreRowsOf, HaveRows};
 ghost use Rattle.paw_effects.specs.Story.{Story};
-ghost use Rattle.paw_stage.specs.Disk.{IsStable};
-ghost use Rattle.paw_stage.specs.Stage.{Faulted};
-ghost use Rattle.paw_stage.specs.Across.{Across, EachMoment};
-ghost use Rattle.paw_state.specs.State.{State};
+ghost use Rattle.paw_play.specs.inner.Telling.{told_as};
 ghost use Rattle.paw_play.specs.Play.{InGame, InAgain, InGoingOn, ShowsState, store_bytes};
 ghost use Rattle.paw_play.specs.Stands.{Stands, IsPlayedWith};
-ghost use Rattle.paw_top.specs.Answers.{IfOutside, IfMemory, IsKeptCall, IsPlayMemory, failed_call};
+ghost use Rattle.paw_reading.specs.Turn.{reading};
+ghost use Rattle.paw_state.specs.State.{State};
+ghost use Rattle.paw_stage.specs.Across.{Across, EachMoment};
+ghost use Rattle.paw_routines.specs.Routines.{AreRowsOf, HaveRows};
+ghost use Rattle.paw_stage.specs.Disk.{IsStable};
+ghost use Rattle.paw_top.specs.Answers.{IfOutside, IfMemory, IsCall, IsKeptCall, IsPlayMemory, failed_call};
+ghost use Rattle.paw_stage.specs.Stage.{Faulted};
 ghost use Rattle.paw_top.specs.Loads.{Holds};
 ghost use Rattle.paw_top.specs.Sessions.{PlaysNewIn, PlaysAgainIn, GoesOnIn, digest_of, session_from};
+ghost use Rattle.paw_top.specs.Walk.{WalksAs};
 ghost use Rattle.paw_top.specs.declared.outcome.Outcome.TheVariants as outcome;
 
-use crate::load::load;
+use crate::load::{given, load};
 use crate::open::view_in;
 use crate::outcome::{Outcome, outcome_of};
 use paw_base::limits::IMAGE_LIMIT;
 use paw_journal::digest;
 use paw_play::play::play_loop;
+use paw_play::preface::Preface;
 use paw_play::resume::resume_loop;
+use paw_play::walk::walk_loop;
 use paw_routines::routines::Routines;
 use paw_stage::Stage;
 use std::alloc::Global;
+
+/// Walks through the game of an image file, with a preface before each piece.
+pub(crate) fn walk<P: Preface, S: Stage, F: Fn(u8, u8) -> u8>(
+    alloc: Global,
+    stage: &mut S,
+    routines: &Routines<F>,
+    image: &str,
+    seed: u64,
+) -> Outcome
+    requires rows { HaveRows F.Fn routines.now }
+    ensures walks { Across S.Stage stage.old stage.new (λ old new. (X : List (List ℕ)) →
+        AreRowsOf F.Fn routines.now X →
+        WalksAs (λ s n. told_as P.telling (reading s n)) X image.now seed old new result) }
+    ensures form { result ≢ outcome.Usage }
+    ensures memory { IfMemory result IsPlayMemory }
+    ensures outside { IfOutside result IsCall }
+    ensures tells { S.Tells stage.old ↔ S.Tells stage.new }
+    ensures faulted { Faulted (failed_call result) (S.faults stage.old) (S.faults stage.new) }
+{
+    let bytes = given!(load(alloc, stage, image, IMAGE_LIMIT));
+    let view = given!(view_in(alloc, bytes.as_slice()));
+    outcome_of(walk_loop::<P, _, _, _>(alloc, stage, &view, routines, seed))
+}
 
 /// Plays the game of an image file from its start, with a new session in the store.
 pub(crate) fn play<S: Stage, F: Fn(u8, u8) -> u8>(
@@ -47,16 +75,10 @@ pub(crate) fn play<S: Stage, F: Fn(u8, u8) -> u8>(
         AreRowsOf F.Fn routines.now s.rows → Holds old image.now s.game → store_bytes old store.now ≡ [] →
         EachMoment S.Stage stage.old stage.new (InGame s seed store.now old)) }
 {
-    let bytes = match load(alloc, stage, image, IMAGE_LIMIT) {
-        Ok(bytes) => bytes,
-        Err(outcome) => return outcome,
-    };
-    let view = match view_in(alloc, bytes.as_slice()) {
-        Ok(view) => view,
-        Err(outcome) => return outcome,
-    };
+    let bytes = given!(load(alloc, stage, image, IMAGE_LIMIT));
+    let view = given!(view_in(alloc, bytes.as_slice()));
     let kept = digest(view.bytes());
-    outcome_of(play_loop(alloc, stage, &view, routines, &kept, store, seed))
+    outcome_of(play_loop(alloc, stage, &view, routines, seed, &kept, store))
 }
 
 /// Goes on with the session in the store, of the game of an image file.
@@ -67,10 +89,10 @@ pub(crate) fn resume<S: Stage, F: Fn(u8, u8) -> u8>(
     image: &str,
     store: &str,
 ) -> Outcome
-    requires rows { HaveRows F.Fn routines.now }
     requires synced { S.Tells stage.old → IsStable (S.standing stage.old).disk }
-    ensures tells { S.Tells stage.old ↔ S.Tells stage.new }
+    requires rows { HaveRows F.Fn routines.now }
     ensures faulted { Faulted (failed_call result) (S.faults stage.old) (S.faults stage.new) }
+    ensures tells { S.Tells stage.old ↔ S.Tells stage.new }
     ensures form { result ≢ outcome.Usage }
     ensures memory { IfMemory result IsPlayMemory }
     ensures outside { IfOutside result IsKeptCall }
@@ -90,14 +112,8 @@ pub(crate) fn resume<S: Stage, F: Fn(u8, u8) -> u8>(
         IsPlayedWith s seed es → Stands s seed es (store_bytes old store.now) →
         EachMoment S.Stage stage.old stage.new (InGoingOn s seed es store.now old)) }
 {
-    let bytes = match load(alloc, stage, image, IMAGE_LIMIT) {
-        Ok(bytes) => bytes,
-        Err(outcome) => return outcome,
-    };
-    let view = match view_in(alloc, bytes.as_slice()) {
-        Ok(view) => view,
-        Err(outcome) => return outcome,
-    };
+    let bytes = given!(load(alloc, stage, image, IMAGE_LIMIT));
+    let view = given!(view_in(alloc, bytes.as_slice()));
     let kept = digest(view.bytes());
     outcome_of(resume_loop(alloc, stage, &view, routines, &kept, store))
 }

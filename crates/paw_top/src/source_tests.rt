@@ -10,140 +10,24 @@ use std::process::Abort;
 use std::test::Fail;
 
 /// Three objects, and tables that ask inside loops and calls.
-const QUESTIONS: &str = "/VOC
-GO 30 verb
-SHAKE 31 verb
-TWIST 32 verb
-NEST 33 verb
-DEEP 34 verb
-QUIT 35 verb
-LOOK 36 verb
-WAIT 37 verb
-TIME 38 verb
-TURN 39 verb
-NO 40 verb
-AWAY 41 verb
-WHERE 42 verb
-ALL 20 noun
-LAMP 50 noun
-SWORD 51 noun
-COAT 54 noun
-RED 2 adjective
-AND 2 conjunction
-EXCEPT 2 preposition
-IT 2 pronoun
-/STX
-/0
-/1
-/2
-What now?
-/3
-/4
-/5
-/6
-I don't understand.
-/7
-I can't go that way.
-/8
-I can't do that.
-/9
-/10
-/11
-/12
-Are you sure? 
-/13
-Another go? 
-/14
-Goodbye.
-/15
-OK.
-/16
-Press a key. 
-/17
-/18
-/19
-/20
-/21
-/22
-/23
-/24
-/25
-/26
-/27
-/28
-/29
-/30
-/31
-/32
-/33
-> 
-/34
-/35
-Time passes.
-/MTX
-/0
-You shake the _.
-/1
-Done.
-/2
-Here the _ is.
-/3
-A wind blows.
-/OTX
-/0
-lamp
-/1
-sword
-/2
-coat
-/LTX
-/0
-A hall.
-/1
-A garden.
-/CON
-/OBJ
-0 0 2 - LAMP RED
-1 0 3 - SWORD _
-2 CARRIED 2 W COAT _
-/PRO 0
-SHAKE ALL DOALL HERE
-SHAKE _ PROCESS 3 DONE
-TWIST ALL DOALL HERE
-TWIST _ PROCESS 4 MESSAGE 1
-NEST _ LET 60 9 PROCESS 5 OK
-DEEP _ LET 60 10 PROCESS 5 OK
-QUIT _ QUIT END
-LOOK _ DESC
-WAIT _ OK
-TIME _ LET 48 5 DONE
-TURN ALL DOALL HERE
-TURN _ PARSE MESSAGE 2 DONE
-NO _ PROCESS 6
-NO _ MESSAGE 1 DONE
-AWAY _ PROCESS 7 MESSAGE 1
-WHERE ALL DOALL 253
-WHERE _ MESSAGE 1 DONE
-/PRO 1
-_ _ PROCESS 8
-/PRO 2
-/PRO 3
-_ _ QUIT MESSAGE 0
-/PRO 4
-_ _ DOALL CARRIED
-_ _ ANYKEY MESSAGE 0
-/PRO 5
-_ _ GT 60 0 MINUS 60 1 PROCESS 5
-/PRO 6
-_ _ MESSAGE 2 NOTDONE
-_ _ MESSAGE 1
-/PRO 7
-_ _ LET 38 1 DESC MESSAGE 2
-/PRO 8
-_ _ AT 1 MESSAGE 3
-_ _ DONE
-_ _ MESSAGE 2
-";
+const QUESTIONS: &str =
+    "/VOC\nGO 30 verb\nSHAKE 31 verb\nTWIST 32 verb\nNEST 33 verb\nDEEP 34 verb\nQUIT 35 verb\n\
+LOOK 36 verb\nWAIT 37 verb\nTIME 38 verb\nTURN 39 verb\nNO 40 verb\nAWAY 41 verb\nWHERE 42 verb\n\
+ALL 20 noun\nLAMP 50 noun\nSWORD 51 noun\nCOAT 54 noun\nRED 2 adjective\nAND 2 conjunction\n\
+EXCEPT 2 preposition\nIT 2 pronoun\n/STX\n/0\n/1\n/2\nWhat now?\n/3\n/4\n/5\n/6\n\
+I don't understand.\n/7\nI can't go that way.\n/8\nI can't do that.\n/9\n/10\n/11\n/12\n\
+Are you sure? \n/13\nAnother go? \n/14\nGoodbye.\n/15\nOK.\n/16\nPress a key. \n/17\n/18\n/19\n/20\n\
+/21\n/22\n/23\n/24\n/25\n/26\n/27\n/28\n/29\n/30\n/31\n/32\n/33\n> \n/34\n/35\nTime passes.\n/MTX\n\
+/0\nYou shake the _.\n/1\nDone.\n/2\nHere the _ is.\n/3\nA wind blows.\n/OTX\n/0\nlamp\n/1\nsword\n\
+/2\ncoat\n/LTX\n/0\nA hall.\n/1\nA garden.\n/CON\n/OBJ\n0 0 2 - LAMP RED\n1 0 3 - SWORD _\n\
+2 CARRIED 2 W COAT _\n/PRO 0\nSHAKE ALL DOALL HERE\nSHAKE _ PROCESS 3 DONE\nTWIST ALL DOALL HERE\n\
+TWIST _ PROCESS 4 MESSAGE 1\nNEST _ LET 60 9 PROCESS 5 OK\nDEEP _ LET 60 10 PROCESS 5 OK\n\
+QUIT _ QUIT END\nLOOK _ DESC\nWAIT _ OK\nTIME _ LET 48 5 DONE\nTURN ALL DOALL HERE\n\
+TURN _ PARSE MESSAGE 2 DONE\nNO _ PROCESS 6\nNO _ MESSAGE 1 DONE\nAWAY _ PROCESS 7 MESSAGE 1\n\
+WHERE ALL DOALL 253\nWHERE _ MESSAGE 1 DONE\n/PRO 1\n_ _ PROCESS 8\n/PRO 2\n/PRO 3\n\
+_ _ QUIT MESSAGE 0\n/PRO 4\n_ _ DOALL CARRIED\n_ _ ANYKEY MESSAGE 0\n/PRO 5\n\
+_ _ GT 60 0 MINUS 60 1 PROCESS 5\n/PRO 6\n_ _ MESSAGE 2 NOTDONE\n_ _ MESSAGE 1\n/PRO 7\n\
+_ _ LET 38 1 DESC MESSAGE 2\n/PRO 8\n_ _ AT 1 MESSAGE 3\n_ _ DONE\n_ _ MESSAGE 2\n";
 
 /// One location, two messages, and these lines in table 1.
 const BEFORE_TABLE_1: &str =
@@ -173,7 +57,22 @@ fn walked(
     Ok((outcome, Vec::from_slice(alloc, shown)?))
 }
 
-// Walks to the end of the lines, and compares what is shown.
+// Walks with these lines, and compares what comes of the walk and what is shown.
+fn comes_so(
+    rt: &impl Abort,
+    alloc: Global,
+    source: &[&str],
+    lines: &str,
+    wanted: Outcome,
+    pieces: &str,
+) -> Result<(), Fail> {
+    let (outcome, shown) = walked(rt, alloc, source, lines)?;
+    assert_eq!(rt; outcome, wanted, "{lines:?}");
+    assert_eq!(rt; shown.as_slice(), pieces.as_bytes(), "{lines:?}");
+    Ok(())
+}
+
+// The same of a walk to the end of the lines.
 fn shows(
     rt: &impl Abort,
     alloc: Global,
@@ -181,10 +80,7 @@ fn shows(
     lines: &str,
     pieces: &str,
 ) -> Result<(), Fail> {
-    let (outcome, shown) = walked(rt, alloc, source, lines)?;
-    assert_eq!(rt; outcome, Outcome::InputEnded, "{lines:?}");
-    assert_eq!(rt; shown.as_slice(), pieces.as_bytes(), "{lines:?}");
-    Ok(())
+    comes_so(rt, alloc, source, lines, Outcome::InputEnded, pieces)
 }
 
 #[test]
@@ -225,7 +121,8 @@ fn tables_ask_call_and_repeat(rt: HostRuntime) -> Result<(), Fail> {
         ),
         (
             "QUIT\n~\nn\nTIME\n~\nQUIT\n~\nTWIST ALL\n~",
-            "A hall.\nWhat now?\n> Are you sure? What now?\n> What now?\n> Time passes.\nWhat now?\n> Are you sure? What now?\n> Press a key. You shake the coat.\nDone.\nWhat now?\n> ",
+            "A hall.\nWhat now?\n> Are you sure? What now?\n> What now?\n> Time passes.\nWhat now?\n\
+            > Are you sure? What now?\n> Press a key. You shake the coat.\nDone.\nWhat now?\n> ",
         ),
     ] {
         shows(&rt, alloc, &[QUESTIONS], lines, pieces)?;
@@ -253,7 +150,8 @@ fn outcomes_of_tables(rt: HostRuntime) -> Result<(), Fail> {
             [QUESTIONS, ""],
             "AWAY\nQUIT\nn\nQUIT\n y\n\nQUIT\ny\n  no\nLOOK",
             Outcome::Ended,
-            "A hall.\nWhat now?\n> A garden.\nA wind blows.\nWhat now?\n> Are you sure? What now?\n> Are you sure? Another go? A hall.\nWhat now?\n> Are you sure? Another go? Goodbye.\n",
+            "A hall.\nWhat now?\n> A garden.\nA wind blows.\nWhat now?\n> Are you sure? What now?\n\
+            > Are you sure? Another go? A hall.\nWhat now?\n> Are you sure? Another go? Goodbye.\n",
         ),
         (
             [BEFORE_TABLE_1, "_ _\n DESC\n/PRO 2\n"],
@@ -268,27 +166,26 @@ fn outcomes_of_tables(rt: HostRuntime) -> Result<(), Fail> {
             "",
         ),
     ] {
-        let (outcome, shown) = walked(&rt, alloc, source.as_slice(), lines)?;
-        assert_eq!(rt; outcome, wanted, "{lines:?}");
-        assert_eq!(rt; shown.as_slice(), pieces.as_bytes(), "{lines:?}");
+        comes_so(&rt, alloc, source.as_slice(), lines, wanted, pieces)?;
     }
     Ok(())
 }
 
 /// Two rooms with a way between them; some verbs are left as not done after a message.
 const UNDONE: &str =
-    "/VOC\nNORTH 2 verb\nEAST 3 verb\nUP 4 verb\nIN 5 verb\nDOWN 13 verb\nSING 14 verb\nDANCE 30 verb\nHUM 31 verb\n\
-SWIM 32 verb\nCLAP 33 verb\nHOP 34 verb\n/STX\n/0\n/1\n/2\nWhat now?\n/3\n/4\n/5\n/6\nEh?\n/7\nI can't go that way.\n/8\nI can't do that.\n\
-/9\n/10\n/11\n/12\n/13\n/14\n/15\n/16\n/17\n/18\n/19\n/20\n/21\n/22\n/23\n/24\n/25\n/26\n/27\n/28\n/29\n/30\n/31\n/32\n/33\n> \n\
-/MTX\n/0\n/1\nHm.\n/OTX\n/LTX\n/0\nA hall.\n/1\nA garden.\n/CON\n/0\nNORTH 1\nUP 1\nIN 1\nDANCE 1\n/1\n/OBJ\n/PRO 0\n\
-EAST _ MESSAGE 1 NOTDONE\nUP _ MESSAGE 1 NOTDONE\nIN _ PROCESS 3\nDOWN _ PROCESS 3\nSING _ MESSAGE 1 NOTDONE\n\
-DANCE _ MESSAGE 1 NOTDONE\nHUM _ PROCESS 3\nCLAP _ PROCESS 4\nHOP _ MESSAGE 1 PROCESS 3\n/PRO 1\n/PRO 2\n/PRO 3\n_ _ MESSAGE 1 NOTDONE\n\
-/PRO 4\n_ _ PROCESS 3\n_ _ MESSAGE 1\n";
+    "/VOC\nNORTH 2 verb\nEAST 3 verb\nUP 4 verb\nIN 5 verb\nDOWN 13 verb\nSING 14 verb\n\
+DANCE 30 verb\nHUM 31 verb\nSWIM 32 verb\nCLAP 33 verb\nHOP 34 verb\n/STX\n/0\n/1\n/2\nWhat now?\n\
+/3\n/4\n/5\n/6\nEh?\n/7\nI can't go that way.\n/8\nI can't do that.\n/9\n/10\n/11\n/12\n/13\n/14\n\
+/15\n/16\n/17\n/18\n/19\n/20\n/21\n/22\n/23\n/24\n/25\n/26\n/27\n/28\n/29\n/30\n/31\n/32\n/33\n> \n\
+/MTX\n/0\n/1\nHm.\n/OTX\n/LTX\n/0\nA hall.\n/1\nA garden.\n/CON\n/0\nNORTH 1\nUP 1\nIN 1\nDANCE 1\n\
+/1\n/OBJ\n/PRO 0\nEAST _ MESSAGE 1 NOTDONE\nUP _ MESSAGE 1 NOTDONE\nIN _ PROCESS 3\n\
+DOWN _ PROCESS 3\nSING _ MESSAGE 1 NOTDONE\nDANCE _ MESSAGE 1 NOTDONE\nHUM _ PROCESS 3\n\
+CLAP _ PROCESS 4\nHOP _ MESSAGE 1 PROCESS 3\n/PRO 1\n/PRO 2\n/PRO 3\n_ _ MESSAGE 1 NOTDONE\n/PRO 4\n\
+_ _ PROCESS 3\n_ _ MESSAGE 1\n";
 
 #[test]
 fn not_done_leads_on_to_the_exits(rt: HostRuntime) -> Result<(), Fail> {
     let alloc = rt.alloc();
-    let start = "A hall.\nWhat now?\n> ";
     for (lines, pieces) in [
         // Nothing answers the verb.
         ("SWIM", "I can't do that.\nWhat now?\n> "),
@@ -315,11 +212,8 @@ fn not_done_leads_on_to_the_exits(rt: HostRuntime) -> Result<(), Fail> {
         ("CLAP", "Hm.\nHm.\nWhat now?\n> "),
         ("HOP", "Hm.\nHm.\nWhat now?\n> "),
     ] {
-        let (outcome, shown) = walked(&rt, alloc, &[UNDONE], lines)?;
-        assert_eq!(rt; outcome, Outcome::InputEnded, "{lines:?}");
-        assert!(rt; shown.starts_with(start.as_bytes()), "{lines:?}");
-        let later = shown.get(start.len()..).unwrap_or(b"");
-        assert_eq!(rt; later, pieces.as_bytes(), "{lines:?}");
+        let shown = format!(in alloc; "A hall.\nWhat now?\n> {pieces}")?;
+        shows(&rt, alloc, &[UNDONE], lines, shown.as_str())?;
     }
     Ok(())
 }
@@ -385,7 +279,8 @@ fn conditions_and_flags(rt: HostRuntime) -> Result<(), Fail> {
 /// Two ways into the dark and out, with a lamp at a place that follows.
 const BEFORE_LAMP: &str =
     "/VOC\nCOUNT 30 verb\nDARK 31 verb\nLOOK 32 verb\nTELL 33 verb\nOUT 34 verb\nLAMP 50 noun\n\
-/STX\n/0\nIt is dark.\n/1\n/2\n/MTX\n/0\nfar\n/1\nlit\n/OTX\n/0\nlamp\n/LTX\n/0\nHall.\n/1\nYard.\n/CON\n/OBJ\n0 ";
+/STX\n/0\nIt is dark.\n/1\n/2\n/MTX\n/0\nfar\n/1\nlit\n/OTX\n/0\nlamp\n/LTX\n/0\nHall.\n/1\nYard.\n\
+/CON\n/OBJ\n0 ";
 
 /// The rest: COUNT begins the counts, DARK makes it dark, and TELL tells how far they have fallen.
 const AFTER_LAMP: &str = " 1 W LAMP _\n/PRO 0\n\
@@ -415,10 +310,11 @@ fn it_is_dark_without_a_light(rt: HostRuntime) -> Result<(), Fail> {
 
 /// A prompt that may be chosen, and time that may be allowed.
 const PROMPTS: &str =
-    "/VOC\nON 30 verb\nOFF 31 verb\nASK 32 verb\nNONE 33 verb\nWAIT 34 verb\n/STX\n/0\n/1\n/2\nWhat now?\n\
-/3\nWell?\n/4\n/5\n/6\n/7\n/8\n/9\n/10\n/11\n/12\n/13\n/14\n/15\n/16\n/17\n/18\n/19\n/20\n/21\n/22\n/23\n/24\n/25\n/26\n/27\n\
-/28\n/29\n/30\n/31\n/32\n/33\n> \n/34\n/35\nTime passes.\n/MTX\n/0\nt\n/OTX\n/LTX\n/0\n/CON\n/OBJ\n/PRO 0\nON _ LET 48 1 DONE\n\
-OFF _ CLEAR 48 DONE\nASK _ LET 42 3 DONE\nNONE _ LET 42 200 DONE\nWAIT _ DONE\n/PRO 1\n/PRO 2\n_ _ TIMEOUT MES 0\n";
+    "/VOC\nON 30 verb\nOFF 31 verb\nASK 32 verb\nNONE 33 verb\nWAIT 34 verb\n/STX\n/0\n/1\n/2\n\
+What now?\n/3\nWell?\n/4\n/5\n/6\n/7\n/8\n/9\n/10\n/11\n/12\n/13\n/14\n/15\n/16\n/17\n/18\n/19\n\
+/20\n/21\n/22\n/23\n/24\n/25\n/26\n/27\n/28\n/29\n/30\n/31\n/32\n/33\n> \n/34\n/35\nTime passes.\n\
+/MTX\n/0\nt\n/OTX\n/LTX\n/0\n/CON\n/OBJ\n/PRO 0\nON _ LET 48 1 DONE\nOFF _ CLEAR 48 DONE\n\
+ASK _ LET 42 3 DONE\nNONE _ LET 42 200 DONE\nWAIT _ DONE\n/PRO 1\n/PRO 2\n_ _ TIMEOUT MES 0\n";
 
 #[test]
 fn time_passes_where_it_may(rt: HostRuntime) -> Result<(), Fail> {
@@ -447,261 +343,42 @@ fn time_passes_where_it_may(rt: HostRuntime) -> Result<(), Fail> {
 }
 
 /// Two rooms, of which one is sung in.
-const ROOMS: &str = "/VOC
-LOOK 30 verb
-N 2 noun
-S 3 noun
-SING 31 verb
-/STX
-/0
-/1
-/2
->
-/3
-/4
-/5
-/6
-What?
-/7
-No way.
-/8
-No.
-/MTX
-/0
-La la.
-
-/OTX
-/LTX
-/0
-Hall.
-/1
-Yard.
-/CON
-/0
-N 1
-/1
-S 0
-/OBJ
-/PRO 0
-LOOK _ DESC
-SING _ NOTAT 1 MES 0 DONE
-SING _ AT 1 GOTO 0 DESC
-/PRO 1
-/PRO 2
-";
+const ROOMS: &str =
+    "/VOC\nLOOK 30 verb\nN 2 noun\nS 3 noun\nSING 31 verb\n/STX\n/0\n/1\n/2\n>\n/3\n/4\n/5\n/6\n\
+What?\n/7\nNo way.\n/8\nNo.\n/MTX\n/0\nLa la.\n\n/OTX\n/LTX\n/0\nHall.\n/1\nYard.\n/CON\n/0\nN 1\n\
+/1\nS 0\n/OBJ\n/PRO 0\nLOOK _ DESC\nSING _ NOTAT 1 MES 0 DONE\nSING _ AT 1 GOTO 0 DESC\n/PRO 1\n\
+/PRO 2\n";
 
 /// Six objects, and all kinds of words.
-const HALL: &str = "/VOC
-N 2 noun
-NORTH 2 noun
-S 3 noun
-SOUTH 3 noun
-ALL 20 noun
-LAMP 50 noun
-SWORD 51 noun
-BAG 52 noun
-POUCH 53 noun
-COAT 54 noun
-BRICK 55 noun
-GET 30 verb
-TAKE 30 verb
-DROP 31 verb
-WEAR 32 verb
-REMOVE 33 verb
-PUT 34 verb
-LOOK 35 verb
-I 36 verb
-QUIT 37 verb
-WAIT 38 verb
-TIME 39 verb
-STORE 40 verb
-BACK 41 verb
-SHAKE 42 verb
-TWIST 43 verb
-NEST 44 verb
-DEEP 45 verb
-WEAK 46 verb
-TURNS 47 verb
-HALVE 48 verb
-RED 2 adjective
-AND 2 conjunction
-THEN 2 conjunction
-IT 2 pronoun
-EXCEPT 2 preposition
-IN 3 preposition
-/STX
-/0
-It is dark.
-/1
-I can also see:
-/2
-What now?
-/3
-/4
-/5
-/6
-I don't understand.
-/7
-I can't go that way.
-/8
-I can't do that.
-/9
-I have:
-/10
- (worn)
-/11
-Nothing.
-/12
-Are you sure? 
-/13
-Another go? 
-/14
-Goodbye.
-/15
-OK.
-/16
-Press a key. 
-/17
-You have taken 
-/18
- turn
-/19
-s
-/20
-.
-/21
-You have scored 
-/22
- points.
-/23
-I'm not wearing that.
-/24
-I'm wearing the _.
-/25
-I already have the _.
-/26
-There isn't one here.
-/27
-I can't carry any more.
-/28
-I don't have one.
-/29
-I'm already wearing the _.
-/30
-/31
-/32
-/33
-> 
-/34
-/35
-Time passes.
-/36
-I take the _.
-/37
-I put on the _.
-/38
-I take off the _.
-/39
-I drop the _.
-/40
-I can't wear the _.
-/41
-I can't remove the _.
-/42
-My hands are full.
-/43
-The _ is too heavy.
-/44
-The _ is now in the 
-/45
-The _ isn't in the 
-/46
-/47
-/48
-/49
-I don't have the _.
-/50
-I'm not wearing the _.
-/51
-.
-/52
-There isn't one in the 
-/53
-Nothing.
-/MTX
-/0
-You shake the _.
-/1
-Done.
-/OTX
-/0
-lamp
-/1
-sword
-/2
-bag
-/3
-pouch
-/4
-coat
-/5
-brick
-/LTX
-/0
-A hall.
-/1
-A garden.
-/2
-/3
-/CON
-/0
-NORTH 1
-/1
-SOUTH 0
-/OBJ
-0 0 2 - LAMP RED
-1 0 3 - SWORD _
-2 0 1 C BAG _
-3 1 0 C POUCH _
-4 CARRIED 2 W COAT _
-5 1 4 - BRICK _
-/PRO 0
-GET ALL DOALL HERE
-GET _ AUTOG DONE
-DROP ALL DOALL CARRIED
-DROP _ AUTOD DONE
-WEAR _ AUTOW DONE
-REMOVE _ AUTOR DONE
-PUT _ NOUN2 BAG AUTOP 2 DONE
-PUT _ NOUN2 POUCH AUTOP 3 DONE
-LOOK _ DESC
-I _ INVEN DONE
-QUIT _ QUIT END
-WAIT _ OK
-TIME _ TIME 5 0 DONE
-STORE _ RAMSAVE OK
-BACK _ RAMLOAD 30 OK
-SHAKE ALL DOALL HERE
-SHAKE _ PROCESS 3 DONE
-TWIST ALL DOALL HERE
-TWIST _ PROCESS 4 MESSAGE 1
-NEST _ LET 60 9 PROCESS 5 OK
-DEEP _ LET 60 10 PROCESS 5 OK
-WEAK _ ABILITY 2 10 OK
-TURNS _ TURNS DONE
-HALVE _ LET 60 9 EXTERN 1 60
- PRINT 60 NEWLINE DONE
-/PRO 1
-_ _ LISTOBJ
-/PRO 2
-/PRO 3
-_ _ QUIT MESSAGE 0
-/PRO 4
-_ _ DOALL CARRIED
-_ _ ANYKEY MESSAGE 0
-/PRO 5
-_ _ GT 60 0 MINUS 60 1 PROCESS 5
-";
+const HALL: &str =
+    "/VOC\nN 2 noun\nNORTH 2 noun\nS 3 noun\nSOUTH 3 noun\nALL 20 noun\nLAMP 50 noun\n\
+SWORD 51 noun\nBAG 52 noun\nPOUCH 53 noun\nCOAT 54 noun\nBRICK 55 noun\nGET 30 verb\nTAKE 30 verb\n\
+DROP 31 verb\nWEAR 32 verb\nREMOVE 33 verb\nPUT 34 verb\nLOOK 35 verb\nI 36 verb\nQUIT 37 verb\n\
+WAIT 38 verb\nTIME 39 verb\nSTORE 40 verb\nBACK 41 verb\nSHAKE 42 verb\nTWIST 43 verb\n\
+NEST 44 verb\nDEEP 45 verb\nWEAK 46 verb\nTURNS 47 verb\nHALVE 48 verb\nRED 2 adjective\n\
+AND 2 conjunction\nTHEN 2 conjunction\nIT 2 pronoun\nEXCEPT 2 preposition\nIN 3 preposition\n/STX\n\
+/0\nIt is dark.\n/1\nI can also see:\n/2\nWhat now?\n/3\n/4\n/5\n/6\nI don't understand.\n/7\n\
+I can't go that way.\n/8\nI can't do that.\n/9\nI have:\n/10\n (worn)\n/11\nNothing.\n/12\n\
+Are you sure? \n/13\nAnother go? \n/14\nGoodbye.\n/15\nOK.\n/16\nPress a key. \n/17\n\
+You have taken \n/18\n turn\n/19\ns\n/20\n.\n/21\nYou have scored \n/22\n points.\n/23\n\
+I'm not wearing that.\n/24\nI'm wearing the _.\n/25\nI already have the _.\n/26\n\
+There isn't one here.\n/27\nI can't carry any more.\n/28\nI don't have one.\n/29\n\
+I'm already wearing the _.\n/30\n/31\n/32\n/33\n> \n/34\n/35\nTime passes.\n/36\nI take the _.\n\
+/37\nI put on the _.\n/38\nI take off the _.\n/39\nI drop the _.\n/40\nI can't wear the _.\n/41\n\
+I can't remove the _.\n/42\nMy hands are full.\n/43\nThe _ is too heavy.\n/44\n\
+The _ is now in the \n/45\nThe _ isn't in the \n/46\n/47\n/48\n/49\nI don't have the _.\n/50\n\
+I'm not wearing the _.\n/51\n.\n/52\nThere isn't one in the \n/53\nNothing.\n/MTX\n/0\n\
+You shake the _.\n/1\nDone.\n/OTX\n/0\nlamp\n/1\nsword\n/2\nbag\n/3\npouch\n/4\ncoat\n/5\nbrick\n\
+/LTX\n/0\nA hall.\n/1\nA garden.\n/2\n/3\n/CON\n/0\nNORTH 1\n/1\nSOUTH 0\n/OBJ\n0 0 2 - LAMP RED\n\
+1 0 3 - SWORD _\n2 0 1 C BAG _\n3 1 0 C POUCH _\n4 CARRIED 2 W COAT _\n5 1 4 - BRICK _\n/PRO 0\n\
+GET ALL DOALL HERE\nGET _ AUTOG DONE\nDROP ALL DOALL CARRIED\nDROP _ AUTOD DONE\nWEAR _ AUTOW DONE\n\
+REMOVE _ AUTOR DONE\nPUT _ NOUN2 BAG AUTOP 2 DONE\nPUT _ NOUN2 POUCH AUTOP 3 DONE\nLOOK _ DESC\n\
+I _ INVEN DONE\nQUIT _ QUIT END\nWAIT _ OK\nTIME _ TIME 5 0 DONE\nSTORE _ RAMSAVE OK\n\
+BACK _ RAMLOAD 30 OK\nSHAKE ALL DOALL HERE\nSHAKE _ PROCESS 3 DONE\nTWIST ALL DOALL HERE\n\
+TWIST _ PROCESS 4 MESSAGE 1\nNEST _ LET 60 9 PROCESS 5 OK\nDEEP _ LET 60 10 PROCESS 5 OK\n\
+WEAK _ ABILITY 2 10 OK\nTURNS _ TURNS DONE\nHALVE _ LET 60 9 EXTERN 1 60\n PRINT 60 NEWLINE DONE\n\
+/PRO 1\n_ _ LISTOBJ\n/PRO 2\n/PRO 3\n_ _ QUIT MESSAGE 0\n/PRO 4\n_ _ DOALL CARRIED\n\
+_ _ ANYKEY MESSAGE 0\n/PRO 5\n_ _ GT 60 0 MINUS 60 1 PROCESS 5\n";
 
 // What the file `image` holds; no bytes where it is missing.
 fn image_in(alloc: Global, stage: &mut MemoryStage) -> Result<Vec<u8>, AllocError> {

@@ -368,6 +368,15 @@ fn words_have_their_forms(rt: HostRuntime) -> Result<(), Fail> {
         "trial\n-1",
         "trial\n7a",
         "trial\n7\n7",
+        "compile",
+        "compile\nsource",
+        "compile\n\nimage",
+        "compile\nsource\n\n",
+        "compile\nsource\nimage\nimage",
+        "Compile\nsource\nimage",
+        "decompile",
+        "decompile\n\n",
+        "decompile\nimage\nsource",
         "dance",
     ] {
         let case = Case {
@@ -452,7 +461,8 @@ fn outcomes_have_their_status_and_text(rt: HostRuntime) -> Result<(), Fail> {
         (
             Outcome::Usage,
             1,
-            "usage: paw compile S I | decompile I | walk I SEED | play I F SEED | resume I F | trace I SEED | trial N\n",
+            "usage: paw compile S I | decompile I | walk I SEED | play I F SEED | \
+            resume I F | trace I SEED | trial N\n",
         ),
         (Outcome::ImageDamaged { at: 0 }, 3, "image damaged at 0\n"),
         (

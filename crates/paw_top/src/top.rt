@@ -1,24 +1,24 @@
 // The top call.
 
 ghost use Rattle.std.specs.Prelude.{◌≡◌, ◌↔◌, ℕ, List, [], Some, None};
-ghost use Rattle.paw_routines.specs.Routines.{AreRowsOf, HaveRows};
-ghost use Rattle.paw_effects.specs.Story.{Story};
-ghost use Rattle.paw_stage.specs.Disk.{IsStable};
-ghost use Rattle.paw_stage.specs.Stage.{Faulted};
-ghost use Rattle.paw_stage.specs.Across.{Across, EachMoment};
-ghost use Rattle.paw_state.specs.State.{State};
-ghost use Rattle.paw_play.specs.Play.{InGame, InAgain, InGoingOn, ShowsState, store_bytes};
-ghost use Rattle.paw_play.specs.Stands.{Stands, IsPlayedWith};
 ghost use Rattle.paw_top.specs.Commands.{Compile as CompileOf, Decompile as DecompileOf, Walk as WalkOf};
 ghost use Rattle.paw_top.specs.Commands.{Trace as TraceOf, Play as PlayOf, Resume as ResumeOf};
 ghost use Rattle.paw_top.specs.Commands.{Trial as TrialOf, asked_for};
+ghost use Rattle.paw_routines.specs.Routines.{AreRowsOf, HaveRows};
+ghost use Rattle.paw_effects.specs.Story.{Story};
+ghost use Rattle.paw_stage.specs.Across.{Across, EachMoment};
+ghost use Rattle.paw_stage.specs.Disk.{IsStable};
+ghost use Rattle.paw_top.specs.Answers.{IfOutside, IfMemory, Makes, Needs, failed_call};
+ghost use Rattle.paw_stage.specs.Stage.{Faulted};
+ghost use Rattle.paw_state.specs.State.{State};
+ghost use Rattle.paw_play.specs.Play.{InGame, InAgain, InGoingOn, ShowsState, store_bytes};
+ghost use Rattle.paw_play.specs.Stands.{Stands, IsPlayedWith};
 ghost use Rattle.paw_top.specs.Compile.{Compiles};
 ghost use Rattle.paw_top.specs.Decompile.{Decompiles};
 ghost use Rattle.paw_top.specs.Loads.{Holds};
 ghost use Rattle.paw_top.specs.Walk.{WalksIn, TracesIn};
 ghost use Rattle.paw_top.specs.Sessions.{PlaysNewIn, PlaysAgainIn, GoesOnIn, digest_of, session_from};
 ghost use Rattle.paw_top.specs.Tries.{Tries};
-ghost use Rattle.paw_top.specs.Answers.{IfOutside, IfMemory, Makes, Needs, failed_call};
 ghost use Rattle.paw_top.specs.Completes.{NoFault, Completes};
 ghost use Rattle.paw_top.specs.declared.outcome.Outcome.TheVariants as outcome;
 
@@ -26,9 +26,10 @@ use crate::commands::{Command, command_of};
 use crate::compile::compile;
 use crate::decompile::decompile;
 use crate::outcome::Outcome;
-use crate::sessions::{play, resume};
+use crate::sessions::{play, resume, walk};
 use crate::trial::trial;
-use crate::walks::{trace, walk};
+use paw_play::preface::Nothing;
+use paw_play::trace::StepLines;
 use paw_routines::routines::Routines;
 use paw_stage::Stage;
 use std::alloc::Global;
@@ -116,8 +117,12 @@ pub fn paw<S: Stage, F: Fn(u8, u8) -> u8>(
     match command_of(words) {
         Some(Command::Compile { source, image }) => compile(alloc, stage, source, image),
         Some(Command::Decompile { image }) => decompile(alloc, stage, image),
-        Some(Command::Walk { image, seed }) => walk(alloc, stage, routines, image, seed),
-        Some(Command::Trace { image, seed }) => trace(alloc, stage, routines, image, seed),
+        Some(Command::Walk { image, seed }) => {
+            walk::<Nothing, _, _>(alloc, stage, routines, image, seed)
+        }
+        Some(Command::Trace { image, seed }) => {
+            walk::<StepLines, _, _>(alloc, stage, routines, image, seed)
+        }
         Some(Command::Play { image, store, seed }) => play(
             alloc, stage, routines, image, store, seed,
         ),

@@ -41,7 +41,8 @@ module _ (g : GameLists) (n : ℕ) (buffer piece : List ℕ) (r : Recovered) (is
       let same : take state_length buffer ≡ kept_bytes (state_at n p path s) = same_state _ _ _ _ _ (sym is ∙ kept.shown) in
       let size : length s.world.flags ≡ 256 = settled.keeps.world.flags in
       let flag_at : (i : ℕ) → i < 256 → slice_index buffer i ≡ slice_index s.world.flags i = λ i low.
-      sym (get_or-take state_length buffer i 0 (omega (arith, low))) ∙ (ap (λ xs. get_or xs i 0) same ∙ flags_first (state_at n p path s) i (omega (arith, low, size))) in
+      sym (get_or-take state_length buffer i 0 (omega (arith, low)))
+      ∙ (ap (λ xs. get_or xs i 0) same ∙ flags_first (state_at n p path s) i (omega (arith, low, size))) in
       let a = flag_at 31 (omega arith) in
       let b = flag_at 32 (omega arith) in
       let c = flag_at 38 (omega arith) in
@@ -62,16 +63,22 @@ record Counted : Type 0 where
   tally : Tally
 
 all_counted : (n locations objects events : ℕ) (t u : Tally) → locations ≡ location_count n → objects ≡ object_count n → events ≡ line_count n → t ≡ u →
-    ◌≡◌ {A = Counted} (record { locations = locations; objects = objects; events = events; tally = t }) (record { locations = location_count n; objects = object_count n; events = line_count n; tally = u })
+    ◌≡◌ {A = Counted} (record { locations = locations; objects = objects; events = events; tally = t })
+    (record { locations = location_count n; objects = object_count n; events = line_count n; tally = u })
 all_counted n locations objects events t u l o ev e = cc
 
 -- the line of what a session counts
-pub told_counts : (n locations objects events : ℕ) (e : Ending) (t : Tally) (text : List ℕ) → IsTallyOf e t → locations ≡ location_count n → objects ≡ object_count n → events ≡ line_count n →
+pub told_counts : (n locations objects events : ℕ) (e : Ending) (t : Tally) (text : List ℕ) → IsTallyOf e t → locations ≡ location_count n →
+    objects ≡ object_count n → events ≡ line_count n →
     text ≡ codes "TRIAL " ++ (decimal n ++ (codes ": " ++ (decimal locations ++ (codes " locations, " ++ (decimal objects ++ (codes " objects, "
-    ++ (decimal events ++ (codes " events, " ++ (decimal t.turns ++ (codes " turns, at " ++ (decimal t.at ++ (codes " with " ++ (decimal t.carried ++ codes "\n"))))))))))))) →
+    ++ (decimal events
+    ++ (codes " events, " ++ (decimal t.turns ++ (codes " turns, at " ++ (decimal t.at ++ (codes " with " ++ (decimal t.carried ++ codes "\n"))))))))))))) →
     IsTextOf n e text
 told_counts n locations objects events (WaitsAt p path r) t text is l o ev e =
-    e ∙ ap (λ (x : Counted). codes "TRIAL " ++ (decimal n ++ (codes ": " ++ (decimal x.locations ++ (codes " locations, " ++ (decimal x.objects ++ (codes " objects, "
-    ++ (decimal x.events ++ (codes " events, " ++ (decimal x.tally.turns ++ (codes " turns, at " ++ (decimal x.tally.at ++ (codes " with " ++ (decimal x.tally.carried ++ codes "\n"))))))))))))))
+    e ∙ ap (λ (x : Counted). codes "TRIAL "
+    ++ (decimal n ++ (codes ": " ++ (decimal x.locations ++ (codes " locations, " ++ (decimal x.objects ++ (codes " objects, "
+    ++ (decimal x.events
+    ++ (codes " events, "
+    ++ (decimal x.tally.turns ++ (codes " turns, at " ++ (decimal x.tally.at ++ (codes " with " ++ (decimal x.tally.carried ++ codes "\n"))))))))))))))
     (all_counted n locations objects events t (tally_of r.world) l o ev is)
 told_counts n locations objects events _ t text is l o ev e = absurd is

@@ -21,7 +21,8 @@ stays g fs (end.Spent kind) (Halted (RunsOut found) r) h = h
 stays g fs (end.TooDeep table) (Halted (CallsTooDeep found) r) h = h
 stays g fs stop e h = absurd h
 
-pub stops_later : (n : ℕ) (es fs : List (List ℕ)) (stop : TrialEnd) → es ++ fs ≡ trial_lines n → StopsAs stop (reading (trial_story n) n es) → StopsAs stop (trial_reading n)
+pub stops_later : (n : ℕ) (es fs : List (List ℕ)) (stop : TrialEnd) → es ++ fs ≡ trial_lines n → StopsAs stop (reading (trial_story n) n es) →
+    StopsAs stop (trial_reading n)
 stops_later n es fs stop all h =
     subst (λ lines. StopsAs stop (reading (trial_story n) n lines)) all
     (subst (StopsAs stop) (sym (going_on_is_reading (trial_story n) n es fs)) (stays (trial_story n) fs stop (reading (trial_story n) n es) h))

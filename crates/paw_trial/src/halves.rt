@@ -84,9 +84,9 @@ pub(crate) fn play_first<F: Fn(u8, u8) -> u8>(
         stage,
         setting.game(),
         routines,
+        u64::from(setting.number()),
         setting.digest(),
         STORE,
-        u64::from(setting.number()),
     ))
 }
 

@@ -26,3 +26,8 @@ failed_so_far (Some o) = call_of_end o
 abbrev pub failed_or : {A : Type 0} → Result A PlayEnd → Option StageCall
 failed_or (Ok a) = None
 failed_or (Err o) = call_of_end o
+
+-- playing goes on with this, or has come to an end
+abbrev pub unless_ended : {A : Type 0} → Option PlayEnd → A → Result A PlayEnd
+unless_ended None a = Ok a
+unless_ended (Some o) a = Err o

@@ -22,7 +22,8 @@ pub record ShowsSome (g : GameLists) (bytes : List ℕ) : Type 0 where
 
 -- a store that stands for some lines shows a state of the game that keeps all its rules
 abbrev pub StandingShows : Type 0
-StandingShows = (g : Story) (seed : ℕ) (es : List (List ℕ)) (bytes : List ℕ) → IsPlayedWith g seed es → Stands g seed es bytes → ShowsSome g.game bytes
+StandingShows = (g : Story) (seed : ℕ) (es : List (List ℕ)) (bytes : List ℕ) → IsPlayedWith g seed es →
+    Stands g seed es bytes → ShowsSome g.game bytes
 
 -- going on from the state that it shows is reading the longer list of lines, from the last piece of the former on
 abbrev pub StandingGoesOn : Type 0
@@ -67,7 +68,8 @@ AreKept r n = (r.moment.asked ≡ r.old.asked + n) ⊎ (r.moment.asked ≡ r.old
 -- the lines that are kept of rounds, one round after the other
 abbrev pub AreKeptOf : List Round → List (List ℕ) → Type 0
 AreKeptOf [] lines = lines ≡ []
-AreKeptOf (r ∷ rounds) lines = (n : ℕ) × (more : List (List ℕ)) × AreKept r n × (lines ≡ first_lines n r.old.lines ++ more) × AreKeptOf rounds more
+AreKeptOf (r ∷ rounds) lines = (n : ℕ) × (more : List (List ℕ)) × AreKept r n
+    × (lines ≡ first_lines n r.old.lines ++ more) × AreKeptOf rounds more
 
 -- After any rounds the store stands for the lines before and those that are kept of each round, and for no other
 abbrev pub RoundsStand : Type 0

@@ -1,9 +1,7 @@
 -- What stands on the way, inside a call.
-use Rattle.std.specs.Prelude.{◌≡◌, ◌≢◌, ◌⊎◌, ℕ, suc, ◌+◌, ◌-◌, ◌<◌, ◌≤◌, List, [], ◌++◌, length, take, flat_map}
+use Rattle.std.specs.Prelude.{◌≡◌, ◌≢◌, ◌⊎◌, ℕ, suc, ◌+◌, ◌<◌, ◌≤◌, List, [], ◌++◌, length, take}
 use Rattle.std.specs.Prelude.{reverse, Option, Some, None, Result, Ok, Err}
 use Rattle.std.specs.Fn.{Shared}
-use Rattle.paw_base.specs.Steps.{KeptSteps}
-use Rattle.paw_base.specs.declared.limits.TheConstants.{STEP_LIMIT}
 use Rattle.paw_stage.specs.Disk.{IsStable}
 use Rattle.paw_stage.specs.Stage.{Standing}
 use Rattle.paw_stage.specs.Moments.{Moment}
@@ -31,9 +29,9 @@ use Rattle.paw_play.specs.declared.PlayEnd.TheVariants as end
 use Rattle.paw_play.specs.declared.TheConstants.{MOST_EVENTS}
 use Rattle.paw_play.specs.Session.{kept_bytes}
 use Rattle.paw_play.specs.Walk.{EndingOf, first_lines, played, joined, text_before, Walks}
-use Rattle.paw_play.specs.Traces.{step_line, more_line, traced_pieces, traced}
 use Rattle.paw_play.specs.Keeping.{InMakingOf, RestsWith}
 use Rattle.paw_play.specs.Play.{Played, KeptBy, InPlay, PlaysOn, PlaysIn, with_store}
+use Rattle.paw_play.specs.inner.Telling.{Telling, Plain, HaveSteps, told_pieces, told_as}
 
 -- ---- a walk ----
 
@@ -41,17 +39,21 @@ use Rattle.paw_play.specs.Play.{Played, KeptBy, InPlay, PlaysOn, PlaysIn, with_s
 abbrev pub seat_state : {F : Type 0} → ℕ → Seat F → List ℕ
 seat_state events p = kept_bytes (state_of p.world p.machine p.pending (prompt_at p.last) events (length p.piece))
 
--- the walk is at a prompt: n lines were taken, these pieces were shown, and whatever lines come, the reading of all
--- goes on from the player
-pub record IsWalking {F : Type 0} (g : Story) (whole : EndingOf) (old now : Standing) (seat : Seat F) (n : ℕ) : Type 0 where
+-- the walk is at a prompt: n lines were taken, these pieces were shown as they are told, and whatever lines come, the
+-- reading of all goes on from the player
+pub record IsWalking {F : Type 0} (telling : Telling) (g : Story) (whole : EndingOf) (old now : Standing)
+    (seat : Seat F)
+    (n : ℕ) : Type 0 where
   pub prompt : Prompt
   pub waits : seat.last ≡ step.Waits prompt
   pub pieces : List (List ℕ)
   pub traces : List (List Read)
+  pub each : HaveSteps telling pieces traces
   pub goes_on : (more : List (List ℕ)) →
-      whole (first_lines n old.lines ++ more) ≡ on g prompt (reverse seat.machine.frames) (run_at seat pieces traces more)
+      whole (first_lines n old.lines ++ more)
+      ≡ on g prompt (reverse seat.machine.frames) (run_at seat pieces traces more)
   pub there : n ≤ length old.lines
-  pub stands : now ≡ played old n (joined pieces)
+  pub stands : now ≡ played old n (joined (told_pieces telling pieces traces))
 
 -- a step that brings a piece
 abbrev pub ShowsPiece : Step → Type 0
@@ -79,47 +81,11 @@ Told old new piece s (Some (end.Outside call.Show)) =
     ShowsPiece s × (0 < length piece) × (n : ℕ) × (new ≡ record old { shown = old.shown ++ take n piece })
 Told old new piece s (Some _) = ⊥
 
--- after one line more: the walk is at the next prompt, or has come to this
-abbrev pub WalksOn : {F : Type 0} → Story → EndingOf → ℕ → Standing → Standing → Seat F → ℕ → Option PlayEnd → Type 0
-WalksOn g whole most first now seat n None = IsWalking g whole first now seat (suc n)
-WalksOn g whole most first now seat n (Some o) = Walks whole most first now o
-
--- after piece 0
-abbrev pub WalksFrom : {F : Type 0} → Story → EndingOf → ℕ → Standing → Standing → Seat F → Option PlayEnd → Type 0
-WalksFrom g whole most old now seat None = IsWalking g whole old now seat 0
-WalksFrom g whole most old now seat (Some o) = Walks whole most old now o
-
--- ---- a trace ----
-
--- the text of the steps that are kept
-abbrev pub kept_text : KeptSteps → List ℕ
-kept_text kept = flat_map step_line (take STEP_LIMIT kept.rows) ++ more_line (kept.count - STEP_LIMIT)
-
--- what a trace shows of a player's last piece
-abbrev pub seat_text : {F : Type 0} → Seat F → List ℕ
-seat_text p = kept_text p.machine.steps ++ p.piece
-
--- the trace is at a prompt: as a walk, but that each piece was shown behind the text of its steps
-pub record IsTracing {F : Type 0} (g : Story) (whole : EndingOf) (old now : Standing) (seat : Seat F) (n : ℕ) : Type 0 where
-  pub prompt : Prompt
-  pub waits : seat.last ≡ step.Waits prompt
-  pub pieces : List (List ℕ)
-  pub traces : List (List Read)
-  pub each : length traces ≡ length pieces
-  pub goes_on : (more : List (List ℕ)) →
-      whole (first_lines n old.lines ++ more) ≡ on g prompt (reverse seat.machine.frames) (run_at seat pieces traces more)
-  pub there : n ≤ length old.lines
-  pub stands : now ≡ played old n (joined (traced_pieces pieces traces))
-
--- after one line more: the trace is at the next prompt, or has come to this
-abbrev pub TracesOn : {F : Type 0} → Story → EndingOf → ℕ → Standing → Standing → Seat F → ℕ → Option PlayEnd → Type 0
-TracesOn g whole most old now seat n None = IsTracing g whole old now seat (suc n)
-TracesOn g whole most old now seat n (Some o) = Walks (traced whole) most old now o
-
--- after piece 0: the trace is at the first prompt, or has come to this
-abbrev pub TracesFrom : {F : Type 0} → Story → EndingOf → ℕ → Standing → Standing → Seat F → Option PlayEnd → Type 0
-TracesFrom g whole most old now seat None = IsTracing g whole old now seat 0
-TracesFrom g whole most old now seat (Some o) = Walks (traced whole) most old now o
+-- after n lines the walk is at a prompt, or has come to this
+abbrev pub WalksTo : {F : Type 0} → Telling → Story → EndingOf → ℕ → Standing → Standing → Seat F → ℕ →
+    Option PlayEnd → Type 0
+WalksTo telling g whole most first now seat n None = IsWalking telling g whole first now seat n
+WalksTo telling g whole most first now seat n (Some o) = Walks (told_as telling whole) most first now o
 
 -- ---- a session ----
 
@@ -142,7 +108,7 @@ PlaysInStore s old new o = PlaysIn (KeptBy s old.lines) s.whole s.name old new o
 -- The session is at a prompt: the walk is, the store keeps all lines that were taken, and the text of the last piece
 -- came last.
 pub record IsPlaying {F : Type 0} (g : Story) (s : Played) (first now : Standing) (seat : Seat F) (n : ℕ) : Type 0 where
-  pub walking : IsWalking g s.whole (with_store now first) now seat n
+  pub walking : IsWalking Plain g s.whole (with_store now first) now seat n
   pub rests : Rests s first now n
   pub digest : kept_digest now.disk.bytes ≡ s.digest
   pub last : List ℕ
@@ -176,7 +142,8 @@ Begins g s first now seat (Err o) = BegunAs s first now o
 abbrev pub ShowsAgain : Standing → Standing → List ℕ → Prompt → Option PlayEnd → Type 0
 ShowsAgain old new piece p None = (p ≢ prompt.Over) × (new ≡ record old { shown = old.shown ++ piece })
 ShowsAgain old new piece p (Some end.Ended) = (p ≡ prompt.Over) × (new ≡ record old { shown = old.shown ++ piece })
-ShowsAgain old new piece p (Some (end.Outside call.Show)) = (0 < length piece) × (n : ℕ) × (new ≡ record old { shown = old.shown ++ take n piece })
+ShowsAgain old new piece p (Some (end.Outside call.Show)) =
+    (0 < length piece) × (n : ℕ) × (new ≡ record old { shown = old.shown ++ take n piece })
 ShowsAgain old new piece p (Some _) = ⊥
 
 -- what playing comes to where a session isn't found

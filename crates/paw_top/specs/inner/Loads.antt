@@ -17,7 +17,8 @@ LoadsNone name old new _ = ⊥
 
 -- a load that gave these bytes: the whole file, or one more than the most where it has more; nothing is changed
 abbrev pub LoadsSome : List ℕ → ℕ → Standing → Standing → List ℕ → Type 0
-LoadsSome name most old new given = (bytes : List ℕ) × (old.files name ≡ Some bytes) × (given ≡ take (most + 1) bytes) × (new ≡ old)
+LoadsSome name most old new given = (bytes : List ℕ) × (old.files name ≡ Some bytes) × (given ≡ take (most + 1) bytes)
+    × (new ≡ old)
 
 -- why bytes that were loaded give no game: they are no image of a valid one, or memory was wanting
 abbrev pub GivesNone : List ℕ → Outcome → Type 0

@@ -1,11 +1,10 @@
-use Rattle.std.proofs.Common.{◌≡◌, ◌⊎◌, inr, refl, sym, ap, ◌∙◌, subst}
+use Rattle.std.proofs.Common.{inr, refl, sym, ◌∙◌, subst}
 use Rattle.paw_routines.specs.Routines.{AreRowsOf, HaveRows}
 use Rattle.paw_stage.specs.Moments.{Passes}
 use Rattle.paw_stage.proofs.Time.{Passes_on}
-use Rattle.paw_world.specs.World.{World}
-use Rattle.paw_play.specs.Play.{Played, InPlay, memory, plays}
-use Rattle.paw_play.specs.inner.OnTheWay.{InMaking, IsPlaying, PlaysInStore, new_session}
-use Rattle.paw_play.proofs.Begun.{begun_plays}
+use Rattle.paw_play.specs.Play.{memory, plays}
+use Rattle.paw_play.specs.inner.OnTheWay.{InNew, IsPlaying, PlaysInStore, new_session}
+use Rattle.paw_play.proofs.Begun.{begun_plays, session_of}
 use Rattle.paw_stage.proofs.Counted.{Faulted_on}
 use Rattle.paw_play.specs.inner.Calls.{call_of_end}
 use Rattle.paw_effects.specs.Story.{story_of}
@@ -35,63 +34,48 @@ returns-in_default-new-clause-plays g c = λ tells X rows name store. memory ref
 
 pub returns-in-Ok-begin-clause-plays : goal.returns-in-Ok-begin-clause-plays
 returns-in-Ok-begin-clause-plays g c = λ tells X rows name store.
-    let game2 = g.T.Tables.game c.args.tables.now in
     let old = g.S.Stage.standing c.args.stage.now in
-    let s : Played = new_session (story_of c.in-Ok-new.player.game X) c.in-Ok-new.player.world.seed c.args.game.now name in
-    let same : s ≡ new_session (story_of game2 X) c.args.seed c.args.game.now name =
-    ap (λ k. new_session (story_of k X) c.in-Ok-new.player.world.seed c.args.game.now name) c.in-Ok-new.ensures.game
-    ∙ ap (λ (w : World). new_session (story_of game2 X) w.seed c.args.game.now name) c.in-Ok-new.ensures.new.world in
+    let s = new_session (story_of c.in-Ok-new.player.game X) c.in-Ok-new.player.world.seed c.args.game.now name in
     let own = subst (λ r. AreRowsOf g.F.Fn r X) (sym c.in-Ok-new.ensures.routines) rows in
-    let later = subst (λ r. AreRowsOf g.F.Fn r X) (sym (c.begin.ensures.routines ∙ c.in-Ok-new.ensures.routines)) rows in
     let playing = subst (λ k. IsPlaying (story_of k X) s old (g.S.Stage.standing c.begin.new.stage) c.begin.new.player 0) (sym c.begin.ensures.game)
     (c.in-Ok-begin.ensures.meaning tells X own name store) in
-    subst (λ q. PlaysInStore q old (g.S.Stage.standing c.play_lines.new.stage) c.play_lines.result) same
-    (plays c.play_lines.result (c.play_lines.ensures.meaning (c.begin.ensures.tells.0 tells) X later s old playing c.in-Ok-begin.ensures.events))
+    subst (λ q. PlaysInStore q old (g.S.Stage.standing c.play_lines.new.stage) c.play_lines.result)
+    (session_of c.in-Ok-new.player (g.T.Tables.game c.args.tables.now) X c.args.seed c.args.game.now name
+    c.in-Ok-new.ensures.new c.in-Ok-new.ensures.game)
+    (plays c.play_lines.result (c.play_lines.ensures.meaning (c.begin.ensures.tells.0 tells) X
+    (subst (λ r. AreRowsOf g.F.Fn r X) (sym c.begin.ensures.routines) own) s old playing c.in-Ok-begin.ensures.events))
 
 pub returns-clause-plays : goal.returns-clause-plays
 returns-clause-plays g c = λ tells X rows name store.
-    let game2 = g.T.Tables.game c.args.tables.now in
-    let story = story_of c.in-Ok-new.player.game X in
-    let old = g.S.Stage.standing c.args.stage.now in
-    let after_begin = g.S.Stage.standing c.begin.new.stage in
-    let s : Played = new_session story c.in-Ok-new.player.world.seed c.args.game.now name in
-    let same : s ≡ new_session (story_of game2 X) c.args.seed c.args.game.now name =
-    ap (λ k. new_session (story_of k X) c.in-Ok-new.player.world.seed c.args.game.now name) c.in-Ok-new.ensures.game
-    ∙ ap (λ (w : World). new_session (story_of game2 X) w.seed c.args.game.now name) c.in-Ok-new.ensures.new.world in
     let own = subst (λ r. AreRowsOf g.F.Fn r X) (sym c.in-Ok-new.ensures.routines) rows in
-    subst (λ q. PlaysInStore q old after_begin c.in-Err.end) same
-    (begun_plays story c.in-Ok-new.player.world.seed c.args.game.now name old after_begin c.in-Err.end (c.in-Err.ensures.meaning tells X own name store))
+    subst (λ q. PlaysInStore q (g.S.Stage.standing c.args.stage.now) (g.S.Stage.standing c.begin.new.stage) c.in-Err.end)
+    (session_of c.in-Ok-new.player (g.T.Tables.game c.args.tables.now) X c.args.seed c.args.game.now name
+    c.in-Ok-new.ensures.new c.in-Ok-new.ensures.game)
+    (begun_plays (story_of c.in-Ok-new.player.game X) c.in-Ok-new.player.world.seed c.args.game.now name _ _ c.in-Err.end
+    (c.in-Err.ensures.meaning tells X own name store))
 
 pub returns-in-Ok-begin-clause-any_moment : goal.returns-in-Ok-begin-clause-any_moment
 returns-in-Ok-begin-clause-any_moment g c = λ tells X rows name store.
-    let game2 = g.T.Tables.game c.args.tables.now in
-    let old = g.S.Stage.standing c.args.stage.now in
-    let s : Played = new_session (story_of c.in-Ok-new.player.game X) c.in-Ok-new.player.world.seed c.args.game.now name in
-    let same : s ≡ new_session (story_of game2 X) c.args.seed c.args.game.now name =
-    ap (λ k. new_session (story_of k X) c.in-Ok-new.player.world.seed c.args.game.now name) c.in-Ok-new.ensures.game
-    ∙ ap (λ (w : World). new_session (story_of game2 X) w.seed c.args.game.now name) c.in-Ok-new.ensures.new.world in
     let own = subst (λ r. AreRowsOf g.F.Fn r X) (sym c.in-Ok-new.ensures.routines) rows in
-    let later = subst (λ r. AreRowsOf g.F.Fn r X) (sym (c.begin.ensures.routines ∙ c.in-Ok-new.ensures.routines)) rows in
+    let s = new_session (story_of c.in-Ok-new.player.game X) c.in-Ok-new.player.world.seed c.args.game.now name in
+    let old = g.S.Stage.standing c.args.stage.now in
     let playing = subst (λ k. IsPlaying (story_of k X) s old (g.S.Stage.standing c.begin.new.stage) c.begin.new.player 0) (sym c.begin.ensures.game)
     (c.in-Ok-begin.ensures.meaning tells X own name store) in
     subst (λ q. Passes (g.S.Stage.clock c.args.stage.now) (g.S.Stage.clock c.play_lines.new.stage)
-    (g.S.Stage.since c.args.stage.now) (g.S.Stage.since c.play_lines.new.stage)
-    (λ m. InMaking q old m ⊎ InPlay q old m)) same
-    (Passes_on _ _ _ _ _ _ (λ m. InMaking s old m ⊎ InPlay s old m) _ (c.begin.ensures.any_moment tells X own name store)
-    (c.play_lines.ensures.any_moment (c.begin.ensures.tells.0 tells) X later s old playing c.in-Ok-begin.ensures.events) (λ m i. inr i))
+    (g.S.Stage.since c.args.stage.now) (g.S.Stage.since c.play_lines.new.stage) (InNew q old))
+    (session_of c.in-Ok-new.player (g.T.Tables.game c.args.tables.now) X c.args.seed c.args.game.now name
+    c.in-Ok-new.ensures.new c.in-Ok-new.ensures.game)
+    (Passes_on _ _ _ _ _ _ (InNew s old) _ (c.begin.ensures.any_moment tells X own name store)
+    (c.play_lines.ensures.any_moment (c.begin.ensures.tells.0 tells) X (subst (λ r. AreRowsOf g.F.Fn r X) (sym c.begin.ensures.routines) own) s old
+    playing c.in-Ok-begin.ensures.events) (λ m i. inr i))
 
 pub returns-clause-any_moment : goal.returns-clause-any_moment
 returns-clause-any_moment g c = λ tells X rows name store.
-    let game2 = g.T.Tables.game c.args.tables.now in
-    let old = g.S.Stage.standing c.args.stage.now in
-    let s : Played = new_session (story_of c.in-Ok-new.player.game X) c.in-Ok-new.player.world.seed c.args.game.now name in
-    let same : s ≡ new_session (story_of game2 X) c.args.seed c.args.game.now name =
-    ap (λ k. new_session (story_of k X) c.in-Ok-new.player.world.seed c.args.game.now name) c.in-Ok-new.ensures.game
-    ∙ ap (λ (w : World). new_session (story_of game2 X) w.seed c.args.game.now name) c.in-Ok-new.ensures.new.world in
     let own = subst (λ r. AreRowsOf g.F.Fn r X) (sym c.in-Ok-new.ensures.routines) rows in
     subst (λ q. Passes (g.S.Stage.clock c.args.stage.now) (g.S.Stage.clock c.begin.new.stage)
-    (g.S.Stage.since c.args.stage.now) (g.S.Stage.since c.begin.new.stage) (λ m. InMaking q old m ⊎ InPlay q old m))
-    same
+    (g.S.Stage.since c.args.stage.now) (g.S.Stage.since c.begin.new.stage) (InNew q (g.S.Stage.standing c.args.stage.now)))
+    (session_of c.in-Ok-new.player (g.T.Tables.game c.args.tables.now) X c.args.seed c.args.game.now name
+    c.in-Ok-new.ensures.new c.in-Ok-new.ensures.game)
     (c.begin.ensures.any_moment tells X own name store)
 
 pub returns-in-Ok-begin-clause-faulted : goal.returns-in-Ok-begin-clause-faulted

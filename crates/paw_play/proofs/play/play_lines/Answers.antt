@@ -35,21 +35,17 @@ returns-in-Err-clause-tells g c = (λ t. c.play_line.ensures.tells.0 (c.loop.inv
 
 pub returns-in-Err-clause-meaning : goal.returns-in-Err-clause-meaning
 returns-in-Err-clause-meaning g c = λ tells X rows s first start events.
-    let counter_of_loop = c.loop.counter - s.before in
     let i = c.loop.invariant in
-    let few : c.loop.counter - s.before < MOST_EVENTS - s.before = omega (arith, c.loop-test.true, i.from, events) in
-    let at : c.loop.session.events ≡ s.before + counter_of_loop = omega (arith, i.events, i.from, events) in
-    c.in-Err.ensures.meaning (i.tells.0 tells) X (rw i.routines rows) s (MOST_EVENTS - s.before) counter_of_loop first
-    (i.playing tells X rows s first start events) at few
+    c.in-Err.ensures.meaning (i.tells.0 tells) X (rw i.routines rows) s (MOST_EVENTS - s.before) (c.loop.counter - s.before) first
+    (i.playing tells X rows s first start events) (omega (arith, i.events, i.from, events)) (omega (arith, c.loop-test.true, i.from, events))
 
 pub returns-in-Err-clause-any_moment : goal.returns-in-Err-clause-any_moment
 returns-in-Err-clause-any_moment g c = λ tells X rows s first start events.
-    let counter_of_loop = c.loop.counter - s.before in
     let i = c.loop.invariant in
     let few : c.loop.counter - s.before < MOST_EVENTS - s.before = omega (arith, c.loop-test.true, i.from, events) in
-    let at : c.loop.session.events ≡ s.before + counter_of_loop = omega (arith, i.events, i.from, events) in
+    let at : c.loop.session.events ≡ s.before + (c.loop.counter - s.before) = omega (arith, i.events, i.from, events) in
     Passes_on _ _ _ _ _ _ (InPlay s first) _ (i.passes tells X rows s first start events)
-    (c.in-Err.ensures.any_moment (i.tells.0 tells) X (rw i.routines rows) s (MOST_EVENTS - s.before) counter_of_loop
+    (c.in-Err.ensures.any_moment (i.tells.0 tells) X (rw i.routines rows) s (MOST_EVENTS - s.before) (c.loop.counter - s.before)
     first (i.playing tells X rows s first start events) at few) (λ m j. j)
 
 pub loop-preserved : goal.loop-preserved

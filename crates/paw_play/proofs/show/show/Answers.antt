@@ -1,4 +1,4 @@
-use Rattle.std.proofs.Common.{◌≡◌, List, ℕ, refl, ap}
+use Rattle.std.proofs.Common.{◌≡◌, List, ℕ}
 use Rattle.std.specs.Prelude.{Result, Ok, Err, OnOk, OnErr}
 use Rattle.paw_stage.specs.declared.Failed.{Failed}
 use Rattle.paw_stage.specs.Stage.{Standing, ShowsTo, ShowsPart, with_shown}

@@ -30,14 +30,15 @@ loop-preserved g c =
           let on = c.in_default.ensures.meaning (c.loop.invariant.tells.0 tells) X (rw c.loop.invariant.routines rows) whole
           MOST_EVENTS c.loop.counter first w few in
           let n : suc c.loop.counter ≡ c.loop.counter + 1 = omega arith in
-          subst (λ k. IsWalking (story_of k X) whole first after_walk_line c.walk_line.new.player (c.loop.counter + 1)) (sym c.walk_line.ensures.game)
-          (subst (λ k. IsWalking (story_of c.loop.player.game X) whole first after_walk_line c.walk_line.new.player k) n on);
+          subst (λ k. IsWalking g.P.Preface.telling (story_of k X) whole first after_walk_line c.walk_line.new.player (c.loop.counter + 1))
+          (sym c.walk_line.ensures.game)
+          (subst (λ k. IsWalking g.P.Preface.telling (story_of c.loop.player.game X) whole first after_walk_line c.walk_line.new.player k) n on);
     }
 
 pub returns-clause-meaning : goal.returns-clause-meaning
 returns-clause-meaning g c = λ tells X rows whole first start.
     let all : c.loop.counter ≡ MOST_EVENTS = omega (arith, c.loop-test.false, c.loop.auto.counter-end) in
-    long_walk (story_of c.loop.player.game X) whole MOST_EVENTS c.loop.counter first (g.S.Stage.standing c.loop.stage) c.loop.player
+    long_walk g.P.Preface.telling (story_of c.loop.player.game X) whole MOST_EVENTS c.loop.counter first (g.S.Stage.standing c.loop.stage) c.loop.player
     (c.loop.invariant.walking tells X rows whole first start) c.loop.invariant.seated all
 
 pub returns-in-Some-clause-faulted : goal.returns-in-Some-clause-faulted

@@ -3,6 +3,7 @@ use Rattle.paw_routines.specs.Routines.{AreRowsOf, HaveRows}
 use Rattle.paw_reading.specs.Turn.{reading}
 use Rattle.paw_play.specs.declared.TheConstants.{MOST_EVENTS}
 use Rattle.paw_play.specs.Walk.{Walks}
+use Rattle.paw_play.specs.inner.Telling.{told_as}
 use Rattle.paw_play.specs.inner.OnTheWay.{IsWalking}
 use Rattle.paw_play.proofs.Walking.{walk_starts}
 use Rattle.paw_stage.proofs.Counted.{Faulted_on}
@@ -11,32 +12,34 @@ use Rattle.paw_play.specs.inner.Calls.{call_of_end}
 use Rattle.paw_play.proofs.walk.walk_loop.Goals as goal
 
 pub start-step-requires-clause-rows : goal.start-step-requires-clause-rows
-start-step-requires-clause-rows g c = subst (λ r. HaveRows g.F.Fn r) (sym c.in-Ok.ensures.routines) c.requires.rows
+start-step-requires-clause-rows g c = subst (λ r. HaveRows g.F.Fn r) (sym c.in-Ok-new.ensures.routines) c.requires.rows
 
 pub walk_lines-requires-clause-rows : goal.walk_lines-requires-clause-rows
-walk_lines-requires-clause-rows g c = subst (λ r. HaveRows g.F.Fn r) (sym (c.start-step.ensures.routines ∙ c.in-Ok.ensures.routines)) c.requires.rows
+walk_lines-requires-clause-rows g c = subst (λ r. HaveRows g.F.Fn r) (sym (c.start-step.ensures.routines ∙ c.in-Ok-new.ensures.routines)) c.requires.rows
 
 pub returns-in-Some-clause-walks : goal.returns-in-Some-clause-walks
 returns-in-Some-clause-walks g c = λ tells X rows.
-    let own = subst (λ r. AreRowsOf g.F.Fn r X) (sym c.in-Ok.ensures.routines) rows in
-    subst (λ k. Walks (reading (story_of k X) c.args.seed) MOST_EVENTS (g.S.Stage.standing c.args.stage.now)
-    (g.S.Stage.standing c.told.new.stage) c.in-Some.end) c.in-Ok.ensures.game
-    (walk_starts (story_of c.in-Ok.player.game X) c.args.seed MOST_EVENTS _ _ c.in-Ok.player c.start-step.new.self
-    c.start-step.result (Some c.in-Some.end) c.in-Ok.ensures.new c.start-step.ensures.seated
+    let own = subst (λ r. AreRowsOf g.F.Fn r X) (sym c.in-Ok-new.ensures.routines) rows in
+    subst (λ k. Walks (told_as g.P.Preface.telling (reading (story_of k X) c.args.seed)) MOST_EVENTS (g.S.Stage.standing c.args.stage.now)
+    (g.S.Stage.standing c.told.new.stage) c.in-Some.end) c.in-Ok-new.ensures.game
+    (walk_starts g.P.Preface.telling (story_of c.in-Ok-new.player.game X) c.args.seed MOST_EVENTS _ _ c.in-Ok-new.player
+    c.start-step.new.self c.start-step.result (Some c.in-Some.end) c.in-Ok-new.ensures.new c.start-step.ensures.seated
     c.start-step.ensures.last (c.start-step.ensures.meaning X own) (c.in-Some.ensures.meaning tells))
 
 pub returns-clause-walks : goal.returns-clause-walks
 returns-clause-walks g c = λ tells X rows.
-    let story = story_of c.in-Ok.player.game X in
+    let telling = g.P.Preface.telling in
+    let story = story_of c.in-Ok-new.player.game X in
     let old = g.S.Stage.standing c.args.stage.now in
-    let own = subst (λ r. AreRowsOf g.F.Fn r X) (sym c.in-Ok.ensures.routines) rows in
-    let later = subst (λ r. AreRowsOf g.F.Fn r X) (sym (c.start-step.ensures.routines ∙ c.in-Ok.ensures.routines)) rows in
-    let walking = walk_starts story c.args.seed MOST_EVENTS _ _ c.in-Ok.player c.start-step.new.self c.start-step.result
-    None c.in-Ok.ensures.new c.start-step.ensures.seated
+    let own = subst (λ r. AreRowsOf g.F.Fn r X) (sym c.in-Ok-new.ensures.routines) rows in
+    let later = subst (λ r. AreRowsOf g.F.Fn r X) (sym (c.start-step.ensures.routines ∙ c.in-Ok-new.ensures.routines)) rows in
+    let walking = walk_starts telling story c.args.seed MOST_EVENTS _ _ c.in-Ok-new.player c.start-step.new.self c.start-step.result
+    None c.in-Ok-new.ensures.new c.start-step.ensures.seated
     c.start-step.ensures.last (c.start-step.ensures.meaning X own) (c.in_default-told.ensures.meaning tells) in
-    subst (λ k. Walks (reading (story_of k X) c.args.seed) MOST_EVENTS old (g.S.Stage.standing c.walk_lines.new.stage) c.walk_lines.result) c.in-Ok.ensures.game
+    subst (λ k. Walks (told_as telling (reading (story_of k X) c.args.seed)) MOST_EVENTS old (g.S.Stage.standing c.walk_lines.new.stage)
+    c.walk_lines.result) c.in-Ok-new.ensures.game
     (c.walk_lines.ensures.meaning (c.told.ensures.tells.0 tells) X later _ old
-    (subst (λ k. IsWalking (story_of k X) (reading story c.args.seed) old (g.S.Stage.standing c.told.new.stage)
+    (subst (λ k. IsWalking telling (story_of k X) (reading story c.args.seed) old (g.S.Stage.standing c.told.new.stage)
     c.start-step.new.self 0) (sym c.start-step.ensures.game) walking))
 
 pub returns-clause-faulted : goal.returns-clause-faulted

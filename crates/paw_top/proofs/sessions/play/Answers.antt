@@ -1,41 +1,37 @@
-use Rattle.std.proofs.Common.{◌≡◌, ◌∙◌, [], refl, sym, subst, ap}
+use Rattle.std.proofs.Common.{◌≡◌, ◌∙◌, [], sym, subst, ap}
 use Rattle.sha2.specs.Sha256.{sha256}
-use Rattle.paw_image.specs.Images.{IsImage}
 use Rattle.paw_image.specs.inner.Views.{game_read}
-use Rattle.paw_effects.specs.Story.{Story, story_of}
+use Rattle.paw_effects.specs.Story.{story_of}
 use Rattle.paw_stage.specs.Stage.{Standing}
 use Rattle.paw_stage.proofs.Time.{Passes_map, Passes_on}
 use Rattle.paw_play.specs.Play.{InGame, store_bytes}
-use Rattle.paw_top.specs.Loads.{Holds}
-use Rattle.paw_top.specs.inner.Loads.{GivesNone}
-use Rattle.paw_top.specs.Sessions.{PlaysNewIn, plays, unopened}
+use Rattle.paw_top.specs.Ends.{plays}
+use Rattle.paw_top.specs.Sessions.{PlaysNewIn}
 use Rattle.paw_top.proofs.Answering.{kept_outside, played_faulted}
-use Rattle.paw_top.proofs.Images.{holds_loaded}
+use Rattle.paw_top.proofs.Images.{holds_given}
 use Rattle.paw_top.proofs.OpenedSessions.{still_new, game_moment, plays_game, same_story}
-use Rattle.paw_top.proofs.Refusals.{no_file, no_image}
+use Rattle.paw_top.proofs.Refusals.{unloaded, undecoded}
 use Rattle.paw_top.proofs.sessions.play.Goals as goal
 
+pub play_loop-requires-clause-game : goal.play_loop-requires-clause-game
+play_loop-requires-clause-game g c = c.digest-kept.ensures.value ∙ ap sha256 (c.bytes.ensures.value ∙ c.bytes.ensures.image.spelled)
+
 pub returns-in-Err-clause-plays : goal.returns-in-Err-clause-plays
-returns-in-Err-clause-plays g c = λ tells X rows. unopened c.in-Err.outcome (no_file c.args.image.now _ _ c.in-Err.outcome (c.in-Err.ensures.none tells))
+returns-in-Err-clause-plays g c = λ tells X rows. unloaded c.args.image.now _ _ c.in-Err.outcome (c.in-Err.ensures.none tells)
 
 pub returns-in-Err-clause-any_moment : goal.returns-in-Err-clause-any_moment
 returns-in-Err-clause-any_moment g c = λ tells s rows holds empty.
     Passes_map _ _ _ _ _ (InGame s c.args.seed c.args.store.now (g.S.Stage.standing c.args.stage.now)) (c.load.ensures.time tells)
-    (λ m e. still_new s c.args.seed c.args.store.now (g.S.Stage.standing c.args.stage.now) m e)
+    (still_new s c.args.seed c.args.store.now (g.S.Stage.standing c.args.stage.now))
 
 pub returns-in-Err-view_in-clause-plays : goal.returns-in-Err-view_in-clause-plays
 returns-in-Err-view_in-clause-plays g c = λ tells X rows.
-    unopened c.in-Err-view_in.outcome
-    (no_image c.args.image.now c.in-Ok.bytes.items _ _ c.in-Err-view_in.outcome (c.in-Ok.ensures.some tells)
-    (subst (λ b. GivesNone b c.in-Err-view_in.outcome) c.as_slice.ensures.value c.in-Err-view_in.ensures.none))
+    undecoded c.args.image.now _ _ _ _ c.in-Err-view_in.outcome c.as_slice.ensures.value (c.in-Ok.ensures.some tells) c.in-Err-view_in.ensures.none
 
 pub returns-in-Err-view_in-clause-any_moment : goal.returns-in-Err-view_in-clause-any_moment
 returns-in-Err-view_in-clause-any_moment g c = λ tells s rows holds empty.
     Passes_map _ _ _ _ _ (InGame s c.args.seed c.args.store.now (g.S.Stage.standing c.args.stage.now)) (c.load.ensures.time tells)
-    (λ m e. still_new s c.args.seed c.args.store.now (g.S.Stage.standing c.args.stage.now) m e)
-
-pub play_loop-requires-clause-game : goal.play_loop-requires-clause-game
-play_loop-requires-clause-game g c = c.digest-kept.ensures.value ∙ ap sha256 (c.bytes.ensures.value ∙ c.bytes.ensures.image.spelled)
+    (still_new s c.args.seed c.args.store.now (g.S.Stage.standing c.args.stage.now))
 
 pub returns-clause-outside : goal.returns-clause-outside
 returns-clause-outside g c = kept_outside c.play_loop.result c.outcome_of.result c.outcome_of.ensures.value c.play_loop.ensures.outside
@@ -43,24 +39,21 @@ returns-clause-outside g c = kept_outside c.play_loop.result c.outcome_of.result
 pub returns-clause-plays : goal.returns-clause-plays
 returns-clause-plays g c = λ tells X rows.
     let f = c.in-Ok.ensures.some tells in
-    let game = game_read c.in-Ok-view_in.view in
-    let holds = holds_loaded c.args.image.now c.in-Ok.bytes.items _ _ game f
-    (subst (λ b. IsImage b game) c.as_slice.ensures.value c.in-Ok-view_in.ensures.found) in
+    let game = game_read c.in-Ok-view_in.given in
     subst (PlaysNewIn X c.args.image.now c.args.store.now c.args.seed (g.S.Stage.standing c.args.stage.now)
     (g.S.Stage.standing c.play_loop.new.stage)) (sym c.outcome_of.ensures.value)
-    (plays game c.play_loop.result holds
+    (plays game c.play_loop.result (holds_given c.args.image.now _ _ _ _ game c.as_slice.ensures.value f c.in-Ok-view_in.ensures.found)
     (plays_game (story_of game X) c.args.seed c.args.store.now _ _ _ c.play_loop.result f.3 (c.play_loop.ensures.plays (c.load.ensures.tells.0 tells) X rows)))
 
 pub returns-clause-any_moment : goal.returns-clause-any_moment
 returns-clause-any_moment g c = λ tells s rows holds empty.
     let f = c.in-Ok.ensures.some tells in
     let old : Standing = g.S.Stage.standing c.args.stage.now in
-    let game = game_read c.in-Ok-view_in.view in
-    let mine : Holds old c.args.image.now game =
-    holds_loaded c.args.image.now c.in-Ok.bytes.items _ _ game f (subst (λ b. IsImage b game) c.as_slice.ensures.value c.in-Ok-view_in.ensures.found) in
+    let game = game_read c.in-Ok-view_in.given in
+    let mine = holds_given c.args.image.now _ _ old _ game c.as_slice.ensures.value f c.in-Ok-view_in.ensures.found in
     let same = same_story old c.args.image.now game s mine holds in
     Passes_on _ _ _ _ _ _ (InGame s c.args.seed c.args.store.now old) _
-    (Passes_map _ _ _ _ _ (InGame s c.args.seed c.args.store.now old) (c.load.ensures.time tells) (λ m e. still_new s c.args.seed c.args.store.now old m e))
+    (Passes_map _ _ _ _ _ (InGame s c.args.seed c.args.store.now old) (c.load.ensures.time tells) (still_new s c.args.seed c.args.store.now old))
     (c.play_loop.ensures.any_moment (c.load.ensures.tells.0 tells) s.rows rows (subst (λ q. store_bytes q c.args.store.now ≡ []) (sym f.3) empty))
     (λ m i. game_moment s (story_of game s.rows) c.args.seed c.args.store.now old (g.S.Stage.standing c.load.new.stage) m f.3 same i)
 

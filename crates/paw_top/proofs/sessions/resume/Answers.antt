@@ -1,77 +1,63 @@
-use Rattle.std.proofs.Common.{◌≡◌, ◌∙◌, sym, subst, ap}
+use Rattle.std.proofs.Common.{◌∙◌, sym, subst, ap}
 use Rattle.sha2.specs.Sha256.{sha256}
-use Rattle.paw_image.specs.Images.{IsImage}
 use Rattle.paw_image.specs.inner.Views.{game_read}
-use Rattle.paw_effects.specs.Story.{Story, story_of}
+use Rattle.paw_effects.specs.Story.{story_of}
 use Rattle.paw_stage.specs.Stage.{Standing}
 use Rattle.paw_stage.proofs.Time.{Passes_map, Passes_on}
 use Rattle.paw_play.specs.Play.{Played, InAgain, InGoingOn, kept_session, store_bytes}
 use Rattle.paw_play.proofs.Standing.{standing_shows, in_going_on}
-use Rattle.paw_top.specs.Loads.{Holds}
-use Rattle.paw_top.specs.inner.Loads.{GivesNone}
-use Rattle.paw_top.specs.Sessions.{PlaysAgainIn, GoesOnIn, plays, unopened, session_from, digest_of}
+use Rattle.paw_top.specs.Ends.{plays}
+use Rattle.paw_top.specs.Sessions.{PlaysAgainIn, GoesOnIn, session_from, digest_of}
 use Rattle.paw_top.proofs.Answering.{kept_outside, played_faulted}
 use Rattle.paw_top.proofs.Completing.{same_game}
-use Rattle.paw_top.proofs.Images.{holds_loaded}
+use Rattle.paw_top.proofs.Images.{holds_given}
 use Rattle.paw_top.proofs.OpenedSessions.{still_again, still_on, again_moment, plays_again, goes_on_in, shows_same, one_kept_session, same_story}
-use Rattle.paw_top.proofs.Refusals.{no_file, no_image}
+use Rattle.paw_top.proofs.Refusals.{unloaded, undecoded}
 use Rattle.paw_top.proofs.sessions.resume.Goals as goal
 
 pub returns-in-Err-clause-plays : goal.returns-in-Err-clause-plays
-returns-in-Err-clause-plays g c = λ tells X rows. unopened c.in-Err.outcome (no_file c.args.image.now _ _ c.in-Err.outcome (c.in-Err.ensures.none tells))
+returns-in-Err-clause-plays g c = λ tells X rows. unloaded c.args.image.now _ _ c.in-Err.outcome (c.in-Err.ensures.none tells)
 
 pub returns-in-Err-clause-goes_on : goal.returns-in-Err-clause-goes_on
 returns-in-Err-clause-goes_on g c = λ tells s seed es rows holds played stands.
-    unopened c.in-Err.outcome (no_file c.args.image.now _ _ c.in-Err.outcome (c.in-Err.ensures.none tells))
+    unloaded c.args.image.now _ _ c.in-Err.outcome (c.in-Err.ensures.none tells)
+
+pub returns-in-Err-view_in-clause-plays : goal.returns-in-Err-view_in-clause-plays
+returns-in-Err-view_in-clause-plays g c = λ tells X rows.
+    undecoded c.args.image.now _ _ _ _ c.in-Err-view_in.outcome c.as_slice.ensures.value (c.in-Ok.ensures.some tells) c.in-Err-view_in.ensures.none
+
+pub returns-in-Err-view_in-clause-goes_on : goal.returns-in-Err-view_in-clause-goes_on
+returns-in-Err-view_in-clause-goes_on g c = λ tells s seed es rows holds played stands.
+    undecoded c.args.image.now _ _ _ _ c.in-Err-view_in.outcome c.as_slice.ensures.value (c.in-Ok.ensures.some tells) c.in-Err-view_in.ensures.none
 
 pub returns-in-Err-clause-any_moment : goal.returns-in-Err-clause-any_moment
 returns-in-Err-clause-any_moment g c = λ tells s st piece rows holds shows.
     Passes_map _ _ _ _ _ (InAgain (session_from s c.args.store.now st piece) (g.S.Stage.standing c.args.stage.now)) (c.load.ensures.time tells)
-    (λ m e. still_again (session_from s c.args.store.now st piece) (g.S.Stage.standing c.args.stage.now) m e)
-
-pub returns-in-Err-clause-any_moment_on : goal.returns-in-Err-clause-any_moment_on
-returns-in-Err-clause-any_moment_on g c = λ tells s seed es rows holds played stands.
-    Passes_map _ _ _ _ _ (InGoingOn s seed es c.args.store.now (g.S.Stage.standing c.args.stage.now)) (c.load.ensures.time tells)
-    (λ m e. still_on s seed es c.args.store.now (g.S.Stage.standing c.args.stage.now) m e)
-
-pub returns-in-Err-view_in-clause-plays : goal.returns-in-Err-view_in-clause-plays
-returns-in-Err-view_in-clause-plays g c = λ tells X rows.
-    unopened c.in-Err-view_in.outcome
-    (no_image c.args.image.now c.in-Ok.bytes.items _ _ c.in-Err-view_in.outcome (c.in-Ok.ensures.some tells)
-    (subst (λ b. GivesNone b c.in-Err-view_in.outcome) c.as_slice.ensures.value c.in-Err-view_in.ensures.none))
-
-pub returns-in-Err-view_in-clause-goes_on : goal.returns-in-Err-view_in-clause-goes_on
-returns-in-Err-view_in-clause-goes_on g c = λ tells s seed es rows holds played stands.
-    unopened c.in-Err-view_in.outcome
-    (no_image c.args.image.now c.in-Ok.bytes.items _ _ c.in-Err-view_in.outcome (c.in-Ok.ensures.some tells)
-    (subst (λ b. GivesNone b c.in-Err-view_in.outcome) c.as_slice.ensures.value c.in-Err-view_in.ensures.none))
+    (still_again (session_from s c.args.store.now st piece) (g.S.Stage.standing c.args.stage.now))
 
 pub returns-in-Err-view_in-clause-any_moment : goal.returns-in-Err-view_in-clause-any_moment
 returns-in-Err-view_in-clause-any_moment g c = λ tells s st piece rows holds shows.
     Passes_map _ _ _ _ _ (InAgain (session_from s c.args.store.now st piece) (g.S.Stage.standing c.args.stage.now)) (c.load.ensures.time tells)
-    (λ m e. still_again (session_from s c.args.store.now st piece) (g.S.Stage.standing c.args.stage.now) m e)
+    (still_again (session_from s c.args.store.now st piece) (g.S.Stage.standing c.args.stage.now))
+
+pub returns-in-Err-clause-any_moment_on : goal.returns-in-Err-clause-any_moment_on
+returns-in-Err-clause-any_moment_on g c = λ tells s seed es rows holds played stands.
+    Passes_map _ _ _ _ _ (InGoingOn s seed es c.args.store.now (g.S.Stage.standing c.args.stage.now)) (c.load.ensures.time tells)
+    (still_on s seed es c.args.store.now (g.S.Stage.standing c.args.stage.now))
 
 pub returns-in-Err-view_in-clause-any_moment_on : goal.returns-in-Err-view_in-clause-any_moment_on
 returns-in-Err-view_in-clause-any_moment_on g c = λ tells s seed es rows holds played stands.
     Passes_map _ _ _ _ _ (InGoingOn s seed es c.args.store.now (g.S.Stage.standing c.args.stage.now)) (c.load.ensures.time tells)
-    (λ m e. still_on s seed es c.args.store.now (g.S.Stage.standing c.args.stage.now) m e)
-
-pub resume_loop-requires-clause-game : goal.resume_loop-requires-clause-game
-resume_loop-requires-clause-game g c = c.digest-kept.ensures.value ∙ ap sha256 (c.bytes.ensures.value ∙ c.bytes.ensures.image.spelled)
-
-pub returns-clause-outside : goal.returns-clause-outside
-returns-clause-outside g c = kept_outside c.resume_loop.result c.outcome_of.result c.outcome_of.ensures.value c.resume_loop.ensures.outside
+    (still_on s seed es c.args.store.now (g.S.Stage.standing c.args.stage.now))
 
 pub returns-clause-plays : goal.returns-clause-plays
 returns-clause-plays g c = λ tells X rows.
     let f = c.in-Ok.ensures.some tells in
-    let game = game_read c.in-Ok-view_in.view in
-    let holds = holds_loaded c.args.image.now c.in-Ok.bytes.items _ _ game f
-    (subst (λ b. IsImage b game) c.as_slice.ensures.value c.in-Ok-view_in.ensures.found) in
+    let game = game_read c.in-Ok-view_in.given in
     let kept = c.digest-kept.ensures.value ∙ ap sha256 (c.bytes.ensures.value ∙ c.bytes.ensures.image.spelled) in
     subst (PlaysAgainIn X c.args.image.now c.args.store.now (g.S.Stage.standing c.args.stage.now)
     (g.S.Stage.standing c.resume_loop.new.stage)) (sym c.outcome_of.ensures.value)
-    (plays game c.resume_loop.result holds
+    (plays game c.resume_loop.result (holds_given c.args.image.now _ _ _ _ game c.as_slice.ensures.value f c.in-Ok-view_in.ensures.found)
     (plays_again (story_of game X) (digest_of game) c.digest-kept.result c.args.store.now _ _ _ c.resume_loop.result f.3 kept
     (c.resume_loop.ensures.plays (c.load.ensures.tells.0 tells) X rows)))
 
@@ -80,9 +66,8 @@ returns-clause-any_moment g c = λ tells s st piece rows holds shows.
     let f = c.in-Ok.ensures.some tells in
     let old : Standing = g.S.Stage.standing c.args.stage.now in
     let mid : Standing = g.S.Stage.standing c.load.new.stage in
-    let game = game_read c.in-Ok-view_in.view in
-    let mine : Holds old c.args.image.now game =
-    holds_loaded c.args.image.now c.in-Ok.bytes.items _ _ game f (subst (λ b. IsImage b game) c.as_slice.ensures.value c.in-Ok-view_in.ensures.found) in
+    let game = game_read c.in-Ok-view_in.given in
+    let mine = holds_given c.args.image.now _ _ old _ game c.as_slice.ensures.value f c.in-Ok-view_in.ensures.found in
     let kept = c.digest-kept.ensures.value ∙ ap sha256 (c.bytes.ensures.value ∙ c.bytes.ensures.image.spelled) in
     let one = same_game old c.args.image.now game s.game mine holds in
     let p : Played = session_from s c.args.store.now st piece in
@@ -90,7 +75,7 @@ returns-clause-any_moment g c = λ tells s st piece rows holds shows.
     let same = one_kept_session s (story_of game s.rows) st piece c.args.store.now c.digest-kept.result
     (same_story old c.args.image.now game s mine holds) kept in
     Passes_on _ _ _ _ _ _ (InAgain p old) _
-    (Passes_map _ _ _ _ _ (InAgain p old) (c.load.ensures.time tells) (λ m e. still_again p old m e))
+    (Passes_map _ _ _ _ _ (InAgain p old) (c.load.ensures.time tells) (still_again p old))
     (c.resume_loop.ensures.any_moment (c.load.ensures.tells.0 tells) s.rows rows st piece
     (shows_same s.game game c.digest-kept.result c.args.store.now old mid st piece f.3 one kept shows))
     (λ m i. again_moment p k old mid m f.3 same i)
@@ -99,15 +84,20 @@ pub returns-clause-goes_on : goal.returns-clause-goes_on
 returns-clause-goes_on g c = λ tells s seed es rows holds played stands.
     let f = c.in-Ok.ensures.some tells in
     let old : Standing = g.S.Stage.standing c.args.stage.now in
-    let game = game_read c.in-Ok-view_in.view in
-    let mine : Holds old c.args.image.now game =
-    holds_loaded c.args.image.now c.in-Ok.bytes.items _ _ game f (subst (λ b. IsImage b game) c.as_slice.ensures.value c.in-Ok-view_in.ensures.found) in
+    let game = game_read c.in-Ok-view_in.given in
+    let mine = holds_given c.args.image.now _ _ old _ game c.as_slice.ensures.value f c.in-Ok-view_in.ensures.found in
     let kept = c.digest-kept.ensures.value ∙ ap sha256 (c.bytes.ensures.value ∙ c.bytes.ensures.image.spelled) in
     subst (GoesOnIn c.args.image.now c.args.store.now s seed es old (g.S.Stage.standing c.resume_loop.new.stage)) (sym c.outcome_of.ensures.value)
     (goes_on_in c.args.image.now c.args.store.now s (story_of game s.rows) seed es old (g.S.Stage.standing c.resume_loop.new.stage) c.resume_loop.result
     (same_story old c.args.image.now game s mine holds) mine
     (plays_again (story_of game s.rows) (digest_of game) c.digest-kept.result c.args.store.now _ _ _ c.resume_loop.result f.3 kept
     (c.resume_loop.ensures.plays (c.load.ensures.tells.0 tells) s.rows rows)) played stands)
+
+pub resume_loop-requires-clause-game : goal.resume_loop-requires-clause-game
+resume_loop-requires-clause-game g c = c.digest-kept.ensures.value ∙ ap sha256 (c.bytes.ensures.value ∙ c.bytes.ensures.image.spelled)
+
+pub returns-clause-outside : goal.returns-clause-outside
+returns-clause-outside g c = kept_outside c.resume_loop.result c.outcome_of.result c.outcome_of.ensures.value c.resume_loop.ensures.outside
 
 pub returns-clause-any_moment_on : goal.returns-clause-any_moment_on
 returns-clause-any_moment_on g c = λ tells s seed es rows holds played stands.

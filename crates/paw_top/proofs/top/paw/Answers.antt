@@ -43,10 +43,10 @@ returns-in-Some-Walk-clause-completes g c = λ tells none.
 pub returns-in-Some-Trace-clause-completes : goal.returns-in-Some-Trace-clause-completes
 returns-in-Some-Trace-clause-completes g c = λ tells none.
     let asked = rw c.in-Some-Trace.field-0-is at c.in-Some-Trace.ensures.value in
-    subst (λ q. Completes (g.S.Stage.standing c.args.stage.now) q c.trace.result) (sym asked)
+    subst (λ q. Completes (g.S.Stage.standing c.args.stage.now) q c.walk.result) (sym asked)
     (completes_walk reading_traced c.requires.rows.0 c.in-Some-Trace.image.now c.in-Some-Trace.seed _ _ _ _
-    c.trace.result (c.trace.ensures.traces tells c.requires.rows.0 c.requires.rows.1)
-    (outside_rose IsCall _ _ c.trace.result c.trace.ensures.outside c.trace.ensures.faulted) none)
+    c.walk.result (c.walk.ensures.walks tells c.requires.rows.0 c.requires.rows.1)
+    (outside_rose IsCall _ _ c.walk.result c.walk.ensures.outside c.walk.ensures.faulted) none)
 
 pub returns-in-Some-Play-clause-completes : goal.returns-in-Some-Play-clause-completes
 returns-in-Some-Play-clause-completes g c = λ tells none.

@@ -29,7 +29,4 @@ returns g c =
     let played = subst (λ g. PlaysGame (story_of g []) n store_name old new c.play_loop.result) c.game.ensures
     (subst (λ s. PlaysGame (story_of c.game.result.now []) s store_name old new c.play_loop.result) seed (c.play_loop.ensures.plays tt [] c.requires.rows)) in
     let comes = subst (ComesTo n (first_half n) new) (sym c.stop_of.ensures) (first_comes n old new c.play_loop.result lines played) in
-    record {
-      holds = comes_held n (first_half n) new c.stop_of.result comes;
-      stops = comes_stopped n (first_half n) new c.stop_of.result comes;
-    }
+    record { holds = comes_held n (first_half n) new c.stop_of.result comes; stops = comes_stopped n (first_half n) new c.stop_of.result comes }

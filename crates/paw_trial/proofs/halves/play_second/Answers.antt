@@ -37,7 +37,4 @@ returns g c =
     c.digest.ensures.digest (c.resume_loop.ensures.plays tt [] c.requires.rows)) in
     let comes = subst (ComesTo n (trial_lines n) new) (sym c.stop_of.ensures)
     (second_comes n old new c.resume_loop.result c.digest.ensures.small lines stands played) in
-    record {
-      holds = comes_held n (trial_lines n) new c.stop_of.result comes;
-      stops = comes_stopped n (trial_lines n) new c.stop_of.result comes;
-    }
+    record { holds = comes_held n (trial_lines n) new c.stop_of.result comes; stops = comes_stopped n (trial_lines n) new c.stop_of.result comes }

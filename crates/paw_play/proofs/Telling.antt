@@ -1,0 +1,152 @@
+-- What a walk tells of pieces: each as it is, or behind the text of its steps.
+use Rattle.std.proofs.Common.{◌≡◌, ℕ, zero, suc, List, [], ◌∷◌, ◌++◌, None, refl, sym, ap, ◌∙◌}
+use Rattle.std.proofs.Common.{length, take, arith, append_assoc, length-append}
+use Rattle.std.proofs.lemmas.Grind.{flat_map-append}
+use Rattle.std.proofs.lemmas.List.{append-nil}
+use Rattle.std.specs.Prelude.{◌-◌, flat_map}
+use Rattle.paw_base.specs.Steps.{KeptSteps}
+use Rattle.paw_base.specs.inner.Steps.{kept_steps}
+use Rattle.paw_stage.specs.Stage.{Standing, ShowsPart, with_shown}
+use Rattle.paw_stage.specs.Moments.{Moment, moment_of, InShow}
+use Rattle.paw_effects.specs.declared.act.Prompt.{Prompt}
+use Rattle.paw_reading.specs.declared.places.Frame.{Frame}
+use Rattle.paw_reading.specs.Run.{Run, Step as Read}
+use Rattle.paw_reading.specs.Reading.{Halt}
+use Rattle.paw_reading.specs.Turn.{WaitsAt, Halted}
+use Rattle.paw_turn.specs.inner.Player.{Seat, run_at}
+use Rattle.paw_turn.specs.declared.Step.{Step}
+use Rattle.paw_turn.specs.declared.Step.TheVariants as step
+use Rattle.paw_play.specs.Walk.{joined}
+use Rattle.paw_play.specs.Traces.{step_line, more_line, steps_text, traced_pieces}
+use Rattle.paw_play.specs.inner.Telling.{Telling, Plain, Stepped, kept_text, seat_text, HaveSteps}
+use Rattle.paw_play.specs.inner.Telling.{told_pieces, told_run, told_ending}
+use Rattle.paw_play.specs.inner.OnTheWay.{ShowsPiece, refusal_of}
+
+-- ---- texts ----
+
+joined_more : (pieces : List (List ℕ)) (piece : List ℕ) → joined (pieces ++ piece ∷ []) ≡ joined pieces ++ piece
+joined_more pieces piece = flat_map-append (λ p. p) pieces (piece ∷ []) ∙ ap (λ t. joined pieces ++ t) (append-nil piece)
+
+take_twice : (n : ℕ) (xs : List Read) → take n (take n xs) ≡ take n xs
+take_twice zero xs = refl
+take_twice (suc n) [] = refl
+take_twice (suc n) (x ∷ xs) = ap (λ ys. x ∷ ys) (take_twice n xs)
+
+-- what is kept of steps is told as the steps are
+kept_told : (k : KeptSteps) (steps : List Read) → k ≡ kept_steps steps → kept_text k ≡ steps_text steps
+kept_told k steps e =
+    ap kept_text e ∙ ap (λ xs. flat_map step_line xs ++ more_line (length steps - 1000)) (take_twice 1000 steps)
+
+-- one piece more
+traced_more : (pieces : List (List ℕ)) (traces : List (List Read)) (piece : List ℕ) (steps : List Read) → length traces ≡ length pieces →
+    traced_pieces (pieces ++ piece ∷ []) (traces ++ steps ∷ []) ≡ traced_pieces pieces traces ++ (steps_text steps ++ piece) ∷ []
+traced_more [] [] piece steps each = refl
+traced_more [] (t ∷ traces) piece steps each = absurd (omega (arith, each))
+traced_more (p ∷ pieces) [] piece steps each = absurd (omega (arith, each))
+traced_more (p ∷ pieces) (t ∷ traces) piece steps each =
+    ap (λ xs. (steps_text t ++ p) ∷ xs) (traced_more pieces traces piece steps (omega (arith, each)))
+
+-- one piece more of a player
+pub pieces_more : {F : Type 0} (telling : Telling) (next : Seat F) (pieces : List (List ℕ)) (traces : List (List Read)) (steps : List Read) →
+    HaveSteps telling pieces traces → next.machine.steps ≡ kept_steps steps →
+    joined (told_pieces telling (pieces ++ next.piece ∷ []) (traces ++ steps ∷ [])) ≡ joined (told_pieces telling pieces traces) ++ seat_text telling next
+pieces_more Plain next pieces traces steps each kept = joined_more pieces next.piece
+pieces_more Stepped next pieces traces steps each kept =
+    ap joined (traced_more pieces traces next.piece steps each) ∙ joined_more (traced_pieces pieces traces) (steps_text steps ++ next.piece)
+    ∙ ap (λ t. joined (traced_pieces pieces traces) ++ (t ++ next.piece)) (sym (kept_told next.machine.steps steps kept))
+
+-- and it has its steps
+pub steps_more : (telling : Telling) (pieces : List (List ℕ)) (traces : List (List Read)) (piece : List ℕ) (steps : List Read) →
+    HaveSteps telling pieces traces → HaveSteps telling (pieces ++ piece ∷ []) (traces ++ steps ∷ [])
+steps_more Plain pieces traces piece steps each = tt
+steps_more Stepped pieces traces piece steps each = omega (arith, length-append traces (steps ∷ []), length-append pieces (piece ∷ []), each)
+
+-- before the first piece there is none to tell
+pub told_none : (telling : Telling) → joined (told_pieces telling [] []) ≡ []
+told_none Plain = refl
+told_none Stepped = refl
+
+pub steps_none : (telling : Telling) → HaveSteps telling [] []
+steps_none Plain = tt
+steps_none Stepped = refl
+
+-- ---- endings ----
+
+pub waits_told : (telling : Telling) (p : Prompt) (path : List Frame) (r : Run) →
+    told_ending telling (WaitsAt p path r) ≡ WaitsAt p path (told_run telling r)
+waits_told Plain p path r = refl
+waits_told Stepped p path r = refl
+
+pub halts_told : (telling : Telling) (halt : Halt) (r : Run) → told_ending telling (Halted halt r) ≡ Halted halt (told_run telling r)
+halts_told Plain halt r = refl
+halts_told Stepped halt r = refl
+
+-- no line is told away
+pub same_lines : (telling : Telling) (r : Run) → (told_run telling r).events ≡ r.events
+same_lines Plain r = refl
+same_lines Stepped r = refl
+
+-- the closed pieces of a run with these, as they are told
+pub told_is : (telling : Telling) (r : Run) (pieces : List (List ℕ)) (traces : List (List Read)) → r.pieces ≡ pieces → r.traces ≡ traces →
+    joined (told_run telling r).pieces ≡ joined (told_pieces telling pieces traces)
+told_is Plain r pieces traces e f = ap joined e
+told_is Stepped r pieces traces e f = ap (λ ps. joined (traced_pieces ps r.traces)) e ∙ ap (λ ts. joined (traced_pieces pieces ts)) f
+
+-- the text of a player's last piece comes last
+pub told_more : {F : Type 0} (telling : Telling) (next : Seat F) (pieces : List (List ℕ)) (traces : List (List Read)) (steps : List Read) →
+    HaveSteps telling pieces traces → next.machine.steps ≡ kept_steps steps →
+    joined (told_run telling (run_at next (pieces ++ next.piece ∷ []) (traces ++ steps ∷ []) [])).pieces
+    ≡ joined (told_pieces telling pieces traces) ++ seat_text telling next
+told_more telling next pieces traces steps each kept =
+    told_is telling (run_at next (pieces ++ next.piece ∷ []) (traces ++ steps ∷ []) []) (pieces ++ next.piece ∷ []) (traces ++ steps ∷ []) refl refl
+    ∙ pieces_more telling next pieces traces steps each kept
+
+-- a step that isn't refused brings a piece
+pub shows_piece : (found : Step) → None ≡ refusal_of found → ShowsPiece found
+shows_piece (step.Waits p) h = tt
+shows_piece step.Ended h = tt
+shows_piece (step.Spent kind) h = cc
+shows_piece (step.TooDeep table) h = cc
+
+-- ---- one text behind another ----
+
+-- a first part of the first text
+part_of : (n : ℕ) (xs ys : List ℕ) → (m : ℕ) × (take n xs ≡ take m (xs ++ ys))
+part_of zero xs ys = (0, refl)
+part_of (suc n) [] ys = (0, refl)
+part_of (suc n) (x ∷ xs) ys = let k = part_of n xs ys in (suc k.0, ap (λ zs. x ∷ zs) k.1)
+
+-- the first text, and a first part of the second
+past_part : (n : ℕ) (xs ys : List ℕ) → (m : ℕ) × (xs ++ take n ys ≡ take m (xs ++ ys))
+past_part n [] ys = (n, refl)
+past_part n (x ∷ xs) ys = let k = past_part n xs ys in (suc k.0, ap (λ zs. x ∷ zs) k.1)
+
+module _ (old : Standing) (text more : List ℕ) where
+  -- a part of the first was shown
+  pub part_before : (new : Standing) → ShowsPart text old new → ShowsPart (text ++ more) old new
+  part_before new h = let k = part_of h.0 text more in (k.0, h.1 ∙ ap (λ t. with_shown t old) k.1)
+
+  pub moment_before : (m : Moment) → InShow old text m → InShow old (text ++ more) m
+  moment_before m i =
+      let k = part_of i.0 text more in (k.0, i.1 ∙ ap (λ t. record (moment_of old) { shown = old.shown ++ t }) k.1)
+
+  -- the first was shown, and the second or a part of it
+  pub both_shown : (mid new : Standing) → mid ≡ with_shown text old → new ≡ with_shown more mid → new ≡ with_shown (text ++ more) old
+  both_shown mid new e f = f ∙ ap (with_shown more) e ∙ ap (λ t. record old { shown = t }) (append_assoc old.shown text more)
+
+  pub part_after : (mid new : Standing) → mid ≡ with_shown text old → ShowsPart more mid new → ShowsPart (text ++ more) old new
+  part_after mid new e h =
+      let k = past_part h.0 text more in (
+        k.0,
+        h.1 ∙ ap (with_shown (take h.0 more)) e ∙ ap (λ t. record old { shown = t }) (append_assoc old.shown text (take h.0 more))
+            ∙ ap (λ t. with_shown t old) k.1,
+      )
+
+  pub moment_after : (mid : Standing) (m : Moment) → mid ≡ with_shown text old → InShow mid more m → InShow old (text ++ more) m
+  moment_after mid m e i =
+      let k = past_part i.0 text more in (
+        k.0,
+        i.1 ∙ ap (λ (q : Standing). record (moment_of q) { shown = q.shown ++ take i.0 more }) e
+            ∙ ap (λ t. record (moment_of old) { shown = t }) (append_assoc old.shown text (take i.0 more))
+            ∙ ap (λ t. record (moment_of old) { shown = old.shown ++ t }) k.1,
+      )

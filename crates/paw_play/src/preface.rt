@@ -1,0 +1,42 @@
+// What a walk shows before each piece.
+
+use paw_base::fault::NoRoom;
+use paw_base::steps::Steps;
+use std::alloc::Global;
+
+/// What a walk shows before each piece.
+pub trait Preface: Drop {
+    ghost use Rattle.std.specs.Prelude.{◌≡◌};
+    ghost use Rattle.paw_play.specs.inner.Telling.{Telling, preface};
+
+    /// How the pieces are told.
+    ghost telling: { Telling };
+
+    /// Takes the memory that it needs.
+    ///
+    /// # Errors
+    /// NoRoom where there is none.
+    fn new(alloc: Global) -> Result<Self, NoRoom>;
+
+    /// The text before a piece for which these steps were read.
+    fn text(&mut self, steps: &Steps) -> &[u8]
+        ensures text { result.now ≡ preface telling steps.now };
+}
+
+/// Nothing is shown before a piece.
+#[derive(Drop)]
+pub struct Nothing;
+
+impl Preface for Nothing {
+    ghost use Rattle.paw_play.specs.inner.Telling.{Plain};
+
+    ghost telling = { Plain };
+
+    fn new(_alloc: Global) -> Result<Nothing, NoRoom> {
+        Ok(Nothing)
+    }
+
+    fn text(&mut self, _steps: &Steps) -> &[u8] {
+        &[]
+    }
+}
