@@ -37,10 +37,11 @@ Uncommitted whole most old new =
     × (new ≡ played (with_store new old) (suc n) (text_of (whole (first_lines n old.lines))))
 
 -- the lines that were taken and the text that was shown, where playing on came to this: as in a walk, but that a commit
--- may fail
+-- may fail, and that memory is never wanting
 abbrev pub ShowsAs : EndingOf → ℕ → Standing → Standing → PlayEnd → Type 0
 ShowsAs whole most old new (end.Outside call.Write) = Uncommitted whole most old new
 ShowsAs whole most old new (end.Outside call.Sync) = Uncommitted whole most old new
+ShowsAs whole most old new end.Memory = ⊥
 ShowsAs whole most old new o = Walks whole most (with_store new old) new o
 
 -- What playing on comes to, where so many lines more may be taken.
