@@ -4,6 +4,7 @@ use Rattle.std.proofs.lemmas.List.{take-append-drop}
 use Rattle.paw_stage.specs.Disk.{IsStable}
 use Rattle.paw_stage.specs.Stage.{Standing}
 use Rattle.paw_stage.specs.Moments.{Moment, InShow}
+use Rattle.paw_stage.specs.declared.StageCall.{StageCall}
 use Rattle.paw_stage.specs.declared.StageCall.TheVariants as call
 use Rattle.paw_journal.proofs.Disks.{stable_leaves}
 use Rattle.paw_reading.specs.Turn.{reading, text_of}
@@ -13,10 +14,12 @@ use Rattle.paw_turn.specs.declared.Step.{Step}
 use Rattle.paw_turn.specs.declared.Step.TheVariants as step
 use Rattle.paw_journal.specs.Session.{Shown, IsUnmade, recover, kept_digest}
 use Rattle.paw_journal.specs.inner.Store.{IsBeside, InStore, Leaves}
+use Rattle.paw_journal.specs.Journal.{IsWriting}
 use Rattle.paw_play.specs.declared.PlayEnd.{PlayEnd}
 use Rattle.paw_play.specs.declared.PlayEnd.TheVariants as end
 use Rattle.paw_play.specs.declared.TheConstants.{MOST_EVENTS}
 use Rattle.paw_play.specs.Walk.{Walks}
+use Rattle.paw_play.specs.Keeping.{StaysAttached}
 use Rattle.paw_play.specs.Play.{Played, KeepsLines, InPlay, with_store}
 use Rattle.paw_play.specs.inner.Calls.{unless_ended}
 use Rattle.paw_play.specs.inner.Telling.{Plain}
@@ -94,16 +97,29 @@ module _ {F : Type 0} {g : Story} {s : Played} {first kept : Standing} {next : S
     ];
   }
 
+  -- the store stays attached, and no other file has changed
+  stays : StaysAttached s.name first kept
+  stays = record {
+    attached = b.beside.attached ∙ b.store.attached;
+    file = b.beside.file s.name b.store.attached b.store.file;
+    others = λ f other. b.beside.files f (not_this f other);
+  }
+
+  -- the session couldn't be made
+  pub not_begun : (c : StageCall) → IsWriting c → BegunAs s first kept (end.Outside c)
+  not_begun c (inl e) = rw e (beside_is first kept b.beside, stays)
+  not_begun c (inr e) = rw e (beside_is first kept b.beside, stays)
+
   -- once it is made
   module _ (stable : IsStable kept.disk) (is : recover kept.disk.bytes ≡ Shown s.digest (seat_state 0 next) next.piece) where
     rests : Rests s first kept 0
     rests = record {
       there = omega arith;
       few = omega (arith, b.new_one);
-      attached = b.beside.attached ∙ b.store.attached;
+      attached = stays.attached;
       stable = stable;
-      file = b.beside.file s.name b.store.attached b.store.file;
-      others = λ f other. b.beside.files f (not_this f other);
+      file = stays.file;
+      others = stays.others;
       keeps = subst (KeepsLines s first.lines 0) (sym is) keeps_none;
     }
 

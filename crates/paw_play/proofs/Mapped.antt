@@ -54,6 +54,8 @@ module _ (Kept By : ℕ → List ℕ → Type 0) (past : ℕ) (name : List ℕ) 
   leaves_by new (end.Outside call.Show) k = all_by new k
   leaves_by new (end.Spent kind) k = but_last_by new k
   leaves_by new (end.TooDeep table) k = but_last_by new k
+  leaves_by new (end.Outside call.Write) k = k
+  leaves_by new (end.Outside call.Sync) k = k
   leaves_by new _ k = tt
 
   pub plays_by : (whole : EndingOf) (most : ℕ) (new : Standing) (o : PlayEnd) →
@@ -98,5 +100,5 @@ module _ (Kept By : ℕ → List ℕ → Type 0) (name : List ℕ) (old : Standi
   plays_in_by whole new _ (memory e) = memory e
   plays_in_by whole new _ (spent kind r is e) = spent kind r is e
   plays_in_by whole new _ (too_deep table r is e) = too_deep table r is e
-  plays_in_by whole new _ (unmade c writes e) = unmade c writes e
+  plays_in_by whole new _ (unmade c writes e stays) = unmade c writes e stays
   plays_in_by whole new _ (plays o p) = plays o (plays_by Kept By 0 name old so whole MOST_EVENTS new o p)

@@ -23,7 +23,7 @@ use Rattle.paw_play.specs.declared.PlayEnd.{PlayEnd}
 use Rattle.paw_play.specs.declared.PlayEnd.TheVariants as end
 use Rattle.paw_play.specs.declared.TheConstants.{MOST_EVENTS}
 use Rattle.paw_play.specs.Walk.{first_lines, played, joined, Walks}
-use Rattle.paw_play.specs.Keeping.{IsPart, AgreesWith, KeepsUpWith, KeepsAllButLast}
+use Rattle.paw_play.specs.Keeping.{IsPart, AgreesWith, KeepsUpWith, StaysAttached, KeepsAllButLast}
 use Rattle.paw_play.specs.Play.{Played, KeepsLines, KeptBy, InPlay, with_store, Uncommitted, PlaysOn}
 use Rattle.paw_play.specs.inner.Calls.{unless_ended}
 use Rattle.paw_play.specs.inner.Telling.{Plain}
@@ -275,9 +275,17 @@ module _ {F : Type 0} {g : Story} {s : Played} {most n events : ℕ} {first now 
           ∙ ap (played (with_store kept first) (suc n)) (append-nil (joined w.walking.pieces) ∙ sym (text_is g s first now seat n w t.seated)),
     )
 
+    -- it leaves the store attached, and no other file has changed
+    stays : StaysAttached s.name first kept
+    stays = record {
+      attached = beside.attached ∙ attached_still;
+      file = beside.file s.name attached_still (subst (λ (q : Standing). q.files s.name ≡ Some q.disk.bytes) (sym t.took) w.rests.file);
+      others = λ f other. beside.files f (not_this f other) ∙ others_still f other;
+    }
+
     pub plays_not : (c : StageCall) → IsWriting c → PlaysOn s most first kept (end.Outside c)
-    plays_not c (inl e) = rw e (record { shows = uncommitted; session = tt })
-    plays_not c (inr e) = rw e (record { shows = uncommitted; session = tt })
+    plays_not c (inl e) = rw e (record { shows = uncommitted; session = stays })
+    plays_not c (inr e) = rw e (record { shows = uncommitted; session = stays })
 
     module _ (stable : IsStable kept.disk) (is : recover kept.disk.bytes ≡ Shown (kept_digest mid.disk.bytes) (seat_state events next) next.piece) where
       -- the store is at rest, and keeps all lines
@@ -285,10 +293,10 @@ module _ {F : Type 0} {g : Story} {s : Played} {most n events : ℕ} {first now 
       rests = record {
         there = there;
         few = all_few;
-        attached = beside.attached ∙ attached_still;
+        attached = stays.attached;
         stable = stable;
-        file = beside.file s.name attached_still (subst (λ (q : Standing). q.files s.name ≡ Some q.disk.bytes) (sym t.took) w.rests.file);
-        others = λ f other. beside.files f (not_this f other) ∙ others_still f other;
+        file = stays.file;
+        others = stays.others;
         keeps = subst (λ r. KeepsLines s first.lines (suc n) r) (sym (is ∙ ap (λ d. Shown d (seat_state events next) next.piece) digest_still)) keeps_more;
       }
 

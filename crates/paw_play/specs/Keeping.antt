@@ -52,6 +52,12 @@ pub record InMakingOf (Kept : ℕ → List ℕ → Type 0) (name : List ℕ) (ol
   pub files : (n : List ℕ) → n ≢ name → m.files n ≡ old.files n
   pub leaves : (image : List ℕ) → MayLeave m.disk image → IsUnmade (recover image) ⊎ Kept 0 image
 
+-- The store is attached, its file has its bytes, and no other file has changed.
+pub record StaysAttached (name : List ℕ) (old new : Standing) : Type 0 where
+  pub attached : new.attached ≡ Some name
+  pub file : new.files name ≡ Some new.disk.bytes
+  pub others : (f : List ℕ) → f ≢ name → new.files f ≡ old.files f
+
 -- The store is attached and at rest: a crash leaves just its bytes, which are those of its file. They keep n lines, and
 -- no other file has changed.
 pub record RestsWith (Kept : ℕ → List ℕ → Type 0) (past : ℕ) (name : List ℕ) (old new : Standing) (n : ℕ) : Type 0 where
@@ -71,7 +77,8 @@ KeepsAll Kept past name old new = (n : ℕ) × (new.asked ≡ old.asked + n) × 
 abbrev pub KeepsAllButLast : (ℕ → List ℕ → Type 0) → ℕ → List ℕ → Standing → Standing → Type 0
 KeepsAllButLast Kept past name old new = (n : ℕ) × (new.asked ≡ old.asked + suc n) × RestsWith Kept past name old new n
 
--- what the store keeps where playing on came to this
+-- What the store keeps where playing on came to this. Where a commit failed its bytes aren't told here: the moments of
+-- the call tell what a crash leaves of them.
 abbrev pub LeavesStore : (ℕ → List ℕ → Type 0) → ℕ → List ℕ → Standing → Standing → PlayEnd → Type 0
 LeavesStore Kept past name old new end.Ended = KeepsAll Kept past name old new
 LeavesStore Kept past name old new end.InputEnded = KeepsAll Kept past name old new
@@ -80,4 +87,6 @@ LeavesStore Kept past name old new (end.Outside call.Ask) = KeepsAll Kept past n
 LeavesStore Kept past name old new (end.Outside call.Show) = KeepsAll Kept past name old new
 LeavesStore Kept past name old new (end.Spent kind) = KeepsAllButLast Kept past name old new
 LeavesStore Kept past name old new (end.TooDeep table) = KeepsAllButLast Kept past name old new
+LeavesStore Kept past name old new (end.Outside call.Write) = StaysAttached name old new
+LeavesStore Kept past name old new (end.Outside call.Sync) = StaysAttached name old new
 LeavesStore Kept past name old new _ = Unit {0}

@@ -22,7 +22,7 @@ use Rattle.paw_play.specs.declared.TheConstants.{MOST_EVENTS}
 use Rattle.paw_play.specs.Walk.{EndingOf, first_lines, played, Walks}
 use Rattle.paw_play.specs.Session.{kept_bytes, IsKept}
 use Rattle.paw_play.specs.Stands.{StandsFor, text_since, reading_since}
-use Rattle.paw_play.specs.Keeping.{InSession, InMakingOf, LeavesStore}
+use Rattle.paw_play.specs.Keeping.{InSession, InMakingOf, StaysAttached, LeavesStore}
 
 -- ---- taking lines ----
 
@@ -79,8 +79,9 @@ pub data PlaysIn (Kept : ℕ → List ℕ → Type 0) (whole : EndingOf) (name :
       PlaysIn Kept whole name old new (end.Spent kind)
   too_deep : (table : ℕ) (r : Run) → whole [] ≡ Halted (CallsTooDeep table) r → new ≡ old →
       PlaysIn Kept whole name old new (end.TooDeep table)
-  -- the session couldn't be made; nothing was asked or shown
-  unmade : (c : StageCall) → IsWriting c → new ≡ with_store new old → PlaysIn Kept whole name old new (end.Outside c)
+  -- the session couldn't be made; nothing was asked or shown, and no other file has changed
+  unmade : (c : StageCall) → IsWriting c → new ≡ with_store new old → StaysAttached name old new →
+      PlaysIn Kept whole name old new (end.Outside c)
   plays : (o : PlayEnd) → PlaysWith Kept whole 0 name MOST_EVENTS old new o → PlaysIn Kept whole name old new o
 
 -- what playing a new session comes to

@@ -62,7 +62,7 @@ plays_in : (Kept : ℕ → List ℕ → Type 0) (whole : EndingOf) (name : List 
 plays_in Kept whole name old new first last _ (session.memory e) out none = tt
 plays_in Kept whole name old new first last _ (session.spent kind r is e) out none = tt
 plays_in Kept whole name old new first last _ (session.too_deep table r is e) out none = tt
-plays_in Kept whole name old new first last _ (session.unmade c w e) out none = absurd (none c (no_writing c w) out.1)
+plays_in Kept whole name old new first last _ (session.unmade c w e stays) out none = absurd (none c (no_writing c w) out.1)
 plays_in Kept whole name old new first last _ (session.plays o p) out none = plays_on _ _ old new first last o p.shows out none
 
 -- a store with bytes is refused for their number

@@ -106,7 +106,7 @@ module _ (n : ℕ) (old new : Standing) (is : old.lines ≡ first_half n) where
   begun _ (memory e) = tt
   begun _ (spent kind r e same) = stops_later n [] (trial_lines n) (end.Spent kind) refl (subst (StopsAs (end.Spent kind)) (sym e) refl)
   begun _ (too_deep table r e same) = stops_later n [] (trial_lines n) (end.TooDeep table) refl (subst (StopsAs (end.TooDeep table)) (sym e) refl)
-  begun _ (unmade c w e) = tt
+  begun _ (unmade c w e stays) = tt
   begun _ (plays o p) =
       half_comes n [] (first_half n) (second_half n) (both_halves n) (first_are n) (reading (trial_story n) n)
       (λ stop fs h. h) (λ fs h. h) 0 MOST_EVENTS old new o is p

@@ -29,7 +29,7 @@ use Rattle.paw_play.specs.declared.PlayEnd.TheVariants as end
 use Rattle.paw_play.specs.declared.TheConstants.{MOST_EVENTS}
 use Rattle.paw_play.specs.Session.{kept_bytes}
 use Rattle.paw_play.specs.Walk.{EndingOf, first_lines, played, joined, text_before, Walks}
-use Rattle.paw_play.specs.Keeping.{InMakingOf, RestsWith}
+use Rattle.paw_play.specs.Keeping.{InMakingOf, StaysAttached, RestsWith}
 use Rattle.paw_play.specs.Play.{Played, KeptBy, InPlay, PlaysOn, PlaysIn, with_store}
 use Rattle.paw_play.specs.inner.Telling.{Telling, Plain, HaveSteps, told_pieces, told_as}
 
@@ -129,8 +129,8 @@ pub record IsStore (name : List ℕ) (s : Standing) : Type 0 where
 abbrev pub BegunAs : Played → Standing → Standing → PlayEnd → Type 0
 BegunAs s first now (end.Spent kind) = (r : Run) × (s.whole [] ≡ Halted (RunsOut kind) r) × (now ≡ first)
 BegunAs s first now (end.TooDeep table) = (r : Run) × (s.whole [] ≡ Halted (CallsTooDeep table) r) × (now ≡ first)
-BegunAs s first now (end.Outside call.Write) = now ≡ with_store now first
-BegunAs s first now (end.Outside call.Sync) = now ≡ with_store now first
+BegunAs s first now (end.Outside call.Write) = (now ≡ with_store now first) × StaysAttached s.name first now
+BegunAs s first now (end.Outside call.Sync) = (now ≡ with_store now first) × StaysAttached s.name first now
 BegunAs s first now o = PlaysOn s MOST_EVENTS first now o
 
 -- the session is at its first prompt, or making it has come to this

@@ -5,7 +5,7 @@ use Rattle.paw_journal.specs.inner.Store.{InStore, Leaves}
 use Rattle.paw_play.specs.declared.line.Session.{Session}
 use Rattle.paw_play.specs.inner.Calls.{failed_so_far}
 use Rattle.paw_play.specs.inner.OnTheWay.{InNew, new_session}
-use Rattle.paw_play.proofs.Beginning.{begin_refused, begun, shown_as, in_making, in_first_show, begins_to}
+use Rattle.paw_play.proofs.Beginning.{begin_refused, begun, not_begun, shown_as, in_making, in_first_show, begins_to}
 use Rattle.paw_play.proofs.Following.{goes_on_unless, outside_unless, faulted_unless, keeps_unless}
 use Rattle.paw_stage.proofs.Counted.{Faulted_on}
 use Rattle.paw_effects.specs.Story.{story_of}
@@ -31,6 +31,13 @@ returns-in-Some-clause-meaning g c = λ tells X rows name store.
     begin_refused story (new_session story c.args.player.now.world.seed c.args.game.now name) _ c.start-step.result
     c.start-step.new.self c.in-Some.end (c.start-step.ensures.meaning X rows)
     (sym c.in-Some.ensures.value)
+
+pub returns-in-Err-clause-meaning : goal.returns-in-Err-clause-meaning
+returns-in-Err-clause-meaning g c = λ tells X rows name store.
+    let story = story_of c.args.player.now.game X in
+    let b = begun story c.args.player.now.world.seed c.args.game.now name _ _ c.start-step.new.self c.start-step.result store c.start-step.ensures.seated
+    c.start-step.ensures.last (c.start-step.ensures.meaning X rows) c.in_default.ensures.value (c.create.ensures.beside tells) in
+    not_begun b c.in-Err.call c.in-Err.ensures.cause
 
 pub returns-in-Err-clause-any_moment : goal.returns-in-Err-clause-any_moment
 returns-in-Err-clause-any_moment g c = λ tells X rows name store.
