@@ -31,7 +31,7 @@ use Rattle.paw_play.specs.Stands.{Stands, StandsFor, IsPlayedWith, text_since, r
 use Rattle.paw_play.specs.Keeping.{KeepsUpWith, InSession}
 use Rattle.paw_play.specs.Play.{PlaysWith, PlaysOn, KeptBy, ShowsState, Refuses, PlaysUp, no_state, plays_on, PlaysAgain, refused, wanting, plays_up}
 use Rattle.paw_play.specs.Play.{GoesOn, memory, unattached, unread, plays, InAgain, InGoingOn, going_on, kept_session, attached_to, store_bytes}
-use Rattle.paw_play.specs.inner.Laws.{ShowsSome, StandingShows, StandingGoesOn, Round, AreKept, left_after, RoundsStand}
+use Rattle.paw_play.specs.Laws.{ShowsSome, StandingShows, StandingGoesOn, Round, AreKept, left_after, RoundsStand}
 use Rattle.paw_play.proofs.Games.{count_lines}
 use Rattle.paw_play.proofs.Going.{IsSettled, goes_on, text_since_is, whole_kept}
 use Rattle.paw_play.proofs.Mapped.{plays_by, in_session_by}

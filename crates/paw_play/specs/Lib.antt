@@ -5,4 +5,5 @@ pub mod Session
 pub mod Stands
 pub mod Keeping
 pub mod Play
+pub mod Laws
 pub mod inner
