@@ -1,5 +1,5 @@
 -- A new session, from the attach of its store to its first prompt.
-use Rattle.std.proofs.Common.{◌≡◌, ◌≢◌, ℕ, ◌+◌, List, [], ◌++◌, Option, Some, None, refl, sym, ap, ◌∙◌, subst, take, drop, arith, inl, inr, ◌⊎◌}
+use Rattle.std.proofs.Common.{◌≡◌, ◌≢◌, ℕ, ◌+◌, List, [], ◌++◌, Option, Some, None, refl, sym, ap, ◌∙◌, subst, take, drop, length, arith, inl, inr, ◌⊎◌}
 use Rattle.std.proofs.lemmas.List.{take-append-drop}
 use Rattle.paw_stage.specs.Disk.{IsStable}
 use Rattle.paw_stage.specs.Stage.{Standing}
@@ -110,8 +110,9 @@ module _ {F : Type 0} {g : Story} {s : Played} {first kept : Standing} {next : S
   not_begun c (inl e) = rw e (beside_is first kept b.beside, stays)
   not_begun c (inr e) = rw e (beside_is first kept b.beside, stays)
 
-  -- once it is made
-  module _ (stable : IsStable kept.disk) (is : recover kept.disk.bytes ≡ Shown s.digest (seat_state 0 next) next.piece) where
+  -- once it is made in a store that was empty
+  module _ (empty : length first.disk.bytes ≡ 0) (stable : IsStable kept.disk)
+      (is : recover kept.disk.bytes ≡ Shown s.digest (seat_state 0 next) next.piece) where
     rests : Rests s first kept 0
     rests = record {
       there = omega arith;
@@ -121,6 +122,7 @@ module _ {F : Type 0} {g : Story} {s : Played} {first kept : Standing} {next : S
       file = stays.file;
       others = stays.others;
       keeps = subst (KeepsLines s first.lines 0) (sym is) keeps_none;
+      same = λ none some. absurd (omega (arith, empty, some));
     }
 
     -- inside the show of the first piece

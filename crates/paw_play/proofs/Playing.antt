@@ -298,6 +298,7 @@ module _ {F : Type 0} {g : Story} {s : Played} {most n events : ℕ} {first now 
         file = stays.file;
         others = stays.others;
         keeps = subst (λ r. KeepsLines s first.lines (suc n) r) (sym (is ∙ ap (λ d. Shown d (seat_state events next) next.piece) digest_still)) keeps_more;
+        same = λ none some. absurd (omega (arith, none));
       }
 
       -- inside the show of its piece

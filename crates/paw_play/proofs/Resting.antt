@@ -17,6 +17,7 @@ rests_as Kept By past name first kept new n lines asked text e so r = subst (λ 
   file = r.file;
   others = r.others;
   keeps = so r.keeps;
+  same = r.same;
 })
 
 pub rests_on : (s : Played) (first kept new : Standing) (n : ℕ) (lines : List (List ℕ)) (asked : ℕ) (text : List ℕ) →

@@ -141,6 +141,7 @@ module _ {F : Type 0} {g : Story} {name piece : List ℕ} {r : Restored} {first 
     file = u.store.file;
     others = λ f other. refl;
     keeps = keeps_now;
+    same = λ none some. refl;
   }
 
   rests_shown : (new : Standing) (text : List ℕ) → new ≡ record first { shown = text } → Rests (read_session g name piece r first) first new 0

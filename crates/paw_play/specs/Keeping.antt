@@ -2,7 +2,7 @@
 --
 -- Here `Kept n bytes` says that these bytes of the store keep the first n lines that are left when a call begins, and
 -- `told n` is the text for them. `past` is the number of lines that the session took before.
-use Rattle.std.specs.Prelude.{◌≡◌, ◌≢◌, ◌⊎◌, ℕ, zero, suc, ◌+◌, ◌≤◌, List, ◌++◌, length, Some}
+use Rattle.std.specs.Prelude.{◌≡◌, ◌≢◌, ◌⊎◌, ℕ, zero, suc, ◌+◌, ◌<◌, ◌≤◌, List, ◌++◌, length, Some}
 use Rattle.paw_stage.specs.Disk.{MayLeave, IsStable}
 use Rattle.paw_stage.specs.Stage.{Standing}
 use Rattle.paw_stage.specs.Moments.{Moment}
@@ -58,8 +58,8 @@ pub record StaysAttached (name : List ℕ) (old new : Standing) : Type 0 where
   pub file : new.files name ≡ Some new.disk.bytes
   pub others : (f : List ℕ) → f ≢ name → new.files f ≡ old.files f
 
--- The store is attached and at rest: a crash leaves just its bytes, which are those of its file. They keep n lines, and
--- no other file has changed.
+-- The store is attached and at rest: a crash leaves just its bytes, which are those of its file. They keep n lines; where
+-- that is none they are the bytes that it had, if it had any. No other file has changed.
 pub record RestsWith (Kept : ℕ → List ℕ → Type 0) (past : ℕ) (name : List ℕ) (old new : Standing) (n : ℕ) : Type 0 where
   pub there : n ≤ length old.lines
   pub few : past + n ≤ MOST_EVENTS
@@ -68,6 +68,7 @@ pub record RestsWith (Kept : ℕ → List ℕ → Type 0) (past : ℕ) (name : L
   pub file : new.files name ≡ Some new.disk.bytes
   pub others : (f : List ℕ) → f ≢ name → new.files f ≡ old.files f
   pub keeps : Kept n new.disk.bytes
+  pub same : n ≡ 0 → 0 < length old.disk.bytes → new.disk.bytes ≡ old.disk.bytes
 
 -- the store keeps all lines that were taken
 abbrev pub KeepsAll : (ℕ → List ℕ → Type 0) → ℕ → List ℕ → Standing → Standing → Type 0

@@ -54,7 +54,7 @@ returns-clause-meaning g c = λ tells X rows name store.
     let story = story_of c.args.player.now.game X in
     let b = begun story c.args.player.now.world.seed c.args.game.now name _ _ c.start-step.new.self c.start-step.result store c.start-step.ensures.seated
     c.start-step.ensures.last (c.start-step.ensures.meaning X rows) c.in_default.ensures.value (c.create.ensures.beside tells) in
-    rw c.unless_ended.ensures.value (begins_to b (c.in-Ok.ensures.kept tells).rests.stable
+    rw c.unless_ended.ensures.value (begins_to b (sym (c.requires.attached tells) ∙ c.requires.empty) (c.in-Ok.ensures.kept tells).rests.stable
     (c.in-Ok.ensures.shown tells ∙ shown_as _ c.put_state.ensures.state c.piece.ensures.value)
     _ (g.S.Stage.standing c.told.new.stage) c.told.result (c.in-Ok.ensures.digest tells) (c.told.ensures.meaning (c.create.ensures.tells.0 tells)))
 
@@ -69,7 +69,8 @@ returns-clause-any_moment g c = λ tells X rows name store.
     (Passes_map _ _ _ _ _ (InNew (new_session story c.args.player.now.world.seed c.args.game.now name) old)
     (c.create.ensures.any_moment tells) (λ m i. inl (in_making b m (subst (λ x. InStore old (Leaves (λ r. IsUnmade r ⊎ (r ≡ x))) m) same i))))
     (c.told.ensures.time (c.create.ensures.tells.0 tells))
-    (λ m i. inr (in_first_show b (c.in-Ok.ensures.kept tells).rests.stable (c.in-Ok.ensures.shown tells ∙ same) m i))
+    (λ m i. inr (in_first_show b (sym (c.requires.attached tells) ∙ c.requires.empty) (c.in-Ok.ensures.kept tells).rests.stable
+    (c.in-Ok.ensures.shown tells ∙ same) m i))
 
 pub returns-in-Some-clause-faulted : goal.returns-in-Some-clause-faulted
 returns-in-Some-clause-faulted g c = rw c.in-Some.ensures.fine (λ k. refl)
