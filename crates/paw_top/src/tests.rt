@@ -471,52 +471,6 @@ fn outcomes_have_their_status_and_text(rt: HostRuntime) -> Result<(), Fail> {
             "image damaged at 18446744073709551615\n",
         ),
         (
-            Outcome::Occupied { length: 4096 },
-            4,
-            "session has 4096 bytes already\n",
-        ),
-        (
-            Outcome::Unmade {
-                length: 3,
-                mark: 80,
-            },
-            4,
-            "no session: length 3, mark 80\n",
-        ),
-        (
-            Outcome::SessionDamaged {
-                part: SessionPart::Header,
-                at: 8,
-            },
-            4,
-            "session damaged: Header at 8\n",
-        ),
-        (
-            Outcome::SessionDamaged {
-                part: SessionPart::Slot,
-                at: 16,
-            },
-            4,
-            "session damaged: Slot at 16\n",
-        ),
-        (
-            Outcome::SessionDamaged {
-                part: SessionPart::State,
-                at: 256,
-            },
-            4,
-            "session damaged: State at 256\n",
-        ),
-        (
-            Outcome::WrongGame {
-                kept: [0x1f; 32],
-                found: [0xe0; 32],
-            },
-            4,
-            "session is of another game: kept 1f1f1f1f1f1f1f1f1f1f1f1f1f1f1f1f1f1f1f1f1f1f1f1f1f1f1f1f1f1f1f1f \
-            found e0e0e0e0e0e0e0e0e0e0e0e0e0e0e0e0e0e0e0e0e0e0e0e0e0e0e0e0e0e0e0e0\n",
-        ),
-        (
             Outcome::Spent(SpentKind::Condacts),
             5,
             "piece spent its condacts\n",
@@ -558,6 +512,64 @@ fn outcomes_have_their_status_and_text(rt: HostRuntime) -> Result<(), Fail> {
         assert_eq!(rt; outcome.status(), status, "{text}");
         let written = outcome.text(rt.alloc())?;
         assert_eq!(rt; written.as_str(), text);
+    }
+    Ok(())
+}
+
+#[test]
+fn answers_for_a_store_have_their_status_and_text(rt: HostRuntime) -> Result<(), Fail> {
+    let answers: [(Outcome, u8, &[u8]); 6] = [
+        (
+            Outcome::Occupied { length: 4096 },
+            4,
+            b"session has 4096 bytes already\n",
+        ),
+        (
+            Outcome::Unmade {
+                length: 3,
+                mark: 80,
+            },
+            4,
+            b"no session: length 3, mark 80\n",
+        ),
+        (
+            Outcome::SessionDamaged {
+                part: SessionPart::Header,
+                at: 8,
+            },
+            4,
+            b"session damaged: Header at 8\n",
+        ),
+        (
+            Outcome::SessionDamaged {
+                part: SessionPart::Slot,
+                at: 16,
+            },
+            4,
+            b"session damaged: Slot at 16\n",
+        ),
+        (
+            Outcome::SessionDamaged {
+                part: SessionPart::State,
+                at: 256,
+            },
+            4,
+            b"session damaged: State at 256\n",
+        ),
+        (
+            Outcome::WrongGame {
+                kept: [0x1f; 32],
+                found: [0xe0; 32],
+            },
+            4,
+            b"session is of another game: kept 1f1f1f1f1f1f1f1f1f1f1f1f1f1f1f1f1f1f1f1f1f1f1f1f1f1f1f1f1f1f1f1f \
+            found e0e0e0e0e0e0e0e0e0e0e0e0e0e0e0e0e0e0e0e0e0e0e0e0e0e0e0e0e0e0e0e0\n",
+        ),
+    ];
+    for (outcome, status, text) in answers {
+        assert_eq!(rt; outcome.status(), status);
+        let written = outcome.text(rt.alloc())?;
+        assert_eq!(rt; written.as_str().as_bytes(), text);
     }
     Ok(())
 }
