@@ -11,7 +11,7 @@ use Rattle.paw_play.specs.declared.PlayEnd.{PlayEnd}
 use Rattle.paw_play.specs.Stands.{Stands, IsPlayedWith}
 use Rattle.paw_play.specs.Play.{Played, NotYet, InGame, InAgain, InGoingOn, PlaysGame, PlaysAgain, ShowsState, kept_session, store_bytes}
 use Rattle.paw_play.proofs.Standing.{standing_again}
-use Rattle.paw_top.specs.Commands.{Command, Play, Resume}
+use Rattle.paw_top.specs.Commands.{Command, Walk, Trace, Play, Resume}
 use Rattle.paw_top.specs.Ends.{outcome_of}
 use Rattle.paw_top.specs.Loads.{Holds}
 use Rattle.paw_top.specs.Sessions.{session_from, digest_of, GoesOnIn}
@@ -89,3 +89,17 @@ for_resume P asked i s j t h q p =
     let e : i ≡ j = cc in
     let f : s ≡ t = cc in
     subst (λ x. P x t) e (subst (λ x. P i x) f p)
+
+pub for_walk : (P : List ℕ → ℕ → Type 0) (asked : Option Command) (i : List ℕ) (n : ℕ) (j : List ℕ) (k : ℕ) →
+    asked ≡ Some (Walk i n) → asked ≡ Some (Walk j k) → P i n → P j k
+for_walk P asked i n j k h q p =
+    let e : i ≡ j = cc in
+    let f : n ≡ k = cc in
+    subst (λ x. P x k) e (subst (λ x. P i x) f p)
+
+pub for_trace : (P : List ℕ → ℕ → Type 0) (asked : Option Command) (i : List ℕ) (n : ℕ) (j : List ℕ) (k : ℕ) →
+    asked ≡ Some (Trace i n) → asked ≡ Some (Trace j k) → P i n → P j k
+for_trace P asked i n j k h q p =
+    let e : i ≡ j = cc in
+    let f : n ≡ k = cc in
+    subst (λ x. P x k) e (subst (λ x. P i x) f p)

@@ -9,12 +9,12 @@ use Rattle.paw_play.specs.Stands.{Stands, IsPlayedWith}
 use Rattle.paw_top.specs.Loads.{Holds}
 use Rattle.paw_top.specs.Sessions.{digest_of, session_from, GoesOnIn}
 use Rattle.paw_top.specs.Completes.{Completes}
-use Rattle.paw_top.specs.Walk.{reading_traced}
+use Rattle.paw_top.specs.Walk.{WalksIn, TracesIn, reading_traced}
 use Rattle.paw_top.specs.Answers.{IsCall, IsKeptCall, IsCompileCall, IsDecompileCall, IsTrialCall}
 use Rattle.paw_top.proofs.Answering.{outside_rose}
 use Rattle.paw_top.proofs.Completing.{completes_compile, completes_decompile, completes_walk}
 use Rattle.paw_top.proofs.CompletingSessions.{completes_play, completes_resume}
-use Rattle.paw_top.proofs.OpenedSessions.{for_play, for_resume}
+use Rattle.paw_top.proofs.OpenedSessions.{for_walk, for_trace, for_play, for_resume}
 use Rattle.paw_top.proofs.Trying.{completes_trial}
 use Rattle.paw_top.proofs.top.paw.Goals as goal
 
@@ -43,10 +43,10 @@ returns-in-Some-Walk-clause-completes g c = λ tells none.
 pub returns-in-Some-Trace-clause-completes : goal.returns-in-Some-Trace-clause-completes
 returns-in-Some-Trace-clause-completes g c = λ tells none.
     let asked = rw c.in-Some-Trace.field-0-is at c.in-Some-Trace.ensures.value in
-    subst (λ q. Completes (g.S.Stage.standing c.args.stage.now) q c.walk.result) (sym asked)
+    subst (λ q. Completes (g.S.Stage.standing c.args.stage.now) q c.walk-in-Some-Trace.result) (sym asked)
     (completes_walk reading_traced c.requires.rows.0 c.in-Some-Trace.image.now c.in-Some-Trace.seed _ _ _ _
-    c.walk.result (c.walk.ensures.walks tells c.requires.rows.0 c.requires.rows.1)
-    (outside_rose IsCall _ _ c.walk.result c.walk.ensures.outside c.walk.ensures.faulted) none)
+    c.walk-in-Some-Trace.result (c.walk-in-Some-Trace.ensures.walks tells c.requires.rows.0 c.requires.rows.1)
+    (outside_rose IsCall _ _ c.walk-in-Some-Trace.result c.walk-in-Some-Trace.ensures.outside c.walk-in-Some-Trace.ensures.faulted) none)
 
 pub returns-in-Some-Play-clause-completes : goal.returns-in-Some-Play-clause-completes
 returns-in-Some-Play-clause-completes g c = λ tells none.
@@ -70,6 +70,19 @@ returns-in-Some-Trial-clause-completes g c = λ tells none.
     subst (λ q. Completes (g.S.Stage.standing c.args.stage.now) q c.trial.result) (sym asked)
     (completes_trial c.in-Some-Trial.n _ _ _ _ c.trial.result (c.trial.ensures.tries tells)
     (outside_rose IsTrialCall _ _ c.trial.result c.trial.ensures.outside c.trial.ensures.faulted) none)
+
+pub returns-in-Some-Walk-clause-walks : goal.returns-in-Some-Walk-clause-walks
+returns-in-Some-Walk-clause-walks g c = λ tells image seed asked.
+    for_walk (λ i n. (X : List (List ℕ)) → AreRowsOf g.F.Fn c.args.routines.now X →
+    WalksIn X i n (g.S.Stage.standing c.args.stage.now) (g.S.Stage.standing c.walk.new.stage) c.walk.result) _ _ _ image seed
+    (rw c.in-Some-Walk.field-0-is at c.in-Some-Walk.ensures.value) asked (c.walk.ensures.walks tells)
+
+pub returns-in-Some-Trace-clause-traces : goal.returns-in-Some-Trace-clause-traces
+returns-in-Some-Trace-clause-traces g c = λ tells image seed asked.
+    let walked = c.walk-in-Some-Trace in
+    for_trace (λ i n. (X : List (List ℕ)) → AreRowsOf g.F.Fn c.args.routines.now X →
+    TracesIn X i n (g.S.Stage.standing c.args.stage.now) (g.S.Stage.standing walked.new.stage) walked.result) _ _ _ image seed
+    (rw c.in-Some-Trace.field-0-is at c.in-Some-Trace.ensures.value) asked (walked.ensures.walks tells)
 
 pub returns-in-Some-Play-clause-any_moment_of_play : goal.returns-in-Some-Play-clause-any_moment_of_play
 returns-in-Some-Play-clause-any_moment_of_play g c = λ tells image store seed asked.
