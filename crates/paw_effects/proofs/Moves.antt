@@ -8,7 +8,7 @@ use Rattle.std.proofs.lemmas.List.Sums.{fold-append}
 use Rattle.paw_world.proofs.WorldLemmas.{place-moved_other, length-moved}
 use Rattle.paw_game.specs.Game.{GameLists}
 use Rattle.paw_world.specs.World.{World, with_flag, place, with_place, let_go, taken_up, moved, here}
-use Rattle.paw_effects.specs.Built.{IsOf}
+use Rattle.paw_effects.specs.Worlds.{IsOf}
 use Rattle.paw_effects.specs.Presence.{named_place, held_objects, is_held}
 use Rattle.paw_effects.specs.MoveActions.{all_dropped, moved_if_place, names_place}
 

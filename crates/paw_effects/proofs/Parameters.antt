@@ -11,7 +11,7 @@ use Rattle.paw_game.specs.Game.{GameLists}
 use Rattle.paw_game.specs.inner.Valid.{is_right, is_argument}
 use Rattle.paw_game.proofs.Right.{right-code, right-first, right-second}
 use Rattle.paw_world.specs.World.{World}
-use Rattle.paw_effects.specs.Built.{IsOf}
+use Rattle.paw_effects.specs.Worlds.{IsOf}
 use Rattle.paw_effects.specs.inner.Parameters.{takes_object, takes_second_object}
 
 is_object : ParamKind → Bool

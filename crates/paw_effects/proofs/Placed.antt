@@ -24,7 +24,7 @@ use Rattle.paw_world.specs.World.{World, Position, flag, with_flag, place, with_
 use Rattle.paw_effects.specs.declared.object_actions.Action.{Action}
 use Rattle.paw_effects.specs.declared.object_actions.Action.TheVariants as action
 use Rattle.paw_effects.specs.declared.object_words.Words.{Words}
-use Rattle.paw_effects.specs.Built.{ArePlacesOf, StandsIn, StandAtPlaces}
+use Rattle.paw_effects.specs.Worlds.{ArePlacesOf, StandsIn, StandAtPlaces}
 use Rattle.paw_effects.specs.Done.{Done}
 use Rattle.paw_effects.specs.Story.{Story}
 use Rattle.paw_routines.specs.Rows.{value_at}

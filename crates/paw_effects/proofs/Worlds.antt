@@ -19,7 +19,7 @@ use Rattle.paw_game.specs.Valid.{Valid, is_place, is_parameter, is_within, is_wo
 use Rattle.paw_game.proofs.Kept.{first_of_and, second_of_and, facts_kept, facts-weight}
 use Rattle.paw_world.specs.World.{World, flag, with_flag, place, with_place, here, let_go, taken_up, moved, first_carried, flags_with, opening_places, starting_world, restarted, with_objects_returned}
 use Rattle.paw_world.specs.Weight.{own_weight, weighs_contents, weight_down, weight, objects_at}
-use Rattle.paw_effects.specs.Built.{IsOf, ArePlacesOf}
+use Rattle.paw_effects.specs.Worlds.{IsOf, ArePlacesOf}
 use Rattle.paw_effects.specs.Presence.{named_place}
 use Rattle.paw_effects.specs.Standing.{AreBytes}
 use Rattle.paw_effects.specs.inner.Standing.{MayBePosition, IsWorldOf}

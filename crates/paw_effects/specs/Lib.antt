@@ -1,6 +1,6 @@
 pub mod Presence
 pub mod Chance
-pub mod Built
+pub mod Worlds
 pub mod Texts
 pub mod PlaceTests
 pub mod FlagTests

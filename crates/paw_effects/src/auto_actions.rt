@@ -1,7 +1,7 @@
 // The actions that find their object by the sentence.
 
 ghost use Rattle.std.specs.Prelude.{◌≡◌, ◌<◌, length, IfSome, IsTrue};
-ghost use Rattle.paw_effects.specs.Built.{IsOf};
+ghost use Rattle.paw_effects.specs.Worlds.{IsOf};
 ghost use Rattle.paw_effects.specs.inner.Done.{Does};
 ghost use Rattle.paw_effects.specs.inner.Parameters.{takes_object};
 ghost use Rattle.paw_effects.specs.declared.object_actions.Action.TheVariants as action;

@@ -1,4 +1,5 @@
-// The counts that a game tells: its turns and its score.
+// The counts that a game tells: its turns and its score. Where nothing is printed the empty text is pushed, whose
+// clause tells the proof that the piece fits.
 
 ghost use Rattle.std.specs.Prelude.{◌≡◌};
 ghost use Rattle.paw_base.specs.inner.Piece.{Puts};

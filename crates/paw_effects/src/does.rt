@@ -3,7 +3,7 @@
 ghost use Rattle.std.specs.Prelude.{◌≡◌, ◌+◌, ◌-◌, ◌<◌, ◌≤◌, ◌^◌, ◌++◌, ℕ, List, true, false, []};
 ghost use Rattle.paw_base.specs.inner.Piece.{piece_limit};
 ghost use Rattle.paw_game.specs.inner.Valid.{is_right};
-ghost use Rattle.paw_effects.specs.Built.{IsOf};
+ghost use Rattle.paw_effects.specs.Worlds.{IsOf};
 ghost use Rattle.paw_effects.specs.Holds.{is_condition, holds, truth_of, moves};
 ghost use Rattle.paw_effects.specs.Effects.{effect_of, Does};
 ghost use Rattle.paw_effects.specs.FlagActions.{routine_answered};

@@ -3,7 +3,7 @@
 ghost use Rattle.std.specs.Prelude.{◌≡◌, ◌+◌, ◌-◌, ◌<◌, ◌≤◌, ◌^◌, length, IsTrue};
 ghost use Rattle.paw_game.specs.Game.{GameLists};
 ghost use Rattle.paw_world.specs.World.{with_flag, drawn_on};
-ghost use Rattle.paw_effects.specs.Built.{IsOf};
+ghost use Rattle.paw_effects.specs.Worlds.{IsOf};
 ghost use Rattle.paw_effects.specs.Chance.{rolled};
 ghost use Rattle.paw_effects.specs.inner.Parameters.{takes_object};
 ghost use Rattle.paw_effects.specs.FlagActions.{change_of};
@@ -37,6 +37,7 @@ pub(crate) fn change(world: &mut World, c: Condact)
     ensures game { (g : GameLists) → IsOf g world.old → IsOf g world.new }
     ensures draws { world.new.draws ≤ world.old.draws + 1 }
 {
+    // Its clause says that the world is sound, which the proof wants. No call of it is left in the program.
     let _objects = world.objects();
     match c.code {
         RAMSAVE => world.ramsave(),

@@ -1,4 +1,4 @@
-// Lists of objects.
+// Lists of objects. The empty text that is pushed where nothing is printed tells the proof that the piece fits.
 
 ghost use Rattle.std.specs.Prelude.{◌≡◌, ◌<◌, ◌++◌, ◌∷◌, [], length, IfSome, IfNone, Some, None};
 ghost use Rattle.paw_base.specs.inner.Piece.{Puts};

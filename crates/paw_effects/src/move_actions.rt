@@ -2,7 +2,7 @@
 
 ghost use Rattle.std.specs.Prelude.{◌≡◌, ◌<◌, length, IsTrue};
 ghost use Rattle.paw_game.specs.Game.{GameLists};
-ghost use Rattle.paw_effects.specs.Built.{IsOf};
+ghost use Rattle.paw_effects.specs.Worlds.{IsOf};
 ghost use Rattle.paw_effects.specs.inner.Parameters.{takes_object, takes_second_object};
 ghost use Rattle.paw_effects.specs.MoveActions.{move_of, all_dropped, swapped, referred_moved};
 ghost use Rattle.paw_effects.specs.MoveActions.{moved_if_place, names_place, reset};

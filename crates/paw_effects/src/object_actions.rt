@@ -1,7 +1,7 @@
 // The actions on an object.
 
 ghost use Rattle.std.specs.Prelude.{◌≡◌, ◌<◌, length};
-ghost use Rattle.paw_effects.specs.Built.{IsOf};
+ghost use Rattle.paw_effects.specs.Worlds.{IsOf};
 ghost use Rattle.paw_effects.specs.inner.Done.{Does};
 ghost use Rattle.paw_effects.specs.ObjectActions.{destination, outcome, refuses, acted_on};
 

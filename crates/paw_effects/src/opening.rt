@@ -6,10 +6,8 @@ ghost use Rattle.paw_effects.specs.inner.Opening.{opening_world};
 
 use paw_base::limits::OBJECT_LIMIT;
 use paw_base::parts::ObjectFacts;
-use paw_base::places::NOT_CREATED_PLACE;
-use paw_base::words::NO_WORD;
 use paw_game::tables::Tables;
-use paw_world::world::World;
+use paw_world::world::{NO_OBJECT, World};
 
 /// Writes down the facts of a game's objects.
 fn take_facts<T: Tables>(tables: &T, facts: &mut [ObjectFacts])
@@ -31,15 +29,7 @@ pub fn opening_world<T: Tables>(tables: &T, seed: u64) -> World
     ensures value { result ≡ opening_world (T.game tables.now) seed }
 {
     let counts = tables.counts();
-    let none = ObjectFacts {
-        noun: NO_WORD,
-        adjective: NO_WORD,
-        start: NOT_CREATED_PLACE,
-        weight: 0,
-        container: false,
-        wearable: false,
-    };
-    let mut facts = [none; OBJECT_LIMIT];
+    let mut facts = [NO_OBJECT; OBJECT_LIMIT];
     let all = &mut facts[..counts.objects as usize];
     take_facts(tables, all);
     World::new(all, counts.locations as u8, seed)

@@ -2,7 +2,7 @@
 
 ghost use Rattle.std.specs.Prelude.{◌≡◌, ◌<◌};
 ghost use Rattle.paw_game.specs.Game.{GameLists};
-ghost use Rattle.paw_effects.specs.Built.{IsOf};
+ghost use Rattle.paw_effects.specs.Worlds.{IsOf};
 ghost use Rattle.paw_effects.specs.inner.Done.{Does};
 ghost use Rattle.paw_effects.specs.Positions.{keeping_of, loaded, position_number};
 ghost use Rattle.paw_world.specs.World.{kept_position};
@@ -34,6 +34,7 @@ fn load<T: Tables>(tables: &T, world: &mut World, piece: &mut Piece, n: u8) -> A
     ensures draws { world.new.draws ≡ world.old.draws }
 {
     print_nothing(piece);
+    // Its clause says that the world is sound, which the proof wants. No call of it is left in the program.
     let _objects = world.objects();
     if world.recall(n) {
         on(Effect::Redescribe)

@@ -1,7 +1,7 @@
 // Referring to an object.
 
 ghost use Rattle.std.specs.Prelude.{◌≡◌, ◌<◌, length};
-ghost use Rattle.paw_effects.specs.Built.{IsOf};
+ghost use Rattle.paw_effects.specs.Worlds.{IsOf};
 ghost use Rattle.paw_effects.specs.Referring.{weight_class, referred, referred_to_none};
 
 use paw_base::flags::{
@@ -22,6 +22,7 @@ pub fn refer<T: Tables>(tables: &T, world: &mut World, o: u8)
     ensures game { IsOf (T.game tables.now) world.new }
     ensures draws { world.new.draws ≡ world.old.draws }
 {
+    // The tables stand here for the clauses alone, which name their game: the world has what the code asks for.
     let _ = tables;
     let place = world.place(o);
     world.set_flag(REFERRED_FLAG, o);

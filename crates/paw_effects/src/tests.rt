@@ -1,7 +1,7 @@
 // Condacts of a small game, read one after the other.
 
 ghost use Rattle.std.specs.Prelude.{◌≡◌, ◌+◌, ◌-◌, ◌/◌, ◌%◌, ◌==◌, ◌<◌, ◌^◌, IfOk, count_ones, map, if◌then◌else◌};
-ghost use Rattle.paw_effects.specs.Built.{IsOf};
+ghost use Rattle.paw_effects.specs.Worlds.{IsOf};
 ghost use Rattle.paw_routines.specs.Routines.{HaveRows};
 
 mod object_actions;

@@ -1,4 +1,5 @@
-// The texts that a game prints into a piece.
+// The texts that a game prints into a piece. A function that prints nothing in some case pushes the empty text there:
+// the clause of the push says what the clause of the whole has to, that the piece is as it was and fits.
 
 ghost use Rattle.std.specs.Prelude.{◌≡◌, ◌+◌, ◌++◌, ◌<◌, ◌≤◌, List, [], ℕ, length, IfSome, IfNone, ◌==◌, Some, decimal};
 ghost use Rattle.paw_base.specs.inner.Piece.{Puts, piece_limit};
@@ -118,7 +119,8 @@ pub fn place_text<T: Tables>(tables: &T, world: &World, piece: &mut Piece, locat
     }
 }
 
-/// Prints nothing: the piece holds what it held, which fits.
+/// Prints nothing: the piece holds what it held, which fits. Only the proof wants it, for the clause of an action that
+/// prints nothing.
 pub(crate) fn print_nothing(piece: &Piece)
     ensures same { piece.now ≡ piece.now ++ [] }
     ensures fits { length piece.now + 0 ≤ piece_limit }

@@ -9,6 +9,7 @@ ghost use Rattle.paw_game.specs.inner.Tables.{first_match, match_at, text_at};
 
 use crate::parts::{Entry, Exit, GamePart, GameParts, ObjectRow, Text, Word};
 use paw_base::parts::{Condact, ObjectFacts};
+use paw_base::words::{ANY_WORD, NO_WORD};
 
 pub(crate) fn facts_at(parts: &GameParts, object: u8) -> Option<ObjectFacts>
     ensures value { result ≡ facts_at parts.now object }
@@ -113,7 +114,7 @@ fn matches(entry: &Entry, verb: u8, noun: u8) -> bool
 pub fn is_for(word: u8, flag: u8) -> bool
     ensures value { result ≡ is_for word flag }
 {
-    word == 1 || word == 255 || word == flag
+    word == ANY_WORD || word == NO_WORD || word == flag
 }
 
 pub(crate) fn word_at(parts: &GameParts, letters: &[u8; 5]) -> Option<(u8, u8)>

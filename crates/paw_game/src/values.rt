@@ -6,19 +6,20 @@ ghost use Rattle.paw_game.specs.Valid.{is_any};
 ghost use Rattle.paw_game.specs.inner.Values.{Tells};
 
 use crate::parts::Word;
+use paw_base::words::{ANY_WORD, NO_WORD};
 
 /// Whether a word of an entry matches any word of a sentence.
 pub fn is_any(value: u8) -> bool
     ensures value { result ≡ is_any value }
 {
-    value == 1 || value == 255
+    value == ANY_WORD || value == NO_WORD
 }
 
 /// Whether a table of values has this one, or it is 255, which stands for no word.
 pub fn is_in_or_none(values: &[bool; 256], value: u8) -> bool
     ensures value { result ≡ ((value == 255) || slice_index_or values.now value false) }
 {
-    value == 255 || values[value as usize]
+    value == NO_WORD || values[value as usize]
 }
 
 /// Which values the words of a class have.

@@ -1,6 +1,7 @@
 // The game of a trial.
 
 ghost use Rattle.std.specs.Prelude.{◌≡◌, ◌≤◌, length, IfOk};
+ghost use Rattle.paw_base.specs.declared.limits.TheConstants.{IMAGE_LIMIT};
 ghost use Rattle.paw_game.specs.Image.{image};
 ghost use Rattle.paw_gen.specs.Trial.{trial_game};
 
@@ -41,7 +42,7 @@ fn parts_of(alloc: Global, n: u16) -> Result<GameParts, NoRoom>
 /// NoRoom for want of memory alone: the lists always keep the rules of a game.
 pub fn game_of(alloc: Global, n: u16) -> Result<Game, NoRoom>
     ensures game { IfOk result (λ game. game ≡ trial_game n) }
-    ensures short { IfOk result (λ game. length (image game) ≤ 4194304) }
+    ensures short { IfOk result (λ game. length (image game) ≤ IMAGE_LIMIT) }
 {
     let parts = parts_of(alloc, n)?;
     match Game::new(parts) {

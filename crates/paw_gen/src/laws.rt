@@ -1,6 +1,7 @@
 // What holds of the game of every trial.
 
 ghost use Rattle.std.specs.Prelude.{◌≤◌, ℕ, length};
+ghost use Rattle.paw_base.specs.declared.limits.TheConstants.{IMAGE_LIMIT};
 ghost use Rattle.paw_game.specs.Image.{image};
 ghost use Rattle.paw_game.specs.Valid.{Valid};
 ghost use Rattle.paw_gen.specs.Trial.{trial_game};
@@ -12,5 +13,5 @@ pub fn trial_games_are_valid()
 
 /// The image of the game of a trial is within the limit of images.
 pub fn trial_images_are_short()
-    ensures { (n : ℕ) → length (image (trial_game n)) ≤ 4194304 }
+    ensures { (n : ℕ) → length (image (trial_game n)) ≤ IMAGE_LIMIT }
 {}

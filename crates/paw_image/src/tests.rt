@@ -219,6 +219,18 @@ fn both_find_the_next_match(rt: HostRuntime) -> Result<(), Fail> {
     Ok(())
 }
 
+/// What is said of an object that is no container and isn't worn.
+fn facts(noun: u8, adjective: u8, start: u8, weight: u8) -> ObjectFacts {
+    ObjectFacts {
+        noun,
+        adjective,
+        start,
+        weight,
+        container: false,
+        wearable: false,
+    }
+}
+
 /// Whether a game is that of the lantern.
 fn is_lantern<T: Tables>(tables: &T) -> bool {
     let counts = Counts {
@@ -229,16 +241,9 @@ fn is_lantern<T: Tables>(tables: &T) -> bool {
         locations: 1,
         tables: 3,
     };
-    let facts = ObjectFacts {
-        noun: 50,
-        adjective: 255,
-        start: 0,
-        weight: 1,
-        container: false,
-        wearable: false,
-    };
+    let lamp = facts(50, 255, 0, 1);
     tables.counts() == counts
-        && tables.facts(0) == Some(facts)
+        && tables.facts(0) == Some(lamp)
         && tables.facts(1).is_none()
         && tables.text(GamePart::Messages, 0) == Some(b"Taken.".as_slice())
         && tables.text(GamePart::Objects, 0) == Some(b"a lamp".as_slice())
@@ -376,20 +381,12 @@ fn classes<T: Tables>(tables: &T) -> [Option<(u8, u8)>; 7] {
 /// Whether the objects and the condacts of the game are as they were written.
 fn has_every_kind<T: Tables>(tables: &T) -> bool {
     let sack = ObjectFacts {
-        noun: 50,
-        adjective: 40,
-        start: 0,
-        weight: 5,
         container: true,
-        wearable: false,
+        ..facts(50, 40, 0, 5)
     };
     let coat = ObjectFacts {
-        noun: 50,
-        adjective: 255,
-        start: 253,
-        weight: 63,
-        container: false,
         wearable: true,
+        ..facts(50, 255, 253, 63)
     };
     let set = Condact {
         code: 70,

@@ -32,7 +32,7 @@ pub struct Journal {
 
 impl Journal {
     /// Makes a session of the game with this digest in the attached store, which is empty. It shows this state, whose
-    /// last two bytes tell the piece's length, and this piece.
+    /// bytes 1,369 and 1,370 tell the piece's length, and this piece.
     ///
     /// # Errors
     /// Write or Sync where that call of the stage failed. The store then stands for no session, or for that one.
@@ -120,9 +120,9 @@ impl Journal {
         Ok(Journal { slot: header.slot })
     }
 
-    /// Makes the session show this state, whose last two bytes tell the piece's length, and this piece. Whatever a
-    /// crash leaves in the meantime shows the old pair or the new one. It writes little: what differs from the state of
-    /// the slot that isn't in use, and the piece.
+    /// Makes the session show this state, whose bytes 1,369 and 1,370 tell the piece's length, and this piece. Whatever
+    /// a crash leaves in the meantime shows the old pair or the new one. It writes little: what differs from the state
+    /// of the slot that isn't in use, and the piece.
     ///
     /// # Errors
     /// Write or Sync where that call of the stage failed.

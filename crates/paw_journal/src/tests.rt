@@ -25,7 +25,7 @@ fn the_digest_is_that_of_the_standard(rt: HostRuntime) {
     assert_eq!(rt; digest(b"abc"), expected);
 }
 
-// A state that begins with this byte, and tells the length of this piece in its last two bytes.
+// A state that begins with this byte, and tells the length of this piece.
 fn state_of(first: u8, piece: &[u8]) -> [u8; 4096]
     requires { length piece.now < 256 }
 {

@@ -45,7 +45,7 @@ fn fill(part: &mut u8, value: u8)
 
 impl Sentence {
     /// No word yet; a pronoun stands for this noun and this adjective.
-    fn blank(noun: u8, adjective: u8) -> Sentence
+    pub fn blank(noun: u8, adjective: u8) -> Sentence
         ensures value { result ≡ blank noun adjective }
     {
         Sentence {

@@ -20,7 +20,7 @@ use Rattle.paw_play.specs.declared.PlayEnd.TheVariants as end
 use Rattle.paw_play.specs.declared.TheConstants.{MOST_EVENTS}
 use Rattle.paw_play.specs.Walk.{Walks}
 use Rattle.paw_play.specs.Keeping.{StaysAttached}
-use Rattle.paw_play.specs.Play.{Played, KeepsLines, InPlay, with_store}
+use Rattle.paw_play.specs.Play.{PlayedSession, KeepsLines, InPlay, with_store}
 use Rattle.paw_play.specs.inner.Calls.{unless_ended}
 use Rattle.paw_play.specs.inner.Telling.{Plain}
 use Rattle.paw_play.specs.inner.OnTheWay.{IsWalking, Told, ShowsPiece, refusal_of, seat_state, InMaking, Rests, IsStore, BegunAs, Begins, new_session}
@@ -37,7 +37,7 @@ beside_is first kept b =
     ∙ ap (λ x. record kept { lines = first.lines; asked = first.asked; shown = x }) b.shown
 
 -- the piece before the first line is spent, or calls too deep
-pub begin_refused : {F : Type 0} (g : Story) (s : Played) (first : Standing) (found : Step) (next : Seat F)
+pub begin_refused : {F : Type 0} (g : Story) (s : PlayedSession) (first : Standing) (found : Step) (next : Seat F)
     (o : PlayEnd) → StepsTo g s.whole found next [] [] → refusal_of found ≡ Some o → BegunAs s first first o
 begin_refused g s first (step.Waits p) next o plays e = cc
 begin_refused g s first step.Ended next o plays e = cc
@@ -45,7 +45,7 @@ begin_refused g s first (step.Spent kind) next o plays e = let k : o ≡ end.Spe
 begin_refused g s first (step.TooDeep table) next o plays e = let k : o ≡ end.TooDeep table = cc in let r = plays.1 [] in rw k (r.0, r.1, refl)
 
 -- the piece before the first line was played, and the store was written, once it was attached
-pub record Begun {F : Type 0} (g : Story) (s : Played) (first kept : Standing) (next : Seat F) (found : Step) : Type 0 where
+pub record Begun {F : Type 0} (g : Story) (s : PlayedSession) (first kept : Standing) (next : Seat F) (found : Step) : Type 0 where
   pub new_one : s.before ≡ 0
   pub store : IsStore s.name first
   pub seated : IsSeated next
@@ -71,7 +71,7 @@ begun g seed digest name first kept next found store seated last plays fine besi
 pub shown_as : (digest : List ℕ) {state kept piece text : List ℕ} → state ≡ kept → piece ≡ text → Shown digest state piece ≡ Shown digest kept text
 shown_as digest e f = cc
 
-module _ {F : Type 0} {g : Story} {s : Played} {first kept : Standing} {next : Seat F} {found : Step} (b : Begun g s first kept next found) where
+module _ {F : Type 0} {g : Story} {s : PlayedSession} {first kept : Standing} {next : Seat F} {found : Step} (b : Begun g s first kept next found) where
   machine_stands : StandsClosed found next.machine
   machine_stands = subst (λ q. StandsClosed q next.machine) b.last b.seated.machine
 

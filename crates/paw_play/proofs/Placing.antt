@@ -1,93 +1,16 @@
 -- The places of a run that stands at a prompt keep the rules of kept places.
-use Rattle.std.proofs.Common.{◌≡◌, ℕ, zero, suc, ◌-◌, ◌<◌, true, false, ◌&&◌, List, [], ◌∷◌, ◌++◌, Option, Some, None, refl, ◌∙◌, length, replicate, slice_get}
+use Rattle.std.proofs.Common.{◌≡◌, ℕ, ◌-◌, ◌<◌, true, List, [], ◌∷◌, ◌++◌, Option, Some, None, refl, length, replicate}
 use Rattle.std.proofs.Common.{arith, length-append}
-use Rattle.std.specs.Prelude.{◌==◌, nat_lt, IfSome}
 use Rattle.std.proofs.lemmas.Bool.Decides.{nat_tests}
 use Rattle.std.proofs.lemmas.List.{length-replicate}
-use Rattle.paw_base.specs.declared.parts.Condact.{Condact}
 use Rattle.paw_game.specs.Game.{GameLists}
-use Rattle.paw_game.specs.Tables.{condact_at}
 use Rattle.paw_reading.specs.declared.places.Frame.{Frame}
 use Rattle.paw_reading.specs.declared.places.OpenLoop.{OpenLoop}
 use Rattle.paw_reading.specs.Turn.{first_table}
-use Rattle.paw_reading.specs.inner.Places.{LeadsTo, tables_of, IsLoopIn, AreOpenAt}
-use Rattle.paw_process.specs.Kept.{unused, condact_of, has_code, may_open, parameter_of, row_stands, rows_fault}
-use Rattle.paw_process.specs.Kept.{table_of, is_that_table, loop_fault, first_fault}
-use Rattle.paw_process.specs.Kept.{count_fits, fault_at}
+use Rattle.paw_reading.specs.inner.Places.{LeadsTo, AreOpenAt}
+use Rattle.paw_process.specs.Kept.{unused, may_open, rows_fault, loop_fault, count_fits, fault_at}
+use Rattle.paw_process.proofs.PathRows.{unused_stand, path_stands, loop_fits, both_none}
 use Rattle.paw_state.specs.Record.{frames_at}
-
--- ---- of places their rows stand ----
-
--- rows that aren't used stand
-unused_stand : (g : GameLists) (code : ℕ) (caller : Option ℕ) (d k : ℕ) → rows_fault g code caller 0 d (replicate k unused) ≡ None
-unfolding rows_fault
-unused_stand g code caller d zero = refl
-unused_stand g code caller d (suc k) = unused_stand g code (Some (parameter_of (condact_of g unused))) (suc d) k
-
-has : (code : ℕ) (c : Condact) (o : Option Condact) → o ≡ Some c → c.code ≡ code → has_code code o ≡ true
-has code c o at is = rw (at, is) (grind (arith, nat_tests))
-
-names : (c : Condact) (u : ℕ) (o : Option Condact) → o ≡ Some c → c.a ≡ u → may_open (Some (parameter_of o)) u ≡ true
-names c u o at called = rw (at, called) (grind (arith, nat_tests))
-
-row_goes : (g : GameLists) (code : ℕ) (caller : Option ℕ) (n d : ℕ) (f : Frame) (fs : List Frame) → row_stands g code caller (suc n) f ≡ true
-    → rows_fault g code (Some (parameter_of (condact_of g f))) n (suc d) fs ≡ None → rows_fault g code caller (suc n) d (f ∷ fs) ≡ None
-unfolding rows_fault
-row_goes g code caller n d f fs stands later = let m : suc n - 1 ≡ n = omega arith in rw (stands, m) later
-
--- a row before the last that is used
-row_calls : (g : GameLists) (code : ℕ) (caller : Option ℕ) (n : ℕ) (f : Frame) →
-    row_stands g code caller (suc (suc n)) f ≡ (may_open caller f.table && has_code 85 (condact_of g f))
-row_calls g code caller n f =
-    let some : (suc (suc n) == 0) ≡ false = grind (arith, nat_tests) in
-    let more : (suc (suc n) == 1) ≡ false = grind (arith, nat_tests) in
-    rw (some, more) refl
-
-pub path_stands : (g : GameLists) (code : ℕ) (caller : Option ℕ) (path : List Frame) (d k : ℕ) → LeadsTo g code path → may_open caller (first_table path) ≡ true
-    → rows_fault g code caller (length path) d (path ++ replicate k unused) ≡ None
-path_stands g code caller [] d k leads opens = absurd leads
-path_stands g code caller (f ∷ []) d k leads opens =
-    row_goes g code caller 0 d f (replicate k unused) (rw (opens, has code leads.condact (condact_of g f) leads.stands leads.is) refl)
-    (unused_stand g code (Some (parameter_of (condact_of g f))) (suc d) k)
-path_stands g code caller (f ∷ h ∷ path) d k leads opens =
-    row_goes g code caller (suc (length path)) d f ((h ∷ path) ++ replicate k unused)
-    (row_calls g code caller (length path) f ∙ rw (opens, has 85 leads.0.condact (condact_of g f) leads.0.stands leads.0.process) refl)
-    (path_stands g code (Some (parameter_of (condact_of g f))) (h ∷ path) (suc d) k leads.1
-    (names leads.0.condact h.table (condact_of g f) leads.0.stands leads.0.called))
-
--- ---- and their loop ----
-
-row_of : (path rows : List Frame) (i t : ℕ) → slice_get (tables_of path) i ≡ Some t → is_that_table (table_of (slice_get (path ++ rows) i)) t ≡ true
-row_of [] rows i t h = cc
-row_of (f ∷ path) rows zero t h = let e : f.table ≡ t = cc in rw e (grind (arith, nat_tests))
-row_of (f ∷ path) rows (suc i) t h = row_of path rows i t h
-
-level_low : (path : List Frame) (i t : ℕ) → slice_get (tables_of path) i ≡ Some t → i < length path
-level_low [] i t h = cc
-level_low (f ∷ path) zero t h = omega arith
-level_low (f ∷ path) (suc i) t h = let low : i < length path = level_low path i t h in omega arith
-
-pub loop_fits : (g : GameLists) (path rows : List Frame) (count : ℕ) (o p : Option OpenLoop) → count ≡ length path → IfSome o (IsLoopIn g (tables_of path))
-    → loop_fault g (record { count = count; rows = path ++ rows; turning = p }) o ≡ None
-loop_fits g path rows count None p size k = refl
-loop_fits g path rows count (Some l) p size k =
-    let low : l.level < length path = level_low path l.level l.table k.level in
-    let level : nat_lt l.level count ≡ true = grind (arith, nat_tests) in
-    let last : nat_lt l.last (length g.objects) ≡ true = let few = k.last in grind (arith, nat_tests) in
-    rw (
-      level,
-      row_of path rows l.level l.table k.level,
-      has 86 k.doall.condact (condact_at g l.table l.entry l.at)
-          k.doall.stands k.doall.is,
-      k.place,
-      last,
-    ) refl
-
--- ---- the places of a prompt ----
-
-both_none : (a b : Option ℕ) → a ≡ None → b ≡ None → first_fault a b ≡ None
-both_none None b h k = k
-both_none (Some d) b h k = cc
 
 some_table : (g : GameLists) (code : ℕ) (path : List Frame) → LeadsTo g code path → 0 < length path
 some_table g code [] leads = absurd leads

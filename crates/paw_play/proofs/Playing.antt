@@ -22,9 +22,9 @@ use Rattle.paw_journal.specs.Journal.{IsWriting}
 use Rattle.paw_play.specs.declared.PlayEnd.{PlayEnd}
 use Rattle.paw_play.specs.declared.PlayEnd.TheVariants as end
 use Rattle.paw_play.specs.declared.TheConstants.{MOST_EVENTS}
-use Rattle.paw_play.specs.Walk.{first_lines, played, joined, Walks}
+use Rattle.paw_play.specs.Walk.{first_lines, advanced, joined, Walks}
 use Rattle.paw_play.specs.Keeping.{IsPart, AgreesWith, KeepsUpWith, StaysAttached, KeepsAllButLast}
-use Rattle.paw_play.specs.Play.{Played, KeepsLines, KeptBy, InPlay, with_store, Uncommitted, PlaysOn}
+use Rattle.paw_play.specs.Play.{PlayedSession, KeepsLines, KeptBy, InPlay, with_store, Uncommitted, PlaysOn}
 use Rattle.paw_play.specs.inner.Calls.{unless_ended}
 use Rattle.paw_play.specs.inner.Telling.{Plain}
 use Rattle.paw_play.specs.inner.OnTheWay.{IsWalking, WalksTo, Told, ShowsPiece, refusal_of, seat_state, Rests, IsPlaying, PlaysTo}
@@ -38,32 +38,33 @@ use Rattle.paw_effects.specs.Story.{Story}
 -- ---- at a prompt ----
 
 -- the bytes keep n lines of the session, and the text is a first part of theirs
-abbrev Agrees : Played → List (List ℕ) → ℕ → List ℕ → List ℕ → Type 0
+abbrev Agrees : PlayedSession → List (List ℕ) → ℕ → List ℕ → List ℕ → Type 0
 Agrees s lines n text bytes = AgreesWith (KeptBy s lines) (λ k. text_of (s.whole (first_lines k lines))) n text bytes
 
-keeps_all : (s : Played) (lines : List (List ℕ)) (n : ℕ) (text bytes : List ℕ) → Agrees s lines n text bytes →
+keeps_all : (s : PlayedSession) (lines : List (List ℕ)) (n : ℕ) (text bytes : List ℕ) → Agrees s lines n text bytes →
     KeepsUpWith (KeptBy s lines) (λ k. text_of (s.whole (first_lines k lines))) n text bytes
 keeps_all s lines zero text bytes h = h
 keeps_all s lines (suc n) text bytes h = inl h
 
-whole_text : (s : Played) (lines : List (List ℕ)) (n : ℕ) (text : List ℕ) → text_of (s.whole (first_lines n lines)) ≡ text →
+whole_text : (s : PlayedSession) (lines : List (List ℕ)) (n : ℕ) (text : List ℕ) → text_of (s.whole (first_lines n lines)) ≡ text →
     IsPart text (text_of (s.whole (first_lines n lines)))
 whole_text s lines n text e = ([], append-nil text ∙ sym e)
 
 -- the text so far
-text_is : {F : Type 0} (g : Story) (s : Played) (first now : Standing) (seat : Seat F) (n : ℕ)
+text_is : {F : Type 0} (g : Story) (s : PlayedSession) (first now : Standing) (seat : Seat F) (n : ℕ)
     (w : IsPlaying g s first now seat n) → IsSeated seat →
     text_of (s.whole (first_lines n first.lines)) ≡ joined w.walking.pieces
 text_is g s first now seat n w seated = text_so_far Plain g s.whole n (with_store now first) now seat w.walking seated
 
-asked_is : {F : Type 0} (g : Story) (s : Played) (first now : Standing) (seat : Seat F) (n : ℕ) → IsPlaying g s first now seat n → now.asked ≡ first.asked + n
+asked_is : {F : Type 0} (g : Story) (s : PlayedSession) (first now : Standing) (seat : Seat F) (n : ℕ) → IsPlaying g s first now seat n
+    → now.asked ≡ first.asked + n
 asked_is g s first now seat n w = ap (λ (q : Standing). q.asked) w.walking.stands
 
-shown_is : {F : Type 0} (g : Story) (s : Played) (first now : Standing) (seat : Seat F) (n : ℕ)
+shown_is : {F : Type 0} (g : Story) (s : PlayedSession) (first now : Standing) (seat : Seat F) (n : ℕ)
     (w : IsPlaying g s first now seat n) → now.shown ≡ first.shown ++ joined w.walking.pieces
 shown_is g s first now seat n w = ap (λ (q : Standing). q.shown) w.walking.stands
 
-agrees_now : {F : Type 0} (g : Story) (s : Played) (first now : Standing) (seat : Seat F) (n : ℕ)
+agrees_now : {F : Type 0} (g : Story) (s : PlayedSession) (first now : Standing) (seat : Seat F) (n : ℕ)
     (w : IsPlaying g s first now seat n) → IsSeated seat → (image : List ℕ) → MayLeave now.disk image →
     Agrees s first.lines n (joined w.walking.pieces) image
 agrees_now g s first now seat n w seated image may = (
@@ -72,7 +73,7 @@ agrees_now g s first now seat n w seated image may = (
 )
 
 -- at a prompt
-pub at_prompt : {F : Type 0} (g : Story) (s : Played) (first now : Standing) (seat : Seat F) (n : ℕ) →
+pub at_prompt : {F : Type 0} (g : Story) (s : PlayedSession) (first now : Standing) (seat : Seat F) (n : ℕ) →
     IsPlaying g s first now seat n → IsSeated seat → InPlay s first (moment_of now)
 at_prompt g s first now seat n w seated = record {
   taken = n;
@@ -89,7 +90,7 @@ at_prompt g s first now seat n w seated = record {
 }
 
 -- inside an ask that takes a line
-line_asked : {F : Type 0} (g : Story) (s : Played) (first now : Standing) (seat : Seat F) (n : ℕ) →
+line_asked : {F : Type 0} (g : Story) (s : PlayedSession) (first now : Standing) (seat : Seat F) (n : ℕ) →
     IsPlaying g s first now seat n → IsSeated seat → suc n ≤ length first.lines → s.before + suc n ≤ MOST_EVENTS →
     InPlay s first (record (moment_of now) { asked = now.asked + 1 })
 line_asked g s first now seat n w seated there few = record {
@@ -106,13 +107,13 @@ line_asked g s first now seat n w seated there few = record {
   leaves = λ image may. inr (agrees_now g s first now seat n w seated image may);
 }
 
-is_there : {F : Type 0} (g : Story) (s : Played) (first now mid : Standing) (seat : Seat F) (n : ℕ) (line : List ℕ) →
+is_there : {F : Type 0} (g : Story) (s : PlayedSession) (first now mid : Standing) (seat : Seat F) (n : ℕ) (line : List ℕ) →
     IsPlaying g s first now seat n → now.lines ≡ line ∷ mid.lines → suc n ≤ length first.lines
 is_there g s first now mid seat n line w e =
     (drop_more first.lines n line mid.lines (ap (λ (q : Standing). q.lines) (sym w.walking.stands) ∙ e)).1
 
 -- inside an ask
-pub in_ask : {F : Type 0} {g : Story} {s : Played} {first now : Standing} {seat : Seat F} {n : ℕ} (w : IsPlaying g s first now seat n) (mid : Standing)
+pub in_ask : {F : Type 0} {g : Story} {s : PlayedSession} {first now : Standing} {seat : Seat F} {n : ℕ} (w : IsPlaying g s first now seat n) (mid : Standing)
     (a : Asked) (into : List ℕ) → IsSeated seat → s.before + suc n ≤ MOST_EVENTS → AsksTo now mid a into → (m : Moment) → InAsk now a m → InPlay s first m
 in_ask {F} {g} {s} {first} {now} {seat} {n} w mid (asked.Line k) into seated few asks m (inl e) =
     subst (InPlay s first) (sym e) (at_prompt g s first now seat n w seated)
@@ -126,14 +127,14 @@ in_ask {F} {g} {s} {first} {now} {seat} {n} w mid asked.Failed into seated few a
 -- ---- the store after a commit ----
 
 -- after the ask that took a line
-mid_attached : {F : Type 0} (g : Story) (s : Played) (first now mid : Standing) (seat : Seat F) (n : ℕ) →
+mid_attached : {F : Type 0} (g : Story) (s : PlayedSession) (first now mid : Standing) (seat : Seat F) (n : ℕ) →
     IsPlaying g s first now seat n → mid ≡ record now { lines = mid.lines; asked = now.asked + 1 } →
     mid.attached ≡ Some s.name
 mid_attached g s first now mid seat n w e = ap (λ (q : Standing). q.attached) e ∙ w.rests.attached
 
 -- a line was taken that brought a piece
-pub record Taken {F : Type 0} (g : Story) (s : Played) (most n events : ℕ) (first now mid : Standing) (seat next : Seat F) (given line : List ℕ) (found : Step)
-    (w : IsPlaying g s first now seat n) : Type 0 where
+pub record Taken {F : Type 0} (g : Story) (s : PlayedSession) (most n events : ℕ) (first now mid : Standing) (seat next : Seat F) (given line : List ℕ)
+    (found : Step) (w : IsPlaying g s first now seat n) : Type 0 where
   pub few : n < most
   pub seated : IsSeated seat
   pub then_seated : IsSeated next
@@ -147,8 +148,8 @@ pub record Taken {F : Type 0} (g : Story) (s : Played) (most n events : ℕ) (fi
   pub counts : events ≡ s.before + suc n
   pub fit : events ≤ MOST_EVENTS
 
-pub taken : {F : Type 0} (g : Story) (s : Played) (most n events : ℕ) (first now mid : Standing) (seat next : Seat F) (given line : List ℕ) (found : Step)
-    (w : IsPlaying g s first now seat n) → n < most → IsSeated seat → IsSeated next → next.last ≡ found →
+pub taken : {F : Type 0} (g : Story) (s : PlayedSession) (most n events : ℕ) (first now mid : Standing) (seat next : Seat F) (given line : List ℕ)
+    (found : Step) (w : IsPlaying g s first now seat n) → n < most → IsSeated seat → IsSeated next → next.last ≡ found →
     now.lines ≡ line ∷ mid.lines → given ≡ take 255 line → mid ≡ record now { lines = mid.lines; asked = now.asked + 1 } →
     StepsTo g (λ more. on g w.walking.prompt (reverse seat.machine.frames) (run_at seat w.walking.pieces w.walking.traces (given ∷ more)))
     found next w.walking.pieces w.walking.traces → None ≡ refusal_of found → events ≡ s.before + suc n → events ≤ MOST_EVENTS →
@@ -167,7 +168,7 @@ taken g s most n events first now mid seat next given line found w few seated th
   fit = fit;
 }
 
-module _ {F : Type 0} {g : Story} {s : Played} {most n events : ℕ} {first now mid : Standing} {seat next : Seat F} {given line : List ℕ} {found : Step}
+module _ {F : Type 0} {g : Story} {s : PlayedSession} {most n events : ℕ} {first now mid : Standing} {seat next : Seat F} {given line : List ℕ} {found : Step}
     {w : IsPlaying g s first now seat n} (t : Taken g s most n events first now mid seat next given line found w) where
   -- the text of all lines that were taken
   whole_is : s.whole (first_lines (suc n) first.lines)
@@ -272,7 +273,7 @@ module _ {F : Type 0} {g : Story} {s : Played} {most n events : ℕ} {first now 
       there,
       stands_after (with_store kept first) (with_store kept now) kept kept n (joined w.walking.pieces) [] line walking_with.stands
           (t.lines ∙ ap (λ xs. line ∷ xs) (sym beside.lines)) kept_is (shown_nothing kept)
-          ∙ ap (played (with_store kept first) (suc n)) (append-nil (joined w.walking.pieces) ∙ sym (text_is g s first now seat n w t.seated)),
+          ∙ ap (advanced (with_store kept first) (suc n)) (append-nil (joined w.walking.pieces) ∙ sym (text_is g s first now seat n w t.seated)),
     )
 
     -- it leaves the store attached, and no other file has changed
@@ -363,7 +364,7 @@ module _ {F : Type 0} {g : Story} {s : Played} {most n events : ℕ} {first now 
       plays_to a new (Some _) digest told = absurd told
 
 -- all the lines that a session may have were taken
-pub long_play : {F : Type 0} (g : Story) (s : Played) (most n : ℕ) (first now : Standing) (seat : Seat F) →
+pub long_play : {F : Type 0} (g : Story) (s : PlayedSession) (most n : ℕ) (first now : Standing) (seat : Seat F) →
     IsPlaying g s first now seat n → IsSeated seat → n ≡ most → PlaysOn s most first now (end.Long 1000000000)
 long_play g s most n first now seat w seated all = record {
   shows = long_walk Plain g s.whole most n (with_store now first) now seat w.walking seated all;
@@ -372,7 +373,7 @@ long_play g s most n first now seat w seated all = record {
 
 -- ---- where nothing is committed ----
 
-module _ {F : Type 0} (g : Story) (s : Played) (most n : ℕ) (first now : Standing) (seat : Seat F)
+module _ {F : Type 0} (g : Story) (s : PlayedSession) (most n : ℕ) (first now : Standing) (seat : Seat F)
     (w : IsPlaying g s first now seat n) (seated : IsSeated seat) (few : n < most) where
   -- no line is left
   pub no_line : (new : Standing) → AsksTo now new asked.End [] → PlaysOn s most first new end.InputEnded

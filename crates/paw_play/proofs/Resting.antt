@@ -2,7 +2,7 @@
 use Rattle.std.proofs.Common.{◌≡◌, ℕ, List, sym, subst}
 use Rattle.paw_stage.specs.Stage.{Standing}
 use Rattle.paw_play.specs.Keeping.{RestsWith}
-use Rattle.paw_play.specs.Play.{Played, KeptBy}
+use Rattle.paw_play.specs.Play.{PlayedSession, KeptBy}
 use Rattle.paw_play.specs.inner.OnTheWay.{Rests}
 
 -- lines that are asked for and a text that is shown leave it as it is, whatever is said of what it keeps
@@ -20,7 +20,7 @@ rests_as Kept By past name first kept new n lines asked text e so r = subst (λ 
   same = r.same;
 })
 
-pub rests_on : (s : Played) (first kept new : Standing) (n : ℕ) (lines : List (List ℕ)) (asked : ℕ) (text : List ℕ) →
+pub rests_on : (s : PlayedSession) (first kept new : Standing) (n : ℕ) (lines : List (List ℕ)) (asked : ℕ) (text : List ℕ) →
     new ≡ record kept { lines = lines; asked = asked; shown = text } → Rests s first kept n → Rests s first new n
 rests_on s first kept new n lines asked text e r =
     rests_as (KeptBy s first.lines) (KeptBy s first.lines) s.before s.name first kept new n lines asked text e (λ k. k) r

@@ -27,8 +27,8 @@ use Rattle.paw_play.specs.declared.PlayEnd.{PlayEnd}
 use Rattle.paw_play.specs.declared.PlayEnd.TheVariants as end
 use Rattle.paw_state.specs.Record.{frames_at, state_at}
 use Rattle.paw_play.specs.Session.{kept_bytes, IsKept}
-use Rattle.paw_play.specs.Walk.{played}
-use Rattle.paw_play.specs.Play.{Played, InPlay, with_store, PlaysOn, ShowsState, going_on, kept_session}
+use Rattle.paw_play.specs.Walk.{advanced}
+use Rattle.paw_play.specs.Play.{PlayedSession, InPlay, with_store, PlaysOn, ShowsState, going_on, kept_session}
 use Rattle.paw_play.specs.inner.OnTheWay.{Rests, IsPlaying, IsStore, ShowsAgain}
 use Rattle.paw_play.proofs.Kept.{kept_is}
 use Rattle.paw_play.proofs.Resting.{rests_on}
@@ -104,7 +104,7 @@ waits_at prompt.Over h = absurd (h refl)
 -- ---- the session ----
 
 -- the session that goes on from what was read of a store's state
-abbrev pub read_session : Story → List ℕ → List ℕ → Restored → Standing → Played
+abbrev pub read_session : Story → List ℕ → List ℕ → Restored → Standing → PlayedSession
 read_session g name piece r first = kept_session g (state_read r) piece (kept_digest first.disk.bytes) name
 
 -- a player was made of what was read of the state of the attached store
@@ -147,9 +147,9 @@ module _ {F : Type 0} {g : Story} {name piece : List ℕ} {r : Restored} {first 
   rests_shown : (new : Standing) (text : List ℕ) → new ≡ record first { shown = text } → Rests (read_session g name piece r first) first new 0
   rests_shown new text e = rests_on (read_session g name piece r first) first first new 0 first.lines first.asked text e rests_first
 
-  stands_with : (new : Standing) (part : List ℕ) → new ≡ record first { shown = first.shown ++ part } → new ≡ played (with_store new first) 0 part
+  stands_with : (new : Standing) (part : List ℕ) → new ≡ record first { shown = first.shown ++ part } → new ≡ advanced (with_store new first) 0 part
   stands_with new part e =
-      subst (λ q. new ≡ played q 0 part) (ap (λ (q : Standing). with_store q first) (sym e)) (first_stands first new part e)
+      subst (λ q. new ≡ advanced q 0 part) (ap (λ (q : Standing). with_store q first) (sym e)) (first_stands first new part e)
 
   asked_is : (new : Standing) (text : List ℕ) → new ≡ record first { shown = text } → new.asked ≡ first.asked + 0
   asked_is new text e = ap (λ (q : Standing). q.asked) e ∙ omega arith
@@ -186,7 +186,7 @@ module _ {F : Type 0} {g : Story} {name piece : List ℕ} {r : Restored} {first 
       each = tt;
       goes_on = λ more. goes_on_from g r.world r.machine r.pending r.prompt r.events r.piece piece more;
       there = omega arith;
-      stands = stands_with new piece told.1 ∙ ap (played (with_store new first) 0) (sym (append-nil piece));
+      stands = stands_with new piece told.1 ∙ ap (advanced (with_store new first) 0) (sym (append-nil piece));
     };
     rests = rests_shown new (first.shown ++ piece) told.1;
     digest = ap (λ (q : Standing). kept_digest q.disk.bytes) told.1;
@@ -207,7 +207,7 @@ module _ {F : Type 0} {g : Story} {name piece : List ℕ} {r : Restored} {first 
         reading = goes_on_from g r.world r.machine r.pending r.prompt r.events r.piece piece []
             ∙ ap (λ q. on g q (reverse r.machine.frames) (run_from r.world r.machine r.pending piece [])) told.0;
         there = omega arith;
-        stands = stands_with new piece told.1 ∙ ap (played (with_store new first) 0) (sym (append-nil piece));
+        stands = stands_with new piece told.1 ∙ ap (advanced (with_store new first) 0) (sym (append-nil piece));
       },
     );
     session = (0, asked_is new (first.shown ++ piece) told.1, rests_shown new (first.shown ++ piece) told.1);

@@ -9,7 +9,7 @@ use Rattle.paw_world.specs.World.{World, Position, IsSavedFor, IsWorld}
 use Rattle.paw_effects.specs.declared.act.Prompt.{Prompt}
 use Rattle.paw_effects.specs.declared.act.Prompt.TheVariants as prompt
 use Rattle.paw_effects.specs.Story.{Story}
-use Rattle.paw_effects.specs.Built.{ArePlacesOf, StandsIn}
+use Rattle.paw_effects.specs.Worlds.{ArePlacesOf, StandsIn}
 use Rattle.paw_effects.specs.Standing.{AreBytes}
 use Rattle.paw_effects.specs.inner.Standing.{MayBePosition, IsWorldOf}
 use Rattle.paw_effects.proofs.Worlds.{few_objects, place_small}

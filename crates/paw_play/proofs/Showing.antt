@@ -8,7 +8,7 @@ use Rattle.paw_world.specs.World.{Position, IsSavedFor}
 use Rattle.paw_effects.specs.declared.act.Prompt.{Prompt}
 use Rattle.paw_effects.specs.declared.act.Prompt.TheVariants as prompt
 use Rattle.paw_effects.specs.Story.{Story}
-use Rattle.paw_effects.specs.Built.{StandsIn}
+use Rattle.paw_effects.specs.Worlds.{StandsIn}
 use Rattle.paw_effects.specs.inner.Standing.{MayBePosition, IsWorldOf}
 use Rattle.paw_reading.specs.Turn.{text_of}
 use Rattle.paw_process.specs.OpenTables.{OpenTables}

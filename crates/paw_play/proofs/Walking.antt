@@ -19,7 +19,7 @@ use Rattle.paw_turn.specs.declared.Step.TheVariants as step
 use Rattle.paw_play.specs.declared.PlayEnd.{PlayEnd}
 use Rattle.paw_play.specs.declared.PlayEnd.TheVariants as end
 use Rattle.paw_stage.specs.declared.StageCall.TheVariants as call
-use Rattle.paw_play.specs.Walk.{EndingOf, first_lines, played, text_before, Reads, ReadsPart, WalkHalts, joined}
+use Rattle.paw_play.specs.Walk.{EndingOf, first_lines, advanced, text_before, Reads, ReadsPart, WalkHalts, joined}
 use Rattle.paw_play.specs.inner.Telling.{Telling, seat_text, told_pieces, HaveSteps, told_run, told_ending, told_as}
 use Rattle.paw_play.specs.inner.OnTheWay.{IsWalking, ShowsPiece, Told, WalksTo}
 use Rattle.paw_play.proofs.Telling.{pieces_more, told_more, steps_more, told_none, steps_none, waits_told, halts_told, same_lines, told_is}
@@ -62,7 +62,7 @@ lines_more lines n line rest more h =
 -- ---- what stands ----
 
 played_more : (old : Standing) (n : ℕ) (text part line : List ℕ) (rest : List (List ℕ)) → drop n old.lines ≡ line ∷ rest →
-    record (played old n text) { lines = rest; asked = old.asked + n + 1; shown = (old.shown ++ text) ++ part } ≡ played old (suc n) (text ++ part)
+    record (advanced old n text) { lines = rest; asked = old.asked + n + 1; shown = (old.shown ++ text) ++ part } ≡ advanced old (suc n) (text ++ part)
 played_more old n text part line rest h =
     let m = drop_more old.lines n line rest h in
     let a : old.asked + n + 1 ≡ old.asked + suc n = omega arith in
@@ -70,8 +70,8 @@ played_more old n text part line rest h =
     rw (a, s, m.0) refl
 
 -- once a line was taken and a text shown
-pub stands_after : (first now mid new : Standing) (n : ℕ) (text part line : List ℕ) → now ≡ played first n text → now.lines ≡ line ∷ mid.lines →
-    mid ≡ record now { lines = mid.lines; asked = now.asked + 1 } → new ≡ record mid { shown = mid.shown ++ part } → new ≡ played first (suc n) (text ++ part)
+pub stands_after : (first now mid new : Standing) (n : ℕ) (text part line : List ℕ) → now ≡ advanced first n text → now.lines ≡ line ∷ mid.lines →
+    mid ≡ record now { lines = mid.lines; asked = now.asked + 1 } → new ≡ record mid { shown = mid.shown ++ part } → new ≡ advanced first (suc n) (text ++ part)
 stands_after first now mid new n text part line e l m s =
     let d : drop n first.lines ≡ line ∷ mid.lines = ap (λ (q : Standing). q.lines) (sym e) ∙ l in
     s ∙ ap (λ (q : Standing). record q { shown = q.shown ++ part }) m
@@ -118,7 +118,7 @@ waiting telling g whole n first now seat w seated =
         reading = ap (told_as telling whole) (sym (append-nil (first_lines n first.lines)))
             ∙ ap (told_ending telling) (w.goes_on [] ∙ on_waits g w.prompt seat.machine r stands) ∙ waits_told telling w.prompt path r;
         there = w.there;
-        stands = w.stands ∙ ap (played first n) (sym (told_is telling r w.pieces w.traces refl refl));
+        stands = w.stands ∙ ap (advanced first n) (sym (told_is telling r w.pieces w.traces refl refl));
       },
     )
 
@@ -159,7 +159,7 @@ module _ {F : Type 0} (telling : Telling) (g : Story) (whole after : EndingOf) (
     (whole_after : (more : List (List ℕ)) → whole (first_lines n first.lines ++ more) ≡ after more)
     (earlier : text_before (told_as telling whole) first.lines n ≡ joined (told_pieces telling pieces traces))
     (stands_with : (part : List ℕ) → new ≡ record mid { shown = mid.shown ++ part } →
-    new ≡ played first n (joined (told_pieces telling pieces traces) ++ part))
+    new ≡ advanced first n (joined (told_pieces telling pieces traces) ++ part))
     (plays : PlaysTo g after s next pieces traces) where
   read_all : whole (first_lines n first.lines) ≡ after []
   read_all = ap whole (sym (append-nil (first_lines n first.lines))) ∙ whole_after []
@@ -198,7 +198,7 @@ module _ {F : Type 0} (telling : Telling) (g : Story) (whole after : EndingOf) (
           reading = ap (told_ending telling) (read_all ∙ e.1) ∙ halts_told telling halt e.0;
           there = there;
           stands = stands_with [] (same ∙ shown_nothing mid)
-              ∙ ap (played first n) (append-nil (joined (told_pieces telling pieces traces)) ∙ sym (told_is telling e.0 pieces traces e.2 e.3));
+              ∙ ap (advanced first n) (append-nil (joined (told_pieces telling pieces traces)) ∙ sym (told_is telling e.0 pieces traces e.2 e.3));
         },
       )
 
@@ -215,7 +215,7 @@ module _ {F : Type 0} (telling : Telling) (g : Story) (whole after : EndingOf) (
         goes_on = λ more. whole_after more ∙ at.1.1 more;
         there = there;
         stands = stands_with (seat_text telling next) told.2
-            ∙ ap (played first n) (sym (pieces_more telling next pieces traces at.0 each at.1.0));
+            ∙ ap (advanced first n) (sym (pieces_more telling next pieces traces at.0 each at.1.0));
       }
   comes_to most few (Some end.Ended) told =
       let at : PlaysTo g after step.Ended next pieces traces = subst (λ q. PlaysTo g after q next pieces traces) told.0 plays in
@@ -228,7 +228,7 @@ module _ {F : Type 0} (telling : Telling) (g : Story) (whole after : EndingOf) (
           reading = ap (told_ending telling) (read_all ∙ at.1.1 []) ∙ halts_told telling IsOver r;
           there = there;
           stands = stands_with (seat_text telling next) told.1
-              ∙ ap (played first n) (sym (told_more telling next pieces traces at.0 each at.1.0));
+              ∙ ap (advanced first n) (sym (told_more telling next pieces traces at.0 each at.1.0));
         },
       )
   comes_to most few (Some (end.Spent kind)) told =
@@ -302,7 +302,7 @@ long_walk telling g whole most n first now seat w seated all =
 
 -- ---- the first piece ----
 
-pub first_stands : (old new : Standing) (part : List ℕ) → new ≡ record old { shown = old.shown ++ part } → new ≡ played old 0 part
+pub first_stands : (old new : Standing) (part : List ℕ) → new ≡ record old { shown = old.shown ++ part } → new ≡ advanced old 0 part
 first_stands old new part e = let a : old.asked + 0 ≡ old.asked = omega arith in e ∙ rw a refl
 
 -- after piece 0 the walk is at the first prompt, or has come to this
@@ -311,7 +311,7 @@ pub walk_begins : {F : Type 0} (telling : Telling) (g : Story) (whole : EndingOf
     PlaysTo g whole s seat [] [] → Told old new (seat_text telling seat) s o → WalksTo telling g whole most old new seat 0 o
 walk_begins telling g whole most old new seat s o seated last plays told =
     comes_to telling g whole whole 0 old old new seat s [] [] (steps_none telling) last seated (omega arith) (λ more. refl) (sym (told_none telling))
-    (λ part e. first_stands old new part e ∙ ap (λ t. played old 0 (t ++ part)) (sym (told_none telling)))
+    (λ part e. first_stands old new part e ∙ ap (λ t. advanced old 0 (t ++ part)) (sym (told_none telling)))
     plays most (omega arith) o told
 
 -- a player that was new has played piece 0

@@ -19,7 +19,7 @@ use Rattle.paw_state.specs.Fit.{Fit, unfit}
 use Rattle.paw_play.specs.declared.PlayEnd.{PlayEnd}
 use Rattle.paw_play.specs.declared.PlayEnd.TheVariants as end
 use Rattle.paw_play.specs.declared.TheConstants.{MOST_EVENTS}
-use Rattle.paw_play.specs.Walk.{EndingOf, first_lines, played, Walks}
+use Rattle.paw_play.specs.Walk.{EndingOf, first_lines, advanced, Walks}
 use Rattle.paw_play.specs.Session.{kept_bytes, IsKept}
 use Rattle.paw_play.specs.Stands.{StandsFor, text_since, reading_since}
 use Rattle.paw_play.specs.Keeping.{InSession, InMakingOf, StaysAttached, LeavesStore}
@@ -34,7 +34,7 @@ with_store now old = record old { files = now.files; attached = now.attached; di
 abbrev pub Uncommitted : EndingOf → ℕ → Standing → Standing → Type 0
 Uncommitted whole most old new =
     (n : ℕ) × (n < most) × (suc n ≤ length old.lines)
-    × (new ≡ played (with_store new old) (suc n) (text_of (whole (first_lines n old.lines))))
+    × (new ≡ advanced (with_store new old) (suc n) (text_of (whole (first_lines n old.lines))))
 
 -- the lines that were taken and the text that was shown, where playing on came to this: as in a walk, but that a commit
 -- may fail, and that memory is never wanting
@@ -128,26 +128,26 @@ InGoingOn g seed es name old m =
 
 -- A session is played: the reading of its lines, how many lines came before the first of them, the digest of its game,
 -- and the name of its store.
-pub record Played : Type 0 where
+pub record PlayedSession : Type 0 where
   pub whole : EndingOf
   pub before : ℕ
   pub digest : List ℕ
   pub name : List ℕ
 
 -- the session keeps the reading of the first n of these lines
-abbrev pub KeepsLines : Played → List (List ℕ) → ℕ → Recovered → Type 0
+abbrev pub KeepsLines : PlayedSession → List (List ℕ) → ℕ → Recovered → Type 0
 KeepsLines s lines n r = IsKept s.digest (s.before + n) (s.whole (first_lines n lines)) r
 
 -- the bytes of a store keep the reading of the first n of these lines
-abbrev pub KeptBy : Played → List (List ℕ) → ℕ → List ℕ → Type 0
+abbrev pub KeptBy : PlayedSession → List (List ℕ) → ℕ → List ℕ → Type 0
 KeptBy s lines n bytes = KeepsLines s lines n (recover bytes)
 
 -- a moment at which it stands, and what playing it on comes to
-abbrev pub InPlay : Played → Standing → Moment → Type 0
+abbrev pub InPlay : PlayedSession → Standing → Moment → Type 0
 InPlay s old m = InSession (KeptBy s old.lines) (λ n. text_of (s.whole (first_lines n old.lines))) s.before s.name old m
 
 -- what playing the session on comes to, with at most so many lines more
-abbrev pub PlaysOn : Played → ℕ → Standing → Standing → PlayEnd → Type 0
+abbrev pub PlaysOn : PlayedSession → ℕ → Standing → Standing → PlayEnd → Type 0
 PlaysOn s most old new o = PlaysWith (KeptBy s old.lines) s.whole s.before s.name most old new o
 
 -- going on from a state whose last piece was this
@@ -165,7 +165,7 @@ going_on g st piece lines = on g st.prompt (take st.frames.count st.frames.rows)
 })
 
 -- the session of a game that goes on from a state
-abbrev pub kept_session : Story → State → List ℕ → List ℕ → List ℕ → Played
+abbrev pub kept_session : Story → State → List ℕ → List ℕ → List ℕ → PlayedSession
 kept_session g st piece digest name =
     record { whole = going_on g st piece; before = st.events; digest = digest; name = name }
 
@@ -206,5 +206,5 @@ pub data PlaysAgain (g : Story) (digest name : List ℕ) (old new : Standing) : 
   plays_up : (o : PlayEnd) → PlaysUp g digest name (attached_to old name) new o → PlaysAgain g digest name old new o
 
 -- a moment of a session that is taken up again: its store isn't attached yet, or it is played
-abbrev pub InAgain : Played → Standing → Moment → Type 0
+abbrev pub InAgain : PlayedSession → Standing → Moment → Type 0
 InAgain s old m = NotYet s.name old m ⊎ InPlay s old m

@@ -24,14 +24,14 @@ abbrev pub joined : List (List ℕ) → List ℕ
 joined pieces = flat_map (λ piece. piece) pieces
 
 -- n lines more were taken, and this text was shown besides; all else stands as it was
-abbrev pub played : Standing → ℕ → List ℕ → Standing
-played old n text = record old { lines = drop n old.lines; asked = old.asked + n; shown = old.shown ++ text }
+abbrev pub advanced : Standing → ℕ → List ℕ → Standing
+advanced old n text = record old { lines = drop n old.lines; asked = old.asked + n; shown = old.shown ++ text }
 
 -- n lines were taken, the reading of them ends so, and the text of its closed pieces was shown
 pub record Reads (whole : EndingOf) (old new : Standing) (n : ℕ) (e : Ending) : Type 0 where
   pub reading : whole (first_lines n old.lines) ≡ e
   pub there : n ≤ length old.lines
-  pub stands : new ≡ played old n (text_of e)
+  pub stands : new ≡ advanced old n (text_of e)
 
 -- where this is the text for each number of lines: that for all but the last of n lines. Before the first line no text
 -- was shown
@@ -53,7 +53,7 @@ pub record ReadsPart (whole : EndingOf) (old new : Standing) (n : ℕ) : Type 0 
   pub before : shown ≡ text_before whole old.lines n ++ last
   pub grows : length (text_before whole old.lines n) < length (text_of (whole (first_lines n old.lines)))
   pub there : n ≤ length old.lines
-  pub stands : new ≡ played old n shown
+  pub stands : new ≡ advanced old n shown
 
 -- so many lines were taken, of which the last ended the reading so for good
 abbrev pub WalkHalts : EndingOf → ℕ → Standing → Standing → Halt → Type 0

@@ -1,6 +1,7 @@
 // Playing with a session: each line is taken, committed and then shown.
 
 ghost use Rattle.std.specs.Prelude.{◌≡◌, ◌+◌, ◌<◌, ◌≤◌, ◌^◌, ◌↔◌, take, length, IfOk, IfErr};
+ghost use Rattle.paw_base.specs.declared.limits.TheConstants.{READ_LIMIT};
 ghost use Rattle.paw_stage.specs.Stage.{Faulted};
 ghost use Rattle.paw_stage.specs.Across.{Across, EachMoment};
 ghost use Rattle.paw_stage.specs.inner.Across.{Once, Throughout};
@@ -99,13 +100,13 @@ pub(crate) fn play_line<S: Stage, T: Tables, F: Fn(u8, u8) -> u8>(
 ) -> Result<Session, PlayEnd>
     requires seated { IsSeated player.old }
     requires rows { HaveRows F.Fn player.old.routines }
-    requires draws { player.old.world.draws + 200000 < 2 ^ 64 }
+    requires draws { player.old.world.draws + READ_LIMIT < 2 ^ 64 }
     requires few { session.events < MOST_EVENTS }
     requires kept { S.Tells stage.old → KeptIn session.journal room.old (S.standing stage.old) }
     ensures seated { IsSeated player.new }
     ensures game { player.new.game ≡ player.old.game }
     ensures routines { player.new.routines ≡ player.old.routines }
-    ensures draws { player.new.world.draws ≤ player.old.world.draws + 200000 }
+    ensures draws { player.new.world.draws ≤ player.old.world.draws + READ_LIMIT }
     ensures tells { S.Tells stage.old ↔ S.Tells stage.new }
     ensures faulted { Faulted (failed_or result) (S.faults stage.old) (S.faults stage.new) }
     ensures outside { IfErr result (λ o. IfEndOutside o IsPlayCall) }

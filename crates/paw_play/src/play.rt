@@ -2,6 +2,7 @@
 
 ghost use Rattle.std.specs.Prelude.{◌≡◌, ◌+◌, ◌-◌, ◌*◌, ◌≤◌, ◌↔◌, ℕ, [], List, length, IfOk, IfErr};
 ghost use Rattle.sha2.specs.Sha256.{sha256};
+ghost use Rattle.paw_base.specs.declared.limits.TheConstants.{READ_LIMIT};
 ghost use Rattle.paw_game.specs.Image.{image};
 ghost use Rattle.paw_stage.specs.Disk.{IsStable};
 ghost use Rattle.paw_stage.specs.Stage.{Faulted};
@@ -38,7 +39,7 @@ pub(crate) fn play_lines<S: Stage, T: Tables, F: Fn(u8, u8) -> u8>(
     requires seated { IsSeated player.old }
     requires rows { HaveRows F.Fn player.old.routines }
     requires few { session.events ≤ MOST_EVENTS }
-    requires draws { player.old.world.draws ≤ 200000 * (session.events + 1) }
+    requires draws { player.old.world.draws ≤ READ_LIMIT * (session.events + 1) }
     requires kept { S.Tells stage.old → KeptIn session.journal room.old (S.standing stage.old) }
     ensures tells { S.Tells stage.old ↔ S.Tells stage.new }
     ensures faulted { Faulted (call_of_end result) (S.faults stage.old) (S.faults stage.new) }
@@ -81,7 +82,7 @@ fn begin<S: Stage, T: Tables, F: Fn(u8, u8) -> u8>(
     ensures seated { IsSeated player.new }
     ensures game { player.new.game ≡ player.old.game }
     ensures routines { player.new.routines ≡ player.old.routines }
-    ensures draws { player.new.world.draws ≤ 200000 }
+    ensures draws { player.new.world.draws ≤ READ_LIMIT }
     ensures tells { S.Tells stage.old ↔ S.Tells stage.new }
     ensures faulted { Faulted (failed_or result) (S.faults stage.old) (S.faults stage.new) }
     ensures outside { IfErr result (λ o. IfEndOutside o IsPlayCall) }

@@ -1,4 +1,5 @@
-// The lines of the steps of a piece, which a trace shows before it.
+// The lines of the steps of a piece, which a trace shows before it. Where nothing is put the empty text is pushed,
+// whose clause tells the proof that the text fits.
 
 ghost use Rattle.std.specs.Prelude.{◌≡◌, ◌+◌, ◌≤◌, ◌++◌, length, take, decimal};
 ghost use Rattle.paw_base.specs.inner.Piece.{Puts, piece_limit};

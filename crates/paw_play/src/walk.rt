@@ -2,6 +2,7 @@
 
 ghost use Rattle.std.specs.Prelude.{◌≡◌, ◌+◌, ◌<◌, ◌≤◌, ◌^◌, ◌↔◌, ℕ, suc, length, IfSome, OnOk, OnErr, IsErr};
 ghost use Rattle.std.specs.Prelude.{Some, None};
+ghost use Rattle.paw_base.specs.declared.limits.TheConstants.{READ_LIMIT};
 ghost use Rattle.paw_routines.specs.Routines.{HaveRows};
 ghost use Rattle.paw_stage.specs.Stage.{Standing, Faulted, ShowsPart, with_shown};
 ghost use Rattle.paw_stage.specs.Across.{Across};
@@ -99,10 +100,10 @@ fn walk_line<P: Preface, S: Stage, T: Tables, F: Fn(u8, u8) -> u8>(
 ) -> Option<PlayEnd>
     requires seated { IsSeated player.old }
     requires rows { HaveRows F.Fn player.old.routines }
-    requires draws { player.old.world.draws + 200000 < 2 ^ 64 }
+    requires draws { player.old.world.draws + READ_LIMIT < 2 ^ 64 }
     ensures seated { IsSeated player.new }
     ensures game { player.new.game ≡ player.old.game }
-    ensures draws { player.new.world.draws ≤ player.old.world.draws + 200000 }
+    ensures draws { player.new.world.draws ≤ player.old.world.draws + READ_LIMIT }
     ensures tells { S.Tells stage.old ↔ S.Tells stage.new }
     ensures faulted { Faulted (failed_so_far result) (S.faults stage.old) (S.faults stage.new) }
     ensures outside { IfSome result (λ o. IfEndOutside o IsWalkCall) }
@@ -131,7 +132,7 @@ fn walk_lines<P: Preface, S: Stage, T: Tables, F: Fn(u8, u8) -> u8>(
 ) -> PlayEnd
     requires seated { IsSeated player.old }
     requires rows { HaveRows F.Fn player.old.routines }
-    requires draws { player.old.world.draws ≤ 200000 }
+    requires draws { player.old.world.draws ≤ READ_LIMIT }
     ensures tells { S.Tells stage.old ↔ S.Tells stage.new }
     ensures faulted { Faulted (call_of_end result) (S.faults stage.old) (S.faults stage.new) }
     ensures outside { IfEndOutside result IsWalkCall }

@@ -7,12 +7,11 @@ ghost use Rattle.paw_print.specs.Lines.{parameter_tokens, spaced, table_tokens};
 ghost use Rattle.paw_print.specs.Canonical.{with_line_end, entry_lines, numbered, table_lines, written};
 ghost use Rattle.paw_print.specs.inner.Known.{IsKnown, IsKnownEntry, IsKnownTable};
 
-use crate::rows::{end_line, write_number, write_token};
+use crate::rows::{Written, end_line, write_number, write_token};
 use crate::vocabulary::Vocabulary;
 use paw_base::parts::Condact;
 use paw_base::rows::{ParamKind, condact_row};
 use paw_game::parts::{Entry, Table};
-use std::alloc::AllocError;
 
 /// Writes a parameter behind one space; nothing where the condact has none.
 fn write_parameter(
@@ -20,7 +19,7 @@ fn write_parameter(
     kind: ParamKind,
     value: u8,
     out: &mut Vec<u8>,
-) -> Result<(), AllocError>
+) -> Written
     ensures writes { OnOk result
         (out.new.items ≡ out.old.items ++ behind_spaces (parameter_tokens vocabulary.now kind value)) }
 {
@@ -35,11 +34,7 @@ fn write_parameter(
 }
 
 /// Writes the line of a condact.
-fn write_condact(
-    vocabulary: &Vocabulary,
-    condact: Condact,
-    out: &mut Vec<u8>,
-) -> Result<(), AllocError>
+fn write_condact(vocabulary: &Vocabulary, condact: Condact, out: &mut Vec<u8>) -> Written
     requires known { IsKnown condact }
     ensures writes { OnOk result
         (out.new.items ≡ out.old.items ++ with_line_end (condact_line vocabulary.now condact)) }
@@ -52,11 +47,7 @@ fn write_condact(
 }
 
 /// Writes condacts, a line for each.
-fn write_condacts(
-    vocabulary: &Vocabulary,
-    condacts: &[Condact],
-    out: &mut Vec<u8>,
-) -> Result<(), AllocError>
+fn write_condacts(vocabulary: &Vocabulary, condacts: &[Condact], out: &mut Vec<u8>) -> Written
     requires known { AllByRecursion IsKnown condacts.now }
     ensures writes { OnOk result
         (out.new.items ≡ out.old.items ++ written (map (condact_line vocabulary.now) condacts.now)) }
@@ -68,7 +59,7 @@ fn write_condacts(
 }
 
 /// Writes the line of an entry's words.
-fn write_head(vocabulary: &Vocabulary, entry: &Entry, out: &mut Vec<u8>) -> Result<(), AllocError>
+fn write_head(vocabulary: &Vocabulary, entry: &Entry, out: &mut Vec<u8>) -> Written
     ensures writes { OnOk result
         (out.new.items ≡ out.old.items ++ with_line_end (spaced (entry_tokens vocabulary.now entry.now))) }
 {
@@ -78,7 +69,7 @@ fn write_head(vocabulary: &Vocabulary, entry: &Entry, out: &mut Vec<u8>) -> Resu
 }
 
 /// Writes an entry: its words, and its condacts.
-fn write_entry(vocabulary: &Vocabulary, entry: &Entry, out: &mut Vec<u8>) -> Result<(), AllocError>
+fn write_entry(vocabulary: &Vocabulary, entry: &Entry, out: &mut Vec<u8>) -> Written
     requires known { IsKnownEntry entry.now }
     ensures writes { OnOk result (out.new.items ≡ out.old.items ++ written (entry_lines vocabulary.now entry.now)) }
 {
@@ -87,7 +78,7 @@ fn write_entry(vocabulary: &Vocabulary, entry: &Entry, out: &mut Vec<u8>) -> Res
 }
 
 /// Writes the header of a table.
-fn write_table_header(number: usize, out: &mut Vec<u8>) -> Result<(), AllocError>
+fn write_table_header(number: usize, out: &mut Vec<u8>) -> Written
     ensures writes { OnOk result (out.new.items ≡ out.old.items ++ with_line_end (spaced (table_tokens number))) }
 {
     out.extend_from_slice(b"/PRO")?;
@@ -101,7 +92,7 @@ fn write_table(
     number: usize,
     entries: &[Entry],
     out: &mut Vec<u8>,
-) -> Result<(), AllocError>
+) -> Written
     requires known { IsKnownTable entries.now }
     ensures writes { OnOk result
         (out.new.items ≡ out.old.items ++ written (table_lines vocabulary.now number entries.now)) }
@@ -114,11 +105,7 @@ fn write_table(
 }
 
 /// Writes the tables.
-pub(crate) fn write_tables(
-    vocabulary: &Vocabulary,
-    tables: &[Table],
-    out: &mut Vec<u8>,
-) -> Result<(), AllocError>
+pub(crate) fn write_tables(vocabulary: &Vocabulary, tables: &[Table], out: &mut Vec<u8>) -> Written
     requires known { AllByRecursion IsKnownTable tables.now }
     ensures writes { OnOk result
         (out.new.items ≡ out.old.items ++ written (numbered (table_lines vocabulary.now) 0 tables.now)) }

@@ -4,14 +4,13 @@ ghost use Rattle.std.specs.Prelude.{◌≡◌, ◌++◌, OnOk, map};
 ghost use Rattle.paw_print.specs.Lines.{exit_tokens, spaced};
 ghost use Rattle.paw_print.specs.Canonical.{with_line_end, exits_lines, location_lines, written};
 
-use crate::rows::{end_line, write_header, write_number};
+use crate::rows::{Written, end_line, write_header, write_number};
 use crate::texts::write_item;
 use crate::vocabulary::Vocabulary;
 use paw_game::parts::{Exit, Exits};
-use std::alloc::AllocError;
 
 /// Writes the line of an exit.
-fn write_exit(vocabulary: &Vocabulary, exit: &Exit, out: &mut Vec<u8>) -> Result<(), AllocError>
+fn write_exit(vocabulary: &Vocabulary, exit: &Exit, out: &mut Vec<u8>) -> Written
     ensures writes { OnOk result
         (out.new.items ≡ out.old.items ++ with_line_end (spaced (exit_tokens vocabulary.now exit.now))) }
 {
@@ -26,7 +25,7 @@ fn write_location(
     number: usize,
     exits: &[Exit],
     out: &mut Vec<u8>,
-) -> Result<(), AllocError>
+) -> Written
     ensures writes { OnOk result
         (out.new.items ≡ out.old.items ++ written (location_lines vocabulary.now number exits.now)) }
 {
@@ -41,11 +40,7 @@ fn write_location(
 }
 
 /// Writes the section of the connections.
-pub(crate) fn write_exits(
-    vocabulary: &Vocabulary,
-    exits: &[Exits],
-    out: &mut Vec<u8>,
-) -> Result<(), AllocError>
+pub(crate) fn write_exits(vocabulary: &Vocabulary, exits: &[Exits], out: &mut Vec<u8>) -> Written
     ensures writes { OnOk result (out.new.items ≡ out.old.items ++ written (exits_lines vocabulary.now exits.now)) }
 {
     write_header(b"/CON", out)?;

@@ -4,11 +4,10 @@ ghost use Rattle.std.specs.Prelude.{◌≡◌, ◌++◌, ◌∷◌, List, [], On
 ghost use Rattle.paw_print.specs.Lines.{behind_spaces, kind_token, object_tokens, spaced, value_token};
 ghost use Rattle.paw_print.specs.Canonical.{with_line_end, objects_lines, written};
 
-use crate::rows::{end_line, write_digits, write_header, write_number, write_token};
+use crate::rows::{Written, end_line, write_digits, write_header, write_number, write_token};
 use crate::vocabulary::Vocabulary;
 use paw_base::parts::ObjectFacts;
 use paw_game::parts::ObjectRow;
-use std::alloc::AllocError;
 
 /// The kind of an object: whether it is a container, and whether it may be worn.
 fn kind_token(container: bool, wearable: bool) -> &'static [u8]
@@ -23,7 +22,7 @@ fn kind_token(container: bool, wearable: bool) -> &'static [u8]
 }
 
 /// Writes the place, the weight and the kind of an object, each behind one space.
-fn write_place_and_kind(facts: &ObjectFacts, out: &mut Vec<u8>) -> Result<(), AllocError>
+fn write_place_and_kind(facts: &ObjectFacts, out: &mut Vec<u8>) -> Written
     ensures writes { let kind = kind_token facts.now.container facts.now.wearable in
         let tokens = decimal facts.now.start ∷ decimal facts.now.weight ∷ kind ∷ [] in
         OnOk result (out.new.items ≡ out.old.items ++ behind_spaces tokens) }
@@ -39,7 +38,7 @@ fn write_object(
     number: usize,
     facts: &ObjectFacts,
     out: &mut Vec<u8>,
-) -> Result<(), AllocError>
+) -> Written
     ensures writes { OnOk result
         (out.new.items ≡ out.old.items ++ with_line_end (spaced (object_tokens vocabulary.now number facts.now))) }
 {
@@ -55,7 +54,7 @@ pub(crate) fn write_objects(
     vocabulary: &Vocabulary,
     objects: &[ObjectRow],
     out: &mut Vec<u8>,
-) -> Result<(), AllocError>
+) -> Written
     ensures writes { OnOk result (out.new.items ≡ out.old.items ++ written (objects_lines vocabulary.now objects.now)) }
 {
     write_header(b"/OBJ", out)?;

@@ -8,15 +8,16 @@ ghost use Rattle.paw_print.specs.inner.Known.{IsKnownTable};
 use crate::entries::write_tables;
 use crate::exits::write_exits;
 use crate::objects::write_objects;
+use crate::rows::Written;
 use crate::texts::{write_object_texts, write_texts};
 use crate::vocabulary::Vocabulary;
 use paw_base::fault::NoRoom;
 use paw_game::game::Game;
 use paw_game::parts::GameParts;
-use std::alloc::{AllocError, Global};
+use std::alloc::Global;
 
 /// Writes the lines of a canonical source.
-fn write_game(parts: &GameParts, out: &mut Vec<u8>) -> Result<(), AllocError>
+fn write_game(parts: &GameParts, out: &mut Vec<u8>) -> Written
     requires known { AllByRecursion IsKnownTable parts.now.tables }
     ensures writes { OnOk result (out.new.items ≡ out.old.items ++ written (canonical_lines parts.now)) }
 {

@@ -6,8 +6,11 @@ ghost use Rattle.paw_print.specs.Canonical.{with_line_end};
 use itoa::Buffer;
 use std::alloc::AllocError;
 
+/// What comes of writing; its one error is want of memory.
+pub(crate) type Written = Result<(), AllocError>;
+
 /// Ends a line.
-pub(crate) fn end_line(out: &mut Vec<u8>) -> Result<(), AllocError>
+pub(crate) fn end_line(out: &mut Vec<u8>) -> Written
     ensures writes { OnOk result (out.new.items ≡ out.old.items ++ 10 ∷ []) }
 {
     out.push(b'\n')?;
@@ -15,7 +18,7 @@ pub(crate) fn end_line(out: &mut Vec<u8>) -> Result<(), AllocError>
 }
 
 /// Writes a line that is one token.
-pub(crate) fn write_header(token: &[u8], out: &mut Vec<u8>) -> Result<(), AllocError>
+pub(crate) fn write_header(token: &[u8], out: &mut Vec<u8>) -> Written
     ensures writes { OnOk result (out.new.items ≡ out.old.items ++ with_line_end token.now) }
 {
     out.extend_from_slice(token)?;
@@ -23,7 +26,7 @@ pub(crate) fn write_header(token: &[u8], out: &mut Vec<u8>) -> Result<(), AllocE
 }
 
 /// Writes a token behind one space.
-pub(crate) fn write_token(token: &[u8], out: &mut Vec<u8>) -> Result<(), AllocError>
+pub(crate) fn write_token(token: &[u8], out: &mut Vec<u8>) -> Written
     ensures writes { OnOk result (out.new.items ≡ out.old.items ++ 32 ∷ token.now) }
 {
     out.push(b' ')?;
@@ -31,7 +34,7 @@ pub(crate) fn write_token(token: &[u8], out: &mut Vec<u8>) -> Result<(), AllocEr
 }
 
 /// Writes a number.
-pub(crate) fn write_digits(number: usize, out: &mut Vec<u8>) -> Result<(), AllocError>
+pub(crate) fn write_digits(number: usize, out: &mut Vec<u8>) -> Written
     ensures writes { OnOk result (out.new.items ≡ out.old.items ++ decimal number) }
 {
     let mut digits = Buffer::new();
@@ -39,7 +42,7 @@ pub(crate) fn write_digits(number: usize, out: &mut Vec<u8>) -> Result<(), Alloc
 }
 
 /// Writes a number behind one space.
-pub(crate) fn write_number(number: usize, out: &mut Vec<u8>) -> Result<(), AllocError>
+pub(crate) fn write_number(number: usize, out: &mut Vec<u8>) -> Written
     ensures writes { OnOk result (out.new.items ≡ out.old.items ++ 32 ∷ decimal number) }
 {
     out.push(b' ')?;

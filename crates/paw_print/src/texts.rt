@@ -4,12 +4,11 @@ ghost use Rattle.std.specs.Prelude.{◌≡◌, ◌++◌, OnOk, codes, map};
 ghost use Rattle.paw_print.specs.Lines.{item_token, lines_of_text, text_lines};
 ghost use Rattle.paw_print.specs.Canonical.{with_line_end, texts_lines, written};
 
-use crate::rows::{end_line, write_digits, write_header};
+use crate::rows::{Written, end_line, write_digits, write_header};
 use paw_game::parts::{ObjectRow, Text};
-use std::alloc::AllocError;
 
 /// Writes the line that begins an item.
-pub(crate) fn write_item(number: usize, out: &mut Vec<u8>) -> Result<(), AllocError>
+pub(crate) fn write_item(number: usize, out: &mut Vec<u8>) -> Written
     ensures writes { OnOk result (out.new.items ≡ out.old.items ++ with_line_end (item_token number)) }
 {
     out.push(b'/')?;
@@ -18,7 +17,7 @@ pub(crate) fn write_item(number: usize, out: &mut Vec<u8>) -> Result<(), AllocEr
 }
 
 /// Writes the lines of a text; nothing where it is empty.
-fn write_lines(text: &[u8], out: &mut Vec<u8>) -> Result<(), AllocError>
+fn write_lines(text: &[u8], out: &mut Vec<u8>) -> Written
     ensures writes { OnOk result (out.new.items ≡ out.old.items ++ written (lines_of_text text.now)) }
 {
     if text.is_empty() {
@@ -27,7 +26,7 @@ fn write_lines(text: &[u8], out: &mut Vec<u8>) -> Result<(), AllocError>
     write_header(text, out)
 }
 
-fn write_text(number: usize, text: &Text, out: &mut Vec<u8>) -> Result<(), AllocError>
+fn write_text(number: usize, text: &Text, out: &mut Vec<u8>) -> Written
     ensures writes { OnOk result (out.new.items ≡ out.old.items ++ written (text_lines number text.now)) }
 {
     write_item(number, out)?;
@@ -35,11 +34,7 @@ fn write_text(number: usize, text: &Text, out: &mut Vec<u8>) -> Result<(), Alloc
 }
 
 /// Writes a section of texts.
-pub(crate) fn write_texts(
-    header: &[u8],
-    texts: &[Text],
-    out: &mut Vec<u8>,
-) -> Result<(), AllocError>
+pub(crate) fn write_texts(header: &[u8], texts: &[Text], out: &mut Vec<u8>) -> Written
     ensures writes { OnOk result (out.new.items ≡ out.old.items ++ written (texts_lines header.now texts.now)) }
 {
     write_header(header, out)?;
@@ -50,7 +45,7 @@ pub(crate) fn write_texts(
 }
 
 /// Writes the section of the objects' texts.
-pub(crate) fn write_object_texts(objects: &[ObjectRow], out: &mut Vec<u8>) -> Result<(), AllocError>
+pub(crate) fn write_object_texts(objects: &[ObjectRow], out: &mut Vec<u8>) -> Written
     ensures writes { OnOk result
         (out.new.items ≡ out.old.items ++ written (texts_lines (codes "/OTX") (map (λ o. o.text) objects.now))) }
 {

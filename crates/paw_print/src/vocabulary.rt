@@ -7,9 +7,8 @@ ghost use Rattle.paw_print.specs.Lines.{value_token, verb_token, word_token, wor
 ghost use Rattle.paw_print.specs.Canonical.{with_line_end, words_lines, written};
 ghost use Rattle.paw_print.specs.inner.Words.{TellsFirst};
 
-use crate::rows::{end_line, write_header, write_number, write_token};
+use crate::rows::{Written, end_line, write_header, write_number, write_token};
 use paw_game::parts::Word;
-use std::alloc::AllocError;
 use std::marker::Model;
 
 /// The words of a game, and for each class and value the first of them. Contracts see the words.
@@ -56,7 +55,7 @@ impl<'a> Vocabulary<'a> {
     }
 
     /// Writes the section of the words.
-    pub(crate) fn write_words(&self, out: &mut Vec<u8>) -> Result<(), AllocError>
+    pub(crate) fn write_words(&self, out: &mut Vec<u8>) -> Written
         ensures writes { OnOk result (out.new.items ≡ out.old.items ++ written (words_lines self.now)) }
     {
         write_header(b"/VOC", out)?;
@@ -68,7 +67,7 @@ impl<'a> Vocabulary<'a> {
     }
 
     /// Writes the token of a verb value.
-    pub(crate) fn write_verb(&self, value: u8, out: &mut Vec<u8>) -> Result<(), AllocError>
+    pub(crate) fn write_verb(&self, value: u8, out: &mut Vec<u8>) -> Written
         ensures writes { OnOk result (out.new.items ≡ out.old.items ++ verb_token self.now value) }
     {
         let verb = self.verbs[value as usize];
@@ -76,28 +75,28 @@ impl<'a> Vocabulary<'a> {
     }
 
     /// Writes the token of an adverb's value behind one space.
-    pub(crate) fn write_adverb(&self, value: u8, out: &mut Vec<u8>) -> Result<(), AllocError>
+    pub(crate) fn write_adverb(&self, value: u8, out: &mut Vec<u8>) -> Written
         ensures writes { OnOk result (out.new.items ≡ out.old.items ++ 32 ∷ value_token self.now 1 value) }
     {
         write_word_of(value, self.adverbs[value as usize], out)
     }
 
     /// Writes the token of a noun's value behind one space.
-    pub(crate) fn write_noun(&self, value: u8, out: &mut Vec<u8>) -> Result<(), AllocError>
+    pub(crate) fn write_noun(&self, value: u8, out: &mut Vec<u8>) -> Written
         ensures writes { OnOk result (out.new.items ≡ out.old.items ++ 32 ∷ value_token self.now 2 value) }
     {
         write_word_of(value, self.nouns[value as usize], out)
     }
 
     /// Writes the token of an adjective's value behind one space.
-    pub(crate) fn write_adjective(&self, value: u8, out: &mut Vec<u8>) -> Result<(), AllocError>
+    pub(crate) fn write_adjective(&self, value: u8, out: &mut Vec<u8>) -> Written
         ensures writes { OnOk result (out.new.items ≡ out.old.items ++ 32 ∷ value_token self.now 3 value) }
     {
         write_word_of(value, self.adjectives[value as usize], out)
     }
 
     /// Writes the token of a preposition's value behind one space.
-    pub(crate) fn write_preposition(&self, value: u8, out: &mut Vec<u8>) -> Result<(), AllocError>
+    pub(crate) fn write_preposition(&self, value: u8, out: &mut Vec<u8>) -> Written
         ensures writes { OnOk result (out.new.items ≡ out.old.items ++ 32 ∷ value_token self.now 4 value) }
     {
         write_word_of(value, self.prepositions[value as usize], out)
@@ -119,7 +118,7 @@ fn first_words(words: &[Word], class: u8) -> [Option<Word>; 256]
 }
 
 /// Writes what stands for a value where words stand: `*` for 1, `_` for 255, and else its word.
-fn write_value(value: u8, word: Option<Word>, out: &mut Vec<u8>) -> Result<(), AllocError>
+fn write_value(value: u8, word: Option<Word>, out: &mut Vec<u8>) -> Written
     ensures writes { OnOk result (out.new.items ≡ out.old.items ++ word_token value word) }
 {
     match value {
@@ -130,7 +129,7 @@ fn write_value(value: u8, word: Option<Word>, out: &mut Vec<u8>) -> Result<(), A
 }
 
 /// Writes what stands for a value behind one space.
-fn write_word_of(value: u8, word: Option<Word>, out: &mut Vec<u8>) -> Result<(), AllocError>
+fn write_word_of(value: u8, word: Option<Word>, out: &mut Vec<u8>) -> Written
     ensures writes { OnOk result (out.new.items ≡ out.old.items ++ 32 ∷ word_token value word) }
 {
     out.push(b' ')?;
@@ -138,7 +137,7 @@ fn write_word_of(value: u8, word: Option<Word>, out: &mut Vec<u8>) -> Result<(),
 }
 
 /// Writes the letters of a word; nothing where there is none.
-fn write_letters(word: Option<Word>, out: &mut Vec<u8>) -> Result<(), AllocError>
+fn write_letters(word: Option<Word>, out: &mut Vec<u8>) -> Written
     ensures writes { OnOk result (out.new.items ≡ out.old.items ++ letters_or_none word) }
 {
     match word {
@@ -179,7 +178,7 @@ fn class_name(class: u8) -> &'static [u8]
 }
 
 /// Writes the line of a word.
-fn write_word(word: &Word, out: &mut Vec<u8>) -> Result<(), AllocError>
+fn write_word(word: &Word, out: &mut Vec<u8>) -> Written
     ensures writes { OnOk result (out.new.items ≡ out.old.items ++ with_line_end (spaced (word_tokens word.now))) }
 {
     out.extend_from_slice(letters_of(word))?;

@@ -8,4 +8,5 @@ pub mod Hearing
 pub mod Runs
 pub mod Restored
 pub mod Again
+pub mod PathRows
 pub mod Fitting

@@ -1,6 +1,7 @@
 // Places in a table.
 
 ghost use Rattle.std.specs.Prelude.{◌≡◌, ◌+◌, ◌<◌, false, true, Some};
+ghost use Rattle.paw_base.specs.declared.limits.TheConstants.{ENTRY_LIMIT};
 ghost use Rattle.paw_process.specs.inner.Moves.{after_quit, after_key, after_found};
 ghost use Rattle.paw_effects.specs.declared.act.Prompt.TheVariants as prompt;
 
@@ -38,7 +39,7 @@ pub fn past(f: Frame, acted: bool) -> Frame
 
 /// The next entry.
 pub fn next_entry(f: Frame) -> Frame
-    requires entry { f.entry < 4000 }
+    requires entry { f.entry < ENTRY_LIMIT }
     ensures value { result ≡ record { table = f.table; entry = f.entry + 1; at = 0; acted = f.acted } }
 {
     Frame {
@@ -79,7 +80,7 @@ pub fn answered(waiting: Option<Prompt>, f: Frame, yes: bool) -> Frame
 /// Where reading goes on after PARSE: after a sentence at the next entry, else at the next condact.
 pub fn after_found(found: Found, f: Frame) -> Frame
     requires at { f.at < 255 }
-    requires entry { f.entry < 4000 }
+    requires entry { f.entry < ENTRY_LIMIT }
     ensures value { result ≡ after_found found f }
     ensures in_table { 0 < result.at → result.entry ≡ f.entry }
 {

@@ -1,13 +1,17 @@
 // The objects that a loop takes.
 
 ghost use Rattle.std.specs.Prelude.{◌≡◌, ℕ, ◌<◌, ◌≤◌, ◌-◌, length, IfSome, Some, None};
-ghost use Rattle.paw_effects.specs.Built.{IsOf};
+ghost use Rattle.paw_effects.specs.Worlds.{IsOf};
 ghost use Rattle.paw_game.specs.Tables.{facts_at};
 ghost use Rattle.paw_reading.specs.Reading.{may_be_taken, is_excepted, named};
 ghost use Rattle.paw_process.specs.inner.Objects.{least_taken, with_taken};
 ghost use Rattle.paw_world.specs.inner.Places.{left_above};
 
+use paw_base::flags::{
+    ADJECTIVE_FLAG, LOOP_FLAG, NOUN_FLAG, SECOND_ADJECTIVE_FLAG, SECOND_NOUN_FLAG,
+};
 use paw_base::parts::ObjectFacts;
+use paw_base::words::NO_WORD;
 use paw_effects::does::refer;
 use paw_game::tables::Tables;
 use paw_world::world::World;
@@ -16,9 +20,9 @@ use paw_world::world::World;
 fn is_excepted(world: &World, facts: ObjectFacts) -> bool
     ensures value { result ≡ is_excepted world.now facts }
 {
-    let noun = world.flag(44);
-    let adjective = world.flag(45);
-    noun != 255 && facts.noun == noun && (adjective == 255 || facts.adjective == adjective)
+    let noun = world.flag(SECOND_NOUN_FLAG);
+    let adjective = world.flag(SECOND_ADJECTIVE_FLAG);
+    noun != NO_WORD && facts.noun == noun && (adjective == NO_WORD || facts.adjective == adjective)
 }
 
 /// A loop may take an object where it has a noun and isn't excepted.
@@ -26,7 +30,7 @@ fn may_be_taken<T: Tables>(tables: &T, world: &World, o: u8) -> bool
     ensures value { result ≡ may_be_taken world.now (facts_at (T.game tables.now) o) }
 {
     match tables.facts(o) {
-        Some(facts) => facts.noun != 255 && !is_excepted(world, facts),
+        Some(facts) => facts.noun != NO_WORD && !is_excepted(world, facts),
         None => false,
     }
 }
@@ -54,8 +58,8 @@ fn name<T: Tables>(tables: &T, world: &mut World, o: u8)
 {
     match tables.facts(o) {
         Some(facts) => {
-            world.set_flag(34, facts.noun);
-            world.set_flag(35, facts.adjective);
+            world.set_flag(NOUN_FLAG, facts.noun);
+            world.set_flag(ADJECTIVE_FLAG, facts.adjective);
         }
         None => {}
     }
@@ -70,6 +74,6 @@ pub fn take<T: Tables>(tables: &T, world: &mut World, o: u8)
     ensures draws { world.new.draws ≡ world.old.draws }
 {
     name(tables, world, o);
-    world.set_flag(50, o);
+    world.set_flag(LOOP_FLAG, o);
     refer(tables, world, o);
 }

@@ -1,10 +1,14 @@
 // The next phrase of the pending line becomes the sentence in the flags.
 
 ghost use Rattle.std.specs.Prelude.{◌≡◌, ◌∷◌};
-ghost use Rattle.paw_effects.specs.Built.{IsOf};
+ghost use Rattle.paw_effects.specs.Worlds.{IsOf};
 ghost use Rattle.paw_reading.specs.Run.{spoken};
 ghost use Rattle.paw_process.specs.inner.Phrases.{Speaks};
 
+use paw_base::flags::{
+    ADJECTIVE_FLAG, ADVERB_FLAG, NOUN_FLAG, PREPOSITION_FLAG, PRONOUN_ADJECTIVE_FLAG,
+    PRONOUN_NOUN_FLAG, SECOND_ADJECTIVE_FLAG, SECOND_NOUN_FLAG, VERB_FLAG,
+};
 use paw_game::tables::Tables;
 use paw_phrase::{Found, Pending, Sentence, next_phrase};
 use paw_world::world::World;
@@ -17,7 +21,10 @@ pub fn take_phrase<T: Tables>(tables: &T, world: &mut World, pending: &mut Pendi
     ensures draws { world.new.draws ≡ world.old.draws }
     ensures game { IsOf (T.game tables.now) world.old → IsOf (T.game tables.now) world.new }
 {
-    let mut sentence = unspoken(world.flag(46), world.flag(47));
+    let mut sentence = Sentence::blank(
+        world.flag(PRONOUN_NOUN_FLAG),
+        world.flag(PRONOUN_ADJECTIVE_FLAG),
+    );
     let found = next_phrase(tables, pending, &mut sentence);
     if let Found::Sentence = found {
         speak(world, sentence);
@@ -25,35 +32,17 @@ pub fn take_phrase<T: Tables>(tables: &T, world: &mut World, pending: &mut Pendi
     found
 }
 
-/// No word yet; a pronoun stands for this noun and this adjective.
-fn unspoken(noun: u8, adjective: u8) -> Sentence
-    ensures noun { result.pronoun_noun ≡ noun }
-    ensures adjective { result.pronoun_adjective ≡ adjective }
-{
-    Sentence {
-        verb: 255,
-        noun: 255,
-        adjective: 255,
-        adverb: 255,
-        preposition: 255,
-        second_noun: 255,
-        second_adjective: 255,
-        pronoun_noun: noun,
-        pronoun_adjective: adjective,
-    }
-}
-
 /// Puts a sentence into the flags.
 fn speak(world: &mut World, s: Sentence)
     ensures value { world.new ≡ spoken s world.old }
 {
-    world.set_flag(33, s.verb);
-    world.set_flag(34, s.noun);
-    world.set_flag(35, s.adjective);
-    world.set_flag(36, s.adverb);
-    world.set_flag(43, s.preposition);
-    world.set_flag(44, s.second_noun);
-    world.set_flag(45, s.second_adjective);
-    world.set_flag(46, s.pronoun_noun);
-    world.set_flag(47, s.pronoun_adjective);
+    world.set_flag(VERB_FLAG, s.verb);
+    world.set_flag(NOUN_FLAG, s.noun);
+    world.set_flag(ADJECTIVE_FLAG, s.adjective);
+    world.set_flag(ADVERB_FLAG, s.adverb);
+    world.set_flag(PREPOSITION_FLAG, s.preposition);
+    world.set_flag(SECOND_NOUN_FLAG, s.second_noun);
+    world.set_flag(SECOND_ADJECTIVE_FLAG, s.second_adjective);
+    world.set_flag(PRONOUN_NOUN_FLAG, s.pronoun_noun);
+    world.set_flag(PRONOUN_ADJECTIVE_FLAG, s.pronoun_adjective);
 }

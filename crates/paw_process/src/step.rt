@@ -2,6 +2,8 @@
 
 ghost use Rattle.std.specs.Prelude.{◌≡◌, ◌≢◌, ℕ, ◌+◌, ◌-◌, ◌<◌, ◌≤◌, ◌^◌, List, [], ◌∷◌, length};
 ghost use Rattle.std.specs.Prelude.{true, false, Some, None, IsNone, if◌then◌else◌};
+ghost use Rattle.paw_base.specs.declared.limits.TheConstants.{ENTRY_LIMIT};
+ghost use Rattle.paw_base.specs.declared.messages.TheConstants.{QUIT_MESSAGE};
 ghost use Rattle.paw_game.specs.Valid.{Valid};
 ghost use Rattle.paw_game.specs.inner.Valid.{is_right};
 ghost use Rattle.paw_game.specs.Tables.{condact_at};
@@ -289,7 +291,7 @@ impl Machine {
         ensures meaning { (X : List (List ℕ)) (f : Frame) (r : Run) → self.old.frames ≡ f ∷ below self.old.frames →
             let g = story_of (T.game tables.now) X in
             Continues g (resolved g (below self.old.frames)
-            (printing (put_text g.game situation.old.world 12)
+            (printing (put_text g.game situation.old.world QUIT_MESSAGE)
             (waits g prompt.Quit f (past_of g (below self.old.frames) f))
             (run_held (having situation.old self.old) r)))
             result self.new.frames (run_held (having situation.new self.new) r) }
@@ -397,7 +399,7 @@ impl Machine {
         requires ready { IsReady (T.game tables.now) self.old situation.old.world }
         requires rows { HaveRows F.Fn routines.now }
         requires top { self.old.frames ≡ f ∷ below self.old.frames }
-        requires entry { f.entry < 4000 }
+        requires entry { f.entry < ENTRY_LIMIT }
         requires valid { Valid (T.game tables.now) }
         requires draws { situation.old.world.draws + self.old.left < 2 ^ 64 }
         ensures meaning { (X : List (List ℕ)) → AreRowsOf F.Fn routines.now X →

@@ -20,7 +20,7 @@ use Rattle.paw_reading.specs.declared.places.Frame.{Frame}
 use Rattle.paw_reading.specs.declared.places.OpenLoop.{OpenLoop}
 use Rattle.paw_reading.specs.Run.{Run, closed, fits, printed, with_world, without_loop, line_dropped, anew, is_timeout, is_ignored, heard, reply, is_yes, is_no, taken_phrase}
 use Rattle.paw_reading.specs.Reading.{IsOver, RunsOut, Redescribes, Restarts, Halts, Out, Left, Waits, Stopped, halts, noted, after_call, at_level, again, is_taken, taken, turns, loop_of, over, answered, asked, waits, after_test, after_parse, after_action, carried_out, acts, reads_one, condacts, is_for_now, entries, plain, looped, reads, called, deeper, rest, table_read, coming_phrase, goodbye, game_over, quit_question}
-use Rattle.paw_reading.specs.Turn.{Stage, AtDescribe, AtFrame, AtPhrase, AtResponse, Ending, Halted, saying, described, framed, view_text, counted, prompt_text, line_set, at_main, after_phrase, refusal_text, connected, after_left, table_done, turn, stages_left, opening, timeout_text, unknown_text}
+use Rattle.paw_reading.specs.Turn.{TurnStage, AtDescribe, AtFrame, AtPhrase, AtResponse, Ending, Halted, saying, described, framed, view_text, counted, prompt_text, line_set, at_main, after_phrase, refusal_text, connected, after_left, table_done, turn, stages_left, opening, timeout_text, unknown_text}
 use Rattle.paw_reading.specs.inner.Pieces.{count, Counted, PiecesOfLines}
 use Rattle.paw_reading.proofs.Keeps.{either, open_or_not, prints}
 
@@ -176,7 +176,7 @@ saying_counts : (text : List ℕ) (go : Run → Ending) → TurnsCounting go →
 saying_counts text go h v r k =
     either (Counted v) (fits r text) _ (Halted (RunsOut spent.Text) r) (h v (printed text r) k) k
 
-module _ (g : Story) (go : Stage → Run → Ending) (counts : (s : Stage) → TurnsCounting (go s)) where
+module _ (g : Story) (go : TurnStage → Run → Ending) (counts : (s : TurnStage) → TurnsCounting (go s)) where
   connected_counts : (to : Option ℕ) → TurnsCounting (λ r. connected g (go AtDescribe) (go AtFrame) r to)
   connected_counts None v r k = saying_counts (refusal_text g.game r.world) (go AtFrame) (counts AtFrame) v (line_dropped r) k
   connected_counts (Some to) v r k = counts AtDescribe v (with_world (with_flag r.world 38 to) r) k
@@ -218,7 +218,7 @@ module _ (g : Story) (go : Stage → Run → Ending) (counts : (s : Stage) → T
       saying_counts (prompt_text g.game r.world) (λ s. at_main g (go AtFrame) (go AtPhrase) (closed s) s.events)
       (λ w s h. at_main_counts w (closed s) s.events (omega (arith, closed_counts s, h))) v (line_dropped r) k
 
-turn_counts : (g : Story) (n : ℕ) (s : Stage) → TurnsCounting (turn g n s)
+turn_counts : (g : Story) (n : ℕ) (s : TurnStage) → TurnsCounting (turn g n s)
 unfolding turn
 turn_counts g zero s v r k = tt
 turn_counts g (suc n) AtDescribe v r k =

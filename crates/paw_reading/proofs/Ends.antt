@@ -13,15 +13,15 @@ use Rattle.paw_effects.specs.Texts.{say_text}
 use Rattle.paw_reading.specs.declared.places.Frame.{Frame}
 use Rattle.paw_reading.specs.Run.{Run, closed, fits, printed, with_world, line_dropped, is_timeout, is_ignored, heard, with_timeout}
 use Rattle.paw_reading.specs.Reading.{RunsOut, Redescribes, Restarts, Halts, Out, Left, Waits, Stopped, table_read}
-use Rattle.paw_reading.specs.Turn.{Stage, AtDescribe, AtFrame, AtPhrase, AtResponse, Ending, Halted, Unended, saying, described, framed, view_text, prompt_text, line_set, at_main, after_phrase, refusal_text, connected, responded, after_left, table_done, turn, left_to_read, stages_left, first_table, in_table, goes_on, unknown_text}
+use Rattle.paw_reading.specs.Turn.{TurnStage, AtDescribe, AtFrame, AtPhrase, AtResponse, Ending, Halted, Unended, saying, described, framed, view_text, prompt_text, line_set, at_main, after_phrase, refusal_text, connected, responded, after_left, table_done, turn, left_to_read, stages_left, first_table, in_table, goes_on, unknown_text}
 use Rattle.paw_reading.specs.inner.Turn.{TurnsEnd, EndsOnce, GoingOnEnds, GoesOnOnce}
 use Rattle.paw_reading.proofs.Spends.{brought, brought_more, Spends, table_spends, path_spends}
 
 -- ---- turns end ----
 
 -- from every stage that needs at most n stages the turn ends
-abbrev pub EndsWithin : ℕ → (Stage → Run → Ending) → Type 0
-EndsWithin n go = (s : Stage) (r : Run) → stages_left s r ≤ n → go s r ≢ Unended
+abbrev pub EndsWithin : ℕ → (TurnStage → Run → Ending) → Type 0
+EndsWithin n go = (s : TurnStage) (r : Run) → stages_left s r ≤ n → go s r ≢ Unended
 
 saying_ends : (text : List ℕ) (go : Run → Ending) (r : Run) → go (printed text r) ≢ Unended → saying text go r ≢ Unended
 saying_ends text go r h = by_test (fits r text)
@@ -30,13 +30,13 @@ saying_ends text go r h = by_test (fits r text)
     by_test true = h
     by_test false = λ e. cc
 
-connected_ends : (g : Story) (n : ℕ) (go : Stage → Run → Ending) → EndsWithin n go → (r : Run) → 4 * left_to_read r + 3 ≤ n → (to : Option ℕ) →
+connected_ends : (g : Story) (n : ℕ) (go : TurnStage → Run → Ending) → EndsWithin n go → (r : Run) → 4 * left_to_read r + 3 ≤ n → (to : Option ℕ) →
     connected g (go AtDescribe) (go AtFrame) r to ≢ Unended
 connected_ends g n go h r k None =
     saying_ends (refusal_text g.game r.world) (go AtFrame) (line_dropped r) (h AtFrame (printed (refusal_text g.game r.world) (line_dropped r)) (omega arith))
 connected_ends g n go h r k (Some to) = h AtDescribe (with_world (with_flag r.world 38 to) r) (omega arith)
 
-responded_ends : (g : Story) (n : ℕ) (go : Stage → Run → Ending) → EndsWithin n go → (r : Run) → 4 * left_to_read r + 3 ≤ n → (acted : Bool) →
+responded_ends : (g : Story) (n : ℕ) (go : TurnStage → Run → Ending) → EndsWithin n go → (r : Run) → 4 * left_to_read r + 3 ≤ n → (acted : Bool) →
     responded g (go AtDescribe) (go AtFrame) acted r ≢ Unended
 responded_ends g n go h r k true = h AtFrame r (omega arith)
 responded_ends g n go h r k false = connected_ends g n go h r k (exit_at g.game (flag r.world 38) (flag r.world 33))
@@ -47,7 +47,7 @@ rank_after zero = 3
 rank_after (suc zero) = 2
 rank_after (suc (suc t)) = 1
 
-after_left_ends : (g : Story) (n : ℕ) (go : Stage → Run → Ending) → EndsWithin n go → (t : ℕ) (acted : Bool) (r : Run) → 4 * left_to_read r + rank_after t ≤ n →
+after_left_ends : (g : Story) (n : ℕ) (go : TurnStage → Run → Ending) → EndsWithin n go → (t : ℕ) (acted : Bool) (r : Run) → 4 * left_to_read r + rank_after t ≤ n →
     after_left g go t acted r ≢ Unended
 after_left_ends g n go h zero acted r k = responded_ends g n go h r k acted
 after_left_ends g n go h (suc zero) acted r k = h AtFrame r k
@@ -58,14 +58,14 @@ rank_after-pos zero = omega arith
 rank_after-pos (suc zero) = omega arith
 rank_after-pos (suc (suc t)) = omega arith
 
-table_done_ends : (g : Story) (n : ℕ) (go : Stage → Run → Ending) → EndsWithin n go → (t v : ℕ) → 4 * v + rank_after t ≤ n → (x : Out) → Spends v x → table_done g go t x ≢ Unended
+table_done_ends : (g : Story) (n : ℕ) (go : TurnStage → Run → Ending) → EndsWithin n go → (t v : ℕ) → 4 * v + rank_after t ≤ n → (x : Out) → Spends v x → table_done g go t x ≢ Unended
 table_done_ends g n go h t v k (Left a r) s = after_left_ends g n go h t a r (omega arith)
 table_done_ends g n go h t v k (Stopped Redescribes r) s = h AtDescribe r (omega (arith, rank_after-pos t))
 table_done_ends g n go h t v k (Stopped Restarts r) s = h AtDescribe r (omega (arith, rank_after-pos t))
 table_done_ends g n go h t v k (Stopped (Halts halt) r) s = λ e. cc
 table_done_ends g n go h t v k (Waits p path r) s = λ e. cc
 
-at_main_ends : (g : Story) (n : ℕ) (go : Stage → Run → Ending) → EndsWithin n go → (r : Run) (lines : List (List ℕ)) → 4 * (length r.pending + brought lines) ≤ n →
+at_main_ends : (g : Story) (n : ℕ) (go : TurnStage → Run → Ending) → EndsWithin n go → (r : Run) (lines : List (List ℕ)) → 4 * (length r.pending + brought lines) ≤ n →
     at_main g (go AtFrame) (go AtPhrase) r lines ≢ Unended
 unfolding at_main
 at_main_ends g n go h r [] k = λ e. cc
@@ -83,7 +83,7 @@ at_main_ends g n go h r (line ∷ lines) k =
     by_test false true hx hy hz = hy
     by_test false false hx hy hz = hz
 
-after_phrase_ends : (g : Story) (n : ℕ) (go : Stage → Run → Ending) → EndsWithin n go → (r : Run) → 4 * left_to_read r ≤ n → (p : Parsed) →
+after_phrase_ends : (g : Story) (n : ℕ) (go : TurnStage → Run → Ending) → EndsWithin n go → (r : Run) → 4 * left_to_read r ≤ n → (p : Parsed) →
     Leaves (λ rest. length rest < length r.pending) p → after_phrase g (go AtFrame) (go AtPhrase) (go AtResponse) r p ≢ Unended
 after_phrase_ends g n go h r k (IsSentence s rest) less = h AtResponse _ (omega arith)
 after_phrase_ends g n go h r k (IsUnknown rest) less =
@@ -141,8 +141,8 @@ going_on_ends g p path r = goes_on_ends g (stages_left AtResponse r) p path r (o
 -- ---- more stages change nothing ----
 
 -- where one ends, the other is the same
-abbrev pub Refines : (Stage → Run → Ending) → (Stage → Run → Ending) → Type 0
-Refines go more = (s : Stage) (r : Run) → go s r ≢ Unended → more s r ≡ go s r
+abbrev pub Refines : (TurnStage → Run → Ending) → (TurnStage → Run → Ending) → Type 0
+Refines go more = (s : TurnStage) (r : Run) → go s r ≢ Unended → more s r ≡ go s r
 
 saying_more : (text : List ℕ) (go more : Run → Ending) (r : Run) → ((s : Run) → go s ≢ Unended → more s ≡ go s) → saying text go r ≢ Unended →
     saying text more r ≡ saying text go r
@@ -154,19 +154,19 @@ saying_more text go more r h = by_test (fits r text)
     by_test true k = h (printed text r) k
     by_test false k = refl
 
-connected_more : (g : Story) (go more : Stage → Run → Ending) → Refines go more → (r : Run) (to : Option ℕ) →
+connected_more : (g : Story) (go more : TurnStage → Run → Ending) → Refines go more → (r : Run) (to : Option ℕ) →
     connected g (go AtDescribe) (go AtFrame) r to ≢ Unended → connected g (more AtDescribe) (more AtFrame) r to ≡ connected g (go AtDescribe) (go AtFrame) r to
 connected_more g go more h r None k = saying_more _ (go AtFrame) (more AtFrame) _ (h AtFrame) k
 connected_more g go more h r (Some to) k = h AtDescribe _ k
 
-after_left_more : (g : Story) (go more : Stage → Run → Ending) → Refines go more → (t : ℕ) (acted : Bool) (r : Run) →
+after_left_more : (g : Story) (go more : TurnStage → Run → Ending) → Refines go more → (t : ℕ) (acted : Bool) (r : Run) →
     after_left g go t acted r ≢ Unended → after_left g more t acted r ≡ after_left g go t acted r
 after_left_more g go more h zero true r k = h AtFrame r k
 after_left_more g go more h zero false r k = connected_more g go more h r _ k
 after_left_more g go more h (suc zero) acted r k = h AtFrame r k
 after_left_more g go more h (suc (suc t)) acted r k = h AtPhrase _ k
 
-pub table_done_more : (g : Story) (go more : Stage → Run → Ending) → Refines go more → (t : ℕ) (x : Out) →
+pub table_done_more : (g : Story) (go more : TurnStage → Run → Ending) → Refines go more → (t : ℕ) (x : Out) →
     table_done g go t x ≢ Unended → table_done g more t x ≡ table_done g go t x
 table_done_more g go more h t (Left a r) k = after_left_more g go more h t a r k
 table_done_more g go more h t (Stopped Redescribes r) k = h AtDescribe r k
@@ -174,7 +174,7 @@ table_done_more g go more h t (Stopped Restarts r) k = h AtDescribe r k
 table_done_more g go more h t (Stopped (Halts halt) r) k = refl
 table_done_more g go more h t (Waits p path r) k = refl
 
-pub at_main_more : (g : Story) (go more : Stage → Run → Ending) → Refines go more → (r : Run) (lines : List (List ℕ)) →
+pub at_main_more : (g : Story) (go more : TurnStage → Run → Ending) → Refines go more → (r : Run) (lines : List (List ℕ)) →
     at_main g (go AtFrame) (go AtPhrase) r lines ≢ Unended → at_main g (more AtFrame) (more AtPhrase) r lines ≡ at_main g (go AtFrame) (go AtPhrase) r lines
 unfolding at_main
 at_main_more g go more h r [] k = refl
@@ -191,7 +191,7 @@ at_main_more g go more h r (line ∷ lines) k =
     by_test false true hx hy hz = hy
     by_test false false hx hy hz = hz
 
-after_phrase_more : (g : Story) (go more : Stage → Run → Ending) → Refines go more → (r : Run) (p : Parsed) →
+after_phrase_more : (g : Story) (go more : TurnStage → Run → Ending) → Refines go more → (r : Run) (p : Parsed) →
     after_phrase g (go AtFrame) (go AtPhrase) (go AtResponse) r p ≢ Unended →
     after_phrase g (more AtFrame) (more AtPhrase) (more AtResponse) r p ≡ after_phrase g (go AtFrame) (go AtPhrase) (go AtResponse) r p
 after_phrase_more g go more h r (IsSentence s rest) k = h AtResponse _ k

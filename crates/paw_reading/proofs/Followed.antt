@@ -13,10 +13,11 @@ use Rattle.paw_reading.specs.Run.{Run, closed, fits, printed, with_world, line_d
 use Rattle.paw_reading.specs.Reading.{RunsOut, Redescribes, Restarts, Halts, Out, Left, Waits, Stopped, deeper, table_read, coming_phrase}
 use Rattle.paw_reading.specs.GoingOn.{on_path}
 use Rattle.paw_reading.specs.inner.GoingOn.{with_lines, extended}
-use Rattle.paw_reading.specs.Turn.{Stage, AtDescribe, AtFrame, AtPhrase, AtResponse, Ending, WaitsAt, Halted, Unended, saying, described, framed, view_text, counted, prompt_text, line_set, at_main, after_phrase, refusal_text, connected, after_left, table_done, turn, stages_left, turns_from, opening, first_table, goes_on, timeout_text, unknown_text}
+use Rattle.paw_reading.specs.Turn.{TurnStage, AtDescribe, AtFrame, AtPhrase, AtResponse, Ending, WaitsAt, Halted, Unended, saying, described, framed, view_text, counted, prompt_text, line_set, at_main, after_phrase, refusal_text, connected, after_left, table_done, turn, stages_left, turns_from, opening, first_table, goes_on, timeout_text, unknown_text}
 use Rattle.paw_reading.specs.inner.Turn.{followed, GoingOnIsReading}
 use Rattle.paw_reading.specs.inner.Longer.{TurnsGoOn}
-use Rattle.paw_reading.proofs.Keeps.{Keeps, IsLoopOf, reads_keeps, deeper_keeps}
+use Rattle.paw_reading.specs.inner.Places.{IsLoopOf}
+use Rattle.paw_reading.proofs.Keeps.{Keeps, reads_keeps, deeper_keeps}
 use Rattle.paw_reading.proofs.Stops.{Stops, rest_stops}
 use Rattle.paw_reading.proofs.Stays.{IsInner, Stays, rest_stays}
 use Rattle.paw_reading.proofs.Longer.{tables_go_on}
@@ -38,8 +39,8 @@ module _ (g : Story) (lines : List (List ℕ)) where
   abbrev Follows : ℕ → Ending → Ending → Type 0
   Follows m x y = goes_from m x ≢ Unended → y ≡ goes_from m x
 
-  abbrev AreFollowing : ℕ → (Stage → Run → Ending) → (Stage → Run → Ending) → Type 0
-  AreFollowing m go more = (s : Stage) (r : Run) → r.turning ≡ None → Follows m (go s r) (more s (with_lines lines r))
+  abbrev AreFollowing : ℕ → (TurnStage → Run → Ending) → (TurnStage → Run → Ending) → Type 0
+  AreFollowing m go more = (s : TurnStage) (r : Run) → r.turning ≡ None → Follows m (go s r) (more s (with_lines lines r))
 
   saying_follows : (m : ℕ) (text : List ℕ) (go more : Run → Ending) (r : Run) → Follows m (go (printed text r)) (more (with_lines lines (printed text r))) →
       Follows m (saying text go r) (saying text more (with_lines lines r))
@@ -50,7 +51,7 @@ module _ (g : Story) (lines : List (List ℕ)) where
       by_test true k = h k
       by_test false k = refl
 
-  module _ (m : ℕ) (go more : Stage → Run → Ending) (follows : AreFollowing m go more) (refines : Refines (turn g m) more) where
+  module _ (m : ℕ) (go more : TurnStage → Run → Ending) (follows : AreFollowing m go more) (refines : Refines (turn g m) more) where
     connected_follows : (r : Run) → r.turning ≡ None → (to : Option ℕ) →
         Follows m (connected g (go AtDescribe) (go AtFrame) r to) (connected g (more AtDescribe) (more AtFrame) (with_lines lines r) to)
     connected_follows r none None k =
@@ -151,7 +152,7 @@ module _ (g : Story) (lines : List (List ℕ)) where
       rw e (read_follows m (turn g n) (turn g (n + m)) (turn_follows n m) (more_stages n m) 0 r none k)
 
   -- so many stages that going on ends
-  enough : (m : ℕ) (s : Stage) (r : Run) → r.turning ≡ None → goes_from m (turns_from g s r) ≢ Unended → turns_from g s (with_lines lines r) ≡ goes_from m (turns_from g s r)
+  enough : (m : ℕ) (s : TurnStage) (r : Run) → r.turning ≡ None → goes_from m (turns_from g s r) ≢ Unended → turns_from g s (with_lines lines r) ≡ goes_from m (turns_from g s r)
   enough m s r none h =
       let e : turn g (stages_left s r + m) s (with_lines lines r) ≡ goes_from m (turns_from g s r) = turn_follows (stages_left s r) m s r none h in
       sym (ends_once g (stages_left s r + m) s (with_lines lines r) (λ u. h (sym e ∙ u))) ∙ e

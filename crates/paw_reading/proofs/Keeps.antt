@@ -1,6 +1,6 @@
 -- A table that is left has the loop with which it was begun, or none.
 use Rattle.std.proofs.Common.{◌≡◌, ℕ, zero, suc, ◌-◌, Bool, true, false, ◌||◌, List, [], ◌∷◌, Option, Some, None, ◌⊎◌, inl, inr, refl, sym, ap, ◌∙◌, subst, length, drop, arith}
-use Rattle.std.specs.Prelude.{◌==◌, if◌then◌else◌, nat_lt, IfSome}
+use Rattle.std.specs.Prelude.{◌==◌, if◌then◌else◌, nat_lt}
 use Rattle.std.proofs.lemmas.Bool.Decides.{nat_tests}
 use Rattle.std.proofs.lemmas.Bool.{eqb-true}
 use Rattle.paw_base.specs.declared.parts.Condact.{Condact}
@@ -25,10 +25,6 @@ use Rattle.paw_reading.specs.Reading.{RunsOut, Restarts, Out, Left, Waits, Stopp
 -- the loop is this one, or there is none
 abbrev pub IsOrNone : Option OpenLoop → Option OpenLoop → Type 0
 IsOrNone o q = (q ≡ o) ⊎ (q ≡ None)
-
--- a loop of the outermost level belongs to this table
-abbrev pub IsLoopOf : ℕ → Option OpenLoop → Type 0
-IsLoopOf t turning = IfSome turning (λ l. l.level ≡ 0 → l.table ≡ t)
 
 abbrev pub Keeps : Option OpenLoop → Out → Type 0
 Keeps o (Left a r) = IsOrNone o r.turning

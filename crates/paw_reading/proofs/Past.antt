@@ -14,7 +14,7 @@ use Rattle.paw_reading.specs.Run.{Run, Step, closed, fits, printed, with_world, 
 use Rattle.paw_reading.specs.Reading.{RunsOut, Redescribes, Restarts, Halts, Out, Left, Waits, Stopped, rest, table_read, coming_phrase}
 use Rattle.paw_reading.specs.GoingOn.{on_path}
 use Rattle.paw_reading.specs.inner.GoingOn.{with_lines}
-use Rattle.paw_reading.specs.Turn.{Stage, AtDescribe, AtFrame, AtPhrase, AtResponse, Ending, WaitsAt, Halted, Unended, saying, described, framed, view_text, counted, prompt_text, line_set, at_main, after_phrase, refusal_text, connected, after_left, table_done, turn, stages_left, first_table, in_table, goes_on, on, reading, text_of, timeout_text, unknown_text}
+use Rattle.paw_reading.specs.Turn.{TurnStage, AtDescribe, AtFrame, AtPhrase, AtResponse, Ending, WaitsAt, Halted, Unended, saying, described, framed, view_text, counted, prompt_text, line_set, at_main, after_phrase, refusal_text, connected, after_left, table_done, turn, stages_left, first_table, in_table, goes_on, on, reading, text_of, timeout_text, unknown_text}
 use Rattle.paw_reading.specs.inner.Longer.{with_past, without_past, ending_with_past, PastStays, LongerReading, LongerText}
 use Rattle.paw_reading.proofs.Onward.{waits_on}
 use Rattle.paw_reading.proofs.Stops.{Stops, rest_stops, path_stops}
@@ -67,7 +67,7 @@ module _ (g : Story) (ps : List (List ℕ)) (ts : List (List Step)) where
       by_test true = h
       by_test false = refl
 
-  module _ (go : Stage → Run → Ending) (pasts : (s : Stage) (r : Run) → go s (with_past ps ts r) ≡ ending_with_past ps ts (go s r)) where
+  module _ (go : TurnStage → Run → Ending) (pasts : (s : TurnStage) (r : Run) → go s (with_past ps ts r) ≡ ending_with_past ps ts (go s r)) where
     connected_past : (r : Run) (to : Option ℕ) → connected g (go AtDescribe) (go AtFrame) (with_past ps ts r) to ≡ ending_with_past ps ts (connected g (go AtDescribe) (go AtFrame) r to)
     connected_past r None = saying_past (refusal_text g.game r.world) (go AtFrame) (line_dropped r) (pasts AtFrame (printed (refusal_text g.game r.world) (line_dropped r)))
     connected_past r (Some to) = pasts AtDescribe (with_world (with_flag r.world 38 to) r)
@@ -116,7 +116,7 @@ module _ (g : Story) (ps : List (List ℕ)) (ts : List (List Step)) where
         saying_past (prompt_text g.game r.world) (λ s. at_main g (go AtFrame) (go AtPhrase) (closed s) s.events) (line_dropped r)
         (rw (closed_past (printed (prompt_text g.game r.world) (line_dropped r))) (at_main_past (closed (printed (prompt_text g.game r.world) (line_dropped r))) r.events))
 
-  turn_past : (n : ℕ) (s : Stage) (r : Run) → turn g n s (with_past ps ts r) ≡ ending_with_past ps ts (turn g n s r)
+  turn_past : (n : ℕ) (s : TurnStage) (r : Run) → turn g n s (with_past ps ts r) ≡ ending_with_past ps ts (turn g n s r)
   unfolding turn
   turn_past zero s r = refl
   turn_past (suc n) AtDescribe r =

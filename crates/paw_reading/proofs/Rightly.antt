@@ -8,7 +8,7 @@ use Rattle.paw_game.specs.Tables.{exit_at}
 use Rattle.paw_game.specs.Valid.{Valid}
 use Rattle.paw_world.specs.World.{World, Position, flag, with_flag, is_dark, is_unlit, fallen, fallen_if}
 use Rattle.paw_phrase.specs.Sentence.{Parsed, IsSentence, IsUnknown, IsNoPhrase}
-use Rattle.paw_effects.specs.Built.{StandsIn}
+use Rattle.paw_effects.specs.Worlds.{StandsIn}
 use Rattle.paw_effects.specs.inner.Standing.{MayBePosition}
 use Rattle.paw_effects.specs.Story.{Story}
 use Rattle.paw_effects.specs.declared.act.Prompt.{Prompt}
@@ -19,7 +19,7 @@ use Rattle.paw_reading.specs.declared.places.Frame.{Frame}
 use Rattle.paw_reading.specs.declared.places.OpenLoop.{OpenLoop}
 use Rattle.paw_reading.specs.Run.{Run, Step, closed, fits, printed, with_world, line_dropped, is_timeout, is_ignored, heard, taken_phrase}
 use Rattle.paw_reading.specs.Reading.{IsOver, RunsOut, Redescribes, Restarts, Halts, Out, Left, Waits, Stopped, table_read, coming_phrase}
-use Rattle.paw_reading.specs.Turn.{Stage, AtDescribe, AtFrame, AtPhrase, AtResponse, Ending, WaitsAt, Halted, reading, on, saying, described, framed, view_text, counted, prompt_text, line_set, at_main, after_phrase, refusal_text, connected, after_left, table_done, turn, stages_left, opening, first_table, in_table, goes_on, timeout_text, unknown_text}
+use Rattle.paw_reading.specs.Turn.{TurnStage, AtDescribe, AtFrame, AtPhrase, AtResponse, Ending, WaitsAt, Halted, reading, on, saying, described, framed, view_text, counted, prompt_text, line_set, at_main, after_phrase, refusal_text, connected, after_left, table_done, turn, stages_left, opening, first_table, in_table, goes_on, timeout_text, unknown_text}
 use Rattle.paw_reading.specs.Bounds.{IsLine, ValidStory}
 use Rattle.paw_reading.specs.inner.Bounds.{IsBounded}
 use Rattle.paw_reading.specs.inner.Longer.{without_past, with_past, ending_with_past}
@@ -95,7 +95,7 @@ module _ (g : Story) (v : Valid g.game) where
       let printed_so : IsBetween (printed text r) = record { of = k.of; none = k.none } in
       either IsRightly (fits r text) _ (Halted (RunsOut spent.Text) r) (h (printed text r) printed_so) tt
 
-  module _ (go : Stage → Run → Ending) (goes : (s : Stage) → GoRightly (go s)) where
+  module _ (go : TurnStage → Run → Ending) (goes : (s : TurnStage) → GoRightly (go s)) where
     connected_rightly : (to : Option ℕ) → GoRightly (λ r. connected g (go AtDescribe) (go AtFrame) r to)
     connected_rightly None r k =
         saying_rightly (refusal_text g.game r.world) (go AtFrame) (goes AtFrame) (line_dropped r) (record { of = k.of; none = k.none })
@@ -147,7 +147,7 @@ module _ (g : Story) (v : Valid g.game) where
         (Halted (RunsOut spent.Text) (line_dropped r))
         (at_main_rightly (closed (printed (prompt_text g.game r.world) (line_dropped r))) r.events (record { of = k.of; none = k.none }) refl) tt
 
-  turn_rightly : (n : ℕ) (s : Stage) → GoRightly (turn g n s)
+  turn_rightly : (n : ℕ) (s : TurnStage) → GoRightly (turn g n s)
   unfolding turn
   turn_rightly zero s r k = tt
   turn_rightly (suc n) AtDescribe r k =

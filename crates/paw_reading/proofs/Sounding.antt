@@ -33,7 +33,7 @@ use Rattle.paw_reading.specs.declared.places.OpenLoop.{OpenLoop}
 use Rattle.paw_reading.specs.Run.{Run, closed, fits, printed, with_world, without_loop, line_dropped, anew, is_timeout, is_ignored, heard, with_timeout, reply, is_yes, is_no, spoken, taken_phrase}
 use Rattle.paw_reading.specs.Reading.{IsOver, RunsOut, Redescribes, Restarts, Halts, Out, Left, Waits, Stopped, halts, noted, printing, after_call, at_level, again, is_taken, named, taken, turns, loop_of, over, answered, asked, waits, after_test, after_parse, after_action, carried_out, acts, reads_one, condacts, is_for_now, entries, plain, looped, reads, called, deeper, table_read, goodbye, game_over, quit_question, coming_phrase}
 use Rattle.paw_reading.specs.GoingOn.{on_path}
-use Rattle.paw_reading.specs.Turn.{Stage, AtDescribe, AtFrame, AtPhrase, AtResponse, Ending, WaitsAt, Halted, saying, described, framed, view_text, counted, prompt_text, line_set, at_main, after_phrase, refusal_text, connected, after_left, table_done, turn, stages_left, opening, reading, first_table, in_table, goes_on, on, timeout_text, unknown_text}
+use Rattle.paw_reading.specs.Turn.{TurnStage, AtDescribe, AtFrame, AtPhrase, AtResponse, Ending, WaitsAt, Halted, saying, described, framed, view_text, counted, prompt_text, line_set, at_main, after_phrase, refusal_text, connected, after_left, table_done, turn, stages_left, opening, reading, first_table, in_table, goes_on, on, timeout_text, unknown_text}
 use Rattle.paw_reading.proofs.Keeps.{either, open_or_not}
 use Rattle.paw_reading.specs.Bounds.{IsLine, ValidStory}
 use Rattle.paw_effects.proofs.Worlds.{IsWorldAt, few_locations, few_objects, facts_small, later, flag_small, flagged, start_so, anew_so}
@@ -473,7 +473,7 @@ module _ (g : Story) (valid : ValidStory g) (seed base : ℕ) where
       high : (x : ℕ) → x ≤ 65535 → x / 256 < 256
       high x most = omega arith
 
-  module _ (go : Stage → Run → Ending) (goes : (s : Stage) → TurnsSound (go s)) where
+  module _ (go : TurnStage → Run → Ending) (goes : (s : TurnStage) → TurnsSound (go s)) where
     connected_sounds : (r : Run) → Is r → (to : Option ℕ) → exit_at g.game (flag r.world 38) (flag r.world 33) ≡ to → EndsSound (connected g (go AtDescribe) (go AtFrame) r to)
     connected_sounds r k None e = saying_sounds (refusal_text g.game r.world) (go AtFrame) (goes AtFrame) (line_dropped r) (dropped r k)
     connected_sounds r k (Some to) e =
@@ -535,7 +535,7 @@ module _ (g : Story) (valid : ValidStory g) (seed base : ℕ) where
         saying_sounds (prompt_text g.game r.world) (λ s. at_main g (go AtFrame) (go AtPhrase) (closed s) s.events)
         (λ s j. at_main_sounds (closed s) s.events (closed_rests s j) j.lines) (line_dropped r) (dropped r k)
 
-  turn_sounds : (n : ℕ) (s : Stage) → TurnsSound (turn g n s)
+  turn_sounds : (n : ℕ) (s : TurnStage) → TurnsSound (turn g n s)
   unfolding turn
   turn_sounds zero s r k = tt
   turn_sounds (suc n) AtDescribe r k =

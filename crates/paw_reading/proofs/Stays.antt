@@ -23,7 +23,8 @@ use Rattle.paw_reading.specs.Run.{Run, closed, fits, printed, with_world, anew, 
 use Rattle.paw_reading.specs.Reading.{RunsOut, Restarts, Out, Left, Waits, Stopped, halts, noted, after_call, at_level, again, is_taken, taken, turns, loop_of, over, answered, asked, after_test, after_parse, after_action, carried_out, acts, reads_one, condacts, is_for_now, entries, plain, looped, reads, called, deeper, rest, table_read, goodbye, game_over, quit_question, waits}
 use Rattle.paw_reading.specs.GoingOn.{on_path}
 use Rattle.paw_reading.specs.Turn.{first_table}
-use Rattle.paw_reading.proofs.Keeps.{either, open_or_not, at_level_is, IsLoopOf, prints}
+use Rattle.paw_reading.specs.inner.Places.{IsLoopOf}
+use Rattle.paw_reading.proofs.Keeps.{either, open_or_not, at_level_is, prints}
 
 -- a wait at this level, where table t is the one at level 0
 pub record WaitsThere (t lv : ℕ) (p : Prompt) (path : List Frame) (turning : Option OpenLoop) : Type 0 where

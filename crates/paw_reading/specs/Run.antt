@@ -51,7 +51,7 @@ without_loop r = record r { turning = None }
 abbrev pub line_dropped : Run → Run
 line_dropped r = record r { pending = [] }
 
--- the game starts anew: the draws, the saved position and the number of lines stay
+-- the game starts anew: the draws, the saved position, the kept positions and the number of lines stay
 abbrev pub anew : Run → Run
 anew r = record r { world = restarted r.world; pending = []; earlier = NO_WORD; turning = None }
 

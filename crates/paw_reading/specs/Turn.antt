@@ -28,11 +28,11 @@ use Rattle.paw_reading.specs.Reading.{Out, Left, Waits, Stopped, coming_phrase, 
 use Rattle.paw_reading.specs.GoingOn.{on_path}
 
 -- the four stages of a turn
-pub data Stage : Type 0 where
-  AtDescribe : Stage
-  AtFrame : Stage
-  AtPhrase : Stage
-  AtResponse : Stage
+pub data TurnStage : Type 0 where
+  AtDescribe : TurnStage
+  AtFrame : TurnStage
+  AtPhrase : TurnStage
+  AtResponse : TurnStage
 
 -- How a reading ends: no line is left at a prompt, with the places that are open (none at the main prompt); or play
 -- ends for good. Unended comes only where too few stages were granted.
@@ -147,17 +147,17 @@ responded g describe frame true r = frame r
 responded g describe frame false r = connections g describe frame r
 
 -- after table 0 comes the response's end, after table 1 the frame, after table 2 the fall of flags and the next phrase
-abbrev pub after_left : Story → (Stage → Run → Ending) → ℕ → Bool → Run → Ending
+abbrev pub after_left : Story → (TurnStage → Run → Ending) → ℕ → Bool → Run → Ending
 after_left g go zero acted r = responded g (go AtDescribe) (go AtFrame) acted r
 after_left g go (suc zero) acted r = go AtFrame r
 after_left g go (suc (suc t)) acted r = go AtPhrase (with_world (framed r.world) r)
 
 -- how the turn goes on after a table
-abbrev pub table_done : Story → (Stage → Run → Ending) → ℕ → Out → Ending
+abbrev pub table_done : Story → (TurnStage → Run → Ending) → ℕ → Out → Ending
 table_done g go t x = after_outermost (go AtDescribe) (after_left g go t) x
 
 -- at most n stages of the turn
-unfoldable pub turn : Story → ℕ → Stage → Run → Ending
+unfoldable pub turn : Story → ℕ → TurnStage → Run → Ending
 turn g zero s r = Unended
 turn g (suc n) AtDescribe r =
     let view = view_text g.game (described r.world) in
@@ -174,14 +174,14 @@ left_to_read r =
     length r.pending + (READ_LIMIT - length r.read) + sum_by (λ line. length line + suc READ_LIMIT) r.events
 
 -- so many stages are enough from a stage on
-abbrev pub stages_left : Stage → Run → ℕ
+abbrev pub stages_left : TurnStage → Run → ℕ
 stages_left AtPhrase r = 4 * left_to_read r + 1
 stages_left AtFrame r = 4 * left_to_read r + 2
 stages_left AtDescribe r = 4 * left_to_read r + 3
 stages_left AtResponse r = 4 * left_to_read r + 4
 
 -- the turns from a stage on, to the end of the reading
-abbrev pub turns_from : Story → Stage → Run → Ending
+abbrev pub turns_from : Story → TurnStage → Run → Ending
 turns_from g s r = turn g (stages_left s r) s r
 
 -- ---- the reading ----

@@ -137,22 +137,26 @@ texts_keep p section.Stx begun ts d e k new =
     let h = k.heads in
     let none = at_section section.Stx d e k.order in
     let made : Spelt = record d { system = ts; begun = begun } in
-    no_rows p made (record { words = h.words; system = new; messages = h.messages; names = h.names; locations = h.locations }) none (from_section section.Stx made e none)
+    let heads : Heads made = record { words = h.words; system = new; messages = h.messages; names = h.names; locations = h.locations } in
+    no_rows p made heads none (from_section section.Stx made e none)
 texts_keep p section.Mtx begun ts d e k new =
     let h = k.heads in
     let none = at_section section.Mtx d e k.order in
     let made : Spelt = record d { messages = ts; begun = begun } in
-    no_rows p made (record { words = h.words; system = h.system; messages = new; names = h.names; locations = h.locations }) none (from_section section.Mtx made e none)
+    let heads : Heads made = record { words = h.words; system = h.system; messages = new; names = h.names; locations = h.locations } in
+    no_rows p made heads none (from_section section.Mtx made e none)
 texts_keep p section.Otx begun ts d e k new =
     let h = k.heads in
     let none = at_section section.Otx d e k.order in
     let made : Spelt = record d { names = ts; begun = begun } in
-    no_rows p made (record { words = h.words; system = h.system; messages = h.messages; names = new; locations = h.locations }) none (from_section section.Otx made e none)
+    let heads : Heads made = record { words = h.words; system = h.system; messages = h.messages; names = new; locations = h.locations } in
+    no_rows p made heads none (from_section section.Otx made e none)
 texts_keep p section.Ltx begun ts d e k new =
     let h = k.heads in
     let none = at_section section.Ltx d e k.order in
     let made : Spelt = record d { locations = ts; begun = begun } in
-    no_rows p made (record { words = h.words; system = h.system; messages = h.messages; names = h.names; locations = new }) none (from_section section.Ltx made e none)
+    let heads : Heads made = record { words = h.words; system = h.system; messages = h.messages; names = h.names; locations = new } in
+    no_rows p made heads none (from_section section.Ltx made e none)
 texts_keep p section.Con begun ts d e k new = k
 texts_keep p section.Obj begun ts d e k new = k
 texts_keep p section.Pro begun ts d e k new = k

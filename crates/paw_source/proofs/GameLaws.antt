@@ -92,7 +92,8 @@ valid_game p d k three counted =
           (list_all (is_object d.words (length d.locations)) (objects_of d.names d.facts))
           (grind (arith, nat_tests, count, few_names))
           (objects_all d.words (length d.locations) d.names d.facts k.heads.names.all k.facts);
-      locations = both (nat_le 1 (length d.locations)) (texts_kept 252 d.locations) (grind (arith, nat_tests, some)) (texts_valid 252 d.locations k.heads.locations);
+      locations = both (nat_le 1 (length d.locations)) (texts_kept 252 d.locations) (grind (arith, nat_tests, some))
+          (texts_valid 252 d.locations k.heads.locations);
       exits = both (eqb (length (all_exits (length d.locations) d.exits)) (length d.locations))
           (list_all (is_exits d.words (length d.locations)) (all_exits (length d.locations) d.exits))
           (grind (arith, nat_tests, long, few_exits))

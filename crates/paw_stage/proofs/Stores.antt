@@ -1,7 +1,7 @@
 -- The attached store after one call more.
 use Rattle.std.proofs.Common.{◌≡◌, ◌≢◌, ◌⊎◌, inl, inr, ℕ, ◌+◌, Bool, true, false, List, [], ◌∷◌, ◌++◌, length, take, drop, refl, sym, ap, ◌∙◌, subst, arith}
 use Rattle.std.proofs.Common.{length-append}
-use Rattle.std.specs.Prelude.{Option, Some, None, ◌||◌, if◌then◌else◌}
+use Rattle.std.specs.Prelude.{Option, Some, None, ◌||◌, if◌then◌else◌, slice_range}
 use Rattle.std.specs.Str.{bytes_eq}
 use Rattle.std.proofs.lemmas.List.{take-append-le, drop-append-le, take_all, length-drop}
 use Rattle.std.proofs.lemmas.Slice.Eq.{bytes_eq-Decides}
@@ -9,6 +9,8 @@ use Rattle.paw_stage.specs.Disk.{Disk, is_dirty, stable}
 use Rattle.paw_stage.specs.Stage.{Standing}
 use Rattle.paw_stage.specs.inner.Done.{DoneCall, fresh, step_done, after, is_attached}
 use Rattle.paw_stage.specs.inner.Seen.{writes, is_written, IsStore, IsNamed, FindsStore}
+use Rattle.paw_stage.specs.inner.Log.{done_in}
+use Rattle.paw_stage.specs.declared.log.Call.{Call}
 use Rattle.paw_stage.specs.declared.log.Kind.{Kind}
 use Rattle.paw_stage.specs.declared.log.Kind.TheVariants as kind
 use Rattle.paw_stage.specs.declared.replay.Store.{Store}
@@ -109,6 +111,12 @@ quiet_finds room ds kind.Sync name bytes store q h = absurd q
 quiet_finds room ds kind.Take name bytes store q h = kept_finds room ds (record { kind = kind.Take; name = name; bytes = bytes }) store h refl refl (λ i. refl)
 quiet_finds room ds kind.End name bytes store q h = kept_finds room ds (record { kind = kind.End; name = name; bytes = bytes }) store h refl refl (λ i. refl)
 quiet_finds room ds kind.Show name bytes store q h = kept_finds room ds (record { kind = kind.Show; name = name; bytes = bytes }) store h refl refl (λ i. refl)
+
+-- so does a call that lies in this room
+pub quiet_call_finds : (room : List ℕ) (ds : List DoneCall) (call : Call) (store : Option Store) → IsQuiet call.kind → FindsStore room ds store
+    → FindsStore room (ds ++ done_in room call ∷ []) store
+quiet_call_finds room ds call store q h =
+    quiet_finds room ds call.kind (slice_range room call.from call.mid) (slice_range room call.mid call.to) store q h
 
 -- the store's bytes where its file, or another, was saved
 same_disk : (s : Standing) (name bytes : List ℕ) → s.attached ≡ Some name → (if is_attached s.attached name then stable bytes else s.disk) ≡ stable bytes

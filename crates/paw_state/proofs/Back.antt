@@ -1,5 +1,6 @@
 -- From fields to the state that they say, and back.
-use Rattle.std.proofs.Common.{◌≡◌, ℕ, zero, suc, ◌+◌, ◌<◌, ◌≤◌, ◌==◌, List, [], ◌∷◌, Option, Some, None, length, map, take, drop, nat_le, refl, sym, ap, ◌∙◌, arith}
+use Rattle.std.proofs.Common.{◌≡◌, ℕ, zero, suc, ◌+◌, ◌<◌, ◌≤◌, ◌==◌, List, [], ◌∷◌, Option, Some}
+use Rattle.std.proofs.Common.{None, length, map, take, drop, nat_le, refl, sym, ap, ◌∙◌, arith}
 use Rattle.std.specs.Prelude.{All, if◌then◌else◌}
 use Rattle.std.proofs.lemmas.List.{length-take}
 use Rattle.std.proofs.lemmas.Bool.{leb-true}
@@ -32,12 +33,14 @@ use Rattle.paw_state.proofs.Loops.{turning_back, presence_back, looping_low}
 pub objects_stand : (g : GameLists) (at : ℕ) (places : List ℕ) → places_fault g at places ≡ None
     → first_not (is_place (length g.locations)) at (take (length g.objects) places) ≡ None
 objects_stand g at places h =
-    (two (first_not (is_place (length g.locations)) at (take (length g.objects) places)) (first_not is_zero (at + length g.objects) (drop (length g.objects) places)) h).0
+    (two (first_not (is_place (length g.locations)) at (take (length g.objects) places))
+    (first_not is_zero (at + length g.objects) (drop (length g.objects) places)) h).0
 
 pub zeros_behind : (g : GameLists) (at : ℕ) (places : List ℕ) → places_fault g at places ≡ None
     → first_not is_zero (at + length g.objects) (drop (length g.objects) places) ≡ None
 zeros_behind g at places h =
-    (two (first_not (is_place (length g.locations)) at (take (length g.objects) places)) (first_not is_zero (at + length g.objects) (drop (length g.objects) places)) h).1
+    (two (first_not (is_place (length g.locations)) at (take (length g.objects) places))
+    (first_not is_zero (at + length g.objects) (drop (length g.objects) places)) h).1
 
 places_back : (g : GameLists) (at : ℕ) (places : List ℕ) → Valid g → length places ≡ 255 → places_fault g at places ≡ None
     → filled 255 (take (length g.objects) places) ≡ places
@@ -129,17 +132,20 @@ same_world : (a b : World) → a.facts ≡ b.facts → a.locations ≡ b.locatio
 same_world a b facts locations flags places saved kept seed draws =
     let e : ◌≡◌ {A = World}
     (record { facts = a.facts; locations = a.locations; flags = a.flags; places = a.places; saved = a.saved; kept = a.kept; seed = a.seed; draws = a.draws })
-    (record { facts = b.facts; locations = b.locations; flags = b.flags; places = b.places; saved = b.saved; kept = b.kept; seed = b.seed; draws = b.draws }) = cc in e
+    (record { facts = b.facts; locations = b.locations; flags = b.flags; places = b.places; saved = b.saved; kept = b.kept; seed = b.seed; draws = b.draws }) =
+    cc in e
 
 same_frames : (a b : Frames) → a.count ≡ b.count → a.rows ≡ b.rows → a.turning ≡ b.turning → a ≡ b
 same_frames a b count rows turning =
-    let e : ◌≡◌ {A = Frames} (record { count = a.count; rows = a.rows; turning = a.turning }) (record { count = b.count; rows = b.rows; turning = b.turning }) = cc in e
+    let e : ◌≡◌ {A = Frames} (record { count = a.count; rows = a.rows; turning = a.turning })
+    (record { count = b.count; rows = b.rows; turning = b.turning }) = cc in e
 
 same_pending : (a b : PendingLine) → a.bytes ≡ b.bytes → a.earlier ≡ b.earlier → a ≡ b
 same_pending a b bytes earlier =
     let e : ◌≡◌ {A = PendingLine} (record { bytes = a.bytes; earlier = a.earlier }) (record { bytes = b.bytes; earlier = b.earlier }) = cc in e
 
-same_state : (a b : State) → a.world ≡ b.world → a.frames ≡ b.frames → a.pending ≡ b.pending → a.prompt ≡ b.prompt → a.events ≡ b.events → a.piece ≡ b.piece → a ≡ b
+same_state : (a b : State) → a.world ≡ b.world → a.frames ≡ b.frames → a.pending ≡ b.pending → a.prompt ≡ b.prompt → a.events ≡ b.events → a.piece ≡ b.piece
+    → a ≡ b
 same_state a b world frames pending at events piece =
     let e : ◌≡◌ {A = State}
     (record { world = a.world; frames = a.frames; pending = a.pending; prompt = a.prompt; events = a.events; piece = a.piece })

@@ -9,7 +9,8 @@ use Rattle.paw_reading.specs.declared.places.OpenLoop.{OpenLoop}
 use Rattle.paw_state.specs.declared.fields.Row.{Row}
 use Rattle.paw_state.specs.declared.fields.Fields.{Fields}
 use Rattle.paw_state.specs.declared.held.Held.{Held}
-use Rattle.paw_state.specs.Fields.{in_sequence, eight_bytes, row_bytes, loop_bytes, held_bytes, two_at, eight_at, row_at, rows_at, held_at, fields_at, world_bytes, number_bytes, table_bytes, pending_bytes, kept_position_bytes, field_bytes}
+use Rattle.paw_state.specs.Fields.{in_sequence, eight_bytes, row_bytes, loop_bytes, held_bytes, two_at, eight_at, row_at, rows_at, held_at}
+use Rattle.paw_state.specs.Fields.{fields_at, world_bytes, number_bytes, table_bytes, pending_bytes, kept_position_bytes, field_bytes}
 use Rattle.paw_state.proofs.Pieces.{range_is, behind, byte_is}
 use Rattle.paw_state.proofs.Written.{length-rows}
 
@@ -39,7 +40,8 @@ pub record AreSized (f : Fields) : Type 0 where
 here : (bytes x q : List ℕ) (xs : List (List ℕ)) (at n : ℕ) → drop at bytes ≡ in_sequence (x ∷ xs) ++ q → length x ≡ n → slice_range bytes at (at + n) ≡ x
 here bytes x q xs at n h k = range_is bytes x (in_sequence xs ++ q) at n (h ∙ append_assoc x (in_sequence xs) q) k
 
-later : (bytes x q : List ℕ) (xs : List (List ℕ)) (at n : ℕ) → drop at bytes ≡ in_sequence (x ∷ xs) ++ q → length x ≡ n → drop (at + n) bytes ≡ in_sequence xs ++ q
+later : (bytes x q : List ℕ) (xs : List (List ℕ)) (at n : ℕ) → drop at bytes ≡ in_sequence (x ∷ xs) ++ q → length x ≡ n
+    → drop (at + n) bytes ≡ in_sequence xs ++ q
 later bytes x q xs at n h k = behind bytes x (in_sequence xs ++ q) at n (h ∙ append_assoc x (in_sequence xs) q) k
 
 -- numbers
@@ -53,7 +55,8 @@ eight_cut bytes at n h low = ap (from_le_bytes w64) h ∙ from_le_bytes-to_le_by
 
 pub same_held : (a b : Held) → a.there ≡ b.there → a.flags ≡ b.flags → a.places ≡ b.places → a ≡ b
 same_held a b there flags places =
-    let e : ◌≡◌ {A = Held} (record { there = a.there; flags = a.flags; places = a.places }) (record { there = b.there; flags = b.flags; places = b.places }) = cc in e
+    let e : ◌≡◌ {A = Held} (record { there = a.there; flags = a.flags; places = a.places })
+    (record { there = b.there; flags = b.flags; places = b.places }) = cc in e
 
 held_cut : (h : Held) (q : List ℕ) → IsSizedHeld h → held_at (held_bytes h ++ q) ≡ h
 unfolding held_bytes
@@ -252,8 +255,43 @@ pub same_fields : (a b : Fields) → a.flags ≡ b.flags → a.places ≡ b.plac
     → a.turning ≡ b.turning → a.earlier ≡ b.earlier → a.pending ≡ b.pending → a.line ≡ b.line → a.piece ≡ b.piece → a.kept ≡ b.kept → a ≡ b
 same_fields a b flags places saved seed draws events prompt count rows looping turning earlier pending line piece kept =
     let e : ◌≡◌ {A = Fields}
-    (record { flags = a.flags; places = a.places; saved = a.saved; seed = a.seed; draws = a.draws; events = a.events; prompt = a.prompt; count = a.count; rows = a.rows; looping = a.looping; turning = a.turning; earlier = a.earlier; pending = a.pending; line = a.line; piece = a.piece; kept = a.kept })
-    (record { flags = b.flags; places = b.places; saved = b.saved; seed = b.seed; draws = b.draws; events = b.events; prompt = b.prompt; count = b.count; rows = b.rows; looping = b.looping; turning = b.turning; earlier = b.earlier; pending = b.pending; line = b.line; piece = b.piece; kept = b.kept }) = cc in e
+    (record {
+      flags = a.flags;
+      places = a.places;
+      saved = a.saved;
+      seed = a.seed;
+      draws = a.draws;
+      events = a.events;
+      prompt = a.prompt;
+      count = a.count;
+      rows = a.rows;
+      looping = a.looping;
+      turning = a.turning;
+      earlier = a.earlier;
+      pending = a.pending;
+      line = a.line;
+      piece = a.piece;
+      kept = a.kept;
+    })
+    (record {
+      flags = b.flags;
+      places = b.places;
+      saved = b.saved;
+      seed = b.seed;
+      draws = b.draws;
+      events = b.events;
+      prompt = b.prompt;
+      count = b.count;
+      rows = b.rows;
+      looping = b.looping;
+      turning = b.turning;
+      earlier = b.earlier;
+      pending = b.pending;
+      line = b.line;
+      piece = b.piece;
+      kept = b.kept;
+    }) =
+    cc in e
 
 pub fields_cut : (f : Fields) (q : List ℕ) → AreSized f → fields_at (field_bytes f ++ q) ≡ f
 fields_cut f q s =

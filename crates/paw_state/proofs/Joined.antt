@@ -6,7 +6,8 @@ use Rattle.std.proofs.lemmas.List.{length-drop}
 use Rattle.std.proofs.Math.Seq.{take-add}
 use Rattle.paw_game.specs.Image.{two_bytes}
 use Rattle.paw_state.specs.State.{AreBytes}
-use Rattle.paw_state.specs.Fields.{eight_bytes, row_bytes, loop_bytes, held_bytes, two_at, eight_at, row_at, rows_at, held_at, fields_at, world_bytes, number_bytes, table_bytes, pending_bytes, kept_position_bytes, field_bytes}
+use Rattle.paw_state.specs.Fields.{eight_bytes, row_bytes, loop_bytes, held_bytes, two_at, eight_at, row_at, rows_at, held_at, fields_at}
+use Rattle.paw_state.specs.Fields.{world_bytes, number_bytes, table_bytes, pending_bytes, kept_position_bytes, field_bytes}
 use Rattle.paw_state.proofs.Pieces.{range_join, byte_range, length_range, range_bytes, drop_bytes, each_byte}
 
 two_join : (bytes : List ℕ) (at : ℕ) → at + 2 ≤ length bytes → AreBytes bytes → two_bytes (two_at bytes at) ≡ slice_range bytes at (at + 2)
@@ -42,7 +43,8 @@ rows_join (suc n) bytes h b =
 loop_join : (bytes : List ℕ) → 3419 ≤ length bytes → AreBytes bytes → loop_bytes (fields_at bytes).turning ≡ slice_range bytes 1105 1112
 loop_join bytes h b =
     let l = (fields_at bytes).turning in
-    onto bytes (l.level ∷ []) (l.table ∷ (two_bytes l.entry ++ l.at ∷ l.place ∷ l.last ∷ [])) 1105 1106 1112 (lit≤ tt) (lit≤ tt) (byte_range bytes 1105 (omega arith))
+    onto bytes (l.level ∷ []) (l.table ∷ (two_bytes l.entry ++ l.at ∷ l.place ∷ l.last ∷ [])) 1105 1106 1112 (lit≤ tt) (lit≤ tt)
+    (byte_range bytes 1105 (omega arith))
     (onto bytes (l.table ∷ []) (two_bytes l.entry ++ l.at ∷ l.place ∷ l.last ∷ []) 1106 1107 1112 (lit≤ tt) (lit≤ tt) (byte_range bytes 1106 (omega arith))
     (onto bytes (two_bytes l.entry) (l.at ∷ l.place ∷ l.last ∷ []) 1107 1109 1112 (lit≤ tt) (lit≤ tt) (two_join bytes 1107 (omega arith) b)
     (onto bytes (l.at ∷ []) (l.place ∷ l.last ∷ []) 1109 1110 1112 (lit≤ tt) (lit≤ tt) (byte_range bytes 1109 (omega arith))

@@ -1,5 +1,6 @@
 -- Rules of states, and faults of fields.
-use Rattle.std.proofs.Common.{◌≡◌, ℕ, suc, ◌+◌, ◌-◌, ◌*◌, ◌==◌, ◌||◌, Bool, true, false, List, [], ◌∷◌, Option, Some, None, length, map, take, drop, get_or, is_some, nat_le, refl, sym, ap, ◌∙◌, subst, arith}
+use Rattle.std.proofs.Common.{◌≡◌, ℕ, suc, ◌+◌, ◌-◌, ◌*◌, ◌==◌, ◌||◌, Bool, true, false, List, [], ◌∷◌, Option, Some, None}
+use Rattle.std.proofs.Common.{length, map, take, drop, get_or, is_some, nat_le, refl, sym, ap, ◌∙◌, subst, arith}
 use Rattle.std.specs.Prelude.{All, IfNone, if◌then◌else◌}
 use Rattle.std.proofs.lemmas.List.{length-map, length-take}
 use Rattle.std.proofs.lemmas.List.Elements.{All-cons}
@@ -17,7 +18,7 @@ use Rattle.paw_process.specs.Kept.{rows_fault as machine_rows, loop_fault as mac
 use Rattle.paw_process.proofs.Restored.{no_first as no_machine_first}
 use Rattle.paw_state.specs.declared.fields.Fields.{Fields}
 use Rattle.paw_state.specs.declared.held.Held.{Held}
-use Rattle.paw_effects.specs.Built.{ArePlacesOf}
+use Rattle.paw_effects.specs.Worlds.{ArePlacesOf}
 use Rattle.paw_state.specs.State.{State, Keeps}
 use Rattle.paw_state.specs.Fields.{zeros, filled, held_of, prompt_code, row_of, fields_of}
 use Rattle.paw_state.specs.Faults.{rule, first_not, is_zero, places_fault, absent_fault, held_fault, kept_fault, prompt_of, row_fields_fault}
@@ -32,7 +33,8 @@ use Rattle.paw_state.proofs.Back.{objects_stand, prompt_again}
 
 -- ---- the machine's rules ----
 
-no_machine_fault : (g : GameLists) (code : Option ℕ) (k : Frames) → count_fits code k.count ≡ true → machine_rows g (code_or_zero code) None k.count 0 k.rows ≡ None
+no_machine_fault : (g : GameLists) (code : Option ℕ) (k : Frames) → count_fits code k.count ≡ true
+    → machine_rows g (code_or_zero code) None k.count 0 k.rows ≡ None
     → machine_loop g k k.turning ≡ None → fault_at g code k ≡ None
 no_machine_fault g code k counts rows turns = rw (counts, rows, turns) refl
 
@@ -58,7 +60,8 @@ objects_length : (g : GameLists) (places : List ℕ) → Valid g → length plac
 objects_length g places v size = omega (arith, length-take (length g.objects) places, few_objects g v)
 
 held_kept : (g : GameLists) (at : ℕ) (h : Held) → Valid g → IsSizedHeld h → held_fault g at h ≡ None → IsHeldOf g (held_in (length g.objects) h)
-held_kept g at h v z q = go (h.there == 0) (two (rule at (nat_le h.there 1)) (if h.there == 0 then absent_fault at h else places_fault g (at + 257) h.places) q).1
+held_kept g at h v z q = go (h.there == 0)
+    (two (rule at (nat_le h.there 1)) (if h.there == 0 then absent_fault at h else places_fault g (at + 257) h.places) q).1
   where
     go : (b : Bool) → (if b then absent_fault at h else places_fault g (at + 257) h.places) ≡ None
         → IsHeldOf g (if b then None else Some (record { flags = h.flags; places = take (length g.objects) h.places }))
@@ -126,7 +129,8 @@ keeps_in g f v z s = record {
 
 -- ---- the fields of a state that keeps its rules have no fault ----
 
-places_sound : (g : GameLists) (at : ℕ) (places : List ℕ) → length places ≡ length g.objects → ArePlacesOf g places → places_fault g at (filled 255 places) ≡ None
+places_sound : (g : GameLists) (at : ℕ) (places : List ℕ) → length places ≡ length g.objects → ArePlacesOf g places
+    → places_fault g at (filled 255 places) ≡ None
 places_sound g at places size h =
     two_none (first_not (is_place (length g.locations)) at (take (length g.objects) (filled 255 places)))
     (first_not is_zero (at + length g.objects) (drop (length g.objects) (filled 255 places)))

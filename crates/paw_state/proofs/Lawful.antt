@@ -22,7 +22,8 @@ use Rattle.paw_state.proofs.Keeping.{keeps_in, sound_fields}
 use Rattle.paw_state.proofs.Sizes.{sized_at, fits_at, sized_of}
 
 -- the fields that stand in bytes of which the first are a state's
-fields_there : (g : GameLists) (s : State) (bytes : List ℕ) → Valid g → Keeps g s → FitsFields s → take 3419 bytes ≡ state_bytes s → fields_at bytes ≡ fields_of s
+fields_there : (g : GameLists) (s : State) (bytes : List ℕ) → Valid g → Keeps g s → FitsFields s → take 3419 bytes ≡ state_bytes s
+    → fields_at bytes ≡ fields_of s
 fields_there g s bytes v k h e =
     let split : bytes ≡ state_bytes s ++ drop 3419 bytes =
     sym (take-append-drop 3419 bytes) ∙ ap (λ (l : List ℕ). l ++ drop 3419 bytes) e in
@@ -38,7 +39,8 @@ pub bytes_are : (g : GameLists) (bytes : List ℕ) → Valid g → 3419 ≤ leng
 bytes_are g bytes v n b h =
     sym (ap field_bytes (state_back g (fields_at bytes) v (sized_at bytes n b) (sound_of g (fields_at bytes) h)) ∙ fields_join bytes n b)
 
-pub state_kept : (g : GameLists) (bytes : List ℕ) → Valid g → 3419 ≤ length bytes → AreBytes bytes → unfit g bytes ≡ None → Keeps g (state_in g (fields_at bytes))
+pub state_kept : (g : GameLists) (bytes : List ℕ) → Valid g → 3419 ≤ length bytes → AreBytes bytes → unfit g bytes ≡ None
+    → Keeps g (state_in g (fields_at bytes))
 state_kept g bytes v n b h = keeps_in g (fields_at bytes) v (sized_at bytes n b) (sound_of g (fields_at bytes) h)
 
 pub none_is_fit : (g : GameLists) (bytes : List ℕ) → Valid g → 3419 ≤ length bytes → AreBytes bytes → unfit g bytes ≡ None → Fit g bytes

@@ -1,5 +1,6 @@
 -- The open loop of a state, and that of a machine.
-use Rattle.std.proofs.Common.{◌≡◌, ℕ, zero, suc, ◌<◌, ◌≤◌, ◌==◌, Bool, true, false, List, [], ◌∷◌, Option, Some, None, length, map, is_some, nat_le, nat_lt, refl, sym, ap, ◌∙◌, arith}
+use Rattle.std.proofs.Common.{◌≡◌, ℕ, zero, suc, ◌<◌, ◌≤◌, ◌==◌, Bool, true, false, List, [], ◌∷◌, Option}
+use Rattle.std.proofs.Common.{Some, None, length, map, is_some, nat_le, nat_lt, refl, sym, ap, ◌∙◌, arith}
 use Rattle.std.specs.Prelude.{if◌then◌else◌, slice_get}
 use Rattle.std.specs.Option.{option_map}
 use Rattle.std.proofs.lemmas.Option.{slice_get-map}
@@ -38,7 +39,8 @@ six_none a b c d e f ka kb kc kd ke kf =
 
 zeros_loop : (l : OpenLoop) → no_loop_fault l ≡ None → loop_or_zeros None ≡ l
 zeros_loop l h =
-    let p = six (rule 1105 (l.level == 0)) (rule 1106 (l.table == 0)) (rule 1107 (l.entry == 0)) (rule 1109 (l.at == 0)) (rule 1110 (l.place == 0)) (rule 1111 (l.last == 0)) h in
+    let p = six (rule 1105 (l.level == 0)) (rule 1106 (l.table == 0)) (rule 1107 (l.entry == 0)) (rule 1109 (l.at == 0)) (rule 1110 (l.place == 0))
+    (rule 1111 (l.last == 0)) h in
     let level : l.level ≡ 0 = eqb-true l.level 0 (rule_holds 1105 _ p.0) in
     let table : l.table ≡ 0 = eqb-true l.table 0 (rule_holds 1106 _ p.1) in
     let entry : l.entry ≡ 0 = eqb-true l.entry 0 (rule_holds 1107 _ p.2) in
@@ -80,7 +82,8 @@ stands : (g : GameLists) (f : Fields) (l : OpenLoop) → loop_fields_fault g f l
 stands g f l h =
     let table = is_that_table (row_table (slice_get f.rows l.level)) l.table in
     let p = six (rule 1105 (nat_lt l.level f.count)) (rule 1106 table) (rule 1107 (is_some (head_at g l.table l.entry)))
-    (rule 1109 (has_code 86 (condact_at g l.table l.entry l.at))) (rule 1110 (is_place (length g.locations) l.place)) (rule 1111 (nat_lt l.last (length g.objects))) h in
+    (rule 1109 (has_code 86 (condact_at g l.table l.entry l.at))) (rule 1110 (is_place (length g.locations) l.place))
+    (rule 1111 (nat_lt l.last (length g.objects))) h in
     let t : is_that_table (table_of (slice_get (map frame_in f.rows) l.level)) l.table ≡ true =
     ap (λ (o : Option ℕ). is_that_table o l.table) (sym (row_of_level f.rows l.level)) ∙ rule_holds 1106 table p.1 in
     both (nat_lt l.level f.count) _ (rule_holds 1105 (nat_lt l.level f.count) p.0)
@@ -121,8 +124,10 @@ loop_found g k f count rows h = go k.turning h
         ap (λ (rs : List Row). is_that_table (row_table (slice_get rs l.level)) l.table) rows
         ∙ (ap (λ (o : Option ℕ). is_that_table o l.table) (sym (frame_of_level k.rows l.level))
         ∙ first_of (is_that_table (table_of (slice_get k.rows l.level)) l.table) _ s1) in
-        six_none (rule 1105 (nat_lt l.level f.count)) (rule 1106 (is_that_table (row_table (slice_get f.rows l.level)) l.table)) (rule 1107 (is_some (head_at g l.table l.entry)))
-        (rule 1109 (has_code 86 (condact_at g l.table l.entry l.at))) (rule 1110 (is_place (length g.locations) l.place)) (rule 1111 (nat_lt l.last (length g.objects)))
+        six_none (rule 1105 (nat_lt l.level f.count)) (rule 1106 (is_that_table (row_table (slice_get f.rows l.level)) l.table))
+        (rule 1107 (is_some (head_at g l.table l.entry)))
+        (rule 1109 (has_code 86 (condact_at g l.table l.entry l.at))) (rule 1110 (is_place (length g.locations) l.place))
+        (rule 1111 (nat_lt l.last (length g.objects)))
         (no_rule 1105 _ low) (no_rule 1106 _ table) (no_rule 1107 _ (head_there g 86 l.table l.entry l.at code)) (no_rule 1109 _ code)
         (no_rule 1110 _ (first_of (is_place (length g.locations) l.place) _ s3)) (no_rule 1111 _ (second (is_place (length g.locations) l.place) _ s3))
 
@@ -142,7 +147,8 @@ loop_counted g k h = go k.turning h
     some zero low = absurd (omega (arith, low))
     some (suc n) low = let e : (suc n == 0) ≡ false = grind (arith, nat_tests) in rw e refl
 
-    tested : (l : OpenLoop) (b : Bool) → loop_stands g k l ≡ b → ◌≡◌ {A = Option ℕ} (if b then None else Some 11) None → nat_le 1 (if k.count == 0 then 0 else 1) ≡ true
+    tested : (l : OpenLoop) (b : Bool) → loop_stands g k l ≡ b → ◌≡◌ {A = Option ℕ} (if b then None else Some 11) None
+        → nat_le 1 (if k.count == 0 then 0 else 1) ≡ true
     tested l true e q = let low : l.level < k.count = ltb-true l.level k.count (first_of (nat_lt l.level k.count) _ e) in some k.count (omega arith)
     tested l false e q = cc
 

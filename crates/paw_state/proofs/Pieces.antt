@@ -30,7 +30,8 @@ pub range_join : (bytes : List ℕ) (a b c : ℕ) → a ≤ b → b ≤ c → sl
 range_join bytes a b c low high =
     let n : b - a + (c - b) ≡ c - a = omega arith in
     let m : a + (b - a) ≡ b = omega arith in
-    let e : take (b - a + (c - b)) (drop a bytes) ≡ slice_range bytes a b ++ take (c - b) (drop (b - a) (drop a bytes)) = take-add (b - a) (c - b) (drop a bytes) in
+    let e : take (b - a + (c - b)) (drop a bytes)
+    ≡ slice_range bytes a b ++ take (c - b) (drop (b - a) (drop a bytes)) = take-add (b - a) (c - b) (drop a bytes) in
     let f : drop (b - a) (drop a bytes) ≡ drop b bytes = drop-drop (b - a) a bytes ∙ ap (λ (i : ℕ). drop i bytes) m in
     sym (ap (λ (l : List ℕ). slice_range bytes a b ++ take (c - b) l) f) ∙ (sym e ∙ ap (λ (i : ℕ). take i (drop a bytes)) n)
 

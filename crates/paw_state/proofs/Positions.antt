@@ -3,7 +3,7 @@ use Rattle.std.proofs.Common.{◌≡◌, ℕ, Option, None, Some, length, ◌∙
 use Rattle.std.specs.Prelude.{All, IfSome}
 use Rattle.paw_game.specs.Game.{GameLists}
 use Rattle.paw_world.specs.World.{Position, IsSavedFor}
-use Rattle.paw_effects.specs.Built.{ArePlacesOf, StandsIn}
+use Rattle.paw_effects.specs.Worlds.{ArePlacesOf, StandsIn}
 use Rattle.paw_state.specs.State.{State, Keeps}
 
 -- 256 flags, and each object at a place

@@ -1,5 +1,6 @@
 -- The rows of a state, and the frames of a machine.
-use Rattle.std.proofs.Common.{◌≡◌, ℕ, zero, suc, ◌+◌, ◌-◌, ◌≤◌, ◌&&◌, ◌==◌, Bool, true, false, not, List, [], ◌∷◌, Option, Some, None, map, is_some, nat_le, refl, ap, arith}
+use Rattle.std.proofs.Common.{◌≡◌, ℕ, zero, suc, ◌+◌, ◌-◌, ◌≤◌, ◌&&◌, ◌==◌, Bool, true, false, not, List}
+use Rattle.std.proofs.Common.{[], ◌∷◌, Option, Some, None, map, is_some, nat_le, refl, ap, arith}
 use Rattle.std.specs.Prelude.{if◌then◌else◌, slice_get}
 use Rattle.std.proofs.lemmas.Bool.{eqb-true, leb-true}
 use Rattle.paw_game.specs.declared.parts.Entry.{Entry}
@@ -66,7 +67,8 @@ no_action : (acted : ℕ) → (acted == 0) ≡ true → not (acted == 1) ≡ tru
 no_action acted h = let z : acted ≡ 0 = eqb-true acted 0 h in rw z refl
 
 -- a row without a fault stands as a frame
-row_sound : (g : GameLists) (code : ℕ) (caller : Option ℕ) (n at : ℕ) (r : Row) → row_fault g code caller n at r ≡ None → row_stands g code caller n (frame_in r) ≡ true
+row_sound : (g : GameLists) (code : ℕ) (caller : Option ℕ) (n at : ℕ) (r : Row) → row_fault g code caller n at r ≡ None
+    → row_stands g code caller n (frame_in r) ≡ true
 row_sound g code caller n at r h = go (n == 0) h
   where
     go : (b : Bool) → (if b then unused_fault at r else used_fault g (if n == 1 then code else 85) caller at r) ≡ None
@@ -130,7 +132,8 @@ acted_zero : (acted : Bool) → not acted ≡ true → ((if acted then 1 else 0)
 acted_zero true h = cc
 acted_zero false h = refl
 
-frame_sound : (g : GameLists) (code : ℕ) (caller : Option ℕ) (n at : ℕ) (f : Frame) → row_stands g code caller n f ≡ true → row_fault g code caller n at (row_of f) ≡ None
+frame_sound : (g : GameLists) (code : ℕ) (caller : Option ℕ) (n at : ℕ) (f : Frame) → row_stands g code caller n f ≡ true
+    → row_fault g code caller n at (row_of f) ≡ None
 frame_sound g code caller n at f h = go (n == 0) h
   where
     go : (b : Bool) → (if b then is_unused f else may_open caller f.table && has_code (if n == 1 then code else 85) (condact_of g f)) ≡ true
@@ -152,9 +155,11 @@ pub frames_sound : (g : GameLists) (code : ℕ) (caller : Option ℕ) (n at d : 
     → row_fields_fault g code caller n at (map row_of frames) ≡ None
 unfolding row_fields_fault machine_fault
 frames_sound g code caller n at d [] h = refl
-frames_sound g code caller n at d (f ∷ fs) h = go (frames_sound g code (Some (parameter_of (condact_of g f))) (n - 1) (at + 5) (suc d) fs) (row_stands g code caller n f) refl h
+frames_sound g code caller n at d (f ∷ fs) h = go (frames_sound g code (Some (parameter_of (condact_of g f))) (n - 1) (at + 5) (suc d) fs)
+    (row_stands g code caller n f) refl h
   where
-    go : (machine_fault g code (Some (parameter_of (condact_of g f))) (n - 1) (suc d) fs ≡ None → row_fields_fault g code (Some (parameter_of (condact_of g f))) (n - 1) (at + 5) (map row_of fs) ≡ None)
+    go : (machine_fault g code (Some (parameter_of (condact_of g f))) (n - 1) (suc d) fs ≡ None
+        → row_fields_fault g code (Some (parameter_of (condact_of g f))) (n - 1) (at + 5) (map row_of fs) ≡ None)
         → (b : Bool) → row_stands g code caller n f ≡ b
         → ◌≡◌ {A = Option ℕ} (if b then machine_fault g code (Some (parameter_of (condact_of g f))) (n - 1) (suc d) fs else Some d) None
         → or_first (row_fault g code caller n at (row_of f)) (row_fields_fault g code (called_table g (row_of f)) (n - 1) (at + 5) (map row_of fs)) ≡ None

@@ -1,5 +1,6 @@
 -- Looking through bytes and rows one by one.
-use Rattle.std.proofs.Common.{◌≡◌, ℕ, zero, suc, ◌+◌, ◌-◌, ◌*◌, ◌<◌, ◌≤◌, Bool, true, false, List, [], ◌∷◌, ◌++◌, Option, Some, None, length, take, drop, set, get_or, refl, sym, ap, ◌∙◌, add-one, subst, arith}
+use Rattle.std.proofs.Common.{◌≡◌, ℕ, zero, suc, ◌+◌, ◌-◌, ◌*◌, ◌<◌, ◌≤◌, Bool, true, false, List, [], ◌∷◌, ◌++◌, Option}
+use Rattle.std.proofs.Common.{Some, None, length, take, drop, set, get_or, refl, sym, ap, ◌∙◌, add-one, subst, arith}
 use Rattle.std.specs.Prelude.{if◌then◌else◌}
 use Rattle.std.proofs.Math.Seq.{drop-cons, take-suc-set}
 use Rattle.std.proofs.lemmas.List.{drop-drop, drop_all, take_all}
@@ -114,5 +115,6 @@ row_read rows n r bytes low h e =
     rw (add-one, e, sym d) (take-suc-set rows n (row_at (drop (5 * n) (drop 1049 bytes))) low
     ∙ (ap (λ (rs : List Row). rs ++ row_at (drop (5 * n) (drop 1049 bytes)) ∷ []) h ∙ sym (rows_more n (drop 1049 bytes))))
 
-pub rows_read : (rows : List Row) (n : ℕ) (bytes : List ℕ) → length rows ≡ 11 → n ≡ 11 → take n rows ≡ rows_at n (drop 1049 bytes) → rows ≡ rows_at 11 (drop 1049 bytes)
+pub rows_read : (rows : List Row) (n : ℕ) (bytes : List ℕ) → length rows ≡ 11 → n ≡ 11 → take n rows ≡ rows_at n (drop 1049 bytes)
+    → rows ≡ rows_at 11 (drop 1049 bytes)
 rows_read rows n bytes k e h = sym (take_all 11 rows (omega arith)) ∙ subst (λ (i : ℕ). take i rows ≡ rows_at i (drop 1049 bytes)) e h

@@ -1,5 +1,6 @@
 -- Arrays have their lengths, and numbers fit their fields.
-use Rattle.std.proofs.Common.{◌≡◌, ℕ, zero, suc, ◌+◌, ◌-◌, ◌<◌, ◌≤◌, ◌^◌, ◌==◌, ◌&&◌, Bool, true, false, List, [], ◌∷◌, Option, Some, None, length, map, take, drop, get_or, nat_lt, refl, ap, ◌∙◌, lit<, arith}
+use Rattle.std.proofs.Common.{◌≡◌, ℕ, zero, suc, ◌+◌, ◌-◌, ◌<◌, ◌≤◌, ◌^◌, ◌==◌, ◌&&◌, Bool, true, false, List, [], ◌∷◌}
+use Rattle.std.proofs.Common.{Option, Some, None, length, map, take, drop, get_or, nat_lt, refl, ap, ◌∙◌, lit<, arith}
 use Rattle.std.specs.Prelude.{All, slice_get, slice_index, slice_range, if◌then◌else◌}
 use Rattle.std.proofs.lemmas.List.{length-map, length-drop}
 use Rattle.std.proofs.lemmas.List.Elements.{All-cons, All-nil, All-take, All-map}
@@ -14,7 +15,8 @@ use Rattle.paw_world.specs.World.{Position}
 use Rattle.paw_reading.specs.declared.places.Frame.{Frame}
 use Rattle.paw_reading.specs.declared.places.OpenLoop.{OpenLoop}
 use Rattle.paw_process.specs.declared.kept.Frames.{Frames}
-use Rattle.paw_process.specs.Kept.{may_open, has_code, parameter_of, condact_of, is_unused, row_stands, table_of, is_that_table, loop_stands, waiting_code, code_or_zero}
+use Rattle.paw_process.specs.Kept.{may_open, has_code, parameter_of, condact_of, is_unused, row_stands}
+use Rattle.paw_process.specs.Kept.{table_of, is_that_table, loop_stands, waiting_code, code_or_zero}
 use Rattle.paw_process.specs.Kept.{rows_fault as machine_rows, loop_fault as machine_loop}
 use Rattle.paw_process.proofs.Restored.{first_of, second}
 use Rattle.paw_state.specs.declared.fields.Row.{Row}
@@ -94,7 +96,8 @@ held_fits n h flags places = go (h.there == 0)
 
 held_at_fits : (n at : ℕ) (bytes : List ℕ) → AreBytes bytes → HoldsBytes (held_in n (held_at (drop at bytes)))
 held_at_fits n at bytes h =
-    held_fits n (held_at (drop at bytes)) (range_bytes (drop at bytes) 1 257 (drop_bytes at bytes h)) (range_bytes (drop at bytes) 257 512 (drop_bytes at bytes h))
+    held_fits n (held_at (drop at bytes)) (range_bytes (drop at bytes) 1 257 (drop_bytes at bytes h))
+    (range_bytes (drop at bytes) 257 512 (drop_bytes at bytes h))
 
 kept_at_fits : (n : ℕ) (bytes : List ℕ) → AreBytes bytes → All HoldsBytes (map (held_in n) (fields_at bytes).kept)
 kept_at_fits n bytes h =
@@ -135,7 +138,8 @@ entries_fit : (g : GameLists) (code : ℕ) (caller : Option ℕ) (n d : ℕ) (fr
     → All (λ r. r.entry < 2 ^ 16) (map row_of frames)
 unfolding machine_rows
 entries_fit g code caller n d [] v h = λ k e low. absurd (omega (arith, low))
-entries_fit g code caller n d (f ∷ fs) v h = go (entries_fit g code (Some (parameter_of (condact_of g f))) (n - 1) (suc d) fs v) (row_stands g code caller n f) refl h
+entries_fit g code caller n d (f ∷ fs) v h = go (entries_fit g code (Some (parameter_of (condact_of g f))) (n - 1) (suc d) fs v)
+    (row_stands g code caller n f) refl h
   where
     go : (machine_rows g code (Some (parameter_of (condact_of g f))) (n - 1) (suc d) fs ≡ None → All (λ r. r.entry < 2 ^ 16) (map row_of fs))
         → (b : Bool) → row_stands g code caller n f ≡ b

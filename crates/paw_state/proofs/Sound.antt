@@ -4,7 +4,8 @@ use Rattle.std.specs.Prelude.{if◌then◌else◌}
 use Rattle.paw_game.specs.Game.{GameLists}
 use Rattle.paw_process.specs.Kept.{waiting_code, count_fits}
 use Rattle.paw_state.specs.declared.fields.Fields.{Fields}
-use Rattle.paw_state.specs.Faults.{rule, or_first, first, first_not, is_zero, places_fault, held_fault, kept_fault, numbers_fault, prompt_of, prompt_fault, frame_fields_fault, no_loop_fault, loop_fields_fault, turning_fault, pending_fault, fields_fault}
+use Rattle.paw_state.specs.Faults.{rule, or_first, first, first_not, is_zero, places_fault, held_fault, kept_fault, numbers_fault, prompt_of, prompt_fault}
+use Rattle.paw_state.specs.Faults.{frame_fields_fault, no_loop_fault, loop_fields_fault, turning_fault, pending_fault, fields_fault}
 use Rattle.paw_state.proofs.Found.{rule_holds, no_rule, no_first, none_first}
 
 -- where no loop is open the loop's bytes are 0; else the loop keeps its rules
@@ -61,7 +62,8 @@ sound_of g f h =
     let n = two (rule 1039 (nat_le f.events 1000000000)) (rule 1031 (nat_le f.draws (200000 * (f.events + 1)))) p.2 in
     let q = two (rule 1047 (nat_le f.prompt 4)) (rule 1048 (count_fits (waiting_code (prompt_of f.prompt)) f.count)) p.3 in
     let t = two (rule 1104 (nat_le f.looping (if f.count == 0 then 0 else 1))) (turning_rest g f) p.5 in
-    let l = two (rule 1113 (is_some (waiting_code (prompt_of f.prompt)) || (f.pending == 0))) (first_not is_zero (1114 + f.pending) (drop f.pending f.line)) p.6 in
+    let l = two (rule 1113 (is_some (waiting_code (prompt_of f.prompt)) || (f.pending == 0)))
+    (first_not is_zero (1114 + f.pending) (drop f.pending f.line)) p.6 in
     record {
       places = p.0;
       saved = p.1;

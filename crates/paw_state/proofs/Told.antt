@@ -21,7 +21,8 @@ front f = world_bytes f ++ (number_bytes f ++ (table_bytes f ++ ((f.earlier ∷ 
 state_ends : (f : Fields) → field_bytes f ≡ front f ++ (two_bytes f.piece ++ kept_position_bytes f)
 unfolding front pending_bytes
 state_ends f =
-    ap (λ q. world_bytes f ++ (number_bytes f ++ (table_bytes f ++ q))) (inner_join (f.earlier ∷ f.pending ∷ []) f.line (two_bytes f.piece) (kept_position_bytes f))
+    ap (λ q. world_bytes f ++ (number_bytes f ++ (table_bytes f ++ q)))
+    (inner_join (f.earlier ∷ f.pending ∷ []) f.line (two_bytes f.piece) (kept_position_bytes f))
     ∙ outer_join (world_bytes f) (number_bytes f) (table_bytes f) ((f.earlier ∷ f.pending ∷ []) ++ f.line) (two_bytes f.piece ++ kept_position_bytes f)
 
 -- two bytes behind 1,369
@@ -51,10 +52,13 @@ piece_told s l h =
     rw e (two_there (front f) s.piece (kept_position_bytes f) (front_long (front f) s.piece (kept_position_bytes f) (ap length (sym e) ∙ l.all) l.kept) h)
 
 -- as it stands in a buffer
-pub piece_in : (s : State) (rest into : List ℕ) → into ≡ state_bytes s ++ rest → AreLong s → s.piece < 2 ^ 16 → get_or into 1369 0 + 256 * get_or into 1370 0 ≡ s.piece
+pub piece_in : (s : State) (rest into : List ℕ) → into ≡ state_bytes s ++ rest → AreLong s → s.piece < 2 ^ 16
+    → get_or into 1369 0 + 256 * get_or into 1370 0 ≡ s.piece
 piece_in s rest into e l h =
-    let a : get_or into 1369 0 ≡ get_or (state_bytes s) 1369 0 = ap (λ x. get_or x 1369 0) e ∙ get_or_append_left (state_bytes s) rest 0 1369 (omega (arith, l.all)) in
-    let b : get_or into 1370 0 ≡ get_or (state_bytes s) 1370 0 = ap (λ x. get_or x 1370 0) e ∙ get_or_append_left (state_bytes s) rest 0 1370 (omega (arith, l.all)) in
+    let a : get_or into 1369 0 ≡ get_or (state_bytes s) 1369 0 = ap (λ x. get_or x 1369 0) e
+    ∙ get_or_append_left (state_bytes s) rest 0 1369 (omega (arith, l.all)) in
+    let b : get_or into 1370 0 ≡ get_or (state_bytes s) 1370 0 = ap (λ x. get_or x 1370 0) e
+    ∙ get_or_append_left (state_bytes s) rest 0 1370 (omega (arith, l.all)) in
     rw (a, b) (piece_told s l h)
 
 -- what stands before the zeros of a buffer
@@ -62,7 +66,8 @@ pub buffer_long : (bytes into : List ℕ) → into ≡ bytes ++ zeros 677 → le
 buffer_long bytes into e l = let m = length-append bytes (zeros 677) in omega (arith, ap length (sym e) ∙ l, m, length-zeros 677)
 
 -- as it is read from a buffer
-pub piece_read : (s : State) (bytes : List ℕ) → take 3419 bytes ≡ state_bytes s → AreLong s → s.piece < 2 ^ 16 → get_or bytes 1369 0 + 256 * get_or bytes 1370 0 ≡ s.piece
+pub piece_read : (s : State) (bytes : List ℕ) → take 3419 bytes ≡ state_bytes s → AreLong s → s.piece < 2 ^ 16
+    → get_or bytes 1369 0 + 256 * get_or bytes 1370 0 ≡ s.piece
 piece_read s bytes e l h =
     let whole : bytes ≡ state_bytes s ++ drop 3419 bytes = sym (take-append-drop 3419 bytes) ∙ ap (λ x. x ++ drop 3419 bytes) e in
     piece_in s (drop 3419 bytes) bytes whole l h

@@ -55,7 +55,10 @@ places_fault g at places = first (
 
 -- the flags and the places of a position that isn't there are 0
 abbrev pub absent_fault : ℕ → Held → Option ℕ
-absent_fault at h = first (first_not is_zero (at + HELD_FLAGS) h.flags ∷ first_not is_zero (at + HELD_PLACES) h.places ∷ [])
+absent_fault at h = first (
+    first_not is_zero (at + HELD_FLAGS) h.flags
+    ∷ first_not is_zero (at + HELD_PLACES) h.places
+    ∷ [])
 
 -- a position is there or not, and the places of one that is are as those now
 abbrev pub held_fault : GameLists → ℕ → Held → Option ℕ
@@ -79,7 +82,11 @@ numbers_fault f = first (
 -- the prompt of a code from 0 to 4
 abbrev pub prompt_of : ℕ → Prompt
 prompt_of n =
-    if n == 0 then prompt.Main else if n == 1 then prompt.Quit else if n == 2 then prompt.Again else if n == 3 then prompt.Key else prompt.Over
+    if n == 0 then prompt.Main
+    else if n == 1 then prompt.Quit
+    else if n == 2 then prompt.Again
+    else if n == 3 then prompt.Key
+    else prompt.Over
 
 -- tables are open, and not too many, at the prompts inside tables, and none at the others
 abbrev pub prompt_fault : Fields → Option ℕ

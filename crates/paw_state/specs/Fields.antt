@@ -58,7 +58,8 @@ number_bytes f = in_sequence (eight_bytes f.seed ∷ eight_bytes f.draws ∷ eig
 
 -- the prompt, the rows of the open tables, and the open loop
 unfoldable pub table_bytes : Fields → List ℕ
-table_bytes f = in_sequence ((f.prompt ∷ f.count ∷ []) ∷ flat_map row_bytes f.rows ∷ (f.looping ∷ []) ∷ loop_bytes f.turning ∷ [])
+table_bytes f = in_sequence (
+    (f.prompt ∷ f.count ∷ []) ∷ flat_map row_bytes f.rows ∷ (f.looping ∷ []) ∷ loop_bytes f.turning ∷ [])
 
 -- what is pending, and how many bytes the last piece has
 unfoldable pub pending_bytes : Fields → List ℕ
@@ -70,7 +71,8 @@ kept_position_bytes f = flat_map held_bytes f.kept
 
 -- the bytes of a state's fields
 abbrev pub field_bytes : Fields → List ℕ
-field_bytes f = in_sequence (world_bytes f ∷ number_bytes f ∷ table_bytes f ∷ pending_bytes f ∷ kept_position_bytes f ∷ [])
+field_bytes f = in_sequence (
+    world_bytes f ∷ number_bytes f ∷ table_bytes f ∷ pending_bytes f ∷ kept_position_bytes f ∷ [])
 
 -- 1 for what is there, 0 for what isn't
 abbrev pub presence : {A : Type 0} → Option A → ℕ

@@ -5,7 +5,7 @@ use Rattle.paw_game.specs.Game.{GameLists}
 use Rattle.paw_world.specs.World.{World, Position, IsWorld}
 use Rattle.paw_phrase.specs.Pending.{PendingLine}
 use Rattle.paw_effects.specs.declared.act.Prompt.{Prompt}
-use Rattle.paw_effects.specs.Built.{IsOf, StandAtPlaces}
+use Rattle.paw_effects.specs.Worlds.{IsOf, StandAtPlaces}
 pub use Rattle.paw_effects.specs.Standing.{AreBytes}
 use Rattle.paw_process.specs.declared.machine.TheConstants.{MOST_FRAMES}
 use Rattle.paw_process.specs.Kept.{kept, waiting_code, frames_fault}

@@ -19,14 +19,14 @@ use crate::layout::{
     ROW_AT, ROW_ENTRY, ROW_LENGTH, ROWS, SAVED,
 };
 use paw_base::codes::{DOALL, PROCESS};
-use paw_base::limits::EVENT_LIMIT;
+use paw_base::limits::{EVENT_LIMIT, READ_LIMIT};
 use paw_effects::act::Prompt;
 use paw_game::tables::Tables;
 use paw_process::{count_fits, has_code, is_place, may_open, parameter_of, waiting_code};
 use paw_reading::places::OpenLoop;
 
 /// Random words that may be drawn in a piece.
-const MOST_DRAWS: u64 = 200_000;
+const MOST_DRAWS: u64 = READ_LIMIT as u64;
 
 /// A fault at this place where the rule doesn't hold.
 fn rule(at: usize, holds: bool) -> Result<(), StateFault>

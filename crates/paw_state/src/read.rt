@@ -57,7 +57,9 @@ fn put_saved(world: &mut World, held: &Held)
 fn put_kept(world: &mut World, n: u8, held: &Held)
     requires few { n < 4 }
     requires none { kept_position world.old n ≡ None }
-    ensures value { world.new ≡ record world.old { kept = slice_set world.old.kept n (held_in (length world.old.places) held.now) } }
+    ensures value { world.new ≡ record world.old {
+      kept = slice_set world.old.kept n (held_in (length world.old.places) held.now);
+    } }
 {
     if held.there == 0 {
         return;

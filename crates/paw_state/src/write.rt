@@ -4,7 +4,7 @@ ghost use Rattle.std.specs.Prelude.{◌+◌, ◌*◌, slice_index, ◌≡◌, �
 ghost use Rattle.std.specs.Prelude.{map, All, IfSome, MatchOption, Some, None};
 ghost use Rattle.paw_world.specs.World.{kept_position, IsWorld};
 ghost use Rattle.paw_state.specs.State.{AreBytes, HoldsBytes, FitsFields};
-ghost use Rattle.paw_state.specs.inner.State.{state_of};
+ghost use Rattle.paw_state.specs.inner.State.{state_of, state_with};
 ghost use Rattle.paw_state.specs.Fields.{zeros, filled, held_of, prompt_code, row_of};
 ghost use Rattle.paw_state.specs.Fields.{loop_or_zeros, fields_of, state_bytes};
 
@@ -28,12 +28,13 @@ pub fn write_state(
     piece: u16,
     into: &mut [u8; STATE_ROOM],
 )
-    ensures value { into.new ≡ state_bytes (state_of world.now machine.now pending.now prompt events piece) ++ zeros 677 }
+    ensures value { into.new ≡
+        state_bytes (state_of world.now machine.now pending.now prompt events piece) ++ zeros 677 }
     ensures fits { FitsFields (state_of world.now machine.now pending.now prompt events piece) }
     ensures length { length (state_bytes (state_of world.now machine.now pending.now prompt events piece)) ≡ 3419 }
     ensures piece { slice_index into.new 1369 + 256 * slice_index into.new 1370 ≡ piece }
 {
-    // A world has at most 255 objects.
+    // Its clause tells the proof that a world has at most 255 objects. No call of it is left in the program.
     let _objects = world.objects();
     let frames = machine.frames();
     let fields = fields_of(world, &frames, pending, prompt, events, piece);
@@ -177,8 +178,8 @@ fn fields_of(
     piece: u16,
 ) -> Fields
     requires few { IsWorld world.now }
-    ensures value { result ≡ fields_of (record { world = world.now; frames = frames.now; pending = pending.now; prompt = prompt; events = events; piece = piece }) }
-    ensures fits { FitsFields (record { world = world.now; frames = frames.now; pending = pending.now; prompt = prompt; events = events; piece = piece }) }
+    ensures value { result ≡ fields_of (state_with world.now frames.now pending.now prompt events piece) }
+    ensures fits { FitsFields (state_with world.now frames.now pending.now prompt events piece) }
 {
     let line = pending.bytes();
     Fields {

@@ -9,7 +9,7 @@ use Rattle.paw_stage.specs.Moments.{Moment, Still}
 use Rattle.paw_state.specs.State.{State}
 use Rattle.paw_play.specs.declared.PlayEnd.{PlayEnd}
 use Rattle.paw_play.specs.Stands.{Stands, IsPlayedWith}
-use Rattle.paw_play.specs.Play.{Played, NotYet, InGame, InAgain, InGoingOn, PlaysGame, PlaysAgain, ShowsState, kept_session, store_bytes}
+use Rattle.paw_play.specs.Play.{PlayedSession, NotYet, InGame, InAgain, InGoingOn, PlaysGame, PlaysAgain, ShowsState, kept_session, store_bytes}
 use Rattle.paw_play.proofs.Standing.{standing_again}
 use Rattle.paw_top.specs.Commands.{Command, Walk, Trace, Play, Resume}
 use Rattle.paw_top.specs.Ends.{outcome_of}
@@ -25,7 +25,7 @@ not_yet name old m e = subst (NotYet name old) (sym e) (record { asked = refl; s
 pub still_new : (g : Story) (seed : ℕ) (name : List ℕ) (old : Standing) (m : Moment) → Still old m → InGame g seed name old m
 still_new g seed name old m e = inl (not_yet name old m e)
 
-pub still_again : (s : Played) (old : Standing) (m : Moment) → Still old m → InAgain s old m
+pub still_again : (s : PlayedSession) (old : Standing) (m : Moment) → Still old m → InAgain s old m
 still_again s old m e = inl (not_yet s.name old m e)
 
 pub still_on : (g : Story) (seed : ℕ) (es : List (List ℕ)) (name : List ℕ) (old : Standing) (m : Moment) → Still old m → InGoingOn g seed es name old m
@@ -71,35 +71,27 @@ pub game_moment : (g k : Story) (seed : ℕ) (store : List ℕ) (old mid : Stand
     InGame k seed store mid m → InGame g seed store old m
 game_moment g k seed store old mid m still same i = subst (λ q. InGame g seed store q m) still (subst (λ q. InGame q seed store mid m) same i)
 
-pub again_moment : (s k : Played) (old mid : Standing) (m : Moment) → mid ≡ old → k ≡ s → InAgain k mid m → InAgain s old m
+pub again_moment : (s k : PlayedSession) (old mid : Standing) (m : Moment) → mid ≡ old → k ≡ s → InAgain k mid m → InAgain s old m
 again_moment s k old mid m still same i = subst (λ q. InAgain s q m) still (subst (λ q. InAgain q mid m) same i)
 
 -- what is said of the words of a command is said of what they ask for
+of_pair : {B : Type 0} (P : List ℕ → B → Type 0) (i j : List ℕ) (n k : B) → i ≡ j → n ≡ k → P i n → P j k
+of_pair P i j n k e f p = subst (λ x. P x k) e (subst (λ x. P i x) f p)
+
+pub for_walk : (P : List ℕ → ℕ → Type 0) (asked : Option Command) (i : List ℕ) (n : ℕ) (j : List ℕ) (k : ℕ) →
+    asked ≡ Some (Walk i n) → asked ≡ Some (Walk j k) → P i n → P j k
+for_walk P asked i n j k h q p = of_pair P i j n k cc cc p
+
+pub for_trace : (P : List ℕ → ℕ → Type 0) (asked : Option Command) (i : List ℕ) (n : ℕ) (j : List ℕ) (k : ℕ) →
+    asked ≡ Some (Trace i n) → asked ≡ Some (Trace j k) → P i n → P j k
+for_trace P asked i n j k h q p = of_pair P i j n k cc cc p
+
+pub for_resume : (P : List ℕ → List ℕ → Type 0) (asked : Option Command) (i s j t : List ℕ) →
+    asked ≡ Some (Resume i s) → asked ≡ Some (Resume j t) → P i s → P j t
+for_resume P asked i s j t h q p = of_pair P i j s t cc cc p
+
 pub for_play : (P : List ℕ → List ℕ → ℕ → Type 0) (asked : Option Command) (i s : List ℕ) (n : ℕ) (j t : List ℕ) (k : ℕ) →
     asked ≡ Some (Play i s n) → asked ≡ Some (Play j t k) → P i s n → P j t k
 for_play P asked i s n j t k h q p =
     let e : i ≡ j = cc in
-    let f : s ≡ t = cc in
-    let g : n ≡ k = cc in
-    subst (λ x. P x t k) e (subst (λ x. P i x k) f (subst (λ x. P i s x) g p))
-
-pub for_resume : (P : List ℕ → List ℕ → Type 0) (asked : Option Command) (i s j t : List ℕ) →
-    asked ≡ Some (Resume i s) → asked ≡ Some (Resume j t) → P i s → P j t
-for_resume P asked i s j t h q p =
-    let e : i ≡ j = cc in
-    let f : s ≡ t = cc in
-    subst (λ x. P x t) e (subst (λ x. P i x) f p)
-
-pub for_walk : (P : List ℕ → ℕ → Type 0) (asked : Option Command) (i : List ℕ) (n : ℕ) (j : List ℕ) (k : ℕ) →
-    asked ≡ Some (Walk i n) → asked ≡ Some (Walk j k) → P i n → P j k
-for_walk P asked i n j k h q p =
-    let e : i ≡ j = cc in
-    let f : n ≡ k = cc in
-    subst (λ x. P x k) e (subst (λ x. P i x) f p)
-
-pub for_trace : (P : List ℕ → ℕ → Type 0) (asked : Option Command) (i : List ℕ) (n : ℕ) (j : List ℕ) (k : ℕ) →
-    asked ≡ Some (Trace i n) → asked ≡ Some (Trace j k) → P i n → P j k
-for_trace P asked i n j k h q p =
-    let e : i ≡ j = cc in
-    let f : n ≡ k = cc in
-    subst (λ x. P x k) e (subst (λ x. P i x) f p)
+    subst (λ x. P x t k) e (of_pair (λ x y. P i x y) s t n k cc cc p)

@@ -6,7 +6,7 @@ use Rattle.paw_game.specs.Image.{image}
 use Rattle.paw_effects.specs.Story.{Story, story_of}
 use Rattle.paw_stage.specs.Stage.{Standing}
 use Rattle.paw_state.specs.State.{State}
-use Rattle.paw_play.specs.Play.{Played, PlaysGame, PlaysAgain, GoesOn, kept_session}
+use Rattle.paw_play.specs.Play.{PlayedSession, PlaysGame, PlaysAgain, GoesOn, kept_session}
 use Rattle.paw_top.specs.Ends.{PlaysFile}
 use Rattle.paw_top.specs.declared.outcome.Outcome.{Outcome}
 
@@ -15,7 +15,7 @@ abbrev pub digest_of : GameLists → List ℕ
 digest_of g = sha256 (image g)
 
 -- the session of a game in this store that goes on from a state
-abbrev pub session_from : Story → List ℕ → State → List ℕ → Played
+abbrev pub session_from : Story → List ℕ → State → List ℕ → PlayedSession
 session_from s store st piece = kept_session s st piece (digest_of s.game) store
 
 -- a new session of the game that this file holds, with these rows of routines, or why it isn't played

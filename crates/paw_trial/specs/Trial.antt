@@ -1,5 +1,6 @@
 -- What a trial tells.
 use Rattle.std.specs.Prelude.{ℕ, List, [], ◌++◌, codes, decimal}
+use Rattle.paw_base.specs.declared.flags.TheConstants.{CARRIED_FLAG, LOCATION_FLAG}
 use Rattle.paw_world.specs.World.{World, flag}
 use Rattle.paw_effects.specs.Counts.{turns_taken}
 use Rattle.paw_effects.specs.Story.{Story, story_of}
@@ -23,5 +24,5 @@ trial_text n w =
     ++ (decimal (object_count n) ++ (codes " objects, "
     ++ (decimal (line_count n) ++ (codes " events, "
     ++ (decimal (turns_taken w) ++ (codes " turns, at "
-    ++ (decimal (flag w 38) ++ (codes " with "
-    ++ (decimal (flag w 1) ++ codes "\n")))))))))))))
+    ++ (decimal (flag w LOCATION_FLAG) ++ (codes " with "
+    ++ (decimal (flag w CARRIED_FLAG) ++ codes "\n")))))))))))))

@@ -2,6 +2,7 @@
 
 ghost use Rattle.std.specs.Prelude.{◌≡◌, ◌<◌, ◌≤◌, length, IfOk};
 ghost use Rattle.sha2.specs.Sha256.{sha256};
+ghost use Rattle.paw_base.specs.declared.limits.TheConstants.{IMAGE_LIMIT};
 ghost use Rattle.paw_game.specs.Image.{image};
 ghost use Rattle.paw_gen.specs.Trial.{trial_game};
 ghost use Rattle.paw_trial.specs.inner.Session.{first_half, second_half};
@@ -43,7 +44,7 @@ impl Model for Setting {
 
 /// The image of a game that isn't too long.
 fn image_of(alloc: Global, game: &Game) -> Result<Vec<u8>, NoRoom>
-    requires { length (image game.now) ≤ 4194304 }
+    requires { length (image game.now) ≤ IMAGE_LIMIT }
     ensures { IfOk result (λ v. v.items ≡ image game.now) }
 {
     match encode(alloc, game) {

@@ -12,6 +12,7 @@ use Rattle.paw_reading.specs.Run.{Run, closed, is_timeout, is_ignored, with_time
 use Rattle.paw_reading.specs.Reading.{Out, Waits, after_call, asked, rest}
 use Rattle.paw_reading.specs.GoingOn.{on_path}
 use Rattle.paw_reading.specs.Turn.{table_done, turn, first_table}
+use Rattle.paw_reading.specs.inner.Places.{IsLoopOf}
 use Rattle.paw_process.specs.OpenTables.{OpenTables}
 use Rattle.paw_process.specs.inner.OpenTables.{ReadsNone}
 use Rattle.paw_process.specs.inner.Meaning.{having, to_come, going_in, ComesTo, RunsTo, IsStopped, AnswersQuit, AnswersKey}
@@ -20,7 +21,7 @@ use Rattle.paw_turn.specs.declared.Step.TheVariants as step
 use Rattle.paw_turn.specs.declared.stage.Next.{Next}
 use Rattle.paw_turn.specs.declared.stage.Next.TheVariants as next
 use Rattle.paw_turn.specs.declared.turn.Turn.{Turn}
-use Rattle.paw_turn.specs.inner.Player.{IsLoopOf, StandsAt}
+use Rattle.paw_turn.specs.inner.Player.{StandsAt}
 use Rattle.paw_turn.specs.inner.Stages.{Past, run_now, having_read, HasReadSome, GoesOnAs, MovesAfter, PlaysAs}
 use Rattle.paw_turn.specs.inner.Stages.{RunsAs, from_prompt, from_path, StopsInTable, AwaitsAt, in_world}
 use Rattle.paw_turn.proofs.Falling.{some_past, has_still}

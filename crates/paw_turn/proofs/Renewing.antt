@@ -8,7 +8,7 @@ use Rattle.paw_base.specs.declared.parts.ObjectFacts.{ObjectFacts}
 use Rattle.paw_game.specs.Game.{GameLists}
 use Rattle.paw_effects.specs.Story.{Story}
 use Rattle.paw_world.specs.World.{World, flags_with, restarted}
-use Rattle.paw_effects.specs.Built.{IsOf}
+use Rattle.paw_effects.specs.Worlds.{IsOf}
 use Rattle.paw_effects.specs.declared.act.Prompt.TheVariants as prompt
 use Rattle.paw_effects.specs.Texts.{say_text}
 use Rattle.paw_reading.specs.declared.places.Frame.{Frame}
@@ -16,7 +16,7 @@ use Rattle.paw_reading.specs.declared.places.OpenLoop.{OpenLoop}
 use Rattle.paw_reading.specs.Run.{Run, closed, fits, printed, without_loop, line_dropped, anew, is_timeout, is_ignored, heard, with_timeout, reply, is_no}
 use Rattle.paw_reading.specs.Reading.{IsOver, RunsOut, Restarts, Out, Stopped, halts, after_call, again, asked, looped, deeper, rest}
 use Rattle.paw_reading.specs.GoingOn.{on_path}
-use Rattle.paw_reading.specs.Turn.{Ending, Halted, AtDescribe, Stage, table_done, turn, first_table}
+use Rattle.paw_reading.specs.Turn.{Ending, Halted, AtDescribe, TurnStage, table_done, turn, first_table}
 use Rattle.paw_process.specs.inner.Meaning.{to_come}
 use Rattle.paw_turn.specs.declared.Step.TheVariants as step
 use Rattle.paw_turn.specs.declared.stage.Stage.TheVariants as stage
@@ -70,15 +70,15 @@ again_is g old line some hears n past lines =
     ap (table_done g (turn g n) (first_table (reverse old.machine.frames)))
     (some_again g (reverse old.machine.frames) (run_now old past []) line lines many hears)
 
-final_restarts : (g : Story) (go : Stage → Run → Ending) (t : ℕ) (declines fit : Bool) (e s d : Run) → declines ≡ false
+final_restarts : (g : Story) (go : TurnStage → Run → Ending) (t : ℕ) (declines fit : Bool) (e s d : Run) → declines ≡ false
     → table_done g go t (final declines fit e s d) ≡ go AtDescribe d
 final_restarts g go t declines fit e s d is = rw is refl
 
-final_ends : (g : Story) (go : Stage → Run → Ending) (t : ℕ) (declines fit : Bool) (e s d : Run) → declines ≡ true →
+final_ends : (g : Story) (go : TurnStage → Run → Ending) (t : ℕ) (declines fit : Bool) (e s d : Run) → declines ≡ true →
     fit ≡ true → table_done g go t (final declines fit e s d) ≡ Halted IsOver e
 final_ends g go t declines fit e s d is fitting = rw (is, fitting) refl
 
-final_spends : (g : Story) (go : Stage → Run → Ending) (t : ℕ) (declines fit : Bool) (e s d : Run) → declines ≡ true →
+final_spends : (g : Story) (go : TurnStage → Run → Ending) (t : ℕ) (declines fit : Bool) (e s d : Run) → declines ≡ true →
     fit ≡ false → table_done g go t (final declines fit e s d) ≡ Halted (RunsOut spent.Text) s
 final_spends g go t declines fit e s d is fitting = rw (is, fitting) refl
 

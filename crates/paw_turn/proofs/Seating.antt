@@ -12,13 +12,13 @@ use Rattle.paw_world.specs.World.{World}
 use Rattle.paw_game.specs.Valid.{Valid}
 use Rattle.paw_effects.specs.declared.act.Prompt.{Prompt}
 use Rattle.paw_effects.specs.declared.act.Prompt.TheVariants as prompt
-use Rattle.paw_effects.specs.Built.{IsOf}
+use Rattle.paw_effects.specs.Worlds.{IsOf}
 use Rattle.paw_effects.specs.inner.Opening.{opening_world}
 use Rattle.paw_effects.proofs.Worlds.{world_is, start_so}
 use Rattle.paw_reading.specs.declared.places.Frame.{Frame}
 use Rattle.paw_reading.specs.declared.places.OpenLoop.{OpenLoop}
 use Rattle.paw_reading.specs.Turn.{first_table}
-use Rattle.paw_reading.specs.inner.Places.{ArePlaces}
+use Rattle.paw_reading.specs.inner.Places.{ArePlaces, IsLoopOf}
 use Rattle.paw_phrase.specs.Pending.{PendingLine}
 use Rattle.paw_process.specs.OpenTables.{OpenTables}
 use Rattle.paw_process.specs.inner.OpenTables.{IsWaiting, IsClosed, new_machine, refilled}
@@ -31,7 +31,7 @@ use Rattle.paw_process.proofs.Again.{restored_again}
 use Rattle.paw_process.proofs.Fitting.{places_fit, kept_places}
 use Rattle.paw_turn.specs.declared.Step.{Step}
 use Rattle.paw_turn.specs.declared.Step.TheVariants as step
-use Rattle.paw_turn.specs.inner.Player.{Seat, IsLoopOf, WaitsIn, StandsClosed, StandRightly, IsSeated, IsNew}
+use Rattle.paw_turn.specs.inner.Player.{Seat, WaitsIn, StandsClosed, StandRightly, IsSeated, IsNew}
 use Rattle.paw_turn.specs.inner.Stages.{MayGoOn, HasReadSome, seat_of}
 use Rattle.paw_turn.specs.declared.turn.Turn.{Turn}
 use Rattle.paw_turn.proofs.Standing.{unreversed}

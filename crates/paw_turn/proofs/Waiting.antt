@@ -7,13 +7,13 @@ use Rattle.paw_effects.specs.declared.act.Prompt.TheVariants as prompt
 use Rattle.paw_reading.specs.declared.places.Frame.{Frame}
 use Rattle.paw_reading.specs.Run.{Run, closed}
 use Rattle.paw_reading.specs.Reading.{Out, Waits}
+use Rattle.paw_reading.specs.inner.Places.{IsLoopOf}
 use Rattle.paw_process.specs.OpenTables.{OpenTables}
 use Rattle.paw_process.specs.inner.OpenTables.{IsWaiting, IsClosed}
 use Rattle.paw_process.specs.inner.Meaning.{IsStopped}
 use Rattle.paw_process.specs.declared.Turned.{Turned}
 use Rattle.paw_process.specs.declared.Turned.TheVariants as turned
 use Rattle.paw_turn.specs.declared.turn.Turn.{Turn}
-use Rattle.paw_turn.specs.inner.Player.{IsLoopOf}
 use Rattle.paw_turn.specs.inner.Stages.{Past, run_now, having_read, HasReadSome, RunsAs, from_table, WaitsInTable, StopsInTable}
 use Rattle.paw_reading.proofs.Stays.{WaitsThere, table_waits}
 use Rattle.paw_reading.proofs.Waiting.{some_waits}

@@ -12,7 +12,7 @@ ghost use Rattle.paw_process.specs.inner.OpenTables.{IsClosed};
 ghost use Rattle.paw_turn.specs.declared.stage.Next.TheVariants as next;
 ghost use Rattle.paw_turn.specs.inner.Player.{WaitsIn, StandsAt};
 ghost use Rattle.paw_turn.specs.inner.Stages.{PlaysAs, RunsAs, from_prompt, from_path, IsPlayable};
-ghost use Rattle.paw_turn.specs.inner.Stages.{HasReadSome, MayHear, Stays, KeepsGame, StopsInTable, AwaitsAt};
+ghost use Rattle.paw_turn.specs.inner.Stages.{MayHear, MayAnswer, Stays, KeepsGame, StopsInTable};
 
 use crate::stage::{Next, Stage};
 use crate::turn::Turn;
@@ -140,12 +140,8 @@ impl Turn {
         prompt: Prompt,
         line: &[u8],
     ) -> Next
-        requires heard { is_ignored self.old.situation.world line.now ≡ false }
-        requires valid { Valid (T.game tables.now) }
         requires rows { HaveRows F.Fn routines.now }
-        requires read { HasReadSome self.old.machine }
-        requires playable { IsPlayable (T.game tables.now) self.old }
-        requires awaits { AwaitsAt prompt self.old.machine }
+        requires ready { MayAnswer (T.game tables.now) prompt line.now self.old }
         ensures meaning { (X : List (List ℕ)) → AreRowsOf F.Fn routines.now X →
             let g = story_of (T.game tables.now) X in
             PlaysAs g (from_prompt g prompt self.old line.now) self.old result self.new }
@@ -164,12 +160,8 @@ impl Turn {
         prompt: Prompt,
         line: &[u8],
     ) -> Turned
-        requires heard { is_ignored self.old.situation.world line.now ≡ false }
-        requires valid { Valid (T.game tables.now) }
         requires rows { HaveRows F.Fn routines.now }
-        requires read { HasReadSome self.old.machine }
-        requires playable { IsPlayable (T.game tables.now) self.old }
-        requires awaits { AwaitsAt prompt self.old.machine }
+        requires ready { MayAnswer (T.game tables.now) prompt line.now self.old }
         ensures runs { (X : List (List ℕ)) → AreRowsOf F.Fn routines.now X → let g = story_of (T.game tables.now) X in
             RunsAs g (from_path g prompt self.old line.now) self.old result self.new }
         ensures stops { StopsInTable (first_table (reverse self.old.machine.frames)) result self.new.machine }

@@ -1,6 +1,7 @@
 // A player of a game.
 
 ghost use Rattle.std.specs.Prelude.{◌≡◌, ℕ, ◌+◌, ◌<◌, ◌≤◌, ◌^◌, List, [], ◌∷◌, None, length, reverse, IfOk};
+ghost use Rattle.paw_base.specs.declared.limits.TheConstants.{READ_LIMIT};
 ghost use Rattle.paw_base.specs.inner.Piece.{piece_limit};
 ghost use Rattle.paw_routines.specs.Routines.{AreRowsOf, HaveRows};
 ghost use Rattle.paw_effects.specs.Story.{story_of};
@@ -157,7 +158,7 @@ impl<'a, T: Tables, F: Fn(u8, u8) -> u8> Player<'a, T, F> {
             let g = story_of self.old.game X in
             PlaysTo g (reading g self.old.world.seed) result self.new [] [] }
         ensures seated { IsSeated self.new }
-        ensures draws { self.new.world.draws ≤ self.old.world.draws + 200000 }
+        ensures draws { self.new.world.draws ≤ self.old.world.draws + READ_LIMIT }
     {
         let step = self.turn.play(self.tables, self.routines, Stage::Describe);
         self.turn.settle(step);
@@ -171,7 +172,7 @@ impl<'a, T: Tables, F: Fn(u8, u8) -> u8> Player<'a, T, F> {
         requires seated { IsSeated self.old }
         requires rows { HaveRows F.Fn self.old.routines }
         requires line { length line.now ≤ 255 }
-        requires draws { self.old.world.draws + 200000 < 2 ^ 64 }
+        requires draws { self.old.world.draws + READ_LIMIT < 2 ^ 64 }
         ensures last { self.new.last ≡ result }
         ensures game { self.new.game ≡ self.old.game }
         ensures routines { self.new.routines ≡ self.old.routines }
@@ -184,7 +185,7 @@ impl<'a, T: Tables, F: Fn(u8, u8) -> u8> Player<'a, T, F> {
         ensures finished { IsFinished self.old.last →
             (result ≡ self.old.last) × (self.new ≡ record self.old { piece = [] }) }
         ensures seated { IsSeated self.new }
-        ensures draws { self.new.world.draws ≤ self.old.world.draws + 200000 }
+        ensures draws { self.new.world.draws ≤ self.old.world.draws + READ_LIMIT }
     {
         let Step::Waits(prompt) = self.last else {
             self.turn.clear_piece();

@@ -20,10 +20,18 @@ use paw_base::places::{CARRIED_PLACE, NOT_CREATED_PLACE, WORN_PLACE};
 use paw_base::words::NO_WORD;
 use std::marker::Model;
 
-// The places of what isn't created, of what is worn and of what is carried.
-// No word, and no object.
 // How many levels below an object its contents count.
 const LEVELS: u8 = 10;
+
+/// What stands for facts where there is no object.
+pub const NO_OBJECT: ObjectFacts = ObjectFacts {
+    noun: NO_WORD,
+    adjective: NO_WORD,
+    start: NOT_CREATED_PLACE,
+    weight: 0,
+    container: false,
+    wearable: false,
+};
 
 /// What a game changes while it is played, with the facts of its objects and the number of its locations.
 #[derive(Drop)]
@@ -419,15 +427,7 @@ fn filled(facts: &[ObjectFacts]) -> [ObjectFacts; OBJECT_LIMIT]
     requires { length facts.now ≤ 255 }
     ensures { take (length facts.now) result ≡ facts.now }
 {
-    let none = ObjectFacts {
-        noun: NO_WORD,
-        adjective: NO_WORD,
-        start: NOT_CREATED_PLACE,
-        weight: 0,
-        container: false,
-        wearable: false,
-    };
-    let mut all = [none; OBJECT_LIMIT];
+    let mut all = [NO_OBJECT; OBJECT_LIMIT];
     all[..facts.len()].copy_from_slice(facts);
     all
 }

@@ -1,7 +1,7 @@
 // The actions on objects, in a game of a lamp, a sword, a bag, a pouch without a noun, a coat and a torch.
 
 ghost use Rattle.std.specs.Prelude.{◌≡◌};
-ghost use Rattle.paw_effects.specs.Built.{IsOf};
+ghost use Rattle.paw_effects.specs.Worlds.{IsOf};
 ghost use Rattle.paw_routines.specs.Routines.{HaveRows};
 
 use super::{entry_of, opened, text, word};

@@ -1,6 +1,7 @@
 -- What the steps of a journal's calls leave.
 use Rattle.std.specs.Prelude.{◌≡◌, ◌⊎◌, ℕ, ◌+◌, ◌-◌, ◌*◌, ◌/◌, ◌%◌, ◌<◌, ◌≤◌, List, [], ◌∷◌, length, slice_index, true}
 use Rattle.std.specs.Prelude.{false, Option, Some, None}
+use Rattle.paw_base.specs.declared.limits.TheConstants.{PIECE_LIMIT}
 use Rattle.paw_stage.specs.Disk.{Disk, is_dirty, put}
 use Rattle.paw_stage.specs.Stage.{Standing}
 use Rattle.paw_journal.specs.declared.drafting.SlotState.{SlotState}
@@ -108,6 +109,6 @@ written_slot draft bytes piece old = put 0 (slot_head draft.records) (put 4160 p
 -- than a commit may write.
 pub record Drafts (kept : Option SlotState) (state bytes : List ℕ) (draft : Draft) : Type 0 where
   pub inside : draft.at + length bytes ≤ slot_length
-  pub gives : (old piece : List ℕ) → length old ≡ slot_length → kept_slot old ≡ kept → length piece ≤ 65535 →
+  pub gives : (old piece : List ℕ) → length old ≡ slot_length → kept_slot old ≡ kept → length piece ≤ PIECE_LIMIT →
       kept_slot (written_slot draft bytes piece old) ≡ Some (record { records = draft.records; state = state })
   pub few : (piece : List ℕ) → length bytes + length piece + 4 ≤ most_written kept state piece

@@ -28,9 +28,9 @@ use Rattle.paw_play.specs.declared.PlayEnd.{PlayEnd}
 use Rattle.paw_play.specs.declared.PlayEnd.TheVariants as end
 use Rattle.paw_play.specs.declared.TheConstants.{MOST_EVENTS}
 use Rattle.paw_play.specs.Session.{kept_bytes}
-use Rattle.paw_play.specs.Walk.{EndingOf, first_lines, played, joined, text_before, Walks}
+use Rattle.paw_play.specs.Walk.{EndingOf, first_lines, advanced, joined, text_before, Walks}
 use Rattle.paw_play.specs.Keeping.{InMakingOf, StaysAttached, RestsWith}
-use Rattle.paw_play.specs.Play.{Played, KeptBy, InPlay, PlaysOn, PlaysIn, with_store}
+use Rattle.paw_play.specs.Play.{PlayedSession, KeptBy, InPlay, PlaysOn, PlaysIn, with_store}
 use Rattle.paw_play.specs.inner.Telling.{Telling, Plain, HaveSteps, told_pieces, told_as}
 
 -- ---- a walk ----
@@ -53,7 +53,7 @@ pub record IsWalking {F : Type 0} (telling : Telling) (g : Story) (whole : Endin
       whole (first_lines n old.lines ++ more)
       ≡ on g prompt (reverse seat.machine.frames) (run_at seat pieces traces more)
   pub there : n ≤ length old.lines
-  pub stands : now ≡ played old n (joined (told_pieces telling pieces traces))
+  pub stands : now ≡ advanced old n (joined (told_pieces telling pieces traces))
 
 -- a step that brings a piece
 abbrev pub ShowsPiece : Step → Type 0
@@ -90,24 +90,25 @@ WalksTo telling g whole most first now seat n (Some o) = Walks (told_as telling 
 -- ---- a session ----
 
 -- the session of a game that is played from its start
-abbrev pub new_session : Story → ℕ → List ℕ → List ℕ → Played
+abbrev pub new_session : Story → ℕ → List ℕ → List ℕ → PlayedSession
 new_session g seed digest name = record { whole = reading g seed; before = 0; digest = digest; name = name }
 
 -- the store is at rest, and keeps the first n lines
-abbrev pub Rests : Played → Standing → Standing → ℕ → Type 0
+abbrev pub Rests : PlayedSession → Standing → Standing → ℕ → Type 0
 Rests s old new n = RestsWith (KeptBy s old.lines) s.before s.name old new n
 
 -- a moment at which the session is made
-abbrev pub InMaking : Played → Standing → Moment → Type 0
+abbrev pub InMaking : PlayedSession → Standing → Moment → Type 0
 InMaking s old m = InMakingOf (KeptBy s old.lines) s.name old m
 
 -- what making a new session in the attached store and playing it comes to
-abbrev pub PlaysInStore : Played → Standing → Standing → PlayEnd → Type 0
+abbrev pub PlaysInStore : PlayedSession → Standing → Standing → PlayEnd → Type 0
 PlaysInStore s old new o = PlaysIn (KeptBy s old.lines) s.whole s.name old new o
 
 -- The session is at a prompt: the walk is, the store keeps all lines that were taken, and the text of the last piece
 -- came last.
-pub record IsPlaying {F : Type 0} (g : Story) (s : Played) (first now : Standing) (seat : Seat F) (n : ℕ) : Type 0 where
+pub record IsPlaying {F : Type 0} (g : Story) (s : PlayedSession) (first now : Standing) (seat : Seat F)
+    (n : ℕ) : Type 0 where
   pub walking : IsWalking Plain g s.whole (with_store now first) now seat n
   pub rests : Rests s first now n
   pub digest : kept_digest now.disk.bytes ≡ s.digest
@@ -115,7 +116,8 @@ pub record IsPlaying {F : Type 0} (g : Story) (s : Played) (first now : Standing
   pub grown : text_of (s.whole (first_lines n first.lines)) ≡ text_before s.whole first.lines n ++ last
 
 -- after one line more: the session is at the next prompt, or playing on has come to this
-abbrev pub PlaysTo : {A F : Type 0} → Story → Played → ℕ → Standing → Standing → Seat F → ℕ → Result A PlayEnd → Type 0
+abbrev pub PlaysTo : {A F : Type 0} → Story → PlayedSession → ℕ → Standing → Standing → Seat F → ℕ →
+    Result A PlayEnd → Type 0
 PlaysTo g s most first now seat n (Ok a) = IsPlaying g s first now seat (suc n)
 PlaysTo g s most first now seat n (Err o) = PlaysOn s most first now o
 
@@ -126,7 +128,7 @@ pub record IsStore (name : List ℕ) (s : Standing) : Type 0 where
   pub file : s.files name ≡ Some s.disk.bytes
 
 -- what making a new session comes to, once its store is attached
-abbrev pub BegunAs : Played → Standing → Standing → PlayEnd → Type 0
+abbrev pub BegunAs : PlayedSession → Standing → Standing → PlayEnd → Type 0
 BegunAs s first now (end.Spent kind) = (r : Run) × (s.whole [] ≡ Halted (RunsOut kind) r) × (now ≡ first)
 BegunAs s first now (end.TooDeep table) = (r : Run) × (s.whole [] ≡ Halted (CallsTooDeep table) r) × (now ≡ first)
 BegunAs s first now (end.Outside call.Write) = (now ≡ with_store now first) × StaysAttached s.name first now
@@ -134,7 +136,7 @@ BegunAs s first now (end.Outside call.Sync) = (now ≡ with_store now first) × 
 BegunAs s first now o = PlaysOn s MOST_EVENTS first now o
 
 -- the session is at its first prompt, or making it has come to this
-abbrev pub Begins : {A F : Type 0} → Story → Played → Standing → Standing → Seat F → Result A PlayEnd → Type 0
+abbrev pub Begins : {A F : Type 0} → Story → PlayedSession → Standing → Standing → Seat F → Result A PlayEnd → Type 0
 Begins g s first now seat (Ok a) = IsPlaying g s first now seat 0
 Begins g s first now seat (Err o) = BegunAs s first now o
 
@@ -162,18 +164,19 @@ EachStory calls routines game Holds = (X : List (List ℕ)) → AreRowsOf calls 
 
 -- a fact of each session that is at its prompt with this player, after so many lines in all: n were taken since `first`
 -- stood, of at most `most`
-abbrev pub EachPlaying : {F : Type 0} → Story → Seat F → ℕ → Standing → (Played → ℕ → ℕ → Standing → Type 0) → Type 0
+abbrev pub EachPlaying : {F : Type 0} → Story → Seat F → ℕ → Standing →
+    (PlayedSession → ℕ → ℕ → Standing → Type 0) → Type 0
 EachPlaying g seat events now Holds =
-    (s : Played) (most n : ℕ) (first : Standing) → IsPlaying g s first now seat n → events ≡ s.before + n → n < most →
-    Holds s most n first
+    (s : PlayedSession) (most n : ℕ) (first : Standing) → IsPlaying g s first now seat n → events ≡ s.before + n →
+    n < most → Holds s most n first
 
 -- a fact of each session that is at the prompt that it begins at or is taken up at, after so many lines in all
-abbrev pub EachStarting : {F : Type 0} → Story → Seat F → ℕ → Standing → (Played → Standing → Type 0) → Type 0
+abbrev pub EachStarting : {F : Type 0} → Story → Seat F → ℕ → Standing → (PlayedSession → Standing → Type 0) → Type 0
 EachStarting g seat events now Holds =
-    (s : Played) (first : Standing) → IsPlaying g s first now seat 0 → events ≡ s.before → Holds s first
+    (s : PlayedSession) (first : Standing) → IsPlaying g s first now seat 0 → events ≡ s.before → Holds s first
 
 -- a moment at which a new session is made or played
-abbrev pub InNew : Played → Standing → Moment → Type 0
+abbrev pub InNew : PlayedSession → Standing → Moment → Type 0
 InNew s old m = InMaking s old m ⊎ InPlay s old m
 
 -- what the session of a store shows that a player was committed to, after so many lines

@@ -1,5 +1,6 @@
 -- What taking the next phrase makes of the world and the pending line.
 use Rattle.std.specs.Prelude.{◌≡◌}
+use Rattle.paw_base.specs.declared.flags.TheConstants.{PRONOUN_NOUN_FLAG, PRONOUN_ADJECTIVE_FLAG}
 use Rattle.paw_game.specs.Game.{GameLists}
 use Rattle.paw_world.specs.World.{World, flag}
 use Rattle.paw_phrase.specs.declared.Found.{Found}
@@ -11,7 +12,7 @@ use Rattle.paw_reading.specs.Run.{spoken}
 
 -- what the next phrase of a pending line is
 abbrev pub next_phrase : GameLists → World → PendingLine → Parsed
-next_phrase g w p = parsed g p.bytes p.earlier (flag w 46) (flag w 47)
+next_phrase g w p = parsed g p.bytes p.earlier (flag w PRONOUN_NOUN_FLAG) (flag w PRONOUN_ADJECTIVE_FLAG)
 
 -- The next phrase is taken. A sentence stands in the flags, its bytes are gone, and its verb is the earlier one from
 -- now on; the bytes of a phrase with no known word are gone; where there is no phrase nothing changes.

@@ -4,7 +4,7 @@ use Rattle.paw_base.specs.declared.parts.Condact.{Condact}
 use Rattle.paw_game.specs.Game.{GameLists}
 use Rattle.paw_game.specs.inner.Valid.{is_right}
 use Rattle.paw_world.specs.World.{World}
-use Rattle.paw_effects.specs.Built.{IsOf}
+use Rattle.paw_effects.specs.Worlds.{IsOf}
 use Rattle.paw_reading.specs.declared.places.Frame.{Frame}
 use Rattle.paw_process.specs.OpenTables.{OpenTables}
 use Rattle.paw_process.specs.inner.OpenTables.{below, ReadsNone, IsAtCondact, IsReading}

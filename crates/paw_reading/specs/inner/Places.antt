@@ -51,6 +51,10 @@ pub record IsLoopIn (g : GameLists) (tables : List ℕ) (l : OpenLoop) : Type 0 
   pub place : IsTrue (is_place (length g.locations) l.place)
   pub last : l.last < length g.objects
 
+-- a loop of the outermost level belongs to this table
+abbrev pub IsLoopOf : ℕ → Option OpenLoop → Type 0
+IsLoopOf t turning = IfSome turning (λ l. l.level ≡ 0 → l.table ≡ t)
+
 -- tables are open from 0, 1 or 2 to a condact with this code, eleven at most, and the loop is one of theirs
 pub record AreOpenTo (g : GameLists) (code : ℕ) (path : List Frame) (turning : Option OpenLoop) : Type 0 where
   pub few : length path ≤ suc LEVEL_LIMIT

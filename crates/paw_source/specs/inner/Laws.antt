@@ -2,6 +2,7 @@
 use Rattle.std.specs.Prelude.{◌≡◌, ◌≤◌, ◌⊎◌, ℕ, suc, ◌+◌, List, [], ◌∷◌, ◌++◌, length, Result, Ok, Err}
 use Rattle.std.specs.List.{count_by}
 use Rattle.paw_base.specs.declared.fault.SourceKind.{SourceKind}
+use Rattle.paw_base.specs.declared.limits.TheConstants.{SOURCE_LIMIT}
 use Rattle.paw_game.specs.Game.{GameLists}
 use Rattle.paw_game.specs.Valid.{Valid}
 use Rattle.paw_grammar.specs.Tokens.{◌>>=◌}
@@ -40,12 +41,12 @@ HasNoFault source = HasNone (count_by begins_table (lines_of source)) nothing_ye
 
 -- of a source that isn't too long the first line with a fault is named, by its number
 abbrev pub NamesTheFirst : Type 0
-NamesTheFirst = (source : List ℕ) (n : ℕ) (k : SourceKind) → length source ≤ 8388608 → FirstFault source n k
+NamesTheFirst = (source : List ℕ) (n : ℕ) (k : SourceKind) → length source ≤ SOURCE_LIMIT → FirstFault source n k
     → spelled source ≡ Err (fault (suc n) k)
 
 -- what is named is the first line with a fault, or, where no line has one, the line after the last
 abbrev pub IsNamedRightly : Type 0
-IsNamedRightly = (source : List ℕ) (f : SourceFault) → length source ≤ 8388608 → spelled source ≡ Err f
+IsNamedRightly = (source : List ℕ) (f : SourceFault) → length source ≤ SOURCE_LIMIT → spelled source ≡ Err f
     → ((n : ℕ) × (f.line ≡ suc n) × FirstFault source n f.kind)
     ⊎ ((f.line ≡ suc (length (lines_of source))) × HasNoFault source)
 

@@ -9,14 +9,18 @@ use Rattle.paw_state.specs.Fit.{Fit, unfit}
 
 -- bytes have a fault exactly where they are not fit
 abbrev pub FitOrUnfit : Type 0
-FitOrUnfit = (g : GameLists) (bytes : List ℕ) → Valid g → STATE_LENGTH ≤ length bytes → AreBytes bytes → (unfit g bytes ≡ None) ↔ Fit g bytes
+FitOrUnfit =
+    (g : GameLists) (bytes : List ℕ) → Valid g → STATE_LENGTH ≤ length bytes → AreBytes bytes →
+    (unfit g bytes ≡ None) ↔ Fit g bytes
 
 -- two states of a game with the same bytes are the same
 abbrev pub BytesTellTheState : Type 0
 BytesTellTheState =
-    (g : GameLists) (s t : State) → Valid g → Keeps g s → FitsFields s → Keeps g t → FitsFields t → state_bytes s ≡ state_bytes t → s ≡ t
+    (g : GameLists) (s t : State) → Valid g → Keeps g s → FitsFields s → Keeps g t → FitsFields t →
+    state_bytes s ≡ state_bytes t → s ≡ t
 
 -- a state has so many bytes, which are fit for the game, whatever follows them
 abbrev pub WrittenIsFit : Type 0
 WrittenIsFit =
-    (g : GameLists) (s : State) (rest : List ℕ) → Valid g → Keeps g s → FitsFields s → (length (state_bytes s) ≡ STATE_LENGTH) × Fit g (state_bytes s ++ rest)
+    (g : GameLists) (s : State) (rest : List ℕ) → Valid g → Keeps g s → FitsFields s →
+    (length (state_bytes s) ≡ STATE_LENGTH) × Fit g (state_bytes s ++ rest)

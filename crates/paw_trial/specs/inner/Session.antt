@@ -1,6 +1,7 @@
 -- The session of a trial, on the way.
 use Rattle.std.specs.Prelude.{◌≡◌, ℕ, ◌+◌, ◌*◌, ◌/◌, List, [], length, take}
 use Rattle.std.specs.Prelude.{drop, codes, slice_index, Option, Some, None}
+use Rattle.paw_base.specs.declared.flags.TheConstants.{CARRIED_FLAG, LOCATION_FLAG}
 use Rattle.paw_stage.specs.Disk.{IsStable}
 use Rattle.paw_stage.specs.Stage.{Standing}
 use Rattle.paw_effects.specs.Counts.{turns_taken}
@@ -50,7 +51,7 @@ stop_of _ = Some end.Memory
 
 -- what a world counts
 abbrev pub tally_of : World → Tally
-tally_of w = record { turns = turns_taken w; at = flag w 38; carried = flag w 1 }
+tally_of w = record { turns = turns_taken w; at = flag w LOCATION_FLAG; carried = flag w CARRIED_FLAG }
 
 abbrev pub IsTallyOf : Ending → Tally → Type 0
 IsTallyOf (WaitsAt p path r) t = t ≡ tally_of r.world

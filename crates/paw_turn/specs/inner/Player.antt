@@ -1,5 +1,5 @@
 -- What a player's answers mean in the reading.
-use Rattle.std.specs.Prelude.{◌≡◌, ℕ, List, [], ◌∷◌, ◌++◌, Option, reverse, IfSome}
+use Rattle.std.specs.Prelude.{◌≡◌, ℕ, List, [], ◌∷◌, ◌++◌, reverse}
 use Rattle.paw_base.specs.inner.Steps.{kept_steps}
 use Rattle.paw_game.specs.Game.{GameLists}
 use Rattle.paw_game.specs.Valid.{Valid}
@@ -10,11 +10,10 @@ use Rattle.paw_effects.specs.declared.act.Prompt.{Prompt}
 use Rattle.paw_effects.specs.declared.act.Prompt.TheVariants as prompt
 use Rattle.paw_effects.specs.inner.Opening.{opening_world}
 use Rattle.paw_effects.specs.Story.{Story}
-use Rattle.paw_reading.specs.declared.places.OpenLoop.{OpenLoop}
 use Rattle.paw_reading.specs.Run.{Run, Step as Read}
 use Rattle.paw_reading.specs.Reading.{Halt, IsOver, RunsOut, CallsTooDeep}
 use Rattle.paw_reading.specs.Turn.{Ending, Halted, first_table, on}
-use Rattle.paw_reading.specs.inner.Places.{StandsRightly}
+use Rattle.paw_reading.specs.inner.Places.{IsLoopOf, StandsRightly}
 use Rattle.paw_process.specs.OpenTables.{OpenTables}
 use Rattle.paw_process.specs.inner.OpenTables.{IsWaiting, IsClosed, new_machine}
 use Rattle.paw_turn.specs.declared.Step.{Step}
@@ -70,10 +69,6 @@ PlaysTo g whole step.Ended new pieces traces =
     whole lines ≡ Halted IsOver (run_at new (pieces ++ new.piece ∷ []) (traces ++ read ∷ []) lines)))
 PlaysTo g whole (step.Spent kind) new pieces traces = PlayHalts whole (RunsOut kind) new pieces traces
 PlaysTo g whole (step.TooDeep u) new pieces traces = PlayHalts whole (CallsTooDeep u) new pieces traces
-
--- a loop of the outermost level belongs to this table
-abbrev pub IsLoopOf : ℕ → Option OpenLoop → Type 0
-IsLoopOf t turning = IfSome turning (λ l. l.level ≡ 0 → l.table ≡ t)
 
 -- the machine waits at this prompt in the tables that are open
 pub record WaitsIn (p : Prompt) (m : OpenTables) : Type 0 where

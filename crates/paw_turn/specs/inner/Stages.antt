@@ -1,6 +1,7 @@
 -- What the stages of a turn come to in the reading. The contracts of private functions alone speak of this.
-use Rattle.std.specs.Prelude.{◌≡◌, ℕ, zero, suc, ◌+◌, ◌*◌, ◌<◌, ◌≤◌, ◌^◌, Bool, List, Option}
+use Rattle.std.specs.Prelude.{◌≡◌, ℕ, zero, suc, ◌+◌, ◌*◌, ◌<◌, ◌≤◌, ◌^◌, Bool, false, List, Option}
 use Rattle.std.specs.Prelude.{[], ◌∷◌, ◌++◌, length, reverse, if◌then◌else◌}
+use Rattle.paw_base.specs.declared.limits.TheConstants.{READ_LIMIT}
 use Rattle.paw_base.specs.declared.fault.SpentKind.TheVariants as spent
 use Rattle.paw_game.specs.Game.{GameLists}
 use Rattle.paw_game.specs.Valid.{Valid}
@@ -9,15 +10,15 @@ use Rattle.paw_phrase.specs.Pending.{PendingLine}
 use Rattle.paw_routines.specs.declared.routines.Routines.{Routines}
 use Rattle.paw_effects.specs.declared.act.Prompt.{Prompt}
 use Rattle.paw_effects.specs.declared.act.Prompt.TheVariants as prompt
-use Rattle.paw_effects.specs.Built.{IsOf}
+use Rattle.paw_effects.specs.Worlds.{IsOf}
 use Rattle.paw_effects.specs.Story.{Story}
 use Rattle.paw_reading.specs.declared.places.Frame.{Frame}
 use Rattle.paw_reading.specs.declared.places.OpenLoop.{OpenLoop}
-use Rattle.paw_reading.specs.Run.{Run, Step as Read, closed}
+use Rattle.paw_reading.specs.Run.{Run, Step as Read, closed, is_ignored}
 use Rattle.paw_reading.specs.Reading.{Halt, IsOver, RunsOut, CallsTooDeep, Out, table_read}
 use Rattle.paw_reading.specs.GoingOn.{on_path}
 use Rattle.paw_reading.specs.Turn.{Ending, Halted, AtDescribe, AtFrame, AtPhrase, AtResponse}
-use Rattle.paw_reading.specs.Turn.{table_done, turn, first_table, goes_on, Stage as TurnStage}
+use Rattle.paw_reading.specs.Turn.{table_done, turn, first_table, goes_on, TurnStage}
 use Rattle.paw_process.specs.OpenTables.{OpenTables}
 use Rattle.paw_process.specs.inner.OpenTables.{HasRead, IsClosed, refilled}
 use Rattle.paw_process.specs.inner.Meaning.{SamePast, ComesTo}
@@ -152,7 +153,7 @@ MovesAfter g t turned old next new =
 -- the world is the game's, and it can make all draws that the piece may still ask for
 pub record IsPlayable (g : GameLists) (h : Turn) : Type 0 where
   pub world : IsOf g h.situation.world
-  pub budget : h.machine.left ≤ 200000
+  pub budget : h.machine.left ≤ READ_LIMIT
   pub draws : h.situation.world.draws + h.machine.left < 2 ^ 64
 
 -- a stage may begin: no table is open
@@ -274,6 +275,14 @@ AwaitsAt prompt.Quit m = WaitsIn prompt.Quit m
 AwaitsAt prompt.Again m = ⊥
 AwaitsAt prompt.Key m = WaitsIn prompt.Key m
 AwaitsAt prompt.Over m = ⊥
+
+-- this line answers the prompt: it isn't ignored, and the machine waits for it
+pub record MayAnswer (g : GameLists) (p : Prompt) (line : List ℕ) (h : Turn) : Type 0 where
+  pub heard : is_ignored h.situation.world line ≡ false
+  pub valid : Valid g
+  pub read : HasReadSome h.machine
+  pub playable : IsPlayable g h
+  pub awaits : AwaitsAt p h.machine
 
 -- ---- players ----
 

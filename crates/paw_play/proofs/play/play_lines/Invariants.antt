@@ -5,7 +5,7 @@ use Rattle.paw_stage.specs.Stage.{Standing, Faulted}
 use Rattle.paw_stage.specs.Moments.{Passes}
 use Rattle.paw_turn.specs.inner.Player.{IsSeated}
 use Rattle.paw_journal.specs.inner.Journal.{KeptIn}
-use Rattle.paw_play.specs.Play.{Played, InPlay}
+use Rattle.paw_play.specs.Play.{PlayedSession, InPlay}
 use Rattle.paw_play.specs.inner.OnTheWay.{IsPlaying}
 use Rattle.paw_play.specs.declared.TheConstants.{MOST_EVENTS}
 use Rattle.paw_play.proofs.play.play_lines.Given as goal
@@ -23,10 +23,10 @@ invariant-loop g l = record {
   tells : g.S.Stage.Tells l.fn.stage ↔ g.S.Stage.Tells l.stage;
   faulted : Faulted None (g.S.Stage.faults l.fn.stage) (g.S.Stage.faults l.stage);
   kept : g.S.Stage.Tells l.fn.stage → KeptIn l.session.journal l.room (g.S.Stage.standing l.stage);
-  playing : g.S.Stage.Tells l.fn.stage → (X : List (List ℕ)) → AreRowsOf g.F.Fn l.fn.player.routines X → (s : Played) (first : Standing) →
+  playing : g.S.Stage.Tells l.fn.stage → (X : List (List ℕ)) → AreRowsOf g.F.Fn l.fn.player.routines X → (s : PlayedSession) (first : Standing) →
       IsPlaying (story_of l.fn.player.game X) s first (g.S.Stage.standing l.fn.stage) l.fn.player 0 → l.fn.session.events ≡ s.before →
       IsPlaying (story_of l.player.game X) s first (g.S.Stage.standing l.stage) l.player (l.counter - s.before);
-  passes : g.S.Stage.Tells l.fn.stage → (X : List (List ℕ)) → AreRowsOf g.F.Fn l.fn.player.routines X → (s : Played) (first : Standing) →
+  passes : g.S.Stage.Tells l.fn.stage → (X : List (List ℕ)) → AreRowsOf g.F.Fn l.fn.player.routines X → (s : PlayedSession) (first : Standing) →
       IsPlaying (story_of l.fn.player.game X) s first (g.S.Stage.standing l.fn.stage) l.fn.player 0 → l.fn.session.events ≡ s.before →
       Passes (g.S.Stage.clock l.fn.stage) (g.S.Stage.clock l.stage) (g.S.Stage.since l.fn.stage) (g.S.Stage.since l.stage) (InPlay s first);
 }

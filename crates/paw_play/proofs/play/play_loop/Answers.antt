@@ -1,7 +1,7 @@
 use Rattle.std.proofs.Common.{◌<◌, ◌⊎◌, sym, subst, arith}
 use Rattle.paw_stage.proofs.Time.{Passes_map, Passes_on}
 use Rattle.paw_stage.specs.Stage.{Standing}
-use Rattle.paw_play.specs.Play.{Played, InGame, InPlay, unattached, occupied, plays_in}
+use Rattle.paw_play.specs.Play.{PlayedSession, InGame, InPlay, unattached, occupied, plays_in}
 use Rattle.paw_play.specs.inner.OnTheWay.{InMaking, PlaysInStore, IsStore, new_session}
 use Rattle.paw_play.proofs.Attaching.{store_attached, store_empty, in_new_attach}
 use Rattle.paw_play.proofs.Games.{game_plays, in_game}
@@ -24,7 +24,7 @@ returns-clause-plays g c = λ tells X rows.
     let after_play_in = g.S.Stage.standing c.play_in.new.stage in
     let a = c.in-Ok.ensures.attached tells in
     let old : Standing = g.S.Stage.standing c.args.stage.now in
-    let s : Played = new_session (story_of game2 X) c.args.seed c.args.game.now c.args.name.now in
+    let s : PlayedSession = new_session (story_of game2 X) c.args.seed c.args.game.now c.args.name.now in
     let store : IsStore c.args.name.now (g.S.Stage.standing c.attach.new.stage) =
     subst (IsStore c.args.name.now) (sym a.1) (store_attached old c.args.name.now) in
     plays_in c.play_in.result (store_empty old _ c.args.name.now c.in-Ok.at.length a (omega (arith, c.if-at-ne0.false)))
@@ -37,7 +37,7 @@ returns-clause-any_moment g c = λ tells X rows empty.
     let after_attach = g.S.Stage.standing c.attach.new.stage in
     let a = c.in-Ok.ensures.attached tells in
     let old : Standing = g.S.Stage.standing c.args.stage.now in
-    let s : Played = new_session (story_of game2 X) c.args.seed c.args.game.now c.args.name.now in
+    let s : PlayedSession = new_session (story_of game2 X) c.args.seed c.args.game.now c.args.name.now in
     let store : IsStore c.args.name.now after_attach = subst (IsStore c.args.name.now) (sym a.1) (store_attached old c.args.name.now) in
     Passes_on _ _ _ _ _ _ (InGame (story_of game2 X) c.args.seed c.args.name.now old) _
     (Passes_map _ _ _ _ _ (InGame (story_of game2 X) c.args.seed c.args.name.now old) (c.in-Ok.ensures.time tells)

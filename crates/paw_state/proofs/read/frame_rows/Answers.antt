@@ -12,8 +12,12 @@ empty = record { table = 0; entry = 0; at = 0; acted = 0 }
 pub loop-i-preserved : goal.loop-i-preserved
 loop-i-preserved c = (
   length-set c.loop-i.frames c.loop-i.i c.frame_in.result ∙ c.loop-i.invariant.0,
-  mapped_more frame_in c.args.rows.now c.loop-i.frames c.loop-i.i c.frame_in.result empty (omega arith) (omega arith) c.loop-i.invariant.1 c.frame_in.ensures.value,
+  mapped_more frame_in c.args.rows.now c.loop-i.frames c.loop-i.i c.frame_in.result empty (omega arith)
+      (omega arith) c.loop-i.invariant.1 c.frame_in.ensures.value,
 )
 
 pub returns : goal.returns
-returns c = record { value = mapped_all frame_in c.args.rows.now c.loop-i.frames c.loop-i.i (omega arith) c.loop-i.invariant.0 (omega arith) c.loop-i.invariant.1 }
+returns c = record {
+  value = mapped_all frame_in c.args.rows.now c.loop-i.frames c.loop-i.i (omega arith) c.loop-i.invariant.0
+      (omega arith) c.loop-i.invariant.1;
+}

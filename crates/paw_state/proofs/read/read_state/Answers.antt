@@ -26,7 +26,8 @@ none_from g f bytes h e = sym (h ∙ ap (fields_fault g) e)
 pub returns-in_err-check-clause-fit : goal.returns-in_err-check-clause-fit
 returns-in_err-check-clause-fit g c =
     let game = g.T.Tables.game c.args.tables.now in
-    let e : Some c.in_err-check.field-0.0.at ≡ unfit game c.args.bytes.now = c.in_err-check.ensures.value ∙ ap (fields_fault game) c.at-fields.ensures.value in (
+    let e : Some c.in_err-check.field-0.0.at ≡ unfit game c.args.bytes.now = c.in_err-check.ensures.value
+    ∙ ap (fields_fault game) c.at-fields.ensures.value in (
       λ ok. absurd (not_both c.from_residual.result c.from_residual.ensures.0 ok),
       λ fit. let none = fit_has_none game c.args.bytes.now c.check.ensures.valid fit in cc,
     )
@@ -57,4 +58,5 @@ returns-clause-piece g c =
     let none = none_from game c.at-fields.result c.args.bytes.now c.in_ok-check.ensures.value c.at-fields.ensures.value in
     let r = is_read game c.args.bytes.now c.restored.result c.check.ensures.valid c.at-fields.ensures.room c.at-fields.ensures.bytes none
     (c.restored.ensures.state ∙ ap (state_in game) c.at-fields.ensures.value) c.restored.ensures.machine c.restored.ensures.stands in
-    piece_read (state_read c.restored.result) c.args.bytes.now r.are (long_state game (state_read c.restored.result) c.check.ensures.valid r.keeps r.fits) r.fits.piece
+    piece_read (state_read c.restored.result) c.args.bytes.now r.are
+    (long_state game (state_read c.restored.result) c.check.ensures.valid r.keeps r.fits) r.fits.piece

@@ -16,4 +16,7 @@ loop-i-preserved c = (
 )
 
 pub returns : goal.returns
-returns c = record { value = mapped_all row_of c.args.frames.now c.loop-i.rows c.loop-i.i (omega arith) c.loop-i.invariant.0 (omega arith) c.loop-i.invariant.1 }
+returns c = record {
+  value = mapped_all row_of c.args.frames.now c.loop-i.rows c.loop-i.i (omega arith) c.loop-i.invariant.0
+      (omega arith) c.loop-i.invariant.1;
+}

@@ -9,7 +9,8 @@ use Rattle.paw_state.proofs.write.write_state.Goals as goal
 pub returns-clause-length : goal.returns-clause-length
 returns-clause-length c =
     let s : State = state_of c.args.world.now c.args.machine.now c.args.pending.now c.args.prompt c.args.events c.args.piece in
-    let frames = λ (k : Frames). fields_of (record { world = c.args.world.now; frames = k; pending = c.args.pending.now; prompt = c.args.prompt; events = c.args.events; piece = c.args.piece }) in
+    let frames = λ (k : Frames). fields_of
+    (record { world = c.args.world.now; frames = k; pending = c.args.pending.now; prompt = c.args.prompt; events = c.args.events; piece = c.args.piece }) in
     let is : c.bytes.result ≡ state_bytes s ++ zeros 677 =
     c.bytes.ensures.value ∙ ap (λ f. field_bytes f ++ zeros 677) (c.fields_of-fields.ensures.value ∙ ap frames c.frames-frames.ensures.value) in
     buffer_long (state_bytes s) c.bytes.result is c.bytes.ensures.room
@@ -17,7 +18,8 @@ returns-clause-length c =
 pub returns-clause-piece : goal.returns-clause-piece
 returns-clause-piece c =
     let s : State = state_of c.args.world.now c.args.machine.now c.args.pending.now c.args.prompt c.args.events c.args.piece in
-    let frames = λ (k : Frames). fields_of (record { world = c.args.world.now; frames = k; pending = c.args.pending.now; prompt = c.args.prompt; events = c.args.events; piece = c.args.piece }) in
+    let frames = λ (k : Frames). fields_of
+    (record { world = c.args.world.now; frames = k; pending = c.args.pending.now; prompt = c.args.prompt; events = c.args.events; piece = c.args.piece }) in
     let same = c.fields_of-fields.ensures.value ∙ ap frames c.frames-frames.ensures.value in
     let is : c.bytes.result ≡ state_bytes s ++ zeros 677 = c.bytes.ensures.value ∙ ap (λ f. field_bytes f ++ zeros 677) same in
     let long : AreLong s = record {

@@ -4,7 +4,7 @@ use Rattle.paw_image.specs.inner.Views.{game_read}
 use Rattle.paw_effects.specs.Story.{story_of}
 use Rattle.paw_stage.specs.Stage.{Standing}
 use Rattle.paw_stage.proofs.Time.{Passes_map, Passes_on}
-use Rattle.paw_play.specs.Play.{Played, InAgain, InGoingOn, kept_session, store_bytes}
+use Rattle.paw_play.specs.Play.{PlayedSession, InAgain, InGoingOn, kept_session, store_bytes}
 use Rattle.paw_play.proofs.Standing.{standing_shows, in_going_on}
 use Rattle.paw_top.specs.Ends.{plays}
 use Rattle.paw_top.specs.Sessions.{PlaysAgainIn, GoesOnIn, session_from, digest_of}
@@ -70,8 +70,8 @@ returns-clause-any_moment g c = λ tells s st piece rows holds shows.
     let mine = holds_given c.args.image.now _ _ old _ game c.as_slice.ensures.value f c.in-Ok-view_in.ensures.found in
     let kept = c.digest-kept.ensures.value ∙ ap sha256 (c.bytes.ensures.value ∙ c.bytes.ensures.image.spelled) in
     let one = same_game old c.args.image.now game s.game mine holds in
-    let p : Played = session_from s c.args.store.now st piece in
-    let k : Played = kept_session (story_of game s.rows) st piece c.digest-kept.result c.args.store.now in
+    let p : PlayedSession = session_from s c.args.store.now st piece in
+    let k : PlayedSession = kept_session (story_of game s.rows) st piece c.digest-kept.result c.args.store.now in
     let same = one_kept_session s (story_of game s.rows) st piece c.args.store.now c.digest-kept.result
     (same_story old c.args.image.now game s mine holds) kept in
     Passes_on _ _ _ _ _ _ (InAgain p old) _

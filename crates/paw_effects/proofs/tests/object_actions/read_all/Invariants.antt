@@ -1,4 +1,4 @@
-use Rattle.paw_effects.specs.Built.{IsOf}
+use Rattle.paw_effects.specs.Worlds.{IsOf}
 use Rattle.paw_effects.proofs.tests.object_actions.read_all.Given as goal
 
 -- the world is the game's

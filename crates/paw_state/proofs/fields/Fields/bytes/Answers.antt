@@ -8,6 +8,11 @@ pub returns : goal.returns
 returns c = record {
   value = all_written _ _ _ _ _ _ _ _ _ _ _ _ c.new-writer.ensures.value c.put_world.ensures.puts c.put_numbers.ensures.puts c.put_tables.ensures.puts
       c.put_pending.ensures.puts c.put_kept.ensures.puts (omega (arith, ap length c.new-writer.ensures.value)) c.finish.ensures.value;
-  kept = omega (arith, ap length c.put_kept.ensures.puts, length-append c.put_pending.new.writer (kept_position_bytes c.args.self.now), c.put_kept.ensures.length);
+  kept = omega (
+    arith,
+    ap length c.put_kept.ensures.puts,
+    length-append c.put_pending.new.writer (kept_position_bytes c.args.self.now),
+    c.put_kept.ensures.length,
+  );
   room = c.finish.ensures.room;
 }

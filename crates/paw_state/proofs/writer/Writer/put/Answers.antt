@@ -14,4 +14,7 @@ returns c =
     let n = count_of c.self.inside.bytes c.args.self.now c.self.inside.count c.self.invariant.0 c.self.told c.self.view_is in
     let room : c.self.inside.count + length c.args.field.now ≤ 4096 = omega (arith, n, c.requires.room) in
     let e = one_more c.self.inside.bytes c.args.field.now c.args.self.now c.self.inside.count room c.self.told c.self.view_is in
-    record { puts = rw c.copy_from_slice.ensures.after e; length = rw c.copy_from_slice.ensures.after (ap length e ∙ length-append c.args.self.now c.args.field.now) }
+    record {
+      puts = rw c.copy_from_slice.ensures.after e;
+      length = rw c.copy_from_slice.ensures.after (ap length e ∙ length-append c.args.self.now c.args.field.now);
+    }

@@ -2,7 +2,7 @@ use Rattle.std.proofs.Common.{ap, sym, ◌∙◌, refl, subst, arith}
 use Rattle.paw_effects.specs.Story.{story_of}
 use Rattle.paw_phrase.specs.Pending.{PendingLine}
 use Rattle.paw_world.specs.World.{World, restarted}
-use Rattle.paw_effects.specs.Built.{IsOf}
+use Rattle.paw_effects.specs.Worlds.{IsOf}
 use Rattle.paw_reading.specs.Run.{begins_with, with_timeout}
 use Rattle.paw_process.specs.OpenTables.{OpenTables}
 use Rattle.paw_turn.proofs.Renewing.{again_restarts, again_ends, again_spends, restarted_of, changed_of}

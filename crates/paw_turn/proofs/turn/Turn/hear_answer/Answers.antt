@@ -8,4 +8,4 @@ returns-clause-meaning g c X rows =
     let a = c.after_table in
     answer_plays (story_of (g.T.Tables.game c.args.tables.now) X)
     c.args.prompt c.first_table-table.result c.args.self.now t.new.self a.new.self c.args.line.now t.result a.result
-    c.requires.awaits c.first_table-table.ensures.value (t.ensures.runs X rows) (a.ensures.meaning X) a.ensures.left
+    c.requires.ready.awaits c.first_table-table.ensures.value (t.ensures.runs X rows) (a.ensures.meaning X) a.ensures.left

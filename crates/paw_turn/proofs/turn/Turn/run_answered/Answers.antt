@@ -11,7 +11,7 @@ returns-clause-runs g c X rows =
     let new : Turn = record { situation = c.run.new.situation; machine = c.run.new.self } in
     answered_runs (story_of (g.T.Tables.game c.args.tables.now) X) c.args.prompt c.args.self.now new
     c.args.line.now c.tell_timeout.new.world c.answer.new.self c.begins_with.result c.run.result
-    c.requires.awaits c.requires.valid c.requires.heard
+    c.requires.ready.awaits c.requires.ready.valid c.requires.ready.heard
     (sym (c.begins_with.ensures.value ∙ ap (begins_with 89) c.reply.ensures.value))
     (c.tell_timeout.ensures.value ∙ ap (λ b. with_timeout b c.args.self.now.situation.world) c.is_timeout.ensures.value)
     c.answer.ensures.quit c.answer.ensures.key (ap (λ m. m.turning) c.answer.ensures.rest)
@@ -21,7 +21,7 @@ pub returns-clause-stops : goal.returns-clause-stops
 returns-clause-stops g c =
     let new : Turn = record { situation = c.run.new.situation; machine = c.run.new.self } in
     answered_stops (story_of (g.T.Tables.game c.args.tables.now) c.requires.rows.0) c.args.prompt c.args.self.now new
-    c.args.line.now c.run.result c.requires.awaits c.requires.read (returns-clause-runs g c c.requires.rows.0 c.requires.rows.1) c.run.ensures.stopped
+    c.args.line.now c.run.result c.requires.ready.awaits c.requires.ready.read (returns-clause-runs g c c.requires.rows.0 c.requires.rows.1) c.run.ensures.stopped
 
 pub returns-clause-stays : goal.returns-clause-stays
 returns-clause-stays g c =
@@ -30,6 +30,6 @@ returns-clause-stays g c =
     record {
       world = c.run.ensures.after.game;
       left = runs_left (story_of (g.T.Tables.game c.args.tables.now) c.requires.rows.0) _ c.args.self.now new
-          c.run.result c.requires.read (returns-clause-runs g c c.requires.rows.0 c.requires.rows.1);
+          c.run.result c.requires.ready.read (returns-clause-runs g c c.requires.rows.0 c.requires.rows.1);
       draws = omega (arith, c.run.ensures.after.draws, c.tell_timeout.ensures.only.draws);
     }
