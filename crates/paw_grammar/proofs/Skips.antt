@@ -13,7 +13,8 @@ use Rattle.paw_grammar.specs.declared.bounds.Bounds.{Bounds}
 use Rattle.paw_grammar.specs.declared.refusal.ReadError.{ReadError}
 use Rattle.paw_grammar.specs.declared.refusal.ReadError.TheVariants as errors
 use Rattle.paw_grammar.specs.inner.Gives.{Fails}
-use Rattle.paw_grammar.specs.Tokens.{◌>>=◌, or_fault, read_by}
+use Rattle.paw_base.specs.Faults.{◌>>=◌}
+use Rattle.paw_grammar.specs.Tokens.{or_fault, read_by}
 use Rattle.paw_grammar.specs.Numbers.{number, in_range, number_below}
 use Rattle.paw_grammar.specs.Vocabulary.{known, in_class, or_none}
 use Rattle.paw_grammar.proofs.Steps.{Reads, bound, pair_parts, meant, ranged}

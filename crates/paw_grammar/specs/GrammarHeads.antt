@@ -7,7 +7,8 @@ use Rattle.paw_base.specs.declared.fault.SourceKind.{SourceKind}
 use Rattle.paw_base.specs.declared.fault.SourceKind.TheVariants as kind
 use Rattle.paw_grammar.specs.declared.section.Section.{Section}
 use Rattle.paw_grammar.specs.declared.section.Section.TheVariants as section
-use Rattle.paw_grammar.specs.Tokens.{◌>>=◌, token, ended, is_named}
+use Rattle.paw_base.specs.Faults.{◌>>=◌}
+use Rattle.paw_grammar.specs.Tokens.{token, ended, is_named}
 use Rattle.paw_grammar.specs.Numbers.{number}
 use Rattle.paw_grammar.specs.GrammarState.{Spelt}
 use Rattle.paw_grammar.specs.GrammarTexts.{text_item, text_limit, texts_of, with_texts}

@@ -3,12 +3,7 @@ use Rattle.std.specs.Prelude.{ℕ, Bool, List, [], ◌∷◌, Option, Some, None
 use Rattle.std.specs.Str.{str_eq_ignore_ascii_case}
 use Rattle.paw_base.specs.declared.fault.SourceKind.{SourceKind}
 use Rattle.paw_base.specs.declared.fault.SourceKind.TheVariants as kind
-
-infixl 10 ◌>>=◌
--- what comes first has the first fault
-abbrev pub ◌>>=◌ : {A B : Type 0} → Result A SourceKind → (A → Result B SourceKind) → Result B SourceKind
-(Ok x) >>= f = f x
-(Err k) >>= f = Err k
+use Rattle.paw_base.specs.Faults.{◌>>=◌}
 
 -- the next token, and those after it; Missing where the line ends
 abbrev pub token : List (List ℕ) → Result (List ℕ × List (List ℕ)) SourceKind

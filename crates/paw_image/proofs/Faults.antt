@@ -3,7 +3,8 @@ use Rattle.std.proofs.Common.{◌≡◌, ℕ, suc, ◌+◌, ◌-◌, ◌<◌, Li
 use Rattle.paw_image.specs.declared.fault.ReadFault.{ReadFault}
 use Rattle.paw_image.specs.declared.fault.ReadFault.TheVariants as fault
 use Rattle.paw_image.specs.Damage.{Passing, each}
-use Rattle.paw_image.specs.Reading.{◌>>=◌, Reading}
+use Rattle.paw_base.specs.Faults.{◌>>=◌}
+use Rattle.paw_image.specs.Reading.{Reading}
 use Rattle.paw_image.specs.inner.Reading.{Fails, IsFault}
 use Rattle.paw_image.specs.inner.Rows.{value_of}
 

@@ -2,12 +2,7 @@
 -- at the first field that isn't all there or has no meaning.
 use Rattle.std.specs.Prelude.{ℕ, List, [], ◌∷◌, length, take, drop, Result, Ok, Err, nat_lt, if◌then◌else◌}
 use Rattle.std.specs.Int.{w16, from_le_bytes}
-
-infixl 10 ◌>>=◌
--- the first fault, or what comes of the value
-abbrev pub ◌>>=◌ : {A B : Type 0} → Result A ℕ → (A → Result B ℕ) → Result B ℕ
-(Ok x) >>= f = f x
-(Err left) >>= f = Err left
+use Rattle.paw_base.specs.Faults.{◌>>=◌}
 
 -- a value and the bytes after it, or a fault
 abbrev pub Reading : Type 0 → Type 0

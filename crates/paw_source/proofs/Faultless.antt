@@ -2,7 +2,8 @@
 use Rattle.std.proofs.Common.{◌≡◌, ℕ, Bool, true, false, cond, ◌&&◌, List, [], ◌∷◌, Option, Some, None, Result, Ok, Err, refl, ap, ◌∙◌, sym}
 use Rattle.paw_base.specs.declared.fault.SourceKind.{SourceKind}
 use Rattle.paw_base.specs.declared.fault.SourceKind.TheVariants as kind
-use Rattle.paw_grammar.specs.Tokens.{◌>>=◌, ended, or_fault, read_by}
+use Rattle.paw_base.specs.Faults.{◌>>=◌}
+use Rattle.paw_grammar.specs.Tokens.{ended, or_fault, read_by}
 use Rattle.paw_grammar.specs.Numbers.{number, in_range, number_with}
 
 -- no fault at a test

@@ -3,7 +3,8 @@ use Rattle.std.proofs.Common.{◌≡◌, ℕ, Bool, true, false, cond, not, eqb,
 use Rattle.std.specs.Prelude.{nat_lt}
 use Rattle.paw_base.specs.declared.fault.SourceKind.TheVariants as kind
 use Rattle.paw_grammar.specs.declared.section.Section.TheVariants as section
-use Rattle.paw_grammar.specs.Tokens.{◌>>=◌, ended}
+use Rattle.paw_base.specs.Faults.{◌>>=◌}
+use Rattle.paw_grammar.specs.Tokens.{ended}
 use Rattle.paw_grammar.specs.GrammarState.{Spelt}
 use Rattle.paw_grammar.specs.GrammarHeads.{section_opened, lacks_rows, table_header}
 use Rattle.paw_source.proofs.Faultless.{passes, ok_is, at_end}

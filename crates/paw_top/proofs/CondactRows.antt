@@ -18,7 +18,7 @@ use Rattle.paw_game.specs.declared.parts.ObjectRow.{ObjectRow}
 use Rattle.paw_game.specs.Game.{GameLists}
 use Rattle.paw_game.specs.Valid.{is_within, is_parameter, is_condact, is_word_or_none}
 use Rattle.paw_grammar.specs.declared.bounds.Bounds.{Bounds}
-use Rattle.paw_grammar.specs.Tokens.{◌>>=◌}
+use Rattle.paw_base.specs.Faults.{◌>>=◌}
 use Rattle.paw_grammar.specs.Vocabulary.{word_or_none}
 use Rattle.paw_grammar.specs.Condacts.{parameter, condact, condacts_in, with_more_condacts, at_most_255, more_condacts}
 use Rattle.paw_print.specs.Lines.{value_token, parameter_tokens, condact_tokens}

@@ -16,7 +16,8 @@ use Rattle.paw_game.specs.Game.{GameLists}
 use Rattle.paw_image.specs.declared.fault.ReadFault.{ReadFault}
 use Rattle.paw_image.specs.declared.fault.ReadFault.TheVariants as fault
 use Rattle.paw_image.specs.Damage.{Declared, front}
-use Rattle.paw_image.specs.Reading.{◌>>=◌, Reading, byte_at, bytes_at, number_at}
+use Rattle.paw_base.specs.Faults.{◌>>=◌}
+use Rattle.paw_image.specs.Reading.{Reading, byte_at, bytes_at, number_at}
 
 -- ---- what a function of the code gives ----
 
