@@ -1,4 +1,5 @@
 pub mod Bytes
 pub mod Condacts
+pub mod Faults
 pub mod Steps
 pub mod inner
