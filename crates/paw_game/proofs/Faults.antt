@@ -1,5 +1,6 @@
 -- Lists break no rule exactly where they are those of a valid game.
-use Rattle.std.proofs.Common.{◌≡◌, ℕ, suc, ◌+◌, ◌≤◌, ◌==◌, ◌&&◌, Bool, true, false, not, cond, List, [], ◌∷◌, length, Option, Some, None, nat_le, nat_lt, refl, sym, ap, ◌∙◌, inl, inr, arith, if◌then◌else◌}
+use Rattle.std.proofs.Common.{◌≡◌, ℕ, suc, ◌+◌, ◌≤◌, ◌==◌, ◌&&◌, Bool, true, false, not, cond, List, [], ◌∷◌, length, Option, Some, None, nat_le}
+use Rattle.std.proofs.Common.{nat_lt, refl, sym, ap, ◌∙◌, inl, inr, arith, if◌then◌else◌}
 use Rattle.std.specs.Option.{option_or, is_none}
 use Rattle.std.specs.List.{list_all, prefix_len}
 use Rattle.std.specs.Ordering.{is_lt, nat_cmp}
@@ -12,13 +13,15 @@ use Rattle.paw_game.specs.declared.parts.Exit.{Exit}
 use Rattle.paw_game.specs.declared.parts.GamePart.{GamePart}
 use Rattle.paw_game.specs.declared.parts.GamePart.TheVariants as part
 use Rattle.paw_game.specs.Game.{GameLists}
-use Rattle.paw_game.specs.Valid.{Valid, are_letters, is_word, is_text, is_object, is_exits, is_table, words_rise, words_kept, texts_kept, objects_kept, exits_kept, tables_kept}
+use Rattle.paw_game.specs.Valid.{Valid, are_letters, is_word, is_text, is_object, is_exits, is_table, words_rise, words_kept, texts_kept}
+use Rattle.paw_game.specs.Valid.{objects_kept, exits_kept, tables_kept}
 use Rattle.paw_game.specs.inner.Fault.{part_row_fault, first_bad, bad_word, words_fault, texts_fault}
 use Rattle.paw_game.specs.inner.Fault.{objects_fault, exits_fault, tables_fault, fault_in, game_fault}
 
 -- ---- rows
 
-is_none-row_fault : (least most count : ℕ) (bad : Option ℕ) → is_none (part_row_fault least most count bad) ≡ (nat_le least count && (nat_le count most && is_none bad))
+is_none-row_fault : (least most count : ℕ) (bad : Option ℕ)
+    → is_none (part_row_fault least most count bad) ≡ (nat_le least count && (nat_le count most && is_none bad))
 is_none-row_fault least most count bad = grind (arith, nat_tests)
 
 at_least_zero : (n : ℕ) (b : Bool) → (nat_le 0 n && b) ≡ b
@@ -31,7 +34,9 @@ and_assoc : (a b c : Bool) → (a && (b && c)) ≡ ((a && b) && c)
 and_assoc true b c = refl
 and_assoc false b c = refl
 
-position_step : (b : Bool) (n m : ℕ) → is_none (cond (nat_lt (cond (not (not b)) (1 + n) 0) (suc m)) (Some (cond (not (not b)) (1 + n) 0)) None) ≡ (b && is_none (cond (nat_lt n m) (Some n) None))
+position_step : (b : Bool) (n m : ℕ)
+    → is_none (cond (nat_lt (cond (not (not b)) (1 + n) 0) (suc m)) (Some (cond (not (not b)) (1 + n) 0)) None)
+    ≡ (b && is_none (cond (nat_lt n m) (Some n) None))
 position_step true n m = grind (arith, nat_tests)
 position_step false n m = grind (arith, nat_tests)
 
@@ -48,7 +53,8 @@ unfoldable pub rise_after : List ℕ → List Word → Bool
 rise_after before [] = true
 rise_after before (w ∷ ws) = is_lt (slice_cmp nat_cmp before w.letters) && rise_after w.letters ws
 
-bad_word_step : (b l all rise : Bool) (rest : Option ℕ) (n : ℕ) → is_none rest ≡ (all && rise) → is_none (if b && l then rest else Some n) ≡ ((b && all) && (l && rise))
+bad_word_step : (b l all rise : Bool) (rest : Option ℕ) (n : ℕ) → is_none rest ≡ (all && rise)
+    → is_none (if b && l then rest else Some n) ≡ ((b && all) && (l && rise))
 bad_word_step true true all rise rest n h = h
 bad_word_step true false true rise rest n h = refl
 bad_word_step true false false rise rest n h = refl

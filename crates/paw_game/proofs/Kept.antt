@@ -1,14 +1,16 @@
 -- What the rules say of the objects, texts, exits and entries of a valid game.
-use Rattle.std.proofs.Common.{◌≡◌, ℕ, zero, suc, ◌<◌, ◌≤◌, ◌==◌, ◌&&◌, ◌||◌, Bool, true, false, not, Bor, List, [], ◌∷◌, length, Option, Some, None, IfSome, IsTrue, nat_le, nat_lt, refl, sym, ◌∙◌, inl, inr, arith, if◌then◌else◌}
+use Rattle.std.proofs.Common.{◌≡◌, ℕ, zero, suc, ◌<◌, ◌≤◌, ◌==◌, ◌&&◌, ◌||◌, Bool, true, false, not, Bor, List, [], ◌∷◌, length}
+use Rattle.std.proofs.Common.{Option, Some, None, IfSome, IsTrue, nat_le, nat_lt, refl, sym, ◌∙◌, inl, inr, arith, if◌then◌else◌}
 use Rattle.std.specs.Prelude.{slice_get}
 use Rattle.std.specs.List.{All, list_all, slice_index_or}
 use Rattle.std.specs.Option.{option_copied}
 use Rattle.std.proofs.lemmas.Option.{none-some, same_Some, slice_get_within, slice_get_past}
-use Rattle.std.proofs.lemmas.Bool.{and_parts, cases_lt, leb-true, ltb-true}
+use Rattle.std.proofs.lemmas.Bool.{and_from, and_parts, cases_lt, leb-true, ltb-true}
 use Rattle.std.proofs.lemmas.Bool.Decides.{nat_tests}
 use Rattle.paw_base.specs.Condacts.{first_kind, second_kind}
 use Rattle.paw_base.specs.declared.parts.Condact.{Condact}
 use Rattle.paw_base.specs.declared.parts.ObjectFacts.{ObjectFacts}
+use Rattle.paw_base.specs.declared.rows.ParamKind.{ParamKind}
 use Rattle.paw_game.specs.declared.parts.Word.{Word}
 use Rattle.paw_game.specs.declared.parts.ObjectRow.{ObjectRow}
 use Rattle.paw_game.specs.declared.parts.Exit.{Exit}
@@ -16,7 +18,8 @@ use Rattle.paw_game.specs.declared.parts.Entry.{Entry}
 use Rattle.paw_game.specs.declared.parts.GamePart.{GamePart}
 use Rattle.paw_game.specs.declared.parts.GamePart.TheVariants as part
 use Rattle.paw_game.specs.Game.{GameLists}
-use Rattle.paw_game.specs.Valid.{Valid, begins_no_line, is_parameter, is_printed, is_text_byte, are_exits, are_facts, is_condact, is_entry, is_exits, is_object, is_place, is_table, is_text, is_word_or_none, is_verb_value, is_within, is_any, has_word}
+use Rattle.paw_game.specs.Valid.{Valid, begins_no_line, is_parameter, is_printed, is_text_byte, are_exits, are_facts, is_condact, is_entry}
+use Rattle.paw_game.specs.Valid.{is_exits, is_object, is_place, is_table, is_text, is_word_or_none, is_verb_value, is_within, is_any, has_word}
 use Rattle.paw_game.specs.Tables.{condact_at, condacts_of, entry_at, exit_at, exit_of, facts_at, facts_of, head_at, head_of, or_empty, table_at, row_text}
 use Rattle.paw_game.specs.inner.Tables.{text_at}
 
@@ -34,7 +37,8 @@ IfSome-from P None o e h = tt
 IfSome-from P (Some x) o e h = h x (sym e)
 
 -- the same of what a call lent
-pub IfSome-copied : {X : Type 0} (P : X → Type 0) (r : Option (Bor X)) (o : Option X) → option_copied r ≡ o → ((x : X) → o ≡ Some x → P x) → IfSome r (λ x. P x.now)
+pub IfSome-copied : {X : Type 0} (P : X → Type 0) (r : Option (Bor X)) (o : Option X) → option_copied r ≡ o
+    → ((x : X) → o ≡ Some x → P x) → IfSome r (λ x. P x.now)
 IfSome-copied P None o e h = tt
 IfSome-copied P (Some x) o e h = h x.now (sym e)
 
@@ -115,22 +119,26 @@ text-bytes t h = λ k d high. printed-bytes true t k d (second_of_and (nat_le (l
 
 -- ---- exits
 
-exit_of_step : (b : Bool) (here to locations : ℕ) (later : Option ℕ) → here < locations → (later ≡ Some to → to < locations) → (if b then Some here else later) ≡ Some to → to < locations
+exit_of_step : (b : Bool) (here to locations : ℕ) (later : Option ℕ) → here < locations → (later ≡ Some to → to < locations)
+    → (if b then Some here else later) ≡ Some to → to < locations
 exit_of_step true here to locations later h k e = omega (arith, h, same_Some here to e)
 exit_of_step false here to locations later h k e = k e
 
-exit_of-leads : (ws : List Word) (locations : ℕ) (xs : List Exit) (verb to : ℕ) → IsTrue (are_exits ws locations xs) → exit_of xs verb ≡ Some to → to < locations
+exit_of-leads : (ws : List Word) (locations : ℕ) (xs : List Exit) (verb to : ℕ) → IsTrue (are_exits ws locations xs)
+    → exit_of xs verb ≡ Some to → to < locations
 exit_of-leads ws locations [] verb to h e = absurd (none-some to e)
 exit_of-leads ws locations (x ∷ xs) verb to h e =
     exit_of_step (x.verb == verb) x.to to locations (exit_of xs verb)
-    (ltb-true x.to locations (first_of_and (nat_lt x.to locations) _ (second_of_and (is_verb_value ws x.verb) _ (first_of_and _ (are_exits ws locations xs) h))))
+    (ltb-true x.to locations
+    (first_of_and (nat_lt x.to locations) _ (second_of_and (is_verb_value ws x.verb) _ (first_of_and _ (are_exits ws locations xs) h))))
     (exit_of-leads ws locations xs verb to (second_of_and _ (are_exits ws locations xs) h)) e
 
 pub exits_kept_at : (g : GameLists) → Valid g → (l : ℕ) (xs : List Exit) → slice_get g.exits l ≡ Some xs → IsTrue (is_exits g.words (length g.locations) xs)
 exits_kept_at g v l xs e =
     list_all-at (is_exits g.words (length g.locations)) g.exits l xs (second_of_and (length g.exits == length g.locations) _ v.exits) e
 
-exit_in-leads : (ws : List Word) (locations : ℕ) (o : Option (List Exit)) (verb to : ℕ) → ((xs : List Exit) → o ≡ Some xs → IsTrue (is_exits ws locations xs)) → exit_of (or_empty o) verb ≡ Some to → to < locations
+exit_in-leads : (ws : List Word) (locations : ℕ) (o : Option (List Exit)) (verb to : ℕ)
+    → ((xs : List Exit) → o ≡ Some xs → IsTrue (is_exits ws locations xs)) → exit_of (or_empty o) verb ≡ Some to → to < locations
 exit_in-leads ws locations None verb to h e = absurd (none-some to e)
 exit_in-leads ws locations (Some xs) verb to h e =
     exit_of-leads ws locations xs verb to (second_of_and (nat_le (length xs) 255) _ (h xs refl)) e
@@ -167,7 +175,8 @@ condacts_kept g en h =
 pub condacts-short : (g : GameLists) (en : Entry) → IsTrue (is_entry g en) → length en.condacts ≤ 255
 condacts-short g en h = leb-true (length en.condacts) 255 (first_of_and _ (list_all (is_condact g) en.condacts) (condacts_kept g en h))
 
-condacts_of-Some : (o : Option Entry) (k : ℕ) (c : Condact) → slice_get (condacts_of o) k ≡ Some c → (en : Entry) × (o ≡ Some en) × (slice_get en.condacts k ≡ Some c)
+condacts_of-Some : (o : Option Entry) (k : ℕ) (c : Condact) → slice_get (condacts_of o) k ≡ Some c
+    → (en : Entry) × (o ≡ Some en) × (slice_get en.condacts k ≡ Some c)
 condacts_of-Some None k c e = absurd (none-some c e)
 condacts_of-Some (Some en) k c e = (en, refl, e)
 
@@ -228,11 +237,28 @@ condact-none g t e k h =
 
 -- ---- the parts of a condact
 
-pub condact-code : (g : GameLists) (c : Condact) → IsTrue (is_condact g c) → c.code ≤ 107
-condact-code g c h = leb-true c.code 107 (first_of_and (nat_le c.code 107) _ h)
+-- a code of the table, and two parameters that keep a rule
+abbrev keeps_rule : (ParamKind → ℕ → Bool) → Condact → Bool
+keeps_rule rule c = nat_le c.code 107 && (rule (first_kind c.code) c.a && rule (second_kind c.code) c.b)
+
+pub code_kept : (rule : ParamKind → ℕ → Bool) (c : Condact) → IsTrue (keeps_rule rule c) → c.code ≤ 107
+code_kept rule c h = leb-true c.code 107 (first_of_and (nat_le c.code 107) _ h)
+
+pub first_kept : (rule : ParamKind → ℕ → Bool) (c : Condact) → IsTrue (keeps_rule rule c) → IsTrue (rule (first_kind c.code) c.a)
+first_kept rule c h = first_of_and (rule (first_kind c.code) c.a) _ (second_of_and (nat_le c.code 107) _ h)
+
+pub second_kept : (rule : ParamKind → ℕ → Bool) (c : Condact) → IsTrue (keeps_rule rule c) → IsTrue (rule (second_kind c.code) c.b)
+second_kept rule c h = second_of_and (rule (first_kind c.code) c.a) _ (second_of_and (nat_le c.code 107) _ h)
+
+-- a condact that keeps a rule keeps another that the first one gives
+pub keeps_other : (rule other : ParamKind → ℕ → Bool) (c : Condact) → ((k : ParamKind) (x : ℕ) → IsTrue (rule k x) → IsTrue (other k x))
+    → IsTrue (keeps_rule rule c) → IsTrue (keeps_rule other c)
+keeps_other rule other c gives h =
+    and_from (nat_le c.code 107) _ (first_of_and (nat_le c.code 107) _ h)
+    (and_from (other (first_kind c.code) c.a) _ (gives (first_kind c.code) c.a (first_kept rule c h)) (gives (second_kind c.code) c.b (second_kept rule c h)))
 
 pub condact-first : (g : GameLists) (c : Condact) → IsTrue (is_condact g c) → IsTrue (is_parameter g (first_kind c.code) c.a)
-condact-first g c h = first_of_and (is_parameter g (first_kind c.code) c.a) _ (second_of_and (nat_le c.code 107) _ h)
+condact-first g c h = first_kept (is_parameter g) c h
 
 pub condact-second : (g : GameLists) (c : Condact) → IsTrue (is_condact g c) → IsTrue (is_parameter g (second_kind c.code) c.b)
-condact-second g c h = second_of_and (is_parameter g (first_kind c.code) c.a) _ (second_of_and (nat_le c.code 107) _ h)
+condact-second g c h = second_kept (is_parameter g) c h

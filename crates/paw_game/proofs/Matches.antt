@@ -1,5 +1,6 @@
 -- The first entry that matches.
-use Rattle.std.proofs.Common.{◌≡◌, ℕ, zero, suc, ◌+◌, ◌-◌, ◌<◌, ◌≤◌, List, [], ◌∷◌, length, drop, Some, None, IsTrue, refl, ◌∙◌, inl, inr, zero-add, suc-add, arith, if◌then◌else◌}
+use Rattle.std.proofs.Common.{◌≡◌, ℕ, zero, suc, ◌+◌, ◌-◌, ◌<◌, ◌≤◌, List, [], ◌∷◌, length, drop, Some, None, IsTrue, refl, ◌∙◌, inl, inr, zero-add}
+use Rattle.std.proofs.Common.{suc-add, arith, if◌then◌else◌}
 use Rattle.std.specs.Prelude.{slice_get}
 use Rattle.std.proofs.lemmas.Bool.{cases_Bool}
 use Rattle.std.proofs.lemmas.Option.{none-some, same_Some}
@@ -41,7 +42,8 @@ slice_get-drop zero xs k = rw zero-add refl
 slice_get-drop (suc n) [] k = refl
 slice_get-drop (suc n) (x ∷ xs) k = slice_get-drop n xs k ∙ rw suc-add refl
 
-pub match-is : (g : GameLists) (t from verb noun e : ℕ) → match_at g t from verb noun ≡ Some e → (from ≤ e) × ((en : Entry) × (entry_at g t e ≡ Some en) × IsTrue (matches verb noun en))
+pub match-is : (g : GameLists) (t from verb noun e : ℕ) → match_at g t from verb noun ≡ Some e
+    → (from ≤ e) × ((en : Entry) × (entry_at g t e ≡ Some en) × IsTrue (matches verb noun en))
 match-is g t from verb noun e h =
     let f = first_match-found verb noun from (drop from (table_at g t)) e h in
     let place : from + (e - from) ≡ e = omega (arith, f.reached) in
@@ -63,7 +65,8 @@ drop-at n [] x h = absurd (none-some x h)
 drop-at zero (y ∷ ys) x h = rw (same_Some y x h) refl
 drop-at (suc n) (y ∷ ys) x h = drop-at n ys x h
 
-pub match-step : (g : GameLists) (t from verb noun : ℕ) (en : Entry) → entry_at g t from ≡ Some en → match_at g t from verb noun ≡ (if matches verb noun en then Some from else match_at g t (suc from) verb noun)
+pub match-step : (g : GameLists) (t from verb noun : ℕ) (en : Entry) → entry_at g t from ≡ Some en
+    → match_at g t from verb noun ≡ (if matches verb noun en then Some from else match_at g t (suc from) verb noun)
 match-step g t from verb noun en h = rw (drop-at from (table_at g t) en h) refl
 
 pub match-past : (g : GameLists) (t from verb noun : ℕ) → length (table_at g t) ≤ from → match_at g t from verb noun ≡ None

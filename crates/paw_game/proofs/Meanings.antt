@@ -10,7 +10,8 @@ use Rattle.paw_game.specs.Valid.{Valid, are_letters, is_within, is_word, words_r
 use Rattle.paw_game.specs.Tables.{meaning_of, word_at, word_of}
 use Rattle.paw_game.proofs.Kept.{first_of_and, second_of_and}
 
-word_step : (b : Bool) (here w : Word) (later : Option Word) → IsTrue (is_word here) → (later ≡ Some w → IsTrue (is_word w)) → (if b then Some here else later) ≡ Some w → IsTrue (is_word w)
+word_step : (b : Bool) (here w : Word) (later : Option Word) → IsTrue (is_word here) → (later ≡ Some w → IsTrue (is_word w))
+    → (if b then Some here else later) ≡ Some w → IsTrue (is_word w)
 word_step true here w later h k e = rw (← same_Some here w e) h
 word_step false here w later h k e = k e
 

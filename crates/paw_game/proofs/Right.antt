@@ -1,7 +1,7 @@
 -- Condacts that can be carried out.
 use Rattle.std.proofs.Common.{arith, ◌≤◌, ◌≡◌, ℕ, ◌<◌, ◌==◌, ◌&&◌, List, [], ◌∷◌, length, Some, IsTrue, nat_le, nat_lt, inl, inr}
 use Rattle.std.specs.List.{list_all}
-use Rattle.std.proofs.lemmas.Bool.{and_from, leb-true, or_cases}
+use Rattle.std.proofs.lemmas.Bool.{or_cases}
 use Rattle.std.proofs.lemmas.Bool.Decides.{nat_tests}
 use Rattle.paw_base.specs.Condacts.{first_kind, second_kind}
 use Rattle.paw_base.specs.declared.parts.Condact.{Condact}
@@ -12,7 +12,7 @@ use Rattle.paw_game.specs.Game.{GameLists}
 use Rattle.paw_game.specs.Tables.{condact_at}
 use Rattle.paw_game.specs.Valid.{Valid, are_letters, has_word, is_condact, is_parameter, is_within, is_word, is_word_or_none, words_kept}
 use Rattle.paw_game.specs.inner.Valid.{is_argument, is_right}
-use Rattle.paw_game.proofs.Kept.{first_of_and, second_of_and, condact_kept}
+use Rattle.paw_game.proofs.Kept.{first_of_and, second_of_and, code_kept, first_kept, second_kept, keeps_other, condact_kept}
 
 small_value : (w : Word) (class value : ℕ) → IsTrue (is_word w) → IsTrue ((w.class == class) && (w.value == value)) → value < 256
 small_value w class value kept same =
@@ -38,27 +38,15 @@ word_small words class x kept h =
     grind (arith, nat_tests)
 
 right_argument : (g : GameLists) (k : ParamKind) (x : ℕ) → Valid g → IsTrue (is_parameter g k x) → IsTrue (is_argument g k x)
-right_argument g kind.Absent x v h = h
-right_argument g kind.Location x v h = h
-right_argument g kind.Place x v h = h
-right_argument g kind.Object x v h = h
-right_argument g kind.Flag x v h = h
-right_argument g kind.Number x v h = h
-right_argument g kind.Message x v h = h
-right_argument g kind.System x v h = h
-right_argument g kind.Table x v h = h
 right_argument g kind.Adverb x v h = word_small g.words 1 x v.words h
 right_argument g kind.Noun x v h = word_small g.words 2 x v.words h
 right_argument g kind.Adjective x v h = word_small g.words 3 x v.words h
 right_argument g kind.Preposition x v h = word_small g.words 4 x v.words h
+right_argument g k x v h = h
 
 -- each condact of a valid game can be carried out
 pub right_condact : (g : GameLists) (c : Condact) → Valid g → IsTrue (is_condact g c) → IsTrue (is_right g c)
-right_condact g c v h =
-    and_from (nat_le c.code 107) _ (first_of_and (nat_le c.code 107) _ h)
-    (and_from (is_argument g (first_kind c.code) c.a) _
-    (right_argument g (first_kind c.code) c.a v (first_of_and (is_parameter g (first_kind c.code) c.a) _ (second_of_and (nat_le c.code 107) _ h)))
-    (right_argument g (second_kind c.code) c.b v (second_of_and (is_parameter g (first_kind c.code) c.a) _ (second_of_and (nat_le c.code 107) _ h))))
+right_condact g c v h = keeps_other (is_parameter g) (is_argument g) c (λ k x of. right_argument g k x v of) h
 
 pub right_at : (g : GameLists) → Valid g → (t e k : ℕ) (c : Condact) → condact_at g t e k ≡ Some c → IsTrue (is_right g c)
 right_at g v t e k c h = right_condact g c v (condact_kept g v t e k c h)
@@ -66,10 +54,10 @@ right_at g v t e k c h = right_condact g c v (condact_kept g v t e k c h)
 -- ---- the parts of a condact that can be carried out
 
 pub right-code : (g : GameLists) (c : Condact) → IsTrue (is_right g c) → c.code ≤ 107
-right-code g c h = leb-true c.code 107 (first_of_and (nat_le c.code 107) _ h)
+right-code g c h = code_kept (is_argument g) c h
 
 pub right-first : (g : GameLists) (c : Condact) → IsTrue (is_right g c) → IsTrue (is_argument g (first_kind c.code) c.a)
-right-first g c h = first_of_and (is_argument g (first_kind c.code) c.a) _ (second_of_and (nat_le c.code 107) _ h)
+right-first g c h = first_kept (is_argument g) c h
 
 pub right-second : (g : GameLists) (c : Condact) → IsTrue (is_right g c) → IsTrue (is_argument g (second_kind c.code) c.b)
-right-second g c h = second_of_and (is_argument g (first_kind c.code) c.a) _ (second_of_and (nat_le c.code 107) _ h)
+right-second g c h = second_kept (is_argument g) c h

@@ -1,5 +1,6 @@
 -- Words that rise by their letters are found by halving.
-use Rattle.std.proofs.Common.{◌≡◌, ℕ, zero, suc, ◌+◌, ◌<◌, false, List, [], ◌∷◌, length, get_or, Some, None, Result, Ok, Err, Ordering, IsTrue, refl, sym, ap, ◌∙◌, inl, inr, arith}
+use Rattle.std.proofs.Common.{◌≡◌, ℕ, zero, suc, ◌+◌, ◌<◌, false, List, [], ◌∷◌, length, get_or, Some, None, Result, Ok, Err, Ordering, IsTrue, refl}
+use Rattle.std.proofs.Common.{sym, ap, ◌∙◌, inl, inr, arith}
 use Rattle.std.specs.declared.cmp.Ordering.TheVariants.{Less, Equal, Greater}
 use Rattle.std.specs.Ordering.{is_eq, is_lt, nat_cmp, ordering_reverse}
 use Rattle.std.specs.Cmp.Lexicographic.{slice_cmp}
@@ -29,7 +30,8 @@ is_lt-reverse : (o : Ordering) → o ≡ Less → is_lt (ordering_reverse o) ≡
 is_lt-reverse o h = rw h refl
 
 -- the first word stands below each later one
-rises_from : (w : Word) (ws : List Word) (k : ℕ) (d : Word) → IsTrue (words_rise (w ∷ ws)) → k < length ws → slice_cmp nat_cmp w.letters (get_or ws k d).letters ≡ Less
+rises_from : (w : Word) (ws : List Word) (k : ℕ) (d : Word) → IsTrue (words_rise (w ∷ ws)) → k < length ws
+    → slice_cmp nat_cmp w.letters (get_or ws k d).letters ≡ Less
 rises_from w [] k d h l = absurd (omega arith)
 rises_from w (v ∷ vs) zero d h l = Less-from_is_lt _ (and_parts _ (words_rise (v ∷ vs)) h).0
 rises_from w (v ∷ vs) (suc k) d h l =
@@ -42,7 +44,8 @@ rest_rises w [] h = refl
 rest_rises w (v ∷ vs) h = (and_parts _ (words_rise (v ∷ vs)) h).1
 
 -- each word stands below each later one
-pub rises : (ws : List Word) (i j : ℕ) (d : Word) → IsTrue (words_rise ws) → i < j → j < length ws → slice_cmp nat_cmp (get_or ws i d).letters (get_or ws j d).letters ≡ Less
+pub rises : (ws : List Word) (i j : ℕ) (d : Word) → IsTrue (words_rise ws) → i < j → j < length ws
+    → slice_cmp nat_cmp (get_or ws i d).letters (get_or ws j d).letters ≡ Less
 rises [] i j d h l m = absurd (omega arith)
 rises (w ∷ ws) i zero d h l m = absurd (omega arith)
 rises (w ∷ ws) zero (suc j) d h l m = rises_from w ws j d h (omega arith)
@@ -53,14 +56,16 @@ sorted ws h = λ k d low high.
     rw (nat_list_cmp_total.antisymm (get_or ws (k + 1) d).letters (get_or ws k d).letters)
     (is_lt-reverse _ (rises ws k (k + 1) d h (omega arith) high))
 
-word_found : (letters : List ℕ) (ws : List Word) (i : ℕ) (d : Word) → IsTrue (words_rise ws) → i < length ws → HoldsAt (λ w. compared letters w ≡ Equal) ws i → Some (get_or ws i d) ≡ word_of letters ws
+word_found : (letters : List ℕ) (ws : List Word) (i : ℕ) (d : Word) → IsTrue (words_rise ws) → i < length ws
+    → HoldsAt (λ w. compared letters w ≡ Equal) ws i → Some (get_or ws i d) ≡ word_of letters ws
 word_found letters ws i d h l e =
     sym (found_at (word_of letters) (λ w. bytes_eq w.letters letters) Some None refl (λ _ _. refl) ws i d l
     (λ k below. sym (is_eq-slice_cmp (get_or ws k d).letters letters)
     ∙ ap is_eq (sym (alike_right nat_list_cmp_total (get_or ws i d).letters letters (get_or ws k d).letters (e d)) ∙ rises ws k i d h below l))
     (sym (is_eq-slice_cmp (get_or ws i d).letters letters) ∙ ap is_eq (e d)))
 
-word_missing : (letters : List ℕ) (ws : List Word) (i : ℕ) → IsTrue (words_rise ws) → IsBinarySearchResult (compared letters) ws (Err i) → word_of letters ws ≡ None
+word_missing : (letters : List ℕ) (ws : List Word) (i : ℕ) → IsTrue (words_rise ws) → IsBinarySearchResult (compared letters) ws (Err i)
+    → word_of letters ws ≡ None
 word_missing letters ws i h e =
     let cut = e (searchable_from_sorted nat_list_cmp_total (λ w. w.letters) ws letters (sorted ws h)) in
     let d : Word = record { letters = []; value = 0; class = 0 } in
@@ -69,11 +74,13 @@ word_missing letters ws i h e =
     ∙ elim (cases_lt k i) [ inl below ↦ ap is_eq (cut.0 k d (omega arith) below) | inr from ↦ ap is_eq (cut.1 k d from l) ])
 
 -- what a search by halving found is the word with these letters
-pub found_is : (letters : List ℕ) (ws : List Word) (r : Result ℕ ℕ) (i : ℕ) (d : Word) → IsTrue (words_rise ws) → IsSearchInRange r (length ws) → IsBinarySearchResult (compared letters) ws r → Some i ≡ result_ok r → Some (get_or ws i d) ≡ word_of letters ws
+pub found_is : (letters : List ℕ) (ws : List Word) (r : Result ℕ ℕ) (i : ℕ) (d : Word) → IsTrue (words_rise ws) → IsSearchInRange r (length ws)
+    → IsBinarySearchResult (compared letters) ws r → Some i ≡ result_ok r → Some (get_or ws i d) ≡ word_of letters ws
 found_is letters ws (Ok j) i d h l e is = rw (same_Some i j is) (word_found letters ws j d h l e)
 found_is letters ws (Err j) i d h l e is = absurd (none-some i (sym is))
 
 -- where it found nothing there is no such word
-pub missing_is : (letters : List ℕ) (ws : List Word) (r : Result ℕ ℕ) → IsTrue (words_rise ws) → IsBinarySearchResult (compared letters) ws r → None ≡ result_ok r → word_of letters ws ≡ None
+pub missing_is : (letters : List ℕ) (ws : List Word) (r : Result ℕ ℕ) → IsTrue (words_rise ws) → IsBinarySearchResult (compared letters) ws r
+    → None ≡ result_ok r → word_of letters ws ≡ None
 missing_is letters ws (Ok j) h e is = absurd (none-some j is)
 missing_is letters ws (Err j) h e is = word_missing letters ws j h e

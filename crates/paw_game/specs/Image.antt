@@ -50,18 +50,7 @@ exits_image xs = length xs ∷ flat_map exit_image xs
 -- a parameter that the code has takes one byte, another none
 abbrev pub parameter_image : ParamKind → ℕ → List ℕ
 parameter_image kind.Absent x = []
-parameter_image kind.Location x = x ∷ []
-parameter_image kind.Place x = x ∷ []
-parameter_image kind.Object x = x ∷ []
-parameter_image kind.Flag x = x ∷ []
-parameter_image kind.Number x = x ∷ []
-parameter_image kind.Message x = x ∷ []
-parameter_image kind.System x = x ∷ []
-parameter_image kind.Table x = x ∷ []
-parameter_image kind.Adverb x = x ∷ []
-parameter_image kind.Noun x = x ∷ []
-parameter_image kind.Adjective x = x ∷ []
-parameter_image kind.Preposition x = x ∷ []
+parameter_image _ x = x ∷ []
 
 -- code, and the parameters that it has
 abbrev pub condact_image : Condact → List ℕ

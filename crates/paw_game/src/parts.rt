@@ -1,6 +1,10 @@
 // The parts of a game, which contracts see as lists.
 
+ghost use Rattle.std.specs.Prelude.{◌≡◌, [], IfOk, map};
+ghost use Rattle.paw_game.specs.inner.Parts.{condact_of};
+
 use paw_base::parts::{Condact, ObjectFacts};
+use std::alloc::{AllocError, Global};
 use std::marker::Model;
 
 /// A word: five letters (capitals and digits, filled up with spaces), its value, and its class from 0 to 6: verb,
@@ -10,6 +14,19 @@ pub struct Word {
     pub letters: [u8; 5],
     pub value: u8,
     pub class: u8,
+}
+
+impl Word {
+    /// The word of these parts, whatever rules they keep.
+    pub fn new(letters: [u8; 5], value: u8, class: u8) -> Word
+        ensures { result ≡ record { letters = letters; value = value; class = class } }
+    {
+        Word {
+            letters,
+            value,
+            class,
+        }
+    }
 }
 
 /// A text; contracts see the list of its bytes.
@@ -24,6 +41,28 @@ impl Model for Text {
     ghost Value = { List ℕ };
 
     ghost view = { λ t. t.bytes.items };
+}
+
+impl Text {
+    /// The empty text.
+    pub fn new(alloc: Global) -> Text
+        ensures value { result ≡ [] }
+    {
+        Text {
+            bytes: Vec::new(alloc),
+        }
+    }
+
+    /// The text of these bytes.
+    ///
+    /// # Errors
+    /// AllocError for want of memory.
+    pub fn from_slice(alloc: Global, bytes: &[u8]) -> Result<Text, AllocError>
+        ensures value { IfOk result (λ text. text ≡ bytes.now) }
+    {
+        let bytes = Vec::from_slice(alloc, bytes)?;
+        Ok(Text { bytes })
+    }
 }
 
 /// An object: its text, and its facts.
@@ -55,6 +94,28 @@ impl Model for Exits {
     ghost view = { λ e. e.rows.items };
 }
 
+impl Exits {
+    /// No exits.
+    pub fn new(alloc: Global) -> Exits
+        ensures value { result ≡ [] }
+    {
+        Exits {
+            rows: Vec::new(alloc),
+        }
+    }
+
+    /// These exits.
+    ///
+    /// # Errors
+    /// AllocError for want of memory.
+    pub fn from_slice(alloc: Global, exits: &[Exit]) -> Result<Exits, AllocError>
+        ensures value { IfOk result (λ all. all ≡ exits.now) }
+    {
+        let rows = Vec::from_slice(alloc, exits)?;
+        Ok(Exits { rows })
+    }
+}
+
 /// The condacts of one entry, in written order; contracts see the list.
 #[derive(Drop)]
 pub struct Condacts {
@@ -70,12 +131,51 @@ impl Model for Condacts {
     ghost view = { λ c. c.rows.items };
 }
 
+impl Condacts {
+    /// The condacts of these codes, each with its two parameters.
+    ///
+    /// # Errors
+    /// AllocError for want of memory.
+    pub fn from_codes(alloc: Global, codes: &[(u8, u8, u8)]) -> Result<Condacts, AllocError>
+        ensures value { IfOk result (λ condacts. condacts ≡ map condact_of codes.now) }
+    {
+        let rows = codes
+            .iter()
+            .map(|&(code, a, b)| Condact { code, a, b })
+            .collect(alloc)?;
+        Ok(Condacts { rows })
+    }
+}
+
 /// An entry of a table: the verb and the noun that it is for (1 and 255 match any), and its condacts.
 #[derive(Drop)]
 pub struct Entry {
     pub verb: u8,
     pub noun: u8,
     pub condacts: Condacts,
+}
+
+impl Entry {
+    /// The entry for this verb and noun of these condacts, each a code and its two parameters.
+    ///
+    /// # Errors
+    /// AllocError for want of memory.
+    pub fn from_codes(
+        alloc: Global,
+        verb: u8,
+        noun: u8,
+        codes: &[(u8, u8, u8)],
+    ) -> Result<Entry, AllocError>
+        ensures value { IfOk result
+            (λ entry. entry ≡ record { verb = verb; noun = noun; condacts = map condact_of codes.now }) }
+    {
+        let condacts = Condacts::from_codes(alloc, codes)?;
+        Ok(Entry {
+            verb,
+            noun,
+            condacts,
+        })
+    }
 }
 
 /// A table of entries, in written order; contracts see the list.
@@ -91,6 +191,17 @@ impl Model for Table {
     ghost Value = { List Entry };
 
     ghost view = { λ t. t.entries.items };
+}
+
+impl Table {
+    /// A table with no entries.
+    pub fn new(alloc: Global) -> Table
+        ensures value { result ≡ [] }
+    {
+        Table {
+            entries: Vec::new(alloc),
+        }
+    }
 }
 
 /// The seven lists of a game, whatever rules they keep; contracts see them as `GameLists`. The list of exits has one

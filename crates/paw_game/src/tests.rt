@@ -1,96 +1,51 @@
 // A small game, taken in, read by number, and broken part by part.
 
 use crate::game::Game;
-use crate::parts::{
-    Condacts, Entry, Exit, Exits, GamePart, GameParts, ObjectRow, Table, Text, Word,
-};
+use crate::parts::{Entry, Exit, Exits, GamePart, GameParts, ObjectRow, Table, Text, Word};
 use crate::tables::Tables;
+use paw_base::codes::{DONE, LET, MESSAGE};
 use paw_base::parts::{Condact, Counts, ObjectFacts};
+use paw_base::places::WORN_PLACE;
+use paw_base::words::{ANY_WORD, NO_WORD, NOUN_CLASS, VERB_CLASS};
 use std::alloc::{AllocError, Global};
 use std::test::Fail;
 
-const VERB: u8 = 0;
-
-const NOUN: u8 = 2;
-
-const MESSAGE: u8 = 51;
-
-const DONE: u8 = 32;
-
 const LAMP: ObjectFacts = ObjectFacts {
     noun: 50,
-    adjective: 255,
-    start: 253,
+    adjective: NO_WORD,
+    start: WORN_PLACE,
     weight: 1,
     container: false,
     wearable: true,
 };
 
-fn text(alloc: Global, bytes: &[u8]) -> Result<Text, AllocError> {
-    let bytes = Vec::from_slice(alloc, bytes)?;
-    Ok(Text { bytes })
-}
-
-fn word(letters: &[u8; 5], value: u8, class: u8) -> Word {
-    Word {
-        letters: *letters,
-        value,
-        class,
-    }
-}
-
-fn entry(alloc: Global, verb: u8, noun: u8, codes: &[(u8, u8)]) -> Result<Entry, AllocError> {
-    let mut rows = Vec::new(alloc);
-    for (code, a) in codes {
-        rows.push(Condact {
-            code: *code,
-            a: *a,
-            b: 0,
-        })?;
-    }
-    Ok(Entry {
-        verb,
-        noun,
-        condacts: Condacts { rows },
-    })
-}
-
 /// Two locations, one north of the other, a lamp, and two entries.
 fn small(alloc: Global) -> Result<GameParts, AllocError> {
     let words = vec![in alloc;
-        word(b"GET  ", 30, VERB),
-        word(b"LAMP ", 50, NOUN),
-        word(b"N    ", 2, NOUN),
-        word(b"S    ", 3, NOUN),
+        Word::new(*b"GET  ", 30, VERB_CLASS),
+        Word::new(*b"LAMP ", 50, NOUN_CLASS),
+        Word::new(*b"N    ", 2, NOUN_CLASS),
+        Word::new(*b"S    ", 3, NOUN_CLASS),
     ]?;
-    let north = vec![in alloc; Exit { verb: 2, to: 1 }]?;
-    let south = vec![in alloc; Exit { verb: 3, to: 0 }]?;
-    let get = entry(alloc, 30, 50, &[(MESSAGE, 0), (DONE, 0)])?;
-    let any = entry(alloc, 255, 1, &[])?;
+    let north = Exits::from_slice(alloc, &[Exit { verb: 2, to: 1 }])?;
+    let south = Exits::from_slice(alloc, &[Exit { verb: 3, to: 0 }])?;
+    let get = Entry::from_codes(alloc, 30, 50, &[(MESSAGE, 0, 0), (DONE, 0, 0)])?;
+    let any = Entry::from_codes(alloc, NO_WORD, ANY_WORD, &[])?;
+    let entries = vec![in alloc; get, any]?;
     Ok(GameParts {
         words,
-        system: vec![in alloc; text(alloc, b"It is dark.")?]?,
-        messages: vec![in alloc; text(alloc, b"Taken.")?]?,
-        objects: vec![in alloc;
-            ObjectRow {
-                text: text(alloc, b"a lamp")?,
-                facts: LAMP
-            },
-        ]?,
-        locations: vec![in alloc; text(alloc, b"A hall.")?, text(alloc, b"")?]?,
-        exits: vec![in alloc; Exits { rows: north }, Exits { rows: south }]?,
-        tables: vec![in alloc;
-            Table {
-                entries: vec![in alloc; get, any]?
-            },
-            Table {
-                entries: Vec::new(alloc)
-            },
-            Table {
-                entries: Vec::new(alloc)
-            },
-        ]?,
+        system: vec![in alloc; Text::from_slice(alloc, b"It is dark.")?]?,
+        messages: vec![in alloc; Text::from_slice(alloc, b"Taken.")?]?,
+        objects: vec![in alloc; object(alloc, b"a lamp", LAMP)?]?,
+        locations: vec![in alloc; Text::from_slice(alloc, b"A hall.")?, Text::new(alloc)]?,
+        exits: vec![in alloc; north, south]?,
+        tables: vec![in alloc; Table { entries }, Table::new(alloc), Table::new(alloc)]?,
     })
+}
+
+fn object(alloc: Global, text: &[u8], facts: ObjectFacts) -> Result<ObjectRow, AllocError> {
+    let text = Text::from_slice(alloc, text)?;
+    Ok(ObjectRow { text, facts })
 }
 
 fn fault(parts: GameParts) -> Option<(GamePart, u32)> {
@@ -102,10 +57,16 @@ fn fault(parts: GameParts) -> Option<(GamePart, u32)> {
 fn broken(alloc: Global, part: GamePart) -> Result<GameParts, AllocError> {
     let mut parts = small(alloc)?;
     match part {
-        GamePart::Words => parts.words.push(word(b"ROPE ", 51, NOUN))?,
-        GamePart::System => parts.system.push(text(alloc, b";")?)?,
-        GamePart::Messages => parts.messages.push(text(alloc, b"One.\n/Two.")?)?,
-        GamePart::Objects => parts.objects.push(heavy(alloc)?)?,
+        GamePart::Words => parts.words.push(Word::new(*b"ROPE ", 51, NOUN_CLASS))?,
+        GamePart::System => parts.system.push(Text::from_slice(alloc, b";")?)?,
+        GamePart::Messages => {
+            let text = Text::from_slice(alloc, b"One.\n/Two.")?;
+            parts.messages.push(text)?;
+        }
+        GamePart::Objects => {
+            let heavy = ObjectFacts { weight: 64, ..LAMP };
+            parts.objects.push(object(alloc, b"a stone", heavy)?)?;
+        }
         GamePart::Locations => parts.locations.clear(),
         GamePart::Exits => {
             parts.exits.pop();
@@ -117,18 +78,12 @@ fn broken(alloc: Global, part: GamePart) -> Result<GameParts, AllocError> {
     Ok(parts)
 }
 
-fn heavy(alloc: Global) -> Result<ObjectRow, AllocError> {
-    let facts = ObjectFacts { weight: 64, ..LAMP };
-    let text = text(alloc, b"a stone")?;
-    Ok(ObjectRow { text, facts })
-}
-
 /// The small game, where the second location leads to a third, which isn't there.
 fn leads_nowhere(alloc: Global) -> Result<GameParts, AllocError> {
     let mut parts = small(alloc)?;
     parts.exits.pop();
-    let rows = vec![in alloc; Exit { verb: 3, to: 2 }]?;
-    parts.exits.push(Exits { rows })?;
+    let nowhere = Exits::from_slice(alloc, &[Exit { verb: 3, to: 2 }])?;
+    parts.exits.push(nowhere)?;
     Ok(parts)
 }
 
@@ -136,7 +91,7 @@ fn leads_nowhere(alloc: Global) -> Result<GameParts, AllocError> {
 fn talks_much(alloc: Global) -> Result<GameParts, AllocError> {
     let mut parts = small(alloc)?;
     for _ in 0..256 {
-        parts.messages.push(text(alloc, b"")?)?;
+        parts.messages.push(Text::new(alloc))?;
     }
     Ok(parts)
 }
@@ -145,7 +100,7 @@ fn talks_much(alloc: Global) -> Result<GameParts, AllocError> {
 fn broken_twice(alloc: Global) -> Result<GameParts, AllocError> {
     let mut parts = broken(alloc, GamePart::Objects)?;
     for line in [b"Go.".as_slice(), b"/Stay.", b";"] {
-        parts.messages.push(text(alloc, line)?)?;
+        parts.messages.push(Text::from_slice(alloc, line)?)?;
     }
     Ok(parts)
 }
@@ -210,7 +165,7 @@ fn tells_entries(rt: HostRuntime) -> Result<(), Fail> {
         a: 0,
         b: 0,
     };
-    assert_eq!(rt; game.head(0, 1), Some((255, 1)));
+    assert_eq!(rt; game.head(0, 1), Some((NO_WORD, ANY_WORD)));
     assert_eq!(rt; game.condact(0, 0, 1), Some(done));
     for (from, noun, want) in [(0, 50, Some(0)), (0, 51, Some(1)), (2, 50, None)] {
         assert_eq!(rt; game.next_match(0, from, 30, noun), want);
@@ -221,8 +176,37 @@ fn tells_entries(rt: HostRuntime) -> Result<(), Fail> {
 #[test]
 fn tells_words(rt: HostRuntime) -> Result<(), Fail> {
     let game = Game::new(small(rt.alloc())?).ok().ok_or("refused")?;
-    assert_eq!(rt; game.word(b"LAMP "), Some((50, NOUN)));
-    assert_eq!(rt; game.word(b"S    "), Some((3, NOUN)));
+    assert_eq!(rt; game.word(b"LAMP "), Some((50, NOUN_CLASS)));
+    assert_eq!(rt; game.word(b"S    "), Some((3, NOUN_CLASS)));
     assert_eq!(rt; game.word(b"SOUTH"), None);
+    Ok(())
+}
+
+#[test]
+fn makes_parts(rt: HostRuntime) -> Result<(), Fail> {
+    let alloc = rt.alloc();
+    let go = Word::new(*b"GO   ", 30, VERB_CLASS);
+    assert_eq!(rt; go.letters.as_slice(), b"GO   ".as_slice());
+    assert_eq!(rt; (go.value, go.class), (30, VERB_CLASS));
+    let text = Text::from_slice(alloc, b"Taken.")?;
+    assert_eq!(rt; text.bytes.as_slice(), b"Taken.".as_slice());
+    let exits = Exits::from_slice(alloc, &[Exit { verb: 2, to: 1 }])?;
+    assert_eq!(rt; exits.rows.as_slice(), [Exit { verb: 2, to: 1 }].as_slice());
+    let entry = Entry::from_codes(alloc, 30, NO_WORD, &[(LET, 60, 9)])?;
+    let sets = Condact {
+        code: LET,
+        a: 60,
+        b: 9,
+    };
+    assert_eq!(rt; (entry.verb, entry.noun), (30, NO_WORD));
+    assert_eq!(rt; entry.condacts.rows.as_slice(), [sets].as_slice());
+    Ok(())
+}
+
+#[test]
+fn makes_empty_parts(rt: HostRuntime) -> Result<(), Fail> {
+    assert!(rt; Text::new(rt.alloc()).bytes.is_empty());
+    assert!(rt; Exits::new(rt.alloc()).rows.is_empty());
+    assert!(rt; Table::new(rt.alloc()).entries.is_empty());
     Ok(())
 }

@@ -9,14 +9,16 @@ use Rattle.paw_game.specs.declared.parts.ObjectRow.{ObjectRow}
 use Rattle.paw_game.specs.Game.{GameLists}
 use Rattle.paw_game.specs.Valid.{is_letter, is_filled, are_letters, is_within, is_word, is_text, is_printed}
 use Rattle.paw_game.specs.Image.{image, head_image, two_bytes, word_image, text_image, object_image, weight_byte, exits_image, table_image}
-use Rattle.paw_gen.specs.Trial.{rows, object_word, object_count, location_count, trial_object, trial_object_text, trial_location_text, system_text, ring_exits, answer_entries, listing, trial_game}
+use Rattle.paw_gen.specs.Trial.{rows, object_word, object_count, location_count, trial_object, trial_object_text, trial_location_text, system_text}
+use Rattle.paw_gen.specs.Trial.{ring_exits, answer_entries, listing, trial_game}
 use Rattle.paw_gen.proofs.Truths.{and_both, le_true, le_from, eq_from}
 use Rattle.paw_gen.proofs.Rows.{length_rows, all_rows, all_at}
 use Rattle.paw_gen.proofs.Computed.{system_texts, location_texts, object_texts}
 use Rattle.paw_gen.proofs.Valids.{words_of, each_word}
 
 -- rows of at most so many bytes
-flat_short : {A : Type 0} (bytes : A → List ℕ) (most : ℕ) (xs : List A) → list_all (λ x. nat_le (length (bytes x)) most) xs ≡ true → length (flat_map bytes xs) ≤ most * length xs
+flat_short : {A : Type 0} (bytes : A → List ℕ) (most : ℕ) (xs : List A) → list_all (λ x. nat_le (length (bytes x)) most) xs ≡ true
+    → length (flat_map bytes xs) ≤ most * length xs
 flat_short bytes most [] h = omega arith
 flat_short bytes most (x ∷ xs) h =
     let p = and_parts (nat_le (length (bytes x)) most) (list_all (λ y. nat_le (length (bytes y)) most) xs) h in
@@ -42,7 +44,12 @@ text_short bytes h =
 
 object_short : (o : ObjectRow) → is_text o.text ≡ true → length (object_image o) ≤ 4101
 object_short o h =
-    omega (arith, text_short o.text h, length-append (text_image o.text) (o.facts.noun ∷ o.facts.adjective ∷ o.facts.start ∷ weight_byte o.facts.weight o.facts.container o.facts.wearable ∷ []))
+    omega (
+      arith,
+      text_short o.text h,
+      length-append (text_image o.text)
+          (o.facts.noun ∷ o.facts.adjective ∷ o.facts.start ∷ weight_byte o.facts.weight o.facts.container o.facts.wearable ∷ []),
+    )
 
 head_size : (g : GameLists) → length (head_image g) ≡ 17
 head_size g = refl
@@ -51,7 +58,8 @@ tables_size : length (flat_map table_image (answer_entries ∷ listing ∷ [] �
 unfolding condact_lines line_of
 tables_size = refl
 
-total : (a b c d e f g h : List ℕ) → length (a ++ b ++ c ++ d ++ e ++ f ++ g ++ h) ≡ length a + length b + length c + length d + length e + length f + length g + length h
+total : (a b c d e f g h : List ℕ)
+    → length (a ++ b ++ c ++ d ++ e ++ f ++ g ++ h) ≡ length a + length b + length c + length d + length e + length f + length g + length h
 total a b c d e f g h = simp length-append
 
 all_words_short : (ws : List Word) → list_all is_word ws ≡ true → list_all (λ w. nat_le (length (word_image w)) 7) ws ≡ true
@@ -60,42 +68,60 @@ all_words_short (w ∷ ws) h =
     let p = and_parts (is_word w) (list_all is_word ws) h in and_both (word_short w p.0) (all_words_short ws p.1)
 
 -- the parts together, for at most 109 objects and 219 locations
-limited : (all head words system none objects locations exits tables things places : ℕ) → all ≡ head + words + system + none + objects + locations + exits + tables → head ≡ 17 → words ≤ 7 * (8 + things) → system ≤ 4097 * 54 → none ≡ 0
+limited : (all head words system none objects locations exits tables things places : ℕ)
+    → all ≡ head + words + system + none + objects + locations + exits + tables → head ≡ 17 → words ≤ 7 * (8 + things) → system ≤ 4097 * 54 → none ≡ 0
     → objects ≤ 4101 * things → locations ≤ 4097 * places → exits ≤ 5 * places → tables ≡ 39 → things ≤ 109 → places ≤ 219 → all ≤ 4194304
 limited all head words system none objects locations exits tables things places a b c d e f g h i j k = omega arith
 
 -- rows of which each is so short
-rows_short : {A : Type 0} (bytes : A → List ℕ) (row : ℕ → A) (most n : ℕ) → ((k : ℕ) → k < n → length (bytes (row k)) ≤ most) → length (flat_map bytes (rows n row)) ≤ most * n
+rows_short : {A : Type 0} (bytes : A → List ℕ) (row : ℕ → A) (most n : ℕ) → ((k : ℕ) → k < n → length (bytes (row k)) ≤ most)
+    → length (flat_map bytes (rows n row)) ≤ most * n
 rows_short bytes row most n h =
-    let short : length (flat_map bytes (rows n row)) ≤ most * length (rows n row) = flat_short bytes most (rows n row) (all_rows (λ x. nat_le (length (bytes x)) most) row n (λ k low. le_true (length (bytes (row k))) most (h k low))) in
+    let short : length (flat_map bytes (rows n row)) ≤ most * length (rows n row) =
+    flat_short bytes most (rows n row) (all_rows (λ x. nat_le (length (bytes x)) most) row n
+    (λ k low. le_true (length (bytes (row k))) most (h k low))) in
     subst (λ m. length (flat_map bytes (rows n row)) ≤ most * m) (length_rows row n) short
 
 words_short : (n : ℕ) → length (flat_map word_image (words_of n)) ≤ 7 * (8 + object_count n)
 words_short n =
     let size : length (words_of n) ≡ 8 + object_count n = omega (arith, length_rows object_word (object_count n)) in
-    let short : length (flat_map word_image (words_of n)) ≤ 7 * length (words_of n) = flat_short word_image 7 (words_of n) (all_words_short (words_of n) (each_word n)) in
+    let short : length (flat_map word_image (words_of n)) ≤ 7 * length (words_of n) =
+    flat_short word_image 7 (words_of n) (all_words_short (words_of n) (each_word n)) in
     subst (λ m. length (flat_map word_image (words_of n)) ≤ 7 * m) size short
 
 -- the parts of a game's image
-parts_size : (g : GameLists) → length (image g) ≡ length (head_image g) + length (flat_map word_image g.words) + length (flat_map text_image g.system) + length (flat_map text_image g.messages)
-    + length (flat_map object_image g.objects) + length (flat_map text_image g.locations) + length (flat_map exits_image g.exits) + length (flat_map table_image g.tables)
+parts_size : (g : GameLists) → length (image g) ≡ length (head_image g) + length (flat_map word_image g.words)
+    + length (flat_map text_image g.system) + length (flat_map text_image g.messages)
+    + length (flat_map object_image g.objects) + length (flat_map text_image g.locations) + length (flat_map exits_image g.exits)
+    + length (flat_map table_image g.tables)
 parts_size g =
-    total (head_image g) (flat_map word_image g.words) (flat_map text_image g.system) (flat_map text_image g.messages) (flat_map object_image g.objects) (flat_map text_image g.locations) (flat_map exits_image g.exits) (flat_map table_image g.tables)
+    total (head_image g) (flat_map word_image g.words) (flat_map text_image g.system) (flat_map text_image g.messages)
+    (flat_map object_image g.objects) (flat_map text_image g.locations) (flat_map exits_image g.exits) (flat_map table_image g.tables)
 
 -- a game whose parts have at most so many bytes
-limited_game : (g : GameLists) (things places : ℕ) → length (flat_map word_image g.words) ≤ 7 * (8 + things) → length (flat_map text_image g.system) ≤ 4097 * 54 → length (flat_map text_image g.messages) ≡ 0
-    → length (flat_map object_image g.objects) ≤ 4101 * things → length (flat_map text_image g.locations) ≤ 4097 * places → length (flat_map exits_image g.exits) ≤ 5 * places → length (flat_map table_image g.tables) ≡ 39
+limited_game : (g : GameLists) (things places : ℕ) → length (flat_map word_image g.words) ≤ 7 * (8 + things)
+    → length (flat_map text_image g.system) ≤ 4097 * 54 → length (flat_map text_image g.messages) ≡ 0
+    → length (flat_map object_image g.objects) ≤ 4101 * things → length (flat_map text_image g.locations) ≤ 4097 * places
+    → length (flat_map exits_image g.exits) ≤ 5 * places → length (flat_map table_image g.tables) ≡ 39
     → things ≤ 109 → places ≤ 219 → length (image g) ≤ 4194304
 limited_game g things places words system none objects locations exits tables few fewer =
-    limited (length (image g)) (length (head_image g)) (length (flat_map word_image g.words)) (length (flat_map text_image g.system)) (length (flat_map text_image g.messages)) (length (flat_map object_image g.objects))
-    (length (flat_map text_image g.locations)) (length (flat_map exits_image g.exits)) (length (flat_map table_image g.tables)) things places (parts_size g) (head_size g) words system none objects locations exits tables few fewer
+    limited (length (image g)) (length (head_image g)) (length (flat_map word_image g.words)) (length (flat_map text_image g.system))
+    (length (flat_map text_image g.messages)) (length (flat_map object_image g.objects))
+    (length (flat_map text_image g.locations)) (length (flat_map exits_image g.exits))
+    (length (flat_map table_image g.tables)) things places (parts_size g) (head_size g) words system none objects locations exits tables few fewer
 
 pub trial_short : (n : ℕ) → length (image (trial_game n)) ≤ 4194304
 unfolding trial_game
 trial_short n =
     let words : length (flat_map word_image (words_of n)) ≤ 7 * (8 + object_count n) = words_short n in
-    let system : length (flat_map text_image (rows 54 system_text)) ≤ 4097 * 54 = rows_short text_image system_text 4097 54 (λ k low. text_short (system_text k) (all_at is_text system_text 54 k system_texts low)) in
-    let objects : length (flat_map object_image (rows (object_count n) (trial_object (location_count n)))) ≤ 4101 * object_count n = rows_short object_image (trial_object (location_count n)) 4101 (object_count n) (λ k low. object_short (trial_object (location_count n) k) (all_at is_text trial_object_text 109 k object_texts (omega (arith, low)))) in
-    let locations : length (flat_map text_image (rows (location_count n) trial_location_text)) ≤ 4097 * location_count n = rows_short text_image trial_location_text 4097 (location_count n) (λ k low. text_short (trial_location_text k) (all_at is_text trial_location_text 219 k location_texts (omega (arith, low)))) in
-    let exits : length (flat_map exits_image (rows (location_count n) (ring_exits (location_count n)))) ≤ 5 * location_count n = rows_short exits_image (ring_exits (location_count n)) 5 (location_count n) (λ k low. omega arith) in
+    let system : length (flat_map text_image (rows 54 system_text)) ≤ 4097 * 54 =
+    rows_short text_image system_text 4097 54 (λ k low. text_short (system_text k) (all_at is_text system_text 54 k system_texts low)) in
+    let objects : length (flat_map object_image (rows (object_count n) (trial_object (location_count n)))) ≤ 4101 * object_count n =
+    rows_short object_image (trial_object (location_count n)) 4101 (object_count n)
+    (λ k low. object_short (trial_object (location_count n) k) (all_at is_text trial_object_text 109 k object_texts (omega (arith, low)))) in
+    let locations : length (flat_map text_image (rows (location_count n) trial_location_text)) ≤ 4097 * location_count n =
+    rows_short text_image trial_location_text 4097 (location_count n)
+    (λ k low. text_short (trial_location_text k) (all_at is_text trial_location_text 219 k location_texts (omega (arith, low)))) in
+    let exits : length (flat_map exits_image (rows (location_count n) (ring_exits (location_count n)))) ≤ 5 * location_count n =
+    rows_short exits_image (ring_exits (location_count n)) 5 (location_count n) (λ k low. omega arith) in
     limited_game (trial_game n) (object_count n) (location_count n) words system refl objects locations exits tables_size (omega arith) (omega arith)

@@ -9,8 +9,10 @@ use Rattle.std.proofs.lemmas.List.Folds.{list_any-append, list_all-append}
 use Rattle.paw_base.specs.Condacts.{condact_lines, line_of}
 use Rattle.paw_game.specs.declared.parts.Word.{Word}
 use Rattle.paw_game.specs.Game.{GameLists}
-use Rattle.paw_game.specs.Valid.{Valid, is_within, is_word, is_text, words_rise, words_kept, has_word, is_word_or_none, is_verb_value, is_object, objects_kept, is_exits, exits_kept, locations_kept, is_condact, tables_kept}
-use Rattle.paw_gen.specs.Trial.{rows, named_words, object_word, object_count, location_count, trial_object, trial_object_text, trial_location_text, ring_exits, condact_with, trial_game}
+use Rattle.paw_game.specs.Valid.{Valid, is_within, is_word, is_text, words_rise, words_kept, has_word, is_word_or_none, is_verb_value, is_object}
+use Rattle.paw_game.specs.Valid.{objects_kept, is_exits, exits_kept, locations_kept, is_condact, tables_kept}
+use Rattle.paw_gen.specs.Trial.{rows, named_words, object_word, object_count, location_count, trial_object, trial_object_text, trial_location_text}
+use Rattle.paw_gen.specs.Trial.{ring_exits, condact_with, trial_game}
 use Rattle.paw_gen.proofs.Truths.{and_both, or_true, or_right, le_true, lt_true, eq_true}
 use Rattle.paw_gen.proofs.Rows.{length_rows, rows_fewer, all_rows, all_at, any_row}
 use Rattle.paw_gen.proofs.Computed.{all_words, all_rise, system_texts, location_texts, object_texts}
@@ -28,7 +30,9 @@ all_of_them n =
 rise_before : (xs ys : List Word) → words_rise (xs ++ ys) ≡ true → words_rise xs ≡ true
 rise_before [] ys h = refl
 rise_before (w ∷ []) ys h = refl
-rise_before (w ∷ v ∷ ws) ys h = let h2 = and_parts (is_lt (slice_cmp nat_cmp w.letters v.letters)) (words_rise (v ∷ (ws ++ ys))) h in and_both h2.0 (rise_before (v ∷ ws) ys h2.1)
+rise_before (w ∷ v ∷ ws) ys h =
+    let h2 = and_parts (is_lt (slice_cmp nat_cmp w.letters v.letters)) (words_rise (v ∷ (ws ++ ys))) h in
+    and_both h2.0 (rise_before (v ∷ ws) ys h2.1)
 
 all_before : (xs ys : List Word) → list_all is_word (xs ++ ys) ≡ true → list_all is_word xs ≡ true
 all_before xs ys h = (and_parts (list_all is_word xs) (list_all is_word ys) (sym (list_all-append is_word xs ys) ∙ h)).0
@@ -60,7 +64,8 @@ object_fine n k low =
 
 objects_fine : (n : ℕ) → objects_kept (words_of n) (location_count n) (rows (object_count n) (trial_object (location_count n))) ≡ true
 objects_fine n =
-    and_both (le_true (length (rows (object_count n) (trial_object (location_count n)))) 255 (omega (arith, length_rows (trial_object (location_count n)) (object_count n))))
+    and_both (le_true (length (rows (object_count n) (trial_object (location_count n)))) 255
+    (omega (arith, length_rows (trial_object (location_count n)) (object_count n))))
     (all_rows (is_object (words_of n) (location_count n)) (trial_object (location_count n)) (object_count n) (λ k low. object_fine n k low))
 
 -- ---- locations and exits ----
@@ -81,12 +86,14 @@ south_known n = or_true (has_word (words_of n) 0 3)
 exits_of_one : (n k : ℕ) → is_exits (words_of n) (location_count n) (ring_exits (location_count n) k) ≡ true
 exits_of_one n k =
     let north : nat_lt ((k + 1) % location_count n) (location_count n) ≡ true = lt_true ((k + 1) % location_count n) (location_count n) (omega arith) in
-    let south : nat_lt ((k + location_count n - 1) % location_count n) (location_count n) ≡ true = lt_true ((k + location_count n - 1) % location_count n) (location_count n) (omega arith) in
+    let south : nat_lt ((k + location_count n - 1) % location_count n) (location_count n) ≡ true =
+    lt_true ((k + location_count n - 1) % location_count n) (location_count n) (omega arith) in
     and_both (and_both (north_known n) (and_both north refl)) (and_both (and_both (south_known n) (and_both south refl)) refl)
 
 exits_fine : (n : ℕ) → exits_kept (words_of n) (location_count n) (rows (location_count n) (ring_exits (location_count n))) ≡ true
 exits_fine n =
-    and_both (eq_true (length (rows (location_count n) (ring_exits (location_count n)))) (location_count n) (length_rows (ring_exits (location_count n)) (location_count n)))
+    and_both (eq_true (length (rows (location_count n) (ring_exits (location_count n)))) (location_count n)
+    (length_rows (ring_exits (location_count n)) (location_count n)))
     (all_rows (is_exits (words_of n) (location_count n)) (ring_exits (location_count n)) (location_count n) (λ k low. exits_of_one n k))
 
 -- ---- tables ----

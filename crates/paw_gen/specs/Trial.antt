@@ -2,7 +2,7 @@
 use Rattle.std.specs.Prelude.{ℕ, ◌+◌, ◌-◌, ◌*◌, ◌/◌, ◌%◌, ◌==◌, false, List, []}
 use Rattle.std.specs.Prelude.{◌∷◌, ◌++◌, map, codes, decimal, if◌then◌else◌}
 use Rattle.std.specs.List.{range_with_len}
-use Rattle.paw_base.specs.declared.codes.TheConstants.{INVEN, DESC, DONE, AUTOG, AUTOD, GET, DROP, LISTOBJ, DOALL}
+use Rattle.paw_base.specs.declared.codes.TheConstants.{INVEN, DESC, DONE, AUTOG, AUTOD, LISTOBJ, DOALL}
 use Rattle.paw_base.specs.declared.places.TheConstants.{CARRIED_PLACE, HERE_PLACE}
 use Rattle.paw_base.specs.declared.words.TheConstants.{VERB_CLASS, NOUN_CLASS, CONJUNCTION_CLASS, NO_WORD}
 use Rattle.paw_base.specs.declared.words.TheConstants.{FIRST_NAMED_NOUN}

@@ -32,8 +32,7 @@ pub fn lines_of(alloc: Global, n: u16) -> Result<Vec<Text>, NoRoom>
 {
     let mut lines = Vec::new(alloc);
     for number in 0..line_count(n) {
-        let bytes = Vec::from_slice(alloc, line_at(number))?;
-        lines.push(Text { bytes })?;
+        lines.push(Text::from_slice(alloc, line_at(number))?)?;
     }
     Ok(lines)
 }

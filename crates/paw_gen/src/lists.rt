@@ -2,7 +2,7 @@
 
 ghost use Rattle.std.specs.Prelude.{◌≡◌, ◌++◌, ◌<◌, ◌≤◌, IfOk};
 ghost use Rattle.paw_gen.specs.Trial.{named_words, object_facts, object_letters, trial_object};
-ghost use Rattle.paw_gen.specs.Trial.{object_word, ring_exits, rows, word_with};
+ghost use Rattle.paw_gen.specs.Trial.{object_word, ring_exits, rows};
 
 use crate::texts::numbered;
 use paw_base::fault::NoRoom;
@@ -17,29 +17,19 @@ const NORTH: u8 = 2;
 /// The value of SOUTH, a noun that may stand as a verb.
 const SOUTH: u8 = 3;
 
-fn word(letters: &[u8; 5], value: u8, class: u8) -> Word
-    ensures { result ≡ word_with letters.now value class }
-{
-    Word {
-        letters: *letters,
-        value,
-        class,
-    }
-}
-
 /// The words beside the objects' nouns.
 fn named_words() -> [Word; 8]
     ensures { result ≡ named_words }
 {
     [
-        word(b"ALL  ", 20, NOUN_CLASS),
-        word(b"AND  ", 2, CONJUNCTION_CLASS),
-        word(b"DROP ", 31, VERB_CLASS),
-        word(b"GET  ", 30, VERB_CLASS),
-        word(b"INVEN", 33, VERB_CLASS),
-        word(b"LOOK ", 32, VERB_CLASS),
-        word(b"NORTH", NORTH, NOUN_CLASS),
-        word(b"SOUTH", SOUTH, NOUN_CLASS),
+        Word::new(*b"ALL  ", 20, NOUN_CLASS),
+        Word::new(*b"AND  ", 2, CONJUNCTION_CLASS),
+        Word::new(*b"DROP ", 31, VERB_CLASS),
+        Word::new(*b"GET  ", 30, VERB_CLASS),
+        Word::new(*b"INVEN", 33, VERB_CLASS),
+        Word::new(*b"LOOK ", 32, VERB_CLASS),
+        Word::new(*b"NORTH", NORTH, NOUN_CLASS),
+        Word::new(*b"SOUTH", SOUTH, NOUN_CLASS),
     ]
 }
 
@@ -59,8 +49,8 @@ fn object_word(number: u16) -> Word
     requires { number < 200 }
     ensures { result ≡ object_word number }
 {
-    word(
-        &object_letters(number),
+    Word::new(
+        object_letters(number),
         FIRST_NAMED_NOUN + number as u8,
         NOUN_CLASS,
     )
@@ -127,8 +117,7 @@ fn ring_exits(alloc: Global, locations: u16, number: u16) -> Result<Exits, NoRoo
         verb: SOUTH,
         to: ((number + locations - 1) % locations) as u8,
     };
-    let rows = Vec::from_slice(alloc, &[north, south])?;
-    Ok(Exits { rows })
+    Ok(Exits::from_slice(alloc, &[north, south])?)
 }
 
 /// The ways out of all locations.

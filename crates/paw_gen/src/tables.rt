@@ -1,14 +1,13 @@
 // The tables of the game.
 
 ghost use Rattle.std.specs.Prelude.{◌≡◌, ◌∷◌, [], IfOk};
-ghost use Rattle.paw_gen.specs.Trial.{answer_entries, condact_with, entry, listing};
+ghost use Rattle.paw_gen.specs.Trial.{answer_entries, listing};
 
-use paw_base::codes;
+use paw_base::codes::{self, AUTOD, AUTOG, DESC, DOALL, DONE, LISTOBJ};
 use paw_base::fault::NoRoom;
-use paw_base::parts::Condact;
 use paw_base::places::{CARRIED_PLACE, HERE_PLACE};
 use paw_base::words::NO_WORD;
-use paw_game::parts::{Condacts, Entry, Table};
+use paw_game::parts::{Entry, Table};
 use std::alloc::Global;
 
 /// The values of the words that entries name.
@@ -22,78 +21,17 @@ const LOOK: u8 = 32;
 
 const INVEN: u8 = 33;
 
-/// The condacts, each without a parameter but the last two.
-const SHOW_CARRIED: Condact = Condact {
-    code: codes::INVEN,
-    a: 0,
-    b: 0,
-};
-
-const DESCRIBE: Condact = Condact {
-    code: codes::DESC,
-    a: 0,
-    b: 0,
-};
-
-const DONE: Condact = Condact {
-    code: codes::DONE,
-    a: 0,
-    b: 0,
-};
-
-const GET_NAMED: Condact = Condact {
-    code: codes::AUTOG,
-    a: 0,
-    b: 0,
-};
-
-const DROP_NAMED: Condact = Condact {
-    code: codes::AUTOD,
-    a: 0,
-    b: 0,
-};
-
-const LIST_OBJECTS: Condact = Condact {
-    code: codes::LISTOBJ,
-    a: 0,
-    b: 0,
-};
-
-const EACH_HERE: Condact = Condact {
-    code: codes::DOALL,
-    a: HERE_PLACE,
-    b: 0,
-};
-
-const EACH_CARRIED: Condact = Condact {
-    code: codes::DOALL,
-    a: CARRIED_PLACE,
-    b: 0,
-};
-
-/// An entry with these words and condacts.
-fn entry(alloc: Global, verb: u8, noun: u8, condacts: &[Condact]) -> Result<Entry, NoRoom>
-    ensures { IfOk result (λ row. row ≡ entry verb noun condacts.now) }
-{
-    let rows = Vec::from_slice(alloc, condacts)?;
-    Ok(Entry {
-        verb,
-        noun,
-        condacts: Condacts { rows },
-    })
-}
-
 /// The answers to lines.
 fn answers(alloc: Global) -> Result<Table, NoRoom>
     ensures { IfOk result (λ table. table ≡ answer_entries) }
 {
     let entries = vec![in alloc;
-        entry(alloc, GET, ALL, &[EACH_HERE])?,
-        entry(alloc, GET, NO_WORD, &[GET_NAMED, DONE])?,
-        entry(alloc, DROP, ALL, &[EACH_CARRIED])?,
-        entry(alloc, DROP, NO_WORD, &[DROP_NAMED, DONE])?,
-        entry(alloc, LOOK, NO_WORD, &[DESCRIBE])?,
-        entry(alloc, INVEN, NO_WORD, &[SHOW_CARRIED, DONE])?,
+        Entry::from_codes(alloc, GET, ALL, &[(DOALL, HERE_PLACE, 0)])?,
+        Entry::from_codes(alloc, GET, NO_WORD, &[(AUTOG, 0, 0), (DONE, 0, 0)])?,
+        Entry::from_codes(alloc, DROP, ALL, &[(DOALL, CARRIED_PLACE, 0)])?,
+        Entry::from_codes(alloc, DROP, NO_WORD, &[(AUTOD, 0, 0), (DONE, 0, 0)])?,
+        Entry::from_codes(alloc, LOOK, NO_WORD, &[(DESC, 0, 0)])?,
+        Entry::from_codes(alloc, INVEN, NO_WORD, &[(codes::INVEN, 0, 0), (DONE, 0, 0)])?,
     ]?;
     Ok(Table { entries })
 }
@@ -102,7 +40,8 @@ fn answers(alloc: Global) -> Result<Table, NoRoom>
 fn listing(alloc: Global) -> Result<Table, NoRoom>
     ensures { IfOk result (λ table. table ≡ listing) }
 {
-    let entries = vec![in alloc; entry(alloc, NO_WORD, NO_WORD, &[LIST_OBJECTS])?]?;
+    let lists = Entry::from_codes(alloc, NO_WORD, NO_WORD, &[(LISTOBJ, 0, 0)])?;
+    let entries = vec![in alloc; lists]?;
     Ok(Table { entries })
 }
 
@@ -110,8 +49,5 @@ fn listing(alloc: Global) -> Result<Table, NoRoom>
 pub(crate) fn tables(alloc: Global) -> Result<Vec<Table>, NoRoom>
     ensures { IfOk result (λ tables. tables.items ≡ answer_entries ∷ listing ∷ [] ∷ []) }
 {
-    let none = Table {
-        entries: Vec::new(alloc),
-    };
-    Ok(vec![in alloc; answers(alloc)?, listing(alloc)?, none]?)
+    Ok(vec![in alloc; answers(alloc)?, listing(alloc)?, Table::new(alloc)]?)
 }

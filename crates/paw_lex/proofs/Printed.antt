@@ -1,5 +1,6 @@
 -- Lines and tokens that were printed are read back.
-use Rattle.std.proofs.Common.{◌≡◌, ℕ, ◌<◌, ◌-◌, Bool, true, false, not, ◌&&◌, eqb, ltb, List, [], ◌∷◌, ◌++◌, length, get_or, refl, sym, ap, ◌∙◌, inl, inr, one-add, arith}
+use Rattle.std.proofs.Common.{◌≡◌, ℕ, ◌<◌, ◌-◌, Bool, true, false, not, ◌&&◌, eqb, ltb, List, [], ◌∷◌, ◌++◌, length, get_or, refl, sym, ap, ◌∙◌, inl}
+use Rattle.std.proofs.Common.{inr, one-add, arith}
 use Rattle.std.specs.List.{before_first, position_or_len, slice_split, list_all, flat_map, join_with_byte, All}
 use Rattle.std.specs.Str.Lines.{lines, lines_of_parts, strip_carriage_return}
 use Rattle.std.proofs.lemmas.Bool.{leb-true, ltb-true, ne_eqb, and_parts, cases_lt}
@@ -24,11 +25,13 @@ none_is : (n : ℕ) (line : List ℕ) → n < 32 → list_all is_printed_byte li
 none_is n line h e = λ k d l. printed_is_not n (get_or line k d) h (AllPass-from_list_all is_printed_byte line e k d l)
 
 -- the text of a source goes on past printed bytes
-text-append : (line rest : List ℕ) → list_all is_printed_byte line ≡ true → before_first (λ b. eqb b 26) (line ++ rest) ≡ line ++ before_first (λ b. eqb b 26) rest
+text-append : (line rest : List ℕ) → list_all is_printed_byte line ≡ true
+    → before_first (λ b. eqb b 26) (line ++ rest) ≡ line ++ before_first (λ b. eqb b 26) rest
 text-append [] rest e = refl
 text-append (b ∷ bs) rest e =
     let both = and_parts _ _ e in
-    before_first-cons (λ b. eqb b 26) b (bs ++ rest) (printed_is_not 26 b (omega arith) both.0) ∙ ap (λ (bytes : List ℕ). b ∷ bytes) (text-append bs rest both.1)
+    before_first-cons (λ b. eqb b 26) b (bs ++ rest) (printed_is_not 26 b (omega arith) both.0)
+    ∙ ap (λ (bytes : List ℕ). b ∷ bytes) (text-append bs rest both.1)
 
 no_return : (line : List ℕ) → list_all is_printed_byte line ≡ true → strip_carriage_return line ≡ line
 no_return line e =
@@ -66,7 +69,8 @@ lines_of-printed_lines (line ∷ ls) e =
 abbrev pub is_token : List ℕ → Bool
 is_token token = ltb 0 (length token) && list_all (λ b. not (ends_token b)) token
 
-end_of_token : (token rest : List ℕ) → list_all (λ b. not (ends_token b)) token ≡ true → position_or_len ends_token rest ≡ 0 → position_or_len ends_token (token ++ rest) ≡ length token
+end_of_token : (token rest : List ℕ) → list_all (λ b. not (ends_token b)) token ≡ true → position_or_len ends_token rest ≡ 0
+    → position_or_len ends_token (token ++ rest) ≡ length token
 end_of_token [] rest e h = h
 end_of_token (b ∷ bs) rest e h =
     let both = and_parts (not (ends_token b)) (list_all (λ c. not (ends_token c)) bs) e in

@@ -1,5 +1,6 @@
 -- Slices of slices, and what stands before the first byte of a kind.
-use Rattle.std.proofs.Common.{◌≡◌, ℕ, zero, suc, ◌<◌, ◌≤◌, ◌+◌, ◌-◌, Bool, true, false, not, cond, List, [], ◌∷◌, length, take, drop, get_or, refl, sym, ap, ◌∙◌, one-add, arith}
+use Rattle.std.proofs.Common.{◌≡◌, ℕ, zero, suc, ◌<◌, ◌≤◌, ◌+◌, ◌-◌, Bool, true, false, not, cond, List, [], ◌∷◌, length, take, drop, get_or, refl}
+use Rattle.std.proofs.Common.{sym, ap, ◌∙◌, one-add, arith}
 use Rattle.std.specs.List.{slice_range, before_first, position_or_len}
 use Rattle.std.proofs.lemmas.List.{take-take, drop-take, drop-drop, drop_more}
 
@@ -25,7 +26,8 @@ pub before_first-drop : (p : ℕ → Bool) (s : List ℕ) (n : ℕ) → n ≤ po
 before_first-drop p s zero h = refl
 before_first-drop p [] (suc n) h = refl
 before_first-drop p (x ∷ xs) (suc n) h =
-    elim (p x) as (λ v. suc n ≤ cond (not v) (1 + position_or_len p xs) 0 → before_first p (drop n xs) ≡ drop (suc n) (take (cond (not v) (1 + position_or_len p xs) 0) (x ∷ xs))) [
+    elim (p x) as (λ v. suc n ≤ cond (not v) (1 + position_or_len p xs) 0
+    → before_first p (drop n xs) ≡ drop (suc n) (take (cond (not v) (1 + position_or_len p xs) 0) (x ∷ xs))) [
       | true ↦ λ g. absurd (omega arith)
       | false ↦ λ g. rw one-add (before_first-drop p xs n (omega arith))
     ] h

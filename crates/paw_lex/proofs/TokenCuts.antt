@@ -1,5 +1,6 @@
 -- The first token of a line.
-use Rattle.std.proofs.Common.{◌≡◌, ℕ, zero, suc, ◌<◌, ◌≤◌, ◌+◌, ◌-◌, ◌≢◌, true, false, not, cond, ◌||◌, eqb, ltb, List, [], ◌∷◌, filter, length, take, drop, get_or, refl, sym, ap, ◌∙◌, inl, inr, one-add, arith}
+use Rattle.std.proofs.Common.{◌≡◌, ℕ, zero, suc, ◌<◌, ◌≤◌, ◌+◌, ◌-◌, ◌≢◌, true, false, not, cond, ◌||◌, eqb, ltb, List, [], ◌∷◌, filter, length, take}
+use Rattle.std.proofs.Common.{drop, get_or, refl, sym, ap, ◌∙◌, inl, inr, one-add, arith}
 use Rattle.std.specs.List.{before_first, list_all, position_or_len, prefix_len, slice_split, onto_first, slice_range}
 use Rattle.std.proofs.lemmas.Bool.{eqb-true, lt-ltb, or_right, cases_lt}
 use Rattle.std.proofs.lemmas.List.{length-take-le, take_rest, drop-drop}
@@ -67,7 +68,8 @@ pub no_token : (s : List ℕ) → prefix_len is_blank s ≡ 0 → position_or_le
 unfolding tokens_of
 no_token [] h g = refl
 no_token (b ∷ bs) h g =
-    elim (is_blank b) as (λ v. is_blank b ≡ v → cond v (1 + prefix_len is_blank bs) 0 ≡ 0 → cond (not (v || eqb b 59)) (1 + position_or_len ends_token bs) 0 ≡ 0 → full (pieces (b ∷ bs)) ≡ []) [
+    elim (is_blank b) as (λ v. is_blank b ≡ v → cond v (1 + prefix_len is_blank bs) 0 ≡ 0
+    → cond (not (v || eqb b 59)) (1 + position_or_len ends_token bs) 0 ≡ 0 → full (pieces (b ∷ bs)) ≡ []) [
       | true ↦ λ e i j. absurd (omega arith)
       | false ↦ λ e i j. elim (eqb b 59) as (λ w. eqb b 59 ≡ w → cond (not w) (1 + position_or_len ends_token bs) 0 ≡ 0 → full (pieces (b ∷ bs)) ≡ []) [
         | true ↦ λ f k. ap full (pieces-semicolon b bs f)
@@ -87,7 +89,9 @@ begins [] = record { behind = []; first = refl; rest = refl }
 begins (b ∷ bs) =
     let again = begins bs in
     elim (eqb b 59) as (λ w. eqb b 59 ≡ w → Begins (b ∷ bs) (cond (not (is_blank b || w)) (1 + position_or_len ends_token bs) 0)) [
-      | true ↦ λ f. rw (or_right (is_blank b) true refl) (record { behind = []; first = pieces-semicolon b bs f; rest = sym (ap full (pieces-semicolon b bs f)) })
+      | true ↦ λ f.
+          rw (or_right (is_blank b) true refl)
+          (record { behind = []; first = pieces-semicolon b bs f; rest = sym (ap full (pieces-semicolon b bs f)) })
       | false ↦ λ f. elim (is_blank b) as (λ v. is_blank b ≡ v → Begins (b ∷ bs) (cond (not (v || false)) (1 + position_or_len ends_token bs) 0)) [
         | true ↦ λ e. record { behind = pieces bs; first = pieces-blank b bs e; rest = sym (tokens_of-blank b bs e) }
         | false ↦ λ e. rw one-add (record {
@@ -118,7 +122,8 @@ none_left s n k e f z =
     let here : position_or_len ends_token (drop n s) ≡ 0 = ap (position_or_len ends_token) (sym (take_rest s n)) ∙ sym f ∙ z in
     sym (past_blanks s n (omega arith)) ∙ no_token (drop n s) (no_more_blanks s n e) here
 
-pub one_left : (s : List ℕ) (n k : ℕ) → n ≡ prefix_len is_blank s → k ≡ position_or_len ends_token (take (length s - n) (drop n s)) → k ≢ 0 → tokens_of s ≡ slice_range s n (n + k) ∷ tokens_of (drop (n + k) s)
+pub one_left : (s : List ℕ) (n k : ℕ) → n ≡ prefix_len is_blank s → k ≡ position_or_len ends_token (take (length s - n) (drop n s)) → k ≢ 0
+    → tokens_of s ≡ slice_range s n (n + k) ∷ tokens_of (drop (n + k) s)
 one_left s n k e f z =
     let here : k ≡ position_or_len ends_token (drop n s) = f ∙ ap (position_or_len ends_token) (take_rest s n) in
     let long : n + k - n ≡ k = omega arith in
@@ -126,7 +131,9 @@ one_left s n k e f z =
     ∙ token_first (drop n s) k here (omega arith)
     ∙ rw (drop-drop k n s) (ap (λ (token : List ℕ). token ∷ tokens_of (drop (n + k) s)) (sym (ap (λ m. take m (drop n s)) long)))
 
-pub next_token_at : (s : List ℕ) (from to m n : ℕ) → m ≤ n → n ≤ to - from → tokens_of (slice_range s from to) ≡ slice_range (slice_range s from to) m n ∷ tokens_of (drop n (slice_range s from to)) → tokens_of (slice_range s from to) ≡ slice_range s (from + m) (from + n) ∷ tokens_of (slice_range s (from + n) to)
+pub next_token_at : (s : List ℕ) (from to m n : ℕ) → m ≤ n → n ≤ to - from
+    → tokens_of (slice_range s from to) ≡ slice_range (slice_range s from to) m n ∷ tokens_of (drop n (slice_range s from to))
+    → tokens_of (slice_range s from to) ≡ slice_range s (from + m) (from + n) ∷ tokens_of (slice_range s (from + n) to)
 next_token_at s from to m n l h e =
     e
     ∙ ap (λ (token : List ℕ). token ∷ tokens_of (drop n (slice_range s from to))) (slice_range-slice_range s from to m n l h)

@@ -1,5 +1,6 @@
 -- Reading a phrase mark by mark comes to what the phrase is.
-use Rattle.std.proofs.Common.{◌≡◌, ◌+◌, ◌-◌, ℕ, Bool, true, false, cond, eqb, List, [], ◌∷◌, ◌++◌, Option, Some, None, length, take, drop, refl, sym, ap, ◌∙◌, arith}
+use Rattle.std.proofs.Common.{◌≡◌, ◌+◌, ◌-◌, ℕ, Bool, true, false, cond, eqb, List, [], ◌∷◌, ◌++◌, Option, Some, None, length, take, drop, refl, sym}
+use Rattle.std.proofs.Common.{ap, ◌∙◌, arith}
 use Rattle.std.proofs.lemmas.List.{take_rest, drop-drop, drop_all}
 use Rattle.paw_game.specs.Game.{GameLists}
 use Rattle.paw_game.specs.Tables.{word_at}
@@ -27,11 +28,15 @@ along g e (m ∷ ms) d = after_part (with_part (phrase_part_of g m.token) d) (dr
 abbrev Means : GameLists → Option (List ℕ) → Part → Type 0
 Means g t part.Break = is_parting g t ≡ true
 Means g t part.Unknown =
-    (is_parting g t ≡ false) × ((ts : List (List ℕ)) (s : Sentence) → with_tokens g (token_of t ++ ts) s ≡ with_tokens g ts s) × ((ts : List (List ℕ)) → has_known g (token_of t ++ ts) ≡ has_known g ts)
+    (is_parting g t ≡ false) × ((ts : List (List ℕ)) (s : Sentence) → with_tokens g (token_of t ++ ts) s ≡ with_tokens g ts s)
+    × ((ts : List (List ℕ)) → has_known g (token_of t ++ ts) ≡ has_known g ts)
 Means g t (part.Word value class) =
-    (is_parting g t ≡ false) × ((ts : List (List ℕ)) (s : Sentence) → with_tokens g (token_of t ++ ts) s ≡ with_tokens g ts (with_word value class s)) × ((ts : List (List ℕ)) → has_known g (token_of t ++ ts) ≡ true)
+    (is_parting g t ≡ false)
+    × ((ts : List (List ℕ)) (s : Sentence) → with_tokens g (token_of t ++ ts) s ≡ with_tokens g ts (with_word value class s))
+    × ((ts : List (List ℕ)) → has_known g (token_of t ++ ts) ≡ true)
 
-known_means : (g : GameLists) (letters : List ℕ) (word : ℕ × ℕ) → word_at g letters ≡ Some word → (b : Bool) → eqb word.1 5 ≡ b → Means g (Some letters) (cond b part.Break (part.Word word.0 word.1))
+known_means : (g : GameLists) (letters : List ℕ) (word : ℕ × ℕ) → word_at g letters ≡ Some word → (b : Bool) → eqb word.1 5 ≡ b
+    → Means g (Some letters) (cond b part.Break (part.Word word.0 word.1))
 known_means g letters word e true parts = rw e parts
 known_means g letters word e false parts = (rw e parts, λ ts s. rw e refl, λ ts. rw e refl)
 
@@ -51,24 +56,37 @@ abbrev parsed_tokens : GameLists → ℕ → Sentence → List (List ℕ) → Li
 parsed_tokens g e s ts rest = cond (has_known g ts) (IsSentence (finished e (with_tokens g ts s)) rest) (IsUnknown rest)
 
 -- a part after a known word
-part_of_sentence : (g : GameLists) (e : ℕ) (m : Mark) (ms : List Mark) → ((s : Sentence) → along g e ms (draft found.Sentence s) ≡ IsSentence (finished e (with_tokens g (phrase_tokens g ms) s)) (bytes_after g ms)) → (s : Sentence) (p : Part) → Means g m.token p → after_part (with_part p (draft found.Sentence s)) (draft_outcome e (draft found.Sentence s) m.after) (along g e ms) ≡ IsSentence (finished e (with_tokens g (phrase_tokens g (m ∷ ms)) s)) (bytes_after g (m ∷ ms))
+part_of_sentence : (g : GameLists) (e : ℕ) (m : Mark) (ms : List Mark)
+    → ((s : Sentence) → along g e ms (draft found.Sentence s)
+    ≡ IsSentence (finished e (with_tokens g (phrase_tokens g ms) s)) (bytes_after g ms))
+    → (s : Sentence) (p : Part) → Means g m.token p
+    → after_part (with_part p (draft found.Sentence s)) (draft_outcome e (draft found.Sentence s) m.after) (along g e ms)
+    ≡ IsSentence (finished e (with_tokens g (phrase_tokens g (m ∷ ms)) s)) (bytes_after g (m ∷ ms))
 part_of_sentence g e m ms again s part.Break h = rw h refl
-part_of_sentence g e m ms again s part.Unknown h = again s ∙ rw (h.0) (ap (λ x. IsSentence (finished e x) (bytes_after g ms)) (sym (h.1 (phrase_tokens g ms) s)))
-part_of_sentence g e m ms again s (part.Word value class) h = again (with_word value class s) ∙ rw (h.0) (ap (λ x. IsSentence (finished e x) (bytes_after g ms)) (sym (h.1 (phrase_tokens g ms) s)))
+part_of_sentence g e m ms again s part.Unknown h = again s ∙ rw (h.0)
+    (ap (λ x. IsSentence (finished e x) (bytes_after g ms)) (sym (h.1 (phrase_tokens g ms) s)))
+part_of_sentence g e m ms again s (part.Word value class) h =
+    again (with_word value class s) ∙ rw (h.0) (ap (λ x. IsSentence (finished e x) (bytes_after g ms)) (sym (h.1 (phrase_tokens g ms) s)))
 
 -- with a known word
-with_known_word : (g : GameLists) (e : ℕ) (ms : List Mark) (s : Sentence) → along g e ms (draft found.Sentence s) ≡ IsSentence (finished e (with_tokens g (phrase_tokens g ms) s)) (bytes_after g ms)
+with_known_word : (g : GameLists) (e : ℕ) (ms : List Mark) (s : Sentence)
+    → along g e ms (draft found.Sentence s) ≡ IsSentence (finished e (with_tokens g (phrase_tokens g ms) s)) (bytes_after g ms)
 unfolding along
 with_known_word g e [] s = refl
 with_known_word g e (m ∷ ms) s = part_of_sentence g e m ms (with_known_word g e ms) s (phrase_part_of g m.token) (means g m.token)
 
-parsed_tokens_are : (g : GameLists) (e : ℕ) (s x : Sentence) (ts : List (List ℕ)) (rest : List ℕ) (b : Bool) → has_known g ts ≡ b → with_tokens g ts s ≡ x → parsed_tokens g e s ts rest ≡ cond b (IsSentence (finished e x) rest) (IsUnknown rest)
+parsed_tokens_are : (g : GameLists) (e : ℕ) (s x : Sentence) (ts : List (List ℕ)) (rest : List ℕ) (b : Bool) → has_known g ts ≡ b
+    → with_tokens g ts s ≡ x → parsed_tokens g e s ts rest ≡ cond b (IsSentence (finished e x) rest) (IsUnknown rest)
 parsed_tokens_are g e s x ts rest b known words =
     ap (λ c. cond c (IsSentence (finished e (with_tokens g ts s)) rest) (IsUnknown rest)) known
     ∙ ap (λ y. cond b (IsSentence (finished e y) rest) (IsUnknown rest)) words
 
 -- a part after unknown tokens alone
-part_of_unknown : (g : GameLists) (e : ℕ) (m : Mark) (ms : List Mark) → ((s : Sentence) → along g e ms (draft found.Nothing s) ≡ parsed_tokens g e s (phrase_tokens g ms) (bytes_after g ms)) → (s : Sentence) (p : Part) → Means g m.token p → after_part (with_part p (draft found.Nothing s)) (draft_outcome e (draft found.Nothing s) m.after) (along g e ms) ≡ parsed_tokens g e s (phrase_tokens g (m ∷ ms)) (bytes_after g (m ∷ ms))
+part_of_unknown : (g : GameLists) (e : ℕ) (m : Mark) (ms : List Mark)
+    → ((s : Sentence) → along g e ms (draft found.Nothing s) ≡ parsed_tokens g e s (phrase_tokens g ms) (bytes_after g ms))
+    → (s : Sentence) (p : Part) → Means g m.token p
+    → after_part (with_part p (draft found.Nothing s)) (draft_outcome e (draft found.Nothing s) m.after) (along g e ms)
+    ≡ parsed_tokens g e s (phrase_tokens g (m ∷ ms)) (bytes_after g (m ∷ ms))
 part_of_unknown g e m ms again s part.Break h = rw h refl
 part_of_unknown g e m ms again s part.Unknown h =
     let ts = phrase_tokens g ms in
@@ -81,7 +99,8 @@ part_of_unknown g e m ms again s (part.Word value class) h =
     ∙ rw (h.0) (sym (parsed_tokens_are g e s (with_tokens g ts word) (token_of m.token ++ ts) (bytes_after g ms) true (h.2 ts) (h.1 ts s)))
 
 -- with unknown tokens alone
-with_no_word : (g : GameLists) (e : ℕ) (ms : List Mark) (s : Sentence) → along g e ms (draft found.Nothing s) ≡ parsed_tokens g e s (phrase_tokens g ms) (bytes_after g ms)
+with_no_word : (g : GameLists) (e : ℕ) (ms : List Mark) (s : Sentence)
+    → along g e ms (draft found.Nothing s) ≡ parsed_tokens g e s (phrase_tokens g ms) (bytes_after g ms)
 unfolding along
 with_no_word g e [] s = refl
 with_no_word g e (m ∷ ms) s = part_of_unknown g e m ms (with_no_word g e ms) s (phrase_part_of g m.token) (means g m.token)
@@ -90,24 +109,32 @@ abbrev parsed_from : GameLists → ℕ → Sentence → Option Phrase → Parsed
 parsed_from g e s None = IsNoPhrase
 parsed_from g e s (Some p) = parsed_tokens g e s p.tokens p.rest
 
-parsed_from-token : (g : GameLists) (e : ℕ) (m : Mark) (ms : List Mark) (s : Sentence) → is_parting g m.token ≡ false → parsed_from g e s (phrase_of g (from_phrase g (m ∷ ms))) ≡ parsed_tokens g e s (token_of m.token ++ phrase_tokens g ms) (bytes_after g ms)
+parsed_from-token : (g : GameLists) (e : ℕ) (m : Mark) (ms : List Mark) (s : Sentence) → is_parting g m.token ≡ false
+    → parsed_from g e s (phrase_of g (from_phrase g (m ∷ ms))) ≡ parsed_tokens g e s (token_of m.token ++ phrase_tokens g ms) (bytes_after g ms)
 parsed_from-token g e m ms s h = rw h (rw h refl)
 
 -- a part before the phrase
-part_of_nothing : (g : GameLists) (e : ℕ) (m : Mark) (ms : List Mark) → ((s : Sentence) → along g e ms (draft found.Empty s) ≡ parsed_from g e s (phrase_of g (from_phrase g ms))) → (s : Sentence) (p : Part) → Means g m.token p → after_part (with_part p (draft found.Empty s)) (draft_outcome e (draft found.Empty s) m.after) (along g e ms) ≡ parsed_from g e s (phrase_of g (from_phrase g (m ∷ ms)))
+part_of_nothing : (g : GameLists) (e : ℕ) (m : Mark) (ms : List Mark)
+    → ((s : Sentence) → along g e ms (draft found.Empty s) ≡ parsed_from g e s (phrase_of g (from_phrase g ms)))
+    → (s : Sentence) (p : Part) → Means g m.token p
+    → after_part (with_part p (draft found.Empty s)) (draft_outcome e (draft found.Empty s) m.after) (along g e ms)
+    ≡ parsed_from g e s (phrase_of g (from_phrase g (m ∷ ms)))
 part_of_nothing g e m ms again s part.Break h = again s ∙ rw h refl
 part_of_nothing g e m ms again s part.Unknown h =
     let ts = phrase_tokens g ms in
     with_no_word g e ms s
-    ∙ sym (parsed_from-token g e m ms s (h.0) ∙ parsed_tokens_are g e s (with_tokens g ts s) (token_of m.token ++ ts) (bytes_after g ms) (has_known g ts) (h.2 ts) (h.1 ts s))
+    ∙ sym (parsed_from-token g e m ms s (h.0) ∙ parsed_tokens_are g e s (with_tokens g ts s) (token_of m.token ++ ts) (bytes_after g ms)
+    (has_known g ts) (h.2 ts) (h.1 ts s))
 part_of_nothing g e m ms again s (part.Word value class) h =
     let ts = phrase_tokens g ms in
     let word = with_word value class s in
     with_known_word g e ms word
-    ∙ sym (parsed_from-token g e m ms s (h.0) ∙ parsed_tokens_are g e s (with_tokens g ts word) (token_of m.token ++ ts) (bytes_after g ms) true (h.2 ts) (h.1 ts s))
+    ∙ sym (parsed_from-token g e m ms s (h.0) ∙ parsed_tokens_are g e s (with_tokens g ts word)
+    (token_of m.token ++ ts) (bytes_after g ms) true (h.2 ts) (h.1 ts s))
 
 -- with no token
-with_no_token : (g : GameLists) (e : ℕ) (ms : List Mark) (s : Sentence) → along g e ms (draft found.Empty s) ≡ parsed_from g e s (phrase_of g (from_phrase g ms))
+with_no_token : (g : GameLists) (e : ℕ) (ms : List Mark) (s : Sentence)
+    → along g e ms (draft found.Empty s) ≡ parsed_from g e s (phrase_of g (from_phrase g ms))
 unfolding along
 with_no_token g e [] s = refl
 with_no_token g e (m ∷ ms) s = part_of_nothing g e m ms (with_no_token g e ms) s (phrase_part_of g m.token) (means g m.token)
@@ -121,7 +148,12 @@ unfolding parsed
 along-started g bytes e n a = with_no_token g e (marks bytes) (blank n a) ∙ parsed_from-phrase g e n a (phrase g bytes)
 
 -- one mark more is read, from the bytes from i on
-pub along-mark : (g : GameLists) (e : ℕ) (s : List ℕ) (i k : ℕ) (t : Option (List ℕ)) (d : Draft) (p : Part) (next : Option Draft) (whole : Parsed) → whole ≡ along g e (marks (drop i s)) d → marks (take (length s - i) (drop i s)) ≡ record { token = t; after = drop k (take (length s - i) (drop i s)) } ∷ marks (drop k (take (length s - i) (drop i s))) → p ≡ phrase_part_of g t → next ≡ with_part p d → whole ≡ after_part next (draft_outcome e d (drop (i + k) s)) (along g e (marks (drop (i + k) s)))
+pub along-mark : (g : GameLists) (e : ℕ) (s : List ℕ) (i k : ℕ) (t : Option (List ℕ)) (d : Draft) (p : Part) (next : Option Draft)
+    (whole : Parsed) → whole ≡ along g e (marks (drop i s)) d
+    → marks (take (length s - i) (drop i s))
+    ≡ record { token = t; after = drop k (take (length s - i) (drop i s)) } ∷ marks (drop k (take (length s - i) (drop i s)))
+    → p ≡ phrase_part_of g t → next ≡ with_part p d
+    → whole ≡ after_part next (draft_outcome e d (drop (i + k) s)) (along g e (marks (drop (i + k) s)))
 unfolding along
 along-mark g e s i k t d p next whole so_far first is_part is_next =
     let here : marks (drop i s) ≡ record { token = t; after = drop (i + k) s } ∷ marks (drop (i + k) s) = rw (take_rest s i, drop-drop k i s) at first in
@@ -131,7 +163,8 @@ along-mark g e s i k t d p next whole so_far first is_part is_next =
     ∙ ap (λ x. after_part x (draft_outcome e d (drop (i + k) s)) go) (sym (is_next ∙ ap (λ q. with_part q d) is_part))
 
 -- no mark is left
-pub along-end : (g : GameLists) (e : ℕ) (s : List ℕ) (i : ℕ) (d : Draft) (whole : Parsed) → whole ≡ along g e (marks (drop i s)) d → marks (take (length s - i) (drop i s)) ≡ [] → whole ≡ draft_outcome e d (drop (length s) s)
+pub along-end : (g : GameLists) (e : ℕ) (s : List ℕ) (i : ℕ) (d : Draft) (whole : Parsed) → whole ≡ along g e (marks (drop i s)) d
+    → marks (take (length s - i) (drop i s)) ≡ [] → whole ≡ draft_outcome e d (drop (length s) s)
 unfolding along
 along-end g e s i d whole so_far none =
     let here : marks (drop i s) ≡ [] = rw take_rest at none in

@@ -1,5 +1,6 @@
 -- The letters of a token, one by one.
-use Rattle.std.proofs.Common.{◌≡◌, ◌<◌, ◌≤◌, ◌+◌, ◌-◌, ℕ, suc, List, [], ◌∷◌, ◌++◌, length, take, replicate, map, get_or, set, refl, sym, ap, ◌∙◌, arith, length-append, append_assoc, add-one}
+use Rattle.std.proofs.Common.{◌≡◌, ◌<◌, ◌≤◌, ◌+◌, ◌-◌, ℕ, suc, List, [], ◌∷◌, ◌++◌, length, take, replicate, map, get_or, set, refl, sym, ap, ◌∙◌}
+use Rattle.std.proofs.Common.{arith, length-append, append_assoc, add-one}
 use Rattle.std.specs.Char.{to_ascii_uppercase}
 use Rattle.std.proofs.Math.Seq.{take-suc}
 use Rattle.std.proofs.lemmas.List.{length-take-le, length-map, map-append, take_all, take-append-le, set_at}
@@ -35,7 +36,8 @@ five_letters-cut run letter h =
     let none : 5 - length (run ++ letter ∷ []) ≡ 5 - length run = omega (arith, length-append run (letter ∷ [])) in
     rw (cut, none) refl
 
-pub letter_kept : (bytes : List ℕ) (n : ℕ) → n < length bytes → n < 5 → set (five_letters (letters_of n bytes)) n (to_ascii_uppercase (get_or bytes n 0)) ≡ five_letters (letters_of (n + 1) bytes)
+pub letter_kept : (bytes : List ℕ) (n : ℕ) → n < length bytes → n < 5
+    → set (five_letters (letters_of n bytes)) n (to_ascii_uppercase (get_or bytes n 0)) ≡ five_letters (letters_of (n + 1) bytes)
 letter_kept bytes n h five =
     let run = letters_of n bytes in
     let letter = to_ascii_uppercase (get_or bytes n 0) in

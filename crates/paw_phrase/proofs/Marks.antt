@@ -1,19 +1,22 @@
 -- How the tokens and separators of some bytes follow one another.
-use Rattle.std.proofs.Common.{◌≡◌, ◌<◌, ◌≤◌, ◌+◌, ℕ, zero, suc, true, false, List, [], ◌∷◌, Some, None, length, drop, set, get_or, refl, sym, ap, ◌∙◌, arith, add-one, add-zero, length-drop, drop-cons}
+use Rattle.std.proofs.Common.{◌≡◌, ◌<◌, ◌≤◌, ◌+◌, ℕ, zero, suc, true, false, List, [], ◌∷◌, Some, None, length, drop, set, get_or, refl, sym, ap, ◌∙◌}
+use Rattle.std.proofs.Common.{arith, add-one, add-zero, length-drop, drop-cons}
 use Rattle.std.specs.Char.{to_ascii_uppercase, is_ascii_alphanumeric}
 use Rattle.std.proofs.lemmas.List.{get_or-drop}
 use Rattle.paw_phrase.specs.Phrase.{is_separator, five_letters, marks_from, marks}
 use Rattle.paw_phrase.proofs.Letters.{letters_of, letters_of-suc, length-letters_of, letter_kept, letter_cut}
 
 -- a byte of a token belongs to the token that has begun
-marks_from-more : (s : List ℕ) (n : ℕ) → n < length s → is_ascii_alphanumeric (get_or s n 0) ≡ true → marks_from (letters_of n s) (drop n s) ≡ marks_from (letters_of (n + 1) s) (drop (n + 1) s)
+marks_from-more : (s : List ℕ) (n : ℕ) → n < length s → is_ascii_alphanumeric (get_or s n 0) ≡ true
+    → marks_from (letters_of n s) (drop n s) ≡ marks_from (letters_of (n + 1) s) (drop (n + 1) s)
 unfolding marks_from
 marks_from-more s n h token =
     ap (marks_from (letters_of n s)) (drop-cons s n 0 h)
     ∙ rw (token, add-one) (ap (λ run. marks_from run (drop (suc n) s)) (sym (letters_of-suc n s h)))
 
 -- a token ends before bytes that don't go on with it
-marks_from-end : (run rest : List ℕ) → 0 < length run → (0 < length rest → is_ascii_alphanumeric (get_or rest 0 0) ≡ false) → marks_from run rest ≡ record { token = Some (five_letters run); after = rest } ∷ marks rest
+marks_from-end : (run rest : List ℕ) → 0 < length run → (0 < length rest → is_ascii_alphanumeric (get_or rest 0 0) ≡ false)
+    → marks_from run rest ≡ record { token = Some (five_letters run); after = rest } ∷ marks rest
 unfolding marks_from
 marks_from-end [] rest begun ends = absurd (omega arith)
 marks_from-end (b ∷ bs) [] begun ends = refl
@@ -23,21 +26,26 @@ marks_from-end (b ∷ bs) (c ∷ cs) begun ends = let other : is_ascii_alphanume
 abbrev pub IsToken : List ℕ → ℕ → List ℕ → Type 0
 IsToken s n letters = (marks s ≡ marks_from (letters_of n s) (drop n s)) × (letters ≡ five_letters (letters_of n s))
 
-pub kept : (s : List ℕ) (n : ℕ) (letters : List ℕ) → IsToken s n letters → n < length s → is_ascii_alphanumeric (get_or s n 0) ≡ true → n < 5 → IsToken s (n + 1) (set letters n (to_ascii_uppercase (get_or s n 0)))
+pub kept : (s : List ℕ) (n : ℕ) (letters : List ℕ) → IsToken s n letters → n < length s → is_ascii_alphanumeric (get_or s n 0) ≡ true → n < 5
+    → IsToken s (n + 1) (set letters n (to_ascii_uppercase (get_or s n 0)))
 kept s n letters so_far h token five = (
   so_far.0 ∙ marks_from-more s n h token,
   ap (λ l. set l n (to_ascii_uppercase (get_or s n 0))) so_far.1 ∙ letter_kept s n h five,
 )
 
-pub cut : (s : List ℕ) (n : ℕ) (letters : List ℕ) → IsToken s n letters → n < length s → is_ascii_alphanumeric (get_or s n 0) ≡ true → 5 ≤ n → IsToken s (n + 1) letters
+pub cut : (s : List ℕ) (n : ℕ) (letters : List ℕ) → IsToken s n letters → n < length s → is_ascii_alphanumeric (get_or s n 0) ≡ true → 5 ≤ n
+    → IsToken s (n + 1) letters
 cut s n letters so_far h token five = (so_far.0 ∙ marks_from-more s n h token, so_far.1 ∙ letter_cut s n h five)
 
-begun : (s : List ℕ) (n : ℕ) → 0 < length s → is_ascii_alphanumeric (get_or s 0 0) ≡ true → (n < length s → is_ascii_alphanumeric (get_or s n 0) ≡ false) → 0 < n
+begun : (s : List ℕ) (n : ℕ) → 0 < length s → is_ascii_alphanumeric (get_or s 0 0) ≡ true
+    → (n < length s → is_ascii_alphanumeric (get_or s n 0) ≡ false) → 0 < n
 begun s zero some token ends = let never = ends some in cc
 begun s (suc n) some token ends = omega arith
 
 -- the token is the first mark
-pub marks-token : (s : List ℕ) (n : ℕ) (letters : List ℕ) → 0 < length s → is_ascii_alphanumeric (get_or s 0 0) ≡ true → n ≤ length s → (n < length s → is_ascii_alphanumeric (get_or s n 0) ≡ false) → IsToken s n letters → marks s ≡ record { token = Some letters; after = drop n s } ∷ marks (drop n s)
+pub marks-token : (s : List ℕ) (n : ℕ) (letters : List ℕ) → 0 < length s → is_ascii_alphanumeric (get_or s 0 0) ≡ true → n ≤ length s
+    → (n < length s → is_ascii_alphanumeric (get_or s n 0) ≡ false) → IsToken s n letters
+    → marks s ≡ record { token = Some letters; after = drop n s } ∷ marks (drop n s)
 marks-token s n letters some token within ends so_far =
     let first : 0 < n = begun s n some token ends in
     so_far.0
@@ -46,11 +54,13 @@ marks-token s n letters some token within ends so_far =
     ∙ ap (λ (l : List ℕ). record { token = Some l; after = drop n s } ∷ marks (drop n s)) (sym so_far.1)
 
 -- a blank leaves no mark
-pub marks-blank : (s : List ℕ) (n : ℕ) → n < length s → is_ascii_alphanumeric (get_or s n 0) ≡ false → is_separator (get_or s n 0) ≡ false → marks (drop n s) ≡ marks (drop (n + 1) s)
+pub marks-blank : (s : List ℕ) (n : ℕ) → n < length s → is_ascii_alphanumeric (get_or s n 0) ≡ false → is_separator (get_or s n 0) ≡ false
+    → marks (drop n s) ≡ marks (drop (n + 1) s)
 unfolding marks_from
 marks-blank s n h other blank = ap marks (drop-cons s n 0 h) ∙ rw (other, blank, add-one) refl
 
-pub marks-separator : (s : List ℕ) (n : ℕ) → n < length s → is_ascii_alphanumeric (get_or s n 0) ≡ false → is_separator (get_or s n 0) ≡ true → marks (drop n s) ≡ record { token = None; after = drop (n + 1) s } ∷ marks (drop (n + 1) s)
+pub marks-separator : (s : List ℕ) (n : ℕ) → n < length s → is_ascii_alphanumeric (get_or s n 0) ≡ false
+    → is_separator (get_or s n 0) ≡ true → marks (drop n s) ≡ record { token = None; after = drop (n + 1) s } ∷ marks (drop (n + 1) s)
 unfolding marks_from
 marks-separator s n h other separator = ap marks (drop-cons s n 0 h) ∙ rw (other, separator, add-one) refl
 

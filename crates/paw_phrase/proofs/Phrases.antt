@@ -1,12 +1,14 @@
 -- What the next phrase leaves of the pending bytes.
-use Rattle.std.proofs.Common.{◌≡◌, ◌<◌, ◌≤◌, ◌+◌, ℕ, suc, Bool, true, false, cond, List, [], ◌∷◌, ◌++◌, None, length, drop, refl, sym, ap, subst, arith, length-drop}
+use Rattle.std.proofs.Common.{◌≡◌, ◌<◌, ◌≤◌, ◌+◌, ℕ, suc, Bool, true, false, cond, List, [], ◌∷◌, ◌++◌, None, length, drop, refl, sym, ap, subst}
+use Rattle.std.proofs.Common.{arith, length-drop}
 use Rattle.std.specs.List.{All}
 use Rattle.std.specs.Char.{to_ascii_uppercase, is_ascii_alphanumeric}
 use Rattle.std.proofs.lemmas.List.{drop_all}
 use Rattle.std.proofs.lemmas.List.Elements.{All-drop}
 use Rattle.paw_game.specs.Game.{GameLists}
 use Rattle.paw_phrase.specs.declared.Sentence.{Sentence}
-use Rattle.paw_phrase.specs.Phrase.{is_separator, Mark, token_mark, separator_mark, marks_from, marks, is_parting, from_phrase, phrase_tokens, bytes_after, phrase_of}
+use Rattle.paw_phrase.specs.Phrase.{is_separator, Mark, token_mark, separator_mark, marks_from, marks, is_parting, from_phrase, phrase_tokens}
+use Rattle.paw_phrase.specs.Phrase.{bytes_after, phrase_of}
 use Rattle.paw_phrase.specs.Sentence.{has_known, sentence, Parsed, IsSentence, IsUnknown, IsNoPhrase, parsed_phrase, parsed}
 
 -- the bytes that stay pending: those behind the first few
@@ -17,7 +19,9 @@ pub record IsRest (pending rest : List ℕ) : Type 0 where
   pub is : rest ≡ drop from pending
 
 pub rest-shorter : (pending rest : List ℕ) → IsRest pending rest → length rest < length pending
-rest-shorter pending rest h = let long : length rest ≡ length (drop h.from pending) = ap length h.is in omega (arith, length-drop h.from pending, h.some, h.within)
+rest-shorter pending rest h =
+    let long : length rest ≡ length (drop h.from pending) = ap length h.is in
+    omega (arith, length-drop h.from pending, h.some, h.within)
 
 pub rest-all : (P : ℕ → Type 0) (pending rest : List ℕ) → IsRest pending rest → All P pending → All P rest
 rest-all P pending rest h all = subst (All P) (sym h.is) (All-drop P h.from pending all)
@@ -66,12 +70,16 @@ unfolding marks_from
 marks_from-behind [] run = token_mark-behind run []
 marks_from-behind (b ∷ bs) run =
     let longer = run ++ to_ascii_uppercase b ∷ [] in
-    elim (is_ascii_alphanumeric b) as (λ v. Each (IsBehind (length run) (b ∷ bs)) (cond v (marks_from longer bs) (token_mark run (b ∷ bs) ++ separator_mark b bs ++ marks_from [] bs))) [
-      | true ↦ Each-map (IsBehind (length longer) bs) (IsBehind (length run) (b ∷ bs)) (λ after. behind-more (length longer) (length run) b bs after) (marks_from longer bs) (marks_from-behind bs longer)
+    elim (is_ascii_alphanumeric b) as (λ v. Each (IsBehind (length run) (b ∷ bs))
+    (cond v (marks_from longer bs) (token_mark run (b ∷ bs) ++ separator_mark b bs ++ marks_from [] bs))) [
+      | true ↦ Each-map (IsBehind (length longer) bs) (IsBehind (length run) (b ∷ bs))
+          (λ after. behind-more (length longer) (length run) b bs after) (marks_from longer bs) (marks_from-behind bs longer)
       | false ↦
           Each-append (IsBehind (length run) (b ∷ bs)) (token_mark run (b ∷ bs) ++ separator_mark b bs) (marks_from [] bs)
-          (Each-append (IsBehind (length run) (b ∷ bs)) (token_mark run (b ∷ bs)) (separator_mark b bs) (token_mark-behind run (b ∷ bs)) (separator_mark-behind (length run) b bs))
-          (Each-map (IsBehind 0 bs) (IsBehind (length run) (b ∷ bs)) (λ after. behind-more 0 (length run) b bs after) (marks_from [] bs) (marks_from-behind bs []))
+          (Each-append (IsBehind (length run) (b ∷ bs)) (token_mark run (b ∷ bs)) (separator_mark b bs)
+          (token_mark-behind run (b ∷ bs)) (separator_mark-behind (length run) b bs))
+          (Each-map (IsBehind 0 bs) (IsBehind (length run) (b ∷ bs)) (λ after. behind-more 0 (length run) b bs after) (marks_from [] bs)
+          (marks_from-behind bs []))
     ]
 
 rest_from : (s after : List ℕ) → IsBehind 0 s after → IsRest s after
@@ -98,7 +106,8 @@ leaves : (P : List ℕ → Type 0) (b : Bool) (s : Sentence) (rest : List ℕ) �
 leaves P true s rest h = h
 leaves P false s rest h = h
 
-parsed_phrase-rest : (g : GameLists) (pending : List ℕ) (e n a : ℕ) (ms : List Mark) → Each (IsRest pending) ms → Leaves (IsRest pending) (parsed_phrase g e n a (phrase_of g ms))
+parsed_phrase-rest : (g : GameLists) (pending : List ℕ) (e n a : ℕ) (ms : List Mark) → Each (IsRest pending) ms
+    → Leaves (IsRest pending) (parsed_phrase g e n a (phrase_of g ms))
 parsed_phrase-rest g pending e n a [] h = tt
 parsed_phrase-rest g pending e n a (m ∷ ms) h =
     leaves (IsRest pending) (has_known g (phrase_tokens g (m ∷ ms))) (sentence g (phrase_tokens g (m ∷ ms)) e n a) (bytes_after g (m ∷ ms))
@@ -107,7 +116,8 @@ parsed_phrase-rest g pending e n a (m ∷ ms) h =
 -- what stays pending is what stands behind the first few bytes
 pub parsed-rest : (g : GameLists) (pending : List ℕ) (earlier noun adjective : ℕ) → Leaves (IsRest pending) (parsed g pending earlier noun adjective)
 unfolding parsed
-parsed-rest g pending e n a = parsed_phrase-rest g pending e n a (from_phrase g (marks pending)) (from_phrase-each (IsRest pending) g (marks pending) (marks-rest pending))
+parsed-rest g pending e n a = parsed_phrase-rest g pending e n a (from_phrase g (marks pending))
+    (from_phrase-each (IsRest pending) g (marks pending) (marks-rest pending))
 
 leaves-map : (P Q : List ℕ → Type 0) → ((rest : List ℕ) → P rest → Q rest) → (p : Parsed) → Leaves P p → Leaves Q p
 leaves-map P Q f (IsSentence s rest) h = f rest h
@@ -115,13 +125,16 @@ leaves-map P Q f (IsUnknown rest) h = f rest h
 leaves-map P Q f IsNoPhrase h = tt
 
 -- a phrase that is taken makes what is pending shorter
-pub parsed-shorter : (g : GameLists) (pending : List ℕ) (earlier noun adjective : ℕ) → Leaves (λ rest. length rest < length pending) (parsed g pending earlier noun adjective)
+pub parsed-shorter : (g : GameLists) (pending : List ℕ) (earlier noun adjective : ℕ)
+    → Leaves (λ rest. length rest < length pending) (parsed g pending earlier noun adjective)
 parsed-shorter g pending e n a =
     leaves-map (IsRest pending) (λ rest. length rest < length pending) (rest-shorter pending) (parsed g pending e n a) (parsed-rest g pending e n a)
 
 -- the same for a phrase that is known to be a sentence, or unknown
-pub sentence-rest : (g : GameLists) (pending : List ℕ) (earlier noun adjective : ℕ) (s : Sentence) (rest : List ℕ) → parsed g pending earlier noun adjective ≡ IsSentence s rest → IsRest pending rest
+pub sentence-rest : (g : GameLists) (pending : List ℕ) (earlier noun adjective : ℕ) (s : Sentence) (rest : List ℕ)
+    → parsed g pending earlier noun adjective ≡ IsSentence s rest → IsRest pending rest
 sentence-rest g pending e n a s rest is = subst (Leaves (IsRest pending)) is (parsed-rest g pending e n a)
 
-pub unknown-rest : (g : GameLists) (pending : List ℕ) (earlier noun adjective : ℕ) (rest : List ℕ) → parsed g pending earlier noun adjective ≡ IsUnknown rest → IsRest pending rest
+pub unknown-rest : (g : GameLists) (pending : List ℕ) (earlier noun adjective : ℕ) (rest : List ℕ)
+    → parsed g pending earlier noun adjective ≡ IsUnknown rest → IsRest pending rest
 unknown-rest g pending e n a rest is = subst (Leaves (IsRest pending)) is (parsed-rest g pending e n a)

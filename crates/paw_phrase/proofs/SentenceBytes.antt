@@ -9,7 +9,8 @@ use Rattle.paw_game.specs.Valid.{are_letters, is_within, is_word, words_rise, Va
 use Rattle.paw_game.specs.Tables.{word_of, meaning_of, word_at}
 use Rattle.paw_phrase.specs.declared.Sentence.{Sentence}
 use Rattle.paw_phrase.specs.Phrase.{Phrase, phrase}
-use Rattle.paw_phrase.specs.Sentence.{blank, or_value, with_noun, with_adjective, with_pronoun, with_word, with_known, with_tokens, has_known, with_verb, with_meaning, sentence, Parsed, IsSentence, IsUnknown, IsNoPhrase, parsed_phrase, parsed}
+use Rattle.paw_phrase.specs.Sentence.{blank, or_value, with_noun, with_adjective, with_pronoun, with_word, with_known, with_tokens, has_known}
+use Rattle.paw_phrase.specs.Sentence.{with_verb, with_meaning, sentence, Parsed, IsSentence, IsUnknown, IsNoPhrase, parsed_phrase, parsed}
 
 -- each part of the sentence is a byte
 pub record AreBytes (s : Sentence) : Type 0 where
@@ -124,7 +125,8 @@ with_tokens-bytes g (token ∷ tokens) s valid k =
     with_tokens-bytes g tokens (with_known (word_at g token) s) valid (with_known-bytes (word_at g token) s (word_at-byte g token valid) k)
 
 -- a sentence of bytes, where the bytes of the pronoun and the earlier verb are
-pub sentence-bytes : (g : GameLists) (tokens : List (List ℕ)) (earlier noun adjective : ℕ) → Valid g → earlier < 256 → noun < 256 → adjective < 256 → AreBytes (sentence g tokens earlier noun adjective)
+pub sentence-bytes : (g : GameLists) (tokens : List (List ℕ)) (earlier noun adjective : ℕ) → Valid g → earlier < 256 → noun < 256 → adjective < 256
+    → AreBytes (sentence g tokens earlier noun adjective)
 sentence-bytes g tokens e n a valid he hn ha =
     let words = with_tokens g tokens (blank n a) in
     with_meaning-bytes (with_verb e words) (with_verb-bytes e words he (with_tokens-bytes g tokens (blank n a) valid (blank-bytes n a hn ha)))
@@ -145,7 +147,8 @@ parsed_phrase-bytes g e n a valid he hn ha (Some p) =
     gives AreBytes (has_known g p.tokens) (sentence g p.tokens e n a) p.rest (sentence-bytes g p.tokens e n a valid he hn ha)
 
 -- the sentence that is parsed is one of bytes
-pub parsed-bytes : (g : GameLists) (pending : List ℕ) (earlier noun adjective : ℕ) (s : Sentence) (rest : List ℕ) → Valid g → earlier < 256 → noun < 256 → adjective < 256 → parsed g pending earlier noun adjective ≡ IsSentence s rest → AreBytes s
+pub parsed-bytes : (g : GameLists) (pending : List ℕ) (earlier noun adjective : ℕ) (s : Sentence) (rest : List ℕ) → Valid g → earlier < 256
+    → noun < 256 → adjective < 256 → parsed g pending earlier noun adjective ≡ IsSentence s rest → AreBytes s
 unfolding parsed
 parsed-bytes g pending e n a s rest valid he hn ha is =
     subst (Gives AreBytes) is (parsed_phrase-bytes g e n a valid he hn ha (phrase g pending))

@@ -1,12 +1,13 @@
 use crate::{Found, Pending, Sentence, next_phrase};
 use paw_base::limits::LINE_LIMIT;
+use paw_base::words::NO_WORD;
 use paw_game::game::Game;
 use paw_game::parts::{Exits, GameParts, Table, Text, Word};
-use std::alloc::{AllocError, Global};
+use std::alloc::Global;
 use std::process::Abort;
 use std::test::Fail;
 
-/// The words of a small game, by their letters.
+/// The words of a small game, by their letters: letters, value, class.
 const WORDS: [([u8; 5], u8, u8); 38] = [
     (*b"ALL  ", 20, 2),
     (*b"AND  ", 2, 5),
@@ -48,51 +49,25 @@ const WORDS: [([u8; 5], u8, u8); 38] = [
     (*b"WEAR ", 32, 0),
 ];
 
-fn words(alloc: Global) -> Result<Vec<Word>, AllocError> {
-    let mut words = Vec::new(alloc);
-    for (letters, value, class) in WORDS {
-        words.push(Word {
-            letters,
-            value,
-            class,
-        })?;
-    }
-    Ok(words)
-}
-
-fn empty_tables(alloc: Global) -> Result<Vec<Table>, AllocError> {
-    let mut tables = Vec::new(alloc);
-    for _ in 0..3 {
-        tables.push(Table {
-            entries: Vec::new(alloc),
-        })?;
-    }
-    Ok(tables)
-}
-
 fn game(alloc: Global) -> Result<Game, Fail> {
-    let mut locations = Vec::new(alloc);
-    locations.push(Text {
-        bytes: Vec::new(alloc),
-    })?;
-    let mut exits = Vec::new(alloc);
-    exits.push(Exits {
-        rows: Vec::new(alloc),
-    })?;
+    let words = WORDS
+        .iter()
+        .map(|&(letters, value, class)| Word::new(letters, value, class))
+        .collect(alloc)?;
     let game = Game::new(GameParts {
-        words: words(alloc)?,
+        words,
         system: Vec::new(alloc),
         messages: Vec::new(alloc),
         objects: Vec::new(alloc),
-        locations,
-        exits,
-        tables: empty_tables(alloc)?,
+        locations: vec![in alloc; Text::new(alloc)]?,
+        exits: vec![in alloc; Exits::new(alloc)]?,
+        tables: vec![in alloc; Table::new(alloc), Table::new(alloc), Table::new(alloc)]?,
     })?;
     Ok(game)
 }
 
 /// No word.
-const N: u8 = 255;
+const N: u8 = NO_WORD;
 
 /// The verb before each line of the tables.
 const EARLIER: u8 = 30;

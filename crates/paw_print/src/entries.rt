@@ -11,6 +11,7 @@ use crate::rows::{Written, end_line, write_number, write_token};
 use crate::vocabulary::Vocabulary;
 use paw_base::parts::Condact;
 use paw_base::rows::{ParamKind, condact_row};
+use paw_base::words::{ADJECTIVE_CLASS, ADVERB_CLASS, NOUN_CLASS, PREPOSITION_CLASS};
 use paw_game::parts::{Entry, Table};
 
 /// Writes a parameter behind one space; nothing where the condact has none.
@@ -25,10 +26,10 @@ fn write_parameter(
 {
     match kind {
         ParamKind::Absent => Ok(()),
-        ParamKind::Adverb => vocabulary.write_adverb(value, out),
-        ParamKind::Noun => vocabulary.write_noun(value, out),
-        ParamKind::Adjective => vocabulary.write_adjective(value, out),
-        ParamKind::Preposition => vocabulary.write_preposition(value, out),
+        ParamKind::Adverb => vocabulary.write_value_of(ADVERB_CLASS, value, out),
+        ParamKind::Noun => vocabulary.write_value_of(NOUN_CLASS, value, out),
+        ParamKind::Adjective => vocabulary.write_value_of(ADJECTIVE_CLASS, value, out),
+        ParamKind::Preposition => vocabulary.write_value_of(PREPOSITION_CLASS, value, out),
         _ => write_number(value as usize, out),
     }
 }
@@ -64,7 +65,7 @@ fn write_head(vocabulary: &Vocabulary, entry: &Entry, out: &mut Vec<u8>) -> Writ
         (out.new.items ≡ out.old.items ++ with_line_end (spaced (entry_tokens vocabulary.now entry.now))) }
 {
     vocabulary.write_verb(entry.verb, out)?;
-    vocabulary.write_noun(entry.noun, out)?;
+    vocabulary.write_value_of(NOUN_CLASS, entry.noun, out)?;
     end_line(out)
 }
 

@@ -7,6 +7,7 @@ ghost use Rattle.paw_print.specs.Canonical.{with_line_end, objects_lines, writte
 use crate::rows::{Written, end_line, write_digits, write_header, write_number, write_token};
 use crate::vocabulary::Vocabulary;
 use paw_base::parts::ObjectFacts;
+use paw_base::words::{ADJECTIVE_CLASS, NOUN_CLASS};
 use paw_game::parts::ObjectRow;
 
 /// The kind of an object: whether it is a container, and whether it may be worn.
@@ -44,8 +45,8 @@ fn write_object(
 {
     write_digits(number, out)?;
     write_place_and_kind(facts, out)?;
-    vocabulary.write_noun(facts.noun, out)?;
-    vocabulary.write_adjective(facts.adjective, out)?;
+    vocabulary.write_value_of(NOUN_CLASS, facts.noun, out)?;
+    vocabulary.write_value_of(ADJECTIVE_CLASS, facts.adjective, out)?;
     end_line(out)
 }
 

@@ -3,11 +3,12 @@
 ghost use Rattle.std.specs.Prelude.{◌≡◌, ◌≤◌, ◌++◌, ◌∷◌, ◌==◌, OnOk, length, map};
 ghost use Rattle.std.specs.List.{position_or_len};
 ghost use Rattle.paw_print.specs.Lines.{class_name, spelled_letters, letters_or_none, spaced};
-ghost use Rattle.paw_print.specs.Lines.{value_token, verb_token, word_token, word_tokens};
+ghost use Rattle.paw_print.specs.Lines.{first_word, value_token, verb_token, word_token, word_tokens};
 ghost use Rattle.paw_print.specs.Canonical.{with_line_end, words_lines, written};
 ghost use Rattle.paw_print.specs.inner.Words.{TellsFirst};
 
 use crate::rows::{Written, end_line, write_header, write_number, write_token};
+use paw_base::words::{ADJECTIVE_CLASS, ADVERB_CLASS, NOUN_CLASS, PREPOSITION_CLASS, VERB_CLASS};
 use paw_game::parts::Word;
 use std::marker::Model;
 
@@ -46,11 +47,11 @@ impl<'a> Vocabulary<'a> {
     {
         Vocabulary {
             words,
-            verbs: first_words(words, 0),
-            adverbs: first_words(words, 1),
-            nouns: first_words(words, 2),
-            adjectives: first_words(words, 3),
-            prepositions: first_words(words, 4),
+            verbs: first_words(words, VERB_CLASS),
+            adverbs: first_words(words, ADVERB_CLASS),
+            nouns: first_words(words, NOUN_CLASS),
+            adjectives: first_words(words, ADJECTIVE_CLASS),
+            prepositions: first_words(words, PREPOSITION_CLASS),
         }
     }
 
@@ -66,40 +67,37 @@ impl<'a> Vocabulary<'a> {
         Ok(())
     }
 
+    /// The first word of a class with a value, where the words of the class stand in lines: verbs, adverbs, nouns,
+    /// adjectives and prepositions.
+    fn first_word(&self, class: u8, value: u8) -> Option<Word>
+        requires class { class ≤ 4 }
+        ensures word { result ≡ first_word self.now class value }
+    {
+        let place = value as usize;
+        match class {
+            VERB_CLASS => self.verbs[place],
+            ADVERB_CLASS => self.adverbs[place],
+            NOUN_CLASS => self.nouns[place],
+            ADJECTIVE_CLASS => self.adjectives[place],
+            _ => self.prepositions[place],
+        }
+    }
+
     /// Writes the token of a verb value.
     pub(crate) fn write_verb(&self, value: u8, out: &mut Vec<u8>) -> Written
         ensures writes { OnOk result (out.new.items ≡ out.old.items ++ verb_token self.now value) }
     {
-        let verb = self.verbs[value as usize];
-        write_value(value, verb.or(self.nouns[value as usize]), out)
+        let verb = self.first_word(VERB_CLASS, value);
+        write_value(value, verb.or(self.first_word(NOUN_CLASS, value)), out)
     }
 
-    /// Writes the token of an adverb's value behind one space.
-    pub(crate) fn write_adverb(&self, value: u8, out: &mut Vec<u8>) -> Written
-        ensures writes { OnOk result (out.new.items ≡ out.old.items ++ 32 ∷ value_token self.now 1 value) }
+    /// Writes the token of a value of a class behind one space.
+    pub(crate) fn write_value_of(&self, class: u8, value: u8, out: &mut Vec<u8>) -> Written
+        requires class { class ≤ 4 }
+        ensures writes { OnOk result (out.new.items ≡ out.old.items ++ 32 ∷ value_token self.now class value) }
     {
-        write_word_of(value, self.adverbs[value as usize], out)
-    }
-
-    /// Writes the token of a noun's value behind one space.
-    pub(crate) fn write_noun(&self, value: u8, out: &mut Vec<u8>) -> Written
-        ensures writes { OnOk result (out.new.items ≡ out.old.items ++ 32 ∷ value_token self.now 2 value) }
-    {
-        write_word_of(value, self.nouns[value as usize], out)
-    }
-
-    /// Writes the token of an adjective's value behind one space.
-    pub(crate) fn write_adjective(&self, value: u8, out: &mut Vec<u8>) -> Written
-        ensures writes { OnOk result (out.new.items ≡ out.old.items ++ 32 ∷ value_token self.now 3 value) }
-    {
-        write_word_of(value, self.adjectives[value as usize], out)
-    }
-
-    /// Writes the token of a preposition's value behind one space.
-    pub(crate) fn write_preposition(&self, value: u8, out: &mut Vec<u8>) -> Written
-        ensures writes { OnOk result (out.new.items ≡ out.old.items ++ 32 ∷ value_token self.now 4 value) }
-    {
-        write_word_of(value, self.prepositions[value as usize], out)
+        out.push(b' ')?;
+        write_value(value, self.first_word(class, value), out)
     }
 }
 
@@ -126,14 +124,6 @@ fn write_value(value: u8, word: Option<Word>, out: &mut Vec<u8>) -> Written
         255 => out.extend_from_slice(b"_"),
         _ => write_letters(word, out),
     }
-}
-
-/// Writes what stands for a value behind one space.
-fn write_word_of(value: u8, word: Option<Word>, out: &mut Vec<u8>) -> Written
-    ensures writes { OnOk result (out.new.items ≡ out.old.items ++ 32 ∷ word_token value word) }
-{
-    out.push(b' ')?;
-    write_value(value, word, out)
 }
 
 /// Writes the letters of a word; nothing where there is none.

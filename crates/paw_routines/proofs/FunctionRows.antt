@@ -55,7 +55,8 @@ stand_for {F} calls f g count small callable gives = record {
   answers = λ n x y below low byte called. value_at-rows_of g count n x below low ∙ ap (λ (z : ℕ). Some z) (sym (gives n x y below low byte called));
 }
 
-in_row : (rows : List (List ℕ)) (n : ℕ) (found : Option (List ℕ)) → slice_get rows n ≡ found → All (λ row. length row ≡ 256) rows → All (λ row. All (λ y. y < 256) row) rows
+in_row : (rows : List (List ℕ)) (n : ℕ) (found : Option (List ℕ)) → slice_get rows n ≡ found
+    → All (λ row. length row ≡ 256) rows → All (λ row. All (λ y. y < 256) row) rows
     → (x y : ℕ) → x < 256 → value_in found x ≡ Some y → y < 256
 in_row rows n None e whole bytes x y small at = absurd (none-some y at)
 in_row rows n (Some row) e whole bytes x y small at =

@@ -1,1 +1,2 @@
 pub mod FunctionRows
+pub mod ThreeRoutines

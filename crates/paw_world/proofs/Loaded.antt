@@ -10,7 +10,8 @@ saved_for objects saved q is alike = rw is at alike
 
 -- the position has as many places, and the flags are as many as before
 pub parts_loaded : (facts : List ObjectFacts) (flags places : List ℕ) (saved : Option Position)
-    (kept : List (Option Position)) (q : Position) (n : ℕ) (front moved : List ℕ) → IsStored facts flags places saved kept → saved ≡ Some q → n < 256 → front ≡ take (n + 1) q.flags → moved ≡ q.places
+    (kept : List (Option Position)) (q : Position) (n : ℕ) (front moved : List ℕ) → IsStored facts flags places saved kept → saved ≡ Some q
+    → n < 256 → front ≡ take (n + 1) q.flags → moved ≡ q.places
     → IsStored facts (front ++ drop (n + 1) flags) moved saved kept
 parts_loaded facts flags places saved kept q n front moved parts is small first all =
     let alike = saved_for (length places) saved q is parts.saved_alike in
@@ -37,7 +38,8 @@ with_parts facts locations saved kept seed draws flags places objects = record {
 }
 
 pub loaded_is : (facts : List ObjectFacts) (locations : ℕ) (flags places : List ℕ) (saved : Option Position)
-    (kept : List (Option Position)) (seed draws : ℕ) (q : Position) (n : ℕ) (front moved : List ℕ) → IsSavedFor (length places) saved → saved ≡ Some q → front ≡ take (n + 1) q.flags → moved ≡ q.places
+    (kept : List (Option Position)) (seed draws : ℕ) (q : Position) (n : ℕ) (front moved : List ℕ) → IsSavedFor (length places) saved
+    → saved ≡ Some q → front ≡ take (n + 1) q.flags → moved ≡ q.places
     → with_parts facts locations saved kept seed draws (front ++ drop (n + 1) flags) moved (length moved)
     ≡ ramloaded (with_parts facts locations saved kept seed draws flags places (length places)) n
 loaded_is facts locations flags places saved kept seed draws q n front moved alike is first all =

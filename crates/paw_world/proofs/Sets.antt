@@ -62,7 +62,8 @@ module _ (sets : List (List ℕ)) (n : ℕ) (places : List ℕ) (sound : AreSets
     }
 
   -- object o moves from its place to p
-  module _ (o p : ℕ) (without moved : List ℕ) (small : p < 256) (from : get_or places o 0 < 256) (known : o < n) (removed : Removes o (get_or sets (get_or places o 0) []) without)
+  module _ (o p : ℕ) (without moved : List ℕ) (small : p < 256) (from : get_or places o 0 < 256) (known : o < n)
+      (removed : Removes o (get_or sets (get_or places o 0) []) without)
       (inserted : Inserts o (get_or (set sets (get_or places o 0) without) p []) moved) where
     -- between the two writes the object is in no set, and each other object where it was
     gone : (q : ℕ) → q < 256 → stands_in (set sets (get_or places o 0) without) q o ≡ 0
@@ -102,7 +103,8 @@ module _ (sets : List (List ℕ)) (n : ℕ) (places : List ℕ) (sound : AreSets
       for_each = length-set (set sets (get_or places o 0) without) p moved ∙ still_all;
       inside = λ q k below less. elim (cases_eq k o) [
         | inl same ↦ ap (stands_in (set (set sets (get_or places o 0) without) p moved) q) same
-            ∙ (mover q below ∙ ap (λ (r : ℕ). at_place r q) (sym (ap (λ (j : ℕ). get_or (set places o p) j 0) same ∙ get_or-set_same places o p 0 (omega arith))))
+            ∙ (mover q below ∙ ap (λ (r : ℕ). at_place r q) (sym (ap (λ (j : ℕ). get_or (set places o p) j 0) same
+            ∙ get_or-set_same places o p 0 (omega arith))))
         | inr other ↦ stays q k below (omega arith) other ∙ (sound.inside q k below less
             ∙ ap (λ (r : ℕ). at_place r q) (sym (get_or-set_other places o k p 0 other)))
       ];

@@ -10,4 +10,10 @@ exits_fault-requires c =
     let few : length c.as_slice-3.result.now ≤ 252 =
     few_locations _ (ap (fault_in part.Locations) (sym c.texts_fault-locations.ensures.value) ∙ sym c.in_ok-within-5.ensures.value) in
     let locations = λ (g : GameLists). length g.locations in
-    omega (arith, few, ap (λ (ts : List (List ℕ)). length ts) c.as_slice-3.ensures.value, ap locations c.parts.view_is, ap locations c.new-inspector.ensures.value)
+    omega (
+      arith,
+      few,
+      ap (λ (ts : List (List ℕ)). length ts) c.as_slice-3.ensures.value,
+      ap locations c.parts.view_is,
+      ap locations c.new-inspector.ensures.value,
+    )

@@ -5,5 +5,5 @@ use Rattle.paw_gen.proofs.lines.lines_of.Goals as goal
 
 pub loop-number-preserved : goal.loop-number-preserved
 loop-number-preserved c =
-    pushed trial_line [] c.loop-number.number c.loop-number.lines.items c.push.new.self.items c.in_ok-bytes.bytes.items
-    c.loop-number.invariant (c.in_ok-bytes.ensures.items ∙ c.line_at.ensures) c.in_ok-push.ensures.items
+    pushed trial_line [] c.loop-number.number c.loop-number.lines.items c.push.new.self.items c.in_ok-from_slice.field-0
+    c.loop-number.invariant (c.in_ok-from_slice.ensures.value ∙ c.line_at.ensures) c.in_ok-push.ensures.items

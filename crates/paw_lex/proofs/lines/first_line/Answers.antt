@@ -14,9 +14,11 @@ pub returns-clause-lines : goal.returns-clause-lines
 returns-clause-lines c =
     let len = length-take-le c.place_of_first-end.result c.args.text.now c.place_of_first-end.ensures.within in
     let cut = rw len at c.len_without_return.ensures.cut in
-    line_before_lf c.args.text.now c.place_of_first-end.result c.len_without_return.result c.place_of_first-end.ensures.value (omega arith) (omega arith) c.len_without_return.ensures.value
+    line_before_lf c.args.text.now c.place_of_first-end.result c.len_without_return.result c.place_of_first-end.ensures.value (omega arith)
+    (omega arith) c.len_without_return.ensures.value
 
 pub returns-clause-line_end : goal.returns-clause-line_end
 returns-clause-line_end c =
     let len = length-take-le c.place_of_first-end.result c.args.text.now c.place_of_first-end.ensures.within in
-    inl (line_end_at c.args.text.now c.place_of_first-end.result c.len_without_return.result c.place_of_first-end.ensures.value (omega arith) (rw len at c.len_without_return.ensures.cut))
+    inl (line_end_at c.args.text.now c.place_of_first-end.result c.len_without_return.result c.place_of_first-end.ensures.value
+    (omega arith) (rw len at c.len_without_return.ensures.cut))

@@ -6,7 +6,8 @@ use Rattle.paw_lex.proofs.tokens.next_token.Goals as goal
 pub returns-in-Some-clause-tokens : goal.returns-in-Some-clause-tokens
 returns-in-Some-clause-tokens c =
     let len = length-take (c.args.line.now.to - c.args.from) (drop c.args.from c.args.source.now) in
-    next_token_at c.args.source.now c.args.from c.args.line.now.to c.in-Some.token.from c.in-Some.token.to (omega (arith, c.in-Some.ensures.places)) (omega (arith, c.in-Some.ensures.places, len)) c.in-Some.ensures.tokens
+    next_token_at c.args.source.now c.args.from c.args.line.now.to c.in-Some.token.from c.in-Some.token.to
+    (omega (arith, c.in-Some.ensures.places)) (omega (arith, c.in-Some.ensures.places, len)) c.in-Some.ensures.tokens
 
 pub returns-in-Some-clause-blanks : goal.returns-in-Some-clause-blanks
 returns-in-Some-clause-blanks c =

@@ -9,8 +9,11 @@ use Rattle.paw_phrase.proofs.next.read_phrase.Goals as goal
 pub loop-mark-init : goal.loop-mark-init
 loop-mark-init g c =
     let game = g.T.Tables.game c.args.tables.now in
-    let s = c.args.bytes.now in
-    (omega arith, λ e. sym (ap (λ x. along game e (marks s) (record { found = found.Empty; words = x })) c.blank.ensures.value ∙ along-started game s e c.args.noun c.args.adjective))
+    let s = c.args.bytes.now in (
+      omega arith,
+      λ e. sym (ap (λ x. along game e (marks s) (record { found = found.Empty; words = x })) c.blank.ensures.value
+          ∙ along-started game s e c.args.noun c.args.adjective),
+    )
 
 pub loop-mark-preserved : goal.loop-mark-preserved
 loop-mark-preserved g c =
@@ -19,7 +22,8 @@ loop-mark-preserved g c =
     let within = rw (take_rest s c.loop-mark.end) at c.in-Some.ensures.within in (
       omega (arith, length-drop c.loop-mark.end s, within),
       λ e. along-mark game e s c.loop-mark.end c.in-Some.mark.end c.in-Some.mark.token c.loop-mark.draft c.part_of.result (Some c.in-Some-with.longer)
-          (parsed game s e c.args.noun c.args.adjective) (c.loop-mark.invariant.1 e) c.in-Some.ensures.value c.part_of.ensures.value c.in-Some-with.ensures.value,
+          (parsed game s e c.args.noun c.args.adjective) (c.loop-mark.invariant.1 e) c.in-Some.ensures.value c.part_of.ensures.value
+          c.in-Some-with.ensures.value,
     )
 
 pub returns-in-None-clause-value : goal.returns-in-None-clause-value

@@ -15,4 +15,9 @@ told x y byte h = omega (arith, byte, h)
 
 pub new-routines-requires : goal.new-routines-requires
 unfolding given
-new-routines-requires g c = record { rows = (rows_of given 5, stand_for _ _ given 5 (λ n x below small. given_small n x) (λ n x below small. tt) (λ n x y below small byte called. told x y byte called)) }
+new-routines-requires g c = record {
+  rows = (
+    rows_of given 5,
+    stand_for _ _ given 5 (λ n x below small. given_small n x) (λ n x below small. tt) (λ n x y below small byte called. told x y byte called),
+  );
+}

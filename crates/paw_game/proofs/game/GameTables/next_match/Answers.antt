@@ -4,7 +4,11 @@ use Rattle.paw_game.proofs.game.GameTables.next_match.Goals as goal
 
 pub overflow_cast-result : goal.overflow_cast-result
 overflow_cast-result c =
-    omega (arith, match-small c.self.inside.parts c.self.invariant c.args.table c.args.from c.args.verb c.args.noun c.in_ok-entry.entry (sym c.in_ok-entry.ensures.value))
+    omega (
+      arith,
+      match-small c.self.inside.parts c.self.invariant c.args.table c.args.from c.args.verb c.args.noun c.in_ok-entry.entry
+          (sym c.in_ok-entry.ensures.value),
+    )
 
 pub returns-clause-reached : goal.returns-clause-reached
 returns-clause-reached c =

@@ -6,4 +6,5 @@ pub returns-clause-short : goal.returns-clause-short
 returns-clause-short c =
     let is = rw c.self.view_is at c.text_at.ensures.value in
     let valid = rw c.self.view_is at c.self.invariant in
-    IfSome-copied (λ text. length text ≤ 4095) c.text_at.result _ is (λ text e. text-short text (text_kept c.args.self.now valid c.args.part c.args.number text e))
+    IfSome-copied (λ text. length text ≤ 4095) c.text_at.result _ is
+    (λ text e. text-short text (text_kept c.args.self.now valid c.args.part c.args.number text e))

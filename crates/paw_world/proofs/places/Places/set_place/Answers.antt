@@ -8,10 +8,18 @@ pub invariant_of-self : goal.invariant_of-self
 invariant_of-self c =
     relocated_at c.self.inside.sets c.self.inside.count c.self.inside.places c.args.o c.args.p c.index-self-old.result c.index-self-p.result c.without.result
     c.with.result c.self.invariant (omega arith) (omega arith)
-    (omega (arith, count_is c.self.inside.count c.self.inside.places c.args.self.now c.self.view_is (omega (arith, c.self.invariant.few, c.self.invariant.room))))
+    (omega (
+      arith,
+      count_is c.self.inside.count c.self.inside.places c.args.self.now c.self.view_is
+          (omega (arith, c.self.invariant.few, c.self.invariant.room)),
+    ))
     c.without.ensures c.with.ensures
 
 pub returns : goal.returns
 returns c =
-    let less : c.args.o < c.self.inside.count = (omega (arith, count_is c.self.inside.count c.self.inside.places c.args.self.now c.self.view_is (omega (arith, c.self.invariant.few, c.self.invariant.room)))) in
+    let less : c.args.o < c.self.inside.count = (omega (
+      arith,
+      count_is c.self.inside.count c.self.inside.places c.args.self.now
+          c.self.view_is (omega (arith, c.self.invariant.few, c.self.invariant.room)),
+    )) in
     take-set-lt c.self.inside.count c.self.inside.places c.args.o c.args.p less ∙ ap (λ l. set l c.args.o c.args.p) c.self.view_is

@@ -3,7 +3,9 @@ use Rattle.paw_world.specs.Weight.{weight_down}
 use Rattle.paw_world.proofs.Weighed.{weight_own, weight_none_left, weight_contents, no_container, weightless, heavy_container}
 use Rattle.paw_world.proofs.Contents.{weights_above, weights_above-some, weights_above-none}
 use Rattle.paw_world.proofs.world.World.+weigh.Goals as goal
-use Rattle.paw_world.proofs.world.World.+weigh.Goals.{weight_down-then-levels-eq0-via-then-levels-eq0, weight_down-then-levels-eq0-via-else-levels-eq0+then-not-facts, weight_down-then-levels-eq0-via-else-levels-eq0+else-not-facts+then-facts-eq0}
+use Rattle.paw_world.proofs.world.World.+weigh.Goals.{weight_down-then-levels-eq0-via-then-levels-eq0}
+use Rattle.paw_world.proofs.world.World.+weigh.Goals.{weight_down-then-levels-eq0-via-else-levels-eq0+then-not-facts}
+use Rattle.paw_world.proofs.world.World.+weigh.Goals.{weight_down-then-levels-eq0-via-else-levels-eq0+else-not-facts+then-facts-eq0}
 
 pub weight_down-returns-then-levels-eq0 : goal.weight_down-returns-then-levels-eq0
 weight_down-returns-then-levels-eq0 t c =

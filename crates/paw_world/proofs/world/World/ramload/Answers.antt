@@ -6,7 +6,8 @@ use Rattle.paw_world.proofs.world.World.ramload.Goals as goal
 pub returns : goal.returns
 returns c =
     record {
-      change = loaded_is c.self.inside.facts c.self.inside.locations c.self.inside.flags c.self.inside.places c.self.inside.saved c.self.inside.kept c.self.inside.draws.seed
+      change = loaded_is c.self.inside.facts c.self.inside.locations c.self.inside.flags c.self.inside.places c.self.inside.saved
+          c.self.inside.kept c.self.inside.draws.seed
           c.self.inside.draws.count c.in-Some.saved c.args.n _ _ c.self.invariant.saved_alike c.in-Some.is
           (c.copy_from_slice.ensures.after ∙ ap (take (c.args.n + 1)) c.flags.ensures.value)
           (c.at-self-inside.ensures ∙ c.places.ensures.value)
@@ -15,6 +16,7 @@ returns c =
 
 pub invariant_of-self : goal.invariant_of-self
 invariant_of-self c =
-    parts_loaded c.self.inside.facts c.self.inside.flags c.self.inside.places c.self.inside.saved c.self.inside.kept c.in-Some.saved c.args.n _ _ c.self.invariant c.in-Some.is
+    parts_loaded c.self.inside.facts c.self.inside.flags c.self.inside.places c.self.inside.saved c.self.inside.kept c.in-Some.saved
+    c.args.n _ _ c.self.invariant c.in-Some.is
     (omega arith) (c.copy_from_slice.ensures.after ∙ ap (take (c.args.n + 1)) c.flags.ensures.value)
     (c.at-self-inside.ensures ∙ c.places.ensures.value)
