@@ -23,6 +23,7 @@ use paw_base::limits::{LOCATION_LIMIT, MESSAGE_LIMIT, OBJECT_LIMIT, SYSTEM_LIMIT
 use paw_base::parts::ObjectFacts;
 use paw_game::parts::{Exits, GameParts, Table, Text};
 use paw_grammar::bounds::Bounds;
+use paw_grammar::condacts::Scope;
 use paw_grammar::numbers::number;
 use paw_grammar::refusal::ReadError;
 use paw_grammar::section::Section;
@@ -403,10 +404,14 @@ impl Draft {
         let bounds = self.bounds(tables);
         let last = self.tables.len() - 1;
         let table = &mut self.tables[last];
+        let scope = Scope {
+            bounds,
+            words: &self.words,
+        };
         if more {
-            more_row(&bounds, &self.words, table, tokens)
+            more_row(&scope, table, tokens)
         } else {
-            entry_row(alloc, &bounds, &self.words, table, tokens)
+            entry_row(alloc, &scope, table, tokens)
         }
     }
 }
