@@ -2,7 +2,6 @@
 use Rattle.std.specs.Prelude.{ℕ, zero, suc, ◌+◌, ◌||◌, List, [], ◌∷◌, ◌++◌, length, min, nat_lt}
 use Rattle.std.specs.Prelude.{if◌then◌else◌, Option, Some, None, Result, Ok, Err, codes}
 use Rattle.std.specs.Option.{option_map}
-use Rattle.paw_base.specs.declared.codes.TheConstants.{WORN, CARRIED}
 use Rattle.paw_base.specs.declared.places.TheConstants.{NOT_CREATED_PLACE, CARRIED_PLACE, HERE_PLACE}
 use Rattle.paw_base.specs.declared.words.TheConstants.{ADVERB_CLASS, NOUN_CLASS, ADJECTIVE_CLASS, PREPOSITION_CLASS}
 use Rattle.paw_base.specs.declared.limits.TheConstants.{CONDACT_LIMIT, FLAG_COUNT}

@@ -12,39 +12,27 @@ use Rattle.paw_grammar.specs.GrammarState.{Spelt, last_or, with_last}
 
 -- a section of texts
 abbrev pub is_text_section : Section → Bool
-is_text_section section.Before = false
-is_text_section section.Voc = false
 is_text_section section.Stx = true
 is_text_section section.Mtx = true
 is_text_section section.Otx = true
 is_text_section section.Ltx = true
-is_text_section section.Con = false
-is_text_section section.Obj = false
-is_text_section section.Pro = false
+is_text_section _ = false
 
 -- the texts of a section
 abbrev pub texts_of : Section → Spelt → List (List ℕ)
-texts_of section.Before d = []
-texts_of section.Voc d = []
 texts_of section.Stx d = d.system
 texts_of section.Mtx d = d.messages
 texts_of section.Otx d = d.names
 texts_of section.Ltx d = d.locations
-texts_of section.Con d = []
-texts_of section.Obj d = []
-texts_of section.Pro d = []
+texts_of _ d = []
 
 -- a section's texts put in place of those that stood there; whether the last of them has a line
 abbrev pub with_texts : Section → Bool → List (List ℕ) → Spelt → Spelt
-with_texts section.Before begun ts d = d
-with_texts section.Voc begun ts d = d
 with_texts section.Stx begun ts d = record d { system = ts; begun = begun }
 with_texts section.Mtx begun ts d = record d { messages = ts; begun = begun }
 with_texts section.Otx begun ts d = record d { names = ts; begun = begun }
 with_texts section.Ltx begun ts d = record d { locations = ts; begun = begun }
-with_texts section.Con begun ts d = d
-with_texts section.Obj begun ts d = d
-with_texts section.Pro begun ts d = d
+with_texts _ begun ts d = d
 
 -- the most items of a section
 abbrev pub text_limit : Section → ℕ

@@ -1,7 +1,7 @@
 // Lines of a small game, read token by token.
 
 use crate::bounds::Bounds;
-use crate::condacts::more_condacts;
+use crate::condacts::Scope;
 use crate::numbers::{number_within, row_number};
 use crate::places::first_place;
 use crate::refusal::ReadError;
@@ -55,6 +55,13 @@ fn declared(alloc: Global) -> Result<Vocabulary, ReadError> {
         })?;
     }
     Ok(words)
+}
+
+fn scope(words: &Vocabulary) -> Scope<'_> {
+    Scope {
+        bounds: BOUNDS,
+        words,
+    }
 }
 
 #[test]
@@ -113,10 +120,7 @@ fn condacts_are_read(rt: HostRuntime) -> Result<(), Fail> {
     let words = declared(rt.alloc()).ok().ok_or(NO_ROOM)?;
     let mut rows = Vec::new(rt.alloc());
     let mut line = tokens(b"noun2 bag AUTOP 002 LET 60 9 DOALL here OK ; more");
-    assert_eq!(rt;
-        more_condacts(&BOUNDS, &words, &mut line, &mut rows),
-        Ok(())
-    );
+    assert_eq!(rt; scope(&words).more_condacts(&mut line, &mut rows), Ok(()));
     let wanted = [
         (22, 52, 0),
         (47, 2, 0),
@@ -148,7 +152,7 @@ fn the_first_fault_of_condacts_is_named(rt: HostRuntime) -> Result<(), Fail> {
     for (line, kind) in lines {
         let mut rows = Vec::new(rt.alloc());
         assert_eq!(rt;
-            more_condacts(&BOUNDS, &words, &mut tokens(line), &mut rows),
+            scope(&words).more_condacts(&mut tokens(line), &mut rows),
             fault(kind)
         );
     }

@@ -98,6 +98,26 @@ fn as_verb(word: Option<Word>) -> Option<u8>
     }
 }
 
+/// 255 for `_`, and else this value.
+fn or_none(token: &[u8], value: Option<u8>) -> Option<u8>
+    ensures { result ≡ or_none (λ _. value) token.now }
+{
+    match token {
+        [b'_'] => Some(NO_WORD),
+        _ => value,
+    }
+}
+
+/// 1 for `*`, 255 for `_`, and else this value.
+fn or_any(token: &[u8], value: Option<u8>) -> Option<u8>
+    ensures { result ≡ or_any (λ _. value) token.now }
+{
+    match token {
+        [b'*'] => Some(ANY_WORD),
+        _ => or_none(token, value),
+    }
+}
+
 /// The value, or Word where there is none.
 fn or_word_fault(value: Option<u8>) -> Result<u8, ReadError>
     ensures { result ≡ ok_or value (ReadError.Fault SourceKind.Word) }
@@ -189,10 +209,7 @@ impl Vocabulary {
         ensures { Gives (λ value. (value, tokens.new)) result (word_or_none self.now class tokens.old) }
     {
         let token = tokens.token()?;
-        match token {
-            [b'_'] => Ok(NO_WORD),
-            _ => or_word_fault(self.word_value(class, token)),
-        }
+        or_word_fault(or_none(token, self.word_value(class, token)))
     }
 
     /// Takes the verb of an exit: the value of a verb, or of a noun below 20.
@@ -214,11 +231,7 @@ impl Vocabulary {
         ensures { Gives (λ value. (value, tokens.new)) result (entry_verb self.now tokens.old) }
     {
         let token = tokens.token()?;
-        match token {
-            [b'*'] => Ok(ANY_WORD),
-            [b'_'] => Ok(NO_WORD),
-            _ => or_word_fault(self.verb_value(token)),
-        }
+        or_word_fault(or_any(token, self.verb_value(token)))
     }
 
     /// Takes the noun of an entry: 1 for `*`, 255 for `_`, and else the value of a noun.
@@ -229,10 +242,6 @@ impl Vocabulary {
         ensures { Gives (λ value. (value, tokens.new)) result (entry_noun self.now tokens.old) }
     {
         let token = tokens.token()?;
-        match token {
-            [b'*'] => Ok(ANY_WORD),
-            [b'_'] => Ok(NO_WORD),
-            _ => or_word_fault(self.word_value(NOUN_CLASS, token)),
-        }
+        or_word_fault(or_any(token, self.word_value(NOUN_CLASS, token)))
     }
 }

@@ -10,7 +10,8 @@ use Rattle.paw_game.specs.Game.{GameLists}
 use Rattle.paw_game.specs.Valid.{Valid}
 use Rattle.paw_game.specs.Image.{text_image, object_image, exits_image, table_image, image}
 use Rattle.paw_image.specs.Damage.{Declared, front}
-use Rattle.paw_image.specs.inner.Reading.{leading_rows, text_at, object_at, exits_at, leading_table, lists_at, all_of}
+use Rattle.paw_image.specs.inner.Reading.{leading_rows, text_at, object_at, exits_at, leading_table}
+use Rattle.paw_image.specs.inner.Reading.{game_with, lists_at, all_of}
 use Rattle.paw_image.specs.inner.Sizes.{FitsText, FitsObject, FitsExits, FitsTable, FitsGame}
 use Rattle.paw_image.proofs.FieldLaws.{IsBytes, bind_then, kept_ok, at_ok}
 use Rattle.paw_image.proofs.HeadLaws.{front_image, front_takes, front_passes}
@@ -40,21 +41,11 @@ abbrev pub lists_image : GameLists → List ℕ → List ℕ
 lists_image g rest = flat_map text_image g.system ++ from_messages g rest
 
 -- what declares as many rows as there are is what the game declares
-declared_is : (d : Declared) (system messages objects locations tables : ℕ) → length d.words ≡ d.counts.words
-    → system ≡ d.counts.system → messages ≡ d.counts.messages → objects ≡ d.counts.objects
-    → locations ≡ d.counts.locations → tables ≡ d.counts.tables
-    → d ≡ record {
-      counts = record {
-        words = length d.words;
-        system = system;
-        messages = messages;
-        objects = objects;
-        locations = locations;
-        tables = tables;
-      };
-      words = d.words;
-    }
-declared_is d system messages objects locations tables a b c e f g = rw (a, b, c, e, f, g) refl
+declared_is : (d : Declared) (g : GameLists) → g.words ≡ d.words → length d.words ≡ d.counts.words
+    → length g.system ≡ d.counts.system → length g.messages ≡ d.counts.messages
+    → length g.objects ≡ d.counts.objects → length g.locations ≡ d.counts.locations
+    → length g.tables ≡ d.counts.tables → d ≡ declared_by g
+declared_is d g words a b c e f h = rw (words, a, b, c, e, f, h) refl
 
 -- lists that were read
 pub record AreTaken (d : Declared) (bytes : List ℕ) (x : GameLists × List ℕ) : Type 0 where
@@ -87,10 +78,11 @@ lists_take d bytes x fits e =
     let to_locations = locations_taken.0.parts ∙ ap (λ t. flat_map text_image locations.0 ++ t) to_exits in
     let to_objects = objects_taken.0.parts ∙ ap (λ t. flat_map object_image objects.0 ++ t) to_locations in
     let to_messages = messages_taken.0.parts ∙ ap (λ t. flat_map text_image messages.0 ++ t) to_objects in
+    let lists = game_with d.words system.0 messages.0 objects.0 locations.0 exits.0 tables.0 in
     at_ok (λ (y : GameLists × List ℕ). AreTaken d bytes y) _ x e (record {
       parts = system_taken.0.parts ∙ ap (λ t. flat_map text_image system.0 ++ t) to_messages;
-      declared = λ many. declared_is d _ _ _ _ _ many system_taken.1 messages_taken.1 objects_taken.1 locations_taken.1
-          tables_taken.1;
+      declared = λ many. declared_is d lists refl many system_taken.1 messages_taken.1 objects_taken.1
+          locations_taken.1 tables_taken.1;
     })))))))
 
 lists_again : (g : GameLists) (rest : List ℕ) → FitsGame g → lists_at (declared_by g) (lists_image g rest) ≡ Ok (g, rest)

@@ -1,5 +1,5 @@
 -- Numbers that are held in four bytes: those above stand for one another, as none of them is the number of a row.
-use Rattle.std.proofs.Common.{◌≡◌, ℕ, suc, ◌-◌, ◌≤◌, Bool, true, false, cond, not, ◌||◌, eqb}
+use Rattle.std.proofs.Common.{◌≡◌, ℕ, suc, ◌-◌, ◌≤◌, Bool, true, false, cond, not, ◌||◌, ◌&&◌, eqb}
 use Rattle.std.proofs.Common.{ltb, min, List, [], ◌∷◌, ◌++◌, length, replicate, drop, Option}
 use Rattle.std.proofs.Common.{Some, None, Result, Ok, Err, refl, sym, ap, ◌∙◌, arith}
 use Rattle.std.specs.Prelude.{nat_lt}
@@ -7,16 +7,22 @@ use Rattle.std.proofs.lemmas.Bool.{ltb-true}
 use Rattle.std.proofs.lemmas.Bool.Decides.{nat_tests}
 use Rattle.paw_base.specs.declared.fault.SourceKind.{SourceKind}
 use Rattle.paw_base.specs.declared.fault.SourceKind.TheVariants as kind
+use Rattle.paw_lex.specs.Bytes.{is_comment, has_forbidden_byte}
+use Rattle.paw_lex.specs.Tokens.{tokens_of}
 use Rattle.paw_grammar.specs.declared.section.Section.{Section}
 use Rattle.paw_grammar.specs.declared.section.Section.TheVariants as section
 use Rattle.paw_base.specs.Faults.{◌>>=◌}
 use Rattle.paw_grammar.specs.Numbers.{number}
 use Rattle.paw_grammar.specs.inner.Numbers.{capped}
 use Rattle.paw_grammar.specs.GrammarState.{Spelt}
-use Rattle.paw_grammar.specs.GrammarTexts.{text_item, texts_of, with_texts, text_limit}
+use Rattle.paw_grammar.specs.GrammarTexts.{text_item, texts_of, with_texts, text_limit, is_in_text}
 use Rattle.paw_grammar.specs.GrammarHeads.{new_text, new_exits, item_in, slash_line}
-use Rattle.paw_grammar.specs.Spells.{tokens_added}
+use Rattle.paw_grammar.specs.Spells.{begins_with_slash, begins_with_blank, is_text_line, text_added, tokens_added, step}
 use Rattle.paw_source.specs.inner.Drafts.{IsSmall}
+
+and_false : (b : Bool) → (b && false) ≡ false
+and_false true = refl
+and_false false = refl
 
 same_number : (n k : ℕ) → k ≤ 256 → eqb (min n 4294967295) k ≡ eqb n k
 same_number n k h = grind (arith, nat_tests, h)
@@ -70,13 +76,26 @@ slash_capped d name None ts small = refl
 slash_capped d name (Some n) [] small = item_capped d.section d n small
 slash_capped d name (Some n) (t ∷ ts) small = refl
 
--- a line that begins with `/`, of which the first token was taken and its number read
-pub slash_read : (p : ℕ) (d : Spelt) (name rest : List ℕ) (left ts : List (List ℕ)) (o : Option ℕ)
-    (slash blank : Bool) → IsSmall d → ts ≡ name ∷ left → slash ≡ true → rest ≡ drop 1 name → o ≡ capped (number rest)
-    → slash_line d name o left ≡ tokens_added p d slash blank ts
-slash_read p d name rest left ts o slash blank small tokens begins cut read =
+-- what comes after three tests that fail
+past_three : {A : Type 0} (x y z rest : A) (a b c : Bool) → a ≡ false → b ≡ false → c ≡ false
+    → cond a x (cond b y (cond c z rest)) ≡ rest
+past_three x y z rest a b c p q r = rw (p, q, r) refl
+
+-- a line of tokens that begins with `/`, of which the first token was taken and its number read
+pub slash_read : (p : ℕ) (d : Spelt) (l name rest : List ℕ) (left : List (List ℕ)) (o : Option ℕ) → IsSmall d
+    → is_comment l ≡ false → has_forbidden_byte false l ≡ false → begins_with_slash l ≡ true → tokens_of l ≡ name ∷ left
+    → rest ≡ drop 1 name → o ≡ capped (number rest) → slash_line d name o left ≡ step p d l
+unfolding step
+slash_read p d l name rest left o small comment allowed slash tokens cut read =
+    let blank = begins_with_blank l in
+    let no_text : is_text_line d l ≡ false = rw slash (and_false (is_in_text d)) in
+    let no_fault = ap (λ (b : Bool). has_forbidden_byte b l) no_text ∙ allowed in
+    let is : step p d l ≡ tokens_added p d (begins_with_slash l) blank (tokens_of l) =
+    past_three (Ok d) (Err kind.Text) (text_added d l) _ (is_comment l) (has_forbidden_byte (is_text_line d l) l)
+    (is_text_line d l) comment no_fault no_text in
     ap (λ (x : Option ℕ). slash_line d name x left) read
     ∙ ap (λ (x : List ℕ). slash_line d name (capped (number x)) left) cut
     ∙ slash_capped d name (number (drop 1 name)) left small
     ∙ sym (ap (λ (x : List (List ℕ)). tokens_added p d true blank x) tokens)
-    ∙ sym (ap (λ (b : Bool). tokens_added p d b blank ts) begins)
+    ∙ sym (ap (λ (b : Bool). tokens_added p d b blank (tokens_of l)) slash)
+    ∙ sym is

@@ -16,12 +16,12 @@ use Rattle.paw_lex.specs.Tokens.{tokens_of}
 use Rattle.paw_grammar.specs.declared.section.Section.{Section}
 use Rattle.paw_grammar.specs.declared.section.Section.TheVariants as section
 use Rattle.paw_base.specs.Faults.{◌>>=◌}
-use Rattle.paw_grammar.specs.Tokens.{token, ended, is_named}
+use Rattle.paw_grammar.specs.Tokens.{token, is_named}
 use Rattle.paw_grammar.specs.Numbers.{number, number_from, is_digit}
 use Rattle.paw_grammar.specs.GrammarState.{Spelt, last_or, with_last}
 use Rattle.paw_grammar.specs.GrammarTexts.{texts_of, with_texts, text_limit, text_item, text_line, is_in_text}
 use Rattle.paw_grammar.specs.GrammarHeads.{next_section, header_name, section_opened, plain_header, con_header}
-use Rattle.paw_grammar.specs.GrammarHeads.{lacks_rows, table_header, pro_header, header_of, header, new_text}
+use Rattle.paw_grammar.specs.GrammarHeads.{table_header, pro_header, header_of, header, new_text}
 use Rattle.paw_grammar.specs.GrammarHeads.{new_exits, item_in, is_letters, slash_line}
 use Rattle.paw_grammar.specs.GrammarRows.{voc_row, exit_row, con_row, object_row, bounds_of, entry_row, more_row, pro_row, row_in}
 use Rattle.paw_grammar.specs.Spells.{begins_with_slash, begins_with_blank, is_text_line, text_added, tokens_added, step, is_pro_token, begins_table}

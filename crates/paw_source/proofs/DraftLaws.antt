@@ -21,7 +21,7 @@ use Rattle.paw_lex.specs.Tokens.{tokens_of}
 use Rattle.paw_grammar.specs.declared.section.Section.{Section}
 use Rattle.paw_grammar.specs.declared.section.Section.TheVariants as section
 use Rattle.paw_base.specs.Faults.{◌>>=◌}
-use Rattle.paw_grammar.specs.Tokens.{token, ended, is_named}
+use Rattle.paw_grammar.specs.Tokens.{token, is_named}
 use Rattle.paw_grammar.specs.Numbers.{number}
 use Rattle.paw_grammar.specs.GrammarState.{Spelt, last_or, with_last}
 use Rattle.paw_grammar.specs.GrammarTexts.{texts_of, with_texts, text_limit, text_item, text_line, is_in_text}
@@ -37,9 +37,12 @@ use Rattle.paw_source.proofs.RowLaws.{Has, voc_row_ok, exit_row_ok, object_row_o
 
 -- ---- the rules
 
-pub record TextsKept (limit : ℕ) (ts : List (List ℕ)) : Type 0 where
-  pub all : list_all is_text ts ≡ true
-  pub few : length ts ≤ limit
+pub record RowsKept {A : Type 0} (rule : A → Bool) (limit : ℕ) (rows : List A) : Type 0 where
+  pub all : list_all rule rows ≡ true
+  pub few : length rows ≤ limit
+
+abbrev pub TextsKept : ℕ → List (List ℕ) → Type 0
+TextsKept limit ts = RowsKept is_text limit ts
 
 -- no section of rows was reached
 pub record AreNone (es : List (List Exit)) (fs : List ObjectFacts) (ts : List (List Entry)) : Type 0 where
@@ -104,10 +107,8 @@ Heads d = HeadsKept d.words d.system d.messages d.names d.locations
 
 pub record Keeps (p : ℕ) (d : Spelt) : Type 0 where
   pub heads : Heads d
-  pub exits : list_all (is_exits d.words (length d.locations)) d.exits ≡ true
-  pub few_exits : length d.exits ≤ length d.locations
-  pub facts : list_all (are_facts d.words (length d.locations)) d.facts ≡ true
-  pub few_facts : length d.facts ≤ length d.names
+  pub exits : RowsKept (is_exits d.words (length d.locations)) (length d.locations) d.exits
+  pub facts : RowsKept (are_facts d.words (length d.locations)) (length d.names) d.facts
   pub tables : (g : GameLists) → Has (bounds_of p d) d.words g → list_all (is_table g) d.tables ≡ true
   pub few_tables : length d.tables ≤ 256
   pub order : InOrder d.section d
@@ -119,10 +120,14 @@ no_rows p d heads none order =
     let no_tables = ap length none.tables in
     record {
       heads = heads;
-      exits = ap (list_all (is_exits d.words (length d.locations))) none.exits;
-      few_exits = omega (arith, no_exits);
-      facts = ap (list_all (are_facts d.words (length d.locations))) none.facts;
-      few_facts = omega (arith, no_facts);
+      exits = record {
+        all = ap (list_all (is_exits d.words (length d.locations))) none.exits;
+        few = omega (arith, no_exits);
+      };
+      facts = record {
+        all = ap (list_all (are_facts d.words (length d.locations))) none.facts;
+        few = omega (arith, no_facts);
+      };
       tables = λ g has. ap (list_all (is_table g)) none.tables;
       few_tables = omega (arith, no_tables);
       order = order;
@@ -216,14 +221,11 @@ or_false false b h = (refl, h)
 
 -- other exits, that keep the rules too
 exits_keep : (p : ℕ) (d : Spelt) (es : List (List Exit)) → d.section ≡ section.Con → Keeps p d
-    → list_all (is_exits d.words (length d.locations)) es ≡ true → length es ≤ length d.locations
-    → Keeps p (record d { exits = es })
-exits_keep p d es here k all few = record {
+    → RowsKept (is_exits d.words (length d.locations)) (length d.locations) es → Keeps p (record d { exits = es })
+exits_keep p d es here k exits = record {
   heads = k.heads;
-  exits = all;
-  few_exits = few;
+  exits = exits;
   facts = k.facts;
-  few_facts = k.few_facts;
   tables = k.tables;
   few_tables = k.few_tables;
   order = from_section section.Con (record d { exits = es }) here (at_section section.Con d here k.order);
@@ -236,9 +238,10 @@ new_exits_keep p n d e here k h =
     let o = or_false (nat_lt n (length d.exits)) (not (nat_lt n (length d.locations))) a.0 in
     let low : n < length d.locations = grind (arith, nat_tests, o.1) in
     let long = filled_length (suc n - length d.exits) d.exits in
-    let few = k.few_exits in
-    let all = filled_exits d.words (length d.locations) (suc n - length d.exits) d.exits k.exits in
-    subst (Keeps p) (ok_is made e a.1) (exits_keep p d made.exits here k all (omega (arith, long, low, few)))
+    let few = k.exits.few in
+    let all = filled_exits d.words (length d.locations) (suc n - length d.exits) d.exits k.exits.all in
+    subst (Keeps p) (ok_is made e a.1)
+    (exits_keep p d made.exits here k (record { all = all; few = omega (arith, long, low, few) }))
 
 item_keeps : (p : ℕ) (s : Section) (n : ℕ) (d e : Spelt) → d.section ≡ s → Keeps p d → item_in s d n ≡ Ok e → Keeps p e
 item_keeps p section.Before n d e here k h = absurd cc
@@ -253,18 +256,23 @@ item_keeps p section.Pro n d e here k h = absurd cc
 
 -- ---- headers
 
--- a section that opens adds no row
-open_keeps : (p : ℕ) (s : Section) (d : Spelt) → Keeps p d → InOrder s (section_opened s d) → Keeps p (section_opened s d)
-open_keeps p s d k order = record {
+-- another section opens, and the tables are others that keep the rules too
+tables_keep : (p : ℕ) (s : Section) (begun : Bool) (ts : List (List Entry)) (d : Spelt) → Keeps p d
+    → ((g : GameLists) → Has (bounds_of p d) d.words g → list_all (is_table g) ts ≡ true) → length ts ≤ 256
+    → InOrder s (record d { section = s; begun = begun; tables = ts })
+    → Keeps p (record d { section = s; begun = begun; tables = ts })
+tables_keep p s begun ts d k all few order = record {
   heads = k.heads;
   exits = k.exits;
-  few_exits = k.few_exits;
   facts = k.facts;
-  few_facts = k.few_facts;
-  tables = k.tables;
-  few_tables = k.few_tables;
+  tables = all;
+  few_tables = few;
   order = order;
 }
+
+-- a section that opens adds no row
+open_keeps : (p : ℕ) (s : Section) (d : Spelt) → Keeps p d → InOrder s (section_opened s d) → Keeps p (section_opened s d)
+open_keeps p s d k order = tables_keep p s false d.tables d k k.tables k.few_tables order
 
 plain_keeps : (p : ℕ) (s : Section) (d e : Spelt) (ts : List (List ℕ)) → Keeps p d → InOrder s (section_opened s d) → plain_header s d ts ≡ Ok e → Keeps p e
 plain_keeps p s d e ts k order h =
@@ -292,17 +300,9 @@ table_keeps p d e ts (Some n) k ready h =
     let same : n ≡ length d.tables = grind (arith, nat_tests, t.next) in
     let long = length-append d.tables ([] ∷ []) in
     let order : AtTables made = record { locations = ready.locations; rows = ready.rows t.rows } in
-    let new : Keeps p made = record {
-      heads = k.heads;
-      exits = k.exits;
-      few_exits = k.few_exits;
-      facts = k.facts;
-      few_facts = k.few_facts;
-      tables = λ g has. all_pushed (is_table g) d.tables [] (k.tables g has) refl;
-      few_tables = omega (arith, long, low, same);
-      order = order;
-    } in
-    subst (Keeps p) t.is new
+    subst (Keeps p) t.is
+    (tables_keep p section.Pro false made.tables d k
+    (λ g has. all_pushed (is_table g) d.tables [] (k.tables g has) refl) (omega (arith, long, low, same)) order)
 
 pro_keeps : (p : ℕ) (d e : Spelt) (ts : List (List ℕ)) → Keeps p d → Ready d → pro_header d ts ≡ Ok e → Keeps p e
 pro_keeps p d e ts k ready h =
@@ -361,12 +361,13 @@ con_row_keeps p d e ts here k h =
     let b = bound (exit_row d.words (length d.locations) (last_or [] d.exits) ts) (λ xs. Ok (record d { exits = with_last xs d.exits })) e a.1 in
     let made : Spelt = record d { exits = with_last b.0 d.exits } in
     let old : is_exits d.words (length d.locations) (last_or [] d.exits) ≡ true =
-    all_get (is_exits d.words (length d.locations)) d.exits (length d.exits - 1) [] k.exits refl in
+    all_get (is_exits d.words (length d.locations)) d.exits (length d.exits - 1) [] k.exits.all refl in
     let new = exit_row_ok d.words (length d.locations) (last_or [] d.exits) b.0 ts k.heads.words old b.1 in
     let long = length-set d.exits (length d.exits - 1) b.0 in
-    let few = k.few_exits in
-    let all = all_set (is_exits d.words (length d.locations)) d.exits (length d.exits - 1) b.0 k.exits new in
-    subst (Keeps p) (ok_is made e b.2) (exits_keep p d made.exits here k all (omega (arith, long, few)))
+    let few = k.exits.few in
+    let all = all_set (is_exits d.words (length d.locations)) d.exits (length d.exits - 1) b.0 k.exits.all new in
+    subst (Keeps p) (ok_is made e b.2)
+    (exits_keep p d made.exits here k (record { all = all; few = omega (arith, long, few) }))
 
 obj_row_keeps : (p : ℕ) (d e : Spelt) (ts : List (List ℕ)) → d.section ≡ section.Obj → Keeps p d → obj_row d ts ≡ Ok e → Keeps p e
 obj_row_keeps p d e ts here k h =
@@ -379,9 +380,10 @@ obj_row_keeps p d e ts here k h =
     let kept : Keeps p made = record {
       heads = k.heads;
       exits = k.exits;
-      few_exits = k.few_exits;
-      facts = all_pushed (are_facts d.words (length d.locations)) d.facts b.0 k.facts new.facts;
-      few_facts = omega (arith, long, room);
+      facts = record {
+        all = all_pushed (are_facts d.words (length d.locations)) d.facts b.0 k.facts.all new.facts;
+        few = omega (arith, long, room);
+      };
       tables = k.tables;
       few_tables = k.few_tables;
       order = from_section section.Obj made here at;
@@ -405,21 +407,15 @@ pro_row_keeps p d e more ts here k h =
     let long = length-set d.tables (length d.tables - 1) b.0 in
     let few = k.few_tables in
     let at = at_section section.Pro d here k.order in
-    let kept : Keeps p made = record {
-      heads = k.heads;
-      exits = k.exits;
-      few_exits = k.few_exits;
-      facts = k.facts;
-      few_facts = k.few_facts;
-      tables = λ g has.
-          let all = k.tables g has in
-          all_set (is_table g) d.tables (length d.tables - 1) b.0 all
-          (table_row_ok p d more g (last_or [] d.tables) b.0 ts has
-          (all_get (is_table g) d.tables (length d.tables - 1) [] all refl) b.1);
-      few_tables = omega (arith, long, few);
-      order = from_section section.Pro made here at;
-    } in
-    subst (Keeps p) (ok_is made e b.2) kept
+    let old = last_or [] d.tables in
+    let kept : (g : GameLists) → Has (bounds_of p d) d.words g → list_all (is_table g) made.tables ≡ true =
+    λ g has.
+    let all = k.tables g has in
+    let old_kept = all_get (is_table g) d.tables (length d.tables - 1) [] all refl in
+    all_set (is_table g) d.tables (length d.tables - 1) b.0 all (table_row_ok p d more g old b.0 ts has old_kept b.1) in
+    subst (Keeps p) (ok_is made e b.2)
+    (tables_keep p d.section d.begun made.tables d k kept (omega (arith, long, few))
+    (from_section section.Pro made here at))
 
 row_keeps : (p : ℕ) (s : Section) (d e : Spelt) (more : Bool) (ts : List (List ℕ)) → d.section ≡ s → Keeps p d → row_in s p d more ts ≡ Ok e → Keeps p e
 row_keeps p section.Before d e more ts here k h = absurd cc

@@ -71,7 +71,7 @@ valid_game p d k three counted =
     let count = objects_count d.names d.facts rows in
     let few_names = k.heads.names.few in
     let few_locations = k.heads.locations.few in
-    let few_exits = k.few_exits in
+    let few_exits = k.exits.few in
     let few_tables = k.few_tables in
     let long = filled_length (length d.locations - length d.exits) d.exits in
     let has : Has (bounds_of p d) d.words (game_of d) =
@@ -91,13 +91,13 @@ valid_game p d k three counted =
       objects = both (nat_le (length (objects_of d.names d.facts)) 255)
           (list_all (is_object d.words (length d.locations)) (objects_of d.names d.facts))
           (grind (arith, nat_tests, count, few_names))
-          (objects_all d.words (length d.locations) d.names d.facts k.heads.names.all k.facts);
+          (objects_all d.words (length d.locations) d.names d.facts k.heads.names.all k.facts.all);
       locations = both (nat_le 1 (length d.locations)) (texts_kept 252 d.locations) (grind (arith, nat_tests, some))
           (texts_valid 252 d.locations k.heads.locations);
       exits = both (eqb (length (all_exits (length d.locations) d.exits)) (length d.locations))
           (list_all (is_exits d.words (length d.locations)) (all_exits (length d.locations) d.exits))
           (grind (arith, nat_tests, long, few_exits))
-          (filled_exits d.words (length d.locations) (length d.locations - length d.exits) d.exits k.exits);
+          (filled_exits d.words (length d.locations) (length d.locations - length d.exits) d.exits k.exits.all);
       tables = both (is_within 3 256 (length d.tables)) (list_all (is_table (game_of d)) d.tables)
           (grind (arith, nat_tests, three, few_tables)) (k.tables (game_of d) has);
     }
@@ -134,10 +134,8 @@ nothing_keeps p =
         names = record { all = refl; few = omega arith };
         locations = record { all = refl; few = omega arith };
       };
-      exits = refl;
-      few_exits = omega arith;
-      facts = refl;
-      few_facts = omega arith;
+      exits = record { all = refl; few = omega arith };
+      facts = record { all = refl; few = omega arith };
       tables = λ g has. refl;
       few_tables = omega arith;
       order = none;

@@ -1,5 +1,5 @@
 -- What the header of a table was, in which no fault was found.
-use Rattle.std.proofs.Common.{◌≡◌, ℕ, Bool, true, false, cond, not, eqb, List, [], ◌∷◌, ◌++◌, length, Some, Ok, Err}
+use Rattle.std.proofs.Common.{◌≡◌, ℕ, false, cond, not, eqb, List, [], ◌∷◌, ◌++◌, length, Some, Ok, Err}
 use Rattle.std.specs.Prelude.{nat_lt}
 use Rattle.paw_base.specs.declared.fault.SourceKind.TheVariants as kind
 use Rattle.paw_grammar.specs.declared.section.Section.TheVariants as section

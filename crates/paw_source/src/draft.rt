@@ -23,6 +23,7 @@ use paw_base::limits::{LOCATION_LIMIT, MESSAGE_LIMIT, OBJECT_LIMIT, SYSTEM_LIMIT
 use paw_base::parts::ObjectFacts;
 use paw_game::parts::{Exits, GameParts, Table, Text};
 use paw_grammar::bounds::Bounds;
+use paw_grammar::condacts::Scope;
 use paw_grammar::numbers::number;
 use paw_grammar::refusal::ReadError;
 use paw_grammar::section::Section;
@@ -210,25 +211,16 @@ impl Draft {
     fn item(&mut self, alloc: Global, number: u32) -> Result<(), ReadError>
         ensures { Gives (λ _. self.new) result (item_in self.old.section self.old number) }
     {
+        if let Section::Con = self.section {
+            return self.new_exits(alloc, number);
+        }
+        self.begun = false;
         match self.section {
-            Section::Stx => {
-                self.begun = false;
-                text_item(alloc, &mut self.system, SYSTEM_LIMIT, number)
-            }
-            Section::Mtx => {
-                self.begun = false;
-                text_item(alloc, &mut self.messages, MESSAGE_LIMIT, number)
-            }
-            Section::Otx => {
-                self.begun = false;
-                text_item(alloc, &mut self.names, OBJECT_LIMIT, number)
-            }
-            Section::Ltx => {
-                self.begun = false;
-                text_item(alloc, &mut self.locations, LOCATION_LIMIT, number)
-            }
-            Section::Con => self.new_exits(alloc, number),
-            Section::Before | Section::Voc | Section::Obj | Section::Pro => {
+            Section::Stx => text_item(alloc, &mut self.system, SYSTEM_LIMIT, number),
+            Section::Mtx => text_item(alloc, &mut self.messages, MESSAGE_LIMIT, number),
+            Section::Otx => text_item(alloc, &mut self.names, OBJECT_LIMIT, number),
+            Section::Ltx => text_item(alloc, &mut self.locations, LOCATION_LIMIT, number),
+            Section::Before | Section::Voc | Section::Con | Section::Obj | Section::Pro => {
                 fault(SourceKind::Section)
             }
         }
@@ -403,10 +395,14 @@ impl Draft {
         let bounds = self.bounds(tables);
         let last = self.tables.len() - 1;
         let table = &mut self.tables[last];
+        let scope = Scope {
+            bounds,
+            words: &self.words,
+        };
         if more {
-            more_row(&bounds, &self.words, table, tokens)
+            more_row(&scope, table, tokens)
         } else {
-            entry_row(alloc, &bounds, &self.words, table, tokens)
+            entry_row(alloc, &scope, table, tokens)
         }
     }
 }

@@ -3,17 +3,14 @@
 ghost use Rattle.std.specs.Prelude.{◌≡◌, ◌<◌, length};
 ghost use Rattle.paw_grammar.specs.inner.Gives.{Gives};
 ghost use Rattle.paw_grammar.specs.Condacts.{more_condacts};
-ghost use Rattle.paw_grammar.specs.inner.Condacts.{AreSmall};
 ghost use Rattle.paw_grammar.specs.GrammarRows.{entry_row, more_row};
 
 use paw_base::fault::SourceKind;
 use paw_base::limits::ENTRY_LIMIT;
 use paw_game::parts::{Condacts, Entry, Table};
-use paw_grammar::bounds::Bounds;
-use paw_grammar::condacts::more_condacts;
+use paw_grammar::condacts::Scope;
 use paw_grammar::refusal::ReadError;
 use paw_grammar::tokens::Tokens;
-use paw_grammar::vocabulary::Vocabulary;
 use std::alloc::Global;
 
 /// Adds the entry of a line to a table.
@@ -24,18 +21,16 @@ use std::alloc::Global;
 #[tactic(auto, unfolding(paw_grammar::specs::GrammarRows::entry_row))]
 pub(crate) fn entry_row(
     alloc: Global,
-    bounds: &Bounds,
-    words: &Vocabulary,
+    scope: &Scope,
     table: &mut Table,
     tokens: &mut Tokens,
 ) -> Result<(), ReadError>
-    requires { AreSmall bounds.now }
-    ensures { Gives (λ _. table.new) result (entry_row bounds.now words.now table.old tokens.old) }
+    ensures { Gives (λ _. table.new) result (entry_row scope.now.bounds scope.now.words table.old tokens.old) }
 {
-    let verb = words.entry_verb(tokens)?;
-    let noun = words.entry_noun(tokens)?;
+    let verb = scope.words.entry_verb(tokens)?;
+    let noun = scope.words.entry_noun(tokens)?;
     let mut rows = Vec::new(alloc);
-    more_condacts(bounds, words, tokens, &mut rows)?;
+    scope.more_condacts(tokens, &mut rows)?;
     if table.entries.len() >= ENTRY_LIMIT {
         return Err(ReadError::Fault(SourceKind::TooBig));
     }
@@ -54,31 +49,28 @@ pub(crate) fn entry_row(
 /// more than 255 condacts.
 #[tactic(auto, unfolding(paw_grammar::specs::GrammarRows::more_row))]
 pub(crate) fn more_row(
-    bounds: &Bounds,
-    words: &Vocabulary,
+    scope: &Scope,
     table: &mut Table,
     tokens: &mut Tokens,
 ) -> Result<(), ReadError>
-    requires { AreSmall bounds.now }
-    ensures { Gives (λ _. table.new) result (more_row bounds.now words.now table.old tokens.old) }
+    ensures { Gives (λ _. table.new) result (more_row scope.now.bounds scope.now.words table.old tokens.old) }
 {
     if table.entries.is_empty() {
         return Err(ReadError::Fault(SourceKind::Section));
     }
     let last = table.entries.len() - 1;
     let entry = &mut table.entries[last];
-    add_condacts(bounds, words, &mut entry.condacts, tokens)
+    add_condacts(scope, &mut entry.condacts, tokens)
 }
 
 /// Adds the condacts of a line to those of an entry.
 fn add_condacts(
-    bounds: &Bounds,
-    words: &Vocabulary,
+    scope: &Scope,
     condacts: &mut Condacts,
     tokens: &mut Tokens,
 ) -> Result<(), ReadError>
-    requires { AreSmall bounds.now }
-    ensures { Gives (λ _. condacts.new) result (more_condacts bounds.now words.now condacts.old tokens.old) }
+    ensures { Gives (λ _. condacts.new) result
+        (more_condacts scope.now.bounds scope.now.words condacts.old tokens.old) }
 {
-    more_condacts(bounds, words, tokens, &mut condacts.rows)
+    scope.more_condacts(tokens, &mut condacts.rows)
 }

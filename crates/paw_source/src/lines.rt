@@ -2,9 +2,8 @@
 
 ghost use Rattle.std.specs.Prelude.{◌≡◌};
 ghost use Rattle.paw_lex.specs.inner.Lines.{bytes_of, LiesIn};
-ghost use Rattle.paw_lex.specs.Tokens.{tokens_of};
 ghost use Rattle.paw_grammar.specs.inner.Gives.{Gives};
-ghost use Rattle.paw_grammar.specs.Spells.{begins_with_blank, begins_with_slash, step, tokens_added};
+ghost use Rattle.paw_grammar.specs.Spells.{step};
 
 use crate::bytes::{
     begins_with_blank, begins_with_slash, has_forbidden_byte, is_comment, without_first,
@@ -18,36 +17,6 @@ use paw_lex::Line;
 use std::alloc::Global;
 
 impl Draft {
-    /// Reads a line that is cut into tokens.
-    fn tokens(
-        &mut self,
-        alloc: Global,
-        tables: u32,
-        source: &[u8],
-        line: &Line,
-    ) -> Result<(), ReadError>
-        requires { LiesIn source.now line.now }
-        ensures { let bytes = bytes_of source.now line.now in
-            Gives (λ _. self.new) result
-            (tokens_added tables self.old (begins_with_slash bytes) (begins_with_blank bytes) (tokens_of bytes)) }
-    {
-        // Tells the proof that the draft's lists are short.
-        let _ = &self.section;
-        let bytes = &source[line.from..line.to];
-        let mut tokens = Tokens::new(source, line);
-        match tokens.next() {
-            None => Ok(()),
-            Some(name) => {
-                if begins_with_slash(bytes) {
-                    self.slash(alloc, name, number(without_first(name)), &mut tokens)
-                } else {
-                    let blank = begins_with_blank(bytes);
-                    self.row(alloc, tables, blank, &mut Tokens::new(source, line))
-                }
-            }
-        }
-    }
-
     /// Reads a line; `tables` is how many lines of the source begin a table.
     ///
     /// # Errors
@@ -63,18 +32,29 @@ impl Draft {
         requires { LiesIn source.now line.now }
         ensures { Gives (λ _. self.new) result (step tables self.old (bytes_of source.now line.now)) }
     {
+        // Tells the proof that the draft's lists are short.
+        let _ = &self.section;
         let bytes = &source[line.from..line.to];
         if is_comment(bytes) {
             return Ok(());
         }
-        let text = self.is_in_text() && !begins_with_slash(bytes);
+        let slash = begins_with_slash(bytes);
+        let text = self.is_in_text() && !slash;
         if has_forbidden_byte(source, line, text) {
             return Err(ReadError::Fault(SourceKind::Text));
         }
         if text {
-            self.text(bytes)
+            return self.text(bytes);
+        }
+        let mut tokens = Tokens::new(source, line);
+        let Some(name) = tokens.next() else {
+            return Ok(());
+        };
+        if slash {
+            self.slash(alloc, name, number(without_first(name)), &mut tokens)
         } else {
-            self.tokens(alloc, tables, source, line)
+            let blank = begins_with_blank(bytes);
+            self.row(alloc, tables, blank, &mut Tokens::new(source, line))
         }
     }
 }
