@@ -71,5 +71,6 @@ stands g w takes kind_of code x all of small kept taken =
 pub object_stands : (g : GameLists) (w : World) (c : Condact) → IsOf g w → is_right g c ≡ true → IsTrue (takes_object c.code) → c.a < length w.places
 object_stands g w c of kept = stands g w takes_object first_kind c.code c.a firsts of (right-code g c kept) (right-first g c kept)
 
-pub second_object_stands : (g : GameLists) (w : World) (c : Condact) → IsOf g w → is_right g c ≡ true → IsTrue (takes_second_object c.code) → c.b < length w.places
+pub second_object_stands : (g : GameLists) (w : World) (c : Condact) → IsOf g w → is_right g c ≡ true → IsTrue (takes_second_object c.code) →
+    c.b < length w.places
 second_object_stands g w c of kept = stands g w takes_second_object second_kind c.code c.b seconds of (right-code g c kept) (right-second g c kept)

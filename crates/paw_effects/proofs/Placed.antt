@@ -1,5 +1,6 @@
 -- Each condact leaves the objects of a world at places of the game.
-use Rattle.std.proofs.Common.{◌≡◌, ℕ, ◌==◌, ◌||◌, Bool, true, false, not, List, [], ◌∷◌, Option, Some, None, refl, sym, ap, ◌∙◌, subst, map, length, slice_get, arith, inl, inr, nat_lt, IsTrue}
+use Rattle.std.proofs.Common.{◌≡◌, ℕ, ◌==◌, ◌||◌, Bool, true, false, not, List, [], ◌∷◌, Option, Some, None, refl, sym, ap, ◌∙◌, subst, map}
+use Rattle.std.proofs.Common.{length, slice_get, arith, inl, inr, nat_lt, IsTrue}
 use Rattle.std.specs.Prelude.{if◌then◌else◌, fold, slice_index}
 use Rattle.std.proofs.lemmas.Bool.{cases_lt, eqb-true, leb-true}
 use Rattle.std.proofs.lemmas.Bool.Decides.{nat_tests}
@@ -20,7 +21,8 @@ use Rattle.paw_game.specs.Valid.{Valid, is_within, is_place, texts_kept}
 use Rattle.paw_game.specs.inner.Valid.{is_right, is_argument}
 use Rattle.paw_game.proofs.Kept.{first_of_and, facts-start}
 use Rattle.paw_game.proofs.Right.{right-code, right-first, right-second}
-use Rattle.paw_world.specs.World.{World, Position, flag, with_flag, place, with_place, here, let_go, taken_up, moved, opening_places, starting_world, restarted, with_objects_returned, taken_from, position_of, kept_position}
+use Rattle.paw_world.specs.World.{World, Position, flag, with_flag, place, with_place, here, let_go, taken_up, moved, opening_places}
+use Rattle.paw_world.specs.World.{starting_world, restarted, with_objects_returned, taken_from, position_of, kept_position}
 use Rattle.paw_effects.specs.declared.object_actions.Action.{Action}
 use Rattle.paw_effects.specs.declared.object_actions.Action.TheVariants as action
 use Rattle.paw_effects.specs.declared.object_words.Words.{Words}
@@ -54,7 +56,8 @@ by_test : (g : GameLists) (b : Bool) (x y : World) → (b ≡ true → IsPlaced 
 by_test g true x y h k = h refl
 by_test g false x y h k = k refl
 
-done_placed : (g : GameLists) (b : Bool) (x y : Done) → (b ≡ true → IsPlaced g x.world) → (b ≡ false → IsPlaced g y.world) → IsPlaced g (if b then x else y).world
+done_placed : (g : GameLists) (b : Bool) (x y : Done) → (b ≡ true → IsPlaced g x.world) → (b ≡ false → IsPlaced g y.world) →
+    IsPlaced g (if b then x else y).world
 done_placed g true x y h k = h refl
 done_placed g false x y h k = k refl
 
@@ -77,13 +80,16 @@ here_at : (locations f : ℕ) → is_place locations (if nat_lt f locations then
 here_at locations f = grind (arith, nat_tests)
 
 pub here_place : (g : GameLists) (w : World) → w.locations ≡ length g.locations → is_place (length g.locations) (here w) ≡ true
-here_place g w of = subst (λ n. is_place (length g.locations) (if nat_lt (flag w 38) n then flag w 38 else 252) ≡ true) (sym of) (here_at (length g.locations) (flag w 38))
+here_place g w of =
+    subst (λ n. is_place (length g.locations) (if nat_lt (flag w 38) n then flag w 38 else 252) ≡ true) (sym of) (here_at (length g.locations) (flag w 38))
 
-place_of : (locations here p : ℕ) → is_place locations here ≡ true → (nat_lt p locations || is_within 252 255 p) ≡ true → is_place locations (if p == 255 then here else p) ≡ true
+place_of : (locations here p : ℕ) → is_place locations here ≡ true → (nat_lt p locations || is_within 252 255 p) ≡ true →
+    is_place locations (if p == 255 then here else p) ≡ true
 place_of locations here p h k = grind (arith, nat_tests)
 
 -- a place that a parameter names
-pub named_is_place : (g : GameLists) (w : World) (p : ℕ) → w.locations ≡ length g.locations → IsTrue (is_argument g kind.Place p) → is_place (length g.locations) (named_place w p) ≡ true
+pub named_is_place : (g : GameLists) (w : World) (p : ℕ) → w.locations ≡ length g.locations → IsTrue (is_argument g kind.Place p) →
+    is_place (length g.locations) (named_place w p) ≡ true
 named_is_place g w p of h = place_of (length g.locations) (here w) p (here_place g w of) h
 
 -- ---- moves ----
@@ -194,23 +200,27 @@ doall_takes : first_kind 86 ≡ kind.Place
 unfolding condact_lines line_of
 doall_takes = refl
 
-first_named : (g : GameLists) (w : World) (c : Condact) (code : ℕ) → first_kind code ≡ kind.Place → w.locations ≡ length g.locations → IsTrue (is_right g c) → c.code ≡ code
+first_named : (g : GameLists) (w : World) (c : Condact) (code : ℕ) → first_kind code ≡ kind.Place → w.locations ≡ length g.locations →
+    IsTrue (is_right g c) → c.code ≡ code
     → is_place (length g.locations) (named_place w c.a) ≡ true
 first_named g w c code takes of kept is =
     named_is_place g w c.a of (subst (λ k. IsTrue (is_argument g k c.a)) (ap first_kind is ∙ takes) (right-first g c kept))
 
-second_named : (g : GameLists) (w : World) (c : Condact) (code : ℕ) → second_kind code ≡ kind.Place → w.locations ≡ length g.locations → IsTrue (is_right g c) → c.code ≡ code
+second_named : (g : GameLists) (w : World) (c : Condact) (code : ℕ) → second_kind code ≡ kind.Place → w.locations ≡ length g.locations →
+    IsTrue (is_right g c) → c.code ≡ code
     → is_place (length g.locations) (named_place w c.b) ≡ true
 second_named g w c code takes of kept is =
     named_is_place g w c.b of (subst (λ k. IsTrue (is_argument g k c.b)) (ap second_kind is ∙ takes) (right-second g c kept))
 
 -- a loop goes over the objects at a place
-pub doall_place : (g : GameLists) (w : World) (c : Condact) → w.locations ≡ length g.locations → IsTrue (is_right g c) → c.code ≡ 86 → IsTrue (is_place (length g.locations) (named_place w c.a))
+pub doall_place : (g : GameLists) (w : World) (c : Condact) → w.locations ≡ length g.locations → IsTrue (is_right g c) → c.code ≡ 86 →
+    IsTrue (is_place (length g.locations) (named_place w c.a))
 doall_place g w c = first_named g w c 86 doall_takes
 
 -- ---- actions that move objects ----
 
-dropped : (g : GameLists) (p : ℕ) (os : List ℕ) (w : World) → is_place (length g.locations) p ≡ true → IsPlaced g w → IsPlaced g (fold (λ v o. moved v o p) w os)
+dropped : (g : GameLists) (p : ℕ) (os : List ℕ) (w : World) → is_place (length g.locations) p ≡ true → IsPlaced g w →
+    IsPlaced g (fold (λ v o. moved v o p) w os)
 dropped g p [] w at k = k
 dropped g p (o ∷ os) w at k = dropped g p os (moved w o p) at (moved_placed g w o p at k)
 
@@ -251,7 +261,8 @@ GoesToPlace g action.Remove = Unit {0}
 GoesToPlace g (action.PutIn l) = is_place (length g.locations) l ≡ true
 GoesToPlace g (action.TakeOut l) = Unit {0}
 
-destined : (g : GameLists) (w : World) (a : Action) → w.locations ≡ length g.locations → GoesToPlace g a → is_place (length g.locations) (destination w a) ≡ true
+destined : (g : GameLists) (w : World) (a : Action) → w.locations ≡ length g.locations → GoesToPlace g a →
+    is_place (length g.locations) (destination w a) ≡ true
 destined g w action.Get of h = grind (arith, nat_tests)
 destined g w action.Drop of h = here_place g w of
 destined g w action.Wear of h = grind (arith, nat_tests)
@@ -277,7 +288,8 @@ tried_placed : (g : GameLists) (w : World) (o : ℕ) (a : Action) (said : Option
 tried_placed g w o a (Some said) h k = k
 tried_placed g w o a None h k = moved_placed g w o (destination w a) (destined g w a k.1.0 h.to) k
 
-acted_placed : (g : GameLists) (w : World) (o : ℕ) (a : Action) → Goes g a → IsPlaced g w → IsPlaced g (tried g (referred w o) o a (first_that_holds (hindrances (referred w o) o a))).world
+acted_placed : (g : GameLists) (w : World) (o : ℕ) (a : Action) → Goes g a → IsPlaced g w →
+    IsPlaced g (tried g (referred w o) o a (first_that_holds (hindrances (referred w o) o a))).world
 acted_placed g w o a h k = tried_placed g (referred w o) o a (first_that_holds (hindrances (referred w o) o a)) h (referred_placed g w o k)
 
 found_placed : (g : GameLists) (w : World) (a : Action) (found : Option ℕ) → Goes g a → IsPlaced g w → IsPlaced g (acted_on_found g w a found).world
@@ -375,7 +387,8 @@ placed_in family.Chance s w c v kept k = k
 placed_in family.Quit s w c v kept k = k
 placed_in family.Exit s w c v kept k = k
 
-pub effect_placed : (s : Story) (w : World) (c : Condact) → Valid s.game → IsTrue (is_right s.game c) → IsPlaced s.game w → IsPlaced s.game (effect_of s w c).world
+pub effect_placed : (s : Story) (w : World) (c : Condact) → Valid s.game → IsTrue (is_right s.game c) → IsPlaced s.game w →
+    IsPlaced s.game (effect_of s w c).world
 unfolding effect_of
 effect_placed s w c = placed_in (family_of c.code) s w c
 

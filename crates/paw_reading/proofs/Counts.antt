@@ -18,9 +18,15 @@ use Rattle.paw_effects.specs.Holds.{is_condition, holds}
 use Rattle.paw_effects.specs.Effects.{Done, effect_of}
 use Rattle.paw_reading.specs.declared.places.Frame.{Frame}
 use Rattle.paw_reading.specs.declared.places.OpenLoop.{OpenLoop}
-use Rattle.paw_reading.specs.Run.{Run, closed, fits, printed, with_world, without_loop, line_dropped, anew, is_timeout, is_ignored, heard, reply, is_yes, is_no, taken_phrase}
-use Rattle.paw_reading.specs.Reading.{IsOver, RunsOut, Redescribes, Restarts, Halts, Out, Left, Waits, Stopped, halts, noted, after_call, at_level, again, is_taken, taken, turns, loop_of, over, answered, asked, waits, after_test, after_parse, after_action, carried_out, acts, reads_one, condacts, is_for_now, entries, plain, looped, reads, called, deeper, rest, table_read, coming_phrase, goodbye, game_over, quit_question}
-use Rattle.paw_reading.specs.Turn.{TurnStage, AtDescribe, AtFrame, AtPhrase, AtResponse, Ending, Halted, saying, described, framed, view_text, counted, prompt_text, line_set, at_main, after_phrase, refusal_text, connected, after_left, table_done, turn, stages_left, opening, timeout_text, unknown_text}
+use Rattle.paw_reading.specs.Run.{Run, closed, fits, printed, with_world, without_loop, line_dropped, anew, is_timeout, is_ignored, heard}
+use Rattle.paw_reading.specs.Run.{reply, is_yes, is_no, taken_phrase}
+use Rattle.paw_reading.specs.Reading.{IsOver, RunsOut, Redescribes, Restarts, Halts, Out, Left, Waits, Stopped, halts, noted, after_call}
+use Rattle.paw_reading.specs.Reading.{at_level, again, is_taken, taken, turns, loop_of, over, answered, asked, waits, after_test}
+use Rattle.paw_reading.specs.Reading.{after_parse, after_action, carried_out, acts, reads_one, condacts, is_for_now, entries, plain, looped}
+use Rattle.paw_reading.specs.Reading.{reads, called, deeper, rest, table_read, coming_phrase, goodbye, game_over, quit_question}
+use Rattle.paw_reading.specs.Turn.{TurnStage, AtDescribe, AtFrame, AtPhrase, AtResponse, Ending, Halted, saying, described, framed}
+use Rattle.paw_reading.specs.Turn.{view_text, counted, prompt_text, line_set, at_main, after_phrase, refusal_text, connected, after_left}
+use Rattle.paw_reading.specs.Turn.{table_done, turn, stages_left, opening, timeout_text, unknown_text}
 use Rattle.paw_reading.specs.inner.Pieces.{count, Counted, PiecesOfLines}
 use Rattle.paw_reading.proofs.Keeps.{either, open_or_not, prints}
 
@@ -102,14 +108,16 @@ after_parse_counts f next go hn hg (IsUnknown rest) v r k = hg f.acted v (record
 after_parse_counts f next go hn hg IsNoPhrase v r k = hg f.acted v r k
 
 module _ (g : Story) (sub : ℕ → Run → Out) (lv : ℕ) (calls : CallsCounting sub) where
-  after_test_counts : (f : Frame) (next go : Bool → Run → Out) → AreCounting next → AreCounting go → (c : Condact) (t : Truth) → IsCounting (λ r. after_test g f next go c r t)
+  after_test_counts : (f : Frame) (next go : Bool → Run → Out) → AreCounting next → AreCounting go → (c : Condact) (t : Truth) →
+      IsCounting (λ r. after_test g f next go c r t)
   after_test_counts f next go hn hg c truth.Yes v r k = hg f.acted v (noted f c true r) k
   after_test_counts f next go hn hg c truth.No v r k = hn f.acted v (noted f c false r) k
   after_test_counts f next go hn hg c truth.Ask v r k =
       prints (Counts v) (quit_question g r) (waits g prompt.Quit f go) (noted f c true r)
       (waits_counts g prompt.Quit f go hg v (printed (quit_question g r) (noted f c true r)) k) k
 
-  after_action_counts : (f : Frame) (next go : Bool → Run → Out) → AreCounting next → AreCounting go → (e : Effect) → IsCounting (after_action g sub lv f next go e)
+  after_action_counts : (f : Frame) (next go : Bool → Run → Out) → AreCounting next → AreCounting go → (e : Effect) →
+      IsCounting (after_action g sub lv f next go e)
   after_action_counts f next go hn hg effect.Go v r k = hg true v r k
   after_action_counts f next go hn hg (effect.Exit a) v r k = k
   after_action_counts f next go hn hg effect.Redescribe v r k = k

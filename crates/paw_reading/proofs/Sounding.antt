@@ -1,5 +1,6 @@
 -- What a reading keeps of the world, the line, the text and the lines to come.
-use Rattle.std.proofs.Common.{◌≡◌, ℕ, zero, suc, ◌+◌, ◌-◌, ◌*◌, ◌<◌, ◌≤◌, ◌/◌, ◌%◌, Bool, true, false, ◌||◌, List, [], ◌∷◌, Option, Some, None, refl, length, drop, min, IsTrue, arith, length-append}
+use Rattle.std.proofs.Common.{◌≡◌, ℕ, zero, suc, ◌+◌, ◌-◌, ◌*◌, ◌<◌, ◌≤◌, ◌/◌, ◌%◌, Bool, true, false, ◌||◌, List, [], ◌∷◌, Option, Some}
+use Rattle.std.proofs.Common.{None, refl, length, drop, min, IsTrue, arith, length-append}
 use Rattle.std.specs.Prelude.{if◌then◌else◌, nat_lt, nat_le, All}
 use Rattle.std.specs.List.{list_all}
 use Rattle.std.proofs.Math.Nat.{min-le_left}
@@ -30,10 +31,17 @@ use Rattle.paw_effects.specs.Holds.{is_condition, holds}
 use Rattle.paw_effects.specs.Effects.{Done, effect_of}
 use Rattle.paw_reading.specs.declared.places.Frame.{Frame}
 use Rattle.paw_reading.specs.declared.places.OpenLoop.{OpenLoop}
-use Rattle.paw_reading.specs.Run.{Run, closed, fits, printed, with_world, without_loop, line_dropped, anew, is_timeout, is_ignored, heard, with_timeout, reply, is_yes, is_no, spoken, taken_phrase}
-use Rattle.paw_reading.specs.Reading.{IsOver, RunsOut, Redescribes, Restarts, Halts, Out, Left, Waits, Stopped, halts, noted, printing, after_call, at_level, again, is_taken, named, taken, turns, loop_of, over, answered, asked, waits, after_test, after_parse, after_action, carried_out, acts, reads_one, condacts, is_for_now, entries, plain, looped, reads, called, deeper, table_read, goodbye, game_over, quit_question, coming_phrase}
+use Rattle.paw_reading.specs.Run.{Run, closed, fits, printed, with_world, without_loop, line_dropped, anew, is_timeout, is_ignored, heard}
+use Rattle.paw_reading.specs.Run.{with_timeout, reply, is_yes, is_no, spoken, taken_phrase}
+use Rattle.paw_reading.specs.Reading.{IsOver, RunsOut, Redescribes, Restarts, Halts, Out, Left, Waits, Stopped, halts, noted, printing}
+use Rattle.paw_reading.specs.Reading.{after_call, at_level, again, is_taken, named, taken, turns, loop_of, over, answered, asked, waits}
+use Rattle.paw_reading.specs.Reading.{after_test, after_parse, after_action, carried_out, acts, reads_one, condacts, is_for_now, entries}
+use Rattle.paw_reading.specs.Reading.{plain, looped, reads, called, deeper, table_read, goodbye, game_over, quit_question, coming_phrase}
 use Rattle.paw_reading.specs.GoingOn.{on_path}
-use Rattle.paw_reading.specs.Turn.{TurnStage, AtDescribe, AtFrame, AtPhrase, AtResponse, Ending, WaitsAt, Halted, saying, described, framed, view_text, counted, prompt_text, line_set, at_main, after_phrase, refusal_text, connected, after_left, table_done, turn, stages_left, opening, reading, first_table, in_table, goes_on, on, timeout_text, unknown_text}
+use Rattle.paw_reading.specs.Turn.{TurnStage, AtDescribe, AtFrame, AtPhrase, AtResponse, Ending, WaitsAt, Halted, saying, described, framed}
+use Rattle.paw_reading.specs.Turn.{view_text, counted, prompt_text, line_set, at_main, after_phrase, refusal_text, connected, after_left}
+use Rattle.paw_reading.specs.Turn.{table_done, turn, stages_left, opening, reading, first_table, in_table, goes_on, on, timeout_text}
+use Rattle.paw_reading.specs.Turn.{unknown_text}
 use Rattle.paw_reading.proofs.Keeps.{either, open_or_not}
 use Rattle.paw_reading.specs.Bounds.{IsLine, ValidStory}
 use Rattle.paw_effects.proofs.Worlds.{IsWorldAt, few_locations, few_objects, facts_small, later, flag_small, flagged, start_so, anew_so}
@@ -111,19 +119,23 @@ module _ (g : Story) (valid : ValidStory g) (seed base : ℕ) where
   -- ---- changes of a run ----
 
   in_world : (r : Run) → Is r → (w : World) → IsWorldAt g.game seed (bound r) w → Is (with_world w r)
-  in_world r k w world = record { world = world; few = k.few; line = k.line; earlier = k.earlier; text = k.text; pieces = k.pieces; lines = k.lines; traced = k.traced }
+  in_world r k w world =
+      record { world = world; few = k.few; line = k.line; earlier = k.earlier; text = k.text; pieces = k.pieces; lines = k.lines; traced = k.traced }
 
   no_loop : (r : Run) → Is r → (o : Option OpenLoop) → Is (record r { turning = o })
-  no_loop r k o = record { world = k.world; few = k.few; line = k.line; earlier = k.earlier; text = k.text; pieces = k.pieces; lines = k.lines; traced = k.traced }
+  no_loop r k o =
+      record { world = k.world; few = k.few; line = k.line; earlier = k.earlier; text = k.text; pieces = k.pieces; lines = k.lines; traced = k.traced }
 
   with_pending : (r : Run) → Is r → (line : List ℕ) → IsLine line → Is (record r { pending = line })
-  with_pending r k line is = record { world = k.world; few = k.few; line = is; earlier = k.earlier; text = k.text; pieces = k.pieces; lines = k.lines; traced = k.traced }
+  with_pending r k line is =
+      record { world = k.world; few = k.few; line = is; earlier = k.earlier; text = k.text; pieces = k.pieces; lines = k.lines; traced = k.traced }
 
   dropped : (r : Run) → Is r → Is (line_dropped r)
   dropped r k = with_pending r k [] no_line
 
   with_events : (r : Run) → Is r → (lines : List (List ℕ)) → AreLines lines → Is (record r { events = lines })
-  with_events r k lines are = record { world = k.world; few = k.few; line = k.line; earlier = k.earlier; text = k.text; pieces = k.pieces; lines = are; traced = k.traced }
+  with_events r k lines are =
+      record { world = k.world; few = k.few; line = k.line; earlier = k.earlier; text = k.text; pieces = k.pieces; lines = are; traced = k.traced }
 
   resting_events : (r : Run) → Rests r → (lines : List (List ℕ)) → AreLines lines → Rests (record r { events = lines })
   resting_events r k lines are = record { sound = with_events r k.sound lines are; current = k.current; read = k.read }
@@ -140,7 +152,8 @@ module _ (g : Story) (valid : ValidStory g) (seed base : ℕ) where
     traced = k.traced;
   }
 
-  noted_so : (r : Run) (f : Frame) (c : Condact) (b : Bool) (w : World) → Is r → length r.read < 200000 → IsWorldAt g.game seed (suc (bound r)) w → Is (noted f c b (with_world w r))
+  noted_so : (r : Run) (f : Frame) (c : Condact) (b : Bool) (w : World) → Is r → length r.read < 200000 → IsWorldAt g.game seed (suc (bound r)) w →
+      Is (noted f c b (with_world w r))
   noted_so r f c b w k few world =
       let size : length (noted f c b r).read ≡ length r.read + 1 = length-append r.read _ in
       record {
@@ -253,7 +266,8 @@ module _ (g : Story) (valid : ValidStory g) (seed base : ℕ) where
 
   -- ---- loops and calls ----
 
-  again_sounds : (lv : ℕ) (next : OpenLoop → Run → Out) → ((l : OpenLoop) (r : Run) → Is r → Sounds (next l r)) → (x : Out) → Sounds x → Sounds (again lv next x)
+  again_sounds : (lv : ℕ) (next : OpenLoop → Run → Out) → ((l : OpenLoop) (r : Run) → Is r → Sounds (next l r)) → (x : Out) → Sounds x →
+      Sounds (again lv next x)
   again_sounds lv next h (Left a r) k = open_or_not Sounds (λ l. next l r) (Left a r) (at_level lv r.turning) (λ l e. h l r k) (λ e. k)
   again_sounds lv next h (Waits p path r) k = k
   again_sounds lv next h (Stopped stop r) k = k
@@ -293,7 +307,8 @@ module _ (g : Story) (valid : ValidStory g) (seed base : ℕ) where
   answered_sounds prompt.Key f go h line r k = h true r k
   answered_sounds prompt.Over f go h line r k = h f.acted r k
 
-  asked_sounds : (p : Prompt) (f : Frame) (go : Bool → Run → Out) → GoesSound go → (r : Run) (lines : List (List ℕ)) → Rests r → AreLines lines → Sounds (asked g p f go r lines)
+  asked_sounds : (p : Prompt) (f : Frame) (go : Bool → Run → Out) → GoesSound go → (r : Run) (lines : List (List ℕ)) → Rests r → AreLines lines →
+      Sounds (asked g p f go r lines)
   unfolding asked
   asked_sounds p f go h r [] k are = resting_events r k [] tt
   asked_sounds p f go h r (line ∷ lines) k are =
@@ -318,7 +333,8 @@ module _ (g : Story) (valid : ValidStory g) (seed base : ℕ) where
   dropped_if false line k = k
 
   module _ (sub : ℕ → Run → Out) (lv : ℕ) (calls : CallsSound sub) where
-    after_test_sounds : (f : Frame) (next go : Bool → Run → Out) → GoesSound next → GoesSound go → (c : Condact) (r : Run) (t : Truth) → ((b : Bool) → Is (noted f c b r)) →
+    after_test_sounds : (f : Frame) (next go : Bool → Run → Out) → GoesSound next → GoesSound go → (c : Condact) (r : Run) (t : Truth) →
+        ((b : Bool) → Is (noted f c b r)) →
         Sounds (after_test g f next go c r t)
     after_test_sounds f next go hn hg c r truth.Yes k = hg f.acted (noted f c true r) (k true)
     after_test_sounds f next go hn hg c r truth.No k = hn f.acted (noted f c false r) (k false)
@@ -326,7 +342,8 @@ module _ (g : Story) (valid : ValidStory g) (seed base : ℕ) where
         printing_sounds (quit_question g r) (waits g prompt.Quit f go) (waits_sounds prompt.Quit f go hg)
         (noted f c true r) (k true)
 
-    after_action_sounds : (f : Frame) (next go : Bool → Run → Out) → GoesSound next → GoesSound go → (e : Effect) (r : Run) → Is r → Sounds (after_action g sub lv f next go e r)
+    after_action_sounds : (f : Frame) (next go : Bool → Run → Out) → GoesSound next → GoesSound go → (e : Effect) (r : Run) → Is r →
+        Sounds (after_action g sub lv f next go e r)
     after_action_sounds f next go hn hg effect.Go r k = hg true r k
     after_action_sounds f next go hn hg (effect.Exit a) r k = k
     after_action_sounds f next go hn hg effect.Redescribe r k = no_loop r k None
@@ -349,13 +366,15 @@ module _ (g : Story) (valid : ValidStory g) (seed base : ℕ) where
       traced = k.traced;
     }
 
-    acts_sound : (f : Frame) (next go : Bool → Run → Out) → GoesSound next → GoesSound go → (d : Done) (r : Run) → Is r → IsWorldAt g.game seed (bound r) d.world →
+    acts_sound : (f : Frame) (next go : Bool → Run → Out) → GoesSound next → GoesSound go → (d : Done) (r : Run) → Is r →
+        IsWorldAt g.game seed (bound r) d.world →
         Sounds (acts g sub lv f next go d r)
     acts_sound f next go hn hg d r k world =
         by_test Sounds (fits r d.text) _ (halts (RunsOut spent.Text) r)
         (λ fit. after_action_sounds f next go hn hg d.act.effect (carried_out d (printed d.text r)) (carried_so d (printed d.text r) (printed_so r d.text k fit) world)) tt
 
-    reads_one_sounds : (f : Frame) (next go : Bool → Run → Out) → GoesSound next → GoesSound go → (c : Condact) (r : Run) → is_condact g.game c ≡ true → length r.read < 200000 → Is r →
+    reads_one_sounds : (f : Frame) (next go : Bool → Run → Out) → GoesSound next → GoesSound go → (c : Condact) (r : Run) → is_condact g.game c ≡ true →
+        length r.read < 200000 → Is r →
         Sounds (reads_one g sub lv f next go c r)
     reads_one_sounds f next go hn hg c r kept few k =
         let d : Done = effect_of g r.world c in
@@ -369,7 +388,8 @@ module _ (g : Story) (valid : ValidStory g) (seed base : ℕ) where
 
     -- ---- entries, tables ----
 
-    condacts_sound : (t e : ℕ) (next : Bool → Run → Out) → GoesSound next → (k : ℕ) (cs : List Condact) → IsTrue (list_all (is_condact g.game) cs) → GoesSound (condacts g sub lv t e next k cs)
+    condacts_sound : (t e : ℕ) (next : Bool → Run → Out) → GoesSound next → (k : ℕ) (cs : List Condact) → IsTrue (list_all (is_condact g.game) cs) →
+        GoesSound (condacts g sub lv t e next k cs)
     unfolding condacts
     condacts_sound t e next hn k [] all a r h = hn a r h
     condacts_sound t e next hn k (c ∷ cs) all a r h =
@@ -474,7 +494,8 @@ module _ (g : Story) (valid : ValidStory g) (seed base : ℕ) where
       high x most = omega arith
 
   module _ (go : TurnStage → Run → Ending) (goes : (s : TurnStage) → TurnsSound (go s)) where
-    connected_sounds : (r : Run) → Is r → (to : Option ℕ) → exit_at g.game (flag r.world 38) (flag r.world 33) ≡ to → EndsSound (connected g (go AtDescribe) (go AtFrame) r to)
+    connected_sounds : (r : Run) → Is r → (to : Option ℕ) → exit_at g.game (flag r.world 38) (flag r.world 33) ≡ to →
+        EndsSound (connected g (go AtDescribe) (go AtFrame) r to)
     connected_sounds r k None e = saying_sounds (refusal_text g.game r.world) (go AtFrame) (goes AtFrame) (line_dropped r) (dropped r k)
     connected_sounds r k (Some to) e =
         goes AtDescribe (with_world (with_flag r.world 38 to) r)

@@ -22,7 +22,10 @@ use Rattle.paw_effects.specs.Effects.{Done, effect_of}
 use Rattle.paw_reading.specs.declared.places.Frame.{Frame}
 use Rattle.paw_reading.specs.declared.places.OpenLoop.{OpenLoop}
 use Rattle.paw_reading.specs.Run.{Run, closed, fits, printed, with_world, anew, is_ignored, heard, reply, is_yes, is_no, taken_phrase}
-use Rattle.paw_reading.specs.Reading.{RunsOut, Restarts, Halts, Out, Left, Waits, Stopped, halts, within, noted, after_call, at_level, again, is_taken, taken, turns, loop_of, over, answered, asked, after_test, after_parse, after_action, carried_out, acts, reads_one, condacts, is_for_now, entries, plain, looped, reads, called, deeper, rest, table_read, coming_phrase, goodbye, game_over, quit_question, waits}
+use Rattle.paw_reading.specs.Reading.{RunsOut, Restarts, Halts, Out, Left, Waits, Stopped, halts, within, noted, after_call, at_level}
+use Rattle.paw_reading.specs.Reading.{again, is_taken, taken, turns, loop_of, over, answered, asked, after_test, after_parse, after_action}
+use Rattle.paw_reading.specs.Reading.{carried_out, acts, reads_one, condacts, is_for_now, entries, plain, looped, reads, called, deeper}
+use Rattle.paw_reading.specs.Reading.{rest, table_read, coming_phrase, goodbye, game_over, quit_question, waits}
 use Rattle.paw_reading.specs.GoingOn.{on_path}
 use Rattle.paw_reading.specs.Turn.{left_to_read}
 use Rattle.paw_reading.proofs.Keeps.{either, open_or_not, prints}
@@ -110,8 +113,10 @@ asked_spends g p f go h r (line ∷ lines) =
 
 after_parse_spends : (f : Frame) (next go : Bool → Run → Out) → AreSpending next → AreSpending go → (r : Run) (p : Parsed) →
     Leaves (λ rest. length rest < length r.pending) p → Spends (left_to_read r) (after_parse f next go r p)
-after_parse_spends f next go hn hg r (IsSentence s rest) k = Spends_up (left_to_read (taken_phrase s rest r)) _ (omega arith) _ (hn f.acted (taken_phrase s rest r))
-after_parse_spends f next go hn hg r (IsUnknown rest) k = Spends_up (left_to_read (record r { pending = rest })) _ (omega arith) _ (hg f.acted (record r { pending = rest }))
+after_parse_spends f next go hn hg r (IsSentence s rest) k =
+    Spends_up (left_to_read (taken_phrase s rest r)) _ (omega arith) _ (hn f.acted (taken_phrase s rest r))
+after_parse_spends f next go hn hg r (IsUnknown rest) k =
+    Spends_up (left_to_read (record r { pending = rest })) _ (omega arith) _ (hg f.acted (record r { pending = rest }))
 after_parse_spends f next go hn hg r IsNoPhrase k = hg f.acted r
 
 module _ (g : Story) (sub : ℕ → Run → Out) (lv : ℕ) (calls : CallsSpending sub) where

@@ -20,7 +20,10 @@ use Rattle.paw_effects.proofs.Asking.{AsksInner, effect_asks}
 use Rattle.paw_reading.specs.declared.places.Frame.{Frame}
 use Rattle.paw_reading.specs.declared.places.OpenLoop.{OpenLoop}
 use Rattle.paw_reading.specs.Run.{Run, closed, fits, printed, with_world, anew, is_ignored, heard, reply, is_yes, is_no, taken_phrase}
-use Rattle.paw_reading.specs.Reading.{RunsOut, Restarts, Out, Left, Waits, Stopped, halts, noted, after_call, at_level, again, is_taken, taken, turns, loop_of, over, answered, asked, after_test, after_parse, after_action, carried_out, acts, reads_one, condacts, is_for_now, entries, plain, looped, reads, called, deeper, rest, table_read, goodbye, game_over, quit_question, waits}
+use Rattle.paw_reading.specs.Reading.{RunsOut, Restarts, Out, Left, Waits, Stopped, halts, noted, after_call, at_level, again, is_taken}
+use Rattle.paw_reading.specs.Reading.{taken, turns, loop_of, over, answered, asked, after_test, after_parse, after_action, carried_out}
+use Rattle.paw_reading.specs.Reading.{acts, reads_one, condacts, is_for_now, entries, plain, looped, reads, called, deeper, rest}
+use Rattle.paw_reading.specs.Reading.{table_read, goodbye, game_over, quit_question, waits}
 use Rattle.paw_reading.specs.GoingOn.{on_path}
 use Rattle.paw_reading.specs.Turn.{first_table}
 use Rattle.paw_reading.specs.inner.Places.{IsLoopOf}
@@ -50,7 +53,8 @@ module _ (t : ℕ) where
   abbrev IsOwn : ℕ → ℕ → Type 0
   IsOwn lv u = lv ≡ 0 → u ≡ t
 
-  again_stays : (lv : ℕ) (next : OpenLoop → Run → Out) → ((l : OpenLoop) (r : Run) → at_level lv r.turning ≡ Some l → IsLoopOf t r.turning → Stays t lv (next l r))
+  again_stays : (lv : ℕ) (next : OpenLoop → Run → Out) →
+      ((l : OpenLoop) (r : Run) → at_level lv r.turning ≡ Some l → IsLoopOf t r.turning → Stays t lv (next l r))
       → (x : Out) → Stays t lv x → Stays t lv (again lv next x)
   again_stays lv next h (Left a r) k = open_or_not (Stays t lv) (λ l. next l r) (Left a r) (at_level lv r.turning) (λ l e. h l r e k) (λ none. k)
   again_stays lv next h (Waits p path r) k = k
@@ -68,7 +72,8 @@ module _ (t : ℕ) where
 
   -- ---- calls, prompts, phrases ----
 
-  after_call_stays : (lv : ℕ) (f : Frame) (go : Bool → Run → Out) → IsOwn lv f.table → GoesStaying lv go → (x : Out) → Stays t (suc lv) x → Stays t lv (after_call f go x)
+  after_call_stays : (lv : ℕ) (f : Frame) (go : Bool → Run → Out) → IsOwn lv f.table → GoesStaying lv go → (x : Out) → Stays t (suc lv) x →
+      Stays t lv (after_call f go x)
   after_call_stays lv f go own h (Left b r) k = h (f.acted || b) r k
   after_call_stays lv f go own h (Waits p path r) k = record { inner = k.inner; first = own; loop = k.loop }
   after_call_stays lv f go own h (Stopped stop r) k = tt
@@ -91,7 +96,8 @@ module _ (t : ℕ) where
       either (Stays t lv) (is_ignored r.world line) _ _ (asked_stays g p lv f go inner own h (closed (record r { events = lines })) lines k)
       (answered_stays g p lv f go h (reply line) (heard line (record r { events = lines })) k)
 
-  after_parse_stays : (lv : ℕ) (f : Frame) (next go : Bool → Run → Out) → GoesStaying lv next → GoesStaying lv go → (r : Run) (p : Parsed) → IsLoopOf t r.turning
+  after_parse_stays : (lv : ℕ) (f : Frame) (next go : Bool → Run → Out) → GoesStaying lv next → GoesStaying lv go → (r : Run) (p : Parsed) →
+      IsLoopOf t r.turning
       → Stays t lv (after_parse f next go r p)
   after_parse_stays lv f next go hn hg r (IsSentence s rest) k = hn f.acted (taken_phrase s rest r) k
   after_parse_stays lv f next go hn hg r (IsUnknown rest) k = hg f.acted (record r { pending = rest }) k
@@ -104,7 +110,8 @@ module _ (t : ℕ) where
   -- ---- one condact ----
 
   module _ (g : Story) (sub : ℕ → Run → Out) (lv : ℕ) (calls : CallsStaying lv sub) where
-    after_test_stays : (f : Frame) (next go : Bool → Run → Out) → IsOwn lv f.table → GoesStaying lv next → GoesStaying lv go → (c : Condact) (r : Run) (v : Truth) → IsLoopOf t r.turning
+    after_test_stays : (f : Frame) (next go : Bool → Run → Out) → IsOwn lv f.table → GoesStaying lv next → GoesStaying lv go →
+        (c : Condact) (r : Run) (v : Truth) → IsLoopOf t r.turning
         → Stays t lv (after_test g f next go c r v)
     after_test_stays f next go own hn hg c r truth.Yes k = hg f.acted (noted f c true r) k
     after_test_stays f next go own hn hg c r truth.No k = hn f.acted (noted f c false r) k
@@ -113,7 +120,8 @@ module _ (t : ℕ) where
         (asked_stays g prompt.Quit lv f go tt own hg (closed (printed (quit_question g r) (noted f c true r)))
         r.events k) tt
 
-    after_action_stays : (f : Frame) (next go : Bool → Run → Out) → IsOwn lv f.table → GoesStaying lv next → GoesStaying lv go → (e : Effect) → AsksInner e → (r : Run) → IsLoopOf t r.turning
+    after_action_stays : (f : Frame) (next go : Bool → Run → Out) → IsOwn lv f.table → GoesStaying lv next → GoesStaying lv go → (e : Effect) →
+        AsksInner e → (r : Run) → IsLoopOf t r.turning
         → Stays t lv (after_action g sub lv f next go e r)
     after_action_stays f next go own hn hg effect.Go asks r k = hg true r k
     after_action_stays f next go own hn hg (effect.Exit a) asks r k = k
@@ -124,13 +132,15 @@ module _ (t : ℕ) where
     after_action_stays f next go own hn hg effect.Parse asks r k = after_parse_stays lv f next go hn hg r _ k
     after_action_stays f next go own hn hg effect.Spent asks r k = tt
 
-    acts_stays : (f : Frame) (next go : Bool → Run → Out) → IsOwn lv f.table → GoesStaying lv next → GoesStaying lv go → (d : Done) → AsksInner d.act.effect → (r : Run) → IsLoopOf t r.turning
+    acts_stays : (f : Frame) (next go : Bool → Run → Out) → IsOwn lv f.table → GoesStaying lv next → GoesStaying lv go → (d : Done) →
+        AsksInner d.act.effect → (r : Run) → IsLoopOf t r.turning
         → Stays t lv (acts g sub lv f next go d r)
     acts_stays f next go own hn hg d asks r k =
         either (Stays t lv) (fits r d.text) _ (halts (RunsOut spent.Text) r)
         (after_action_stays f next go own hn hg d.act.effect asks (carried_out d (printed d.text r)) (cancelled d.act.cancel_loop r.turning k)) tt
 
-    reads_one_stays : (f : Frame) (next go : Bool → Run → Out) → IsOwn lv f.table → GoesStaying lv next → GoesStaying lv go → (c : Condact) (r : Run) → IsLoopOf t r.turning
+    reads_one_stays : (f : Frame) (next go : Bool → Run → Out) → IsOwn lv f.table → GoesStaying lv next → GoesStaying lv go → (c : Condact) (r : Run) →
+        IsLoopOf t r.turning
         → Stays t lv (reads_one g sub lv f next go c r)
     reads_one_stays f next go own hn hg c r k =
         either (Stays t lv) (is_condition c) _ _
@@ -139,7 +149,8 @@ module _ (t : ℕ) where
 
     -- ---- entries, tables ----
 
-    condacts_stay : (u e : ℕ) (next : Bool → Run → Out) → IsOwn lv u → GoesStaying lv next → (k : ℕ) (cs : List Condact) → GoesStaying lv (condacts g sub lv u e next k cs)
+    condacts_stay : (u e : ℕ) (next : Bool → Run → Out) → IsOwn lv u → GoesStaying lv next → (k : ℕ) (cs : List Condact) →
+        GoesStaying lv (condacts g sub lv u e next k cs)
     unfolding condacts
     condacts_stay u e next own hn k [] a r h = hn a r h
     condacts_stay u e next own hn k (c ∷ cs) a r h =

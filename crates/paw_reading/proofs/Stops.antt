@@ -18,7 +18,10 @@ use Rattle.paw_effects.specs.Effects.{Done, effect_of}
 use Rattle.paw_reading.specs.declared.places.Frame.{Frame}
 use Rattle.paw_reading.specs.declared.places.OpenLoop.{OpenLoop}
 use Rattle.paw_reading.specs.Run.{Run, closed, fits, printed, with_world, anew, is_ignored, heard, reply, is_yes, is_no, taken_phrase}
-use Rattle.paw_reading.specs.Reading.{RunsOut, Restarts, Halts, Out, Left, Waits, Stopped, halts, noted, after_call, at_level, again, is_taken, taken, turns, loop_of, over, answered, asked, after_test, after_parse, after_action, carried_out, acts, reads_one, condacts, is_for_now, entries, plain, looped, reads, called, deeper, rest, goodbye, game_over, quit_question, waits}
+use Rattle.paw_reading.specs.Reading.{RunsOut, Restarts, Halts, Out, Left, Waits, Stopped, halts, noted, after_call, at_level, again}
+use Rattle.paw_reading.specs.Reading.{is_taken, taken, turns, loop_of, over, answered, asked, after_test, after_parse, after_action}
+use Rattle.paw_reading.specs.Reading.{carried_out, acts, reads_one, condacts, is_for_now, entries, plain, looped, reads, called, deeper}
+use Rattle.paw_reading.specs.Reading.{rest, goodbye, game_over, quit_question, waits}
 use Rattle.paw_reading.specs.GoingOn.{on_path}
 use Rattle.paw_reading.proofs.Keeps.{either, open_or_not, prints}
 
@@ -85,14 +88,16 @@ after_parse_stops f next go hn hg r (IsUnknown rest) = hg f.acted (record r { pe
 after_parse_stops f next go hn hg r IsNoPhrase = hg f.acted r
 
 module _ (g : Story) (sub : ℕ → Run → Out) (lv : ℕ) (calls : CallsStopping sub) where
-  after_test_stops : (f : Frame) (next go : Bool → Run → Out) → AreStopping next → AreStopping go → (c : Condact) (r : Run) (t : Truth) → Stops (after_test g f next go c r t)
+  after_test_stops : (f : Frame) (next go : Bool → Run → Out) → AreStopping next → AreStopping go → (c : Condact) (r : Run) (t : Truth) →
+      Stops (after_test g f next go c r t)
   after_test_stops f next go hn hg c r truth.Yes = hg f.acted (noted f c true r)
   after_test_stops f next go hn hg c r truth.No = hn f.acted (noted f c false r)
   after_test_stops f next go hn hg c r truth.Ask =
       prints Stops (quit_question g r) (waits g prompt.Quit f go) (noted f c true r)
       (asked_stops g prompt.Quit f go hg (closed (printed (quit_question g r) (noted f c true r))) r.events) tt
 
-  after_action_stops : (f : Frame) (next go : Bool → Run → Out) → AreStopping next → AreStopping go → (e : Effect) (r : Run) → Stops (after_action g sub lv f next go e r)
+  after_action_stops : (f : Frame) (next go : Bool → Run → Out) → AreStopping next → AreStopping go → (e : Effect) (r : Run) →
+      Stops (after_action g sub lv f next go e r)
   after_action_stops f next go hn hg effect.Go r = hg true r
   after_action_stops f next go hn hg (effect.Exit a) r = tt
   after_action_stops f next go hn hg effect.Redescribe r = refl
@@ -107,7 +112,8 @@ module _ (g : Story) (sub : ℕ → Run → Out) (lv : ℕ) (calls : CallsStoppi
       either Stops (fits r d.text) _ (halts (RunsOut spent.Text) r)
       (after_action_stops f next go hn hg d.act.effect (carried_out d (printed d.text r))) tt
 
-  reads_one_stops : (f : Frame) (next go : Bool → Run → Out) → AreStopping next → AreStopping go → (c : Condact) (r : Run) → Stops (reads_one g sub lv f next go c r)
+  reads_one_stops : (f : Frame) (next go : Bool → Run → Out) → AreStopping next → AreStopping go → (c : Condact) (r : Run) →
+      Stops (reads_one g sub lv f next go c r)
   reads_one_stops f next go hn hg c r =
       either Stops (is_condition c) _ _
       (after_test_stops f next go hn hg c (with_world (holds g.game r.world c).world r) (holds g.game r.world c).answer)
