@@ -1,5 +1,5 @@
 -- Each condact leaves the objects of a world at places of the game.
-use Rattle.std.proofs.Common.{◌≡◌, ℕ, ◌==◌, ◌||◌, Bool, true, false, not, List, [], ◌∷◌, Option, Some, None, refl, sym, ap, ◌∙◌, subst, map}
+use Rattle.std.proofs.Common.{◌≡◌, ℕ, ◌==◌, ◌||◌, Bool, true, false, List, [], ◌∷◌, Option, Some, None, refl, sym, ap, ◌∙◌, subst, map}
 use Rattle.std.proofs.Common.{length, slice_get, arith, inl, inr, nat_lt, IsTrue}
 use Rattle.std.specs.Prelude.{if◌then◌else◌, fold, slice_index}
 use Rattle.std.proofs.lemmas.Bool.{cases_lt, eqb-true, leb-true}
@@ -14,7 +14,7 @@ use Rattle.paw_base.specs.declared.rows.Family.TheVariants as family
 use Rattle.paw_base.specs.declared.rows.ParamKind.{ParamKind}
 use Rattle.paw_base.specs.declared.rows.ParamKind.TheVariants as kind
 use Rattle.paw_base.specs.Condacts.{condact_lines, line_of, first_kind, second_kind, family_of}
-use Rattle.paw_base.proofs.Table.{below, each_code}
+use Rattle.paw_base.proofs.Table.{below}
 use Rattle.paw_game.specs.Game.{GameLists}
 use Rattle.paw_game.specs.Tables.{facts_of}
 use Rattle.paw_game.specs.Valid.{Valid, is_within, is_place, texts_kept}
@@ -41,6 +41,7 @@ use Rattle.paw_effects.specs.ObjectActions.{destination, first_that_holds, hindr
 use Rattle.paw_effects.specs.AutoActions.{looks_at, action_of, acts_on_given, acts_by_name, acted_on_found, referred_to_found, object_action_of}
 use Rattle.paw_effects.specs.Effects.{effect_in, effect_of}
 use Rattle.paw_effects.specs.Holds.{moves_to, tested_in, holds}
+use Rattle.paw_effects.proofs.Parameters.{AreOfKind, of_kind}
 
 -- the facts and the number of locations are the game's, and each object stands at a place of it
 abbrev pub IsPlaced : GameLists → World → Type 0
@@ -131,17 +132,7 @@ returned_placed g w v k = (k.0, (k.1.0, (begins_placed g w.facts v k.0, k.1.1.1)
 is_bound : ParamKind → Bool
 is_bound kind.Absent = true
 is_bound kind.Location = true
-is_bound kind.Place = false
-is_bound kind.Object = false
-is_bound kind.Flag = false
-is_bound kind.Number = false
-is_bound kind.Message = false
-is_bound kind.System = false
-is_bound kind.Table = false
-is_bound kind.Adverb = false
-is_bound kind.Noun = false
-is_bound kind.Adjective = false
-is_bound kind.Preposition = false
+is_bound _ = false
 
 low_place : (locations x : ℕ) → nat_lt x locations ≡ true → is_place locations x ≡ true
 low_place locations x h = grind (arith, nat_tests)
@@ -151,41 +142,21 @@ bound_place : (g : GameLists) (k : ParamKind) (x : ℕ) → Valid g → is_bound
 unfolding is_bound
 bound_place g kind.Absent x v h p = rw (eqb-true x 0 p) (first_place g v)
 bound_place g kind.Location x v h p = low_place (length g.locations) x p
-bound_place g kind.Place x v h p = cc
-bound_place g kind.Object x v h p = cc
-bound_place g kind.Flag x v h p = cc
-bound_place g kind.Number x v h p = cc
-bound_place g kind.Message x v h p = cc
-bound_place g kind.System x v h p = cc
-bound_place g kind.Table x v h p = cc
-bound_place g kind.Adverb x v h p = cc
-bound_place g kind.Noun x v h p = cc
-bound_place g kind.Adjective x v h p = cc
-bound_place g kind.Preposition x v h p = cc
+bound_place g _ x v h p = cc
 
-implied : (a b : Bool) → (not a || b) ≡ true → a ≡ true → b ≡ true
-implied true b h e = h
-implied false b h e = cc
-
-given_bound : below (λ code. not (acts_on_given code) || is_bound (second_kind code)) 108 ≡ true
+bounds : AreOfKind is_bound acts_on_given second_kind × AreOfKind is_bound acts_by_name first_kind
 unfolding condact_lines line_of below is_bound
-given_bound = refl
-
-found_bound : below (λ code. not (acts_by_name code) || is_bound (first_kind code)) 108 ≡ true
-unfolding condact_lines line_of below is_bound
-found_bound = refl
+bounds = (refl, refl)
 
 given_place : (g : GameLists) (c : Condact) → Valid g → IsTrue (is_right g c) → acts_on_given c.code ≡ true → is_place (length g.locations) c.b ≡ true
 given_place g c v kept own =
     bound_place g (second_kind c.code) c.b v
-    (implied (acts_on_given c.code) _ (each_code (λ code. not (acts_on_given code) || is_bound (second_kind code)) given_bound c.code (right-code g c kept)) own)
-    (right-second g c kept)
+    (of_kind is_bound acts_on_given second_kind bounds.0 c.code (right-code g c kept) own) (right-second g c kept)
 
 found_place : (g : GameLists) (c : Condact) → Valid g → IsTrue (is_right g c) → acts_by_name c.code ≡ true → is_place (length g.locations) c.a ≡ true
 found_place g c v kept own =
     bound_place g (first_kind c.code) c.a v
-    (implied (acts_by_name c.code) _ (each_code (λ code. not (acts_by_name code) || is_bound (first_kind code)) found_bound c.code (right-code g c kept)) own)
-    (right-first g c kept)
+    (of_kind is_bound acts_by_name first_kind bounds.1 c.code (right-code g c kept) own) (right-first g c kept)
 
 -- the first parameters of PUTO and DOALL, and the second of PLACE, are places
 puto_takes : first_kind 65 ≡ kind.Place
