@@ -1,14 +1,12 @@
 -- A table that is left has the loop with which it was begun, or none.
 use Rattle.std.proofs.Common.{◌≡◌, ℕ, zero, suc, ◌-◌, Bool, true, false, ◌||◌, List, [], ◌∷◌, Option, Some, None, ◌⊎◌, inl, inr, refl, sym}
-use Rattle.std.proofs.Common.{ap, ◌∙◌, subst, length, drop, arith}
-use Rattle.std.specs.Prelude.{◌==◌, if◌then◌else◌, nat_lt}
+use Rattle.std.proofs.Common.{ap, ◌∙◌, subst, length, arith}
+use Rattle.std.specs.Prelude.{◌==◌, if◌then◌else◌}
 use Rattle.std.proofs.lemmas.Bool.Decides.{nat_tests}
 use Rattle.std.proofs.lemmas.Bool.{eqb-true}
 use Rattle.paw_base.specs.declared.parts.Condact.{Condact}
 use Rattle.paw_base.specs.declared.fault.SpentKind.TheVariants as spent
-use Rattle.paw_game.specs.declared.parts.Entry.{Entry}
 use Rattle.paw_effects.specs.Story.{Story}
-use Rattle.paw_game.specs.Tables.{table_at, entry_at, condacts_of}
 use Rattle.paw_phrase.specs.Sentence.{Parsed, IsSentence, IsUnknown, IsNoPhrase}
 use Rattle.paw_effects.specs.declared.act.Prompt.{Prompt}
 use Rattle.paw_effects.specs.declared.act.Prompt.TheVariants as prompt
@@ -23,8 +21,9 @@ use Rattle.paw_reading.specs.declared.places.OpenLoop.{OpenLoop}
 use Rattle.paw_reading.specs.Run.{Run, closed, fits, printed, with_world, anew, is_ignored, heard, reply, is_yes, is_no, taken_phrase}
 use Rattle.paw_reading.specs.Reading.{RunsOut, Restarts, Out, Left, Waits, Stopped, halts, noted, after_call, at_level, if_open, again}
 use Rattle.paw_reading.specs.Reading.{taken, turns, loop_of, over, answered, asked, after_test, after_parse, after_action, carried_out}
-use Rattle.paw_reading.specs.Reading.{acts, reads_one, condacts, is_for_now, entries, plain, looped, reads, called, deeper, goodbye}
-use Rattle.paw_reading.specs.Reading.{game_over, quit_question, printing, waits}
+use Rattle.paw_reading.specs.Reading.{acts, reads_one, plain, looped, reads, called, deeper, goodbye, game_over, quit_question, printing}
+use Rattle.paw_reading.specs.Reading.{waits}
+use Rattle.paw_reading.proofs.EachCondact.{plain_goes}
 
 -- the loop is this one, or there is none
 abbrev pub IsOrNone : Option OpenLoop → Option OpenLoop → Type 0
@@ -174,27 +173,12 @@ module _ (g : Story) (sub : ℕ → Run → Out) (lv : ℕ) (calls : CallsKeepin
       (after_test_keeps f next go hn hg c (with_world (holds g.game r.world c).world r) (holds g.game r.world c).answer)
       (acts_keeps f next go hn hg (effect_of g r.world c) (noted f c true r))
 
-  -- ---- entries, tables ----
-
-  condacts_keeps : (t e : ℕ) (next : Bool → Run → Out) → GoesKeeping next → (k : ℕ) (cs : List Condact) → GoesKeeping (condacts g sub lv t e next k cs)
-  unfolding condacts
-  condacts_keeps t e next hn k [] a r = hn a r
-  condacts_keeps t e next hn k (c ∷ cs) a r =
-      either (Keeps r.turning) (nat_lt (length r.read) 200000) _ (halts (RunsOut spent.Condacts) r)
-      (reads_one_keeps (record { table = t; entry = e; at = k; acted = a }) next _ hn (condacts_keeps t e next hn (suc k) cs) c r) tt
-
-  entries_keeps : (t e : ℕ) (es : List Entry) → GoesKeeping (entries g sub lv t e es)
-  unfolding entries
-  entries_keeps t e [] a r = inl refl
-  entries_keeps t e (en ∷ es) a r =
-      either (Keeps r.turning) (is_for_now r en) _ _
-      (condacts_keeps t e (entries g sub lv t (suc e) es) (entries_keeps t (suc e) es) 0 en.condacts a r)
-      (entries_keeps t (suc e) es a r)
+  -- ---- tables ----
 
   pub plain_keeps : (t e k : ℕ) → GoesKeeping (plain g sub lv t e k)
-  plain_keeps t e zero a r = entries_keeps t e (drop e (table_at g.game t)) a r
-  plain_keeps t e (suc k) a r =
-      condacts_keeps t e _ (entries_keeps t (suc e) (drop (suc e) (table_at g.game t))) (suc k) (drop (suc k) (condacts_of (entry_at g.game t e))) a r
+  plain_keeps t =
+      plain_goes (λ r x. Keeps r.turning x) g sub lv t (λ a r. inl refl) (λ r. tt)
+      (λ e k a next go hn hg c r few. reads_one_keeps (record { table = t; entry = e; at = k; acted = a }) next go hn hg c r)
 
   pub looped_closes : (l : OpenLoop) (r : Run) → l.level ≡ lv → Keeps None (looped g sub lv l r)
   looped_closes l r own =

@@ -42,6 +42,7 @@ use Rattle.paw_reading.specs.Turn.{TurnStage, AtDescribe, AtFrame, AtPhrase, AtR
 use Rattle.paw_reading.specs.Turn.{view_text, counted, prompt_text, line_set, at_main, after_phrase, refusal_text, connected, after_left}
 use Rattle.paw_reading.specs.Turn.{table_done, turn, stages_left, opening, reading, first_table, in_table, goes_on, on, timeout_text}
 use Rattle.paw_reading.specs.Turn.{unknown_text}
+use Rattle.paw_reading.proofs.EachCondact.{by_test}
 use Rattle.paw_reading.proofs.Keeps.{either, open_or_not}
 use Rattle.paw_reading.specs.Bounds.{IsLine, ValidStory}
 use Rattle.paw_effects.proofs.Worlds.{IsWorldAt, few_locations, few_objects, facts_small, later, flag_small, flagged, start_so, anew_so}
@@ -80,11 +81,6 @@ one_short : (piece : List ℕ) → length piece ≤ 65535 → All (λ q. length 
 one_short piece short zero d low = short
 one_short piece short (suc k) d low = absurd (omega arith)
 
--- what holds in both cases, the first with its test
-by_test : (P : Out → Type 0) (b : Bool) (x y : Out) → (b ≡ true → P x) → P y → P (if b then x else y)
-by_test P true x y h k = h refl
-by_test P false x y h k = k
-
 kept_drop : {A : Type 0} (p : A → Bool) (n : ℕ) (xs : List A) → IsTrue (list_all p xs) → IsTrue (list_all p (drop n xs))
 kept_drop p zero xs all = all
 kept_drop p (suc n) [] all = all
@@ -118,17 +114,20 @@ module _ (g : Story) (valid : ValidStory g) (seed base : ℕ) where
 
   -- ---- changes of a run ----
 
+  -- with another world, another line, another verb before it and another loop
+  changed : (r : Run) → Is r → (w : World) → IsWorldAt g.game seed (bound r) w → (line : List ℕ) → IsLine line → (earlier : ℕ) → earlier < 256 →
+      (turning : Option OpenLoop) → Is (record r { world = w; pending = line; earlier = earlier; turning = turning })
+  changed r k w world line is earlier small turning =
+      record { world = world; few = k.few; line = is; earlier = small; text = k.text; pieces = k.pieces; lines = k.lines; traced = k.traced }
+
   in_world : (r : Run) → Is r → (w : World) → IsWorldAt g.game seed (bound r) w → Is (with_world w r)
-  in_world r k w world =
-      record { world = world; few = k.few; line = k.line; earlier = k.earlier; text = k.text; pieces = k.pieces; lines = k.lines; traced = k.traced }
+  in_world r k w world = changed r k w world r.pending k.line r.earlier k.earlier r.turning
 
   no_loop : (r : Run) → Is r → (o : Option OpenLoop) → Is (record r { turning = o })
-  no_loop r k o =
-      record { world = k.world; few = k.few; line = k.line; earlier = k.earlier; text = k.text; pieces = k.pieces; lines = k.lines; traced = k.traced }
+  no_loop r k o = changed r k r.world k.world r.pending k.line r.earlier k.earlier o
 
   with_pending : (r : Run) → Is r → (line : List ℕ) → IsLine line → Is (record r { pending = line })
-  with_pending r k line is =
-      record { world = k.world; few = k.few; line = is; earlier = k.earlier; text = k.text; pieces = k.pieces; lines = k.lines; traced = k.traced }
+  with_pending r k line is = changed r k r.world k.world line is r.earlier k.earlier r.turning
 
   dropped : (r : Run) → Is r → Is (line_dropped r)
   dropped r k = with_pending r k [] no_line
@@ -199,16 +198,7 @@ module _ (g : Story) (valid : ValidStory g) (seed base : ℕ) where
   heard_so line r k = in_world r k (with_timeout (is_timeout line) r.world) (timeout_so (bound r) (is_timeout line) r.world k.world)
 
   anew_run : (r : Run) → Is r → Is (anew r)
-  anew_run r k = record {
-    world = anew_so g.game v seed (bound r) r.world k.world;
-    few = k.few;
-    line = no_line;
-    earlier = omega arith;
-    text = k.text;
-    pieces = k.pieces;
-    lines = k.lines;
-    traced = k.traced;
-  }
+  anew_run r k = changed r k _ (anew_so g.game v seed (bound r) r.world k.world) [] no_line 255 (omega arith) None
 
   spoken_so : (n : ℕ) (s : Sentence) (w : World) → AreWords s → IsWorldAt g.game seed n w → IsWorldAt g.game seed n (spoken s w)
   spoken_so n s w b k =
@@ -227,16 +217,8 @@ module _ (g : Story) (valid : ValidStory g) (seed base : ℕ) where
       Is (taken_phrase s left r)
   phrase_so r k s left e =
       let words = parsed-bytes g.game r.pending r.earlier (flag r.world 46) (flag r.world 47) s left v k.earlier (flag_small g.game v seed (bound r) r.world k.world 46) (flag_small g.game v seed (bound r) r.world k.world 47) e in
-      record {
-        world = spoken_so (bound r) s r.world words k.world;
-        few = k.few;
-        line = left_line r.pending left (sentence-rest g.game r.pending r.earlier (flag r.world 46) (flag r.world 47) s left e) k.line;
-        earlier = words.verb;
-        text = k.text;
-        pieces = k.pieces;
-        lines = k.lines;
-        traced = k.traced;
-      }
+      changed r k (spoken s r.world) (spoken_so (bound r) s r.world words k.world) left
+      (left_line r.pending left (sentence-rest g.game r.pending r.earlier (flag r.world 46) (flag r.world 47) s left e) k.line) s.verb words.verb r.turning
 
   unknown_so : (r : Run) → Is r → (left : List ℕ) → coming_phrase g r ≡ IsUnknown left →
       Is (record r { pending = left })
@@ -253,16 +235,8 @@ module _ (g : Story) (valid : ValidStory g) (seed base : ℕ) where
   taken_so l o r small k =
       let w : World = named r.world (facts_at g.game o) in
       let w_so : IsWorldAt g.game seed (bound r) w = named_so (bound r) r.world k.world o (facts_at g.game o) refl in
-      record {
-        world = referred_so g.game v seed (bound r) (with_flag w 50 o) (flagged g.game v seed (bound r) w w_so 50 o small) o small;
-        few = k.few;
-        line = k.line;
-        earlier = k.earlier;
-        text = k.text;
-        pieces = k.pieces;
-        lines = k.lines;
-        traced = k.traced;
-      }
+      changed r k _ (referred_so g.game v seed (bound r) (with_flag w 50 o) (flagged g.game v seed (bound r) w w_so 50 o small) o small)
+      r.pending k.line r.earlier k.earlier (Some (record l { last = o }))
 
   -- ---- loops and calls ----
 
@@ -355,16 +329,7 @@ module _ (g : Story) (valid : ValidStory g) (seed base : ℕ) where
     after_action_sounds f next go hn hg effect.Spent r k = tt
 
     carried_so : (d : Done) (r : Run) → Is r → IsWorldAt g.game seed (bound r) d.world → Is (carried_out d r)
-    carried_so d r k world = record {
-      world = world;
-      few = k.few;
-      line = dropped_if d.act.drop_line r.pending k.line;
-      earlier = k.earlier;
-      text = k.text;
-      pieces = k.pieces;
-      lines = k.lines;
-      traced = k.traced;
-    }
+    carried_so d r k world = changed r k d.world world _ (dropped_if d.act.drop_line r.pending k.line) r.earlier k.earlier _
 
     acts_sound : (f : Frame) (next go : Bool → Run → Out) → GoesSound next → GoesSound go → (d : Done) (r : Run) → Is r →
         IsWorldAt g.game seed (bound r) d.world →
@@ -520,16 +485,7 @@ module _ (g : Story) (valid : ValidStory g) (seed base : ℕ) where
     read_sounds t r k = table_done_sounds t (table_read g t r) (table_sounds t r k)
 
     line_set_so : (line : List ℕ) (r : Run) → IsLine line → Is r → Is (line_set line r)
-    line_set_so line r is k = record {
-      world = timeout_so (bound r) false r.world k.world;
-      few = k.few;
-      line = is;
-      earlier = omega arith;
-      text = k.text;
-      pieces = k.pieces;
-      lines = k.lines;
-      traced = k.traced;
-    }
+    line_set_so line r is k = changed r k _ (timeout_so (bound r) false r.world k.world) line is 255 (omega arith) r.turning
 
     at_main_sounds : (r : Run) (lines : List (List ℕ)) → Rests r → AreLines lines → EndsSound (at_main g (go AtFrame) (go AtPhrase) r lines)
     unfolding at_main

@@ -1,11 +1,9 @@
 -- Where reading waits: the outermost of the tables that are open is the one that is read, and so is that of its loop.
-use Rattle.std.proofs.Common.{◌≡◌, ℕ, zero, suc, ◌-◌, Bool, true, false, ◌||◌, List, [], ◌∷◌, Option, Some, None, refl, sym, ◌∙◌, subst, length, drop}
-use Rattle.std.specs.Prelude.{if◌then◌else◌, nat_lt}
+use Rattle.std.proofs.Common.{◌≡◌, ℕ, zero, suc, ◌-◌, Bool, true, false, ◌||◌, List, [], ◌∷◌, Option, Some, None, refl, sym, ◌∙◌, subst, length}
+use Rattle.std.specs.Prelude.{if◌then◌else◌}
 use Rattle.paw_base.specs.declared.parts.Condact.{Condact}
 use Rattle.paw_base.specs.declared.fault.SpentKind.TheVariants as spent
-use Rattle.paw_game.specs.declared.parts.Entry.{Entry}
 use Rattle.paw_effects.specs.Story.{Story}
-use Rattle.paw_game.specs.Tables.{table_at, entry_at, condacts_of}
 use Rattle.paw_phrase.specs.Sentence.{Parsed, IsSentence, IsUnknown, IsNoPhrase}
 use Rattle.paw_effects.specs.declared.act.Prompt.{Prompt}
 use Rattle.paw_effects.specs.declared.act.Prompt.TheVariants as prompt
@@ -22,12 +20,13 @@ use Rattle.paw_reading.specs.declared.places.OpenLoop.{OpenLoop}
 use Rattle.paw_reading.specs.Run.{Run, closed, fits, printed, with_world, anew, is_ignored, heard, reply, is_yes, is_no, taken_phrase}
 use Rattle.paw_reading.specs.Reading.{RunsOut, Restarts, Out, Left, Waits, Stopped, halts, noted, after_call, at_level, again, is_taken}
 use Rattle.paw_reading.specs.Reading.{taken, turns, loop_of, over, answered, asked, after_test, after_parse, after_action, carried_out}
-use Rattle.paw_reading.specs.Reading.{acts, reads_one, condacts, is_for_now, entries, plain, looped, reads, called, deeper, rest}
-use Rattle.paw_reading.specs.Reading.{table_read, goodbye, game_over, quit_question, waits}
+use Rattle.paw_reading.specs.Reading.{acts, reads_one, plain, looped, reads, called, deeper, rest, table_read, goodbye, game_over}
+use Rattle.paw_reading.specs.Reading.{quit_question, waits}
 use Rattle.paw_reading.specs.GoingOn.{on_path}
 use Rattle.paw_reading.specs.Turn.{first_table}
 use Rattle.paw_reading.specs.inner.Places.{IsLoopOf}
 use Rattle.paw_reading.proofs.Keeps.{either, open_or_not, at_level_is, prints}
+use Rattle.paw_reading.proofs.EachCondact.{plain_goes}
 
 -- a wait at this level, where table t is the one at level 0
 pub record WaitsThere (t lv : ℕ) (p : Prompt) (path : List Frame) (turning : Option OpenLoop) : Type 0 where
@@ -147,28 +146,12 @@ module _ (t : ℕ) where
         (after_test_stays f next go own hn hg c (with_world (holds g.game r.world c).world r) (holds g.game r.world c).answer k)
         (acts_stays f next go own hn hg (effect_of g r.world c) (effect_asks g r.world c) (noted f c true r) k)
 
-    -- ---- entries, tables ----
-
-    condacts_stay : (u e : ℕ) (next : Bool → Run → Out) → IsOwn lv u → GoesStaying lv next → (k : ℕ) (cs : List Condact) →
-        GoesStaying lv (condacts g sub lv u e next k cs)
-    unfolding condacts
-    condacts_stay u e next own hn k [] a r h = hn a r h
-    condacts_stay u e next own hn k (c ∷ cs) a r h =
-        either (Stays t lv) (nat_lt (length r.read) 200000) _ (halts (RunsOut spent.Condacts) r)
-        (reads_one_stays (record { table = u; entry = e; at = k; acted = a }) next _ own hn (condacts_stay u e next own hn (suc k) cs) c r h) tt
-
-    entries_stay : (u e : ℕ) (es : List Entry) → IsOwn lv u → GoesStaying lv (entries g sub lv u e es)
-    unfolding entries
-    entries_stay u e [] own a r h = h
-    entries_stay u e (en ∷ es) own a r h =
-        either (Stays t lv) (is_for_now r en) _ _
-        (condacts_stay u e (entries g sub lv u (suc e) es) own (entries_stay u (suc e) es own) 0 en.condacts a r h)
-        (entries_stay u (suc e) es own a r h)
+    -- ---- tables ----
 
     plain_stays : (u e k : ℕ) → IsOwn lv u → GoesStaying lv (plain g sub lv u e k)
-    plain_stays u e zero own a r h = entries_stay u e (drop e (table_at g.game u)) own a r h
-    plain_stays u e (suc k) own a r h =
-        condacts_stay u e _ own (entries_stay u (suc e) (drop (suc e) (table_at g.game u)) own) (suc k) (drop (suc k) (condacts_of (entry_at g.game u e))) a r h
+    plain_stays u e k own =
+        plain_goes (λ r x. IsLoopOf t r.turning → Stays t lv x) g sub lv u (λ a r h. h) (λ r h. tt)
+        (λ i m a next go hn hg c r few h. reads_one_stays (record { table = u; entry = i; at = m; acted = a }) next go own hn hg c r h) e k
 
     looped_stays : (l : OpenLoop) (r : Run) → at_level lv r.turning ≡ Some l → IsLoopOf t r.turning → Stays t lv (looped g sub lv l r)
     looped_stays l r e h =
