@@ -1,5 +1,6 @@
 -- What a condact does to the world of a game that is played.
-use Rattle.std.proofs.Common.{◌≡◌, ℕ, suc, ◌+◌, ◌-◌, ◌<◌, ◌==◌, ◌%◌, Bool, true, false, ◌||◌, List, [], ◌∷◌, Option, Some, None, inl, inr, refl, sym, ap, ◌∙◌, subst, length, take, drop, min, slice_get, IsTrue, arith}
+use Rattle.std.proofs.Common.{◌≡◌, ℕ, suc, ◌+◌, ◌-◌, ◌<◌, ◌==◌, ◌%◌, Bool, true, false, ◌||◌, List, [], ◌∷◌, Option, Some, None, inl, inr}
+use Rattle.std.proofs.Common.{refl, sym, ap, ◌∙◌, subst, length, take, drop, min, slice_get, IsTrue, arith}
 use Rattle.std.specs.Option.{option_or}
 use Rattle.std.specs.Prelude.{find, if◌then◌else◌, nat_lt, IfSome, fold, sum_by, slice_index, All}
 use Rattle.std.proofs.Math.Nat.{min-le_left}
@@ -20,7 +21,8 @@ use Rattle.paw_game.specs.Game.{GameLists}
 use Rattle.paw_game.specs.Tables.{exit_at}
 use Rattle.paw_game.specs.Valid.{Valid, is_condact, is_parameter, is_within}
 use Rattle.paw_game.proofs.Kept.{condact-first, condact-second, exit-leads}
-use Rattle.paw_world.specs.World.{World, Position, is_somewhere, flag, with_flag, place, here, moved, with_objects_returned, taken_from, drawn_on, position_of, keeping, kept_position}
+use Rattle.paw_world.specs.World.{World, Position, is_somewhere, flag, with_flag, place, here, moved, with_objects_returned, taken_from}
+use Rattle.paw_world.specs.World.{drawn_on, position_of, keeping, kept_position}
 use Rattle.paw_world.specs.Draws.{random_word}
 use Rattle.paw_routines.specs.Rows.{value_in, value_at}
 use Rattle.paw_world.specs.Weight.{weight, carried_weight, objects_at}
@@ -46,7 +48,8 @@ use Rattle.paw_effects.specs.Story.{story_of}
 use Rattle.paw_effects.specs.Holds.{moves_to, tested_in, holds}
 use Rattle.paw_effects.specs.Standing.{AreBytes}
 use Rattle.paw_effects.specs.inner.Standing.{IsPositionOf, MayBePosition}
-use Rattle.paw_effects.proofs.Worlds.{byte_at, IsWorldAt, IsPlace, few_locations, few_objects, parameter_small, world_of, later, flag_small, flagged, place_of, place_is_small, here_place, named, moved_so, weight_small, returned_so}
+use Rattle.paw_effects.proofs.Worlds.{byte_at, IsWorldAt, IsPlace, few_locations, few_objects, parameter_small, world_of, later, flag_small}
+use Rattle.paw_effects.proofs.Worlds.{flagged, place_of, place_is_small, here_place, named, moved_so, weight_small, returned_so}
 
 module _ (g : GameLists) (v : Valid g) (seed n : ℕ) where
   abbrev Is : World → Type 0

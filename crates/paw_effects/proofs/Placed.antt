@@ -1,5 +1,6 @@
 -- Each condact leaves the objects of a world at places of the game.
-use Rattle.std.proofs.Common.{◌≡◌, ℕ, ◌==◌, ◌||◌, Bool, true, false, not, List, [], ◌∷◌, Option, Some, None, refl, sym, ap, ◌∙◌, subst, map, length, slice_get, arith, inl, inr, nat_lt, IsTrue}
+use Rattle.std.proofs.Common.{◌≡◌, ℕ, ◌==◌, ◌||◌, Bool, true, false, List, [], ◌∷◌, Option, Some, None, refl, sym, ap, ◌∙◌, subst, map}
+use Rattle.std.proofs.Common.{length, slice_get, arith, inl, inr, nat_lt, IsTrue}
 use Rattle.std.specs.Prelude.{if◌then◌else◌, fold, slice_index}
 use Rattle.std.proofs.lemmas.Bool.{cases_lt, eqb-true, leb-true}
 use Rattle.std.proofs.lemmas.Bool.Decides.{nat_tests}
@@ -13,14 +14,15 @@ use Rattle.paw_base.specs.declared.rows.Family.TheVariants as family
 use Rattle.paw_base.specs.declared.rows.ParamKind.{ParamKind}
 use Rattle.paw_base.specs.declared.rows.ParamKind.TheVariants as kind
 use Rattle.paw_base.specs.Condacts.{condact_lines, line_of, first_kind, second_kind, family_of}
-use Rattle.paw_base.proofs.Table.{below, each_code}
+use Rattle.paw_base.proofs.Table.{below}
 use Rattle.paw_game.specs.Game.{GameLists}
 use Rattle.paw_game.specs.Tables.{facts_of}
 use Rattle.paw_game.specs.Valid.{Valid, is_within, is_place, texts_kept}
 use Rattle.paw_game.specs.inner.Valid.{is_right, is_argument}
 use Rattle.paw_game.proofs.Kept.{first_of_and, facts-start}
 use Rattle.paw_game.proofs.Right.{right-code, right-first, right-second}
-use Rattle.paw_world.specs.World.{World, Position, flag, with_flag, place, with_place, here, let_go, taken_up, moved, opening_places, starting_world, restarted, with_objects_returned, taken_from, position_of, kept_position}
+use Rattle.paw_world.specs.World.{World, Position, flag, with_flag, place, with_place, here, let_go, taken_up, moved, opening_places}
+use Rattle.paw_world.specs.World.{starting_world, restarted, with_objects_returned, taken_from, position_of, kept_position}
 use Rattle.paw_effects.specs.declared.object_actions.Action.{Action}
 use Rattle.paw_effects.specs.declared.object_actions.Action.TheVariants as action
 use Rattle.paw_effects.specs.declared.object_words.Words.{Words}
@@ -39,6 +41,7 @@ use Rattle.paw_effects.specs.ObjectActions.{destination, first_that_holds, hindr
 use Rattle.paw_effects.specs.AutoActions.{looks_at, action_of, acts_on_given, acts_by_name, acted_on_found, referred_to_found, object_action_of}
 use Rattle.paw_effects.specs.Effects.{effect_in, effect_of}
 use Rattle.paw_effects.specs.Holds.{moves_to, tested_in, holds}
+use Rattle.paw_effects.proofs.Parameters.{AreOfKind, of_kind}
 
 -- the facts and the number of locations are the game's, and each object stands at a place of it
 abbrev pub IsPlaced : GameLists → World → Type 0
@@ -54,7 +57,8 @@ by_test : (g : GameLists) (b : Bool) (x y : World) → (b ≡ true → IsPlaced 
 by_test g true x y h k = h refl
 by_test g false x y h k = k refl
 
-done_placed : (g : GameLists) (b : Bool) (x y : Done) → (b ≡ true → IsPlaced g x.world) → (b ≡ false → IsPlaced g y.world) → IsPlaced g (if b then x else y).world
+done_placed : (g : GameLists) (b : Bool) (x y : Done) → (b ≡ true → IsPlaced g x.world) → (b ≡ false → IsPlaced g y.world) →
+    IsPlaced g (if b then x else y).world
 done_placed g true x y h k = h refl
 done_placed g false x y h k = k refl
 
@@ -77,13 +81,16 @@ here_at : (locations f : ℕ) → is_place locations (if nat_lt f locations then
 here_at locations f = grind (arith, nat_tests)
 
 pub here_place : (g : GameLists) (w : World) → w.locations ≡ length g.locations → is_place (length g.locations) (here w) ≡ true
-here_place g w of = subst (λ n. is_place (length g.locations) (if nat_lt (flag w 38) n then flag w 38 else 252) ≡ true) (sym of) (here_at (length g.locations) (flag w 38))
+here_place g w of =
+    subst (λ n. is_place (length g.locations) (if nat_lt (flag w 38) n then flag w 38 else 252) ≡ true) (sym of) (here_at (length g.locations) (flag w 38))
 
-place_of : (locations here p : ℕ) → is_place locations here ≡ true → (nat_lt p locations || is_within 252 255 p) ≡ true → is_place locations (if p == 255 then here else p) ≡ true
+place_of : (locations here p : ℕ) → is_place locations here ≡ true → (nat_lt p locations || is_within 252 255 p) ≡ true →
+    is_place locations (if p == 255 then here else p) ≡ true
 place_of locations here p h k = grind (arith, nat_tests)
 
 -- a place that a parameter names
-pub named_is_place : (g : GameLists) (w : World) (p : ℕ) → w.locations ≡ length g.locations → IsTrue (is_argument g kind.Place p) → is_place (length g.locations) (named_place w p) ≡ true
+pub named_is_place : (g : GameLists) (w : World) (p : ℕ) → w.locations ≡ length g.locations → IsTrue (is_argument g kind.Place p) →
+    is_place (length g.locations) (named_place w p) ≡ true
 named_is_place g w p of h = place_of (length g.locations) (here w) p (here_place g w of) h
 
 -- ---- moves ----
@@ -125,17 +132,7 @@ returned_placed g w v k = (k.0, (k.1.0, (begins_placed g w.facts v k.0, k.1.1.1)
 is_bound : ParamKind → Bool
 is_bound kind.Absent = true
 is_bound kind.Location = true
-is_bound kind.Place = false
-is_bound kind.Object = false
-is_bound kind.Flag = false
-is_bound kind.Number = false
-is_bound kind.Message = false
-is_bound kind.System = false
-is_bound kind.Table = false
-is_bound kind.Adverb = false
-is_bound kind.Noun = false
-is_bound kind.Adjective = false
-is_bound kind.Preposition = false
+is_bound _ = false
 
 low_place : (locations x : ℕ) → nat_lt x locations ≡ true → is_place locations x ≡ true
 low_place locations x h = grind (arith, nat_tests)
@@ -145,41 +142,21 @@ bound_place : (g : GameLists) (k : ParamKind) (x : ℕ) → Valid g → is_bound
 unfolding is_bound
 bound_place g kind.Absent x v h p = rw (eqb-true x 0 p) (first_place g v)
 bound_place g kind.Location x v h p = low_place (length g.locations) x p
-bound_place g kind.Place x v h p = cc
-bound_place g kind.Object x v h p = cc
-bound_place g kind.Flag x v h p = cc
-bound_place g kind.Number x v h p = cc
-bound_place g kind.Message x v h p = cc
-bound_place g kind.System x v h p = cc
-bound_place g kind.Table x v h p = cc
-bound_place g kind.Adverb x v h p = cc
-bound_place g kind.Noun x v h p = cc
-bound_place g kind.Adjective x v h p = cc
-bound_place g kind.Preposition x v h p = cc
+bound_place g _ x v h p = cc
 
-implied : (a b : Bool) → (not a || b) ≡ true → a ≡ true → b ≡ true
-implied true b h e = h
-implied false b h e = cc
-
-given_bound : below (λ code. not (acts_on_given code) || is_bound (second_kind code)) 108 ≡ true
+bounds : AreOfKind is_bound acts_on_given second_kind × AreOfKind is_bound acts_by_name first_kind
 unfolding condact_lines line_of below is_bound
-given_bound = refl
-
-found_bound : below (λ code. not (acts_by_name code) || is_bound (first_kind code)) 108 ≡ true
-unfolding condact_lines line_of below is_bound
-found_bound = refl
+bounds = (refl, refl)
 
 given_place : (g : GameLists) (c : Condact) → Valid g → IsTrue (is_right g c) → acts_on_given c.code ≡ true → is_place (length g.locations) c.b ≡ true
 given_place g c v kept own =
     bound_place g (second_kind c.code) c.b v
-    (implied (acts_on_given c.code) _ (each_code (λ code. not (acts_on_given code) || is_bound (second_kind code)) given_bound c.code (right-code g c kept)) own)
-    (right-second g c kept)
+    (of_kind is_bound acts_on_given second_kind bounds.0 c.code (right-code g c kept) own) (right-second g c kept)
 
 found_place : (g : GameLists) (c : Condact) → Valid g → IsTrue (is_right g c) → acts_by_name c.code ≡ true → is_place (length g.locations) c.a ≡ true
 found_place g c v kept own =
     bound_place g (first_kind c.code) c.a v
-    (implied (acts_by_name c.code) _ (each_code (λ code. not (acts_by_name code) || is_bound (first_kind code)) found_bound c.code (right-code g c kept)) own)
-    (right-first g c kept)
+    (of_kind is_bound acts_by_name first_kind bounds.1 c.code (right-code g c kept) own) (right-first g c kept)
 
 -- the first parameters of PUTO and DOALL, and the second of PLACE, are places
 puto_takes : first_kind 65 ≡ kind.Place
@@ -194,23 +171,27 @@ doall_takes : first_kind 86 ≡ kind.Place
 unfolding condact_lines line_of
 doall_takes = refl
 
-first_named : (g : GameLists) (w : World) (c : Condact) (code : ℕ) → first_kind code ≡ kind.Place → w.locations ≡ length g.locations → IsTrue (is_right g c) → c.code ≡ code
+first_named : (g : GameLists) (w : World) (c : Condact) (code : ℕ) → first_kind code ≡ kind.Place → w.locations ≡ length g.locations →
+    IsTrue (is_right g c) → c.code ≡ code
     → is_place (length g.locations) (named_place w c.a) ≡ true
 first_named g w c code takes of kept is =
     named_is_place g w c.a of (subst (λ k. IsTrue (is_argument g k c.a)) (ap first_kind is ∙ takes) (right-first g c kept))
 
-second_named : (g : GameLists) (w : World) (c : Condact) (code : ℕ) → second_kind code ≡ kind.Place → w.locations ≡ length g.locations → IsTrue (is_right g c) → c.code ≡ code
+second_named : (g : GameLists) (w : World) (c : Condact) (code : ℕ) → second_kind code ≡ kind.Place → w.locations ≡ length g.locations →
+    IsTrue (is_right g c) → c.code ≡ code
     → is_place (length g.locations) (named_place w c.b) ≡ true
 second_named g w c code takes of kept is =
     named_is_place g w c.b of (subst (λ k. IsTrue (is_argument g k c.b)) (ap second_kind is ∙ takes) (right-second g c kept))
 
 -- a loop goes over the objects at a place
-pub doall_place : (g : GameLists) (w : World) (c : Condact) → w.locations ≡ length g.locations → IsTrue (is_right g c) → c.code ≡ 86 → IsTrue (is_place (length g.locations) (named_place w c.a))
+pub doall_place : (g : GameLists) (w : World) (c : Condact) → w.locations ≡ length g.locations → IsTrue (is_right g c) → c.code ≡ 86 →
+    IsTrue (is_place (length g.locations) (named_place w c.a))
 doall_place g w c = first_named g w c 86 doall_takes
 
 -- ---- actions that move objects ----
 
-dropped : (g : GameLists) (p : ℕ) (os : List ℕ) (w : World) → is_place (length g.locations) p ≡ true → IsPlaced g w → IsPlaced g (fold (λ v o. moved v o p) w os)
+dropped : (g : GameLists) (p : ℕ) (os : List ℕ) (w : World) → is_place (length g.locations) p ≡ true → IsPlaced g w →
+    IsPlaced g (fold (λ v o. moved v o p) w os)
 dropped g p [] w at k = k
 dropped g p (o ∷ os) w at k = dropped g p os (moved w o p) at (moved_placed g w o p at k)
 
@@ -251,7 +232,8 @@ GoesToPlace g action.Remove = Unit {0}
 GoesToPlace g (action.PutIn l) = is_place (length g.locations) l ≡ true
 GoesToPlace g (action.TakeOut l) = Unit {0}
 
-destined : (g : GameLists) (w : World) (a : Action) → w.locations ≡ length g.locations → GoesToPlace g a → is_place (length g.locations) (destination w a) ≡ true
+destined : (g : GameLists) (w : World) (a : Action) → w.locations ≡ length g.locations → GoesToPlace g a →
+    is_place (length g.locations) (destination w a) ≡ true
 destined g w action.Get of h = grind (arith, nat_tests)
 destined g w action.Drop of h = here_place g w of
 destined g w action.Wear of h = grind (arith, nat_tests)
@@ -277,7 +259,8 @@ tried_placed : (g : GameLists) (w : World) (o : ℕ) (a : Action) (said : Option
 tried_placed g w o a (Some said) h k = k
 tried_placed g w o a None h k = moved_placed g w o (destination w a) (destined g w a k.1.0 h.to) k
 
-acted_placed : (g : GameLists) (w : World) (o : ℕ) (a : Action) → Goes g a → IsPlaced g w → IsPlaced g (tried g (referred w o) o a (first_that_holds (hindrances (referred w o) o a))).world
+acted_placed : (g : GameLists) (w : World) (o : ℕ) (a : Action) → Goes g a → IsPlaced g w →
+    IsPlaced g (tried g (referred w o) o a (first_that_holds (hindrances (referred w o) o a))).world
 acted_placed g w o a h k = tried_placed g (referred w o) o a (first_that_holds (hindrances (referred w o) o a)) h (referred_placed g w o k)
 
 found_placed : (g : GameLists) (w : World) (a : Action) (found : Option ℕ) → Goes g a → IsPlaced g w → IsPlaced g (acted_on_found g w a found).world
@@ -375,7 +358,8 @@ placed_in family.Chance s w c v kept k = k
 placed_in family.Quit s w c v kept k = k
 placed_in family.Exit s w c v kept k = k
 
-pub effect_placed : (s : Story) (w : World) (c : Condact) → Valid s.game → IsTrue (is_right s.game c) → IsPlaced s.game w → IsPlaced s.game (effect_of s w c).world
+pub effect_placed : (s : Story) (w : World) (c : Condact) → Valid s.game → IsTrue (is_right s.game c) → IsPlaced s.game w →
+    IsPlaced s.game (effect_of s w c).world
 unfolding effect_of
 effect_placed s w c = placed_in (family_of c.code) s w c
 

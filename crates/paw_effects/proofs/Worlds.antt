@@ -1,5 +1,6 @@
 -- Worlds of a game that is played, and what keeps them so.
-use Rattle.std.proofs.Common.{◌≡◌, ℕ, zero, suc, ◌+◌, ◌-◌, ◌<◌, ◌≤◌, ◌==◌, Bool, true, false, ◌&&◌, ◌||◌, List, [], ◌∷◌, Option, Some, None, inl, inr, refl, sym, ◌∙◌, subst, length, map, min, slice_get, IsTrue, arith}
+use Rattle.std.proofs.Common.{◌≡◌, ℕ, zero, suc, ◌+◌, ◌-◌, ◌<◌, ◌≤◌, ◌==◌, Bool, true, false, ◌&&◌, ◌||◌, List, [], ◌∷◌, Option, Some, None}
+use Rattle.std.proofs.Common.{inl, inr, refl, sym, ◌∙◌, subst, length, map, min, slice_get, IsTrue, arith}
 use Rattle.std.specs.Prelude.{if◌then◌else◌, nat_lt, nat_le, All, slice_index, slice_set, replicate, sum_by}
 use Rattle.std.specs.List.{list_all}
 use Rattle.std.proofs.Math.Nat.{min-le_left}
@@ -17,7 +18,8 @@ use Rattle.paw_game.specs.Game.{GameLists}
 use Rattle.paw_game.specs.Tables.{facts_of, facts_at}
 use Rattle.paw_game.specs.Valid.{Valid, is_place, is_parameter, is_within, is_word, words_rise, are_letters, has_word, is_word_or_none, is_object, is_text}
 use Rattle.paw_game.proofs.Kept.{first_of_and, second_of_and, facts_kept, facts-weight}
-use Rattle.paw_world.specs.World.{World, flag, with_flag, place, with_place, here, let_go, taken_up, moved, first_carried, flags_with, opening_places, starting_world, restarted, with_objects_returned}
+use Rattle.paw_world.specs.World.{World, flag, with_flag, place, with_place, here, let_go, taken_up, moved, first_carried, flags_with}
+use Rattle.paw_world.specs.World.{opening_places, starting_world, restarted, with_objects_returned}
 use Rattle.paw_world.specs.Weight.{own_weight, weighs_contents, weight_down, weight, objects_at}
 use Rattle.paw_effects.specs.Worlds.{IsOf, ArePlacesOf}
 use Rattle.paw_effects.specs.Presence.{named_place}
@@ -36,7 +38,8 @@ pub record IsWorldAt (g : GameLists) (seed n : ℕ) (w : World) : Type 0 where
   pub draws : w.draws ≤ n
 
 pub world_at : (g : GameLists) (seed n : ℕ) (w : World) → IsWorldOf g w → w.seed ≡ seed → w.draws ≤ n → IsWorldAt g seed n w
-world_at g seed n w k seeded draws = record { of = k.of; places = k.places; flags = k.flags; saved = k.saved; four = k.four; kept = k.kept; seeded = seeded; draws = draws }
+world_at g seed n w k seeded draws =
+    record { of = k.of; places = k.places; flags = k.flags; saved = k.saved; four = k.four; kept = k.kept; seeded = seeded; draws = draws }
 
 pub world_is : (g : GameLists) (seed n : ℕ) (w : World) → IsWorldAt g seed n w → IsWorldOf g w
 world_is g seed n w k = record { of = k.of; flags = k.flags; places = k.places; saved = k.saved; four = k.four; kept = k.kept }
@@ -79,7 +82,8 @@ word_small : (ws : List Word) (class value : ℕ) → IsTrue (list_all is_word w
 word_small [] class value all has = cc
 word_small (w ∷ ws) class value all has = go ((w.class == class) && (w.value == value)) refl has (word_small ws class value (second_of_and (is_word w) _ all))
   where
-    go : (b : Bool) → ((w.class == class) && (w.value == value)) ≡ b → IsTrue (b || has_word ws class value) → (IsTrue (has_word ws class value) → value < 256) → value < 256
+    go : (b : Bool) → ((w.class == class) && (w.value == value)) ≡ b → IsTrue (b || has_word ws class value) →
+        (IsTrue (has_word ws class value) → value < 256) → value < 256
     go true e h later = let is : w.value ≡ value = eqb-true w.value value (second_of_and (w.class == class) _ e) in subst (λ x. x < 256) is (value_small w (first_of_and (is_word w) _ all))
     go false e h later = later h
 
@@ -239,7 +243,8 @@ module _ (g : GameLists) (v : Valid g) (seed : ℕ) where
   carried_small =
       omega (arith, count_by-le-length (λ (f : ObjectFacts). f.start == 254) (map (λ o. o.facts) g.objects), length-map g.objects (λ (o : ObjectRow). o.facts), few_objects g v)
 
-  starts_are_places : (os : List ObjectRow) → IsTrue (list_all (is_object g.words (length g.locations)) os) → ArePlacesOf g (opening_places (map (λ o. o.facts) os))
+  starts_are_places : (os : List ObjectRow) → IsTrue (list_all (is_object g.words (length g.locations)) os) →
+      ArePlacesOf g (opening_places (map (λ o. o.facts) os))
   starts_are_places [] all k d low = absurd (omega arith)
   starts_are_places (o ∷ os) all zero d low =
       first_of_and (is_place (length g.locations) o.facts.start) _ (second_of_and (is_word_or_none g.words 3 o.facts.adjective) _

@@ -62,9 +62,8 @@ pub(crate) fn dropping(effect: Effect) -> Act
     ensures value { result ≡ dropping effect }
 {
     Act {
-        effect,
         drop_line: true,
-        cancel_loop: false,
+        ..on(effect)
     }
 }
 

@@ -3,7 +3,6 @@
 ghost use Rattle.std.specs.Prelude.{◌≡◌, ◌<◌, length};
 ghost use Rattle.paw_effects.specs.ObjectActions.{is_worn, is_carried, can_be_worn, is_too_heavy, is_laden};
 ghost use Rattle.paw_effects.specs.ObjectActions.{holds_place, first_that_holds, hindrances};
-ghost use Rattle.paw_effects.specs.declared.object_actions.Action.TheVariants as action;
 
 use crate::object_actions::Action;
 use crate::object_words::Words;
@@ -56,102 +55,56 @@ fn holds_place(world: &World, place: u8) -> bool
     place < world.objects() && is_held(world, place)
 }
 
+/// What is said where the first test that holds does.
+fn first_that_holds(tests: &[(bool, Words)]) -> Option<Words>
+    ensures value { result ≡ first_that_holds tests.now }
+{
+    for &(holds, said) in tests {
+        if holds {
+            return Some(said);
+        }
+    }
+    None
+}
+
 /// What hinders an action on an object that was referred to: what the first test that holds says.
 pub(crate) fn hindrance(world: &World, o: u8, action: Action) -> Option<Words>
     requires known { o < length world.now.places }
     ensures value { result ≡ first_that_holds (hindrances world.now o action) }
 {
     match action {
-        Action::Get => at_getting(world, o),
-        Action::Drop => at_dropping(world, o),
-        Action::Wear => at_wearing(world, o),
-        Action::Remove => at_removing(world, o),
-        Action::PutIn(_) => at_dropping(world, o),
-        Action::TakeOut(place) => at_taking_out(world, o, place),
-    }
-}
-
-fn at_getting(world: &World, o: u8) -> Option<Words>
-    requires known { o < length world.now.places }
-    ensures value { result ≡ first_that_holds (hindrances world.now o action.Get) }
-{
-    if is_held(world, o) {
-        Some(Words::HELD)
-    } else if !is_here(world, o) {
-        Some(Words::NOT_HERE)
-    } else if is_too_heavy(world, o) {
-        Some(Words::TOO_HEAVY)
-    } else if is_laden(world) {
-        Some(Words::TOO_MANY)
-    } else {
-        None
-    }
-}
-
-fn at_dropping(world: &World, o: u8) -> Option<Words>
-    requires known { o < length world.now.places }
-    ensures value { result ≡ first_that_holds (hindrances world.now o action.Drop) }
-{
-    if is_worn(world, o) {
-        Some(Words::WORN)
-    } else if is_here(world, o) {
-        Some(Words::NOT_HELD)
-    } else if !is_carried(world, o) {
-        Some(Words::NOT_CARRIED)
-    } else {
-        None
-    }
-}
-
-fn at_wearing(world: &World, o: u8) -> Option<Words>
-    requires known { o < length world.now.places }
-    ensures value { result ≡ first_that_holds (hindrances world.now o action.Wear) }
-{
-    if is_here(world, o) {
-        Some(Words::NOT_HELD)
-    } else if is_worn(world, o) {
-        Some(Words::WORN_ALREADY)
-    } else if !is_carried(world, o) {
-        Some(Words::NOT_CARRIED)
-    } else if !can_be_worn(world, o) {
-        Some(Words::NOT_WEARABLE)
-    } else {
-        None
-    }
-}
-
-fn at_removing(world: &World, o: u8) -> Option<Words>
-    requires known { o < length world.now.places }
-    ensures value { result ≡ first_that_holds (hindrances world.now o action.Remove) }
-{
-    if is_carried(world, o) || is_here(world, o) {
-        Some(Words::NOT_PUT_ON)
-    } else if !is_worn(world, o) {
-        Some(Words::NOT_WORN)
-    } else if !can_be_worn(world, o) {
-        Some(Words::NOT_REMOVABLE)
-    } else if is_laden(world) {
-        Some(Words::HANDS_FULL)
-    } else {
-        None
-    }
-}
-
-fn at_taking_out(world: &World, o: u8, place: u8) -> Option<Words>
-    requires known { o < length world.now.places }
-    ensures value { result ≡ first_that_holds (hindrances world.now o (action.TakeOut place)) }
-{
-    if is_held(world, o) {
-        Some(Words::HELD)
-    } else if is_here(world, o) {
-        Some(Words::outside(place))
-    } else if world.place(o) != place {
-        Some(Words::not_in(place))
-    } else if !holds_place(world, place) && is_too_heavy(world, o) {
-        Some(Words::TOO_HEAVY)
-    } else if is_laden(world) {
-        Some(Words::TOO_MANY)
-    } else {
-        None
+        Action::Get => first_that_holds(&[
+            (is_held(world, o), Words::HELD),
+            (!is_here(world, o), Words::NOT_HERE),
+            (is_too_heavy(world, o), Words::TOO_HEAVY),
+            (is_laden(world), Words::TOO_MANY),
+        ]),
+        Action::Drop | Action::PutIn(_) => first_that_holds(&[
+            (is_worn(world, o), Words::WORN),
+            (is_here(world, o), Words::NOT_HELD),
+            (!is_carried(world, o), Words::NOT_CARRIED),
+        ]),
+        Action::Wear => first_that_holds(&[
+            (is_here(world, o), Words::NOT_HELD),
+            (is_worn(world, o), Words::WORN_ALREADY),
+            (!is_carried(world, o), Words::NOT_CARRIED),
+            (!can_be_worn(world, o), Words::NOT_WEARABLE),
+        ]),
+        Action::Remove => first_that_holds(&[
+            (is_carried(world, o) || is_here(world, o), Words::NOT_PUT_ON),
+            (!is_worn(world, o), Words::NOT_WORN),
+            (!can_be_worn(world, o), Words::NOT_REMOVABLE),
+            (is_laden(world), Words::HANDS_FULL),
+        ]),
+        Action::TakeOut(place) => first_that_holds(&[
+            (is_held(world, o), Words::HELD),
+            (is_here(world, o), Words::outside(place)),
+            (world.place(o) != place, Words::not_in(place)),
+            (
+                !holds_place(world, place) && is_too_heavy(world, o),
+                Words::TOO_HEAVY,
+            ),
+            (is_laden(world), Words::TOO_MANY),
+        ]),
     }
 }

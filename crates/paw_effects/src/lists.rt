@@ -16,6 +16,7 @@ use paw_base::piece::Piece;
 use paw_base::places::{CARRIED_PLACE, WORN_PLACE};
 use paw_game::tables::Tables;
 use paw_world::world::World;
+use std::marker::Model;
 
 /// Bit 6 of its flag tells that lists are sentences.
 const SENTENCES: u8 = 64;
@@ -75,133 +76,137 @@ fn put_if_worn<T: Tables>(tables: &T, world: &World, piece: &mut Piece, o: u8) -
     }
 }
 
-/// Prints the text of an object of a list.
-fn print_listed<T: Tables>(
-    tables: &T,
-    world: &World,
-    piece: &mut Piece,
+/// Objects of a world that are listed, by their texts in a game. Contracts see the game, the world, and which objects
+/// they are.
+#[derive(Drop)]
+struct ObjectList<'a, T: Tables> {
+    tables: &'a T,
+    world: &'a World,
     listed: Listed,
-    o: u8,
-) -> bool
-    requires known { o < length world.now.places }
-    ensures puts { Puts piece.old piece.new result (listed_text (T.game tables.now) world.now listed o) }
-{
-    match listed {
-        Listed::At(_) => print_object(tables, piece, o),
-        Listed::Held => { print_object(tables, piece, o) && put_if_worn(tables, world, piece, o) }
+}
+
+impl<'a, T: Tables> Model for ObjectList<'a, T> {
+    ghost use Rattle.paw_effects.specs.inner.Listing.{ListedObjects};
+
+    ghost Value = { ListedObjects };
+
+    ghost view = { λ l. record {
+      game = T.game l.tables.now;
+      world = l.world.now;
+      listed = l.listed;
+    } };
+}
+
+impl<'a, T: Tables> ObjectList<'a, T> {
+    /// The least object of the list above `above`, or the least of all without `above`.
+    fn next(&self, above: Option<u8>) -> Option<u8>
+        ensures none { IfNone result (listed_above self.now.world self.now.listed above ≡ []) }
+        ensures some { IfSome result (λ o. listed_above self.now.world self.now.listed above
+            ≡ o ∷ listed_above self.now.world self.now.listed (Some o)) }
+        ensures known { IfSome result (λ o. o < length self.now.world.places) }
+        ensures rises { IfSome result (λ o. IfSome above (λ a. a < o)) }
+    {
+        next(self.world, self.listed, above)
     }
-}
 
-/// Prints the text of an object of a list in a line of its own.
-fn print_in_line<T: Tables>(
-    tables: &T,
-    world: &World,
-    piece: &mut Piece,
-    listed: Listed,
-    o: u8,
-) -> bool
-    requires known { o < length world.now.places }
-    ensures puts { Puts piece.old piece.new result (listed_text (T.game tables.now) world.now listed o ++ 10 ∷ []) }
-{
-    print_listed(tables, world, piece, listed, o) && piece.push(b"\n")
-}
-
-/// Prints the objects of a list, each in a line of its own.
-fn print_lines<T: Tables>(tables: &T, world: &World, piece: &mut Piece, listed: Listed) -> bool
-    ensures puts { Puts piece.old piece.new result (as_lines (texts_above (T.game tables.now) world.now listed None)) }
-{
-    let mut last = None;
-    while let Some(o) = next(world, listed, last) {
-        if !print_in_line(tables, world, piece, listed, o) {
-            return false;
+    /// Prints the text of an object of the list.
+    fn print_text(&self, piece: &mut Piece, o: u8) -> bool
+        requires known { o < length self.now.world.places }
+        ensures puts { Puts piece.old piece.new result
+            (listed_text self.now.game self.now.world self.now.listed o) }
+    {
+        match self.listed {
+            Listed::At(_) => print_object(self.tables, piece, o),
+            Listed::Held => {
+                print_object(self.tables, piece, o)
+                    && put_if_worn(self.tables, self.world, piece, o)
+            }
         }
-        last = Some(o);
     }
-    piece.push(&[])
-}
 
-/// What joins the text of an object to the one before it.
-fn joint(world: &World, listed: Listed, o: u8) -> &'static [u8]
-    ensures value { result.now ≡ joint (listed_above world.now listed (Some o)) }
-{
-    match next(world, listed, Some(o)) {
-        Some(_) => b", ",
-        None => b" and ",
+    /// Prints the text of an object of the list in a line of its own.
+    fn print_in_line(&self, piece: &mut Piece, o: u8) -> bool
+        requires known { o < length self.now.world.places }
+        ensures puts { Puts piece.old piece.new result
+            (listed_text self.now.game self.now.world self.now.listed o ++ 10 ∷ []) }
+    {
+        self.print_text(piece, o) && piece.push(b"\n")
     }
-}
 
-/// Prints the text of an object of a list behind another one.
-fn print_joined<T: Tables>(
-    tables: &T,
-    world: &World,
-    piece: &mut Piece,
-    listed: Listed,
-    o: u8,
-) -> bool
-    requires known { o < length world.now.places }
-    ensures puts { Puts piece.old piece.new result
-        (joint (texts_above (T.game tables.now) world.now listed (Some o))
-        ++ listed_text (T.game tables.now) world.now listed o) }
-{
-    piece.push(joint(world, listed, o)) && print_listed(tables, world, piece, listed, o)
-}
-
-/// Prints the objects of a list above this one, each behind the one before it, and ends the sentence.
-fn print_others<T: Tables>(
-    tables: &T,
-    world: &World,
-    piece: &mut Piece,
-    listed: Listed,
-    first: u8,
-) -> bool
-    ensures puts { Puts piece.old piece.new result
-        (others_joined (texts_above (T.game tables.now) world.now listed (Some first))) }
-{
-    let mut last = first;
-    while let Some(o) = next(world, listed, Some(last)) {
-        if !print_joined(tables, world, piece, listed, o) {
-            return false;
+    /// Prints the objects of the list, each in a line of its own.
+    fn print_lines(&self, piece: &mut Piece) -> bool
+        ensures puts { Puts piece.old piece.new result
+            (as_lines (texts_above self.now.game self.now.world self.now.listed None)) }
+    {
+        let mut last = None;
+        while let Some(o) = self.next(last) {
+            if !self.print_in_line(piece, o) {
+                return false;
+            }
+            last = Some(o);
         }
-        last = o;
+        piece.push(&[])
     }
-    piece.push(b".\n")
-}
 
-/// Prints a list that begins with this object.
-fn print_list<T: Tables>(
-    tables: &T,
-    world: &World,
-    piece: &mut Piece,
-    listed: Listed,
-    first: u8,
-) -> bool
-    requires known { first < length world.now.places }
-    requires first { listed_above world.now listed None ≡ first ∷ listed_above world.now listed (Some first) }
-    ensures puts { Puts piece.old piece.new result
-        (list_of world.now (texts_above (T.game tables.now) world.now listed None)) }
-{
-    if lists_are_sentences(world) {
-        print_listed(tables, world, piece, listed, first)
-            && print_others(tables, world, piece, listed, first)
-    } else {
-        print_lines(tables, world, piece, listed)
+    /// What joins the text of an object to the one before it.
+    fn joint(&self, o: u8) -> &'static [u8]
+        ensures value { result.now ≡ joint (listed_above self.now.world self.now.listed (Some o)) }
+    {
+        match self.next(Some(o)) {
+            Some(_) => b", ",
+            None => b" and ",
+        }
     }
-}
 
-/// Prints a list, or says a system message where there is nothing to list.
-fn list_or_say<T: Tables>(
-    tables: &T,
-    world: &World,
-    piece: &mut Piece,
-    listed: Listed,
-    s: u8,
-) -> bool
-    ensures puts { Puts piece.old piece.new result
-        (list_or_say (T.game tables.now) world.now s (texts_above (T.game tables.now) world.now listed None)) }
-{
-    match next(world, listed, None) {
-        Some(first) => print_list(tables, world, piece, listed, first),
-        None => say(tables, world, piece, s),
+    /// Prints the text of an object of the list behind another one.
+    fn print_joined(&self, piece: &mut Piece, o: u8) -> bool
+        requires known { o < length self.now.world.places }
+        ensures puts { Puts piece.old piece.new result
+            (joint (texts_above self.now.game self.now.world self.now.listed (Some o))
+            ++ listed_text self.now.game self.now.world self.now.listed o) }
+    {
+        piece.push(self.joint(o)) && self.print_text(piece, o)
+    }
+
+    /// Prints the objects of the list above this one, each behind the one before it, and ends the sentence.
+    fn print_others(&self, piece: &mut Piece, first: u8) -> bool
+        ensures puts { Puts piece.old piece.new result
+            (others_joined (texts_above self.now.game self.now.world self.now.listed (Some first))) }
+    {
+        let mut last = first;
+        while let Some(o) = self.next(Some(last)) {
+            if !self.print_joined(piece, o) {
+                return false;
+            }
+            last = o;
+        }
+        piece.push(b".\n")
+    }
+
+    /// Prints the list, which begins with this object.
+    fn print_from(&self, piece: &mut Piece, first: u8) -> bool
+        requires known { first < length self.now.world.places }
+        requires first { listed_above self.now.world self.now.listed None
+            ≡ first ∷ listed_above self.now.world self.now.listed (Some first) }
+        ensures puts { Puts piece.old piece.new result
+            (list_of self.now.world (texts_above self.now.game self.now.world self.now.listed None)) }
+    {
+        if lists_are_sentences(self.world) {
+            self.print_text(piece, first) && self.print_others(piece, first)
+        } else {
+            self.print_lines(piece)
+        }
+    }
+
+    /// Prints the list, or says a system message where there is nothing to list.
+    fn print_or_say(&self, piece: &mut Piece, s: u8) -> bool
+        ensures puts { Puts piece.old piece.new result (list_or_say self.now.game self.now.world s
+            (texts_above self.now.game self.now.world self.now.listed None)) }
+    {
+        match self.next(None) {
+            Some(first) => self.print_from(piece, first),
+            None => say(self.tables, self.world, piece, s),
+        }
     }
 }
 
@@ -209,15 +214,24 @@ fn list_or_say<T: Tables>(
 pub(crate) fn print_inventory<T: Tables>(tables: &T, world: &World, piece: &mut Piece) -> bool
     ensures puts { Puts piece.old piece.new result (inventory_text (T.game tables.now) world.now) }
 {
-    say(tables, world, piece, INVENTORY_MESSAGE)
-        && list_or_say(tables, world, piece, Listed::Held, EMPTY_HANDED_MESSAGE)
+    let held = ObjectList {
+        tables,
+        world,
+        listed: Listed::Held,
+    };
+    say(tables, world, piece, INVENTORY_MESSAGE) && held.print_or_say(piece, EMPTY_HANDED_MESSAGE)
 }
 
 /// Prints what stands at a place.
 pub(crate) fn print_place<T: Tables>(tables: &T, world: &World, piece: &mut Piece, p: u8) -> bool
     ensures puts { Puts piece.old piece.new result (place_list_text (T.game tables.now) world.now p) }
 {
-    list_or_say(tables, world, piece, Listed::At(p), NOTHING_THERE_MESSAGE)
+    let there = ObjectList {
+        tables,
+        world,
+        listed: Listed::At(p),
+    };
+    there.print_or_say(piece, NOTHING_THERE_MESSAGE)
 }
 
 /// Prints what stands at the current location, where anything does.
@@ -227,11 +241,13 @@ pub(crate) fn print_here<T: Tables>(tables: &T, world: &World, piece: &mut Piece
     if !is_somewhere(world) {
         return piece.push(&[]);
     }
-    let here = Listed::At(world.flag(LOCATION_FLAG));
-    match next(world, here, None) {
-        Some(first) => {
-            say(tables, world, piece, SEEN_MESSAGE) && print_list(tables, world, piece, here, first)
-        }
+    let here = ObjectList {
+        tables,
+        world,
+        listed: Listed::At(world.flag(LOCATION_FLAG)),
+    };
+    match here.next(None) {
+        Some(first) => say(tables, world, piece, SEEN_MESSAGE) && here.print_from(piece, first),
         None => piece.push(&[]),
     }
 }

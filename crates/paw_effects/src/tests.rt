@@ -1,15 +1,29 @@
 // Condacts of a small game, read one after the other.
 
-ghost use Rattle.std.specs.Prelude.{◌≡◌, ◌+◌, ◌-◌, ◌/◌, ◌%◌, ◌==◌, ◌<◌, ◌^◌, IfOk, count_ones, map, if◌then◌else◌};
+ghost use Rattle.std.specs.Prelude.{◌≡◌, ◌+◌, ◌-◌, ◌*◌, ◌%◌, ◌<◌, ◌^◌, IfOk, map};
 ghost use Rattle.paw_effects.specs.Worlds.{IsOf};
 ghost use Rattle.paw_routines.specs.Routines.{HaveRows};
+
+/// Scenes, each as `CODE a b ANSWER, CODE a b ANSWER => "text";`.
+macro_rules! scenes {
+    ($($($code:ident $a:tt $b:tt $answer:expr),+ => $text:literal;)+) => {
+        &[$((&[$(($code, $a, $b, $answer)),+], $text)),+]
+    };
+}
 
 mod object_actions;
 mod prints;
 
 use crate::act::{Act, Effect, Prompt, Truth};
 use crate::does::{act, test};
-use paw_base::codes::NOUN2;
+use paw_base::codes::{
+    ABILITY, ABSENT, ADD, ADJECT1, ADJECT2, ADVERB, ANYKEY, AT, ATGT, ATLT, CARRIED, CHANCE, CLEAR,
+    COPYFF, COPYFO, COPYOF, COPYOO, CREATE, DESC, DESTROY, DOALL, DONE, DROPALL, END, EQ, EXTERN,
+    GOTO, GT, ISAT, ISNOTAT, LET, LOAD, LT, MES, MESSAGE, MINUS, MOVE, NEWTEXT, NOTAT, NOTCARR,
+    NOTDONE, NOTEQ, NOTSAME, NOTWORN, NOTZERO, NOUN2, OK, PARSE, PLACE, PLUS, PREP, PRESENT,
+    PROCESS, PROMPT, PUTO, QUIT, RAMLOAD, RAMSAVE, RANDOM, RESET, SAME, SAVE, SET, SUB, SWAP, TIME,
+    TIMEOUT, WEIGH, WEIGHT, WORN, ZERO,
+};
 use paw_base::flags::SECOND_NOUN_FLAG;
 use paw_base::parts::{Condact, ObjectFacts};
 use paw_base::piece::Piece;
@@ -22,19 +36,24 @@ use std::alloc::{AllocError, Global};
 use std::process::Abort;
 use std::test::Fail;
 
-/// What a condact answers: a condition, an action, one that drops the rest of the line, or one that isn't there.
+/// What a condact answers: a condition; an action; one that drops the rest of the line; one that ends the open loop
+/// too; or none of these.
 #[derive(Clone, Copy, Drop, PartialEq, Eq, Debug)]
 enum Answer {
     Tests(Truth),
     Does(Effect),
     Drops(Effect),
-    Missing,
+    Cancels(Effect),
+    Other,
 }
 
-use Answer::{Does, Drops, Tests};
+use Answer::{Cancels, Does, Drops, Tests};
 
 /// A condact, and what it is to answer.
 type Case = (u8, u8, u8, Answer);
+
+/// Condacts that are read one after the other, and what they print together.
+type Scene = (&'static [Case], &'static str);
 
 const YES: Answer = Tests(Truth::Yes);
 
@@ -44,297 +63,125 @@ const GO: Answer = Does(Effect::Go);
 
 const REDESCRIBE: Answer = Does(Effect::Redescribe);
 
+const SPENT: Answer = Does(Effect::Spent);
+
+const REFUSED: Answer = Drops(Effect::Exit(true));
+
+const LOOP_ENDED: Answer = Cancels(Effect::Exit(true));
+
 /// Objects: 0 is carried, 1 worn, 2 in location 0, 3 not created, 4 in location 1.
 const PLACES: [u8; 5] = [254, 253, 0, 252, 1];
 
 const NAMES: [[u8; 4]; 5] = [*b"lamp", *b"coat", *b"bag_", *b"rock", *b"nail"];
 
 /// At location 1, which has one exit, by verb 3 to location 0. There are three locations.
-const CONDITIONS: [Case; 62] = [
-    (49, 1, 0, GO),
-    (0, 1, 0, YES),
-    (0, 2, 0, NO),
-    (1, 1, 0, NO),
-    (2, 0, 0, YES),
-    (2, 1, 0, NO),
-    (3, 2, 0, YES),
-    (3, 1, 0, NO),
-    (4, 0, 0, YES),
-    (4, 1, 0, YES),
-    (4, 2, 0, NO),
-    (4, 4, 0, YES),
-    (5, 3, 0, YES),
-    (6, 1, 0, YES),
-    (6, 0, 0, NO),
-    (7, 0, 0, YES),
-    (8, 0, 0, YES),
-    (8, 1, 0, NO),
-    (9, 1, 0, YES),
-    (24, 4, 255, YES),
-    (24, 2, 0, YES),
-    (24, 3, 252, YES),
-    (24, 0, 255, NO),
-    (25, 0, 254, NO),
+const CONDITIONS: &[Scene] = scenes! {
+    GOTO 1 0 GO, AT 1 0 YES, AT 2 0 NO, NOTAT 1 0 NO => "";
+    ATGT 0 0 YES, ATGT 1 0 NO, ATLT 2 0 YES, ATLT 1 0 NO => "";
+    PRESENT 0 0 YES, PRESENT 1 0 YES, PRESENT 2 0 NO, PRESENT 4 0 YES, ABSENT 3 0 YES => "";
+    WORN 1 0 YES, WORN 0 0 NO, NOTWORN 0 0 YES => "";
+    CARRIED 0 0 YES, CARRIED 1 0 NO, NOTCARR 1 0 YES => "";
+    ISAT 4 255 YES, ISAT 2 0 YES, ISAT 3 252 YES, ISAT 0 255 NO, ISNOTAT 0 254 NO => "";
     // The current location is none of the game's.
-    (70, 38, 200, GO),
-    (24, 3, 255, YES),
-    (25, 4, 255, YES),
-    (4, 3, 0, NO),
-    (49, 1, 0, GO),
-    (70, 60, 5, GO),
-    (77, 60, 61, GO),
-    (11, 60, 0, NO),
-    (11, 62, 0, YES),
-    (12, 60, 0, YES),
-    (13, 60, 5, YES),
-    (14, 60, 5, NO),
-    (15, 60, 4, YES),
-    (15, 60, 5, NO),
-    (16, 60, 6, YES),
-    (16, 60, 5, NO),
-    (17, 60, 61, YES),
-    (18, 60, 62, YES),
-    (19, 255, 0, YES),
-    (70, 35, 2, GO),
-    (19, 2, 0, YES),
-    (70, 36, 2, GO),
-    (20, 2, 0, YES),
-    (70, 43, 3, GO),
-    (21, 3, 0, YES),
-    (70, 44, 50, GO),
-    (22, 50, 0, YES),
-    (23, 255, 0, YES),
-    (70, 49, 127, GO),
-    (26, 0, 0, NO),
-    (70, 49, 128, GO),
-    (26, 0, 0, YES),
-    (27, 0, 0, Tests(Truth::Ask)),
-    (70, 33, 3, GO),
-    (28, 60, 0, NO),
-    (28, 38, 0, YES),
-    (0, 0, 0, YES),
-    (28, 38, 0, NO),
-];
+    LET 38 200 GO, ISAT 3 255 YES, ISNOTAT 4 255 YES, PRESENT 3 0 NO => "";
+    GOTO 1 0 GO, LET 60 5 GO, COPYFF 60 61 GO => "";
+    ZERO 60 0 NO, ZERO 62 0 YES, NOTZERO 60 0 YES => "";
+    EQ 60 5 YES, NOTEQ 60 5 NO, GT 60 4 YES, GT 60 5 NO, LT 60 6 YES, LT 60 5 NO => "";
+    SAME 60 61 YES, NOTSAME 60 62 YES => "";
+    ADJECT1 255 0 YES, LET 35 2 GO, ADJECT1 2 0 YES => "";
+    LET 36 2 GO, ADVERB 2 0 YES, LET 43 3 GO, PREP 3 0 YES => "";
+    LET 44 50 GO, NOUN2 50 0 YES, ADJECT2 255 0 YES => "";
+    LET 49 127 GO, TIMEOUT 0 0 NO, LET 49 128 GO, TIMEOUT 0 0 YES => "";
+    QUIT 0 0 Tests(Truth::Ask) => "";
+    LET 33 3 GO, MOVE 60 0 NO, MOVE 38 0 YES, AT 0 0 YES, MOVE 38 0 NO => "";
+};
 
 /// From 200 in flag 60 on; each sum ends at 255, and each difference at 0. Then weights, and the flags that the turn
 /// looks at.
-const FLAGS: [Case; 40] = [
-    (66, 60, 0, GO),
-    (13, 60, 255, YES),
-    (67, 60, 0, GO),
-    (13, 60, 0, YES),
-    (70, 60, 200, GO),
-    (68, 60, 55, GO),
-    (13, 60, 255, YES),
-    (68, 60, 1, GO),
-    (13, 60, 255, YES),
-    (69, 60, 250, GO),
-    (13, 60, 5, YES),
-    (77, 60, 61, GO),
-    (69, 60, 6, GO),
-    (13, 60, 0, YES),
-    (71, 61, 60, GO),
-    (13, 60, 5, YES),
-    (38, 0, 0, GO),
-    (70, 59, 9, GO),
-    (70, 60, 251, GO),
-    (71, 60, 61, GO),
-    (13, 61, 255, YES),
-    (72, 60, 61, GO),
-    (13, 61, 4, YES),
-    (39, 60, 0, GO),
-    (13, 60, 5, YES),
-    (13, 61, 4, YES),
-    (11, 59, 0, YES),
-    (81, 0, 60, GO),
-    (13, 60, 1, YES),
-    (82, 61, 0, GO),
-    (13, 61, 2, YES),
-    (83, 7, 70, GO),
-    (13, 37, 7, YES),
-    (13, 52, 70, YES),
-    (87, 9, 0, GO),
-    (13, 42, 9, YES),
-    (88, 5, 3, GO),
-    (13, 48, 5, YES),
-    (13, 49, 3, YES),
-    (89, 0, 0, Drops(Effect::Go)),
-];
+const FLAGS: &[Scene] = scenes! {
+    SET 60 0 GO, EQ 60 255 YES, CLEAR 60 0 GO, EQ 60 0 YES => "";
+    LET 60 200 GO, PLUS 60 55 GO, EQ 60 255 YES, PLUS 60 1 GO, EQ 60 255 YES => "";
+    MINUS 60 250 GO, EQ 60 5 YES, COPYFF 60 61 GO, MINUS 60 6 GO, EQ 60 0 YES => "";
+    ADD 61 60 GO, EQ 60 5 YES => "";
+    RAMSAVE 0 0 GO, LET 59 9 GO, LET 60 251 GO => "";
+    ADD 60 61 GO, EQ 61 255 YES, SUB 60 61 GO, EQ 61 4 YES => "";
+    RAMLOAD 60 0 GO, EQ 60 5 YES, EQ 61 4 YES, ZERO 59 0 YES => "";
+    WEIGH 0 60 GO, EQ 60 1 YES, WEIGHT 61 0 GO, EQ 61 2 YES => "";
+    ABILITY 7 70 GO, EQ 37 7 YES, EQ 52 70 YES => "";
+    PROMPT 9 0 GO, EQ 42 9 YES, TIME 5 3 GO, EQ 48 5 YES, EQ 49 3 YES => "";
+    // There are no routines.
+    LET 60 9 GO, EXTERN 0 60 GO, EXTERN 2 60 GO, EQ 60 9 YES => "";
+    NEWTEXT 0 0 Drops(Effect::Go) => "";
+};
 
 /// Objects are moved, the last time by RESET.
-const MOVES: [Case; 57] = [
-    (49, 1, 0, GO),
-    (63, 0, 1, GO),
-    (6, 0, 0, YES),
-    (8, 1, 0, YES),
-    (13, 1, 1, YES),
-    (61, 3, 0, GO),
-    (24, 3, 1, YES),
-    (62, 1, 0, GO),
-    (24, 1, 252, YES),
-    (11, 1, 0, YES),
-    (64, 1, 254, GO),
-    (13, 1, 1, YES),
-    (64, 2, 255, GO),
-    (24, 2, 1, YES),
+const MOVES: &[Scene] = scenes! {
+    GOTO 1 0 GO, SWAP 0 1 GO, WORN 0 0 YES, CARRIED 1 0 YES, EQ 1 1 YES => "";
+    CREATE 3 0 GO, ISAT 3 1 YES => "";
+    DESTROY 1 0 GO, ISAT 1 252 YES, ZERO 1 0 YES => "";
+    PLACE 1 254 GO, EQ 1 1 YES, PLACE 2 255 GO, ISAT 2 1 YES => "";
     // The object last referred to is 2, and then none.
-    (70, 51, 2, GO),
-    (65, 0, 0, GO),
-    (24, 2, 0, YES),
-    (65, 255, 0, GO),
-    (24, 2, 1, YES),
-    (70, 51, 5, GO),
-    (65, 0, 0, GO),
-    (24, 2, 1, YES),
-    (74, 1, 3, GO),
-    (8, 3, 0, YES),
-    (13, 1, 2, YES),
-    (75, 0, 60, GO),
-    (13, 60, 253, YES),
-    (76, 60, 2, GO),
-    (6, 2, 0, YES),
-    (70, 60, 2, GO),
-    (76, 60, 2, GO),
-    (24, 2, 2, YES),
-    (70, 60, 3, GO),
-    (76, 60, 2, GO),
-    (24, 2, 2, YES),
-    (70, 60, 255, GO),
-    (76, 60, 2, GO),
-    (24, 2, 1, YES),
+    LET 51 2 GO, PUTO 0 0 GO, ISAT 2 0 YES, PUTO 255 0 GO, ISAT 2 1 YES => "";
+    LET 51 5 GO, PUTO 0 0 GO, ISAT 2 1 YES => "";
+    COPYOO 1 3 GO, CARRIED 3 0 YES, EQ 1 2 YES => "";
+    COPYOF 0 60 GO, EQ 60 253 YES, COPYFO 60 2 GO, WORN 2 0 YES => "";
+    LET 60 2 GO, COPYFO 60 2 GO, ISAT 2 2 YES => "";
+    LET 60 3 GO, COPYFO 60 2 GO, ISAT 2 2 YES => "";
+    LET 60 255 GO, COPYFO 60 2 GO, ISAT 2 1 YES => "";
     // 0 is worn, 1 and 3 are carried.
-    (42, 0, 0, GO),
-    (24, 0, 1, YES),
-    (24, 1, 1, YES),
-    (24, 3, 1, YES),
-    (11, 1, 0, YES),
+    DROPALL 0 0 GO, ISAT 0 1 YES, ISAT 1 1 YES, ISAT 3 1 YES, ZERO 1 0 YES => "";
     // The current location is none of the game's.
-    (64, 0, 253, GO),
-    (70, 38, 200, GO),
-    (42, 0, 0, GO),
-    (24, 0, 252, YES),
-    (64, 1, 254, GO),
-    (61, 1, 0, GO),
-    (24, 1, 252, YES),
-    (90, 2, 0, Does(Effect::Redescribe)),
-    (0, 2, 0, YES),
-    (13, 1, 1, YES),
-    (8, 0, 0, YES),
-    (6, 1, 0, YES),
-    (24, 4, 1, YES),
-    (13, 60, 255, YES),
-];
+    PLACE 0 253 GO, LET 38 200 GO, DROPALL 0 0 GO, ISAT 0 252 YES => "";
+    PLACE 1 254 GO, CREATE 1 0 GO, ISAT 1 252 YES => "";
+    RESET 2 0 REDESCRIBE, AT 2 0 YES, EQ 1 1 YES, EQ 60 255 YES => "";
+    CARRIED 0 0 YES, WORN 1 0 YES, ISAT 4 1 YES => "";
+};
 
 /// How reading goes on, and the texts of END, OK, ANYKEY and of two messages, the second of them empty.
-const FLOW: [Case; 15] = [
-    (30, 0, 0, Does(Effect::Redescribe)),
-    (31, 0, 0, Does(Effect::Ask(Prompt::Again))),
-    (32, 0, 0, Does(Effect::Exit(true))),
-    (33, 0, 0, Does(Effect::Exit(false))),
-    (34, 0, 0, Does(Effect::Exit(true))),
-    (35, 0, 0, Does(Effect::Ask(Prompt::Key))),
-    (50, 0, 0, GO),
-    (51, 0, 0, GO),
-    (51, 1, 0, GO),
-    (84, 0, 0, Does(Effect::Parse)),
-    (85, 2, 0, Does(Effect::Call(2))),
-    (86, 254, 0, Does(Effect::Loop(254))),
-    (86, 255, 0, Does(Effect::Loop(0))),
-    (70, 38, 3, GO),
-    (86, 255, 0, Does(Effect::Loop(252))),
-];
+const FLOW: &[Scene] = scenes! {
+    DESC 0 0 REDESCRIBE => "";
+    END 0 0 Does(Effect::Ask(Prompt::Again)) => "N";
+    DONE 0 0 Does(Effect::Exit(true)) => "";
+    NOTDONE 0 0 Does(Effect::Exit(false)) => "";
+    OK 0 0 Does(Effect::Exit(true)) => "P\n";
+    ANYKEY 0 0 Does(Effect::Ask(Prompt::Key)) => "Q";
+    MES 0 0 GO => "Taken";
+    MESSAGE 0 0 GO => "Taken\n";
+    MESSAGE 1 0 GO => "\n";
+    PARSE 0 0 Does(Effect::Parse) => "";
+    PROCESS 2 0 Does(Effect::Call(2)) => "";
+    DOALL 254 0 Does(Effect::Loop(254)), DOALL 255 0 Does(Effect::Loop(0)) => "";
+    LET 38 3 GO, DOALL 255 0 Does(Effect::Loop(252)) => "";
+};
 
-/// Three routines: the complement, the half, and the number of one bits. There is no fourth.
-const ROUTINES: [Case; 24] = [
-    (70, 100, 9, GO),
-    (91, 3, 100, GO),
-    (13, 100, 9, YES),
-    (91, 0, 100, GO),
-    (13, 100, 246, YES),
-    (91, 2, 100, GO),
-    (13, 100, 6, YES),
-    (70, 60, 9, GO),
-    (91, 1, 60, GO),
-    (13, 60, 4, YES),
-    (91, 0, 60, GO),
-    (13, 60, 251, YES),
-    (91, 2, 60, GO),
-    (13, 60, 7, YES),
-    (91, 3, 60, GO),
-    (91, 60, 60, GO),
-    (91, 255, 60, GO),
-    (13, 60, 7, YES),
-    (11, 0, 0, YES),
-    (11, 1, 0, NO),
-    (11, 3, 0, YES),
-    (91, 0, 0, GO),
-    (13, 0, 255, YES),
-    (13, 60, 7, YES),
-];
-
-/// Five routines, of which number n adds n. There is no sixth.
-const FIVE_ROUTINES: [Case; 9] = [
-    (70, 60, 250, GO),
-    (91, 4, 60, GO),
-    (13, 60, 254, YES),
-    (91, 3, 60, GO),
-    (13, 60, 1, YES),
-    (91, 0, 60, GO),
-    (13, 60, 1, YES),
-    (91, 5, 60, GO),
-    (13, 60, 1, YES),
-];
-
-/// There is no routine.
-const NO_ROUTINES: [Case; 4] = [
-    (70, 60, 9, GO),
-    (91, 0, 60, GO),
-    (91, 2, 60, GO),
-    (13, 60, 9, YES),
-];
+/// With five routines. There is no sixth.
+const ROUTINES: &[Scene] = scenes! {
+    LET 100 9 GO, EXTERN 5 100 GO, EQ 100 9 YES => "";
+    EXTERN 0 100 GO, EQ 100 18 YES, EXTERN 2 100 GO, EQ 100 38 YES => "";
+    LET 60 9 GO, EXTERN 1 60 GO, EQ 60 19 YES, EXTERN 2 60 GO, EQ 60 40 YES => "";
+    EXTERN 5 60 GO, EXTERN 60 60 GO, EXTERN 255 60 GO, EQ 60 40 YES => "";
+    ZERO 0 0 YES, ZERO 1 0 NO, ZERO 3 0 YES => "";
+    EXTERN 4 0 GO, EQ 0 4 YES, EQ 60 40 YES => "";
+    LET 60 250 GO, EXTERN 4 60 GO, EQ 60 248 YES => "";
+    EXTERN 3 60 GO, EQ 60 243 YES, EXTERN 0 60 GO, EQ 60 230 YES => "";
+};
 
 /// Positions 1 (of flag 58 at 1 and 5) and 3 are kept; the other two can't be taken back, which message 8 says.
-const POSITIONS: [Case; 25] = [
-    (37, 0, 0, REDESCRIBE),
-    (70, 58, 1, GO),
-    (70, 60, 11, GO),
-    (64, 4, 2, GO),
-    (36, 0, 0, REDESCRIBE),
-    (70, 58, 7, GO),
-    (70, 60, 13, GO),
-    (64, 4, 254, GO),
-    (36, 0, 0, REDESCRIBE),
-    (70, 60, 0, GO),
-    (70, 58, 2, GO),
-    (37, 0, 0, REDESCRIBE),
-    (13, 60, 0, YES),
-    (8, 4, 0, YES),
-    (70, 58, 5, GO),
-    (37, 0, 0, REDESCRIBE),
-    (13, 60, 11, YES),
-    (13, 58, 1, YES),
-    (24, 4, 2, YES),
-    (13, 1, 1, YES),
-    (70, 58, 3, GO),
-    (37, 0, 0, REDESCRIBE),
-    (13, 60, 13, YES),
-    (13, 58, 7, YES),
-    (8, 4, 0, YES),
-];
+const POSITIONS: &[Scene] = scenes! {
+    LOAD 0 0 REDESCRIBE => "I\n";
+    LET 58 1 GO, LET 60 11 GO, PLACE 4 2 GO, SAVE 0 0 REDESCRIBE => "";
+    LET 58 7 GO, LET 60 13 GO, PLACE 4 254 GO, SAVE 0 0 REDESCRIBE => "";
+    LET 60 0 GO, LET 58 2 GO, LOAD 0 0 REDESCRIBE, EQ 60 0 YES, CARRIED 4 0 YES => "I\n";
+    LET 58 5 GO, LOAD 0 0 REDESCRIBE, EQ 60 11 YES, EQ 58 1 YES, ISAT 4 2 YES, EQ 1 1 YES => "";
+    LET 58 3 GO, LOAD 0 0 REDESCRIBE, EQ 60 13 YES, EQ 58 7 YES, CARRIED 4 0 YES => "";
+};
 
 /// With seed 42: RANDOM twice, CHANCE of a number too small and of the least that is enough, and of 0, 50 and 100.
-const DRAWS: [Case; 10] = [
-    (73, 60, 0, GO),
-    (13, 60, 71, YES),
-    (73, 60, 0, GO),
-    (13, 60, 85, YES),
-    (10, 29, 0, NO),
-    (10, 70, 0, YES),
-    (10, 50, 0, NO),
-    (10, 99, 0, NO),
-    (10, 100, 0, YES),
-    (10, 0, 0, NO),
-];
+const DRAWS: &[Scene] = scenes! {
+    RANDOM 60 0 GO, EQ 60 71 YES, RANDOM 60 0 GO, EQ 60 85 YES => "";
+    CHANCE 29 0 NO, CHANCE 70 0 YES, CHANCE 50 0 NO, CHANCE 99 0 NO, CHANCE 100 0 YES => "";
+    CHANCE 0 0 NO => "";
+};
 
 fn text(alloc: Global, bytes: &[u8]) -> Result<Text, AllocError> {
     let bytes = Vec::from_slice(alloc, bytes)?;
@@ -388,9 +235,26 @@ fn entry_of(rows: Vec<Condact>) -> Entry {
     }
 }
 
-/// A game in which table 0 has one entry, of these condacts. System message n is the letter that stands n bytes after
-/// A.
-fn parts(alloc: Global, cases: &[Case]) -> Result<GameParts, AllocError> {
+/// Table 0 has an entry for each of these scenes, and the two others have none.
+fn tables(alloc: Global, scenes: &[Scene]) -> Result<Vec<Table>, AllocError> {
+    let mut entries = Vec::new(alloc);
+    for &(cases, _) in scenes {
+        entries.push(entry(alloc, cases)?)?;
+    }
+    Ok(vec![in alloc;
+        Table { entries },
+        Table {
+            entries: Vec::new(alloc)
+        },
+        Table {
+            entries: Vec::new(alloc)
+        },
+    ]?)
+}
+
+/// A game in which table 0 has an entry for each of these scenes. System message n is the letter that stands n bytes
+/// after A.
+fn parts(alloc: Global, scenes: &[Scene]) -> Result<GameParts, AllocError> {
     let mut system = Vec::new(alloc);
     for letter in b'A'..=b'v' {
         system.push(text(alloc, &[letter])?)?;
@@ -417,17 +281,7 @@ fn parts(alloc: Global, cases: &[Case]) -> Result<GameParts, AllocError> {
                 rows: Vec::new(alloc)
             },
         ]?,
-        tables: vec![in alloc;
-            Table {
-                entries: vec![in alloc; entry(alloc, cases)?]?
-            },
-            Table {
-                entries: Vec::new(alloc)
-            },
-            Table {
-                entries: Vec::new(alloc)
-            },
-        ]?,
+        tables: tables(alloc, scenes)?,
     })
 }
 
@@ -450,148 +304,148 @@ fn opened(rt: &impl Abort, alloc: Global, game: &Game) -> Result<World, AllocErr
     Ok(world)
 }
 
-/// What the three routines give.
-fn give(n: u8, x: u8) -> u8
-    ensures value { result ≡ (if n == 0 then 255 - x else if n == 1 then x / 2 else count_ones x) }
-{
-    match n {
-        0 => 255 - x,
-        1 => x / 2,
-        _ => x.count_ones() as u8,
+/// What an action answers.
+fn answer_of(act: Act) -> Answer {
+    match (act.drop_line, act.cancel_loop) {
+        (false, false) => Does(act.effect),
+        (true, false) => Drops(act.effect),
+        (true, true) => Cancels(act.effect),
+        (false, true) => Answer::Other,
     }
 }
 
-/// Reads a condact of the game's entry.
+/// Reads a condact of an entry of table 0.
 fn read<F: Fn(u8, u8) -> u8>(
-    rt: &impl Abort,
     game: &Game,
     world: &mut World,
     routines: &Routines<F>,
     piece: &mut Piece,
+    entry: u16,
     at: u8,
 ) -> Answer
     requires game { IsOf game.now world.old }
     requires rows { HaveRows F.Fn routines.now }
+    requires draws { world.old.draws < 2 ^ 64 - 1 }
     ensures game { IsOf game.now world.new }
 {
-    let Some(c) = game.condact(0, 0, at) else {
-        return Answer::Missing;
+    let Some(c) = game.condact(0, entry, at) else {
+        return Answer::Other;
     };
-    assert!(rt; world.draws() < 1_000);
     if c.code <= 28 {
         return Tests(test(game, world, c));
     }
-    let Act {
-        effect,
-        drop_line,
-        cancel_loop,
-    } = act(game, world, routines, piece, c);
-    assert!(rt; !cancel_loop);
-    if drop_line {
-        Drops(effect)
-    } else {
-        Does(effect)
-    }
+    answer_of(act(game, world, routines, piece, c))
 }
 
-/// Reads these condacts, which are those of the game's entry.
+/// Reads these condacts, which are those of an entry of table 0.
 fn read_all<F: Fn(u8, u8) -> u8>(
     rt: &impl Abort,
     game: &Game,
     world: &mut World,
     routines: &Routines<F>,
     piece: &mut Piece,
+    entry: u16,
     cases: &[Case],
 )
     requires game { IsOf game.now world.old }
     requires rows { HaveRows F.Fn routines.now }
+    ensures game { IsOf game.now world.new }
 {
     for (at, (code, a, b, answer)) in cases.iter().enumerate() {
         assert!(rt; at < 255);
-        let found = read(rt, game, world, routines, piece, at as u8);
-        assert_eq!(rt; found, *answer, "condact {at}: {code} {a} {b}");
+        assert!(rt; world.draws() < 1_000);
+        let found = read(game, world, routines, piece, entry, at as u8);
+        assert_eq!(rt;
+            found,
+            *answer,
+            "entry {entry}, condact {at}: {code} {a} {b}"
+        );
     }
 }
 
-/// Reads these condacts in this piece, with these routines.
+/// Reads these scenes, which are the entries of the game's table 0, each in an empty piece, with these routines.
 fn run_with<F: Fn(u8, u8) -> u8>(
     rt: &impl Abort,
     alloc: Global,
+    game: &Game,
     routines: &Routines<F>,
-    cases: &[Case],
-    piece: &mut Piece,
+    scenes: &[Scene],
 ) -> Result<(), Fail>
     requires rows { HaveRows F.Fn routines.now }
 {
-    let game = Game::new(parts(alloc, cases)?)?;
-    let mut world = opened(rt, alloc, &game)?;
-    read_all(rt, &game, &mut world, routines, piece, cases);
+    let mut world = opened(rt, alloc, game)?;
+    let mut piece = Piece::new(alloc)?;
+    for (entry, &(cases, printed)) in scenes.iter().enumerate() {
+        assert!(rt; entry < 4_000);
+        piece.clear();
+        read_all(
+            rt,
+            game,
+            &mut world,
+            routines,
+            &mut piece,
+            entry as u16,
+            cases,
+        );
+        assert_eq!(rt; piece.bytes(), printed.as_bytes(), "entry {entry}");
+    }
     Ok(())
 }
 
-/// Reads these condacts in this piece, with three routines.
-fn run(rt: &impl Abort, alloc: Global, cases: &[Case], piece: &mut Piece) -> Result<(), Fail> {
-    let routines = Routines::new(3, give);
-    run_with(rt, alloc, &routines, cases, piece)
+/// Reads these scenes in a game of these parts, whose table 0 they are, with no routines.
+fn run(rt: &impl Abort, alloc: Global, parts: GameParts, scenes: &[Scene]) -> Result<(), Fail> {
+    let game = Game::new(parts)?;
+    let routines = Routines::new(0, |_, x| x);
+    run_with(rt, alloc, &game, &routines, scenes)
 }
 
-/// What routine n of five gives.
-fn add(n: u8, x: u8) -> u8
-    ensures value { result ≡ (x + n) % 256 }
+/// Reads these condacts in a piece that holds so many bytes already.
+fn run_behind(
+    rt: &impl Abort,
+    alloc: Global,
+    bytes: usize,
+    cases: &'static [Case],
+) -> Result<(), Fail> {
+    let game = Game::new(parts(alloc, &[(cases, "")])?)?;
+    let mut world = opened(rt, alloc, &game)?;
+    let routines = Routines::new(0, |_, x| x);
+    let most = vec![in alloc; b'x'; bytes]?;
+    let mut piece = Piece::new(alloc)?;
+    piece.push(most.as_slice());
+    read_all(rt, &game, &mut world, &routines, &mut piece, 0, cases);
+    Ok(())
+}
+
+/// What routine n of five gives: twice the number, and n.
+fn double(n: u8, x: u8) -> u8
+    ensures value { result ≡ ((x * 2) % 256 + n) % 256 }
 {
-    x.wrapping_add(n)
+    x.wrapping_mul(2).wrapping_add(n)
 }
 
 #[test]
 fn five_routines(rt: HostRuntime) -> Result<(), Fail> {
-    let routines = Routines::new(5, add);
-    let mut piece = Piece::new(rt.alloc())?;
-    run_with(&rt, rt.alloc(), &routines, &FIVE_ROUTINES, &mut piece)
-}
-
-#[test]
-fn no_routines(rt: HostRuntime) -> Result<(), Fail> {
-    let routines = Routines::new(0, |_, x| x);
-    let mut piece = Piece::new(rt.alloc())?;
-    run_with(&rt, rt.alloc(), &routines, &NO_ROUTINES, &mut piece)
+    let game = Game::new(parts(rt.alloc(), ROUTINES)?)?;
+    let routines = Routines::new(5, double);
+    run_with(&rt, rt.alloc(), &game, &routines, ROUTINES)
 }
 
 #[test]
 fn conditions_and_actions(rt: HostRuntime) -> Result<(), Fail> {
-    let mut piece = Piece::new(rt.alloc())?;
-    run(&rt, rt.alloc(), &CONDITIONS, &mut piece)?;
-    run(&rt, rt.alloc(), &FLAGS, &mut piece)?;
-    run(&rt, rt.alloc(), &MOVES, &mut piece)?;
-    run(&rt, rt.alloc(), &DRAWS, &mut piece)?;
-    run(&rt, rt.alloc(), &ROUTINES, &mut piece)?;
-    assert_eq!(rt; piece.bytes(), b"".as_slice());
-    run(&rt, rt.alloc(), &FLOW, &mut piece)?;
-    assert_eq!(rt; piece.bytes(), b"NP\nQTakenTaken\n\n".as_slice());
-    piece.clear();
-    run(&rt, rt.alloc(), &POSITIONS, &mut piece)?;
-    assert_eq!(rt; piece.bytes(), b"I\nI\n".as_slice());
+    for scenes in [CONDITIONS, FLAGS, MOVES, DRAWS, FLOW, POSITIONS] {
+        run(&rt, rt.alloc(), parts(rt.alloc(), scenes)?, scenes)?;
+    }
     Ok(())
 }
 
+const TOO_LONG: [Case; 1] = [(MESSAGE, 0, 0, SPENT)];
+
+const TOO_LONG_BEFORE_OK: [Case; 2] = [(MES, 0, 0, GO), (OK, 0, 0, SPENT)];
+
 #[test]
 fn a_text_that_does_not_fit(rt: HostRuntime) -> Result<(), Fail> {
-    let most = vec![in rt.alloc(); b'x'; 65_530]?;
-    let mut piece = Piece::new(rt.alloc())?;
-    piece.push(most.as_slice());
-    run(
-        &rt,
-        rt.alloc(),
-        &[(51, 0, 0, Does(Effect::Spent))],
-        &mut piece,
-    )?;
-    piece.clear();
-    piece.push(most.as_slice());
-    run(
-        &rt,
-        rt.alloc(),
-        &[(50, 0, 0, GO), (34, 0, 0, Does(Effect::Spent))],
-        &mut piece,
-    )
+    run_behind(&rt, rt.alloc(), 65_530, &TOO_LONG)?;
+    run_behind(&rt, rt.alloc(), 65_530, &TOO_LONG_BEFORE_OK)
 }
 
 /// What NOUN2 answers for a word, which may be any byte.

@@ -146,7 +146,8 @@ impl Machine {
             RunsTo (story_of (T.game tables.now) X) (having situation.old self.old) result
             (having situation.new self.new) }
         ensures stopped { IsStopped result self.new }
-        ensures after { IsAfterStep (T.game tables.now) (having situation.old self.old) (having situation.new self.new) }
+        ensures after { IsAfterStep (T.game tables.now) (having situation.old self.old)
+            (having situation.new self.new) }
     {
         loop {
             match self.step(tables, routines, situation) {

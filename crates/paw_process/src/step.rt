@@ -264,7 +264,8 @@ impl Machine {
             (having situation.new self.new) }
         ensures stands { StandsOrTurned result self.new }
         ensures counts { self.old.left ≡ self.new.left + 1 }
-        ensures after { IsAfterStep (T.game tables.now) (having situation.old self.old) (having situation.new self.new) }
+        ensures after { IsAfterStep (T.game tables.now) (having situation.old self.old)
+            (having situation.new self.new) }
     {
         match test(tables, &mut situation.world, c) {
             Truth::Yes => {
@@ -326,7 +327,8 @@ impl Machine {
             (having situation.new self.new) }
         ensures stands { StandsOrTurned result self.new }
         ensures counts { self.old.left ≡ self.new.left + 1 }
-        ensures after { IsAfterStep (T.game tables.now) (having situation.old self.old) (having situation.new self.new) }
+        ensures after { IsAfterStep (T.game tables.now) (having situation.old self.old)
+            (having situation.new self.new) }
     {
         self.note(f, c, true);
         let done = act(
@@ -376,7 +378,8 @@ impl Machine {
             (having situation.old self.old) result (having situation.new self.new) }
         ensures stands { StandsOrTurned result self.new }
         ensures counts { IsNone result → self.old.left ≡ self.new.left + 1 }
-        ensures after { IsAfterStep (T.game tables.now) (having situation.old self.old) (having situation.new self.new) }
+        ensures after { IsAfterStep (T.game tables.now) (having situation.old self.old)
+            (having situation.new self.new) }
     {
         if !self.may_read() {
             return self.stop(Turned::Spent(SpentKind::Condacts));
@@ -408,7 +411,8 @@ impl Machine {
             (having situation.old self.old) result (having situation.new self.new) }
         ensures stands { StandsOrTurned result self.new }
         ensures progress { IsNone result → Progress self.old self.new }
-        ensures after { IsAfterStep (T.game tables.now) (having situation.old self.old) (having situation.new self.new) }
+        ensures after { IsAfterStep (T.game tables.now) (having situation.old self.old)
+            (having situation.new self.new) }
     {
         match tables.condact(f.table, f.entry, f.at) {
             None => {
@@ -435,7 +439,8 @@ impl Machine {
             (having situation.new self.new) }
         ensures stands { StandsOrTurned result self.new }
         ensures progress { IsNone result → Progress self.old self.new }
-        ensures after { IsAfterStep (T.game tables.now) (having situation.old self.old) (having situation.new self.new) }
+        ensures after { IsAfterStep (T.game tables.now) (having situation.old self.old)
+            (having situation.new self.new) }
     {
         // Its clause says that the game is valid, which the proof wants. No call of it is left in the program.
         let _counts = tables.counts();

@@ -15,9 +15,11 @@ along_stopped g [] stop r = refl
 along_stopped g (f ∷ fs) stop r = along_stopped g fs stop r
 
 -- going on along a path is going on at its end, and then in the tables above, the innermost first
-on_path_above : (g : Story) (p : Prompt) (fs : List Frame) (f : Frame) (path : List Frame) (r : Run) → on_path g p 0 (reverse_aux fs (f ∷ path)) r ≡ along g fs (on_path g p (length fs) (f ∷ path) r)
+on_path_above : (g : Story) (p : Prompt) (fs : List Frame) (f : Frame) (path : List Frame) (r : Run) →
+    on_path g p 0 (reverse_aux fs (f ∷ path)) r ≡ along g fs (on_path g p (length fs) (f ∷ path) r)
 on_path_above g p [] f path r = refl
 on_path_above g p (h ∷ fs) f path r = on_path_above g p fs h (f ∷ path) r
 
-pub on_path_reverse : (g : Story) (p : Prompt) (f : Frame) (fs : List Frame) (r : Run) → on_path g p 0 (reverse (f ∷ fs)) r ≡ along g fs (on_path g p (length fs) (f ∷ []) r)
+pub on_path_reverse : (g : Story) (p : Prompt) (f : Frame) (fs : List Frame) (r : Run) →
+    on_path g p 0 (reverse (f ∷ fs)) r ≡ along g fs (on_path g p (length fs) (f ∷ []) r)
 on_path_reverse g p f fs r = on_path_above g p fs f [] r

@@ -1,11 +1,9 @@
 -- Reading closes one piece for each line, and one before them.
-use Rattle.std.proofs.Common.{◌≡◌, ℕ, zero, suc, ◌+◌, ◌-◌, Bool, true, false, ◌||◌, List, [], ◌∷◌, Option, Some, None, refl, drop, length, arith, length-append}
-use Rattle.std.specs.Prelude.{nat_lt}
+use Rattle.std.proofs.Common.{◌≡◌, ℕ, zero, suc, ◌+◌, ◌-◌, Bool, true, false, ◌||◌, List, [], ◌∷◌, Option, Some, None, refl, length, arith, length-append}
 use Rattle.paw_base.specs.declared.parts.Condact.{Condact}
 use Rattle.paw_base.specs.declared.fault.SpentKind.TheVariants as spent
-use Rattle.paw_game.specs.declared.parts.Entry.{Entry}
 use Rattle.paw_effects.specs.Story.{Story}
-use Rattle.paw_game.specs.Tables.{table_at, entry_at, condacts_of, exit_at}
+use Rattle.paw_game.specs.Tables.{exit_at}
 use Rattle.paw_world.specs.World.{flag, with_flag}
 use Rattle.paw_phrase.specs.Sentence.{Parsed, IsSentence, IsUnknown, IsNoPhrase}
 use Rattle.paw_effects.specs.declared.act.Prompt.{Prompt}
@@ -18,11 +16,18 @@ use Rattle.paw_effects.specs.Holds.{is_condition, holds}
 use Rattle.paw_effects.specs.Effects.{Done, effect_of}
 use Rattle.paw_reading.specs.declared.places.Frame.{Frame}
 use Rattle.paw_reading.specs.declared.places.OpenLoop.{OpenLoop}
-use Rattle.paw_reading.specs.Run.{Run, closed, fits, printed, with_world, without_loop, line_dropped, anew, is_timeout, is_ignored, heard, reply, is_yes, is_no, taken_phrase}
-use Rattle.paw_reading.specs.Reading.{IsOver, RunsOut, Redescribes, Restarts, Halts, Out, Left, Waits, Stopped, halts, noted, after_call, at_level, again, is_taken, taken, turns, loop_of, over, answered, asked, waits, after_test, after_parse, after_action, carried_out, acts, reads_one, condacts, is_for_now, entries, plain, looped, reads, called, deeper, rest, table_read, coming_phrase, goodbye, game_over, quit_question}
-use Rattle.paw_reading.specs.Turn.{TurnStage, AtDescribe, AtFrame, AtPhrase, AtResponse, Ending, Halted, saying, described, framed, view_text, counted, prompt_text, line_set, at_main, after_phrase, refusal_text, connected, after_left, table_done, turn, stages_left, opening, timeout_text, unknown_text}
+use Rattle.paw_reading.specs.Run.{Run, closed, fits, printed, with_world, without_loop, line_dropped, anew, is_timeout, is_ignored, heard}
+use Rattle.paw_reading.specs.Run.{reply, is_yes, is_no, taken_phrase}
+use Rattle.paw_reading.specs.Reading.{IsOver, RunsOut, Redescribes, Restarts, Halts, Out, Left, Waits, Stopped, halts, noted, after_call}
+use Rattle.paw_reading.specs.Reading.{at_level, again, is_taken, taken, turns, loop_of, over, answered, asked, waits, after_test}
+use Rattle.paw_reading.specs.Reading.{after_parse, after_action, carried_out, acts, reads_one, plain, looped, reads, called, deeper, rest}
+use Rattle.paw_reading.specs.Reading.{table_read, coming_phrase, goodbye, game_over, quit_question}
+use Rattle.paw_reading.specs.Turn.{TurnStage, AtDescribe, AtFrame, AtPhrase, AtResponse, Ending, Halted, saying, described, framed}
+use Rattle.paw_reading.specs.Turn.{view_text, counted, prompt_text, line_set, at_main, after_phrase, refusal_text, connected, after_left}
+use Rattle.paw_reading.specs.Turn.{table_done, turn, stages_left, opening, timeout_text, unknown_text}
 use Rattle.paw_reading.specs.inner.Pieces.{count, Counted, PiecesOfLines}
 use Rattle.paw_reading.proofs.Keeps.{either, open_or_not, prints}
+use Rattle.paw_reading.proofs.EachCondact.{plain_goes}
 
 -- what reading tables comes to where v pieces and lines were there
 abbrev pub Counts : ℕ → Out → Type 0
@@ -102,14 +107,16 @@ after_parse_counts f next go hn hg (IsUnknown rest) v r k = hg f.acted v (record
 after_parse_counts f next go hn hg IsNoPhrase v r k = hg f.acted v r k
 
 module _ (g : Story) (sub : ℕ → Run → Out) (lv : ℕ) (calls : CallsCounting sub) where
-  after_test_counts : (f : Frame) (next go : Bool → Run → Out) → AreCounting next → AreCounting go → (c : Condact) (t : Truth) → IsCounting (λ r. after_test g f next go c r t)
+  after_test_counts : (f : Frame) (next go : Bool → Run → Out) → AreCounting next → AreCounting go → (c : Condact) (t : Truth) →
+      IsCounting (λ r. after_test g f next go c r t)
   after_test_counts f next go hn hg c truth.Yes v r k = hg f.acted v (noted f c true r) k
   after_test_counts f next go hn hg c truth.No v r k = hn f.acted v (noted f c false r) k
   after_test_counts f next go hn hg c truth.Ask v r k =
       prints (Counts v) (quit_question g r) (waits g prompt.Quit f go) (noted f c true r)
       (waits_counts g prompt.Quit f go hg v (printed (quit_question g r) (noted f c true r)) k) k
 
-  after_action_counts : (f : Frame) (next go : Bool → Run → Out) → AreCounting next → AreCounting go → (e : Effect) → IsCounting (after_action g sub lv f next go e)
+  after_action_counts : (f : Frame) (next go : Bool → Run → Out) → AreCounting next → AreCounting go → (e : Effect) →
+      IsCounting (after_action g sub lv f next go e)
   after_action_counts f next go hn hg effect.Go v r k = hg true v r k
   after_action_counts f next go hn hg (effect.Exit a) v r k = k
   after_action_counts f next go hn hg effect.Redescribe v r k = k
@@ -131,27 +138,14 @@ module _ (g : Story) (sub : ℕ → Run → Out) (lv : ℕ) (calls : CallsCounti
       (after_test_counts f next go hn hg c (holds g.game r.world c).answer v (with_world (holds g.game r.world c).world r) k)
       (acts_count f next go hn hg (effect_of g r.world c) v (noted f c true r) k)
 
-  -- ---- entries, tables ----
-
-  condacts_count : (t e : ℕ) (next : Bool → Run → Out) → AreCounting next → (k : ℕ) (cs : List Condact) → AreCounting (condacts g sub lv t e next k cs)
-  unfolding condacts
-  condacts_count t e next hn k [] a v r h = hn a v r h
-  condacts_count t e next hn k (c ∷ cs) a v r h =
-      either (Counts v) (nat_lt (length r.read) 200000) _ (halts (RunsOut spent.Condacts) r)
-      (reads_one_counts (record { table = t; entry = e; at = k; acted = a }) next _ hn (condacts_count t e next hn (suc k) cs) c v r h) h
-
-  entries_count : (t e : ℕ) (es : List Entry) → AreCounting (entries g sub lv t e es)
-  unfolding entries
-  entries_count t e [] a v r h = h
-  entries_count t e (en ∷ es) a v r h =
-      either (Counts v) (is_for_now r en) _ _
-      (condacts_count t e (entries g sub lv t (suc e) es) (entries_count t (suc e) es) 0 en.condacts a v r h)
-      (entries_count t (suc e) es a v r h)
+  -- ---- tables ----
 
   plain_counts : (t e k : ℕ) → AreCounting (plain g sub lv t e k)
-  plain_counts t e zero a v r h = entries_count t e (drop e (table_at g.game t)) a v r h
-  plain_counts t e (suc k) a v r h =
-      condacts_count t e _ (entries_count t (suc e) (drop (suc e) (table_at g.game t))) (suc k) (drop (suc k) (condacts_of (entry_at g.game t e))) a v r h
+  plain_counts t e k a v r h =
+      plain_goes (λ s x. (n : ℕ) → count s ≡ n → Counts n x) g sub lv t (λ b s n j. j) (λ s n j. j)
+      (λ i m b next go hn hg c s few n j.
+      reads_one_counts (record { table = t; entry = i; at = m; acted = b }) next go (λ d w q i'. hn d q w i') (λ d w q i'. hg d q w i') c n s j)
+      e k a r v h
 
   looped_counts : (l : OpenLoop) → IsCounting (looped g sub lv l)
   looped_counts l = turns_count g lv (record l { last = 0 }) _ (plain_counts l.table l.entry (suc l.at) true) (length g.game.objects - suc l.last)

@@ -1,5 +1,6 @@
 -- Turns end, and more stages change nothing.
-use Rattle.std.proofs.Common.{◌≡◌, ◌≢◌, ℕ, zero, suc, ◌+◌, ◌-◌, ◌*◌, ◌≤◌, ◌<◌, Bool, true, false, List, [], ◌∷◌, ◌⊎◌, inl, inr, Option, Some, None, refl, sym, ◌∙◌, length, arith}
+use Rattle.std.proofs.Common.{◌≡◌, ◌≢◌, ℕ, zero, suc, ◌+◌, ◌-◌, ◌*◌, ◌≤◌, ◌<◌, Bool, true, false, List, [], ◌∷◌, ◌⊎◌, inl, inr, Option}
+use Rattle.std.proofs.Common.{Some, None, refl, sym, ◌∙◌, length, arith}
 use Rattle.std.specs.Prelude.{if◌then◌else◌}
 use Rattle.paw_base.specs.declared.fault.SpentKind.TheVariants as spent
 use Rattle.paw_effects.specs.Story.{Story}
@@ -13,7 +14,9 @@ use Rattle.paw_effects.specs.Texts.{say_text}
 use Rattle.paw_reading.specs.declared.places.Frame.{Frame}
 use Rattle.paw_reading.specs.Run.{Run, closed, fits, printed, with_world, line_dropped, is_timeout, is_ignored, heard, with_timeout}
 use Rattle.paw_reading.specs.Reading.{RunsOut, Redescribes, Restarts, Halts, Out, Left, Waits, Stopped, table_read}
-use Rattle.paw_reading.specs.Turn.{TurnStage, AtDescribe, AtFrame, AtPhrase, AtResponse, Ending, Halted, Unended, saying, described, framed, view_text, prompt_text, line_set, at_main, after_phrase, refusal_text, connected, responded, after_left, table_done, turn, left_to_read, stages_left, first_table, in_table, goes_on, unknown_text}
+use Rattle.paw_reading.specs.Turn.{TurnStage, AtDescribe, AtFrame, AtPhrase, AtResponse, Ending, Halted, Unended, saying, described, framed}
+use Rattle.paw_reading.specs.Turn.{view_text, prompt_text, line_set, at_main, after_phrase, refusal_text, connected, responded, after_left}
+use Rattle.paw_reading.specs.Turn.{table_done, turn, left_to_read, stages_left, first_table, in_table, goes_on, unknown_text}
 use Rattle.paw_reading.specs.inner.Turn.{TurnsEnd, EndsOnce, GoingOnEnds, GoesOnOnce}
 use Rattle.paw_reading.proofs.Spends.{brought, brought_more, Spends, table_spends, path_spends}
 
@@ -47,7 +50,8 @@ rank_after zero = 3
 rank_after (suc zero) = 2
 rank_after (suc (suc t)) = 1
 
-after_left_ends : (g : Story) (n : ℕ) (go : TurnStage → Run → Ending) → EndsWithin n go → (t : ℕ) (acted : Bool) (r : Run) → 4 * left_to_read r + rank_after t ≤ n →
+after_left_ends : (g : Story) (n : ℕ) (go : TurnStage → Run → Ending) → EndsWithin n go → (t : ℕ) (acted : Bool) (r : Run) →
+    4 * left_to_read r + rank_after t ≤ n →
     after_left g go t acted r ≢ Unended
 after_left_ends g n go h zero acted r k = responded_ends g n go h r k acted
 after_left_ends g n go h (suc zero) acted r k = h AtFrame r k
@@ -58,14 +62,16 @@ rank_after-pos zero = omega arith
 rank_after-pos (suc zero) = omega arith
 rank_after-pos (suc (suc t)) = omega arith
 
-table_done_ends : (g : Story) (n : ℕ) (go : TurnStage → Run → Ending) → EndsWithin n go → (t v : ℕ) → 4 * v + rank_after t ≤ n → (x : Out) → Spends v x → table_done g go t x ≢ Unended
+table_done_ends : (g : Story) (n : ℕ) (go : TurnStage → Run → Ending) → EndsWithin n go → (t v : ℕ) → 4 * v + rank_after t ≤ n → (x : Out) → Spends v x →
+    table_done g go t x ≢ Unended
 table_done_ends g n go h t v k (Left a r) s = after_left_ends g n go h t a r (omega arith)
 table_done_ends g n go h t v k (Stopped Redescribes r) s = h AtDescribe r (omega (arith, rank_after-pos t))
 table_done_ends g n go h t v k (Stopped Restarts r) s = h AtDescribe r (omega (arith, rank_after-pos t))
 table_done_ends g n go h t v k (Stopped (Halts halt) r) s = λ e. cc
 table_done_ends g n go h t v k (Waits p path r) s = λ e. cc
 
-at_main_ends : (g : Story) (n : ℕ) (go : TurnStage → Run → Ending) → EndsWithin n go → (r : Run) (lines : List (List ℕ)) → 4 * (length r.pending + brought lines) ≤ n →
+at_main_ends : (g : Story) (n : ℕ) (go : TurnStage → Run → Ending) → EndsWithin n go → (r : Run) (lines : List (List ℕ)) →
+    4 * (length r.pending + brought lines) ≤ n →
     at_main g (go AtFrame) (go AtPhrase) r lines ≢ Unended
 unfolding at_main
 at_main_ends g n go h r [] k = λ e. cc
@@ -78,7 +84,8 @@ at_main_ends g n go h r (line ∷ lines) k =
     (saying_ends said (go AtFrame) (heard line s) (h AtFrame (printed said (heard line s)) (omega (arith, m, k))))
     (h AtPhrase (line_set line s) (omega (arith, m, k)))
   where
-    by_test : (ignored timeout : Bool) → {x y z : Ending} → x ≢ Unended → y ≢ Unended → z ≢ Unended → (if ignored then x else if timeout then y else z) ≢ Unended
+    by_test : (ignored timeout : Bool) → {x y z : Ending} → x ≢ Unended → y ≢ Unended → z ≢ Unended →
+        (if ignored then x else if timeout then y else z) ≢ Unended
     by_test true timeout hx hy hz = hx
     by_test false true hx hy hz = hy
     by_test false false hx hy hz = hz

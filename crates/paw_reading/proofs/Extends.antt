@@ -1,5 +1,6 @@
 -- Reading with more lines is reading with fewer, and then going on from where that waits.
-use Rattle.std.proofs.Common.{◌≡◌, ℕ, zero, suc, ◌+◌, ◌-◌, ◌≤◌, ◌<◌, Bool, true, false, ◌||◌, List, [], ◌∷◌, ◌++◌, inl, inr, Option, Some, None, refl, sym, ap, ◌∙◌, length, arith, append_assoc}
+use Rattle.std.proofs.Common.{◌≡◌, ℕ, zero, suc, ◌+◌, ◌-◌, ◌≤◌, ◌<◌, Bool, true, false, ◌||◌, List, [], ◌∷◌, ◌++◌, inl, inr, Option, Some}
+use Rattle.std.proofs.Common.{None, refl, sym, ap, ◌∙◌, length, arith, append_assoc}
 use Rattle.std.specs.Prelude.{if◌then◌else◌, nat_lt}
 use Rattle.std.proofs.lemmas.Option.{slice_get_past}
 use Rattle.paw_base.specs.declared.parts.Condact.{Condact}
@@ -18,8 +19,12 @@ use Rattle.paw_effects.specs.Holds.{is_condition, holds}
 use Rattle.paw_effects.specs.Effects.{Done, effect_of}
 use Rattle.paw_reading.specs.declared.places.Frame.{Frame}
 use Rattle.paw_reading.specs.declared.places.OpenLoop.{OpenLoop}
-use Rattle.paw_reading.specs.Run.{Run, Step, closed, fits, printed, with_world, without_loop, line_dropped, anew, is_ignored, heard, reply, is_yes, is_no, taken_phrase}
-use Rattle.paw_reading.specs.Reading.{IsOver, RunsOut, Restarts, Out, Left, Waits, Stopped, halts, noted, printing, after_call, at_level, if_open, again, is_taken, taken, turns, loop_of, over, answered, asked, waits, after_test, after_parse, after_action, carried_out, acts, reads_one, is_for_now, inside, plain, looped, deeper, rest, coming_phrase, goodbye, game_over, quit_question}
+use Rattle.paw_reading.specs.Run.{Run, Step, closed, fits, printed, with_world, without_loop, line_dropped, anew, is_ignored, heard, reply}
+use Rattle.paw_reading.specs.Run.{is_yes, is_no, taken_phrase}
+use Rattle.paw_reading.specs.Reading.{IsOver, RunsOut, Restarts, Out, Left, Waits, Stopped, halts, noted, printing, after_call, at_level}
+use Rattle.paw_reading.specs.Reading.{if_open, again, is_taken, taken, turns, loop_of, over, answered, asked, waits, after_test}
+use Rattle.paw_reading.specs.Reading.{after_parse, after_action, carried_out, acts, reads_one, is_for_now, inside, plain, looped, deeper}
+use Rattle.paw_reading.specs.Reading.{rest, coming_phrase, goodbye, game_over, quit_question}
 use Rattle.paw_reading.specs.GoingOn.{on_path}
 use Rattle.paw_reading.proofs.Keeps.{Keeps, at_level_own, at_level_is, turns_closes, plain_keeps, looped_closes, deeper_keeps}
 use Rattle.paw_reading.proofs.Rules.{inside_end, inside_condact, again_closed, again_again, after_call_again, deeper_rest, deeper_none}
@@ -94,7 +99,8 @@ module _ (g : Story) (ps : List (List ℕ)) (ts : List (List Step)) (lines : Lis
         settles_printing (goodbye g r) game_over r
         (ap (halts IsOver) (closed_around ps ts lines (without_loop (line_dropped (printed (goodbye g r) r)))))
 
-    settles_answered : (p : Prompt) (f : Frame) (go : Bool → Run → Out) → ((a : Bool) → IsSettling lv (go a)) → (line : List ℕ) → IsSettling lv (answered g p f go line)
+    settles_answered : (p : Prompt) (f : Frame) (go : Bool → Run → Out) → ((a : Bool) → IsSettling lv (go a)) → (line : List ℕ) →
+        IsSettling lv (answered g p f go line)
     settles_answered prompt.Main f go hg line r = hg f.acted r
     settles_answered prompt.Quit f go hg line r = settles_or (is_yes line) _ _ (go f.acted r) (Left true r) (hg f.acted r) refl
     settles_answered prompt.Again f go hg line r =
@@ -118,7 +124,8 @@ module _ (g : Story) (ps : List (List ℕ)) (ts : List (List Step)) (lines : Lis
 
     -- ---- phrases ----
 
-    settles_parse : (f : Frame) (next go : Bool → Run → Out) → ((a : Bool) → IsSettling lv (next a)) → ((a : Bool) → IsSettling lv (go a)) → (r : Run) (p : Parsed) →
+    settles_parse : (f : Frame) (next go : Bool → Run → Out) → ((a : Bool) → IsSettling lv (next a)) → ((a : Bool) → IsSettling lv (go a)) →
+        (r : Run) (p : Parsed) →
         loops lv (after_parse f next go (around ps ts lines r) p) ≡ settles lv (after_parse f next go r p)
     settles_parse f next go hn hg r (IsSentence s rest) = hn f.acted (taken_phrase s rest r)
     settles_parse f next go hn hg r (IsUnknown rest) = hg f.acted (record r { pending = rest })
@@ -126,7 +133,8 @@ module _ (g : Story) (ps : List (List ℕ)) (ts : List (List Step)) (lines : Lis
 
     -- ---- the loop ----
 
-    settles_turns : (l : OpenLoop) → l.level ≡ lv → IsSettling lv (plain g (deeper g lv) lv l.table l.entry (suc l.at) true) → (n : ℕ) → n ≤ length g.game.objects →
+    settles_turns : (l : OpenLoop) → l.level ≡ lv → IsSettling lv (plain g (deeper g lv) lv l.table l.entry (suc l.at) true) → (n : ℕ) →
+        n ≤ length g.game.objects →
         IsSettling lv (turns g lv (record l { last = 0 }) (plain g (deeper g lv) lv l.table l.entry (suc l.at) true) n)
     unfolding turns
     settles_turns l own hb zero low r = refl
@@ -144,7 +152,8 @@ module _ (g : Story) (ps : List (List ℕ)) (ts : List (List Step)) (lines : Lis
         keeps : (o : ℕ) (s : Run) → Keeps (Some (record l { last = o })) (body (taken g.game l o s))
         keeps o s = plain_keeps g (deeper g lv) lv (deeper_keeps g lv) l.table l.entry (suc l.at) true (taken g.game l o s)
 
-        after : (o : ℕ) → length g.game.objects - suc o ≡ n → IsSettling lv more → (y : Out) → Keeps (Some (record l { last = o })) y → settles lv y ≡ settles lv (again lv (λ _. more) y)
+        after : (o : ℕ) → length g.game.objects - suc o ≡ n → IsSettling lv more → (y : Out) → Keeps (Some (record l { last = o })) y →
+            settles lv y ≡ settles lv (again lv (λ _. more) y)
         after o e ih (Left a s) (inl k) =
             let q : at_level lv s.turning ≡ Some (record l { last = o }) = rw k (at_level_own lv (record l { last = o }) own) in
             rw (q, e)
@@ -205,7 +214,8 @@ module _ (g : Story) (ps : List (List ℕ)) (ts : List (List Step)) (lines : Lis
 
       -- ---- entries, tables ----
 
-      settles_inside : (t e : ℕ) → ((a : Bool) → IsSettling lv (plain g (deeper g lv) lv t (suc e) 0 a)) → (m k : ℕ) → length (condacts_of (entry_at g.game t e)) ≤ k + m →
+      settles_inside : (t e : ℕ) → ((a : Bool) → IsSettling lv (plain g (deeper g lv) lv t (suc e) 0 a)) → (m k : ℕ) →
+          length (condacts_of (entry_at g.game t e)) ≤ k + m →
           (a : Bool) → IsSettling lv (inside g (deeper g lv) lv t e k a)
       settles_inside t e hn zero k low a r =
           let n : condact_at g.game t e k ≡ None = slice_get_past (condacts_of (entry_at g.game t e)) k (omega arith) in

@@ -13,7 +13,10 @@ use Rattle.paw_reading.specs.Run.{Run, closed, fits, printed, with_world, line_d
 use Rattle.paw_reading.specs.Reading.{RunsOut, Redescribes, Restarts, Halts, Out, Left, Waits, Stopped, deeper, table_read, coming_phrase}
 use Rattle.paw_reading.specs.GoingOn.{on_path}
 use Rattle.paw_reading.specs.inner.GoingOn.{with_lines, extended}
-use Rattle.paw_reading.specs.Turn.{TurnStage, AtDescribe, AtFrame, AtPhrase, AtResponse, Ending, WaitsAt, Halted, Unended, saying, described, framed, view_text, counted, prompt_text, line_set, at_main, after_phrase, refusal_text, connected, after_left, table_done, turn, stages_left, turns_from, opening, first_table, goes_on, timeout_text, unknown_text}
+use Rattle.paw_reading.specs.Turn.{TurnStage, AtDescribe, AtFrame, AtPhrase, AtResponse, Ending, WaitsAt, Halted, Unended, saying}
+use Rattle.paw_reading.specs.Turn.{described, framed, view_text, counted, prompt_text, line_set, at_main, after_phrase, refusal_text}
+use Rattle.paw_reading.specs.Turn.{connected, after_left, table_done, turn, stages_left, turns_from, opening, first_table, goes_on}
+use Rattle.paw_reading.specs.Turn.{timeout_text, unknown_text}
 use Rattle.paw_reading.specs.inner.Turn.{followed, GoingOnIsReading}
 use Rattle.paw_reading.specs.inner.Longer.{TurnsGoOn}
 use Rattle.paw_reading.specs.inner.Places.{IsLoopOf}
@@ -87,7 +90,8 @@ module _ (g : Story) (lines : List (List ℕ)) where
     table_done_follows t (Stopped (Halts halt) r) keeps stops stays k = refl
 
     -- a table that is read from its start
-    read_follows : (t : ℕ) (r : Run) → r.turning ≡ None → Follows m (table_done g go t (table_read g t r)) (table_done g more t (table_read g t (with_lines lines r)))
+    read_follows : (t : ℕ) (r : Run) → r.turning ≡ None →
+        Follows m (table_done g go t (table_read g t r)) (table_done g more t (table_read g t (with_lines lines r)))
     read_follows t r none =
         rw (tables_go_on g lines 0 t 0 0 false r)
         (table_done_follows t (table_read g t r)
@@ -152,7 +156,8 @@ module _ (g : Story) (lines : List (List ℕ)) where
       rw e (read_follows m (turn g n) (turn g (n + m)) (turn_follows n m) (more_stages n m) 0 r none k)
 
   -- so many stages that going on ends
-  enough : (m : ℕ) (s : TurnStage) (r : Run) → r.turning ≡ None → goes_from m (turns_from g s r) ≢ Unended → turns_from g s (with_lines lines r) ≡ goes_from m (turns_from g s r)
+  enough : (m : ℕ) (s : TurnStage) (r : Run) → r.turning ≡ None → goes_from m (turns_from g s r) ≢ Unended →
+      turns_from g s (with_lines lines r) ≡ goes_from m (turns_from g s r)
   enough m s r none h =
       let e : turn g (stages_left s r + m) s (with_lines lines r) ≡ goes_from m (turns_from g s r) = turn_follows (stages_left s r) m s r none h in
       sym (ends_once g (stages_left s r + m) s (with_lines lines r) (λ u. h (sym e ∙ u))) ∙ e

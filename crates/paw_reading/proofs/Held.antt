@@ -1,5 +1,6 @@
 -- Where reading waits: tables lead from one to the next, and the loop is one of theirs.
-use Rattle.std.proofs.Common.{◌≡◌, ℕ, zero, suc, ◌+◌, ◌-◌, ◌≤◌, ◌<◌, Bool, true, false, ◌||◌, List, [], ◌∷◌, ◌++◌, Option, Some, None, refl, sym, ap, ◌∙◌, subst, length, drop, slice_get, arith, length-append, append_assoc, IsTrue}
+use Rattle.std.proofs.Common.{◌≡◌, ℕ, zero, suc, ◌+◌, ◌-◌, ◌≤◌, ◌<◌, Bool, true, false, ◌||◌, List, [], ◌∷◌, ◌++◌, Option, Some, None, refl}
+use Rattle.std.proofs.Common.{sym, ap, ◌∙◌, subst, length, drop, slice_get, arith, length-append, append_assoc, IsTrue}
 use Rattle.std.specs.Prelude.{if◌then◌else◌, nat_lt, IfSome}
 use Rattle.std.proofs.lemmas.Bool.Decides.{nat_tests}
 use Rattle.std.proofs.lemmas.Option.{same_Some}
@@ -27,7 +28,10 @@ use Rattle.paw_effects.proofs.Placed.{IsPlaced, doall_place, effect_placed, cond
 use Rattle.paw_reading.specs.declared.places.Frame.{Frame}
 use Rattle.paw_reading.specs.declared.places.OpenLoop.{OpenLoop}
 use Rattle.paw_reading.specs.Run.{Run, closed, fits, printed, with_world, anew, is_ignored, heard, reply, is_yes, is_no, taken_phrase}
-use Rattle.paw_reading.specs.Reading.{IsOver, RunsOut, Restarts, Halts, Out, Left, Waits, Stopped, halts, noted, after_call, at_level, again, is_taken, named, taken, turns, loop_of, over, answered, asked, after_test, after_parse, after_action, carried_out, acts, reads_one, condacts, is_for_now, entries, plain, looped, reads, called, deeper, rest, table_read, goodbye, game_over, quit_question, waits}
+use Rattle.paw_reading.specs.Reading.{IsOver, RunsOut, Restarts, Halts, Out, Left, Waits, Stopped, halts, noted, after_call, at_level}
+use Rattle.paw_reading.specs.Reading.{again, is_taken, named, taken, turns, loop_of, over, answered, asked, after_test, after_parse}
+use Rattle.paw_reading.specs.Reading.{after_action, carried_out, acts, reads_one, condacts, is_for_now, entries, plain, looped, reads}
+use Rattle.paw_reading.specs.Reading.{called, deeper, rest, table_read, goodbye, game_over, quit_question, waits}
 use Rattle.paw_reading.specs.GoingOn.{on_path}
 use Rattle.paw_reading.specs.Turn.{first_table}
 use Rattle.paw_reading.specs.inner.Places.{IsAt, LeadsTo, tables_of, IsLoopIn}
@@ -89,7 +93,8 @@ widened g ts u w (Some l) k = record { of = k.of; loop = in_front g ts (u ∷ []
 elsewhere : (lv : ℕ) (l : OpenLoop) → at_level lv (Some l) ≡ None → l.level ≡ lv → ⊥
 elsewhere lv l none e = grind (arith, nat_tests)
 
-narrowed : (g : GameLists) (ts : List ℕ) (lv u : ℕ) (w : World) (o : Option OpenLoop) → length ts ≡ lv → at_level lv o ≡ None → Sound g (ts ++ u ∷ []) w o → Sound g ts w o
+narrowed : (g : GameLists) (ts : List ℕ) (lv u : ℕ) (w : World) (o : Option OpenLoop) → length ts ≡ lv → at_level lv o ≡ None →
+    Sound g (ts ++ u ∷ []) w o → Sound g ts w o
 narrowed g ts lv u w None deep none k = record { of = k.of; loop = tt }
 narrowed g ts lv u w (Some l) deep none k =
     record {
@@ -130,12 +135,14 @@ LeadsIn g c (effect.Ask p) = AsksAt c.code p
 LeadsIn g c effect.Parse = Unit {0}
 LeadsIn g c effect.Spent = Unit {0}
 
-leads_in : (g : GameLists) (w : World) (t e k : ℕ) (c : Condact) (x : Effect) → Valid g → w.locations ≡ length g.locations → condact_at g t e k ≡ Some c → Leads w c x → LeadsIn g c x
+leads_in : (g : GameLists) (w : World) (t e k : ℕ) (c : Condact) (x : Effect) → Valid g → w.locations ≡ length g.locations → condact_at g t e k ≡ Some c →
+    Leads w c x → LeadsIn g c x
 leads_in g w t e k c effect.Go v of at h = tt
 leads_in g w t e k c (effect.Exit a) v of at h = tt
 leads_in g w t e k c effect.Redescribe v of at h = tt
 leads_in g w t e k c (effect.Call u) v of at h = h
-leads_in g w t e k c (effect.Loop p) v of at h = (h.0, subst (λ q. IsTrue (is_place (length g.locations) q)) (sym h.1) (doall_place g w c of (right_at g v t e k c at) h.0))
+leads_in g w t e k c (effect.Loop p) v of at h =
+    (h.0, subst (λ q. IsTrue (is_place (length g.locations) q)) (sym h.1) (doall_place g w c of (right_at g v t e k c at) h.0))
 leads_in g w t e k c (effect.Ask p) v of at h = h
 leads_in g w t e k c effect.Parse v of at h = tt
 leads_in g w t e k c effect.Spent v of at h = tt
@@ -187,11 +194,13 @@ module _ (g : Story) (v : Valid g.game) (ts : List ℕ) (lv : ℕ) (deep : lengt
   call_leads f c t code (h ∷ path) at is called first leads =
       (record { condact = c; stands = at; process = is; called = sym called ∙ sym first }, leads)
 
-  below : (f : Frame) (path : List Frame) (w : World) (o : Option OpenLoop) → f.table ≡ u → Sound g.game ((ts ++ u ∷ []) ++ tables_of path) w o → Sound g.game (ts ++ tables_of (f ∷ path)) w o
+  below : (f : Frame) (path : List Frame) (w : World) (o : Option OpenLoop) → f.table ≡ u → Sound g.game ((ts ++ u ∷ []) ++ tables_of path) w o →
+      Sound g.game (ts ++ tables_of (f ∷ path)) w o
   below f path w o own k =
       subst (λ s. Sound g.game s w o) (append_assoc ts (u ∷ []) (tables_of path) ∙ ap (λ t. ts ++ (t ∷ tables_of path)) (sym own)) k
 
-  after_call_held : (left : List ℕ) (f : Frame) (go : Bool → Run → Out) (c : Condact) (t : ℕ) → f.table ≡ u → condact_at g.game f.table f.entry f.at ≡ Some c → c.code ≡ 85 → t ≡ c.a
+  after_call_held : (left : List ℕ) (f : Frame) (go : Bool → Run → Out) (c : Condact) (t : ℕ) → f.table ≡ u →
+      condact_at g.game f.table f.entry f.at ≡ Some c → c.code ≡ 85 → t ≡ c.a
       → GoesHeld left go → (x : Out) → Held g.game (ts ++ u ∷ []) (ts ++ u ∷ []) t x → Held g.game left ts u (after_call f go x)
   after_call_held left f go c t own at is called h (Left b r) k = h (f.acted || b) r k
   after_call_held left f go c t own at is called h (Waits p path r) k = record {
@@ -215,7 +224,8 @@ module _ (g : Story) (v : Valid g.game) (ts : List ℕ) (lv : ℕ) (deep : lengt
   answered_held prompt.Key f go h line r k = h true r k
   answered_held prompt.Over f go h line r k = h f.acted r k
 
-  asked_held : (p : Prompt) (f : Frame) (code : ℕ) (go : Bool → Run → Out) → AsksAt code p → f.table ≡ u → IsAt g.game code f.table f.entry f.at → GoesHeld (ts ++ u ∷ []) go
+  asked_held : (p : Prompt) (f : Frame) (code : ℕ) (go : Bool → Run → Out) → AsksAt code p → f.table ≡ u → IsAt g.game code f.table f.entry f.at →
+      GoesHeld (ts ++ u ∷ []) go
       → (r : Run) (lines : List (List ℕ)) → IsSound r → Inside (asked g p f go r lines)
   unfolding asked
   asked_held p f code go asks own at h r [] k = record {
@@ -293,7 +303,8 @@ module _ (g : Story) (v : Valid g.game) (ts : List ℕ) (lv : ℕ) (deep : lengt
 
     -- ---- entries, tables ----
 
-    condacts_held : (e : ℕ) (next : Bool → Run → Out) → GoesHeld (ts ++ u ∷ []) next → (k : ℕ) (cs : List Condact) → drop k (condacts_of (entry_at g.game u e)) ≡ cs
+    condacts_held : (e : ℕ) (next : Bool → Run → Out) → GoesHeld (ts ++ u ∷ []) next → (k : ℕ) (cs : List Condact) →
+        drop k (condacts_of (entry_at g.game u e)) ≡ cs
         → GoesHeld (ts ++ u ∷ []) (condacts g sub lv u e next k cs)
     unfolding condacts
     condacts_held e next hn k [] d a r h = hn a r h

@@ -1,13 +1,12 @@
 -- A table that is left has the loop with which it was begun, or none.
-use Rattle.std.proofs.Common.{◌≡◌, ℕ, zero, suc, ◌-◌, Bool, true, false, ◌||◌, List, [], ◌∷◌, Option, Some, None, ◌⊎◌, inl, inr, refl, sym, ap, ◌∙◌, subst, length, drop, arith}
-use Rattle.std.specs.Prelude.{◌==◌, if◌then◌else◌, nat_lt}
+use Rattle.std.proofs.Common.{◌≡◌, ℕ, zero, suc, ◌-◌, Bool, true, false, ◌||◌, List, [], ◌∷◌, Option, Some, None, ◌⊎◌, inl, inr, refl, sym}
+use Rattle.std.proofs.Common.{ap, ◌∙◌, subst, length, arith}
+use Rattle.std.specs.Prelude.{◌==◌, if◌then◌else◌}
 use Rattle.std.proofs.lemmas.Bool.Decides.{nat_tests}
 use Rattle.std.proofs.lemmas.Bool.{eqb-true}
 use Rattle.paw_base.specs.declared.parts.Condact.{Condact}
 use Rattle.paw_base.specs.declared.fault.SpentKind.TheVariants as spent
-use Rattle.paw_game.specs.declared.parts.Entry.{Entry}
 use Rattle.paw_effects.specs.Story.{Story}
-use Rattle.paw_game.specs.Tables.{table_at, entry_at, condacts_of}
 use Rattle.paw_phrase.specs.Sentence.{Parsed, IsSentence, IsUnknown, IsNoPhrase}
 use Rattle.paw_effects.specs.declared.act.Prompt.{Prompt}
 use Rattle.paw_effects.specs.declared.act.Prompt.TheVariants as prompt
@@ -20,7 +19,11 @@ use Rattle.paw_effects.specs.Effects.{Done, effect_of}
 use Rattle.paw_reading.specs.declared.places.Frame.{Frame}
 use Rattle.paw_reading.specs.declared.places.OpenLoop.{OpenLoop}
 use Rattle.paw_reading.specs.Run.{Run, closed, fits, printed, with_world, anew, is_ignored, heard, reply, is_yes, is_no, taken_phrase}
-use Rattle.paw_reading.specs.Reading.{RunsOut, Restarts, Out, Left, Waits, Stopped, halts, noted, after_call, at_level, if_open, again, taken, turns, loop_of, over, answered, asked, after_test, after_parse, after_action, carried_out, acts, reads_one, condacts, is_for_now, entries, plain, looped, reads, called, deeper, goodbye, game_over, quit_question, printing, waits}
+use Rattle.paw_reading.specs.Reading.{RunsOut, Restarts, Out, Left, Waits, Stopped, halts, noted, after_call, at_level, if_open, again}
+use Rattle.paw_reading.specs.Reading.{taken, turns, loop_of, over, answered, asked, after_test, after_parse, after_action, carried_out}
+use Rattle.paw_reading.specs.Reading.{acts, reads_one, plain, looped, reads, called, deeper, goodbye, game_over, quit_question, printing}
+use Rattle.paw_reading.specs.Reading.{waits}
+use Rattle.paw_reading.proofs.EachCondact.{plain_goes}
 
 -- the loop is this one, or there is none
 abbrev pub IsOrNone : Option OpenLoop → Option OpenLoop → Type 0
@@ -60,7 +63,8 @@ pub prints : (P : Out → Type 0) (text : List ℕ) (go : Run → Out) (r : Run)
     P (halts (RunsOut spent.Text) r) → P (printing text go r)
 prints P text go r h k = either P (fits r text) (go (printed text r)) (halts (RunsOut spent.Text) r) h k
 
-pub open_or_not : (P : Out → Type 0) (next : OpenLoop → Out) (x : Out) (o : Option OpenLoop) → ((l : OpenLoop) → o ≡ Some l → P (next l)) → (o ≡ None → P x) → P (if_open next x o)
+pub open_or_not : (P : Out → Type 0) (next : OpenLoop → Out) (x : Out) (o : Option OpenLoop) → ((l : OpenLoop) → o ≡ Some l → P (next l)) →
+    (o ≡ None → P x) → P (if_open next x o)
 open_or_not P next x None h k = k refl
 open_or_not P next x (Some l) h k = h l refl
 
@@ -79,14 +83,16 @@ at_level_is lv (Some l') l h =
 -- ---- the loop ----
 
 -- a loop of the level that goes on by what closes it is closed
-again_closes : (lv : ℕ) (l : OpenLoop) (next : OpenLoop → Run → Out) → l.level ≡ lv → ((m : OpenLoop) (r : Run) → Keeps None (next m r)) → (x : Out) → Keeps (Some l) x → Keeps None (again lv next x)
+again_closes : (lv : ℕ) (l : OpenLoop) (next : OpenLoop → Run → Out) → l.level ≡ lv → ((m : OpenLoop) (r : Run) → Keeps None (next m r)) → (x : Out) →
+    Keeps (Some l) x → Keeps None (again lv next x)
 again_closes lv l next own h (Left a r) k =
     open_or_not (Keeps None) (λ m. next m r) (Left a r) (at_level lv r.turning) (λ m e. h m r)
     (λ none. elim k [ inl e ↦ let q : at_level lv r.turning ≡ Some l = rw e (at_level_own lv l own) in cc | inr e ↦ inr e ])
 again_closes lv l next own h (Waits p path r) k = tt
 again_closes lv l next own h (Stopped stop r) k = tt
 
-pub turns_closes : (g : Story) (lv : ℕ) (l : OpenLoop) (body : Run → Out) → l.level ≡ lv → ((r : Run) → Keeps r.turning (body r)) → (n : ℕ) (r : Run) → Keeps None (turns g lv l body n r)
+pub turns_closes : (g : Story) (lv : ℕ) (l : OpenLoop) (body : Run → Out) → l.level ≡ lv → ((r : Run) → Keeps r.turning (body r)) → (n : ℕ) (r : Run) →
+    Keeps None (turns g lv l body n r)
 unfolding turns
 turns_closes g lv l body own h zero r = inr refl
 turns_closes g lv l body own h (suc n) r =
@@ -102,7 +108,8 @@ after_call_keeps f go h o (Left b r) k = Keeps_from o r.turning _ k (h (f.acted 
 after_call_keeps f go h o (Waits p path r) k = tt
 after_call_keeps f go h o (Stopped stop r) k = tt
 
-answered_keeps : (g : Story) (p : Prompt) (f : Frame) (go : Bool → Run → Out) → GoesKeeping go → (line : List ℕ) (r : Run) → Keeps r.turning (answered g p f go line r)
+answered_keeps : (g : Story) (p : Prompt) (f : Frame) (go : Bool → Run → Out) → GoesKeeping go → (line : List ℕ) (r : Run) →
+    Keeps r.turning (answered g p f go line r)
 answered_keeps g prompt.Main f go h line r = h f.acted r
 answered_keeps g prompt.Quit f go h line r = either (Keeps r.turning) (is_yes line) _ (Left true r) (h f.acted r) (inl refl)
 answered_keeps g prompt.Again f go h line r =
@@ -111,14 +118,16 @@ answered_keeps g prompt.Again f go h line r =
 answered_keeps g prompt.Key f go h line r = h true r
 answered_keeps g prompt.Over f go h line r = h f.acted r
 
-pub asked_keeps : (g : Story) (p : Prompt) (f : Frame) (go : Bool → Run → Out) → GoesKeeping go → (r : Run) (lines : List (List ℕ)) → Keeps r.turning (asked g p f go r lines)
+pub asked_keeps : (g : Story) (p : Prompt) (f : Frame) (go : Bool → Run → Out) → GoesKeeping go → (r : Run) (lines : List (List ℕ)) →
+    Keeps r.turning (asked g p f go r lines)
 unfolding asked
 asked_keeps g p f go h r [] = tt
 asked_keeps g p f go h r (line ∷ lines) =
     either (Keeps r.turning) (is_ignored r.world line) _ _ (asked_keeps g p f go h (closed (record r { events = lines })) lines)
     (answered_keeps g p f go h (reply line) (heard line (record r { events = lines })))
 
-after_parse_keeps : (f : Frame) (next go : Bool → Run → Out) → GoesKeeping next → GoesKeeping go → (r : Run) (p : Parsed) → Keeps r.turning (after_parse f next go r p)
+after_parse_keeps : (f : Frame) (next go : Bool → Run → Out) → GoesKeeping next → GoesKeeping go → (r : Run) (p : Parsed) →
+    Keeps r.turning (after_parse f next go r p)
 after_parse_keeps f next go hn hg r (IsSentence s rest) = hn f.acted (taken_phrase s rest r)
 after_parse_keeps f next go hn hg r (IsUnknown rest) = hg f.acted (record r { pending = rest })
 after_parse_keeps f next go hn hg r IsNoPhrase = hg f.acted r
@@ -126,14 +135,16 @@ after_parse_keeps f next go hn hg r IsNoPhrase = hg f.acted r
 -- ---- one condact ----
 
 module _ (g : Story) (sub : ℕ → Run → Out) (lv : ℕ) (calls : CallsKeeping sub) where
-  after_test_keeps : (f : Frame) (next go : Bool → Run → Out) → GoesKeeping next → GoesKeeping go → (c : Condact) (r : Run) (t : Truth) → Keeps r.turning (after_test g f next go c r t)
+  after_test_keeps : (f : Frame) (next go : Bool → Run → Out) → GoesKeeping next → GoesKeeping go → (c : Condact) (r : Run) (t : Truth) →
+      Keeps r.turning (after_test g f next go c r t)
   after_test_keeps f next go hn hg c r truth.Yes = hg f.acted (noted f c true r)
   after_test_keeps f next go hn hg c r truth.No = hn f.acted (noted f c false r)
   after_test_keeps f next go hn hg c r truth.Ask =
       prints (Keeps r.turning) (quit_question g r) (waits g prompt.Quit f go) (noted f c true r)
       (asked_keeps g prompt.Quit f go hg (closed (printed (quit_question g r) (noted f c true r))) r.events) tt
 
-  after_action_keeps : (f : Frame) (next go : Bool → Run → Out) → GoesKeeping next → GoesKeeping go → (e : Effect) (r : Run) → Keeps r.turning (after_action g sub lv f next go e r)
+  after_action_keeps : (f : Frame) (next go : Bool → Run → Out) → GoesKeeping next → GoesKeeping go → (e : Effect) (r : Run) →
+      Keeps r.turning (after_action g sub lv f next go e r)
   after_action_keeps f next go hn hg effect.Go r = hg true r
   after_action_keeps f next go hn hg (effect.Exit a) r = inl refl
   after_action_keeps f next go hn hg effect.Redescribe r = tt
@@ -148,39 +159,26 @@ module _ (g : Story) (sub : ℕ → Run → Out) (lv : ℕ) (calls : CallsKeepin
   cancelled true o = inr refl
   cancelled false o = inl refl
 
-  acts_keeps : (f : Frame) (next go : Bool → Run → Out) → GoesKeeping next → GoesKeeping go → (d : Done) (r : Run) → Keeps r.turning (acts g sub lv f next go d r)
+  acts_keeps : (f : Frame) (next go : Bool → Run → Out) → GoesKeeping next → GoesKeeping go → (d : Done) (r : Run) →
+      Keeps r.turning (acts g sub lv f next go d r)
   acts_keeps f next go hn hg d r =
       let s : Run = carried_out d (printed d.text r) in
       either (Keeps r.turning) (fits r d.text) _ (halts (RunsOut spent.Text) r)
       (Keeps_from r.turning s.turning _ (cancelled d.act.cancel_loop r.turning) (after_action_keeps f next go hn hg d.act.effect s)) tt
 
-  reads_one_keeps : (f : Frame) (next go : Bool → Run → Out) → GoesKeeping next → GoesKeeping go → (c : Condact) (r : Run) → Keeps r.turning (reads_one g sub lv f next go c r)
+  reads_one_keeps : (f : Frame) (next go : Bool → Run → Out) → GoesKeeping next → GoesKeeping go → (c : Condact) (r : Run) →
+      Keeps r.turning (reads_one g sub lv f next go c r)
   reads_one_keeps f next go hn hg c r =
       either (Keeps r.turning) (is_condition c) _ _
       (after_test_keeps f next go hn hg c (with_world (holds g.game r.world c).world r) (holds g.game r.world c).answer)
       (acts_keeps f next go hn hg (effect_of g r.world c) (noted f c true r))
 
-  -- ---- entries, tables ----
-
-  condacts_keeps : (t e : ℕ) (next : Bool → Run → Out) → GoesKeeping next → (k : ℕ) (cs : List Condact) → GoesKeeping (condacts g sub lv t e next k cs)
-  unfolding condacts
-  condacts_keeps t e next hn k [] a r = hn a r
-  condacts_keeps t e next hn k (c ∷ cs) a r =
-      either (Keeps r.turning) (nat_lt (length r.read) 200000) _ (halts (RunsOut spent.Condacts) r)
-      (reads_one_keeps (record { table = t; entry = e; at = k; acted = a }) next _ hn (condacts_keeps t e next hn (suc k) cs) c r) tt
-
-  entries_keeps : (t e : ℕ) (es : List Entry) → GoesKeeping (entries g sub lv t e es)
-  unfolding entries
-  entries_keeps t e [] a r = inl refl
-  entries_keeps t e (en ∷ es) a r =
-      either (Keeps r.turning) (is_for_now r en) _ _
-      (condacts_keeps t e (entries g sub lv t (suc e) es) (entries_keeps t (suc e) es) 0 en.condacts a r)
-      (entries_keeps t (suc e) es a r)
+  -- ---- tables ----
 
   pub plain_keeps : (t e k : ℕ) → GoesKeeping (plain g sub lv t e k)
-  plain_keeps t e zero a r = entries_keeps t e (drop e (table_at g.game t)) a r
-  plain_keeps t e (suc k) a r =
-      condacts_keeps t e _ (entries_keeps t (suc e) (drop (suc e) (table_at g.game t))) (suc k) (drop (suc k) (condacts_of (entry_at g.game t e))) a r
+  plain_keeps t =
+      plain_goes (λ r x. Keeps r.turning x) g sub lv t (λ a r. inl refl) (λ r. tt)
+      (λ e k a next go hn hg c r few. reads_one_keeps (record { table = t; entry = e; at = k; acted = a }) next go hn hg c r)
 
   pub looped_closes : (l : OpenLoop) (r : Run) → l.level ≡ lv → Keeps None (looped g sub lv l r)
   looped_closes l r own =

@@ -1,4 +1,5 @@
 pub mod Lists
+pub mod EachCondact
 pub mod Keeps
 pub mod Rules
 pub mod Onward

@@ -10,9 +10,11 @@ use Rattle.paw_effects.specs.declared.act.Effect.TheVariants as effect
 use Rattle.paw_reading.specs.declared.places.Frame.{Frame}
 use Rattle.paw_reading.specs.declared.places.OpenLoop.{OpenLoop}
 use Rattle.paw_reading.specs.Run.{Run, without_loop, heard}
-use Rattle.paw_reading.specs.Reading.{Out, Left, Waits, Stopped, after_call, at_level, again, is_taken, taken, turns, loop_of, over, asked, reads_one, entries, is_for_now, inside, plain, looped, deeper, rest, goodbye, game_over}
+use Rattle.paw_reading.specs.Reading.{Out, Left, Waits, Stopped, after_call, at_level, again, is_taken, taken, turns, loop_of, over, asked}
+use Rattle.paw_reading.specs.Reading.{reads_one, entries, is_for_now, inside, plain, looped, deeper, rest, goodbye, game_over}
 use Rattle.paw_reading.specs.GoingOn.{on_path}
-use Rattle.paw_reading.specs.inner.Rules.{past, at_frame, leaves, looks, goes, MayRead, ReadsEntries, ReadsCondacts, FollowsActions, TurnsLoops, AnswersPrompts, ReadingOn}
+use Rattle.paw_reading.specs.inner.Rules.{past, at_frame, leaves, looks, goes, MayRead, ReadsEntries, ReadsCondacts, FollowsActions}
+use Rattle.paw_reading.specs.inner.Rules.{TurnsLoops, AnswersPrompts, ReadingOn}
 use Rattle.paw_reading.proofs.Lists.{drop_none, drop_some}
 use Rattle.paw_reading.proofs.Keeps.{Keeps, prints, at_level_own, turns_closes, plain_keeps, deeper_keeps}
 use Rattle.paw_reading.proofs.Rules.{within_budget, within_none, inside_end, inside_condact, again_closed, after_call_again, deeper_rest, deeper_none}
@@ -104,7 +106,8 @@ module _ (g : Story) (lv : ℕ) where
   unfolding turns
   passes l n o r e h = rw (e, h) refl
 
-  takes_one : (l : OpenLoop) (n o : ℕ) (r : Run) → l.level ≡ lv → length g.game.objects - suc n ≡ o → length g.game.objects - suc o ≡ n → is_taken g.game r.world l o ≡ true →
+  takes_one : (l : OpenLoop) (n o : ℕ) (r : Run) → l.level ≡ lv → length g.game.objects - suc n ≡ o → length g.game.objects - suc o ≡ n →
+      is_taken g.game r.world l o ≡ true →
       turns g lv (record l { last = 0 }) (plain g (deeper g lv) lv l.table l.entry (suc l.at) true) (suc n) r
       ≡ rest g lv l.table l.entry (suc l.at) true (taken g.game l o r)
   unfolding turns

@@ -14,7 +14,10 @@ use Rattle.paw_reading.specs.Run.{Run, Step, closed, fits, printed, with_world, 
 use Rattle.paw_reading.specs.Reading.{RunsOut, Redescribes, Restarts, Halts, Out, Left, Waits, Stopped, rest, table_read, coming_phrase}
 use Rattle.paw_reading.specs.GoingOn.{on_path}
 use Rattle.paw_reading.specs.inner.GoingOn.{with_lines}
-use Rattle.paw_reading.specs.Turn.{TurnStage, AtDescribe, AtFrame, AtPhrase, AtResponse, Ending, WaitsAt, Halted, Unended, saying, described, framed, view_text, counted, prompt_text, line_set, at_main, after_phrase, refusal_text, connected, after_left, table_done, turn, stages_left, first_table, in_table, goes_on, on, reading, text_of, timeout_text, unknown_text}
+use Rattle.paw_reading.specs.Turn.{TurnStage, AtDescribe, AtFrame, AtPhrase, AtResponse, Ending, WaitsAt, Halted, Unended, saying}
+use Rattle.paw_reading.specs.Turn.{described, framed, view_text, counted, prompt_text, line_set, at_main, after_phrase, refusal_text}
+use Rattle.paw_reading.specs.Turn.{connected, after_left, table_done, turn, stages_left, first_table, in_table, goes_on, on, reading}
+use Rattle.paw_reading.specs.Turn.{text_of, timeout_text, unknown_text}
 use Rattle.paw_reading.specs.inner.Longer.{with_past, without_past, ending_with_past, PastStays, LongerReading, LongerText}
 use Rattle.paw_reading.proofs.Onward.{waits_on}
 use Rattle.paw_reading.proofs.Stops.{Stops, rest_stops, path_stops}
@@ -68,8 +71,10 @@ module _ (g : Story) (ps : List (List ℕ)) (ts : List (List Step)) where
       by_test false = refl
 
   module _ (go : TurnStage → Run → Ending) (pasts : (s : TurnStage) (r : Run) → go s (with_past ps ts r) ≡ ending_with_past ps ts (go s r)) where
-    connected_past : (r : Run) (to : Option ℕ) → connected g (go AtDescribe) (go AtFrame) (with_past ps ts r) to ≡ ending_with_past ps ts (connected g (go AtDescribe) (go AtFrame) r to)
-    connected_past r None = saying_past (refusal_text g.game r.world) (go AtFrame) (line_dropped r) (pasts AtFrame (printed (refusal_text g.game r.world) (line_dropped r)))
+    connected_past : (r : Run) (to : Option ℕ) →
+        connected g (go AtDescribe) (go AtFrame) (with_past ps ts r) to ≡ ending_with_past ps ts (connected g (go AtDescribe) (go AtFrame) r to)
+    connected_past r None =
+        saying_past (refusal_text g.game r.world) (go AtFrame) (line_dropped r) (pasts AtFrame (printed (refusal_text g.game r.world) (line_dropped r)))
     connected_past r (Some to) = pasts AtDescribe (with_world (with_flag r.world 38 to) r)
 
     after_left_past : (t : ℕ) (a : Bool) (r : Run) → after_left g go t a (with_past ps ts r) ≡ ending_with_past ps ts (after_left g go t a r)
@@ -88,7 +93,8 @@ module _ (g : Story) (ps : List (List ℕ)) (ts : List (List Step)) where
     read_past : (t : ℕ) (r : Run) → table_done g go t (table_read g t (with_past ps ts r)) ≡ ending_with_past ps ts (table_done g go t (table_read g t r))
     read_past t r = rw (table_past t r) (table_done_past t (table_read g t r))
 
-    at_main_past : (r : Run) (es : List (List ℕ)) → at_main g (go AtFrame) (go AtPhrase) (with_past ps ts r) es ≡ ending_with_past ps ts (at_main g (go AtFrame) (go AtPhrase) r es)
+    at_main_past : (r : Run) (es : List (List ℕ)) →
+        at_main g (go AtFrame) (go AtPhrase) (with_past ps ts r) es ≡ ending_with_past ps ts (at_main g (go AtFrame) (go AtPhrase) r es)
     unfolding at_main
     at_main_past r [] = refl
     at_main_past r (line ∷ es) =
@@ -101,7 +107,8 @@ module _ (g : Story) (ps : List (List ℕ)) (ts : List (List Step)) where
         (pasts AtFrame (printed (timeout_text g.game r.world) (heard line (record r { events = es })))))
         (pasts AtPhrase (line_set line (record r { events = es })))
       where
-        by_test : (ignored timeout : Bool) (x y z : Ending) → {x' y' z' : Ending} → x' ≡ ending_with_past ps ts x → y' ≡ ending_with_past ps ts y → z' ≡ ending_with_past ps ts z →
+        by_test : (ignored timeout : Bool) (x y z : Ending) → {x' y' z' : Ending} → x' ≡ ending_with_past ps ts x → y' ≡ ending_with_past ps ts y →
+            z' ≡ ending_with_past ps ts z →
             (if ignored then x' else if timeout then y' else z') ≡ ending_with_past ps ts (if ignored then x else if timeout then y else z)
         by_test true timeout x y z hx hy hz = hx
         by_test false true x y z hx hy hz = hy
@@ -146,7 +153,8 @@ longer_reading g seed es fs p path r e =
     let apart : with_past r.pieces r.traces (with_lines fs (without_past r)) ≡ with_lines fs r = rw (append-nil r.pieces, append-nil r.traces) refl in
     whole ∙ ap (on g p path) (sym apart) ∙ past_stays g r.pieces r.traces p path (with_lines fs (without_past r))
 
-past_text : (ps : List (List ℕ)) (ts : List (List Step)) (x : Ending) → x ≢ Unended → text_of (ending_with_past ps ts x) ≡ flat_map (λ piece. piece) ps ++ text_of x
+past_text : (ps : List (List ℕ)) (ts : List (List Step)) (x : Ending) → x ≢ Unended →
+    text_of (ending_with_past ps ts x) ≡ flat_map (λ piece. piece) ps ++ text_of x
 past_text ps ts (WaitsAt p path r) h = flat_map-append (λ piece. piece) ps r.pieces
 past_text ps ts (Halted halt r) h = flat_map-append (λ piece. piece) ps r.pieces
 past_text ps ts Unended h = absurd (h refl)

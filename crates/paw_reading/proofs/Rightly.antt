@@ -1,5 +1,6 @@
 -- Each reading of a valid game stops rightly.
-use Rattle.std.proofs.Common.{◌≡◌, ◌≢◌, ℕ, zero, suc, ◌+◌, ◌*◌, ◌≤◌, Bool, true, false, List, [], ◌∷◌, Option, Some, None, refl, sym, ap, subst, length, arith, append-nil}
+use Rattle.std.proofs.Common.{◌≡◌, ◌≢◌, ℕ, zero, suc, ◌+◌, ◌*◌, ◌≤◌, Bool, true, false, List, [], ◌∷◌, Option, Some, None, refl, sym, ap}
+use Rattle.std.proofs.Common.{subst, length, arith, append-nil}
 use Rattle.std.specs.Prelude.{All}
 use Rattle.std.proofs.Math.ListN.{get_or}
 use Rattle.paw_base.specs.declared.fault.SpentKind.TheVariants as spent
@@ -19,11 +20,15 @@ use Rattle.paw_reading.specs.declared.places.Frame.{Frame}
 use Rattle.paw_reading.specs.declared.places.OpenLoop.{OpenLoop}
 use Rattle.paw_reading.specs.Run.{Run, Step, closed, fits, printed, with_world, line_dropped, is_timeout, is_ignored, heard, taken_phrase}
 use Rattle.paw_reading.specs.Reading.{IsOver, RunsOut, Redescribes, Restarts, Halts, Out, Left, Waits, Stopped, table_read, coming_phrase}
-use Rattle.paw_reading.specs.Turn.{TurnStage, AtDescribe, AtFrame, AtPhrase, AtResponse, Ending, WaitsAt, Halted, reading, on, saying, described, framed, view_text, counted, prompt_text, line_set, at_main, after_phrase, refusal_text, connected, after_left, table_done, turn, stages_left, opening, first_table, in_table, goes_on, timeout_text, unknown_text}
+use Rattle.paw_reading.specs.Turn.{TurnStage, AtDescribe, AtFrame, AtPhrase, AtResponse, Ending, WaitsAt, Halted, reading, on, saying}
+use Rattle.paw_reading.specs.Turn.{described, framed, view_text, counted, prompt_text, line_set, at_main, after_phrase, refusal_text}
+use Rattle.paw_reading.specs.Turn.{connected, after_left, table_done, turn, stages_left, opening, first_table, in_table, goes_on}
+use Rattle.paw_reading.specs.Turn.{timeout_text, unknown_text}
 use Rattle.paw_reading.specs.Bounds.{IsLine, ValidStory}
 use Rattle.paw_reading.specs.inner.Bounds.{IsBounded}
 use Rattle.paw_reading.specs.inner.Longer.{without_past, with_past, ending_with_past}
-use Rattle.paw_reading.specs.inner.Places.{LeadsTo, tables_of, AreOpenTo, ArePlaces, IsLineTaken, StandsRightly, StopsRightly, StopsBounded, ReadingsStopRightly, GoingOnStopsRightly, ReadingsAreBounded, GoingOnIsBounded}
+use Rattle.paw_reading.specs.inner.Places.{LeadsTo, tables_of, AreOpenTo, ArePlaces, IsLineTaken, StandsRightly, StopsRightly, StopsBounded}
+use Rattle.paw_reading.specs.inner.Places.{ReadingsStopRightly, GoingOnStopsRightly, ReadingsAreBounded, GoingOnIsBounded}
 use Rattle.paw_reading.proofs.Held.{Sound, Held, none_open, table_held, path_held}
 use Rattle.paw_reading.proofs.Keeps.{either}
 use Rattle.paw_reading.proofs.Past.{past_stays}
@@ -46,7 +51,8 @@ framed_placed g w k =
 
 -- ---- waits in tables ----
 
-open_to : (g : GameLists) (code t : ℕ) (path : List Frame) (w : World) (o : Option OpenLoop) → t ≤ 2 → length path ≤ 11 → first_table path ≡ t → LeadsTo g code path
+open_to : (g : GameLists) (code t : ℕ) (path : List Frame) (w : World) (o : Option OpenLoop) → t ≤ 2 → length path ≤ 11 → first_table path ≡ t →
+    LeadsTo g code path
     → Sound g (tables_of path) w o → AreOpenTo g code path o
 open_to g code t path w o low few first leads k = record { few = few; outermost = subst (λ u. u ≤ 2) (sym first) low; leads = leads; loop = k.loop }
 
@@ -160,14 +166,16 @@ module _ (g : Story) (v : Valid g.game) where
 
   -- ---- going on ----
 
-  in_table_rightly : (n : ℕ) (p : Prompt) (code : ℕ) (path : List Frame) (r : Run) → IsPlaced g.game r.world → AsksAt code p → AreOpenTo g.game code path r.turning
+  in_table_rightly : (n : ℕ) (p : Prompt) (code : ℕ) (path : List Frame) (r : Run) → IsPlaced g.game r.world → AsksAt code p →
+      AreOpenTo g.game code path r.turning
       → IsRightly (in_table g n p path r)
   in_table_rightly n p code [] r of asks at = absurd at.leads
   in_table_rightly n p code (f ∷ path) r of asks at =
       table_done_rightly (turn g n) (turn_rightly n) f.table at.outermost _
       (path_held g v p code [] 0 f path r refl asks (omega (arith, at.few)) at.leads (record { of = of; loop = at.loop }))
 
-  goes_on_rightly : (n : ℕ) (p : Prompt) (path : List Frame) (r : Run) → IsPlaced g.game r.world → IsPlacedRightly g.game p path r → IsRightly (goes_on g n p path r)
+  goes_on_rightly : (n : ℕ) (p : Prompt) (path : List Frame) (r : Run) → IsPlaced g.game r.world → IsPlacedRightly g.game p path r →
+      IsRightly (goes_on g n p path r)
   goes_on_rightly n prompt.Main path r of at =
       at_main_rightly (turn g n) (turn_rightly n) r r.events (record { of = of; none = at.places.1 }) (at.line at.places.0)
   goes_on_rightly n prompt.Quit path r of at = in_table_rightly n prompt.Quit 27 path r of refl at.places
@@ -178,7 +186,8 @@ module _ (g : Story) (v : Valid g.game) where
 -- ---- all that holds ----
 
 -- the places, the line, and what is sound stand rightly
-stands : (g : Story) (valid : ValidStory g) (seed n : ℕ) (p : Prompt) (path : List Frame) (r : Run) → IsPlacedRightly g.game p path r → IsResting g.game seed n r
+stands : (g : Story) (valid : ValidStory g) (seed n : ℕ) (p : Prompt) (path : List Frame) (r : Run) → IsPlacedRightly g.game p path r →
+    IsResting g.game seed n r
     → StandsRightly g.game p path r
 stands g valid seed n p path r at k = record {
   world = world_is g.game seed (n + 200000 * length r.pieces + length r.read) r.world k.sound.world;
@@ -219,7 +228,8 @@ pub readings_are_bounded : ReadingsAreBounded
 readings_are_bounded g seed es valid lines = stop_bounded g valid seed 0 (reading g seed es) (reading_sounds g valid seed 0 es (are_lines es lines))
 
 -- a run that stands rightly is sound
-rests : (g : GameLists) (seed n : ℕ) (p : Prompt) (path : List Frame) (r : Run) → StandsRightly g p path r → IsBounded seed n r → All IsLine r.events → IsResting g seed n r
+rests : (g : GameLists) (seed n : ℕ) (p : Prompt) (path : List Frame) (r : Run) → StandsRightly g p path r → IsBounded seed n r → All IsLine r.events →
+    IsResting g seed n r
 rests g seed n p path r k bound lines = record {
   sound = record {
     world = world_at g seed (n + 200000 * length r.pieces + length r.read) r.world k.world bound.seeded (omega (arith, bound.draws));
@@ -245,7 +255,8 @@ apart : (r : Run) → with_past r.pieces r.traces (without_past r) ≡ r
 apart r = rw (append-nil r.pieces, append-nil r.traces) refl
 
 placed_past : (g : GameLists) (ps : List (List ℕ)) (ts : List (List Step)) (e : Ending) → StopsRightly g e → StopsRightly g (ending_with_past ps ts e)
-placed_past g ps ts (WaitsAt p path r) k = (k.0, record { world = k.1.world; places = k.1.places; line = k.1.line; pending = k.1.pending; earlier = k.1.earlier; piece = k.1.piece; read = k.1.read })
+placed_past g ps ts (WaitsAt p path r) k =
+    (k.0, record { world = k.1.world; places = k.1.places; line = k.1.line; pending = k.1.pending; earlier = k.1.earlier; piece = k.1.piece; read = k.1.read })
 placed_past g ps ts (Halted IsOver r) k = record {
   world = k.world;
   places = k.places;

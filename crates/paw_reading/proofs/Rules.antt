@@ -15,7 +15,8 @@ use Rattle.paw_world.specs.World.{flag}
 use Rattle.paw_reading.specs.declared.places.Frame.{Frame}
 use Rattle.paw_reading.specs.declared.places.OpenLoop.{OpenLoop}
 use Rattle.paw_reading.specs.Run.{Run}
-use Rattle.paw_reading.specs.Reading.{RunsOut, CallsTooDeep, Out, Left, Waits, Stopped, halts, within, after_call, at_level, if_open, again, reads_one, condacts, is_for_now, entries, inside, plain, looped, called, deeper, rest}
+use Rattle.paw_reading.specs.Reading.{RunsOut, CallsTooDeep, Out, Left, Waits, Stopped, halts, within, after_call, at_level, if_open, again}
+use Rattle.paw_reading.specs.Reading.{reads_one, condacts, is_for_now, entries, inside, plain, looped, called, deeper, rest}
 use Rattle.paw_reading.proofs.Lists.{drop_none, drop_some, drop_more}
 use Rattle.paw_reading.proofs.Keeps.{Keeps, CallsKeeping, at_level_is, looped_closes}
 
@@ -38,17 +39,21 @@ module _ (g : Story) (sub : ℕ → Run → Out) (lv : ℕ) where
   inside_condact t e k a r c h = rw (drop_some (condacts_of (entry_at g.game t e)) k c h) refl
 
   -- no entry of these matches
-  entries_none : (t e : ℕ) (es : List Entry) (a : Bool) (r : Run) → first_match (flag r.world 33) (flag r.world 34) e es ≡ None → entries g sub lv t e es a r ≡ Left a r
+  entries_none : (t e : ℕ) (es : List Entry) (a : Bool) (r : Run) → first_match (flag r.world 33) (flag r.world 34) e es ≡ None →
+      entries g sub lv t e es a r ≡ Left a r
   unfolding entries
   entries_none t e [] a r h = refl
   entries_none t e (en ∷ es) a r h = go (entries_none t (suc e) es a r) (is_for_now r en) h
     where
-      go : (first_match (flag r.world 33) (flag r.world 34) (suc e) es ≡ None → entries g sub lv t (suc e) es a r ≡ Left a r) → (b : Bool) → ◌≡◌ {A = Option ℕ} (if b then Some e else first_match (flag r.world 33) (flag r.world 34) (suc e) es) None → (if b then condacts g sub lv t e (entries g sub lv t (suc e) es) 0 en.condacts a r else entries g sub lv t (suc e) es a r) ≡ Left a r
+      go : (first_match (flag r.world 33) (flag r.world 34) (suc e) es ≡ None → entries g sub lv t (suc e) es a r ≡ Left a r) → (b : Bool) →
+          ◌≡◌ {A = Option ℕ} (if b then Some e else first_match (flag r.world 33) (flag r.world 34) (suc e) es) None →
+          (if b then condacts g sub lv t e (entries g sub lv t (suc e) es) 0 en.condacts a r else entries g sub lv t (suc e) es a r) ≡ Left a r
       go later true q = cc
       go later false q = later q
 
   -- the first of these entries that matches
-  entries_some : (t e : ℕ) (es : List Entry) (a : Bool) (r : Run) (found : ℕ) → drop e (table_at g.game t) ≡ es → first_match (flag r.world 33) (flag r.world 34) e es ≡ Some found → entries g sub lv t e es a r ≡ inside g sub lv t found 0 a r
+  entries_some : (t e : ℕ) (es : List Entry) (a : Bool) (r : Run) (found : ℕ) → drop e (table_at g.game t) ≡ es →
+      first_match (flag r.world 33) (flag r.world 34) e es ≡ Some found → entries g sub lv t e es a r ≡ inside g sub lv t found 0 a r
   unfolding entries
   entries_some t e [] a r found d h = cc
   entries_some t e (en ∷ es) a r found d h =
@@ -66,7 +71,8 @@ module _ (g : Story) (sub : ℕ → Run → Out) (lv : ℕ) where
   plain_left t e a r h = entries_none t e (drop e (table_at g.game t)) a r h
 
   -- before an entry, where this one matches next
-  pub plain_match : (t e found : ℕ) (a : Bool) (r : Run) → match_at g.game t e (flag r.world 33) (flag r.world 34) ≡ Some found → plain g sub lv t e 0 a r ≡ inside g sub lv t found 0 a r
+  pub plain_match : (t e found : ℕ) (a : Bool) (r : Run) → match_at g.game t e (flag r.world 33) (flag r.world 34) ≡ Some found →
+      plain g sub lv t e 0 a r ≡ inside g sub lv t found 0 a r
   plain_match t e found a r h = entries_some t e (drop e (table_at g.game t)) a r found refl h
 
   -- in an entry
@@ -92,14 +98,16 @@ module _ (g : Story) (sub : ℕ → Run → Out) (lv : ℕ) where
   pub again_again : CallsKeeping sub → (x : Out) → again lv (looped g sub lv) (again lv (looped g sub lv) x) ≡ again lv (looped g sub lv) x
   again_again calls (Left a r) = go (at_level lv r.turning) refl
     where
-      go : (o : Option OpenLoop) → at_level lv r.turning ≡ o → again lv (looped g sub lv) (if_open (λ l. looped g sub lv l r) (Left a r) o) ≡ if_open (λ l. looped g sub lv l r) (Left a r) o
+      go : (o : Option OpenLoop) → at_level lv r.turning ≡ o →
+          again lv (looped g sub lv) (if_open (λ l. looped g sub lv l r) (Left a r) o) ≡ if_open (λ l. looped g sub lv l r) (Left a r) o
       go None e = rw e refl
       go (Some l) e = again_closed _ _ (looped_closes g sub lv calls l r (at_level_is lv r.turning l e).0)
   again_again calls (Waits p path r) = refl
   again_again calls (Stopped stop r) = refl
 
   -- the loop goes on after the call
-  pub after_call_again : (f : Frame) (go : Bool → Run → Out) (x : Out) → again lv (looped g sub lv) (after_call f go x) ≡ after_call f (λ a r. again lv (looped g sub lv) (go a r)) x
+  pub after_call_again : (f : Frame) (go : Bool → Run → Out) (x : Out) →
+      again lv (looped g sub lv) (after_call f go x) ≡ after_call f (λ a r. again lv (looped g sub lv) (go a r)) x
   after_call_again f go (Left b r) = refl
   after_call_again f go (Waits p path r) = refl
   after_call_again f go (Stopped stop r) = refl
@@ -119,7 +127,8 @@ found_within : (verb noun e : ℕ) (es : List Entry) (found : ℕ) → first_mat
 found_within verb noun e [] found h = cc
 found_within verb noun e (en ∷ es) found h = go (found_within verb noun (suc e) es found) (matches verb noun en) h
   where
-    go : (first_match verb noun (suc e) es ≡ Some found → (suc e ≤ found) × (found < suc e + length es)) → (b : Bool) → ◌≡◌ {A = Option ℕ} (if b then Some e else first_match verb noun (suc e) es) (Some found) → (e ≤ found) × (found < e + suc (length es))
+    go : (first_match verb noun (suc e) es ≡ Some found → (suc e ≤ found) × (found < suc e + length es)) → (b : Bool) →
+        ◌≡◌ {A = Option ℕ} (if b then Some e else first_match verb noun (suc e) es) (Some found) → (e ≤ found) × (found < e + suc (length es))
     go later true q = let j : e ≡ found = cc in (omega arith, omega arith)
     go later false q = let m = later q in (omega (arith, m.0), omega (arith, m.1))
 

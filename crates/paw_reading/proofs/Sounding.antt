@@ -1,5 +1,6 @@
 -- What a reading keeps of the world, the line, the text and the lines to come.
-use Rattle.std.proofs.Common.{◌≡◌, ℕ, zero, suc, ◌+◌, ◌-◌, ◌*◌, ◌<◌, ◌≤◌, ◌/◌, ◌%◌, Bool, true, false, ◌||◌, List, [], ◌∷◌, Option, Some, None, refl, length, drop, min, IsTrue, arith, length-append}
+use Rattle.std.proofs.Common.{◌≡◌, ℕ, zero, suc, ◌+◌, ◌-◌, ◌*◌, ◌<◌, ◌≤◌, ◌/◌, ◌%◌, Bool, true, false, ◌||◌, List, [], ◌∷◌, Option, Some}
+use Rattle.std.proofs.Common.{None, refl, length, drop, min, IsTrue, arith, length-append}
 use Rattle.std.specs.Prelude.{if◌then◌else◌, nat_lt, nat_le, All}
 use Rattle.std.specs.List.{list_all}
 use Rattle.std.proofs.Math.Nat.{min-le_left}
@@ -30,10 +31,18 @@ use Rattle.paw_effects.specs.Holds.{is_condition, holds}
 use Rattle.paw_effects.specs.Effects.{Done, effect_of}
 use Rattle.paw_reading.specs.declared.places.Frame.{Frame}
 use Rattle.paw_reading.specs.declared.places.OpenLoop.{OpenLoop}
-use Rattle.paw_reading.specs.Run.{Run, closed, fits, printed, with_world, without_loop, line_dropped, anew, is_timeout, is_ignored, heard, with_timeout, reply, is_yes, is_no, spoken, taken_phrase}
-use Rattle.paw_reading.specs.Reading.{IsOver, RunsOut, Redescribes, Restarts, Halts, Out, Left, Waits, Stopped, halts, noted, printing, after_call, at_level, again, is_taken, named, taken, turns, loop_of, over, answered, asked, waits, after_test, after_parse, after_action, carried_out, acts, reads_one, condacts, is_for_now, entries, plain, looped, reads, called, deeper, table_read, goodbye, game_over, quit_question, coming_phrase}
+use Rattle.paw_reading.specs.Run.{Run, closed, fits, printed, with_world, without_loop, line_dropped, anew, is_timeout, is_ignored, heard}
+use Rattle.paw_reading.specs.Run.{with_timeout, reply, is_yes, is_no, spoken, taken_phrase}
+use Rattle.paw_reading.specs.Reading.{IsOver, RunsOut, Redescribes, Restarts, Halts, Out, Left, Waits, Stopped, halts, noted, printing}
+use Rattle.paw_reading.specs.Reading.{after_call, at_level, again, is_taken, named, taken, turns, loop_of, over, answered, asked, waits}
+use Rattle.paw_reading.specs.Reading.{after_test, after_parse, after_action, carried_out, acts, reads_one, condacts, is_for_now, entries}
+use Rattle.paw_reading.specs.Reading.{plain, looped, reads, called, deeper, table_read, goodbye, game_over, quit_question, coming_phrase}
 use Rattle.paw_reading.specs.GoingOn.{on_path}
-use Rattle.paw_reading.specs.Turn.{TurnStage, AtDescribe, AtFrame, AtPhrase, AtResponse, Ending, WaitsAt, Halted, saying, described, framed, view_text, counted, prompt_text, line_set, at_main, after_phrase, refusal_text, connected, after_left, table_done, turn, stages_left, opening, reading, first_table, in_table, goes_on, on, timeout_text, unknown_text}
+use Rattle.paw_reading.specs.Turn.{TurnStage, AtDescribe, AtFrame, AtPhrase, AtResponse, Ending, WaitsAt, Halted, saying, described, framed}
+use Rattle.paw_reading.specs.Turn.{view_text, counted, prompt_text, line_set, at_main, after_phrase, refusal_text, connected, after_left}
+use Rattle.paw_reading.specs.Turn.{table_done, turn, stages_left, opening, reading, first_table, in_table, goes_on, on, timeout_text}
+use Rattle.paw_reading.specs.Turn.{unknown_text}
+use Rattle.paw_reading.proofs.EachCondact.{by_test}
 use Rattle.paw_reading.proofs.Keeps.{either, open_or_not}
 use Rattle.paw_reading.specs.Bounds.{IsLine, ValidStory}
 use Rattle.paw_effects.proofs.Worlds.{IsWorldAt, few_locations, few_objects, facts_small, later, flag_small, flagged, start_so, anew_so}
@@ -72,11 +81,6 @@ one_short : (piece : List ℕ) → length piece ≤ 65535 → All (λ q. length 
 one_short piece short zero d low = short
 one_short piece short (suc k) d low = absurd (omega arith)
 
--- what holds in both cases, the first with its test
-by_test : (P : Out → Type 0) (b : Bool) (x y : Out) → (b ≡ true → P x) → P y → P (if b then x else y)
-by_test P true x y h k = h refl
-by_test P false x y h k = k
-
 kept_drop : {A : Type 0} (p : A → Bool) (n : ℕ) (xs : List A) → IsTrue (list_all p xs) → IsTrue (list_all p (drop n xs))
 kept_drop p zero xs all = all
 kept_drop p (suc n) [] all = all
@@ -110,20 +114,27 @@ module _ (g : Story) (valid : ValidStory g) (seed base : ℕ) where
 
   -- ---- changes of a run ----
 
+  -- with another world, another line, another verb before it and another loop
+  changed : (r : Run) → Is r → (w : World) → IsWorldAt g.game seed (bound r) w → (line : List ℕ) → IsLine line → (earlier : ℕ) → earlier < 256 →
+      (turning : Option OpenLoop) → Is (record r { world = w; pending = line; earlier = earlier; turning = turning })
+  changed r k w world line is earlier small turning =
+      record { world = world; few = k.few; line = is; earlier = small; text = k.text; pieces = k.pieces; lines = k.lines; traced = k.traced }
+
   in_world : (r : Run) → Is r → (w : World) → IsWorldAt g.game seed (bound r) w → Is (with_world w r)
-  in_world r k w world = record { world = world; few = k.few; line = k.line; earlier = k.earlier; text = k.text; pieces = k.pieces; lines = k.lines; traced = k.traced }
+  in_world r k w world = changed r k w world r.pending k.line r.earlier k.earlier r.turning
 
   no_loop : (r : Run) → Is r → (o : Option OpenLoop) → Is (record r { turning = o })
-  no_loop r k o = record { world = k.world; few = k.few; line = k.line; earlier = k.earlier; text = k.text; pieces = k.pieces; lines = k.lines; traced = k.traced }
+  no_loop r k o = changed r k r.world k.world r.pending k.line r.earlier k.earlier o
 
   with_pending : (r : Run) → Is r → (line : List ℕ) → IsLine line → Is (record r { pending = line })
-  with_pending r k line is = record { world = k.world; few = k.few; line = is; earlier = k.earlier; text = k.text; pieces = k.pieces; lines = k.lines; traced = k.traced }
+  with_pending r k line is = changed r k r.world k.world line is r.earlier k.earlier r.turning
 
   dropped : (r : Run) → Is r → Is (line_dropped r)
   dropped r k = with_pending r k [] no_line
 
   with_events : (r : Run) → Is r → (lines : List (List ℕ)) → AreLines lines → Is (record r { events = lines })
-  with_events r k lines are = record { world = k.world; few = k.few; line = k.line; earlier = k.earlier; text = k.text; pieces = k.pieces; lines = are; traced = k.traced }
+  with_events r k lines are =
+      record { world = k.world; few = k.few; line = k.line; earlier = k.earlier; text = k.text; pieces = k.pieces; lines = are; traced = k.traced }
 
   resting_events : (r : Run) → Rests r → (lines : List (List ℕ)) → AreLines lines → Rests (record r { events = lines })
   resting_events r k lines are = record { sound = with_events r k.sound lines are; current = k.current; read = k.read }
@@ -140,7 +151,8 @@ module _ (g : Story) (valid : ValidStory g) (seed base : ℕ) where
     traced = k.traced;
   }
 
-  noted_so : (r : Run) (f : Frame) (c : Condact) (b : Bool) (w : World) → Is r → length r.read < 200000 → IsWorldAt g.game seed (suc (bound r)) w → Is (noted f c b (with_world w r))
+  noted_so : (r : Run) (f : Frame) (c : Condact) (b : Bool) (w : World) → Is r → length r.read < 200000 → IsWorldAt g.game seed (suc (bound r)) w →
+      Is (noted f c b (with_world w r))
   noted_so r f c b w k few world =
       let size : length (noted f c b r).read ≡ length r.read + 1 = length-append r.read _ in
       record {
@@ -186,16 +198,7 @@ module _ (g : Story) (valid : ValidStory g) (seed base : ℕ) where
   heard_so line r k = in_world r k (with_timeout (is_timeout line) r.world) (timeout_so (bound r) (is_timeout line) r.world k.world)
 
   anew_run : (r : Run) → Is r → Is (anew r)
-  anew_run r k = record {
-    world = anew_so g.game v seed (bound r) r.world k.world;
-    few = k.few;
-    line = no_line;
-    earlier = omega arith;
-    text = k.text;
-    pieces = k.pieces;
-    lines = k.lines;
-    traced = k.traced;
-  }
+  anew_run r k = changed r k _ (anew_so g.game v seed (bound r) r.world k.world) [] no_line 255 (omega arith) None
 
   spoken_so : (n : ℕ) (s : Sentence) (w : World) → AreWords s → IsWorldAt g.game seed n w → IsWorldAt g.game seed n (spoken s w)
   spoken_so n s w b k =
@@ -214,16 +217,8 @@ module _ (g : Story) (valid : ValidStory g) (seed base : ℕ) where
       Is (taken_phrase s left r)
   phrase_so r k s left e =
       let words = parsed-bytes g.game r.pending r.earlier (flag r.world 46) (flag r.world 47) s left v k.earlier (flag_small g.game v seed (bound r) r.world k.world 46) (flag_small g.game v seed (bound r) r.world k.world 47) e in
-      record {
-        world = spoken_so (bound r) s r.world words k.world;
-        few = k.few;
-        line = left_line r.pending left (sentence-rest g.game r.pending r.earlier (flag r.world 46) (flag r.world 47) s left e) k.line;
-        earlier = words.verb;
-        text = k.text;
-        pieces = k.pieces;
-        lines = k.lines;
-        traced = k.traced;
-      }
+      changed r k (spoken s r.world) (spoken_so (bound r) s r.world words k.world) left
+      (left_line r.pending left (sentence-rest g.game r.pending r.earlier (flag r.world 46) (flag r.world 47) s left e) k.line) s.verb words.verb r.turning
 
   unknown_so : (r : Run) → Is r → (left : List ℕ) → coming_phrase g r ≡ IsUnknown left →
       Is (record r { pending = left })
@@ -240,20 +235,13 @@ module _ (g : Story) (valid : ValidStory g) (seed base : ℕ) where
   taken_so l o r small k =
       let w : World = named r.world (facts_at g.game o) in
       let w_so : IsWorldAt g.game seed (bound r) w = named_so (bound r) r.world k.world o (facts_at g.game o) refl in
-      record {
-        world = referred_so g.game v seed (bound r) (with_flag w 50 o) (flagged g.game v seed (bound r) w w_so 50 o small) o small;
-        few = k.few;
-        line = k.line;
-        earlier = k.earlier;
-        text = k.text;
-        pieces = k.pieces;
-        lines = k.lines;
-        traced = k.traced;
-      }
+      changed r k _ (referred_so g.game v seed (bound r) (with_flag w 50 o) (flagged g.game v seed (bound r) w w_so 50 o small) o small)
+      r.pending k.line r.earlier k.earlier (Some (record l { last = o }))
 
   -- ---- loops and calls ----
 
-  again_sounds : (lv : ℕ) (next : OpenLoop → Run → Out) → ((l : OpenLoop) (r : Run) → Is r → Sounds (next l r)) → (x : Out) → Sounds x → Sounds (again lv next x)
+  again_sounds : (lv : ℕ) (next : OpenLoop → Run → Out) → ((l : OpenLoop) (r : Run) → Is r → Sounds (next l r)) → (x : Out) → Sounds x →
+      Sounds (again lv next x)
   again_sounds lv next h (Left a r) k = open_or_not Sounds (λ l. next l r) (Left a r) (at_level lv r.turning) (λ l e. h l r k) (λ e. k)
   again_sounds lv next h (Waits p path r) k = k
   again_sounds lv next h (Stopped stop r) k = k
@@ -293,7 +281,8 @@ module _ (g : Story) (valid : ValidStory g) (seed base : ℕ) where
   answered_sounds prompt.Key f go h line r k = h true r k
   answered_sounds prompt.Over f go h line r k = h f.acted r k
 
-  asked_sounds : (p : Prompt) (f : Frame) (go : Bool → Run → Out) → GoesSound go → (r : Run) (lines : List (List ℕ)) → Rests r → AreLines lines → Sounds (asked g p f go r lines)
+  asked_sounds : (p : Prompt) (f : Frame) (go : Bool → Run → Out) → GoesSound go → (r : Run) (lines : List (List ℕ)) → Rests r → AreLines lines →
+      Sounds (asked g p f go r lines)
   unfolding asked
   asked_sounds p f go h r [] k are = resting_events r k [] tt
   asked_sounds p f go h r (line ∷ lines) k are =
@@ -318,7 +307,8 @@ module _ (g : Story) (valid : ValidStory g) (seed base : ℕ) where
   dropped_if false line k = k
 
   module _ (sub : ℕ → Run → Out) (lv : ℕ) (calls : CallsSound sub) where
-    after_test_sounds : (f : Frame) (next go : Bool → Run → Out) → GoesSound next → GoesSound go → (c : Condact) (r : Run) (t : Truth) → ((b : Bool) → Is (noted f c b r)) →
+    after_test_sounds : (f : Frame) (next go : Bool → Run → Out) → GoesSound next → GoesSound go → (c : Condact) (r : Run) (t : Truth) →
+        ((b : Bool) → Is (noted f c b r)) →
         Sounds (after_test g f next go c r t)
     after_test_sounds f next go hn hg c r truth.Yes k = hg f.acted (noted f c true r) (k true)
     after_test_sounds f next go hn hg c r truth.No k = hn f.acted (noted f c false r) (k false)
@@ -326,7 +316,8 @@ module _ (g : Story) (valid : ValidStory g) (seed base : ℕ) where
         printing_sounds (quit_question g r) (waits g prompt.Quit f go) (waits_sounds prompt.Quit f go hg)
         (noted f c true r) (k true)
 
-    after_action_sounds : (f : Frame) (next go : Bool → Run → Out) → GoesSound next → GoesSound go → (e : Effect) (r : Run) → Is r → Sounds (after_action g sub lv f next go e r)
+    after_action_sounds : (f : Frame) (next go : Bool → Run → Out) → GoesSound next → GoesSound go → (e : Effect) (r : Run) → Is r →
+        Sounds (after_action g sub lv f next go e r)
     after_action_sounds f next go hn hg effect.Go r k = hg true r k
     after_action_sounds f next go hn hg (effect.Exit a) r k = k
     after_action_sounds f next go hn hg effect.Redescribe r k = no_loop r k None
@@ -338,24 +329,17 @@ module _ (g : Story) (valid : ValidStory g) (seed base : ℕ) where
     after_action_sounds f next go hn hg effect.Spent r k = tt
 
     carried_so : (d : Done) (r : Run) → Is r → IsWorldAt g.game seed (bound r) d.world → Is (carried_out d r)
-    carried_so d r k world = record {
-      world = world;
-      few = k.few;
-      line = dropped_if d.act.drop_line r.pending k.line;
-      earlier = k.earlier;
-      text = k.text;
-      pieces = k.pieces;
-      lines = k.lines;
-      traced = k.traced;
-    }
+    carried_so d r k world = changed r k d.world world _ (dropped_if d.act.drop_line r.pending k.line) r.earlier k.earlier _
 
-    acts_sound : (f : Frame) (next go : Bool → Run → Out) → GoesSound next → GoesSound go → (d : Done) (r : Run) → Is r → IsWorldAt g.game seed (bound r) d.world →
+    acts_sound : (f : Frame) (next go : Bool → Run → Out) → GoesSound next → GoesSound go → (d : Done) (r : Run) → Is r →
+        IsWorldAt g.game seed (bound r) d.world →
         Sounds (acts g sub lv f next go d r)
     acts_sound f next go hn hg d r k world =
         by_test Sounds (fits r d.text) _ (halts (RunsOut spent.Text) r)
         (λ fit. after_action_sounds f next go hn hg d.act.effect (carried_out d (printed d.text r)) (carried_so d (printed d.text r) (printed_so r d.text k fit) world)) tt
 
-    reads_one_sounds : (f : Frame) (next go : Bool → Run → Out) → GoesSound next → GoesSound go → (c : Condact) (r : Run) → is_condact g.game c ≡ true → length r.read < 200000 → Is r →
+    reads_one_sounds : (f : Frame) (next go : Bool → Run → Out) → GoesSound next → GoesSound go → (c : Condact) (r : Run) → is_condact g.game c ≡ true →
+        length r.read < 200000 → Is r →
         Sounds (reads_one g sub lv f next go c r)
     reads_one_sounds f next go hn hg c r kept few k =
         let d : Done = effect_of g r.world c in
@@ -369,7 +353,8 @@ module _ (g : Story) (valid : ValidStory g) (seed base : ℕ) where
 
     -- ---- entries, tables ----
 
-    condacts_sound : (t e : ℕ) (next : Bool → Run → Out) → GoesSound next → (k : ℕ) (cs : List Condact) → IsTrue (list_all (is_condact g.game) cs) → GoesSound (condacts g sub lv t e next k cs)
+    condacts_sound : (t e : ℕ) (next : Bool → Run → Out) → GoesSound next → (k : ℕ) (cs : List Condact) → IsTrue (list_all (is_condact g.game) cs) →
+        GoesSound (condacts g sub lv t e next k cs)
     unfolding condacts
     condacts_sound t e next hn k [] all a r h = hn a r h
     condacts_sound t e next hn k (c ∷ cs) all a r h =
@@ -474,7 +459,8 @@ module _ (g : Story) (valid : ValidStory g) (seed base : ℕ) where
       high x most = omega arith
 
   module _ (go : TurnStage → Run → Ending) (goes : (s : TurnStage) → TurnsSound (go s)) where
-    connected_sounds : (r : Run) → Is r → (to : Option ℕ) → exit_at g.game (flag r.world 38) (flag r.world 33) ≡ to → EndsSound (connected g (go AtDescribe) (go AtFrame) r to)
+    connected_sounds : (r : Run) → Is r → (to : Option ℕ) → exit_at g.game (flag r.world 38) (flag r.world 33) ≡ to →
+        EndsSound (connected g (go AtDescribe) (go AtFrame) r to)
     connected_sounds r k None e = saying_sounds (refusal_text g.game r.world) (go AtFrame) (goes AtFrame) (line_dropped r) (dropped r k)
     connected_sounds r k (Some to) e =
         goes AtDescribe (with_world (with_flag r.world 38 to) r)
@@ -499,16 +485,7 @@ module _ (g : Story) (valid : ValidStory g) (seed base : ℕ) where
     read_sounds t r k = table_done_sounds t (table_read g t r) (table_sounds t r k)
 
     line_set_so : (line : List ℕ) (r : Run) → IsLine line → Is r → Is (line_set line r)
-    line_set_so line r is k = record {
-      world = timeout_so (bound r) false r.world k.world;
-      few = k.few;
-      line = is;
-      earlier = omega arith;
-      text = k.text;
-      pieces = k.pieces;
-      lines = k.lines;
-      traced = k.traced;
-    }
+    line_set_so line r is k = changed r k _ (timeout_so (bound r) false r.world k.world) line is 255 (omega arith) r.turning
 
     at_main_sounds : (r : Run) (lines : List (List ℕ)) → Rests r → AreLines lines → EndsSound (at_main g (go AtFrame) (go AtPhrase) r lines)
     unfolding at_main

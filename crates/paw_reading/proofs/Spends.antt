@@ -1,13 +1,10 @@
 -- Reading uses up what may still be read.
-use Rattle.std.proofs.Common.{◌≡◌, ℕ, zero, suc, ◌+◌, ◌-◌, ◌≤◌, ◌<◌, Bool, true, false, ◌||◌, List, [], ◌∷◌, refl, drop, length, arith, length-append}
-use Rattle.std.specs.Prelude.{if◌then◌else◌, nat_lt, sum_by}
-use Rattle.std.proofs.lemmas.Bool.Decides.{nat_tests}
+use Rattle.std.proofs.Common.{◌≡◌, ℕ, zero, suc, ◌+◌, ◌-◌, ◌≤◌, ◌<◌, Bool, true, false, ◌||◌, List, [], ◌∷◌, length, arith, length-append}
+use Rattle.std.specs.Prelude.{if◌then◌else◌, sum_by}
 use Rattle.std.proofs.lemmas.List.Sums.{sum_by-cons}
 use Rattle.paw_base.specs.declared.parts.Condact.{Condact}
 use Rattle.paw_base.specs.declared.fault.SpentKind.TheVariants as spent
-use Rattle.paw_game.specs.declared.parts.Entry.{Entry}
 use Rattle.paw_effects.specs.Story.{Story}
-use Rattle.paw_game.specs.Tables.{table_at, entry_at, condacts_of}
 use Rattle.paw_world.specs.World.{flag}
 use Rattle.paw_phrase.specs.Sentence.{Parsed, IsSentence, IsUnknown, IsNoPhrase}
 use Rattle.paw_phrase.proofs.Phrases.{Leaves, parsed-shorter}
@@ -22,10 +19,14 @@ use Rattle.paw_effects.specs.Effects.{Done, effect_of}
 use Rattle.paw_reading.specs.declared.places.Frame.{Frame}
 use Rattle.paw_reading.specs.declared.places.OpenLoop.{OpenLoop}
 use Rattle.paw_reading.specs.Run.{Run, closed, fits, printed, with_world, anew, is_ignored, heard, reply, is_yes, is_no, taken_phrase}
-use Rattle.paw_reading.specs.Reading.{RunsOut, Restarts, Halts, Out, Left, Waits, Stopped, halts, within, noted, after_call, at_level, again, is_taken, taken, turns, loop_of, over, answered, asked, after_test, after_parse, after_action, carried_out, acts, reads_one, condacts, is_for_now, entries, plain, looped, reads, called, deeper, rest, table_read, coming_phrase, goodbye, game_over, quit_question, waits}
+use Rattle.paw_reading.specs.Reading.{RunsOut, Restarts, Halts, Out, Left, Waits, Stopped, halts, noted, after_call, at_level, again}
+use Rattle.paw_reading.specs.Reading.{is_taken, taken, turns, loop_of, over, answered, asked, after_test, after_parse, after_action}
+use Rattle.paw_reading.specs.Reading.{carried_out, acts, reads_one, plain, looped, reads, called, deeper, rest, table_read, coming_phrase}
+use Rattle.paw_reading.specs.Reading.{goodbye, game_over, quit_question, waits}
 use Rattle.paw_reading.specs.GoingOn.{on_path}
 use Rattle.paw_reading.specs.Turn.{left_to_read}
 use Rattle.paw_reading.proofs.Keeps.{either, open_or_not, prints}
+use Rattle.paw_reading.proofs.EachCondact.{plain_goes}
 
 -- what lines bring
 abbrev pub brought : List (List ℕ) → ℕ
@@ -110,8 +111,10 @@ asked_spends g p f go h r (line ∷ lines) =
 
 after_parse_spends : (f : Frame) (next go : Bool → Run → Out) → AreSpending next → AreSpending go → (r : Run) (p : Parsed) →
     Leaves (λ rest. length rest < length r.pending) p → Spends (left_to_read r) (after_parse f next go r p)
-after_parse_spends f next go hn hg r (IsSentence s rest) k = Spends_up (left_to_read (taken_phrase s rest r)) _ (omega arith) _ (hn f.acted (taken_phrase s rest r))
-after_parse_spends f next go hn hg r (IsUnknown rest) k = Spends_up (left_to_read (record r { pending = rest })) _ (omega arith) _ (hg f.acted (record r { pending = rest }))
+after_parse_spends f next go hn hg r (IsSentence s rest) k =
+    Spends_up (left_to_read (taken_phrase s rest r)) _ (omega arith) _ (hn f.acted (taken_phrase s rest r))
+after_parse_spends f next go hn hg r (IsUnknown rest) k =
+    Spends_up (left_to_read (record r { pending = rest })) _ (omega arith) _ (hg f.acted (record r { pending = rest }))
 after_parse_spends f next go hn hg r IsNoPhrase k = hg f.acted r
 
 module _ (g : Story) (sub : ℕ → Run → Out) (lv : ℕ) (calls : CallsSpending sub) where
@@ -163,34 +166,12 @@ module _ (g : Story) (sub : ℕ → Run → Out) (lv : ℕ) (calls : CallsSpendi
       (omega (arith, more true)) (omega (arith, more false)))
       (Spends_up (suc (left_to_read (noted f c true r))) _ (omega (arith, more true)) _ (acts_spend f next go hn hg (effect_of g r.world c) (noted f c true r)))
 
-  -- ---- entries, tables ----
-
-  within_spends : (r : Run) (x : Out) → (length r.read < 200000 → Spends (left_to_read r) x) → Spends (left_to_read r) (within r x)
-  within_spends r x h = by_test (nat_lt (length r.read) 200000) refl
-    where
-      by_test : (b : Bool) → nat_lt (length r.read) 200000 ≡ b →
-          Spends (left_to_read r) (if b then x else halts (RunsOut spent.Condacts) r)
-      by_test false q = tt
-      by_test true q = h (grind (arith, nat_tests))
-
-  condacts_spend : (t e : ℕ) (next : Bool → Run → Out) → AreSpending next → (k : ℕ) (cs : List Condact) → AreSpending (condacts g sub lv t e next k cs)
-  unfolding condacts
-  condacts_spend t e next hn k [] a r = hn a r
-  condacts_spend t e next hn k (c ∷ cs) a r =
-      within_spends r _ (reads_one_spends (record { table = t; entry = e; at = k; acted = a }) next _ hn (condacts_spend t e next hn (suc k) cs) c r)
-
-  entries_spend : (t e : ℕ) (es : List Entry) → AreSpending (entries g sub lv t e es)
-  unfolding entries
-  entries_spend t e [] a r = omega arith
-  entries_spend t e (en ∷ es) a r =
-      either (Spends (left_to_read r)) (is_for_now r en) _ _
-      (condacts_spend t e (entries g sub lv t (suc e) es) (entries_spend t (suc e) es) 0 en.condacts a r)
-      (entries_spend t (suc e) es a r)
+  -- ---- tables ----
 
   plain_spends : (t e k : ℕ) → AreSpending (plain g sub lv t e k)
-  plain_spends t e zero a r = entries_spend t e (drop e (table_at g.game t)) a r
-  plain_spends t e (suc k) a r =
-      condacts_spend t e _ (entries_spend t (suc e) (drop (suc e) (table_at g.game t))) (suc k) (drop (suc k) (condacts_of (entry_at g.game t e))) a r
+  plain_spends t =
+      plain_goes (λ r x. Spends (left_to_read r) x) g sub lv t (λ a r. omega arith) (λ r. tt)
+      (λ e k a next go hn hg c r few. reads_one_spends (record { table = t; entry = e; at = k; acted = a }) next go hn hg c r few)
 
   looped_spends : (l : OpenLoop) → IsSpending (looped g sub lv l)
   looped_spends l r = turns_spend g lv (record l { last = 0 }) _ (plain_spends l.table l.entry (suc l.at) true) (length g.game.objects - suc l.last) r

@@ -1,11 +1,9 @@
 -- Where reading waits: the outermost of the tables that are open is the one that is read, and so is that of its loop.
-use Rattle.std.proofs.Common.{◌≡◌, ℕ, zero, suc, ◌-◌, Bool, true, false, ◌||◌, List, [], ◌∷◌, Option, Some, None, refl, sym, ◌∙◌, subst, length, drop}
-use Rattle.std.specs.Prelude.{if◌then◌else◌, nat_lt}
+use Rattle.std.proofs.Common.{◌≡◌, ℕ, zero, suc, ◌-◌, Bool, true, false, ◌||◌, List, [], ◌∷◌, Option, Some, None, refl, sym, ◌∙◌, subst, length}
+use Rattle.std.specs.Prelude.{if◌then◌else◌}
 use Rattle.paw_base.specs.declared.parts.Condact.{Condact}
 use Rattle.paw_base.specs.declared.fault.SpentKind.TheVariants as spent
-use Rattle.paw_game.specs.declared.parts.Entry.{Entry}
 use Rattle.paw_effects.specs.Story.{Story}
-use Rattle.paw_game.specs.Tables.{table_at, entry_at, condacts_of}
 use Rattle.paw_phrase.specs.Sentence.{Parsed, IsSentence, IsUnknown, IsNoPhrase}
 use Rattle.paw_effects.specs.declared.act.Prompt.{Prompt}
 use Rattle.paw_effects.specs.declared.act.Prompt.TheVariants as prompt
@@ -20,11 +18,15 @@ use Rattle.paw_effects.proofs.Asking.{AsksInner, effect_asks}
 use Rattle.paw_reading.specs.declared.places.Frame.{Frame}
 use Rattle.paw_reading.specs.declared.places.OpenLoop.{OpenLoop}
 use Rattle.paw_reading.specs.Run.{Run, closed, fits, printed, with_world, anew, is_ignored, heard, reply, is_yes, is_no, taken_phrase}
-use Rattle.paw_reading.specs.Reading.{RunsOut, Restarts, Out, Left, Waits, Stopped, halts, noted, after_call, at_level, again, is_taken, taken, turns, loop_of, over, answered, asked, after_test, after_parse, after_action, carried_out, acts, reads_one, condacts, is_for_now, entries, plain, looped, reads, called, deeper, rest, table_read, goodbye, game_over, quit_question, waits}
+use Rattle.paw_reading.specs.Reading.{RunsOut, Restarts, Out, Left, Waits, Stopped, halts, noted, after_call, at_level, again, is_taken}
+use Rattle.paw_reading.specs.Reading.{taken, turns, loop_of, over, answered, asked, after_test, after_parse, after_action, carried_out}
+use Rattle.paw_reading.specs.Reading.{acts, reads_one, plain, looped, reads, called, deeper, rest, table_read, goodbye, game_over}
+use Rattle.paw_reading.specs.Reading.{quit_question, waits}
 use Rattle.paw_reading.specs.GoingOn.{on_path}
 use Rattle.paw_reading.specs.Turn.{first_table}
 use Rattle.paw_reading.specs.inner.Places.{IsLoopOf}
 use Rattle.paw_reading.proofs.Keeps.{either, open_or_not, at_level_is, prints}
+use Rattle.paw_reading.proofs.EachCondact.{plain_goes}
 
 -- a wait at this level, where table t is the one at level 0
 pub record WaitsThere (t lv : ℕ) (p : Prompt) (path : List Frame) (turning : Option OpenLoop) : Type 0 where
@@ -50,7 +52,8 @@ module _ (t : ℕ) where
   abbrev IsOwn : ℕ → ℕ → Type 0
   IsOwn lv u = lv ≡ 0 → u ≡ t
 
-  again_stays : (lv : ℕ) (next : OpenLoop → Run → Out) → ((l : OpenLoop) (r : Run) → at_level lv r.turning ≡ Some l → IsLoopOf t r.turning → Stays t lv (next l r))
+  again_stays : (lv : ℕ) (next : OpenLoop → Run → Out) →
+      ((l : OpenLoop) (r : Run) → at_level lv r.turning ≡ Some l → IsLoopOf t r.turning → Stays t lv (next l r))
       → (x : Out) → Stays t lv x → Stays t lv (again lv next x)
   again_stays lv next h (Left a r) k = open_or_not (Stays t lv) (λ l. next l r) (Left a r) (at_level lv r.turning) (λ l e. h l r e k) (λ none. k)
   again_stays lv next h (Waits p path r) k = k
@@ -68,7 +71,8 @@ module _ (t : ℕ) where
 
   -- ---- calls, prompts, phrases ----
 
-  after_call_stays : (lv : ℕ) (f : Frame) (go : Bool → Run → Out) → IsOwn lv f.table → GoesStaying lv go → (x : Out) → Stays t (suc lv) x → Stays t lv (after_call f go x)
+  after_call_stays : (lv : ℕ) (f : Frame) (go : Bool → Run → Out) → IsOwn lv f.table → GoesStaying lv go → (x : Out) → Stays t (suc lv) x →
+      Stays t lv (after_call f go x)
   after_call_stays lv f go own h (Left b r) k = h (f.acted || b) r k
   after_call_stays lv f go own h (Waits p path r) k = record { inner = k.inner; first = own; loop = k.loop }
   after_call_stays lv f go own h (Stopped stop r) k = tt
@@ -91,7 +95,8 @@ module _ (t : ℕ) where
       either (Stays t lv) (is_ignored r.world line) _ _ (asked_stays g p lv f go inner own h (closed (record r { events = lines })) lines k)
       (answered_stays g p lv f go h (reply line) (heard line (record r { events = lines })) k)
 
-  after_parse_stays : (lv : ℕ) (f : Frame) (next go : Bool → Run → Out) → GoesStaying lv next → GoesStaying lv go → (r : Run) (p : Parsed) → IsLoopOf t r.turning
+  after_parse_stays : (lv : ℕ) (f : Frame) (next go : Bool → Run → Out) → GoesStaying lv next → GoesStaying lv go → (r : Run) (p : Parsed) →
+      IsLoopOf t r.turning
       → Stays t lv (after_parse f next go r p)
   after_parse_stays lv f next go hn hg r (IsSentence s rest) k = hn f.acted (taken_phrase s rest r) k
   after_parse_stays lv f next go hn hg r (IsUnknown rest) k = hg f.acted (record r { pending = rest }) k
@@ -104,7 +109,8 @@ module _ (t : ℕ) where
   -- ---- one condact ----
 
   module _ (g : Story) (sub : ℕ → Run → Out) (lv : ℕ) (calls : CallsStaying lv sub) where
-    after_test_stays : (f : Frame) (next go : Bool → Run → Out) → IsOwn lv f.table → GoesStaying lv next → GoesStaying lv go → (c : Condact) (r : Run) (v : Truth) → IsLoopOf t r.turning
+    after_test_stays : (f : Frame) (next go : Bool → Run → Out) → IsOwn lv f.table → GoesStaying lv next → GoesStaying lv go →
+        (c : Condact) (r : Run) (v : Truth) → IsLoopOf t r.turning
         → Stays t lv (after_test g f next go c r v)
     after_test_stays f next go own hn hg c r truth.Yes k = hg f.acted (noted f c true r) k
     after_test_stays f next go own hn hg c r truth.No k = hn f.acted (noted f c false r) k
@@ -113,7 +119,8 @@ module _ (t : ℕ) where
         (asked_stays g prompt.Quit lv f go tt own hg (closed (printed (quit_question g r) (noted f c true r)))
         r.events k) tt
 
-    after_action_stays : (f : Frame) (next go : Bool → Run → Out) → IsOwn lv f.table → GoesStaying lv next → GoesStaying lv go → (e : Effect) → AsksInner e → (r : Run) → IsLoopOf t r.turning
+    after_action_stays : (f : Frame) (next go : Bool → Run → Out) → IsOwn lv f.table → GoesStaying lv next → GoesStaying lv go → (e : Effect) →
+        AsksInner e → (r : Run) → IsLoopOf t r.turning
         → Stays t lv (after_action g sub lv f next go e r)
     after_action_stays f next go own hn hg effect.Go asks r k = hg true r k
     after_action_stays f next go own hn hg (effect.Exit a) asks r k = k
@@ -124,40 +131,27 @@ module _ (t : ℕ) where
     after_action_stays f next go own hn hg effect.Parse asks r k = after_parse_stays lv f next go hn hg r _ k
     after_action_stays f next go own hn hg effect.Spent asks r k = tt
 
-    acts_stays : (f : Frame) (next go : Bool → Run → Out) → IsOwn lv f.table → GoesStaying lv next → GoesStaying lv go → (d : Done) → AsksInner d.act.effect → (r : Run) → IsLoopOf t r.turning
+    acts_stays : (f : Frame) (next go : Bool → Run → Out) → IsOwn lv f.table → GoesStaying lv next → GoesStaying lv go → (d : Done) →
+        AsksInner d.act.effect → (r : Run) → IsLoopOf t r.turning
         → Stays t lv (acts g sub lv f next go d r)
     acts_stays f next go own hn hg d asks r k =
         either (Stays t lv) (fits r d.text) _ (halts (RunsOut spent.Text) r)
         (after_action_stays f next go own hn hg d.act.effect asks (carried_out d (printed d.text r)) (cancelled d.act.cancel_loop r.turning k)) tt
 
-    reads_one_stays : (f : Frame) (next go : Bool → Run → Out) → IsOwn lv f.table → GoesStaying lv next → GoesStaying lv go → (c : Condact) (r : Run) → IsLoopOf t r.turning
+    reads_one_stays : (f : Frame) (next go : Bool → Run → Out) → IsOwn lv f.table → GoesStaying lv next → GoesStaying lv go → (c : Condact) (r : Run) →
+        IsLoopOf t r.turning
         → Stays t lv (reads_one g sub lv f next go c r)
     reads_one_stays f next go own hn hg c r k =
         either (Stays t lv) (is_condition c) _ _
         (after_test_stays f next go own hn hg c (with_world (holds g.game r.world c).world r) (holds g.game r.world c).answer k)
         (acts_stays f next go own hn hg (effect_of g r.world c) (effect_asks g r.world c) (noted f c true r) k)
 
-    -- ---- entries, tables ----
-
-    condacts_stay : (u e : ℕ) (next : Bool → Run → Out) → IsOwn lv u → GoesStaying lv next → (k : ℕ) (cs : List Condact) → GoesStaying lv (condacts g sub lv u e next k cs)
-    unfolding condacts
-    condacts_stay u e next own hn k [] a r h = hn a r h
-    condacts_stay u e next own hn k (c ∷ cs) a r h =
-        either (Stays t lv) (nat_lt (length r.read) 200000) _ (halts (RunsOut spent.Condacts) r)
-        (reads_one_stays (record { table = u; entry = e; at = k; acted = a }) next _ own hn (condacts_stay u e next own hn (suc k) cs) c r h) tt
-
-    entries_stay : (u e : ℕ) (es : List Entry) → IsOwn lv u → GoesStaying lv (entries g sub lv u e es)
-    unfolding entries
-    entries_stay u e [] own a r h = h
-    entries_stay u e (en ∷ es) own a r h =
-        either (Stays t lv) (is_for_now r en) _ _
-        (condacts_stay u e (entries g sub lv u (suc e) es) own (entries_stay u (suc e) es own) 0 en.condacts a r h)
-        (entries_stay u (suc e) es own a r h)
+    -- ---- tables ----
 
     plain_stays : (u e k : ℕ) → IsOwn lv u → GoesStaying lv (plain g sub lv u e k)
-    plain_stays u e zero own a r h = entries_stay u e (drop e (table_at g.game u)) own a r h
-    plain_stays u e (suc k) own a r h =
-        condacts_stay u e _ own (entries_stay u (suc e) (drop (suc e) (table_at g.game u)) own) (suc k) (drop (suc k) (condacts_of (entry_at g.game u e))) a r h
+    plain_stays u e k own =
+        plain_goes (λ r x. IsLoopOf t r.turning → Stays t lv x) g sub lv u (λ a r h. h) (λ r h. tt)
+        (λ i m a next go hn hg c r few h. reads_one_stays (record { table = u; entry = i; at = m; acted = a }) next go own hn hg c r h) e k
 
     looped_stays : (l : OpenLoop) (r : Run) → at_level lv r.turning ≡ Some l → IsLoopOf t r.turning → Stays t lv (looped g sub lv l r)
     looped_stays l r e h =

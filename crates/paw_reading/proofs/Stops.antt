@@ -1,11 +1,8 @@
 -- Where reading stops: a wait has a table open and has taken every line, and where the turn begins anew no loop is open.
-use Rattle.std.proofs.Common.{◌≡◌, ◌≢◌, ℕ, zero, suc, ◌-◌, Bool, true, false, ◌||◌, List, [], ◌∷◌, None, refl, drop, length}
-use Rattle.std.specs.Prelude.{nat_lt}
+use Rattle.std.proofs.Common.{◌≡◌, ◌≢◌, ℕ, zero, suc, ◌-◌, Bool, true, false, ◌||◌, List, [], ◌∷◌, None, refl, length}
 use Rattle.paw_base.specs.declared.parts.Condact.{Condact}
 use Rattle.paw_base.specs.declared.fault.SpentKind.TheVariants as spent
-use Rattle.paw_game.specs.declared.parts.Entry.{Entry}
 use Rattle.paw_effects.specs.Story.{Story}
-use Rattle.paw_game.specs.Tables.{table_at, entry_at, condacts_of}
 use Rattle.paw_phrase.specs.Sentence.{Parsed, IsSentence, IsUnknown, IsNoPhrase}
 use Rattle.paw_effects.specs.declared.act.Prompt.{Prompt}
 use Rattle.paw_effects.specs.declared.act.Prompt.TheVariants as prompt
@@ -18,9 +15,13 @@ use Rattle.paw_effects.specs.Effects.{Done, effect_of}
 use Rattle.paw_reading.specs.declared.places.Frame.{Frame}
 use Rattle.paw_reading.specs.declared.places.OpenLoop.{OpenLoop}
 use Rattle.paw_reading.specs.Run.{Run, closed, fits, printed, with_world, anew, is_ignored, heard, reply, is_yes, is_no, taken_phrase}
-use Rattle.paw_reading.specs.Reading.{RunsOut, Restarts, Halts, Out, Left, Waits, Stopped, halts, noted, after_call, at_level, again, is_taken, taken, turns, loop_of, over, answered, asked, after_test, after_parse, after_action, carried_out, acts, reads_one, condacts, is_for_now, entries, plain, looped, reads, called, deeper, rest, goodbye, game_over, quit_question, waits}
+use Rattle.paw_reading.specs.Reading.{RunsOut, Restarts, Halts, Out, Left, Waits, Stopped, halts, noted, after_call, at_level, again}
+use Rattle.paw_reading.specs.Reading.{is_taken, taken, turns, loop_of, over, answered, asked, after_test, after_parse, after_action}
+use Rattle.paw_reading.specs.Reading.{carried_out, acts, reads_one, plain, looped, reads, called, deeper, rest, goodbye, game_over}
+use Rattle.paw_reading.specs.Reading.{quit_question, waits}
 use Rattle.paw_reading.specs.GoingOn.{on_path}
 use Rattle.paw_reading.proofs.Keeps.{either, open_or_not, prints}
+use Rattle.paw_reading.proofs.EachCondact.{plain_goes}
 
 -- a wait
 pub record WaitsOpen (path : List Frame) (r : Run) : Type 0 where
@@ -85,14 +86,16 @@ after_parse_stops f next go hn hg r (IsUnknown rest) = hg f.acted (record r { pe
 after_parse_stops f next go hn hg r IsNoPhrase = hg f.acted r
 
 module _ (g : Story) (sub : ℕ → Run → Out) (lv : ℕ) (calls : CallsStopping sub) where
-  after_test_stops : (f : Frame) (next go : Bool → Run → Out) → AreStopping next → AreStopping go → (c : Condact) (r : Run) (t : Truth) → Stops (after_test g f next go c r t)
+  after_test_stops : (f : Frame) (next go : Bool → Run → Out) → AreStopping next → AreStopping go → (c : Condact) (r : Run) (t : Truth) →
+      Stops (after_test g f next go c r t)
   after_test_stops f next go hn hg c r truth.Yes = hg f.acted (noted f c true r)
   after_test_stops f next go hn hg c r truth.No = hn f.acted (noted f c false r)
   after_test_stops f next go hn hg c r truth.Ask =
       prints Stops (quit_question g r) (waits g prompt.Quit f go) (noted f c true r)
       (asked_stops g prompt.Quit f go hg (closed (printed (quit_question g r) (noted f c true r))) r.events) tt
 
-  after_action_stops : (f : Frame) (next go : Bool → Run → Out) → AreStopping next → AreStopping go → (e : Effect) (r : Run) → Stops (after_action g sub lv f next go e r)
+  after_action_stops : (f : Frame) (next go : Bool → Run → Out) → AreStopping next → AreStopping go → (e : Effect) (r : Run) →
+      Stops (after_action g sub lv f next go e r)
   after_action_stops f next go hn hg effect.Go r = hg true r
   after_action_stops f next go hn hg (effect.Exit a) r = tt
   after_action_stops f next go hn hg effect.Redescribe r = refl
@@ -107,33 +110,19 @@ module _ (g : Story) (sub : ℕ → Run → Out) (lv : ℕ) (calls : CallsStoppi
       either Stops (fits r d.text) _ (halts (RunsOut spent.Text) r)
       (after_action_stops f next go hn hg d.act.effect (carried_out d (printed d.text r))) tt
 
-  reads_one_stops : (f : Frame) (next go : Bool → Run → Out) → AreStopping next → AreStopping go → (c : Condact) (r : Run) → Stops (reads_one g sub lv f next go c r)
+  reads_one_stops : (f : Frame) (next go : Bool → Run → Out) → AreStopping next → AreStopping go → (c : Condact) (r : Run) →
+      Stops (reads_one g sub lv f next go c r)
   reads_one_stops f next go hn hg c r =
       either Stops (is_condition c) _ _
       (after_test_stops f next go hn hg c (with_world (holds g.game r.world c).world r) (holds g.game r.world c).answer)
       (acts_stop f next go hn hg (effect_of g r.world c) (noted f c true r))
 
-  -- ---- entries, tables ----
-
-  condacts_stop : (t e : ℕ) (next : Bool → Run → Out) → AreStopping next → (k : ℕ) (cs : List Condact) → AreStopping (condacts g sub lv t e next k cs)
-  unfolding condacts
-  condacts_stop t e next hn k [] a r = hn a r
-  condacts_stop t e next hn k (c ∷ cs) a r =
-      either Stops (nat_lt (length r.read) 200000) _ (halts (RunsOut spent.Condacts) r)
-      (reads_one_stops (record { table = t; entry = e; at = k; acted = a }) next _ hn (condacts_stop t e next hn (suc k) cs) c r) tt
-
-  entries_stop : (t e : ℕ) (es : List Entry) → AreStopping (entries g sub lv t e es)
-  unfolding entries
-  entries_stop t e [] a r = tt
-  entries_stop t e (en ∷ es) a r =
-      either Stops (is_for_now r en) _ _
-      (condacts_stop t e (entries g sub lv t (suc e) es) (entries_stop t (suc e) es) 0 en.condacts a r)
-      (entries_stop t (suc e) es a r)
+  -- ---- tables ----
 
   plain_stops : (t e k : ℕ) → AreStopping (plain g sub lv t e k)
-  plain_stops t e zero a r = entries_stop t e (drop e (table_at g.game t)) a r
-  plain_stops t e (suc k) a r =
-      condacts_stop t e _ (entries_stop t (suc e) (drop (suc e) (table_at g.game t))) (suc k) (drop (suc k) (condacts_of (entry_at g.game t e))) a r
+  plain_stops t =
+      plain_goes (λ r x. Stops x) g sub lv t (λ a r. tt) (λ r. tt)
+      (λ e k a next go hn hg c r few. reads_one_stops (record { table = t; entry = e; at = k; acted = a }) next go hn hg c r)
 
   looped_stops : (l : OpenLoop) (r : Run) → Stops (looped g sub lv l r)
   looped_stops l r = turns_stop g lv (record l { last = 0 }) _ (plain_stops l.table l.entry (suc l.at) true) (length g.game.objects - suc l.last) r

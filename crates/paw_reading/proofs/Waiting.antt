@@ -10,13 +10,15 @@ use Rattle.paw_reading.specs.GoingOn.{on_path}
 use Rattle.paw_reading.specs.Turn.{WaitsAt, AtResponse, at_main, table_done, turn, stages_left, first_table, on}
 use Rattle.paw_reading.specs.inner.Turn.{MayWaitAlong, WaitsOn}
 
-path_waits : (g : Story) (p : Prompt) (lv : ℕ) (f : Frame) (path : List Frame) (r : Run) → on_path g p lv (f ∷ path) (record r { events = [] }) ≡ Waits p (f ∷ path) (record r { events = [] })
+path_waits : (g : Story) (p : Prompt) (lv : ℕ) (f : Frame) (path : List Frame) (r : Run) →
+    on_path g p lv (f ∷ path) (record r { events = [] }) ≡ Waits p (f ∷ path) (record r { events = [] })
 unfolding asked
 path_waits g p lv f [] r = refl
 path_waits g p lv f (h ∷ path) r = ap (after_call f (rest g lv f.table f.entry (suc f.at))) (path_waits g p (suc lv) h path r)
 
 -- along some frames
-pub some_waits : (g : Story) (p : Prompt) (path : List Frame) (r : Run) → 0 < length path → on_path g p 0 path (record r { events = [] }) ≡ Waits p path (record r { events = [] })
+pub some_waits : (g : Story) (p : Prompt) (path : List Frame) (r : Run) → 0 < length path →
+    on_path g p 0 path (record r { events = [] }) ≡ Waits p path (record r { events = [] })
 some_waits g p [] r some = absurd (omega arith)
 some_waits g p (f ∷ path) r some = path_waits g p 0 f path r
 
@@ -24,7 +26,8 @@ in_tables : (g : Story) (n : ℕ) (p : Prompt) (path : List Frame) (r : Run) →
     → table_done g (turn g n) (first_table path) (on_path g p 0 path (record r { events = [] })) ≡ WaitsAt p path (record r { events = [] })
 in_tables g n p path r some = ap (table_done g (turn g n) (first_table path)) (some_waits g p path r some)
 
-at_once : (g : Story) (p : Prompt) (path : List Frame) (r : Run) → MayWaitAlong p path → on g p path (record r { events = [] }) ≡ WaitsAt p path (record r { events = [] })
+at_once : (g : Story) (p : Prompt) (path : List Frame) (r : Run) → MayWaitAlong p path →
+    on g p path (record r { events = [] }) ≡ WaitsAt p path (record r { events = [] })
 unfolding at_main
 at_once g prompt.Main path r none = rw none refl
 at_once g prompt.Quit path r some = in_tables g (stages_left AtResponse (record r { events = [] })) prompt.Quit path r some
@@ -33,4 +36,5 @@ at_once g prompt.Key path r some = in_tables g (stages_left AtResponse (record r
 at_once g prompt.Over path r some = absurd some
 
 pub waits_on : WaitsOn
-waits_on g p path r may none = let same : record r { events = [] } ≡ r = rw none refl in subst (λ s. on g p path s ≡ WaitsAt p path s) same (at_once g p path r may)
+waits_on g p path r may none =
+    let same : record r { events = [] } ≡ r = rw none refl in subst (λ s. on g p path s ≡ WaitsAt p path s) same (at_once g p path r may)

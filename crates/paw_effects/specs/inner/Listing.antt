@@ -30,6 +30,12 @@ listed_from w listed.Held o = filter (is_held w) (drop o (range_with_len 0 (leng
 abbrev pub listed_above : World → Listed → Option ℕ → List ℕ
 listed_above w l above = listed_from w l (first_above above)
 
+-- the game, the world and which of its objects are listed
+pub record ListedObjects : Type 0 where
+  pub game : GameLists
+  pub world : World
+  pub listed : Listed
+
 -- the text of an object in a list
 abbrev pub listed_text : GameLists → World → Listed → ℕ → List ℕ
 listed_text g w (listed.At p) = object_text g

@@ -1,39 +1,14 @@
 // The actions on objects, in a game of a lamp, a sword, a bag, a pouch without a noun, a coat and a torch.
 
-ghost use Rattle.std.specs.Prelude.{◌≡◌};
-ghost use Rattle.paw_effects.specs.Worlds.{IsOf};
-ghost use Rattle.paw_routines.specs.Routines.{HaveRows};
-
-use super::{entry_of, opened, text, word};
-use crate::act::{Act, Effect, Truth};
-use crate::does::{act, test};
-use paw_base::parts::{Condact, ObjectFacts};
-use paw_base::piece::Piece;
-use paw_game::game::Game;
-use paw_game::parts::{Exits, GameParts, ObjectRow, Table, Text, Word};
-use paw_game::tables::Tables;
-use paw_routines::routines::Routines;
-use paw_world::world::World;
+use super::{GO, LOOP_ENDED, REFUSED, Scene, YES, run, tables, text, word};
+use paw_base::codes::{
+    AUTOD, AUTOG, AUTOP, AUTOR, AUTOT, AUTOW, CARRIED, DESTROY, DROP, EQ, GET, ISAT, LET, PLACE,
+    PUTIN, REMOVE, TAKEOUT, WEAR, WHATO, WORN, ZERO,
+};
+use paw_base::parts::ObjectFacts;
+use paw_game::parts::{Exits, GameParts, ObjectRow, Text, Word};
 use std::alloc::{AllocError, Global};
-use std::process::Abort;
 use std::test::Fail;
-
-/// What a condact comes to: a condition holds or fails; an action goes on, or is refused, with or without the end of
-/// the loop.
-#[derive(Clone, Copy, Drop, PartialEq, Eq, Debug)]
-enum Told {
-    Yes,
-    No,
-    Go,
-    Refused,
-    LoopEnded,
-    Other,
-}
-
-use Told::{Go, LoopEnded, Refused, Yes};
-
-/// A condact, what it comes to, and what it prints.
-type Step = (u8, u8, u8, Told, &'static str);
 
 /// The number of locations, more than there are objects.
 const LOCATIONS: usize = 8;
@@ -54,223 +29,124 @@ const POUCH: u8 = 3;
 
 const COAT: u8 = 4;
 
-const GETTING: [Step; 24] = [
-    (55, 0, 0, Go, "36 lamp\n"),
-    (8, 0, 0, Yes, ""),
-    (13, 1, 2, Yes, ""),
-    (55, 0, 0, Refused, "25 lamp\n"),
-    (64, 0, 253, Go, ""),
-    (55, 0, 0, Refused, "25 lamp\n"),
-    (55, 5, 0, Refused, "26 torch\n"),
+const GETTING: &[Scene] = scenes! {
+    GET 0 0 GO, CARRIED 0 0 YES, EQ 1 2 YES => "36 lamp\n";
+    GET 0 0 REFUSED => "25 lamp\n";
+    PLACE 0 253 GO, GET 0 0 REFUSED => "25 lamp\n";
+    GET 5 0 REFUSED => "26 torch\n";
     // The lamp and the coat weigh 4, and only the coat counts as carried.
-    (70, 52, 6, Go, ""),
-    (70, 37, 1, Go, ""),
-    (55, 1, 0, Refused, "43 sword\n"),
-    (70, 52, 7, Go, ""),
-    (55, 1, 0, LoopEnded, "27 sword\n"),
-    (13, 51, 1, Yes, ""),
-    (13, 55, 3, Yes, ""),
-    (70, 37, 2, Go, ""),
-    (55, 1, 0, Go, "36 sword\n"),
-    (13, 54, 0, Yes, ""),
+    LET 52 6 GO, LET 37 1 GO, GET 1 0 REFUSED => "43 sword\n";
+    LET 52 7 GO, GET 1 0 LOOP_ENDED, EQ 51 1 YES, EQ 55 3 YES => "27 sword\n";
+    LET 37 2 GO, GET 1 0 GO, EQ 54 0 YES => "36 sword\n";
     // The current location is none of the game's, and the bag stands there.
-    (70, 52, 255, Go, ""),
-    (70, 37, 255, Go, ""),
-    (62, 2, 0, Go, ""),
-    (70, 38, 252, Go, ""),
-    (55, 2, 0, Refused, "26 bag\n"),
-    (13, 56, 128, Yes, ""),
-    (11, 57, 0, Yes, ""),
-];
+    LET 52 255 GO, LET 37 255 GO, DESTROY 2 0 GO, LET 38 252 GO, GET 2 0 REFUSED, EQ 56 128 YES,
+        ZERO 57 0 YES => "26 bag\n";
+};
 
-const DROPPING: [Step; 11] = [
-    (56, 0, 0, Refused, "49 lamp\n"),
-    (64, 1, 253, Go, ""),
-    (56, 1, 0, Refused, "24 sword\n"),
-    (56, 5, 0, Refused, "28 torch\n"),
-    (56, 4, 0, Go, "39 coat\n"),
-    (24, 4, 0, Yes, ""),
-    (11, 1, 0, Yes, ""),
-    (64, 0, 254, Go, ""),
-    (70, 38, 200, Go, ""),
-    (56, 0, 0, Go, "39 lamp\n"),
-    (24, 0, 252, Yes, ""),
-];
+const DROPPING: &[Scene] = scenes! {
+    DROP 0 0 REFUSED => "49 lamp\n";
+    PLACE 1 253 GO, DROP 1 0 REFUSED => "24 sword\n";
+    DROP 5 0 REFUSED => "28 torch\n";
+    DROP 4 0 GO, ISAT 4 0 YES, ZERO 1 0 YES => "39 coat\n";
+    PLACE 0 254 GO, LET 38 200 GO, DROP 0 0 GO, ISAT 0 252 YES => "39 lamp\n";
+};
 
-const WEARING: [Step; 8] = [
-    (57, 0, 0, Refused, "49 lamp\n"),
-    (57, 5, 0, Refused, "28 torch\n"),
-    (64, 1, 254, Go, ""),
-    (57, 1, 0, Refused, "40 sword\n"),
-    (57, 4, 0, Go, "37 coat\n"),
-    (6, 4, 0, Yes, ""),
-    (13, 1, 1, Yes, ""),
-    (57, 4, 0, Refused, "29 coat\n"),
-];
+const WEARING: &[Scene] = scenes! {
+    WEAR 0 0 REFUSED => "49 lamp\n";
+    WEAR 5 0 REFUSED => "28 torch\n";
+    PLACE 1 254 GO, WEAR 1 0 REFUSED => "40 sword\n";
+    WEAR 4 0 GO, WORN 4 0 YES, EQ 1 1 YES => "37 coat\n";
+    WEAR 4 0 REFUSED => "29 coat\n";
+};
 
-const REMOVING: [Step; 13] = [
-    (58, 4, 0, Refused, "50 coat\n"),
-    (58, 0, 0, Refused, "50 lamp\n"),
-    (58, 5, 0, Refused, "23 torch\n"),
-    (70, 37, 0, Go, ""),
-    (64, 1, 253, Go, ""),
-    (58, 1, 0, Refused, "41 sword\n"),
-    (64, 4, 253, Go, ""),
-    (11, 1, 0, Yes, ""),
-    (58, 4, 0, LoopEnded, "42 coat\n"),
-    (70, 37, 1, Go, ""),
-    (58, 4, 0, Go, "38 coat\n"),
-    (8, 4, 0, Yes, ""),
-    (13, 1, 1, Yes, ""),
-];
+const REMOVING: &[Scene] = scenes! {
+    REMOVE 4 0 REFUSED => "50 coat\n";
+    REMOVE 0 0 REFUSED => "50 lamp\n";
+    REMOVE 5 0 REFUSED => "23 torch\n";
+    LET 37 0 GO, PLACE 1 253 GO, REMOVE 1 0 REFUSED => "41 sword\n";
+    PLACE 4 253 GO, ZERO 1 0 YES, REMOVE 4 0 LOOP_ENDED => "42 coat\n";
+    LET 37 1 GO, REMOVE 4 0 GO, CARRIED 4 0 YES, EQ 1 1 YES => "38 coat\n";
+};
 
-const PUTTING: [Step; 11] = [
-    (59, 0, BAG, Refused, "49 lamp\n"),
-    (59, 5, BAG, Refused, "28 torch\n"),
-    (64, 1, 253, Go, ""),
-    (59, 1, BAG, Refused, "24 sword\n"),
-    (59, COAT, BAG, Go, "44 coatbag51 coat\n"),
-    (24, COAT, BAG, Yes, ""),
-    (11, 1, 0, Yes, ""),
+const PUTTING: &[Scene] = scenes! {
+    PUTIN 0 BAG REFUSED => "49 lamp\n";
+    PUTIN 5 BAG REFUSED => "28 torch\n";
+    PLACE 1 253 GO, PUTIN 1 BAG REFUSED => "24 sword\n";
+    PUTIN COAT BAG GO, ISAT COAT BAG YES, ZERO 1 0 YES => "44 coatbag51 coat\n";
     // No object has the number of place 7.
-    (64, COAT, 254, Go, ""),
-    (59, COAT, 7, Go, "44 coat51 coat\n"),
-    (24, COAT, 7, Yes, ""),
-    (59, COAT, 7, Refused, "28 coat\n"),
-];
+    PLACE COAT 254 GO, PUTIN COAT 7 GO, ISAT COAT 7 YES => "44 coat51 coat\n";
+    PUTIN COAT 7 REFUSED => "28 coat\n";
+};
 
-const TAKING_OUT: [Step; 22] = [
-    (60, COAT, BAG, Refused, "25 coat\n"),
-    (60, 0, BAG, Refused, "45 lampbag51 lamp\n"),
-    (60, 0, 0, Refused, "45 lamplamp51 lamp\n"),
-    (60, 5, BAG, Refused, "52 torchbag51 torch\n"),
-    (60, 5, 7, Refused, "52 torch51 torch\n"),
+const TAKING_OUT: &[Scene] = scenes! {
+    TAKEOUT COAT BAG REFUSED => "25 coat\n";
+    TAKEOUT 0 BAG REFUSED => "45 lampbag51 lamp\n";
+    TAKEOUT 0 0 REFUSED => "45 lamplamp51 lamp\n";
+    TAKEOUT 5 BAG REFUSED => "52 torchbag51 torch\n";
+    TAKEOUT 5 7 REFUSED => "52 torch51 torch\n";
     // More weighs too much, but for what is held already.
-    (70, 52, 0, Go, ""),
-    (70, 37, 1, Go, ""),
-    (64, 1, BAG, Go, ""),
-    (60, 1, BAG, Refused, "43 sword\n"),
-    (64, 1, 7, Go, ""),
-    (60, 1, 7, Refused, "43 sword\n"),
-    (64, 1, BAG, Go, ""),
-    (64, BAG, 253, Go, ""),
-    (60, 1, BAG, LoopEnded, "27 sword\n"),
-    (24, 1, BAG, Yes, ""),
-    (70, 37, 2, Go, ""),
-    (60, 1, BAG, Go, "36 sword\n"),
-    (8, 1, 0, Yes, ""),
-    (64, 1, BAG, Go, ""),
-    (64, BAG, 254, Go, ""),
-    (70, 37, 3, Go, ""),
-    (60, 1, BAG, Go, "36 sword\n"),
-];
+    LET 52 0 GO, LET 37 1 GO, PLACE 1 BAG GO, TAKEOUT 1 BAG REFUSED => "43 sword\n";
+    PLACE 1 7 GO, TAKEOUT 1 7 REFUSED => "43 sword\n";
+    PLACE 1 BAG GO, PLACE BAG 253 GO, TAKEOUT 1 BAG LOOP_ENDED, ISAT 1 BAG YES => "27 sword\n";
+    LET 37 2 GO, TAKEOUT 1 BAG GO, CARRIED 1 0 YES => "36 sword\n";
+    PLACE 1 BAG GO, PLACE BAG 254 GO, LET 37 3 GO, TAKEOUT 1 BAG GO => "36 sword\n";
+};
 
 /// What the sentence means: the lamp or the torch, at the first place that has one of them.
-const GETTING_BY_NAME: [Step; 24] = [
-    (70, 34, 50, Go, ""),
-    (64, 5, 254, Go, ""),
-    (43, 0, 0, Go, "36 lamp\n"),
-    (43, 0, 0, Refused, "25 lamp\n"),
-    (70, 35, 3, Go, ""),
-    (43, 0, 0, Refused, "25 torch\n"),
-    (70, 35, 255, Go, ""),
-    (64, 0, 253, Go, ""),
-    (43, 0, 0, Refused, "25 torch\n"),
-    (62, 5, 0, Go, ""),
-    (43, 0, 0, Refused, "25 lamp\n"),
+const GETTING_BY_NAME: &[Scene] = scenes! {
+    LET 34 50 GO, PLACE 5 254 GO, AUTOG 0 0 GO => "36 lamp\n";
+    AUTOG 0 0 REFUSED => "25 lamp\n";
+    LET 35 3 GO, AUTOG 0 0 REFUSED => "25 torch\n";
+    LET 35 255 GO, PLACE 0 253 GO, AUTOG 0 0 REFUSED => "25 torch\n";
+    DESTROY 5 0 GO, AUTOG 0 0 REFUSED => "25 lamp\n";
     // Nothing is found here while the current location is none.
-    (62, 0, 0, Go, ""),
-    (70, 38, 252, Go, ""),
-    (70, 55, 77, Go, ""),
-    (43, 0, 0, Refused, "26 lamp\n"),
-    (13, 55, 77, Yes, ""),
+    DESTROY 0 0 GO, LET 38 252 GO, LET 55 77 GO, AUTOG 0 0 REFUSED, EQ 55 77 YES => "26 lamp\n";
     // No object of the game has the adjective 4 or the noun 60, and none is meant without a noun.
-    (70, 35, 4, Go, ""),
-    (43, 0, 0, Refused, "08 lamp\n"),
-    (70, 35, 255, Go, ""),
-    (70, 34, 60, Go, ""),
-    (43, 0, 0, Refused, "08 lamp\n"),
-    (70, 34, 255, Go, ""),
-    (64, POUCH, 254, Go, ""),
-    (43, 0, 0, Refused, "08 lamp\n"),
-];
+    LET 35 4 GO, AUTOG 0 0 REFUSED => "08 lamp\n";
+    LET 35 255 GO, LET 34 60 GO, AUTOG 0 0 REFUSED => "08 lamp\n";
+    LET 34 255 GO, PLACE POUCH 254 GO, AUTOG 0 0 REFUSED => "08 lamp\n";
+};
 
-const DROPPING_BY_NAME: [Step; 9] = [
-    (70, 34, 50, Go, ""),
-    (64, 5, 254, Go, ""),
-    (44, 0, 0, Go, "39 torch\n"),
-    (44, 0, 0, Refused, "49 lamp\n"),
-    (64, 5, 253, Go, ""),
-    (44, 0, 0, Refused, "24 torch\n"),
-    (64, 5, 1, Go, ""),
-    (64, 0, 1, Go, ""),
-    (44, 0, 0, Refused, "28 torch\n"),
-];
+const DROPPING_BY_NAME: &[Scene] = scenes! {
+    LET 34 50 GO, PLACE 5 254 GO, AUTOD 0 0 GO => "39 torch\n";
+    AUTOD 0 0 REFUSED => "49 lamp\n";
+    PLACE 5 253 GO, AUTOD 0 0 REFUSED => "24 torch\n";
+    PLACE 5 1 GO, PLACE 0 1 GO, AUTOD 0 0 REFUSED => "28 torch\n";
+};
 
-const WEARING_BY_NAME: [Step; 7] = [
-    (70, 34, 54, Go, ""),
-    (45, 0, 0, Go, "37 coat\n"),
-    (45, 0, 0, Refused, "29 coat\n"),
-    (64, COAT, 0, Go, ""),
-    (45, 0, 0, Refused, "49 coat\n"),
-    (64, COAT, 1, Go, ""),
-    (45, 0, 0, Refused, "28 coat\n"),
-];
+const WEARING_BY_NAME: &[Scene] = scenes! {
+    LET 34 54 GO, AUTOW 0 0 GO => "37 coat\n";
+    AUTOW 0 0 REFUSED => "29 coat\n";
+    PLACE COAT 0 GO, AUTOW 0 0 REFUSED => "49 coat\n";
+    PLACE COAT 1 GO, AUTOW 0 0 REFUSED => "28 coat\n";
+};
 
-const REMOVING_BY_NAME: [Step; 10] = [
-    (70, 34, 50, Go, ""),
-    (64, 0, 254, Go, ""),
-    (64, 5, 253, Go, ""),
-    (46, 0, 0, Refused, "41 torch\n"),
-    (64, 5, 0, Go, ""),
-    (46, 0, 0, Refused, "50 lamp\n"),
-    (64, 0, 1, Go, ""),
-    (46, 0, 0, Refused, "50 torch\n"),
-    (64, 5, 1, Go, ""),
-    (46, 0, 0, Refused, "23 torch\n"),
-];
+const REMOVING_BY_NAME: &[Scene] = scenes! {
+    LET 34 50 GO, PLACE 0 254 GO, PLACE 5 253 GO, AUTOR 0 0 REFUSED => "41 torch\n";
+    PLACE 5 0 GO, AUTOR 0 0 REFUSED => "50 lamp\n";
+    PLACE 0 1 GO, AUTOR 0 0 REFUSED => "50 torch\n";
+    PLACE 5 1 GO, AUTOR 0 0 REFUSED => "23 torch\n";
+};
 
-const PUTTING_BY_NAME: [Step; 6] = [
-    (70, 34, 54, Go, ""),
-    (47, BAG, 0, Go, "44 coatbag51 coat\n"),
-    (24, COAT, BAG, Yes, ""),
-    (47, BAG, 0, Refused, "28 coat\n"),
-    (70, 34, 60, Go, ""),
-    (47, BAG, 0, Refused, "08 coat\n"),
-];
+const PUTTING_BY_NAME: &[Scene] = scenes! {
+    LET 34 54 GO, AUTOP BAG 0 GO, ISAT COAT BAG YES => "44 coatbag51 coat\n";
+    AUTOP BAG 0 REFUSED => "28 coat\n";
+    LET 34 60 GO, AUTOP BAG 0 REFUSED => "08 coat\n";
+};
 
-const TAKING_OUT_BY_NAME: [Step; 10] = [
-    (70, 34, 50, Go, ""),
-    (64, 0, 254, Go, ""),
-    (64, 5, BAG, Go, ""),
-    (48, BAG, 0, Go, "36 torch\n"),
-    (48, BAG, 0, Refused, "25 lamp\n"),
-    (64, 0, 1, Go, ""),
-    (64, 5, 1, Go, ""),
-    (48, BAG, 0, Refused, "52 lampbag51 lamp\n"),
-    (70, 34, 60, Go, ""),
-    (48, BAG, 0, Refused, "08 lamp\n"),
-];
+const TAKING_OUT_BY_NAME: &[Scene] = scenes! {
+    LET 34 50 GO, PLACE 0 254 GO, PLACE 5 BAG GO, AUTOT BAG 0 GO => "36 torch\n";
+    AUTOT BAG 0 REFUSED => "25 lamp\n";
+    PLACE 0 1 GO, PLACE 5 1 GO, AUTOT BAG 0 REFUSED => "52 lampbag51 lamp\n";
+    LET 34 60 GO, AUTOT BAG 0 REFUSED => "08 lamp\n";
+};
 
-const REFERRING: [Step; 17] = [
-    (70, 34, 50, Go, ""),
-    (80, 0, 0, Go, ""),
-    (11, 51, 0, Yes, ""),
-    (64, 5, 253, Go, ""),
-    (80, 0, 0, Go, ""),
-    (13, 51, 5, Yes, ""),
-    (13, 54, 253, Yes, ""),
-    (13, 55, 4, Yes, ""),
-    (64, 0, 254, Go, ""),
-    (80, 0, 0, Go, ""),
-    (11, 51, 0, Yes, ""),
-    (13, 54, 254, Yes, ""),
-    (70, 34, 60, Go, ""),
-    (80, 0, 0, Go, ""),
-    (13, 51, 255, Yes, ""),
-    (13, 54, 252, Yes, ""),
-    (11, 55, 0, Yes, ""),
-];
+const REFERRING: &[Scene] = scenes! {
+    LET 34 50 GO, WHATO 0 0 GO, ZERO 51 0 YES => "";
+    PLACE 5 253 GO, WHATO 0 0 GO, EQ 51 5 YES, EQ 54 253 YES, EQ 55 4 YES => "";
+    PLACE 0 254 GO, WHATO 0 0 GO, ZERO 51 0 YES, EQ 54 254 YES => "";
+    LET 34 60 GO, WHATO 0 0 GO, EQ 51 255 YES, EQ 54 252 YES, ZERO 55 0 YES => "";
+};
 
 fn words(alloc: Global) -> Result<Vec<Word>, AllocError> {
     let mut words = Vec::new(alloc);
@@ -330,28 +206,7 @@ fn exits(alloc: Global) -> Result<Vec<Exits>, AllocError> {
     Ok(all)
 }
 
-/// Table 0 has one entry, of these condacts, and the others have none.
-fn tables(alloc: Global, steps: &[Step]) -> Result<Vec<Table>, AllocError> {
-    let mut rows = Vec::new(alloc);
-    for (code, a, b, _, _) in steps {
-        rows.push(Condact {
-            code: *code,
-            a: *a,
-            b: *b,
-        })?;
-    }
-    let mut entries = Vec::new(alloc);
-    entries.push(entry_of(rows))?;
-    let mut tables = Vec::new(alloc);
-    tables.push(Table { entries })?;
-    for _ in 1..3 {
-        let entries = Vec::new(alloc);
-        tables.push(Table { entries })?;
-    }
-    Ok(tables)
-}
-
-fn parts(alloc: Global, steps: &[Step]) -> Result<GameParts, AllocError> {
+fn parts(alloc: Global, scenes: &[Scene]) -> Result<GameParts, AllocError> {
     Ok(GameParts {
         words: words(alloc)?,
         system: system(alloc)?,
@@ -359,100 +214,28 @@ fn parts(alloc: Global, steps: &[Step]) -> Result<GameParts, AllocError> {
         objects: objects(alloc)?,
         locations: locations(alloc)?,
         exits: exits(alloc)?,
-        tables: tables(alloc, steps)?,
+        tables: tables(alloc, scenes)?,
     })
-}
-
-/// What an action tells.
-fn told_by(effect: Effect, drop_line: bool, cancel_loop: bool) -> Told {
-    match (effect, drop_line, cancel_loop) {
-        (Effect::Go, false, false) => Told::Go,
-        (Effect::Exit(true), true, false) => Told::Refused,
-        (Effect::Exit(true), true, true) => Told::LoopEnded,
-        _ => Told::Other,
-    }
-}
-
-/// Reads a condact of the game's entry.
-fn read<F: Fn(u8, u8) -> u8>(
-    rt: &impl Abort,
-    game: &Game,
-    world: &mut World,
-    routines: &Routines<F>,
-    piece: &mut Piece,
-    at: u8,
-) -> Told
-    requires game { IsOf game.now world.old }
-    requires rows { HaveRows F.Fn routines.now }
-    ensures game { IsOf game.now world.new }
-{
-    let Some(c) = game.condact(0, 0, at) else {
-        return Told::Other;
-    };
-    assert!(rt; world.draws() < 1_000);
-    if c.code > 28 {
-        let Act {
-            effect,
-            drop_line,
-            cancel_loop,
-        } = act(game, world, routines, piece, c);
-        return told_by(effect, drop_line, cancel_loop);
-    }
-    match test(game, world, c) {
-        Truth::Yes => Told::Yes,
-        Truth::No => Told::No,
-        Truth::Ask => Told::Other,
-    }
-}
-
-/// Reads these condacts, which are those of the game's entry, each in an empty piece.
-fn read_all<F: Fn(u8, u8) -> u8>(
-    rt: &impl Abort,
-    game: &Game,
-    world: &mut World,
-    routines: &Routines<F>,
-    piece: &mut Piece,
-    steps: &[Step],
-)
-    requires game { IsOf game.now world.old }
-    requires rows { HaveRows F.Fn routines.now }
-{
-    for (at, (code, a, b, told, printed)) in steps.iter().enumerate() {
-        assert!(rt; at < 255);
-        let found = read(rt, game, world, routines, piece, at as u8);
-        assert_eq!(rt; found, *told, "condact {at}: {code} {a} {b}");
-        assert_eq!(rt;
-            piece.bytes(),
-            printed.as_bytes(),
-            "condact {at}: {code} {a} {b}"
-        );
-        piece.clear();
-    }
-}
-
-/// Reads these condacts at the start of the game.
-fn run(rt: &impl Abort, alloc: Global, steps: &[Step], piece: &mut Piece) -> Result<(), Fail> {
-    let game = Game::new(parts(alloc, steps)?)?;
-    let mut world = opened(rt, alloc, &game)?;
-    let routines = Routines::new(0, |_, x| x);
-    read_all(rt, &game, &mut world, &routines, piece, steps);
-    Ok(())
 }
 
 #[test]
 fn actions_on_objects(rt: HostRuntime) -> Result<(), Fail> {
-    let mut piece = Piece::new(rt.alloc())?;
-    run(&rt, rt.alloc(), &GETTING, &mut piece)?;
-    run(&rt, rt.alloc(), &DROPPING, &mut piece)?;
-    run(&rt, rt.alloc(), &WEARING, &mut piece)?;
-    run(&rt, rt.alloc(), &REMOVING, &mut piece)?;
-    run(&rt, rt.alloc(), &PUTTING, &mut piece)?;
-    run(&rt, rt.alloc(), &TAKING_OUT, &mut piece)?;
-    run(&rt, rt.alloc(), &GETTING_BY_NAME, &mut piece)?;
-    run(&rt, rt.alloc(), &DROPPING_BY_NAME, &mut piece)?;
-    run(&rt, rt.alloc(), &WEARING_BY_NAME, &mut piece)?;
-    run(&rt, rt.alloc(), &REMOVING_BY_NAME, &mut piece)?;
-    run(&rt, rt.alloc(), &PUTTING_BY_NAME, &mut piece)?;
-    run(&rt, rt.alloc(), &TAKING_OUT_BY_NAME, &mut piece)?;
-    run(&rt, rt.alloc(), &REFERRING, &mut piece)
+    for scenes in [
+        GETTING,
+        DROPPING,
+        WEARING,
+        REMOVING,
+        PUTTING,
+        TAKING_OUT,
+        GETTING_BY_NAME,
+        DROPPING_BY_NAME,
+        WEARING_BY_NAME,
+        REMOVING_BY_NAME,
+        PUTTING_BY_NAME,
+        TAKING_OUT_BY_NAME,
+        REFERRING,
+    ] {
+        run(&rt, rt.alloc(), parts(rt.alloc(), scenes)?, scenes)?;
+    }
+    Ok(())
 }

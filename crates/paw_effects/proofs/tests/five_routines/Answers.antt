@@ -1,10 +1,10 @@
-use Rattle.std.proofs.Common.{arith, ◌<◌, ◌+◌, ◌%◌, rules, ℕ}
+use Rattle.std.proofs.Common.{arith, ◌<◌, ◌+◌, ◌*◌, ◌%◌, rules, ℕ}
 use Rattle.paw_routines.proofs.FunctionRows.{rows_of, stand_for}
 use Rattle.paw_effects.proofs.tests.five_routines.Goals as goal
 
 -- what each routine gives
 given : ℕ → ℕ → ℕ
-given n x = (x + n) % 256
+given n x = ((x * 2) % 256 + n) % 256
 
 given_small : (n x : ℕ) → given n x < 256
 unfolding given
@@ -12,4 +12,10 @@ given_small n x = omega arith
 
 pub new-routines-requires : goal.new-routines-requires
 unfolding given
-new-routines-requires g c = record { rows = (rows_of given 5, stand_for _ _ given 5 (λ n x below small. given_small n x) (λ n x below small. tt) (λ n x y below small byte called. search rules)) }
+new-routines-requires g c =
+    record {
+      rows = (
+        rows_of given 5,
+        stand_for _ _ given 5 (λ n x below small. given_small n x) (λ n x below small. tt) (λ n x y below small byte called. search rules),
+      );
+    }

@@ -2,13 +2,13 @@ use Rattle.std.proofs.Common.{◌≡◌, ◌++◌, None}
 use Rattle.paw_world.specs.inner.Places.{left_above}
 use Rattle.paw_effects.specs.Lists.{as_lines}
 use Rattle.paw_effects.specs.inner.Listing.{texts_above}
-use Rattle.paw_effects.proofs.lists.print_lines.Given as goal
+use Rattle.paw_effects.proofs.lists.ObjectList.print_lines.Given as goal
 
 -- what the piece holds, and the lines that are still to print, are the whole
 abbrev pub invariant-loop-o : goal.invariant-loop-o
 invariant-loop-o g l =
-    l.piece ++ as_lines (texts_above (g.T.Tables.game l.tables) l.world l.listed l.last)
-    ≡ l.fn.piece ++ as_lines (texts_above (g.T.Tables.game l.tables) l.world l.listed None)
+    l.piece ++ as_lines (texts_above l.self.game l.self.world l.self.listed l.last)
+    ≡ l.fn.piece ++ as_lines (texts_above l.self.game l.self.world l.self.listed None)
 
 abbrev pub decreases-loop-o : goal.decreases-loop-o
-decreases-loop-o g l = left_above l.world.places l.last
+decreases-loop-o g l = left_above l.self.world.places l.last

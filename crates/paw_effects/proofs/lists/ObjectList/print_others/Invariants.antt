@@ -2,13 +2,13 @@ use Rattle.std.proofs.Common.{◌≡◌, ◌++◌, Some}
 use Rattle.paw_world.specs.inner.Places.{left_above}
 use Rattle.paw_effects.specs.Lists.{others_joined}
 use Rattle.paw_effects.specs.inner.Listing.{texts_above}
-use Rattle.paw_effects.proofs.lists.print_others.Given as goal
+use Rattle.paw_effects.proofs.lists.ObjectList.print_others.Given as goal
 
 -- what the piece holds, and what is still to print of the sentence, are the whole
 abbrev pub invariant-loop-o : goal.invariant-loop-o
 invariant-loop-o g l =
-    l.piece ++ others_joined (texts_above (g.T.Tables.game l.tables) l.world l.listed (Some l.last))
-    ≡ l.fn.piece ++ others_joined (texts_above (g.T.Tables.game l.tables) l.world l.listed (Some l.first))
+    l.piece ++ others_joined (texts_above l.self.game l.self.world l.self.listed (Some l.last))
+    ≡ l.fn.piece ++ others_joined (texts_above l.self.game l.self.world l.self.listed (Some l.first))
 
 abbrev pub decreases-loop-o : goal.decreases-loop-o
-decreases-loop-o g l = left_above l.world.places (Some l.last)
+decreases-loop-o g l = left_above l.self.world.places (Some l.last)

@@ -1,6 +1,0 @@
-use Rattle.paw_effects.specs.Worlds.{IsOf}
-use Rattle.paw_effects.proofs.tests.object_actions.read_all.Given as goal
-
--- the world is the game's
-abbrev pub invariant-loop-at : goal.invariant-loop-at
-invariant-loop-at g l = IsOf l.game l.world
