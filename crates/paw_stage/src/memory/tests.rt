@@ -1,8 +1,7 @@
 // Runs of the stage in memory over its store.
 
-ghost use Rattle.std.specs.Prelude.{IfOk};
-ghost use Rattle.paw_stage.specs.Disk.{IsStable};
-ghost use Rattle.paw_stage.specs.inner.Memory.{standing_of};
+ghost use Rattle.std.specs.Prelude.{◌≡◌, IfOk};
+ghost use Rattle.paw_stage.specs.inner.Memory.{empty, with_file};
 
 use crate::{LoadRefusal, MemoryStage, Stage};
 use paw_base::fault::NoRoom;
@@ -17,7 +16,7 @@ fn with_file(
     name: &str,
     held: &[u8],
 ) -> Result<MemoryStage, NoRoom>
-    ensures { IfOk result (λ s. IsStable (standing_of s).disk) }
+    ensures { IfOk result (λ s. s ≡ with_file name.now held.now (empty calls bytes)) }
 {
     let mut stage = MemoryStage::new(alloc, calls, bytes)?;
     stage.add_file(name, held)?;
