@@ -46,7 +46,8 @@ module _ (k : ℕ) (draft : Draft) (kept : Option SlotState) (state bytes piece 
         ∙ (ap (stretch 4160 (length piece)) w ∙ written_piece draft.records draft.at bytes piece (slot k s.disk.bytes) long d.inside short h.few) in
         recover_made k t.disk.bytes (filled_made k s t f)
         ∙ (ap (λ x. slot_shows x (slot k t.disk.bytes)) (filled_digest k s t f)
-        ∙ (kept_shows (kept_digest s.disk.bytes) (slot k t.disk.bytes) draft.records state h ∙ ap (Shown (kept_digest s.disk.bytes) (take state_length state)) p))
+        ∙ (kept_shows (kept_digest s.disk.bytes) (slot k t.disk.bytes) draft.records state h
+        ∙ ap (Shown (kept_digest s.disk.bytes) (take state_length state)) p))
 
 -- the states of both slots afterwards
 pub committed_slots : (w : Slot) (x : Option SlotState) (old now : Room) (a b c : List ℕ) → KeepsSlots old a →

@@ -2,10 +2,11 @@
 use Rattle.std.proofs.Common.{◌≡◌, ℕ, ◌+◌, ◌-◌, ◌*◌, ◌%◌, ◌≤◌, ◌<◌, List, length, refl, sym, ap, subst, ◌∙◌, arith, get_or, ◌⊎◌, inl}
 use Rattle.paw_stage.specs.Disk.{Disk, put, stable, IsStable, touched}
 use Rattle.paw_stage.specs.Stage.{Standing, wrote}
-use Rattle.paw_stage.specs.Moments.{Moment, InWrite, InSync}
+use Rattle.paw_stage.specs.Moments.{Moment, Passes, InWrite, InSync}
+use Rattle.paw_stage.proofs.Time.{Passes_on}
 use Rattle.paw_journal.specs.Session.{recover, recover_by, is_version, slot, chosen, kept_digest, session_length, header_length, slot_length}
-use Rattle.paw_journal.specs.inner.Store.{InStore, Leaves}
-use Rattle.paw_journal.specs.inner.Steps.{IsMade, IsWithin, IsFilling}
+use Rattle.paw_journal.specs.inner.Store.{InStore, Leaves, LeavesSame}
+use Rattle.paw_journal.specs.inner.Steps.{IsMade, IsWithin, IsFilling, KeepsFilling}
 use Rattle.paw_journal.proofs.Parts.{stretch_same}
 use Rattle.paw_journal.proofs.Puts.{stretch_put, stretch_long, put_nothing}
 use Rattle.paw_journal.proofs.Recovers.{recover_is, recover_by_same}
@@ -76,6 +77,13 @@ in_filling_write k at a n s t m h e fits w =
 pub in_filling_sync : (k : ℕ) (s t : Standing) (m : Moment) → IsFilling k s t → InSync t m → InStore s (Leaves (λ r. r ≡ recover s.disk.bytes)) m
 in_filling_sync k s t m h w = in_moved_sync _ _ s t (λ r. r ≡ recover s.disk.bytes) m (moved k s t h)
     (λ d i. filling k s.disk.bytes d h.low h.made.long h.other i) w
+
+-- the moments of what is written to such a slot, and then of what follows
+pub parts_on : (k : ℕ) (s t : Standing) (x y z : ℕ) (p q r : ℕ → Moment → Type 0) → KeepsFilling k s t →
+    ((first : Standing) → IsFilling k first s → Passes x y p q (LeavesSame first)) →
+    ((first : Standing) → IsFilling k first t → Passes y z q r (LeavesSame first)) →
+    (first : Standing) → IsFilling k first s → Passes x z p r (LeavesSame first)
+parts_on k s t x y z p q r keeps one two first h = Passes_on _ _ _ _ _ _ _ _ (one first h) (two first (keeps first h)) (λ m i. i)
 
 -- the bytes of the slot itself
 pub wrote_slot : (k at a : ℕ) (new : List ℕ) (t u : Standing) → k < 2 → length t.disk.bytes ≡ session_length →

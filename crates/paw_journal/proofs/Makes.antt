@@ -5,16 +5,17 @@ use Rattle.std.proofs.lemmas.Bool.{cases_eq}
 use Rattle.std.proofs.lemmas.Bool.Decides.{nat_tests}
 use Rattle.std.proofs.lemmas.List.{length-append, length-drop, length-replicate, take_all, ext_get_or}
 use Rattle.paw_stage.specs.Disk.{Range, Disk, is_dirty, IsInWrite, put, IsStable, touched}
-use Rattle.paw_stage.specs.Stage.{Standing, wrote}
-use Rattle.paw_stage.specs.Moments.{Moment, InWrite, InSync}
+use Rattle.paw_stage.specs.Stage.{Standing, wrote, with_written}
+use Rattle.paw_stage.specs.Moments.{Moment, Passes, InWrite, InSync}
+use Rattle.paw_stage.proofs.Time.{Passes_map, Passes_on}
 use Rattle.paw_journal.specs.Session.{IsUnmade, recover, mark, zeros, made_mark, session_length}
 use Rattle.paw_journal.specs.inner.Session.{made_header}
-use Rattle.paw_journal.specs.inner.Store.{IsBeside, InStore, Leaves}
+use Rattle.paw_journal.specs.inner.Store.{IsBeside, InStore, Leaves, LeavesUnmade}
 use Rattle.paw_journal.specs.inner.Steps.{IsBlank, IsWithin}
 use Rattle.paw_journal.proofs.Parts.{put_below, put_end}
 use Rattle.paw_journal.proofs.Recovers.{unmade}
 use Rattle.paw_journal.proofs.Disks.{within_long, within_same}
-use Rattle.paw_journal.proofs.Moved.{beside_wrote, in_write, in_sync, in_later, moved_none, moved_wrote, in_moved_write, in_moved_sync}
+use Rattle.paw_journal.proofs.Moved.{beside_none, beside_on, beside_wrote, in_write, in_sync, in_later, moved_none, moved_wrote, in_moved_write, in_moved_sync}
 
 -- a store that can't be longer than one byte holds no session
 short_leaves : (d : Disk) → d.longest ≤ 1 → Leaves IsUnmade d
@@ -141,3 +142,27 @@ pub end_length : (at : ℕ) (new : List ℕ) (s t : Standing) (n c : ℕ) → at
 end_length at new s t n c e w = ap (λ x. length x.disk.bytes) w
     ∙ (ap length (put_end at new s.disk.bytes (sym e))
     ∙ (length-append s.disk.bytes new ∙ ap (λ k. k + length new) (sym e)))
+
+-- bytes written behind the end of such a store, and then others behind these
+module _ (a b : ℕ) (bytes : List ℕ) (s t : Standing) (blank : IsBlank s.disk.bytes s.disk) (low : 1 ≤ a)
+    (at : a ≡ length s.disk.bytes) (first : t ≡ with_written a bytes s) (next : b ≡ a + length bytes)
+  where
+    between : IsBlank t.disk.bytes t.disk
+    between = blank_end a bytes s t _ _ blank low at first
+
+    end : b ≡ length t.disk.bytes
+    end = next ∙ sym (end_length a bytes s t _ _ at first)
+
+    -- the moments of both writes
+    pub in_both_writes : (x y z : ℕ) (p q r : ℕ → Moment → Type 0) → Passes x y p q (InWrite s a (length bytes)) →
+        Passes y z q r (InWrite t b (length bytes)) → Passes x z p r (LeavesUnmade s)
+    in_both_writes x y z p q r one two =
+        Passes_on _ _ _ _ _ _ _ _
+        (Passes_map _ _ _ _ _ _ one (λ m. in_blank_write a _ s s m (beside_none s) blank low (omega (arith, at)))) two
+        (λ m. in_blank_write b _ s t m (beside_wrote _ _ _ _ first) between (omega (arith, low, next)) (omega (arith, end)))
+
+    -- and a moment of a sync behind them
+    pub in_sync_behind : (u : Standing) (m : Moment) → u ≡ with_written b bytes t → InSync u m → LeavesUnmade s m
+    in_sync_behind u m second w =
+        in_blank_sync s u m (beside_on s t u (beside_wrote _ _ _ _ first) (beside_wrote _ _ _ _ second))
+        (blank_end b bytes t u _ _ between (omega (arith, low, next)) end second) w

@@ -1,14 +1,14 @@
 -- How long a state and a piece are that bytes show.
 use Rattle.std.proofs.Common.{◌≡◌, ℕ, ◌-◌, ◌≤◌, Bool, true, false, List, ◌++◌, Option, Some, None, length, take, drop, refl, sym, ap, ◌∙◌, arith, get_or}
 use Rattle.std.specs.Prelude.{if◌then◌else◌, nat_le}
-use Rattle.std.proofs.lemmas.List.{length-append, length-take-le, length-drop, get_or-take, get_or_append_left}
+use Rattle.std.proofs.lemmas.List.{length-append, length-take-le, length-drop, get_or-take}
 use Rattle.paw_journal.specs.declared.refusal.SessionPart.TheVariants as part
 use Rattle.paw_journal.specs.Session.{Damaged, Shown, recover, chosen, kept_digest, slot, slot_shows, shown_unless, first_unsound, slot_changes, slot_state}
 use Rattle.paw_journal.specs.Session.{slot_piece, shown_state, is_second, two_byte_number, piece_length, most_changes, state_length, first_length, zeros}
 use Rattle.paw_journal.proofs.Makes.{length_zeros}
 use Rattle.paw_journal.proofs.Recovers.{shown_made, recover_is, recover_made}
 use Rattle.paw_journal.proofs.Fills.{slot_long}
-use Rattle.paw_journal.proofs.Slots.{state_long}
+use Rattle.paw_journal.proofs.Slots.{state_long, first_names}
 
 -- both forms of a state tell the piece's length where the slot's state tells it, and have as many bytes
 form_names : (b : Bool) (state : List ℕ) → length state ≡ 4096 →
@@ -17,15 +17,7 @@ form_names true state n =
     let a : get_or (take state_length state) 1369 0 ≡ get_or state 1369 0 = get_or-take 3419 state 1369 0 (omega arith) in
     let b : get_or (take state_length state) 1370 0 ≡ get_or state 1370 0 = get_or-take 3419 state 1370 0 (omega arith) in
     omega (arith, a, b)
-form_names false state n =
-    let l : length (take first_length state) ≡ 1371 = length-take-le 1371 state (omega arith) in
-    let a : get_or (take first_length state ++ zeros 2048) 1369 0 ≡ get_or state 1369 0 =
-    get_or_append_left (take first_length state) (zeros 2048) 0 1369 (omega arith)
-    ∙ get_or-take 1371 state 1369 0 (omega arith) in
-    let b : get_or (take first_length state ++ zeros 2048) 1370 0 ≡ get_or state 1370 0 =
-    get_or_append_left (take first_length state) (zeros 2048) 0 1370 (omega arith)
-    ∙ get_or-take 1371 state 1370 0 (omega arith) in
-    omega (arith, a, b)
+form_names false state n = first_names 2048 state n
 
 form_long : (b : Bool) (state : List ℕ) → length state ≡ 4096 → length (if b then take state_length state else take first_length state ++ zeros 2048) ≡ 3419
 form_long true state n = length-take-le 3419 state (omega arith)

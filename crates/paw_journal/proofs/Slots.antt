@@ -167,14 +167,15 @@ brought_shown state n =
     ap (λ k. take (k + 2048) (take first_length state ++ replicate 2725 0)) (sym l)
     ∙ (take-append-add (take first_length state) (replicate 2725 0) 2048 ∙ ap (λ z. take first_length state ++ z) (take-replicate 2048 2725 0 (omega arith)))
 
-brought_names : (state : List ℕ) → length state ≡ 4096 → piece_length (take first_length state ++ zeros 2725) ≡ piece_length state
-brought_names state n =
+-- it tells the piece's length, whatever number of zeros stands behind it
+pub first_names : (count : ℕ) (state : List ℕ) → length state ≡ 4096 → piece_length (take first_length state ++ zeros count) ≡ piece_length state
+first_names count state n =
     let l : length (take first_length state) ≡ 1371 = length-take-le 1371 state (omega arith) in
-    let a : get_or (take first_length state ++ zeros 2725) 1369 0 ≡ get_or state 1369 0 =
-    get_or_append_left (take first_length state) (zeros 2725) 0 1369 (omega arith)
+    let a : get_or (take first_length state ++ zeros count) 1369 0 ≡ get_or state 1369 0 =
+    get_or_append_left (take first_length state) (zeros count) 0 1369 (omega arith)
     ∙ get_or-take 1371 state 1369 0 (omega arith) in
-    let b : get_or (take first_length state ++ zeros 2725) 1370 0 ≡ get_or state 1370 0 =
-    get_or_append_left (take first_length state) (zeros 2725) 0 1370 (omega arith)
+    let b : get_or (take first_length state ++ zeros count) 1370 0 ≡ get_or state 1370 0 =
+    get_or_append_left (take first_length state) (zeros count) 0 1370 (omega arith)
     ∙ get_or-take 1371 state 1370 0 (omega arith) in
     omega (arith, a, b)
 
@@ -224,7 +225,7 @@ module _ (w : Slot) (kept : SlotState) (old shown now : Room) (n : length old.sl
         let b : now.piece ≡ stretch 4160 (piece_length state) old.slot = ap (λ r. r.piece) f ∙ (piece_stays w None shown ∙ ap (λ r. r.piece) s) in
         let c : take state_length now.state ≡ take first_length (slot_state old.slot) ++ zeros 2048 =
         ap (take state_length) (a ∙ st) ∙ brought_shown (slot_state old.slot) long in
-        let p : now.piece ≡ slot_piece old.slot = b ∙ ap (λ m. stretch 4160 m old.slot) (ap piece_length st ∙ brought_names (slot_state old.slot) long) in
+        let p : now.piece ≡ slot_piece old.slot = b ∙ ap (λ m. stretch 4160 m old.slot) (ap piece_length st ∙ first_names 2725 (slot_state old.slot) long) in
         sound_shows digest old.slot t
         ∙ (ap (λ x. Shown digest (if x then take state_length (slot_state old.slot) else take first_length
         (slot_state old.slot) ++ zeros 2048) (slot_piece old.slot)) e

@@ -82,6 +82,27 @@ fn sessions<S: Stage>(stage: &mut S, room: &mut Room) -> u8
     }
 }
 
+// The bytes of a store in which a session was made and committed to twice.
+fn whole_session(alloc: Global, room: &mut Room) -> Result<Vec<u8>, Fail> {
+    let mut stage = memory(alloc, b"")?;
+    if sessions(&mut stage, room) != 3 {
+        return Err(Fail::from("sessions"));
+    }
+    Ok(stage.crash(alloc, 1)?)
+}
+
+// These bytes, with other ones at some places.
+fn with_bytes(alloc: Global, whole: &[u8], changes: &[(usize, u8)]) -> Result<Vec<u8>, Fail> {
+    let mut bytes = Vec::from_slice(alloc, whole)?;
+    for &(place, byte) in changes {
+        if place >= bytes.len() {
+            return Err(Fail::from("place"));
+        }
+        bytes[place] = byte;
+    }
+    Ok(bytes)
+}
+
 // Finds the session in a store that has these bytes: the first byte of its state, and the length of its piece.
 fn found(
     alloc: Global,
@@ -104,27 +125,24 @@ fn a_crash_leaves_the_prompt_before_or_the_one_after(rt: HostRuntime) -> Result<
     let unmade = None;
     let (first, second, third) = (Some((0, 5)), Some((1, 0)), Some((2, 8)));
     let mut room = Room::new(rt.alloc())?;
-    // The calls that pass, what they do, and what a search finds after a crash with each pick.
-    for (passes, done, left) in [
-        (0, 0, [unmade, unmade, unmade]),
-        (1, 0, [unmade, unmade, unmade]),
-        (3, 0, [unmade, unmade, unmade]),
-        (7, 0, [unmade, unmade, unmade]),
-        (8, 0, [unmade, first, unmade]),
-        (9, 1, [first, first, first]),
-        (12, 1, [first, first, first]),
-        (13, 1, [first, second, second]),
-        (14, 2, [second, second, second]),
-        (18, 2, [second, second, second]),
-        (19, 2, [second, third, second]),
-        (20, 3, [third, third, third]),
+    // How many calls pass, at least and at most; what they do, and what a search finds after a crash with each pick.
+    for (least, most, done, left) in [
+        (0, 7, 0, [unmade, unmade, unmade]),
+        (8, 8, 0, [unmade, first, unmade]),
+        (9, 12, 1, [first, first, first]),
+        (13, 13, 1, [first, second, second]),
+        (14, 18, 2, [second, second, second]),
+        (19, 19, 2, [second, third, second]),
+        (20, 21, 3, [third, third, third]),
     ] {
-        let mut stage = StopStage::new(memory(rt.alloc(), b"")?, passes);
-        assert_eq!(rt; sessions(&mut stage, &mut room), done, "{passes}");
-        for pick in 0..3u8 {
-            let bytes = stage.inner().crash(rt.alloc(), pick)?;
-            let seen = found(rt.alloc(), bytes.as_slice(), &mut room, &GAME)?;
-            assert_eq!(rt; seen.ok(), left[pick as usize], "{passes} {pick}");
+        for passes in least..=most {
+            let mut stage = StopStage::new(memory(rt.alloc(), b"")?, passes);
+            assert_eq!(rt; sessions(&mut stage, &mut room), done, "{passes}");
+            for pick in 0..3u8 {
+                let bytes = stage.inner().crash(rt.alloc(), pick)?;
+                let seen = found(rt.alloc(), bytes.as_slice(), &mut room, &GAME)?;
+                assert_eq!(rt; seen.ok(), left[pick as usize], "{passes} {pick}");
+            }
         }
     }
     Ok(())
@@ -133,9 +151,7 @@ fn a_crash_leaves_the_prompt_before_or_the_one_after(rt: HostRuntime) -> Result<
 #[test]
 fn the_first_broken_rule_is_named(rt: HostRuntime) -> Result<(), Fail> {
     let mut room = Room::new(rt.alloc())?;
-    let mut stage = memory(rt.alloc(), b"")?;
-    assert_eq!(rt; sessions(&mut stage, &mut room), 3);
-    let whole = stage.crash(rt.alloc(), 1)?;
+    let whole = whole_session(rt.alloc(), &mut room)?;
     assert_eq!(rt; whole.len(), 172_288);
     let damaged = |part, at| Err(JournalRefusal::Damaged { part, at });
     // Bytes that are changed, and what is found. Slot 0 is chosen, and begins at 128.
@@ -175,11 +191,7 @@ fn the_first_broken_rule_is_named(rt: HostRuntime) -> Result<(), Fail> {
         ),
         ([(128, 1), (69_827, 0), (69_829, 0x10)], Ok((2, 5))),
     ] {
-        let mut bytes = Vec::from_slice(rt.alloc(), whole.as_slice())?;
-        for (place, byte) in changes {
-            assert!(rt; place < bytes.len());
-            bytes[place] = byte;
-        }
+        let bytes = with_bytes(rt.alloc(), whole.as_slice(), &changes)?;
         assert_eq!(rt;
             found(rt.alloc(), bytes.as_slice(), &mut room, &GAME)?,
             expected
@@ -191,9 +203,7 @@ fn the_first_broken_rule_is_named(rt: HostRuntime) -> Result<(), Fail> {
 #[test]
 fn other_stores_hold_no_session_of_the_game(rt: HostRuntime) -> Result<(), Fail> {
     let mut room = Room::new(rt.alloc())?;
-    let mut stage = memory(rt.alloc(), b"")?;
-    assert_eq!(rt; sessions(&mut stage, &mut room), 3);
-    let whole = stage.crash(rt.alloc(), 1)?;
+    let whole = whole_session(rt.alloc(), &mut room)?;
     let other = [8; 32];
     let unmade = |length, mark| Err(JournalRefusal::Unmade { length, mark });
     assert_eq!(rt; found(rt.alloc(), b"", &mut room, &GAME)?, unmade(0, 0));
@@ -320,11 +330,7 @@ fn a_slot_without_a_state_is_written_whole(rt: HostRuntime) -> Result<(), Fail> 
     let whole = stage.crash(rt.alloc(), 0)?;
     // Slot 0, which begins at 128, isn't chosen: with 5,000 change records, and with one that isn't sound.
     for changes in [[(128, 0x88), (129, 0x13)], [(128, 1), (69_827, 1)]] {
-        let mut bytes = Vec::from_slice(rt.alloc(), whole.as_slice())?;
-        for (place, byte) in changes {
-            assert!(rt; place < bytes.len());
-            bytes[place] = byte;
-        }
+        let bytes = with_bytes(rt.alloc(), whole.as_slice(), &changes)?;
         let mut stage = memory(rt.alloc(), bytes.as_slice())?;
         assert!(rt; takes_up(&mut stage, &mut room, 1));
         assert_eq!(rt; stage.written(), 4_096 + 3 + 4);
@@ -339,16 +345,12 @@ fn a_slot_without_a_state_is_written_whole(rt: HostRuntime) -> Result<(), Fail> 
 
 // The bytes of a session as it was made and played once in version 1: no slot tells a version, and anything may stand
 // behind the states.
-fn first_version(alloc: Global, room: &mut Room) -> Result<Vec<u8>, NoRoom> {
+fn first_version(alloc: Global, room: &mut Room) -> Result<Vec<u8>, Fail> {
     let mut stage = memory(alloc, b"")?;
     plays(&mut stage, room, 1, 1);
-    let mut bytes = stage.crash(alloc, 0)?;
-    for (place, byte) in [(2, 1), (130, 0), (86_210, 0), (1_563, 7), (87_643, 9)] {
-        if place < bytes.len() {
-            bytes[place] = byte;
-        }
-    }
-    Ok(bytes)
+    let bytes = stage.crash(alloc, 0)?;
+    let changes = [(2, 1), (130, 0), (86_210, 0), (1_563, 7), (87_643, 9)];
+    with_bytes(alloc, bytes.as_slice(), &changes)
 }
 
 #[test]

@@ -3,10 +3,11 @@ use Rattle.std.proofs.Common.{◌≡◌, ◌≢◌, ◌⊎◌, ℕ, List, [], �
 use Rattle.std.specs.Prelude.{Option, Some, None, if◌then◌else◌, Bool, true, false}
 use Rattle.std.specs.Str.{bytes_eq}
 use Rattle.std.proofs.lemmas.Slice.Eq.{bytes_eq-Decides}
-use Rattle.paw_stage.specs.Disk.{Disk, MayLeave, put, stable}
+use Rattle.paw_stage.specs.Disk.{Disk, put, stable}
 use Rattle.paw_stage.specs.Stage.{Standing, Saves, bytes_or_none, opened}
 use Rattle.paw_stage.specs.Moments.{Moment, Passes, InAsk, InSave, InAttach, InWrite, InSync}
-use Rattle.paw_stage.specs.inner.Done.{DoneCall, fresh, step_done, after, filed, is_attached, saved, attached_store, wrote_store, synced_store}
+use Rattle.paw_stage.specs.inner.Done.{DoneCall, fresh, step_done, after, filed, is_attached, saved, attached_store}
+use Rattle.paw_stage.specs.inner.Done.{wrote_store, synced_store}
 use Rattle.paw_stage.specs.inner.Replay.{MayStand, StandsInside, since_of}
 use Rattle.paw_stage.specs.declared.log.Kind.{Kind}
 use Rattle.paw_stage.specs.declared.log.Kind.TheVariants as kind
@@ -61,91 +62,54 @@ saves s new name bytes e =
       stands = e;
     }
 
+-- what may stand inside each call is what the stage allows there
 pub in_save : (old : Standing) (name bytes : List ℕ) (m : Moment) → StandsInside old (saved name bytes) m → InSave old name m
 in_save old name bytes m (inl e) =
-    record {
-      asked = ap (λ x. x.asked) e;
-      shown = ap (λ x. x.shown) e;
-      attached = ap (λ x. x.attached) e;
-      files =
-          inl (ap (λ x. x.files) e);
-      disk = λ ne. ap (λ x. x.disk) e;
-    }
+    subst (λ x. InSave old name x) (sym e)
+    (record { asked = refl; shown = refl; attached = refl; files = inl refl; disk = λ ne. refl })
 in_save old name bytes m (inr h) =
-    record {
-      asked = ap (λ x. x.asked) h.1;
-      shown = ap (λ x. x.shown) h.1;
-      attached = ap (λ x. x.attached) h.1;
-      files = inr (h.0, ap (λ x. x.files) h.1);
-      disk = λ ne. ap (λ x. x.disk) h.1 ∙ not_attached old.attached name (stable (bytes_or_none h.0)) old.disk ne;
-    }
+    subst (λ x. InSave old name x) (sym h.1)
+    (record {
+      asked = refl;
+      shown = refl;
+      attached = refl;
+      files = inr (h.0, refl);
+      disk = λ ne. not_attached old.attached name (stable (bytes_or_none h.0)) old.disk ne;
+    })
 
 pub in_attach : (old new : Standing) (name : List ℕ) (m : Moment) → new.attached ≡ (opened name old).attached →
     new.disk ≡ (opened name old).disk → StandsInside old (attached_store name) m → InAttach old new name m
 in_attach old new name m ea ed (inl e) =
-    record {
-      asked = ap (λ x. x.asked) e;
-      shown = ap (λ x. x.shown) e;
-      files = inr (ap (λ x. x.files) e);
-      store =
-          inl (ap (λ x. x.attached) e, ap (λ x. x.disk) e);
-    }
+    subst (λ x. InAttach old new name x) (sym e)
+    (record { asked = refl; shown = refl; files = inr refl; store = inl (refl, refl) })
 in_attach old new name m ea ed (inr (inl e)) =
-    record {
-      asked = ap (λ x. x.asked) e;
-      shown = ap (λ x. x.shown) e;
-      files = inl (ap (λ x. x.files) e);
-      store =
-          inl (ap (λ x. x.attached) e, ap (λ x. x.disk) e);
-    }
+    subst (λ x. InAttach old new name x) (sym e)
+    (record { asked = refl; shown = refl; files = inl refl; store = inl (refl, refl) })
 in_attach old new name m ea ed (inr (inr e)) =
-    record {
-      asked = ap (λ x. x.asked) e;
-      shown = ap (λ x. x.shown) e;
-      files = inr (ap (λ x. x.files) e);
-      store =
-          inr (ap (λ x. x.attached) e ∙ sym ea, ap (λ x. x.disk) e ∙ sym ed);
-    }
+    subst (λ x. InAttach old new name x) (sym e)
+    (record { asked = refl; shown = refl; files = inr refl; store = inr (sym ea, sym ed) })
 
 pub in_write : (old : Standing) (at : ℕ) (bytes : List ℕ) (m : Moment) → StandsInside old (wrote_store at bytes) m → InWrite old at (length bytes) m
 in_write old at bytes m (inl e) =
-    record {
-      asked = ap (λ x. x.asked) e;
-      shown = ap (λ x. x.shown) e;
-      attached = ap (λ x. x.attached) e;
-      files =
-          inl (ap (λ x. x.files) e);
-      disk = inl (ap (λ x. x.disk) e);
-    }
+    subst (λ x. InWrite old at (length bytes) x) (sym e)
+    (record { asked = refl; shown = refl; attached = refl; files = inl refl; disk = inl refl })
 in_write old at bytes m (inr h) =
-    record {
-      asked = ap (λ x. x.asked) h.2;
-      shown = ap (λ x. x.shown) h.2;
-      attached = ap (λ x. x.attached) h.2;
-      files = inr (put at h.0 old.disk.bytes, ap (λ x. x.files) h.2);
-      disk = inr (h.0, h.1, ap (λ x. x.disk) h.2);
-    }
+    subst (λ x. InWrite old at (length bytes) x) (sym h.2)
+    (record {
+      asked = refl;
+      shown = refl;
+      attached = refl;
+      files = inr (put at h.0 old.disk.bytes, refl);
+      disk = inr (h.0, h.1, refl);
+    })
 
 pub in_sync : (old : Standing) (m : Moment) → IsDisk old.disk → StandsInside old synced_store m → InSync old m
 in_sync old m k (inl e) =
-    record {
-      asked = ap (λ x. x.asked) e;
-      shown = ap (λ x. x.shown) e;
-      attached = ap (λ x. x.attached) e;
-      files =
-          ap (λ x. x.files) e;
-      disk = λ image l. subst (λ d. MayLeave d image) (ap (λ x. x.disk) e) l;
-    }
+    subst (λ x. InSync old x) (sym e)
+    (record { asked = refl; shown = refl; attached = refl; files = refl; disk = λ image l. l })
 in_sync old m k (inr e) =
-    record {
-      asked = ap (λ x. x.asked) e;
-      shown = ap (λ x. x.shown) e;
-      attached = ap (λ x. x.attached) e;
-      files =
-          ap (λ x. x.files) e;
-      disk = λ image l. synced_leaves old.disk k image
-          (subst (λ d. MayLeave d image) (ap (λ x. x.disk) e) l);
-    }
+    subst (λ x. InSync old x) (sym e)
+    (record { asked = refl; shown = refl; attached = refl; files = refl; disk = λ image l. synced_leaves old.disk k image l })
 
 -- the disk that the calls of a stage leave
 pub is_disk : (m : Memory) → IsDisk (standing_of m).disk

@@ -1,7 +1,7 @@
 // A count of faults for each call, kept by every stage.
 
-ghost use Rattle.std.specs.Prelude.{◌≡◌, OnOk, OnErr, Some};
-ghost use Rattle.paw_stage.specs.inner.Faults.{count_of, no_faults, raised};
+ghost use Rattle.std.specs.Prelude.{◌≡◌, Some};
+ghost use Rattle.paw_stage.specs.inner.Faults.{count_of, no_faults, raised, counted};
 ghost use Rattle.paw_stage.specs.Stage.{Faulted, failed_in};
 
 use crate::{Failed, StageCall};
@@ -59,8 +59,7 @@ impl FaultCounts {
     /// Counts one more fault of a call where it failed, and hands on what it answered.
     pub fn answered<T>(&mut self, call: StageCall, answer: Result<T, Failed>) -> Result<T, Failed>
         ensures same { result ≡ answer }
-        ensures fine { OnOk result (self.new ≡ self.old) }
-        ensures raised { OnErr result (self.new ≡ raised call self.old) }
+        ensures counted { self.new ≡ counted (failed_in call result) self.old }
         ensures faulted { Faulted (failed_in call result) (count_of self.old) (count_of self.new) }
     {
         if answer.is_err() {

@@ -1,7 +1,7 @@
 // A stage in memory.
 
 ghost use Rattle.std.specs.Prelude.{◌≡◌, ◌≤◌, ◌+◌, ◌↔◌, [], List, ℕ, length, min, IsFalse, IfOk, OnOk, OnErr, IsSome};
-ghost use Rattle.std.specs.Prelude.{IsErr, None};
+ghost use Rattle.std.specs.Prelude.{None};
 ghost use Rattle.std.proofs.Common.{inl, refl};
 ghost use Rattle.paw_stage.specs.declared.StageCall.TheVariants as call;
 ghost use Rattle.paw_stage.specs.declared.LoadRefusal.TheVariants as refusal;
@@ -17,7 +17,7 @@ ghost use Rattle.paw_stage.specs.inner.Done.{loaded_file, saved, attached_store,
 ghost use Rattle.paw_stage.specs.inner.Done.{wrote_store, synced_store, took};
 ghost use Rattle.paw_stage.specs.inner.Done.{end_done, showed};
 ghost use Rattle.paw_stage.specs.inner.Memory.{empty, standing_of, clock_of, moments_of, only_moment, Throughout};
-ghost use Rattle.paw_stage.specs.inner.Memory.{can_note, recorded, failed, found_none};
+ghost use Rattle.paw_stage.specs.inner.Memory.{can_note, recorded, failed, Notes, found_none};
 ghost use Rattle.paw_stage.specs.inner.Memory.{line_taken, with_file, with_line_left};
 
 use crate::log::{Kind, Log};
@@ -161,11 +161,7 @@ impl Stage for MemoryStage {
         ensures faulted { Faulted (failed_in call.Save result) (count_of self.old.counts) (count_of self.new.counts) }
         ensures answer { SavesTo (standing_of self.old) (standing_of self.new) name.now bytes.now result }
         ensures time { Throughout self.old self.new (λ s. InSave s name.now) }
-
-        // It fails exactly for want of room, and leaves no trace then but its count.
-        ensures exact { IsErr result ↔ IsFalse (can_note (saved name.now bytes.now) self.old) }
-        ensures failed { OnErr result (self.new ≡ failed call.Save self.old) }
-        ensures noted { OnOk result (self.new ≡ recorded (saved name.now bytes.now) self.old) }
+        ensures noted { Notes call.Save (saved name.now bytes.now) result self.old self.new }
     {
         if !self.log.add(Kind::Save, name.as_bytes(), bytes) {
             self.counts.raise(StageCall::Save);
@@ -179,11 +175,7 @@ impl Stage for MemoryStage {
         ensures faulted { Faulted (failed_in call.Attach result) (count_of self.old.counts) (count_of self.new.counts) }
         ensures answer { AttachesTo (standing_of self.old) (standing_of self.new) name.now result }
         ensures time { Throughout self.old self.new (λ s. InAttach s (standing_of self.new) name.now) }
-
-        // It fails exactly for want of room, and leaves no trace then but its count.
-        ensures exact { IsErr result ↔ IsFalse (can_note (attached_store name.now) self.old) }
-        ensures failed { OnErr result (self.new ≡ failed call.Attach self.old) }
-        ensures noted { OnOk result (self.new ≡ recorded (attached_store name.now) self.old) }
+        ensures noted { Notes call.Attach (attached_store name.now) result self.old self.new }
     {
         if !self.log.add(Kind::Attach, name.as_bytes(), &[]) {
             self.counts.raise(StageCall::Attach);
@@ -199,11 +191,7 @@ impl Stage for MemoryStage {
         ensures still { standing_of self.new ≡ standing_of self.old }
         ensures answer { ReadsTo (standing_of self.old) at (length into.old) into.new result }
         ensures time { Throughout self.old self.new Still }
-
-        // It fails exactly for want of room, and leaves no trace then but its count.
-        ensures exact { IsErr result ↔ IsFalse (can_note read_store self.old) }
-        ensures failed { OnErr result (self.new ≡ failed call.Read self.old) }
-        ensures noted { OnOk result (self.new ≡ recorded read_store self.old) }
+        ensures noted { Notes call.Read read_store result self.old self.new }
     {
         if !self.log.add(Kind::Read, &[], &[]) {
             self.counts.raise(StageCall::Read);
@@ -219,11 +207,7 @@ impl Stage for MemoryStage {
         ensures faulted { Faulted (failed_in call.Write result) (count_of self.old.counts) (count_of self.new.counts) }
         ensures answer { WritesTo (standing_of self.old) (standing_of self.new) at bytes.now result }
         ensures time { Throughout self.old self.new (λ s. InWrite s at (length bytes.now)) }
-
-        // It fails exactly for want of room, and leaves no trace then but its count.
-        ensures exact { IsErr result ↔ IsFalse (can_note (wrote_store at bytes.now) self.old) }
-        ensures failed { OnErr result (self.new ≡ failed call.Write self.old) }
-        ensures noted { OnOk result (self.new ≡ recorded (wrote_store at bytes.now) self.old) }
+        ensures noted { Notes call.Write (wrote_store at bytes.now) result self.old self.new }
     {
         if !self.log.add(Kind::Write(at), &[], bytes) {
             self.counts.raise(StageCall::Write);
@@ -236,11 +220,7 @@ impl Stage for MemoryStage {
         ensures faulted { Faulted (failed_in call.Sync result) (count_of self.old.counts) (count_of self.new.counts) }
         ensures answer { SyncsTo (standing_of self.old) (standing_of self.new) result }
         ensures time { Throughout self.old self.new InSync }
-
-        // It fails exactly for want of room, and leaves no trace then but its count.
-        ensures exact { IsErr result ↔ IsFalse (can_note synced_store self.old) }
-        ensures failed { OnErr result (self.new ≡ failed call.Sync self.old) }
-        ensures noted { OnOk result (self.new ≡ recorded synced_store self.old) }
+        ensures noted { Notes call.Sync synced_store result self.old self.new }
     {
         if !self.log.add(Kind::Sync, &[], &[]) {
             self.counts.raise(StageCall::Sync);
@@ -279,11 +259,7 @@ impl Stage for MemoryStage {
         ensures faulted { Faulted (failed_in call.Show result) (count_of self.old.counts) (count_of self.new.counts) }
         ensures answer { ShowsTo (standing_of self.old) (standing_of self.new) text.now result }
         ensures time { Throughout self.old self.new (λ s. InShow s text.now) }
-
-        // It fails exactly for want of room, and leaves no trace then but its count.
-        ensures exact { IsErr result ↔ IsFalse (can_note (showed text.now) self.old) }
-        ensures failed { OnErr result (self.new ≡ failed call.Show self.old) }
-        ensures noted { OnOk result (self.new ≡ recorded (showed text.now) self.old) }
+        ensures noted { Notes call.Show (showed text.now) result self.old self.new }
     {
         if !self.log.add(Kind::Show, &[], text) {
             self.counts.raise(StageCall::Show);

@@ -1,11 +1,9 @@
 // Real files and the standard streams as a stage.
 
-ghost use Rattle.std.specs.Prelude.{◌≡◌, ◌≢◌, OnOk, OnErr};
+ghost use Rattle.std.specs.Prelude.{◌≡◌};
 ghost use Rattle.paw_stage.specs.declared.StageCall.TheVariants as call;
-ghost use Rattle.paw_stage.specs.declared.LoadRefusal.TheVariants as refusal;
-ghost use Rattle.paw_stage.specs.declared.Asked.TheVariants as asked;
 ghost use Rattle.paw_stage.specs.Stage.{Faulted, failed_in, failed_load, failed_ask};
-ghost use Rattle.paw_stage.specs.inner.Faults.{count_of, no_faults, raised};
+ghost use Rattle.paw_stage.specs.inner.Faults.{count_of, no_faults, counted};
 ghost use Rattle.paw_stage.specs.inner.Done.{fresh};
 
 use crate::files::{open_store, read_file, read_part, sync_bytes, write_file, write_part};
@@ -77,10 +75,7 @@ impl<R: Files + Input + Print + Drop> Stage for RealStage<R> {
         ensures faulted { Faulted (failed_load result) (count_of self.old) (count_of self.new) }
 
         // A count rises exactly at a failure.
-        ensures counted_absent { result ≡ Err refusal.Absent → self.new ≡ raised call.LoadAbsent self.old }
-        ensures counted { result ≡ Err refusal.Failed → self.new ≡ raised call.Load self.old }
-        ensures memory { result ≡ Err refusal.Memory → self.new ≡ self.old }
-        ensures fine { OnOk result (self.new ≡ self.old) }
+        ensures counted { self.new ≡ counted (failed_load result) self.old }
     {
         let loaded = read_file(&self.rt, alloc, name, most);
         match loaded {
@@ -96,8 +91,7 @@ impl<R: Files + Input + Print + Drop> Stage for RealStage<R> {
         ensures faulted { Faulted (failed_in call.Save result) (count_of self.old) (count_of self.new) }
 
         // A count rises exactly at a failure.
-        ensures counted { OnErr result (self.new ≡ raised call.Save self.old) }
-        ensures fine { OnOk result (self.new ≡ self.old) }
+        ensures counted { self.new ≡ counted (failed_in call.Save result) self.old }
     {
         let saved = write_file(&self.rt, name, bytes);
         self.counts.answered(StageCall::Save, saved)
@@ -107,8 +101,7 @@ impl<R: Files + Input + Print + Drop> Stage for RealStage<R> {
         ensures faulted { Faulted (failed_in call.Attach result) (count_of self.old) (count_of self.new) }
 
         // A count rises exactly at a failure.
-        ensures counted { OnErr result (self.new ≡ raised call.Attach self.old) }
-        ensures fine { OnOk result (self.new ≡ self.old) }
+        ensures counted { self.new ≡ counted (failed_in call.Attach result) self.old }
     {
         let opened = open_store(&self.rt, name);
         let (file, length) = self.counts.answered(StageCall::Attach, opened)?;
@@ -120,13 +113,10 @@ impl<R: Files + Input + Print + Drop> Stage for RealStage<R> {
         ensures faulted { Faulted (failed_in call.Read result) (count_of self.old) (count_of self.new) }
 
         // A count rises exactly at a failure.
-        ensures counted { OnErr result (self.new ≡ raised call.Read self.old) }
-        ensures fine { OnOk result (self.new ≡ self.old) }
+        ensures counted { self.new ≡ counted (failed_in call.Read result) self.old }
     {
-        let read = match &mut self.store {
-            Some(file) => read_part(file, at, into),
-            None => Err(Failed),
-        };
+        let store = self.store.as_mut();
+        let read = store.map_or(Err(Failed), |file| read_part(file, at, into));
         self.counts.answered(StageCall::Read, read)
     }
 
@@ -134,13 +124,10 @@ impl<R: Files + Input + Print + Drop> Stage for RealStage<R> {
         ensures faulted { Faulted (failed_in call.Write result) (count_of self.old) (count_of self.new) }
 
         // A count rises exactly at a failure.
-        ensures counted { OnErr result (self.new ≡ raised call.Write self.old) }
-        ensures fine { OnOk result (self.new ≡ self.old) }
+        ensures counted { self.new ≡ counted (failed_in call.Write result) self.old }
     {
-        let written = match &mut self.store {
-            Some(file) => write_part(file, at, bytes),
-            None => Err(Failed),
-        };
+        let store = self.store.as_mut();
+        let written = store.map_or(Err(Failed), |file| write_part(file, at, bytes));
         self.counts.answered(StageCall::Write, written)
     }
 
@@ -148,13 +135,10 @@ impl<R: Files + Input + Print + Drop> Stage for RealStage<R> {
         ensures faulted { Faulted (failed_in call.Sync result) (count_of self.old) (count_of self.new) }
 
         // A count rises exactly at a failure.
-        ensures counted { OnErr result (self.new ≡ raised call.Sync self.old) }
-        ensures fine { OnOk result (self.new ≡ self.old) }
+        ensures counted { self.new ≡ counted (failed_in call.Sync result) self.old }
     {
-        let synced = match &self.store {
-            Some(file) => sync_bytes(file),
-            None => Err(Failed),
-        };
+        let store = self.store.as_ref();
+        let synced = store.map_or(Err(Failed), |file| sync_bytes(file));
         if synced.is_err() {
             self.store = None;
         }
@@ -165,8 +149,7 @@ impl<R: Files + Input + Print + Drop> Stage for RealStage<R> {
         ensures faulted { Faulted (failed_ask result) (count_of self.old) (count_of self.new) }
 
         // A count rises exactly at a failure.
-        ensures counted { result ≡ asked.Failed → self.new ≡ raised call.Ask self.old }
-        ensures fine { result ≢ asked.Failed → self.new ≡ self.old }
+        ensures counted { self.new ≡ counted (failed_ask result) self.old }
     {
         let asked = self.input.next_line(into);
         if asked == Asked::Failed {
@@ -179,8 +162,7 @@ impl<R: Files + Input + Print + Drop> Stage for RealStage<R> {
         ensures faulted { Faulted (failed_in call.Show result) (count_of self.old) (count_of self.new) }
 
         // A count rises exactly at a failure.
-        ensures counted { OnErr result (self.new ≡ raised call.Show self.old) }
-        ensures fine { OnOk result (self.new ≡ self.old) }
+        ensures counted { self.new ≡ counted (failed_in call.Show result) self.old }
     {
         let shown = write_whole(&mut io::writer(&self.rt), text);
         self.counts.answered(StageCall::Show, shown)

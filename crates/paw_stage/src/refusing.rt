@@ -1,6 +1,6 @@
 // A stage in memory of which some calls are made to fail.
 
-ghost use Rattle.std.specs.Prelude.{◌≡◌, ◌≤◌, ◌+◌, ◌↔◌, ℕ, length, IsTrue, OnOk, OnErr, IsErr, IsSome};
+ghost use Rattle.std.specs.Prelude.{◌≡◌, ◌≤◌, ◌+◌, ◌↔◌, ℕ, length, IsTrue, OnOk, IsSome};
 ghost use Rattle.std.proofs.Common.{inl, refl};
 ghost use Rattle.paw_stage.specs.declared.StageCall.TheVariants as call;
 ghost use Rattle.paw_stage.specs.declared.LoadRefusal.TheVariants as refusal;
@@ -15,7 +15,7 @@ ghost use Rattle.paw_stage.specs.inner.Done.{wrote_store, synced_store, took};
 ghost use Rattle.paw_stage.specs.inner.Done.{end_done, showed};
 ghost use Rattle.paw_stage.specs.inner.Memory.{clock_of, moments_of, only_moment, recorded, found_none, line_taken};
 ghost use Rattle.paw_stage.specs.inner.Refusing.{faults_of, standing_of, Throughout};
-ghost use Rattle.paw_stage.specs.inner.Refusing.{refused, passed, FailsBelow, CannotPass};
+ghost use Rattle.paw_stage.specs.inner.Refusing.{refused, passed, FailsBelow, CannotPass, Forwards};
 
 use crate::{Asked, Failed, FaultCounts, LoadRefusal, MemoryStage, Stage, StageCall};
 use std::alloc::Global;
@@ -116,12 +116,7 @@ impl<R: Refusals + Drop> Stage for RefusingStage<R> {
         ensures faulted { Faulted (failed_in call.Save result) (faults_of self.old) (faults_of self.new) }
         ensures answer { SavesTo (standing_of self.old) (standing_of self.new) name.now bytes.now result }
         ensures time { Throughout self.old self.new (λ s. InSave s name.now) }
-
-        // It fails exactly where the rule refuses it, or where there is no room below.
-        ensures exact { IsErr result ↔ CannotPass R.refuses (saved name.now bytes.now) self.old }
-        ensures refused { IsTrue (R.refuses self.old.rule) → self.new ≡ refused R.later call.Save self.old }
-        ensures failed { OnErr result (FailsBelow R.refuses R.later call.Save self.old self.new) }
-        ensures noted { OnOk result (self.new ≡ passed R.later (recorded (saved name.now bytes.now)) self.old) }
+        ensures forwarded { Forwards R.refuses R.later call.Save (saved name.now bytes.now) result self.old self.new }
     {
         if self.rule.refuses_next() {
             self.counts.raise(StageCall::Save);
@@ -135,12 +130,7 @@ impl<R: Refusals + Drop> Stage for RefusingStage<R> {
         ensures faulted { Faulted (failed_in call.Attach result) (faults_of self.old) (faults_of self.new) }
         ensures answer { AttachesTo (standing_of self.old) (standing_of self.new) name.now result }
         ensures time { Throughout self.old self.new (λ s. InAttach s (standing_of self.new) name.now) }
-
-        // It fails exactly where the rule refuses it, or where there is no room below.
-        ensures exact { IsErr result ↔ CannotPass R.refuses (attached_store name.now) self.old }
-        ensures refused { IsTrue (R.refuses self.old.rule) → self.new ≡ refused R.later call.Attach self.old }
-        ensures failed { OnErr result (FailsBelow R.refuses R.later call.Attach self.old self.new) }
-        ensures noted { OnOk result (self.new ≡ passed R.later (recorded (attached_store name.now)) self.old) }
+        ensures forwarded { Forwards R.refuses R.later call.Attach (attached_store name.now) result self.old self.new }
     {
         if self.rule.refuses_next() {
             self.counts.raise(StageCall::Attach);
@@ -156,12 +146,7 @@ impl<R: Refusals + Drop> Stage for RefusingStage<R> {
         ensures still { standing_of self.new ≡ standing_of self.old }
         ensures answer { ReadsTo (standing_of self.old) at (length into.old) into.new result }
         ensures time { Throughout self.old self.new Still }
-
-        // It fails exactly where the rule refuses it, or where there is no room below.
-        ensures exact { IsErr result ↔ CannotPass R.refuses read_store self.old }
-        ensures refused { IsTrue (R.refuses self.old.rule) → self.new ≡ refused R.later call.Read self.old }
-        ensures failed { OnErr result (FailsBelow R.refuses R.later call.Read self.old self.new) }
-        ensures noted { OnOk result (self.new ≡ passed R.later (recorded read_store) self.old) }
+        ensures forwarded { Forwards R.refuses R.later call.Read read_store result self.old self.new }
     {
         if self.rule.refuses_next() {
             self.counts.raise(StageCall::Read);
@@ -176,12 +161,7 @@ impl<R: Refusals + Drop> Stage for RefusingStage<R> {
         ensures faulted { Faulted (failed_in call.Write result) (faults_of self.old) (faults_of self.new) }
         ensures answer { WritesTo (standing_of self.old) (standing_of self.new) at bytes.now result }
         ensures time { Throughout self.old self.new (λ s. InWrite s at (length bytes.now)) }
-
-        // It fails exactly where the rule refuses it, or where there is no room below.
-        ensures exact { IsErr result ↔ CannotPass R.refuses (wrote_store at bytes.now) self.old }
-        ensures refused { IsTrue (R.refuses self.old.rule) → self.new ≡ refused R.later call.Write self.old }
-        ensures failed { OnErr result (FailsBelow R.refuses R.later call.Write self.old self.new) }
-        ensures noted { OnOk result (self.new ≡ passed R.later (recorded (wrote_store at bytes.now)) self.old) }
+        ensures forwarded { Forwards R.refuses R.later call.Write (wrote_store at bytes.now) result self.old self.new }
     {
         if self.rule.refuses_next() {
             self.counts.raise(StageCall::Write);
@@ -194,12 +174,7 @@ impl<R: Refusals + Drop> Stage for RefusingStage<R> {
         ensures faulted { Faulted (failed_in call.Sync result) (faults_of self.old) (faults_of self.new) }
         ensures answer { SyncsTo (standing_of self.old) (standing_of self.new) result }
         ensures time { Throughout self.old self.new InSync }
-
-        // It fails exactly where the rule refuses it, or where there is no room below.
-        ensures exact { IsErr result ↔ CannotPass R.refuses synced_store self.old }
-        ensures refused { IsTrue (R.refuses self.old.rule) → self.new ≡ refused R.later call.Sync self.old }
-        ensures failed { OnErr result (FailsBelow R.refuses R.later call.Sync self.old self.new) }
-        ensures noted { OnOk result (self.new ≡ passed R.later (recorded synced_store) self.old) }
+        ensures forwarded { Forwards R.refuses R.later call.Sync synced_store result self.old self.new }
     {
         if self.rule.refuses_next() {
             self.counts.raise(StageCall::Sync);
@@ -231,12 +206,7 @@ impl<R: Refusals + Drop> Stage for RefusingStage<R> {
         ensures faulted { Faulted (failed_in call.Show result) (faults_of self.old) (faults_of self.new) }
         ensures answer { ShowsTo (standing_of self.old) (standing_of self.new) text.now result }
         ensures time { Throughout self.old self.new (λ s. InShow s text.now) }
-
-        // It fails exactly where the rule refuses it, or where there is no room below.
-        ensures exact { IsErr result ↔ CannotPass R.refuses (showed text.now) self.old }
-        ensures refused { IsTrue (R.refuses self.old.rule) → self.new ≡ refused R.later call.Show self.old }
-        ensures failed { OnErr result (FailsBelow R.refuses R.later call.Show self.old self.new) }
-        ensures noted { OnOk result (self.new ≡ passed R.later (recorded (showed text.now)) self.old) }
+        ensures forwarded { Forwards R.refuses R.later call.Show (showed text.now) result self.old self.new }
     {
         if self.rule.refuses_next() {
             self.counts.raise(StageCall::Show);

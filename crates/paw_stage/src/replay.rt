@@ -318,6 +318,7 @@ fn find_store(calls: &[Call], room: &[u8]) -> Option<Store>
 }
 
 // The attached store after one call more, with which so many are done.
+#[tactic(auto, using(crate::proofs::Stores::quiet_call_finds))]
 fn store_after(call: Call, room: &[u8], done: usize, store: Option<Store>) -> Option<Store>
     requires order { (call.from ≤ call.mid) × (call.mid ≤ call.to) × (call.to ≤ length room.now) }
     requires named { IsNamed room.now store }

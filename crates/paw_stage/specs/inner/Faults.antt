@@ -1,5 +1,5 @@
 -- Counts of faults, one for each call.
-use Rattle.std.specs.Prelude.{ℕ, ◌+◌, ◌-◌, ◌^◌, min}
+use Rattle.std.specs.Prelude.{ℕ, ◌+◌, ◌-◌, ◌^◌, min, Option, Some, None}
 use Rattle.paw_stage.specs.declared.StageCall.{StageCall}
 use Rattle.paw_stage.specs.declared.StageCall.TheVariants as call
 use Rattle.paw_stage.specs.declared.faults.FaultCounts.{FaultCounts}
@@ -35,3 +35,8 @@ raised call.Write c = record c { write = one_more c.write }
 raised call.Sync c = record c { sync = one_more c.sync }
 raised call.Ask c = record c { ask = one_more c.ask }
 raised call.Show c = record c { show = one_more c.show }
+
+-- The counts after a call, by which of them failed: one more fault of that one, or the same where none failed.
+abbrev pub counted : Option StageCall → FaultCounts → FaultCounts
+counted None c = c
+counted (Some failed) c = raised failed c

@@ -1,5 +1,6 @@
 -- A stage in memory: the lines that are left, its record of calls, and its counts of faults.
-use Rattle.std.specs.Prelude.{◌≡◌, ℕ, Bool, List, [], ◌∷◌, ◌++◌, length, drop}
+use Rattle.std.specs.Prelude.{◌≡◌, ◌↔◌, ℕ, Bool, IsFalse, List, [], ◌∷◌, ◌++◌, length, drop}
+use Rattle.std.specs.Prelude.{Result, OnOk, OnErr, IsErr}
 use Rattle.paw_stage.specs.declared.StageCall.{StageCall}
 use Rattle.paw_stage.specs.declared.StageCall.TheVariants as call
 use Rattle.paw_stage.specs.declared.faults.FaultCounts.{FaultCounts}
@@ -57,6 +58,13 @@ with_line_left line m = record m { lines = m.lines ++ line ∷ [] }
 -- With one fault more of a call, and all else as it was.
 abbrev pub failed : StageCall → Memory → Memory
 failed c m = record m { counts = raised c m.counts }
+
+-- A call, of which its record keeps what it did. It fails exactly where there is no room for that, and leaves no trace
+-- then but its count.
+abbrev pub Notes : {A E : Type 0} → StageCall → DoneCall → Result A E → Memory → Memory → Type 0
+Notes c d result old new =
+    (IsErr result ↔ IsFalse (can_note d old)) × OnErr result (new ≡ failed c old)
+    × OnOk result (new ≡ recorded d old)
 
 -- The moments of a call are those before it, and besides only such ones, by what stood before.
 abbrev pub Throughout : Memory → Memory → (Standing → Moment → Type 0) → Type 0

@@ -1,5 +1,6 @@
 -- A stage in memory of which a rule makes some calls fail.
-use Rattle.std.specs.Prelude.{◌≡◌, ◌⊎◌, ℕ, ◌+◌, ◌-◌, ◌^◌, min, Bool, IsTrue, IsFalse}
+use Rattle.std.specs.Prelude.{◌≡◌, ◌⊎◌, ℕ, ◌+◌, ◌-◌, ◌^◌, min, Bool, IsTrue, IsFalse, ◌↔◌}
+use Rattle.std.specs.Prelude.{Result, OnOk, OnErr, IsErr}
 use Rattle.paw_stage.specs.declared.StageCall.{StageCall}
 use Rattle.paw_stage.specs.declared.faults.FaultCounts.{FaultCounts}
 use Rattle.paw_stage.specs.Stage.{Standing}
@@ -7,7 +8,7 @@ use Rattle.paw_stage.specs.Moments.{Moment}
 use Rattle.paw_stage.specs.inner.Faults.{count_of, raised}
 use Rattle.paw_stage.specs.inner.Done.{DoneCall}
 use Rattle.paw_stage.specs.inner.Memory as memory
-use Rattle.paw_stage.specs.inner.Memory.{Memory, can_note, failed}
+use Rattle.paw_stage.specs.inner.Memory.{Memory, can_note, recorded, failed}
 
 -- The stage below, the rule, and the counts of the calls that the rule made fail.
 pub record Refusing (R : Type 0) : Type 0 where
@@ -42,3 +43,10 @@ FailsBelow refuses later c old new = IsFalse (refuses old.rule) → new ≡ pass
 -- A call isn't done: the rule makes it fail, or there is no room for it below.
 abbrev pub CannotPass : {R : Type 0} → (R → Bool) → DoneCall → Refusing R → Type 0
 CannotPass refuses d s = IsTrue (refuses s.rule) ⊎ IsFalse (can_note d s.inner)
+
+-- A call that is passed on, unless the rule makes it fail. It fails exactly where it can't be done.
+abbrev pub Forwards : {R A E : Type 0} → (R → Bool) → (R → R) → StageCall → DoneCall → Result A E → Refusing R →
+    Refusing R → Type 0
+Forwards refuses later c d result old new =
+    (IsErr result ↔ CannotPass refuses d old) × (IsTrue (refuses old.rule) → new ≡ refused later c old)
+    × OnErr result (FailsBelow refuses later c old new) × OnOk result (new ≡ passed later (recorded d) old)

@@ -1,8 +1,27 @@
 // Runs of the stage in memory over its store.
 
+ghost use Rattle.std.specs.Prelude.{◌≡◌, IfOk};
+ghost use Rattle.paw_stage.specs.inner.Memory.{empty, with_file};
+
 use crate::{LoadRefusal, MemoryStage, Stage};
+use paw_base::fault::NoRoom;
 use std::alloc::Global;
 use std::test::Fail;
+
+// A stage with spare room for so many calls and bytes, and a file that may become its store.
+fn with_file(
+    alloc: Global,
+    calls: u64,
+    bytes: u64,
+    name: &str,
+    held: &[u8],
+) -> Result<MemoryStage, NoRoom>
+    ensures { IfOk result (λ s. s ≡ with_file name.now held.now (empty calls bytes)) }
+{
+    let mut stage = MemoryStage::new(alloc, calls, bytes)?;
+    stage.add_file(name, held)?;
+    Ok(stage)
+}
 
 // What a load of a file gives, or a word in capitals.
 fn loaded(stage: &mut MemoryStage, alloc: Global, name: &str) -> Result<Vec<u8>, Fail> {
@@ -25,8 +44,7 @@ fn crashes(stage: &MemoryStage, alloc: Global) -> Result<Vec<u8>, Fail> {
 
 #[test]
 fn a_store_is_a_file(rt: HostRuntime) -> Result<(), Fail> {
-    let mut stage = MemoryStage::new(rt.alloc(), 99, 99)?;
-    stage.add_file("first", b"abc")?;
+    let mut stage = with_file(rt.alloc(), 99, 99, "first", b"abc")?;
     assert_eq!(rt; stage.attach("first").ok(), Some(3));
     assert!(rt; stage.write_at(2, b"XYZ").is_ok());
     assert!(rt; stage.sync().is_ok());
@@ -51,8 +69,7 @@ fn a_store_is_a_file(rt: HostRuntime) -> Result<(), Fail> {
 
 #[test]
 fn a_crash_leaves_by_its_pick(rt: HostRuntime) -> Result<(), Fail> {
-    let mut stage = MemoryStage::new(rt.alloc(), 99, 99)?;
-    stage.add_file("store", b"abcdef")?;
+    let mut stage = with_file(rt.alloc(), 99, 99, "store", b"abcdef")?;
     assert_eq!(rt;
         crashes(&stage, rt.alloc())?.as_slice(),
         b"\n\n\n\n".as_slice()
@@ -89,8 +106,7 @@ fn a_crash_leaves_by_its_pick(rt: HostRuntime) -> Result<(), Fail> {
 
 #[test]
 fn the_store_fails_where_the_room_is_used_up(rt: HostRuntime) -> Result<(), Fail> {
-    let mut stage = MemoryStage::new(rt.alloc(), 4, 7)?;
-    stage.add_file("store", b"abc")?;
+    let mut stage = with_file(rt.alloc(), 4, 7, "store", b"abc")?;
     assert_eq!(rt; stage.attach("store").ok(), Some(3));
     assert!(rt; stage.write_at(0, b"XYZ").is_err());
     assert!(rt; stage.write_at(1, b"XY").is_ok());

@@ -70,16 +70,9 @@ fn a_stage_stops_after_so_many_calls(rt: HostRuntime) -> Result<(), Fail> {
 
 #[test]
 fn one_listed_call_fails_and_later_ones_pass(rt: HostRuntime) -> Result<(), Fail> {
-    for (listed, done, others) in [
-        (0, 0, 4),
-        (1, 1, 4),
-        (2, 2, 4),
-        (3, 3, 4),
-        (5, 4, 3),
-        (9, 4, 4),
-    ] {
+    for (listed, others) in [(0, 4), (1, 4), (2, 4), (3, 4), (5, 3), (9, 4)] {
         let mut stage = FailStage::new(with_line(rt.alloc())?, [listed].to_vec(rt.alloc())?);
-        assert_eq!(rt; calls_done(&mut stage), done, "{listed}");
+        assert_eq!(rt; calls_done(&mut stage), listed.min(4), "{listed}");
         assert_eq!(rt; others_done(&mut stage, rt.alloc()), others, "{listed}");
     }
     Ok(())

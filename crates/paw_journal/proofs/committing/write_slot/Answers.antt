@@ -1,55 +1,49 @@
-use Rattle.std.proofs.Common.{ap, ◌∙◌}
+use Rattle.std.proofs.Common.{◌≡◌, ◌-◌, ap, ◌∙◌}
 use Rattle.std.proofs.lemmas.Result.{on_ok_weaker}
 use Rattle.paw_stage.specs.Disk.{put}
-use Rattle.paw_stage.proofs.Time.{Passes_on}
-use Rattle.paw_journal.specs.Session.{slot}
-use Rattle.paw_journal.specs.inner.Steps.{IsFilling, slot_head}
+use Rattle.paw_stage.specs.Stage.{Standing}
+use Rattle.paw_stage.proofs.Time.{Passes_map}
+use Rattle.paw_journal.specs.declared.layout.Slot.{Slot}
+use Rattle.paw_journal.specs.Session.{slot, chosen}
+use Rattle.paw_journal.specs.inner.Journal.{IsAtRest}
+use Rattle.paw_journal.specs.inner.Steps.{IsMade, IsFilling, slot_head}
 use Rattle.paw_journal.specs.inner.Room.{slot_number}
 use Rattle.paw_journal.proofs.Moved.{beside_on}
 use Rattle.paw_journal.proofs.Chooses.{slot_small}
-use Rattle.paw_journal.proofs.Fills.{filling_none, filling_sync, in_filling_sync}
+use Rattle.paw_journal.proofs.Fills.{filling_none, filling_sync, in_filling_sync, parts_on}
 use Rattle.paw_journal.proofs.committing.write_slot.Goals as goal
+
+-- nothing was written yet
+begins : (w : Slot) (s : Standing) → IsAtRest s → IsMade s.disk.bytes → chosen s.disk.bytes ≡ 1 - slot_number w → IsFilling (slot_number w) s s
+begins w s rests made beside = filling_none (slot_number w) s (slot_small w) rests.stable made beside
 
 pub returns-in_err-write_part-2-clause-any_moment : goal.returns-in_err-write_part-2-clause-any_moment
 returns-in_err-write_part-2-clause-any_moment g c tells =
-    let s = g.S.Stage.standing c.args.stage.now in
-    let none : IsFilling (slot_number c.args.which) s s =
-    filling_none _ s (slot_small c.args.which) (c.requires.rests tells).stable (c.requires.made tells)
-    (c.requires.beside tells) in
-    let one = c.in_ok-write_part.ensures.filling tells s none in
-    Passes_on _ _ _ _ _ _ _ _ (c.write_part.ensures.any_moment tells s none)
-    (c.write_part-2.ensures.any_moment (c.write_part.ensures.tells.0 tells) s one) (λ m q. q)
+    parts_on _ _ _ _ _ _ _ _ _ (c.in_ok-write_part.ensures.filling tells) (c.write_part.ensures.any_moment tells)
+    (c.write_part-2.ensures.any_moment (c.write_part.ensures.tells.0 tells)) (g.S.Stage.standing c.args.stage.now)
+    (begins c.args.which _ (c.requires.rests tells) (c.requires.made tells) (c.requires.beside tells))
 
 pub returns-in_err-write_part-3-clause-any_moment : goal.returns-in_err-write_part-3-clause-any_moment
 returns-in_err-write_part-3-clause-any_moment g c tells =
-    let s = g.S.Stage.standing c.args.stage.now in
-    let none : IsFilling (slot_number c.args.which) s s =
-    filling_none _ s (slot_small c.args.which) (c.requires.rests tells).stable (c.requires.made tells)
-    (c.requires.beside tells) in
-    let one = c.in_ok-write_part.ensures.filling tells s none in
     let later = c.write_part.ensures.tells.0 tells in
-    let two = c.in_ok-write_part-2.ensures.filling later s one in
-    Passes_on _ _ _ _ _ _ _ _
-    (Passes_on _ _ _ _ _ _ _ _ (c.write_part.ensures.any_moment tells s none) (c.write_part-2.ensures.any_moment later s one) (λ m q. q))
-    (c.write_part-3.ensures.any_moment (c.write_part-2.ensures.tells.0 later) s two) (λ m q. q)
+    parts_on _ _ _ _ _ _ _ _ _ (c.in_ok-write_part.ensures.filling tells) (c.write_part.ensures.any_moment tells)
+    (parts_on _ _ _ _ _ _ _ _ _ (c.in_ok-write_part-2.ensures.filling later) (c.write_part-2.ensures.any_moment later)
+    (c.write_part-3.ensures.any_moment (c.write_part-2.ensures.tells.0 later))) (g.S.Stage.standing c.args.stage.now)
+    (begins c.args.which _ (c.requires.rests tells) (c.requires.made tells) (c.requires.beside tells))
 
 pub returns-clause-filled : goal.returns-clause-filled
 returns-clause-filled g c tells =
     let s = g.S.Stage.standing c.args.stage.now in
-    let none : IsFilling (slot_number c.args.which) s s =
-    filling_none _ s (slot_small c.args.which) (c.requires.rests tells).stable (c.requires.made tells)
-    (c.requires.beside tells) in
-    let one = c.in_ok-write_part.ensures.filling tells s none in
     let later = c.write_part.ensures.tells.0 tells in
-    let two = c.in_ok-write_part-2.ensures.filling later s one in
     let last = c.write_part-2.ensures.tells.0 later in
-    let three = c.in_ok-write_part-3.ensures.filling last s two in
-    on_ok_weaker c.sync.result (filling_sync _ s _ _ three) (c.sync.ensures.synced (c.write_part-3.ensures.tells.0 last))
+    on_ok_weaker c.sync.result (filling_sync _ s _ _ (c.in_ok-write_part-3.ensures.filling last s
+    (c.in_ok-write_part-2.ensures.filling later s (c.in_ok-write_part.ensures.filling tells s
+    (begins c.args.which s (c.requires.rests tells) (c.requires.made tells) (c.requires.beside tells))))))
+    (c.sync.ensures.synced (c.write_part-3.ensures.tells.0 last))
 
 pub returns-clause-written : goal.returns-clause-written
 returns-clause-written g c tells =
     let k = slot_number c.args.which in
-    let old = slot k (g.S.Stage.standing c.args.stage.now).disk.bytes in
     let later = c.write_part.ensures.tells.0 tells in
     let last = c.write_part-2.ensures.tells.0 later in
     let one = c.in_ok-write_part.ensures.written tells in
@@ -68,17 +62,11 @@ returns-clause-beside g c tells =
 
 pub returns-clause-any_moment : goal.returns-clause-any_moment
 returns-clause-any_moment g c tells =
-    let s = g.S.Stage.standing c.args.stage.now in
-    let none : IsFilling (slot_number c.args.which) s s =
-    filling_none _ s (slot_small c.args.which) (c.requires.rests tells).stable (c.requires.made tells)
-    (c.requires.beside tells) in
-    let one = c.in_ok-write_part.ensures.filling tells s none in
     let later = c.write_part.ensures.tells.0 tells in
-    let two = c.in_ok-write_part-2.ensures.filling later s one in
     let last = c.write_part-2.ensures.tells.0 later in
-    let three = c.in_ok-write_part-3.ensures.filling last s two in
-    Passes_on _ _ _ _ _ _ _ _
-    (Passes_on _ _ _ _ _ _ _ _
-    (Passes_on _ _ _ _ _ _ _ _ (c.write_part.ensures.any_moment tells s none) (c.write_part-2.ensures.any_moment later s one) (λ m q. q))
-    (c.write_part-3.ensures.any_moment last s two) (λ m q. q))
-    (c.sync.ensures.time (c.write_part-3.ensures.tells.0 last)) (λ m. in_filling_sync _ s _ m three)
+    parts_on _ _ _ _ _ _ _ _ _ (c.in_ok-write_part.ensures.filling tells) (c.write_part.ensures.any_moment tells)
+    (parts_on _ _ _ _ _ _ _ _ _ (c.in_ok-write_part-2.ensures.filling later) (c.write_part-2.ensures.any_moment later)
+    (parts_on _ _ _ _ _ _ _ _ _ (c.in_ok-write_part-3.ensures.filling last) (c.write_part-3.ensures.any_moment last)
+    (λ first h. Passes_map _ _ _ _ _ _ (c.sync.ensures.time (c.write_part-3.ensures.tells.0 last))
+    (λ m. in_filling_sync _ first _ m h)))) (g.S.Stage.standing c.args.stage.now)
+    (begins c.args.which _ (c.requires.rests tells) (c.requires.made tells) (c.requires.beside tells))
