@@ -4,11 +4,12 @@ use Rattle.paw_image.specs.inner.Views.{game_read}
 use Rattle.paw_effects.specs.Story.{story_of}
 use Rattle.paw_stage.specs.Stage.{Standing}
 use Rattle.paw_stage.proofs.Time.{Passes_map, Passes_on}
+use Rattle.paw_play.specs.Calls.{session_calls}
 use Rattle.paw_play.specs.Play.{PlayedSession, InAgain, InGoingOn, kept_session, store_bytes}
 use Rattle.paw_play.proofs.Standing.{standing_shows, in_going_on}
 use Rattle.paw_top.specs.Ends.{plays}
 use Rattle.paw_top.specs.Sessions.{PlaysAgainIn, GoesOnIn, session_from, digest_of}
-use Rattle.paw_top.proofs.Answering.{kept_outside, played_faulted}
+use Rattle.paw_top.proofs.Answering.{played_outside, played_faulted}
 use Rattle.paw_top.proofs.Completing.{same_game}
 use Rattle.paw_top.proofs.Images.{holds_given}
 use Rattle.paw_top.proofs.OpenedSessions.{still_again, still_on, again_moment, plays_again, goes_on_in, shows_same, one_kept_session, same_story}
@@ -97,7 +98,7 @@ pub resume_loop-requires-clause-game : goal.resume_loop-requires-clause-game
 resume_loop-requires-clause-game g c = c.digest-kept.ensures.value ∙ ap sha256 (c.bytes.ensures.value ∙ c.bytes.ensures.image.spelled)
 
 pub returns-clause-outside : goal.returns-clause-outside
-returns-clause-outside g c = kept_outside c.resume_loop.result c.outcome_of.result c.outcome_of.ensures.value c.resume_loop.ensures.outside
+returns-clause-outside g c = played_outside session_calls c.resume_loop.result c.outcome_of.result c.outcome_of.ensures.value c.resume_loop.ensures.outside
 
 pub returns-clause-any_moment_on : goal.returns-clause-any_moment_on
 returns-clause-any_moment_on g c = λ tells s seed es rows holds played stands.

@@ -2,12 +2,13 @@ use Rattle.std.proofs.Common.{sym, subst}
 use Rattle.paw_image.specs.inner.Views.{game_read}
 use Rattle.paw_effects.specs.Story.{story_of}
 use Rattle.paw_reading.specs.Turn.{reading}
+use Rattle.paw_play.specs.Calls.{walk_calls}
 use Rattle.paw_play.specs.Walk.{Walks}
 use Rattle.paw_play.specs.inner.Telling.{told_as}
 use Rattle.paw_play.specs.declared.TheConstants.{MOST_EVENTS}
 use Rattle.paw_top.specs.Ends.{plays}
 use Rattle.paw_top.specs.Walk.{WalksAs}
-use Rattle.paw_top.proofs.Answering.{walk_outside, played_faulted}
+use Rattle.paw_top.proofs.Answering.{played_outside, played_faulted}
 use Rattle.paw_top.proofs.Images.{holds_given}
 use Rattle.paw_top.proofs.Refusals.{unloaded, undecoded}
 use Rattle.paw_top.proofs.sessions.walk.Goals as goal
@@ -31,7 +32,7 @@ returns-clause-walks g c = λ tells X rows.
     (c.walk_loop.ensures.walks (c.load.ensures.tells.0 tells) X rows)))
 
 pub returns-clause-outside : goal.returns-clause-outside
-returns-clause-outside g c = walk_outside c.walk_loop.result c.outcome_of.result c.outcome_of.ensures.value c.walk_loop.ensures.outside
+returns-clause-outside g c = played_outside walk_calls c.walk_loop.result c.outcome_of.result c.outcome_of.ensures.value c.walk_loop.ensures.outside
 
 pub returns-clause-faulted : goal.returns-clause-faulted
 returns-clause-faulted g c = played_faulted c.walk_loop.result c.outcome_of.result _ _ _ c.outcome_of.ensures.value
