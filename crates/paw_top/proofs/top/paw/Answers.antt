@@ -1,6 +1,4 @@
-use Rattle.std.proofs.Common.{sym, subst}
 use Rattle.paw_reading.specs.Turn.{reading}
-use Rattle.paw_top.specs.Completes.{Completes}
 use Rattle.paw_top.specs.Walk.{reading_traced}
 use Rattle.paw_top.proofs.Completing.{completes_compile, completes_decompile, completes_walk}
 use Rattle.paw_top.proofs.CompletingSessions.{completes_play, completes_resume}
@@ -11,49 +9,42 @@ use Rattle.paw_top.proofs.top.paw.Goals as goal
 pub returns-in-Some-Compile-clause-completes : goal.returns-in-Some-Compile-clause-completes
 returns-in-Some-Compile-clause-completes g c = λ tells none.
     let asked = rw c.in-Some-Compile.field-0-is at c.in-Some-Compile.ensures.value in
-    subst (λ q. Completes (g.S.Stage.standing c.args.stage.now) q c.compile.result) (sym asked)
-    (completes_compile c.in-Some-Compile.source.now c.in-Some-Compile.image.now _ _ _ _ c.compile.result
+    rw asked (completes_compile c.in-Some-Compile.source.now c.in-Some-Compile.image.now _ _ _ _ c.compile.result
     (c.compile.ensures.compiles tells) c.compile.ensures.faulted none)
 
 pub returns-in-Some-Decompile-clause-completes : goal.returns-in-Some-Decompile-clause-completes
 returns-in-Some-Decompile-clause-completes g c = λ tells none.
     let asked = rw c.in-Some-Decompile.field-0-is at c.in-Some-Decompile.ensures.value in
-    subst (λ q. Completes (g.S.Stage.standing c.args.stage.now) q c.decompile.result) (sym asked)
-    (completes_decompile c.in-Some-Decompile.image.now _ _ _ _ c.decompile.result (c.decompile.ensures.decompiles tells) c.decompile.ensures.faulted none)
+    rw asked (completes_decompile c.in-Some-Decompile.image.now _ _ _ _ c.decompile.result (c.decompile.ensures.decompiles tells) c.decompile.ensures.faulted none)
 
 pub returns-in-Some-Walk-clause-completes : goal.returns-in-Some-Walk-clause-completes
 returns-in-Some-Walk-clause-completes g c = λ tells none.
     let asked = rw c.in-Some-Walk.field-0-is at c.in-Some-Walk.ensures.value in
-    subst (λ q. Completes (g.S.Stage.standing c.args.stage.now) q c.walk.result) (sym asked)
-    (completes_walk reading c.requires.rows.0 c.in-Some-Walk.image.now c.in-Some-Walk.seed _ _ _ _ c.walk.result
+    rw asked (completes_walk reading c.requires.rows.0 c.in-Some-Walk.image.now c.in-Some-Walk.seed _ _ _ _ c.walk.result
     (c.walk.ensures.walks tells c.requires.rows.0 c.requires.rows.1) c.walk.ensures.faulted none)
 
 pub returns-in-Some-Trace-clause-completes : goal.returns-in-Some-Trace-clause-completes
 returns-in-Some-Trace-clause-completes g c = λ tells none.
     let asked = rw c.in-Some-Trace.field-0-is at c.in-Some-Trace.ensures.value in
-    subst (λ q. Completes (g.S.Stage.standing c.args.stage.now) q c.walk-in-Some-Trace.result) (sym asked)
-    (completes_walk reading_traced c.requires.rows.0 c.in-Some-Trace.image.now c.in-Some-Trace.seed _ _ _ _
+    rw asked (completes_walk reading_traced c.requires.rows.0 c.in-Some-Trace.image.now c.in-Some-Trace.seed _ _ _ _
     c.walk-in-Some-Trace.result (c.walk-in-Some-Trace.ensures.walks tells c.requires.rows.0 c.requires.rows.1) c.walk-in-Some-Trace.ensures.faulted none)
 
 pub returns-in-Some-Play-clause-completes : goal.returns-in-Some-Play-clause-completes
 returns-in-Some-Play-clause-completes g c = λ tells none.
     let asked = rw c.in-Some-Play.field-0-is at c.in-Some-Play.ensures.value in
-    subst (λ q. Completes (g.S.Stage.standing c.args.stage.now) q c.play.result) (sym asked)
-    (completes_play c.requires.rows.0 c.in-Some-Play.image.now c.in-Some-Play.store.now c.in-Some-Play.seed _ _ _ _
+    rw asked (completes_play c.requires.rows.0 c.in-Some-Play.image.now c.in-Some-Play.store.now c.in-Some-Play.seed _ _ _ _
     c.play.result (c.play.ensures.plays tells c.requires.rows.0 c.requires.rows.1) c.play.ensures.faulted none)
 
 pub returns-in-Some-Resume-clause-completes : goal.returns-in-Some-Resume-clause-completes
 returns-in-Some-Resume-clause-completes g c = λ tells none.
     let asked = rw c.in-Some-Resume.field-0-is at c.in-Some-Resume.ensures.value in
-    subst (λ q. Completes (g.S.Stage.standing c.args.stage.now) q c.resume.result) (sym asked)
-    (completes_resume c.requires.rows.0 c.in-Some-Resume.image.now c.in-Some-Resume.store.now _ _ _ _ c.resume.result
+    rw asked (completes_resume c.requires.rows.0 c.in-Some-Resume.image.now c.in-Some-Resume.store.now _ _ _ _ c.resume.result
     (c.resume.ensures.plays tells c.requires.rows.0 c.requires.rows.1) c.resume.ensures.faulted none)
 
 pub returns-in-Some-Trial-clause-completes : goal.returns-in-Some-Trial-clause-completes
 returns-in-Some-Trial-clause-completes g c = λ tells none.
     let asked = rw c.in-Some-Trial.field-0-is at c.in-Some-Trial.ensures.value in
-    subst (λ q. Completes (g.S.Stage.standing c.args.stage.now) q c.trial.result) (sym asked)
-    (completes_trial c.in-Some-Trial.n _ _ _ _ c.trial.result (c.trial.ensures.tries tells) c.trial.ensures.faulted none)
+    rw asked (completes_trial c.in-Some-Trial.n _ _ _ _ c.trial.result (c.trial.ensures.tries tells) c.trial.ensures.faulted none)
 
 pub returns-in-Some-Walk-clause-walks : goal.returns-in-Some-Walk-clause-walks
 returns-in-Some-Walk-clause-walks g c = λ tells image seed asked.
