@@ -13,7 +13,7 @@ use Rattle.paw_stage.specs.declared.StageCall.{StageCall}
 use Rattle.paw_journal.specs.inner.Journal.{IsSessionRefused, IsCaused, outside}
 use Rattle.paw_journal.specs.declared.refusal.JournalRefusal.{JournalRefusal}
 use Rattle.paw_journal.specs.declared.refusal.JournalRefusal.TheVariants as refusal
-use Rattle.paw_play.specs.Calls.{IsSessionCall}
+use Rattle.paw_play.specs.Calls.{IsOneOf, session_calls}
 use Rattle.paw_play.specs.inner.Calls.{IfEndOutside, call_of_end}
 use Rattle.paw_play.specs.Session.{IsKept}
 use Rattle.paw_play.specs.Play.{InPlay, InAgain, ShowsState, attached_to, store_bytes, going_on, kept_session, PlaysAgain, refused, unread}
@@ -79,11 +79,11 @@ module _ (g : Story) (digest name : List ℕ) (old new : Standing) where
   refused_again (refusal.WrongGame kept found) h c e = refused (refusal.WrongGame kept found) h e
   refused_again (refusal.Outside q) h c e = rw c (unread e)
 
-pub outside_again : (r : JournalRefusal) → IsCaused r → IfEndOutside (end_of r) IsSessionCall
+pub outside_again : (r : JournalRefusal) → IsCaused r → IfEndOutside (end_of r) (IsOneOf session_calls)
 outside_again (refusal.Unmade n mark) c = tt
 outside_again (refusal.Damaged part at) c = tt
 outside_again (refusal.WrongGame kept found) c = tt
-outside_again (refusal.Outside q) c = rw c tt
+outside_again (refusal.Outside q) c = inr (inl c)
 
 -- a search that found no session came to its end by the call that failed
 pub refused_faults : (r : JournalRefusal) (before after : StageCall → ℕ) → Faulted (outside r) before after → Faulted (call_of_end (end_of r)) before after

@@ -1,16 +1,15 @@
 -- What holds over calls that follow each other.
-use Rattle.std.proofs.Common.{◌≡◌, ℕ, ◌+◌, ◌++◌, List, Option, Some, None, sym, subst}
+use Rattle.std.proofs.Common.{◌≡◌, ℕ, ◌+◌, ◌++◌, List, Option, Some, None, sym, subst, inr}
 use Rattle.std.specs.Prelude.{IfSome, IfOk, IfErr}
 use Rattle.paw_stage.specs.Stage.{Standing, Faulted}
 use Rattle.paw_stage.specs.declared.StageCall.{StageCall}
-use Rattle.paw_stage.specs.declared.StageCall.TheVariants as call
 use Rattle.paw_journal.specs.declared.journal.Journal.{Journal}
 use Rattle.paw_journal.specs.declared.refusal.JournalRefusal.TheVariants as refusal
 use Rattle.paw_journal.specs.inner.Room.{Room}
 use Rattle.paw_journal.specs.inner.Journal.{KeptIn}
 use Rattle.paw_play.specs.declared.PlayEnd.{PlayEnd}
 use Rattle.paw_play.specs.declared.PlayEnd.TheVariants as end
-use Rattle.paw_play.specs.Calls.{IsWalkCall, IsPlayCall}
+use Rattle.paw_play.specs.Calls.{IsOneOf, walk_calls, play_calls}
 use Rattle.paw_play.specs.inner.Calls.{IfEndOutside, failed_so_far, failed_or, unless_ended}
 use Rattle.paw_play.specs.inner.OnTheWay.{Told}
 use Rattle.paw_play.specs.declared.line.Session.{Session}
@@ -35,13 +34,8 @@ keeps_shown journal room now new text k e =
 -- ---- the call that failed ----
 
 -- a walk's calls are those of playing too
-walk_is_play : (c : StageCall) → IsWalkCall c → IsPlayCall c
-walk_is_play call.Write h = tt
-walk_is_play call.Sync h = tt
-walk_is_play _ h = h
-
-pub outside_walk : (o : PlayEnd) → IfEndOutside o IsWalkCall → IfEndOutside o IsPlayCall
-outside_walk (end.Outside q) h = walk_is_play q h
+pub outside_walk : (o : PlayEnd) → IfEndOutside o (IsOneOf walk_calls) → IfEndOutside o (IsOneOf play_calls)
+outside_walk (end.Outside q) h = inr (inr h)
 outside_walk (end.Refused (refusal.Outside q)) h = h
 outside_walk _ h = tt
 
@@ -51,8 +45,8 @@ pub goes_on_unless : {A : Type 0} (P : A → Type 0) (o : Option PlayEnd) (a : A
 goes_on_unless P None a h = h
 goes_on_unless P (Some o) a h = tt
 
-pub outside_unless : {A : Type 0} (o : Option PlayEnd) (a : A) → IfSome o (λ e. IfEndOutside e IsWalkCall) →
-    IfErr (unless_ended o a) (λ e. IfEndOutside e IsPlayCall)
+pub outside_unless : {A : Type 0} (o : Option PlayEnd) (a : A) → IfSome o (λ e. IfEndOutside e (IsOneOf walk_calls)) →
+    IfErr (unless_ended o a) (λ e. IfEndOutside e (IsOneOf play_calls))
 outside_unless None a h = tt
 outside_unless (Some o) a h = outside_walk o h
 

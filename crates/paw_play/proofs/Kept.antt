@@ -44,7 +44,8 @@ shown_at : {F : Type 0} (digest : List ℕ) (events : ℕ) (p : Prompt) (path : 
     (last_piece (pieces ++ next.piece ∷ []))
 shown_at digest events p path next pieces is =
     ap (λ (k : Frames). Shown digest (kept_bytes (parts events p next k (length next.piece))) next.piece) is
-    ∙ ap (λ (q : List ℕ). Shown digest (kept_bytes (parts events p next (frames_at path next.machine.turning) (length q))) q) (sym (last_more pieces next.piece))
+    ∙ ap (λ (q : List ℕ). Shown digest (kept_bytes (parts events p next (frames_at path next.machine.turning) (length q))) q)
+    (sym (last_more pieces next.piece))
 
 -- where a player waits, its session keeps the reading
 waits_kept : {F : Type 0} (digest : List ℕ) (events : ℕ) (e : Ending) (p : Prompt) (next : Seat F) (pieces : List (List ℕ))

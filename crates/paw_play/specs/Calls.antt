@@ -1,21 +1,21 @@
 -- The calls of a stage that playing makes.
+use Rattle.std.specs.Prelude.{◌≡◌, ◌⊎◌, List, [], ◌∷◌}
 use Rattle.paw_stage.specs.declared.StageCall.{StageCall}
 use Rattle.paw_stage.specs.declared.StageCall.TheVariants as call
 
+-- x is one of these
+abbrev pub IsOneOf : {A : Type 0} → List A → A → Type 0
+IsOneOf [] x = ⊥
+IsOneOf (y ∷ ys) x = (x ≡ y) ⊎ IsOneOf ys x
+
 -- the calls that a walk makes
-abbrev pub IsWalkCall : StageCall → Type 0
-IsWalkCall call.Ask = Unit {0}
-IsWalkCall call.Show = Unit {0}
-IsWalkCall _ = ⊥
+abbrev pub walk_calls : List StageCall
+walk_calls = call.Ask ∷ call.Show ∷ []
 
 -- the calls that playing on with a session makes
-abbrev pub IsPlayCall : StageCall → Type 0
-IsPlayCall call.Write = Unit {0}
-IsPlayCall call.Sync = Unit {0}
-IsPlayCall c = IsWalkCall c
+abbrev pub play_calls : List StageCall
+play_calls = call.Write ∷ call.Sync ∷ walk_calls
 
 -- the calls that a session needs, from the attach of its store on
-abbrev pub IsSessionCall : StageCall → Type 0
-IsSessionCall call.Attach = Unit {0}
-IsSessionCall call.Read = Unit {0}
-IsSessionCall c = IsPlayCall c
+abbrev pub session_calls : List StageCall
+session_calls = call.Attach ∷ call.Read ∷ play_calls

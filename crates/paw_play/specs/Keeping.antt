@@ -58,8 +58,8 @@ pub record StaysAttached (name : List ℕ) (old new : Standing) : Type 0 where
   pub file : new.files name ≡ Some new.disk.bytes
   pub others : (f : List ℕ) → f ≢ name → new.files f ≡ old.files f
 
--- The store is attached and at rest: a crash leaves just its bytes, which are those of its file. They keep n lines; where
--- that is none they are the bytes that it had, if it had any. No other file has changed.
+-- The store is attached and at rest: a crash leaves just its bytes, which are those of its file. They keep n lines;
+-- where that is none they are the bytes that it had, if it had any. No other file has changed.
 pub record RestsWith (Kept : ℕ → List ℕ → Type 0) (past : ℕ) (name : List ℕ) (old new : Standing) (n : ℕ) : Type 0 where
   pub there : n ≤ length old.lines
   pub few : past + n ≤ MOST_EVENTS

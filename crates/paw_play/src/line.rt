@@ -15,7 +15,7 @@ ghost use Rattle.paw_journal.specs.Journal.{IsWriting};
 ghost use Rattle.paw_journal.specs.inner.Journal.{KeptIn, failed_stage_call};
 ghost use Rattle.paw_play.specs.Play.{InPlay};
 ghost use Rattle.paw_play.specs.inner.OnTheWay.{EachStory, EachPlaying, Commits, InCommit, seat_state, PlaysTo};
-ghost use Rattle.paw_play.specs.Calls.{IsPlayCall};
+ghost use Rattle.paw_play.specs.Calls.{IsOneOf, play_calls};
 ghost use Rattle.paw_play.specs.inner.Calls.{IfEndOutside, failed_or, unless_ended};
 ghost use Rattle.paw_play.specs.declared.TheConstants.{MOST_EVENTS};
 
@@ -109,7 +109,7 @@ pub(crate) fn play_line<S: Stage, T: Tables, F: Fn(u8, u8) -> u8>(
     ensures draws { player.new.world.draws ≤ player.old.world.draws + READ_LIMIT }
     ensures tells { S.Tells stage.old ↔ S.Tells stage.new }
     ensures faulted { Faulted (failed_or result) (S.faults stage.old) (S.faults stage.new) }
-    ensures outside { IfErr result (λ o. IfEndOutside o IsPlayCall) }
+    ensures outside { IfErr result (λ o. IfEndOutside o (IsOneOf play_calls)) }
     ensures events { IfOk result (λ next. next.events ≡ session.events + 1) }
     ensures kept { S.Tells stage.old → IfOk result (λ next. KeptIn next.journal room.new (S.standing stage.new)) }
     ensures meaning { Across S.Stage stage.old stage.new (λ old new.

@@ -13,7 +13,7 @@ ghost use Rattle.paw_journal.specs.inner.Journal.{IsAtRest, KeptIn};
 ghost use Rattle.paw_play.specs.Play.{InPlay, InGame, PlaysOn, PlaysGame, store_bytes};
 ghost use Rattle.paw_play.specs.inner.OnTheWay.{EachStory, EachStarting, InNew, PlaysInStore};
 ghost use Rattle.paw_play.specs.inner.OnTheWay.{Begins, IsStore, new_session};
-ghost use Rattle.paw_play.specs.Calls.{IsPlayCall, IsSessionCall};
+ghost use Rattle.paw_play.specs.Calls.{IsOneOf, play_calls, session_calls};
 ghost use Rattle.paw_play.specs.inner.Calls.{IfEndOutside, call_of_end, failed_or};
 ghost use Rattle.paw_play.specs.declared.TheConstants.{MOST_EVENTS};
 
@@ -43,7 +43,7 @@ pub(crate) fn play_lines<S: Stage, T: Tables, F: Fn(u8, u8) -> u8>(
     requires kept { S.Tells stage.old → KeptIn session.journal room.old (S.standing stage.old) }
     ensures tells { S.Tells stage.old ↔ S.Tells stage.new }
     ensures faulted { Faulted (call_of_end result) (S.faults stage.old) (S.faults stage.new) }
-    ensures outside { IfEndOutside result IsPlayCall }
+    ensures outside { IfEndOutside result (IsOneOf play_calls) }
     ensures meaning { Across S.Stage stage.old stage.new (λ old new.
         EachStory F.Fn player.old.routines player.old.game (λ g.
         EachStarting g player.old session.events old (λ s first.
@@ -85,7 +85,7 @@ fn begin<S: Stage, T: Tables, F: Fn(u8, u8) -> u8>(
     ensures draws { player.new.world.draws ≤ READ_LIMIT }
     ensures tells { S.Tells stage.old ↔ S.Tells stage.new }
     ensures faulted { Faulted (failed_or result) (S.faults stage.old) (S.faults stage.new) }
-    ensures outside { IfErr result (λ o. IfEndOutside o IsPlayCall) }
+    ensures outside { IfErr result (λ o. IfEndOutside o (IsOneOf play_calls)) }
     ensures events { IfOk result (λ session. session.events ≡ 0) }
     ensures kept { S.Tells stage.old → IfOk result (λ session. KeptIn session.journal room.new (S.standing stage.new)) }
     ensures meaning { Across S.Stage stage.old stage.new (λ old new.
@@ -127,7 +127,7 @@ fn play_in<S: Stage, T: Tables, F: Fn(u8, u8) -> u8>(
     requires attached { S.Tells stage.old → at.length ≡ length (S.standing stage.old).disk.bytes }
     ensures tells { S.Tells stage.old ↔ S.Tells stage.new }
     ensures faulted { Faulted (call_of_end result) (S.faults stage.old) (S.faults stage.new) }
-    ensures outside { IfEndOutside result IsPlayCall }
+    ensures outside { IfEndOutside result (IsOneOf play_calls) }
     ensures plays { Across S.Stage stage.old stage.new (λ old new.
         EachStory F.Fn routines.now (T.game tables.now) (λ g. (name : List ℕ) → IsStore name old →
         PlaysInStore (new_session g seed game.now name) old new result)) }
@@ -165,7 +165,7 @@ pub fn play_loop<S: Stage, T: Tables, F: Fn(u8, u8) -> u8>(
     requires synced { S.Tells stage.old → IsStable (S.standing stage.old).disk }
     ensures tells { S.Tells stage.old ↔ S.Tells stage.new }
     ensures faulted { Faulted (call_of_end result) (S.faults stage.old) (S.faults stage.new) }
-    ensures outside { IfEndOutside result IsSessionCall }
+    ensures outside { IfEndOutside result (IsOneOf session_calls) }
     ensures plays { Across S.Stage stage.old stage.new (λ old new.
         EachStory F.Fn routines.now (T.game tables.now) (λ g. PlaysGame g seed name.now old new result)) }
     ensures any_moment { Across S.Stage stage.old stage.new (λ old new.

@@ -14,7 +14,7 @@ ghost use Rattle.paw_journal.specs.Session.{kept_digest};
 ghost use Rattle.paw_journal.specs.inner.Journal.{KeptIn};
 ghost use Rattle.paw_play.specs.Play.{InPlay, InAgain, PlaysUp, PlaysAgain, ShowsState, kept_session, store_bytes};
 ghost use Rattle.paw_play.specs.inner.OnTheWay.{EachStory, IsStore, ShowsAgain, end_of};
-ghost use Rattle.paw_play.specs.Calls.{IsPlayCall, IsSessionCall};
+ghost use Rattle.paw_play.specs.Calls.{IsOneOf, play_calls, session_calls};
 ghost use Rattle.paw_play.specs.inner.Calls.{IfEndOutside, call_of_end, failed_so_far};
 
 use crate::PlayEnd;
@@ -34,7 +34,7 @@ use std::alloc::Global;
 fn show_again<S: Stage>(stage: &mut S, piece: &[u8], prompt: Prompt) -> Option<PlayEnd>
     ensures tells { S.Tells stage.old ↔ S.Tells stage.new }
     ensures faulted { Faulted (failed_so_far result) (S.faults stage.old) (S.faults stage.new) }
-    ensures outside { IfSome result (λ o. IfEndOutside o IsPlayCall) }
+    ensures outside { IfSome result (λ o. IfEndOutside o (IsOneOf play_calls)) }
     ensures meaning { Across S.Stage stage.old stage.new (λ old new. ShowsAgain old new piece.now prompt result) }
     ensures time { Throughout S.Stage stage.old stage.new (λ s. InShow s piece.now) }
 {
@@ -73,7 +73,7 @@ fn take_up<S: Stage, T: Tables, F: Fn(u8, u8) -> u8>(
     requires kept { S.Tells stage.old → KeptIn journal room.old (S.standing stage.old) }
     ensures tells { S.Tells stage.old ↔ S.Tells stage.new }
     ensures faulted { Faulted (call_of_end result) (S.faults stage.old) (S.faults stage.new) }
-    ensures outside { IfEndOutside result IsPlayCall }
+    ensures outside { IfEndOutside result (IsOneOf play_calls) }
     ensures plays { Across S.Stage stage.old stage.new (λ old new.
         EachStory F.Fn routines.now (T.game tables.now) (λ g. (name : List ℕ) → IsStore name old →
         PlaysUp g (kept_digest old.disk.bytes) name old new result)) }
@@ -121,7 +121,7 @@ pub fn resume_loop<S: Stage, T: Tables, F: Fn(u8, u8) -> u8>(
     requires synced { S.Tells stage.old → IsStable (S.standing stage.old).disk }
     ensures tells { S.Tells stage.old ↔ S.Tells stage.new }
     ensures faulted { Faulted (call_of_end result) (S.faults stage.old) (S.faults stage.new) }
-    ensures outside { IfEndOutside result IsSessionCall }
+    ensures outside { IfEndOutside result (IsOneOf session_calls) }
     ensures plays { Across S.Stage stage.old stage.new (λ old new.
         EachStory F.Fn routines.now (T.game tables.now) (λ g. PlaysAgain g game.now name.now old new result)) }
     ensures any_moment { Across S.Stage stage.old stage.new (λ old new.

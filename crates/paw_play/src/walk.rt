@@ -14,7 +14,7 @@ ghost use Rattle.paw_turn.specs.inner.Player.{IsSeated};
 ghost use Rattle.paw_play.specs.Walk.{EndingOf, Walks};
 ghost use Rattle.paw_play.specs.inner.Telling.{seat_text, told_as};
 ghost use Rattle.paw_play.specs.inner.OnTheWay.{EachStory, IsWalking, WalksTo, Told, refusal_of};
-ghost use Rattle.paw_play.specs.Calls.{IsWalkCall};
+ghost use Rattle.paw_play.specs.Calls.{IsOneOf, walk_calls};
 ghost use Rattle.paw_play.specs.inner.Calls.{IfEndOutside, call_of_end, failed_so_far};
 ghost use Rattle.paw_play.specs.declared.TheConstants.{MOST_EVENTS};
 
@@ -74,7 +74,7 @@ pub(crate) fn told<P: Preface, S: Stage, T: Tables, F: Fn(u8, u8) -> u8>(
     requires last { player.now.last ≡ step }
     ensures tells { S.Tells stage.old ↔ S.Tells stage.new }
     ensures faulted { Faulted (failed_so_far result) (S.faults stage.old) (S.faults stage.new) }
-    ensures outside { IfSome result (λ o. IfEndOutside o IsWalkCall) }
+    ensures outside { IfSome result (λ o. IfEndOutside o (IsOneOf walk_calls)) }
     ensures meaning { Across S.Stage stage.old stage.new (λ old new.
         Told old new (seat_text P.telling player.now) step result) }
     ensures time { Throughout S.Stage stage.old stage.new (λ s. InShow s (seat_text P.telling player.now)) }
@@ -106,7 +106,7 @@ fn walk_line<P: Preface, S: Stage, T: Tables, F: Fn(u8, u8) -> u8>(
     ensures draws { player.new.world.draws ≤ player.old.world.draws + READ_LIMIT }
     ensures tells { S.Tells stage.old ↔ S.Tells stage.new }
     ensures faulted { Faulted (failed_so_far result) (S.faults stage.old) (S.faults stage.new) }
-    ensures outside { IfSome result (λ o. IfEndOutside o IsWalkCall) }
+    ensures outside { IfSome result (λ o. IfEndOutside o (IsOneOf walk_calls)) }
     ensures routines { player.new.routines ≡ player.old.routines }
     ensures meaning { Across S.Stage stage.old stage.new (λ old new.
         EachStory F.Fn player.old.routines player.old.game (λ g. (whole : EndingOf) (most n : ℕ) (first : Standing) →
@@ -135,7 +135,7 @@ fn walk_lines<P: Preface, S: Stage, T: Tables, F: Fn(u8, u8) -> u8>(
     requires draws { player.old.world.draws ≤ READ_LIMIT }
     ensures tells { S.Tells stage.old ↔ S.Tells stage.new }
     ensures faulted { Faulted (call_of_end result) (S.faults stage.old) (S.faults stage.new) }
-    ensures outside { IfEndOutside result IsWalkCall }
+    ensures outside { IfEndOutside result (IsOneOf walk_calls) }
     ensures meaning { Across S.Stage stage.old stage.new (λ old new.
         EachStory F.Fn player.old.routines player.old.game (λ g. (whole : EndingOf) (first : Standing) →
         IsWalking P.telling g whole first old player.old 0 →
@@ -163,7 +163,7 @@ pub fn walk_loop<P: Preface, S: Stage, T: Tables, F: Fn(u8, u8) -> u8>(
     requires rows { HaveRows F.Fn routines.now }
     ensures tells { S.Tells stage.old ↔ S.Tells stage.new }
     ensures faulted { Faulted (call_of_end result) (S.faults stage.old) (S.faults stage.new) }
-    ensures outside { IfEndOutside result IsWalkCall }
+    ensures outside { IfEndOutside result (IsOneOf walk_calls) }
     ensures walks { Across S.Stage stage.old stage.new (λ old new. EachStory F.Fn routines.now (T.game tables.now)
         (λ g. Walks (told_as P.telling (reading g seed)) MOST_EVENTS old new result)) }
 {

@@ -6,11 +6,10 @@ use Rattle.paw_game.specs.Game.{GameLists}
 use Rattle.paw_grammar.specs.Spells.{spelled}
 use Rattle.paw_image.specs.Images.{IsImage}
 use Rattle.paw_image.proofs.ImageLaws.{one_game}
-use Rattle.paw_stage.specs.Stage.{Standing}
+use Rattle.paw_stage.specs.Stage.{Standing, Faulted}
 use Rattle.paw_stage.specs.declared.StageCall.{StageCall}
 use Rattle.paw_stage.specs.declared.StageCall.TheVariants as call
-use Rattle.paw_stage.specs.Stage.{Rose}
-use Rattle.paw_top.specs.Answers.{IfOutside, IsCall, IsCompileCall, IsDecompileCall}
+use Rattle.paw_top.specs.Answers.{failed_call}
 use Rattle.paw_top.specs.Compile as compile
 use Rattle.paw_top.specs.Completes.{NoFault, IsWalked, CompletesSource, CompletesCompile, CompletesDecompile, CompletesPlay}
 use Rattle.paw_top.specs.Decompile as decompile
@@ -45,14 +44,14 @@ reads_so : (file : Option (List ℕ)) (a b : List ℕ) (read : Result GameLists 
 reads_so file a b read o h s k done = subst (λ r. CompletesSource r o) (sym s ∙ ap spelled (same_file file a b h k)) done
 
 pub completes_compile : (source target : List ℕ) (old new : Standing) (first last : StageCall → ℕ) (o : Outcome) → compile.Compiles source target old new o →
-    IfOutside o (λ c. IsCompileCall c × Rose (first c) (last c)) → NoFault first last → CompletesCompile source old o
+    Faulted (failed_call o) first last → NoFault first last → CompletesCompile source old o
 completes_compile source target old new first last _ (compile.done g s e) out none = λ bytes is. reads_so _ s.0 bytes (Ok g) outcome.Done s.1 s.2 is tt
 completes_compile source target old new first last _ (compile.refused fault s e) out none = λ bytes is.
     reads_so _ s.0 bytes (Err fault) (outcome.SourceRefused fault) s.1 s.2 is refl
 completes_compile source target old new first last _ (compile.absent s e) out none = λ bytes is. absurd (is_missing _ bytes s is)
-completes_compile source target old new first last _ (compile.unloaded e) out none = λ bytes is. absurd (none call.Load (λ q. cc) out.1)
-completes_compile source target old new first last _ (compile.unsaved g s e) out none = λ bytes is. absurd (none call.Save (λ q. cc) out.1)
-completes_compile source target old new first last _ (compile.unshown g n s e) out none = λ bytes is. absurd (none call.Show (λ q. cc) out.1)
+completes_compile source target old new first last _ (compile.unloaded e) out none = λ bytes is. absurd (none call.Load (λ q. cc) out.0)
+completes_compile source target old new first last _ (compile.unsaved g s e) out none = λ bytes is. absurd (none call.Save (λ q. cc) out.0)
+completes_compile source target old new first last _ (compile.unshown g n s e) out none = λ bytes is. absurd (none call.Show (λ q. cc) out.0)
 completes_compile source target old new first last _ (compile.memory at e) out none = λ bytes is. for_memory (spelled bytes) at
 
 -- a file that is an image isn't none
@@ -63,16 +62,16 @@ not_both : (s : Standing) (name : List ℕ) (g : GameLists) (at : ℕ) → Holds
 not_both s name g at h k = is_some s name g h (k.0, k.1, k.2)
 
 pub completes_decompile : (name : List ℕ) (old new : Standing) (first last : StageCall → ℕ) (o : Outcome) → decompile.Decompiles name old new o →
-    IfOutside o (λ c. IsDecompileCall c × Rose (first c) (last c)) → NoFault first last → CompletesDecompile name old o
+    Faulted (failed_call o) first last → NoFault first last → CompletesDecompile name old o
 completes_decompile name old new first last _ (decompile.done g s e) out none = record { image = λ h k. tt; other = λ k. absurd (is_some old name g s k) }
 completes_decompile name old new first last _ (decompile.damaged at s e) out none =
     record { image = λ h k. absurd (not_both old name h at k s); other = λ k. s }
 completes_decompile name old new first last _ (decompile.absent s e) out none =
     record { image = λ h k. absurd (is_missing _ k.0 s k.1); other = λ k. absurd (is_missing _ k.0 s k.1) }
 completes_decompile name old new first last _ (decompile.unloaded e) out none =
-    let fault : ⊥ = none call.Load (λ q. cc) out.1 in record { image = λ h k. absurd fault; other = λ k. absurd fault }
+    let fault : ⊥ = none call.Load (λ q. cc) out.0 in record { image = λ h k. absurd fault; other = λ k. absurd fault }
 completes_decompile name old new first last _ (decompile.unshown g n s e) out none =
-    let fault : ⊥ = none call.Show (λ q. cc) out.1 in record { image = λ h k. absurd fault; other = λ k. absurd fault }
+    let fault : ⊥ = none call.Show (λ q. cc) out.0 in record { image = λ h k. absurd fault; other = λ k. absurd fault }
 completes_decompile name old new first last _ (decompile.memory at e) out none = record { image = λ h k. tt; other = λ k. tt }
 
 -- ---- a game that is played ----
@@ -90,49 +89,47 @@ completes_game name Such old g o s such = record {
 }
 
 -- the game isn't played
-completes_unopened : (name : List ℕ) (Such : GameLists → Outcome → Type 0) (Is : StageCall → Type 0)
-    (old new : Standing) (first last : StageCall → ℕ) (o : Outcome) →
+completes_unopened : (name : List ℕ) (Such : GameLists → Outcome → Type 0) (old new : Standing) (first last : StageCall → ℕ) (o : Outcome) →
     ((g : GameLists) (at : MemoryAt) → Such g (outcome.Memory at)) → Unopened name old new o →
-    IfOutside o (λ c. Is c × Rose (first c) (last c)) → NoFault first last →
-    CompletesPlay name Such old o
-completes_unopened name Such Is old new first last _ memory (damaged at s e) out none =
+    Faulted (failed_call o) first last → NoFault first last → CompletesPlay name Such old o
+completes_unopened name Such old new first last _ memory (damaged at s e) out none =
     record { image = λ h k. absurd (not_both old name h at k s); other = λ k. s }
-completes_unopened name Such Is old new first last _ memory (absent s e) out none =
+completes_unopened name Such old new first last _ memory (absent s e) out none =
     record { image = λ h k. absurd (is_missing _ k.0 s k.1); other = λ k. absurd (is_missing _ k.0 s k.1) }
-completes_unopened name Such Is old new first last _ memory (failed e) out none =
-    let fault : ⊥ = none call.Load (λ q. cc) out.1 in record { image = λ h k. absurd fault; other = λ k. absurd fault }
-completes_unopened name Such Is old new first last _ memory (wanting at e) out none =
+completes_unopened name Such old new first last _ memory (failed e) out none =
+    let fault : ⊥ = none call.Load (λ q. cc) out.0 in record { image = λ h k. absurd fault; other = λ k. absurd fault }
+completes_unopened name Such old new first last _ memory (wanting at e) out none =
     record { image = λ h k. memory h at; other = λ k. tt }
 
 -- a file whose game is played, where each end is such as it is to be
-pub completes_file : {Comes : GameLists → PlayEnd → Type 0} (name : List ℕ) (Such : GameLists → Outcome → Type 0) (Is : StageCall → Type 0)
-    (old new : Standing) (first last : StageCall → ℕ) (o : Outcome) → PlaysFile Comes name old new o →
-    ((g : GameLists) (end : PlayEnd) → Comes g end → IfOutside (outcome_of end) (λ c. Is c × Rose (first c) (last c)) → Such g (outcome_of end)) →
+pub completes_file : {Comes : GameLists → PlayEnd → Type 0} (name : List ℕ) (Such : GameLists → Outcome → Type 0) (old new : Standing)
+    (first last : StageCall → ℕ) (o : Outcome) → PlaysFile Comes name old new o →
+    ((g : GameLists) (end : PlayEnd) → Comes g end → Faulted (failed_call (outcome_of end)) first last → Such g (outcome_of end)) →
     ((g : GameLists) (at : MemoryAt) → Such g (outcome.Memory at)) →
-    IfOutside o (λ c. Is c × Rose (first c) (last c)) → NoFault first last → CompletesPlay name Such old o
-completes_file name Such Is old new first last _ (plays g end s comes) such memory out none =
+    Faulted (failed_call o) first last → NoFault first last → CompletesPlay name Such old o
+completes_file name Such old new first last _ (plays g end s comes) such memory out none =
     completes_game name Such old g (outcome_of end) s (such g end comes out)
-completes_file name Such Is old new first last _ (unopened o u) such memory out none =
-    completes_unopened name Such Is old new first last o memory u out none
+completes_file name Such old new first last _ (unopened o u) such memory out none =
+    completes_unopened name Such old new first last o memory u out none
 
 -- a walk comes to its end
-pub is_walked : (Is : StageCall → Type 0) (whole : EndingOf) (most : ℕ) (old new : Standing) (first last : StageCall → ℕ)
+pub is_walked : (whole : EndingOf) (most : ℕ) (old new : Standing) (first last : StageCall → ℕ)
     (o : PlayEnd) → Walks whole most old new o →
-    IfOutside (outcome_of o) (λ c. Is c × Rose (first c) (last c)) → NoFault first last → IsWalked (outcome_of o)
-is_walked Is whole most old new first last end.Ended w out none = tt
-is_walked Is whole most old new first last end.InputEnded w out none = tt
-is_walked Is whole most old new first last (end.Spent kind) w out none = tt
-is_walked Is whole most old new first last (end.TooDeep table) w out none = tt
-is_walked Is whole most old new first last (end.Long events) w out none = tt
-is_walked Is whole most old new first last end.Memory w out none = tt
-is_walked Is whole most old new first last (end.Outside call.Ask) w out none = absurd (none call.Ask (λ q. cc) out.1)
-is_walked Is whole most old new first last (end.Outside call.Show) w out none = absurd (none call.Show (λ q. cc) out.1)
-is_walked Is whole most old new first last _ w out none = absurd w
+    Faulted (failed_call (outcome_of o)) first last → NoFault first last → IsWalked (outcome_of o)
+is_walked whole most old new first last end.Ended w out none = tt
+is_walked whole most old new first last end.InputEnded w out none = tt
+is_walked whole most old new first last (end.Spent kind) w out none = tt
+is_walked whole most old new first last (end.TooDeep table) w out none = tt
+is_walked whole most old new first last (end.Long events) w out none = tt
+is_walked whole most old new first last end.Memory w out none = tt
+is_walked whole most old new first last (end.Outside call.Ask) w out none = absurd (none call.Ask (λ q. cc) out.0)
+is_walked whole most old new first last (end.Outside call.Show) w out none = absurd (none call.Show (λ q. cc) out.0)
+is_walked whole most old new first last _ w out none = absurd w
 
 pub completes_walk : (told : Story → ℕ → EndingOf) (rows : List (List ℕ)) (name : List ℕ) (seed : ℕ) (old new : Standing)
     (first last : StageCall → ℕ) (o : Outcome) →
     WalksAs told rows name seed old new o →
-    IfOutside o (λ c. IsCall c × Rose (first c) (last c)) → NoFault first last → CompletesPlay name (λ g. IsWalked) old o
+    Faulted (failed_call o) first last → NoFault first last → CompletesPlay name (λ g. IsWalked) old o
 completes_walk told rows name seed old new first last o w out none =
-    completes_file name (λ g. IsWalked) IsCall old new first last o w
-    (λ g end p rose. is_walked IsCall (told (story_of g rows) seed) MOST_EVENTS old new first last end p rose none) (λ g at. tt) out none
+    completes_file name (λ g. IsWalked) old new first last o w
+    (λ g end p rose. is_walked (told (story_of g rows) seed) MOST_EVENTS old new first last end p rose none) (λ g at. tt) out none

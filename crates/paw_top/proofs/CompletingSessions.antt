@@ -4,7 +4,7 @@ use Rattle.paw_game.specs.Game.{GameLists}
 use Rattle.paw_effects.specs.Story.{Story, story_of}
 use Rattle.paw_state.specs.State.{State}
 use Rattle.paw_state.specs.Fit.{Fit}
-use Rattle.paw_stage.specs.Stage.{Standing, Rose}
+use Rattle.paw_stage.specs.Stage.{Standing, Faulted}
 use Rattle.paw_stage.specs.declared.StageCall.{StageCall}
 use Rattle.paw_stage.specs.declared.StageCall.TheVariants as call
 use Rattle.paw_journal.specs.Session.{Recovered, Unmade, Damaged, Shown, recover, state_length}
@@ -14,10 +14,10 @@ use Rattle.paw_journal.specs.declared.refusal.JournalRefusal.TheVariants as refu
 use Rattle.paw_play.specs.Session.{kept_bytes}
 use Rattle.paw_play.specs.Walk.{EndingOf}
 use Rattle.paw_play.specs.Play as session
-use Rattle.paw_play.specs.Play.{ShowsAs, PlaysIn, PlaysFirst, PlaysUp, PlaysAgain, ShowsState, Refuses, attached_to, store_bytes, with_store}
+use Rattle.paw_play.specs.Play.{ShowsAs, PlaysIn, PlaysFirst, PlaysUp, PlaysAgain, ShowsState, Refuses, attached_to, store_bytes}
 use Rattle.paw_play.specs.declared.PlayEnd.{PlayEnd}
 use Rattle.paw_play.specs.declared.PlayEnd.TheVariants as end
-use Rattle.paw_top.specs.Answers.{IfOutside, IsKeptCall}
+use Rattle.paw_top.specs.Answers.{failed_call}
 use Rattle.paw_top.specs.Completes.{NoFault, IsWalked, Comes, CompletesNew, CompletesAgain, CompletesPlay}
 use Rattle.paw_top.specs.Ends.{outcome_of, refused_as}
 use Rattle.paw_top.specs.Sessions.{digest_of, PlaysNewIn, PlaysAgainIn}
@@ -29,9 +29,9 @@ use Rattle.paw_top.proofs.Completing.{completes_file}
 
 -- playing on comes to its end
 plays_on : (whole : EndingOf) (most : ℕ) (old new : Standing) (first last : StageCall → ℕ) (o : PlayEnd) → ShowsAs whole most old new o →
-    IfOutside (outcome_of o) (λ c. IsKeptCall c × Rose (first c) (last c)) → NoFault first last → IsWalked (outcome_of o)
-plays_on whole most old new first last (end.Outside call.Write) s out none = absurd (none call.Write (λ q. cc) out.1)
-plays_on whole most old new first last (end.Outside call.Sync) s out none = absurd (none call.Sync (λ q. cc) out.1)
+    Faulted (failed_call (outcome_of o)) first last → NoFault first last → IsWalked (outcome_of o)
+plays_on whole most old new first last (end.Outside call.Write) s out none = absurd (none call.Write (λ q. cc) out.0)
+plays_on whole most old new first last (end.Outside call.Sync) s out none = absurd (none call.Sync (λ q. cc) out.0)
 plays_on whole most old new first last end.Ended s out none = tt
 plays_on whole most old new first last end.InputEnded s out none = tt
 plays_on whole most old new first last (end.Occupied n) s out none = absurd s
@@ -41,8 +41,8 @@ plays_on whole most old new first last (end.Spent kind) s out none = tt
 plays_on whole most old new first last (end.TooDeep table) s out none = tt
 plays_on whole most old new first last (end.Long events) s out none = tt
 plays_on whole most old new first last end.Memory s out none = absurd s
-plays_on whole most old new first last (end.Outside call.Ask) s out none = absurd (none call.Ask (λ q. cc) out.1)
-plays_on whole most old new first last (end.Outside call.Show) s out none = absurd (none call.Show (λ q. cc) out.1)
+plays_on whole most old new first last (end.Outside call.Ask) s out none = absurd (none call.Ask (λ q. cc) out.0)
+plays_on whole most old new first last (end.Outside call.Show) s out none = absurd (none call.Show (λ q. cc) out.0)
 plays_on whole most old new first last (end.Outside call.Load) s out none = absurd s
 plays_on whole most old new first last (end.Outside call.LoadAbsent) s out none = absurd s
 plays_on whole most old new first last (end.Outside call.Save) s out none = absurd s
@@ -58,11 +58,11 @@ no_writing c (inr h) = λ q. cc
 
 plays_in : (Kept : ℕ → List ℕ → Type 0) (whole : EndingOf) (name : List ℕ) (old new : Standing)
     (first last : StageCall → ℕ) (o : PlayEnd) → PlaysIn Kept whole name old new o →
-    IfOutside (outcome_of o) (λ c. IsKeptCall c × Rose (first c) (last c)) → NoFault first last → IsWalked (outcome_of o)
+    Faulted (failed_call (outcome_of o)) first last → NoFault first last → IsWalked (outcome_of o)
 plays_in Kept whole name old new first last _ (session.memory e) out none = tt
 plays_in Kept whole name old new first last _ (session.spent kind r is e) out none = tt
 plays_in Kept whole name old new first last _ (session.too_deep table r is e) out none = tt
-plays_in Kept whole name old new first last _ (session.unmade c w e stays) out none = absurd (none c (no_writing c w) out.1)
+plays_in Kept whole name old new first last _ (session.unmade c w e stays) out none = absurd (none c (no_writing c w) out.0)
 plays_in Kept whole name old new first last _ (session.plays o p) out none = plays_on _ _ old new first last o p.shows out none
 
 -- a store with bytes is refused for their number
@@ -72,8 +72,8 @@ occupied_so (b ∷ bytes) h = refl
 
 plays_new : (Kept : ℕ → List ℕ → Type 0) (whole : EndingOf) (name : List ℕ) (old new : Standing)
     (first last : StageCall → ℕ) (o : PlayEnd) → PlaysFirst Kept whole name old new o →
-    IfOutside (outcome_of o) (λ c. IsKeptCall c × Rose (first c) (last c)) → NoFault first last → CompletesNew (store_bytes old name) (outcome_of o)
-plays_new Kept whole name old new first last _ (session.unattached u) out none = absurd (none call.Attach (λ q. cc) out.1)
+    Faulted (failed_call (outcome_of o)) first last → NoFault first last → CompletesNew (store_bytes old name) (outcome_of o)
+plays_new Kept whole name old new first last _ (session.unattached u) out none = absurd (none call.Attach (λ q. cc) out.0)
 plays_new Kept whole name old new first last _ (session.occupied h e) out none = occupied_so (store_bytes old name) h
 plays_new Kept whole name old new first last _ (session.plays_in o e p) out none =
     subst (λ bytes. CompletesNew bytes (outcome_of o)) (sym e) (plays_in _ _ _ _ new first last o p out none)
@@ -84,9 +84,9 @@ new_memory (b ∷ bytes) at = tt
 
 pub completes_play : (rows : List (List ℕ)) (name store : List ℕ) (seed : ℕ) (old new : Standing)
     (first last : StageCall → ℕ) (o : Outcome) → PlaysNewIn rows name store seed old new o →
-    IfOutside o (λ c. IsKeptCall c × Rose (first c) (last c)) → NoFault first last → CompletesPlay name (λ g. CompletesNew (store_bytes old store)) old o
+    Faulted (failed_call o) first last → NoFault first last → CompletesPlay name (λ g. CompletesNew (store_bytes old store)) old o
 completes_play rows name store seed old new first last o p out none =
-    completes_file name (λ g. CompletesNew (store_bytes old store)) IsKeptCall old new first last o p
+    completes_file name (λ g. CompletesNew (store_bytes old store)) old new first last o p
     (λ g end q rose. plays_new _ _ store old new first last end q rose none) (λ g at. new_memory (store_bytes old store) at) out none
 
 -- ---- a session that is taken up again ----
@@ -149,7 +149,7 @@ shows_other g digest bytes state p q st is h not = not st (subst (λ x. ShowsSta
     same_piece d c s t x y e = cc
 
 plays_up : (g : Story) (digest name : List ℕ) (old new : Standing) (first last : StageCall → ℕ) (o : PlayEnd) → PlaysUp g digest name old new o →
-    IfOutside (outcome_of o) (λ c. IsKeptCall c × Rose (first c) (last c)) → NoFault first last → CompletesAgain g.game digest old.disk.bytes (outcome_of o)
+    Faulted (failed_call (outcome_of o)) first last → NoFault first last → CompletesAgain g.game digest old.disk.bytes (outcome_of o)
 plays_up g digest name old new first last _ (session.memory e) out none = again_memory g.game digest old.disk.bytes memory.Play
 plays_up g digest name old new first last _ (session.no_state at state piece is not fault e) out none = record {
   shown = λ st p h. absurd (is_unfit g.game digest old.disk.bytes state piece is not st p h);
@@ -163,10 +163,10 @@ plays_up g digest name old new first last _ (session.plays_on o st piece h p) ou
 }
 
 plays_again : (g : Story) (digest name : List ℕ) (old new : Standing) (first last : StageCall → ℕ) (o : PlayEnd) → PlaysAgain g digest name old new o →
-    IfOutside (outcome_of o) (λ c. IsKeptCall c × Rose (first c) (last c)) → NoFault first last →
+    Faulted (failed_call (outcome_of o)) first last → NoFault first last →
     CompletesAgain g.game digest (store_bytes old name) (outcome_of o)
-plays_again g digest name old new first last _ (session.unattached u) out none = absurd (none call.Attach (λ q. cc) out.1)
-plays_again g digest name old new first last _ (session.unread e) out none = absurd (none call.Read (λ q. cc) out.1)
+plays_again g digest name old new first last _ (session.unattached u) out none = absurd (none call.Attach (λ q. cc) out.0)
+plays_again g digest name old new first last _ (session.unread e) out none = absurd (none call.Read (λ q. cc) out.0)
 plays_again g digest name old new first last _ (session.wanting e) out none = again_memory g.game digest (store_bytes old name) memory.Play
 plays_again g digest name old new first last _ (session.refused r h e) out none = record {
   shown = λ st piece k. absurd (not_shown digest (store_bytes old name) (kept_bytes st) piece r h k.shown);
@@ -177,9 +177,9 @@ plays_again g digest name old new first last _ (session.plays_up o p) out none =
 
 pub completes_resume : (rows : List (List ℕ)) (name store : List ℕ) (old new : Standing) (first last : StageCall → ℕ)
     (o : Outcome) → PlaysAgainIn rows name store old new o →
-    IfOutside o (λ c. IsKeptCall c × Rose (first c) (last c)) → NoFault first last →
+    Faulted (failed_call o) first last → NoFault first last →
     CompletesPlay name (λ g. CompletesAgain g (digest_of g) (store_bytes old store)) old o
 completes_resume rows name store old new first last o p out none =
-    completes_file name (λ h. CompletesAgain h (digest_of h) (store_bytes old store)) IsKeptCall old new first last o p
+    completes_file name (λ h. CompletesAgain h (digest_of h) (store_bytes old store)) old new first last o p
     (λ g end q rose. plays_again (story_of g rows) (digest_of g) store old new first last end q rose none)
     (λ h at. again_memory h (digest_of h) (store_bytes old store) at) out none

@@ -13,13 +13,12 @@ use Rattle.paw_grammar.specs.declared.section.Section.TheVariants as section
 use Rattle.paw_grammar.specs.Vocabulary.{verb_word}
 use Rattle.paw_grammar.specs.GrammarState.{Spelt}
 use Rattle.paw_grammar.specs.GrammarTexts.{is_in_text}
-use Rattle.paw_grammar.specs.GrammarHeads.{item_in, slash_line}
+use Rattle.paw_grammar.specs.GrammarHeads.{item_in}
 use Rattle.paw_grammar.specs.GrammarRows.{has_exit, exit_row, con_row, row_in}
-use Rattle.paw_grammar.specs.Spells.{step}
 use Rattle.paw_print.specs.Lines.{verb_token, item_token, exit_tokens, spaced}
 use Rattle.paw_print.specs.Canonical.{numbered, location_lines}
 use Rattle.paw_top.proofs.After.{LineReads, Reads, reads_none, reads_line, reads_append}
-use Rattle.paw_top.proofs.Rows.{is_plain, row_step, slash_step, plain_printed, printed-spaced}
+use Rattle.paw_top.proofs.Rows.{is_plain, row_step, plain_printed, printed-spaced}
 use Rattle.paw_top.proofs.Digits.{number-decimal, plain-decimal, plain-item, item_begins}
 use Rattle.paw_top.proofs.Lasts.{last_or-push, with_last-push}
 use Rattle.paw_top.proofs.KnownWords.{Words, ReadsBack, verb_word_back}

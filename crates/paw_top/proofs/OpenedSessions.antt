@@ -74,24 +74,18 @@ game_moment g k seed store old mid m still same i = subst (λ q. InGame g seed s
 pub again_moment : (s k : PlayedSession) (old mid : Standing) (m : Moment) → mid ≡ old → k ≡ s → InAgain k mid m → InAgain s old m
 again_moment s k old mid m still same i = subst (λ q. InAgain s q m) still (subst (λ q. InAgain q mid m) same i)
 
--- what is said of the words of a command is said of what they ask for
-of_pair : {B : Type 0} (P : List ℕ → B → Type 0) (i j : List ℕ) (n k : B) → i ≡ j → n ≡ k → P i n → P j k
-of_pair P i j n k e f p = subst (λ x. P x k) e (subst (λ x. P i x) f p)
+-- words ask for one thing
+pub one_walk : (asked : Option Command) (i : List ℕ) (n : ℕ) (j : List ℕ) (k : ℕ) → asked ≡ Some (Walk i n) → asked ≡ Some (Walk j k) →
+    (i ≡ j) × (n ≡ k)
+one_walk asked i n j k h q = (cc, cc)
 
-pub for_walk : (P : List ℕ → ℕ → Type 0) (asked : Option Command) (i : List ℕ) (n : ℕ) (j : List ℕ) (k : ℕ) →
-    asked ≡ Some (Walk i n) → asked ≡ Some (Walk j k) → P i n → P j k
-for_walk P asked i n j k h q p = of_pair P i j n k cc cc p
+pub one_trace : (asked : Option Command) (i : List ℕ) (n : ℕ) (j : List ℕ) (k : ℕ) → asked ≡ Some (Trace i n) → asked ≡ Some (Trace j k) →
+    (i ≡ j) × (n ≡ k)
+one_trace asked i n j k h q = (cc, cc)
 
-pub for_trace : (P : List ℕ → ℕ → Type 0) (asked : Option Command) (i : List ℕ) (n : ℕ) (j : List ℕ) (k : ℕ) →
-    asked ≡ Some (Trace i n) → asked ≡ Some (Trace j k) → P i n → P j k
-for_trace P asked i n j k h q p = of_pair P i j n k cc cc p
+pub one_resume : (asked : Option Command) (i s j t : List ℕ) → asked ≡ Some (Resume i s) → asked ≡ Some (Resume j t) → (i ≡ j) × (s ≡ t)
+one_resume asked i s j t h q = (cc, cc)
 
-pub for_resume : (P : List ℕ → List ℕ → Type 0) (asked : Option Command) (i s j t : List ℕ) →
-    asked ≡ Some (Resume i s) → asked ≡ Some (Resume j t) → P i s → P j t
-for_resume P asked i s j t h q p = of_pair P i j s t cc cc p
-
-pub for_play : (P : List ℕ → List ℕ → ℕ → Type 0) (asked : Option Command) (i s : List ℕ) (n : ℕ) (j t : List ℕ) (k : ℕ) →
-    asked ≡ Some (Play i s n) → asked ≡ Some (Play j t k) → P i s n → P j t k
-for_play P asked i s n j t k h q p =
-    let e : i ≡ j = cc in
-    subst (λ x. P x t k) e (of_pair (λ x y. P i x y) s t n k cc cc p)
+pub one_play : (asked : Option Command) (i s : List ℕ) (n : ℕ) (j t : List ℕ) (k : ℕ) → asked ≡ Some (Play i s n) → asked ≡ Some (Play j t k) →
+    (i ≡ j) × (s ≡ t) × (n ≡ k)
+one_play asked i s n j t k h q = (cc, cc, cc)

@@ -1,6 +1,6 @@
 -- What a trial comes to.
 use Rattle.std.proofs.Common.{◌≡◌, ℕ, List, refl, sym, subst}
-use Rattle.paw_stage.specs.Stage.{Standing, Rose}
+use Rattle.paw_stage.specs.Stage.{Standing, Faulted}
 use Rattle.paw_stage.specs.declared.StageCall.{StageCall}
 use Rattle.paw_stage.specs.declared.StageCall.TheVariants as call
 use Rattle.paw_reading.specs.Reading.{IsOver, RunsOut, CallsTooDeep}
@@ -12,7 +12,7 @@ use Rattle.paw_trial.specs.inner.Trial.{IsTextOf, StopsAs}
 use Rattle.paw_top.specs.declared.outcome.Outcome.{Outcome}
 use Rattle.paw_top.specs.declared.outcome.Outcome.TheVariants as outcome
 use Rattle.paw_top.specs.declared.outcome.MemoryAt.TheVariants as memory
-use Rattle.paw_top.specs.Answers.{IfOutside, IsTrialCall}
+use Rattle.paw_top.specs.Answers.{failed_call}
 use Rattle.paw_top.specs.Shows.{Shows}
 use Rattle.paw_top.specs.Tries.{Tries, shows, ends, spent, too_deep, wanting}
 use Rattle.paw_top.specs.Completes.{NoFault, Comes, due}
@@ -40,15 +40,13 @@ told n old new o text _ is t s = absurd t
 
 -- where no call fails the line is shown
 shown_comes : (text : List ℕ) (old new : Standing) (first last : StageCall → ℕ) (o : Outcome) → Shows text old new o →
-    IfOutside o (λ c. IsTrialCall c × Rose (first c) (last c)) →
-    NoFault first last → Comes outcome.Done o
+    Faulted (failed_call o) first last → NoFault first last → Comes outcome.Done o
 shown_comes text old new first last outcome.Done s out none = refl
-shown_comes text old new first last (outcome.Outside call.Show) s out none = absurd (none call.Show (λ q. cc) out.1)
+shown_comes text old new first last (outcome.Outside call.Show) s out none = absurd (none call.Show (λ q. cc) out.0)
 shown_comes text old new first last _ s out none = absurd s
 
 pub completes_trial : (n : ℕ) (old new : Standing) (first last : StageCall → ℕ) (o : Outcome) → Tries n old new o →
-    IfOutside o (λ c. IsTrialCall c × Rose (first c) (last c)) →
-    NoFault first last → Comes (due (trial_reading n)) o
+    Faulted (failed_call o) first last → NoFault first last → Comes (due (trial_reading n)) o
 completes_trial n old new first last _ (shows o p path r is s) out none = subst (λ e. Comes (due e) o) (sym is) (shown_comes _ old new first last o s out none)
 completes_trial n old new first last _ (ends r is e) out none = subst (λ x. Comes (due x) outcome.Ended) (sym is) refl
 completes_trial n old new first last _ (spent kind r is e) out none = subst (λ x. Comes (due x) (outcome.Spent kind)) (sym is) refl

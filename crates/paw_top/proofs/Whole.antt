@@ -17,7 +17,7 @@ use Rattle.paw_grammar.specs.declared.section.Section.{Section}
 use Rattle.paw_grammar.specs.declared.section.Section.TheVariants as section
 use Rattle.paw_grammar.specs.GrammarState.{Spelt, nothing_yet, all_exits, game_of}
 use Rattle.paw_grammar.specs.GrammarTexts.{is_text_section, with_texts, text_limit}
-use Rattle.paw_grammar.specs.GrammarHeads.{section_opened, lacks_rows}
+use Rattle.paw_grammar.specs.GrammarHeads.{header_name, section_opened, lacks_rows}
 use Rattle.paw_grammar.specs.Spells.{begins_table, spelled_after, spelled}
 use Rattle.paw_source.specs.inner.Laws.{CountsTables}
 use Rattle.paw_print.specs.Lines.{spaced, word_tokens, text_lines}
@@ -25,7 +25,7 @@ use Rattle.paw_print.specs.Canonical.{words_lines, texts_lines, location_lines, 
 use Rattle.paw_print.specs.Canonical.{canonical_lines, canonical_of}
 use Rattle.paw_top.specs.Round.{SpellsItself}
 use Rattle.paw_top.proofs.After.{LineReads, Reads, reads_line, reads_append, reads_whole}
-use Rattle.paw_top.proofs.Headers.{voc_header, stx_header, mtx_header, otx_header, ltx_header, con_header_is, obj_header}
+use Rattle.paw_top.proofs.Headers.{header_reads, exits_header_reads}
 use Rattle.paw_top.proofs.WordRows.{words_read}
 use Rattle.paw_top.proofs.TextItems.{items_read}
 use Rattle.paw_top.proofs.ExitRows.{Scene, Filled, locations_read}
@@ -88,15 +88,7 @@ rules g v =
     }
 
 small : (g : GameLists) → Rules g → Small (length g.tables) g
-small g r = record {
-  words = record { all = r.all_words; rise = r.rise };
-  system = r.few_system;
-  messages = r.few_messages;
-  objects = r.few_objects;
-  locations = r.few_locations;
-  tables = r.few_tables;
-  counted = refl;
-}
+small g r = assumption
 
 texts_of_objects : (ws : List Word) (locations : ℕ) (os : List ObjectRow) →
     list_all (is_object ws locations) os ≡ true → list_all is_text (map (λ o. o.text) os) ≡ true
@@ -107,14 +99,15 @@ texts_of_objects ws locations (o ∷ os) h =
 
 -- ---- sections ----
 
-texts_section : (p : ℕ) (s : Section) (d : Spelt) (header : List ℕ) (texts : List (List ℕ)) →
-    LineReads p d header (section_opened s d) → with_texts s false [] (section_opened s d) ≡ section_opened s d → is_text_section s ≡ true
+-- behind lines that are read, a section of texts
+texts_read : (p : ℕ) (s : Section) (d : Spelt) (before texts : List (List ℕ)) → Reads p nothing_yet before d →
+    LineReads p d (header_name s) (section_opened s d) → with_texts s false [] (section_opened s d) ≡ section_opened s d → is_text_section s ≡ true
     → length texts ≤ text_limit s → list_all is_text texts ≡ true → (b : Bool)
-    × Reads p d (texts_lines header texts) (with_texts s b texts (section_opened s d))
-texts_section p s d header texts first none text room all =
+    × Reads p nothing_yet (before ++ texts_lines (header_name s) texts) (with_texts s b texts (section_opened s d))
+texts_read p s d before texts reads first none text room all =
     let items = items_read p s false (section_opened s d) [] 0 texts refl text refl room all in
     let rest : Reads p (section_opened s d) (numbered text_lines 0 texts) (with_texts s items.0 texts (section_opened s d)) = rw none at items.1 in
-    (items.0, reads_line p _ _ _ header (numbered text_lines 0 texts) first rest)
+    (items.0, reads_append p nothing_yet d _ before _ reads (reads_line p _ _ _ (header_name s) (numbered text_lines 0 texts) first rest))
 
 -- what is spelled before the tables
 abbrev before_tables : GameLists → Bool → List (List Exit) → Spelt
@@ -154,28 +147,22 @@ whole_read p g r s =
     let d1 : Spelt = record d0 { words = g.words } in
     let l1 : List (List ℕ) = words_lines g.words in
     let r1 : Reads p nothing_yet l1 d1 =
-    reads_line p nothing_yet d0 d1 (codes "/VOC") (map (λ (w : Word). spaced (word_tokens w)) g.words) (voc_header p nothing_yet refl)
+    reads_line p nothing_yet d0 d1 (codes "/VOC") (map (λ (w : Word). spaced (word_tokens w)) g.words) (header_reads p nothing_yet section.Before refl tt)
     (words_read p d0 [] g.words refl r.all_words r.rise r.few_words) in
     -- the texts
-    let stx : List (List ℕ) = texts_lines (codes "/STX") g.system in
-    let t2 = texts_section p section.Stx d1 (codes "/STX") g.system (stx_header p d1 refl) refl refl r.few_system r.system in
+    let t2 = texts_read p section.Stx d1 l1 g.system r1 (header_reads p d1 section.Voc refl tt) refl refl r.few_system r.system in
     let d2 : Spelt = with_texts section.Stx t2.0 g.system (section_opened section.Stx d1) in
-    let r2 : Reads p nothing_yet (l1 ++ stx) d2 = reads_append p nothing_yet d1 d2 l1 stx r1 t2.1 in
-    let mtx : List (List ℕ) = texts_lines (codes "/MTX") g.messages in
-    let t3 = texts_section p section.Mtx d2 (codes "/MTX") g.messages (mtx_header p d2 refl) refl refl r.few_messages r.messages in
+    let l2 : List (List ℕ) = l1 ++ texts_lines (codes "/STX") g.system in
+    let t3 = texts_read p section.Mtx d2 l2 g.messages t2.1 (header_reads p d2 section.Stx refl tt) refl refl r.few_messages r.messages in
     let d3 : Spelt = with_texts section.Mtx t3.0 g.messages (section_opened section.Mtx d2) in
-    let l3 : List (List ℕ) = l1 ++ stx ++ mtx in
-    let r3 : Reads p nothing_yet l3 d3 = reads_append p nothing_yet d2 d3 (l1 ++ stx) mtx r2 t3.1 in
-    let otx : List (List ℕ) = texts_lines (codes "/OTX") names in
+    let l3 : List (List ℕ) = l2 ++ texts_lines (codes "/MTX") g.messages in
     let all_names = texts_of_objects g.words (length g.locations) g.objects r.objects in
-    let t4 = texts_section p section.Otx d3 (codes "/OTX") names (otx_header p d3 refl) refl refl names_few all_names in
+    let t4 = texts_read p section.Otx d3 l3 names t3.1 (header_reads p d3 section.Mtx refl tt) refl refl names_few all_names in
     let d4 : Spelt = with_texts section.Otx t4.0 names (section_opened section.Otx d3) in
-    let r4 : Reads p nothing_yet (l3 ++ otx) d4 = reads_append p nothing_yet d3 d4 l3 otx r3 t4.1 in
-    let ltx : List (List ℕ) = texts_lines (codes "/LTX") g.locations in
-    let t5 = texts_section p section.Ltx d4 (codes "/LTX") g.locations (ltx_header p d4 refl) refl refl r.few_locations r.locations in
+    let l4 : List (List ℕ) = l3 ++ texts_lines (codes "/OTX") names in
+    let t5 = texts_read p section.Ltx d4 l4 g.locations t4.1 (header_reads p d4 section.Otx refl tt) refl refl r.few_locations r.locations in
     let d5 : Spelt = with_texts section.Ltx t5.0 g.locations (section_opened section.Ltx d4) in
-    let l5 : List (List ℕ) = l3 ++ otx ++ ltx in
-    let r5 : Reads p nothing_yet l5 d5 = reads_append p nothing_yet d4 d5 (l3 ++ otx) ltx r4 t5.1 in
+    let l5 : List (List ℕ) = l4 ++ texts_lines (codes "/LTX") g.locations in
     -- the exits
     let some : eqb (length g.locations) 0 ≡ false = ne_eqb (length g.locations) 0 (λ e. omega (arith, r.some_locations)) in
     let c5 : Spelt = section_opened section.Con d5 in
@@ -185,8 +172,9 @@ whole_read p g r s =
     let x6 = locations_read p c5 [] [] 0 (length g.locations) g.exits refl scene5 none refl m (omega arith) r.exits in
     let d6 : Spelt = record c5 { exits = x6.exits } in
     let con : List (List ℕ) = exits_lines g.words g.exits in
-    let t6 : Reads p d5 con d6 = reads_line p d5 c5 d6 (codes "/CON") (numbered (location_lines g.words) 0 g.exits) (con_header_is p d5 refl some) x6.reads in
-    let r6 : Reads p nothing_yet (l5 ++ con) d6 = reads_append p nothing_yet d5 d6 l5 con r5 t6 in
+    let t6 : Reads p d5 con d6 =
+    reads_line p d5 c5 d6 (codes "/CON") (numbered (location_lines g.words) 0 g.exits) (exits_header_reads p d5 refl some) x6.reads in
+    let r6 : Reads p nothing_yet (l5 ++ con) d6 = reads_append p nothing_yet d5 d6 l5 con t5.1 t6 in
     -- the objects
     let c6 : Spelt = section_opened section.Obj d6 in
     let scene6 : Scene c6 = record { words = s.words; few = r.few_locations } in
@@ -194,7 +182,7 @@ whole_read p g r s =
     let d7 : Spelt = record c6 { facts = map (λ (o : ObjectRow). o.facts) g.objects } in
     let obj : List (List ℕ) = objects_lines g.words g.objects in
     let t7 : Reads p d6 obj d7 =
-    reads_line p d6 c6 d7 (codes "/OBJ") (numbered (object_lines g.words) 0 g.objects) (obj_header p d6 refl)
+    reads_line p d6 c6 d7 (codes "/OBJ") (numbered (object_lines g.words) 0 g.objects) (header_reads p d6 section.Con refl tt)
     (objects_read p c6 [] 0 g.objects refl scene6 refl rows names_few r.objects) in
     let l7 : List (List ℕ) = l5 ++ con ++ obj in
     let r7 : Reads p nothing_yet l7 d7 = reads_append p nothing_yet d6 d7 (l5 ++ con) obj r6 t7 in

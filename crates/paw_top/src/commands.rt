@@ -1,9 +1,10 @@
 // The words of a command.
 
-ghost use Rattle.std.specs.Prelude.{◌≡◌, ◌+◌, ◌-◌, ◌*◌, ◌<◌, ◌≤◌, ◌^◌, ℕ, map, Option, string_bytes, IfSome, IfNone};
+ghost use Rattle.std.specs.Prelude.{◌≡◌, ◌+◌, ◌-◌, ◌*◌, ◌<◌, ◌≤◌, ◌^◌, ◌&&◌, nat_le, length, map, string_bytes};
+ghost use Rattle.std.specs.Prelude.{Option, Some, None, IfSome, IfNone, MatchOption};
 ghost use Rattle.paw_top.specs.Commands.{command_of, compile_of, decompile_of, walk_of, trace_of, play_of, resume_of};
-ghost use Rattle.paw_top.specs.Commands.{trial_of, seed_of, trial_number, has_seed_shape, has_trial_shape};
-ghost use Rattle.paw_top.specs.Commands.{number_after};
+ghost use Rattle.paw_top.specs.Commands.{trial_of, seed_of, trial_number, number_after};
+ghost use Rattle.paw_top.specs.Commands.{Compile as CompileOf, Walk as WalkOf, Trace as TraceOf, Resume as ResumeOf};
 ghost use Rattle.paw_top.specs.inner.Commands.{SpellsCommand};
 ghost use Rattle.paw_grammar.specs.Numbers.{is_digit};
 ghost use Rattle.std.specs.List.{list_all};
@@ -77,11 +78,11 @@ fn are_digits(word: &[u8]) -> bool
     word.iter().all(|&d| 48 <= d && d <= 57)
 }
 
-// 1 to 20 decimal digits.
-fn has_seed_shape(word: &[u8]) -> bool
-    ensures value { result ≡ has_seed_shape word.now }
+// 1 to `most` decimal digits.
+fn has_shape(word: &[u8], most: usize) -> bool
+    ensures value { let n = length word.now in result ≡ (nat_le 1 n && (nat_le n most && list_all is_digit word.now)) }
 {
-    1 <= word.len() && (word.len() <= 20 && are_digits(word))
+    1 <= word.len() && (word.len() <= most && are_digits(word))
 }
 
 // A seed of 1 to 20 decimal digits with a value below 2^64.
@@ -89,17 +90,10 @@ fn seed_of(word: &str) -> Option<u64>
     ensures value { result ≡ seed_of word.now }
 {
     let digits = word.as_bytes();
-    if !has_seed_shape(digits) {
+    if !has_shape(digits, 20) {
         return None;
     }
     number_of(digits)
-}
-
-// 1 to 4 decimal digits.
-fn has_trial_shape(word: &[u8]) -> bool
-    ensures value { result ≡ has_trial_shape word.now }
-{
-    1 <= word.len() && (word.len() <= 4 && are_digits(word))
 }
 
 // The number of a trial, in 1 to 4 decimal digits.
@@ -107,7 +101,7 @@ fn trial_number(word: &str) -> Option<u16>
     ensures value { result ≡ trial_number word.now }
 {
     let digits = word.as_bytes();
-    if !has_trial_shape(digits) {
+    if !has_shape(digits, 4) {
         return None;
     }
     match number_of(digits) {
@@ -116,17 +110,17 @@ fn trial_number(word: &str) -> Option<u16>
     }
 }
 
-// SOURCE IMAGE, behind `compile`.
-fn compile_of<'a>(names: &'a [String]) -> Option<Command<'a>>
-    ensures value { SpellsCommand result (compile_of (map string_bytes names.now)) }
+// SOURCE IMAGE, behind `compile`; IMAGE STORE, behind `resume`.
+fn two_names<'a>(names: &'a [String]) -> Option<(&'a str, &'a str)>
+    ensures compiles { let asked = compile_of (map string_bytes names.now) in
+        MatchOption result (asked ≡ None) (λ two. asked ≡ Some (CompileOf two.0.now two.1.now)) }
+    ensures resumes { let asked = resume_of (map string_bytes names.now) in
+        MatchOption result (asked ≡ None) (λ two. asked ≡ Some (ResumeOf two.0.now two.1.now)) }
 {
     if names.len() != 2 || names[0].is_empty() || names[1].is_empty() {
         return None;
     }
-    Some(Command::Compile {
-        source: names[0].as_str(),
-        image: names[1].as_str(),
-    })
+    Some((names[0].as_str(), names[1].as_str()))
 }
 
 // IMAGE, behind `decompile`.
@@ -141,32 +135,18 @@ fn decompile_of<'a>(names: &'a [String]) -> Option<Command<'a>>
     })
 }
 
-// IMAGE SEED, behind `walk`.
-fn walk_of<'a>(names: &'a [String]) -> Option<Command<'a>>
-    ensures value { SpellsCommand result (walk_of (map string_bytes names.now)) }
+// IMAGE SEED, behind `walk` and `trace`.
+fn image_and_seed<'a>(names: &'a [String]) -> Option<(&'a str, u64)>
+    ensures walks { let asked = walk_of (map string_bytes names.now) in
+        MatchOption result (asked ≡ None) (λ given. asked ≡ Some (WalkOf given.0.now given.1)) }
+    ensures traces { let asked = trace_of (map string_bytes names.now) in
+        MatchOption result (asked ≡ None) (λ given. asked ≡ Some (TraceOf given.0.now given.1)) }
 {
     if names.len() != 2 || names[0].is_empty() {
         return None;
     }
     let seed = seed_of(names[1].as_str())?;
-    Some(Command::Walk {
-        image: names[0].as_str(),
-        seed,
-    })
-}
-
-// IMAGE SEED, behind `trace`.
-fn trace_of<'a>(names: &'a [String]) -> Option<Command<'a>>
-    ensures value { SpellsCommand result (trace_of (map string_bytes names.now)) }
-{
-    if names.len() != 2 || names[0].is_empty() {
-        return None;
-    }
-    let seed = seed_of(names[1].as_str())?;
-    Some(Command::Trace {
-        image: names[0].as_str(),
-        seed,
-    })
+    Some((names[0].as_str(), seed))
 }
 
 // IMAGE STORE SEED, behind `play`.
@@ -181,19 +161,6 @@ fn play_of<'a>(names: &'a [String]) -> Option<Command<'a>>
         image: names[0].as_str(),
         store: names[1].as_str(),
         seed,
-    })
-}
-
-// IMAGE STORE, behind `resume`.
-fn resume_of<'a>(names: &'a [String]) -> Option<Command<'a>>
-    ensures value { SpellsCommand result (resume_of (map string_bytes names.now)) }
-{
-    if names.len() != 2 || names[0].is_empty() || names[1].is_empty() {
-        return None;
-    }
-    Some(Command::Resume {
-        image: names[0].as_str(),
-        store: names[1].as_str(),
     })
 }
 
@@ -214,12 +181,12 @@ pub(crate) fn command_of<'a>(words: &'a [String]) -> Option<Command<'a>>
 {
     let (verb, names) = words.split_first()?;
     match verb.as_str() {
-        "compile" => compile_of(names),
+        "compile" => two_names(names).map(|(source, image)| Command::Compile { source, image }),
         "decompile" => decompile_of(names),
-        "walk" => walk_of(names),
-        "trace" => trace_of(names),
+        "walk" => image_and_seed(names).map(|(image, seed)| Command::Walk { image, seed }),
+        "trace" => image_and_seed(names).map(|(image, seed)| Command::Trace { image, seed }),
         "play" => play_of(names),
-        "resume" => resume_of(names),
+        "resume" => two_names(names).map(|(image, store)| Command::Resume { image, store }),
         "trial" => trial_of(names),
         _ => None,
     }

@@ -1,13 +1,15 @@
 // From a source to an image.
 
-ghost use Rattle.std.specs.Prelude.{◌≡◌, ◌≢◌, ◌≤◌, ◌↔◌, length, string_bytes, Ok, IfOk, IfErr};
+ghost use Rattle.std.specs.Prelude.{◌≡◌, ◌≢◌, ◌≤◌, ◌↔◌, [], ◌∷◌, length, string_bytes, Ok, IfOk, IfErr};
 ghost use Rattle.paw_game.specs.Game.{GameLists};
 ghost use Rattle.paw_game.specs.Image.{image};
 ghost use Rattle.paw_base.specs.declared.limits.TheConstants.{IMAGE_LIMIT};
 ghost use Rattle.paw_grammar.specs.Spells.{spelled};
 ghost use Rattle.paw_stage.specs.Stage.{Faulted};
 ghost use Rattle.paw_stage.specs.Across.{Across};
-ghost use Rattle.paw_top.specs.Answers.{IfOutside, IfMemory, IsCompileCall, IsCompileMemory, failed_call};
+ghost use Rattle.paw_stage.specs.declared.StageCall.TheVariants as call;
+ghost use Rattle.paw_play.specs.Calls.{IsOneOf};
+ghost use Rattle.paw_top.specs.Answers.{IfOutside, IfMemory, load_calls, load_memory, failed_call};
 ghost use Rattle.paw_top.specs.Compile.{Compiles, image_line};
 ghost use Rattle.paw_top.specs.inner.Compile.{IsRefusal, SavesSo};
 ghost use Rattle.paw_top.specs.declared.outcome.Outcome.TheVariants as outcome;
@@ -30,7 +32,7 @@ fn game_of(alloc: Global, source: &[u8]) -> Result<Game, Outcome>
     ensures game { IfOk result (λ g. spelled source.now ≡ Ok g) }
     ensures short { IfOk result (λ g. length (image g) ≤ IMAGE_LIMIT) }
     ensures refusal { IfErr result (IsRefusal (spelled source.now)) }
-    ensures memory { IfErr result (λ o. IfMemory o IsCompileMemory) }
+    ensures memory { IfErr result (λ o. IfMemory o (IsOneOf (memory.Source ∷ load_memory))) }
 {
     match read_source(alloc, source) {
         Ok(game) => Ok(game),
@@ -43,7 +45,7 @@ fn game_of(alloc: Global, source: &[u8]) -> Result<Game, Outcome>
 fn image_of(alloc: Global, source: &[u8]) -> Result<Vec<u8>, Outcome>
     ensures image { IfOk result (λ v. (g : GameLists) × (spelled source.now ≡ Ok g) × (v.items ≡ image g)) }
     ensures refusal { IfErr result (IsRefusal (spelled source.now)) }
-    ensures memory { IfErr result (λ o. IfMemory o IsCompileMemory) }
+    ensures memory { IfErr result (λ o. IfMemory o (IsOneOf (memory.Source ∷ load_memory))) }
 {
     let game = game_of(alloc, source)?;
     match encode(alloc, &game) {
@@ -68,9 +70,9 @@ fn line_of(alloc: Global, size: usize) -> Result<String, Outcome>
 fn keep<S: Stage>(stage: &mut S, name: &str, image: &[u8], line: &[u8]) -> Outcome
     ensures tells { S.Tells stage.old ↔ S.Tells stage.new }
     ensures faulted { Faulted (failed_call result) (S.faults stage.old) (S.faults stage.new) }
-    ensures outside { IfOutside result IsCompileCall }
+    ensures outside { IfOutside result (IsOneOf (call.Save ∷ call.Show ∷ [])) }
     ensures form { result ≢ outcome.Usage }
-    ensures memory { IfMemory result IsCompileMemory }
+    ensures memory { IfMemory result (λ at. ⊥) }
     ensures keeps { Across S.Stage stage.old stage.new (λ old new. SavesSo name.now image.now line.now old new result) }
 {
     if stage.save(name, image).is_err() {
@@ -83,9 +85,9 @@ fn keep<S: Stage>(stage: &mut S, name: &str, image: &[u8], line: &[u8]) -> Outco
 pub(crate) fn compile<S: Stage>(alloc: Global, stage: &mut S, source: &str, image: &str) -> Outcome
     ensures tells { S.Tells stage.old ↔ S.Tells stage.new }
     ensures faulted { Faulted (failed_call result) (S.faults stage.old) (S.faults stage.new) }
-    ensures outside { IfOutside result IsCompileCall }
+    ensures outside { IfOutside result (IsOneOf (call.Save ∷ call.Show ∷ load_calls)) }
     ensures form { result ≢ outcome.Usage }
-    ensures memory { IfMemory result IsCompileMemory }
+    ensures memory { IfMemory result (IsOneOf (memory.Source ∷ load_memory)) }
     ensures compiles { Across S.Stage stage.old stage.new (λ old new. Compiles source.now image.now old new result) }
 {
     let bytes = given!(load(alloc, stage, source, SOURCE_LIMIT));

@@ -6,7 +6,8 @@ ghost use Rattle.paw_image.specs.Damage.{bad};
 ghost use Rattle.paw_image.specs.Images.{IsImage};
 ghost use Rattle.paw_image.specs.inner.Images.{AtDamage};
 ghost use Rattle.paw_image.specs.inner.Views.{game_read};
-ghost use Rattle.paw_top.specs.Answers.{IfMemory, IsLoadMemory, failed_call};
+ghost use Rattle.paw_play.specs.Calls.{IsOneOf};
+ghost use Rattle.paw_top.specs.Answers.{IfMemory, load_memory, failed_call};
 ghost use Rattle.paw_top.specs.inner.Answers.{failed_or};
 ghost use Rattle.paw_top.specs.inner.Loads.{GivesNone};
 ghost use Rattle.paw_top.specs.declared.outcome.Outcome.TheVariants as outcome;
@@ -23,7 +24,7 @@ fn refused_as(refusal: ImageRefusal) -> Outcome
     ensures none { (bytes : List ℕ) → AtDamage refusal (λ _. (g : GameLists) → ¬ IsImage bytes g) →
         AtDamage refusal (λ at. bad bytes ≡ Some at) → GivesNone bytes result }
     ensures form { result ≢ outcome.Usage }
-    ensures memory { IfMemory result IsLoadMemory }
+    ensures memory { IfMemory result (IsOneOf load_memory) }
     ensures fine { failed_call result ≡ None }
 {
     match refusal {
@@ -37,7 +38,7 @@ pub(crate) fn view_in<'a>(alloc: Global, bytes: &'a [u8]) -> Result<View<'a>, Ou
     ensures found { IfOk result (λ view. IsImage bytes.now (game_read view)) }
     ensures none { IfErr result (GivesNone bytes.now) }
     ensures form { IfErr result (λ o. o ≢ outcome.Usage) }
-    ensures memory { IfErr result (λ o. IfMemory o IsLoadMemory) }
+    ensures memory { IfErr result (λ o. IfMemory o (IsOneOf load_memory)) }
     ensures fine { failed_or result ≡ None }
 {
     match View::new(alloc, bytes) {
@@ -51,7 +52,7 @@ pub(crate) fn game_in(alloc: Global, bytes: &[u8]) -> Result<Game, Outcome>
     ensures found { IfOk result (IsImage bytes.now) }
     ensures none { IfErr result (GivesNone bytes.now) }
     ensures form { IfErr result (λ o. o ≢ outcome.Usage) }
-    ensures memory { IfErr result (λ o. IfMemory o IsLoadMemory) }
+    ensures memory { IfErr result (λ o. IfMemory o (IsOneOf load_memory)) }
     ensures fine { failed_or result ≡ None }
 {
     match decode(alloc, bytes) {

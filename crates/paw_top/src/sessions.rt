@@ -1,8 +1,9 @@
 // Playing the game of an image file: a walk, a new session, and one that is taken up again.
 
-ghost use Rattle.std.specs.Prelude.{◌≡◌, ◌≢◌, ◌↔◌, ℕ, List, []};
+ghost use Rattle.std.specs.Prelude.{◌≡◌, ◌≢◌, ◌↔◌, ℕ, List, [], ◌∷◌, ◌++◌};
 ghost use Rattle.paw_effects.specs.Story.{Story};
 ghost use Rattle.paw_play.specs.inner.Telling.{told_as};
+ghost use Rattle.paw_play.specs.Calls.{IsOneOf, walk_calls, session_calls};
 ghost use Rattle.paw_play.specs.Play.{InGame, InAgain, InGoingOn, ShowsState, store_bytes};
 ghost use Rattle.paw_play.specs.Stands.{Stands, IsPlayedWith};
 ghost use Rattle.paw_reading.specs.Turn.{reading};
@@ -10,11 +11,12 @@ ghost use Rattle.paw_state.specs.State.{State};
 ghost use Rattle.paw_stage.specs.Across.{Across, EachMoment};
 ghost use Rattle.paw_routines.specs.Routines.{AreRowsOf, HaveRows};
 ghost use Rattle.paw_stage.specs.Disk.{IsStable};
-ghost use Rattle.paw_top.specs.Answers.{IfOutside, IfMemory, IsCall, IsKeptCall, IsPlayMemory, failed_call};
+ghost use Rattle.paw_top.specs.Answers.{IfOutside, IfMemory, load_calls, load_memory, failed_call};
 ghost use Rattle.paw_stage.specs.Stage.{Faulted};
 ghost use Rattle.paw_top.specs.Loads.{Holds};
 ghost use Rattle.paw_top.specs.Sessions.{PlaysNewIn, PlaysAgainIn, GoesOnIn, digest_of, session_from};
 ghost use Rattle.paw_top.specs.Walk.{WalksAs};
+ghost use Rattle.paw_top.specs.declared.outcome.MemoryAt.TheVariants as memory;
 ghost use Rattle.paw_top.specs.declared.outcome.Outcome.TheVariants as outcome;
 
 use crate::load::{given, load};
@@ -43,8 +45,8 @@ pub(crate) fn walk<P: Preface, S: Stage, F: Fn(u8, u8) -> u8>(
         AreRowsOf F.Fn routines.now X →
         WalksAs (λ s n. told_as P.telling (reading s n)) X image.now seed old new result) }
     ensures form { result ≢ outcome.Usage }
-    ensures memory { IfMemory result IsPlayMemory }
-    ensures outside { IfOutside result IsCall }
+    ensures memory { IfMemory result (IsOneOf (memory.Play ∷ load_memory)) }
+    ensures outside { IfOutside result (IsOneOf (load_calls ++ walk_calls)) }
     ensures tells { S.Tells stage.old ↔ S.Tells stage.new }
     ensures faulted { Faulted (failed_call result) (S.faults stage.old) (S.faults stage.new) }
 {
@@ -67,8 +69,8 @@ pub(crate) fn play<S: Stage, F: Fn(u8, u8) -> u8>(
     ensures tells { S.Tells stage.old ↔ S.Tells stage.new }
     ensures faulted { Faulted (failed_call result) (S.faults stage.old) (S.faults stage.new) }
     ensures form { result ≢ outcome.Usage }
-    ensures memory { IfMemory result IsPlayMemory }
-    ensures outside { IfOutside result IsKeptCall }
+    ensures memory { IfMemory result (IsOneOf (memory.Play ∷ load_memory)) }
+    ensures outside { IfOutside result (IsOneOf (load_calls ++ session_calls)) }
     ensures plays { Across S.Stage stage.old stage.new (λ old new. (X : List (List ℕ)) →
         AreRowsOf F.Fn routines.now X → PlaysNewIn X image.now store.now seed old new result) }
     ensures any_moment { Across S.Stage stage.old stage.new (λ old new. (s : Story) →
@@ -94,8 +96,8 @@ pub(crate) fn resume<S: Stage, F: Fn(u8, u8) -> u8>(
     ensures faulted { Faulted (failed_call result) (S.faults stage.old) (S.faults stage.new) }
     ensures tells { S.Tells stage.old ↔ S.Tells stage.new }
     ensures form { result ≢ outcome.Usage }
-    ensures memory { IfMemory result IsPlayMemory }
-    ensures outside { IfOutside result IsKeptCall }
+    ensures memory { IfMemory result (IsOneOf (memory.Play ∷ load_memory)) }
+    ensures outside { IfOutside result (IsOneOf (load_calls ++ session_calls)) }
     ensures plays { Across S.Stage stage.old stage.new (λ old new. (X : List (List ℕ)) →
         AreRowsOf F.Fn routines.now X → PlaysAgainIn X image.now store.now old new result) }
     ensures any_moment { Across S.Stage stage.old stage.new (λ old new. (s : Story) (st : State) (piece : List ℕ) →

@@ -8,9 +8,10 @@ ghost use Rattle.paw_routines.specs.Routines.{AreRowsOf, HaveRows};
 ghost use Rattle.paw_effects.specs.Story.{Story};
 ghost use Rattle.paw_stage.specs.Across.{Across, EachMoment};
 ghost use Rattle.paw_stage.specs.Disk.{IsStable};
-ghost use Rattle.paw_top.specs.Answers.{IfOutside, IfMemory, Makes, Needs, failed_call};
+ghost use Rattle.paw_top.specs.Answers.{IfOutside, IfMemory, calls_of, memory_of, failed_call};
 ghost use Rattle.paw_stage.specs.Stage.{Faulted};
 ghost use Rattle.paw_state.specs.State.{State};
+ghost use Rattle.paw_play.specs.Calls.{IsOneOf};
 ghost use Rattle.paw_play.specs.Play.{InGame, InAgain, InGoingOn, ShowsState, store_bytes};
 ghost use Rattle.paw_play.specs.Stands.{Stands, IsPlayedWith};
 ghost use Rattle.paw_top.specs.Compile.{Compiles};
@@ -72,8 +73,8 @@ pub fn paw<S: Stage, F: Fn(u8, u8) -> u8>(
     ensures faulted { Faulted (failed_call result) (S.faults stage.old) (S.faults stage.new) }
     ensures usage { (result ≡ outcome.Usage) ↔ (asked_for words.now ≡ None) }
     ensures idle { asked_for words.now ≡ None → stage.new ≡ stage.old }
-    ensures outside { IfOutside result (Makes (asked_for words.now)) }
-    ensures memory { IfMemory result (Needs (asked_for words.now)) }
+    ensures outside { IfOutside result (IsOneOf (calls_of (asked_for words.now))) }
+    ensures memory { IfMemory result (IsOneOf (memory_of (asked_for words.now))) }
     ensures compiles { Across S.Stage stage.old stage.new (λ old new. (source image : List ℕ) →
         asked_for words.now ≡ Some (CompileOf source image) → Compiles source image old new result) }
     ensures decompiles { Across S.Stage stage.old stage.new (λ old new. (image : List ℕ) →

@@ -1,8 +1,8 @@
 -- The words of a command: words that contracts between crates and proofs use beside those of specs/Commands.antt.
-use Rattle.std.specs.Prelude.{◌≡◌, ◌-◌, Option, Some, None}
+use Rattle.std.specs.Prelude.{◌≡◌, Option, Some, None}
 use Rattle.paw_top.specs.declared.commands.Command.{Command as Given}
 use Rattle.paw_top.specs.declared.commands.Command.TheVariants as given
-use Rattle.paw_top.specs.Commands.{Command, Compile, Decompile, Walk, Trace, Play, Resume, Trial, asked_for}
+use Rattle.paw_top.specs.Commands.{Command, Compile, Decompile, Walk, Trace, Play, Resume, Trial}
 
 -- the code's answer spells what is asked for
 abbrev pub SpellsCommand : Option Given → Option Command → Type 0

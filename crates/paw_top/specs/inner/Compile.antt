@@ -3,13 +3,12 @@
 use Rattle.std.specs.Prelude.{◌≡◌, ℕ, List, Result, Err, Some}
 use Rattle.paw_base.specs.declared.fault.SourceFault.{SourceFault}
 use Rattle.paw_game.specs.Game.{GameLists}
-use Rattle.paw_game.specs.Image.{image}
 use Rattle.paw_stage.specs.Stage.{Standing, Saves}
 use Rattle.paw_stage.specs.declared.StageCall.TheVariants as call
-use Rattle.paw_top.specs.Shows.{showing, Shows}
+use Rattle.paw_top.specs.Shows.{Shows}
 use Rattle.paw_top.specs.declared.outcome.Outcome.{Outcome}
 use Rattle.paw_top.specs.declared.outcome.Outcome.TheVariants as outcome
-use Rattle.paw_top.specs.Compile.{Unsaved, memory}
+use Rattle.paw_top.specs.Compile.{Unsaved}
 
 -- ---- on the way ----
 

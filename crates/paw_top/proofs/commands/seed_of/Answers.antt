@@ -7,6 +7,6 @@ pub returns : goal.returns
 returns c = record {
   value =
       subst (λ w. c.number_of.result ≡ seed_of w) c.as_bytes-digits.ensures.value
-      (seed_is c.as_bytes-digits.result.now c.number_of.result (sym c.if-not-has_seed_shape.ensures.value)
+      (seed_is c.as_bytes-digits.result.now c.number_of.result (sym c.if-not-has_shape.ensures.value)
       c.number_of.ensures.some c.number_of.ensures.below c.number_of.ensures.none);
 }

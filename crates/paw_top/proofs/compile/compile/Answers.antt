@@ -1,6 +1,6 @@
 use Rattle.std.proofs.Common.{◌∙◌, ap, sym, subst, length}
 use Rattle.paw_grammar.specs.Spells.{spelled}
-use Rattle.paw_top.specs.Compile.{Compiles, memory, image_line}
+use Rattle.paw_top.specs.Compile.{memory, image_line}
 use Rattle.paw_top.specs.inner.Compile.{IsRefusal}
 use Rattle.paw_top.specs.declared.outcome.MemoryAt.TheVariants as at
 use Rattle.paw_top.proofs.Compiling.{no_source, no_image, keeps_image}
@@ -20,8 +20,7 @@ returns-in-Err-image_of-clause-compiles g c = λ tells.
 pub returns-in-Err-line_of-clause-compiles : goal.returns-in-Err-line_of-clause-compiles
 returns-in-Err-line_of-clause-compiles g c = λ tells.
     let f = c.in-Ok.ensures.some tells in
-    subst (λ o. Compiles c.args.source.now c.args.image.now (g.S.Stage.standing c.args.stage.now) (g.S.Stage.standing c.load.new.stage) o)
-    (sym c.in-Err-line_of.ensures.memory) (memory at.Image f.3)
+    rw c.in-Err-line_of.ensures.memory (memory at.Image f.3)
 
 pub returns-clause-compiles : goal.returns-clause-compiles
 returns-clause-compiles g c = λ tells.

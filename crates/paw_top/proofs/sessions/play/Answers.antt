@@ -4,10 +4,10 @@ use Rattle.paw_image.specs.inner.Views.{game_read}
 use Rattle.paw_effects.specs.Story.{story_of}
 use Rattle.paw_stage.specs.Stage.{Standing}
 use Rattle.paw_stage.proofs.Time.{Passes_map, Passes_on}
+use Rattle.paw_play.specs.Calls.{session_calls}
 use Rattle.paw_play.specs.Play.{InGame, store_bytes}
 use Rattle.paw_top.specs.Ends.{plays}
-use Rattle.paw_top.specs.Sessions.{PlaysNewIn}
-use Rattle.paw_top.proofs.Answering.{kept_outside, played_faulted}
+use Rattle.paw_top.proofs.Answering.{played_outside, played_faulted}
 use Rattle.paw_top.proofs.Images.{holds_given}
 use Rattle.paw_top.proofs.OpenedSessions.{still_new, game_moment, plays_game, same_story}
 use Rattle.paw_top.proofs.Refusals.{unloaded, undecoded}
@@ -34,14 +34,13 @@ returns-in-Err-view_in-clause-any_moment g c = λ tells s rows holds empty.
     (still_new s c.args.seed c.args.store.now (g.S.Stage.standing c.args.stage.now))
 
 pub returns-clause-outside : goal.returns-clause-outside
-returns-clause-outside g c = kept_outside c.play_loop.result c.outcome_of.result c.outcome_of.ensures.value c.play_loop.ensures.outside
+returns-clause-outside g c = played_outside session_calls c.play_loop.result c.outcome_of.result c.outcome_of.ensures.value c.play_loop.ensures.outside
 
 pub returns-clause-plays : goal.returns-clause-plays
 returns-clause-plays g c = λ tells X rows.
     let f = c.in-Ok.ensures.some tells in
     let game = game_read c.in-Ok-view_in.given in
-    subst (PlaysNewIn X c.args.image.now c.args.store.now c.args.seed (g.S.Stage.standing c.args.stage.now)
-    (g.S.Stage.standing c.play_loop.new.stage)) (sym c.outcome_of.ensures.value)
+    rw c.outcome_of.ensures.value
     (plays game c.play_loop.result (holds_given c.args.image.now _ _ _ _ game c.as_slice.ensures.value f c.in-Ok-view_in.ensures.found)
     (plays_game (story_of game X) c.args.seed c.args.store.now _ _ _ c.play_loop.result f.3 (c.play_loop.ensures.plays (c.load.ensures.tells.0 tells) X rows)))
 

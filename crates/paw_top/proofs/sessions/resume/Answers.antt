@@ -1,14 +1,15 @@
-use Rattle.std.proofs.Common.{◌∙◌, sym, subst, ap}
+use Rattle.std.proofs.Common.{◌∙◌, ap}
 use Rattle.sha2.specs.Sha256.{sha256}
 use Rattle.paw_image.specs.inner.Views.{game_read}
 use Rattle.paw_effects.specs.Story.{story_of}
 use Rattle.paw_stage.specs.Stage.{Standing}
 use Rattle.paw_stage.proofs.Time.{Passes_map, Passes_on}
+use Rattle.paw_play.specs.Calls.{session_calls}
 use Rattle.paw_play.specs.Play.{PlayedSession, InAgain, InGoingOn, kept_session, store_bytes}
 use Rattle.paw_play.proofs.Standing.{standing_shows, in_going_on}
 use Rattle.paw_top.specs.Ends.{plays}
-use Rattle.paw_top.specs.Sessions.{PlaysAgainIn, GoesOnIn, session_from, digest_of}
-use Rattle.paw_top.proofs.Answering.{kept_outside, played_faulted}
+use Rattle.paw_top.specs.Sessions.{session_from, digest_of}
+use Rattle.paw_top.proofs.Answering.{played_outside, played_faulted}
 use Rattle.paw_top.proofs.Completing.{same_game}
 use Rattle.paw_top.proofs.Images.{holds_given}
 use Rattle.paw_top.proofs.OpenedSessions.{still_again, still_on, again_moment, plays_again, goes_on_in, shows_same, one_kept_session, same_story}
@@ -55,8 +56,7 @@ returns-clause-plays g c = λ tells X rows.
     let f = c.in-Ok.ensures.some tells in
     let game = game_read c.in-Ok-view_in.given in
     let kept = c.digest-kept.ensures.value ∙ ap sha256 (c.bytes.ensures.value ∙ c.bytes.ensures.image.spelled) in
-    subst (PlaysAgainIn X c.args.image.now c.args.store.now (g.S.Stage.standing c.args.stage.now)
-    (g.S.Stage.standing c.resume_loop.new.stage)) (sym c.outcome_of.ensures.value)
+    rw c.outcome_of.ensures.value
     (plays game c.resume_loop.result (holds_given c.args.image.now _ _ _ _ game c.as_slice.ensures.value f c.in-Ok-view_in.ensures.found)
     (plays_again (story_of game X) (digest_of game) c.digest-kept.result c.args.store.now _ _ _ c.resume_loop.result f.3 kept
     (c.resume_loop.ensures.plays (c.load.ensures.tells.0 tells) X rows)))
@@ -87,7 +87,7 @@ returns-clause-goes_on g c = λ tells s seed es rows holds played stands.
     let game = game_read c.in-Ok-view_in.given in
     let mine = holds_given c.args.image.now _ _ old _ game c.as_slice.ensures.value f c.in-Ok-view_in.ensures.found in
     let kept = c.digest-kept.ensures.value ∙ ap sha256 (c.bytes.ensures.value ∙ c.bytes.ensures.image.spelled) in
-    subst (GoesOnIn c.args.image.now c.args.store.now s seed es old (g.S.Stage.standing c.resume_loop.new.stage)) (sym c.outcome_of.ensures.value)
+    rw c.outcome_of.ensures.value
     (goes_on_in c.args.image.now c.args.store.now s (story_of game s.rows) seed es old (g.S.Stage.standing c.resume_loop.new.stage) c.resume_loop.result
     (same_story old c.args.image.now game s mine holds) mine
     (plays_again (story_of game s.rows) (digest_of game) c.digest-kept.result c.args.store.now _ _ _ c.resume_loop.result f.3 kept
@@ -97,7 +97,7 @@ pub resume_loop-requires-clause-game : goal.resume_loop-requires-clause-game
 resume_loop-requires-clause-game g c = c.digest-kept.ensures.value ∙ ap sha256 (c.bytes.ensures.value ∙ c.bytes.ensures.image.spelled)
 
 pub returns-clause-outside : goal.returns-clause-outside
-returns-clause-outside g c = kept_outside c.resume_loop.result c.outcome_of.result c.outcome_of.ensures.value c.resume_loop.ensures.outside
+returns-clause-outside g c = played_outside session_calls c.resume_loop.result c.outcome_of.result c.outcome_of.ensures.value c.resume_loop.ensures.outside
 
 pub returns-clause-any_moment_on : goal.returns-clause-any_moment_on
 returns-clause-any_moment_on g c = λ tells s seed es rows holds played stands.

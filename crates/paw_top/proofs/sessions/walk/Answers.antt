@@ -1,13 +1,13 @@
-use Rattle.std.proofs.Common.{sym, subst}
+use Rattle.std.proofs.Common.{subst}
 use Rattle.paw_image.specs.inner.Views.{game_read}
 use Rattle.paw_effects.specs.Story.{story_of}
 use Rattle.paw_reading.specs.Turn.{reading}
+use Rattle.paw_play.specs.Calls.{walk_calls}
 use Rattle.paw_play.specs.Walk.{Walks}
 use Rattle.paw_play.specs.inner.Telling.{told_as}
 use Rattle.paw_play.specs.declared.TheConstants.{MOST_EVENTS}
 use Rattle.paw_top.specs.Ends.{plays}
-use Rattle.paw_top.specs.Walk.{WalksAs}
-use Rattle.paw_top.proofs.Answering.{walk_outside, played_faulted}
+use Rattle.paw_top.proofs.Answering.{played_outside, played_faulted}
 use Rattle.paw_top.proofs.Images.{holds_given}
 use Rattle.paw_top.proofs.Refusals.{unloaded, undecoded}
 use Rattle.paw_top.proofs.sessions.walk.Goals as goal
@@ -24,14 +24,13 @@ returns-clause-walks g c = λ tells X rows.
     let new = g.S.Stage.standing c.walk_loop.new.stage in
     let f = c.in-Ok.ensures.some tells in
     let game = game_read c.in-Ok-view_in.given in
-    subst (WalksAs (λ s n. told_as g.P.Preface.telling (reading s n)) X c.args.image.now c.args.seed (g.S.Stage.standing c.args.stage.now) new)
-    (sym c.outcome_of.ensures.value)
+    rw c.outcome_of.ensures.value
     (plays game c.walk_loop.result (holds_given c.args.image.now _ _ _ _ game c.as_slice.ensures.value f c.in-Ok-view_in.ensures.found)
     (subst (λ s. Walks (told_as g.P.Preface.telling (reading (story_of game X) c.args.seed)) MOST_EVENTS s new c.walk_loop.result) f.3
     (c.walk_loop.ensures.walks (c.load.ensures.tells.0 tells) X rows)))
 
 pub returns-clause-outside : goal.returns-clause-outside
-returns-clause-outside g c = walk_outside c.walk_loop.result c.outcome_of.result c.outcome_of.ensures.value c.walk_loop.ensures.outside
+returns-clause-outside g c = played_outside walk_calls c.walk_loop.result c.outcome_of.result c.outcome_of.ensures.value c.walk_loop.ensures.outside
 
 pub returns-clause-faulted : goal.returns-clause-faulted
 returns-clause-faulted g c = played_faulted c.walk_loop.result c.outcome_of.result _ _ _ c.outcome_of.ensures.value
