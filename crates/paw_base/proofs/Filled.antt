@@ -1,5 +1,6 @@
 -- Names that are filled up with spaces.
-use Rattle.std.proofs.Common.{◌≡◌, ℕ, zero, suc, ◌-◌, ◌≤◌, ◌==◌, Bool, true, false, not, ◌&&◌, ◌||◌, List, [], ◌∷◌, ◌++◌, length, drop, replicate, nat_le, refl, sym, ap, ◌∙◌, bytes_eq, arith}
+use Rattle.std.proofs.Common.{◌≡◌, ℕ, zero, suc, ◌-◌, ◌≤◌, ◌==◌, Bool, true, false, not, ◌&&◌, ◌||◌, List, [], ◌∷◌, ◌++◌, length}
+use Rattle.std.proofs.Common.{drop, replicate, nat_le, refl, sym, ap, ◌∙◌, bytes_eq, arith}
 use Rattle.std.specs.List.{list_any, prefix_len}
 use Rattle.std.specs.Char.{to_ascii_uppercase}
 use Rattle.std.proofs.lemmas.Bool.Decides.{same_from_decides, Decides-like, nat_tests}
@@ -69,12 +70,18 @@ capitals-spaces (suc n) = ap (λ xs. 32 ∷ xs) (capitals-spaces n)
 
 pub capitals-filled_up : (name : List ℕ) → capitals (name ++ drop (length name) (replicate 8 32)) ≡ filled_up (capitals name)
 capitals-filled_up name =
-    rw (drop-replicate {X = ℕ} (length name) 8 32, map-append to_ascii_uppercase name (replicate (8 - length name) 32), capitals-spaces (8 - length name), length-map name to_ascii_uppercase) refl
+    rw (
+      drop-replicate {X = ℕ} (length name) 8 32,
+      map-append to_ascii_uppercase name (replicate (8 - length name) 32),
+      capitals-spaces (8 - length name),
+      length-map name to_ascii_uppercase,
+    ) refl
 
 -- ---- as the code does it
 
 pub is_plain_from : (name : List ℕ) → length name ≤ 8 → has_space name ≡ false → is_plain name ≡ true
 is_plain_from name short none = grind (arith, nat_tests)
 
-pub filled_in_code : (name copied filled : List ℕ) → copied ≡ name → filled ≡ capitals (copied ++ drop (length name) (replicate 8 32)) → filled ≡ filled_up (capitals name)
+pub filled_in_code : (name copied filled : List ℕ) → copied ≡ name
+    → filled ≡ capitals (copied ++ drop (length name) (replicate 8 32)) → filled ≡ filled_up (capitals name)
 filled_in_code name copied filled c f = rw (f, c) (capitals-filled_up name)

@@ -7,4 +7,5 @@ returns-clause-plain c = is_plain_from c.args.name.now c.if-name-gt8.false (sym 
 
 pub returns-clause-value : goal.returns-clause-value
 returns-clause-value c =
-    filled_in_code c.args.name.now c.copy_from_slice.new.self c.make_ascii_uppercase.new.self c.copy_from_slice.ensures.after c.make_ascii_uppercase.ensures.after
+    filled_in_code c.args.name.now c.copy_from_slice.new.self c.make_ascii_uppercase.new.self
+    c.copy_from_slice.ensures.after c.make_ascii_uppercase.ensures.after

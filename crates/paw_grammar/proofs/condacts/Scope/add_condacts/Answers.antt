@@ -11,7 +11,9 @@ returns-in-Err c =
 
 pub loop-name-smaller : goal.loop-name-smaller
 loop-name-smaller c =
-    let left = (skips c.args.self.now.bounds c.args.self.now.words c.in-Some.name.now c.next.new.self c.condact.new.tokens c.in-Ok.condact c.in-Ok.ensures).shorter in
+    let gone = skips c.args.self.now.bounds c.args.self.now.words c.in-Some.name.now c.next.new.self c.condact.new.tokens
+    c.in-Ok.condact c.in-Ok.ensures in
+    let left = gone.shorter in
     let next = ap length c.in-Some.ensures in
     omega (arith, left, next)
 
@@ -25,4 +27,5 @@ loop-name-preserved c =
 pub returns : goal.returns
 returns c =
     at_end c.args.self.now.bounds c.args.self.now.words c.loop-name.rows.items c.loop-name.tokens
-    (with_more_condacts c.args.rows.now.items (condacts_in c.args.self.now.bounds c.args.self.now.words 0 c.args.tokens.now)) c.in_default.ensures.0 c.loop-name.invariant
+    (with_more_condacts c.args.rows.now.items (condacts_in c.args.self.now.bounds c.args.self.now.words 0 c.args.tokens.now))
+    c.in_default.ensures.0 c.loop-name.invariant
