@@ -13,6 +13,7 @@ use paw_base::codes::NOUN2;
 use paw_base::flags::SECOND_NOUN_FLAG;
 use paw_base::parts::{Condact, ObjectFacts};
 use paw_base::piece::Piece;
+use paw_base::words::{ADJECTIVE_CLASS, ADVERB_CLASS, NO_WORD, NOUN_CLASS, PREPOSITION_CLASS};
 use paw_game::game::Game;
 use paw_game::parts::{Condacts, Entry, Exit, Exits, GameParts, ObjectRow, Table, Text, Word};
 use paw_game::tables::Tables;
@@ -336,56 +337,32 @@ const DRAWS: [Case; 10] = [
     (10, 0, 0, NO),
 ];
 
-fn text(alloc: Global, bytes: &[u8]) -> Result<Text, AllocError> {
-    let bytes = Vec::from_slice(alloc, bytes)?;
-    Ok(Text { bytes })
-}
-
-fn word(letters: &[u8; 5], value: u8, class: u8) -> Word {
-    Word {
-        letters: *letters,
-        value,
-        class,
-    }
-}
-
 fn objects(alloc: Global) -> Result<Vec<ObjectRow>, AllocError> {
     let mut rows = Vec::new(alloc);
     for (name, start) in NAMES.iter().zip(PLACES) {
         let facts = ObjectFacts {
-            noun: 255,
-            adjective: 255,
+            noun: NO_WORD,
+            adjective: NO_WORD,
             start,
             weight: 1,
             container: false,
             wearable: false,
         };
-        let text = text(alloc, name)?;
+        let text = Text::from_slice(alloc, name)?;
         rows.push(ObjectRow { text, facts })?;
     }
     Ok(rows)
 }
 
-/// The entry with these condacts.
-fn entry(alloc: Global, cases: &[Case]) -> Result<Entry, AllocError> {
-    let mut rows = Vec::new(alloc);
-    for (code, a, b, _) in cases {
-        rows.push(Condact {
-            code: *code,
-            a: *a,
-            b: *b,
-        })?;
-    }
-    Ok(entry_of(rows))
-}
-
-/// The entry of these condacts, whatever the sentence is.
-fn entry_of(rows: Vec<Condact>) -> Entry {
-    Entry {
-        verb: 255,
-        noun: 255,
+/// Table 0 has one entry, of these condacts, whatever the sentence is; two more tables have none.
+fn tables_of(alloc: Global, rows: Vec<Condact>) -> Result<Vec<Table>, AllocError> {
+    let entry = Entry {
+        verb: NO_WORD,
+        noun: NO_WORD,
         condacts: Condacts { rows },
-    }
+    };
+    let entries = vec![in alloc; entry]?;
+    Ok(vec![in alloc; Table { entries }, Table::new(alloc), Table::new(alloc)]?)
 }
 
 /// A game in which table 0 has one entry, of these condacts. System message n is the letter that stands n bytes after
@@ -393,41 +370,27 @@ fn entry_of(rows: Vec<Condact>) -> Entry {
 fn parts(alloc: Global, cases: &[Case]) -> Result<GameParts, AllocError> {
     let mut system = Vec::new(alloc);
     for letter in b'A'..=b'v' {
-        system.push(text(alloc, &[letter])?)?;
+        system.push(Text::from_slice(alloc, &[letter])?)?;
     }
-    let back = vec![in alloc; Exit { verb: 3, to: 0 }]?;
+    let back = Exits::from_slice(alloc, &[Exit { verb: 3, to: 0 }])?;
+    let rows = cases
+        .iter()
+        .map(|&(code, a, b, _)| Condact { code, a, b })
+        .collect(alloc)?;
     Ok(GameParts {
         words: vec![in alloc;
-            word(b"IN   ", 3, 4),
-            word(b"LAMP ", 50, 2),
-            word(b"RED  ", 2, 3),
-            word(b"S    ", 3, 2),
-            word(b"SOON ", 2, 1),
+            Word::new(*b"IN   ", 3, PREPOSITION_CLASS),
+            Word::new(*b"LAMP ", 50, NOUN_CLASS),
+            Word::new(*b"RED  ", 2, ADJECTIVE_CLASS),
+            Word::new(*b"S    ", 3, NOUN_CLASS),
+            Word::new(*b"SOON ", 2, ADVERB_CLASS),
         ]?,
         system,
-        messages: vec![in alloc; text(alloc, b"Taken")?, text(alloc, b"")?]?,
+        messages: vec![in alloc; Text::from_slice(alloc, b"Taken")?, Text::new(alloc)]?,
         objects: objects(alloc)?,
-        locations: vec![in alloc; text(alloc, b"")?, text(alloc, b"")?, text(alloc, b"")?]?,
-        exits: vec![in alloc;
-            Exits {
-                rows: Vec::new(alloc)
-            },
-            Exits { rows: back },
-            Exits {
-                rows: Vec::new(alloc)
-            },
-        ]?,
-        tables: vec![in alloc;
-            Table {
-                entries: vec![in alloc; entry(alloc, cases)?]?
-            },
-            Table {
-                entries: Vec::new(alloc)
-            },
-            Table {
-                entries: Vec::new(alloc)
-            },
-        ]?,
+        locations: vec![in alloc; Text::new(alloc), Text::new(alloc), Text::new(alloc)]?,
+        exits: vec![in alloc; Exits::new(alloc), back, Exits::new(alloc)]?,
+        tables: tables_of(alloc, rows)?,
     })
 }
 

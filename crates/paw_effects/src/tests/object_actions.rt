@@ -4,13 +4,13 @@ ghost use Rattle.std.specs.Prelude.{◌≡◌};
 ghost use Rattle.paw_effects.specs.Worlds.{IsOf};
 ghost use Rattle.paw_routines.specs.Routines.{HaveRows};
 
-use super::{entry_of, opened, text, word};
+use super::{opened, tables_of};
 use crate::act::{Act, Effect, Truth};
 use crate::does::{act, test};
 use paw_base::parts::{Condact, ObjectFacts};
 use paw_base::piece::Piece;
 use paw_game::game::Game;
-use paw_game::parts::{Exits, GameParts, ObjectRow, Table, Text, Word};
+use paw_game::parts::{Exits, GameParts, ObjectRow, Text, Word};
 use paw_game::tables::Tables;
 use paw_routines::routines::Routines;
 use paw_world::world::World;
@@ -282,7 +282,7 @@ fn words(alloc: Global) -> Result<Vec<Word>, AllocError> {
         (b"RED  ", 2, 3),
         (b"SWORD", 51, 2),
     ] {
-        words.push(word(letters, value, class))?;
+        words.push(Word::new(*letters, value, class))?;
     }
     Ok(words)
 }
@@ -291,7 +291,8 @@ fn words(alloc: Global) -> Result<Vec<Word>, AllocError> {
 fn system(alloc: Global) -> Result<Vec<Text>, AllocError> {
     let mut system = Vec::new(alloc);
     for n in 0..54u8 {
-        system.push(text(alloc, &[b'0' + n / 10, b'0' + n % 10, b' ', b'_'])?)?;
+        let text = [b'0' + n / 10, b'0' + n % 10, b' ', b'_'];
+        system.push(Text::from_slice(alloc, &text)?)?;
     }
     Ok(system)
 }
@@ -307,7 +308,7 @@ fn objects(alloc: Global) -> Result<Vec<ObjectRow>, AllocError> {
             container: o == BAG as usize || o == POUCH as usize,
             wearable: o == COAT as usize,
         };
-        let text = text(alloc, name.as_bytes())?;
+        let text = Text::from_slice(alloc, name.as_bytes())?;
         rows.push(ObjectRow { text, facts })?;
     }
     Ok(rows)
@@ -316,7 +317,7 @@ fn objects(alloc: Global) -> Result<Vec<ObjectRow>, AllocError> {
 fn locations(alloc: Global) -> Result<Vec<Text>, AllocError> {
     let mut texts = Vec::new(alloc);
     for _ in 0..LOCATIONS {
-        texts.push(text(alloc, b"")?)?;
+        texts.push(Text::new(alloc))?;
     }
     Ok(texts)
 }
@@ -324,34 +325,16 @@ fn locations(alloc: Global) -> Result<Vec<Text>, AllocError> {
 fn exits(alloc: Global) -> Result<Vec<Exits>, AllocError> {
     let mut all = Vec::new(alloc);
     for _ in 0..LOCATIONS {
-        let rows = Vec::new(alloc);
-        all.push(Exits { rows })?;
+        all.push(Exits::new(alloc))?;
     }
     Ok(all)
 }
 
-/// Table 0 has one entry, of these condacts, and the others have none.
-fn tables(alloc: Global, steps: &[Step]) -> Result<Vec<Table>, AllocError> {
-    let mut rows = Vec::new(alloc);
-    for (code, a, b, _, _) in steps {
-        rows.push(Condact {
-            code: *code,
-            a: *a,
-            b: *b,
-        })?;
-    }
-    let mut entries = Vec::new(alloc);
-    entries.push(entry_of(rows))?;
-    let mut tables = Vec::new(alloc);
-    tables.push(Table { entries })?;
-    for _ in 1..3 {
-        let entries = Vec::new(alloc);
-        tables.push(Table { entries })?;
-    }
-    Ok(tables)
-}
-
 fn parts(alloc: Global, steps: &[Step]) -> Result<GameParts, AllocError> {
+    let rows = steps
+        .iter()
+        .map(|&(code, a, b, _, _)| Condact { code, a, b })
+        .collect(alloc)?;
     Ok(GameParts {
         words: words(alloc)?,
         system: system(alloc)?,
@@ -359,7 +342,7 @@ fn parts(alloc: Global, steps: &[Step]) -> Result<GameParts, AllocError> {
         objects: objects(alloc)?,
         locations: locations(alloc)?,
         exits: exits(alloc)?,
-        tables: tables(alloc, steps)?,
+        tables: tables_of(alloc, rows)?,
     })
 }
 
