@@ -14,25 +14,107 @@ macro_rules! scenes {
 mod object_actions;
 mod prints;
 
-use crate::act::{Act, Effect, Prompt, Truth};
-use crate::does::{act, test};
-use paw_base::codes::{
-    ABILITY, ABSENT, ADD, ADJECT1, ADJECT2, ADVERB, ANYKEY, AT, ATGT, ATLT, CARRIED, CHANCE, CLEAR,
-    COPYFF, COPYFO, COPYOF, COPYOO, CREATE, DESC, DESTROY, DOALL, DONE, DROPALL, END, EQ, EXTERN,
-    GOTO, GT, ISAT, ISNOTAT, LET, LOAD, LT, MES, MESSAGE, MINUS, MOVE, NEWTEXT, NOTAT, NOTCARR,
-    NOTDONE, NOTEQ, NOTSAME, NOTWORN, NOTZERO, NOUN2, OK, PARSE, PLACE, PLUS, PREP, PRESENT,
-    PROCESS, PROMPT, PUTO, QUIT, RAMLOAD, RAMSAVE, RANDOM, RESET, SAME, SAVE, SET, SUB, SWAP, TIME,
-    TIMEOUT, WEIGH, WEIGHT, WORN, ZERO,
-};
+use crate::act::Act;
+use crate::act::Effect;
+use crate::act::Prompt;
+use crate::act::Truth;
+use crate::does::act;
+use crate::does::test;
+use paw_base::codes::ABILITY;
+use paw_base::codes::ABSENT;
+use paw_base::codes::ADD;
+use paw_base::codes::ADJECT1;
+use paw_base::codes::ADJECT2;
+use paw_base::codes::ADVERB;
+use paw_base::codes::ANYKEY;
+use paw_base::codes::AT;
+use paw_base::codes::ATGT;
+use paw_base::codes::ATLT;
+use paw_base::codes::CARRIED;
+use paw_base::codes::CHANCE;
+use paw_base::codes::CLEAR;
+use paw_base::codes::COPYFF;
+use paw_base::codes::COPYFO;
+use paw_base::codes::COPYOF;
+use paw_base::codes::COPYOO;
+use paw_base::codes::CREATE;
+use paw_base::codes::DESC;
+use paw_base::codes::DESTROY;
+use paw_base::codes::DOALL;
+use paw_base::codes::DONE;
+use paw_base::codes::DROPALL;
+use paw_base::codes::END;
+use paw_base::codes::EQ;
+use paw_base::codes::EXTERN;
+use paw_base::codes::GOTO;
+use paw_base::codes::GT;
+use paw_base::codes::ISAT;
+use paw_base::codes::ISNOTAT;
+use paw_base::codes::LET;
+use paw_base::codes::LOAD;
+use paw_base::codes::LT;
+use paw_base::codes::MES;
+use paw_base::codes::MESSAGE;
+use paw_base::codes::MINUS;
+use paw_base::codes::MOVE;
+use paw_base::codes::NEWTEXT;
+use paw_base::codes::NOTAT;
+use paw_base::codes::NOTCARR;
+use paw_base::codes::NOTDONE;
+use paw_base::codes::NOTEQ;
+use paw_base::codes::NOTSAME;
+use paw_base::codes::NOTWORN;
+use paw_base::codes::NOTZERO;
+use paw_base::codes::NOUN2;
+use paw_base::codes::OK;
+use paw_base::codes::PARSE;
+use paw_base::codes::PLACE;
+use paw_base::codes::PLUS;
+use paw_base::codes::PREP;
+use paw_base::codes::PRESENT;
+use paw_base::codes::PROCESS;
+use paw_base::codes::PROMPT;
+use paw_base::codes::PUTO;
+use paw_base::codes::QUIT;
+use paw_base::codes::RAMLOAD;
+use paw_base::codes::RAMSAVE;
+use paw_base::codes::RANDOM;
+use paw_base::codes::RESET;
+use paw_base::codes::SAME;
+use paw_base::codes::SAVE;
+use paw_base::codes::SET;
+use paw_base::codes::SUB;
+use paw_base::codes::SWAP;
+use paw_base::codes::TIME;
+use paw_base::codes::TIMEOUT;
+use paw_base::codes::WEIGH;
+use paw_base::codes::WEIGHT;
+use paw_base::codes::WORN;
+use paw_base::codes::ZERO;
 use paw_base::flags::SECOND_NOUN_FLAG;
-use paw_base::parts::{Condact, ObjectFacts};
+use paw_base::parts::Condact;
+use paw_base::parts::ObjectFacts;
 use paw_base::piece::Piece;
+use paw_base::words::ADJECTIVE_CLASS;
+use paw_base::words::ADVERB_CLASS;
+use paw_base::words::NO_WORD;
+use paw_base::words::NOUN_CLASS;
+use paw_base::words::PREPOSITION_CLASS;
 use paw_game::game::Game;
-use paw_game::parts::{Condacts, Entry, Exit, Exits, GameParts, ObjectRow, Table, Text, Word};
+use paw_game::parts::Condacts;
+use paw_game::parts::Entry;
+use paw_game::parts::Exit;
+use paw_game::parts::Exits;
+use paw_game::parts::GameParts;
+use paw_game::parts::ObjectRow;
+use paw_game::parts::Table;
+use paw_game::parts::Text;
+use paw_game::parts::Word;
 use paw_game::tables::Tables;
 use paw_routines::routines::Routines;
 use paw_world::world::World;
-use std::alloc::{AllocError, Global};
+use std::alloc::AllocError;
+use std::alloc::Global;
 use std::process::Abort;
 use std::test::Fail;
 
@@ -183,56 +265,34 @@ const DRAWS: &[Scene] = scenes! {
     CHANCE 0 0 NO => "";
 };
 
-fn text(alloc: Global, bytes: &[u8]) -> Result<Text, AllocError> {
-    let bytes = Vec::from_slice(alloc, bytes)?;
-    Ok(Text { bytes })
-}
-
-fn word(letters: &[u8; 5], value: u8, class: u8) -> Word {
-    Word {
-        letters: *letters,
-        value,
-        class,
-    }
-}
-
 fn objects(alloc: Global) -> Result<Vec<ObjectRow>, AllocError> {
     let mut rows = Vec::new(alloc);
     for (name, start) in NAMES.iter().zip(PLACES) {
         let facts = ObjectFacts {
-            noun: 255,
-            adjective: 255,
+            noun: NO_WORD,
+            adjective: NO_WORD,
             start,
             weight: 1,
             container: false,
             wearable: false,
         };
-        let text = text(alloc, name)?;
+        let text = Text::from_slice(alloc, name)?;
         rows.push(ObjectRow { text, facts })?;
     }
     Ok(rows)
 }
 
-/// The entry with these condacts.
+/// The entry with these condacts, whatever the sentence is.
 fn entry(alloc: Global, cases: &[Case]) -> Result<Entry, AllocError> {
-    let mut rows = Vec::new(alloc);
-    for (code, a, b, _) in cases {
-        rows.push(Condact {
-            code: *code,
-            a: *a,
-            b: *b,
-        })?;
-    }
-    Ok(entry_of(rows))
-}
-
-/// The entry of these condacts, whatever the sentence is.
-fn entry_of(rows: Vec<Condact>) -> Entry {
-    Entry {
-        verb: 255,
-        noun: 255,
+    let rows = cases
+        .iter()
+        .map(|&(code, a, b, _)| Condact { code, a, b })
+        .collect(alloc)?;
+    Ok(Entry {
+        verb: NO_WORD,
+        noun: NO_WORD,
         condacts: Condacts { rows },
-    }
+    })
 }
 
 /// Table 0 has an entry for each of these scenes, and the two others have none.
@@ -241,15 +301,7 @@ fn tables(alloc: Global, scenes: &[Scene]) -> Result<Vec<Table>, AllocError> {
     for &(cases, _) in scenes {
         entries.push(entry(alloc, cases)?)?;
     }
-    Ok(vec![in alloc;
-        Table { entries },
-        Table {
-            entries: Vec::new(alloc)
-        },
-        Table {
-            entries: Vec::new(alloc)
-        },
-    ]?)
+    Ok(vec![in alloc; Table { entries }, Table::new(alloc), Table::new(alloc)]?)
 }
 
 /// A game in which table 0 has an entry for each of these scenes. System message n is the letter that stands n bytes
@@ -257,30 +309,22 @@ fn tables(alloc: Global, scenes: &[Scene]) -> Result<Vec<Table>, AllocError> {
 fn parts(alloc: Global, scenes: &[Scene]) -> Result<GameParts, AllocError> {
     let mut system = Vec::new(alloc);
     for letter in b'A'..=b'v' {
-        system.push(text(alloc, &[letter])?)?;
+        system.push(Text::from_slice(alloc, &[letter])?)?;
     }
-    let back = vec![in alloc; Exit { verb: 3, to: 0 }]?;
+    let back = Exits::from_slice(alloc, &[Exit { verb: 3, to: 0 }])?;
     Ok(GameParts {
         words: vec![in alloc;
-            word(b"IN   ", 3, 4),
-            word(b"LAMP ", 50, 2),
-            word(b"RED  ", 2, 3),
-            word(b"S    ", 3, 2),
-            word(b"SOON ", 2, 1),
+            Word::new(*b"IN   ", 3, PREPOSITION_CLASS),
+            Word::new(*b"LAMP ", 50, NOUN_CLASS),
+            Word::new(*b"RED  ", 2, ADJECTIVE_CLASS),
+            Word::new(*b"S    ", 3, NOUN_CLASS),
+            Word::new(*b"SOON ", 2, ADVERB_CLASS),
         ]?,
         system,
-        messages: vec![in alloc; text(alloc, b"Taken")?, text(alloc, b"")?]?,
+        messages: vec![in alloc; Text::from_slice(alloc, b"Taken")?, Text::new(alloc)]?,
         objects: objects(alloc)?,
-        locations: vec![in alloc; text(alloc, b"")?, text(alloc, b"")?, text(alloc, b"")?]?,
-        exits: vec![in alloc;
-            Exits {
-                rows: Vec::new(alloc)
-            },
-            Exits { rows: back },
-            Exits {
-                rows: Vec::new(alloc)
-            },
-        ]?,
+        locations: vec![in alloc; Text::new(alloc), Text::new(alloc), Text::new(alloc)]?,
+        exits: vec![in alloc; Exits::new(alloc), back, Exits::new(alloc)]?,
         tables: tables(alloc, scenes)?,
     })
 }

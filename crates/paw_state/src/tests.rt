@@ -1,49 +1,26 @@
 // Tests of a state's bytes: where each field stands, which one is named, and what comes back.
 
 use crate::{Restored, STATE_LENGTH, STATE_ROOM, read_state, write_state};
-use paw_base::parts::{Condact, ObjectFacts};
+use paw_base::codes::{DOALL, DONE, PROCESS, QUIT};
+use paw_base::parts::ObjectFacts;
+use paw_base::places::{CARRIED_PLACE, HERE_PLACE};
+use paw_base::words::NO_WORD;
 use paw_effects::act::Prompt;
 use paw_effects::opening::opening_world;
 use paw_game::game::Game;
-use paw_game::parts::{Condacts, Entry, Exits, GameParts, ObjectRow, Table, Text, Word};
+use paw_game::parts::{Entry, Exits, GameParts, ObjectRow, Table, Text};
 use paw_phrase::Pending;
 use paw_process::Machine;
 use std::alloc::{AllocError, Global};
 use std::process::Abort;
 use std::test::Fail;
 
-const QUIT: u8 = 27;
-
-const DONE: u8 = 32;
-
-const PROCESS: u8 = 85;
-
-const DOALL: u8 = 86;
-
-/// Any word, and the current location.
-const ANY: u8 = 255;
-
-const CARRIED: u8 = 254;
-
-/// The condacts of the tables: each entry is of any words.
-const LOOPS: [(u8, u8); 1] = [(DOALL, ANY)];
-
-const CALLS: [(u8, u8); 2] = [(PROCESS, 3), (DONE, 0)];
-
-const ASKS: [(u8, u8); 1] = [(QUIT, 0)];
-
-fn text(alloc: Global) -> Text {
-    Text {
-        bytes: Vec::new(alloc),
-    }
-}
-
 fn object(alloc: Global, start: u8) -> ObjectRow {
     ObjectRow {
-        text: text(alloc),
+        text: Text::new(alloc),
         facts: ObjectFacts {
-            noun: ANY,
-            adjective: ANY,
+            noun: NO_WORD,
+            adjective: NO_WORD,
             start,
             weight: 1,
             container: false,
@@ -52,76 +29,35 @@ fn object(alloc: Global, start: u8) -> ObjectRow {
     }
 }
 
-fn entry(alloc: Global, codes: &[(u8, u8)]) -> Result<Entry, AllocError> {
-    let mut rows = Vec::new(alloc);
-    for (code, a) in codes {
-        rows.push(Condact {
-            code: *code,
-            a: *a,
-            b: 0,
-        })?;
-    }
-    Ok(Entry {
-        verb: ANY,
-        noun: ANY,
-        condacts: Condacts { rows },
-    })
-}
-
-fn responses(alloc: Global) -> Result<Table, AllocError> {
-    let mut entries = Vec::new(alloc);
-    entries.push(entry(alloc, &LOOPS)?)?;
-    entries.push(entry(alloc, &CALLS)?)?;
-    Ok(Table { entries })
-}
-
-fn questions(alloc: Global) -> Result<Table, AllocError> {
-    let mut entries = Vec::new(alloc);
-    entries.push(entry(alloc, &ASKS)?)?;
-    Ok(Table { entries })
-}
-
-fn no_entries(alloc: Global) -> Table {
-    Table {
-        entries: Vec::new(alloc),
-    }
+/// An entry of any words.
+fn entry(alloc: Global, codes: &[(u8, u8, u8)]) -> Result<Entry, AllocError> {
+    Entry::from_codes(alloc, NO_WORD, NO_WORD, codes)
 }
 
 /// A response table with a loop and with a call of table 3, which asks.
 fn tables(alloc: Global) -> Result<Vec<Table>, AllocError> {
-    let mut tables = Vec::new(alloc);
-    tables.push(responses(alloc)?)?;
-    tables.push(no_entries(alloc))?;
-    tables.push(no_entries(alloc))?;
-    tables.push(questions(alloc)?)?;
-    Ok(tables)
-}
-
-fn objects(alloc: Global) -> Result<Vec<ObjectRow>, AllocError> {
-    let mut objects = Vec::new(alloc);
-    objects.push(object(alloc, 0))?;
-    objects.push(object(alloc, CARRIED))?;
-    Ok(objects)
+    let goes_round = entry(alloc, &[(DOALL, HERE_PLACE, 0)])?;
+    let calls = entry(alloc, &[(PROCESS, 3, 0), (DONE, 0, 0)])?;
+    let asks = entry(alloc, &[(QUIT, 0, 0)])?;
+    let responses = vec![in alloc; goes_round, calls]?;
+    let questions = vec![in alloc; asks]?;
+    Ok(vec![in alloc;
+        Table { entries: responses },
+        Table::new(alloc),
+        Table::new(alloc),
+        Table { entries: questions },
+    ]?)
 }
 
 /// A game of two locations and two objects, of which the second is carried.
 fn small_game(alloc: Global) -> Result<Game, Fail> {
-    let mut locations = Vec::new(alloc);
-    let mut exits = Vec::new(alloc);
-    for _ in 0..2 {
-        locations.push(text(alloc))?;
-        exits.push(Exits {
-            rows: Vec::new(alloc),
-        })?;
-    }
-    let words: Vec<Word> = Vec::new(alloc);
     let game = Game::new(GameParts {
-        words,
+        words: Vec::new(alloc),
         system: Vec::new(alloc),
         messages: Vec::new(alloc),
-        objects: objects(alloc)?,
-        locations,
-        exits,
+        objects: vec![in alloc; object(alloc, 0), object(alloc, CARRIED_PLACE)]?,
+        locations: vec![in alloc; Text::new(alloc), Text::new(alloc)]?,
+        exits: vec![in alloc; Exits::new(alloc), Exits::new(alloc)]?,
         tables: tables(alloc)?,
     })?;
     Ok(game)
@@ -388,7 +324,7 @@ fn the_parts_of_a_state_that_waits(rt: HostRuntime) -> Result<(), Fail> {
     assert_eq!(rt; read.events, 2);
     assert_eq!(rt; read.piece, 0);
     assert_eq!(rt; read.world.seed(), 7);
-    assert_eq!(rt; read.world.places(), [0, CARRIED].as_slice());
+    assert_eq!(rt; read.world.places(), [0, CARRIED_PLACE].as_slice());
     assert_eq!(rt; read.world.flags()[1], 1);
     assert!(rt; !read.world.saved());
     assert_eq!(rt; read.pending.bytes(), b"N".as_slice());
@@ -432,7 +368,7 @@ fn a_saved_position_and_draws_come_back(rt: HostRuntime) -> Result<(), Fail> {
     assert_eq!(rt; read.world.draw(), world.draw());
     let (saved_flags, saved_places) = read.world.saved_position().expect(&rt, "a saved position");
     assert_eq!(rt; saved_flags[100], 9);
-    assert_eq!(rt; saved_places, [1, CARRIED].as_slice());
+    assert_eq!(rt; saved_places, [1, CARRIED_PLACE].as_slice());
     Ok(())
 }
 
@@ -466,7 +402,10 @@ fn kept_positions_come_back(rt: HostRuntime) -> Result<(), Fail> {
         [bytes[1883 + 1 + 200], bytes[1883 + 257], bytes[1883 + 258]],
         [5, 252, 253]
     );
-    assert_eq!(rt; [bytes[2907 + 1 + 58], bytes[2907 + 257 + 1]], [3, CARRIED]);
+    assert_eq!(rt;
+        [bytes[2907 + 1 + 58], bytes[2907 + 257 + 1]],
+        [3, CARRIED_PLACE]
+    );
     let read = read_state(&game, &bytes)?;
     assert_eq!(rt; written(&read), bytes);
     assert!(rt; !read.world.kept(0) && !read.world.kept(2));

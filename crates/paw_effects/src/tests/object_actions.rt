@@ -1,6 +1,6 @@
 // The actions on objects, in a game of a lamp, a sword, a bag, a pouch without a noun, a coat and a torch.
 
-use super::{GO, LOOP_ENDED, REFUSED, Scene, YES, run, tables, text, word};
+use super::{GO, LOOP_ENDED, REFUSED, Scene, YES, run, tables};
 use paw_base::codes::{
     AUTOD, AUTOG, AUTOP, AUTOR, AUTOT, AUTOW, CARRIED, DESTROY, DROP, EQ, GET, ISAT, LET, PLACE,
     PUTIN, REMOVE, TAKEOUT, WEAR, WHATO, WORN, ZERO,
@@ -158,7 +158,7 @@ fn words(alloc: Global) -> Result<Vec<Word>, AllocError> {
         (b"RED  ", 2, 3),
         (b"SWORD", 51, 2),
     ] {
-        words.push(word(letters, value, class))?;
+        words.push(Word::new(*letters, value, class))?;
     }
     Ok(words)
 }
@@ -167,7 +167,8 @@ fn words(alloc: Global) -> Result<Vec<Word>, AllocError> {
 fn system(alloc: Global) -> Result<Vec<Text>, AllocError> {
     let mut system = Vec::new(alloc);
     for n in 0..54u8 {
-        system.push(text(alloc, &[b'0' + n / 10, b'0' + n % 10, b' ', b'_'])?)?;
+        let text = [b'0' + n / 10, b'0' + n % 10, b' ', b'_'];
+        system.push(Text::from_slice(alloc, &text)?)?;
     }
     Ok(system)
 }
@@ -183,7 +184,7 @@ fn objects(alloc: Global) -> Result<Vec<ObjectRow>, AllocError> {
             container: o == BAG as usize || o == POUCH as usize,
             wearable: o == COAT as usize,
         };
-        let text = text(alloc, name.as_bytes())?;
+        let text = Text::from_slice(alloc, name.as_bytes())?;
         rows.push(ObjectRow { text, facts })?;
     }
     Ok(rows)
@@ -192,7 +193,7 @@ fn objects(alloc: Global) -> Result<Vec<ObjectRow>, AllocError> {
 fn locations(alloc: Global) -> Result<Vec<Text>, AllocError> {
     let mut texts = Vec::new(alloc);
     for _ in 0..LOCATIONS {
-        texts.push(text(alloc, b"")?)?;
+        texts.push(Text::new(alloc))?;
     }
     Ok(texts)
 }
@@ -200,8 +201,7 @@ fn locations(alloc: Global) -> Result<Vec<Text>, AllocError> {
 fn exits(alloc: Global) -> Result<Vec<Exits>, AllocError> {
     let mut all = Vec::new(alloc);
     for _ in 0..LOCATIONS {
-        let rows = Vec::new(alloc);
-        all.push(Exits { rows })?;
+        all.push(Exits::new(alloc))?;
     }
     Ok(all)
 }

@@ -4,66 +4,44 @@ use paw_base::codes::{
     ANYKEY, AT, ATGT, DESC, DOALL, DONE, END, GT, LET, MESSAGE, MINUS, NOTDONE, OK, PARSE, PROCESS,
     QUIT,
 };
-use paw_base::parts::{Condact, ObjectFacts};
+use paw_base::flags::{LOCATION_FLAG, TIMEOUT_FLAG};
+use paw_base::parts::ObjectFacts;
+use paw_base::places::{CARRIED_PLACE, HERE_PLACE, WORN_PLACE};
+use paw_base::words::{
+    ADJECTIVE_CLASS, CONJUNCTION_CLASS, NO_WORD, NOUN_CLASS, PREPOSITION_CLASS, PRONOUN_CLASS,
+    VERB_CLASS,
+};
 use paw_game::game::Game;
-use paw_game::parts::{Condacts, Entry, Exits, GameParts, ObjectRow, Table, Text, Word};
+use paw_game::parts::{Entry, Exits, GameParts, ObjectRow, Table, Text, Word};
 use std::alloc::{AllocError, Global};
 use std::test::Fail;
 
-const VERB: u8 = 0;
-
-const NOUN: u8 = 2;
-
-const ADJECTIVE: u8 = 3;
-
-const PREPOSITION: u8 = 4;
-
-const CONJUNCTION: u8 = 5;
-
-const PRONOUN: u8 = 6;
-
 /// The words, by their letters.
 const WORDS: [([u8; 5], u8, u8); 23] = [
-    (*b"ALL  ", 20, NOUN),
-    (*b"AND  ", 2, CONJUNCTION),
-    (*b"AWAY ", 41, VERB),
-    (*b"COAT ", 54, NOUN),
-    (*b"DEEP ", 34, VERB),
-    (*b"EXCEP", 2, PREPOSITION),
-    (*b"FALL ", 44, VERB),
-    (*b"GO   ", 30, VERB),
-    (*b"IT   ", 2, PRONOUN),
-    (*b"LAMP ", 50, NOUN),
-    (*b"LOOK ", 36, VERB),
-    (*b"NEST ", 33, VERB),
-    (*b"NO   ", 40, VERB),
-    (*b"QUIT ", 35, VERB),
-    (*b"RED  ", 2, ADJECTIVE),
-    (*b"SHAKE", 31, VERB),
-    (*b"SPIN ", 43, VERB),
-    (*b"SWORD", 51, NOUN),
-    (*b"TIME ", 38, VERB),
-    (*b"TURN ", 39, VERB),
-    (*b"TWIST", 32, VERB),
-    (*b"WAIT ", 37, VERB),
-    (*b"WHERE", 42, VERB),
+    (*b"ALL  ", 20, NOUN_CLASS),
+    (*b"AND  ", 2, CONJUNCTION_CLASS),
+    (*b"AWAY ", 41, VERB_CLASS),
+    (*b"COAT ", 54, NOUN_CLASS),
+    (*b"DEEP ", 34, VERB_CLASS),
+    (*b"EXCEP", 2, PREPOSITION_CLASS),
+    (*b"FALL ", 44, VERB_CLASS),
+    (*b"GO   ", 30, VERB_CLASS),
+    (*b"IT   ", 2, PRONOUN_CLASS),
+    (*b"LAMP ", 50, NOUN_CLASS),
+    (*b"LOOK ", 36, VERB_CLASS),
+    (*b"NEST ", 33, VERB_CLASS),
+    (*b"NO   ", 40, VERB_CLASS),
+    (*b"QUIT ", 35, VERB_CLASS),
+    (*b"RED  ", 2, ADJECTIVE_CLASS),
+    (*b"SHAKE", 31, VERB_CLASS),
+    (*b"SPIN ", 43, VERB_CLASS),
+    (*b"SWORD", 51, NOUN_CLASS),
+    (*b"TIME ", 38, VERB_CLASS),
+    (*b"TURN ", 39, VERB_CLASS),
+    (*b"TWIST", 32, VERB_CLASS),
+    (*b"WAIT ", 37, VERB_CLASS),
+    (*b"WHERE", 42, VERB_CLASS),
 ];
-
-/// Any word.
-const ANY: u8 = 255;
-
-/// The current location, as a parameter.
-const HERE: u8 = 255;
-
-const CARRIED: u8 = 254;
-
-const WORN: u8 = 253;
-
-/// The flag of the current location.
-const LOCATION: u8 = 38;
-
-/// The flag that allows a line to be late.
-const TIMEOUT: u8 = 48;
 
 /// A flag that counts calls.
 const CALLS: u8 = 60;
@@ -102,8 +80,8 @@ const LOCATIONS: [&str; 4] = ["A hall.", "A garden.", "", "A well."];
 /// The objects: the text, the noun, the adjective, and the place at the start.
 const OBJECTS: [(&str, u8, u8, u8); 3] = [
     ("lamp", 50, 2, 0),
-    ("sword", 51, ANY, 0),
-    ("coat", 54, ANY, CARRIED),
+    ("sword", 51, NO_WORD, 0),
+    ("coat", 54, NO_WORD, CARRIED_PLACE),
 ];
 
 /// A condact's code and its parameters.
@@ -115,59 +93,63 @@ type Row = (u8, u8, &'static [Code]);
 /// SHAKE, TWIST and TURN go round the objects here; NEST calls as deep as it may, and DEEP deeper; QUIT asks twice;
 /// SPIN and FALL never come to an end.
 const RESPONSES: [Row; 19] = [
-    (31, 20, &[(DOALL, HERE, 0)]),
-    (31, ANY, &[(PROCESS, 3, 0), (DONE, 0, 0)]),
-    (32, 20, &[(DOALL, HERE, 0)]),
-    (32, ANY, &[(PROCESS, 4, 0), (MESSAGE, 1, 0)]),
-    (33, ANY, &[(LET, CALLS, 9), (PROCESS, 5, 0), (OK, 0, 0)]),
-    (34, ANY, &[(LET, CALLS, 10), (PROCESS, 5, 0), (OK, 0, 0)]),
-    (35, ANY, &[(QUIT, 0, 0), (END, 0, 0)]),
-    (36, ANY, &[(DESC, 0, 0)]),
-    (37, ANY, &[(OK, 0, 0)]),
-    (38, ANY, &[(LET, TIMEOUT, 5), (DONE, 0, 0)]),
-    (39, 20, &[(DOALL, HERE, 0)]),
-    (39, ANY, &[(PARSE, 0, 0), (MESSAGE, 2, 0), (DONE, 0, 0)]),
-    (40, ANY, &[(PROCESS, 6, 0)]),
-    (40, ANY, &[(MESSAGE, 1, 0), (DONE, 0, 0)]),
-    (41, ANY, &[(PROCESS, 7, 0), (MESSAGE, 1, 0)]),
-    (42, 20, &[(DOALL, WORN, 0)]),
-    (42, ANY, &[(MESSAGE, 1, 0), (DONE, 0, 0)]),
-    (43, ANY, &[(LET, LOCATION, 2), (DESC, 0, 0)]),
-    (44, ANY, &[(LET, LOCATION, 3), (DESC, 0, 0)]),
+    (31, 20, &[(DOALL, HERE_PLACE, 0)]),
+    (31, NO_WORD, &[(PROCESS, 3, 0), (DONE, 0, 0)]),
+    (32, 20, &[(DOALL, HERE_PLACE, 0)]),
+    (32, NO_WORD, &[(PROCESS, 4, 0), (MESSAGE, 1, 0)]),
+    (33, NO_WORD, &[(LET, CALLS, 9), (PROCESS, 5, 0), (OK, 0, 0)]),
+    (
+        34,
+        NO_WORD,
+        &[(LET, CALLS, 10), (PROCESS, 5, 0), (OK, 0, 0)],
+    ),
+    (35, NO_WORD, &[(QUIT, 0, 0), (END, 0, 0)]),
+    (36, NO_WORD, &[(DESC, 0, 0)]),
+    (37, NO_WORD, &[(OK, 0, 0)]),
+    (38, NO_WORD, &[(LET, TIMEOUT_FLAG, 5), (DONE, 0, 0)]),
+    (39, 20, &[(DOALL, HERE_PLACE, 0)]),
+    (39, NO_WORD, &[(PARSE, 0, 0), (MESSAGE, 2, 0), (DONE, 0, 0)]),
+    (40, NO_WORD, &[(PROCESS, 6, 0)]),
+    (40, NO_WORD, &[(MESSAGE, 1, 0), (DONE, 0, 0)]),
+    (41, NO_WORD, &[(PROCESS, 7, 0), (MESSAGE, 1, 0)]),
+    (42, 20, &[(DOALL, WORN_PLACE, 0)]),
+    (42, NO_WORD, &[(MESSAGE, 1, 0), (DONE, 0, 0)]),
+    (43, NO_WORD, &[(LET, LOCATION_FLAG, 2), (DESC, 0, 0)]),
+    (44, NO_WORD, &[(LET, LOCATION_FLAG, 3), (DESC, 0, 0)]),
 ];
 
-const CALLS_8: [Row; 1] = [(ANY, ANY, &[(PROCESS, 8, 0)])];
+const CALLS_8: [Row; 1] = [(NO_WORD, NO_WORD, &[(PROCESS, 8, 0)])];
 
-const ASKS: [Row; 1] = [(ANY, ANY, &[(QUIT, 0, 0), (MESSAGE, 0, 0)])];
+const ASKS: [Row; 1] = [(NO_WORD, NO_WORD, &[(QUIT, 0, 0), (MESSAGE, 0, 0)])];
 
 const WAITS_IN_A_LOOP: [Row; 2] = [
-    (ANY, ANY, &[(DOALL, CARRIED, 0)]),
-    (ANY, ANY, &[(ANYKEY, 0, 0), (MESSAGE, 0, 0)]),
+    (NO_WORD, NO_WORD, &[(DOALL, CARRIED_PLACE, 0)]),
+    (NO_WORD, NO_WORD, &[(ANYKEY, 0, 0), (MESSAGE, 0, 0)]),
 ];
 
 const CALLS_ITSELF: [Row; 1] = [(
-    ANY,
-    ANY,
+    NO_WORD,
+    NO_WORD,
     &[(GT, CALLS, 0), (MINUS, CALLS, 1), (PROCESS, 5, 0)],
 )];
 
 const IS_NOT_DONE: [Row; 2] = [
-    (ANY, ANY, &[(MESSAGE, 2, 0), (NOTDONE, 0, 0)]),
-    (ANY, ANY, &[(MESSAGE, 1, 0)]),
+    (NO_WORD, NO_WORD, &[(MESSAGE, 2, 0), (NOTDONE, 0, 0)]),
+    (NO_WORD, NO_WORD, &[(MESSAGE, 1, 0)]),
 ];
 
 const GOES_AWAY: [Row; 1] = [(
-    ANY,
-    ANY,
-    &[(LET, LOCATION, 1), (DESC, 0, 0), (MESSAGE, 2, 0)],
+    NO_WORD,
+    NO_WORD,
+    &[(LET, LOCATION_FLAG, 1), (DESC, 0, 0), (MESSAGE, 2, 0)],
 )];
 
 /// Describes the locations of SPIN and FALL again.
 const WAS_DESCRIBED: [Row; 4] = [
-    (ANY, ANY, &[(AT, 1, 0), (MESSAGE, 3, 0)]),
-    (ANY, ANY, &[(ATGT, 1, 0), (DESC, 0, 0)]),
-    (ANY, ANY, &[(DONE, 0, 0)]),
-    (ANY, ANY, &[(MESSAGE, 2, 0)]),
+    (NO_WORD, NO_WORD, &[(AT, 1, 0), (MESSAGE, 3, 0)]),
+    (NO_WORD, NO_WORD, &[(ATGT, 1, 0), (DESC, 0, 0)]),
+    (NO_WORD, NO_WORD, &[(DONE, 0, 0)]),
+    (NO_WORD, NO_WORD, &[(MESSAGE, 2, 0)]),
 ];
 
 const TABLES: [&[Row]; 9] = [
@@ -183,37 +165,28 @@ const TABLES: [&[Row]; 9] = [
 ];
 
 /// Describes each location again.
-const DESCRIBES_AGAIN: [&[Row]; 3] = [&[], &[(ANY, ANY, &[(DESC, 0, 0)])], &[]];
-
-fn text(alloc: Global, text: &str) -> Result<Text, AllocError> {
-    let bytes = Vec::from_slice(alloc, text.as_bytes())?;
-    Ok(Text { bytes })
-}
+const DESCRIBES_AGAIN: [&[Row]; 3] = [&[], &[(NO_WORD, NO_WORD, &[(DESC, 0, 0)])], &[]];
 
 fn texts(alloc: Global, rows: &[&str]) -> Result<Vec<Text>, AllocError> {
     let mut texts = Vec::new(alloc);
     for row in rows {
-        texts.push(text(alloc, row)?)?;
+        texts.push(Text::from_slice(alloc, row.as_bytes())?)?;
     }
     Ok(texts)
 }
 
 fn words(alloc: Global) -> Result<Vec<Word>, AllocError> {
-    let mut words = Vec::new(alloc);
-    for (letters, value, class) in WORDS {
-        words.push(Word {
-            letters,
-            value,
-            class,
-        })?;
-    }
-    Ok(words)
+    WORDS
+        .iter()
+        .map(|&(letters, value, class)| Word::new(letters, value, class))
+        .collect(alloc)
 }
 
 fn system(alloc: Global) -> Result<Vec<Text>, AllocError> {
     let mut texts = Vec::new(alloc);
     for number in 0..SYSTEM_TEXTS {
-        texts.push(text(alloc, system_text(number))?)?;
+        let text = system_text(number);
+        texts.push(Text::from_slice(alloc, text.as_bytes())?)?;
     }
     Ok(texts)
 }
@@ -222,7 +195,7 @@ fn objects(alloc: Global) -> Result<Vec<ObjectRow>, AllocError> {
     let mut objects = Vec::new(alloc);
     for (name, noun, adjective, start) in OBJECTS {
         objects.push(ObjectRow {
-            text: text(alloc, name)?,
+            text: Text::from_slice(alloc, name.as_bytes())?,
             facts: ObjectFacts {
                 noun,
                 adjective,
@@ -239,33 +212,15 @@ fn objects(alloc: Global) -> Result<Vec<ObjectRow>, AllocError> {
 fn no_exits(alloc: Global, count: usize) -> Result<Vec<Exits>, AllocError> {
     let mut exits = Vec::new(alloc);
     for _ in 0..count {
-        exits.push(Exits {
-            rows: Vec::new(alloc),
-        })?;
+        exits.push(Exits::new(alloc))?;
     }
     Ok(exits)
-}
-
-fn condacts(alloc: Global, codes: &[Code]) -> Result<Condacts, AllocError> {
-    let mut rows = Vec::new(alloc);
-    for (code, a, b) in codes {
-        rows.push(Condact {
-            code: *code,
-            a: *a,
-            b: *b,
-        })?;
-    }
-    Ok(Condacts { rows })
 }
 
 fn table(alloc: Global, rows: &[Row]) -> Result<Table, AllocError> {
     let mut entries = Vec::new(alloc);
     for (verb, noun, codes) in rows {
-        entries.push(Entry {
-            verb: *verb,
-            noun: *noun,
-            condacts: condacts(alloc, codes)?,
-        })?;
+        entries.push(Entry::from_codes(alloc, *verb, *noun, codes)?)?;
     }
     Ok(Table { entries })
 }
