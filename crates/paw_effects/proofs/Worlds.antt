@@ -157,17 +157,7 @@ module _ (g : GameLists) (v : Valid g) (seed : ℕ) where
     world_of false x y h k = k
 
     pub later : (w : World) → IsWorldAt g seed n w → (m : ℕ) → n ≤ m → IsWorldAt g seed m w
-    later w k m more =
-        record {
-          of = k.of;
-          places = k.places;
-          flags = k.flags;
-          saved = k.saved;
-          four = k.four;
-          kept = k.kept;
-          seeded = k.seeded;
-          draws = omega (arith, k.draws);
-        }
+    later w k m more = world_at g seed m w (world_is g seed n w k) k.seeded (omega (arith, k.draws))
 
     pub flag_small : (w : World) → IsWorldAt g seed n w → (f : ℕ) → flag w f < 256
     flag_small w k f = byte_at w.flags f k.flags
