@@ -169,10 +169,10 @@ module _ (g : Story) (ps : List (List ℕ)) (ts : List (List Step)) (lines : Lis
             loops lv (again lv (λ _. more) (body (taken g.game l o (around ps ts lines r)))) ≡ settles lv (again lv (λ _. more) (body (taken g.game l o r)))
         takes o e ih =
             let p : again lv (λ _. turns g lv (record l { last = 0 }) body (length g.game.objects - suc o)) (body (taken g.game l o (around ps ts lines r)))
-                ≡ loops lv (body (taken g.game l o (around ps ts lines r))) =
+            ≡ loops lv (body (taken g.game l o (around ps ts lines r))) =
             taken_again g (deeper g lv) lv l o _ own (keeps o (around ps ts lines r)) in
             let q : again lv (λ _. more) (body (taken g.game l o (around ps ts lines r))) ≡ loops lv (body (taken g.game l o (around ps ts lines r))) =
-                rw e at p in
+            rw e at p in
             ap (λ x. loops lv x) q ∙ again_again g (deeper g lv) lv (deeper_keeps g lv) (body (taken g.game l o (around ps ts lines r)))
             ∙ hb (taken g.game l o r)
             ∙ after o e ih (body (taken g.game l o r)) (keeps o r)

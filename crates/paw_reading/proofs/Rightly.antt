@@ -278,11 +278,11 @@ going_on_stops_rightly g p path r valid lines k =
     let s : Run = without_past r in
     let at : StandsRightly g.game p path s = alone g.game p path r k in
     let resting : IsResting g.game r.world.seed r.world.draws s =
-        rests g.game r.world.seed r.world.draws p path s at
-        (record { seeded = refl; draws = omega arith; pieces = λ i d low. absurd (omega arith); traced = refl }) lines in
+    rests g.game r.world.seed r.world.draws p path s at
+    (record { seeded = refl; draws = omega arith; pieces = λ i d low. absurd (omega arith); traced = refl }) lines in
     let placed = goes_on_rightly g valid.game (stages_left AtResponse s) p path s
-        (k.world.of.facts, (k.world.of.locations, (k.world.places, (stands_in g.game r.world.saved k.world.saved, all_stand g.game r.world.kept k.world.kept))))
-        (record { places = at.places; line = at.line }) in
+    (k.world.of.facts, (k.world.of.locations, (k.world.places, (stands_in g.game r.world.saved k.world.saved, all_stand g.game r.world.kept k.world.kept))))
+    (record { places = at.places; line = at.line }) in
     subst (λ x. StopsRightly g.game (on g p path x)) (apart r)
     (subst (StopsRightly g.game) (sym (past_stays g r.pieces r.traces p path s))
     (placed_past g.game r.pieces r.traces (on g p path s) (stop_rightly g valid r.world.seed r.world.draws (on g p path s) placed (going_on_sounds g valid r.world.seed r.world.draws p path s resting))))

@@ -218,8 +218,8 @@ module _ (g : Story) (valid : ValidStory g) (seed base : ℕ) where
       Is (taken_phrase s left r)
   phrase_so r k s left e =
       let words =
-          parsed-bytes g.game r.pending r.earlier (flag r.world 46) (flag r.world 47) s left v k.earlier
-          (flag_small g.game v seed (bound r) r.world k.world 46) (flag_small g.game v seed (bound r) r.world k.world 47) e in
+      parsed-bytes g.game r.pending r.earlier (flag r.world 46) (flag r.world 47) s left v k.earlier
+      (flag_small g.game v seed (bound r) r.world k.world 46) (flag_small g.game v seed (bound r) r.world k.world 47) e in
       changed r k (spoken s r.world) (spoken_so (bound r) s r.world words k.world) left
       (left_line r.pending left (sentence-rest g.game r.pending r.earlier (flag r.world 46) (flag r.world 47) s left e) k.line) s.verb words.verb r.turning
 
