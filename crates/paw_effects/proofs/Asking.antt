@@ -64,7 +64,8 @@ found_plain g w a None = record { plain = tt }
 object_plain : (g : GameLists) (w : World) (c : Condact) → Plain (object_action_of g w c)
 unfolding object_action_of
 object_plain g w c =
-    one_of (acts_on_given c.code) _ _ (tried_plain g (referred w c.a) c.a (action_of c.code c.b) (first_that_holds (hindrances (referred w c.a) c.a (action_of c.code c.b))))
+    one_of (acts_on_given c.code) _ _
+    (tried_plain g (referred w c.a) c.a (action_of c.code c.b) (first_that_holds (hindrances (referred w c.a) c.a (action_of c.code c.b))))
     (one_of (acts_by_name c.code) _ _ (found_plain g w (action_of c.code c.a) (first_fitting w (looks_at (action_of c.code c.a)))) (record { plain = tt }))
 
 loaded_plain : (g : GameLists) (w : World) (kept : Option Position) → Plain (loaded g w kept)

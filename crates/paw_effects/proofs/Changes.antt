@@ -85,11 +85,21 @@ module _ (g : GameLists) (v : Valid g) (seed n : ℕ) where
     of = record {
       facts = k.of.facts;
       locations = k.of.locations;
-      flags = omega (arith, length-append (take (suc m) q.flags) (drop (suc m) w.flags), length-take (suc m) q.flags, length-drop (suc m) w.flags, at.flags, k.of.flags);
+      flags =
+          omega (
+            arith,
+            length-append (take (suc m) q.flags) (drop (suc m) w.flags),
+            length-take (suc m) q.flags,
+            length-drop (suc m) w.flags,
+            at.flags,
+            k.of.flags,
+          );
       places = at.each;
     };
     places = at.places;
-    flags = All-append (λ b. b < 256) (take (suc m) q.flags) (drop (suc m) w.flags) (All-take (λ b. b < 256) (suc m) q.flags at.bytes) (All-drop (λ b. b < 256) (suc m) w.flags k.flags);
+    flags =
+        All-append (λ b. b < 256) (take (suc m) q.flags) (drop (suc m) w.flags)
+        (All-take (λ b. b < 256) (suc m) q.flags at.bytes) (All-drop (λ b. b < 256) (suc m) w.flags k.flags);
     saved = k.saved;
     four = k.four;
     kept = k.kept;
@@ -191,7 +201,8 @@ module _ (g : GameLists) (v : Valid g) (seed n : ℕ) where
       one _ _ (c.code == 73) (flagged g v seed (suc n) (drawn_on w 1) (drawn_so w k) c.a (rolled w) (rolled_small w)) (
       one _ _ (c.code == 77) (flagged g v seed (suc n) w j c.b (flag w c.a) fa) (
       one _ _ (c.code == 81) (flagged g v seed (suc n) w j c.b (weight w c.a) (weight_small g v seed n w k c.a)) (
-      one _ _ (c.code == 82) (flagged g v seed (suc n) w j c.a (carried_weight w) (omega (arith, min-le_left 255 (sum_by (weight w) (objects_at w 253) + sum_by (weight w) (objects_at w 254))))) (
+      one _ _ (c.code == 82) (flagged g v seed (suc n) w j c.a (carried_weight w)
+      (omega (arith, min-le_left 255 (sum_by (weight w) (objects_at w 253) + sum_by (weight w) (objects_at w 254))))) (
       one _ _ (c.code == 83) (flagged g v seed (suc n) (with_flag w 37 c.a) (flagged g v seed (suc n) w j 37 c.a a) 52 c.b b) (
       one _ _ (c.code == 87) (flagged g v seed (suc n) w j 42 c.a a) (
       (flagged g v seed (suc n) (with_flag w 48 c.a) (flagged g v seed (suc n) w j 48 c.a a) 49 c.b b)))))))))))))))))
@@ -223,9 +234,11 @@ module _ (g : GameLists) (v : Valid g) (seed n : ℕ) where
       let to : (o p : ℕ) → IsPlace g v seed p → Is (moved w o p) = λ o p at. moved_so g v seed n w k o p at in
       by_code (c.code == 61) _ _ (λ own. next _ (to c.a (here w) (here_place g v seed n w k))) (λ b.
       by_code (c.code == 62) _ _ (λ own. next _ (to c.a 252 not_created)) (λ d.
-      by_code (c.code == 63) _ _ (λ own. next _ (moved_so g v seed n (moved w c.a (place w c.b)) (to c.a (place w c.b) (place_of g v seed n w k c.b)) c.b (place w c.a) (place_of g v seed n w k c.a))) (λ e.
+      by_code (c.code == 63) _ _ (λ own. next _ (moved_so g v seed n (moved w c.a (place w c.b))
+      (to c.a (place w c.b) (place_of g v seed n w k c.b)) c.b (place w c.a) (place_of g v seed n w k c.a))) (λ e.
       by_code (c.code == 64) _ _ (λ own. next _ (to c.a (named_place w c.b) (named g v seed n w k c.b (second_place c kept own)))) (λ f.
-      by_code (c.code == 65) _ _ (λ own. next _ (world_of g v seed n (nat_lt (flag w 51) (length w.places)) _ w (to (flag w 51) (named_place w c.a) (named g v seed n w k c.a (first_place c kept own))) k)) (λ h.
+      by_code (c.code == 65) _ _ (λ own. next _ (world_of g v seed n (nat_lt (flag w 51) (length w.places)) _ w
+      (to (flag w 51) (named_place w c.a) (named g v seed n w k c.a (first_place c kept own))) k)) (λ h.
       by_code (c.code == 74) _ _ (λ own. next _ (to c.b (place w c.a) (place_of g v seed n w k c.a))) (λ i.
       by_code (c.code == 75) _ _ (λ own. flagged g v seed (suc n) w j c.b (place w c.a) (place_is_small g v seed n w k c.a)) (λ l.
       by_code (c.code == 76) _ _
@@ -243,7 +256,8 @@ module _ (g : GameLists) (v : Valid g) (seed n : ℕ) where
   facts_so w k o (Some f) =
       let heavy : World = with_flag w 55 (weight w o) in
       let heavy_so : Is heavy = flagged g v seed n w k 55 (weight w o) (weight_small g v seed n w k o) in
-      flagged g v seed n (with_flag heavy 56 (weight_class f.container)) (flagged g v seed n heavy heavy_so 56 (weight_class f.container) (class_small f.container))
+      flagged g v seed n (with_flag heavy 56 (weight_class f.container))
+      (flagged g v seed n heavy heavy_so 56 (weight_class f.container) (class_small f.container))
       57 (weight_class f.wearable) (class_small f.wearable)
 
   pub referred_so : (w : World) → Is w → (o : ℕ) → o < 256 → Is (referred w o)
@@ -338,8 +352,10 @@ module _ (g : GameLists) (v : Valid g) (seed n : ℕ) where
   action_puts : (code l : ℕ) → (((code == 47) || (code == 59)) ≡ true → IsPlace g v seed l) → Puts (action_of code l)
   action_puts code l h =
       let fine : Unit {0} = tt in
-      one_action ((code == 43) || (code == 55)) action.Get _ (λ e. record { at = fine }) (one_action ((code == 44) || (code == 56)) action.Drop _ (λ e. record { at = fine })
-      (one_action ((code == 45) || (code == 57)) action.Wear _ (λ e. record { at = fine }) (one_action ((code == 46) || (code == 58)) action.Remove _ (λ e. record { at = fine })
+      one_action ((code == 43) || (code == 55)) action.Get _ (λ e. record { at = fine })
+      (one_action ((code == 44) || (code == 56)) action.Drop _ (λ e. record { at = fine })
+      (one_action ((code == 45) || (code == 57)) action.Wear _ (λ e. record { at = fine })
+      (one_action ((code == 46) || (code == 58)) action.Remove _ (λ e. record { at = fine })
       (one_action ((code == 47) || (code == 59)) (action.PutIn l) (action.TakeOut l) (λ e. record { at = h e }) (record { at = fine })))))
 
   location_place : (x : ℕ) → IsTrue (is_parameter g kind.Location x) → IsPlace g v seed x
@@ -365,7 +381,8 @@ module _ (g : GameLists) (v : Valid g) (seed n : ℕ) where
   unfolding object_action_of
   object_so w c k kept =
       done_by (acts_on_given c.code) _ _
-      (λ given. acted_so w k c.a (action_of c.code c.b) (parameter_small g v (first_kind c.code) c.a (condact-first g c kept)) (action_puts c.code c.b (given_place c kept given)))
+      (λ given. acted_so w k c.a (action_of c.code c.b) (parameter_small g v (first_kind c.code) c.a (condact-first g c kept))
+      (action_puts c.code c.b (given_place c kept given)))
       (done_by (acts_by_name c.code) _ _
       (λ meant. found_so w k (action_of c.code c.a) (first_fitting w (looks_at (action_of c.code c.a))) (action_puts c.code c.a (meant_place c kept meant))
       (first_small w k (looks_at (action_of c.code c.a))))

@@ -198,7 +198,8 @@ dropped g p (o ∷ os) w at k = dropped g p os (moved w o p) at (moved_placed g 
 if_place : (g : GameLists) (w : World) (o p : ℕ) → IsPlaced g w → IsPlaced g (moved_if_place w o p)
 if_place g w o p k =
     by_test g (names_place w p) (moved w o (named_place w p)) w
-    (λ names. moved_placed g w o (named_place w p) (named_is_place g w p k.1.0 (subst (λ n. (nat_lt p n || is_within 252 255 p) ≡ true) k.1.0 names)) k) (λ none. k)
+    (λ names. moved_placed g w o (named_place w p) (named_is_place g w p k.1.0 (subst (λ n. (nat_lt p n || is_within 252 255 p) ≡ true) k.1.0 names)) k)
+    (λ none. k)
 
 move_placed : (g : GameLists) (w : World) (c : Condact) → Valid g → IsTrue (is_right g c) → IsPlaced g w → IsPlaced g (move_of w c)
 unfolding move_of
@@ -206,10 +207,13 @@ move_placed g w c v kept k =
     let at : (o : ℕ) → is_place (length g.locations) (place w o) ≡ true = λ o. at_place g v w.places o k.1.1.0 in
     by_test g (c.code == 61) _ _ (λ own. moved_placed g w c.a (here w) (here_place g w k.1.0) k) (λ b.
     by_test g (c.code == 62) _ _ (λ own. moved_placed g w c.a 252 (grind (arith, nat_tests)) k) (λ d.
-    by_test g (c.code == 63) _ _ (λ own. moved_placed g (moved w c.a (place w c.b)) c.b (place w c.a) (at c.a) (moved_placed g w c.a (place w c.b) (at c.b) k)) (λ e.
-    by_test g (c.code == 64) _ _ (λ own. moved_placed g w c.a (named_place w c.b) (second_named g w c 64 place_takes k.1.0 kept (eqb-true c.code 64 own)) k) (λ f.
+    by_test g (c.code == 63) _ _
+    (λ own. moved_placed g (moved w c.a (place w c.b)) c.b (place w c.a) (at c.a) (moved_placed g w c.a (place w c.b) (at c.b) k)) (λ e.
+    by_test g (c.code == 64) _ _
+    (λ own. moved_placed g w c.a (named_place w c.b) (second_named g w c 64 place_takes k.1.0 kept (eqb-true c.code 64 own)) k) (λ f.
     by_test g (c.code == 65) _ _
-    (λ own. one_placed g (nat_lt (flag w 51) (length w.places)) (moved w (flag w 51) (named_place w c.a)) w (moved_placed g w (flag w 51) (named_place w c.a) (first_named g w c 65 puto_takes k.1.0 kept (eqb-true c.code 65 own)) k) k) (λ h.
+    (λ own. one_placed g (nat_lt (flag w 51) (length w.places)) (moved w (flag w 51) (named_place w c.a)) w
+    (moved_placed g w (flag w 51) (named_place w c.a) (first_named g w c 65 puto_takes k.1.0 kept (eqb-true c.code 65 own)) k) k) (λ h.
     by_test g (c.code == 74) _ _ (λ own. moved_placed g w c.b (place w c.a) (at c.a) k) (λ i.
     by_test g (c.code == 75) _ _ (λ own. k) (λ j.
     by_test g (c.code == 76) _ _ (λ own. if_place g w c.b (flag w c.a) k) (λ l. dropped g (here w) (held_objects w) w (here_place g w k.1.0) k))))))))
@@ -277,7 +281,8 @@ object_placed g w c v kept k =
     done_placed g (acts_on_given c.code) _ _
     (λ own. acted_placed g w c.a (action_of c.code c.b) (action_goes g c.code c.b (given_place g c v kept own)) k) (λ other.
     done_placed g (acts_by_name c.code) _ _
-    (λ own. found_placed g w (action_of c.code c.a) (first_fitting w (looks_at (action_of c.code c.a))) (action_goes g c.code c.a (found_place g c v kept own)) k)
+    (λ own. found_placed g w (action_of c.code c.a) (first_fitting w (looks_at (action_of c.code c.a)))
+    (action_goes g c.code c.a (found_place g c v kept own)) k)
     (λ none. referred_found g w _ k))
 
 -- ---- all actions ----
@@ -306,7 +311,8 @@ one_of g false x y h k = k
 change_kept : (g : GameLists) (w : World) (c : Condact) → IsPlaced g w → Placed g (change_of w c)
 unfolding change_of
 change_kept g w c k =
-    one_of g (c.code == 38) _ _ (record { is = (k.0, (k.1.0, (k.1.1.0, (k.1.1.0, k.1.1.1.1)))) }) (one_of g (c.code == 39) _ _ (record { is = loaded_placed g w c.a w.saved refl k })
+    one_of g (c.code == 38) _ _ (record { is = (k.0, (k.1.0, (k.1.1.0, (k.1.1.0, k.1.1.1.1)))) })
+    (one_of g (c.code == 39) _ _ (record { is = loaded_placed g w c.a w.saved refl k })
     (one_of g (c.code == 49) _ _ (record { is = k }) (one_of g (c.code == 66) _ _ (record { is = k }) (one_of g (c.code == 67) _ _ (record { is = k })
     (one_of g (c.code == 68) _ _ (record { is = k }) (one_of g (c.code == 69) _ _ (record { is = k }) (one_of g (c.code == 70) _ _ (record { is = k })
     (one_of g (c.code == 71) _ _ (record { is = k }) (one_of g (c.code == 72) _ _ (record { is = k }) (one_of g (c.code == 73) _ _ (record { is = k })

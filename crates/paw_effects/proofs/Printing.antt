@@ -7,7 +7,8 @@ pub too_long : (held part rest start whole : List ℕ) → held ++ (part ++ rest
     65535 < length start + length whole
 too_long held part rest start whole e long =
     let lengths : length (held ++ (part ++ rest)) ≡ length (start ++ whole) = ap length e in
-    let left : length (held ++ (part ++ rest)) ≡ length held + (length part + length rest) = length-append held (part ++ rest) ∙ ap (λ n. length held + n) (length-append part rest) in
+    let left : length (held ++ (part ++ rest)) ≡ length held + (length part + length rest) =
+    length-append held (part ++ rest) ∙ ap (λ n. length held + n) (length-append part rest) in
     let right : length (start ++ whole) ≡ length start + length whole = length-append start whole in
     omega (arith, lengths, left, right, long)
 

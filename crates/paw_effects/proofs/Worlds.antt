@@ -76,7 +76,9 @@ few_tables : (g : GameLists) → Valid g → length g.tables ≤ 256
 few_tables g v = leb-true (length g.tables) 256 (second_of_and (nat_le 3 (length g.tables)) _ (first_of_and (is_within 3 256 (length g.tables)) _ v.tables))
 
 value_small : (w : Word) → IsTrue (is_word w) → w.value < 256
-value_small w h = let range = first_of_and (is_within 2 254 w.value) _ (second_of_and (are_letters w.letters) _ h) in omega (arith, leb-true w.value 254 (second_of_and (nat_le 2 w.value) _ range))
+value_small w h =
+    let range = first_of_and (is_within 2 254 w.value) _ (second_of_and (are_letters w.letters) _ h) in
+    omega (arith, leb-true w.value 254 (second_of_and (nat_le 2 w.value) _ range))
 
 word_small : (ws : List Word) (class value : ℕ) → IsTrue (list_all is_word ws) → IsTrue (has_word ws class value) → value < 256
 word_small [] class value all has = cc
@@ -84,7 +86,9 @@ word_small (w ∷ ws) class value all has = go ((w.class == class) && (w.value =
   where
     go : (b : Bool) → ((w.class == class) && (w.value == value)) ≡ b → IsTrue (b || has_word ws class value) →
         (IsTrue (has_word ws class value) → value < 256) → value < 256
-    go true e h later = let is : w.value ≡ value = eqb-true w.value value (second_of_and (w.class == class) _ e) in subst (λ x. x < 256) is (value_small w (first_of_and (is_word w) _ all))
+    go true e h later =
+        let is : w.value ≡ value = eqb-true w.value value (second_of_and (w.class == class) _ e) in
+        subst (λ x. x < 256) is (value_small w (first_of_and (is_word w) _ all))
     go false e h later = later h
 
 words_kept : (g : GameLists) → Valid g → IsTrue (list_all is_word g.words)
@@ -126,7 +130,9 @@ facts_small g v o f e =
     let kept = facts_kept g v o f e in
     record {
       noun = word_or_none_small g v 2 f.noun (first_of_and (is_word_or_none g.words 2 f.noun) _ kept);
-      adjective = word_or_none_small g v 3 f.adjective (first_of_and (is_word_or_none g.words 3 f.adjective) _ (second_of_and (is_word_or_none g.words 2 f.noun) _ kept));
+      adjective =
+          word_or_none_small g v 3 f.adjective
+          (first_of_and (is_word_or_none g.words 3 f.adjective) _ (second_of_and (is_word_or_none g.words 2 f.noun) _ kept));
     }
 
 -- the facts of a world are those of the game
@@ -151,7 +157,7 @@ module _ (g : GameLists) (v : Valid g) (seed : ℕ) where
     world_of false x y h k = k
 
     pub later : (w : World) → IsWorldAt g seed n w → (m : ℕ) → n ≤ m → IsWorldAt g seed m w
-    later w k m more = record { of = k.of; places = k.places; flags = k.flags; saved = k.saved; four = k.four; kept = k.kept; seeded = k.seeded; draws = omega (arith, k.draws) }
+    later w k m more = world_at g seed m w (world_is g seed n w k) k.seeded (omega (arith, k.draws))
 
     pub flag_small : (w : World) → IsWorldAt g seed n w → (f : ℕ) → flag w f < 256
     flag_small w k f = byte_at w.flags f k.flags
@@ -193,7 +199,9 @@ module _ (g : GameLists) (v : Valid g) (seed : ℕ) where
     here_place w k = go (nat_lt (flag w 38) w.locations) refl
       where
         go : (b : Bool) → nat_lt (flag w 38) w.locations ≡ b → IsPlace (if b then flag w 38 else 252)
-        go true e = let low : flag w 38 < length g.locations = subst (λ l. flag w 38 < l) k.of.locations (ltb-true (flag w 38) w.locations e) in grind (arith, nat_tests)
+        go true e =
+            let low : flag w 38 < length g.locations = subst (λ l. flag w 38 < l) k.of.locations (ltb-true (flag w 38) w.locations e) in
+            grind (arith, nat_tests)
         go false e = let few = (few_locations g v).1 in grind (arith, nat_tests)
 
     pub named : (w : World) → IsWorldAt g seed n w → (p : ℕ) → IsTrue (is_parameter g kind.Place p) → IsPlace (named_place w p)
@@ -207,7 +215,9 @@ module _ (g : GameLists) (v : Valid g) (seed : ℕ) where
     let_go_so w k p = let small = flag_small w k 1 in world_of (p == 254) (with_flag w 1 (flag w 1 - 1)) w (flagged w k 1 (flag w 1 - 1) (omega arith)) k
 
     taken_up_so : (w : World) → IsWorldAt g seed n w → (p : ℕ) → IsWorldAt g seed n (taken_up w p)
-    taken_up_so w k p = let most = min-le_left 255 (flag w 1 + 1) in world_of (p == 254) (with_flag w 1 (min 255 (flag w 1 + 1))) w (flagged w k 1 (min 255 (flag w 1 + 1)) (omega arith)) k
+    taken_up_so w k p =
+        let most = min-le_left 255 (flag w 1 + 1) in
+        world_of (p == 254) (with_flag w 1 (min 255 (flag w 1 + 1))) w (flagged w k 1 (min 255 (flag w 1 + 1)) (omega arith)) k
 
     pub moved_so : (w : World) → IsWorldAt g seed n w → (o p : ℕ) → IsPlace p → IsWorldAt g seed n (moved w o p)
     moved_so w k o p at =
@@ -217,7 +227,9 @@ module _ (g : GameLists) (v : Valid g) (seed : ℕ) where
 
     -- what an object weighs is a byte
     own_small : (w : World) → IsWorldAt g seed n w → (o : ℕ) → own_weight (slice_get w.facts o) < 256
-    own_small w k o = subst (λ f. own_weight f < 256) (sym (subst (λ fs. slice_get w.facts o ≡ slice_get fs o) k.of.facts refl ∙ facts_same g.objects o)) (go (facts_at g o) refl)
+    own_small w k o =
+        subst (λ f. own_weight f < 256) (sym (subst (λ fs. slice_get w.facts o ≡ slice_get fs o) k.of.facts refl ∙ facts_same g.objects o))
+        (go (facts_at g o) refl)
       where
         go : (f : Option ObjectFacts) → facts_at g o ≡ f → own_weight f < 256
         go None e = omega arith
@@ -241,14 +253,20 @@ module _ (g : GameLists) (v : Valid g) (seed : ℕ) where
 
   carried_small : first_carried (map (λ o. o.facts) g.objects) < 256
   carried_small =
-      omega (arith, count_by-le-length (λ (f : ObjectFacts). f.start == 254) (map (λ o. o.facts) g.objects), length-map g.objects (λ (o : ObjectRow). o.facts), few_objects g v)
+      omega (
+        arith,
+        count_by-le-length (λ (f : ObjectFacts). f.start == 254) (map (λ o. o.facts) g.objects),
+        length-map g.objects (λ (o : ObjectRow). o.facts),
+        few_objects g v,
+      )
 
   starts_are_places : (os : List ObjectRow) → IsTrue (list_all (is_object g.words (length g.locations)) os) →
       ArePlacesOf g (opening_places (map (λ o. o.facts) os))
   starts_are_places [] all k d low = absurd (omega arith)
   starts_are_places (o ∷ os) all zero d low =
       first_of_and (is_place (length g.locations) o.facts.start) _ (second_of_and (is_word_or_none g.words 3 o.facts.adjective) _
-      (second_of_and (is_word_or_none g.words 2 o.facts.noun) _ (second_of_and (is_text o.text) _ (first_of_and (is_object g.words (length g.locations) o) _ all))))
+      (second_of_and (is_word_or_none g.words 2 o.facts.noun) _
+      (second_of_and (is_text o.text) _ (first_of_and (is_object g.words (length g.locations) o) _ all))))
   starts_are_places (o ∷ os) all (suc k) d low = starts_are_places os (second_of_and (is_object g.words (length g.locations) o) _ all) k d (omega arith)
 
   start_places : ArePlacesOf g (opening_places (map (λ o. o.facts) g.objects))
@@ -273,7 +291,8 @@ module _ (g : GameLists) (v : Valid g) (seed : ℕ) where
   flags_at_start carried small =
       let blank : AreFlags (replicate 256 0) = record { all = refl; bytes = All-replicate (λ b. b < 256) 256 0 (omega arith) } in
       one_set _ (one_set _ (none_set _ (none_set _ (none_set _ (none_set _ (none_set _ (none_set _
-      (none_set _ (none_set _ (none_set _ (none_set _ (one_set (replicate 256 0) blank 1 carried small) 33) 34) 35) 36) 43) 44) 45) 46) 47) 51) 37 4 (omega arith)) 52 10 (omega arith)
+      (none_set _ (none_set _ (none_set _ (none_set _ (one_set (replicate 256 0) blank 1 carried small) 33) 34) 35) 36) 43) 44) 45) 46) 47) 51) 37 4
+      (omega arith)) 52 10 (omega arith)
 
   pub start_so : IsWorldAt g seed 0 (starting_world (map (λ o. o.facts) g.objects) (length g.locations) seed)
   start_so =

@@ -124,9 +124,9 @@ impl Machine {
         ensures reading { IsReading self.new }
         ensures rest { self.new ≡ record self.old { frames = self.new.frames; waiting = None } }
     {
+        let waiting = self.take_waiting();
         let f = self.top();
-        self.set_top(answered(self.waiting(), f, yes));
-        self.set_waiting(None);
+        self.set_top(answered(waiting, f, yes));
     }
 
     /// Reads on to the next stop. Where it waits, the text of the open piece is complete, and the machine's frames tell
@@ -280,11 +280,12 @@ impl Machine {
         self.turning = turning;
     }
 
-    /// The prompt at which it waits.
-    pub(crate) fn waiting(&self) -> Option<Prompt>
-        ensures value { result ≡ self.now.waiting }
+    /// The prompt at which it waited. It waits at none from now on.
+    fn take_waiting(&mut self) -> Option<Prompt>
+        ensures was { result ≡ self.old.waiting }
+        ensures rest { self.new ≡ record self.old { waiting = None } }
     {
-        self.waiting
+        self.waiting.take()
     }
 
     /// It waits at this prompt from now on, or at none.

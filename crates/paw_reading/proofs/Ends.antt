@@ -127,7 +127,8 @@ turns_end g s r = turn_ends g (stages_left s r) s r (omega arith)
 
 in_table_ends : (g : Story) (n : ℕ) (p : Prompt) (path : List Frame) (r : Run) → 4 * left_to_read r + 3 ≤ n → in_table g n p path r ≢ Unended
 in_table_ends g n p path r h =
-    table_done_ends g n (turn g n) (turn_ends g n) (first_table path) (left_to_read r) (omega (arith, h, rank_after-le (first_table path))) _ (path_spends g p 0 path r)
+    table_done_ends g n (turn g n) (turn_ends g n) (first_table path) (left_to_read r) (omega (arith, h, rank_after-le (first_table path))) _
+    (path_spends g p 0 path r)
   where
     rank_after-le : (t : ℕ) → rank_after t ≤ 3
     rank_after-le zero = omega arith

@@ -158,7 +158,8 @@ module _ (g : Story) (ps : List (List ℕ)) (ts : List (List Step)) (lines : Lis
             let q : at_level lv s.turning ≡ Some (record l { last = o }) = rw k (at_level_own lv (record l { last = o }) own) in
             rw (q, e)
             (sym (again_closed g (deeper g lv) lv (looped g (deeper g lv) lv) (more (around ps ts lines s))
-            (turns_closes g lv (record l { last = 0 }) body own (plain_keeps g (deeper g lv) lv (deeper_keeps g lv) l.table l.entry (suc l.at) true) n (around ps ts lines s)))
+            (turns_closes g lv (record l { last = 0 }) body own (plain_keeps g (deeper g lv) lv (deeper_keeps g lv) l.table l.entry (suc l.at) true) n
+            (around ps ts lines s)))
             ∙ ih s)
         after o e ih (Left a s) (inr k) = rw k refl
         after o e ih (Waits p path s) k = refl
@@ -167,10 +168,13 @@ module _ (g : Story) (ps : List (List ℕ)) (ts : List (List Step)) (lines : Lis
         takes : (o : ℕ) → length g.game.objects - suc o ≡ n → IsSettling lv more →
             loops lv (again lv (λ _. more) (body (taken g.game l o (around ps ts lines r)))) ≡ settles lv (again lv (λ _. more) (body (taken g.game l o r)))
         takes o e ih =
-            let p : again lv (λ _. turns g lv (record l { last = 0 }) body (length g.game.objects - suc o)) (body (taken g.game l o (around ps ts lines r))) ≡ loops lv (body (taken g.game l o (around ps ts lines r))) =
+            let p : again lv (λ _. turns g lv (record l { last = 0 }) body (length g.game.objects - suc o)) (body (taken g.game l o (around ps ts lines r)))
+            ≡ loops lv (body (taken g.game l o (around ps ts lines r))) =
             taken_again g (deeper g lv) lv l o _ own (keeps o (around ps ts lines r)) in
-            let q : again lv (λ _. more) (body (taken g.game l o (around ps ts lines r))) ≡ loops lv (body (taken g.game l o (around ps ts lines r))) = rw e at p in
-            ap (λ x. loops lv x) q ∙ again_again g (deeper g lv) lv (deeper_keeps g lv) (body (taken g.game l o (around ps ts lines r))) ∙ hb (taken g.game l o r)
+            let q : again lv (λ _. more) (body (taken g.game l o (around ps ts lines r))) ≡ loops lv (body (taken g.game l o (around ps ts lines r))) =
+            rw e at p in
+            ap (λ x. loops lv x) q ∙ again_again g (deeper g lv) lv (deeper_keeps g lv) (body (taken g.game l o (around ps ts lines r)))
+            ∙ hb (taken g.game l o r)
             ∙ after o e ih (body (taken g.game l o r)) (keeps o r)
 
     -- ---- one condact ----
@@ -192,7 +196,8 @@ module _ (g : Story) (ps : List (List ℕ)) (ts : List (List Step)) (lines : Lis
           ((a : Bool) → IsSettling lv (past_of lv f a)) → (d : Done) →
           IsSettling lv (acts g (deeper g lv) lv f (next_of lv f) (past_of lv f) d)
       settles_acts f hn hg d r =
-          settles_printing d.text (λ s. after_action g (deeper g lv) lv f (next_of lv f) (past_of lv f) d.act.effect (carried_out d s)) r (settles_action f hn hg d.act.effect (carried_out d (printed d.text r)))
+          settles_printing d.text (λ s. after_action g (deeper g lv) lv f (next_of lv f) (past_of lv f) d.act.effect (carried_out d s)) r
+          (settles_action f hn hg d.act.effect (carried_out d (printed d.text r)))
 
       settles_test : (f : Frame) → ((a : Bool) → IsSettling lv (next_of lv f a)) →
           ((a : Bool) → IsSettling lv (past_of lv f a)) → (c : Condact) (r : Run) (t : Truth) →
@@ -247,7 +252,8 @@ module _ (g : Story) (ps : List (List ℕ)) (ts : List (List Step)) (lines : Lis
       settles_plain : (t e k : ℕ) (a : Bool) → IsSettling lv (plain g (deeper g lv) lv t e k a)
       settles_plain t e zero a = settles_entries t (length (table_at g.game t)) e (omega arith) a
       settles_plain t e (suc k) a =
-          settles_inside t e (settles_entries t (length (table_at g.game t)) (suc e) (omega arith)) (length (condacts_of (entry_at g.game t e))) (suc k) (omega arith) a
+          settles_inside t e (settles_entries t (length (table_at g.game t)) (suc e) (omega arith)) (length (condacts_of (entry_at g.game t e))) (suc k)
+          (omega arith) a
 
       settles_closed : (x : Out) → Keeps None x → settles lv x ≡ extends lv x
       settles_closed (Left a r) (inl k) = rw k refl

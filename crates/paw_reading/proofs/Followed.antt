@@ -58,7 +58,8 @@ module _ (g : Story) (lines : List (List ℕ)) where
     connected_follows : (r : Run) → r.turning ≡ None → (to : Option ℕ) →
         Follows m (connected g (go AtDescribe) (go AtFrame) r to) (connected g (more AtDescribe) (more AtFrame) (with_lines lines r) to)
     connected_follows r none None k =
-        saying_follows m (refusal_text g.game r.world) (go AtFrame) (more AtFrame) (line_dropped r) (follows AtFrame (printed (refusal_text g.game r.world) (line_dropped r)) none) k
+        saying_follows m (refusal_text g.game r.world) (go AtFrame) (more AtFrame) (line_dropped r)
+        (follows AtFrame (printed (refusal_text g.game r.world) (line_dropped r)) none) k
     connected_follows r none (Some to) k = follows AtDescribe (with_world (with_flag r.world 38 to) r) none k
 
     after_left_follows : (t : ℕ) (a : Bool) (r : Run) → r.turning ≡ None → Follows m (after_left g go t a r) (after_left g more t a (with_lines lines r))
@@ -100,7 +101,8 @@ module _ (g : Story) (lines : List (List ℕ)) where
         (rest_stays t g 0 t 0 0 (λ z. refl) false r (subst (IsLoopOf t) (sym none) tt)))
 
     at_main_follows : (r : Run) (es : List (List ℕ)) → r.turning ≡ None →
-        Follows m (at_main g (go AtFrame) (go AtPhrase) r es) (at_main g (more AtFrame) (more AtPhrase) (with_lines lines (record r { events = es })) (es ++ lines))
+        Follows m (at_main g (go AtFrame) (go AtPhrase) r es)
+        (at_main g (more AtFrame) (more AtPhrase) (with_lines lines (record r { events = es })) (es ++ lines))
     unfolding at_main
     at_main_follows r [] none k = at_main_more g (turn g m) more refines (with_lines lines (record r { events = [] })) lines k
     at_main_follows r (line ∷ es) none k =
@@ -121,14 +123,16 @@ module _ (g : Story) (lines : List (List ℕ)) where
         by_test false false x y z hx hy hz = hz
 
     after_phrase_follows : (r : Run) → r.turning ≡ None → (p : Parsed) →
-        Follows m (after_phrase g (go AtFrame) (go AtPhrase) (go AtResponse) r p) (after_phrase g (more AtFrame) (more AtPhrase) (more AtResponse) (with_lines lines r) p)
+        Follows m (after_phrase g (go AtFrame) (go AtPhrase) (go AtResponse) r p)
+        (after_phrase g (more AtFrame) (more AtPhrase) (more AtResponse) (with_lines lines r) p)
     after_phrase_follows r none (IsSentence s rest) k = follows AtResponse (with_world (counted (taken_phrase s rest r).world) (taken_phrase s rest r)) none k
     after_phrase_follows r none (IsUnknown rest) k =
         let text : List ℕ = unknown_text g.game r.world in
         saying_follows m text (go AtFrame) (more AtFrame) (line_dropped r)
         (follows AtFrame (printed text (line_dropped r)) none) k
     after_phrase_follows r none IsNoPhrase k =
-        saying_follows m (prompt_text g.game r.world) (λ s. at_main g (go AtFrame) (go AtPhrase) (closed s) s.events) (λ s. at_main g (more AtFrame) (more AtPhrase) (closed s) s.events) (line_dropped r)
+        saying_follows m (prompt_text g.game r.world) (λ s. at_main g (go AtFrame) (go AtPhrase) (closed s) s.events)
+        (λ s. at_main g (more AtFrame) (more AtPhrase) (closed s) s.events) (line_dropped r)
         (at_main_follows (closed (printed (prompt_text g.game r.world) (line_dropped r))) r.events none) k
 
   more_stages : (n m : ℕ) → Refines (turn g m) (turn g (n + m))

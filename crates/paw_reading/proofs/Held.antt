@@ -169,7 +169,8 @@ module _ (g : Story) (v : Valid g.game) (ts : List ℕ) (lv : ℕ) (deep : lengt
   again_held : (next : OpenLoop → Run → Out) → ((l : OpenLoop) (r : Run) → at_level lv r.turning ≡ Some l → IsSound r → Held g.game ts ts u (next l r))
       → (x : Out) → Inside x → Held g.game ts ts u (again lv next x)
   again_held next h (Left a r) k =
-      open_or_not (Held g.game ts ts u) (λ l. next l r) (Left a r) (at_level lv r.turning) (λ l e. h l r e k) (λ none. narrowed g.game ts lv u r.world r.turning deep none k)
+      open_or_not (Held g.game ts ts u) (λ l. next l r) (Left a r) (at_level lv r.turning) (λ l e. h l r e k)
+      (λ none. narrowed g.game ts lv u r.world r.turning deep none k)
   again_held next h (Waits p path r) k = k
   again_held next h (Stopped stop r) k = k
 
@@ -286,19 +287,23 @@ module _ (g : Story) (v : Valid g.game) (ts : List ℕ) (lv : ℕ) (deep : lengt
     after_action_held f next go c own at hn hg effect.Spent leads r k = tt
 
     acts_held : (f : Frame) (next go : Bool → Run → Out) (c : Condact) → f.table ≡ u → condact_at g.game f.table f.entry f.at ≡ Some c
-        → GoesHeld (ts ++ u ∷ []) next → GoesHeld (ts ++ u ∷ []) go → (d : Done) → LeadsIn g.game c d.act.effect → (r : Run) → Sound g.game (ts ++ u ∷ []) d.world r.turning
+        → GoesHeld (ts ++ u ∷ []) next → GoesHeld (ts ++ u ∷ []) go → (d : Done) → LeadsIn g.game c d.act.effect → (r : Run)
+        → Sound g.game (ts ++ u ∷ []) d.world r.turning
         → Inside (acts g sub lv f next go d r)
     acts_held f next go c own at hn hg d leads r k =
         either Inside (fits r d.text) _ (halts (RunsOut spent.Text) r)
-        (after_action_held f next go c own at hn hg d.act.effect leads (carried_out d (printed d.text r)) (cancelled g.game (ts ++ u ∷ []) d.world d.act.cancel_loop r.turning k)) tt
+        (after_action_held f next go c own at hn hg d.act.effect leads (carried_out d (printed d.text r))
+        (cancelled g.game (ts ++ u ∷ []) d.world d.act.cancel_loop r.turning k)) tt
 
     reads_one_held : (f : Frame) (next go : Bool → Run → Out) (c : Condact) → f.table ≡ u → condact_at g.game f.table f.entry f.at ≡ Some c
         → GoesHeld (ts ++ u ∷ []) next → GoesHeld (ts ++ u ∷ []) go → (r : Run) → IsSound r → Inside (reads_one g sub lv f next go c r)
     reads_one_held f next go c own at hn hg r k =
         either Inside (is_condition c) _ _
-        (after_test_held f next go c own at hn hg (with_world (holds g.game r.world c).world r) (holds g.game r.world c).answer (condition_asks g.game r.world c)
+        (after_test_held f next go c own at hn hg (with_world (holds g.game r.world c).world r) (holds g.game r.world c).answer
+        (condition_asks g.game r.world c)
         (record { of = condition_placed g.game r.world c k.of; loop = k.loop }))
-        (acts_held f next go c own at hn hg (effect_of g r.world c) (leads_in g.game r.world f.table f.entry f.at c _ v k.of.1.0 at (effect_leads g r.world c)) (noted f c true r)
+        (acts_held f next go c own at hn hg (effect_of g r.world c) (leads_in g.game r.world f.table f.entry f.at c _ v k.of.1.0 at (effect_leads g r.world c))
+        (noted f c true r)
         (record { of = effect_placed g r.world c v (right_at g.game v f.table f.entry f.at c at) k.of; loop = k.loop }))
 
     -- ---- entries, tables ----
@@ -319,7 +324,8 @@ module _ (g : Story) (v : Valid g.game) (ts : List ℕ) (lv : ℕ) (deep : lengt
     entries_held e (en ∷ es) d a r h =
         let at = drop_more (table_at g.game u) es e en d in
         either Inside (is_for_now r en) _ _
-        (condacts_held e (entries g sub lv u (suc e) es) (entries_held (suc e) es at.1) 0 en.condacts (all_left (condacts_of (entry_at g.game u e)) ∙ ap condacts_of at.0) a r h)
+        (condacts_held e (entries g sub lv u (suc e) es) (entries_held (suc e) es at.1) 0 en.condacts
+        (all_left (condacts_of (entry_at g.game u e)) ∙ ap condacts_of at.0) a r h)
         (entries_held (suc e) es at.1 a r h)
 
     plain_held : (e k : ℕ) → GoesHeld (ts ++ u ∷ []) (plain g sub lv u e k)
@@ -369,7 +375,8 @@ table_held g v t r of none =
 
 -- going on along a path
 pub path_held : (g : Story) (v : Valid g.game) (p : Prompt) (code : ℕ) (ts : List ℕ) (lv : ℕ) (f : Frame) (path : List Frame) (r : Run)
-    → length ts ≡ lv → AsksAt code p → length ts + length (f ∷ path) ≤ 11 → LeadsTo g.game code (f ∷ path) → Sound g.game (ts ++ tables_of (f ∷ path)) r.world r.turning
+    → length ts ≡ lv → AsksAt code p → length ts + length (f ∷ path) ≤ 11 → LeadsTo g.game code (f ∷ path)
+    → Sound g.game (ts ++ tables_of (f ∷ path)) r.world r.turning
     → Held g.game ts ts f.table (on_path g p lv (f ∷ path) r)
 path_held g v p code ts lv f [] r deep asks few leads k =
     again_held g v ts lv deep (omega arith) f.table (looped g (deeper g lv) lv)
@@ -379,5 +386,6 @@ path_held g v p code ts lv f [] r deep asks few leads k =
 path_held g v p code ts lv f (h ∷ path) r deep asks few leads k =
     after_call_held g v ts lv deep (omega arith) f.table ts f _ leads.0.condact h.table refl leads.0.stands leads.0.process (sym leads.0.called)
     (rest_held g v ts lv f.table f.entry (suc f.at) deep (omega arith)) _
-    (path_held g v p code (ts ++ f.table ∷ []) (suc lv) h path r (one_more ts f.table lv deep) asks (omega (arith, few, length-append ts (f.table ∷ []))) leads.1
+    (path_held g v p code (ts ++ f.table ∷ []) (suc lv) h path r (one_more ts f.table lv deep) asks
+    (omega (arith, few, length-append ts (f.table ∷ []))) leads.1
     (subst (λ s. Sound g.game s r.world r.turning) (sym (append_assoc ts (f.table ∷ []) (tables_of (h ∷ path)))) k))

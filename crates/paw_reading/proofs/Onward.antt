@@ -37,7 +37,8 @@ module _ (g : Story) (sub : ℕ → Run → Out) (lv : ℕ) where
 
 -- the loop of which an object was taken is the one that is open
 pub taken_again : (g : Story) (sub : ℕ → Run → Out) (lv : ℕ) (l : OpenLoop) (o : ℕ) (x : Out) → l.level ≡ lv → Keeps (Some (record l { last = o })) x →
-    again lv (λ _. turns g lv (record l { last = 0 }) (plain g sub lv l.table l.entry (suc l.at) true) (length g.game.objects - suc o)) x ≡ again lv (looped g sub lv) x
+    again lv (λ _. turns g lv (record l { last = 0 }) (plain g sub lv l.table l.entry (suc l.at) true) (length g.game.objects - suc o)) x
+    ≡ again lv (looped g sub lv) x
 taken_again g sub lv l o (Left a r) own (inl k) =
     let q : at_level lv r.turning ≡ Some (record l { last = o }) = rw k (at_level_own lv (record l { last = o }) own) in rw q refl
 taken_again g sub lv l o (Left a r) own (inr k) = rw k refl
@@ -82,14 +83,16 @@ module _ (g : Story) (lv : ℕ) where
   begins f p r =
       let all : length g.game.objects - 0 ≡ length g.game.objects = omega arith in
       rw all (again_closed g (deeper g lv) lv _ _
-      (turns_closes g lv (loop_of lv f p) _ refl (plain_keeps g (deeper g lv) lv (deeper_keeps g lv) f.table f.entry (suc f.at) true) (length g.game.objects) r))
+      (turns_closes g lv (loop_of lv f p) _ refl (plain_keeps g (deeper g lv) lv (deeper_keeps g lv) f.table f.entry (suc f.at) true)
+      (length g.game.objects) r))
 
   follows_actions : FollowsActions g lv
   follows_actions = record {
     go = λ f r. refl;
     exit = λ f a r. refl;
     redescribe = λ f r. refl;
-    call = λ f u r low. after_call_again g (deeper g lv) lv f (plain g (deeper g lv) lv f.table f.entry (suc f.at)) (deeper g lv u r) ∙ ap (after_call f (past g lv f)) (deeper_rest g lv u r low);
+    call = λ f u r low. after_call_again g (deeper g lv) lv f (plain g (deeper g lv) lv f.table f.entry (suc f.at)) (deeper g lv u r)
+        ∙ ap (after_call f (past g lv f)) (deeper_rest g lv u r low);
     deep = λ f u r h. ap (λ x. again lv (looped g (deeper g lv) lv) (after_call f (plain g (deeper g lv) lv f.table f.entry (suc f.at)) x)) (deeper_none g lv u r h);
     loop = begins;
     ask = λ f p r. refl;
@@ -127,8 +130,12 @@ module _ (g : Story) (lv : ℕ) where
   turns_loops = record {
     left = λ a r h. rw h refl;
     looks_on = looks_above;
-    passed_by = λ l o r low h. let e : length g.game.objects - o ≡ suc (length g.game.objects - suc o) = omega arith in rw e (passes l (length g.game.objects - suc o) o r (omega arith) h);
-    takes = λ l o r own low h. let e : length g.game.objects - o ≡ suc (length g.game.objects - suc o) = omega arith in rw e (takes_one l (length g.game.objects - suc o) o r own (omega arith) refl h);
+    passed_by = λ l o r low h.
+        let e : length g.game.objects - o ≡ suc (length g.game.objects - suc o) = omega arith in
+        rw e (passes l (length g.game.objects - suc o) o r (omega arith) h);
+    takes = λ l o r own low h.
+        let e : length g.game.objects - o ≡ suc (length g.game.objects - suc o) = omega arith in
+        rw e (takes_one l (length g.game.objects - suc o) o r own (omega arith) refl h);
     none_left = λ l o r h. none_more l (length g.game.objects - o) r (omega arith);
   }
 

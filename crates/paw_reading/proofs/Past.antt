@@ -114,14 +114,16 @@ module _ (g : Story) (ps : List (List ℕ)) (ts : List (List Step)) where
         by_test false true x y z hx hy hz = hy
         by_test false false x y z hx hy hz = hz
 
-    after_phrase_past : (r : Run) (p : Parsed) → after_phrase g (go AtFrame) (go AtPhrase) (go AtResponse) (with_past ps ts r) p ≡ ending_with_past ps ts (after_phrase g (go AtFrame) (go AtPhrase) (go AtResponse) r p)
+    after_phrase_past : (r : Run) (p : Parsed) → after_phrase g (go AtFrame) (go AtPhrase) (go AtResponse) (with_past ps ts r) p
+        ≡ ending_with_past ps ts (after_phrase g (go AtFrame) (go AtPhrase) (go AtResponse) r p)
     after_phrase_past r (IsSentence s rest) = pasts AtResponse (with_world (counted (taken_phrase s rest r).world) (taken_phrase s rest r))
     after_phrase_past r (IsUnknown rest) =
         let text : List ℕ = unknown_text g.game r.world in
         saying_past text (go AtFrame) (line_dropped r) (pasts AtFrame (printed text (line_dropped r)))
     after_phrase_past r IsNoPhrase =
         saying_past (prompt_text g.game r.world) (λ s. at_main g (go AtFrame) (go AtPhrase) (closed s) s.events) (line_dropped r)
-        (rw (closed_past (printed (prompt_text g.game r.world) (line_dropped r))) (at_main_past (closed (printed (prompt_text g.game r.world) (line_dropped r))) r.events))
+        (rw (closed_past (printed (prompt_text g.game r.world) (line_dropped r)))
+        (at_main_past (closed (printed (prompt_text g.game r.world) (line_dropped r))) r.events))
 
   turn_past : (n : ℕ) (s : TurnStage) (r : Run) → turn g n s (with_past ps ts r) ≡ ending_with_past ps ts (turn g n s r)
   unfolding turn

@@ -157,7 +157,8 @@ module _ (g : Story) (v : Valid g.game) where
   unfolding turn
   turn_rightly zero s r k = tt
   turn_rightly (suc n) AtDescribe r k =
-      saying_rightly (view_text g.game (described r.world)) (λ q. table_done g (turn g n) 1 (table_read g 1 q)) (read_rightly (turn g n) (turn_rightly n) 1 (omega arith))
+      saying_rightly (view_text g.game (described r.world)) (λ q. table_done g (turn g n) 1 (table_read g 1 q))
+      (read_rightly (turn g n) (turn_rightly n) 1 (omega arith))
       (with_world (described r.world) r) (record { of = described_placed g.game r.world k.of; none = k.none })
   turn_rightly (suc n) AtFrame r k = read_rightly (turn g n) (turn_rightly n) 2 (omega arith) r k
   turn_rightly (suc n) AtPhrase r k =
@@ -221,7 +222,8 @@ stop_bounded g valid seed n _ k = tt
 pub readings_stop_rightly : ReadingsStopRightly
 readings_stop_rightly g seed es valid lines =
     stop_rightly g valid seed 0 (reading g seed es)
-    (turn_rightly g valid.game (stages_left AtDescribe (opening g seed es)) AtDescribe (opening g seed es) (record { of = opened_placed g.game seed valid.game; none = refl }))
+    (turn_rightly g valid.game (stages_left AtDescribe (opening g seed es)) AtDescribe (opening g seed es)
+    (record { of = opened_placed g.game seed valid.game; none = refl }))
     (reading_sounds g valid seed 0 es (are_lines es lines))
 
 pub readings_are_bounded : ReadingsAreBounded
@@ -275,8 +277,12 @@ pub going_on_stops_rightly : GoingOnStopsRightly
 going_on_stops_rightly g p path r valid lines k =
     let s : Run = without_past r in
     let at : StandsRightly g.game p path s = alone g.game p path r k in
-    let resting : IsResting g.game r.world.seed r.world.draws s = rests g.game r.world.seed r.world.draws p path s at (record { seeded = refl; draws = omega arith; pieces = λ i d low. absurd (omega arith); traced = refl }) lines in
-    let placed = goes_on_rightly g valid.game (stages_left AtResponse s) p path s (k.world.of.facts, (k.world.of.locations, (k.world.places, (stands_in g.game r.world.saved k.world.saved, all_stand g.game r.world.kept k.world.kept)))) (record { places = at.places; line = at.line }) in
+    let resting : IsResting g.game r.world.seed r.world.draws s =
+    rests g.game r.world.seed r.world.draws p path s at
+    (record { seeded = refl; draws = omega arith; pieces = λ i d low. absurd (omega arith); traced = refl }) lines in
+    let placed = goes_on_rightly g valid.game (stages_left AtResponse s) p path s
+    (k.world.of.facts, (k.world.of.locations, (k.world.places, (stands_in g.game r.world.saved k.world.saved, all_stand g.game r.world.kept k.world.kept))))
+    (record { places = at.places; line = at.line }) in
     subst (λ x. StopsRightly g.game (on g p path x)) (apart r)
     (subst (StopsRightly g.game) (sym (past_stays g r.pieces r.traces p path s))
     (placed_past g.game r.pieces r.traces (on g p path s) (stop_rightly g valid r.world.seed r.world.draws (on g p path s) placed (going_on_sounds g valid r.world.seed r.world.draws p path s resting))))

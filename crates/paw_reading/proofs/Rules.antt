@@ -34,7 +34,8 @@ module _ (g : Story) (sub : ℕ → Run → Out) (lv : ℕ) where
   inside_end t e k a r h = rw (drop_none (condacts_of (entry_at g.game t e)) k h) refl
 
   -- at a condact
-  pub inside_condact : (t e k : ℕ) (a : Bool) (r : Run) (c : Condact) → condact_at g.game t e k ≡ Some c → inside g sub lv t e k a r ≡ within r (reads_one g sub lv (record { table = t; entry = e; at = k; acted = a }) (plain g sub lv t (suc e) 0) (plain g sub lv t e (suc k)) c r)
+  pub inside_condact : (t e k : ℕ) (a : Bool) (r : Run) (c : Condact) → condact_at g.game t e k ≡ Some c → inside g sub lv t e k a r
+      ≡ within r (reads_one g sub lv (record { table = t; entry = e; at = k; acted = a }) (plain g sub lv t (suc e) 0) (plain g sub lv t e (suc k)) c r)
   unfolding condacts
   inside_condact t e k a r c h = rw (drop_some (condacts_of (entry_at g.game t e)) k c h) refl
 
@@ -62,7 +63,10 @@ module _ (g : Story) (sub : ℕ → Run → Out) (lv : ℕ) where
       here : (j : ℕ) → e ≡ j → condacts g sub lv t e (entries g sub lv t (suc e) es) 0 en.condacts a r ≡ inside g sub lv t j 0 a r
       here j q = let m = drop_more (table_at g.game t) es e en d in rw (← q, m.0, m.1) refl
 
-      go : (first_match (flag r.world 33) (flag r.world 34) (suc e) es ≡ Some found → entries g sub lv t (suc e) es a r ≡ inside g sub lv t found 0 a r) → (b : Bool) → ◌≡◌ {A = Option ℕ} (if b then Some e else first_match (flag r.world 33) (flag r.world 34) (suc e) es) (Some found) → (if b then condacts g sub lv t e (entries g sub lv t (suc e) es) 0 en.condacts a r else entries g sub lv t (suc e) es a r) ≡ inside g sub lv t found 0 a r
+      go : (first_match (flag r.world 33) (flag r.world 34) (suc e) es ≡ Some found → entries g sub lv t (suc e) es a r ≡ inside g sub lv t found 0 a r) →
+          (b : Bool) → ◌≡◌ {A = Option ℕ} (if b then Some e else first_match (flag r.world 33) (flag r.world 34) (suc e) es) (Some found) →
+          (if b then condacts g sub lv t e (entries g sub lv t (suc e) es) 0 en.condacts a r else entries g sub lv t (suc e) es a r)
+          ≡ inside g sub lv t found 0 a r
       go later true q = let j : e ≡ found = cc in here found j
       go later false q = later q
 

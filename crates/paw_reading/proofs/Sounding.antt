@@ -204,7 +204,8 @@ module _ (g : Story) (valid : ValidStory g) (seed base : ℕ) where
   spoken_so n s w b k =
       let set : (u : World) → IsWorldAt g.game seed n u → (f x : ℕ) → x < 256 → IsWorldAt g.game seed n (with_flag u f x) = λ u. flagged g.game v seed n u in
       set _ (set _ (set _ (set _ (set _ (set _ (set _ (set _ (set w k 33 s.verb b.verb) 34 s.noun b.noun) 35 s.adjective b.adjective) 36 s.adverb b.adverb)
-      43 s.preposition b.preposition) 44 s.second_noun b.second_noun) 45 s.second_adjective b.second_adjective) 46 s.pronoun_noun b.pronoun_noun) 47 s.pronoun_adjective b.pronoun_adjective
+      43 s.preposition b.preposition) 44 s.second_noun b.second_noun) 45 s.second_adjective b.second_adjective)
+      46 s.pronoun_noun b.pronoun_noun) 47 s.pronoun_adjective b.pronoun_adjective
 
   left_line : (pending left : List ℕ) → IsRestOf pending left → IsLine pending → IsLine left
   left_line pending left at k = record {
@@ -216,7 +217,9 @@ module _ (g : Story) (valid : ValidStory g) (seed base : ℕ) where
   phrase_so : (r : Run) → Is r → (s : Sentence) (left : List ℕ) → coming_phrase g r ≡ IsSentence s left →
       Is (taken_phrase s left r)
   phrase_so r k s left e =
-      let words = parsed-bytes g.game r.pending r.earlier (flag r.world 46) (flag r.world 47) s left v k.earlier (flag_small g.game v seed (bound r) r.world k.world 46) (flag_small g.game v seed (bound r) r.world k.world 47) e in
+      let words =
+      parsed-bytes g.game r.pending r.earlier (flag r.world 46) (flag r.world 47) s left v k.earlier
+      (flag_small g.game v seed (bound r) r.world k.world 46) (flag_small g.game v seed (bound r) r.world k.world 47) e in
       changed r k (spoken s r.world) (spoken_so (bound r) s r.world words k.world) left
       (left_line r.pending left (sentence-rest g.game r.pending r.earlier (flag r.world 46) (flag r.world 47) s left e) k.line) s.verb words.verb r.turning
 
@@ -253,7 +256,8 @@ module _ (g : Story) (valid : ValidStory g) (seed base : ℕ) where
       let o : ℕ = length g.game.objects - suc n in
       let small : o < 256 = omega (arith, few_objects g.game v) in
       either Sounds (is_taken g.game r.world l o) _ _
-      (again_sounds lv (λ _. turns g lv l body n) (λ m s j. turns_sound lv l body h n s j) (body (taken g.game l o r)) (h (taken g.game l o r) (taken_so l o r small k)))
+      (again_sounds lv (λ _. turns g lv l body n) (λ m s j. turns_sound lv l body h n s j) (body (taken g.game l o r))
+      (h (taken g.game l o r) (taken_so l o r small k)))
       (turns_sound lv l body h n r k)
 
   after_call_sounds : (f : Frame) (go : Bool → Run → Out) → GoesSound go → (x : Out) → Sounds x → Sounds (after_call f go x)
@@ -336,7 +340,8 @@ module _ (g : Story) (valid : ValidStory g) (seed base : ℕ) where
         Sounds (acts g sub lv f next go d r)
     acts_sound f next go hn hg d r k world =
         by_test Sounds (fits r d.text) _ (halts (RunsOut spent.Text) r)
-        (λ fit. after_action_sounds f next go hn hg d.act.effect (carried_out d (printed d.text r)) (carried_so d (printed d.text r) (printed_so r d.text k fit) world)) tt
+        (λ fit. after_action_sounds f next go hn hg d.act.effect (carried_out d (printed d.text r))
+        (carried_so d (printed d.text r) (printed_so r d.text k fit) world)) tt
 
     reads_one_sounds : (f : Frame) (next go : Bool → Run → Out) → GoesSound next → GoesSound go → (c : Condact) (r : Run) → is_condact g.game c ≡ true →
         length r.read < 200000 → Is r →
@@ -359,12 +364,14 @@ module _ (g : Story) (valid : ValidStory g) (seed base : ℕ) where
     condacts_sound t e next hn k [] all a r h = hn a r h
     condacts_sound t e next hn k (c ∷ cs) all a r h =
         by_test Sounds (nat_lt (length r.read) 200000) _ (halts (RunsOut spent.Condacts) r)
-        (λ few. reads_one_sounds (record { table = t; entry = e; at = k; acted = a }) next _ hn (condacts_sound t e next hn (suc k) cs (second_of_and (is_condact g.game c) _ all)) c r
+        (λ few. reads_one_sounds (record { table = t; entry = e; at = k; acted = a }) next _ hn
+        (condacts_sound t e next hn (suc k) cs (second_of_and (is_condact g.game c) _ all)) c r
         (first_of_and (is_condact g.game c) _ all) (ltb-true (length r.read) 200000 few) h) tt
 
     entry_condacts : (en : Entry) → IsTrue (is_entry g.game en) → IsTrue (list_all (is_condact g.game) en.condacts)
     entry_condacts en h =
-        second_of_and (nat_le (length en.condacts) 255) _ (second_of_and (is_any en.noun || has_word g.game.words 2 en.noun) _ (second_of_and (is_any en.verb || is_verb_value g.game.words en.verb) _ h))
+        second_of_and (nat_le (length en.condacts) 255) _
+        (second_of_and (is_any en.noun || has_word g.game.words 2 en.noun) _ (second_of_and (is_any en.verb || is_verb_value g.game.words en.verb) _ h))
 
     entries_sound : (t e : ℕ) (es : List Entry) → IsTrue (list_all (is_entry g.game) es) → GoesSound (entries g sub lv t e es)
     unfolding entries
@@ -372,7 +379,8 @@ module _ (g : Story) (valid : ValidStory g) (seed base : ℕ) where
     entries_sound t e (en ∷ es) all a r h =
         let later_ones = second_of_and (is_entry g.game en) _ all in
         either Sounds (is_for_now r en) _ _
-        (condacts_sound t e (entries g sub lv t (suc e) es) (entries_sound t (suc e) es later_ones) 0 en.condacts (entry_condacts en (first_of_and (is_entry g.game en) _ all)) a r h)
+        (condacts_sound t e (entries g sub lv t (suc e) es) (entries_sound t (suc e) es later_ones) 0 en.condacts
+        (entry_condacts en (first_of_and (is_entry g.game en) _ all)) a r h)
         (entries_sound t (suc e) es later_ones a r h)
 
     table_entries : (t : ℕ) → IsTrue (list_all (is_entry g.game) (table_at g.game t))
@@ -385,9 +393,11 @@ module _ (g : Story) (valid : ValidStory g) (seed base : ℕ) where
     plain_sounds : (t e k : ℕ) → GoesSound (plain g sub lv t e k)
     plain_sounds t e zero a r h = entries_sound t e (drop e (table_at g.game t)) (kept_drop (is_entry g.game) e (table_at g.game t) (table_entries t)) a r h
     plain_sounds t e (suc k) a r h =
-        condacts_sound t e _ (entries_sound t (suc e) (drop (suc e) (table_at g.game t)) (kept_drop (is_entry g.game) (suc e) (table_at g.game t) (table_entries t))) (suc k)
+        condacts_sound t e _ (entries_sound t (suc e) (drop (suc e) (table_at g.game t))
+        (kept_drop (is_entry g.game) (suc e) (table_at g.game t) (table_entries t))) (suc k)
         (drop (suc k) (condacts_of (entry_at g.game t e)))
-        (kept_drop (is_condact g.game) (suc k) (condacts_of (entry_at g.game t e)) (all_condacts (entry_at g.game t e) (λ en q. entry_kept g.game v t e en q))) a r h
+        (kept_drop (is_condact g.game) (suc k) (condacts_of (entry_at g.game t e))
+        (all_condacts (entry_at g.game t e) (λ en q. entry_kept g.game v t e en q))) a r h
 
     looped_sounds : (l : OpenLoop) (r : Run) → Is r → Sounds (looped g sub lv l r)
     looped_sounds l r h = turns_sound lv (record l { last = 0 }) _ (plain_sounds l.table l.entry (suc l.at) true) (length g.game.objects - suc l.last) r h
@@ -450,7 +460,8 @@ module _ (g : Story) (valid : ValidStory g) (seed base : ℕ) where
   counted_so : (n : ℕ) (w : World) → IsWorldAt g.game seed n w → IsWorldAt g.game seed n (counted w)
   counted_so n w k =
       let turns_now : ℕ = min 65535 (turns_taken w + 1) in
-      flagged g.game v seed n (with_flag w 31 (turns_now % 256)) (flagged g.game v seed n w k 31 (turns_now % 256) (low turns_now)) 32 (turns_now / 256) (high turns_now (min-le_left 65535 (turns_taken w + 1)))
+      flagged g.game v seed n (with_flag w 31 (turns_now % 256)) (flagged g.game v seed n w k 31 (turns_now % 256) (low turns_now)) 32 (turns_now / 256)
+      (high turns_now (min-le_left 65535 (turns_taken w + 1)))
     where
       low : (x : ℕ) → x % 256 < 256
       low x = omega arith
@@ -465,7 +476,8 @@ module _ (g : Story) (valid : ValidStory g) (seed base : ℕ) where
     connected_sounds r k (Some to) e =
         goes AtDescribe (with_world (with_flag r.world 38 to) r)
         (in_world r k (with_flag r.world 38 to)
-        (flagged g.game v seed (bound r) r.world k.world 38 to (omega (arith, exit-leads g.game v (flag r.world 38) (flag r.world 33) to e, (few_locations g.game v).1))))
+        (flagged g.game v seed (bound r) r.world k.world 38 to
+        (omega (arith, exit-leads g.game v (flag r.world 38) (flag r.world 33) to e, (few_locations g.game v).1))))
 
     after_left_sounds : (t : ℕ) (a : Bool) → TurnsSound (after_left g go t a)
     after_left_sounds zero true r k = goes AtFrame r k
@@ -505,7 +517,8 @@ module _ (g : Story) (valid : ValidStory g) (seed base : ℕ) where
     after_phrase_sounds r k (IsSentence s left) e =
         let taken_run : Is (taken_phrase s left r) = phrase_so r k s left e in
         goes AtResponse (with_world (counted (taken_phrase s left r).world) (taken_phrase s left r))
-        (in_world (taken_phrase s left r) taken_run (counted (taken_phrase s left r).world) (counted_so (bound r) (taken_phrase s left r).world taken_run.world))
+        (in_world (taken_phrase s left r) taken_run (counted (taken_phrase s left r).world)
+        (counted_so (bound r) (taken_phrase s left r).world taken_run.world))
     after_phrase_sounds r k (IsUnknown left) e =
         saying_sounds (unknown_text g.game r.world) (go AtFrame) (goes AtFrame) (line_dropped r) (dropped r k)
     after_phrase_sounds r k IsNoPhrase e =

@@ -11,7 +11,8 @@ returns-in-At-clause-none c =
 
 pub returns-in-At-clause-some : goal.returns-in-At-clause-some
 returns-in-At-clause-some c =
-    subst (λ (l : Listed). IfSome c.first_at.result (λ o. listed_above c.args.world.now l c.args.above ≡ o ∷ listed_above c.args.world.now l (Some o))) (sym c.in-At.is)
+    subst (λ (l : Listed). IfSome c.first_at.result (λ o. listed_above c.args.world.now l c.args.above ≡ o ∷ listed_above c.args.world.now l (Some o)))
+    (sym c.in-At.is)
     (at_goes_on c.args.world.now c.in-At.p c.args.above c.first_at.result c.first_at.ensures.value)
 
 pub returns-in-Held-clause-none : goal.returns-in-Held-clause-none
@@ -22,6 +23,7 @@ returns-in-Held-clause-none c =
 
 pub returns-in-Held-clause-some : goal.returns-in-Held-clause-some
 returns-in-Held-clause-some c =
-    subst (λ (l : Listed). IfSome c.lesser.result (λ o. listed_above c.args.world.now l c.args.above ≡ o ∷ listed_above c.args.world.now l (Some o))) (sym c.in-Held.is)
+    subst (λ (l : Listed). IfSome c.lesser.result (λ o. listed_above c.args.world.now l c.args.above ≡ o ∷ listed_above c.args.world.now l (Some o)))
+    (sym c.in-Held.is)
     (held_goes_on c.args.world.now c.args.above c.first_at-in-Held.result c.first_at-in-Held-2.result c.lesser.result
     c.first_at-in-Held.ensures.value c.first_at-in-Held-2.ensures.value c.lesser.ensures.value)

@@ -12,4 +12,8 @@ returns-then-not-print_both c = record {
 }
 
 pub returns : goal.returns
-returns c = record { puts = puts_whole c.push.result _ _ _ _ _ (ap (λ t. c.loop-before.piece ++ t) (sym (c.in_default.ensures.none c.args.name.now)) ∙ c.loop-before.invariant) c.push.ensures.puts }
+returns c = record {
+  puts =
+      puts_whole c.push.result _ _ _ _ _ (ap (λ t. c.loop-before.piece ++ t) (sym (c.in_default.ensures.none c.args.name.now)) ∙ c.loop-before.invariant)
+      c.push.ensures.puts;
+}

@@ -5,14 +5,14 @@ use Rattle.paw_process.proofs.machine.Machine.answer.Goals as goal
 
 pub returns-clause-quit : goal.returns-clause-quit
 returns-clause-quit c waits =
-    answers_quit c.args.yes c.args.self.now.frames c.set_waiting.new.self.frames c.top-f.result c.top-f.ensures.value
-    (ap (λ m. m.frames) c.set_waiting.ensures.value ∙
-    (ap (λ m. m.frames) c.set_top.ensures.value ∙ ap (λ f. f ∷ below c.args.self.now.frames)
-    (c.answered.ensures.quit (c.waiting.ensures.value ∙ waits))))
+    let taken = c.take_waiting-waiting.ensures.rest in
+    answers_quit c.args.yes c.args.self.now.frames c.set_top.new.self.frames c.top-f.result (rw taken at c.top-f.ensures.value)
+    ((rw taken at (ap (λ m. m.frames) c.set_top.ensures.value)) ∙ ap (λ f. f ∷ below c.args.self.now.frames)
+    (c.answered.ensures.quit (c.take_waiting-waiting.ensures.was ∙ waits)))
 
 pub returns-clause-key : goal.returns-clause-key
 returns-clause-key c waits =
-    answers_key c.args.self.now.frames c.set_waiting.new.self.frames c.top-f.result c.top-f.ensures.value
-    (ap (λ m. m.frames) c.set_waiting.ensures.value ∙
-    (ap (λ m. m.frames) c.set_top.ensures.value ∙ ap (λ f. f ∷ below c.args.self.now.frames)
-    (c.answered.ensures.key (c.waiting.ensures.value ∙ waits))))
+    let taken = c.take_waiting-waiting.ensures.rest in
+    answers_key c.args.self.now.frames c.set_top.new.self.frames c.top-f.result (rw taken at c.top-f.ensures.value)
+    ((rw taken at (ap (λ m. m.frames) c.set_top.ensures.value)) ∙ ap (λ f. f ∷ below c.args.self.now.frames)
+    (c.answered.ensures.key (c.take_waiting-waiting.ensures.was ∙ waits)))
