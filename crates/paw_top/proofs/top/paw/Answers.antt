@@ -15,7 +15,8 @@ returns-in-Some-Compile-clause-completes g c = λ tells none.
 pub returns-in-Some-Decompile-clause-completes : goal.returns-in-Some-Decompile-clause-completes
 returns-in-Some-Decompile-clause-completes g c = λ tells none.
     let asked = rw c.in-Some-Decompile.field-0-is at c.in-Some-Decompile.ensures.value in
-    rw asked (completes_decompile c.in-Some-Decompile.image.now _ _ _ _ c.decompile.result (c.decompile.ensures.decompiles tells) c.decompile.ensures.faulted none)
+    rw asked (completes_decompile c.in-Some-Decompile.image.now _ _ _ _ c.decompile.result
+    (c.decompile.ensures.decompiles tells) c.decompile.ensures.faulted none)
 
 pub returns-in-Some-Walk-clause-completes : goal.returns-in-Some-Walk-clause-completes
 returns-in-Some-Walk-clause-completes g c = λ tells none.
