@@ -4,66 +4,47 @@ use paw_base::codes::{
     ANYKEY, AT, ATGT, DESC, DOALL, DONE, END, GT, LET, MESSAGE, MINUS, NOTDONE, OK, PARSE, PROCESS,
     QUIT,
 };
+use paw_base::flags::{LOCATION_FLAG, TIMEOUT_FLAG};
 use paw_base::parts::{Condact, ObjectFacts};
+use paw_base::places::{CARRIED_PLACE, HERE_PLACE, WORN_PLACE};
+use paw_base::words::{
+    ADJECTIVE_CLASS, CONJUNCTION_CLASS, NO_WORD, NOUN_CLASS, PREPOSITION_CLASS, PRONOUN_CLASS,
+    VERB_CLASS,
+};
 use paw_game::game::Game;
 use paw_game::parts::{Condacts, Entry, Exits, GameParts, ObjectRow, Table, Text, Word};
 use std::alloc::{AllocError, Global};
 use std::test::Fail;
 
-const VERB: u8 = 0;
-
-const NOUN: u8 = 2;
-
-const ADJECTIVE: u8 = 3;
-
-const PREPOSITION: u8 = 4;
-
-const CONJUNCTION: u8 = 5;
-
-const PRONOUN: u8 = 6;
-
 /// The words, by their letters.
 const WORDS: [([u8; 5], u8, u8); 23] = [
-    (*b"ALL  ", 20, NOUN),
-    (*b"AND  ", 2, CONJUNCTION),
-    (*b"AWAY ", 41, VERB),
-    (*b"COAT ", 54, NOUN),
-    (*b"DEEP ", 34, VERB),
-    (*b"EXCEP", 2, PREPOSITION),
-    (*b"FALL ", 44, VERB),
-    (*b"GO   ", 30, VERB),
-    (*b"IT   ", 2, PRONOUN),
-    (*b"LAMP ", 50, NOUN),
-    (*b"LOOK ", 36, VERB),
-    (*b"NEST ", 33, VERB),
-    (*b"NO   ", 40, VERB),
-    (*b"QUIT ", 35, VERB),
-    (*b"RED  ", 2, ADJECTIVE),
-    (*b"SHAKE", 31, VERB),
-    (*b"SPIN ", 43, VERB),
-    (*b"SWORD", 51, NOUN),
-    (*b"TIME ", 38, VERB),
-    (*b"TURN ", 39, VERB),
-    (*b"TWIST", 32, VERB),
-    (*b"WAIT ", 37, VERB),
-    (*b"WHERE", 42, VERB),
+    (*b"ALL  ", 20, NOUN_CLASS),
+    (*b"AND  ", 2, CONJUNCTION_CLASS),
+    (*b"AWAY ", 41, VERB_CLASS),
+    (*b"COAT ", 54, NOUN_CLASS),
+    (*b"DEEP ", 34, VERB_CLASS),
+    (*b"EXCEP", 2, PREPOSITION_CLASS),
+    (*b"FALL ", 44, VERB_CLASS),
+    (*b"GO   ", 30, VERB_CLASS),
+    (*b"IT   ", 2, PRONOUN_CLASS),
+    (*b"LAMP ", 50, NOUN_CLASS),
+    (*b"LOOK ", 36, VERB_CLASS),
+    (*b"NEST ", 33, VERB_CLASS),
+    (*b"NO   ", 40, VERB_CLASS),
+    (*b"QUIT ", 35, VERB_CLASS),
+    (*b"RED  ", 2, ADJECTIVE_CLASS),
+    (*b"SHAKE", 31, VERB_CLASS),
+    (*b"SPIN ", 43, VERB_CLASS),
+    (*b"SWORD", 51, NOUN_CLASS),
+    (*b"TIME ", 38, VERB_CLASS),
+    (*b"TURN ", 39, VERB_CLASS),
+    (*b"TWIST", 32, VERB_CLASS),
+    (*b"WAIT ", 37, VERB_CLASS),
+    (*b"WHERE", 42, VERB_CLASS),
 ];
 
-/// Any word.
-const ANY: u8 = 255;
-
-/// The current location, as a parameter.
-const HERE: u8 = 255;
-
-const CARRIED: u8 = 254;
-
-const WORN: u8 = 253;
-
-/// The flag of the current location.
-const LOCATION: u8 = 38;
-
-/// The flag that allows a line to be late.
-const TIMEOUT: u8 = 48;
+/// Any word, in an entry; none, of an object.
+const ANY: u8 = NO_WORD;
 
 /// A flag that counts calls.
 const CALLS: u8 = 60;
@@ -103,7 +84,7 @@ const LOCATIONS: [&str; 4] = ["A hall.", "A garden.", "", "A well."];
 const OBJECTS: [(&str, u8, u8, u8); 3] = [
     ("lamp", 50, 2, 0),
     ("sword", 51, ANY, 0),
-    ("coat", 54, ANY, CARRIED),
+    ("coat", 54, ANY, CARRIED_PLACE),
 ];
 
 /// A condact's code and its parameters.
@@ -115,25 +96,25 @@ type Row = (u8, u8, &'static [Code]);
 /// SHAKE, TWIST and TURN go round the objects here; NEST calls as deep as it may, and DEEP deeper; QUIT asks twice;
 /// SPIN and FALL never come to an end.
 const RESPONSES: [Row; 19] = [
-    (31, 20, &[(DOALL, HERE, 0)]),
+    (31, 20, &[(DOALL, HERE_PLACE, 0)]),
     (31, ANY, &[(PROCESS, 3, 0), (DONE, 0, 0)]),
-    (32, 20, &[(DOALL, HERE, 0)]),
+    (32, 20, &[(DOALL, HERE_PLACE, 0)]),
     (32, ANY, &[(PROCESS, 4, 0), (MESSAGE, 1, 0)]),
     (33, ANY, &[(LET, CALLS, 9), (PROCESS, 5, 0), (OK, 0, 0)]),
     (34, ANY, &[(LET, CALLS, 10), (PROCESS, 5, 0), (OK, 0, 0)]),
     (35, ANY, &[(QUIT, 0, 0), (END, 0, 0)]),
     (36, ANY, &[(DESC, 0, 0)]),
     (37, ANY, &[(OK, 0, 0)]),
-    (38, ANY, &[(LET, TIMEOUT, 5), (DONE, 0, 0)]),
-    (39, 20, &[(DOALL, HERE, 0)]),
+    (38, ANY, &[(LET, TIMEOUT_FLAG, 5), (DONE, 0, 0)]),
+    (39, 20, &[(DOALL, HERE_PLACE, 0)]),
     (39, ANY, &[(PARSE, 0, 0), (MESSAGE, 2, 0), (DONE, 0, 0)]),
     (40, ANY, &[(PROCESS, 6, 0)]),
     (40, ANY, &[(MESSAGE, 1, 0), (DONE, 0, 0)]),
     (41, ANY, &[(PROCESS, 7, 0), (MESSAGE, 1, 0)]),
-    (42, 20, &[(DOALL, WORN, 0)]),
+    (42, 20, &[(DOALL, WORN_PLACE, 0)]),
     (42, ANY, &[(MESSAGE, 1, 0), (DONE, 0, 0)]),
-    (43, ANY, &[(LET, LOCATION, 2), (DESC, 0, 0)]),
-    (44, ANY, &[(LET, LOCATION, 3), (DESC, 0, 0)]),
+    (43, ANY, &[(LET, LOCATION_FLAG, 2), (DESC, 0, 0)]),
+    (44, ANY, &[(LET, LOCATION_FLAG, 3), (DESC, 0, 0)]),
 ];
 
 const CALLS_8: [Row; 1] = [(ANY, ANY, &[(PROCESS, 8, 0)])];
@@ -141,7 +122,7 @@ const CALLS_8: [Row; 1] = [(ANY, ANY, &[(PROCESS, 8, 0)])];
 const ASKS: [Row; 1] = [(ANY, ANY, &[(QUIT, 0, 0), (MESSAGE, 0, 0)])];
 
 const WAITS_IN_A_LOOP: [Row; 2] = [
-    (ANY, ANY, &[(DOALL, CARRIED, 0)]),
+    (ANY, ANY, &[(DOALL, CARRIED_PLACE, 0)]),
     (ANY, ANY, &[(ANYKEY, 0, 0), (MESSAGE, 0, 0)]),
 ];
 
@@ -159,7 +140,7 @@ const IS_NOT_DONE: [Row; 2] = [
 const GOES_AWAY: [Row; 1] = [(
     ANY,
     ANY,
-    &[(LET, LOCATION, 1), (DESC, 0, 0), (MESSAGE, 2, 0)],
+    &[(LET, LOCATION_FLAG, 1), (DESC, 0, 0), (MESSAGE, 2, 0)],
 )];
 
 /// Describes the locations of SPIN and FALL again.
