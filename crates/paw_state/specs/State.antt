@@ -8,7 +8,7 @@ use Rattle.paw_effects.specs.declared.act.Prompt.{Prompt}
 use Rattle.paw_effects.specs.Worlds.{IsOf, StandAtPlaces}
 pub use Rattle.paw_effects.specs.Standing.{AreBytes}
 use Rattle.paw_process.specs.declared.machine.TheConstants.{MOST_FRAMES}
-use Rattle.paw_process.specs.Kept.{waiting_code, frames_fault}
+use Rattle.paw_process.specs.Kept.{kept, waiting_code, frames_fault}
 use Rattle.paw_process.specs.declared.kept.Frames.{Frames}
 
 -- the world; the places in the tables that are open; what is pending; the prompt; how many lines were taken; and how
