@@ -250,48 +250,32 @@ kept_cut bytes f q s h = four_cut bytes q f.kept s.four s.kept h
 
 -- ---- all fields ----
 
+-- fields, one by one
+abbrev rebuilt : Fields → Fields
+rebuilt f = record {
+  flags = f.flags;
+  places = f.places;
+  saved = f.saved;
+  seed = f.seed;
+  draws = f.draws;
+  events = f.events;
+  prompt = f.prompt;
+  count = f.count;
+  rows = f.rows;
+  looping = f.looping;
+  turning = f.turning;
+  earlier = f.earlier;
+  pending = f.pending;
+  line = f.line;
+  piece = f.piece;
+  kept = f.kept;
+}
+
 pub same_fields : (a b : Fields) → a.flags ≡ b.flags → a.places ≡ b.places → a.saved ≡ b.saved
     → a.seed ≡ b.seed → a.draws ≡ b.draws → a.events ≡ b.events → a.prompt ≡ b.prompt → a.count ≡ b.count → a.rows ≡ b.rows → a.looping ≡ b.looping
     → a.turning ≡ b.turning → a.earlier ≡ b.earlier → a.pending ≡ b.pending → a.line ≡ b.line → a.piece ≡ b.piece → a.kept ≡ b.kept → a ≡ b
 same_fields a b flags places saved seed draws events prompt count rows looping turning earlier pending line piece kept =
-    let e : ◌≡◌ {A = Fields}
-    (record {
-      flags = a.flags;
-      places = a.places;
-      saved = a.saved;
-      seed = a.seed;
-      draws = a.draws;
-      events = a.events;
-      prompt = a.prompt;
-      count = a.count;
-      rows = a.rows;
-      looping = a.looping;
-      turning = a.turning;
-      earlier = a.earlier;
-      pending = a.pending;
-      line = a.line;
-      piece = a.piece;
-      kept = a.kept;
-    })
-    (record {
-      flags = b.flags;
-      places = b.places;
-      saved = b.saved;
-      seed = b.seed;
-      draws = b.draws;
-      events = b.events;
-      prompt = b.prompt;
-      count = b.count;
-      rows = b.rows;
-      looping = b.looping;
-      turning = b.turning;
-      earlier = b.earlier;
-      pending = b.pending;
-      line = b.line;
-      piece = b.piece;
-      kept = b.kept;
-    }) =
-    cc in e
+    let e : rebuilt a ≡ rebuilt b = cc in e
 
 pub fields_cut : (f : Fields) (q : List ℕ) → AreSized f → fields_at (field_bytes f ++ q) ≡ f
 fields_cut f q s =

@@ -1,4 +1,5 @@
 -- Words of contracts between crates, and of proofs. What a reader must believe doesn't reach them.
+pub mod Writer
 pub mod State
 pub mod Faults
 pub mod Parts

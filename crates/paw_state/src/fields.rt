@@ -1,21 +1,22 @@
 // The fields of a state, as they stand in its bytes.
 
 ghost use Rattle.std.specs.Prelude.{◌≡◌, ◌+◌, ◌≤◌, ◌++◌, length, drop, flat_map, slice_range};
+ghost use Rattle.paw_state.specs.inner.Parts.{frame_in};
+ghost use Rattle.paw_state.specs.inner.Writer.{Writes};
 ghost use Rattle.paw_state.specs.State.{AreBytes};
-ghost use Rattle.paw_state.specs.Fields.{zeros, two_at, eight_at, held_at, row_at, rows_at, held_bytes};
+ghost use Rattle.paw_state.specs.Fields.{zeros, two_at, eight_at, row_at, row_of, rows_at};
 ghost use Rattle.paw_state.specs.Fields.{row_bytes, loop_bytes, fields_at, world_bytes, number_bytes, table_bytes};
 ghost use Rattle.paw_state.specs.Fields.{pending_bytes, kept_position_bytes, field_bytes};
 
 use crate::held::Held;
 use crate::layout::{
-    COUNT, DRAWS, EARLIER, EVENTS, FLAGS, HELD_FLAGS, HELD_LENGTH, HELD_PLACES, KEPT, LINE,
-    LOOP_AT, LOOP_ENTRY, LOOP_LAST, LOOP_LEVEL, LOOP_PLACE, LOOP_TABLE, LOOPING, MOST_KEPT,
-    PENDING, PIECE, PLACES, PROMPT, ROW_ACTED, ROW_AT, ROW_ENTRY, ROW_LENGTH, ROWS, SAVED, SEED,
-    STATE_ROOM,
+    COUNT, DRAWS, EARLIER, EVENTS, FLAGS, HELD_LENGTH, KEPT, LINE, LOOP_AT, LOOP_ENTRY, LOOP_LAST,
+    LOOP_LEVEL, LOOP_PLACE, LOOP_TABLE, LOOPING, MOST_KEPT, PENDING, PIECE, PLACES, PROMPT,
+    ROW_ACTED, ROW_AT, ROW_ENTRY, ROW_LENGTH, ROWS, SAVED, SEED, STATE_ROOM,
 };
 use crate::writer::Writer;
 use paw_process::MOST_FRAMES;
-use paw_reading::places::OpenLoop;
+use paw_reading::places::{Frame, OpenLoop};
 
 /// A frame, as it is kept: whether an action was carried out is a byte.
 #[derive(Clone, Copy, Drop)]
@@ -34,6 +35,30 @@ impl Row {
         at: 0,
         acted: 0,
     };
+
+    /// The row of a frame.
+    pub(crate) fn of(frame: &Frame) -> Row
+        ensures value { result ≡ row_of frame.now }
+    {
+        Row {
+            table: frame.table,
+            entry: frame.entry,
+            at: frame.at,
+            acted: u8::from(frame.acted),
+        }
+    }
+
+    /// The frame of this row.
+    pub(crate) fn frame(&self) -> Frame
+        ensures value { result ≡ frame_in self.now }
+    {
+        Frame {
+            table: self.table,
+            entry: self.entry,
+            at: self.at,
+            acted: self.acted == 1,
+        }
+    }
 }
 
 /// The fields of a state in the order of their bytes. What they say is not looked at here.
@@ -58,7 +83,7 @@ pub(crate) struct Fields {
 }
 
 /// The N bytes from a place on.
-fn array_at<const N: usize>(bytes: &[u8; STATE_ROOM], at: usize) -> [u8; N]
+pub(crate) fn array_at<const N: usize>(bytes: &[u8; STATE_ROOM], at: usize) -> [u8; N]
     requires inside { at + N ≤ 4096 }
     ensures value { result ≡ slice_range bytes.now at (at + N) }
 {
@@ -83,27 +108,15 @@ fn eight_at(bytes: &[u8; STATE_ROOM], at: usize) -> u64
     u64::from_le_bytes(array_at(bytes, at))
 }
 
-/// The position at a place.
-fn held_at(bytes: &[u8; STATE_ROOM], at: usize) -> Held
-    requires inside { at + 512 ≤ 4096 }
-    ensures value { result ≡ held_at (drop at bytes.now) }
-{
-    Held {
-        there: bytes[at],
-        flags: array_at(bytes, at + HELD_FLAGS),
-        places: array_at(bytes, at + HELD_PLACES),
-    }
-}
-
 /// The kept positions.
 fn kept_at(bytes: &[u8; STATE_ROOM]) -> [Held; MOST_KEPT]
     ensures value { result ≡ (fields_at bytes.now).kept }
 {
     [
-        held_at(bytes, KEPT),
-        held_at(bytes, KEPT + HELD_LENGTH),
-        held_at(bytes, KEPT + 2 * HELD_LENGTH),
-        held_at(bytes, KEPT + 3 * HELD_LENGTH),
+        Held::at(bytes, KEPT),
+        Held::at(bytes, KEPT + HELD_LENGTH),
+        Held::at(bytes, KEPT + 2 * HELD_LENGTH),
+        Held::at(bytes, KEPT + 3 * HELD_LENGTH),
     ]
 }
 
@@ -155,7 +168,7 @@ impl Fields {
         Fields {
             flags: array_at(bytes, FLAGS),
             places: array_at(bytes, PLACES),
-            saved: held_at(bytes, SAVED),
+            saved: Held::at(bytes, SAVED),
             seed: eight_at(bytes, SEED),
             draws: eight_at(bytes, DRAWS),
             events: eight_at(bytes, EVENTS),
@@ -191,8 +204,7 @@ impl Fields {
     #[tactic(auto, unfolding(crate::specs::Fields::world_bytes))]
     fn put_world(&self, writer: &mut Writer)
         requires room { length writer.old + 1023 ≤ 4096 }
-        ensures puts { writer.new ≡ writer.old ++ world_bytes self.now }
-        ensures length { length writer.new ≡ length writer.old + 1023 }
+        ensures { Writes (world_bytes self.now) 1023 writer.old writer.new }
     {
         writer.put(&self.flags);
         writer.put(&self.places);
@@ -203,8 +215,7 @@ impl Fields {
     #[tactic(auto, unfolding(crate::specs::Fields::number_bytes))]
     fn put_numbers(&self, writer: &mut Writer)
         requires room { length writer.old + 24 ≤ 4096 }
-        ensures puts { writer.new ≡ writer.old ++ number_bytes self.now }
-        ensures length { length writer.new ≡ length writer.old + 24 }
+        ensures { Writes (number_bytes self.now) 24 writer.old writer.new }
     {
         writer.put(&self.seed.to_le_bytes());
         writer.put(&self.draws.to_le_bytes());
@@ -215,8 +226,7 @@ impl Fields {
     #[tactic(auto, unfolding(crate::specs::Fields::table_bytes))]
     fn put_tables(&self, writer: &mut Writer)
         requires room { length writer.old + 65 ≤ 4096 }
-        ensures puts { writer.new ≡ writer.old ++ table_bytes self.now }
-        ensures length { length writer.new ≡ length writer.old + 65 }
+        ensures { Writes (table_bytes self.now) 65 writer.old writer.new }
     {
         writer.put(&[self.prompt, self.count]);
         self.put_rows(writer);
@@ -227,8 +237,7 @@ impl Fields {
     /// The rows of the open tables.
     fn put_rows(&self, writer: &mut Writer)
         requires room { length writer.old + 55 ≤ 4096 }
-        ensures puts { writer.new ≡ writer.old ++ flat_map row_bytes self.now.rows }
-        ensures length { length writer.new ≡ length writer.old + 55 }
+        ensures { Writes (flat_map row_bytes self.now.rows) 55 writer.old writer.new }
     {
         for row in &self.rows {
             let [low, high] = row.entry.to_le_bytes();
@@ -239,8 +248,7 @@ impl Fields {
     /// The open loop.
     fn put_loop(&self, writer: &mut Writer)
         requires room { length writer.old + 7 ≤ 4096 }
-        ensures puts { writer.new ≡ writer.old ++ loop_bytes self.now.turning }
-        ensures length { length writer.new ≡ length writer.old + 7 }
+        ensures { Writes (loop_bytes self.now.turning) 7 writer.old writer.new }
     {
         let turning = &self.turning;
         writer.put(&[turning.level, turning.table]);
@@ -252,8 +260,7 @@ impl Fields {
     #[tactic(auto, unfolding(crate::specs::Fields::pending_bytes))]
     fn put_pending(&self, writer: &mut Writer)
         requires room { length writer.old + 259 ≤ 4096 }
-        ensures puts { writer.new ≡ writer.old ++ pending_bytes self.now }
-        ensures length { length writer.new ≡ length writer.old + 259 }
+        ensures { Writes (pending_bytes self.now) 259 writer.old writer.new }
     {
         writer.put(&[self.earlier, self.pending]);
         writer.put(&self.line);
@@ -264,8 +271,7 @@ impl Fields {
     #[tactic(auto, unfolding(crate::specs::Fields::kept_position_bytes))]
     fn put_kept(&self, writer: &mut Writer)
         requires room { length writer.old + 2048 ≤ 4096 }
-        ensures puts { writer.new ≡ writer.old ++ kept_position_bytes self.now }
-        ensures length { length writer.new ≡ length writer.old + 2048 }
+        ensures { Writes (kept_position_bytes self.now) 2048 writer.old writer.new }
     {
         for held in &self.kept {
             held.put(writer);

@@ -1,8 +1,11 @@
 // A position that may be there, as it stands in the bytes of a state.
 
-ghost use Rattle.std.specs.Prelude.{◌≡◌, ◌+◌, ◌≤◌, ◌++◌, length};
-ghost use Rattle.paw_state.specs.Fields.{held_bytes};
+ghost use Rattle.std.specs.Prelude.{◌≡◌, ◌+◌, ◌≤◌, length, drop};
+ghost use Rattle.paw_state.specs.Fields.{held_at, held_bytes};
+ghost use Rattle.paw_state.specs.inner.Writer.{Writes};
 
+use crate::fields::array_at;
+use crate::layout::{HELD_FLAGS, HELD_PLACES, STATE_ROOM};
 use crate::writer::Writer;
 
 /// A position that is put aside, or isn't: whether it is there, its flags and its places.
@@ -21,12 +24,23 @@ impl Held {
         places: [0; 255],
     };
 
+    /// The position whose bytes begin at a place.
+    pub(crate) fn at(bytes: &[u8; STATE_ROOM], start: usize) -> Held
+        requires inside { start + 512 ≤ 4096 }
+        ensures value { result ≡ held_at (drop start bytes.now) }
+    {
+        Held {
+            there: bytes[start],
+            flags: array_at(bytes, start + HELD_FLAGS),
+            places: array_at(bytes, start + HELD_PLACES),
+        }
+    }
+
     /// Writes the bytes of a position.
     #[tactic(auto, unfolding(crate::specs::Fields::held_bytes))]
     pub(crate) fn put(&self, writer: &mut Writer)
         requires room { length writer.old + 512 ≤ 4096 }
-        ensures puts { writer.new ≡ writer.old ++ held_bytes self.now }
-        ensures length { length writer.new ≡ length writer.old + 512 }
+        ensures { Writes (held_bytes self.now) 512 writer.old writer.new }
     {
         writer.put(&[self.there]);
         writer.put(&self.flags);

@@ -91,18 +91,6 @@ fn world_in<T: Tables>(tables: &T, fields: &Fields) -> World
     world
 }
 
-/// A row as a frame.
-fn frame_in(row: &Row) -> Frame
-    ensures value { result ≡ frame_in row.now }
-{
-    Frame {
-        table: row.table,
-        entry: row.entry,
-        at: row.at,
-        acted: row.acted == 1,
-    }
-}
-
 /// The places in the tables that these fields say.
 fn frames_in(fields: &Fields) -> Frames
     ensures value { result ≡ frames_in fields.now }
@@ -122,9 +110,9 @@ fn frames_in(fields: &Fields) -> Frames
 fn frame_rows(rows: &[Row; MOST_FRAMES]) -> [Frame; MOST_FRAMES]
     ensures value { result ≡ map frame_in rows.now }
 {
-    let mut frames = [frame_in(&rows[0]); MOST_FRAMES];
+    let mut frames = [rows[0].frame(); MOST_FRAMES];
     for i in 0..MOST_FRAMES {
-        frames[i] = frame_in(&rows[i]);
+        frames[i] = rows[i].frame();
     }
     frames
 }

@@ -76,25 +76,13 @@ fn prompt_code(prompt: Prompt) -> u8
     }
 }
 
-/// A frame as a row.
-fn row_of(frame: &Frame) -> Row
-    ensures value { result ≡ row_of frame.now }
-{
-    Row {
-        table: frame.table,
-        entry: frame.entry,
-        at: frame.at,
-        acted: u8::from(frame.acted),
-    }
-}
-
 /// Frames as rows.
 fn rows_of(frames: &[Frame; MOST_FRAMES]) -> [Row; MOST_FRAMES]
     ensures value { result ≡ map row_of frames.now }
 {
     let mut rows = [Row::EMPTY; MOST_FRAMES];
     for i in 0..MOST_FRAMES {
-        rows[i] = row_of(&frames[i]);
+        rows[i] = Row::of(&frames[i]);
     }
     rows
 }

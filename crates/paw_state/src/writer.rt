@@ -2,6 +2,7 @@
 
 ghost use Rattle.std.specs.Prelude.{◌≡◌, ◌+◌, ◌-◌, ◌≤◌, [], ◌++◌, length};
 ghost use Rattle.paw_state.specs.Fields.{zeros};
+ghost use Rattle.paw_state.specs.inner.Writer.{Writes};
 
 use crate::layout::STATE_ROOM;
 use std::marker::Model;
@@ -38,8 +39,7 @@ impl Writer {
     /// Writes a field behind the others.
     pub(crate) fn put(&mut self, field: &[u8])
         requires room { length self.old + length field.now ≤ 4096 }
-        ensures puts { self.new ≡ self.old ++ field.now }
-        ensures length { length self.new ≡ length self.old + length field.now }
+        ensures { Writes field.now (length field.now) self.old self.new }
     {
         let end = self.count + field.len();
         self.bytes[self.count..end].copy_from_slice(field);

@@ -6,26 +6,11 @@ use Rattle.paw_turn.specs.declared.stage.Stage.{Stage}
 use Rattle.paw_turn.specs.declared.stage.Next.{Next}
 use Rattle.paw_turn.specs.declared.stage.Next.TheVariants as next
 use Rattle.paw_turn.specs.declared.turn.Turn.{Turn}
-use Rattle.paw_turn.specs.inner.Stages.{Past, at_stage, run_now, having_read, GoesOnAs, ReadsTurn, PlaysAs, Plays}
+use Rattle.paw_turn.specs.inner.Stages.{Past, at_stage, run_now, having_read, GoesOnAs, ReadsTurn, PlaysAs, Plays, from_stage}
 
 -- nothing is played yet
 pub plays_none : (g : Story) (first : Stage) (old : Turn) → Plays g first old (next.Go first) old
 plays_none g first old past has = (past.read, (has, λ n lines. (n, refl)))
-
--- one stage more
-pub plays_on : (g : Story) (first s : Stage) (old mid new : Turn) (nx : Next)
-    → Plays g first old (next.Go s) mid → ReadsTurn g (λ n r. turn g (suc n) (at_stage s) r) mid nx new → Plays g first old nx new
-plays_on g first s old mid new nx plays reads past has =
-    let a = plays past has in
-    let b = reads (having_read a.0 past) a.1.0 in (
-      b.0,
-      (
-        b.1.0,
-        λ n lines.
-            let k = a.1.1 (suc n) lines in
-            (k.0, subst (GoesOnAs g n nx new.machine.frames (run_now new (having_read b.0 past) lines)) (sym k.1) (b.1.1 n lines)),
-      ),
-    )
 
 -- a whole that comes to a stage, and what is played from there
 pub plays_then : (g : Story) (whole : ℕ → Past → List (List ℕ) → Ending) (s : Stage) (old mid new : Turn) (nx : Next)
@@ -42,3 +27,15 @@ plays_then g whole s old mid new nx first plays past has =
             (k.0, subst (GoesOnAs g n nx new.machine.frames (run_now new (having_read b.0 past) lines)) (sym k.1) j.1),
       ),
     )
+
+-- a stage that is gone through is played
+stage_plays : (g : Story) (s : Stage) (old new : Turn) (nx : Next) → ReadsTurn g (λ n r. turn g (suc n) (at_stage s) r) old nx new → Plays g s old nx new
+stage_plays g s old new nx reads past has =
+    let k = reads past has in
+    (k.0, (k.1.0, λ n lines. (suc n, k.1.1 n lines)))
+
+-- one stage more
+pub plays_on : (g : Story) (first s : Stage) (old mid new : Turn) (nx : Next)
+    → Plays g first old (next.Go s) mid → ReadsTurn g (λ n r. turn g (suc n) (at_stage s) r) mid nx new → Plays g first old nx new
+plays_on g first s old mid new nx plays reads =
+    plays_then g (λ m past lines. from_stage g first old m past lines) s old mid new nx plays (stage_plays g s mid new nx reads)

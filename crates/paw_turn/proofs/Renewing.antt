@@ -5,6 +5,7 @@ use Rattle.std.proofs.lemmas.List.{length-reverse, length-map}
 use Rattle.std.proofs.lemmas.Bool.Decides.{nat_tests}
 use Rattle.paw_base.specs.declared.fault.SpentKind.TheVariants as spent
 use Rattle.paw_base.specs.declared.parts.ObjectFacts.{ObjectFacts}
+use Rattle.paw_base.specs.inner.Piece.{Puts}
 use Rattle.paw_game.specs.Game.{GameLists}
 use Rattle.paw_effects.specs.Story.{Story}
 use Rattle.paw_world.specs.World.{World, flags_with, restarted}
@@ -24,7 +25,7 @@ use Rattle.paw_turn.specs.declared.stage.Next.TheVariants as next
 use Rattle.paw_turn.specs.declared.turn.Turn.{Turn}
 use Rattle.paw_process.specs.inner.OpenTables.{ReadsNone}
 use Rattle.paw_turn.proofs.Falling.{has_still}
-use Rattle.paw_turn.specs.inner.Stages.{Past, run_from, run_now, PlaysAs, from_prompt, ChangesFlags}
+use Rattle.paw_turn.specs.inner.Stages.{Past, run_from, run_now, PlaysAs, from_prompt, ChangesFlags, or_spent}
 
 -- at no the game is over or the piece is spent, and else it starts anew
 abbrev final : Bool → Bool → Run → Run → Run → Out
@@ -102,7 +103,7 @@ again_restarts g old new line some hears declines world bytes earlier turning no
 )
 
 -- at no the game is over, and the run is what is held
-pub again_ends : (g : Story) (old new : Turn) (line : List ℕ) (w : World) → 0 < length old.machine.frames
+again_ends : (g : Story) (old new : Turn) (line : List ℕ) (w : World) → 0 < length old.machine.frames
     → is_ignored old.situation.world line ≡ false → is_no (reply line) ≡ true
     → w ≡ with_timeout (is_timeout line) old.situation.world → length old.situation.piece + length (say_text g.game w 14) ≤ 65535
     → new.situation.piece ≡ old.situation.piece ++ say_text g.game w 14
@@ -135,7 +136,7 @@ again_ends g old new line w some hears declines world fit piece stays bytes earl
     held_is past lines u text v b e o q world bytes earlier turning piece = rw (world, bytes, earlier, turning, piece) refl
 
 -- where the farewell doesn't fit the piece is spent
-pub again_spends : (g : Story) (old new : Turn) (line : List ℕ) (w : World) → 0 < length old.machine.frames
+again_spends : (g : Story) (old new : Turn) (line : List ℕ) (w : World) → 0 < length old.machine.frames
     → is_ignored old.situation.world line ≡ false → is_no (reply line) ≡ true
     → w ≡ with_timeout (is_timeout line) old.situation.world → 65535 < length old.situation.piece + length (say_text g.game w 14)
     → ReadsNone old.machine new.machine
@@ -157,6 +158,18 @@ again_spends g old new line w some hears declines world full none past has =
         ),
       ),
     )
+
+-- at no the game is over where the farewell fits, and else the piece is spent
+pub again_told : (g : Story) (old new : Turn) (line : List ℕ) (w : World) (told : Bool) → 0 < length old.machine.frames
+    → is_ignored old.situation.world line ≡ false → is_no (reply line) ≡ true
+    → w ≡ with_timeout (is_timeout line) old.situation.world → Puts old.situation.piece new.situation.piece told (say_text g.game w 14)
+    → new.situation.world ≡ w → new.situation.pending.bytes ≡ [] → new.situation.pending.earlier ≡ old.situation.pending.earlier → new.machine.turning ≡ None
+    → ReadsNone old.machine new.machine
+    → PlaysAs g (from_prompt g prompt.Again old line) old (or_spent told (next.Stop step.Ended)) new
+again_told g old new line w true some hears declines world puts stays bytes earlier turning none =
+    again_ends g old new line w some hears declines world puts.1 puts.0 stays bytes earlier turning none
+again_told g old new line w false some hears declines world puts stays bytes earlier turning none =
+    again_spends g old new line w some hears declines world puts none
 
 -- ---- worlds ----
 

@@ -8,6 +8,7 @@ use Rattle.paw_effects.specs.declared.act.Prompt.{Prompt}
 use Rattle.paw_effects.specs.inner.Opening.{opening_world}
 use Rattle.paw_reading.specs.declared.places.OpenLoop.{OpenLoop}
 use Rattle.paw_reading.specs.Run.{Run, Step as Read, closed}
+use Rattle.paw_reading.specs.Reading.{Halt, RunsOut, CallsTooDeep}
 use Rattle.paw_reading.specs.Turn.{Ending, Unended, AtDescribe, AtResponse, turns_from, stages_left, opening, reading, on}
 use Rattle.paw_reading.proofs.Ends.{ends_once, going_on_ends, goes_on_once}
 use Rattle.paw_process.specs.OpenTables.{OpenTables}
@@ -18,13 +19,26 @@ use Rattle.paw_turn.specs.declared.stage.Stage.TheVariants as stage
 use Rattle.paw_turn.specs.declared.stage.Next.TheVariants as next
 use Rattle.paw_turn.specs.declared.turn.Turn.{Turn}
 use Rattle.paw_turn.proofs.Falling.{none_yet}
-use Rattle.paw_turn.specs.inner.Player.{PlaysTo, IsNew, run_at}
-use Rattle.paw_turn.specs.inner.Stages.{Past, run_from, run_now, having_read, StopsAs, PlaysAs}
+use Rattle.paw_turn.specs.inner.Player.{Seat, PlaysTo, PlayHalts, IsNew, run_at}
+use Rattle.paw_turn.specs.inner.Stages.{Past, run_from, run_now, having_read, TurnHalts, StopsAs, PlaysAs}
 use Rattle.paw_turn.specs.inner.Stages.{Plays, from_stage, from_prompt, seat_of, turn_settled, opened_piece}
 
 -- an ending that comes once is the whole's
 abbrev Once : (ℕ → List (List ℕ) → Ending) → (List (List ℕ) → Ending) → Type 0
 Once whole total = (m : ℕ) (lines : List (List ℕ)) → whole m lines ≢ Unended → whole m lines ≡ total lines
+
+-- where some stages of the whole end it for good, with no piece to show, it ends so
+halts : {F : Type 0} (whole : ℕ → List (List ℕ) → Ending) (total : List (List ℕ) → Ending) → Once whole total
+    → (halt : Halt) (p : Seat F) (new : Turn) (past : Past) → p.piece ≡ []
+    → ((n : ℕ) (lines : List (List ℕ)) → (m : ℕ) × TurnHalts halt (run_now new past lines) (whole m lines))
+    → PlayHalts total halt p past.pieces past.traces
+halts whole total once halt p new past none stops = (
+  none,
+  λ lines.
+      let k = stops 0 lines in
+      let e = k.1.1 in
+      (k.1.0, sym (once k.0 lines (λ u. cc (e, u))) ∙ e, k.1.2.pieces, k.1.2.traces, k.1.2.events),
+)
 
 -- where some stages of the whole stop, it stops
 settles : {F : Type 0} (g : Story) (routines : Routines F) (whole : ℕ → List (List ℕ) → Ending) (total : List (List ℕ) → Ending) → Once whole total
@@ -51,20 +65,10 @@ settles g routines whole total once step.Ended last new past has stops = (
         sym (once k.0 lines (λ u. cc (e, u))) ∙ e,
   ),
 )
-settles g routines whole total once (step.Spent kind) last new past has stops = (
-  refl,
-  λ lines.
-      let k = stops 0 lines in
-      let e = k.1.1 in
-      (k.1.0, sym (once k.0 lines (λ u. cc (e, u))) ∙ e, k.1.2.pieces, k.1.2.traces, k.1.2.events),
-)
-settles g routines whole total once (step.TooDeep u) last new past has stops = (
-  refl,
-  λ lines.
-      let k = stops 0 lines in
-      let e = k.1.1 in
-      (k.1.0, sym (once k.0 lines (λ v. cc (e, v))) ∙ e, k.1.2.pieces, k.1.2.traces, k.1.2.events),
-)
+settles g routines whole total once (step.Spent kind) last new past has stops =
+    halts whole total once (RunsOut kind) (seat_of g.game routines (turn_settled (step.Spent kind) new) last) new past refl stops
+settles g routines whole total once (step.TooDeep u) last new past has stops =
+    halts whole total once (CallsTooDeep u) (seat_of g.game routines (turn_settled (step.TooDeep u) new) last) new past refl stops
 
 -- the past of a player with these pieces, at the start of a piece
 abbrev before : List (List ℕ) → List (List Read) → Past

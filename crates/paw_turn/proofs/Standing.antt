@@ -26,6 +26,8 @@ use Rattle.paw_process.specs.OpenTables.{OpenTables}
 use Rattle.paw_process.specs.inner.OpenTables.{IsClosed}
 use Rattle.paw_turn.specs.declared.Step.{Step}
 use Rattle.paw_turn.specs.declared.Step.TheVariants as step
+use Rattle.paw_turn.specs.declared.turn.Turn.{Turn}
+use Rattle.paw_turn.specs.inner.Stages.{seat_of, turn_settled}
 use Rattle.paw_turn.specs.inner.Player.{Seat, PlaysTo, StandsClosed, StandsAt, WaitsIn, StandRightly, IsSeated, IsStanding, prompt_at, run_at, run_with}
 
 -- rows that stand for routines make a story of a valid game
@@ -114,3 +116,34 @@ taken_on g old new line q s v game seated waits is stands plays =
     stands_at g (λ lines. on g q (reverse old.machine.frames) (run_at old [] [] (line ∷ lines))) s new [] [] stands plays
     (going_on_stops_rightly g q (reverse old.machine.frames) (run_at old [] [] (line ∷ [])) v (one_line line is)
     (stands_alike g.game q (reverse old.machine.frames) old.world old.machine old.pending [] [] [] [] [] (line ∷ []) at))
+
+-- ---- a player that is seated still ----
+
+-- it is where it stands rightly in a game that is its own
+seated_so : {F : Type 0} (g own : GameLists) (routines : Routines F) (mid h : Turn) (s : Step) → own ≡ g → Valid g → h ≡ turn_settled s mid
+    → StandsClosed s mid.machine
+    → (StandsClosed s h.machine → IsStanding s → StandRightly g (prompt_at s) h.situation.world h.machine h.situation.pending)
+    → IsSeated (seat_of own routines h s)
+seated_so g own routines mid h s game valid settled stopped rightly =
+    let stands = subst (λ (t : Turn). StandsClosed s t.machine) (sym settled) stopped in
+    subst (λ k. IsSeated (seat_of k routines h s)) (sym game) (record { valid = valid; machine = stands; rightly = rightly stands })
+
+pub start_seated : {F : Type 0} (calls : Shared F (ℕ × (ℕ × Unit {0})) ℕ) (routines : Routines F) (old : Seat F) (own : GameLists) (mid h : Turn) (s : Step)
+    (X : List (List ℕ)) → AreRowsOf calls old.routines X → IsSeated old → own ≡ old.game → h ≡ turn_settled s mid → StandsClosed s mid.machine
+    → PlaysTo (story_of old.game X) (reading (story_of old.game X) old.world.seed) s (seat_of own routines h s) [] []
+    → IsSeated (seat_of own routines h s)
+start_seated calls routines old own mid h s X rows seated game settled stopped plays =
+    seated_so old.game own routines mid h s game seated.valid settled stopped
+    (λ stands. started (story_of old.game X) old.world.seed s (seat_of own routines h s)
+    (valid_story calls old.routines old.game X seated.valid rows) stands plays)
+
+pub take_seated : {F : Type 0} (calls : Shared F (ℕ × (ℕ × Unit {0})) ℕ) (routines : Routines F) (old : Seat F) (own : GameLists) (mid h : Turn) (s : Step)
+    (X : List (List ℕ)) (q : Prompt) (line : List ℕ) → AreRowsOf calls old.routines X → IsSeated old → own ≡ old.game → h ≡ turn_settled s mid
+    → StandsClosed s mid.machine → old.last ≡ step.Waits q → IsLine line
+    → PlaysTo (story_of old.game X) (λ lines. on (story_of old.game X) q (reverse old.machine.frames) (run_at old [] [] (line ∷ lines))) s
+    (seat_of own routines h s) [] []
+    → IsSeated (seat_of own routines h s)
+take_seated calls routines old own mid h s X q line rows seated game settled stopped waits is plays =
+    seated_so old.game own routines mid h s game seated.valid settled stopped
+    (λ stands. taken_on (story_of old.game X) old (seat_of own routines h s) line q s (valid_story calls old.routines old.game X seated.valid rows) refl
+    seated waits is stands plays)

@@ -1,7 +1,7 @@
 // What a turn does to the flags by itself.
 
 ghost use Rattle.std.specs.Prelude.{◌≡◌};
-ghost use Rattle.paw_world.specs.World.{fallen, is_dark, is_unlit};
+ghost use Rattle.paw_world.specs.World.{fallen, fallen_if, is_dark, is_unlit};
 ghost use Rattle.paw_reading.specs.Run.{with_timeout};
 ghost use Rattle.paw_reading.specs.Turn.{described, framed, counted};
 ghost use Rattle.paw_turn.specs.inner.Stages.{ChangesFlags};
@@ -37,18 +37,28 @@ pub(crate) fn is_unlit(world: &World) -> bool
     is_dark(world) && !is_lit(world)
 }
 
+/// A flag falls in the dark, and another without light.
+fn fall_in_dark(world: &mut World, dark: u8, unlit: u8)
+    ensures value { world.new ≡
+        fallen_if (is_unlit world.old) unlit (fallen_if (is_dark world.old) dark world.old) }
+    ensures only { ChangesFlags world.old world.new }
+{
+    let without_light = is_unlit(world);
+    if is_dark(world) {
+        fall(world, dark);
+    }
+    if without_light {
+        fall(world, unlit);
+    }
+}
+
 /// The flags that fall when a location is described.
 pub(crate) fn describe(world: &mut World)
     ensures value { world.new ≡ described world.old }
     ensures only { ChangesFlags world.old world.new }
 {
     fall(world, VIEW_FLAG);
-    if is_dark(world) {
-        fall(world, DARK_VIEW_FLAG);
-    }
-    if is_unlit(world) {
-        fall(world, UNLIT_VIEW_FLAG);
-    }
+    fall_in_dark(world, DARK_VIEW_FLAG, UNLIT_VIEW_FLAG);
 }
 
 /// The flags that fall in each frame.
@@ -60,12 +70,7 @@ pub(crate) fn frame(world: &mut World)
     fall(world, FIRST_FRAME_FLAG + 1);
     fall(world, FIRST_FRAME_FLAG + 2);
     fall(world, FIRST_FRAME_FLAG + 3);
-    if is_dark(world) {
-        fall(world, DARK_FRAME_FLAG);
-    }
-    if is_unlit(world) {
-        fall(world, UNLIT_FRAME_FLAG);
-    }
+    fall_in_dark(world, DARK_FRAME_FLAG, UNLIT_FRAME_FLAG);
 }
 
 /// One more turn, up to 65,535.

@@ -3,7 +3,7 @@
 ghost use Rattle.std.specs.Prelude.{◌≡◌, ◌+◌, ◌<◌, ◌≤◌, ℕ, List, false, length, reverse};
 ghost use Rattle.paw_base.specs.inner.Piece.{Puts};
 ghost use Rattle.paw_game.specs.Valid.{Valid};
-ghost use Rattle.paw_routines.specs.Routines.{AreRowsOf, HaveRows};
+ghost use Rattle.paw_routines.specs.Routines.{HaveRows};
 ghost use Rattle.paw_effects.specs.Story.{story_of};
 ghost use Rattle.paw_effects.specs.declared.act.Prompt.TheVariants as prompt;
 ghost use Rattle.paw_reading.specs.Run.{is_timeout, is_ignored, reply, begins_with};
@@ -12,19 +12,17 @@ ghost use Rattle.paw_process.specs.inner.OpenTables.{IsClosed};
 ghost use Rattle.paw_turn.specs.declared.stage.Next.TheVariants as next;
 ghost use Rattle.paw_turn.specs.inner.Player.{WaitsIn, StandsAt};
 ghost use Rattle.paw_turn.specs.inner.Stages.{PlaysAs, RunsAs, from_prompt, from_path, IsPlayable};
-ghost use Rattle.paw_turn.specs.inner.Stages.{MayHear, MayAnswer, Stays, KeepsGame, StopsInTable};
+ghost use Rattle.paw_turn.specs.inner.Stages.{InStories, MayHear, MayAnswer, Stays, KeepsGame, StopsInTable};
 
 use crate::stage::{Next, Stage};
-use crate::turn::Turn;
+use crate::turn::{Rulebook, Turn, or_spent};
 use crate::{Step, flags};
-use paw_base::fault::SpentKind;
 use paw_base::flags::TIMEOUT_FLAG;
 use paw_base::messages::{GOODBYE_MESSAGE, TIMEOUT_MESSAGE};
 use paw_effects::act::Prompt;
 use paw_effects::text::say;
 use paw_game::tables::Tables;
 use paw_process::Turned;
-use paw_routines::routines::Routines;
 use paw_world::world::World;
 
 /// Whether a line is ~, which stands for a timeout.
@@ -62,55 +60,6 @@ fn begins_with(capital: u8, line: &[u8]) -> bool
 }
 
 impl Turn {
-    /// Takes a line at a prompt, and plays on to the next one or to the end.
-    pub(crate) fn take<T: Tables, F: Fn(u8, u8) -> u8>(
-        &mut self,
-        tables: &T,
-        routines: &Routines<F>,
-        prompt: Prompt,
-        line: &[u8],
-    ) -> Step
-        requires line { length line.now ≤ 255 }
-        requires rows { HaveRows F.Fn routines.now }
-        requires ready { MayHear (T.game tables.now) prompt self.old }
-        ensures meaning { (X : List (List ℕ)) → AreRowsOf F.Fn routines.now X →
-            let g = story_of (T.game tables.now) X in
-            PlaysAs g (from_prompt g prompt self.old line.now) self.old (next.Stop result) self.new }
-        ensures keeps { KeepsGame (T.game tables.now) self.old (next.Stop result) self.new }
-    {
-        match self.hear(tables, routines, prompt, line) {
-            Next::Go(stage) => self.play(tables, routines, stage),
-            Next::Stop(step) => step,
-        }
-    }
-
-    /// Takes a line at a prompt. One that is ignored changes nothing.
-    fn hear<T: Tables, F: Fn(u8, u8) -> u8>(
-        &mut self,
-        tables: &T,
-        routines: &Routines<F>,
-        prompt: Prompt,
-        line: &[u8],
-    ) -> Next
-        requires line { length line.now ≤ 255 }
-        requires rows { HaveRows F.Fn routines.now }
-        requires ready { MayHear (T.game tables.now) prompt self.old }
-        ensures meaning { (X : List (List ℕ)) → AreRowsOf F.Fn routines.now X →
-            let g = story_of (T.game tables.now) X in
-            PlaysAs g (from_prompt g prompt self.old line.now) self.old result self.new }
-        ensures keeps { KeepsGame (T.game tables.now) self.old result self.new }
-    {
-        if is_ignored(&self.situation.world, line) {
-            return Next::Stop(Step::Waits(prompt));
-        }
-        match prompt {
-            Prompt::Main => self.hear_line(tables, line),
-            Prompt::Quit | Prompt::Key => self.hear_answer(tables, routines, prompt, line),
-            Prompt::Again => self.hear_again(tables, line),
-            Prompt::Over => unreachable!(),
-        }
-    }
-
     /// Takes a line that isn't ignored at the main prompt: at a timeout message 35 is said, and the frame comes; any
     /// other line is pending now.
     fn hear_line<T: Tables>(&mut self, tables: &T, line: &[u8]) -> Next
@@ -132,46 +81,6 @@ impl Turn {
         }
     }
 
-    /// Takes the answer to QUIT's question, or a key, that isn't ignored, and goes on where the tables wait.
-    fn hear_answer<T: Tables, F: Fn(u8, u8) -> u8>(
-        &mut self,
-        tables: &T,
-        routines: &Routines<F>,
-        prompt: Prompt,
-        line: &[u8],
-    ) -> Next
-        requires rows { HaveRows F.Fn routines.now }
-        requires ready { MayAnswer (T.game tables.now) prompt line.now self.old }
-        ensures meaning { (X : List (List ℕ)) → AreRowsOf F.Fn routines.now X →
-            let g = story_of (T.game tables.now) X in
-            PlaysAs g (from_prompt g prompt self.old line.now) self.old result self.new }
-        ensures keeps { KeepsGame (T.game tables.now) self.old result self.new }
-    {
-        let table = self.machine.first_table();
-        let turned = self.run_answered(tables, routines, prompt, line);
-        self.after_table(tables, table, turned)
-    }
-
-    /// Gives the machine an answer that isn't ignored, and lets it read on to its next stop.
-    fn run_answered<T: Tables, F: Fn(u8, u8) -> u8>(
-        &mut self,
-        tables: &T,
-        routines: &Routines<F>,
-        prompt: Prompt,
-        line: &[u8],
-    ) -> Turned
-        requires rows { HaveRows F.Fn routines.now }
-        requires ready { MayAnswer (T.game tables.now) prompt line.now self.old }
-        ensures runs { (X : List (List ℕ)) → AreRowsOf F.Fn routines.now X → let g = story_of (T.game tables.now) X in
-            RunsAs g (from_path g prompt self.old line.now) self.old result self.new }
-        ensures stops { StopsInTable (first_table (reverse self.old.machine.frames)) result self.new.machine }
-        ensures stays { Stays (T.game tables.now) self.old self.new }
-    {
-        flags::tell_timeout(&mut self.situation.world, is_timeout(line));
-        self.machine.answer(begins_with(b'Y', reply(line)));
-        self.machine.run(tables, routines, &mut self.situation)
-    }
-
     /// Takes the answer to END's question that isn't ignored: at no the game is over, and otherwise it starts anew.
     fn hear_again<T: Tables>(&mut self, tables: &T, line: &[u8]) -> Next
         requires heard { is_ignored self.old.situation.world line.now ≡ false }
@@ -189,15 +98,77 @@ impl Turn {
             return Next::Go(Stage::Describe);
         }
         self.situation.pending.drop_line();
-        if say(
+        let said = say(
             tables,
             &self.situation.world,
             &mut self.situation.piece,
             GOODBYE_MESSAGE,
-        ) {
-            Next::Stop(Step::Ended)
-        } else {
-            Next::Stop(Step::Spent(SpentKind::Text))
+        );
+        or_spent(said, Next::Stop(Step::Ended))
+    }
+}
+
+impl<T: Tables, F: Fn(u8, u8) -> u8> Rulebook<'_, T, F> {
+    /// Takes a line at a prompt, and plays on to the next one or to the end.
+    pub(crate) fn take(&self, held: &mut Turn, prompt: Prompt, line: &[u8]) -> Step
+        requires line { length line.now ≤ 255 }
+        requires rows { HaveRows F.Fn self.now.routines.now }
+        requires ready { MayHear (T.game self.now.tables.now) prompt held.old }
+        ensures meaning { InStories F.Fn self.now.routines.now (T.game self.now.tables.now) (λ g.
+            PlaysAs g (from_prompt g prompt held.old line.now) held.old (next.Stop result) held.new) }
+        ensures keeps { KeepsGame (T.game self.now.tables.now) held.old (next.Stop result) held.new }
+    {
+        match self.hear(held, prompt, line) {
+            Next::Go(stage) => self.play(held, stage),
+            Next::Stop(step) => step,
         }
+    }
+
+    /// Takes a line at a prompt. One that is ignored changes nothing.
+    fn hear(&self, held: &mut Turn, prompt: Prompt, line: &[u8]) -> Next
+        requires line { length line.now ≤ 255 }
+        requires rows { HaveRows F.Fn self.now.routines.now }
+        requires ready { MayHear (T.game self.now.tables.now) prompt held.old }
+        ensures meaning { InStories F.Fn self.now.routines.now (T.game self.now.tables.now) (λ g.
+            PlaysAs g (from_prompt g prompt held.old line.now) held.old result held.new) }
+        ensures keeps { KeepsGame (T.game self.now.tables.now) held.old result held.new }
+    {
+        if is_ignored(&held.situation.world, line) {
+            return Next::Stop(Step::Waits(prompt));
+        }
+        match prompt {
+            Prompt::Main => held.hear_line(self.tables, line),
+            Prompt::Quit | Prompt::Key => self.hear_answer(held, prompt, line),
+            Prompt::Again => held.hear_again(self.tables, line),
+            Prompt::Over => unreachable!(),
+        }
+    }
+
+    /// Takes the answer to QUIT's question, or a key, that isn't ignored, and goes on where the tables wait.
+    fn hear_answer(&self, held: &mut Turn, prompt: Prompt, line: &[u8]) -> Next
+        requires rows { HaveRows F.Fn self.now.routines.now }
+        requires ready { MayAnswer (T.game self.now.tables.now) prompt line.now held.old }
+        ensures meaning { InStories F.Fn self.now.routines.now (T.game self.now.tables.now) (λ g.
+            PlaysAs g (from_prompt g prompt held.old line.now) held.old result held.new) }
+        ensures keeps { KeepsGame (T.game self.now.tables.now) held.old result held.new }
+    {
+        let table = held.machine.first_table();
+        let turned = self.run_answered(held, prompt, line);
+        held.after_table(self.tables, table, turned)
+    }
+
+    /// Gives the machine an answer that isn't ignored, and lets it read on to its next stop.
+    fn run_answered(&self, held: &mut Turn, prompt: Prompt, line: &[u8]) -> Turned
+        requires rows { HaveRows F.Fn self.now.routines.now }
+        requires ready { MayAnswer (T.game self.now.tables.now) prompt line.now held.old }
+        ensures runs { InStories F.Fn self.now.routines.now (T.game self.now.tables.now) (λ g.
+            RunsAs g (from_path g prompt held.old line.now) held.old result held.new) }
+        ensures stops { StopsInTable (first_table (reverse held.old.machine.frames)) result held.new.machine }
+        ensures stays { Stays (T.game self.now.tables.now) held.old held.new }
+    {
+        flags::tell_timeout(&mut held.situation.world, is_timeout(line));
+        held.machine.answer(begins_with(b'Y', reply(line)));
+        held.machine
+            .run(self.tables, self.routines, &mut held.situation)
     }
 }

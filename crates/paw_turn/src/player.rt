@@ -17,7 +17,7 @@ ghost use Rattle.paw_turn.specs.inner.Player.{IsNew, IsSeated, IsFinished, Plays
 use crate::Step;
 use crate::parts::{Parts, prompt_at, step_at};
 use crate::stage::Stage;
-use crate::turn::Turn;
+use crate::turn::{Rulebook, Turn};
 use paw_base::fault::NoRoom;
 use paw_base::piece::Piece;
 use paw_base::steps::Steps;
@@ -37,8 +37,7 @@ mod tests;
 /// the piece of text that the line brought. It takes all its memory when it is made.
 #[derive(Drop)]
 pub struct Player<'a, T: Tables, F: Fn(u8, u8) -> u8> {
-    tables: &'a T,
-    routines: &'a Routines<F>,
+    rulebook: Rulebook<'a, T, F>,
     turn: Turn,
     last: Step,
 }
@@ -49,8 +48,8 @@ impl<'a, T: Tables, F: Fn(u8, u8) -> u8> Model for Player<'a, T, F> {
     ghost Value = { Seat F };
 
     ghost view = { λ p. record {
-      game = T.game p.tables.now;
-      routines = p.routines.now;
+      game = T.game p.rulebook.tables.now;
+      routines = p.rulebook.routines.now;
       world = p.turn.situation.world;
       pending = p.turn.situation.pending;
       machine = p.turn.machine;
@@ -78,8 +77,7 @@ impl<'a, T: Tables, F: Fn(u8, u8) -> u8> Player<'a, T, F> {
     {
         let piece = Piece::new(alloc)?;
         Ok(Player {
-            tables,
-            routines,
+            rulebook: Rulebook { tables, routines },
             turn: Turn::new(tables, seed, piece),
             last: Step::Waits(Prompt::Main),
         })
@@ -108,8 +106,7 @@ impl<'a, T: Tables, F: Fn(u8, u8) -> u8> Player<'a, T, F> {
         let _counts = tables.counts();
         let piece = Piece::new(alloc)?;
         Ok(Player {
-            tables,
-            routines,
+            rulebook: Rulebook { tables, routines },
             turn: Turn {
                 situation: Situation {
                     world,
@@ -131,7 +128,7 @@ impl<'a, T: Tables, F: Fn(u8, u8) -> u8> Player<'a, T, F> {
         ensures last { self.new.last ≡ step.Waits prompt.Main }
         ensures seated { IsSeated self.new }
     {
-        self.turn.renew(self.tables, seed);
+        self.turn.renew(self.rulebook.tables, seed);
         self.last = Step::Waits(Prompt::Main);
     }
 
@@ -160,7 +157,7 @@ impl<'a, T: Tables, F: Fn(u8, u8) -> u8> Player<'a, T, F> {
         ensures seated { IsSeated self.new }
         ensures draws { self.new.world.draws ≤ self.old.world.draws + READ_LIMIT }
     {
-        let step = self.turn.play(self.tables, self.routines, Stage::Describe);
+        let step = self.rulebook.play(&mut self.turn, Stage::Describe);
         self.turn.settle(step);
         self.last = step;
         step
@@ -192,7 +189,7 @@ impl<'a, T: Tables, F: Fn(u8, u8) -> u8> Player<'a, T, F> {
             return self.last;
         };
         self.turn.open_piece();
-        let step = self.turn.take(self.tables, self.routines, prompt, line);
+        let step = self.rulebook.take(&mut self.turn, prompt, line);
         self.turn.settle(step);
         self.last = step;
         step

@@ -3,7 +3,6 @@
 ghost use Rattle.std.specs.Prelude.{◌≡◌, suc, ◌+◌, ◌*◌, ◌<◌, ◌≤◌, ◌^◌, ◌++◌, ℕ, List, [], length, map, None};
 ghost use Rattle.paw_base.specs.inner.Piece.{Puts, piece_limit};
 ghost use Rattle.paw_game.specs.Valid.{Valid};
-ghost use Rattle.paw_routines.specs.Routines.{AreRowsOf, HaveRows};
 ghost use Rattle.paw_effects.specs.Story.{story_of};
 ghost use Rattle.paw_effects.specs.inner.Opening.{opening_world};
 ghost use Rattle.paw_effects.specs.Texts.{say_text};
@@ -16,7 +15,8 @@ ghost use Rattle.paw_turn.specs.declared.stage.Stage.TheVariants as stage;
 ghost use Rattle.paw_turn.specs.declared.stage.Next.TheVariants as next;
 ghost use Rattle.paw_turn.specs.inner.Stages.{at_stage, turn_settled, opened_piece, Moves};
 ghost use Rattle.paw_turn.specs.inner.Stages.{ReadsTurn, Plays, MovesAfter};
-ghost use Rattle.paw_turn.specs.inner.Stages.{IsPlayable, MayGoOn, HasReadSome, Stays, KeepsGame, StopsInTable};
+ghost use Rattle.paw_turn.specs.inner.Stages.{IsPlayable, MayGoOn, MayRead, InStories, Stays, KeepsGame};
+ghost use Rattle.paw_turn.specs.inner.Stages.{StopsInTable};
 ghost use Rattle.paw_turn.specs.inner.Stages.{with_piece, left_of, work, Falls};
 ghost use Rattle.paw_turn.specs.inner.Stages.{or_spent, table_rank, FallsAfter, RunsAs, from_table, Uses};
 
@@ -54,12 +54,19 @@ pub(crate) struct Turn {
     pub(crate) machine: Machine,
 }
 
-/// Goes on with a stage where the text was shown, and else the piece is spent.
-fn or_spent(shown: bool, stage: Stage) -> Next
-    ensures value { result ≡ or_spent shown stage }
+/// The game that turns are played in, and the routines that it calls.
+#[derive(Drop)]
+pub(crate) struct Rulebook<'a, T: Tables, F: Fn(u8, u8) -> u8> {
+    pub(crate) tables: &'a T,
+    pub(crate) routines: &'a Routines<F>,
+}
+
+/// Goes on so where the text was shown, and else the piece is spent.
+pub(crate) fn or_spent(shown: bool, next: Next) -> Next
+    ensures value { result ≡ or_spent shown next }
 {
     if shown {
-        Next::Go(stage)
+        next
     } else {
         Next::Stop(Step::Spent(SpentKind::Text))
     }
@@ -167,7 +174,7 @@ impl Turn {
         ensures falls { Falls (work stage self.old + 1) result self.new }
         ensures keeps { KeepsGame (T.game tables.now) self.old result self.new }
     {
-        or_spent(self.put_message(tables, message), stage)
+        or_spent(self.put_message(tables, message), Next::Go(stage))
     }
 
     /// Shows where the game is: in the dark without light that it is dark, else the location's text.
@@ -301,69 +308,6 @@ impl Turn {
         }
     }
 
-    /// Reads table 0, 1 or 2 from its start, up to the machine's next stop.
-    fn run_table<T: Tables, F: Fn(u8, u8) -> u8>(
-        &mut self,
-        tables: &T,
-        routines: &Routines<F>,
-        table: u8,
-    ) -> Turned
-        requires rows { HaveRows F.Fn routines.now }
-        requires read { HasReadSome self.old.machine }
-        requires ready { MayGoOn (T.game tables.now) self.old }
-        ensures runs { (X : List (List ℕ)) → AreRowsOf F.Fn routines.now X → let g = story_of (T.game tables.now) X in
-            RunsAs g (from_table g table self.old) self.old result self.new }
-        ensures stops { StopsInTable table result self.new.machine }
-        ensures uses { Uses result self.old self.new }
-        ensures stays { Stays (T.game tables.now) self.old self.new }
-    {
-        self.machine.begin(table);
-        self.machine.run(tables, routines, &mut self.situation)
-    }
-
-    /// Reads table 0, 1 or 2, and goes on after it.
-    fn read_table<T: Tables, F: Fn(u8, u8) -> u8>(
-        &mut self,
-        tables: &T,
-        routines: &Routines<F>,
-        table: u8,
-    ) -> Next
-        requires rows { HaveRows F.Fn routines.now }
-        requires read { HasReadSome self.old.machine }
-        requires ready { MayGoOn (T.game tables.now) self.old }
-        ensures meaning { (X : List (List ℕ)) → AreRowsOf F.Fn routines.now X →
-            let g = story_of (T.game tables.now) X in
-            ReadsTurn g (λ n r. table_done g (turn g n) table (table_read g table r)) self.old result self.new }
-        ensures keeps { KeepsGame (T.game tables.now) self.old result self.new }
-        ensures falls { Falls (4 * left_of self.old + table_rank table) result self.new }
-    {
-        let turned = self.run_table(tables, routines, table);
-        self.after_table(tables, table, turned)
-    }
-
-    /// Describes the location, and reads table 1.
-    fn describe<T: Tables, F: Fn(u8, u8) -> u8>(
-        &mut self,
-        tables: &T,
-        routines: &Routines<F>,
-    ) -> Next
-        requires rows { HaveRows F.Fn routines.now }
-        requires read { HasReadSome self.old.machine }
-        requires ready { MayGoOn (T.game tables.now) self.old }
-        ensures meaning { (X : List (List ℕ)) → AreRowsOf F.Fn routines.now X →
-            let g = story_of (T.game tables.now) X in
-            ReadsTurn g (λ n r. turn g (suc n) AtDescribe r) self.old result self.new }
-        ensures keeps { KeepsGame (T.game tables.now) self.old result self.new }
-        ensures falls { Falls (work stage.Describe self.old) result self.new }
-    {
-        flags::describe(&mut self.situation.world);
-        if self.show_view(tables) {
-            self.read_table(tables, routines, DESCRIBED_TABLE)
-        } else {
-            Next::Stop(Step::Spent(SpentKind::Text))
-        }
-    }
-
     /// Takes the next phrase. A sentence counts a turn; at a phrase with no known word message 6 is said, and the rest
     /// of the line is dropped; with none left comes the prompt.
     fn phrase<T: Tables>(&mut self, tables: &T) -> Next
@@ -390,48 +334,77 @@ impl Turn {
             Found::Empty => self.prompt(tables),
         }
     }
+}
+
+impl<T: Tables, F: Fn(u8, u8) -> u8> Rulebook<'_, T, F> {
+    /// Reads table 0, 1 or 2 from its start, up to the machine's next stop.
+    fn run_table(&self, held: &mut Turn, table: u8) -> Turned
+        requires { MayRead F.Fn self.now.routines.now (T.game self.now.tables.now) held.old }
+        ensures runs { InStories F.Fn self.now.routines.now (T.game self.now.tables.now) (λ g.
+            RunsAs g (from_table g table held.old) held.old result held.new) }
+        ensures stops { StopsInTable table result held.new.machine }
+        ensures uses { Uses result held.old held.new }
+        ensures stays { Stays (T.game self.now.tables.now) held.old held.new }
+    {
+        held.machine.begin(table);
+        held.machine
+            .run(self.tables, self.routines, &mut held.situation)
+    }
+
+    /// Reads table 0, 1 or 2, and goes on after it.
+    fn read_table(&self, held: &mut Turn, table: u8) -> Next
+        requires { MayRead F.Fn self.now.routines.now (T.game self.now.tables.now) held.old }
+        ensures meaning { InStories F.Fn self.now.routines.now (T.game self.now.tables.now) (λ g.
+            ReadsTurn g (λ n r. table_done g (turn g n) table (table_read g table r)) held.old result held.new) }
+        ensures keeps { KeepsGame (T.game self.now.tables.now) held.old result held.new }
+        ensures falls { Falls (4 * left_of held.old + table_rank table) result held.new }
+    {
+        let turned = self.run_table(held, table);
+        held.after_table(self.tables, table, turned)
+    }
+
+    /// Describes the location, and reads table 1.
+    fn describe(&self, held: &mut Turn) -> Next
+        requires { MayRead F.Fn self.now.routines.now (T.game self.now.tables.now) held.old }
+        ensures meaning { InStories F.Fn self.now.routines.now (T.game self.now.tables.now) (λ g.
+            ReadsTurn g (λ n r. turn g (suc n) AtDescribe r) held.old result held.new) }
+        ensures keeps { KeepsGame (T.game self.now.tables.now) held.old result held.new }
+        ensures falls { Falls (work stage.Describe held.old) result held.new }
+    {
+        flags::describe(&mut held.situation.world);
+        if held.show_view(self.tables) {
+            self.read_table(held, DESCRIBED_TABLE)
+        } else {
+            Next::Stop(Step::Spent(SpentKind::Text))
+        }
+    }
 
     /// Goes through one stage.
-    fn stage<T: Tables, F: Fn(u8, u8) -> u8>(
-        &mut self,
-        tables: &T,
-        routines: &Routines<F>,
-        stage: Stage,
-    ) -> Next
-        requires rows { HaveRows F.Fn routines.now }
-        requires read { HasReadSome self.old.machine }
-        requires ready { MayGoOn (T.game tables.now) self.old }
-        ensures meaning { (X : List (List ℕ)) → AreRowsOf F.Fn routines.now X →
-            let g = story_of (T.game tables.now) X in
-            ReadsTurn g (λ n r. turn g (suc n) (at_stage stage) r) self.old result self.new }
-        ensures keeps { KeepsGame (T.game tables.now) self.old result self.new }
-        ensures falls { Falls (work stage self.old) result self.new }
+    fn stage(&self, held: &mut Turn, stage: Stage) -> Next
+        requires { MayRead F.Fn self.now.routines.now (T.game self.now.tables.now) held.old }
+        ensures meaning { InStories F.Fn self.now.routines.now (T.game self.now.tables.now) (λ g.
+            ReadsTurn g (λ n r. turn g (suc n) (at_stage stage) r) held.old result held.new) }
+        ensures keeps { KeepsGame (T.game self.now.tables.now) held.old result held.new }
+        ensures falls { Falls (work stage held.old) result held.new }
     {
         match stage {
-            Stage::Describe => self.describe(tables, routines),
-            Stage::Frame => self.read_table(tables, routines, FRAME_TABLE),
-            Stage::Phrase => self.phrase(tables),
-            Stage::Response => self.read_table(tables, routines, RESPONSE_TABLE),
+            Stage::Describe => self.describe(held),
+            Stage::Frame => self.read_table(held, FRAME_TABLE),
+            Stage::Phrase => held.phrase(self.tables),
+            Stage::Response => self.read_table(held, RESPONSE_TABLE),
         }
     }
 
     /// Plays on from a stage to the next prompt, or to the end.
-    pub(crate) fn play<T: Tables, F: Fn(u8, u8) -> u8>(
-        &mut self,
-        tables: &T,
-        routines: &Routines<F>,
-        first: Stage,
-    ) -> Step
-        requires rows { HaveRows F.Fn routines.now }
-        requires read { HasReadSome self.old.machine }
-        requires ready { MayGoOn (T.game tables.now) self.old }
-        ensures meaning { (X : List (List ℕ)) → AreRowsOf F.Fn routines.now X →
-            Plays (story_of (T.game tables.now) X) first self.old (next.Stop result) self.new }
-        ensures keeps { KeepsGame (T.game tables.now) self.old (next.Stop result) self.new }
+    pub(crate) fn play(&self, held: &mut Turn, first: Stage) -> Step
+        requires { MayRead F.Fn self.now.routines.now (T.game self.now.tables.now) held.old }
+        ensures meaning { InStories F.Fn self.now.routines.now (T.game self.now.tables.now) (λ g.
+            Plays g first held.old (next.Stop result) held.new) }
+        ensures keeps { KeepsGame (T.game self.now.tables.now) held.old (next.Stop result) held.new }
     {
         let mut stage = first;
         loop {
-            match self.stage(tables, routines, stage) {
+            match self.stage(held, stage) {
                 Next::Go(next) => stage = next,
                 Next::Stop(step) => return step,
             }

@@ -1,8 +1,7 @@
 -- The first field of a state that breaks its rule: words that contracts between crates and proofs use beside those of
 -- specs/Faults.antt.
-use Rattle.std.specs.Prelude.{ℕ, ◌-◌, Option, Some, None, Result, Ok, Err}
+use Rattle.std.specs.Prelude.{ℕ, Option, Some, None, Result, Ok, Err}
 use Rattle.paw_state.specs.declared.StateFault.{StateFault}
-use Rattle.paw_state.specs.Faults.{rule}
 
 -- ---- rules and faults ----
 

@@ -1,6 +1,6 @@
 -- What a session keeps of a reading: words that contracts between crates and proofs use beside those of
 -- specs/Record.antt.
-use Rattle.std.specs.Prelude.{◌≡◌, ℕ, ◌-◌, length, reverse}
+use Rattle.std.specs.Prelude.{◌≡◌, ℕ, length, reverse}
 use Rattle.paw_effects.specs.declared.act.Prompt.{Prompt}
 use Rattle.paw_reading.specs.Run.{Run}
 use Rattle.paw_process.specs.OpenTables.{OpenTables}

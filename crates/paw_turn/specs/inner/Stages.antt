@@ -1,6 +1,7 @@
 -- What the stages of a turn come to in the reading. The contracts of private functions alone speak of this.
 use Rattle.std.specs.Prelude.{◌≡◌, ℕ, zero, suc, ◌+◌, ◌*◌, ◌<◌, ◌≤◌, ◌^◌, Bool, false, List, Option}
 use Rattle.std.specs.Prelude.{[], ◌∷◌, ◌++◌, length, reverse, if◌then◌else◌}
+use Rattle.std.specs.Fn.{Shared}
 use Rattle.paw_base.specs.declared.limits.TheConstants.{READ_LIMIT}
 use Rattle.paw_base.specs.declared.fault.SpentKind.TheVariants as spent
 use Rattle.paw_game.specs.Game.{GameLists}
@@ -8,10 +9,11 @@ use Rattle.paw_game.specs.Valid.{Valid}
 use Rattle.paw_world.specs.World.{World}
 use Rattle.paw_phrase.specs.Pending.{PendingLine}
 use Rattle.paw_routines.specs.declared.routines.Routines.{Routines}
+use Rattle.paw_routines.specs.Routines.{AreRowsOf, HaveRows}
 use Rattle.paw_effects.specs.declared.act.Prompt.{Prompt}
 use Rattle.paw_effects.specs.declared.act.Prompt.TheVariants as prompt
 use Rattle.paw_effects.specs.Worlds.{IsOf}
-use Rattle.paw_effects.specs.Story.{Story}
+use Rattle.paw_effects.specs.Story.{Story, story_of}
 use Rattle.paw_reading.specs.declared.places.Frame.{Frame}
 use Rattle.paw_reading.specs.declared.places.OpenLoop.{OpenLoop}
 use Rattle.paw_reading.specs.Run.{Run, Step as Read, closed, is_ignored}
@@ -32,6 +34,13 @@ use Rattle.paw_turn.specs.declared.stage.Next.{Next}
 use Rattle.paw_turn.specs.declared.stage.Next.TheVariants as next
 use Rattle.paw_turn.specs.declared.turn.Turn.{Turn}
 use Rattle.paw_turn.specs.inner.Player.{Seat, WaitsIn, StandsAt, StandsClosed}
+
+-- ---- stories ----
+
+-- whatever rows stand for the routines, this holds of the story that the game is with them
+abbrev pub InStories :
+    {F : Type 0} → Shared F (ℕ × (ℕ × Unit {0})) ℕ → Routines F → GameLists → (Story → Type 0) → Type 0
+InStories calls routines g P = (X : List (List ℕ)) → AreRowsOf calls routines X → P (story_of g X)
 
 -- ---- runs ----
 
@@ -161,6 +170,13 @@ pub record MayGoOn (g : GameLists) (h : Turn) : Type 0 where
   pub playable : IsPlayable g h
   pub closed : IsClosed h.machine
 
+-- tables may be read in a stage
+pub record MayRead {F : Type 0} (calls : Shared F (ℕ × (ℕ × Unit {0})) ℕ) (routines : Routines F)
+    (g : GameLists) (h : Turn) : Type 0 where
+  pub rows : HaveRows calls routines
+  pub read : HasReadSome h.machine
+  pub ready : MayGoOn g h
+
 -- a line may be taken at this prompt
 pub record MayHear (g : GameLists) (p : Prompt) (h : Turn) : Type 0 where
   pub valid : Valid g
@@ -245,9 +261,9 @@ pub record ChangesFlags (old new : World) : Type 0 where
 
 -- ---- texts ----
 
--- the next stage where the text was shown, and else the piece is spent
-abbrev pub or_spent : Bool → Stage → Next
-or_spent shown s = if shown then next.Go s else next.Stop (step.Spent spent.Text)
+-- so it goes on where the text was shown, and else the piece is spent
+abbrev pub or_spent : Bool → Next → Next
+or_spent shown n = if shown then n else next.Stop (step.Spent spent.Text)
 
 -- ---- tables ----
 

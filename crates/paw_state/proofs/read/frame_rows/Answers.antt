@@ -11,9 +11,9 @@ empty = record { table = 0; entry = 0; at = 0; acted = 0 }
 
 pub loop-i-preserved : goal.loop-i-preserved
 loop-i-preserved c = (
-  length-set c.loop-i.frames c.loop-i.i c.frame_in.result ∙ c.loop-i.invariant.0,
-  mapped_more frame_in c.args.rows.now c.loop-i.frames c.loop-i.i c.frame_in.result empty (omega arith)
-      (omega arith) c.loop-i.invariant.1 c.frame_in.ensures.value,
+  length-set c.loop-i.frames c.loop-i.i c.frame.result ∙ c.loop-i.invariant.0,
+  mapped_more frame_in c.args.rows.now c.loop-i.frames c.loop-i.i c.frame.result empty (omega arith)
+      (omega arith) c.loop-i.invariant.1 c.frame.ensures.value,
 )
 
 pub returns : goal.returns

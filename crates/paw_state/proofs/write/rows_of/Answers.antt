@@ -11,8 +11,8 @@ empty = record { table = 0; entry = 0; at = 0; acted = false }
 
 pub loop-i-preserved : goal.loop-i-preserved
 loop-i-preserved c = (
-  length-set c.loop-i.rows c.loop-i.i c.row_of.result ∙ c.loop-i.invariant.0,
-  mapped_more row_of c.args.frames.now c.loop-i.rows c.loop-i.i c.row_of.result empty (omega arith) (omega arith) c.loop-i.invariant.1 c.row_of.ensures.value,
+  length-set c.loop-i.rows c.loop-i.i c.of.result ∙ c.loop-i.invariant.0,
+  mapped_more row_of c.args.frames.now c.loop-i.rows c.loop-i.i c.of.result empty (omega arith) (omega arith) c.loop-i.invariant.1 c.of.ensures.value,
 )
 
 pub returns : goal.returns

@@ -104,25 +104,18 @@ fn rows_are_refused_by_their_depth(rt: HostRuntime) -> Result<(), Fail> {
         if let Some(place) = kept.rows.get_mut(depth) {
             *place = row;
         }
-        assert_eq!(rt;
-            refused_at(&game, &kept, Prompt::Key),
-            fault,
-            "{depth}: {row:?}"
-        );
+        let found = refused_at(&game, &kept, Prompt::Key);
+        assert_eq!(rt; found, fault, "{depth}: {row:?}");
         // The least depth is named.
         kept.rows[10] = row;
-        let least = fault.unwrap_or(10);
-        assert_eq!(rt;
-            refused_at(&game, &kept, Prompt::Key),
-            Some(least),
-            "{depth}: {row:?}"
-        );
+        let least = refused_at(&game, &kept, Prompt::Key);
+        assert_eq!(rt; least, fault.or(Some(10)), "{depth}: {row:?}");
     }
     Ok(())
 }
 
 /// Open loops, and where they are refused.
-const LOOPS: [((u8, u8, u16, u8, u8, u8), Option<u8>); 17] = [
+const LOOPS: [((u8, u8, u16, u8, u8, u8), Option<u8>); 19] = [
     ((1, 4, 0, 0, 254, 2), None),
     ((1, 4, 0, 0, 3, 0), None),
     ((1, 4, 0, 0, 252, 1), None),
@@ -130,6 +123,8 @@ const LOOPS: [((u8, u8, u16, u8, u8, u8), Option<u8>); 17] = [
     // The level isn't open, or is of another table.
     ((2, 0, 2, 0, 0, 1), Some(11)),
     ((11, 4, 0, 0, 254, 2), Some(11)),
+    ((255, 4, 0, 0, 254, 2), Some(11)),
+    ((1, 255, 0, 0, 254, 2), Some(11)),
     ((0, 4, 0, 0, 254, 2), Some(11)),
     ((1, 0, 2, 0, 0, 1), Some(11)),
     // The condact isn't there, or is another.
@@ -154,14 +149,12 @@ fn loops_are_refused_behind_the_rows(rt: HostRuntime) -> Result<(), Fail> {
         let turning = turning(level, table, entry, at, place, last);
         let mut kept = waiting();
         kept.turning = Some(turning);
-        assert_eq!(rt; refused_at(&game, &kept, Prompt::Key), fault, "{turning:?}");
+        let found = refused_at(&game, &kept, Prompt::Key);
+        assert_eq!(rt; found, fault, "{turning:?}");
         // A row that breaks a rule comes first.
         kept.rows[1] = UNUSED;
-        assert_eq!(rt;
-            refused_at(&game, &kept, Prompt::Key),
-            Some(1),
-            "{turning:?}"
-        );
+        let first = refused_at(&game, &kept, Prompt::Key);
+        assert_eq!(rt; first, Some(1), "{turning:?}");
     }
     Ok(())
 }
@@ -206,11 +199,8 @@ fn prompts_want_their_condact_and_their_number_of_rows(rt: HostRuntime) -> Resul
         (Prompt::Main, opened(0, quit, UNUSED), Some(0)),
         (Prompt::Over, opened(0, UNUSED, called), Some(1)),
     ] {
-        assert_eq!(rt;
-            refused_at(&game, &kept, prompt),
-            fault,
-            "{prompt:?}, {kept:?}"
-        );
+        let found = refused_at(&game, &kept, prompt);
+        assert_eq!(rt; found, fault, "{prompt:?}, {kept:?}");
     }
     let mut kept = opened(0, UNUSED, UNUSED);
     kept.turning = Some(turning(0, 0, 2, 0, 0, 1));

@@ -7,7 +7,7 @@ returns-clause-value c =
     rw (
       c.array_at.ensures.value,
       c.array_at-2.ensures.value,
-      c.held_at.ensures.value,
+      c.at.ensures.value,
       c.eight_at.ensures.value,
       c.eight_at-2.ensures.value,
       c.eight_at-3.ensures.value,

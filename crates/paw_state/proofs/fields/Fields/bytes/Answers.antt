@@ -12,7 +12,7 @@ returns c = record {
     arith,
     ap length c.put_kept.ensures.puts,
     length-append c.put_pending.new.writer (kept_position_bytes c.args.self.now),
-    c.put_kept.ensures.length,
+    c.put_kept.ensures.long,
   );
   room = c.finish.ensures.room;
 }

@@ -16,5 +16,5 @@ returns c =
     let e = one_more c.self.inside.bytes c.args.field.now c.args.self.now c.self.inside.count room c.self.told c.self.view_is in
     record {
       puts = rw c.copy_from_slice.ensures.after e;
-      length = rw c.copy_from_slice.ensures.after (ap length e ∙ length-append c.args.self.now c.args.field.now);
+      long = rw c.copy_from_slice.ensures.after (ap length e ∙ length-append c.args.self.now c.args.field.now);
     }

@@ -1,4 +1,4 @@
-use Rattle.std.proofs.Common.{◌≡◌, [], ◌∷◌, reverse, refl, ap, ◌∙◌, sym, subst}
+use Rattle.std.proofs.Common.{◌≡◌, [], ◌∷◌, reverse, ap, ◌∙◌, sym, subst}
 use Rattle.paw_routines.specs.Routines.{AreRowsOf}
 use Rattle.paw_effects.specs.declared.act.Prompt.{Prompt}
 use Rattle.paw_effects.specs.Story.{story_of}
@@ -8,10 +8,10 @@ use Rattle.paw_turn.specs.declared.Step.{Step}
 use Rattle.paw_turn.specs.declared.Step.TheVariants as step
 use Rattle.paw_turn.specs.declared.stage.Next.TheVariants as next
 use Rattle.paw_turn.specs.declared.turn.Turn.{Turn}
-use Rattle.paw_turn.specs.inner.Player.{Seat, IsSeated, PlaysTo, StandsClosed, run_at}
+use Rattle.paw_turn.specs.inner.Player.{Seat, PlaysTo, run_at}
 use Rattle.paw_turn.specs.inner.Stages.{PlaysAs, from_prompt, seat_of, turn_settled}
 use Rattle.paw_turn.proofs.Settling.{take_plays}
-use Rattle.paw_turn.proofs.Standing.{bytes_each, valid_story, taken_on}
+use Rattle.paw_turn.proofs.Standing.{bytes_each, take_seated}
 use Rattle.paw_turn.proofs.player.Player.take.Goals as goal
 
 same_prompt : (p q : Prompt) (s t : Step) → s ≡ step.Waits p → s ≡ t → t ≡ step.Waits q → p ≡ q
@@ -19,11 +19,11 @@ same_prompt p q s t is same waits = cc
 
 pub returns-clause-meaning : goal.returns-clause-meaning
 returns-clause-meaning g c X rows = λ p waits pieces traces.
-    let routines = c.self.inside.routines.now in
+    let routines = c.self.inside.rulebook.routines.now in
     let own_rows = subst (λ (q : Seat g.row.F.Denot). AreRowsOf g.F.Fn q.routines X) (sym c.self.view_is) rows in
-    let own = g.T.Tables.game c.self.inside.tables.now in
+    let own = g.T.Tables.game c.self.inside.rulebook.tables.now in
     let old = c.self.inside.turn in
-    let new = c.take-step.new.self in
+    let new = c.take-step.new.held in
     let s = c.take-step.result in
     let line = c.args.line.now in
     let same = same_prompt c.in-Waits.prompt p c.self.inside.last c.args.self.now.last c.in-Waits.is
@@ -39,19 +39,9 @@ returns-clause-meaning g c X rows = λ p waits pieces traces.
 
 pub returns-clause-seated : goal.returns-clause-seated
 returns-clause-seated g c =
-    let own = g.T.Tables.game c.self.inside.tables.now in
-    let s = c.take-step.result in
-    let new : Seat g.row.F.Denot = seat_of own c.self.inside.routines.now c.settle.new.self s in
-    let old = c.args.self.now in
-    let X = c.requires.rows.0 in
     let waits = sym (ap (λ (q : Seat g.row.F.Denot). q.last) c.self.view_is) ∙ c.in-Waits.is in
-    let stands = subst (λ (h : Turn). StandsClosed s h.machine) (sym c.settle.ensures.value) c.take-step.ensures.keeps.machine in
-    let v = valid_story g.F.Fn old.routines old.game X c.requires.seated.valid c.requires.rows.1 in
     let line : IsLine c.args.line.now = record { short = c.requires.line; bytes = bytes_each c.args.line.now (λ i. (c.type_inv.line i).fits) } in
-    subst (λ h. IsSeated (record new { game = h })) (sym (ap (λ (q : Seat g.row.F.Denot). q.game) c.self.view_is))
-    (record {
-      valid = c.requires.seated.valid;
-      machine = stands;
-      rightly = taken_on (story_of old.game X) old new c.args.line.now c.in-Waits.prompt s v refl c.requires.seated waits line stands
-          (returns-clause-meaning g c X c.requires.rows.1 c.in-Waits.prompt waits [] []);
-    })
+    take_seated g.F.Fn c.self.inside.rulebook.routines.now c.args.self.now (g.T.Tables.game c.self.inside.rulebook.tables.now)
+    c.take-step.new.held c.settle.new.self c.take-step.result c.requires.rows.0 c.in-Waits.prompt c.args.line.now c.requires.rows.1 c.requires.seated
+    (ap (λ (q : Seat g.row.F.Denot). q.game) c.self.view_is) c.settle.ensures.value c.take-step.ensures.keeps.machine waits line
+    (returns-clause-meaning g c c.requires.rows.0 c.requires.rows.1 c.in-Waits.prompt waits [] [])

@@ -5,7 +5,7 @@ use Rattle.paw_world.specs.World.{World, restarted}
 use Rattle.paw_effects.specs.Worlds.{IsOf}
 use Rattle.paw_reading.specs.Run.{begins_with, with_timeout}
 use Rattle.paw_process.specs.OpenTables.{OpenTables}
-use Rattle.paw_turn.proofs.Renewing.{again_restarts, again_ends, again_spends, restarted_of, changed_of}
+use Rattle.paw_turn.proofs.Renewing.{again_restarts, again_told, restarted_of, changed_of}
 use Rattle.paw_process.proofs.Readings.{moved_none}
 use Rattle.paw_turn.proofs.turn.Turn.hear_again.Goals as goal
 
@@ -30,23 +30,16 @@ returns-then-not-begins_with-clause-keeps g c =
     let world = subst (IsOf (g.T.Tables.game c.args.tables.now)) (sym c.restart.ensures.change) of in
     record { stays = record { world = world; left = omega arith; draws = omega arith }; machine = c.close.ensures.closed }
 
-pub returns-then-say-clause-meaning : goal.returns-then-say-clause-meaning
-returns-then-say-clause-meaning g c X =
-    again_ends (story_of (g.T.Tables.game c.args.tables.now) X) c.args.self.now
-    (record { situation = record { world = c.tell_timeout.new.world; pending = c.drop_line.new.self; piece = c.say.new.piece }; machine = c.close.new.self })
-    c.args.line.now c.tell_timeout.new.world c.requires.waits.tables.tables.some c.requires.heard
+pub returns-clause-meaning : goal.returns-clause-meaning
+returns-clause-meaning g c X =
+    rw c.or_spent.ensures.value (again_told (story_of (g.T.Tables.game c.args.tables.now) X) c.args.self.now
+    (record {
+      situation = record { world = c.tell_timeout.new.world; pending = c.drop_line.new.self; piece = c.say-said.new.piece };
+      machine = c.close.new.self;
+    })
+    c.args.line.now c.tell_timeout.new.world c.say-said.result c.requires.waits.tables.tables.some c.requires.heard
     (sym (c.if-not-begins_with.ensures.value ∙ ap (begins_with 78) c.reply.ensures.value))
     (c.tell_timeout.ensures.value ∙ ap (λ b. with_timeout b c.args.self.now.situation.world) c.is_timeout.ensures.value)
-    c.if-say.ensures.puts.1 c.if-say.ensures.puts.0 refl (ap (λ (p : PendingLine). p.bytes) c.drop_line.ensures.value)
+    c.say-said.ensures.puts refl (ap (λ (p : PendingLine). p.bytes) c.drop_line.ensures.value)
     (ap (λ (p : PendingLine). p.earlier) c.drop_line.ensures.value) (ap (λ (m : OpenTables). m.turning) c.close.ensures.value)
-    (moved_none _ _ _ _ _ c.close.ensures.value)
-
-pub returns-else-say-clause-meaning : goal.returns-else-say-clause-meaning
-returns-else-say-clause-meaning g c X =
-    again_spends (story_of (g.T.Tables.game c.args.tables.now) X) c.args.self.now
-    (record { situation = record { world = c.tell_timeout.new.world; pending = c.drop_line.new.self; piece = c.say.new.piece }; machine = c.close.new.self })
-    c.args.line.now c.tell_timeout.new.world c.requires.waits.tables.tables.some c.requires.heard
-    (sym (c.if-not-begins_with.ensures.value ∙ ap (begins_with 78) c.reply.ensures.value))
-    (c.tell_timeout.ensures.value ∙ ap (λ b. with_timeout b c.args.self.now.situation.world) c.is_timeout.ensures.value)
-    c.if-say.ensures.puts
-    (moved_none _ _ _ _ _ c.close.ensures.value)
+    (moved_none _ _ _ _ _ c.close.ensures.value))

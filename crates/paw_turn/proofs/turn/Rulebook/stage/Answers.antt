@@ -2,24 +2,26 @@ use Rattle.paw_effects.specs.Story.{story_of}
 use Rattle.std.proofs.Common.{suc}
 use Rattle.paw_reading.specs.Turn.{AtPhrase, turn}
 use Rattle.paw_turn.proofs.Reading.{frame_reads, response_reads, moves_read}
-use Rattle.paw_turn.proofs.turn.Turn.stage.Goals as goal
+use Rattle.paw_turn.proofs.turn.Rulebook.stage.Goals as goal
 
 pub returns-in-Frame-clause-meaning : goal.returns-in-Frame-clause-meaning
 returns-in-Frame-clause-meaning g c X rows =
-    rw c.in-Frame.is (frame_reads (story_of (g.T.Tables.game c.args.tables.now) X) c.args.self.now c.read_table.new.self c.read_table.result
+    rw c.in-Frame.is (frame_reads (story_of (g.T.Tables.game c.args.self.now.tables.now) X) c.args.held.now c.read_table.new.held c.read_table.result
     (c.read_table.ensures.meaning X rows))
 
 pub returns-in-Response-clause-meaning : goal.returns-in-Response-clause-meaning
 returns-in-Response-clause-meaning g c X rows =
     let r = c.read_table-in-Response in
-    rw c.in-Response.is (response_reads (story_of (g.T.Tables.game c.args.tables.now) X) c.args.self.now r.new.self r.result (r.ensures.meaning X rows))
+    let own = story_of (g.T.Tables.game c.args.self.now.tables.now) X in
+    rw c.in-Response.is (response_reads own c.args.held.now r.new.held r.result (r.ensures.meaning X rows))
 
 pub returns-in-Describe-clause-meaning : goal.returns-in-Describe-clause-meaning
 returns-in-Describe-clause-meaning g c X rows = rw c.in-Describe.is (c.describe.ensures.meaning X rows)
 
 pub returns-in-Phrase-clause-meaning : goal.returns-in-Phrase-clause-meaning
 returns-in-Phrase-clause-meaning g c X rows =
+    let own = story_of (g.T.Tables.game c.args.self.now.tables.now) X in
     rw c.in-Phrase.is
-    (moves_read (story_of (g.T.Tables.game c.args.tables.now) X) (λ n r. turn (story_of (g.T.Tables.game c.args.tables.now) X) (suc n) AtPhrase r)
-    c.args.self.now c.phrase.new.self c.phrase.result
+    (moves_read own (λ n r. turn own (suc n) AtPhrase r)
+    c.args.held.now c.phrase.new.self c.phrase.result
     (c.phrase.ensures.meaning X) c.phrase.ensures.machine)

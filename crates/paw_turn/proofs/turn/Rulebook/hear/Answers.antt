@@ -1,11 +1,11 @@
 use Rattle.std.proofs.Common.{sym}
 use Rattle.paw_effects.specs.Story.{story_of}
 use Rattle.paw_turn.proofs.Answering.{ignored_plays}
-use Rattle.paw_turn.proofs.turn.Turn.hear.Goals as goal
+use Rattle.paw_turn.proofs.turn.Rulebook.hear.Goals as goal
 
 pub returns-then-is_ignored-clause-meaning : goal.returns-then-is_ignored-clause-meaning
 returns-then-is_ignored-clause-meaning g c X rows =
-    ignored_plays (story_of (g.T.Tables.game c.args.tables.now) X) c.args.prompt c.args.self.now c.args.line.now c.requires.ready.stands
+    ignored_plays (story_of (g.T.Tables.game c.args.self.now.tables.now) X) c.args.prompt c.args.held.now c.args.line.now c.requires.ready.stands
     (sym c.if-is_ignored.ensures.value)
 
 pub returns-in-Main-clause-meaning : goal.returns-in-Main-clause-meaning

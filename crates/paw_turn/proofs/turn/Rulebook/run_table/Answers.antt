@@ -4,24 +4,24 @@ use Rattle.paw_turn.specs.declared.turn.Turn.{Turn}
 use Rattle.paw_turn.proofs.Reading.{begun_runs}
 use Rattle.paw_turn.proofs.Falling.{uses}
 use Rattle.paw_turn.proofs.Waiting.{table_stops}
-use Rattle.paw_turn.proofs.turn.Turn.run_table.Goals as goal
+use Rattle.paw_turn.proofs.turn.Rulebook.run_table.Goals as goal
 
 pub returns-clause-runs : goal.returns-clause-runs
 returns-clause-runs g c X rows =
     let new : Turn = record { situation = c.run.new.situation; machine = c.run.new.self } in
-    begun_runs (story_of (g.T.Tables.game c.args.tables.now) X) c.args.table c.args.self.now new
+    begun_runs (story_of (g.T.Tables.game c.args.self.now.tables.now) X) c.args.table c.args.held.now new
     c.begin.new.self c.run.result c.begin.ensures.value (c.run.ensures.meaning X rows)
 
 pub returns-clause-uses : goal.returns-clause-uses
 returns-clause-uses g c =
     let new : Turn = record { situation = c.run.new.situation; machine = c.run.new.self } in
-    uses (story_of (g.T.Tables.game c.args.tables.now) c.requires.rows.0) c.args.table c.args.self.now new
+    uses (story_of (g.T.Tables.game c.args.self.now.tables.now) c.requires.rows.0) c.args.table c.args.held.now new
     c.run.result c.requires.read (returns-clause-runs g c c.requires.rows.0 c.requires.rows.1)
 
 pub returns-clause-stops : goal.returns-clause-stops
 returns-clause-stops g c =
     let new : Turn = record { situation = c.run.new.situation; machine = c.run.new.self } in
-    table_stops (story_of (g.T.Tables.game c.args.tables.now) c.requires.rows.0) c.args.table c.args.self.now new
+    table_stops (story_of (g.T.Tables.game c.args.self.now.tables.now) c.requires.rows.0) c.args.table c.args.held.now new
     c.run.result c.requires.read c.requires.ready.closed (returns-clause-runs g c c.requires.rows.0 c.requires.rows.1) c.run.ensures.stopped
 
 pub returns-clause-stays : goal.returns-clause-stays
