@@ -10,9 +10,9 @@ use Rattle.paw_base.specs.declared.rows.ParamKind.TheVariants as kind
 use Rattle.paw_base.specs.Condacts.{code_named, first_kind, second_kind, param_count, params_of}
 use Rattle.paw_game.specs.declared.parts.Word.{Word}
 use Rattle.paw_grammar.specs.declared.bounds.Bounds.{Bounds}
-use Rattle.paw_grammar.specs.declared.refusal.ReadError.{ReadError}
-use Rattle.paw_grammar.specs.declared.refusal.ReadError.TheVariants as errors
-use Rattle.paw_grammar.specs.inner.Gives.{Fails}
+use Rattle.paw_faults.specs.declared.unread.Unread.{Unread}
+use Rattle.paw_faults.specs.declared.unread.Unread.TheVariants as errors
+use Rattle.paw_faults.specs.inner.Gives.{Fails}
 use Rattle.paw_base.specs.Faults.{◌>>=◌}
 use Rattle.paw_grammar.specs.Tokens.{or_fault, read_by}
 use Rattle.paw_grammar.specs.Numbers.{number, in_range, number_below}
@@ -122,9 +122,9 @@ unfolding condacts_in
 one_fault bounds ws cs name ts k e = rw e refl
 
 pub fails_here : (bounds : Bounds) (ws : List Word) (cs : List Condact) (name : List ℕ) (ts old : List (List ℕ))
-    (whole : Result (List Condact) SourceKind) (e : ReadError) → old ≡ name ∷ ts
+    (whole : Result (List Condact) SourceKind) (e : Unread SourceKind) → old ≡ name ∷ ts
     → with_more_condacts cs (condacts_in bounds ws 0 old) ≡ whole → Fails e (condact bounds ws name ts) → Fails e whole
-fails_here bounds ws cs name ts old whole errors.NoRoom next invariant fails = tt
+fails_here bounds ws cs name ts old whole errors.Memory next invariant fails = tt
 fails_here bounds ws cs name ts old whole (errors.Fault k) next invariant fails =
     sym invariant ∙ ap (λ (x : List (List ℕ)). with_more_condacts cs (condacts_in bounds ws 0 x)) next ∙ one_fault bounds ws cs name ts k fails
 

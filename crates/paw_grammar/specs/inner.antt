@@ -1,5 +1,4 @@
 -- Words of contracts between crates, and of proofs. What a reader must believe doesn't reach them.
-pub mod Gives
 pub mod Numbers
 pub mod Condacts
 pub mod WordMap

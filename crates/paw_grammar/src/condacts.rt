@@ -1,7 +1,7 @@
 // The condacts of a line.
 
 ghost use Rattle.std.specs.Prelude.{◌≡◌, ◌≤◌, min};
-ghost use Rattle.paw_grammar.specs.inner.Gives.{Gives};
+ghost use Rattle.paw_faults.specs.inner.Gives.{Gives};
 ghost use Rattle.paw_grammar.specs.Numbers.{number_below};
 ghost use Rattle.paw_grammar.specs.Vocabulary.{word_or_none};
 ghost use Rattle.paw_grammar.specs.Condacts.{table, parameter, condact, condacts_in, with_more_condacts};
@@ -18,6 +18,7 @@ use paw_base::limits::CONDACT_LIMIT;
 use paw_base::parts::Condact;
 use paw_base::rows::{ParamKind, condact_named, condact_row};
 use paw_base::words::{ADJECTIVE_CLASS, ADVERB_CLASS, NOUN_CLASS, PREPOSITION_CLASS};
+use paw_faults::unread::Unread;
 use std::marker::Model;
 
 /// How many values flags, and numbers, have.
@@ -76,10 +77,10 @@ impl<'a> Scope<'a> {
         ensures { Gives (λ c. (c, tokens.new)) result (condact self.now.bounds self.now.words name.now tokens.old) }
     {
         let Some(code) = condact_named(name) else {
-            return Err(ReadError::Fault(SourceKind::Condact));
+            return Err(Unread::Fault(SourceKind::Condact));
         };
         let Some(row) = condact_row(code) else {
-            return Err(ReadError::Fault(SourceKind::Condact));
+            return Err(Unread::Fault(SourceKind::Condact));
         };
         let a = self.parameter(row.first, tokens)?;
         let b = self.parameter(row.second, tokens)?;
@@ -117,7 +118,7 @@ impl<'a> Scope<'a> {
     {
         self.add_condacts(tokens, rows)?;
         if rows.len() > CONDACT_LIMIT {
-            return Err(ReadError::Fault(SourceKind::TooBig));
+            return Err(Unread::Fault(SourceKind::TooBig));
         }
         Ok(())
     }

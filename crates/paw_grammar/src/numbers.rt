@@ -1,7 +1,7 @@
 // Numbers.
 
 ghost use Rattle.std.specs.Prelude.{◌≡◌, ◌<◌, ◌≤◌, OnOk};
-ghost use Rattle.paw_grammar.specs.inner.Gives.{Gives};
+ghost use Rattle.paw_faults.specs.inner.Gives.{Gives};
 ghost use Rattle.paw_grammar.specs.Tokens.{read_by};
 ghost use Rattle.paw_grammar.specs.Numbers.{is_digit, number, number_within, number_below, row_number};
 ghost use Rattle.paw_grammar.specs.inner.Numbers.{capped, capped_number};
@@ -9,6 +9,7 @@ ghost use Rattle.paw_grammar.specs.inner.Numbers.{capped, capped_number};
 use crate::refusal::ReadError;
 use crate::tokens::Tokens;
 use paw_base::fault::SourceKind;
+use paw_faults::unread::Unread;
 
 fn is_digit(byte: u8) -> bool
     ensures { result ≡ is_digit byte }
@@ -41,7 +42,7 @@ fn next_number(tokens: &mut Tokens) -> Result<u32, ReadError>
 {
     let token = tokens.token()?;
     match number(token) {
-        None => Err(ReadError::Fault(SourceKind::Number)),
+        None => Err(Unread::Fault(SourceKind::Number)),
         Some(number) => Ok(number),
     }
 }
@@ -58,7 +59,7 @@ pub fn number_within(tokens: &mut Tokens, low: u8, high: u8) -> Result<u8, ReadE
     if u32::from(low) <= number && number <= u32::from(high) {
         Ok(number as u8)
     } else {
-        Err(ReadError::Fault(SourceKind::Range))
+        Err(Unread::Fault(SourceKind::Range))
     }
 }
 
@@ -73,7 +74,7 @@ pub fn number_below(tokens: &mut Tokens, limit: u32) -> Result<u32, ReadError>
     if number < limit {
         Ok(number)
     } else {
-        Err(ReadError::Fault(SourceKind::Range))
+        Err(Unread::Fault(SourceKind::Range))
     }
 }
 
@@ -101,6 +102,6 @@ pub fn row_number(tokens: &mut Tokens, number: u16, count: u16) -> Result<(), Re
     if found == u32::from(number) && number < count {
         Ok(())
     } else {
-        Err(ReadError::Fault(SourceKind::Range))
+        Err(Unread::Fault(SourceKind::Range))
     }
 }

@@ -2,7 +2,7 @@
 
 ghost use Rattle.std.specs.Prelude.{◌≡◌, ◌<◌, ◌≤◌, ◌+◌, length};
 ghost use Rattle.std.specs.List.{position};
-ghost use Rattle.paw_grammar.specs.inner.Gives.{Gives};
+ghost use Rattle.paw_faults.specs.inner.Gives.{Gives};
 ghost use Rattle.paw_grammar.specs.Tokens.{is_named};
 ghost use Rattle.paw_grammar.specs.Numbers.{number};
 ghost use Rattle.paw_grammar.specs.inner.Numbers.{capped};
@@ -13,6 +13,7 @@ use crate::refusal::ReadError;
 use crate::tokens::Tokens;
 use crate::words::place_among;
 use paw_base::fault::SourceKind;
+use paw_faults::unread::Unread;
 
 /// The names of the places 252 to 255.
 static PLACE_NAMES: [&[u8]; 4] = [b"NOTCREATED", b"WORN", b"CARRIED", b"HERE"];
@@ -48,14 +49,14 @@ fn named_place(tokens: &mut Tokens, names: &[&[u8]], locations: u16) -> Result<u
 {
     let token = tokens.token()?;
     match place_by(names, token) {
-        None => Err(ReadError::Fault(SourceKind::Number)),
+        None => Err(Unread::Fault(SourceKind::Number)),
         Some(place) => {
             if place < u32::from(locations)
                 || FIRST_NAMED <= place && place < FIRST_NAMED + names.len() as u32
             {
                 Ok(place as u8)
             } else {
-                Err(ReadError::Fault(SourceKind::Range))
+                Err(Unread::Fault(SourceKind::Range))
             }
         }
     }

@@ -11,6 +11,7 @@ use crate::words::{class, object_kind, word};
 use paw_base::fault::SourceKind;
 use paw_base::parts::Condact;
 use paw_base::words::{ADJECTIVE_CLASS, NOUN_CLASS, VERB_CLASS};
+use paw_faults::unread::Unread;
 use paw_game::parts::Word;
 use paw_lex::Line;
 use std::alloc::Global;
@@ -36,7 +37,7 @@ fn tokens(source: &[u8]) -> Tokens<'_> {
 }
 
 fn fault<T>(kind: SourceKind) -> Result<T, ReadError> {
-    Err(ReadError::Fault(kind))
+    Err(Unread::Fault(kind))
 }
 
 fn declared(alloc: Global) -> Result<Vocabulary, ReadError> {

@@ -4,11 +4,12 @@ ghost use Rattle.std.specs.Prelude.{◌≡◌, ◌∷◌, [], MatchOption};
 ghost use Rattle.paw_lex.specs.inner.Lines.{bytes_of, LiesIn};
 ghost use Rattle.paw_lex.specs.Tokens.{tokens_of};
 ghost use Rattle.paw_lex.specs.inner.Tokens.{tokens_from};
-ghost use Rattle.paw_grammar.specs.inner.Gives.{Gives};
+ghost use Rattle.paw_faults.specs.inner.Gives.{Gives};
 ghost use Rattle.paw_grammar.specs.Tokens.{token, ended, is_named};
 
 use crate::refusal::ReadError;
 use paw_base::fault::SourceKind;
+use paw_faults::unread::Unread;
 use paw_lex::{Line, next_token};
 use std::marker::Model;
 
@@ -71,7 +72,7 @@ impl<'a> Tokens<'a> {
         ensures { Gives (λ t. (t.now, self.new)) result (token self.old) }
     {
         match self.next() {
-            None => Err(ReadError::Fault(SourceKind::Missing)),
+            None => Err(Unread::Fault(SourceKind::Missing)),
             Some(token) => Ok(token),
         }
     }
@@ -85,7 +86,7 @@ impl<'a> Tokens<'a> {
     {
         match self.next() {
             None => Ok(()),
-            Some(_) => Err(ReadError::Fault(SourceKind::Extra)),
+            Some(_) => Err(Unread::Fault(SourceKind::Extra)),
         }
     }
 }

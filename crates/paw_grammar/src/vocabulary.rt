@@ -3,7 +3,7 @@
 ghost use Rattle.std.specs.Prelude.{◌≡◌, [], length, None, Ok, IfOk};
 ghost use Rattle.std.specs.Option.{ok_or};
 ghost use Rattle.paw_game.specs.Tables.{word_of};
-ghost use Rattle.paw_grammar.specs.inner.Gives.{Gives};
+ghost use Rattle.paw_faults.specs.inner.Gives.{Gives};
 ghost use Rattle.paw_grammar.specs.Tokens.{read_by};
 ghost use Rattle.paw_grammar.specs.Vocabulary.{words_with, declared, known, in_class, as_verb, or_none};
 ghost use Rattle.paw_grammar.specs.Vocabulary.{or_any, word_or_none, verb_word, entry_verb, entry_noun};
@@ -15,6 +15,7 @@ use crate::words::letters_in;
 use paw_base::fault::{NoRoom, SourceKind};
 use paw_base::limits::{WORD_LENGTH, WORD_LIMIT};
 use paw_base::words::{ANY_WORD, FIRST_PLAIN_NOUN, NO_WORD, NOUN_CLASS, VERB_CLASS};
+use paw_faults::unread::Unread;
 use paw_game::parts::Word;
 use std::alloc::Global;
 use std::collections::BTreeMap;
@@ -57,7 +58,7 @@ fn put(words: &mut BTreeMap<[u8; WORD_LENGTH], Meaning>, word: Word) -> Result<(
     };
     match words.insert(word.letters, meaning) {
         Ok(_) => Ok(()),
-        Err(_) => Err(ReadError::NoRoom),
+        Err(_) => Err(Unread::Memory),
     }
 }
 
@@ -120,11 +121,11 @@ fn or_any(token: &[u8], value: Option<u8>) -> Option<u8>
 
 /// The value, or Word where there is none.
 fn or_word_fault(value: Option<u8>) -> Result<u8, ReadError>
-    ensures { result ≡ ok_or value (ReadError.Fault SourceKind.Word) }
+    ensures { result ≡ ok_or value (Unread.Fault SourceKind.Word) }
 {
     match value {
         Some(value) => Ok(value),
-        None => Err(ReadError::Fault(SourceKind::Word)),
+        None => Err(Unread::Fault(SourceKind::Word)),
     }
 }
 
@@ -163,10 +164,10 @@ impl Vocabulary {
         ensures { Gives (λ _. self.new) result (declared word self.old) }
     {
         if find(&self.words, word.letters).is_some() {
-            return Err(ReadError::Fault(SourceKind::Duplicate));
+            return Err(Unread::Fault(SourceKind::Duplicate));
         }
         if count(&self.words) == WORD_LIMIT {
-            return Err(ReadError::Fault(SourceKind::TooBig));
+            return Err(Unread::Fault(SourceKind::TooBig));
         }
         put(&mut self.words, word)
     }

@@ -3,7 +3,7 @@
 ghost use Rattle.std.specs.Prelude.{◌≡◌, ◌<◌, ◌&&◌, ◌+◌};
 ghost use Rattle.std.specs.List.{list_all, position};
 ghost use Rattle.std.specs.Char.{is_ascii_alphanumeric};
-ghost use Rattle.paw_grammar.specs.inner.Gives.{Gives};
+ghost use Rattle.paw_faults.specs.inner.Gives.{Gives};
 ghost use Rattle.paw_grammar.specs.Tokens.{is_named, read_by};
 ghost use Rattle.paw_grammar.specs.Vocabulary.{is_word_token, letters_of, letters_in, word, class_names};
 ghost use Rattle.paw_grammar.specs.Vocabulary.{place_among, class, kind_named, object_kind};
@@ -12,6 +12,7 @@ use crate::refusal::ReadError;
 use crate::tokens::{Tokens, is_named};
 use paw_base::fault::SourceKind;
 use paw_base::limits::WORD_LENGTH;
+use paw_faults::unread::Unread;
 
 /// The names of the classes of words, by class; conjunctions and pronouns are the last.
 static CLASS_NAMES: [&[u8]; 7] = [
@@ -67,7 +68,7 @@ pub fn word(tokens: &mut Tokens) -> Result<[u8; WORD_LENGTH], ReadError>
 {
     let token = tokens.token()?;
     match letters_in(token) {
-        None => Err(ReadError::Fault(SourceKind::Word)),
+        None => Err(Unread::Fault(SourceKind::Word)),
         Some(letters) => Ok(letters),
     }
 }
@@ -96,7 +97,7 @@ pub fn class(tokens: &mut Tokens) -> Result<u8, ReadError>
 {
     let token = tokens.token()?;
     match class_named(token) {
-        None => Err(ReadError::Fault(SourceKind::Word)),
+        None => Err(Unread::Fault(SourceKind::Word)),
         Some(class) => Ok(class),
     }
 }
@@ -126,7 +127,7 @@ pub fn object_kind(tokens: &mut Tokens) -> Result<(bool, bool), ReadError>
 {
     let token = tokens.token()?;
     match kind_named(token) {
-        None => Err(ReadError::Fault(SourceKind::Word)),
+        None => Err(Unread::Fault(SourceKind::Word)),
         Some(kind) => Ok(kind),
     }
 }

@@ -15,9 +15,9 @@ use Rattle.paw_image.specs.inner.CondactMarks.{IsEnd, GoesOnAt, AreMarks, KeepsP
 use Rattle.paw_image.specs.Damage.{Declared, Passing, each, after_condact}
 use Rattle.paw_base.specs.Faults.{◌>>=◌}
 use Rattle.paw_image.specs.Reading.{byte_at}
-use Rattle.paw_image.specs.inner.Reading.{Fails, leading_condact}
+use Rattle.paw_faults.specs.inner.Gives.{Fails}
 use Rattle.paw_image.specs.inner.Rows.{past_condact, condact_after, condact_among, value_of}
-use Rattle.paw_image.specs.declared.fault.ReadFault.{ReadFault}
+use Rattle.paw_faults.specs.declared.unread.Unread.{Unread}
 use Rattle.paw_image.proofs.EndLaws.{end_whole, end_taken, end_of_end}
 use Rattle.paw_image.proofs.Faults.{fails_next}
 use Rattle.paw_image.proofs.FieldLaws.{IsBytes, at_ok, bind_then}
@@ -201,7 +201,7 @@ marks_at marks (verb ∷ noun ∷ count ∷ condacts) le h =
 -- ---- as they are gone over ----
 
 -- the first fault of eight rows behind some is that of all
-pub eights_fail : (pass : List ℕ → Passing) (i count : ℕ) (bytes rest : List ℕ) (e : ReadFault) → i * 8 + 8 ≤ count
+pub eights_fail : (pass : List ℕ → Passing) (i count : ℕ) (bytes rest : List ℕ) (e : Unread ℕ) → i * 8 + 8 ≤ count
     → each pass (i * 8) bytes ≡ Ok rest → Fails e (each pass 8 rest) → Fails e (each pass count bytes)
 eights_fail pass i count bytes rest e le so_far h =
     let n = count - (i * 8 + 8) in

@@ -3,9 +3,9 @@ use Rattle.std.proofs.Common.{◌≡◌, ℕ, suc, ◌-◌, ◌+◌, ◌≤◌, 
 use Rattle.std.proofs.Common.{◌∙◌, append_assoc, arith}
 use Rattle.std.specs.List.{AllByRecursion}
 use Rattle.std.proofs.lemmas.List.{append-nil, map-append}
-use Rattle.paw_image.specs.declared.fault.ReadFault.{ReadFault}
-use Rattle.paw_image.specs.declared.fault.ReadFault.TheVariants as fault
-use Rattle.paw_image.specs.inner.Reading.{Fails}
+use Rattle.paw_faults.specs.declared.unread.Unread.{Unread}
+use Rattle.paw_faults.specs.declared.unread.Unread.TheVariants as fault
+use Rattle.paw_faults.specs.inner.Gives.{Fails}
 use Rattle.paw_image.specs.Damage.{Declared, Passing, each, exit_kept, after_exits_of, after_table}
 use Rattle.paw_image.specs.inner.Places.{begins, entries_begin, entries_of, tables_begin}
 use Rattle.paw_image.specs.declared.places.TableIndex.{TableIndex}
@@ -20,10 +20,10 @@ module _ (pass : List ℕ → Passing) (count i : ℕ) (bytes : List ℕ) (total
       let one : each pass (count - i) bytes ≡ each pass (count - (i + 1)) after = rw (k, h) refl in
       sym one ∙ so_far
 
-  pub each_ends : (e : ReadFault) → i < count → Fails e (pass bytes) → each pass (count - i) bytes ≡ total → Fails e total
+  pub each_ends : (e : Unread ℕ) → i < count → Fails e (pass bytes) → each pass (count - i) bytes ≡ total → Fails e total
   unfolding each
   each_ends fault.Memory lt h so_far = tt
-  each_ends (fault.Damaged left) lt h so_far =
+  each_ends (fault.Fault left) lt h so_far =
       let k : count - i ≡ suc (count - (i + 1)) = omega arith in
       let one : each pass (count - i) bytes ≡ Err left = rw (k, h) refl in
       sym so_far ∙ one
@@ -46,10 +46,10 @@ module _ (d : Declared) (verbs : List ℕ) (count i : ℕ) (bytes : List ℕ) (t
       let one : after_exits_of d verbs (count - i) bytes ≡ after_exits_of d (verb ∷ verbs) (count - (i + 1)) after = rw (k, h) refl in
       sym one ∙ so_far
 
-  pub exits_end : (e : ReadFault) → i < count → Fails e (exit_kept d verbs bytes) → after_exits_of d verbs (count - i) bytes ≡ total → Fails e total
+  pub exits_end : (e : Unread ℕ) → i < count → Fails e (exit_kept d verbs bytes) → after_exits_of d verbs (count - i) bytes ≡ total → Fails e total
   unfolding after_exits_of
   exits_end fault.Memory lt h so_far = tt
-  exits_end (fault.Damaged left) lt h so_far =
+  exits_end (fault.Fault left) lt h so_far =
       let k : count - i ≡ suc (count - (i + 1)) = omega arith in
       let one : after_exits_of d verbs (count - i) bytes ≡ Err left = rw (k, h) refl in
       sym so_far ∙ one

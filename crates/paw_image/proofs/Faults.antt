@@ -1,11 +1,12 @@
 -- Where a first step has no value, what follows it has none.
 use Rattle.std.proofs.Common.{◌≡◌, ℕ, suc, ◌+◌, ◌-◌, ◌<◌, List, None, Result, Ok, Err, refl, sym, subst, ◌∙◌, arith}
-use Rattle.paw_image.specs.declared.fault.ReadFault.{ReadFault}
-use Rattle.paw_image.specs.declared.fault.ReadFault.TheVariants as fault
+use Rattle.paw_faults.specs.declared.unread.Unread.{Unread}
+use Rattle.paw_faults.specs.declared.unread.Unread.TheVariants as fault
 use Rattle.paw_image.specs.Damage.{Passing, each}
 use Rattle.paw_base.specs.Faults.{◌>>=◌}
 use Rattle.paw_image.specs.Reading.{Reading}
-use Rattle.paw_image.specs.inner.Reading.{Fails, IsFault}
+use Rattle.paw_faults.specs.inner.Gives.{Fails}
+use Rattle.paw_image.specs.inner.Reading.{IsFault}
 use Rattle.paw_image.specs.inner.Rows.{value_of}
 
 pub fault_first : {A B : Type 0} (r : Result A ℕ) (f : A → Result B ℕ) → IsFault r → IsFault (r >>= f)
@@ -24,9 +25,9 @@ no_value (Ok x) h = absurd h
 no_value (Err left) h = refl
 
 -- a fault of a first step is one of what follows it
-pub fails_next : {A B : Type 0} (e : ReadFault) (r : Result A ℕ) (f : A → Result B ℕ) → Fails e r → Fails e (r >>= f)
+pub fails_next : {A B : Type 0} (e : Unread ℕ) (r : Result A ℕ) (f : A → Result B ℕ) → Fails e r → Fails e (r >>= f)
 fails_next fault.Memory r f h = tt
-fails_next (fault.Damaged left) r f h = rw h refl
+fails_next (fault.Fault left) r f h = rw h refl
 
 -- where one row has no value, so many have none
 pub each_fault : (pass : List ℕ → Passing) (count i : ℕ) (bytes : List ℕ) (total : Passing) → i < count

@@ -6,7 +6,7 @@ ghost use Rattle.paw_image.specs.Damage.{after_all, bad};
 ghost use Rattle.paw_image.specs.Images.{IsImage};
 ghost use Rattle.paw_image.specs.inner.Images.{AtDamage, IfDamaged};
 ghost use Rattle.paw_image.specs.inner.Places.{IsPassed};
-ghost use Rattle.paw_image.specs.inner.Reading.{Gives};
+ghost use Rattle.paw_faults.specs.inner.Gives.{Gives};
 ghost use Rattle.paw_base.specs.declared.limits.TheConstants.{IMAGE_LIMIT};
 
 use crate::fault::ReadFault;
@@ -15,6 +15,7 @@ use crate::places::{Places, pass_lists};
 use crate::refusal::ImageRefusal;
 use crate::rules::Rules;
 use paw_base::parts::Counts;
+use paw_faults::unread::Unread;
 use paw_game::parts::Word;
 use std::alloc::Global;
 
@@ -56,8 +57,8 @@ pub fn pass_whole(alloc: Global, bytes: &[u8]) -> Result<Passed, ImageRefusal>
     let left = match pass_all(alloc, bytes) {
         Ok((passed, [])) => return Ok(passed),
         Ok((_, rest)) => rest.len(),
-        Err(ReadFault::Damaged { left }) => left,
-        Err(ReadFault::Memory) => return Err(ImageRefusal::Memory),
+        Err(Unread::Fault(left)) => left,
+        Err(Unread::Memory) => return Err(ImageRefusal::Memory),
     };
     let at = bytes.len().saturating_sub(left) as u64;
     Err(ImageRefusal::Damaged { at })

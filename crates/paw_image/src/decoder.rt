@@ -8,10 +8,10 @@ ghost use Rattle.paw_image.specs.inner.Images.{IfDamaged};
 ghost use Rattle.paw_base.specs.declared.limits.TheConstants.{IMAGE_LIMIT};
 
 use crate::damage::damage;
-use crate::fault::ReadFault;
 use crate::parts::read_parts;
 use crate::refusal::ImageRefusal;
 use paw_base::limits::IMAGE_LIMIT;
+use paw_faults::unread::Unread;
 use paw_game::game::Game;
 use std::alloc::Global;
 
@@ -27,8 +27,8 @@ fn read_game(alloc: Global, bytes: &[u8]) -> Result<Option<Game>, ImageRefusal>
             Ok(game) => Ok(Some(game)),
             Err(_) => Ok(None),
         },
-        Err(ReadFault::Damaged { .. }) => Ok(None),
-        Err(ReadFault::Memory) => Err(ImageRefusal::Memory),
+        Err(Unread::Fault(_)) => Ok(None),
+        Err(Unread::Memory) => Err(ImageRefusal::Memory),
     }
 }
 

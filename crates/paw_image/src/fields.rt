@@ -4,10 +4,12 @@ ghost use Rattle.std.specs.Prelude.{◌≡◌, ◌^◌, ◌<◌, ◌++◌, lengt
 ghost use Rattle.paw_game.specs.Image.{two_bytes};
 ghost use Rattle.paw_image.specs.Damage.{number_kept};
 ghost use Rattle.paw_image.specs.Reading.{byte_at, bytes_at, number_at};
-ghost use Rattle.paw_image.specs.inner.Reading.{Gives, IsFault, pair_at};
-ghost use Rattle.paw_image.specs.declared.fault.ReadFault.TheVariants as fault;
+ghost use Rattle.paw_faults.specs.inner.Gives.{Gives};
+ghost use Rattle.paw_image.specs.inner.Reading.{IsFault, pair_at};
+ghost use Rattle.paw_faults.specs.declared.unread.Unread.TheVariants as fault;
 
 use crate::fault::ReadFault;
+use paw_faults::unread::Unread;
 use std::alloc::AllocError;
 
 /// The byte at the front.
@@ -16,7 +18,7 @@ pub fn read_byte(bytes: &[u8]) -> Result<(u8, &[u8]), ReadFault>
     ensures fails { OnErr result (IsFault (byte_at bytes.now)) }
 {
     match bytes {
-        [] => Err(ReadFault::Damaged { left: 0 }),
+        [] => Err(Unread::Fault(0)),
         [byte, rest @ ..] => Ok((*byte, rest)),
     }
 }
@@ -37,7 +39,7 @@ pub fn read_bytes(count: usize, bytes: &[u8]) -> Result<(&[u8], &[u8]), ReadFaul
     ensures fails { OnErr result (IsFault (bytes_at count bytes.now)) }
 {
     if bytes.len() < count {
-        return Err(ReadFault::Damaged { left: bytes.len() });
+        return Err(Unread::Fault(bytes.len()));
     }
     Ok(bytes.split_at(count))
 }
@@ -49,7 +51,7 @@ pub fn read_array<const N: usize>(bytes: &[u8]) -> Result<([u8; N], &[u8]), Read
 {
     match bytes.split_first_chunk::<N>() {
         Some((front, rest)) => Ok((*front, rest)),
-        None => Err(ReadFault::Damaged { left: bytes.len() }),
+        None => Err(Unread::Fault(bytes.len())),
     }
 }
 
@@ -76,9 +78,9 @@ pub fn read_within(least: usize, most: usize, bytes: &[u8]) -> Result<(u16, &[u8
 
 /// A fault in the field that these bytes begin with.
 pub fn fault_at(bytes: &[u8]) -> ReadFault
-    ensures value { result ≡ fault.Damaged (length bytes.now) }
+    ensures value { result ≡ fault.Fault (length bytes.now) }
 {
-    ReadFault::Damaged { left: bytes.len() }
+    Unread::Fault(bytes.len())
 }
 
 /// Writes a number as two bytes at the end, the low one first.

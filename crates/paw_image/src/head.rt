@@ -1,7 +1,7 @@
 // The fields at the front of an image, up to its words, each tested by its rule.
 
 ghost use Rattle.paw_image.specs.Damage.{after_version, counts_kept, front};
-ghost use Rattle.paw_image.specs.inner.Reading.{Gives};
+ghost use Rattle.paw_faults.specs.inner.Gives.{Gives};
 
 use crate::fault::ReadFault;
 use crate::fields::{fault_at, read_array, read_byte, read_within};

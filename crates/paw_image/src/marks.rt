@@ -4,7 +4,7 @@ ghost use Rattle.std.specs.Prelude.{◌≡◌, ◌+◌, ◌*◌, ◌≤◌, ◌<
 ghost use Rattle.paw_image.specs.inner.CondactMarks.{AreMarks, IsEnd, KeepsPlaces, MarkEntries, MarkEntry};
 ghost use Rattle.paw_image.specs.Damage.{after_condact, after_entry, each};
 ghost use Rattle.paw_image.specs.inner.Places.{begins};
-ghost use Rattle.paw_image.specs.inner.Reading.{Gives};
+ghost use Rattle.paw_faults.specs.inner.Gives.{Gives};
 
 use crate::fault::ReadFault;
 use crate::fields::{fault_at, read_byte};

@@ -4,7 +4,8 @@ ghost use Rattle.std.specs.Prelude.{◌≡◌, ◌++◌, IfOk, OnErr, OnOk};
 ghost use Rattle.paw_game.specs.Image.{parameter_image, condact_image, entry_image, table_image};
 ghost use Rattle.paw_image.specs.inner.Sizes.{FitsCondact, FitsEntry, FitsTable};
 ghost use Rattle.paw_image.specs.Damage.{after_parameter, after_condact};
-ghost use Rattle.paw_image.specs.inner.Reading.{Gives, IsFault, code_at, parameter_at};
+ghost use Rattle.paw_faults.specs.inner.Gives.{Gives};
+ghost use Rattle.paw_image.specs.inner.Reading.{IsFault, code_at, parameter_at};
 ghost use Rattle.paw_image.specs.inner.Reading.{leading_condact, leading_entry, leading_table};
 ghost use Rattle.paw_base.specs.inner.Condacts.{condact_row_of};
 
@@ -17,6 +18,7 @@ use crate::rows::{
 use crate::rules::Rules;
 use paw_base::parts::Condact;
 use paw_base::rows::{CondactRow, ParamKind, condact_row};
+use paw_faults::unread::Unread;
 use paw_game::parts::{Condacts, Entry, Table};
 use std::alloc::{AllocError, Global};
 
@@ -29,7 +31,7 @@ fn read_code(bytes: &[u8]) -> Result<((u8, CondactRow), &[u8]), ReadFault>
     let (code, rest) = read_byte(bytes)?;
     match condact_row(code) {
         Some(row) => Ok(((code, row), rest)),
-        None => Err(ReadFault::Damaged { left: bytes.len() }),
+        None => Err(Unread::Fault(bytes.len())),
     }
 }
 

@@ -1,9 +1,9 @@
 // What the lines that were read spell.
 
 ghost use Rattle.std.specs.Prelude.{◌≡◌, ◌<◌, true, length, Err, IfOk};
-ghost use Rattle.paw_grammar.specs.declared.refusal.ReadError.TheVariants.{Fault};
+ghost use Rattle.paw_faults.specs.declared.unread.Unread.TheVariants.{Fault};
 ghost use Rattle.paw_grammar.specs.inner.Condacts.{AreSmall};
-ghost use Rattle.paw_grammar.specs.inner.Gives.{Gives};
+ghost use Rattle.paw_faults.specs.inner.Gives.{Gives};
 ghost use Rattle.paw_grammar.specs.GrammarState.{game_of, nothing_yet};
 ghost use Rattle.paw_grammar.specs.GrammarTexts.{is_in_text};
 ghost use Rattle.paw_grammar.specs.GrammarHeads.{con_header, header, header_name, header_of, item_in, new_exits};
@@ -21,6 +21,7 @@ use crate::texts::{text_item, text_line};
 use paw_base::fault::{NoRoom, SourceKind};
 use paw_base::limits::{LOCATION_LIMIT, MESSAGE_LIMIT, OBJECT_LIMIT, SYSTEM_LIMIT};
 use paw_base::parts::ObjectFacts;
+use paw_faults::unread::Unread;
 use paw_game::parts::{Exits, GameParts, Table, Text};
 use paw_grammar::bounds::Bounds;
 use paw_grammar::condacts::Scope;
@@ -74,7 +75,7 @@ impl Model for Draft {
 fn fault(kind: SourceKind) -> Result<(), ReadError>
     ensures { result ≡ Err (Fault kind) }
 {
-    Err(ReadError::Fault(kind))
+    Err(Unread::Fault(kind))
 }
 
 /// The section whose header comes next.

@@ -1,12 +1,13 @@
 // The lines of a table.
 
 ghost use Rattle.std.specs.Prelude.{◌≡◌, ◌<◌, length};
-ghost use Rattle.paw_grammar.specs.inner.Gives.{Gives};
+ghost use Rattle.paw_faults.specs.inner.Gives.{Gives};
 ghost use Rattle.paw_grammar.specs.Condacts.{more_condacts};
 ghost use Rattle.paw_grammar.specs.GrammarRows.{entry_row, more_row};
 
 use paw_base::fault::SourceKind;
 use paw_base::limits::ENTRY_LIMIT;
+use paw_faults::unread::Unread;
 use paw_game::parts::{Condacts, Entry, Table};
 use paw_grammar::condacts::Scope;
 use paw_grammar::refusal::ReadError;
@@ -32,7 +33,7 @@ pub(crate) fn entry_row(
     let mut rows = Vec::new(alloc);
     scope.more_condacts(tokens, &mut rows)?;
     if table.entries.len() >= ENTRY_LIMIT {
-        return Err(ReadError::Fault(SourceKind::TooBig));
+        return Err(Unread::Fault(SourceKind::TooBig));
     }
     table.entries.push(Entry {
         verb,
@@ -56,7 +57,7 @@ pub(crate) fn more_row(
     ensures { Gives (λ _. table.new) result (more_row scope.now.bounds scope.now.words table.old tokens.old) }
 {
     if table.entries.is_empty() {
-        return Err(ReadError::Fault(SourceKind::Section));
+        return Err(Unread::Fault(SourceKind::Section));
     }
     let last = table.entries.len() - 1;
     let entry = &mut table.entries[last];

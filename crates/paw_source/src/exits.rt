@@ -1,10 +1,11 @@
 // The exits of locations.
 
 ghost use Rattle.std.specs.Prelude.{◌≡◌, ◌-◌, ◌++◌, ◌≤◌, [], length, replicate, OnOk};
-ghost use Rattle.paw_grammar.specs.inner.Gives.{Gives};
+ghost use Rattle.paw_faults.specs.inner.Gives.{Gives};
 ghost use Rattle.paw_grammar.specs.GrammarRows.{exit_row, has_exit};
 
 use paw_base::fault::SourceKind;
+use paw_faults::unread::Unread;
 use paw_game::parts::{Exit, Exits};
 use paw_grammar::numbers::byte_below;
 use paw_grammar::refusal::ReadError;
@@ -50,7 +51,7 @@ pub(crate) fn exit_row(
     let to = byte_below(tokens, locations)?;
     tokens.ended()?;
     if has_exit(&exits.rows, verb) {
-        return Err(ReadError::Fault(SourceKind::Duplicate));
+        return Err(Unread::Fault(SourceKind::Duplicate));
     }
     exits.rows.push(Exit { verb, to })?;
     Ok(())

@@ -2,7 +2,7 @@
 
 ghost use Rattle.std.specs.Prelude.{◌≡◌};
 ghost use Rattle.paw_lex.specs.inner.Lines.{bytes_of, LiesIn};
-ghost use Rattle.paw_grammar.specs.inner.Gives.{Gives};
+ghost use Rattle.paw_faults.specs.inner.Gives.{Gives};
 ghost use Rattle.paw_grammar.specs.Spells.{step};
 
 use crate::bytes::{
@@ -10,6 +10,7 @@ use crate::bytes::{
 };
 use crate::draft::Draft;
 use paw_base::fault::SourceKind;
+use paw_faults::unread::Unread;
 use paw_grammar::numbers::number;
 use paw_grammar::refusal::ReadError;
 use paw_grammar::tokens::Tokens;
@@ -41,7 +42,7 @@ impl Draft {
         let slash = begins_with_slash(bytes);
         let text = self.is_in_text() && !slash;
         if has_forbidden_byte(source, line, text) {
-            return Err(ReadError::Fault(SourceKind::Text));
+            return Err(Unread::Fault(SourceKind::Text));
         }
         if text {
             return self.text(bytes);

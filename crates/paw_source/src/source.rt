@@ -18,6 +18,7 @@ use crate::laws::drafts_are_valid;
 use crate::refusal::SourceRefusal;
 use paw_base::fault::{SourceFault, SourceKind};
 use paw_base::limits::{IMAGE_LIMIT, SOURCE_LIMIT, TABLE_LEAST};
+use paw_faults::unread::Unread;
 use paw_game::game::Game;
 use paw_grammar::refusal::ReadError;
 use paw_grammar::tokens::{Tokens, is_named};
@@ -63,8 +64,8 @@ fn at_line(line: u32, refused: ReadError) -> SourceRefusal
     ensures { result ≡ refused_at_line line refused }
 {
     match refused {
-        ReadError::NoRoom => SourceRefusal::Memory,
-        ReadError::Fault(kind) => SourceRefusal::Fault(SourceFault { line, kind }),
+        Unread::Memory => SourceRefusal::Memory,
+        Unread::Fault(kind) => SourceRefusal::Fault(SourceFault { line, kind }),
     }
 }
 
@@ -77,13 +78,13 @@ fn whole(alloc: Global, lines: u32, draft: Draft) -> Result<Game, SourceRefusal>
 {
     let line = lines + 1;
     if draft.tables() < TABLE_LEAST {
-        return Err(at_line(line, ReadError::Fault(SourceKind::Missing)));
+        return Err(at_line(line, Unread::Fault(SourceKind::Missing)));
     }
     let parts = draft.into_parts(alloc)?;
     // The lines of a draft keep the rules of a game.
     let game = Game::new(parts).unwrap();
     if image_length(&game) > IMAGE_LIMIT as u64 {
-        return Err(at_line(line, ReadError::Fault(SourceKind::TooBig)));
+        return Err(at_line(line, Unread::Fault(SourceKind::TooBig)));
     }
     Ok(game)
 }
@@ -122,7 +123,7 @@ pub fn read_source(alloc: Global, bytes: &[u8]) -> Result<Game, SourceRefusal>
     ensures small { IfOk result (λ game. length (image game) ≤ IMAGE_LIMIT) }
 {
     if bytes.len() > SOURCE_LIMIT {
-        return Err(at_line(0, ReadError::Fault(SourceKind::TooBig)));
+        return Err(at_line(0, Unread::Fault(SourceKind::TooBig)));
     }
     drafts_are_valid();
     let tables = count_tables(bytes);

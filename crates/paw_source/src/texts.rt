@@ -1,11 +1,12 @@
 // The texts of a section: items and text lines.
 
 ghost use Rattle.std.specs.Prelude.{◌≡◌, ◌<◌, ◌≤◌, ◌+◌, length, nat_le, suc, if◌then◌else◌};
-ghost use Rattle.paw_grammar.specs.inner.Gives.{Gives};
+ghost use Rattle.paw_faults.specs.inner.Gives.{Gives};
 ghost use Rattle.paw_grammar.specs.GrammarTexts.{joined_within, text_item, text_line};
 
 use paw_base::fault::SourceKind;
 use paw_base::limits::TEXT_LIMIT;
+use paw_faults::unread::Unread;
 use paw_game::parts::Text;
 use paw_grammar::refusal::ReadError;
 use std::alloc::Global;
@@ -24,10 +25,10 @@ pub(crate) fn text_item(
     ensures few { length texts.old.items ≤ limit → length texts.new.items ≤ limit }
 {
     if number as usize != texts.len() {
-        return Err(ReadError::Fault(SourceKind::Range));
+        return Err(Unread::Fault(SourceKind::Range));
     }
     if texts.len() >= limit {
-        return Err(ReadError::Fault(SourceKind::TooBig));
+        return Err(Unread::Fault(SourceKind::TooBig));
     }
     texts.push(Text {
         bytes: Vec::new(alloc),
@@ -54,7 +55,7 @@ fn join(text: &mut Text, begun: bool, line: &[u8]) -> Result<(), ReadError>
     ensures { Gives (λ _. text.new) result (joined_within begun line.now text.old) }
 {
     if !has_room(text.bytes.len(), begun, line.len()) {
-        return Err(ReadError::Fault(SourceKind::TooBig));
+        return Err(Unread::Fault(SourceKind::TooBig));
     }
     if begun {
         text.bytes.push(b'\n')?;

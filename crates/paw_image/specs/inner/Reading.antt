@@ -1,6 +1,6 @@
 -- Reading an image from left to right: words that contracts between crates and proofs use beside those of
 -- specs/Reading.antt.
-use Rattle.std.specs.Prelude.{◌≡◌, ℕ, zero, suc, not, List, [], ◌∷◌, length, Result}
+use Rattle.std.specs.Prelude.{ℕ, zero, suc, not, List, [], ◌∷◌, length, Result}
 use Rattle.std.specs.Prelude.{Ok, Err, nat_le, ◌==◌, bit_and, if◌then◌else◌}
 use Rattle.paw_base.specs.declared.codes.TheConstants.{LAST_CODE}
 use Rattle.paw_base.specs.declared.parts.Condact.{Condact}
@@ -13,23 +13,11 @@ use Rattle.paw_game.specs.declared.parts.ObjectRow.{ObjectRow}
 use Rattle.paw_game.specs.declared.parts.Exit.{Exit}
 use Rattle.paw_game.specs.declared.parts.Entry.{Entry}
 use Rattle.paw_game.specs.Game.{GameLists}
-use Rattle.paw_image.specs.declared.fault.ReadFault.{ReadFault}
-use Rattle.paw_image.specs.declared.fault.ReadFault.TheVariants as fault
 use Rattle.paw_image.specs.Damage.{Declared, front}
 use Rattle.paw_base.specs.Faults.{◌>>=◌}
 use Rattle.paw_image.specs.Reading.{Reading, byte_at, bytes_at, number_at}
 
 -- ---- what a function of the code gives ----
-
--- a fault that came is the fault of the reading; want of memory may always come
-abbrev pub Fails : {Y : Type 0} → ReadFault → Result Y ℕ → Type 0
-Fails fault.Memory reading = Unit {0}
-Fails (fault.Damaged left) reading = reading ≡ Err left
-
--- the function's value, seen by view, is that of the reading
-abbrev pub Gives : {X Y : Type 0} → (X → Y) → Result X ReadFault → Result Y ℕ → Type 0
-Gives view (Ok x) reading = reading ≡ Ok (view x)
-Gives view (Err e) reading = Fails e reading
 
 -- there is no value
 abbrev pub IsFault : {A : Type 0} → Result A ℕ → Type 0

@@ -10,7 +10,7 @@ returns-in-Ok-new-clause-found c =
 pub returns-in-Err-clause-none : goal.returns-in-Err-clause-none
 returns-in-Err-clause-none c = λ _. invalid_is_none c.args.bytes.now c.in-Ok.parts c.in-Ok.ensures.gives c.in-Err.ensures.refused
 
-pub returns-in-Err-Damaged-clause-none : goal.returns-in-Err-Damaged-clause-none
-returns-in-Err-Damaged-clause-none c =
-    λ _. fault_is_none c.args.bytes.now c.in-Err-Damaged.field-0-0
-    (rw c.in-Err-Damaged.field-0-is at c.in-Err-Damaged.ensures.gives)
+pub returns-in-Err-Fault-clause-none : goal.returns-in-Err-Fault-clause-none
+returns-in-Err-Fault-clause-none c =
+    λ _. fault_is_none c.args.bytes.now c.in-Err-Fault.field-0-0
+    (rw c.in-Err-Fault.field-0-is at c.in-Err-Fault.ensures.gives)

@@ -1,0 +1,6 @@
+//! Why something isn't read: for want of memory, or for its first fault.
+#![tactic(auto)]
+
+#[cfg(test)]
+mod tests;
+pub mod unread;

@@ -1,0 +1,26 @@
+// Faults and want of memory, told apart.
+
+use crate::unread::Unread;
+use std::alloc::AllocError;
+use std::test::Fail;
+
+/// The first even number; else how many numbers there are is the fault.
+fn first_even(numbers: &[u8]) -> Result<u8, Unread<usize>> {
+    for &n in numbers {
+        if n % 2 == 0 {
+            return Ok(n);
+        }
+    }
+    Err(Unread::Fault(numbers.len()))
+}
+
+#[test]
+fn a_fault_is_no_want_of_memory(rt: HostRuntime) -> Result<(), Fail> {
+    let memory = Unread::from(AllocError);
+    assert_eq!(rt; memory, Unread::Memory);
+    assert_eq!(rt; first_even(&[1, 4, 6]), Ok(4));
+    assert_eq!(rt; first_even(&[1, 3]), Err(Unread::Fault(2)));
+    assert_eq!(rt; first_even(&[]), Err(Unread::Fault(0)));
+    assert!(rt; first_even(&[]) != Err(memory));
+    Ok(())
+}
