@@ -1,6 +1,6 @@
 -- What playing the two halves of a trial comes to.
 use Rattle.std.proofs.Common.{◌≡◌, ℕ, ◌<◌, List, [], ◌++◌, length, drop, refl, sym, ap, ◌∙◌, subst, arith, append-nil}
-use Rattle.std.specs.Prelude.{◌-◌, All, Option, Some, None, IfSome, IfNone}
+use Rattle.std.specs.Prelude.{◌-◌, All}
 use Rattle.std.proofs.lemmas.List.{drop_all}
 use Rattle.sha2.specs.Sha256.{sha256}
 use Rattle.paw_game.specs.Image.{image}
@@ -23,38 +23,28 @@ use Rattle.paw_trial.specs.declared.TrialEnd.{TrialEnd}
 use Rattle.paw_trial.specs.declared.TrialEnd.TheVariants as end
 use Rattle.paw_trial.specs.Trial.{trial_story, trial_reading}
 use Rattle.paw_trial.specs.inner.Trial.{StopsAs}
-use Rattle.paw_trial.specs.inner.Session.{HoldsLines, Waits, first_half, second_half, stop_of, store_name}
+use Rattle.paw_trial.specs.declared.setting.Half.{Half}
+use Rattle.paw_trial.specs.declared.setting.Half.TheVariants as half
+use Rattle.paw_trial.specs.inner.Session.{HoldsLines, Waits, first_half, second_half, lines_of, lines_by, IsReadyFor, PlaysHalf, ComesTo, stop_of, store_name}
 use Rattle.paw_trial.proofs.Lines.{first_are, second_are, both_halves, plays_first, all_taken, taken_and_left}
 use Rattle.paw_trial.proofs.Stops.{stops_later, stops_since, waits_since}
 
 -- ---- lines that are added ----
 
 module _ (old new : Memory) (lines : List (List ℕ)) (is : new ≡ record old { lines = old.lines ++ lines }) where
-  pub added_lines : old.lines ≡ [] → (standing_of new).lines ≡ lines
+  added_lines : old.lines ≡ [] → (standing_of new).lines ≡ lines
   added_lines none = ap (λ (m : Memory). m.lines) is ∙ ap (λ l. l ++ lines) none
 
   pub added_stable : IsStable (standing_of old).disk → IsStable (standing_of new).disk
   added_stable stable = subst (λ (m : Memory). IsStable (standing_of m).disk) (sym is) stable
 
-  pub added_bytes : store_bytes (standing_of old) store_name ≡ store_bytes (standing_of new) store_name
+  added_bytes : store_bytes (standing_of old) store_name ≡ store_bytes (standing_of new) store_name
   added_bytes = ap (λ (m : Memory). store_bytes (standing_of m) store_name) (sym is)
 
--- nothing is unsynced at a stage just made
-pub empty_stable : (m : Memory) → m ≡ empty 4000 16000000 → IsStable (standing_of m).disk
-empty_stable m is = subst (λ (x : Memory). IsStable (standing_of x).disk) (sym is) (record { kept = refl; longest = refl; dirty = refl })
-
--- the session holds these lines, or the trial stops
-abbrev pub ComesTo : ℕ → List (List ℕ) → Standing → Option TrialEnd → Type 0
-ComesTo n es new None = HoldsLines n es new
-ComesTo n es new (Some stop) = StopsAs stop (trial_reading n)
-
-pub comes_held : (n : ℕ) (es : List (List ℕ)) (new : Standing) (o : Option TrialEnd) → ComesTo n es new o → IfNone o (HoldsLines n es new)
-comes_held n es new None h = h
-comes_held n es new (Some stop) h = tt
-
-pub comes_stopped : (n : ℕ) (es : List (List ℕ)) (new : Standing) (o : Option TrialEnd) → ComesTo n es new o → IfSome o (λ stop. StopsAs stop (trial_reading n))
-comes_stopped n es new None h = tt
-comes_stopped n es new (Some stop) h = h
+-- nothing is unsynced at a stage that is ready for a half
+pub ready_stable : (h : Half) (n : ℕ) (m : Memory) → IsReadyFor h n m → IsStable (standing_of m).disk
+ready_stable half.First n m is = subst (λ (x : Memory). IsStable (standing_of x).disk) (sym is) (record { kept = refl; longest = refl; dirty = refl })
+ready_stable half.Second n m holds = holds.stable
 
 -- Lines are played behind others, with more lines behind them. Whole is a reading that ends as that of the others and these.
 module _ (n : ℕ) (es lines behind : List (List ℕ)) (all : (es ++ lines) ++ behind ≡ trial_lines n) (are : All IsLine lines) (whole : EndingOf)
@@ -111,7 +101,7 @@ module _ (n : ℕ) (old new : Standing) (is : old.lines ≡ first_half n) where
       half_comes n [] (first_half n) (second_half n) (both_halves n) (first_are n) (reading (trial_story n) n)
       (λ stop fs h. h) (λ fs h. h) 0 MOST_EVENTS old new o is p
 
-pub first_comes : (n : ℕ) (old new : Standing) (o : PlayEnd) → old.lines ≡ first_half n →
+first_comes : (n : ℕ) (old new : Standing) (o : PlayEnd) → old.lines ≡ first_half n →
     PlaysGame (trial_story n) n store_name old new o → ComesTo n (first_half n) new (stop_of o)
 first_comes n old new _ is (unattached u) = tt
 first_comes n old new _ is (occupied some e) = tt
@@ -137,9 +127,20 @@ module _ (n : ℕ) (old new : Standing) (is : old.lines ≡ second_half n) where
       (reading_since (trial_story n) n (first_half n)) (length (first_half n)) store_name
       (MOST_EVENTS - length (first_half n)) (attached_to old store_name) new o) is p)
 
-pub second_comes : (n : ℕ) (old new : Standing) (o : PlayEnd) → n < 65536 → old.lines ≡ second_half n →
+second_comes : (n : ℕ) (old new : Standing) (o : PlayEnd) → n < 65536 → old.lines ≡ second_half n →
     Stands (trial_story n) n (first_half n) (store_bytes old store_name) →
     PlaysAgain (trial_story n) (sha256 (image (trial_game n))) store_name old new o → ComesTo n (trial_lines n) new (stop_of o)
 second_comes n old new o low is stands p =
     subst (λ lines. ComesTo n lines new (stop_of o)) (both_halves n)
     (taken_up n old new is o (standing_again (trial_story n) n (first_half n) store_name old new (plays_first n low) stands o p))
+
+-- ---- either half ----
+
+pub played_half : (h : Half) (n : ℕ) (old added : Memory) (new : Standing) (o : PlayEnd) → n < 65536 → IsReadyFor h n old →
+    added ≡ record old { lines = old.lines ++ lines_of h n } → PlaysHalf h n (standing_of added) new o →
+    ComesTo n (lines_by h n) new (stop_of o)
+played_half half.First n old added new o low is e p =
+    first_comes n (standing_of added) new o (added_lines old added (first_half n) e (ap (λ (m : Memory). m.lines) is)) p
+played_half half.Second n old added new o low holds e p =
+    second_comes n (standing_of added) new o low (added_lines old added (second_half n) e holds.none)
+    (subst (Stands (trial_story n) n (first_half n)) (added_bytes old added (second_half n) e) holds.stands) p

@@ -1,15 +1,13 @@
 // Playing the two halves of a trial, with a session in a stage in memory.
 
-ghost use Rattle.std.specs.Prelude.{◌≡◌, ◌++◌, [], IfOk, IfSome, IfNone, OnOk};
+ghost use Rattle.std.specs.Prelude.{◌≡◌, ◌++◌, [], IfOk, OnOk};
+ghost use Rattle.paw_stage.specs.Disk.{IsStable};
 ghost use Rattle.paw_stage.specs.inner.Memory.{empty, standing_of};
 ghost use Rattle.paw_routines.specs.Routines.{AreRowsOf};
-ghost use Rattle.paw_gen.specs.Trial.{trial_lines};
-ghost use Rattle.paw_trial.specs.Trial.{trial_reading};
-ghost use Rattle.paw_trial.specs.inner.Trial.{StopsAs};
-ghost use Rattle.paw_trial.specs.inner.Session.{HoldsLines, first_half, second_half, stop_of};
+ghost use Rattle.paw_trial.specs.inner.Session.{lines_by, IsReadyFor, PlaysHalf, ComesTo, stop_of};
 
 use crate::TrialEnd;
-use crate::setting::Setting;
+use crate::setting::{Half, Setting};
 use paw_base::fault::NoRoom;
 use paw_game::parts::Text;
 use paw_play::PlayEnd;
@@ -63,55 +61,42 @@ fn stop_of(end: PlayEnd) -> Option<TrialEnd>
     }
 }
 
-/// Plays the first half of the lines, with a new session and no routines. None where the session then waits for another
-/// line.
-pub(crate) fn play_first<F: Fn(u8, u8) -> u8>(
+/// Plays the lines that are left, with no routines: the first half with a new session, and the second with that session
+/// taken up again.
+fn play_lines<F: Fn(u8, u8) -> u8>(
     alloc: Global,
     setting: &Setting,
+    half: Half,
     routines: &Routines<F>,
     stage: &mut MemoryStage,
-) -> Option<TrialEnd>
+) -> PlayEnd
     requires rows { AreRowsOf F.Fn routines.now [] }
-    requires new { stage.old ≡ empty 4000 16000000 }
-    ensures holds { IfNone result (HoldsLines setting.now (first_half setting.now) (standing_of stage.new)) }
-    ensures stops { IfSome result (λ e. StopsAs e (trial_reading setting.now)) }
+    requires stable { IsStable (standing_of stage.old).disk }
+    ensures { PlaysHalf half setting.now (standing_of stage.old) (standing_of stage.new) result }
 {
-    let Ok(()) = add_lines(alloc, stage, setting.first_half()) else {
-        return Some(TrialEnd::Memory);
-    };
-    stop_of(play_loop(
-        alloc,
-        stage,
-        setting.game(),
-        routines,
-        u64::from(setting.number()),
-        setting.digest(),
-        STORE,
-    ))
+    let game = setting.game();
+    let digest = setting.digest();
+    let seed = u64::from(setting.number());
+    match half {
+        Half::First => play_loop(alloc, stage, game, routines, seed, digest, STORE),
+        Half::Second => resume_loop(alloc, stage, game, routines, digest, STORE),
+    }
 }
 
-/// Takes the session up again, and plays the second half of the lines. None where the session then waits for another
-/// line.
-pub(crate) fn play_second<F: Fn(u8, u8) -> u8>(
+/// Plays a half of the lines. None where the session then waits for another line.
+pub(crate) fn play_half<F: Fn(u8, u8) -> u8>(
     alloc: Global,
     setting: &Setting,
+    half: Half,
     routines: &Routines<F>,
     stage: &mut MemoryStage,
 ) -> Option<TrialEnd>
     requires rows { AreRowsOf F.Fn routines.now [] }
-    requires holds { HoldsLines setting.now (first_half setting.now) (standing_of stage.old) }
-    ensures holds { IfNone result (HoldsLines setting.now (trial_lines setting.now) (standing_of stage.new)) }
-    ensures stops { IfSome result (λ e. StopsAs e (trial_reading setting.now)) }
+    requires ready { IsReadyFor half setting.now stage.old }
+    ensures { ComesTo setting.now (lines_by half setting.now) (standing_of stage.new) result }
 {
-    let Ok(()) = add_lines(alloc, stage, setting.second_half()) else {
+    let Ok(()) = add_lines(alloc, stage, setting.half(half)) else {
         return Some(TrialEnd::Memory);
     };
-    stop_of(resume_loop(
-        alloc,
-        stage,
-        setting.game(),
-        routines,
-        setting.digest(),
-        STORE,
-    ))
+    stop_of(play_lines(alloc, setting, half, routines, stage))
 }

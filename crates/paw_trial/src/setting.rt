@@ -5,7 +5,7 @@ ghost use Rattle.sha2.specs.Sha256.{sha256};
 ghost use Rattle.paw_base.specs.declared.limits.TheConstants.{IMAGE_LIMIT};
 ghost use Rattle.paw_game.specs.Image.{image};
 ghost use Rattle.paw_gen.specs.Trial.{trial_game};
-ghost use Rattle.paw_trial.specs.inner.Session.{first_half, second_half};
+ghost use Rattle.paw_trial.specs.inner.Session.{lines_of};
 
 use paw_base::fault::NoRoom;
 use paw_game::game::Game;
@@ -16,6 +16,13 @@ use paw_image::refusal::ImageRefusal;
 use paw_journal::digest;
 use std::alloc::Global;
 use std::marker::Model;
+
+/// A half of the lines of a trial. The first is rounded down.
+#[derive(Clone, Copy, Drop, PartialEq, Eq, Debug)]
+pub(crate) enum Half {
+    First,
+    Second,
+}
 
 /// A trial: its number, its game, the digest of the game's image, and its lines. Contracts see the number.
 #[derive(Drop)]
@@ -96,18 +103,15 @@ impl Setting {
         &self.digest
     }
 
-    /// The first half of the lines, rounded down.
-    pub(crate) fn first_half(&self) -> &[Text]
-        ensures { result.now ≡ first_half self.now }
-    {
-        &self.lines[..self.lines.len() / 2]
-    }
-
-    /// The other lines.
-    pub(crate) fn second_half(&self) -> &[Text]
-        ensures lines { result.now ≡ second_half self.now }
+    /// The lines of a half.
+    pub(crate) fn half(&self, half: Half) -> &[Text]
+        ensures lines { result.now ≡ lines_of half self.now }
         ensures small { self.now < 65536 }
     {
-        &self.lines[self.lines.len() / 2..]
+        let middle = self.lines.len() / 2;
+        match half {
+            Half::First => &self.lines[..middle],
+            Half::Second => &self.lines[middle..],
+        }
     }
 }

@@ -6,8 +6,8 @@ ghost use Rattle.paw_trial.specs.inner.Trial.{IsTextOf, StopsAs};
 ghost use Rattle.paw_trial.specs.inner.Session.{IsTallyOf};
 
 use crate::counting::counted;
-use crate::halves::{new_stage, play_first, play_second};
-use crate::setting::Setting;
+use crate::halves::{new_stage, play_half};
+use crate::setting::{Half, Setting};
 use crate::{Tally, TrialEnd};
 use paw_base::fault::NoRoom;
 use paw_gen::{line_count, location_count, object_count};
@@ -46,10 +46,10 @@ fn played(alloc: Global, n: u16) -> Result<Tally, TrialEnd>
     };
     // the game calls no routine
     let routines = Routines::new(0, |_, x| x);
-    if let Some(end) = play_first(alloc, &setting, &routines, &mut stage) {
+    if let Some(end) = play_half(alloc, &setting, Half::First, &routines, &mut stage) {
         return Err(end);
     }
-    if let Some(end) = play_second(alloc, &setting, &routines, &mut stage) {
+    if let Some(end) = play_half(alloc, &setting, Half::Second, &routines, &mut stage) {
         return Err(end);
     }
     match counted(alloc, &setting, &mut stage) {

@@ -1,18 +1,24 @@
 -- The session of a trial, on the way.
 use Rattle.std.specs.Prelude.{◌≡◌, ℕ, ◌+◌, ◌*◌, ◌/◌, List, [], length, take}
 use Rattle.std.specs.Prelude.{drop, codes, slice_index, Option, Some, None}
+use Rattle.sha2.specs.Sha256.{sha256}
 use Rattle.paw_base.specs.declared.flags.TheConstants.{CARRIED_FLAG, LOCATION_FLAG}
+use Rattle.paw_game.specs.Image.{image}
 use Rattle.paw_stage.specs.Disk.{IsStable}
 use Rattle.paw_stage.specs.Stage.{Standing}
+use Rattle.paw_stage.specs.inner.Memory.{Memory, empty, standing_of}
 use Rattle.paw_effects.specs.Counts.{turns_taken}
 use Rattle.paw_world.specs.World.{World, flag}
 use Rattle.paw_reading.specs.Turn.{Ending, WaitsAt, reading}
 use Rattle.paw_play.specs.declared.PlayEnd.{PlayEnd}
 use Rattle.paw_play.specs.declared.PlayEnd.TheVariants as play
-use Rattle.paw_play.specs.Play.{store_bytes}
+use Rattle.paw_play.specs.Play.{store_bytes, PlaysGame, PlaysAgain}
 use Rattle.paw_play.specs.Stands.{Stands}
-use Rattle.paw_gen.specs.Trial.{trial_lines}
-use Rattle.paw_trial.specs.Trial.{trial_story}
+use Rattle.paw_gen.specs.Trial.{trial_game, trial_lines}
+use Rattle.paw_trial.specs.Trial.{trial_story, trial_reading}
+use Rattle.paw_trial.specs.inner.Trial.{StopsAs}
+use Rattle.paw_trial.specs.declared.setting.Half.{Half}
+use Rattle.paw_trial.specs.declared.setting.Half.TheVariants as half
 use Rattle.paw_trial.specs.declared.TrialEnd.{TrialEnd}
 use Rattle.paw_trial.specs.declared.TrialEnd.TheVariants as end
 use Rattle.paw_trial.specs.declared.Tally.{Tally}
@@ -28,6 +34,16 @@ first_half n = take (length (trial_lines n) / 2) (trial_lines n)
 abbrev pub second_half : ℕ → List (List ℕ)
 second_half n = drop (length (trial_lines n) / 2) (trial_lines n)
 
+-- the lines of a half
+abbrev pub lines_of : Half → ℕ → List (List ℕ)
+lines_of half.First n = first_half n
+lines_of half.Second n = second_half n
+
+-- the lines that are played once a half is
+abbrev pub lines_by : Half → ℕ → List (List ℕ)
+lines_by half.First n = first_half n
+lines_by half.Second n = trial_lines n
+
 -- the reading waits for another line
 abbrev pub Waits : Ending → Type 0
 Waits (WaitsAt p path r) = Unit {0}
@@ -40,6 +56,21 @@ pub record HoldsLines (n : ℕ) (es : List (List ℕ)) (s : Standing) : Type 0 w
   pub none : s.lines ≡ []
   pub waits : Waits (reading (trial_story n) n es)
   pub stands : Stands (trial_story n) n es (store_bytes s store_name)
+
+-- A stage is ready for a half: it is new, or it holds the first half.
+abbrev pub IsReadyFor : Half → ℕ → Memory → Type 0
+IsReadyFor half.First n m = m ≡ empty 4000 16000000
+IsReadyFor half.Second n m = HoldsLines n (first_half n) (standing_of m)
+
+-- The lines of a half are played: with a new session, or with that session taken up again.
+abbrev pub PlaysHalf : Half → ℕ → Standing → Standing → PlayEnd → Type 0
+PlaysHalf half.First n old new end = PlaysGame (trial_story n) n store_name old new end
+PlaysHalf half.Second n old new end = PlaysAgain (trial_story n) (sha256 (image (trial_game n))) store_name old new end
+
+-- The session holds these lines, or the trial stops.
+abbrev pub ComesTo : ℕ → List (List ℕ) → Standing → Option TrialEnd → Type 0
+ComesTo n es new None = HoldsLines n es new
+ComesTo n es new (Some stop) = StopsAs stop (trial_reading n)
 
 -- how a trial stops where playing comes to this; it goes on where no line is left
 abbrev pub stop_of : PlayEnd → Option TrialEnd

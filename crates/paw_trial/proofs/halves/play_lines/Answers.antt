@@ -1,0 +1,43 @@
+use Rattle.std.proofs.Common.{◌≡◌, [], arith, sym, subst, ap, ◌∙◌}
+use Rattle.sha2.specs.Sha256.{sha256}
+use Rattle.paw_game.specs.Image.{image}
+use Rattle.paw_stage.specs.inner.Memory.{standing_of}
+use Rattle.paw_effects.specs.Story.{story_of}
+use Rattle.paw_play.specs.Play.{PlaysGame, PlaysAgain}
+use Rattle.paw_gen.specs.Trial.{trial_game}
+use Rattle.paw_trial.specs.inner.Session.{PlaysHalf, store_name}
+use Rattle.paw_trial.proofs.halves.play_lines.Goals as goal
+
+pub play_loop-requires-clause-rows : goal.play_loop-requires-clause-rows
+play_loop-requires-clause-rows g c = ([], c.requires.rows)
+
+pub play_loop-requires-clause-game : goal.play_loop-requires-clause-game
+play_loop-requires-clause-game g c = c.digest-digest.ensures.digest ∙ ap (λ g. sha256 (image g)) (sym c.game-game.ensures)
+
+pub resume_loop-requires-clause-rows : goal.resume_loop-requires-clause-rows
+resume_loop-requires-clause-rows g c = ([], c.requires.rows)
+
+pub resume_loop-requires-clause-game : goal.resume_loop-requires-clause-game
+resume_loop-requires-clause-game g c = c.digest-digest.ensures.digest ∙ ap (λ g. sha256 (image g)) (sym c.game-game.ensures)
+
+pub returns-in-First : goal.returns-in-First
+returns-in-First g c =
+    let n = c.args.setting.now in
+    let old = standing_of c.args.stage.now in
+    let new = standing_of c.play_loop.new.stage in
+    let seed : c.from-seed.result ≡ n = omega arith in
+    subst (λ h. PlaysHalf h n old new c.play_loop.result) (sym c.in-First.is)
+    (subst (λ g. PlaysGame (story_of g []) n store_name old new c.play_loop.result) c.game-game.ensures
+    (subst (λ s. PlaysGame (story_of c.game-game.result.now []) s store_name old new c.play_loop.result) seed
+    (c.play_loop.ensures.plays tt [] c.requires.rows)))
+
+pub returns-in-Second : goal.returns-in-Second
+returns-in-Second g c =
+    let n = c.args.setting.now in
+    let old = standing_of c.args.stage.now in
+    let new = standing_of c.resume_loop.new.stage in
+    subst (λ h. PlaysHalf h n old new c.resume_loop.result) (sym c.in-Second.is)
+    (subst (λ g. PlaysAgain (story_of g []) (sha256 (image (trial_game n))) store_name old new c.resume_loop.result)
+    c.game-game.ensures
+    (subst (λ d. PlaysAgain (story_of c.game-game.result.now []) d store_name old new c.resume_loop.result)
+    c.digest-digest.ensures.digest (c.resume_loop.ensures.plays tt [] c.requires.rows)))
