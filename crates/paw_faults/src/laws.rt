@@ -1,0 +1,19 @@
+// What an answer tells of what is read.
+
+ghost use Rattle.std.specs.Prelude.{ℕ, ◌≡◌, Result, Ok, Err};
+ghost use Rattle.paw_faults.specs.inner.Gives.{Gives};
+ghost use Rattle.paw_faults.specs.declared.unread.Unread.TheVariants as unread;
+
+/// What is answered tells what is read: what gives the same value is the same, what gives the same fault too, and
+/// nothing gives both a value and a fault.
+pub fn answers_tell_the_reading()
+    ensures value { (f : ℕ → ℕ) (x : ℕ) (r s : Result ℕ ℕ) → Gives f (Ok x) r → Gives f (Ok x) s → r ≡ s }
+    ensures fault { (f : ℕ → ℕ) (n : ℕ) (r s : Result ℕ ℕ)
+        → Gives f (Err (unread.Fault n)) r → Gives f (Err (unread.Fault n)) s → r ≡ s }
+    ensures apart { (f : ℕ → ℕ) (x n : ℕ) (r : Result ℕ ℕ) → Gives f (Ok x) r → ¬ Gives f (Err (unread.Fault n)) r }
+{}
+
+/// Memory may be wanting whatever is read.
+pub fn memory_may_be_wanting()
+    ensures always { (f : ℕ → ℕ) (r : Result ℕ ℕ) → Gives f (Err unread.Memory) r }
+{}
