@@ -3,7 +3,7 @@ use Rattle.std.proofs.Common.{◌≡◌, ℕ, ◌≤◌, List, length, Ok, Err, 
 use Rattle.paw_game.specs.Game.{GameLists}
 use Rattle.paw_game.specs.Valid.{Valid}
 use Rattle.paw_game.specs.Image.{image}
-use Rattle.paw_faults.specs.declared.unread.Unread.TheVariants as fault
+use Rattle.paw_faults.specs.declared.unread.Unread.TheVariants as unread
 use Rattle.paw_base.specs.declared.limits.TheConstants.{IMAGE_LIMIT}
 use Rattle.paw_image.specs.Images.{IsImage}
 use Rattle.paw_faults.specs.inner.Gives.{Fails}
@@ -34,7 +34,7 @@ invalid_is_none bytes parts e invalid g is =
     invalid (subst Valid same is.valid)
 
 -- what a refusal says of bytes that aren't read
-pub fault_is_none : (bytes : List ℕ) (left : ℕ) → Fails (fault.Fault left) (all_of bytes) → (g : GameLists) → IsImage bytes g → ⊥
+pub fault_is_none : (bytes : List ℕ) (left : ℕ) → Fails (unread.Fault left) (all_of bytes) → (g : GameLists) → IsImage bytes g → ⊥
 fault_is_none bytes left e = unread_is_none bytes left e
 
 -- bytes that are read as the lists of a game are its image, and that of no other

@@ -6,7 +6,7 @@ ghost use Rattle.paw_image.specs.Damage.{number_kept};
 ghost use Rattle.paw_image.specs.Reading.{byte_at, bytes_at, number_at};
 ghost use Rattle.paw_faults.specs.inner.Gives.{Gives};
 ghost use Rattle.paw_image.specs.inner.Reading.{IsFault, pair_at};
-ghost use Rattle.paw_faults.specs.declared.unread.Unread.TheVariants as fault;
+ghost use Rattle.paw_faults.specs.declared.unread.Unread.TheVariants as unread;
 
 use crate::fault::ReadFault;
 use paw_faults::unread::Unread;
@@ -78,7 +78,7 @@ pub fn read_within(least: usize, most: usize, bytes: &[u8]) -> Result<(u16, &[u8
 
 /// A fault in the field that these bytes begin with.
 pub fn fault_at(bytes: &[u8]) -> ReadFault
-    ensures value { result ≡ fault.Fault (length bytes.now) }
+    ensures value { result ≡ unread.Fault (length bytes.now) }
 {
     Unread::Fault(bytes.len())
 }
