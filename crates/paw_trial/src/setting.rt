@@ -18,7 +18,7 @@ use std::alloc::Global;
 use std::marker::Model;
 
 /// A half of the lines of a trial. The first is rounded down.
-#[derive(Clone, Copy, Drop, PartialEq, Eq, Debug)]
+#[derive(Clone, Copy, Drop)]
 pub(crate) enum Half {
     First,
     Second,
