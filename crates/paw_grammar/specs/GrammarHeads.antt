@@ -11,7 +11,7 @@ use Rattle.paw_base.specs.Faults.{◌>>=◌}
 use Rattle.paw_grammar.specs.Tokens.{token, ended, is_named}
 use Rattle.paw_grammar.specs.Numbers.{number}
 use Rattle.paw_grammar.specs.GrammarState.{Spelt}
-use Rattle.paw_grammar.specs.GrammarTexts.{text_item, text_limit, texts_of, with_texts}
+use Rattle.paw_grammar.specs.GrammarTexts.{is_text_section, text_item, text_limit, texts_of, with_texts}
 
 -- ---- headers ----
 
@@ -73,14 +73,9 @@ pro_header d ts = token ts >>= λ t. table_header d t.1 (number t.0)
 -- the header of a section, after its name
 abbrev pub header_of : Section → Spelt → List (List ℕ) → Result Spelt SourceKind
 header_of section.Before d ts = Err kind.Section
-header_of section.Voc d ts = plain_header section.Voc d ts
-header_of section.Stx d ts = plain_header section.Stx d ts
-header_of section.Mtx d ts = plain_header section.Mtx d ts
-header_of section.Otx d ts = plain_header section.Otx d ts
-header_of section.Ltx d ts = plain_header section.Ltx d ts
 header_of section.Con d ts = con_header d ts
-header_of section.Obj d ts = plain_header section.Obj d ts
 header_of section.Pro d ts = pro_header d ts
+header_of s d ts = plain_header s d ts
 
 -- a header has to be the next in order
 abbrev pub header : Spelt → List ℕ → List (List ℕ) → Result Spelt SourceKind
@@ -102,15 +97,8 @@ new_exits d n =
 
 -- an item of a section; only texts and exits have items
 abbrev pub item_in : Section → Spelt → ℕ → Result Spelt SourceKind
-item_in section.Before d n = Err kind.Section
-item_in section.Voc d n = Err kind.Section
-item_in section.Stx d n = new_text section.Stx d n
-item_in section.Mtx d n = new_text section.Mtx d n
-item_in section.Otx d n = new_text section.Otx d n
-item_in section.Ltx d n = new_text section.Ltx d n
 item_in section.Con d n = new_exits d n
-item_in section.Obj d n = Err kind.Section
-item_in section.Pro d n = Err kind.Section
+item_in s d n = if is_text_section s then new_text s d n else Err kind.Section
 
 -- ---- the line ----
 

@@ -121,14 +121,10 @@ pro_row p d more ts =
 
 -- ---- a row ----
 
--- a row of a section; texts have none
+-- a row of a section; of the others none has rows
 abbrev pub row_in : Section → ℕ → Spelt → Bool → List (List ℕ) → Result Spelt SourceKind
-row_in section.Before p d more ts = Err fault.Section
 row_in section.Voc p d more ts = voc_row d.words ts >>= λ ws. Ok (record d { words = ws })
-row_in section.Stx p d more ts = Err fault.Section
-row_in section.Mtx p d more ts = Err fault.Section
-row_in section.Otx p d more ts = Err fault.Section
-row_in section.Ltx p d more ts = Err fault.Section
 row_in section.Con p d more ts = con_row d ts
 row_in section.Obj p d more ts = obj_row d ts
 row_in section.Pro p d more ts = pro_row p d more ts
+row_in _ p d more ts = Err fault.Section

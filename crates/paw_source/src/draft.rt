@@ -212,16 +212,25 @@ impl Draft {
     fn item(&mut self, alloc: Global, number: u32) -> Result<(), ReadError>
         ensures { Gives (λ _. self.new) result (item_in self.old.section self.old number) }
     {
-        if let Section::Con = self.section {
-            return self.new_exits(alloc, number);
-        }
-        self.begun = false;
         match self.section {
-            Section::Stx => text_item(alloc, &mut self.system, SYSTEM_LIMIT, number),
-            Section::Mtx => text_item(alloc, &mut self.messages, MESSAGE_LIMIT, number),
-            Section::Otx => text_item(alloc, &mut self.names, OBJECT_LIMIT, number),
-            Section::Ltx => text_item(alloc, &mut self.locations, LOCATION_LIMIT, number),
-            Section::Before | Section::Voc | Section::Con | Section::Obj | Section::Pro => {
+            Section::Stx => {
+                self.begun = false;
+                text_item(alloc, &mut self.system, SYSTEM_LIMIT, number)
+            }
+            Section::Mtx => {
+                self.begun = false;
+                text_item(alloc, &mut self.messages, MESSAGE_LIMIT, number)
+            }
+            Section::Otx => {
+                self.begun = false;
+                text_item(alloc, &mut self.names, OBJECT_LIMIT, number)
+            }
+            Section::Ltx => {
+                self.begun = false;
+                text_item(alloc, &mut self.locations, LOCATION_LIMIT, number)
+            }
+            Section::Con => self.new_exits(alloc, number),
+            Section::Before | Section::Voc | Section::Obj | Section::Pro => {
                 fault(SourceKind::Section)
             }
         }
