@@ -121,7 +121,7 @@ pro_row p d more ts =
 
 -- ---- a row ----
 
--- a row of a section; of the others none has rows
+-- a row of a section; no other section has rows
 abbrev pub row_in : Section → ℕ → Spelt → Bool → List (List ℕ) → Result Spelt SourceKind
 row_in section.Voc p d more ts = voc_row d.words ts >>= λ ws. Ok (record d { words = ws })
 row_in section.Con p d more ts = con_row d ts

@@ -10,14 +10,6 @@ use Rattle.paw_grammar.specs.declared.section.Section.TheVariants as section
 use Rattle.paw_base.specs.Faults.{◌>>=◌}
 use Rattle.paw_grammar.specs.GrammarState.{Spelt, last_or, with_last}
 
--- a section of texts
-abbrev pub is_text_section : Section → Bool
-is_text_section section.Stx = true
-is_text_section section.Mtx = true
-is_text_section section.Otx = true
-is_text_section section.Ltx = true
-is_text_section _ = false
-
 -- the texts of a section
 abbrev pub texts_of : Section → Spelt → List (List ℕ)
 texts_of section.Stx d = d.system
@@ -34,13 +26,17 @@ with_texts section.Otx begun ts d = record d { names = ts; begun = begun }
 with_texts section.Ltx begun ts d = record d { locations = ts; begun = begun }
 with_texts _ begun ts d = d
 
--- the most items of a section
+-- the most texts of a section
 abbrev pub text_limit : Section → ℕ
 text_limit section.Stx = SYSTEM_LIMIT
 text_limit section.Mtx = MESSAGE_LIMIT
 text_limit section.Otx = OBJECT_LIMIT
 text_limit section.Ltx = LOCATION_LIMIT
 text_limit _ = 0
+
+-- a section of texts, which may have some
+abbrev pub is_text_section : Section → Bool
+is_text_section s = nat_lt 0 (text_limit s)
 
 -- the texts with an empty one more: its number is how many there were before, and there may be no more than the limit
 abbrev pub text_item : ℕ → ℕ → List (List ℕ) → Result (List (List ℕ)) SourceKind
