@@ -1,6 +1,6 @@
 -- The condacts of a line.
-use Rattle.std.specs.Prelude.{ℕ, zero, suc, ◌+◌, ◌||◌, List, [], ◌∷◌, ◌++◌, length, min, nat_lt}
-use Rattle.std.specs.Prelude.{if◌then◌else◌, Option, Some, None, Result, Ok, Err, codes}
+use Rattle.std.specs.Prelude.{ℕ, zero, suc, ◌+◌, ◌||◌, List, [], ◌∷◌, ◌++◌, min, nat_lt}
+use Rattle.std.specs.Prelude.{Option, Some, None, Result, Ok, Err, codes}
 use Rattle.std.specs.Option.{option_map}
 use Rattle.paw_base.specs.declared.places.TheConstants.{NOT_CREATED_PLACE, CARRIED_PLACE, HERE_PLACE}
 use Rattle.paw_base.specs.declared.words.TheConstants.{ADVERB_CLASS, NOUN_CLASS, ADJECTIVE_CLASS, PREPOSITION_CLASS}
@@ -15,7 +15,7 @@ use Rattle.paw_game.specs.declared.parts.Word.{Word}
 use Rattle.paw_game.specs.Valid.{is_within}
 use Rattle.paw_grammar.specs.declared.bounds.Bounds.{Bounds}
 use Rattle.paw_base.specs.Faults.{◌>>=◌}
-use Rattle.paw_grammar.specs.Tokens.{or_fault, read_by}
+use Rattle.paw_grammar.specs.Tokens.{or_fault, read_by, at_most}
 use Rattle.paw_grammar.specs.Numbers.{number, in_range, number_below}
 use Rattle.paw_grammar.specs.Vocabulary.{place_among, word_or_none}
 
@@ -94,10 +94,6 @@ condacts_in bounds ws zero (t ∷ ts) = do
 abbrev pub with_more_condacts : List Condact → Result (List Condact) SourceKind → Result (List Condact) SourceKind
 with_more_condacts before cs = cs >>= λ more. Ok (before ++ more)
 
--- an entry has at most 255 condacts
-abbrev pub at_most_255 : List Condact → Result (List Condact) SourceKind
-at_most_255 cs = if nat_lt CONDACT_LIMIT (length cs) then Err fault.TooBig else Ok cs
-
--- an entry's condacts after a line of it
+-- an entry's condacts after a line of it: 255 at most
 unfoldable pub more_condacts : Bounds → List Word → List Condact → List (List ℕ) → Result (List Condact) SourceKind
-more_condacts bounds ws before ts = with_more_condacts before (condacts_in bounds ws 0 ts) >>= at_most_255
+more_condacts bounds ws before ts = with_more_condacts before (condacts_in bounds ws 0 ts) >>= at_most CONDACT_LIMIT

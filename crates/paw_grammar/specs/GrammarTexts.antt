@@ -1,5 +1,5 @@
 -- The four sections of texts: items and text lines.
-use Rattle.std.specs.Prelude.{ℕ, ◌==◌, ◌&&◌, Bool, true, false, not, List, [], ◌∷◌}
+use Rattle.std.specs.Prelude.{ℕ, ◌==◌, ◌&&◌, Bool, not, List, [], ◌∷◌}
 use Rattle.std.specs.Prelude.{◌++◌, length, nat_lt, if◌then◌else◌, Result, Ok, Err}
 use Rattle.paw_base.specs.declared.limits.TheConstants.{SYSTEM_LIMIT, MESSAGE_LIMIT, OBJECT_LIMIT, LOCATION_LIMIT}
 use Rattle.paw_base.specs.declared.limits.TheConstants.{TEXT_LIMIT}
@@ -8,6 +8,7 @@ use Rattle.paw_base.specs.declared.fault.SourceKind.TheVariants as kind
 use Rattle.paw_grammar.specs.declared.section.Section.{Section}
 use Rattle.paw_grammar.specs.declared.section.Section.TheVariants as section
 use Rattle.paw_base.specs.Faults.{◌>>=◌}
+use Rattle.paw_grammar.specs.Tokens.{at_most}
 use Rattle.paw_grammar.specs.GrammarState.{Spelt, last_or, with_last}
 
 -- the texts of a section
@@ -54,11 +55,6 @@ is_in_text d = is_text_section d.section && not (length (texts_of d.section d) =
 abbrev pub with_line : Bool → List ℕ → List ℕ → List ℕ
 with_line begun text line = text ++ (if begun then 10 ∷ line else line)
 
--- the same where it isn't too long
-abbrev pub joined_within : Bool → List ℕ → List ℕ → Result (List ℕ) SourceKind
-joined_within begun line text =
-    if nat_lt TEXT_LIMIT (length (with_line begun text line)) then Err kind.TooBig else Ok (with_line begun text line)
-
--- the texts with one line more at the end of the last
+-- the texts with one line more at the end of the last, where that isn't too long
 abbrev pub text_line : Bool → List ℕ → List (List ℕ) → Result (List (List ℕ)) SourceKind
-text_line begun line ts = joined_within begun line (last_or [] ts) >>= λ t. Ok (with_last t ts)
+text_line begun line ts = at_most TEXT_LIMIT (with_line begun (last_or [] ts) line) >>= λ t. Ok (with_last t ts)

@@ -1,5 +1,5 @@
 -- The tokens of a line, taken from left to right. What is read of them is a value, or the kind of the first fault.
-use Rattle.std.specs.Prelude.{ℕ, Bool, List, [], ◌∷◌, Option, Some, None, Result, Ok, Err}
+use Rattle.std.specs.Prelude.{ℕ, Bool, List, [], ◌∷◌, length, nat_lt, if◌then◌else◌, Option, Some, None, Result, Ok, Err}
 use Rattle.std.specs.Str.{str_eq_ignore_ascii_case}
 use Rattle.paw_base.specs.declared.fault.SourceKind.{SourceKind}
 use Rattle.paw_base.specs.declared.fault.SourceKind.TheVariants as kind
@@ -24,6 +24,10 @@ or_fault k ts (Some x) = Ok (x, ts)
 abbrev pub read_by : {A : Type 0} → SourceKind → (List ℕ → Option A) → List (List ℕ)
     → Result (A × List (List ℕ)) SourceKind
 read_by k meaning ts = token ts >>= λ t. or_fault k t.1 (meaning t.0)
+
+-- a list of so many at most; TooBig where there are more
+abbrev pub at_most : {A : Type 0} → ℕ → List A → Result (List A) SourceKind
+at_most limit xs = if nat_lt limit (length xs) then Err kind.TooBig else Ok xs
 
 -- the token is this name, in any case of letters
 abbrev pub is_named : List ℕ → List ℕ → Bool

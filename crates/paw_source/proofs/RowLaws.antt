@@ -24,11 +24,11 @@ use Rattle.paw_game.specs.Valid.{words_kept, has_word, is_verb_value, is_any, is
 use Rattle.paw_game.specs.Valid.{is_exits, are_facts, is_parameter, is_condact, is_entry, is_table, is_word}
 use Rattle.paw_grammar.specs.declared.bounds.Bounds.{Bounds}
 use Rattle.paw_base.specs.Faults.{◌>>=◌}
-use Rattle.paw_grammar.specs.Tokens.{or_fault, read_by}
+use Rattle.paw_grammar.specs.Tokens.{or_fault, read_by, at_most}
 use Rattle.paw_grammar.specs.Numbers.{number, in_range, number_within, number_below, row_number}
 use Rattle.paw_grammar.specs.Vocabulary.{place_among, word, class, object_kind, declared, word_or_none, verb_word, entry_verb, entry_noun}
 use Rattle.paw_grammar.specs.Condacts.{or_named, first_place, any_place, place_names, place_up_to, table, parameter}
-use Rattle.paw_grammar.specs.Condacts.{condact, condacts_in, with_more_condacts, at_most_255, more_condacts}
+use Rattle.paw_grammar.specs.Condacts.{condact, condacts_in, with_more_condacts, more_condacts}
 use Rattle.paw_grammar.specs.GrammarState.{last_or, with_last}
 use Rattle.paw_grammar.specs.GrammarRows.{voc_row, has_exit, exit_row, object_row, entry_row, no_entry, more_row}
 use Rattle.paw_source.proofs.Faultless.{passes, holds, bound, bound_then, ok_is, at_end, in_range_ok, number_ok}
@@ -270,7 +270,7 @@ more_condacts_ok : (bounds : Bounds) (ws : List Word) (g : GameLists) (before : 
     × (list_all (is_condact g) cs ≡ true)
 unfolding more_condacts
 more_condacts_ok bounds ws g before ts cs has old h =
-    let a = bound (with_more_condacts before (condacts_in bounds ws 0 ts)) at_most_255 cs h in
+    let a = bound (with_more_condacts before (condacts_in bounds ws 0 ts)) (at_most 255) cs h in
     let c = bound (condacts_in bounds ws 0 ts) (λ more. Ok (before ++ more)) a.0 a.1 in
     let same = ok_is (before ++ c.0) a.0 c.2 in
     let b = passes (nat_lt 255 (length a.0)) fault.TooBig (Ok a.0) cs a.2 in

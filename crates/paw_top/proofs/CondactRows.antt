@@ -19,8 +19,9 @@ use Rattle.paw_game.specs.Game.{GameLists}
 use Rattle.paw_game.specs.Valid.{is_within, is_parameter, is_condact, is_word_or_none}
 use Rattle.paw_grammar.specs.declared.bounds.Bounds.{Bounds}
 use Rattle.paw_base.specs.Faults.{◌>>=◌}
+use Rattle.paw_grammar.specs.Tokens.{at_most}
 use Rattle.paw_grammar.specs.Vocabulary.{word_or_none}
-use Rattle.paw_grammar.specs.Condacts.{parameter, condact, condacts_in, with_more_condacts, at_most_255, more_condacts}
+use Rattle.paw_grammar.specs.Condacts.{parameter, condact, condacts_in, with_more_condacts, more_condacts}
 use Rattle.paw_print.specs.Lines.{value_token, parameter_tokens, condact_tokens}
 use Rattle.paw_top.proofs.Rows.{is_plain}
 use Rattle.paw_top.proofs.Digits.{number-decimal, plain-decimal}
@@ -167,4 +168,4 @@ pub more_condacts-is : (p : ℕ) (g : GameLists) (done : List Condact) (c : Cond
 unfolding more_condacts
 more_condacts-is p g done c back few =
     let within : ltb 255 (length (done ++ c ∷ [])) ≡ false = le-ltb 255 _ (omega (arith, length-append done (c ∷ []))) in
-    ap (λ (r : Result (List Condact) SourceKind). with_more_condacts done r >>= at_most_255) back.read ∙ rw within refl
+    ap (λ (r : Result (List Condact) SourceKind). with_more_condacts done r >>= at_most 255) back.read ∙ rw within refl
