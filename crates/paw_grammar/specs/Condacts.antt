@@ -1,7 +1,7 @@
 -- The condacts of a line.
 use Rattle.std.specs.Prelude.{ℕ, zero, suc, ◌+◌, ◌||◌, List, [], ◌∷◌, ◌++◌, min, nat_lt}
 use Rattle.std.specs.Prelude.{Option, Some, None, Result, Ok, Err, codes}
-use Rattle.std.specs.Option.{option_map}
+use Rattle.std.specs.Option.{option_map, ok_or}
 use Rattle.paw_base.specs.declared.places.TheConstants.{NOT_CREATED_PLACE, CARRIED_PLACE, HERE_PLACE}
 use Rattle.paw_base.specs.declared.words.TheConstants.{ADVERB_CLASS, NOUN_CLASS, ADJECTIVE_CLASS, PREPOSITION_CLASS}
 use Rattle.paw_base.specs.declared.limits.TheConstants.{CONDACT_LIMIT, FLAG_COUNT}
@@ -15,7 +15,7 @@ use Rattle.paw_game.specs.declared.parts.Word.{Word}
 use Rattle.paw_game.specs.Valid.{is_within}
 use Rattle.paw_grammar.specs.declared.bounds.Bounds.{Bounds}
 use Rattle.paw_base.specs.Faults.{◌>>=◌}
-use Rattle.paw_grammar.specs.Tokens.{or_fault, read_by, at_most}
+use Rattle.paw_grammar.specs.Tokens.{read_by, at_most}
 use Rattle.paw_grammar.specs.Numbers.{number, in_range, number_below}
 use Rattle.paw_grammar.specs.Vocabulary.{place_among, word_or_none}
 
@@ -76,10 +76,10 @@ parameter bounds ws kind.Preposition ts = word_or_none ws PREPOSITION_CLASS ts
 -- a condact: its name, which is Condact where none has it, and its parameters, which the next tokens are
 unfoldable pub condact : Bounds → List Word → List ℕ → List (List ℕ) → Result (Condact × List (List ℕ)) SourceKind
 condact bounds ws name ts = do
-  code ← or_fault fault.Condact ts (code_named name)
-  a ← parameter bounds ws (first_kind code.0) code.1
-  b ← parameter bounds ws (second_kind code.0) a.1
-  Ok (record { code = code.0; a = a.0; b = b.0 }, b.1)
+  code ← ok_or (code_named name) fault.Condact
+  a ← parameter bounds ws (first_kind code) ts
+  b ← parameter bounds ws (second_kind code) a.1
+  Ok (record { code = code; a = a.0; b = b.0 }, b.1)
 
 -- the condacts from here to the end of the line, where the next skip tokens are parameters of the one before
 unfoldable pub condacts_in : Bounds → List Word → ℕ → List (List ℕ) → Result (List Condact) SourceKind
