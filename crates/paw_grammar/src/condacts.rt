@@ -107,7 +107,7 @@ impl<'a> Scope<'a> {
     /// # Errors
     /// The line's first fault, token by token: Condact where a name is none of the 108, and of a parameter Missing, and
     /// Word, Number or Range by its kind. TooBig where no token has a fault and the entry would have more than 255
-    /// condacts. NoRoom where there is no memory. What the entry then holds is open.
+    /// condacts. Memory where there is none. What the entry then holds is open.
     #[tactic(auto, unfolding(crate::specs::Condacts::more_condacts))]
     pub fn more_condacts(
         &self,

@@ -4,7 +4,7 @@ use Rattle.paw_base.specs.declared.fault.SourceFault.{SourceFault}
 use Rattle.paw_game.specs.Game.{GameLists}
 use Rattle.paw_base.specs.declared.fault.SourceKind.{SourceKind}
 use Rattle.paw_faults.specs.declared.unread.Unread.{Unread}
-use Rattle.paw_faults.specs.declared.unread.Unread.TheVariants as errors
+use Rattle.paw_faults.specs.declared.unread.Unread.TheVariants as unread
 use Rattle.paw_grammar.specs.Spells.{fault}
 use Rattle.paw_source.specs.declared.refusal.SourceRefusal.{SourceRefusal}
 use Rattle.paw_source.specs.declared.refusal.SourceRefusal.TheVariants as refusal
@@ -16,8 +16,8 @@ RefusesSource refusal.Memory spelled = Unit {0}
 
 -- the refusal of a source where a line is refused
 abbrev pub refused_at_line : ℕ → Unread SourceKind → SourceRefusal
-refused_at_line n errors.Memory = refusal.Memory
-refused_at_line n (errors.Fault kind) = refusal.Fault (fault n kind)
+refused_at_line n unread.Memory = refusal.Memory
+refused_at_line n (unread.Fault kind) = refusal.Fault (fault n kind)
 
 -- what was answered of a source is the game that it spells, or its fault
 abbrev pub ReadsSource : Result GameLists SourceRefusal → Result GameLists SourceFault → Type 0
