@@ -1,7 +1,7 @@
 -- The condacts of a line.
 use Rattle.std.specs.Prelude.{ℕ, zero, suc, ◌+◌, ◌||◌, List, [], ◌∷◌, ◌++◌, min, nat_lt}
-use Rattle.std.specs.Prelude.{Option, Some, None, Result, Ok, Err, codes}
-use Rattle.std.specs.Option.{option_map, ok_or}
+use Rattle.std.specs.Prelude.{Option, Result, Ok, codes}
+use Rattle.std.specs.Option.{option_map, option_or, ok_or}
 use Rattle.paw_base.specs.declared.places.TheConstants.{NOT_CREATED_PLACE, CARRIED_PLACE, HERE_PLACE}
 use Rattle.paw_base.specs.declared.words.TheConstants.{ADVERB_CLASS, NOUN_CLASS, ADJECTIVE_CLASS, PREPOSITION_CLASS}
 use Rattle.paw_base.specs.declared.limits.TheConstants.{CONDACT_LIMIT, FLAG_COUNT}
@@ -25,15 +25,11 @@ use Rattle.paw_grammar.specs.Vocabulary.{place_among, word_or_none}
 abbrev pub place_names : List (List ℕ)
 place_names = codes "NOTCREATED" ∷ codes "WORN" ∷ codes "CARRIED" ∷ []
 
--- a number, or else a place by its name: the names count from the first place that is no location
-abbrev pub or_named : Option ℕ → Option ℕ → Option ℕ
-or_named None name = option_map (λ i. NOT_CREATED_PLACE + i) name
-or_named (Some n) name = Some n
-
--- a place, by its number or by its name: a location, or one of the others up to the last that may stand here
+-- A place, by its number or by its name: a location, or one of the others up to the last that may stand here. The names
+-- count from the first place that is no location.
 abbrev pub place_up_to : ℕ → (List ℕ → Option ℕ) → ℕ → List (List ℕ) → Result (ℕ × List (List ℕ)) SourceKind
 place_up_to last named locations ts =
-    read_by fault.Number (λ t. or_named (number t) (named t)) ts
+    read_by fault.Number (λ t. option_or (number t) (option_map (λ i. NOT_CREATED_PLACE + i) (named t))) ts
     >>= in_range (λ n. nat_lt n locations || is_within NOT_CREATED_PLACE last n)
 
 -- the first place of an object

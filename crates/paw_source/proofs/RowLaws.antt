@@ -1,10 +1,10 @@
 -- Rows of exits, objects and condacts keep the rules of a game.
-use Rattle.std.proofs.Common.{◌≡◌, ℕ, zero, suc, ◌-◌, ◌<◌, ◌≤◌, Bool, true, false, cond}
+use Rattle.std.proofs.Common.{◌≡◌, ℕ, zero, suc, ◌+◌, ◌-◌, ◌<◌, ◌≤◌, Bool, true, false, cond}
 use Rattle.std.proofs.Common.{not, ◌&&◌, ◌||◌, eqb, ltb, List, [], ◌∷◌, ◌++◌, length, map}
 use Rattle.std.proofs.Common.{min, Option, Some, None, Ok, Err, refl, ap, ◌∙◌, arith}
 use Rattle.std.specs.Prelude.{nat_le, nat_lt, codes}
 use Rattle.std.specs.List.{list_all, list_any, IsDistinct, AllByRecursion}
-use Rattle.std.specs.Option.{ok_or}
+use Rattle.std.specs.Option.{option_map, option_or, ok_or}
 use Rattle.std.proofs.lemmas.Bool.{and_parts, leb-true, ltb-true, eqb-true, eqb-false}
 use Rattle.std.proofs.lemmas.Bool.Decides.{nat_tests}
 use Rattle.std.proofs.lemmas.List.{length-map, length-append, length-set}
@@ -28,7 +28,7 @@ use Rattle.paw_base.specs.Faults.{◌>>=◌}
 use Rattle.paw_grammar.specs.Tokens.{read_by, at_most}
 use Rattle.paw_grammar.specs.Numbers.{number, in_range, number_within, number_below, row_number}
 use Rattle.paw_grammar.specs.Vocabulary.{place_among, word, class, object_kind, declared, word_or_none, verb_word, entry_verb, entry_noun}
-use Rattle.paw_grammar.specs.Condacts.{or_named, first_place, any_place, place_names, place_up_to, table, parameter}
+use Rattle.paw_grammar.specs.Condacts.{first_place, any_place, place_names, place_up_to, table, parameter}
 use Rattle.paw_grammar.specs.Condacts.{condact, condacts_in, with_more_condacts, more_condacts}
 use Rattle.paw_grammar.specs.GrammarState.{last_or, with_last}
 use Rattle.paw_grammar.specs.GrammarRows.{voc_row, has_exit, exit_row, object_row, entry_row, no_entry, more_row}
@@ -159,7 +159,7 @@ exit_row_ok ws locations xs ys ts words kept h =
 place_within : (last : ℕ) (named : List ℕ → Option ℕ) (locations : ℕ) (ts : List (List ℕ)) (x : ℕ × List (List ℕ))
     → place_up_to last named locations ts ≡ Ok x → (nat_lt x.0 locations || is_within 252 last x.0) ≡ true
 place_within last named locations ts x h =
-    let b = bound (read_by fault.Number (λ t. or_named (number t) (named t)) ts) (in_range (λ n. nat_lt n locations || is_within 252 last n)) x h in
+    let b = bound (read_by fault.Number (λ t. option_or (number t) (option_map (λ i. 252 + i) (named t))) ts) (in_range (λ n. nat_lt n locations || is_within 252 last n)) x h in
     in_range_ok (λ n. nat_lt n locations || is_within 252 last n) b.0 x b.2
 
 first_place_ok : (locations : ℕ) (ts : List (List ℕ)) (x : ℕ × List (List ℕ)) → first_place locations ts ≡ Ok x → is_place locations x.0 ≡ true
