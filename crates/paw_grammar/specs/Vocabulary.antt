@@ -4,6 +4,8 @@ use Rattle.std.specs.Prelude.{◌++◌, length, take, replicate, nat_lt, is_some
 use Rattle.std.specs.Prelude.{Option, Some, None, Result, Ok, Err, codes, bytes_eq}
 use Rattle.std.specs.Char.{is_ascii_alphanumeric}
 use Rattle.std.specs.List.{list_all, position}
+use Rattle.std.specs.Map.{lookup}
+use Rattle.std.specs.Option.{option_and_then}
 use Rattle.std.specs.Ordering.{is_lt, nat_cmp}
 use Rattle.std.specs.Cmp.Lexicographic.{slice_cmp}
 use Rattle.paw_base.specs.declared.words.TheConstants.{VERB_CLASS, NOUN_CLASS, ANY_WORD, NO_WORD, FIRST_PLAIN_NOUN}
@@ -50,11 +52,9 @@ class ts = read_by kind.Word (place_among class_names) ts
 -- what kind an object is: whether it is a container, and whether it may be worn
 abbrev pub kind_named : List ℕ → Option (Bool × Bool)
 kind_named t =
-    if is_named t (codes "-") then Some (false, false)
-    else if is_named t (codes "C") then Some (true, false)
-    else if is_named t (codes "W") then Some (false, true)
-    else if is_named t (codes "CW") then Some (true, true)
-    else None
+    lookup (is_named t)
+    ((codes "-", (false, false)) ∷ (codes "C", (true, false)) ∷ (codes "W", (false, true)) ∷ (codes "CW", (true, true))
+    ∷ [])
 
 -- the kind of an object
 abbrev pub object_kind : List (List ℕ) → Result ((Bool × Bool) × List (List ℕ)) SourceKind
