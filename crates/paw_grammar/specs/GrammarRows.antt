@@ -33,17 +33,13 @@ voc_row ws ts = do
 
 -- ---- /CON ----
 
--- an exit has this verb
-abbrev pub has_exit : ℕ → List Exit → Bool
-has_exit verb xs = list_any (λ x. x.verb == verb) xs
-
--- `word location`, the exits of a location with this one
+-- `word location`, the exits of a location with this one, whose verb no other has
 unfoldable pub exit_row : List Word → ℕ → List Exit → List (List ℕ) → Result (List Exit) SourceKind
 exit_row ws locations xs ts = do
   v ← verb_word ws ts
   to ← number_below locations v.1
   end ← ended to.1
-  if has_exit v.0 xs then Err fault.Duplicate
+  if list_any (λ x. x.verb == v.0) xs then Err fault.Duplicate
       else Ok (xs ++ (record { verb = v.0; to = to.0 }) ∷ [])
 
 -- of the location of the last item

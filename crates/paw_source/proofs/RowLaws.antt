@@ -31,7 +31,7 @@ use Rattle.paw_grammar.specs.Vocabulary.{place_among, word, class, object_kind, 
 use Rattle.paw_grammar.specs.Condacts.{first_place, any_place, place_names, place_up_to, table, parameter}
 use Rattle.paw_grammar.specs.Condacts.{condact, condacts_in, with_more_condacts, more_condacts}
 use Rattle.paw_grammar.specs.GrammarState.{last_or, with_last}
-use Rattle.paw_grammar.specs.GrammarRows.{voc_row, has_exit, exit_row, object_row, entry_row, no_entry, more_row}
+use Rattle.paw_grammar.specs.GrammarRows.{voc_row, exit_row, object_row, entry_row, no_entry, more_row}
 use Rattle.paw_source.proofs.Faultless.{passes, holds, bound, bound_then, ok_is, at_end, in_range_ok, number_ok}
 use Rattle.paw_source.proofs.WordLaws.{word_ok, class_ok, declared_ok, verb_word_ok, word_or_none_ok, entry_verb_ok, entry_noun_ok}
 use Rattle.paw_source.proofs.TextLaws.{all_set, all_at, all_pushed, both}
@@ -49,6 +49,10 @@ voc_row_ok ws vs ts kept h =
     declared_ok made ws vs one kept (at_end c.1 (declared made ws) vs h))))
 
 -- ---- exits
+
+-- an exit has this verb
+abbrev has_exit : ℕ → List Exit → Bool
+has_exit verb xs = list_any (λ x. eqb x.verb verb) xs
 
 -- whether another exit has its verb
 abbrev shares : Exit → List Exit → Bool
