@@ -1,8 +1,6 @@
 -- Lines that begin with `/`: headers and items.
-use Rattle.std.specs.Prelude.{ℕ, suc, ◌-◌, ◌==◌, ◌&&◌, ◌||◌, Bool, false, not, List, [], ◌∷◌, ◌++◌, length, drop}
+use Rattle.std.specs.Prelude.{ℕ, suc, ◌-◌, ◌==◌, ◌&&◌, ◌||◌, Bool, false, not, List, [], ◌∷◌, ◌++◌, length}
 use Rattle.std.specs.Prelude.{replicate, nat_lt, if◌then◌else◌, Option, Some, None, Result, Ok, Err, codes}
-use Rattle.std.specs.List.{list_all}
-use Rattle.std.specs.Char.{is_ascii_alphabetic}
 use Rattle.paw_base.specs.declared.fault.SourceKind.{SourceKind}
 use Rattle.paw_base.specs.declared.fault.SourceKind.TheVariants as kind
 use Rattle.paw_grammar.specs.declared.section.Section.{Section}
@@ -102,11 +100,7 @@ item_in s d n = if is_text_section s then new_text s d n else Err kind.Section
 
 -- ---- the line ----
 
--- letters alone, and one at least
-abbrev pub is_letters : List ℕ → Bool
-is_letters t = not (length t == 0) && list_all is_ascii_alphabetic t
-
--- The first token is `/` and a number, or `/` and letters. An item ends with its number.
+-- The first token is `/` and a number, or else a header's name. An item ends with its number.
 abbrev pub slash_line : Spelt → List ℕ → Option ℕ → List (List ℕ) → Result Spelt SourceKind
 slash_line d name (Some n) ts = ended ts >>= λ _. item_in d.section d n
-slash_line d name None ts = if is_letters (drop 1 name) then header d name ts else Err kind.Section
+slash_line d name None ts = header d name ts

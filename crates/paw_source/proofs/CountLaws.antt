@@ -21,8 +21,8 @@ use Rattle.paw_grammar.specs.Numbers.{number, number_from, is_digit}
 use Rattle.paw_grammar.specs.GrammarState.{Spelt, last_or, with_last}
 use Rattle.paw_grammar.specs.GrammarTexts.{texts_of, with_texts, text_limit, text_item, text_line, is_in_text}
 use Rattle.paw_grammar.specs.GrammarHeads.{next_section, header_name, section_opened, plain_header, con_header}
-use Rattle.paw_grammar.specs.GrammarHeads.{table_header, pro_header, header_of, header, new_text}
-use Rattle.paw_grammar.specs.GrammarHeads.{new_exits, item_in, is_letters, slash_line}
+use Rattle.paw_grammar.specs.GrammarHeads.{table_header, pro_header, header_of, new_text}
+use Rattle.paw_grammar.specs.GrammarHeads.{new_exits, item_in, slash_line}
 use Rattle.paw_grammar.specs.GrammarRows.{voc_row, exit_row, con_row, object_row, bounds_of, entry_row, more_row, pro_row, row_in}
 use Rattle.paw_grammar.specs.Spells.{begins_with_slash, begins_with_blank, is_text_line, text_added, tokens_added, step, is_pro_token, begins_table}
 use Rattle.paw_source.specs.inner.Laws.{after_lines, CountsTables}
@@ -140,8 +140,7 @@ slash_counts : (d e : Spelt) (t : List ℕ) (o : Option ℕ) (ts : List (List �
 slash_counts d e t (Some n) ts o h =
     no_more d e (is_named t (codes "/PRO")) (number_not_pro t n o) (item_same d.section n d e (at_end ts (item_in d.section d n) e h))
 slash_counts d e t None ts o h =
-    let a = holds (is_letters (drop 1 t)) kind.Section (header d t ts) e h in
-    let b = holds (is_named t (header_name (next_section d.section))) kind.Section (header_of (next_section d.section) d ts) e a.1 in
+    let b = holds (is_named t (header_name (next_section d.section))) kind.Section (header_of (next_section d.section) d ts) e h in
     header_counts d.section d e t ts b.0 b.1
 
 -- ---- rows

@@ -26,8 +26,8 @@ use Rattle.paw_grammar.specs.Numbers.{number}
 use Rattle.paw_grammar.specs.GrammarState.{Spelt, last_or, with_last}
 use Rattle.paw_grammar.specs.GrammarTexts.{texts_of, with_texts, text_limit, text_item, text_line, is_in_text}
 use Rattle.paw_grammar.specs.GrammarHeads.{next_section, header_name, section_opened, plain_header, con_header}
-use Rattle.paw_grammar.specs.GrammarHeads.{lacks_rows, table_header, pro_header, header_of, header, new_text}
-use Rattle.paw_grammar.specs.GrammarHeads.{new_exits, item_in, is_letters, slash_line}
+use Rattle.paw_grammar.specs.GrammarHeads.{lacks_rows, table_header, pro_header, header_of, new_text}
+use Rattle.paw_grammar.specs.GrammarHeads.{new_exits, item_in, slash_line}
 use Rattle.paw_grammar.specs.GrammarRows.{voc_row, exit_row, con_row, object_row, obj_row, bounds_of, entry_row, more_row, pro_row, row_in}
 use Rattle.paw_grammar.specs.Spells.{begins_with_slash, begins_with_blank, is_text_line, text_added, tokens_added, step}
 use Rattle.paw_source.proofs.Faultless.{passes, holds, bound, ok_is, at_end}
@@ -336,8 +336,7 @@ header_of_keeps p section.Pro d e ts here k h =
 slash_keeps : (p : ℕ) (d e : Spelt) (name : List ℕ) (o : Option ℕ) (ts : List (List ℕ)) → Keeps p d → slash_line d name o ts ≡ Ok e → Keeps p e
 slash_keeps p d e name (Some n) ts k h = item_keeps p d.section n d e refl k (at_end ts (item_in d.section d n) e h)
 slash_keeps p d e name None ts k h =
-    let a = holds (is_letters (drop 1 name)) kind.Section (header d name ts) e h in
-    let b = holds (is_named name (header_name (next_section d.section))) kind.Section (header_of (next_section d.section) d ts) e a.1 in
+    let b = holds (is_named name (header_name (next_section d.section))) kind.Section (header_of (next_section d.section) d ts) e h in
     header_of_keeps p d.section d e ts refl k b.1
 
 -- ---- rows

@@ -12,7 +12,6 @@ ghost use Rattle.paw_grammar.specs.GrammarRows.{bounds_of, con_row, obj_row, pro
 ghost use Rattle.paw_grammar.specs.Spells.{text_added};
 ghost use Rattle.paw_source.specs.inner.Drafts.{HasTable};
 
-use crate::bytes::{is_letters, without_first};
 use crate::entries::{entry_row, more_row};
 use crate::exits::{exit_row, fill};
 use crate::objects::objects_of;
@@ -202,11 +201,7 @@ impl Draft {
             tokens.ended()?;
             return self.item(alloc, number);
         }
-        if is_letters(without_first(name)) {
-            self.header(alloc, name, tokens)
-        } else {
-            fault(SourceKind::Section)
-        }
+        self.header(alloc, name, tokens)
     }
 
     fn item(&mut self, alloc: Global, number: u32) -> Result<(), ReadError>
