@@ -1,6 +1,6 @@
 -- Lines without a fault begin as many tables as were counted.
 use Rattle.std.proofs.Common.{◌≡◌, ℕ, suc, ◌+◌, ◌-◌, ◌*◌, Bool, true, false, cond, not, ◌&&◌}
-use Rattle.std.proofs.Common.{◌||◌, eqb, List, [], ◌∷◌, ◌++◌, length, replicate, drop, Option}
+use Rattle.std.proofs.Common.{◌||◌, eqb, List, [], ◌∷◌, ◌++◌, length, get_or, replicate, drop, Option}
 use Rattle.std.proofs.Common.{Some, None, Ok, Err, refl, sym, ap, ◌∙◌, arith}
 use Rattle.std.specs.Prelude.{nat_lt, codes}
 use Rattle.std.specs.Str.{str_to_ascii_lowercase, bytes_eq}
@@ -24,7 +24,7 @@ use Rattle.paw_grammar.specs.GrammarHeads.{next_section, header_name, section_op
 use Rattle.paw_grammar.specs.GrammarHeads.{table_header, pro_header, header_of, new_text}
 use Rattle.paw_grammar.specs.GrammarHeads.{new_exits, item_in, slash_line}
 use Rattle.paw_grammar.specs.GrammarRows.{voc_row, exit_row, con_row, object_row, bounds_of, entry_row, more_row, pro_row, row_in}
-use Rattle.paw_grammar.specs.Spells.{begins_with_slash, begins_with_blank, is_text_line, text_added, tokens_added, step, is_pro_token, begins_table}
+use Rattle.paw_grammar.specs.Spells.{begins_with_slash, begins_with_blank, is_text_line, text_added, tokens_added, step, begins_table}
 use Rattle.paw_source.specs.inner.Laws.{after_lines, CountsTables}
 use Rattle.paw_source.proofs.Faultless.{passes, holds, bound, ok_is, at_end}
 use Rattle.paw_source.proofs.Headers.{table_opened}
@@ -113,6 +113,10 @@ pro_more : (d e : Spelt) (ts : List (List ℕ)) → pro_header d ts ≡ Ok e →
 pro_more d e ts h =
     let b = bound (token ts) (λ t. table_header d t.1 (number t.0)) e h in
     table_more d e b.0.1 (number b.0.0) b.2
+
+-- the first of these tokens is the header of a table
+abbrev is_pro_token : List (List ℕ) → Bool
+is_pro_token ts = is_named (get_or ts 0 []) (codes "/PRO")
 
 -- how many tables a line of these tokens begins
 abbrev begun : List (List ℕ) → ℕ
