@@ -1,6 +1,6 @@
 -- Lines that begin with `/`: headers and items.
-use Rattle.std.specs.Prelude.{ℕ, suc, ◌-◌, ◌==◌, ◌&&◌, ◌||◌, Bool, false, not, List, [], ◌∷◌, ◌++◌, length}
-use Rattle.std.specs.Prelude.{replicate, nat_lt, if◌then◌else◌, Option, Some, None, Result, Ok, Err, codes}
+use Rattle.std.specs.Prelude.{ℕ, suc, ◌==◌, ◌&&◌, ◌||◌, Bool, false, not, List, [], ◌∷◌, ◌++◌, length}
+use Rattle.std.specs.Prelude.{nat_lt, if◌then◌else◌, Option, Some, None, Result, Ok, Err, codes}
 use Rattle.paw_base.specs.declared.fault.SourceKind.{SourceKind}
 use Rattle.paw_base.specs.declared.fault.SourceKind.TheVariants as kind
 use Rattle.paw_grammar.specs.declared.section.Section.{Section}
@@ -8,7 +8,7 @@ use Rattle.paw_grammar.specs.declared.section.Section.TheVariants as section
 use Rattle.paw_base.specs.Faults.{◌>>=◌}
 use Rattle.paw_grammar.specs.Tokens.{token, ended, is_named}
 use Rattle.paw_grammar.specs.Numbers.{number}
-use Rattle.paw_grammar.specs.GrammarState.{Spelt}
+use Rattle.paw_grammar.specs.GrammarState.{Spelt, all_exits}
 use Rattle.paw_grammar.specs.GrammarTexts.{is_text_section, text_item, text_limit, texts_of, with_texts}
 
 -- ---- headers ----
@@ -91,7 +91,7 @@ new_text s d n = text_item (text_limit s) n (texts_of s d) >>= λ ts. Ok (with_t
 abbrev pub new_exits : Spelt → ℕ → Result Spelt SourceKind
 new_exits d n =
     if nat_lt n (length d.exits) || not (nat_lt n (length d.locations)) then Err kind.Range
-    else Ok (record d { exits = d.exits ++ replicate (suc n - length d.exits) [] })
+    else Ok (record d { exits = all_exits (suc n) d.exits })
 
 -- an item of a section; only texts and exits have items
 abbrev pub item_in : Section → Spelt → ℕ → Result Spelt SourceKind
