@@ -6,8 +6,8 @@ use Rattle.paw_base.specs.declared.fault.SourceKind.TheVariants as kind
 use Rattle.paw_grammar.specs.declared.section.Section.{Section}
 use Rattle.paw_grammar.specs.declared.section.Section.TheVariants as section
 use Rattle.paw_base.specs.Faults.{◌>>=◌}
-use Rattle.paw_grammar.specs.Tokens.{token, ended, is_named}
-use Rattle.paw_grammar.specs.Numbers.{number}
+use Rattle.paw_grammar.specs.Tokens.{ended, is_named}
+use Rattle.paw_grammar.specs.Numbers.{number_below}
 use Rattle.paw_grammar.specs.GrammarState.{Spelt, all_exits}
 use Rattle.paw_grammar.specs.GrammarTexts.{is_text_section, text_item, text_limit, texts_of, with_texts}
 
@@ -54,19 +54,14 @@ con_header d ts = ended ts >>= λ _.
 abbrev pub lacks_rows : Spelt → Bool
 lacks_rows d = (length d.tables == 0) && nat_lt (length d.facts) (length d.names)
 
--- a table's number: digits, at most 255, that of the next table
-abbrev pub table_header : Spelt → List (List ℕ) → Option ℕ → Result Spelt SourceKind
-table_header d ts None = Err kind.Number
-table_header d ts (Some n) =
-    if nat_lt 255 n then Err kind.Range
-    else if not (n == length d.tables) then Err kind.Section
-    else ended ts >>= λ _.
+-- a header of two tokens, of which the second is the number of the next table
+abbrev pub pro_header : Spelt → List (List ℕ) → Result Spelt SourceKind
+pro_header d ts =
+    number_below 256 ts >>= λ n.
+    if not (n.0 == length d.tables) then Err kind.Section
+    else ended n.1 >>= λ _.
     if lacks_rows d then Err kind.Missing
     else Ok (record (section_opened section.Pro d) { tables = d.tables ++ [] ∷ [] })
-
--- a header of two tokens
-abbrev pub pro_header : Spelt → List (List ℕ) → Result Spelt SourceKind
-pro_header d ts = token ts >>= λ t. table_header d t.1 (number t.0)
 
 -- the header of a section, after its name
 abbrev pub header_of : Section → Spelt → List (List ℕ) → Result Spelt SourceKind

@@ -16,12 +16,12 @@ use Rattle.paw_lex.specs.Tokens.{tokens_of}
 use Rattle.paw_grammar.specs.declared.section.Section.{Section}
 use Rattle.paw_grammar.specs.declared.section.Section.TheVariants as section
 use Rattle.paw_base.specs.Faults.{◌>>=◌}
-use Rattle.paw_grammar.specs.Tokens.{token, is_named}
+use Rattle.paw_grammar.specs.Tokens.{is_named}
 use Rattle.paw_grammar.specs.Numbers.{number, number_from, is_digit}
 use Rattle.paw_grammar.specs.GrammarState.{Spelt, last_or, with_last}
 use Rattle.paw_grammar.specs.GrammarTexts.{texts_of, with_texts, text_limit, text_item, text_line, is_in_text}
 use Rattle.paw_grammar.specs.GrammarHeads.{next_section, header_name, section_opened, plain_header, con_header}
-use Rattle.paw_grammar.specs.GrammarHeads.{table_header, pro_header, header_of, new_text}
+use Rattle.paw_grammar.specs.GrammarHeads.{pro_header, header_of, new_text}
 use Rattle.paw_grammar.specs.GrammarHeads.{new_exits, item_in, slash_line}
 use Rattle.paw_grammar.specs.GrammarRows.{voc_row, exit_row, con_row, object_row, bounds_of, entry_row, more_row, pro_row, row_in}
 use Rattle.paw_grammar.specs.Spells.{begins_with_slash, begins_with_blank, is_text_line, text_added, tokens_added, step, begins_table}
@@ -105,14 +105,8 @@ con_same d e ts h =
     let b = passes (eqb (length d.locations) 0) kind.Missing (Ok (section_opened section.Con d)) e a in
     ap tables (sym (ok_is (section_opened section.Con d) e b.1))
 
-table_more : (d e : Spelt) (ts : List (List ℕ)) (o : Option ℕ) → table_header d ts o ≡ Ok e → tables e ≡ tables d + 1
-table_more d e ts None h = absurd cc
-table_more d e ts (Some n) h = ap tables (sym (table_opened n d e ts h).is) ∙ length-append d.tables ([] ∷ [])
-
 pro_more : (d e : Spelt) (ts : List (List ℕ)) → pro_header d ts ≡ Ok e → tables e ≡ tables d + 1
-pro_more d e ts h =
-    let b = bound (token ts) (λ t. table_header d t.1 (number t.0)) e h in
-    table_more d e b.0.1 (number b.0.0) b.2
+pro_more d e ts h = ap tables (sym (table_opened d e ts h).is) ∙ length-append d.tables ([] ∷ [])
 
 -- the first of these tokens is the header of a table
 abbrev is_pro_token : List (List ℕ) → Bool

@@ -7,7 +7,7 @@ ghost use Rattle.paw_faults.specs.inner.Gives.{Gives};
 ghost use Rattle.paw_grammar.specs.GrammarState.{game_of, nothing_yet};
 ghost use Rattle.paw_grammar.specs.GrammarTexts.{is_in_text};
 ghost use Rattle.paw_grammar.specs.GrammarHeads.{con_header, header, header_name, header_of, item_in, new_exits};
-ghost use Rattle.paw_grammar.specs.GrammarHeads.{next_section, plain_header, pro_header, slash_line, table_header};
+ghost use Rattle.paw_grammar.specs.GrammarHeads.{next_section, plain_header, pro_header, slash_line};
 ghost use Rattle.paw_grammar.specs.GrammarRows.{bounds_of, con_row, obj_row, pro_row, row_in};
 ghost use Rattle.paw_grammar.specs.Spells.{text_added};
 ghost use Rattle.paw_source.specs.inner.Drafts.{HasTable};
@@ -24,7 +24,7 @@ use paw_faults::unread::Unread;
 use paw_game::parts::{Exits, GameParts, Table, Text};
 use paw_grammar::bounds::Bounds;
 use paw_grammar::condacts::Scope;
-use paw_grammar::numbers::number;
+use paw_grammar::numbers::byte_below;
 use paw_grammar::refusal::ReadError;
 use paw_grammar::section::Section;
 use paw_grammar::tokens::{Tokens, is_named};
@@ -293,25 +293,7 @@ impl Draft {
     fn pro_header(&mut self, alloc: Global, tokens: &mut Tokens) -> Result<(), ReadError>
         ensures { Gives (λ _. self.new) result (pro_header self.old tokens.old) }
     {
-        let second = tokens.token()?;
-        self.table_header(alloc, number(second), tokens)
-    }
-
-    fn table_header(
-        &mut self,
-        alloc: Global,
-        number: Option<u32>,
-        tokens: &mut Tokens,
-    ) -> Result<(), ReadError>
-        ensures { Gives (λ _. self.new) result (table_header self.old tokens.old number) }
-    {
-        let number = match number {
-            None => return fault(SourceKind::Number),
-            Some(number) => number,
-        };
-        if number > 255 {
-            return fault(SourceKind::Range);
-        }
+        let number = byte_below(tokens, 256)?;
         if number as usize != self.tables.len() {
             return fault(SourceKind::Section);
         }

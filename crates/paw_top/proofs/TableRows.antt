@@ -4,7 +4,7 @@ use Rattle.std.proofs.Common.{length-append}
 use Rattle.std.specs.Prelude.{codes}
 use Rattle.std.specs.List.{list_all, flat_map}
 use Rattle.std.specs.Fmt.{decimal}
-use Rattle.std.proofs.lemmas.Bool.{and_parts, leb-true, lt-ltb, le-ltb, eq-eqb, ne_eqb}
+use Rattle.std.proofs.lemmas.Bool.{and_parts, leb-true, lt-ltb, eq-eqb, ne_eqb}
 use Rattle.std.proofs.lemmas.List.{append_assoc, append-nil}
 use Rattle.paw_base.specs.declared.fault.SourceKind.{SourceKind}
 use Rattle.paw_base.specs.declared.parts.Condact.{Condact}
@@ -19,7 +19,7 @@ use Rattle.paw_grammar.specs.Numbers.{number_from}
 use Rattle.paw_grammar.specs.Vocabulary.{entry_verb, entry_noun}
 use Rattle.paw_grammar.specs.Condacts.{condacts_in, more_condacts}
 use Rattle.paw_grammar.specs.GrammarState.{Spelt, with_last}
-use Rattle.paw_grammar.specs.GrammarHeads.{next_section, section_opened, lacks_rows, table_header}
+use Rattle.paw_grammar.specs.GrammarHeads.{next_section, section_opened, lacks_rows}
 use Rattle.paw_grammar.specs.GrammarRows.{entry_row, no_entry, more_row}
 use Rattle.paw_print.specs.Lines.{verb_token, value_token, entry_tokens, condact_tokens, condact_line, table_tokens, spaced}
 use Rattle.paw_print.specs.Canonical.{numbered, entry_lines, table_lines}
@@ -148,11 +148,11 @@ header_step : (p : ℕ) (d : Spelt) (n : ℕ) → next_section d.section ≡ sec
 unfolding number_from
 header_step p d n at is few rows =
     let small : n ≤ 65535 = omega arith in
-    let within : ltb 255 n ≡ false = le-ltb 255 n few in
+    let within : ltb n 256 ≡ true = lt-ltb n 256 (omega arith) in
     let next : eqb n (length d.tables) ≡ true = eq-eqb n (length d.tables) is in
     let plain : list_all is_plain (table_tokens n) ≡ true = rw (plain-decimal n small) refl in
     record {
-      is = slash_step p d (codes "PRO") (decimal n ∷ []) plain ∙ rw at (ap (λ x. table_header d [] x) (number-decimal n small) ∙ rw (within, next, rows) refl);
+      is = slash_step p d (codes "PRO") (decimal n ∷ []) plain ∙ rw at (rw (number-decimal n small, within, next, rows) refl);
       printed = printed-spaced (codes "/PRO") (decimal n ∷ []) plain;
     }
 
