@@ -114,18 +114,11 @@ object_tokens ws n f =
 -- a parameter that the condact has is one token: a word, or a number
 abbrev pub parameter_tokens : List Word → ParamKind → ℕ → List (List ℕ)
 parameter_tokens ws kind.Absent x = []
-parameter_tokens ws kind.Location x = decimal x ∷ []
-parameter_tokens ws kind.Place x = decimal x ∷ []
-parameter_tokens ws kind.Object x = decimal x ∷ []
-parameter_tokens ws kind.Flag x = decimal x ∷ []
-parameter_tokens ws kind.Number x = decimal x ∷ []
-parameter_tokens ws kind.Message x = decimal x ∷ []
-parameter_tokens ws kind.System x = decimal x ∷ []
-parameter_tokens ws kind.Table x = decimal x ∷ []
 parameter_tokens ws kind.Adverb x = value_token ws ADVERB_CLASS x ∷ []
 parameter_tokens ws kind.Noun x = value_token ws NOUN_CLASS x ∷ []
 parameter_tokens ws kind.Adjective x = value_token ws ADJECTIVE_CLASS x ∷ []
 parameter_tokens ws kind.Preposition x = value_token ws PREPOSITION_CLASS x ∷ []
+parameter_tokens ws _ x = decimal x ∷ []
 
 -- name, parameters
 abbrev pub condact_tokens : List Word → Condact → List (List ℕ)
