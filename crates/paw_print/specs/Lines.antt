@@ -1,9 +1,9 @@
 -- The rows of a source, as the canonical source has them: each the tokens that it is made of, one space between each
 -- two.
 use Rattle.std.specs.Prelude.{ℕ, ◌==◌, ◌&&◌, Bool, List, [], ◌∷◌, ◌++◌, codes, decimal}
-use Rattle.std.specs.Prelude.{flat_map, Option, Some, None, if◌then◌else◌}
+use Rattle.std.specs.Prelude.{flat_map, Option, if◌then◌else◌}
 use Rattle.std.specs.List.{before_first, find, slice_split}
-use Rattle.std.specs.Option.{option_or}
+use Rattle.std.specs.Option.{option_or, option_map_or}
 use Rattle.paw_base.specs.declared.words.TheConstants.{VERB_CLASS, ADVERB_CLASS, NOUN_CLASS, ADJECTIVE_CLASS}
 use Rattle.paw_base.specs.declared.words.TheConstants.{PREPOSITION_CLASS, CONJUNCTION_CLASS, ANY_WORD, NO_WORD}
 use Rattle.paw_base.specs.declared.parts.Condact.{Condact}
@@ -42,15 +42,11 @@ first_word ws class value = find (means class value) ws
 abbrev pub first_verb : List Word → ℕ → Option Word
 first_verb ws value = option_or (first_word ws VERB_CLASS value) (first_word ws NOUN_CLASS value)
 
--- the letters of a word; a game has a word for each of its values but those of `*` and `_`
-abbrev pub letters_or_none : Option Word → List ℕ
-letters_or_none None = []
-letters_or_none (Some w) = spelled_letters w
-
--- where a word stands, a value is `*`, `_` or its word
+-- where a word stands, a value is `*`, `_` or its word; a game has a word for each of its other values
 abbrev pub word_token : ℕ → Option Word → List ℕ
 word_token value word =
-    if value == ANY_WORD then codes "*" else (if value == NO_WORD then codes "_" else letters_or_none word)
+    if value == ANY_WORD then codes "*"
+    else (if value == NO_WORD then codes "_" else option_map_or spelled_letters word [])
 
 -- the token of a value of this class
 abbrev pub value_token : List Word → ℕ → ℕ → List ℕ
