@@ -1,12 +1,12 @@
 -- The canonical source of a game: one text for each game.
-use Rattle.std.specs.Prelude.{ℕ, suc, List, [], ◌∷◌, ◌++◌, map, flat_map, codes}
+use Rattle.std.specs.Prelude.{ℕ, suc, List, [], ◌∷◌, ◌++◌, map, flat_map, codes, decimal}
 use Rattle.paw_game.specs.declared.parts.Word.{Word}
 use Rattle.paw_game.specs.declared.parts.ObjectRow.{ObjectRow}
 use Rattle.paw_game.specs.declared.parts.Exit.{Exit}
 use Rattle.paw_game.specs.declared.parts.Entry.{Entry}
 use Rattle.paw_game.specs.Game.{GameLists}
 use Rattle.paw_print.specs.Lines.{spaced, word_tokens, item_token, text_lines, exit_tokens}
-use Rattle.paw_print.specs.Lines.{object_tokens, condact_line, entry_tokens, table_tokens}
+use Rattle.paw_print.specs.Lines.{object_tokens, condact_line, entry_tokens}
 
 -- the lines of rows that are numbered from n on
 abbrev pub numbered : {A : Type 0} → (ℕ → A → List (List ℕ)) → ℕ → List A → List (List ℕ)
@@ -42,9 +42,9 @@ objects_lines ws objects = codes "/OBJ" ∷ numbered (object_lines ws) 0 objects
 abbrev pub entry_lines : List Word → Entry → List (List ℕ)
 entry_lines ws e = spaced (entry_tokens ws e) ∷ map (condact_line ws) e.condacts
 
--- a table: its header, and its entries
+-- a table: its header with its number, and its entries
 abbrev pub table_lines : List Word → ℕ → List Entry → List (List ℕ)
-table_lines ws n entries = spaced (table_tokens n) ∷ flat_map (entry_lines ws) entries
+table_lines ws n entries = spaced (codes "/PRO" ∷ decimal n ∷ []) ∷ flat_map (entry_lines ws) entries
 
 -- the lines of the canonical source: all sections in their order, and all tables
 unfoldable pub canonical_lines : GameLists → List (List ℕ)

@@ -128,7 +128,3 @@ condact_line ws c = behind_spaces (condact_tokens ws c)
 -- verb, noun
 abbrev pub entry_tokens : List Word → Entry → List (List ℕ)
 entry_tokens ws e = verb_token ws e.verb ∷ value_token ws NOUN_CLASS e.noun ∷ []
-
--- the name of the header, and the number of the table
-abbrev pub table_tokens : ℕ → List (List ℕ)
-table_tokens n = codes "/PRO" ∷ decimal n ∷ []

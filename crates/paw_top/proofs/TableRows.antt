@@ -21,7 +21,7 @@ use Rattle.paw_grammar.specs.Condacts.{condacts_in, more_condacts}
 use Rattle.paw_grammar.specs.GrammarState.{Spelt, with_last}
 use Rattle.paw_grammar.specs.GrammarHeads.{next_section, section_opened, lacks_rows}
 use Rattle.paw_grammar.specs.GrammarRows.{entry_row, no_entry, more_row}
-use Rattle.paw_print.specs.Lines.{verb_token, value_token, entry_tokens, condact_tokens, condact_line, table_tokens, spaced}
+use Rattle.paw_print.specs.Lines.{verb_token, value_token, entry_tokens, condact_tokens, condact_line, spaced}
 use Rattle.paw_print.specs.Canonical.{numbered, entry_lines, table_lines}
 use Rattle.paw_top.proofs.After.{LineReads, Reads, reads_none, reads_line, reads_append}
 use Rattle.paw_top.proofs.Rows.{is_plain, row_step, more_step, slash_step, printed-spaced, printed-behind}
@@ -144,13 +144,13 @@ abbrev table_begun : Spelt → Spelt
 table_begun d = record (section_opened section.Pro d) { tables = d.tables ++ [] ∷ [] }
 
 header_step : (p : ℕ) (d : Spelt) (n : ℕ) → next_section d.section ≡ section.Pro → n ≡ length d.tables → n ≤ 255 →
-    lacks_rows d ≡ false → LineReads p d (spaced (table_tokens n)) (table_begun d)
+    lacks_rows d ≡ false → LineReads p d (spaced (codes "/PRO" ∷ decimal n ∷ [])) (table_begun d)
 unfolding number_from
 header_step p d n at is few rows =
     let small : n ≤ 65535 = omega arith in
     let within : ltb n 256 ≡ true = lt-ltb n 256 (omega arith) in
     let next : eqb n (length d.tables) ≡ true = eq-eqb n (length d.tables) is in
-    let plain : list_all is_plain (table_tokens n) ≡ true = rw (plain-decimal n small) refl in
+    let plain : list_all is_plain (codes "/PRO" ∷ decimal n ∷ []) ≡ true = rw (plain-decimal n small) refl in
     record {
       is = slash_step p d (codes "PRO") (decimal n ∷ []) plain ∙ rw at (rw (number-decimal n small, within, next, rows) refl);
       printed = printed-spaced (codes "/PRO") (decimal n ∷ []) plain;
