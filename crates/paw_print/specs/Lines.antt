@@ -2,10 +2,10 @@
 -- two.
 use Rattle.std.specs.Prelude.{ℕ, ◌==◌, ◌&&◌, Bool, List, [], ◌∷◌, ◌++◌, codes, decimal}
 use Rattle.std.specs.Prelude.{flat_map, Option, if◌then◌else◌}
-use Rattle.std.specs.List.{before_first, find, slice_split}
+use Rattle.std.specs.List.{before_first, find, slice_index_or, slice_split}
 use Rattle.std.specs.Option.{option_or, option_map_or}
 use Rattle.paw_base.specs.declared.words.TheConstants.{VERB_CLASS, ADVERB_CLASS, NOUN_CLASS, ADJECTIVE_CLASS}
-use Rattle.paw_base.specs.declared.words.TheConstants.{PREPOSITION_CLASS, CONJUNCTION_CLASS, ANY_WORD, NO_WORD}
+use Rattle.paw_base.specs.declared.words.TheConstants.{PREPOSITION_CLASS, ANY_WORD, NO_WORD}
 use Rattle.paw_base.specs.declared.parts.Condact.{Condact}
 use Rattle.paw_base.specs.declared.parts.ObjectFacts.{ObjectFacts}
 use Rattle.paw_base.specs.declared.rows.ParamKind.{ParamKind}
@@ -56,16 +56,12 @@ value_token ws class value = word_token value (first_word ws class value)
 abbrev pub verb_token : List Word → ℕ → List ℕ
 verb_token ws value = word_token value (first_verb ws value)
 
--- the name of a class
+-- the name of a class, by its number
 abbrev pub class_name : ℕ → List ℕ
 class_name class =
-    if class == VERB_CLASS then codes "verb"
-    else (if class == ADVERB_CLASS then codes "adverb"
-    else (if class == NOUN_CLASS then codes "noun"
-    else (if class == ADJECTIVE_CLASS then codes "adjective"
-    else (if class == PREPOSITION_CLASS then codes "preposition"
-    else (if class == CONJUNCTION_CLASS then codes "conjunction"
-    else codes "pronoun")))))
+    slice_index_or
+    (codes "verb" ∷ codes "adverb" ∷ codes "noun" ∷ codes "adjective" ∷ codes "preposition" ∷ codes "conjunction" ∷ [])
+    class (codes "pronoun")
 
 -- letters, value, class
 abbrev pub word_tokens : Word → List (List ℕ)
