@@ -1,6 +1,6 @@
 -- The rows of a source, as the canonical source has them: each the tokens that it is made of, one space between each
 -- two.
-use Rattle.std.specs.Prelude.{ℕ, ◌==◌, ◌&&◌, Bool, List, [], ◌∷◌, ◌++◌, codes, decimal}
+use Rattle.std.specs.Prelude.{ℕ, ◌==◌, ◌&&◌, List, [], ◌∷◌, ◌++◌, codes, decimal}
 use Rattle.std.specs.Prelude.{flat_map, Option, if◌then◌else◌}
 use Rattle.std.specs.List.{before_first, find, slice_index_or, slice_split}
 use Rattle.std.specs.Option.{option_or, option_map_or}
@@ -30,17 +30,9 @@ spaced (t ∷ ts) = t ++ behind_spaces ts
 abbrev pub spelled_letters : Word → List ℕ
 spelled_letters w = before_first (λ b. b == 32) w.letters
 
--- a word of this class with this value
-abbrev pub means : ℕ → ℕ → Word → Bool
-means class value w = (w.class == class) && (w.value == value)
-
 -- the first word in order of this class with this value
 abbrev pub first_word : List Word → ℕ → ℕ → Option Word
-first_word ws class value = find (means class value) ws
-
--- a verb value stands for the first verb with it, and where there is none for the first noun
-abbrev pub first_verb : List Word → ℕ → Option Word
-first_verb ws value = option_or (first_word ws VERB_CLASS value) (first_word ws NOUN_CLASS value)
+first_word ws class value = find (λ w. (w.class == class) && (w.value == value)) ws
 
 -- where a word stands, a value is `*`, `_` or its word; a game has a word for each of its other values
 abbrev pub word_token : ℕ → Option Word → List ℕ
@@ -52,9 +44,9 @@ word_token value word =
 abbrev pub value_token : List Word → ℕ → ℕ → List ℕ
 value_token ws class value = word_token value (first_word ws class value)
 
--- the token of a verb value
+-- the token of a verb value, which stands for the first verb with it, and where there is none for the first noun
 abbrev pub verb_token : List Word → ℕ → List ℕ
-verb_token ws value = word_token value (first_verb ws value)
+verb_token ws value = word_token value (option_or (first_word ws VERB_CLASS value) (first_word ws NOUN_CLASS value))
 
 -- the name of a class, by its number
 abbrev pub class_name : ℕ → List ℕ
