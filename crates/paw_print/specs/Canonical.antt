@@ -30,13 +30,9 @@ location_lines ws n (x ∷ xs) = item_token n ∷ map (λ y. spaced (exit_tokens
 abbrev pub exits_lines : List Word → List (List Exit) → List (List ℕ)
 exits_lines ws exits = codes "/CON" ∷ numbered (location_lines ws) 0 exits
 
--- the line of an object
-abbrev pub object_lines : List Word → ℕ → ObjectRow → List (List ℕ)
-object_lines ws n o = spaced (object_tokens ws n o.facts) ∷ []
-
 -- the objects: a line for each
 abbrev pub objects_lines : List Word → List ObjectRow → List (List ℕ)
-objects_lines ws objects = codes "/OBJ" ∷ numbered (object_lines ws) 0 objects
+objects_lines ws objects = codes "/OBJ" ∷ numbered (λ n o. spaced (object_tokens ws n o.facts) ∷ []) 0 objects
 
 -- an entry: its verb and its noun, and a line for each condact
 abbrev pub entry_lines : List Word → Entry → List (List ℕ)

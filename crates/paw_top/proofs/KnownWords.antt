@@ -220,7 +220,10 @@ some_verb ws value words h =
     elim (first_word ws 0 value) as (λ o. first_word ws 0 value ≡ o → (w : Word) × Verb ws value w) [
       | Some w ↦ λ e. (w, verb_is ws value w words e)
       | None ↦ λ e. elim (or_cases (has_word ws 0 value) (ltb value 20 && has_word ws 2 value) h) [
-        | inl has ↦ let found = find_some (means 0 value) ws has in absurd cc
+        | inl has ↦
+            let found = find_some (means 0 value) ws has in
+            let first : first_word ws 0 value ≡ Some found.0 = found.1 in
+            absurd cc
         | inr has ↦
             let both = and_parts (ltb value 20) (has_word ws 2 value) has in
             let found = find_some (means 2 value) ws both.1 in

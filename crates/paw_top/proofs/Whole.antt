@@ -20,8 +20,8 @@ use Rattle.paw_grammar.specs.GrammarTexts.{is_text_section, with_texts, text_lim
 use Rattle.paw_grammar.specs.GrammarHeads.{header_name, section_opened, lacks_rows}
 use Rattle.paw_grammar.specs.Spells.{begins_table, spelled_after, spelled}
 use Rattle.paw_source.specs.inner.Laws.{CountsTables}
-use Rattle.paw_print.specs.Lines.{spaced, word_tokens, text_lines}
-use Rattle.paw_print.specs.Canonical.{words_lines, texts_lines, location_lines, exits_lines, object_lines, objects_lines, table_lines, numbered}
+use Rattle.paw_print.specs.Lines.{spaced, word_tokens, object_tokens, text_lines}
+use Rattle.paw_print.specs.Canonical.{words_lines, texts_lines, location_lines, exits_lines, objects_lines, table_lines, numbered}
 use Rattle.paw_print.specs.Canonical.{canonical_lines, canonical_of}
 use Rattle.paw_top.specs.Round.{SpellsItself}
 use Rattle.paw_top.proofs.After.{LineReads, Reads, reads_line, reads_append, reads_whole}
@@ -182,7 +182,7 @@ whole_read p g r s =
     let d7 : Spelt = record c6 { facts = map (λ (o : ObjectRow). o.facts) g.objects } in
     let obj : List (List ℕ) = objects_lines g.words g.objects in
     let t7 : Reads p d6 obj d7 =
-    reads_line p d6 c6 d7 (codes "/OBJ") (numbered (object_lines g.words) 0 g.objects) (header_reads p d6 section.Con refl tt)
+    reads_line p d6 c6 d7 (codes "/OBJ") (numbered (λ n (o : ObjectRow). spaced (object_tokens g.words n o.facts) ∷ []) 0 g.objects) (header_reads p d6 section.Con refl tt)
     (objects_read p c6 [] 0 g.objects refl scene6 refl rows names_few r.objects) in
     let l7 : List (List ℕ) = l5 ++ con ++ obj in
     let r7 : Reads p nothing_yet l7 d7 = reads_append p nothing_yet d6 d7 (l5 ++ con) obj r6 t7 in
