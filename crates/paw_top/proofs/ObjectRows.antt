@@ -124,7 +124,7 @@ object_step p d fs f at r =
 pub objects_read : (p : ℕ) (d : Spelt) (fs : List ObjectFacts) (n : ℕ) (os : List ObjectRow) → d.section ≡ section.Obj →
     Scene d → n ≡ length fs → length fs + length os ≤ length d.names → length d.names ≤ 255
     → list_all (is_object d.words (length d.locations)) os ≡ true →
-    Reads p (record d { facts = fs }) (numbered (λ k o. spaced (object_tokens d.words k o.facts) ∷ []) n os)
+    Reads p (record d { facts = fs }) (numbered (λ k (o : ObjectRow). spaced (object_tokens d.words k o.facts) ∷ []) n os)
     (record d { facts = fs ++ map (λ o. o.facts) os })
 objects_read p d fs n [] at scene is room most h = rw (append-nil fs) (reads_none p (record d { facts = fs }))
 objects_read p d fs n (o ∷ os) at scene is room most h =
