@@ -9,7 +9,7 @@ use Rattle.paw_base.specs.Faults.{◌>>=◌}
 use Rattle.paw_grammar.specs.Tokens.{ended, is_named}
 use Rattle.paw_grammar.specs.Numbers.{number_below}
 use Rattle.paw_grammar.specs.GrammarState.{Spelt, all_exits}
-use Rattle.paw_grammar.specs.GrammarTexts.{is_text_section, text_item, text_limit, texts_of, with_texts}
+use Rattle.paw_grammar.specs.GrammarTexts.{text_item, text_limit, texts_of, with_texts}
 
 -- ---- headers ----
 
@@ -91,7 +91,7 @@ new_exits d n =
 -- an item of a section; only texts and exits have items
 abbrev pub item_in : Section → Spelt → ℕ → Result Spelt SourceKind
 item_in section.Con d n = new_exits d n
-item_in s d n = if is_text_section s then new_text s d n else Err kind.Section
+item_in s d n = if nat_lt 0 (text_limit s) then new_text s d n else Err kind.Section
 
 -- ---- the line ----
 

@@ -1,5 +1,5 @@
 -- The four sections of texts: items and text lines.
-use Rattle.std.specs.Prelude.{ℕ, ◌==◌, ◌&&◌, Bool, not, List, [], ◌∷◌}
+use Rattle.std.specs.Prelude.{ℕ, ◌==◌, Bool, not, List, [], ◌∷◌}
 use Rattle.std.specs.Prelude.{◌++◌, length, nat_lt, if◌then◌else◌, Result, Ok, Err}
 use Rattle.paw_base.specs.declared.limits.TheConstants.{SYSTEM_LIMIT, MESSAGE_LIMIT, OBJECT_LIMIT, LOCATION_LIMIT}
 use Rattle.paw_base.specs.declared.limits.TheConstants.{TEXT_LIMIT}
@@ -11,7 +11,7 @@ use Rattle.paw_base.specs.Faults.{◌>>=◌}
 use Rattle.paw_grammar.specs.Tokens.{at_most}
 use Rattle.paw_grammar.specs.GrammarState.{Spelt, last_or, with_last}
 
--- the texts of a section
+-- the texts of a section; others than sections of texts have none
 abbrev pub texts_of : Section → Spelt → List (List ℕ)
 texts_of section.Stx d = d.system
 texts_of section.Mtx d = d.messages
@@ -27,17 +27,13 @@ with_texts section.Otx begun ts d = record d { names = ts; begun = begun }
 with_texts section.Ltx begun ts d = record d { locations = ts; begun = begun }
 with_texts _ begun ts d = d
 
--- the most texts of a section
+-- the most texts of a section; others than sections of texts have none
 abbrev pub text_limit : Section → ℕ
 text_limit section.Stx = SYSTEM_LIMIT
 text_limit section.Mtx = MESSAGE_LIMIT
 text_limit section.Otx = OBJECT_LIMIT
 text_limit section.Ltx = LOCATION_LIMIT
 text_limit _ = 0
-
--- a section of texts, which may have some
-abbrev pub is_text_section : Section → Bool
-is_text_section s = nat_lt 0 (text_limit s)
 
 -- the texts with an empty one more: its number is how many there were before, and there may be no more than the limit
 abbrev pub text_item : ℕ → ℕ → List (List ℕ) → Result (List (List ℕ)) SourceKind
@@ -49,7 +45,7 @@ text_item limit n ts =
 -- A line that doesn't begin with `/` after an item of a section of texts. (A line that begins with `;` is none either,
 -- as it is a comment everywhere.)
 abbrev pub is_in_text : Spelt → Bool
-is_in_text d = is_text_section d.section && not (length (texts_of d.section d) == 0)
+is_in_text d = not (length (texts_of d.section d) == 0)
 
 -- a text and one line more: lines are joined by LF
 abbrev pub with_line : Bool → List ℕ → List ℕ → List ℕ

@@ -16,7 +16,7 @@ use Rattle.paw_lex.proofs.Printed.{lines_of-printed_lines}
 use Rattle.paw_grammar.specs.declared.section.Section.{Section}
 use Rattle.paw_grammar.specs.declared.section.Section.TheVariants as section
 use Rattle.paw_grammar.specs.GrammarState.{Spelt, nothing_yet, all_exits, game_of}
-use Rattle.paw_grammar.specs.GrammarTexts.{is_text_section, with_texts, text_limit}
+use Rattle.paw_grammar.specs.GrammarTexts.{with_texts, text_limit}
 use Rattle.paw_grammar.specs.GrammarHeads.{header_name, section_opened, lacks_rows}
 use Rattle.paw_grammar.specs.Spells.{begins_table, spelled_after, spelled}
 use Rattle.paw_source.specs.inner.Laws.{CountsTables}
@@ -27,7 +27,7 @@ use Rattle.paw_top.specs.Round.{SpellsItself}
 use Rattle.paw_top.proofs.After.{LineReads, Reads, reads_line, reads_append, reads_whole}
 use Rattle.paw_top.proofs.Headers.{header_reads, exits_header_reads}
 use Rattle.paw_top.proofs.WordRows.{words_read}
-use Rattle.paw_top.proofs.TextItems.{items_read}
+use Rattle.paw_top.proofs.TextItems.{is_text_section, items_read}
 use Rattle.paw_top.proofs.ExitRows.{Scene, Filled, locations_read}
 use Rattle.paw_top.proofs.ObjectRows.{objects_read, objects_of-map}
 use Rattle.paw_top.proofs.CondactRows.{Small}
