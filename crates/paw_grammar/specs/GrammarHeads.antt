@@ -13,29 +13,16 @@ use Rattle.paw_grammar.specs.GrammarTexts.{text_item, text_limit, texts_of, with
 
 -- ---- headers ----
 
--- the section whose header comes next; that of tables is followed by itself
-abbrev pub next_section : Section → Section
-next_section section.Before = section.Voc
-next_section section.Voc = section.Stx
-next_section section.Stx = section.Mtx
-next_section section.Mtx = section.Otx
-next_section section.Otx = section.Ltx
-next_section section.Ltx = section.Con
-next_section section.Con = section.Obj
-next_section section.Obj = section.Pro
-next_section section.Pro = section.Pro
-
--- the name of a section's header
-abbrev pub header_name : Section → List ℕ
-header_name section.Before = []
-header_name section.Voc = codes "/VOC"
-header_name section.Stx = codes "/STX"
-header_name section.Mtx = codes "/MTX"
-header_name section.Otx = codes "/OTX"
-header_name section.Ltx = codes "/LTX"
-header_name section.Con = codes "/CON"
-header_name section.Obj = codes "/OBJ"
-header_name section.Pro = codes "/PRO"
+-- the header that comes next after a section, and the section that it opens; after objects, and after a table, a table
+abbrev pub next_header : Section → List ℕ × Section
+next_header section.Before = (codes "/VOC", section.Voc)
+next_header section.Voc = (codes "/STX", section.Stx)
+next_header section.Stx = (codes "/MTX", section.Mtx)
+next_header section.Mtx = (codes "/OTX", section.Otx)
+next_header section.Otx = (codes "/LTX", section.Ltx)
+next_header section.Ltx = (codes "/CON", section.Con)
+next_header section.Con = (codes "/OBJ", section.Obj)
+next_header _ = (codes "/PRO", section.Pro)
 
 -- a section opens
 abbrev pub section_opened : Section → Spelt → Spelt
@@ -73,8 +60,7 @@ header_of s d ts = plain_header s d ts
 -- a header has to be the next in order
 abbrev pub header : Spelt → List ℕ → List (List ℕ) → Result Spelt SourceKind
 header d name ts =
-    if is_named name (header_name (next_section d.section)) then header_of (next_section d.section) d ts
-    else Err kind.Section
+    if is_named name (next_header d.section).0 then header_of (next_header d.section).1 d ts else Err kind.Section
 
 -- ---- items ----
 

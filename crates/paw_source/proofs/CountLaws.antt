@@ -20,7 +20,7 @@ use Rattle.paw_grammar.specs.Tokens.{is_named}
 use Rattle.paw_grammar.specs.Numbers.{number, number_from, is_digit}
 use Rattle.paw_grammar.specs.GrammarState.{Spelt, last_or, with_last}
 use Rattle.paw_grammar.specs.GrammarTexts.{texts_of, with_texts, text_limit, text_item, text_line, is_in_text}
-use Rattle.paw_grammar.specs.GrammarHeads.{next_section, header_name, section_opened, plain_header, con_header}
+use Rattle.paw_grammar.specs.GrammarHeads.{next_header, section_opened, plain_header, con_header}
 use Rattle.paw_grammar.specs.GrammarHeads.{pro_header, header_of, new_text}
 use Rattle.paw_grammar.specs.GrammarHeads.{new_exits, item_in, slash_line}
 use Rattle.paw_grammar.specs.GrammarRows.{voc_row, exit_row, con_row, object_row, bounds_of, entry_row, more_row, pro_row, row_in}
@@ -121,7 +121,7 @@ no_more d e true h same = absurd cc
 no_more d e false h same = omega (arith, same)
 
 header_counts : (s : Section) (d e : Spelt) (t : List ℕ) (ts : List (List ℕ))
-    → is_named t (header_name (next_section s)) ≡ true → header_of (next_section s) d ts ≡ Ok e
+    → is_named t (next_header s).0 ≡ true → header_of (next_header s).1 d ts ≡ Ok e
     → tables e ≡ tables d + begun (t ∷ ts)
 header_counts section.Before d e t ts f h = no_more d e (is_named t (codes "/PRO")) (not_pro t (codes "/VOC") f refl) (plain_same section.Voc d e ts h)
 header_counts section.Voc d e t ts f h = no_more d e (is_named t (codes "/PRO")) (not_pro t (codes "/STX") f refl) (plain_same section.Stx d e ts h)
@@ -138,7 +138,7 @@ slash_counts : (d e : Spelt) (t : List ℕ) (o : Option ℕ) (ts : List (List �
 slash_counts d e t (Some n) ts o h =
     no_more d e (is_named t (codes "/PRO")) (number_not_pro t n o) (item_same d.section n d e (at_end ts (item_in d.section d n) e h))
 slash_counts d e t None ts o h =
-    let b = holds (is_named t (header_name (next_section d.section))) kind.Section (header_of (next_section d.section) d ts) e h in
+    let b = holds (is_named t (next_header d.section).0) kind.Section (header_of (next_header d.section).1 d ts) e h in
     header_counts d.section d e t ts b.0 b.1
 
 -- ---- rows

@@ -25,7 +25,7 @@ use Rattle.paw_grammar.specs.Tokens.{is_named}
 use Rattle.paw_grammar.specs.Numbers.{number}
 use Rattle.paw_grammar.specs.GrammarState.{Spelt, last_or, with_last}
 use Rattle.paw_grammar.specs.GrammarTexts.{texts_of, with_texts, text_limit, text_item, text_line, is_in_text}
-use Rattle.paw_grammar.specs.GrammarHeads.{next_section, header_name, section_opened, plain_header, con_header}
+use Rattle.paw_grammar.specs.GrammarHeads.{next_header, section_opened, plain_header, con_header}
 use Rattle.paw_grammar.specs.GrammarHeads.{lacks_rows, pro_header, header_of, new_text}
 use Rattle.paw_grammar.specs.GrammarHeads.{new_exits, item_in, slash_line}
 use Rattle.paw_grammar.specs.GrammarRows.{voc_row, exit_row, con_row, object_row, obj_row, bounds_of, entry_row, more_row, pro_row, row_in}
@@ -309,7 +309,7 @@ first_table d at h =
     let enough : ltb (length d.facts) (length d.names) ≡ false = ap (λ (b : Bool). b && ltb (length d.facts) (length d.names)) (sym first) ∙ h in
     grind (arith, nat_tests, enough)
 
-header_of_keeps : (p : ℕ) (s : Section) (d e : Spelt) (ts : List (List ℕ)) → d.section ≡ s → Keeps p d → header_of (next_section s) d ts ≡ Ok e → Keeps p e
+header_of_keeps : (p : ℕ) (s : Section) (d e : Spelt) (ts : List (List ℕ)) → d.section ≡ s → Keeps p d → header_of (next_header s).1 d ts ≡ Ok e → Keeps p e
 header_of_keeps p section.Before d e ts here k h = plain_keeps p section.Voc d e ts k (at_section section.Before d here k.order) h
 header_of_keeps p section.Voc d e ts here k h = plain_keeps p section.Stx d e ts k (at_section section.Voc d here k.order) h
 header_of_keeps p section.Stx d e ts here k h = plain_keeps p section.Mtx d e ts k (at_section section.Stx d here k.order) h
@@ -329,7 +329,7 @@ header_of_keeps p section.Pro d e ts here k h =
 slash_keeps : (p : ℕ) (d e : Spelt) (name : List ℕ) (o : Option ℕ) (ts : List (List ℕ)) → Keeps p d → slash_line d name o ts ≡ Ok e → Keeps p e
 slash_keeps p d e name (Some n) ts k h = item_keeps p d.section n d e refl k (at_end ts (item_in d.section d n) e h)
 slash_keeps p d e name None ts k h =
-    let b = holds (is_named name (header_name (next_section d.section))) kind.Section (header_of (next_section d.section) d ts) e h in
+    let b = holds (is_named name (next_header d.section).0) kind.Section (header_of (next_header d.section).1 d ts) e h in
     header_of_keeps p d.section d e ts refl k b.1
 
 -- ---- rows

@@ -6,8 +6,8 @@ ghost use Rattle.paw_grammar.specs.inner.Condacts.{AreSmall};
 ghost use Rattle.paw_faults.specs.inner.Gives.{Gives};
 ghost use Rattle.paw_grammar.specs.GrammarState.{game_of, nothing_yet};
 ghost use Rattle.paw_grammar.specs.GrammarTexts.{is_in_text};
-ghost use Rattle.paw_grammar.specs.GrammarHeads.{con_header, header, header_name, header_of, item_in, new_exits};
-ghost use Rattle.paw_grammar.specs.GrammarHeads.{next_section, plain_header, pro_header, slash_line};
+ghost use Rattle.paw_grammar.specs.GrammarHeads.{con_header, header, header_of, item_in, new_exits, next_header};
+ghost use Rattle.paw_grammar.specs.GrammarHeads.{plain_header, pro_header, slash_line};
 ghost use Rattle.paw_grammar.specs.GrammarRows.{bounds_of, con_row, obj_row, pro_row, row_in};
 ghost use Rattle.paw_grammar.specs.Spells.{text_added};
 ghost use Rattle.paw_source.specs.inner.Drafts.{HasTable};
@@ -79,7 +79,7 @@ fn fault(kind: SourceKind) -> Result<(), ReadError>
 
 /// The section whose header comes next.
 fn next_section(section: Section) -> Section
-    ensures { result ≡ next_section section }
+    ensures { result ≡ (next_header section).1 }
 {
     match section {
         Section::Before => Section::Voc,
@@ -93,20 +93,19 @@ fn next_section(section: Section) -> Section
     }
 }
 
-/// The name of a section's header.
-fn header_name(section: Section) -> &'static [u8]
-    ensures { result.now ≡ header_name section }
+/// The name of the header that comes next.
+fn next_name(section: Section) -> &'static [u8]
+    ensures { result.now ≡ (next_header section).0 }
 {
     match section {
-        Section::Before => b"",
-        Section::Voc => b"/VOC",
-        Section::Stx => b"/STX",
-        Section::Mtx => b"/MTX",
-        Section::Otx => b"/OTX",
-        Section::Ltx => b"/LTX",
-        Section::Con => b"/CON",
-        Section::Obj => b"/OBJ",
-        Section::Pro => b"/PRO",
+        Section::Before => b"/VOC",
+        Section::Voc => b"/STX",
+        Section::Stx => b"/MTX",
+        Section::Mtx => b"/OTX",
+        Section::Otx => b"/LTX",
+        Section::Ltx => b"/CON",
+        Section::Con => b"/OBJ",
+        Section::Obj | Section::Pro => b"/PRO",
     }
 }
 
@@ -245,11 +244,10 @@ impl Draft {
     fn header(&mut self, alloc: Global, name: &[u8], tokens: &mut Tokens) -> Result<(), ReadError>
         ensures { Gives (λ _. self.new) result (header self.old name.now tokens.old) }
     {
-        let next = next_section(self.section);
-        if !is_named(name, header_name(next)) {
+        if !is_named(name, next_name(self.section)) {
             return fault(SourceKind::Section);
         }
-        self.open(alloc, next, tokens)
+        self.open(alloc, next_section(self.section), tokens)
     }
 
     fn open(&mut self, alloc: Global, next: Section, tokens: &mut Tokens) -> Result<(), ReadError>

@@ -19,7 +19,7 @@ use Rattle.paw_grammar.specs.Numbers.{number_from}
 use Rattle.paw_grammar.specs.Vocabulary.{entry_verb, entry_noun}
 use Rattle.paw_grammar.specs.Condacts.{condacts_in, more_condacts}
 use Rattle.paw_grammar.specs.GrammarState.{Spelt, with_last}
-use Rattle.paw_grammar.specs.GrammarHeads.{next_section, section_opened, lacks_rows}
+use Rattle.paw_grammar.specs.GrammarHeads.{next_header, section_opened, lacks_rows}
 use Rattle.paw_grammar.specs.GrammarRows.{entry_row, no_entry, more_row}
 use Rattle.paw_print.specs.Lines.{verb_token, value_token, entry_tokens, condact_tokens, condact_line, spaced}
 use Rattle.paw_print.specs.Canonical.{numbered, entry_lines, table_lines}
@@ -143,7 +143,7 @@ entries_read p g exits ts done (e ∷ es) s few h =
 abbrev table_begun : Spelt → Spelt
 table_begun d = record (section_opened section.Pro d) { tables = d.tables ++ [] ∷ [] }
 
-header_step : (p : ℕ) (d : Spelt) (n : ℕ) → next_section d.section ≡ section.Pro → n ≡ length d.tables → n ≤ 255 →
+header_step : (p : ℕ) (d : Spelt) (n : ℕ) → next_header d.section ≡ (codes "/PRO", section.Pro) → n ≡ length d.tables → n ≤ 255 →
     lacks_rows d ≡ false → LineReads p d (spaced (codes "/PRO" ∷ decimal n ∷ [])) (table_begun d)
 unfolding number_from
 header_step p d n at is few rows =
@@ -158,7 +158,7 @@ header_step p d n at is few rows =
 
 pub table_read : (p : ℕ) (g : GameLists) (exits : List (List Exit)) (d : Spelt) (ts : List (List Entry)) (n : ℕ)
     (es : List Entry) → Small p g → table_begun d ≡ spelt_of g exits (ts ++ [] ∷ [])
-    → next_section d.section ≡ section.Pro → n ≡ length d.tables → n ≤ 255 → lacks_rows d ≡ false →
+    → next_header d.section ≡ (codes "/PRO", section.Pro) → n ≡ length d.tables → n ≤ 255 → lacks_rows d ≡ false →
     is_table g es ≡ true → Reads p d (table_lines g.words n es) (spelt_of g exits (ts ++ es ∷ []))
 table_read p g exits d ts n es s begun at is few rows h =
     let both = and_parts (leb (length es) 4000) (list_all (is_entry g) es) h in
