@@ -1,5 +1,5 @@
 -- What the lines of a source spell, as far as they are read.
-use Rattle.std.specs.Prelude.{ℕ, ◌-◌, Bool, false, List, [], ◌∷◌, ◌++◌, length, replicate}
+use Rattle.std.specs.Prelude.{ℕ, ◌-◌, Bool, false, List, [], ◌++◌, length, replicate}
 use Rattle.std.specs.Prelude.{map, slice_set}
 use Rattle.std.specs.List.{slice_index_or, zip}
 use Rattle.paw_base.specs.declared.parts.ObjectFacts.{ObjectFacts}
