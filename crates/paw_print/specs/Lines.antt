@@ -1,6 +1,6 @@
 -- The rows of a source, as the canonical source has them: each the tokens that it is made of, one space between each
 -- two.
-use Rattle.std.specs.Prelude.{ℕ, ◌==◌, ◌&&◌, List, [], ◌∷◌, ◌++◌, codes, decimal}
+use Rattle.std.specs.Prelude.{ℕ, ◌==◌, ◌&&◌, Bool, List, [], ◌∷◌, ◌++◌, codes, decimal}
 use Rattle.std.specs.Prelude.{flat_map, Option, if◌then◌else◌}
 use Rattle.std.specs.List.{before_first, find, slice_index_or, slice_split}
 use Rattle.std.specs.Option.{option_or, option_map_or}
