@@ -12,8 +12,6 @@ use Rattle.paw_base.specs.declared.rows.ParamKind.{ParamKind}
 use Rattle.paw_base.specs.declared.rows.ParamKind.TheVariants as kind
 use Rattle.paw_base.specs.Condacts.{name_of, first_kind, second_kind}
 use Rattle.paw_game.specs.declared.parts.Word.{Word}
-use Rattle.paw_game.specs.declared.parts.Exit.{Exit}
-use Rattle.paw_game.specs.declared.parts.Entry.{Entry}
 
 -- tokens, each behind one space
 abbrev pub behind_spaces : List (List ℕ) → List ℕ
@@ -55,10 +53,6 @@ class_name class =
     (codes "verb" ∷ codes "adverb" ∷ codes "noun" ∷ codes "adjective" ∷ codes "preposition" ∷ codes "conjunction" ∷ [])
     class (codes "pronoun")
 
--- letters, value, class
-abbrev pub word_tokens : Word → List (List ℕ)
-word_tokens w = spelled_letters w ∷ decimal w.value ∷ class_name w.class ∷ []
-
 -- ---- texts ----
 
 -- the number of an item behind its stroke
@@ -73,12 +67,6 @@ lines_of_text (b ∷ bs) = slice_split (λ c. c == 10) (b ∷ bs)
 -- an item, and the lines of its text
 abbrev pub text_lines : ℕ → List ℕ → List (List ℕ)
 text_lines n text = item_token n ∷ lines_of_text text
-
--- ---- exits ----
-
--- verb, location
-abbrev pub exit_tokens : List Word → Exit → List (List ℕ)
-exit_tokens ws x = verb_token ws x.verb ∷ decimal x.to ∷ []
 
 -- ---- objects ----
 
@@ -104,15 +92,8 @@ parameter_tokens ws kind.Adjective x = value_token ws ADJECTIVE_CLASS x ∷ []
 parameter_tokens ws kind.Preposition x = value_token ws PREPOSITION_CLASS x ∷ []
 parameter_tokens ws _ x = decimal x ∷ []
 
--- name, parameters
-abbrev pub condact_tokens : List Word → Condact → List (List ℕ)
-condact_tokens ws c =
-    name_of c.code ∷ (parameter_tokens ws (first_kind c.code) c.a ++ parameter_tokens ws (second_kind c.code) c.b)
-
--- a condact stands on a line of its own behind one space, and so does each of its parameters
+-- a condact stands on a line of its own: its name and its parameters, each behind one space
 abbrev pub condact_line : List Word → Condact → List ℕ
-condact_line ws c = behind_spaces (condact_tokens ws c)
-
--- verb, noun
-abbrev pub entry_tokens : List Word → Entry → List (List ℕ)
-entry_tokens ws e = verb_token ws e.verb ∷ value_token ws NOUN_CLASS e.noun ∷ []
+condact_line ws c =
+    behind_spaces (name_of c.code
+    ∷ (parameter_tokens ws (first_kind c.code) c.a ++ parameter_tokens ws (second_kind c.code) c.b))

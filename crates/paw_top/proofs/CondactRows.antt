@@ -14,6 +14,7 @@ use Rattle.paw_base.specs.Condacts.{condact_lines, line_of, name_of, first_kind,
 use Rattle.paw_base.specs.inner.Condacts.{IsCode}
 use Rattle.paw_base.proofs.Table.{below, each_code}
 use Rattle.paw_base.proofs.Named.{code_named-name_of}
+use Rattle.paw_game.specs.declared.parts.Word.{Word}
 use Rattle.paw_game.specs.declared.parts.ObjectRow.{ObjectRow}
 use Rattle.paw_game.specs.Game.{GameLists}
 use Rattle.paw_game.specs.Valid.{is_within, is_parameter, is_condact, is_word_or_none}
@@ -22,7 +23,7 @@ use Rattle.paw_base.specs.Faults.{◌>>=◌}
 use Rattle.paw_grammar.specs.Tokens.{at_most}
 use Rattle.paw_grammar.specs.Vocabulary.{word_or_none}
 use Rattle.paw_grammar.specs.Condacts.{parameter, condact, condacts_in, with_more_condacts, more_condacts}
-use Rattle.paw_print.specs.Lines.{value_token, parameter_tokens, condact_tokens}
+use Rattle.paw_print.specs.Lines.{value_token, parameter_tokens}
 use Rattle.paw_top.proofs.Rows.{is_plain}
 use Rattle.paw_top.proofs.Digits.{number-decimal, plain-decimal}
 use Rattle.paw_top.proofs.KnownWords.{Words, ReadsBack, word_or_none_back}
@@ -114,6 +115,10 @@ parameter_back p g kind.Adjective x s h = let b = word_parameter p g 3 x s h in 
 parameter_back p g kind.Preposition x s h = let b = word_parameter p g 4 x s h in record { plain = rw b.plain refl; count = refl; read = λ ts. b.is ts }
 
 -- ---- a condact ----
+
+-- name, parameters
+abbrev pub condact_tokens : List Word → Condact → List (List ℕ)
+condact_tokens ws c = name_of c.code ∷ (parameter_tokens ws (first_kind c.code) c.a ++ parameter_tokens ws (second_kind c.code) c.b)
 
 skipped : (p : ℕ) (g : GameLists) (ts : List (List ℕ)) → condacts_in (bounds p g) g.words (length ts) ts ≡ Ok []
 unfolding condacts_in

@@ -15,7 +15,7 @@ use Rattle.paw_grammar.specs.GrammarState.{Spelt}
 use Rattle.paw_grammar.specs.GrammarTexts.{is_in_text}
 use Rattle.paw_grammar.specs.GrammarHeads.{item_in}
 use Rattle.paw_grammar.specs.GrammarRows.{exit_row, con_row, row_in}
-use Rattle.paw_print.specs.Lines.{verb_token, item_token, exit_tokens, spaced}
+use Rattle.paw_print.specs.Lines.{verb_token, item_token, spaced}
 use Rattle.paw_print.specs.Canonical.{numbered, location_lines}
 use Rattle.paw_top.proofs.After.{LineReads, Reads, reads_none, reads_line, reads_append}
 use Rattle.paw_top.proofs.Rows.{is_plain, row_step, plain_printed, printed-spaced}
@@ -51,6 +51,10 @@ fresh_more done x (y ∷ ys) h g =
     and_from _ _ (not_from_false _ none) (fresh_more done x ys here.1 others.1)
 
 -- ---- one exit ----
+
+-- verb, location
+abbrev exit_tokens : List Word → Exit → List (List ℕ)
+exit_tokens ws x = verb_token ws x.verb ∷ decimal x.to ∷ []
 
 -- what a row of an exit needs
 record ExitRow (ws : List Word) (locations : ℕ) (done : List Exit) (x : Exit) : Type 0 where

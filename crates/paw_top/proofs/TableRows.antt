@@ -21,14 +21,14 @@ use Rattle.paw_grammar.specs.Condacts.{condacts_in, more_condacts}
 use Rattle.paw_grammar.specs.GrammarState.{Spelt, with_last}
 use Rattle.paw_grammar.specs.GrammarHeads.{next_header, section_opened, lacks_rows}
 use Rattle.paw_grammar.specs.GrammarRows.{entry_row, no_entry, more_row}
-use Rattle.paw_print.specs.Lines.{verb_token, value_token, entry_tokens, condact_tokens, condact_line, spaced}
+use Rattle.paw_print.specs.Lines.{verb_token, value_token, condact_line, spaced}
 use Rattle.paw_print.specs.Canonical.{numbered, entry_lines, table_lines}
 use Rattle.paw_top.proofs.After.{LineReads, Reads, reads_none, reads_line, reads_append}
 use Rattle.paw_top.proofs.Rows.{is_plain, row_step, more_step, slash_step, printed-spaced, printed-behind}
 use Rattle.paw_top.proofs.Digits.{number-decimal, plain-decimal}
 use Rattle.paw_top.proofs.Lasts.{last_or-push, with_last-push}
 use Rattle.paw_top.proofs.KnownWords.{ReadsBack, entry_verb_back, entry_noun_back}
-use Rattle.paw_top.proofs.CondactRows.{bounds, Small, CondactBack, condact_back, more_condacts-is}
+use Rattle.paw_top.proofs.CondactRows.{condact_tokens, bounds, Small, CondactBack, condact_back, more_condacts-is}
 
 -- all of a game is spelled, but for its tables, of which these are
 abbrev pub spelt_of : GameLists → List (List Exit) → List (List Entry) → Spelt
@@ -92,6 +92,10 @@ condacts_read p g exits ts es e done (c ∷ cs) s few h =
     reads_line p _ _ _ _ _ (condact_step p g exits ts es e done c (condact_back p g c s both.0) room) (rw same at rest)
 
 -- ---- an entry ----
+
+-- verb, noun
+abbrev entry_tokens : List Word → Entry → List (List ℕ)
+entry_tokens ws e = verb_token ws e.verb ∷ value_token ws 2 e.noun ∷ []
 
 -- what the line of an entry needs
 record EntryRow (ws : List Word) (e : Entry) : Type 0 where

@@ -20,13 +20,13 @@ use Rattle.paw_grammar.specs.GrammarTexts.{with_texts, text_limit}
 use Rattle.paw_grammar.specs.GrammarHeads.{section_opened, lacks_rows}
 use Rattle.paw_grammar.specs.Spells.{begins_table, spelled_after, spelled}
 use Rattle.paw_source.specs.inner.Laws.{CountsTables}
-use Rattle.paw_print.specs.Lines.{spaced, word_tokens, object_tokens, text_lines}
+use Rattle.paw_print.specs.Lines.{spaced, object_tokens, text_lines}
 use Rattle.paw_print.specs.Canonical.{words_lines, texts_lines, location_lines, exits_lines, objects_lines, table_lines, numbered}
 use Rattle.paw_print.specs.Canonical.{canonical_lines, canonical_of}
 use Rattle.paw_top.specs.Round.{SpellsItself}
 use Rattle.paw_top.proofs.After.{LineReads, Reads, reads_line, reads_append, reads_whole}
 use Rattle.paw_top.proofs.Headers.{header_reads, exits_header_reads}
-use Rattle.paw_top.proofs.WordRows.{words_read}
+use Rattle.paw_top.proofs.WordRows.{word_tokens, words_read}
 use Rattle.paw_top.proofs.TextItems.{is_text_section, items_read}
 use Rattle.paw_top.proofs.ExitRows.{Scene, Filled, locations_read}
 use Rattle.paw_top.proofs.ObjectRows.{objects_read, objects_of-map}
