@@ -1,7 +1,8 @@
 -- The condacts of a line, one after another.
-use Rattle.std.proofs.Common.{◌≡◌, ℕ, ◌≤◌, ◌+◌, min, nat_lt, Bool, List, [], ◌∷◌, ◌++◌, length, Option, Some}
-use Rattle.std.proofs.Common.{None, Result, Ok, Err, refl, sym, ap, subst, ◌∙◌, arith, append_assoc}
+use Rattle.std.proofs.Common.{◌≡◌, ℕ, ◌≤◌, ◌+◌, min, nat_lt, Bool, List, [], ◌∷◌, ◌++◌, length, Option}
+use Rattle.std.proofs.Common.{Result, Ok, Err, refl, sym, ap, subst, ◌∙◌, arith, append_assoc}
 use Rattle.std.proofs.lemmas.List.{append-nil}
+use Rattle.std.specs.Option.{ok_or}
 use Rattle.paw_base.specs.declared.fault.SourceKind.{SourceKind}
 use Rattle.paw_base.specs.declared.fault.SourceKind.TheVariants as fault
 use Rattle.paw_base.specs.declared.parts.Condact.{Condact}
@@ -11,10 +12,10 @@ use Rattle.paw_base.specs.Condacts.{code_named, first_kind, second_kind, param_c
 use Rattle.paw_game.specs.declared.parts.Word.{Word}
 use Rattle.paw_grammar.specs.declared.bounds.Bounds.{Bounds}
 use Rattle.paw_faults.specs.declared.unread.Unread.{Unread}
-use Rattle.paw_faults.specs.declared.unread.Unread.TheVariants as errors
+use Rattle.paw_faults.specs.declared.unread.Unread.TheVariants as unread
 use Rattle.paw_faults.specs.inner.Gives.{Fails}
 use Rattle.paw_base.specs.Faults.{◌>>=◌}
-use Rattle.paw_grammar.specs.Tokens.{or_fault, read_by}
+use Rattle.paw_grammar.specs.Tokens.{read_by}
 use Rattle.paw_grammar.specs.Numbers.{number, in_range, number_below}
 use Rattle.paw_grammar.specs.Vocabulary.{known, in_class, or_none}
 use Rattle.paw_grammar.proofs.Steps.{Reads, bound, pair_parts, meant, ranged}
@@ -74,31 +75,25 @@ skips_two bounds ws m n ts us rest (one t a b) (one u c d) = record { same = rw 
 abbrev with_second : Bounds → List Word → ℕ → ℕ × List (List ℕ) → Reads Condact
 with_second bounds ws code a = parameter bounds ws (second_kind code) a.1 >>= λ b. Ok (record { code = code; a = a.0; b = b.0 }, b.1)
 
-abbrev with_first : Bounds → List Word → ℕ × List (List ℕ) → Reads Condact
-with_first bounds ws code = parameter bounds ws (first_kind code.0) code.1 >>= with_second bounds ws code.0
-
-rest_same : (k : SourceKind) (ts : List (List ℕ)) (o : Option ℕ) (x : ℕ × List (List ℕ)) → or_fault k ts o ≡ Ok x → ts ≡ x.1
-rest_same k ts None x e = absurd cc
-rest_same k ts (Some n) x e = (pair_parts n x.0 ts x.1 e).1
+abbrev with_first : Bounds → List Word → List (List ℕ) → ℕ → Reads Condact
+with_first bounds ws ts code = parameter bounds ws (first_kind code) ts >>= with_second bounds ws code
 
 pub skips : (bounds : Bounds) (ws : List Word) (name : List ℕ) (ts rest : List (List ℕ)) (c : Condact)
     → condact bounds ws name ts ≡ Ok (c, rest) → Left bounds ws (params_of c.code) ts rest
 unfolding condact
 skips bounds ws name ts rest c e =
-    let code = bound (or_fault fault.Condact ts (code_named name)) (with_first bounds ws) (c, rest) e in
-    let a = bound (parameter bounds ws (first_kind code.value.0) code.value.1) (with_second bounds ws code.value.0) (c, rest) code.goes_on in
-    let b = bound (parameter bounds ws (second_kind code.value.0) a.value.1)
-    (λ b. Ok (record { code = code.value.0; a = a.value.0; b = b.0 }, b.1)) (c, rest) a.goes_on in
-    let made : Condact = record { code = code.value.0; a = a.value.0; b = b.value.0 } in
+    let code = bound (ok_or (code_named name) fault.Condact) (with_first bounds ws ts) (c, rest) e in
+    let a = bound (parameter bounds ws (first_kind code.value) ts) (with_second bounds ws code.value) (c, rest) code.goes_on in
+    let b = bound (parameter bounds ws (second_kind code.value) a.value.1)
+    (λ b. Ok (record { code = code.value; a = a.value.0; b = b.0 }, b.1)) (c, rest) a.goes_on in
+    let made : Condact = record { code = code.value; a = a.value.0; b = b.value.0 } in
     let parts = pair_parts made c b.value.1 rest b.goes_on in
-    let ts_same = rest_same fault.Condact ts (code_named name) code.value code.is in
-    let first = takes bounds ws (first_kind code.value.0) code.value.1 a.value.1 a.value.0 a.is in
-    let second = takes bounds ws (second_kind code.value.0) a.value.1 b.value.1 b.value.0 b.is in
-    let two = skips_two bounds ws (param_count (first_kind code.value.0)) (param_count (second_kind code.value.0))
-    code.value.1 a.value.1 b.value.1 first second in
-    subst (λ (us : List (List ℕ)). Left bounds ws (params_of c.code) us rest) (sym ts_same)
-    (subst (λ (d : Condact). Left bounds ws (params_of d.code) code.value.1 rest) parts.0
-    (subst (λ (us : List (List ℕ)). Left bounds ws (params_of code.value.0) code.value.1 us) parts.1 two))
+    let first = takes bounds ws (first_kind code.value) ts a.value.1 a.value.0 a.is in
+    let second = takes bounds ws (second_kind code.value) a.value.1 b.value.1 b.value.0 b.is in
+    let two = skips_two bounds ws (param_count (first_kind code.value)) (param_count (second_kind code.value))
+    ts a.value.1 b.value.1 first second in
+    subst (λ (d : Condact). Left bounds ws (params_of d.code) ts rest) parts.0
+    (subst (λ (us : List (List ℕ)). Left bounds ws (params_of code.value) ts us) parts.1 two)
 
 -- ---- the loop over the condacts
 
@@ -124,8 +119,8 @@ one_fault bounds ws cs name ts k e = rw e refl
 pub fails_here : (bounds : Bounds) (ws : List Word) (cs : List Condact) (name : List ℕ) (ts old : List (List ℕ))
     (whole : Result (List Condact) SourceKind) (e : Unread SourceKind) → old ≡ name ∷ ts
     → with_more_condacts cs (condacts_in bounds ws 0 old) ≡ whole → Fails e (condact bounds ws name ts) → Fails e whole
-fails_here bounds ws cs name ts old whole errors.Memory next invariant fails = tt
-fails_here bounds ws cs name ts old whole (errors.Fault k) next invariant fails =
+fails_here bounds ws cs name ts old whole unread.Memory next invariant fails = tt
+fails_here bounds ws cs name ts old whole (unread.Fault k) next invariant fails =
     sym invariant ∙ ap (λ (x : List (List ℕ)). with_more_condacts cs (condacts_in bounds ws 0 x)) next ∙ one_fault bounds ws cs name ts k fails
 
 pub goes_on : (bounds : Bounds) (ws : List Word) (cs more : List Condact) (name : List ℕ)

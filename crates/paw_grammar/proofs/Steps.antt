@@ -1,9 +1,10 @@
 -- What is read where it succeeds.
 use Rattle.std.proofs.Common.{◌≡◌, ℕ, Bool, true, false, cond, List, [], ◌∷◌, Option, Some, None, Result, Ok, Err, refl, sym, ap, ◌∙◌}
+use Rattle.std.specs.Option.{ok_or}
 use Rattle.paw_base.specs.declared.fault.SourceKind.{SourceKind}
 use Rattle.paw_base.specs.declared.fault.SourceKind.TheVariants as fault
 use Rattle.paw_base.specs.Faults.{◌>>=◌}
-use Rattle.paw_grammar.specs.Tokens.{or_fault, read_by}
+use Rattle.paw_grammar.specs.Tokens.{read_by}
 use Rattle.paw_grammar.specs.Numbers.{in_range}
 
 -- a read value, and the tokens that are left
@@ -33,7 +34,7 @@ pub meant : {A : Type 0} (k : SourceKind) (meaning : List ℕ → Option A) (ts 
     → read_by k meaning ts ≡ Ok x → Meant meaning ts x
 meant {A} k meaning [] x e = absurd cc
 meant {A} k meaning (t ∷ ts) x e =
-    elim (meaning t) as (λ o. meaning t ≡ o → or_fault k ts o ≡ Ok x → Meant meaning (t ∷ ts) x) [
+    elim (meaning t) as (λ o. meaning t ≡ o → ◌≡◌ {A = Reads A} (ok_or o k >>= λ y. Ok (y, ts)) (Ok x) → Meant meaning (t ∷ ts) x) [
       | None ↦ λ m f. absurd cc
       | Some y ↦ λ m f. let parts = pair_parts y x.0 ts x.1 f in record { first = t; all = ap (λ us. t ∷ us) parts.1; means = m ∙ ap Some parts.0 }
     ] refl e

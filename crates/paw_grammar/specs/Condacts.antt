@@ -1,7 +1,7 @@
 -- The condacts of a line.
-use Rattle.std.specs.Prelude.{ℕ, zero, suc, ◌+◌, ◌||◌, List, [], ◌∷◌, ◌++◌, length, min, nat_lt}
-use Rattle.std.specs.Prelude.{if◌then◌else◌, Option, Some, None, Result, Ok, Err, codes}
-use Rattle.std.specs.Option.{option_map}
+use Rattle.std.specs.Prelude.{ℕ, zero, suc, ◌+◌, ◌||◌, List, [], ◌∷◌, ◌++◌, min, nat_lt}
+use Rattle.std.specs.Prelude.{Option, Result, Ok, codes}
+use Rattle.std.specs.Option.{option_map, option_or, ok_or}
 use Rattle.paw_base.specs.declared.places.TheConstants.{NOT_CREATED_PLACE, CARRIED_PLACE, HERE_PLACE}
 use Rattle.paw_base.specs.declared.words.TheConstants.{ADVERB_CLASS, NOUN_CLASS, ADJECTIVE_CLASS, PREPOSITION_CLASS}
 use Rattle.paw_base.specs.declared.limits.TheConstants.{CONDACT_LIMIT, FLAG_COUNT}
@@ -15,7 +15,7 @@ use Rattle.paw_game.specs.declared.parts.Word.{Word}
 use Rattle.paw_game.specs.Valid.{is_within}
 use Rattle.paw_grammar.specs.declared.bounds.Bounds.{Bounds}
 use Rattle.paw_base.specs.Faults.{◌>>=◌}
-use Rattle.paw_grammar.specs.Tokens.{or_fault, read_by}
+use Rattle.paw_grammar.specs.Tokens.{read_by, at_most}
 use Rattle.paw_grammar.specs.Numbers.{number, in_range, number_below}
 use Rattle.paw_grammar.specs.Vocabulary.{place_among, word_or_none}
 
@@ -25,15 +25,11 @@ use Rattle.paw_grammar.specs.Vocabulary.{place_among, word_or_none}
 abbrev pub place_names : List (List ℕ)
 place_names = codes "NOTCREATED" ∷ codes "WORN" ∷ codes "CARRIED" ∷ []
 
--- a number, or else a place by its name: the names count from the first place that is no location
-abbrev pub or_named : Option ℕ → Option ℕ → Option ℕ
-or_named None name = option_map (λ i. NOT_CREATED_PLACE + i) name
-or_named (Some n) name = Some n
-
--- a place, by its number or by its name: a location, or one of the others up to the last that may stand here
+-- A place, by its number or by its name: a location, or one of the others up to the last that may stand here. The names
+-- count from the first place that is no location.
 abbrev pub place_up_to : ℕ → (List ℕ → Option ℕ) → ℕ → List (List ℕ) → Result (ℕ × List (List ℕ)) SourceKind
 place_up_to last named locations ts =
-    read_by fault.Number (λ t. or_named (number t) (named t)) ts
+    read_by fault.Number (λ t. option_or (number t) (option_map (λ i. NOT_CREATED_PLACE + i) (named t))) ts
     >>= in_range (λ n. nat_lt n locations || is_within NOT_CREATED_PLACE last n)
 
 -- the first place of an object
@@ -76,10 +72,10 @@ parameter bounds ws kind.Preposition ts = word_or_none ws PREPOSITION_CLASS ts
 -- a condact: its name, which is Condact where none has it, and its parameters, which the next tokens are
 unfoldable pub condact : Bounds → List Word → List ℕ → List (List ℕ) → Result (Condact × List (List ℕ)) SourceKind
 condact bounds ws name ts = do
-  code ← or_fault fault.Condact ts (code_named name)
-  a ← parameter bounds ws (first_kind code.0) code.1
-  b ← parameter bounds ws (second_kind code.0) a.1
-  Ok (record { code = code.0; a = a.0; b = b.0 }, b.1)
+  code ← ok_or (code_named name) fault.Condact
+  a ← parameter bounds ws (first_kind code) ts
+  b ← parameter bounds ws (second_kind code) a.1
+  Ok (record { code = code; a = a.0; b = b.0 }, b.1)
 
 -- the condacts from here to the end of the line, where the next skip tokens are parameters of the one before
 unfoldable pub condacts_in : Bounds → List Word → ℕ → List (List ℕ) → Result (List Condact) SourceKind
@@ -94,10 +90,6 @@ condacts_in bounds ws zero (t ∷ ts) = do
 abbrev pub with_more_condacts : List Condact → Result (List Condact) SourceKind → Result (List Condact) SourceKind
 with_more_condacts before cs = cs >>= λ more. Ok (before ++ more)
 
--- an entry has at most 255 condacts
-abbrev pub at_most_255 : List Condact → Result (List Condact) SourceKind
-at_most_255 cs = if nat_lt CONDACT_LIMIT (length cs) then Err fault.TooBig else Ok cs
-
--- an entry's condacts after a line of it
+-- an entry's condacts after a line of it: 255 at most
 unfoldable pub more_condacts : Bounds → List Word → List Condact → List (List ℕ) → Result (List Condact) SourceKind
-more_condacts bounds ws before ts = with_more_condacts before (condacts_in bounds ws 0 ts) >>= at_most_255
+more_condacts bounds ws before ts = with_more_condacts before (condacts_in bounds ws 0 ts) >>= at_most CONDACT_LIMIT

@@ -1,43 +1,28 @@
 -- Lines that begin with `/`: headers and items.
-use Rattle.std.specs.Prelude.{ℕ, suc, ◌-◌, ◌==◌, ◌&&◌, ◌||◌, Bool, false, not, List, [], ◌∷◌, ◌++◌, length, drop}
-use Rattle.std.specs.Prelude.{replicate, nat_lt, if◌then◌else◌, Option, Some, None, Result, Ok, Err, codes}
-use Rattle.std.specs.List.{list_all}
-use Rattle.std.specs.Char.{is_ascii_alphabetic}
+use Rattle.std.specs.Prelude.{ℕ, suc, ◌==◌, ◌&&◌, ◌||◌, Bool, false, not, List, [], ◌∷◌, ◌++◌, length}
+use Rattle.std.specs.Prelude.{nat_lt, if◌then◌else◌, Option, Some, None, Result, Ok, Err, codes}
 use Rattle.paw_base.specs.declared.fault.SourceKind.{SourceKind}
 use Rattle.paw_base.specs.declared.fault.SourceKind.TheVariants as kind
 use Rattle.paw_grammar.specs.declared.section.Section.{Section}
 use Rattle.paw_grammar.specs.declared.section.Section.TheVariants as section
 use Rattle.paw_base.specs.Faults.{◌>>=◌}
-use Rattle.paw_grammar.specs.Tokens.{token, ended, is_named}
-use Rattle.paw_grammar.specs.Numbers.{number}
-use Rattle.paw_grammar.specs.GrammarState.{Spelt}
+use Rattle.paw_grammar.specs.Tokens.{ended, is_named}
+use Rattle.paw_grammar.specs.Numbers.{number_below}
+use Rattle.paw_grammar.specs.GrammarState.{Spelt, all_exits}
 use Rattle.paw_grammar.specs.GrammarTexts.{text_item, text_limit, texts_of, with_texts}
 
 -- ---- headers ----
 
--- the section whose header comes next; that of tables is followed by itself
-abbrev pub next_section : Section → Section
-next_section section.Before = section.Voc
-next_section section.Voc = section.Stx
-next_section section.Stx = section.Mtx
-next_section section.Mtx = section.Otx
-next_section section.Otx = section.Ltx
-next_section section.Ltx = section.Con
-next_section section.Con = section.Obj
-next_section section.Obj = section.Pro
-next_section section.Pro = section.Pro
-
--- the name of a section's header
-abbrev pub header_name : Section → List ℕ
-header_name section.Before = []
-header_name section.Voc = codes "/VOC"
-header_name section.Stx = codes "/STX"
-header_name section.Mtx = codes "/MTX"
-header_name section.Otx = codes "/OTX"
-header_name section.Ltx = codes "/LTX"
-header_name section.Con = codes "/CON"
-header_name section.Obj = codes "/OBJ"
-header_name section.Pro = codes "/PRO"
+-- the header that comes next after a section, and the section that it opens; after objects, and after a table, a table
+abbrev pub next_header : Section → List ℕ × Section
+next_header section.Before = (codes "/VOC", section.Voc)
+next_header section.Voc = (codes "/STX", section.Stx)
+next_header section.Stx = (codes "/MTX", section.Mtx)
+next_header section.Mtx = (codes "/OTX", section.Otx)
+next_header section.Otx = (codes "/LTX", section.Ltx)
+next_header section.Ltx = (codes "/CON", section.Con)
+next_header section.Con = (codes "/OBJ", section.Obj)
+next_header _ = (codes "/PRO", section.Pro)
 
 -- a section opens
 abbrev pub section_opened : Section → Spelt → Spelt
@@ -56,37 +41,26 @@ con_header d ts = ended ts >>= λ _.
 abbrev pub lacks_rows : Spelt → Bool
 lacks_rows d = (length d.tables == 0) && nat_lt (length d.facts) (length d.names)
 
--- a table's number: digits, at most 255, that of the next table
-abbrev pub table_header : Spelt → List (List ℕ) → Option ℕ → Result Spelt SourceKind
-table_header d ts None = Err kind.Number
-table_header d ts (Some n) =
-    if nat_lt 255 n then Err kind.Range
-    else if not (n == length d.tables) then Err kind.Section
-    else ended ts >>= λ _.
+-- a header of two tokens, of which the second is the number of the next table
+abbrev pub pro_header : Spelt → List (List ℕ) → Result Spelt SourceKind
+pro_header d ts =
+    number_below 256 ts >>= λ n.
+    if not (n.0 == length d.tables) then Err kind.Section
+    else ended n.1 >>= λ _.
     if lacks_rows d then Err kind.Missing
     else Ok (record (section_opened section.Pro d) { tables = d.tables ++ [] ∷ [] })
-
--- a header of two tokens
-abbrev pub pro_header : Spelt → List (List ℕ) → Result Spelt SourceKind
-pro_header d ts = token ts >>= λ t. table_header d t.1 (number t.0)
 
 -- the header of a section, after its name
 abbrev pub header_of : Section → Spelt → List (List ℕ) → Result Spelt SourceKind
 header_of section.Before d ts = Err kind.Section
-header_of section.Voc d ts = plain_header section.Voc d ts
-header_of section.Stx d ts = plain_header section.Stx d ts
-header_of section.Mtx d ts = plain_header section.Mtx d ts
-header_of section.Otx d ts = plain_header section.Otx d ts
-header_of section.Ltx d ts = plain_header section.Ltx d ts
 header_of section.Con d ts = con_header d ts
-header_of section.Obj d ts = plain_header section.Obj d ts
 header_of section.Pro d ts = pro_header d ts
+header_of s d ts = plain_header s d ts
 
 -- a header has to be the next in order
 abbrev pub header : Spelt → List ℕ → List (List ℕ) → Result Spelt SourceKind
 header d name ts =
-    if is_named name (header_name (next_section d.section)) then header_of (next_section d.section) d ts
-    else Err kind.Section
+    if is_named name (next_header d.section).0 then header_of (next_header d.section).1 d ts else Err kind.Section
 
 -- ---- items ----
 
@@ -98,27 +72,16 @@ new_text s d n = text_item (text_limit s) n (texts_of s d) >>= λ ts. Ok (with_t
 abbrev pub new_exits : Spelt → ℕ → Result Spelt SourceKind
 new_exits d n =
     if nat_lt n (length d.exits) || not (nat_lt n (length d.locations)) then Err kind.Range
-    else Ok (record d { exits = d.exits ++ replicate (suc n - length d.exits) [] })
+    else Ok (record d { exits = all_exits (suc n) d.exits })
 
 -- an item of a section; only texts and exits have items
 abbrev pub item_in : Section → Spelt → ℕ → Result Spelt SourceKind
-item_in section.Before d n = Err kind.Section
-item_in section.Voc d n = Err kind.Section
-item_in section.Stx d n = new_text section.Stx d n
-item_in section.Mtx d n = new_text section.Mtx d n
-item_in section.Otx d n = new_text section.Otx d n
-item_in section.Ltx d n = new_text section.Ltx d n
 item_in section.Con d n = new_exits d n
-item_in section.Obj d n = Err kind.Section
-item_in section.Pro d n = Err kind.Section
+item_in s d n = if nat_lt 0 (text_limit s) then new_text s d n else Err kind.Section
 
 -- ---- the line ----
 
--- letters alone, and one at least
-abbrev pub is_letters : List ℕ → Bool
-is_letters t = not (length t == 0) && list_all is_ascii_alphabetic t
-
--- The first token is `/` and a number, or `/` and letters. An item ends with its number.
+-- The first token is `/` and a number, or else a header's name. An item ends with its number.
 abbrev pub slash_line : Spelt → List ℕ → Option ℕ → List (List ℕ) → Result Spelt SourceKind
 slash_line d name (Some n) ts = ended ts >>= λ _. item_in d.section d n
-slash_line d name None ts = if is_letters (drop 1 name) then header d name ts else Err kind.Section
+slash_line d name None ts = header d name ts

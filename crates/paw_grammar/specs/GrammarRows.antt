@@ -33,17 +33,13 @@ voc_row ws ts = do
 
 -- ---- /CON ----
 
--- an exit has this verb
-abbrev pub has_exit : ℕ → List Exit → Bool
-has_exit verb xs = list_any (λ x. x.verb == verb) xs
-
--- `word location`, the exits of a location with this one
+-- `word location`, the exits of a location with this one, whose verb no other has
 unfoldable pub exit_row : List Word → ℕ → List Exit → List (List ℕ) → Result (List Exit) SourceKind
 exit_row ws locations xs ts = do
   v ← verb_word ws ts
   to ← number_below locations v.1
   end ← ended to.1
-  if has_exit v.0 xs then Err fault.Duplicate
+  if list_any (λ x. x.verb == v.0) xs then Err fault.Duplicate
       else Ok (xs ++ (record { verb = v.0; to = to.0 }) ∷ [])
 
 -- of the location of the last item
@@ -121,14 +117,10 @@ pro_row p d more ts =
 
 -- ---- a row ----
 
--- a row of a section; texts have none
+-- a row of a section; no other section has rows
 abbrev pub row_in : Section → ℕ → Spelt → Bool → List (List ℕ) → Result Spelt SourceKind
-row_in section.Before p d more ts = Err fault.Section
 row_in section.Voc p d more ts = voc_row d.words ts >>= λ ws. Ok (record d { words = ws })
-row_in section.Stx p d more ts = Err fault.Section
-row_in section.Mtx p d more ts = Err fault.Section
-row_in section.Otx p d more ts = Err fault.Section
-row_in section.Ltx p d more ts = Err fault.Section
 row_in section.Con p d more ts = con_row d ts
 row_in section.Obj p d more ts = obj_row d ts
 row_in section.Pro p d more ts = pro_row p d more ts
+row_in _ p d more ts = Err fault.Section

@@ -1,7 +1,7 @@
 -- What the lines of a source spell, as far as they are read.
-use Rattle.std.specs.Prelude.{ℕ, ◌-◌, Bool, false, List, [], ◌∷◌, ◌++◌, length, replicate}
-use Rattle.std.specs.Prelude.{slice_set}
-use Rattle.std.specs.List.{slice_index_or}
+use Rattle.std.specs.Prelude.{ℕ, ◌-◌, Bool, false, List, [], ◌++◌, length, replicate}
+use Rattle.std.specs.Prelude.{map, slice_set}
+use Rattle.std.specs.List.{slice_index_or, zip}
 use Rattle.paw_base.specs.declared.parts.ObjectFacts.{ObjectFacts}
 use Rattle.paw_game.specs.declared.parts.Word.{Word}
 use Rattle.paw_game.specs.declared.parts.ObjectRow.{ObjectRow}
@@ -49,9 +49,7 @@ with_last x xs = slice_set xs (length xs - 1) x
 
 -- each text with the facts of its row
 unfoldable pub objects_of : List (List ℕ) → List ObjectFacts → List ObjectRow
-objects_of [] fs = []
-objects_of (t ∷ ts) [] = []
-objects_of (t ∷ ts) (f ∷ fs) = record { text = t; facts = f } ∷ objects_of ts fs
+objects_of texts facts = map (λ (o : List ℕ × ObjectFacts). record { text = o.0; facts = o.1 }) (zip texts facts)
 
 -- a list of exits for each of so many locations; those that have no item of /CON have none
 abbrev pub all_exits : ℕ → List (List Exit) → List (List Exit)

@@ -1,5 +1,5 @@
 -- The four sections of texts: items and text lines.
-use Rattle.std.specs.Prelude.{ℕ, ◌==◌, ◌&&◌, Bool, true, false, not, List, [], ◌∷◌}
+use Rattle.std.specs.Prelude.{ℕ, ◌==◌, Bool, not, List, [], ◌∷◌}
 use Rattle.std.specs.Prelude.{◌++◌, length, nat_lt, if◌then◌else◌, Result, Ok, Err}
 use Rattle.paw_base.specs.declared.limits.TheConstants.{SYSTEM_LIMIT, MESSAGE_LIMIT, OBJECT_LIMIT, LOCATION_LIMIT}
 use Rattle.paw_base.specs.declared.limits.TheConstants.{TEXT_LIMIT}
@@ -8,17 +8,10 @@ use Rattle.paw_base.specs.declared.fault.SourceKind.TheVariants as kind
 use Rattle.paw_grammar.specs.declared.section.Section.{Section}
 use Rattle.paw_grammar.specs.declared.section.Section.TheVariants as section
 use Rattle.paw_base.specs.Faults.{◌>>=◌}
+use Rattle.paw_grammar.specs.Tokens.{at_most}
 use Rattle.paw_grammar.specs.GrammarState.{Spelt, last_or, with_last}
 
--- a section of texts
-abbrev pub is_text_section : Section → Bool
-is_text_section section.Stx = true
-is_text_section section.Mtx = true
-is_text_section section.Otx = true
-is_text_section section.Ltx = true
-is_text_section _ = false
-
--- the texts of a section
+-- the texts of a section; others than sections of texts have none
 abbrev pub texts_of : Section → Spelt → List (List ℕ)
 texts_of section.Stx d = d.system
 texts_of section.Mtx d = d.messages
@@ -34,7 +27,7 @@ with_texts section.Otx begun ts d = record d { names = ts; begun = begun }
 with_texts section.Ltx begun ts d = record d { locations = ts; begun = begun }
 with_texts _ begun ts d = d
 
--- the most items of a section
+-- the most texts of a section; others than sections of texts have none
 abbrev pub text_limit : Section → ℕ
 text_limit section.Stx = SYSTEM_LIMIT
 text_limit section.Mtx = MESSAGE_LIMIT
@@ -52,17 +45,12 @@ text_item limit n ts =
 -- A line that doesn't begin with `/` after an item of a section of texts. (A line that begins with `;` is none either,
 -- as it is a comment everywhere.)
 abbrev pub is_in_text : Spelt → Bool
-is_in_text d = is_text_section d.section && not (length (texts_of d.section d) == 0)
+is_in_text d = not (length (texts_of d.section d) == 0)
 
 -- a text and one line more: lines are joined by LF
 abbrev pub with_line : Bool → List ℕ → List ℕ → List ℕ
 with_line begun text line = text ++ (if begun then 10 ∷ line else line)
 
--- the same where it isn't too long
-abbrev pub joined_within : Bool → List ℕ → List ℕ → Result (List ℕ) SourceKind
-joined_within begun line text =
-    if nat_lt TEXT_LIMIT (length (with_line begun text line)) then Err kind.TooBig else Ok (with_line begun text line)
-
--- the texts with one line more at the end of the last
+-- the texts with one line more at the end of the last, where that isn't too long
 abbrev pub text_line : Bool → List ℕ → List (List ℕ) → Result (List (List ℕ)) SourceKind
-text_line begun line ts = joined_within begun line (last_or [] ts) >>= λ t. Ok (with_last t ts)
+text_line begun line ts = at_most TEXT_LIMIT (with_line begun (last_or [] ts) line) >>= λ t. Ok (with_last t ts)

@@ -1,7 +1,7 @@
 -- Which game a source spells, and which fault it has.
 use Rattle.std.specs.Prelude.{◌≡◌, ℕ, suc, ◌==◌, ◌&&◌, Bool, true, false, not, List, [], ◌∷◌}
 use Rattle.std.specs.Prelude.{length, drop, nat_lt, if◌then◌else◌, Result, Ok, Err, codes}
-use Rattle.std.specs.List.{count_by}
+use Rattle.std.specs.List.{count_by, slice_index_or}
 use Rattle.paw_base.specs.declared.limits.TheConstants.{SOURCE_LIMIT, IMAGE_LIMIT, TABLE_LEAST}
 use Rattle.paw_base.specs.declared.fault.SourceKind.{SourceKind}
 use Rattle.paw_base.specs.declared.fault.SourceKind.TheVariants as kind
@@ -56,14 +56,9 @@ step p d l =
 
 -- ---- all lines ----
 
--- the first of these tokens is the header of a table
-abbrev pub is_pro_token : List (List ℕ) → Bool
-is_pro_token [] = false
-is_pro_token (t ∷ ts) = is_named t (codes "/PRO")
-
 -- a line that begins with `/` and whose first token is `/PRO`
 abbrev pub begins_table : List ℕ → Bool
-begins_table l = begins_with_slash l && is_pro_token (tokens_of l)
+begins_table l = begins_with_slash l && is_named (slice_index_or (tokens_of l) 0 []) (codes "/PRO")
 
 -- a fault of this line and this kind
 abbrev pub fault : ℕ → SourceKind → SourceFault

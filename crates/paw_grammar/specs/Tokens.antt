@@ -1,5 +1,6 @@
 -- The tokens of a line, taken from left to right. What is read of them is a value, or the kind of the first fault.
-use Rattle.std.specs.Prelude.{ℕ, Bool, List, [], ◌∷◌, Option, Some, None, Result, Ok, Err}
+use Rattle.std.specs.Prelude.{ℕ, Bool, List, [], ◌∷◌, length, nat_lt, if◌then◌else◌, Option, Result, Ok, Err}
+use Rattle.std.specs.Option.{ok_or}
 use Rattle.std.specs.Str.{str_eq_ignore_ascii_case}
 use Rattle.paw_base.specs.declared.fault.SourceKind.{SourceKind}
 use Rattle.paw_base.specs.declared.fault.SourceKind.TheVariants as kind
@@ -15,15 +16,14 @@ abbrev pub ended : List (List ℕ) → Result (Unit {0}) SourceKind
 ended [] = Ok tt
 ended (t ∷ ts) = Err kind.Extra
 
--- what there is, beside the tokens that are left; where there is nothing, this fault
-abbrev pub or_fault : {A : Type 0} → SourceKind → List (List ℕ) → Option A → Result (A × List (List ℕ)) SourceKind
-or_fault k ts None = Err k
-or_fault k ts (Some x) = Ok (x, ts)
-
--- what the next token means; where it means nothing, this fault
+-- what the next token means, and those after it; where it means nothing, this fault
 abbrev pub read_by : {A : Type 0} → SourceKind → (List ℕ → Option A) → List (List ℕ)
     → Result (A × List (List ℕ)) SourceKind
-read_by k meaning ts = token ts >>= λ t. or_fault k t.1 (meaning t.0)
+read_by k meaning ts = token ts >>= λ t. ok_or (meaning t.0) k >>= λ x. Ok (x, t.1)
+
+-- a list of so many at most; TooBig where there are more
+abbrev pub at_most : {A : Type 0} → ℕ → List A → Result (List A) SourceKind
+at_most limit xs = if nat_lt limit (length xs) then Err kind.TooBig else Ok xs
 
 -- the token is this name, in any case of letters
 abbrev pub is_named : List ℕ → List ℕ → Bool

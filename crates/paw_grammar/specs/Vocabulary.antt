@@ -4,6 +4,8 @@ use Rattle.std.specs.Prelude.{◌++◌, length, take, replicate, nat_lt, is_some
 use Rattle.std.specs.Prelude.{Option, Some, None, Result, Ok, Err, codes, bytes_eq}
 use Rattle.std.specs.Char.{is_ascii_alphanumeric}
 use Rattle.std.specs.List.{list_all, position}
+use Rattle.std.specs.Map.{lookup}
+use Rattle.std.specs.Option.{option_and_then}
 use Rattle.std.specs.Ordering.{is_lt, nat_cmp}
 use Rattle.std.specs.Cmp.Lexicographic.{slice_cmp}
 use Rattle.paw_base.specs.declared.words.TheConstants.{VERB_CLASS, NOUN_CLASS, ANY_WORD, NO_WORD, FIRST_PLAIN_NOUN}
@@ -50,11 +52,9 @@ class ts = read_by kind.Word (place_among class_names) ts
 -- what kind an object is: whether it is a container, and whether it may be worn
 abbrev pub kind_named : List ℕ → Option (Bool × Bool)
 kind_named t =
-    if is_named t (codes "-") then Some (false, false)
-    else if is_named t (codes "C") then Some (true, false)
-    else if is_named t (codes "W") then Some (false, true)
-    else if is_named t (codes "CW") then Some (true, true)
-    else None
+    lookup (is_named t)
+    ((codes "-", (false, false)) ∷ (codes "C", (true, false)) ∷ (codes "W", (false, true)) ∷ (codes "CW", (true, true))
+    ∷ [])
 
 -- the kind of an object
 abbrev pub object_kind : List (List ℕ) → Result ((Bool × Bool) × List (List ℕ)) SourceKind
@@ -67,14 +67,11 @@ unfoldable pub words_with : Word → List Word → List Word
 words_with w [] = w ∷ []
 words_with w (v ∷ vs) = if is_lt (slice_cmp nat_cmp w.letters v.letters) then w ∷ v ∷ vs else v ∷ words_with w vs
 
--- some word has these letters, whatever its class
-abbrev pub is_declared : List ℕ → List Word → Bool
-is_declared letters ws = is_some (word_of letters ws)
-
--- the words with one more: Duplicate where its letters are declared, TooBig where there are as many as may be
+-- the words with one more: Duplicate where a word of whatever class has its letters, TooBig where there are as many as
+-- may be
 abbrev pub declared : Word → List Word → Result (List Word) SourceKind
 declared w ws =
-    if is_declared w.letters ws then Err kind.Duplicate
+    if is_some (word_of w.letters ws) then Err kind.Duplicate
     else if length ws == WORD_LIMIT then Err kind.TooBig
     else Ok (words_with w ws)
 
@@ -82,15 +79,13 @@ declared w ws =
 
 -- the value of a word, where there is one and it has this class
 abbrev pub in_class : ℕ → Option Word → Option ℕ
-in_class class None = None
-in_class class (Some w) = if w.class == class then Some w.value else None
+in_class class word = option_and_then (λ (w : Word). if w.class == class then Some w.value else None) word
 
 -- a verb value: that of a verb, or of a noun that serves as one
 abbrev pub as_verb : Option Word → Option ℕ
-as_verb None = None
-as_verb (Some w) =
-    if (w.class == VERB_CLASS) || ((w.class == NOUN_CLASS) && nat_lt w.value FIRST_PLAIN_NOUN)
-    then Some w.value else None
+as_verb word = option_and_then (λ (w : Word).
+    if (w.class == VERB_CLASS) || ((w.class == NOUN_CLASS) && nat_lt w.value FIRST_PLAIN_NOUN) then Some w.value
+    else None) word
 
 -- the declared word that a token spells
 abbrev pub known : List Word → List ℕ → Option Word

@@ -2,10 +2,11 @@
 
 ghost use Rattle.std.specs.Prelude.{◌≡◌, ◌≤◌, min};
 ghost use Rattle.paw_faults.specs.inner.Gives.{Gives};
+ghost use Rattle.paw_grammar.specs.Tokens.{at_most};
 ghost use Rattle.paw_grammar.specs.Numbers.{number_below};
 ghost use Rattle.paw_grammar.specs.Vocabulary.{word_or_none};
 ghost use Rattle.paw_grammar.specs.Condacts.{table, parameter, condact, condacts_in, with_more_condacts};
-ghost use Rattle.paw_grammar.specs.Condacts.{at_most_255, more_condacts};
+ghost use Rattle.paw_grammar.specs.Condacts.{more_condacts};
 
 use crate::bounds::Bounds;
 use crate::numbers::{byte_below, number_below};
@@ -106,7 +107,7 @@ impl<'a> Scope<'a> {
     /// # Errors
     /// The line's first fault, token by token: Condact where a name is none of the 108, and of a parameter Missing, and
     /// Word, Number or Range by its kind. TooBig where no token has a fault and the entry would have more than 255
-    /// condacts. NoRoom where there is no memory. What the entry then holds is open.
+    /// condacts. Memory where there is none. What the entry then holds is open.
     #[tactic(auto, unfolding(crate::specs::Condacts::more_condacts))]
     pub fn more_condacts(
         &self,

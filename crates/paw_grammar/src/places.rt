@@ -2,11 +2,12 @@
 
 ghost use Rattle.std.specs.Prelude.{◌≡◌, ◌<◌, ◌≤◌, ◌+◌, length};
 ghost use Rattle.std.specs.List.{position};
+ghost use Rattle.std.specs.Option.{option_map, option_or};
 ghost use Rattle.paw_faults.specs.inner.Gives.{Gives};
 ghost use Rattle.paw_grammar.specs.Tokens.{is_named};
 ghost use Rattle.paw_grammar.specs.Numbers.{number};
 ghost use Rattle.paw_grammar.specs.inner.Numbers.{capped};
-ghost use Rattle.paw_grammar.specs.Condacts.{or_named, first_place, any_place, place_up_to};
+ghost use Rattle.paw_grammar.specs.Condacts.{first_place, any_place, place_up_to};
 
 use crate::numbers::number;
 use crate::refusal::ReadError;
@@ -27,7 +28,8 @@ const FIRST_NAMED: u32 = 252;
 /// The number that a token is, or the place with the name that it is.
 fn place_by(names: &[&[u8]], token: &[u8]) -> Option<u32>
     requires { length names.now ≤ 4 }
-    ensures { result ≡ capped (or_named (number token.now) (position (λ name. is_named token.now name.now) names.now)) }
+    ensures { let named = position (λ name. is_named token.now name.now) names.now in
+        result ≡ capped (option_or (number token.now) (option_map (λ i. 252 + i) named)) }
 {
     match number(token) {
         Some(number) => Some(number),

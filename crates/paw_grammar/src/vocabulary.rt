@@ -159,7 +159,7 @@ impl Vocabulary {
     ///
     /// # Errors
     /// Duplicate exactly where its letters are declared, of whatever class, and else TooBig exactly where there are
-    /// 2,000 words. NoRoom where there is no memory.
+    /// 2,000 words. Memory where there is none.
     pub fn declare(&mut self, word: Word) -> Result<(), ReadError>
         ensures { Gives (λ _. self.new) result (declared word self.old) }
     {

@@ -1,50 +1,48 @@
 -- The canonical source of a game: one text for each game.
-use Rattle.std.specs.Prelude.{ℕ, suc, List, [], ◌∷◌, ◌++◌, map, flat_map, codes}
+use Rattle.std.specs.Prelude.{ℕ, suc, List, [], ◌∷◌, ◌++◌, map, flat_map, codes, decimal}
+use Rattle.paw_base.specs.declared.words.TheConstants.{NOUN_CLASS}
 use Rattle.paw_game.specs.declared.parts.Word.{Word}
 use Rattle.paw_game.specs.declared.parts.ObjectRow.{ObjectRow}
 use Rattle.paw_game.specs.declared.parts.Exit.{Exit}
 use Rattle.paw_game.specs.declared.parts.Entry.{Entry}
 use Rattle.paw_game.specs.Game.{GameLists}
-use Rattle.paw_print.specs.Lines.{spaced, word_tokens, item_token, text_lines, exit_tokens}
-use Rattle.paw_print.specs.Lines.{object_tokens, condact_line, entry_tokens, table_tokens}
+use Rattle.paw_print.specs.Lines.{spaced, spelled_letters, class_name, verb_token, value_token, item_token}
+use Rattle.paw_print.specs.Lines.{text_lines, object_tokens, condact_line}
 
 -- the lines of rows that are numbered from n on
 abbrev pub numbered : {A : Type 0} → (ℕ → A → List (List ℕ)) → ℕ → List A → List (List ℕ)
 numbered lines n [] = []
 numbered lines n (x ∷ xs) = lines n x ++ numbered lines (suc n) xs
 
--- the vocabulary: a line for each word, in order
+-- the vocabulary: a line for each word, in order: its letters, its value and its class
 abbrev pub words_lines : List Word → List (List ℕ)
-words_lines ws = codes "/VOC" ∷ map (λ w. spaced (word_tokens w)) ws
+words_lines ws = codes "/VOC" ∷ map (λ w. spaced (spelled_letters w ∷ decimal w.value ∷ class_name w.class ∷ [])) ws
 
 -- a section of texts: an item for each
 abbrev pub texts_lines : List ℕ → List (List ℕ) → List (List ℕ)
 texts_lines header texts = header ∷ numbered text_lines 0 texts
 
--- a location: an item and a line for each exit; nothing where it has no exit
+-- a location: an item, and for each exit a line with its verb and its location; nothing where it has no exit
 abbrev pub location_lines : List Word → ℕ → List Exit → List (List ℕ)
 location_lines ws n [] = []
-location_lines ws n (x ∷ xs) = item_token n ∷ map (λ y. spaced (exit_tokens ws y)) (x ∷ xs)
+location_lines ws n (x ∷ xs) = item_token n ∷ map (λ y. spaced (verb_token ws y.verb ∷ decimal y.to ∷ [])) (x ∷ xs)
 
 -- the connections of the locations
 abbrev pub exits_lines : List Word → List (List Exit) → List (List ℕ)
 exits_lines ws exits = codes "/CON" ∷ numbered (location_lines ws) 0 exits
 
--- the line of an object
-abbrev pub object_lines : List Word → ℕ → ObjectRow → List (List ℕ)
-object_lines ws n o = spaced (object_tokens ws n o.facts) ∷ []
-
 -- the objects: a line for each
 abbrev pub objects_lines : List Word → List ObjectRow → List (List ℕ)
-objects_lines ws objects = codes "/OBJ" ∷ numbered (object_lines ws) 0 objects
+objects_lines ws objects = codes "/OBJ" ∷ numbered (λ n o. spaced (object_tokens ws n o.facts) ∷ []) 0 objects
 
 -- an entry: its verb and its noun, and a line for each condact
 abbrev pub entry_lines : List Word → Entry → List (List ℕ)
-entry_lines ws e = spaced (entry_tokens ws e) ∷ map (condact_line ws) e.condacts
+entry_lines ws e =
+    spaced (verb_token ws e.verb ∷ value_token ws NOUN_CLASS e.noun ∷ []) ∷ map (condact_line ws) e.condacts
 
--- a table: its header, and its entries
+-- a table: its header with its number, and its entries
 abbrev pub table_lines : List Word → ℕ → List Entry → List (List ℕ)
-table_lines ws n entries = spaced (table_tokens n) ∷ flat_map (entry_lines ws) entries
+table_lines ws n entries = spaced (codes "/PRO" ∷ decimal n ∷ []) ∷ flat_map (entry_lines ws) entries
 
 -- the lines of the canonical source: all sections in their order, and all tables
 unfoldable pub canonical_lines : GameLists → List (List ℕ)

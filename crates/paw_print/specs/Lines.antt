@@ -1,19 +1,17 @@
 -- The rows of a source, as the canonical source has them: each the tokens that it is made of, one space between each
 -- two.
 use Rattle.std.specs.Prelude.{ℕ, ◌==◌, ◌&&◌, Bool, List, [], ◌∷◌, ◌++◌, codes, decimal}
-use Rattle.std.specs.Prelude.{flat_map, Option, Some, None, if◌then◌else◌}
-use Rattle.std.specs.List.{before_first, find, slice_split}
-use Rattle.std.specs.Option.{option_or}
+use Rattle.std.specs.Prelude.{flat_map, Option, if◌then◌else◌}
+use Rattle.std.specs.List.{before_first, find, slice_index_or, slice_split}
+use Rattle.std.specs.Option.{option_or, option_map_or}
 use Rattle.paw_base.specs.declared.words.TheConstants.{VERB_CLASS, ADVERB_CLASS, NOUN_CLASS, ADJECTIVE_CLASS}
-use Rattle.paw_base.specs.declared.words.TheConstants.{PREPOSITION_CLASS, CONJUNCTION_CLASS, ANY_WORD, NO_WORD}
+use Rattle.paw_base.specs.declared.words.TheConstants.{PREPOSITION_CLASS, ANY_WORD, NO_WORD}
 use Rattle.paw_base.specs.declared.parts.Condact.{Condact}
 use Rattle.paw_base.specs.declared.parts.ObjectFacts.{ObjectFacts}
 use Rattle.paw_base.specs.declared.rows.ParamKind.{ParamKind}
 use Rattle.paw_base.specs.declared.rows.ParamKind.TheVariants as kind
 use Rattle.paw_base.specs.Condacts.{name_of, first_kind, second_kind}
 use Rattle.paw_game.specs.declared.parts.Word.{Word}
-use Rattle.paw_game.specs.declared.parts.Exit.{Exit}
-use Rattle.paw_game.specs.declared.parts.Entry.{Entry}
 
 -- tokens, each behind one space
 abbrev pub behind_spaces : List (List ℕ) → List ℕ
@@ -30,50 +28,30 @@ spaced (t ∷ ts) = t ++ behind_spaces ts
 abbrev pub spelled_letters : Word → List ℕ
 spelled_letters w = before_first (λ b. b == 32) w.letters
 
--- a word of this class with this value
-abbrev pub means : ℕ → ℕ → Word → Bool
-means class value w = (w.class == class) && (w.value == value)
-
 -- the first word in order of this class with this value
 abbrev pub first_word : List Word → ℕ → ℕ → Option Word
-first_word ws class value = find (means class value) ws
+first_word ws class value = find (λ w. (w.class == class) && (w.value == value)) ws
 
--- a verb value stands for the first verb with it, and where there is none for the first noun
-abbrev pub first_verb : List Word → ℕ → Option Word
-first_verb ws value = option_or (first_word ws VERB_CLASS value) (first_word ws NOUN_CLASS value)
-
--- the letters of a word; a game has a word for each of its values but those of `*` and `_`
-abbrev pub letters_or_none : Option Word → List ℕ
-letters_or_none None = []
-letters_or_none (Some w) = spelled_letters w
-
--- where a word stands, a value is `*`, `_` or its word
+-- where a word stands, a value is `*`, `_` or its word; a game has a word for each of its other values
 abbrev pub word_token : ℕ → Option Word → List ℕ
 word_token value word =
-    if value == ANY_WORD then codes "*" else (if value == NO_WORD then codes "_" else letters_or_none word)
+    if value == ANY_WORD then codes "*"
+    else (if value == NO_WORD then codes "_" else option_map_or spelled_letters word [])
 
 -- the token of a value of this class
 abbrev pub value_token : List Word → ℕ → ℕ → List ℕ
 value_token ws class value = word_token value (first_word ws class value)
 
--- the token of a verb value
+-- the token of a verb value, which stands for the first verb with it, and where there is none for the first noun
 abbrev pub verb_token : List Word → ℕ → List ℕ
-verb_token ws value = word_token value (first_verb ws value)
+verb_token ws value = word_token value (option_or (first_word ws VERB_CLASS value) (first_word ws NOUN_CLASS value))
 
--- the name of a class
+-- the name of a class, by its number
 abbrev pub class_name : ℕ → List ℕ
 class_name class =
-    if class == VERB_CLASS then codes "verb"
-    else (if class == ADVERB_CLASS then codes "adverb"
-    else (if class == NOUN_CLASS then codes "noun"
-    else (if class == ADJECTIVE_CLASS then codes "adjective"
-    else (if class == PREPOSITION_CLASS then codes "preposition"
-    else (if class == CONJUNCTION_CLASS then codes "conjunction"
-    else codes "pronoun")))))
-
--- letters, value, class
-abbrev pub word_tokens : Word → List (List ℕ)
-word_tokens w = spelled_letters w ∷ decimal w.value ∷ class_name w.class ∷ []
+    slice_index_or
+    (codes "verb" ∷ codes "adverb" ∷ codes "noun" ∷ codes "adjective" ∷ codes "preposition" ∷ codes "conjunction" ∷ [])
+    class (codes "pronoun")
 
 -- ---- texts ----
 
@@ -89,12 +67,6 @@ lines_of_text (b ∷ bs) = slice_split (λ c. c == 10) (b ∷ bs)
 -- an item, and the lines of its text
 abbrev pub text_lines : ℕ → List ℕ → List (List ℕ)
 text_lines n text = item_token n ∷ lines_of_text text
-
--- ---- exits ----
-
--- verb, location
-abbrev pub exit_tokens : List Word → Exit → List (List ℕ)
-exit_tokens ws x = verb_token ws x.verb ∷ decimal x.to ∷ []
 
 -- ---- objects ----
 
@@ -114,32 +86,14 @@ object_tokens ws n f =
 -- a parameter that the condact has is one token: a word, or a number
 abbrev pub parameter_tokens : List Word → ParamKind → ℕ → List (List ℕ)
 parameter_tokens ws kind.Absent x = []
-parameter_tokens ws kind.Location x = decimal x ∷ []
-parameter_tokens ws kind.Place x = decimal x ∷ []
-parameter_tokens ws kind.Object x = decimal x ∷ []
-parameter_tokens ws kind.Flag x = decimal x ∷ []
-parameter_tokens ws kind.Number x = decimal x ∷ []
-parameter_tokens ws kind.Message x = decimal x ∷ []
-parameter_tokens ws kind.System x = decimal x ∷ []
-parameter_tokens ws kind.Table x = decimal x ∷ []
 parameter_tokens ws kind.Adverb x = value_token ws ADVERB_CLASS x ∷ []
 parameter_tokens ws kind.Noun x = value_token ws NOUN_CLASS x ∷ []
 parameter_tokens ws kind.Adjective x = value_token ws ADJECTIVE_CLASS x ∷ []
 parameter_tokens ws kind.Preposition x = value_token ws PREPOSITION_CLASS x ∷ []
+parameter_tokens ws _ x = decimal x ∷ []
 
--- name, parameters
-abbrev pub condact_tokens : List Word → Condact → List (List ℕ)
-condact_tokens ws c =
-    name_of c.code ∷ (parameter_tokens ws (first_kind c.code) c.a ++ parameter_tokens ws (second_kind c.code) c.b)
-
--- a condact stands on a line of its own behind one space, and so does each of its parameters
+-- a condact stands on a line of its own: its name and its parameters, each behind one space
 abbrev pub condact_line : List Word → Condact → List ℕ
-condact_line ws c = behind_spaces (condact_tokens ws c)
-
--- verb, noun
-abbrev pub entry_tokens : List Word → Entry → List (List ℕ)
-entry_tokens ws e = verb_token ws e.verb ∷ value_token ws NOUN_CLASS e.noun ∷ []
-
--- the name of the header, and the number of the table
-abbrev pub table_tokens : ℕ → List (List ℕ)
-table_tokens n = codes "/PRO" ∷ decimal n ∷ []
+condact_line ws c =
+    behind_spaces (name_of c.code
+    ∷ (parameter_tokens ws (first_kind c.code) c.a ++ parameter_tokens ws (second_kind c.code) c.b))

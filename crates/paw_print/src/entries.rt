@@ -1,9 +1,10 @@
 // The tables of a source.
 
-ghost use Rattle.std.specs.Prelude.{◌≡◌, ◌++◌, OnOk, flat_map, map};
+ghost use Rattle.std.specs.Prelude.{◌≡◌, ◌++◌, ◌∷◌, [], OnOk, codes, decimal, flat_map, map};
 ghost use Rattle.std.specs.List.{AllByRecursion};
-ghost use Rattle.paw_print.specs.Lines.{behind_spaces, condact_line, entry_tokens};
-ghost use Rattle.paw_print.specs.Lines.{parameter_tokens, spaced, table_tokens};
+ghost use Rattle.paw_base.specs.declared.words.TheConstants.{NOUN_CLASS};
+ghost use Rattle.paw_print.specs.Lines.{behind_spaces, condact_line, value_token, verb_token};
+ghost use Rattle.paw_print.specs.Lines.{parameter_tokens, spaced};
 ghost use Rattle.paw_print.specs.Canonical.{with_line_end, entry_lines, numbered, table_lines, written};
 ghost use Rattle.paw_print.specs.inner.Known.{IsKnown, IsKnownEntry, IsKnownTable};
 
@@ -62,7 +63,8 @@ fn write_condacts(vocabulary: &Vocabulary, condacts: &[Condact], out: &mut Vec<u
 /// Writes the line of an entry's words.
 fn write_head(vocabulary: &Vocabulary, entry: &Entry, out: &mut Vec<u8>) -> Written
     ensures writes { OnOk result
-        (out.new.items ≡ out.old.items ++ with_line_end (spaced (entry_tokens vocabulary.now entry.now))) }
+        (out.new.items ≡ out.old.items ++ with_line_end (spaced (verb_token vocabulary.now entry.now.verb
+        ∷ value_token vocabulary.now NOUN_CLASS entry.now.noun ∷ []))) }
 {
     vocabulary.write_verb(entry.verb, out)?;
     vocabulary.write_value_of(NOUN_CLASS, entry.noun, out)?;
@@ -80,7 +82,8 @@ fn write_entry(vocabulary: &Vocabulary, entry: &Entry, out: &mut Vec<u8>) -> Wri
 
 /// Writes the header of a table.
 fn write_table_header(number: usize, out: &mut Vec<u8>) -> Written
-    ensures writes { OnOk result (out.new.items ≡ out.old.items ++ with_line_end (spaced (table_tokens number))) }
+    ensures writes { OnOk result
+        (out.new.items ≡ out.old.items ++ with_line_end (spaced (codes "/PRO" ∷ decimal number ∷ []))) }
 {
     out.extend_from_slice(b"/PRO")?;
     write_number(number, out)?;

@@ -1,7 +1,7 @@
 // The connections of a source.
 
-ghost use Rattle.std.specs.Prelude.{◌≡◌, ◌++◌, OnOk, map};
-ghost use Rattle.paw_print.specs.Lines.{exit_tokens, spaced};
+ghost use Rattle.std.specs.Prelude.{◌≡◌, ◌++◌, ◌∷◌, [], OnOk, decimal, map};
+ghost use Rattle.paw_print.specs.Lines.{spaced, verb_token};
 ghost use Rattle.paw_print.specs.Canonical.{with_line_end, exits_lines, location_lines, written};
 
 use crate::rows::{Written, end_line, write_header, write_number};
@@ -12,7 +12,8 @@ use paw_game::parts::{Exit, Exits};
 /// Writes the line of an exit.
 fn write_exit(vocabulary: &Vocabulary, exit: &Exit, out: &mut Vec<u8>) -> Written
     ensures writes { OnOk result
-        (out.new.items ≡ out.old.items ++ with_line_end (spaced (exit_tokens vocabulary.now exit.now))) }
+        (out.new.items ≡ out.old.items
+        ++ with_line_end (spaced (verb_token vocabulary.now exit.now.verb ∷ decimal exit.now.to ∷ []))) }
 {
     vocabulary.write_verb(exit.verb, out)?;
     write_number(exit.to as usize, out)?;

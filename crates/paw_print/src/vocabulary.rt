@@ -1,9 +1,10 @@
 // The words of a game, and which of them stands for a value.
 
-ghost use Rattle.std.specs.Prelude.{◌≡◌, ◌≤◌, ◌++◌, ◌∷◌, ◌==◌, OnOk, length, map};
+ghost use Rattle.std.specs.Prelude.{◌≡◌, ◌≤◌, ◌++◌, ◌∷◌, ◌==◌, List, [], OnOk, decimal, length, map};
 ghost use Rattle.std.specs.List.{position_or_len};
-ghost use Rattle.paw_print.specs.Lines.{class_name, spelled_letters, letters_or_none, spaced};
-ghost use Rattle.paw_print.specs.Lines.{first_word, value_token, verb_token, word_token, word_tokens};
+ghost use Rattle.std.specs.Option.{option_map_or};
+ghost use Rattle.paw_print.specs.Lines.{class_name, spelled_letters, spaced};
+ghost use Rattle.paw_print.specs.Lines.{first_word, value_token, verb_token, word_token};
 ghost use Rattle.paw_print.specs.Canonical.{with_line_end, words_lines, written};
 ghost use Rattle.paw_print.specs.inner.Words.{TellsFirst};
 
@@ -128,7 +129,7 @@ fn write_value(value: u8, word: Option<Word>, out: &mut Vec<u8>) -> Written
 
 /// Writes the letters of a word; nothing where there is none.
 fn write_letters(word: Option<Word>, out: &mut Vec<u8>) -> Written
-    ensures writes { OnOk result (out.new.items ≡ out.old.items ++ letters_or_none word) }
+    ensures writes { OnOk result (out.new.items ≡ out.old.items ++ option_map_or spelled_letters word []) }
 {
     match word {
         Some(word) => out.extend_from_slice(letters_of(&word)),
@@ -169,7 +170,8 @@ fn class_name(class: u8) -> &'static [u8]
 
 /// Writes the line of a word.
 fn write_word(word: &Word, out: &mut Vec<u8>) -> Written
-    ensures writes { OnOk result (out.new.items ≡ out.old.items ++ with_line_end (spaced (word_tokens word.now))) }
+    ensures writes { let tokens = spelled_letters word.now ∷ decimal word.now.value ∷ class_name word.now.class ∷ [] in
+        OnOk result (out.new.items ≡ out.old.items ++ with_line_end (spaced tokens)) }
 {
     out.extend_from_slice(letters_of(word))?;
     write_number(word.value as usize, out)?;

@@ -1,6 +1,6 @@
 -- Lines without a fault begin as many tables as were counted.
 use Rattle.std.proofs.Common.{◌≡◌, ℕ, suc, ◌+◌, ◌-◌, ◌*◌, Bool, true, false, cond, not, ◌&&◌}
-use Rattle.std.proofs.Common.{◌||◌, eqb, List, [], ◌∷◌, ◌++◌, length, replicate, drop, Option}
+use Rattle.std.proofs.Common.{◌||◌, eqb, List, [], ◌∷◌, ◌++◌, length, get_or, replicate, drop, Option}
 use Rattle.std.proofs.Common.{Some, None, Ok, Err, refl, sym, ap, ◌∙◌, arith}
 use Rattle.std.specs.Prelude.{nat_lt, codes}
 use Rattle.std.specs.Str.{str_to_ascii_lowercase, bytes_eq}
@@ -16,15 +16,15 @@ use Rattle.paw_lex.specs.Tokens.{tokens_of}
 use Rattle.paw_grammar.specs.declared.section.Section.{Section}
 use Rattle.paw_grammar.specs.declared.section.Section.TheVariants as section
 use Rattle.paw_base.specs.Faults.{◌>>=◌}
-use Rattle.paw_grammar.specs.Tokens.{token, is_named}
+use Rattle.paw_grammar.specs.Tokens.{is_named}
 use Rattle.paw_grammar.specs.Numbers.{number, number_from, is_digit}
 use Rattle.paw_grammar.specs.GrammarState.{Spelt, last_or, with_last}
 use Rattle.paw_grammar.specs.GrammarTexts.{texts_of, with_texts, text_limit, text_item, text_line, is_in_text}
-use Rattle.paw_grammar.specs.GrammarHeads.{next_section, header_name, section_opened, plain_header, con_header}
-use Rattle.paw_grammar.specs.GrammarHeads.{table_header, pro_header, header_of, header, new_text}
-use Rattle.paw_grammar.specs.GrammarHeads.{new_exits, item_in, is_letters, slash_line}
+use Rattle.paw_grammar.specs.GrammarHeads.{next_header, section_opened, plain_header, con_header}
+use Rattle.paw_grammar.specs.GrammarHeads.{pro_header, header_of, new_text}
+use Rattle.paw_grammar.specs.GrammarHeads.{new_exits, item_in, slash_line}
 use Rattle.paw_grammar.specs.GrammarRows.{voc_row, exit_row, con_row, object_row, bounds_of, entry_row, more_row, pro_row, row_in}
-use Rattle.paw_grammar.specs.Spells.{begins_with_slash, begins_with_blank, is_text_line, text_added, tokens_added, step, is_pro_token, begins_table}
+use Rattle.paw_grammar.specs.Spells.{begins_with_slash, begins_with_blank, is_text_line, text_added, tokens_added, step, begins_table}
 use Rattle.paw_source.specs.inner.Laws.{after_lines, CountsTables}
 use Rattle.paw_source.proofs.Faultless.{passes, holds, bound, ok_is, at_end}
 use Rattle.paw_source.proofs.Headers.{table_opened}
@@ -105,14 +105,12 @@ con_same d e ts h =
     let b = passes (eqb (length d.locations) 0) kind.Missing (Ok (section_opened section.Con d)) e a in
     ap tables (sym (ok_is (section_opened section.Con d) e b.1))
 
-table_more : (d e : Spelt) (ts : List (List ℕ)) (o : Option ℕ) → table_header d ts o ≡ Ok e → tables e ≡ tables d + 1
-table_more d e ts None h = absurd cc
-table_more d e ts (Some n) h = ap tables (sym (table_opened n d e ts h).is) ∙ length-append d.tables ([] ∷ [])
-
 pro_more : (d e : Spelt) (ts : List (List ℕ)) → pro_header d ts ≡ Ok e → tables e ≡ tables d + 1
-pro_more d e ts h =
-    let b = bound (token ts) (λ t. table_header d t.1 (number t.0)) e h in
-    table_more d e b.0.1 (number b.0.0) b.2
+pro_more d e ts h = ap tables (sym (table_opened d e ts h).is) ∙ length-append d.tables ([] ∷ [])
+
+-- the first of these tokens is the header of a table
+abbrev is_pro_token : List (List ℕ) → Bool
+is_pro_token ts = is_named (get_or ts 0 []) (codes "/PRO")
 
 -- how many tables a line of these tokens begins
 abbrev begun : List (List ℕ) → ℕ
@@ -123,7 +121,7 @@ no_more d e true h same = absurd cc
 no_more d e false h same = omega (arith, same)
 
 header_counts : (s : Section) (d e : Spelt) (t : List ℕ) (ts : List (List ℕ))
-    → is_named t (header_name (next_section s)) ≡ true → header_of (next_section s) d ts ≡ Ok e
+    → is_named t (next_header s).0 ≡ true → header_of (next_header s).1 d ts ≡ Ok e
     → tables e ≡ tables d + begun (t ∷ ts)
 header_counts section.Before d e t ts f h = no_more d e (is_named t (codes "/PRO")) (not_pro t (codes "/VOC") f refl) (plain_same section.Voc d e ts h)
 header_counts section.Voc d e t ts f h = no_more d e (is_named t (codes "/PRO")) (not_pro t (codes "/STX") f refl) (plain_same section.Stx d e ts h)
@@ -140,8 +138,7 @@ slash_counts : (d e : Spelt) (t : List ℕ) (o : Option ℕ) (ts : List (List �
 slash_counts d e t (Some n) ts o h =
     no_more d e (is_named t (codes "/PRO")) (number_not_pro t n o) (item_same d.section n d e (at_end ts (item_in d.section d n) e h))
 slash_counts d e t None ts o h =
-    let a = holds (is_letters (drop 1 t)) kind.Section (header d t ts) e h in
-    let b = holds (is_named t (header_name (next_section d.section))) kind.Section (header_of (next_section d.section) d ts) e a.1 in
+    let b = holds (is_named t (next_header d.section).0) kind.Section (header_of (next_header d.section).1 d ts) e h in
     header_counts d.section d e t ts b.0 b.1
 
 -- ---- rows

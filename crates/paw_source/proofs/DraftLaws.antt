@@ -21,13 +21,13 @@ use Rattle.paw_lex.specs.Tokens.{tokens_of}
 use Rattle.paw_grammar.specs.declared.section.Section.{Section}
 use Rattle.paw_grammar.specs.declared.section.Section.TheVariants as section
 use Rattle.paw_base.specs.Faults.{◌>>=◌}
-use Rattle.paw_grammar.specs.Tokens.{token, is_named}
+use Rattle.paw_grammar.specs.Tokens.{is_named}
 use Rattle.paw_grammar.specs.Numbers.{number}
 use Rattle.paw_grammar.specs.GrammarState.{Spelt, last_or, with_last}
 use Rattle.paw_grammar.specs.GrammarTexts.{texts_of, with_texts, text_limit, text_item, text_line, is_in_text}
-use Rattle.paw_grammar.specs.GrammarHeads.{next_section, header_name, section_opened, plain_header, con_header}
-use Rattle.paw_grammar.specs.GrammarHeads.{lacks_rows, table_header, pro_header, header_of, header, new_text}
-use Rattle.paw_grammar.specs.GrammarHeads.{new_exits, item_in, is_letters, slash_line}
+use Rattle.paw_grammar.specs.GrammarHeads.{next_header, section_opened, plain_header, con_header}
+use Rattle.paw_grammar.specs.GrammarHeads.{lacks_rows, pro_header, header_of, new_text}
+use Rattle.paw_grammar.specs.GrammarHeads.{new_exits, item_in, slash_line}
 use Rattle.paw_grammar.specs.GrammarRows.{voc_row, exit_row, con_row, object_row, obj_row, bounds_of, entry_row, more_row, pro_row, row_in}
 use Rattle.paw_grammar.specs.Spells.{begins_with_slash, begins_with_blank, is_text_line, text_added, tokens_added, step}
 use Rattle.paw_source.proofs.Faultless.{passes, holds, bound, ok_is, at_end}
@@ -291,23 +291,16 @@ pub record Ready (d : Spelt) : Type 0 where
   pub locations : 1 ≤ length d.locations
   pub rows : lacks_rows d ≡ false → length d.names ≤ length d.facts
 
-table_keeps : (p : ℕ) (d e : Spelt) (ts : List (List ℕ)) (o : Option ℕ) → Keeps p d → Ready d → table_header d ts o ≡ Ok e → Keeps p e
-table_keeps p d e ts None k ready h = absurd cc
-table_keeps p d e ts (Some n) k ready h =
-    let t = table_opened n d e ts h in
+pro_keeps : (p : ℕ) (d e : Spelt) (ts : List (List ℕ)) → Keeps p d → Ready d → pro_header d ts ≡ Ok e → Keeps p e
+pro_keeps p d e ts k ready h =
+    let t = table_opened d e ts h in
     let made = with_table d in
-    let low : n ≤ 255 = grind (arith, nat_tests, t.low) in
-    let same : n ≡ length d.tables = grind (arith, nat_tests, t.next) in
+    let few = t.few in
     let long = length-append d.tables ([] ∷ []) in
     let order : AtTables made = record { locations = ready.locations; rows = ready.rows t.rows } in
     subst (Keeps p) t.is
     (tables_keep p section.Pro false made.tables d k
-    (λ g has. all_pushed (is_table g) d.tables [] (k.tables g has) refl) (omega (arith, long, low, same)) order)
-
-pro_keeps : (p : ℕ) (d e : Spelt) (ts : List (List ℕ)) → Keeps p d → Ready d → pro_header d ts ≡ Ok e → Keeps p e
-pro_keeps p d e ts k ready h =
-    let b = bound (token ts) (λ t. table_header d t.1 (number t.0)) e h in
-    table_keeps p d e b.0.1 (number b.0.0) k ready b.2
+    (λ g has. all_pushed (is_table g) d.tables [] (k.tables g has) refl) (omega (arith, long, few)) order)
 
 first_table : (d : Spelt) → AtObjects d → lacks_rows d ≡ false → length d.names ≤ length d.facts
 first_table d at h =
@@ -316,7 +309,7 @@ first_table d at h =
     let enough : ltb (length d.facts) (length d.names) ≡ false = ap (λ (b : Bool). b && ltb (length d.facts) (length d.names)) (sym first) ∙ h in
     grind (arith, nat_tests, enough)
 
-header_of_keeps : (p : ℕ) (s : Section) (d e : Spelt) (ts : List (List ℕ)) → d.section ≡ s → Keeps p d → header_of (next_section s) d ts ≡ Ok e → Keeps p e
+header_of_keeps : (p : ℕ) (s : Section) (d e : Spelt) (ts : List (List ℕ)) → d.section ≡ s → Keeps p d → header_of (next_header s).1 d ts ≡ Ok e → Keeps p e
 header_of_keeps p section.Before d e ts here k h = plain_keeps p section.Voc d e ts k (at_section section.Before d here k.order) h
 header_of_keeps p section.Voc d e ts here k h = plain_keeps p section.Stx d e ts k (at_section section.Voc d here k.order) h
 header_of_keeps p section.Stx d e ts here k h = plain_keeps p section.Mtx d e ts k (at_section section.Stx d here k.order) h
@@ -336,8 +329,7 @@ header_of_keeps p section.Pro d e ts here k h =
 slash_keeps : (p : ℕ) (d e : Spelt) (name : List ℕ) (o : Option ℕ) (ts : List (List ℕ)) → Keeps p d → slash_line d name o ts ≡ Ok e → Keeps p e
 slash_keeps p d e name (Some n) ts k h = item_keeps p d.section n d e refl k (at_end ts (item_in d.section d n) e h)
 slash_keeps p d e name None ts k h =
-    let a = holds (is_letters (drop 1 name)) kind.Section (header d name ts) e h in
-    let b = holds (is_named name (header_name (next_section d.section))) kind.Section (header_of (next_section d.section) d ts) e a.1 in
+    let b = holds (is_named name (next_header d.section).0) kind.Section (header_of (next_header d.section).1 d ts) e h in
     header_of_keeps p d.section d e ts refl k b.1
 
 -- ---- rows

@@ -1,9 +1,10 @@
 -- What is known of a reading in which no fault was found.
 use Rattle.std.proofs.Common.{◌≡◌, ℕ, Bool, true, false, cond, ◌&&◌, List, [], ◌∷◌, Option, Some, None, Result, Ok, Err, refl, ap, ◌∙◌, sym}
+use Rattle.std.specs.Option.{ok_or}
 use Rattle.paw_base.specs.declared.fault.SourceKind.{SourceKind}
 use Rattle.paw_base.specs.declared.fault.SourceKind.TheVariants as kind
 use Rattle.paw_base.specs.Faults.{◌>>=◌}
-use Rattle.paw_grammar.specs.Tokens.{ended, or_fault, read_by}
+use Rattle.paw_grammar.specs.Tokens.{ended, read_by}
 use Rattle.paw_grammar.specs.Numbers.{number, in_range, number_with}
 
 -- no fault at a test
@@ -40,15 +41,16 @@ pub at_end : {A : Type 0} (ts : List (List ℕ)) (x : Result A SourceKind) (e : 
 at_end {A} [] x e h = h
 at_end {A} (t ∷ ts) x e h = absurd cc
 
-or_fault_ok : {A : Type 0} (k : SourceKind) (ts : List (List ℕ)) (o : Option A) (x : A × List (List ℕ)) → or_fault k ts o ≡ Ok x → o ≡ Some x.0
-or_fault_ok {A} k ts None x h = absurd cc
-or_fault_ok {A} k ts (Some y) x h = ap (λ (z : A × List (List ℕ)). Some z.0) (ok_is (y, ts) x h)
+means_ok : {A : Type 0} (k : SourceKind) (ts : List (List ℕ)) (o : Option A) (x : A × List (List ℕ))
+    → ◌≡◌ {A = Result (A × List (List ℕ)) SourceKind} (ok_or o k >>= λ y. Ok (y, ts)) (Ok x) → o ≡ Some x.0
+means_ok {A} k ts None x h = absurd cc
+means_ok {A} k ts (Some y) x h = ap (λ (z : A × List (List ℕ)). Some z.0) (ok_is (y, ts) x h)
 
 -- the token that was read means what was read
 pub read_ok : {A : Type 0} (k : SourceKind) (f : List ℕ → Option A) (ts : List (List ℕ)) (x : A × List (List ℕ))
     → read_by k f ts ≡ Ok x → (t : List ℕ) × (f t ≡ Some x.0)
 read_ok {A} k f [] x h = absurd cc
-read_ok {A} k f (t ∷ ts) x h = (t, or_fault_ok k ts (f t) x h)
+read_ok {A} k f (t ∷ ts) x h = (t, means_ok k ts (f t) x h)
 
 pub in_range_ok : (rule : ℕ → Bool) (n x : ℕ × List (List ℕ)) → in_range rule n ≡ Ok x → rule x.0 ≡ true
 in_range_ok rule n x h =

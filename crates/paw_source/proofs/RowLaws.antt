@@ -1,9 +1,10 @@
 -- Rows of exits, objects and condacts keep the rules of a game.
-use Rattle.std.proofs.Common.{◌≡◌, ℕ, zero, suc, ◌-◌, ◌<◌, ◌≤◌, Bool, true, false, cond}
+use Rattle.std.proofs.Common.{◌≡◌, ℕ, zero, suc, ◌+◌, ◌-◌, ◌<◌, ◌≤◌, Bool, true, false, cond}
 use Rattle.std.proofs.Common.{not, ◌&&◌, ◌||◌, eqb, ltb, List, [], ◌∷◌, ◌++◌, length, map}
 use Rattle.std.proofs.Common.{min, Option, Some, None, Ok, Err, refl, ap, ◌∙◌, arith}
 use Rattle.std.specs.Prelude.{nat_le, nat_lt, codes}
 use Rattle.std.specs.List.{list_all, list_any, IsDistinct, AllByRecursion}
+use Rattle.std.specs.Option.{option_map, option_or, ok_or}
 use Rattle.std.proofs.lemmas.Bool.{and_parts, leb-true, ltb-true, eqb-true, eqb-false}
 use Rattle.std.proofs.lemmas.Bool.Decides.{nat_tests}
 use Rattle.std.proofs.lemmas.List.{length-map, length-append, length-set}
@@ -24,13 +25,13 @@ use Rattle.paw_game.specs.Valid.{words_kept, has_word, is_verb_value, is_any, is
 use Rattle.paw_game.specs.Valid.{is_exits, are_facts, is_parameter, is_condact, is_entry, is_table, is_word}
 use Rattle.paw_grammar.specs.declared.bounds.Bounds.{Bounds}
 use Rattle.paw_base.specs.Faults.{◌>>=◌}
-use Rattle.paw_grammar.specs.Tokens.{or_fault, read_by}
+use Rattle.paw_grammar.specs.Tokens.{read_by, at_most}
 use Rattle.paw_grammar.specs.Numbers.{number, in_range, number_within, number_below, row_number}
 use Rattle.paw_grammar.specs.Vocabulary.{place_among, word, class, object_kind, declared, word_or_none, verb_word, entry_verb, entry_noun}
-use Rattle.paw_grammar.specs.Condacts.{or_named, first_place, any_place, place_names, place_up_to, table, parameter}
-use Rattle.paw_grammar.specs.Condacts.{condact, condacts_in, with_more_condacts, at_most_255, more_condacts}
+use Rattle.paw_grammar.specs.Condacts.{first_place, any_place, place_names, place_up_to, table, parameter}
+use Rattle.paw_grammar.specs.Condacts.{condact, condacts_in, with_more_condacts, more_condacts}
 use Rattle.paw_grammar.specs.GrammarState.{last_or, with_last}
-use Rattle.paw_grammar.specs.GrammarRows.{voc_row, has_exit, exit_row, object_row, entry_row, no_entry, more_row}
+use Rattle.paw_grammar.specs.GrammarRows.{voc_row, exit_row, object_row, entry_row, no_entry, more_row}
 use Rattle.paw_source.proofs.Faultless.{passes, holds, bound, bound_then, ok_is, at_end, in_range_ok, number_ok}
 use Rattle.paw_source.proofs.WordLaws.{word_ok, class_ok, declared_ok, verb_word_ok, word_or_none_ok, entry_verb_ok, entry_noun_ok}
 use Rattle.paw_source.proofs.TextLaws.{all_set, all_at, all_pushed, both}
@@ -48,6 +49,10 @@ voc_row_ok ws vs ts kept h =
     declared_ok made ws vs one kept (at_end c.1 (declared made ws) vs h))))
 
 -- ---- exits
+
+-- an exit has this verb
+abbrev has_exit : ℕ → List Exit → Bool
+has_exit verb xs = list_any (λ x. eqb x.verb verb) xs
 
 -- whether another exit has its verb
 abbrev shares : Exit → List Exit → Bool
@@ -158,7 +163,7 @@ exit_row_ok ws locations xs ys ts words kept h =
 place_within : (last : ℕ) (named : List ℕ → Option ℕ) (locations : ℕ) (ts : List (List ℕ)) (x : ℕ × List (List ℕ))
     → place_up_to last named locations ts ≡ Ok x → (nat_lt x.0 locations || is_within 252 last x.0) ≡ true
 place_within last named locations ts x h =
-    let b = bound (read_by fault.Number (λ t. or_named (number t) (named t)) ts) (in_range (λ n. nat_lt n locations || is_within 252 last n)) x h in
+    let b = bound (read_by fault.Number (λ t. option_or (number t) (option_map (λ i. 252 + i) (named t))) ts) (in_range (λ n. nat_lt n locations || is_within 252 last n)) x h in
     in_range_ok (λ n. nat_lt n locations || is_within 252 last n) b.0 x b.2
 
 first_place_ok : (locations : ℕ) (ts : List (List ℕ)) (x : ℕ × List (List ℕ)) → first_place locations ts ≡ Ok x → is_place locations x.0 ≡ true
@@ -229,13 +234,13 @@ parameter_ok bounds ws g kind.Noun ts x has h = rw has.words (word_or_none_ok ws
 parameter_ok bounds ws g kind.Adjective ts x has h = rw has.words (word_or_none_ok ws 3 ts x h)
 parameter_ok bounds ws g kind.Preposition ts x has h = rw has.words (word_or_none_ok ws 4 ts x h)
 
-code_low : (ts : List (List ℕ)) (t : List ℕ) (x : ℕ × List (List ℕ)) → or_fault fault.Condact ts (code_named t) ≡ Ok x → x.0 ≤ 107
-code_low ts t x h =
-    elim (code_named t) as (λ o. code_named t ≡ o → or_fault fault.Condact ts o ≡ Ok x → x.0 ≤ 107) [
+code_low : (t : List ℕ) (code : ℕ) → ok_or (code_named t) fault.Condact ≡ Ok code → code ≤ 107
+code_low t code h =
+    elim (code_named t) as (λ o. code_named t ≡ o → ok_or o fault.Condact ≡ Ok code → code ≤ 107) [
       | None ↦ λ e f. absurd cc
-      | Some code ↦ λ e f.
-          let same : code ≡ x.0 = ap (λ (z : ℕ × List (List ℕ)). z.0) (ok_is (code, ts) x f) in
-          let low = (code_named_found t code e).0 in
+      | Some found ↦ λ e f.
+          let same = ok_is found code f in
+          let low = (code_named_found t found e).0 in
           omega (arith, same, low)
     ] refl h
 
@@ -243,15 +248,15 @@ condact_ok : (bounds : Bounds) (ws : List Word) (g : GameLists) (name : List ℕ
     (x : Condact × List (List ℕ)) → Has bounds ws g → condact bounds ws name ts ≡ Ok x → is_condact g x.0 ≡ true
 unfolding condact
 condact_ok bounds ws g name ts x has h =
-    bound_then _ (or_fault fault.Condact ts (code_named name)) _ x h (λ c c_ok h.
-    bound_then _ (parameter bounds ws (first_kind c.0) c.1) _ x h (λ a a_ok h.
-    bound_then _ (parameter bounds ws (second_kind c.0) a.1) _ x h (λ b b_ok h.
-    let made : Condact = record { code = c.0; a = a.0; b = b.0 } in
+    bound_then _ (ok_or (code_named name) fault.Condact) _ x h (λ c c_ok h.
+    bound_then _ (parameter bounds ws (first_kind c) ts) _ x h (λ a a_ok h.
+    bound_then _ (parameter bounds ws (second_kind c) a.1) _ x h (λ b b_ok h.
+    let made : Condact = record { code = c; a = a.0; b = b.0 } in
     let same : made ≡ x.0 = ap (λ (z : Condact × List (List ℕ)). z.0) (ok_is (made, b.1) x h) in
-    let small = code_low ts name c c_ok in
-    let low : nat_le c.0 107 ≡ true = grind (arith, nat_tests, small) in
-    let first = parameter_ok bounds ws g (first_kind c.0) c.1 a has a_ok in
-    let second = parameter_ok bounds ws g (second_kind c.0) a.1 b has b_ok in
+    let small = code_low name c c_ok in
+    let low : nat_le c 107 ≡ true = grind (arith, nat_tests, small) in
+    let first = parameter_ok bounds ws g (first_kind c) ts a has a_ok in
+    let second = parameter_ok bounds ws g (second_kind c) a.1 b has b_ok in
     rw (← same, low, first, second) refl)))
 
 condacts_ok : (bounds : Bounds) (ws : List Word) (g : GameLists) (skip : ℕ) (ts : List (List ℕ)) (cs : List Condact)
@@ -270,7 +275,7 @@ more_condacts_ok : (bounds : Bounds) (ws : List Word) (g : GameLists) (before : 
     × (list_all (is_condact g) cs ≡ true)
 unfolding more_condacts
 more_condacts_ok bounds ws g before ts cs has old h =
-    let a = bound (with_more_condacts before (condacts_in bounds ws 0 ts)) at_most_255 cs h in
+    let a = bound (with_more_condacts before (condacts_in bounds ws 0 ts)) (at_most 255) cs h in
     let c = bound (condacts_in bounds ws 0 ts) (λ more. Ok (before ++ more)) a.0 a.1 in
     let same = ok_is (before ++ c.0) a.0 c.2 in
     let b = passes (nat_lt 255 (length a.0)) fault.TooBig (Ok a.0) cs a.2 in

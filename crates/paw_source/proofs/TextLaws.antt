@@ -10,8 +10,9 @@ use Rattle.std.proofs.lemmas.List.Folds.{list_all-append}
 use Rattle.paw_base.specs.declared.fault.SourceKind.TheVariants as kind
 use Rattle.paw_game.specs.Valid.{is_text, is_text_byte, begins_no_line, is_printed}
 use Rattle.paw_lex.specs.Bytes.{is_comment, is_allowed, has_forbidden_byte}
+use Rattle.paw_grammar.specs.Tokens.{at_most}
 use Rattle.paw_grammar.specs.GrammarState.{last_or, with_last}
-use Rattle.paw_grammar.specs.GrammarTexts.{with_line, joined_within, text_line, text_item}
+use Rattle.paw_grammar.specs.GrammarTexts.{with_line, text_line, text_item}
 use Rattle.paw_grammar.specs.Spells.{begins_with_slash}
 use Rattle.paw_source.proofs.Faultless.{passes, bound, ok_is}
 
@@ -106,7 +107,7 @@ pub text_line_ok : (begun : Bool) (l : List ℕ) (ts us : List (List ℕ)) → l
     → is_comment l ≡ false → begins_with_slash l ≡ false → has_forbidden_byte true l ≡ false
     → text_line begun l ts ≡ Ok us → (list_all is_text us ≡ true) × (length us ≡ length ts)
 text_line_ok begun l ts us all comment slash bytes h =
-    let b = bound (joined_within begun l (last_or [] ts)) (λ t. Ok (with_last t ts)) us h in
+    let b = bound (at_most 4095 (with_line begun (last_or [] ts) l)) (λ t. Ok (with_last t ts)) us h in
     let old = all_get is_text ts (length ts - 1) [] all refl in
     let printed_old = (and_parts (nat_le (length (last_or [] ts)) 4095) (is_printed true (last_or [] ts)) old).1 in
     let plain_l : list_all plain l ≡ true = plain_line l (allowed (is_comment l) (list_any (λ b. not (is_allowed true b)) l) comment bytes) in

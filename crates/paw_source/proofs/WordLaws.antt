@@ -21,7 +21,7 @@ use Rattle.paw_game.specs.Valid.{is_letter, is_filled, are_letters, is_word, wor
 use Rattle.paw_game.specs.Tables.{word_of}
 use Rattle.paw_grammar.specs.Tokens.{is_named}
 use Rattle.paw_grammar.specs.Vocabulary.{is_word_token, letters_of, letters_in, word, class_names, place_among}
-use Rattle.paw_grammar.specs.Vocabulary.{class, words_with, is_declared, declared, in_class, as_verb, known, or_none}
+use Rattle.paw_grammar.specs.Vocabulary.{class, words_with, declared, in_class, as_verb, known, or_none}
 use Rattle.paw_grammar.specs.Vocabulary.{or_any, word_or_none, verb_word, entry_verb, entry_noun}
 use Rattle.paw_source.proofs.Faultless.{passes, ok_is, some_is, read_ok}
 
@@ -103,6 +103,10 @@ other_way a b less same =
       | Equal ↦ λ e f. absurd (let g : true ≡ false = f ∙ same in cc)
       | Greater ↦ λ e f. absurd (let g : true ≡ false = sym (ap is_lt e) ∙ less in cc)
     ] back eq
+
+-- some word has these letters
+abbrev is_declared : List ℕ → List Word → Bool
+is_declared letters ws = is_some (word_of letters ws)
 
 no_word : (o : Option Word) → is_some o ≡ false → o ≡ None
 no_word None h = refl

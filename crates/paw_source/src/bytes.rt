@@ -1,11 +1,8 @@
 // Tests of the bytes of a line and of a token.
 
 ghost use Rattle.std.specs.Prelude.{◌≡◌, drop};
-ghost use Rattle.std.specs.List.{list_all};
-ghost use Rattle.std.specs.Char.{is_ascii_alphabetic};
 ghost use Rattle.paw_lex.specs.Bytes.{is_comment, has_forbidden_byte};
 ghost use Rattle.paw_lex.specs.inner.Lines.{bytes_of, LiesIn};
-ghost use Rattle.paw_grammar.specs.GrammarHeads.{is_letters};
 ghost use Rattle.paw_grammar.specs.Spells.{begins_with_blank, begins_with_slash};
 
 use paw_lex::{Line, byte_fault};
@@ -43,17 +40,4 @@ pub(crate) fn without_first(token: &[u8]) -> &[u8]
         [_, rest @ ..] => rest,
         [] => token,
     }
-}
-
-fn all_letters(token: &[u8]) -> bool
-    ensures { result ≡ list_all is_ascii_alphabetic token.now }
-{
-    token.iter().all(|byte| byte.is_ascii_alphabetic())
-}
-
-/// Letters alone, and one at least.
-pub(crate) fn is_letters(token: &[u8]) -> bool
-    ensures { result ≡ is_letters token.now }
-{
-    !token.is_empty() && all_letters(token)
 }

@@ -6,13 +6,12 @@ ghost use Rattle.paw_grammar.specs.inner.Condacts.{AreSmall};
 ghost use Rattle.paw_faults.specs.inner.Gives.{Gives};
 ghost use Rattle.paw_grammar.specs.GrammarState.{game_of, nothing_yet};
 ghost use Rattle.paw_grammar.specs.GrammarTexts.{is_in_text};
-ghost use Rattle.paw_grammar.specs.GrammarHeads.{con_header, header, header_name, header_of, item_in, new_exits};
-ghost use Rattle.paw_grammar.specs.GrammarHeads.{next_section, plain_header, pro_header, slash_line, table_header};
+ghost use Rattle.paw_grammar.specs.GrammarHeads.{con_header, header, header_of, item_in, new_exits, next_header};
+ghost use Rattle.paw_grammar.specs.GrammarHeads.{plain_header, pro_header, slash_line};
 ghost use Rattle.paw_grammar.specs.GrammarRows.{bounds_of, con_row, obj_row, pro_row, row_in};
 ghost use Rattle.paw_grammar.specs.Spells.{text_added};
 ghost use Rattle.paw_source.specs.inner.Drafts.{HasTable};
 
-use crate::bytes::{is_letters, without_first};
 use crate::entries::{entry_row, more_row};
 use crate::exits::{exit_row, fill};
 use crate::objects::objects_of;
@@ -25,7 +24,7 @@ use paw_faults::unread::Unread;
 use paw_game::parts::{Exits, GameParts, Table, Text};
 use paw_grammar::bounds::Bounds;
 use paw_grammar::condacts::Scope;
-use paw_grammar::numbers::number;
+use paw_grammar::numbers::byte_below;
 use paw_grammar::refusal::ReadError;
 use paw_grammar::section::Section;
 use paw_grammar::tokens::{Tokens, is_named};
@@ -80,7 +79,7 @@ fn fault(kind: SourceKind) -> Result<(), ReadError>
 
 /// The section whose header comes next.
 fn next_section(section: Section) -> Section
-    ensures { result ≡ next_section section }
+    ensures { result ≡ (next_header section).1 }
 {
     match section {
         Section::Before => Section::Voc,
@@ -94,20 +93,19 @@ fn next_section(section: Section) -> Section
     }
 }
 
-/// The name of a section's header.
-fn header_name(section: Section) -> &'static [u8]
-    ensures { result.now ≡ header_name section }
+/// The name of the header that comes next.
+fn next_name(section: Section) -> &'static [u8]
+    ensures { result.now ≡ (next_header section).0 }
 {
     match section {
-        Section::Before => b"",
-        Section::Voc => b"/VOC",
-        Section::Stx => b"/STX",
-        Section::Mtx => b"/MTX",
-        Section::Otx => b"/OTX",
-        Section::Ltx => b"/LTX",
-        Section::Con => b"/CON",
-        Section::Obj => b"/OBJ",
-        Section::Pro => b"/PRO",
+        Section::Before => b"/VOC",
+        Section::Voc => b"/STX",
+        Section::Stx => b"/MTX",
+        Section::Mtx => b"/OTX",
+        Section::Otx => b"/LTX",
+        Section::Ltx => b"/CON",
+        Section::Con => b"/OBJ",
+        Section::Obj | Section::Pro => b"/PRO",
     }
 }
 
@@ -202,26 +200,31 @@ impl Draft {
             tokens.ended()?;
             return self.item(alloc, number);
         }
-        if is_letters(without_first(name)) {
-            self.header(alloc, name, tokens)
-        } else {
-            fault(SourceKind::Section)
-        }
+        self.header(alloc, name, tokens)
     }
 
     fn item(&mut self, alloc: Global, number: u32) -> Result<(), ReadError>
         ensures { Gives (λ _. self.new) result (item_in self.old.section self.old number) }
     {
-        if let Section::Con = self.section {
-            return self.new_exits(alloc, number);
-        }
-        self.begun = false;
         match self.section {
-            Section::Stx => text_item(alloc, &mut self.system, SYSTEM_LIMIT, number),
-            Section::Mtx => text_item(alloc, &mut self.messages, MESSAGE_LIMIT, number),
-            Section::Otx => text_item(alloc, &mut self.names, OBJECT_LIMIT, number),
-            Section::Ltx => text_item(alloc, &mut self.locations, LOCATION_LIMIT, number),
-            Section::Before | Section::Voc | Section::Con | Section::Obj | Section::Pro => {
+            Section::Stx => {
+                self.begun = false;
+                text_item(alloc, &mut self.system, SYSTEM_LIMIT, number)
+            }
+            Section::Mtx => {
+                self.begun = false;
+                text_item(alloc, &mut self.messages, MESSAGE_LIMIT, number)
+            }
+            Section::Otx => {
+                self.begun = false;
+                text_item(alloc, &mut self.names, OBJECT_LIMIT, number)
+            }
+            Section::Ltx => {
+                self.begun = false;
+                text_item(alloc, &mut self.locations, LOCATION_LIMIT, number)
+            }
+            Section::Con => self.new_exits(alloc, number),
+            Section::Before | Section::Voc | Section::Obj | Section::Pro => {
                 fault(SourceKind::Section)
             }
         }
@@ -241,11 +244,10 @@ impl Draft {
     fn header(&mut self, alloc: Global, name: &[u8], tokens: &mut Tokens) -> Result<(), ReadError>
         ensures { Gives (λ _. self.new) result (header self.old name.now tokens.old) }
     {
-        let next = next_section(self.section);
-        if !is_named(name, header_name(next)) {
+        if !is_named(name, next_name(self.section)) {
             return fault(SourceKind::Section);
         }
-        self.open(alloc, next, tokens)
+        self.open(alloc, next_section(self.section), tokens)
     }
 
     fn open(&mut self, alloc: Global, next: Section, tokens: &mut Tokens) -> Result<(), ReadError>
@@ -289,25 +291,7 @@ impl Draft {
     fn pro_header(&mut self, alloc: Global, tokens: &mut Tokens) -> Result<(), ReadError>
         ensures { Gives (λ _. self.new) result (pro_header self.old tokens.old) }
     {
-        let second = tokens.token()?;
-        self.table_header(alloc, number(second), tokens)
-    }
-
-    fn table_header(
-        &mut self,
-        alloc: Global,
-        number: Option<u32>,
-        tokens: &mut Tokens,
-    ) -> Result<(), ReadError>
-        ensures { Gives (λ _. self.new) result (table_header self.old tokens.old number) }
-    {
-        let number = match number {
-            None => return fault(SourceKind::Number),
-            Some(number) => number,
-        };
-        if number > 255 {
-            return fault(SourceKind::Range);
-        }
+        let number = byte_below(tokens, 256)?;
         if number as usize != self.tables.len() {
             return fault(SourceKind::Section);
         }

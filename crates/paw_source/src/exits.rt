@@ -1,8 +1,9 @@
 // The exits of locations.
 
-ghost use Rattle.std.specs.Prelude.{◌≡◌, ◌-◌, ◌++◌, ◌≤◌, [], length, replicate, OnOk};
+ghost use Rattle.std.specs.Prelude.{◌≡◌, ◌-◌, ◌++◌, ◌==◌, ◌≤◌, [], length, replicate, OnOk};
+ghost use Rattle.std.specs.List.{list_any};
 ghost use Rattle.paw_faults.specs.inner.Gives.{Gives};
-ghost use Rattle.paw_grammar.specs.GrammarRows.{exit_row, has_exit};
+ghost use Rattle.paw_grammar.specs.GrammarRows.{exit_row};
 
 use paw_base::fault::SourceKind;
 use paw_faults::unread::Unread;
@@ -27,7 +28,7 @@ pub(crate) fn fill(alloc: Global, exits: &mut Vec<Exits>, count: usize) -> Resul
 }
 
 fn has_exit(exits: &[Exit], verb: u8) -> bool
-    ensures { result ≡ has_exit verb exits.now }
+    ensures { result ≡ list_any (λ x. x.verb == verb) exits.now }
 {
     exits.iter().any(|exit| exit.verb == verb)
 }

@@ -1,14 +1,15 @@
 // Sources.
 
-ghost use Rattle.std.specs.Prelude.{◌≡◌, ◌≤◌, ℕ, List, Ok, length, IfOk};
-ghost use Rattle.std.specs.List.{count_by};
+ghost use Rattle.std.specs.Prelude.{◌≡◌, ◌≤◌, ℕ, List, [], Ok, codes, length, IfOk};
+ghost use Rattle.std.specs.List.{count_by, slice_index_or};
 ghost use Rattle.paw_game.specs.Image.{image};
 ghost use Rattle.paw_game.specs.Valid.{Valid};
 ghost use Rattle.paw_lex.specs.Lines.{lines_of};
 ghost use Rattle.paw_lex.specs.inner.Lines.{bytes_of, LiesIn};
 ghost use Rattle.paw_base.specs.declared.limits.TheConstants.{IMAGE_LIMIT, SOURCE_LIMIT};
+ghost use Rattle.paw_grammar.specs.Tokens.{is_named};
 ghost use Rattle.paw_grammar.specs.GrammarState.{Spelt, game_of, nothing_yet};
-ghost use Rattle.paw_grammar.specs.Spells.{begins_table, is_pro_token, spelled_after, spelled, whole};
+ghost use Rattle.paw_grammar.specs.Spells.{begins_table, spelled_after, spelled, whole};
 ghost use Rattle.paw_source.specs.inner.Laws.{after_lines};
 ghost use Rattle.paw_source.specs.inner.Refusals.{ReadsSource, refused_at_line};
 
@@ -28,7 +29,7 @@ use std::alloc::Global;
 
 /// Whether the first token is the header of a table.
 fn is_pro(tokens: &mut Tokens) -> bool
-    ensures { result ≡ is_pro_token tokens.old }
+    ensures { result ≡ is_named (slice_index_or tokens.old 0 []) (codes "/PRO") }
 {
     match tokens.next() {
         None => false,

@@ -1,8 +1,10 @@
 // The texts of a section: items and text lines.
 
 ghost use Rattle.std.specs.Prelude.{◌≡◌, ◌<◌, ◌≤◌, ◌+◌, length, nat_le, suc, if◌then◌else◌};
+ghost use Rattle.paw_base.specs.declared.limits.TheConstants.{TEXT_LIMIT};
 ghost use Rattle.paw_faults.specs.inner.Gives.{Gives};
-ghost use Rattle.paw_grammar.specs.GrammarTexts.{joined_within, text_item, text_line};
+ghost use Rattle.paw_grammar.specs.Tokens.{at_most};
+ghost use Rattle.paw_grammar.specs.GrammarTexts.{text_item, text_line, with_line};
 
 use paw_base::fault::SourceKind;
 use paw_base::limits::TEXT_LIMIT;
@@ -52,7 +54,7 @@ pub(crate) fn text_line(texts: &mut Vec<Text>, begun: bool, line: &[u8]) -> Resu
 
 /// Adds a line to a text.
 fn join(text: &mut Text, begun: bool, line: &[u8]) -> Result<(), ReadError>
-    ensures { Gives (λ _. text.new) result (joined_within begun line.now text.old) }
+    ensures { Gives (λ _. text.new) result (at_most TEXT_LIMIT (with_line begun text.old line.now)) }
 {
     if !has_room(text.bytes.len(), begun, line.len()) {
         return Err(Unread::Fault(SourceKind::TooBig));

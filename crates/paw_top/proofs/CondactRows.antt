@@ -14,14 +14,16 @@ use Rattle.paw_base.specs.Condacts.{condact_lines, line_of, name_of, first_kind,
 use Rattle.paw_base.specs.inner.Condacts.{IsCode}
 use Rattle.paw_base.proofs.Table.{below, each_code}
 use Rattle.paw_base.proofs.Named.{code_named-name_of}
+use Rattle.paw_game.specs.declared.parts.Word.{Word}
 use Rattle.paw_game.specs.declared.parts.ObjectRow.{ObjectRow}
 use Rattle.paw_game.specs.Game.{GameLists}
 use Rattle.paw_game.specs.Valid.{is_within, is_parameter, is_condact, is_word_or_none}
 use Rattle.paw_grammar.specs.declared.bounds.Bounds.{Bounds}
 use Rattle.paw_base.specs.Faults.{◌>>=◌}
+use Rattle.paw_grammar.specs.Tokens.{at_most}
 use Rattle.paw_grammar.specs.Vocabulary.{word_or_none}
-use Rattle.paw_grammar.specs.Condacts.{parameter, condact, condacts_in, with_more_condacts, at_most_255, more_condacts}
-use Rattle.paw_print.specs.Lines.{value_token, parameter_tokens, condact_tokens}
+use Rattle.paw_grammar.specs.Condacts.{parameter, condact, condacts_in, with_more_condacts, more_condacts}
+use Rattle.paw_print.specs.Lines.{value_token, parameter_tokens}
 use Rattle.paw_top.proofs.Rows.{is_plain}
 use Rattle.paw_top.proofs.Digits.{number-decimal, plain-decimal}
 use Rattle.paw_top.proofs.KnownWords.{Words, ReadsBack, word_or_none_back}
@@ -114,6 +116,10 @@ parameter_back p g kind.Preposition x s h = let b = word_parameter p g 4 x s h i
 
 -- ---- a condact ----
 
+-- name, parameters
+abbrev pub condact_tokens : List Word → Condact → List (List ℕ)
+condact_tokens ws c = name_of c.code ∷ (parameter_tokens ws (first_kind c.code) c.a ++ parameter_tokens ws (second_kind c.code) c.b)
+
 skipped : (p : ℕ) (g : GameLists) (ts : List (List ℕ)) → condacts_in (bounds p g) g.words (length ts) ts ≡ Ok []
 unfolding condacts_in
 skipped p g [] = refl
@@ -167,4 +173,4 @@ pub more_condacts-is : (p : ℕ) (g : GameLists) (done : List Condact) (c : Cond
 unfolding more_condacts
 more_condacts-is p g done c back few =
     let within : ltb 255 (length (done ++ c ∷ [])) ≡ false = le-ltb 255 _ (omega (arith, length-append done (c ∷ []))) in
-    ap (λ (r : Result (List Condact) SourceKind). with_more_condacts done r >>= at_most_255) back.read ∙ rw within refl
+    ap (λ (r : Result (List Condact) SourceKind). with_more_condacts done r >>= at_most 255) back.read ∙ rw within refl

@@ -14,8 +14,8 @@ use Rattle.paw_grammar.specs.Vocabulary.{verb_word}
 use Rattle.paw_grammar.specs.GrammarState.{Spelt}
 use Rattle.paw_grammar.specs.GrammarTexts.{is_in_text}
 use Rattle.paw_grammar.specs.GrammarHeads.{item_in}
-use Rattle.paw_grammar.specs.GrammarRows.{has_exit, exit_row, con_row, row_in}
-use Rattle.paw_print.specs.Lines.{verb_token, item_token, exit_tokens, spaced}
+use Rattle.paw_grammar.specs.GrammarRows.{exit_row, con_row, row_in}
+use Rattle.paw_print.specs.Lines.{verb_token, item_token, spaced}
 use Rattle.paw_print.specs.Canonical.{numbered, location_lines}
 use Rattle.paw_top.proofs.After.{LineReads, Reads, reads_none, reads_line, reads_append}
 use Rattle.paw_top.proofs.Rows.{is_plain, row_step, plain_printed, printed-spaced}
@@ -24,6 +24,10 @@ use Rattle.paw_top.proofs.Lasts.{last_or-push, with_last-push}
 use Rattle.paw_top.proofs.KnownWords.{Words, ReadsBack, verb_word_back}
 
 -- ---- verbs that no exit has yet ----
+
+-- an exit has this verb
+abbrev has_exit : ℕ → List Exit → Bool
+has_exit verb xs = list_any (λ x. eqb x.verb verb) xs
 
 abbrev are_fresh : List Exit → List Exit → Bool
 are_fresh done xs = list_all (λ x. not (has_exit x.verb done)) xs
@@ -47,6 +51,10 @@ fresh_more done x (y ∷ ys) h g =
     and_from _ _ (not_from_false _ none) (fresh_more done x ys here.1 others.1)
 
 -- ---- one exit ----
+
+-- verb, location
+abbrev exit_tokens : List Word → Exit → List (List ℕ)
+exit_tokens ws x = verb_token ws x.verb ∷ decimal x.to ∷ []
 
 -- what a row of an exit needs
 record ExitRow (ws : List Word) (locations : ℕ) (done : List Exit) (x : Exit) : Type 0 where

@@ -2,6 +2,7 @@
 use Rattle.std.proofs.Common.{◌≡◌, ℕ, ◌<◌, ◌≤◌, Bool, true, false, ◌&&◌, ◌||◌, eqb, ltb, leb, cond, List, [], ◌∷◌, Some, None, Result, Ok, Ordering, refl, sym}
 use Rattle.std.proofs.Common.{ap, ◌∙◌, subst, inl, inr, bytes_eq, arith}
 use Rattle.std.specs.List.{list_all, list_any, find}
+use Rattle.std.specs.Option.{option_or}
 use Rattle.std.specs.declared.cmp.Ordering.TheVariants.{Less, Equal, Greater}
 use Rattle.std.specs.Ordering.{is_eq, is_lt, nat_cmp}
 use Rattle.std.specs.Cmp.Lexicographic.{slice_cmp}
@@ -16,7 +17,8 @@ use Rattle.paw_game.specs.Valid.{are_letters, is_within, is_word, words_rise, ha
 use Rattle.paw_game.specs.Tables.{word_of}
 use Rattle.paw_grammar.specs.Vocabulary.{known, in_class, as_verb, word_or_none, verb_word, entry_verb, entry_noun}
 use Rattle.paw_source.proofs.Faultless.{some_is}
-use Rattle.paw_print.specs.Lines.{spelled_letters, means, first_word, first_verb, word_token, value_token, verb_token}
+use Rattle.paw_print.specs.Lines.{spelled_letters, first_word, word_token, value_token, verb_token}
+use Rattle.paw_print.proofs.FirstWords.{means}
 use Rattle.paw_top.proofs.Rows.{is_plain}
 use Rattle.paw_top.proofs.Letters.{Spelling, spelling}
 
@@ -181,7 +183,7 @@ entry_noun_back ws value words h =
 
 -- the word that stands for a verb value
 record Verb (ws : List Word) (value : ℕ) (w : Word) : Type 0 where
-  stands : first_verb ws value ≡ Some w
+  stands : option_or (first_word ws 0 value) (first_word ws 2 value) ≡ Some w
   low : 2 ≤ value
   high : value ≤ 254
   spelled : Spelling (spelled_letters w) w.letters
@@ -218,7 +220,10 @@ some_verb ws value words h =
     elim (first_word ws 0 value) as (λ o. first_word ws 0 value ≡ o → (w : Word) × Verb ws value w) [
       | Some w ↦ λ e. (w, verb_is ws value w words e)
       | None ↦ λ e. elim (or_cases (has_word ws 0 value) (ltb value 20 && has_word ws 2 value) h) [
-        | inl has ↦ let found = find_some (means 0 value) ws has in absurd cc
+        | inl has ↦
+            let found = find_some (means 0 value) ws has in
+            let first : first_word ws 0 value ≡ Some found.0 = found.1 in
+            absurd cc
         | inr has ↦
             let both = and_parts (ltb value 20) (has_word ws 2 value) has in
             let found = find_some (means 2 value) ws both.1 in

@@ -4,7 +4,7 @@ use Rattle.std.proofs.Common.{length-append}
 use Rattle.std.specs.Prelude.{codes}
 use Rattle.std.specs.List.{list_all, flat_map}
 use Rattle.std.specs.Fmt.{decimal}
-use Rattle.std.proofs.lemmas.Bool.{and_parts, leb-true, lt-ltb, le-ltb, eq-eqb, ne_eqb}
+use Rattle.std.proofs.lemmas.Bool.{and_parts, leb-true, lt-ltb, eq-eqb, ne_eqb}
 use Rattle.std.proofs.lemmas.List.{append_assoc, append-nil}
 use Rattle.paw_base.specs.declared.fault.SourceKind.{SourceKind}
 use Rattle.paw_base.specs.declared.parts.Condact.{Condact}
@@ -19,16 +19,16 @@ use Rattle.paw_grammar.specs.Numbers.{number_from}
 use Rattle.paw_grammar.specs.Vocabulary.{entry_verb, entry_noun}
 use Rattle.paw_grammar.specs.Condacts.{condacts_in, more_condacts}
 use Rattle.paw_grammar.specs.GrammarState.{Spelt, with_last}
-use Rattle.paw_grammar.specs.GrammarHeads.{next_section, section_opened, lacks_rows, table_header}
+use Rattle.paw_grammar.specs.GrammarHeads.{next_header, section_opened, lacks_rows}
 use Rattle.paw_grammar.specs.GrammarRows.{entry_row, no_entry, more_row}
-use Rattle.paw_print.specs.Lines.{verb_token, value_token, entry_tokens, condact_tokens, condact_line, table_tokens, spaced}
+use Rattle.paw_print.specs.Lines.{verb_token, value_token, condact_line, spaced}
 use Rattle.paw_print.specs.Canonical.{numbered, entry_lines, table_lines}
 use Rattle.paw_top.proofs.After.{LineReads, Reads, reads_none, reads_line, reads_append}
 use Rattle.paw_top.proofs.Rows.{is_plain, row_step, more_step, slash_step, printed-spaced, printed-behind}
 use Rattle.paw_top.proofs.Digits.{number-decimal, plain-decimal}
 use Rattle.paw_top.proofs.Lasts.{last_or-push, with_last-push}
 use Rattle.paw_top.proofs.KnownWords.{ReadsBack, entry_verb_back, entry_noun_back}
-use Rattle.paw_top.proofs.CondactRows.{bounds, Small, CondactBack, condact_back, more_condacts-is}
+use Rattle.paw_top.proofs.CondactRows.{condact_tokens, bounds, Small, CondactBack, condact_back, more_condacts-is}
 
 -- all of a game is spelled, but for its tables, of which these are
 abbrev pub spelt_of : GameLists → List (List Exit) → List (List Entry) → Spelt
@@ -93,6 +93,10 @@ condacts_read p g exits ts es e done (c ∷ cs) s few h =
 
 -- ---- an entry ----
 
+-- verb, noun
+abbrev entry_tokens : List Word → Entry → List (List ℕ)
+entry_tokens ws e = verb_token ws e.verb ∷ value_token ws 2 e.noun ∷ []
+
 -- what the line of an entry needs
 record EntryRow (ws : List Word) (e : Entry) : Type 0 where
   verb : ReadsBack (verb_token ws e.verb) (entry_verb ws) e.verb
@@ -143,22 +147,22 @@ entries_read p g exits ts done (e ∷ es) s few h =
 abbrev table_begun : Spelt → Spelt
 table_begun d = record (section_opened section.Pro d) { tables = d.tables ++ [] ∷ [] }
 
-header_step : (p : ℕ) (d : Spelt) (n : ℕ) → next_section d.section ≡ section.Pro → n ≡ length d.tables → n ≤ 255 →
-    lacks_rows d ≡ false → LineReads p d (spaced (table_tokens n)) (table_begun d)
+header_step : (p : ℕ) (d : Spelt) (n : ℕ) → next_header d.section ≡ (codes "/PRO", section.Pro) → n ≡ length d.tables → n ≤ 255 →
+    lacks_rows d ≡ false → LineReads p d (spaced (codes "/PRO" ∷ decimal n ∷ [])) (table_begun d)
 unfolding number_from
 header_step p d n at is few rows =
     let small : n ≤ 65535 = omega arith in
-    let within : ltb 255 n ≡ false = le-ltb 255 n few in
+    let within : ltb n 256 ≡ true = lt-ltb n 256 (omega arith) in
     let next : eqb n (length d.tables) ≡ true = eq-eqb n (length d.tables) is in
-    let plain : list_all is_plain (table_tokens n) ≡ true = rw (plain-decimal n small) refl in
+    let plain : list_all is_plain (codes "/PRO" ∷ decimal n ∷ []) ≡ true = rw (plain-decimal n small) refl in
     record {
-      is = slash_step p d (codes "PRO") (decimal n ∷ []) plain ∙ rw at (ap (λ x. table_header d [] x) (number-decimal n small) ∙ rw (within, next, rows) refl);
+      is = slash_step p d (codes "PRO") (decimal n ∷ []) plain ∙ rw at (rw (number-decimal n small, within, next, rows) refl);
       printed = printed-spaced (codes "/PRO") (decimal n ∷ []) plain;
     }
 
 pub table_read : (p : ℕ) (g : GameLists) (exits : List (List Exit)) (d : Spelt) (ts : List (List Entry)) (n : ℕ)
     (es : List Entry) → Small p g → table_begun d ≡ spelt_of g exits (ts ++ [] ∷ [])
-    → next_section d.section ≡ section.Pro → n ≡ length d.tables → n ≤ 255 → lacks_rows d ≡ false →
+    → next_header d.section ≡ (codes "/PRO", section.Pro) → n ≡ length d.tables → n ≤ 255 → lacks_rows d ≡ false →
     is_table g es ≡ true → Reads p d (table_lines g.words n es) (spelt_of g exits (ts ++ es ∷ []))
 table_read p g exits d ts n es s begun at is few rows h =
     let both = and_parts (leb (length es) 4000) (list_all (is_entry g) es) h in

@@ -1,5 +1,5 @@
 -- The printed texts of a section are read as its texts.
-use Rattle.std.proofs.Common.{◌≡◌, ℕ, suc, ◌<◌, ◌≤◌, Bool, true, false, not, ◌&&◌, eqb, ltb, leb, List, [], ◌∷◌, ◌++◌, length, Result, Ok, refl, ap, ◌∙◌}
+use Rattle.std.proofs.Common.{◌≡◌, ℕ, suc, ◌<◌, ◌≤◌, Bool, true, false, not, eqb, ltb, leb, List, [], ◌∷◌, ◌++◌, length, Result, Ok, refl, ap, ◌∙◌}
 use Rattle.std.proofs.Common.{arith, length-append}
 use Rattle.std.specs.List.{list_all, flat_map}
 use Rattle.std.proofs.lemmas.Bool.{and_parts, leb-true, le-ltb, lt-ltb, eq-eqb, ne_eqb}
@@ -10,7 +10,7 @@ use Rattle.paw_grammar.specs.declared.section.Section.{Section}
 use Rattle.paw_grammar.specs.declared.section.Section.TheVariants as section
 use Rattle.paw_base.specs.Faults.{◌>>=◌}
 use Rattle.paw_grammar.specs.GrammarState.{Spelt}
-use Rattle.paw_grammar.specs.GrammarTexts.{is_text_section, texts_of, with_texts, text_limit, text_item, is_in_text, with_line, text_line}
+use Rattle.paw_grammar.specs.GrammarTexts.{texts_of, with_texts, text_limit, text_item, is_in_text, with_line, text_line}
 use Rattle.paw_grammar.specs.GrammarHeads.{new_text, item_in}
 use Rattle.paw_print.specs.Lines.{item_token, lines_of_text, text_lines}
 use Rattle.paw_print.specs.Canonical.{numbered}
@@ -21,6 +21,10 @@ use Rattle.paw_top.proofs.Lasts.{last_or-push, with_last-push}
 use Rattle.paw_top.proofs.Split.{HasLine, has_line, split, split_some, rejoined, rejoined-split, is_line, split_is_lines, TextLine, text_line_is}
 
 -- ---- the texts of a section ----
+
+-- a section of texts
+abbrev pub is_text_section : Section → Bool
+is_text_section s = ltb 0 (text_limit s)
 
 texts-with : (s : Section) (b : Bool) (ts : List (List ℕ)) (d : Spelt) → is_text_section s ≡ true →
     (texts_of s (with_texts s b ts d) ≡ ts) × ((with_texts s b ts d).begun ≡ b)
@@ -86,8 +90,8 @@ in_text s b before t d at text =
     let some : eqb (length (before ++ t ∷ [])) 0 ≡ false = ne_eqb _ 0 (λ e. omega (arith, length-append before (t ∷ []))) in
     let e : Spelt = with_texts s b (before ++ t ∷ []) d in
     let here : e.section ≡ s = section-with s b (before ++ t ∷ []) d ∙ at in
-    ap (λ x. is_text_section x && not (eqb (length (texts_of x e)) 0)) here
-    ∙ rw (text, (texts-with s b (before ++ t ∷ []) d text).0, some) refl
+    ap (λ x. not (eqb (length (texts_of x e)) 0)) here
+    ∙ rw ((texts-with s b (before ++ t ∷ []) d text).0, some) refl
 
 line_joined : (b : Bool) (before : List (List ℕ)) (t l : List ℕ) → length (with_line b t l) ≤ 4095 →
     text_line b l (before ++ t ∷ []) ≡ Ok (before ++ with_line b t l ∷ [])

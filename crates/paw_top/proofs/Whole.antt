@@ -16,18 +16,18 @@ use Rattle.paw_lex.proofs.Printed.{lines_of-printed_lines}
 use Rattle.paw_grammar.specs.declared.section.Section.{Section}
 use Rattle.paw_grammar.specs.declared.section.Section.TheVariants as section
 use Rattle.paw_grammar.specs.GrammarState.{Spelt, nothing_yet, all_exits, game_of}
-use Rattle.paw_grammar.specs.GrammarTexts.{is_text_section, with_texts, text_limit}
-use Rattle.paw_grammar.specs.GrammarHeads.{header_name, section_opened, lacks_rows}
+use Rattle.paw_grammar.specs.GrammarTexts.{with_texts, text_limit}
+use Rattle.paw_grammar.specs.GrammarHeads.{section_opened, lacks_rows}
 use Rattle.paw_grammar.specs.Spells.{begins_table, spelled_after, spelled}
 use Rattle.paw_source.specs.inner.Laws.{CountsTables}
-use Rattle.paw_print.specs.Lines.{spaced, word_tokens, text_lines}
-use Rattle.paw_print.specs.Canonical.{words_lines, texts_lines, location_lines, exits_lines, object_lines, objects_lines, table_lines, numbered}
+use Rattle.paw_print.specs.Lines.{spaced, object_tokens, text_lines}
+use Rattle.paw_print.specs.Canonical.{words_lines, texts_lines, location_lines, exits_lines, objects_lines, table_lines, numbered}
 use Rattle.paw_print.specs.Canonical.{canonical_lines, canonical_of}
 use Rattle.paw_top.specs.Round.{SpellsItself}
 use Rattle.paw_top.proofs.After.{LineReads, Reads, reads_line, reads_append, reads_whole}
 use Rattle.paw_top.proofs.Headers.{header_reads, exits_header_reads}
-use Rattle.paw_top.proofs.WordRows.{words_read}
-use Rattle.paw_top.proofs.TextItems.{items_read}
+use Rattle.paw_top.proofs.WordRows.{word_tokens, words_read}
+use Rattle.paw_top.proofs.TextItems.{is_text_section, items_read}
 use Rattle.paw_top.proofs.ExitRows.{Scene, Filled, locations_read}
 use Rattle.paw_top.proofs.ObjectRows.{objects_read, objects_of-map}
 use Rattle.paw_top.proofs.CondactRows.{Small}
@@ -100,14 +100,14 @@ texts_of_objects ws locations (o ∷ os) h =
 -- ---- sections ----
 
 -- behind lines that are read, a section of texts
-texts_read : (p : ℕ) (s : Section) (d : Spelt) (before texts : List (List ℕ)) → Reads p nothing_yet before d →
-    LineReads p d (header_name s) (section_opened s d) → with_texts s false [] (section_opened s d) ≡ section_opened s d → is_text_section s ≡ true
+texts_read : (p : ℕ) (s : Section) (name : List ℕ) (d : Spelt) (before texts : List (List ℕ)) → Reads p nothing_yet before d →
+    LineReads p d name (section_opened s d) → with_texts s false [] (section_opened s d) ≡ section_opened s d → is_text_section s ≡ true
     → length texts ≤ text_limit s → list_all is_text texts ≡ true → (b : Bool)
-    × Reads p nothing_yet (before ++ texts_lines (header_name s) texts) (with_texts s b texts (section_opened s d))
-texts_read p s d before texts reads first none text room all =
+    × Reads p nothing_yet (before ++ texts_lines name texts) (with_texts s b texts (section_opened s d))
+texts_read p s name d before texts reads first none text room all =
     let items = items_read p s false (section_opened s d) [] 0 texts refl text refl room all in
     let rest : Reads p (section_opened s d) (numbered text_lines 0 texts) (with_texts s items.0 texts (section_opened s d)) = rw none at items.1 in
-    (items.0, reads_append p nothing_yet d _ before _ reads (reads_line p _ _ _ (header_name s) (numbered text_lines 0 texts) first rest))
+    (items.0, reads_append p nothing_yet d _ before _ reads (reads_line p _ _ _ name (numbered text_lines 0 texts) first rest))
 
 -- what is spelled before the tables
 abbrev before_tables : GameLists → Bool → List (List Exit) → Spelt
@@ -150,17 +150,17 @@ whole_read p g r s =
     reads_line p nothing_yet d0 d1 (codes "/VOC") (map (λ (w : Word). spaced (word_tokens w)) g.words) (header_reads p nothing_yet section.Before refl tt)
     (words_read p d0 [] g.words refl r.all_words r.rise r.few_words) in
     -- the texts
-    let t2 = texts_read p section.Stx d1 l1 g.system r1 (header_reads p d1 section.Voc refl tt) refl refl r.few_system r.system in
+    let t2 = texts_read p section.Stx (codes "/STX") d1 l1 g.system r1 (header_reads p d1 section.Voc refl tt) refl refl r.few_system r.system in
     let d2 : Spelt = with_texts section.Stx t2.0 g.system (section_opened section.Stx d1) in
     let l2 : List (List ℕ) = l1 ++ texts_lines (codes "/STX") g.system in
-    let t3 = texts_read p section.Mtx d2 l2 g.messages t2.1 (header_reads p d2 section.Stx refl tt) refl refl r.few_messages r.messages in
+    let t3 = texts_read p section.Mtx (codes "/MTX") d2 l2 g.messages t2.1 (header_reads p d2 section.Stx refl tt) refl refl r.few_messages r.messages in
     let d3 : Spelt = with_texts section.Mtx t3.0 g.messages (section_opened section.Mtx d2) in
     let l3 : List (List ℕ) = l2 ++ texts_lines (codes "/MTX") g.messages in
     let all_names = texts_of_objects g.words (length g.locations) g.objects r.objects in
-    let t4 = texts_read p section.Otx d3 l3 names t3.1 (header_reads p d3 section.Mtx refl tt) refl refl names_few all_names in
+    let t4 = texts_read p section.Otx (codes "/OTX") d3 l3 names t3.1 (header_reads p d3 section.Mtx refl tt) refl refl names_few all_names in
     let d4 : Spelt = with_texts section.Otx t4.0 names (section_opened section.Otx d3) in
     let l4 : List (List ℕ) = l3 ++ texts_lines (codes "/OTX") names in
-    let t5 = texts_read p section.Ltx d4 l4 g.locations t4.1 (header_reads p d4 section.Otx refl tt) refl refl r.few_locations r.locations in
+    let t5 = texts_read p section.Ltx (codes "/LTX") d4 l4 g.locations t4.1 (header_reads p d4 section.Otx refl tt) refl refl r.few_locations r.locations in
     let d5 : Spelt = with_texts section.Ltx t5.0 g.locations (section_opened section.Ltx d4) in
     let l5 : List (List ℕ) = l4 ++ texts_lines (codes "/LTX") g.locations in
     -- the exits
@@ -182,7 +182,7 @@ whole_read p g r s =
     let d7 : Spelt = record c6 { facts = map (λ (o : ObjectRow). o.facts) g.objects } in
     let obj : List (List ℕ) = objects_lines g.words g.objects in
     let t7 : Reads p d6 obj d7 =
-    reads_line p d6 c6 d7 (codes "/OBJ") (numbered (object_lines g.words) 0 g.objects) (header_reads p d6 section.Con refl tt)
+    reads_line p d6 c6 d7 (codes "/OBJ") (numbered (λ n (o : ObjectRow). spaced (object_tokens g.words n o.facts) ∷ []) 0 g.objects) (header_reads p d6 section.Con refl tt)
     (objects_read p c6 [] 0 g.objects refl scene6 refl rows names_few r.objects) in
     let l7 : List (List ℕ) = l5 ++ con ++ obj in
     let r7 : Reads p nothing_yet l7 d7 = reads_append p nothing_yet d6 d7 (l5 ++ con) obj r6 t7 in

@@ -20,7 +20,7 @@ use Rattle.paw_grammar.specs.Vocabulary.{class_names, place_among, words_with}
 use Rattle.paw_grammar.specs.GrammarState.{Spelt}
 use Rattle.paw_grammar.specs.GrammarTexts.{is_in_text}
 use Rattle.paw_grammar.specs.GrammarRows.{voc_row}
-use Rattle.paw_print.specs.Lines.{spelled_letters, class_name, word_tokens, spaced}
+use Rattle.paw_print.specs.Lines.{spelled_letters, class_name, spaced}
 use Rattle.paw_top.proofs.Rows.{is_plain, row_step, printed-spaced}
 use Rattle.paw_top.proofs.Digits.{number-decimal, plain-decimal}
 use Rattle.paw_top.proofs.Letters.{Spelling, spelling}
@@ -67,6 +67,10 @@ put_last (v ∷ vs) w ws h =
     rw below (ap (λ (us : List Word). v ∷ us) (put_last vs w ws (rest_rises v (vs ++ w ∷ ws) h)))
 
 -- ---- a row ----
+
+-- letters, value, class
+abbrev pub word_tokens : Word → List (List ℕ)
+word_tokens w = spelled_letters w ∷ decimal w.value ∷ class_name w.class ∷ []
 
 -- the row of a word
 record WordRow (w : Word) : Type 0 where
