@@ -1,13 +1,14 @@
 -- Which actions ask, call tables and open loops: those of flow alone.
 use Rattle.std.proofs.Common.{◌≡◌, ℕ, ◌==◌, Bool, true, false, Option, Some, None, refl}
 use Rattle.std.specs.Prelude.{if◌then◌else◌}
+use Rattle.std.specs.Option.{option_map_or}
 use Rattle.std.proofs.lemmas.Bool.{eqb-true}
 use Rattle.paw_base.specs.Condacts.{family_of}
 use Rattle.paw_base.specs.declared.parts.Condact.{Condact}
 use Rattle.paw_base.specs.declared.rows.Family.{Family}
 use Rattle.paw_base.specs.declared.rows.Family.TheVariants as family
 use Rattle.paw_game.specs.Game.{GameLists}
-use Rattle.paw_world.specs.World.{World, Position, kept_position}
+use Rattle.paw_world.specs.World.{World, Position, with_flag, kept_position}
 use Rattle.paw_effects.specs.declared.act.Prompt.{Prompt}
 use Rattle.paw_effects.specs.declared.act.Prompt.TheVariants as prompt
 use Rattle.paw_effects.specs.declared.act.Truth.TheVariants as truth
@@ -22,9 +23,10 @@ use Rattle.paw_effects.specs.Positions.{keeping_of, loaded, position_number}
 use Rattle.paw_effects.specs.Referring.{referred}
 use Rattle.paw_effects.specs.ObjectSearch.{first_fitting}
 use Rattle.paw_effects.specs.ObjectActions.{first_that_holds, hindrances, tried}
-use Rattle.paw_effects.specs.AutoActions.{looks_at, action_of, acts_on_given, acts_by_name, acted_on_found, object_action_of}
+use Rattle.paw_effects.specs.AutoActions.{looks_at, action_of, acted_on_found, object_action_of}
+use Rattle.paw_effects.specs.inner.Parameters.{acts_on_given, acts_by_name}
 use Rattle.paw_effects.specs.Effects.{effect_in, effect_of}
-use Rattle.paw_effects.specs.Holds.{truth_of, moves_to, tested_in, holds}
+use Rattle.paw_effects.specs.Holds.{answers, tested_in, holds}
 use Rattle.paw_effects.specs.FlagTests.{flag_holds}
 use Rattle.paw_effects.specs.PlaceTests.{place_holds}
 use Rattle.paw_effects.specs.Presence.{named_place}
@@ -195,11 +197,11 @@ effect_asks s w c = leads_inner w c (effect_of s w c).act.effect (effect_leads s
 
 -- ---- conditions ----
 
-truth_told : (b : Bool) → truth_of b ≡ truth.Ask → ⊥
+truth_told : (b : Bool) → (if b then truth.Yes else truth.No) ≡ truth.Ask → ⊥
 truth_told true h = cc
 truth_told false h = cc
 
-move_told : (w : World) (f : ℕ) (to : Option ℕ) → (moves_to w f to).answer ≡ truth.Ask → ⊥
+move_told : (w : World) (f : ℕ) (to : Option ℕ) → (option_map_or (λ x. answers (with_flag w f x) true) to (answers w false)).answer ≡ truth.Ask → ⊥
 move_told w f None h = cc
 move_told w f (Some to) h = cc
 

@@ -1,7 +1,7 @@
 -- What a condact does to the world of a game that is played.
 use Rattle.std.proofs.Common.{◌≡◌, ℕ, suc, ◌+◌, ◌-◌, ◌<◌, ◌==◌, ◌%◌, Bool, true, false, ◌||◌, List, [], ◌∷◌, Option, Some, None, inl, inr}
 use Rattle.std.proofs.Common.{refl, sym, ap, ◌∙◌, subst, length, take, drop, min, slice_get, IsTrue, arith}
-use Rattle.std.specs.Option.{option_or}
+use Rattle.std.specs.Option.{option_or, option_map_or}
 use Rattle.std.specs.Prelude.{find, if◌then◌else◌, nat_lt, IfSome, fold, sum_by, slice_index, All}
 use Rattle.std.proofs.Math.Nat.{min-le_left}
 use Rattle.std.proofs.lemmas.Bool.{cases_lt, eqb-true, ltb-true}
@@ -21,7 +21,7 @@ use Rattle.paw_game.specs.Game.{GameLists}
 use Rattle.paw_game.specs.Tables.{exit_at}
 use Rattle.paw_game.specs.Valid.{Valid, is_condact, is_parameter, is_within}
 use Rattle.paw_game.proofs.Kept.{condact-first, condact-second, exit-leads}
-use Rattle.paw_world.specs.World.{World, Position, is_somewhere, flag, with_flag, place, here, moved, with_objects_returned, taken_from}
+use Rattle.paw_world.specs.World.{World, Position, is_somewhere, flag, with_flag, place, here, moved, with_objects_returned, at_position}
 use Rattle.paw_world.specs.World.{drawn_on, position_of, keeping, kept_position}
 use Rattle.paw_world.specs.Draws.{random_word}
 use Rattle.paw_routines.specs.Rows.{value_in, value_at}
@@ -30,7 +30,7 @@ use Rattle.paw_effects.specs.Done.{Done}
 use Rattle.paw_effects.specs.Chance.{rolled}
 use Rattle.paw_effects.specs.FlowActions.{flow_of}
 use Rattle.paw_effects.specs.Positions.{position_number, loaded, keeping_of}
-use Rattle.paw_effects.specs.FlagActions.{change_of, routine_answered}
+use Rattle.paw_effects.specs.FlagActions.{change_of}
 use Rattle.paw_effects.specs.MoveActions.{move_of, names_place}
 use Rattle.paw_effects.specs.Presence.{named_place, held_objects}
 use Rattle.paw_effects.specs.declared.object_actions.Action.{Action}
@@ -40,12 +40,13 @@ use Rattle.paw_effects.specs.declared.object_search.Spot.TheVariants as spot
 use Rattle.paw_effects.specs.declared.object_search.Spot.TheVariants.{Here, At}
 use Rattle.paw_effects.specs.declared.object_words.Words.{Words}
 use Rattle.paw_effects.specs.ObjectActions.{first_that_holds, hindrances, destination, tried, acted_on}
-use Rattle.paw_effects.specs.ObjectSearch.{fits_sentence, has_names, least_fitting, fitting_at, first_fitting}
-use Rattle.paw_effects.specs.AutoActions.{looks_at, acted_on_found, referred_to_found, acts_on_given, acts_by_name, action_of, object_action_of}
+use Rattle.paw_effects.specs.ObjectSearch.{fits_sentence, names as names_facts, least_fitting, fitting_at, first_fitting}
+use Rattle.paw_effects.specs.AutoActions.{looks_at, acted_on_found, action_of, object_action_of}
+use Rattle.paw_effects.specs.inner.Parameters.{acts_on_given, acts_by_name}
 use Rattle.paw_effects.specs.Referring.{referred, referred_to_none, facts_written, weight_class}
 use Rattle.paw_effects.specs.Effects.{effect_in, effect_of}
 use Rattle.paw_effects.specs.Story.{story_of}
-use Rattle.paw_effects.specs.Holds.{moves_to, tested_in, holds}
+use Rattle.paw_effects.specs.Holds.{answers, tested_in, holds}
 use Rattle.paw_effects.specs.Standing.{AreBytes}
 use Rattle.paw_effects.specs.inner.Standing.{IsPositionOf, MayBePosition}
 use Rattle.paw_effects.proofs.Worlds.{byte_at, IsWorldAt, IsPlace, few_locations, few_objects, parameter_small, world_of, later, flag_small}
@@ -79,7 +80,7 @@ module _ (g : GameLists) (v : Valid g) (seed n : ℕ) where
       done_of (c.code == 31) _ _ j (done_of (c.code == 32) _ _ j (done_of (c.code == 33) _ _ j (done_of (c.code == 34) _ _ j
       (done_of (c.code == 35) _ _ j (done_of (c.code == 84) _ _ j (done_of (c.code == 85) _ _ j (done_of (c.code == 86) _ _ j j)))))))
 
-  loaded_so : (w : World) (m : ℕ) (saved : Option Position) → IfSome saved (IsPositionOf g) → Is w → Is (taken_from w m saved)
+  loaded_so : (w : World) (m : ℕ) (saved : Option Position) → IfSome saved (IsPositionOf g) → Is w → Is (option_map_or (at_position w m) saved w)
   loaded_so w m None at k = k
   loaded_so w m (Some q) at k = record {
     of = record {
@@ -306,7 +307,8 @@ module _ (g : GameLists) (v : Valid g) (seed n : ℕ) where
   found_so w k a (Some o) p small = acted_so w k o a (small o refl) p
   found_so w k a None p small = k
 
-  meant_so : (w : World) → Is w → (found : Option ℕ) → ((o : ℕ) → found ≡ Some o → o < 256) → Is (referred_to_found w found)
+  meant_so : (w : World) → Is w → (found : Option ℕ) → ((o : ℕ) → found ≡ Some o → o < 256)
+      → Is (option_map_or (referred w) found (referred_to_none w))
   meant_so w k (Some o) small = referred_so w k o (small o refl)
   meant_so w k None small = none_so w k
 
@@ -317,7 +319,7 @@ module _ (g : GameLists) (v : Valid g) (seed n : ℕ) where
       count : length w.facts ≡ length g.objects
       count = ap length k.of.facts ∙ length-map g.objects (λ (r : ObjectRow). r.facts)
 
-      go : (f : Option ObjectFacts) → slice_get w.facts o ≡ f → has_names w f ≡ true → o < 256
+      go : (f : Option ObjectFacts) → slice_get w.facts o ≡ f → option_map_or (names_facts w) f false ≡ true → o < 256
       go None e q = cc
       go (Some f) e q = omega (arith, slice_get_within w.facts o f e, count, few_objects g v)
 
@@ -397,7 +399,8 @@ module _ (g : GameLists) (v : Valid g) (seed n : ℕ) where
       let at : AreBytes row = subst AreBytes (get_or_from_slice_get rows m row row e) (bytes m row (slice_get_within rows m row e)) in
       subst (λ z. z < 256) (same_Some (slice_index row x) y is) (byte_at row x at)
 
-  answered_so : (w : World) → Is w → (f : ℕ) (answer : Option ℕ) → ((y : ℕ) → answer ≡ Some y → y < 256) → Is (routine_answered w f answer)
+  answered_so : (w : World) → Is w → (f : ℕ) (answer : Option ℕ) → ((y : ℕ) → answer ≡ Some y → y < 256)
+      → Is (option_map_or (with_flag w f) answer w)
   answered_so w k f None small = k
   answered_so w k f (Some y) small = flagged g v seed n w k f y (small y refl)
 
@@ -427,7 +430,8 @@ module _ (g : GameLists) (v : Valid g) (seed n : ℕ) where
 
   -- ---- conditions ----
 
-  moves_so : (w : World) → Is w → (f : ℕ) (to : Option ℕ) → exit_at g (flag w f) (flag w 33) ≡ to → Is (moves_to w f to).world
+  moves_so : (w : World) → Is w → (f : ℕ) (to : Option ℕ) → exit_at g (flag w f) (flag w 33) ≡ to
+      → Is (option_map_or (λ x. answers (with_flag w f x) true) to (answers w false)).world
   moves_so w k f None e = k
   moves_so w k f (Some to) e = flagged g v seed n w k f to (omega (arith, exit-leads g v (flag w f) (flag w 33) to e, (few_locations g v).1))
 

@@ -2,6 +2,7 @@
 use Rattle.std.proofs.Common.{◌≡◌, ℕ, ◌==◌, ◌||◌, Bool, true, false, List, [], ◌∷◌, Option, Some, None, refl, sym, ap, ◌∙◌, subst, map}
 use Rattle.std.proofs.Common.{length, slice_get, arith, inl, inr, nat_lt, IsTrue}
 use Rattle.std.specs.Prelude.{if◌then◌else◌, fold, slice_index}
+use Rattle.std.specs.Option.{option_map_or}
 use Rattle.std.proofs.lemmas.Bool.{cases_lt, eqb-true, leb-true}
 use Rattle.std.proofs.lemmas.Bool.Decides.{nat_tests}
 use Rattle.std.proofs.lemmas.List.{get_or_past}
@@ -22,7 +23,7 @@ use Rattle.paw_game.specs.inner.Valid.{is_right, is_argument}
 use Rattle.paw_game.proofs.Kept.{first_of_and, facts-start}
 use Rattle.paw_game.proofs.Right.{right-code, right-first, right-second}
 use Rattle.paw_world.specs.World.{World, Position, flag, with_flag, place, with_place, here, let_go, taken_up, moved, opening_places}
-use Rattle.paw_world.specs.World.{starting_world, restarted, with_objects_returned, taken_from, position_of, kept_position}
+use Rattle.paw_world.specs.World.{starting_world, restarted, with_objects_returned, at_position, position_of, kept_position}
 use Rattle.paw_effects.specs.declared.object_actions.Action.{Action}
 use Rattle.paw_effects.specs.declared.object_actions.Action.TheVariants as action
 use Rattle.paw_effects.specs.declared.object_words.Words.{Words}
@@ -32,15 +33,16 @@ use Rattle.paw_effects.specs.Story.{Story}
 use Rattle.paw_routines.specs.Rows.{value_at}
 use Rattle.paw_effects.specs.FlowActions.{flow_of}
 use Rattle.paw_effects.specs.Positions.{keeping_of, loaded, position_number}
-use Rattle.paw_effects.specs.FlagActions.{change_of, routine_answered}
+use Rattle.paw_effects.specs.FlagActions.{change_of}
 use Rattle.paw_effects.specs.Presence.{named_place, held_objects}
 use Rattle.paw_effects.specs.MoveActions.{names_place, moved_if_place, move_of}
-use Rattle.paw_effects.specs.Referring.{facts_written, referred}
+use Rattle.paw_effects.specs.Referring.{facts_written, referred, referred_to_none}
 use Rattle.paw_effects.specs.ObjectSearch.{first_fitting}
 use Rattle.paw_effects.specs.ObjectActions.{destination, first_that_holds, hindrances, tried}
-use Rattle.paw_effects.specs.AutoActions.{looks_at, action_of, acts_on_given, acts_by_name, acted_on_found, referred_to_found, object_action_of}
+use Rattle.paw_effects.specs.AutoActions.{looks_at, action_of, acted_on_found, object_action_of}
+use Rattle.paw_effects.specs.inner.Parameters.{acts_on_given, acts_by_name}
 use Rattle.paw_effects.specs.Effects.{effect_in, effect_of}
-use Rattle.paw_effects.specs.Holds.{moves_to, tested_in, holds}
+use Rattle.paw_effects.specs.Holds.{answers, tested_in, holds}
 use Rattle.paw_effects.proofs.Parameters.{AreOfKind, of_kind}
 
 -- the facts and the number of locations are the game's, and each object stands at a place of it
@@ -271,7 +273,8 @@ found_placed : (g : GameLists) (w : World) (a : Action) (found : Option ℕ) →
 found_placed g w a (Some o) h k = acted_placed g w o a h k
 found_placed g w a None h k = k
 
-referred_found : (g : GameLists) (w : World) (found : Option ℕ) → IsPlaced g w → IsPlaced g (referred_to_found w found)
+referred_found : (g : GameLists) (w : World) (found : Option ℕ) → IsPlaced g w
+    → IsPlaced g (option_map_or (referred w) found (referred_to_none w))
 referred_found g w (Some o) k = referred_placed g w o k
 referred_found g w None k = k
 
@@ -295,7 +298,8 @@ flow_placed g w c k =
     done_placed g (c.code == 85) _ _ (λ own. k) (λ j.
     done_placed g (c.code == 86) _ _ (λ own. k) (λ m. k))))))))
 
-loaded_placed : (g : GameLists) (w : World) (n : ℕ) (saved : Option Position) → w.saved ≡ saved → IsPlaced g w → IsPlaced g (taken_from w n saved)
+loaded_placed : (g : GameLists) (w : World) (n : ℕ) (saved : Option Position) → w.saved ≡ saved → IsPlaced g w
+    → IsPlaced g (option_map_or (at_position w n) saved w)
 loaded_placed g w n None is k = k
 loaded_placed g w n (Some q) is k =
     (k.0, (k.1.0, (subst (λ s. StandsIn g s) is k.1.1.1.0, k.1.1.1)))
@@ -343,7 +347,7 @@ keeping_placed g w c k =
     (λ own. (k.0, (k.1.0, (k.1.1.0, (k.1.1.1.0, All-set (StandsIn g) w.kept (position_number w) (Some (position_of w)) k.1.1.0 k.1.1.1.1)))))
     (λ other. taken_placed g w (kept_position w (position_number w)) (kept_stands g w (position_number w) k) k)
 
-answered_placed : (g : GameLists) (w : World) (f : ℕ) (answer : Option ℕ) → IsPlaced g w → IsPlaced g (routine_answered w f answer)
+answered_placed : (g : GameLists) (w : World) (f : ℕ) (answer : Option ℕ) → IsPlaced g w → IsPlaced g (option_map_or (with_flag w f) answer w)
 answered_placed g w f None k = k
 answered_placed g w f (Some y) k = k
 
@@ -371,7 +375,8 @@ effect_placed s w c = placed_in (family_of c.code) s w c
 
 -- ---- conditions ----
 
-moves_placed : (g : GameLists) (w : World) (f : ℕ) (to : Option ℕ) → IsPlaced g w → IsPlaced g (moves_to w f to).world
+moves_placed : (g : GameLists) (w : World) (f : ℕ) (to : Option ℕ) → IsPlaced g w
+    → IsPlaced g (option_map_or (λ x. answers (with_flag w f x) true) to (answers w false)).world
 moves_placed g w f None k = k
 moves_placed g w f (Some to) k = k
 

@@ -2,13 +2,14 @@
 use Rattle.std.proofs.Common.{◌≡◌, ℕ, ◌+◌, ◌<◌, Bool, true, false, ◌||◌, List, ◌∷◌, length, take, Some, None, Option, refl, sym, ap, ◌∙◌, get_or}
 use Rattle.std.specs.Prelude.{find}
 use Rattle.std.specs.List.{list_any}
+use Rattle.std.specs.Option.{option_map_or}
 use Rattle.std.proofs.lemmas.List.Folds.{list_any_at, list_any_more}
 use Rattle.std.proofs.lemmas.Option.{slice_get-get_or}
 use Rattle.paw_base.specs.declared.parts.ObjectFacts.{ObjectFacts}
 use Rattle.paw_world.specs.World.{World}
 use Rattle.paw_world.specs.inner.World.{first_at}
 use Rattle.paw_world.proofs.Contents.{above_at, above_at_none, above_at_some}
-use Rattle.paw_effects.specs.ObjectSearch.{fits_sentence, names, has_names, some_fits, least_fitting}
+use Rattle.paw_effects.specs.ObjectSearch.{fits_sentence, names, some_fits, least_fitting}
 
 -- ---- the objects at a place ----
 
@@ -39,7 +40,7 @@ nothing = record { noun = 0; adjective = 0; start = 0; weight = 0; container = f
 
 -- an object's facts
 of_facts : (w : World) (o : ℕ) → o < length w.facts → fits_sentence w o ≡ names w (get_or w.facts o nothing)
-of_facts w o known = ap (has_names w) (slice_get-get_or w.facts o nothing known)
+of_facts w o known = ap (λ found. option_map_or (names w) found false) (slice_get-get_or w.facts o nothing known)
 
 pub one_fits : (w : World) (o : ℕ) → o < length w.facts → true ≡ fits_sentence w o → true ≡ some_fits w
 one_fits w o known passes = sym (list_any_at (names w) w.facts o nothing known (sym (of_facts w o known) ∙ sym passes))

@@ -1,8 +1,9 @@
 -- Worlds of a game that is played, and what keeps them so.
 use Rattle.std.proofs.Common.{◌≡◌, ℕ, zero, suc, ◌+◌, ◌-◌, ◌<◌, ◌≤◌, ◌==◌, Bool, true, false, ◌&&◌, ◌||◌, List, [], ◌∷◌, Option, Some, None}
 use Rattle.std.proofs.Common.{inl, inr, refl, sym, ◌∙◌, subst, length, map, min, slice_get, IsTrue, arith}
-use Rattle.std.specs.Prelude.{if◌then◌else◌, nat_lt, nat_le, All, slice_index, slice_set, replicate, sum_by}
+use Rattle.std.specs.Prelude.{if◌then◌else◌, not, nat_lt, nat_le, All, slice_index, slice_set, replicate, sum_by}
 use Rattle.std.specs.List.{list_all}
+use Rattle.std.specs.Option.{option_map_or}
 use Rattle.std.proofs.Math.Nat.{min-le_left}
 use Rattle.std.proofs.lemmas.Bool.{cases_lt, eqb-true, ltb-true, leb-true}
 use Rattle.std.proofs.lemmas.Bool.Decides.{nat_tests}
@@ -20,7 +21,7 @@ use Rattle.paw_game.specs.Valid.{Valid, is_place, is_parameter, is_within, is_wo
 use Rattle.paw_game.proofs.Kept.{first_of_and, second_of_and, facts_kept, facts-weight}
 use Rattle.paw_world.specs.World.{World, flag, with_flag, place, with_place, here, let_go, taken_up, moved, first_carried, flags_with}
 use Rattle.paw_world.specs.World.{opening_places, starting_world, restarted, with_objects_returned}
-use Rattle.paw_world.specs.Weight.{own_weight, weighs_contents, weight_down, weight, objects_at}
+use Rattle.paw_world.specs.Weight.{filled_weight, weight_down, weight, objects_at}
 use Rattle.paw_effects.specs.Worlds.{IsOf, ArePlacesOf}
 use Rattle.paw_effects.specs.Presence.{named_place}
 use Rattle.paw_effects.specs.Standing.{AreBytes}
@@ -226,25 +227,27 @@ module _ (g : GameLists) (v : Valid g) (seed : ℕ) where
         world_of (place w o == p) w (with_place up o p) k (placed up (taken_up_so free (let_go_so w k (place w o)) p) o p at)
 
     -- what an object weighs is a byte
-    own_small : (w : World) → IsWorldAt g seed n w → (o : ℕ) → own_weight (slice_get w.facts o) < 256
-    own_small w k o =
-        subst (λ f. own_weight f < 256) (sym (subst (λ fs. slice_get w.facts o ≡ slice_get fs o) k.of.facts refl ∙ facts_same g.objects o))
-        (go (facts_at g o) refl)
-      where
-        go : (f : Option ObjectFacts) → facts_at g o ≡ f → own_weight f < 256
-        go None e = omega arith
-        go (Some f) e = omega (arith, facts-weight g v o f e)
+    facts_are : (w : World) → IsWorldAt g seed n w → (o : ℕ) → slice_get w.facts o ≡ facts_at g o
+    facts_are w k o = subst (λ fs. slice_get w.facts o ≡ slice_get fs o) k.of.facts refl ∙ facts_same g.objects o
+
+    own_small : (o : ℕ) (found : Option ObjectFacts) → facts_at g o ≡ found → option_map_or (λ (f : ObjectFacts). f.weight) found 0 < 256
+    own_small o None e = omega arith
+    own_small o (Some f) e = omega (arith, facts-weight g v o f e)
+
+    filled_small : (o contents : ℕ) (found : Option ObjectFacts) → facts_at g o ≡ found → filled_weight found contents < 256
+    filled_small o contents None e = omega arith
+    filled_small o contents (Some f) e = go (f.container && not (f.weight == 0)) where
+      go : (b : Bool) → (if b then min 255 (f.weight + contents) else f.weight) < 256
+      go true = omega (arith, min-le_left 255 (f.weight + contents))
+      go false = omega (arith, facts-weight g v o f e)
 
     weight_down_small : (w : World) → IsWorldAt g seed n w → (levels o : ℕ) → weight_down w levels o < 256
     unfolding weight_down
-    weight_down_small w k zero o = own_small w k o
+    weight_down_small w k zero o =
+        subst (λ found. option_map_or (λ (f : ObjectFacts). f.weight) found 0 < 256) (sym (facts_are w k o)) (own_small o (facts_at g o) refl)
     weight_down_small w k (suc levels) o =
-        let most = min-le_left 255 (own_weight (slice_get w.facts o) + sum_by (weight_down w levels) (objects_at w o)) in
-        go (weighs_contents (slice_get w.facts o)) (omega arith)
-      where
-        go : (b : Bool) {x : ℕ} → x < 256 → (if b then x else own_weight (slice_get w.facts o)) < 256
-        go true h = h
-        go false h = own_small w k o
+        let contents = sum_by (weight_down w levels) (objects_at w o) in
+        subst (λ found. filled_weight found contents < 256) (sym (facts_are w k o)) (filled_small o contents (facts_at g o) refl)
 
     pub weight_small : (w : World) → IsWorldAt g seed n w → (o : ℕ) → weight w o < 256
     weight_small w k o = weight_down_small w k 10 o

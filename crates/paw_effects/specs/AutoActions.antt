@@ -1,5 +1,6 @@
 -- The actions that find their object by the sentence.
-use Rattle.std.specs.Prelude.{ℕ, ◌==◌, ◌||◌, Bool, List, [], ◌∷◌, Option, Some, None, if◌then◌else◌}
+use Rattle.std.specs.Prelude.{ℕ, ◌==◌, ◌||◌, List, [], ◌∷◌, Option, Some, None, if◌then◌else◌}
+use Rattle.std.specs.Option.{option_map_or}
 use Rattle.paw_base.specs.declared.codes.TheConstants.{AUTOG, AUTOD, AUTOW, AUTOR, AUTOP, AUTOT, GET, DROP, WEAR}
 use Rattle.paw_base.specs.declared.codes.TheConstants.{REMOVE, PUTIN, TAKEOUT}
 use Rattle.paw_base.specs.declared.messages.TheConstants.{IMPOSSIBLE_MESSAGE, NOT_WORN_MESSAGE, NOT_HERE_MESSAGE}
@@ -23,20 +24,16 @@ use Rattle.paw_effects.specs.ObjectActions.{refuses, acted_on}
 -- where each action looks for its object, in this order
 abbrev pub looks_at : Action → List Spot
 looks_at action.Get = Here ∷ At CARRIED_PLACE ∷ At WORN_PLACE ∷ []
-looks_at action.Drop = At CARRIED_PLACE ∷ At WORN_PLACE ∷ Here ∷ []
-looks_at action.Wear = At CARRIED_PLACE ∷ At WORN_PLACE ∷ Here ∷ []
 looks_at action.Remove = At WORN_PLACE ∷ At CARRIED_PLACE ∷ Here ∷ []
-looks_at (action.PutIn l) = At CARRIED_PLACE ∷ At WORN_PLACE ∷ Here ∷ []
 looks_at (action.TakeOut l) = At l ∷ At CARRIED_PLACE ∷ At WORN_PLACE ∷ Here ∷ []
+looks_at _ = At CARRIED_PLACE ∷ At WORN_PLACE ∷ Here ∷ []  -- Drop, Wear, PutIn
 
 -- what is said where it isn't found there
 abbrev pub missing : Action → Words
 missing action.Get = Says NOT_HERE_MESSAGE
-missing action.Drop = Says NOT_CARRIED_MESSAGE
-missing action.Wear = Says NOT_CARRIED_MESSAGE
 missing action.Remove = Says NOT_WORN_MESSAGE
-missing (action.PutIn l) = Says NOT_CARRIED_MESSAGE
 missing (action.TakeOut l) = Names NOT_INSIDE_MESSAGE l
+missing _ = Says NOT_CARRIED_MESSAGE  -- Drop, Wear, PutIn
 
 -- the action on the object that was found; with none it is refused, as impossible where no object of the game fits
 abbrev pub acted_on_found : GameLists → World → Action → Option ℕ → Done
@@ -47,22 +44,9 @@ acted_on_found g w a None = refuses g w (if some_fits w then missing a else Says
 abbrev pub acted_by_name : GameLists → World → Action → Done
 acted_by_name g w a = acted_on_found g w a (first_fitting w (looks_at a))
 
--- referring to the object that was found, or to none
-abbrev pub referred_to_found : World → Option ℕ → World
-referred_to_found w (Some o) = referred w o
-referred_to_found w None = referred_to_none w
-
--- referring to the object that the sentence means
+-- referring to the object that the sentence means, looked for as DROP does, or to none
 abbrev pub referred_by_name : World → World
-referred_by_name w = referred_to_found w (first_fitting w (At CARRIED_PLACE ∷ At WORN_PLACE ∷ Here ∷ []))
-
--- the codes of actions on the object that is their parameter
-abbrev pub acts_on_given : ℕ → Bool
-acts_on_given code = is_within GET TAKEOUT code
-
--- the codes of actions that find their object
-abbrev pub acts_by_name : ℕ → Bool
-acts_by_name code = is_within AUTOG AUTOT code
+referred_by_name w = option_map_or (referred w) (first_fitting w (looks_at action.Drop)) (referred_to_none w)
 
 -- the action of each code; two of them know a place
 abbrev pub action_of : ℕ → ℕ → Action
@@ -77,6 +61,6 @@ action_of code l =
 -- GET to TAKEOUT are given their object, AUTOG to AUTOT and WHATO find it
 unfoldable pub object_action_of : GameLists → World → Condact → Done
 object_action_of g w c =
-    if acts_on_given c.code then acted_on g w c.a (action_of c.code c.b) else
-    if acts_by_name c.code then acted_by_name g w (action_of c.code c.a) else
+    if is_within GET TAKEOUT c.code then acted_on g w c.a (action_of c.code c.b) else
+    if is_within AUTOG AUTOT c.code then acted_by_name g w (action_of c.code c.a) else
     makes (referred_by_name w)  -- WHATO

@@ -11,15 +11,11 @@ use Rattle.paw_effects.specs.Texts.{put_text, say_text}
 abbrev pub turns_taken : World → ℕ
 turns_taken w = flag w LOW_TURNS_FLAG + 256 * flag w HIGH_TURNS_FLAG
 
--- what makes a word of more than one; not behind the number 1
-abbrev pub plural_text : GameLists → World → ℕ → List ℕ
-plural_text g w n = if n == 1 then [] else put_text g w PLURAL_MESSAGE
-
--- the number of turns between its messages, as the number wants them, and a newline
+-- the number of turns between its messages, and a newline; one makes a word of more than one, not behind the number 1
 abbrev pub turns_text : GameLists → World → List ℕ
 turns_text g w =
     put_text g w TURNS_MESSAGE ++ (decimal (turns_taken w) ++ (put_text g w TURN_MESSAGE
-    ++ (plural_text g w (turns_taken w) ++ say_text g w TURNS_END_MESSAGE)))
+    ++ ((if turns_taken w == 1 then [] else put_text g w PLURAL_MESSAGE) ++ say_text g w TURNS_END_MESSAGE)))
 
 -- the score between its messages, and a newline
 abbrev pub score_text : GameLists → World → List ℕ

@@ -1,5 +1,5 @@
 -- The actions that change flags, and those that save and load them.
-use Rattle.std.specs.Prelude.{ℕ, ◌+◌, ◌-◌, ◌==◌, min, Option, None, Some, if◌then◌else◌}
+use Rattle.std.specs.Prelude.{◌+◌, ◌-◌, ◌==◌, min, if◌then◌else◌}
 use Rattle.paw_base.specs.declared.codes.TheConstants.{RAMSAVE, RAMLOAD, GOTO, SET, CLEAR, PLUS, MINUS, LET, ADD, SUB}
 use Rattle.paw_base.specs.declared.codes.TheConstants.{RANDOM, COPYFF, WEIGH, WEIGHT, ABILITY, PROMPT}
 use Rattle.paw_base.specs.declared.flags.TheConstants.{MOST_CARRIED_FLAG, LOCATION_FLAG, PROMPT_FLAG, TIMEOUT_FLAG}
@@ -29,8 +29,3 @@ change_of w c =
     if c.code == ABILITY then with_flag (with_flag w MOST_CARRIED_FLAG c.a) MOST_WEIGHT_FLAG c.b else
     if c.code == PROMPT then with_flag w PROMPT_FLAG c.a else
     with_flag (with_flag w TIMEOUT_FLAG c.a) TIMED_OUT_FLAG c.b  -- TIME
-
--- a flag becomes the answer of a routine; it stays where there is no such routine
-abbrev pub routine_answered : World → ℕ → Option ℕ → World
-routine_answered w f None = w
-routine_answered w f (Some y) = with_flag w f y

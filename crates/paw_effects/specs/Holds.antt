@@ -1,5 +1,6 @@
 -- The conditions of the condact table: what each answers, and the world after it.
-use Rattle.std.specs.Prelude.{ℕ, Bool, true, false, nat_le, Option, Some, None, if◌then◌else◌}
+use Rattle.std.specs.Prelude.{ℕ, Bool, true, false, nat_le, if◌then◌else◌}
+use Rattle.std.specs.Option.{option_map_or}
 use Rattle.paw_base.specs.declared.codes.TheConstants.{MOVE}
 use Rattle.paw_base.specs.declared.flags.TheConstants.{VERB_FLAG}
 use Rattle.paw_base.specs.Condacts.{family_of}
@@ -24,32 +25,20 @@ pub record Tested : Type 0 where
 abbrev pub is_condition : Condact → Bool
 is_condition c = nat_le c.code MOVE
 
--- a condition that holds answers yes
-abbrev pub truth_of : Bool → Truth
-truth_of b = if b then truth.Yes else truth.No
-
--- a condition answers by whether it holds, and changes nothing
+-- a condition answers yes where it holds, else no, and changes nothing
 abbrev pub answers : World → Bool → Tested
-answers w b = record { answer = truth_of b; world = w }
-
--- CHANCE makes a draw whatever n is
-abbrev pub takes_chance : World → ℕ → Tested
-takes_chance w n = answers (drawn_on w 1) (nat_le (rolled w) n)
+answers w b = record { answer = if b then truth.Yes else truth.No; world = w }
 
 -- MOVE takes the exit for the sentence's verb from the location that a flag names, to where it leads
-abbrev pub moves_to : World → ℕ → Option ℕ → Tested
-moves_to w f None = answers w false
-moves_to w f (Some to) = answers (with_flag w f to) true
-
--- MOVE by the flag that names a location
 abbrev pub moves : GameLists → World → ℕ → Tested
-moves g w f = moves_to w f (exit_at g (flag w f) (flag w VERB_FLAG))
+moves g w f =
+    option_map_or (λ to. answers (with_flag w f to) true) (exit_at g (flag w f) (flag w VERB_FLAG)) (answers w false)
 
--- a condition of each family; QUIT asks
+-- a condition of each family; CHANCE makes a draw whatever it answers, QUIT asks
 abbrev pub tested_in : Family → GameLists → World → Condact → Tested
 tested_in family.PlaceTest g w c = answers w (place_holds w c)
 tested_in family.FlagTest g w c = answers w (flag_holds w c)
-tested_in family.Chance g w c = takes_chance w c.a
+tested_in family.Chance g w c = answers (drawn_on w 1) (nat_le (rolled w) c.a)
 tested_in family.Quit g w c = record { answer = truth.Ask; world = w }
 tested_in family.Exit g w c = moves g w c.a
 tested_in _ g w c = answers w false  -- an action doesn't test

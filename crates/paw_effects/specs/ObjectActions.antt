@@ -1,6 +1,7 @@
 -- The actions on an object.
 use Rattle.std.specs.Prelude.{ℕ, ◌+◌, ◌==◌, ◌&&◌, ◌||◌, Bool, true, false, not, nat_lt, nat_le, List}
 use Rattle.std.specs.Prelude.{[], ◌∷◌, length, Option, Some, None, slice_get, if◌then◌else◌}
+use Rattle.std.specs.Option.{option_map_or}
 use Rattle.paw_base.specs.declared.flags.TheConstants.{CARRIED_FLAG, MOST_CARRIED_FLAG, MOST_WEIGHT_FLAG}
 use Rattle.paw_base.specs.declared.messages.TheConstants.{NOT_WORN_MESSAGE, WORN_MESSAGE, HELD_MESSAGE}
 use Rattle.paw_base.specs.declared.messages.TheConstants.{NOT_HERE_MESSAGE, TOO_MANY_MESSAGE, NOT_CARRIED_MESSAGE}
@@ -10,10 +11,10 @@ use Rattle.paw_base.specs.declared.messages.TheConstants.{NOT_REMOVABLE_MESSAGE,
 use Rattle.paw_base.specs.declared.messages.TheConstants.{PUT_IN_MESSAGE, NOT_TAKEN_OUT_MESSAGE, NOT_HELD_MESSAGE}
 use Rattle.paw_base.specs.declared.messages.TheConstants.{NOT_PUT_ON_MESSAGE, NOT_INSIDE_MESSAGE}
 use Rattle.paw_base.specs.declared.places.TheConstants.{WORN_PLACE, CARRIED_PLACE}
-use Rattle.paw_base.specs.declared.parts.ObjectFacts.{ObjectFacts}
 use Rattle.paw_game.specs.Game.{GameLists}
 use Rattle.paw_world.specs.World.{World, flag, place, here, is_here, moved}
 use Rattle.paw_world.specs.Weight.{weight, carried_weight}
+use Rattle.paw_effects.specs.declared.act.Act.{Act}
 use Rattle.paw_effects.specs.declared.act.Effect.TheVariants as effect
 use Rattle.paw_effects.specs.declared.object_actions.Action.{Action}
 use Rattle.paw_effects.specs.declared.object_actions.Action.TheVariants as action
@@ -34,14 +35,9 @@ is_worn w o = place w o == WORN_PLACE
 abbrev pub is_carried : World → ℕ → Bool
 is_carried w o = place w o == CARRIED_PLACE
 
--- these facts let an object be worn
-abbrev pub is_wearable : Option ObjectFacts → Bool
-is_wearable None = false
-is_wearable (Some f) = f.wearable
-
 -- an object may be worn
 abbrev pub can_be_worn : World → ℕ → Bool
-can_be_worn w o = is_wearable (slice_get w.facts o)
+can_be_worn w o = option_map_or (λ f. f.wearable) (slice_get w.facts o) false
 
 -- with this object more weight would be carried than may be
 abbrev pub is_too_heavy : World → ℕ → Bool
@@ -62,22 +58,19 @@ abbrev pub hindrances : World → ℕ → Action → List (Bool × Words)
 hindrances w o action.Get =
     (is_held w o, Says HELD_MESSAGE) ∷ (not (is_here w o), Says NOT_HERE_MESSAGE)
     ∷ (is_too_heavy w o, Says TOO_HEAVY_MESSAGE) ∷ (is_laden w, Says TOO_MANY_MESSAGE) ∷ []
-hindrances w o action.Drop =
-    (is_worn w o, Says WORN_MESSAGE) ∷ (is_here w o, Says NOT_HELD_MESSAGE)
-    ∷ (not (is_carried w o), Says NOT_CARRIED_MESSAGE) ∷ []
 hindrances w o action.Wear =
     (is_here w o, Says NOT_HELD_MESSAGE) ∷ (is_worn w o, Says WORN_ALREADY_MESSAGE)
     ∷ (not (is_carried w o), Says NOT_CARRIED_MESSAGE) ∷ (not (can_be_worn w o), Says NOT_WEARABLE_MESSAGE) ∷ []
 hindrances w o action.Remove =
     (is_carried w o || is_here w o, Says NOT_PUT_ON_MESSAGE) ∷ (not (is_worn w o), Says NOT_WORN_MESSAGE)
     ∷ (not (can_be_worn w o), Says NOT_REMOVABLE_MESSAGE) ∷ (is_laden w, Says HANDS_FULL_MESSAGE) ∷ []
-hindrances w o (action.PutIn l) =
-    (is_worn w o, Says WORN_MESSAGE) ∷ (is_here w o, Says NOT_HELD_MESSAGE)
-    ∷ (not (is_carried w o), Says NOT_CARRIED_MESSAGE) ∷ []
 hindrances w o (action.TakeOut l) =
     (is_held w o, Says HELD_MESSAGE) ∷ (is_here w o, Names NOT_TAKEN_OUT_MESSAGE l)
     ∷ (not (place w o == l), Names NOT_INSIDE_MESSAGE l)
     ∷ (not (holds_place w l) && is_too_heavy w o, Says TOO_HEAVY_MESSAGE) ∷ (is_laden w, Says TOO_MANY_MESSAGE) ∷ []
+hindrances w o _ =  -- Drop, PutIn
+    (is_worn w o, Says WORN_MESSAGE) ∷ (is_here w o, Says NOT_HELD_MESSAGE)
+    ∷ (not (is_carried w o), Says NOT_CARRIED_MESSAGE) ∷ []
 
 -- the first test that holds decides
 abbrev pub first_that_holds : List (Bool × Words) → Option Words
@@ -88,29 +81,24 @@ first_that_holds ((holds, said) ∷ tests) = if holds then Some said else first_
 
 -- where the object moves
 abbrev pub destination : World → Action → ℕ
-destination w action.Get = CARRIED_PLACE
 destination w action.Drop = here w
 destination w action.Wear = WORN_PLACE
-destination w action.Remove = CARRIED_PLACE
 destination w (action.PutIn l) = l
-destination w (action.TakeOut l) = CARRIED_PLACE
+destination w _ = CARRIED_PLACE  -- Get, Remove, TakeOut
 
 -- what is said then
 abbrev pub outcome : Action → Words
-outcome action.Get = Says TAKEN_MESSAGE
 outcome action.Drop = Says DROPPED_MESSAGE
 outcome action.Wear = Says PUT_ON_MESSAGE
 outcome action.Remove = Says TAKEN_OFF_MESSAGE
 outcome (action.PutIn l) = Names PUT_IN_MESSAGE l
-outcome (action.TakeOut l) = Says TAKEN_MESSAGE
+outcome _ = Says TAKEN_MESSAGE  -- Get, TakeOut
 
 -- an action is refused: this is said, the rest of the line is dropped, and the table is left with an action carried out
 abbrev pub refuses : GameLists → World → Words → Done
-refuses g w said = record {
-  text = spoken_words g w said;
-  world = w;
-  act = record { effect = effect.Exit true; drop_line = true; cancel_loop = ends_loop said };
-}
+refuses g w said =
+    let act : Act = record { effect = effect.Exit true; drop_line = true; cancel_loop = ends_loop said } in
+    record { text = spoken_words g w said; world = w; act = act }
 
 -- an action on an object where this is said against it, or nothing is
 abbrev pub tried : GameLists → World → ℕ → Action → Option Words → Done

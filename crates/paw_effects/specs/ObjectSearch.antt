@@ -1,8 +1,8 @@
 -- The object that a sentence means.
 use Rattle.std.specs.Prelude.{ℕ, ◌==◌, ◌&&◌, ◌||◌, Bool, false, not, List, [], ◌∷◌}
-use Rattle.std.specs.Prelude.{Option, Some, None, find, slice_get, if◌then◌else◌}
+use Rattle.std.specs.Prelude.{Option, None, find, slice_get, if◌then◌else◌}
 use Rattle.std.specs.List.{list_any}
-use Rattle.std.specs.Option.{option_or}
+use Rattle.std.specs.Option.{option_or, option_map_or}
 use Rattle.paw_base.specs.declared.flags.TheConstants.{NOUN_FLAG, ADJECTIVE_FLAG, LOCATION_FLAG}
 use Rattle.paw_base.specs.declared.words.TheConstants.{NO_WORD}
 use Rattle.paw_base.specs.declared.parts.ObjectFacts.{ObjectFacts}
@@ -17,14 +17,9 @@ names w f =
     not (flag w NOUN_FLAG == NO_WORD) && ((f.noun == flag w NOUN_FLAG)
     && ((flag w ADJECTIVE_FLAG == NO_WORD) || (f.adjective == flag w ADJECTIVE_FLAG)))
 
--- the same of an object, where there is one
-abbrev pub has_names : World → Option ObjectFacts → Bool
-has_names w None = false
-has_names w (Some f) = names w f
-
--- an object fits the sentence
+-- an object of the game fits the sentence
 abbrev pub fits_sentence : World → ℕ → Bool
-fits_sentence w o = has_names w (slice_get w.facts o)
+fits_sentence w o = option_map_or (names w) (slice_get w.facts o) false
 
 -- some object of the game fits the sentence, wherever it is
 abbrev pub some_fits : World → Bool

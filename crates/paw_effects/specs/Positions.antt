@@ -6,7 +6,7 @@ use Rattle.paw_base.specs.declared.messages.TheConstants.{IMPOSSIBLE_MESSAGE}
 use Rattle.paw_base.specs.declared.limits.TheConstants.{POSITION_COUNT}
 use Rattle.paw_base.specs.declared.parts.Condact.{Condact}
 use Rattle.paw_game.specs.Game.{GameLists}
-use Rattle.paw_world.specs.World.{World, Position, flag, keeping, kept_position, taken_back}
+use Rattle.paw_world.specs.World.{World, Position, flag, keeping, kept_position}
 use Rattle.paw_effects.specs.declared.act.Effect.TheVariants as effect
 use Rattle.paw_effects.specs.Done.{Done, tells, leads}
 use Rattle.paw_effects.specs.Texts.{say_text}
@@ -15,10 +15,11 @@ use Rattle.paw_effects.specs.Texts.{say_text}
 abbrev pub position_number : World → ℕ
 position_number w = flag w POSITION_FLAG % POSITION_COUNT
 
--- all flags and all places are taken from a position; where it wasn't kept it is said that this can't be done
+-- all flags and all places become those of a position, and nothing is counted; where it wasn't kept it is said that
+-- this can't be done
 abbrev pub loaded : GameLists → World → Option Position → Done
 loaded g w None = tells w (say_text g w IMPOSSIBLE_MESSAGE) effect.Redescribe
-loaded g w (Some q) = leads (taken_back w (Some q)) effect.Redescribe
+loaded g w (Some q) = leads (record w { flags = q.flags; places = q.places }) effect.Redescribe
 
 -- SAVE keeps flags and places, LOAD takes them back; both describe the location again
 unfoldable pub keeping_of : GameLists → World → Condact → Done

@@ -9,18 +9,14 @@ use Rattle.paw_world.specs.World.{World, flag}
 abbrev pub object_text : GameLists → ℕ → List ℕ
 object_text g o = or_empty (row_text (slice_get g.objects o))
 
--- the text of the object last referred to
-abbrev pub referred_text : GameLists → World → List ℕ
-referred_text g w = object_text g (flag w REFERRED_FLAG)
-
 -- each underscore is replaced by the name; the name isn't searched again
 abbrev pub with_name : List ℕ → List ℕ → List ℕ
 with_name name [] = []
 with_name name (b ∷ bs) = if b == 95 then name ++ with_name name bs else b ∷ with_name name bs
 
--- a text as it is printed
+-- a text as it is printed: with the text of the object last referred to as the name
 abbrev pub printed_text : GameLists → World → List ℕ → List ℕ
-printed_text g w text = with_name (referred_text g w) text
+printed_text g w text = with_name (object_text g (flag w REFERRED_FLAG)) text
 
 -- a text and a newline; nothing where the text is empty
 abbrev pub ended_text : GameLists → World → List ℕ → List ℕ

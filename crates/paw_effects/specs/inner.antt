@@ -5,3 +5,4 @@ pub mod Standing
 pub mod Done
 pub mod Listing
 pub mod Families
+pub mod Moving

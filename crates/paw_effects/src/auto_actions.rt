@@ -3,11 +3,11 @@
 ghost use Rattle.std.specs.Prelude.{◌≡◌, ◌<◌, length, IfSome, IsTrue};
 ghost use Rattle.paw_effects.specs.Worlds.{IsOf};
 ghost use Rattle.paw_effects.specs.inner.Done.{Does};
-ghost use Rattle.paw_effects.specs.inner.Parameters.{takes_object};
+ghost use Rattle.paw_effects.specs.inner.Parameters.{takes_object, acts_on_given, acts_by_name};
 ghost use Rattle.paw_effects.specs.declared.object_actions.Action.TheVariants as action;
 ghost use Rattle.paw_effects.specs.ObjectSearch.{first_fitting};
-ghost use Rattle.paw_effects.specs.AutoActions.{looks_at, missing, acted_by_name, referred_by_name, acts_on_given};
-ghost use Rattle.paw_effects.specs.AutoActions.{acts_by_name, action_of, object_action_of};
+ghost use Rattle.paw_effects.specs.AutoActions.{looks_at, missing, acted_by_name, referred_by_name};
+ghost use Rattle.paw_effects.specs.AutoActions.{action_of, object_action_of};
 
 use crate::act::{Act, Effect, on};
 use crate::object_actions::{Action, act_on, refuse};

@@ -1,9 +1,11 @@
 // The counts that a game tells: its turns and its score. Where nothing is printed the empty text is pushed, whose
 // clause tells the proof that the piece fits.
 
-ghost use Rattle.std.specs.Prelude.{◌≡◌};
+ghost use Rattle.std.specs.Prelude.{◌≡◌, ◌==◌, [], if◌then◌else◌};
+ghost use Rattle.paw_base.specs.declared.messages.TheConstants.{PLURAL_MESSAGE};
 ghost use Rattle.paw_base.specs.inner.Piece.{Puts};
-ghost use Rattle.paw_effects.specs.Counts.{turns_taken, plural_text, turns_text, score_text};
+ghost use Rattle.paw_effects.specs.Texts.{put_text};
+ghost use Rattle.paw_effects.specs.Counts.{turns_taken, turns_text, score_text};
 
 use crate::text::{print_number, put, say};
 use paw_base::flags::{HIGH_TURNS_FLAG, LOW_TURNS_FLAG, SCORE_FLAG};
@@ -24,7 +26,8 @@ pub fn turns_taken(world: &World) -> u16
 
 /// Puts what makes a word of more than one, unless the number is 1.
 fn put_plural<T: Tables>(tables: &T, world: &World, piece: &mut Piece, number: u16) -> bool
-    ensures puts { Puts piece.old piece.new result (plural_text (T.game tables.now) world.now number) }
+    ensures puts { Puts piece.old piece.new result
+        (if number == 1 then [] else put_text (T.game tables.now) world.now PLURAL_MESSAGE) }
 {
     if number == 1 {
         piece.push(&[])

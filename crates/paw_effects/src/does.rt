@@ -1,17 +1,18 @@
 // What the conditions test, and what the actions do.
 
 ghost use Rattle.std.specs.Prelude.{◌≡◌, ◌+◌, ◌-◌, ◌<◌, ◌≤◌, ◌^◌, ◌++◌, ℕ, List, true, false, []};
+ghost use Rattle.std.specs.Option.{option_map_or};
 ghost use Rattle.paw_base.specs.inner.Piece.{piece_limit};
 ghost use Rattle.paw_game.specs.inner.Valid.{is_right};
 ghost use Rattle.paw_effects.specs.Worlds.{IsOf};
-ghost use Rattle.paw_effects.specs.Holds.{is_condition, holds, truth_of, moves};
+ghost use Rattle.paw_effects.specs.Holds.{is_condition, holds, moves};
 ghost use Rattle.paw_effects.specs.Effects.{effect_of, Does};
-ghost use Rattle.paw_effects.specs.FlagActions.{routine_answered};
+ghost use Rattle.paw_effects.specs.inner.Done.{truth_of};
 ghost use Rattle.paw_effects.specs.Story.{story_of};
 ghost use Rattle.paw_game.specs.Game.{GameLists};
 ghost use Rattle.paw_routines.specs.Routines.{AreRowsOf, HaveRows};
 ghost use Rattle.paw_routines.specs.Rows.{value_at};
-ghost use Rattle.paw_world.specs.World.{flag};
+ghost use Rattle.paw_world.specs.World.{flag, with_flag};
 
 use crate::act::{Act, Effect, Truth, after, dropping, on};
 use crate::auto_actions::act_on_object;
@@ -93,7 +94,7 @@ fn moves<T: Tables>(tables: &T, world: &mut World, f: u8) -> bool
 fn answer_by_routine<F: Fn(u8, u8) -> u8>(world: &mut World, routines: &Routines<F>, n: u8, f: u8)
     requires rows { HaveRows F.Fn routines.now }
     ensures value { (X : List (List ℕ)) → AreRowsOf F.Fn routines.now X →
-        world.new ≡ routine_answered world.old f (value_at X n (flag world.old f)) }
+        world.new ≡ option_map_or (with_flag world.old f) (value_at X n (flag world.old f)) world.old }
     ensures game { (g : GameLists) → IsOf g world.old → IsOf g world.new }
     ensures draws { world.new.draws ≡ world.old.draws }
 {

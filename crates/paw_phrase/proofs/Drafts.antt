@@ -1,6 +1,8 @@
 -- Reading a phrase mark by mark comes to what the phrase is.
 use Rattle.std.proofs.Common.{◌≡◌, ◌+◌, ◌-◌, ℕ, Bool, true, false, cond, eqb, List, [], ◌∷◌, ◌++◌, Option, Some, None, length, take, drop, refl, sym}
 use Rattle.std.proofs.Common.{ap, ◌∙◌, arith}
+use Rattle.std.specs.List.{list_any}
+use Rattle.std.specs.Option.{is_some, option_to_list}
 use Rattle.std.proofs.lemmas.List.{take_rest, drop-drop, drop_all}
 use Rattle.paw_game.specs.Game.{GameLists}
 use Rattle.paw_game.specs.Tables.{word_at}
@@ -10,8 +12,8 @@ use Rattle.paw_phrase.specs.declared.Found.TheVariants as found
 use Rattle.paw_phrase.specs.declared.next.Part.{Part}
 use Rattle.paw_phrase.specs.declared.next.Part.TheVariants as part
 use Rattle.paw_phrase.specs.declared.next.Draft.{Draft}
-use Rattle.paw_phrase.specs.Phrase.{Mark, marks, is_parting, from_phrase, token_of, phrase_tokens, bytes_after, Phrase, phrase_of, phrase}
-use Rattle.paw_phrase.specs.Sentence.{blank, with_word, with_tokens, has_known, finished, Parsed, IsSentence, IsUnknown, IsNoPhrase, parsed_phrase, parsed}
+use Rattle.paw_phrase.specs.Phrase.{Mark, marks, is_parting, from_phrase, phrase_tokens, bytes_after}
+use Rattle.paw_phrase.specs.Sentence.{blank, with_word, with_tokens, finished, Parsed, IsSentence, IsUnknown, IsNoPhrase, parsed_marks, parsed}
 use Rattle.paw_phrase.specs.inner.Draft.{part_of_word, phrase_part_of, with_part, started, draft_outcome}
 
 -- after a part the draft goes on, or its phrase has ended
@@ -24,16 +26,20 @@ unfoldable pub along : GameLists → ℕ → List Mark → Draft → Parsed
 along g e [] d = draft_outcome e d []
 along g e (m ∷ ms) d = after_part (with_part (phrase_part_of g m.token) d) (draft_outcome e d m.after) (along g e ms)
 
+-- a token is a word of the game
+abbrev has_known : GameLists → List (List ℕ) → Bool
+has_known g tokens = list_any (λ token. is_some (word_at g token)) tokens
+
 -- what a part says of the tokens that begin with it
 abbrev Means : GameLists → Option (List ℕ) → Part → Type 0
 Means g t part.Break = is_parting g t ≡ true
 Means g t part.Unknown =
-    (is_parting g t ≡ false) × ((ts : List (List ℕ)) (s : Sentence) → with_tokens g (token_of t ++ ts) s ≡ with_tokens g ts s)
-    × ((ts : List (List ℕ)) → has_known g (token_of t ++ ts) ≡ has_known g ts)
+    (is_parting g t ≡ false) × ((ts : List (List ℕ)) (s : Sentence) → with_tokens g (option_to_list t ++ ts) s ≡ with_tokens g ts s)
+    × ((ts : List (List ℕ)) → has_known g (option_to_list t ++ ts) ≡ has_known g ts)
 Means g t (part.Word value class) =
     (is_parting g t ≡ false)
-    × ((ts : List (List ℕ)) (s : Sentence) → with_tokens g (token_of t ++ ts) s ≡ with_tokens g ts (with_word value class s))
-    × ((ts : List (List ℕ)) → has_known g (token_of t ++ ts) ≡ true)
+    × ((ts : List (List ℕ)) (s : Sentence) → with_tokens g (option_to_list t ++ ts) s ≡ with_tokens g ts (with_word value class s))
+    × ((ts : List (List ℕ)) → has_known g (option_to_list t ++ ts) ≡ true)
 
 known_means : (g : GameLists) (letters : List ℕ) (word : ℕ × ℕ) → word_at g letters ≡ Some word → (b : Bool) → eqb word.1 5 ≡ b
     → Means g (Some letters) (cond b part.Break (part.Word word.0 word.1))
@@ -91,12 +97,12 @@ part_of_unknown g e m ms again s part.Break h = rw h refl
 part_of_unknown g e m ms again s part.Unknown h =
     let ts = phrase_tokens g ms in
     again s
-    ∙ rw (h.0) (sym (parsed_tokens_are g e s (with_tokens g ts s) (token_of m.token ++ ts) (bytes_after g ms) (has_known g ts) (h.2 ts) (h.1 ts s)))
+    ∙ rw (h.0) (sym (parsed_tokens_are g e s (with_tokens g ts s) (option_to_list m.token ++ ts) (bytes_after g ms) (has_known g ts) (h.2 ts) (h.1 ts s)))
 part_of_unknown g e m ms again s (part.Word value class) h =
     let ts = phrase_tokens g ms in
     let word = with_word value class s in
     with_known_word g e ms word
-    ∙ rw (h.0) (sym (parsed_tokens_are g e s (with_tokens g ts word) (token_of m.token ++ ts) (bytes_after g ms) true (h.2 ts) (h.1 ts s)))
+    ∙ rw (h.0) (sym (parsed_tokens_are g e s (with_tokens g ts word) (option_to_list m.token ++ ts) (bytes_after g ms) true (h.2 ts) (h.1 ts s)))
 
 -- with unknown tokens alone
 with_no_word : (g : GameLists) (e : ℕ) (ms : List Mark) (s : Sentence)
@@ -105,47 +111,47 @@ unfolding along
 with_no_word g e [] s = refl
 with_no_word g e (m ∷ ms) s = part_of_unknown g e m ms (with_no_word g e ms) s (phrase_part_of g m.token) (means g m.token)
 
-abbrev parsed_from : GameLists → ℕ → Sentence → Option Phrase → Parsed
-parsed_from g e s None = IsNoPhrase
-parsed_from g e s (Some p) = parsed_tokens g e s p.tokens p.rest
+abbrev parsed_from : GameLists → ℕ → Sentence → List Mark → Parsed
+parsed_from g e s [] = IsNoPhrase
+parsed_from g e s (m ∷ ms) = parsed_tokens g e s (phrase_tokens g (m ∷ ms)) (bytes_after g (m ∷ ms))
 
 parsed_from-token : (g : GameLists) (e : ℕ) (m : Mark) (ms : List Mark) (s : Sentence) → is_parting g m.token ≡ false
-    → parsed_from g e s (phrase_of g (from_phrase g (m ∷ ms))) ≡ parsed_tokens g e s (token_of m.token ++ phrase_tokens g ms) (bytes_after g ms)
+    → parsed_from g e s (from_phrase g (m ∷ ms)) ≡ parsed_tokens g e s (option_to_list m.token ++ phrase_tokens g ms) (bytes_after g ms)
 parsed_from-token g e m ms s h = rw h (rw h refl)
 
 -- a part before the phrase
 part_of_nothing : (g : GameLists) (e : ℕ) (m : Mark) (ms : List Mark)
-    → ((s : Sentence) → along g e ms (draft found.Empty s) ≡ parsed_from g e s (phrase_of g (from_phrase g ms)))
+    → ((s : Sentence) → along g e ms (draft found.Empty s) ≡ parsed_from g e s (from_phrase g ms))
     → (s : Sentence) (p : Part) → Means g m.token p
     → after_part (with_part p (draft found.Empty s)) (draft_outcome e (draft found.Empty s) m.after) (along g e ms)
-    ≡ parsed_from g e s (phrase_of g (from_phrase g (m ∷ ms)))
+    ≡ parsed_from g e s (from_phrase g (m ∷ ms))
 part_of_nothing g e m ms again s part.Break h = again s ∙ rw h refl
 part_of_nothing g e m ms again s part.Unknown h =
     let ts = phrase_tokens g ms in
     with_no_word g e ms s
-    ∙ sym (parsed_from-token g e m ms s (h.0) ∙ parsed_tokens_are g e s (with_tokens g ts s) (token_of m.token ++ ts) (bytes_after g ms)
+    ∙ sym (parsed_from-token g e m ms s (h.0) ∙ parsed_tokens_are g e s (with_tokens g ts s) (option_to_list m.token ++ ts) (bytes_after g ms)
     (has_known g ts) (h.2 ts) (h.1 ts s))
 part_of_nothing g e m ms again s (part.Word value class) h =
     let ts = phrase_tokens g ms in
     let word = with_word value class s in
     with_known_word g e ms word
     ∙ sym (parsed_from-token g e m ms s (h.0) ∙ parsed_tokens_are g e s (with_tokens g ts word)
-    (token_of m.token ++ ts) (bytes_after g ms) true (h.2 ts) (h.1 ts s))
+    (option_to_list m.token ++ ts) (bytes_after g ms) true (h.2 ts) (h.1 ts s))
 
 -- with no token
 with_no_token : (g : GameLists) (e : ℕ) (ms : List Mark) (s : Sentence)
-    → along g e ms (draft found.Empty s) ≡ parsed_from g e s (phrase_of g (from_phrase g ms))
+    → along g e ms (draft found.Empty s) ≡ parsed_from g e s (from_phrase g ms)
 unfolding along
 with_no_token g e [] s = refl
 with_no_token g e (m ∷ ms) s = part_of_nothing g e m ms (with_no_token g e ms) s (phrase_part_of g m.token) (means g m.token)
 
-parsed_from-phrase : (g : GameLists) (e n a : ℕ) (p : Option Phrase) → parsed_from g e (blank n a) p ≡ parsed_phrase g e n a p
-parsed_from-phrase g e n a None = refl
-parsed_from-phrase g e n a (Some p) = refl
+parsed_from-marks : (g : GameLists) (e n a : ℕ) (ms : List Mark) → parsed_from g e (blank n a) ms ≡ parsed_marks g e n a ms
+parsed_from-marks g e n a [] = refl
+parsed_from-marks g e n a (m ∷ ms) = refl
 
 pub along-started : (g : GameLists) (bytes : List ℕ) (e n a : ℕ) → along g e (marks bytes) (started n a) ≡ parsed g bytes e n a
 unfolding parsed
-along-started g bytes e n a = with_no_token g e (marks bytes) (blank n a) ∙ parsed_from-phrase g e n a (phrase g bytes)
+along-started g bytes e n a = with_no_token g e (marks bytes) (blank n a) ∙ parsed_from-marks g e n a (from_phrase g (marks bytes))
 
 -- one mark more is read, from the bytes from i on
 pub along-mark : (g : GameLists) (e : ℕ) (s : List ℕ) (i k : ℕ) (t : Option (List ℕ)) (d : Draft) (p : Part) (next : Option Draft)

@@ -7,9 +7,9 @@ use Rattle.std.proofs.lemmas.List.{drop_all}
 use Rattle.std.proofs.lemmas.List.Elements.{All-drop}
 use Rattle.paw_game.specs.Game.{GameLists}
 use Rattle.paw_phrase.specs.declared.Sentence.{Sentence}
-use Rattle.paw_phrase.specs.Phrase.{is_separator, Mark, token_mark, separator_mark, marks_from, marks, is_parting, from_phrase, phrase_tokens}
-use Rattle.paw_phrase.specs.Phrase.{bytes_after, phrase_of}
-use Rattle.paw_phrase.specs.Sentence.{has_known, sentence, Parsed, IsSentence, IsUnknown, IsNoPhrase, parsed_phrase, parsed}
+use Rattle.paw_phrase.specs.Phrase.{is_separator, Mark, token_mark, separator_mark, marks_from, marks, is_parting, from_phrase}
+use Rattle.paw_phrase.specs.Phrase.{bytes_after}
+use Rattle.paw_phrase.specs.Sentence.{Parsed, IsSentence, IsUnknown, IsNoPhrase, parsed_marks, parsed}
 
 -- the bytes that stay pending: those behind the first few
 pub record IsRest (pending rest : List ℕ) : Type 0 where
@@ -106,17 +106,16 @@ leaves : (P : List ℕ → Type 0) (b : Bool) (s : Sentence) (rest : List ℕ) �
 leaves P true s rest h = h
 leaves P false s rest h = h
 
-parsed_phrase-rest : (g : GameLists) (pending : List ℕ) (e n a : ℕ) (ms : List Mark) → Each (IsRest pending) ms
-    → Leaves (IsRest pending) (parsed_phrase g e n a (phrase_of g ms))
-parsed_phrase-rest g pending e n a [] h = tt
-parsed_phrase-rest g pending e n a (m ∷ ms) h =
-    leaves (IsRest pending) (has_known g (phrase_tokens g (m ∷ ms))) (sentence g (phrase_tokens g (m ∷ ms)) e n a) (bytes_after g (m ∷ ms))
-    (bytes_after-each (IsRest pending) g (m ∷ ms) (rest-none pending m.after h.0) h)
+parsed_marks-rest : (g : GameLists) (pending : List ℕ) (e n a : ℕ) (ms : List Mark) → Each (IsRest pending) ms
+    → Leaves (IsRest pending) (parsed_marks g e n a ms)
+parsed_marks-rest g pending e n a [] h = tt
+parsed_marks-rest g pending e n a (m ∷ ms) h =
+    leaves (IsRest pending) _ _ (bytes_after g (m ∷ ms)) (bytes_after-each (IsRest pending) g (m ∷ ms) (rest-none pending m.after h.0) h)
 
 -- what stays pending is what stands behind the first few bytes
 pub parsed-rest : (g : GameLists) (pending : List ℕ) (earlier noun adjective : ℕ) → Leaves (IsRest pending) (parsed g pending earlier noun adjective)
 unfolding parsed
-parsed-rest g pending e n a = parsed_phrase-rest g pending e n a (from_phrase g (marks pending))
+parsed-rest g pending e n a = parsed_marks-rest g pending e n a (from_phrase g (marks pending))
     (from_phrase-each (IsRest pending) g (marks pending) (marks-rest pending))
 
 leaves-map : (P Q : List ℕ → Type 0) → ((rest : List ℕ) → P rest → Q rest) → (p : Parsed) → Leaves P p → Leaves Q p

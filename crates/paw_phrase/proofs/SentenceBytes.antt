@@ -1,6 +1,7 @@
 -- Each part of a sentence is a byte.
-use Rattle.std.proofs.Common.{◌≡◌, ◌<◌, ◌&&◌, ℕ, Bool, true, false, cond, eqb, leb, length, List, [], ◌∷◌, Option, Some, None, IsTrue, subst, arith, lit<}
+use Rattle.std.proofs.Common.{◌≡◌, ◌<◌, ◌&&◌, ℕ, Bool, true, false, cond, eqb, leb, ltb, length, List, [], ◌∷◌, Option, Some, None, IsTrue, subst, arith, lit<}
 use Rattle.std.specs.List.{list_all}
+use Rattle.std.specs.Option.{option_map_or}
 use Rattle.std.specs.Str.{bytes_eq}
 use Rattle.std.proofs.lemmas.Bool.{and_parts, leb-true}
 use Rattle.paw_game.specs.declared.parts.Word.{Word}
@@ -8,9 +9,9 @@ use Rattle.paw_game.specs.Game.{GameLists}
 use Rattle.paw_game.specs.Valid.{are_letters, is_within, is_word, words_rise, Valid}
 use Rattle.paw_game.specs.Tables.{word_of, meaning_of, word_at}
 use Rattle.paw_phrase.specs.declared.Sentence.{Sentence}
-use Rattle.paw_phrase.specs.Phrase.{Phrase, phrase}
-use Rattle.paw_phrase.specs.Sentence.{blank, or_value, with_noun, with_adjective, with_pronoun, with_word, with_known, with_tokens, has_known}
-use Rattle.paw_phrase.specs.Sentence.{with_verb, with_meaning, sentence, Parsed, IsSentence, IsUnknown, IsNoPhrase, parsed_phrase, parsed}
+use Rattle.paw_phrase.specs.Phrase.{Mark, marks, from_phrase, phrase_tokens, bytes_after}
+use Rattle.paw_phrase.specs.Sentence.{blank, or_value, with_noun, with_adjective, with_pronoun, with_word, with_tokens, with_verb, with_meaning}
+use Rattle.paw_phrase.specs.Sentence.{finished, Parsed, IsSentence, IsUnknown, IsNoPhrase, parsed_marks, parsed}
 
 -- each part of the sentence is a byte
 pub record AreBytes (s : Sentence) : Type 0 where
@@ -79,9 +80,9 @@ with_word-bytes v class s h k =
 
 with_verb-bytes : (e : ℕ) (s : Sentence) → e < 256 → AreBytes s → AreBytes (with_verb e s)
 with_verb-bytes e s h k =
-    let noun : AreBytes (record s { verb = s.noun }) = assumption in
-    let earlier : AreBytes (record s { verb = e }) = assumption in
-    either AreBytes _ _ _ (either AreBytes _ _ _ noun earlier) k
+    let stands_for : (b : Bool) → cond b s.noun e < 256 = λ b. elim b as (λ b. cond b s.noun e < 256) [ true ↦ k.noun | false ↦ h ] in
+    let kept = or_value-byte s.verb _ k.verb (stands_for (ltb s.noun 20)) in
+    assumption
 
 with_meaning-bytes : (s : Sentence) → AreBytes s → AreBytes (with_meaning s)
 with_meaning-bytes s k =
@@ -115,18 +116,19 @@ word_at-byte g letters valid =
     let few = and_parts (leb (length g.words) 2000) (list_all is_word g.words && words_rise g.words) valid.words in
     word_of-byte letters g.words (and_parts (list_all is_word g.words) (words_rise g.words) few.1).0
 
-with_known-bytes : (word : Option (ℕ × ℕ)) (s : Sentence) → HasByte word → AreBytes s → AreBytes (with_known word s)
+with_known-bytes : (word : Option (ℕ × ℕ)) (s : Sentence) → HasByte word → AreBytes s
+    → AreBytes (option_map_or (λ (w : ℕ × ℕ). with_word w.0 w.1 s) word s)
 with_known-bytes None s h k = k
 with_known-bytes (Some word) s h k = with_word-bytes word.0 word.1 s h k
 
 with_tokens-bytes : (g : GameLists) (tokens : List (List ℕ)) (s : Sentence) → Valid g → AreBytes s → AreBytes (with_tokens g tokens s)
 with_tokens-bytes g [] s valid k = k
 with_tokens-bytes g (token ∷ tokens) s valid k =
-    with_tokens-bytes g tokens (with_known (word_at g token) s) valid (with_known-bytes (word_at g token) s (word_at-byte g token valid) k)
+    with_tokens-bytes g tokens _ valid (with_known-bytes (word_at g token) s (word_at-byte g token valid) k)
 
 -- a sentence of bytes, where the bytes of the pronoun and the earlier verb are
 pub sentence-bytes : (g : GameLists) (tokens : List (List ℕ)) (earlier noun adjective : ℕ) → Valid g → earlier < 256 → noun < 256 → adjective < 256
-    → AreBytes (sentence g tokens earlier noun adjective)
+    → AreBytes (finished earlier (with_tokens g tokens (blank noun adjective)))
 sentence-bytes g tokens e n a valid he hn ha =
     let words = with_tokens g tokens (blank n a) in
     with_meaning-bytes (with_verb e words) (with_verb-bytes e words he (with_tokens-bytes g tokens (blank n a) valid (blank-bytes n a hn ha)))
@@ -141,14 +143,15 @@ gives : (P : Sentence → Type 0) (b : Bool) (s : Sentence) (rest : List ℕ) �
 gives P true s rest h = h
 gives P false s rest h = tt
 
-parsed_phrase-bytes : (g : GameLists) (e n a : ℕ) → Valid g → e < 256 → n < 256 → a < 256 → (p : Option Phrase) → Gives AreBytes (parsed_phrase g e n a p)
-parsed_phrase-bytes g e n a valid he hn ha None = tt
-parsed_phrase-bytes g e n a valid he hn ha (Some p) =
-    gives AreBytes (has_known g p.tokens) (sentence g p.tokens e n a) p.rest (sentence-bytes g p.tokens e n a valid he hn ha)
+parsed_marks-bytes : (g : GameLists) (e n a : ℕ) → Valid g → e < 256 → n < 256 → a < 256 → (ms : List Mark) → Gives AreBytes (parsed_marks g e n a ms)
+parsed_marks-bytes g e n a valid he hn ha [] = tt
+parsed_marks-bytes g e n a valid he hn ha (m ∷ ms) =
+    let tokens = phrase_tokens g (m ∷ ms) in
+    gives AreBytes _ (finished e (with_tokens g tokens (blank n a))) (bytes_after g (m ∷ ms)) (sentence-bytes g tokens e n a valid he hn ha)
 
 -- the sentence that is parsed is one of bytes
 pub parsed-bytes : (g : GameLists) (pending : List ℕ) (earlier noun adjective : ℕ) (s : Sentence) (rest : List ℕ) → Valid g → earlier < 256
     → noun < 256 → adjective < 256 → parsed g pending earlier noun adjective ≡ IsSentence s rest → AreBytes s
 unfolding parsed
 parsed-bytes g pending e n a s rest valid he hn ha is =
-    subst (Gives AreBytes) is (parsed_phrase-bytes g e n a valid he hn ha (phrase g pending))
+    subst (Gives AreBytes) is (parsed_marks-bytes g e n a valid he hn ha (from_phrase g (marks pending)))

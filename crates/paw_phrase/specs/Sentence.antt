@@ -1,12 +1,13 @@
 -- How a phrase becomes a sentence.
-use Rattle.std.specs.Prelude.{ℕ, ◌==◌, ◌&&◌, ◌||◌, Bool, true, false, List, [], ◌∷◌}
-use Rattle.std.specs.Prelude.{Option, Some, None, nat_lt, nat_le, if◌then◌else◌}
+use Rattle.std.specs.Prelude.{ℕ, ◌==◌, ◌&&◌, List, [], ◌∷◌, nat_lt, nat_le, fold, if◌then◌else◌}
+use Rattle.std.specs.List.{list_any}
+use Rattle.std.specs.Option.{is_some, option_map_or}
 use Rattle.paw_base.specs.declared.words.TheConstants.{VERB_CLASS, ADVERB_CLASS, NOUN_CLASS, ADJECTIVE_CLASS}
 use Rattle.paw_base.specs.declared.words.TheConstants.{PREPOSITION_CLASS, PRONOUN_CLASS, NO_WORD, GREATEST_WORD}
 use Rattle.paw_base.specs.declared.words.TheConstants.{FIRST_PLAIN_NOUN, FIRST_NAMED_NOUN}
 use Rattle.paw_game.specs.Game.{GameLists}
 use Rattle.paw_game.specs.Tables.{word_at}
-use Rattle.paw_phrase.specs.Phrase.{Phrase, phrase}
+use Rattle.paw_phrase.specs.Phrase.{Mark, marks, from_phrase, phrase_tokens, bytes_after}
 use Rattle.paw_phrase.specs.declared.Sentence.{Sentence}
 
 -- no word yet; a pronoun stands for this noun and this adjective
@@ -23,31 +24,27 @@ blank noun adjective = record {
   pronoun_adjective = adjective;
 }
 
--- no word is there
-abbrev pub is_absent : ℕ → Bool
-is_absent value = value == NO_WORD
-
 -- the value where there is none yet
 abbrev pub or_value : ℕ → ℕ → ℕ
-or_value old value = if is_absent old then value else old
+or_value old value = if old == NO_WORD then value else old
 
 -- a noun fills the first place that is free; with both filled it is ignored
 abbrev pub with_noun : ℕ → Sentence → Sentence
 with_noun value s =
-    if is_absent s.noun then record s { noun = value } else record s { second_noun = or_value s.second_noun value }
+    if s.noun == NO_WORD then record s { noun = value } else record s { second_noun = or_value s.second_noun value }
 
 -- an adjective belongs to the first noun until that stands, and then to the second
 abbrev pub with_adjective : ℕ → Sentence → Sentence
 with_adjective value s =
-    if is_absent s.noun then record s { adjective = or_value s.adjective value }
+    if s.noun == NO_WORD then record s { adjective = or_value s.adjective value }
     else record s { second_adjective = or_value s.second_adjective value }
 
 -- a pronoun stands for a noun and its adjective; where it stands for none, or both nouns are there, it is ignored
 abbrev pub with_pronoun : Sentence → Sentence
 with_pronoun s =
-    if is_absent s.pronoun_noun then s else
-    if is_absent s.noun then record s { noun = s.pronoun_noun; adjective = s.pronoun_adjective } else
-    if is_absent s.second_noun
+    if s.pronoun_noun == NO_WORD then s else
+    if s.noun == NO_WORD then record s { noun = s.pronoun_noun; adjective = s.pronoun_adjective } else
+    if s.second_noun == NO_WORD
     then record s { second_noun = s.pronoun_noun; second_adjective = s.pronoun_adjective } else s
 
 -- A word of this value and class is added: a verb, an adverb or a preposition where there is none yet, a noun, an
@@ -61,31 +58,14 @@ with_word value class s =
     if class == PREPOSITION_CLASS then record s { preposition = or_value s.preposition value } else
     if class == PRONOUN_CLASS then with_pronoun s else s
 
--- the word of a token is added, by its value and its class, where the token is known
-abbrev pub with_known : Option (ℕ × ℕ) → Sentence → Sentence
-with_known None s = s
-with_known (Some word) s = with_word word.0 word.1 s
-
 -- the tokens' words are added from left to right; an unknown token is skipped
 abbrev pub with_tokens : GameLists → List (List ℕ) → Sentence → Sentence
-with_tokens g [] s = s
-with_tokens g (token ∷ tokens) s = with_tokens g tokens (with_known (word_at g token) s)
-
--- a token is known, by the value and the class of its word
-abbrev pub is_known : Option (ℕ × ℕ) → Bool
-is_known None = false
-is_known (Some word) = true
-
--- a token is a word of the game
-abbrev pub has_known : GameLists → List (List ℕ) → Bool
-has_known g [] = false
-has_known g (token ∷ tokens) = is_known (word_at g token) || has_known g tokens
+with_tokens g tokens s =
+    fold (λ filled token. option_map_or (λ word. with_word word.0 word.1 filled) (word_at g token) filled) s tokens
 
 -- where there is no verb, a first noun that serves as one stands for it, and else the verb of the sentence before
 abbrev pub with_verb : ℕ → Sentence → Sentence
-with_verb earlier s =
-    if is_absent s.verb
-    then (if nat_lt s.noun FIRST_PLAIN_NOUN then record s { verb = s.noun } else record s { verb = earlier }) else s
+with_verb earlier s = record s { verb = or_value s.verb (if nat_lt s.noun FIRST_PLAIN_NOUN then s.noun else earlier) }
 
 -- a first noun that a pronoun may stand for is what it stands for from now on
 abbrev pub with_meaning : Sentence → Sentence
@@ -97,10 +77,6 @@ with_meaning s =
 abbrev pub finished : ℕ → Sentence → Sentence
 finished earlier s = with_meaning (with_verb earlier s)
 
--- the sentence of these tokens
-abbrev pub sentence : GameLists → List (List ℕ) → ℕ → ℕ → ℕ → Sentence
-sentence g tokens earlier noun adjective = finished earlier (with_tokens g tokens (blank noun adjective))
-
 -- what the next phrase of the pending bytes is: a sentence, or a phrase with no known word, each with the bytes that
 -- stay pending; or no phrase
 pub data Parsed : Type 0 where
@@ -108,12 +84,16 @@ pub data Parsed : Type 0 where
   IsUnknown : (rest : List ℕ) → Parsed
   IsNoPhrase : Parsed
 
--- what a phrase is, or where there is none
-abbrev pub parsed_phrase : GameLists → ℕ → ℕ → ℕ → Option Phrase → Parsed
-parsed_phrase g earlier noun adjective None = IsNoPhrase
-parsed_phrase g earlier noun adjective (Some p) =
-    if has_known g p.tokens then IsSentence (sentence g p.tokens earlier noun adjective) p.rest else IsUnknown p.rest
+-- the phrase that begins these marks: its tokens, which are a sentence where one of them is a word of the game, and the
+-- bytes behind it; with no mark there is none
+abbrev pub parsed_marks : GameLists → ℕ → ℕ → ℕ → List Mark → Parsed
+parsed_marks g earlier noun adjective [] = IsNoPhrase
+parsed_marks g earlier noun adjective (m ∷ ms) =
+    let tokens = phrase_tokens g (m ∷ ms) in
+    if list_any (λ token. is_some (word_at g token)) tokens
+    then IsSentence (finished earlier (with_tokens g tokens (blank noun adjective))) (bytes_after g (m ∷ ms))
+    else IsUnknown (bytes_after g (m ∷ ms))
 
 -- the next phrase of the pending bytes, after this verb, where a pronoun stands for this noun and adjective
 unfoldable pub parsed : GameLists → List ℕ → ℕ → ℕ → ℕ → Parsed
-parsed g pending earlier noun adjective = parsed_phrase g earlier noun adjective (phrase g pending)
+parsed g pending earlier noun adjective = parsed_marks g earlier noun adjective (from_phrase g (marks pending))

@@ -1,36 +1,48 @@
 -- The objects at a place, one after the other, and what they weigh.
 use Rattle.std.proofs.Common.{◌≡◌, ◌≢◌, ℕ, zero, suc, ◌+◌, ◌-◌, ◌<◌, ◌≤◌, inl, inr, List, [], ◌∷◌, length, drop, min, Some, None, Option, refl, sym}
-use Rattle.std.proofs.Common.{ap, ◌∙◌, arith, get_or}
-use Rattle.std.specs.Prelude.{if◌then◌else◌, ◌==◌, IfSome, sum_by}
+use Rattle.std.proofs.Common.{ap, ◌∙◌, arith, get_or, zero-add, Bool}
+use Rattle.std.specs.Prelude.{if◌then◌else◌, ◌==◌, IfSome, sum_by, filter, slice_index}
+use Rattle.std.specs.List.{range_with_len}
 use Rattle.std.proofs.Math.Seq.{drop-cons}
 use Rattle.std.proofs.lemmas.List.{drop_all}
+use Rattle.std.proofs.lemmas.List.FromFn.{length-range_with_len, get_or-range_with_len}
 use Rattle.std.proofs.lemmas.List.Sums.{sum_by-cons}
 use Rattle.std.proofs.lemmas.Bool.{cases_eq}
 use Rattle.std.proofs.lemmas.Bool.Decides.{nat_tests}
 use Rattle.paw_world.specs.inner.Places.{least_at, left_above}
 use Rattle.paw_world.specs.World.{World}
 use Rattle.paw_world.specs.inner.World.{first_at}
-use Rattle.paw_world.specs.Weight.{at_from, objects_at, weight_down}
+use Rattle.paw_world.specs.Weight.{objects_at, weight_down}
 use Rattle.paw_world.proofs.Least.{least_at_here, least_at_pass, least_at_end, least_at_is}
 
 -- the objects at a place from one number on
 abbrev pub at_on : List ℕ → ℕ → ℕ → List ℕ
-at_on places p from = at_from p from (drop from places)
+at_on places p from = filter (λ o. slice_index places o == p) (drop from (range_with_len 0 (length places)))
 
-at_from-cons : (p from q : ℕ) (qs : List ℕ)
-    → at_from p from (q ∷ qs) ≡ (if q == p then from ∷ at_from p (suc from) qs else at_from p (suc from) qs)
-at_from-cons p from q qs = refl
+filter-cons : (test : ℕ → Bool) (x : ℕ) (xs : List ℕ) → filter test (x ∷ xs) ≡ (if test x then x ∷ filter test xs else filter test xs)
+filter-cons test x xs = refl
+
+at_on_first : (places : List ℕ) (p from : ℕ) → from < length places
+    → at_on places p from ≡ (if slice_index places from == p then from ∷ at_on places p (suc from) else at_on places p (suc from))
+at_on_first places p from within =
+    let stands : ℕ → Bool = λ o. slice_index places o == p in
+    let all : List ℕ = range_with_len 0 (length places) in
+    let many : length all ≡ length places = length-range_with_len 0 (length places) in
+    let number : get_or all from 0 ≡ from = get_or-range_with_len 0 (length places) from 0 within ∙ zero-add from in
+    ap (filter stands) (drop-cons all from 0 (omega (arith, many)) ∙ ap (λ (o : ℕ). o ∷ drop (suc from) all) number)
+    ∙ filter-cons stands from (drop (suc from) all)
 
 at_on_here : (places : List ℕ) (p from : ℕ) → from < length places → get_or places from 0 ≡ p → at_on places p from ≡ from ∷ at_on places p (suc from)
-at_on_here places p from within here =
-    ap (at_from p from) (drop-cons places from 0 within) ∙ (at_from-cons p from (get_or places from 0) (drop (suc from) places) ∙ grind (arith, nat_tests))
+at_on_here places p from within here = at_on_first places p from within ∙ grind (arith, nat_tests)
 
 at_on_pass : (places : List ℕ) (p from : ℕ) → from < length places → get_or places from 0 ≢ p → at_on places p from ≡ at_on places p (suc from)
-at_on_pass places p from within other =
-    ap (at_from p from) (drop-cons places from 0 within) ∙ (at_from-cons p from (get_or places from 0) (drop (suc from) places) ∙ grind (arith, nat_tests))
+at_on_pass places p from within other = at_on_first places p from within ∙ grind (arith, nat_tests)
 
 at_on_past : (places : List ℕ) (p from : ℕ) → length places ≤ from → at_on places p from ≡ []
-at_on_past places p from past = ap (at_from p from) (drop_all from places past)
+at_on_past places p from past =
+    let all : List ℕ = range_with_len 0 (length places) in
+    let many : length all ≡ length places = length-range_with_len 0 (length places) in
+    ap (filter (λ o. slice_index places o == p)) (drop_all from all (omega (arith, many)))
 
 later : (places : List ℕ) (p from : ℕ) (found : Option ℕ) → from < length places → get_or places from 0 ≢ p
     → least_at places p (length places - from) ≡ found → least_at places p (length places - suc from) ≡ found

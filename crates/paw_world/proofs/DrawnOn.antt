@@ -2,7 +2,8 @@
 use Rattle.std.proofs.Common.{◌≡◌, ℕ, zero, suc, ◌+◌, refl, sym, ap, ◌∙◌, zero-add, suc-add}
 use Rattle.rand_pcg.specs.Lcg.{Lcg, next, advance, state_after, next_state, started, increment_of}
 use Rattle.rand_pcg.specs.Pcg.{multiplier_64, pcg32}
-use Rattle.paw_world.specs.Draws.{generator_after, random_word}
+use Rattle.paw_world.specs.Draws.{random_word}
+use Rattle.paw_world.specs.inner.Draws.{generator_after}
 
 -- n steps after k steps
 state_after-state_after : (w m p k n s : ℕ) → state_after w m p n (state_after w m p k s) ≡ state_after w m p (k + n) s

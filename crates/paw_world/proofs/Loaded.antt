@@ -1,8 +1,9 @@
 -- What is loaded from the saved position.
 use Rattle.std.proofs.Common.{◌≡◌, ℕ, suc, ◌+◌, ◌<◌, List, ◌++◌, length, take, drop, Option, Some, sym, ap, ◌∙◌, arith, add-one, length-append, length-drop}
+use Rattle.std.specs.Option.{option_map_or}
 use Rattle.std.proofs.lemmas.List.{length-take-le}
 use Rattle.paw_base.specs.declared.parts.ObjectFacts.{ObjectFacts}
-use Rattle.paw_world.specs.World.{World, Position, ramloaded, taken_from, IsPosition, IsSavedFor}
+use Rattle.paw_world.specs.World.{World, Position, ramloaded, at_position, IsPosition, IsSavedFor}
 use Rattle.paw_world.specs.inner.World.{IsStored}
 
 saved_for : (objects : ℕ) (saved : Option Position) (q : Position) → saved ≡ Some q → IsSavedFor objects saved → IsPosition objects q
@@ -51,4 +52,4 @@ loaded_is facts locations flags places saved kept seed draws q n front moved ali
     ap (with_parts facts locations saved kept seed draws (front ++ drop (n + 1) flags) moved) same
     ∙ (ap (λ (l : List ℕ). with_parts facts locations saved kept seed draws l moved (length places)) flags_are
     ∙ (ap (λ (l : List ℕ). with_parts facts locations saved kept seed draws (take (suc n) q.flags ++ drop (suc n) flags) l (length places)) all
-    ∙ sym (ap (taken_from w n) is)))
+    ∙ sym (ap (λ (found : Option Position). option_map_or (at_position w n) found w) is)))

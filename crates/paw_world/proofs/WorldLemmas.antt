@@ -2,14 +2,15 @@
 use Rattle.std.proofs.Common.{◌≡◌, ◌≢◌, ℕ, suc, ◌+◌, ◌-◌, ◌<◌, ◌≤◌, Bool, true, false, List, ◌++◌, length, take, drop, min, Option, None, Some, inl}
 use Rattle.std.proofs.Common.{inr, refl, sym, ap, ◌∙◌, subst, arith, get_or, set, length-append, length-drop}
 use Rattle.std.specs.Prelude.{if◌then◌else◌, ◌==◌}
+use Rattle.std.specs.Option.{option_map_or}
 use Rattle.std.proofs.lemmas.List.{length-set, length-map, length-take-le, get_or-set_same, get_or-set_other, set-get_or}
 use Rattle.std.proofs.lemmas.Bool.{cases_eq}
 use Rattle.std.proofs.lemmas.Bool.Decides.{nat_tests}
 use Rattle.paw_base.specs.declared.parts.ObjectFacts.{ObjectFacts}
 use Rattle.paw_world.specs.World.{World, Position, flag, with_flag, place, with_place, flags_with, first_carried, opening_places}
-use Rattle.paw_world.specs.World.{with_objects_returned, starting_world, restarted, let_go, taken_up, moved, ramsaved, ramloaded, taken_from}
-use Rattle.paw_world.specs.World.{drawn_on, position_of, kept_position, with_kept, keeping, taken_back, IsPosition, IsSavedFor, AreSavedFor, IsWorld}
-use Rattle.paw_world.specs.inner.World.{recalled}
+use Rattle.paw_world.specs.World.{with_objects_returned, starting_world, restarted, let_go, taken_up, moved, ramsaved, ramloaded, at_position}
+use Rattle.paw_world.specs.World.{drawn_on, position_of, kept_position, keeping, IsPosition, IsSavedFor, AreSavedFor, IsWorld}
+use Rattle.paw_world.specs.inner.World.{taken_back, recalled, with_kept}
 use Rattle.paw_world.proofs.Kept.{kept_with, kept_alike, none_kept}
 
 -- ---- a flag that was given a value
@@ -62,7 +63,8 @@ pub IsWorld-ramsaved : (w : World) → IsWorld w → IsWorld (ramsaved w)
 IsWorld-ramsaved w sound =
     record { objects = sound.objects; facts = sound.facts; flags = sound.flags; saved = record { flags = sound.flags; places = refl }; kept = sound.kept }
 
-loaded : (w : World) (n : ℕ) (saved : Option Position) → n < 256 → IsSavedFor (length w.places) saved → IsWorld w → IsWorld (taken_from w n saved)
+loaded : (w : World) (n : ℕ) (saved : Option Position) → n < 256 → IsSavedFor (length w.places) saved → IsWorld w
+    → IsWorld (option_map_or (at_position w n) saved w)
 loaded w n None small alike sound = sound
 loaded w n (Some q) small alike sound =
     let front : length (take (suc n) q.flags) ≡ suc n = length-take-le (suc n) q.flags (omega (arith, alike.flags)) in
@@ -89,7 +91,7 @@ IsWorld-with_kept w n q alike sound = record {
 pub IsWorld-keeping : (w : World) (n : ℕ) → IsWorld w → IsWorld (keeping w n)
 IsWorld-keeping w n sound = IsWorld-with_kept w n (position_of w) (record { flags = sound.flags; places = refl }) sound
 
-placed : (w : World) (kept : Option Position) → IsSavedFor (length w.places) kept → IsWorld w → IsWorld (taken_back w kept)
+placed : (w : World) (kept : Option Position) → IsSavedFor (length w.places) kept → IsWorld w → IsWorld (option_map_or (taken_back w) kept w)
 placed w None alike sound = sound
 placed w (Some q) alike sound = same_count (record w { flags = q.flags }) q.places alike.places
     (record { objects = sound.objects; facts = sound.facts; flags = alike.flags; saved = sound.saved; kept = sound.kept })

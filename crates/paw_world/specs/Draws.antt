@@ -1,12 +1,8 @@
 -- The random words of a seed: those of the generator PCG XSH RR 64/32 on stream 0.
 use Rattle.std.specs.Prelude.{ℕ}
-use Rattle.rand_pcg.specs.Lcg.{Lcg, advance, started, increment_of}
+use Rattle.rand_pcg.specs.Lcg.{advance, started, increment_of}
 use Rattle.rand_pcg.specs.Pcg.{multiplier_64, pcg32}
 
--- the generator of a seed after k words
-abbrev pub generator_after : ℕ → ℕ → Lcg
-generator_after seed k = advance 64 multiplier_64 k (started 64 multiplier_64 seed (increment_of 64 0))
-
--- the word that it gives then: word k of a seed, counted from 0
+-- word k of a seed, counted from 0: that of the generator after k words
 unfoldable pub random_word : ℕ → ℕ → ℕ
-random_word seed k = (pcg32 (generator_after seed k)).0
+random_word seed k = (pcg32 (advance 64 multiplier_64 k (started 64 multiplier_64 seed (increment_of 64 0)))).0

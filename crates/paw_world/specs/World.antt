@@ -3,6 +3,7 @@ use Rattle.std.specs.Prelude.{◌≡◌, ℕ, suc, ◌+◌, ◌-◌, ◌≤◌, 
 use Rattle.std.specs.Prelude.{map, take, drop, count_by, replicate, min, Option, None, Some, nat_lt}
 use Rattle.std.specs.Prelude.{slice_index, slice_index_or, slice_set, if◌then◌else◌, IfSome}
 use Rattle.std.specs.List.{All}
+use Rattle.std.specs.Option.{option_map_or}
 use Rattle.paw_base.specs.declared.flags.TheConstants.{DARK_FLAG, CARRIED_FLAG, VERB_FLAG, NOUN_FLAG, ADJECTIVE_FLAG}
 use Rattle.paw_base.specs.declared.flags.TheConstants.{ADVERB_FLAG, MOST_CARRIED_FLAG, LOCATION_FLAG, PREPOSITION_FLAG}
 use Rattle.paw_base.specs.declared.flags.TheConstants.{SECOND_NOUN_FLAG, SECOND_ADJECTIVE_FLAG, PRONOUN_NOUN_FLAG}
@@ -49,8 +50,8 @@ with_place w o p = record w { places = slice_set w.places o p }
 abbrev pub first_carried : List ObjectFacts → ℕ
 first_carried facts = count_by (λ f. f.start == CARRIED_PLACE) facts
 
--- all flags are 0 but these: one counts what is carried, the words of a sentence and the object last referred to are
--- none, four objects and a weight of ten may be carried
+-- the flags at the start of a game. All are 0 but these: one counts what is carried, the words of a sentence and the
+-- object last referred to are none, four objects and a weight of ten may be carried
 unfoldable pub flags_with : ℕ → List ℕ
 flags_with carried =
     let none : List ℕ → ℕ → List ℕ = λ flags f. slice_set flags f NO_WORD in
@@ -59,10 +60,6 @@ flags_with carried =
     let second = none (none (none words PREPOSITION_FLAG) SECOND_NOUN_FLAG) SECOND_ADJECTIVE_FLAG in
     let more = none (none (none second PRONOUN_NOUN_FLAG) PRONOUN_ADJECTIVE_FLAG) REFERRED_FLAG in
     slice_set (slice_set more MOST_CARRIED_FLAG 4) MOST_WEIGHT_FLAG 10
-
--- the flags at the start of a game with these objects
-abbrev pub opening_flags : List ObjectFacts → List ℕ
-opening_flags facts = flags_with (first_carried facts)
 
 -- each object stands where it begins
 abbrev pub opening_places : List ObjectFacts → List ℕ
@@ -73,7 +70,7 @@ abbrev pub starting_world : List ObjectFacts → ℕ → ℕ → World
 starting_world facts locations seed = record {
   facts = facts;
   locations = locations;
-  flags = opening_flags facts;
+  flags = flags_with (first_carried facts);
   places = opening_places facts;
   saved = None;
   kept = replicate POSITION_COUNT None;
@@ -83,7 +80,7 @@ starting_world facts locations seed = record {
 
 -- the world of a game that starts anew: the draws, the saved position and the kept positions stay
 abbrev pub restarted : World → World
-restarted w = record w { flags = opening_flags w.facts; places = opening_places w.facts }
+restarted w = record w { flags = flags_with (first_carried w.facts); places = opening_places w.facts }
 
 -- all objects go back to where they begin, and a flag counts those that begin carried; the other flags stay
 abbrev pub with_objects_returned : World → World
@@ -150,31 +147,17 @@ ramsaved w = record w { saved = Some (position_of w) }
 abbrev pub at_position : World → ℕ → Position → World
 at_position w n q = record w { flags = take (suc n) q.flags ++ drop (suc n) w.flags; places = q.places }
 
--- flags 0 to n and all places are taken from a position; where there is none nothing changes
-abbrev pub taken_from : World → ℕ → Option Position → World
-taken_from w n None = w
-taken_from w n (Some q) = at_position w n q
-
 -- the saved position's flags 0 to n and its places are taken; where nothing is saved nothing changes
 abbrev pub ramloaded : World → ℕ → World
-ramloaded w n = taken_from w n w.saved
+ramloaded w n = option_map_or (at_position w n) w.saved w
 
 -- the kept position of a number below 4; nothing where none was kept
 abbrev pub kept_position : World → ℕ → Option Position
 kept_position w n = slice_index_or w.kept n None
 
--- a position becomes the kept one of this number
-abbrev pub with_kept : World → ℕ → Position → World
-with_kept w n q = record w { kept = slice_set w.kept n (Some q) }
-
 -- flags and places become the kept position of this number
 abbrev pub keeping : World → ℕ → World
-keeping w n = with_kept w n (position_of w)
-
--- all flags and all places become those of a position, where there is one; nothing is counted
-abbrev pub taken_back : World → Option Position → World
-taken_back w None = w
-taken_back w (Some q) = record w { flags = q.flags; places = q.places }
+keeping w n = record w { kept = slice_set w.kept n (Some (position_of w)) }
 
 -- n words more were drawn
 abbrev pub drawn_on : World → ℕ → World

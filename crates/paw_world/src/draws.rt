@@ -17,8 +17,7 @@ pub struct Draws {
 
 impl Model for Draws {
     ghost use Rattle.std.specs.Prelude.{◌≡◌};
-    ghost use Rattle.paw_world.specs.Draws.{generator_after};
-    ghost use Rattle.paw_world.specs.inner.Draws.{Drawn};
+    ghost use Rattle.paw_world.specs.inner.Draws.{Drawn, generator_after};
 
     ghost Value = { Drawn };
 

@@ -4,9 +4,10 @@ ghost use Rattle.std.specs.Prelude.{◌≡◌, ◌+◌, ◌-◌, ◌^◌, ◌<�
 ghost use Rattle.std.specs.Prelude.{is_some, IsSome, IfSome, MatchOption};
 ghost use Rattle.paw_world.specs.Draws.{random_word};
 ghost use Rattle.paw_world.specs.World.{starting_world, flag, with_flag, place, moved, ramsaved, ramloaded};
-ghost use Rattle.paw_world.specs.World.{kept_position, with_kept, keeping, restarted, with_objects_returned};
-ghost use Rattle.paw_world.specs.World.{drawn_on, first_carried, opening_flags, IsWorld};
-ghost use Rattle.paw_world.specs.inner.World.{first_at, saved_flag, saved_place, recalled, kept_flag, kept_place};
+ghost use Rattle.paw_world.specs.World.{kept_position, keeping, restarted, with_objects_returned};
+ghost use Rattle.paw_world.specs.World.{drawn_on, first_carried, IsWorld};
+ghost use Rattle.paw_world.specs.inner.World.{opening_flags, first_at, saved_flag, saved_place, recalled, with_kept};
+ghost use Rattle.paw_world.specs.inner.World.{kept_flag, kept_place};
 ghost use Rattle.paw_world.specs.Weight.{weight, weight_down, carried_weight};
 ghost use Rattle.paw_world.specs.inner.Weight.{weight_with};
 

@@ -1,9 +1,15 @@
 -- The world of a game: words that contracts between crates and proofs use beside those of specs/World.antt.
-use Rattle.std.specs.Prelude.{◌≡◌, ℕ, ◌-◌, ◌≤◌, not, List, length, Option, None, Some, slice_index}
+use Rattle.std.specs.Prelude.{◌≡◌, ℕ, ◌-◌, ◌≤◌, not, List, length, Option, None, Some, slice_index, slice_set}
+use Rattle.std.specs.Option.{option_map_or}
 use Rattle.paw_base.specs.declared.limits.TheConstants.{OBJECT_LIMIT, FLAG_COUNT}
 use Rattle.paw_base.specs.declared.parts.ObjectFacts.{ObjectFacts}
 use Rattle.paw_world.specs.inner.Places.{least_at, left_above}
-use Rattle.paw_world.specs.World.{Position, World, flag, place, kept_position, taken_back, IsSavedFor, AreSavedFor}
+use Rattle.paw_world.specs.World.{Position, World, flag, place, first_carried, flags_with, kept_position}
+use Rattle.paw_world.specs.World.{IsSavedFor, AreSavedFor}
+
+-- the flags at the start of a game with these objects
+abbrev pub opening_flags : List ObjectFacts → List ℕ
+opening_flags facts = flags_with (first_carried facts)
 
 -- the least object above this one that stands at a place, or the least of all there; nothing where there is none
 abbrev pub first_at : World → ℕ → Option ℕ → Option ℕ
@@ -27,9 +33,17 @@ saved_flag w f = flag_in w.saved f
 abbrev pub saved_place : World → ℕ → ℕ
 saved_place w o = place_in_position w.saved o
 
+-- all flags and all places become those of a position
+abbrev pub taken_back : World → Position → World
+taken_back w q = record w { flags = q.flags; places = q.places }
+
 -- all flags and places are taken from the kept position of this number; where none was kept nothing changes
 abbrev pub recalled : World → ℕ → World
-recalled w n = taken_back w (kept_position w n)
+recalled w n = option_map_or (taken_back w) (kept_position w n) w
+
+-- a position becomes the kept one of this number
+abbrev pub with_kept : World → ℕ → Position → World
+with_kept w n q = record w { kept = slice_set w.kept n (Some q) }
 
 -- a flag of a kept position; 0 where none was kept
 abbrev pub kept_flag : World → ℕ → ℕ → ℕ
