@@ -10,8 +10,7 @@ use Rattle.paw_game.specs.Game.{GameLists}
 use Rattle.paw_world.specs.World.{World, with_flag, place, with_place, let_go, taken_up, moved, here}
 use Rattle.paw_effects.specs.Worlds.{IsOf}
 use Rattle.paw_effects.specs.Presence.{named_place, held_objects, is_held}
-use Rattle.paw_effects.specs.MoveActions.{moved_if_place, names_place}
-use Rattle.paw_effects.specs.inner.Moving.{all_dropped}
+use Rattle.paw_effects.specs.MoveActions.{all_dropped, moved_if_place, names_place}
 
 -- the same objects and locations, as many flags and places, and as many draws
 pub record Alike (w v : World) : Type 0 where

@@ -11,13 +11,17 @@ pub record Done : Type 0 where
   pub world : World
   pub act : Act
 
+-- reading goes on so, with the line and the loop as they are
+abbrev pub plainly : Effect → Act
+plainly e = record { effect = e; drop_line = false; cancel_loop = false }
+
 -- reading goes on so, and the rest of the line is dropped
 abbrev pub dropping : Effect → Act
 dropping e = record { effect = e; drop_line = true; cancel_loop = false }
 
--- this is printed, and reading goes on so, with the line and the loop as they are
+-- this is printed, and reading goes on so
 abbrev pub tells : World → List ℕ → Effect → Done
-tells w text e = record { text = text; world = w; act = record { effect = e; drop_line = false; cancel_loop = false } }
+tells w text e = record { text = text; world = w; act = plainly e }
 
 -- nothing is printed, and reading goes on so
 abbrev pub leads : World → Effect → Done

@@ -25,9 +25,13 @@ pub record Tested : Type 0 where
 abbrev pub is_condition : Condact → Bool
 is_condition c = nat_le c.code MOVE
 
--- a condition answers yes where it holds, else no, and changes nothing
+-- a condition that holds answers yes
+abbrev pub truth_of : Bool → Truth
+truth_of b = if b then truth.Yes else truth.No
+
+-- a condition answers by whether it holds, and changes nothing
 abbrev pub answers : World → Bool → Tested
-answers w b = record { answer = if b then truth.Yes else truth.No; world = w }
+answers w b = record { answer = truth_of b; world = w }
 
 -- MOVE takes the exit for the sentence's verb from the location that a flag names, to where it leads
 abbrev pub moves : GameLists → World → ℕ → Tested

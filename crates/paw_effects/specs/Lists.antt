@@ -1,5 +1,5 @@
 -- Lists of objects, as a game prints them.
-use Rattle.std.specs.Prelude.{ℕ, ◌==◌, not, List, [], ◌∷◌, ◌++◌, map, codes, bit_and, if◌then◌else◌}
+use Rattle.std.specs.Prelude.{ℕ, ◌==◌, Bool, not, List, [], ◌∷◌, ◌++◌, map, codes, bit_and, if◌then◌else◌}
 use Rattle.std.specs.List.{flat_map}
 use Rattle.paw_base.specs.declared.flags.TheConstants.{LOCATION_FLAG, LISTING_FLAG}
 use Rattle.paw_base.specs.declared.messages.TheConstants.{SEEN_MESSAGE, INVENTORY_MESSAGE, IS_WORN_MESSAGE}
@@ -30,9 +30,13 @@ abbrev pub as_sentence : List (List ℕ) → List ℕ
 as_sentence [] = []
 as_sentence (text ∷ texts) = text ++ others_joined texts
 
--- texts as a list: as a sentence where bit 6 of the flag of lists is set
+-- lists are sentences where bit 6 of the flag of lists is set
+abbrev pub lists_are_sentences : World → Bool
+lists_are_sentences w = not (bit_and (flag w LISTING_FLAG) 64 == 0)
+
+-- texts as a list
 abbrev pub list_of : World → List (List ℕ) → List ℕ
-list_of w texts = if not (bit_and (flag w LISTING_FLAG) 64 == 0) then as_sentence texts else as_lines texts
+list_of w texts = if lists_are_sentences w then as_sentence texts else as_lines texts
 
 -- a list, or a message where there is nothing to list
 abbrev pub list_or_say : GameLists → World → ℕ → List (List ℕ) → List ℕ
@@ -48,9 +52,13 @@ seen_text g w (text ∷ texts) = say_text g w SEEN_MESSAGE ++ list_of w (text �
 abbrev pub texts_at : GameLists → World → ℕ → List (List ℕ)
 texts_at g w p = map (object_text g) (objects_at w p)
 
--- the text of an object that is worn or carried; a message tells what is worn
+-- a message tells what is worn
+abbrev pub worn_text : GameLists → World → ℕ → List ℕ
+worn_text g w o = if place w o == WORN_PLACE then put_text g w IS_WORN_MESSAGE else []
+
+-- the text of an object that is worn or carried
 abbrev pub held_text : GameLists → World → ℕ → List ℕ
-held_text g w o = object_text g o ++ (if place w o == WORN_PLACE then put_text g w IS_WORN_MESSAGE else [])
+held_text g w o = object_text g o ++ worn_text g w o
 
 -- INVEN: what is worn and carried, behind its message, or that it is nothing
 abbrev pub inventory_text : GameLists → World → List ℕ

@@ -8,6 +8,14 @@ use Rattle.paw_game.specs.Valid.{is_within}
 use Rattle.paw_world.specs.World.{World, flag, with_flag, place, moved, here, with_objects_returned}
 use Rattle.paw_effects.specs.Presence.{named_place, held_objects}
 
+-- all that is worn or carried moves to the current location, one object after the other
+abbrev pub all_dropped : World → World
+all_dropped w = fold (λ v o. moved v o (here w)) w (held_objects w)
+
+-- each of two objects moves to where the other stood, the first one first
+abbrev pub swapped : World → ℕ → ℕ → World
+swapped w o k = moved (moved w o (place w k)) k (place w o)
+
 -- the object last referred to moves to a place; nothing where there is no such object
 abbrev pub referred_moved : World → ℕ → World
 referred_moved w p = if nat_lt (flag w REFERRED_FLAG) (length w.places) then moved w (flag w REFERRED_FLAG) p else w
@@ -20,19 +28,18 @@ names_place w p = nat_lt p w.locations || is_within NOT_CREATED_PLACE HERE_PLACE
 abbrev pub moved_if_place : World → ℕ → ℕ → World
 moved_if_place w o p = if names_place w p then moved w o (named_place w p) else w
 
--- one line for each of them; of two objects that SWAP moves to where the other stood the first one moves first, and
--- DROPALL moves all that is worn or carried to the current location, one object after the other
+-- one line for each of them
 unfoldable pub move_of : World → Condact → World
 move_of w c =
     if c.code == CREATE then moved w c.a (here w) else
     if c.code == DESTROY then moved w c.a NOT_CREATED_PLACE else
-    if c.code == SWAP then moved (moved w c.a (place w c.b)) c.b (place w c.a) else
+    if c.code == SWAP then swapped w c.a c.b else
     if c.code == PLACE then moved w c.a (named_place w c.b) else
     if c.code == PUTO then referred_moved w (named_place w c.a) else
     if c.code == COPYOO then moved w c.b (place w c.a) else
     if c.code == COPYOF then with_flag w c.b (place w c.a) else
     if c.code == COPYFO then moved_if_place w c.b (flag w c.a) else
-    fold (λ v o. moved v o (here w)) w (held_objects w)  -- DROPALL
+    all_dropped w  -- DROPALL
 
 -- RESET puts all objects back to where they begin, with flag 1 the number of those that begin carried, and makes a
 -- location the current one

@@ -5,4 +5,3 @@ pub mod Standing
 pub mod Done
 pub mod Listing
 pub mod Families
-pub mod Moving

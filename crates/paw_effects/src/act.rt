@@ -2,8 +2,7 @@
 
 ghost use Rattle.std.specs.Prelude.{◌≡◌, if◌then◌else◌};
 ghost use Rattle.paw_effects.specs.declared.act.Effect.TheVariants as effect;
-ghost use Rattle.paw_effects.specs.Done.{dropping};
-ghost use Rattle.paw_effects.specs.inner.Done.{plainly};
+ghost use Rattle.paw_effects.specs.Done.{dropping, plainly};
 
 /// Where a game waits: for a line, for an answer to QUIT, for an answer to END, for a key; or where it is over.
 #[derive(Clone, Copy, Drop, PartialEq, Eq, Debug)]

@@ -3,9 +3,8 @@
 ghost use Rattle.std.specs.Prelude.{◌≡◌, ◌<◌, ◌++◌, ◌∷◌, [], length, IfSome, IfNone, Some, None};
 ghost use Rattle.paw_base.specs.inner.Piece.{Puts};
 ghost use Rattle.paw_effects.specs.Lists.{as_lines, joint, others_joined, list_of};
-ghost use Rattle.paw_effects.specs.Lists.{list_or_say, inventory_text, here_list_text};
-ghost use Rattle.paw_effects.specs.inner.Listing.{lesser, listed_above, listed_text, texts_above};
-ghost use Rattle.paw_effects.specs.inner.Listing.{lists_are_sentences, worn_text, place_list_text};
+ghost use Rattle.paw_effects.specs.Lists.{list_or_say, lists_are_sentences, worn_text, inventory_text, here_list_text};
+ghost use Rattle.paw_effects.specs.inner.Listing.{lesser, listed_above, listed_text, place_list_text, texts_above};
 
 use crate::presence::is_somewhere;
 use crate::text::{print_object, put, say};

@@ -1,12 +1,10 @@
 -- What an action does: words that contracts between crates and proofs use beside those of specs/Done.antt.
-use Rattle.std.specs.Prelude.{◌≡◌, ℕ, ◌+◌, ◌<◌, ◌≤◌, Bool, false, List, ◌++◌, length, if◌then◌else◌}
+use Rattle.std.specs.Prelude.{◌≡◌, ℕ, ◌+◌, ◌<◌, ◌≤◌, List, ◌++◌, length}
 use Rattle.paw_base.specs.declared.limits.TheConstants.{PIECE_LIMIT}
 use Rattle.paw_world.specs.World.{World}
 use Rattle.paw_effects.specs.declared.act.Effect.{Effect}
 use Rattle.paw_effects.specs.declared.act.Effect.TheVariants as effect
 use Rattle.paw_effects.specs.declared.act.Act.{Act}
-use Rattle.paw_effects.specs.declared.act.Truth.{Truth}
-use Rattle.paw_effects.specs.declared.act.Truth.TheVariants as truth
 use Rattle.paw_effects.specs.Done.{Done}
 
 -- an action was done in a piece: it holds its text too, or the text doesn't fit and the rest is open
@@ -18,11 +16,3 @@ DoesAs d old new world act e =
 -- the same by what the action answers
 abbrev pub Does : Done → List ℕ → List ℕ → World → Act → Type 0
 Does d old new world act = DoesAs d old new world act act.effect
-
--- a condition that holds answers yes
-abbrev pub truth_of : Bool → Truth
-truth_of b = if b then truth.Yes else truth.No
-
--- reading goes on so, with the line and the loop as they are
-abbrev pub plainly : Effect → Act
-plainly e = record { effect = e; drop_line = false; cancel_loop = false }

@@ -1,15 +1,12 @@
 -- How the code of lists goes from object to object.
-use Rattle.std.specs.Prelude.{ℕ, suc, ◌==◌, Bool, not, min, bit_and, List, [], length, drop, filter, map}
-use Rattle.std.specs.Prelude.{Option, Some, None, if◌then◌else◌}
+use Rattle.std.specs.Prelude.{ℕ, suc, ◌==◌, min, List, length, drop, filter, map, Option, Some, None}
 use Rattle.std.specs.List.{range_with_len}
-use Rattle.paw_base.specs.declared.flags.TheConstants.{LISTING_FLAG}
-use Rattle.paw_base.specs.declared.messages.TheConstants.{IS_WORN_MESSAGE, NOTHING_THERE_MESSAGE}
-use Rattle.paw_base.specs.declared.places.TheConstants.{WORN_PLACE}
+use Rattle.paw_base.specs.declared.messages.TheConstants.{NOTHING_THERE_MESSAGE}
 use Rattle.paw_game.specs.Game.{GameLists}
-use Rattle.paw_world.specs.World.{World, flag, place}
+use Rattle.paw_world.specs.World.{World, place}
 use Rattle.paw_effects.specs.declared.lists.Listed.{Listed}
 use Rattle.paw_effects.specs.declared.lists.Listed.TheVariants as listed
-use Rattle.paw_effects.specs.Texts.{object_text, put_text}
+use Rattle.paw_effects.specs.Texts.{object_text}
 use Rattle.paw_effects.specs.Lists.{held_text, list_or_say, texts_at}
 use Rattle.paw_effects.specs.Presence.{is_held}
 
@@ -47,14 +44,6 @@ listed_text g w listed.Held = held_text g w
 -- the texts of the objects of a list above this one, or of all
 abbrev pub texts_above : GameLists → World → Listed → Option ℕ → List (List ℕ)
 texts_above g w l above = map (listed_text g w l) (listed_above w l above)
-
--- lists are sentences where bit 6 of the flag of lists is set
-abbrev pub lists_are_sentences : World → Bool
-lists_are_sentences w = not (bit_and (flag w LISTING_FLAG) 64 == 0)
-
--- a message tells what is worn
-abbrev pub worn_text : GameLists → World → ℕ → List ℕ
-worn_text g w o = if place w o == WORN_PLACE then put_text g w IS_WORN_MESSAGE else []
 
 -- LISTAT: what stands at a place, or that it is nothing
 abbrev pub place_list_text : GameLists → World → ℕ → List ℕ
