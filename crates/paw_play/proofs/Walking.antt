@@ -19,7 +19,7 @@ use Rattle.paw_turn.specs.declared.Step.TheVariants as step
 use Rattle.paw_play.specs.declared.PlayEnd.{PlayEnd}
 use Rattle.paw_play.specs.declared.PlayEnd.TheVariants as end
 use Rattle.paw_stage.specs.declared.StageCall.TheVariants as call
-use Rattle.paw_play.specs.Walk.{EndingOf, first_lines, advanced, text_before, Reads, ReadsPart, WalkHalts, joined}
+use Rattle.paw_play.specs.Walk.{EndingOf, first_lines, advanced, text_before, ReadsPart, WalkWaits, WalkHalts, joined}
 use Rattle.paw_play.specs.inner.Telling.{Telling, seat_text, told_pieces, HaveSteps, told_run, told_ending, told_as}
 use Rattle.paw_play.specs.inner.OnTheWay.{IsWalking, ShowsPiece, Told, WalksTo}
 use Rattle.paw_play.proofs.Telling.{pieces_more, told_more, steps_more, told_none, steps_none, waits_told, halts_told, same_lines, told_is}
@@ -106,7 +106,7 @@ on_waits g prompt.Over m r h = absurd h
 -- what was read of the lines so far waits, and its text was shown
 waiting : {F : Type 0} (telling : Telling) (g : Story) (whole : EndingOf) (n : ℕ) (first now : Standing) (seat : Seat F) →
     IsWalking telling g whole first now seat n → IsSeated seat →
-    (p : Prompt) × (path : List Frame) × (r : Run) × Reads (told_as telling whole) first now n (WaitsAt p path r)
+    WalkWaits (told_as telling whole) first now n
 waiting telling g whole n first now seat w seated =
     let stands : StandsAt w.prompt seat.machine = subst (λ s. StandsClosed s seat.machine) w.waits seated.machine in
     let path : List Frame = reverse seat.machine.frames in
@@ -278,27 +278,26 @@ module _ {F : Type 0} (telling : Telling) (g : Story) (whole : EndingOf) (most n
     (w : IsWalking telling g whole first now seat n) (seated : IsSeated seat) where
   -- no line is left
   pub none_left : n < most → (now.lines ≡ []) × (new ≡ now) →
-      (length first.lines < most) × (p : Prompt) × (path : List Frame) × (r : Run)
-      × Reads (told_as telling whole) first new (length first.lines) (WaitsAt p path r)
+      (length first.lines < most) × WalkWaits (told_as telling whole) first new (length first.lines)
   none_left few e =
       let all : n ≡ length first.lines = drop_all first.lines n (ap (λ (q : Standing). q.lines) (sym w.stands) ∙ e.0) w.there in
       let at = waiting telling g whole n first now seat w seated in
-      (omega (arith, all, few), at.0, at.1, at.2, rw (← all, e.1) at.3)
+      (omega (arith, all, few), (at.0, at.1, at.2, rw (← all, e.1) at.3))
 
   -- the lines can't be asked for
   pub none_asked : n < most → new ≡ now →
-      (m : ℕ) × (m < most) × (p : Prompt) × (path : List Frame) × (r : Run) × Reads (told_as telling whole) first new m (WaitsAt p path r)
+      (m : ℕ) × (m < most) × WalkWaits (told_as telling whole) first new m
   none_asked few e =
       let at = waiting telling g whole n first now seat w seated in
-      (n, few, at.0, at.1, at.2, rw e at.3)
+      (n, few, (at.0, at.1, at.2, rw e at.3))
 
 -- all the lines that a session may have were taken
 pub long_walk : {F : Type 0} (telling : Telling) (g : Story) (whole : EndingOf) (most n : ℕ) (first now : Standing) (seat : Seat F) →
     IsWalking telling g whole first now seat n → IsSeated seat → n ≡ most →
-    (1000000000 ≡ MOST_EVENTS) × (p : Prompt) × (path : List Frame) × (r : Run) × Reads (told_as telling whole) first now most (WaitsAt p path r)
+    (1000000000 ≡ MOST_EVENTS) × WalkWaits (told_as telling whole) first now most
 long_walk telling g whole most n first now seat w seated all =
     let at = waiting telling g whole n first now seat w seated in
-    (refl, at.0, at.1, at.2, rw (← all) at.3)
+    (refl, (at.0, at.1, at.2, rw (← all) at.3))
 
 -- ---- the first piece ----
 
