@@ -4,7 +4,7 @@ use Rattle.sha2.specs.Sha256.{sha256}
 use Rattle.paw_effects.specs.Story.{Story}
 use Rattle.paw_game.specs.Image.{image}
 use Rattle.paw_reading.specs.Run.{Run}
-use Rattle.paw_reading.specs.Turn.{Ending, WaitsAt, Halted, Unended, reading, run_of, pieces_of}
+use Rattle.paw_reading.specs.Turn.{Ending, WaitsAt, Halted, Unended, reading, pieces_of}
 use Rattle.paw_reading.specs.Bounds.{IsLine, ValidStory}
 use Rattle.paw_journal.specs.Session.{recover}
 use Rattle.paw_play.specs.declared.TheConstants.{MOST_EVENTS}
@@ -30,7 +30,7 @@ StandsFor g seed es lines n bytes = Stands g seed (es ++ first_lines n lines) by
 -- the text of these, from the last piece of es on
 abbrev pub text_since : Story → ℕ → List (List ℕ) → List (List ℕ) → ℕ → List ℕ
 text_since g seed es lines n =
-    joined (drop (length es) (pieces_of (run_of (reading g seed (es ++ first_lines n lines)))))
+    joined (drop (length es) (pieces_of (reading g seed (es ++ first_lines n lines))))
 
 -- ---- a reading from one of its pieces on ----
 
