@@ -1,6 +1,7 @@
 -- Going on from a kept state is reading the longer list of lines.
 use Rattle.std.proofs.Common.{◌≡◌, ℕ, zero, suc, ◌+◌, ◌<◌, ◌≤◌, List, [], ◌∷◌, ◌++◌, refl, sym, ap, ◌∙◌, length, drop, append-nil, arith}
 use Rattle.std.specs.Prelude.{◌-◌, replicate}
+use Rattle.std.specs.List.{concat}
 use Rattle.std.proofs.Math.Seq.{take-append_seam}
 use Rattle.sha2.specs.Sha256.{sha256}
 use Rattle.paw_game.specs.Game.{GameLists}
@@ -26,7 +27,6 @@ use Rattle.paw_state.specs.Fields.{state_bytes}
 use Rattle.paw_state.proofs.Lawful.{bytes_tell_the_state}
 use Rattle.paw_state.specs.Record.{last_piece, state_at}
 use Rattle.paw_play.specs.Session.{kept_bytes, IsKept}
-use Rattle.paw_play.specs.Walk.{joined}
 use Rattle.paw_play.specs.Stands.{Stands, since_piece, ending_since, reading_since}
 use Rattle.paw_play.specs.Play.{ShowsState, going_on}
 
@@ -77,7 +77,7 @@ module _ (n : ℕ) (ps : List (List ℕ)) (ts : List (List Step)) (all : length 
   since_past Unended = refl
 
 -- its text
-pub text_since_is : (n : ℕ) (e : Ending) → text_of (ending_since n e) ≡ joined (drop n (pieces_of e))
+pub text_since_is : (n : ℕ) (e : Ending) → text_of (ending_since n e) ≡ concat (drop n (pieces_of e))
 text_since_is n (WaitsAt p path r) = refl
 text_since_is n (Halted halt r) = refl
 text_since_is zero Unended = refl

@@ -1,5 +1,5 @@
 -- What taking lines and showing pieces comes to.
-use Rattle.std.specs.Prelude.{◌≡◌, ℕ, zero, suc, ◌+◌, ◌<◌, ◌≤◌, List, [], ◌++◌, length, take, drop, map, flat_map}
+use Rattle.std.specs.Prelude.{◌≡◌, ℕ, zero, suc, ◌+◌, ◌<◌, ◌≤◌, List, [], ◌++◌, length, take, drop, map}
 use Rattle.paw_stage.specs.Stage.{Standing}
 use Rattle.paw_stage.specs.declared.StageCall.TheVariants as call
 use Rattle.paw_effects.specs.declared.act.Prompt.{Prompt}
@@ -18,10 +18,6 @@ EndingOf = List (List ℕ) → Ending
 -- the first n lines, each cut to its first 255 bytes
 abbrev pub first_lines : ℕ → List (List ℕ) → List (List ℕ)
 first_lines n lines = map (take 255) (take n lines)
-
--- all pieces as one text
-abbrev pub joined : List (List ℕ) → List ℕ
-joined pieces = flat_map (λ piece. piece) pieces
 
 -- n lines more were taken, and this text was shown besides; all else stands as it was
 abbrev pub advanced : Standing → ℕ → List ℕ → Standing

@@ -1,7 +1,8 @@
 -- What was closed before changes nothing, and stays in front.
 use Rattle.std.proofs.Common.{◌≡◌, ◌≢◌, ℕ, zero, suc, Bool, true, false, List, [], ◌∷◌, ◌++◌, Option, Some, None, refl, sym, ap, ◌∙◌, append_assoc, append-nil}
-use Rattle.std.specs.Prelude.{flat_map, if◌then◌else◌}
-use Rattle.std.proofs.lemmas.Grind.{flat_map-append}
+use Rattle.std.specs.Prelude.{if◌then◌else◌}
+use Rattle.std.specs.List.{concat}
+use Rattle.std.proofs.lemmas.List.Folds.{concat-append}
 use Rattle.paw_base.specs.declared.fault.SpentKind.TheVariants as spent
 use Rattle.paw_effects.specs.Story.{Story}
 use Rattle.paw_game.specs.Tables.{exit_at}
@@ -157,9 +158,9 @@ longer_reading g seed es fs p path r e =
     whole ∙ ap (on g p path) (sym apart) ∙ past_stays g r.pieces r.traces p path (with_lines fs (without_past r))
 
 past_text : (ps : List (List ℕ)) (ts : List (List Step)) (x : Ending) → x ≢ Unended →
-    text_of (ending_with_past ps ts x) ≡ flat_map (λ piece. piece) ps ++ text_of x
-past_text ps ts (WaitsAt p path r) h = flat_map-append (λ piece. piece) ps r.pieces
-past_text ps ts (Halted halt r) h = flat_map-append (λ piece. piece) ps r.pieces
+    text_of (ending_with_past ps ts x) ≡ concat ps ++ text_of x
+past_text ps ts (WaitsAt p path r) h = concat-append ps r.pieces
+past_text ps ts (Halted halt r) h = concat-append ps r.pieces
 past_text ps ts Unended h = absurd (h refl)
 
 -- and so has its text

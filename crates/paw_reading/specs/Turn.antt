@@ -1,6 +1,7 @@
 -- The turn, and the reading of a list of lines.
 use Rattle.std.specs.Prelude.{ℕ, zero, suc, ◌+◌, ◌-◌, ◌*◌, ◌/◌, ◌%◌, ◌==◌, Bool, true, false, List, [], ◌∷◌, ◌++◌}
-use Rattle.std.specs.Prelude.{Option, Some, None, length, map, sum_by, flat_map, nat_lt, min, if◌then◌else◌}
+use Rattle.std.specs.Prelude.{Option, Some, None, length, map, sum_by, nat_lt, min, if◌then◌else◌}
+use Rattle.std.specs.List.{concat}
 use Rattle.paw_base.specs.declared.flags.TheConstants.{VIEW_FLAG, DARK_VIEW_FLAG, UNLIT_VIEW_FLAG, FIRST_FRAME_FLAG}
 use Rattle.paw_base.specs.declared.flags.TheConstants.{LAST_FRAME_FLAG, DARK_FRAME_FLAG, UNLIT_FRAME_FLAG}
 use Rattle.paw_base.specs.declared.flags.TheConstants.{LOW_TURNS_FLAG, HIGH_TURNS_FLAG, VERB_FLAG, LOCATION_FLAG}
@@ -176,7 +177,7 @@ pieces_of Unended = []
 
 -- their text
 abbrev pub text_of : Ending → List ℕ
-text_of e = flat_map (λ piece. piece) (pieces_of e)
+text_of e = concat (pieces_of e)
 
 -- ---- going on ----
 
