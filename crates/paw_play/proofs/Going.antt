@@ -1,6 +1,7 @@
 -- Going on from a kept state is reading the longer list of lines.
-use Rattle.std.proofs.Common.{◌≡◌, ℕ, zero, suc, ◌+◌, ◌<◌, ◌≤◌, List, [], ◌∷◌, ◌++◌, Option, Some, None, refl, sym, ap, ◌∙◌, length, drop, append-nil, arith}
+use Rattle.std.proofs.Common.{◌≡◌, ℕ, zero, suc, ◌+◌, ◌<◌, ◌≤◌, List, [], ◌∷◌, ◌++◌, refl, sym, ap, ◌∙◌, length, drop, append-nil, arith}
 use Rattle.std.specs.Prelude.{◌-◌, replicate}
+use Rattle.std.specs.List.{concat}
 use Rattle.std.proofs.Math.Seq.{take-append_seam}
 use Rattle.sha2.specs.Sha256.{sha256}
 use Rattle.paw_game.specs.Game.{GameLists}
@@ -12,7 +13,7 @@ use Rattle.paw_effects.specs.declared.act.Prompt.TheVariants as prompt
 use Rattle.paw_reading.specs.declared.places.Frame.{Frame}
 use Rattle.paw_reading.specs.Run.{Run, Step}
 use Rattle.paw_reading.specs.Reading.{IsOver}
-use Rattle.paw_reading.specs.Turn.{Ending, WaitsAt, Halted, Unended, reading, on, run_of, pieces_of, text_of}
+use Rattle.paw_reading.specs.Turn.{Ending, WaitsAt, Halted, Unended, reading, on, pieces_of, text_of}
 use Rattle.paw_reading.specs.inner.GoingOn.{with_lines}
 use Rattle.paw_reading.specs.inner.Longer.{ending_with_past, with_past, without_past}
 use Rattle.paw_reading.specs.inner.Pieces.{Counted}
@@ -26,7 +27,6 @@ use Rattle.paw_state.specs.Fields.{state_bytes}
 use Rattle.paw_state.proofs.Lawful.{bytes_tell_the_state}
 use Rattle.paw_state.specs.Record.{last_piece, state_at}
 use Rattle.paw_play.specs.Session.{kept_bytes, IsKept}
-use Rattle.paw_play.specs.Walk.{joined}
 use Rattle.paw_play.specs.Stands.{Stands, since_piece, ending_since, reading_since}
 use Rattle.paw_play.specs.Play.{ShowsState, going_on}
 
@@ -77,7 +77,7 @@ module _ (n : ℕ) (ps : List (List ℕ)) (ts : List (List Step)) (all : length 
   since_past Unended = refl
 
 -- its text
-pub text_since_is : (n : ℕ) (e : Ending) → text_of (ending_since n e) ≡ joined (drop n (pieces_of (run_of e)))
+pub text_since_is : (n : ℕ) (e : Ending) → text_of (ending_since n e) ≡ concat (drop n (pieces_of e))
 text_since_is n (WaitsAt p path r) = refl
 text_since_is n (Halted halt r) = refl
 text_since_is zero Unended = refl
@@ -120,17 +120,18 @@ all_pieces : (n : ℕ) (ps : List (List ℕ)) (es : List (List ℕ)) → length 
 all_pieces n ps es count none = let c : length ps + length es ≡ suc n = count in omega (arith, rw none at c)
 
 -- what was read in the closed pieces
-abbrev traces_of : Option Run → List (List Step)
-traces_of None = []
-traces_of (Some r) = r.traces
+abbrev traces_of : Ending → List (List Step)
+traces_of (WaitsAt p path r) = r.traces
+traces_of (Halted halt r) = r.traces
+traces_of Unended = []
 
 module _ (g : Story) (seed : ℕ) (es fs : List (List ℕ)) where
   -- a reading that ended so ends with more lines as going on from its state and last piece does
   abbrev GoesOnFrom : Ending → State → List ℕ → Type 0
   GoesOnFrom e st piece =
-      (length (pieces_of (run_of e)) ≡ suc (length es)) × (length (traces_of (run_of e)) ≡ suc (length es)) × (x : Ending)
-      × (reading g seed (es ++ fs) ≡ ending_with_past (pieces_of (run_of e)) (traces_of (run_of e)) x)
-      × (going_on g st piece fs ≡ ending_with_past (last_piece (pieces_of (run_of e)) ∷ []) [] x)
+      (length (pieces_of e) ≡ suc (length es)) × (length (traces_of e) ≡ suc (length es)) × (x : Ending)
+      × (reading g seed (es ++ fs) ≡ ending_with_past (pieces_of e) (traces_of e) x)
+      × (going_on g st piece fs ≡ ending_with_past (last_piece (pieces_of e) ∷ []) [] x)
 
   waiting_goes : (p : Prompt) (path : List Frame) (r : Run) → reading g seed es ≡ WaitsAt p path r → Settles g.game (length es) p path r →
       Counted (length es) (WaitsAt p path r) → GoesOnFrom (WaitsAt p path r) (state_at (length es) p path r) (last_piece r.pieces)
@@ -184,6 +185,6 @@ module _ (g : Story) (seed : ℕ) (es fs : List (List ℕ)) where
       let e : Ending = reading g seed es in
       let goes = ended_goes e refl settled (pieces_of_lines g seed es) (sha256 (image g.game))
       (recover bytes) stands.keeps st piece v shows.keeps shows.fits shows.shown in
-      let ps : List (List ℕ) = pieces_of (run_of e) in
-      let ts : List (List Step) = traces_of (run_of e) in
+      let ps : List (List ℕ) = pieces_of e in
+      let ts : List (List Step) = traces_of e in
       (goes.0, goes.1.4 ∙ sym (ap (ending_since (length es)) goes.1.3 ∙ since_past (length es) ps ts goes.1.0 goes.1.1 goes.1.2))

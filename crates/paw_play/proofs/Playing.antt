@@ -3,6 +3,7 @@ use Rattle.std.proofs.Common.{◌≡◌, ◌≢◌, ℕ, zero, suc, ◌+◌, ◌
 use Rattle.std.proofs.Common.{length, take, drop, arith, append_assoc, inl, inr}
 use Rattle.std.proofs.lemmas.List.{append-nil, take-append-drop}
 use Rattle.std.specs.Prelude.{reverse}
+use Rattle.std.specs.List.{concat}
 use Rattle.paw_stage.specs.Disk.{MayLeave, IsStable}
 use Rattle.paw_stage.specs.Stage.{Standing, AsksTo}
 use Rattle.paw_stage.specs.Moments.{Moment, moment_of, InAsk, InShow}
@@ -22,7 +23,7 @@ use Rattle.paw_journal.specs.Journal.{IsWriting}
 use Rattle.paw_play.specs.declared.PlayEnd.{PlayEnd}
 use Rattle.paw_play.specs.declared.PlayEnd.TheVariants as end
 use Rattle.paw_play.specs.declared.TheConstants.{MOST_EVENTS}
-use Rattle.paw_play.specs.Walk.{first_lines, advanced, joined, Walks}
+use Rattle.paw_play.specs.Walk.{first_lines, advanced, Walks}
 use Rattle.paw_play.specs.Keeping.{IsPart, AgreesWith, KeepsUpWith, StaysAttached, KeepsAllButLast}
 use Rattle.paw_play.specs.Play.{PlayedSession, KeepsLines, KeptBy, InPlay, with_store, Uncommitted, PlaysOn}
 use Rattle.paw_play.specs.inner.Calls.{unless_ended}
@@ -53,7 +54,7 @@ whole_text s lines n text e = ([], append-nil text ∙ sym e)
 -- the text so far
 text_is : {F : Type 0} (g : Story) (s : PlayedSession) (first now : Standing) (seat : Seat F) (n : ℕ)
     (w : IsPlaying g s first now seat n) → IsSeated seat →
-    text_of (s.whole (first_lines n first.lines)) ≡ joined w.walking.pieces
+    text_of (s.whole (first_lines n first.lines)) ≡ concat w.walking.pieces
 text_is g s first now seat n w seated = text_so_far Plain g s.whole n (with_store now first) now seat w.walking seated
 
 asked_is : {F : Type 0} (g : Story) (s : PlayedSession) (first now : Standing) (seat : Seat F) (n : ℕ) → IsPlaying g s first now seat n
@@ -61,15 +62,15 @@ asked_is : {F : Type 0} (g : Story) (s : PlayedSession) (first now : Standing) (
 asked_is g s first now seat n w = ap (λ (q : Standing). q.asked) w.walking.stands
 
 shown_is : {F : Type 0} (g : Story) (s : PlayedSession) (first now : Standing) (seat : Seat F) (n : ℕ)
-    (w : IsPlaying g s first now seat n) → now.shown ≡ first.shown ++ joined w.walking.pieces
+    (w : IsPlaying g s first now seat n) → now.shown ≡ first.shown ++ concat w.walking.pieces
 shown_is g s first now seat n w = ap (λ (q : Standing). q.shown) w.walking.stands
 
 agrees_now : {F : Type 0} (g : Story) (s : PlayedSession) (first now : Standing) (seat : Seat F) (n : ℕ)
     (w : IsPlaying g s first now seat n) → IsSeated seat → (image : List ℕ) → MayLeave now.disk image →
-    Agrees s first.lines n (joined w.walking.pieces) image
+    Agrees s first.lines n (concat w.walking.pieces) image
 agrees_now g s first now seat n w seated image may = (
   subst (λ b. KeepsLines s first.lines n (recover b)) (sym (stable_leaves now.disk image w.rests.stable may)) w.rests.keeps,
-  whole_text s first.lines n (joined w.walking.pieces) (text_is g s first now seat n w seated),
+  whole_text s first.lines n (concat w.walking.pieces) (text_is g s first now seat n w seated),
 )
 
 -- at a prompt
@@ -77,7 +78,7 @@ pub at_prompt : {F : Type 0} (g : Story) (s : PlayedSession) (first now : Standi
     IsPlaying g s first now seat n → IsSeated seat → InPlay s first (moment_of now)
 at_prompt g s first now seat n w seated = record {
   taken = n;
-  text = joined w.walking.pieces;
+  text = concat w.walking.pieces;
   last = w.last;
   there = w.walking.there;
   few = w.rests.few;
@@ -86,7 +87,7 @@ at_prompt g s first now seat n w seated = record {
   before = sym (text_is g s first now seat n w seated) ∙ w.grown;
   attached = w.rests.attached;
   files = w.rests.others;
-  leaves = λ image may. keeps_all s first.lines n (joined w.walking.pieces) image (agrees_now g s first now seat n w seated image may);
+  leaves = λ image may. keeps_all s first.lines n (concat w.walking.pieces) image (agrees_now g s first now seat n w seated image may);
 }
 
 -- inside an ask that takes a line
@@ -95,7 +96,7 @@ line_asked : {F : Type 0} (g : Story) (s : PlayedSession) (first now : Standing)
     InPlay s first (record (moment_of now) { asked = now.asked + 1 })
 line_asked g s first now seat n w seated there few = record {
   taken = suc n;
-  text = joined w.walking.pieces;
+  text = concat w.walking.pieces;
   last = [];
   there = there;
   few = few;
@@ -167,7 +168,7 @@ module _ {F : Type 0} {g : Story} {s : PlayedSession} {most n events : ℕ} {fir
   machine_stands : StandsClosed found next.machine
   machine_stands = subst (λ q. StandsClosed q next.machine) t.last t.then_seated.machine
 
-  text_more : text_of (s.whole (first_lines (suc n) first.lines)) ≡ joined w.walking.pieces ++ next.piece
+  text_more : text_of (s.whole (first_lines (suc n) first.lines)) ≡ concat w.walking.pieces ++ next.piece
   text_more = ap text_of whole_is ∙ text_shown Plain g _ found next w.walking.pieces w.walking.traces tt t.shows machine_stands t.plays
 
   -- the session that is committed keeps them
@@ -185,7 +186,7 @@ module _ {F : Type 0} {g : Story} {s : PlayedSession} {most n events : ℕ} {fir
   asked_more : mid.asked ≡ first.asked + suc n
   asked_more = let a = asked_is g s first now seat n w in let b = ap (λ (q : Standing). q.asked) t.took in omega (arith, a, b)
 
-  shown_so_far : mid.shown ≡ first.shown ++ joined w.walking.pieces
+  shown_so_far : mid.shown ≡ first.shown ++ concat w.walking.pieces
   shown_so_far = ap (λ (q : Standing). q.shown) t.took ∙ shown_is g s first now seat n w
 
   attached_still : mid.attached ≡ Some s.name
@@ -206,7 +207,7 @@ module _ {F : Type 0} {g : Story} {s : PlayedSession} {most n events : ℕ} {fir
       (Shown (kept_digest mid.disk.bytes) (seat_state events next) next.piece))) m → InPlay s first m
   in_commit m i = record {
     taken = suc n;
-    text = joined w.walking.pieces;
+    text = concat w.walking.pieces;
     last = [];
     there = there;
     few = all_few;
@@ -219,7 +220,7 @@ module _ {F : Type 0} {g : Story} {s : PlayedSession} {most n events : ℕ} {fir
       | inl e ↦ inr (
         subst (λ r. KeepsLines s first.lines n r) (sym e) before_it,
         whole_text s first.lines n
-            (joined w.walking.pieces) (text_is g s first now seat n w t.seated),
+            (concat w.walking.pieces) (text_is g s first now seat n w t.seated),
       )
       | inr e ↦ inl (
         subst (λ r. KeepsLines s first.lines (suc n) r)
@@ -260,9 +261,9 @@ module _ {F : Type 0} {g : Story} {s : PlayedSession} {most n events : ℕ} {fir
       n,
       t.few,
       there,
-      stands_after (with_store kept first) (with_store kept now) kept kept n (joined w.walking.pieces) [] line walking_with.stands
+      stands_after (with_store kept first) (with_store kept now) kept kept n (concat w.walking.pieces) [] line walking_with.stands
           (t.lines ∙ ap (λ xs. line ∷ xs) (sym beside.lines)) kept_is (shown_nothing kept)
-          ∙ ap (advanced (with_store kept first) (suc n)) (append-nil (joined w.walking.pieces) ∙ sym (text_is g s first now seat n w t.seated)),
+          ∙ ap (advanced (with_store kept first) (suc n)) (append-nil (concat w.walking.pieces) ∙ sym (text_is g s first now seat n w t.seated)),
     )
 
     -- it leaves the store attached, and no other file has changed
@@ -295,13 +296,13 @@ module _ {F : Type 0} {g : Story} {s : PlayedSession} {most n events : ℕ} {fir
       pub in_show : (m : Moment) → InShow kept next.piece m → InPlay s first m
       in_show m i = subst (InPlay s first) (sym i.1) (record {
         taken = suc n;
-        text = joined w.walking.pieces ++ take i.0 next.piece;
+        text = concat w.walking.pieces ++ take i.0 next.piece;
         last = take i.0 next.piece;
         there = there;
         few = all_few;
         asked = beside.asked ∙ asked_more;
         shown = ap (λ x. x ++ take i.0 next.piece) (beside.shown ∙ shown_so_far)
-            ∙ append_assoc first.shown (joined w.walking.pieces) (take i.0 next.piece);
+            ∙ append_assoc first.shown (concat w.walking.pieces) (take i.0 next.piece);
         before = ap (λ x. x ++ take i.0 next.piece) (sym (text_is g s first now seat n w t.seated));
         attached = rests.attached;
         files = rests.others;
@@ -309,8 +310,8 @@ module _ {F : Type 0} {g : Story} {s : PlayedSession} {most n events : ℕ} {fir
           subst (λ b. KeepsLines s first.lines (suc n) (recover b)) (sym (stable_leaves kept.disk image rests.stable may)) rests.keeps,
           (
             drop i.0 next.piece,
-            append_assoc (joined w.walking.pieces) (take i.0 next.piece) (drop i.0 next.piece)
-                ∙ ap (λ x. joined w.walking.pieces ++ x) (take-append-drop i.0 next.piece) ∙ sym text_more,
+            append_assoc (concat w.walking.pieces) (take i.0 next.piece) (drop i.0 next.piece)
+                ∙ ap (λ x. concat w.walking.pieces ++ x) (take-append-drop i.0 next.piece) ∙ sym text_more,
           ),
         );
       })

@@ -1,9 +1,10 @@
 -- What a walk tells of pieces: each as it is, or behind the text of its steps.
 use Rattle.std.proofs.Common.{◌≡◌, ℕ, zero, suc, List, [], ◌∷◌, ◌++◌, None, refl, sym, ap, ◌∙◌}
 use Rattle.std.proofs.Common.{length, take, arith, append_assoc, length-append}
-use Rattle.std.proofs.lemmas.Grind.{flat_map-append}
+use Rattle.std.proofs.lemmas.List.Folds.{concat-append}
 use Rattle.std.proofs.lemmas.List.{append-nil}
 use Rattle.std.specs.Prelude.{◌-◌, flat_map}
+use Rattle.std.specs.List.{concat}
 use Rattle.paw_base.specs.Steps.{KeptSteps}
 use Rattle.paw_base.specs.inner.Steps.{kept_steps}
 use Rattle.paw_stage.specs.Stage.{Standing, ShowsPart, with_shown}
@@ -16,7 +17,6 @@ use Rattle.paw_reading.specs.Turn.{WaitsAt, Halted}
 use Rattle.paw_turn.specs.inner.Player.{Seat, run_at}
 use Rattle.paw_turn.specs.declared.Step.{Step}
 use Rattle.paw_turn.specs.declared.Step.TheVariants as step
-use Rattle.paw_play.specs.Walk.{joined}
 use Rattle.paw_play.specs.Traces.{step_line, more_line, steps_text, traced_pieces}
 use Rattle.paw_play.specs.inner.Telling.{Telling, Plain, Stepped, kept_text, seat_text, HaveSteps}
 use Rattle.paw_play.specs.inner.Telling.{told_pieces, told_run, told_ending}
@@ -24,8 +24,8 @@ use Rattle.paw_play.specs.inner.OnTheWay.{ShowsPiece, refusal_of}
 
 -- ---- texts ----
 
-joined_more : (pieces : List (List ℕ)) (piece : List ℕ) → joined (pieces ++ piece ∷ []) ≡ joined pieces ++ piece
-joined_more pieces piece = flat_map-append (λ p. p) pieces (piece ∷ []) ∙ ap (λ t. joined pieces ++ t) (append-nil piece)
+joined_more : (pieces : List (List ℕ)) (piece : List ℕ) → concat (pieces ++ piece ∷ []) ≡ concat pieces ++ piece
+joined_more pieces piece = concat-append pieces (piece ∷ []) ∙ ap (λ t. concat pieces ++ t) (append-nil piece)
 
 take_twice : (n : ℕ) (xs : List Read) → take n (take n xs) ≡ take n xs
 take_twice zero xs = refl
@@ -49,11 +49,11 @@ traced_more (p ∷ pieces) (t ∷ traces) piece steps each =
 -- one piece more of a player
 pub pieces_more : {F : Type 0} (telling : Telling) (next : Seat F) (pieces : List (List ℕ)) (traces : List (List Read)) (steps : List Read) →
     HaveSteps telling pieces traces → next.machine.steps ≡ kept_steps steps →
-    joined (told_pieces telling (pieces ++ next.piece ∷ []) (traces ++ steps ∷ [])) ≡ joined (told_pieces telling pieces traces) ++ seat_text telling next
+    concat (told_pieces telling (pieces ++ next.piece ∷ []) (traces ++ steps ∷ [])) ≡ concat (told_pieces telling pieces traces) ++ seat_text telling next
 pieces_more Plain next pieces traces steps each kept = joined_more pieces next.piece
 pieces_more Stepped next pieces traces steps each kept =
-    ap joined (traced_more pieces traces next.piece steps each) ∙ joined_more (traced_pieces pieces traces) (steps_text steps ++ next.piece)
-    ∙ ap (λ t. joined (traced_pieces pieces traces) ++ (t ++ next.piece)) (sym (kept_told next.machine.steps steps kept))
+    ap concat (traced_more pieces traces next.piece steps each) ∙ joined_more (traced_pieces pieces traces) (steps_text steps ++ next.piece)
+    ∙ ap (λ t. concat (traced_pieces pieces traces) ++ (t ++ next.piece)) (sym (kept_told next.machine.steps steps kept))
 
 -- and it has its steps
 pub steps_more : (telling : Telling) (pieces : List (List ℕ)) (traces : List (List Read)) (piece : List ℕ) (steps : List Read) →
@@ -62,7 +62,7 @@ steps_more Plain pieces traces piece steps each = tt
 steps_more Stepped pieces traces piece steps each = omega (arith, length-append traces (steps ∷ []), length-append pieces (piece ∷ []), each)
 
 -- before the first piece there is none to tell
-pub told_none : (telling : Telling) → joined (told_pieces telling [] []) ≡ []
+pub told_none : (telling : Telling) → concat (told_pieces telling [] []) ≡ []
 told_none Plain = refl
 told_none Stepped = refl
 
@@ -88,15 +88,15 @@ same_lines Stepped r = refl
 
 -- the closed pieces of a run with these, as they are told
 pub told_is : (telling : Telling) (r : Run) (pieces : List (List ℕ)) (traces : List (List Read)) → r.pieces ≡ pieces → r.traces ≡ traces →
-    joined (told_run telling r).pieces ≡ joined (told_pieces telling pieces traces)
-told_is Plain r pieces traces e f = ap joined e
-told_is Stepped r pieces traces e f = ap (λ ps. joined (traced_pieces ps r.traces)) e ∙ ap (λ ts. joined (traced_pieces pieces ts)) f
+    concat (told_run telling r).pieces ≡ concat (told_pieces telling pieces traces)
+told_is Plain r pieces traces e f = ap concat e
+told_is Stepped r pieces traces e f = ap (λ ps. concat (traced_pieces ps r.traces)) e ∙ ap (λ ts. concat (traced_pieces pieces ts)) f
 
 -- the text of a player's last piece comes last
 pub told_more : {F : Type 0} (telling : Telling) (next : Seat F) (pieces : List (List ℕ)) (traces : List (List Read)) (steps : List Read) →
     HaveSteps telling pieces traces → next.machine.steps ≡ kept_steps steps →
-    joined (told_run telling (run_at next (pieces ++ next.piece ∷ []) (traces ++ steps ∷ []) [])).pieces
-    ≡ joined (told_pieces telling pieces traces) ++ seat_text telling next
+    concat (told_run telling (run_at next (pieces ++ next.piece ∷ []) (traces ++ steps ∷ []) [])).pieces
+    ≡ concat (told_pieces telling pieces traces) ++ seat_text telling next
 told_more telling next pieces traces steps each kept =
     told_is telling (run_at next (pieces ++ next.piece ∷ []) (traces ++ steps ∷ []) []) (pieces ++ next.piece ∷ []) (traces ++ steps ∷ []) refl refl
     ∙ pieces_more telling next pieces traces steps each kept

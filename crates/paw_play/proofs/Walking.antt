@@ -3,6 +3,7 @@ use Rattle.std.proofs.Common.{◌≡◌, ℕ, zero, suc, ◌+◌, ◌≤◌, ◌
 use Rattle.std.proofs.Common.{arith, append_assoc, length-append}
 use Rattle.std.proofs.lemmas.List.{append-nil, length-reverse, take-append-drop}
 use Rattle.std.specs.Prelude.{reverse}
+use Rattle.std.specs.List.{concat}
 use Rattle.paw_stage.specs.Stage.{Standing}
 use Rattle.paw_effects.specs.declared.act.Prompt.{Prompt}
 use Rattle.paw_effects.specs.declared.act.Prompt.TheVariants as prompt
@@ -19,7 +20,7 @@ use Rattle.paw_turn.specs.declared.Step.TheVariants as step
 use Rattle.paw_play.specs.declared.PlayEnd.{PlayEnd}
 use Rattle.paw_play.specs.declared.PlayEnd.TheVariants as end
 use Rattle.paw_stage.specs.declared.StageCall.TheVariants as call
-use Rattle.paw_play.specs.Walk.{EndingOf, first_lines, advanced, text_before, Reads, ReadsPart, WalkHalts, joined}
+use Rattle.paw_play.specs.Walk.{EndingOf, first_lines, advanced, text_before, ReadsPart, WalkWaits, WalkHalts}
 use Rattle.paw_play.specs.inner.Telling.{Telling, seat_text, told_pieces, HaveSteps, told_run, told_ending, told_as}
 use Rattle.paw_play.specs.inner.OnTheWay.{IsWalking, ShowsPiece, Told, WalksTo}
 use Rattle.paw_play.proofs.Telling.{pieces_more, told_more, steps_more, told_none, steps_none, waits_told, halts_told, same_lines, told_is}
@@ -106,7 +107,7 @@ on_waits g prompt.Over m r h = absurd h
 -- what was read of the lines so far waits, and its text was shown
 waiting : {F : Type 0} (telling : Telling) (g : Story) (whole : EndingOf) (n : ℕ) (first now : Standing) (seat : Seat F) →
     IsWalking telling g whole first now seat n → IsSeated seat →
-    (p : Prompt) × (path : List Frame) × (r : Run) × Reads (told_as telling whole) first now n (WaitsAt p path r)
+    WalkWaits (told_as telling whole) first now n
 waiting telling g whole n first now seat w seated =
     let stands : StandsAt w.prompt seat.machine = subst (λ s. StandsClosed s seat.machine) w.waits seated.machine in
     let path : List Frame = reverse seat.machine.frames in
@@ -125,7 +126,7 @@ waiting telling g whole n first now seat w seated =
 -- the text of what was read of the lines so far
 pub text_so_far : {F : Type 0} (telling : Telling) (g : Story) (whole : EndingOf) (n : ℕ) (first now : Standing) (seat : Seat F)
     (w : IsWalking telling g whole first now seat n) → IsSeated seat →
-    text_of (told_as telling whole (first_lines n first.lines)) ≡ joined (told_pieces telling w.pieces w.traces)
+    text_of (told_as telling whole (first_lines n first.lines)) ≡ concat (told_pieces telling w.pieces w.traces)
 unfolding waiting
 text_so_far telling g whole n first now seat w seated =
     ap text_of (waiting telling g whole n first now seat w seated).3.reading
@@ -135,7 +136,7 @@ text_so_far telling g whole n first now seat w seated =
 pub text_shown : {F : Type 0} (telling : Telling) (g : Story) (whole : EndingOf) (s : Step) (next : Seat F)
     (pieces : List (List ℕ)) (traces : List (List Read)) → HaveSteps telling pieces traces → ShowsPiece s → StandsClosed s next.machine →
     PlaysTo g whole s next pieces traces →
-    text_of (told_as telling whole []) ≡ joined (told_pieces telling pieces traces) ++ seat_text telling next
+    text_of (told_as telling whole []) ≡ concat (told_pieces telling pieces traces) ++ seat_text telling next
 text_shown telling g whole (step.Waits p) next pieces traces each h m plays =
     let r : Run = run_at next (pieces ++ next.piece ∷ []) (traces ++ plays.0 ∷ []) [] in
     ap (λ e. text_of (told_ending telling e)) (plays.1.1 [] ∙ on_waits g p next.machine r m)
@@ -157,9 +158,9 @@ module _ {F : Type 0} (telling : Telling) (g : Story) (whole after : EndingOf) (
     (pieces : List (List ℕ)) (traces : List (List Read)) (each : HaveSteps telling pieces traces)
     (last : next.last ≡ s) (seated : IsSeated next) (there : n ≤ length first.lines)
     (whole_after : (more : List (List ℕ)) → whole (first_lines n first.lines ++ more) ≡ after more)
-    (earlier : text_before (told_as telling whole) first.lines n ≡ joined (told_pieces telling pieces traces))
+    (earlier : text_before (told_as telling whole) first.lines n ≡ concat (told_pieces telling pieces traces))
     (stands_with : (part : List ℕ) → new ≡ record mid { shown = mid.shown ++ part } →
-    new ≡ advanced first n (joined (told_pieces telling pieces traces) ++ part))
+    new ≡ advanced first n (concat (told_pieces telling pieces traces) ++ part))
     (plays : PlaysTo g after s next pieces traces) where
   read_all : whole (first_lines n first.lines) ≡ after []
   read_all = ap whole (sym (append-nil (first_lines n first.lines))) ∙ whole_after []
@@ -168,13 +169,13 @@ module _ {F : Type 0} (telling : Telling) (g : Story) (whole after : EndingOf) (
   shown_part : ShowsPiece s → 0 < length (seat_text telling next) → (m : ℕ) →
       new ≡ record mid { shown = mid.shown ++ take m (seat_text telling next) } → ReadsPart (told_as telling whole) first new n
   shown_part shows some m e = record {
-    shown = joined (told_pieces telling pieces traces) ++ take m (seat_text telling next);
+    shown = concat (told_pieces telling pieces traces) ++ take m (seat_text telling next);
     rest = drop m (seat_text telling next);
-    part = append_assoc (joined (told_pieces telling pieces traces)) (take m (seat_text telling next)) (drop m (seat_text telling next))
-        ∙ ap (λ t. joined (told_pieces telling pieces traces) ++ t) (take-append-drop m (seat_text telling next)) ∙ sym all;
+    part = append_assoc (concat (told_pieces telling pieces traces)) (take m (seat_text telling next)) (drop m (seat_text telling next))
+        ∙ ap (λ t. concat (told_pieces telling pieces traces) ++ t) (take-append-drop m (seat_text telling next)) ∙ sym all;
     last = take m (seat_text telling next);
     before = ap (λ t. t ++ take m (seat_text telling next)) (sym earlier);
-    grows = omega (arith, some, ap length earlier, ap length all ∙ length-append (joined (told_pieces telling pieces traces)) (seat_text telling next));
+    grows = omega (arith, some, ap length earlier, ap length all ∙ length-append (concat (told_pieces telling pieces traces)) (seat_text telling next));
     there = there;
     stands = stands_with (take m (seat_text telling next)) e;
   }
@@ -182,7 +183,7 @@ module _ {F : Type 0} (telling : Telling) (g : Story) (whole after : EndingOf) (
       machine_stands : StandsClosed s next.machine
       machine_stands = subst (λ q. StandsClosed q next.machine) last seated.machine
 
-      all : text_of (told_as telling whole (first_lines n first.lines)) ≡ joined (told_pieces telling pieces traces) ++ seat_text telling next
+      all : text_of (told_as telling whole (first_lines n first.lines)) ≡ concat (told_pieces telling pieces traces) ++ seat_text telling next
       all = ap (λ e. text_of (told_ending telling e)) read_all ∙ text_shown telling g after s next pieces traces each shows machine_stands plays
 
   -- the reading has ended for good, and no more was shown
@@ -198,7 +199,7 @@ module _ {F : Type 0} (telling : Telling) (g : Story) (whole after : EndingOf) (
           reading = ap (told_ending telling) (read_all ∙ e.1) ∙ halts_told telling halt e.0;
           there = there;
           stands = stands_with [] (same ∙ shown_nothing mid)
-              ∙ ap (advanced first n) (append-nil (joined (told_pieces telling pieces traces)) ∙ sym (told_is telling e.0 pieces traces e.2 e.3));
+              ∙ ap (advanced first n) (append-nil (concat (told_pieces telling pieces traces)) ∙ sym (told_is telling e.0 pieces traces e.2 e.3));
         },
       )
 
@@ -271,34 +272,33 @@ walks_on telling g whole most n first now mid new seat next given line s o w few
     (one_more telling g whole n first now mid seat given line w lines cut)
     (whole_after telling g whole n first now mid seat given line w lines cut)
     (text_so_far telling g whole n first now seat w seated)
-    (λ part e. stands_after first now mid new n (joined (told_pieces telling w.pieces w.traces)) part line w.stands lines took e)
+    (λ part e. stands_after first now mid new n (concat (told_pieces telling w.pieces w.traces)) part line w.stands lines took e)
     plays most (omega (arith, few)) o told
 
 module _ {F : Type 0} (telling : Telling) (g : Story) (whole : EndingOf) (most n : ℕ) (first now new : Standing) (seat : Seat F)
     (w : IsWalking telling g whole first now seat n) (seated : IsSeated seat) where
   -- no line is left
   pub none_left : n < most → (now.lines ≡ []) × (new ≡ now) →
-      (length first.lines < most) × (p : Prompt) × (path : List Frame) × (r : Run)
-      × Reads (told_as telling whole) first new (length first.lines) (WaitsAt p path r)
+      (length first.lines < most) × WalkWaits (told_as telling whole) first new (length first.lines)
   none_left few e =
       let all : n ≡ length first.lines = drop_all first.lines n (ap (λ (q : Standing). q.lines) (sym w.stands) ∙ e.0) w.there in
       let at = waiting telling g whole n first now seat w seated in
-      (omega (arith, all, few), at.0, at.1, at.2, rw (← all, e.1) at.3)
+      (omega (arith, all, few), (at.0, at.1, at.2, rw (← all, e.1) at.3))
 
   -- the lines can't be asked for
   pub none_asked : n < most → new ≡ now →
-      (m : ℕ) × (m < most) × (p : Prompt) × (path : List Frame) × (r : Run) × Reads (told_as telling whole) first new m (WaitsAt p path r)
+      (m : ℕ) × (m < most) × WalkWaits (told_as telling whole) first new m
   none_asked few e =
       let at = waiting telling g whole n first now seat w seated in
-      (n, few, at.0, at.1, at.2, rw e at.3)
+      (n, few, (at.0, at.1, at.2, rw e at.3))
 
 -- all the lines that a session may have were taken
 pub long_walk : {F : Type 0} (telling : Telling) (g : Story) (whole : EndingOf) (most n : ℕ) (first now : Standing) (seat : Seat F) →
     IsWalking telling g whole first now seat n → IsSeated seat → n ≡ most →
-    (1000000000 ≡ MOST_EVENTS) × (p : Prompt) × (path : List Frame) × (r : Run) × Reads (told_as telling whole) first now most (WaitsAt p path r)
+    (1000000000 ≡ MOST_EVENTS) × WalkWaits (told_as telling whole) first now most
 long_walk telling g whole most n first now seat w seated all =
     let at = waiting telling g whole n first now seat w seated in
-    (refl, at.0, at.1, at.2, rw (← all) at.3)
+    (refl, (at.0, at.1, at.2, rw (← all) at.3))
 
 -- ---- the first piece ----
 

@@ -2,7 +2,7 @@
 use Rattle.std.specs.Prelude.{◌≡◌, ℕ, List, []}
 use Rattle.paw_effects.specs.declared.act.Prompt.TheVariants as prompt
 use Rattle.paw_reading.specs.Reading.{IsOver}
-use Rattle.paw_reading.specs.Turn.{Ending, WaitsAt, Halted, run_of, pieces_of}
+use Rattle.paw_reading.specs.Turn.{Ending, WaitsAt, Halted, pieces_of}
 use Rattle.paw_journal.specs.Session.{Recovered, Shown}
 use Rattle.paw_state.specs.State.{State}
 use Rattle.paw_state.specs.Fields.{state_bytes}
@@ -28,4 +28,4 @@ IsPlayed _ = ⊥
 -- and the last piece
 pub record IsKept (digest : List ℕ) (events : ℕ) (e : Ending) (r : Recovered) : Type 0 where
   pub played : IsPlayed e
-  pub shown : r ≡ Shown digest (state_after events e) (last_piece (pieces_of (run_of e)))
+  pub shown : r ≡ Shown digest (state_after events e) (last_piece (pieces_of e))

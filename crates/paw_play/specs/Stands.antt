@@ -1,15 +1,16 @@
 -- What the bytes of a store stand for, and a reading told from one of its pieces on.
 use Rattle.std.specs.Prelude.{ℕ, suc, ◌^◌, ◌<◌, ◌≤◌, List, ◌++◌, length, drop, All}
+use Rattle.std.specs.List.{concat}
 use Rattle.sha2.specs.Sha256.{sha256}
 use Rattle.paw_effects.specs.Story.{Story}
 use Rattle.paw_game.specs.Image.{image}
 use Rattle.paw_reading.specs.Run.{Run}
-use Rattle.paw_reading.specs.Turn.{Ending, WaitsAt, Halted, Unended, reading, run_of, pieces_of}
+use Rattle.paw_reading.specs.Turn.{Ending, WaitsAt, Halted, Unended, reading, pieces_of}
 use Rattle.paw_reading.specs.Bounds.{IsLine, ValidStory}
 use Rattle.paw_journal.specs.Session.{recover}
 use Rattle.paw_play.specs.declared.TheConstants.{MOST_EVENTS}
 use Rattle.paw_play.specs.Session.{IsKept}
-use Rattle.paw_play.specs.Walk.{EndingOf, first_lines, joined}
+use Rattle.paw_play.specs.Walk.{EndingOf, first_lines}
 
 -- The bytes of a store stand for these lines of a game that was begun with this seed: a session has room for them, and
 -- it keeps the reading of them all
@@ -30,7 +31,7 @@ StandsFor g seed es lines n bytes = Stands g seed (es ++ first_lines n lines) by
 -- the text of these, from the last piece of es on
 abbrev pub text_since : Story → ℕ → List (List ℕ) → List (List ℕ) → ℕ → List ℕ
 text_since g seed es lines n =
-    joined (drop (length es) (pieces_of (run_of (reading g seed (es ++ first_lines n lines)))))
+    concat (drop (length es) (pieces_of (reading g seed (es ++ first_lines n lines))))
 
 -- ---- a reading from one of its pieces on ----
 

@@ -1,6 +1,6 @@
 -- What a trace shows: before each piece the steps of that piece.
-use Rattle.std.specs.Prelude.{ℕ, zero, suc, ◌-◌, Bool, true, false, List, [], ◌∷◌, ◌++◌, length, take, codes, decimal}
-use Rattle.std.specs.Prelude.{flat_map}
+use Rattle.std.specs.Prelude.{ℕ, zero, suc, ◌-◌, Bool, List, [], ◌∷◌, ◌++◌, length, take, codes, decimal}
+use Rattle.std.specs.Prelude.{flat_map, if◌then◌else◌}
 use Rattle.paw_base.specs.Condacts.{name_of}
 use Rattle.paw_base.specs.declared.limits.TheConstants.{STEP_LIMIT}
 use Rattle.paw_reading.specs.Run.{Run, Step}
@@ -15,8 +15,7 @@ place_text table entry at = decimal table ++ (codes "." ++ (decimal entry ++ (co
 
 -- no stands for a condition that failed
 abbrev pub answer_text : Bool → List ℕ
-answer_text true = codes " yes\n"
-answer_text false = codes " no\n"
+answer_text passed = if passed then codes " yes\n" else codes " no\n"
 
 -- the line of a step, as 1.0.0 LISTOBJ yes
 abbrev pub step_line : Step → List ℕ

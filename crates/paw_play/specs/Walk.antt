@@ -1,5 +1,5 @@
 -- What taking lines and showing pieces comes to.
-use Rattle.std.specs.Prelude.{◌≡◌, ℕ, zero, suc, ◌+◌, ◌<◌, ◌≤◌, List, [], ◌++◌, length, take, drop, map, flat_map}
+use Rattle.std.specs.Prelude.{◌≡◌, ℕ, zero, suc, ◌+◌, ◌<◌, ◌≤◌, List, [], ◌++◌, length, take, drop, map}
 use Rattle.paw_stage.specs.Stage.{Standing}
 use Rattle.paw_stage.specs.declared.StageCall.TheVariants as call
 use Rattle.paw_effects.specs.declared.act.Prompt.{Prompt}
@@ -18,10 +18,6 @@ EndingOf = List (List ℕ) → Ending
 -- the first n lines, each cut to its first 255 bytes
 abbrev pub first_lines : ℕ → List (List ℕ) → List (List ℕ)
 first_lines n lines = map (take 255) (take n lines)
-
--- all pieces as one text
-abbrev pub joined : List (List ℕ) → List ℕ
-joined pieces = flat_map (λ piece. piece) pieces
 
 -- n lines more were taken, and this text was shown besides; all else stands as it was
 abbrev pub advanced : Standing → ℕ → List ℕ → Standing
@@ -55,6 +51,10 @@ pub record ReadsPart (whole : EndingOf) (old new : Standing) (n : ℕ) : Type 0 
   pub there : n ≤ length old.lines
   pub stands : new ≡ advanced old n shown
 
+-- n lines were taken, and the reading of them waits
+abbrev pub WalkWaits : EndingOf → Standing → Standing → ℕ → Type 0
+WalkWaits whole old new n = (p : Prompt) × (path : List Frame) × (r : Run) × Reads whole old new n (WaitsAt p path r)
+
 -- so many lines were taken, of which the last ended the reading so for good
 abbrev pub WalkHalts : EndingOf → ℕ → Standing → Standing → Halt → Type 0
 WalkHalts whole most old new halt =
@@ -64,16 +64,11 @@ WalkHalts whole most old new halt =
 -- only where fewer than the most were taken, so where the player still waits after that many the walk is Long.
 abbrev pub Walks : EndingOf → ℕ → Standing → Standing → PlayEnd → Type 0
 Walks whole most old new end.Ended = WalkHalts whole most old new IsOver
-Walks whole most old new end.InputEnded =
-    (length old.lines < most) × (p : Prompt) × (path : List Frame) × (r : Run)
-    × Reads whole old new (length old.lines) (WaitsAt p path r)
+Walks whole most old new end.InputEnded = (length old.lines < most) × WalkWaits whole old new (length old.lines)
 Walks whole most old new (end.Spent kind) = WalkHalts whole most old new (RunsOut kind)
 Walks whole most old new (end.TooDeep table) = WalkHalts whole most old new (CallsTooDeep table)
-Walks whole most old new (end.Long events) =
-    (events ≡ MOST_EVENTS) × (p : Prompt) × (path : List Frame) × (r : Run)
-    × Reads whole old new most (WaitsAt p path r)
-Walks whole most old new (end.Outside call.Ask) =
-    (n : ℕ) × (n < most) × (p : Prompt) × (path : List Frame) × (r : Run) × Reads whole old new n (WaitsAt p path r)
+Walks whole most old new (end.Long events) = (events ≡ MOST_EVENTS) × WalkWaits whole old new most
+Walks whole most old new (end.Outside call.Ask) = (n : ℕ) × (n < most) × WalkWaits whole old new n
 Walks whole most old new (end.Outside call.Show) = (n : ℕ) × (n ≤ most) × ReadsPart whole old new n
 Walks whole most old new end.Memory = new ≡ old
 Walks whole most old new _ = ⊥

@@ -26,8 +26,9 @@ use Rattle.paw_effects.specs.Texts.{put_text}
 use Rattle.paw_reading.specs.declared.places.Frame.{Frame}
 use Rattle.paw_reading.specs.declared.places.OpenLoop.{OpenLoop}
 use Rattle.paw_reading.specs.Run.{Run, Step, closed, with_world}
-use Rattle.paw_reading.specs.Reading.{RunsOut, Out, halts, step_at, noted, printing, waits, tests}
-use Rattle.paw_reading.specs.Reading.{acts, parses, carried_out, after_action, loop_of, deeper}
+use Rattle.paw_reading.specs.Reading.{RunsOut, Out, halts, step_at, noted, printing, waits}
+use Rattle.paw_reading.specs.Reading.{acts, carried_out, after_action, loop_of, deeper}
+use Rattle.paw_reading.specs.inner.Steps.{tests, parses}
 use Rattle.paw_reading.specs.GoingOn.{on_path}
 use Rattle.paw_reading.specs.inner.GoingOn.{along}
 use Rattle.paw_process.specs.OpenTables.{OpenTables}

@@ -21,10 +21,11 @@ use Rattle.paw_reading.specs.Run.{reply, is_yes, is_no, taken_phrase}
 use Rattle.paw_reading.specs.Reading.{IsOver, RunsOut, Redescribes, Restarts, Halts, Out, Left, Waits, Stopped, halts, noted, after_call}
 use Rattle.paw_reading.specs.Reading.{at_level, again, is_taken, taken, turns, loop_of, over, answered, asked, waits, after_test}
 use Rattle.paw_reading.specs.Reading.{after_parse, after_action, carried_out, acts, reads_one, plain, looped, reads, called, deeper, rest}
-use Rattle.paw_reading.specs.Reading.{table_read, coming_phrase, goodbye, game_over, quit_question}
+use Rattle.paw_reading.specs.Reading.{table_read, coming_phrase, game_over}
 use Rattle.paw_reading.specs.Turn.{TurnStage, AtDescribe, AtFrame, AtPhrase, AtResponse, Ending, Halted, saying, described, framed}
-use Rattle.paw_reading.specs.Turn.{view_text, counted, prompt_text, line_set, at_main, after_phrase, refusal_text, connected, after_left}
-use Rattle.paw_reading.specs.Turn.{table_done, turn, stages_left, opening, timeout_text, unknown_text}
+use Rattle.paw_reading.specs.Turn.{view_text, counted, prompt_text, at_main, after_phrase, refusal_text, connected, after_left}
+use Rattle.paw_reading.specs.Turn.{table_done, turn, stages_left, opening, timeout_text}
+use Rattle.paw_reading.specs.inner.Steps.{goodbye, quit_question, line_set, unknown_text}
 use Rattle.paw_reading.specs.inner.Pieces.{count, Counted, PiecesOfLines}
 use Rattle.paw_reading.proofs.Keeps.{either, open_or_not, prints}
 use Rattle.paw_reading.proofs.EachCondact.{plain_goes}
@@ -171,7 +172,7 @@ saying_counts text go h v r k =
     either (Counted v) (fits r text) _ (Halted (RunsOut spent.Text) r) (h v (printed text r) k) k
 
 module _ (g : Story) (go : TurnStage → Run → Ending) (counts : (s : TurnStage) → TurnsCounting (go s)) where
-  connected_counts : (to : Option ℕ) → TurnsCounting (λ r. connected g (go AtDescribe) (go AtFrame) r to)
+  connected_counts : (to : Option ℕ) → TurnsCounting (λ r. connected g go r to)
   connected_counts None v r k = saying_counts (refusal_text g.game r.world) (go AtFrame) (counts AtFrame) v (line_dropped r) k
   connected_counts (Some to) v r k = counts AtDescribe v (with_world (with_flag r.world 38 to) r) k
 
@@ -204,7 +205,7 @@ module _ (g : Story) (go : TurnStage → Run → Ending) (counts : (s : TurnStag
       (saying_counts (timeout_text g.game r.world) (go AtFrame) (counts AtFrame) v (heard line s) k')
       (counts AtPhrase v (line_set line s) k'))
 
-  after_phrase_counts : (p : Parsed) → TurnsCounting (λ r. after_phrase g (go AtFrame) (go AtPhrase) (go AtResponse) r p)
+  after_phrase_counts : (p : Parsed) → TurnsCounting (λ r. after_phrase g go r p)
   after_phrase_counts (IsSentence s rest) v r k = counts AtResponse v (with_world (counted (taken_phrase s rest r).world) (taken_phrase s rest r)) k
   after_phrase_counts (IsUnknown rest) v r k =
       saying_counts (unknown_text g.game r.world) (go AtFrame) (counts AtFrame) v (line_dropped r) k
@@ -226,4 +227,4 @@ turn_counts g (suc n) AtResponse v r k = read_counts g (turn g n) (turn_counts g
 pub pieces_of_lines : PiecesOfLines
 pieces_of_lines g seed es =
     let o : Run = opening g seed es in
-    turn_counts g (stages_left AtDescribe o) AtDescribe (length es) o (omega arith)
+    turn_counts g (stages_left o) AtDescribe (length es) o (omega arith)

@@ -15,16 +15,31 @@ use Rattle.paw_reading.specs.declared.places.Frame.{Frame}
 use Rattle.paw_reading.specs.Run.{Run, closed, fits, printed, with_world, line_dropped, is_timeout, is_ignored, heard, with_timeout}
 use Rattle.paw_reading.specs.Reading.{RunsOut, Redescribes, Restarts, Halts, Out, Left, Waits, Stopped, table_read}
 use Rattle.paw_reading.specs.Turn.{TurnStage, AtDescribe, AtFrame, AtPhrase, AtResponse, Ending, Halted, Unended, saying, described, framed}
-use Rattle.paw_reading.specs.Turn.{view_text, prompt_text, line_set, at_main, after_phrase, refusal_text, connected, responded, after_left}
-use Rattle.paw_reading.specs.Turn.{table_done, turn, left_to_read, stages_left, first_table, in_table, goes_on, unknown_text}
+use Rattle.paw_reading.specs.Turn.{view_text, prompt_text, at_main, after_phrase, refusal_text, connected, after_left}
+use Rattle.paw_reading.specs.Turn.{table_done, turn, left_to_read, stages_left, first_table, goes_on}
+use Rattle.paw_reading.specs.inner.Steps.{line_set, in_table, unknown_text}
 use Rattle.paw_reading.specs.inner.Turn.{TurnsEnd, EndsOnce, GoingOnEnds, GoesOnOnce}
 use Rattle.paw_reading.proofs.Spends.{brought, brought_more, Spends, table_spends, path_spends}
 
 -- ---- turns end ----
 
+-- so many stages are needed at most, this one and those after it
+abbrev pub stages_needed : TurnStage → Run → ℕ
+stages_needed AtPhrase r = 4 * left_to_read r + 1
+stages_needed AtFrame r = 4 * left_to_read r + 2
+stages_needed AtDescribe r = 4 * left_to_read r + 3
+stages_needed AtResponse r = 4 * left_to_read r + 4
+
+-- as many are granted
+needed_granted : (s : TurnStage) (r : Run) → stages_needed s r ≤ stages_left r
+needed_granted AtPhrase r = omega arith
+needed_granted AtFrame r = omega arith
+needed_granted AtDescribe r = omega arith
+needed_granted AtResponse r = omega arith
+
 -- from every stage that needs at most n stages the turn ends
 abbrev pub EndsWithin : ℕ → (TurnStage → Run → Ending) → Type 0
-EndsWithin n go = (s : TurnStage) (r : Run) → stages_left s r ≤ n → go s r ≢ Unended
+EndsWithin n go = (s : TurnStage) (r : Run) → stages_needed s r ≤ n → go s r ≢ Unended
 
 saying_ends : (text : List ℕ) (go : Run → Ending) (r : Run) → go (printed text r) ≢ Unended → saying text go r ≢ Unended
 saying_ends text go r h = by_test (fits r text)
@@ -34,15 +49,10 @@ saying_ends text go r h = by_test (fits r text)
     by_test false = λ e. cc
 
 connected_ends : (g : Story) (n : ℕ) (go : TurnStage → Run → Ending) → EndsWithin n go → (r : Run) → 4 * left_to_read r + 3 ≤ n → (to : Option ℕ) →
-    connected g (go AtDescribe) (go AtFrame) r to ≢ Unended
+    connected g go r to ≢ Unended
 connected_ends g n go h r k None =
     saying_ends (refusal_text g.game r.world) (go AtFrame) (line_dropped r) (h AtFrame (printed (refusal_text g.game r.world) (line_dropped r)) (omega arith))
 connected_ends g n go h r k (Some to) = h AtDescribe (with_world (with_flag r.world 38 to) r) (omega arith)
-
-responded_ends : (g : Story) (n : ℕ) (go : TurnStage → Run → Ending) → EndsWithin n go → (r : Run) → 4 * left_to_read r + 3 ≤ n → (acted : Bool) →
-    responded g (go AtDescribe) (go AtFrame) acted r ≢ Unended
-responded_ends g n go h r k true = h AtFrame r (omega arith)
-responded_ends g n go h r k false = connected_ends g n go h r k (exit_at g.game (flag r.world 38) (flag r.world 33))
 
 -- how many stages a table needs after it
 abbrev pub rank_after : ℕ → ℕ
@@ -53,7 +63,8 @@ rank_after (suc (suc t)) = 1
 after_left_ends : (g : Story) (n : ℕ) (go : TurnStage → Run → Ending) → EndsWithin n go → (t : ℕ) (acted : Bool) (r : Run) →
     4 * left_to_read r + rank_after t ≤ n →
     after_left g go t acted r ≢ Unended
-after_left_ends g n go h zero acted r k = responded_ends g n go h r k acted
+after_left_ends g n go h zero true r k = h AtFrame r (omega arith)
+after_left_ends g n go h zero false r k = connected_ends g n go h r k (exit_at g.game (flag r.world 38) (flag r.world 33))
 after_left_ends g n go h (suc zero) acted r k = h AtFrame r k
 after_left_ends g n go h (suc (suc t)) acted r k = h AtPhrase (with_world (framed r.world) r) k
 
@@ -91,7 +102,7 @@ at_main_ends g n go h r (line ∷ lines) k =
     by_test false false hx hy hz = hz
 
 after_phrase_ends : (g : Story) (n : ℕ) (go : TurnStage → Run → Ending) → EndsWithin n go → (r : Run) → 4 * left_to_read r ≤ n → (p : Parsed) →
-    Leaves (λ rest. length rest < length r.pending) p → after_phrase g (go AtFrame) (go AtPhrase) (go AtResponse) r p ≢ Unended
+    Leaves (λ rest. length rest < length r.pending) p → after_phrase g go r p ≢ Unended
 after_phrase_ends g n go h r k (IsSentence s rest) less = h AtResponse _ (omega arith)
 after_phrase_ends g n go h r k (IsUnknown rest) less =
     let text : List ℕ = unknown_text g.game r.world in
@@ -123,7 +134,7 @@ turn_ends g (suc n) AtResponse r h =
 
 -- the stages that are granted are enough
 pub turns_end : TurnsEnd
-turns_end g s r = turn_ends g (stages_left s r) s r (omega arith)
+turns_end g s r = turn_ends g (stages_left r) s r (needed_granted s r)
 
 in_table_ends : (g : Story) (n : ℕ) (p : Prompt) (path : List Frame) (r : Run) → 4 * left_to_read r + 3 ≤ n → in_table g n p path r ≢ Unended
 in_table_ends g n p path r h =
@@ -144,7 +155,7 @@ goes_on_ends g n prompt.Over path r h = λ e. cc
 
 -- going on from a prompt ends
 pub going_on_ends : GoingOnEnds
-going_on_ends g p path r = goes_on_ends g (stages_left AtResponse r) p path r (omega arith)
+going_on_ends g p path r = goes_on_ends g (stages_left r) p path r (omega arith)
 
 -- ---- more stages change nothing ----
 
@@ -163,7 +174,7 @@ saying_more text go more r h = by_test (fits r text)
     by_test false k = refl
 
 connected_more : (g : Story) (go more : TurnStage → Run → Ending) → Refines go more → (r : Run) (to : Option ℕ) →
-    connected g (go AtDescribe) (go AtFrame) r to ≢ Unended → connected g (more AtDescribe) (more AtFrame) r to ≡ connected g (go AtDescribe) (go AtFrame) r to
+    connected g go r to ≢ Unended → connected g more r to ≡ connected g go r to
 connected_more g go more h r None k = saying_more _ (go AtFrame) (more AtFrame) _ (h AtFrame) k
 connected_more g go more h r (Some to) k = h AtDescribe _ k
 
@@ -200,8 +211,8 @@ at_main_more g go more h r (line ∷ lines) k =
     by_test false false hx hy hz = hz
 
 after_phrase_more : (g : Story) (go more : TurnStage → Run → Ending) → Refines go more → (r : Run) (p : Parsed) →
-    after_phrase g (go AtFrame) (go AtPhrase) (go AtResponse) r p ≢ Unended →
-    after_phrase g (more AtFrame) (more AtPhrase) (more AtResponse) r p ≡ after_phrase g (go AtFrame) (go AtPhrase) (go AtResponse) r p
+    after_phrase g go r p ≢ Unended →
+    after_phrase g more r p ≡ after_phrase g go r p
 after_phrase_more g go more h r (IsSentence s rest) k = h AtResponse _ k
 after_phrase_more g go more h r (IsUnknown rest) k = saying_more _ (go AtFrame) (more AtFrame) _ (h AtFrame) k
 after_phrase_more g go more h r IsNoPhrase k =
@@ -245,7 +256,7 @@ same_ending f h n m en em = by_order (in_order n m)
 
 -- a turn that ends is the turn
 pub ends_once : EndsOnce
-ends_once g n s r e = same_ending (λ m. turn g m s r) (λ m. turn_more g m s r) n (stages_left s r) e (turns_end g s r)
+ends_once g n s r e = same_ending (λ m. turn g m s r) (λ m. turn_more g m s r) n (stages_left r) e (turns_end g s r)
 
 goes_on_more : (g : Story) (p : Prompt) (path : List Frame) (r : Run) (n : ℕ) → goes_on g n p path r ≢ Unended →
     goes_on g (suc n) p path r ≡ goes_on g n p path r
@@ -258,4 +269,4 @@ goes_on_more g prompt.Over path r n k = refl
 -- going on that ends is going on
 pub goes_on_once : GoesOnOnce
 goes_on_once g n p path r e =
-    same_ending (λ m. goes_on g m p path r) (goes_on_more g p path r) n (stages_left AtResponse r) e (going_on_ends g p path r)
+    same_ending (λ m. goes_on g m p path r) (goes_on_more g p path r) n (stages_left r) e (going_on_ends g p path r)

@@ -2,6 +2,7 @@
 use Rattle.std.proofs.Common.{◌≡◌, ℕ, zero, suc, ◌+◌, ◌-◌, ◌≤◌, ◌<◌, Bool, true, false, ◌||◌, List, [], ◌∷◌, ◌++◌, inl, inr, Option, Some}
 use Rattle.std.proofs.Common.{None, refl, sym, ap, ◌∙◌, length, arith, append_assoc}
 use Rattle.std.specs.Prelude.{if◌then◌else◌, nat_lt}
+use Rattle.std.specs.Option.{option_map_or}
 use Rattle.std.proofs.lemmas.Option.{slice_get_past}
 use Rattle.paw_base.specs.declared.parts.Condact.{Condact}
 use Rattle.paw_base.specs.declared.fault.SpentKind.TheVariants as spent
@@ -22,9 +23,10 @@ use Rattle.paw_reading.specs.declared.places.OpenLoop.{OpenLoop}
 use Rattle.paw_reading.specs.Run.{Run, Step, closed, fits, printed, with_world, without_loop, line_dropped, anew, is_ignored, heard, reply}
 use Rattle.paw_reading.specs.Run.{is_yes, is_no, taken_phrase}
 use Rattle.paw_reading.specs.Reading.{IsOver, RunsOut, Restarts, Out, Left, Waits, Stopped, halts, noted, printing, after_call, at_level}
-use Rattle.paw_reading.specs.Reading.{if_open, again, is_taken, taken, turns, loop_of, over, answered, asked, waits, after_test}
+use Rattle.paw_reading.specs.Reading.{again, is_taken, taken, turns, loop_of, over, answered, asked, waits, after_test}
 use Rattle.paw_reading.specs.Reading.{after_parse, after_action, carried_out, acts, reads_one, is_for_now, inside, plain, looped, deeper}
-use Rattle.paw_reading.specs.Reading.{rest, coming_phrase, goodbye, game_over, quit_question}
+use Rattle.paw_reading.specs.Reading.{rest, coming_phrase, game_over}
+use Rattle.paw_reading.specs.inner.Steps.{goodbye, quit_question}
 use Rattle.paw_reading.specs.GoingOn.{on_path}
 use Rattle.paw_reading.proofs.Keeps.{Keeps, at_level_own, at_level_is, turns_closes, plain_keeps, looped_closes, deeper_keeps}
 use Rattle.paw_reading.proofs.Rules.{inside_end, inside_condact, again_closed, again_again, after_call_again, deeper_rest, deeper_none}
@@ -266,7 +268,7 @@ module _ (g : Story) (ps : List (List ℕ)) (ts : List (List Step)) (lines : Lis
       settles_extends (Left a r) = by_loop (at_level lv r.turning) refl
         where
           by_loop : (o : Option OpenLoop) → at_level lv r.turning ≡ o →
-              loops lv (Left a (around ps ts lines r)) ≡ extends lv (if_open (λ l. looped g (deeper g lv) lv l r) (Left a r) o)
+              loops lv (Left a (around ps ts lines r)) ≡ extends lv (option_map_or (λ l. looped g (deeper g lv) lv l r) o (Left a r))
           by_loop None e = rw e refl
           by_loop (Some l) e =
               let own : l.level ≡ lv = (at_level_is lv r.turning l e).0 in

@@ -14,9 +14,9 @@ use Rattle.paw_reading.specs.Reading.{RunsOut, Redescribes, Restarts, Halts, Out
 use Rattle.paw_reading.specs.GoingOn.{on_path}
 use Rattle.paw_reading.specs.inner.GoingOn.{with_lines, extended}
 use Rattle.paw_reading.specs.Turn.{TurnStage, AtDescribe, AtFrame, AtPhrase, AtResponse, Ending, WaitsAt, Halted, Unended, saying}
-use Rattle.paw_reading.specs.Turn.{described, framed, view_text, counted, prompt_text, line_set, at_main, after_phrase, refusal_text}
-use Rattle.paw_reading.specs.Turn.{connected, after_left, table_done, turn, stages_left, turns_from, opening, first_table, goes_on}
-use Rattle.paw_reading.specs.Turn.{timeout_text, unknown_text}
+use Rattle.paw_reading.specs.Turn.{described, framed, view_text, counted, prompt_text, at_main, after_phrase, refusal_text}
+use Rattle.paw_reading.specs.Turn.{connected, after_left, table_done, turn, stages_left, turns_from, opening, first_table, goes_on, timeout_text}
+use Rattle.paw_reading.specs.inner.Steps.{line_set, unknown_text}
 use Rattle.paw_reading.specs.inner.Turn.{followed, GoingOnIsReading}
 use Rattle.paw_reading.specs.inner.Longer.{TurnsGoOn}
 use Rattle.paw_reading.specs.inner.Places.{IsLoopOf}
@@ -56,7 +56,7 @@ module _ (g : Story) (lines : List (List ℕ)) where
 
   module _ (m : ℕ) (go more : TurnStage → Run → Ending) (follows : AreFollowing m go more) (refines : Refines (turn g m) more) where
     connected_follows : (r : Run) → r.turning ≡ None → (to : Option ℕ) →
-        Follows m (connected g (go AtDescribe) (go AtFrame) r to) (connected g (more AtDescribe) (more AtFrame) (with_lines lines r) to)
+        Follows m (connected g go r to) (connected g more (with_lines lines r) to)
     connected_follows r none None k =
         saying_follows m (refusal_text g.game r.world) (go AtFrame) (more AtFrame) (line_dropped r)
         (follows AtFrame (printed (refusal_text g.game r.world) (line_dropped r)) none) k
@@ -123,8 +123,8 @@ module _ (g : Story) (lines : List (List ℕ)) where
         by_test false false x y z hx hy hz = hz
 
     after_phrase_follows : (r : Run) → r.turning ≡ None → (p : Parsed) →
-        Follows m (after_phrase g (go AtFrame) (go AtPhrase) (go AtResponse) r p)
-        (after_phrase g (more AtFrame) (more AtPhrase) (more AtResponse) (with_lines lines r) p)
+        Follows m (after_phrase g go r p)
+        (after_phrase g more (with_lines lines r) p)
     after_phrase_follows r none (IsSentence s rest) k = follows AtResponse (with_world (counted (taken_phrase s rest r).world) (taken_phrase s rest r)) none k
     after_phrase_follows r none (IsUnknown rest) k =
         let text : List ℕ = unknown_text g.game r.world in
@@ -163,8 +163,8 @@ module _ (g : Story) (lines : List (List ℕ)) where
   enough : (m : ℕ) (s : TurnStage) (r : Run) → r.turning ≡ None → goes_from m (turns_from g s r) ≢ Unended →
       turns_from g s (with_lines lines r) ≡ goes_from m (turns_from g s r)
   enough m s r none h =
-      let e : turn g (stages_left s r + m) s (with_lines lines r) ≡ goes_from m (turns_from g s r) = turn_follows (stages_left s r) m s r none h in
-      sym (ends_once g (stages_left s r + m) s (with_lines lines r) (λ u. h (sym e ∙ u))) ∙ e
+      let e : turn g (stages_left r + m) s (with_lines lines r) ≡ goes_from m (turns_from g s r) = turn_follows (stages_left r) m s r none h in
+      sym (ends_once g (stages_left r + m) s (with_lines lines r) (λ u. h (sym e ∙ u))) ∙ e
 
 -- the turns with more lines
 pub turns_go_on : TurnsGoOn
@@ -174,7 +174,7 @@ turns_go_on g lines s r none = by_ending (turns_from g s r) refl
     at m x e h = subst (λ y. goes_from g lines m y ≢ Unended → turns_from g s (with_lines lines r) ≡ goes_from g lines m y) e (enough g lines m s r none) h
 
     by_ending : (x : Ending) → turns_from g s r ≡ x → turns_from g s (with_lines lines r) ≡ followed g lines x
-    by_ending (WaitsAt p path q) e = at (stages_left AtResponse (with_lines lines q)) (WaitsAt p path q) e (going_on_ends g p path (with_lines lines q))
+    by_ending (WaitsAt p path q) e = at (stages_left (with_lines lines q)) (WaitsAt p path q) e (going_on_ends g p path (with_lines lines q))
     by_ending (Halted halt q) e = at 0 (Halted halt q) e (λ u. cc)
     by_ending Unended e = absurd (turns_end g s r e)
 

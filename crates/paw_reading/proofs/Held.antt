@@ -31,9 +31,10 @@ use Rattle.paw_reading.specs.Run.{Run, closed, fits, printed, with_world, anew, 
 use Rattle.paw_reading.specs.Reading.{IsOver, RunsOut, Restarts, Halts, Out, Left, Waits, Stopped, halts, noted, after_call, at_level}
 use Rattle.paw_reading.specs.Reading.{again, is_taken, named, taken, turns, loop_of, over, answered, asked, after_test, after_parse}
 use Rattle.paw_reading.specs.Reading.{after_action, carried_out, acts, reads_one, condacts, is_for_now, entries, plain, looped, reads}
-use Rattle.paw_reading.specs.Reading.{called, deeper, rest, table_read, goodbye, game_over, quit_question, waits}
+use Rattle.paw_reading.specs.Reading.{called, deeper, rest, table_read, game_over, waits}
 use Rattle.paw_reading.specs.GoingOn.{on_path}
 use Rattle.paw_reading.specs.Turn.{first_table}
+use Rattle.paw_reading.specs.inner.Steps.{goodbye, quit_question}
 use Rattle.paw_reading.specs.inner.Places.{IsAt, LeadsTo, tables_of, IsLoopIn}
 use Rattle.paw_reading.proofs.Lists.{drop_more}
 use Rattle.paw_reading.proofs.Keeps.{either, open_or_not, at_level_is, prints}

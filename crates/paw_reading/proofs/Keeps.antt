@@ -2,6 +2,7 @@
 use Rattle.std.proofs.Common.{◌≡◌, ℕ, zero, suc, ◌-◌, Bool, true, false, ◌||◌, List, [], ◌∷◌, Option, Some, None, ◌⊎◌, inl, inr, refl, sym}
 use Rattle.std.proofs.Common.{ap, ◌∙◌, subst, length, arith}
 use Rattle.std.specs.Prelude.{◌==◌, if◌then◌else◌}
+use Rattle.std.specs.Option.{option_map_or}
 use Rattle.std.proofs.lemmas.Bool.Decides.{nat_tests}
 use Rattle.std.proofs.lemmas.Bool.{eqb-true}
 use Rattle.paw_base.specs.declared.parts.Condact.{Condact}
@@ -19,10 +20,11 @@ use Rattle.paw_effects.specs.Effects.{Done, effect_of}
 use Rattle.paw_reading.specs.declared.places.Frame.{Frame}
 use Rattle.paw_reading.specs.declared.places.OpenLoop.{OpenLoop}
 use Rattle.paw_reading.specs.Run.{Run, closed, fits, printed, with_world, anew, is_ignored, heard, reply, is_yes, is_no, taken_phrase}
-use Rattle.paw_reading.specs.Reading.{RunsOut, Restarts, Out, Left, Waits, Stopped, halts, noted, after_call, at_level, if_open, again}
+use Rattle.paw_reading.specs.Reading.{RunsOut, Restarts, Out, Left, Waits, Stopped, halts, noted, after_call, at_level, again}
 use Rattle.paw_reading.specs.Reading.{taken, turns, loop_of, over, answered, asked, after_test, after_parse, after_action, carried_out}
-use Rattle.paw_reading.specs.Reading.{acts, reads_one, plain, looped, reads, called, deeper, goodbye, game_over, quit_question, printing}
+use Rattle.paw_reading.specs.Reading.{acts, reads_one, plain, looped, reads, called, deeper, game_over, printing}
 use Rattle.paw_reading.specs.Reading.{waits}
+use Rattle.paw_reading.specs.inner.Steps.{goodbye, quit_question}
 use Rattle.paw_reading.proofs.EachCondact.{plain_goes}
 
 -- the loop is this one, or there is none
@@ -64,7 +66,7 @@ pub prints : (P : Out → Type 0) (text : List ℕ) (go : Run → Out) (r : Run)
 prints P text go r h k = either P (fits r text) (go (printed text r)) (halts (RunsOut spent.Text) r) h k
 
 pub open_or_not : (P : Out → Type 0) (next : OpenLoop → Out) (x : Out) (o : Option OpenLoop) → ((l : OpenLoop) → o ≡ Some l → P (next l)) →
-    (o ≡ None → P x) → P (if_open next x o)
+    (o ≡ None → P x) → P (option_map_or next o x)
 open_or_not P next x None h k = k refl
 open_or_not P next x (Some l) h k = h l refl
 

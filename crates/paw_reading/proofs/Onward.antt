@@ -11,7 +11,8 @@ use Rattle.paw_reading.specs.declared.places.Frame.{Frame}
 use Rattle.paw_reading.specs.declared.places.OpenLoop.{OpenLoop}
 use Rattle.paw_reading.specs.Run.{Run, without_loop, heard}
 use Rattle.paw_reading.specs.Reading.{Out, Left, Waits, Stopped, after_call, at_level, again, is_taken, taken, turns, loop_of, over, asked}
-use Rattle.paw_reading.specs.Reading.{reads_one, entries, is_for_now, inside, plain, looped, deeper, rest, goodbye, game_over}
+use Rattle.paw_reading.specs.Reading.{reads_one, entries, is_for_now, inside, plain, looped, deeper, rest, game_over}
+use Rattle.paw_reading.specs.inner.Steps.{goodbye}
 use Rattle.paw_reading.specs.GoingOn.{on_path}
 use Rattle.paw_reading.specs.inner.Rules.{past, at_frame, leaves, looks, goes, MayRead, ReadsEntries, ReadsCondacts, FollowsActions}
 use Rattle.paw_reading.specs.inner.Rules.{TurnsLoops, AnswersPrompts, ReadingOn}
@@ -93,7 +94,7 @@ module _ (g : Story) (lv : ℕ) where
     redescribe = λ f r. refl;
     call = λ f u r low. after_call_again g (deeper g lv) lv f (plain g (deeper g lv) lv f.table f.entry (suc f.at)) (deeper g lv u r)
         ∙ ap (after_call f (past g lv f)) (deeper_rest g lv u r low);
-    deep = λ f u r h. ap (λ x. again lv (looped g (deeper g lv) lv) (after_call f (plain g (deeper g lv) lv f.table f.entry (suc f.at)) x)) (deeper_none g lv u r h);
+    deep = λ f u r h. same (ap (after_call f (plain g (deeper g lv) lv f.table f.entry (suc f.at))) (deeper_none g lv u r h));
     loop = begins;
     ask = λ f p r. refl;
     sentence = λ f s bytes r h. rw h refl;

@@ -1,7 +1,8 @@
 -- What was closed before changes nothing, and stays in front.
 use Rattle.std.proofs.Common.{◌≡◌, ◌≢◌, ℕ, zero, suc, Bool, true, false, List, [], ◌∷◌, ◌++◌, Option, Some, None, refl, sym, ap, ◌∙◌, append_assoc, append-nil}
-use Rattle.std.specs.Prelude.{flat_map, if◌then◌else◌}
-use Rattle.std.proofs.lemmas.Grind.{flat_map-append}
+use Rattle.std.specs.Prelude.{if◌then◌else◌}
+use Rattle.std.specs.List.{concat}
+use Rattle.std.proofs.lemmas.List.Folds.{concat-append}
 use Rattle.paw_base.specs.declared.fault.SpentKind.TheVariants as spent
 use Rattle.paw_effects.specs.Story.{Story}
 use Rattle.paw_game.specs.Tables.{exit_at}
@@ -15,9 +16,10 @@ use Rattle.paw_reading.specs.Reading.{RunsOut, Redescribes, Restarts, Halts, Out
 use Rattle.paw_reading.specs.GoingOn.{on_path}
 use Rattle.paw_reading.specs.inner.GoingOn.{with_lines}
 use Rattle.paw_reading.specs.Turn.{TurnStage, AtDescribe, AtFrame, AtPhrase, AtResponse, Ending, WaitsAt, Halted, Unended, saying}
-use Rattle.paw_reading.specs.Turn.{described, framed, view_text, counted, prompt_text, line_set, at_main, after_phrase, refusal_text}
-use Rattle.paw_reading.specs.Turn.{connected, after_left, table_done, turn, stages_left, first_table, in_table, goes_on, on, reading}
-use Rattle.paw_reading.specs.Turn.{text_of, timeout_text, unknown_text}
+use Rattle.paw_reading.specs.Turn.{described, framed, view_text, counted, prompt_text, at_main, after_phrase, refusal_text}
+use Rattle.paw_reading.specs.Turn.{connected, after_left, table_done, turn, stages_left, first_table, goes_on, on, reading}
+use Rattle.paw_reading.specs.Turn.{text_of, timeout_text}
+use Rattle.paw_reading.specs.inner.Steps.{line_set, in_table, unknown_text}
 use Rattle.paw_reading.specs.inner.Longer.{with_past, without_past, ending_with_past, PastStays, LongerReading, LongerText}
 use Rattle.paw_reading.proofs.Onward.{waits_on}
 use Rattle.paw_reading.proofs.Stops.{Stops, rest_stops, path_stops}
@@ -72,7 +74,7 @@ module _ (g : Story) (ps : List (List ℕ)) (ts : List (List Step)) where
 
   module _ (go : TurnStage → Run → Ending) (pasts : (s : TurnStage) (r : Run) → go s (with_past ps ts r) ≡ ending_with_past ps ts (go s r)) where
     connected_past : (r : Run) (to : Option ℕ) →
-        connected g (go AtDescribe) (go AtFrame) (with_past ps ts r) to ≡ ending_with_past ps ts (connected g (go AtDescribe) (go AtFrame) r to)
+        connected g go (with_past ps ts r) to ≡ ending_with_past ps ts (connected g go r to)
     connected_past r None =
         saying_past (refusal_text g.game r.world) (go AtFrame) (line_dropped r) (pasts AtFrame (printed (refusal_text g.game r.world) (line_dropped r)))
     connected_past r (Some to) = pasts AtDescribe (with_world (with_flag r.world 38 to) r)
@@ -114,8 +116,8 @@ module _ (g : Story) (ps : List (List ℕ)) (ts : List (List Step)) where
         by_test false true x y z hx hy hz = hy
         by_test false false x y z hx hy hz = hz
 
-    after_phrase_past : (r : Run) (p : Parsed) → after_phrase g (go AtFrame) (go AtPhrase) (go AtResponse) (with_past ps ts r) p
-        ≡ ending_with_past ps ts (after_phrase g (go AtFrame) (go AtPhrase) (go AtResponse) r p)
+    after_phrase_past : (r : Run) (p : Parsed) → after_phrase g go (with_past ps ts r) p
+        ≡ ending_with_past ps ts (after_phrase g go r p)
     after_phrase_past r (IsSentence s rest) = pasts AtResponse (with_world (counted (taken_phrase s rest r).world) (taken_phrase s rest r))
     after_phrase_past r (IsUnknown rest) =
         let text : List ℕ = unknown_text g.game r.world in
@@ -146,7 +148,7 @@ module _ (g : Story) (ps : List (List ℕ)) (ts : List (List Step)) where
   goes_on_past n prompt.Over path r = refl
 
 pub past_stays : PastStays
-past_stays g ps ts p path r = goes_on_past g ps ts (stages_left AtResponse r) p path r
+past_stays g ps ts p path r = goes_on_past g ps ts (stages_left r) p path r
 
 -- the reading of more lines has the pieces of some, and then those of going on
 pub longer_reading : LongerReading
@@ -156,9 +158,9 @@ longer_reading g seed es fs p path r e =
     whole ∙ ap (on g p path) (sym apart) ∙ past_stays g r.pieces r.traces p path (with_lines fs (without_past r))
 
 past_text : (ps : List (List ℕ)) (ts : List (List Step)) (x : Ending) → x ≢ Unended →
-    text_of (ending_with_past ps ts x) ≡ flat_map (λ piece. piece) ps ++ text_of x
-past_text ps ts (WaitsAt p path r) h = flat_map-append (λ piece. piece) ps r.pieces
-past_text ps ts (Halted halt r) h = flat_map-append (λ piece. piece) ps r.pieces
+    text_of (ending_with_past ps ts x) ≡ concat ps ++ text_of x
+past_text ps ts (WaitsAt p path r) h = concat-append ps r.pieces
+past_text ps ts (Halted halt r) h = concat-append ps r.pieces
 past_text ps ts Unended h = absurd (h refl)
 
 -- and so has its text

@@ -21,9 +21,9 @@ use Rattle.paw_reading.specs.declared.places.OpenLoop.{OpenLoop}
 use Rattle.paw_reading.specs.Run.{Run, Step, closed, fits, printed, with_world, line_dropped, is_timeout, is_ignored, heard, taken_phrase}
 use Rattle.paw_reading.specs.Reading.{IsOver, RunsOut, Redescribes, Restarts, Halts, Out, Left, Waits, Stopped, table_read, coming_phrase}
 use Rattle.paw_reading.specs.Turn.{TurnStage, AtDescribe, AtFrame, AtPhrase, AtResponse, Ending, WaitsAt, Halted, reading, on, saying}
-use Rattle.paw_reading.specs.Turn.{described, framed, view_text, counted, prompt_text, line_set, at_main, after_phrase, refusal_text}
-use Rattle.paw_reading.specs.Turn.{connected, after_left, table_done, turn, stages_left, opening, first_table, in_table, goes_on}
-use Rattle.paw_reading.specs.Turn.{timeout_text, unknown_text}
+use Rattle.paw_reading.specs.Turn.{described, framed, view_text, counted, prompt_text, at_main, after_phrase, refusal_text}
+use Rattle.paw_reading.specs.Turn.{connected, after_left, table_done, turn, stages_left, opening, first_table, goes_on, timeout_text}
+use Rattle.paw_reading.specs.inner.Steps.{line_set, in_table, unknown_text}
 use Rattle.paw_reading.specs.Bounds.{IsLine, ValidStory}
 use Rattle.paw_reading.specs.inner.Bounds.{IsBounded}
 use Rattle.paw_reading.specs.inner.Longer.{without_past, with_past, ending_with_past}
@@ -102,7 +102,7 @@ module _ (g : Story) (v : Valid g.game) where
       either IsRightly (fits r text) _ (Halted (RunsOut spent.Text) r) (h (printed text r) printed_so) tt
 
   module _ (go : TurnStage → Run → Ending) (goes : (s : TurnStage) → GoRightly (go s)) where
-    connected_rightly : (to : Option ℕ) → GoRightly (λ r. connected g (go AtDescribe) (go AtFrame) r to)
+    connected_rightly : (to : Option ℕ) → GoRightly (λ r. connected g go r to)
     connected_rightly None r k =
         saying_rightly (refusal_text g.game r.world) (go AtFrame) (goes AtFrame) (line_dropped r) (record { of = k.of; none = k.none })
     connected_rightly (Some to) r k = goes AtDescribe (with_world (with_flag r.world 38 to) r) (record { of = k.of; none = k.none })
@@ -142,7 +142,7 @@ module _ (g : Story) (v : Valid g.game) where
         (record { of = k.of; none = k.none }))
         (goes AtPhrase (line_set line s) (record { of = k.of; none = k.none })))
 
-    after_phrase_rightly : (p : Parsed) → GoRightly (λ r. after_phrase g (go AtFrame) (go AtPhrase) (go AtResponse) r p)
+    after_phrase_rightly : (p : Parsed) → GoRightly (λ r. after_phrase g go r p)
     after_phrase_rightly (IsSentence s rest) r k =
         goes AtResponse (with_world (counted (taken_phrase s rest r).world) (taken_phrase s rest r)) (record { of = k.of; none = k.none })
     after_phrase_rightly (IsUnknown rest) r k =
@@ -222,7 +222,7 @@ stop_bounded g valid seed n _ k = tt
 pub readings_stop_rightly : ReadingsStopRightly
 readings_stop_rightly g seed es valid lines =
     stop_rightly g valid seed 0 (reading g seed es)
-    (turn_rightly g valid.game (stages_left AtDescribe (opening g seed es)) AtDescribe (opening g seed es)
+    (turn_rightly g valid.game (stages_left (opening g seed es)) AtDescribe (opening g seed es)
     (record { of = opened_placed g.game seed valid.game; none = refl }))
     (reading_sounds g valid seed 0 es (are_lines es lines))
 
@@ -280,12 +280,14 @@ going_on_stops_rightly g p path r valid lines k =
     let resting : IsResting g.game r.world.seed r.world.draws s =
     rests g.game r.world.seed r.world.draws p path s at
     (record { seeded = refl; draws = omega arith; pieces = λ i d low. absurd (omega arith); traced = refl }) lines in
-    let placed = goes_on_rightly g valid.game (stages_left AtResponse s) p path s
+    let placed = goes_on_rightly g valid.game (stages_left s) p path s
     (k.world.of.facts, (k.world.of.locations, (k.world.places, (stands_in g.game r.world.saved k.world.saved, all_stand g.game r.world.kept k.world.kept))))
     (record { places = at.places; line = at.line }) in
+    let sounds = going_on_sounds g valid r.world.seed r.world.draws p path s resting in
+    let rightly = stop_rightly g valid r.world.seed r.world.draws (on g p path s) placed sounds in
     subst (λ x. StopsRightly g.game (on g p path x)) (apart r)
     (subst (StopsRightly g.game) (sym (past_stays g r.pieces r.traces p path s))
-    (placed_past g.game r.pieces r.traces (on g p path s) (stop_rightly g valid r.world.seed r.world.draws (on g p path s) placed (going_on_sounds g valid r.world.seed r.world.draws p path s resting))))
+    (placed_past g.game r.pieces r.traces (on g p path s) rightly))
   where
     stands_in : (h : GameLists) (saved : Option Position) → MayBePosition h saved → StandsIn h saved
     stands_in h None at = tt

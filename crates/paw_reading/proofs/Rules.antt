@@ -1,6 +1,7 @@
 -- The rules of reading, as equations.
 use Rattle.std.proofs.Common.{◌≡◌, ℕ, zero, suc, ◌+◌, ◌-◌, ◌≤◌, ◌<◌, Bool, true, false, List, [], ◌∷◌, Option, Some, None, inl, inr, refl, length, drop, arith}
 use Rattle.std.specs.Prelude.{if◌then◌else◌, nat_lt}
+use Rattle.std.specs.Option.{option_map_or}
 use Rattle.std.proofs.lemmas.Bool.Decides.{nat_tests}
 use Rattle.std.proofs.lemmas.List.{length-drop}
 use Rattle.std.proofs.lemmas.Option.{slice_get_past}
@@ -15,7 +16,7 @@ use Rattle.paw_world.specs.World.{flag}
 use Rattle.paw_reading.specs.declared.places.Frame.{Frame}
 use Rattle.paw_reading.specs.declared.places.OpenLoop.{OpenLoop}
 use Rattle.paw_reading.specs.Run.{Run}
-use Rattle.paw_reading.specs.Reading.{RunsOut, CallsTooDeep, Out, Left, Waits, Stopped, halts, within, after_call, at_level, if_open, again}
+use Rattle.paw_reading.specs.Reading.{RunsOut, CallsTooDeep, Out, Left, Waits, Stopped, halts, within, after_call, at_level, again}
 use Rattle.paw_reading.specs.Reading.{reads_one, condacts, is_for_now, entries, inside, plain, looped, called, deeper, rest}
 use Rattle.paw_reading.proofs.Lists.{drop_none, drop_some, drop_more}
 use Rattle.paw_reading.proofs.Keeps.{Keeps, CallsKeeping, at_level_is, looped_closes}
@@ -103,7 +104,7 @@ module _ (g : Story) (sub : ℕ → Run → Out) (lv : ℕ) where
   again_again calls (Left a r) = go (at_level lv r.turning) refl
     where
       go : (o : Option OpenLoop) → at_level lv r.turning ≡ o →
-          again lv (looped g sub lv) (if_open (λ l. looped g sub lv l r) (Left a r) o) ≡ if_open (λ l. looped g sub lv l r) (Left a r) o
+          again lv (looped g sub lv) (option_map_or (λ l. looped g sub lv l r) o (Left a r)) ≡ option_map_or (λ l. looped g sub lv l r) o (Left a r)
       go None e = rw e refl
       go (Some l) e = again_closed _ _ (looped_closes g sub lv calls l r (at_level_is lv r.turning l e).0)
   again_again calls (Waits p path r) = refl

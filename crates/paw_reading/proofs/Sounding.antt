@@ -36,12 +36,12 @@ use Rattle.paw_reading.specs.Run.{with_timeout, reply, is_yes, is_no, spoken, ta
 use Rattle.paw_reading.specs.Reading.{IsOver, RunsOut, Redescribes, Restarts, Halts, Out, Left, Waits, Stopped, halts, noted, printing}
 use Rattle.paw_reading.specs.Reading.{after_call, at_level, again, is_taken, named, taken, turns, loop_of, over, answered, asked, waits}
 use Rattle.paw_reading.specs.Reading.{after_test, after_parse, after_action, carried_out, acts, reads_one, condacts, is_for_now, entries}
-use Rattle.paw_reading.specs.Reading.{plain, looped, reads, called, deeper, table_read, goodbye, game_over, quit_question, coming_phrase}
+use Rattle.paw_reading.specs.Reading.{plain, looped, reads, called, deeper, table_read, game_over, coming_phrase}
 use Rattle.paw_reading.specs.GoingOn.{on_path}
 use Rattle.paw_reading.specs.Turn.{TurnStage, AtDescribe, AtFrame, AtPhrase, AtResponse, Ending, WaitsAt, Halted, saying, described, framed}
-use Rattle.paw_reading.specs.Turn.{view_text, counted, prompt_text, line_set, at_main, after_phrase, refusal_text, connected, after_left}
-use Rattle.paw_reading.specs.Turn.{table_done, turn, stages_left, opening, reading, first_table, in_table, goes_on, on, timeout_text}
-use Rattle.paw_reading.specs.Turn.{unknown_text}
+use Rattle.paw_reading.specs.Turn.{view_text, counted, prompt_text, at_main, after_phrase, refusal_text, connected, after_left}
+use Rattle.paw_reading.specs.Turn.{table_done, turn, stages_left, opening, reading, first_table, goes_on, on, timeout_text}
+use Rattle.paw_reading.specs.inner.Steps.{goodbye, quit_question, line_set, in_table, unknown_text}
 use Rattle.paw_reading.proofs.EachCondact.{by_test}
 use Rattle.paw_reading.proofs.Keeps.{either, open_or_not}
 use Rattle.paw_reading.specs.Bounds.{IsLine, ValidStory}
@@ -471,7 +471,7 @@ module _ (g : Story) (valid : ValidStory g) (seed base : ℕ) where
 
   module _ (go : TurnStage → Run → Ending) (goes : (s : TurnStage) → TurnsSound (go s)) where
     connected_sounds : (r : Run) → Is r → (to : Option ℕ) → exit_at g.game (flag r.world 38) (flag r.world 33) ≡ to →
-        EndsSound (connected g (go AtDescribe) (go AtFrame) r to)
+        EndsSound (connected g go r to)
     connected_sounds r k None e = saying_sounds (refusal_text g.game r.world) (go AtFrame) (goes AtFrame) (line_dropped r) (dropped r k)
     connected_sounds r k (Some to) e =
         goes AtDescribe (with_world (with_flag r.world 38 to) r)
@@ -513,7 +513,7 @@ module _ (g : Story) (valid : ValidStory g) (seed base : ℕ) where
         (goes AtPhrase (line_set line s) (line_set_so line s are.0 s_so)))
 
     after_phrase_sounds : (r : Run) → Is r → (p : Parsed) → coming_phrase g r ≡ p →
-        EndsSound (after_phrase g (go AtFrame) (go AtPhrase) (go AtResponse) r p)
+        EndsSound (after_phrase g go r p)
     after_phrase_sounds r k (IsSentence s left) e =
         let taken_run : Is (taken_phrase s left r) = phrase_so r k s left e in
         goes AtResponse (with_world (counted (taken_phrase s left r).world) (taken_phrase s left r))
@@ -549,7 +549,7 @@ module _ (g : Story) (valid : ValidStory g) (seed base : ℕ) where
 
   -- where a reading stops nothing is open, and the run is sound
   pub reading_sounds : (es : List (List ℕ)) → AreLines es → EndsSound (reading g seed es)
-  reading_sounds es are = turn_sounds (stages_left AtDescribe (opening g seed es)) AtDescribe (opening g seed es) (opening_so es are)
+  reading_sounds es are = turn_sounds (stages_left (opening g seed es)) AtDescribe (opening g seed es) (opening_so es are)
 
   in_table_sounds : (n : ℕ) (p : Prompt) (path : List Frame) (r : Run) → Rests r → EndsSound (in_table g n p path r)
   in_table_sounds n p path r k = table_done_sounds (turn g n) (turn_sounds n) (first_table path) (on_path g p 0 path r) (path_sounds p 0 path r k)
@@ -562,4 +562,4 @@ module _ (g : Story) (valid : ValidStory g) (seed base : ℕ) where
   goes_on_sounds n prompt.Over path r k = k
 
   pub going_on_sounds : (p : Prompt) (path : List Frame) (r : Run) → Rests r → EndsSound (on g p path r)
-  going_on_sounds p path r k = goes_on_sounds (stages_left AtResponse r) p path r k
+  going_on_sounds p path r k = goes_on_sounds (stages_left r) p path r k

@@ -22,9 +22,10 @@ use Rattle.paw_reading.specs.Run.{Run, closed, fits, printed, with_world, anew, 
 use Rattle.paw_reading.specs.Reading.{RunsOut, Restarts, Halts, Out, Left, Waits, Stopped, halts, noted, after_call, at_level, again}
 use Rattle.paw_reading.specs.Reading.{is_taken, taken, turns, loop_of, over, answered, asked, after_test, after_parse, after_action}
 use Rattle.paw_reading.specs.Reading.{carried_out, acts, reads_one, plain, looped, reads, called, deeper, rest, table_read, coming_phrase}
-use Rattle.paw_reading.specs.Reading.{goodbye, game_over, quit_question, waits}
+use Rattle.paw_reading.specs.Reading.{game_over, waits}
 use Rattle.paw_reading.specs.GoingOn.{on_path}
 use Rattle.paw_reading.specs.Turn.{left_to_read}
+use Rattle.paw_reading.specs.inner.Steps.{goodbye, quit_question}
 use Rattle.paw_reading.proofs.Keeps.{either, open_or_not, prints}
 use Rattle.paw_reading.proofs.EachCondact.{plain_goes}
 

@@ -20,10 +20,11 @@ use Rattle.paw_reading.specs.declared.places.OpenLoop.{OpenLoop}
 use Rattle.paw_reading.specs.Run.{Run, closed, fits, printed, with_world, anew, is_ignored, heard, reply, is_yes, is_no, taken_phrase}
 use Rattle.paw_reading.specs.Reading.{RunsOut, Restarts, Out, Left, Waits, Stopped, halts, noted, after_call, at_level, again, is_taken}
 use Rattle.paw_reading.specs.Reading.{taken, turns, loop_of, over, answered, asked, after_test, after_parse, after_action, carried_out}
-use Rattle.paw_reading.specs.Reading.{acts, reads_one, plain, looped, reads, called, deeper, rest, table_read, goodbye, game_over}
-use Rattle.paw_reading.specs.Reading.{quit_question, waits}
+use Rattle.paw_reading.specs.Reading.{acts, reads_one, plain, looped, reads, called, deeper, rest, table_read, game_over}
+use Rattle.paw_reading.specs.Reading.{waits}
 use Rattle.paw_reading.specs.GoingOn.{on_path}
 use Rattle.paw_reading.specs.Turn.{first_table}
+use Rattle.paw_reading.specs.inner.Steps.{goodbye, quit_question}
 use Rattle.paw_reading.specs.inner.Places.{IsLoopOf}
 use Rattle.paw_reading.proofs.Keeps.{either, open_or_not, at_level_is, prints}
 use Rattle.paw_reading.proofs.EachCondact.{plain_goes}

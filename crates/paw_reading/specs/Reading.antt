@@ -1,6 +1,7 @@
 -- Reading tables in written order.
 use Rattle.std.specs.Prelude.{ℕ, zero, suc, ◌-◌, ◌==◌, ◌&&◌, ◌||◌, Bool, true, false, not, List, []}
 use Rattle.std.specs.Prelude.{◌∷◌, ◌++◌, Option, Some, None, length, drop, nat_lt, if◌then◌else◌}
+use Rattle.std.specs.Option.{option_map_or}
 use Rattle.paw_base.specs.declared.flags.TheConstants.{VERB_FLAG, NOUN_FLAG, ADJECTIVE_FLAG, SECOND_NOUN_FLAG}
 use Rattle.paw_base.specs.declared.flags.TheConstants.{SECOND_ADJECTIVE_FLAG, PRONOUN_NOUN_FLAG}
 use Rattle.paw_base.specs.declared.flags.TheConstants.{PRONOUN_ADJECTIVE_FLAG, LOOP_FLAG}
@@ -24,7 +25,7 @@ use Rattle.paw_effects.specs.declared.act.Truth.TheVariants as truth
 use Rattle.paw_effects.specs.declared.act.Effect.{Effect}
 use Rattle.paw_effects.specs.declared.act.Effect.TheVariants as effect
 use Rattle.paw_effects.specs.Texts.{put_text, say_text}
-use Rattle.paw_effects.specs.Holds.{Tested, is_condition, holds}
+use Rattle.paw_effects.specs.Holds.{is_condition, holds}
 use Rattle.paw_effects.specs.Effects.{Done, effect_of, referred}
 use Rattle.paw_reading.specs.declared.places.Frame.{Frame}
 use Rattle.paw_reading.specs.declared.places.OpenLoop.{OpenLoop}
@@ -96,14 +97,9 @@ abbrev pub at_level : ℕ → Option OpenLoop → Option OpenLoop
 at_level lv None = None
 at_level lv (Some l) = if l.level == lv then Some l else None
 
--- with the open loop, where there is one
-abbrev pub if_open : (OpenLoop → Out) → Out → Option OpenLoop → Out
-if_open next left None = left
-if_open next left (Some l) = next l
-
 -- a table that is left at the level of the open loop goes on with the loop's next object; else it is as it is
 abbrev pub again : ℕ → (OpenLoop → Run → Out) → Out → Out
-again lv next (Left a r) = if_open (λ l. next l r) (Left a r) (at_level lv r.turning)
+again lv next (Left a r) = option_map_or (λ l. next l r) (at_level lv r.turning) (Left a r)
 again lv next x = x
 
 -- the sentence excepts an object by its second noun, and by its second adjective where it has one
@@ -115,8 +111,7 @@ is_excepted w f =
 
 -- an object with these facts may be taken: it has a noun, and isn't excepted
 abbrev pub may_be_taken : World → Option ObjectFacts → Bool
-may_be_taken w None = false
-may_be_taken w (Some f) = not (f.noun == NO_WORD) && not (is_excepted w f)
+may_be_taken w facts = option_map_or (λ f. not (f.noun == NO_WORD) && not (is_excepted w f)) facts false
 
 -- the loop takes this object: it stands at the place now, and may be taken
 abbrev pub is_taken : GameLists → World → OpenLoop → ℕ → Bool
@@ -124,8 +119,7 @@ is_taken g w l o = (place w o == l.place) && may_be_taken w (facts_at g o)
 
 -- the object's noun and adjective stand in the sentence
 abbrev pub named : World → Option ObjectFacts → World
-named w None = w
-named w (Some f) = with_flag (with_flag w NOUN_FLAG f.noun) ADJECTIVE_FLAG f.adjective
+named w facts = option_map_or (λ f. with_flag (with_flag w NOUN_FLAG f.noun) ADJECTIVE_FLAG f.adjective) facts w
 
 -- the loop's object stands in the sentence and in the loop's flag, and is referred to
 abbrev pub taken : GameLists → OpenLoop → ℕ → Run → Run
@@ -149,26 +143,21 @@ loop_of lv f p = record { level = lv; table = f.table; entry = f.entry; at = f.a
 
 -- ---- prompts ----
 
--- what a game says last
-abbrev pub goodbye : Story → Run → List ℕ
-goodbye g r = say_text g.game r.world GOODBYE_MESSAGE
-
 -- the game is over, with its last piece closed
 abbrev pub game_over : Run → Out
 game_over r = halts IsOver (closed (without_loop (line_dropped r)))
 
 -- END's question answered with no: the game says goodbye and is over
 abbrev pub over : Story → Run → Out
-over g r = printing (goodbye g r) game_over r
+over g r = printing (say_text g.game r.world GOODBYE_MESSAGE) game_over r
 
 -- the answer to a prompt in a table: QUIT goes on at yes and leaves the table at no; END ends the game at no and starts
 -- it anew otherwise; a key goes on
 abbrev pub answered : Story → Prompt → Frame → Onward → List ℕ → Run → Out
-answered g prompt.Main f go line r = go f.acted r
 answered g prompt.Quit f go line r = if is_yes line then go f.acted r else Left true r
 answered g prompt.Again f go line r = if is_no line then over g r else Stopped Restarts (anew r)
 answered g prompt.Key f go line r = go true r
-answered g prompt.Over f go line r = go f.acted r
+answered g _ f go line r = go f.acted r
 
 -- at a prompt in a table, the piece closed: with no line left the run waits; an ignored line closes an empty piece, and
 -- the run waits on; any other is heard and answers
@@ -184,15 +173,12 @@ waits g p f go r = asked g p f go (closed r) r.events
 
 -- ---- one condact ----
 
--- the question of QUIT
-abbrev pub quit_question : Story → Run → List ℕ
-quit_question g r = put_text g.game r.world QUIT_MESSAGE
-
--- after a condition: go reads on at the next condact, next at the next entry
+-- after a condition: go reads on at the next condact, next at the next entry; QUIT puts its question
 abbrev pub after_test : Story → Frame → Onward → Onward → Condact → Run → Truth → Out
 after_test g f next go c r truth.Yes = go f.acted (noted f c true r)
 after_test g f next go c r truth.No = next f.acted (noted f c false r)
-after_test g f next go c r truth.Ask = printing (quit_question g r) (waits g prompt.Quit f go) (noted f c true r)
+after_test g f next go c r truth.Ask =
+    printing (put_text g.game r.world QUIT_MESSAGE) (waits g prompt.Quit f go) (noted f c true r)
 
 -- after PARSE: at a sentence next reads on at the next entry, else go at the next condact
 abbrev pub after_parse : Frame → Onward → Onward → Run → Parsed → Out
@@ -205,10 +191,6 @@ abbrev pub coming_phrase : Story → Run → Parsed
 coming_phrase g r =
     parsed g.game r.pending r.earlier (flag r.world PRONOUN_NOUN_FLAG) (flag r.world PRONOUN_ADJECTIVE_FLAG)
 
--- PARSE takes the next phrase: a sentence leads to the next entry
-abbrev pub parses : Story → Frame → Onward → Onward → Run → Out
-parses g f next go r = after_parse f next go r (coming_phrase g r)
-
 -- how reading goes on after an action; sub reads a table one level deeper
 abbrev pub after_action : Story → Called → ℕ → Frame → Onward → Onward → Effect → Run → Out
 after_action g sub lv f next go effect.Go r = go true r
@@ -217,7 +199,7 @@ after_action g sub lv f next go effect.Redescribe r = Stopped Redescribes (witho
 after_action g sub lv f next go (effect.Call u) r = after_call f go (sub u r)
 after_action g sub lv f next go (effect.Loop p) r = turns g lv (loop_of lv f p) (go true) (length g.game.objects) r
 after_action g sub lv f next go (effect.Ask p) r = waits g p f go r
-after_action g sub lv f next go effect.Parse r = parses g f next go r
+after_action g sub lv f next go effect.Parse r = after_parse f next go r (coming_phrase g r)
 after_action g sub lv f next go effect.Spent r = halts (RunsOut spent.Text) r
 
 -- the line is dropped and the loop cancelled where the action says so
@@ -232,14 +214,11 @@ carried_out d r = record r {
 abbrev pub acts : Story → Called → ℕ → Frame → Onward → Onward → Done → Run → Out
 acts g sub lv f next go d r = printing d.text (λ r'. after_action g sub lv f next go d.act.effect (carried_out d r')) r
 
--- a condition is tested, in the world that its test leaves
-abbrev pub tests : Story → Frame → Onward → Onward → Condact → Run → Tested → Out
-tests g f next go c r tested = after_test g f next go c (with_world tested.world r) tested.answer
-
--- a condact is read
+-- a condact is read: a condition is tested, in the world that its test leaves, and an action is carried out
 abbrev pub reads_one : Story → Called → ℕ → Frame → Onward → Onward → Condact → Run → Out
 reads_one g sub lv f next go c r =
-    if is_condition c then tests g f next go c r (holds g.game r.world c)
+    let tested = holds g.game r.world c in
+    if is_condition c then after_test g f next go c (with_world tested.world r) tested.answer
     else acts g sub lv f next go (effect_of g r.world c) (noted f c true r)
 
 -- ---- entries, tables, levels ----
@@ -279,14 +258,11 @@ abbrev pub plain : Story → Called → ℕ → ℕ → ℕ → ℕ → Bool →
 plain g sub lv t e zero = entries g sub lv t e (drop e (table_at g.game t))
 plain g sub lv t e (suc k) = inside g sub lv t e (suc k)
 
--- the open loop of the level looks for its next object from number o on, and reads on after its DOALL
-abbrev pub looks_from : Story → Called → ℕ → OpenLoop → ℕ → Run → Out
-looks_from g sub lv l o =
-    turns g lv (record l { last = 0 }) (plain g sub lv l.table l.entry (suc l.at) true) (length g.game.objects - o)
-
--- the open loop of the level goes on after the object that it took last
+-- the open loop of the level looks for its next object after the one that it took last, and reads on after its DOALL
 abbrev pub looped : Story → Called → ℕ → OpenLoop → Run → Out
-looped g sub lv l = looks_from g sub lv l (suc l.last)
+looped g sub lv l =
+    let body = plain g sub lv l.table l.entry (suc l.at) true in
+    turns g lv (record l { last = 0 }) body (length g.game.objects - suc l.last)
 
 -- reading on at a level, with the loop that may be open there
 abbrev pub reads : Story → Called → ℕ → ℕ → ℕ → ℕ → Bool → Run → Out

@@ -1,6 +1,7 @@
 -- The turn, and the reading of a list of lines.
 use Rattle.std.specs.Prelude.{ℕ, zero, suc, ◌+◌, ◌-◌, ◌*◌, ◌/◌, ◌%◌, ◌==◌, Bool, true, false, List, [], ◌∷◌, ◌++◌}
-use Rattle.std.specs.Prelude.{Option, Some, None, length, map, sum_by, flat_map, nat_lt, min, if◌then◌else◌}
+use Rattle.std.specs.Prelude.{Option, Some, None, length, map, sum_by, nat_lt, min, if◌then◌else◌}
+use Rattle.std.specs.List.{concat}
 use Rattle.paw_base.specs.declared.flags.TheConstants.{VIEW_FLAG, DARK_VIEW_FLAG, UNLIT_VIEW_FLAG, FIRST_FRAME_FLAG}
 use Rattle.paw_base.specs.declared.flags.TheConstants.{LAST_FRAME_FLAG, DARK_FRAME_FLAG, UNLIT_FRAME_FLAG}
 use Rattle.paw_base.specs.declared.flags.TheConstants.{LOW_TURNS_FLAG, HIGH_TURNS_FLAG, VERB_FLAG, LOCATION_FLAG}
@@ -23,7 +24,7 @@ use Rattle.paw_effects.specs.Texts.{put_text, say_text, location_text}
 use Rattle.paw_reading.specs.declared.places.Frame.{Frame}
 use Rattle.paw_reading.specs.Run.{Run, closed, fits, printed, with_world, line_dropped, is_timeout}
 use Rattle.paw_reading.specs.Run.{is_ignored, heard, with_timeout, taken_phrase}
-use Rattle.paw_reading.specs.Reading.{Halt, IsOver, RunsOut, Stop, Redescribes, Restarts, Halts}
+use Rattle.paw_reading.specs.Reading.{Halt, IsOver, RunsOut, Halts}
 use Rattle.paw_reading.specs.Reading.{Out, Left, Waits, Stopped, coming_phrase, table_read}
 use Rattle.paw_reading.specs.GoingOn.{on_path}
 
@@ -49,18 +50,6 @@ Turning = Run → Ending
 abbrev pub saying : List ℕ → Turning → Run → Ending
 saying text go r = if fits r text then go (printed text r) else Halted (RunsOut spent.Text) r
 
--- after a stop the location is described, or the reading ends
-abbrev pub after_stop : Turning → Stop → Run → Ending
-after_stop describe Redescribes r = describe r
-after_stop describe Restarts r = describe r
-after_stop describe (Halts halt) r = Halted halt r
-
--- after a table at level 0: left with an action carried out or not, waiting, or stopped
-abbrev pub after_outermost : Turning → (Bool → Turning) → Out → Ending
-after_outermost describe next (Left a r) = next a r
-after_outermost describe next (Waits p path r) = WaitsAt p path r
-after_outermost describe next (Stopped stop r) = after_stop describe stop r
-
 -- flags that fall when a location is described: one always, one in the dark, one without light
 abbrev pub described : World → World
 described w =
@@ -76,55 +65,39 @@ framed w =
 abbrev pub view_text : GameLists → World → List ℕ
 view_text g w = if is_unlit w then say_text g w DARK_MESSAGE else location_text g w (flag w LOCATION_FLAG)
 
--- the number of turns stands in two flags, the low byte and the high one
-abbrev pub with_turns : ℕ → World → World
-with_turns n w = with_flag (with_flag w LOW_TURNS_FLAG (n % 256)) HIGH_TURNS_FLAG (n / 256)
-
--- one more turn, up to 65,535
+-- one more turn, up to 65,535: the number stands in two flags, the low byte and the high one
 abbrev pub counted : World → World
-counted w = with_turns (min 65535 (turns_taken w + 1)) w
+counted w =
+    let n = min 65535 (turns_taken w + 1) in with_flag (with_flag w LOW_TURNS_FLAG (n % 256)) HIGH_TURNS_FLAG (n / 256)
 
--- the prompt is the message that a flag names, or the usual one where that is 0
-abbrev pub prompt_message : World → ℕ
-prompt_message w = if flag w PROMPT_FLAG == 0 then PROMPT_MESSAGE else flag w PROMPT_FLAG
-
--- the prompt, and the mark at which a line is typed
+-- the prompt, which is the message that a flag names, or the usual one where that is 0, and the mark at which a line is
+-- typed
 abbrev pub prompt_text : GameLists → World → List ℕ
-prompt_text g w = say_text g w (prompt_message w) ++ put_text g w LINE_MESSAGE
-
--- a line becomes the pending bytes, with no verb before
-abbrev pub line_set : List ℕ → Run → Run
-line_set line r = record r { world = with_timeout false r.world; pending = line; earlier = NO_WORD }
+prompt_text g w =
+    say_text g w (if flag w PROMPT_FLAG == 0 then PROMPT_MESSAGE else flag w PROMPT_FLAG) ++ put_text g w LINE_MESSAGE
 
 -- what a timeout at the main prompt says
 abbrev pub timeout_text : GameLists → World → List ℕ
 timeout_text g w = say_text g (with_timeout true w) TIMEOUT_MESSAGE
 
 -- at the main prompt: with no line left the run waits; an ignored line closes an empty piece, and the run waits on; a
--- timeout leads to the frame, any other line to its first phrase
+-- timeout leads to the frame; any other line becomes the pending bytes, with no verb before, and leads to its first
+-- phrase
 unfoldable pub at_main : Story → Turning → Turning → Run → List (List ℕ) → Ending
 at_main g frame phrase r [] = WaitsAt prompt.Main [] (record r { events = [] })
 at_main g frame phrase r (line ∷ lines) =
     if is_ignored r.world line then at_main g frame phrase (closed (record r { events = lines })) lines
     else if is_timeout line then saying (timeout_text g.game r.world) frame (heard line (record r { events = lines }))
-    else phrase (line_set line (record r { events = lines }))
-
--- the prompt is shown, the piece is closed, and the game waits for a line
-abbrev pub prompts : Story → Turning → Turning → Run → Ending
-prompts g frame phrase r =
-    saying (prompt_text g.game r.world) (λ s. at_main g frame phrase (closed s) s.events) (line_dropped r)
-
--- what is said to a phrase with no known word
-abbrev pub unknown_text : GameLists → World → List ℕ
-unknown_text g w = say_text g w UNKNOWN_MESSAGE
+    else phrase (record r { world = with_timeout false r.world; pending = line; earlier = NO_WORD; events = lines })
 
 -- the next phrase: a sentence counts a turn and is responded to; at one with no known word that is said, and the
--- rest of the line is dropped; with none left comes the prompt
-abbrev pub after_phrase : Story → Turning → Turning → Turning → Run → Parsed → Ending
-after_phrase g frame phrase response r (IsSentence s rest) =
-    response (with_world (counted (taken_phrase s rest r).world) (taken_phrase s rest r))
-after_phrase g frame phrase response r (IsUnknown rest) = saying (unknown_text g.game r.world) frame (line_dropped r)
-after_phrase g frame phrase response r IsNoPhrase = prompts g frame phrase r
+-- rest of the line is dropped; with none left the prompt is shown, the piece is closed, and the game waits for a line
+abbrev pub after_phrase : Story → (TurnStage → Run → Ending) → Run → Parsed → Ending
+after_phrase g go r (IsSentence s rest) =
+    go AtResponse (with_world (counted (taken_phrase s rest r).world) (taken_phrase s rest r))
+after_phrase g go r (IsUnknown rest) = saying (say_text g.game r.world UNKNOWN_MESSAGE) (go AtFrame) (line_dropped r)
+after_phrase g go r IsNoPhrase =
+    saying (prompt_text g.game r.world) (λ s. at_main g (go AtFrame) (go AtPhrase) (closed s) s.events) (line_dropped r)
 
 -- no entry answered and there is no exit: there is no way for a direction, and else the verb is impossible
 abbrev pub refusal_text : GameLists → World → List ℕ
@@ -132,29 +105,25 @@ refusal_text g w =
     say_text g w (if nat_lt (flag w VERB_FLAG) FIRST_PLAIN_VERB then NO_WAY_MESSAGE else IMPOSSIBLE_MESSAGE)
 
 -- the exit for the verb is taken; where there is none that is said, and the line is dropped
-abbrev pub connected : Story → Turning → Turning → Run → Option ℕ → Ending
-connected g describe frame r None = saying (refusal_text g.game r.world) frame (line_dropped r)
-connected g describe frame r (Some to) = describe (with_world (with_flag r.world LOCATION_FLAG to) r)
+abbrev pub connected : Story → (TurnStage → Run → Ending) → Run → Option ℕ → Ending
+connected g go r None = saying (refusal_text g.game r.world) (go AtFrame) (line_dropped r)
+connected g go r (Some to) = go AtDescribe (with_world (with_flag r.world LOCATION_FLAG to) r)
 
--- the exit of the location for the verb is looked for
-abbrev pub connections : Story → Turning → Turning → Run → Ending
-connections g describe frame r =
-    connected g describe frame r (exit_at g.game (flag r.world LOCATION_FLAG) (flag r.world VERB_FLAG))
-
--- after table 0: with an action carried out comes the frame, else the connections are tried
-abbrev pub responded : Story → Turning → Turning → Bool → Run → Ending
-responded g describe frame true r = frame r
-responded g describe frame false r = connections g describe frame r
-
--- after table 0 comes the response's end, after table 1 the frame, after table 2 the fall of flags and the next phrase
+-- after table 0 comes the frame where an action was carried out, and else the exit of the location for the verb is
+-- looked for; after table 1 comes the frame, after table 2 the fall of flags and the next phrase
 abbrev pub after_left : Story → (TurnStage → Run → Ending) → ℕ → Bool → Run → Ending
-after_left g go zero acted r = responded g (go AtDescribe) (go AtFrame) acted r
+after_left g go zero true r = go AtFrame r
+after_left g go zero false r = connected g go r (exit_at g.game (flag r.world LOCATION_FLAG) (flag r.world VERB_FLAG))
 after_left g go (suc zero) acted r = go AtFrame r
 after_left g go (suc (suc t)) acted r = go AtPhrase (with_world (framed r.world) r)
 
--- how the turn goes on after a table
+-- how the turn goes on after a table at level 0, which was left, waits, or was stopped: then play ends for good, or the
+-- location is described
 abbrev pub table_done : Story → (TurnStage → Run → Ending) → ℕ → Out → Ending
-table_done g go t x = after_outermost (go AtDescribe) (after_left g go t) x
+table_done g go t (Left acted r) = after_left g go t acted r
+table_done g go t (Waits p path r) = WaitsAt p path r
+table_done g go t (Stopped (Halts halt) r) = Halted halt r
+table_done g go t (Stopped _ r) = go AtDescribe r
 
 -- at most n stages of the turn
 unfoldable pub turn : Story → ℕ → TurnStage → Run → Ending
@@ -163,8 +132,7 @@ turn g (suc n) AtDescribe r =
     let view = view_text g.game (described r.world) in
     saying view (λ s. table_done g (turn g n) 1 (table_read g 1 s)) (with_world (described r.world) r)
 turn g (suc n) AtFrame r = table_done g (turn g n) 2 (table_read g 2 r)
-turn g (suc n) AtPhrase r =
-    after_phrase g (turn g n AtFrame) (turn g n AtPhrase) (turn g n AtResponse) r (coming_phrase g r)
+turn g (suc n) AtPhrase r = after_phrase g (turn g n) r (coming_phrase g r)
 turn g (suc n) AtResponse r = table_done g (turn g n) 0 (table_read g 0 r)
 
 -- how much a run may still read: what is left of the line, what the open piece may still read, and what each line
@@ -173,16 +141,13 @@ abbrev pub left_to_read : Run → ℕ
 left_to_read r =
     length r.pending + (READ_LIMIT - length r.read) + sum_by (λ line. length line + suc READ_LIMIT) r.events
 
--- so many stages are enough from a stage on
-abbrev pub stages_left : TurnStage → Run → ℕ
-stages_left AtPhrase r = 4 * left_to_read r + 1
-stages_left AtFrame r = 4 * left_to_read r + 2
-stages_left AtDescribe r = 4 * left_to_read r + 3
-stages_left AtResponse r = 4 * left_to_read r + 4
+-- so many stages are enough, from any stage on
+abbrev pub stages_left : Run → ℕ
+stages_left r = 4 * left_to_read r + 4
 
 -- the turns from a stage on, to the end of the reading
 abbrev pub turns_from : Story → TurnStage → Run → Ending
-turns_from g s r = turn g (stages_left s r) s r
+turns_from g s r = turn g (stages_left r) s r
 
 -- ---- the reading ----
 
@@ -204,20 +169,15 @@ opening g seed es = record {
 abbrev pub reading : Story → ℕ → List (List ℕ) → Ending
 reading g seed es = turns_from g AtDescribe (opening g seed es)
 
--- the run in which a reading ended
-abbrev pub run_of : Ending → Option Run
-run_of (WaitsAt p path r) = Some r
-run_of (Halted halt r) = Some r
-run_of Unended = None
+-- the closed pieces of a reading
+abbrev pub pieces_of : Ending → List (List ℕ)
+pieces_of (WaitsAt p path r) = r.pieces
+pieces_of (Halted halt r) = r.pieces
+pieces_of Unended = []
 
--- its closed pieces
-abbrev pub pieces_of : Option Run → List (List ℕ)
-pieces_of None = []
-pieces_of (Some r) = r.pieces
-
--- the text of the closed pieces of a reading
+-- their text
 abbrev pub text_of : Ending → List ℕ
-text_of e = flat_map (λ piece. piece) (pieces_of (run_of e))
+text_of e = concat (pieces_of e)
 
 -- ---- going on ----
 
@@ -226,19 +186,13 @@ abbrev pub first_table : List Frame → ℕ
 first_table [] = 0
 first_table (f ∷ path) = f.table
 
--- going on from a prompt inside tables, in at most n stages more
-abbrev pub in_table : Story → ℕ → Prompt → List Frame → Run → Ending
-in_table g n p path r = table_done g (turn g n) (first_table path) (on_path g p 0 path r)
-
--- going on from a prompt with the run's lines, in at most n stages more; nothing is put again, and no piece is closed
--- first
+-- going on from a prompt with the run's lines, in at most n stages more, at the main prompt or inside tables; nothing
+-- is put again, and no piece is closed first
 abbrev pub goes_on : Story → ℕ → Prompt → List Frame → Run → Ending
 goes_on g n prompt.Main path r = at_main g (turn g n AtFrame) (turn g n AtPhrase) r r.events
-goes_on g n prompt.Quit path r = in_table g n prompt.Quit path r
-goes_on g n prompt.Again path r = in_table g n prompt.Again path r
-goes_on g n prompt.Key path r = in_table g n prompt.Key path r
 goes_on g n prompt.Over path r = Halted IsOver r
+goes_on g n p path r = table_done g (turn g n) (first_table path) (on_path g p 0 path r)
 
 -- going on from a prompt with the run's lines
 abbrev pub on : Story → Prompt → List Frame → Run → Ending
-on g p path r = goes_on g (stages_left AtResponse r) p path r
+on g p path r = goes_on g (stages_left r) p path r

@@ -59,7 +59,7 @@ module _ (n : ℕ) (es lines behind : List (List ℕ)) (all : (es ++ lines) ++ b
       PlaysWith (StandsFor (trial_story n) n es lines) whole past store_name most old new o →
       ComesTo n (es ++ lines) new (stop_of o)
   half_comes past most old new play.InputEnded is p =
-      let reads = p.shows.4 in
+      let reads = p.shows.1.3 in
       let count : p.session.0 ≡ length lines = omega (arith, p.session.1, ap (λ (x : Standing). x.asked) reads.stands, ap length is) in
       let rests = p.session.2 in
       let taken : first_lines (length lines) lines ≡ lines = all_taken lines are in

@@ -9,7 +9,7 @@ use Rattle.paw_phrase.specs.Sentence.{Parsed, IsUnknown, IsNoPhrase}
 use Rattle.paw_phrase.proofs.Phrases.{Leaves, parsed-shorter}
 use Rattle.paw_effects.specs.Texts.{say_text}
 use Rattle.paw_reading.specs.Run.{Run}
-use Rattle.paw_reading.specs.Turn.{Ending, AtFrame, AtPhrase, AtResponse, saying, counted, prompts, after_phrase, turn}
+use Rattle.paw_reading.specs.Turn.{Ending, AtPhrase, AtResponse, saying, counted, after_phrase, turn}
 use Rattle.paw_process.specs.inner.Phrases.{next_phrase, Speaks}
 use Rattle.paw_turn.specs.declared.stage.Next.{Next}
 use Rattle.paw_turn.specs.declared.stage.Next.TheVariants as next
@@ -19,7 +19,7 @@ use Rattle.paw_turn.specs.inner.Stages.{run_now, GoesOnAs, Moves, at_stage, with
 
 -- the stage with what the next phrase is
 abbrev pub phrased : Story → ℕ → Run → Parsed → Ending
-phrased g n r = after_phrase g (turn g n AtFrame) (turn g n AtPhrase) (turn g n AtResponse) r
+phrased g n r = after_phrase g (turn g n) r
 
 -- a sentence counts a turn and is responded to
 pub sentence_moves : (g : Story) (old new : Turn) (w : World)
@@ -48,12 +48,11 @@ unknown_moves g old new nx rest w p is world pending moves past n lines =
 -- with no phrase left comes the prompt
 pub none_moves : (g : Story) (old new : Turn) (nx : Next) (w : World) (p : PendingLine)
     → next_phrase g.game old.situation.world old.situation.pending ≡ IsNoPhrase → w ≡ old.situation.world → p ≡ old.situation.pending
-    → Moves g (λ n r. prompts g (turn g n AtFrame) (turn g n AtPhrase) r) (with_line w p old) nx new
+    → Moves g (λ n r. after_phrase g (turn g n) r IsNoPhrase) (with_line w p old) nx new
     → Moves g (λ n r. turn g (suc n) AtPhrase r) old nx new
 unfolding turn
 none_moves g old new nx w p is world pending moves past n lines =
-    let M : World → PendingLine → Type 0 = λ w' p'. Moves g (λ n' r. prompts g (turn g n' AtFrame) (turn g n' AtPhrase) r)
-    (with_line w' p' old) nx new in
+    let M : World → PendingLine → Type 0 = λ w' p'. Moves g (λ n' r. after_phrase g (turn g n') r IsNoPhrase) (with_line w' p' old) nx new in
     let from = subst (λ w'. M w' old.situation.pending) world (subst (M w) pending moves) in
     subst (GoesOnAs g n nx new.machine.frames (run_now new past lines))
     (sym (ap (phrased g n (run_now old past lines)) is))

@@ -1,9 +1,10 @@
 -- The prompt.
 use Rattle.std.proofs.Common.{◌+◌, ◌<◌, length, refl}
 use Rattle.paw_base.specs.declared.fault.SpentKind.TheVariants as spent
+use Rattle.paw_phrase.specs.Sentence.{IsNoPhrase}
 use Rattle.paw_effects.specs.Story.{Story}
 use Rattle.paw_reading.specs.Run.{line_dropped, closed}
-use Rattle.paw_reading.specs.Turn.{AtFrame, AtPhrase, at_main, prompt_text, prompts, turn}
+use Rattle.paw_reading.specs.Turn.{AtFrame, AtPhrase, at_main, prompt_text, after_phrase, turn}
 use Rattle.paw_turn.specs.declared.Step.TheVariants as step
 use Rattle.paw_turn.specs.declared.stage.Next.TheVariants as next
 use Rattle.paw_turn.specs.declared.turn.Turn.{Turn}
@@ -12,7 +13,7 @@ use Rattle.paw_turn.proofs.Says.{unsaid}
 
 -- a prompt that doesn't fit
 pub prompt_unsaid : (g : Story) (old new : Turn) → 65535 < length old.situation.piece + length (prompt_text g.game old.situation.world)
-    → Moves g (λ n r. prompts g (turn g n AtFrame) (turn g n AtPhrase) r) old (next.Stop (step.Spent spent.Text)) new
+    → Moves g (λ n r. after_phrase g (turn g n) r IsNoPhrase) old (next.Stop (step.Spent spent.Text)) new
 prompt_unsaid g old new h past n lines = (
   line_dropped (run_now old past lines),
   unsaid (prompt_text g.game old.situation.world)

@@ -9,7 +9,7 @@ use Rattle.paw_effects.specs.inner.Opening.{opening_world}
 use Rattle.paw_reading.specs.declared.places.OpenLoop.{OpenLoop}
 use Rattle.paw_reading.specs.Run.{Run, Step as Read, closed}
 use Rattle.paw_reading.specs.Reading.{Halt, RunsOut, CallsTooDeep}
-use Rattle.paw_reading.specs.Turn.{Ending, Unended, AtDescribe, AtResponse, turns_from, stages_left, opening, reading, on}
+use Rattle.paw_reading.specs.Turn.{Ending, Unended, AtDescribe, turns_from, stages_left, opening, reading, on}
 use Rattle.paw_reading.proofs.Ends.{ends_once, going_on_ends, goes_on_once}
 use Rattle.paw_process.specs.OpenTables.{OpenTables}
 use Rattle.paw_process.specs.inner.OpenTables.{HasRead}
@@ -51,7 +51,7 @@ settles g routines whole total once (step.Waits p) last new past has stops = (
     has.steps,
     λ lines.
         let r : Run = closed (run_now new past lines) in
-        let k = stops (stages_left AtResponse r) lines in
+        let k = stops (stages_left r) lines in
         sym (once k.0 lines (λ e. going_on_ends g p (reverse new.machine.frames) r (sym k.1 ∙ e))) ∙ k.1,
   ),
 )

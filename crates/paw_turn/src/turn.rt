@@ -1,15 +1,17 @@
 // A turn in work, and its stages.
 
 ghost use Rattle.std.specs.Prelude.{◌≡◌, suc, ◌+◌, ◌*◌, ◌<◌, ◌≤◌, ◌^◌, ◌++◌, ℕ, List, [], length, map, None};
+ghost use Rattle.std.specs.Prelude.{false};
 ghost use Rattle.paw_base.specs.inner.Piece.{Puts, piece_limit};
 ghost use Rattle.paw_game.specs.Valid.{Valid};
+ghost use Rattle.paw_phrase.specs.Sentence.{IsNoPhrase};
 ghost use Rattle.paw_effects.specs.Story.{story_of};
 ghost use Rattle.paw_effects.specs.inner.Opening.{opening_world};
 ghost use Rattle.paw_effects.specs.Texts.{say_text};
 ghost use Rattle.paw_reading.specs.Run.{line_dropped};
 ghost use Rattle.paw_reading.specs.Reading.{table_read};
 ghost use Rattle.paw_reading.specs.Turn.{saying, view_text, prompt_text, refusal_text, AtDescribe, AtFrame, AtPhrase};
-ghost use Rattle.paw_reading.specs.Turn.{AtResponse, prompts, connections, after_left, table_done, turn};
+ghost use Rattle.paw_reading.specs.Turn.{AtResponse, after_phrase, after_left, table_done, turn};
 ghost use Rattle.paw_process.specs.inner.OpenTables.{ReadsNone, IsClosed, new_machine};
 ghost use Rattle.paw_turn.specs.declared.stage.Stage.TheVariants as stage;
 ghost use Rattle.paw_turn.specs.declared.stage.Next.TheVariants as next;
@@ -218,7 +220,7 @@ impl Turn {
     fn prompt<T: Tables>(&mut self, tables: &T) -> Next
         requires ready { MayGoOn (T.game tables.now) self.old }
         ensures meaning { (X : List (List ℕ)) → let g = story_of (T.game tables.now) X in
-            Moves g (λ n r. prompts g (turn g n AtFrame) (turn g n AtPhrase) r) self.old result self.new }
+            Moves g (λ n r. after_phrase g (turn g n) r IsNoPhrase) self.old result self.new }
         ensures keeps { KeepsGame (T.game tables.now) self.old result self.new }
         ensures falls { (most : ℕ) → Falls most result self.new }
         ensures machine { self.new.machine ≡ self.old.machine }
@@ -254,7 +256,7 @@ impl Turn {
     fn connect<T: Tables>(&mut self, tables: &T) -> Next
         requires ready { MayGoOn (T.game tables.now) self.old }
         ensures meaning { (X : List (List ℕ)) → let g = story_of (T.game tables.now) X in
-            Moves g (λ n r. connections g (turn g n AtDescribe) (turn g n AtFrame) r) self.old result self.new }
+            Moves g (λ n r. after_left g (turn g n) 0 false r) self.old result self.new }
         ensures keeps { KeepsGame (T.game tables.now) self.old result self.new }
         ensures falls { Falls (work stage.Response self.old) result self.new }
         ensures machine { self.new.machine ≡ self.old.machine }

@@ -1,6 +1,7 @@
 -- What stands on the way, inside a call.
 use Rattle.std.specs.Prelude.{◌≡◌, ◌≢◌, ◌⊎◌, ℕ, suc, ◌+◌, ◌<◌, ◌≤◌, List, [], ◌++◌, length, take}
 use Rattle.std.specs.Prelude.{reverse, Option, Some, None, Result, Ok, Err}
+use Rattle.std.specs.List.{concat}
 use Rattle.std.specs.Fn.{Shared}
 use Rattle.paw_stage.specs.Disk.{IsStable}
 use Rattle.paw_stage.specs.Stage.{Standing}
@@ -28,7 +29,7 @@ use Rattle.paw_play.specs.declared.PlayEnd.{PlayEnd}
 use Rattle.paw_play.specs.declared.PlayEnd.TheVariants as end
 use Rattle.paw_play.specs.declared.TheConstants.{MOST_EVENTS}
 use Rattle.paw_play.specs.Session.{kept_bytes}
-use Rattle.paw_play.specs.Walk.{EndingOf, first_lines, advanced, joined, text_before, Walks}
+use Rattle.paw_play.specs.Walk.{EndingOf, first_lines, advanced, text_before, Walks}
 use Rattle.paw_play.specs.Keeping.{InMakingOf, StaysAttached, RestsWith}
 use Rattle.paw_play.specs.Play.{PlayedSession, KeptBy, InPlay, PlaysOn, PlaysIn, with_store}
 use Rattle.paw_play.specs.inner.Telling.{Telling, Plain, HaveSteps, told_pieces, told_as}
@@ -53,7 +54,7 @@ pub record IsWalking {F : Type 0} (telling : Telling) (g : Story) (whole : Endin
       whole (first_lines n old.lines ++ more)
       ≡ on g prompt (reverse seat.machine.frames) (run_at seat pieces traces more)
   pub there : n ≤ length old.lines
-  pub stands : now ≡ advanced old n (joined (told_pieces telling pieces traces))
+  pub stands : now ≡ advanced old n (concat (told_pieces telling pieces traces))
 
 -- a step that brings a piece
 abbrev pub ShowsPiece : Step → Type 0

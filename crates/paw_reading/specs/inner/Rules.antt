@@ -1,5 +1,5 @@
 -- The rules of reading on in written order, as equations.
-use Rattle.std.specs.Prelude.{◌≡◌, ℕ, suc, ◌<◌, ◌≤◌, Bool, true, false, List, [], ◌∷◌, Some, None, length}
+use Rattle.std.specs.Prelude.{◌≡◌, ℕ, suc, ◌-◌, ◌<◌, ◌≤◌, Bool, true, false, List, [], ◌∷◌, Some, None, length}
 use Rattle.paw_base.specs.declared.limits.TheConstants.{READ_LIMIT, LEVEL_LIMIT}
 use Rattle.paw_base.specs.declared.parts.Condact.{Condact}
 use Rattle.paw_base.specs.declared.fault.SpentKind.TheVariants as spent
@@ -21,9 +21,10 @@ use Rattle.paw_reading.specs.declared.places.OpenLoop.{OpenLoop}
 use Rattle.paw_reading.specs.Run.{Run, closed, fits, printed, with_world, without_loop, anew}
 use Rattle.paw_reading.specs.Run.{is_ignored, heard, reply, is_yes, is_no, taken_phrase}
 use Rattle.paw_reading.specs.Reading.{RunsOut, CallsTooDeep, Redescribes, Restarts, Out, Left, Waits, Stopped}
-use Rattle.paw_reading.specs.Reading.{halts, noted, after_call, at_level, again, is_taken, taken, loop_of}
-use Rattle.paw_reading.specs.Reading.{over, quit_question, coming_phrase, after_action, carried_out, frame_at}
-use Rattle.paw_reading.specs.Reading.{is_for_now, inside, plain, looks_from, looped, deeper, rest}
+use Rattle.paw_reading.specs.Reading.{halts, noted, after_call, at_level, again, is_taken, taken, turns, loop_of}
+use Rattle.paw_reading.specs.Reading.{over, coming_phrase, after_action, carried_out, frame_at}
+use Rattle.paw_reading.specs.Reading.{is_for_now, inside, plain, looped, deeper, rest}
+use Rattle.paw_reading.specs.inner.Steps.{quit_question}
 use Rattle.paw_reading.specs.GoingOn.{on_path}
 
 -- ---- words ----
@@ -44,9 +45,11 @@ at_frame g lv f r = again lv (looped g (deeper g lv) lv) (inside g (deeper g lv)
 abbrev pub leaves : Story → ℕ → Bool → Run → Out
 leaves g lv acted r = again lv (looped g (deeper g lv) lv) (Left acted r)
 
--- a loop looks for its next object from number o on
+-- a loop looks for its next object from number o on, and reads on after its DOALL
 abbrev pub looks : Story → ℕ → OpenLoop → ℕ → Run → Out
-looks g lv l o r = looks_from g (deeper g lv) lv l o r
+looks g lv l o r =
+    let body = plain g (deeper g lv) lv l.table l.entry (suc l.at) true in
+    turns g lv (record l { last = 0 }) body (length g.game.objects - o) r
 
 -- the table at the condact after a frame's, whatever loop is open
 abbrev pub plain_past : Story → ℕ → Frame → Bool → Run → Out
