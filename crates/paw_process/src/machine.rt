@@ -27,6 +27,7 @@ use crate::Turned;
 use crate::frame::{answered, start_of};
 use crate::kept::{FrameFault, Frames, frames_fault, waiting_at};
 use crate::situation::Situation;
+use crate::step::Rulebook;
 use paw_base::limits::READ_LIMIT;
 use paw_base::parts::Condact;
 use paw_base::steps::{StepRow, Steps};
@@ -149,8 +150,9 @@ impl Machine {
         ensures after { IsAfterStep (T.game tables.now) (having situation.old self.old)
             (having situation.new self.new) }
     {
+        let rulebook = Rulebook { tables, routines };
         loop {
-            match self.step(tables, routines, situation) {
+            match rulebook.step(self, situation) {
                 Some(turned) => return turned,
                 None => {}
             }
