@@ -18,13 +18,17 @@ use Rattle.paw_process.specs.declared.kept.Frames.{Frames}
 abbrev pub unused : Frame
 unused = record { table = 0; entry = 0; at = 0; acted = false }
 
--- the frames with the outermost first, and unused rows up to the most that may be open
-abbrev pub kept : OpenTables → Frames
-kept m = record {
-  count = length m.frames;
-  rows = reverse m.frames ++ replicate (MOST_FRAMES - length m.frames) unused;
-  turning = m.turning;
+-- the frames of a path, the outermost first, with unused rows up to the most that may be open, and its loop
+abbrev pub frames_at : List Frame → Option OpenLoop → Frames
+frames_at path turning = record {
+  count = length path;
+  rows = path ++ replicate (MOST_FRAMES - length path) unused;
+  turning = turning;
 }
+
+-- what is kept of a machine
+abbrev pub kept : OpenTables → Frames
+kept m = frames_at (reverse m.frames) m.turning
 
 -- ---- the rules ----
 

@@ -164,7 +164,7 @@ impl Machine {
     pub fn frames(&self) -> Frames
         ensures value { result ≡ kept_of self.now }
         ensures again { (p : AtPrompt) → StandsAt p self.now → restored result (waiting_at p) ≡ refilled self.now }
-        ensures sound { (g : GameLists) (p : AtPrompt) → StandsAt p self.now →
+        ensures sound { (g : GameLists) (p : AtPrompt) →
             ArePlaces g p (reverse self.now.frames) self.now.turning → frames_fault g p result ≡ None }
     {
         let mut rows = [start_of(0); MOST_FRAMES];

@@ -22,7 +22,8 @@ use Rattle.paw_reading.specs.inner.Places.{ArePlaces, IsLoopOf}
 use Rattle.paw_phrase.specs.Pending.{PendingLine}
 use Rattle.paw_process.specs.OpenTables.{OpenTables}
 use Rattle.paw_process.specs.inner.OpenTables.{IsWaiting, IsClosed, new_machine, refilled}
-use Rattle.paw_process.specs.Kept.{kept, rows_fault, table_of, is_that_table, loop_stands, loop_fault, first_fault, count_fits, fault_at, frames_fault}
+use Rattle.paw_process.specs.Kept.{kept, rows_fault, table_of, is_that_table, loop_stands, loop_fault, first_fault}
+use Rattle.paw_process.specs.Kept.{count_fits, fault_at, frames_fault, waiting_code}
 use Rattle.paw_process.specs.inner.Kept.{restored, waiting_at}
 use Rattle.paw_process.specs.inner.Kept.{StandsAt as MachineStandsAt}
 use Rattle.paw_process.specs.declared.kept.Frames.{Frames}
@@ -128,7 +129,7 @@ module _ {F : Type 0} (p : Seat F) (seated : IsSeated p) (standing : IsStanding 
   -- its places are never refused
   pub places_kept : frames_fault p.game (prompt_at p.last) (kept p.machine) ≡ None
   places_kept =
-      places_fit p.game (prompt_at p.last) p.machine (machine_stands p.last p.machine seated.machine standing) (seated.rightly standing).places
+      places_fit p.game (waiting_code (prompt_at p.last)) (reverse p.machine.frames) p.machine.turning (seated.rightly standing).places
 
   -- and a player that stands with them is the same but for the piece
   pub same_seat : seat_at p.game p.routines p.world p.machine p.pending (prompt_at p.last) ≡ record p { piece = [] }
