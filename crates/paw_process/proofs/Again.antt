@@ -2,6 +2,7 @@
 use Rattle.std.proofs.Common.{◌≡◌, ℕ, zero, suc, ◌-◌, ◌≤◌, Bool, true, false, List, [], ◌∷◌, ◌++◌, Option, Some}
 use Rattle.std.proofs.Common.{None, length, take, replicate, reverse, refl, sym, ap, ◌∙◌, arith}
 use Rattle.std.specs.Prelude.{◌==◌, if◌then◌else◌, not, nat_lt}
+use Rattle.std.specs.Option.{option_or, unwrap_or}
 use Rattle.std.proofs.Math.Seq.{take-append_seam}
 use Rattle.std.proofs.lemmas.Bool.{eqb-true, leb-true}
 use Rattle.std.proofs.lemmas.List.{reverse-reverse}
@@ -16,8 +17,8 @@ use Rattle.paw_process.specs.OpenTables.{OpenTables}
 use Rattle.paw_process.specs.inner.OpenTables.{refilled}
 use Rattle.paw_process.proofs.Rows.{length_rows}
 use Rattle.paw_process.proofs.Restored.{first_of, second, no_first}
-use Rattle.paw_process.specs.Kept.{unused, frames_at, kept, is_unused, row_stands, rows_fault, condact_of, parameter_of, first_fault}
-use Rattle.paw_process.specs.Kept.{loop_fault, count_fits, fault_at, frames_fault, waiting_code, code_or_zero}
+use Rattle.paw_process.specs.Kept.{unused, frames_at, kept, is_unused, row_stands, rows_fault, condact_of, parameter_of}
+use Rattle.paw_process.specs.Kept.{loop_fault, count_fits, fault_at, frames_fault, waiting_code}
 use Rattle.paw_process.specs.inner.Kept.{restored, waiting_at, StandsAt}
 
 -- ---- the machine again ----
@@ -109,11 +110,11 @@ kept_at g code waiting k size h = go (count_fits code k.count) refl h
   where
     go : (b : Bool) → count_fits code k.count ≡ b
         → ◌≡◌ {A = Option ℕ}
-        (if b then first_fault (rows_fault g (code_or_zero code) None k.count 0 k.rows) (loop_fault g k k.turning) else Some 0) None
+        (if b then option_or (rows_fault g (unwrap_or code 0) None k.count 0 k.rows) (loop_fault g k k.turning) else Some 0) None
         → kept (restored k waiting) ≡ k
     go true e q =
-        let fits = no_first (rows_fault g (code_or_zero code) None k.count 0 k.rows) (loop_fault g k k.turning) q in
-        kept_of k.count k.rows k.turning (low_count code k.count e) size (used_then_not g (code_or_zero code) None k.count 0 k.rows fits.0)
+        let fits = no_first (rows_fault g (unwrap_or code 0) None k.count 0 k.rows) (loop_fault g k k.turning) q in
+        kept_of k.count k.rows k.turning (low_count code k.count e) size (used_then_not g (unwrap_or code 0) None k.count 0 k.rows fits.0)
     go false e q = cc
 
 pub restored_kept : (g : GameLists) (p : Prompt) (waiting : Option Prompt) (k : Frames) → length k.rows ≡ 11 → frames_fault g p k ≡ None
