@@ -1,8 +1,7 @@
 -- A session that is taken up again, up to its prompt.
-use Rattle.std.proofs.Common.{◌≡◌, ◌≢◌, ℕ, ◌+◌, ◌-◌, List, [], ◌∷◌, ◌++◌, Some, None, refl, sym, ap, ◌∙◌, subst, length, take, drop, arith}
-use Rattle.std.specs.Prelude.{reverse, replicate}
+use Rattle.std.proofs.Common.{◌≡◌, ◌≢◌, ℕ, ◌+◌, List, [], ◌∷◌, ◌++◌, Some, None, refl, sym, ap, ◌∙◌, subst, length, take, drop, arith}
+use Rattle.std.specs.Prelude.{reverse}
 use Rattle.std.proofs.lemmas.List.{append-nil, take-append-drop}
-use Rattle.std.proofs.Math.Seq.{take-append_seam}
 use Rattle.paw_game.specs.Game.{GameLists}
 use Rattle.paw_world.specs.World.{World}
 use Rattle.paw_phrase.specs.Pending.{PendingLine}
@@ -16,7 +15,8 @@ use Rattle.paw_reading.specs.declared.places.Frame.{Frame}
 use Rattle.paw_reading.specs.Run.{Run}
 use Rattle.paw_reading.specs.Turn.{Ending, WaitsAt, on, text_of}
 use Rattle.paw_process.specs.OpenTables.{OpenTables}
-use Rattle.paw_process.specs.Kept.{unused, frames_at}
+use Rattle.paw_process.specs.Kept.{frames_at}
+use Rattle.paw_process.proofs.Again.{path_again}
 use Rattle.paw_turn.specs.inner.Player.{Seat, run_with, IsSeated, StandsClosed}
 use Rattle.paw_turn.specs.inner.Parts.{prompt_step, seat_at}
 use Rattle.paw_turn.specs.declared.Step.TheVariants as step
@@ -43,8 +43,7 @@ run_from w m p piece lines = run_with w m p (piece ∷ []) [] lines
 pub goes_on_from : (g : Story) (w : World) (m : OpenTables) (p : PendingLine) (at : Prompt) (events n : ℕ) (piece : List ℕ) (lines : List (List ℕ)) →
     going_on g (state_of w m p at events n) piece lines ≡ on g at (reverse m.frames) (run_from w m p piece lines)
 goes_on_from g w m p at events n piece lines =
-    let path = reverse m.frames in
-    ap (λ (q : List Frame). on g at q (run_from w m p piece lines)) (take-append_seam path (replicate (11 - length path) unused))
+    ap (λ (path : List Frame). on g at path (run_from w m p piece lines)) (path_again (reverse m.frames) m.turning)
 
 -- ---- by the prompt ----
 

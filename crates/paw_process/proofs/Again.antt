@@ -23,13 +23,14 @@ use Rattle.paw_process.specs.inner.Kept.{restored, waiting_at, StandsAt}
 
 -- ---- the machine again ----
 
-all_again : (fs : List Frame) (unread : List Frame) → reverse (take (length (reverse fs)) (reverse fs ++ unread)) ≡ fs
-all_again fs unread = ap (λ (s : List Frame). reverse s) (take-append_seam (reverse fs) unread) ∙ reverse-reverse fs
+-- the rows of a path hold it
+pub path_again : (path : List Frame) (turning : Option OpenLoop) → take (length path) (frames_at path turning).rows ≡ path
+path_again path turning = take-append_seam path (replicate (11 - length path) unused)
 
 again_at : (m : OpenTables) (waiting : Option Prompt) → m.waiting ≡ waiting → restored (kept m) waiting ≡ refilled m
 again_at m waiting is =
     ap (λ (fs : List Frame). record { frames = fs; turning = m.turning; waiting = waiting; left = 200000; steps = no_steps })
-    (all_again m.frames (replicate (11 - length (reverse m.frames)) unused))
+    (ap (λ (s : List Frame). reverse s) (path_again (reverse m.frames) m.turning) ∙ reverse-reverse m.frames)
     ∙ ap (λ (w : Option Prompt). record { frames = m.frames; turning = m.turning; waiting = w; left = 200000; steps = no_steps }) (sym is)
 
 pub restored_again : (p : Prompt) (m : OpenTables) → StandsAt p m → restored (kept m) (waiting_at p) ≡ refilled m
