@@ -7,7 +7,7 @@ ghost use Rattle.paw_base.specs.declared.messages.TheConstants.{QUIT_MESSAGE};
 ghost use Rattle.paw_game.specs.Valid.{Valid};
 ghost use Rattle.paw_game.specs.inner.Valid.{is_right};
 ghost use Rattle.paw_game.specs.Tables.{condact_at};
-ghost use Rattle.paw_routines.specs.Routines.{AreRowsOf, HaveRows};
+ghost use Rattle.paw_routines.specs.Routines.{HaveRows};
 ghost use Rattle.paw_effects.specs.Story.{Story, story_of};
 ghost use Rattle.paw_effects.specs.Holds.{is_condition, holds};
 ghost use Rattle.paw_effects.specs.Effects.{effect_of};
@@ -19,7 +19,7 @@ ghost use Rattle.paw_reading.specs.Reading.{Left, deeper, noted, acts, tests, pa
 ghost use Rattle.paw_reading.specs.inner.GoingOn.{along};
 ghost use Rattle.paw_process.specs.inner.OpenTables.{below, ReadsNone, AtCondacts};
 ghost use Rattle.paw_process.specs.inner.OpenTables.{IsLoopWithin, LoopFits, IsReading};
-ghost use Rattle.paw_process.specs.inner.Meaning.{having, going_in, run_held};
+ghost use Rattle.paw_process.specs.inner.Meaning.{InStories, having, going_in, run_held};
 ghost use Rattle.paw_process.specs.inner.Moves.{Continues, StandsOrTurned, turning_as, looping, resolved, acted_at};
 ghost use Rattle.paw_process.specs.inner.Moves.{next_of, past_of, turning_at, reading_at, ReadsTable, ReadsOne};
 ghost use Rattle.paw_process.specs.inner.Steps.{IsReady, IsInnermost, MayReadOne, IsAfterMove, IsAfterStep};
@@ -341,10 +341,9 @@ impl<T: Tables, F: Fn(u8, u8) -> u8> Rulebook<'_, T, F> {
         requires at { IsInnermost f machine.old }
         requires may { MayReadOne (T.game self.now.tables.now) c machine.old situation.old.world }
         requires kind { is_condition c ≡ false }
-        ensures meaning { (X : List (List ℕ)) → AreRowsOf F.Fn self.now.routines.now X →
-            let g = story_of (T.game self.now.tables.now) X in
+        ensures meaning { InStories F.Fn self.now.routines.now (T.game self.now.tables.now) (λ g.
             ReadsOne g (below machine.old.frames) f c (having situation.old machine.old) result
-            (having situation.new machine.new) }
+            (having situation.new machine.new)) }
         ensures stands { StandsOrTurned result machine.new }
         ensures counts { machine.old.left ≡ machine.new.left + 1 }
         ensures after { IsAfterStep (T.game self.now.tables.now) (having situation.old machine.old)
@@ -382,10 +381,9 @@ impl<T: Tables, F: Fn(u8, u8) -> u8> Rulebook<'_, T, F> {
         requires found { condact_at (T.game self.now.tables.now) f.table f.entry f.at ≡ Some c }
         requires condact { is_right (T.game self.now.tables.now) c ≡ true }
         requires draws { situation.old.world.draws + machine.old.left < 2 ^ 64 }
-        ensures meaning { (X : List (List ℕ)) → AreRowsOf F.Fn self.now.routines.now X →
-            let g = story_of (T.game self.now.tables.now) X in
+        ensures meaning { InStories F.Fn self.now.routines.now (T.game self.now.tables.now) (λ g.
             ReadsTable g (reading_at g (below machine.old.frames) f)
-            (having situation.old machine.old) result (having situation.new machine.new) }
+            (having situation.old machine.old) result (having situation.new machine.new)) }
         ensures stands { StandsOrTurned result machine.new }
         ensures counts { IsNone result → machine.old.left ≡ machine.new.left + 1 }
         ensures after { IsAfterStep (T.game self.now.tables.now) (having situation.old machine.old)
@@ -409,10 +407,9 @@ impl<T: Tables, F: Fn(u8, u8) -> u8> Rulebook<'_, T, F> {
         requires entry { f.entry < ENTRY_LIMIT }
         requires valid { Valid (T.game self.now.tables.now) }
         requires draws { situation.old.world.draws + machine.old.left < 2 ^ 64 }
-        ensures meaning { (X : List (List ℕ)) → AreRowsOf F.Fn self.now.routines.now X →
-            let g = story_of (T.game self.now.tables.now) X in
+        ensures meaning { InStories F.Fn self.now.routines.now (T.game self.now.tables.now) (λ g.
             ReadsTable g (reading_at g (below machine.old.frames) f)
-            (having situation.old machine.old) result (having situation.new machine.new) }
+            (having situation.old machine.old) result (having situation.new machine.new)) }
         ensures stands { StandsOrTurned result machine.new }
         ensures progress { IsNone result → Progress machine.old machine.new }
         ensures after { IsAfterStep (T.game self.now.tables.now) (having situation.old machine.old)
@@ -432,10 +429,9 @@ impl<T: Tables, F: Fn(u8, u8) -> u8> Rulebook<'_, T, F> {
         requires ready { IsReady (T.game self.now.tables.now) machine.old situation.old.world }
         requires rows { HaveRows F.Fn self.now.routines.now }
         requires draws { situation.old.world.draws + machine.old.left < 2 ^ 64 }
-        ensures meaning { (X : List (List ℕ)) → AreRowsOf F.Fn self.now.routines.now X →
-            let g = story_of (T.game self.now.tables.now) X in
+        ensures meaning { InStories F.Fn self.now.routines.now (T.game self.now.tables.now) (λ g.
             ReadsTable g (going_in g machine.old.frames) (having situation.old machine.old) result
-            (having situation.new machine.new) }
+            (having situation.new machine.new)) }
         ensures stands { StandsOrTurned result machine.new }
         ensures progress { IsNone result → Progress machine.old machine.new }
         ensures after { IsAfterStep (T.game self.now.tables.now) (having situation.old machine.old)
