@@ -1,8 +1,6 @@
 -- Going on from a kept state is reading the longer list of lines.
 use Rattle.std.proofs.Common.{◌≡◌, ℕ, zero, suc, ◌+◌, ◌<◌, ◌≤◌, List, [], ◌∷◌, ◌++◌, refl, sym, ap, ◌∙◌, length, drop, append-nil, arith}
-use Rattle.std.specs.Prelude.{◌-◌, replicate}
 use Rattle.std.specs.List.{concat}
-use Rattle.std.proofs.Math.Seq.{take-append_seam}
 use Rattle.sha2.specs.Sha256.{sha256}
 use Rattle.paw_game.specs.Game.{GameLists}
 use Rattle.paw_game.specs.Valid.{Valid}
@@ -20,7 +18,7 @@ use Rattle.paw_reading.specs.inner.Pieces.{Counted}
 use Rattle.paw_reading.proofs.Counts.{pieces_of_lines}
 use Rattle.paw_reading.proofs.Followed.{going_on_is_reading}
 use Rattle.paw_reading.proofs.Past.{past_stays, longer_reading}
-use Rattle.paw_process.specs.Kept.{unused}
+use Rattle.paw_process.proofs.Again.{path_again}
 use Rattle.paw_journal.specs.Session.{Recovered, Shown, recover}
 use Rattle.paw_state.specs.State.{State, Keeps, FitsFields}
 use Rattle.paw_state.specs.Fields.{state_bytes}
@@ -110,7 +108,7 @@ taken_up r piece fs = record r { current = []; read = []; pieces = piece ∷ [];
 
 goes_from : (g : Story) (n : ℕ) (p : Prompt) (path : List Frame) (r : Run) (piece : List ℕ) (fs : List (List ℕ)) →
     going_on g (state_at n p path r) piece fs ≡ on g p path (taken_up r piece fs)
-goes_from g n p path r piece fs = ap (λ (q : List Frame). on g p q (taken_up r piece fs)) (take-append_seam path (replicate (11 - length path) unused))
+goes_from g n p path r piece fs = ap (λ (q : List Frame). on g p q (taken_up r piece fs)) (path_again path r.turning)
 
 taken_past : (r : Run) (piece : List ℕ) (fs : List (List ℕ)) → r.current ≡ [] → r.read ≡ [] → r.events ≡ [] →
     taken_up r piece fs ≡ with_past (piece ∷ []) [] (with_lines fs (without_past r))

@@ -1,6 +1,6 @@
 -- What a session keeps of a player.
 use Rattle.std.proofs.Common.{◌≡◌, ℕ, List, [], ◌∷◌, ◌++◌, refl, sym, ap, ◌∙◌, length}
-use Rattle.std.specs.Prelude.{reverse, replicate, ◌-◌}
+use Rattle.std.specs.Prelude.{reverse}
 use Rattle.paw_effects.specs.declared.act.Prompt.{Prompt}
 use Rattle.paw_effects.specs.declared.act.Prompt.TheVariants as prompt
 use Rattle.paw_reading.specs.Run.{Step as Read}
@@ -10,11 +10,9 @@ use Rattle.paw_turn.specs.inner.Player.{Seat, run_at, PlaysTo, StandsClosed}
 use Rattle.paw_turn.specs.declared.Step.{Step}
 use Rattle.paw_turn.specs.declared.Step.TheVariants as step
 use Rattle.paw_journal.specs.Session.{Shown}
-use Rattle.std.proofs.lemmas.List.{length-reverse}
-use Rattle.paw_process.specs.Kept.{kept, unused}
-use Rattle.paw_process.specs.OpenTables.{OpenTables}
+use Rattle.paw_process.specs.Kept.{frames_at, kept}
 use Rattle.paw_process.specs.declared.kept.Frames.{Frames}
-use Rattle.paw_state.specs.Record.{last_piece, frames_at}
+use Rattle.paw_state.specs.Record.{last_piece}
 use Rattle.paw_state.specs.State.{State}
 use Rattle.paw_reading.specs.declared.places.Frame.{Frame}
 use Rattle.paw_play.specs.Session.{kept_bytes, IsKept}
@@ -27,10 +25,6 @@ pub last_more : (pieces : List (List ℕ)) (piece : List ℕ) → last_piece (pi
 last_more [] piece = refl
 last_more (p ∷ []) piece = refl
 last_more (p ∷ q ∷ pieces) piece = last_more (q ∷ pieces) piece
-
--- what is kept of a machine stands along its path
-pub kept_is : (m : OpenTables) → kept m ≡ frames_at (reverse m.frames) m.turning
-kept_is m = ap (λ (n : ℕ). record { count = n; rows = reverse m.frames ++ replicate (11 - n) unused; turning = m.turning }) (sym (length-reverse m.frames))
 
 -- the state of a player's parts, with these frames and a piece of this length
 abbrev parts : {F : Type 0} → ℕ → Prompt → Seat F → Frames → ℕ → State
@@ -53,7 +47,7 @@ waits_kept : {F : Type 0} (digest : List ℕ) (events : ℕ) (e : Ending) (p : P
     e ≡ WaitsAt p (reverse next.machine.frames) (run_at next (pieces ++ next.piece ∷ []) traces []) →
     IsKept digest events e (Shown digest (seat_state events next) next.piece)
 waits_kept digest events e p next pieces traces last is =
-    rw (is, last) (record { played = tt; shown = shown_at digest events p (reverse next.machine.frames) next pieces (kept_is next.machine) })
+    rw (is, last) (record { played = tt; shown = shown_at digest events p (reverse next.machine.frames) next pieces refl })
 
 over_kept : {F : Type 0} (digest : List ℕ) (events : ℕ) (e : Ending) (next : Seat F) (pieces : List (List ℕ)) (traces : List (List Read)) →
     next.last ≡ step.Ended → next.machine.frames ≡ [] →
@@ -62,7 +56,7 @@ over_kept : {F : Type 0} (digest : List ℕ) (events : ℕ) (e : Ending) (next :
 over_kept digest events e next pieces traces last closed is = rw (is, last) (record {
   played = refl;
   shown = shown_at digest events prompt.Over [] next pieces
-      (kept_is next.machine ∙ ap (λ fs. frames_at (reverse fs) next.machine.turning) closed);
+      (ap (λ fs. frames_at (reverse fs) next.machine.turning) closed);
 })
 
 -- a step that brings a piece leads to a player whose session keeps the reading

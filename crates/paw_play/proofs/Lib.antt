@@ -14,7 +14,6 @@ mod Games
 mod Resuming
 mod Showing
 mod Again
-mod Placing
 pub mod Going
 pub mod Settling
 pub mod Standing

@@ -1,8 +1,7 @@
 -- A session that is taken up again, up to its prompt.
-use Rattle.std.proofs.Common.{◌≡◌, ◌≢◌, ℕ, ◌+◌, ◌-◌, List, [], ◌∷◌, ◌++◌, Some, None, refl, sym, ap, ◌∙◌, subst, length, take, drop, arith}
-use Rattle.std.specs.Prelude.{reverse, replicate}
-use Rattle.std.proofs.lemmas.List.{append-nil, take-append-drop, length-reverse}
-use Rattle.std.proofs.Math.Seq.{take-append_seam}
+use Rattle.std.proofs.Common.{◌≡◌, ◌≢◌, ℕ, ◌+◌, List, [], ◌∷◌, ◌++◌, Some, None, refl, sym, ap, ◌∙◌, subst, length, take, drop, arith}
+use Rattle.std.specs.Prelude.{reverse}
+use Rattle.std.proofs.lemmas.List.{append-nil, take-append-drop}
 use Rattle.paw_game.specs.Game.{GameLists}
 use Rattle.paw_world.specs.World.{World}
 use Rattle.paw_phrase.specs.Pending.{PendingLine}
@@ -12,10 +11,12 @@ use Rattle.paw_stage.specs.declared.StageCall.TheVariants as call
 use Rattle.paw_journal.proofs.Disks.{stable_leaves}
 use Rattle.paw_effects.specs.declared.act.Prompt.{Prompt}
 use Rattle.paw_effects.specs.declared.act.Prompt.TheVariants as prompt
+use Rattle.paw_reading.specs.declared.places.Frame.{Frame}
 use Rattle.paw_reading.specs.Run.{Run}
 use Rattle.paw_reading.specs.Turn.{Ending, WaitsAt, on, text_of}
 use Rattle.paw_process.specs.OpenTables.{OpenTables}
-use Rattle.paw_process.specs.Kept.{unused}
+use Rattle.paw_process.specs.Kept.{frames_at}
+use Rattle.paw_process.proofs.Again.{path_again}
 use Rattle.paw_turn.specs.inner.Player.{Seat, run_with, IsSeated, StandsClosed}
 use Rattle.paw_turn.specs.inner.Parts.{prompt_step, seat_at}
 use Rattle.paw_turn.specs.declared.Step.TheVariants as step
@@ -25,12 +26,11 @@ use Rattle.paw_state.specs.inner.Fit.{state_read}
 use Rattle.paw_state.specs.declared.Restored.{Restored}
 use Rattle.paw_play.specs.declared.PlayEnd.{PlayEnd}
 use Rattle.paw_play.specs.declared.PlayEnd.TheVariants as end
-use Rattle.paw_state.specs.Record.{frames_at, state_at}
+use Rattle.paw_state.specs.Record.{state_at}
 use Rattle.paw_play.specs.Session.{kept_bytes, IsKept}
 use Rattle.paw_play.specs.Walk.{advanced}
 use Rattle.paw_play.specs.Play.{PlayedSession, InPlay, with_store, PlaysOn, ShowsState, going_on, kept_session}
 use Rattle.paw_play.specs.inner.OnTheWay.{Rests, IsPlaying, IsStore, ShowsAgain}
-use Rattle.paw_play.proofs.Kept.{kept_is}
 use Rattle.paw_play.proofs.Resting.{rests_on}
 use Rattle.paw_play.proofs.Walking.{on_waits, first_stands}
 use Rattle.paw_effects.specs.Story.{Story}
@@ -40,14 +40,10 @@ use Rattle.paw_routines.specs.declared.routines.Routines.{Routines}
 abbrev pub run_from : World → OpenTables → PendingLine → List ℕ → List (List ℕ) → Run
 run_from w m p piece lines = run_with w m p (piece ∷ []) [] lines
 
--- the path of what is kept of a machine
-path_is : (m : OpenTables) → take (length m.frames) (reverse m.frames ++ replicate (11 - length m.frames) unused) ≡ reverse m.frames
-path_is m = ap (λ n. take n (reverse m.frames ++ replicate (11 - length m.frames) unused))
-    (sym (length-reverse m.frames)) ∙ take-append_seam (reverse m.frames) _
-
 pub goes_on_from : (g : Story) (w : World) (m : OpenTables) (p : PendingLine) (at : Prompt) (events n : ℕ) (piece : List ℕ) (lines : List (List ℕ)) →
     going_on g (state_of w m p at events n) piece lines ≡ on g at (reverse m.frames) (run_from w m p piece lines)
-goes_on_from g w m p at events n piece lines = ap (λ path. on g at path (run_from w m p piece lines)) (path_is m)
+goes_on_from g w m p at events n piece lines =
+    ap (λ (path : List Frame). on g at path (run_from w m p piece lines)) (path_again (reverse m.frames) m.turning)
 
 -- ---- by the prompt ----
 
@@ -55,8 +51,7 @@ module _ (digest : List ℕ) (g : Story) (w : World) (m : OpenTables) (p : Pendi
   same_state : (at : Prompt) → state_of w m p at events n ≡ state_at (events + 0) at (reverse m.frames) (run_from w m p piece [])
   same_state at =
       let e : events ≡ events + 0 = omega arith in
-      ap (λ k. record { world = w; frames = k; pending = p; prompt = at; events = events; piece = n }) (kept_is m)
-      ∙ ap (λ k. record { world = w; frames = frames_at (reverse m.frames) m.turning; pending = p; prompt = at; events = k; piece = n }) e
+      ap (λ k. record { world = w; frames = frames_at (reverse m.frames) m.turning; pending = p; prompt = at; events = k; piece = n }) e
       ∙ ap (λ k. record { world = w; frames = frames_at (reverse m.frames) m.turning; pending = p; prompt = at; events = events + 0; piece = k }) (sym long)
 
   waits_kept : (at : Prompt) (e : Ending) → e ≡ WaitsAt at (reverse m.frames) (run_from w m p piece []) →

@@ -26,7 +26,7 @@ use Rattle.paw_reading.proofs.Rightly.{readings_stop_rightly, readings_are_bound
 use Rattle.paw_state.specs.Record.{last_piece}
 use Rattle.paw_state.specs.State.{HoldsBytes}
 use Rattle.paw_play.specs.Stands.{IsPlayedWith}
-use Rattle.paw_play.proofs.Placing.{places_fit, eleven_rows}
+use Rattle.paw_process.proofs.Fitting.{places_fit, eleven_rows}
 use Rattle.paw_play.proofs.Going.{Settles, IsSettled}
 
 -- no line is left where no table is open

@@ -1,10 +1,11 @@
 -- What is kept of a machine, and the machine of what is kept.
 use Rattle.std.proofs.Common.{◌≡◌, ℕ, zero, suc, ◌-◌, ◌≤◌, Bool, true, false, List, [], ◌∷◌, ◌++◌, Option, Some}
-use Rattle.std.proofs.Common.{None, length, take, replicate, reverse, refl, sym, ap, ◌∙◌, subst, arith}
+use Rattle.std.proofs.Common.{None, length, take, replicate, reverse, refl, sym, ap, ◌∙◌, arith}
 use Rattle.std.specs.Prelude.{◌==◌, if◌then◌else◌, not, nat_lt}
+use Rattle.std.specs.Option.{option_or, unwrap_or}
 use Rattle.std.proofs.Math.Seq.{take-append_seam}
 use Rattle.std.proofs.lemmas.Bool.{eqb-true, leb-true}
-use Rattle.std.proofs.lemmas.List.{length-reverse, reverse-reverse}
+use Rattle.std.proofs.lemmas.List.{reverse-reverse}
 use Rattle.paw_base.specs.inner.Steps.{no_steps}
 use Rattle.paw_game.specs.Game.{GameLists}
 use Rattle.paw_effects.specs.declared.act.Prompt.{Prompt}
@@ -16,22 +17,20 @@ use Rattle.paw_process.specs.OpenTables.{OpenTables}
 use Rattle.paw_process.specs.inner.OpenTables.{refilled}
 use Rattle.paw_process.proofs.Rows.{length_rows}
 use Rattle.paw_process.proofs.Restored.{first_of, second, no_first}
-use Rattle.paw_process.specs.Kept.{unused, kept, is_unused, row_stands, rows_fault, condact_of, parameter_of, first_fault}
-use Rattle.paw_process.specs.Kept.{loop_fault, count_fits, fault_at, frames_fault, waiting_code, code_or_zero}
+use Rattle.paw_process.specs.Kept.{unused, frames_at, kept, is_unused, row_stands, rows_fault, condact_of, parameter_of}
+use Rattle.paw_process.specs.Kept.{loop_fault, count_fits, fault_at, frames_fault, waiting_code}
 use Rattle.paw_process.specs.inner.Kept.{restored, waiting_at, StandsAt}
 
 -- ---- the machine again ----
 
-all_again : (fs : List Frame) (unread : List Frame) → reverse (take (length fs) (reverse fs ++ unread)) ≡ fs
-all_again fs unread =
-    let front : take (length fs) (reverse fs ++ unread) ≡ reverse fs =
-    subst (λ n. take n (reverse fs ++ unread) ≡ reverse fs) (length-reverse fs) (take-append_seam (reverse fs) unread) in
-    ap (λ (s : List Frame). reverse s) front ∙ reverse-reverse fs
+-- the rows of a path hold it
+pub path_again : (path : List Frame) (turning : Option OpenLoop) → take (length path) (frames_at path turning).rows ≡ path
+path_again path turning = take-append_seam path (replicate (11 - length path) unused)
 
 again_at : (m : OpenTables) (waiting : Option Prompt) → m.waiting ≡ waiting → restored (kept m) waiting ≡ refilled m
 again_at m waiting is =
     ap (λ (fs : List Frame). record { frames = fs; turning = m.turning; waiting = waiting; left = 200000; steps = no_steps })
-    (all_again m.frames (replicate (11 - length m.frames) unused))
+    (ap (λ (s : List Frame). reverse s) (path_again (reverse m.frames) m.turning) ∙ reverse-reverse m.frames)
     ∙ ap (λ (w : Option Prompt). record { frames = m.frames; turning = m.turning; waiting = w; left = 200000; steps = no_steps }) (sym is)
 
 pub restored_again : (p : Prompt) (m : OpenTables) → StandsAt p m → restored (kept m) (waiting_at p) ≡ refilled m
@@ -96,14 +95,10 @@ used_then_not g code caller (suc n) d (f ∷ fs) h =
 
 kept_of : (count : ℕ) (rows : List Frame) (turning : Option OpenLoop) → count ≤ 11 → length rows ≡ 11
     → rows ≡ take count rows ++ replicate (length rows - count) unused
-    → ◌≡◌ {A = Frames} (record {
-      count = length (reverse (take count rows));
-      rows = reverse (reverse (take count rows)) ++ replicate (11 - length (reverse (take count rows))) unused;
-      turning = turning;
-    }) (record { count = count; rows = rows; turning = turning })
+    → frames_at (reverse (reverse (take count rows))) turning ≡ record { count = count; rows = rows; turning = turning }
 kept_of count rows turning low size split =
     let few : replicate (length rows - count) unused ≡ replicate (11 - count) unused = ap (λ n. replicate (n - count) unused) size in
-    rw (length_rows rows count (omega arith), reverse-reverse (take count rows))
+    rw (reverse-reverse (take count rows), length_rows rows count (omega arith))
     (ap (λ (s : List Frame). record { count = count; rows = s; turning = turning }) (ap (λ (s : List Frame). take count rows ++ s) (sym few) ∙ sym split))
 
 low_count : (code : Option ℕ) (n : ℕ) → count_fits code n ≡ true → n ≤ 11
@@ -116,11 +111,11 @@ kept_at g code waiting k size h = go (count_fits code k.count) refl h
   where
     go : (b : Bool) → count_fits code k.count ≡ b
         → ◌≡◌ {A = Option ℕ}
-        (if b then first_fault (rows_fault g (code_or_zero code) None k.count 0 k.rows) (loop_fault g k k.turning) else Some 0) None
+        (if b then option_or (rows_fault g (unwrap_or code 0) None k.count 0 k.rows) (loop_fault g k k.turning) else Some 0) None
         → kept (restored k waiting) ≡ k
     go true e q =
-        let fits = no_first (rows_fault g (code_or_zero code) None k.count 0 k.rows) (loop_fault g k k.turning) q in
-        kept_of k.count k.rows k.turning (low_count code k.count e) size (used_then_not g (code_or_zero code) None k.count 0 k.rows fits.0)
+        let fits = no_first (rows_fault g (unwrap_or code 0) None k.count 0 k.rows) (loop_fault g k k.turning) q in
+        kept_of k.count k.rows k.turning (low_count code k.count e) size (used_then_not g (unwrap_or code 0) None k.count 0 k.rows fits.0)
     go false e q = cc
 
 pub restored_kept : (g : GameLists) (p : Prompt) (waiting : Option Prompt) (k : Frames) → length k.rows ≡ 11 → frames_fault g p k ≡ None

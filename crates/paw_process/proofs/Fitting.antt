@@ -1,10 +1,11 @@
 -- Kept places keep their rules exactly where they are places of a run.
 use Rattle.std.proofs.Common.{◌≡◌, ℕ, zero, suc, ◌-◌, ◌≤◌, ◌<◌, Bool, true, false, ◌&&◌, List, [], ◌∷◌, ◌++◌, Option, Some}
-use Rattle.std.proofs.Common.{None, refl, sym, ap, ◌∙◌, subst, length, take, replicate, reverse, slice_get, arith}
+use Rattle.std.proofs.Common.{None, refl, sym, ap, ◌∙◌, subst, length, take, replicate, reverse, slice_get, arith, length-append}
 use Rattle.std.specs.Prelude.{if◌then◌else◌, nat_lt, IfSome}
+use Rattle.std.specs.Option.{option_or}
 use Rattle.std.proofs.lemmas.Bool.Decides.{nat_tests}
 use Rattle.std.proofs.lemmas.Bool.{eqb-true, ltb-true, leb-true}
-use Rattle.std.proofs.lemmas.List.{length-reverse, length-take, reverse-reverse}
+use Rattle.std.proofs.lemmas.List.{length-replicate, length-take, reverse-reverse}
 use Rattle.paw_base.specs.declared.parts.Condact.{Condact}
 use Rattle.paw_game.specs.Game.{GameLists}
 use Rattle.paw_game.specs.Tables.{condact_at}
@@ -14,40 +15,36 @@ use Rattle.paw_effects.specs.declared.act.Prompt.TheVariants as prompt
 use Rattle.paw_reading.specs.declared.places.Frame.{Frame}
 use Rattle.paw_reading.specs.declared.places.OpenLoop.{OpenLoop}
 use Rattle.paw_reading.specs.Turn.{first_table}
-use Rattle.paw_reading.specs.inner.Places.{LeadsTo, tables_of, IsLoopIn, AreOpenTo, ArePlaces}
-use Rattle.paw_process.specs.OpenTables.{OpenTables}
-use Rattle.paw_process.specs.inner.OpenTables.{IsClosed}
-use Rattle.paw_process.specs.Kept.{unused, kept, condact_of, has_code, may_open, parameter_of, row_stands, rows_fault, table_of}
-use Rattle.paw_process.specs.Kept.{is_that_table, loop_stands, loop_fault, first_fault, count_fits, fault_at, frames_fault}
-use Rattle.paw_process.specs.inner.Kept.{StandsAt}
+use Rattle.paw_reading.specs.inner.Places.{LeadsTo, tables_of, IsLoopIn, AreOpenTo, AreOpenAt, ArePlaces}
+use Rattle.paw_process.specs.Kept.{unused, frames_at, condact_of, has_code, may_open, parameter_of, row_stands, rows_fault, table_of}
+use Rattle.paw_process.specs.Kept.{is_that_table, loop_stands, loop_fault, count_fits, fault_at, frames_fault}
 use Rattle.paw_process.specs.declared.kept.Frames.{Frames}
 use Rattle.paw_process.proofs.PathRows.{unused_stand, row_calls, path_stands, loop_fits, both_none}
 use Rattle.paw_process.proofs.Restored.{first_of, second, no_first, none_open}
 
--- ---- places that are kept ----
+-- ---- the places of a run ----
 
-open_fit : (g : GameLists) (code : ℕ) (m : OpenTables) → 0 < length m.frames → AreOpenTo g code (reverse m.frames) m.turning
-    → fault_at g (Some code) (kept m) ≡ None
-open_fit g code m some at =
-    let size : length m.frames ≡ length (reverse m.frames) = sym (length-reverse m.frames) in
-    let few : length m.frames ≤ 11 = omega (arith, size, at.few) in
-    let fits : count_fits (Some code) (length m.frames) ≡ true = grind (arith, nat_tests) in
-    let opens : may_open None (first_table (reverse m.frames)) ≡ true = let low = at.outermost in grind (arith, nat_tests) in
-    let rows : List Frame = reverse m.frames ++ replicate (11 - length m.frames) unused in
+some_table : (g : GameLists) (code : ℕ) (path : List Frame) → LeadsTo g code path → 0 < length path
+some_table g code [] leads = absurd leads
+some_table g code (f ∷ path) leads = omega arith
+
+pub places_fit : (g : GameLists) (code : Option ℕ) (path : List Frame) (turning : Option OpenLoop) → AreOpenAt g code path turning
+    → fault_at g code (frames_at path turning) ≡ None
+places_fit g None path turning at = rw (at.0, at.1) (both_none (rows_fault g 0 None 0 0 (replicate 11 unused)) None (unused_stand g 0 None 0 11) refl)
+places_fit g (Some code) path turning at =
+    let fits : count_fits (Some code) (length path) ≡ true = let few = at.few in let some = some_table g code path at.leads in grind (arith, nat_tests) in
+    let opens : may_open None (first_table path) ≡ true = let low = at.outermost in grind (arith, nat_tests) in
     rw fits
-    (both_none (rows_fault g code None (length m.frames) 0 rows) (loop_fault g (kept m) m.turning)
-    (subst (λ n. rows_fault g code None n 0 rows ≡ None) (sym size) (path_stands g code None (reverse m.frames) 0 (11 - length m.frames) at.leads opens))
-    (loop_fits g (reverse m.frames) (replicate (11 - length m.frames) unused) (length m.frames) m.turning m.turning size at.loop))
+    (both_none (rows_fault g code None (length path) 0 (path ++ replicate (11 - length path) unused)) (loop_fault g (frames_at path turning) turning)
+    (path_stands g code None path 0 (11 - length path) at.leads opens)
+    (loop_fits g path (replicate (11 - length path) unused) (length path) turning turning refl at.loop))
 
-none_fit : (g : GameLists) (m : OpenTables) → IsClosed m → fault_at g None (kept m) ≡ None
-none_fit g m closed = rw (closed.frames, closed.turning) (both_none (rows_fault g 0 None 0 0 (replicate 11 unused)) None (unused_stand g 0 None 0 11) refl)
-
-pub places_fit : (g : GameLists) (p : Prompt) (m : OpenTables) → StandsAt p m → ArePlaces g p (reverse m.frames) m.turning → frames_fault g p (kept m) ≡ None
-places_fit g prompt.Main m stands at = none_fit g m stands
-places_fit g prompt.Quit m stands at = open_fit g 27 m stands.tables.some at
-places_fit g prompt.Again m stands at = open_fit g 31 m stands.tables.some at
-places_fit g prompt.Key m stands at = open_fit g 35 m stands.tables.some at
-places_fit g prompt.Over m stands at = none_fit g m stands
+-- there are eleven rows
+pub eleven_rows : (g : GameLists) (code : Option ℕ) (path : List Frame) (turning : Option OpenLoop) → AreOpenAt g code path turning
+    → length (frames_at path turning).rows ≡ 11
+eleven_rows g None path turning at = rw at.0 refl
+eleven_rows g (Some code) path turning at =
+    omega (arith, length-append path (replicate (11 - length path) unused), length-replicate (11 - length path) unused, at.few)
 
 -- ---- rows that stand are places ----
 
@@ -149,7 +146,7 @@ open_places g code k size h = go (count_fits (Some code) k.count) refl h
         }
 
     go : (b : Bool) → count_fits (Some code) k.count ≡ b
-        → ◌≡◌ {A = Option ℕ} (if b then first_fault (rows_fault g code None k.count 0 k.rows) (loop_fault g k k.turning) else Some 0) None
+        → ◌≡◌ {A = Option ℕ} (if b then option_or (rows_fault g code None k.count 0 k.rows) (loop_fault g k k.turning) else Some 0) None
         → AreOpenTo g code (take k.count k.rows) k.turning
     go true e q =
         let fits = no_first (rows_fault g code None k.count 0 k.rows) (loop_fault g k k.turning) q in

@@ -2,6 +2,7 @@
 use Rattle.std.proofs.Common.{◌≡◌, ℕ, zero, suc, ◌-◌, ◌<◌, true, false, ◌&&◌, List, [], ◌∷◌, ◌++◌, Option, Some, None, refl, ◌∙◌, length, replicate, slice_get}
 use Rattle.std.proofs.Common.{arith}
 use Rattle.std.specs.Prelude.{◌==◌, nat_lt, IfSome}
+use Rattle.std.specs.Option.{option_or}
 use Rattle.std.proofs.lemmas.Bool.Decides.{nat_tests}
 use Rattle.paw_base.specs.declared.parts.Condact.{Condact}
 use Rattle.paw_game.specs.Game.{GameLists}
@@ -11,7 +12,7 @@ use Rattle.paw_reading.specs.declared.places.OpenLoop.{OpenLoop}
 use Rattle.paw_reading.specs.Turn.{first_table}
 use Rattle.paw_reading.specs.inner.Places.{LeadsTo, tables_of, IsLoopIn}
 use Rattle.paw_process.specs.Kept.{unused, condact_of, has_code, may_open, parameter_of, row_stands, rows_fault}
-use Rattle.paw_process.specs.Kept.{table_of, is_that_table, loop_fault, first_fault}
+use Rattle.paw_process.specs.Kept.{table_of, is_that_table, loop_fault}
 
 -- rows that aren't used stand
 pub unused_stand : (g : GameLists) (code : ℕ) (caller : Option ℕ) (d k : ℕ) → rows_fault g code caller 0 d (replicate k unused) ≡ None
@@ -80,6 +81,6 @@ loop_fits g path rows count (Some l) p size k =
 
 -- ---- the rows and the loop together ----
 
-pub both_none : (a b : Option ℕ) → a ≡ None → b ≡ None → first_fault a b ≡ None
+pub both_none : (a b : Option ℕ) → a ≡ None → b ≡ None → option_or a b ≡ None
 both_none None b h k = k
 both_none (Some d) b h k = cc

@@ -2,6 +2,7 @@
 use Rattle.std.proofs.Common.{◌≡◌, ℕ, zero, suc, ◌-◌, ◌≤◌, ◌<◌, Bool, true, false, ◌&&◌, List, [], ◌∷◌}
 use Rattle.std.proofs.Common.{Option, Some, None, refl, length, take, reverse, slice_get, arith}
 use Rattle.std.specs.Prelude.{◌==◌, if◌then◌else◌, nat_lt}
+use Rattle.std.specs.Option.{option_or}
 use mathlib.Core.List.{reverse_aux}
 use Rattle.std.proofs.lemmas.Bool.Decides.{nat_tests}
 use Rattle.std.proofs.lemmas.Bool.{eqb-true, ltb-true, leb-true}
@@ -16,7 +17,7 @@ use Rattle.paw_effects.specs.declared.act.Prompt.TheVariants as prompt
 use Rattle.paw_reading.specs.declared.places.Frame.{Frame}
 use Rattle.paw_reading.specs.declared.places.OpenLoop.{OpenLoop}
 use Rattle.paw_process.specs.Kept.{condact_of, has_code, may_open, parameter_of, row_stands, rows_fault, table_of, is_that_table}
-use Rattle.paw_process.specs.Kept.{loop_stands, loop_fault, first_fault, count_fits, fault_at, frames_fault}
+use Rattle.paw_process.specs.Kept.{loop_stands, loop_fault, count_fits, fault_at, frames_fault}
 use Rattle.paw_process.specs.inner.Kept.{restored, waiting_at, StandsAt}
 use Rattle.paw_process.specs.declared.kept.Frames.{Frames}
 use Rattle.paw_process.specs.inner.OpenTables.{below, IsAtCondact, AtCondacts, InTable, IsLoopWithin, LoopFits, IsWaiting, IsClosed}
@@ -87,7 +88,7 @@ reverse_condacts fs h = onto_condacts fs [] h tt
 -- ---- the machine ----
 
 -- with no first fault there is none later
-pub no_first : (a b : Option ℕ) → first_fault a b ≡ None → (a ≡ None) × (b ≡ None)
+pub no_first : (a b : Option ℕ) → option_or a b ≡ None → (a ≡ None) × (b ≡ None)
 no_first None b h = (refl, h)
 no_first (Some d) b h = cc
 
@@ -119,7 +120,7 @@ waits_at : (g : GameLists) (p : Prompt) (code : ℕ) (k : Frames) → Valid g �
 waits_at g p code k v size h = go (count_fits (Some code) k.count) refl h
   where
     go : (b : Bool) → count_fits (Some code) k.count ≡ b
-        → ◌≡◌ {A = Option ℕ} (if b then first_fault (rows_fault g code None k.count 0 k.rows) (loop_fault g k k.turning) else Some 0) None
+        → ◌≡◌ {A = Option ℕ} (if b then option_or (rows_fault g code None k.count 0 k.rows) (loop_fault g k k.turning) else Some 0) None
         → IsWaiting p (restored k (Some p))
     go true e q =
         let fits = no_first (rows_fault g code None k.count 0 k.rows) (loop_fault g k k.turning) q in
@@ -152,7 +153,7 @@ none_open g k h = go (count_fits None k.count) refl h
         cc (rw f at q)
 
     go : (b : Bool) → count_fits None k.count ≡ b
-        → ◌≡◌ {A = Option ℕ} (if b then first_fault (rows_fault g 0 None k.count 0 k.rows) (loop_fault g k k.turning) else Some 0) None
+        → ◌≡◌ {A = Option ℕ} (if b then option_or (rows_fault g 0 None k.count 0 k.rows) (loop_fault g k k.turning) else Some 0) None
         → IsClosed (restored k None)
     go true e q =
         let fits = no_first (rows_fault g 0 None k.count 0 k.rows) (loop_fault g k k.turning) q in

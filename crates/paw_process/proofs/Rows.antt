@@ -1,7 +1,7 @@
 -- The rows of the machine, as a list with the innermost first.
 use Rattle.std.proofs.Common.{◌≡◌, ℕ, zero, suc, ◌-◌, ◌≤◌, ◌<◌, false, List, [], ◌∷◌, ◌++◌, Option, length}
 use Rattle.std.proofs.Common.{take, drop, replicate, reverse, slice_set, refl, ap, ◌∙◌, subst, arith}
-use Rattle.std.proofs.lemmas.List.{reverse-append, reverse-reverse, length-reverse, length-take}
+use Rattle.std.proofs.lemmas.List.{reverse-append, reverse-reverse, length-take}
 use Rattle.std.proofs.Math.Seq.{take-suc, take-suc-set}
 use Rattle.paw_base.specs.Steps.{KeptSteps}
 use Rattle.paw_effects.specs.declared.act.Prompt.{Prompt}
@@ -52,12 +52,12 @@ drop_replicate zero m f low = let e : m - 0 ≡ m = omega arith in rw e refl
 drop_replicate (suc n) zero f low = absurd (omega arith)
 drop_replicate (suc n) (suc m) f low = let e : suc m - suc n ≡ m - n = omega arith in rw e (drop_replicate n m f (omega arith))
 
-pub length_rows : (rows : List Frame) (n : ℕ) → n ≤ length rows → length (reverse (take n rows)) ≡ n
-length_rows rows n low = omega (arith, length-reverse (take n rows), length-take n rows)
+pub length_rows : (rows : List Frame) (n : ℕ) → n ≤ length rows → length (take n rows) ≡ n
+length_rows rows n low = omega (arith, length-take n rows)
 
 pub kept_rows : (v : OpenTables) (rows copied : List Frame) (n : ℕ)
     (turning : Option OpenLoop) (waiting : Option Prompt) (left : ℕ) (steps : KeptSteps)
     → seen rows n turning waiting left steps ≡ v → copied ≡ take n rows → n ≤ 11 → length rows ≡ 11
     → record { count = n; rows = copied ++ drop n (replicate 11 unused); turning = turning } ≡ kept v
 kept_rows v rows copied n turning waiting left steps e c low size =
-    rw (← e, c, length_rows rows n (omega arith), reverse-reverse (take n rows), drop_replicate n 11 unused low) refl
+    rw (← e, c, reverse-reverse (take n rows), length_rows rows n (omega arith), drop_replicate n 11 unused low) refl

@@ -1,6 +1,7 @@
 -- What is kept of a machine that waits, and the rules that it keeps.
 use Rattle.std.specs.Prelude.{ℕ, suc, ◌-◌, ◌==◌, ◌&&◌, Bool, false, not, List, [], ◌∷◌, ◌++◌, Option, Some}
 use Rattle.std.specs.Prelude.{None, length, reverse, replicate, slice_get, nat_lt, nat_le, if◌then◌else◌}
+use Rattle.std.specs.Option.{option_or, unwrap_or}
 use Rattle.paw_base.specs.declared.codes.TheConstants.{PROCESS, DOALL}
 use Rattle.paw_base.specs.declared.parts.Condact.{Condact}
 use Rattle.paw_game.specs.Game.{GameLists}
@@ -18,13 +19,17 @@ use Rattle.paw_process.specs.declared.kept.Frames.{Frames}
 abbrev pub unused : Frame
 unused = record { table = 0; entry = 0; at = 0; acted = false }
 
--- the frames with the outermost first, and unused rows up to the most that may be open
-abbrev pub kept : OpenTables → Frames
-kept m = record {
-  count = length m.frames;
-  rows = reverse m.frames ++ replicate (MOST_FRAMES - length m.frames) unused;
-  turning = m.turning;
+-- the frames of a path, the outermost first, with unused rows up to the most that may be open, and its loop
+abbrev pub frames_at : List Frame → Option OpenLoop → Frames
+frames_at path turning = record {
+  count = length path;
+  rows = path ++ replicate (MOST_FRAMES - length path) unused;
+  turning = turning;
 }
+
+-- what is kept of a machine
+abbrev pub kept : OpenTables → Frames
+kept m = frames_at (reverse m.frames) m.turning
 
 -- ---- the rules ----
 
@@ -86,26 +91,16 @@ abbrev pub loop_fault : GameLists → Frames → Option OpenLoop → Option ℕ
 loop_fault g k None = None
 loop_fault g k (Some l) = if loop_stands g k l then None else Some MOST_FRAMES
 
--- the first of two faults
-abbrev pub first_fault : Option ℕ → Option ℕ → Option ℕ
-first_fault None later = later
-first_fault (Some d) later = Some d
-
 -- tables are open, and not too many, where a machine waits inside tables; else none is
 abbrev pub count_fits : Option ℕ → ℕ → Bool
 count_fits None n = n == 0
 count_fits (Some code) n = nat_lt 0 n && nat_le n MOST_FRAMES
 
--- the code of a condact; 0 where there is none
-abbrev pub code_or_zero : Option ℕ → ℕ
-code_or_zero None = 0
-code_or_zero (Some code) = code
-
 -- the first fault of what is kept of a machine that waits at a condact of this code
 abbrev pub fault_at : GameLists → Option ℕ → Frames → Option ℕ
 fault_at g code k =
     if count_fits code k.count
-    then first_fault (rows_fault g (code_or_zero code) None k.count 0 k.rows) (loop_fault g k k.turning) else Some 0
+    then option_or (rows_fault g (unwrap_or code 0) None k.count 0 k.rows) (loop_fault g k k.turning) else Some 0
 
 -- the least depth at which what is kept of a machine that waits at this prompt breaks a rule: a frame, that behind all
 -- rows for the loop, 0 for the number of frames; nothing where it keeps them all

@@ -5,8 +5,7 @@ ghost use Rattle.std.specs.Prelude.{nat_lt, true, false, Some, None, IfOk, IfErr
 ghost use Rattle.paw_game.specs.Game.{GameLists};
 ghost use Rattle.paw_game.specs.Valid.{Valid};
 ghost use Rattle.paw_base.specs.inner.Steps.{no_steps};
-ghost use Rattle.paw_routines.specs.Routines.{AreRowsOf, HaveRows};
-ghost use Rattle.paw_effects.specs.Story.{story_of};
+ghost use Rattle.paw_routines.specs.Routines.{HaveRows};
 ghost use Rattle.paw_effects.specs.declared.act.Prompt.{Prompt as AtPrompt};
 ghost use Rattle.paw_effects.specs.declared.act.Prompt.TheVariants as prompt;
 ghost use Rattle.paw_reading.specs.Run.{Run, is_ignored, heard, reply, is_yes};
@@ -19,7 +18,7 @@ ghost use Rattle.paw_process.specs.inner.OpenTables.{below, ReadsStep, IsReading
 ghost use Rattle.paw_process.specs.inner.OpenTables.{new_machine, refilled, table_begun};
 ghost use Rattle.paw_process.specs.Kept.{kept as kept_of, frames_fault};
 ghost use Rattle.paw_process.specs.inner.Kept.{restored, waiting_at, StandsAt};
-ghost use Rattle.paw_process.specs.inner.Meaning.{having, going_in, RunsTo, IsStopped, AwaitsAnswer};
+ghost use Rattle.paw_process.specs.inner.Meaning.{InStories, having, RunsTo, IsStopped, AwaitsAnswer};
 ghost use Rattle.paw_process.specs.inner.Meaning.{AnswersQuit, AnswersKey};
 ghost use Rattle.paw_process.specs.inner.Steps.{IsReady, IsAfterStep};
 
@@ -27,6 +26,7 @@ use crate::Turned;
 use crate::frame::{answered, start_of};
 use crate::kept::{FrameFault, Frames, frames_fault, waiting_at};
 use crate::situation::Situation;
+use crate::step::Rulebook;
 use paw_base::limits::READ_LIMIT;
 use paw_base::parts::Condact;
 use paw_base::steps::{StepRow, Steps};
@@ -142,15 +142,15 @@ impl Machine {
         requires ready { IsReady (T.game tables.now) self.old situation.old.world }
         requires rows { HaveRows F.Fn routines.now }
         requires draws { situation.old.world.draws + self.old.left < 2 ^ 64 }
-        ensures meaning { (X : List (List ℕ)) → AreRowsOf F.Fn routines.now X →
-            RunsTo (story_of (T.game tables.now) X) (having situation.old self.old) result
-            (having situation.new self.new) }
+        ensures meaning { InStories F.Fn routines.now (T.game tables.now) (λ g.
+            RunsTo g (having situation.old self.old) result (having situation.new self.new)) }
         ensures stopped { IsStopped result self.new }
         ensures after { IsAfterStep (T.game tables.now) (having situation.old self.old)
             (having situation.new self.new) }
     {
+        let rulebook = Rulebook { tables, routines };
         loop {
-            match self.step(tables, routines, situation) {
+            match rulebook.step(self, situation) {
                 Some(turned) => return turned,
                 None => {}
             }
@@ -162,7 +162,7 @@ impl Machine {
     pub fn frames(&self) -> Frames
         ensures value { result ≡ kept_of self.now }
         ensures again { (p : AtPrompt) → StandsAt p self.now → restored result (waiting_at p) ≡ refilled self.now }
-        ensures sound { (g : GameLists) (p : AtPrompt) → StandsAt p self.now →
+        ensures sound { (g : GameLists) (p : AtPrompt) →
             ArePlaces g p (reverse self.now.frames) self.now.turning → frames_fault g p result ≡ None }
     {
         let mut rows = [start_of(0); MOST_FRAMES];

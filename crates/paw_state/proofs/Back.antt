@@ -2,6 +2,7 @@
 use Rattle.std.proofs.Common.{◌≡◌, ℕ, zero, suc, ◌+◌, ◌<◌, ◌≤◌, ◌==◌, List, [], ◌∷◌, Option, Some}
 use Rattle.std.proofs.Common.{None, length, map, take, drop, nat_le, refl, sym, ap, ◌∙◌, arith}
 use Rattle.std.specs.Prelude.{All, if◌then◌else◌}
+use Rattle.std.specs.Option.{unwrap_or}
 use Rattle.std.proofs.lemmas.List.{length-take}
 use Rattle.std.proofs.lemmas.Bool.{leb-true}
 use Rattle.paw_game.specs.Game.{GameLists}
@@ -13,7 +14,7 @@ use Rattle.paw_effects.specs.declared.act.Prompt.{Prompt}
 use Rattle.paw_effects.specs.declared.act.Prompt.TheVariants as prompt
 use Rattle.paw_reading.specs.declared.places.OpenLoop.{OpenLoop}
 use Rattle.paw_process.specs.declared.kept.Frames.{Frames}
-use Rattle.paw_process.specs.Kept.{waiting_code, code_or_zero}
+use Rattle.paw_process.specs.Kept.{waiting_code}
 use Rattle.paw_state.specs.declared.fields.Fields.{Fields}
 use Rattle.paw_state.specs.declared.held.Held.{Held}
 use Rattle.paw_state.specs.State.{State, Keeps}
@@ -93,7 +94,7 @@ state_back g f v z s =
     refl refl refl
     (code_back f.prompt (leb-true f.prompt 4 s.prompt))
     refl
-    (rows_back g (code_or_zero (waiting_code (prompt_of f.prompt))) None f.count 1049 f.rows s.frames)
+    (rows_back g (unwrap_or (waiting_code (prompt_of f.prompt)) 0) None f.count 1049 f.rows s.frames)
     (presence_back f.turning f.looping (looping_low f.looping f.count s.looping))
     (turning_back g f s.turning)
     refl n

@@ -2,6 +2,7 @@
 use Rattle.std.proofs.Common.{◌≡◌, ℕ, suc, ◌+◌, ◌-◌, ◌*◌, ◌==◌, ◌||◌, Bool, true, false, List, [], ◌∷◌, Option, Some, None}
 use Rattle.std.proofs.Common.{length, map, take, drop, get_or, is_some, nat_le, refl, sym, ap, ◌∙◌, subst, arith}
 use Rattle.std.specs.Prelude.{All, IfNone, if◌then◌else◌}
+use Rattle.std.specs.Option.{option_or, unwrap_or}
 use Rattle.std.proofs.lemmas.List.{length-map, length-take}
 use Rattle.std.proofs.lemmas.List.Elements.{All-cons}
 use Rattle.std.proofs.lemmas.Bool.{eqb-true, le-leb, leb-true}
@@ -13,7 +14,7 @@ use Rattle.paw_world.specs.World.{Position, IsSavedFor, IsWorld}
 use Rattle.paw_effects.specs.declared.act.Prompt.{Prompt}
 use Rattle.paw_effects.specs.declared.act.Prompt.TheVariants as prompt
 use Rattle.paw_process.specs.declared.kept.Frames.{Frames}
-use Rattle.paw_process.specs.Kept.{waiting_code, code_or_zero, count_fits, fault_at, first_fault}
+use Rattle.paw_process.specs.Kept.{waiting_code, count_fits, fault_at}
 use Rattle.paw_process.specs.Kept.{rows_fault as machine_rows, loop_fault as machine_loop}
 use Rattle.paw_process.proofs.Restored.{no_first as no_machine_first}
 use Rattle.paw_state.specs.declared.fields.Fields.{Fields}
@@ -34,23 +35,23 @@ use Rattle.paw_state.proofs.Back.{objects_stand, prompt_again}
 -- ---- the machine's rules ----
 
 no_machine_fault : (g : GameLists) (code : Option ℕ) (k : Frames) → count_fits code k.count ≡ true
-    → machine_rows g (code_or_zero code) None k.count 0 k.rows ≡ None
+    → machine_rows g (unwrap_or code 0) None k.count 0 k.rows ≡ None
     → machine_loop g k k.turning ≡ None → fault_at g code k ≡ None
 no_machine_fault g code k counts rows turns = rw (counts, rows, turns) refl
 
 pub record MachineSound (g : GameLists) (code : Option ℕ) (k : Frames) : Type 0 where
   pub count : count_fits code k.count ≡ true
-  pub rows : machine_rows g (code_or_zero code) None k.count 0 k.rows ≡ None
+  pub rows : machine_rows g (unwrap_or code 0) None k.count 0 k.rows ≡ None
   pub turning : machine_loop g k k.turning ≡ None
 
 pub machine_sound : (g : GameLists) (code : Option ℕ) (k : Frames) → fault_at g code k ≡ None → MachineSound g code k
 machine_sound g code k h = go (count_fits code k.count) refl h
   where
     go : (b : Bool) → count_fits code k.count ≡ b
-        → ◌≡◌ {A = Option ℕ} (if b then first_fault (machine_rows g (code_or_zero code) None k.count 0 k.rows) (machine_loop g k k.turning) else Some 0) None
+        → ◌≡◌ {A = Option ℕ} (if b then option_or (machine_rows g (unwrap_or code 0) None k.count 0 k.rows) (machine_loop g k k.turning) else Some 0) None
         → MachineSound g code k
     go true e q =
-        let p = no_machine_first (machine_rows g (code_or_zero code) None k.count 0 k.rows) (machine_loop g k k.turning) q in
+        let p = no_machine_first (machine_rows g (unwrap_or code 0) None k.count 0 k.rows) (machine_loop g k k.turning) q in
         record { count = e; rows = p.0; turning = p.1 }
     go false e q = cc
 
@@ -88,7 +89,7 @@ line_kept (Some code) n line h = tt
 pub frames_kept : (g : GameLists) (f : Fields) → AreSound g f → fault_at g (waiting_code (prompt_of f.prompt)) (frames_in f) ≡ None
 frames_kept g f s =
     no_machine_fault g (waiting_code (prompt_of f.prompt)) (frames_in f) s.count
-    (rows_sound g (code_or_zero (waiting_code (prompt_of f.prompt))) None f.count 1049 0 f.rows s.frames) (loop_sound g f s.turning)
+    (rows_sound g (unwrap_or (waiting_code (prompt_of f.prompt)) 0) None f.count 1049 0 f.rows s.frames) (loop_sound g f s.turning)
 
 -- the world that the fields say is a world
 sound_in : (g : GameLists) (f : Fields) → Valid g → AreSized f → AreSound g f → IsWorld (state_in g f).world
@@ -173,8 +174,8 @@ sound_fields g s k =
       draws = le-leb s.world.draws (200000 * (s.events + 1)) k.draws;
       prompt = code_low s.prompt;
       count = subst (λ (p : Prompt). count_fits (waiting_code p) s.frames.count ≡ true) again m.count;
-      frames = subst (λ (p : Prompt). row_fields_fault g (code_or_zero (waiting_code p)) None s.frames.count 1049 (map row_of s.frames.rows) ≡ None) again
-          (frames_sound g (code_or_zero (waiting_code s.prompt)) None s.frames.count 1049 0 s.frames.rows m.rows);
+      frames = subst (λ (p : Prompt). row_fields_fault g (unwrap_or (waiting_code p) 0) None s.frames.count 1049 (map row_of s.frames.rows) ≡ None) again
+          (frames_sound g (unwrap_or (waiting_code s.prompt) 0) None s.frames.count 1049 0 s.frames.rows m.rows);
       looping = loop_counted g s.frames m.turning;
       turning = loop_found g s.frames (fields_of s) refl refl m.turning;
       pending = subst (λ (p : Prompt). (is_some (waiting_code p) || (length s.pending.bytes == 0)) ≡ true) again

@@ -2,6 +2,7 @@
 use Rattle.std.proofs.Common.{◌≡◌, ℕ, zero, suc, ◌+◌, ◌-◌, ◌<◌, ◌≤◌, ◌^◌, ◌==◌, ◌&&◌, Bool, true, false, List, [], ◌∷◌}
 use Rattle.std.proofs.Common.{Option, Some, None, length, map, take, drop, get_or, nat_lt, refl, ap, ◌∙◌, lit<, arith}
 use Rattle.std.specs.Prelude.{All, slice_get, slice_index, slice_range, if◌then◌else◌}
+use Rattle.std.specs.Option.{unwrap_or}
 use Rattle.std.proofs.lemmas.List.{length-map, length-drop}
 use Rattle.std.proofs.lemmas.List.Elements.{All-cons, All-nil, All-take, All-map}
 use Rattle.std.proofs.lemmas.Bool.{eqb-true}
@@ -16,7 +17,7 @@ use Rattle.paw_reading.specs.declared.places.Frame.{Frame}
 use Rattle.paw_reading.specs.declared.places.OpenLoop.{OpenLoop}
 use Rattle.paw_process.specs.declared.kept.Frames.{Frames}
 use Rattle.paw_process.specs.Kept.{may_open, has_code, parameter_of, condact_of, is_unused, row_stands}
-use Rattle.paw_process.specs.Kept.{table_of, is_that_table, loop_stands, waiting_code, code_or_zero}
+use Rattle.paw_process.specs.Kept.{table_of, is_that_table, loop_stands, waiting_code}
 use Rattle.paw_process.specs.Kept.{rows_fault as machine_rows, loop_fault as machine_loop}
 use Rattle.paw_process.proofs.Restored.{first_of, second}
 use Rattle.paw_state.specs.declared.fields.Row.{Row}
@@ -177,7 +178,7 @@ sized_of g s v k h =
       draws = h.draws;
       events = h.events;
       rows = length-map s.frames.rows row_of ∙ k.rows;
-      entries = entries_fit g (code_or_zero (waiting_code s.prompt)) None s.frames.count 0 s.frames.rows v m.rows;
+      entries = entries_fit g (unwrap_or (waiting_code s.prompt) 0) None s.frames.count 0 s.frames.rows v m.rows;
       loop_entry = loop_fits g s.frames s.frames.turning v m.turning;
       pending = omega (arith, k.line);
       line = length-filled s.pending.bytes k.line;

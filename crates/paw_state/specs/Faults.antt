@@ -1,6 +1,7 @@
 -- The first field of a state that breaks its rule.
 use Rattle.std.specs.Prelude.{ℕ, suc, ◌+◌, ◌-◌, ◌*◌, ◌==◌, ◌||◌, Bool, List, [], ◌∷◌, Option, Some, None}
 use Rattle.std.specs.Prelude.{length, take, drop, is_some, nat_lt, nat_le, slice_get, if◌then◌else◌}
+use Rattle.std.specs.Option.{unwrap_or}
 use Rattle.paw_base.specs.declared.codes.TheConstants.{PROCESS, DOALL}
 use Rattle.paw_base.specs.declared.limits.TheConstants.{READ_LIMIT, EVENT_LIMIT}
 use Rattle.paw_game.specs.Game.{GameLists}
@@ -10,7 +11,7 @@ use Rattle.paw_effects.specs.declared.act.Prompt.{Prompt}
 use Rattle.paw_effects.specs.declared.act.Prompt.TheVariants as prompt
 use Rattle.paw_reading.specs.declared.places.OpenLoop.{OpenLoop}
 use Rattle.paw_process.specs.Kept.{waiting_code, may_open, has_code, parameter_of}
-use Rattle.paw_process.specs.Kept.{is_that_table, count_fits, code_or_zero}
+use Rattle.paw_process.specs.Kept.{is_that_table, count_fits}
 use Rattle.paw_state.specs.declared.layout.TheConstants.{PLACES, SAVED, HELD_FLAGS, HELD_PLACES, HELD_LENGTH, DRAWS}
 use Rattle.paw_state.specs.declared.layout.TheConstants.{EVENTS, PROMPT, COUNT, ROWS, ROW_LENGTH, ROW_ENTRY, ROW_AT}
 use Rattle.paw_state.specs.declared.layout.TheConstants.{ROW_ACTED, LOOPING, LOOP_LEVEL, LOOP_TABLE, LOOP_ENTRY}
@@ -166,7 +167,7 @@ turning_fault g f = first (
 
 -- the condact of the prompt, and which tables are open
 abbrev pub frame_fields_fault : GameLists → Fields → Option ℕ
-frame_fields_fault g f = row_fields_fault g (code_or_zero (waiting_code (prompt_of f.prompt))) None f.count ROWS f.rows
+frame_fields_fault g f = row_fields_fault g (unwrap_or (waiting_code (prompt_of f.prompt)) 0) None f.count ROWS f.rows
 
 -- nothing is pending where no table is open; the bytes behind what is pending are 0
 abbrev pub pending_fault : Fields → Option ℕ

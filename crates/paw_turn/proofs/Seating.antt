@@ -2,6 +2,7 @@
 use Rattle.std.proofs.Common.{◌≡◌, ℕ, zero, suc, ◌<◌, Bool, true, false, List, [], ◌∷◌, Option, Some}
 use Rattle.std.proofs.Common.{None, take, reverse, slice_get, refl, sym, ap, ◌∙◌, subst, arith}
 use Rattle.std.specs.Prelude.{if◌then◌else◌, nat_lt}
+use Rattle.std.specs.Option.{option_or}
 use Rattle.std.proofs.lemmas.Bool.{eqb-true, ltb-true}
 use Rattle.std.proofs.lemmas.List.{reverse-reverse}
 use Rattle.paw_base.specs.Steps.{KeptSteps}
@@ -22,7 +23,8 @@ use Rattle.paw_reading.specs.inner.Places.{ArePlaces, IsLoopOf}
 use Rattle.paw_phrase.specs.Pending.{PendingLine}
 use Rattle.paw_process.specs.OpenTables.{OpenTables}
 use Rattle.paw_process.specs.inner.OpenTables.{IsWaiting, IsClosed, new_machine, refilled}
-use Rattle.paw_process.specs.Kept.{kept, rows_fault, table_of, is_that_table, loop_stands, loop_fault, first_fault, count_fits, fault_at, frames_fault}
+use Rattle.paw_process.specs.Kept.{kept, rows_fault, table_of, is_that_table, loop_stands, loop_fault}
+use Rattle.paw_process.specs.Kept.{count_fits, fault_at, frames_fault, waiting_code}
 use Rattle.paw_process.specs.inner.Kept.{restored, waiting_at}
 use Rattle.paw_process.specs.inner.Kept.{StandsAt as MachineStandsAt}
 use Rattle.paw_process.specs.declared.kept.Frames.{Frames}
@@ -62,7 +64,7 @@ kept_loop : (g : GameLists) (code : ℕ) (k : Frames) → fault_at g (Some code)
 kept_loop g code k h = go (count_fits (Some code) k.count) refl h
   where
     go : (b : Bool) → count_fits (Some code) k.count ≡ b
-        → ◌≡◌ {A = Option ℕ} (if b then first_fault (rows_fault g code None k.count 0 k.rows) (loop_fault g k k.turning) else Some 0) None
+        → ◌≡◌ {A = Option ℕ} (if b then option_or (rows_fault g code None k.count 0 k.rows) (loop_fault g k k.turning) else Some 0) None
         → IsLoopOf (first_table (reverse (reverse (take k.count k.rows)))) k.turning
     go true e q = rw (reverse-reverse (take k.count k.rows)) (first_loop g k k.turning (no_first _ (loop_fault g k k.turning) q).1)
     go false e q = cc
@@ -128,7 +130,7 @@ module _ {F : Type 0} (p : Seat F) (seated : IsSeated p) (standing : IsStanding 
   -- its places are never refused
   pub places_kept : frames_fault p.game (prompt_at p.last) (kept p.machine) ≡ None
   places_kept =
-      places_fit p.game (prompt_at p.last) p.machine (machine_stands p.last p.machine seated.machine standing) (seated.rightly standing).places
+      places_fit p.game (waiting_code (prompt_at p.last)) (reverse p.machine.frames) p.machine.turning (seated.rightly standing).places
 
   -- and a player that stands with them is the same but for the piece
   pub same_seat : seat_at p.game p.routines p.world p.machine p.pending (prompt_at p.last) ≡ record p { piece = [] }

@@ -9,10 +9,11 @@ ghost use Rattle.paw_effects.specs.declared.act.Prompt.TheVariants as prompt;
 ghost use Rattle.paw_reading.specs.Run.{is_timeout, is_ignored, reply, begins_with};
 ghost use Rattle.paw_reading.specs.Turn.{first_table};
 ghost use Rattle.paw_process.specs.inner.OpenTables.{IsClosed};
+ghost use Rattle.paw_process.specs.inner.Meaning.{InStories};
 ghost use Rattle.paw_turn.specs.declared.stage.Next.TheVariants as next;
 ghost use Rattle.paw_turn.specs.inner.Player.{WaitsIn, StandsAt};
 ghost use Rattle.paw_turn.specs.inner.Stages.{PlaysAs, RunsAs, from_prompt, from_path, IsPlayable};
-ghost use Rattle.paw_turn.specs.inner.Stages.{InStories, MayHear, MayAnswer, Stays, KeepsGame, StopsInTable};
+ghost use Rattle.paw_turn.specs.inner.Stages.{MayHear, MayAnswer, Stays, KeepsGame, StopsInTable};
 
 use crate::stage::{Next, Stage};
 use crate::turn::{Rulebook, Turn, or_spent};

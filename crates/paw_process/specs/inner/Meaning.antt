@@ -1,7 +1,11 @@
 -- What a machine's answers mean in the reading.
 use Rattle.std.specs.Prelude.{◌≡◌, ◌⊎◌, ℕ, Bool, false, List, [], ◌∷◌, ◌++◌, length, reverse}
-use Rattle.paw_effects.specs.Story.{Story}
+use Rattle.std.specs.Fn.{Shared}
+use Rattle.paw_game.specs.Game.{GameLists}
 use Rattle.paw_game.specs.Valid.{Valid}
+use Rattle.paw_routines.specs.declared.routines.Routines.{Routines}
+use Rattle.paw_routines.specs.Routines.{AreRowsOf}
+use Rattle.paw_effects.specs.Story.{Story, story_of}
 use Rattle.paw_effects.specs.declared.act.Prompt.TheVariants as prompt
 use Rattle.paw_reading.specs.declared.places.Frame.{Frame}
 use Rattle.paw_reading.specs.Run.{Run, Step, closed, is_ignored, heard, reply, is_yes}
@@ -13,6 +17,13 @@ use Rattle.paw_process.specs.inner.OpenTables.{HasRead, IsWaiting, IsClosed}
 use Rattle.paw_process.specs.declared.situation.Situation.{Situation}
 use Rattle.paw_process.specs.declared.Turned.{Turned}
 use Rattle.paw_process.specs.declared.Turned.TheVariants as turned
+
+-- ---- stories ----
+
+-- whatever rows stand for the routines, this holds of the story that the game is with them
+abbrev pub InStories :
+    {F : Type 0} → Shared F (ℕ × (ℕ × Unit {0})) ℕ → Routines F → GameLists → (Story → Type 0) → Type 0
+InStories calls routines g P = (X : List (List ℕ)) → AreRowsOf calls routines X → P (story_of g X)
 
 -- ---- what is held ----
 

@@ -1,19 +1,16 @@
 -- The middle of a run.
-use Rattle.std.specs.Prelude.{ℕ, List, None}
+use Rattle.std.specs.Prelude.{ℕ, None}
 use Rattle.std.specs.Fn.{Shared}
 use Rattle.paw_game.specs.Game.{GameLists}
 use Rattle.paw_routines.specs.declared.routines.Routines.{Routines}
-use Rattle.paw_routines.specs.Routines.{AreRowsOf}
-use Rattle.paw_effects.specs.Story.{story_of}
 use Rattle.paw_process.specs.inner.OpenTables.{IsReading}
-use Rattle.paw_process.specs.inner.Meaning.{Held, going_in}
+use Rattle.paw_process.specs.inner.Meaning.{InStories, Held, going_in}
 use Rattle.paw_process.specs.inner.Moves.{ReadsTable}
 use Rattle.paw_process.specs.inner.Steps.{IsAfterStep}
 
 -- the machine has read on from what was held at first to what is held now, and may read on
 pub record IsRunning {F : Type 0} (calls : Shared F (ℕ × (ℕ × Unit {0})) ℕ) (routines : Routines F) (g : GameLists)
     (first now : Held) : Type 0 where
-  pub reads : (X : List (List ℕ)) → AreRowsOf calls routines X →
-      ReadsTable (story_of g X) (going_in (story_of g X) first.machine.frames) first None now
+  pub reads : InStories calls routines g (λ s. ReadsTable s (going_in s first.machine.frames) first None now)
   pub reading : IsReading now.machine
   pub after : IsAfterStep g first now

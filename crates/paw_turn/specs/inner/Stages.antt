@@ -9,11 +9,11 @@ use Rattle.paw_game.specs.Valid.{Valid}
 use Rattle.paw_world.specs.World.{World}
 use Rattle.paw_phrase.specs.Pending.{PendingLine}
 use Rattle.paw_routines.specs.declared.routines.Routines.{Routines}
-use Rattle.paw_routines.specs.Routines.{AreRowsOf, HaveRows}
+use Rattle.paw_routines.specs.Routines.{HaveRows}
 use Rattle.paw_effects.specs.declared.act.Prompt.{Prompt}
 use Rattle.paw_effects.specs.declared.act.Prompt.TheVariants as prompt
 use Rattle.paw_effects.specs.Worlds.{IsOf}
-use Rattle.paw_effects.specs.Story.{Story, story_of}
+use Rattle.paw_effects.specs.Story.{Story}
 use Rattle.paw_reading.specs.declared.places.Frame.{Frame}
 use Rattle.paw_reading.specs.declared.places.OpenLoop.{OpenLoop}
 use Rattle.paw_reading.specs.Run.{Run, Step as Read, closed, is_ignored}
@@ -34,13 +34,6 @@ use Rattle.paw_turn.specs.declared.stage.Next.{Next}
 use Rattle.paw_turn.specs.declared.stage.Next.TheVariants as next
 use Rattle.paw_turn.specs.declared.turn.Turn.{Turn}
 use Rattle.paw_turn.specs.inner.Player.{Seat, WaitsIn, StandsAt, StandsClosed}
-
--- ---- stories ----
-
--- whatever rows stand for the routines, this holds of the story that the game is with them
-abbrev pub InStories :
-    {F : Type 0} → Shared F (ℕ × (ℕ × Unit {0})) ℕ → Routines F → GameLists → (Story → Type 0) → Type 0
-InStories calls routines g P = (X : List (List ℕ)) → AreRowsOf calls routines X → P (story_of g X)
 
 -- ---- runs ----
 

@@ -3,6 +3,7 @@
 
 ghost use Rattle.std.specs.Prelude.{◌≡◌, true, IfOk};
 ghost use Rattle.paw_routines.specs.Routines.{HaveRows};
+ghost use Rattle.paw_turn.specs.inner.Parts.{Fits};
 ghost use Rattle.paw_turn.specs.inner.Player.{IsSeated, IsStanding};
 
 use super::Player;
@@ -18,7 +19,7 @@ use paw_game::game::Game;
 use paw_phrase::Pending;
 use paw_process::{Machine, Situation};
 use paw_routines::routines::Routines;
-use std::alloc::Global;
+use paw_world::world::World;
 use std::process::Abort;
 use std::test::Fail;
 
@@ -34,136 +35,150 @@ enum Between {
     Seating,
 }
 
-/// A line, what it comes to, and its piece.
-type Taken = (&'static str, Step, &'static str);
+/// What a line comes to, and the piece that it brings.
+type Brought = (Step, &'static str);
+
+/// A line, and what it brings.
+type Taken = (&'static str, Brought);
 
 const MAIN: Step = Step::Waits(Prompt::Main);
 
-const SURE: Step = Step::Waits(Prompt::Quit);
+/// Nothing but the prompt.
+const PROMPT: Brought = (MAIN, "What now?\n> ");
 
-const AGAIN: Step = Step::Waits(Prompt::Again);
+const HALL: Brought = (MAIN, "A hall.\nWhat now?\n> ");
 
-const KEY: Step = Step::Waits(Prompt::Key);
+const GARDEN: Brought = (MAIN, "A garden.\nA wind blows.\nWhat now?\n> ");
 
-/// The first piece.
-const FIRST: &str = "A hall.\nWhat now?\n> ";
+const OKAY: Brought = (MAIN, "OK.\nWhat now?\n> ");
 
-/// The piece where nothing but the prompt is shown.
-const PROMPT: &str = "What now?\n> ";
+const SWORD: Brought = (MAIN, "You shake the sword.\nWhat now?\n> ");
+
+const SURE: Brought = (Step::Waits(Prompt::Quit), "Are you sure? ");
+
+const AGAIN: Brought = (Step::Waits(Prompt::Again), "Another go? ");
+
+const KEY: Brought = (Step::Waits(Prompt::Key), "Press a key. ");
+
+const GOODBYE: Brought = (Step::Ended, "Goodbye.\n");
+
+const OVER: Brought = (Step::Ended, "");
+
+const TOO_DEEP: Brought = (Step::TooDeep { table: 5 }, "");
+
+const READS_TOO_MUCH: Brought = (Step::Spent(SpentKind::Condacts), "");
+
+const TELLS_TOO_MUCH: Brought = (Step::Spent(SpentKind::Text), "");
+
+/// A line that is late where none may be, at each prompt.
+const IGNORED_AT_MAIN: Taken = ("~", (MAIN, ""));
+
+const IGNORED_AT_QUIT: Taken = ("~", (Step::Waits(Prompt::Quit), ""));
+
+const IGNORED_AT_AGAIN: Taken = ("~", (Step::Waits(Prompt::Again), ""));
+
+const IGNORED_AT_KEY: Taken = ("~", (Step::Waits(Prompt::Key), ""));
 
 /// Lines that lead to each prompt, and from each on.
 const CASES: [&[Taken]; 14] = [
     // The loop of the outer table goes on behind the question in the called one.
     &[
-        ("SHAKE ALL", SURE, "Are you sure? "),
-        ("N", SURE, "Are you sure? "),
-        ("Y", MAIN, "You shake the sword.\nWhat now?\n> "),
-        ("WAIT", MAIN, "OK.\nWhat now?\n> "),
+        ("SHAKE ALL", SURE),
+        ("N", SURE),
+        ("Y", SWORD),
+        ("WAIT", OKAY),
     ],
     // The loop of the called table has replaced the outer one.
     &[
-        ("TWIST ALL. WAIT", KEY, "Press a key. "),
-        ("~", KEY, ""),
-        ("", MAIN, "You shake the coat.\nDone.\nOK.\nWhat now?\n> "),
-        ("LOOK", MAIN, FIRST),
+        ("TWIST ALL. WAIT", KEY),
+        IGNORED_AT_KEY,
+        ("", (MAIN, "You shake the coat.\nDone.\nOK.\nWhat now?\n> ")),
+        ("LOOK", HALL),
     ],
     // The game starts anew.
     &[
-        ("QUIT", SURE, "Are you sure? "),
-        (" y", AGAIN, "Another go? "),
-        ("yes", MAIN, FIRST),
-        ("SHAKE COAT", SURE, "Are you sure? "),
+        ("QUIT", SURE),
+        (" y", AGAIN),
+        ("yes", HALL),
+        ("SHAKE COAT", SURE),
     ],
     // The game is over, and no line changes that.
     &[
-        ("QUIT", SURE, "Are you sure? "),
-        ("Y", AGAIN, "Another go? "),
-        ("  no", Step::Ended, "Goodbye.\n"),
-        ("LOOK", Step::Ended, ""),
+        ("QUIT", SURE),
+        ("Y", AGAIN),
+        ("  no", GOODBYE),
+        ("LOOK", OVER),
     ],
     // Ten calls are open at most; the eleventh isn't made.
-    &[
-        ("NEST", MAIN, "OK.\nWhat now?\n> "),
-        ("DEEP", Step::TooDeep { table: 5 }, ""),
-    ],
+    &[("NEST", OKAY), ("DEEP", TOO_DEEP)],
     // A called table that is left as not done leaves its caller to go on.
     &[
-        ("NO", MAIN, "Here the  is.\nDone.\nWhat now?\n> "),
-        ("WAIT", MAIN, "OK.\nWhat now?\n> "),
+        ("NO", (MAIN, "Here the  is.\nDone.\nWhat now?\n> ")),
+        ("WAIT", OKAY),
     ],
     // Describing inside a call drops the calls.
-    &[
-        ("AWAY", MAIN, "A garden.\nA wind blows.\nWhat now?\n> "),
-        ("LOOK", MAIN, "A garden.\nA wind blows.\nWhat now?\n> "),
-    ],
+    &[("AWAY", GARDEN), ("LOOK", GARDEN)],
     // A loop without objects leaves its table as done.
     &[
-        ("WHERE ALL", MAIN, PROMPT),
-        ("WHERE", MAIN, "Done.\nWhat now?\n> "),
+        ("WHERE ALL", PROMPT),
+        ("WHERE", (MAIN, "Done.\nWhat now?\n> ")),
     ],
     // What is excepted is left out of the loop, with its adjective and without.
-    &[
-        ("SHAKE ALL EXCEPT RED LAMP", SURE, "Are you sure? "),
-        ("Y", MAIN, "You shake the sword.\nWhat now?\n> "),
-    ],
-    &[
-        ("SHAKE ALL EXCEPT LAMP", SURE, "Are you sure? "),
-        ("y", MAIN, "You shake the sword.\nWhat now?\n> "),
-    ],
+    &[("SHAKE ALL EXCEPT RED LAMP", SURE), ("Y", SWORD)],
+    &[("SHAKE ALL EXCEPT LAMP", SURE), ("y", SWORD)],
     // The next phrase is taken inside a loop: its verb matches no entry that follows; where there is none reading goes
     // on.
     &[
-        ("TURN ALL AND WAIT", MAIN, PROMPT),
+        ("TURN ALL AND WAIT", PROMPT),
         (
             "TURN ALL",
-            MAIN,
-            "Here the lamp is.\nHere the sword is.\nWhat now?\n> ",
+            (MAIN, "Here the lamp is.\nHere the sword is.\nWhat now?\n> "),
         ),
     ],
     // A game that starts anew starts in the hall again, and may be over later.
     &[
-        ("AWAY", MAIN, "A garden.\nA wind blows.\nWhat now?\n> "),
-        ("QUIT", SURE, "Are you sure? "),
-        ("n", MAIN, PROMPT),
-        ("QUIT", SURE, "Are you sure? "),
-        (" y", AGAIN, "Another go? "),
-        ("", MAIN, FIRST),
-        ("QUIT", SURE, "Are you sure? "),
-        ("y", AGAIN, "Another go? "),
-        ("  no", Step::Ended, "Goodbye.\n"),
-        ("LOOK", Step::Ended, ""),
+        ("AWAY", GARDEN),
+        ("QUIT", SURE),
+        ("n", PROMPT),
+        ("QUIT", SURE),
+        (" y", AGAIN),
+        ("", HALL),
+        ("QUIT", SURE),
+        ("y", AGAIN),
+        ("  no", GOODBYE),
+        ("LOOK", OVER),
     ],
     // A line may be late, or not, at each prompt.
     &[
-        ("QUIT", SURE, "Are you sure? "),
-        ("~", SURE, ""),
-        ("n", MAIN, PROMPT),
-        ("TIME", MAIN, PROMPT),
-        ("~", MAIN, "Time passes.\nWhat now?\n> "),
-        ("QUIT", SURE, "Are you sure? "),
-        ("~", MAIN, PROMPT),
-        ("TWIST ALL", KEY, "Press a key. "),
-        ("~", MAIN, "You shake the coat.\nDone.\nWhat now?\n> "),
+        ("QUIT", SURE),
+        IGNORED_AT_QUIT,
+        ("n", PROMPT),
+        ("TIME", PROMPT),
+        ("~", (MAIN, "Time passes.\nWhat now?\n> ")),
+        ("QUIT", SURE),
+        ("~", PROMPT),
+        ("TWIST ALL", KEY),
+        ("~", (MAIN, "You shake the coat.\nDone.\nWhat now?\n> ")),
     ],
     // A late line lets the game start anew, and then no line may be late.
     &[
-        ("QUIT", SURE, "Are you sure? "),
-        ("y", AGAIN, "Another go? "),
-        ("~", AGAIN, ""),
-        ("", MAIN, FIRST),
-        ("TIME", MAIN, PROMPT),
-        ("QUIT", SURE, "Are you sure? "),
-        ("y", AGAIN, "Another go? "),
-        ("~", MAIN, FIRST),
-        ("~", MAIN, ""),
+        ("QUIT", SURE),
+        ("y", AGAIN),
+        IGNORED_AT_AGAIN,
+        ("", HALL),
+        ("TIME", PROMPT),
+        ("QUIT", SURE),
+        ("y", AGAIN),
+        ("~", HALL),
+        IGNORED_AT_MAIN,
     ],
 ];
 
 /// Lines after which a player goes on no more, and what it answers then.
-const FINISHING: [(&str, Step); 3] = [
-    ("DEEP", Step::TooDeep { table: 5 }),
-    ("SPIN", Step::Spent(SpentKind::Condacts)),
-    ("FALL", Step::Spent(SpentKind::Text)),
+const FINISHING: [Taken; 3] = [
+    ("DEEP", TOO_DEEP),
+    ("SPIN", READS_TOO_MUCH),
+    ("FALL", TELLS_TOO_MUCH),
 ];
 
 // Whether a player that came to this is neither spent nor too deep.
@@ -176,131 +191,159 @@ fn is_standing(step: Step) -> bool
     }
 }
 
+/// The parts of a player that goes on elsewhere.
+#[derive(Drop)]
+struct Apart {
+    world: World,
+    machine: Machine,
+    pending: Pending,
+    prompt: Prompt,
+}
+
+// What a player stands with, its machine and its line made anew from what is kept of them.
+fn taken_apart<F: Fn(u8, u8) -> u8>(player: Player<'_, Game, F>) -> Result<Apart, Fail>
+    requires seated { IsSeated player }
+    requires standing { IsStanding player.last }
+    ensures fits { IfOk result (λ a. Fits player.entry.game a.world a.machine a.pending a.prompt) }
+{
+    let prompt = player.parts().prompt;
+    let frames = player.parts().machine.frames();
+    let machine = Machine::restore(player.rulebook.tables, &frames, prompt)?;
+    let Player { turn, .. } = player;
+    let Turn { situation, .. } = turn;
+    let Situation { world, pending, .. } = situation;
+    let pending = Pending::of(pending.bytes(), pending.earlier());
+    Ok(Apart {
+        world,
+        machine,
+        pending,
+        prompt,
+    })
+}
+
 // A player that goes on where another stood; one that is spent or too deep stays.
-fn taken_up<'a, F: Fn(u8, u8) -> u8>(
-    alloc: Global,
-    game: &'a Game,
-    routines: &'a Routines<F>,
+fn taken_up<'a, R: AllocGlobal, F: Fn(u8, u8) -> u8>(
+    rt: &R,
     player: Player<'a, Game, F>,
     between: Between,
 ) -> Result<Player<'a, Game, F>, Fail>
-    requires rows { HaveRows F.Fn routines.now }
-    requires game { player.game ≡ game.now }
-    requires routines { player.routines ≡ routines.now }
+    requires rows { HaveRows F.Fn player.routines }
     requires seated { IsSeated player }
-    ensures game { IfOk result (λ p. p.game ≡ game.now) }
-    ensures routines { IfOk result (λ p. p.routines ≡ routines.now) }
+    ensures rows { IfOk result (λ p. HaveRows F.Fn p.routines) }
     ensures seated { IfOk result IsSeated }
 {
     if between == Between::Nothing || !is_standing(player.last) {
         return Ok(player);
     }
-    let prompt = player.parts().prompt;
-    let frames = player.parts().machine.frames();
-    let machine = Machine::restore(game, &frames, prompt)?;
-    let Player { turn, .. } = player;
-    let Turn { situation, .. } = turn;
-    let Situation { world, pending, .. } = situation;
-    let pending = Pending::of(pending.bytes(), pending.earlier());
+    let game = player.rulebook.tables;
+    let routines = player.rulebook.routines;
+    let apart = taken_apart(player)?;
     if between == Between::Adopting {
-        let other = Player::adopt(alloc, game, routines, world, machine, pending, prompt)?;
+        let other = Player::adopt(
+            rt.alloc(),
+            game,
+            routines,
+            apart.world,
+            apart.machine,
+            apart.pending,
+            apart.prompt,
+        )?;
         return Ok(other);
     }
-    let mut other = Player::new(alloc, game, routines, 8)?;
+    let mut other = Player::new(rt.alloc(), game, routines, 8)?;
     other.start();
-    other.seat(world, machine, pending, prompt);
+    other.seat(apart.world, apart.machine, apart.pending, apart.prompt);
     Ok(other)
 }
 
-// What a line comes to.
-fn take<F: Fn(u8, u8) -> u8>(rt: &impl Abort, player: &mut Player<'_, Game, F>, line: &str) -> Step
+// Compares what a player came to with a line, and the piece that it lends then.
+fn compare<F: Fn(u8, u8) -> u8>(
+    rt: &impl Abort,
+    player: &Player<'_, Game, F>,
+    wanted: Brought,
+    line: &str,
+    between: Between,
+) {
+    let (step, piece) = wanted;
+    assert_eq!(rt; player.last, step, "{line:?}, {between:?}");
+    assert_eq!(rt; player.piece(), piece.as_bytes(), "{line:?}, {between:?}");
+}
+
+// Takes a line.
+fn take<F: Fn(u8, u8) -> u8>(rt: &impl Abort, player: &mut Player<'_, Game, F>, line: &str)
     requires rows { HaveRows F.Fn player.old.routines }
     requires seated { IsSeated player.old }
-    ensures game { player.new.game ≡ player.old.game }
-    ensures routines { player.new.routines ≡ player.old.routines }
+    ensures rows { HaveRows F.Fn player.new.routines }
     ensures seated { IsSeated player.new }
 {
     assert!(rt; line.len() <= LINE_LIMIT);
     assert!(rt; player.parts().world.draws() < 1_000_000);
-    player.take(line.as_bytes())
+    player.take(line.as_bytes());
 }
 
 // Takes the lines of a case, and compares what each brings.
-fn take_all<'a, F: Fn(u8, u8) -> u8>(
-    rt: &impl Abort,
-    alloc: Global,
-    game: &'a Game,
-    routines: &'a Routines<F>,
+fn take_all<'a, R: Abort + AllocGlobal, F: Fn(u8, u8) -> u8>(
+    rt: &R,
     first: Player<'a, Game, F>,
     between: Between,
     lines: &[Taken],
 ) -> Result<Player<'a, Game, F>, Fail>
-    requires rows { HaveRows F.Fn routines.now }
-    requires game { first.game ≡ game.now }
-    requires routines { first.routines ≡ routines.now }
+    requires rows { HaveRows F.Fn first.routines }
     requires seated { IsSeated first }
-    ensures game { IfOk result (λ p. p.game ≡ game.now) }
-    ensures routines { IfOk result (λ p. p.routines ≡ routines.now) }
+    ensures rows { IfOk result (λ p. HaveRows F.Fn p.routines) }
     ensures seated { IfOk result IsSeated }
 {
     let mut player = first;
-    for (line, step, piece) in lines {
-        player = taken_up(alloc, game, routines, player, between)?;
-        let found = take(rt, &mut player, line);
-        assert_eq!(rt; found, *step, "{line:?}, {between:?}");
-        assert_eq!(rt; player.piece(), piece.as_bytes(), "{line:?}, {between:?}");
+    for (line, brought) in lines {
+        player = taken_up(rt, player, between)?;
+        take(rt, &mut player, line);
+        compare(rt, &player, *brought, line, between);
     }
     Ok(player)
 }
 
-// A player after its start.
-fn begun<'a, F: Fn(u8, u8) -> u8>(
-    alloc: Global,
+// A player after its start, which brings this.
+fn begun<'a, R: Abort + AllocGlobal, F: Fn(u8, u8) -> u8>(
+    rt: &R,
     game: &'a Game,
     routines: &'a Routines<F>,
+    first: Brought,
 ) -> Result<Player<'a, Game, F>, Fail>
     requires rows { HaveRows F.Fn routines.now }
-    ensures game { IfOk result (λ p. p.game ≡ game.now) }
-    ensures routines { IfOk result (λ p. p.routines ≡ routines.now) }
+    ensures rows { IfOk result (λ p. HaveRows F.Fn p.routines) }
     ensures seated { IfOk result IsSeated }
 {
-    let mut player = Player::new(alloc, game, routines, 7)?;
+    let mut player = Player::new(rt.alloc(), game, routines, 7)?;
     player.start();
+    compare(rt, &player, first, "the start", Between::Nothing);
     Ok(player)
 }
 
-// A player that took the lines of a case, and then began again.
-fn renewed<'a, F: Fn(u8, u8) -> u8>(
+// Starts a player anew, which brings this.
+fn begin_again<F: Fn(u8, u8) -> u8>(
     rt: &impl Abort,
-    alloc: Global,
-    game: &'a Game,
-    routines: &'a Routines<F>,
-    before: &[Taken],
-) -> Result<Player<'a, Game, F>, Fail>
-    requires rows { HaveRows F.Fn routines.now }
-    ensures game { IfOk result (λ p. p.game ≡ game.now) }
-    ensures routines { IfOk result (λ p. p.routines ≡ routines.now) }
-    ensures seated { IfOk result IsSeated }
+    player: &mut Player<'_, Game, F>,
+    first: Brought,
+)
+    requires rows { HaveRows F.Fn player.old.routines }
+    requires seated { IsSeated player.old }
+    ensures rows { HaveRows F.Fn player.new.routines }
+    ensures seated { IsSeated player.new }
 {
-    let player = Player::new(alloc, game, routines, 7)?;
-    let mut player = take_all(rt, alloc, game, routines, player, Between::Nothing, before)?;
     player.renew(7);
     assert!(rt; player.piece().is_empty());
     player.start();
-    Ok(player)
+    compare(rt, player, first, "the start", Between::Nothing);
 }
 
 #[test]
 fn players_go_on_from_what_was_kept(rt: HostRuntime) -> Result<(), Fail> {
-    let alloc = rt.alloc();
-    let game = asking_game(alloc)?;
+    let game = asking_game(rt.alloc())?;
     let routines = Routines::new(0, |_, x| x);
     for between in [Between::Nothing, Between::Adopting, Between::Seating] {
         for case in CASES {
-            let player = begun(alloc, &game, &routines)?;
-            assert_eq!(rt; player.last, MAIN);
-            assert_eq!(rt; player.piece(), FIRST.as_bytes());
-            take_all(&rt, alloc, &game, &routines, player, between, case)?;
+            let player = begun(&rt, &game, &routines, HALL)?;
+            take_all(&rt, player, between, case)?;
         }
     }
     Ok(())
@@ -308,15 +351,14 @@ fn players_go_on_from_what_was_kept(rt: HostRuntime) -> Result<(), Fail> {
 
 #[test]
 fn renewed_players_begin_again(rt: HostRuntime) -> Result<(), Fail> {
-    let alloc = rt.alloc();
-    let game = asking_game(alloc)?;
+    let game = asking_game(rt.alloc())?;
     let routines = Routines::new(0, |_, x| x);
     for case in CASES {
         for before in CASES {
-            let player = renewed(&rt, alloc, &game, &routines, before)?;
-            assert_eq!(rt; player.last, MAIN);
-            assert_eq!(rt; player.piece(), FIRST.as_bytes());
-            take_all(&rt, alloc, &game, &routines, player, Between::Nothing, case)?;
+            let player = begun(&rt, &game, &routines, HALL)?;
+            let mut player = take_all(&rt, player, Between::Nothing, before)?;
+            begin_again(&rt, &mut player, HALL);
+            take_all(&rt, player, Between::Nothing, case)?;
         }
     }
     Ok(())
@@ -324,22 +366,12 @@ fn renewed_players_begin_again(rt: HostRuntime) -> Result<(), Fail> {
 
 #[test]
 fn finished_players_answer_the_same(rt: HostRuntime) -> Result<(), Fail> {
-    let alloc = rt.alloc();
-    let game = asking_game(alloc)?;
+    let game = asking_game(rt.alloc())?;
     let routines = Routines::new(0, |_, x| x);
-    for (line, step) in FINISHING {
-        let player = begun(alloc, &game, &routines)?;
-        assert_eq!(rt; player.last, MAIN);
-        let lines = [(line, step, ""), ("LOOK", step, ""), ("~", step, "")];
-        let player = take_all(
-            &rt,
-            alloc,
-            &game,
-            &routines,
-            player,
-            Between::Nothing,
-            &lines,
-        )?;
+    for (line, brought) in FINISHING {
+        let lines = [(line, brought), ("LOOK", brought), ("~", brought)];
+        let player = begun(&rt, &game, &routines, HALL)?;
+        let player = take_all(&rt, player, Between::Nothing, &lines)?;
         assert_eq!(rt; player.parts().prompt, Prompt::Over);
     }
     Ok(())
@@ -347,43 +379,25 @@ fn finished_players_answer_the_same(rt: HostRuntime) -> Result<(), Fail> {
 
 #[test]
 fn a_player_waits_where_its_tables_stand(rt: HostRuntime) -> Result<(), Fail> {
-    let alloc = rt.alloc();
-    let game = asking_game(alloc)?;
+    let game = asking_game(rt.alloc())?;
     let routines = Routines::new(0, |_, x| x);
-    let player = begun(alloc, &game, &routines)?;
-    assert_eq!(rt; player.last, MAIN);
-    let lines = [("TWIST ALL", KEY, "Press a key. ")];
-    let player = take_all(
-        &rt,
-        alloc,
-        &game,
-        &routines,
-        player,
-        Between::Nothing,
-        &lines,
-    )?;
+    let player = begun(&rt, &game, &routines, HALL)?;
+    let player = take_all(&rt, player, Between::Nothing, &[("TWIST ALL", KEY)])?;
     assert_eq!(rt; player.parts().machine.frames(), kept::waiting());
     Ok(())
 }
 
 #[test]
 fn players_that_never_come_to_a_prompt_are_spent(rt: HostRuntime) -> Result<(), Fail> {
-    let alloc = rt.alloc();
-    for (location, kind) in [("", SpentKind::Condacts), ("A cave.", SpentKind::Text)] {
-        let game = endless_game(alloc, location)?;
+    for (location, spent) in [("", READS_TOO_MUCH), ("A cave.", TELLS_TOO_MUCH)] {
+        let game = endless_game(rt.alloc(), location)?;
         let routines = Routines::new(0, |_, x| x);
-        let step = Step::Spent(kind);
-        let player = begun(alloc, &game, &routines)?;
-        assert_eq!(rt; player.last, step);
-        assert!(rt; player.piece().is_empty());
+        let player = begun(&rt, &game, &routines, spent)?;
         take_all(
             &rt,
-            alloc,
-            &game,
-            &routines,
             player,
             Between::Nothing,
-            &[("LOOK", step, ""), ("~", step, "")],
+            &[("LOOK", spent), ("~", spent)],
         )?;
     }
     Ok(())
@@ -400,10 +414,41 @@ fn step(table: u8, entry: u16, at: u8, code: u8, yes: bool) -> StepRow {
     }
 }
 
+// The steps of NEST: two before the calls, three in each of the nine calls that call on, and two where the tenth
+// doesn't.
+fn nested_steps() -> [StepRow; 31] {
+    let mut rows = [step(5, 0, 0, GT, true); 31];
+    rows[0] = step(0, 4, 0, LET, true);
+    rows[1] = step(0, 4, 1, PROCESS, true);
+    for call in 0..9 {
+        rows[3 * call + 3] = step(5, 0, 1, MINUS, true);
+        rows[3 * call + 4] = step(5, 0, 2, PROCESS, true);
+    }
+    rows[29] = step(5, 0, 0, GT, false);
+    rows[30] = step(0, 4, 2, OK, true);
+    rows
+}
+
+// Compares the steps of the last of these lines.
+fn compare_steps<R: Abort + AllocGlobal, F: Fn(u8, u8) -> u8>(
+    rt: &R,
+    game: &Game,
+    routines: &Routines<F>,
+    lines: &[Taken],
+    steps: &[StepRow],
+) -> Result<(), Fail>
+    requires rows { HaveRows F.Fn routines.now }
+{
+    let player = begun(rt, game, routines, HALL)?;
+    let player = take_all(rt, player, Between::Nothing, lines)?;
+    assert_eq!(rt; player.steps().rows(), steps, "{lines:?}");
+    assert_eq!(rt; player.steps().count() as usize, steps.len(), "{lines:?}");
+    Ok(())
+}
+
 #[test]
 fn a_player_keeps_the_steps_of_the_last_piece(rt: HostRuntime) -> Result<(), Fail> {
-    let alloc = rt.alloc();
-    let game = asking_game(alloc)?;
+    let game = asking_game(rt.alloc())?;
     let routines = Routines::new(0, |_, x| x);
     let loops = [
         step(0, 2, 0, DOALL, true),
@@ -411,70 +456,21 @@ fn a_player_keeps_the_steps_of_the_last_piece(rt: HostRuntime) -> Result<(), Fai
         step(4, 0, 0, DOALL, true),
         step(4, 1, 0, ANYKEY, true),
     ];
+    let nests = nested_steps();
     let asks = [step(0, 6, 0, QUIT, true)];
     let ends = [step(0, 6, 1, END, true)];
-    let cases: [(&[Taken], &[StepRow]); 6] = [
-        (&[("TWIST ALL", KEY, "Press a key. ")], &loops),
-        // A late line that is ignored leaves no steps.
-        (&[("TWIST ALL", KEY, "Press a key. "), ("~", KEY, "")], &[]),
-        (&[("QUIT", SURE, "Are you sure? ")], &asks),
-        (
-            &[
-                ("QUIT", SURE, "Are you sure? "),
-                ("Y", AGAIN, "Another go? "),
-            ],
-            &ends,
-        ),
-        (
-            &[("QUIT", SURE, "Are you sure? "), ("N", MAIN, PROMPT)],
-            &[],
-        ),
-        (
-            &[("XYZZY", MAIN, "I don't understand.\nWhat now?\n> ")],
-            &[],
-        ),
-    ];
-    for (lines, steps) in cases {
-        let player = begun(alloc, &game, &routines)?;
-        let player = take_all(
-            &rt,
-            alloc,
-            &game,
-            &routines,
-            player,
-            Between::Nothing,
-            lines,
-        )?;
-        assert_eq!(rt; player.steps().rows(), steps, "{lines:?}");
-        assert_eq!(rt; player.steps().count() as usize, steps.len(), "{lines:?}");
-    }
-    Ok(())
-}
-
-#[test]
-fn steps_go_as_deep_as_calls_do(rt: HostRuntime) -> Result<(), Fail> {
-    let alloc = rt.alloc();
-    let game = asking_game(alloc)?;
-    let routines = Routines::new(0, |_, x| x);
-    let player = begun(alloc, &game, &routines)?;
-    let lines = [("NEST", MAIN, "OK.\nWhat now?\n> ")];
-    let player = take_all(
-        &rt,
-        alloc,
-        &game,
-        &routines,
-        player,
-        Between::Nothing,
-        &lines,
-    )?;
-    let steps = player.steps().rows();
-    // Two steps before the calls, nine calls of three steps, the condition that fails, and OK.
-    assert_eq!(rt; steps.len(), 31);
-    assert_eq!(rt; steps.first(), Some(&step(0, 4, 0, LET, true)));
-    assert_eq!(rt; steps.get(1), Some(&step(0, 4, 1, PROCESS, true)));
-    assert_eq!(rt; steps.get(26), Some(&step(5, 0, 0, GT, true)));
-    assert_eq!(rt; steps.get(27), Some(&step(5, 0, 1, MINUS, true)));
-    assert_eq!(rt; steps.get(29), Some(&step(5, 0, 0, GT, false)));
-    assert_eq!(rt; steps.get(30), Some(&step(0, 4, 2, OK, true)));
+    let unknown = (MAIN, "I don't understand.\nWhat now?\n> ");
+    compare_steps(&rt, &game, &routines, &[("TWIST ALL", KEY)], &loops)?;
+    // Steps go as deep as calls do.
+    compare_steps(&rt, &game, &routines, &[("NEST", OKAY)], &nests)?;
+    // A late line that is ignored leaves no steps.
+    let ignored = [("TWIST ALL", KEY), IGNORED_AT_KEY];
+    compare_steps(&rt, &game, &routines, &ignored, &[])?;
+    compare_steps(&rt, &game, &routines, &[("QUIT", SURE)], &asks)?;
+    let quits = [("QUIT", SURE), ("Y", AGAIN)];
+    compare_steps(&rt, &game, &routines, &quits, &ends)?;
+    let stays = [("QUIT", SURE), ("N", PROMPT)];
+    compare_steps(&rt, &game, &routines, &stays, &[])?;
+    compare_steps(&rt, &game, &routines, &[("XYZZY", unknown)], &[])?;
     Ok(())
 }

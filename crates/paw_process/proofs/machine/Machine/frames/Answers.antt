@@ -1,8 +1,8 @@
-use Rattle.std.proofs.Common.{◌≡◌, None, sym, subst, arith}
+use Rattle.std.proofs.Common.{◌≡◌, None, reverse, sym, subst, arith}
 use Rattle.paw_process.proofs.Rows.{kept_rows}
 use Rattle.paw_process.proofs.Again.{kept_again}
 use Rattle.paw_process.proofs.Fitting.{places_fit}
-use Rattle.paw_process.specs.Kept.{frames_fault}
+use Rattle.paw_process.specs.Kept.{waiting_code, frames_fault}
 use Rattle.paw_process.specs.declared.kept.Frames.{Frames}
 use Rattle.paw_process.proofs.machine.Machine.frames.Goals as goal
 
@@ -16,5 +16,6 @@ pub returns-clause-again : goal.returns-clause-again
 returns-clause-again c = λ p stands. kept_again p _ c.args.self.now (returns-clause-value c) stands
 
 pub returns-clause-sound : goal.returns-clause-sound
-returns-clause-sound c = λ g p stands places.
-    subst (λ (k : Frames). frames_fault g p k ≡ None) (sym (returns-clause-value c)) (places_fit g p c.args.self.now stands places)
+returns-clause-sound c = λ g p places.
+    subst (λ (k : Frames). frames_fault g p k ≡ None) (sym (returns-clause-value c))
+    (places_fit g (waiting_code p) (reverse c.args.self.now.frames) c.args.self.now.turning places)

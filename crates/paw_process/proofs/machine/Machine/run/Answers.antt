@@ -7,16 +7,16 @@ use Rattle.paw_process.proofs.machine.Machine.run.Goals as goal
 pub returns-in-Some-clause-meaning : goal.returns-in-Some-clause-meaning
 returns-in-Some-clause-meaning g c X rows =
     running_ends g.F.Fn c.args.routines.now (g.T.Tables.game c.args.tables.now) (having c.args.situation.now c.args.self.now)
-    (having c.loop-turned.situation c.loop-turned.self) c.in-Some.turned (having c.step.new.situation c.step.new.self)
+    (having c.loop-turned.situation c.loop-turned.self) c.in-Some.turned (having c.step.new.situation c.step.new.machine)
     c.loop-turned.invariant X rows (c.in-Some.ensures.meaning X rows)
 
 pub loop-turned-smaller : goal.loop-turned-smaller
-loop-turned-smaller g c = progresses c.loop-turned.self c.step.new.self c.in-None.ensures.stands (c.in-None.ensures.progress refl)
+loop-turned-smaller g c = progresses c.loop-turned.self c.step.new.machine c.in-None.ensures.stands (c.in-None.ensures.progress refl)
 
 pub loop-turned-preserved : goal.loop-turned-preserved
 loop-turned-preserved g c =
     running_on g.F.Fn c.args.routines.now (g.T.Tables.game c.args.tables.now) (having c.args.situation.now c.args.self.now)
-    (having c.loop-turned.situation c.loop-turned.self) (having c.step.new.situation c.step.new.self) c.loop-turned.invariant
+    (having c.loop-turned.situation c.loop-turned.self) (having c.step.new.situation c.step.new.machine) c.loop-turned.invariant
     c.in-None.ensures.meaning c.in-None.ensures.stands c.in-None.ensures.after
 
 pub loop-turned-init : goal.loop-turned-init

@@ -1,6 +1,6 @@
-use Rattle.std.proofs.Common.{◌≡◌}
+use Rattle.paw_routines.specs.Routines.{HaveRows}
 use Rattle.paw_turn.specs.inner.Player.{IsSeated}
 use Rattle.paw_turn.proofs.player.tests.take_all.Given as goal
 
 abbrev pub invariant-loop-line : goal.invariant-loop-line
-invariant-loop-line g l = record { game : l.player.game ≡ l.game; routines : l.player.routines ≡ l.routines; seated : IsSeated l.player }
+invariant-loop-line g l = record { rows : HaveRows g.F.Fn l.player.routines; seated : IsSeated l.player }

@@ -1,43 +1,33 @@
-use Rattle.std.proofs.Common.{◌≡◌, ℕ, List, ap, sym, ◌∙◌, subst}
-use Rattle.paw_phrase.specs.Pending.{PendingLine}
-use Rattle.paw_process.specs.OpenTables.{OpenTables}
-use Rattle.paw_process.specs.Kept.{kept}
-use Rattle.paw_process.specs.inner.Kept.{restored, waiting_at}
-use Rattle.paw_process.specs.declared.kept.Frames.{Frames}
+use Rattle.std.proofs.Common.{ap, sym, ◌∙◌, subst}
+use Rattle.paw_game.specs.Game.{GameLists}
+use Rattle.paw_routines.specs.Routines.{HaveRows}
+use Rattle.paw_turn.specs.inner.Parts.{Fits}
 use Rattle.paw_turn.specs.inner.Player.{Seat, IsStanding}
-use Rattle.paw_turn.proofs.Seating.{same_fits}
 use Rattle.paw_turn.proofs.player.tests.taken_up.Goals as goal
+
+pub taken_apart-requires-clause-standing : goal.taken_apart-requires-clause-standing
+taken_apart-requires-clause-standing g c =
+    subst IsStanding (ap (λ (p : Seat g.row.F.Denot). p.last) c.player.view_is) (c.is_standing.ensures.standing c.if-not-is_standing.false)
 
 pub adopt-requires : goal.adopt-requires
 adopt-requires g c =
-    let player = c.args.player in
-    let standing = subst IsStanding (ap (λ (p : Seat g.row.F.Denot). p.last) c.player.view_is) (c.is_standing.ensures.standing c.if-not-is_standing.false) in
-    let frames : c.frames-frames.result ≡ kept player.machine = c.frames-frames.ensures.value ∙ ap (λ (m : OpenTables). kept m) c.parts.ensures.machine in
-    let machine = c.in_ok-machine.ensures.value ∙ ap (λ (k : Frames). restored k (waiting_at c.parts-prompt.result.prompt)) frames in
-    let bytes = c.bytes.ensures.value ∙ ap (λ (p : Seat g.row.F.Denot). p.pending.bytes) c.player.view_is in
-    let earlier = c.earlier.ensures.value ∙ ap (λ (p : Seat g.row.F.Denot). p.pending.earlier) c.player.view_is in
-    let Line : List ℕ → ℕ → PendingLine = λ b e. record { bytes = b; earlier = e } in
-    let pending : c.of-pending.result ≡ player.pending = c.of-pending.ensures.value ∙
-    (ap (λ (b : List ℕ). Line b c.earlier.result) bytes ∙ ap (Line player.pending.bytes) earlier) in
+    let a = c.in_ok-apart.apart in
     record {
-      fits =
-          same_fits player c.args.game.now c.player.inside.turn.situation.world c.in_ok-machine.machine c.of-pending.result c.parts-prompt.result.prompt
-          c.requires.seated standing
-          (sym c.requires.game) (ap (λ (p : Seat g.row.F.Denot). p.world) c.player.view_is) machine pending c.parts-prompt.ensures.prompt;
+      fits = subst (λ (q : Seat g.row.F.Denot). Fits q.game a.world a.machine a.pending a.prompt) (sym c.player.view_is) c.in_ok-apart.ensures.fits;
     }
 
 pub seat-requires-clause-fits : goal.seat-requires-clause-fits
 seat-requires-clause-fits g c =
-    let player = c.args.player in
-    let standing = subst IsStanding (ap (λ (p : Seat g.row.F.Denot). p.last) c.player.view_is) (c.is_standing.ensures.standing c.if-not-is_standing.false) in
-    let frames : c.frames-frames.result ≡ kept player.machine = c.frames-frames.ensures.value ∙ ap (λ (m : OpenTables). kept m) c.parts.ensures.machine in
-    let machine = c.in_ok-machine.ensures.value ∙ ap (λ (k : Frames). restored k (waiting_at c.parts-prompt.result.prompt)) frames in
-    let bytes = c.bytes.ensures.value ∙ ap (λ (p : Seat g.row.F.Denot). p.pending.bytes) c.player.view_is in
-    let earlier = c.earlier.ensures.value ∙ ap (λ (p : Seat g.row.F.Denot). p.pending.earlier) c.player.view_is in
-    let Line : List ℕ → ℕ → PendingLine = λ b e. record { bytes = b; earlier = e } in
-    let pending : c.of-pending.result ≡ player.pending = c.of-pending.ensures.value ∙
-    (ap (λ (b : List ℕ). Line b c.earlier.result) bytes ∙ ap (Line player.pending.bytes) earlier) in
-    same_fits player c.start.new.self.game c.player.inside.turn.situation.world c.in_ok-machine.machine c.of-pending.result c.parts-prompt.result.prompt
-    c.requires.seated standing
-    (c.start.ensures.game ∙ (c.in_ok-other-2.ensures.game ∙ sym c.requires.game)) (ap (λ (p : Seat g.row.F.Denot). p.world) c.player.view_is)
-    machine pending c.parts-prompt.ensures.prompt
+    let a = c.in_ok-apart.apart in
+    let game = c.start.ensures.game ∙ c.in_ok-other-2.ensures.game in
+    subst (λ (h : GameLists). Fits h a.world a.machine a.pending a.prompt)
+    (sym (game ∙ ap (λ (q : Seat g.row.F.Denot). q.game) c.player.view_is)) c.in_ok-apart.ensures.fits
+
+pub start-requires-clause-rows : goal.start-requires-clause-rows
+start-requires-clause-rows g c =
+    subst (λ r. HaveRows g.F.Fn r) (sym (c.in_ok-other-2.ensures.routines ∙ ap (λ (q : Seat g.row.F.Denot). q.routines) c.player.view_is)) c.requires.rows
+
+pub returns-clause-rows : goal.returns-clause-rows
+returns-clause-rows g c =
+    let kept = c.start.ensures.routines ∙ (c.in_ok-other-2.ensures.routines ∙ ap (λ (q : Seat g.row.F.Denot). q.routines) c.player.view_is) in
+    subst (λ r. HaveRows g.F.Fn r) (sym (ap (λ (q : Seat g.row.F.Denot). q.routines) c.seat.ensures.value ∙ kept)) c.requires.rows
