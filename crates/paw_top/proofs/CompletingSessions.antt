@@ -18,7 +18,7 @@ use Rattle.paw_play.specs.Play.{ShowsAs, PlaysIn, PlaysFirst, PlaysUp, PlaysAgai
 use Rattle.paw_play.specs.declared.PlayEnd.{PlayEnd}
 use Rattle.paw_play.specs.declared.PlayEnd.TheVariants as end
 use Rattle.paw_top.specs.Answers.{failed_call}
-use Rattle.paw_top.specs.Completes.{NoFault, IsWalked, Comes, CompletesNew, CompletesAgain, CompletesPlay}
+use Rattle.paw_top.specs.Completes.{NoFault, IsWalked, Comes, CompletesNew, CompletesAgain, CompletesImage}
 use Rattle.paw_top.specs.Ends.{outcome_of, refused_as}
 use Rattle.paw_top.specs.Sessions.{digest_of, PlaysNewIn, PlaysAgainIn}
 use Rattle.paw_top.specs.declared.outcome.Outcome.{Outcome}
@@ -84,7 +84,7 @@ new_memory (b ∷ bytes) at = tt
 
 pub completes_play : (rows : List (List ℕ)) (name store : List ℕ) (seed : ℕ) (old new : Standing)
     (first last : StageCall → ℕ) (o : Outcome) → PlaysNewIn rows name store seed old new o →
-    Faulted (failed_call o) first last → NoFault first last → CompletesPlay name (λ g. CompletesNew (store_bytes old store)) old o
+    Faulted (failed_call o) first last → NoFault first last → CompletesImage name (λ g. CompletesNew (store_bytes old store)) old o
 completes_play rows name store seed old new first last o p out none =
     completes_file name (λ g. CompletesNew (store_bytes old store)) old new first last o p
     (λ g end q rose. plays_new _ _ store old new first last end q rose none) (λ g at. new_memory (store_bytes old store) at) out none
@@ -178,7 +178,7 @@ plays_again g digest name old new first last _ (session.plays_up o p) out none =
 pub completes_resume : (rows : List (List ℕ)) (name store : List ℕ) (old new : Standing) (first last : StageCall → ℕ)
     (o : Outcome) → PlaysAgainIn rows name store old new o →
     Faulted (failed_call o) first last → NoFault first last →
-    CompletesPlay name (λ g. CompletesAgain g (digest_of g) (store_bytes old store)) old o
+    CompletesImage name (λ g. CompletesAgain g (digest_of g) (store_bytes old store)) old o
 completes_resume rows name store old new first last o p out none =
     completes_file name (λ h. CompletesAgain h (digest_of h) (store_bytes old store)) old new first last o p
     (λ g end q rose. plays_again (story_of g rows) (digest_of g) store old new first last end q rose none)
