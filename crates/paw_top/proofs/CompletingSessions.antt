@@ -127,7 +127,7 @@ comes_so r (refusal.WrongGame kept found) e = rw e refl
 comes_so r (refusal.Outside c) e = rw e refl
 
 again_memory : (g : GameLists) (digest bytes : List ℕ) (at : MemoryAt) → CompletesAgain g digest bytes (outcome.Memory at)
-again_memory g digest bytes at = record { shown = λ st piece h. tt; refused = λ r h. tt; no_state = λ state piece is not. tt }
+again_memory g digest bytes at = record { shown = λ st piece h. tt; refused = λ r h. tt; no_state = λ state piece is not. (0, tt) }
 
 -- a session of no state of the game shows none
 is_unfit : (g : GameLists) (digest bytes state piece : List ℕ) → recover bytes ≡ Shown digest (take state_length state) piece → ¬ Fit g state →
@@ -154,7 +154,7 @@ plays_up g digest name old new first last _ (session.memory e) out none = again_
 plays_up g digest name old new first last _ (session.no_state at state piece is not fault e) out none = record {
   shown = λ st p h. absurd (is_unfit g.game digest old.disk.bytes state piece is not st p h);
   refused = λ r h. absurd (not_shown digest old.disk.bytes (take state_length state) piece r h is);
-  no_state = λ s p h k. refl;
+  no_state = λ s p h k. (at, refl);
 }
 plays_up g digest name old new first last _ (session.plays_on o st piece h p) out none = record {
   shown = λ s q k. plays_on _ _ old new first last o p.shows out none;

@@ -55,12 +55,6 @@ IsWalked (outcome.Long events) = Unit {0}
 IsWalked (outcome.Memory at) = Unit {0}
 IsWalked _ = ⊥
 
--- the session was refused since it shows no state of the game, or memory was wanting
-abbrev pub IsNoState : Outcome → Type 0
-IsNoState (outcome.SessionDamaged p at) = p ≡ part.State
-IsNoState (outcome.Memory at) = Unit {0}
-IsNoState _ = ⊥
-
 -- a new session is played in an empty store, and a store with bytes is refused
 abbrev pub CompletesNew : List ℕ → Outcome → Type 0
 CompletesNew [] o = IsWalked o
@@ -71,7 +65,8 @@ pub record CompletesAgain (g : GameLists) (digest bytes : List ℕ) (o : Outcome
   pub shown : (st : State) (piece : List ℕ) → ShowsState g digest bytes st piece → IsWalked o
   pub refused : (r : JournalRefusal) → Refuses digest bytes r → Comes (refused_as r) o
   pub no_state : (state piece : List ℕ) → recover bytes ≡ Shown digest state piece →
-      ((st : State) → ¬ ShowsState g digest bytes st piece) → IsNoState o
+      ((st : State) → ¬ ShowsState g digest bytes st piece) →
+      (at : ℕ) × Comes (outcome.SessionDamaged part.State at) o
 
 -- where the image is there, such an answer comes of its game; where the file is no image, it is refused
 pub record CompletesImage (name : List ℕ) (Such : GameLists → Outcome → Type 0) (old : Standing)
