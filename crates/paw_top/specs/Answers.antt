@@ -9,11 +9,6 @@ use Rattle.paw_top.specs.declared.outcome.Outcome.TheVariants as outcome
 use Rattle.paw_top.specs.declared.outcome.MemoryAt.{MemoryAt}
 use Rattle.paw_top.specs.declared.outcome.MemoryAt.TheVariants as memory
 
--- a fact for the answer Outside, of the call that failed
-abbrev pub IfOutside : Outcome → (StageCall → Type 0) → Type 0
-IfOutside (outcome.Outside c) P = P c
-IfOutside _ P = Unit {0}
-
 -- the call that failed, by the answer
 abbrev pub failed_call : Outcome → Option StageCall
 failed_call (outcome.Outside c) = Some c
