@@ -15,7 +15,7 @@ use Rattle.paw_journal.specs.Journal.{IsWriting}
 use Rattle.paw_journal.specs.declared.refusal.JournalRefusal.{JournalRefusal}
 use Rattle.paw_journal.specs.declared.refusal.JournalRefusal.TheVariants as refusal
 use Rattle.paw_state.specs.State.{State, Keeps, FitsFields}
-use Rattle.paw_state.specs.Fit.{Fit, unfit}
+use Rattle.paw_state.specs.Fit.{Fit, Unfit}
 use Rattle.paw_play.specs.declared.PlayEnd.{PlayEnd}
 use Rattle.paw_play.specs.declared.PlayEnd.TheVariants as end
 use Rattle.paw_play.specs.declared.TheConstants.{MOST_EVENTS}
@@ -189,7 +189,7 @@ pub data PlaysUp (g : Story) (digest name : List ℕ) (old new : Standing) : Pla
   memory : new ≡ old → PlaysUp g digest name old new end.Memory
   -- the bytes that the session shows, and any behind them, are no state of the game
   no_state : (at : ℕ) (state piece : List ℕ) → recover old.disk.bytes ≡ Shown digest (take state_length state) piece →
-      ¬ Fit g.game state → unfit g.game state ≡ Some at → new ≡ old →
+      ¬ Fit g.game state → Unfit g.game state at → new ≡ old →
       PlaysUp g digest name old new (end.State at)
   plays_on : (o : PlayEnd) (st : State) (piece : List ℕ) → ShowsState g.game digest old.disk.bytes st piece →
       PlaysOn (kept_session g st piece digest name) (MOST_EVENTS - st.events) old new o →

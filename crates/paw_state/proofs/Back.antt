@@ -22,7 +22,8 @@ use Rattle.paw_state.specs.Fields.{zeros, filled, presence, held_of, prompt_code
 use Rattle.paw_state.specs.Faults.{rule, first_not, is_zero, places_fault, absent_fault, held_fault, kept_fault, prompt_of}
 use Rattle.paw_state.specs.inner.Parts.{held_in, world_in, frames_in, state_in}
 use Rattle.paw_state.proofs.Positions.{IsHeldOf, saved_held, kept_held}
-use Rattle.paw_state.proofs.Cut.{IsSizedHeld, AreSized, same_held, same_fields}
+use Rattle.paw_state.specs.Fields.{IsSizedHeld, AreSized}
+use Rattle.paw_state.proofs.Cut.{same_held, same_fields}
 use Rattle.paw_state.proofs.Found.{rule_holds, no_first, zeros_are, filled_take, take_filled}
 use Rattle.paw_state.proofs.Sound.{AreSound, two}
 use Rattle.paw_state.proofs.Rows.{rows_back, frames_back}

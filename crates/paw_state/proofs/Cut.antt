@@ -9,32 +9,12 @@ use Rattle.paw_reading.specs.declared.places.OpenLoop.{OpenLoop}
 use Rattle.paw_state.specs.declared.fields.Row.{Row}
 use Rattle.paw_state.specs.declared.fields.Fields.{Fields}
 use Rattle.paw_state.specs.declared.held.Held.{Held}
-use Rattle.paw_state.specs.Fields.{in_sequence, eight_bytes, row_bytes, loop_bytes, held_bytes, two_at, eight_at, row_at, rows_at, held_at}
-use Rattle.paw_state.specs.Fields.{fields_at, world_bytes, number_bytes, table_bytes, pending_bytes, kept_position_bytes, field_bytes}
+use Rattle.paw_state.specs.Fields.{IsSizedHeld, AreSized, in_sequence, eight_bytes, row_bytes, loop_bytes, held_bytes}
+use Rattle.paw_state.specs.inner.Fields.{two_at, eight_at, row_at, rows_at, held_at}
+use Rattle.paw_state.specs.Fields.{world_bytes, number_bytes, table_bytes, pending_bytes, kept_position_bytes, field_bytes}
+use Rattle.paw_state.specs.inner.Fields.{fields_at}
 use Rattle.paw_state.proofs.Pieces.{range_is, behind, byte_is}
 use Rattle.paw_state.proofs.Written.{length-rows}
-
--- the arrays of a position have their lengths
-pub record IsSizedHeld (h : Held) : Type 0 where
-  pub flags : length h.flags ≡ 256
-  pub places : length h.places ≡ 255
-
--- the arrays have their lengths, and the numbers fit
-pub record AreSized (f : Fields) : Type 0 where
-  pub flags : length f.flags ≡ 256
-  pub places : length f.places ≡ 255
-  pub saved : IsSizedHeld f.saved
-  pub seed : f.seed < 2 ^ 64
-  pub draws : f.draws < 2 ^ 64
-  pub events : f.events < 2 ^ 64
-  pub rows : length f.rows ≡ 11
-  pub entries : All (λ r. r.entry < 2 ^ 16) f.rows
-  pub loop_entry : f.turning.entry < 2 ^ 16
-  pub pending : f.pending < 256
-  pub line : length f.line ≡ 255
-  pub piece : f.piece < 2 ^ 16
-  pub four : length f.kept ≡ 4
-  pub kept : All IsSizedHeld f.kept
 
 -- a field stands where it is, and the others behind it
 here : (bytes x q : List ℕ) (xs : List (List ℕ)) (at n : ℕ) → drop at bytes ≡ in_sequence (x ∷ xs) ++ q → length x ≡ n → slice_range bytes at (at + n) ≡ x

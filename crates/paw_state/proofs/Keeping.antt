@@ -25,7 +25,7 @@ use Rattle.paw_state.specs.Fields.{zeros, filled, held_of, prompt_code, row_of, 
 use Rattle.paw_state.specs.Faults.{rule, first_not, is_zero, places_fault, absent_fault, held_fault, kept_fault, prompt_of, row_fields_fault}
 use Rattle.paw_state.specs.inner.Parts.{held_in, frame_in, frames_in, state_in}
 use Rattle.paw_state.proofs.Positions.{IsHeldOf, saved_held, kept_held, held_size_for, held_placed}
-use Rattle.paw_state.proofs.Cut.{IsSizedHeld, AreSized}
+use Rattle.paw_state.specs.Fields.{IsSizedHeld, AreSized}
 use Rattle.paw_state.proofs.Found.{no_first, none_first, all_so, none_not, none_in_zeros, take_filled, drop_filled}
 use Rattle.paw_state.proofs.Sound.{AreSound, two, two_none}
 use Rattle.paw_state.proofs.Rows.{rows_sound, frames_sound}

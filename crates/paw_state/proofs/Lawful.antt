@@ -1,18 +1,20 @@
 -- The laws of a state's bytes, proved.
-use Rattle.std.proofs.Common.{◌≡◌, ℕ, ◌≤◌, List, [], ◌++◌, None, length, take, drop, sym, ap, ◌∙◌, subst}
+use Rattle.std.proofs.Common.{◌≡◌, ℕ, ◌≤◌, List, [], ◌++◌, Some, None, length, take, drop, sym, ap, ◌∙◌, subst}
 use Rattle.std.proofs.lemmas.List.{take-append-drop, take_at}
 use Rattle.paw_game.specs.Game.{GameLists}
 use Rattle.paw_game.specs.Valid.{Valid}
 use Rattle.paw_process.specs.Kept.{kept}
 use Rattle.paw_process.specs.inner.Kept.{restored, waiting_at, StandsAt}
 use Rattle.paw_state.specs.State.{State, Keeps, FitsFields, AreBytes}
-use Rattle.paw_state.specs.Fields.{fields_of, field_bytes, fields_at, state_bytes}
+use Rattle.paw_state.specs.Fields.{fields_of, field_bytes, state_bytes}
+use Rattle.paw_state.specs.inner.Fields.{fields_at}
 use Rattle.paw_state.specs.Faults.{fields_fault}
 use Rattle.paw_state.specs.inner.Parts.{state_in}
 use Rattle.paw_state.specs.declared.Restored.{Restored}
-use Rattle.paw_state.specs.Fit.{Fit, unfit}
+use Rattle.paw_state.specs.Fit.{Fit, Unfit}
+use Rattle.paw_state.specs.inner.Fit.{unfit}
 use Rattle.paw_state.specs.inner.Fit.{state_read, IsRead}
-use Rattle.paw_state.specs.inner.Laws.{FitOrUnfit, BytesTellTheState, WrittenIsFit}
+use Rattle.paw_state.specs.inner.Laws.{FieldsStand, OneFault, FitOrUnfit, BytesTellTheState, WrittenIsFit}
 use Rattle.paw_state.proofs.Joined.{fields_join}
 use Rattle.paw_state.proofs.Cut.{fields_cut, kept-length, length-fields}
 use Rattle.paw_state.proofs.Sound.{sound_of, none_of}
@@ -20,6 +22,19 @@ use Rattle.paw_state.proofs.Told.{AreLong}
 use Rattle.paw_state.proofs.Back.{state_back, fields_back}
 use Rattle.paw_state.proofs.Keeping.{keeps_in, sound_fields}
 use Rattle.paw_state.proofs.Sizes.{sized_at, fits_at, sized_of}
+
+pub fields_stand : FieldsStand
+fields_stand f rest s = fields_cut f rest s
+
+pub one_fault : OneFault
+one_fault g bytes at u =
+    let split : bytes ≡ field_bytes u.fields ++ drop 3419 bytes =
+    sym (take-append-drop 3419 bytes) ∙ ap (λ (l : List ℕ). l ++ drop 3419 bytes) u.are in
+    ap (fields_fault g) (ap fields_at split ∙ fields_cut u.fields (drop 3419 bytes) u.sized) ∙ u.fault
+
+-- a fault of the fields at their places is the one of the bytes
+pub is_unfit : (g : GameLists) (bytes : List ℕ) (at : ℕ) → 3419 ≤ length bytes → AreBytes bytes → unfit g bytes ≡ Some at → Unfit g bytes at
+is_unfit g bytes at n b h = record { fields = fields_at bytes; sized = sized_at bytes n b; are = sym (fields_join bytes n b); fault = h }
 
 -- the fields that stand in bytes of which the first are a state's
 fields_there : (g : GameLists) (s : State) (bytes : List ℕ) → Valid g → Keeps g s → FitsFields s → take 3419 bytes ≡ state_bytes s

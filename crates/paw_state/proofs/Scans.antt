@@ -7,7 +7,7 @@ use Rattle.std.proofs.lemmas.List.{drop-drop, drop_all, take_all}
 use Rattle.paw_game.specs.Game.{GameLists}
 use Rattle.paw_state.specs.declared.fields.Row.{Row}
 use Rattle.paw_state.specs.declared.held.Held.{Held}
-use Rattle.paw_state.specs.Fields.{row_at, rows_at}
+use Rattle.paw_state.specs.inner.Fields.{row_at, rows_at}
 use Rattle.paw_state.specs.Faults.{rule, or_first, first_not, held_fault, kept_fault, row_fault, row_fields_fault, called_table}
 
 -- ---- bytes ----

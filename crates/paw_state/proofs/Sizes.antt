@@ -23,11 +23,12 @@ use Rattle.paw_process.proofs.Restored.{first_of, second}
 use Rattle.paw_state.specs.declared.fields.Row.{Row}
 use Rattle.paw_state.specs.declared.held.Held.{Held}
 use Rattle.paw_state.specs.State.{State, AreBytes, HoldsBytes, FitsFields, Keeps}
-use Rattle.paw_state.specs.Fields.{held_of, row_of, loop_or_zeros, fields_of, two_at, eight_at, row_at, rows_at, held_at, fields_at}
+use Rattle.paw_state.specs.Fields.{held_of, row_of, loop_or_zeros, fields_of}
+use Rattle.paw_state.specs.inner.Fields.{two_at, eight_at, row_at, rows_at, held_at, fields_at}
 use Rattle.paw_state.specs.inner.Parts.{held_in, state_in}
 use Rattle.paw_state.proofs.Pieces.{length_range, range_bytes, drop_bytes, each_byte}
 use Rattle.paw_state.proofs.Positions.{IsHeldOf, saved_held, kept_held}
-use Rattle.paw_state.proofs.Cut.{IsSizedHeld, AreSized}
+use Rattle.paw_state.specs.Fields.{IsSizedHeld, AreSized}
 use Rattle.paw_state.proofs.Found.{length-zeros, length-filled}
 use Rattle.paw_state.proofs.Keeping.{machine_sound}
 

@@ -1,9 +1,10 @@
 -- Bytes that are a state of a game.
-use Rattle.std.specs.Prelude.{◌≡◌, ℕ, List, Option, take}
+use Rattle.std.specs.Prelude.{◌≡◌, ℕ, List, Some, take}
 use Rattle.paw_game.specs.Game.{GameLists}
 use Rattle.paw_state.specs.declared.layout.TheConstants.{STATE_LENGTH}
+use Rattle.paw_state.specs.declared.fields.Fields.{Fields}
 use Rattle.paw_state.specs.State.{State, Keeps, FitsFields}
-use Rattle.paw_state.specs.Fields.{state_bytes, fields_at}
+use Rattle.paw_state.specs.Fields.{AreSized, field_bytes, state_bytes}
 use Rattle.paw_state.specs.Faults.{fields_fault}
 
 -- bytes are fit for a game where those that a state has are of one that keeps its rules
@@ -13,6 +14,9 @@ pub record Fit (g : GameLists) (bytes : List ℕ) : Type 0 where
   pub fits : FitsFields state
   pub are : take STATE_LENGTH bytes ≡ state_bytes state
 
--- the place of the first field that breaks its rule; nothing where the bytes are fit
-abbrev pub unfit : GameLists → List ℕ → Option ℕ
-unfit g bytes = fields_fault g (fields_at bytes)
+-- bytes are unfit at the place of the first of their fields that breaks its rule
+pub record Unfit (g : GameLists) (bytes : List ℕ) (at : ℕ) : Type 0 where
+  pub fields : Fields
+  pub sized : AreSized fields
+  pub are : take STATE_LENGTH bytes ≡ field_bytes fields
+  pub fault : fields_fault g fields ≡ Some at

@@ -4,8 +4,10 @@ ghost use Rattle.std.specs.Prelude.{◌≡◌, ◌+◌, ◌≤◌, ◌++◌, len
 ghost use Rattle.paw_state.specs.inner.Parts.{frame_in};
 ghost use Rattle.paw_state.specs.inner.Writer.{Writes};
 ghost use Rattle.paw_state.specs.State.{AreBytes};
-ghost use Rattle.paw_state.specs.Fields.{zeros, two_at, eight_at, row_at, row_of, rows_at};
-ghost use Rattle.paw_state.specs.Fields.{row_bytes, loop_bytes, fields_at, world_bytes, number_bytes, table_bytes};
+ghost use Rattle.paw_state.specs.Fields.{zeros, row_of};
+ghost use Rattle.paw_state.specs.inner.Fields.{two_at, eight_at, row_at, rows_at};
+ghost use Rattle.paw_state.specs.Fields.{row_bytes, loop_bytes, world_bytes, number_bytes, table_bytes};
+ghost use Rattle.paw_state.specs.inner.Fields.{fields_at};
 ghost use Rattle.paw_state.specs.Fields.{pending_bytes, kept_position_bytes, field_bytes};
 
 use crate::held::Held;

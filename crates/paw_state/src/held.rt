@@ -1,7 +1,8 @@
 // A position that may be there, as it stands in the bytes of a state.
 
 ghost use Rattle.std.specs.Prelude.{◌≡◌, ◌+◌, ◌≤◌, length, drop};
-ghost use Rattle.paw_state.specs.Fields.{held_at, held_bytes};
+ghost use Rattle.paw_state.specs.Fields.{held_bytes};
+ghost use Rattle.paw_state.specs.inner.Fields.{held_at};
 ghost use Rattle.paw_state.specs.inner.Writer.{Writes};
 
 use crate::fields::array_at;

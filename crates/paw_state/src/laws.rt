@@ -1,7 +1,13 @@
 // The laws of a state's bytes.
 
-ghost use Rattle.paw_state.specs.inner.Laws.{FitOrUnfit, BytesTellTheState, WrittenIsFit};
+ghost use Rattle.paw_state.specs.inner.Laws.{FieldsStand, OneFault, FitOrUnfit, BytesTellTheState, WrittenIsFit};
 ghost use Rattle.paw_state.specs.inner.Record.{StateOfParts};
+
+/// Fields stand at their places in the bytes that they are written to, so that no bytes have two faults.
+pub fn fields_stand()
+    ensures stand { FieldsStand }
+    ensures one { OneFault }
+{}
 
 /// Bytes have a fault exactly where they are no state of the game.
 pub fn fit_or_unfit()

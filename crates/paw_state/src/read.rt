@@ -7,7 +7,7 @@ ghost use Rattle.paw_process.specs.inner.Kept.{restored, waiting_at, StandsAt};
 ghost use Rattle.paw_state.specs.Faults.{fields_fault};
 ghost use Rattle.paw_world.specs.World.{kept_position};
 ghost use Rattle.paw_state.specs.inner.Parts.{SetsSaved, held_in, world_in, frame_in, frames_in, state_in};
-ghost use Rattle.paw_state.specs.Fit.{Fit, unfit};
+ghost use Rattle.paw_state.specs.Fit.{Fit, Unfit};
 ghost use Rattle.paw_state.specs.inner.Fit.{state_read, IsRead};
 
 use crate::checks::{check, prompt_of};
@@ -31,7 +31,7 @@ use paw_world::world::World;
 pub fn read_state<T: Tables>(tables: &T, bytes: &[u8; STATE_ROOM]) -> Result<Restored, StateFault>
     ensures read { IfOk result (IsRead (T.game tables.now) bytes.now) }
     ensures fit { IsOk result ↔ Fit (T.game tables.now) bytes.now }
-    ensures fault { IfErr result (λ e. unfit (T.game tables.now) bytes.now ≡ Some e.at) }
+    ensures fault { IfErr result (λ e. Unfit (T.game tables.now) bytes.now e.at) }
     ensures piece { IfOk result (λ r. slice_index bytes.now 1369 + 256 * slice_index bytes.now 1370 ≡ r.piece) }
 {
     let fields = Fields::at(bytes);

@@ -1,6 +1,6 @@
 -- Answers that name a call that failed.
 use Rattle.std.proofs.Common.{◌≡◌, ℕ, ◌++◌, List, None, inr, refl}
-use Rattle.std.specs.Prelude.{Result}
+use Rattle.std.specs.Prelude.{Result, IfSome}
 use Rattle.paw_base.specs.declared.fault.SourceFault.{SourceFault}
 use Rattle.paw_game.specs.Game.{GameLists}
 use Rattle.paw_stage.specs.Stage.{Faulted}
@@ -11,20 +11,20 @@ use Rattle.paw_play.specs.Calls.{IsOneOf}
 use Rattle.paw_play.specs.inner.Calls.{IfEndOutside, call_of_end}
 use Rattle.paw_play.specs.declared.PlayEnd.{PlayEnd}
 use Rattle.paw_play.specs.declared.PlayEnd.TheVariants as end
-use Rattle.paw_top.specs.Answers.{IfOutside, failed_call, load_calls}
+use Rattle.paw_top.specs.Answers.{failed_call, load_calls}
 use Rattle.paw_top.specs.inner.Compile.{IsRefusal}
 use Rattle.paw_top.specs.Ends.{outcome_of}
 use Rattle.paw_top.specs.declared.outcome.Outcome.{Outcome}
 use Rattle.paw_top.specs.declared.outcome.Outcome.TheVariants as outcome
 
 -- the call that playing ended for is the one that is answered
-answers_so : (calls : List StageCall) (o : PlayEnd) → IfEndOutside o (IsOneOf calls) → IfOutside (outcome_of o) (IsOneOf (load_calls ++ calls))
+answers_so : (calls : List StageCall) (o : PlayEnd) → IfEndOutside o (IsOneOf calls) → IfSome (failed_call (outcome_of o)) (IsOneOf (load_calls ++ calls))
 answers_so calls (end.Refused (refusal.Outside c)) h = absurd h
 answers_so calls (end.Outside c) h = inr (inr h)
 answers_so calls _ h = tt
 
 pub played_outside : (calls : List StageCall) (o : PlayEnd) (p : Outcome) → p ≡ outcome_of o → IfEndOutside o (IsOneOf calls) →
-    IfOutside p (IsOneOf (load_calls ++ calls))
+    IfSome (failed_call p) (IsOneOf (load_calls ++ calls))
 played_outside calls o p e h = rw e (answers_so calls o h)
 
 -- ---- counts of faults ----

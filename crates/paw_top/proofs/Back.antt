@@ -1,5 +1,5 @@
 -- The way of a game from its image to its source and back.
-use Rattle.std.proofs.Common.{◌≡◌, ℕ, List, ◌≤◌, length, Result, Ok, Some, sym, ap, ◌∙◌, subst}
+use Rattle.std.proofs.Common.{◌≡◌, ℕ, List, ◌≤◌, length, Result, Ok, Some, refl, sym, ap, ◌∙◌, subst}
 use Rattle.std.proofs.lemmas.List.{append_cancel_left}
 use Rattle.paw_base.specs.declared.fault.SourceFault.{SourceFault}
 use Rattle.paw_game.specs.Game.{GameLists}
@@ -9,7 +9,11 @@ use Rattle.paw_print.specs.Canonical.{canonical_of}
 use Rattle.paw_top.specs.Compile.{Kept, image_line}
 use Rattle.paw_top.specs.Compile as compile
 use Rattle.paw_top.specs.Decompile as decompile
+use Rattle.paw_stage.specs.Stage.{Standing}
+use Rattle.paw_top.specs.Opens.{Unopened, damaged, absent, failed, wanting}
 use Rattle.paw_top.specs.Round.{SpellsItself, ComesBack}
+use Rattle.paw_top.specs.declared.outcome.Outcome.{Outcome}
+use Rattle.paw_top.specs.declared.outcome.Outcome.TheVariants as outcome
 
 -- a source that holds the text of a game spells that game alone
 same_game : (text bytes : List ℕ) (g h : GameLists) → Some bytes ≡ Some text → spelled bytes ≡ Ok h → spelled text ≡ Ok g → g ≡ h
@@ -17,7 +21,16 @@ same_game text bytes g h e k m =
     let b : bytes ≡ text = cc in
     let w : ◌≡◌ {A = Result GameLists SourceFault} (Ok g) (Ok h) = sym m ∙ ap spelled (sym b) ∙ k in cc
 
+-- what isn't opened isn't done
+not_done : (name : List ℕ) (old new : Standing) (o : Outcome) → Unopened name old new o → o ≡ outcome.Done → ⊥
+not_done name old new _ (damaged at h e) q = cc
+not_done name old new _ (absent h e) q = cc
+not_done name old new _ (failed e) q = cc
+not_done name old new _ (wanting at e) q = cc
+
 pub comes_back : SpellsItself → ComesBack
+comes_back itself image_name source target bytes text old shown before after file (decompile.unopened _ u) t there short c =
+    absurd (not_done image_name old shown outcome.Done u refl)
 comes_back itself image_name source target bytes text old shown before after file (decompile.done g held e) t there short (compile.done h spells f) =
     let b : held.0 ≡ bytes = cc in
     let c : text ≡ canonical_of g = append_cancel_left old.shown text (canonical_of g) (sym t ∙ ap (λ s. s.shown) e) in

@@ -47,7 +47,7 @@ no_image source target given old new (outcome.SourceRefused fault) f h = refused
 no_image source target given old new (outcome.Memory at) f h = memory at f.3
 no_image source target given old new _ f h = absurd h
 
-keeps_so : (source target : List ℕ) (g : GameLists) (old new : Standing) (o : Outcome) → HoldsSource old source g →
+keeps_so : (source target : List ℕ) (g : GameLists) (old new : Standing) (o : Outcome) → HoldsSource old source (Ok g) →
     SavesSo target (image g) (image_line (length (image g))) old new o → Compiles source target old new o
 keeps_so source target g old new outcome.Done s k = done g s k
 keeps_so source target g old new (outcome.Outside call.Save) s k = unsaved g s k

@@ -11,7 +11,7 @@ use Rattle.paw_stage.specs.declared.StageCall.{StageCall}
 use Rattle.paw_stage.specs.declared.StageCall.TheVariants as call
 use Rattle.paw_top.specs.Answers.{failed_call}
 use Rattle.paw_top.specs.Compile as compile
-use Rattle.paw_top.specs.Completes.{NoFault, IsWalked, CompletesSource, CompletesCompile, CompletesDecompile, CompletesPlay}
+use Rattle.paw_top.specs.Completes.{NoFault, IsWalked, CompletesSource, CompletesCompile, CompletesImage, Comes}
 use Rattle.paw_top.specs.Decompile as decompile
 use Rattle.paw_top.specs.Loads.{Holds, HoldsNone, HoldsDamage}
 use Rattle.paw_top.specs.Walk.{WalksAs}
@@ -45,7 +45,7 @@ reads_so file a b read o h s k done = subst (λ r. CompletesSource r o) (sym s �
 
 pub completes_compile : (source target : List ℕ) (old new : Standing) (first last : StageCall → ℕ) (o : Outcome) → compile.Compiles source target old new o →
     Faulted (failed_call o) first last → NoFault first last → CompletesCompile source old o
-completes_compile source target old new first last _ (compile.done g s e) out none = λ bytes is. reads_so _ s.0 bytes (Ok g) outcome.Done s.1 s.2 is tt
+completes_compile source target old new first last _ (compile.done g s e) out none = λ bytes is. reads_so _ s.0 bytes (Ok g) outcome.Done s.1 s.2 is refl
 completes_compile source target old new first last _ (compile.refused fault s e) out none = λ bytes is.
     reads_so _ s.0 bytes (Err fault) (outcome.SourceRefused fault) s.1 s.2 is refl
 completes_compile source target old new first last _ (compile.absent s e) out none = λ bytes is. absurd (is_missing _ bytes s is)
@@ -61,37 +61,24 @@ is_some s name g h k = k.2 g (subst (λ b. IsImage b g) (same_file _ h.0 k.0 h.1
 not_both : (s : Standing) (name : List ℕ) (g : GameLists) (at : ℕ) → Holds s name g → HoldsDamage s name at → ⊥
 not_both s name g at h k = is_some s name g h (k.0, k.1, k.2)
 
-pub completes_decompile : (name : List ℕ) (old new : Standing) (first last : StageCall → ℕ) (o : Outcome) → decompile.Decompiles name old new o →
-    Faulted (failed_call o) first last → NoFault first last → CompletesDecompile name old o
-completes_decompile name old new first last _ (decompile.done g s e) out none = record { image = λ h k. tt; other = λ k. absurd (is_some old name g s k) }
-completes_decompile name old new first last _ (decompile.damaged at s e) out none =
-    record { image = λ h k. absurd (not_both old name h at k s); other = λ k. s }
-completes_decompile name old new first last _ (decompile.absent s e) out none =
-    record { image = λ h k. absurd (is_missing _ k.0 s k.1); other = λ k. absurd (is_missing _ k.0 s k.1) }
-completes_decompile name old new first last _ (decompile.unloaded e) out none =
-    let fault : ⊥ = none call.Load (λ q. cc) out.0 in record { image = λ h k. absurd fault; other = λ k. absurd fault }
-completes_decompile name old new first last _ (decompile.unshown g n s e) out none =
-    let fault : ⊥ = none call.Show (λ q. cc) out.0 in record { image = λ h k. absurd fault; other = λ k. absurd fault }
-completes_decompile name old new first last _ (decompile.memory at e) out none = record { image = λ h k. tt; other = λ k. tt }
-
--- ---- a game that is played ----
+-- ---- a game that is shown or played ----
 
 -- a file is the image of one game
 pub same_game : (s : Standing) (name : List ℕ) (g k : GameLists) → Holds s name g → Holds s name k → g ≡ k
 same_game s name g k h i = one_game g k h.2.valid i.2.valid (sym h.2.spelled ∙ same_file _ h.0 i.0 h.1 i.1 ∙ i.2.spelled)
 
--- the file holds a game that is played, with an answer such as it is to be
+-- the file holds a game, with an answer such as it is to be
 completes_game : (name : List ℕ) (Such : GameLists → Outcome → Type 0) (old : Standing) (g : GameLists) (o : Outcome) → Holds old name g → Such g o →
-    CompletesPlay name Such old o
+    CompletesImage name Such old o
 completes_game name Such old g o s such = record {
   image = λ h k. subst (λ x. Such x o) (sym (same_game old name h g k s)) such;
   other = λ k. absurd (is_some old name g s k);
 }
 
--- the game isn't played
+-- the file gives no game
 completes_unopened : (name : List ℕ) (Such : GameLists → Outcome → Type 0) (old new : Standing) (first last : StageCall → ℕ) (o : Outcome) →
     ((g : GameLists) (at : MemoryAt) → Such g (outcome.Memory at)) → Unopened name old new o →
-    Faulted (failed_call o) first last → NoFault first last → CompletesPlay name Such old o
+    Faulted (failed_call o) first last → NoFault first last → CompletesImage name Such old o
 completes_unopened name Such old new first last _ memory (damaged at s e) out none =
     record { image = λ h k. absurd (not_both old name h at k s); other = λ k. s }
 completes_unopened name Such old new first last _ memory (absent s e) out none =
@@ -101,12 +88,21 @@ completes_unopened name Such old new first last _ memory (failed e) out none =
 completes_unopened name Such old new first last _ memory (wanting at e) out none =
     record { image = λ h k. memory h at; other = λ k. tt }
 
+-- a game whose source is shown
+pub completes_decompile : (name : List ℕ) (old new : Standing) (first last : StageCall → ℕ) (o : Outcome) → decompile.Decompiles name old new o →
+    Faulted (failed_call o) first last → NoFault first last → CompletesImage name (λ g. Comes outcome.Done) old o
+completes_decompile name old new first last _ (decompile.done g s e) out none = completes_game name (λ g. Comes outcome.Done) old g outcome.Done s refl
+completes_decompile name old new first last _ (decompile.unopened o u) out none =
+    completes_unopened name (λ g. Comes outcome.Done) old new first last o (λ g at. tt) u out none
+completes_decompile name old new first last _ (decompile.unshown g s e) out none = absurd (none call.Show (λ q. cc) out.0)
+completes_decompile name old new first last _ (decompile.unprinted e) out none = record { image = λ h k. tt; other = λ k. tt }
+
 -- a file whose game is played, where each end is such as it is to be
 pub completes_file : {Comes : GameLists → PlayEnd → Type 0} (name : List ℕ) (Such : GameLists → Outcome → Type 0) (old new : Standing)
     (first last : StageCall → ℕ) (o : Outcome) → PlaysFile Comes name old new o →
     ((g : GameLists) (end : PlayEnd) → Comes g end → Faulted (failed_call (outcome_of end)) first last → Such g (outcome_of end)) →
     ((g : GameLists) (at : MemoryAt) → Such g (outcome.Memory at)) →
-    Faulted (failed_call o) first last → NoFault first last → CompletesPlay name Such old o
+    Faulted (failed_call o) first last → NoFault first last → CompletesImage name Such old o
 completes_file name Such old new first last _ (plays g end s comes) such memory out none =
     completes_game name Such old g (outcome_of end) s (such g end comes out)
 completes_file name Such old new first last _ (unopened o u) such memory out none =
@@ -129,7 +125,7 @@ is_walked whole most old new first last _ w out none = absurd w
 pub completes_walk : (told : Story → ℕ → EndingOf) (rows : List (List ℕ)) (name : List ℕ) (seed : ℕ) (old new : Standing)
     (first last : StageCall → ℕ) (o : Outcome) →
     WalksAs told rows name seed old new o →
-    Faulted (failed_call o) first last → NoFault first last → CompletesPlay name (λ g. IsWalked) old o
+    Faulted (failed_call o) first last → NoFault first last → CompletesImage name (λ g. IsWalked) old o
 completes_walk told rows name seed old new first last o w out none =
     completes_file name (λ g. IsWalked) old new first last o w
     (λ g end p rose. is_walked (told (story_of g rows) seed) MOST_EVENTS old new first last end p rose none) (λ g at. tt) out none

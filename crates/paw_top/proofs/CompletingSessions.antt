@@ -18,7 +18,7 @@ use Rattle.paw_play.specs.Play.{ShowsAs, PlaysIn, PlaysFirst, PlaysUp, PlaysAgai
 use Rattle.paw_play.specs.declared.PlayEnd.{PlayEnd}
 use Rattle.paw_play.specs.declared.PlayEnd.TheVariants as end
 use Rattle.paw_top.specs.Answers.{failed_call}
-use Rattle.paw_top.specs.Completes.{NoFault, IsWalked, Comes, CompletesNew, CompletesAgain, CompletesPlay}
+use Rattle.paw_top.specs.Completes.{NoFault, IsWalked, Comes, CompletesNew, CompletesAgain, CompletesImage}
 use Rattle.paw_top.specs.Ends.{outcome_of, refused_as}
 use Rattle.paw_top.specs.Sessions.{digest_of, PlaysNewIn, PlaysAgainIn}
 use Rattle.paw_top.specs.declared.outcome.Outcome.{Outcome}
@@ -84,7 +84,7 @@ new_memory (b ∷ bytes) at = tt
 
 pub completes_play : (rows : List (List ℕ)) (name store : List ℕ) (seed : ℕ) (old new : Standing)
     (first last : StageCall → ℕ) (o : Outcome) → PlaysNewIn rows name store seed old new o →
-    Faulted (failed_call o) first last → NoFault first last → CompletesPlay name (λ g. CompletesNew (store_bytes old store)) old o
+    Faulted (failed_call o) first last → NoFault first last → CompletesImage name (λ g. CompletesNew (store_bytes old store)) old o
 completes_play rows name store seed old new first last o p out none =
     completes_file name (λ g. CompletesNew (store_bytes old store)) old new first last o p
     (λ g end q rose. plays_new _ _ store old new first last end q rose none) (λ g at. new_memory (store_bytes old store) at) out none
@@ -127,7 +127,7 @@ comes_so r (refusal.WrongGame kept found) e = rw e refl
 comes_so r (refusal.Outside c) e = rw e refl
 
 again_memory : (g : GameLists) (digest bytes : List ℕ) (at : MemoryAt) → CompletesAgain g digest bytes (outcome.Memory at)
-again_memory g digest bytes at = record { shown = λ st piece h. tt; refused = λ r h. tt; no_state = λ state piece is not. tt }
+again_memory g digest bytes at = record { shown = λ st piece h. tt; refused = λ r h. tt; no_state = λ state piece is not. (0, tt) }
 
 -- a session of no state of the game shows none
 is_unfit : (g : GameLists) (digest bytes state piece : List ℕ) → recover bytes ≡ Shown digest (take state_length state) piece → ¬ Fit g state →
@@ -154,7 +154,7 @@ plays_up g digest name old new first last _ (session.memory e) out none = again_
 plays_up g digest name old new first last _ (session.no_state at state piece is not fault e) out none = record {
   shown = λ st p h. absurd (is_unfit g.game digest old.disk.bytes state piece is not st p h);
   refused = λ r h. absurd (not_shown digest old.disk.bytes (take state_length state) piece r h is);
-  no_state = λ s p h k. refl;
+  no_state = λ s p h k. (at, refl);
 }
 plays_up g digest name old new first last _ (session.plays_on o st piece h p) out none = record {
   shown = λ s q k. plays_on _ _ old new first last o p.shows out none;
@@ -178,7 +178,7 @@ plays_again g digest name old new first last _ (session.plays_up o p) out none =
 pub completes_resume : (rows : List (List ℕ)) (name store : List ℕ) (old new : Standing) (first last : StageCall → ℕ)
     (o : Outcome) → PlaysAgainIn rows name store old new o →
     Faulted (failed_call o) first last → NoFault first last →
-    CompletesPlay name (λ g. CompletesAgain g (digest_of g) (store_bytes old store)) old o
+    CompletesImage name (λ g. CompletesAgain g (digest_of g) (store_bytes old store)) old o
 completes_resume rows name store old new first last o p out none =
     completes_file name (λ h. CompletesAgain h (digest_of h) (store_bytes old store)) old new first last o p
     (λ g end q rose. plays_again (story_of g rows) (digest_of g) store old new first last end q rose none)

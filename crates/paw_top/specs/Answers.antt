@@ -9,11 +9,6 @@ use Rattle.paw_top.specs.declared.outcome.Outcome.TheVariants as outcome
 use Rattle.paw_top.specs.declared.outcome.MemoryAt.{MemoryAt}
 use Rattle.paw_top.specs.declared.outcome.MemoryAt.TheVariants as memory
 
--- a fact for the answer Outside, of the call that failed
-abbrev pub IfOutside : Outcome → (StageCall → Type 0) → Type 0
-IfOutside (outcome.Outside c) P = P c
-IfOutside _ P = Unit {0}
-
 -- the call that failed, by the answer
 abbrev pub failed_call : Outcome → Option StageCall
 failed_call (outcome.Outside c) = Some c
@@ -45,13 +40,10 @@ IfMemory _ P = Unit {0}
 abbrev pub load_memory : List MemoryAt
 load_memory = memory.Load ∷ memory.Image ∷ []
 
--- where memory may be wanting for a command; words with no form need none
+-- where memory may be wanting for a command; words with no form need none, and all others but those named here play
 abbrev pub memory_of : Option Command → List MemoryAt
 memory_of None = []
 memory_of (Some (Compile source image)) = memory.Source ∷ load_memory
 memory_of (Some (Decompile image)) = memory.Print ∷ load_memory
-memory_of (Some (Walk image seed)) = memory.Play ∷ load_memory
-memory_of (Some (Trace image seed)) = memory.Play ∷ load_memory
-memory_of (Some (Play image store seed)) = memory.Play ∷ load_memory
-memory_of (Some (Resume image store)) = memory.Play ∷ load_memory
 memory_of (Some (Trial n)) = memory.Trial ∷ []
+memory_of (Some _) = memory.Play ∷ load_memory

@@ -1,24 +1,19 @@
 -- What compiling a source comes to.
-use Rattle.std.specs.Prelude.{◌≡◌, ◌⊎◌, ℕ, List, ◌++◌, length, take, Ok, Err, Option, Some, None, codes}
+use Rattle.std.specs.Prelude.{◌≡◌, ◌⊎◌, ℕ, List, ◌++◌, length, take, Result, Ok, Err, Option, Some, None, codes}
 use Rattle.std.specs.Fmt.{decimal}
 use Rattle.paw_base.specs.declared.fault.SourceFault.{SourceFault}
 use Rattle.paw_game.specs.Game.{GameLists}
 use Rattle.paw_game.specs.Image.{image}
 use Rattle.paw_grammar.specs.Spells.{spelled}
-use Rattle.paw_stage.specs.Stage.{Standing, Saves}
+use Rattle.paw_stage.specs.Stage.{Standing, Saves, with_shown}
 use Rattle.paw_stage.specs.declared.StageCall.TheVariants as call
-use Rattle.paw_top.specs.Shows.{showing}
 use Rattle.paw_top.specs.declared.outcome.Outcome.{Outcome}
 use Rattle.paw_top.specs.declared.outcome.Outcome.TheVariants as outcome
 use Rattle.paw_top.specs.declared.outcome.MemoryAt.{MemoryAt}
 
--- the file of this name holds a source that spells this game
-abbrev pub HoldsSource : Standing → List ℕ → GameLists → Type 0
-HoldsSource s name g = (bytes : List ℕ) × (s.files name ≡ Some bytes) × (spelled bytes ≡ Ok g)
-
--- the file of this name holds a source whose first fault is this one
-abbrev pub HoldsFault : Standing → List ℕ → SourceFault → Type 0
-HoldsFault s name fault = (bytes : List ℕ) × (s.files name ≡ Some bytes) × (spelled bytes ≡ Err fault)
+-- the file of this name holds a source that spells this game, or whose first fault is this one
+abbrev pub HoldsSource : Standing → List ℕ → Result GameLists SourceFault → Type 0
+HoldsSource s name read = (bytes : List ℕ) × (s.files name ≡ Some bytes) × (spelled bytes ≡ read)
 
 -- the line that tells how many bytes an image has
 abbrev pub image_line : ℕ → List ℕ
@@ -26,7 +21,7 @@ image_line size = codes "IMAGE " ++ (decimal size ++ codes " BYTES\n")
 
 -- the file of this name now holds these bytes, and then this text was shown; all else stands as it was
 abbrev pub Kept : Standing → Standing → List ℕ → List ℕ → List ℕ → Type 0
-Kept old new name bytes text = (mid : Standing) × Saves old mid name (Some bytes) × (new ≡ showing mid text)
+Kept old new name bytes text = (mid : Standing) × Saves old mid name (Some bytes) × (new ≡ with_shown text mid)
 
 -- a save failed: the file of this name alone may hold any bytes, or be gone
 abbrev pub Unsaved : Standing → Standing → List ℕ → Type 0
@@ -35,20 +30,20 @@ Unsaved old new name = (new ≡ old) ⊎ ((left : Option (List ℕ)) × Saves ol
 -- how a compiler leaves what stands, by its answer
 pub data Compiles (source target : List ℕ) (old new : Standing) : Outcome → Type 0 where
   -- the source spells a game, the target holds its image, and the line was shown
-  done : (g : GameLists) → HoldsSource old source g → Kept old new target (image g) (image_line (length (image g))) →
-      Compiles source target old new outcome.Done
+  done : (g : GameLists) → HoldsSource old source (Ok g) →
+      Kept old new target (image g) (image_line (length (image g))) → Compiles source target old new outcome.Done
   -- the source has a fault; nothing is changed
-  refused : (fault : SourceFault) → HoldsFault old source fault → new ≡ old →
+  refused : (fault : SourceFault) → HoldsSource old source (Err fault) → new ≡ old →
       Compiles source target old new (outcome.SourceRefused fault)
   -- there is no source; nothing is changed
   absent : old.files source ≡ None → new ≡ old → Compiles source target old new (outcome.Outside call.LoadAbsent)
   -- the source couldn't be loaded; nothing is changed
   unloaded : new ≡ old → Compiles source target old new (outcome.Outside call.Load)
   -- the image of the game couldn't be saved; nothing was shown
-  unsaved : (g : GameLists) → HoldsSource old source g → Unsaved old new target →
+  unsaved : (g : GameLists) → HoldsSource old source (Ok g) → Unsaved old new target →
       Compiles source target old new (outcome.Outside call.Save)
   -- the line couldn't be shown: the target holds the image, and a first part of the line was shown
-  unshown : (g : GameLists) (n : ℕ) → HoldsSource old source g →
+  unshown : (g : GameLists) (n : ℕ) → HoldsSource old source (Ok g) →
       Kept old new target (image g) (take n (image_line (length (image g)))) →
       Compiles source target old new (outcome.Outside call.Show)
   -- memory was wanting; nothing is changed

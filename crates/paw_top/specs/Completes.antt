@@ -25,17 +25,10 @@ use Rattle.paw_top.specs.declared.outcome.Outcome.TheVariants as outcome
 abbrev pub NoFault : (StageCall → ℕ) → (StageCall → ℕ) → Type 0
 NoFault old new = (c : StageCall) → c ≢ call.LoadAbsent → ¬ Rose (old c) (new c)
 
--- the command did what it is for, or memory was wanting
-abbrev pub IsDone : Outcome → Type 0
-IsDone outcome.Done = Unit {0}
-IsDone (outcome.Memory at) = Unit {0}
-IsDone _ = ⊥
-
--- the source was refused for this fault, or memory was wanting
-abbrev pub IsRefused : SourceFault → Outcome → Type 0
-IsRefused fault (outcome.SourceRefused found) = found ≡ fault
-IsRefused fault (outcome.Memory at) = Unit {0}
-IsRefused fault _ = ⊥
+-- this is the answer that is due, or memory was wanting
+abbrev pub Comes : Outcome → Outcome → Type 0
+Comes due (outcome.Memory at) = Unit {0}
+Comes due o = o ≡ due
 
 -- the file was refused as no image, by the place of its first damage, or memory was wanting
 abbrev pub IsDamaged : Standing → List ℕ → Outcome → Type 0
@@ -45,17 +38,12 @@ IsDamaged old name _ = ⊥
 
 -- a source that spells a game is compiled, and any other is refused for its fault
 abbrev pub CompletesSource : Result GameLists SourceFault → Outcome → Type 0
-CompletesSource (Ok g) o = IsDone o
-CompletesSource (Err fault) o = IsRefused fault o
+CompletesSource (Ok g) o = Comes outcome.Done o
+CompletesSource (Err fault) o = Comes (outcome.SourceRefused fault) o
 
 -- where the source is there, it is compiled or refused
 abbrev pub CompletesCompile : List ℕ → Standing → Outcome → Type 0
 CompletesCompile source old o = (bytes : List ℕ) → old.files source ≡ Some bytes → CompletesSource (spelled bytes) o
-
--- where the image is there, it is decompiled; where the file is no image, it is refused
-pub record CompletesDecompile (name : List ℕ) (old : Standing) (o : Outcome) : Type 0 where
-  pub image : (g : GameLists) → Holds old name g → IsDone o
-  pub other : HoldsNone old name → IsDamaged old name o
 
 -- playing came to its end, or memory was wanting
 abbrev pub IsWalked : Outcome → Type 0
@@ -67,17 +55,6 @@ IsWalked (outcome.Long events) = Unit {0}
 IsWalked (outcome.Memory at) = Unit {0}
 IsWalked _ = ⊥
 
--- this is the answer that is due, or memory was wanting
-abbrev pub Comes : Outcome → Outcome → Type 0
-Comes due (outcome.Memory at) = Unit {0}
-Comes due o = o ≡ due
-
--- the session was refused since it shows no state of the game, or memory was wanting
-abbrev pub IsNoState : Outcome → Type 0
-IsNoState (outcome.SessionDamaged p at) = p ≡ part.State
-IsNoState (outcome.Memory at) = Unit {0}
-IsNoState _ = ⊥
-
 -- a new session is played in an empty store, and a store with bytes is refused
 abbrev pub CompletesNew : List ℕ → Outcome → Type 0
 CompletesNew [] o = IsWalked o
@@ -88,10 +65,11 @@ pub record CompletesAgain (g : GameLists) (digest bytes : List ℕ) (o : Outcome
   pub shown : (st : State) (piece : List ℕ) → ShowsState g digest bytes st piece → IsWalked o
   pub refused : (r : JournalRefusal) → Refuses digest bytes r → Comes (refused_as r) o
   pub no_state : (state piece : List ℕ) → recover bytes ≡ Shown digest state piece →
-      ((st : State) → ¬ ShowsState g digest bytes st piece) → IsNoState o
+      ((st : State) → ¬ ShowsState g digest bytes st piece) →
+      (at : ℕ) × Comes (outcome.SessionDamaged part.State at) o
 
--- where the image is there, its game is played, with such an answer; where the file is no image, it is refused
-pub record CompletesPlay (name : List ℕ) (Such : GameLists → Outcome → Type 0) (old : Standing)
+-- where the image is there, such an answer comes of its game; where the file is no image, it is refused
+pub record CompletesImage (name : List ℕ) (Such : GameLists → Outcome → Type 0) (old : Standing)
     (o : Outcome) : Type 0 where
   pub image : (g : GameLists) → Holds old name g → Such g o
   pub other : HoldsNone old name → IsDamaged old name o
@@ -108,10 +86,10 @@ due Unended = outcome.Done
 abbrev pub Completes : Standing → Option Command → Outcome → Type 0
 Completes old None o = Unit {0}
 Completes old (Some (Compile source image)) o = CompletesCompile source old o
-Completes old (Some (Decompile image)) o = CompletesDecompile image old o
-Completes old (Some (Walk image seed)) o = CompletesPlay image (λ g. IsWalked) old o
-Completes old (Some (Trace image seed)) o = CompletesPlay image (λ g. IsWalked) old o
-Completes old (Some (Play image store seed)) o = CompletesPlay image (λ g. CompletesNew (store_bytes old store)) old o
+Completes old (Some (Decompile image)) o = CompletesImage image (λ g. Comes outcome.Done) old o
+Completes old (Some (Walk image seed)) o = CompletesImage image (λ g. IsWalked) old o
+Completes old (Some (Trace image seed)) o = CompletesImage image (λ g. IsWalked) old o
+Completes old (Some (Play image store seed)) o = CompletesImage image (λ g. CompletesNew (store_bytes old store)) old o
 Completes old (Some (Resume image store)) o =
-    CompletesPlay image (λ g. CompletesAgain g (digest_of g) (store_bytes old store)) old o
+    CompletesImage image (λ g. CompletesAgain g (digest_of g) (store_bytes old store)) old o
 Completes old (Some (Trial n)) o = Comes (due (trial_reading n)) o

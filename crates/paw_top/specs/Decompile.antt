@@ -1,27 +1,24 @@
 -- What decompiling an image comes to.
-use Rattle.std.specs.Prelude.{◌≡◌, ℕ, List, take, None}
+use Rattle.std.specs.Prelude.{◌≡◌, ℕ, List}
 use Rattle.paw_game.specs.Game.{GameLists}
 use Rattle.paw_print.specs.Canonical.{canonical_of}
-use Rattle.paw_stage.specs.Stage.{Standing}
+use Rattle.paw_stage.specs.Stage.{Standing, with_shown, ShowsPart}
 use Rattle.paw_stage.specs.declared.StageCall.TheVariants as call
-use Rattle.paw_top.specs.Loads.{Holds, HoldsDamage}
-use Rattle.paw_top.specs.Shows.{showing}
+use Rattle.paw_top.specs.Loads.{Holds}
+use Rattle.paw_top.specs.Opens.{Unopened}
 use Rattle.paw_top.specs.declared.outcome.Outcome.{Outcome}
 use Rattle.paw_top.specs.declared.outcome.Outcome.TheVariants as outcome
-use Rattle.paw_top.specs.declared.outcome.MemoryAt.{MemoryAt}
+use Rattle.paw_top.specs.declared.outcome.MemoryAt.TheVariants as memory
 
 -- how a decompiler leaves what stands, by its answer
 pub data Decompiles (name : List ℕ) (old new : Standing) : Outcome → Type 0 where
   -- the file is the image of a game, and its canonical source was shown
-  done : (g : GameLists) → Holds old name g → new ≡ showing old (canonical_of g) → Decompiles name old new outcome.Done
-  -- the file is no image of a valid game, and its first damage is named; nothing is changed
-  damaged : (at : ℕ) → HoldsDamage old name at → new ≡ old → Decompiles name old new (outcome.ImageDamaged at)
-  -- there is no file; nothing is changed
-  absent : old.files name ≡ None → new ≡ old → Decompiles name old new (outcome.Outside call.LoadAbsent)
-  -- the file couldn't be loaded; nothing is changed
-  unloaded : new ≡ old → Decompiles name old new (outcome.Outside call.Load)
+  done : (g : GameLists) → Holds old name g → new ≡ with_shown (canonical_of g) old →
+      Decompiles name old new outcome.Done
+  -- the file gives no game; nothing is changed
+  unopened : (o : Outcome) → Unopened name old new o → Decompiles name old new o
   -- the source couldn't be shown: a first part of it was
-  unshown : (g : GameLists) (n : ℕ) → Holds old name g → new ≡ showing old (take n (canonical_of g)) →
+  unshown : (g : GameLists) → Holds old name g → ShowsPart (canonical_of g) old new →
       Decompiles name old new (outcome.Outside call.Show)
-  -- memory was wanting; nothing is changed
-  memory : (at : MemoryAt) → new ≡ old → Decompiles name old new (outcome.Memory at)
+  -- memory was wanting for the source; nothing is changed
+  unprinted : new ≡ old → Decompiles name old new (outcome.Memory memory.Print)

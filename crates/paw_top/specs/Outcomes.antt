@@ -15,11 +15,8 @@ use Rattle.paw_top.specs.declared.outcome.Outcome.TheVariants as outcome
 use Rattle.paw_top.specs.declared.outcome.MemoryAt.{MemoryAt}
 use Rattle.paw_top.specs.declared.outcome.MemoryAt.TheVariants as memory
 
--- the exit status of the program
+-- the exit status of the program: 0 where nothing stood in the way of what was asked for
 abbrev pub status_of : Outcome → ℕ
-status_of outcome.Done = 0
-status_of outcome.Ended = 0
-status_of outcome.InputEnded = 0
 status_of outcome.Usage = 1
 status_of (outcome.SourceRefused fault) = 2
 status_of (outcome.ImageDamaged at) = 3
@@ -32,6 +29,7 @@ status_of (outcome.TooDeep table) = 6
 status_of (outcome.Outside c) = 7
 status_of (outcome.Memory at) = 8
 status_of (outcome.Long events) = 9
+status_of _ = 0
 
 -- every command of the tool
 unfoldable pub usage : List ℕ
@@ -83,11 +81,8 @@ memory_name memory.Image = codes "Image"
 memory_name memory.Play = codes "Play"
 memory_name memory.Trial = codes "Trial"
 
--- what is written to standard error
+-- what is written to standard error: nothing where the status is 0
 abbrev pub error_text : Outcome → List ℕ
-error_text outcome.Done = []
-error_text outcome.Ended = []
-error_text outcome.InputEnded = []
 error_text outcome.Usage = usage
 error_text (outcome.SourceRefused fault) = codes "source line "
     ++ (decimal fault.line ++ (codes ": " ++ (kind_name fault.kind ++ codes "\n")))
@@ -105,3 +100,4 @@ error_text (outcome.TooDeep table) = codes "too many calls at table " ++ (decima
 error_text (outcome.Outside c) = codes "outside failed: " ++ (call_name c ++ codes "\n")
 error_text (outcome.Memory at) = codes "no memory: " ++ (memory_name at ++ codes "\n")
 error_text (outcome.Long events) = codes "session is full: " ++ (decimal events ++ codes " events\n")
+error_text _ = []

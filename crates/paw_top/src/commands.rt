@@ -1,13 +1,13 @@
 // The words of a command.
 
-ghost use Rattle.std.specs.Prelude.{◌≡◌, ◌+◌, ◌-◌, ◌*◌, ◌<◌, ◌≤◌, ◌^◌, ◌&&◌, nat_le, length, map, string_bytes};
+ghost use Rattle.std.specs.Prelude.{◌≡◌, ◌+◌, ◌-◌, ◌*◌, ◌<◌, ◌≤◌, ◌^◌, map, string_bytes};
 ghost use Rattle.std.specs.Prelude.{Option, Some, None, IfSome, IfNone, MatchOption};
-ghost use Rattle.paw_top.specs.Commands.{command_of, compile_of, decompile_of, walk_of, trace_of, play_of, resume_of};
-ghost use Rattle.paw_top.specs.Commands.{trial_of, seed_of, trial_number, number_after};
-ghost use Rattle.paw_top.specs.Commands.{Compile as CompileOf, Walk as WalkOf, Trace as TraceOf, Resume as ResumeOf};
-ghost use Rattle.paw_top.specs.inner.Commands.{SpellsCommand};
-ghost use Rattle.paw_grammar.specs.Numbers.{is_digit};
-ghost use Rattle.std.specs.List.{list_all};
+ghost use Rattle.std.specs.Option.{option_and_then};
+ghost use Rattle.paw_grammar.specs.Numbers.{is_digit, number};
+ghost use Rattle.paw_top.specs.Commands.{command_of, number_of, as_seed, seed_of, named, numbered, ends};
+ghost use Rattle.paw_top.specs.Commands.{Compile as CompileOf, Decompile as DecompileOf, Walk as WalkOf};
+ghost use Rattle.paw_top.specs.Commands.{Trace as TraceOf, Play as PlayOf, Resume as ResumeOf, Trial as TrialOf};
+ghost use Rattle.paw_top.specs.inner.Commands.{SpellsCommand, two_names, name_and_seed};
 
 /// What is asked for.
 #[derive(Clone, Copy, Drop)]
@@ -41,11 +41,18 @@ pub(crate) enum Command<'a> {
     },
 }
 
+// Whether a byte is a decimal digit.
+fn is_digit(byte: u8) -> bool
+    ensures { result ≡ is_digit byte }
+{
+    byte.is_ascii_digit()
+}
+
 // A number with one digit more; None where it is 2^64 or more.
 fn with_digit(number: u64, digit: u8) -> Option<u64>
-    ensures some { IfSome result (λ n. n ≡ 10 * number + (digit - 48)) }
+    ensures some { IfSome result (λ n. n ≡ number * 10 + (digit - 48)) }
     ensures below { IfSome result (λ n. n < 2 ^ 64) }
-    ensures none { IfNone result (2 ^ 64 ≤ 10 * number + (digit - 48)) }
+    ensures none { IfNone result (2 ^ 64 ≤ number * 10 + (digit - 48)) }
 {
     let value = u128::from(number) * 10 + u128::from(digit.saturating_sub(b'0'));
     if value < 1 << 64 {
@@ -55,14 +62,18 @@ fn with_digit(number: u64, digit: u8) -> Option<u64>
     }
 }
 
-// The number that digits spell; None where it is 2^64 or more.
-fn number_of(digits: &[u8]) -> Option<u64>
-    ensures some { IfSome result (λ n. n ≡ number_after 0 digits.now) }
-    ensures below { IfSome result (λ n. n < 2 ^ 64) }
-    ensures none { IfNone result (2 ^ 64 ≤ number_after 0 digits.now) }
+// The number that decimal digits spell; None for any other word, and where it is 2^64 or more.
+fn number_in(word: &[u8]) -> Option<u64>
+    ensures value { result ≡ option_and_then as_seed (number word.now) }
 {
+    if word.is_empty() {
+        return None;
+    }
     let mut number: u64 = 0;
-    for &digit in digits {
+    for &digit in word {
+        if !is_digit(digit) {
+            return None;
+        }
         match with_digit(number, digit) {
             Some(next) => number = next,
             None => return None,
@@ -71,50 +82,38 @@ fn number_of(digits: &[u8]) -> Option<u64>
     Some(number)
 }
 
-// Decimal digits alone.
-fn are_digits(word: &[u8]) -> bool
-    ensures value { result ≡ list_all is_digit word.now }
+// The same of at most `most` digits.
+fn number_of(word: &[u8], most: usize) -> Option<u64>
+    ensures value { result ≡ option_and_then as_seed (number_of most word.now) }
 {
-    word.iter().all(|&d| 48 <= d && d <= 57)
-}
-
-// 1 to `most` decimal digits.
-fn has_shape(word: &[u8], most: usize) -> bool
-    ensures value { let n = length word.now in result ≡ (nat_le 1 n && (nat_le n most && list_all is_digit word.now)) }
-{
-    1 <= word.len() && (word.len() <= most && are_digits(word))
+    if word.len() > most {
+        return None;
+    }
+    number_in(word)
 }
 
 // A seed of 1 to 20 decimal digits with a value below 2^64.
 fn seed_of(word: &str) -> Option<u64>
     ensures value { result ≡ seed_of word.now }
 {
-    let digits = word.as_bytes();
-    if !has_shape(digits, 20) {
-        return None;
-    }
-    number_of(digits)
+    number_of(word.as_bytes(), 20)
 }
 
 // The number of a trial, in 1 to 4 decimal digits.
 fn trial_number(word: &str) -> Option<u16>
-    ensures value { result ≡ trial_number word.now }
+    ensures value { result ≡ number_of 4 word.now }
 {
-    let digits = word.as_bytes();
-    if !has_shape(digits, 4) {
-        return None;
-    }
-    match number_of(digits) {
+    match number_of(word.as_bytes(), 4) {
         Some(number) => Some(number as u16),
-        None => unreachable!(),
+        None => None,
     }
 }
 
 // SOURCE IMAGE, behind `compile`; IMAGE STORE, behind `resume`.
 fn two_names<'a>(names: &'a [String]) -> Option<(&'a str, &'a str)>
-    ensures compiles { let asked = compile_of (map string_bytes names.now) in
+    ensures compiles { let asked = two_names CompileOf (map string_bytes names.now) in
         MatchOption result (asked ≡ None) (λ two. asked ≡ Some (CompileOf two.0.now two.1.now)) }
-    ensures resumes { let asked = resume_of (map string_bytes names.now) in
+    ensures resumes { let asked = two_names ResumeOf (map string_bytes names.now) in
         MatchOption result (asked ≡ None) (λ two. asked ≡ Some (ResumeOf two.0.now two.1.now)) }
 {
     if names.len() != 2 || names[0].is_empty() || names[1].is_empty() {
@@ -125,7 +124,7 @@ fn two_names<'a>(names: &'a [String]) -> Option<(&'a str, &'a str)>
 
 // IMAGE, behind `decompile`.
 fn decompile_of<'a>(names: &'a [String]) -> Option<Command<'a>>
-    ensures value { SpellsCommand result (decompile_of (map string_bytes names.now)) }
+    ensures value { SpellsCommand result (named (λ image. ends (DecompileOf image)) (map string_bytes names.now)) }
 {
     if names.len() != 1 || names[0].is_empty() {
         return None;
@@ -137,9 +136,9 @@ fn decompile_of<'a>(names: &'a [String]) -> Option<Command<'a>>
 
 // IMAGE SEED, behind `walk` and `trace`.
 fn image_and_seed<'a>(names: &'a [String]) -> Option<(&'a str, u64)>
-    ensures walks { let asked = walk_of (map string_bytes names.now) in
+    ensures walks { let asked = name_and_seed WalkOf (map string_bytes names.now) in
         MatchOption result (asked ≡ None) (λ given. asked ≡ Some (WalkOf given.0.now given.1)) }
-    ensures traces { let asked = trace_of (map string_bytes names.now) in
+    ensures traces { let asked = name_and_seed TraceOf (map string_bytes names.now) in
         MatchOption result (asked ≡ None) (λ given. asked ≡ Some (TraceOf given.0.now given.1)) }
 {
     if names.len() != 2 || names[0].is_empty() {
@@ -151,7 +150,8 @@ fn image_and_seed<'a>(names: &'a [String]) -> Option<(&'a str, u64)>
 
 // IMAGE STORE SEED, behind `play`.
 fn play_of<'a>(names: &'a [String]) -> Option<Command<'a>>
-    ensures value { SpellsCommand result (play_of (map string_bytes names.now)) }
+    ensures value { SpellsCommand result
+        (named (λ image. name_and_seed (PlayOf image)) (map string_bytes names.now)) }
 {
     if names.len() != 3 || names[0].is_empty() || names[1].is_empty() {
         return None;
@@ -166,7 +166,7 @@ fn play_of<'a>(names: &'a [String]) -> Option<Command<'a>>
 
 // N, behind `trial`.
 fn trial_of<'a>(names: &'a [String]) -> Option<Command<'a>>
-    ensures value { SpellsCommand result (trial_of (map string_bytes names.now)) }
+    ensures value { SpellsCommand result (numbered (number_of 4) TrialOf (map string_bytes names.now)) }
 {
     if names.len() != 1 {
         return None;

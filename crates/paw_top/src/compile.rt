@@ -1,6 +1,6 @@
 // From a source to an image.
 
-ghost use Rattle.std.specs.Prelude.{◌≡◌, ◌≢◌, ◌≤◌, ◌↔◌, [], ◌∷◌, length, string_bytes, Ok, IfOk, IfErr};
+ghost use Rattle.std.specs.Prelude.{◌≡◌, ◌≢◌, ◌≤◌, ◌↔◌, [], ◌∷◌, length, string_bytes, Ok, IfOk, IfErr, IfSome};
 ghost use Rattle.paw_game.specs.Game.{GameLists};
 ghost use Rattle.paw_game.specs.Image.{image};
 ghost use Rattle.paw_base.specs.declared.limits.TheConstants.{IMAGE_LIMIT};
@@ -9,7 +9,7 @@ ghost use Rattle.paw_stage.specs.Stage.{Faulted};
 ghost use Rattle.paw_stage.specs.Across.{Across};
 ghost use Rattle.paw_stage.specs.declared.StageCall.TheVariants as call;
 ghost use Rattle.paw_play.specs.Calls.{IsOneOf};
-ghost use Rattle.paw_top.specs.Answers.{IfOutside, IfMemory, load_calls, load_memory, failed_call};
+ghost use Rattle.paw_top.specs.Answers.{IfMemory, load_calls, load_memory, failed_call};
 ghost use Rattle.paw_top.specs.Compile.{Compiles, image_line};
 ghost use Rattle.paw_top.specs.inner.Compile.{IsRefusal, SavesSo};
 ghost use Rattle.paw_top.specs.declared.outcome.Outcome.TheVariants as outcome;
@@ -70,7 +70,7 @@ fn line_of(alloc: Global, size: usize) -> Result<String, Outcome>
 fn keep<S: Stage>(stage: &mut S, name: &str, image: &[u8], line: &[u8]) -> Outcome
     ensures tells { S.Tells stage.old ↔ S.Tells stage.new }
     ensures faulted { Faulted (failed_call result) (S.faults stage.old) (S.faults stage.new) }
-    ensures outside { IfOutside result (IsOneOf (call.Save ∷ call.Show ∷ [])) }
+    ensures outside { IfSome (failed_call result) (IsOneOf (call.Save ∷ call.Show ∷ [])) }
     ensures form { result ≢ outcome.Usage }
     ensures memory { IfMemory result (λ at. ⊥) }
     ensures keeps { Across S.Stage stage.old stage.new (λ old new. SavesSo name.now image.now line.now old new result) }
@@ -85,7 +85,7 @@ fn keep<S: Stage>(stage: &mut S, name: &str, image: &[u8], line: &[u8]) -> Outco
 pub(crate) fn compile<S: Stage>(alloc: Global, stage: &mut S, source: &str, image: &str) -> Outcome
     ensures tells { S.Tells stage.old ↔ S.Tells stage.new }
     ensures faulted { Faulted (failed_call result) (S.faults stage.old) (S.faults stage.new) }
-    ensures outside { IfOutside result (IsOneOf (call.Save ∷ call.Show ∷ load_calls)) }
+    ensures outside { IfSome (failed_call result) (IsOneOf (call.Save ∷ call.Show ∷ load_calls)) }
     ensures form { result ≢ outcome.Usage }
     ensures memory { IfMemory result (IsOneOf (memory.Source ∷ load_memory)) }
     ensures compiles { Across S.Stage stage.old stage.new (λ old new. Compiles source.now image.now old new result) }

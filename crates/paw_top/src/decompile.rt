@@ -1,10 +1,10 @@
 // From an image to its source.
 
-ghost use Rattle.std.specs.Prelude.{◌≢◌, ◌↔◌, ◌∷◌};
+ghost use Rattle.std.specs.Prelude.{◌≢◌, ◌↔◌, ◌∷◌, IfSome};
 ghost use Rattle.paw_stage.specs.Stage.{Faulted};
 ghost use Rattle.paw_stage.specs.declared.StageCall.TheVariants as call;
 ghost use Rattle.paw_play.specs.Calls.{IsOneOf};
-ghost use Rattle.paw_top.specs.Answers.{IfOutside, IfMemory, load_calls, load_memory, failed_call};
+ghost use Rattle.paw_top.specs.Answers.{IfMemory, load_calls, load_memory, failed_call};
 ghost use Rattle.paw_top.specs.Decompile.{Decompiles};
 ghost use Rattle.paw_top.specs.declared.outcome.MemoryAt.TheVariants as memory;
 ghost use Rattle.paw_top.specs.declared.outcome.Outcome.TheVariants as outcome;
@@ -22,7 +22,7 @@ use std::alloc::Global;
 pub(crate) fn decompile<S: Stage>(alloc: Global, stage: &mut S, image: &str) -> Outcome
     ensures tells { S.Tells stage.old ↔ S.Tells stage.new }
     ensures faulted { Faulted (failed_call result) (S.faults stage.old) (S.faults stage.new) }
-    ensures outside { IfOutside result (IsOneOf (call.Show ∷ load_calls)) }
+    ensures outside { IfSome (failed_call result) (IsOneOf (call.Show ∷ load_calls)) }
     ensures form { result ≢ outcome.Usage }
     ensures memory { IfMemory result (IsOneOf (memory.Print ∷ load_memory)) }
     ensures decompiles { S.Tells stage.old → Decompiles image.now (S.standing stage.old) (S.standing stage.new) result }

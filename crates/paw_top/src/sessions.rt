@@ -1,6 +1,6 @@
 // Playing the game of an image file: a walk, a new session, and one that is taken up again.
 
-ghost use Rattle.std.specs.Prelude.{◌≡◌, ◌≢◌, ◌↔◌, ℕ, List, [], ◌∷◌, ◌++◌};
+ghost use Rattle.std.specs.Prelude.{◌≡◌, ◌≢◌, ◌↔◌, ℕ, List, [], ◌∷◌, ◌++◌, IfSome};
 ghost use Rattle.paw_effects.specs.Story.{Story};
 ghost use Rattle.paw_play.specs.inner.Telling.{told_as};
 ghost use Rattle.paw_play.specs.Calls.{IsOneOf, walk_calls, session_calls};
@@ -11,7 +11,7 @@ ghost use Rattle.paw_state.specs.State.{State};
 ghost use Rattle.paw_stage.specs.Across.{Across, EachMoment};
 ghost use Rattle.paw_routines.specs.Routines.{AreRowsOf, HaveRows};
 ghost use Rattle.paw_stage.specs.Disk.{IsStable};
-ghost use Rattle.paw_top.specs.Answers.{IfOutside, IfMemory, load_calls, load_memory, failed_call};
+ghost use Rattle.paw_top.specs.Answers.{IfMemory, load_calls, load_memory, failed_call};
 ghost use Rattle.paw_stage.specs.Stage.{Faulted};
 ghost use Rattle.paw_top.specs.Loads.{Holds};
 ghost use Rattle.paw_top.specs.Sessions.{PlaysNewIn, PlaysAgainIn, GoesOnIn, digest_of, session_from};
@@ -46,7 +46,7 @@ pub(crate) fn walk<P: Preface, S: Stage, F: Fn(u8, u8) -> u8>(
         WalksAs (λ s n. told_as P.telling (reading s n)) X image.now seed old new result) }
     ensures form { result ≢ outcome.Usage }
     ensures memory { IfMemory result (IsOneOf (memory.Play ∷ load_memory)) }
-    ensures outside { IfOutside result (IsOneOf (load_calls ++ walk_calls)) }
+    ensures outside { IfSome (failed_call result) (IsOneOf (load_calls ++ walk_calls)) }
     ensures tells { S.Tells stage.old ↔ S.Tells stage.new }
     ensures faulted { Faulted (failed_call result) (S.faults stage.old) (S.faults stage.new) }
 {
@@ -70,7 +70,7 @@ pub(crate) fn play<S: Stage, F: Fn(u8, u8) -> u8>(
     ensures faulted { Faulted (failed_call result) (S.faults stage.old) (S.faults stage.new) }
     ensures form { result ≢ outcome.Usage }
     ensures memory { IfMemory result (IsOneOf (memory.Play ∷ load_memory)) }
-    ensures outside { IfOutside result (IsOneOf (load_calls ++ session_calls)) }
+    ensures outside { IfSome (failed_call result) (IsOneOf (load_calls ++ session_calls)) }
     ensures plays { Across S.Stage stage.old stage.new (λ old new. (X : List (List ℕ)) →
         AreRowsOf F.Fn routines.now X → PlaysNewIn X image.now store.now seed old new result) }
     ensures any_moment { Across S.Stage stage.old stage.new (λ old new. (s : Story) →
@@ -97,7 +97,7 @@ pub(crate) fn resume<S: Stage, F: Fn(u8, u8) -> u8>(
     ensures tells { S.Tells stage.old ↔ S.Tells stage.new }
     ensures form { result ≢ outcome.Usage }
     ensures memory { IfMemory result (IsOneOf (memory.Play ∷ load_memory)) }
-    ensures outside { IfOutside result (IsOneOf (load_calls ++ session_calls)) }
+    ensures outside { IfSome (failed_call result) (IsOneOf (load_calls ++ session_calls)) }
     ensures plays { Across S.Stage stage.old stage.new (λ old new. (X : List (List ℕ)) →
         AreRowsOf F.Fn routines.now X → PlaysAgainIn X image.now store.now old new result) }
     ensures any_moment { Across S.Stage stage.old stage.new (λ old new. (s : Story) (st : State) (piece : List ℕ) →

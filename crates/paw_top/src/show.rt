@@ -1,9 +1,9 @@
 // Showing what a command ends with.
 
-ghost use Rattle.std.specs.Prelude.{◌≡◌, ◌≢◌, ◌↔◌};
+ghost use Rattle.std.specs.Prelude.{◌≡◌, ◌≢◌, ◌↔◌, IfSome};
 ghost use Rattle.paw_stage.specs.Stage.{Faulted};
 ghost use Rattle.paw_stage.specs.declared.StageCall.TheVariants as call;
-ghost use Rattle.paw_top.specs.Answers.{IfOutside, IfMemory, failed_call};
+ghost use Rattle.paw_top.specs.Answers.{IfMemory, failed_call};
 ghost use Rattle.paw_top.specs.Shows.{Shows};
 ghost use Rattle.paw_top.specs.declared.outcome.Outcome.TheVariants as outcome;
 
@@ -15,7 +15,7 @@ use paw_stage::{Stage, StageCall};
 pub(crate) fn tell<S: Stage>(stage: &mut S, text: &[u8]) -> Outcome
     ensures tells { S.Tells stage.old ↔ S.Tells stage.new }
     ensures faulted { Faulted (failed_call result) (S.faults stage.old) (S.faults stage.new) }
-    ensures outside { IfOutside result (λ c. c ≡ call.Show) }
+    ensures outside { IfSome (failed_call result) (λ c. c ≡ call.Show) }
     ensures form { result ≢ outcome.Usage }
     ensures memory { IfMemory result (λ at. ⊥) }
     ensures shows { S.Tells stage.old → Shows text.now (S.standing stage.old) (S.standing stage.new) result }

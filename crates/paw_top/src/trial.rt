@@ -1,12 +1,12 @@
 // Playing a trial.
 
-ghost use Rattle.std.specs.Prelude.{◌≡◌, ◌≢◌, ◌↔◌, ℕ, [], ◌∷◌, None};
+ghost use Rattle.std.specs.Prelude.{◌≡◌, ◌≢◌, ◌↔◌, ℕ, [], ◌∷◌, None, IfSome};
 ghost use Rattle.paw_stage.specs.Stage.{Standing, Faulted};
 ghost use Rattle.paw_stage.specs.declared.StageCall.TheVariants as call;
 ghost use Rattle.paw_play.specs.Calls.{IsOneOf};
 ghost use Rattle.paw_trial.specs.Trial.{trial_reading};
 ghost use Rattle.paw_trial.specs.inner.Trial.{StopsAs};
-ghost use Rattle.paw_top.specs.Answers.{IfOutside, IfMemory, failed_call};
+ghost use Rattle.paw_top.specs.Answers.{IfMemory, failed_call};
 ghost use Rattle.paw_top.specs.Tries.{Tries};
 ghost use Rattle.paw_top.specs.declared.outcome.MemoryAt.TheVariants as memory;
 ghost use Rattle.paw_top.specs.declared.outcome.Outcome.TheVariants as outcome;
@@ -21,7 +21,7 @@ use std::alloc::Global;
 fn stopped_as(end: TrialEnd) -> Outcome
     ensures form { result ≢ outcome.Usage }
     ensures memory { IfMemory result (IsOneOf (memory.Trial ∷ [])) }
-    ensures outside { IfOutside result (λ _. ⊥) }
+    ensures outside { IfSome (failed_call result) (λ _. ⊥) }
     ensures fine { failed_call result ≡ None }
     ensures tries { (n : ℕ) (s : Standing) → StopsAs end (trial_reading n) → Tries n s s result }
 {
@@ -39,7 +39,7 @@ pub(crate) fn trial<S: Stage>(alloc: Global, stage: &mut S, n: u16) -> Outcome
     ensures faulted { Faulted (failed_call result) (S.faults stage.old) (S.faults stage.new) }
     ensures form { result ≢ outcome.Usage }
     ensures memory { IfMemory result (IsOneOf (memory.Trial ∷ [])) }
-    ensures outside { IfOutside result (IsOneOf (call.Show ∷ [])) }
+    ensures outside { IfSome (failed_call result) (IsOneOf (call.Show ∷ [])) }
     ensures tries { S.Tells stage.old → Tries n (S.standing stage.old) (S.standing stage.new) result }
 {
     match trial_line(alloc, n) {

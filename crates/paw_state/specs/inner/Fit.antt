@@ -1,5 +1,5 @@
 -- Bytes that are a state of a game: words that contracts between crates and proofs use beside those of specs/Fit.antt.
-use Rattle.std.specs.Prelude.{◌≡◌, ℕ, List, take}
+use Rattle.std.specs.Prelude.{◌≡◌, ℕ, List, Option, take}
 use Rattle.paw_game.specs.Game.{GameLists}
 use Rattle.paw_process.specs.Kept.{kept}
 use Rattle.paw_process.specs.inner.Kept.{restored, waiting_at, StandsAt}
@@ -8,6 +8,12 @@ use Rattle.paw_state.specs.declared.Restored.{Restored}
 use Rattle.paw_state.specs.State.{State, Keeps, FitsFields}
 use Rattle.paw_state.specs.inner.State.{state_of}
 use Rattle.paw_state.specs.Fields.{state_bytes}
+use Rattle.paw_state.specs.Faults.{fields_fault}
+use Rattle.paw_state.specs.inner.Fields.{fields_at}
+
+-- the place of the first field that breaks its rule; nothing where the bytes are fit
+abbrev pub unfit : GameLists → List ℕ → Option ℕ
+unfit g bytes = fields_fault g (fields_at bytes)
 
 -- the state of parts that were read
 abbrev pub state_read : Restored → State

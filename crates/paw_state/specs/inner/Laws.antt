@@ -1,11 +1,22 @@
 -- The laws of a state's bytes.
-use Rattle.std.specs.Prelude.{◌≡◌, ℕ, ◌≤◌, List, ◌++◌, None, length, ◌↔◌}
+use Rattle.std.specs.Prelude.{◌≡◌, ℕ, ◌≤◌, List, ◌++◌, Some, None, length, ◌↔◌}
 use Rattle.paw_game.specs.Game.{GameLists}
 use Rattle.paw_game.specs.Valid.{Valid}
 use Rattle.paw_state.specs.declared.layout.TheConstants.{STATE_LENGTH}
 use Rattle.paw_state.specs.State.{State, Keeps, FitsFields, AreBytes}
-use Rattle.paw_state.specs.Fields.{state_bytes}
-use Rattle.paw_state.specs.Fit.{Fit, unfit}
+use Rattle.paw_state.specs.declared.fields.Fields.{Fields}
+use Rattle.paw_state.specs.Fields.{AreSized, field_bytes, state_bytes}
+use Rattle.paw_state.specs.Fit.{Fit, Unfit}
+use Rattle.paw_state.specs.inner.Fields.{fields_at}
+use Rattle.paw_state.specs.inner.Fit.{unfit}
+
+-- fields stand at their places in the bytes that they are written to
+abbrev pub FieldsStand : Type 0
+FieldsStand = (f : Fields) (rest : List ℕ) → AreSized f → fields_at (field_bytes f ++ rest) ≡ f
+
+-- so bytes have one fault at most, which is that of the fields at these places
+abbrev pub OneFault : Type 0
+OneFault = (g : GameLists) (bytes : List ℕ) (at : ℕ) → Unfit g bytes at → unfit g bytes ≡ Some at
 
 -- bytes have a fault exactly where they are not fit
 abbrev pub FitOrUnfit : Type 0

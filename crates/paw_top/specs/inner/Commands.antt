@@ -1,8 +1,17 @@
 -- The words of a command: words that contracts between crates and proofs use beside those of specs/Commands.antt.
-use Rattle.std.specs.Prelude.{◌≡◌, Option, Some, None}
+use Rattle.std.specs.Prelude.{◌≡◌, ℕ, List, Option, Some, None}
 use Rattle.paw_top.specs.declared.commands.Command.{Command as Given}
 use Rattle.paw_top.specs.declared.commands.Command.TheVariants as given
 use Rattle.paw_top.specs.Commands.{Command, Compile, Decompile, Walk, Trace, Play, Resume, Trial}
+use Rattle.paw_top.specs.Commands.{seed_of, named, numbered, ends}
+
+-- two names come, and then no word more
+abbrev pub two_names : (List ℕ → List ℕ → Command) → List (List ℕ) → Option Command
+two_names such words = named (λ one. named (λ other. ends (such one other))) words
+
+-- a name comes, and then a seed
+abbrev pub name_and_seed : (List ℕ → ℕ → Command) → List (List ℕ) → Option Command
+name_and_seed such words = named (λ name. numbered seed_of (such name)) words
 
 -- the code's answer spells what is asked for
 abbrev pub SpellsCommand : Option Given → Option Command → Type 0

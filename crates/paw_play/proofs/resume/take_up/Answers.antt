@@ -6,7 +6,7 @@ use Rattle.paw_effects.specs.Story.{story_of}
 use Rattle.std.specs.Prelude.{Result, Ok, Err, IsOk}
 use Rattle.paw_state.specs.declared.StateFault.{StateFault}
 use Rattle.paw_state.specs.declared.Restored.{Restored}
-use Rattle.paw_state.specs.Fit.{Fit, unfit}
+use Rattle.paw_state.specs.Fit.{Fit, Unfit}
 use Rattle.paw_state.specs.inner.Fit.{state_read}
 use Rattle.paw_play.specs.declared.TheConstants.{MOST_EVENTS}
 use Rattle.paw_play.specs.Play.{InPlay, memory, no_state, plays_on}
@@ -47,7 +47,7 @@ returns-in-Err-clause-plays g c = λ tells X rows name store.
     let game2 = g.T.Tables.game c.args.tables.now in
     no_state c.in-Err.fault.at c.args.room.now.state c.args.room.now.piece (c.requires.kept tells).shown
     (λ fit. not_ok (Err c.in-Err.fault) c.in-Err.fault refl (c.in-Err.ensures.fit.1 (subst (Fit game2) sym2 fit)))
-    (ap (unfit game2) sym2 ∙ c.in-Err.ensures.fault) refl
+    (subst (λ b. Unfit game2 b c.in-Err.fault.at) c.state.ensures.value c.in-Err.ensures.fault) refl
 
 pub adopt-requires : goal.adopt-requires
 adopt-requires g c = record { fits = read_fits (g.T.Tables.game c.args.tables.now) c.state.result.now c.in-Ok.restored c.in-Ok.ensures.read }

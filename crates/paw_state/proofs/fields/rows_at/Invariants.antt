@@ -1,5 +1,5 @@
 use Rattle.std.proofs.Common.{◌≡◌, length, take, drop}
-use Rattle.paw_state.specs.Fields.{rows_at}
+use Rattle.paw_state.specs.inner.Fields.{rows_at}
 use Rattle.paw_state.proofs.fields.rows_at.Given as goal
 
 -- there is room for eleven rows, of which the first are read

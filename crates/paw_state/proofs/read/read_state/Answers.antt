@@ -4,21 +4,23 @@ use Rattle.std.proofs.lemmas.Result.{err_from_is_err_and}
 use Rattle.paw_game.specs.Game.{GameLists}
 use Rattle.paw_state.specs.declared.StateFault.{StateFault}
 use Rattle.paw_state.specs.declared.fields.Fields.{Fields}
-use Rattle.paw_state.specs.Fields.{fields_at}
+use Rattle.paw_state.specs.inner.Fields.{fields_at}
 use Rattle.paw_state.specs.Faults.{fields_fault}
 use Rattle.paw_state.specs.inner.Parts.{state_in}
-use Rattle.paw_state.specs.Fit.{unfit}
+use Rattle.paw_state.specs.Fit.{Unfit}
+use Rattle.paw_state.specs.inner.Fit.{unfit}
 use Rattle.paw_state.specs.inner.Fit.{state_read}
 use Rattle.paw_state.proofs.Told.{piece_read}
-use Rattle.paw_state.proofs.Lawful.{fit_has_none, none_is_fit, long_state, is_read}
+use Rattle.paw_state.proofs.Lawful.{fit_has_none, none_is_fit, is_unfit, long_state, is_read}
 use Rattle.paw_state.proofs.read.read_state.Goals as goal
 
 not_both : {A E : Type 0} → (r : Result A E) → IsErr r → IsOk r → ⊥
 not_both (Ok x) h k = cc
 not_both (Err e) h k = cc
 
-named : {A : Type 0} → (r : Result A StateFault) (e : StateFault) (o : Option ℕ) → r ≡ Err e → o ≡ Some e.at → IfErr r (λ f. o ≡ Some f.at)
-named r e o is h = rw is h
+named : {A : Type 0} → (g : GameLists) (bytes : List ℕ) (r : Result A StateFault) (e : StateFault) → r ≡ Err e → Unfit g bytes e.at
+    → IfErr r (λ f. Unfit g bytes f.at)
+named g bytes r e is h = rw is h
 
 none_from : (g : GameLists) (f : Fields) (bytes : List ℕ) → None ≡ fields_fault g f → f ≡ fields_at bytes → unfit g bytes ≡ None
 none_from g f bytes h e = sym (h ∙ ap (fields_fault g) e)
@@ -37,7 +39,8 @@ returns-in_err-check-clause-fault g c =
     let game = g.T.Tables.game c.args.tables.now in
     let e : Some c.in_err-check.field-0.0.at ≡ unfit game c.args.bytes.now = c.in_err-check.ensures.value ∙ ap (fields_fault game) c.at-fields.ensures.value in
     let p = err_from_is_err_and c.from_residual.result c.from_residual.ensures.1 in
-    named c.from_residual.result p.0 (unfit game c.args.bytes.now) p.1 (sym e ∙ ap (λ (f : StateFault). Some f.at) (sym p.2))
+    named game c.args.bytes.now c.from_residual.result p.0 p.1 (is_unfit game c.args.bytes.now p.0.at c.at-fields.ensures.room
+    c.at-fields.ensures.bytes (sym e ∙ ap (λ (f : StateFault). Some f.at) (sym p.2)))
 
 pub returns-clause-read : goal.returns-clause-read
 returns-clause-read g c =

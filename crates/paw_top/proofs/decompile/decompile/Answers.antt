@@ -1,7 +1,6 @@
 use Rattle.std.proofs.Common.{◌∙◌, subst}
-use Rattle.paw_top.specs.Decompile.{memory}
+use Rattle.paw_top.specs.Decompile.{unprinted}
 use Rattle.paw_top.specs.inner.Loads.{GivesNone}
-use Rattle.paw_top.specs.declared.outcome.MemoryAt.TheVariants.{Print}
 use Rattle.paw_top.proofs.Decompiling.{no_file, no_game, shows_source}
 use Rattle.paw_top.proofs.Images.{holds_given}
 use Rattle.paw_stage.proofs.Counted.{Faulted_on}
@@ -17,7 +16,7 @@ returns-in-Err-game_in-clause-decompiles g c = λ tells.
     (subst (λ b. GivesNone b c.in-Err-game_in.outcome) c.as_slice.ensures.value c.in-Err-game_in.ensures.none)
 
 pub returns-in_default-clause-decompiles : goal.returns-in_default-clause-decompiles
-returns-in_default-clause-decompiles g c = λ tells. let f = c.in-Ok.ensures.some tells in memory Print f.3
+returns-in_default-clause-decompiles g c = λ tells. let f = c.in-Ok.ensures.some tells in unprinted f.3
 
 pub returns-clause-decompiles : goal.returns-clause-decompiles
 returns-clause-decompiles g c = λ tells.

@@ -1,6 +1,6 @@
 use Rattle.std.proofs.Common.{◌∙◌}
 use Rattle.std.specs.Prelude.{slice_index, drop}
-use Rattle.paw_state.specs.Fields.{held_at}
+use Rattle.paw_state.specs.inner.Fields.{held_at}
 use Rattle.paw_state.proofs.Pieces.{range_drop, index_drop}
 use Rattle.paw_state.proofs.Cut.{same_held}
 use Rattle.paw_state.proofs.held.Held.at.Goals as goal
