@@ -3,19 +3,21 @@ use Rattle.std.proofs.Common.{◌≡◌, ℕ, zero, suc, ◌+◌, ◌-◌, ◌<�
 use Rattle.std.proofs.Common.{inl, inr, refl, sym, ◌∙◌, subst, length, map, min, slice_get, IsTrue, arith}
 use Rattle.std.specs.Prelude.{if◌then◌else◌, nat_lt, nat_le, All, slice_index, slice_set, replicate, sum_by}
 use Rattle.std.specs.List.{list_all}
+use Rattle.std.specs.Option.{option_map}
 use Rattle.std.proofs.Math.Nat.{min-le_left}
 use Rattle.std.proofs.lemmas.Bool.{cases_lt, eqb-true, ltb-true, leb-true}
 use Rattle.std.proofs.lemmas.Bool.Decides.{nat_tests}
 use Rattle.std.proofs.lemmas.List.{length-set, length-map, get_or_past}
 use Rattle.std.proofs.lemmas.List.Elements.{All-set, All-replicate}
 use Rattle.std.proofs.lemmas.List.Sums.{count_by-le-length}
+use Rattle.std.proofs.lemmas.Option.{slice_get-map}
 use Rattle.paw_base.specs.declared.parts.ObjectFacts.{ObjectFacts}
 use Rattle.paw_base.specs.declared.rows.ParamKind.{ParamKind}
 use Rattle.paw_base.specs.declared.rows.ParamKind.TheVariants as kind
 use Rattle.paw_game.specs.declared.parts.Word.{Word}
 use Rattle.paw_game.specs.declared.parts.ObjectRow.{ObjectRow}
 use Rattle.paw_game.specs.Game.{GameLists}
-use Rattle.paw_game.specs.Tables.{facts_of, facts_at}
+use Rattle.paw_game.specs.Tables.{facts_at}
 use Rattle.paw_game.specs.Valid.{Valid, is_place, is_parameter, is_within, is_word, words_rise, are_letters, has_word, is_word_or_none, is_object, is_text}
 use Rattle.paw_game.proofs.Kept.{first_of_and, second_of_and, facts_kept, facts-weight}
 use Rattle.paw_world.specs.World.{World, flag, with_flag, place, with_place, here, let_go, taken_up, moved, first_carried, flags_with}
@@ -136,10 +138,8 @@ facts_small g v o f e =
     }
 
 -- the facts of a world are those of the game
-facts_same : (os : List ObjectRow) (o : ℕ) → slice_get (map (λ (r : ObjectRow). r.facts) os) o ≡ facts_of (slice_get os o)
-facts_same [] o = refl
-facts_same (r ∷ os) zero = refl
-facts_same (r ∷ os) (suc o) = facts_same os o
+facts_same : (os : List ObjectRow) (o : ℕ) → slice_get (map (λ (r : ObjectRow). r.facts) os) o ≡ option_map (λ (r : ObjectRow). r.facts) (slice_get os o)
+facts_same os o = slice_get-map (λ (r : ObjectRow). r.facts) os o
 
 module _ (g : GameLists) (v : Valid g) (seed : ℕ) where
   abbrev pub IsPlace : ℕ → Type 0
