@@ -18,7 +18,7 @@ use Rattle.paw_base.specs.Condacts.{condact_lines, line_of, first_kind, second_k
 use Rattle.paw_base.proofs.Table.{below}
 use Rattle.paw_game.specs.Game.{GameLists}
 use Rattle.paw_game.specs.declared.parts.ObjectRow.{ObjectRow}
-use Rattle.paw_game.specs.Valid.{Valid, is_within, is_place, texts_kept}
+use Rattle.paw_game.specs.Valid.{Valid, is_within, is_place, is_text, rows_kept}
 use Rattle.paw_game.specs.inner.Valid.{is_right, is_argument}
 use Rattle.paw_game.proofs.Kept.{first_of_and, facts-start}
 use Rattle.paw_game.proofs.Right.{right-code, right-first, right-second}
@@ -68,7 +68,7 @@ done_placed g false x y h k = k refl
 -- a game has a location
 first_place : (g : GameLists) → Valid g → is_place (length g.locations) 0 ≡ true
 first_place g v =
-    let some = leb-true 1 (length g.locations) (first_of_and _ (texts_kept 252 g.locations) v.locations) in
+    let some = leb-true 1 (length g.locations) (first_of_and _ (rows_kept 252 is_text g.locations) v.locations) in
     grind (arith, nat_tests)
 
 at_place : (g : GameLists) → Valid g → (places : List ℕ) (o : ℕ) → ArePlacesOf g places → is_place (length g.locations) (slice_index places o) ≡ true

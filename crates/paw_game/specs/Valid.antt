@@ -28,6 +28,10 @@ use Rattle.paw_game.specs.Game.{GameLists}
 abbrev pub is_within : ℕ → ℕ → ℕ → Bool
 is_within low high n = nat_le low n && nat_le n high
 
+-- at most so many rows, and each keeps a rule
+abbrev pub rows_kept : {A : Type 0} → ℕ → (A → Bool) → List A → Bool
+rows_kept most rule rows = nat_le (length rows) most && list_all rule rows
+
 -- ---- words ----
 
 -- a capital or a digit
@@ -85,10 +89,6 @@ is_printed first (b ∷ bs) = (is_text_byte b && not (first && begins_no_line b)
 abbrev pub is_text : List ℕ → Bool
 is_text bytes = nat_le (length bytes) TEXT_LIMIT && is_printed true bytes
 
--- the rules of texts: at most so many, and each a text
-abbrev pub texts_kept : ℕ → List (List ℕ) → Bool
-texts_kept most texts = nat_le (length texts) most && list_all is_text texts
-
 -- ---- places, objects, exits ----
 
 -- where an object may stand: a location, or not created, worn or carried
@@ -109,14 +109,6 @@ are_facts ws locations f =
 abbrev pub is_object : List Word → ℕ → ObjectRow → Bool
 is_object ws locations o = is_text o.text && are_facts ws locations o.facts
 
--- the rules of objects: not too many, and each an object
-abbrev pub objects_kept : List Word → ℕ → List ObjectRow → Bool
-objects_kept ws locations os = nat_le (length os) OBJECT_LIMIT && list_all (is_object ws locations) os
-
--- the rules of locations: there is one, and there are not too many
-abbrev pub locations_kept : List (List ℕ) → Bool
-locations_kept ls = nat_le LOCATION_LEAST (length ls) && texts_kept LOCATION_LIMIT ls
-
 -- each exit has a verb value that no exit after it has, and leads to a location
 abbrev pub are_exits : List Word → ℕ → List Exit → Bool
 are_exits ws locations [] = true
@@ -127,10 +119,6 @@ are_exits ws locations (x ∷ xs) =
 -- the exits of one location: not too many, which distinct verb values give anyhow
 abbrev pub is_exits : List Word → ℕ → List Exit → Bool
 is_exits ws locations xs = nat_le (length xs) EXIT_LIMIT && are_exits ws locations xs
-
--- one list for each location
-abbrev pub exits_kept : List Word → ℕ → List (List Exit) → Bool
-exits_kept ws locations es = (length es == locations) && list_all (is_exits ws locations) es
 
 -- ---- tables ----
 
@@ -163,24 +151,20 @@ is_any value = (value == ANY_WORD) || (value == NO_WORD)
 abbrev pub is_entry : GameLists → Entry → Bool
 is_entry g e =
     (is_any e.verb || is_verb_value g.words e.verb) && ((is_any e.noun || has_word g.words NOUN_CLASS e.noun)
-    && (nat_le (length e.condacts) CONDACT_LIMIT && list_all (is_condact g) e.condacts))
+    && rows_kept CONDACT_LIMIT (is_condact g) e.condacts)
 
 -- a table: its entries, which are not too many
 abbrev pub is_table : GameLists → List Entry → Bool
-is_table g es = nat_le (length es) ENTRY_LIMIT && list_all (is_entry g) es
-
--- the rules of tables: there are enough and not too many, and each keeps its rule
-abbrev pub tables_kept : GameLists → Bool
-tables_kept g = is_within TABLE_LEAST TABLE_LIMIT (length g.tables) && list_all (is_table g) g.tables
+is_table g es = rows_kept ENTRY_LIMIT (is_entry g) es
 
 -- ---- the whole game ----
 
--- a valid game: each of its lists keeps its rules
+-- a valid game: each list has as many rows as it may have, and each row keeps its rule; each location has its exits
 pub record Valid (g : GameLists) : Type 0 where
   pub words : IsTrue (words_kept g.words)
-  pub system : IsTrue (texts_kept SYSTEM_LIMIT g.system)
-  pub messages : IsTrue (texts_kept MESSAGE_LIMIT g.messages)
-  pub objects : IsTrue (objects_kept g.words (length g.locations) g.objects)
-  pub locations : IsTrue (locations_kept g.locations)
-  pub exits : IsTrue (exits_kept g.words (length g.locations) g.exits)
-  pub tables : IsTrue (tables_kept g)
+  pub system : IsTrue (rows_kept SYSTEM_LIMIT is_text g.system)
+  pub messages : IsTrue (rows_kept MESSAGE_LIMIT is_text g.messages)
+  pub objects : IsTrue (rows_kept OBJECT_LIMIT (is_object g.words (length g.locations)) g.objects)
+  pub locations : IsTrue (nat_le LOCATION_LEAST (length g.locations) && rows_kept LOCATION_LIMIT is_text g.locations)
+  pub exits : IsTrue ((length g.exits == length g.locations) && list_all (is_exits g.words (length g.locations)) g.exits)
+  pub tables : IsTrue (is_within TABLE_LEAST TABLE_LIMIT (length g.tables) && list_all (is_table g) g.tables)
