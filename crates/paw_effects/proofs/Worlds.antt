@@ -16,7 +16,7 @@ use Rattle.paw_base.specs.declared.rows.ParamKind.{ParamKind}
 use Rattle.paw_base.specs.declared.rows.ParamKind.TheVariants as kind
 use Rattle.paw_game.specs.declared.parts.Word.{Word}
 use Rattle.paw_game.specs.declared.parts.ObjectRow.{ObjectRow}
-use Rattle.paw_game.specs.Game.{GameLists}
+use Rattle.paw_game.specs.Game.{GameLists, counts_of}
 use Rattle.paw_game.specs.Tables.{facts_at}
 use Rattle.paw_game.specs.Valid.{Valid, is_place, is_parameter, is_within, is_word, words_rise, are_letters, has_word, is_word_or_none, is_object, is_text}
 use Rattle.paw_game.proofs.Kept.{first_of_and, second_of_and, facts_kept, facts-weight}
@@ -107,7 +107,7 @@ pub place_small : (g : GameLists) → Valid g → (p : ℕ) → IsTrue (is_place
 place_small g v p h = let few = (few_locations g v).1 in grind (arith, nat_tests)
 
 -- a parameter is a byte
-pub parameter_small : (g : GameLists) → Valid g → (k : ParamKind) (x : ℕ) → IsTrue (is_parameter g k x) → x < 256
+pub parameter_small : (g : GameLists) → Valid g → (k : ParamKind) (x : ℕ) → IsTrue (is_parameter (counts_of g) g.words k x) → x < 256
 parameter_small g v kind.Absent x h = omega (arith, eqb-true x 0 h)
 parameter_small g v kind.Location x h = omega (arith, ltb-true x (length g.locations) h, (few_locations g v).1)
 parameter_small g v kind.Place x h = let few = (few_locations g v).1 in grind (arith, nat_tests)
@@ -204,7 +204,7 @@ module _ (g : GameLists) (v : Valid g) (seed : ℕ) where
             grind (arith, nat_tests)
         go false e = let few = (few_locations g v).1 in grind (arith, nat_tests)
 
-    pub named : (w : World) → IsWorldAt g seed n w → (p : ℕ) → IsTrue (is_parameter g kind.Place p) → IsPlace (named_place w p)
+    pub named : (w : World) → IsWorldAt g seed n w → (p : ℕ) → IsTrue (is_parameter (counts_of g) g.words kind.Place p) → IsPlace (named_place w p)
     named w k p h = go (p == 255) refl
       where
         go : (b : Bool) → (p == 255) ≡ b → IsPlace (if b then here w else p)

@@ -17,7 +17,7 @@ use Rattle.paw_game.specs.declared.parts.Exit.{Exit}
 use Rattle.paw_game.specs.declared.parts.Entry.{Entry}
 use Rattle.paw_game.specs.declared.parts.GamePart.{GamePart}
 use Rattle.paw_game.specs.declared.parts.GamePart.TheVariants as part
-use Rattle.paw_game.specs.Game.{GameLists}
+use Rattle.paw_game.specs.Game.{GameLists, counts_of}
 use Rattle.paw_game.specs.Valid.{Valid, begins_no_line, is_parameter, is_printed, is_text_byte, are_exits, are_facts, is_condact, is_entry}
 use Rattle.paw_game.specs.Valid.{is_exits, is_object, is_place, is_table, is_text, is_word_or_none, is_verb_value, is_within, is_any, has_word}
 use Rattle.paw_game.specs.Tables.{condact_at, condacts_of, entry_at, exit_at, exit_of, facts_at, head_at, table_at}
@@ -255,8 +255,8 @@ keeps_other rule other c gives h =
     and_from (nat_le c.code 107) _ (first_of_and (nat_le c.code 107) _ h)
     (and_from (other (first_kind c.code) c.a) _ (gives (first_kind c.code) c.a (first_kept rule c h)) (gives (second_kind c.code) c.b (second_kept rule c h)))
 
-pub condact-first : (g : GameLists) (c : Condact) → IsTrue (is_condact g c) → IsTrue (is_parameter g (first_kind c.code) c.a)
-condact-first g c h = first_kept (is_parameter g) c h
+pub condact-first : (g : GameLists) (c : Condact) → IsTrue (is_condact g c) → IsTrue (is_parameter (counts_of g) g.words (first_kind c.code) c.a)
+condact-first g c h = first_kept (is_parameter (counts_of g) g.words) c h
 
-pub condact-second : (g : GameLists) (c : Condact) → IsTrue (is_condact g c) → IsTrue (is_parameter g (second_kind c.code) c.b)
-condact-second g c h = second_kept (is_parameter g) c h
+pub condact-second : (g : GameLists) (c : Condact) → IsTrue (is_condact g c) → IsTrue (is_parameter (counts_of g) g.words (second_kind c.code) c.b)
+condact-second g c h = second_kept (is_parameter (counts_of g) g.words) c h

@@ -12,8 +12,9 @@ use Rattle.paw_base.specs.declared.words.TheConstants.{GREATEST_WORD, FIRST_PLAI
 use Rattle.paw_base.specs.declared.limits.TheConstants.{WORD_LENGTH, WORD_LIMIT, SYSTEM_LIMIT, MESSAGE_LIMIT}
 use Rattle.paw_base.specs.declared.limits.TheConstants.{OBJECT_LIMIT, LOCATION_LEAST, LOCATION_LIMIT, TABLE_LEAST}
 use Rattle.paw_base.specs.declared.limits.TheConstants.{TABLE_LIMIT, TEXT_LIMIT, EXIT_LIMIT, ENTRY_LIMIT, CONDACT_LIMIT}
-use Rattle.paw_base.specs.declared.limits.TheConstants.{WEIGHT_LIMIT, FLAG_COUNT}
+use Rattle.paw_base.specs.declared.limits.TheConstants.{WEIGHT_LIMIT}
 use Rattle.paw_base.specs.declared.parts.Condact.{Condact}
+use Rattle.paw_base.specs.declared.parts.Counts.{Counts}
 use Rattle.paw_base.specs.declared.parts.ObjectFacts.{ObjectFacts}
 use Rattle.paw_base.specs.declared.rows.ParamKind.{ParamKind}
 use Rattle.paw_base.specs.declared.rows.ParamKind.TheVariants as kind
@@ -22,7 +23,7 @@ use Rattle.paw_game.specs.declared.parts.Word.{Word}
 use Rattle.paw_game.specs.declared.parts.ObjectRow.{ObjectRow}
 use Rattle.paw_game.specs.declared.parts.Exit.{Exit}
 use Rattle.paw_game.specs.declared.parts.Entry.{Entry}
-use Rattle.paw_game.specs.Game.{GameLists}
+use Rattle.paw_game.specs.Game.{GameLists, counts_of}
 
 -- from one number to another, both included
 abbrev pub is_within : ℕ → ℕ → ℕ → Bool
@@ -122,26 +123,26 @@ is_exits ws locations xs = nat_le (length xs) EXIT_LIMIT && are_exits ws locatio
 
 -- ---- tables ----
 
--- a parameter keeps the rule of its kind
-abbrev pub is_parameter : GameLists → ParamKind → ℕ → Bool
-is_parameter g kind.Absent x = x == 0
-is_parameter g kind.Location x = nat_lt x (length g.locations)
-is_parameter g kind.Place x = nat_lt x (length g.locations) || is_within NOT_CREATED_PLACE HERE_PLACE x
-is_parameter g kind.Object x = nat_lt x (length g.objects)
-is_parameter g kind.Flag x = nat_lt x FLAG_COUNT
-is_parameter g kind.Number x = nat_lt x 256
-is_parameter g kind.Message x = nat_lt x (length g.messages)
-is_parameter g kind.System x = nat_lt x (length g.system)
-is_parameter g kind.Table x = nat_lt x (length g.tables)
-is_parameter g kind.Adverb x = is_word_or_none g.words ADVERB_CLASS x
-is_parameter g kind.Noun x = is_word_or_none g.words NOUN_CLASS x
-is_parameter g kind.Adjective x = is_word_or_none g.words ADJECTIVE_CLASS x
-is_parameter g kind.Preposition x = is_word_or_none g.words PREPOSITION_CLASS x
+-- a parameter keeps the rule of its kind, where there are so many rows and these words; a flag or a number is a byte
+abbrev pub is_parameter : Counts → List Word → ParamKind → ℕ → Bool
+is_parameter counts ws kind.Absent x = x == 0
+is_parameter counts ws kind.Location x = nat_lt x counts.locations
+is_parameter counts ws kind.Place x = nat_lt x counts.locations || is_within NOT_CREATED_PLACE HERE_PLACE x
+is_parameter counts ws kind.Object x = nat_lt x counts.objects
+is_parameter counts ws kind.Message x = nat_lt x counts.messages
+is_parameter counts ws kind.System x = nat_lt x counts.system
+is_parameter counts ws kind.Table x = nat_lt x counts.tables
+is_parameter counts ws kind.Adverb x = is_word_or_none ws ADVERB_CLASS x
+is_parameter counts ws kind.Noun x = is_word_or_none ws NOUN_CLASS x
+is_parameter counts ws kind.Adjective x = is_word_or_none ws ADJECTIVE_CLASS x
+is_parameter counts ws kind.Preposition x = is_word_or_none ws PREPOSITION_CLASS x
+is_parameter counts ws _ x = nat_lt x 256
 
 -- a condact: a code of the table, and the parameters that it has; one that it doesn't have is 0
 abbrev pub is_condact : GameLists → Condact → Bool
 is_condact g c =
-    nat_le c.code LAST_CODE && (is_parameter g (first_kind c.code) c.a && is_parameter g (second_kind c.code) c.b)
+    nat_le c.code LAST_CODE && (is_parameter (counts_of g) g.words (first_kind c.code) c.a
+    && is_parameter (counts_of g) g.words (second_kind c.code) c.b)
 
 -- a word of an entry that matches any word
 abbrev pub is_any : ℕ → Bool
