@@ -215,7 +215,8 @@ module _ (g : GameLists) (v : Valid g) (seed n : ℕ) where
 
   second_place : (c : Condact) → is_condact g c ≡ true → (c.code == 64) ≡ true → IsTrue (is_parameter (counts_of g) g.words kind.Place c.b)
   unfolding condact_lines line_of
-  second_place c kept own = subst (λ code. IsTrue (is_parameter (counts_of g) g.words (second_kind code) c.b)) (eqb-true c.code 64 own) (condact-second g c kept)
+  second_place c kept own =
+      subst (λ code. IsTrue (is_parameter (counts_of g) g.words (second_kind code) c.b)) (eqb-true c.code 64 own) (condact-second g c kept)
 
   first_place : (c : Condact) → is_condact g c ≡ true → (c.code == 65) ≡ true → IsTrue (is_parameter (counts_of g) g.words kind.Place c.a)
   unfolding condact_lines line_of

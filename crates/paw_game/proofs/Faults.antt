@@ -99,14 +99,16 @@ is_none-texts_fault least most ts =
     is_none-row_fault least most (length ts) (first_bad is_text ts)
     ∙ ap (λ b. nat_le least (length ts) && (nat_le (length ts) most && b)) (is_none-first_bad is_text ts)
 
-is_none-objects_fault : (ws : List Word) (locations : ℕ) (os : List ObjectRow) → is_none (objects_fault ws locations os) ≡ rows_kept 255 (is_object ws locations) os
+is_none-objects_fault : (ws : List Word) (locations : ℕ) (os : List ObjectRow)
+    → is_none (objects_fault ws locations os) ≡ rows_kept 255 (is_object ws locations) os
 unfolding objects_fault
 is_none-objects_fault ws locations os =
     is_none-row_fault 0 255 (length os) (first_bad (is_object ws locations) os)
     ∙ (ap (λ b. nat_le 0 (length os) && (nat_le (length os) 255 && b)) (is_none-first_bad (is_object ws locations) os)
     ∙ at_least_zero (length os) _)
 
-is_none-exits_fault : (ws : List Word) (locations : ℕ) (es : List (List Exit)) → is_none (exits_fault ws locations es) ≡ ((length es == locations) && list_all (is_exits ws locations) es)
+is_none-exits_fault : (ws : List Word) (locations : ℕ) (es : List (List Exit))
+    → is_none (exits_fault ws locations es) ≡ ((length es == locations) && list_all (is_exits ws locations) es)
 unfolding exits_fault
 is_none-exits_fault ws locations es =
     is_none-row_fault locations locations (length es) (first_bad (is_exits ws locations) es)

@@ -167,5 +167,6 @@ pub record Valid (g : GameLists) : Type 0 where
   pub messages : IsTrue (rows_kept MESSAGE_LIMIT is_text g.messages)
   pub objects : IsTrue (rows_kept OBJECT_LIMIT (is_object g.words (length g.locations)) g.objects)
   pub locations : IsTrue (nat_le LOCATION_LEAST (length g.locations) && rows_kept LOCATION_LIMIT is_text g.locations)
-  pub exits : IsTrue ((length g.exits == length g.locations) && list_all (is_exits g.words (length g.locations)) g.exits)
+  pub exits : IsTrue ((length g.exits == length g.locations)
+      && list_all (is_exits g.words (length g.locations)) g.exits)
   pub tables : IsTrue (is_within TABLE_LEAST TABLE_LIMIT (length g.tables) && list_all (is_table g) g.tables)

@@ -129,7 +129,8 @@ trial_valid n =
       words = words_fine n;
       system = system_texts;
       messages = refl;
-      objects = subst (λ m. rows_kept 255 (is_object (words_of n) m) (rows (object_count n) (trial_object (location_count n))) ≡ true) (sym size) (objects_fine n);
+      objects = subst (λ m. rows_kept 255 (is_object (words_of n) m) (rows (object_count n) (trial_object (location_count n))) ≡ true)
+          (sym size) (objects_fine n);
       locations = locations_fine n;
       exits = subst (AreExits n) (sym size) (exits_fine n);
       tables = tables_fine n;

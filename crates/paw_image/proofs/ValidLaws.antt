@@ -49,7 +49,9 @@ parameter_fits g _ x e = tt
 condact_fits : (g : GameLists) (c : Condact) → is_condact g c ≡ true → FitsCondact c
 condact_fits g c e =
     let code = and_parts (leb c.code 107) _ e in
-    let parameters = and_parts (is_parameter (counts_of g) g.words (first_kind c.code) c.a) (is_parameter (counts_of g) g.words (second_kind c.code) c.b) code.1 in
+    let parameters =
+    and_parts (is_parameter (counts_of g) g.words (first_kind c.code) c.a)
+    (is_parameter (counts_of g) g.words (second_kind c.code) c.b) code.1 in
     record {
       code = leb-true _ _ code.0;
       a = parameter_fits g (first_kind c.code) c.a parameters.0;

@@ -152,7 +152,9 @@ pub condact_back : (p : ℕ) (g : GameLists) (c : Condact) → Small p g → is_
 condact_back p g c s h =
     let both = and_parts (leb c.code 107) _ h in
     let code : IsCode c.code = leb-true c.code 107 both.0 in
-    let parameters = and_parts (is_parameter (counts_of g) g.words (first_kind c.code) c.a) (is_parameter (counts_of g) g.words (second_kind c.code) c.b) both.1 in
+    let parameters =
+    and_parts (is_parameter (counts_of g) g.words (first_kind c.code) c.a)
+    (is_parameter (counts_of g) g.words (second_kind c.code) c.b) both.1 in
     let a = parameter_back p g (first_kind c.code) c.a s parameters.0 in
     let b = parameter_back p g (second_kind c.code) c.b s parameters.1 in
     record {
