@@ -121,9 +121,7 @@ after_exits_of d verbs (suc n) bytes = exit_kept d verbs bytes >>= λ x. after_e
 
 -- how many exits, and each
 unfoldable pub after_exits : Declared → List ℕ → Passing
-after_exits d bytes = do
-  count ← byte_at bytes
-  after_exits_of d [] count.0 count.1
+after_exits d bytes = byte_at bytes >>= λ count. after_exits_of d [] count.0 count.1
 
 -- ---- tables ----
 
@@ -149,9 +147,7 @@ after_entry d bytes = do
 
 -- how many entries, at most 4,000, and each
 unfoldable pub after_table : Declared → List ℕ → Passing
-after_table d bytes = do
-  count ← number_kept 0 ENTRY_LIMIT bytes
-  each (after_entry d) count.0 count.1
+after_table d bytes = number_kept 0 ENTRY_LIMIT bytes >>= λ count. each (after_entry d) count.0 count.1
 
 -- ---- the whole image ----
 
