@@ -195,8 +195,8 @@ condact_kept g v t e k c h =
     (second_of_and (nat_le (length at.0.condacts) 255) _ (condacts_kept g at.0 (entry_kept g v t e at.0 at.1))) at.2
 
 -- an entry with a head stands there
-head_stands : (o : Option Entry) (h : ℕ × ℕ) → option_map (λ (en : Entry). (en.verb, en.noun)) o ≡ Some h → (en : Entry) × (o ≡ Some en)
-head_stands o h e = let at = option_map-Some (λ (en : Entry). (en.verb, en.noun)) o h e in (at.0, at.1)
+head_stands : (o : Option Entry) (h : ℕ × ℕ) → option_map {U = ℕ × ℕ} (λ (en : Entry). (en.verb, en.noun)) o ≡ Some h → (en : Entry) × (o ≡ Some en)
+head_stands o h e = let at = option_map-Some {B = ℕ × ℕ} (λ (en : Entry). (en.verb, en.noun)) o h e in (at.0, at.1)
 
 pub head-small : (g : GameLists) → Valid g → (t e : ℕ) (h : ℕ × ℕ) → head_at g t e ≡ Some h → e < 4000
 head-small g v t e h i =

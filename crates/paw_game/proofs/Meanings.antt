@@ -32,7 +32,7 @@ pub record IsMeaning (m : ℕ × ℕ) : Type 0 where
 
 pub meaning_kept : (g : GameLists) → Valid g → (letters : List ℕ) (m : ℕ × ℕ) → word_at g letters ≡ Some m → IsMeaning m
 meaning_kept g v letters m e =
-    let at = option_map-Some (λ (w : Word). (w.value, w.class)) (word_of letters g.words) m e in
+    let at = option_map-Some {B = ℕ × ℕ} (λ (w : Word). (w.value, w.class)) (word_of letters g.words) m e in
     let kept = second_of_and (are_letters at.0.letters) _ (word_kept g v letters at.0 at.1) in
     let value = first_of_and (is_within 2 254 at.0.value) (nat_le at.0.class 6) kept in
     record {

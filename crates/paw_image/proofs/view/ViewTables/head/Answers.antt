@@ -12,7 +12,7 @@ pub returns-in_err-place-clause-value : goal.returns-in_err-place-clause-value
 returns-in_err-place-clause-value c =
     let none = ap (λ (ps : List (List ℕ)). slice_get (unwrap_or (slice_get ps c.args.table) []) c.args.entry)
     (sym (ap entries_of c.deref.ensures.value ∙ c.self.invariant.tables)) ∙ sym c.in_err-place.ensures.value in
-    let is = ap (option_map (λ (en : Entry). (en.verb, en.noun))) (no_entry_read c.self.inside.bytes.now c.args.table c.args.entry none) in
+    let is = ap (option_map {U = ℕ × ℕ} (λ (en : Entry). (en.verb, en.noun))) (no_entry_read c.self.inside.bytes.now c.args.table c.args.entry none) in
     c.from_residual.ensures ∙ sym (rw c.self.view_is at is)
 
 pub returns : goal.returns
