@@ -17,7 +17,7 @@ use Rattle.paw_base.specs.declared.rows.Family.TheVariants as family
 use Rattle.paw_base.specs.declared.rows.ParamKind.TheVariants as kind
 use Rattle.paw_base.specs.Condacts.{condact_lines, line_of, first_kind, second_kind, family_of}
 use Rattle.paw_game.specs.declared.parts.ObjectRow.{ObjectRow}
-use Rattle.paw_game.specs.Game.{GameLists}
+use Rattle.paw_game.specs.Game.{GameLists, counts_of}
 use Rattle.paw_game.specs.Tables.{exit_at}
 use Rattle.paw_game.specs.Valid.{Valid, is_condact, is_parameter, is_within}
 use Rattle.paw_game.proofs.Kept.{condact-first, condact-second, exit-leads}
@@ -214,13 +214,14 @@ module _ (g : GameLists) (v : Valid g) (seed n : ℕ) where
   all_so p at [] w k = k
   all_so p at (o ∷ objects) w k = all_so p at objects (moved w o p) (moved_so g v seed n w k o p at)
 
-  second_place : (c : Condact) → is_condact g c ≡ true → (c.code == 64) ≡ true → IsTrue (is_parameter g kind.Place c.b)
+  second_place : (c : Condact) → is_condact g c ≡ true → (c.code == 64) ≡ true → IsTrue (is_parameter (counts_of g) g.words kind.Place c.b)
   unfolding condact_lines line_of
-  second_place c kept own = subst (λ code. IsTrue (is_parameter g (second_kind code) c.b)) (eqb-true c.code 64 own) (condact-second g c kept)
+  second_place c kept own =
+      subst (λ code. IsTrue (is_parameter (counts_of g) g.words (second_kind code) c.b)) (eqb-true c.code 64 own) (condact-second g c kept)
 
-  first_place : (c : Condact) → is_condact g c ≡ true → (c.code == 65) ≡ true → IsTrue (is_parameter g kind.Place c.a)
+  first_place : (c : Condact) → is_condact g c ≡ true → (c.code == 65) ≡ true → IsTrue (is_parameter (counts_of g) g.words kind.Place c.a)
   unfolding condact_lines line_of
-  first_place c kept own = subst (λ code. IsTrue (is_parameter g (first_kind code) c.a)) (eqb-true c.code 65 own) (condact-first g c kept)
+  first_place c kept own = subst (λ code. IsTrue (is_parameter (counts_of g) g.words (first_kind code) c.a)) (eqb-true c.code 65 own) (condact-first g c kept)
 
   not_created : IsPlace g v seed 252
   not_created = let few = (few_locations g v).1 in grind (arith, nat_tests)
@@ -360,20 +361,20 @@ module _ (g : GameLists) (v : Valid g) (seed n : ℕ) where
       (one_action ((code == 46) || (code == 58)) action.Remove _ (λ e. record { at = fine })
       (one_action ((code == 47) || (code == 59)) (action.PutIn l) (action.TakeOut l) (λ e. record { at = h e }) (record { at = fine })))))
 
-  location_place : (x : ℕ) → IsTrue (is_parameter g kind.Location x) → IsPlace g v seed x
+  location_place : (x : ℕ) → IsTrue (is_parameter (counts_of g) g.words kind.Location x) → IsPlace g v seed x
   location_place x h = let low : x < length g.locations = ltb-true x (length g.locations) h in grind (arith, nat_tests)
 
   given_place : (c : Condact) → is_condact g c ≡ true → acts_on_given c.code ≡ true → ((c.code == 47) || (c.code == 59)) ≡ true → IsPlace g v seed c.b
   unfolding condact_lines line_of
   given_place c kept given own =
       let code : c.code ≡ 59 = grind (arith, nat_tests) in
-      location_place c.b (subst (λ k. IsTrue (is_parameter g (second_kind k) c.b)) code (condact-second g c kept))
+      location_place c.b (subst (λ k. IsTrue (is_parameter (counts_of g) g.words (second_kind k) c.b)) code (condact-second g c kept))
 
   meant_place : (c : Condact) → is_condact g c ≡ true → acts_by_name c.code ≡ true → ((c.code == 47) || (c.code == 59)) ≡ true → IsPlace g v seed c.a
   unfolding condact_lines line_of
   meant_place c kept meant own =
       let code : c.code ≡ 47 = grind (arith, nat_tests) in
-      location_place c.a (subst (λ k. IsTrue (is_parameter g (first_kind k) c.a)) code (condact-first g c kept))
+      location_place c.a (subst (λ k. IsTrue (is_parameter (counts_of g) g.words (first_kind k) c.a)) code (condact-first g c kept))
 
   done_by : (b : Bool) (x y : Done) → (b ≡ true → Is x.world) → Is y.world → Is (if b then x else y).world
   done_by true x y h k = h refl

@@ -2,7 +2,7 @@
 use Rattle.std.proofs.Common.{◌≡◌, ℕ, ◌==◌, ◌||◌, Bool, true, false, List, [], ◌∷◌, Option, Some, None, refl, sym, ap, ◌∙◌, subst, map}
 use Rattle.std.proofs.Common.{length, slice_get, arith, inl, inr, nat_lt, IsTrue}
 use Rattle.std.specs.Prelude.{if◌then◌else◌, fold, slice_index}
-use Rattle.std.specs.Option.{option_map_or}
+use Rattle.std.specs.Option.{option_map, option_map_or}
 use Rattle.std.proofs.lemmas.Bool.{cases_lt, eqb-true, leb-true}
 use Rattle.std.proofs.lemmas.Bool.Decides.{nat_tests}
 use Rattle.std.proofs.lemmas.List.{get_or_past}
@@ -17,8 +17,8 @@ use Rattle.paw_base.specs.declared.rows.ParamKind.TheVariants as kind
 use Rattle.paw_base.specs.Condacts.{condact_lines, line_of, first_kind, second_kind, family_of}
 use Rattle.paw_base.proofs.Table.{below}
 use Rattle.paw_game.specs.Game.{GameLists}
-use Rattle.paw_game.specs.Tables.{facts_of}
-use Rattle.paw_game.specs.Valid.{Valid, is_within, is_place, texts_kept}
+use Rattle.paw_game.specs.declared.parts.ObjectRow.{ObjectRow}
+use Rattle.paw_game.specs.Valid.{Valid, is_within, is_place, is_text, rows_kept}
 use Rattle.paw_game.specs.inner.Valid.{is_right, is_argument}
 use Rattle.paw_game.proofs.Kept.{first_of_and, facts-start}
 use Rattle.paw_game.proofs.Right.{right-code, right-first, right-second}
@@ -69,7 +69,7 @@ done_placed g false x y h k = k refl
 -- a game has a location
 first_place : (g : GameLists) → Valid g → is_place (length g.locations) 0 ≡ true
 first_place g v =
-    let some = leb-true 1 (length g.locations) (first_of_and _ (texts_kept 252 g.locations) v.locations) in
+    let some = leb-true 1 (length g.locations) (first_of_and _ (rows_kept 252 is_text g.locations) v.locations) in
     grind (arith, nat_tests)
 
 at_place : (g : GameLists) → Valid g → (places : List ℕ) (o : ℕ) → ArePlacesOf g places → is_place (length g.locations) (slice_index places o) ≡ true
@@ -115,7 +115,7 @@ opening_at : (g : GameLists) → Valid g → ArePlacesOf g (opening_places (map 
 opening_at g v =
     All-map (λ p. IsTrue (is_place (length g.locations) p)) (λ f. f.start) (map (λ o. o.facts) g.objects)
     (All-map (λ (f : ObjectFacts). IsTrue (is_place (length g.locations) f.start)) (λ o. o.facts) g.objects
-    (λ k d low. facts-start g v k _ (ap facts_of (slice_get-get_or g.objects k d low))))
+    (λ k d low. facts-start g v k _ (ap (option_map (λ (o : ObjectRow). o.facts)) (slice_get-get_or g.objects k d low))))
 
 begins_placed : (g : GameLists) (facts : List ObjectFacts) → Valid g → facts ≡ map (λ o. o.facts) g.objects → ArePlacesOf g (opening_places facts)
 begins_placed g facts v is = subst (λ fs. ArePlacesOf g (opening_places fs)) (sym is) (opening_at g v)

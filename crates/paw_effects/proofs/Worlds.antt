@@ -3,20 +3,21 @@ use Rattle.std.proofs.Common.{◌≡◌, ℕ, zero, suc, ◌+◌, ◌-◌, ◌<�
 use Rattle.std.proofs.Common.{inl, inr, refl, sym, ◌∙◌, subst, length, map, min, slice_get, IsTrue, arith}
 use Rattle.std.specs.Prelude.{if◌then◌else◌, not, nat_lt, nat_le, All, slice_index, slice_set, replicate, sum_by}
 use Rattle.std.specs.List.{list_all}
-use Rattle.std.specs.Option.{option_map_or}
+use Rattle.std.specs.Option.{option_map, option_map_or}
 use Rattle.std.proofs.Math.Nat.{min-le_left}
 use Rattle.std.proofs.lemmas.Bool.{cases_lt, eqb-true, ltb-true, leb-true}
 use Rattle.std.proofs.lemmas.Bool.Decides.{nat_tests}
 use Rattle.std.proofs.lemmas.List.{length-set, length-map, get_or_past}
 use Rattle.std.proofs.lemmas.List.Elements.{All-set, All-replicate}
 use Rattle.std.proofs.lemmas.List.Sums.{count_by-le-length}
+use Rattle.std.proofs.lemmas.Option.{slice_get-map}
 use Rattle.paw_base.specs.declared.parts.ObjectFacts.{ObjectFacts}
 use Rattle.paw_base.specs.declared.rows.ParamKind.{ParamKind}
 use Rattle.paw_base.specs.declared.rows.ParamKind.TheVariants as kind
 use Rattle.paw_game.specs.declared.parts.Word.{Word}
 use Rattle.paw_game.specs.declared.parts.ObjectRow.{ObjectRow}
-use Rattle.paw_game.specs.Game.{GameLists}
-use Rattle.paw_game.specs.Tables.{facts_of, facts_at}
+use Rattle.paw_game.specs.Game.{GameLists, counts_of}
+use Rattle.paw_game.specs.Tables.{facts_at}
 use Rattle.paw_game.specs.Valid.{Valid, is_place, is_parameter, is_within, is_word, words_rise, are_letters, has_word, is_word_or_none, is_object, is_text}
 use Rattle.paw_game.proofs.Kept.{first_of_and, second_of_and, facts_kept, facts-weight}
 use Rattle.paw_world.specs.World.{World, flag, with_flag, place, with_place, here, let_go, taken_up, moved, first_carried, flags_with}
@@ -106,7 +107,7 @@ pub place_small : (g : GameLists) → Valid g → (p : ℕ) → IsTrue (is_place
 place_small g v p h = let few = (few_locations g v).1 in grind (arith, nat_tests)
 
 -- a parameter is a byte
-pub parameter_small : (g : GameLists) → Valid g → (k : ParamKind) (x : ℕ) → IsTrue (is_parameter g k x) → x < 256
+pub parameter_small : (g : GameLists) → Valid g → (k : ParamKind) (x : ℕ) → IsTrue (is_parameter (counts_of g) g.words k x) → x < 256
 parameter_small g v kind.Absent x h = omega (arith, eqb-true x 0 h)
 parameter_small g v kind.Location x h = omega (arith, ltb-true x (length g.locations) h, (few_locations g v).1)
 parameter_small g v kind.Place x h = let few = (few_locations g v).1 in grind (arith, nat_tests)
@@ -137,10 +138,8 @@ facts_small g v o f e =
     }
 
 -- the facts of a world are those of the game
-facts_same : (os : List ObjectRow) (o : ℕ) → slice_get (map (λ (r : ObjectRow). r.facts) os) o ≡ facts_of (slice_get os o)
-facts_same [] o = refl
-facts_same (r ∷ os) zero = refl
-facts_same (r ∷ os) (suc o) = facts_same os o
+facts_same : (os : List ObjectRow) (o : ℕ) → slice_get (map (λ (r : ObjectRow). r.facts) os) o ≡ option_map (λ (r : ObjectRow). r.facts) (slice_get os o)
+facts_same os o = slice_get-map (λ (r : ObjectRow). r.facts) os o
 
 module _ (g : GameLists) (v : Valid g) (seed : ℕ) where
   abbrev pub IsPlace : ℕ → Type 0
@@ -205,7 +204,7 @@ module _ (g : GameLists) (v : Valid g) (seed : ℕ) where
             grind (arith, nat_tests)
         go false e = let few = (few_locations g v).1 in grind (arith, nat_tests)
 
-    pub named : (w : World) → IsWorldAt g seed n w → (p : ℕ) → IsTrue (is_parameter g kind.Place p) → IsPlace (named_place w p)
+    pub named : (w : World) → IsWorldAt g seed n w → (p : ℕ) → IsTrue (is_parameter (counts_of g) g.words kind.Place p) → IsPlace (named_place w p)
     named w k p h = go (p == 255) refl
       where
         go : (b : Bool) → (p == 255) ≡ b → IsPlace (if b then here w else p)

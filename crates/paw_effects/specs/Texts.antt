@@ -1,13 +1,13 @@
 -- The texts that a game prints.
 use Rattle.std.specs.Prelude.{ℕ, ◌==◌, List, [], ◌∷◌, ◌++◌, slice_get, if◌then◌else◌}
+use Rattle.std.specs.Option.{option_map, unwrap_or}
 use Rattle.paw_base.specs.declared.flags.TheConstants.{REFERRED_FLAG}
 use Rattle.paw_game.specs.Game.{GameLists}
-use Rattle.paw_game.specs.Tables.{or_empty, row_text}
 use Rattle.paw_world.specs.World.{World, flag}
 
 -- the text of an object, as it is; none where there is no such object
 abbrev pub object_text : GameLists → ℕ → List ℕ
-object_text g o = or_empty (row_text (slice_get g.objects o))
+object_text g o = unwrap_or (option_map (λ row. row.text) (slice_get g.objects o)) []
 
 -- each underscore is replaced by the name; the name isn't searched again
 abbrev pub with_name : List ℕ → List ℕ → List ℕ
@@ -25,16 +25,16 @@ ended_text g w (b ∷ bs) = printed_text g w (b ∷ bs) ++ 10 ∷ []
 
 -- putting a system message prints it where there is one
 abbrev pub put_text : GameLists → World → ℕ → List ℕ
-put_text g w s = printed_text g w (or_empty (slice_get g.system s))
+put_text g w s = printed_text g w (unwrap_or (slice_get g.system s) [])
 
 -- saying a system message prints it with a newline, where there is one that isn't empty
 abbrev pub say_text : GameLists → World → ℕ → List ℕ
-say_text g w s = ended_text g w (or_empty (slice_get g.system s))
+say_text g w s = ended_text g w (unwrap_or (slice_get g.system s) [])
 
 -- the description of a location, with a newline, where there is one that isn't empty
 abbrev pub location_text : GameLists → World → ℕ → List ℕ
-location_text g w l = ended_text g w (or_empty (slice_get g.locations l))
+location_text g w l = ended_text g w (unwrap_or (slice_get g.locations l) [])
 
 -- a message
 abbrev pub message_text : GameLists → World → ℕ → List ℕ
-message_text g w m = printed_text g w (or_empty (slice_get g.messages m))
+message_text g w m = printed_text g w (unwrap_or (slice_get g.messages m) [])

@@ -13,8 +13,7 @@ use Rattle.paw_game.specs.declared.parts.Exit.{Exit}
 use Rattle.paw_game.specs.declared.parts.GamePart.{GamePart}
 use Rattle.paw_game.specs.declared.parts.GamePart.TheVariants as part
 use Rattle.paw_game.specs.Game.{GameLists}
-use Rattle.paw_game.specs.Valid.{Valid, are_letters, is_word, is_text, is_object, is_exits, is_table, words_rise, words_kept, texts_kept}
-use Rattle.paw_game.specs.Valid.{objects_kept, exits_kept, tables_kept}
+use Rattle.paw_game.specs.Valid.{Valid, are_letters, is_word, is_text, is_object, is_exits, is_table, is_within, rows_kept, words_rise, words_kept}
 use Rattle.paw_game.specs.inner.Fault.{part_row_fault, first_bad, bad_word, words_fault, texts_fault}
 use Rattle.paw_game.specs.inner.Fault.{objects_fault, exits_fault, tables_fault, fault_in, game_fault}
 
@@ -94,27 +93,30 @@ is_none-words_fault ws =
 
 -- ---- the other parts
 
-is_none-texts_fault : (least most : ℕ) (ts : List (List ℕ)) → is_none (texts_fault least most ts) ≡ (nat_le least (length ts) && texts_kept most ts)
+is_none-texts_fault : (least most : ℕ) (ts : List (List ℕ)) → is_none (texts_fault least most ts) ≡ (nat_le least (length ts) && rows_kept most is_text ts)
 unfolding texts_fault
 is_none-texts_fault least most ts =
     is_none-row_fault least most (length ts) (first_bad is_text ts)
     ∙ ap (λ b. nat_le least (length ts) && (nat_le (length ts) most && b)) (is_none-first_bad is_text ts)
 
-is_none-objects_fault : (ws : List Word) (locations : ℕ) (os : List ObjectRow) → is_none (objects_fault ws locations os) ≡ objects_kept ws locations os
+is_none-objects_fault : (ws : List Word) (locations : ℕ) (os : List ObjectRow)
+    → is_none (objects_fault ws locations os) ≡ rows_kept 255 (is_object ws locations) os
 unfolding objects_fault
 is_none-objects_fault ws locations os =
     is_none-row_fault 0 255 (length os) (first_bad (is_object ws locations) os)
     ∙ (ap (λ b. nat_le 0 (length os) && (nat_le (length os) 255 && b)) (is_none-first_bad (is_object ws locations) os)
     ∙ at_least_zero (length os) _)
 
-is_none-exits_fault : (ws : List Word) (locations : ℕ) (es : List (List Exit)) → is_none (exits_fault ws locations es) ≡ exits_kept ws locations es
+is_none-exits_fault : (ws : List Word) (locations : ℕ) (es : List (List Exit))
+    → is_none (exits_fault ws locations es) ≡ ((length es == locations) && list_all (is_exits ws locations) es)
 unfolding exits_fault
 is_none-exits_fault ws locations es =
     is_none-row_fault locations locations (length es) (first_bad (is_exits ws locations) es)
     ∙ (ap (λ b. nat_le locations (length es) && (nat_le (length es) locations && b)) (is_none-first_bad (is_exits ws locations) es)
     ∙ both_ends locations (length es) _)
 
-is_none-tables_fault : (g : GameLists) → is_none (tables_fault g) ≡ tables_kept g
+is_none-tables_fault : (g : GameLists) → is_none (tables_fault g)
+    ≡ (is_within 3 256 (length g.tables) && list_all (is_table g) g.tables)
 unfolding tables_fault
 is_none-tables_fault g =
     is_none-row_fault 3 256 (length g.tables) (first_bad (is_table g) g.tables)

@@ -1,9 +1,9 @@
 -- What the rules say of the objects, texts, exits and entries of a valid game.
 use Rattle.std.proofs.Common.{◌≡◌, ℕ, zero, suc, ◌<◌, ◌≤◌, ◌==◌, ◌&&◌, ◌||◌, Bool, true, false, not, Bor, List, [], ◌∷◌, length}
 use Rattle.std.proofs.Common.{Option, Some, None, IfSome, IsTrue, nat_le, nat_lt, refl, sym, ◌∙◌, inl, inr, arith, if◌then◌else◌}
-use Rattle.std.specs.Prelude.{slice_get}
+use Rattle.std.specs.Prelude.{find, slice_get}
 use Rattle.std.specs.List.{All, list_all, slice_index_or}
-use Rattle.std.specs.Option.{option_copied}
+use Rattle.std.specs.Option.{option_copied, option_map, unwrap_or}
 use Rattle.std.proofs.lemmas.Option.{none-some, same_Some, slice_get_within, slice_get_past}
 use Rattle.std.proofs.lemmas.Bool.{and_from, and_parts, cases_lt, leb-true, ltb-true}
 use Rattle.std.proofs.lemmas.Bool.Decides.{nat_tests}
@@ -17,10 +17,10 @@ use Rattle.paw_game.specs.declared.parts.Exit.{Exit}
 use Rattle.paw_game.specs.declared.parts.Entry.{Entry}
 use Rattle.paw_game.specs.declared.parts.GamePart.{GamePart}
 use Rattle.paw_game.specs.declared.parts.GamePart.TheVariants as part
-use Rattle.paw_game.specs.Game.{GameLists}
+use Rattle.paw_game.specs.Game.{GameLists, counts_of}
 use Rattle.paw_game.specs.Valid.{Valid, begins_no_line, is_parameter, is_printed, is_text_byte, are_exits, are_facts, is_condact, is_entry}
 use Rattle.paw_game.specs.Valid.{is_exits, is_object, is_place, is_table, is_text, is_word_or_none, is_verb_value, is_within, is_any, has_word}
-use Rattle.paw_game.specs.Tables.{condact_at, condacts_of, entry_at, exit_at, exit_of, facts_at, facts_of, head_at, head_of, or_empty, table_at, row_text}
+use Rattle.paw_game.specs.Tables.{condact_at, condacts_of, entry_at, exit_at, exit_of, facts_at, head_at, table_at}
 use Rattle.paw_game.specs.inner.Tables.{text_at}
 
 -- ---- tests
@@ -42,6 +42,11 @@ pub IfSome-copied : {X : Type 0} (P : X → Type 0) (r : Option (Bor X)) (o : Op
 IfSome-copied P None o e h = tt
 IfSome-copied P (Some x) o e h = h x.now (sym e)
 
+-- what a mapped value is of
+pub option_map-Some : {A B : Type 0} (f : A → B) (o : Option A) (y : B) → option_map f o ≡ Some y → (x : A) × (o ≡ Some x) × (f x ≡ y)
+option_map-Some f None y e = absurd (none-some y e)
+option_map-Some f (Some x) y e = (x, refl, same_Some (f x) y e)
+
 -- ---- rows
 
 pub list_all-at : {X : Type 0} (rule : X → Bool) (xs : List X) (i : ℕ) (x : X) → IsTrue (list_all rule xs) → slice_get xs i ≡ Some x → IsTrue (rule x)
@@ -61,13 +66,9 @@ pub object_kept : (g : GameLists) → Valid g → (o : ℕ) (row : ObjectRow) �
 object_kept g v o row e =
     list_all-at (is_object g.words (length g.locations)) g.objects o row (second_of_and (nat_le (length g.objects) 255) _ v.objects) e
 
-facts_of-Some : (o : Option ObjectRow) (f : ObjectFacts) → facts_of o ≡ Some f → (row : ObjectRow) × (o ≡ Some row) × (row.facts ≡ f)
-facts_of-Some None f e = absurd (none-some f e)
-facts_of-Some (Some row) f e = (row, refl, same_Some row.facts f e)
-
 pub facts_kept : (g : GameLists) → Valid g → (o : ℕ) (f : ObjectFacts) → facts_at g o ≡ Some f → IsTrue (are_facts g.words (length g.locations) f)
 facts_kept g v o f e =
-    let at = facts_of-Some (slice_get g.objects o) f e in
+    let at = option_map-Some (λ (row : ObjectRow). row.facts) (slice_get g.objects o) f e in
     rw (← at.2) (second_of_and (is_text at.0.text) _ (object_kept g v o at.0 at.1))
 
 pub facts-start : (g : GameLists) → Valid g → (o : ℕ) (f : ObjectFacts) → facts_at g o ≡ Some f → IsTrue (is_place (length g.locations) f.start)
@@ -84,16 +85,12 @@ facts-weight g v o f e =
 
 -- ---- texts
 
-row_text-Some : (o : Option ObjectRow) (t : List ℕ) → row_text o ≡ Some t → (row : ObjectRow) × (o ≡ Some row) × (row.text ≡ t)
-row_text-Some None t e = absurd (none-some t e)
-row_text-Some (Some row) t e = (row, refl, same_Some row.text t e)
-
 pub text_kept : (g : GameLists) → Valid g → (p : GamePart) (n : ℕ) (t : List ℕ) → text_at g p n ≡ Some t → IsTrue (is_text t)
 text_kept g v part.Words n t e = absurd (none-some t e)
 text_kept g v part.System n t e = list_all-at is_text g.system n t (second_of_and (nat_le (length g.system) 256) _ v.system) e
 text_kept g v part.Messages n t e = list_all-at is_text g.messages n t (second_of_and (nat_le (length g.messages) 256) _ v.messages) e
 text_kept g v part.Objects n t e =
-    let at = row_text-Some (slice_get g.objects n) t e in
+    let at = option_map-Some (λ (row : ObjectRow). row.text) (slice_get g.objects n) t e in
     rw (← at.2) (first_of_and (is_text at.0.text) _ (object_kept g v n at.0 at.1))
 text_kept g v part.Locations n t e =
     list_all-at is_text g.locations n t
@@ -119,16 +116,17 @@ text-bytes t h = λ k d high. printed-bytes true t k d (second_of_and (nat_le (l
 
 -- ---- exits
 
-exit_of_step : (b : Bool) (here to locations : ℕ) (later : Option ℕ) → here < locations → (later ≡ Some to → to < locations)
-    → (if b then Some here else later) ≡ Some to → to < locations
-exit_of_step true here to locations later h k e = omega (arith, h, same_Some here to e)
+exit_of_step : (b : Bool) (here : Exit) (to locations : ℕ) (later : Option Exit) → here.to < locations
+    → (option_map (λ (x : Exit). x.to) later ≡ Some to → to < locations)
+    → option_map (λ (x : Exit). x.to) (if b then Some here else later) ≡ Some to → to < locations
+exit_of_step true here to locations later h k e = omega (arith, h, same_Some here.to to e)
 exit_of_step false here to locations later h k e = k e
 
 exit_of-leads : (ws : List Word) (locations : ℕ) (xs : List Exit) (verb to : ℕ) → IsTrue (are_exits ws locations xs)
     → exit_of xs verb ≡ Some to → to < locations
 exit_of-leads ws locations [] verb to h e = absurd (none-some to e)
 exit_of-leads ws locations (x ∷ xs) verb to h e =
-    exit_of_step (x.verb == verb) x.to to locations (exit_of xs verb)
+    exit_of_step (x.verb == verb) x to locations (find (λ (y : Exit). y.verb == verb) xs)
     (ltb-true x.to locations
     (first_of_and (nat_lt x.to locations) _ (second_of_and (is_verb_value ws x.verb) _ (first_of_and _ (are_exits ws locations xs) h))))
     (exit_of-leads ws locations xs verb to (second_of_and _ (are_exits ws locations xs) h)) e
@@ -138,7 +136,7 @@ exits_kept_at g v l xs e =
     list_all-at (is_exits g.words (length g.locations)) g.exits l xs (second_of_and (length g.exits == length g.locations) _ v.exits) e
 
 exit_in-leads : (ws : List Word) (locations : ℕ) (o : Option (List Exit)) (verb to : ℕ)
-    → ((xs : List Exit) → o ≡ Some xs → IsTrue (is_exits ws locations xs)) → exit_of (or_empty o) verb ≡ Some to → to < locations
+    → ((xs : List Exit) → o ≡ Some xs → IsTrue (is_exits ws locations xs)) → exit_of (unwrap_or o []) verb ≡ Some to → to < locations
 exit_in-leads ws locations None verb to h e = absurd (none-some to e)
 exit_in-leads ws locations (Some xs) verb to h e =
     exit_of-leads ws locations xs verb to (second_of_and (nat_le (length xs) 255) _ (h xs refl)) e
@@ -148,7 +146,7 @@ exit-leads g v l verb to e = exit_in-leads g.words (length g.locations) (slice_g
 
 -- ---- tables
 
-table_in : (g : GameLists) (o : Option (List Entry)) → ((es : List Entry) → o ≡ Some es → IsTrue (is_table g es)) → IsTrue (is_table g (or_empty o))
+table_in : (g : GameLists) (o : Option (List Entry)) → ((es : List Entry) → o ≡ Some es → IsTrue (is_table g es)) → IsTrue (is_table g (unwrap_or o []))
 table_in g None h = refl
 table_in g (Some es) h = h es refl
 
@@ -196,20 +194,20 @@ condact_kept g v t e k c h =
     list_all-at (is_condact g) at.0.condacts k c
     (second_of_and (nat_le (length at.0.condacts) 255) _ (condacts_kept g at.0 (entry_kept g v t e at.0 at.1))) at.2
 
-head_of-Some : (o : Option Entry) (h : ℕ × ℕ) → head_of o ≡ Some h → (en : Entry) × (o ≡ Some en)
-head_of-Some None h e = absurd (none-some h e)
-head_of-Some (Some en) h e = (en, refl)
+-- an entry with a head stands there
+head_stands : (o : Option Entry) (h : ℕ × ℕ) → option_map {U = ℕ × ℕ} (λ (en : Entry). (en.verb, en.noun)) o ≡ Some h → (en : Entry) × (o ≡ Some en)
+head_stands o h e = let at = option_map-Some {B = ℕ × ℕ} (λ (en : Entry). (en.verb, en.noun)) o h e in (at.0, at.1)
 
 pub head-small : (g : GameLists) → Valid g → (t e : ℕ) (h : ℕ × ℕ) → head_at g t e ≡ Some h → e < 4000
 head-small g v t e h i =
-    let at = head_of-Some (entry_at g t e) h i in
+    let at = head_stands (entry_at g t e) h i in
     entry-small g v t e at.0 at.1
 
 -- ---- where entries and condacts end
 
 pub head-within : (g : GameLists) (t e : ℕ) (h : ℕ × ℕ) → head_at g t e ≡ Some h → e < length (table_at g t)
 head-within g t e h i =
-    let at = head_of-Some (entry_at g t e) h i in
+    let at = head_stands (entry_at g t e) h i in
     slice_get_within (table_at g t) e at.0 at.1
 
 pub head-past : (g : GameLists) (t e : ℕ) → length (table_at g t) ≤ e → head_at g t e ≡ None
@@ -257,8 +255,8 @@ keeps_other rule other c gives h =
     and_from (nat_le c.code 107) _ (first_of_and (nat_le c.code 107) _ h)
     (and_from (other (first_kind c.code) c.a) _ (gives (first_kind c.code) c.a (first_kept rule c h)) (gives (second_kind c.code) c.b (second_kept rule c h)))
 
-pub condact-first : (g : GameLists) (c : Condact) → IsTrue (is_condact g c) → IsTrue (is_parameter g (first_kind c.code) c.a)
-condact-first g c h = first_kept (is_parameter g) c h
+pub condact-first : (g : GameLists) (c : Condact) → IsTrue (is_condact g c) → IsTrue (is_parameter (counts_of g) g.words (first_kind c.code) c.a)
+condact-first g c h = first_kept (is_parameter (counts_of g) g.words) c h
 
-pub condact-second : (g : GameLists) (c : Condact) → IsTrue (is_condact g c) → IsTrue (is_parameter g (second_kind c.code) c.b)
-condact-second g c h = second_kept (is_parameter g) c h
+pub condact-second : (g : GameLists) (c : Condact) → IsTrue (is_condact g c) → IsTrue (is_parameter (counts_of g) g.words (second_kind c.code) c.b)
+condact-second g c h = second_kept (is_parameter (counts_of g) g.words) c h

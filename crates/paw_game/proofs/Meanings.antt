@@ -1,5 +1,5 @@
 -- What the rules say of the words of a valid game.
-use Rattle.std.proofs.Common.{◌≡◌, ℕ, ◌≤◌, Bool, true, false, List, [], ◌∷◌, length, Option, Some, None, IsTrue, nat_le, refl, ap, if◌then◌else◌}
+use Rattle.std.proofs.Common.{◌≡◌, ℕ, ◌≤◌, Bool, true, false, List, [], ◌∷◌, length, Option, Some, IsTrue, nat_le, if◌then◌else◌}
 use Rattle.std.specs.List.{list_all}
 use Rattle.std.specs.Str.{bytes_eq}
 use Rattle.std.proofs.lemmas.Bool.{leb-true}
@@ -7,8 +7,8 @@ use Rattle.std.proofs.lemmas.Option.{none-some, same_Some}
 use Rattle.paw_game.specs.declared.parts.Word.{Word}
 use Rattle.paw_game.specs.Game.{GameLists}
 use Rattle.paw_game.specs.Valid.{Valid, are_letters, is_within, is_word, words_rise}
-use Rattle.paw_game.specs.Tables.{meaning_of, word_at, word_of}
-use Rattle.paw_game.proofs.Kept.{first_of_and, second_of_and}
+use Rattle.paw_game.specs.Tables.{word_at, word_of}
+use Rattle.paw_game.proofs.Kept.{first_of_and, second_of_and, option_map-Some}
 
 word_step : (b : Bool) (here w : Word) (later : Option Word) → IsTrue (is_word here) → (later ≡ Some w → IsTrue (is_word w))
     → (if b then Some here else later) ≡ Some w → IsTrue (is_word w)
@@ -24,10 +24,6 @@ word_in letters (x ∷ xs) w h e =
 pub word_kept : (g : GameLists) → Valid g → (letters : List ℕ) (w : Word) → word_of letters g.words ≡ Some w → IsTrue (is_word w)
 word_kept g v letters w e = word_in letters g.words w (first_of_and _ (words_rise g.words) (second_of_and (nat_le (length g.words) 2000) _ v.words)) e
 
-meaning_of-Some : (o : Option Word) (m : ℕ × ℕ) → meaning_of o ≡ Some m → (w : Word) × (o ≡ Some w) × (w.value ≡ m.0) × (w.class ≡ m.1)
-meaning_of-Some None m e = absurd (none-some m e)
-meaning_of-Some (Some w) m e = (w, refl, ap (λ p. p.0) (same_Some _ m e), ap (λ p. p.1) (same_Some _ m e))
-
 -- what a word means: a value from 2 to 254, and a class up to 6
 pub record IsMeaning (m : ℕ × ℕ) : Type 0 where
   pub low : 2 ≤ m.0
@@ -36,13 +32,13 @@ pub record IsMeaning (m : ℕ × ℕ) : Type 0 where
 
 pub meaning_kept : (g : GameLists) → Valid g → (letters : List ℕ) (m : ℕ × ℕ) → word_at g letters ≡ Some m → IsMeaning m
 meaning_kept g v letters m e =
-    let at = meaning_of-Some (word_of letters g.words) m e in
+    let at = option_map-Some {B = ℕ × ℕ} (λ (w : Word). (w.value, w.class)) (word_of letters g.words) m e in
     let kept = second_of_and (are_letters at.0.letters) _ (word_kept g v letters at.0 at.1) in
     let value = first_of_and (is_within 2 254 at.0.value) (nat_le at.0.class 6) kept in
     record {
       low = rw (← at.2) (leb-true 2 at.0.value (first_of_and (nat_le 2 at.0.value) _ value));
       high = rw (← at.2) (leb-true at.0.value 254 (second_of_and (nat_le 2 at.0.value) _ value));
-      class = rw (← at.3) (leb-true at.0.class 6 (second_of_and (is_within 2 254 at.0.value) _ kept));
+      class = rw (← at.2) (leb-true at.0.class 6 (second_of_and (is_within 2 254 at.0.value) _ kept));
     }
 
 pub rising : (g : GameLists) → Valid g → IsTrue (words_rise g.words)

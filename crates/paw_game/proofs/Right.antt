@@ -8,7 +8,7 @@ use Rattle.paw_base.specs.declared.parts.Condact.{Condact}
 use Rattle.paw_base.specs.declared.rows.ParamKind.{ParamKind}
 use Rattle.paw_base.specs.declared.rows.ParamKind.TheVariants as kind
 use Rattle.paw_game.specs.declared.parts.Word.{Word}
-use Rattle.paw_game.specs.Game.{GameLists}
+use Rattle.paw_game.specs.Game.{GameLists, counts_of}
 use Rattle.paw_game.specs.Tables.{condact_at}
 use Rattle.paw_game.specs.Valid.{Valid, are_letters, has_word, is_condact, is_parameter, is_within, is_word, is_word_or_none, words_kept}
 use Rattle.paw_game.specs.inner.Valid.{is_argument, is_right}
@@ -37,7 +37,7 @@ word_small words class x kept h =
     ] in
     grind (arith, nat_tests)
 
-right_argument : (g : GameLists) (k : ParamKind) (x : ℕ) → Valid g → IsTrue (is_parameter g k x) → IsTrue (is_argument g k x)
+right_argument : (g : GameLists) (k : ParamKind) (x : ℕ) → Valid g → IsTrue (is_parameter (counts_of g) g.words k x) → IsTrue (is_argument g k x)
 right_argument g kind.Adverb x v h = word_small g.words 1 x v.words h
 right_argument g kind.Noun x v h = word_small g.words 2 x v.words h
 right_argument g kind.Adjective x v h = word_small g.words 3 x v.words h
@@ -46,7 +46,7 @@ right_argument g k x v h = h
 
 -- each condact of a valid game can be carried out
 pub right_condact : (g : GameLists) (c : Condact) → Valid g → IsTrue (is_condact g c) → IsTrue (is_right g c)
-right_condact g c v h = keeps_other (is_parameter g) (is_argument g) c (λ k x of. right_argument g k x v of) h
+right_condact g c v h = keeps_other (is_parameter (counts_of g) g.words) (is_argument g) c (λ k x of. right_argument g k x v of) h
 
 pub right_at : (g : GameLists) → Valid g → (t e k : ℕ) (c : Condact) → condact_at g t e k ≡ Some c → IsTrue (is_right g c)
 right_at g v t e k c h = right_condact g c v (condact_kept g v t e k c h)

@@ -1,5 +1,6 @@
 -- A game as seven lists.
-use Rattle.std.specs.Prelude.{ℕ, List}
+use Rattle.std.specs.Prelude.{ℕ, List, length}
+use Rattle.paw_base.specs.declared.parts.Counts.{Counts}
 use Rattle.paw_game.specs.declared.parts.Word.{Word}
 use Rattle.paw_game.specs.declared.parts.ObjectRow.{ObjectRow}
 use Rattle.paw_game.specs.declared.parts.Exit.{Exit}
@@ -14,3 +15,13 @@ pub record GameLists : Type 0 where
   pub locations : List (List ℕ)
   pub exits : List (List Exit)
   pub tables : List (List Entry)
+
+-- so many words, system messages, messages, objects, locations and tables
+abbrev pub counts_with : ℕ → ℕ → ℕ → ℕ → ℕ → ℕ → Counts
+counts_with w s m o l t = record { words = w; system = s; messages = m; objects = o; locations = l; tables = t }
+
+-- how many rows each part of a game has
+abbrev pub counts_of : GameLists → Counts
+counts_of g =
+    counts_with (length g.words) (length g.system) (length g.messages) (length g.objects) (length g.locations)
+    (length g.tables)

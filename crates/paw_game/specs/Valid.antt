@@ -12,8 +12,9 @@ use Rattle.paw_base.specs.declared.words.TheConstants.{GREATEST_WORD, FIRST_PLAI
 use Rattle.paw_base.specs.declared.limits.TheConstants.{WORD_LENGTH, WORD_LIMIT, SYSTEM_LIMIT, MESSAGE_LIMIT}
 use Rattle.paw_base.specs.declared.limits.TheConstants.{OBJECT_LIMIT, LOCATION_LEAST, LOCATION_LIMIT, TABLE_LEAST}
 use Rattle.paw_base.specs.declared.limits.TheConstants.{TABLE_LIMIT, TEXT_LIMIT, EXIT_LIMIT, ENTRY_LIMIT, CONDACT_LIMIT}
-use Rattle.paw_base.specs.declared.limits.TheConstants.{WEIGHT_LIMIT, FLAG_COUNT}
+use Rattle.paw_base.specs.declared.limits.TheConstants.{WEIGHT_LIMIT}
 use Rattle.paw_base.specs.declared.parts.Condact.{Condact}
+use Rattle.paw_base.specs.declared.parts.Counts.{Counts}
 use Rattle.paw_base.specs.declared.parts.ObjectFacts.{ObjectFacts}
 use Rattle.paw_base.specs.declared.rows.ParamKind.{ParamKind}
 use Rattle.paw_base.specs.declared.rows.ParamKind.TheVariants as kind
@@ -22,11 +23,15 @@ use Rattle.paw_game.specs.declared.parts.Word.{Word}
 use Rattle.paw_game.specs.declared.parts.ObjectRow.{ObjectRow}
 use Rattle.paw_game.specs.declared.parts.Exit.{Exit}
 use Rattle.paw_game.specs.declared.parts.Entry.{Entry}
-use Rattle.paw_game.specs.Game.{GameLists}
+use Rattle.paw_game.specs.Game.{GameLists, counts_of}
 
 -- from one number to another, both included
 abbrev pub is_within : ℕ → ℕ → ℕ → Bool
 is_within low high n = nat_le low n && nat_le n high
+
+-- at most so many rows, and each keeps a rule
+abbrev pub rows_kept : {A : Type 0} → ℕ → (A → Bool) → List A → Bool
+rows_kept most rule rows = nat_le (length rows) most && list_all rule rows
 
 -- ---- words ----
 
@@ -85,10 +90,6 @@ is_printed first (b ∷ bs) = (is_text_byte b && not (first && begins_no_line b)
 abbrev pub is_text : List ℕ → Bool
 is_text bytes = nat_le (length bytes) TEXT_LIMIT && is_printed true bytes
 
--- the rules of texts: at most so many, and each a text
-abbrev pub texts_kept : ℕ → List (List ℕ) → Bool
-texts_kept most texts = nat_le (length texts) most && list_all is_text texts
-
 -- ---- places, objects, exits ----
 
 -- where an object may stand: a location, or not created, worn or carried
@@ -109,14 +110,6 @@ are_facts ws locations f =
 abbrev pub is_object : List Word → ℕ → ObjectRow → Bool
 is_object ws locations o = is_text o.text && are_facts ws locations o.facts
 
--- the rules of objects: not too many, and each an object
-abbrev pub objects_kept : List Word → ℕ → List ObjectRow → Bool
-objects_kept ws locations os = nat_le (length os) OBJECT_LIMIT && list_all (is_object ws locations) os
-
--- the rules of locations: there is one, and there are not too many
-abbrev pub locations_kept : List (List ℕ) → Bool
-locations_kept ls = nat_le LOCATION_LEAST (length ls) && texts_kept LOCATION_LIMIT ls
-
 -- each exit has a verb value that no exit after it has, and leads to a location
 abbrev pub are_exits : List Word → ℕ → List Exit → Bool
 are_exits ws locations [] = true
@@ -128,32 +121,28 @@ are_exits ws locations (x ∷ xs) =
 abbrev pub is_exits : List Word → ℕ → List Exit → Bool
 is_exits ws locations xs = nat_le (length xs) EXIT_LIMIT && are_exits ws locations xs
 
--- one list for each location
-abbrev pub exits_kept : List Word → ℕ → List (List Exit) → Bool
-exits_kept ws locations es = (length es == locations) && list_all (is_exits ws locations) es
-
 -- ---- tables ----
 
--- a parameter keeps the rule of its kind
-abbrev pub is_parameter : GameLists → ParamKind → ℕ → Bool
-is_parameter g kind.Absent x = x == 0
-is_parameter g kind.Location x = nat_lt x (length g.locations)
-is_parameter g kind.Place x = nat_lt x (length g.locations) || is_within NOT_CREATED_PLACE HERE_PLACE x
-is_parameter g kind.Object x = nat_lt x (length g.objects)
-is_parameter g kind.Flag x = nat_lt x FLAG_COUNT
-is_parameter g kind.Number x = nat_lt x 256
-is_parameter g kind.Message x = nat_lt x (length g.messages)
-is_parameter g kind.System x = nat_lt x (length g.system)
-is_parameter g kind.Table x = nat_lt x (length g.tables)
-is_parameter g kind.Adverb x = is_word_or_none g.words ADVERB_CLASS x
-is_parameter g kind.Noun x = is_word_or_none g.words NOUN_CLASS x
-is_parameter g kind.Adjective x = is_word_or_none g.words ADJECTIVE_CLASS x
-is_parameter g kind.Preposition x = is_word_or_none g.words PREPOSITION_CLASS x
+-- a parameter keeps the rule of its kind, where there are so many rows and these words; a flag or a number is a byte
+abbrev pub is_parameter : Counts → List Word → ParamKind → ℕ → Bool
+is_parameter counts ws kind.Absent x = x == 0
+is_parameter counts ws kind.Location x = nat_lt x counts.locations
+is_parameter counts ws kind.Place x = nat_lt x counts.locations || is_within NOT_CREATED_PLACE HERE_PLACE x
+is_parameter counts ws kind.Object x = nat_lt x counts.objects
+is_parameter counts ws kind.Message x = nat_lt x counts.messages
+is_parameter counts ws kind.System x = nat_lt x counts.system
+is_parameter counts ws kind.Table x = nat_lt x counts.tables
+is_parameter counts ws kind.Adverb x = is_word_or_none ws ADVERB_CLASS x
+is_parameter counts ws kind.Noun x = is_word_or_none ws NOUN_CLASS x
+is_parameter counts ws kind.Adjective x = is_word_or_none ws ADJECTIVE_CLASS x
+is_parameter counts ws kind.Preposition x = is_word_or_none ws PREPOSITION_CLASS x
+is_parameter counts ws _ x = nat_lt x 256
 
 -- a condact: a code of the table, and the parameters that it has; one that it doesn't have is 0
 abbrev pub is_condact : GameLists → Condact → Bool
 is_condact g c =
-    nat_le c.code LAST_CODE && (is_parameter g (first_kind c.code) c.a && is_parameter g (second_kind c.code) c.b)
+    nat_le c.code LAST_CODE && (is_parameter (counts_of g) g.words (first_kind c.code) c.a
+    && is_parameter (counts_of g) g.words (second_kind c.code) c.b)
 
 -- a word of an entry that matches any word
 abbrev pub is_any : ℕ → Bool
@@ -163,24 +152,21 @@ is_any value = (value == ANY_WORD) || (value == NO_WORD)
 abbrev pub is_entry : GameLists → Entry → Bool
 is_entry g e =
     (is_any e.verb || is_verb_value g.words e.verb) && ((is_any e.noun || has_word g.words NOUN_CLASS e.noun)
-    && (nat_le (length e.condacts) CONDACT_LIMIT && list_all (is_condact g) e.condacts))
+    && rows_kept CONDACT_LIMIT (is_condact g) e.condacts)
 
 -- a table: its entries, which are not too many
 abbrev pub is_table : GameLists → List Entry → Bool
-is_table g es = nat_le (length es) ENTRY_LIMIT && list_all (is_entry g) es
-
--- the rules of tables: there are enough and not too many, and each keeps its rule
-abbrev pub tables_kept : GameLists → Bool
-tables_kept g = is_within TABLE_LEAST TABLE_LIMIT (length g.tables) && list_all (is_table g) g.tables
+is_table g es = rows_kept ENTRY_LIMIT (is_entry g) es
 
 -- ---- the whole game ----
 
--- a valid game: each of its lists keeps its rules
+-- a valid game: each list has as many rows as it may have, and each row keeps its rule; each location has its exits
 pub record Valid (g : GameLists) : Type 0 where
   pub words : IsTrue (words_kept g.words)
-  pub system : IsTrue (texts_kept SYSTEM_LIMIT g.system)
-  pub messages : IsTrue (texts_kept MESSAGE_LIMIT g.messages)
-  pub objects : IsTrue (objects_kept g.words (length g.locations) g.objects)
-  pub locations : IsTrue (locations_kept g.locations)
-  pub exits : IsTrue (exits_kept g.words (length g.locations) g.exits)
-  pub tables : IsTrue (tables_kept g)
+  pub system : IsTrue (rows_kept SYSTEM_LIMIT is_text g.system)
+  pub messages : IsTrue (rows_kept MESSAGE_LIMIT is_text g.messages)
+  pub objects : IsTrue (rows_kept OBJECT_LIMIT (is_object g.words (length g.locations)) g.objects)
+  pub locations : IsTrue (nat_le LOCATION_LEAST (length g.locations) && rows_kept LOCATION_LIMIT is_text g.locations)
+  pub exits : IsTrue ((length g.exits == length g.locations)
+      && list_all (is_exits g.words (length g.locations)) g.exits)
+  pub tables : IsTrue (is_within TABLE_LEAST TABLE_LIMIT (length g.tables) && list_all (is_table g) g.tables)

@@ -2,6 +2,7 @@
 
 ghost use Rattle.std.specs.Prelude.{◌≡◌, ◌&&◌, ◌==◌, ◌<◌, ◌^◌, IfSome, length, nat_lt};
 ghost use Rattle.std.specs.List.{list_all, list_any};
+ghost use Rattle.paw_game.specs.Game.{counts_of};
 ghost use Rattle.paw_game.specs.inner.Fault.{exits_fault, first_bad, objects_fault, tables_fault};
 ghost use Rattle.paw_game.specs.Valid.{are_exits, are_facts, is_condact, is_entry, is_exits, is_object};
 ghost use Rattle.paw_game.specs.Valid.{is_parameter, is_place, is_table, is_verb_value};
@@ -221,7 +222,7 @@ impl<'a> Inspector<'a> {
     }
 
     fn is_parameter(&self, kind: ParamKind, value: u8) -> bool
-        ensures value { result ≡ is_parameter self.now kind value }
+        ensures value { result ≡ is_parameter (counts_of self.now) self.now.words kind value }
     {
         let parts = self.parts;
         match kind {

@@ -1,10 +1,10 @@
 // What a game's lists hold at a number.
 
 ghost use Rattle.std.specs.Prelude.{◌≡◌, ◌≤◌, ◌<◌, IfSome, IsTrue, drop, length, slice_get};
-ghost use Rattle.std.specs.Option.{option_copied};
+ghost use Rattle.std.specs.Option.{option_copied, option_map};
 ghost use Rattle.paw_game.specs.Valid.{words_rise};
 ghost use Rattle.paw_game.specs.Tables.{condact_at, entry_at, exit_at, exit_of, facts_at, head_at};
-ghost use Rattle.paw_game.specs.Tables.{is_for, matches, row_text, word_at, word_of};
+ghost use Rattle.paw_game.specs.Tables.{is_for, matches, word_at, word_of};
 ghost use Rattle.paw_game.specs.inner.Tables.{first_match, match_at, text_at};
 
 use crate::parts::{Entry, Exit, GamePart, GameParts, ObjectRow, Text, Word};
@@ -38,7 +38,7 @@ fn text_in(texts: &[Text], number: u8) -> Option<&[u8]>
 }
 
 fn object_text(objects: &[ObjectRow], number: u8) -> Option<&[u8]>
-    ensures value { option_copied result ≡ row_text (slice_get objects.now number) }
+    ensures value { option_copied result ≡ option_map (λ row. row.text) (slice_get objects.now number) }
 {
     let row = objects.get(number as usize)?;
     let text = &row.text;

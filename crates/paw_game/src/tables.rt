@@ -7,10 +7,10 @@ use paw_base::parts::{Condact, Counts, ObjectFacts};
 pub trait Tables {
     ghost use Rattle.std.specs.Prelude.{◌≡◌, ◌≤◌, ◌<◌, length, IsTrue, IfSome, OnSome};
     ghost use Rattle.std.specs.Option.{option_copied};
-    ghost use Rattle.paw_game.specs.Game.{GameLists};
+    ghost use Rattle.paw_game.specs.Game.{GameLists, counts_of};
     ghost use Rattle.paw_game.specs.Valid.{Valid, is_condact, is_place};
     ghost use Rattle.paw_game.specs.Tables.{facts_at, exit_at, head_at, condact_at, word_at};
-    ghost use Rattle.paw_game.specs.inner.Tables.{counts_of, text_at, match_at, matches_at};
+    ghost use Rattle.paw_game.specs.inner.Tables.{text_at, match_at, matches_at};
 
     /// The game.
     ghost game: { Self → GameLists };

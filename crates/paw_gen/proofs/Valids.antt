@@ -1,5 +1,5 @@
 -- The game of every trial is valid.
-use Rattle.std.proofs.Common.{◌≡◌, ℕ, ◌+◌, ◌*◌, ◌-◌, ◌%◌, ◌<◌, true, List, [], ◌∷◌, ◌++◌, length, drop, refl, sym, ap, ◌∙◌, subst, arith, append_assoc}
+use Rattle.std.proofs.Common.{◌≡◌, ℕ, ◌+◌, ◌*◌, ◌-◌, ◌%◌, ◌<◌, Bool, true, List, [], ◌∷◌, ◌++◌, length, drop, refl, sym, ap, ◌∙◌, subst, arith, append_assoc}
 use Rattle.std.specs.Prelude.{◌&&◌, ◌||◌, ◌==◌, nat_lt, nat_le}
 use Rattle.std.specs.List.{list_all, list_any}
 use Rattle.std.specs.Ordering.{is_lt, nat_cmp}
@@ -10,7 +10,7 @@ use Rattle.paw_base.specs.Condacts.{condact_lines, line_of}
 use Rattle.paw_game.specs.declared.parts.Word.{Word}
 use Rattle.paw_game.specs.Game.{GameLists}
 use Rattle.paw_game.specs.Valid.{Valid, is_within, is_word, is_text, words_rise, words_kept, has_word, is_word_or_none, is_verb_value, is_object}
-use Rattle.paw_game.specs.Valid.{objects_kept, is_exits, exits_kept, locations_kept, is_condact, tables_kept}
+use Rattle.paw_game.specs.Valid.{is_exits, is_condact, is_table, rows_kept}
 use Rattle.paw_gen.specs.Trial.{rows, named_words, object_word, object_count, location_count, trial_object, trial_object_text, trial_location_text}
 use Rattle.paw_gen.specs.Trial.{ring_exits, condact_with, trial_game}
 use Rattle.paw_gen.proofs.Truths.{and_both, or_true, or_right, le_true, lt_true, eq_true}
@@ -62,7 +62,7 @@ object_fine n k low =
     (ap (λ b. b || is_within 252 254 (7 * k % location_count n)) (lt_true (7 * k % location_count n) (location_count n) (omega arith)))
     (le_true (k % 4) 63 (omega arith))))
 
-objects_fine : (n : ℕ) → objects_kept (words_of n) (location_count n) (rows (object_count n) (trial_object (location_count n))) ≡ true
+objects_fine : (n : ℕ) → rows_kept 255 (is_object (words_of n) (location_count n)) (rows (object_count n) (trial_object (location_count n))) ≡ true
 objects_fine n =
     and_both (le_true (length (rows (object_count n) (trial_object (location_count n)))) 255
     (omega (arith, length_rows (trial_object (location_count n)) (object_count n))))
@@ -70,7 +70,8 @@ objects_fine n =
 
 -- ---- locations and exits ----
 
-locations_fine : (n : ℕ) → locations_kept (rows (location_count n) trial_location_text) ≡ true
+locations_fine : (n : ℕ) → (nat_le 1 (length (rows (location_count n) trial_location_text))
+    && rows_kept 252 is_text (rows (location_count n) trial_location_text)) ≡ true
 locations_fine n =
     let size : length (rows (location_count n) trial_location_text) ≡ location_count n = length_rows trial_location_text (location_count n) in
     and_both (le_true 1 (length (rows (location_count n) trial_location_text)) (omega (arith, size)))
@@ -90,7 +91,13 @@ exits_of_one n k =
     lt_true ((k + location_count n - 1) % location_count n) (location_count n) (omega arith) in
     and_both (and_both (north_known n) (and_both north refl)) (and_both (and_both (south_known n) (and_both south refl)) refl)
 
-exits_fine : (n : ℕ) → exits_kept (words_of n) (location_count n) (rows (location_count n) (ring_exits (location_count n))) ≡ true
+-- one list of exits for each location
+abbrev AreExits : ℕ → ℕ → Type 0
+AreExits n locations =
+    ((length (rows (location_count n) (ring_exits (location_count n))) == locations)
+    && list_all (is_exits (words_of n) locations) (rows (location_count n) (ring_exits (location_count n)))) ≡ true
+
+exits_fine : (n : ℕ) → AreExits n (location_count n)
 exits_fine n =
     and_both (eq_true (length (rows (location_count n) (ring_exits (location_count n)))) (location_count n)
     (length_rows (ring_exits (location_count n)) (location_count n)))
@@ -103,7 +110,11 @@ doall_fine : (g : GameLists) (p : ℕ) → is_within 252 255 p ≡ true → is_c
 unfolding condact_lines line_of
 doall_fine g p h = and_both (or_right (nat_lt p (length g.locations)) h) refl
 
-tables_fine : (n : ℕ) → tables_kept (trial_game n) ≡ true
+-- enough tables and not too many, each by its rule
+abbrev tables_keep : GameLists → Bool
+tables_keep g = is_within 3 256 (length g.tables) && list_all (is_table g) g.tables
+
+tables_fine : (n : ℕ) → tables_keep (trial_game n) ≡ true
 unfolding condact_lines line_of trial_game
 tables_fine n =
     and_both (and_both (and_both (doall_fine (trial_game n) 255 refl) refl) (and_both (and_both (doall_fine (trial_game n) 254 refl) refl) refl)) refl
@@ -118,8 +129,9 @@ trial_valid n =
       words = words_fine n;
       system = system_texts;
       messages = refl;
-      objects = subst (λ m. objects_kept (words_of n) m (rows (object_count n) (trial_object (location_count n))) ≡ true) (sym size) (objects_fine n);
+      objects = subst (λ m. rows_kept 255 (is_object (words_of n) m) (rows (object_count n) (trial_object (location_count n))) ≡ true)
+          (sym size) (objects_fine n);
       locations = locations_fine n;
-      exits = subst (λ m. exits_kept (words_of n) m (rows (location_count n) (ring_exits (location_count n))) ≡ true) (sym size) (exits_fine n);
+      exits = subst (AreExits n) (sym size) (exits_fine n);
       tables = tables_fine n;
     }

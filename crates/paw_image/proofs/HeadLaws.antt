@@ -12,8 +12,7 @@ use Rattle.std.proofs.lemmas.List.{length-append}
 use Rattle.std.proofs.lemmas.Slice.Eq.{bytes_eq-Decides}
 use Rattle.paw_base.specs.declared.parts.Counts.{Counts}
 use Rattle.paw_game.specs.declared.parts.Word.{Word}
-use Rattle.paw_game.specs.Game.{GameLists}
-use Rattle.paw_game.specs.inner.Tables.{counts_of}
+use Rattle.paw_game.specs.Game.{GameLists, counts_of}
 use Rattle.paw_game.specs.Valid.{is_within, are_letters, is_word}
 use Rattle.paw_game.specs.Image.{two_bytes, word_image}
 use Rattle.paw_game.proofs.Faults.{rise_after}

@@ -11,11 +11,11 @@ use Rattle.paw_game.specs.declared.parts.Exit.{Exit}
 use Rattle.paw_game.specs.Image.{two_bytes, text_image, weight_byte, object_image, exit_image, exits_image}
 use Rattle.paw_game.specs.Image.{parameter_image, condact_image, entry_image, table_image}
 use Rattle.paw_game.specs.Valid.{is_within, is_printed, is_text, is_word_or_none, is_place, are_facts}
-use Rattle.paw_game.specs.Valid.{is_object, is_verb_value, are_exits, is_exits, is_any, has_word}
+use Rattle.paw_game.specs.Valid.{is_object, is_verb_value, are_exits, is_exits, is_any, is_parameter, has_word}
 use Rattle.paw_base.specs.Faults.{◌>>=◌}
 use Rattle.paw_image.specs.Reading.{byte_at}
 use Rattle.paw_image.specs.Damage.{Declared, field_kept, number_kept, after_text, after_facts, after_object}
-use Rattle.paw_image.specs.Damage.{exit_kept, after_exits_of, after_exits, keeps_kind, after_parameter}
+use Rattle.paw_image.specs.Damage.{exit_kept, after_exits_of, after_exits, after_parameter}
 use Rattle.paw_image.specs.Damage.{after_condact, after_entry, after_table}
 use Rattle.paw_image.proofs.FieldLaws.{bytes_again, number_again}
 use Rattle.paw_image.proofs.SoundRows.{none_of, none_of-one_more, none_of-none, keeps_condact, keeps_entry, keeps_table}
@@ -91,15 +91,15 @@ exits_pass d xs rest h = exits_pass_of d [] xs rest (none_of-none xs) (and_parts
 byte_passes : (rule : ℕ → Bool) (x : ℕ) (rest : List ℕ) → rule x ≡ true → (field_kept rule byte_at (x ∷ rest) >>= λ y. Ok y.1) ≡ Ok rest
 byte_passes rule x rest h = rw h refl
 
-parameter_passes : (d : Declared) (k : ParamKind) → PassesRow (after_parameter d k) (parameter_image k) (keeps_kind d k)
+parameter_passes : (d : Declared) (k : ParamKind) → PassesRow (after_parameter d k) (parameter_image k) (is_parameter d.counts d.words k)
 parameter_passes d kind.Absent x rest h = refl
-parameter_passes d k x rest h = byte_passes (keeps_kind d k) x rest h
+parameter_passes d k x rest h = byte_passes (is_parameter d.counts d.words k) x rest h
 
 condact_passes : (d : Declared) → PassesRow (after_condact d) condact_image (keeps_condact d)
 unfolding after_condact
 condact_passes d c rest h =
     let code = and_parts (leb c.code 107) _ h in
-    let both = and_parts (keeps_kind d (first_kind c.code) c.a) (keeps_kind d (second_kind c.code) c.b) code.1 in
+    let both = and_parts (is_parameter d.counts d.words (first_kind c.code) c.a) (is_parameter d.counts d.words (second_kind c.code) c.b) code.1 in
     let first = parameter_image (first_kind c.code) c.a in
     let second = parameter_image (second_kind c.code) c.b in
     let regrouped : condact_image c ++ rest ≡ c.code ∷ (first ++ (second ++ rest)) = ap (λ (t : List ℕ). c.code ∷ t) (append_assoc first second rest) in

@@ -1,8 +1,9 @@
 -- What stands in an image where a row begins.
 use Rattle.std.proofs.Common.{◌≡◌, ℕ, zero, suc, ◌+◌, ◌-◌, ◌<◌, List, [], ◌∷◌, ◌++◌, length, take, drop, Option}
-use Rattle.std.proofs.Common.{Some, None, Ok, refl, sym, ap, subst, ◌∙◌, append_assoc, inl, inr, arith}
+use Rattle.std.proofs.Common.{Bool, true, false, cond, eqb, Some, None, Ok, refl, sym, ap, subst, ◌∙◌, append_assoc, inl, inr, arith}
 use Rattle.std.specs.Prelude.{slice_get}
-use Rattle.std.specs.List.{flat_map, AllByRecursion}
+use Rattle.std.specs.List.{find, flat_map, AllByRecursion}
+use Rattle.std.specs.Option.{option_map, unwrap_or}
 use Rattle.std.proofs.lemmas.Bool.{lt-ltb, le-ltb, cases_lt}
 use Rattle.std.proofs.lemmas.List.{drop_at, drop-drop, length-append, take_at}
 use Rattle.std.proofs.lemmas.Option.{none-some, same_Some, slice_get_past}
@@ -13,7 +14,7 @@ use Rattle.paw_game.specs.declared.parts.Entry.{Entry}
 use Rattle.paw_game.specs.declared.parts.GamePart.{GamePart}
 use Rattle.paw_game.specs.declared.parts.GamePart.TheVariants as part
 use Rattle.paw_game.specs.Game.{GameLists}
-use Rattle.paw_game.specs.Tables.{or_empty, row_text, exit_of, facts_at, facts_of}
+use Rattle.paw_game.specs.Tables.{exit_of, facts_at}
 use Rattle.paw_game.specs.inner.Tables.{text_at}
 use Rattle.paw_game.specs.Image.{two_bytes, word_image, text_image, object_image, exit_image, exits_image}
 use Rattle.paw_game.specs.Image.{condact_image, entry_image, table_image, weight_byte, image}
@@ -114,7 +115,7 @@ text_there bytes rest texts begin k p fits lies h =
 
 text_of_object : (bytes : List ℕ) (os : List ObjectRow) (k p : ℕ) → AllByRecursion FitsObject os
     → RowAt object_image bytes (slice_get os k) p
-    → value_of (inner_reading.text_at (drop p bytes)) ≡ row_text (slice_get os k)
+    → value_of (inner_reading.text_at (drop p bytes)) ≡ option_map (λ (o : ObjectRow). o.text) (slice_get os k)
 text_of_object bytes os k p fits r =
     let o = r.row in
     let facts = o.facts.noun ∷ o.facts.adjective ∷ o.facts.start ∷ weight_byte o.facts.weight o.facts.container o.facts.wearable ∷ [] in
@@ -164,21 +165,27 @@ no_facts g k h = rw (no_row object_image g.objects (objects_begin g) k h) refl
 
 -- ---- exits ----
 
+exit_first : (b : Bool) (x : Exit) (later : Option Exit) → cond b (Some x.to) (option_map (λ (y : Exit). y.to) later)
+    ≡ option_map (λ (y : Exit). y.to) (cond b (Some x) later)
+exit_first true x later = refl
+exit_first false x later = refl
+
 exit_found : (verb : ℕ) (xs : List Exit) (rest : List ℕ) → exit_in verb (length xs) (flat_map exit_image xs ++ rest) ≡ exit_of xs verb
 unfolding exit_in
 exit_found verb [] rest = refl
-exit_found verb (x ∷ xs) rest = rw (exit_found verb xs rest) refl
+exit_found verb (x ∷ xs) rest =
+    rw (exit_found verb xs rest) (exit_first (eqb x.verb verb) x (find (λ (y : Exit). eqb y.verb verb) xs))
 
 pub exit_there : (bytes : List ℕ) (g : GameLists) → ListsAt bytes g → (verb k at : ℕ)
     → slice_get (places exits_image (exits_begin g) g.exits) k ≡ Some at
-    → exits_here verb (drop at bytes) ≡ exit_of (or_empty (slice_get g.exits k)) verb
+    → exits_here verb (drop at bytes) ≡ exit_of (unwrap_or (slice_get g.exits k) []) verb
 unfolding exits_here
 exit_there bytes g l verb k at h =
     let r = row_lies exits_image bytes l.after_exits g.exits (exits_begin g) l.exits k at h in
     rw (r.lies, r.is) (exit_found verb r.row r.after)
 
 pub no_exit : (g : GameLists) (verb k : ℕ) → slice_get (places exits_image (exits_begin g) g.exits) k ≡ None
-    → exit_of (or_empty (slice_get g.exits k)) verb ≡ None
+    → exit_of (unwrap_or (slice_get g.exits k) []) verb ≡ None
 no_exit g verb k h = rw (no_row exits_image g.exits (exits_begin g) k h) refl
 
 -- ---- entries ----
@@ -218,7 +225,7 @@ no_table (es ∷ ts) at zero h = absurd (none-some (places entry_image (at + 2) 
 no_table (es ∷ ts) at (suc t) h = no_table ts (at + length (table_image es)) t h
 
 entry_in_table : (bytes : List ℕ) (found : Option (List Entry)) (begin : Option (List ℕ)) (k p : ℕ) → ((ps : List ℕ) → begin ≡ Some ps → TableAt bytes found ps)
-    → slice_get (or_empty begin) k ≡ Some p → RowAt entry_image bytes (slice_get (or_empty found) k) p
+    → slice_get (unwrap_or begin []) k ≡ Some p → RowAt entry_image bytes (slice_get (unwrap_or found []) k) p
 entry_in_table bytes found None k p there h = absurd (none-some p h)
 entry_in_table bytes found (Some ps) k p there h =
     let t = there ps refl in
@@ -226,21 +233,21 @@ entry_in_table bytes found (Some ps) k p there h =
 
 -- the entry that stands at the place where it begins
 pub entry_lies : (bytes : List ℕ) (g : GameLists) → ListsAt bytes g → (t k p : ℕ)
-    → slice_get (or_empty (slice_get (entry_places (tables_begin_at g) g.tables) t)) k ≡ Some p
-    → RowAt entry_image bytes (slice_get (or_empty (slice_get g.tables t)) k) p
+    → slice_get (unwrap_or (slice_get (entry_places (tables_begin_at g) g.tables) t) []) k ≡ Some p
+    → RowAt entry_image bytes (slice_get (unwrap_or (slice_get g.tables t) []) k) p
 entry_lies bytes g l t k p h =
     entry_in_table bytes (slice_get g.tables t) (slice_get (entry_places (tables_begin_at g) g.tables) t) k p
     (table_lies bytes [] g.tables (tables_begin_at g) l.tables t) h
 
-no_entry_in : (ts : List (List Entry)) (at t k : ℕ) → slice_get (or_empty (slice_get (entry_places at ts) t)) k ≡ None
-    → slice_get (or_empty (slice_get ts t)) k ≡ None
+no_entry_in : (ts : List (List Entry)) (at t k : ℕ) → slice_get (unwrap_or (slice_get (entry_places at ts) t) []) k ≡ None
+    → slice_get (unwrap_or (slice_get ts t) []) k ≡ None
 no_entry_in [] at t k h = refl
 no_entry_in (es ∷ ts) at zero k h = no_row entry_image es (at + 2) k h
 no_entry_in (es ∷ ts) at (suc t) k h = no_entry_in ts (at + length (table_image es)) t k h
 
 pub no_entry : (g : GameLists) (t k : ℕ)
-    → slice_get (or_empty (slice_get (entry_places (tables_begin_at g) g.tables) t)) k ≡ None
-    → slice_get (or_empty (slice_get g.tables t)) k ≡ None
+    → slice_get (unwrap_or (slice_get (entry_places (tables_begin_at g) g.tables) t) []) k ≡ None
+    → slice_get (unwrap_or (slice_get g.tables t) []) k ≡ None
 no_entry g t k h = no_entry_in g.tables (tables_begin_at g) t k h
 
 -- ---- condacts ----

@@ -12,18 +12,17 @@ use Rattle.paw_base.specs.declared.rows.ParamKind.TheVariants as kind
 use Rattle.paw_base.specs.Condacts.{first_kind, second_kind}
 use Rattle.paw_game.specs.declared.parts.Exit.{Exit}
 use Rattle.paw_game.specs.declared.parts.Entry.{Entry}
-use Rattle.paw_game.specs.Game.{GameLists}
-use Rattle.paw_game.specs.inner.Tables.{counts_of}
+use Rattle.paw_game.specs.Game.{GameLists, counts_of}
 use Rattle.paw_game.specs.Image.{two_bytes, text_image, exit_image, parameter_image, condact_image, entry_image, table_image}
 use Rattle.paw_game.specs.Valid.{is_within, is_printed, is_text, is_word_or_none, is_place, are_facts}
 use Rattle.paw_game.specs.Valid.{is_object, is_verb_value, are_exits, is_exits, is_parameter}
-use Rattle.paw_game.specs.Valid.{is_condact, is_any, has_word, is_entry, is_table}
+use Rattle.paw_game.specs.Valid.{is_any, has_word, is_table}
 use Rattle.paw_base.specs.Faults.{◌>>=◌}
 use Rattle.paw_image.specs.Reading.{byte_at, bytes_at, number_at}
 use Rattle.paw_image.specs.inner.Reading.{few_at, pair_at, leading_rows, text_at, facts_with, leading_facts, object_at, leading_exit, exits_at}
 use Rattle.paw_image.specs.inner.Reading.{code_at, parameter_at, leading_condact, leading_entry, leading_table}
 use Rattle.paw_image.specs.Damage.{Declared, field_kept, each, after_text, after_facts, after_object}
-use Rattle.paw_image.specs.Damage.{exit_kept, after_exits_of, after_exits, keeps_kind, after_parameter}
+use Rattle.paw_image.specs.Damage.{exit_kept, after_exits_of, after_exits, after_parameter}
 use Rattle.paw_image.specs.Damage.{after_condact, after_entry, after_table}
 use Rattle.paw_image.specs.inner.Places.{places, entry_places, entries_begin, tables_begin}
 use Rattle.paw_image.proofs.FieldLaws.{IsBytes, at_ok, bind_then, byte_takes, number_takes}
@@ -157,7 +156,7 @@ exits_sound d bytes rest fits e =
 
 -- the rules of condacts, entries and tables, by what the front declares
 abbrev pub keeps_condact : Declared → Condact → Bool
-keeps_condact d c = leb c.code 107 && (keeps_kind d (first_kind c.code) c.a && keeps_kind d (second_kind c.code) c.b)
+keeps_condact d c = leb c.code 107 && (is_parameter d.counts d.words (first_kind c.code) c.a && is_parameter d.counts d.words (second_kind c.code) c.b)
 
 abbrev pub keeps_entry : Declared → Entry → Bool
 keeps_entry d e =
@@ -172,10 +171,10 @@ byte_sound rule bytes rest e =
     kept_then _ rule byte_at bytes _ rest e (λ x x_ok x_kept e.
     record { value = x.0; reads = at_ok (λ (r : List ℕ). byte_at bytes ≡ Ok (x.0, r)) x.1 rest e x_ok; keeps = x_kept })
 
-parameter_sound : (d : Declared) (k : ParamKind) → SoundRow (after_parameter d k) (parameter_at k) (keeps_kind d k)
+parameter_sound : (d : Declared) (k : ParamKind) → SoundRow (after_parameter d k) (parameter_at k) (is_parameter d.counts d.words k)
 parameter_sound d kind.Absent bytes rest fits e =
     record { value = 0; reads = at_ok (λ (r : List ℕ). parameter_at kind.Absent bytes ≡ Ok (0, r)) bytes rest e refl; keeps = refl }
-parameter_sound d k bytes rest fits e = byte_sound (keeps_kind d k) bytes rest e
+parameter_sound d k bytes rest fits e = byte_sound (is_parameter d.counts d.words k) bytes rest e
 
 code_is : (bytes : List ℕ) → code_at bytes ≡ field_kept (λ c. leb c 107) byte_at bytes
 code_is [] = refl
@@ -191,7 +190,7 @@ condact_sound d bytes rest fits e =
     let code_fits = (byte_takes bytes code fits code_ok).0.rest_fits in
     let a = parameter_sound d first code.1 after code_fits after_ok in
     let b = parameter_sound d second after rest
-    (rest_fits (parameter_at first) (parameter_image first) (keeps_kind d first) (parameter_takes first) code.1
+    (rest_fits (parameter_at first) (parameter_image first) (is_parameter d.counts d.words first) (parameter_takes first) code.1
     after code_fits a) e in
     let code_read : code_at bytes ≡ Ok code = code_is bytes ∙ rw (code_ok, code_kept) refl in
     record {
@@ -275,22 +274,5 @@ tables_placed d (suc n) bytes rest fits e =
 
 -- ---- the same rules as a game has them ----
 
-pub kind_is : (g : GameLists) (k : ParamKind) (x : ℕ) → keeps_kind (declared_by g) k x ≡ is_parameter g k x
-kind_is g kind.Absent x = refl
-kind_is g _ x = refl
-
-list_all-same : {A : Type 0} (p q : A → Bool) → ((x : A) → p x ≡ q x) → (xs : List A) → list_all p xs ≡ list_all q xs
-list_all-same p q h [] = refl
-list_all-same p q h (x ∷ xs) = rw (h x, list_all-same p q h xs) refl
-
-condact_is : (g : GameLists) (c : Condact) → keeps_condact (declared_by g) c ≡ is_condact g c
-condact_is g c = rw (kind_is g (first_kind c.code) c.a, kind_is g (second_kind c.code) c.b) refl
-
-entry_is : (g : GameLists) (e : Entry) → keeps_entry (declared_by g) e ≡ is_entry g e
-entry_is g e = rw (list_all-same (keeps_condact (declared_by g)) (is_condact g) (condact_is g) e.condacts) refl
-
-table_is : (g : GameLists) (es : List Entry) → keeps_table (declared_by g) es ≡ is_table g es
-table_is g es = rw (list_all-same (keeps_entry (declared_by g)) (is_entry g) (entry_is g) es) refl
-
 pub tables_are : (g : GameLists) (ts : List (List Entry)) → list_all (keeps_table (declared_by g)) ts ≡ list_all (is_table g) ts
-tables_are g ts = list_all-same (keeps_table (declared_by g)) (is_table g) (table_is g) ts
+tables_are g ts = refl

@@ -10,7 +10,7 @@ use Rattle.paw_game.specs.declared.parts.Word.{Word}
 use Rattle.paw_game.specs.declared.parts.ObjectRow.{ObjectRow}
 use Rattle.paw_game.specs.declared.parts.Exit.{Exit}
 use Rattle.paw_game.specs.declared.parts.Entry.{Entry}
-use Rattle.paw_game.specs.Game.{GameLists}
+use Rattle.paw_game.specs.Game.{GameLists, counts_of}
 use Rattle.paw_game.proofs.Faults.{rise_after, rise_after-none}
 use Rattle.paw_game.specs.Valid.{is_within, are_letters, is_word, has_word, is_verb_value, is_word_or_none, is_place, is_any}
 use Rattle.paw_game.specs.Valid.{is_text, is_object, is_exits, is_parameter, is_condact, is_entry, is_table, Valid}
@@ -42,14 +42,16 @@ object_fits ws locations o e =
 exits_fit : (ws : List Word) (locations : ℕ) (xs : List Exit) → is_exits ws locations xs ≡ true → FitsExits xs
 exits_fit ws locations xs e = omega (arith, leb-true _ _ (and_parts (leb (length xs) 255) _ e).0)
 
-parameter_fits : (g : GameLists) (k : ParamKind) (x : ℕ) → is_parameter g k x ≡ true → FitsParameter k x
+parameter_fits : (g : GameLists) (k : ParamKind) (x : ℕ) → is_parameter (counts_of g) g.words k x ≡ true → FitsParameter k x
 parameter_fits g kind.Absent x e = eqb-true x 0 e
 parameter_fits g _ x e = tt
 
 condact_fits : (g : GameLists) (c : Condact) → is_condact g c ≡ true → FitsCondact c
 condact_fits g c e =
     let code = and_parts (leb c.code 107) _ e in
-    let parameters = and_parts (is_parameter g (first_kind c.code) c.a) (is_parameter g (second_kind c.code) c.b) code.1 in
+    let parameters =
+    and_parts (is_parameter (counts_of g) g.words (first_kind c.code) c.a)
+    (is_parameter (counts_of g) g.words (second_kind c.code) c.b) code.1 in
     record {
       code = leb-true _ _ code.0;
       a = parameter_fits g (first_kind c.code) c.a parameters.0;

@@ -2,7 +2,7 @@
 use Rattle.std.proofs.Common.{◌≡◌, ℕ, zero, suc, ◌+◌, ◌≤◌, List, [], length, get_or, drop, Option, Some, None, Ok, refl, sym, ap, subst, ◌∙◌}
 use Rattle.std.specs.Prelude.{slice_get}
 use Rattle.std.specs.List.{AllByRecursion}
-use Rattle.std.specs.Option.{option_map}
+use Rattle.std.specs.Option.{option_map, unwrap_or}
 use Rattle.std.proofs.lemmas.Bool.{le-ltb}
 use Rattle.std.proofs.lemmas.Option.{none-some, slice_get-map}
 use Rattle.paw_base.specs.declared.parts.Counts.{Counts}
@@ -11,7 +11,7 @@ use Rattle.paw_game.specs.declared.parts.Entry.{Entry}
 use Rattle.paw_game.specs.declared.parts.GamePart.{GamePart}
 use Rattle.paw_game.specs.Game.{GameLists}
 use Rattle.paw_game.specs.Image.{entry_image}
-use Rattle.paw_game.specs.Tables.{or_empty, head_at, condact_at, entry_at}
+use Rattle.paw_game.specs.Tables.{head_at, condact_at, entry_at}
 use Rattle.paw_game.specs.inner.Tables.{text_at, match_at}
 use Rattle.paw_image.specs.Damage.{Declared, after_all, bad}
 use Rattle.paw_image.specs.inner.CondactMarks.{IsMarked, MarkEntry}
@@ -94,31 +94,31 @@ span_read bytes is p k at text h found = rw (h, sym (text_read bytes is p k at h
 -- ---- entries ----
 
 in_table : (found : Option (List Entry)) → ((es : List Entry) → found ≡ Some es → FitsTable es) → (k : ℕ) (e : Entry)
-    → slice_get (or_empty found) k ≡ Some e → AllByRecursion FitsCondact e.condacts
+    → slice_get (unwrap_or found []) k ≡ Some e → AllByRecursion FitsCondact e.condacts
 in_table None fits k e h = absurd (none-some e h)
 in_table (Some es) fits k e h = (all_at FitsEntry es k e (fits es refl).entries h).condacts
 
 -- the condacts of an entry fit
 entry_fits : (bytes : List ℕ) → IsImage bytes (game_read bytes) → (t k : ℕ) (e : Entry)
-    → slice_get (or_empty (slice_get (game_read bytes).tables t)) k ≡ Some e → AllByRecursion FitsCondact e.condacts
+    → slice_get (unwrap_or (slice_get (game_read bytes).tables t) []) k ≡ Some e → AllByRecursion FitsCondact e.condacts
 entry_fits bytes is t k e h =
     in_table (slice_get (game_read bytes).tables t)
     (λ es found. all_at FitsTable (game_read bytes).tables t es (fits_of bytes is).tables found) k e h
 
 pub entry_at_place : (bytes : List ℕ) → IsImage bytes (game_read bytes) → (t k p : ℕ)
-    → slice_get (or_empty (slice_get (entry_places (tables_begin_at (game_read bytes)) (game_read bytes).tables) t)) k
+    → slice_get (unwrap_or (slice_get (entry_places (tables_begin_at (game_read bytes)) (game_read bytes).tables) t) []) k
     ≡ Some p
     → RowAt entry_image bytes (entry_at (game_read bytes) t k) p
 entry_at_place bytes is t k p h = entry_lies bytes (game_read bytes) (lists_of bytes is) t k p h
 
 pub head_read : (bytes : List ℕ) → IsImage bytes (game_read bytes) → (t k p : ℕ)
-    → slice_get (or_empty (slice_get (entry_places (tables_begin_at (game_read bytes)) (game_read bytes).tables) t)) k
+    → slice_get (unwrap_or (slice_get (entry_places (tables_begin_at (game_read bytes)) (game_read bytes).tables) t) []) k
     ≡ Some p
     → head_here (drop p bytes) ≡ head_at (game_read bytes) t k
 head_read bytes is t k p h = let r = entry_at_place bytes is t k p h in rw (r.lies, r.is) (head_there r.row r.after)
 
 pub condact_read : (bytes : List ℕ) → IsImage bytes (game_read bytes) → (t k p at : ℕ)
-    → slice_get (or_empty (slice_get (entry_places (tables_begin_at (game_read bytes)) (game_read bytes).tables) t)) k
+    → slice_get (unwrap_or (slice_get (entry_places (tables_begin_at (game_read bytes)) (game_read bytes).tables) t) []) k
     ≡ Some p
     → nth_condact at (drop p bytes) ≡ condact_at (game_read bytes) t k at
 condact_read bytes is t k p at h =
@@ -126,7 +126,7 @@ condact_read bytes is t k p at h =
     rw (r.lies, r.is) (condact_there r.row r.after at (entry_fits bytes is t k r.row r.is))
 
 pub entry_read : (bytes : List ℕ) → IsImage bytes (game_read bytes) → (t k p : ℕ)
-    → slice_get (or_empty (slice_get (entry_places (tables_begin_at (game_read bytes)) (game_read bytes).tables) t)) k
+    → slice_get (unwrap_or (slice_get (entry_places (tables_begin_at (game_read bytes)) (game_read bytes).tables) t) []) k
     ≡ Some p
     → entry_here (drop p bytes) ≡ option_map entry_image (entry_at (game_read bytes) t k)
 entry_read bytes is t k p h =
@@ -134,7 +134,7 @@ entry_read bytes is t k p h =
     rw (r.lies, r.is) (entry_bytes_there r.row r.after (entry_fits bytes is t k r.row r.is))
 
 pub no_entry_read : (bytes : List ℕ) (t k : ℕ)
-    → slice_get (or_empty (slice_get (entry_places (tables_begin_at (game_read bytes)) (game_read bytes).tables) t)) k
+    → slice_get (unwrap_or (slice_get (entry_places (tables_begin_at (game_read bytes)) (game_read bytes).tables) t) []) k
     ≡ None → entry_at (game_read bytes) t k ≡ None
 no_entry_read bytes t k h = no_entry (game_read bytes) t k h
 
@@ -182,7 +182,7 @@ no_index_read {bytes} {counts} {words} {p} is t k h = no_entry_read bytes t k (r
 module _ {bytes : List ℕ} {counts : Counts} {words : List Word} {p : Places} (is : IsIndex bytes counts words p)
     (t : ℕ) (i : TableIndex) (there : slice_get p.tables.items t ≡ Some i) (k : ℕ) where
   -- an entry begins where the index of its table says
-  entry_begins : slice_get (or_empty (slice_get (entry_places (tables_begin_at (game_read bytes)) (game_read bytes).tables) t)) k
+  entry_begins : slice_get (unwrap_or (slice_get (entry_places (tables_begin_at (game_read bytes)) (game_read bytes).tables) t) []) k
       ≡ slice_get i.entries.items k
   entry_begins = rw (entries_at p.tables.items t i _ is.tables there) refl
 

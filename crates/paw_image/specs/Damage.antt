@@ -13,16 +13,15 @@ use Rattle.paw_base.specs.declared.limits.TheConstants.{MESSAGE_LIMIT, OBJECT_LI
 use Rattle.paw_base.specs.declared.limits.TheConstants.{LOCATION_LEAST, LOCATION_LIMIT, TABLE_LEAST}
 use Rattle.paw_base.specs.declared.limits.TheConstants.{TABLE_LIMIT, TEXT_LIMIT, ENTRY_LIMIT}
 use Rattle.paw_base.specs.declared.parts.Counts.{Counts}
-use Rattle.paw_base.specs.declared.places.TheConstants.{NOT_CREATED_PLACE, HERE_PLACE}
-use Rattle.paw_base.specs.declared.words.TheConstants.{ADVERB_CLASS, NOUN_CLASS, ADJECTIVE_CLASS}
-use Rattle.paw_base.specs.declared.words.TheConstants.{PREPOSITION_CLASS, PRONOUN_CLASS}
+use Rattle.paw_base.specs.declared.words.TheConstants.{NOUN_CLASS, ADJECTIVE_CLASS, PRONOUN_CLASS}
 use Rattle.paw_base.specs.declared.words.TheConstants.{LEAST_WORD, GREATEST_WORD}
 use Rattle.paw_base.specs.declared.rows.ParamKind.{ParamKind}
 use Rattle.paw_base.specs.declared.rows.ParamKind.TheVariants as kind
 use Rattle.paw_base.specs.Condacts.{first_kind, second_kind}
 use Rattle.paw_game.specs.declared.parts.Word.{Word}
+use Rattle.paw_game.specs.Game.{counts_with}
 use Rattle.paw_game.specs.Valid.{is_within, are_letters, has_word, is_verb_value}
-use Rattle.paw_game.specs.Valid.{is_word_or_none, is_printed, is_place, is_any}
+use Rattle.paw_game.specs.Valid.{is_word_or_none, is_printed, is_place, is_any, is_parameter}
 use Rattle.paw_base.specs.Faults.{◌>>=◌}
 use Rattle.paw_image.specs.Reading.{Reading, byte_at, bytes_at, number_at}
 
@@ -61,17 +60,7 @@ counts_kept bytes = do
   objects ← number_kept 0 OBJECT_LIMIT messages.1
   locations ← number_kept LOCATION_LEAST LOCATION_LIMIT objects.1
   tables ← number_kept TABLE_LEAST TABLE_LIMIT locations.1
-  Ok (
-    record {
-      words = words.0;
-      system = system.0;
-      messages = messages.0;
-      objects = objects.0;
-      locations = locations.0;
-      tables = tables.0;
-    },
-    tables.1,
-  )
+  Ok (counts_with words.0 system.0 messages.0 objects.0 locations.0 tables.0, tables.1)
 
 -- ---- words ----
 
@@ -132,32 +121,14 @@ after_exits_of d verbs (suc n) bytes = exit_kept d verbs bytes >>= λ x. after_e
 
 -- how many exits, and each
 unfoldable pub after_exits : Declared → List ℕ → Passing
-after_exits d bytes = do
-  count ← byte_at bytes
-  after_exits_of d [] count.0 count.1
+after_exits d bytes = byte_at bytes >>= λ count. after_exits_of d [] count.0 count.1
 
 -- ---- tables ----
-
--- the rule of a parameter, by its kind
-abbrev pub keeps_kind : Declared → ParamKind → ℕ → Bool
-keeps_kind d kind.Absent x = x == 0
-keeps_kind d kind.Location x = nat_lt x d.counts.locations
-keeps_kind d kind.Place x = nat_lt x d.counts.locations || is_within NOT_CREATED_PLACE HERE_PLACE x
-keeps_kind d kind.Object x = nat_lt x d.counts.objects
-keeps_kind d kind.Flag x = nat_lt x 256
-keeps_kind d kind.Number x = nat_lt x 256
-keeps_kind d kind.Message x = nat_lt x d.counts.messages
-keeps_kind d kind.System x = nat_lt x d.counts.system
-keeps_kind d kind.Table x = nat_lt x d.counts.tables
-keeps_kind d kind.Adverb x = is_word_or_none d.words ADVERB_CLASS x
-keeps_kind d kind.Noun x = is_word_or_none d.words NOUN_CLASS x
-keeps_kind d kind.Adjective x = is_word_or_none d.words ADJECTIVE_CLASS x
-keeps_kind d kind.Preposition x = is_word_or_none d.words PREPOSITION_CLASS x
 
 -- a parameter of this kind; one that a code doesn't have takes no byte
 abbrev pub after_parameter : Declared → ParamKind → List ℕ → Passing
 after_parameter d kind.Absent bytes = Ok bytes
-after_parameter d k bytes = field_kept (keeps_kind d k) byte_at bytes >>= λ x. Ok x.1
+after_parameter d k bytes = field_kept (is_parameter d.counts d.words k) byte_at bytes >>= λ x. Ok x.1
 
 -- a code of the table, and the parameters that it has
 unfoldable pub after_condact : Declared → List ℕ → Passing
@@ -176,9 +147,7 @@ after_entry d bytes = do
 
 -- how many entries, at most 4,000, and each
 unfoldable pub after_table : Declared → List ℕ → Passing
-after_table d bytes = do
-  count ← number_kept 0 ENTRY_LIMIT bytes
-  each (after_entry d) count.0 count.1
+after_table d bytes = number_kept 0 ENTRY_LIMIT bytes >>= λ count. each (after_entry d) count.0 count.1
 
 -- ---- the whole image ----
 

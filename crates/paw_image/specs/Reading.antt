@@ -21,6 +21,4 @@ bytes_at n bytes = if nat_lt (length bytes) n then Err (length bytes) else Ok (t
 
 -- a number of two bytes, the low one first
 unfoldable pub number_at : List ℕ → Reading ℕ
-number_at bytes = do
-  two ← bytes_at 2 bytes
-  Ok (from_le_bytes w16 two.0, two.1)
+number_at bytes = bytes_at 2 bytes >>= λ two. Ok (from_le_bytes w16 two.0, two.1)

@@ -1,8 +1,8 @@
 // The rules of an image that name its counts or its words.
 
 ghost use Rattle.std.specs.Prelude.{◌≡◌, ◌||◌, nat_lt};
-ghost use Rattle.paw_game.specs.Valid.{has_word, is_place, is_verb_value, is_word_or_none};
-ghost use Rattle.paw_image.specs.Damage.{Declared, keeps_kind};
+ghost use Rattle.paw_game.specs.Valid.{has_word, is_parameter, is_place, is_verb_value, is_word_or_none};
+ghost use Rattle.paw_image.specs.Damage.{Declared};
 
 use paw_base::parts::Counts;
 use paw_base::places::{CARRIED_PLACE, NOT_CREATED_PLACE};
@@ -119,8 +119,8 @@ impl Rules {
     }
 
     /// Whether a parameter keeps the rule of its kind.
-    pub fn keeps_kind(&self, kind: ParamKind, value: u8) -> bool
-        ensures value { result ≡ keeps_kind self.now kind value }
+    pub fn is_parameter(&self, kind: ParamKind, value: u8) -> bool
+        ensures value { result ≡ is_parameter self.now.counts self.now.words kind value }
     {
         let number = value as u16;
         match kind {

@@ -165,7 +165,7 @@ fn pass_parameter<'a>(
         return Ok(bytes);
     }
     let (value, rest) = read_byte(bytes)?;
-    if !rules.keeps_kind(kind, value) {
+    if !rules.is_parameter(kind, value) {
         return Err(fault_at(bytes));
     }
     Ok(rest)

@@ -1,11 +1,11 @@
 // A game read in place, in the bytes of its image.
 
-ghost use Rattle.std.specs.Prelude.{◌≡◌, Some, slice_get, IfOk, OnOk};
+ghost use Rattle.std.specs.Prelude.{◌≡◌, [], Some, slice_get, IfOk, OnOk};
 ghost use Rattle.std.specs.List.Sorted.{IsNonDecreasingBy};
-ghost use Rattle.std.specs.Option.{option_copied, option_map};
+ghost use Rattle.std.specs.Option.{option_copied, option_map, unwrap_or};
 ghost use Rattle.paw_game.specs.Game.{GameLists};
 ghost use Rattle.paw_game.specs.Image.{entry_image};
-ghost use Rattle.paw_game.specs.Tables.{entry_at, or_empty};
+ghost use Rattle.paw_game.specs.Tables.{entry_at};
 ghost use Rattle.paw_image.specs.Damage.{bad};
 ghost use Rattle.paw_image.specs.Images.{IsImage};
 ghost use Rattle.paw_image.specs.inner.Images.{IfDamaged};
@@ -63,7 +63,7 @@ fn index_of(tables: &[TableIndex], table: u8) -> Option<&TableIndex>
 
 /// Where an entry begins.
 fn entry_place(tables: &[TableIndex], table: u8, entry: u16) -> Option<u32>
-    ensures value { result ≡ slice_get (or_empty (slice_get (entries_of tables.now) table)) entry }
+    ensures value { result ≡ slice_get (unwrap_or (slice_get (entries_of tables.now) table) []) entry }
 {
     let index = tables.get(table as usize)?;
     index.entries.get(entry as usize).copied()

@@ -1,13 +1,13 @@
 -- Each part of a sentence is a byte.
 use Rattle.std.proofs.Common.{◌≡◌, ◌<◌, ◌&&◌, ℕ, Bool, true, false, cond, eqb, leb, ltb, length, List, [], ◌∷◌, Option, Some, None, IsTrue, subst, arith, lit<}
 use Rattle.std.specs.List.{list_all}
-use Rattle.std.specs.Option.{option_map_or}
+use Rattle.std.specs.Option.{option_map, option_map_or}
 use Rattle.std.specs.Str.{bytes_eq}
 use Rattle.std.proofs.lemmas.Bool.{and_parts, leb-true}
 use Rattle.paw_game.specs.declared.parts.Word.{Word}
 use Rattle.paw_game.specs.Game.{GameLists}
 use Rattle.paw_game.specs.Valid.{are_letters, is_within, is_word, words_rise, Valid}
-use Rattle.paw_game.specs.Tables.{word_of, meaning_of, word_at}
+use Rattle.paw_game.specs.Tables.{word_of, word_at}
 use Rattle.paw_phrase.specs.declared.Sentence.{Sentence}
 use Rattle.paw_phrase.specs.Phrase.{Mark, marks, from_phrase, phrase_tokens, bytes_after}
 use Rattle.paw_phrase.specs.Sentence.{blank, or_value, with_noun, with_adjective, with_pronoun, with_word, with_tokens, with_verb, with_meaning}
@@ -102,11 +102,12 @@ abbrev HasByte : Option (ℕ × ℕ) → Type 0
 HasByte None = Unit {0}
 HasByte (Some word) = word.0 < 256
 
-word_of-byte : (letters : List ℕ) (ws : List Word) → IsTrue (list_all is_word ws) → HasByte (meaning_of (word_of letters ws))
+word_of-byte : (letters : List ℕ) (ws : List Word) → IsTrue (list_all is_word ws)
+    → HasByte (option_map (λ (w : Word). (w.value, w.class)) (word_of letters ws))
 word_of-byte letters [] h = tt
 word_of-byte letters (w ∷ ws) h =
     let parts = and_parts (is_word w) (list_all is_word ws) h in
-    elim (bytes_eq w.letters letters) as (λ b. HasByte (meaning_of (cond b (Some w) (word_of letters ws)))) [
+    elim (bytes_eq w.letters letters) as (λ b. HasByte (option_map (λ (v : Word). (v.value, v.class)) (cond b (Some w) (word_of letters ws)))) [
       | true ↦ value-byte w parts.0
       | false ↦ word_of-byte letters ws parts.1
     ]

@@ -10,7 +10,7 @@ use Rattle.paw_base.specs.declared.parts.ObjectFacts.{ObjectFacts}
 use Rattle.paw_game.specs.declared.parts.Word.{Word}
 use Rattle.paw_game.specs.Game.{GameLists}
 use Rattle.paw_game.specs.Image.{image}
-use Rattle.paw_game.specs.Valid.{Valid, is_text, is_object, are_facts, is_table, texts_kept, is_exits, is_within}
+use Rattle.paw_game.specs.Valid.{Valid, is_text, is_object, are_facts, is_table, rows_kept, is_exits, is_within}
 use Rattle.paw_lex.specs.Lines.{lines_of}
 use Rattle.paw_grammar.specs.declared.section.Section.{Section}
 use Rattle.paw_grammar.specs.declared.section.Section.TheVariants as section
@@ -24,7 +24,7 @@ use Rattle.paw_source.proofs.RowLaws.{Has}
 use Rattle.paw_source.proofs.DraftLaws.{TextsKept, NoRows, AtTables, InOrder, Keeps, filled_exits, filled_length, step_keeps}
 use Rattle.paw_source.proofs.CountLaws.{step_counts, counts_tables}
 
-texts_valid : (limit : ℕ) (ts : List (List ℕ)) → TextsKept limit ts → texts_kept limit ts ≡ true
+texts_valid : (limit : ℕ) (ts : List (List ℕ)) → TextsKept limit ts → rows_kept limit is_text ts ≡ true
 texts_valid limit ts k =
     let few = k.few in
     both (nat_le (length ts) limit) (list_all is_text ts) (grind (arith, nat_tests, few)) k.all
@@ -92,7 +92,7 @@ valid_game p d k three counted =
           (list_all (is_object d.words (length d.locations)) (objects_of d.names d.facts))
           (grind (arith, nat_tests, count, few_names))
           (objects_all d.words (length d.locations) d.names d.facts k.heads.names.all k.facts.all);
-      locations = both (nat_le 1 (length d.locations)) (texts_kept 252 d.locations) (grind (arith, nat_tests, some))
+      locations = both (nat_le 1 (length d.locations)) (rows_kept 252 is_text d.locations) (grind (arith, nat_tests, some))
           (texts_valid 252 d.locations k.heads.locations);
       exits = both (eqb (length (all_exits (length d.locations) d.exits)) (length d.locations))
           (list_all (is_exits d.words (length d.locations)) (all_exits (length d.locations) d.exits))

@@ -20,7 +20,7 @@ use Rattle.paw_game.specs.declared.parts.Word.{Word}
 use Rattle.paw_game.specs.declared.parts.Exit.{Exit}
 use Rattle.paw_game.specs.declared.parts.Entry.{Entry}
 use Rattle.paw_base.specs.declared.parts.ObjectFacts.{ObjectFacts}
-use Rattle.paw_game.specs.Game.{GameLists}
+use Rattle.paw_game.specs.Game.{GameLists, counts_of}
 use Rattle.paw_game.specs.Valid.{words_kept, has_word, is_verb_value, is_any, is_within, is_place, are_exits}
 use Rattle.paw_game.specs.Valid.{is_exits, are_facts, is_parameter, is_condact, is_entry, is_table, is_word}
 use Rattle.paw_grammar.specs.declared.bounds.Bounds.{Bounds}
@@ -219,7 +219,7 @@ place_ok : (locations : ℕ) (ts : List (List ℕ)) (x : ℕ × List (List ℕ))
 place_ok locations ts x h = place_within 255 (place_among (place_names ++ codes "HERE" ∷ [])) locations ts x h
 
 parameter_ok : (bounds : Bounds) (ws : List Word) (g : GameLists) (k : ParamKind) (ts : List (List ℕ))
-    (x : ℕ × List (List ℕ)) → Has bounds ws g → parameter bounds ws k ts ≡ Ok x → is_parameter g k x.0 ≡ true
+    (x : ℕ × List (List ℕ)) → Has bounds ws g → parameter bounds ws k ts ≡ Ok x → is_parameter (counts_of g) g.words k x.0 ≡ true
 parameter_ok bounds ws g kind.Absent ts x has h = rw (← ok_is (0, ts) x h) refl
 parameter_ok bounds ws g kind.Location ts x has h = rw has.locations (number_ok (λ n. nat_lt n bounds.locations) ts x h)
 parameter_ok bounds ws g kind.Place ts x has h = rw has.locations (place_ok bounds.locations ts x h)

@@ -1,11 +1,11 @@
 -- The rows of a state, and the frames of a machine.
 use Rattle.std.proofs.Common.{◌≡◌, ℕ, zero, suc, ◌+◌, ◌-◌, ◌≤◌, ◌&&◌, ◌==◌, Bool, true, false, not, List}
-use Rattle.std.proofs.Common.{[], ◌∷◌, Option, Some, None, map, is_some, nat_le, refl, ap, arith}
+use Rattle.std.proofs.Common.{[], ◌∷◌, Option, Some, None, map, is_some, option_map, nat_le, refl, ap, arith}
 use Rattle.std.specs.Prelude.{if◌then◌else◌, slice_get}
 use Rattle.std.proofs.lemmas.Bool.{eqb-true, leb-true}
 use Rattle.paw_game.specs.declared.parts.Entry.{Entry}
 use Rattle.paw_game.specs.Game.{GameLists}
-use Rattle.paw_game.specs.Tables.{condacts_of, entry_at, head_of, head_at, condact_at}
+use Rattle.paw_game.specs.Tables.{condacts_of, entry_at, head_at, condact_at}
 use Rattle.paw_reading.specs.declared.places.Frame.{Frame}
 use Rattle.paw_process.specs.Kept.{may_open, has_code, parameter_of, condact_of, is_unused, row_stands}
 use Rattle.paw_process.specs.Kept.{rows_fault as machine_fault}
@@ -120,7 +120,7 @@ rows_back g code caller n at (r ∷ rs) h =
 pub head_there : (g : GameLists) (code t e k : ℕ) → has_code code (condact_at g t e k) ≡ true → is_some (head_at g t e) ≡ true
 head_there g code t e k h = go (entry_at g t e) h
   where
-    go : (o : Option Entry) → has_code code (slice_get (condacts_of o) k) ≡ true → is_some (head_of o) ≡ true
+    go : (o : Option Entry) → has_code code (slice_get (condacts_of o) k) ≡ true → is_some (option_map {U = ℕ × ℕ} (λ (en : Entry). (en.verb, en.noun)) o) ≡ true
     go None q = cc
     go (Some en) q = refl
 

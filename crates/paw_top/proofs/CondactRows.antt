@@ -16,7 +16,7 @@ use Rattle.paw_base.proofs.Table.{below, each_code}
 use Rattle.paw_base.proofs.Named.{code_named-name_of}
 use Rattle.paw_game.specs.declared.parts.Word.{Word}
 use Rattle.paw_game.specs.declared.parts.ObjectRow.{ObjectRow}
-use Rattle.paw_game.specs.Game.{GameLists}
+use Rattle.paw_game.specs.Game.{GameLists, counts_of}
 use Rattle.paw_game.specs.Valid.{is_within, is_parameter, is_condact, is_word_or_none}
 use Rattle.paw_grammar.specs.declared.bounds.Bounds.{Bounds}
 use Rattle.paw_base.specs.Faults.{◌>>=◌}
@@ -79,7 +79,7 @@ place_kept x locations few h =
       | inr is ↦ omega (arith, leb-true x 255 (and_parts (leb 252 x) (leb x 255) is).1)
     ]
 
-parameter_back : (p : ℕ) (g : GameLists) (k : ParamKind) (x : ℕ) → Small p g → is_parameter g k x ≡ true → ParameterBack p g k x
+parameter_back : (p : ℕ) (g : GameLists) (k : ParamKind) (x : ℕ) → Small p g → is_parameter (counts_of g) g.words k x ≡ true → ParameterBack p g k x
 parameter_back p g kind.Absent x s h = record { plain = refl; count = refl; read = λ ts. ap (λ n. Ok (n, ts)) (sym (eqb-true x 0 h)) }
 parameter_back p g kind.Location x s h =
     let small = below_small x (length g.locations) (omega (arith, s.locations)) h in
@@ -158,7 +158,9 @@ pub condact_back : (p : ℕ) (g : GameLists) (c : Condact) → Small p g → is_
 condact_back p g c s h =
     let both = and_parts (leb c.code 107) _ h in
     let code : IsCode c.code = leb-true c.code 107 both.0 in
-    let parameters = and_parts (is_parameter g (first_kind c.code) c.a) (is_parameter g (second_kind c.code) c.b) both.1 in
+    let parameters =
+    and_parts (is_parameter (counts_of g) g.words (first_kind c.code) c.a)
+    (is_parameter (counts_of g) g.words (second_kind c.code) c.b) both.1 in
     let a = parameter_back p g (first_kind c.code) c.a s parameters.0 in
     let b = parameter_back p g (second_kind c.code) c.b s parameters.1 in
     record {

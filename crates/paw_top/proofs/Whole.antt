@@ -10,7 +10,7 @@ use Rattle.paw_game.specs.declared.parts.Entry.{Entry}
 use Rattle.paw_game.specs.declared.parts.ObjectRow.{ObjectRow}
 use Rattle.paw_game.specs.Game.{GameLists}
 use Rattle.paw_game.specs.Image.{image}
-use Rattle.paw_game.specs.Valid.{is_word, words_rise, is_text, is_object, is_exits, is_table, are_facts, is_within, texts_kept, Valid}
+use Rattle.paw_game.specs.Valid.{is_word, words_rise, is_text, is_object, is_exits, is_table, are_facts, is_within, rows_kept, Valid}
 use Rattle.paw_lex.specs.Lines.{lines_of}
 use Rattle.paw_lex.proofs.Printed.{lines_of-printed_lines}
 use Rattle.paw_grammar.specs.declared.section.Section.{Section}
@@ -62,7 +62,7 @@ rules g v =
     let system = and_parts (leb (length g.system) 256) (list_all is_text g.system) v.system in
     let messages = and_parts (leb (length g.messages) 256) (list_all is_text g.messages) v.messages in
     let objects = and_parts (leb (length g.objects) 255) (list_all (is_object g.words (length g.locations)) g.objects) v.objects in
-    let some = and_parts (leb 1 (length g.locations)) (texts_kept 252 g.locations) v.locations in
+    let some = and_parts (leb 1 (length g.locations)) (rows_kept 252 is_text g.locations) v.locations in
     let locations = and_parts (leb (length g.locations) 252) (list_all is_text g.locations) some.1 in
     let exits = and_parts (eqb (length g.exits) (length g.locations)) (list_all (is_exits g.words (length g.locations)) g.exits) v.exits in
     let tables = and_parts (is_within 3 256 (length g.tables)) (list_all (is_table g) g.tables) v.tables in

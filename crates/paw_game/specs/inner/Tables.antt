@@ -1,32 +1,20 @@
 -- What a game's lists hold at a number: words that contracts between crates and proofs use beside those of
 -- specs/Tables.antt.
-use Rattle.std.specs.Prelude.{ℕ, suc, Bool, false, List, [], ◌∷◌, length, Option}
+use Rattle.std.specs.Prelude.{ℕ, suc, Bool, false, List, [], ◌∷◌, Option}
 use Rattle.std.specs.Prelude.{Some, None, slice_get, drop, if◌then◌else◌}
-use Rattle.std.specs.Option.{option_map_or}
-use Rattle.paw_base.specs.declared.parts.Counts.{Counts}
+use Rattle.std.specs.Option.{option_map, option_map_or}
 use Rattle.paw_game.specs.declared.parts.Entry.{Entry}
 use Rattle.paw_game.specs.declared.parts.GamePart.{GamePart}
 use Rattle.paw_game.specs.declared.parts.GamePart.TheVariants as part
 use Rattle.paw_game.specs.Game.{GameLists}
-use Rattle.paw_game.specs.Tables.{row_text, table_at, entry_at, matches}
-
--- how many rows each part of a game has
-abbrev pub counts_of : GameLists → Counts
-counts_of g = record {
-  words = length g.words;
-  system = length g.system;
-  messages = length g.messages;
-  objects = length g.objects;
-  locations = length g.locations;
-  tables = length g.tables;
-}
+use Rattle.paw_game.specs.Tables.{table_at, entry_at, matches}
 
 -- a text of one of the parts that have texts
 abbrev pub text_at : GameLists → GamePart → ℕ → Option (List ℕ)
 text_at g part.Words n = None
 text_at g part.System n = slice_get g.system n
 text_at g part.Messages n = slice_get g.messages n
-text_at g part.Objects n = row_text (slice_get g.objects n)
+text_at g part.Objects n = option_map (λ row. row.text) (slice_get g.objects n)
 text_at g part.Locations n = slice_get g.locations n
 text_at g part.Exits n = None
 text_at g part.Tables n = None

@@ -6,7 +6,7 @@ use Rattle.paw_base.specs.declared.parts.Condact.{Condact}
 use Rattle.paw_base.specs.declared.rows.ParamKind.{ParamKind}
 use Rattle.paw_base.specs.declared.rows.ParamKind.TheVariants as kind
 use Rattle.paw_base.specs.Condacts.{first_kind, second_kind}
-use Rattle.paw_game.specs.Game.{GameLists}
+use Rattle.paw_game.specs.Game.{GameLists, counts_of}
 use Rattle.paw_game.specs.Valid.{is_parameter}
 
 -- ---- tables ----
@@ -17,7 +17,7 @@ is_argument g kind.Adverb x = nat_lt x 256
 is_argument g kind.Noun x = nat_lt x 256
 is_argument g kind.Adjective x = nat_lt x 256
 is_argument g kind.Preposition x = nat_lt x 256
-is_argument g k x = is_parameter g k x
+is_argument g k x = is_parameter (counts_of g) g.words k x
 
 -- a condact that can be carried out: a code of the table, and parameters that keep their rules, where a word may be
 -- any byte

@@ -5,9 +5,9 @@ use Rattle.paw_base.specs.declared.parts.Counts.{Counts}
 use Rattle.paw_game.specs.declared.parts.Word.{Word}
 use Rattle.paw_game.specs.declared.parts.GamePart.{GamePart}
 use Rattle.paw_game.specs.declared.parts.GamePart.TheVariants as part
-use Rattle.paw_game.specs.Game.{GameLists}
+use Rattle.paw_game.specs.Game.{GameLists, counts_of}
 use Rattle.paw_game.specs.Image.{word_image, text_image, object_image, exits_image}
-use Rattle.paw_game.specs.inner.Tables.{counts_of, text_at}
+use Rattle.paw_game.specs.inner.Tables.{text_at}
 use Rattle.paw_image.specs.declared.places.Places.{Places}
 use Rattle.paw_image.specs.inner.CondactMarks.{IsMarked}
 use Rattle.paw_image.specs.Images.{IsImage}
