@@ -4,7 +4,7 @@ use Rattle.std.specs.Option.{ok_or}
 use Rattle.std.specs.Str.{str_eq_ignore_ascii_case}
 use Rattle.paw_base.specs.declared.fault.SourceKind.{SourceKind}
 use Rattle.paw_base.specs.declared.fault.SourceKind.TheVariants as kind
-use Rattle.paw_base.specs.Faults.{◌>>=◌}
+use Rattle.paw_faults.specs.Bind.{◌>>=◌}
 
 -- the next token, and those after it; Missing where the line ends
 abbrev pub token : List (List ℕ) → Result (List ℕ × List (List ℕ)) SourceKind

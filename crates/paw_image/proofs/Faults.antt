@@ -3,7 +3,7 @@ use Rattle.std.proofs.Common.{◌≡◌, ℕ, suc, ◌+◌, ◌-◌, ◌<◌, Li
 use Rattle.paw_faults.specs.declared.unread.Unread.{Unread}
 use Rattle.paw_faults.specs.declared.unread.Unread.TheVariants as fault
 use Rattle.paw_image.specs.Damage.{Passing, each}
-use Rattle.paw_base.specs.Faults.{◌>>=◌}
+use Rattle.paw_faults.specs.Bind.{◌>>=◌}
 use Rattle.paw_image.specs.Reading.{Reading}
 use Rattle.paw_faults.specs.inner.Gives.{Fails}
 use Rattle.paw_image.specs.inner.Reading.{IsFault}

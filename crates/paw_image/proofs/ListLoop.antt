@@ -5,7 +5,7 @@ use Rattle.std.specs.Prelude.{slice_get}
 use Rattle.std.proofs.lemmas.List.{append-nil, length-append}
 use Rattle.paw_game.specs.declared.parts.Word.{Word}
 use Rattle.paw_faults.specs.declared.unread.Unread.{Unread}
-use Rattle.paw_base.specs.Faults.{◌>>=◌}
+use Rattle.paw_faults.specs.Bind.{◌>>=◌}
 use Rattle.paw_image.specs.Reading.{Reading}
 use Rattle.paw_image.specs.Damage.{word_kept, words_above}
 use Rattle.paw_faults.specs.inner.Gives.{Fails}

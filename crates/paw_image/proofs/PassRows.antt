@@ -12,7 +12,7 @@ use Rattle.paw_game.specs.Image.{two_bytes, text_image, weight_byte, object_imag
 use Rattle.paw_game.specs.Image.{parameter_image, condact_image, entry_image, table_image}
 use Rattle.paw_game.specs.Valid.{is_within, is_printed, is_text, is_word_or_none, is_place, are_facts}
 use Rattle.paw_game.specs.Valid.{is_object, is_verb_value, are_exits, is_exits, is_any, is_parameter, has_word}
-use Rattle.paw_base.specs.Faults.{◌>>=◌}
+use Rattle.paw_faults.specs.Bind.{◌>>=◌}
 use Rattle.paw_image.specs.Reading.{byte_at}
 use Rattle.paw_image.specs.Damage.{Declared, field_kept, number_kept, after_text, after_facts, after_object}
 use Rattle.paw_image.specs.Damage.{exit_kept, after_exits_of, after_exits, after_parameter}

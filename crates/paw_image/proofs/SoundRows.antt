@@ -17,7 +17,7 @@ use Rattle.paw_game.specs.Image.{two_bytes, text_image, exit_image, parameter_im
 use Rattle.paw_game.specs.Valid.{is_within, is_printed, is_text, is_word_or_none, is_place, are_facts}
 use Rattle.paw_game.specs.Valid.{is_object, is_verb_value, are_exits, is_exits, is_parameter}
 use Rattle.paw_game.specs.Valid.{is_any, has_word, is_table}
-use Rattle.paw_base.specs.Faults.{◌>>=◌}
+use Rattle.paw_faults.specs.Bind.{◌>>=◌}
 use Rattle.paw_image.specs.Reading.{byte_at, bytes_at, number_at}
 use Rattle.paw_image.specs.inner.Reading.{few_at, pair_at, leading_rows, text_at, facts_with, leading_facts, object_at, leading_exit, exits_at}
 use Rattle.paw_image.specs.inner.Reading.{code_at, parameter_at, leading_condact, leading_entry, leading_table}

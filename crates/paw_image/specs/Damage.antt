@@ -22,7 +22,7 @@ use Rattle.paw_game.specs.declared.parts.Word.{Word}
 use Rattle.paw_game.specs.Game.{counts_with}
 use Rattle.paw_game.specs.Valid.{is_within, are_letters, has_word, is_verb_value}
 use Rattle.paw_game.specs.Valid.{is_word_or_none, is_printed, is_place, is_any, is_parameter}
-use Rattle.paw_base.specs.Faults.{◌>>=◌}
+use Rattle.paw_faults.specs.Bind.{◌>>=◌}
 use Rattle.paw_image.specs.Reading.{Reading, byte_at, bytes_at, number_at}
 
 -- a field that keeps a rule, or a fault at its first byte

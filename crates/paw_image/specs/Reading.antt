@@ -2,7 +2,7 @@
 -- at the first field that isn't all there or has no meaning.
 use Rattle.std.specs.Prelude.{ℕ, List, [], ◌∷◌, length, take, drop, Result, Ok, Err, nat_lt, if◌then◌else◌}
 use Rattle.std.specs.Int.{w16, from_le_bytes}
-use Rattle.paw_base.specs.Faults.{◌>>=◌}
+use Rattle.paw_faults.specs.Bind.{◌>>=◌}
 
 -- a value and the bytes after it, or a fault
 abbrev pub Reading : Type 0 → Type 0

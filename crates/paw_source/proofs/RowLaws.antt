@@ -24,7 +24,7 @@ use Rattle.paw_game.specs.Game.{GameLists, counts_of}
 use Rattle.paw_game.specs.Valid.{words_kept, has_word, is_verb_value, is_any, is_within, is_place, are_exits}
 use Rattle.paw_game.specs.Valid.{is_exits, are_facts, is_parameter, is_condact, is_entry, is_table, is_word}
 use Rattle.paw_grammar.specs.declared.bounds.Bounds.{Bounds}
-use Rattle.paw_base.specs.Faults.{◌>>=◌}
+use Rattle.paw_faults.specs.Bind.{◌>>=◌}
 use Rattle.paw_grammar.specs.Tokens.{read_by, at_most}
 use Rattle.paw_grammar.specs.Numbers.{number, in_range, number_within, number_below, row_number}
 use Rattle.paw_grammar.specs.Vocabulary.{place_among, word, class, object_kind, declared, word_or_none, verb_word, entry_verb, entry_noun}

@@ -6,7 +6,7 @@ use Rattle.std.proofs.lemmas.List.Folds.{list_all-append}
 use Rattle.paw_base.specs.declared.fault.SourceKind.{SourceKind}
 use Rattle.paw_game.specs.Image.{image}
 use Rattle.paw_lex.specs.Bytes.{is_printed_byte}
-use Rattle.paw_base.specs.Faults.{◌>>=◌}
+use Rattle.paw_faults.specs.Bind.{◌>>=◌}
 use Rattle.paw_grammar.specs.GrammarState.{Spelt, game_of}
 use Rattle.paw_grammar.specs.Spells.{step, at_line, whole, spelled_after}
 use Rattle.paw_source.specs.inner.Laws.{after_lines}

@@ -19,7 +19,7 @@ use Rattle.paw_game.specs.declared.parts.ObjectRow.{ObjectRow}
 use Rattle.paw_game.specs.Game.{GameLists, counts_of}
 use Rattle.paw_game.specs.Valid.{is_within, is_parameter, is_condact, is_word_or_none}
 use Rattle.paw_grammar.specs.declared.bounds.Bounds.{Bounds}
-use Rattle.paw_base.specs.Faults.{◌>>=◌}
+use Rattle.paw_faults.specs.Bind.{◌>>=◌}
 use Rattle.paw_grammar.specs.Tokens.{at_most}
 use Rattle.paw_grammar.specs.Vocabulary.{word_or_none}
 use Rattle.paw_grammar.specs.Condacts.{parameter, condact, condacts_in, with_more_condacts, more_condacts}

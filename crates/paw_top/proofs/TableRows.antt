@@ -14,7 +14,7 @@ use Rattle.paw_game.specs.declared.parts.Entry.{Entry}
 use Rattle.paw_game.specs.Game.{GameLists}
 use Rattle.paw_game.specs.Valid.{has_word, is_verb_value, is_any, is_condact, is_entry, is_table}
 use Rattle.paw_grammar.specs.declared.section.Section.TheVariants as section
-use Rattle.paw_base.specs.Faults.{◌>>=◌}
+use Rattle.paw_faults.specs.Bind.{◌>>=◌}
 use Rattle.paw_grammar.specs.Numbers.{number_from}
 use Rattle.paw_grammar.specs.Vocabulary.{entry_verb, entry_noun}
 use Rattle.paw_grammar.specs.Condacts.{condacts_in, more_condacts}

@@ -12,7 +12,7 @@ use Rattle.paw_image.specs.inner.CondactMarks.{IsEnd, IsMarked}
 use Rattle.paw_image.specs.Damage.{Declared, Passing, front, each, number_kept, after_text}
 use Rattle.paw_image.specs.Damage.{after_object, after_exits, after_entry, after_table}
 use Rattle.paw_image.specs.inner.Orders.{IsOrder}
-use Rattle.paw_base.specs.Faults.{◌>>=◌}
+use Rattle.paw_faults.specs.Bind.{◌>>=◌}
 
 -- where rows begin of which the first begins at a place
 abbrev pub places : {A : Type 0} → (A → List ℕ) → ℕ → List A → List ℕ
