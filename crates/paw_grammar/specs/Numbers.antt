@@ -1,20 +1,17 @@
 -- Numbers.
 use Rattle.std.specs.Prelude.{ℕ, ◌+◌, ◌-◌, ◌*◌, ◌==◌, ◌&&◌, Bool, List, [], ◌∷◌, nat_lt}
 use Rattle.std.specs.Prelude.{if◌then◌else◌, Option, Some, None, Result, Ok, Err}
+use Rattle.std.specs.Char.{is_ascii_digit}
 use Rattle.paw_base.specs.declared.fault.SourceKind.{SourceKind}
 use Rattle.paw_base.specs.declared.fault.SourceKind.TheVariants as kind
 use Rattle.paw_game.specs.Valid.{is_within}
 use Rattle.paw_faults.specs.Bind.{◌>>=◌}
 use Rattle.paw_grammar.specs.Tokens.{read_by}
 
--- a decimal digit
-abbrev pub is_digit : ℕ → Bool
-is_digit b = is_within 48 57 b
-
 -- the number that these decimal digits make after the number n
 unfoldable pub number_from : ℕ → List ℕ → Option ℕ
 number_from n [] = Some n
-number_from n (d ∷ ds) = if is_digit d then number_from (n * 10 + (d - 48)) ds else None
+number_from n (d ∷ ds) = if is_ascii_digit d then number_from (n * 10 + (d - 48)) ds else None
 
 -- a number is one decimal digit or more, and counts by its value, however many zeros stand first
 abbrev pub number : List ℕ → Option ℕ

@@ -1,9 +1,10 @@
 // Numbers.
 
 ghost use Rattle.std.specs.Prelude.{◌≡◌, ◌<◌, ◌≤◌, OnOk};
+ghost use Rattle.std.specs.Char.{is_ascii_digit};
 ghost use Rattle.paw_faults.specs.inner.Gives.{Gives};
 ghost use Rattle.paw_grammar.specs.Tokens.{read_by};
-ghost use Rattle.paw_grammar.specs.Numbers.{is_digit, number, number_within, number_below, row_number};
+ghost use Rattle.paw_grammar.specs.Numbers.{number, number_within, number_below, row_number};
 ghost use Rattle.paw_grammar.specs.inner.Numbers.{capped, capped_number};
 
 use crate::refusal::ReadError;
@@ -12,7 +13,7 @@ use paw_base::fault::SourceKind;
 use paw_faults::unread::Unread;
 
 fn is_digit(byte: u8) -> bool
-    ensures { result ≡ is_digit byte }
+    ensures { result ≡ is_ascii_digit byte }
 {
     byte.is_ascii_digit()
 }

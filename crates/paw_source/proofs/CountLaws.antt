@@ -4,7 +4,7 @@ use Rattle.std.proofs.Common.{◌||◌, eqb, List, [], ◌∷◌, ◌++◌, leng
 use Rattle.std.proofs.Common.{Some, None, Ok, Err, refl, sym, ap, ◌∙◌, arith}
 use Rattle.std.specs.Prelude.{nat_lt, codes}
 use Rattle.std.specs.Str.{str_to_ascii_lowercase, bytes_eq}
-use Rattle.std.specs.Char.{to_ascii_lowercase}
+use Rattle.std.specs.Char.{is_ascii_digit, to_ascii_lowercase}
 use Rattle.std.proofs.lemmas.Slice.Eq.{bytes_eq-Decides}
 use Rattle.std.proofs.lemmas.Bool.{eqb-true}
 use Rattle.std.proofs.lemmas.Bool.Decides.{nat_tests}
@@ -17,7 +17,7 @@ use Rattle.paw_grammar.specs.declared.section.Section.{Section}
 use Rattle.paw_grammar.specs.declared.section.Section.TheVariants as section
 use Rattle.paw_faults.specs.Bind.{◌>>=◌}
 use Rattle.paw_grammar.specs.Tokens.{is_named}
-use Rattle.paw_grammar.specs.Numbers.{number, number_from, is_digit}
+use Rattle.paw_grammar.specs.Numbers.{number, number_from}
 use Rattle.paw_grammar.specs.GrammarState.{Spelt, last_or, with_last}
 use Rattle.paw_grammar.specs.GrammarTexts.{texts_of, with_texts, text_limit, text_item, text_line, is_in_text}
 use Rattle.paw_grammar.specs.GrammarHeads.{next_header, section_opened, plain_header, con_header}
@@ -79,13 +79,13 @@ not_pro t name f other =
     ap (λ (x : List ℕ). bytes_eq x (str_to_ascii_lowercase (codes "/PRO")))
     ((bytes_eq-Decides (str_to_ascii_lowercase t) (str_to_ascii_lowercase name)).0 f) ∙ other
 
-digit_no_letter : (c : ℕ) → is_digit c ≡ true → eqb (to_ascii_lowercase c) 112 ≡ false
+digit_no_letter : (c : ℕ) → is_ascii_digit c ≡ true → eqb (to_ascii_lowercase c) 112 ≡ false
 digit_no_letter c h = grind (arith, nat_tests)
 
-is_first_digit : (c n : ℕ) (cs : List ℕ) → number (c ∷ cs) ≡ Some n → is_digit c ≡ true
+is_first_digit : (c n : ℕ) (cs : List ℕ) → number (c ∷ cs) ≡ Some n → is_ascii_digit c ≡ true
 unfolding number_from
 is_first_digit c n cs h =
-    elim (is_digit c) as (λ b. cond b (number_from (0 * 10 + (c - 48)) cs) None ≡ Some n → b ≡ true) [
+    elim (is_ascii_digit c) as (λ b. cond b (number_from (0 * 10 + (c - 48)) cs) None ≡ Some n → b ≡ true) [
       | true ↦ λ e. refl
       | false ↦ λ e. absurd cc
     ] h

@@ -3,7 +3,8 @@
 ghost use Rattle.std.specs.Prelude.{◌≡◌, ◌+◌, ◌-◌, ◌*◌, ◌<◌, ◌≤◌, ◌^◌, map, string_bytes};
 ghost use Rattle.std.specs.Prelude.{Option, Some, None, IfSome, IfNone, MatchOption};
 ghost use Rattle.std.specs.Option.{option_and_then};
-ghost use Rattle.paw_grammar.specs.Numbers.{is_digit, number};
+ghost use Rattle.std.specs.Char.{is_ascii_digit};
+ghost use Rattle.paw_grammar.specs.Numbers.{number};
 ghost use Rattle.paw_top.specs.Commands.{command_of, number_of, as_seed, seed_of, named, numbered, ends};
 ghost use Rattle.paw_top.specs.Commands.{Compile as CompileOf, Decompile as DecompileOf, Walk as WalkOf};
 ghost use Rattle.paw_top.specs.Commands.{Trace as TraceOf, Play as PlayOf, Resume as ResumeOf, Trial as TrialOf};
@@ -43,7 +44,7 @@ pub(crate) enum Command<'a> {
 
 // Whether a byte is a decimal digit.
 fn is_digit(byte: u8) -> bool
-    ensures { result ≡ is_digit byte }
+    ensures { result ≡ is_ascii_digit byte }
 {
     byte.is_ascii_digit()
 }
