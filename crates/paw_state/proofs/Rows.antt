@@ -120,7 +120,8 @@ rows_back g code caller n at (r ∷ rs) h =
 pub head_there : (g : GameLists) (code t e k : ℕ) → has_code code (condact_at g t e k) ≡ true → is_some (head_at g t e) ≡ true
 head_there g code t e k h = go (entry_at g t e) h
   where
-    go : (o : Option Entry) → has_code code (slice_get (condacts_of o) k) ≡ true → is_some (option_map {U = ℕ × ℕ} (λ (en : Entry). (en.verb, en.noun)) o) ≡ true
+    go : (o : Option Entry) → has_code code (slice_get (condacts_of o) k) ≡ true
+        → is_some (option_map {U = ℕ × ℕ} (λ (en : Entry). (en.verb, en.noun)) o) ≡ true
     go None q = cc
     go (Some en) q = refl
 
