@@ -163,7 +163,8 @@ exit_row_ok ws locations xs ys ts words kept h =
 place_within : (last : ℕ) (named : List ℕ → Option ℕ) (locations : ℕ) (ts : List (List ℕ)) (x : ℕ × List (List ℕ))
     → place_up_to last named locations ts ≡ Ok x → (nat_lt x.0 locations || is_within 252 last x.0) ≡ true
 place_within last named locations ts x h =
-    let b = bound (read_by fault.Number (λ t. option_or (number t) (option_map (λ i. 252 + i) (named t))) ts) (in_range (λ n. nat_lt n locations || is_within 252 last n)) x h in
+    let b = bound (read_by fault.Number (λ t. option_or (number t) (option_map (λ i. 252 + i) (named t))) ts)
+    (in_range (λ n. nat_lt n locations || is_within 252 last n)) x h in
     in_range_ok (λ n. nat_lt n locations || is_within 252 last n) b.0 x b.2
 
 first_place_ok : (locations : ℕ) (ts : List (List ℕ)) (x : ℕ × List (List ℕ)) → first_place locations ts ≡ Ok x → is_place locations x.0 ≡ true

@@ -5,7 +5,8 @@ use Rattle.std.proofs.lemmas.List.{length-take, length-drop, length-replicate, l
 use Rattle.std.proofs.lemmas.List.Elements.{All-cons}
 use Rattle.std.proofs.lemmas.Bool.{eqb-true}
 use Rattle.paw_state.specs.Fields.{zeros, filled}
-use Rattle.paw_state.specs.Faults.{rule, or_first, first_not, is_zero}
+use Rattle.std.specs.Option.{option_or}
+use Rattle.paw_state.specs.Faults.{rule, first_not, is_zero}
 
 pub rule_holds : (at : ℕ) (holds : Bool) → rule at holds ≡ None → holds ≡ true
 rule_holds at true h = refl
@@ -14,11 +15,11 @@ rule_holds at false h = cc
 pub no_rule : (at : ℕ) (holds : Bool) → holds ≡ true → rule at holds ≡ None
 no_rule at holds h = rw h refl
 
-pub no_first : (a b : Option ℕ) → or_first a b ≡ None → (a ≡ None) × (b ≡ None)
+pub no_first : (a b : Option ℕ) → option_or a b ≡ None → (a ≡ None) × (b ≡ None)
 no_first None b h = (refl, h)
 no_first (Some at) b h = cc
 
-pub none_first : (a b : Option ℕ) → a ≡ None → b ≡ None → or_first a b ≡ None
+pub none_first : (a b : Option ℕ) → a ≡ None → b ≡ None → option_or a b ≡ None
 none_first a b h k = rw (h, k) refl
 
 -- ---- bytes that are so ----

@@ -13,7 +13,8 @@ use Rattle.paw_process.proofs.Restored.{first_of, second}
 use Rattle.paw_state.specs.declared.fields.Row.{Row}
 use Rattle.paw_state.specs.Fields.{row_of}
 use Rattle.paw_state.specs.inner.Parts.{frame_in}
-use Rattle.paw_state.specs.Faults.{rule, or_first, first, unused_fault, used_fault, row_fault, row_fields_fault, called_table}
+use Rattle.std.specs.Option.{option_or}
+use Rattle.paw_state.specs.Faults.{rule, first, unused_fault, used_fault, row_fault, row_fields_fault, called_table}
 use Rattle.paw_state.proofs.Found.{rule_holds, no_rule, no_first, none_first}
 
 pub both : (a b : Bool) → a ≡ true → b ≡ true → (a && b) ≡ true
@@ -23,12 +24,12 @@ pub four : (a b c d : Option ℕ) → first (a ∷ b ∷ c ∷ d ∷ []) ≡ Non
 four a b c d h =
     let p0 = no_first a (first (b ∷ c ∷ d ∷ [])) h in
     let p1 = no_first b (first (c ∷ d ∷ [])) p0.1 in
-    let p2 = no_first c (or_first d None) p1.1 in
+    let p2 = no_first c (option_or d None) p1.1 in
     (p0.0, p1.0, p2.0, (no_first d None p2.1).0)
 
 pub four_none : (a b c d : Option ℕ) → a ≡ None → b ≡ None → c ≡ None → d ≡ None → first (a ∷ b ∷ c ∷ d ∷ []) ≡ None
 four_none a b c d ka kb kc kd =
-    none_first a (first (b ∷ c ∷ d ∷ [])) ka (none_first b (first (c ∷ d ∷ [])) kb (none_first c (or_first d None) kc (none_first d None kd refl)))
+    none_first a (first (b ∷ c ∷ d ∷ [])) ka (none_first b (first (c ∷ d ∷ [])) kb (none_first c (option_or d None) kc (none_first d None kd refl)))
 
 -- ---- rows without a fault ----
 
@@ -163,7 +164,7 @@ frames_sound g code caller n at d (f ∷ fs) h = go (frames_sound g code (Some (
         → row_fields_fault g code (Some (parameter_of (condact_of g f))) (n - 1) (at + 5) (map row_of fs) ≡ None)
         → (b : Bool) → row_stands g code caller n f ≡ b
         → ◌≡◌ {A = Option ℕ} (if b then machine_fault g code (Some (parameter_of (condact_of g f))) (n - 1) (suc d) fs else Some d) None
-        → or_first (row_fault g code caller n at (row_of f)) (row_fields_fault g code (called_table g (row_of f)) (n - 1) (at + 5) (map row_of fs)) ≡ None
+        → option_or (row_fault g code caller n at (row_of f)) (row_fields_fault g code (called_table g (row_of f)) (n - 1) (at + 5) (map row_of fs)) ≡ None
     go later true e q = none_first (row_fault g code caller n at (row_of f)) _ (frame_sound g code caller n at f e) (later q)
     go later false e q = cc
 

@@ -8,7 +8,8 @@ use Rattle.paw_game.specs.Game.{GameLists}
 use Rattle.paw_state.specs.declared.fields.Row.{Row}
 use Rattle.paw_state.specs.declared.held.Held.{Held}
 use Rattle.paw_state.specs.inner.Fields.{row_at, rows_at}
-use Rattle.paw_state.specs.Faults.{rule, or_first, first_not, held_fault, kept_fault, row_fault, row_fields_fault, called_table}
+use Rattle.std.specs.Option.{option_or}
+use Rattle.paw_state.specs.Faults.{rule, first_not, held_fault, kept_fault, row_fault, row_fields_fault, called_table}
 
 -- ---- bytes ----
 
@@ -59,19 +60,19 @@ no_rows g code caller n at [] h = refl
 no_rows g code caller n at (r ∷ rs) h = absurd (omega arith)
 
 first_row : (g : GameLists) (code : ℕ) (caller : Option ℕ) (n at : ℕ) (rows : List Row) (r : Row) (rs : List Row) → rows ≡ r ∷ rs
-    → or_first (row_fault g code caller n at r) (row_fields_fault g code (called_table g r) (n - 1) (at + 5) rs) ≡ row_fields_fault g code caller n at rows
+    → option_or (row_fault g code caller n at r) (row_fields_fault g code (called_table g r) (n - 1) (at + 5) rs) ≡ row_fields_fault g code caller n at rows
 unfolding row_fields_fault
 first_row g code caller n at rows r rs e = rw e refl
 
 pub row_stops : (g : GameLists) (code : ℕ) (caller : Option ℕ) (n at x : ℕ) (rows : List Row) (r : Row) (rs : List Row) → rows ≡ r ∷ rs
     → Some x ≡ row_fault g code caller n at r → Some x ≡ row_fields_fault g code caller n at rows
 row_stops g code caller n at x rows r rs e h =
-    ap (λ (o : Option ℕ). or_first o (row_fields_fault g code (called_table g r) (n - 1) (at + 5) rs)) h ∙ first_row g code caller n at rows r rs e
+    ap (λ (o : Option ℕ). option_or o (row_fields_fault g code (called_table g r) (n - 1) (at + 5) rs)) h ∙ first_row g code caller n at rows r rs e
 
 pub row_passes : (g : GameLists) (code : ℕ) (caller : Option ℕ) (n at : ℕ) (rows : List Row) (r : Row) (rs : List Row) → rows ≡ r ∷ rs
     → None ≡ row_fault g code caller n at r → row_fields_fault g code (called_table g r) (n - 1) (at + 5) rs ≡ row_fields_fault g code caller n at rows
 row_passes g code caller n at rows r rs e h =
-    ap (λ (o : Option ℕ). or_first o (row_fields_fault g code (called_table g r) (n - 1) (at + 5) rs)) h ∙ first_row g code caller n at rows r rs e
+    ap (λ (o : Option ℕ). option_or o (row_fields_fault g code (called_table g r) (n - 1) (at + 5) rs)) h ∙ first_row g code caller n at rows r rs e
 
 -- ---- kept positions ----
 
@@ -81,17 +82,17 @@ kept_none g at [] h = refl
 kept_none g at (k ∷ ks) h = absurd (omega arith)
 
 first_kept : (g : GameLists) (at : ℕ) (kept : List Held) (k : Held) (ks : List Held) → kept ≡ k ∷ ks
-    → or_first (held_fault g at k) (kept_fault g (at + 512) ks) ≡ kept_fault g at kept
+    → option_or (held_fault g at k) (kept_fault g (at + 512) ks) ≡ kept_fault g at kept
 unfolding kept_fault
 first_kept g at kept k ks e = rw e refl
 
 pub kept_stops : (g : GameLists) (at x : ℕ) (kept : List Held) (k : Held) (ks : List Held) → kept ≡ k ∷ ks → Some x ≡ held_fault g at k
     → Some x ≡ kept_fault g at kept
-kept_stops g at x kept k ks e h = ap (λ (o : Option ℕ). or_first o (kept_fault g (at + 512) ks)) h ∙ first_kept g at kept k ks e
+kept_stops g at x kept k ks e h = ap (λ (o : Option ℕ). option_or o (kept_fault g (at + 512) ks)) h ∙ first_kept g at kept k ks e
 
 pub kept_passes : (g : GameLists) (at : ℕ) (kept : List Held) (k : Held) (ks : List Held) → kept ≡ k ∷ ks → None ≡ held_fault g at k
     → kept_fault g (at + 512) ks ≡ kept_fault g at kept
-kept_passes g at kept k ks e h = ap (λ (o : Option ℕ). or_first o (kept_fault g (at + 512) ks)) h ∙ first_kept g at kept k ks e
+kept_passes g at kept k ks e h = ap (λ (o : Option ℕ). option_or o (kept_fault g (at + 512) ks)) h ∙ first_kept g at kept k ks e
 
 -- ---- rows that are read ----
 

@@ -4,7 +4,8 @@ use Rattle.std.specs.Prelude.{if◌then◌else◌}
 use Rattle.paw_game.specs.Game.{GameLists}
 use Rattle.paw_process.specs.Kept.{waiting_code, count_fits}
 use Rattle.paw_state.specs.declared.fields.Fields.{Fields}
-use Rattle.paw_state.specs.Faults.{rule, or_first, first, first_not, is_zero, places_fault, held_fault, kept_fault, numbers_fault, prompt_of, prompt_fault}
+use Rattle.std.specs.Option.{option_or}
+use Rattle.paw_state.specs.Faults.{rule, first, first_not, is_zero, places_fault, held_fault, kept_fault, numbers_fault, prompt_of, prompt_fault}
 use Rattle.paw_state.specs.Faults.{frame_fields_fault, no_loop_fault, loop_fields_fault, turning_fault, pending_fault, fields_fault}
 use Rattle.paw_state.proofs.Found.{rule_holds, no_rule, no_first, none_first}
 
@@ -28,10 +29,10 @@ pub record AreSound (g : GameLists) (f : Fields) : Type 0 where
   pub kept : kept_fault g 1371 f.kept ≡ None
 
 pub two : (a b : Option ℕ) → first (a ∷ b ∷ []) ≡ None → (a ≡ None) × (b ≡ None)
-two a b h = let p = no_first a (or_first b None) h in (p.0, (no_first b None p.1).0)
+two a b h = let p = no_first a (option_or b None) h in (p.0, (no_first b None p.1).0)
 
 pub two_none : (a b : Option ℕ) → a ≡ None → b ≡ None → first (a ∷ b ∷ []) ≡ None
-two_none a b h k = none_first a (or_first b None) h (none_first b None k refl)
+two_none a b h k = none_first a (option_or b None) h (none_first b None k refl)
 
 pub eight : (a b c d e f g h : Option ℕ) → first (a ∷ b ∷ c ∷ d ∷ e ∷ f ∷ g ∷ h ∷ []) ≡ None
     → (a ≡ None) × (b ≡ None) × (c ≡ None) × (d ≡ None) × (e ≡ None) × (f ≡ None) × (g ≡ None) × (h ≡ None)

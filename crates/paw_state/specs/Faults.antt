@@ -1,7 +1,7 @@
 -- The first field of a state that breaks its rule.
 use Rattle.std.specs.Prelude.{ℕ, suc, ◌+◌, ◌-◌, ◌*◌, ◌==◌, ◌||◌, Bool, List, [], ◌∷◌, Option, Some, None}
 use Rattle.std.specs.Prelude.{length, take, drop, is_some, nat_lt, nat_le, slice_get, if◌then◌else◌}
-use Rattle.std.specs.Option.{unwrap_or}
+use Rattle.std.specs.Option.{option_or, unwrap_or}
 use Rattle.paw_base.specs.declared.codes.TheConstants.{PROCESS, DOALL}
 use Rattle.paw_base.specs.declared.limits.TheConstants.{READ_LIMIT, EVENT_LIMIT}
 use Rattle.paw_game.specs.Game.{GameLists}
@@ -26,15 +26,10 @@ use Rattle.paw_state.specs.declared.held.Held.{Held}
 abbrev pub rule : ℕ → Bool → Option ℕ
 rule at holds = if holds then None else Some at
 
--- the first of these that is a fault
-abbrev pub or_first : Option ℕ → Option ℕ → Option ℕ
-or_first None later = later
-or_first (Some at) later = Some at
-
 -- the first of these faults
 abbrev pub first : List (Option ℕ) → Option ℕ
 first [] = None
-first (o ∷ later) = or_first o (first later)
+first (o ∷ later) = option_or o (first later)
 
 -- of bytes from this place on, the first that isn't so
 unfoldable pub first_not : (ℕ → Bool) → ℕ → List ℕ → Option ℕ
@@ -71,7 +66,7 @@ held_fault g at h = first (
 -- positions, one after the other from this place on
 unfoldable pub kept_fault : GameLists → ℕ → List Held → Option ℕ
 kept_fault g at [] = None
-kept_fault g at (h ∷ hs) = or_first (held_fault g at h) (kept_fault g (at + HELD_LENGTH) hs)
+kept_fault g at (h ∷ hs) = option_or (held_fault g at h) (kept_fault g (at + HELD_LENGTH) hs)
 
 -- not too many lines were taken, and no piece drew more words than it may read condacts
 abbrev pub numbers_fault : Fields → Option ℕ
@@ -129,7 +124,7 @@ called_table g r = Some (parameter_of (condact_at g r.table r.entry r.at))
 unfoldable pub row_fields_fault : GameLists → ℕ → Option ℕ → ℕ → ℕ → List Row → Option ℕ
 row_fields_fault g code caller n at [] = None
 row_fields_fault g code caller n at (r ∷ rs) =
-    or_first (row_fault g code caller n at r) (row_fields_fault g code (called_table g r) (n - 1) (at + ROW_LENGTH) rs)
+    option_or (row_fault g code caller n at r) (row_fields_fault g code (called_table g r) (n - 1) (at + ROW_LENGTH) rs)
 
 -- without an open loop its bytes are 0
 abbrev pub no_loop_fault : OpenLoop → Option ℕ

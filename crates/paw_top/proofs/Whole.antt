@@ -182,8 +182,8 @@ whole_read p g r s =
     let d7 : Spelt = record c6 { facts = map (λ (o : ObjectRow). o.facts) g.objects } in
     let obj : List (List ℕ) = objects_lines g.words g.objects in
     let t7 : Reads p d6 obj d7 =
-    reads_line p d6 c6 d7 (codes "/OBJ") (numbered (λ n (o : ObjectRow). spaced (object_tokens g.words n o.facts) ∷ []) 0 g.objects) (header_reads p d6 section.Con refl tt)
-    (objects_read p c6 [] 0 g.objects refl scene6 refl rows names_few r.objects) in
+    reads_line p d6 c6 d7 (codes "/OBJ") (numbered (λ n (o : ObjectRow). spaced (object_tokens g.words n o.facts) ∷ []) 0 g.objects)
+    (header_reads p d6 section.Con refl tt) (objects_read p c6 [] 0 g.objects refl scene6 refl rows names_few r.objects) in
     let l7 : List (List ℕ) = l5 ++ con ++ obj in
     let r7 : Reads p nothing_yet l7 d7 = reads_append p nothing_yet d6 d7 (l5 ++ con) obj r6 t7 in
     -- the tables
