@@ -31,14 +31,14 @@ abbrev pub seed_of : List ℕ → Option ℕ
 seed_of word = option_and_then as_seed (number_of 20 word)
 
 -- a name comes next, of at least one byte, and such words behind it
-abbrev pub named : (List ℕ → List (List ℕ) → Option Command) → List (List ℕ) → Option Command
-named such [] = None
-named such (name ∷ words) = if nat_lt 0 (length name) then such name words else None
+abbrev pub a_name : (List ℕ → List (List ℕ) → Option Command) → List (List ℕ) → Option Command
+a_name such [] = None
+a_name such (name ∷ words) = if nat_lt 0 (length name) then such name words else None
 
 -- a number comes last, which is read so
-abbrev pub numbered : (List ℕ → Option ℕ) → (ℕ → Command) → List (List ℕ) → Option Command
-numbered read command (word ∷ []) = option_map command (read word)
-numbered read command _ = None
+abbrev pub a_number : (List ℕ → Option ℕ) → (ℕ → Command) → List (List ℕ) → Option Command
+a_number read command (word ∷ []) = option_map command (read word)
+a_number read command _ = None
 
 -- no word comes any more
 abbrev pub ends : Command → List (List ℕ) → Option Command
@@ -49,13 +49,14 @@ ends command _ = None
 abbrev pub command_of : List (List ℕ) → Option Command
 command_of [] = None
 command_of (verb ∷ rest) =
-    if bytes_eq verb (codes "compile") then named (λ source. named (λ image. ends (Compile source image))) rest
-    else if bytes_eq verb (codes "decompile") then named (λ image. ends (Decompile image)) rest
-    else if bytes_eq verb (codes "walk") then named (λ image. numbered seed_of (Walk image)) rest
-    else if bytes_eq verb (codes "trace") then named (λ image. numbered seed_of (Trace image)) rest
-    else if bytes_eq verb (codes "play") then named (λ image. named (λ store. numbered seed_of (Play image store))) rest
-    else if bytes_eq verb (codes "resume") then named (λ image. named (λ store. ends (Resume image store))) rest
-    else if bytes_eq verb (codes "trial") then numbered (number_of 4) Trial rest
+    if bytes_eq verb (codes "compile") then a_name (λ source. a_name (λ image. ends (Compile source image))) rest
+    else if bytes_eq verb (codes "decompile") then a_name (λ image. ends (Decompile image)) rest
+    else if bytes_eq verb (codes "walk") then a_name (λ image. a_number seed_of (Walk image)) rest
+    else if bytes_eq verb (codes "trace") then a_name (λ image. a_number seed_of (Trace image)) rest
+    else if bytes_eq verb (codes "play")
+    then a_name (λ image. a_name (λ store. a_number seed_of (Play image store))) rest
+    else if bytes_eq verb (codes "resume") then a_name (λ image. a_name (λ store. ends (Resume image store))) rest
+    else if bytes_eq verb (codes "trial") then a_number (number_of 4) Trial rest
     else None
 
 -- what the words of a call ask for

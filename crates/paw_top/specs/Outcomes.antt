@@ -15,7 +15,7 @@ use Rattle.paw_top.specs.declared.outcome.Outcome.TheVariants as outcome
 use Rattle.paw_top.specs.declared.outcome.MemoryAt.{MemoryAt}
 use Rattle.paw_top.specs.declared.outcome.MemoryAt.TheVariants as memory
 
--- the exit status of the program: 0 where nothing stood in the way of what was asked for
+-- the exit status of the program; Done, Ended and InputEnded are 0
 abbrev pub status_of : Outcome → ℕ
 status_of outcome.Usage = 1
 status_of (outcome.SourceRefused fault) = 2
@@ -81,7 +81,7 @@ memory_name memory.Image = codes "Image"
 memory_name memory.Play = codes "Play"
 memory_name memory.Trial = codes "Trial"
 
--- what is written to standard error: nothing where the status is 0
+-- what is written to standard error; nothing for Done, Ended and InputEnded
 abbrev pub error_text : Outcome → List ℕ
 error_text outcome.Usage = usage
 error_text (outcome.SourceRefused fault) = codes "source line "
@@ -92,8 +92,7 @@ error_text (outcome.Unmade n mark) = codes "no session: length "
     ++ (decimal n ++ (codes ", mark " ++ (decimal mark ++ codes "\n")))
 error_text (outcome.SessionDamaged p at) = codes "session damaged: "
     ++ (part_name p ++ (codes " at " ++ (decimal at ++ codes "\n")))
-error_text (outcome.WrongGame kept found) =
-    codes "session is of another game: kept "
+error_text (outcome.WrongGame kept found) = codes "session is of another game: kept "
     ++ (encode_lower kept ++ (codes " found " ++ (encode_lower found ++ codes "\n")))
 error_text (outcome.Spent kind) = codes "piece spent its " ++ (spent_name kind ++ codes "\n")
 error_text (outcome.TooDeep table) = codes "too many calls at table " ++ (decimal table ++ codes "\n")

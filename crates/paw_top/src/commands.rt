@@ -5,7 +5,7 @@ ghost use Rattle.std.specs.Prelude.{Option, Some, None, IfSome, IfNone, MatchOpt
 ghost use Rattle.std.specs.Option.{option_and_then};
 ghost use Rattle.std.specs.Char.{is_ascii_digit};
 ghost use Rattle.paw_grammar.specs.Numbers.{number};
-ghost use Rattle.paw_top.specs.Commands.{command_of, number_of, as_seed, seed_of, named, numbered, ends};
+ghost use Rattle.paw_top.specs.Commands.{command_of, number_of, as_seed, seed_of, a_name, a_number, ends};
 ghost use Rattle.paw_top.specs.Commands.{Compile as CompileOf, Decompile as DecompileOf, Walk as WalkOf};
 ghost use Rattle.paw_top.specs.Commands.{Trace as TraceOf, Play as PlayOf, Resume as ResumeOf, Trial as TrialOf};
 ghost use Rattle.paw_top.specs.inner.Commands.{SpellsCommand, two_names, name_and_seed};
@@ -125,7 +125,7 @@ fn two_names<'a>(names: &'a [String]) -> Option<(&'a str, &'a str)>
 
 // IMAGE, behind `decompile`.
 fn decompile_of<'a>(names: &'a [String]) -> Option<Command<'a>>
-    ensures value { SpellsCommand result (named (λ image. ends (DecompileOf image)) (map string_bytes names.now)) }
+    ensures value { SpellsCommand result (a_name (λ image. ends (DecompileOf image)) (map string_bytes names.now)) }
 {
     if names.len() != 1 || names[0].is_empty() {
         return None;
@@ -152,7 +152,7 @@ fn image_and_seed<'a>(names: &'a [String]) -> Option<(&'a str, u64)>
 // IMAGE STORE SEED, behind `play`.
 fn play_of<'a>(names: &'a [String]) -> Option<Command<'a>>
     ensures value { SpellsCommand result
-        (named (λ image. name_and_seed (PlayOf image)) (map string_bytes names.now)) }
+        (a_name (λ image. name_and_seed (PlayOf image)) (map string_bytes names.now)) }
 {
     if names.len() != 3 || names[0].is_empty() || names[1].is_empty() {
         return None;
@@ -167,7 +167,7 @@ fn play_of<'a>(names: &'a [String]) -> Option<Command<'a>>
 
 // N, behind `trial`.
 fn trial_of<'a>(names: &'a [String]) -> Option<Command<'a>>
-    ensures value { SpellsCommand result (numbered (number_of 4) TrialOf (map string_bytes names.now)) }
+    ensures value { SpellsCommand result (a_number (number_of 4) TrialOf (map string_bytes names.now)) }
 {
     if names.len() != 1 {
         return None;

@@ -3,15 +3,15 @@ use Rattle.std.specs.Prelude.{◌≡◌, ℕ, List, Option, Some, None}
 use Rattle.paw_top.specs.declared.commands.Command.{Command as Given}
 use Rattle.paw_top.specs.declared.commands.Command.TheVariants as given
 use Rattle.paw_top.specs.Commands.{Command, Compile, Decompile, Walk, Trace, Play, Resume, Trial}
-use Rattle.paw_top.specs.Commands.{seed_of, named, numbered, ends}
+use Rattle.paw_top.specs.Commands.{seed_of, a_name, a_number, ends}
 
 -- two names come, and then no word more
 abbrev pub two_names : (List ℕ → List ℕ → Command) → List (List ℕ) → Option Command
-two_names such words = named (λ one. named (λ other. ends (such one other))) words
+two_names such words = a_name (λ one. a_name (λ other. ends (such one other))) words
 
 -- a name comes, and then a seed
 abbrev pub name_and_seed : (List ℕ → ℕ → Command) → List (List ℕ) → Option Command
-name_and_seed such words = named (λ name. numbered seed_of (such name)) words
+name_and_seed such words = a_name (λ name. a_number seed_of (such name)) words
 
 -- the code's answer spells what is asked for
 abbrev pub SpellsCommand : Option Given → Option Command → Type 0
