@@ -7,7 +7,8 @@ use Rattle.std.proofs.lemmas.Bool.{and_from, and_parts, le-leb, leb-true, ne_eqb
 use Rattle.std.proofs.lemmas.Fmt.{decimal_by_steps}
 use Rattle.std.proofs.lemmas.List.{append-nil}
 use Rattle.std.proofs.lemmas.List.Folds.{list_all-append}
-use Rattle.paw_grammar.specs.Numbers.{is_digit, number_from, number, number_with}
+use Rattle.std.specs.Char.{is_ascii_digit}
+use Rattle.paw_grammar.specs.Numbers.{number_from, number, number_with}
 use Rattle.paw_grammar.specs.Spells.{begins_with_slash, step}
 use Rattle.paw_grammar.specs.GrammarState.{Spelt}
 use Rattle.paw_grammar.specs.GrammarHeads.{item_in, slash_line}
@@ -15,13 +16,13 @@ use Rattle.paw_print.specs.Lines.{item_token}
 use Rattle.paw_top.proofs.Rows.{is_clean, is_plain, slash_step}
 
 -- one digit more
-number_from-push : (k m d : ℕ) (ds : List ℕ) → number_from k ds ≡ Some m → is_digit d ≡ true → number_from k (ds ++ d ∷ []) ≡ Some (m * 10 + (d - 48))
+number_from-push : (k m d : ℕ) (ds : List ℕ) → number_from k ds ≡ Some m → is_ascii_digit d ≡ true → number_from k (ds ++ d ∷ []) ≡ Some (m * 10 + (d - 48))
 unfolding number_from
 number_from-push k m d [] h digit =
     let same : k ≡ m = cc in
     rw digit (ap (λ n. Some (n * 10 + (d - 48))) same)
 number_from-push k m d (c ∷ cs) h digit =
-    elim (is_digit c) as (λ v. cond v (number_from (k * 10 + (c - 48)) cs) None ≡ Some m →
+    elim (is_ascii_digit c) as (λ v. cond v (number_from (k * 10 + (c - 48)) cs) None ≡ Some m →
     cond v (number_from (k * 10 + (c - 48)) (cs ++ d ∷ [])) None ≡ Some (m * 10 + (d - 48))) [
       | true ↦ λ g. number_from-push (k * 10 + (c - 48)) m d cs g digit
       | false ↦ λ g. absurd cc
@@ -32,7 +33,7 @@ record IsDecimal (n : ℕ) (ds : List ℕ) : Type 0 where
   read : number_from 0 ds ≡ Some n
   clean : list_all is_clean ds ≡ true
 
-digit_is : (n : ℕ) → n < 10 → is_digit (48 + n) ≡ true
+digit_is : (n : ℕ) → n < 10 → is_ascii_digit (48 + n) ≡ true
 digit_is n h = and_from _ _ (le-leb 48 (48 + n) (omega arith)) (le-leb (48 + n) 57 (omega arith))
 
 digit_clean : (n : ℕ) → n < 10 → is_clean (48 + n) ≡ true
@@ -98,7 +99,7 @@ slash_none : (n : ℕ) (ds : List ℕ) → number_from 0 ds ≡ Some n → begin
 unfolding number_from
 slash_none n [] h = refl
 slash_none n (b ∷ bs) h =
-    elim (is_digit b) as (λ v. is_digit b ≡ v → cond v (number_from (0 * 10 + (b - 48)) bs) None ≡ Some n → eqb b 47 ≡ false) [
+    elim (is_ascii_digit b) as (λ v. is_ascii_digit b ≡ v → cond v (number_from (0 * 10 + (b - 48)) bs) None ≡ Some n → eqb b 47 ≡ false) [
       | true ↦ λ e g. ne_eqb b 47 (λ same. omega (arith, leb-true 48 b (and_parts (leb 48 b) (leb b 57) e).0))
       | false ↦ λ e g. absurd cc
     ] refl h

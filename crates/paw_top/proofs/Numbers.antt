@@ -7,7 +7,8 @@ use Rattle.std.proofs.Math.Seq.{drop-cons}
 use Rattle.std.proofs.Math.ListN.{drop_of_length-le}
 use Rattle.std.proofs.lemmas.Bool.{and_parts}
 use Rattle.std.proofs.lemmas.Bool.Decides.{nat_tests}
-use Rattle.paw_grammar.specs.Numbers.{is_digit, number_from, number}
+use Rattle.std.specs.Char.{is_ascii_digit}
+use Rattle.paw_grammar.specs.Numbers.{number_from, number}
 use Rattle.paw_top.specs.Commands.{number_of, as_seed}
 
 -- ---- a number that is read digit by digit ----
@@ -17,23 +18,23 @@ too_big : (n : ℕ) (ds : List ℕ) → 2 ^ 64 ≤ n → ◌≡◌ {A = Option �
 unfolding number_from
 too_big n [] h = let t : nat_lt n (2 ^ 64) ≡ false = grind (arith, nat_tests) in rw t refl
 too_big n (d ∷ ds) h =
-    elim (is_digit d) as (λ v. ◌≡◌ {A = Option ℕ} (option_and_then as_seed (cond v (number_from (n * 10 + (d - 48)) ds) None)) None) [
+    elim (is_ascii_digit d) as (λ v. ◌≡◌ {A = Option ℕ} (option_and_then as_seed (cond v (number_from (n * 10 + (d - 48)) ds) None)) None) [
       | true ↦ too_big (n * 10 + (d - 48)) ds (omega (arith, h))
       | false ↦ refl
     ]
 
 -- one digit more
-pub digit_read : (n more : ℕ) (t : List ℕ) (i : ℕ) → i < length t → is_digit (get_or t i 0) ≡ true → more ≡ n * 10 + (get_or t i 0 - 48)
+pub digit_read : (n more : ℕ) (t : List ℕ) (i : ℕ) → i < length t → is_ascii_digit (get_or t i 0) ≡ true → more ≡ n * 10 + (get_or t i 0 - 48)
     → number_from n (drop i t) ≡ number_from more (drop (i + 1) t)
 unfolding number_from
 digit_read n more t i h digit e = rw (drop-cons t i 0, add-one, digit) (ap (λ m. number_from m (drop (suc i) t)) (sym e))
 
-pub too_many : (n : ℕ) (t : List ℕ) (i : ℕ) → i < length t → is_digit (get_or t i 0) ≡ true → 2 ^ 64 ≤ n * 10 + (get_or t i 0 - 48)
+pub too_many : (n : ℕ) (t : List ℕ) (i : ℕ) → i < length t → is_ascii_digit (get_or t i 0) ≡ true → 2 ^ 64 ≤ n * 10 + (get_or t i 0 - 48)
     → ◌≡◌ {A = Option ℕ} (option_and_then as_seed (number_from n (drop i t))) None
 unfolding number_from
 too_many n t i h digit big = rw (drop-cons t i 0, digit) (too_big (n * 10 + (get_or t i 0 - 48)) (drop (suc i) t) big)
 
-pub no_digit : (n : ℕ) (t : List ℕ) (i : ℕ) → i < length t → is_digit (get_or t i 0) ≡ false
+pub no_digit : (n : ℕ) (t : List ℕ) (i : ℕ) → i < length t → is_ascii_digit (get_or t i 0) ≡ false
     → ◌≡◌ {A = Option ℕ} (option_and_then as_seed (number_from n (drop i t))) None
 unfolding number_from
 no_digit n t i h digit = rw (drop-cons t i 0, digit) refl
@@ -47,14 +48,14 @@ all_read n t i h small =
 
 -- ---- a number of few digits ----
 
-digit_small : (d : ℕ) → is_digit d ≡ true → d - 48 ≤ 9
+digit_small : (d : ℕ) → is_ascii_digit d ≡ true → d - 48 ≤ 9
 digit_small d h = let p = and_parts (nat_le 48 d) (nat_le d 57) h in grind (arith, nat_tests)
 
 -- the first digit, and those behind it
 one_more : (m d n : ℕ) (ds : List ℕ) → number_from m (d ∷ ds) ≡ Some n → (d - 48 ≤ 9) × (number_from (m * 10 + (d - 48)) ds ≡ Some n)
 unfolding number_from
 one_more m d n ds h =
-    elim (is_digit d) as (λ v. is_digit d ≡ v → cond v (number_from (m * 10 + (d - 48)) ds) None ≡ Some n →
+    elim (is_ascii_digit d) as (λ v. is_ascii_digit d ≡ v → cond v (number_from (m * 10 + (d - 48)) ds) None ≡ Some n →
     (d - 48 ≤ 9) × (number_from (m * 10 + (d - 48)) ds ≡ Some n)) [
       | true ↦ λ t g. (digit_small d t, g)
       | false ↦ λ t g. absurd cc
