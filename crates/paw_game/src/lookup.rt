@@ -34,7 +34,7 @@ fn text_in(texts: &[Text], number: u8) -> Option<&[u8]>
     ensures value { option_copied result ≡ slice_get texts.now number }
 {
     let text = texts.get(number as usize)?;
-    Some(text.bytes.as_slice())
+    Some(text.rows.as_slice())
 }
 
 fn object_text(objects: &[ObjectRow], number: u8) -> Option<&[u8]>
@@ -42,7 +42,7 @@ fn object_text(objects: &[ObjectRow], number: u8) -> Option<&[u8]>
 {
     let row = objects.get(number as usize)?;
     let text = &row.text;
-    Some(text.bytes.as_slice())
+    Some(text.rows.as_slice())
 }
 
 pub(crate) fn exit_at(parts: &GameParts, location: u8, verb: u8) -> Option<u8>

@@ -29,41 +29,47 @@ impl Word {
     }
 }
 
-/// A text; contracts see the list of its bytes.
+/// Some rows, in written order; contracts see the list.
 #[derive(Drop)]
-pub struct Text {
-    pub bytes: Vec<u8>,
+pub struct Rows<T> {
+    pub rows: Vec<T>,
 }
 
-impl Model for Text {
-    ghost use Rattle.std.specs.Prelude.{List, ℕ};
+impl<T> Model for Rows<T> {
+    ghost use Rattle.std.specs.Prelude.{List};
+    ghost use Rattle.std.specs.Coded.{coded_list};
 
-    ghost Value = { List ℕ };
+    ghost Value = { List T };
 
-    ghost view = { λ t. t.bytes.items };
+    ghost coded = { coded_list T.code };
+
+    ghost view = { λ r. r.rows.items };
 }
 
-impl Text {
-    /// The empty text.
-    pub fn new(alloc: Global) -> Text
+impl<T: Copy> Rows<T> {
+    /// No rows.
+    pub fn new(alloc: Global) -> Rows<T>
         ensures value { result ≡ [] }
     {
-        Text {
-            bytes: Vec::new(alloc),
+        Rows {
+            rows: Vec::new(alloc),
         }
     }
 
-    /// The text of these bytes.
+    /// These rows.
     ///
     /// # Errors
     /// AllocError for want of memory.
-    pub fn from_slice(alloc: Global, bytes: &[u8]) -> Result<Text, AllocError>
-        ensures value { IfOk result (λ text. text ≡ bytes.now) }
+    pub fn from_slice(alloc: Global, rows: &[T]) -> Result<Rows<T>, AllocError>
+        ensures value { IfOk result (λ all. all ≡ rows.now) }
     {
-        let bytes = Vec::from_slice(alloc, bytes)?;
-        Ok(Text { bytes })
+        let rows = Vec::from_slice(alloc, rows)?;
+        Ok(Rows { rows })
     }
 }
+
+/// A text: its bytes.
+pub type Text = Rows<u8>;
 
 /// An object: its text, and its facts.
 #[derive(Drop)]
@@ -79,57 +85,11 @@ pub struct Exit {
     pub to: u8,
 }
 
-/// The exits of one location, in written order; contracts see the list.
-#[derive(Drop)]
-pub struct Exits {
-    pub rows: Vec<Exit>,
-}
+/// The exits of one location.
+pub type Exits = Rows<Exit>;
 
-impl Model for Exits {
-    ghost use Rattle.std.specs.Prelude.{List};
-    ghost use Rattle.paw_game.specs.declared.parts.Exit.{Exit};
-
-    ghost Value = { List Exit };
-
-    ghost view = { λ e. e.rows.items };
-}
-
-impl Exits {
-    /// No exits.
-    pub fn new(alloc: Global) -> Exits
-        ensures value { result ≡ [] }
-    {
-        Exits {
-            rows: Vec::new(alloc),
-        }
-    }
-
-    /// These exits.
-    ///
-    /// # Errors
-    /// AllocError for want of memory.
-    pub fn from_slice(alloc: Global, exits: &[Exit]) -> Result<Exits, AllocError>
-        ensures value { IfOk result (λ all. all ≡ exits.now) }
-    {
-        let rows = Vec::from_slice(alloc, exits)?;
-        Ok(Exits { rows })
-    }
-}
-
-/// The condacts of one entry, in written order; contracts see the list.
-#[derive(Drop)]
-pub struct Condacts {
-    pub rows: Vec<Condact>,
-}
-
-impl Model for Condacts {
-    ghost use Rattle.std.specs.Prelude.{List};
-    ghost use Rattle.paw_base.specs.declared.parts.Condact.{Condact};
-
-    ghost Value = { List Condact };
-
-    ghost view = { λ c. c.rows.items };
-}
+/// The condacts of one entry.
+pub type Condacts = Rows<Condact>;
 
 impl Condacts {
     /// The condacts of these codes, each with its two parameters.

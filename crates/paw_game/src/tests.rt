@@ -189,7 +189,7 @@ fn makes_parts(rt: HostRuntime) -> Result<(), Fail> {
     assert_eq!(rt; go.letters.as_slice(), b"GO   ".as_slice());
     assert_eq!(rt; (go.value, go.class), (30, VERB_CLASS));
     let text = Text::from_slice(alloc, b"Taken.")?;
-    assert_eq!(rt; text.bytes.as_slice(), b"Taken.".as_slice());
+    assert_eq!(rt; text.rows.as_slice(), b"Taken.".as_slice());
     let exits = Exits::from_slice(alloc, &[Exit { verb: 2, to: 1 }])?;
     assert_eq!(rt; exits.rows.as_slice(), [Exit { verb: 2, to: 1 }].as_slice());
     let entry = Entry::from_codes(alloc, 30, NO_WORD, &[(LET, 60, 9)])?;
@@ -205,7 +205,7 @@ fn makes_parts(rt: HostRuntime) -> Result<(), Fail> {
 
 #[test]
 fn makes_empty_parts(rt: HostRuntime) -> Result<(), Fail> {
-    assert!(rt; Text::new(rt.alloc()).bytes.is_empty());
+    assert!(rt; Text::new(rt.alloc()).rows.is_empty());
     assert!(rt; Exits::new(rt.alloc()).rows.is_empty());
     assert!(rt; Table::new(rt.alloc()).entries.is_empty());
     Ok(())

@@ -29,7 +29,7 @@ fn bad_text(texts: &[Text]) -> Option<usize>
 pub(crate) fn is_text(text: &Text) -> bool
     ensures value { result ≡ is_text text.now }
 {
-    text.bytes.len() <= TEXT_LIMIT && is_printed(text.bytes.as_slice())
+    text.rows.len() <= TEXT_LIMIT && is_printed(text.rows.as_slice())
 }
 
 /// Whether bytes print or end a line, where no line begins with '/' or ';'.

@@ -31,7 +31,7 @@ fn a_trial_is_as_large_as_its_number_says(rt: HostRuntime) -> Result<(), Fail> {
 // The bytes of a text; none where there is no such text.
 fn bytes_at(texts: &[Text], at: usize) -> &[u8] {
     match texts.get(at) {
-        Some(text) => text.bytes.as_slice(),
+        Some(text) => text.rows.as_slice(),
         None => b"",
     }
 }

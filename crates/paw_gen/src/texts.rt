@@ -21,7 +21,7 @@ pub(crate) fn numbered(
     let mut bytes = Vec::from_slice(alloc, before)?;
     bytes.extend_from_slice(digits.format(number).as_bytes())?;
     bytes.extend_from_slice(after)?;
-    Ok(Text { bytes })
+    Ok(Text { rows: bytes })
 }
 
 /// The numbers from 0 on, each between the same two texts.

@@ -66,10 +66,10 @@ fn the_lantern_game_is_told(rt: HostRuntime) -> Result<(), Fail> {
     assert_eq!(rt; parts.words[2].letters, *b"LANTE");
     assert_eq!(rt; (parts.words[2].value, parts.words[2].class), (50, 2));
     assert_eq!(rt; parts.messages.len(), 1);
-    assert_eq!(rt; parts.messages[0].bytes.as_slice(), b"Taken.".as_slice());
+    assert_eq!(rt; parts.messages[0].rows.as_slice(), b"Taken.".as_slice());
     assert_eq!(rt; parts.objects.len(), 1);
     let lamp = &parts.objects[0];
-    assert_eq!(rt; lamp.text.bytes.as_slice(), b"a lamp".as_slice());
+    assert_eq!(rt; lamp.text.rows.as_slice(), b"a lamp".as_slice());
     assert_eq!(rt;
         (
             lamp.facts.noun,

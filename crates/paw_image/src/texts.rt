@@ -32,8 +32,8 @@ impl ReadRow for Text {
 
     fn read(alloc: Global, bytes: &[u8]) -> Result<(Text, &[u8]), ReadFault> {
         let (text, rest) = read_text(bytes)?;
-        let bytes = Vec::from_slice(alloc, text)?;
-        Ok((Text { bytes }, rest))
+        let rows = Vec::from_slice(alloc, text)?;
+        Ok((Text { rows }, rest))
     }
 }
 
@@ -43,12 +43,12 @@ impl Row for Text {
     ghost fits = { FitsText };
 
     fn length(&self) -> usize {
-        2 + self.bytes.len()
+        2 + self.rows.len()
     }
 
     fn write(&self, out: &mut Vec<u8>) -> Result<(), AllocError> {
-        write_number(self.bytes.len(), out)?;
-        out.extend_from_slice(&self.bytes)
+        write_number(self.rows.len(), out)?;
+        out.extend_from_slice(&self.rows)
     }
 }
 

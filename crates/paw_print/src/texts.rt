@@ -30,7 +30,7 @@ fn write_text(number: usize, text: &Text, out: &mut Vec<u8>) -> Written
     ensures writes { OnOk result (out.new.items ≡ out.old.items ++ written (text_lines number text.now)) }
 {
     write_item(number, out)?;
-    write_lines(&text.bytes, out)
+    write_lines(&text.rows, out)
 }
 
 /// Writes a section of texts.

@@ -33,7 +33,7 @@ pub(crate) fn text_item(
         return Err(Unread::Fault(SourceKind::TooBig));
     }
     texts.push(Text {
-        bytes: Vec::new(alloc),
+        rows: Vec::new(alloc),
     })?;
     Ok(())
 }
@@ -56,13 +56,13 @@ pub(crate) fn text_line(texts: &mut Vec<Text>, begun: bool, line: &[u8]) -> Resu
 fn join(text: &mut Text, begun: bool, line: &[u8]) -> Result<(), ReadError>
     ensures { Gives (λ _. text.new) result (at_most TEXT_LIMIT (with_line begun text.old line.now)) }
 {
-    if !has_room(text.bytes.len(), begun, line.len()) {
+    if !has_room(text.rows.len(), begun, line.len()) {
         return Err(Unread::Fault(SourceKind::TooBig));
     }
     if begun {
-        text.bytes.push(b'\n')?;
+        text.rows.push(b'\n')?;
     }
-    text.bytes.extend_from_slice(line)?;
+    text.rows.extend_from_slice(line)?;
     Ok(())
 }
 

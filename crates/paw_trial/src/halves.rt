@@ -38,7 +38,7 @@ fn add_lines(alloc: Global, stage: &mut MemoryStage, lines: &[Text]) -> Result<(
     ensures { OnOk result (stage.new ≡ record stage.old { lines = stage.old.lines ++ lines.now }) }
 {
     for line in lines {
-        stage.add_line(alloc, line.bytes.as_slice())?;
+        stage.add_line(alloc, line.rows.as_slice())?;
     }
     Ok(())
 }
