@@ -1,11 +1,12 @@
 //! Plain types that every other crate of the workspace speaks of, the numbers that have names, the table of condacts,
-//! the piece, and the steps of a piece.
+//! the piece, the steps of a piece, and rows in memory.
 #![tactic(auto)]
 
 pub mod codes;
 pub mod fault;
 pub mod flags;
 pub mod limits;
+pub mod lists;
 pub mod messages;
 pub mod parts;
 pub mod piece;

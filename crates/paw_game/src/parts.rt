@@ -3,6 +3,7 @@
 ghost use Rattle.std.specs.Prelude.{◌≡◌, [], IfOk, map};
 ghost use Rattle.paw_game.specs.inner.Parts.{condact_of};
 
+use paw_base::lists::Rows;
 use paw_base::parts::{Condact, ObjectFacts};
 use std::alloc::{AllocError, Global};
 use std::marker::Model;
@@ -29,45 +30,6 @@ impl Word {
     }
 }
 
-/// Some rows, in written order; contracts see the list.
-#[derive(Drop)]
-pub struct Rows<T> {
-    pub rows: Vec<T>,
-}
-
-impl<T> Model for Rows<T> {
-    ghost use Rattle.std.specs.Prelude.{List};
-    ghost use Rattle.std.specs.Coded.{coded_list};
-
-    ghost Value = { List T };
-
-    ghost coded = { coded_list T.code };
-
-    ghost view = { λ r. r.rows.items };
-}
-
-impl<T: Copy> Rows<T> {
-    /// No rows.
-    pub fn new(alloc: Global) -> Rows<T>
-        ensures value { result ≡ [] }
-    {
-        Rows {
-            rows: Vec::new(alloc),
-        }
-    }
-
-    /// These rows.
-    ///
-    /// # Errors
-    /// AllocError for want of memory.
-    pub fn from_slice(alloc: Global, rows: &[T]) -> Result<Rows<T>, AllocError>
-        ensures value { IfOk result (λ all. all ≡ rows.now) }
-    {
-        let rows = Vec::from_slice(alloc, rows)?;
-        Ok(Rows { rows })
-    }
-}
-
 /// A text: its bytes.
 pub type Text = Rows<u8>;
 
@@ -91,22 +53,6 @@ pub type Exits = Rows<Exit>;
 /// The condacts of one entry.
 pub type Condacts = Rows<Condact>;
 
-impl Condacts {
-    /// The condacts of these codes, each with its two parameters.
-    ///
-    /// # Errors
-    /// AllocError for want of memory.
-    pub fn from_codes(alloc: Global, codes: &[(u8, u8, u8)]) -> Result<Condacts, AllocError>
-        ensures value { IfOk result (λ condacts. condacts ≡ map condact_of codes.now) }
-    {
-        let rows = codes
-            .iter()
-            .map(|&(code, a, b)| Condact { code, a, b })
-            .collect(alloc)?;
-        Ok(Condacts { rows })
-    }
-}
-
 /// An entry of a table: the verb and the noun that it is for (1 and 255 match any), and its condacts.
 #[derive(Drop)]
 pub struct Entry {
@@ -129,13 +75,24 @@ impl Entry {
         ensures value { IfOk result
             (λ entry. entry ≡ record { verb = verb; noun = noun; condacts = map condact_of codes.now }) }
     {
-        let condacts = Condacts::from_codes(alloc, codes)?;
+        let condacts = condacts_from_codes(alloc, codes)?;
         Ok(Entry {
             verb,
             noun,
             condacts,
         })
     }
+}
+
+// The condacts of these codes, each with its two parameters.
+fn condacts_from_codes(alloc: Global, codes: &[(u8, u8, u8)]) -> Result<Condacts, AllocError>
+    ensures value { IfOk result (λ condacts. condacts ≡ map condact_of codes.now) }
+{
+    let rows = codes
+        .iter()
+        .map(|&(code, a, b)| Condact { code, a, b })
+        .collect(alloc)?;
+    Ok(Condacts { rows })
 }
 
 /// A table of entries, in written order; contracts see the list.
