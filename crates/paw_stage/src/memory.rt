@@ -23,6 +23,7 @@ ghost use Rattle.paw_stage.specs.inner.Memory.{line_taken, with_file, with_line_
 use crate::log::{Kind, Log};
 use crate::{Asked, Failed, FaultCounts, LoadRefusal, Stage, StageCall};
 use paw_base::fault::NoRoom;
+use paw_base::lists::Rows;
 use std::alloc::Global;
 use std::collections::VecDeque;
 use std::marker::Model;
@@ -31,18 +32,7 @@ use std::marker::Model;
 mod tests;
 
 // A line that is left.
-#[derive(Drop)]
-struct Line {
-    bytes: Vec<u8>,
-}
-
-impl Model for Line {
-    ghost use Rattle.std.specs.Prelude.{List, ℕ};
-
-    ghost Value = { List ℕ };
-
-    ghost view = { λ l. l.bytes.items };
-}
+type Line = Rows<u8>;
 
 /// A stage in memory, which tells everything.
 ///
@@ -90,8 +80,8 @@ impl MemoryStage {
         ensures ok { OnOk result (self.new ≡ with_line_left line.now self.old) }
         ensures err { OnErr result (self.new ≡ self.old) }
     {
-        let bytes = Vec::from_slice(alloc, line)?;
-        self.lines.push_back(Line { bytes }).map_err(|_| NoRoom)
+        let line = Line::from_slice(alloc, line)?;
+        self.lines.push_back(line).map_err(|_| NoRoom)
     }
 
     /// The text shown.
@@ -251,7 +241,7 @@ impl Stage for MemoryStage {
         }
         match self.lines.pop_front() {
             None => Asked::End,
-            Some(line) => Asked::Line(copy_cut(line.bytes.as_slice(), into)),
+            Some(line) => Asked::Line(copy_cut(line.rows.as_slice(), into)),
         }
     }
 
