@@ -301,7 +301,11 @@ fn tables(alloc: Global, scenes: &[Scene]) -> Result<Vec<Table>, AllocError> {
     for &(cases, _) in scenes {
         entries.push(entry(alloc, cases)?)?;
     }
-    Ok(vec![in alloc; Table { entries }, Table::new(alloc), Table::new(alloc)]?)
+    Ok(vec![in alloc;
+        Table { rows: entries },
+        Table::new(alloc),
+        Table::new(alloc),
+    ]?)
 }
 
 /// A game in which table 0 has an entry for each of these scenes. System message n is the letter that stands n bytes

@@ -186,7 +186,7 @@ impl<'a> Inspector<'a> {
     fn is_table(&self, table: &Table) -> bool
         ensures value { result ≡ is_table self.now table.now }
     {
-        table.entries.len() <= ENTRY_LIMIT && self.are_entries(table.entries.as_slice())
+        table.rows.len() <= ENTRY_LIMIT && self.are_entries(table.rows.as_slice())
     }
 
     fn are_entries(&self, entries: &[Entry]) -> bool

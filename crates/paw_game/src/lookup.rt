@@ -82,14 +82,14 @@ fn entry_at(parts: &GameParts, table: u8, entry: u16) -> Option<&Entry>
     ensures value { option_copied result ≡ entry_at parts.now table entry }
 {
     let table = parts.tables.get(table as usize)?;
-    table.entries.get(entry as usize)
+    table.rows.get(entry as usize)
 }
 
 pub(crate) fn match_at(parts: &GameParts, table: u8, from: u16, verb: u8, noun: u8) -> Option<usize>
     ensures value { result ≡ match_at parts.now table from verb noun }
 {
     let table = parts.tables.get(table as usize)?;
-    first_match(table.entries.as_slice(), from as usize, verb, noun)
+    first_match(table.rows.as_slice(), from as usize, verb, noun)
 }
 
 /// The first of these entries, from number `from` on, that matches this verb and noun.

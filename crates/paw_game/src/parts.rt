@@ -1,6 +1,6 @@
 // The parts of a game, which contracts see as lists.
 
-ghost use Rattle.std.specs.Prelude.{◌≡◌, [], IfOk, map};
+ghost use Rattle.std.specs.Prelude.{◌≡◌, IfOk, map};
 ghost use Rattle.paw_game.specs.inner.Parts.{condact_of};
 
 use paw_base::lists::Rows;
@@ -95,31 +95,8 @@ fn condacts_from_codes(alloc: Global, codes: &[(u8, u8, u8)]) -> Result<Condacts
     Ok(Condacts { rows })
 }
 
-/// A table of entries, in written order; contracts see the list.
-#[derive(Drop)]
-pub struct Table {
-    pub entries: Vec<Entry>,
-}
-
-impl Model for Table {
-    ghost use Rattle.std.specs.Prelude.{List};
-    ghost use Rattle.paw_game.specs.declared.parts.Entry.{Entry};
-
-    ghost Value = { List Entry };
-
-    ghost view = { λ t. t.entries.items };
-}
-
-impl Table {
-    /// A table with no entries.
-    pub fn new(alloc: Global) -> Table
-        ensures value { result ≡ [] }
-    {
-        Table {
-            entries: Vec::new(alloc),
-        }
-    }
-}
+/// A table: its entries.
+pub type Table = Rows<Entry>;
 
 /// The seven lists of a game, whatever rules they keep; contracts see them as `GameLists`. The list of exits has one
 /// row for each location.

@@ -39,7 +39,11 @@ fn small(alloc: Global) -> Result<GameParts, AllocError> {
         objects: vec![in alloc; object(alloc, b"a lamp", LAMP)?]?,
         locations: vec![in alloc; Text::from_slice(alloc, b"A hall.")?, Text::new(alloc)]?,
         exits: vec![in alloc; north, south]?,
-        tables: vec![in alloc; Table { entries }, Table::new(alloc), Table::new(alloc)]?,
+        tables: vec![in alloc;
+            Table { rows: entries },
+            Table::new(alloc),
+            Table::new(alloc),
+        ]?,
     })
 }
 
@@ -207,6 +211,6 @@ fn makes_parts(rt: HostRuntime) -> Result<(), Fail> {
 fn makes_empty_parts(rt: HostRuntime) -> Result<(), Fail> {
     assert!(rt; Text::new(rt.alloc()).rows.is_empty());
     assert!(rt; Exits::new(rt.alloc()).rows.is_empty());
-    assert!(rt; Table::new(rt.alloc()).entries.is_empty());
+    assert!(rt; Table::new(rt.alloc()).rows.is_empty());
     Ok(())
 }

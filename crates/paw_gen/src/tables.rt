@@ -33,7 +33,7 @@ fn answers(alloc: Global) -> Result<Table, NoRoom>
         Entry::from_codes(alloc, LOOK, NO_WORD, &[(DESC, 0, 0)])?,
         Entry::from_codes(alloc, INVEN, NO_WORD, &[(codes::INVEN, 0, 0), (DONE, 0, 0)])?,
     ]?;
-    Ok(Table { entries })
+    Ok(Table { rows: entries })
 }
 
 /// The list of objects behind a location's text.
@@ -42,7 +42,7 @@ fn listing(alloc: Global) -> Result<Table, NoRoom>
 {
     let lists = Entry::from_codes(alloc, NO_WORD, NO_WORD, &[(LISTOBJ, 0, 0)])?;
     let entries = vec![in alloc; lists]?;
-    Ok(Table { entries })
+    Ok(Table { rows: entries })
 }
 
 /// The three tables; the last has no entries.

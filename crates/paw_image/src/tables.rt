@@ -134,7 +134,7 @@ impl ReadRow for Table {
     fn read(alloc: Global, bytes: &[u8]) -> Result<(Table, &[u8]), ReadFault> {
         let (count, rest) = read_number(bytes)?;
         let (entries, rest) = read_rows(alloc, count as usize, rest)?;
-        Ok((Table { entries }, rest))
+        Ok((Table { rows: entries }, rest))
     }
 }
 
@@ -144,12 +144,12 @@ impl Row for Table {
     ghost fits = { FitsTable };
 
     fn length(&self) -> usize {
-        2 + length_of_rows(&self.entries)
+        2 + length_of_rows(&self.rows)
     }
 
     fn write(&self, out: &mut Vec<u8>) -> Result<(), AllocError> {
-        write_number(self.entries.len(), out)?;
-        write_rows(&self.entries, out)
+        write_number(self.rows.len(), out)?;
+        write_rows(&self.rows, out)
     }
 }
 

@@ -88,8 +88,8 @@ fn a_table_of_the_lantern_game(rt: HostRuntime) -> Result<(), Fail> {
     let game = decode(rt.alloc(), &LANTERN)?;
     let tables = &game.parts().tables;
     assert_eq!(rt; tables.len(), 3);
-    assert_eq!(rt; tables[0].entries.len(), 1);
-    let entry = &tables[0].entries[0];
+    assert_eq!(rt; tables[0].rows.len(), 1);
+    let entry = &tables[0].rows[0];
     assert_eq!(rt; (entry.verb, entry.noun), (30, 50));
     assert_eq!(rt; entry.condacts.rows.as_slice(), [MESSAGE, DONE].as_slice());
     Ok(())

@@ -115,7 +115,7 @@ pub(crate) fn write_tables(vocabulary: &Vocabulary, tables: &[Table], out: &mut 
         (out.new.items ≡ out.old.items ++ written (numbered (table_lines vocabulary.now) 0 tables.now)) }
 {
     for (number, table) in tables.iter().enumerate() {
-        write_table(vocabulary, number, &table.entries, out)?;
+        write_table(vocabulary, number, &table.rows, out)?;
     }
     Ok(())
 }

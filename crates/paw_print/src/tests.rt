@@ -42,7 +42,11 @@ fn smallest(alloc: Global) -> Result<GameParts, AllocError> {
 
 /// Table 0 with these entries, and two empty tables.
 fn tables(alloc: Global, entries: Vec<Entry>) -> Result<Vec<Table>, AllocError> {
-    Ok(vec![in alloc; Table { entries }, Table::new(alloc), Table::new(alloc)]?)
+    Ok(vec![in alloc;
+        Table { rows: entries },
+        Table::new(alloc),
+        Table::new(alloc),
+    ]?)
 }
 
 /// The game of these parts has this source.

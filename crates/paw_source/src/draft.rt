@@ -300,7 +300,7 @@ impl Draft {
             return fault(SourceKind::Missing);
         }
         self.tables.push(Table {
-            entries: Vec::new(alloc),
+            rows: Vec::new(alloc),
         })?;
         self.section = Section::Pro;
         self.begun = false;

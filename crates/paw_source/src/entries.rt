@@ -32,10 +32,10 @@ pub(crate) fn entry_row(
     let noun = scope.words.entry_noun(tokens)?;
     let mut rows = Vec::new(alloc);
     scope.more_condacts(tokens, &mut rows)?;
-    if table.entries.len() >= ENTRY_LIMIT {
+    if table.rows.len() >= ENTRY_LIMIT {
         return Err(Unread::Fault(SourceKind::TooBig));
     }
-    table.entries.push(Entry {
+    table.rows.push(Entry {
         verb,
         noun,
         condacts: Condacts { rows },
@@ -56,11 +56,11 @@ pub(crate) fn more_row(
 ) -> Result<(), ReadError>
     ensures { Gives (λ _. table.new) result (more_row scope.now.bounds scope.now.words table.old tokens.old) }
 {
-    if table.entries.is_empty() {
+    if table.rows.is_empty() {
         return Err(Unread::Fault(SourceKind::Section));
     }
-    let last = table.entries.len() - 1;
-    let entry = &mut table.entries[last];
+    let last = table.rows.len() - 1;
+    let entry = &mut table.rows[last];
     add_condacts(scope, &mut entry.condacts, tokens)
 }
 

@@ -42,10 +42,10 @@ fn tables(alloc: Global) -> Result<Vec<Table>, AllocError> {
     let responses = vec![in alloc; goes_round, calls]?;
     let questions = vec![in alloc; asks]?;
     Ok(vec![in alloc;
-        Table { entries: responses },
+        Table { rows: responses },
         Table::new(alloc),
         Table::new(alloc),
-        Table { entries: questions },
+        Table { rows: questions },
     ]?)
 }
 

@@ -222,7 +222,7 @@ fn table(alloc: Global, rows: &[Row]) -> Result<Table, AllocError> {
     for (verb, noun, codes) in rows {
         entries.push(Entry::from_codes(alloc, *verb, *noun, codes)?)?;
     }
-    Ok(Table { entries })
+    Ok(Table { rows: entries })
 }
 
 fn tables(alloc: Global, rows: &[&[Row]]) -> Result<Vec<Table>, AllocError> {
