@@ -23,7 +23,7 @@ ghost use Rattle.paw_process.specs.inner.OpenTables.{IsLoopWithin, LoopFits, IsR
 ghost use Rattle.paw_process.specs.inner.Meaning.{InStories, having, going_in, run_held};
 ghost use Rattle.paw_process.specs.inner.Moves.{Continues, StandsOrTurned, turning_as, looping, resolved, acted_at};
 ghost use Rattle.paw_process.specs.inner.Moves.{next_of, past_of, turning_at, reading_at, ReadsTable, ReadsOne};
-ghost use Rattle.paw_process.specs.inner.Steps.{IsReady, IsInnermost, MayReadOne, IsAfterMove, IsAfterStep};
+ghost use Rattle.paw_process.specs.inner.Steps.{IsReady, IsInnermost, MayReadOne, MayStep, HasMoved, HasStepped};
 ghost use Rattle.paw_process.specs.inner.Work.{work, frames_work, Progress};
 ghost use Rattle.paw_world.specs.inner.Places.{left_above};
 
@@ -152,8 +152,7 @@ impl<T: Tables, F: Fn(u8, u8) -> u8> Rulebook<'_, T, F> {
             Continues g (turning_at g (below machine.old.frames) l (left_above world.old.places above)
             (looping world.old machine.old.turning r))
             result machine.new.frames (looping world.new machine.new.turning r) }
-        ensures stands { StandsOrTurned result machine.new }
-        ensures after { IsAfterMove (T.game self.now.tables.now) machine.old world.old machine.new world.new }
+        ensures after { HasMoved (T.game self.now.tables.now) machine.old world.old result machine.new world.new }
         ensures falls { machine.old.turning ≡ Some l → above ≡ Some l.last → work machine.new < work machine.old }
     {
         match next_taken(self.tables, world, l.place, above) {
@@ -188,8 +187,7 @@ impl<T: Tables, F: Fn(u8, u8) -> u8> Rulebook<'_, T, F> {
         ensures meaning { (X : List (List ℕ)) (r : Run) → let g = story_of (T.game self.now.tables.now) X in
             Continues g (resolved g (below machine.old.frames) (Left acted (looping world.old machine.old.turning r)))
             result machine.new.frames (looping world.new machine.new.turning r) }
-        ensures stands { StandsOrTurned result machine.new }
-        ensures after { IsAfterMove (T.game self.now.tables.now) machine.old world.old machine.new world.new }
+        ensures after { HasMoved (T.game self.now.tables.now) machine.old world.old result machine.new world.new }
         ensures falls { work machine.new < work machine.old }
     {
         let level = machine.depth() - 1;
@@ -214,8 +212,7 @@ impl<T: Tables, F: Fn(u8, u8) -> u8> Rulebook<'_, T, F> {
             (run_held (having situation.old machine.old) r))
             ≡ going_in g machine.new.frames (run_held (having situation.new machine.new) r) }
         ensures same { machine.new ≡ record machine.old { frames = machine.new.frames } }
-        ensures reading { IsReading machine.new }
-        ensures after { IsAfterMove (T.game self.now.tables.now) machine.old situation.old.world
+        ensures after { HasMoved (T.game self.now.tables.now) machine.old situation.old.world None
             machine.new situation.new.world }
     {
         let found = take_phrase(self.tables, &mut situation.world, &mut situation.pending);
@@ -235,8 +232,7 @@ impl<T: Tables, F: Fn(u8, u8) -> u8> Rulebook<'_, T, F> {
         ensures meaning { (X : List (List ℕ)) (r : Run) → let g = story_of (T.game self.now.tables.now) X in
             Continues g (acted_at g (below machine.old.frames) f effect (run_held (having situation.old machine.old) r))
             result machine.new.frames (run_held (having situation.new machine.new) r) }
-        ensures stands { StandsOrTurned result machine.new }
-        ensures after { IsAfterMove (T.game self.now.tables.now) machine.old situation.old.world
+        ensures after { HasMoved (T.game self.now.tables.now) machine.old situation.old.world result
             machine.new situation.new.world }
     {
         match effect {
@@ -271,16 +267,13 @@ impl<T: Tables, F: Fn(u8, u8) -> u8> Rulebook<'_, T, F> {
         f: Frame,
         c: Condact,
     ) -> Option<Turned>
-        requires ready { IsReady (T.game self.now.tables.now) machine.old situation.old.world }
-        requires at { IsInnermost f machine.old }
-        requires may { MayReadOne (T.game self.now.tables.now) c machine.old situation.old.world }
+        requires may { MayReadOne (T.game self.now.tables.now) f c machine.old situation.old.world }
         requires kind { is_condition c ≡ true }
         ensures meaning { (X : List (List ℕ)) → let g = story_of (T.game self.now.tables.now) X in
             ReadsOne g (below machine.old.frames) f c (having situation.old machine.old) result
             (having situation.new machine.new) }
-        ensures stands { StandsOrTurned result machine.new }
         ensures counts { machine.old.left ≡ machine.new.left + 1 }
-        ensures after { IsAfterStep (T.game self.now.tables.now) (having situation.old machine.old)
+        ensures after { HasStepped (T.game self.now.tables.now) (having situation.old machine.old) result
             (having situation.new machine.new) }
     {
         match test(self.tables, &mut situation.world, c) {
@@ -313,8 +306,8 @@ impl<T: Tables, F: Fn(u8, u8) -> u8> Rulebook<'_, T, F> {
             (waits g prompt.Quit f (past_of g (below machine.old.frames) f))
             (run_held (having situation.old machine.old) r)))
             result machine.new.frames (run_held (having situation.new machine.new) r) }
-        ensures stands { StandsOrTurned result machine.new }
-        ensures left { ReadsNone machine.old machine.new }
+        ensures after { HasMoved (T.game self.now.tables.now) machine.old situation.old.world result
+            machine.new situation.new.world }
         ensures world { situation.new.world ≡ situation.old.world }
     {
         if !put(
@@ -337,17 +330,14 @@ impl<T: Tables, F: Fn(u8, u8) -> u8> Rulebook<'_, T, F> {
         f: Frame,
         c: Condact,
     ) -> Option<Turned>
-        requires ready { IsReady (T.game self.now.tables.now) machine.old situation.old.world }
         requires rows { HaveRows F.Fn self.now.routines.now }
-        requires at { IsInnermost f machine.old }
-        requires may { MayReadOne (T.game self.now.tables.now) c machine.old situation.old.world }
+        requires may { MayReadOne (T.game self.now.tables.now) f c machine.old situation.old.world }
         requires kind { is_condition c ≡ false }
         ensures meaning { InStories F.Fn self.now.routines.now (T.game self.now.tables.now) (λ g.
             ReadsOne g (below machine.old.frames) f c (having situation.old machine.old) result
             (having situation.new machine.new)) }
-        ensures stands { StandsOrTurned result machine.new }
         ensures counts { machine.old.left ≡ machine.new.left + 1 }
-        ensures after { IsAfterStep (T.game self.now.tables.now) (having situation.old machine.old)
+        ensures after { HasStepped (T.game self.now.tables.now) (having situation.old machine.old) result
             (having situation.new machine.new) }
     {
         machine.note(f, c, true);
@@ -376,18 +366,15 @@ impl<T: Tables, F: Fn(u8, u8) -> u8> Rulebook<'_, T, F> {
         f: Frame,
         c: Condact,
     ) -> Option<Turned>
-        requires ready { IsReady (T.game self.now.tables.now) machine.old situation.old.world }
-        requires rows { HaveRows F.Fn self.now.routines.now }
+        requires may { MayStep F.Fn self.now.routines.now (T.game self.now.tables.now) machine.old situation.old.world }
         requires at { IsInnermost f machine.old }
         requires found { condact_at (T.game self.now.tables.now) f.table f.entry f.at ≡ Some c }
         requires condact { is_right (T.game self.now.tables.now) c ≡ true }
-        requires draws { situation.old.world.draws + machine.old.left < 2 ^ 64 }
         ensures meaning { InStories F.Fn self.now.routines.now (T.game self.now.tables.now) (λ g.
             ReadsTable g (reading_at g (below machine.old.frames) f)
             (having situation.old machine.old) result (having situation.new machine.new)) }
-        ensures stands { StandsOrTurned result machine.new }
         ensures counts { IsNone result → machine.old.left ≡ machine.new.left + 1 }
-        ensures after { IsAfterStep (T.game self.now.tables.now) (having situation.old machine.old)
+        ensures after { HasStepped (T.game self.now.tables.now) (having situation.old machine.old) result
             (having situation.new machine.new) }
     {
         if !machine.may_read() {
@@ -402,18 +389,15 @@ impl<T: Tables, F: Fn(u8, u8) -> u8> Rulebook<'_, T, F> {
 
     /// The condacts of the innermost frame's entry go on.
     fn inside(&self, machine: &mut Machine, situation: &mut Situation, f: Frame) -> Option<Turned>
-        requires ready { IsReady (T.game self.now.tables.now) machine.old situation.old.world }
-        requires rows { HaveRows F.Fn self.now.routines.now }
+        requires may { MayStep F.Fn self.now.routines.now (T.game self.now.tables.now) machine.old situation.old.world }
         requires top { machine.old.frames ≡ f ∷ below machine.old.frames }
         requires entry { f.entry < ENTRY_LIMIT }
         requires valid { Valid (T.game self.now.tables.now) }
-        requires draws { situation.old.world.draws + machine.old.left < 2 ^ 64 }
         ensures meaning { InStories F.Fn self.now.routines.now (T.game self.now.tables.now) (λ g.
             ReadsTable g (reading_at g (below machine.old.frames) f)
             (having situation.old machine.old) result (having situation.new machine.new)) }
-        ensures stands { StandsOrTurned result machine.new }
         ensures progress { IsNone result → Progress machine.old machine.new }
-        ensures after { IsAfterStep (T.game self.now.tables.now) (having situation.old machine.old)
+        ensures after { HasStepped (T.game self.now.tables.now) (having situation.old machine.old) result
             (having situation.new machine.new) }
     {
         match self.tables.condact(f.table, f.entry, f.at) {
@@ -427,15 +411,12 @@ impl<T: Tables, F: Fn(u8, u8) -> u8> Rulebook<'_, T, F> {
 
     /// One step of reading: from the start of an entry to the next that matches, and a condact there.
     pub(crate) fn step(&self, machine: &mut Machine, situation: &mut Situation) -> Option<Turned>
-        requires ready { IsReady (T.game self.now.tables.now) machine.old situation.old.world }
-        requires rows { HaveRows F.Fn self.now.routines.now }
-        requires draws { situation.old.world.draws + machine.old.left < 2 ^ 64 }
+        requires may { MayStep F.Fn self.now.routines.now (T.game self.now.tables.now) machine.old situation.old.world }
         ensures meaning { InStories F.Fn self.now.routines.now (T.game self.now.tables.now) (λ g.
             ReadsTable g (going_in g machine.old.frames) (having situation.old machine.old) result
             (having situation.new machine.new)) }
-        ensures stands { StandsOrTurned result machine.new }
         ensures progress { IsNone result → Progress machine.old machine.new }
-        ensures after { IsAfterStep (T.game self.now.tables.now) (having situation.old machine.old)
+        ensures after { HasStepped (T.game self.now.tables.now) (having situation.old machine.old) result
             (having situation.new machine.new) }
     {
         // Its clause says that the game is valid, which the proof wants. No call of it is left in the program.

@@ -1,14 +1,19 @@
 -- What a step of the machine needs, and what it keeps.
-use Rattle.std.specs.Prelude.{◌≡◌, ◌+◌, ◌-◌, ◌<◌, ◌≤◌, ◌^◌, true, ◌∷◌}
+use Rattle.std.specs.Prelude.{◌≡◌, ℕ, ◌+◌, ◌-◌, ◌<◌, ◌≤◌, ◌^◌, true, ◌∷◌, Option}
+use Rattle.std.specs.Fn.{Shared}
 use Rattle.paw_base.specs.declared.parts.Condact.{Condact}
 use Rattle.paw_game.specs.Game.{GameLists}
 use Rattle.paw_game.specs.inner.Valid.{is_right}
 use Rattle.paw_world.specs.World.{World}
+use Rattle.paw_routines.specs.declared.routines.Routines.{Routines}
+use Rattle.paw_routines.specs.Routines.{HaveRows}
 use Rattle.paw_effects.specs.Worlds.{IsOf}
 use Rattle.paw_reading.specs.declared.places.Frame.{Frame}
 use Rattle.paw_process.specs.OpenTables.{OpenTables}
 use Rattle.paw_process.specs.inner.OpenTables.{below, ReadsNone, IsAtCondact, IsReading}
 use Rattle.paw_process.specs.inner.Meaning.{Held}
+use Rattle.paw_process.specs.inner.Moves.{StandsOrTurned}
+use Rattle.paw_process.specs.declared.Turned.{Turned}
 
 -- the machine may read on, in a world of the game
 pub record IsReady (g : GameLists) (m : OpenTables) (w : World) : Type 0 where
@@ -20,14 +25,27 @@ pub record IsInnermost (f : Frame) (m : OpenTables) : Type 0 where
   pub top : m.frames ≡ f ∷ below m.frames
   pub place : IsAtCondact f
 
--- this condact of the game may be read: the budget isn't used up, and the world can make one draw more
-pub record MayReadOne (g : GameLists) (c : Condact) (m : OpenTables) (w : World) : Type 0 where
+-- this condact of the game may be read at this innermost frame: the budget isn't used up, and the world can make one draw
+-- more
+pub record MayReadOne (g : GameLists) (f : Frame) (c : Condact) (m : OpenTables) (w : World) : Type 0 where
+  pub ready : IsReady g m w
+  pub at : IsInnermost f m
   pub left : 0 < m.left
   pub condact : is_right g c ≡ true
   pub draws : w.draws < 2 ^ 64 - 1
 
--- no condact is read, the world is the game's still, and nothing is drawn
-pub record IsAfterMove (g : GameLists) (old : OpenTables) (w : World) (new : OpenTables) (w' : World) : Type 0 where
+-- a step may be made: the machine may read on, the routines have rows, and the world can make a draw for each condact left
+pub record MayStep {F : Type 0} (calls : Shared F (ℕ × (ℕ × Unit {0})) ℕ) (routines : Routines F) (g : GameLists)
+    (m : OpenTables) (w : World) : Type 0 where
+  pub ready : IsReady g m w
+  pub rows : HaveRows calls routines
+  pub draws : w.draws + m.left < 2 ^ 64
+
+-- The machine has moved: it may read on or has stopped, no condact is read, the world is the game's still, and nothing is
+-- drawn
+pub record HasMoved (g : GameLists) (old : OpenTables) (w : World) (t : Option Turned) (new : OpenTables) (w' : World)
+    : Type 0 where
+  pub stands : StandsOrTurned t new
   pub left : ReadsNone old new
   pub game : IsOf g w'
   pub draws : w'.draws ≡ w.draws
@@ -36,3 +54,8 @@ pub record IsAfterMove (g : GameLists) (old : OpenTables) (w : World) (new : Ope
 pub record IsAfterStep (g : GameLists) (old new : Held) : Type 0 where
   pub game : IsOf g new.situation.world
   pub draws : new.situation.world.draws + new.machine.left ≤ old.situation.world.draws + old.machine.left
+
+-- the machine has made a step: it may read on or has stopped
+pub record HasStepped (g : GameLists) (old : Held) (t : Option Turned) (new : Held) : Type 0 where
+  pub stands : StandsOrTurned t new.machine
+  pub step : IsAfterStep g old new

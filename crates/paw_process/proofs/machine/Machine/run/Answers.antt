@@ -11,13 +11,13 @@ returns-in-Some-clause-meaning g c X rows =
     c.loop-turned.invariant X rows (c.in-Some.ensures.meaning X rows)
 
 pub loop-turned-smaller : goal.loop-turned-smaller
-loop-turned-smaller g c = progresses c.loop-turned.self c.step.new.machine c.in-None.ensures.stands (c.in-None.ensures.progress refl)
+loop-turned-smaller g c = progresses c.loop-turned.self c.step.new.machine c.in-None.ensures.after.stands (c.in-None.ensures.progress refl)
 
 pub loop-turned-preserved : goal.loop-turned-preserved
 loop-turned-preserved g c =
     running_on g.F.Fn c.args.routines.now (g.T.Tables.game c.args.tables.now) (having c.args.situation.now c.args.self.now)
     (having c.loop-turned.situation c.loop-turned.self) (having c.step.new.situation c.step.new.machine) c.loop-turned.invariant
-    c.in-None.ensures.meaning c.in-None.ensures.stands c.in-None.ensures.after
+    c.in-None.ensures.meaning c.in-None.ensures.after.stands c.in-None.ensures.after.step
 
 pub loop-turned-init : goal.loop-turned-init
 loop-turned-init g c =

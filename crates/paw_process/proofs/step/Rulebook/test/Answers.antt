@@ -24,6 +24,6 @@ returns-in-Ask-clause-meaning g c X =
     let same = c.note-in-Ask.ensures.same in
     test_ask (story_of (g.T.Tables.game c.args.self.now.tables.now) X) c.args.machine.now noted c.args.f c.args.c c.args.situation.now noted.left noted.steps
     c.test.new.world c.ask.new.machine c.ask.new.situation c.ask.result c.requires.kind c.in-Ask.ensures.answer c.in-Ask.ensures.world
-    c.note-in-Ask.ensures.reads same c.ask.ensures.left
+    c.note-in-Ask.ensures.reads same c.ask.ensures.after.left
     (λ r. c.ask.ensures.meaning X c.args.f r
-    (ap (λ m. m.frames) same ∙ (c.requires.at.top ∙ ap (λ m. c.args.f ∷ below m.frames) (sym same))))
+    (ap (λ m. m.frames) same ∙ (c.requires.may.at.top ∙ ap (λ m. c.args.f ∷ below m.frames) (sym same))))
