@@ -272,7 +272,6 @@ impl<T: Tables, F: Fn(u8, u8) -> u8> Rulebook<'_, T, F> {
         ensures meaning { (X : List (List ℕ)) → let g = story_of (T.game self.now.tables.now) X in
             ReadsOne g (below machine.old.frames) f c (having situation.old machine.old) result
             (having situation.new machine.new) }
-        ensures counts { machine.old.left ≡ machine.new.left + 1 }
         ensures after { HasStepped (T.game self.now.tables.now) (having situation.old machine.old) result
             (having situation.new machine.new) }
     {
@@ -336,7 +335,6 @@ impl<T: Tables, F: Fn(u8, u8) -> u8> Rulebook<'_, T, F> {
         ensures meaning { InStories F.Fn self.now.routines.now (T.game self.now.tables.now) (λ g.
             ReadsOne g (below machine.old.frames) f c (having situation.old machine.old) result
             (having situation.new machine.new)) }
-        ensures counts { machine.old.left ≡ machine.new.left + 1 }
         ensures after { HasStepped (T.game self.now.tables.now) (having situation.old machine.old) result
             (having situation.new machine.new) }
     {

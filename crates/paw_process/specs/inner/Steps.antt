@@ -20,13 +20,19 @@ pub record IsReady (g : GameLists) (m : OpenTables) (w : World) : Type 0 where
   pub reading : IsReading m
   pub game : IsOf g w
 
+-- one step may be made: the routines have rows, and the world can make a draw for each condact that is left
+pub record MayStep {F : Type 0} (calls : Shared F (ℕ × (ℕ × Unit {0})) ℕ) (routines : Routines F) (g : GameLists)
+    (m : OpenTables) (w : World) : Type 0 where
+  pub ready : IsReady g m w
+  pub rows : HaveRows calls routines
+  pub draws : w.draws + m.left < 2 ^ 64
+
 -- the innermost frame is this one, and it stands at a condact
 pub record IsInnermost (f : Frame) (m : OpenTables) : Type 0 where
   pub top : m.frames ≡ f ∷ below m.frames
   pub place : IsAtCondact f
 
--- this condact of the game may be read at this innermost frame: the budget isn't used up, and the world can make one draw
--- more
+-- this condact may be read at the innermost frame: the budget isn't used up, and the world can make one draw more
 pub record MayReadOne (g : GameLists) (f : Frame) (c : Condact) (m : OpenTables) (w : World) : Type 0 where
   pub ready : IsReady g m w
   pub at : IsInnermost f m
@@ -34,17 +40,9 @@ pub record MayReadOne (g : GameLists) (f : Frame) (c : Condact) (m : OpenTables)
   pub condact : is_right g c ≡ true
   pub draws : w.draws < 2 ^ 64 - 1
 
--- a step may be made: the machine may read on, the routines have rows, and the world can make a draw for each condact left
-pub record MayStep {F : Type 0} (calls : Shared F (ℕ × (ℕ × Unit {0})) ℕ) (routines : Routines F) (g : GameLists)
-    (m : OpenTables) (w : World) : Type 0 where
-  pub ready : IsReady g m w
-  pub rows : HaveRows calls routines
-  pub draws : w.draws + m.left < 2 ^ 64
-
--- The machine has moved: it may read on or has stopped, no condact is read, the world is the game's still, and nothing is
--- drawn
-pub record HasMoved (g : GameLists) (old : OpenTables) (w : World) (t : Option Turned) (new : OpenTables) (w' : World)
-    : Type 0 where
+-- the machine may read on or has stopped; no condact is read, the world is the game's still, and nothing is drawn
+pub record HasMoved (g : GameLists) (old : OpenTables) (w : World) (t : Option Turned)
+    (new : OpenTables) (w' : World) : Type 0 where
   pub stands : StandsOrTurned t new
   pub left : ReadsNone old new
   pub game : IsOf g w'
@@ -55,7 +53,7 @@ pub record IsAfterStep (g : GameLists) (old new : Held) : Type 0 where
   pub game : IsOf g new.situation.world
   pub draws : new.situation.world.draws + new.machine.left ≤ old.situation.world.draws + old.machine.left
 
--- the machine has made a step: it may read on or has stopped
+-- the machine may read on or has stopped, and a step leaves the world so
 pub record HasStepped (g : GameLists) (old : Held) (t : Option Turned) (new : Held) : Type 0 where
   pub stands : StandsOrTurned t new.machine
   pub step : IsAfterStep g old new

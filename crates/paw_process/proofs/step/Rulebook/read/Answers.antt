@@ -1,4 +1,4 @@
-use Rattle.std.proofs.Common.{arith}
+use Rattle.std.proofs.Common.{arith, []}
 use Rattle.std.proofs.lemmas.Bool.Decides.{nat_tests}
 use Rattle.paw_effects.specs.Story.{story_of}
 use Rattle.paw_process.proofs.Readings.{moved_none, reads_one, reads_spent}
@@ -21,3 +21,9 @@ pub returns-else-c-le-MOVE-clause-meaning : goal.returns-else-c-le-MOVE-clause-m
 returns-else-c-le-MOVE-clause-meaning g c X rows =
     reads_one (story_of (g.T.Tables.game c.args.self.now.tables.now) X) c.args.f c.args.c (having c.args.situation.now c.args.machine.now) c.act.result
     (having c.act.new.situation c.act.new.machine) c.requires.found (grind (arith, nat_tests)) (c.act.ensures.meaning X rows)
+
+pub returns-then-c-le-MOVE-clause-counts : goal.returns-then-c-le-MOVE-clause-counts
+returns-then-c-le-MOVE-clause-counts g c none = (c.test.ensures.meaning []).1.left
+
+pub returns-else-c-le-MOVE-clause-counts : goal.returns-else-c-le-MOVE-clause-counts
+returns-else-c-le-MOVE-clause-counts g c none = let (X, rows) = c.requires.may.rows in (c.act.ensures.meaning X rows).1.left
