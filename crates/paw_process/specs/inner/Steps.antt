@@ -53,7 +53,7 @@ pub record IsAfterStep (g : GameLists) (old new : Held) : Type 0 where
   pub game : IsOf g new.situation.world
   pub draws : new.situation.world.draws + new.machine.left ≤ old.situation.world.draws + old.machine.left
 
--- the machine may read on or has stopped, and a step leaves the world so
+-- a step is made: the machine may read on or has stopped, and the world is as a step leaves it
 pub record HasStepped (g : GameLists) (old : Held) (t : Option Turned) (new : Held) : Type 0 where
   pub stands : StandsOrTurned t new.machine
   pub step : IsAfterStep g old new
