@@ -1,6 +1,6 @@
 // The steps of a piece: the condacts that were read for it.
 
-ghost use Rattle.std.specs.Prelude.{◌≡◌, ◌<◌, ℕ, suc, List, ◌∷◌, [], ◌++◌, take, length, slice_set};
+ghost use Rattle.std.specs.Prelude.{◌≡◌, ◌<◌, suc, ◌∷◌, [], ◌++◌, take, length};
 ghost use Rattle.paw_base.specs.Steps.{KeptSteps};
 ghost use Rattle.paw_base.specs.inner.Steps.{no_steps, with_step_noted};
 

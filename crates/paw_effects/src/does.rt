@@ -1,8 +1,7 @@
 // What the conditions test, and what the actions do.
 
-ghost use Rattle.std.specs.Prelude.{◌≡◌, ◌+◌, ◌-◌, ◌<◌, ◌≤◌, ◌^◌, ◌++◌, ℕ, List, true, false, []};
+ghost use Rattle.std.specs.Prelude.{◌≡◌, ◌+◌, ◌-◌, ◌<◌, ◌≤◌, ◌^◌, ℕ, List, true, false};
 ghost use Rattle.std.specs.Option.{option_map_or};
-ghost use Rattle.paw_base.specs.inner.Piece.{piece_limit};
 ghost use Rattle.paw_game.specs.inner.Valid.{is_right};
 ghost use Rattle.paw_effects.specs.Worlds.{IsOf};
 ghost use Rattle.paw_effects.specs.Holds.{is_condition, holds, moves, truth_of};

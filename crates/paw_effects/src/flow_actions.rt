@@ -1,6 +1,5 @@
 // The actions that say where reading goes on.
 
-ghost use Rattle.std.specs.Prelude.{◌≡◌};
 ghost use Rattle.paw_effects.specs.Done.{tells};
 ghost use Rattle.paw_effects.specs.inner.Done.{Does};
 ghost use Rattle.paw_effects.specs.declared.act.Effect.TheVariants as effect;

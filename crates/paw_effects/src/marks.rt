@@ -1,7 +1,6 @@
 // The marks that stand for what a game shows or plays beside its text. Where nothing is printed the empty text is
 // pushed, whose clause tells the proof that the piece fits.
 
-ghost use Rattle.std.specs.Prelude.{◌≡◌};
 ghost use Rattle.paw_base.specs.inner.Condacts.{IsCode};
 ghost use Rattle.paw_base.specs.inner.Piece.{Puts};
 ghost use Rattle.paw_effects.specs.Marks.{parameter_text, mark_text};

@@ -1,6 +1,6 @@
 // What a game's lists hold at a number.
 
-ghost use Rattle.std.specs.Prelude.{◌≡◌, ◌≤◌, ◌<◌, IfSome, IsTrue, drop, length, slice_get};
+ghost use Rattle.std.specs.Prelude.{◌≡◌, ◌<◌, IsTrue, drop, slice_get};
 ghost use Rattle.std.specs.Option.{option_copied, option_map};
 ghost use Rattle.paw_game.specs.Valid.{words_rise};
 ghost use Rattle.paw_game.specs.Tables.{condact_at, entry_at, exit_at, exit_of, facts_at, head_at};

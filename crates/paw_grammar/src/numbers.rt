@@ -3,7 +3,6 @@
 ghost use Rattle.std.specs.Prelude.{◌≡◌, ◌<◌, ◌≤◌, OnOk};
 ghost use Rattle.std.specs.Char.{is_ascii_digit};
 ghost use Rattle.paw_faults.specs.inner.Gives.{Gives};
-ghost use Rattle.paw_grammar.specs.Tokens.{read_by};
 ghost use Rattle.paw_grammar.specs.Numbers.{number, number_within, number_below, row_number};
 ghost use Rattle.paw_grammar.specs.inner.Numbers.{capped, capped_number};
 

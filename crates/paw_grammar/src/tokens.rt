@@ -23,7 +23,7 @@ pub struct Tokens<'a> {
 }
 
 impl<'a> Model for Tokens<'a> {
-    ghost use Rattle.std.specs.Prelude.{List, ℕ, ◌≤◌, length};
+    ghost use Rattle.std.specs.Prelude.{List, ℕ, ◌≤◌};
     ghost use Rattle.paw_lex.specs.inner.Lines.{LiesIn};
     ghost use Rattle.paw_lex.specs.inner.Tokens.{tokens_from};
 

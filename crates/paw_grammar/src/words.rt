@@ -1,10 +1,10 @@
 // How words, classes and kinds are spelled.
 
-ghost use Rattle.std.specs.Prelude.{◌≡◌, ◌<◌, ◌&&◌, ◌+◌};
+ghost use Rattle.std.specs.Prelude.{◌≡◌, ◌<◌, ◌&&◌};
 ghost use Rattle.std.specs.List.{list_all, position};
 ghost use Rattle.std.specs.Char.{is_ascii_alphanumeric};
 ghost use Rattle.paw_faults.specs.inner.Gives.{Gives};
-ghost use Rattle.paw_grammar.specs.Tokens.{is_named, read_by};
+ghost use Rattle.paw_grammar.specs.Tokens.{is_named};
 ghost use Rattle.paw_grammar.specs.Vocabulary.{is_word_token, letters_of, letters_in, word, class_names};
 ghost use Rattle.paw_grammar.specs.Vocabulary.{place_among, class, kind_named, object_kind};
 

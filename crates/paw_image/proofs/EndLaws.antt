@@ -1,14 +1,14 @@
 -- The last of all bytes: what is left behind rows at their front is the last of them too.
-use Rattle.std.proofs.Common.{◌≡◌, ℕ, ◌+◌, ◌-◌, ◌≤◌, Bool, List, length, get_or, drop, Ok, refl, sym, ap, subst, ◌∙◌, arith}
+use Rattle.std.proofs.Common.{◌≡◌, ℕ, ◌+◌, ◌-◌, ◌≤◌, Bool, List, length, drop, Ok, refl, sym, ap, subst, ◌∙◌, arith}
 use Rattle.std.specs.List.{flat_map}
 use Rattle.std.proofs.lemmas.List.{drop_at, drop-drop, length-drop, get_or-drop}
 use Rattle.paw_game.specs.Image.{two_bytes, text_image, object_image, exits_image, entry_image, table_image}
 use Rattle.paw_game.specs.Valid.{is_within, is_text, is_object, is_exits}
 use Rattle.paw_image.specs.inner.CondactMarks.{IsEnd}
-use Rattle.paw_image.specs.Damage.{Declared, Passing, field_kept, each, number_kept, after_text, after_object, after_exits, after_entry, after_table}
+use Rattle.paw_image.specs.Damage.{Declared, Passing, each, number_kept, after_text, after_object, after_exits, after_entry, after_table}
 use Rattle.paw_image.specs.Reading.{Reading, number_at}
 use Rattle.paw_image.specs.inner.Reading.{text_at, object_at, exits_at}
-use Rattle.paw_image.proofs.FieldLaws.{IsBytes, Takes, read_ok, at_ok, bind_then, kept_ok, number_takes}
+use Rattle.paw_image.proofs.FieldLaws.{IsBytes, Takes, at_ok, bind_then, kept_ok, number_takes}
 use Rattle.paw_image.proofs.ListLaws.{TakesRow}
 use Rattle.paw_image.proofs.RowLaws.{text_takes, object_takes, exits_take, entry_takes, table_takes}
 use Rattle.paw_image.proofs.SoundRows.{text_sound, object_sound, exits_sound, entry_sound, table_placed}

@@ -1,7 +1,7 @@
 -- How long the image of a valid game may be.
-use Rattle.std.proofs.Common.{◌≡◌, ℕ, ◌+◌, ◌*◌, ◌^◌, ◌<◌, ◌≤◌, Bool, true, leb, eqb, List, [], ◌∷◌, ◌++◌, length, refl, arith, suc-mul}
+use Rattle.std.proofs.Common.{◌≡◌, ℕ, ◌+◌, ◌*◌, ◌^◌, ◌<◌, ◌≤◌, Bool, true, leb, List, [], ◌∷◌, ◌++◌, length, refl, arith, suc-mul}
 use Rattle.std.specs.List.{flat_map, list_all}
-use Rattle.std.proofs.lemmas.Bool.{and_parts, leb-true, eqb-true}
+use Rattle.std.proofs.lemmas.Bool.{and_parts, leb-true}
 use Rattle.std.proofs.lemmas.List.{length-append}
 use Rattle.paw_base.specs.declared.parts.Condact.{Condact}
 use Rattle.paw_base.specs.declared.rows.ParamKind.{ParamKind}
@@ -12,7 +12,7 @@ use Rattle.paw_game.specs.declared.parts.ObjectRow.{ObjectRow}
 use Rattle.paw_game.specs.declared.parts.Exit.{Exit}
 use Rattle.paw_game.specs.declared.parts.Entry.{Entry}
 use Rattle.paw_game.specs.Game.{GameLists}
-use Rattle.paw_game.specs.Valid.{Valid, is_within, is_word, is_text, is_object, is_exits, is_condact, is_entry, is_table}
+use Rattle.paw_game.specs.Valid.{Valid, is_word, is_text, is_object, is_exits, is_condact, is_entry, is_table}
 use Rattle.paw_game.specs.Image.{two_bytes, head_image, word_image, text_image, object_image, exit_image, exits_image}
 use Rattle.paw_game.specs.Image.{parameter_image, condact_image, entry_image, table_image, image}
 use Rattle.paw_image.specs.inner.Sizes.{FitsWord}

@@ -1,5 +1,5 @@
 -- The least match in order of verb and noun is the first entry that matches.
-use Rattle.std.proofs.Common.{◌≡◌, ℕ, zero, suc, ◌+◌, ◌-◌, ◌&&◌, Bool, false, List, [], ◌∷◌}
+use Rattle.std.proofs.Common.{◌≡◌, ℕ, zero, suc, ◌+◌, ◌-◌, false, List, [], ◌∷◌}
 use Rattle.std.proofs.Common.{◌++◌, length, get_or, drop, Option, Some, IsTrue, refl, sym}
 use Rattle.std.proofs.Common.{ap, subst, ◌∙◌, append_assoc, inl, inr, arith, add-zero}
 use Rattle.std.specs.Prelude.{slice_get}
@@ -11,7 +11,7 @@ use Rattle.std.proofs.lemmas.List.Sorted.{Contains-permutation, IsPermutation-sy
 use Rattle.std.proofs.lemmas.Option.{none-some, same_Some, slice_get_within, get_or_from_slice_get, slice_get-get_or}
 use Rattle.paw_game.specs.declared.parts.Entry.{Entry}
 use Rattle.paw_game.specs.Image.{entry_image}
-use Rattle.paw_game.specs.Tables.{is_for, matches}
+use Rattle.paw_game.specs.Tables.{matches}
 use Rattle.paw_game.specs.inner.Tables.{first_match}
 use Rattle.paw_game.proofs.Matches.{IsFound, found_here, found_later, slice_get-drop}
 use Rattle.paw_image.specs.declared.order.Head.{Head}

@@ -1,11 +1,10 @@
 -- The bytes in which no rule is broken are the images of the valid games.
-use Rattle.std.proofs.Common.{◌≡◌, ℕ, ◌+◌, ◌<◌, ◌&&◌, true, leb, eqb, List, [], ◌∷◌, ◌++◌, length, Some, None, Ok, Err}
-use Rattle.std.proofs.Common.{refl, sym, ap, subst, ◌∙◌, append_assoc, inl, inr, arith}
+use Rattle.std.proofs.Common.{◌≡◌, ℕ, ◌+◌, ◌<◌, ◌&&◌, true, leb, eqb, List, [], ◌∷◌, length, Some, None, Ok, Err}
+use Rattle.std.proofs.Common.{refl, sym, ap, subst, ◌∙◌, inl, inr, arith}
 use Rattle.std.specs.List.{flat_map, list_all}
 use Rattle.std.proofs.lemmas.Bool.{and_parts, cases_lt, lt-ltb, le-ltb, eq-eqb}
 use Rattle.std.proofs.lemmas.Option.{none-some}
-use Rattle.paw_game.specs.declared.parts.Word.{Word}
-use Rattle.paw_game.specs.Game.{GameLists, counts_of}
+use Rattle.paw_game.specs.Game.{GameLists}
 use Rattle.paw_game.specs.Valid.{Valid, is_within, is_word, words_rise, is_text, is_object, is_exits}
 use Rattle.paw_game.specs.Image.{word_image, text_image, object_image, exits_image, table_image, image}
 use Rattle.paw_game.proofs.Faults.{rise_after, rise_after-none}

@@ -1,7 +1,7 @@
 // Exits, as rows of an image.
 
 ghost use Rattle.paw_game.specs.Image.{exit_image, exits_image};
-ghost use Rattle.std.specs.Prelude.{◌≡◌, ℕ, List, [], ◌∷◌, OnOk};
+ghost use Rattle.std.specs.Prelude.{ℕ, List, []};
 ghost use Rattle.paw_image.specs.Damage.{exit_kept, after_exits_of, after_exits};
 ghost use Rattle.paw_image.specs.inner.Marks.{Marks};
 ghost use Rattle.paw_faults.specs.inner.Gives.{Gives};

@@ -1,7 +1,6 @@
 // A game read in place, in the bytes of its image.
 
 ghost use Rattle.std.specs.Prelude.{◌≡◌, [], Some, slice_get, IfOk, OnOk};
-ghost use Rattle.std.specs.List.Sorted.{IsNonDecreasingBy};
 ghost use Rattle.std.specs.Option.{option_copied, option_map, unwrap_or};
 ghost use Rattle.paw_game.specs.Game.{GameLists};
 ghost use Rattle.paw_game.specs.Image.{entry_image};
@@ -9,8 +8,8 @@ ghost use Rattle.paw_game.specs.Tables.{entry_at};
 ghost use Rattle.paw_image.specs.Damage.{bad};
 ghost use Rattle.paw_image.specs.Images.{IsImage};
 ghost use Rattle.paw_image.specs.inner.Images.{IfDamaged};
-ghost use Rattle.paw_image.specs.inner.Places.{entries_of, entry_places};
-ghost use Rattle.paw_image.specs.inner.Views.{game_read, rows_begin, span_at, tables_begin_at};
+ghost use Rattle.paw_image.specs.inner.Places.{entries_of};
+ghost use Rattle.paw_image.specs.inner.Views.{game_read, rows_begin, span_at};
 
 use crate::at_place::{condact_in, entry_in, exit_at, facts_in, head_in, text_in};
 use crate::damage::pass_whole;

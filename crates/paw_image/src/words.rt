@@ -1,7 +1,7 @@
 // The words of an image.
 
 ghost use Rattle.paw_game.specs.Image.{word_image};
-ghost use Rattle.std.specs.Prelude.{◌≡◌, [], codes};
+ghost use Rattle.std.specs.Prelude.{◌≡◌, []};
 ghost use Rattle.paw_image.specs.Damage.{word_kept, words_above};
 ghost use Rattle.paw_faults.specs.inner.Gives.{Gives};
 ghost use Rattle.paw_image.specs.inner.Words.{last_letters};

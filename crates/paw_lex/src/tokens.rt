@@ -1,6 +1,6 @@
 // The tokens of a line, one after another.
 
-ghost use Rattle.std.specs.Prelude.{◌≡◌, ◌<◌, ◌≤◌, List, [], ◌∷◌, length, take, drop, slice_range, MatchOption, IfSome};
+ghost use Rattle.std.specs.Prelude.{◌≡◌, ◌<◌, ◌≤◌, [], ◌∷◌, length, take, drop, slice_range, MatchOption, IfSome};
 ghost use Rattle.std.specs.List.{prefix_len, position_or_len};
 ghost use Rattle.paw_lex.specs.inner.Lines.{LiesIn};
 ghost use Rattle.paw_lex.specs.Tokens.{is_blank, tokens_of};

@@ -1,6 +1,6 @@
 // What is pending of a typed line.
 
-ghost use Rattle.std.specs.Prelude.{◌≡◌, ◌≤◌, ℕ, [], length, drop};
+ghost use Rattle.std.specs.Prelude.{◌≡◌, ◌≤◌, [], length, drop};
 ghost use Rattle.paw_base.specs.declared.words.TheConstants.{NO_WORD};
 
 use paw_base::limits::LINE_LIMIT;

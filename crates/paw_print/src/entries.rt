@@ -1,6 +1,6 @@
 // The tables of a source.
 
-ghost use Rattle.std.specs.Prelude.{◌≡◌, ◌++◌, ◌∷◌, [], OnOk, codes, decimal, flat_map, map};
+ghost use Rattle.std.specs.Prelude.{◌≡◌, ◌++◌, ◌∷◌, [], OnOk, codes, decimal, map};
 ghost use Rattle.std.specs.List.{AllByRecursion};
 ghost use Rattle.paw_base.specs.declared.words.TheConstants.{NOUN_CLASS};
 ghost use Rattle.paw_print.specs.Lines.{behind_spaces, condact_line, value_token, verb_token};

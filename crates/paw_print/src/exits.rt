@@ -1,6 +1,6 @@
 // The connections of a source.
 
-ghost use Rattle.std.specs.Prelude.{◌≡◌, ◌++◌, ◌∷◌, [], OnOk, decimal, map};
+ghost use Rattle.std.specs.Prelude.{◌≡◌, ◌++◌, ◌∷◌, [], OnOk, decimal};
 ghost use Rattle.paw_print.specs.Lines.{spaced, verb_token};
 ghost use Rattle.paw_print.specs.Canonical.{with_line_end, exits_lines, location_lines, written};
 

@@ -1,7 +1,7 @@
 // The objects of a source.
 
-ghost use Rattle.std.specs.Prelude.{◌≡◌, ◌++◌, ◌∷◌, List, [], OnOk, decimal};
-ghost use Rattle.paw_print.specs.Lines.{behind_spaces, kind_token, object_tokens, spaced, value_token};
+ghost use Rattle.std.specs.Prelude.{◌≡◌, ◌++◌, ◌∷◌, [], OnOk, decimal};
+ghost use Rattle.paw_print.specs.Lines.{behind_spaces, kind_token, object_tokens, spaced};
 ghost use Rattle.paw_print.specs.Canonical.{with_line_end, objects_lines, written};
 
 use crate::rows::{Written, end_line, write_digits, write_header, write_number, write_token};

@@ -1,6 +1,6 @@
 // The parts of a line.
 
-ghost use Rattle.std.specs.Prelude.{◌≡◌, ◌++◌, ◌∷◌, List, [], OnOk, decimal};
+ghost use Rattle.std.specs.Prelude.{◌≡◌, ◌++◌, ◌∷◌, [], OnOk, decimal};
 ghost use Rattle.paw_print.specs.Canonical.{with_line_end};
 
 use itoa::Buffer;

@@ -1,6 +1,6 @@
 // What is kept of a machine that waits.
 
-ghost use Rattle.std.specs.Prelude.{◌≡◌, ℕ, ◌+◌, ◌<◌, ◌≤◌, ◌-◌, ◌==◌, if◌then◌else◌, length, slice_get};
+ghost use Rattle.std.specs.Prelude.{◌≡◌, ◌+◌, ◌<◌, ◌-◌, ◌==◌, length, slice_get};
 ghost use Rattle.paw_game.specs.Valid.{is_place};
 ghost use Rattle.paw_process.specs.Kept.{waiting_code, may_open, has_code, parameter_of, is_unused};
 ghost use Rattle.paw_process.specs.Kept.{row_stands, rows_fault, table_of, is_that_table, loop_stands};

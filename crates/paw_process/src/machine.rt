@@ -1,20 +1,16 @@
 // The machine: which tables are open, and what it may still read.
 
-ghost use Rattle.std.specs.Prelude.{◌≡◌, ℕ, ◌+◌, ◌<◌, ◌≤◌, ◌^◌, List, [], ◌∷◌, length, reverse};
-ghost use Rattle.std.specs.Prelude.{nat_lt, true, false, Some, None, IfOk, IfErr};
+ghost use Rattle.std.specs.Prelude.{◌≡◌, ◌+◌, ◌<◌, ◌≤◌, ◌^◌, [], ◌∷◌, length, reverse};
+ghost use Rattle.std.specs.Prelude.{nat_lt, Some, None, IfOk, IfErr};
 ghost use Rattle.paw_game.specs.Game.{GameLists};
-ghost use Rattle.paw_game.specs.Valid.{Valid};
-ghost use Rattle.paw_base.specs.inner.Steps.{no_steps};
 ghost use Rattle.paw_routines.specs.Routines.{HaveRows};
 ghost use Rattle.paw_effects.specs.declared.act.Prompt.{Prompt as AtPrompt};
 ghost use Rattle.paw_effects.specs.declared.act.Prompt.TheVariants as prompt;
-ghost use Rattle.paw_reading.specs.Run.{Run, is_ignored, heard, reply, is_yes};
 ghost use Rattle.paw_reading.specs.Reading.{step_at};
-ghost use Rattle.paw_reading.specs.GoingOn.{on_path};
 ghost use Rattle.paw_reading.specs.Turn.{first_table};
 ghost use Rattle.paw_reading.specs.inner.Places.{ArePlaces};
 ghost use Rattle.paw_process.specs.OpenTables.{OpenTables};
-ghost use Rattle.paw_process.specs.inner.OpenTables.{below, ReadsStep, IsReading, IsWaiting, IsClosed};
+ghost use Rattle.paw_process.specs.inner.OpenTables.{below, ReadsStep, IsReading, IsClosed};
 ghost use Rattle.paw_process.specs.inner.OpenTables.{new_machine, refilled, table_begun};
 ghost use Rattle.paw_process.specs.Kept.{kept as kept_of, frames_fault};
 ghost use Rattle.paw_process.specs.inner.Kept.{restored, waiting_at, StandsAt};

@@ -1,6 +1,6 @@
 // The objects that a loop takes.
 
-ghost use Rattle.std.specs.Prelude.{◌≡◌, ℕ, ◌<◌, ◌≤◌, ◌-◌, length, IfSome, Some, None};
+ghost use Rattle.std.specs.Prelude.{◌≡◌, ◌<◌, ◌-◌, length, IfSome, Some, None};
 ghost use Rattle.paw_effects.specs.Worlds.{IsOf};
 ghost use Rattle.paw_game.specs.Tables.{facts_at};
 ghost use Rattle.paw_reading.specs.Reading.{may_be_taken, is_excepted, named};

@@ -1,6 +1,6 @@
 // The next phrase of the pending line becomes the sentence in the flags.
 
-ghost use Rattle.std.specs.Prelude.{◌≡◌, ◌∷◌};
+ghost use Rattle.std.specs.Prelude.{◌≡◌};
 ghost use Rattle.paw_effects.specs.Worlds.{IsOf};
 ghost use Rattle.paw_reading.specs.Run.{spoken};
 ghost use Rattle.paw_process.specs.inner.Phrases.{Speaks};

@@ -1,6 +1,6 @@
 // One step of reading.
 
-ghost use Rattle.std.specs.Prelude.{◌≡◌, ◌≢◌, ℕ, ◌+◌, ◌-◌, ◌<◌, ◌≤◌, List, [], ◌∷◌, length};
+ghost use Rattle.std.specs.Prelude.{◌≡◌, ℕ, ◌+◌, ◌-◌, ◌<◌, List, [], ◌∷◌, length};
 ghost use Rattle.std.specs.Prelude.{true, false, Some, None, IsNone, if◌then◌else◌};
 ghost use Rattle.paw_base.specs.declared.limits.TheConstants.{ENTRY_LIMIT};
 ghost use Rattle.paw_base.specs.declared.messages.TheConstants.{QUIT_MESSAGE};
@@ -9,13 +9,12 @@ ghost use Rattle.paw_game.specs.inner.Valid.{is_right};
 ghost use Rattle.paw_game.specs.Tables.{condact_at};
 ghost use Rattle.paw_routines.specs.Routines.{HaveRows};
 ghost use Rattle.paw_effects.specs.Story.{Story, story_of};
-ghost use Rattle.paw_effects.specs.Holds.{is_condition, holds};
-ghost use Rattle.paw_effects.specs.Effects.{effect_of};
+ghost use Rattle.paw_effects.specs.Holds.{is_condition};
 ghost use Rattle.paw_effects.specs.Texts.{put_text};
 ghost use Rattle.paw_effects.specs.declared.act.Prompt.TheVariants as prompt;
 ghost use Rattle.paw_reading.specs.declared.places.Frame.{Frame};
 ghost use Rattle.paw_reading.specs.Run.{Run};
-ghost use Rattle.paw_reading.specs.Reading.{Left, deeper, noted, acts, printing, waits, loop_of};
+ghost use Rattle.paw_reading.specs.Reading.{Left, deeper, printing, waits, loop_of};
 ghost use Rattle.paw_reading.specs.inner.Steps.{parses};
 ghost use Rattle.paw_reading.specs.inner.GoingOn.{along};
 ghost use Rattle.paw_process.specs.inner.OpenTables.{below, ReadsNone, AtCondacts};

@@ -1,6 +1,6 @@
 // The lines of a table.
 
-ghost use Rattle.std.specs.Prelude.{◌≡◌, ◌<◌, length};
+ghost use Rattle.std.specs.Prelude.{◌<◌};
 ghost use Rattle.paw_faults.specs.inner.Gives.{Gives};
 ghost use Rattle.paw_grammar.specs.Condacts.{more_condacts};
 ghost use Rattle.paw_grammar.specs.GrammarRows.{entry_row, more_row};

@@ -1,6 +1,5 @@
 // A line of a source.
 
-ghost use Rattle.std.specs.Prelude.{◌≡◌};
 ghost use Rattle.paw_lex.specs.inner.Lines.{bytes_of, LiesIn};
 ghost use Rattle.paw_faults.specs.inner.Gives.{Gives};
 ghost use Rattle.paw_grammar.specs.Spells.{step};

@@ -1,6 +1,6 @@
 // A stage in memory.
 
-ghost use Rattle.std.specs.Prelude.{◌≡◌, ◌≤◌, ◌+◌, ◌↔◌, [], List, ℕ, length, min, IsFalse, IfOk, OnOk, OnErr, IsSome};
+ghost use Rattle.std.specs.Prelude.{◌≡◌, ◌≤◌, ◌+◌, ◌↔◌, [], ℕ, length, min, IsFalse, IfOk, OnOk, OnErr, IsSome};
 ghost use Rattle.std.specs.Prelude.{None};
 ghost use Rattle.std.proofs.Common.{inl, refl};
 ghost use Rattle.paw_stage.specs.declared.StageCall.TheVariants as call;

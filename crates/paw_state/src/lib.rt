@@ -1,8 +1,6 @@
 //! The bytes that a session keeps of a game that is played, and what comes back of them.
 #![tactic(auto)]
 
-ghost use Rattle.std.specs.Prelude.{◌≡◌};
-
 mod checks;
 mod fields;
 mod held;

@@ -1,6 +1,6 @@
 // From the bytes of a state to the parts of a game.
 
-ghost use Rattle.std.specs.Prelude.{◌+◌, ◌*◌, slice_index, ◌≡◌, ◌≢◌, ◌<◌, ◌≤◌, ◌++◌, ◌↔◌, None};
+ghost use Rattle.std.specs.Prelude.{◌+◌, ◌*◌, slice_index, ◌≡◌, ◌≢◌, ◌<◌, ◌≤◌, ◌↔◌, None};
 ghost use Rattle.std.specs.Prelude.{length, map, replicate, slice_set, IsOk, IfOk, IfErr};
 ghost use Rattle.paw_process.specs.Kept.{kept, frames_fault};
 ghost use Rattle.paw_process.specs.inner.Kept.{restored, waiting_at, StandsAt};

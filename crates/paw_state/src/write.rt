@@ -1,7 +1,7 @@
 // From a game that is played to the bytes of its state.
 
 ghost use Rattle.std.specs.Prelude.{◌+◌, ◌*◌, slice_index, ◌≡◌, ◌≤◌, ◌<◌, ◌++◌, length};
-ghost use Rattle.std.specs.Prelude.{map, All, IfSome, MatchOption, Some, None};
+ghost use Rattle.std.specs.Prelude.{map, All, Some, None};
 ghost use Rattle.paw_world.specs.World.{kept_position, IsWorld};
 ghost use Rattle.paw_state.specs.State.{AreBytes, HoldsBytes, FitsFields};
 ghost use Rattle.paw_state.specs.inner.State.{state_of, state_with};

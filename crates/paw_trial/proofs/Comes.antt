@@ -25,7 +25,7 @@ use Rattle.paw_trial.specs.Trial.{trial_story, trial_reading}
 use Rattle.paw_trial.specs.inner.Trial.{StopsAs}
 use Rattle.paw_trial.specs.declared.setting.Half.{Half}
 use Rattle.paw_trial.specs.declared.setting.Half.TheVariants as half
-use Rattle.paw_trial.specs.inner.Session.{HoldsLines, Waits, first_half, second_half, lines_of, lines_by, IsReadyFor, PlaysHalf, ComesTo, stop_of, store_name}
+use Rattle.paw_trial.specs.inner.Session.{Waits, first_half, second_half, lines_of, lines_by, IsReadyFor, PlaysHalf, ComesTo, stop_of, store_name}
 use Rattle.paw_trial.proofs.Lines.{first_are, second_are, both_halves, plays_first, all_taken, taken_and_left}
 use Rattle.paw_trial.proofs.Stops.{stops_later, stops_since, waits_since}
 

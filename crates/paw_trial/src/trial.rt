@@ -1,6 +1,6 @@
 // A trial from its number to its line.
 
-ghost use Rattle.std.specs.Prelude.{◌≡◌, IfOk, IfErr, string_bytes};
+ghost use Rattle.std.specs.Prelude.{IfOk, IfErr, string_bytes};
 ghost use Rattle.paw_trial.specs.Trial.{trial_reading};
 ghost use Rattle.paw_trial.specs.inner.Trial.{IsTextOf, StopsAs};
 ghost use Rattle.paw_trial.specs.inner.Session.{IsTallyOf};

@@ -1,8 +1,6 @@
 // The lines that a player takes.
 
 ghost use Rattle.std.specs.Prelude.{◌≡◌, ◌+◌, ◌<◌, ◌≤◌, ℕ, List, false, length, reverse};
-ghost use Rattle.paw_base.specs.inner.Piece.{Puts};
-ghost use Rattle.paw_game.specs.Valid.{Valid};
 ghost use Rattle.paw_routines.specs.Routines.{HaveRows};
 ghost use Rattle.paw_effects.specs.Story.{story_of};
 ghost use Rattle.paw_effects.specs.declared.act.Prompt.TheVariants as prompt;
@@ -11,7 +9,7 @@ ghost use Rattle.paw_reading.specs.Turn.{first_table};
 ghost use Rattle.paw_process.specs.inner.OpenTables.{IsClosed};
 ghost use Rattle.paw_process.specs.inner.Meaning.{InStories};
 ghost use Rattle.paw_turn.specs.declared.stage.Next.TheVariants as next;
-ghost use Rattle.paw_turn.specs.inner.Player.{WaitsIn, StandsAt};
+ghost use Rattle.paw_turn.specs.inner.Player.{WaitsIn};
 ghost use Rattle.paw_turn.specs.inner.Stages.{PlaysAs, RunsAs, from_prompt, from_path, IsPlayable};
 ghost use Rattle.paw_turn.specs.inner.Stages.{MayHear, MayAnswer, Stays, KeepsGame, StopsInTable};
 

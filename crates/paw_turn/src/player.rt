@@ -11,7 +11,7 @@ ghost use Rattle.paw_reading.specs.Run.{Step as Read};
 ghost use Rattle.paw_reading.specs.Turn.{reading, on};
 ghost use Rattle.paw_process.specs.Kept.{kept, frames_fault};
 ghost use Rattle.paw_turn.specs.declared.Step.TheVariants as step;
-ghost use Rattle.paw_turn.specs.inner.Parts.{Fits, IsStanding, seat_at, prompt_step, prompt_at};
+ghost use Rattle.paw_turn.specs.inner.Parts.{Fits, IsStanding, seat_at, prompt_at};
 ghost use Rattle.paw_turn.specs.inner.Player.{IsNew, IsSeated, IsFinished, PlaysTo, run_at};
 
 use crate::Step;

@@ -1,6 +1,6 @@
 // A turn in work, and its stages.
 
-ghost use Rattle.std.specs.Prelude.{◌≡◌, suc, ◌+◌, ◌*◌, ◌<◌, ◌≤◌, ◌^◌, ◌++◌, ℕ, List, [], length, map, None};
+ghost use Rattle.std.specs.Prelude.{◌≡◌, suc, ◌+◌, ◌*◌, ◌<◌, ◌≤◌, ℕ, List, [], length, None};
 ghost use Rattle.std.specs.Prelude.{false};
 ghost use Rattle.paw_base.specs.inner.Piece.{Puts, piece_limit};
 ghost use Rattle.paw_game.specs.Valid.{Valid};
@@ -11,8 +11,8 @@ ghost use Rattle.paw_effects.specs.Texts.{say_text};
 ghost use Rattle.paw_reading.specs.Run.{line_dropped};
 ghost use Rattle.paw_reading.specs.Reading.{table_read};
 ghost use Rattle.paw_reading.specs.Turn.{saying, view_text, prompt_text, refusal_text, AtDescribe, AtFrame, AtPhrase};
-ghost use Rattle.paw_reading.specs.Turn.{AtResponse, after_phrase, after_left, table_done, turn};
-ghost use Rattle.paw_process.specs.inner.OpenTables.{ReadsNone, IsClosed, new_machine};
+ghost use Rattle.paw_reading.specs.Turn.{after_phrase, after_left, table_done, turn};
+ghost use Rattle.paw_process.specs.inner.OpenTables.{ReadsNone, new_machine};
 ghost use Rattle.paw_process.specs.inner.Meaning.{InStories};
 ghost use Rattle.paw_turn.specs.declared.stage.Stage.TheVariants as stage;
 ghost use Rattle.paw_turn.specs.declared.stage.Next.TheVariants as next;

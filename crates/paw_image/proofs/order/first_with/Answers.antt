@@ -1,4 +1,4 @@
-use Rattle.std.proofs.Common.{ltb, sym}
+use Rattle.std.proofs.Common.{sym}
 use Rattle.std.proofs.lemmas.Bool.{ltb-false}
 use Rattle.paw_image.proofs.OrderLaws.{first_is, other_is, none_past}
 use Rattle.paw_image.proofs.order.first_with.Goals as goal

@@ -1,4 +1,4 @@
-use Rattle.std.proofs.Common.{◌≡◌, ◌-◌, refl, sym, ap, ◌∙◌, subst, Some, None}
+use Rattle.std.proofs.Common.{◌≡◌, ◌-◌, refl, sym, subst, Some, None}
 use Rattle.paw_stage.specs.Moments.{Passes, InShow}
 use Rattle.paw_stage.proofs.Time.{Passes_map, Passes_on}
 use Rattle.paw_routines.specs.Routines.{AreRowsOf, HaveRows}

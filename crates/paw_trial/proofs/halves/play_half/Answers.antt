@@ -1,4 +1,4 @@
-use Rattle.std.proofs.Common.{sym, subst, ◌≡◌, ◌++◌, ap, ◌∙◌}
+use Rattle.std.proofs.Common.{sym, subst}
 use Rattle.paw_stage.specs.inner.Memory.{standing_of}
 use Rattle.paw_trial.specs.inner.Session.{lines_by, ComesTo}
 use Rattle.paw_trial.proofs.Comes.{added_stable, ready_stable, played_half}

@@ -1,4 +1,4 @@
-use Rattle.std.proofs.Common.{◌≡◌, ◌+◌, ◌-◌, ◌≤◌, ◌<◌, ◌↔◌, ◌∙◌, length, arith}
+use Rattle.std.proofs.Common.{◌≡◌, ◌-◌, ◌≤◌, ◌↔◌, ◌∙◌, length, arith}
 use Rattle.std.specs.Prelude.{Some}
 use Rattle.paw_stage.specs.Stage.{Standing}
 use Rattle.paw_stage.specs.Across.{EachMoment}
@@ -6,7 +6,7 @@ use Rattle.paw_stage.proofs.Time.{Passes_map, Passes_on}
 use Rattle.paw_journal.specs.Session.{recover_by, kept_digest, slot}
 use Rattle.paw_journal.specs.inner.Session.{session_shown}
 use Rattle.paw_journal.specs.inner.Room.{kept_of, kept_slot, slot_number}
-use Rattle.paw_journal.specs.inner.Written.{WritesLittle, most_written}
+use Rattle.paw_journal.specs.inner.Written.{WritesLittle}
 use Rattle.paw_journal.specs.inner.Store.{LeavesOldOr}
 use Rattle.paw_journal.specs.inner.Steps.{Drafts, IsFilling}
 use Rattle.paw_journal.proofs.Recovers.{shown_made}

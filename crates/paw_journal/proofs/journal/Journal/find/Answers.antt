@@ -1,7 +1,6 @@
 use Rattle.std.proofs.Common.{◌≡◌, ◌∙◌, ap, sym, refl}
 use Rattle.std.proofs.lemmas.Result.{err_from_is_err_and}
 use Rattle.std.specs.Prelude.{take}
-use Rattle.paw_stage.specs.Stage.{Standing}
 use Rattle.paw_stage.specs.Moments.{Still}
 use Rattle.paw_stage.specs.Across.{EachMoment}
 use Rattle.paw_journal.specs.Session.{Shown, recover, slot_shows, state_length, slot, kept_digest}
