@@ -3,6 +3,7 @@
 ghost use Rattle.std.specs.Prelude.{◌≡◌, ◌<◌, ◌≤◌, ◌+◌, length};
 ghost use Rattle.std.specs.List.{position};
 ghost use Rattle.std.specs.Option.{option_map, option_or};
+ghost use Rattle.paw_base.specs.declared.places.TheConstants.{NOT_CREATED_PLACE};
 ghost use Rattle.paw_faults.specs.inner.Gives.{Gives};
 ghost use Rattle.paw_grammar.specs.Tokens.{is_named};
 ghost use Rattle.paw_grammar.specs.Numbers.{number};
@@ -29,7 +30,7 @@ const FIRST_NAMED: u32 = 252;
 fn place_by(names: &[&[u8]], token: &[u8]) -> Option<u32>
     requires { length names.now ≤ 4 }
     ensures { let named = position (λ name. is_named token.now name.now) names.now in
-        result ≡ capped (option_or (number token.now) (option_map (λ i. 252 + i) named)) }
+        result ≡ capped (option_or (number token.now) (option_map (λ i. NOT_CREATED_PLACE + i) named)) }
 {
     match number(token) {
         Some(number) => Some(number),

@@ -5,9 +5,9 @@ ghost use Rattle.paw_faults.specs.declared.unread.Unread.TheVariants.{Fault};
 ghost use Rattle.paw_grammar.specs.inner.Condacts.{AreSmall};
 ghost use Rattle.paw_faults.specs.inner.Gives.{Gives};
 ghost use Rattle.paw_grammar.specs.GrammarState.{game_of, nothing_yet};
-ghost use Rattle.paw_grammar.specs.GrammarTexts.{is_in_text};
+ghost use Rattle.paw_grammar.specs.GrammarTexts.{is_in_text, text_limit};
 ghost use Rattle.paw_grammar.specs.GrammarHeads.{con_header, header, header_of, item_in, new_exits, next_header};
-ghost use Rattle.paw_grammar.specs.GrammarHeads.{plain_header, pro_header, slash_line};
+ghost use Rattle.paw_grammar.specs.GrammarHeads.{new_text, plain_header, pro_header, slash_line};
 ghost use Rattle.paw_grammar.specs.GrammarRows.{bounds_of, con_row, obj_row, pro_row, row_in};
 ghost use Rattle.paw_grammar.specs.Spells.{text_added};
 ghost use Rattle.paw_source.specs.inner.Drafts.{HasTable};
@@ -207,25 +207,28 @@ impl Draft {
         ensures { Gives (λ _. self.new) result (item_in self.old.section self.old number) }
     {
         match self.section {
-            Section::Stx => {
-                self.begun = false;
-                text_item(alloc, &mut self.system, SYSTEM_LIMIT, number)
-            }
-            Section::Mtx => {
-                self.begun = false;
-                text_item(alloc, &mut self.messages, MESSAGE_LIMIT, number)
-            }
-            Section::Otx => {
-                self.begun = false;
-                text_item(alloc, &mut self.names, OBJECT_LIMIT, number)
-            }
-            Section::Ltx => {
-                self.begun = false;
-                text_item(alloc, &mut self.locations, LOCATION_LIMIT, number)
+            Section::Stx | Section::Mtx | Section::Otx | Section::Ltx => {
+                self.new_text(alloc, number)
             }
             Section::Con => self.new_exits(alloc, number),
             Section::Before | Section::Voc | Section::Obj | Section::Pro => {
                 fault(SourceKind::Section)
+            }
+        }
+    }
+
+    fn new_text(&mut self, alloc: Global, number: u32) -> Result<(), ReadError>
+        requires texts { 0 < text_limit self.old.section }
+        ensures { Gives (λ _. self.new) result (new_text self.old.section self.old number) }
+    {
+        self.begun = false;
+        match self.section {
+            Section::Stx => text_item(alloc, &mut self.system, SYSTEM_LIMIT, number),
+            Section::Mtx => text_item(alloc, &mut self.messages, MESSAGE_LIMIT, number),
+            Section::Otx => text_item(alloc, &mut self.names, OBJECT_LIMIT, number),
+            Section::Ltx => text_item(alloc, &mut self.locations, LOCATION_LIMIT, number),
+            Section::Before | Section::Voc | Section::Con | Section::Obj | Section::Pro => {
+                unreachable!()
             }
         }
     }
