@@ -15,16 +15,16 @@ pub const DARK_VIEW_FLAG: u8 = 3;
 /// Falls before each view while it is dark and the light source isn't present.
 pub const UNLIT_VIEW_FLAG: u8 = 4;
 
-/// The first of the flags that fall in each frame of a turn.
+/// The first of the flags that fall in each time frame.
 pub const FIRST_FRAME_FLAG: u8 = 5;
 
-/// The last of the flags that fall in each frame of a turn.
+/// The last of the flags that fall in each time frame.
 pub const LAST_FRAME_FLAG: u8 = 8;
 
-/// Falls in each frame while it is dark.
+/// Falls in each time frame while it is dark.
 pub const DARK_FRAME_FLAG: u8 = 9;
 
-/// Falls in each frame while it is dark and the light source isn't present.
+/// Falls in each time frame while it is dark and the light source isn't present.
 pub const UNLIT_FRAME_FLAG: u8 = 10;
 
 /// The score.
@@ -78,6 +78,9 @@ pub const TIMEOUT_FLAG: u8 = 48;
 /// Its bit 7 tells that the last line was a timeout.
 pub const TIMED_OUT_FLAG: u8 = 49;
 
+/// That bit.
+pub const TIMED_OUT_BIT: u8 = 128;
+
 /// The object that the loop over objects took last. It doesn't steer the loop.
 pub const LOOP_FLAG: u8 = 50;
 
@@ -90,17 +93,23 @@ pub const MOST_WEIGHT_FLAG: u8 = 52;
 /// Its bit 6 makes lists run on one line.
 pub const LISTING_FLAG: u8 = 53;
 
+/// That bit.
+pub const LISTING_BIT: u8 = 64;
+
 /// The place of the object last referred to.
 pub const REFERRED_PLACE_FLAG: u8 = 54;
 
 /// The weight of the object last referred to.
 pub const REFERRED_WEIGHT_FLAG: u8 = 55;
 
-/// 128 where the object last referred to is a container.
+/// Tells by 128 or 0 whether the object last referred to is a container.
 pub const REFERRED_CONTAINER_FLAG: u8 = 56;
 
-/// 128 where the object last referred to may be worn.
+/// Tells by 128 or 0 whether the object last referred to may be worn.
 pub const REFERRED_WEARABLE_FLAG: u8 = 57;
+
+/// How these two tell that it is so.
+pub const REFERRED_SO: u8 = 128;
 
 /// The number of the position that SAVE keeps and LOAD takes back, modulo 4.
 pub const POSITION_FLAG: u8 = 58;

@@ -13,4 +13,5 @@ pub mod piece;
 pub mod places;
 pub mod rows;
 pub mod steps;
+pub mod tables;
 pub mod words;

@@ -48,6 +48,15 @@ pub const CONDACT_LIMIT: usize = 255;
 /// The greatest weight that an object has of itself.
 pub const WEIGHT_LIMIT: u8 = 63;
 
+/// How many levels below an object its contents weigh.
+pub const WEIGHT_LEVELS: usize = 10;
+
+/// The objects that may be carried when a game starts.
+pub const STARTING_CARRIED: u8 = 4;
+
+/// The weight that may be carried when a game starts.
+pub const STARTING_WEIGHT: u8 = 10;
+
 /// The flags of a world.
 pub const FLAG_COUNT: usize = 256;
 

@@ -1,7 +1,8 @@
 // The text of a piece.
 
 ghost use Rattle.std.specs.Prelude.{◌≡◌, ◌≤◌, [], IfOk, false, length};
-ghost use Rattle.paw_base.specs.inner.Piece.{Puts, piece_limit};
+ghost use Rattle.paw_base.specs.declared.limits.TheConstants.{PIECE_LIMIT};
+ghost use Rattle.paw_base.specs.inner.Piece.{Puts};
 
 use crate::fault::NoRoom;
 pub use crate::limits::PIECE_LIMIT;
@@ -16,13 +17,13 @@ pub struct Piece {
 
 impl Model for Piece {
     ghost use Rattle.std.specs.Prelude.{◌≤◌, List, ℕ, length, vec_capacity};
-    ghost use Rattle.paw_base.specs.inner.Piece.{piece_limit};
+    ghost use Rattle.paw_base.specs.declared.limits.TheConstants.{PIECE_LIMIT};
 
     ghost Value = { List ℕ };
 
     ghost view = { λ p. p.text.items };
 
-    ghost invariant = { λ p. (length p.text.items ≤ piece_limit) × (piece_limit ≤ vec_capacity p.text) };
+    ghost invariant = { λ p. (length p.text.items ≤ PIECE_LIMIT) × (PIECE_LIMIT ≤ vec_capacity p.text) };
 }
 
 impl Piece {
@@ -61,7 +62,7 @@ impl Piece {
     /// The bytes, of which there are at most 65,535.
     pub fn bytes(&self) -> &[u8]
         ensures value { result.now ≡ self.now }
-        ensures fits { length self.now ≤ piece_limit }
+        ensures fits { length self.now ≤ PIECE_LIMIT }
     {
         self.text.as_slice()
     }

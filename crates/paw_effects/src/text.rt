@@ -2,7 +2,8 @@
 // the clause of the push says what the clause of the whole has to, that the piece is as it was and fits.
 
 ghost use Rattle.std.specs.Prelude.{◌≡◌, ◌+◌, ◌++◌, ◌<◌, ◌≤◌, List, [], ℕ, length, IfSome, IfNone, ◌==◌, Some, decimal};
-ghost use Rattle.paw_base.specs.inner.Piece.{Puts, piece_limit};
+ghost use Rattle.paw_base.specs.declared.limits.TheConstants.{PIECE_LIMIT};
+ghost use Rattle.paw_base.specs.inner.Piece.{Puts};
 ghost use Rattle.paw_effects.specs.Texts.{with_name, object_text, printed_text, ended_text};
 ghost use Rattle.paw_effects.specs.Texts.{put_text, say_text, location_text, message_text};
 
@@ -123,7 +124,7 @@ pub fn place_text<T: Tables>(tables: &T, world: &World, piece: &mut Piece, locat
 /// prints nothing.
 pub(crate) fn print_nothing(piece: &Piece)
     ensures same { piece.now ≡ piece.now ++ [] }
-    ensures fits { length piece.now + 0 ≤ piece_limit }
+    ensures fits { length piece.now + 0 ≤ PIECE_LIMIT }
 {
     let _ = piece.bytes();
 }

@@ -1,7 +1,7 @@
 // The steps of a commit: the slot that isn't in use, and then the selector.
 
 ghost use Rattle.std.specs.Prelude.{◌≡◌, ◌+◌, ◌-◌, ◌≤◌, ◌↔◌, length, IsSome, OnOk, IfErr};
-ghost use Rattle.paw_base.specs.inner.Piece.{piece_limit};
+ghost use Rattle.paw_base.specs.declared.limits.TheConstants.{PIECE_LIMIT};
 ghost use Rattle.paw_stage.specs.Disk.{put};
 ghost use Rattle.paw_stage.specs.Stage.{Standing, Faulted};
 ghost use Rattle.paw_stage.specs.inner.Stage.{WritesAtMost};
@@ -34,7 +34,7 @@ pub(crate) fn write_slot<S: Stage>(
     requires made { S.Tells stage.old → IsMade (S.standing stage.old).disk.bytes }
     requires beside { S.Tells stage.old → chosen (S.standing stage.old).disk.bytes ≡ 1 - slot_number which }
     requires inside { draft.at + length bytes.now ≤ slot_length }
-    requires short { length piece.now ≤ piece_limit }
+    requires short { length piece.now ≤ PIECE_LIMIT }
     ensures tells { S.Tells stage.old ↔ S.Tells stage.new }
     ensures cause { IfErr result IsWriting }
     ensures faulted { Faulted (failed_stage_call result) (S.faults stage.old) (S.faults stage.new) }

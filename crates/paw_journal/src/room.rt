@@ -1,7 +1,7 @@
 // The buffers of a journal.
 
 ghost use Rattle.std.specs.Prelude.{true, ◌≡◌, ◌+◌, ◌≤◌, ◌↔◌, [], ◌∷◌, ◌++◌, ℕ, List, length, IsSome, OnOk, IfErr};
-ghost use Rattle.paw_base.specs.inner.Piece.{piece_limit};
+ghost use Rattle.paw_base.specs.declared.limits.TheConstants.{PIECE_LIMIT};
 ghost use Rattle.paw_stage.specs.declared.StageCall.TheVariants as call;
 ghost use Rattle.paw_stage.specs.Stage.{Faulted};
 ghost use Rattle.paw_stage.specs.Moments.{Still};
@@ -37,7 +37,7 @@ pub struct Room {
 
 impl Model for Room {
     ghost use Rattle.std.specs.Prelude.{◌≤◌, vec_capacity};
-    ghost use Rattle.paw_base.specs.inner.Piece.{piece_limit};
+    ghost use Rattle.paw_base.specs.declared.limits.TheConstants.{PIECE_LIMIT};
     ghost use Rattle.paw_journal.specs.Session.{slot_length};
     ghost use Rattle.paw_journal.specs.inner.Room.{Room};
 
@@ -51,7 +51,7 @@ impl Model for Room {
       second = r.second;
     } };
 
-    ghost invariant = { λ r. (slot_length ≤ vec_capacity r.slot) × (piece_limit ≤ vec_capacity r.piece) };
+    ghost invariant = { λ r. (slot_length ≤ vec_capacity r.slot) × (PIECE_LIMIT ≤ vec_capacity r.piece) };
 }
 
 impl Room {
@@ -87,7 +87,7 @@ impl Room {
 
     /// Holds this state and this piece from now on.
     pub(crate) fn hold(&mut self, state: &[u8; 4096], piece: &[u8])
-        requires { length piece.now ≤ piece_limit }
+        requires { length piece.now ≤ PIECE_LIMIT }
         ensures value { self.new ≡ record self.old { state = state.now; piece = piece.now } }
     {
         self.state = *state;
@@ -96,7 +96,7 @@ impl Room {
 
     // Holds this piece from now on.
     fn hold_piece(&mut self, piece: &[u8])
-        requires { length piece.now ≤ piece_limit }
+        requires { length piece.now ≤ PIECE_LIMIT }
         ensures value { self.new ≡ record self.old { piece = piece.now } }
     {
         self.piece.clear();
@@ -148,7 +148,7 @@ impl Room {
 
     /// Puts a whole slot together, as it is made.
     pub(crate) fn lay_slot(&mut self)
-        requires { length self.old.piece ≤ piece_limit }
+        requires { length self.old.piece ≤ PIECE_LIMIT }
         ensures value { self.new ≡ record self.old { slot = made_slot self.old.state self.old.piece } }
     {
         let behind = SLOT_LENGTH - PIECE_AT - self.piece.len();

@@ -2,9 +2,9 @@
 // whose clause tells the proof that the text fits.
 
 ghost use Rattle.std.specs.Prelude.{◌≡◌, ◌+◌, ◌≤◌, ◌++◌, length, take, decimal};
-ghost use Rattle.paw_base.specs.inner.Piece.{Puts, piece_limit};
+ghost use Rattle.paw_base.specs.inner.Piece.{Puts};
 ghost use Rattle.paw_base.specs.Condacts.{name_of};
-ghost use Rattle.paw_base.specs.declared.limits.TheConstants.{STEP_LIMIT};
+ghost use Rattle.paw_base.specs.declared.limits.TheConstants.{STEP_LIMIT, PIECE_LIMIT};
 ghost use Rattle.paw_play.specs.Traces.{place_text, answer_text, step_line, more_line};
 ghost use Rattle.paw_play.specs.inner.Telling.{kept_text};
 
@@ -71,7 +71,7 @@ fn put_line(text: &mut Piece, step: StepRow) -> bool
 
 /// Puts the line of a step, which is of at most 27 bytes.
 fn put_step(text: &mut Piece, step: StepRow)
-    requires room { length text.old + 27 ≤ piece_limit }
+    requires room { length text.old + 27 ≤ PIECE_LIMIT }
     ensures line { text.new ≡ text.old ++ step_line step }
     ensures short { length text.new ≤ length text.old + 27 }
 {

@@ -2,7 +2,7 @@
 
 ghost use Rattle.std.specs.Prelude.{◌≡◌, ℕ, ◌+◌, ◌<◌, ◌≤◌, ◌^◌, List, [], ◌∷◌, None, length, reverse, IfOk};
 ghost use Rattle.paw_base.specs.declared.limits.TheConstants.{READ_LIMIT};
-ghost use Rattle.paw_base.specs.inner.Piece.{piece_limit};
+ghost use Rattle.paw_base.specs.declared.limits.TheConstants.{PIECE_LIMIT};
 ghost use Rattle.paw_routines.specs.Routines.{AreRowsOf, HaveRows};
 ghost use Rattle.paw_effects.specs.Story.{story_of};
 ghost use Rattle.paw_effects.specs.declared.act.Prompt.{Prompt as AtPrompt};
@@ -199,7 +199,7 @@ impl<'a, T: Tables, F: Fn(u8, u8) -> u8> Player<'a, T, F> {
     /// has at most 65,535 bytes.
     pub fn piece(&self) -> &[u8]
         ensures value { result.now ≡ self.now.piece }
-        ensures short { length result.now ≤ piece_limit }
+        ensures short { length result.now ≤ PIECE_LIMIT }
     {
         self.turn.piece()
     }

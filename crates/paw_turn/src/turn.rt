@@ -2,7 +2,8 @@
 
 ghost use Rattle.std.specs.Prelude.{◌≡◌, suc, ◌+◌, ◌*◌, ◌<◌, ◌≤◌, ℕ, List, [], length, None};
 ghost use Rattle.std.specs.Prelude.{false};
-ghost use Rattle.paw_base.specs.inner.Piece.{Puts, piece_limit};
+ghost use Rattle.paw_base.specs.declared.limits.TheConstants.{PIECE_LIMIT};
+ghost use Rattle.paw_base.specs.inner.Piece.{Puts};
 ghost use Rattle.paw_game.specs.Valid.{Valid};
 ghost use Rattle.paw_phrase.specs.Sentence.{IsNoPhrase};
 ghost use Rattle.paw_effects.specs.Story.{story_of};
@@ -136,7 +137,7 @@ impl Turn {
     /// The text of the piece.
     pub(crate) fn piece(&self) -> &[u8]
         ensures value { result.now ≡ self.now.situation.piece }
-        ensures short { length result.now ≤ piece_limit }
+        ensures short { length result.now ≤ PIECE_LIMIT }
     {
         self.situation.piece.bytes()
     }
