@@ -1,22 +1,18 @@
 -- Numbers.
-use Rattle.std.specs.Prelude.{ℕ, ◌+◌, ◌-◌, ◌*◌, ◌==◌, ◌&&◌, Bool, List, [], ◌∷◌, nat_lt}
+use Rattle.std.specs.Prelude.{ℕ, ◌==◌, ◌&&◌, Bool, List, length, nat_lt}
 use Rattle.std.specs.Prelude.{if◌then◌else◌, Option, Some, None, Result, Ok, Err}
 use Rattle.std.specs.Char.{is_ascii_digit}
+use Rattle.std.specs.List.{list_all}
+use Rattle.std.specs.Str.Parse.{digits_value}
 use Rattle.paw_base.specs.declared.fault.SourceKind.{SourceKind}
 use Rattle.paw_base.specs.declared.fault.SourceKind.TheVariants as kind
 use Rattle.paw_game.specs.Valid.{is_within}
 use Rattle.paw_faults.specs.Bind.{◌>>=◌}
 use Rattle.paw_grammar.specs.Tokens.{read_by}
 
--- the number that these decimal digits make after the number n
-unfoldable pub number_from : ℕ → List ℕ → Option ℕ
-number_from n [] = Some n
-number_from n (d ∷ ds) = if is_ascii_digit d then number_from (n * 10 + (d - 48)) ds else None
-
 -- a number is one decimal digit or more, and counts by its value, however many zeros stand first
 abbrev pub number : List ℕ → Option ℕ
-number [] = None
-number (d ∷ ds) = number_from 0 (d ∷ ds)
+number word = if nat_lt 0 (length word) && list_all is_ascii_digit word then Some (digits_value 10 word) else None
 
 -- a number that keeps its rule; Range where it doesn't
 abbrev pub in_range : (ℕ → Bool) → ℕ × List (List ℕ) → Result (ℕ × List (List ℕ)) SourceKind

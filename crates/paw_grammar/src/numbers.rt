@@ -1,7 +1,6 @@
 // Numbers.
 
 ghost use Rattle.std.specs.Prelude.{◌≡◌, ◌<◌, ◌≤◌, OnOk};
-ghost use Rattle.std.specs.Char.{is_ascii_digit};
 ghost use Rattle.paw_faults.specs.inner.Gives.{Gives};
 ghost use Rattle.paw_grammar.specs.Numbers.{number, number_within, number_below, row_number};
 ghost use Rattle.paw_grammar.specs.inner.Numbers.{capped, capped_number};
@@ -10,12 +9,6 @@ use crate::refusal::ReadError;
 use crate::tokens::Tokens;
 use paw_base::fault::SourceKind;
 use paw_faults::unread::Unread;
-
-fn is_digit(byte: u8) -> bool
-    ensures { result ≡ is_ascii_digit byte }
-{
-    byte.is_ascii_digit()
-}
 
 /// The number that a token of decimal digits is, or 4,294,967,295 where it is above that; None for any other token.
 pub fn number(token: &[u8]) -> Option<u32>
@@ -26,7 +19,7 @@ pub fn number(token: &[u8]) -> Option<u32>
     }
     let mut number: u32 = 0;
     for byte in token {
-        if !is_digit(*byte) {
+        if !byte.is_ascii_digit() {
             return None;
         }
         number = number

@@ -4,6 +4,8 @@ use Rattle.std.proofs.Common.{◌||◌, eqb, List, [], ◌∷◌, ◌++◌, leng
 use Rattle.std.proofs.Common.{Some, None, Ok, Err, refl, sym, ap, ◌∙◌, arith}
 use Rattle.std.specs.Prelude.{nat_lt, codes}
 use Rattle.std.specs.Str.{str_to_ascii_lowercase, bytes_eq}
+use Rattle.std.specs.Str.Parse.{digits_value}
+use Rattle.std.specs.List.{list_all}
 use Rattle.std.specs.Char.{is_ascii_digit, to_ascii_lowercase}
 use Rattle.std.proofs.lemmas.Slice.Eq.{bytes_eq-Decides}
 use Rattle.std.proofs.lemmas.Bool.{eqb-true}
@@ -17,7 +19,7 @@ use Rattle.paw_grammar.specs.declared.section.Section.{Section}
 use Rattle.paw_grammar.specs.declared.section.Section.TheVariants as section
 use Rattle.paw_faults.specs.Bind.{◌>>=◌}
 use Rattle.paw_grammar.specs.Tokens.{is_named}
-use Rattle.paw_grammar.specs.Numbers.{number, number_from}
+use Rattle.paw_grammar.specs.Numbers.{number}
 use Rattle.paw_grammar.specs.GrammarState.{Spelt, last_or, with_last}
 use Rattle.paw_grammar.specs.GrammarTexts.{texts_of, with_texts, text_limit, text_item, text_line, is_in_text}
 use Rattle.paw_grammar.specs.GrammarHeads.{next_header, section_opened, plain_header, con_header}
@@ -83,9 +85,8 @@ digit_no_letter : (c : ℕ) → is_ascii_digit c ≡ true → eqb (to_ascii_lowe
 digit_no_letter c h = grind (arith, nat_tests)
 
 is_first_digit : (c n : ℕ) (cs : List ℕ) → number (c ∷ cs) ≡ Some n → is_ascii_digit c ≡ true
-unfolding number_from
 is_first_digit c n cs h =
-    elim (is_ascii_digit c) as (λ b. cond b (number_from (0 * 10 + (c - 48)) cs) None ≡ Some n → b ≡ true) [
+    elim (is_ascii_digit c) as (λ b. cond (b && list_all is_ascii_digit cs) (Some (digits_value 10 (c ∷ cs))) None ≡ Some n → b ≡ true) [
       | true ↦ λ e. refl
       | false ↦ λ e. absurd cc
     ] h

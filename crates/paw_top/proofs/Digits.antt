@@ -1,87 +1,60 @@
 -- A number that is printed is read as that number.
-use Rattle.std.proofs.Common.{◌≡◌, ℕ, ◌<◌, ◌≤◌, ◌+◌, ◌-◌, ◌*◌, ◌/◌, ◌%◌, ◌^◌, Bool, true, false, eqb, leb, cond, List, [], ◌∷◌, ◌++◌, length, length-append}
-use Rattle.std.proofs.Common.{Some, None, Ok, refl, sym, ap, ◌∙◌, arith}
+use Rattle.std.proofs.Common.{◌≡◌, ℕ, ◌<◌, ◌≤◌, ◌^◌, Bool, true, false, eqb, leb, List, [], ◌∷◌, length}
+use Rattle.std.proofs.Common.{Some, Ok, refl, sym, ap, ◌∙◌, arith}
 use Rattle.std.specs.Fmt.{decimal}
-use Rattle.std.specs.List.{list_all}
-use Rattle.std.proofs.lemmas.Bool.{and_from, and_parts, le-leb, leb-true, ne_eqb, not_from_false}
-use Rattle.std.proofs.lemmas.Fmt.{decimal_by_steps}
-use Rattle.std.proofs.lemmas.List.{append-nil}
-use Rattle.std.proofs.lemmas.List.Folds.{list_all-append}
 use Rattle.std.specs.Char.{is_ascii_digit}
-use Rattle.paw_grammar.specs.Numbers.{number_from, number, number_with}
+use Rattle.std.specs.List.{list_all}
+use Rattle.std.specs.Str.Parse.{digits_value}
+use Rattle.std.proofs.lemmas.Bool.{and_from, and_parts, le-leb, leb-true, lt-ltb, ne_eqb, not_from_false}
+use Rattle.std.proofs.lemmas.Fmt.{decimal_nonempty, digits_decimal, digits_value-decimal}
+use Rattle.std.proofs.lemmas.List.{append-nil}
+use Rattle.std.proofs.lemmas.Str.Parse.{IsNumeralModel, numerals_by_value}
+use Rattle.paw_grammar.specs.Numbers.{number, number_with}
 use Rattle.paw_grammar.specs.Spells.{begins_with_slash, step}
 use Rattle.paw_grammar.specs.GrammarState.{Spelt}
 use Rattle.paw_grammar.specs.GrammarHeads.{item_in, slash_line}
 use Rattle.paw_print.specs.Lines.{item_token}
-use Rattle.paw_top.proofs.Rows.{is_clean, is_plain, slash_step}
+use Rattle.paw_top.proofs.Rows.{all_weaker, is_clean, is_plain, slash_step}
 
--- one digit more
-number_from-push : (k m d : ℕ) (ds : List ℕ) → number_from k ds ≡ Some m → is_ascii_digit d ≡ true → number_from k (ds ++ d ∷ []) ≡ Some (m * 10 + (d - 48))
-unfolding number_from
-number_from-push k m d [] h digit =
-    let same : k ≡ m = cc in
-    rw digit (ap (λ n. Some (n * 10 + (d - 48))) same)
-number_from-push k m d (c ∷ cs) h digit =
-    elim (is_ascii_digit c) as (λ v. cond v (number_from (k * 10 + (c - 48)) cs) None ≡ Some m →
-    cond v (number_from (k * 10 + (c - 48)) (cs ++ d ∷ [])) None ≡ Some (m * 10 + (d - 48))) [
-      | true ↦ λ g. number_from-push (k * 10 + (c - 48)) m d cs g digit
-      | false ↦ λ g. absurd cc
-    ] h
+-- what decimal digits alone make, and what they are worth
+pub own : IsNumeralModel (λ ds. list_all is_ascii_digit ds ≡ true) (digits_value 10)
+own = numerals_by_value (λ ds. list_all is_ascii_digit ds ≡ true) (record {
+  empty = refl;
+  parts = λ c cs h. let both = and_parts (is_ascii_digit c) _ h in
+      let range = and_parts (leb 48 c) (leb c 57) both.0 in ((leb-true 48 c range.0, leb-true c 57 range.1), both.1);
+  more = λ c cs k h. and_from (is_ascii_digit c) _ (and_from (leb 48 c) (leb c 57) (le-leb 48 c k.0) (le-leb c 57 k.1)) h;
+})
 
-record IsDecimal (n : ℕ) (ds : List ℕ) : Type 0 where
-  some : 0 < length ds
-  read : number_from 0 ds ≡ Some n
-  clean : list_all is_clean ds ≡ true
+digit_clean : (d : ℕ) → is_ascii_digit d ≡ true → is_clean d ≡ true
+digit_clean d h =
+    let range = and_parts (leb 48 d) (leb d 57) h in
+    let low : 48 ≤ d = leb-true 48 d range.0 in
+    let high : d ≤ 57 = leb-true d 57 range.1 in
+    let semicolon : eqb d 59 ≡ false = ne_eqb d 59 (λ e. omega arith) in
+    and_from _ _ (and_from _ _ (le-leb 33 d (omega arith)) (le-leb d 126 (omega arith))) (not_from_false _ semicolon)
 
-digit_is : (n : ℕ) → n < 10 → is_ascii_digit (48 + n) ≡ true
-digit_is n h = and_from _ _ (le-leb 48 (48 + n) (omega arith)) (le-leb (48 + n) 57 (omega arith))
+digits_clean : (ds : List ℕ) → list_all is_ascii_digit ds ≡ true → list_all is_clean ds ≡ true
+digits_clean ds h = all_weaker is_ascii_digit is_clean digit_clean ds h
 
-digit_clean : (n : ℕ) → n < 10 → is_clean (48 + n) ≡ true
-digit_clean n h =
-    let semicolon : eqb (48 + n) 59 ≡ false = ne_eqb (48 + n) 59 (λ e. omega arith) in
-    and_from _ _ (and_from _ _ (le-leb 33 (48 + n) (omega arith)) (le-leb (48 + n) 126 (omega arith))) (not_from_false _ semicolon)
+some_plain : (ds : List ℕ) → 0 < length ds → list_all is_clean ds ≡ true → is_plain ds ≡ true
+some_plain [] some h = absurd (omega (arith, some))
+some_plain (b ∷ bs) some h = h
 
-one_digit : (n : ℕ) → n < 10 → IsDecimal n ((48 + n) ∷ [])
-unfolding number_from
-one_digit n h =
-    let value : 0 * 10 + (48 + n - 48) ≡ n = omega arith in
-    record {
-      some = omega arith;
-      read = rw (digit_is n h) (ap Some value);
-      clean = rw (digit_clean n h) refl;
-    }
-
-more_digits : (n : ℕ) (ds : List ℕ) → 10 ≤ n → IsDecimal (n / 10) ds → IsDecimal n (ds ++ (48 + n % 10) ∷ [])
-more_digits n ds h d =
-    let low : n % 10 < 10 = omega arith in
-    let value : n / 10 * 10 + (48 + n % 10 - 48) ≡ n = omega arith in
-    record {
-      some = omega (arith, length-append ds ((48 + n % 10) ∷ []));
-      read = number_from-push 0 (n / 10) (48 + n % 10) ds d.read (digit_is (n % 10) low) ∙ ap Some value;
-      clean = list_all-append is_clean ds ((48 + n % 10) ∷ []) ∙ and_from _ _ d.clean (rw (digit_clean (n % 10) low) refl);
-    }
-
-is_decimal : (n : ℕ) → n < 2 ^ 64 → IsDecimal n (decimal n)
-is_decimal n h = decimal_by_steps IsDecimal one_digit more_digits n h
-
-number_some : (n : ℕ) (ds : List ℕ) → IsDecimal n ds → number ds ≡ Some n
-number_some n [] d = absurd (omega (arith, d.some))
-number_some n (b ∷ bs) d = d.read
-
-plain_some : (n : ℕ) (ds : List ℕ) → IsDecimal n ds → is_plain ds ≡ true
-plain_some n [] d = absurd (omega (arith, d.some))
-plain_some n (b ∷ bs) d = d.clean
+decimal_clean : (n : ℕ) → n ≤ 65535 → list_all is_clean (decimal n) ≡ true
+decimal_clean n h = digits_clean (decimal n) (digits_decimal own n (omega arith))
 
 -- small numbers are read
 pub number-decimal : (n : ℕ) → n ≤ 65535 → number (decimal n) ≡ Some n
-number-decimal n h = number_some n (decimal n) (is_decimal n (omega arith))
+number-decimal n h =
+    let small : n < 2 ^ 64 = omega arith in
+    rw (lt-ltb 0 (length (decimal n)) (decimal_nonempty n small), digits_decimal own n small) (ap Some (digits_value-decimal own n small))
 
 pub plain-decimal : (n : ℕ) → n ≤ 65535 → is_plain (decimal n) ≡ true
-plain-decimal n h = plain_some n (decimal n) (is_decimal n (omega arith))
+plain-decimal n h = some_plain (decimal n) (decimal_nonempty n (omega arith)) (decimal_clean n h)
 
 -- and behind a stroke
 pub plain-item : (n : ℕ) → n ≤ 65535 → is_plain (47 ∷ decimal n) ≡ true
-plain-item n h = (is_decimal n (omega arith)).clean
+plain-item n h = decimal_clean n h
 
 -- an item is begun in the section that is read
 pub item_begins : (p : ℕ) (d : Spelt) (n : ℕ) → n ≤ 65535 → step p d (item_token n) ≡ item_in d.section d n
@@ -95,14 +68,12 @@ pub number_with-decimal : (rule : ℕ → Bool) (n : ℕ) (ts : List (List ℕ))
 number_with-decimal rule n ts h keeps = rw (number-decimal n h, keeps) refl
 
 -- no digit is a stroke
-slash_none : (n : ℕ) (ds : List ℕ) → number_from 0 ds ≡ Some n → begins_with_slash ds ≡ false
-unfolding number_from
-slash_none n [] h = refl
-slash_none n (b ∷ bs) h =
-    elim (is_ascii_digit b) as (λ v. is_ascii_digit b ≡ v → cond v (number_from (0 * 10 + (b - 48)) bs) None ≡ Some n → eqb b 47 ≡ false) [
-      | true ↦ λ e g. ne_eqb b 47 (λ same. omega (arith, leb-true 48 b (and_parts (leb 48 b) (leb b 57) e).0))
-      | false ↦ λ e g. absurd cc
-    ] refl h
+slash_none : (ds : List ℕ) → list_all is_ascii_digit ds ≡ true → begins_with_slash ds ≡ false
+slash_none [] h = refl
+slash_none (b ∷ bs) h =
+    let digit = and_parts (is_ascii_digit b) _ h in
+    let low : 48 ≤ b = leb-true 48 b (and_parts (leb 48 b) (leb b 57) digit.0).0 in
+    ne_eqb b 47 (λ same. omega arith)
 
 pub decimal-slash : (n : ℕ) → n ≤ 65535 → begins_with_slash (decimal n) ≡ false
-decimal-slash n h = slash_none n (decimal n) (is_decimal n (omega arith)).read
+decimal-slash n h = slash_none (decimal n) (digits_decimal own n (omega arith))

@@ -3,7 +3,6 @@ use Rattle.std.proofs.Common.{◌≡◌, ℕ, false, eqb, [], length, refl, ◌�
 use Rattle.std.specs.Prelude.{codes}
 use Rattle.paw_grammar.specs.declared.section.Section.{Section}
 use Rattle.paw_grammar.specs.declared.section.Section.TheVariants as section
-use Rattle.paw_grammar.specs.Numbers.{number_from}
 use Rattle.paw_grammar.specs.GrammarState.{Spelt}
 use Rattle.paw_grammar.specs.GrammarHeads.{next_header, section_opened}
 use Rattle.paw_top.proofs.After.{LineReads}
@@ -18,7 +17,6 @@ IsPlain _ = Unit {0}
 -- the header that comes next, behind a section
 pub header_reads : (p : ℕ) (d : Spelt) (s : Section) → d.section ≡ s → IsPlain (next_header s).1 →
     LineReads p d (next_header s).0 (section_opened (next_header s).1 d)
-unfolding number_from
 header_reads p d section.Before h plain = record { is = slash_step p d (codes "VOC") [] refl ∙ rw h refl; printed = refl }
 header_reads p d section.Voc h plain = record { is = slash_step p d (codes "STX") [] refl ∙ rw h refl; printed = refl }
 header_reads p d section.Stx h plain = record { is = slash_step p d (codes "MTX") [] refl ∙ rw h refl; printed = refl }
@@ -29,5 +27,4 @@ header_reads p d _ h plain = absurd plain
 
 pub exits_header_reads : (p : ℕ) (d : Spelt) → d.section ≡ section.Ltx → eqb (length d.locations) 0 ≡ false →
     LineReads p d (codes "/CON") (section_opened section.Con d)
-unfolding number_from
 exits_header_reads p d h some = record { is = slash_step p d (codes "CON") [] refl ∙ rw (h, some) refl; printed = refl }

@@ -49,7 +49,7 @@ clean b h =
       no_semicolon = semicolon;
     }
 
-all_weaker : (p q : ℕ → Bool) → ((b : ℕ) → p b ≡ true → q b ≡ true) → (s : List ℕ) → list_all p s ≡ true → list_all q s ≡ true
+pub all_weaker : (p q : ℕ → Bool) → ((b : ℕ) → p b ≡ true → q b ≡ true) → (s : List ℕ) → list_all p s ≡ true → list_all q s ≡ true
 all_weaker p q gives [] h = refl
 all_weaker p q gives (b ∷ bs) h =
     let both = and_parts (p b) (list_all p bs) h in

@@ -15,7 +15,6 @@ use Rattle.paw_game.specs.Game.{GameLists}
 use Rattle.paw_game.specs.Valid.{has_word, is_verb_value, is_any, is_condact, is_entry, is_table}
 use Rattle.paw_grammar.specs.declared.section.Section.TheVariants as section
 use Rattle.paw_faults.specs.Bind.{◌>>=◌}
-use Rattle.paw_grammar.specs.Numbers.{number_from}
 use Rattle.paw_grammar.specs.Vocabulary.{entry_verb, entry_noun}
 use Rattle.paw_grammar.specs.Condacts.{condacts_in, more_condacts}
 use Rattle.paw_grammar.specs.GrammarState.{Spelt, with_last}
@@ -149,7 +148,6 @@ table_begun d = record (section_opened section.Pro d) { tables = d.tables ++ [] 
 
 header_step : (p : ℕ) (d : Spelt) (n : ℕ) → next_header d.section ≡ (codes "/PRO", section.Pro) → n ≡ length d.tables → n ≤ 255 →
     lacks_rows d ≡ false → LineReads p d (spaced (codes "/PRO" ∷ decimal n ∷ [])) (table_begun d)
-unfolding number_from
 header_step p d n at is few rows =
     let small : n ≤ 65535 = omega arith in
     let within : ltb n 256 ≡ true = lt-ltb n 256 (omega arith) in

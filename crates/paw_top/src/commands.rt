@@ -1,11 +1,10 @@
 // The words of a command.
 
-ghost use Rattle.std.specs.Prelude.{◌≡◌, ◌+◌, ◌-◌, ◌*◌, ◌<◌, ◌≤◌, ◌^◌, map, string_bytes};
-ghost use Rattle.std.specs.Prelude.{Option, Some, None, IfSome, IfNone, MatchOption};
-ghost use Rattle.std.specs.Option.{option_and_then};
+ghost use Rattle.std.specs.Prelude.{◌≡◌, ◌&&◌, length, map, nat_le, string_bytes};
+ghost use Rattle.std.specs.Prelude.{Option, Some, None, MatchOption};
 ghost use Rattle.std.specs.Char.{is_ascii_digit};
-ghost use Rattle.paw_grammar.specs.Numbers.{number};
-ghost use Rattle.paw_top.specs.Commands.{command_of, number_of, as_seed, seed_of, a_name, a_number, ends};
+ghost use Rattle.std.specs.List.{list_all};
+ghost use Rattle.paw_top.specs.Commands.{command_of, number_of, seed_of, a_name, a_number, ends};
 ghost use Rattle.paw_top.specs.Commands.{Compile as CompileOf, Decompile as DecompileOf, Walk as WalkOf};
 ghost use Rattle.paw_top.specs.Commands.{Trace as TraceOf, Play as PlayOf, Resume as ResumeOf, Trial as TrialOf};
 ghost use Rattle.paw_top.specs.inner.Commands.{SpellsCommand, two_names, name_and_seed};
@@ -42,71 +41,38 @@ pub(crate) enum Command<'a> {
     },
 }
 
-// Whether a byte is a decimal digit.
-fn is_digit(byte: u8) -> bool
-    ensures { result ≡ is_ascii_digit byte }
+fn are_digits(word: &[u8]) -> bool
+    ensures { result ≡ list_all is_ascii_digit word.now }
 {
-    byte.is_ascii_digit()
+    word.iter().all(|byte| byte.is_ascii_digit())
 }
 
-// A number with one digit more; None where it is 2^64 or more.
-fn with_digit(number: u64, digit: u8) -> Option<u64>
-    ensures some { IfSome result (λ n. n ≡ number * 10 + (digit - 48)) }
-    ensures below { IfSome result (λ n. n < 2 ^ 64) }
-    ensures none { IfNone result (2 ^ 64 ≤ number * 10 + (digit - 48)) }
+// Whether a word is made of decimal digits, so many at most. (A number that is parsed may have a plus before it.)
+fn has_digits(word: &str, most: usize) -> bool
+    ensures value { result ≡ (nat_le (length word.now) most && list_all is_ascii_digit word.now) }
 {
-    let value = u128::from(number) * 10 + u128::from(digit.saturating_sub(b'0'));
-    if value < 1 << 64 {
-        Some(value as u64)
-    } else {
-        None
-    }
-}
-
-// The number that decimal digits spell; None for any other word, and where it is 2^64 or more.
-fn number_in(word: &[u8]) -> Option<u64>
-    ensures value { result ≡ option_and_then as_seed (number word.now) }
-{
-    if word.is_empty() {
-        return None;
-    }
-    let mut number: u64 = 0;
-    for &digit in word {
-        if !is_digit(digit) {
-            return None;
-        }
-        match with_digit(number, digit) {
-            Some(next) => number = next,
-            None => return None,
-        }
-    }
-    Some(number)
-}
-
-// The same of at most `most` digits.
-fn number_of(word: &[u8], most: usize) -> Option<u64>
-    ensures value { result ≡ option_and_then as_seed (number_of most word.now) }
-{
-    if word.len() > most {
-        return None;
-    }
-    number_in(word)
+    word.len() <= most && are_digits(word.as_bytes())
 }
 
 // A seed of 1 to 20 decimal digits with a value below 2^64.
 fn seed_of(word: &str) -> Option<u64>
     ensures value { result ≡ seed_of word.now }
 {
-    number_of(word.as_bytes(), 20)
+    if has_digits(word, 20) {
+        word.parse().ok()
+    } else {
+        None
+    }
 }
 
 // The number of a trial, in 1 to 4 decimal digits.
 fn trial_number(word: &str) -> Option<u16>
     ensures value { result ≡ number_of 4 word.now }
 {
-    match number_of(word.as_bytes(), 4) {
-        Some(number) => Some(number as u16),
-        None => None,
+    if has_digits(word, 4) {
+        word.parse().ok()
+    } else {
+        None
     }
 }
 
