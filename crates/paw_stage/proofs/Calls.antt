@@ -9,8 +9,8 @@ use Rattle.paw_stage.specs.Moments.{Moment, Passes, InAsk, InSave, InAttach, InW
 use Rattle.paw_stage.specs.inner.Done.{DoneCall, fresh, step_done, after, filed, is_attached, saved, attached_store}
 use Rattle.paw_stage.specs.inner.Done.{wrote_store, synced_store}
 use Rattle.paw_stage.specs.inner.Replay.{MayStand, StandsInside, since_of}
-use Rattle.paw_stage.specs.declared.log.Kind.{Kind}
-use Rattle.paw_stage.specs.declared.log.Kind.TheVariants as kind
+use Rattle.paw_stage.specs.declared.log.CallKind.{CallKind}
+use Rattle.paw_stage.specs.declared.log.CallKind.TheVariants as kind
 use Rattle.paw_stage.specs.declared.Asked.{Asked}
 use Rattle.paw_stage.specs.declared.Asked.TheVariants as asked
 use Rattle.paw_stage.specs.inner.Log.{Logged, logged}
@@ -116,10 +116,10 @@ pub is_disk : (m : Memory) → IsDisk (standing_of m).disk
 is_disk m = after_disk m.log.calls
 
 -- an ask takes a line, or finds none left
-abbrev pub Takes : Kind → Asked → Type 0
+abbrev pub Takes : CallKind → Asked → Type 0
 Takes k answer = ((n : ℕ) × (k ≡ kind.Take) × (answer ≡ asked.Line n)) ⊎ ((k ≡ kind.End) × (answer ≡ asked.End))
 
-pub in_ask : (s : Standing) (lines : List (List ℕ)) (k : Kind) (answer : Asked) (m : Moment) → Takes k answer →
+pub in_ask : (s : Standing) (lines : List (List ℕ)) (k : CallKind) (answer : Asked) (m : Moment) → Takes k answer →
     MayStand k [] [] s m → InAsk (record s { lines = lines }) answer m
 in_ask s lines k answer m (inl t) h = subst (λ a. InAsk (record s { lines = lines }) a m) (sym t.2) (subst (λ x. MayStand x [] [] s m) t.1 h)
 in_ask s lines k answer m (inr t) h = subst (λ a. InAsk (record s { lines = lines }) a m) (sym t.1) (subst (λ x. MayStand x [] [] s m) t.0 h)

@@ -6,8 +6,8 @@ use Rattle.paw_stage.specs.Disk.{Disk, Range, is_dirty, MayLeave, LeavesNoMore, 
 use Rattle.paw_stage.specs.Stage.{Standing, bytes_or_none}
 use Rattle.paw_stage.specs.inner.Done.{DoneCall, step_done, stepped, fresh, after, is_attached}
 use Rattle.paw_stage.specs.inner.Crash.{spoiled_if, spoiled, crashed}
-use Rattle.paw_stage.specs.declared.log.Kind.{Kind}
-use Rattle.paw_stage.specs.declared.log.Kind.TheVariants as kind
+use Rattle.paw_stage.specs.declared.log.CallKind.{CallKind}
+use Rattle.paw_stage.specs.declared.log.CallKind.TheVariants as kind
 use Rattle.paw_stage.proofs.Writes.{length-put, index-put}
 
 pub record IsDisk (d : Disk) : Type 0 where
@@ -48,7 +48,7 @@ written_is d at bytes h =
           ∙ sym (index-put at bytes d.bytes i ∙ ap (λ b. if b then slice_index bytes (i - min at (length d.bytes)) else slice_index d.bytes i) t);
     }
 
-stepped_is : (k : Kind) (name bytes : List ℕ) (s : Standing) → IsDisk s.disk → IsDisk (stepped k name bytes s).disk
+stepped_is : (k : CallKind) (name bytes : List ℕ) (s : Standing) → IsDisk s.disk → IsDisk (stepped k name bytes s).disk
 stepped_is kind.Add name bytes s h = either_is (is_attached s.attached name) (stable bytes) s.disk (stable_is bytes) h
 stepped_is kind.Load name bytes s h = h
 stepped_is kind.Save name bytes s h = either_is (is_attached s.attached name) (stable bytes) s.disk (stable_is bytes) h

@@ -7,12 +7,12 @@ use Rattle.paw_stage.specs.Stage.{Standing}
 use Rattle.paw_stage.specs.Moments.{Moment, moment_of, Passes}
 use Rattle.paw_stage.specs.inner.Done.{DoneCall, fresh, step_done, stepped, after}
 use Rattle.paw_stage.specs.inner.Replay.{MayStand, StandsInside, StoodInside, since_of}
-use Rattle.paw_stage.specs.declared.log.Kind.{Kind}
-use Rattle.paw_stage.specs.declared.log.Kind.TheVariants as kind
+use Rattle.paw_stage.specs.declared.log.CallKind.{CallKind}
+use Rattle.paw_stage.specs.declared.log.CallKind.TheVariants as kind
 use Rattle.paw_stage.proofs.Logs.{after-push}
 
 -- what stands before a call is inside it
-begins : (k : Kind) (name bytes : List ℕ) (s : Standing) (m : Moment) → m ≡ moment_of s → MayStand k name bytes s m
+begins : (k : CallKind) (name bytes : List ℕ) (s : Standing) (m : Moment) → m ≡ moment_of s → MayStand k name bytes s m
 begins kind.Add name bytes s m e = inl e
 begins kind.Load name bytes s m e = e
 begins kind.Save name bytes s m e = inl e
@@ -25,7 +25,7 @@ begins kind.End name bytes s m e = e
 begins kind.Show name bytes s m e = (0, e ∙ ap (λ t. record (moment_of s) { shown = t }) (sym (append-nil s.shown)))
 
 -- what stands after a call is inside it
-ends : (k : Kind) (name bytes : List ℕ) (s : Standing) (m : Moment) → m ≡ moment_of (stepped k name bytes s) → MayStand k name bytes s m
+ends : (k : CallKind) (name bytes : List ℕ) (s : Standing) (m : Moment) → m ≡ moment_of (stepped k name bytes s) → MayStand k name bytes s m
 ends kind.Add name bytes s m e = inr e
 ends kind.Load name bytes s m e = e
 ends kind.Save name bytes s m e = inr (Some bytes, e)

@@ -9,8 +9,8 @@ use Rattle.paw_stage.specs.Disk.{Disk, put, stable, touched}
 use Rattle.paw_stage.specs.Stage.{Standing, Files, store_holding, made_if_missing, bytes_or_none, wrote}
 use Rattle.paw_stage.specs.inner.Done.{DoneCall, fresh, step_done, stepped, after, is_attached}
 use Rattle.paw_stage.specs.inner.Seen.{Sees, IsFiled, laid_over}
-use Rattle.paw_stage.specs.declared.log.Kind.{Kind}
-use Rattle.paw_stage.specs.declared.log.Kind.TheVariants as kind
+use Rattle.paw_stage.specs.declared.log.CallKind.{CallKind}
+use Rattle.paw_stage.specs.declared.log.CallKind.TheVariants as kind
 use Rattle.paw_stage.specs.declared.replay.Seen.{Seen}
 use Rattle.paw_stage.proofs.Names.{holds_same}
 use Rattle.paw_stage.proofs.Writes.{length-put, index-put, where_is, laid_before, laid_in, laid_behind}
@@ -33,7 +33,7 @@ made_gives (Some b) files name h = h
 some_same : (a b : List ℕ) → Some a ≡ Some b → a ≡ b
 some_same a b e = cc
 
-stepped_filed : (k : Kind) (name bytes : List ℕ) (s : Standing) → IsFiled s → IsFiled (stepped k name bytes s)
+stepped_filed : (k : CallKind) (name bytes : List ℕ) (s : Standing) → IsFiled s → IsFiled (stepped k name bytes s)
 stepped_filed kind.Add name bytes s h n e = saved_filed s name bytes h n e
 stepped_filed kind.Load name bytes s h n e = h n e
 stepped_filed kind.Save name bytes s h n e = saved_filed s name bytes h n e

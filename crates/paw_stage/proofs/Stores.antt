@@ -11,8 +11,8 @@ use Rattle.paw_stage.specs.inner.Done.{DoneCall, fresh, step_done, after, is_att
 use Rattle.paw_stage.specs.inner.Seen.{writes, is_written, IsStore, IsNamed, FindsStore}
 use Rattle.paw_stage.specs.inner.Log.{done_in}
 use Rattle.paw_stage.specs.declared.log.Call.{Call}
-use Rattle.paw_stage.specs.declared.log.Kind.{Kind}
-use Rattle.paw_stage.specs.declared.log.Kind.TheVariants as kind
+use Rattle.paw_stage.specs.declared.log.CallKind.{CallKind}
+use Rattle.paw_stage.specs.declared.log.CallKind.TheVariants as kind
 use Rattle.paw_stage.specs.declared.replay.Store.{Store}
 use Rattle.paw_stage.proofs.Logs.{after-push}
 
@@ -82,7 +82,7 @@ settled_store ds d name bytes ea ed =
         empty (x ∷ l) h = absurd (omega arith)
 
 -- neither the name of the store nor what is synced changes
-abbrev pub IsQuiet : Kind → Type 0
+abbrev pub IsQuiet : CallKind → Type 0
 IsQuiet kind.Add = ⊥
 IsQuiet kind.Save = ⊥
 IsQuiet kind.Attach = ⊥
@@ -98,7 +98,7 @@ kept_finds : (room : List ℕ) (ds : List DoneCall) (d : DoneCall) (store : Opti
 kept_finds room ds d None h ea es ed = ap (λ (s : Standing). s.attached) (after-push fresh ds d) ∙ (ea ∙ h)
 kept_finds room ds d (Some store) h ea es ed = (h.0, kept_store ds d _ store.synced h.1 ea es ed)
 
-pub quiet_finds : (room : List ℕ) (ds : List DoneCall) (k : Kind) (name bytes : List ℕ) (store : Option Store) → IsQuiet k →
+pub quiet_finds : (room : List ℕ) (ds : List DoneCall) (k : CallKind) (name bytes : List ℕ) (store : Option Store) → IsQuiet k →
     FindsStore room ds store → FindsStore room (ds ++ record { kind = k; name = name; bytes = bytes } ∷ []) store
 quiet_finds room ds kind.Add name bytes store q h = absurd q
 quiet_finds room ds kind.Load name bytes store q h = kept_finds room ds (record { kind = kind.Load; name = name; bytes = bytes }) store h refl refl (λ i. refl)
@@ -133,7 +133,7 @@ other_disk s name other bytes e ne =
     ap (λ a. if is_attached a other then stable bytes else s.disk) e
     ∙ if_not (bytes_eq name other) (stable bytes) s.disk (λ t. ne (sym ((bytes_eq-Decides name other).0 t)))
 
-saved_same : (ds : List DoneCall) (k : Kind) (name bytes : List ℕ) (n : ℕ) → (k ≡ kind.Add) ⊎ (k ≡ kind.Save) →
+saved_same : (ds : List DoneCall) (k : CallKind) (name bytes : List ℕ) (n : ℕ) → (k ≡ kind.Add) ⊎ (k ≡ kind.Save) →
     IsStore ds name n → IsStore (ds ++ record { kind = k; name = name; bytes = bytes } ∷ []) name (length ds + 1)
 saved_same ds k name bytes n w h =
     let disk = same_disk (after fresh ds) name bytes h.attached in
@@ -144,7 +144,7 @@ saved_same ds k name bytes n w h =
           (sym e) (settled_store ds (record { kind = kind.Save; name = name; bytes = bytes }) name bytes h.attached disk)
     ]
 
-pub saved_here : (ds : List DoneCall) (k : Kind) (called name bytes : List ℕ) (n done : ℕ) → called ≡ name →
+pub saved_here : (ds : List DoneCall) (k : CallKind) (called name bytes : List ℕ) (n done : ℕ) → called ≡ name →
     done ≡ length ds + 1 → (k ≡ kind.Add) ⊎ (k ≡ kind.Save) → IsStore ds name n →
     IsStore (ds ++ record { kind = k; name = called; bytes = bytes } ∷ []) name done
 saved_here ds k called name bytes n done e count w h =
@@ -152,7 +152,7 @@ saved_here ds k called name bytes n done e count w h =
     (subst (λ x. IsStore (ds ++ record { kind = k; name = x; bytes = bytes } ∷ []) name (length ds + 1)) (sym e)
     (saved_same ds k name bytes n w h))
 
-pub saved_other : (ds : List DoneCall) (k : Kind) (name other bytes : List ℕ) (n : ℕ) → (k ≡ kind.Add) ⊎ (k ≡ kind.Save) →
+pub saved_other : (ds : List DoneCall) (k : CallKind) (name other bytes : List ℕ) (n : ℕ) → (k ≡ kind.Add) ⊎ (k ≡ kind.Save) →
     other ≢ name → IsStore ds name n → IsStore (ds ++ record { kind = k; name = other; bytes = bytes } ∷ []) name n
 saved_other ds k name other bytes n w ne h =
     let disk = other_disk (after fresh ds) name other bytes h.attached ne in
@@ -166,7 +166,7 @@ saved_other ds k name other bytes n w ne h =
     ]
 
 -- no store is attached by saving
-pub saved_none : (ds : List DoneCall) (k : Kind) (name bytes : List ℕ) → (k ≡ kind.Add) ⊎ (k ≡ kind.Save) →
+pub saved_none : (ds : List DoneCall) (k : CallKind) (name bytes : List ℕ) → (k ≡ kind.Add) ⊎ (k ≡ kind.Save) →
     (after fresh ds).attached ≡ None → (after fresh
     (ds ++ record { kind = k; name = name; bytes = bytes } ∷ [])).attached ≡ None
 saved_none ds k name bytes w h = elim w [

@@ -17,7 +17,7 @@ use std::marker::Model;
 /// What was done: a file was put there between the calls, or a call loaded, saved, attached a store, read it, wrote to
 /// it from a place on, synced it, took a line, found no line left, or showed a text.
 #[derive(Clone, Copy, Drop, PartialEq, Eq, Debug)]
-pub enum Kind {
+pub enum CallKind {
     Add,
     Load,
     Save,
@@ -33,7 +33,7 @@ pub enum Kind {
 /// One call. The name handed to it stands in the room from `from` to `mid`, and the bytes from there to `to`.
 #[derive(Clone, Copy, Drop, PartialEq, Eq, Debug)]
 pub struct Call {
-    pub kind: Kind,
+    pub kind: CallKind,
     pub from: usize,
     pub mid: usize,
     pub to: usize,
@@ -79,7 +79,7 @@ impl Log {
     }
 
     /// Records a call, and answers whether there was room for it.
-    pub fn add(&mut self, kind: Kind, name: &[u8], bytes: &[u8]) -> bool
+    pub fn add(&mut self, kind: CallKind, name: &[u8], bytes: &[u8]) -> bool
         ensures exact { result ≡ has_room self.old (length name.now + length bytes.now) }
         ensures kept { IsTrue result → self.new ≡ logged (call_of kind name.now bytes.now) self.old }
         ensures full { IsFalse result → self.new ≡ self.old }
@@ -104,7 +104,7 @@ impl Log {
         let n = name.len() + bytes.len();
         reserve_beside(&mut self.calls, self.calls_left, 1)?;
         reserve_beside(&mut self.room, self.bytes_left, n)?;
-        record_call(&mut self.calls, &mut self.room, Kind::Add, name, bytes);
+        record_call(&mut self.calls, &mut self.room, CallKind::Add, name, bytes);
         Ok(())
     }
 
@@ -197,7 +197,7 @@ fn append_call(calls: &mut Vec<Call>, call: Call)
 }
 
 // Adds a call and its bytes, for which there is room.
-fn record_call(calls: &mut Vec<Call>, room: &mut Vec<u8>, kind: Kind, name: &[u8], bytes: &[u8])
+fn record_call(calls: &mut Vec<Call>, room: &mut Vec<u8>, kind: CallKind, name: &[u8], bytes: &[u8])
     requires call_fits { vec_len calls.old < vec_capacity calls.old }
     requires bytes_fit { vec_len room.old + length name.now + length bytes.now ≤ vec_capacity room.old }
     requires laid { AreLaid calls.old.items 0 (length room.old.items) }
@@ -226,41 +226,41 @@ fn record_call(calls: &mut Vec<Call>, room: &mut Vec<u8>, kind: Kind, name: &[u8
 }
 
 // Adds to the text what a call showed.
-fn show_text(text: &mut Vec<u8>, kind: Kind, bytes: &[u8])
+fn show_text(text: &mut Vec<u8>, kind: CallKind, bytes: &[u8])
     requires { vec_len text.old + length bytes.now ≤ vec_capacity text.old }
     ensures shown { KeepsText kind bytes.now text.old.items text.new.items }
     ensures len { vec_len text.new ≤ vec_len text.old + length bytes.now }
     ensures capacity { vec_capacity text.old ≤ vec_capacity text.new }
 {
     match kind {
-        Kind::Show => append(text, bytes),
-        Kind::Add => {}
-        Kind::Load => {}
-        Kind::Save => {}
-        Kind::Attach => {}
-        Kind::Read => {}
-        Kind::Write(_) => {}
-        Kind::Sync => {}
-        Kind::Take => {}
-        Kind::End => {}
+        CallKind::Show => append(text, bytes),
+        CallKind::Add => {}
+        CallKind::Load => {}
+        CallKind::Save => {}
+        CallKind::Attach => {}
+        CallKind::Read => {}
+        CallKind::Write(_) => {}
+        CallKind::Sync => {}
+        CallKind::Take => {}
+        CallKind::End => {}
     }
 }
 
 // How many bytes a call wrote to the store.
-fn bytes_written(kind: Kind, bytes: &[u8]) -> usize
+fn bytes_written(kind: CallKind, bytes: &[u8]) -> usize
     ensures counted { (s : Standing) (name : List ℕ) → (stepped kind name bytes.now s).written ≡ s.written + result }
     ensures most { result ≤ length bytes.now }
 {
     match kind {
-        Kind::Write(_) => bytes.len(),
-        Kind::Add => 0,
-        Kind::Load => 0,
-        Kind::Save => 0,
-        Kind::Attach => 0,
-        Kind::Read => 0,
-        Kind::Sync => 0,
-        Kind::Take => 0,
-        Kind::End => 0,
-        Kind::Show => 0,
+        CallKind::Write(_) => bytes.len(),
+        CallKind::Add => 0,
+        CallKind::Load => 0,
+        CallKind::Save => 0,
+        CallKind::Attach => 0,
+        CallKind::Read => 0,
+        CallKind::Sync => 0,
+        CallKind::Take => 0,
+        CallKind::End => 0,
+        CallKind::Show => 0,
     }
 }

@@ -20,7 +20,7 @@ ghost use Rattle.paw_stage.specs.inner.Memory.{empty, standing_of, clock_of, mom
 ghost use Rattle.paw_stage.specs.inner.Memory.{can_note, recorded, failed, Notes, found_none};
 ghost use Rattle.paw_stage.specs.inner.Memory.{line_taken, with_file, with_line_left};
 
-use crate::log::{Kind, Log};
+use crate::log::{CallKind, Log};
 use crate::{Asked, Failed, FaultCounts, LoadRefusal, Stage, StageCall};
 use paw_base::fault::NoRoom;
 use paw_base::lists::Rows;
@@ -134,7 +134,7 @@ impl Stage for MemoryStage {
         ensures absent { result ≡ Err refusal.Absent → self.new ≡ found_none name.now self.old }
         ensures wanting { result ≡ Err refusal.Memory → self.new ≡ recorded (loaded_file name.now) self.old }
     {
-        if !self.log.add(Kind::Load, name.as_bytes(), &[]) {
+        if !self.log.add(CallKind::Load, name.as_bytes(), &[]) {
             self.counts.raise(StageCall::Load);
             return Err(LoadRefusal::Failed);
         }
@@ -153,7 +153,7 @@ impl Stage for MemoryStage {
         ensures time { Throughout self.old self.new (λ s. InSave s name.now) }
         ensures noted { Notes call.Save (saved name.now bytes.now) result self.old self.new }
     {
-        if !self.log.add(Kind::Save, name.as_bytes(), bytes) {
+        if !self.log.add(CallKind::Save, name.as_bytes(), bytes) {
             self.counts.raise(StageCall::Save);
             return Err(Failed);
         }
@@ -167,7 +167,7 @@ impl Stage for MemoryStage {
         ensures time { Throughout self.old self.new (λ s. InAttach s (standing_of self.new) name.now) }
         ensures noted { Notes call.Attach (attached_store name.now) result self.old self.new }
     {
-        if !self.log.add(Kind::Attach, name.as_bytes(), &[]) {
+        if !self.log.add(CallKind::Attach, name.as_bytes(), &[]) {
             self.counts.raise(StageCall::Attach);
             return Err(Failed);
         }
@@ -183,7 +183,7 @@ impl Stage for MemoryStage {
         ensures time { Throughout self.old self.new Still }
         ensures noted { Notes call.Read read_store result self.old self.new }
     {
-        if !self.log.add(Kind::Read, &[], &[]) {
+        if !self.log.add(CallKind::Read, &[], &[]) {
             self.counts.raise(StageCall::Read);
             return Err(Failed);
         }
@@ -199,7 +199,7 @@ impl Stage for MemoryStage {
         ensures time { Throughout self.old self.new (λ s. InWrite s at (length bytes.now)) }
         ensures noted { Notes call.Write (wrote_store at bytes.now) result self.old self.new }
     {
-        if !self.log.add(Kind::Write(at), &[], bytes) {
+        if !self.log.add(CallKind::Write(at), &[], bytes) {
             self.counts.raise(StageCall::Write);
             return Err(Failed);
         }
@@ -212,7 +212,7 @@ impl Stage for MemoryStage {
         ensures time { Throughout self.old self.new InSync }
         ensures noted { Notes call.Sync synced_store result self.old self.new }
     {
-        if !self.log.add(Kind::Sync, &[], &[]) {
+        if !self.log.add(CallKind::Sync, &[], &[]) {
             self.counts.raise(StageCall::Sync);
             return Err(Failed);
         }
@@ -231,9 +231,9 @@ impl Stage for MemoryStage {
         ensures noted_end { result ≡ asked.End → self.new ≡ recorded end_done self.old }
     {
         let kind = if self.lines.is_empty() {
-            Kind::End
+            CallKind::End
         } else {
-            Kind::Take
+            CallKind::Take
         };
         if !self.log.add(kind, &[], &[]) {
             self.counts.raise(StageCall::Ask);
@@ -251,7 +251,7 @@ impl Stage for MemoryStage {
         ensures time { Throughout self.old self.new (λ s. InShow s text.now) }
         ensures noted { Notes call.Show (showed text.now) result self.old self.new }
     {
-        if !self.log.add(Kind::Show, &[], text) {
+        if !self.log.add(CallKind::Show, &[], text) {
             self.counts.raise(StageCall::Show);
             return Err(Failed);
         }

@@ -3,7 +3,7 @@
 ghost use Rattle.std.specs.Prelude.{◌≡◌, ◌⊎◌, ◌≤◌, ◌<◌, ◌+◌, ◌-◌, ◌^◌, ◌++◌, ◌∷◌, ◌||◌, min, max};
 ghost use Rattle.std.specs.Prelude.{true, [], IfOk, IfSome, IfNone, IsSome, Some, None, length, take, drop};
 ghost use Rattle.std.specs.Prelude.{slice_range, replicate, List};
-ghost use Rattle.paw_stage.specs.declared.log.Kind.TheVariants as kind;
+ghost use Rattle.paw_stage.specs.declared.log.CallKind.TheVariants as kind;
 ghost use Rattle.paw_stage.specs.Disk.{put};
 ghost use Rattle.paw_stage.specs.Stage.{Standing, file_bytes};
 ghost use Rattle.paw_stage.specs.inner.Stage.{IfAttached};
@@ -14,7 +14,7 @@ ghost use Rattle.paw_stage.specs.inner.Seen.{HasLength, Sees, IsFiled, IsNamed, 
 ghost use Rattle.paw_stage.specs.inner.Seen.{FindsNext, LaysOver, Spoils};
 ghost use Rattle.paw_stage.specs.inner.Seen.{writes, is_written};
 
-use crate::log::{Call, Kind};
+use crate::log::{Call, CallKind};
 use paw_base::fault::NoRoom;
 use std::alloc::Global;
 
@@ -154,7 +154,7 @@ fn spoil_after(call: Call, room: &[u8], store: &mut [u8])
     ensures { Spoils (writes call.kind (length (done_in room.now call).bytes)) store.old store.new }
 {
     let bytes = part(room, call.mid, call.to);
-    if let Kind::Write(place) = call.kind {
+    if let CallKind::Write(place) = call.kind {
         let place = (place as usize).min(store.len());
         spoil_range(place, bytes.len(), store);
     }
@@ -214,28 +214,28 @@ fn seen_after(call: Call, room: &[u8], name: &[u8], at: usize, into: &mut [u8], 
     let named = part(room, call.from, call.mid) == name;
     let bytes = part(room, call.mid, call.to);
     match call.kind {
-        Kind::Add => if named {
+        CallKind::Add => if named {
             seen_filed(bytes, at, into, seen)
         } else {
             seen
         },
-        Kind::Save => if named {
+        CallKind::Save => if named {
             seen_filed(bytes, at, into, seen)
         } else {
             seen
         },
-        Kind::Attach => seen_opened(named, seen),
-        Kind::Write(place) => if seen.attached {
+        CallKind::Attach => seen_opened(named, seen),
+        CallKind::Write(place) => if seen.attached {
             seen_written(place, bytes, at, into, seen)
         } else {
             seen
         },
-        Kind::Load => seen,
-        Kind::Read => seen,
-        Kind::Sync => seen,
-        Kind::Take => seen,
-        Kind::End => seen,
-        Kind::Show => seen,
+        CallKind::Load => seen,
+        CallKind::Read => seen,
+        CallKind::Sync => seen,
+        CallKind::Take => seen,
+        CallKind::End => seen,
+        CallKind::Show => seen,
     }
 }
 
@@ -325,19 +325,19 @@ fn store_after(call: Call, room: &[u8], done: usize, store: Option<Store>) -> Op
     ensures { FindsNext room.now call done store result }
 {
     match call.kind {
-        Kind::Add => store_filed(call, room, done, store),
-        Kind::Save => store_filed(call, room, done, store),
-        Kind::Attach => Some(Store {
+        CallKind::Add => store_filed(call, room, done, store),
+        CallKind::Save => store_filed(call, room, done, store),
+        CallKind::Attach => Some(Store {
             opened: call,
             synced: done,
         }),
-        Kind::Sync => store_synced(done, store),
-        Kind::Load => store,
-        Kind::Read => store,
-        Kind::Write(_) => store,
-        Kind::Take => store,
-        Kind::End => store,
-        Kind::Show => store,
+        CallKind::Sync => store_synced(done, store),
+        CallKind::Load => store,
+        CallKind::Read => store,
+        CallKind::Write(_) => store,
+        CallKind::Take => store,
+        CallKind::End => store,
+        CallKind::Show => store,
     }
 }
 

@@ -3,17 +3,17 @@ use Rattle.std.specs.Prelude.{ℕ, ◌+◌, List, [], length, fold, Option, Some
 use Rattle.std.specs.Str.{bytes_eq}
 use Rattle.paw_stage.specs.Disk.{stable}
 use Rattle.paw_stage.specs.Stage.{Standing, file_holding, bytes_or_none, with_shown, opened, with_written, settled}
-use Rattle.paw_stage.specs.declared.log.Kind.{Kind}
-use Rattle.paw_stage.specs.declared.log.Kind.TheVariants as kind
+use Rattle.paw_stage.specs.declared.log.CallKind.{CallKind}
+use Rattle.paw_stage.specs.declared.log.CallKind.TheVariants as kind
 
 -- A call that was done, with the name and the bytes that were handed to it.
 pub record DoneCall : Type 0 where
-  pub kind : Kind
+  pub kind : CallKind
   pub name : List ℕ
   pub bytes : List ℕ
 
 -- A call of this kind, to which this name and these bytes were handed.
-abbrev pub call_of : Kind → List ℕ → List ℕ → DoneCall
+abbrev pub call_of : CallKind → List ℕ → List ℕ → DoneCall
 call_of kind name bytes = record { kind = kind; name = name; bytes = bytes }
 
 -- How many bytes were handed to a call.
@@ -70,7 +70,7 @@ filed name bytes s = record s {
 }
 
 -- What a call of a kind makes of what stands. The lines that are left stand elsewhere.
-abbrev pub stepped : Kind → List ℕ → List ℕ → Standing → Standing
+abbrev pub stepped : CallKind → List ℕ → List ℕ → Standing → Standing
 stepped kind.Add name bytes s = filed name (Some bytes) s
 stepped kind.Load name bytes s = s
 stepped kind.Save name bytes s = filed name (Some bytes) s

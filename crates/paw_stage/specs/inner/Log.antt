@@ -2,7 +2,7 @@
 use Rattle.std.specs.Prelude.{◌≡◌, ℕ, ◌-◌, ◌≤◌, nat_lt, nat_le, ◌&&◌, Bool, List, [], ◌∷◌, ◌++◌, map, slice_range}
 use Rattle.paw_stage.specs.Stage.{Standing}
 use Rattle.paw_stage.specs.inner.Done.{DoneCall, size_of, fresh, stepped, after}
-use Rattle.paw_stage.specs.declared.log.Kind.{Kind}
+use Rattle.paw_stage.specs.declared.log.CallKind.{CallKind}
 use Rattle.paw_stage.specs.declared.log.Call.{Call}
 
 -- The calls that were done, and how many calls and bytes may still be recorded.
@@ -39,7 +39,7 @@ abbrev pub replayed : List ℕ → List Call → Standing
 replayed room calls = after fresh (all_done room calls)
 
 -- A text is what was shown before a call of this kind, and another is that after it.
-abbrev pub KeepsText : Kind → List ℕ → List ℕ → List ℕ → Type 0
+abbrev pub KeepsText : CallKind → List ℕ → List ℕ → List ℕ → Type 0
 KeepsText kind bytes old new =
     (s : Standing) (name : List ℕ) → s.shown ≡ old → (stepped kind name bytes s).shown ≡ new
 

@@ -5,8 +5,8 @@ use Rattle.paw_stage.specs.Disk.{touched}
 use Rattle.paw_stage.specs.Stage.{Standing, made_if_missing, opened, wrote, settled}
 use Rattle.paw_stage.specs.Moments.{Moment, moment_of}
 use Rattle.paw_stage.specs.inner.Done.{DoneCall, fresh, filed, step_done, after}
-use Rattle.paw_stage.specs.declared.log.Kind.{Kind}
-use Rattle.paw_stage.specs.declared.log.Kind.TheVariants as kind
+use Rattle.paw_stage.specs.declared.log.CallKind.{CallKind}
+use Rattle.paw_stage.specs.declared.log.CallKind.TheVariants as kind
 
 -- The one or the other stands.
 abbrev pub IsEither : Standing → Standing → Moment → Type 0
@@ -14,7 +14,7 @@ IsEither s t m = (m ≡ moment_of s) ⊎ (m ≡ moment_of t)
 
 -- What may stand at the moments inside a call, its start and its end among them. Inside a save the file may hold any
 -- bytes or be gone, and inside a write any bytes may stand in the range that is written, or in a first part of it.
-abbrev pub MayStand : Kind → List ℕ → List ℕ → Standing → Moment → Type 0
+abbrev pub MayStand : CallKind → List ℕ → List ℕ → Standing → Moment → Type 0
 MayStand kind.Add name bytes s m = IsEither s (filed name (Some bytes) s) m
 MayStand kind.Load name bytes s m = m ≡ moment_of s
 MayStand kind.Save name bytes s m = (m ≡ moment_of s) ⊎ ((left : Option (List ℕ)) × (m ≡ moment_of (filed name left s)))

@@ -7,8 +7,8 @@ use Rattle.paw_stage.specs.inner.Done.{DoneCall, fresh, after, is_attached}
 use Rattle.paw_stage.specs.inner.Crash.{spoiled_if}
 use Rattle.paw_stage.specs.inner.Log.{done_in}
 use Rattle.paw_stage.specs.declared.log.Call.{Call}
-use Rattle.paw_stage.specs.declared.log.Kind.{Kind}
-use Rattle.paw_stage.specs.declared.log.Kind.TheVariants as kind
+use Rattle.paw_stage.specs.declared.log.CallKind.{CallKind}
+use Rattle.paw_stage.specs.declared.log.CallKind.TheVariants as kind
 use Rattle.paw_stage.specs.declared.replay.Seen.{Seen}
 use Rattle.paw_stage.specs.declared.replay.Store.{Store}
 
@@ -43,7 +43,7 @@ abbrev pub Spoils : (ℕ → Bool) → List ℕ → List ℕ → Type 0
 Spoils test old new = (j : ℕ) → j < length old → slice_index new j ≡ spoiled_if (test j) (slice_index old j)
 
 -- Whether a call of this kind, with so many bytes, wrote at place i of the store.
-abbrev pub writes : Kind → ℕ → ℕ → Bool
+abbrev pub writes : CallKind → ℕ → ℕ → Bool
 writes (kind.Write at) n i = nat_le at i && nat_lt i (at + n)
 writes _ n i = false
 
