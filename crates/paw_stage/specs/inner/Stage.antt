@@ -1,6 +1,6 @@
 -- What a stage tells, and what its calls do to it: words that contracts between crates and proofs use beside those of
 -- specs/Stage.antt.
-use Rattle.std.specs.Prelude.{ℕ, ◌+◌, ◌-◌, ◌≤◌}
+use Rattle.std.specs.Prelude.{ℕ, ◌+◌, ◌≤◌}
 use Rattle.std.specs.Prelude.{IsSome}
 use Rattle.paw_stage.specs.Disk.{Disk}
 use Rattle.paw_stage.specs.Stage.{Standing}
