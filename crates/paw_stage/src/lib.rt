@@ -18,6 +18,7 @@ mod tests;
 
 pub use failing::{FailStage, Listed};
 pub use faults::FaultCounts;
+pub use log::CallKind;
 pub use memory::MemoryStage;
 pub use real::RealStage;
 pub use refusing::{Refusals, RefusingStage};

@@ -2,14 +2,15 @@
 
 ghost use Rattle.std.specs.Prelude.{◌≡◌, ◌≤◌, ◌<◌, ◌+◌, ◌++◌, ◌∷◌, [], IsTrue, IsFalse, IfOk, IfSome, IfNone, IsSome};
 ghost use Rattle.std.specs.Prelude.{None, OnOk, OnErr, length, take, drop, vec_len, vec_capacity, List, ℕ};
+ghost use Rattle.std.specs.Option.{option_map};
 ghost use Rattle.paw_stage.specs.Stage.{Standing, bytes_or_none};
 ghost use Rattle.paw_stage.specs.inner.Stage.{IfAttached};
-ghost use Rattle.paw_stage.specs.inner.Done.{call_of, added, fresh, stepped, after};
+ghost use Rattle.paw_stage.specs.inner.Done.{call_of, call_at, added, fresh, stepped, after};
 ghost use Rattle.paw_stage.specs.inner.Crash.{crashed};
 ghost use Rattle.paw_stage.specs.inner.Log.{has_room, logged, call_logged, all_done, AreLaid, KeepsText};
 ghost use Rattle.paw_stage.specs.inner.Seen.{HasLength};
 
-use crate::replay::{crash, file_len, first_bytes, read_store, store_len};
+use crate::replay::{call_at, crash, file_len, first_bytes, read_store, store_len};
 use paw_base::fault::NoRoom;
 use std::alloc::Global;
 use std::marker::Model;
@@ -106,6 +107,13 @@ impl Log {
         reserve_beside(&mut self.room, self.bytes_left, n)?;
         record_call(&mut self.calls, &mut self.room, CallKind::Add, name, bytes);
         Ok(())
+    }
+
+    /// The kind of the call of this number, counted from 0, and the name handed to it.
+    pub fn call(&self, number: usize) -> Option<(CallKind, &[u8])>
+        ensures { option_map (λ c. (c.0, c.1.now)) result ≡ call_at self.now.calls number }
+    {
+        call_at(self.calls.as_slice(), self.room.as_slice(), number)
     }
 
     /// The text shown.

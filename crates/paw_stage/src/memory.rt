@@ -2,6 +2,7 @@
 
 ghost use Rattle.std.specs.Prelude.{◌≡◌, ◌≤◌, ◌+◌, ◌↔◌, [], ℕ, length, min, IsFalse, IfOk, OnOk, OnErr, IsSome};
 ghost use Rattle.std.specs.Prelude.{None};
+ghost use Rattle.std.specs.Option.{option_map};
 ghost use Rattle.std.proofs.Common.{inl, refl};
 ghost use Rattle.paw_stage.specs.declared.StageCall.TheVariants as call;
 ghost use Rattle.paw_stage.specs.declared.LoadRefusal.TheVariants as refusal;
@@ -15,7 +16,7 @@ ghost use Rattle.paw_stage.specs.inner.Faults.{count_of};
 ghost use Rattle.paw_stage.specs.inner.Crash.{crashed};
 ghost use Rattle.paw_stage.specs.inner.Done.{loaded_file, saved, attached_store, read_store};
 ghost use Rattle.paw_stage.specs.inner.Done.{wrote_store, synced_store, took};
-ghost use Rattle.paw_stage.specs.inner.Done.{end_done, showed};
+ghost use Rattle.paw_stage.specs.inner.Done.{end_done, showed, call_at};
 ghost use Rattle.paw_stage.specs.inner.Memory.{empty, standing_of, clock_of, moments_of, only_moment, Throughout};
 ghost use Rattle.paw_stage.specs.inner.Memory.{can_note, recorded, failed, Notes, found_none};
 ghost use Rattle.paw_stage.specs.inner.Memory.{line_taken, with_file, with_line_left};
@@ -82,6 +83,15 @@ impl MemoryStage {
     {
         let line = Line::from_slice(alloc, line)?;
         self.lines.push_back(line).map_err(|_| NoRoom)
+    }
+
+    /// The kind of the call of this number in the record, counted from 0, and the name handed to it, which is empty
+    /// where a call takes none; None where there are no more calls. Each file that `add_file` put there stands in the
+    /// record too, and no call that was Failed does.
+    pub fn call(&self, number: usize) -> Option<(CallKind, &[u8])>
+        ensures { option_map (λ c. (c.0, c.1.now)) result ≡ call_at self.now.log.calls number }
+    {
+        self.log.call(number)
     }
 
     /// The text shown.

@@ -3,11 +3,12 @@
 ghost use Rattle.std.specs.Prelude.{◌≡◌, ◌⊎◌, ◌≤◌, ◌<◌, ◌+◌, ◌-◌, ◌^◌, ◌++◌, ◌∷◌, ◌||◌, min, max};
 ghost use Rattle.std.specs.Prelude.{true, [], IfOk, IfSome, IfNone, IsSome, Some, None, length, take, drop};
 ghost use Rattle.std.specs.Prelude.{slice_range, replicate, List};
+ghost use Rattle.std.specs.Option.{option_map};
 ghost use Rattle.paw_stage.specs.declared.log.CallKind.TheVariants as kind;
 ghost use Rattle.paw_stage.specs.Disk.{put};
 ghost use Rattle.paw_stage.specs.Stage.{Standing, file_bytes};
 ghost use Rattle.paw_stage.specs.inner.Stage.{IfAttached};
-ghost use Rattle.paw_stage.specs.inner.Done.{DoneCall, step_done};
+ghost use Rattle.paw_stage.specs.inner.Done.{DoneCall, step_done, call_at};
 ghost use Rattle.paw_stage.specs.inner.Crash.{crashed, all_spoiled};
 ghost use Rattle.paw_stage.specs.inner.Log.{done_in, all_done, replayed, AreLaid};
 ghost use Rattle.paw_stage.specs.inner.Seen.{HasLength, Sees, IsFiled, IsNamed, FindsStore};
@@ -34,6 +35,15 @@ pub struct Seen {
 pub struct Store {
     pub opened: Call,
     pub synced: usize,
+}
+
+/// The kind of the call of this number, counted from 0, and the name handed to it.
+pub fn call_at<'a>(calls: &[Call], room: &'a [u8], number: usize) -> Option<(CallKind, &'a [u8])>
+    requires { AreLaid calls.now 0 (length room.now) }
+    ensures { option_map (λ c. (c.0, c.1.now)) result ≡ call_at (all_done room.now calls.now) number }
+{
+    let call = calls.get(number)?;
+    Some((call.kind, part(room, call.from, call.mid)))
 }
 
 /// The length of a file, where it is there.

@@ -1,5 +1,7 @@
 -- What a stage in memory was asked to do, and what stands after it.
 use Rattle.std.specs.Prelude.{ℕ, ◌+◌, List, [], length, fold, Option, Some, None, Bool, false, if◌then◌else◌}
+use Rattle.std.specs.Option.{option_map}
+use Rattle.std.specs.List.{slice_get}
 use Rattle.std.specs.Str.{bytes_eq}
 use Rattle.paw_stage.specs.Disk.{stable}
 use Rattle.paw_stage.specs.Stage.{Standing, file_holding, bytes_or_none, with_shown, opened, with_written, settled}
@@ -51,6 +53,10 @@ wrote_store at bytes = call_of (kind.Write at) [] bytes
 
 abbrev pub synced_store : DoneCall
 synced_store = call_of kind.Sync [] []
+
+-- The kind of the call of this number, counted from 0, and the name handed to it; None where there are no more calls.
+abbrev pub call_at : List DoneCall → ℕ → Option (CallKind × List ℕ)
+call_at ds number = option_map (λ d. (d.kind, d.name)) (slice_get ds number)
 
 -- With nothing there.
 abbrev pub fresh : Standing
