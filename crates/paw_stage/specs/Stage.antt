@@ -4,6 +4,7 @@ use Rattle.std.specs.Prelude.{Option, Some, None, Result, Ok, Err, if◌then◌e
 use Rattle.std.specs.declared.vec.Vec.{Vec}
 use Rattle.std.specs.declared.alloc.Global.{Global}
 use Rattle.std.specs.Str.{bytes_eq}
+use Rattle.paw_base.specs.declared.limits.TheConstants.{LINE_LIMIT}
 use Rattle.paw_stage.specs.Disk.{Disk, stable, touched, IsInWrite}
 use Rattle.paw_stage.specs.declared.StageCall.{StageCall}
 use Rattle.paw_stage.specs.declared.StageCall.TheVariants as call
@@ -82,8 +83,8 @@ failed_ask asked.Failed = Some call.Ask
 
 -- The first n bytes are a line's, at most 255 of them.
 pub record IsCut (line bytes : List ℕ) (n : ℕ) : Type 0 where
-  pub short : n ≤ 255
-  pub same : take n bytes ≡ take 255 line
+  pub short : n ≤ LINE_LIMIT
+  pub same : take n bytes ≡ take LINE_LIMIT line
 
 -- What an ask does. It takes the next line, or finds no line left, or failed; only the first changes anything.
 abbrev pub AsksTo : Standing → Standing → Asked → List ℕ → Type 0

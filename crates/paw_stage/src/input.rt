@@ -2,10 +2,12 @@
 
 ghost use Rattle.std.specs.Prelude.{◌≡◌, ◌<◌, ◌-◌, ◌↔◌, nat_lt, if◌then◌else◌, slice_set, IsTrue, IsNone, IfOk};
 ghost use Rattle.std.specs.Io.KnownBytes.{IsAtEnd};
+ghost use Rattle.paw_base.specs.declared.limits.TheConstants.{LINE_LIMIT};
 ghost use Rattle.paw_stage.specs.declared.Asked.TheVariants as asked;
 
 use crate::ahead::Ahead;
 use crate::{Asked, Failed};
+use paw_base::limits::LINE_LIMIT;
 use std::io::Read;
 
 /// The greatest length of a line that is taken, in bytes, without its line end.
@@ -38,7 +40,7 @@ impl<R: Read + Drop> LineReader<R> {
 
     /// Takes the next line and gives its first 255 bytes, without its line end. A line of more than 1,048,576 bytes,
     /// its end not counted, is Failed, and so is a fault of the reader.
-    pub fn next_line(&mut self, into: &mut [u8; 255]) -> Asked
+    pub fn next_line(&mut self, into: &mut [u8; LINE_LIMIT]) -> Asked
         ensures line { AsksOf R.remaining self.old self.new result into.new }
         ensures breaks { (result ≡ asked.Failed) ↔ IsTrue self.new.broken }
         ensures stays { IsTrue self.old.broken → result ≡ asked.Failed }
@@ -48,7 +50,7 @@ impl<R: Read + Drop> LineReader<R> {
         }
         match self.gather(into) {
             Ok(None) => Asked::End,
-            Ok(Some(len)) if len <= LONGEST_LINE => Asked::Line(len.min(255) as u8),
+            Ok(Some(len)) if len <= LONGEST_LINE => Asked::Line(len.min(LINE_LIMIT as u32) as u8),
             _ => {
                 self.broken = true;
                 Asked::Failed
@@ -58,7 +60,7 @@ impl<R: Read + Drop> LineReader<R> {
 
     // Takes the next line, keeps its first 255 bytes, and gives its length, or nothing where no byte is
     // left. It fails where the line and its CR are longer than the greatest length and one byte.
-    fn gather(&mut self, into: &mut [u8; 255]) -> Result<Option<u32>, Failed>
+    fn gather(&mut self, into: &mut [u8; LINE_LIMIT]) -> Result<Option<u32>, Failed>
         ensures line { GathersOf R.remaining self.old self.new result into.new }
         ensures rest { self.new.broken ≡ self.old.broken }
     {
@@ -101,10 +103,10 @@ fn without_return(len: u32, returned: bool) -> u32
 }
 
 // Keeps a byte of the line, if it is one of the first 255.
-fn keep(into: &mut [u8; 255], at: u32, byte: u8)
-    ensures { into.new ≡ (if nat_lt at 255 then slice_set into.old at byte else into.old) }
+fn keep(into: &mut [u8; LINE_LIMIT], at: u32, byte: u8)
+    ensures { into.new ≡ (if nat_lt at LINE_LIMIT then slice_set into.old at byte else into.old) }
 {
-    if at < 255 {
+    if at < LINE_LIMIT as u32 {
         into[at as usize] = byte;
     }
 }

@@ -20,6 +20,7 @@ pub use failing::{FailStage, Listed};
 pub use faults::FaultCounts;
 pub use log::CallKind;
 pub use memory::MemoryStage;
+use paw_base::limits::LINE_LIMIT;
 pub use real::RealStage;
 pub use refusing::{Refusals, RefusingStage};
 use std::alloc::Global;
@@ -160,7 +161,7 @@ pub trait Stage {
     /// length may be any.
     ///
     /// The answer is End exactly where no line is left and the call didn't fail. After End and Failed no line is taken.
-    fn ask(&mut self, into: &mut [u8; 255]) -> Asked
+    fn ask(&mut self, into: &mut [u8; LINE_LIMIT]) -> Asked
         ensures tells { Tells self.old ↔ Tells self.new }
         ensures faulted { Faulted (failed_ask result) (faults self.old) (faults self.new) }
         ensures answer { Tells self.old → AsksTo (standing self.old) (standing self.new) result into.new }

@@ -24,6 +24,7 @@ ghost use Rattle.paw_stage.specs.inner.Memory.{line_taken, with_file, with_line_
 use crate::log::{CallKind, Log};
 use crate::{Asked, Failed, FaultCounts, LoadRefusal, Stage, StageCall};
 use paw_base::fault::NoRoom;
+use paw_base::limits::LINE_LIMIT;
 use paw_base::lists::Rows;
 use std::alloc::Global;
 use std::collections::VecDeque;
@@ -229,7 +230,7 @@ impl Stage for MemoryStage {
         Ok(())
     }
 
-    fn ask(&mut self, into: &mut [u8; 255]) -> Asked
+    fn ask(&mut self, into: &mut [u8; LINE_LIMIT]) -> Asked
         ensures faulted { Faulted (failed_ask result) (count_of self.old.counts) (count_of self.new.counts) }
         ensures answer { AsksTo (standing_of self.old) (standing_of self.new) result into.new }
         ensures time { Throughout self.old self.new (λ s. InAsk s result) }
@@ -281,10 +282,10 @@ fn first_len(len: usize, most: usize) -> usize
 }
 
 // Gives the first 255 bytes of a line, and how many they are.
-fn copy_cut(line: &[u8], into: &mut [u8; 255]) -> u8
+fn copy_cut(line: &[u8], into: &mut [u8; LINE_LIMIT]) -> u8
     ensures { IsCut line.now into.new result }
 {
-    let n = line.len().min(255);
+    let n = line.len().min(LINE_LIMIT);
     into[..n].copy_from_slice(&line[..n]);
     n as u8
 }

@@ -10,6 +10,7 @@ use crate::files::{open_store, read_file, read_part, sync_bytes, write_file, wri
 use crate::input::LineReader;
 use crate::streams::write_whole;
 use crate::{Asked, Failed, FaultCounts, LoadRefusal, Stage, StageCall};
+use paw_base::limits::LINE_LIMIT;
 use std::alloc::Global;
 use std::io;
 use std::marker::Model;
@@ -145,7 +146,7 @@ impl<R: Files + Input + Print + Drop> Stage for RealStage<R> {
         self.counts.answered(StageCall::Sync, synced)
     }
 
-    fn ask(&mut self, into: &mut [u8; 255]) -> Asked
+    fn ask(&mut self, into: &mut [u8; LINE_LIMIT]) -> Asked
         ensures faulted { Faulted (failed_ask result) (count_of self.old) (count_of self.new) }
 
         // A count rises exactly at a failure.

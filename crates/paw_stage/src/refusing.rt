@@ -18,6 +18,7 @@ ghost use Rattle.paw_stage.specs.inner.Refusing.{faults_of, standing_of, Through
 ghost use Rattle.paw_stage.specs.inner.Refusing.{refused, passed, FailsBelow, CannotPass, Forwards};
 
 use crate::{Asked, Failed, FaultCounts, LoadRefusal, MemoryStage, Stage, StageCall};
+use paw_base::limits::LINE_LIMIT;
 use std::alloc::Global;
 use std::marker::Model;
 
@@ -183,7 +184,7 @@ impl<R: Refusals + Drop> Stage for RefusingStage<R> {
         self.inner.sync()
     }
 
-    fn ask(&mut self, into: &mut [u8; 255]) -> Asked
+    fn ask(&mut self, into: &mut [u8; LINE_LIMIT]) -> Asked
         ensures faulted { Faulted (failed_ask result) (faults_of self.old) (faults_of self.new) }
         ensures answer { AsksTo (standing_of self.old) (standing_of self.new) result into.new }
         ensures time { Throughout self.old self.new (λ s. InAsk s result) }

@@ -4,6 +4,7 @@ use Rattle.std.specs.Prelude.{IfSome, Result, IfOk}
 use Rattle.std.specs.Option.{option_to_list}
 use Rattle.std.specs.Io.KnownBytes.{prepend_known, Consumes}
 use Rattle.std.specs.Io.BufRead.{ends_with_byte, first_line, drop_through}
+use Rattle.paw_base.specs.declared.limits.TheConstants.{LINE_LIMIT}
 use Rattle.paw_stage.specs.Stage.{IsCut}
 use Rattle.paw_stage.specs.declared.Asked.{Asked}
 use Rattle.paw_stage.specs.declared.Asked.TheVariants as asked
@@ -26,7 +27,7 @@ TakesLine bytes left asked.Failed into = ⊤
 abbrev pub GathersLine : List ℕ → Option (List ℕ) → Option ℕ → List ℕ → Type 0
 GathersLine bytes left None into = (bytes ≡ []) × (left ≡ Some [])
 GathersLine bytes left (Some len) into =
-    (0 < length bytes) × (len ≡ length (first_line bytes)) × (take (min len 255) into ≡ take 255 (first_line bytes))
+    (0 < length bytes) × (len ≡ length (first_line bytes)) × (take (min len LINE_LIMIT) into ≡ take LINE_LIMIT (first_line bytes))
     × (left ≡ Some (drop_through 10 bytes))
 
 -- What an ask, the gathering of a line and the taking of a byte do to a reader, where its bytes are known.
@@ -53,5 +54,5 @@ pub record Gathers (first left : Option (List ℕ)) (into : List ℕ) (len : ℕ
   pub consumed : Consumes first left taken
   pub count : length taken ≡ len
   pub plain : HasNoEnd taken
-  pub kept : take (min len 255) into ≡ take 255 taken
+  pub kept : take (min len LINE_LIMIT) into ≡ take LINE_LIMIT taken
   pub last : returned ≡ ends_with_byte 13 taken
