@@ -133,12 +133,13 @@ pub data Recovered : Type 0 where
   Damaged : (part : SessionPart) (at : ℕ) → Recovered
   Shown : (digest state piece : List ℕ) → Recovered
 
--- What a slot shows. It is damaged where it has too many change records, or at the first one that isn't sound.
+-- What a slot shows where this is its first change that isn't sound: it is damaged there. With none it shows its state and
+-- its piece.
 abbrev pub shown_unless : List ℕ → List ℕ → Option ℕ → Recovered
 shown_unless digest bytes (Some n) = Damaged part.Slot (69696 + 4 * n)
 shown_unless digest bytes None = Shown digest (shown_state bytes) (slot_piece bytes)
 
--- What a slot shows, where it doesn't have too many change records.
+-- What a slot shows. One with too many change records is damaged at its first byte.
 unfoldable pub slot_shows : List ℕ → List ℕ → Recovered
 slot_shows digest bytes =
     if nat_le (two_byte_number 0 bytes) most_changes
