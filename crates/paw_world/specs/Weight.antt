@@ -3,6 +3,7 @@ use Rattle.std.specs.Prelude.{ℕ, zero, suc, ◌+◌, ◌==◌, ◌&&◌, not, 
 use Rattle.std.specs.Prelude.{Option, None, Some, slice_get, if◌then◌else◌}
 use Rattle.std.specs.List.{range_with_len}
 use Rattle.std.specs.Option.{option_map_or}
+use Rattle.paw_base.specs.declared.limits.TheConstants.{WEIGHT_LEVELS}
 use Rattle.paw_base.specs.declared.places.TheConstants.{WORN_PLACE, CARRIED_PLACE}
 use Rattle.paw_base.specs.declared.parts.ObjectFacts.{ObjectFacts}
 use Rattle.paw_world.specs.World.{World, place}
@@ -24,7 +25,7 @@ weight_down w (suc n) o = filled_weight (slice_get w.facts o) (sum_by (weight_do
 
 -- contents count down to ten levels
 abbrev pub weight : World → ℕ → ℕ
-weight w o = weight_down w 10 o
+weight w o = weight_down w WEIGHT_LEVELS o
 
 -- what is worn and carried weighs, at most 255
 abbrev pub carried_weight : World → ℕ

@@ -10,7 +10,8 @@ use Rattle.paw_base.specs.declared.flags.TheConstants.{SECOND_NOUN_FLAG, SECOND_
 use Rattle.paw_base.specs.declared.flags.TheConstants.{PRONOUN_ADJECTIVE_FLAG, REFERRED_FLAG, MOST_WEIGHT_FLAG}
 use Rattle.paw_base.specs.declared.places.TheConstants.{NOT_CREATED_PLACE, WORN_PLACE, CARRIED_PLACE}
 use Rattle.paw_base.specs.declared.words.TheConstants.{NO_WORD}
-use Rattle.paw_base.specs.declared.limits.TheConstants.{OBJECT_LIMIT, FLAG_COUNT, POSITION_COUNT}
+use Rattle.paw_base.specs.declared.limits.TheConstants.{OBJECT_LIMIT, FLAG_COUNT, POSITION_COUNT, STARTING_CARRIED}
+use Rattle.paw_base.specs.declared.limits.TheConstants.{STARTING_WEIGHT}
 use Rattle.paw_base.specs.declared.parts.ObjectFacts.{ObjectFacts}
 
 -- flags and places, as they are saved or kept together
@@ -59,7 +60,7 @@ flags_with carried =
     let words = none (none (none (none counted VERB_FLAG) NOUN_FLAG) ADJECTIVE_FLAG) ADVERB_FLAG in
     let second = none (none (none words PREPOSITION_FLAG) SECOND_NOUN_FLAG) SECOND_ADJECTIVE_FLAG in
     let more = none (none (none second PRONOUN_NOUN_FLAG) PRONOUN_ADJECTIVE_FLAG) REFERRED_FLAG in
-    slice_set (slice_set more MOST_CARRIED_FLAG 4) MOST_WEIGHT_FLAG 10
+    slice_set (slice_set more MOST_CARRIED_FLAG STARTING_CARRIED) MOST_WEIGHT_FLAG STARTING_WEIGHT
 
 -- each object stands where it begins
 abbrev pub opening_places : List ObjectFacts → List ℕ

@@ -1,16 +1,18 @@
 // Where the objects stand.
 
 ghost use Rattle.std.specs.Prelude.{◌≡◌, ◌+◌, ◌<◌, ◌≤◌, [], ◌∷◌, ◌++◌, length, map, slice_index, slice_set};
+ghost use Rattle.paw_base.specs.declared.limits.TheConstants.{OBJECT_LIMIT};
 ghost use Rattle.paw_world.specs.inner.Places.{least_at, left_above};
 
 use crate::set::ObjectSet;
+use paw_base::limits::OBJECT_LIMIT;
 use paw_base::parts::ObjectFacts;
 use std::marker::Model;
 
 /// The place of each object, and for each place the set of the objects that stand there.
 #[derive(Drop)]
 pub struct Places {
-    places: [u8; 255],
+    places: [u8; OBJECT_LIMIT],
     sets: [ObjectSet; 256],
     count: u8,
 }
@@ -29,7 +31,7 @@ impl Model for Places {
 impl Places {
     /// Each object stands where it begins.
     pub fn opening(facts: &[ObjectFacts]) -> Places
-        requires { length facts.now ≤ 255 }
+        requires { length facts.now ≤ OBJECT_LIMIT }
         ensures { result ≡ map (λ f. f.start) facts.now }
     {
         let mut all = Places::empty();
@@ -41,7 +43,7 @@ impl Places {
 
     /// Each object stands at its place of these.
     pub fn at(places: &[u8]) -> Places
-        requires { length places.now ≤ 255 }
+        requires { length places.now ≤ OBJECT_LIMIT }
         ensures { result ≡ places.now }
     {
         let mut all = Places::empty();
@@ -55,7 +57,7 @@ impl Places {
         ensures { result ≡ [] }
     {
         Places {
-            places: [0; 255],
+            places: [0; OBJECT_LIMIT],
             sets: [ObjectSet::EMPTY; 256],
             count: 0,
         }
@@ -63,7 +65,7 @@ impl Places {
 
     /// One object more, at this place.
     fn add(&mut self, p: u8)
-        requires { length self.old < 255 }
+        requires { length self.old < OBJECT_LIMIT }
         ensures { self.new ≡ self.old ++ p ∷ [] }
     {
         self.places[self.count as usize] = p;

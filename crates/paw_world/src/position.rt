@@ -1,14 +1,16 @@
 // Flags and places that are put aside together.
 
 ghost use Rattle.std.specs.Prelude.{◌≡◌, ◌≤◌, length};
+ghost use Rattle.paw_base.specs.declared.limits.TheConstants.{OBJECT_LIMIT};
 
+use paw_base::limits::{FLAG_COUNT, OBJECT_LIMIT};
 use std::marker::Model;
 
 /// The flags and the places of all objects, as they stood once.
 #[derive(Drop)]
 pub(crate) struct Position {
-    flags: [u8; 256],
-    places: [u8; 255],
+    flags: [u8; FLAG_COUNT],
+    places: [u8; OBJECT_LIMIT],
     count: u8,
 }
 
@@ -23,11 +25,11 @@ impl Model for Position {
 
 impl Position {
     /// These flags and places.
-    pub(crate) fn of(flags: &[u8; 256], places: &[u8]) -> Position
-        requires few { length places.now ≤ 255 }
+    pub(crate) fn of(flags: &[u8; FLAG_COUNT], places: &[u8]) -> Position
+        requires few { length places.now ≤ OBJECT_LIMIT }
         ensures value { result ≡ record { flags = flags.now; places = places.now } }
     {
-        let mut all = [0; 255];
+        let mut all = [0; OBJECT_LIMIT];
         all[..places.len()].copy_from_slice(places);
         Position {
             flags: *flags,
@@ -37,7 +39,7 @@ impl Position {
     }
 
     /// The values of all flags.
-    pub(crate) fn flags(&self) -> &[u8; 256]
+    pub(crate) fn flags(&self) -> &[u8; FLAG_COUNT]
         ensures value { result.now ≡ self.now.flags }
     {
         &self.flags

@@ -2,6 +2,7 @@
 
 ghost use Rattle.std.specs.Prelude.{◌≡◌, ◌+◌, ◌-◌, ◌^◌, ◌<◌, ◌≤◌, length, take, slice_get};
 ghost use Rattle.std.specs.Prelude.{is_some, IsSome, IfSome, MatchOption};
+ghost use Rattle.paw_base.specs.declared.limits.TheConstants.{OBJECT_LIMIT, POSITION_COUNT};
 ghost use Rattle.paw_world.specs.Draws.{random_word};
 ghost use Rattle.paw_world.specs.World.{starting_world, flag, with_flag, place, moved, ramsaved, ramloaded};
 ghost use Rattle.paw_world.specs.World.{kept_position, keeping, restarted, with_objects_returned};
@@ -15,14 +16,16 @@ use crate::draws::Draws;
 use crate::places::Places;
 use crate::position::Position;
 use paw_base::flags;
-use paw_base::limits::OBJECT_LIMIT;
+use paw_base::limits::{
+    FLAG_COUNT, OBJECT_LIMIT, POSITION_COUNT, STARTING_CARRIED, STARTING_WEIGHT, WEIGHT_LEVELS,
+};
 use paw_base::parts::ObjectFacts;
 use paw_base::places::{CARRIED_PLACE, NOT_CREATED_PLACE, WORN_PLACE};
 use paw_base::words::NO_WORD;
 use std::marker::Model;
 
 // How many levels below an object its contents count.
-const LEVELS: u8 = 10;
+const LEVELS: u8 = WEIGHT_LEVELS as u8;
 
 /// What stands for facts where there is no object.
 pub const NO_OBJECT: ObjectFacts = ObjectFacts {
@@ -39,10 +42,10 @@ pub const NO_OBJECT: ObjectFacts = ObjectFacts {
 pub struct World {
     facts: [ObjectFacts; OBJECT_LIMIT],
     locations: u8,
-    flags: [u8; 256],
+    flags: [u8; FLAG_COUNT],
     places: Places,
     saved: Option<Position>,
-    kept: [Option<Position>; 4],
+    kept: [Option<Position>; POSITION_COUNT],
     draws: Draws,
 }
 
@@ -70,7 +73,7 @@ impl Model for World {
 impl World {
     /// The world at the start of a game with these objects, so many locations and this seed.
     pub fn new(facts: &[ObjectFacts], locations: u8, seed: u64) -> World
-        requires few { length facts.now ≤ 255 }
+        requires few { length facts.now ≤ OBJECT_LIMIT }
         ensures value { result ≡ starting_world facts.now locations seed }
     {
         World {
@@ -92,7 +95,7 @@ impl World {
     }
 
     /// The values of all flags.
-    pub fn flags(&self) -> &[u8; 256]
+    pub fn flags(&self) -> &[u8; FLAG_COUNT]
         ensures value { result.now ≡ self.now.flags }
     {
         &self.flags
@@ -145,7 +148,7 @@ impl World {
 
     /// All flags and the places of all objects become these, as they were kept. No object is moved, so no flag counts
     /// it.
-    pub fn set_position(&mut self, flags: &[u8; 256], places: &[u8])
+    pub fn set_position(&mut self, flags: &[u8; FLAG_COUNT], places: &[u8])
         requires each { length places.now ≡ length self.old.places }
         ensures change { self.new ≡ record self.old { flags = flags.now; places = places.now } }
     {
@@ -219,7 +222,7 @@ impl World {
     {
         match &self.saved {
             Some(saved) => saved.flags()[f as usize],
-            None => unreachable!(),
+            None => unreachable!(), // a position is saved
         }
     }
 
@@ -231,12 +234,12 @@ impl World {
     {
         match &self.saved {
             Some(saved) => saved.places()[o as usize],
-            None => unreachable!(),
+            None => unreachable!(), // a position is saved
         }
     }
 
     /// The flags and the places of the saved position; None where nothing is saved.
-    pub fn saved_position(&self) -> Option<(&[u8; 256], &[u8])>
+    pub fn saved_position(&self) -> Option<(&[u8; FLAG_COUNT], &[u8])>
         ensures value { MatchOption result (self.now.saved ≡ None)
             (λ p. self.now.saved ≡ Some (record { flags = p.0.now; places = p.1.now })) }
     {
@@ -248,7 +251,7 @@ impl World {
 
     /// Flags and places become the kept position of this number.
     pub fn keep(&mut self, n: u8)
-        requires known { n < 4 }
+        requires known { n < POSITION_COUNT }
         ensures change { self.new ≡ keeping self.old n }
     {
         self.kept[n as usize] = Some(Position::of(&self.flags, self.places.all()));
@@ -257,7 +260,7 @@ impl World {
     /// Takes all flags and all places from the kept position of this number. No object is moved, so no flag counts it.
     /// False exactly where none was kept, and then nothing changes.
     pub fn recall(&mut self, n: u8) -> bool
-        requires known { n < 4 }
+        requires known { n < POSITION_COUNT }
         ensures found { result ≡ is_some (kept_position self.old n) }
         ensures change { self.new ≡ recalled self.old n }
     {
@@ -273,7 +276,7 @@ impl World {
 
     /// Whether the position of this number was kept.
     pub fn kept(&self, n: u8) -> bool
-        requires known { n < 4 }
+        requires known { n < POSITION_COUNT }
         ensures value { result ≡ is_some (kept_position self.now n) }
     {
         self.kept[n as usize].is_some()
@@ -281,32 +284,32 @@ impl World {
 
     /// The value of a flag in the kept position of this number.
     pub fn kept_flag(&self, n: u8, f: u8) -> u8
-        requires known { n < 4 }
+        requires known { n < POSITION_COUNT }
         requires kept { IsSome (kept_position self.now n) }
         ensures value { result ≡ kept_flag self.now n f }
     {
         match &self.kept[n as usize] {
             Some(kept) => kept.flags()[f as usize],
-            None => unreachable!(),
+            None => unreachable!(), // the position was kept
         }
     }
 
     /// The place of an object in the kept position of this number.
     pub fn kept_place(&self, n: u8, o: u8) -> u8
-        requires known { n < 4 }
+        requires known { n < POSITION_COUNT }
         requires kept { IsSome (kept_position self.now n) }
         requires object { o < length self.now.places }
         ensures value { result ≡ kept_place self.now n o }
     {
         match &self.kept[n as usize] {
             Some(kept) => kept.places()[o as usize],
-            None => unreachable!(),
+            None => unreachable!(), // the position was kept
         }
     }
 
     /// The flags and the places of the kept position of this number; None where none was kept.
-    pub fn kept_position(&self, n: u8) -> Option<(&[u8; 256], &[u8])>
-        requires known { n < 4 }
+    pub fn kept_position(&self, n: u8) -> Option<(&[u8; FLAG_COUNT], &[u8])>
+        requires known { n < POSITION_COUNT }
         ensures value { MatchOption result (kept_position self.now n ≡ None)
             (λ p. kept_position self.now n ≡ Some (record { flags = p.0.now; places = p.1.now })) }
     {
@@ -317,8 +320,8 @@ impl World {
     }
 
     /// The kept position of this number has these flags and the places of all objects, as they were kept before.
-    pub fn set_kept(&mut self, n: u8, flags: &[u8; 256], places: &[u8])
-        requires known { n < 4 }
+    pub fn set_kept(&mut self, n: u8, flags: &[u8; FLAG_COUNT], places: &[u8])
+        requires known { n < POSITION_COUNT }
         requires each { length places.now ≡ length self.old.places }
         ensures change { self.new ≡ with_kept self.old n (record { flags = flags.now; places = places.now }) }
     {
@@ -425,7 +428,7 @@ impl World {
 
 /// These facts, followed by others up to the greatest number of objects.
 fn filled(facts: &[ObjectFacts]) -> [ObjectFacts; OBJECT_LIMIT]
-    requires { length facts.now ≤ 255 }
+    requires { length facts.now ≤ OBJECT_LIMIT }
     ensures { take (length facts.now) result ≡ facts.now }
 {
     let mut all = [NO_OBJECT; OBJECT_LIMIT];
@@ -435,18 +438,18 @@ fn filled(facts: &[ObjectFacts]) -> [ObjectFacts; OBJECT_LIMIT]
 
 /// How many objects begin carried.
 fn first_carried(facts: &[ObjectFacts]) -> u8
-    requires { length facts.now ≤ 255 }
+    requires { length facts.now ≤ OBJECT_LIMIT }
     ensures { result ≡ first_carried facts.now }
 {
     facts.iter().filter(|f| f.start == CARRIED_PLACE).count() as u8
 }
 
 /// The flags at the start of a game.
-fn opening_flags(facts: &[ObjectFacts]) -> [u8; 256]
-    requires { length facts.now ≤ 255 }
+fn opening_flags(facts: &[ObjectFacts]) -> [u8; FLAG_COUNT]
+    requires { length facts.now ≤ OBJECT_LIMIT }
     ensures { result ≡ opening_flags facts.now }
 {
-    let mut all = [0; 256];
+    let mut all = [0; FLAG_COUNT];
     all[flags::CARRIED_FLAG as usize] = first_carried(facts);
     all[flags::VERB_FLAG as usize] = NO_WORD;
     all[flags::NOUN_FLAG as usize] = NO_WORD;
@@ -458,7 +461,7 @@ fn opening_flags(facts: &[ObjectFacts]) -> [u8; 256]
     all[flags::PRONOUN_NOUN_FLAG as usize] = NO_WORD;
     all[flags::PRONOUN_ADJECTIVE_FLAG as usize] = NO_WORD;
     all[flags::REFERRED_FLAG as usize] = NO_WORD;
-    all[flags::MOST_CARRIED_FLAG as usize] = 4;
-    all[flags::MOST_WEIGHT_FLAG as usize] = 10;
+    all[flags::MOST_CARRIED_FLAG as usize] = STARTING_CARRIED;
+    all[flags::MOST_WEIGHT_FLAG as usize] = STARTING_WEIGHT;
     all
 }
