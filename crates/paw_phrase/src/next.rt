@@ -6,8 +6,9 @@ ghost use Rattle.paw_phrase.specs.inner.Draft.{phrase_part_of, or_nothing, with_
 ghost use Rattle.paw_phrase.specs.inner.Taking.{TakesPhrase};
 
 use crate::line::Pending;
-use crate::tokens::{LETTERS, first_mark};
+use crate::tokens::first_mark;
 use crate::{Found, Sentence};
+use paw_base::limits::WORD_LENGTH;
 use paw_base::words::CONJUNCTION_CLASS;
 use paw_game::tables::Tables;
 
@@ -33,7 +34,7 @@ struct Reading {
     end: usize,
 }
 
-fn part_of<T: Tables>(tables: &T, token: Option<[u8; LETTERS]>) -> Part
+fn part_of<T: Tables>(tables: &T, token: Option<[u8; WORD_LENGTH]>) -> Part
     ensures value { result ≡ phrase_part_of (T.game tables.now) token }
 {
     match token {

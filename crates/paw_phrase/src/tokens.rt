@@ -4,13 +4,12 @@ ghost use Rattle.std.specs.Prelude.{◌≡◌, ◌<◌, ◌≤◌, [], ◌∷◌
 ghost use Rattle.std.specs.Char.{is_ascii_alphanumeric};
 ghost use Rattle.paw_phrase.specs.Phrase.{is_separator, marks};
 
-/// How many letters of a token tell its word.
-pub(crate) const LETTERS: usize = 5;
+use paw_base::limits::WORD_LENGTH;
 
 /// A token, cut to five letters and filled up with spaces, or a separator (which has none), and where it ends.
 #[derive(Clone, Copy, Drop)]
 pub(crate) struct Mark {
-    pub(crate) token: Option<[u8; LETTERS]>,
+    pub(crate) token: Option<[u8; WORD_LENGTH]>,
     pub(crate) end: usize,
 }
 
@@ -29,7 +28,7 @@ fn first_token(bytes: &[u8]) -> Mark
     ensures value { marks bytes.now
         ≡ record { token = result.token; after = drop result.end bytes.now } ∷ marks (drop result.end bytes.now) }
 {
-    let mut letters = [b' '; LETTERS];
+    let mut letters = [b' '; WORD_LENGTH];
     for (i, byte) in bytes.iter().enumerate() {
         if !byte.is_ascii_alphanumeric() {
             return Mark {
@@ -37,7 +36,7 @@ fn first_token(bytes: &[u8]) -> Mark
                 end: i,
             };
         }
-        if i < LETTERS {
+        if i < WORD_LENGTH {
             letters[i] = byte.to_ascii_uppercase();
         }
     }

@@ -1,7 +1,7 @@
 use Rattle.std.proofs.Common.{◌≡◌, ◌+◌, length, set, sym, ap, subst, ◌∙◌, arith}
 use Rattle.paw_phrase.proofs.Marks.{IsToken, kept, cut, marks-token}
 use Rattle.paw_phrase.proofs.tokens.first_token.Goals as goal
-use Rattle.paw_phrase.proofs.tokens.first_token.Goals.{then-i-lt-LETTERS, else-i-lt-LETTERS}
+use Rattle.paw_phrase.proofs.tokens.first_token.Goals.{then-i-lt-WORD_LENGTH, else-i-lt-WORD_LENGTH}
 
 pub returns-then-not-is_ascii_alphanumeric-clause-value : goal.returns-then-not-is_ascii_alphanumeric-clause-value
 returns-then-not-is_ascii_alphanumeric-clause-value c =
@@ -12,13 +12,13 @@ pub loop-i-preserved : goal.loop-i-preserved
 loop-i-preserved c =
     let s = c.args.bytes.now in
     let token = sym c.if-not-is_ascii_alphanumeric.ensures.value in
-    elim c.if-i-lt-LETTERS.branch [
-      | then-i-lt-LETTERS w ↦
+    elim c.if-i-lt-WORD_LENGTH.branch [
+      | then-i-lt-WORD_LENGTH w ↦
           subst (IsToken s (c.loop-i.i + 1)) (sym (w.letters-is ∙ ap (set c.loop-i.letters c.loop-i.i) w.to_ascii_uppercase.ensures.value))
-          (kept s c.loop-i.i c.loop-i.letters c.loop-i.invariant c.loop-i-test.true token w.if-i-lt-LETTERS.true)
-      | else-i-lt-LETTERS w ↦
+          (kept s c.loop-i.i c.loop-i.letters c.loop-i.invariant c.loop-i-test.true token w.if-i-lt-WORD_LENGTH.true)
+      | else-i-lt-WORD_LENGTH w ↦
           subst (IsToken s (c.loop-i.i + 1)) (sym w.letters-is)
-          (cut s c.loop-i.i c.loop-i.letters c.loop-i.invariant c.loop-i-test.true token w.if-i-lt-LETTERS.false)
+          (cut s c.loop-i.i c.loop-i.letters c.loop-i.invariant c.loop-i-test.true token w.if-i-lt-WORD_LENGTH.false)
     ]
 
 pub returns-clause-value : goal.returns-clause-value
