@@ -3,7 +3,7 @@ use Rattle.std.specs.Prelude.{◌==◌, Bool, not, nat_lt, nat_le, if◌then◌e
 use Rattle.paw_base.specs.declared.codes.TheConstants.{ZERO, NOTZERO, EQ, NOTEQ, GT, LT, SAME, NOTSAME, ADJECT1, ADVERB}
 use Rattle.paw_base.specs.declared.codes.TheConstants.{PREP, NOUN2, ADJECT2}
 use Rattle.paw_base.specs.declared.flags.TheConstants.{ADJECTIVE_FLAG, ADVERB_FLAG, PREPOSITION_FLAG, SECOND_NOUN_FLAG}
-use Rattle.paw_base.specs.declared.flags.TheConstants.{SECOND_ADJECTIVE_FLAG, TIMED_OUT_FLAG}
+use Rattle.paw_base.specs.declared.flags.TheConstants.{SECOND_ADJECTIVE_FLAG, TIMED_OUT_FLAG, TIMED_OUT_BIT}
 use Rattle.paw_base.specs.declared.parts.Condact.{Condact}
 use Rattle.paw_world.specs.World.{World, flag}
 
@@ -23,4 +23,4 @@ flag_holds w c =
     if c.code == PREP then flag w PREPOSITION_FLAG == c.a else
     if c.code == NOUN2 then flag w SECOND_NOUN_FLAG == c.a else
     if c.code == ADJECT2 then flag w SECOND_ADJECTIVE_FLAG == c.a else
-    nat_le 128 (flag w TIMED_OUT_FLAG)  -- TIMEOUT
+    nat_le TIMED_OUT_BIT (flag w TIMED_OUT_FLAG)  -- TIMEOUT

@@ -8,7 +8,7 @@ use paw_base::codes::{
 };
 use paw_base::flags::{
     ADJECTIVE_FLAG, ADVERB_FLAG, PREPOSITION_FLAG, SECOND_ADJECTIVE_FLAG, SECOND_NOUN_FLAG,
-    TIMED_OUT_FLAG,
+    TIMED_OUT_BIT, TIMED_OUT_FLAG,
 };
 use paw_base::parts::Condact;
 use paw_world::world::World;
@@ -32,6 +32,6 @@ pub(crate) fn flag_holds(world: &World, c: Condact) -> bool
         PREP => world.flag(PREPOSITION_FLAG) == c.a,
         NOUN2 => world.flag(SECOND_NOUN_FLAG) == c.a,
         ADJECT2 => world.flag(SECOND_ADJECTIVE_FLAG) == c.a,
-        _ => world.flag(TIMED_OUT_FLAG) >= 128, // TIMEOUT
+        _ => world.flag(TIMED_OUT_FLAG) >= TIMED_OUT_BIT, // TIMEOUT
     }
 }

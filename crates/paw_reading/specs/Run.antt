@@ -5,7 +5,7 @@ use Rattle.std.specs.Str.{bytes_eq}
 use Rattle.paw_base.specs.declared.flags.TheConstants.{VERB_FLAG, NOUN_FLAG, ADJECTIVE_FLAG, ADVERB_FLAG}
 use Rattle.paw_base.specs.declared.flags.TheConstants.{PREPOSITION_FLAG, SECOND_NOUN_FLAG, SECOND_ADJECTIVE_FLAG}
 use Rattle.paw_base.specs.declared.flags.TheConstants.{PRONOUN_NOUN_FLAG, PRONOUN_ADJECTIVE_FLAG, TIMEOUT_FLAG}
-use Rattle.paw_base.specs.declared.flags.TheConstants.{TIMED_OUT_FLAG}
+use Rattle.paw_base.specs.declared.flags.TheConstants.{TIMED_OUT_FLAG, TIMED_OUT_BIT}
 use Rattle.paw_base.specs.declared.limits.TheConstants.{PIECE_LIMIT}
 use Rattle.paw_base.specs.declared.words.TheConstants.{NO_WORD}
 pub use Rattle.paw_base.specs.declared.steps.StepRow.{StepRow as Step}
@@ -68,7 +68,8 @@ is_ignored w line = is_timeout line && (flag w TIMEOUT_FLAG == 0)
 -- bit 7 of a flag tells that the last line was a timeout
 abbrev pub with_timeout : Bool → World → World
 with_timeout b w =
-    with_flag w TIMED_OUT_FLAG (if b then 128 + flag w TIMED_OUT_FLAG % 128 else flag w TIMED_OUT_FLAG % 128)
+    let rest = flag w TIMED_OUT_FLAG % TIMED_OUT_BIT in
+    with_flag w TIMED_OUT_FLAG (if b then TIMED_OUT_BIT + rest else rest)
 
 -- the line is heard
 abbrev pub heard : List ℕ → Run → Run

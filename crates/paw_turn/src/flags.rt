@@ -8,7 +8,7 @@ ghost use Rattle.paw_turn.specs.inner.Stages.{ChangesFlags};
 
 use paw_base::flags::{
     DARK_FLAG, DARK_FRAME_FLAG, DARK_VIEW_FLAG, FIRST_FRAME_FLAG, HIGH_TURNS_FLAG, LOW_TURNS_FLAG,
-    TIMED_OUT_FLAG, UNLIT_FRAME_FLAG, UNLIT_VIEW_FLAG, VIEW_FLAG,
+    TIMED_OUT_BIT, TIMED_OUT_FLAG, UNLIT_FRAME_FLAG, UNLIT_VIEW_FLAG, VIEW_FLAG,
 };
 use paw_effects::counts::turns_taken;
 use paw_effects::presence::is_lit;
@@ -88,6 +88,9 @@ pub(crate) fn tell_timeout(world: &mut World, timeout: bool)
     ensures value { world.new ≡ with_timeout timeout world.old }
     ensures only { ChangesFlags world.old world.new }
 {
-    let rest = world.flag(TIMED_OUT_FLAG) % 128;
-    world.set_flag(TIMED_OUT_FLAG, if timeout { 128 + rest } else { rest });
+    let rest = world.flag(TIMED_OUT_FLAG) % TIMED_OUT_BIT;
+    world.set_flag(
+        TIMED_OUT_FLAG,
+        if timeout { TIMED_OUT_BIT + rest } else { rest },
+    );
 }
