@@ -2,8 +2,10 @@
 // the clause of the push says what the clause of the whole has to, that the piece is as it was and fits.
 
 ghost use Rattle.std.specs.Prelude.{◌≡◌, ◌+◌, ◌++◌, ◌<◌, ◌≤◌, List, [], ℕ, length, IfSome, IfNone, ◌==◌, Some, decimal};
+ghost use Rattle.std.specs.Option.{unwrap_or};
 ghost use Rattle.paw_base.specs.declared.limits.TheConstants.{PIECE_LIMIT};
 ghost use Rattle.paw_base.specs.inner.Piece.{Puts};
+ghost use Rattle.paw_game.specs.inner.Tables.{text_at};
 ghost use Rattle.paw_effects.specs.Texts.{with_name, object_text, printed_text, ended_text};
 ghost use Rattle.paw_effects.specs.Texts.{put_text, say_text, location_text, message_text};
 
@@ -50,14 +52,21 @@ fn print(piece: &mut Piece, name: &[u8], text: &[u8]) -> bool
     piece.push(rest)
 }
 
+/// A text of a part of the game, as it is; empty where there is none.
+fn text_of<T: Tables>(tables: &T, part: GamePart, number: u8) -> &[u8]
+    ensures value { result.now ≡ unwrap_or (text_at (T.game tables.now) part number) [] }
+{
+    match tables.text(part, number) {
+        Some(text) => text,
+        None => &[],
+    }
+}
+
 /// The text of an object, as it is; empty where there is no such object.
 fn object_text<T: Tables>(tables: &T, o: u8) -> &[u8]
     ensures value { result.now ≡ object_text (T.game tables.now) o }
 {
-    match tables.text(GamePart::Objects, o) {
-        Some(text) => text,
-        None => &[],
-    }
+    text_of(tables, GamePart::Objects, o)
 }
 
 /// Prints a text as a game prints it.
@@ -92,10 +101,7 @@ pub(crate) fn print_line<T: Tables>(
 pub fn put<T: Tables>(tables: &T, world: &World, piece: &mut Piece, s: u8) -> bool
     ensures puts { Puts piece.old piece.new result (put_text (T.game tables.now) world.now s) }
 {
-    match tables.text(GamePart::System, s) {
-        Some(text) => print_text(tables, world, piece, text),
-        None => piece.push(&[]),
-    }
+    print_text(tables, world, piece, text_of(tables, GamePart::System, s))
 }
 
 /// Says a system message: with a newline, where there is one that isn't empty. False exactly where the piece would pass
@@ -103,10 +109,7 @@ pub fn put<T: Tables>(tables: &T, world: &World, piece: &mut Piece, s: u8) -> bo
 pub fn say<T: Tables>(tables: &T, world: &World, piece: &mut Piece, s: u8) -> bool
     ensures puts { Puts piece.old piece.new result (say_text (T.game tables.now) world.now s) }
 {
-    match tables.text(GamePart::System, s) {
-        Some(text) => print_line(tables, world, piece, text),
-        None => piece.push(&[]),
-    }
+    print_line(tables, world, piece, text_of(tables, GamePart::System, s))
 }
 
 /// Describes a location: its text with a newline, where there is one that isn't empty. False exactly where the piece
@@ -114,10 +117,8 @@ pub fn say<T: Tables>(tables: &T, world: &World, piece: &mut Piece, s: u8) -> bo
 pub fn place_text<T: Tables>(tables: &T, world: &World, piece: &mut Piece, location: u8) -> bool
     ensures puts { Puts piece.old piece.new result (location_text (T.game tables.now) world.now location) }
 {
-    match tables.text(GamePart::Locations, location) {
-        Some(text) => print_line(tables, world, piece, text),
-        None => piece.push(&[]),
-    }
+    let text = text_of(tables, GamePart::Locations, location);
+    print_line(tables, world, piece, text)
 }
 
 /// Prints nothing: the piece holds what it held, which fits. Only the proof wants it, for the clause of an action that
@@ -148,8 +149,5 @@ pub(crate) fn print_number(piece: &mut Piece, number: u16) -> bool
 pub(crate) fn message<T: Tables>(tables: &T, world: &World, piece: &mut Piece, m: u8) -> bool
     ensures puts { Puts piece.old piece.new result (message_text (T.game tables.now) world.now m) }
 {
-    match tables.text(GamePart::Messages, m) {
-        Some(text) => print_text(tables, world, piece, text),
-        None => piece.push(&[]),
-    }
+    print_text(tables, world, piece, text_of(tables, GamePart::Messages, m))
 }
