@@ -1,7 +1,7 @@
 -- Lists of objects, as a game prints them.
 use Rattle.std.specs.Prelude.{ℕ, ◌==◌, Bool, not, List, [], ◌∷◌, ◌++◌, map, codes, bit_and, if◌then◌else◌}
 use Rattle.std.specs.List.{flat_map}
-use Rattle.paw_base.specs.declared.flags.TheConstants.{LOCATION_FLAG, LISTING_FLAG}
+use Rattle.paw_base.specs.declared.flags.TheConstants.{LOCATION_FLAG, LISTING_FLAG, LISTING_BIT}
 use Rattle.paw_base.specs.declared.messages.TheConstants.{SEEN_MESSAGE, INVENTORY_MESSAGE, IS_WORN_MESSAGE}
 use Rattle.paw_base.specs.declared.messages.TheConstants.{EMPTY_HANDED_MESSAGE}
 use Rattle.paw_base.specs.declared.places.TheConstants.{WORN_PLACE}
@@ -32,7 +32,7 @@ as_sentence (text ∷ texts) = text ++ others_joined texts
 
 -- lists are sentences where bit 6 of the flag of lists is set
 abbrev pub lists_are_sentences : World → Bool
-lists_are_sentences w = not (bit_and (flag w LISTING_FLAG) 64 == 0)
+lists_are_sentences w = not (bit_and (flag w LISTING_FLAG) LISTING_BIT == 0)
 
 -- texts as a list
 abbrev pub list_of : World → List (List ℕ) → List ℕ

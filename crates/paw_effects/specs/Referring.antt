@@ -1,7 +1,7 @@
 -- Referring to an object.
 use Rattle.std.specs.Prelude.{ℕ, Bool, Option, Some, None, slice_get, if◌then◌else◌}
 use Rattle.paw_base.specs.declared.flags.TheConstants.{REFERRED_FLAG, REFERRED_PLACE_FLAG, REFERRED_WEIGHT_FLAG}
-use Rattle.paw_base.specs.declared.flags.TheConstants.{REFERRED_CONTAINER_FLAG, REFERRED_WEARABLE_FLAG}
+use Rattle.paw_base.specs.declared.flags.TheConstants.{REFERRED_CONTAINER_FLAG, REFERRED_WEARABLE_FLAG, REFERRED_SO}
 use Rattle.paw_base.specs.declared.places.TheConstants.{NOT_CREATED_PLACE}
 use Rattle.paw_base.specs.declared.words.TheConstants.{NO_WORD}
 use Rattle.paw_base.specs.declared.parts.ObjectFacts.{ObjectFacts}
@@ -10,7 +10,7 @@ use Rattle.paw_world.specs.Weight.{weight}
 
 -- how a flag tells that an object is so: 128, half of a byte, or 0
 abbrev pub weight_class : Bool → ℕ
-weight_class b = if b then 128 else 0
+weight_class b = if b then REFERRED_SO else 0
 
 -- the flags of the object last referred to, by its facts; they stay where there is no such object
 abbrev pub facts_written : World → ℕ → Option ObjectFacts → World

@@ -8,7 +8,7 @@ ghost use Rattle.paw_effects.specs.inner.Listing.{lesser, listed_above, listed_t
 
 use crate::presence::is_somewhere;
 use crate::text::{print_object, put, say};
-use paw_base::flags::{LISTING_FLAG, LOCATION_FLAG};
+use paw_base::flags::{LISTING_BIT, LISTING_FLAG, LOCATION_FLAG};
 use paw_base::messages::{
     EMPTY_HANDED_MESSAGE, INVENTORY_MESSAGE, IS_WORN_MESSAGE, NOTHING_THERE_MESSAGE, SEEN_MESSAGE,
 };
@@ -17,9 +17,6 @@ use paw_base::places::{CARRIED_PLACE, WORN_PLACE};
 use paw_game::tables::Tables;
 use paw_world::world::World;
 use std::marker::Model;
-
-/// Bit 6 of its flag tells that lists are sentences.
-const SENTENCES: u8 = 64;
 
 /// The objects of a list: those at a place, or those that are worn or carried.
 #[derive(Clone, Copy, Drop, PartialEq, Eq, Debug)]
@@ -61,7 +58,7 @@ fn next(world: &World, listed: Listed, above: Option<u8>) -> Option<u8>
 fn lists_are_sentences(world: &World) -> bool
     ensures value { result ≡ lists_are_sentences world.now }
 {
-    world.flag(LISTING_FLAG) & SENTENCES != 0
+    world.flag(LISTING_FLAG) & LISTING_BIT != 0
 }
 
 /// Puts the message behind what is worn, where the object is.

@@ -1,6 +1,8 @@
 // What is said of an action on an object.
 
 ghost use Rattle.std.specs.Prelude.{◌≡◌};
+ghost use Rattle.paw_base.specs.declared.messages.TheConstants.{PUT_IN_MESSAGE, NOT_TAKEN_OUT_MESSAGE};
+ghost use Rattle.paw_base.specs.declared.messages.TheConstants.{NOT_INSIDE_MESSAGE};
 ghost use Rattle.paw_base.specs.inner.Piece.{Puts};
 ghost use Rattle.paw_effects.specs.ObjectWords.{spoken_words, ends_loop};
 
@@ -80,21 +82,21 @@ impl Words {
 
     /// It was put into this container.
     pub(crate) fn now_in(container: u8) -> Words
-        ensures value { result ≡ Words.Names 44 container }
+        ensures value { result ≡ Words.Names PUT_IN_MESSAGE container }
     {
         Words::Names(PUT_IN_MESSAGE, container)
     }
 
     /// It is here, and not in this container.
     pub(crate) fn outside(container: u8) -> Words
-        ensures value { result ≡ Words.Names 45 container }
+        ensures value { result ≡ Words.Names NOT_TAKEN_OUT_MESSAGE container }
     {
         Words::Names(NOT_TAKEN_OUT_MESSAGE, container)
     }
 
     /// It isn't in this container.
     pub(crate) fn not_in(container: u8) -> Words
-        ensures value { result ≡ Words.Names 52 container }
+        ensures value { result ≡ Words.Names NOT_INSIDE_MESSAGE container }
     {
         Words::Names(NOT_INSIDE_MESSAGE, container)
     }

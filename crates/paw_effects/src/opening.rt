@@ -1,6 +1,7 @@
 // The start of a game.
 
 ghost use Rattle.std.specs.Prelude.{◌≡◌, ◌≤◌, length, map};
+ghost use Rattle.paw_base.specs.declared.limits.TheConstants.{OBJECT_LIMIT};
 ghost use Rattle.paw_game.specs.Valid.{Valid};
 ghost use Rattle.paw_effects.specs.inner.Opening.{opening_world};
 
@@ -11,14 +12,14 @@ use paw_world::world::{NO_OBJECT, World};
 
 /// Writes down the facts of a game's objects.
 fn take_facts<T: Tables>(tables: &T, facts: &mut [ObjectFacts])
-    requires few { length facts.old ≤ 255 }
+    requires few { length facts.old ≤ OBJECT_LIMIT }
     requires all { length facts.old ≡ length (T.game tables.now).objects }
     ensures value { facts.new ≡ map (λ o. o.facts) (T.game tables.now).objects }
 {
     for o in 0..facts.len() {
         match tables.facts(o as u8) {
             Some(found) => facts[o] = found,
-            None => unreachable!(),
+            None => unreachable!(), // each of these numbers is an object's
         }
     }
 }

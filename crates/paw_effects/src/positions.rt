@@ -1,6 +1,7 @@
 // SAVE and LOAD: positions that are kept, and taken back.
 
 ghost use Rattle.std.specs.Prelude.{◌≡◌, ◌<◌};
+ghost use Rattle.paw_base.specs.declared.limits.TheConstants.{POSITION_COUNT};
 ghost use Rattle.paw_game.specs.Game.{GameLists};
 ghost use Rattle.paw_effects.specs.Worlds.{IsOf};
 ghost use Rattle.paw_effects.specs.inner.Done.{Does};
@@ -11,23 +12,27 @@ use crate::act::{Act, Effect, after, on};
 use crate::text::{print_nothing, say};
 use paw_base::codes::SAVE;
 use paw_base::flags::POSITION_FLAG;
+use paw_base::limits::POSITION_COUNT;
 use paw_base::messages::IMPOSSIBLE_MESSAGE;
 use paw_base::parts::Condact;
 use paw_base::piece::Piece;
 use paw_game::tables::Tables;
 use paw_world::world::World;
 
+/// How many positions there are.
+const POSITIONS: u8 = POSITION_COUNT as u8;
+
 /// Which of the four positions is meant.
 fn position_number(world: &World) -> u8
     ensures value { result ≡ position_number world.now }
-    ensures bound { result < 4 }
+    ensures bound { result < POSITION_COUNT }
 {
-    world.flag(POSITION_FLAG) % 4
+    world.flag(POSITION_FLAG) % POSITIONS
 }
 
 /// Takes a position back, or says that this can't be done where it wasn't kept.
 fn load<T: Tables>(tables: &T, world: &mut World, piece: &mut Piece, n: u8) -> Act
-    requires known { n < 4 }
+    requires known { n < POSITION_COUNT }
     ensures does { Does (loaded (T.game tables.now) world.old (kept_position world.old n))
         piece.old piece.new world.new result }
     ensures game { (g : GameLists) → IsOf g world.old → IsOf g world.new }

@@ -5,8 +5,8 @@ ghost use Rattle.paw_effects.specs.Worlds.{IsOf};
 ghost use Rattle.paw_effects.specs.Referring.{weight_class, referred, referred_to_none};
 
 use paw_base::flags::{
-    REFERRED_CONTAINER_FLAG, REFERRED_FLAG, REFERRED_PLACE_FLAG, REFERRED_WEARABLE_FLAG,
-    REFERRED_WEIGHT_FLAG,
+    REFERRED_CONTAINER_FLAG, REFERRED_FLAG, REFERRED_PLACE_FLAG, REFERRED_SO,
+    REFERRED_WEARABLE_FLAG, REFERRED_WEIGHT_FLAG,
 };
 use paw_base::places::NOT_CREATED_PLACE;
 use paw_base::words::NO_WORD;
@@ -38,7 +38,7 @@ pub fn refer<T: Tables>(tables: &T, world: &mut World, o: u8)
 fn class(member: bool) -> u8
     ensures { result ≡ weight_class member }
 {
-    if member { 128 } else { 0 }
+    if member { REFERRED_SO } else { 0 }
 }
 
 /// Refers to no object: flag 51 becomes none (255), flag 54 not created (252), and the flags 55 to 57 become 0.
