@@ -13,6 +13,8 @@ use Rattle.paw_game.specs.declared.parts.ObjectRow.{ObjectRow}
 use Rattle.paw_game.specs.declared.parts.Exit.{Exit}
 use Rattle.paw_game.specs.declared.parts.Entry.{Entry}
 use Rattle.paw_game.specs.Game.{GameLists}
+use Rattle.paw_gen.specs.declared.vocabulary.TheConstants.{ALL_WORD, AND_WORD, DROP_WORD, GET_WORD, INVEN_WORD}
+use Rattle.paw_gen.specs.declared.vocabulary.TheConstants.{LOOK_WORD, NORTH_WORD, SOUTH_WORD}
 
 -- ---- how many ----
 
@@ -59,10 +61,10 @@ word_with letters value class = record { letters = letters; value = value; class
 -- the words that all these games have
 abbrev pub named_words : List Word
 named_words =
-    word_with (codes "ALL  ") 20 NOUN_CLASS ∷ word_with (codes "AND  ") 2 CONJUNCTION_CLASS
-    ∷ word_with (codes "DROP ") 31 VERB_CLASS ∷ word_with (codes "GET  ") 30 VERB_CLASS
-    ∷ word_with (codes "INVEN") 33 VERB_CLASS ∷ word_with (codes "LOOK ") 32 VERB_CLASS
-    ∷ word_with (codes "NORTH") 2 NOUN_CLASS ∷ word_with (codes "SOUTH") 3 NOUN_CLASS ∷ []
+    word_with (codes "ALL  ") ALL_WORD NOUN_CLASS ∷ word_with (codes "AND  ") AND_WORD CONJUNCTION_CLASS
+    ∷ word_with (codes "DROP ") DROP_WORD VERB_CLASS ∷ word_with (codes "GET  ") GET_WORD VERB_CLASS
+    ∷ word_with (codes "INVEN") INVEN_WORD VERB_CLASS ∷ word_with (codes "LOOK ") LOOK_WORD VERB_CLASS
+    ∷ word_with (codes "NORTH") NORTH_WORD NOUN_CLASS ∷ word_with (codes "SOUTH") SOUTH_WORD NOUN_CLASS ∷ []
 
 -- T and the number in three digits, as `T007 `
 abbrev pub object_letters : ℕ → List ℕ
@@ -92,8 +94,8 @@ trial_object locations k = record { text = trial_object_text k; facts = object_f
 -- the locations are a ring: NORTH leads to the next, SOUTH to the one before
 abbrev pub ring_exits : ℕ → ℕ → List Exit
 ring_exits locations k =
-    record { verb = 2; to = (k + 1) % locations }
-    ∷ record { verb = 3; to = (k + locations - 1) % locations } ∷ []
+    record { verb = NORTH_WORD; to = (k + 1) % locations }
+    ∷ record { verb = SOUTH_WORD; to = (k + locations - 1) % locations } ∷ []
 
 -- ---- tables ----
 
@@ -108,12 +110,12 @@ entry verb noun condacts = record { verb = verb; noun = noun; condacts = condact
 -- the answers to lines: `GET ALL` and `DROP ALL` go over the objects here and over those that are carried
 abbrev pub answer_entries : List Entry
 answer_entries =
-    entry 30 20 (condact_with DOALL HERE_PLACE ∷ []) ∷  -- GET ALL
-    entry 30 NO_WORD (condact_with AUTOG 0 ∷ condact_with DONE 0 ∷ []) ∷  -- GET _
-    entry 31 20 (condact_with DOALL CARRIED_PLACE ∷ []) ∷  -- DROP ALL
-    entry 31 NO_WORD (condact_with AUTOD 0 ∷ condact_with DONE 0 ∷ []) ∷  -- DROP _
-    entry 32 NO_WORD (condact_with DESC 0 ∷ []) ∷  -- LOOK _
-    entry 33 NO_WORD (condact_with INVEN 0 ∷ condact_with DONE 0 ∷ []) ∷  -- INVEN _
+    entry GET_WORD ALL_WORD (condact_with DOALL HERE_PLACE ∷ []) ∷
+    entry GET_WORD NO_WORD (condact_with AUTOG 0 ∷ condact_with DONE 0 ∷ []) ∷
+    entry DROP_WORD ALL_WORD (condact_with DOALL CARRIED_PLACE ∷ []) ∷
+    entry DROP_WORD NO_WORD (condact_with AUTOD 0 ∷ condact_with DONE 0 ∷ []) ∷
+    entry LOOK_WORD NO_WORD (condact_with DESC 0 ∷ []) ∷
+    entry INVEN_WORD NO_WORD (condact_with INVEN 0 ∷ condact_with DONE 0 ∷ []) ∷
     []
 
 -- behind a location's text the objects there are listed

@@ -10,6 +10,7 @@ mod tables;
 #[cfg(test)]
 mod tests;
 mod texts;
+mod vocabulary;
 
 pub use counts::{line_count, location_count, object_count};
 pub use game::game_of;

@@ -1,35 +1,33 @@
 // Words, objects and exits.
 
 ghost use Rattle.std.specs.Prelude.{◌≡◌, ◌++◌, ◌<◌, ◌≤◌, IfOk};
+ghost use Rattle.paw_base.specs.declared.limits.TheConstants.{LOCATION_LIMIT};
 ghost use Rattle.paw_gen.specs.Trial.{named_words, object_facts, object_letters, trial_object};
 ghost use Rattle.paw_gen.specs.Trial.{object_word, ring_exits, rows};
 
 use crate::texts::numbered;
+use crate::vocabulary::{
+    ALL_WORD, AND_WORD, DROP_WORD, GET_WORD, INVEN_WORD, LOOK_WORD, NORTH_WORD, SOUTH_WORD,
+};
 use paw_base::fault::NoRoom;
 use paw_base::parts::ObjectFacts;
 use paw_base::words::{CONJUNCTION_CLASS, FIRST_NAMED_NOUN, NO_WORD, NOUN_CLASS, VERB_CLASS};
 use paw_game::parts::{Exit, Exits, ObjectRow, Word};
 use std::alloc::Global;
 
-/// The value of NORTH, a noun that may stand as a verb.
-const NORTH: u8 = 2;
-
-/// The value of SOUTH, a noun that may stand as a verb.
-const SOUTH: u8 = 3;
-
 /// The words beside the objects' nouns.
 fn named_words() -> [Word; 8]
     ensures { result ≡ named_words }
 {
     [
-        Word::new(*b"ALL  ", 20, NOUN_CLASS),
-        Word::new(*b"AND  ", 2, CONJUNCTION_CLASS),
-        Word::new(*b"DROP ", 31, VERB_CLASS),
-        Word::new(*b"GET  ", 30, VERB_CLASS),
-        Word::new(*b"INVEN", 33, VERB_CLASS),
-        Word::new(*b"LOOK ", 32, VERB_CLASS),
-        Word::new(*b"NORTH", NORTH, NOUN_CLASS),
-        Word::new(*b"SOUTH", SOUTH, NOUN_CLASS),
+        Word::new(*b"ALL  ", ALL_WORD, NOUN_CLASS),
+        Word::new(*b"AND  ", AND_WORD, CONJUNCTION_CLASS),
+        Word::new(*b"DROP ", DROP_WORD, VERB_CLASS),
+        Word::new(*b"GET  ", GET_WORD, VERB_CLASS),
+        Word::new(*b"INVEN", INVEN_WORD, VERB_CLASS),
+        Word::new(*b"LOOK ", LOOK_WORD, VERB_CLASS),
+        Word::new(*b"NORTH", NORTH_WORD, NOUN_CLASS),
+        Word::new(*b"SOUTH", SOUTH_WORD, NOUN_CLASS),
     ]
 }
 
@@ -71,7 +69,7 @@ pub(crate) fn words(alloc: Global, objects: u16) -> Result<Vec<Word>, NoRoom>
 /// The facts of an object: where it begins, and its weight.
 fn object_facts(locations: u16, number: u16) -> ObjectFacts
     requires some { 0 < locations }
-    requires places { locations ≤ 252 }
+    requires places { locations ≤ LOCATION_LIMIT }
     requires number { number < 200 }
     ensures { result ≡ object_facts locations number }
 {
@@ -88,7 +86,7 @@ fn object_facts(locations: u16, number: u16) -> ObjectFacts
 /// The objects, in a game of so many locations.
 pub(crate) fn objects(alloc: Global, locations: u16, objects: u16) -> Result<Vec<ObjectRow>, NoRoom>
     requires some { 0 < locations }
-    requires places { locations ≤ 252 }
+    requires places { locations ≤ LOCATION_LIMIT }
     requires objects { objects ≤ 200 }
     ensures { IfOk result (λ all. all.items ≡ rows objects (trial_object locations)) }
 {
@@ -105,16 +103,16 @@ pub(crate) fn objects(alloc: Global, locations: u16, objects: u16) -> Result<Vec
 /// The ways out of a location of the ring.
 fn ring_exits(alloc: Global, locations: u16, number: u16) -> Result<Exits, NoRoom>
     requires some { 0 < locations }
-    requires places { locations ≤ 252 }
+    requires places { locations ≤ LOCATION_LIMIT }
     requires number { number < locations }
     ensures { IfOk result (λ exits. exits ≡ ring_exits locations number) }
 {
     let north = Exit {
-        verb: NORTH,
+        verb: NORTH_WORD,
         to: ((number + 1) % locations) as u8,
     };
     let south = Exit {
-        verb: SOUTH,
+        verb: SOUTH_WORD,
         to: ((number + locations - 1) % locations) as u8,
     };
     Ok(Exits::from_slice(alloc, &[north, south])?)
@@ -123,7 +121,7 @@ fn ring_exits(alloc: Global, locations: u16, number: u16) -> Result<Exits, NoRoo
 /// The ways out of all locations.
 pub(crate) fn exits(alloc: Global, locations: u16) -> Result<Vec<Exits>, NoRoom>
     requires some { 0 < locations }
-    requires places { locations ≤ 252 }
+    requires places { locations ≤ LOCATION_LIMIT }
     ensures { IfOk result (λ all. all.items ≡ rows locations (ring_exits locations)) }
 {
     let mut all = Vec::new(alloc);
