@@ -10,28 +10,21 @@ use crate::Tally;
 use crate::halves::STORE;
 use crate::setting::Setting;
 use paw_base::fault::NoRoom;
+use paw_base::flags::{CARRIED_FLAG, HIGH_TURNS_FLAG, LOCATION_FLAG, LOW_TURNS_FLAG};
 use paw_journal::{Journal, Room, attach};
 use paw_stage::MemoryStage;
 use paw_state::STATE_ROOM;
 use std::alloc::Global;
 
-/// Where the state's bytes count turns: the low byte of the number and the high one.
-const TURNS_AT: usize = 31;
-
-/// Where they tell the player's location.
-const LOCATION_AT: usize = 38;
-
-/// Where they tell how many objects are carried.
-const CARRIED_AT: usize = 1;
-
-/// What the bytes of a state count.
+/// What the bytes of a state count. They begin with the flags.
 fn counts_in(state: &[u8; STATE_ROOM]) -> Tally
     ensures { result ≡ tally_in state.now }
 {
     Tally {
-        turns: u32::from(state[TURNS_AT]) + 256 * u32::from(state[TURNS_AT + 1]),
-        at: state[LOCATION_AT],
-        carried: state[CARRIED_AT],
+        turns: u32::from(state[LOW_TURNS_FLAG as usize])
+            + 256 * u32::from(state[HIGH_TURNS_FLAG as usize]),
+        at: state[LOCATION_FLAG as usize],
+        carried: state[CARRIED_FLAG as usize],
     }
 }
 

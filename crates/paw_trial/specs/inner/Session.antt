@@ -2,7 +2,7 @@
 use Rattle.std.specs.Prelude.{◌≡◌, ℕ, ◌+◌, ◌*◌, ◌/◌, List, [], length, take}
 use Rattle.std.specs.Prelude.{drop, codes, slice_index, Option, Some, None}
 use Rattle.sha2.specs.Sha256.{sha256}
-use Rattle.paw_base.specs.declared.flags.TheConstants.{CARRIED_FLAG, LOCATION_FLAG}
+use Rattle.paw_base.specs.declared.flags.TheConstants.{CARRIED_FLAG, LOW_TURNS_FLAG, HIGH_TURNS_FLAG, LOCATION_FLAG}
 use Rattle.paw_game.specs.Image.{image}
 use Rattle.paw_stage.specs.Disk.{IsStable}
 use Rattle.paw_stage.specs.Stage.{Standing}
@@ -88,10 +88,10 @@ abbrev pub IsTallyOf : Ending → Tally → Type 0
 IsTallyOf (WaitsAt p path r) t = t ≡ tally_of r.world
 IsTallyOf _ t = ⊥
 
--- what the bytes of a state count
+-- what the bytes of a state count; they begin with the flags
 abbrev pub tally_in : List ℕ → Tally
 tally_in state = record {
-  turns = slice_index state 31 + 256 * slice_index state 32;
-  at = slice_index state 38;
-  carried = slice_index state 1;
+  turns = slice_index state LOW_TURNS_FLAG + 256 * slice_index state HIGH_TURNS_FLAG;
+  at = slice_index state LOCATION_FLAG;
+  carried = slice_index state CARRIED_FLAG;
 }
