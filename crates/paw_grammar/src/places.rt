@@ -1,6 +1,6 @@
 // Places, by number or by name.
 
-ghost use Rattle.std.specs.Prelude.{◌≡◌, ◌<◌, ◌≤◌, ◌+◌, length};
+ghost use Rattle.std.specs.Prelude.{◌≡◌, ◌<◌, ◌≤◌, ◌+◌, ◌-◌, length};
 ghost use Rattle.std.specs.List.{position};
 ghost use Rattle.std.specs.Option.{option_map, option_or};
 ghost use Rattle.paw_base.specs.declared.places.TheConstants.{NOT_CREATED_PLACE};
@@ -15,6 +15,7 @@ use crate::refusal::ReadError;
 use crate::tokens::Tokens;
 use crate::words::place_among;
 use paw_base::fault::SourceKind;
+use paw_base::places::NOT_CREATED_PLACE;
 use paw_faults::unread::Unread;
 
 /// The names of the places 252 to 255.
@@ -24,7 +25,7 @@ static PLACE_NAMES: [&[u8]; 4] = [b"NOTCREATED", b"WORN", b"CARRIED", b"HERE"];
 static FIRST_PLACE_NAMES: [&[u8]; 3] = [b"NOTCREATED", b"WORN", b"CARRIED"];
 
 /// The place with the first of the names.
-const FIRST_NAMED: u32 = 252;
+const FIRST_NAMED: u32 = NOT_CREATED_PLACE as u32;
 
 /// The number that a token is, or the place with the name that it is.
 fn place_by(names: &[&[u8]], token: &[u8]) -> Option<u32>
@@ -47,7 +48,7 @@ fn named_place(tokens: &mut Tokens, names: &[&[u8]], locations: u16) -> Result<u
     requires names { length names.now ≤ 4 }
     requires some { 0 < length names.now }
     ensures { Gives (λ place. (place, tokens.new)) result
-        (place_up_to (251 + length names.now)
+        (place_up_to (NOT_CREATED_PLACE + length names.now - 1)
         (λ t. position (λ name. is_named t name.now) names.now) locations tokens.old) }
 {
     let token = tokens.token()?;
