@@ -5,7 +5,7 @@ mod bytes;
 mod lines;
 mod tokens;
 
-pub use bytes::{LexFault, byte_fault};
+pub use bytes::{LexFault, byte_fault, is_comment};
 pub use lines::{Line, Lines};
 pub use tokens::{Token, next_token};
 

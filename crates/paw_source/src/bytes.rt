@@ -1,17 +1,11 @@
 // Tests of the bytes of a line and of a token.
 
 ghost use Rattle.std.specs.Prelude.{◌≡◌, drop};
-ghost use Rattle.paw_lex.specs.Bytes.{is_comment, has_forbidden_byte};
+ghost use Rattle.paw_lex.specs.Bytes.{has_forbidden_byte};
 ghost use Rattle.paw_lex.specs.inner.Lines.{bytes_of, LiesIn};
 ghost use Rattle.paw_grammar.specs.Spells.{begins_with_blank, begins_with_slash};
 
 use paw_lex::{Line, byte_fault};
-
-pub(crate) fn is_comment(line: &[u8]) -> bool
-    ensures { result ≡ is_comment line.now }
-{
-    line.first() == Some(&b';')
-}
 
 pub(crate) fn begins_with_slash(line: &[u8]) -> bool
     ensures { result ≡ begins_with_slash line.now }
