@@ -18,7 +18,7 @@ use crate::objects::objects_of;
 use crate::rows::{object_row, voc_row};
 use crate::texts::{text_item, text_line};
 use paw_base::fault::{NoRoom, SourceKind};
-use paw_base::limits::{LOCATION_LIMIT, MESSAGE_LIMIT, OBJECT_LIMIT, SYSTEM_LIMIT};
+use paw_base::limits::{LOCATION_LIMIT, MESSAGE_LIMIT, OBJECT_LIMIT, SYSTEM_LIMIT, TABLE_LIMIT};
 use paw_base::parts::ObjectFacts;
 use paw_faults::unread::Unread;
 use paw_game::parts::{Exits, GameParts, Table, Text};
@@ -31,6 +31,9 @@ use paw_grammar::tokens::{Tokens, is_named};
 use paw_grammar::vocabulary::Vocabulary;
 use std::alloc::Global;
 use std::marker::Model;
+
+/// How many numbers a table may have.
+const TABLE_NUMBERS: u16 = TABLE_LIMIT as u16;
 
 /// What the lines that were read spell. Contracts see it as the grammar does.
 #[derive(Drop)]
@@ -228,7 +231,7 @@ impl Draft {
             Section::Otx => text_item(alloc, &mut self.names, OBJECT_LIMIT, number),
             Section::Ltx => text_item(alloc, &mut self.locations, LOCATION_LIMIT, number),
             Section::Before | Section::Voc | Section::Con | Section::Obj | Section::Pro => {
-                unreachable!()
+                unreachable!() // these sections have no texts
             }
         }
     }
@@ -294,7 +297,7 @@ impl Draft {
     fn pro_header(&mut self, alloc: Global, tokens: &mut Tokens) -> Result<(), ReadError>
         ensures { Gives (λ _. self.new) result (pro_header self.old tokens.old) }
     {
-        let number = byte_below(tokens, 256)?;
+        let number = byte_below(tokens, TABLE_NUMBERS)?;
         if number as usize != self.tables.len() {
             return fault(SourceKind::Section);
         }

@@ -1,12 +1,13 @@
 // The rows of words and objects.
 
 ghost use Rattle.std.specs.Prelude.{◌≤◌, ◌<◌, OnOk};
+ghost use Rattle.paw_base.specs.declared.limits.TheConstants.{LOCATION_LIMIT};
 ghost use Rattle.paw_faults.specs.inner.Gives.{Gives};
 ghost use Rattle.paw_grammar.specs.GrammarRows.{voc_row, object_row};
 
 use paw_base::limits::WEIGHT_LIMIT;
 use paw_base::parts::ObjectFacts;
-use paw_base::words::{ADJECTIVE_CLASS, NOUN_CLASS};
+use paw_base::words::{ADJECTIVE_CLASS, GREATEST_WORD, LEAST_WORD, NOUN_CLASS};
 use paw_game::parts::Word;
 use paw_grammar::numbers::{number_within, row_number};
 use paw_grammar::places::first_place;
@@ -25,7 +26,7 @@ pub(crate) fn voc_row(words: &mut Vocabulary, tokens: &mut Tokens) -> Result<(),
     ensures { Gives (λ _. words.new) result (voc_row words.old tokens.old) }
 {
     let letters = word(tokens)?;
-    let value = number_within(tokens, 2, 254)?;
+    let value = number_within(tokens, LEAST_WORD, GREATEST_WORD)?;
     let class = class(tokens)?;
     tokens.ended()?;
     words.declare(Word {
@@ -47,7 +48,7 @@ pub(crate) fn object_row(
     count: u16,
     tokens: &mut Tokens,
 ) -> Result<ObjectFacts, ReadError>
-    requires { locations ≤ 252 }
+    requires { locations ≤ LOCATION_LIMIT }
     ensures value { Gives (λ facts. facts) result (object_row words.now locations row count tokens.old) }
     ensures room { OnOk result (row < count) }
 {

@@ -6,7 +6,7 @@ ghost use Rattle.paw_game.specs.Image.{image};
 ghost use Rattle.paw_game.specs.Valid.{Valid};
 ghost use Rattle.paw_lex.specs.Lines.{lines_of};
 ghost use Rattle.paw_lex.specs.inner.Lines.{bytes_of, LiesIn};
-ghost use Rattle.paw_base.specs.declared.limits.TheConstants.{IMAGE_LIMIT, SOURCE_LIMIT};
+ghost use Rattle.paw_base.specs.declared.limits.TheConstants.{IMAGE_LIMIT, SOURCE_LIMIT, TABLE_LEAST};
 ghost use Rattle.paw_grammar.specs.Tokens.{is_named};
 ghost use Rattle.paw_grammar.specs.GrammarState.{Spelt, game_of, nothing_yet};
 ghost use Rattle.paw_grammar.specs.Spells.{begins_table, spelled_after, spelled, whole};
@@ -73,7 +73,7 @@ fn at_line(line: u32, refused: ReadError) -> SourceRefusal
 /// The game that a draft of so many lines is.
 fn whole(alloc: Global, lines: u32, draft: Draft) -> Result<Game, SourceRefusal>
     requires count { lines ≤ SOURCE_LIMIT }
-    requires valid { 3 ≤ length draft.tables → Valid (game_of draft) }
+    requires valid { TABLE_LEAST ≤ length draft.tables → Valid (game_of draft) }
     ensures value { ReadsSource result (whole lines draft) }
     ensures small { IfOk result (λ game. length (image game) ≤ IMAGE_LIMIT) }
 {
@@ -95,7 +95,7 @@ fn whole(alloc: Global, lines: u32, draft: Draft) -> Result<Game, SourceRefusal>
 fn read_lines(alloc: Global, tables: u32, source: &[u8]) -> Result<Game, SourceRefusal>
     requires short { length source.now ≤ SOURCE_LIMIT }
     requires valid { (d : Spelt) → after_lines tables nothing_yet (lines_of source.now) ≡ Ok d
-        → 3 ≤ length d.tables → Valid (game_of d) }
+        → TABLE_LEAST ≤ length d.tables → Valid (game_of d) }
     ensures value { ReadsSource result (spelled_after tables 0 nothing_yet (lines_of source.now)) }
     ensures small { IfOk result (λ game. length (image game) ≤ IMAGE_LIMIT) }
 {

@@ -68,8 +68,9 @@ fn join(text: &mut Text, begun: bool, line: &[u8]) -> Result<(), ReadError>
 
 /// Whether a line of this length fits after a text of this length.
 fn has_room(text: usize, begun: bool, line: usize) -> bool
-    ensures { result ≡ nat_le (text + (if begun then suc line else line)) 4095 }
+    ensures { result ≡ nat_le (text + (if begun then suc line else line)) TEXT_LIMIT }
 {
+    // The lengths and the newline are compared with the limit apart: their sum may overflow.
     let room = TEXT_LIMIT.saturating_sub(text);
     text <= TEXT_LIMIT && line <= room && (!begun || line < room)
 }

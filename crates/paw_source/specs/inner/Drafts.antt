@@ -1,5 +1,7 @@
 -- What holds of a draft while a source is read.
 use Rattle.std.specs.Prelude.{ℕ, ◌≤◌, ◌<◌, List, length}
+use Rattle.paw_base.specs.declared.limits.TheConstants.{SYSTEM_LIMIT, MESSAGE_LIMIT, OBJECT_LIMIT, LOCATION_LIMIT}
+use Rattle.paw_base.specs.declared.limits.TheConstants.{TABLE_LIMIT}
 use Rattle.paw_base.specs.declared.parts.ObjectFacts.{ObjectFacts}
 use Rattle.paw_game.specs.declared.parts.Entry.{Entry}
 use Rattle.paw_grammar.specs.declared.section.Section.{Section}
@@ -21,12 +23,12 @@ HasTable section.Pro tables = 0 < tables
 -- how many rows each list has at most
 pub record AreShort (opened : Section) (ss ms ns ls : List (List ℕ)) (fs : List ObjectFacts) (ts : List (List Entry))
     : Type 0 where
-  pub system : length ss ≤ 256
-  pub messages : length ms ≤ 256
-  pub names : length ns ≤ 255
-  pub locations : length ls ≤ 252
-  pub facts : length fs ≤ 255
-  pub tables : length ts ≤ 256
+  pub system : length ss ≤ SYSTEM_LIMIT
+  pub messages : length ms ≤ MESSAGE_LIMIT
+  pub names : length ns ≤ OBJECT_LIMIT
+  pub locations : length ls ≤ LOCATION_LIMIT
+  pub facts : length fs ≤ OBJECT_LIMIT
+  pub tables : length ts ≤ TABLE_LIMIT
   pub open_table : HasTable opened (length ts)
 
 abbrev pub IsSmall : Spelt → Type 0

@@ -2,7 +2,7 @@
 use Rattle.std.specs.Prelude.{◌≡◌, ◌≤◌, ◌⊎◌, ℕ, suc, ◌+◌, List, [], ◌∷◌, ◌++◌, length, Result, Ok, Err}
 use Rattle.std.specs.List.{count_by}
 use Rattle.paw_base.specs.declared.fault.SourceKind.{SourceKind}
-use Rattle.paw_base.specs.declared.limits.TheConstants.{SOURCE_LIMIT}
+use Rattle.paw_base.specs.declared.limits.TheConstants.{SOURCE_LIMIT, TABLE_LEAST}
 use Rattle.paw_game.specs.Game.{GameLists}
 use Rattle.paw_game.specs.Valid.{Valid}
 use Rattle.paw_faults.specs.Bind.{◌>>=◌}
@@ -59,7 +59,7 @@ CountsTables = (p : ℕ) (d e : Spelt) (ls : List (List ℕ)) → after_lines p 
 abbrev pub DraftsAreValid : Type 0
 DraftsAreValid = (source : List ℕ) (d : Spelt)
     → after_lines (count_by begins_table (lines_of source)) nothing_yet (lines_of source) ≡ Ok d
-    → 3 ≤ length d.tables → Valid (game_of d)
+    → TABLE_LEAST ≤ length d.tables → Valid (game_of d)
 
 -- what a source spells is a valid game
 abbrev pub SpellsValidGames : Type 0
