@@ -7,16 +7,13 @@ ghost use Rattle.paw_top.specs.Outcomes.{status_of};
 
 use paw_routines::routines::Routines;
 use paw_stage::RealStage;
-use paw_top::outcome::Outcome;
+use paw_top::outcome::{NO_MEMORY, Outcome};
 use paw_top::routines::{ROUTINES, give};
 use paw_top::top::paw;
 use std::alloc::Global;
 use std::env::{self, Env};
 use std::io::{self, ErrorKind};
 use std::process::ExitCode;
-
-/// The status where there is no memory, here or in the top call.
-const NO_MEMORY: u8 = 8;
 
 // The words behind the program's name; none of them where one isn't text.
 fn words_of<R: Env + AllocGlobal>(rt: &R) -> io::Result<Vec<String>> {

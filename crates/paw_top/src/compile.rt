@@ -51,7 +51,7 @@ fn image_of(alloc: Global, source: &[u8]) -> Result<Vec<u8>, Outcome>
     match encode(alloc, &game) {
         Ok(bytes) => Ok(bytes),
         Err(ImageRefusal::Memory) => Err(Outcome::Memory(MemoryAt::Image)),
-        Err(ImageRefusal::Damaged { .. }) => unreachable!(),
+        Err(ImageRefusal::Damaged { .. }) => unreachable!(), // what a source spells isn't too long
     }
 }
 

@@ -87,6 +87,9 @@ pub(crate) fn outcome_of(end: PlayEnd) -> Outcome
     }
 }
 
+/// The exit status for want of memory.
+pub const NO_MEMORY: u8 = 8;
+
 /// What stands on standard error where the words have no form: every command of the tool.
 const USAGE: &str =
     "usage: paw compile S I | decompile I | walk I SEED | play I F SEED | resume I F | trace I SEED | trial N\n";
@@ -189,7 +192,7 @@ impl Outcome {
             Outcome::Spent(_) => 5,
             Outcome::TooDeep { .. } => 6,
             Outcome::Outside(_) => 7,
-            Outcome::Memory(_) => 8,
+            Outcome::Memory(_) => NO_MEMORY,
             Outcome::Long { .. } => 9,
         }
     }
