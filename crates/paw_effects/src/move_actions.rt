@@ -4,7 +4,8 @@ ghost use Rattle.std.specs.Prelude.{◌≡◌, ◌<◌, length, IsTrue};
 ghost use Rattle.paw_game.specs.Game.{GameLists};
 ghost use Rattle.paw_effects.specs.Worlds.{IsOf};
 ghost use Rattle.paw_effects.specs.inner.Parameters.{takes_object, takes_second_object};
-ghost use Rattle.paw_effects.specs.MoveActions.{all_dropped, move_of, referred_moved, moved_if_place, names_place, reset, swapped};
+ghost use Rattle.paw_effects.specs.MoveActions.{all_dropped, move_of, referred_moved, moved_if_place, names_place};
+ghost use Rattle.paw_effects.specs.MoveActions.{reset, swapped};
 
 use crate::presence::{here, is_held, named_place};
 use paw_base::codes::{COPYFO, COPYOF, COPYOO, CREATE, DESTROY, PLACE, PUTO, SWAP};
