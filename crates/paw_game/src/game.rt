@@ -8,6 +8,7 @@ use crate::check::check;
 use crate::lookup;
 use crate::parts::{GameFault, GamePart, GameParts};
 use crate::tables::Tables;
+use paw_base::limits::WORD_LENGTH;
 use paw_base::parts::{Condact, Counts, ObjectFacts};
 use std::marker::Model;
 
@@ -93,7 +94,7 @@ impl Tables for Game {
         Some(entry as u16)
     }
 
-    fn word(&self, letters: &[u8; 5]) -> Option<(u8, u8)> {
+    fn word(&self, letters: &[u8; WORD_LENGTH]) -> Option<(u8, u8)> {
         lookup::word_at(&self.parts, letters)
     }
 }

@@ -16,7 +16,11 @@ use paw_base::limits::{
     CONDACT_LIMIT, ENTRY_LIMIT, EXIT_LIMIT, OBJECT_LIMIT, TABLE_LEAST, TABLE_LIMIT, WEIGHT_LIMIT,
 };
 use paw_base::parts::{Condact, ObjectFacts};
+use paw_base::places::{CARRIED_PLACE, NOT_CREATED_PLACE};
 use paw_base::rows::{ParamKind, condact_row};
+use paw_base::words::{
+    ADJECTIVE_CLASS, ADVERB_CLASS, FIRST_PLAIN_NOUN, NOUN_CLASS, PREPOSITION_CLASS, VERB_CLASS,
+};
 use std::marker::Model;
 
 /// A game's lists, and which values its words have, by class. Contracts see the lists.
@@ -31,6 +35,8 @@ pub(crate) struct Inspector<'a> {
 }
 
 impl<'a> Model for Inspector<'a> {
+    ghost use Rattle.paw_base.specs.declared.words.TheConstants.{VERB_CLASS, ADVERB_CLASS, NOUN_CLASS};
+    ghost use Rattle.paw_base.specs.declared.words.TheConstants.{ADJECTIVE_CLASS, PREPOSITION_CLASS};
     ghost use Rattle.paw_game.specs.Game.{GameLists};
     ghost use Rattle.paw_game.specs.inner.Values.{Tells};
 
@@ -38,11 +44,11 @@ impl<'a> Model for Inspector<'a> {
 
     ghost view = { λ i. i.parts.now };
 
-    ghost invariant = { λ i. Tells i.verbs i.parts.now.words 0
-        × Tells i.adverbs i.parts.now.words 1
-        × Tells i.nouns i.parts.now.words 2
-        × Tells i.adjectives i.parts.now.words 3
-        × Tells i.prepositions i.parts.now.words 4 };
+    ghost invariant = { λ i. Tells i.verbs i.parts.now.words VERB_CLASS
+        × Tells i.adverbs i.parts.now.words ADVERB_CLASS
+        × Tells i.nouns i.parts.now.words NOUN_CLASS
+        × Tells i.adjectives i.parts.now.words ADJECTIVE_CLASS
+        × Tells i.prepositions i.parts.now.words PREPOSITION_CLASS };
 }
 
 impl<'a> Inspector<'a> {
@@ -52,18 +58,18 @@ impl<'a> Inspector<'a> {
         let words = parts.words.as_slice();
         Inspector {
             parts,
-            verbs: values_of(words, 0),
-            adverbs: values_of(words, 1),
-            nouns: values_of(words, 2),
-            adjectives: values_of(words, 3),
-            prepositions: values_of(words, 4),
+            verbs: values_of(words, VERB_CLASS),
+            adverbs: values_of(words, ADVERB_CLASS),
+            nouns: values_of(words, NOUN_CLASS),
+            adjectives: values_of(words, ADJECTIVE_CLASS),
+            prepositions: values_of(words, PREPOSITION_CLASS),
         }
     }
 
     fn is_verb_value(&self, value: u8) -> bool
         ensures value { result ≡ is_verb_value self.now.words value }
     {
-        self.verbs[value as usize] || value < 20 && self.nouns[value as usize]
+        self.verbs[value as usize] || value < FIRST_PLAIN_NOUN && self.nouns[value as usize]
     }
 
     fn are_facts(&self, facts: &ObjectFacts) -> bool
@@ -78,7 +84,7 @@ impl<'a> Inspector<'a> {
     fn is_place(&self, place: u8) -> bool
         ensures value { result ≡ is_place (length self.now.locations) place }
     {
-        self.is_location(place) || matches!(place, 252..=254)
+        self.is_location(place) || matches!(place, NOT_CREATED_PLACE..=CARRIED_PLACE)
     }
 
     fn is_location(&self, place: u8) -> bool
@@ -228,7 +234,7 @@ impl<'a> Inspector<'a> {
         match kind {
             ParamKind::Absent => value == 0,
             ParamKind::Location => self.is_location(value),
-            ParamKind::Place => self.is_location(value) || value >= 252,
+            ParamKind::Place => self.is_location(value) || value >= NOT_CREATED_PLACE,
             ParamKind::Object => (value as usize) < parts.objects.len(),
             ParamKind::Flag | ParamKind::Number => true,
             ParamKind::Message => (value as usize) < parts.messages.len(),

@@ -8,6 +8,7 @@ ghost use Rattle.paw_game.specs.Tables.{is_for, matches, word_at, word_of};
 ghost use Rattle.paw_game.specs.inner.Tables.{first_match, match_at, text_at};
 
 use crate::parts::{Entry, Exit, GamePart, GameParts, ObjectRow, Text, Word};
+use paw_base::limits::WORD_LENGTH;
 use paw_base::parts::{Condact, ObjectFacts};
 use paw_base::words::{ANY_WORD, NO_WORD};
 
@@ -117,7 +118,7 @@ pub fn is_for(word: u8, flag: u8) -> bool
     word == ANY_WORD || word == NO_WORD || word == flag
 }
 
-pub(crate) fn word_at(parts: &GameParts, letters: &[u8; 5]) -> Option<(u8, u8)>
+pub(crate) fn word_at(parts: &GameParts, letters: &[u8; WORD_LENGTH]) -> Option<(u8, u8)>
     requires { IsTrue (words_rise parts.now.words) }
     ensures value { result ≡ word_at parts.now letters.now }
 {
@@ -126,11 +127,11 @@ pub(crate) fn word_at(parts: &GameParts, letters: &[u8; 5]) -> Option<(u8, u8)>
 }
 
 /// The word with these letters, of words that rise by their letters.
-pub fn word_of<'a>(letters: &[u8; 5], words: &'a [Word]) -> Option<&'a Word>
+pub fn word_of<'a>(letters: &[u8; WORD_LENGTH], words: &'a [Word]) -> Option<&'a Word>
     requires { IsTrue (words_rise words.now) }
     ensures value { option_copied result ≡ word_of letters.now words.now }
 {
-    let letters_of = |word: &Word| -> [u8; 5]
+    let letters_of = |word: &Word| -> [u8; WORD_LENGTH]
         ensures { result ≡ word.now.letters }
     { word.letters };
     let at = words.binary_search_by_key(letters, letters_of).ok()?;

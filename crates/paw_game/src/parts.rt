@@ -3,6 +3,7 @@
 ghost use Rattle.std.specs.Prelude.{◌≡◌, IfOk, map};
 ghost use Rattle.paw_game.specs.inner.Parts.{condact_of};
 
+use paw_base::limits::WORD_LENGTH;
 use paw_base::lists::Rows;
 use paw_base::parts::{Condact, ObjectFacts};
 use std::alloc::{AllocError, Global};
@@ -12,14 +13,14 @@ use std::marker::Model;
 /// adverb, noun, adjective, preposition, conjunction, pronoun.
 #[derive(Clone, Copy, Drop, PartialEq, Eq, Debug)]
 pub struct Word {
-    pub letters: [u8; 5],
+    pub letters: [u8; WORD_LENGTH],
     pub value: u8,
     pub class: u8,
 }
 
 impl Word {
     /// The word of these parts, whatever rules they keep.
-    pub fn new(letters: [u8; 5], value: u8, class: u8) -> Word
+    pub fn new(letters: [u8; WORD_LENGTH], value: u8, class: u8) -> Word
         ensures { result ≡ record { letters = letters; value = value; class = class } }
     {
         Word {

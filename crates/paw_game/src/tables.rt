@@ -1,12 +1,15 @@
 // How a player reads a game: each part by its number.
 
 use crate::parts::GamePart;
+use paw_base::limits::WORD_LENGTH;
 use paw_base::parts::{Condact, Counts, ObjectFacts};
 
 /// What stands for one valid game, and tells its lists by number. No call takes memory.
 pub trait Tables {
     ghost use Rattle.std.specs.Prelude.{◌≡◌, ◌≤◌, ◌<◌, length, IsTrue, IfSome, OnSome};
     ghost use Rattle.std.specs.Option.{option_copied};
+    ghost use Rattle.paw_base.specs.declared.limits.TheConstants.{CONDACT_LIMIT, ENTRY_LIMIT, TEXT_LIMIT, WEIGHT_LIMIT};
+    ghost use Rattle.paw_base.specs.declared.words.TheConstants.{GREATEST_WORD, LEAST_WORD, PRONOUN_CLASS};
     ghost use Rattle.paw_game.specs.Game.{GameLists, counts_of};
     ghost use Rattle.paw_game.specs.Valid.{Valid, is_condact, is_place};
     ghost use Rattle.paw_game.specs.Tables.{facts_at, exit_at, head_at, condact_at, word_at};
@@ -23,13 +26,13 @@ pub trait Tables {
     /// The facts of an object; None exactly where there is no such object.
     fn facts(&self, object: u8) -> Option<ObjectFacts>
         ensures value { result ≡ facts_at (game self.now) object }
-        ensures weight { IfSome result (λ f. f.weight ≤ 63) }
+        ensures weight { IfSome result (λ f. f.weight ≤ WEIGHT_LIMIT) }
         ensures start { IfSome result (λ f. IsTrue (is_place (length (game self.now).locations) f.start)) };
 
     /// A text of the system messages, messages, objects or locations; None exactly where there is none.
     fn text(&self, part: GamePart, number: u8) -> Option<&[u8]>
         ensures value { option_copied result ≡ text_at (game self.now) part number }
-        ensures short { IfSome result (λ text. length text.now ≤ 4095) };
+        ensures short { IfSome result (λ text. length text.now ≤ TEXT_LIMIT) };
 
     /// Where a location's exit for a verb leads; None exactly where it has no such exit.
     fn exit(&self, location: u8, verb: u8) -> Option<u8>
@@ -39,26 +42,26 @@ pub trait Tables {
     /// An entry's verb and noun; None exactly where there is no such entry.
     fn head(&self, table: u8, entry: u16) -> Option<(u8, u8)>
         ensures value { result ≡ head_at (game self.now) table entry }
-        ensures small { OnSome result (entry < 4000) };
+        ensures small { OnSome result (entry < ENTRY_LIMIT) };
 
     /// A condact of an entry; None exactly where there is no such condact.
     fn condact(&self, table: u8, entry: u16, at: u8) -> Option<Condact>
         ensures value { result ≡ condact_at (game self.now) table entry at }
-        ensures small { OnSome result (entry < 4000) }
-        ensures early { OnSome result (at < 255) }
+        ensures small { OnSome result (entry < ENTRY_LIMIT) }
+        ensures early { OnSome result (at < CONDACT_LIMIT) }
         ensures kept { IfSome result (λ c. IsTrue (is_condact (game self.now) c)) };
 
     /// The least entry not below `from` that matches this verb and noun; None exactly where there is none.
     fn next_match(&self, table: u8, from: u16, verb: u8, noun: u8) -> Option<u16>
         ensures value { result ≡ match_at (game self.now) table from verb noun }
         ensures reached { IfSome result (λ entry. from ≤ entry) }
-        ensures small { IfSome result (λ entry. entry < 4000) }
+        ensures small { IfSome result (λ entry. entry < ENTRY_LIMIT) }
         ensures matching { IfSome result (λ entry. IsTrue (matches_at (game self.now) table entry verb noun)) };
 
     /// The value and the class of the word with these letters; None exactly where there is no such word.
-    fn word(&self, letters: &[u8; 5]) -> Option<(u8, u8)>
+    fn word(&self, letters: &[u8; WORD_LENGTH]) -> Option<(u8, u8)>
         ensures value { result ≡ word_at (game self.now) letters.now }
-        ensures low { IfSome result (λ w. 2 ≤ w.0) }
-        ensures high { IfSome result (λ w. w.0 ≤ 254) }
-        ensures class { IfSome result (λ w. w.1 ≤ 6) };
+        ensures low { IfSome result (λ w. LEAST_WORD ≤ w.0) }
+        ensures high { IfSome result (λ w. w.0 ≤ GREATEST_WORD) }
+        ensures class { IfSome result (λ w. w.1 ≤ PRONOUN_CLASS) };
 }

@@ -2,6 +2,7 @@
 
 ghost use Rattle.std.specs.Prelude.{◌≡◌, ◌||◌, ◌==◌, false};
 ghost use Rattle.std.specs.List.{slice_index_or};
+ghost use Rattle.paw_base.specs.declared.words.TheConstants.{NO_WORD};
 ghost use Rattle.paw_game.specs.Valid.{is_any};
 ghost use Rattle.paw_game.specs.inner.Values.{Tells};
 
@@ -17,7 +18,7 @@ pub fn is_any(value: u8) -> bool
 
 /// Whether a table of values has this one, or it is 255, which stands for no word.
 pub fn is_in_or_none(values: &[bool; 256], value: u8) -> bool
-    ensures value { result ≡ ((value == 255) || slice_index_or values.now value false) }
+    ensures value { result ≡ ((value == NO_WORD) || slice_index_or values.now value false) }
 {
     value == NO_WORD || values[value as usize]
 }

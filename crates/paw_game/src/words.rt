@@ -6,7 +6,8 @@ ghost use Rattle.paw_game.specs.inner.Fault.{bad_word, words_fault};
 
 use crate::parts::Word;
 use crate::rows::row_fault;
-use paw_base::limits::WORD_LIMIT;
+use paw_base::limits::{WORD_LENGTH, WORD_LIMIT};
+use paw_base::words::{GREATEST_WORD, LEAST_WORD, PRONOUN_CLASS};
 
 /// The row to name of the words, where one breaks a rule or there are too many.
 #[tactic(auto, unfolding(crate::specs::inner::Fault::words_fault))]
@@ -35,11 +36,14 @@ fn bad_word(words: &[Word]) -> Option<usize>
 fn is_word(word: &Word) -> bool
     ensures value { result ≡ is_word word.now }
 {
-    are_letters(&word.letters) && word.value >= 2 && word.value <= 254 && word.class <= 6
+    are_letters(&word.letters)
+        && word.value >= LEAST_WORD
+        && word.value <= GREATEST_WORD
+        && word.class <= PRONOUN_CLASS
 }
 
 /// Capitals and digits, one at least, and then spaces alone.
-pub fn are_letters(letters: &[u8; 5]) -> bool
+pub fn are_letters(letters: &[u8; WORD_LENGTH]) -> bool
     ensures value { result ≡ are_letters letters.now }
 {
     is_letter(letters[0]) && is_filled(letters.as_slice())

@@ -16,7 +16,7 @@ use crate::damage::pass_whole;
 use crate::order::next_in;
 use crate::places::{Places, TableIndex};
 use crate::refusal::ImageRefusal;
-use paw_base::limits::IMAGE_LIMIT;
+use paw_base::limits::{IMAGE_LIMIT, WORD_LENGTH};
 use paw_base::parts::{Condact, Counts, ObjectFacts};
 use paw_game::lookup::word_of;
 use paw_game::parts::{GamePart, Word};
@@ -175,7 +175,7 @@ impl<'a> Tables for View<'a> {
         next_in(&index.order, from, verb, noun)
     }
 
-    fn word(&self, letters: &[u8; 5]) -> Option<(u8, u8)> {
+    fn word(&self, letters: &[u8; WORD_LENGTH]) -> Option<(u8, u8)> {
         let word = word_of(letters, &self.words)?;
         Some((word.value, word.class))
     }

@@ -2,6 +2,7 @@
 -- that a code doesn't have.
 use Rattle.std.specs.Prelude.{◌≡◌, ℕ, ◌^◌, ◌<◌, List, length}
 use Rattle.std.specs.List.{AllByRecursion}
+use Rattle.paw_base.specs.declared.limits.TheConstants.{WORD_LENGTH}
 use Rattle.paw_base.specs.declared.parts.Condact.{Condact}
 use Rattle.paw_base.specs.declared.rows.ParamKind.{ParamKind}
 use Rattle.paw_base.specs.declared.rows.ParamKind.TheVariants as kind
@@ -15,7 +16,7 @@ use Rattle.paw_game.specs.Game.{GameLists}
 
 -- five letters
 abbrev pub FitsWord : Word → Type 0
-FitsWord w = length w.letters ≡ 5
+FitsWord w = length w.letters ≡ WORD_LENGTH
 
 -- a length of two bytes
 abbrev pub FitsText : List ℕ → Type 0
