@@ -3,10 +3,9 @@ use Rattle.std.specs.Prelude.{◌≡◌, ℕ, ◌≤◌, List, length}
 use Rattle.paw_game.specs.Game.{GameLists}
 use Rattle.paw_game.specs.Valid.{Valid}
 use Rattle.paw_game.specs.Image.{image}
-use Rattle.paw_base.specs.declared.limits.TheConstants.{IMAGE_LIMIT}
 
--- the bytes are the image of this valid game, and no more than an image may have
+-- the bytes are the image of this valid game, at most 4,194,304 bytes
 pub record IsImage (bytes : List ℕ) (g : GameLists) : Type 0 where
   pub spelled : bytes ≡ image g
   pub valid : Valid g
-  pub short : length bytes ≤ IMAGE_LIMIT
+  pub short : length bytes ≤ 4194304
