@@ -156,21 +156,21 @@ entry_kept first marks more (verb ∷ noun ∷ count ∷ condacts) keeps h = λ 
     let m = h k lt in
     (m.0, get_drop first more k ∙ keeps (first + k) m.0 (sym (get_drop first marks k) ∙ m.1), m.2)
 
-pub one_more_entry : (all places firsts marks more : List ℕ) (p : ℕ) → length places ≡ length firsts → MarkEntries all places firsts marks
+pub one_more_entry : (all offsets firsts marks more : List ℕ) (p : ℕ) → length offsets ≡ length firsts → MarkEntries all offsets firsts marks
     → KeepsPlaces marks more → MarkEntry (drop (length marks) more) (drop p all)
-    → MarkEntries all (places ++ p ∷ []) (firsts ++ length marks ∷ []) more
-one_more_entry all places firsts marks more p same so_far keeps last e q found =
-    elim (cases_lt e (length places)) [
+    → MarkEntries all (offsets ++ p ∷ []) (firsts ++ length marks ∷ []) more
+one_more_entry all offsets firsts marks more p same so_far keeps last e q found =
+    elim (cases_lt e (length offsets)) [
       | inl before ↦
           let first : get_or (firsts ++ length marks ∷ []) e 0 ≡ get_or firsts e 0 =
           get_or_append_left firsts (length marks ∷ []) 0 e (omega (arith, before, same)) in
-          let there = sym (before_it places (p ∷ []) e before) ∙ found in
+          let there = sym (before_it offsets (p ∷ []) e before) ∙ found in
           rw first (entry_kept (get_or firsts e 0) marks more (drop q all) keeps (so_far e q there))
       | inr le ↦
-          let within = slice_get_within (places ++ p ∷ []) e q found in
-          let at : e ≡ length places = omega (arith, le, within, length-append places (p ∷ [])) in
+          let within = slice_get_within (offsets ++ p ∷ []) e q found in
+          let at : e ≡ length offsets = omega (arith, le, within, length-append offsets (p ∷ [])) in
           let first : get_or (firsts ++ length marks ∷ []) e 0 ≡ length marks = rw (at ∙ same) (get_or-append_seam firsts (length marks) [] 0) in
-          let is : p ≡ q = same_Some p q (sym (last_of places p e at) ∙ found) in
+          let is : p ≡ q = same_Some p q (sym (last_of offsets p e at) ∙ found) in
           rw (first, sym is) last
     ]
 

@@ -7,8 +7,8 @@ use Rattle.paw_faults.specs.declared.unread.Unread.{Unread}
 use Rattle.paw_faults.specs.declared.unread.Unread.TheVariants as fault
 use Rattle.paw_faults.specs.inner.Gives.{Fails}
 use Rattle.paw_image.specs.Damage.{Declared, Passing, each, exit_kept, after_exits_of, after_table}
-use Rattle.paw_image.specs.inner.Places.{begins, entries_begin, entries_of, tables_begin}
-use Rattle.paw_image.specs.declared.places.TableIndex.{TableIndex}
+use Rattle.paw_image.specs.inner.Offsets.{begins, entries_begin, entries_of, tables_begin}
+use Rattle.paw_image.specs.declared.offsets.TableIndex.{TableIndex}
 
 -- ---- rows ----
 
@@ -61,7 +61,7 @@ module _ (d : Declared) (verbs : List ℕ) (count i : ℕ) (bytes : List ℕ) (t
       let one : after_exits_of d verbs (count - i) bytes ≡ Ok bytes = rw k refl in
       sym so_far ∙ one
 
--- ---- places ----
+-- ---- offsets ----
 
 module _ (pass : List ℕ → Passing) (total : ℕ) (front : List ℕ) (count i : ℕ) (bytes : List ℕ) (whole : List ℕ) where
   pub begins_go_on : (after : List ℕ) → i < count → pass bytes ≡ Ok after → front ++ begins pass total (count - i) bytes ≡ whole

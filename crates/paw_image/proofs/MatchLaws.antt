@@ -17,7 +17,7 @@ use Rattle.paw_game.proofs.Matches.{IsFound, found_here, found_later, slice_get-
 use Rattle.paw_image.specs.declared.order.Head.{Head}
 use Rattle.paw_image.specs.declared.order.Order.{Order}
 use Rattle.paw_image.specs.inner.Orders.{heads_at, heads_of, is_match, IsOrder, IsLeast, IsMatch}
-use Rattle.paw_image.specs.inner.Places.{places}
+use Rattle.paw_image.specs.inner.Offsets.{offsets}
 use Rattle.paw_image.proofs.OrderLaws.{IsLeast-same, one_least}
 use Rattle.paw_image.proofs.PlaceLaws.{next_at}
 
@@ -28,7 +28,7 @@ byte_at_place bytes front rest at k e = sym (get_or-drop at bytes k 0) ∙ ap (�
 
 -- the heads read where entries begin are those of the entries
 heads_same : (bytes rest : List ℕ) (es : List Entry) (n at : ℕ) → drop at bytes ≡ flat_map entry_image es ++ rest
-    → heads_at bytes n (places entry_image at es) ≡ heads_of n es
+    → heads_at bytes n (offsets entry_image at es) ≡ heads_of n es
 heads_same bytes rest [] n at e = refl
 heads_same bytes rest (x ∷ xs) n at e =
     let others = flat_map entry_image xs ++ rest in
@@ -142,7 +142,7 @@ module _ (es : List Entry) (heads : List Head) (perm : IsPermutation (heads_of 0
       (first_match_least verb noun from (drop from es))
 
 pub next_match_is : (bytes rest : List ℕ) (es : List Entry) (at : ℕ) (order : Order)
-    → IsOrder bytes (places entry_image at es) order → drop at bytes ≡ flat_map entry_image es ++ rest
+    → IsOrder bytes (offsets entry_image at es) order → drop at bytes ≡ flat_map entry_image es ++ rest
     → (verb from noun : ℕ) (r : Option ℕ) → IsLeast (IsMatch order.heads.items (is_match verb noun) from) r → r ≡ first_match verb noun from (drop from es)
 next_match_is bytes rest es at order o e verb from noun r least =
     least_match es order.heads.items

@@ -85,11 +85,11 @@ pub heads_long : (bytes : List ℕ) (n : ℕ) (ps : List ℕ) → length (heads_
 heads_long bytes n [] = refl
 heads_long bytes n (p ∷ ps) = ap suc (heads_long bytes (suc n) ps)
 
--- the heads at these places, in order, rise
-pub sorted_rise : (bytes places : List ℕ) (heads : List Head) → IsBytes bytes → length places ≤ 4000
-    → IsPermutation (heads_at bytes 0 places) heads → IsNonDecreasingBy rank heads → Rises heads
-sorted_rise bytes places heads fits few same rises =
-    record { small = All-permutation IsSmall (heads_at bytes 0 places) heads same (heads_small bytes 0 places fits (omega arith)); rises = rises }
+-- the heads at these offsets, in order, rise
+pub sorted_rise : (bytes offsets : List ℕ) (heads : List Head) → IsBytes bytes → length offsets ≤ 4000
+    → IsPermutation (heads_at bytes 0 offsets) heads → IsNonDecreasingBy rank heads → Rises heads
+sorted_rise bytes offsets heads fits few same rises =
+    record { small = All-permutation IsSmall (heads_at bytes 0 offsets) heads same (heads_small bytes 0 offsets fits (omega arith)); rises = rises }
 
 -- ---- where the heads of a verb begin ----
 

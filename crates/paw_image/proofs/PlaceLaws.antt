@@ -23,7 +23,7 @@ use Rattle.paw_image.specs.inner.Reading.{leading_condact}
 use Rattle.paw_image.specs.inner.Reading as inner_reading
 use Rattle.paw_image.specs.Damage.{each}
 use Rattle.paw_image.specs.inner.Sizes.{FitsText, FitsObject, FitsCondact, FitsGame}
-use Rattle.paw_image.specs.inner.Places.{places, entry_places}
+use Rattle.paw_image.specs.inner.Offsets.{offsets, entry_offsets}
 use Rattle.paw_image.specs.inner.Rows.{value_of, facts_here, exit_in, exits_here, head_here, past_condact, nth_condact, entry_here}
 use Rattle.paw_image.specs.inner.Views.{system_begins, messages_begin, objects_begin, locations_begin, exits_begin, tables_begin_at, rows_begin}
 use Rattle.paw_image.proofs.GameLaws.{from_messages, from_objects, from_locations, from_exits, from_tables}
@@ -51,7 +51,7 @@ pub record RowAt {A : Type 0} (image : A → List ℕ) (bytes : List ℕ) (found
   pub lies : drop p bytes ≡ image row ++ after
 
 pub row_lies : {A : Type 0} (image : A → List ℕ) (bytes rest : List ℕ) (xs : List A) (at : ℕ) → drop at bytes ≡ flat_map image xs ++ rest
-    → (k p : ℕ) → slice_get (places image at xs) k ≡ Some p → RowAt image bytes (slice_get xs k) p
+    → (k p : ℕ) → slice_get (offsets image at xs) k ≡ Some p → RowAt image bytes (slice_get xs k) p
 row_lies image bytes rest [] at e k p h = absurd (none-some p h)
 row_lies image bytes rest (x ∷ xs) at e zero p h =
     record { row = x; after = flat_map image xs ++ rest; is = refl; lies = rw (← same_Some at p h) (e ∙ append_assoc (image x) (flat_map image xs) rest) }
@@ -60,7 +60,7 @@ row_lies image bytes rest (x ∷ xs) at e (suc k) p h =
     (next_at bytes (image x) (flat_map image xs ++ rest) at (e ∙ append_assoc (image x) (flat_map image xs) rest))
     k p h
 
-pub no_row : {A : Type 0} (image : A → List ℕ) (xs : List A) (at k : ℕ) → slice_get (places image at xs) k ≡ None → slice_get xs k ≡ None
+pub no_row : {A : Type 0} (image : A → List ℕ) (xs : List A) (at k : ℕ) → slice_get (offsets image at xs) k ≡ None → slice_get xs k ≡ None
 no_row image [] at k h = refl
 no_row image (x ∷ xs) at zero h = absurd (none-some at (sym h))
 no_row image (x ∷ xs) at (suc k) h = no_row image xs (at + length (image x)) k h
@@ -107,7 +107,7 @@ lists_lie bytes g e =
 -- ---- texts ----
 
 text_there : (bytes rest : List ℕ) (texts : List (List ℕ)) (begin k p : ℕ) → AllByRecursion FitsText texts
-    → drop begin bytes ≡ flat_map text_image texts ++ rest → slice_get (places text_image begin texts) k ≡ Some p
+    → drop begin bytes ≡ flat_map text_image texts ++ rest → slice_get (offsets text_image begin texts) k ≡ Some p
     → value_of (inner_reading.text_at (drop p bytes)) ≡ slice_get texts k
 text_there bytes rest texts begin k p fits lies h =
     let r = row_lies text_image bytes rest texts begin lies k p h in
@@ -177,14 +177,14 @@ exit_found verb (x ∷ xs) rest =
     rw (exit_found verb xs rest) (exit_first (eqb x.verb verb) x (find (λ (y : Exit). eqb y.verb verb) xs))
 
 pub exit_there : (bytes : List ℕ) (g : GameLists) → ListsAt bytes g → (verb k at : ℕ)
-    → slice_get (places exits_image (exits_begin g) g.exits) k ≡ Some at
+    → slice_get (offsets exits_image (exits_begin g) g.exits) k ≡ Some at
     → exits_here verb (drop at bytes) ≡ exit_of (unwrap_or (slice_get g.exits k) []) verb
 unfolding exits_here
 exit_there bytes g l verb k at h =
     let r = row_lies exits_image bytes l.after_exits g.exits (exits_begin g) l.exits k at h in
     rw (r.lies, r.is) (exit_found verb r.row r.after)
 
-pub no_exit : (g : GameLists) (verb k : ℕ) → slice_get (places exits_image (exits_begin g) g.exits) k ≡ None
+pub no_exit : (g : GameLists) (verb k : ℕ) → slice_get (offsets exits_image (exits_begin g) g.exits) k ≡ None
     → exit_of (unwrap_or (slice_get g.exits k) []) verb ≡ None
 no_exit g verb k h = rw (no_row exits_image g.exits (exits_begin g) k h) refl
 
@@ -196,11 +196,11 @@ pub record TableAt (bytes : List ℕ) (found : Option (List Entry)) (ps : List �
   pub at : ℕ
   pub after : List ℕ
   pub is : found ≡ Some rows
-  pub begin : ps ≡ places entry_image at rows
+  pub begin : ps ≡ offsets entry_image at rows
   pub lies : drop at bytes ≡ flat_map entry_image rows ++ after
 
 pub table_lies : (bytes rest : List ℕ) (ts : List (List Entry)) (at : ℕ) → drop at bytes ≡ flat_map table_image ts ++ rest
-    → (t : ℕ) (ps : List ℕ) → slice_get (entry_places at ts) t ≡ Some ps → TableAt bytes (slice_get ts t) ps
+    → (t : ℕ) (ps : List ℕ) → slice_get (entry_offsets at ts) t ≡ Some ps → TableAt bytes (slice_get ts t) ps
 table_lies bytes rest [] at e t ps h = absurd (none-some ps h)
 table_lies bytes rest (es ∷ ts) at e zero ps h =
     let others = flat_map table_image ts ++ rest in
@@ -211,7 +211,7 @@ table_lies bytes rest (es ∷ ts) at e zero ps h =
       at = at + 2;
       after = others;
       is = refl;
-      begin = sym (same_Some (places entry_image (at + 2) es) ps h);
+      begin = sym (same_Some (offsets entry_image (at + 2) es) ps h);
       lies = next_at bytes (two_bytes (length es)) (flat_map entry_image es ++ others) at here;
     }
 table_lies bytes rest (es ∷ ts) at e (suc t) ps h =
@@ -219,9 +219,9 @@ table_lies bytes rest (es ∷ ts) at e (suc t) ps h =
     (next_at bytes (table_image es) (flat_map table_image ts ++ rest) at
     (e ∙ append_assoc (table_image es) (flat_map table_image ts) rest)) t ps h
 
-pub no_table : (ts : List (List Entry)) (at t : ℕ) → slice_get (entry_places at ts) t ≡ None → slice_get ts t ≡ None
+pub no_table : (ts : List (List Entry)) (at t : ℕ) → slice_get (entry_offsets at ts) t ≡ None → slice_get ts t ≡ None
 no_table [] at t h = refl
-no_table (es ∷ ts) at zero h = absurd (none-some (places entry_image (at + 2) es) (sym h))
+no_table (es ∷ ts) at zero h = absurd (none-some (offsets entry_image (at + 2) es) (sym h))
 no_table (es ∷ ts) at (suc t) h = no_table ts (at + length (table_image es)) t h
 
 entry_in_table : (bytes : List ℕ) (found : Option (List Entry)) (begin : Option (List ℕ)) (k p : ℕ) → ((ps : List ℕ) → begin ≡ Some ps → TableAt bytes found ps)
@@ -233,20 +233,20 @@ entry_in_table bytes found (Some ps) k p there h =
 
 -- the entry that stands at the place where it begins
 pub entry_lies : (bytes : List ℕ) (g : GameLists) → ListsAt bytes g → (t k p : ℕ)
-    → slice_get (unwrap_or (slice_get (entry_places (tables_begin_at g) g.tables) t) []) k ≡ Some p
+    → slice_get (unwrap_or (slice_get (entry_offsets (tables_begin_at g) g.tables) t) []) k ≡ Some p
     → RowAt entry_image bytes (slice_get (unwrap_or (slice_get g.tables t) []) k) p
 entry_lies bytes g l t k p h =
-    entry_in_table bytes (slice_get g.tables t) (slice_get (entry_places (tables_begin_at g) g.tables) t) k p
+    entry_in_table bytes (slice_get g.tables t) (slice_get (entry_offsets (tables_begin_at g) g.tables) t) k p
     (table_lies bytes [] g.tables (tables_begin_at g) l.tables t) h
 
-no_entry_in : (ts : List (List Entry)) (at t k : ℕ) → slice_get (unwrap_or (slice_get (entry_places at ts) t) []) k ≡ None
+no_entry_in : (ts : List (List Entry)) (at t k : ℕ) → slice_get (unwrap_or (slice_get (entry_offsets at ts) t) []) k ≡ None
     → slice_get (unwrap_or (slice_get ts t) []) k ≡ None
 no_entry_in [] at t k h = refl
 no_entry_in (es ∷ ts) at zero k h = no_row entry_image es (at + 2) k h
 no_entry_in (es ∷ ts) at (suc t) k h = no_entry_in ts (at + length (table_image es)) t k h
 
 pub no_entry : (g : GameLists) (t k : ℕ)
-    → slice_get (unwrap_or (slice_get (entry_places (tables_begin_at g) g.tables) t) []) k ≡ None
+    → slice_get (unwrap_or (slice_get (entry_offsets (tables_begin_at g) g.tables) t) []) k ≡ None
     → slice_get (unwrap_or (slice_get g.tables t) []) k ≡ None
 no_entry g t k h = no_entry_in g.tables (tables_begin_at g) t k h
 

@@ -24,7 +24,7 @@ use Rattle.paw_image.specs.inner.Reading.{code_at, parameter_at, leading_condact
 use Rattle.paw_image.specs.Damage.{Declared, field_kept, each, after_text, after_facts, after_object}
 use Rattle.paw_image.specs.Damage.{exit_kept, after_exits_of, after_exits, after_parameter}
 use Rattle.paw_image.specs.Damage.{after_condact, after_entry, after_table}
-use Rattle.paw_image.specs.inner.Places.{places, entry_places, entries_begin, tables_begin}
+use Rattle.paw_image.specs.inner.Offsets.{offsets, entry_offsets, entries_begin, tables_begin}
 use Rattle.paw_image.proofs.FieldLaws.{IsBytes, at_ok, bind_then, byte_takes, number_takes}
 use Rattle.paw_image.proofs.ListLaws.{rows_take}
 use Rattle.paw_image.proofs.RowLaws.{text_takes, exit_takes, condact_takes, entry_takes, parameter_takes, table_takes}
@@ -222,7 +222,7 @@ pub record TablePlaced (d : Declared) (bytes rest : List ℕ) : Type 0 where
   pub value : List Entry
   pub reads : leading_table bytes ≡ Ok (value, rest)
   pub keeps : keeps_table d value ≡ true
-  pub begin : (total start : ℕ) → start + length bytes ≡ total → entries_begin d total bytes ≡ places entry_image (start + 2) value
+  pub begin : (total start : ℕ) → start + length bytes ≡ total → entries_begin d total bytes ≡ offsets entry_image (start + 2) value
 
 pub table_placed : (d : Declared) (bytes rest : List ℕ) → IsBytes bytes → after_table d bytes ≡ Ok rest → TablePlaced d bytes rest
 unfolding after_table leading_table entries_begin
@@ -246,7 +246,7 @@ pub record TablesPlaced (d : Declared) (n : ℕ) (bytes rest : List ℕ) : Type 
   pub value : List (List Entry)
   pub reads : leading_rows leading_table n bytes ≡ Ok (value, rest)
   pub keeps : list_all (keeps_table d) value ≡ true
-  pub begin : (total start : ℕ) → start + length bytes ≡ total → tables_begin d total n bytes ≡ entry_places start value
+  pub begin : (total start : ℕ) → start + length bytes ≡ total → tables_begin d total n bytes ≡ entry_offsets start value
 
 pub tables_placed : (d : Declared) (n : ℕ) (bytes rest : List ℕ) → IsBytes bytes → each (after_table d) n bytes ≡ Ok rest → TablesPlaced d n bytes rest
 unfolding each leading_rows tables_begin
@@ -269,7 +269,7 @@ tables_placed d (suc n) bytes rest fits e =
       begin = λ total start h.
           let later = others.begin total (start + length (table_image first.value))
           (omega (arith, h, taken_length bytes (table_image first.value) after taken)) in
-          rw (first.begin total start h, after_ok) (ap (λ (l : List (List ℕ)). places entry_image (start + 2) first.value ∷ l) later);
+          rw (first.begin total start h, after_ok) (ap (λ (l : List (List ℕ)). offsets entry_image (start + 2) first.value ∷ l) later);
     })
 
 -- ---- the same rules as a game has them ----

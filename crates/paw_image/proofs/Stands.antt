@@ -8,7 +8,7 @@ use Rattle.paw_faults.specs.Bind.{◌>>=◌}
 use Rattle.paw_image.specs.Reading.{Reading, bytes_at}
 use Rattle.paw_image.specs.inner.Reading.{leading_rows}
 use Rattle.paw_image.specs.Damage.{Passing, field_kept, each}
-use Rattle.paw_image.specs.inner.Places.{places, begins}
+use Rattle.paw_image.specs.inner.Offsets.{offsets, begins}
 use Rattle.paw_image.proofs.FieldLaws.{IsBytes, Takes, Takes-then, read_ok, at_ok, bind_then, guard_ok, kept_ok}
 use Rattle.paw_image.proofs.ListLaws.{TakesRow}
 
@@ -65,7 +65,7 @@ pub record Placed {A : Type 0} (pass : List ℕ → Passing) (image : A → List
   pub keeps : list_all rule value ≡ true
   pub taken : Takes bytes (flat_map image value) rest
   pub many : length value ≡ n
-  pub begin : (total start : ℕ) → start + length bytes ≡ total → begins pass total n bytes ≡ places image start value
+  pub begin : (total start : ℕ) → start + length bytes ≡ total → begins pass total n bytes ≡ offsets image start value
 
 pub each_sound : {A : Type 0} (pass : List ℕ → Passing) (row : List ℕ → Reading A) (image : A → List ℕ)
     (rule : A → Bool) → TakesRow row image → SoundRow pass row rule → (n : ℕ) (bytes rest : List ℕ) → IsBytes bytes

@@ -18,15 +18,15 @@ use Rattle.paw_image.specs.inner.CondactMarks.{IsMarked, MarkEntry}
 use Rattle.paw_image.specs.Images.{IsImage}
 use Rattle.paw_image.specs.inner.Images.{AtDamage}
 use Rattle.paw_image.specs.inner.Orders.{is_match, IsOrder, IsLeast, IsMatch}
-use Rattle.paw_image.specs.inner.Places.{entry_places, entries_of, IsPassed}
+use Rattle.paw_image.specs.inner.Offsets.{entry_offsets, entries_of, IsPassed}
 use Rattle.paw_image.specs.inner.Reading as inner_reading
 use Rattle.paw_image.specs.inner.Reading.{all_of}
 use Rattle.paw_image.specs.inner.Rows.{value_of, head_here, nth_condact, entry_here}
 use Rattle.paw_image.specs.inner.Sizes.{FitsGame, FitsCondact, FitsEntry, FitsTable}
 use Rattle.paw_image.specs.inner.Views.{game_read, rows_begin, tables_begin_at, span_at, IsIndex}
 use Rattle.paw_base.specs.declared.limits.TheConstants.{IMAGE_LIMIT}
-use Rattle.paw_image.specs.declared.places.Places.{Places}
-use Rattle.paw_image.specs.declared.places.TableIndex.{TableIndex}
+use Rattle.paw_image.specs.declared.offsets.Offsets.{Offsets}
+use Rattle.paw_image.specs.declared.offsets.TableIndex.{TableIndex}
 use Rattle.paw_image.specs.declared.refusal.ImageRefusal.{ImageRefusal}
 use Rattle.paw_image.specs.declared.refusal.ImageRefusal.TheVariants as refusal
 use Rattle.paw_image.proofs.FieldLaws.{IsBytes}
@@ -43,8 +43,8 @@ game_is : (bytes : List ℕ) (g : GameLists) → all_of bytes ≡ Ok g → game_
 unfolding game_read
 game_is bytes g e = rw e refl
 
--- the places that come of bytes in which no rule is broken are those of the game
-pub index_from : (bytes : List ℕ) (counts : Counts) (words : List Word) (p : Places) → IsBytes bytes
+-- the offsets that come of bytes in which no rule is broken are those of the game
+pub index_from : (bytes : List ℕ) (counts : Counts) (words : List Word) (p : Offsets) → IsBytes bytes
     → length bytes ≤ IMAGE_LIMIT → bad bytes ≡ None → IsPassed bytes counts words p → IsIndex bytes counts words p
 unfolding bad
 index_from bytes counts words p fits short whole passed =
@@ -106,19 +106,19 @@ entry_fits bytes is t k e h =
     (λ es found. all_at FitsTable (game_read bytes).tables t es (fits_of bytes is).tables found) k e h
 
 pub entry_at_place : (bytes : List ℕ) → IsImage bytes (game_read bytes) → (t k p : ℕ)
-    → slice_get (unwrap_or (slice_get (entry_places (tables_begin_at (game_read bytes)) (game_read bytes).tables) t) []) k
+    → slice_get (unwrap_or (slice_get (entry_offsets (tables_begin_at (game_read bytes)) (game_read bytes).tables) t) []) k
     ≡ Some p
     → RowAt entry_image bytes (entry_at (game_read bytes) t k) p
 entry_at_place bytes is t k p h = entry_lies bytes (game_read bytes) (lists_of bytes is) t k p h
 
 pub head_read : (bytes : List ℕ) → IsImage bytes (game_read bytes) → (t k p : ℕ)
-    → slice_get (unwrap_or (slice_get (entry_places (tables_begin_at (game_read bytes)) (game_read bytes).tables) t) []) k
+    → slice_get (unwrap_or (slice_get (entry_offsets (tables_begin_at (game_read bytes)) (game_read bytes).tables) t) []) k
     ≡ Some p
     → head_here (drop p bytes) ≡ head_at (game_read bytes) t k
 head_read bytes is t k p h = let r = entry_at_place bytes is t k p h in rw (r.lies, r.is) (head_there r.row r.after)
 
 pub condact_read : (bytes : List ℕ) → IsImage bytes (game_read bytes) → (t k p at : ℕ)
-    → slice_get (unwrap_or (slice_get (entry_places (tables_begin_at (game_read bytes)) (game_read bytes).tables) t) []) k
+    → slice_get (unwrap_or (slice_get (entry_offsets (tables_begin_at (game_read bytes)) (game_read bytes).tables) t) []) k
     ≡ Some p
     → nth_condact at (drop p bytes) ≡ condact_at (game_read bytes) t k at
 condact_read bytes is t k p at h =
@@ -126,7 +126,7 @@ condact_read bytes is t k p at h =
     rw (r.lies, r.is) (condact_there r.row r.after at (entry_fits bytes is t k r.row r.is))
 
 pub entry_read : (bytes : List ℕ) → IsImage bytes (game_read bytes) → (t k p : ℕ)
-    → slice_get (unwrap_or (slice_get (entry_places (tables_begin_at (game_read bytes)) (game_read bytes).tables) t) []) k
+    → slice_get (unwrap_or (slice_get (entry_offsets (tables_begin_at (game_read bytes)) (game_read bytes).tables) t) []) k
     ≡ Some p
     → entry_here (drop p bytes) ≡ option_map entry_image (entry_at (game_read bytes) t k)
 entry_read bytes is t k p h =
@@ -134,7 +134,7 @@ entry_read bytes is t k p h =
     rw (r.lies, r.is) (entry_bytes_there r.row r.after (entry_fits bytes is t k r.row r.is))
 
 pub no_entry_read : (bytes : List ℕ) (t k : ℕ)
-    → slice_get (unwrap_or (slice_get (entry_places (tables_begin_at (game_read bytes)) (game_read bytes).tables) t) []) k
+    → slice_get (unwrap_or (slice_get (entry_offsets (tables_begin_at (game_read bytes)) (game_read bytes).tables) t) []) k
     ≡ None → entry_at (game_read bytes) t k ≡ None
 no_entry_read bytes t k h = no_entry (game_read bytes) t k h
 
@@ -157,7 +157,7 @@ entries_at ts k t ps e h = ap (λ (l : List (List ℕ)). slice_get l k) (sym e) 
 no_entries_at : (ts : List TableIndex) (k : ℕ) (ps : List (List ℕ)) → entries_of ts ≡ ps → slice_get ts k ≡ None → slice_get ps k ≡ None
 no_entries_at ts k ps e h = ap (λ (l : List (List ℕ)). slice_get l k) (sym e) ∙ slice_get-map (λ (x : TableIndex). x.entries.items) ts k ∙ rw h refl
 
-pub match_read : {bytes : List ℕ} {counts : Counts} {words : List Word} {p : Places} → IsIndex bytes counts words p
+pub match_read : {bytes : List ℕ} {counts : Counts} {words : List Word} {p : Offsets} → IsIndex bytes counts words p
     → (t : ℕ) (i : TableIndex) → slice_get p.tables.items t ≡ Some i
     → (from verb noun : ℕ) (r : Option ℕ) → IsLeast (IsMatch i.order.heads.items (is_match verb noun) from) r → r ≡ match_at (game_read bytes) t from verb noun
 match_read {bytes} {counts} {words} {p} is t i h from verb noun r least =
@@ -166,7 +166,7 @@ match_read {bytes} {counts} {words} {p} is t i h from verb noun r least =
     let order = subst (λ (ps : List ℕ). IsOrder bytes ps i.order) table.begin (ordered_at bytes p.tables.items t i is.ordered h) in
     rw table.is (next_match_is bytes table.after table.rows table.at i.order order table.lies verb from noun r least)
 
-pub no_match_read : {bytes : List ℕ} {counts : Counts} {words : List Word} {p : Places} → IsIndex bytes counts words p
+pub no_match_read : {bytes : List ℕ} {counts : Counts} {words : List Word} {p : Offsets} → IsIndex bytes counts words p
     → (t : ℕ) → slice_get p.tables.items t ≡ None → (from verb noun : ℕ)
     → match_at (game_read bytes) t from verb noun ≡ None
 no_match_read {bytes} {counts} {words} {p} is t h from verb noun =
@@ -175,14 +175,14 @@ no_match_read {bytes} {counts} {words} {p} is t h from verb noun =
 
 -- ---- the condacts of an entry ----
 
-pub no_index_read : {bytes : List ℕ} {counts : Counts} {words : List Word} {p : Places} → IsIndex bytes counts words p
+pub no_index_read : {bytes : List ℕ} {counts : Counts} {words : List Word} {p : Offsets} → IsIndex bytes counts words p
     → (t k : ℕ) → slice_get p.tables.items t ≡ None → entry_at (game_read bytes) t k ≡ None
 no_index_read {bytes} {counts} {words} {p} is t k h = no_entry_read bytes t k (rw (no_entries_at p.tables.items t _ is.tables h) refl)
 
-module _ {bytes : List ℕ} {counts : Counts} {words : List Word} {p : Places} (is : IsIndex bytes counts words p)
+module _ {bytes : List ℕ} {counts : Counts} {words : List Word} {p : Offsets} (is : IsIndex bytes counts words p)
     (t : ℕ) (i : TableIndex) (there : slice_get p.tables.items t ≡ Some i) (k : ℕ) where
   -- an entry begins where the index of its table says
-  entry_begins : slice_get (unwrap_or (slice_get (entry_places (tables_begin_at (game_read bytes)) (game_read bytes).tables) t) []) k
+  entry_begins : slice_get (unwrap_or (slice_get (entry_offsets (tables_begin_at (game_read bytes)) (game_read bytes).tables) t) []) k
       ≡ slice_get i.entries.items k
   entry_begins = rw (entries_at p.tables.items t i _ is.tables there) refl
 

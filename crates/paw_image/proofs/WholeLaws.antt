@@ -14,9 +14,9 @@ use Rattle.paw_image.specs.Images.{IsImage}
 use Rattle.paw_image.specs.inner.Reading.{text_at, object_at, exits_at, lists_at, all_of}
 use Rattle.paw_image.specs.Damage.{Declared, Passing, each, after_text, after_object, after_exits, after_table}
 use Rattle.paw_image.specs.Damage.{after_lists, front, after_all, place_in, bad}
-use Rattle.paw_image.specs.inner.Places.{places, entry_places, entries_of, AreGoneOver}
+use Rattle.paw_image.specs.inner.Offsets.{offsets, entry_offsets, entries_of, AreGoneOver}
 use Rattle.paw_image.specs.inner.Views.{system_begins}
-use Rattle.paw_image.specs.declared.places.Places.{Places}
+use Rattle.paw_image.specs.declared.offsets.Offsets.{Offsets}
 use Rattle.paw_image.proofs.EndLaws.{end_taken}
 use Rattle.paw_image.proofs.FieldLaws.{IsBytes, at_ok, bind_then}
 use Rattle.paw_image.proofs.RowLaws.{text_takes, object_takes, exits_take}
@@ -32,19 +32,19 @@ use Rattle.paw_image.proofs.ValidLaws.{parts_of}
 -- ---- the lists ----
 
 -- where the rows of the lists begin that follow the words, which end at a place
-pub record StandAt (start : ℕ) (g : GameLists) (p : Places) : Type 0 where
-  pub system : p.system.items ≡ places text_image start g.system
-  pub messages : p.messages.items ≡ places text_image (start + length (flat_map text_image g.system)) g.messages
-  pub objects : p.objects.items ≡ places object_image (start + length (flat_map text_image g.system) + length (flat_map text_image g.messages)) g.objects
+pub record StandAt (start : ℕ) (g : GameLists) (p : Offsets) : Type 0 where
+  pub system : p.system.items ≡ offsets text_image start g.system
+  pub messages : p.messages.items ≡ offsets text_image (start + length (flat_map text_image g.system)) g.messages
+  pub objects : p.objects.items ≡ offsets object_image (start + length (flat_map text_image g.system) + length (flat_map text_image g.messages)) g.objects
   pub locations : p.locations.items
-      ≡ places text_image
+      ≡ offsets text_image
       (start + length (flat_map text_image g.system) + length (flat_map text_image g.messages)
       + length (flat_map object_image g.objects)) g.locations
   pub exits : p.exits.items
-      ≡ places exits_image (start + length (flat_map text_image g.system) + length (flat_map text_image g.messages) + length (flat_map object_image g.objects)
+      ≡ offsets exits_image (start + length (flat_map text_image g.system) + length (flat_map text_image g.messages) + length (flat_map object_image g.objects)
       + length (flat_map text_image g.locations)) g.exits
   pub tables : entries_of p.tables.items
-      ≡ entry_places (start + length (flat_map text_image g.system) + length (flat_map text_image g.messages) + length (flat_map object_image g.objects)
+      ≡ entry_offsets (start + length (flat_map text_image g.system) + length (flat_map text_image g.messages) + length (flat_map object_image g.objects)
       + length (flat_map text_image g.locations) + length (flat_map exits_image g.exits)) g.tables
 
 -- the lists after the words, as they are read by their rules
@@ -58,7 +58,7 @@ record AreRead (d : Declared) (bytes rest : List ℕ) : Type 0 where
   exits : list_all (is_exits d.words d.counts.locations) game.exits ≡ true
   as_many : length game.exits ≡ d.counts.locations
   tables : list_all (keeps_table d) game.tables ≡ true
-  begin : (total start : ℕ) (p : Places) → start + length bytes ≡ total → AreGoneOver d total bytes p
+  begin : (total start : ℕ) (p : Offsets) → start + length bytes ≡ total → AreGoneOver d total bytes p
       → StandAt start game p
 
 lists_sound : (d : Declared) (bytes rest : List ℕ) → IsBytes bytes → after_lists d bytes ≡ Ok rest
@@ -155,7 +155,7 @@ pub record IsWhole (bytes : List ℕ) : Type 0 where
   pub valid : Valid game
   pub declared : (d : Declared × List ℕ) → front bytes ≡ Ok d → d.0 ≡ declared_by game
   pub end : (d : Declared × List ℕ) → front bytes ≡ Ok d → IsEnd bytes d.1
-  pub begin : (d : Declared × List ℕ) (p : Places) → front bytes ≡ Ok d → AreGoneOver d.0 (length bytes) d.1 p
+  pub begin : (d : Declared × List ℕ) (p : Offsets) → front bytes ≡ Ok d → AreGoneOver d.0 (length bytes) d.1 p
       → StandAt (system_begins game) game p
 
 pub all_sound : (bytes : List ℕ) → IsBytes bytes → after_all bytes ≡ Ok [] → IsWhole bytes

@@ -2,8 +2,8 @@
 pub mod CondactMarks
 pub mod Images
 pub mod Marks
+pub mod Offsets
 pub mod Orders
-pub mod Places
 pub mod Reading
 pub mod Rows
 pub mod Sizes

@@ -5,13 +5,13 @@ ghost use Rattle.paw_game.specs.Game.{GameLists};
 ghost use Rattle.paw_image.specs.Damage.{after_all, bad};
 ghost use Rattle.paw_image.specs.Images.{IsImage};
 ghost use Rattle.paw_image.specs.inner.Images.{AtDamage, IfDamaged};
-ghost use Rattle.paw_image.specs.inner.Places.{IsPassed};
+ghost use Rattle.paw_image.specs.inner.Offsets.{IsPassed};
 ghost use Rattle.paw_faults.specs.inner.Gives.{Gives};
 ghost use Rattle.paw_base.specs.declared.limits.TheConstants.{IMAGE_LIMIT};
 
 use crate::fault::ReadFault;
 use crate::head::read_front;
-use crate::places::{Places, pass_lists};
+use crate::offsets::{Offsets, pass_lists};
 use crate::refusal::ImageRefusal;
 use crate::rules::Rules;
 use paw_base::parts::Counts;
@@ -24,34 +24,34 @@ use std::alloc::Global;
 pub struct Passed {
     pub counts: Counts,
     pub words: Vec<Word>,
-    pub places: Places,
+    pub offsets: Offsets,
 }
 
-/// Goes over all fields of an image: what they say of places, and the bytes after the last.
+/// Goes over all fields of an image: counts, words and offsets, and the bytes after the last.
 #[tactic(auto, unfolding(crate::specs::Damage::after_all))]
 fn pass_all(alloc: Global, bytes: &[u8]) -> Result<(Passed, &[u8]), ReadFault>
     requires small { length bytes.now < 2 ^ 32 }
     ensures gives { Gives (λ x. x.1.now) result (after_all bytes.now) }
-    ensures passed { IfOk result (λ x. IsPassed bytes.now x.0.counts x.0.words.items x.0.places) }
+    ensures passed { IfOk result (λ x. IsPassed bytes.now x.0.counts x.0.words.items x.0.offsets) }
 {
     let ((counts, words), rest) = read_front(alloc, bytes)?;
     let rules = Rules::new(counts, words);
-    let (places, rest) = pass_lists(alloc, &rules, bytes, rest)?;
+    let (offsets, rest) = pass_lists(alloc, &rules, bytes, rest)?;
     let (counts, words) = rules.into_parts();
     let passed = Passed {
         counts,
         words,
-        places,
+        offsets,
     };
     Ok((passed, rest))
 }
 
-/// Goes over bytes that are to be an image: what they say of places, or the place of the first broken rule.
+/// Goes over bytes that are to be an image: counts, words and offsets, or the place of the first broken rule.
 #[tactic(auto, unfolding(crate::specs::Damage::bad))]
 pub fn pass_whole(alloc: Global, bytes: &[u8]) -> Result<Passed, ImageRefusal>
     requires short { length bytes.now ≤ IMAGE_LIMIT }
     ensures whole { OnOk result (bad bytes.now ≡ None) }
-    ensures passed { IfOk result (λ p. IsPassed bytes.now p.counts p.words.items p.places) }
+    ensures passed { IfOk result (λ p. IsPassed bytes.now p.counts p.words.items p.offsets) }
     ensures at { IfDamaged result (λ at. bad bytes.now ≡ Some at) }
 {
     let left = match pass_all(alloc, bytes) {

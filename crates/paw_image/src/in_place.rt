@@ -2,7 +2,7 @@
 
 ghost use Rattle.std.specs.Prelude.{◌≡◌, ◌≤◌, ◌<◌, ◌^◌, IfOk, length};
 ghost use Rattle.paw_image.specs.Damage.{each};
-ghost use Rattle.paw_image.specs.inner.Places.{begins};
+ghost use Rattle.paw_image.specs.inner.Offsets.{begins};
 ghost use Rattle.paw_faults.specs.inner.Gives.{Gives};
 
 use crate::fault::ReadFault;
@@ -49,14 +49,14 @@ pub fn pass_rows<'a, R: InPlace>(
 ) -> Result<(Vec<u32>, &'a [u8]), ReadFault>
     requires small { total < 2 ^ 32 }
     ensures gives { Gives (λ x. x.1.now) result (each (R.passing rules.now) count bytes.now) }
-    ensures places { IfOk result (λ x. x.0.items ≡ begins (R.passing rules.now) total count bytes.now) }
+    ensures offsets { IfOk result (λ x. x.0.items ≡ begins (R.passing rules.now) total count bytes.now) }
     ensures many { IfOk result (λ x. length x.0.items ≤ count) }
 {
-    let mut places = Vec::new(alloc);
+    let mut offsets = Vec::new(alloc);
     let mut rest = bytes;
     for _ in 0..count {
-        places.push(total.saturating_sub(rest.len()) as u32)?;
+        offsets.push(total.saturating_sub(rest.len()) as u32)?;
         rest = R::pass(rules, rest)?;
     }
-    Ok((places, rest))
+    Ok((offsets, rest))
 }

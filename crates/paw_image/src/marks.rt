@@ -3,7 +3,7 @@
 ghost use Rattle.std.specs.Prelude.{◌≡◌, ◌+◌, ◌*◌, ◌≤◌, ◌<◌, ◌^◌, IfOk, OnOk, drop, length, slice_index};
 ghost use Rattle.paw_image.specs.inner.CondactMarks.{AreMarks, IsEnd, KeepsPlaces, MarkEntries, MarkEntry};
 ghost use Rattle.paw_image.specs.Damage.{after_condact, after_entry, each};
-ghost use Rattle.paw_image.specs.inner.Places.{begins};
+ghost use Rattle.paw_image.specs.inner.Offsets.{begins};
 ghost use Rattle.paw_faults.specs.inner.Gives.{Gives};
 
 use crate::fault::ReadFault;
@@ -97,19 +97,19 @@ pub fn pass_entries<'a>(
     requires small { length all.now < 2 ^ 32 }
     requires few { count ≤ ENTRY_LIMIT }
     ensures gives { Gives (λ x. x.1.now) result (each (after_entry rules.now) count bytes.now) }
-    ensures places { IfOk result (λ x. x.0.0.items ≡ begins (after_entry rules.now) (length all.now) count bytes.now) }
+    ensures offsets { IfOk result (λ x. x.0.0.items ≡ begins (after_entry rules.now) (length all.now) count bytes.now) }
     ensures many { IfOk result (λ x. length x.0.0.items ≤ count) }
     ensures marks { IsEnd all.now bytes.now →
         IfOk result (λ x. MarkEntries all.now x.0.0.items x.0.1.firsts.items x.0.1.marks.items) }
 {
-    let mut places = Vec::new(alloc);
+    let mut offsets = Vec::new(alloc);
     let mut firsts = Vec::new(alloc);
     let mut marks = Vec::new(alloc);
     let mut rest = bytes;
     for _ in 0..count {
-        places.push(all.len().saturating_sub(rest.len()) as u32)?;
+        offsets.push(all.len().saturating_sub(rest.len()) as u32)?;
         firsts.push(marks.len() as u32)?;
         rest = pass_entry(rules, rest, &mut marks)?;
     }
-    Ok(((places, CondactMarks { firsts, marks }), rest))
+    Ok(((offsets, CondactMarks { firsts, marks }), rest))
 }

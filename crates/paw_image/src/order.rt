@@ -53,17 +53,17 @@ fn byte_at(bytes: &[u8], place: usize) -> u8
     }
 }
 
-/// The heads of the entries that begin at these places.
-fn heads_at(alloc: Global, bytes: &[u8], places: &[u32]) -> Result<Vec<Head>, AllocError>
-    requires few { length places.now ≤ ENTRY_LIMIT }
-    ensures value { IfOk result (λ v. v.items ≡ heads_at bytes.now 0 places.now) }
+/// The heads of the entries that begin at these offsets.
+fn heads_at(alloc: Global, bytes: &[u8], offsets: &[u32]) -> Result<Vec<Head>, AllocError>
+    requires few { length offsets.now ≤ ENTRY_LIMIT }
+    ensures value { IfOk result (λ v. v.items ≡ heads_at bytes.now 0 offsets.now) }
 {
-    let mut heads = Vec::with_capacity(alloc, places.len())?;
-    for (entry, place) in places.iter().enumerate() {
-        let place = *place as usize;
+    let mut heads = Vec::with_capacity(alloc, offsets.len())?;
+    for (entry, offset) in offsets.iter().enumerate() {
+        let offset = *offset as usize;
         let head = Head {
-            verb: byte_at(bytes, place),
-            noun: byte_at(bytes, place + 1),
+            verb: byte_at(bytes, offset),
+            noun: byte_at(bytes, offset + 1),
             entry: entry as u16,
         };
         heads.push(head)?;
@@ -71,14 +71,14 @@ fn heads_at(alloc: Global, bytes: &[u8], places: &[u32]) -> Result<Vec<Head>, Al
     Ok(heads)
 }
 
-/// The heads of the entries that begin at these places, in order of verb, noun and number.
-fn sorted_heads(alloc: Global, bytes: &[u8], places: &[u32]) -> Result<Vec<Head>, AllocError>
-    requires few { length places.now ≤ ENTRY_LIMIT }
-    ensures same { IfOk result (λ v. IsPermutation (heads_at bytes.now 0 places.now) v.items) }
+/// The heads of the entries that begin at these offsets, in order of verb, noun and number.
+fn sorted_heads(alloc: Global, bytes: &[u8], offsets: &[u32]) -> Result<Vec<Head>, AllocError>
+    requires few { length offsets.now ≤ ENTRY_LIMIT }
+    ensures same { IfOk result (λ v. IsPermutation (heads_at bytes.now 0 offsets.now) v.items) }
     ensures rises { IfOk result (λ v. Rises v.items) }
     ensures few { IfOk result (λ v. length v.items ≤ ENTRY_LIMIT) }
 {
-    let mut heads = heads_at(alloc, bytes, places)?;
+    let mut heads = heads_at(alloc, bytes, offsets)?;
     heads.sort_unstable_by_key(
         |head: &Head| -> u32
             ensures { result ≡ rank head.now }
@@ -114,12 +114,12 @@ fn starts_of(alloc: Global, heads: &[Head]) -> Result<Vec<u16>, AllocError>
     Ok(starts)
 }
 
-/// The heads of the entries that begin at these places, in order.
-pub fn order_of(alloc: Global, bytes: &[u8], places: &[u32]) -> Result<Order, AllocError>
-    requires few { length places.now ≤ ENTRY_LIMIT }
-    ensures order { IfOk result (λ order. IsOrder bytes.now places.now order) }
+/// The heads of the entries that begin at these offsets, in order.
+pub fn order_of(alloc: Global, bytes: &[u8], offsets: &[u32]) -> Result<Order, AllocError>
+    requires few { length offsets.now ≤ ENTRY_LIMIT }
+    ensures order { IfOk result (λ order. IsOrder bytes.now offsets.now order) }
 {
-    let heads = sorted_heads(alloc, bytes, places)?;
+    let heads = sorted_heads(alloc, bytes, offsets)?;
     let starts = starts_of(alloc, &heads)?;
     Ok(Order { heads, starts })
 }

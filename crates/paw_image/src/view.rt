@@ -8,13 +8,13 @@ ghost use Rattle.paw_game.specs.Tables.{entry_at};
 ghost use Rattle.paw_image.specs.Damage.{bad};
 ghost use Rattle.paw_image.specs.Images.{IsImage};
 ghost use Rattle.paw_image.specs.inner.Images.{IfDamaged};
-ghost use Rattle.paw_image.specs.inner.Places.{entries_of};
+ghost use Rattle.paw_image.specs.inner.Offsets.{entries_of};
 ghost use Rattle.paw_image.specs.inner.Views.{game_read, rows_begin, span_at};
 
 use crate::at_place::{condact_in, entry_in, exit_at, facts_in, head_in, text_in};
 use crate::damage::pass_whole;
+use crate::offsets::{Offsets, TableIndex};
 use crate::order::next_in;
-use crate::places::{Places, TableIndex};
 use crate::refusal::ImageRefusal;
 use paw_base::limits::{IMAGE_LIMIT, WORD_LENGTH};
 use paw_base::parts::{Condact, Counts, ObjectFacts};
@@ -32,7 +32,7 @@ pub struct View<'a> {
     bytes: &'a [u8],
     counts: Counts,
     words: Vec<Word>,
-    places: Places,
+    offsets: Offsets,
 }
 
 impl<'a> Model for View<'a> {
@@ -43,14 +43,14 @@ impl<'a> Model for View<'a> {
 
     ghost view = { λ v. v.bytes.now };
 
-    ghost invariant = { λ v. IsIndex v.bytes.now v.counts v.words.items v.places };
+    ghost invariant = { λ v. IsIndex v.bytes.now v.counts v.words.items v.offsets };
 }
 
 /// Where a row of this number begins.
-fn place_in(places: &[u32], number: usize) -> Option<u32>
-    ensures value { result ≡ slice_get places.now number }
+fn offset_in(offsets: &[u32], number: usize) -> Option<u32>
+    ensures value { result ≡ slice_get offsets.now number }
 {
-    places.get(number).copied()
+    offsets.get(number).copied()
 }
 
 /// The index of a table.
@@ -61,7 +61,7 @@ fn index_of(tables: &[TableIndex], table: u8) -> Option<&TableIndex>
 }
 
 /// Where an entry begins.
-fn entry_place(tables: &[TableIndex], table: u8, entry: u16) -> Option<u32>
+fn entry_offset(tables: &[TableIndex], table: u8, entry: u16) -> Option<u32>
     ensures value { result ≡ slice_get (unwrap_or (slice_get (entries_of tables.now) table) []) entry }
 {
     let index = tables.get(table as usize)?;
@@ -89,7 +89,7 @@ impl<'a> View<'a> {
                 bytes,
                 counts: passed.counts,
                 words: passed.words,
-                places: passed.places,
+                offsets: passed.offsets,
             }),
             Err(refusal) => Err(refusal),
         }
@@ -104,16 +104,16 @@ impl<'a> View<'a> {
     }
 
     /// Where a row begins of a part that has texts.
-    fn place(&self, part: GamePart, number: u8) -> Option<u32>
+    fn offset(&self, part: GamePart, number: u8) -> Option<u32>
         ensures value { result ≡ slice_get (rows_begin (game_read self.now) part) number }
     {
-        let places = &self.places;
+        let offsets = &self.offsets;
         let number = number as usize;
         match part {
-            GamePart::System => places.system.get(number).copied(),
-            GamePart::Messages => places.messages.get(number).copied(),
-            GamePart::Objects => places.objects.get(number).copied(),
-            GamePart::Locations => places.locations.get(number).copied(),
+            GamePart::System => offsets.system.get(number).copied(),
+            GamePart::Messages => offsets.messages.get(number).copied(),
+            GamePart::Objects => offsets.objects.get(number).copied(),
+            GamePart::Locations => offsets.locations.get(number).copied(),
             GamePart::Words | GamePart::Exits | GamePart::Tables => None,
         }
     }
@@ -122,9 +122,9 @@ impl<'a> View<'a> {
     pub fn span(&self, part: GamePart, number: u8) -> Option<(usize, usize)>
         ensures value { result ≡ span_at (game_read self.now) part number }
     {
-        let place = self.place(part, number)?;
-        let text = text_in(self.bytes, place)?;
-        let from = place as usize + 2;
+        let offset = self.offset(part, number)?;
+        let text = text_in(self.bytes, offset)?;
+        let from = offset as usize + 2;
         Some((from, from + text.len()))
     }
 
@@ -132,8 +132,8 @@ impl<'a> View<'a> {
     pub fn entry(&self, table: u8, number: u16) -> Option<&'a [u8]>
         ensures value { option_copied result ≡ option_map entry_image (entry_at (game_read self.now) table number) }
     {
-        let place = entry_place(&self.places.tables, table, number)?;
-        entry_in(self.bytes, place)
+        let offset = entry_offset(&self.offsets.tables, table, number)?;
+        entry_in(self.bytes, offset)
     }
 }
 
@@ -145,33 +145,33 @@ impl<'a> Tables for View<'a> {
     }
 
     fn facts(&self, object: u8) -> Option<ObjectFacts> {
-        let place = self.place(GamePart::Objects, object)?;
-        facts_in(self.bytes, place)
+        let offset = self.offset(GamePart::Objects, object)?;
+        facts_in(self.bytes, offset)
     }
 
     fn text(&self, part: GamePart, number: u8) -> Option<&[u8]> {
-        let place = self.place(part, number)?;
-        text_in(self.bytes, place)
+        let offset = self.offset(part, number)?;
+        text_in(self.bytes, offset)
     }
 
     fn exit(&self, location: u8, verb: u8) -> Option<u8> {
-        let place = place_in(&self.places.exits, location as usize)?;
-        exit_at(self.bytes, place, verb)
+        let offset = offset_in(&self.offsets.exits, location as usize)?;
+        exit_at(self.bytes, offset, verb)
     }
 
     fn head(&self, table: u8, entry: u16) -> Option<(u8, u8)> {
-        let place = entry_place(&self.places.tables, table, entry)?;
-        head_in(self.bytes, place)
+        let offset = entry_offset(&self.offsets.tables, table, entry)?;
+        head_in(self.bytes, offset)
     }
 
     fn condact(&self, table: u8, entry: u16, at: u8) -> Option<Condact> {
-        let index = index_of(&self.places.tables, table)?;
-        let place = place_in(&index.entries, entry as usize)?;
-        condact_in(self.bytes, place, index.marks.from_entry(entry), at)
+        let index = index_of(&self.offsets.tables, table)?;
+        let offset = offset_in(&index.entries, entry as usize)?;
+        condact_in(self.bytes, offset, index.marks.from_entry(entry), at)
     }
 
     fn next_match(&self, table: u8, from: u16, verb: u8, noun: u8) -> Option<u16> {
-        let index = index_of(&self.places.tables, table)?;
+        let index = index_of(&self.offsets.tables, table)?;
         next_in(&index.order, from, verb, noun)
     }
 

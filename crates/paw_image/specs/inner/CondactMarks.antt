@@ -2,7 +2,7 @@
 use Rattle.std.specs.Prelude.{◌≡◌, ℕ, suc, ◌*◌, ◌-◌, ◌<◌, List, [], ◌∷◌, length, drop, Some, Ok, slice_get, slice_index}
 use Rattle.paw_image.specs.Damage.{each}
 use Rattle.paw_image.specs.inner.Rows.{past_condact}
-use Rattle.paw_image.specs.declared.places.TableIndex.{TableIndex}
+use Rattle.paw_image.specs.declared.offsets.TableIndex.{TableIndex}
 
 -- bytes are the last of all bytes
 abbrev pub IsEnd : List ℕ → List ℕ → Type 0
@@ -29,9 +29,9 @@ MarkEntry marks (verb ∷ noun ∷ []) = Unit {0}
 MarkEntry marks (verb ∷ noun ∷ count ∷ condacts) = AreMarks marks count condacts
 
 -- the marks of each entry of a table begin at its first one
-abbrev pub MarkEntries : (bytes places firsts marks : List ℕ) → Type 0
-MarkEntries bytes places firsts marks =
-    (e p : ℕ) → slice_get places e ≡ Some p → MarkEntry (drop (slice_index firsts e) marks) (drop p bytes)
+abbrev pub MarkEntries : (bytes offsets firsts marks : List ℕ) → Type 0
+MarkEntries bytes offsets firsts marks =
+    (e p : ℕ) → slice_get offsets e ≡ Some p → MarkEntry (drop (slice_index firsts e) marks) (drop p bytes)
 
 -- the entries of a table that is kept have their marks
 abbrev pub IsMarked : List ℕ → TableIndex → Type 0

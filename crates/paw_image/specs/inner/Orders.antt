@@ -8,7 +8,7 @@ use Rattle.paw_game.specs.Tables.{is_for}
 use Rattle.paw_image.specs.declared.order.Head.{Head}
 use Rattle.paw_image.specs.declared.order.Order.{Order}
 
--- the verb and the noun at each of these places, numbered from n on
+-- the verb and the noun at each of these offsets, numbered from n on
 abbrev pub heads_at : List ℕ → ℕ → List ℕ → List Head
 heads_at bytes n [] = []
 heads_at bytes n (p ∷ ps) =
@@ -51,9 +51,9 @@ pub record IsSorted (order : Order) : Type 0 where
   pub heads : Rises order.heads.items
   pub starts : AreStarts order.heads.items order.starts.items
 
--- the heads at these places, sorted
-pub record IsOrder (bytes places : List ℕ) (order : Order) : Type 0 where
-  pub same : IsPermutation (heads_at bytes 0 places) order.heads.items
+-- the heads at these offsets, sorted
+pub record IsOrder (bytes offsets : List ℕ) (order : Order) : Type 0 where
+  pub same : IsPermutation (heads_at bytes 0 offsets) order.heads.items
   pub sorted : IsSorted order
 
 -- the heads with this verb, in order

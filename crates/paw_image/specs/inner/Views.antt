@@ -8,11 +8,11 @@ use Rattle.paw_game.specs.declared.parts.GamePart.TheVariants as part
 use Rattle.paw_game.specs.Game.{GameLists, counts_of}
 use Rattle.paw_game.specs.Image.{word_image, text_image, object_image, exits_image}
 use Rattle.paw_game.specs.inner.Tables.{text_at}
-use Rattle.paw_image.specs.declared.places.Places.{Places}
+use Rattle.paw_image.specs.declared.offsets.Offsets.{Offsets}
 use Rattle.paw_image.specs.inner.CondactMarks.{IsMarked}
 use Rattle.paw_image.specs.Images.{IsImage}
 use Rattle.paw_image.specs.inner.Orders.{IsOrder}
-use Rattle.paw_image.specs.inner.Places.{places, entry_places, entries_of}
+use Rattle.paw_image.specs.inner.Offsets.{offsets, entry_offsets, entries_of}
 use Rattle.paw_image.specs.inner.Reading.{all_of}
 
 -- the game that was read; one with no rows where none was
@@ -56,10 +56,10 @@ tables_begin_at g = exits_begin g + length (flat_map exits_image g.exits)
 -- where the rows of the parts begin that have texts
 abbrev pub rows_begin : GameLists → GamePart → List ℕ
 rows_begin g part.Words = []
-rows_begin g part.System = places text_image (system_begins g) g.system
-rows_begin g part.Messages = places text_image (messages_begin g) g.messages
-rows_begin g part.Objects = places object_image (objects_begin g) g.objects
-rows_begin g part.Locations = places text_image (locations_begin g) g.locations
+rows_begin g part.System = offsets text_image (system_begins g) g.system
+rows_begin g part.Messages = offsets text_image (messages_begin g) g.messages
+rows_begin g part.Objects = offsets object_image (objects_begin g) g.objects
+rows_begin g part.Locations = offsets text_image (locations_begin g) g.locations
 rows_begin g part.Exits = []
 rows_begin g part.Tables = []
 
@@ -75,15 +75,15 @@ span_at g p n = spanned (slice_get (rows_begin g p) n) (text_at g p n)
 -- ---- what a view keeps ----
 
 -- each table's entries are in order of verb and noun
-abbrev pub AreOrdered : List ℕ → Places → Type 0
+abbrev pub AreOrdered : List ℕ → Offsets → Type 0
 AreOrdered bytes p = AllByRecursion (λ t. IsOrder bytes t.entries.items t.order) p.tables.items
 
 -- each table's entries have their marks
-abbrev pub AreMarked : List ℕ → Places → Type 0
+abbrev pub AreMarked : List ℕ → Offsets → Type 0
 AreMarked bytes p = AllByRecursion (IsMarked bytes) p.tables.items
 
 -- bytes that are the image of a game; its counts and words; where its rows begin; its entries in order, and their marks
-pub record IsIndex (bytes : List ℕ) (counts : Counts) (words : List Word) (p : Places) : Type 0 where
+pub record IsIndex (bytes : List ℕ) (counts : Counts) (words : List Word) (p : Offsets) : Type 0 where
   pub image : IsImage bytes (game_read bytes)
   pub counted : counts ≡ counts_of (game_read bytes)
   pub spelled : words ≡ (game_read bytes).words
@@ -91,7 +91,7 @@ pub record IsIndex (bytes : List ℕ) (counts : Counts) (words : List Word) (p :
   pub messages : p.messages.items ≡ rows_begin (game_read bytes) part.Messages
   pub objects : p.objects.items ≡ rows_begin (game_read bytes) part.Objects
   pub locations : p.locations.items ≡ rows_begin (game_read bytes) part.Locations
-  pub exits : p.exits.items ≡ places exits_image (exits_begin (game_read bytes)) (game_read bytes).exits
-  pub tables : entries_of p.tables.items ≡ entry_places (tables_begin_at (game_read bytes)) (game_read bytes).tables
+  pub exits : p.exits.items ≡ offsets exits_image (exits_begin (game_read bytes)) (game_read bytes).exits
+  pub tables : entries_of p.tables.items ≡ entry_offsets (tables_begin_at (game_read bytes)) (game_read bytes).tables
   pub ordered : AreOrdered bytes p
   pub marked : AreMarked bytes p

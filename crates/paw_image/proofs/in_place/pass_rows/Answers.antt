@@ -18,9 +18,9 @@ loop-preserved g c =
       left = each_goes_on pass c.args.count c.loop.counter c.loop.rest.now _ c.in_ok-rest.rest.now c.loop-test.true
           c.in_ok-rest.ensures.gives c.loop.invariant.left;
       kept = rw (c.in_ok-push.ensures.items, c.saturating_sub.ensures)
-          (begins_go_on pass c.args.total c.loop.places.items c.args.count c.loop.counter c.loop.rest.now _
+          (begins_go_on pass c.args.total c.loop.offsets.items c.args.count c.loop.counter c.loop.rest.now _
           c.in_ok-rest.rest.now c.loop-test.true c.in_ok-rest.ensures.gives c.loop.invariant.kept);
-      many = ap length c.in_ok-push.ensures.items ∙ omega (arith, length-append c.loop.places.items (c.saturating_sub.result ∷ []), c.loop.invariant.many);
+      many = ap length c.in_ok-push.ensures.items ∙ omega (arith, length-append c.loop.offsets.items (c.saturating_sub.result ∷ []), c.loop.invariant.many);
     }
 
 pub returns-clause-gives : goal.returns-clause-gives
@@ -28,7 +28,7 @@ returns-clause-gives g c =
     each_is_done (g.R.InPlace.passing c.args.rules.now) c.args.count c.loop.counter c.loop.rest.now _
     c.loop-test.false c.loop.invariant.left
 
-pub returns-clause-places : goal.returns-clause-places
-returns-clause-places g c =
-    begins_are_done (g.R.InPlace.passing c.args.rules.now) c.args.total c.loop.places.items c.args.count
+pub returns-clause-offsets : goal.returns-clause-offsets
+returns-clause-offsets g c =
+    begins_are_done (g.R.InPlace.passing c.args.rules.now) c.args.total c.loop.offsets.items c.args.count
     c.loop.counter c.loop.rest.now _ c.loop-test.false c.loop.invariant.kept

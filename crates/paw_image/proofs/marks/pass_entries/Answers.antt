@@ -19,7 +19,7 @@ loop-preserved c =
     let all = c.args.all.now in
     let rest = c.loop.rest.now in
     let after = c.in_ok-rest.rest.now in
-    let places = c.loop.places.items in
+    let offsets = c.loop.offsets.items in
     let firsts = c.loop.firsts.items in
     let marks = c.loop.marks.items in
     let more = c.pass_entry.new.marks.items in
@@ -28,24 +28,24 @@ loop-preserved c =
     let place = c.in_ok-push.ensures.items in
     let first = c.in_ok-push-2.ensures.items in
     let len : c.len.result ≡ length marks = omega (arith, c.len.ensures, c.loop.marks.ok.0) in
-    let same : length places ≡ length firsts = inv.many ∙ sym inv.firsts in
+    let same : length offsets ≡ length firsts = inv.many ∙ sym inv.firsts in
     record {
       left = each_goes_on (after_entry d) c.args.count c.loop.counter rest _ after c.loop-test.true gives inv.left;
       kept = rw (place, c.saturating_sub.ensures)
-          (begins_go_on (after_entry d) (length all) places c.args.count c.loop.counter rest _ after c.loop-test.true gives inv.kept);
-      many = ap length place ∙ omega (arith, length-append places (c.saturating_sub.result ∷ []), inv.many);
+          (begins_go_on (after_entry d) (length all) offsets c.args.count c.loop.counter rest _ after c.loop-test.true gives inv.kept);
+      many = ap length place ∙ omega (arith, length-append offsets (c.saturating_sub.result ∷ []), inv.many);
       firsts = ap length first ∙ omega (arith, length-append firsts (c.len.result ∷ []), inv.firsts);
       few = omega (arith, c.in_ok-rest.ensures.few, inv.few);
       end = λ at. entry_end all rest after (λ i. omega (arith, c.type_inv.all i)) (inv.end at) d gives;
       marked = λ at. rw (place, c.saturating_sub.ensures, first, len)
-          (one_more_entry all places firsts marks more (length all - length rest) same (inv.marked at) c.in_ok-rest.ensures.keeps
+          (one_more_entry all offsets firsts marks more (length all - length rest) same (inv.marked at) c.in_ok-rest.ensures.keeps
           (rw (inv.end at) c.in_ok-rest.ensures.marks));
     }
 
 pub returns-clause-gives : goal.returns-clause-gives
 returns-clause-gives c = each_is_done (after_entry c.args.rules.now) c.args.count c.loop.counter c.loop.rest.now _ c.loop-test.false c.loop.invariant.left
 
-pub returns-clause-places : goal.returns-clause-places
-returns-clause-places c =
-    begins_are_done (after_entry c.args.rules.now) (length c.args.all.now) c.loop.places.items c.args.count c.loop.counter c.loop.rest.now _
+pub returns-clause-offsets : goal.returns-clause-offsets
+returns-clause-offsets c =
+    begins_are_done (after_entry c.args.rules.now) (length c.args.all.now) c.loop.offsets.items c.args.count c.loop.counter c.loop.rest.now _
     c.loop-test.false c.loop.invariant.kept

@@ -13,12 +13,12 @@ returns c =
     let up = IsNonDecreasingBy-from_sort_by_key rank _ c.sort_unstable_by_key.ensures.sorted (λ a r q k. search rules) in
     record {
       same = same;
-      rises = sorted_rise c.args.bytes.now c.args.places.now heads (λ i. omega (arith, c.type_inv.bytes i)) c.requires.few same up;
+      rises = sorted_rise c.args.bytes.now c.args.offsets.now heads (λ i. omega (arith, c.type_inv.bytes i)) c.requires.few same up;
       few = omega (
         arith,
         c.sort_unstable_by_key.ensures.len,
         ap length c.in_ok-heads.ensures.value,
-        heads_long c.args.bytes.now 0 c.args.places.now,
+        heads_long c.args.bytes.now 0 c.args.offsets.now,
         c.requires.few,
       );
     }

@@ -6,10 +6,10 @@ use Rattle.paw_image.proofs.PlaceLaws.{exit_there, no_exit}
 use Rattle.paw_image.proofs.ViewLaws.{lists_of}
 use Rattle.paw_image.proofs.view.ViewTables.exit.Goals as goal
 
-pub returns-in_err-place-clause-value : goal.returns-in_err-place-clause-value
-returns-in_err-place-clause-value c =
+pub returns-in_err-offset-clause-value : goal.returns-in_err-offset-clause-value
+returns-in_err-offset-clause-value c =
     let bytes = c.self.inside.bytes.now in
-    let none = ap (λ (ps : List ℕ). slice_get ps c.args.location) (sym (c.deref.ensures.value ∙ c.self.invariant.exits)) ∙ sym c.in_err-place.ensures.value in
+    let none = ap (λ (ps : List ℕ). slice_get ps c.args.location) (sym (c.deref.ensures.value ∙ c.self.invariant.exits)) ∙ sym c.in_err-offset.ensures.value in
     let is = no_exit (game_read bytes) c.args.verb c.args.location none in
     c.from_residual.ensures ∙ sym (rw c.self.view_is at is)
 
@@ -17,10 +17,10 @@ pub returns : goal.returns
 returns c =
     let bytes = c.self.inside.bytes.now in
     let at = ap (λ (ps : List ℕ). slice_get ps c.args.location) (sym (c.deref.ensures.value ∙ c.self.invariant.exits))
-    ∙ sym c.in_ok-place.ensures.value in
+    ∙ sym c.in_ok-offset.ensures.value in
     let there =
     exit_there bytes (game_read bytes) (lists_of bytes c.self.invariant.image) c.args.verb c.args.location
-    c.in_ok-place.place at in
+    c.in_ok-offset.offset at in
     let is = rw c.self.view_is at (c.exit_at.ensures.value ∙ there) in
     let valid = (rw c.self.view_is at c.self.invariant.image).valid in
     let leads = exit-leads (game_read c.args.self.now) valid c.args.location c.args.verb in

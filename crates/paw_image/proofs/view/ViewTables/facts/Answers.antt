@@ -7,8 +7,8 @@ use Rattle.paw_image.proofs.PlaceLaws.{facts_there, no_facts}
 use Rattle.paw_image.proofs.ViewLaws.{fits_of, lists_of}
 use Rattle.paw_image.proofs.view.ViewTables.facts.Goals as goal
 
-pub returns-in_err-place-clause-value : goal.returns-in_err-place-clause-value
-returns-in_err-place-clause-value c = c.from_residual.ensures ∙ sym (no_facts (game_read c.args.self.now) c.args.object (sym c.in_err-place.ensures.value))
+pub returns-in_err-offset-clause-value : goal.returns-in_err-offset-clause-value
+returns-in_err-offset-clause-value c = c.from_residual.ensures ∙ sym (no_facts (game_read c.args.self.now) c.args.object (sym c.in_err-offset.ensures.value))
 
 pub returns : goal.returns
 returns c =
@@ -16,8 +16,8 @@ returns c =
     let g = game_read bytes in
     let image = rw c.self.view_is at c.self.invariant.image in
     let read = rw c.self.view_is at c.facts_in.ensures.value in
-    let place = sym c.in_ok-place.ensures.value in
-    let is = read ∙ facts_there bytes g (lists_of bytes image) (fits_of bytes image) c.args.object c.in_ok-place.place place in
+    let offset = sym c.in_ok-offset.ensures.value in
+    let is = read ∙ facts_there bytes g (lists_of bytes image) (fits_of bytes image) c.args.object c.in_ok-offset.offset offset in
     record {
       value = is;
       weight = IfSome-from (λ (f : ObjectFacts). f.weight ≤ 63) c.facts_in.result _ is

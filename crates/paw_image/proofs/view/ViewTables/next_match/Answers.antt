@@ -3,7 +3,7 @@ use Rattle.std.specs.Prelude.{slice_get}
 use Rattle.paw_game.specs.inner.Tables.{matches_at}
 use Rattle.paw_game.proofs.Kept.{IfSome-from}
 use Rattle.paw_game.proofs.Matches.{match-matches, match-small}
-use Rattle.paw_image.specs.declared.places.TableIndex.{TableIndex}
+use Rattle.paw_image.specs.declared.offsets.TableIndex.{TableIndex}
 use Rattle.paw_image.specs.inner.Views.{game_read}
 use Rattle.paw_image.proofs.OrderLaws.{least_reached}
 use Rattle.paw_image.proofs.ViewLaws.{match_read, no_match_read, ordered_at}

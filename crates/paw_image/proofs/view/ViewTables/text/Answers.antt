@@ -6,16 +6,16 @@ use Rattle.paw_image.proofs.PlaceLaws.{no_text_of_part}
 use Rattle.paw_image.proofs.ViewLaws.{text_read}
 use Rattle.paw_image.proofs.view.ViewTables.text.Goals as goal
 
-pub returns-in_err-place-clause-value : goal.returns-in_err-place-clause-value
-returns-in_err-place-clause-value c =
-    ap option_copied c.from_residual.ensures ∙ sym (no_text_of_part (game_read c.args.self.now) c.args.part c.args.number (sym c.in_err-place.ensures.value))
+pub returns-in_err-offset-clause-value : goal.returns-in_err-offset-clause-value
+returns-in_err-offset-clause-value c =
+    ap option_copied c.from_residual.ensures ∙ sym (no_text_of_part (game_read c.args.self.now) c.args.part c.args.number (sym c.in_err-offset.ensures.value))
 
 pub returns : goal.returns
 returns c =
     let bytes = c.args.self.now in
     let image = rw c.self.view_is at c.self.invariant.image in
     let read = rw c.self.view_is at c.text_in.ensures.value in
-    let is = read ∙ text_read bytes image c.args.part c.args.number c.in_ok-place.place (sym c.in_ok-place.ensures.value) in
+    let is = read ∙ text_read bytes image c.args.part c.args.number c.in_ok-offset.offset (sym c.in_ok-offset.ensures.value) in
     record {
       value = is;
       short = IfSome-copied (λ (text : List ℕ). length text ≤ 4095) c.text_in.result _ is

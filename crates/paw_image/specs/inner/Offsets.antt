@@ -6,8 +6,8 @@ use Rattle.paw_base.specs.declared.parts.Counts.{Counts}
 use Rattle.paw_game.specs.declared.parts.Word.{Word}
 use Rattle.paw_game.specs.declared.parts.Entry.{Entry}
 use Rattle.paw_game.specs.Image.{entry_image, table_image}
-use Rattle.paw_image.specs.declared.places.Places.{Places}
-use Rattle.paw_image.specs.declared.places.TableIndex.{TableIndex}
+use Rattle.paw_image.specs.declared.offsets.Offsets.{Offsets}
+use Rattle.paw_image.specs.declared.offsets.TableIndex.{TableIndex}
 use Rattle.paw_image.specs.inner.CondactMarks.{IsEnd, IsMarked}
 use Rattle.paw_image.specs.Damage.{Declared, Passing, front, each, number_kept, after_text}
 use Rattle.paw_image.specs.Damage.{after_object, after_exits, after_entry, after_table}
@@ -15,14 +15,14 @@ use Rattle.paw_image.specs.inner.Orders.{IsOrder}
 use Rattle.paw_faults.specs.Bind.{◌>>=◌}
 
 -- where rows begin of which the first begins at a place
-abbrev pub places : {A : Type 0} → (A → List ℕ) → ℕ → List A → List ℕ
-places image at [] = []
-places image at (x ∷ xs) = at ∷ places image (at + length (image x)) xs
+abbrev pub offsets : {A : Type 0} → (A → List ℕ) → ℕ → List A → List ℕ
+offsets image at [] = []
+offsets image at (x ∷ xs) = at ∷ offsets image (at + length (image x)) xs
 
 -- where the entries of tables begin of which the first begins at a place; a table begins with a number of two bytes
-abbrev pub entry_places : ℕ → List (List Entry) → List (List ℕ)
-entry_places at [] = []
-entry_places at (es ∷ ess) = places entry_image (at + 2) es ∷ entry_places (at + length (table_image es)) ess
+abbrev pub entry_offsets : ℕ → List (List Entry) → List (List ℕ)
+entry_offsets at [] = []
+entry_offsets at (es ∷ ess) = offsets entry_image (at + 2) es ∷ entry_offsets (at + length (table_image es)) ess
 
 -- ---- as they are gone over ----
 
@@ -66,12 +66,12 @@ to_exits d bytes = to_locations d bytes >>= each after_text d.counts.locations
 abbrev pub to_tables : Declared → List ℕ → Passing
 to_tables d bytes = to_exits d bytes >>= each (after_exits d) d.counts.locations
 
--- the entries of tables that are kept as places
+-- where the entries of each table begin, as it is kept
 abbrev pub entries_of : List TableIndex → List (List ℕ)
 entries_of ts = map (λ t. t.entries.items) ts
 
 -- where the rows of each list begin, as the lists after the words are gone over
-pub record AreGoneOver (d : Declared) (total : ℕ) (bytes : List ℕ) (p : Places) : Type 0 where
+pub record AreGoneOver (d : Declared) (total : ℕ) (bytes : List ℕ) (p : Offsets) : Type 0 where
   pub system : p.system.items ≡ begins after_text total d.counts.system bytes
   pub messages : p.messages.items ≡ on_rest (begins after_text total d.counts.messages) (to_messages d bytes)
   pub objects : p.objects.items ≡ on_rest (begins (after_object d) total d.counts.objects) (to_objects d bytes)
@@ -79,8 +79,8 @@ pub record AreGoneOver (d : Declared) (total : ℕ) (bytes : List ℕ) (p : Plac
   pub exits : p.exits.items ≡ on_rest (begins (after_exits d) total d.counts.locations) (to_exits d bytes)
   pub tables : entries_of p.tables.items ≡ on_rest (tables_begin d total d.counts.tables) (to_tables d bytes)
 
--- the counts, the words and the places that come of the bytes as they are gone over
-pub record IsPassed (bytes : List ℕ) (counts : Counts) (words : List Word) (p : Places) : Type 0 where
+-- the counts, the words and the offsets that come of the bytes as they are gone over
+pub record IsPassed (bytes : List ℕ) (counts : Counts) (words : List Word) (p : Offsets) : Type 0 where
   pub rest : List ℕ
   pub declared : front bytes ≡ Ok (record { counts = counts; words = words }, rest)
   pub over : AreGoneOver (record { counts = counts; words = words }) (length bytes) rest p

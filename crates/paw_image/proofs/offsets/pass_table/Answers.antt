@@ -1,6 +1,6 @@
 use Rattle.std.proofs.Common.{◌<◌, ℕ, get_or, arith}
 use Rattle.paw_image.proofs.EndLaws.{within_end}
-use Rattle.paw_image.proofs.places.pass_table.Goals as goal
+use Rattle.paw_image.proofs.offsets.pass_table.Goals as goal
 
 pub returns-clause-marked : goal.returns-clause-marked
 returns-clause-marked c = λ at.

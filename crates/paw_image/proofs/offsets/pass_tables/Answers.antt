@@ -3,10 +3,10 @@ use Rattle.std.proofs.lemmas.Result.{err_from_is_err_and}
 use Rattle.paw_image.specs.inner.CondactMarks.{IsMarked}
 use Rattle.paw_image.specs.Damage.{after_table}
 use Rattle.paw_image.specs.inner.Orders.{IsOrder}
-use Rattle.paw_image.specs.declared.places.TableIndex.{TableIndex}
+use Rattle.paw_image.specs.declared.offsets.TableIndex.{TableIndex}
 use Rattle.paw_image.proofs.EachLoop.{each_goes_on, each_ends, each_is_done, tables_go_on, tables_are_done, all_more}
 use Rattle.paw_image.proofs.EndLaws.{table_end}
-use Rattle.paw_image.proofs.places.pass_tables.Goals as goal
+use Rattle.paw_image.proofs.offsets.pass_tables.Goals as goal
 
 pub returns-in_err-table-clause-gives : goal.returns-in_err-table-clause-gives
 returns-in_err-table-clause-gives c =

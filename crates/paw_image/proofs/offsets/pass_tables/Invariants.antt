@@ -3,8 +3,8 @@ use Rattle.std.specs.List.{AllByRecursion}
 use Rattle.paw_image.specs.inner.CondactMarks.{IsEnd, IsMarked}
 use Rattle.paw_image.specs.Damage.{each, after_table}
 use Rattle.paw_image.specs.inner.Orders.{IsOrder}
-use Rattle.paw_image.specs.inner.Places.{entries_of, tables_begin}
-use Rattle.paw_image.proofs.places.pass_tables.Given as goal
+use Rattle.paw_image.specs.inner.Offsets.{entries_of, tables_begin}
+use Rattle.paw_image.proofs.offsets.pass_tables.Given as goal
 
 abbrev pub invariant-loop : goal.invariant-loop
 invariant-loop l = record {

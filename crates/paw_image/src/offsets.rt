@@ -5,7 +5,7 @@ ghost use Rattle.std.specs.List.{AllByRecursion};
 ghost use Rattle.paw_image.specs.Damage.{each, after_lists, after_table};
 ghost use Rattle.paw_image.specs.inner.CondactMarks.{IsEnd, IsMarked};
 ghost use Rattle.paw_image.specs.inner.Orders.{IsOrder};
-ghost use Rattle.paw_image.specs.inner.Places.{entries_begin, entries_of, tables_begin, AreGoneOver};
+ghost use Rattle.paw_image.specs.inner.Offsets.{entries_begin, entries_of, tables_begin, AreGoneOver};
 ghost use Rattle.paw_faults.specs.inner.Gives.{Gives};
 ghost use Rattle.paw_image.specs.inner.Views.{AreMarked, AreOrdered};
 
@@ -21,7 +21,7 @@ use std::alloc::Global;
 
 /// Where the rows of each list begin.
 #[derive(Drop)]
-pub struct Places {
+pub struct Offsets {
     pub system: Vec<u32>,
     pub messages: Vec<u32>,
     pub objects: Vec<u32>,
@@ -39,7 +39,7 @@ pub struct TableIndex {
 }
 
 /// Goes over the table at the front of the last of all bytes: its index, and the bytes after it.
-#[tactic(auto, unfolding(crate::specs::Damage::after_table, crate::specs::inner::Places::entries_begin))]
+#[tactic(auto, unfolding(crate::specs::Damage::after_table, crate::specs::inner::Offsets::entries_begin))]
 fn pass_table<'a>(
     alloc: Global,
     rules: &Rules,
@@ -94,7 +94,7 @@ pub fn pass_lists<'a>(
     rules: &Rules,
     all: &[u8],
     bytes: &'a [u8],
-) -> Result<(Places, &'a [u8]), ReadFault>
+) -> Result<(Offsets, &'a [u8]), ReadFault>
     requires small { length all.now < 2 ^ 32 }
     ensures gives { Gives (λ x. x.1.now) result (after_lists rules.now bytes.now) }
     ensures over { IfOk result (λ x. AreGoneOver rules.now (length all.now) bytes.now x.0) }
@@ -121,7 +121,7 @@ pub fn pass_lists<'a>(
     )?;
     let (exits, rest) = pass_rows::<Exits>(alloc, rules, counts.locations as usize, total, rest)?;
     let (tables, rest) = pass_tables(alloc, rules, counts.tables as usize, all, rest)?;
-    let places = Places {
+    let offsets = Offsets {
         system,
         messages,
         objects,
@@ -129,5 +129,5 @@ pub fn pass_lists<'a>(
         exits,
         tables,
     };
-    Ok((places, rest))
+    Ok((offsets, rest))
 }

@@ -1,6 +1,6 @@
 use Rattle.std.proofs.Common.{◌<◌, ℕ, get_or, arith}
 use Rattle.paw_image.proofs.EndLaws.{texts_end, objects_end, exits_end}
-use Rattle.paw_image.proofs.places.pass_lists.Goals as goal
+use Rattle.paw_image.proofs.offsets.pass_lists.Goals as goal
 
 pub returns-clause-marked : goal.returns-clause-marked
 returns-clause-marked c = λ at.
