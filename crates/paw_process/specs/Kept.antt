@@ -4,6 +4,7 @@ use Rattle.std.specs.Prelude.{None, length, reverse, replicate, slice_get, nat_l
 use Rattle.std.specs.Option.{option_or, unwrap_or}
 use Rattle.paw_base.specs.declared.codes.TheConstants.{PROCESS, DOALL}
 use Rattle.paw_base.specs.declared.parts.Condact.{Condact}
+use Rattle.paw_base.specs.declared.tables.TheConstants.{FRAME_TABLE}
 use Rattle.paw_game.specs.Game.{GameLists}
 use Rattle.paw_game.specs.Tables.{condact_at}
 use Rattle.paw_game.specs.Valid.{is_place}
@@ -33,9 +34,9 @@ kept m = frames_at (reverse m.frames) m.turning
 
 -- ---- the rules ----
 
--- the outermost table is 0, 1 or 2; any other is the one that is called
+-- the outermost table is 0, 1 or 2, of which FRAME_TABLE is the last; any other is the one that is called
 abbrev pub may_open : Option ℕ → ℕ → Bool
-may_open None t = nat_le t 2
+may_open None t = nat_le t FRAME_TABLE
 may_open (Some u) t = t == u
 
 -- a condact is there, and has this code

@@ -5,12 +5,13 @@ ghost use Rattle.paw_base.specs.declared.limits.TheConstants.{ENTRY_LIMIT};
 ghost use Rattle.paw_process.specs.inner.Moves.{after_quit, after_key, after_found};
 ghost use Rattle.paw_effects.specs.declared.act.Prompt.TheVariants as prompt;
 
+use paw_base::limits::ENTRY_LIMIT;
 use paw_effects::act::Prompt;
 use paw_phrase::Found;
 use paw_reading::places::Frame;
 
 /// Past the last entry that a table may have.
-pub const PAST_ENTRIES: u16 = 4000;
+pub const PAST_ENTRIES: u16 = ENTRY_LIMIT as u16;
 
 /// The start of a table.
 pub fn start_of(table: u8) -> Frame
@@ -52,7 +53,7 @@ pub fn next_entry(f: Frame) -> Frame
 
 /// Past the table's last entry, with an action carried out: as DONE leaves the table.
 pub fn past_table(f: Frame) -> Frame
-    ensures value { result ≡ record { table = f.table; entry = 4000; at = 0; acted = true } }
+    ensures value { result ≡ record { table = f.table; entry = ENTRY_LIMIT; at = 0; acted = true } }
 {
     Frame {
         table: f.table,

@@ -8,11 +8,16 @@ ghost use Rattle.paw_process.specs.Kept.{loop_fault, count_fits, frames_fault};
 ghost use Rattle.paw_process.specs.inner.Kept.{waiting_at};
 
 use crate::machine::MOST_FRAMES;
-use paw_base::codes::{DOALL, PROCESS};
+use paw_base::codes::{ANYKEY, DOALL, END, PROCESS, QUIT};
 use paw_base::parts::Condact;
+use paw_base::places::{CARRIED_PLACE, NOT_CREATED_PLACE};
+use paw_base::tables::FRAME_TABLE;
 use paw_effects::act::Prompt;
 use paw_game::tables::Tables;
 use paw_reading::places::{Frame, OpenLoop};
+
+/// As many tables as may be open at once, as a byte; the depth behind all rows too.
+const MOST_OPEN: u8 = MOST_FRAMES as u8;
 
 /// Places of a machine that waits, as they are kept: how many tables are open, their frames, the outermost first and
 /// the rows behind them unused, and the open loop.
@@ -35,9 +40,9 @@ pub fn waiting_code(prompt: Prompt) -> Option<u8>
     ensures value { result ≡ waiting_code prompt }
 {
     match prompt {
-        Prompt::Quit => Some(27),
-        Prompt::Again => Some(31),
-        Prompt::Key => Some(35),
+        Prompt::Quit => Some(QUIT),
+        Prompt::Again => Some(END),
+        Prompt::Key => Some(ANYKEY),
         Prompt::Main | Prompt::Over => None,
     }
 }
@@ -57,7 +62,7 @@ pub fn may_open(caller: Option<u8>, table: u8) -> bool
     ensures value { result ≡ may_open caller table }
 {
     match caller {
-        None => table <= 2,
+        None => table <= FRAME_TABLE,
         Some(called) => table == called,
     }
 }
@@ -129,7 +134,7 @@ fn rows_fault<T: Tables>(
 pub fn is_place(locations: u16, place: u8) -> bool
     ensures value { result ≡ is_place locations place }
 {
-    u16::from(place) < locations || (252 <= place && place <= 254)
+    u16::from(place) < locations || (NOT_CREATED_PLACE <= place && place <= CARRIED_PLACE)
 }
 
 /// Whether the row of this level is of this table.
@@ -159,7 +164,7 @@ fn loop_fault<T: Tables>(tables: &T, kept: &Frames) -> Option<u8>
     ensures value { result ≡ loop_fault (T.game tables.now) kept.now kept.now.turning }
 {
     match kept.turning {
-        Some(l) if !loop_stands(tables, kept, l) => Some(11),
+        Some(l) if !loop_stands(tables, kept, l) => Some(MOST_OPEN),
         _ => None,
     }
 }
@@ -170,7 +175,7 @@ pub fn count_fits(code: Option<u8>, count: u8) -> bool
 {
     match code {
         None => count == 0,
-        Some(_) => 0 < count && count <= 11,
+        Some(_) => 0 < count && count <= MOST_OPEN,
     }
 }
 

@@ -9,6 +9,7 @@ ghost use Rattle.paw_effects.specs.declared.act.Prompt.TheVariants as prompt;
 ghost use Rattle.paw_reading.specs.Reading.{step_at};
 ghost use Rattle.paw_reading.specs.Turn.{first_table};
 ghost use Rattle.paw_reading.specs.inner.Places.{ArePlaces};
+ghost use Rattle.paw_process.specs.declared.machine.TheConstants.{MOST_FRAMES};
 ghost use Rattle.paw_process.specs.OpenTables.{OpenTables};
 ghost use Rattle.paw_process.specs.inner.OpenTables.{below, ReadsStep, IsReading, IsClosed};
 ghost use Rattle.paw_process.specs.inner.OpenTables.{new_machine, refilled, table_begun};
@@ -23,7 +24,7 @@ use crate::frame::{answered, start_of};
 use crate::kept::{FrameFault, Frames, frames_fault, waiting_at};
 use crate::situation::Situation;
 use crate::step::Rulebook;
-use paw_base::limits::READ_LIMIT;
+use paw_base::limits::{LEVEL_LIMIT, READ_LIMIT};
 use paw_base::parts::Condact;
 use paw_base::steps::{StepRow, Steps};
 use paw_effects::act::Prompt;
@@ -32,8 +33,8 @@ use paw_reading::places::{Frame, OpenLoop};
 use paw_routines::routines::Routines;
 use std::marker::Model;
 
-/// Tables that may be open at once: one, and ten levels of calls.
-pub const MOST_FRAMES: usize = 11;
+/// Tables that may be open at once: one, and the levels of calls.
+pub const MOST_FRAMES: usize = LEVEL_LIMIT + 1;
 
 /// Reads a game's tables in written order, up to the next stop. It holds the places in the tables that are open, the
 /// open loop, how many condacts the open piece may still read, and the steps of that piece; contracts see the places
@@ -224,7 +225,7 @@ impl Machine {
     /// How many tables are open.
     pub(crate) fn depth(&self) -> usize
         ensures value { result ≡ length self.now.frames }
-        ensures room { result ≤ 11 }
+        ensures room { result ≤ MOST_FRAMES }
     {
         self.count
     }
@@ -247,7 +248,7 @@ impl Machine {
 
     /// A table is opened above the others.
     pub(crate) fn push(&mut self, f: Frame)
-        requires room { length self.old.frames < 11 }
+        requires room { length self.old.frames < MOST_FRAMES }
         ensures value { self.new ≡ record self.old { frames = f ∷ self.old.frames } }
     {
         self.rows[self.count] = f;

@@ -1,5 +1,6 @@
 -- What each move of the machine makes of the reading.
 use Rattle.std.specs.Prelude.{◌≡◌, ℕ, suc, ◌+◌, ◌++◌, Bool, true, false, List, Option, Some, None, length}
+use Rattle.paw_base.specs.declared.limits.TheConstants.{ENTRY_LIMIT}
 use Rattle.paw_base.specs.declared.parts.Condact.{Condact}
 use Rattle.paw_effects.specs.Story.{Story}
 use Rattle.paw_world.specs.World.{World}
@@ -86,7 +87,7 @@ ReadsOne g fs f c old t new =
 -- where reading goes on after QUIT's question: at yes at the next condact, at no past the table, as after DONE
 abbrev pub after_quit : Bool → Frame → Frame
 after_quit true f = record f { at = f.at + 1 }
-after_quit false f = record { table = f.table; entry = 4000; at = 0; acted = true }
+after_quit false f = record { table = f.table; entry = ENTRY_LIMIT; at = 0; acted = true }
 
 -- after a key reading goes on at the next condact, with an action carried out
 abbrev pub after_key : Frame → Frame

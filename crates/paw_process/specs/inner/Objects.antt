@@ -1,5 +1,6 @@
 -- The objects that a loop takes.
 use Rattle.std.specs.Prelude.{ℕ, zero, suc, ◌-◌, ◌==◌, ◌&&◌, Bool, Option, Some, None, length, if◌then◌else◌}
+use Rattle.paw_base.specs.declared.flags.TheConstants.{LOOP_FLAG}
 use Rattle.paw_game.specs.Game.{GameLists}
 use Rattle.paw_game.specs.Tables.{facts_at}
 use Rattle.paw_world.specs.World.{World, place, with_flag}
@@ -18,4 +19,4 @@ least_taken g w p (suc n) =
 
 -- the world once a loop has taken an object
 abbrev pub with_taken : GameLists → World → ℕ → World
-with_taken g w o = referred (with_flag (named w (facts_at g o)) 50 o) o
+with_taken g w o = referred (with_flag (named w (facts_at g o)) LOOP_FLAG o) o

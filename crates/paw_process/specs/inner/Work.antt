@@ -1,5 +1,6 @@
 -- What is left to do between two condacts that are read.
-use Rattle.std.specs.Prelude.{◌≡◌, ℕ, ◌+◌, ◌-◌, ◌*◌, ◌<◌, List, [], ◌∷◌, Option, Some, None}
+use Rattle.std.specs.Prelude.{◌≡◌, ℕ, suc, ◌+◌, ◌-◌, ◌*◌, ◌<◌, List, [], ◌∷◌, Option, Some, None}
+use Rattle.paw_base.specs.declared.limits.TheConstants.{ENTRY_LIMIT}
 use Rattle.paw_reading.specs.declared.places.Frame.{Frame}
 use Rattle.paw_reading.specs.declared.places.OpenLoop.{OpenLoop}
 use Rattle.paw_process.specs.OpenTables.{OpenTables}
@@ -7,7 +8,7 @@ use Rattle.paw_process.specs.OpenTables.{OpenTables}
 -- the entries that are left in each open table
 abbrev pub frames_work : List Frame → ℕ
 frames_work [] = 0
-frames_work (f ∷ fs) = (4001 - f.entry) + 1 + frames_work fs
+frames_work (f ∷ fs) = (suc ENTRY_LIMIT - f.entry) + 1 + frames_work fs
 
 -- the objects that are left in the open loop
 abbrev pub loop_work : Option OpenLoop → ℕ
