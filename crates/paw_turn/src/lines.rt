@@ -1,6 +1,7 @@
 // The lines that a player takes.
 
 ghost use Rattle.std.specs.Prelude.{◌≡◌, ◌+◌, ◌<◌, ◌≤◌, ℕ, List, false, length, reverse};
+ghost use Rattle.paw_base.specs.declared.limits.TheConstants.{LINE_LIMIT};
 ghost use Rattle.paw_routines.specs.Routines.{HaveRows};
 ghost use Rattle.paw_effects.specs.Story.{story_of};
 ghost use Rattle.paw_effects.specs.declared.act.Prompt.TheVariants as prompt;
@@ -62,7 +63,7 @@ impl Turn {
     /// Takes a line that isn't ignored at the main prompt: at a timeout message 35 is said, and the frame comes; any
     /// other line is pending now.
     fn hear_line<T: Tables>(&mut self, tables: &T, line: &[u8]) -> Next
-        requires line { length line.now ≤ 255 }
+        requires line { length line.now ≤ LINE_LIMIT }
         requires heard { is_ignored self.old.situation.world line.now ≡ false }
         requires playable { IsPlayable (T.game tables.now) self.old }
         requires closed { IsClosed self.old.machine }
@@ -110,7 +111,7 @@ impl Turn {
 impl<T: Tables, F: Fn(u8, u8) -> u8> Rulebook<'_, T, F> {
     /// Takes a line at a prompt, and plays on to the next one or to the end.
     pub(crate) fn take(&self, held: &mut Turn, prompt: Prompt, line: &[u8]) -> Step
-        requires line { length line.now ≤ 255 }
+        requires line { length line.now ≤ LINE_LIMIT }
         requires rows { HaveRows F.Fn self.now.routines.now }
         requires ready { MayHear (T.game self.now.tables.now) prompt held.old }
         ensures meaning { InStories F.Fn self.now.routines.now (T.game self.now.tables.now) (λ g.
@@ -125,7 +126,7 @@ impl<T: Tables, F: Fn(u8, u8) -> u8> Rulebook<'_, T, F> {
 
     /// Takes a line at a prompt. One that is ignored changes nothing.
     fn hear(&self, held: &mut Turn, prompt: Prompt, line: &[u8]) -> Next
-        requires line { length line.now ≤ 255 }
+        requires line { length line.now ≤ LINE_LIMIT }
         requires rows { HaveRows F.Fn self.now.routines.now }
         requires ready { MayHear (T.game self.now.tables.now) prompt held.old }
         ensures meaning { InStories F.Fn self.now.routines.now (T.game self.now.tables.now) (λ g.

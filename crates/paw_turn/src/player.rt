@@ -1,8 +1,7 @@
 // A player of a game.
 
 ghost use Rattle.std.specs.Prelude.{◌≡◌, ℕ, ◌+◌, ◌<◌, ◌≤◌, ◌^◌, List, [], ◌∷◌, None, length, reverse, IfOk};
-ghost use Rattle.paw_base.specs.declared.limits.TheConstants.{READ_LIMIT};
-ghost use Rattle.paw_base.specs.declared.limits.TheConstants.{PIECE_LIMIT};
+ghost use Rattle.paw_base.specs.declared.limits.TheConstants.{LINE_LIMIT, PIECE_LIMIT, READ_LIMIT};
 ghost use Rattle.paw_routines.specs.Routines.{AreRowsOf, HaveRows};
 ghost use Rattle.paw_effects.specs.Story.{story_of};
 ghost use Rattle.paw_effects.specs.declared.act.Prompt.{Prompt as AtPrompt};
@@ -168,7 +167,7 @@ impl<'a, T: Tables, F: Fn(u8, u8) -> u8> Player<'a, T, F> {
     pub fn take(&mut self, line: &[u8]) -> Step
         requires seated { IsSeated self.old }
         requires rows { HaveRows F.Fn self.old.routines }
-        requires line { length line.now ≤ 255 }
+        requires line { length line.now ≤ LINE_LIMIT }
         requires draws { self.old.world.draws + READ_LIMIT < 2 ^ 64 }
         ensures last { self.new.last ≡ result }
         ensures game { self.new.game ≡ self.old.game }

@@ -3,6 +3,7 @@
 ghost use Rattle.std.specs.Prelude.{◌≡◌, suc, ◌+◌, ◌*◌, ◌<◌, ◌≤◌, ℕ, List, [], length, None};
 ghost use Rattle.std.specs.Prelude.{false};
 ghost use Rattle.paw_base.specs.declared.limits.TheConstants.{PIECE_LIMIT};
+ghost use Rattle.paw_base.specs.declared.words.TheConstants.{NO_WORD};
 ghost use Rattle.paw_base.specs.inner.Piece.{Puts};
 ghost use Rattle.paw_game.specs.Valid.{Valid};
 ghost use Rattle.paw_phrase.specs.Sentence.{IsNoPhrase};
@@ -81,7 +82,7 @@ impl Turn {
     pub(crate) fn new<T: Tables>(tables: &T, seed: u64, piece: Piece) -> Turn
         ensures valid { Valid (T.game tables.now) }
         ensures world { result.situation.world ≡ opening_world (T.game tables.now) seed }
-        ensures pending { result.situation.pending ≡ record { bytes = []; earlier = 255 } }
+        ensures pending { result.situation.pending ≡ record { bytes = []; earlier = NO_WORD } }
         ensures machine { result.machine ≡ new_machine }
         ensures piece { result.situation.piece ≡ piece }
     {
@@ -98,7 +99,7 @@ impl Turn {
     /// Goes back to the start of a game, with an empty piece.
     pub(crate) fn renew<T: Tables>(&mut self, tables: &T, seed: u64)
         ensures world { self.new.situation.world ≡ opening_world (T.game tables.now) seed }
-        ensures pending { self.new.situation.pending ≡ record { bytes = []; earlier = 255 } }
+        ensures pending { self.new.situation.pending ≡ record { bytes = []; earlier = NO_WORD } }
         ensures machine { self.new.machine ≡ new_machine }
         ensures piece { self.new.situation.piece ≡ [] }
     {

@@ -12,6 +12,7 @@ use Rattle.paw_effects.specs.Story.{Story}
 use Rattle.paw_reading.specs.Run.{Step as Read}
 use Rattle.paw_reading.specs.Turn.{on}
 use Rattle.paw_reading.specs.Bounds.{IsLine}
+use Rattle.paw_process.specs.declared.machine.TheConstants.{MOST_FRAMES}
 use Rattle.paw_process.specs.OpenTables.{OpenTables}
 use Rattle.paw_process.specs.Kept.{kept, frames_fault}
 use Rattle.paw_process.specs.inner.OpenTables.{refilled}
@@ -66,7 +67,7 @@ pub record IsPending (m : OpenTables) (p : PendingLine) : Type 0 where
 abbrev pub RestoredFits : Type 0
 RestoredFits =
     (g : GameLists) (at : Prompt) (k : Frames) (w : World) (m : OpenTables) (p : PendingLine) →
-    IsWorldOf g w → IsPending m p → length k.rows ≡ 11 →
+    IsWorldOf g w → IsPending m p → length k.rows ≡ MOST_FRAMES →
     m ≡ restored k (waiting_at at) → MachineStandsAt at m → frames_fault g at k ≡ None → Fits g w m p at
 
 -- the player that stands with what is kept of a player's machine, and with its other parts

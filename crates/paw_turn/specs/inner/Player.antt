@@ -1,5 +1,6 @@
 -- What a player's answers mean in the reading.
 use Rattle.std.specs.Prelude.{◌≡◌, ℕ, List, [], ◌∷◌, ◌++◌, reverse}
+use Rattle.paw_base.specs.declared.words.TheConstants.{NO_WORD}
 use Rattle.paw_base.specs.inner.Steps.{kept_steps}
 use Rattle.paw_game.specs.Game.{GameLists}
 use Rattle.paw_game.specs.Valid.{Valid}
@@ -124,6 +125,6 @@ pub record IsSeated {F : Type 0} (p : Seat F) : Type 0 where
 -- a player that is new: the game is at its start, and no piece was made
 pub record IsNew {F : Type 0} (p : Seat F) (seed : ℕ) : Type 0 where
   pub world : p.world ≡ opening_world p.game seed
-  pub pending : p.pending ≡ record { bytes = []; earlier = 255 }
+  pub pending : p.pending ≡ record { bytes = []; earlier = NO_WORD }
   pub machine : p.machine ≡ new_machine
   pub piece : p.piece ≡ []
