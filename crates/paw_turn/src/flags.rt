@@ -7,8 +7,8 @@ ghost use Rattle.paw_reading.specs.Turn.{described, framed, counted};
 ghost use Rattle.paw_turn.specs.inner.Stages.{ChangesFlags};
 
 use paw_base::flags::{
-    DARK_FLAG, DARK_FRAME_FLAG, DARK_VIEW_FLAG, FIRST_FRAME_FLAG, HIGH_TURNS_FLAG, LOW_TURNS_FLAG,
-    TIMED_OUT_BIT, TIMED_OUT_FLAG, UNLIT_FRAME_FLAG, UNLIT_VIEW_FLAG, VIEW_FLAG,
+    DARK_FLAG, DARK_FRAME_FLAG, DARK_VIEW_FLAG, FIRST_FRAME_FLAG, HIGH_TURNS_FLAG, LAST_FRAME_FLAG,
+    LOW_TURNS_FLAG, TIMED_OUT_BIT, TIMED_OUT_FLAG, UNLIT_FRAME_FLAG, UNLIT_VIEW_FLAG, VIEW_FLAG,
 };
 use paw_effects::counts::turns_taken;
 use paw_effects::presence::is_lit;
@@ -67,9 +67,9 @@ pub(crate) fn frame(world: &mut World)
     ensures only { ChangesFlags world.old world.new }
 {
     fall(world, FIRST_FRAME_FLAG);
-    fall(world, FIRST_FRAME_FLAG + 1);
-    fall(world, FIRST_FRAME_FLAG + 2);
-    fall(world, FIRST_FRAME_FLAG + 3);
+    fall(world, 6);
+    fall(world, 7);
+    fall(world, LAST_FRAME_FLAG);
     fall_in_dark(world, DARK_FRAME_FLAG, UNLIT_FRAME_FLAG);
 }
 
