@@ -1,6 +1,7 @@
 -- A new session, from the attach of its store to its first prompt.
 use Rattle.std.proofs.Common.{◌≡◌, ◌≢◌, ℕ, ◌+◌, List, [], ◌++◌, Option, Some, None, refl, sym, ap, ◌∙◌, subst, take, drop, length, arith, inl, inr, ◌⊎◌}
 use Rattle.std.proofs.lemmas.List.{take-append-drop}
+use Rattle.paw_base.specs.declared.limits.TheConstants.{EVENT_LIMIT}
 use Rattle.paw_stage.specs.Disk.{IsStable}
 use Rattle.paw_stage.specs.Stage.{Standing}
 use Rattle.paw_stage.specs.Moments.{Moment, InShow}
@@ -17,7 +18,6 @@ use Rattle.paw_journal.specs.inner.Store.{IsBeside, InStore, Leaves}
 use Rattle.paw_journal.specs.Journal.{IsWriting}
 use Rattle.paw_play.specs.declared.PlayEnd.{PlayEnd}
 use Rattle.paw_play.specs.declared.PlayEnd.TheVariants as end
-use Rattle.paw_play.specs.declared.TheConstants.{MOST_EVENTS}
 use Rattle.paw_play.specs.Walk.{Walks}
 use Rattle.paw_play.specs.Keeping.{StaysAttached}
 use Rattle.paw_play.specs.Play.{PlayedSession, KeepsLines, InPlay, with_store}
@@ -151,21 +151,21 @@ module _ {F : Type 0} {g : Story} {s : PlayedSession} {first kept : Standing} {n
     begins_to a new None digest told = record {
       walking = subst (λ (q : Standing). IsWalking Plain g s.whole q new next 0)
           (store_is new (kept.shown ++ next.piece) told.2)
-          (walk_begins Plain g s.whole MOST_EVENTS kept new next found None b.seated b.last b.plays told);
+          (walk_begins Plain g s.whole EVENT_LIMIT kept new next found None b.seated b.last b.plays told);
       rests = rests_then new (kept.shown ++ next.piece) told.2;
       digest = ap (λ (q : Standing). kept_digest q.disk.bytes) told.2 ∙ digest;
       last = next.piece;
       grown = text_is;
     }
     begins_to a new (Some end.Ended) digest told = record {
-      shows = subst (λ (q : Standing). Walks s.whole MOST_EVENTS q new end.Ended)
+      shows = subst (λ (q : Standing). Walks s.whole EVENT_LIMIT q new end.Ended)
           (store_is new (kept.shown ++ next.piece) told.1)
-          (walk_begins Plain g s.whole MOST_EVENTS kept new next found (Some end.Ended) b.seated b.last b.plays told);
+          (walk_begins Plain g s.whole EVENT_LIMIT kept new next found (Some end.Ended) b.seated b.last b.plays told);
       session = (0, asked_is new (kept.shown ++ next.piece) told.1, rests_then new (kept.shown ++ next.piece) told.1);
     }
     begins_to a new (Some (end.Outside call.Show)) digest told = record {
-      shows = subst (λ (q : Standing). Walks s.whole MOST_EVENTS q new (end.Outside call.Show)) (store_is new (kept.shown ++ take told.2 next.piece) told.3)
-          (walk_begins Plain g s.whole MOST_EVENTS kept new next found (Some (end.Outside call.Show)) b.seated b.last b.plays told);
+      shows = subst (λ (q : Standing). Walks s.whole EVENT_LIMIT q new (end.Outside call.Show)) (store_is new (kept.shown ++ take told.2 next.piece) told.3)
+          (walk_begins Plain g s.whole EVENT_LIMIT kept new next found (Some (end.Outside call.Show)) b.seated b.last b.plays told);
       session = (0, asked_is new (kept.shown ++ take told.2 next.piece) told.3, rests_then new (kept.shown ++ take told.2 next.piece) told.3);
     }
     begins_to a new (Some (end.Spent kind)) digest told = absurd (subst ShowsPiece told.0 b.shows)

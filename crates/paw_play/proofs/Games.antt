@@ -2,6 +2,7 @@
 use Rattle.std.proofs.Common.{◌≡◌, ◌⊎◌, inl, inr, ℕ, ◌+◌, ◌≤◌, List, [], length, take, refl, ◌∙◌, subst, arith}
 use Rattle.std.proofs.lemmas.List.{length-map, length-take-le}
 use Rattle.sha2.specs.Sha256.{sha256}
+use Rattle.paw_base.specs.declared.limits.TheConstants.{EVENT_LIMIT}
 use Rattle.paw_effects.specs.Story.{Story}
 use Rattle.paw_game.specs.Image.{image}
 use Rattle.paw_stage.specs.Stage.{Standing}
@@ -9,7 +10,6 @@ use Rattle.paw_stage.specs.Moments.{Moment}
 use Rattle.paw_reading.specs.Turn.{reading, text_of}
 use Rattle.paw_journal.specs.Session.{recover}
 use Rattle.paw_play.specs.declared.PlayEnd.{PlayEnd}
-use Rattle.paw_play.specs.declared.TheConstants.{MOST_EVENTS}
 use Rattle.paw_play.specs.Session.{IsKept}
 use Rattle.paw_play.specs.Walk.{first_lines}
 use Rattle.paw_play.specs.Stands.{StandsFor, text_since}
@@ -23,7 +23,7 @@ count_lines n lines there = length-map (take n lines) (take 255) ∙ length-take
 
 module _ (g : Story) (seed : ℕ) (digest name : List ℕ) (is : digest ≡ sha256 (image g.game)) (lines : List (List ℕ)) where
   -- what a new session keeps stands for its lines
-  new_stands : (n : ℕ) (bytes : List ℕ) → n ≤ length lines → 0 + n ≤ MOST_EVENTS →
+  new_stands : (n : ℕ) (bytes : List ℕ) → n ≤ length lines → 0 + n ≤ EVENT_LIMIT →
       KeptBy (new_session g seed digest name) lines n bytes → StandsFor g seed [] lines n bytes
   new_stands n bytes there few kept =
       let count : length (first_lines n lines) ≡ n = count_lines n lines there in

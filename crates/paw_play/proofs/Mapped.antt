@@ -1,11 +1,11 @@
 -- What is said of a session by what its store keeps, in other words.
 use Rattle.std.proofs.Common.{◌≡◌, ◌≢◌, inl, inr, ℕ, zero, suc, ◌+◌, ◌≤◌, List, ◌++◌, length, refl, ap, ◌∙◌, arith}
+use Rattle.paw_base.specs.declared.limits.TheConstants.{EVENT_LIMIT}
 use Rattle.paw_stage.specs.Stage.{Standing}
 use Rattle.paw_stage.specs.Moments.{Moment}
 use Rattle.paw_stage.specs.declared.StageCall.TheVariants as call
 use Rattle.paw_play.specs.declared.PlayEnd.{PlayEnd}
 use Rattle.paw_play.specs.declared.PlayEnd.TheVariants as end
-use Rattle.paw_play.specs.declared.TheConstants.{MOST_EVENTS}
 use Rattle.paw_play.specs.Walk.{EndingOf, told_before}
 use Rattle.paw_play.specs.Keeping.{AgreesWith, KeepsUpWith, InSession, InMakingOf, RestsWith, KeepsAll, KeepsAllButLast, LeavesStore}
 use Rattle.paw_play.specs.Play.{PlaysWith, PlaysIn, memory, spent, too_deep, unmade, plays, with_store}
@@ -36,7 +36,7 @@ in_session_as Kept By told by past name first old same others m i said keeps = r
 }
 
 module _ (Kept By : ℕ → List ℕ → Type 0) (past : ℕ) (name : List ℕ) (old : Standing)
-    (so : (n : ℕ) (bytes : List ℕ) → n ≤ length old.lines → past + n ≤ MOST_EVENTS → Kept n bytes → By n bytes) where
+    (so : (n : ℕ) (bytes : List ℕ) → n ≤ length old.lines → past + n ≤ EVENT_LIMIT → Kept n bytes → By n bytes) where
   rests_by : (new : Standing) (n : ℕ) → RestsWith Kept past name old new n → RestsWith By past name old new n
   rests_by new n r = rests_as Kept By past name old new new n new.lines new.asked new.shown refl (so n new.disk.bytes r.there r.few) r
 
@@ -65,11 +65,11 @@ module _ (Kept By : ℕ → List ℕ → Type 0) (past : ℕ) (name : List ℕ) 
   -- ---- moments ----
 
   module _ (told by : ℕ → List ℕ) (same : (n : ℕ) → told n ≡ by n) where
-    agrees_by : (n : ℕ) (text bytes : List ℕ) → n ≤ length old.lines → past + n ≤ MOST_EVENTS →
+    agrees_by : (n : ℕ) (text bytes : List ℕ) → n ≤ length old.lines → past + n ≤ EVENT_LIMIT →
         AgreesWith Kept told n text bytes → AgreesWith By by n text bytes
     agrees_by n text bytes there few a = (so n bytes there few a.0, (a.1.0, a.1.1 ∙ same n))
 
-    keeps_up_by : (n : ℕ) (text bytes : List ℕ) → n ≤ length old.lines → past + n ≤ MOST_EVENTS →
+    keeps_up_by : (n : ℕ) (text bytes : List ℕ) → n ≤ length old.lines → past + n ≤ EVENT_LIMIT →
         KeepsUpWith Kept told n text bytes → KeepsUpWith By by n text bytes
     keeps_up_by zero text bytes there few k = agrees_by zero text bytes there few k
     keeps_up_by (suc n) text bytes there few (inl k) = inl (agrees_by (suc n) text bytes there few k)
@@ -83,7 +83,7 @@ module _ (Kept By : ℕ → List ℕ → Type 0) (past : ℕ) (name : List ℕ) 
 -- ---- a new session ----
 
 module _ (Kept By : ℕ → List ℕ → Type 0) (name : List ℕ) (old : Standing)
-    (so : (n : ℕ) (bytes : List ℕ) → n ≤ length old.lines → 0 + n ≤ MOST_EVENTS → Kept n bytes → By n bytes) where
+    (so : (n : ℕ) (bytes : List ℕ) → n ≤ length old.lines → 0 + n ≤ EVENT_LIMIT → Kept n bytes → By n bytes) where
   pub making_by : (m : Moment) → InMakingOf Kept name old m → InMakingOf By name old m
   making_by m i = record {
     asked = i.asked;
@@ -101,4 +101,4 @@ module _ (Kept By : ℕ → List ℕ → Type 0) (name : List ℕ) (old : Standi
   plays_in_by whole new _ (spent kind r is e) = spent kind r is e
   plays_in_by whole new _ (too_deep table r is e) = too_deep table r is e
   plays_in_by whole new _ (unmade c writes e stays) = unmade c writes e stays
-  plays_in_by whole new _ (plays o p) = plays o (plays_by Kept By 0 name old so whole MOST_EVENTS new o p)
+  plays_in_by whole new _ (plays o p) = plays o (plays_by Kept By 0 name old so whole EVENT_LIMIT new o p)

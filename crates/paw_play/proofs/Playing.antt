@@ -4,6 +4,7 @@ use Rattle.std.proofs.Common.{length, take, drop, arith, append_assoc, inl, inr}
 use Rattle.std.proofs.lemmas.List.{append-nil, take-append-drop}
 use Rattle.std.specs.Prelude.{reverse}
 use Rattle.std.specs.List.{concat}
+use Rattle.paw_base.specs.declared.limits.TheConstants.{EVENT_LIMIT}
 use Rattle.paw_stage.specs.Disk.{MayLeave, IsStable}
 use Rattle.paw_stage.specs.Stage.{Standing, AsksTo}
 use Rattle.paw_stage.specs.Moments.{Moment, moment_of, InAsk, InShow}
@@ -22,7 +23,6 @@ use Rattle.paw_journal.specs.inner.Store.{IsBeside, InStore, Leaves, IsEither}
 use Rattle.paw_journal.specs.Journal.{IsWriting}
 use Rattle.paw_play.specs.declared.PlayEnd.{PlayEnd}
 use Rattle.paw_play.specs.declared.PlayEnd.TheVariants as end
-use Rattle.paw_play.specs.declared.TheConstants.{MOST_EVENTS}
 use Rattle.paw_play.specs.Walk.{first_lines, advanced, Walks}
 use Rattle.paw_play.specs.Keeping.{IsPart, AgreesWith, KeepsUpWith, StaysAttached, KeepsAllButLast}
 use Rattle.paw_play.specs.Play.{PlayedSession, KeepsLines, KeptBy, InPlay, with_store, Uncommitted, PlaysOn}
@@ -92,7 +92,7 @@ at_prompt g s first now seat n w seated = record {
 
 -- inside an ask that takes a line
 line_asked : {F : Type 0} (g : Story) (s : PlayedSession) (first now : Standing) (seat : Seat F) (n : ℕ) →
-    IsPlaying g s first now seat n → IsSeated seat → suc n ≤ length first.lines → s.before + suc n ≤ MOST_EVENTS →
+    IsPlaying g s first now seat n → IsSeated seat → suc n ≤ length first.lines → s.before + suc n ≤ EVENT_LIMIT →
     InPlay s first (record (moment_of now) { asked = now.asked + 1 })
 line_asked g s first now seat n w seated there few = record {
   taken = suc n;
@@ -115,7 +115,7 @@ is_there g s first now mid seat n line w e =
 
 -- inside an ask
 pub in_ask : {F : Type 0} {g : Story} {s : PlayedSession} {first now : Standing} {seat : Seat F} {n : ℕ} (w : IsPlaying g s first now seat n) (mid : Standing)
-    (a : Asked) (into : List ℕ) → IsSeated seat → s.before + suc n ≤ MOST_EVENTS → AsksTo now mid a into → (m : Moment) → InAsk now a m → InPlay s first m
+    (a : Asked) (into : List ℕ) → IsSeated seat → s.before + suc n ≤ EVENT_LIMIT → AsksTo now mid a into → (m : Moment) → InAsk now a m → InPlay s first m
 in_ask {F} {g} {s} {first} {now} {seat} {n} w mid (asked.Line k) into seated few asks m (inl e) =
     subst (InPlay s first) (sym e) (at_prompt g s first now seat n w seated)
 in_ask {F} {g} {s} {first} {now} {seat} {n} w mid (asked.Line k) into seated few asks m (inr e) =
@@ -147,13 +147,13 @@ pub record Taken {F : Type 0} (g : Story) (s : PlayedSession) (most n events : �
       found next w.walking.pieces w.walking.traces
   pub shows : ShowsPiece found
   pub counts : events ≡ s.before + suc n
-  pub fit : events ≤ MOST_EVENTS
+  pub fit : events ≤ EVENT_LIMIT
 
 pub taken : {F : Type 0} (g : Story) (s : PlayedSession) (most n events : ℕ) (first now mid : Standing) (seat next : Seat F) (given line : List ℕ)
     (found : Step) (w : IsPlaying g s first now seat n) → n < most → IsSeated seat → IsSeated next → next.last ≡ found →
     now.lines ≡ line ∷ mid.lines → given ≡ take 255 line → mid ≡ record now { lines = mid.lines; asked = now.asked + 1 } →
     StepsTo g (λ more. on g w.walking.prompt (reverse seat.machine.frames) (run_at seat w.walking.pieces w.walking.traces (given ∷ more)))
-    found next w.walking.pieces w.walking.traces → None ≡ refusal_of found → events ≡ s.before + suc n → events ≤ MOST_EVENTS →
+    found next w.walking.pieces w.walking.traces → None ≡ refusal_of found → events ≡ s.before + suc n → events ≤ EVENT_LIMIT →
     Taken g s most n events first now mid seat next given line found w
 taken g s most n events first now mid seat next given line found w few seated then_seated last lines cut took plays fine counts fit =
     assumption (shows_piece found fine)
@@ -180,7 +180,7 @@ module _ {F : Type 0} {g : Story} {s : PlayedSession} {most n events : ℕ} {fir
   there : suc n ≤ length first.lines
   there = is_there g s first now mid seat n line w t.lines
 
-  all_few : s.before + suc n ≤ MOST_EVENTS
+  all_few : s.before + suc n ≤ EVENT_LIMIT
   all_few = omega (arith, t.counts, t.fit)
 
   asked_more : mid.asked ≡ first.asked + suc n

@@ -6,6 +6,7 @@ use Rattle.std.proofs.Math.Path.{fun_ext}
 use Rattle.std.proofs.lemmas.List.{length-append, length-take}
 use Rattle.std.proofs.lemmas.List.Elements.{All-append, All-map, All-take}
 use Rattle.sha2.specs.Sha256.{sha256}
+use Rattle.paw_base.specs.declared.limits.TheConstants.{EVENT_LIMIT}
 use Rattle.paw_game.specs.Game.{GameLists}
 use Rattle.paw_game.specs.Image.{image}
 use Rattle.paw_stage.specs.Stage.{Standing}
@@ -23,7 +24,6 @@ use Rattle.paw_journal.specs.Session.{Shown, recover, state_length}
 use Rattle.paw_journal.specs.declared.refusal.JournalRefusal.{JournalRefusal}
 use Rattle.paw_journal.specs.declared.refusal.JournalRefusal.TheVariants as refusal
 use Rattle.paw_play.specs.declared.PlayEnd.{PlayEnd}
-use Rattle.paw_play.specs.declared.TheConstants.{MOST_EVENTS}
 use Rattle.paw_state.specs.Record.{last_piece, state_at}
 use Rattle.paw_play.specs.Session.{kept_bytes, state_after, IsKept}
 use Rattle.paw_play.specs.Walk.{first_lines}
@@ -67,7 +67,7 @@ module _ (g : Story) (seed : ℕ) (es : List (List ℕ)) (bytes : List ℕ) (st 
   goes fs = (standing_goes_on g seed es fs bytes st piece played stands shows).1
 
   -- what the session keeps stands for the lines before and those since
-  kept_stands : (lines : List (List ℕ)) (n : ℕ) (left : List ℕ) → n ≤ length lines → st.events + n ≤ MOST_EVENTS →
+  kept_stands : (lines : List (List ℕ)) (n : ℕ) (left : List ℕ) → n ≤ length lines → st.events + n ≤ EVENT_LIMIT →
       KeptBy (kept_session g st piece (sha256 (image g.game)) name) lines n left → StandsFor g seed es lines n left
   kept_stands lines n left there few kept =
       let fs : List (List ℕ) = first_lines n lines in
@@ -92,14 +92,14 @@ module _ (g : Story) (seed : ℕ) (es : List (List ℕ)) (bytes : List ℕ) (st 
       (kept_stands old.lines)
       (λ n. text_of (going_on g st piece (first_lines n old.lines))) (text_since g seed es old.lines) (text_is old.lines) m i))
 
-  going_plays : (old new : Standing) (o : PlayEnd) → PlaysOn (kept_session g st piece (sha256 (image g.game)) name) (MOST_EVENTS - st.events) old new o →
-      PlaysWith (StandsFor g seed es old.lines) (reading_since g seed es) (length es) name (MOST_EVENTS - length es) old new o
+  going_plays : (old new : Standing) (o : PlayEnd) → PlaysOn (kept_session g st piece (sha256 (image g.game)) name) (EVENT_LIMIT - st.events) old new o →
+      PlaysWith (StandsFor g seed es old.lines) (reading_since g seed es) (length es) name (EVENT_LIMIT - length es) old new o
   going_plays old new o p =
-      subst (λ whole. PlaysWith (StandsFor g seed es old.lines) whole (length es) name (MOST_EVENTS - length es) old new o) (fun_ext goes)
-      (subst (λ past. PlaysWith (StandsFor g seed es old.lines) (going_on g st piece) past name (MOST_EVENTS - past) old new o) counts
+      subst (λ whole. PlaysWith (StandsFor g seed es old.lines) whole (length es) name (EVENT_LIMIT - length es) old new o) (fun_ext goes)
+      (subst (λ past. PlaysWith (StandsFor g seed es old.lines) (going_on g st piece) past name (EVENT_LIMIT - past) old new o) counts
       (plays_by (KeptBy (kept_session g st piece (sha256 (image g.game)) name) old.lines) (StandsFor g seed es old.lines) st.events name old
       (kept_stands old.lines)
-      (going_on g st piece) (MOST_EVENTS - st.events) new o p))
+      (going_on g st piece) (EVENT_LIMIT - st.events) new o p))
 
 -- ---- it is never refused ----
 

@@ -4,6 +4,7 @@ use Rattle.std.proofs.Common.{arith, append_assoc, length-append}
 use Rattle.std.proofs.lemmas.List.{append-nil, length-reverse, take-append-drop}
 use Rattle.std.specs.Prelude.{reverse}
 use Rattle.std.specs.List.{concat}
+use Rattle.paw_base.specs.declared.limits.TheConstants.{EVENT_LIMIT}
 use Rattle.paw_stage.specs.Stage.{Standing}
 use Rattle.paw_effects.specs.declared.act.Prompt.{Prompt}
 use Rattle.paw_effects.specs.declared.act.Prompt.TheVariants as prompt
@@ -24,7 +25,6 @@ use Rattle.paw_play.specs.Walk.{EndingOf, first_lines, advanced, text_before, Re
 use Rattle.paw_play.specs.inner.Telling.{Telling, seat_text, told_pieces, HaveSteps, told_run, told_ending, told_as}
 use Rattle.paw_play.specs.inner.OnTheWay.{IsWalking, ShowsPiece, Told, WalksTo}
 use Rattle.paw_play.proofs.Telling.{pieces_more, told_more, steps_more, told_none, steps_none, waits_told, halts_told, same_lines, told_is}
-use Rattle.paw_play.specs.declared.TheConstants.{MOST_EVENTS}
 use Rattle.paw_effects.specs.Story.{Story}
 
 -- ---- lines ----
@@ -295,7 +295,7 @@ module _ {F : Type 0} (telling : Telling) (g : Story) (whole : EndingOf) (most n
 -- all the lines that a session may have were taken
 pub long_walk : {F : Type 0} (telling : Telling) (g : Story) (whole : EndingOf) (most n : ℕ) (first now : Standing) (seat : Seat F) →
     IsWalking telling g whole first now seat n → IsSeated seat → n ≡ most →
-    (1000000000 ≡ MOST_EVENTS) × WalkWaits (told_as telling whole) first now most
+    (1000000000 ≡ EVENT_LIMIT) × WalkWaits (told_as telling whole) first now most
 long_walk telling g whole most n first now seat w seated all =
     let at = waiting telling g whole n first now seat w seated in
     (refl, (at.0, at.1, at.2, rw (← all) at.3))

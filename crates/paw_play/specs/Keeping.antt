@@ -3,6 +3,7 @@
 -- Here `Kept n bytes` says that these bytes of the store keep the first n lines that are left when a call begins, and
 -- `told n` is the text for them. `past` is the number of lines that the session took before.
 use Rattle.std.specs.Prelude.{◌≡◌, ◌≢◌, ◌⊎◌, ℕ, zero, suc, ◌+◌, ◌<◌, ◌≤◌, List, ◌++◌, length, Some}
+use Rattle.paw_base.specs.declared.limits.TheConstants.{EVENT_LIMIT}
 use Rattle.paw_stage.specs.Disk.{MayLeave, IsStable}
 use Rattle.paw_stage.specs.Stage.{Standing}
 use Rattle.paw_stage.specs.Moments.{Moment}
@@ -10,7 +11,6 @@ use Rattle.paw_stage.specs.declared.StageCall.TheVariants as call
 use Rattle.paw_journal.specs.Session.{IsUnmade, recover}
 use Rattle.paw_play.specs.declared.PlayEnd.{PlayEnd}
 use Rattle.paw_play.specs.declared.PlayEnd.TheVariants as end
-use Rattle.paw_play.specs.declared.TheConstants.{MOST_EVENTS}
 use Rattle.paw_play.specs.Walk.{told_before}
 
 -- a text is a first part of another
@@ -35,7 +35,7 @@ pub record InSession (Kept : ℕ → List ℕ → Type 0) (told : ℕ → List �
   pub text : List ℕ
   pub last : List ℕ
   pub there : taken ≤ length old.lines
-  pub few : past + taken ≤ MOST_EVENTS
+  pub few : past + taken ≤ EVENT_LIMIT
   pub asked : m.asked ≡ old.asked + taken
   pub shown : m.shown ≡ old.shown ++ text
   pub before : text ≡ told_before told taken ++ last
@@ -62,7 +62,7 @@ pub record StaysAttached (name : List ℕ) (old new : Standing) : Type 0 where
 -- where that is none they are the bytes that it had, if it had any. No other file has changed.
 pub record RestsWith (Kept : ℕ → List ℕ → Type 0) (past : ℕ) (name : List ℕ) (old new : Standing) (n : ℕ) : Type 0 where
   pub there : n ≤ length old.lines
-  pub few : past + n ≤ MOST_EVENTS
+  pub few : past + n ≤ EVENT_LIMIT
   pub attached : new.attached ≡ Some name
   pub stable : IsStable new.disk
   pub file : new.files name ≡ Some new.disk.bytes

@@ -5,6 +5,7 @@ use Rattle.paw_stage.specs.Moments.{Moment}
 use Rattle.paw_stage.specs.declared.StageCall.{StageCall}
 use Rattle.paw_stage.specs.declared.StageCall.TheVariants as call
 use Rattle.paw_base.specs.declared.fault.SpentKind.{SpentKind}
+use Rattle.paw_base.specs.declared.limits.TheConstants.{EVENT_LIMIT}
 use Rattle.paw_game.specs.Game.{GameLists}
 use Rattle.paw_effects.specs.Story.{Story}
 use Rattle.paw_reading.specs.Run.{Run}
@@ -18,7 +19,6 @@ use Rattle.paw_state.specs.State.{State, Keeps, FitsFields}
 use Rattle.paw_state.specs.Fit.{Fit, Unfit}
 use Rattle.paw_play.specs.declared.PlayEnd.{PlayEnd}
 use Rattle.paw_play.specs.declared.PlayEnd.TheVariants as end
-use Rattle.paw_play.specs.declared.TheConstants.{MOST_EVENTS}
 use Rattle.paw_play.specs.Walk.{EndingOf, first_lines, advanced, Walks}
 use Rattle.paw_play.specs.Session.{kept_bytes, IsKept}
 use Rattle.paw_play.specs.Stands.{StandsFor, text_since, reading_since}
@@ -82,7 +82,7 @@ pub data PlaysIn (Kept : ℕ → List ℕ → Type 0) (whole : EndingOf) (name :
   -- the session couldn't be made; nothing was asked or shown, and no other file has changed
   unmade : (c : StageCall) → IsWriting c → new ≡ with_store new old → StaysAttached name old new →
       PlaysIn Kept whole name old new (end.Outside c)
-  plays : (o : PlayEnd) → PlaysWith Kept whole 0 name MOST_EVENTS old new o → PlaysIn Kept whole name old new o
+  plays : (o : PlayEnd) → PlaysWith Kept whole 0 name EVENT_LIMIT old new o → PlaysIn Kept whole name old new o
 
 -- what playing a new session comes to
 pub data PlaysFirst (Kept : ℕ → List ℕ → Type 0) (whole : EndingOf) (name : List ℕ)
@@ -115,7 +115,7 @@ pub data GoesOn (g : Story) (seed : ℕ) (es : List (List ℕ)) (name : List ℕ
   unread : new ≡ attached_to old name → GoesOn g seed es name old new (end.Outside call.Read)
   memory : new ≡ attached_to old name → GoesOn g seed es name old new end.Memory
   plays : (o : PlayEnd) → PlaysWith (StandsFor g seed es old.lines) (reading_since g seed es) (length es) name
-      (MOST_EVENTS - length es) (attached_to old name) new o →
+      (EVENT_LIMIT - length es) (attached_to old name) new o →
       GoesOn g seed es name old new o
 
 -- a moment of it: its store isn't attached yet, or it is played
@@ -192,7 +192,7 @@ pub data PlaysUp (g : Story) (digest name : List ℕ) (old new : Standing) : Pla
       ¬ Fit g.game state → Unfit g.game state at → new ≡ old →
       PlaysUp g digest name old new (end.State at)
   plays_on : (o : PlayEnd) (st : State) (piece : List ℕ) → ShowsState g.game digest old.disk.bytes st piece →
-      PlaysOn (kept_session g st piece digest name) (MOST_EVENTS - st.events) old new o →
+      PlaysOn (kept_session g st piece digest name) (EVENT_LIMIT - st.events) old new o →
       PlaysUp g digest name old new o
 
 -- what taking up a session again comes to

@@ -2,20 +2,20 @@
 use Rattle.std.specs.Prelude.{ℕ, suc, ◌^◌, ◌<◌, ◌≤◌, List, ◌++◌, length, drop, All}
 use Rattle.std.specs.List.{concat}
 use Rattle.sha2.specs.Sha256.{sha256}
+use Rattle.paw_base.specs.declared.limits.TheConstants.{EVENT_LIMIT}
 use Rattle.paw_effects.specs.Story.{Story}
 use Rattle.paw_game.specs.Image.{image}
 use Rattle.paw_reading.specs.Run.{Run}
 use Rattle.paw_reading.specs.Turn.{Ending, WaitsAt, Halted, Unended, reading, pieces_of}
 use Rattle.paw_reading.specs.Bounds.{IsLine, ValidStory}
 use Rattle.paw_journal.specs.Session.{recover}
-use Rattle.paw_play.specs.declared.TheConstants.{MOST_EVENTS}
 use Rattle.paw_play.specs.Session.{IsKept}
 use Rattle.paw_play.specs.Walk.{EndingOf, first_lines}
 
 -- The bytes of a store stand for these lines of a game that was begun with this seed: a session has room for them, and
 -- it keeps the reading of them all
 pub record Stands (g : Story) (seed : ℕ) (es : List (List ℕ)) (bytes : List ℕ) : Type 0 where
-  pub few : length es ≤ MOST_EVENTS
+  pub few : length es ≤ EVENT_LIMIT
   pub keeps : IsKept (sha256 (image g.game)) (length es) (reading g seed es) (recover bytes)
 
 -- a valid story is played with a seed of 64 bits and these lines, each of at most 255 bytes

@@ -1,5 +1,6 @@
 -- What taking lines and showing pieces comes to.
 use Rattle.std.specs.Prelude.{◌≡◌, ℕ, zero, suc, ◌+◌, ◌<◌, ◌≤◌, List, [], ◌++◌, length, take, drop, map}
+use Rattle.paw_base.specs.declared.limits.TheConstants.{EVENT_LIMIT, LINE_LIMIT}
 use Rattle.paw_stage.specs.Stage.{Standing}
 use Rattle.paw_stage.specs.declared.StageCall.TheVariants as call
 use Rattle.paw_effects.specs.declared.act.Prompt.{Prompt}
@@ -9,7 +10,6 @@ use Rattle.paw_reading.specs.Reading.{Halt, IsOver, RunsOut, CallsTooDeep}
 use Rattle.paw_reading.specs.Turn.{Ending, WaitsAt, Halted, text_of}
 use Rattle.paw_play.specs.declared.PlayEnd.{PlayEnd}
 use Rattle.paw_play.specs.declared.PlayEnd.TheVariants as end
-use Rattle.paw_play.specs.declared.TheConstants.{MOST_EVENTS}
 
 -- how the reading of some lines ends: that of a game from its start, or going on from a state
 abbrev pub EndingOf : Type 0
@@ -17,7 +17,7 @@ EndingOf = List (List ℕ) → Ending
 
 -- the first n lines, each cut to its first 255 bytes
 abbrev pub first_lines : ℕ → List (List ℕ) → List (List ℕ)
-first_lines n lines = map (take 255) (take n lines)
+first_lines n lines = map (take LINE_LIMIT) (take n lines)
 
 -- n lines more were taken, and this text was shown besides; all else stands as it was
 abbrev pub advanced : Standing → ℕ → List ℕ → Standing
@@ -67,7 +67,7 @@ Walks whole most old new end.Ended = WalkHalts whole most old new IsOver
 Walks whole most old new end.InputEnded = (length old.lines < most) × WalkWaits whole old new (length old.lines)
 Walks whole most old new (end.Spent kind) = WalkHalts whole most old new (RunsOut kind)
 Walks whole most old new (end.TooDeep table) = WalkHalts whole most old new (CallsTooDeep table)
-Walks whole most old new (end.Long events) = (events ≡ MOST_EVENTS) × WalkWaits whole old new most
+Walks whole most old new (end.Long events) = (events ≡ EVENT_LIMIT) × WalkWaits whole old new most
 Walks whole most old new (end.Outside call.Ask) = (n : ℕ) × (n < most) × WalkWaits whole old new n
 Walks whole most old new (end.Outside call.Show) = (n : ℕ) × (n ≤ most) × ReadsPart whole old new n
 Walks whole most old new end.Memory = new ≡ old

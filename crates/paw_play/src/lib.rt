@@ -14,9 +14,6 @@ use paw_base::fault::SpentKind;
 use paw_journal::JournalRefusal;
 use paw_stage::StageCall;
 
-/// The most lines that one session takes.
-pub const MOST_EVENTS: u64 = 1_000_000_000;
-
 /// What playing comes to. Occupied: a new session was asked for, and its store has bytes already. Refused: the store
 /// gives no session of the game. State: its session shows no state of the game; the place of the first field that
 /// breaks a rule. Ended: the game is over. InputEnded: no line is left at a prompt. Spent: a piece would read or hold

@@ -1,7 +1,7 @@
 // Playing with a session: each line is taken, committed and then shown.
 
 ghost use Rattle.std.specs.Prelude.{◌≡◌, ◌+◌, ◌<◌, ◌≤◌, ◌^◌, ◌↔◌, take, length, IfOk, IfErr};
-ghost use Rattle.paw_base.specs.declared.limits.TheConstants.{READ_LIMIT};
+ghost use Rattle.paw_base.specs.declared.limits.TheConstants.{EVENT_LIMIT, READ_LIMIT};
 ghost use Rattle.paw_stage.specs.Stage.{Faulted};
 ghost use Rattle.paw_stage.specs.Across.{Across, EachMoment};
 ghost use Rattle.paw_stage.specs.inner.Across.{Once, Throughout};
@@ -17,11 +17,11 @@ ghost use Rattle.paw_play.specs.Play.{InPlay};
 ghost use Rattle.paw_play.specs.inner.OnTheWay.{EachStory, EachPlaying, Commits, InCommit, seat_state, PlaysTo};
 ghost use Rattle.paw_play.specs.Calls.{IsOneOf, play_calls};
 ghost use Rattle.paw_play.specs.inner.Calls.{IfEndOutside, failed_or, unless_ended};
-ghost use Rattle.paw_play.specs.declared.TheConstants.{MOST_EVENTS};
 
+use crate::PlayEnd;
 use crate::preface::Nothing;
 use crate::walk::{refused, told};
-use crate::{MOST_EVENTS, PlayEnd};
+use paw_base::limits::LINE_LIMIT;
 use paw_game::tables::Tables;
 use paw_journal::{Journal, Room};
 use paw_stage::{Asked, Stage, StageCall};
@@ -101,7 +101,7 @@ pub(crate) fn play_line<S: Stage, T: Tables, F: Fn(u8, u8) -> u8>(
     requires seated { IsSeated player.old }
     requires rows { HaveRows F.Fn player.old.routines }
     requires draws { player.old.world.draws + READ_LIMIT < 2 ^ 64 }
-    requires few { session.events < MOST_EVENTS }
+    requires few { session.events < EVENT_LIMIT }
     requires kept { S.Tells stage.old → KeptIn session.journal room.old (S.standing stage.old) }
     ensures seated { IsSeated player.new }
     ensures game { player.new.game ≡ player.old.game }
@@ -121,7 +121,7 @@ pub(crate) fn play_line<S: Stage, T: Tables, F: Fn(u8, u8) -> u8>(
         EachPlaying g player.old session.events old (λ s most n first.
         EachMoment S.Stage stage.old stage.new (InPlay s first)))) }
 {
-    let mut line = [0u8; 255];
+    let mut line = [0u8; LINE_LIMIT];
     let step = match stage.ask(&mut line) {
         Asked::Line(n) => player.take(&line[..n as usize]),
         Asked::End => return Err(PlayEnd::InputEnded),

@@ -2,7 +2,7 @@
 
 ghost use Rattle.std.specs.Prelude.{◌≡◌, ◌+◌, ◌-◌, ◌*◌, ◌≤◌, ◌↔◌, ℕ, [], List, length, IfOk, IfErr};
 ghost use Rattle.sha2.specs.Sha256.{sha256};
-ghost use Rattle.paw_base.specs.declared.limits.TheConstants.{READ_LIMIT};
+ghost use Rattle.paw_base.specs.declared.limits.TheConstants.{EVENT_LIMIT, READ_LIMIT};
 ghost use Rattle.paw_game.specs.Image.{image};
 ghost use Rattle.paw_stage.specs.Disk.{IsStable};
 ghost use Rattle.paw_stage.specs.Stage.{Faulted};
@@ -15,12 +15,12 @@ ghost use Rattle.paw_play.specs.inner.OnTheWay.{EachStory, EachStarting, InNew, 
 ghost use Rattle.paw_play.specs.inner.OnTheWay.{Begins, IsStore, new_session};
 ghost use Rattle.paw_play.specs.Calls.{IsOneOf, play_calls, session_calls};
 ghost use Rattle.paw_play.specs.inner.Calls.{IfEndOutside, call_of_end, failed_or};
-ghost use Rattle.paw_play.specs.declared.TheConstants.{MOST_EVENTS};
 
+use crate::PlayEnd;
 use crate::line::{Session, play_line, put_state, unless_ended};
 use crate::preface::Nothing;
 use crate::walk::{refused, told};
-use crate::{MOST_EVENTS, PlayEnd};
+use paw_base::limits::EVENT_LIMIT;
 use paw_game::tables::Tables;
 use paw_journal::{Attached, Journal, Room, attach};
 use paw_routines::routines::Routines;
@@ -38,7 +38,7 @@ pub(crate) fn play_lines<S: Stage, T: Tables, F: Fn(u8, u8) -> u8>(
 ) -> PlayEnd
     requires seated { IsSeated player.old }
     requires rows { HaveRows F.Fn player.old.routines }
-    requires few { session.events ≤ MOST_EVENTS }
+    requires few { session.events ≤ EVENT_LIMIT }
     requires draws { player.old.world.draws ≤ READ_LIMIT * (session.events + 1) }
     requires kept { S.Tells stage.old → KeptIn session.journal room.old (S.standing stage.old) }
     ensures tells { S.Tells stage.old ↔ S.Tells stage.new }
@@ -47,21 +47,21 @@ pub(crate) fn play_lines<S: Stage, T: Tables, F: Fn(u8, u8) -> u8>(
     ensures meaning { Across S.Stage stage.old stage.new (λ old new.
         EachStory F.Fn player.old.routines player.old.game (λ g.
         EachStarting g player.old session.events old (λ s first.
-        PlaysOn s (MOST_EVENTS - s.before) first new result))) }
+        PlaysOn s (EVENT_LIMIT - s.before) first new result))) }
     ensures any_moment { Across S.Stage stage.old stage.new (λ old new.
         EachStory F.Fn player.old.routines player.old.game (λ g.
         EachStarting g player.old session.events old (λ s first.
         EachMoment S.Stage stage.old stage.new (InPlay s first)))) }
 {
     let mut session = session;
-    for _ in session.events..MOST_EVENTS {
+    for _ in session.events..EVENT_LIMIT {
         match play_line(stage, player, room, session) {
             Ok(next) => session = next,
             Err(end) => return end,
         }
     }
     PlayEnd::Long {
-        events: MOST_EVENTS,
+        events: EVENT_LIMIT,
     }
 }
 

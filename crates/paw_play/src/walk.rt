@@ -2,7 +2,7 @@
 
 ghost use Rattle.std.specs.Prelude.{◌≡◌, ◌+◌, ◌<◌, ◌≤◌, ◌^◌, ◌↔◌, ℕ, suc, length, IfSome, OnOk, OnErr, IsErr};
 ghost use Rattle.std.specs.Prelude.{Some, None};
-ghost use Rattle.paw_base.specs.declared.limits.TheConstants.{READ_LIMIT};
+ghost use Rattle.paw_base.specs.declared.limits.TheConstants.{EVENT_LIMIT, READ_LIMIT};
 ghost use Rattle.paw_routines.specs.Routines.{HaveRows};
 ghost use Rattle.paw_stage.specs.Stage.{Standing, Faulted, ShowsPart, with_shown};
 ghost use Rattle.paw_stage.specs.Across.{Across};
@@ -16,11 +16,11 @@ ghost use Rattle.paw_play.specs.inner.Telling.{seat_text, told_as};
 ghost use Rattle.paw_play.specs.inner.OnTheWay.{EachStory, IsWalking, WalksTo, Told, refusal_of};
 ghost use Rattle.paw_play.specs.Calls.{IsOneOf, walk_calls};
 ghost use Rattle.paw_play.specs.inner.Calls.{IfEndOutside, call_of_end, failed_so_far};
-ghost use Rattle.paw_play.specs.declared.TheConstants.{MOST_EVENTS};
 
+use crate::PlayEnd;
 use crate::preface::Preface;
 use crate::show::show;
-use crate::{MOST_EVENTS, PlayEnd};
+use paw_base::limits::{EVENT_LIMIT, LINE_LIMIT};
 use paw_game::tables::Tables;
 use paw_routines::routines::Routines;
 use paw_stage::{Asked, Failed, Stage, StageCall};
@@ -113,7 +113,7 @@ fn walk_line<P: Preface, S: Stage, T: Tables, F: Fn(u8, u8) -> u8>(
         IsWalking P.telling g whole first old player.old n → n < most →
         WalksTo P.telling g whole most first new player.new (suc n) result)) }
 {
-    let mut line = [0u8; 255];
+    let mut line = [0u8; LINE_LIMIT];
     match stage.ask(&mut line) {
         Asked::Line(n) => {
             let step = player.take(&line[..n as usize]);
@@ -139,15 +139,15 @@ fn walk_lines<P: Preface, S: Stage, T: Tables, F: Fn(u8, u8) -> u8>(
     ensures meaning { Across S.Stage stage.old stage.new (λ old new.
         EachStory F.Fn player.old.routines player.old.game (λ g. (whole : EndingOf) (first : Standing) →
         IsWalking P.telling g whole first old player.old 0 →
-        Walks (told_as P.telling whole) MOST_EVENTS first new result)) }
+        Walks (told_as P.telling whole) EVENT_LIMIT first new result)) }
 {
-    for _ in 0..MOST_EVENTS {
+    for _ in 0..EVENT_LIMIT {
         if let Some(end) = walk_line(preface, stage, player) {
             return end;
         }
     }
     PlayEnd::Long {
-        events: MOST_EVENTS,
+        events: EVENT_LIMIT,
     }
 }
 
@@ -165,7 +165,7 @@ pub fn walk_loop<P: Preface, S: Stage, T: Tables, F: Fn(u8, u8) -> u8>(
     ensures faulted { Faulted (call_of_end result) (S.faults stage.old) (S.faults stage.new) }
     ensures outside { IfEndOutside result (IsOneOf walk_calls) }
     ensures walks { Across S.Stage stage.old stage.new (λ old new. EachStory F.Fn routines.now (T.game tables.now)
-        (λ g. Walks (told_as P.telling (reading g seed)) MOST_EVENTS old new result)) }
+        (λ g. Walks (told_as P.telling (reading g seed)) EVENT_LIMIT old new result)) }
 {
     let Ok(mut preface) = P::new(alloc) else {
         return PlayEnd::Memory;

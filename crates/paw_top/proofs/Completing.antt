@@ -2,6 +2,7 @@
 use Rattle.std.proofs.Common.{◌≡◌, ℕ, List, Option, Some, None, refl, sym, ap, ◌∙◌, subst}
 use Rattle.std.specs.Prelude.{Result, Ok, Err}
 use Rattle.paw_base.specs.declared.fault.SourceFault.{SourceFault}
+use Rattle.paw_base.specs.declared.limits.TheConstants.{EVENT_LIMIT}
 use Rattle.paw_game.specs.Game.{GameLists}
 use Rattle.paw_grammar.specs.Spells.{spelled}
 use Rattle.paw_image.specs.Images.{IsImage}
@@ -20,7 +21,6 @@ use Rattle.paw_top.specs.Opens.{Unopened, damaged, absent, failed, wanting}
 use Rattle.paw_play.specs.Walk.{EndingOf, Walks}
 use Rattle.paw_play.specs.declared.PlayEnd.{PlayEnd}
 use Rattle.paw_play.specs.declared.PlayEnd.TheVariants as end
-use Rattle.paw_play.specs.declared.TheConstants.{MOST_EVENTS}
 use Rattle.paw_effects.specs.Story.{Story, story_of}
 use Rattle.paw_top.specs.declared.outcome.Outcome.{Outcome}
 use Rattle.paw_top.specs.declared.outcome.Outcome.TheVariants as outcome
@@ -128,4 +128,4 @@ pub completes_walk : (told : Story → ℕ → EndingOf) (rows : List (List ℕ)
     Faulted (failed_call o) first last → NoFault first last → CompletesImage name (λ g. IsWalked) old o
 completes_walk told rows name seed old new first last o w out none =
     completes_file name (λ g. IsWalked) old new first last o w
-    (λ g end p rose. is_walked (told (story_of g rows) seed) MOST_EVENTS old new first last end p rose none) (λ g at. tt) out none
+    (λ g end p rose. is_walked (told (story_of g rows) seed) EVENT_LIMIT old new first last end p rose none) (λ g at. tt) out none

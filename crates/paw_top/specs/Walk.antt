@@ -1,9 +1,9 @@
 -- What walking through the game of an image comes to.
 use Rattle.std.specs.Prelude.{ℕ, List}
+use Rattle.paw_base.specs.declared.limits.TheConstants.{EVENT_LIMIT}
 use Rattle.paw_effects.specs.Story.{Story, story_of}
 use Rattle.paw_reading.specs.Turn.{reading}
 use Rattle.paw_stage.specs.Stage.{Standing}
-use Rattle.paw_play.specs.declared.TheConstants.{MOST_EVENTS}
 use Rattle.paw_play.specs.Traces.{traced}
 use Rattle.paw_play.specs.Walk.{EndingOf, Walks}
 use Rattle.paw_top.specs.Ends.{PlaysFile}
@@ -12,7 +12,7 @@ use Rattle.paw_top.specs.declared.outcome.Outcome.{Outcome}
 -- a walk through the game that this file holds, with these rows of routines, told so, or why there is none
 abbrev pub WalksAs : (Story → ℕ → EndingOf) → List (List ℕ) → List ℕ → ℕ → Standing → Standing → Outcome → Type 0
 WalksAs told rows name seed old new o =
-    PlaysFile (λ g end. Walks (told (story_of g rows) seed) MOST_EVENTS old new end) name old new o
+    PlaysFile (λ g end. Walks (told (story_of g rows) seed) EVENT_LIMIT old new end) name old new o
 
 -- a walk shows the pieces of the reading
 abbrev pub WalksIn : List (List ℕ) → List ℕ → ℕ → Standing → Standing → Outcome → Type 0

@@ -3,8 +3,8 @@
 use crate::outcome::{MemoryAt, Outcome};
 use crate::settled::{run, settle, settle_and_run};
 use paw_base::fault::SpentKind;
+use paw_base::limits::EVENT_LIMIT;
 use paw_journal::SessionPart;
-use paw_play::MOST_EVENTS;
 use paw_stage::{Asked, FailStage, MemoryStage, Stage, StageCall};
 use std::alloc::Global;
 use std::process::Abort;
@@ -503,7 +503,7 @@ fn outcomes_have_their_status_and_text(rt: HostRuntime) -> Result<(), Fail> {
         (Outcome::Memory(MemoryAt::Trial), 8, "no memory: Trial\n"),
         (
             Outcome::Long {
-                events: MOST_EVENTS,
+                events: EVENT_LIMIT,
             },
             9,
             "session is full: 1000000000 events\n",

@@ -3,6 +3,7 @@ use Rattle.std.proofs.Common.{◌≡◌, ℕ, ◌<◌, List, [], ◌++◌, lengt
 use Rattle.std.specs.Prelude.{◌-◌, All}
 use Rattle.std.proofs.lemmas.List.{drop_all}
 use Rattle.sha2.specs.Sha256.{sha256}
+use Rattle.paw_base.specs.declared.limits.TheConstants.{EVENT_LIMIT}
 use Rattle.paw_game.specs.Image.{image}
 use Rattle.paw_stage.specs.Disk.{IsStable}
 use Rattle.paw_stage.specs.inner.Memory.{Memory, empty, standing_of}
@@ -11,7 +12,6 @@ use Rattle.paw_reading.specs.Turn.{reading}
 use Rattle.paw_reading.specs.Bounds.{IsLine}
 use Rattle.paw_play.specs.declared.PlayEnd.{PlayEnd}
 use Rattle.paw_play.specs.declared.PlayEnd.TheVariants as play
-use Rattle.paw_play.specs.declared.TheConstants.{MOST_EVENTS}
 use Rattle.paw_play.specs.Walk.{EndingOf, first_lines}
 use Rattle.paw_play.specs.Stands.{Stands, StandsFor, reading_since}
 use Rattle.paw_play.specs.Play.{PlaysWith, PlaysIn, memory, spent, too_deep, unmade, plays, unattached, occupied, plays_in, PlaysGame, PlaysAgain, GoesOn}
@@ -99,7 +99,7 @@ module _ (n : ℕ) (old new : Standing) (is : old.lines ≡ first_half n) where
   begun _ (unmade c w e stays) = tt
   begun _ (plays o p) =
       half_comes n [] (first_half n) (second_half n) (both_halves n) (first_are n) (reading (trial_story n) n)
-      (λ stop fs h. h) (λ fs h. h) 0 MOST_EVENTS old new o is p
+      (λ stop fs h. h) (λ fs h. h) 0 EVENT_LIMIT old new o is p
 
 first_comes : (n : ℕ) (old new : Standing) (o : PlayEnd) → old.lines ≡ first_half n →
     PlaysGame (trial_story n) n store_name old new o → ComesTo n (first_half n) new (stop_of o)
@@ -122,10 +122,10 @@ module _ (n : ℕ) (old new : Standing) (is : old.lines ≡ second_half n) where
       (second_are n) (reading_since (trial_story n) n (first_half n))
       (λ stop fs h. stops_since (length (first_half n)) stop (reading (trial_story n) n (first_half n ++ fs)) h)
       (λ fs h. waits_since (length (first_half n)) (reading (trial_story n) n (first_half n ++ fs)) h)
-      (length (first_half n)) (MOST_EVENTS - length (first_half n)) (attached_to old store_name) new o is
+      (length (first_half n)) (EVENT_LIMIT - length (first_half n)) (attached_to old store_name) new o is
       (subst (λ lines. PlaysWith (StandsFor (trial_story n) n (first_half n) lines)
       (reading_since (trial_story n) n (first_half n)) (length (first_half n)) store_name
-      (MOST_EVENTS - length (first_half n)) (attached_to old store_name) new o) is p)
+      (EVENT_LIMIT - length (first_half n)) (attached_to old store_name) new o) is p)
 
 second_comes : (n : ℕ) (old new : Standing) (o : PlayEnd) → n < 65536 → old.lines ≡ second_half n →
     Stands (trial_story n) n (first_half n) (store_bytes old store_name) →

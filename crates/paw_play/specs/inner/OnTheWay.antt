@@ -3,6 +3,7 @@ use Rattle.std.specs.Prelude.{◌≡◌, ◌≢◌, ◌⊎◌, ℕ, suc, ◌+◌
 use Rattle.std.specs.Prelude.{reverse, Option, Some, None, Result, Ok, Err}
 use Rattle.std.specs.List.{concat}
 use Rattle.std.specs.Fn.{Shared}
+use Rattle.paw_base.specs.declared.limits.TheConstants.{EVENT_LIMIT}
 use Rattle.paw_stage.specs.Disk.{IsStable}
 use Rattle.paw_stage.specs.Stage.{Standing}
 use Rattle.paw_stage.specs.Moments.{Moment}
@@ -27,7 +28,6 @@ use Rattle.paw_journal.specs.declared.refusal.JournalRefusal.TheVariants as refu
 use Rattle.paw_state.specs.inner.State.{state_of}
 use Rattle.paw_play.specs.declared.PlayEnd.{PlayEnd}
 use Rattle.paw_play.specs.declared.PlayEnd.TheVariants as end
-use Rattle.paw_play.specs.declared.TheConstants.{MOST_EVENTS}
 use Rattle.paw_play.specs.Session.{kept_bytes}
 use Rattle.paw_play.specs.Walk.{EndingOf, first_lines, advanced, text_before, Walks}
 use Rattle.paw_play.specs.Keeping.{InMakingOf, StaysAttached, RestsWith}
@@ -134,7 +134,7 @@ BegunAs s first now (end.Spent kind) = (r : Run) × (s.whole [] ≡ Halted (Runs
 BegunAs s first now (end.TooDeep table) = (r : Run) × (s.whole [] ≡ Halted (CallsTooDeep table) r) × (now ≡ first)
 BegunAs s first now (end.Outside call.Write) = (now ≡ with_store now first) × StaysAttached s.name first now
 BegunAs s first now (end.Outside call.Sync) = (now ≡ with_store now first) × StaysAttached s.name first now
-BegunAs s first now o = PlaysOn s MOST_EVENTS first now o
+BegunAs s first now o = PlaysOn s EVENT_LIMIT first now o
 
 -- the session is at its first prompt, or making it has come to this
 abbrev pub Begins : {A F : Type 0} → Story → PlayedSession → Standing → Standing → Seat F → Result A PlayEnd → Type 0

@@ -1,8 +1,8 @@
 use Rattle.std.proofs.Common.{◌≡◌, ◌+◌, ◌-◌, ◌<◌, ◌∙◌, suc, arith, subst, sym, refl, None}
+use Rattle.paw_base.specs.declared.limits.TheConstants.{EVENT_LIMIT}
 use Rattle.paw_stage.proofs.Time.{Passes_on, Passes_none}
 use Rattle.paw_play.specs.Play.{InPlay}
 use Rattle.paw_play.specs.inner.OnTheWay.{IsPlaying}
-use Rattle.paw_play.specs.declared.TheConstants.{MOST_EVENTS}
 use Rattle.paw_play.proofs.Playing.{long_play}
 use Rattle.paw_stage.proofs.Counted.{Faulted_on, Faulted_same}
 use Rattle.paw_play.specs.inner.Calls.{call_of_end}
@@ -36,16 +36,16 @@ returns-in-Err-clause-tells g c = (λ t. c.play_line.ensures.tells.0 (c.loop.inv
 pub returns-in-Err-clause-meaning : goal.returns-in-Err-clause-meaning
 returns-in-Err-clause-meaning g c = λ tells X rows s first start events.
     let i = c.loop.invariant in
-    c.in-Err.ensures.meaning (i.tells.0 tells) X (rw i.routines rows) s (MOST_EVENTS - s.before) (c.loop.counter - s.before) first
+    c.in-Err.ensures.meaning (i.tells.0 tells) X (rw i.routines rows) s (EVENT_LIMIT - s.before) (c.loop.counter - s.before) first
     (i.playing tells X rows s first start events) (omega (arith, i.events, i.from, events)) (omega (arith, c.loop-test.true, i.from, events))
 
 pub returns-in-Err-clause-any_moment : goal.returns-in-Err-clause-any_moment
 returns-in-Err-clause-any_moment g c = λ tells X rows s first start events.
     let i = c.loop.invariant in
-    let few : c.loop.counter - s.before < MOST_EVENTS - s.before = omega (arith, c.loop-test.true, i.from, events) in
+    let few : c.loop.counter - s.before < EVENT_LIMIT - s.before = omega (arith, c.loop-test.true, i.from, events) in
     let at : c.loop.session.events ≡ s.before + (c.loop.counter - s.before) = omega (arith, i.events, i.from, events) in
     Passes_on _ _ _ _ _ _ (InPlay s first) _ (i.passes tells X rows s first start events)
-    (c.in-Err.ensures.any_moment (i.tells.0 tells) X (rw i.routines rows) s (MOST_EVENTS - s.before) (c.loop.counter - s.before)
+    (c.in-Err.ensures.any_moment (i.tells.0 tells) X (rw i.routines rows) s (EVENT_LIMIT - s.before) (c.loop.counter - s.before)
     first (i.playing tells X rows s first start events) at few) (λ m j. j)
 
 pub loop-preserved : goal.loop-preserved
@@ -64,26 +64,26 @@ loop-preserved g c =
       faulted = Faulted_on None _ _ _ i.faulted c.in-Ok.ensures.faulted;
       kept = λ tells. c.in-Ok.ensures.kept (i.tells.0 tells);
       playing = λ tells X rows s first start events.
-          let few : c.loop.counter - s.before < MOST_EVENTS - s.before = omega (arith, c.loop-test.true, i.from, events) in
+          let few : c.loop.counter - s.before < EVENT_LIMIT - s.before = omega (arith, c.loop-test.true, i.from, events) in
           let at : c.loop.session.events ≡ s.before + (c.loop.counter - s.before) = omega (arith, i.events, i.from, events) in
-          let next = c.in-Ok.ensures.meaning (i.tells.0 tells) X (rw i.routines rows) s (MOST_EVENTS - s.before)
+          let next = c.in-Ok.ensures.meaning (i.tells.0 tells) X (rw i.routines rows) s (EVENT_LIMIT - s.before)
           (c.loop.counter - s.before) first (i.playing tells X rows s first start events) at few in
           let n : suc (c.loop.counter - s.before) ≡ c.loop.counter + 1 - s.before = omega (arith, i.from, events) in
           subst (λ k. IsPlaying (story_of k X) s first after_play_line c.play_line.new.player (c.loop.counter + 1 - s.before)) (sym c.play_line.ensures.game)
           (subst (λ k. IsPlaying (story_of c.loop.player.game X) s first after_play_line c.play_line.new.player k) n next);
       passes = λ tells X rows s first start events.
-          let few : c.loop.counter - s.before < MOST_EVENTS - s.before = omega (arith, c.loop-test.true, i.from, events) in
+          let few : c.loop.counter - s.before < EVENT_LIMIT - s.before = omega (arith, c.loop-test.true, i.from, events) in
           let at : c.loop.session.events ≡ s.before + (c.loop.counter - s.before) = omega (arith, i.events, i.from, events) in
           Passes_on _ _ _ _ _ _ (InPlay s first) _ (i.passes tells X rows s first start events)
-          (c.in-Ok.ensures.any_moment (i.tells.0 tells) X (rw i.routines rows) s (MOST_EVENTS - s.before)
+          (c.in-Ok.ensures.any_moment (i.tells.0 tells) X (rw i.routines rows) s (EVENT_LIMIT - s.before)
           (c.loop.counter - s.before) first (i.playing tells X rows s first start events) at few) (λ m j. j);
     }
 
 pub returns-clause-meaning : goal.returns-clause-meaning
 returns-clause-meaning g c = λ tells X rows s first start events.
     let i = c.loop.invariant in
-    let all : c.loop.counter - s.before ≡ MOST_EVENTS - s.before = omega (arith, c.loop-test.false, i.few) in
-    long_play (story_of c.loop.player.game X) s (MOST_EVENTS - s.before) (c.loop.counter - s.before) first
+    let all : c.loop.counter - s.before ≡ EVENT_LIMIT - s.before = omega (arith, c.loop-test.false, i.few) in
+    long_play (story_of c.loop.player.game X) s (EVENT_LIMIT - s.before) (c.loop.counter - s.before) first
     (g.S.Stage.standing c.loop.stage) c.loop.player (i.playing tells X rows s first start events) i.seated all
 
 pub returns-in-Err-clause-faulted : goal.returns-in-Err-clause-faulted

@@ -1,4 +1,5 @@
 use Rattle.std.proofs.Common.{◌≡◌, ◌+◌, ◌-◌, ◌*◌, ◌≤◌, ◌↔◌, ℕ, List, None}
+use Rattle.paw_base.specs.declared.limits.TheConstants.{EVENT_LIMIT}
 use Rattle.paw_routines.specs.Routines.{AreRowsOf, HaveRows}
 use Rattle.paw_effects.specs.Story.{story_of}
 use Rattle.paw_stage.specs.Stage.{Standing, Faulted}
@@ -7,7 +8,6 @@ use Rattle.paw_turn.specs.inner.Player.{IsSeated}
 use Rattle.paw_journal.specs.inner.Journal.{KeptIn}
 use Rattle.paw_play.specs.Play.{PlayedSession, InPlay}
 use Rattle.paw_play.specs.inner.OnTheWay.{IsPlaying}
-use Rattle.paw_play.specs.declared.TheConstants.{MOST_EVENTS}
 use Rattle.paw_play.proofs.play.play_lines.Given as goal
 
 -- as many lines were taken as the session says
@@ -18,7 +18,7 @@ invariant-loop g l = record {
   rows : HaveRows g.F.Fn l.player.routines;
   events : l.session.events ≡ l.counter;
   from : l.fn.session.events ≤ l.counter;
-  few : l.counter ≤ MOST_EVENTS;
+  few : l.counter ≤ EVENT_LIMIT;
   draws : l.player.world.draws ≤ 200000 * (l.counter + 1);
   tells : g.S.Stage.Tells l.fn.stage ↔ g.S.Stage.Tells l.stage;
   faulted : Faulted None (g.S.Stage.faults l.fn.stage) (g.S.Stage.faults l.stage);

@@ -1,4 +1,5 @@
 use Rattle.std.proofs.Common.{◌≡◌, ◌-◌, refl, sym, subst, Some, None}
+use Rattle.paw_base.specs.declared.limits.TheConstants.{EVENT_LIMIT}
 use Rattle.paw_stage.specs.Moments.{Passes, InShow}
 use Rattle.paw_stage.proofs.Time.{Passes_map, Passes_on}
 use Rattle.paw_routines.specs.Routines.{AreRowsOf, HaveRows}
@@ -8,7 +9,6 @@ use Rattle.paw_state.specs.declared.StateFault.{StateFault}
 use Rattle.paw_state.specs.declared.Restored.{Restored}
 use Rattle.paw_state.specs.Fit.{Fit, Unfit}
 use Rattle.paw_state.specs.inner.Fit.{state_read}
-use Rattle.paw_play.specs.declared.TheConstants.{MOST_EVENTS}
 use Rattle.paw_play.specs.Play.{InPlay, memory, no_state, plays_on}
 use Rattle.paw_play.specs.inner.OnTheWay.{ShowsAgain}
 use Rattle.paw_play.proofs.Showing.{read_fits, resumed, one_session}
@@ -61,7 +61,7 @@ returns-in-Some-clause-plays g c = λ tells X rows name store.
     c.in-Ok-adopt.player (c.requires.kept tells).shown c.state.ensures.value c.in-Ok.ensures.read c.in-Ok.ensures.piece c.in-Ok-adopt.ensures.value
     c.in-Ok-adopt.ensures.seated store in
     plays_on c.in-Some.end (state_read c.in-Ok.restored) c.args.room.now.piece u.state
-    (again_last u (MOST_EVENTS - c.in-Ok.restored.events) (g.S.Stage.standing c.show_again.new.stage) c.in-Some.end
+    (again_last u (EVENT_LIMIT - c.in-Ok.restored.events) (g.S.Stage.standing c.show_again.new.stage) c.in-Some.end
     (subst (λ x. ShowsAgain (g.S.Stage.standing c.args.stage.now) (g.S.Stage.standing c.show_again.new.stage) x c.in-Ok.restored.prompt (Some c.in-Some.end))
     c.piece.ensures.value (c.in-Some.ensures.meaning tells)))
 

@@ -1,5 +1,5 @@
 use Rattle.std.proofs.Common.{◌≡◌, ◌+◌, ◌<◌, ◌∙◌, suc, arith, None, subst, sym}
-use Rattle.paw_play.specs.declared.TheConstants.{MOST_EVENTS}
+use Rattle.paw_base.specs.declared.limits.TheConstants.{EVENT_LIMIT}
 use Rattle.paw_play.proofs.Walking.{long_walk}
 use Rattle.paw_stage.proofs.Counted.{Faulted_on}
 use Rattle.paw_play.specs.inner.Calls.{call_of_end}
@@ -10,8 +10,8 @@ use Rattle.paw_play.proofs.walk.walk_lines.Goals as goal
 pub returns-in-Some-clause-meaning : goal.returns-in-Some-clause-meaning
 returns-in-Some-clause-meaning g c = λ tells X rows whole first start.
     let w = c.loop.invariant.walking tells X rows whole first start in
-    let few : c.loop.counter < MOST_EVENTS = omega (arith, c.loop-test.true) in
-    c.in-Some.ensures.meaning (c.loop.invariant.tells.0 tells) X (rw c.loop.invariant.routines rows) whole MOST_EVENTS c.loop.counter first w few
+    let few : c.loop.counter < EVENT_LIMIT = omega (arith, c.loop-test.true) in
+    c.in-Some.ensures.meaning (c.loop.invariant.tells.0 tells) X (rw c.loop.invariant.routines rows) whole EVENT_LIMIT c.loop.counter first w few
 
 pub loop-preserved : goal.loop-preserved
 loop-preserved g c =
@@ -26,9 +26,9 @@ loop-preserved g c =
       faulted = Faulted_on None _ _ _ c.loop.invariant.faulted c.in_default.ensures.faulted;
       walking = λ tells X rows whole first start.
           let w = c.loop.invariant.walking tells X rows whole first start in
-          let few : c.loop.counter < MOST_EVENTS = omega (arith, c.loop-test.true) in
+          let few : c.loop.counter < EVENT_LIMIT = omega (arith, c.loop-test.true) in
           let on = c.in_default.ensures.meaning (c.loop.invariant.tells.0 tells) X (rw c.loop.invariant.routines rows) whole
-          MOST_EVENTS c.loop.counter first w few in
+          EVENT_LIMIT c.loop.counter first w few in
           let n : suc c.loop.counter ≡ c.loop.counter + 1 = omega arith in
           subst (λ k. IsWalking g.P.Preface.telling (story_of k X) whole first after_walk_line c.walk_line.new.player (c.loop.counter + 1))
           (sym c.walk_line.ensures.game)
@@ -37,8 +37,8 @@ loop-preserved g c =
 
 pub returns-clause-meaning : goal.returns-clause-meaning
 returns-clause-meaning g c = λ tells X rows whole first start.
-    let all : c.loop.counter ≡ MOST_EVENTS = omega (arith, c.loop-test.false, c.loop.auto.counter-end) in
-    long_walk g.P.Preface.telling (story_of c.loop.player.game X) whole MOST_EVENTS c.loop.counter first (g.S.Stage.standing c.loop.stage) c.loop.player
+    let all : c.loop.counter ≡ EVENT_LIMIT = omega (arith, c.loop-test.false, c.loop.auto.counter-end) in
+    long_walk g.P.Preface.telling (story_of c.loop.player.game X) whole EVENT_LIMIT c.loop.counter first (g.S.Stage.standing c.loop.stage) c.loop.player
     (c.loop.invariant.walking tells X rows whole first start) c.loop.invariant.seated all
 
 pub returns-in-Some-clause-faulted : goal.returns-in-Some-clause-faulted

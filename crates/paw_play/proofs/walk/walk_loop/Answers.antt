@@ -1,7 +1,7 @@
 use Rattle.std.proofs.Common.{◌∙◌, Some, None, sym, subst}
+use Rattle.paw_base.specs.declared.limits.TheConstants.{EVENT_LIMIT}
 use Rattle.paw_routines.specs.Routines.{AreRowsOf, HaveRows}
 use Rattle.paw_reading.specs.Turn.{reading}
-use Rattle.paw_play.specs.declared.TheConstants.{MOST_EVENTS}
 use Rattle.paw_play.specs.Walk.{Walks}
 use Rattle.paw_play.specs.inner.Telling.{told_as}
 use Rattle.paw_play.specs.inner.OnTheWay.{IsWalking}
@@ -20,9 +20,9 @@ walk_lines-requires-clause-rows g c = subst (λ r. HaveRows g.F.Fn r) (sym (c.st
 pub returns-in-Some-clause-walks : goal.returns-in-Some-clause-walks
 returns-in-Some-clause-walks g c = λ tells X rows.
     let own = subst (λ r. AreRowsOf g.F.Fn r X) (sym c.in-Ok-new.ensures.routines) rows in
-    subst (λ k. Walks (told_as g.P.Preface.telling (reading (story_of k X) c.args.seed)) MOST_EVENTS (g.S.Stage.standing c.args.stage.now)
+    subst (λ k. Walks (told_as g.P.Preface.telling (reading (story_of k X) c.args.seed)) EVENT_LIMIT (g.S.Stage.standing c.args.stage.now)
     (g.S.Stage.standing c.told.new.stage) c.in-Some.end) c.in-Ok-new.ensures.game
-    (walk_starts g.P.Preface.telling (story_of c.in-Ok-new.player.game X) c.args.seed MOST_EVENTS _ _ c.in-Ok-new.player
+    (walk_starts g.P.Preface.telling (story_of c.in-Ok-new.player.game X) c.args.seed EVENT_LIMIT _ _ c.in-Ok-new.player
     c.start-step.new.self c.start-step.result (Some c.in-Some.end) c.in-Ok-new.ensures.new c.start-step.ensures.seated
     c.start-step.ensures.last (c.start-step.ensures.meaning X own) (c.in-Some.ensures.meaning tells))
 
@@ -33,10 +33,10 @@ returns-clause-walks g c = λ tells X rows.
     let old = g.S.Stage.standing c.args.stage.now in
     let own = subst (λ r. AreRowsOf g.F.Fn r X) (sym c.in-Ok-new.ensures.routines) rows in
     let later = subst (λ r. AreRowsOf g.F.Fn r X) (sym (c.start-step.ensures.routines ∙ c.in-Ok-new.ensures.routines)) rows in
-    let walking = walk_starts telling story c.args.seed MOST_EVENTS _ _ c.in-Ok-new.player c.start-step.new.self c.start-step.result
+    let walking = walk_starts telling story c.args.seed EVENT_LIMIT _ _ c.in-Ok-new.player c.start-step.new.self c.start-step.result
     None c.in-Ok-new.ensures.new c.start-step.ensures.seated
     c.start-step.ensures.last (c.start-step.ensures.meaning X own) (c.in_default-told.ensures.meaning tells) in
-    subst (λ k. Walks (told_as telling (reading (story_of k X) c.args.seed)) MOST_EVENTS old (g.S.Stage.standing c.walk_lines.new.stage)
+    subst (λ k. Walks (told_as telling (reading (story_of k X) c.args.seed)) EVENT_LIMIT old (g.S.Stage.standing c.walk_lines.new.stage)
     c.walk_lines.result) c.in-Ok-new.ensures.game
     (c.walk_lines.ensures.meaning (c.told.ensures.tells.0 tells) X later _ old
     (subst (λ k. IsWalking telling (story_of k X) (reading story c.args.seed) old (g.S.Stage.standing c.told.new.stage)

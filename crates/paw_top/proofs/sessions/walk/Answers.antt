@@ -1,11 +1,11 @@
 use Rattle.std.proofs.Common.{subst}
+use Rattle.paw_base.specs.declared.limits.TheConstants.{EVENT_LIMIT}
 use Rattle.paw_image.specs.inner.Views.{game_read}
 use Rattle.paw_effects.specs.Story.{story_of}
 use Rattle.paw_reading.specs.Turn.{reading}
 use Rattle.paw_play.specs.Calls.{walk_calls}
 use Rattle.paw_play.specs.Walk.{Walks}
 use Rattle.paw_play.specs.inner.Telling.{told_as}
-use Rattle.paw_play.specs.declared.TheConstants.{MOST_EVENTS}
 use Rattle.paw_top.specs.Ends.{plays}
 use Rattle.paw_top.proofs.Answering.{played_outside, played_faulted}
 use Rattle.paw_top.proofs.Images.{holds_given}
@@ -26,7 +26,7 @@ returns-clause-walks g c = λ tells X rows.
     let game = game_read c.in-Ok-view_in.given in
     rw c.outcome_of.ensures.value
     (plays game c.walk_loop.result (holds_given c.args.image.now _ _ _ _ game c.as_slice.ensures.value f c.in-Ok-view_in.ensures.found)
-    (subst (λ s. Walks (told_as g.P.Preface.telling (reading (story_of game X) c.args.seed)) MOST_EVENTS s new c.walk_loop.result) f.3
+    (subst (λ s. Walks (told_as g.P.Preface.telling (reading (story_of game X) c.args.seed)) EVENT_LIMIT s new c.walk_loop.result) f.3
     (c.walk_loop.ensures.walks (c.load.ensures.tells.0 tells) X rows)))
 
 pub returns-clause-outside : goal.returns-clause-outside
