@@ -10,10 +10,11 @@ use Rattle.paw_reading.specs.Turn.{text_of}
 use Rattle.paw_journal.specs.Session.{recover}
 use Rattle.paw_state.specs.State.{State}
 use Rattle.paw_stage.specs.declared.StageCall.{StageCall}
+use Rattle.paw_stage.specs.Across.{IsOneOf}
 use Rattle.paw_journal.specs.inner.Journal.{IsSessionRefused, IsCaused, outside}
 use Rattle.paw_journal.specs.declared.refusal.JournalRefusal.{JournalRefusal}
 use Rattle.paw_journal.specs.declared.refusal.JournalRefusal.TheVariants as refusal
-use Rattle.paw_play.specs.Calls.{IsOneOf, session_calls}
+use Rattle.paw_play.specs.Calls.{session_calls}
 use Rattle.paw_play.specs.inner.Calls.{IfEndOutside, call_of_end}
 use Rattle.paw_play.specs.Session.{IsKept}
 use Rattle.paw_play.specs.Play.{InPlay, InAgain, ShowsState, attached_to, store_bytes, going_on, kept_session, PlaysAgain, refused, unread}

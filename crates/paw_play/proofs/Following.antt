@@ -3,13 +3,14 @@ use Rattle.std.proofs.Common.{◌≡◌, ℕ, ◌+◌, ◌++◌, List, Option, S
 use Rattle.std.specs.Prelude.{IfSome, IfOk, IfErr}
 use Rattle.paw_stage.specs.Stage.{Standing, Faulted}
 use Rattle.paw_stage.specs.declared.StageCall.{StageCall}
+use Rattle.paw_stage.specs.Across.{IsOneOf}
 use Rattle.paw_journal.specs.declared.journal.Journal.{Journal}
 use Rattle.paw_journal.specs.declared.refusal.JournalRefusal.TheVariants as refusal
 use Rattle.paw_journal.specs.inner.Room.{Room}
 use Rattle.paw_journal.specs.inner.Journal.{KeptIn}
 use Rattle.paw_play.specs.declared.PlayEnd.{PlayEnd}
 use Rattle.paw_play.specs.declared.PlayEnd.TheVariants as end
-use Rattle.paw_play.specs.Calls.{IsOneOf, walk_calls, play_calls}
+use Rattle.paw_play.specs.Calls.{walk_calls, play_calls}
 use Rattle.paw_play.specs.inner.Calls.{IfEndOutside, failed_so_far, failed_or, unless_ended}
 use Rattle.paw_play.specs.inner.OnTheWay.{Told}
 use Rattle.paw_play.specs.declared.line.Session.{Session}

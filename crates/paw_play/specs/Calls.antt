@@ -1,12 +1,7 @@
 -- The calls of a stage that playing makes.
-use Rattle.std.specs.Prelude.{◌≡◌, ◌⊎◌, List, [], ◌∷◌}
+use Rattle.std.specs.Prelude.{List, [], ◌∷◌}
 use Rattle.paw_stage.specs.declared.StageCall.{StageCall}
 use Rattle.paw_stage.specs.declared.StageCall.TheVariants as call
-
--- x is one of these
-abbrev pub IsOneOf : {A : Type 0} → List A → A → Type 0
-IsOneOf [] x = ⊥
-IsOneOf (y ∷ ys) x = (x ≡ y) ⊎ IsOneOf ys x
 
 -- the calls that a walk makes
 abbrev pub walk_calls : List StageCall

@@ -3,7 +3,7 @@
 ghost use Rattle.std.specs.Prelude.{◌≡◌, ◌+◌, ◌<◌, ◌≤◌, ◌^◌, ◌↔◌, take, length, IfOk, IfErr};
 ghost use Rattle.paw_base.specs.declared.limits.TheConstants.{EVENT_LIMIT, READ_LIMIT};
 ghost use Rattle.paw_stage.specs.Stage.{Faulted};
-ghost use Rattle.paw_stage.specs.Across.{Across, EachMoment};
+ghost use Rattle.paw_stage.specs.Across.{Across, EachMoment, IsOneOf};
 ghost use Rattle.paw_stage.specs.inner.Across.{Once, Throughout};
 ghost use Rattle.paw_routines.specs.Routines.{HaveRows};
 ghost use Rattle.paw_turn.specs.inner.Player.{IsSeated};
@@ -15,7 +15,7 @@ ghost use Rattle.paw_journal.specs.Journal.{IsWriting};
 ghost use Rattle.paw_journal.specs.inner.Journal.{KeptIn, failed_stage_call};
 ghost use Rattle.paw_play.specs.Play.{InPlay};
 ghost use Rattle.paw_play.specs.inner.OnTheWay.{EachStory, EachPlaying, Commits, InCommit, seat_state, PlaysTo};
-ghost use Rattle.paw_play.specs.Calls.{IsOneOf, play_calls};
+ghost use Rattle.paw_play.specs.Calls.{play_calls};
 ghost use Rattle.paw_play.specs.inner.Calls.{IfEndOutside, failed_or, unless_ended};
 
 use crate::PlayEnd;

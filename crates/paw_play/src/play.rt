@@ -6,14 +6,14 @@ ghost use Rattle.paw_base.specs.declared.limits.TheConstants.{EVENT_LIMIT, READ_
 ghost use Rattle.paw_game.specs.Image.{image};
 ghost use Rattle.paw_stage.specs.Disk.{IsStable};
 ghost use Rattle.paw_stage.specs.Stage.{Faulted};
-ghost use Rattle.paw_stage.specs.Across.{Across, EachMoment};
+ghost use Rattle.paw_stage.specs.Across.{Across, EachMoment, IsOneOf};
 ghost use Rattle.paw_routines.specs.Routines.{HaveRows};
 ghost use Rattle.paw_turn.specs.inner.Player.{IsSeated, IsNew};
 ghost use Rattle.paw_journal.specs.inner.Journal.{IsAtRest, KeptIn};
 ghost use Rattle.paw_play.specs.Play.{InPlay, InGame, PlaysOn, PlaysGame, store_bytes};
 ghost use Rattle.paw_play.specs.inner.OnTheWay.{EachStory, EachStarting, InNew, PlaysInStore};
 ghost use Rattle.paw_play.specs.inner.OnTheWay.{Begins, IsStore, new_session};
-ghost use Rattle.paw_play.specs.Calls.{IsOneOf, play_calls, session_calls};
+ghost use Rattle.paw_play.specs.Calls.{play_calls, session_calls};
 ghost use Rattle.paw_play.specs.inner.Calls.{IfEndOutside, call_of_end, failed_or};
 
 use crate::PlayEnd;

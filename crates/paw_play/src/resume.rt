@@ -5,7 +5,7 @@ ghost use Rattle.sha2.specs.Sha256.{sha256};
 ghost use Rattle.paw_game.specs.Image.{image};
 ghost use Rattle.paw_stage.specs.Disk.{IsStable};
 ghost use Rattle.paw_stage.specs.Stage.{Faulted};
-ghost use Rattle.paw_stage.specs.Across.{Across, EachMoment};
+ghost use Rattle.paw_stage.specs.Across.{Across, EachMoment, IsOneOf};
 ghost use Rattle.paw_stage.specs.inner.Across.{Throughout};
 ghost use Rattle.paw_stage.specs.Moments.{InShow};
 ghost use Rattle.paw_routines.specs.Routines.{HaveRows};
@@ -14,7 +14,7 @@ ghost use Rattle.paw_journal.specs.Session.{kept_digest};
 ghost use Rattle.paw_journal.specs.inner.Journal.{KeptIn};
 ghost use Rattle.paw_play.specs.Play.{InPlay, InAgain, PlaysUp, PlaysAgain, ShowsState, kept_session, store_bytes};
 ghost use Rattle.paw_play.specs.inner.OnTheWay.{EachStory, IsStore, ShowsAgain, end_of};
-ghost use Rattle.paw_play.specs.Calls.{IsOneOf, play_calls, session_calls};
+ghost use Rattle.paw_play.specs.Calls.{play_calls, session_calls};
 ghost use Rattle.paw_play.specs.inner.Calls.{IfEndOutside, call_of_end, failed_so_far};
 
 use crate::PlayEnd;

@@ -5,7 +5,7 @@ ghost use Rattle.std.specs.Prelude.{Some, None};
 ghost use Rattle.paw_base.specs.declared.limits.TheConstants.{EVENT_LIMIT, READ_LIMIT};
 ghost use Rattle.paw_routines.specs.Routines.{HaveRows};
 ghost use Rattle.paw_stage.specs.Stage.{Standing, Faulted, ShowsPart, with_shown};
-ghost use Rattle.paw_stage.specs.Across.{Across};
+ghost use Rattle.paw_stage.specs.Across.{Across, IsOneOf};
 ghost use Rattle.paw_stage.specs.inner.Across.{Once, Throughout};
 ghost use Rattle.paw_stage.specs.declared.StageCall.TheVariants as call;
 ghost use Rattle.paw_reading.specs.Turn.{reading};
@@ -14,7 +14,7 @@ ghost use Rattle.paw_turn.specs.inner.Player.{IsSeated};
 ghost use Rattle.paw_play.specs.Walk.{EndingOf, Walks};
 ghost use Rattle.paw_play.specs.inner.Telling.{seat_text, told_as};
 ghost use Rattle.paw_play.specs.inner.OnTheWay.{EachStory, IsWalking, WalksTo, Told, refusal_of};
-ghost use Rattle.paw_play.specs.Calls.{IsOneOf, walk_calls};
+ghost use Rattle.paw_play.specs.Calls.{walk_calls};
 ghost use Rattle.paw_play.specs.inner.Calls.{IfEndOutside, call_of_end, failed_so_far};
 
 use crate::PlayEnd;

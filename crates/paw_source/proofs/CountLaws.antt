@@ -8,7 +8,7 @@ use Rattle.std.specs.Str.Parse.{digits_value}
 use Rattle.std.specs.List.{list_all}
 use Rattle.std.specs.Char.{is_ascii_digit, to_ascii_lowercase}
 use Rattle.std.proofs.lemmas.Slice.Eq.{bytes_eq-Decides}
-use Rattle.std.proofs.lemmas.Bool.{eqb-true}
+use Rattle.std.proofs.lemmas.Bool.{eqb-true, lt-ltb}
 use Rattle.std.proofs.lemmas.Bool.Decides.{nat_tests}
 use Rattle.std.proofs.lemmas.List.{length-append, length-set}
 use Rattle.std.proofs.lemmas.List.Sums.{sum_by-cons}
@@ -86,10 +86,11 @@ digit_no_letter c h = grind (arith, nat_tests)
 
 is_first_digit : (c n : ℕ) (cs : List ℕ) → number (c ∷ cs) ≡ Some n → is_ascii_digit c ≡ true
 is_first_digit c n cs h =
+    let some : nat_lt 0 (length (c ∷ cs)) ≡ true = lt-ltb 0 (length (c ∷ cs)) (omega arith) in
     elim (is_ascii_digit c) as (λ b. cond (b && list_all is_ascii_digit cs) (Some (digits_value 10 (c ∷ cs))) None ≡ Some n → b ≡ true) [
       | true ↦ λ e. refl
       | false ↦ λ e. absurd cc
-    ] h
+    ] (rw some at h)
 
 number_not_pro : (t : List ℕ) (n : ℕ) → number (drop 1 t) ≡ Some n → is_named t (codes "/PRO") ≡ false
 number_not_pro [] n h = refl

@@ -1,8 +1,23 @@
 -- What happened at a stage across a call, or across several one after the other: `old` is the stage before, `new` the
 -- stage after, and `g` has what a stage tells.
-use Rattle.paw_stage.specs.Stage.{Standing}
+use Rattle.std.specs.Prelude.{◌≡◌, ◌↔◌, ◌⊎◌, List, [], ◌∷◌, Option, IfSome}
+use Rattle.paw_stage.specs.declared.StageCall.{StageCall}
+use Rattle.paw_stage.specs.Stage.{Standing, Faulted}
 use Rattle.paw_stage.specs.Moments.{Moment, Moments}
 use Rattle.paw_stage.specs.declared.Stage.{Ghosts}
+
+-- x is one of these
+abbrev pub IsOneOf : {A : Type 0} → List A → A → Type 0
+IsOneOf [] x = ⊥
+IsOneOf (y ∷ ys) x = (x ≡ y) ⊎ IsOneOf ys x
+
+-- The stage tells after the calls exactly where it told before. Where one of them failed it is one of these, and its
+-- count of faults rose, and no other.
+pub record Serves {S : Type 0} (g : Ghosts S) (calls : List StageCall) (failed : Option StageCall) (old new : S)
+    : Type 0 where
+  pub tells : g.Tells old ↔ g.Tells new
+  pub faulted : Faulted failed (g.faults old) (g.faults new)
+  pub among : IfSome failed (IsOneOf calls)
 
 -- Where the stage tells what stands at it, this holds of what stood before and what stands after.
 abbrev pub Across : {S : Type 0} → Ghosts S → S → S → (Standing → Standing → Type 0) → Type 0

@@ -6,8 +6,8 @@ use Rattle.paw_game.specs.Game.{GameLists}
 use Rattle.paw_stage.specs.Stage.{Faulted}
 use Rattle.paw_stage.proofs.Counted.{Faulted_on}
 use Rattle.paw_stage.specs.declared.StageCall.{StageCall}
+use Rattle.paw_stage.specs.Across.{IsOneOf}
 use Rattle.paw_journal.specs.declared.refusal.JournalRefusal.TheVariants as refusal
-use Rattle.paw_play.specs.Calls.{IsOneOf}
 use Rattle.paw_play.specs.inner.Calls.{IfEndOutside, call_of_end}
 use Rattle.paw_play.specs.declared.PlayEnd.{PlayEnd}
 use Rattle.paw_play.specs.declared.PlayEnd.TheVariants as end

@@ -22,7 +22,7 @@ kept_below limit n count (Err e) h =
       | true ↦ λ s. elim (ltb n limit) as (λ b. ltb n limit ≡ b → ◌≡◌ {A = Option ℕ} None (cond b (Some n) None)) [
         | true ↦ λ t. absurd (h (ltb-true 0 count s, ltb-true n limit t))
         | false ↦ λ t. refl
-        ] refl
+      ] refl
       | false ↦ λ s. refl
     ] refl
 

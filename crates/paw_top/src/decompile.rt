@@ -3,7 +3,7 @@
 ghost use Rattle.std.specs.Prelude.{◌≢◌, ◌↔◌, ◌∷◌, IfSome};
 ghost use Rattle.paw_stage.specs.Stage.{Faulted};
 ghost use Rattle.paw_stage.specs.declared.StageCall.TheVariants as call;
-ghost use Rattle.paw_play.specs.Calls.{IsOneOf};
+ghost use Rattle.paw_stage.specs.Across.{IsOneOf};
 ghost use Rattle.paw_top.specs.Answers.{IfMemory, load_calls, load_memory, failed_call};
 ghost use Rattle.paw_top.specs.Decompile.{Decompiles};
 ghost use Rattle.paw_top.specs.declared.outcome.MemoryAt.TheVariants as memory;

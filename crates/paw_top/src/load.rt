@@ -3,9 +3,8 @@
 ghost use Rattle.std.specs.Prelude.{◌≢◌, ◌↔◌, IfOk, IfErr, IfSome};
 ghost use Rattle.paw_stage.specs.Moments.{Still};
 ghost use Rattle.paw_stage.specs.Stage.{Faulted};
-ghost use Rattle.paw_stage.specs.Across.{Across};
+ghost use Rattle.paw_stage.specs.Across.{Across, IsOneOf};
 ghost use Rattle.paw_stage.specs.inner.Across.{Throughout};
-ghost use Rattle.paw_play.specs.Calls.{IsOneOf};
 ghost use Rattle.paw_top.specs.Answers.{IfMemory, load_calls, load_memory, failed_call};
 ghost use Rattle.paw_top.specs.inner.Answers.{failed_or};
 ghost use Rattle.paw_top.specs.inner.Loads.{LoadsSome, LoadsNone};

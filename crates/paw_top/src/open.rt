@@ -2,11 +2,11 @@
 
 ghost use Rattle.std.specs.Prelude.{◌≡◌, ◌≢◌, ℕ, List, Some, None, IfOk, IfErr};
 ghost use Rattle.paw_game.specs.Game.{GameLists};
+ghost use Rattle.paw_stage.specs.Across.{IsOneOf};
 ghost use Rattle.paw_image.specs.Damage.{bad};
 ghost use Rattle.paw_image.specs.Images.{IsImage};
 ghost use Rattle.paw_image.specs.inner.Images.{AtDamage};
 ghost use Rattle.paw_image.specs.inner.Views.{game_read};
-ghost use Rattle.paw_play.specs.Calls.{IsOneOf};
 ghost use Rattle.paw_top.specs.Answers.{IfMemory, load_memory, failed_call};
 ghost use Rattle.paw_top.specs.inner.Answers.{failed_or};
 ghost use Rattle.paw_top.specs.inner.Loads.{GivesNone};

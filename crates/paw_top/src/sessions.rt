@@ -3,12 +3,12 @@
 ghost use Rattle.std.specs.Prelude.{◌≡◌, ◌≢◌, ◌↔◌, ℕ, List, [], ◌∷◌, ◌++◌, IfSome};
 ghost use Rattle.paw_effects.specs.Story.{Story};
 ghost use Rattle.paw_play.specs.inner.Telling.{told_as};
-ghost use Rattle.paw_play.specs.Calls.{IsOneOf, walk_calls, session_calls};
+ghost use Rattle.paw_play.specs.Calls.{walk_calls, session_calls};
 ghost use Rattle.paw_play.specs.Play.{InGame, InAgain, InGoingOn, ShowsState, store_bytes};
 ghost use Rattle.paw_play.specs.Stands.{Stands, IsPlayedWith};
 ghost use Rattle.paw_reading.specs.Turn.{reading};
 ghost use Rattle.paw_state.specs.State.{State};
-ghost use Rattle.paw_stage.specs.Across.{Across, EachMoment};
+ghost use Rattle.paw_stage.specs.Across.{Across, EachMoment, IsOneOf};
 ghost use Rattle.paw_routines.specs.Routines.{AreRowsOf, HaveRows};
 ghost use Rattle.paw_stage.specs.Disk.{IsStable};
 ghost use Rattle.paw_top.specs.Answers.{IfMemory, load_calls, load_memory, failed_call};

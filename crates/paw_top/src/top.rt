@@ -6,12 +6,11 @@ ghost use Rattle.paw_top.specs.Commands.{Trace as TraceOf, Play as PlayOf, Resum
 ghost use Rattle.paw_top.specs.Commands.{Trial as TrialOf, asked_for};
 ghost use Rattle.paw_routines.specs.Routines.{AreRowsOf, HaveRows};
 ghost use Rattle.paw_effects.specs.Story.{Story};
-ghost use Rattle.paw_stage.specs.Across.{Across, EachMoment};
+ghost use Rattle.paw_stage.specs.Across.{Across, EachMoment, IsOneOf};
 ghost use Rattle.paw_stage.specs.Disk.{IsStable};
 ghost use Rattle.paw_top.specs.Answers.{IfMemory, calls_of, memory_of, failed_call};
 ghost use Rattle.paw_stage.specs.Stage.{Faulted};
 ghost use Rattle.paw_state.specs.State.{State};
-ghost use Rattle.paw_play.specs.Calls.{IsOneOf};
 ghost use Rattle.paw_play.specs.Play.{InGame, InAgain, InGoingOn, ShowsState, store_bytes};
 ghost use Rattle.paw_play.specs.Stands.{Stands, IsPlayedWith};
 ghost use Rattle.paw_top.specs.Compile.{Compiles};

@@ -3,7 +3,7 @@
 ghost use Rattle.std.specs.Prelude.{◌≡◌, ◌≢◌, ◌↔◌, ℕ, [], ◌∷◌, None, IfSome};
 ghost use Rattle.paw_stage.specs.Stage.{Standing, Faulted};
 ghost use Rattle.paw_stage.specs.declared.StageCall.TheVariants as call;
-ghost use Rattle.paw_play.specs.Calls.{IsOneOf};
+ghost use Rattle.paw_stage.specs.Across.{IsOneOf};
 ghost use Rattle.paw_trial.specs.Trial.{trial_reading};
 ghost use Rattle.paw_trial.specs.inner.Trial.{StopsAs};
 ghost use Rattle.paw_top.specs.Answers.{IfMemory, failed_call};
