@@ -3,7 +3,7 @@ use Rattle.std.specs.Prelude.{◌≡◌, ℕ, ◌-◌, ◌^◌, ◌<◌, List, [
 use Rattle.std.specs.Prelude.{flat_map, if◌then◌else◌}
 use Rattle.std.specs.Int.{w64, to_le_bytes}
 unfoldable pub use Rattle.paw_base.specs.Bytes.{zeros}
-use Rattle.paw_base.specs.declared.limits.TheConstants.{OBJECT_LIMIT, FLAG_COUNT, LINE_LIMIT}
+use Rattle.paw_base.specs.declared.limits.TheConstants.{OBJECT_LIMIT, FLAG_COUNT, LINE_LIMIT, POSITION_COUNT}
 use Rattle.paw_game.specs.Image.{two_bytes}
 use Rattle.paw_world.specs.World.{Position}
 use Rattle.paw_effects.specs.declared.act.Prompt.{Prompt}
@@ -11,7 +11,6 @@ use Rattle.paw_effects.specs.declared.act.Prompt.TheVariants as prompt
 use Rattle.paw_reading.specs.declared.places.Frame.{Frame}
 use Rattle.paw_reading.specs.declared.places.OpenLoop.{OpenLoop}
 use Rattle.paw_process.specs.declared.machine.TheConstants.{MOST_FRAMES}
-use Rattle.paw_state.specs.declared.layout.TheConstants.{MOST_KEPT}
 use Rattle.paw_state.specs.declared.fields.Row.{Row}
 use Rattle.paw_state.specs.declared.fields.Fields.{Fields}
 use Rattle.paw_state.specs.declared.held.Held.{Held}
@@ -89,7 +88,7 @@ pub record AreSized (f : Fields) : Type 0 where
   pub pending : f.pending < 256
   pub line : length f.line ≡ LINE_LIMIT
   pub piece : f.piece < 2 ^ 16
-  pub four : length f.kept ≡ MOST_KEPT
+  pub four : length f.kept ≡ POSITION_COUNT
   pub kept : All IsSizedHeld f.kept
 
 -- 1 for what is there, 0 for what isn't

@@ -3,6 +3,7 @@
 ghost use Rattle.std.specs.Prelude.{◌≡◌, ◌+◌, ◌<◌, ◌≤◌, ◌^◌, ◌*◌, length, slice_get};
 ghost use Rattle.paw_game.specs.Valid.{Valid, is_place};
 ghost use Rattle.paw_process.specs.Kept.{is_that_table};
+ghost use Rattle.paw_state.specs.declared.layout.TheConstants.{HELD_LENGTH, ROW_LENGTH, STATE_ROOM};
 ghost use Rattle.paw_state.specs.Faults.{rule, first_not, is_zero, places_fault, absent_fault, held_fault};
 ghost use Rattle.paw_state.specs.Faults.{kept_fault, numbers_fault, prompt_of, prompt_fault, unused_fault};
 ghost use Rattle.paw_state.specs.Faults.{used_fault, row_fault, row_fields_fault, no_loop_fault, row_table};
@@ -63,7 +64,7 @@ fn all_places(locations: u16, at: usize, places: &[u8]) -> Result<(), StateFault
 
 /// The places of the objects, and zeros behind them.
 fn check_places<T: Tables>(tables: &T, at: usize, places: &[u8; 255]) -> Result<(), StateFault>
-    requires near { at < 4096 }
+    requires near { at < STATE_ROOM }
     ensures value { fault_of result ≡ places_fault (T.game tables.now) at places.now }
     ensures valid { Valid (T.game tables.now) }
 {
@@ -75,7 +76,7 @@ fn check_places<T: Tables>(tables: &T, at: usize, places: &[u8; 255]) -> Result<
 
 /// The flags and the places of a position that isn't there.
 fn check_absent(at: usize, held: &Held) -> Result<(), StateFault>
-    requires near { at + 512 ≤ 4096 }
+    requires near { at + HELD_LENGTH ≤ STATE_ROOM }
     ensures value { fault_of result ≡ absent_fault at held.now }
 {
     all_zero(at + HELD_FLAGS, &held.flags)?;
@@ -84,7 +85,7 @@ fn check_absent(at: usize, held: &Held) -> Result<(), StateFault>
 
 /// A position that may be there.
 fn check_held<T: Tables>(tables: &T, at: usize, held: &Held) -> Result<(), StateFault>
-    requires near { at + 512 ≤ 4096 }
+    requires near { at + HELD_LENGTH ≤ STATE_ROOM }
     ensures value { fault_of result ≡ held_fault (T.game tables.now) at held.now }
 {
     rule(at, held.there <= 1)?;
@@ -97,7 +98,7 @@ fn check_held<T: Tables>(tables: &T, at: usize, held: &Held) -> Result<(), State
 
 /// These positions, the first of which stands at this place.
 fn check_kept<T: Tables>(tables: &T, at: usize, kept: &[Held]) -> Result<(), StateFault>
-    requires near { at + 512 * length kept.now ≤ 4096 }
+    requires near { at + HELD_LENGTH * length kept.now ≤ STATE_ROOM }
     ensures value { fault_of result ≡ kept_fault (T.game tables.now) at kept.now }
 {
     let Some((held, rest)) = kept.split_first() else {
@@ -141,7 +142,7 @@ fn check_prompt(fields: &Fields) -> Result<(), StateFault>
 
 /// A row that isn't used.
 fn check_unused(at: usize, row: &Row) -> Result<(), StateFault>
-    requires near { at < 4096 }
+    requires near { at < STATE_ROOM }
     ensures value { fault_of result ≡ unused_fault at row.now }
 {
     rule(at, row.table == 0)?;
@@ -158,7 +159,7 @@ fn check_used<T: Tables>(
     at: usize,
     row: &Row,
 ) -> Result<(), StateFault>
-    requires near { at < 4096 }
+    requires near { at < STATE_ROOM }
     ensures value { fault_of result ≡ used_fault (T.game tables.now) code caller at row.now }
 {
     let condact = tables.condact(row.table, row.entry, row.at);
@@ -177,7 +178,7 @@ fn check_row<T: Tables>(
     at: usize,
     row: &Row,
 ) -> Result<(), StateFault>
-    requires near { at < 4096 }
+    requires near { at < STATE_ROOM }
     ensures value { fault_of result ≡ row_fault (T.game tables.now) code caller used at row.now }
 {
     match used {
@@ -196,7 +197,7 @@ fn check_rows<T: Tables>(
     at: usize,
     rows: &[Row],
 ) -> Result<(), StateFault>
-    requires near { at + 5 * length rows.now < 4096 }
+    requires near { at + ROW_LENGTH * length rows.now < STATE_ROOM }
     ensures value { fault_of result ≡ row_fields_fault (T.game tables.now) code caller used at rows.now }
 {
     let Some((row, rest)) = rows.split_first() else {

@@ -1,6 +1,10 @@
 // The fields of a state, as they stand in its bytes.
 
-ghost use Rattle.std.specs.Prelude.{◌≡◌, ◌+◌, ◌≤◌, ◌++◌, length, drop, flat_map, slice_range};
+ghost use Rattle.std.specs.Prelude.{◌≡◌, ◌+◌, ◌-◌, ◌*◌, ◌≤◌, ◌++◌, length, drop, flat_map, slice_range};
+ghost use Rattle.paw_base.specs.declared.limits.TheConstants.{POSITION_COUNT};
+ghost use Rattle.paw_process.specs.declared.machine.TheConstants.{MOST_FRAMES};
+ghost use Rattle.paw_state.specs.declared.layout.TheConstants.{HELD_LENGTH, ROW_LENGTH, ROWS};
+ghost use Rattle.paw_state.specs.declared.layout.TheConstants.{STATE_LENGTH, STATE_ROOM};
 ghost use Rattle.paw_state.specs.inner.Parts.{frame_in};
 ghost use Rattle.paw_state.specs.inner.Writer.{Writes};
 ghost use Rattle.paw_state.specs.State.{AreBytes};
@@ -13,10 +17,11 @@ ghost use Rattle.paw_state.specs.Fields.{pending_bytes, kept_position_bytes, fie
 use crate::held::Held;
 use crate::layout::{
     COUNT, DRAWS, EARLIER, EVENTS, FLAGS, HELD_LENGTH, KEPT, LINE, LOOP_AT, LOOP_ENTRY, LOOP_LAST,
-    LOOP_LEVEL, LOOP_PLACE, LOOP_TABLE, LOOPING, MOST_KEPT, PENDING, PIECE, PLACES, PROMPT,
-    ROW_ACTED, ROW_AT, ROW_ENTRY, ROW_LENGTH, ROWS, SAVED, SEED, STATE_ROOM,
+    LOOP_LEVEL, LOOP_PLACE, LOOP_TABLE, LOOPING, PENDING, PIECE, PLACES, PROMPT, ROW_ACTED, ROW_AT,
+    ROW_ENTRY, ROW_LENGTH, ROWS, SAVED, SEED, STATE_ROOM,
 };
 use crate::writer::Writer;
+use paw_base::limits::POSITION_COUNT;
 use paw_process::MOST_FRAMES;
 use paw_reading::places::{Frame, OpenLoop};
 
@@ -81,12 +86,12 @@ pub(crate) struct Fields {
     pub(crate) pending: u8,
     pub(crate) line: [u8; 255],
     pub(crate) piece: u16,
-    pub(crate) kept: [Held; MOST_KEPT],
+    pub(crate) kept: [Held; POSITION_COUNT],
 }
 
 /// The N bytes from a place on.
 pub(crate) fn array_at<const N: usize>(bytes: &[u8; STATE_ROOM], at: usize) -> [u8; N]
-    requires inside { at + N ≤ 4096 }
+    requires inside { at + N ≤ STATE_ROOM }
     ensures value { result ≡ slice_range bytes.now at (at + N) }
 {
     let mut array = [0; N];
@@ -96,7 +101,7 @@ pub(crate) fn array_at<const N: usize>(bytes: &[u8; STATE_ROOM], at: usize) -> [
 
 /// The number of two bytes at a place.
 fn two_at(bytes: &[u8; STATE_ROOM], at: usize) -> u16
-    requires inside { at + 2 ≤ 4096 }
+    requires inside { at + 2 ≤ STATE_ROOM }
     ensures value { result ≡ two_at bytes.now at }
 {
     u16::from_le_bytes(array_at(bytes, at))
@@ -104,14 +109,14 @@ fn two_at(bytes: &[u8; STATE_ROOM], at: usize) -> u16
 
 /// The number of eight bytes at a place.
 fn eight_at(bytes: &[u8; STATE_ROOM], at: usize) -> u64
-    requires inside { at + 8 ≤ 4096 }
+    requires inside { at + 8 ≤ STATE_ROOM }
     ensures value { result ≡ eight_at bytes.now at }
 {
     u64::from_le_bytes(array_at(bytes, at))
 }
 
 /// The kept positions.
-fn kept_at(bytes: &[u8; STATE_ROOM]) -> [Held; MOST_KEPT]
+fn kept_at(bytes: &[u8; STATE_ROOM]) -> [Held; POSITION_COUNT]
     ensures value { result ≡ (fields_at bytes.now).kept }
 {
     [
@@ -124,7 +129,7 @@ fn kept_at(bytes: &[u8; STATE_ROOM]) -> [Held; MOST_KEPT]
 
 /// The row at a place.
 fn row_at(bytes: &[u8; STATE_ROOM], at: usize) -> Row
-    requires inside { at + 5 ≤ 4096 }
+    requires inside { at + ROW_LENGTH ≤ STATE_ROOM }
     ensures value { result ≡ row_at (drop at bytes.now) }
 {
     Row {
@@ -137,7 +142,7 @@ fn row_at(bytes: &[u8; STATE_ROOM], at: usize) -> Row
 
 /// All rows.
 fn rows_at(bytes: &[u8; STATE_ROOM]) -> [Row; MOST_FRAMES]
-    ensures value { result ≡ rows_at 11 (drop 1049 bytes.now) }
+    ensures value { result ≡ rows_at MOST_FRAMES (drop ROWS bytes.now) }
 {
     let mut rows = [Row::EMPTY; MOST_FRAMES];
     for i in 0..MOST_FRAMES {
@@ -165,7 +170,7 @@ impl Fields {
     pub(crate) fn at(bytes: &[u8; STATE_ROOM]) -> Fields
         ensures value { result ≡ fields_at bytes.now }
         ensures bytes { AreBytes bytes.now }
-        ensures room { 3419 ≤ length bytes.now }
+        ensures room { STATE_LENGTH ≤ length bytes.now }
     {
         Fields {
             flags: array_at(bytes, FLAGS),
@@ -189,9 +194,9 @@ impl Fields {
 
     /// The bytes of these fields, and zeros behind them.
     pub(crate) fn bytes(&self) -> [u8; STATE_ROOM]
-        ensures value { result ≡ field_bytes self.now ++ zeros 677 }
-        ensures kept { length (kept_position_bytes self.now) ≡ 2048 }
-        ensures room { length result ≡ 4096 }
+        ensures value { result ≡ field_bytes self.now ++ zeros (STATE_ROOM - STATE_LENGTH) }
+        ensures kept { length (kept_position_bytes self.now) ≡ POSITION_COUNT * HELD_LENGTH }
+        ensures room { length result ≡ STATE_ROOM }
     {
         let mut writer = Writer::new();
         self.put_world(&mut writer);
@@ -205,7 +210,7 @@ impl Fields {
     /// Flags and places, now and in the saved position.
     #[tactic(auto, unfolding(crate::specs::Fields::world_bytes))]
     fn put_world(&self, writer: &mut Writer)
-        requires room { length writer.old + 1023 ≤ 4096 }
+        requires room { length writer.old + 1023 ≤ STATE_ROOM }
         ensures { Writes (world_bytes self.now) 1023 writer.old writer.new }
     {
         writer.put(&self.flags);
@@ -216,7 +221,7 @@ impl Fields {
     /// The seed, the draws and the lines.
     #[tactic(auto, unfolding(crate::specs::Fields::number_bytes))]
     fn put_numbers(&self, writer: &mut Writer)
-        requires room { length writer.old + 24 ≤ 4096 }
+        requires room { length writer.old + 24 ≤ STATE_ROOM }
         ensures { Writes (number_bytes self.now) 24 writer.old writer.new }
     {
         writer.put(&self.seed.to_le_bytes());
@@ -227,7 +232,7 @@ impl Fields {
     /// The prompt, the rows of the open tables, and the open loop.
     #[tactic(auto, unfolding(crate::specs::Fields::table_bytes))]
     fn put_tables(&self, writer: &mut Writer)
-        requires room { length writer.old + 65 ≤ 4096 }
+        requires room { length writer.old + 65 ≤ STATE_ROOM }
         ensures { Writes (table_bytes self.now) 65 writer.old writer.new }
     {
         writer.put(&[self.prompt, self.count]);
@@ -238,7 +243,7 @@ impl Fields {
 
     /// The rows of the open tables.
     fn put_rows(&self, writer: &mut Writer)
-        requires room { length writer.old + 55 ≤ 4096 }
+        requires room { length writer.old + 55 ≤ STATE_ROOM }
         ensures { Writes (flat_map row_bytes self.now.rows) 55 writer.old writer.new }
     {
         for row in &self.rows {
@@ -249,7 +254,7 @@ impl Fields {
 
     /// The open loop.
     fn put_loop(&self, writer: &mut Writer)
-        requires room { length writer.old + 7 ≤ 4096 }
+        requires room { length writer.old + 7 ≤ STATE_ROOM }
         ensures { Writes (loop_bytes self.now.turning) 7 writer.old writer.new }
     {
         let turning = &self.turning;
@@ -261,7 +266,7 @@ impl Fields {
     /// What is pending, and how many bytes the last piece has.
     #[tactic(auto, unfolding(crate::specs::Fields::pending_bytes))]
     fn put_pending(&self, writer: &mut Writer)
-        requires room { length writer.old + 259 ≤ 4096 }
+        requires room { length writer.old + 259 ≤ STATE_ROOM }
         ensures { Writes (pending_bytes self.now) 259 writer.old writer.new }
     {
         writer.put(&[self.earlier, self.pending]);
@@ -272,8 +277,8 @@ impl Fields {
     /// The kept positions.
     #[tactic(auto, unfolding(crate::specs::Fields::kept_position_bytes))]
     fn put_kept(&self, writer: &mut Writer)
-        requires room { length writer.old + 2048 ≤ 4096 }
-        ensures { Writes (kept_position_bytes self.now) 2048 writer.old writer.new }
+        requires room { length writer.old + POSITION_COUNT * HELD_LENGTH ≤ STATE_ROOM }
+        ensures { Writes (kept_position_bytes self.now) (POSITION_COUNT * HELD_LENGTH) writer.old writer.new }
     {
         for held in &self.kept {
             held.put(writer);

@@ -1,6 +1,7 @@
 // A position that may be there, as it stands in the bytes of a state.
 
 ghost use Rattle.std.specs.Prelude.{◌≡◌, ◌+◌, ◌≤◌, length, drop};
+ghost use Rattle.paw_state.specs.declared.layout.TheConstants.{HELD_LENGTH, STATE_ROOM};
 ghost use Rattle.paw_state.specs.Fields.{held_bytes};
 ghost use Rattle.paw_state.specs.inner.Fields.{held_at};
 ghost use Rattle.paw_state.specs.inner.Writer.{Writes};
@@ -27,7 +28,7 @@ impl Held {
 
     /// The position whose bytes begin at a place.
     pub(crate) fn at(bytes: &[u8; STATE_ROOM], start: usize) -> Held
-        requires inside { start + 512 ≤ 4096 }
+        requires inside { start + HELD_LENGTH ≤ STATE_ROOM }
         ensures value { result ≡ held_at (drop start bytes.now) }
     {
         Held {
@@ -40,8 +41,8 @@ impl Held {
     /// Writes the bytes of a position.
     #[tactic(auto, unfolding(crate::specs::Fields::held_bytes))]
     pub(crate) fn put(&self, writer: &mut Writer)
-        requires room { length writer.old + 512 ≤ 4096 }
-        ensures { Writes (held_bytes self.now) 512 writer.old writer.new }
+        requires room { length writer.old + HELD_LENGTH ≤ STATE_ROOM }
+        ensures { Writes (held_bytes self.now) HELD_LENGTH writer.old writer.new }
     {
         writer.put(&[self.there]);
         writer.put(&self.flags);

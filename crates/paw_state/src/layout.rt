@@ -82,6 +82,3 @@ pub const PIECE: usize = 1369;
 
 /// The kept positions, one after the other.
 pub const KEPT: usize = 1371;
-
-/// How many there are.
-pub const MOST_KEPT: usize = 4;

@@ -2,8 +2,10 @@
 
 ghost use Rattle.std.specs.Prelude.{◌+◌, ◌*◌, slice_index, ◌≡◌, ◌≢◌, ◌<◌, ◌≤◌, ◌↔◌, None};
 ghost use Rattle.std.specs.Prelude.{length, map, replicate, slice_set, IsOk, IfOk, IfErr};
+ghost use Rattle.paw_base.specs.declared.limits.TheConstants.{POSITION_COUNT};
 ghost use Rattle.paw_process.specs.Kept.{kept, frames_fault};
 ghost use Rattle.paw_process.specs.inner.Kept.{restored, waiting_at, StandsAt};
+ghost use Rattle.paw_state.specs.declared.layout.TheConstants.{PIECE};
 ghost use Rattle.paw_state.specs.Faults.{fields_fault};
 ghost use Rattle.paw_world.specs.World.{kept_position};
 ghost use Rattle.paw_state.specs.inner.Parts.{SetsSaved, held_in, world_in, frame_in, frames_in, state_in};
@@ -13,8 +15,9 @@ ghost use Rattle.paw_state.specs.inner.Fit.{state_read, IsRead};
 use crate::checks::{check, prompt_of};
 use crate::fields::{Fields, Row};
 use crate::held::Held;
-use crate::layout::{MOST_KEPT, STATE_ROOM};
+use crate::layout::STATE_ROOM;
 use crate::{Restored, StateFault};
+use paw_base::limits::POSITION_COUNT;
 use paw_effects::act::Prompt;
 use paw_effects::opening::opening_world;
 use paw_game::tables::Tables;
@@ -32,7 +35,7 @@ pub fn read_state<T: Tables>(tables: &T, bytes: &[u8; STATE_ROOM]) -> Result<Res
     ensures read { IfOk result (IsRead (T.game tables.now) bytes.now) }
     ensures fit { IsOk result ↔ Fit (T.game tables.now) bytes.now }
     ensures fault { IfErr result (λ e. Unfit (T.game tables.now) bytes.now e.at) }
-    ensures piece { IfOk result (λ r. slice_index bytes.now 1369 + 256 * slice_index bytes.now 1370 ≡ r.piece) }
+    ensures piece { IfOk result (λ r. slice_index bytes.now PIECE + 256 * slice_index bytes.now (PIECE + 1) ≡ r.piece) }
 {
     let fields = Fields::at(bytes);
     check(tables, &fields)?;
@@ -55,7 +58,7 @@ fn put_saved(world: &mut World, held: &Held)
 
 /// The kept position of this number, which wasn't kept before, becomes this one.
 fn put_kept(world: &mut World, n: u8, held: &Held)
-    requires few { n < 4 }
+    requires few { n < POSITION_COUNT }
     requires none { kept_position world.old n ≡ None }
     ensures value { world.new ≡ record world.old {
       kept = slice_set world.old.kept n (held_in (length world.old.places) held.now);
@@ -69,11 +72,11 @@ fn put_kept(world: &mut World, n: u8, held: &Held)
 }
 
 /// The kept positions, none of which was kept before, become these.
-fn put_all_kept(world: &mut World, kept: &[Held; MOST_KEPT])
-    requires none { world.old.kept ≡ replicate 4 None }
+fn put_all_kept(world: &mut World, kept: &[Held; POSITION_COUNT])
+    requires none { world.old.kept ≡ replicate POSITION_COUNT None }
     ensures value { world.new ≡ record world.old { kept = map (held_in (length world.old.places)) kept.now } }
 {
-    for n in 0..MOST_KEPT {
+    for n in 0..POSITION_COUNT {
         put_kept(world, n as u8, &kept[n]);
     }
 }

@@ -1,8 +1,10 @@
 // From a game that is played to the bytes of its state.
 
-ghost use Rattle.std.specs.Prelude.{◌+◌, ◌*◌, slice_index, ◌≡◌, ◌≤◌, ◌<◌, ◌++◌, length};
+ghost use Rattle.std.specs.Prelude.{◌+◌, ◌-◌, ◌*◌, slice_index, ◌≡◌, ◌≤◌, ◌<◌, ◌++◌, length};
 ghost use Rattle.std.specs.Prelude.{map, All, Some, None};
+ghost use Rattle.paw_base.specs.declared.limits.TheConstants.{POSITION_COUNT};
 ghost use Rattle.paw_world.specs.World.{kept_position, IsWorld};
+ghost use Rattle.paw_state.specs.declared.layout.TheConstants.{PIECE, STATE_LENGTH, STATE_ROOM};
 ghost use Rattle.paw_state.specs.State.{AreBytes, HoldsBytes, FitsFields};
 ghost use Rattle.paw_state.specs.inner.State.{state_of, state_with};
 ghost use Rattle.paw_state.specs.Fields.{zeros, filled, held_of, prompt_code, row_of};
@@ -10,7 +12,8 @@ ghost use Rattle.paw_state.specs.Fields.{loop_or_zeros, fields_of, state_bytes};
 
 use crate::fields::{Fields, Row};
 use crate::held::Held;
-use crate::layout::{MOST_KEPT, STATE_ROOM};
+use crate::layout::STATE_ROOM;
+use paw_base::limits::POSITION_COUNT;
 use paw_effects::act::Prompt;
 use paw_phrase::Pending;
 use paw_process::{Frames, MOST_FRAMES, Machine};
@@ -29,10 +32,12 @@ pub fn write_state(
     into: &mut [u8; STATE_ROOM],
 )
     ensures value { into.new ≡
-        state_bytes (state_of world.now machine.now pending.now prompt events piece) ++ zeros 677 }
+        state_bytes (state_of world.now machine.now pending.now prompt events piece)
+        ++ zeros (STATE_ROOM - STATE_LENGTH) }
     ensures fits { FitsFields (state_of world.now machine.now pending.now prompt events piece) }
-    ensures length { length (state_bytes (state_of world.now machine.now pending.now prompt events piece)) ≡ 3419 }
-    ensures piece { slice_index into.new 1369 + 256 * slice_index into.new 1370 ≡ piece }
+    ensures length { length (state_bytes (state_of world.now machine.now pending.now prompt events piece))
+        ≡ STATE_LENGTH }
+    ensures piece { slice_index into.new PIECE + 256 * slice_index into.new (PIECE + 1) ≡ piece }
 {
     // Its clause tells the proof that a world has at most 255 objects. No call of it is left in the program.
     let _objects = world.objects();
@@ -132,7 +137,7 @@ fn saved_of(world: &World) -> Held
 /// The kept position of this number, where it was kept.
 fn kept_of(world: &World, n: u8) -> Held
     requires few { IsWorld world.now }
-    requires known { n < 4 }
+    requires known { n < POSITION_COUNT }
     ensures value { result ≡ held_of (kept_position world.now n) }
     ensures bytes { HoldsBytes (kept_position world.now n) }
 {
@@ -143,7 +148,7 @@ fn kept_of(world: &World, n: u8) -> Held
 }
 
 /// The kept positions.
-fn all_kept(world: &World) -> [Held; MOST_KEPT]
+fn all_kept(world: &World) -> [Held; POSITION_COUNT]
     requires few { IsWorld world.now }
     ensures value { result ≡ map held_of world.now.kept }
     ensures bytes { All HoldsBytes world.now.kept }

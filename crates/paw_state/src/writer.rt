@@ -1,6 +1,7 @@
 // Writing one field after the other.
 
 ghost use Rattle.std.specs.Prelude.{◌≡◌, ◌+◌, ◌-◌, ◌≤◌, [], ◌++◌, length};
+ghost use Rattle.paw_state.specs.declared.layout.TheConstants.{STATE_ROOM};
 ghost use Rattle.paw_state.specs.Fields.{zeros};
 ghost use Rattle.paw_state.specs.inner.Writer.{Writes};
 
@@ -16,13 +17,14 @@ pub(crate) struct Writer {
 
 impl Model for Writer {
     ghost use Rattle.std.specs.Prelude.{◌≡◌, ◌-◌, ◌≤◌, List, ℕ, take, drop};
+    ghost use Rattle.paw_state.specs.declared.layout.TheConstants.{STATE_ROOM};
     ghost use Rattle.paw_state.specs.Fields.{zeros};
 
     ghost Value = { List ℕ };
 
     ghost view = { λ w. take w.count w.bytes };
 
-    ghost invariant = { λ w. (w.count ≤ 4096) × (drop w.count w.bytes ≡ zeros (4096 - w.count)) };
+    ghost invariant = { λ w. (w.count ≤ STATE_ROOM) × (drop w.count w.bytes ≡ zeros (STATE_ROOM - w.count)) };
 }
 
 impl Writer {
@@ -38,7 +40,7 @@ impl Writer {
 
     /// Writes a field behind the others.
     pub(crate) fn put(&mut self, field: &[u8])
-        requires room { length self.old + length field.now ≤ 4096 }
+        requires room { length self.old + length field.now ≤ STATE_ROOM }
         ensures { Writes field.now (length field.now) self.old self.new }
     {
         let end = self.count + field.len();
@@ -48,8 +50,8 @@ impl Writer {
 
     /// What was written, and zeros behind it.
     pub(crate) fn finish(self) -> [u8; STATE_ROOM]
-        ensures value { result ≡ self ++ zeros (4096 - length self) }
-        ensures room { length result ≡ 4096 }
+        ensures value { result ≡ self ++ zeros (STATE_ROOM - length self) }
+        ensures room { length result ≡ STATE_ROOM }
     {
         self.bytes
     }
