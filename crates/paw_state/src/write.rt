@@ -46,7 +46,7 @@ pub fn write_state(
     *into = fields.bytes();
 }
 
-/// The same flags.
+/// The same flags. Its clause tells the proof that they are bytes.
 fn copied(flags: &[u8]) -> [u8; 256]
     requires all { length flags.now ≡ 256 }
     ensures value { result ≡ flags.now }
