@@ -3,13 +3,17 @@
 ghost use Rattle.std.specs.Prelude.{◌≡◌, ◌≤◌, ◌++◌, ◌∷◌, ◌==◌, List, [], OnOk, decimal, length};
 ghost use Rattle.std.specs.List.{position_or_len};
 ghost use Rattle.std.specs.Option.{option_map_or};
+ghost use Rattle.paw_base.specs.declared.words.TheConstants.{PREPOSITION_CLASS};
 ghost use Rattle.paw_print.specs.Lines.{class_name, spelled_letters, spaced};
 ghost use Rattle.paw_print.specs.Lines.{first_word, value_token, verb_token, word_token};
 ghost use Rattle.paw_print.specs.Canonical.{with_line_end, words_lines, written};
 ghost use Rattle.paw_print.specs.inner.Words.{TellsFirst};
 
 use crate::rows::{Written, end_line, write_header, write_number, write_token};
-use paw_base::words::{ADJECTIVE_CLASS, ADVERB_CLASS, NOUN_CLASS, PREPOSITION_CLASS, VERB_CLASS};
+use paw_base::words::{
+    ADJECTIVE_CLASS, ADVERB_CLASS, ANY_WORD, CONJUNCTION_CLASS, NO_WORD, NOUN_CLASS,
+    PREPOSITION_CLASS, VERB_CLASS,
+};
 use paw_game::parts::Word;
 use std::marker::Model;
 
@@ -26,6 +30,8 @@ pub(crate) struct Vocabulary<'a> {
 
 impl<'a> Model for Vocabulary<'a> {
     ghost use Rattle.std.specs.Prelude.{List};
+    ghost use Rattle.paw_base.specs.declared.words.TheConstants.{VERB_CLASS, ADVERB_CLASS, NOUN_CLASS};
+    ghost use Rattle.paw_base.specs.declared.words.TheConstants.{ADJECTIVE_CLASS, PREPOSITION_CLASS};
     ghost use Rattle.paw_game.specs.declared.parts.Word.{Word};
     ghost use Rattle.paw_print.specs.inner.Words.{TellsFirst};
 
@@ -34,11 +40,11 @@ impl<'a> Model for Vocabulary<'a> {
     ghost view = { λ v. v.words.now };
 
     ghost invariant = { λ v. record {
-      verbs_are : TellsFirst v.verbs v.words.now 0;
-      adverbs_are : TellsFirst v.adverbs v.words.now 1;
-      nouns_are : TellsFirst v.nouns v.words.now 2;
-      adjectives_are : TellsFirst v.adjectives v.words.now 3;
-      prepositions_are : TellsFirst v.prepositions v.words.now 4;
+      verbs_are : TellsFirst v.verbs v.words.now VERB_CLASS;
+      adverbs_are : TellsFirst v.adverbs v.words.now ADVERB_CLASS;
+      nouns_are : TellsFirst v.nouns v.words.now NOUN_CLASS;
+      adjectives_are : TellsFirst v.adjectives v.words.now ADJECTIVE_CLASS;
+      prepositions_are : TellsFirst v.prepositions v.words.now PREPOSITION_CLASS;
     } };
 }
 
@@ -71,7 +77,7 @@ impl<'a> Vocabulary<'a> {
     /// The first word of a class with a value, where the words of the class stand in lines: verbs, adverbs, nouns,
     /// adjectives and prepositions.
     fn first_word(&self, class: u8, value: u8) -> Option<Word>
-        requires class { class ≤ 4 }
+        requires class { class ≤ PREPOSITION_CLASS }
         ensures word { result ≡ first_word self.now class value }
     {
         let place = value as usize;
@@ -94,7 +100,7 @@ impl<'a> Vocabulary<'a> {
 
     /// Writes the token of a value of a class behind one space.
     pub(crate) fn write_value_of(&self, class: u8, value: u8, out: &mut Vec<u8>) -> Written
-        requires class { class ≤ 4 }
+        requires class { class ≤ PREPOSITION_CLASS }
         ensures writes { OnOk result (out.new.items ≡ out.old.items ++ 32 ∷ value_token self.now class value) }
     {
         out.push(b' ')?;
@@ -121,8 +127,8 @@ fn write_value(value: u8, word: Option<Word>, out: &mut Vec<u8>) -> Written
     ensures writes { OnOk result (out.new.items ≡ out.old.items ++ word_token value word) }
 {
     match value {
-        1 => out.extend_from_slice(b"*"),
-        255 => out.extend_from_slice(b"_"),
+        ANY_WORD => out.extend_from_slice(b"*"),
+        NO_WORD => out.extend_from_slice(b"_"),
         _ => write_letters(word, out),
     }
 }
@@ -158,12 +164,12 @@ fn class_name(class: u8) -> &'static [u8]
     ensures { result.now ≡ class_name class }
 {
     match class {
-        0 => b"verb",
-        1 => b"adverb",
-        2 => b"noun",
-        3 => b"adjective",
-        4 => b"preposition",
-        5 => b"conjunction",
+        VERB_CLASS => b"verb",
+        ADVERB_CLASS => b"adverb",
+        NOUN_CLASS => b"noun",
+        ADJECTIVE_CLASS => b"adjective",
+        PREPOSITION_CLASS => b"preposition",
+        CONJUNCTION_CLASS => b"conjunction",
         _ => b"pronoun",
     }
 }
