@@ -88,7 +88,8 @@ fn put_more(text: &mut Piece, more: u32) -> bool
     text.push(b"[") && put_number(text, more) && text.push(b" more]\n")
 }
 
-/// The steps that have a line: the first 1,000.
+/// The steps that have a line: the first 1,000. `Steps::rows` gives no more, but no clause of it says so: the cut tells
+/// the proof.
 fn told_steps(steps: &[StepRow]) -> &[StepRow]
     ensures value { result.now ≡ take STEP_LIMIT steps.now }
     ensures few { length result.now ≤ STEP_LIMIT }
@@ -104,6 +105,7 @@ fn write_steps(text: &mut Piece, steps: &Steps)
     for step in told_steps(steps.rows()) {
         put_step(text, *step);
     }
+    // This fits too: at most 1,000 lines of at most 27 bytes stand before it, and a piece may hold 65,535.
     let _fits = put_more(text, steps.count().saturating_sub(STEP_LIMIT as u32));
 }
 
