@@ -1,4 +1,4 @@
--- The actions that change flags, and those that save and load them.
+-- The actions that change flags, and those that save flags and places, or put them back.
 use Rattle.std.specs.Prelude.{◌+◌, ◌-◌, ◌==◌, min, if◌then◌else◌}
 use Rattle.paw_base.specs.declared.codes.TheConstants.{RAMSAVE, RAMLOAD, GOTO, SET, CLEAR, PLUS, MINUS, LET, ADD, SUB}
 use Rattle.paw_base.specs.declared.codes.TheConstants.{RANDOM, COPYFF, WEIGH, WEIGHT, ABILITY, PROMPT}
@@ -9,7 +9,8 @@ use Rattle.paw_world.specs.World.{World, flag, with_flag, ramsaved, ramloaded, d
 use Rattle.paw_world.specs.Weight.{weight, carried_weight}
 use Rattle.paw_effects.specs.Chance.{rolled}
 
--- one line for each of them; a flag is at most 255 and at least 0, and RANDOM makes a draw
+-- one line for each of them: RAMSAVE saves all flags and places, RAMLOAD puts places and the flags up to a number back;
+-- a flag is at most 255 and at least 0, and RANDOM makes a draw
 unfoldable pub change_of : World → Condact → World
 change_of w c =
     if c.code == RAMSAVE then ramsaved w else

@@ -12,7 +12,7 @@ use Rattle.paw_journal.specs.Session.{recover}
 use Rattle.paw_play.specs.declared.PlayEnd.{PlayEnd}
 use Rattle.paw_play.specs.Session.{IsKept}
 use Rattle.paw_play.specs.Walk.{first_lines}
-use Rattle.paw_play.specs.Stands.{StandsFor, text_since}
+use Rattle.paw_play.specs.Stands.{StandsWith, text_since}
 use Rattle.paw_play.specs.Play.{KeptBy, InPlay, InGame, PlaysIn, attached_to}
 use Rattle.paw_play.specs.inner.OnTheWay.{InMaking, PlaysInStore, new_session}
 use Rattle.paw_play.proofs.Attaching.{making_from, playing_from}
@@ -24,7 +24,7 @@ count_lines n lines there = length-map (take n lines) (take 255) ∙ length-take
 module _ (g : Story) (seed : ℕ) (digest name : List ℕ) (is : digest ≡ sha256 (image g.game)) (lines : List (List ℕ)) where
   -- what a new session keeps stands for its lines
   new_stands : (n : ℕ) (bytes : List ℕ) → n ≤ length lines → 0 + n ≤ EVENT_LIMIT →
-      KeptBy (new_session g seed digest name) lines n bytes → StandsFor g seed [] lines n bytes
+      KeptBy (new_session g seed digest name) lines n bytes → StandsWith g seed [] lines n bytes
   new_stands n bytes there few kept =
       let count : length (first_lines n lines) ≡ n = count_lines n lines there in
       let all : 0 + n ≡ length (first_lines n lines) = omega (arith, count) in
@@ -37,9 +37,9 @@ module _ (g : Story) (seed : ℕ) (digest name : List ℕ) (is : digest ≡ sha2
 module _ (g : Story) (seed : ℕ) (digest name : List ℕ) (is : digest ≡ sha256 (image g.game)) (old : Standing) where
   -- what playing it comes to
   pub game_plays : (new : Standing) (o : PlayEnd) → PlaysInStore (new_session g seed digest name) (attached_to old name) new o →
-      PlaysIn (StandsFor g seed [] old.lines) (reading g seed) name (attached_to old name) new o
+      PlaysIn (StandsWith g seed [] old.lines) (reading g seed) name (attached_to old name) new o
   game_plays new o p =
-      plays_in_by (KeptBy (new_session g seed digest name) old.lines) (StandsFor g seed [] old.lines) name
+      plays_in_by (KeptBy (new_session g seed digest name) old.lines) (StandsWith g seed [] old.lines) name
       (attached_to old name) (new_stands g seed digest name is old.lines)
       (reading g seed) new o p
 
@@ -48,11 +48,11 @@ module _ (g : Story) (seed : ℕ) (digest name : List ℕ) (is : digest ≡ sha2
       ⊎ InPlay (new_session g seed digest name) (attached_to old name) m →
       InGame g seed name old m
   in_game m (inl i) =
-      inr (inl (making_by (KeptBy (new_session g seed digest name) old.lines) (StandsFor g seed [] old.lines) name old
+      inr (inl (making_by (KeptBy (new_session g seed digest name) old.lines) (StandsWith g seed [] old.lines) name old
       (new_stands g seed digest name is old.lines) m
       (making_from (KeptBy (new_session g seed digest name) old.lines) name old m i)))
   in_game m (inr i) =
-      inr (inr (in_session_by (KeptBy (new_session g seed digest name) old.lines) (StandsFor g seed [] old.lines) 0 name
+      inr (inr (in_session_by (KeptBy (new_session g seed digest name) old.lines) (StandsWith g seed [] old.lines) 0 name
       old (new_stands g seed digest name is old.lines)
       (λ n. text_of (reading g seed (first_lines n old.lines))) (text_since g seed [] old.lines) (λ n. refl) m
       (playing_from (KeptBy (new_session g seed digest name) old.lines) (λ n. text_of (reading g seed (first_lines n old.lines))) 0 name old m i)))

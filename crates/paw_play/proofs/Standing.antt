@@ -27,7 +27,7 @@ use Rattle.paw_play.specs.declared.PlayEnd.{PlayEnd}
 use Rattle.paw_state.specs.Record.{last_piece, state_at}
 use Rattle.paw_play.specs.Session.{kept_bytes, state_after, IsKept}
 use Rattle.paw_play.specs.Walk.{first_lines}
-use Rattle.paw_play.specs.Stands.{Stands, StandsFor, IsPlayedWith, text_since, reading_since}
+use Rattle.paw_play.specs.Stands.{Stands, StandsWith, IsPlayedWith, text_since, reading_since}
 use Rattle.paw_play.specs.Keeping.{KeepsUpWith, InSession}
 use Rattle.paw_play.specs.Play.{PlaysWith, PlaysOn, KeptBy, ShowsState, Refuses, PlaysUp, no_state, plays_on, PlaysAgain, refused, wanting, plays_up}
 use Rattle.paw_play.specs.Play.{GoesOn, memory, unattached, unread, plays, InAgain, InGoingOn, going_on, kept_session, attached_to, store_bytes}
@@ -68,7 +68,7 @@ module _ (g : Story) (seed : ℕ) (es : List (List ℕ)) (bytes : List ℕ) (st 
 
   -- what the session keeps stands for the lines before and those since
   kept_stands : (lines : List (List ℕ)) (n : ℕ) (left : List ℕ) → n ≤ length lines → st.events + n ≤ EVENT_LIMIT →
-      KeptBy (kept_session g st piece (sha256 (image g.game)) name) lines n left → StandsFor g seed es lines n left
+      KeptBy (kept_session g st piece (sha256 (image g.game)) name) lines n left → StandsWith g seed es lines n left
   kept_stands lines n left there few kept =
       let fs : List (List ℕ) = first_lines n lines in
       let all : length (es ++ fs) ≡ st.events + n = omega (arith, length-append es fs, count_lines n lines there, counts) in
@@ -87,17 +87,17 @@ module _ (g : Story) (seed : ℕ) (es : List (List ℕ)) (bytes : List ℕ) (st 
   pub in_going_on : (old : Standing) (m : Moment) → InAgain (kept_session g st piece (sha256 (image g.game)) name) old m → InGoingOn g seed es name old m
   in_going_on old m (inl i) = inl i
   in_going_on old m (inr i) =
-      inr (subst (λ past. InSession (StandsFor g seed es old.lines) (text_since g seed es old.lines) past name old m) counts
-      (in_session_by (KeptBy (kept_session g st piece (sha256 (image g.game)) name) old.lines) (StandsFor g seed es old.lines) st.events name old
+      inr (subst (λ past. InSession (StandsWith g seed es old.lines) (text_since g seed es old.lines) past name old m) counts
+      (in_session_by (KeptBy (kept_session g st piece (sha256 (image g.game)) name) old.lines) (StandsWith g seed es old.lines) st.events name old
       (kept_stands old.lines)
       (λ n. text_of (going_on g st piece (first_lines n old.lines))) (text_since g seed es old.lines) (text_is old.lines) m i))
 
   going_plays : (old new : Standing) (o : PlayEnd) → PlaysOn (kept_session g st piece (sha256 (image g.game)) name) (EVENT_LIMIT - st.events) old new o →
-      PlaysWith (StandsFor g seed es old.lines) (reading_since g seed es) (length es) name (EVENT_LIMIT - length es) old new o
+      PlaysWith (StandsWith g seed es old.lines) (reading_since g seed es) (length es) name (EVENT_LIMIT - length es) old new o
   going_plays old new o p =
-      subst (λ whole. PlaysWith (StandsFor g seed es old.lines) whole (length es) name (EVENT_LIMIT - length es) old new o) (fun_ext goes)
-      (subst (λ past. PlaysWith (StandsFor g seed es old.lines) (going_on g st piece) past name (EVENT_LIMIT - past) old new o) counts
-      (plays_by (KeptBy (kept_session g st piece (sha256 (image g.game)) name) old.lines) (StandsFor g seed es old.lines) st.events name old
+      subst (λ whole. PlaysWith (StandsWith g seed es old.lines) whole (length es) name (EVENT_LIMIT - length es) old new o) (fun_ext goes)
+      (subst (λ past. PlaysWith (StandsWith g seed es old.lines) (going_on g st piece) past name (EVENT_LIMIT - past) old new o) counts
+      (plays_by (KeptBy (kept_session g st piece (sha256 (image g.game)) name) old.lines) (StandsWith g seed es old.lines) st.events name old
       (kept_stands old.lines)
       (going_on g st piece) (EVENT_LIMIT - st.events) new o p))
 
@@ -159,8 +159,8 @@ first_are_lines n lines are = All-map IsLine (take 255) (take n lines) (λ k d l
 
 -- so many lines of a round are kept
 round_keeps : (g : Story) (seed : ℕ) (es : List (List ℕ)) (r : Round) (n : ℕ) (text : List ℕ) → r.moment.asked ≡ r.old.asked + n →
-    KeepsUpWith (StandsFor g seed es r.old.lines) (text_since g seed es r.old.lines) n text r.left →
-    (k : ℕ) × AreKept r k × StandsFor g seed es r.old.lines k r.left
+    KeepsUpWith (StandsWith g seed es r.old.lines) (text_since g seed es r.old.lines) n text r.left →
+    (k : ℕ) × AreKept r k × StandsWith g seed es r.old.lines k r.left
 round_keeps g seed es r zero text asked kept = (0, inl asked, kept.0)
 round_keeps g seed es r (suc n) text asked (inl kept) = (suc n, inl asked, kept.0)
 round_keeps g seed es r (suc n) text asked (inr kept) = (n, inr asked, kept.0)

@@ -21,7 +21,7 @@ use Rattle.paw_turn.specs.declared.Step.TheVariants as step
 use Rattle.paw_play.specs.declared.PlayEnd.{PlayEnd}
 use Rattle.paw_play.specs.declared.PlayEnd.TheVariants as end
 use Rattle.paw_stage.specs.declared.StageCall.TheVariants as call
-use Rattle.paw_play.specs.Walk.{EndingOf, first_lines, advanced, text_before, ReadsPart, WalkWaits, WalkHalts}
+use Rattle.paw_play.specs.Walk.{EndingOf, first_lines, advanced, text_before, PartShown, WalkWaits, WalkHalts}
 use Rattle.paw_play.specs.inner.Telling.{Telling, seat_text, told_pieces, HaveSteps, told_run, told_ending, told_as}
 use Rattle.paw_play.specs.inner.OnTheWay.{IsWalking, ShowsPiece, Told, WalksTo}
 use Rattle.paw_play.proofs.Telling.{pieces_more, told_more, steps_more, told_none, steps_none, waits_told, halts_told, same_lines, told_is}
@@ -167,7 +167,7 @@ module _ {F : Type 0} (telling : Telling) (g : Story) (whole after : EndingOf) (
 
   -- part of the text was shown
   shown_part : ShowsPiece s → 0 < length (seat_text telling next) → (m : ℕ) →
-      new ≡ record mid { shown = mid.shown ++ take m (seat_text telling next) } → ReadsPart (told_as telling whole) first new n
+      new ≡ record mid { shown = mid.shown ++ take m (seat_text telling next) } → PartShown (told_as telling whole) first new n
   shown_part shows some m e = record {
     shown = concat (told_pieces telling pieces traces) ++ take m (seat_text telling next);
     rest = drop m (seat_text telling next);

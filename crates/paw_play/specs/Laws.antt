@@ -10,7 +10,7 @@ use Rattle.paw_stage.specs.Moments.{Moment}
 use Rattle.paw_effects.specs.Standing.{AreBytes}
 use Rattle.paw_state.specs.State.{State}
 use Rattle.paw_play.specs.Walk.{first_lines}
-use Rattle.paw_play.specs.Stands.{Stands, StandsFor, IsPlayedWith, text_since, reading_since}
+use Rattle.paw_play.specs.Stands.{Stands, StandsWith, IsPlayedWith, text_since, reading_since}
 use Rattle.paw_play.specs.Keeping.{InSession}
 use Rattle.paw_play.specs.Play.{ShowsState, going_on, store_bytes}
 
@@ -48,7 +48,7 @@ pub record IsRound (g : Story) (seed : ℕ) (bytes : List ℕ) (r : Round) : Typ
   pub over : store_bytes r.old r.name ≡ bytes
   pub lines : All AreBytes r.old.lines
   pub session : (es : List (List ℕ)) → IsPlayedWith g seed es → Stands g seed es (store_bytes r.old r.name) →
-      InSession (StandsFor g seed es r.old.lines) (text_since g seed es r.old.lines) (length es) r.name r.old r.moment
+      InSession (StandsWith g seed es r.old.lines) (text_since g seed es r.old.lines) (length es) r.name r.old r.moment
   pub leaves : MayLeave r.moment.disk r.left
 
 -- rounds one after the other, each over what the one before left

@@ -21,7 +21,7 @@ use Rattle.paw_play.specs.declared.PlayEnd.{PlayEnd}
 use Rattle.paw_play.specs.declared.PlayEnd.TheVariants as end
 use Rattle.paw_play.specs.Walk.{EndingOf, first_lines, advanced, Walks}
 use Rattle.paw_play.specs.Session.{kept_bytes, IsKept}
-use Rattle.paw_play.specs.Stands.{StandsFor, text_since, reading_since}
+use Rattle.paw_play.specs.Stands.{StandsWith, text_since, reading_since}
 use Rattle.paw_play.specs.Keeping.{InSession, InMakingOf, StaysAttached, LeavesStore}
 
 -- ---- taking lines ----
@@ -97,13 +97,13 @@ pub data PlaysFirst (Kept : ℕ → List ℕ → Type 0) (whole : EndingOf) (nam
 
 -- what playing a game from its start comes to
 abbrev pub PlaysGame : Story → ℕ → List ℕ → Standing → Standing → PlayEnd → Type 0
-PlaysGame g seed name old new o = PlaysFirst (StandsFor g seed [] old.lines) (reading g seed) name old new o
+PlaysGame g seed name old new o = PlaysFirst (StandsWith g seed [] old.lines) (reading g seed) name old new o
 
 -- a moment of it: its store isn't attached yet, or its session is being made, or it is played
 abbrev pub InGame : Story → ℕ → List ℕ → Standing → Moment → Type 0
 InGame g seed name old m =
-    NotYet name old m ⊎ (InMakingOf (StandsFor g seed [] old.lines) name old m
-    ⊎ InSession (StandsFor g seed [] old.lines) (text_since g seed [] old.lines) 0 name old m)
+    NotYet name old m ⊎ (InMakingOf (StandsWith g seed [] old.lines) name old m
+    ⊎ InSession (StandsWith g seed [] old.lines) (text_since g seed [] old.lines) 0 name old m)
 
 -- ---- a session that is taken up again, by the lines of its game ----
 
@@ -114,7 +114,7 @@ pub data GoesOn (g : Story) (seed : ℕ) (es : List (List ℕ)) (name : List ℕ
   unattached : Unattached old new → GoesOn g seed es name old new (end.Outside call.Attach)
   unread : new ≡ attached_to old name → GoesOn g seed es name old new (end.Outside call.Read)
   memory : new ≡ attached_to old name → GoesOn g seed es name old new end.Memory
-  plays : (o : PlayEnd) → PlaysWith (StandsFor g seed es old.lines) (reading_since g seed es) (length es) name
+  plays : (o : PlayEnd) → PlaysWith (StandsWith g seed es old.lines) (reading_since g seed es) (length es) name
       (EVENT_LIMIT - length es) (attached_to old name) new o →
       GoesOn g seed es name old new o
 
@@ -122,7 +122,7 @@ pub data GoesOn (g : Story) (seed : ℕ) (es : List (List ℕ)) (name : List ℕ
 abbrev pub InGoingOn : Story → ℕ → List (List ℕ) → List ℕ → Standing → Moment → Type 0
 InGoingOn g seed es name old m =
     NotYet name old m
-    ⊎ InSession (StandsFor g seed es old.lines) (text_since g seed es old.lines) (length es) name old m
+    ⊎ InSession (StandsWith g seed es old.lines) (text_since g seed es old.lines) (length es) name old m
 
 -- ---- a session that is taken up again, by the state that its store shows ----
 

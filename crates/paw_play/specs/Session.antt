@@ -12,7 +12,7 @@ use Rattle.paw_state.specs.Record.{last_piece, state_at}
 unfoldable pub kept_bytes : State → List ℕ
 kept_bytes s = state_bytes s
 
--- the bytes of the state where a reading ended
+-- the bytes of the state where a reading ended; none where it is spent or too deep
 abbrev pub state_after : ℕ → Ending → List ℕ
 state_after events (WaitsAt p path r) = kept_bytes (state_at events p path r)
 state_after events (Halted IsOver r) = kept_bytes (state_at events prompt.Over [] r)

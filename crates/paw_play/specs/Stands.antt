@@ -25,8 +25,8 @@ pub record IsPlayedWith (g : Story) (seed : ℕ) (es : List (List ℕ)) : Type 0
   pub lines : All IsLine es
 
 -- the bytes stand for the lines es and the first n of others
-abbrev pub StandsFor : Story → ℕ → List (List ℕ) → List (List ℕ) → ℕ → List ℕ → Type 0
-StandsFor g seed es lines n bytes = Stands g seed (es ++ first_lines n lines) bytes
+abbrev pub StandsWith : Story → ℕ → List (List ℕ) → List (List ℕ) → ℕ → List ℕ → Type 0
+StandsWith g seed es lines n bytes = Stands g seed (es ++ first_lines n lines) bytes
 
 -- the text of these, from the last piece of es on
 abbrev pub text_since : Story → ℕ → List (List ℕ) → List (List ℕ) → ℕ → List ℕ

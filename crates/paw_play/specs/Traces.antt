@@ -32,7 +32,7 @@ steps_text steps = flat_map step_line (take STEP_LIMIT steps) ++ more_line (leng
 
 -- ---- the reading that a trace shows ----
 
--- each closed piece behind the text of its steps
+-- each closed piece behind the text of its steps; those with no steps left are told as they are
 abbrev pub traced_pieces : List (List ℕ) → List (List Step) → List (List ℕ)
 traced_pieces (piece ∷ pieces) (steps ∷ traces) = (steps_text steps ++ piece) ∷ traced_pieces pieces traces
 traced_pieces pieces traces = pieces

@@ -24,7 +24,7 @@ abbrev pub advanced : Standing → ℕ → List ℕ → Standing
 advanced old n text = record old { lines = drop n old.lines; asked = old.asked + n; shown = old.shown ++ text }
 
 -- n lines were taken, the reading of them ends so, and the text of its closed pieces was shown
-pub record Reads (whole : EndingOf) (old new : Standing) (n : ℕ) (e : Ending) : Type 0 where
+pub record TakesLines (whole : EndingOf) (old new : Standing) (n : ℕ) (e : Ending) : Type 0 where
   pub reading : whole (first_lines n old.lines) ≡ e
   pub there : n ≤ length old.lines
   pub stands : new ≡ advanced old n (text_of e)
@@ -41,7 +41,7 @@ text_before whole lines n = told_before (λ k. text_of (whole (first_lines k lin
 
 -- n lines were taken, and a first part of the text of their reading was shown: the text for all but the last, and a
 -- part of the piece that the last one brings, which isn't empty
-pub record ReadsPart (whole : EndingOf) (old new : Standing) (n : ℕ) : Type 0 where
+pub record PartShown (whole : EndingOf) (old new : Standing) (n : ℕ) : Type 0 where
   pub shown : List ℕ
   pub rest : List ℕ
   pub part : shown ++ rest ≡ text_of (whole (first_lines n old.lines))
@@ -53,15 +53,17 @@ pub record ReadsPart (whole : EndingOf) (old new : Standing) (n : ℕ) : Type 0 
 
 -- n lines were taken, and the reading of them waits
 abbrev pub WalkWaits : EndingOf → Standing → Standing → ℕ → Type 0
-WalkWaits whole old new n = (p : Prompt) × (path : List Frame) × (r : Run) × Reads whole old new n (WaitsAt p path r)
+WalkWaits whole old new n =
+    (p : Prompt) × (path : List Frame) × (r : Run) × TakesLines whole old new n (WaitsAt p path r)
 
 -- so many lines were taken, of which the last ended the reading so for good
 abbrev pub WalkHalts : EndingOf → ℕ → Standing → Standing → Halt → Type 0
 WalkHalts whole most old new halt =
-    (n : ℕ) × (n ≤ most) × (r : Run) × (r.events ≡ []) × Reads whole old new n (Halted halt r)
+    (n : ℕ) × (n ≤ most) × (r : Run) × (r.events ≡ []) × TakesLines whole old new n (Halted halt r)
 
 -- What a walk comes to that may take so many lines. No line is taken behind the one that ends it. One more is asked for
--- only where fewer than the most were taken, so where the player still waits after that many the walk is Long.
+-- only where fewer than the most were taken, so where the player still waits after that many the walk is Long. Where
+-- memory was wanting nothing was taken or shown.
 abbrev pub Walks : EndingOf → ℕ → Standing → Standing → PlayEnd → Type 0
 Walks whole most old new end.Ended = WalkHalts whole most old new IsOver
 Walks whole most old new end.InputEnded = (length old.lines < most) × WalkWaits whole old new (length old.lines)
@@ -69,6 +71,6 @@ Walks whole most old new (end.Spent kind) = WalkHalts whole most old new (RunsOu
 Walks whole most old new (end.TooDeep table) = WalkHalts whole most old new (CallsTooDeep table)
 Walks whole most old new (end.Long events) = (events ≡ EVENT_LIMIT) × WalkWaits whole old new most
 Walks whole most old new (end.Outside call.Ask) = (n : ℕ) × (n < most) × WalkWaits whole old new n
-Walks whole most old new (end.Outside call.Show) = (n : ℕ) × (n ≤ most) × ReadsPart whole old new n
+Walks whole most old new (end.Outside call.Show) = (n : ℕ) × (n ≤ most) × PartShown whole old new n
 Walks whole most old new end.Memory = new ≡ old
 Walks whole most old new _ = ⊥

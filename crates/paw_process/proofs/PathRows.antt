@@ -12,7 +12,8 @@ use Rattle.paw_reading.specs.declared.places.OpenLoop.{OpenLoop}
 use Rattle.paw_reading.specs.Turn.{first_table}
 use Rattle.paw_reading.specs.inner.Places.{LeadsTo, tables_of, IsLoopIn}
 use Rattle.paw_process.specs.Kept.{unused, condact_of, has_code, may_open, parameter_of, row_stands, rows_fault}
-use Rattle.paw_process.specs.Kept.{table_of, is_that_table, loop_fault}
+use Rattle.paw_process.specs.Kept.{is_that_table, loop_fault}
+use Rattle.paw_process.proofs.Rows.{table_of}
 
 -- rows that aren't used stand
 pub unused_stand : (g : GameLists) (code : ℕ) (caller : Option ℕ) (d k : ℕ) → rows_fault g code caller 0 d (replicate k unused) ≡ None

@@ -1,6 +1,7 @@
 -- The rows of the machine, as a list with the innermost first.
 use Rattle.std.proofs.Common.{◌≡◌, ℕ, zero, suc, ◌-◌, ◌≤◌, ◌<◌, false, List, [], ◌∷◌, ◌++◌, Option, length}
 use Rattle.std.proofs.Common.{take, drop, replicate, reverse, slice_set, refl, ap, ◌∙◌, subst, arith}
+use Rattle.std.specs.Option.{option_map}
 use Rattle.std.proofs.lemmas.List.{reverse-append, reverse-reverse, length-take}
 use Rattle.std.proofs.Math.Seq.{take-suc, take-suc-set}
 use Rattle.paw_base.specs.Steps.{KeptSteps}
@@ -10,6 +11,10 @@ use Rattle.paw_reading.specs.declared.places.OpenLoop.{OpenLoop}
 use Rattle.paw_process.specs.Kept.{kept, unused}
 use Rattle.paw_process.specs.OpenTables.{OpenTables}
 use Rattle.paw_process.specs.inner.OpenTables.{below}
+
+-- the table of a frame that may be there
+abbrev pub table_of : Option Frame → Option ℕ
+table_of o = option_map (λ f. f.table) o
 
 -- what the machine's parts are seen as
 abbrev pub seen : List Frame → ℕ → Option OpenLoop → Option Prompt → ℕ → KeptSteps → OpenTables

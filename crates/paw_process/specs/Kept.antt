@@ -1,7 +1,7 @@
 -- What is kept of a machine that waits, and the rules that it keeps.
 use Rattle.std.specs.Prelude.{ℕ, suc, ◌-◌, ◌==◌, ◌&&◌, Bool, false, not, List, [], ◌∷◌, ◌++◌, Option, Some}
 use Rattle.std.specs.Prelude.{None, length, reverse, replicate, slice_get, nat_lt, nat_le, if◌then◌else◌}
-use Rattle.std.specs.Option.{option_or, unwrap_or}
+use Rattle.std.specs.Option.{option_map, option_map_or, option_or, unwrap_or}
 use Rattle.paw_base.specs.declared.codes.TheConstants.{PROCESS, DOALL}
 use Rattle.paw_base.specs.declared.parts.Condact.{Condact}
 use Rattle.paw_base.specs.declared.tables.TheConstants.{FRAME_TABLE}
@@ -28,7 +28,7 @@ frames_at path turning = record {
   turning = turning;
 }
 
--- what is kept of a machine
+-- what is kept of a machine: its frames, the outermost first, and its loop
 abbrev pub kept : OpenTables → Frames
 kept m = frames_at (reverse m.frames) m.turning
 
@@ -41,13 +41,11 @@ may_open (Some u) t = t == u
 
 -- a condact is there, and has this code
 abbrev pub has_code : ℕ → Option Condact → Bool
-has_code code None = false
-has_code code (Some c) = c.code == code
+has_code code o = option_map_or (λ c. c.code == code) o false
 
 -- the first parameter of a condact; 0 where there is none
 abbrev pub parameter_of : Option Condact → ℕ
-parameter_of None = 0
-parameter_of (Some c) = c.a
+parameter_of o = option_map_or (λ c. c.a) o 0
 
 -- the condact at which a frame stands
 abbrev pub condact_of : GameLists → Frame → Option Condact
@@ -57,47 +55,42 @@ condact_of g f = condact_at g f.table f.entry f.at
 abbrev pub is_unused : Frame → Bool
 is_unused f = (f.table == 0) && ((f.entry == 0) && ((f.at == 0) && not f.acted))
 
--- a row stands where n rows are used from it on: each but the last at a PROCESS, the last at this condact
+-- a row stands where n rows are used from it on: each of these is of a table that may be open there, and all but the
+-- last are at a PROCESS, the last at this condact; one that isn't used is 0
 abbrev pub row_stands : GameLists → ℕ → Option ℕ → ℕ → Frame → Bool
 row_stands g code caller n f =
     if n == 0 then is_unused f
     else may_open caller f.table && has_code (if n == 1 then code else PROCESS) (condact_of g f)
 
--- the depth of the first row that doesn't stand, counted from d on; each PROCESS calls the next row's table
+-- the depth of the first row that doesn't stand, counted from d on, of which n are used; each PROCESS calls the next
+-- row's table
 unfoldable pub rows_fault : GameLists → ℕ → Option ℕ → ℕ → ℕ → List Frame → Option ℕ
 rows_fault g code caller n d [] = None
 rows_fault g code caller n d (f ∷ fs) =
     if row_stands g code caller n f
     then rows_fault g code (Some (parameter_of (condact_of g f))) (n - 1) (suc d) fs else Some d
 
--- the table of a row
-abbrev pub table_of : Option Frame → Option ℕ
-table_of None = None
-table_of (Some f) = Some f.table
-
 -- a table is there, and it is this one
 abbrev pub is_that_table : Option ℕ → ℕ → Bool
-is_that_table None t = false
-is_that_table (Some u) t = t == u
+is_that_table o t = option_map_or (λ u. t == u) o false
 
 -- the open loop is at a DOALL of the table of its level, and its place and its last object are the game's
 abbrev pub loop_stands : GameLists → Frames → OpenLoop → Bool
 loop_stands g k l =
-    nat_lt l.level k.count && (is_that_table (table_of (slice_get k.rows l.level)) l.table
+    nat_lt l.level k.count && (is_that_table (option_map (λ f. f.table) (slice_get k.rows l.level)) l.table
     && (has_code DOALL (condact_at g l.table l.entry l.at)
     && (is_place (length g.locations) l.place && nat_lt l.last (length g.objects))))
 
--- the depth of a loop that breaks its rule is that behind all rows
+-- the depth of an open loop that breaks its rule is that behind all rows
 abbrev pub loop_fault : GameLists → Frames → Option OpenLoop → Option ℕ
-loop_fault g k None = None
-loop_fault g k (Some l) = if loop_stands g k l then None else Some MOST_FRAMES
+loop_fault g k o = if option_map_or (loop_stands g k) o true then None else Some MOST_FRAMES
 
--- tables are open, and not too many, where a machine waits inside tables; else none is
+-- where a machine waits inside tables one to eleven are open, else none is
 abbrev pub count_fits : Option ℕ → ℕ → Bool
 count_fits None n = n == 0
 count_fits (Some code) n = nat_lt 0 n && nat_le n MOST_FRAMES
 
--- the first fault of what is kept of a machine that waits at a condact of this code
+-- the first fault of what is kept of a machine that waits at a condact of this code, or where none is open
 abbrev pub fault_at : GameLists → Option ℕ → Frames → Option ℕ
 fault_at g code k =
     if count_fits code k.count

@@ -1,9 +1,10 @@
 // What is kept of a machine that waits.
 
 ghost use Rattle.std.specs.Prelude.{◌≡◌, ◌+◌, ◌<◌, ◌-◌, ◌==◌, length, slice_get};
+ghost use Rattle.std.specs.Option.{option_map};
 ghost use Rattle.paw_game.specs.Valid.{is_place};
 ghost use Rattle.paw_process.specs.Kept.{waiting_code, may_open, has_code, parameter_of, is_unused};
-ghost use Rattle.paw_process.specs.Kept.{row_stands, rows_fault, table_of, is_that_table, loop_stands};
+ghost use Rattle.paw_process.specs.Kept.{row_stands, rows_fault, is_that_table, loop_stands};
 ghost use Rattle.paw_process.specs.Kept.{loop_fault, count_fits, frames_fault};
 ghost use Rattle.paw_process.specs.inner.Kept.{waiting_at};
 
@@ -139,7 +140,7 @@ pub fn is_place(locations: u16, place: u8) -> bool
 
 /// Whether the row of this level is of this table.
 fn is_table(rows: &[Frame], level: u8, table: u8) -> bool
-    ensures value { result ≡ is_that_table (table_of (slice_get rows.now level)) table }
+    ensures value { result ≡ is_that_table (option_map (λ f. f.table) (slice_get rows.now level)) table }
 {
     match rows.get(level as usize) {
         None => false,

@@ -22,9 +22,9 @@ use Rattle.paw_reading.specs.Reading.{IsOver, RunsOut, Redescribes, Restarts, Ha
 use Rattle.paw_reading.specs.Reading.{at_level, again, is_taken, taken, turns, loop_of, over, answered, asked, waits, after_test}
 use Rattle.paw_reading.specs.Reading.{after_parse, after_action, carried_out, acts, reads_one, plain, looped, reads, called, deeper, rest}
 use Rattle.paw_reading.specs.Reading.{table_read, coming_phrase, game_over}
-use Rattle.paw_reading.specs.Turn.{TurnStage, AtDescribe, AtFrame, AtPhrase, AtResponse, Ending, Halted, saying, described, framed}
+use Rattle.paw_reading.specs.Turn.{TurnPhase, AtDescribe, AtTimeFrame, AtPhrase, AtResponse, Ending, Halted, saying, described, time_frame_passed}
 use Rattle.paw_reading.specs.Turn.{view_text, counted, prompt_text, at_main, after_phrase, refusal_text, connected, after_left}
-use Rattle.paw_reading.specs.Turn.{table_done, turn, stages_left, opening, timeout_text}
+use Rattle.paw_reading.specs.Turn.{table_done, turn, phases_left, opening, timeout_text}
 use Rattle.paw_reading.specs.inner.Steps.{goodbye, quit_question, line_set, unknown_text}
 use Rattle.paw_reading.specs.inner.Pieces.{count, Counted, PiecesOfLines}
 use Rattle.paw_reading.proofs.Keeps.{either, open_or_not, prints}
@@ -171,16 +171,16 @@ saying_counts : (text : List ℕ) (go : Run → Ending) → TurnsCounting go →
 saying_counts text go h v r k =
     either (Counted v) (fits r text) _ (Halted (RunsOut spent.Text) r) (h v (printed text r) k) k
 
-module _ (g : Story) (go : TurnStage → Run → Ending) (counts : (s : TurnStage) → TurnsCounting (go s)) where
+module _ (g : Story) (go : TurnPhase → Run → Ending) (counts : (s : TurnPhase) → TurnsCounting (go s)) where
   connected_counts : (to : Option ℕ) → TurnsCounting (λ r. connected g go r to)
-  connected_counts None v r k = saying_counts (refusal_text g.game r.world) (go AtFrame) (counts AtFrame) v (line_dropped r) k
+  connected_counts None v r k = saying_counts (refusal_text g.game r.world) (go AtTimeFrame) (counts AtTimeFrame) v (line_dropped r) k
   connected_counts (Some to) v r k = counts AtDescribe v (with_world (with_flag r.world 38 to) r) k
 
   after_left_counts : (t : ℕ) (a : Bool) → TurnsCounting (after_left g go t a)
-  after_left_counts zero true v r k = counts AtFrame v r k
+  after_left_counts zero true v r k = counts AtTimeFrame v r k
   after_left_counts zero false v r k = connected_counts (exit_at g.game (flag r.world 38) (flag r.world 33)) v r k
-  after_left_counts (suc zero) a v r k = counts AtFrame v r k
-  after_left_counts (suc (suc t)) a v r k = counts AtPhrase v (with_world (framed r.world) r) k
+  after_left_counts (suc zero) a v r k = counts AtTimeFrame v r k
+  after_left_counts (suc (suc t)) a v r k = counts AtPhrase v (with_world (time_frame_passed r.world) r) k
 
   table_done_counts : (t v : ℕ) (x : Out) → Counts v x → Counted v (table_done g go t x)
   table_done_counts t v (Left a r) k = after_left_counts t a v r k
@@ -193,7 +193,7 @@ module _ (g : Story) (go : TurnStage → Run → Ending) (counts : (s : TurnStag
   read_counts : (t : ℕ) → TurnsCounting (λ r. table_done g go t (table_read g t r))
   read_counts t v r k = table_done_counts t v (table_read g t r) (table_counts g t v r k)
 
-  at_main_counts : (v : ℕ) (r : Run) (lines : List (List ℕ)) → length r.pieces + length lines ≡ suc v → Counted v (at_main g (go AtFrame) (go AtPhrase) r lines)
+  at_main_counts : (v : ℕ) (r : Run) (lines : List (List ℕ)) → length r.pieces + length lines ≡ suc v → Counted v (at_main g go r lines)
   unfolding at_main
   at_main_counts v r [] k = (refl, k)
   at_main_counts v r (line ∷ lines) k =
@@ -202,24 +202,24 @@ module _ (g : Story) (go : TurnStage → Run → Ending) (counts : (s : TurnStag
       either (Counted v) (is_ignored r.world line) _ _
       (at_main_counts v (closed s) lines (omega (arith, closed_counts s, k')))
       (either (Counted v) (is_timeout line) _ _
-      (saying_counts (timeout_text g.game r.world) (go AtFrame) (counts AtFrame) v (heard line s) k')
+      (saying_counts (timeout_text g.game r.world) (go AtTimeFrame) (counts AtTimeFrame) v (heard line s) k')
       (counts AtPhrase v (line_set line s) k'))
 
   after_phrase_counts : (p : Parsed) → TurnsCounting (λ r. after_phrase g go r p)
   after_phrase_counts (IsSentence s rest) v r k = counts AtResponse v (with_world (counted (taken_phrase s rest r).world) (taken_phrase s rest r)) k
   after_phrase_counts (IsUnknown rest) v r k =
-      saying_counts (unknown_text g.game r.world) (go AtFrame) (counts AtFrame) v (line_dropped r) k
+      saying_counts (unknown_text g.game r.world) (go AtTimeFrame) (counts AtTimeFrame) v (line_dropped r) k
   after_phrase_counts IsNoPhrase v r k =
-      saying_counts (prompt_text g.game r.world) (λ s. at_main g (go AtFrame) (go AtPhrase) (closed s) s.events)
+      saying_counts (prompt_text g.game r.world) (λ s. at_main g go (closed s) s.events)
       (λ w s h. at_main_counts w (closed s) s.events (omega (arith, closed_counts s, h))) v (line_dropped r) k
 
-turn_counts : (g : Story) (n : ℕ) (s : TurnStage) → TurnsCounting (turn g n s)
+turn_counts : (g : Story) (n : ℕ) (s : TurnPhase) → TurnsCounting (turn g n s)
 unfolding turn
 turn_counts g zero s v r k = tt
 turn_counts g (suc n) AtDescribe v r k =
     saying_counts (view_text g.game (described r.world)) (λ q. table_done g (turn g n) 1 (table_read g 1 q)) (read_counts g (turn g n) (turn_counts g n) 1) v
     (with_world (described r.world) r) k
-turn_counts g (suc n) AtFrame v r k = read_counts g (turn g n) (turn_counts g n) 2 v r k
+turn_counts g (suc n) AtTimeFrame v r k = read_counts g (turn g n) (turn_counts g n) 2 v r k
 turn_counts g (suc n) AtPhrase v r k =
     after_phrase_counts g (turn g n) (turn_counts g n) (coming_phrase g r) v r k
 turn_counts g (suc n) AtResponse v r k = read_counts g (turn g n) (turn_counts g n) 0 v r k
@@ -227,4 +227,4 @@ turn_counts g (suc n) AtResponse v r k = read_counts g (turn g n) (turn_counts g
 pub pieces_of_lines : PiecesOfLines
 pieces_of_lines g seed es =
     let o : Run = opening g seed es in
-    turn_counts g (stages_left o) AtDescribe (length es) o (omega arith)
+    turn_counts g (phases_left o) AtDescribe (length es) o (omega arith)

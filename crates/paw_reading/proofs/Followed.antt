@@ -13,9 +13,9 @@ use Rattle.paw_reading.specs.Run.{Run, closed, fits, printed, with_world, line_d
 use Rattle.paw_reading.specs.Reading.{RunsOut, Redescribes, Restarts, Halts, Out, Left, Waits, Stopped, deeper, table_read, coming_phrase}
 use Rattle.paw_reading.specs.GoingOn.{on_path}
 use Rattle.paw_reading.specs.inner.GoingOn.{with_lines, extended}
-use Rattle.paw_reading.specs.Turn.{TurnStage, AtDescribe, AtFrame, AtPhrase, AtResponse, Ending, WaitsAt, Halted, Unended, saying}
-use Rattle.paw_reading.specs.Turn.{described, framed, view_text, counted, prompt_text, at_main, after_phrase, refusal_text}
-use Rattle.paw_reading.specs.Turn.{connected, after_left, table_done, turn, stages_left, turns_from, opening, first_table, goes_on, timeout_text}
+use Rattle.paw_reading.specs.Turn.{TurnPhase, AtDescribe, AtTimeFrame, AtPhrase, AtResponse, Ending, WaitsAt, Halted, Unended, saying}
+use Rattle.paw_reading.specs.Turn.{described, time_frame_passed, view_text, counted, prompt_text, at_main, after_phrase, refusal_text}
+use Rattle.paw_reading.specs.Turn.{connected, after_left, table_done, turn, phases_left, turns_from, opening, first_table, goes_on, timeout_text}
 use Rattle.paw_reading.specs.inner.Steps.{line_set, unknown_text}
 use Rattle.paw_reading.specs.inner.Turn.{followed, GoingOnIsReading}
 use Rattle.paw_reading.specs.inner.Longer.{TurnsGoOn}
@@ -32,7 +32,7 @@ left_none a r (inl h) = h
 left_none a r (inr h) = h
 
 module _ (g : Story) (lines : List (List ℕ)) where
-  -- going on with these lines, in at most m stages more
+  -- going on with these lines, in at most m phases more
   abbrev pub goes_from : ℕ → Ending → Ending
   goes_from m (WaitsAt p path r) = goes_on g m p path (with_lines lines r)
   goes_from m (Halted halt r) = Halted halt (with_lines lines r)
@@ -42,8 +42,8 @@ module _ (g : Story) (lines : List (List ℕ)) where
   abbrev Follows : ℕ → Ending → Ending → Type 0
   Follows m x y = goes_from m x ≢ Unended → y ≡ goes_from m x
 
-  abbrev AreFollowing : ℕ → (TurnStage → Run → Ending) → (TurnStage → Run → Ending) → Type 0
-  AreFollowing m go more = (s : TurnStage) (r : Run) → r.turning ≡ None → Follows m (go s r) (more s (with_lines lines r))
+  abbrev AreFollowing : ℕ → (TurnPhase → Run → Ending) → (TurnPhase → Run → Ending) → Type 0
+  AreFollowing m go more = (s : TurnPhase) (r : Run) → r.turning ≡ None → Follows m (go s r) (more s (with_lines lines r))
 
   saying_follows : (m : ℕ) (text : List ℕ) (go more : Run → Ending) (r : Run) → Follows m (go (printed text r)) (more (with_lines lines (printed text r))) →
       Follows m (saying text go r) (saying text more (with_lines lines r))
@@ -54,19 +54,19 @@ module _ (g : Story) (lines : List (List ℕ)) where
       by_test true k = h k
       by_test false k = refl
 
-  module _ (m : ℕ) (go more : TurnStage → Run → Ending) (follows : AreFollowing m go more) (refines : Refines (turn g m) more) where
+  module _ (m : ℕ) (go more : TurnPhase → Run → Ending) (follows : AreFollowing m go more) (refines : Refines (turn g m) more) where
     connected_follows : (r : Run) → r.turning ≡ None → (to : Option ℕ) →
         Follows m (connected g go r to) (connected g more (with_lines lines r) to)
     connected_follows r none None k =
-        saying_follows m (refusal_text g.game r.world) (go AtFrame) (more AtFrame) (line_dropped r)
-        (follows AtFrame (printed (refusal_text g.game r.world) (line_dropped r)) none) k
+        saying_follows m (refusal_text g.game r.world) (go AtTimeFrame) (more AtTimeFrame) (line_dropped r)
+        (follows AtTimeFrame (printed (refusal_text g.game r.world) (line_dropped r)) none) k
     connected_follows r none (Some to) k = follows AtDescribe (with_world (with_flag r.world 38 to) r) none k
 
     after_left_follows : (t : ℕ) (a : Bool) (r : Run) → r.turning ≡ None → Follows m (after_left g go t a r) (after_left g more t a (with_lines lines r))
-    after_left_follows zero true r none k = follows AtFrame r none k
+    after_left_follows zero true r none k = follows AtTimeFrame r none k
     after_left_follows zero false r none k = connected_follows r none (exit_at g.game (flag r.world 38) (flag r.world 33)) k
-    after_left_follows (suc zero) a r none k = follows AtFrame r none k
-    after_left_follows (suc (suc t)) a r none k = follows AtPhrase (with_world (framed r.world) r) none k
+    after_left_follows (suc zero) a r none k = follows AtTimeFrame r none k
+    after_left_follows (suc (suc t)) a r none k = follows AtPhrase (with_world (time_frame_passed r.world) r) none k
 
     -- a wait in table t
     waits_follow : (t : ℕ) (p : Prompt) (path : List Frame) (r : Run) → IsInner p → first_table path ≡ t →
@@ -101,19 +101,19 @@ module _ (g : Story) (lines : List (List ℕ)) where
         (rest_stays t g 0 t 0 0 (λ z. refl) false r (subst (IsLoopOf t) (sym none) tt)))
 
     at_main_follows : (r : Run) (es : List (List ℕ)) → r.turning ≡ None →
-        Follows m (at_main g (go AtFrame) (go AtPhrase) r es)
-        (at_main g (more AtFrame) (more AtPhrase) (with_lines lines (record r { events = es })) (es ++ lines))
+        Follows m (at_main g go r es)
+        (at_main g more (with_lines lines (record r { events = es })) (es ++ lines))
     unfolding at_main
     at_main_follows r [] none k = at_main_more g (turn g m) more refines (with_lines lines (record r { events = [] })) lines k
     at_main_follows r (line ∷ es) none k =
         by_test (is_ignored r.world line) (is_timeout line)
-        (at_main g (go AtFrame) (go AtPhrase) (closed (record r { events = es })) es)
-        (saying (timeout_text g.game r.world) (go AtFrame) (heard line (record r { events = es })))
+        (at_main g go (closed (record r { events = es })) es)
+        (saying (timeout_text g.game r.world) (go AtTimeFrame) (heard line (record r { events = es })))
         (go AtPhrase (line_set line (record r { events = es })))
         (at_main_follows (closed (record r { events = es })) es none)
-        (saying_follows m (timeout_text g.game r.world) (go AtFrame) (more AtFrame)
+        (saying_follows m (timeout_text g.game r.world) (go AtTimeFrame) (more AtTimeFrame)
         (heard line (record r { events = es }))
-        (follows AtFrame (printed (timeout_text g.game r.world) (heard line (record r { events = es }))) none))
+        (follows AtTimeFrame (printed (timeout_text g.game r.world) (heard line (record r { events = es }))) none))
         (follows AtPhrase (line_set line (record r { events = es })) none) k
       where
         by_test : (ignored timeout : Bool) (x y z : Ending) → {x' y' z' : Ending} → Follows m x x' → Follows m y y' → Follows m z z' →
@@ -128,17 +128,17 @@ module _ (g : Story) (lines : List (List ℕ)) where
     after_phrase_follows r none (IsSentence s rest) k = follows AtResponse (with_world (counted (taken_phrase s rest r).world) (taken_phrase s rest r)) none k
     after_phrase_follows r none (IsUnknown rest) k =
         let text : List ℕ = unknown_text g.game r.world in
-        saying_follows m text (go AtFrame) (more AtFrame) (line_dropped r)
-        (follows AtFrame (printed text (line_dropped r)) none) k
+        saying_follows m text (go AtTimeFrame) (more AtTimeFrame) (line_dropped r)
+        (follows AtTimeFrame (printed text (line_dropped r)) none) k
     after_phrase_follows r none IsNoPhrase k =
-        saying_follows m (prompt_text g.game r.world) (λ s. at_main g (go AtFrame) (go AtPhrase) (closed s) s.events)
-        (λ s. at_main g (more AtFrame) (more AtPhrase) (closed s) s.events) (line_dropped r)
+        saying_follows m (prompt_text g.game r.world) (λ s. at_main g go (closed s) s.events)
+        (λ s. at_main g more (closed s) s.events) (line_dropped r)
         (at_main_follows (closed (printed (prompt_text g.game r.world) (line_dropped r))) r.events none) k
 
-  more_stages : (n m : ℕ) → Refines (turn g m) (turn g (n + m))
-  more_stages n m s r k = many_more (λ i. turn g i s r) (λ i. turn_more g i s r) n m k
+  more_phases : (n m : ℕ) → Refines (turn g m) (turn g (n + m))
+  more_phases n m s r k = many_more (λ i. turn g i s r) (λ i. turn_more g i s r) n m k
 
-  -- n stages, and then m
+  -- n phases, and then m
   turn_follows : (n m : ℕ) → AreFollowing m (turn g n) (turn g (n + m))
   unfolding turn
   turn_follows zero m s r none k = absurd (k refl)
@@ -147,24 +147,24 @@ module _ (g : Story) (lines : List (List ℕ)) where
       let text : List ℕ = view_text g.game (described r.world) in
       let s : Run = with_world (described r.world) r in
       rw e (saying_follows m text (λ q. table_done g (turn g n) 1 (table_read g 1 q)) (λ q. table_done g (turn g (n + m)) 1 (table_read g 1 q)) s
-      (read_follows m (turn g n) (turn g (n + m)) (turn_follows n m) (more_stages n m) 1 (printed text s) none) k)
-  turn_follows (suc n) m AtFrame r none k =
+      (read_follows m (turn g n) (turn g (n + m)) (turn_follows n m) (more_phases n m) 1 (printed text s) none) k)
+  turn_follows (suc n) m AtTimeFrame r none k =
       let e : suc n + m ≡ suc (n + m) = omega arith in
-      rw e (read_follows m (turn g n) (turn g (n + m)) (turn_follows n m) (more_stages n m) 2 r none k)
+      rw e (read_follows m (turn g n) (turn g (n + m)) (turn_follows n m) (more_phases n m) 2 r none k)
   turn_follows (suc n) m AtPhrase r none k =
       let e : suc n + m ≡ suc (n + m) = omega arith in
-      rw e (after_phrase_follows m (turn g n) (turn g (n + m)) (turn_follows n m) (more_stages n m) r none
+      rw e (after_phrase_follows m (turn g n) (turn g (n + m)) (turn_follows n m) (more_phases n m) r none
       (coming_phrase g r) k)
   turn_follows (suc n) m AtResponse r none k =
       let e : suc n + m ≡ suc (n + m) = omega arith in
-      rw e (read_follows m (turn g n) (turn g (n + m)) (turn_follows n m) (more_stages n m) 0 r none k)
+      rw e (read_follows m (turn g n) (turn g (n + m)) (turn_follows n m) (more_phases n m) 0 r none k)
 
-  -- so many stages that going on ends
-  enough : (m : ℕ) (s : TurnStage) (r : Run) → r.turning ≡ None → goes_from m (turns_from g s r) ≢ Unended →
+  -- so many phases that going on ends
+  enough : (m : ℕ) (s : TurnPhase) (r : Run) → r.turning ≡ None → goes_from m (turns_from g s r) ≢ Unended →
       turns_from g s (with_lines lines r) ≡ goes_from m (turns_from g s r)
   enough m s r none h =
-      let e : turn g (stages_left r + m) s (with_lines lines r) ≡ goes_from m (turns_from g s r) = turn_follows (stages_left r) m s r none h in
-      sym (ends_once g (stages_left r + m) s (with_lines lines r) (λ u. h (sym e ∙ u))) ∙ e
+      let e : turn g (phases_left r + m) s (with_lines lines r) ≡ goes_from m (turns_from g s r) = turn_follows (phases_left r) m s r none h in
+      sym (ends_once g (phases_left r + m) s (with_lines lines r) (λ u. h (sym e ∙ u))) ∙ e
 
 -- the turns with more lines
 pub turns_go_on : TurnsGoOn
@@ -174,7 +174,7 @@ turns_go_on g lines s r none = by_ending (turns_from g s r) refl
     at m x e h = subst (λ y. goes_from g lines m y ≢ Unended → turns_from g s (with_lines lines r) ≡ goes_from g lines m y) e (enough g lines m s r none) h
 
     by_ending : (x : Ending) → turns_from g s r ≡ x → turns_from g s (with_lines lines r) ≡ followed g lines x
-    by_ending (WaitsAt p path q) e = at (stages_left (with_lines lines q)) (WaitsAt p path q) e (going_on_ends g p path (with_lines lines q))
+    by_ending (WaitsAt p path q) e = at (phases_left (with_lines lines q)) (WaitsAt p path q) e (going_on_ends g p path (with_lines lines q))
     by_ending (Halted halt q) e = at 0 (Halted halt q) e (λ u. cc)
     by_ending Unended e = absurd (turns_end g s r e)
 

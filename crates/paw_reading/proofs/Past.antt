@@ -15,9 +15,9 @@ use Rattle.paw_reading.specs.Run.{Run, Step, closed, fits, printed, with_world, 
 use Rattle.paw_reading.specs.Reading.{RunsOut, Redescribes, Restarts, Halts, Out, Left, Waits, Stopped, rest, table_read, coming_phrase}
 use Rattle.paw_reading.specs.GoingOn.{on_path}
 use Rattle.paw_reading.specs.inner.GoingOn.{with_lines}
-use Rattle.paw_reading.specs.Turn.{TurnStage, AtDescribe, AtFrame, AtPhrase, AtResponse, Ending, WaitsAt, Halted, Unended, saying}
-use Rattle.paw_reading.specs.Turn.{described, framed, view_text, counted, prompt_text, at_main, after_phrase, refusal_text}
-use Rattle.paw_reading.specs.Turn.{connected, after_left, table_done, turn, stages_left, first_table, goes_on, on, reading}
+use Rattle.paw_reading.specs.Turn.{TurnPhase, AtDescribe, AtTimeFrame, AtPhrase, AtResponse, Ending, WaitsAt, Halted, Unended, saying}
+use Rattle.paw_reading.specs.Turn.{described, time_frame_passed, view_text, counted, prompt_text, at_main, after_phrase, refusal_text}
+use Rattle.paw_reading.specs.Turn.{connected, after_left, table_done, turn, phases_left, first_table, goes_on, on, reading}
 use Rattle.paw_reading.specs.Turn.{text_of, timeout_text}
 use Rattle.paw_reading.specs.inner.Steps.{line_set, in_table, unknown_text}
 use Rattle.paw_reading.specs.inner.Longer.{with_past, without_past, ending_with_past, PastStays, LongerReading, LongerText}
@@ -72,18 +72,18 @@ module _ (g : Story) (ps : List (List ℕ)) (ts : List (List Step)) where
       by_test true = h
       by_test false = refl
 
-  module _ (go : TurnStage → Run → Ending) (pasts : (s : TurnStage) (r : Run) → go s (with_past ps ts r) ≡ ending_with_past ps ts (go s r)) where
+  module _ (go : TurnPhase → Run → Ending) (pasts : (s : TurnPhase) (r : Run) → go s (with_past ps ts r) ≡ ending_with_past ps ts (go s r)) where
     connected_past : (r : Run) (to : Option ℕ) →
         connected g go (with_past ps ts r) to ≡ ending_with_past ps ts (connected g go r to)
     connected_past r None =
-        saying_past (refusal_text g.game r.world) (go AtFrame) (line_dropped r) (pasts AtFrame (printed (refusal_text g.game r.world) (line_dropped r)))
+        saying_past (refusal_text g.game r.world) (go AtTimeFrame) (line_dropped r) (pasts AtTimeFrame (printed (refusal_text g.game r.world) (line_dropped r)))
     connected_past r (Some to) = pasts AtDescribe (with_world (with_flag r.world 38 to) r)
 
     after_left_past : (t : ℕ) (a : Bool) (r : Run) → after_left g go t a (with_past ps ts r) ≡ ending_with_past ps ts (after_left g go t a r)
-    after_left_past zero true r = pasts AtFrame r
+    after_left_past zero true r = pasts AtTimeFrame r
     after_left_past zero false r = connected_past r (exit_at g.game (flag r.world 38) (flag r.world 33))
-    after_left_past (suc zero) a r = pasts AtFrame r
-    after_left_past (suc (suc t)) a r = pasts AtPhrase (with_world (framed r.world) r)
+    after_left_past (suc zero) a r = pasts AtTimeFrame r
+    after_left_past (suc (suc t)) a r = pasts AtPhrase (with_world (time_frame_passed r.world) r)
 
     table_done_past : (t : ℕ) (x : Out) → table_done g go t (out_with_past x) ≡ ending_with_past ps ts (table_done g go t x)
     table_done_past t (Left a r) = after_left_past t a r
@@ -96,17 +96,17 @@ module _ (g : Story) (ps : List (List ℕ)) (ts : List (List Step)) where
     read_past t r = rw (table_past t r) (table_done_past t (table_read g t r))
 
     at_main_past : (r : Run) (es : List (List ℕ)) →
-        at_main g (go AtFrame) (go AtPhrase) (with_past ps ts r) es ≡ ending_with_past ps ts (at_main g (go AtFrame) (go AtPhrase) r es)
+        at_main g go (with_past ps ts r) es ≡ ending_with_past ps ts (at_main g go r es)
     unfolding at_main
     at_main_past r [] = refl
     at_main_past r (line ∷ es) =
         by_test (is_ignored r.world line) (is_timeout line)
-        (at_main g (go AtFrame) (go AtPhrase) (closed (record r { events = es })) es)
-        (saying (timeout_text g.game r.world) (go AtFrame) (heard line (record r { events = es })))
+        (at_main g go (closed (record r { events = es })) es)
+        (saying (timeout_text g.game r.world) (go AtTimeFrame) (heard line (record r { events = es })))
         (go AtPhrase (line_set line (record r { events = es })))
         (rw (closed_past (record r { events = es })) (at_main_past (closed (record r { events = es })) es))
-        (saying_past (timeout_text g.game r.world) (go AtFrame) (heard line (record r { events = es }))
-        (pasts AtFrame (printed (timeout_text g.game r.world) (heard line (record r { events = es })))))
+        (saying_past (timeout_text g.game r.world) (go AtTimeFrame) (heard line (record r { events = es }))
+        (pasts AtTimeFrame (printed (timeout_text g.game r.world) (heard line (record r { events = es })))))
         (pasts AtPhrase (line_set line (record r { events = es })))
       where
         by_test : (ignored timeout : Bool) (x y z : Ending) → {x' y' z' : Ending} → x' ≡ ending_with_past ps ts x → y' ≡ ending_with_past ps ts y →
@@ -121,19 +121,19 @@ module _ (g : Story) (ps : List (List ℕ)) (ts : List (List Step)) where
     after_phrase_past r (IsSentence s rest) = pasts AtResponse (with_world (counted (taken_phrase s rest r).world) (taken_phrase s rest r))
     after_phrase_past r (IsUnknown rest) =
         let text : List ℕ = unknown_text g.game r.world in
-        saying_past text (go AtFrame) (line_dropped r) (pasts AtFrame (printed text (line_dropped r)))
+        saying_past text (go AtTimeFrame) (line_dropped r) (pasts AtTimeFrame (printed text (line_dropped r)))
     after_phrase_past r IsNoPhrase =
-        saying_past (prompt_text g.game r.world) (λ s. at_main g (go AtFrame) (go AtPhrase) (closed s) s.events) (line_dropped r)
+        saying_past (prompt_text g.game r.world) (λ s. at_main g go (closed s) s.events) (line_dropped r)
         (rw (closed_past (printed (prompt_text g.game r.world) (line_dropped r)))
         (at_main_past (closed (printed (prompt_text g.game r.world) (line_dropped r))) r.events))
 
-  turn_past : (n : ℕ) (s : TurnStage) (r : Run) → turn g n s (with_past ps ts r) ≡ ending_with_past ps ts (turn g n s r)
+  turn_past : (n : ℕ) (s : TurnPhase) (r : Run) → turn g n s (with_past ps ts r) ≡ ending_with_past ps ts (turn g n s r)
   unfolding turn
   turn_past zero s r = refl
   turn_past (suc n) AtDescribe r =
       saying_past (view_text g.game (described r.world)) (λ q. table_done g (turn g n) 1 (table_read g 1 q)) (with_world (described r.world) r)
       (read_past (turn g n) (turn_past n) 1 (printed (view_text g.game (described r.world)) (with_world (described r.world) r)))
-  turn_past (suc n) AtFrame r = read_past (turn g n) (turn_past n) 2 r
+  turn_past (suc n) AtTimeFrame r = read_past (turn g n) (turn_past n) 2 r
   turn_past (suc n) AtPhrase r = after_phrase_past (turn g n) (turn_past n) r (coming_phrase g r)
   turn_past (suc n) AtResponse r = read_past (turn g n) (turn_past n) 0 r
 
@@ -148,7 +148,7 @@ module _ (g : Story) (ps : List (List ℕ)) (ts : List (List Step)) where
   goes_on_past n prompt.Over path r = refl
 
 pub past_stays : PastStays
-past_stays g ps ts p path r = goes_on_past g ps ts (stages_left r) p path r
+past_stays g ps ts p path r = goes_on_past g ps ts (phases_left r) p path r
 
 -- the reading of more lines has the pieces of some, and then those of going on
 pub longer_reading : LongerReading

@@ -20,9 +20,9 @@ use Rattle.paw_reading.specs.declared.places.Frame.{Frame}
 use Rattle.paw_reading.specs.declared.places.OpenLoop.{OpenLoop}
 use Rattle.paw_reading.specs.Run.{Run, Step, closed, fits, printed, with_world, line_dropped, is_timeout, is_ignored, heard, taken_phrase}
 use Rattle.paw_reading.specs.Reading.{IsOver, RunsOut, Redescribes, Restarts, Halts, Out, Left, Waits, Stopped, table_read, coming_phrase}
-use Rattle.paw_reading.specs.Turn.{TurnStage, AtDescribe, AtFrame, AtPhrase, AtResponse, Ending, WaitsAt, Halted, reading, on, saying}
-use Rattle.paw_reading.specs.Turn.{described, framed, view_text, counted, prompt_text, at_main, after_phrase, refusal_text}
-use Rattle.paw_reading.specs.Turn.{connected, after_left, table_done, turn, stages_left, opening, first_table, goes_on, timeout_text}
+use Rattle.paw_reading.specs.Turn.{TurnPhase, AtDescribe, AtTimeFrame, AtPhrase, AtResponse, Ending, WaitsAt, Halted, reading, on, saying}
+use Rattle.paw_reading.specs.Turn.{described, time_frame_passed, view_text, counted, prompt_text, at_main, after_phrase, refusal_text}
+use Rattle.paw_reading.specs.Turn.{connected, after_left, table_done, turn, phases_left, opening, first_table, goes_on, timeout_text}
 use Rattle.paw_reading.specs.inner.Steps.{line_set, in_table, unknown_text}
 use Rattle.paw_reading.specs.Bounds.{IsLine, ValidStory}
 use Rattle.paw_reading.specs.inner.Bounds.{IsBounded}
@@ -44,8 +44,8 @@ fallen_placed g false n w k = k
 described_placed : (g : GameLists) (w : World) → IsPlaced g w → IsPlaced g (described w)
 described_placed g w k = fallen_placed g (is_unlit w) 4 (fallen_if (is_dark w) 3 (fallen 2 w)) (fallen_placed g (is_dark w) 3 (fallen 2 w) k)
 
-framed_placed : (g : GameLists) (w : World) → IsPlaced g w → IsPlaced g (framed w)
-framed_placed g w k =
+time_frame_placed : (g : GameLists) (w : World) → IsPlaced g w → IsPlaced g (time_frame_passed w)
+time_frame_placed g w k =
     let first : World = fallen 8 (fallen 7 (fallen 6 (fallen 5 w))) in
     fallen_placed g (is_unlit w) 10 (fallen_if (is_dark w) 9 first) (fallen_placed g (is_dark w) 9 first k)
 
@@ -101,18 +101,18 @@ module _ (g : Story) (v : Valid g.game) where
       let printed_so : IsBetween (printed text r) = record { of = k.of; none = k.none } in
       either IsRightly (fits r text) _ (Halted (RunsOut spent.Text) r) (h (printed text r) printed_so) tt
 
-  module _ (go : TurnStage → Run → Ending) (goes : (s : TurnStage) → GoRightly (go s)) where
+  module _ (go : TurnPhase → Run → Ending) (goes : (s : TurnPhase) → GoRightly (go s)) where
     connected_rightly : (to : Option ℕ) → GoRightly (λ r. connected g go r to)
     connected_rightly None r k =
-        saying_rightly (refusal_text g.game r.world) (go AtFrame) (goes AtFrame) (line_dropped r) (record { of = k.of; none = k.none })
+        saying_rightly (refusal_text g.game r.world) (go AtTimeFrame) (goes AtTimeFrame) (line_dropped r) (record { of = k.of; none = k.none })
     connected_rightly (Some to) r k = goes AtDescribe (with_world (with_flag r.world 38 to) r) (record { of = k.of; none = k.none })
 
     after_left_rightly : (t : ℕ) (a : Bool) → GoRightly (after_left g go t a)
-    after_left_rightly zero true r k = goes AtFrame r k
+    after_left_rightly zero true r k = goes AtTimeFrame r k
     after_left_rightly zero false r k = connected_rightly (exit_at g.game (flag r.world 38) (flag r.world 33)) r k
-    after_left_rightly (suc zero) a r k = goes AtFrame r k
+    after_left_rightly (suc zero) a r k = goes AtTimeFrame r k
     after_left_rightly (suc (suc t)) a r k =
-        goes AtPhrase (with_world (framed r.world) r) (record { of = framed_placed g.game r.world k.of; none = k.none })
+        goes AtPhrase (with_world (time_frame_passed r.world) r) (record { of = time_frame_placed g.game r.world k.of; none = k.none })
 
     between : (r : Run) → Sound g.game [] r.world r.turning → IsBetween r
     between r k = record { of = k.of; none = none_open g.game r.world r.turning k }
@@ -130,7 +130,7 @@ module _ (g : Story) (v : Valid g.game) where
     read_rightly : (t : ℕ) → t ≤ 2 → GoRightly (λ r. table_done g go t (table_read g t r))
     read_rightly t low r k = table_done_rightly t low (table_read g t r) (table_held g v t r k.of k.none)
 
-    at_main_rightly : (r : Run) (lines : List (List ℕ)) → IsBetween r → r.pending ≡ [] → IsRightly (at_main g (go AtFrame) (go AtPhrase) r lines)
+    at_main_rightly : (r : Run) (lines : List (List ℕ)) → IsBetween r → r.pending ≡ [] → IsRightly (at_main g go r lines)
     unfolding at_main
     at_main_rightly r [] k empty = (λ e. cc, record { places = (refl, k.none); line = λ e. empty })
     at_main_rightly r (line ∷ lines) k empty =
@@ -138,7 +138,7 @@ module _ (g : Story) (v : Valid g.game) where
         either IsRightly (is_ignored r.world line) _ _
         (at_main_rightly (closed s) lines (record { of = k.of; none = k.none }) empty)
         (either IsRightly (is_timeout line) _ _
-        (saying_rightly (timeout_text g.game r.world) (go AtFrame) (goes AtFrame) (heard line s)
+        (saying_rightly (timeout_text g.game r.world) (go AtTimeFrame) (goes AtTimeFrame) (heard line s)
         (record { of = k.of; none = k.none }))
         (goes AtPhrase (line_set line s) (record { of = k.of; none = k.none })))
 
@@ -146,21 +146,21 @@ module _ (g : Story) (v : Valid g.game) where
     after_phrase_rightly (IsSentence s rest) r k =
         goes AtResponse (with_world (counted (taken_phrase s rest r).world) (taken_phrase s rest r)) (record { of = k.of; none = k.none })
     after_phrase_rightly (IsUnknown rest) r k =
-        saying_rightly (unknown_text g.game r.world) (go AtFrame) (goes AtFrame) (line_dropped r)
+        saying_rightly (unknown_text g.game r.world) (go AtTimeFrame) (goes AtTimeFrame) (line_dropped r)
         (record { of = k.of; none = k.none })
     after_phrase_rightly IsNoPhrase r k =
         either IsRightly (fits (line_dropped r) (prompt_text g.game r.world)) _
         (Halted (RunsOut spent.Text) (line_dropped r))
         (at_main_rightly (closed (printed (prompt_text g.game r.world) (line_dropped r))) r.events (record { of = k.of; none = k.none }) refl) tt
 
-  turn_rightly : (n : ℕ) (s : TurnStage) → GoRightly (turn g n s)
+  turn_rightly : (n : ℕ) (s : TurnPhase) → GoRightly (turn g n s)
   unfolding turn
   turn_rightly zero s r k = tt
   turn_rightly (suc n) AtDescribe r k =
       saying_rightly (view_text g.game (described r.world)) (λ q. table_done g (turn g n) 1 (table_read g 1 q))
       (read_rightly (turn g n) (turn_rightly n) 1 (omega arith))
       (with_world (described r.world) r) (record { of = described_placed g.game r.world k.of; none = k.none })
-  turn_rightly (suc n) AtFrame r k = read_rightly (turn g n) (turn_rightly n) 2 (omega arith) r k
+  turn_rightly (suc n) AtTimeFrame r k = read_rightly (turn g n) (turn_rightly n) 2 (omega arith) r k
   turn_rightly (suc n) AtPhrase r k =
       after_phrase_rightly (turn g n) (turn_rightly n) (coming_phrase g r) r k
   turn_rightly (suc n) AtResponse r k = read_rightly (turn g n) (turn_rightly n) 0 (omega arith) r k
@@ -222,7 +222,7 @@ stop_bounded g valid seed n _ k = tt
 pub readings_stop_rightly : ReadingsStopRightly
 readings_stop_rightly g seed es valid lines =
     stop_rightly g valid seed 0 (reading g seed es)
-    (turn_rightly g valid.game (stages_left (opening g seed es)) AtDescribe (opening g seed es)
+    (turn_rightly g valid.game (phases_left (opening g seed es)) AtDescribe (opening g seed es)
     (record { of = opened_placed g.game seed valid.game; none = refl }))
     (reading_sounds g valid seed 0 es (are_lines es lines))
 
@@ -280,7 +280,7 @@ going_on_stops_rightly g p path r valid lines k =
     let resting : IsResting g.game r.world.seed r.world.draws s =
     rests g.game r.world.seed r.world.draws p path s at
     (record { seeded = refl; draws = omega arith; pieces = λ i d low. absurd (omega arith); traced = refl }) lines in
-    let placed = goes_on_rightly g valid.game (stages_left s) p path s
+    let placed = goes_on_rightly g valid.game (phases_left s) p path s
     (k.world.of.facts, (k.world.of.locations, (k.world.places, (stands_in g.game r.world.saved k.world.saved, all_stand g.game r.world.kept k.world.kept))))
     (record { places = at.places; line = at.line }) in
     let sounds = going_on_sounds g valid r.world.seed r.world.draws p path s resting in

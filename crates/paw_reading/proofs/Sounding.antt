@@ -38,9 +38,9 @@ use Rattle.paw_reading.specs.Reading.{after_call, at_level, again, is_taken, nam
 use Rattle.paw_reading.specs.Reading.{after_test, after_parse, after_action, carried_out, acts, reads_one, condacts, is_for_now, entries}
 use Rattle.paw_reading.specs.Reading.{plain, looped, reads, called, deeper, table_read, game_over, coming_phrase}
 use Rattle.paw_reading.specs.GoingOn.{on_path}
-use Rattle.paw_reading.specs.Turn.{TurnStage, AtDescribe, AtFrame, AtPhrase, AtResponse, Ending, WaitsAt, Halted, saying, described, framed}
+use Rattle.paw_reading.specs.Turn.{TurnPhase, AtDescribe, AtTimeFrame, AtPhrase, AtResponse, Ending, WaitsAt, Halted, saying, described, time_frame_passed}
 use Rattle.paw_reading.specs.Turn.{view_text, counted, prompt_text, at_main, after_phrase, refusal_text, connected, after_left}
-use Rattle.paw_reading.specs.Turn.{table_done, turn, stages_left, opening, reading, first_table, goes_on, on, timeout_text}
+use Rattle.paw_reading.specs.Turn.{table_done, turn, phases_left, opening, reading, first_table, goes_on, on, timeout_text}
 use Rattle.paw_reading.specs.inner.Steps.{goodbye, quit_question, line_set, in_table, unknown_text}
 use Rattle.paw_reading.proofs.EachCondact.{by_test}
 use Rattle.paw_reading.proofs.Keeps.{either, open_or_not}
@@ -451,8 +451,8 @@ module _ (g : Story) (valid : ValidStory g) (seed base : ℕ) where
   described_so n w k =
       fallen_if_so n (is_unlit w) 4 (fallen_if (is_dark w) 3 (fallen 2 w)) (fallen_if_so n (is_dark w) 3 (fallen 2 w) (fallen_so n 2 w k))
 
-  framed_so : (n : ℕ) (w : World) → IsWorldAt g.game seed n w → IsWorldAt g.game seed n (framed w)
-  framed_so n w k =
+  time_frame_so : (n : ℕ) (w : World) → IsWorldAt g.game seed n w → IsWorldAt g.game seed n (time_frame_passed w)
+  time_frame_so n w k =
       let first : World = fallen 8 (fallen 7 (fallen 6 (fallen 5 w))) in
       fallen_if_so n (is_unlit w) 10 (fallen_if (is_dark w) 9 first) (fallen_if_so n (is_dark w) 9 first
       (fallen_so n 8 _ (fallen_so n 7 _ (fallen_so n 6 _ (fallen_so n 5 w k)))))
@@ -469,10 +469,10 @@ module _ (g : Story) (valid : ValidStory g) (seed base : ℕ) where
       high : (x : ℕ) → x ≤ 65535 → x / 256 < 256
       high x most = omega arith
 
-  module _ (go : TurnStage → Run → Ending) (goes : (s : TurnStage) → TurnsSound (go s)) where
+  module _ (go : TurnPhase → Run → Ending) (goes : (s : TurnPhase) → TurnsSound (go s)) where
     connected_sounds : (r : Run) → Is r → (to : Option ℕ) → exit_at g.game (flag r.world 38) (flag r.world 33) ≡ to →
         EndsSound (connected g go r to)
-    connected_sounds r k None e = saying_sounds (refusal_text g.game r.world) (go AtFrame) (goes AtFrame) (line_dropped r) (dropped r k)
+    connected_sounds r k None e = saying_sounds (refusal_text g.game r.world) (go AtTimeFrame) (goes AtTimeFrame) (line_dropped r) (dropped r k)
     connected_sounds r k (Some to) e =
         goes AtDescribe (with_world (with_flag r.world 38 to) r)
         (in_world r k (with_flag r.world 38 to)
@@ -480,10 +480,11 @@ module _ (g : Story) (valid : ValidStory g) (seed base : ℕ) where
         (omega (arith, exit-leads g.game v (flag r.world 38) (flag r.world 33) to e, (few_locations g.game v).1))))
 
     after_left_sounds : (t : ℕ) (a : Bool) → TurnsSound (after_left g go t a)
-    after_left_sounds zero true r k = goes AtFrame r k
+    after_left_sounds zero true r k = goes AtTimeFrame r k
     after_left_sounds zero false r k = connected_sounds r k (exit_at g.game (flag r.world 38) (flag r.world 33)) refl
-    after_left_sounds (suc zero) a r k = goes AtFrame r k
-    after_left_sounds (suc (suc t)) a r k = goes AtPhrase (with_world (framed r.world) r) (in_world r k (framed r.world) (framed_so (bound r) r.world k.world))
+    after_left_sounds (suc zero) a r k = goes AtTimeFrame r k
+    after_left_sounds (suc (suc t)) a r k =
+        goes AtPhrase (with_world (time_frame_passed r.world) r) (in_world r k (time_frame_passed r.world) (time_frame_so (bound r) r.world k.world))
 
     table_done_sounds : (t : ℕ) (x : Out) → Sounds x → EndsSound (table_done g go t x)
     table_done_sounds t (Left a r) k = after_left_sounds t a r k
@@ -499,7 +500,7 @@ module _ (g : Story) (valid : ValidStory g) (seed base : ℕ) where
     line_set_so : (line : List ℕ) (r : Run) → IsLine line → Is r → Is (line_set line r)
     line_set_so line r is k = changed r k _ (timeout_so (bound r) false r.world k.world) line is 255 (omega arith) r.turning
 
-    at_main_sounds : (r : Run) (lines : List (List ℕ)) → Rests r → AreLines lines → EndsSound (at_main g (go AtFrame) (go AtPhrase) r lines)
+    at_main_sounds : (r : Run) (lines : List (List ℕ)) → Rests r → AreLines lines → EndsSound (at_main g go r lines)
     unfolding at_main
     at_main_sounds r [] k are = resting_events r k [] tt
     at_main_sounds r (line ∷ lines) k are =
@@ -509,7 +510,7 @@ module _ (g : Story) (valid : ValidStory g) (seed base : ℕ) where
         (λ e. at_main_sounds (closed s) lines (closed_rests s s_so) are.1)
         (one_of (is_timeout line) _ _
         (λ e.
-        saying_sounds (timeout_text g.game r.world) (go AtFrame) (goes AtFrame) (heard line s) (heard_so line s s_so))
+        saying_sounds (timeout_text g.game r.world) (go AtTimeFrame) (goes AtTimeFrame) (heard line s) (heard_so line s s_so))
         (goes AtPhrase (line_set line s) (line_set_so line s are.0 s_so)))
 
     after_phrase_sounds : (r : Run) → Is r → (p : Parsed) → coming_phrase g r ≡ p →
@@ -520,18 +521,18 @@ module _ (g : Story) (valid : ValidStory g) (seed base : ℕ) where
         (in_world (taken_phrase s left r) taken_run (counted (taken_phrase s left r).world)
         (counted_so (bound r) (taken_phrase s left r).world taken_run.world))
     after_phrase_sounds r k (IsUnknown left) e =
-        saying_sounds (unknown_text g.game r.world) (go AtFrame) (goes AtFrame) (line_dropped r) (dropped r k)
+        saying_sounds (unknown_text g.game r.world) (go AtTimeFrame) (goes AtTimeFrame) (line_dropped r) (dropped r k)
     after_phrase_sounds r k IsNoPhrase e =
-        saying_sounds (prompt_text g.game r.world) (λ s. at_main g (go AtFrame) (go AtPhrase) (closed s) s.events)
+        saying_sounds (prompt_text g.game r.world) (λ s. at_main g go (closed s) s.events)
         (λ s j. at_main_sounds (closed s) s.events (closed_rests s j) j.lines) (line_dropped r) (dropped r k)
 
-  turn_sounds : (n : ℕ) (s : TurnStage) → TurnsSound (turn g n s)
+  turn_sounds : (n : ℕ) (s : TurnPhase) → TurnsSound (turn g n s)
   unfolding turn
   turn_sounds zero s r k = tt
   turn_sounds (suc n) AtDescribe r k =
       saying_sounds (view_text g.game (described r.world)) (λ q. table_done g (turn g n) 1 (table_read g 1 q)) (read_sounds (turn g n) (turn_sounds n) 1)
       (with_world (described r.world) r) (in_world r k (described r.world) (described_so (bound r) r.world k.world))
-  turn_sounds (suc n) AtFrame r k = read_sounds (turn g n) (turn_sounds n) 2 r k
+  turn_sounds (suc n) AtTimeFrame r k = read_sounds (turn g n) (turn_sounds n) 2 r k
   turn_sounds (suc n) AtPhrase r k = after_phrase_sounds (turn g n) (turn_sounds n) r k (coming_phrase g r) refl
   turn_sounds (suc n) AtResponse r k = read_sounds (turn g n) (turn_sounds n) 0 r k
 
@@ -549,7 +550,7 @@ module _ (g : Story) (valid : ValidStory g) (seed base : ℕ) where
 
   -- where a reading stops nothing is open, and the run is sound
   pub reading_sounds : (es : List (List ℕ)) → AreLines es → EndsSound (reading g seed es)
-  reading_sounds es are = turn_sounds (stages_left (opening g seed es)) AtDescribe (opening g seed es) (opening_so es are)
+  reading_sounds es are = turn_sounds (phases_left (opening g seed es)) AtDescribe (opening g seed es) (opening_so es are)
 
   in_table_sounds : (n : ℕ) (p : Prompt) (path : List Frame) (r : Run) → Rests r → EndsSound (in_table g n p path r)
   in_table_sounds n p path r k = table_done_sounds (turn g n) (turn_sounds n) (first_table path) (on_path g p 0 path r) (path_sounds p 0 path r k)
@@ -562,4 +563,4 @@ module _ (g : Story) (valid : ValidStory g) (seed base : ℕ) where
   goes_on_sounds n prompt.Over path r k = k
 
   pub going_on_sounds : (p : Prompt) (path : List Frame) (r : Run) → Rests r → EndsSound (on g p path r)
-  going_on_sounds p path r k = goes_on_sounds (stages_left r) p path r k
+  going_on_sounds p path r k = goes_on_sounds (phases_left r) p path r k

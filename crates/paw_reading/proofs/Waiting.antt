@@ -7,7 +7,7 @@ use Rattle.paw_reading.specs.declared.places.Frame.{Frame}
 use Rattle.paw_reading.specs.Run.{Run}
 use Rattle.paw_reading.specs.Reading.{Waits, after_call, asked, rest}
 use Rattle.paw_reading.specs.GoingOn.{on_path}
-use Rattle.paw_reading.specs.Turn.{WaitsAt, at_main, table_done, turn, stages_left, first_table, on}
+use Rattle.paw_reading.specs.Turn.{WaitsAt, at_main, table_done, turn, phases_left, first_table, on}
 use Rattle.paw_reading.specs.inner.Turn.{MayWaitAlong, WaitsOn}
 
 path_waits : (g : Story) (p : Prompt) (lv : ℕ) (f : Frame) (path : List Frame) (r : Run) →
@@ -30,9 +30,9 @@ at_once : (g : Story) (p : Prompt) (path : List Frame) (r : Run) → MayWaitAlon
     on g p path (record r { events = [] }) ≡ WaitsAt p path (record r { events = [] })
 unfolding at_main
 at_once g prompt.Main path r none = rw none refl
-at_once g prompt.Quit path r some = in_tables g (stages_left (record r { events = [] })) prompt.Quit path r some
-at_once g prompt.Again path r some = in_tables g (stages_left (record r { events = [] })) prompt.Again path r some
-at_once g prompt.Key path r some = in_tables g (stages_left (record r { events = [] })) prompt.Key path r some
+at_once g prompt.Quit path r some = in_tables g (phases_left (record r { events = [] })) prompt.Quit path r some
+at_once g prompt.Again path r some = in_tables g (phases_left (record r { events = [] })) prompt.Again path r some
+at_once g prompt.Key path r some = in_tables g (phases_left (record r { events = [] })) prompt.Key path r some
 at_once g prompt.Over path r some = absurd some
 
 pub waits_on : WaitsOn

@@ -5,7 +5,7 @@ use Rattle.paw_game.specs.Valid.{Valid}
 use Rattle.paw_effects.specs.Standing.{AreBytes}
 use Rattle.paw_effects.specs.Story.{Story}
 
--- a line has at most 255 bytes
+-- a line: at most 255 bytes
 pub record IsLine (line : List ℕ) : Type 0 where
   pub short : length line ≤ LINE_LIMIT
   pub bytes : AreBytes line

@@ -7,7 +7,7 @@ use Rattle.paw_reading.specs.Run.{Run}
 use Rattle.paw_reading.specs.Reading.{Out, Left, after_call, again, asked, looped, plain, deeper, rest}
 
 -- going on along the path of a wait, from level lv on, the outermost frame first: the innermost takes the lines, and
--- each other goes on after its call
+-- each other goes on after its call. An empty path, which no wait in a table has, is a table that is left
 abbrev pub on_path : Story → Prompt → ℕ → List Frame → Run → Out
 on_path g p lv [] r = Left true r
 on_path g p lv (f ∷ []) r =

@@ -97,7 +97,7 @@ abbrev pub at_level : ℕ → Option OpenLoop → Option OpenLoop
 at_level lv None = None
 at_level lv (Some l) = if l.level == lv then Some l else None
 
--- a table that is left at the level of the open loop goes on with the loop's next object; else it is as it is
+-- a table that is left at the level of the open loop goes on with the loop's next object; else what it came to stands
 abbrev pub again : ℕ → (OpenLoop → Run → Out) → Out → Out
 again lv next (Left a r) = option_map_or (λ l. next l r) (at_level lv r.turning) (Left a r)
 again lv next x = x
@@ -105,11 +105,10 @@ again lv next x = x
 -- the sentence excepts an object by its second noun, and by its second adjective where it has one
 abbrev pub is_excepted : World → ObjectFacts → Bool
 is_excepted w f =
-    not (flag w SECOND_NOUN_FLAG == NO_WORD)
-    && ((f.noun == flag w SECOND_NOUN_FLAG)
+    not (flag w SECOND_NOUN_FLAG == NO_WORD) && ((f.noun == flag w SECOND_NOUN_FLAG)
     && ((flag w SECOND_ADJECTIVE_FLAG == NO_WORD) || (f.adjective == flag w SECOND_ADJECTIVE_FLAG)))
 
--- an object with these facts may be taken: it has a noun, and isn't excepted
+-- an object with these facts may be taken: it is there, it has a noun, and it isn't excepted
 abbrev pub may_be_taken : World → Option ObjectFacts → Bool
 may_be_taken w facts = option_map_or (λ f. not (f.noun == NO_WORD) && not (is_excepted w f)) facts false
 
@@ -117,7 +116,7 @@ may_be_taken w facts = option_map_or (λ f. not (f.noun == NO_WORD) && not (is_e
 abbrev pub is_taken : GameLists → World → OpenLoop → ℕ → Bool
 is_taken g w l o = (place w o == l.place) && may_be_taken w (facts_at g o)
 
--- the object's noun and adjective stand in the sentence
+-- the object's noun and adjective stand in the sentence; where there is no such object nothing changes
 abbrev pub named : World → Option ObjectFacts → World
 named w facts = option_map_or (λ f. with_flag (with_flag w NOUN_FLAG f.noun) ADJECTIVE_FLAG f.adjective) facts w
 
@@ -128,8 +127,8 @@ taken g l o r = record r {
   world = referred (with_flag (named r.world (facts_at g o)) LOOP_FLAG o) o;
 }
 
--- the loop goes over the last n objects in rising number, and takes each that it may when its turn comes; with none
--- left it is closed, and the table is left with an action carried out
+-- the loop goes over the last n objects in rising number, and takes each that it may when its turn comes: then body is
+-- read; with none left it is closed, and the table is left with an action carried out
 unfoldable pub turns : Story → ℕ → OpenLoop → (Run → Out) → ℕ → Run → Out
 turns g lv l body zero r = Left true (without_loop r)
 turns g lv l body (suc n) r =
@@ -151,8 +150,9 @@ game_over r = halts IsOver (closed (without_loop (line_dropped r)))
 abbrev pub over : Story → Run → Out
 over g r = printing (say_text g.game r.world GOODBYE_MESSAGE) game_over r
 
--- the answer to a prompt in a table: QUIT goes on at yes and leaves the table at no; END ends the game at no and starts
--- it anew otherwise; a key goes on
+-- the answer to a prompt in a table: QUIT goes on at yes, and at no leaves the table with an action carried out; END
+-- ends the game at no and starts it anew otherwise; a key goes on, with an action carried out. No other prompt stands
+-- in a table; one would go on as it is
 abbrev pub answered : Story → Prompt → Frame → Onward → List ℕ → Run → Out
 answered g prompt.Quit f go line r = if is_yes line then go f.acted r else Left true r
 answered g prompt.Again f go line r = if is_no line then over g r else Stopped Restarts (anew r)
@@ -180,7 +180,8 @@ after_test g f next go c r truth.No = next f.acted (noted f c false r)
 after_test g f next go c r truth.Ask =
     printing (put_text g.game r.world QUIT_MESSAGE) (waits g prompt.Quit f go) (noted f c true r)
 
--- after PARSE: at a sentence next reads on at the next entry, else go at the next condact
+-- after PARSE: at a sentence, which is taken, next reads on at the next entry, else go at the next condact; the bytes
+-- of a phrase with no known word are gone
 abbrev pub after_parse : Frame → Onward → Onward → Run → Parsed → Out
 after_parse f next go r (IsSentence s rest) = next f.acted (taken_phrase s rest r)
 after_parse f next go r (IsUnknown rest) = go f.acted (record r { pending = rest })
@@ -191,7 +192,8 @@ abbrev pub coming_phrase : Story → Run → Parsed
 coming_phrase g r =
     parsed g.game r.pending r.earlier (flag r.world PRONOUN_NOUN_FLAG) (flag r.world PRONOUN_ADJECTIVE_FLAG)
 
--- how reading goes on after an action; sub reads a table one level deeper
+-- how reading goes on after an action: go reads on at the next condact, next at the next entry, and sub a table one
+-- level deeper
 abbrev pub after_action : Story → Called → ℕ → Frame → Onward → Onward → Effect → Run → Out
 after_action g sub lv f next go effect.Go r = go true r
 after_action g sub lv f next go (effect.Exit a) r = Left a r
@@ -241,8 +243,7 @@ is_for_now r en = matches (flag r.world VERB_FLAG) (flag r.world NOUN_FLAG) en
 unfoldable pub entries : Story → Called → ℕ → ℕ → ℕ → List Entry → Bool → Run → Out
 entries g sub lv t e [] acted r = Left acted r
 entries g sub lv t e (en ∷ es) acted r =
-    if is_for_now r en
-    then condacts g sub lv t e (entries g sub lv t (suc e) es) 0 en.condacts acted r
+    if is_for_now r en then condacts g sub lv t e (entries g sub lv t (suc e) es) 0 en.condacts acted r
     else entries g sub lv t (suc e) es acted r
 
 -- the entries of a table after entry e
@@ -268,12 +269,12 @@ looped g sub lv l =
 abbrev pub reads : Story → Called → ℕ → ℕ → ℕ → ℕ → Bool → Run → Out
 reads g sub lv t e k acted r = again lv (looped g sub lv) (plain g sub lv t e k acted r)
 
--- a table called from level lv, below which n levels are left
+-- a table called from level lv, below which n levels are left; with none left the call is too deep, and play ends
 unfoldable pub called : Story → ℕ → ℕ → ℕ → Run → Out
 called g zero lv u r = halts (CallsTooDeep u) r
 called g (suc n) lv u r = reads g (called g n (suc lv)) (suc lv) u 0 0 false r
 
--- levels go from 0 to 10
+-- a table called from level lv: levels go from 0 to 10
 abbrev pub deeper : Story → ℕ → ℕ → Run → Out
 deeper g lv = called g (LEVEL_LIMIT - lv) lv
 

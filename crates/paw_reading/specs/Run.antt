@@ -1,6 +1,7 @@
 -- A run of a game.
-use Rattle.std.specs.Prelude.{ℕ, ◌+◌, ◌%◌, ◌==◌, ◌&&◌, ◌||◌, Bool, false, List, [], ◌∷◌}
-use Rattle.std.specs.Prelude.{◌++◌, Option, None, length, nat_le, if◌then◌else◌}
+use Rattle.std.specs.Prelude.{ℕ, ◌+◌, ◌%◌, ◌==◌, ◌&&◌, ◌||◌, Bool, false, not, List, [], ◌∷◌}
+use Rattle.std.specs.Prelude.{◌++◌, Option, None, length, find, nat_le, if◌then◌else◌}
+use Rattle.std.specs.Option.{option_map_or}
 use Rattle.std.specs.Str.{bytes_eq}
 use Rattle.paw_base.specs.declared.flags.TheConstants.{VERB_FLAG, NOUN_FLAG, ADJECTIVE_FLAG, ADVERB_FLAG}
 use Rattle.paw_base.specs.declared.flags.TheConstants.{PREPOSITION_FLAG, SECOND_NOUN_FLAG, SECOND_ADJECTIVE_FLAG}
@@ -51,7 +52,8 @@ without_loop r = record r { turning = None }
 abbrev pub line_dropped : Run → Run
 line_dropped r = record r { pending = [] }
 
--- the game starts anew: the draws, the saved position, the kept positions and the number of lines stay
+-- the game starts anew, with nothing left of the line and no loop open: the seed and the draws, the saved position, the
+-- kept positions, the pieces, open and closed, and the lines to come stay
 abbrev pub anew : Run → Run
 anew r = record r { world = restarted r.world; pending = []; earlier = NO_WORD; turning = None }
 
@@ -65,13 +67,11 @@ is_timeout line = bytes_eq line (126 ∷ [])
 abbrev pub is_ignored : World → List ℕ → Bool
 is_ignored w line = is_timeout line && (flag w TIMEOUT_FLAG == 0)
 
--- bit 7 of a flag tells that the last line was a timeout
+-- bit 7 of a flag tells whether the last line was a timeout; its other bits stay
 abbrev pub with_timeout : Bool → World → World
-with_timeout b w =
-    let rest = flag w TIMED_OUT_FLAG % TIMED_OUT_BIT in
-    with_flag w TIMED_OUT_FLAG (if b then TIMED_OUT_BIT + rest else rest)
+with_timeout b w = with_flag w TIMED_OUT_FLAG ((if b then TIMED_OUT_BIT else 0) + flag w TIMED_OUT_FLAG % TIMED_OUT_BIT)
 
--- the line is heard
+-- the line is heard: a flag tells whether it is a timeout
 abbrev pub heard : List ℕ → Run → Run
 heard line r = with_world (with_timeout (is_timeout line) r.world) r
 
@@ -81,9 +81,8 @@ reply line = if is_timeout line then [] else line
 
 -- the first byte that isn't a space is this letter, as a capital or a small one
 abbrev pub begins_with : ℕ → List ℕ → Bool
-begins_with capital [] = false
-begins_with capital (b ∷ bs) =
-    if b == 32 then begins_with capital bs else (b == capital) || (b == capital + 32)
+begins_with capital line =
+    option_map_or (λ b. (b == capital) || (b == capital + 32)) (find (λ b. not (b == 32)) line) false
 
 -- Y answers yes
 abbrev pub is_yes : List ℕ → Bool

@@ -8,12 +8,12 @@ ghost use Rattle.paw_reading.specs.inner.Places.{ReadingsAreBounded, GoingOnIsBo
 ghost use Rattle.paw_reading.specs.inner.Rules.{ReadingOn};
 ghost use Rattle.paw_reading.specs.inner.Turn.{TurnsEnd, EndsOnce, GoingOnEnds, GoesOnOnce, WaitsOn, GoingOnIsReading};
 
-/// Every reading ends: the stages that a turn is granted are enough.
+/// Every reading ends: the phases that a turn is granted are enough.
 pub fn turns_end()
     ensures ends { TurnsEnd }
 {}
 
-/// Every reading has one ending, however many stages more are granted.
+/// Every reading has one ending, however many phases more are granted.
 pub fn ends_once()
     ensures once { EndsOnce }
 {}
@@ -23,7 +23,7 @@ pub fn going_on_ends()
     ensures ends { GoingOnEnds }
 {}
 
-/// Going on from a prompt has one ending, however many stages more are granted.
+/// Going on from a prompt has one ending, however many phases more are granted.
 pub fn goes_on_once()
     ensures once { GoesOnOnce }
 {}

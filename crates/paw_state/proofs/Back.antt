@@ -18,7 +18,7 @@ use Rattle.paw_process.specs.Kept.{waiting_code}
 use Rattle.paw_state.specs.declared.fields.Fields.{Fields}
 use Rattle.paw_state.specs.declared.held.Held.{Held}
 use Rattle.paw_state.specs.State.{State, Keeps}
-use Rattle.paw_state.specs.Fields.{zeros, filled, presence, held_of, prompt_code, loop_or_zeros, fields_of}
+use Rattle.paw_state.specs.Fields.{zeros, filled, held_of, prompt_code, loop_or_zeros, fields_of}
 use Rattle.paw_state.specs.Faults.{rule, first_not, is_zero, places_fault, absent_fault, held_fault, kept_fault, prompt_of}
 use Rattle.paw_state.specs.inner.Parts.{held_in, world_in, frames_in, state_in}
 use Rattle.paw_state.proofs.Positions.{IsHeldOf, saved_held, kept_held}
@@ -27,7 +27,7 @@ use Rattle.paw_state.proofs.Cut.{same_held, same_fields}
 use Rattle.paw_state.proofs.Found.{rule_holds, no_first, zeros_are, filled_take, take_filled}
 use Rattle.paw_state.proofs.Sound.{AreSound, two}
 use Rattle.paw_state.proofs.Rows.{rows_back, frames_back}
-use Rattle.paw_state.proofs.Loops.{turning_back, presence_back, looping_low}
+use Rattle.paw_state.proofs.Loops.{presence, turning_back, presence_back, looping_low}
 
 -- ---- from fields ----
 

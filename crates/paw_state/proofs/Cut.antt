@@ -9,7 +9,8 @@ use Rattle.paw_reading.specs.declared.places.OpenLoop.{OpenLoop}
 use Rattle.paw_state.specs.declared.fields.Row.{Row}
 use Rattle.paw_state.specs.declared.fields.Fields.{Fields}
 use Rattle.paw_state.specs.declared.held.Held.{Held}
-use Rattle.paw_state.specs.Fields.{IsSizedHeld, AreSized, in_sequence, eight_bytes, row_bytes, loop_bytes, held_bytes}
+use Rattle.std.specs.List.{concat}
+use Rattle.paw_state.specs.Fields.{IsSizedHeld, AreSized, eight_bytes, row_bytes, loop_bytes, held_bytes}
 use Rattle.paw_state.specs.inner.Fields.{two_at, eight_at, row_at, rows_at, held_at}
 use Rattle.paw_state.specs.Fields.{world_bytes, number_bytes, table_bytes, pending_bytes, kept_position_bytes, field_bytes}
 use Rattle.paw_state.specs.inner.Fields.{fields_at}
@@ -17,12 +18,12 @@ use Rattle.paw_state.proofs.Pieces.{range_is, behind, byte_is}
 use Rattle.paw_state.proofs.Written.{length-rows}
 
 -- a field stands where it is, and the others behind it
-here : (bytes x q : List ℕ) (xs : List (List ℕ)) (at n : ℕ) → drop at bytes ≡ in_sequence (x ∷ xs) ++ q → length x ≡ n → slice_range bytes at (at + n) ≡ x
-here bytes x q xs at n h k = range_is bytes x (in_sequence xs ++ q) at n (h ∙ append_assoc x (in_sequence xs) q) k
+here : (bytes x q : List ℕ) (xs : List (List ℕ)) (at n : ℕ) → drop at bytes ≡ concat (x ∷ xs) ++ q → length x ≡ n → slice_range bytes at (at + n) ≡ x
+here bytes x q xs at n h k = range_is bytes x (concat xs ++ q) at n (h ∙ append_assoc x (concat xs) q) k
 
-later : (bytes x q : List ℕ) (xs : List (List ℕ)) (at n : ℕ) → drop at bytes ≡ in_sequence (x ∷ xs) ++ q → length x ≡ n
-    → drop (at + n) bytes ≡ in_sequence xs ++ q
-later bytes x q xs at n h k = behind bytes x (in_sequence xs ++ q) at n (h ∙ append_assoc x (in_sequence xs) q) k
+later : (bytes x q : List ℕ) (xs : List (List ℕ)) (at n : ℕ) → drop at bytes ≡ concat (x ∷ xs) ++ q → length x ≡ n
+    → drop (at + n) bytes ≡ concat xs ++ q
+later bytes x q xs at n h k = behind bytes x (concat xs ++ q) at n (h ∙ append_assoc x (concat xs) q) k
 
 -- numbers
 two_cut : (bytes : List ℕ) (at n : ℕ) → slice_range bytes at (at + 2) ≡ two_bytes n → n < 2 ^ 16 → two_at bytes at ≡ n
@@ -42,8 +43,8 @@ held_cut : (h : Held) (q : List ℕ) → IsSizedHeld h → held_at (held_bytes h
 unfolding held_bytes
 held_cut h q s =
     let bytes = held_bytes h ++ q in
-    let h1 : drop 1 bytes ≡ in_sequence (h.flags ∷ h.places ∷ []) ++ q = later bytes (h.there ∷ []) q (h.flags ∷ h.places ∷ []) 0 1 refl refl in
-    let h2 : drop 257 bytes ≡ in_sequence (h.places ∷ []) ++ q = later bytes h.flags q (h.places ∷ []) 1 256 h1 s.flags in
+    let h1 : drop 1 bytes ≡ concat (h.flags ∷ h.places ∷ []) ++ q = later bytes (h.there ∷ []) q (h.flags ∷ h.places ∷ []) 0 1 refl refl in
+    let h2 : drop 257 bytes ≡ concat (h.places ∷ []) ++ q = later bytes h.flags q (h.places ∷ []) 1 256 h1 s.flags in
     same_held (held_at bytes) h refl (here bytes h.flags q (h.places ∷ []) 1 256 h1 s.flags) (here bytes h.places q [] 257 255 h2 s.places)
 
 length-held : (h : Held) → IsSizedHeld h → length (held_bytes h) ≡ 512
@@ -67,9 +68,9 @@ world_cut : (bytes : List ℕ) (f : Fields) (q : List ℕ) → AreSized f → dr
 unfolding world_bytes
 world_cut bytes f q s h0 =
     let xs1 = f.places ∷ held_bytes f.saved ∷ [] in
-    let h1 : drop 256 bytes ≡ in_sequence xs1 ++ q = later bytes f.flags q xs1 0 256 h0 s.flags in
+    let h1 : drop 256 bytes ≡ concat xs1 ++ q = later bytes f.flags q xs1 0 256 h0 s.flags in
     let xs2 = held_bytes f.saved ∷ [] in
-    let h2 : drop 511 bytes ≡ in_sequence xs2 ++ q = later bytes f.places q xs2 256 255 h1 s.places in
+    let h2 : drop 511 bytes ≡ concat xs2 ++ q = later bytes f.places q xs2 256 255 h1 s.places in
     let saved = held_here bytes f.saved q 511 s.saved (h2 ∙ append_assoc (held_bytes f.saved) [] q) in
     record {
       flags = here bytes f.flags q xs1 0 256 h0 s.flags;
@@ -87,11 +88,11 @@ record HasNumbers (bytes : List ℕ) (f : Fields) (q : List ℕ) : Type 0 where
   after : drop 1047 bytes ≡ q
 
 -- three numbers, whatever their bytes are
-numbers_cut : (bytes : List ℕ) (x y z q : List ℕ) → length x ≡ 8 → length y ≡ 8 → length z ≡ 8 → drop 1023 bytes ≡ in_sequence (x ∷ y ∷ z ∷ []) ++ q
+numbers_cut : (bytes : List ℕ) (x y z q : List ℕ) → length x ≡ 8 → length y ≡ 8 → length z ≡ 8 → drop 1023 bytes ≡ concat (x ∷ y ∷ z ∷ []) ++ q
     → (slice_range bytes 1023 1031 ≡ x) × (slice_range bytes 1031 1039 ≡ y) × (slice_range bytes 1039 1047 ≡ z) × (drop 1047 bytes ≡ q)
 numbers_cut bytes x y z q kx ky kz h0 =
-    let h1 : drop 1031 bytes ≡ in_sequence (y ∷ z ∷ []) ++ q = later bytes x q (y ∷ z ∷ []) 1023 8 h0 kx in
-    let h2 : drop 1039 bytes ≡ in_sequence (z ∷ []) ++ q = later bytes y q (z ∷ []) 1031 8 h1 ky in (
+    let h1 : drop 1031 bytes ≡ concat (y ∷ z ∷ []) ++ q = later bytes x q (y ∷ z ∷ []) 1023 8 h0 kx in
+    let h2 : drop 1039 bytes ≡ concat (z ∷ []) ++ q = later bytes y q (z ∷ []) 1031 8 h1 ky in (
       here bytes x q (y ∷ z ∷ []) 1023 8 h0 kx,
       here bytes y q (z ∷ []) 1031 8 h1 ky,
       here bytes z q [] 1039 8 h2 kz,
@@ -159,19 +160,19 @@ unfolding table_bytes
 tables_cut bytes f q s h0 =
     let rows = flat_map row_bytes f.rows in
     let xs1 = (f.count ∷ []) ∷ rows ∷ (f.looping ∷ []) ∷ loop_bytes f.turning ∷ [] in
-    let h1 : drop 1048 bytes ≡ in_sequence xs1 ++ q = later bytes (f.prompt ∷ []) q xs1 1047 1 h0 refl in
+    let h1 : drop 1048 bytes ≡ concat xs1 ++ q = later bytes (f.prompt ∷ []) q xs1 1047 1 h0 refl in
     let xs2 = rows ∷ (f.looping ∷ []) ∷ loop_bytes f.turning ∷ [] in
-    let h2 : drop 1049 bytes ≡ in_sequence xs2 ++ q = later bytes (f.count ∷ []) q xs2 1048 1 h1 refl in
+    let h2 : drop 1049 bytes ≡ concat xs2 ++ q = later bytes (f.count ∷ []) q xs2 1048 1 h1 refl in
     let n : length rows ≡ 55 = length-rows f.rows ∙ ap (λ k. 5 * k) s.rows in
     let xs3 = (f.looping ∷ []) ∷ loop_bytes f.turning ∷ [] in
-    let h3 : drop 1104 bytes ≡ in_sequence xs3 ++ q = later bytes rows q xs3 1049 55 h2 n in
-    let h4 : drop 1105 bytes ≡ in_sequence (loop_bytes f.turning ∷ []) ++ q = later bytes (f.looping ∷ []) q (loop_bytes f.turning ∷ []) 1104 1 h3 refl in
+    let h3 : drop 1104 bytes ≡ concat xs3 ++ q = later bytes rows q xs3 1049 55 h2 n in
+    let h4 : drop 1105 bytes ≡ concat (loop_bytes f.turning ∷ []) ++ q = later bytes (f.looping ∷ []) q (loop_bytes f.turning ∷ []) 1104 1 h3 refl in
     record {
-      prompt = byte_is bytes (in_sequence xs1 ++ q) 1047 f.prompt h0;
-      count = byte_is bytes (in_sequence xs2 ++ q) 1048 f.count h1;
-      rows = ap (rows_at 11) (h2 ∙ append_assoc rows (in_sequence xs3) q)
-          ∙ (ap (λ k. rows_at k (rows ++ (in_sequence xs3 ++ q))) (sym s.rows) ∙ rows_cut f.rows (in_sequence xs3 ++ q) s.entries);
-      looping = byte_is bytes (in_sequence (loop_bytes f.turning ∷ []) ++ q) 1104 f.looping h3;
+      prompt = byte_is bytes (concat xs1 ++ q) 1047 f.prompt h0;
+      count = byte_is bytes (concat xs2 ++ q) 1048 f.count h1;
+      rows = ap (rows_at 11) (h2 ∙ append_assoc rows (concat xs3) q)
+          ∙ (ap (λ k. rows_at k (rows ++ (concat xs3 ++ q))) (sym s.rows) ∙ rows_cut f.rows (concat xs3 ++ q) s.entries);
+      looping = byte_is bytes (concat (loop_bytes f.turning ∷ []) ++ q) 1104 f.looping h3;
       turning = loop_cut bytes f.turning q s.loop_entry (h4 ∙ append_assoc (loop_bytes f.turning) [] q);
       after = later bytes (loop_bytes f.turning) q [] 1105 7 h4 refl;
     }
@@ -190,13 +191,13 @@ unfolding pending_bytes
 pending_cut bytes f q s h0 =
     let two = two_bytes f.piece in
     let xs1 = (f.pending ∷ []) ∷ f.line ∷ two ∷ [] in
-    let h1 : drop 1113 bytes ≡ in_sequence xs1 ++ q = later bytes (f.earlier ∷ []) q xs1 1112 1 h0 refl in
+    let h1 : drop 1113 bytes ≡ concat xs1 ++ q = later bytes (f.earlier ∷ []) q xs1 1112 1 h0 refl in
     let xs2 = f.line ∷ two ∷ [] in
-    let h2 : drop 1114 bytes ≡ in_sequence xs2 ++ q = later bytes (f.pending ∷ []) q xs2 1113 1 h1 refl in
-    let h3 : drop 1369 bytes ≡ in_sequence (two ∷ []) ++ q = later bytes f.line q (two ∷ []) 1114 255 h2 s.line in
+    let h2 : drop 1114 bytes ≡ concat xs2 ++ q = later bytes (f.pending ∷ []) q xs2 1113 1 h1 refl in
+    let h3 : drop 1369 bytes ≡ concat (two ∷ []) ++ q = later bytes f.line q (two ∷ []) 1114 255 h2 s.line in
     record {
-      earlier = byte_is bytes (in_sequence xs1 ++ q) 1112 f.earlier h0;
-      pending = byte_is bytes (in_sequence xs2 ++ q) 1113 f.pending h1;
+      earlier = byte_is bytes (concat xs1 ++ q) 1112 f.earlier h0;
+      pending = byte_is bytes (concat xs2 ++ q) 1113 f.pending h1;
       line = here bytes f.line q (two ∷ []) 1114 255 h2 s.line;
       piece = two_cut bytes 1369 f.piece (here bytes two q [] 1369 2 h3 refl) s.piece;
       after = later bytes two q [] 1369 2 h3 refl;
@@ -264,10 +265,10 @@ fields_cut f q s =
     let xs2 = table_bytes f ∷ pending_bytes f ∷ kept_position_bytes f ∷ [] in
     let xs3 = pending_bytes f ∷ kept_position_bytes f ∷ [] in
     let xs4 = kept_position_bytes f ∷ [] in
-    let w = world_cut bytes f (in_sequence xs1 ++ q) s (append_assoc (world_bytes f) (in_sequence xs1) q) in
-    let n = number_cut bytes f (in_sequence xs2 ++ q) s (w.after ∙ append_assoc (number_bytes f) (in_sequence xs2) q) in
-    let t = tables_cut bytes f (in_sequence xs3 ++ q) s (n.after ∙ append_assoc (table_bytes f) (in_sequence xs3) q) in
-    let p = pending_cut bytes f (in_sequence xs4 ++ q) s (t.after ∙ append_assoc (pending_bytes f) (in_sequence xs4) q) in
+    let w = world_cut bytes f (concat xs1 ++ q) s (append_assoc (world_bytes f) (concat xs1) q) in
+    let n = number_cut bytes f (concat xs2 ++ q) s (w.after ∙ append_assoc (number_bytes f) (concat xs2) q) in
+    let t = tables_cut bytes f (concat xs3 ++ q) s (n.after ∙ append_assoc (table_bytes f) (concat xs3) q) in
+    let p = pending_cut bytes f (concat xs4 ++ q) s (t.after ∙ append_assoc (pending_bytes f) (concat xs4) q) in
     let k = kept_cut bytes f q s (p.after ∙ append_assoc (kept_position_bytes f) [] q) in
     same_fields (fields_at bytes) f w.flags w.places w.saved n.seed n.draws n.events t.prompt t.count t.rows t.looping t.turning
     p.earlier p.pending p.line p.piece k

@@ -17,7 +17,8 @@ use Rattle.paw_reading.specs.declared.places.Frame.{Frame}
 use Rattle.paw_reading.specs.declared.places.OpenLoop.{OpenLoop}
 use Rattle.paw_process.specs.declared.kept.Frames.{Frames}
 use Rattle.paw_process.specs.Kept.{may_open, has_code, parameter_of, condact_of, is_unused, row_stands}
-use Rattle.paw_process.specs.Kept.{table_of, is_that_table, loop_stands, waiting_code}
+use Rattle.paw_process.specs.Kept.{is_that_table, loop_stands, waiting_code}
+use Rattle.paw_process.proofs.Rows.{table_of}
 use Rattle.paw_process.specs.Kept.{rows_fault as machine_rows, loop_fault as machine_loop}
 use Rattle.paw_process.proofs.Restored.{first_of, second}
 use Rattle.paw_state.specs.declared.fields.Row.{Row}

@@ -7,7 +7,8 @@ use Rattle.std.proofs.lemmas.List.{append_assoc, append-nil, take_all, length-ap
 use Rattle.std.proofs.lemmas.Slice.{take-put_mid, drop-put_mid}
 use borrow.Rule.Slice.PartMut.{put_mid}
 use Rattle.paw_state.specs.declared.fields.Row.{Row}
-use Rattle.paw_state.specs.Fields.{zeros, filled, in_sequence, row_bytes}
+use Rattle.std.specs.List.{concat}
+use Rattle.paw_state.specs.Fields.{zeros, filled, row_bytes}
 
 -- ---- zeros ----
 
@@ -42,7 +43,7 @@ count_of bytes old count low size h = ap length (sym h) ∙ omega (arith, length
 
 -- ---- three fields, and more ----
 
-pub three : (w0 w1 w2 w3 x y z : List ℕ) → w1 ≡ w0 ++ x → w2 ≡ w1 ++ y → w3 ≡ w2 ++ z → w3 ≡ w0 ++ in_sequence (x ∷ y ∷ z ∷ [])
+pub three : (w0 w1 w2 w3 x y z : List ℕ) → w1 ≡ w0 ++ x → w2 ≡ w1 ++ y → w3 ≡ w2 ++ z → w3 ≡ w0 ++ concat (x ∷ y ∷ z ∷ [])
 three w0 w1 w2 w3 x y z e f g = rw (g, f, e) (simp (append_assoc, append-nil))
 
 -- bytes in front of 255 zeros
@@ -79,7 +80,7 @@ mapped_all f xs ys i kx ky low h =
 -- ---- all fields ----
 
 pub all_written : (w0 w1 w2 w3 w4 w5 last x y z t k : List ℕ) → w0 ≡ [] → w1 ≡ w0 ++ x → w2 ≡ w1 ++ y → w3 ≡ w2 ++ z → w4 ≡ w3 ++ t → w5 ≡ w4 ++ k
-    → length w5 ≡ 3419 → last ≡ w5 ++ zeros (4096 - length w5) → last ≡ in_sequence (x ∷ y ∷ z ∷ t ∷ k ∷ []) ++ zeros 677
+    → length w5 ≡ 3419 → last ≡ w5 ++ zeros (4096 - length w5) → last ≡ concat (x ∷ y ∷ z ∷ t ∷ k ∷ []) ++ zeros 677
 all_written w0 w1 w2 w3 w4 w5 last x y z t k e0 e1 e2 e3 e4 e5 n e =
-    let all : w5 ≡ in_sequence (x ∷ y ∷ z ∷ t ∷ k ∷ []) = rw (e5, e4, e3, e2, e1, e0) (simp (append_assoc, append-nil)) in
+    let all : w5 ≡ concat (x ∷ y ∷ z ∷ t ∷ k ∷ []) = rw (e5, e4, e3, e2, e1, e0) (simp (append_assoc, append-nil)) in
     e ∙ (ap (λ (i : ℕ). w5 ++ zeros (4096 - i)) n ∙ ap (λ (l : List ℕ). l ++ zeros 677) all)

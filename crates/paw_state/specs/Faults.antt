@@ -1,7 +1,7 @@
 -- The first field of a state that breaks its rule.
 use Rattle.std.specs.Prelude.{ℕ, suc, ◌+◌, ◌-◌, ◌*◌, ◌==◌, ◌||◌, Bool, List, [], ◌∷◌, Option, Some, None}
 use Rattle.std.specs.Prelude.{length, take, drop, is_some, nat_lt, nat_le, slice_get, if◌then◌else◌}
-use Rattle.std.specs.Option.{option_or, unwrap_or}
+use Rattle.std.specs.Option.{option_map, option_or, unwrap_or}
 use Rattle.paw_base.specs.declared.codes.TheConstants.{PROCESS, DOALL}
 use Rattle.paw_base.specs.declared.limits.TheConstants.{READ_LIMIT, EVENT_LIMIT}
 use Rattle.paw_game.specs.Game.{GameLists}
@@ -22,11 +22,11 @@ use Rattle.paw_state.specs.declared.held.Held.{Held}
 
 -- ---- rules and faults ----
 
--- the field at this place has a rule, which holds or not
+-- nothing where the rule of a field holds; else the place of the field
 abbrev pub rule : ℕ → Bool → Option ℕ
 rule at holds = if holds then None else Some at
 
--- the first of these faults
+-- the first of these faults; nothing where there is none
 abbrev pub first : List (Option ℕ) → Option ℕ
 first [] = None
 first (o ∷ later) = option_or o (first later)
@@ -56,26 +56,28 @@ absent_fault at h = first (
     ∷ first_not is_zero (at + HELD_PLACES) h.places
     ∷ [])
 
--- a position is there or not, and the places of one that is are as those now
+-- whether a position is there is told by 0 or 1; one that isn't has zeros alone, and the places of one that is are as
+-- those now
 abbrev pub held_fault : GameLists → ℕ → Held → Option ℕ
 held_fault g at h = first (
     rule at (nat_le h.there 1)
     ∷ (if h.there == 0 then absent_fault at h else places_fault g (at + HELD_PLACES) h.places)
     ∷ [])
 
--- positions, one after the other from this place on
+-- the first fault of positions that stand one after the other from this place on
 unfoldable pub kept_fault : GameLists → ℕ → List Held → Option ℕ
 kept_fault g at [] = None
 kept_fault g at (h ∷ hs) = option_or (held_fault g at h) (kept_fault g (at + HELD_LENGTH) hs)
 
--- not too many lines were taken, and no piece drew more words than it may read condacts
+-- at most 1,000,000,000 lines were taken; the words drawn are at most 200,000 for each line, and 200,000 for the piece
+-- before the first
 abbrev pub numbers_fault : Fields → Option ℕ
 numbers_fault f = first (
     rule EVENTS (nat_le f.events EVENT_LIMIT)
     ∷ rule DRAWS (nat_le f.draws (READ_LIMIT * (f.events + 1)))
     ∷ [])
 
--- the prompt of a code from 0 to 4
+-- the prompt of a code from 0 to 4; above it the game is over
 abbrev pub prompt_of : ℕ → Prompt
 prompt_of n =
     if n == 0 then prompt.Main
@@ -84,7 +86,8 @@ prompt_of n =
     else if n == 3 then prompt.Key
     else prompt.Over
 
--- tables are open, and not too many, at the prompts inside tables, and none at the others
+-- the prompt's code is one of 0 to 4; one to eleven tables are open at the prompts inside tables, and none at the
+-- others
 abbrev pub prompt_fault : Fields → Option ℕ
 prompt_fault f = first (
     rule PROMPT (nat_le f.prompt 4)
@@ -137,34 +140,29 @@ no_loop_fault l = first (
     ∷ rule LOOP_LAST (l.last == 0)
     ∷ [])
 
--- the table of a row
-abbrev pub row_table : Option Row → Option ℕ
-row_table None = None
-row_table (Some r) = Some r.table
-
 -- an open loop is at a DOALL of the table of its level, and its place and its last object are the game's
 abbrev pub loop_fields_fault : GameLists → Fields → OpenLoop → Option ℕ
 loop_fields_fault g f l = first (
     rule LOOP_LEVEL (nat_lt l.level f.count)
-    ∷ rule LOOP_TABLE (is_that_table (row_table (slice_get f.rows l.level)) l.table)
+    ∷ rule LOOP_TABLE (is_that_table (option_map (λ r. r.table) (slice_get f.rows l.level)) l.table)
     ∷ rule LOOP_ENTRY (is_some (head_at g l.table l.entry))
     ∷ rule LOOP_AT (has_code DOALL (condact_at g l.table l.entry l.at))
     ∷ rule LOOP_PLACE (is_place (length g.locations) l.place)
     ∷ rule LOOP_LAST (nat_lt l.last (length g.objects))
     ∷ [])
 
--- no loop is open where no table is
+-- whether a loop is open is told by 0 or 1; none is where no table is. One that isn't open has zeros alone
 abbrev pub turning_fault : GameLists → Fields → Option ℕ
 turning_fault g f = first (
     rule LOOPING (nat_le f.looping (if f.count == 0 then 0 else 1))
     ∷ (if f.looping == 0 then no_loop_fault f.turning else loop_fields_fault g f f.turning)
     ∷ [])
 
--- the condact of the prompt, and which tables are open
+-- the first fault of all rows: the last that is used is at the condact of the prompt, the first of table 0, 1 or 2
 abbrev pub frame_fields_fault : GameLists → Fields → Option ℕ
 frame_fields_fault g f = row_fields_fault g (unwrap_or (waiting_code (prompt_of f.prompt)) 0) None f.count ROWS f.rows
 
--- nothing is pending where no table is open; the bytes behind what is pending are 0
+-- no byte is pending where no table is open; the bytes behind those that are pending are 0
 abbrev pub pending_fault : Fields → Option ℕ
 pending_fault f = first (
     rule PENDING (is_some (waiting_code (prompt_of f.prompt)) || (f.pending == 0))

@@ -1,6 +1,8 @@
 -- The fields of a state's bytes. Numbers of several bytes have the low one first.
 use Rattle.std.specs.Prelude.{◌≡◌, ℕ, ◌-◌, ◌^◌, ◌<◌, List, [], ◌∷◌, ◌++◌, Option, Some, None, All, length, map}
-use Rattle.std.specs.Prelude.{flat_map, if◌then◌else◌}
+use Rattle.std.specs.Prelude.{flat_map, is_some, if◌then◌else◌}
+use Rattle.std.specs.List.{concat}
+use Rattle.std.specs.Option.{unwrap_or}
 use Rattle.std.specs.Int.{w64, to_le_bytes}
 unfoldable pub use Rattle.paw_base.specs.Bytes.{zeros}
 use Rattle.paw_base.specs.declared.limits.TheConstants.{OBJECT_LIMIT, FLAG_COUNT, LINE_LIMIT, POSITION_COUNT}
@@ -34,31 +36,26 @@ row_bytes r = r.table ∷ (two_bytes r.entry ++ r.at ∷ r.acted ∷ [])
 abbrev pub loop_bytes : OpenLoop → List ℕ
 loop_bytes l = l.level ∷ l.table ∷ (two_bytes l.entry ++ l.at ∷ l.place ∷ l.last ∷ [])
 
--- fields one after the other
-abbrev pub in_sequence : List (List ℕ) → List ℕ
-in_sequence [] = []
-in_sequence (field ∷ fields) = field ++ in_sequence fields
-
 -- a position that may be there: whether it is, its flags, and its places
 unfoldable pub held_bytes : Held → List ℕ
-held_bytes h = in_sequence ((h.there ∷ []) ∷ h.flags ∷ h.places ∷ [])
+held_bytes h = concat ((h.there ∷ []) ∷ h.flags ∷ h.places ∷ [])
 
 -- flags and places, now and in the saved position
 unfoldable pub world_bytes : Fields → List ℕ
-world_bytes f = in_sequence (f.flags ∷ f.places ∷ held_bytes f.saved ∷ [])
+world_bytes f = concat (f.flags ∷ f.places ∷ held_bytes f.saved ∷ [])
 
 -- the seed, how many words were drawn, and how many lines were taken
 unfoldable pub number_bytes : Fields → List ℕ
-number_bytes f = in_sequence (eight_bytes f.seed ∷ eight_bytes f.draws ∷ eight_bytes f.events ∷ [])
+number_bytes f = concat (eight_bytes f.seed ∷ eight_bytes f.draws ∷ eight_bytes f.events ∷ [])
 
 -- the prompt, the rows of the open tables, and the open loop
 unfoldable pub table_bytes : Fields → List ℕ
-table_bytes f = in_sequence (
+table_bytes f = concat (
     (f.prompt ∷ f.count ∷ []) ∷ flat_map row_bytes f.rows ∷ (f.looping ∷ []) ∷ loop_bytes f.turning ∷ [])
 
 -- what is pending, and how many bytes the last piece has
 unfoldable pub pending_bytes : Fields → List ℕ
-pending_bytes f = in_sequence ((f.earlier ∷ f.pending ∷ []) ∷ f.line ∷ two_bytes f.piece ∷ [])
+pending_bytes f = concat ((f.earlier ∷ f.pending ∷ []) ∷ f.line ∷ two_bytes f.piece ∷ [])
 
 -- the kept positions
 unfoldable pub kept_position_bytes : Fields → List ℕ
@@ -66,7 +63,7 @@ kept_position_bytes f = flat_map held_bytes f.kept
 
 -- the bytes of a state's fields
 abbrev pub field_bytes : Fields → List ℕ
-field_bytes f = in_sequence (
+field_bytes f = concat (
     world_bytes f ∷ number_bytes f ∷ table_bytes f ∷ pending_bytes f ∷ kept_position_bytes f ∷ [])
 
 -- the arrays of a position have their lengths
@@ -91,11 +88,6 @@ pub record AreSized (f : Fields) : Type 0 where
   pub four : length f.kept ≡ POSITION_COUNT
   pub kept : All IsSizedHeld f.kept
 
--- 1 for what is there, 0 for what isn't
-abbrev pub presence : {A : Type 0} → Option A → ℕ
-presence None = 0
-presence (Some x) = 1
-
 -- a position that is there, with its flags and places; all 0 where there is none
 abbrev pub held_of : Option Position → Held
 held_of None = record { there = 0; flags = zeros FLAG_COUNT; places = zeros OBJECT_LIMIT }
@@ -109,16 +101,15 @@ prompt_code prompt.Again = 2
 prompt_code prompt.Key = 3
 prompt_code prompt.Over = 4
 
--- the row of a frame
+-- the row of a frame, with 1 where an action was carried out
 abbrev pub row_of : Frame → Row
 row_of f = record { table = f.table; entry = f.entry; at = f.at; acted = (if f.acted then 1 else 0) }
 
 -- the loop, or one that is all 0 where there is none
 abbrev pub loop_or_zeros : Option OpenLoop → OpenLoop
-loop_or_zeros None = record { level = 0; table = 0; entry = 0; at = 0; place = 0; last = 0 }
-loop_or_zeros (Some l) = l
+loop_or_zeros o = unwrap_or o (record { level = 0; table = 0; entry = 0; at = 0; place = 0; last = 0 })
 
--- the fields of a state
+-- the fields of a state, with 1 where a loop is open
 abbrev pub fields_of : State → Fields
 fields_of s = record {
   flags = s.world.flags;
@@ -131,7 +122,7 @@ fields_of s = record {
   prompt = prompt_code s.prompt;
   count = s.frames.count;
   rows = map row_of s.frames.rows;
-  looping = presence s.frames.turning;
+  looping = (if is_some s.frames.turning then 1 else 0);
   turning = loop_or_zeros s.frames.turning;
   earlier = s.pending.earlier;
   pending = length s.pending.bytes;

@@ -6,7 +6,7 @@ use Rattle.paw_reading.specs.Run.{Run}
 use Rattle.paw_process.specs.Kept.{frames_at}
 use Rattle.paw_state.specs.State.{State}
 
--- the piece that was closed last
+-- the piece that was closed last; empty where none was closed
 abbrev pub last_piece : List (List ℕ) → List ℕ
 last_piece [] = []
 last_piece (piece ∷ []) = piece

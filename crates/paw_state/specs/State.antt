@@ -21,10 +21,10 @@ pub record State : Type 0 where
   pub events : ℕ
   pub piece : ℕ
 
--- The rules of a state: the world is the game's, with each object at a place, now, in the saved position and in the
--- kept ones; not too many lines were taken, and no piece drew more words than it may read condacts; the open tables and
--- the open loop are such as a game waits in at the prompt, with room for all that may be; not too many bytes are
--- pending, and none where no table is open
+-- The rules of a state: the world is the game's, and sound, with each object at a place, now, in the saved position and
+-- in the kept ones; at most 1,000,000,000 lines were taken; the words drawn are at most 200,000 for each line, and
+-- 200,000 for the piece before the first; the open tables and the open loop are such as a game waits in at the prompt,
+-- in eleven rows; at most 255 bytes are pending, and none where no table is open
 pub record Keeps (g : GameLists) (s : State) : Type 0 where
   pub world : IsOf g s.world
   pub sound : IsWorld s.world

@@ -1,12 +1,13 @@
 // The rules of a state's fields.
 
 ghost use Rattle.std.specs.Prelude.{◌≡◌, ◌+◌, ◌<◌, ◌≤◌, ◌^◌, ◌*◌, length, slice_get};
+ghost use Rattle.std.specs.Option.{option_map};
 ghost use Rattle.paw_game.specs.Valid.{Valid, is_place};
 ghost use Rattle.paw_process.specs.Kept.{is_that_table};
 ghost use Rattle.paw_state.specs.declared.layout.TheConstants.{HELD_LENGTH, ROW_LENGTH, STATE_ROOM};
 ghost use Rattle.paw_state.specs.Faults.{rule, first_not, is_zero, places_fault, absent_fault, held_fault};
 ghost use Rattle.paw_state.specs.Faults.{kept_fault, numbers_fault, prompt_of, prompt_fault, unused_fault};
-ghost use Rattle.paw_state.specs.Faults.{used_fault, row_fault, row_fields_fault, no_loop_fault, row_table};
+ghost use Rattle.paw_state.specs.Faults.{used_fault, row_fault, row_fields_fault, no_loop_fault};
 ghost use Rattle.paw_state.specs.Faults.{loop_fields_fault, turning_fault, frame_fields_fault, pending_fault};
 ghost use Rattle.paw_state.specs.Faults.{fields_fault};
 ghost use Rattle.paw_state.specs.inner.Faults.{fault_of};
@@ -251,7 +252,7 @@ fn check_loop<T: Tables>(tables: &T, fields: &Fields, turning: &OpenLoop) -> Res
 
 /// Whether the row of this level is of this table.
 fn is_table_at(rows: &[Row], level: u8, table: u8) -> bool
-    ensures value { result ≡ is_that_table (row_table (slice_get rows.now level)) table }
+    ensures value { result ≡ is_that_table (option_map (λ r. r.table) (slice_get rows.now level)) table }
 {
     match rows.get(level as usize) {
         None => false,

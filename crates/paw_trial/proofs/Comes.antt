@@ -13,7 +13,7 @@ use Rattle.paw_reading.specs.Bounds.{IsLine}
 use Rattle.paw_play.specs.declared.PlayEnd.{PlayEnd}
 use Rattle.paw_play.specs.declared.PlayEnd.TheVariants as play
 use Rattle.paw_play.specs.Walk.{EndingOf, first_lines}
-use Rattle.paw_play.specs.Stands.{Stands, StandsFor, reading_since}
+use Rattle.paw_play.specs.Stands.{Stands, StandsWith, reading_since}
 use Rattle.paw_play.specs.Play.{PlaysWith, PlaysIn, memory, spent, too_deep, unmade, plays, unattached, occupied, plays_in, PlaysGame, PlaysAgain, GoesOn}
 use Rattle.paw_play.specs.Play.{store_bytes, attached_to}
 use Rattle.paw_play.specs.Play as of
@@ -56,7 +56,7 @@ module _ (n : ℕ) (es lines behind : List (List ℕ)) (all : (es ++ lines) ++ b
       (taken_and_left es lines behind k are ∙ all) (stops stop (first_lines k lines) h)
 
   half_comes : (past most : ℕ) (old new : Standing) (o : PlayEnd) → old.lines ≡ lines →
-      PlaysWith (StandsFor (trial_story n) n es lines) whole past store_name most old new o →
+      PlaysWith (StandsWith (trial_story n) n es lines) whole past store_name most old new o →
       ComesTo n (es ++ lines) new (stop_of o)
   half_comes past most old new play.InputEnded is p =
       let reads = p.shows.1.3 in
@@ -91,7 +91,7 @@ module _ (n : ℕ) (es lines behind : List (List ℕ)) (all : (es ++ lines) ++ b
 -- ---- the first half ----
 
 module _ (n : ℕ) (old new : Standing) (is : old.lines ≡ first_half n) where
-  begun : (o : PlayEnd) → PlaysIn (StandsFor (trial_story n) n [] (first_half n)) (reading (trial_story n) n) store_name
+  begun : (o : PlayEnd) → PlaysIn (StandsWith (trial_story n) n [] (first_half n)) (reading (trial_story n) n) store_name
       old new o → ComesTo n (first_half n) new (stop_of o)
   begun _ (memory e) = tt
   begun _ (spent kind r e same) = stops_later n [] (trial_lines n) (end.Spent kind) refl (subst (StopsAs (end.Spent kind)) (sym e) refl)
@@ -107,7 +107,7 @@ first_comes n old new _ is (unattached u) = tt
 first_comes n old new _ is (occupied some e) = tt
 first_comes n old new _ is (plays_in o empty p) =
     begun n (attached_to old store_name) new is o
-    (subst (λ lines. PlaysIn (StandsFor (trial_story n) n [] lines) (reading (trial_story n) n) store_name
+    (subst (λ lines. PlaysIn (StandsWith (trial_story n) n [] lines) (reading (trial_story n) n) store_name
     (attached_to old store_name) new o) is p)
 
 -- ---- the second half ----
@@ -123,7 +123,7 @@ module _ (n : ℕ) (old new : Standing) (is : old.lines ≡ second_half n) where
       (λ stop fs h. stops_since (length (first_half n)) stop (reading (trial_story n) n (first_half n ++ fs)) h)
       (λ fs h. waits_since (length (first_half n)) (reading (trial_story n) n (first_half n ++ fs)) h)
       (length (first_half n)) (EVENT_LIMIT - length (first_half n)) (attached_to old store_name) new o is
-      (subst (λ lines. PlaysWith (StandsFor (trial_story n) n (first_half n) lines)
+      (subst (λ lines. PlaysWith (StandsWith (trial_story n) n (first_half n) lines)
       (reading_since (trial_story n) n (first_half n)) (length (first_half n)) store_name
       (EVENT_LIMIT - length (first_half n)) (attached_to old store_name) new o) is p)
 

@@ -9,7 +9,8 @@ use Rattle.paw_reading.specs.Turn.{Ending, WaitsAt}
 use Rattle.paw_journal.specs.Session.{Recovered, Shown, recover, state_length}
 use Rattle.paw_state.specs.State.{State}
 use Rattle.paw_state.specs.Record.{state_at}
-use Rattle.paw_state.specs.Fields.{fields_of, in_sequence, held_bytes, world_bytes, number_bytes, table_bytes, pending_bytes}
+use Rattle.std.specs.List.{concat}
+use Rattle.paw_state.specs.Fields.{fields_of, held_bytes, world_bytes, number_bytes, table_bytes, pending_bytes}
 use Rattle.paw_state.specs.Fields as fields
 use Rattle.paw_play.specs.Session.{kept_bytes, IsKept}
 use Rattle.paw_play.specs.Stands.{Stands}
@@ -27,8 +28,8 @@ flags_first : (s : State) (i : ℕ) → i < length s.world.flags → slice_index
 unfolding kept_bytes world_bytes
 flags_first s i low =
     let f = fields_of s in
-    let rest = in_sequence (f.places ∷ held_bytes f.saved ∷ []) in
-    let behind = in_sequence (number_bytes f ∷ table_bytes f ∷ pending_bytes f ∷ fields.kept_position_bytes f ∷ []) in
+    let rest = concat (f.places ∷ held_bytes f.saved ∷ []) in
+    let behind = concat (number_bytes f ∷ table_bytes f ∷ pending_bytes f ∷ fields.kept_position_bytes f ∷ []) in
     get_or_append_left (s.world.flags ++ rest) behind 0 i (omega (arith, low, length-append s.world.flags rest))
     ∙ get_or_append_left s.world.flags rest 0 i low
 

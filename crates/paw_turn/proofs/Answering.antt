@@ -18,12 +18,12 @@ use Rattle.paw_process.specs.inner.OpenTables.{ReadsNone}
 use Rattle.paw_process.specs.inner.Meaning.{having, to_come, going_in, ComesTo, RunsTo, IsStopped, AnswersQuit, AnswersKey}
 use Rattle.paw_process.specs.declared.Turned.{Turned}
 use Rattle.paw_turn.specs.declared.Step.TheVariants as step
-use Rattle.paw_turn.specs.declared.stage.Next.{Next}
-use Rattle.paw_turn.specs.declared.stage.Next.TheVariants as next
+use Rattle.paw_turn.specs.declared.phase.Next.{Next}
+use Rattle.paw_turn.specs.declared.phase.Next.TheVariants as next
 use Rattle.paw_turn.specs.declared.turn.Turn.{Turn}
 use Rattle.paw_turn.specs.inner.Player.{StandsAt}
-use Rattle.paw_turn.specs.inner.Stages.{Past, run_now, having_read, HasReadSome, GoesOnAs, MovesAfter, PlaysAs}
-use Rattle.paw_turn.specs.inner.Stages.{RunsAs, from_prompt, from_path, StopsInTable, AwaitsAt, in_world}
+use Rattle.paw_turn.specs.inner.Phases.{Past, run_now, having_read, HasReadSome, GoesOnAs, MovesAfter, PlaysAs}
+use Rattle.paw_turn.specs.inner.Phases.{RunsAs, from_prompt, from_path, StopsInTable, AwaitsAt, in_world}
 use Rattle.paw_turn.proofs.Falling.{some_past, has_still}
 use Rattle.paw_reading.proofs.Stays.{IsInner, WaitsThere, path_waits}
 use Rattle.paw_turn.proofs.Waiting.{stops_in}

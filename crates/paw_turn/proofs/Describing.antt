@@ -7,11 +7,11 @@ use Rattle.paw_reading.specs.Run.{with_world}
 use Rattle.paw_reading.specs.Reading.{table_read}
 use Rattle.paw_reading.specs.Turn.{AtDescribe, described, view_text, table_done, turn}
 use Rattle.paw_turn.specs.declared.Step.TheVariants as step
-use Rattle.paw_turn.specs.declared.stage.Next.{Next}
-use Rattle.paw_turn.specs.declared.stage.Next.TheVariants as next
+use Rattle.paw_turn.specs.declared.phase.Next.{Next}
+use Rattle.paw_turn.specs.declared.phase.Next.TheVariants as next
 use Rattle.paw_turn.specs.declared.turn.Turn.{Turn}
 use Rattle.paw_process.specs.inner.OpenTables.{HasRead}
-use Rattle.paw_turn.specs.inner.Stages.{run_now, GoesOnAs, ReadsTurn, having_read, in_world, with_piece}
+use Rattle.paw_turn.specs.inner.Phases.{run_now, GoesOnAs, ReadsTurn, having_read, in_world, with_piece}
 use Rattle.paw_turn.proofs.Says.{said, unsaid}
 
 -- once the location is described table 1 is read

@@ -1,4 +1,4 @@
--- What is left to do falls from stage to stage.
+-- What is left to do falls from phase to phase.
 use Rattle.std.proofs.Common.{◌≡◌, ℕ, zero, suc, ◌+◌, ◌*◌, ◌<◌, ◌≤◌, List, [], ◌++◌, sym, ap, ◌∙◌, subst, arith, lit≤, length-append}
 use Rattle.paw_effects.specs.Story.{Story}
 use Rattle.paw_reading.specs.declared.places.Frame.{Frame}
@@ -10,12 +10,12 @@ use Rattle.paw_process.specs.inner.OpenTables.{HasRead, ReadsNone, new_machine}
 use Rattle.paw_process.specs.inner.Meaning.{ComesTo}
 use Rattle.paw_process.specs.declared.Turned.{Turned}
 use Rattle.paw_process.specs.declared.Turned.TheVariants as turned
-use Rattle.paw_turn.specs.declared.stage.Stage.TheVariants as stage
-use Rattle.paw_turn.specs.declared.stage.Next.{Next}
-use Rattle.paw_turn.specs.declared.stage.Next.TheVariants as next
+use Rattle.paw_turn.specs.declared.phase.Phase.TheVariants as phase
+use Rattle.paw_turn.specs.declared.phase.Next.{Next}
+use Rattle.paw_turn.specs.declared.phase.Next.TheVariants as next
 use Rattle.paw_turn.specs.declared.turn.Turn.{Turn}
-use Rattle.paw_turn.specs.inner.Stages.{Past, run_now, HasReadSome, ReadsTurn, PlaysAs, having_read, left_of, table_rank}
-use Rattle.paw_turn.specs.inner.Stages.{work, Falls, FallsAfter, RunsAs, from_table, Leaves, Uses}
+use Rattle.paw_turn.specs.inner.Phases.{Past, run_now, HasReadSome, ReadsTurn, PlaysAs, having_read, left_of, table_rank}
+use Rattle.paw_turn.specs.inner.Phases.{work, Falls, FallsAfter, RunsAs, from_table, Leaves, Uses}
 use Rattle.paw_reading.proofs.Spends.{Spends, table_spends}
 
 pub falls_up : (a b : ℕ) (n : Next) (new : Turn) → a ≤ b → Falls a n new → Falls b n new
@@ -78,13 +78,13 @@ table_rank_low zero = lit≤ tt
 table_rank_low (suc zero) = lit≤ tt
 table_rank_low (suc (suc t)) = lit≤ tt
 
--- with the stage after a table there is less to do
+-- with the phase after a table there is less to do
 pub table_falls : (t : ℕ) (turned : Turned) (old mid new : Turn) (n : Next) → Uses turned old mid → FallsAfter t turned mid n new
     → Falls (4 * left_of old + table_rank t) n new
 table_falls t (turned.Left acted) old mid new n used falls = falls_up _ _ n new (omega (arith, used.leaves)) falls
 table_falls t turned.Redescribe old mid new n used falls =
     subst (λ (m : Next). Falls (4 * left_of old + table_rank t) m new) (sym falls.0)
-    (subst (λ (h : Turn). work stage.Describe h < 4 * left_of old + table_rank t) (sym falls.1) (omega (arith, used.leaves, table_rank_low t)))
+    (subst (λ (h : Turn). work phase.Describe h < 4 * left_of old + table_rank t) (sym falls.1) (omega (arith, used.leaves, table_rank_low t)))
 table_falls t (turned.Waits p) old mid new n used falls = falls _
 table_falls t (turned.Spent kind) old mid new n used falls = falls _
 table_falls t (turned.TooDeep u) old mid new n used falls = falls _

@@ -5,15 +5,15 @@ use Rattle.paw_world.specs.World.{World}
 use Rattle.paw_effects.specs.declared.act.Prompt.TheVariants as prompt
 use Rattle.paw_effects.specs.Texts.{say_text}
 use Rattle.paw_reading.specs.Run.{Run, is_timeout, is_ignored, with_timeout, closed}
-use Rattle.paw_reading.specs.Turn.{Ending, AtFrame, AtPhrase, saying, at_main, turn, goes_on}
+use Rattle.paw_reading.specs.Turn.{Ending, AtTimeFrame, AtPhrase, saying, at_main, turn, goes_on}
 use Rattle.paw_turn.specs.declared.Step.TheVariants as step
-use Rattle.paw_turn.specs.declared.stage.Stage.TheVariants as stage
-use Rattle.paw_turn.specs.declared.stage.Next.{Next}
-use Rattle.paw_turn.specs.declared.stage.Next.TheVariants as next
+use Rattle.paw_turn.specs.declared.phase.Phase.TheVariants as phase
+use Rattle.paw_turn.specs.declared.phase.Next.{Next}
+use Rattle.paw_turn.specs.declared.phase.Next.TheVariants as next
 use Rattle.paw_turn.specs.declared.turn.Turn.{Turn}
 use Rattle.paw_process.specs.inner.OpenTables.{ReadsNone}
 use Rattle.paw_turn.proofs.Falling.{has_still, equal_none}
-use Rattle.paw_turn.specs.inner.Stages.{Past, run_now, at_stage, GoesOnAs, Moves, PlaysAs, from_prompt, in_world, with_line}
+use Rattle.paw_turn.specs.inner.Phases.{Past, run_now, at_phase, GoesOnAs, Moves, PlaysAs, from_prompt, in_world, with_line}
 
 -- where the whole is what moves on, and no condact is read
 pub moves_play : (g : Story) (whole : ℕ → Past → List (List ℕ) → Ending) (x : ℕ → Run → Ending) (old mid new : Turn) (nx : Next)
@@ -28,19 +28,19 @@ moves_play g whole x old mid new nx same moves none past has = (
   ),
 )
 
--- a timeout says message 35, and the frame comes
+-- a timeout says message 35, and the time frame comes
 pub timeout_heard : (g : Story) (old new : Turn) (line : List ℕ) (w : World) (nx : Next) → is_ignored old.situation.world line ≡ false → is_timeout line ≡ true
     → w ≡ with_timeout true old.situation.world
-    → Moves g (λ n r. saying (say_text g.game w 35) (turn g n (at_stage stage.Frame)) r) (in_world w old) nx new
+    → Moves g (λ n r. saying (say_text g.game w 35) (turn g n (at_phase phase.TimeFrame)) r) (in_world w old) nx new
     → new.machine ≡ old.machine → PlaysAs g (from_prompt g prompt.Main old line) old nx new
 unfolding at_main
 timeout_heard g old new line w nx heard timeout world moves machine =
-    moves_play g (from_prompt g prompt.Main old line) (λ n r. saying (say_text g.game w 35) (turn g n AtFrame) r) old
+    moves_play g (from_prompt g prompt.Main old line) (λ n r. saying (say_text g.game w 35) (turn g n AtTimeFrame) r) old
     (in_world w old) new nx
     (λ m past lines. is m past lines) moves (equal_none old.machine new.machine machine)
   where
     is : (m : ℕ) (past : Past) (lines : List (List ℕ)) → from_prompt g prompt.Main old line m past lines
-        ≡ saying (say_text g.game w 35) (turn g m AtFrame) (run_now (in_world w old) past lines)
+        ≡ saying (say_text g.game w 35) (turn g m AtTimeFrame) (run_now (in_world w old) past lines)
     is m past lines = rw (heard, timeout, world) refl
 
 -- a line that is pending now
@@ -50,10 +50,10 @@ taking_line line h = with_line (with_timeout false h.situation.world) (record { 
 -- any other line is pending now
 pub line_heard : (g : Story) (old new : Turn) (line : List ℕ) → is_ignored old.situation.world line ≡ false → is_timeout line ≡ false
     → new ≡ taking_line line old
-    → PlaysAs g (from_prompt g prompt.Main old line) old (next.Go stage.Phrase) new
+    → PlaysAs g (from_prompt g prompt.Main old line) old (next.Go phase.Phrase) new
 unfolding at_main
 line_heard g old new line heard timeout is =
-    moves_play g (from_prompt g prompt.Main old line) (λ n r. turn g n AtPhrase r) old new new (next.Go stage.Phrase)
+    moves_play g (from_prompt g prompt.Main old line) (λ n r. turn g n AtPhrase r) old new new (next.Go phase.Phrase)
     (λ m past lines. subst (λ (h : Turn). from_prompt g prompt.Main old line m past lines ≡ turn g m AtPhrase (run_now h past lines)) (sym is)
     (at m past lines))
     (λ past n lines. refl) (equal_none old.machine new.machine (ap (λ (h : Turn). h.machine) is))

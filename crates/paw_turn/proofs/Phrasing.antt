@@ -11,13 +11,13 @@ use Rattle.paw_effects.specs.Texts.{say_text}
 use Rattle.paw_reading.specs.Run.{Run}
 use Rattle.paw_reading.specs.Turn.{Ending, AtPhrase, AtResponse, saying, counted, after_phrase, turn}
 use Rattle.paw_process.specs.inner.Phrases.{next_phrase, Speaks}
-use Rattle.paw_turn.specs.declared.stage.Next.{Next}
-use Rattle.paw_turn.specs.declared.stage.Next.TheVariants as next
-use Rattle.paw_turn.specs.declared.stage.Stage.TheVariants as stage
+use Rattle.paw_turn.specs.declared.phase.Next.{Next}
+use Rattle.paw_turn.specs.declared.phase.Next.TheVariants as next
+use Rattle.paw_turn.specs.declared.phase.Phase.TheVariants as phase
 use Rattle.paw_turn.specs.declared.turn.Turn.{Turn}
-use Rattle.paw_turn.specs.inner.Stages.{run_now, GoesOnAs, Moves, at_stage, with_line}
+use Rattle.paw_turn.specs.inner.Phases.{run_now, GoesOnAs, Moves, at_phase, with_line}
 
--- the stage with what the next phrase is
+-- the phase with what the next phrase is
 abbrev pub phrased : Story → ℕ → Run → Parsed → Ending
 phrased g n r = after_phrase g (turn g n) r
 
@@ -25,7 +25,7 @@ phrased g n r = after_phrase g (turn g n) r
 pub sentence_moves : (g : Story) (old new : Turn) (w : World)
     → Speaks g.game found.Sentence old.situation.world w old.situation.pending new.situation.pending
     → new.situation.world ≡ counted w → new.machine ≡ old.machine → new.situation.piece ≡ old.situation.piece
-    → Moves g (λ n r. turn g (suc n) AtPhrase r) old (next.Go stage.Response) new
+    → Moves g (λ n r. turn g (suc n) AtPhrase r) old (next.Go phase.Response) new
 unfolding turn
 sentence_moves g old new w speaks world machine piece past n lines =
     ap (phrased g n (run_now old past lines)) speaks.1 ∙ ap (turn g n AtResponse) cc
@@ -34,11 +34,11 @@ sentence_moves g old new w speaks world machine piece past n lines =
 pub unknown_moves : (g : Story) (old new : Turn) (nx : Next) (rest : List ℕ) (w : World) (p : PendingLine)
     → next_phrase g.game old.situation.world old.situation.pending ≡ IsUnknown rest → w ≡ old.situation.world
     → p ≡ record { bytes = []; earlier = old.situation.pending.earlier }
-    → Moves g (λ n r. saying (say_text g.game w 6) (turn g n (at_stage stage.Frame)) r) (with_line w p old) nx new
+    → Moves g (λ n r. saying (say_text g.game w 6) (turn g n (at_phase phase.TimeFrame)) r) (with_line w p old) nx new
     → Moves g (λ n r. turn g (suc n) AtPhrase r) old nx new
 unfolding turn
 unknown_moves g old new nx rest w p is world pending moves past n lines =
-    let M : World → PendingLine → Type 0 = λ w' p'. Moves g (λ n' r. saying (say_text g.game w' 6) (turn g n' (at_stage stage.Frame)) r)
+    let M : World → PendingLine → Type 0 = λ w' p'. Moves g (λ n' r. saying (say_text g.game w' 6) (turn g n' (at_phase phase.TimeFrame)) r)
     (with_line w' p' old) nx new in
     let from = subst (λ w'. M w' (record { bytes = []; earlier = old.situation.pending.earlier })) world (subst (M w) pending moves) in
     subst (GoesOnAs g n nx new.machine.frames (run_now new past lines))

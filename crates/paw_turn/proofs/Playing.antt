@@ -1,19 +1,19 @@
--- One stage after the other.
+-- One phase after the other.
 use Rattle.std.proofs.Common.{ℕ, suc, List, refl, sym, subst}
 use Rattle.paw_effects.specs.Story.{Story}
 use Rattle.paw_reading.specs.Turn.{Ending, turn}
-use Rattle.paw_turn.specs.declared.stage.Stage.{Stage}
-use Rattle.paw_turn.specs.declared.stage.Next.{Next}
-use Rattle.paw_turn.specs.declared.stage.Next.TheVariants as next
+use Rattle.paw_turn.specs.declared.phase.Phase.{Phase}
+use Rattle.paw_turn.specs.declared.phase.Next.{Next}
+use Rattle.paw_turn.specs.declared.phase.Next.TheVariants as next
 use Rattle.paw_turn.specs.declared.turn.Turn.{Turn}
-use Rattle.paw_turn.specs.inner.Stages.{Past, at_stage, run_now, having_read, GoesOnAs, ReadsTurn, PlaysAs, Plays, from_stage}
+use Rattle.paw_turn.specs.inner.Phases.{Past, at_phase, run_now, having_read, GoesOnAs, ReadsTurn, PlaysAs, Plays, from_phase}
 
 -- nothing is played yet
-pub plays_none : (g : Story) (first : Stage) (old : Turn) → Plays g first old (next.Go first) old
+pub plays_none : (g : Story) (first : Phase) (old : Turn) → Plays g first old (next.Go first) old
 plays_none g first old past has = (past.read, (has, λ n lines. (n, refl)))
 
--- a whole that comes to a stage, and what is played from there
-pub plays_then : (g : Story) (whole : ℕ → Past → List (List ℕ) → Ending) (s : Stage) (old mid new : Turn) (nx : Next)
+-- a whole that comes to a phase, and what is played from there
+pub plays_then : (g : Story) (whole : ℕ → Past → List (List ℕ) → Ending) (s : Phase) (old mid new : Turn) (nx : Next)
     → PlaysAs g whole old (next.Go s) mid → Plays g s mid nx new → PlaysAs g whole old nx new
 plays_then g whole s old mid new nx first plays past has =
     let a = first past has in
@@ -28,14 +28,14 @@ plays_then g whole s old mid new nx first plays past has =
       ),
     )
 
--- a stage that is gone through is played
-stage_plays : (g : Story) (s : Stage) (old new : Turn) (nx : Next) → ReadsTurn g (λ n r. turn g (suc n) (at_stage s) r) old nx new → Plays g s old nx new
-stage_plays g s old new nx reads past has =
+-- a phase that is gone through is played
+phase_plays : (g : Story) (s : Phase) (old new : Turn) (nx : Next) → ReadsTurn g (λ n r. turn g (suc n) (at_phase s) r) old nx new → Plays g s old nx new
+phase_plays g s old new nx reads past has =
     let k = reads past has in
     (k.0, (k.1.0, λ n lines. (suc n, k.1.1 n lines)))
 
--- one stage more
-pub plays_on : (g : Story) (first s : Stage) (old mid new : Turn) (nx : Next)
-    → Plays g first old (next.Go s) mid → ReadsTurn g (λ n r. turn g (suc n) (at_stage s) r) mid nx new → Plays g first old nx new
+-- one phase more
+pub plays_on : (g : Story) (first s : Phase) (old mid new : Turn) (nx : Next)
+    → Plays g first old (next.Go s) mid → ReadsTurn g (λ n r. turn g (suc n) (at_phase s) r) mid nx new → Plays g first old nx new
 plays_on g first s old mid new nx plays reads =
-    plays_then g (λ m past lines. from_stage g first old m past lines) s old mid new nx plays (stage_plays g s mid new nx reads)
+    plays_then g (λ m past lines. from_phase g first old m past lines) s old mid new nx plays (phase_plays g s mid new nx reads)

@@ -4,11 +4,11 @@ use Rattle.paw_base.specs.declared.fault.SpentKind.TheVariants as spent
 use Rattle.paw_phrase.specs.Sentence.{IsNoPhrase}
 use Rattle.paw_effects.specs.Story.{Story}
 use Rattle.paw_reading.specs.Run.{line_dropped, closed}
-use Rattle.paw_reading.specs.Turn.{AtFrame, AtPhrase, at_main, prompt_text, after_phrase, turn}
+use Rattle.paw_reading.specs.Turn.{at_main, prompt_text, after_phrase, turn}
 use Rattle.paw_turn.specs.declared.Step.TheVariants as step
-use Rattle.paw_turn.specs.declared.stage.Next.TheVariants as next
+use Rattle.paw_turn.specs.declared.phase.Next.TheVariants as next
 use Rattle.paw_turn.specs.declared.turn.Turn.{Turn}
-use Rattle.paw_turn.specs.inner.Stages.{run_now, Moves}
+use Rattle.paw_turn.specs.inner.Phases.{run_now, Moves}
 use Rattle.paw_turn.proofs.Says.{unsaid}
 
 -- a prompt that doesn't fit
@@ -17,7 +17,7 @@ pub prompt_unsaid : (g : Story) (old new : Turn) → 65535 < length old.situatio
 prompt_unsaid g old new h past n lines = (
   line_dropped (run_now old past lines),
   unsaid (prompt_text g.game old.situation.world)
-      (λ x. at_main g (turn g n AtFrame) (turn g n AtPhrase) (closed x) x.events) (line_dropped (run_now old past lines))
+      (λ x. at_main g (turn g n) (closed x) x.events) (line_dropped (run_now old past lines))
       h,
   record { pieces = refl; traces = refl; events = refl },
 )

@@ -3,15 +3,15 @@ use Rattle.std.proofs.Common.{◌≡◌, ℕ, suc, [], ◌++◌, refl, sym, subs
 use Rattle.paw_effects.specs.Story.{Story}
 use Rattle.paw_reading.specs.Run.{Run}
 use Rattle.paw_reading.specs.Reading.{table_read}
-use Rattle.paw_reading.specs.Turn.{AtFrame, AtResponse, Ending, table_done, turn}
+use Rattle.paw_reading.specs.Turn.{AtTimeFrame, AtResponse, Ending, table_done, turn}
 use Rattle.paw_process.specs.OpenTables.{OpenTables}
 use Rattle.paw_process.specs.inner.OpenTables.{HasRead, ReadsNone, table_begun}
 use Rattle.paw_process.specs.inner.Meaning.{having, RunsTo}
 use Rattle.paw_process.specs.declared.Turned.{Turned}
-use Rattle.paw_turn.specs.declared.stage.Next.{Next}
+use Rattle.paw_turn.specs.declared.phase.Next.{Next}
 use Rattle.paw_turn.specs.declared.turn.Turn.{Turn}
 use Rattle.paw_turn.proofs.Falling.{has_still}
-use Rattle.paw_turn.specs.inner.Stages.{run_now, having_read, Moves, ReadsTurn, MovesAfter, RunsAs, from_table}
+use Rattle.paw_turn.specs.inner.Phases.{run_now, having_read, Moves, ReadsTurn, MovesAfter, RunsAs, from_table}
 
 -- the machine has read the table that it opened
 pub begun_runs : (g : Story) (t : ℕ) (old mid : Turn) (m : OpenTables) (turned : Turned) → m ≡ table_begun t old.machine
@@ -37,16 +37,16 @@ read_on g t old mid new turned nx runs moves same past has =
       ),
     )
 
--- a stage in which nothing is read
+-- a phase in which nothing is read
 pub moves_read : (g : Story) (x : ℕ → Run → Ending) (old new : Turn) (nx : Next) → Moves g x old nx new → new.machine ≡ old.machine → ReadsTurn g x old nx new
 moves_read g x old new nx moves same past has =
     (past.read, (subst (HasRead past.read) (sym same) has, λ n lines. moves past n lines))
 
--- the frame reads table 2, and the response table 0
-pub frame_reads : (g : Story) (old new : Turn) (nx : Next) → ReadsTurn g (λ n r. table_done g (turn g n) 2 (table_read g 2 r)) old nx new
-    → ReadsTurn g (λ n r. turn g (suc n) AtFrame r) old nx new
+-- the time frame reads table 2, and the response table 0
+pub time_frame_reads : (g : Story) (old new : Turn) (nx : Next) → ReadsTurn g (λ n r. table_done g (turn g n) 2 (table_read g 2 r)) old nx new
+    → ReadsTurn g (λ n r. turn g (suc n) AtTimeFrame r) old nx new
 unfolding turn
-frame_reads g old new nx reads = reads
+time_frame_reads g old new nx reads = reads
 
 pub response_reads : (g : Story) (old new : Turn) (nx : Next) → ReadsTurn g (λ n r. table_done g (turn g n) 0 (table_read g 0 r)) old nx new
     → ReadsTurn g (λ n r. turn g (suc n) AtResponse r) old nx new

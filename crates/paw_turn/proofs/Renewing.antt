@@ -17,15 +17,15 @@ use Rattle.paw_reading.specs.declared.places.OpenLoop.{OpenLoop}
 use Rattle.paw_reading.specs.Run.{Run, closed, fits, printed, without_loop, line_dropped, anew, is_timeout, is_ignored, heard, with_timeout, reply, is_no}
 use Rattle.paw_reading.specs.Reading.{IsOver, RunsOut, Restarts, Out, Stopped, halts, after_call, again, asked, looped, deeper, rest}
 use Rattle.paw_reading.specs.GoingOn.{on_path}
-use Rattle.paw_reading.specs.Turn.{Ending, Halted, AtDescribe, TurnStage, table_done, turn, first_table}
+use Rattle.paw_reading.specs.Turn.{Ending, Halted, AtDescribe, TurnPhase, table_done, turn, first_table}
 use Rattle.paw_process.specs.inner.Meaning.{to_come}
 use Rattle.paw_turn.specs.declared.Step.TheVariants as step
-use Rattle.paw_turn.specs.declared.stage.Stage.TheVariants as stage
-use Rattle.paw_turn.specs.declared.stage.Next.TheVariants as next
+use Rattle.paw_turn.specs.declared.phase.Phase.TheVariants as phase
+use Rattle.paw_turn.specs.declared.phase.Next.TheVariants as next
 use Rattle.paw_turn.specs.declared.turn.Turn.{Turn}
 use Rattle.paw_process.specs.inner.OpenTables.{ReadsNone}
 use Rattle.paw_turn.proofs.Falling.{has_still}
-use Rattle.paw_turn.specs.inner.Stages.{Past, run_from, run_now, PlaysAs, from_prompt, ChangesFlags, or_spent}
+use Rattle.paw_turn.specs.inner.Phases.{Past, run_from, run_now, PlaysAs, from_prompt, ChangesFlags, or_spent}
 
 -- at no the game is over or the piece is spent, and else it starts anew
 abbrev final : Bool → Bool → Run → Run → Run → Out
@@ -71,15 +71,15 @@ again_is g old line some hears n past lines =
     ap (table_done g (turn g n) (first_table (reverse old.machine.frames)))
     (some_again g (reverse old.machine.frames) (run_now old past []) line lines many hears)
 
-final_restarts : (g : Story) (go : TurnStage → Run → Ending) (t : ℕ) (declines fit : Bool) (e s d : Run) → declines ≡ false
+final_restarts : (g : Story) (go : TurnPhase → Run → Ending) (t : ℕ) (declines fit : Bool) (e s d : Run) → declines ≡ false
     → table_done g go t (final declines fit e s d) ≡ go AtDescribe d
 final_restarts g go t declines fit e s d is = rw is refl
 
-final_ends : (g : Story) (go : TurnStage → Run → Ending) (t : ℕ) (declines fit : Bool) (e s d : Run) → declines ≡ true →
+final_ends : (g : Story) (go : TurnPhase → Run → Ending) (t : ℕ) (declines fit : Bool) (e s d : Run) → declines ≡ true →
     fit ≡ true → table_done g go t (final declines fit e s d) ≡ Halted IsOver e
 final_ends g go t declines fit e s d is fitting = rw (is, fitting) refl
 
-final_spends : (g : Story) (go : TurnStage → Run → Ending) (t : ℕ) (declines fit : Bool) (e s d : Run) → declines ≡ true →
+final_spends : (g : Story) (go : TurnPhase → Run → Ending) (t : ℕ) (declines fit : Bool) (e s d : Run) → declines ≡ true →
     fit ≡ false → table_done g go t (final declines fit e s d) ≡ Halted (RunsOut spent.Text) s
 final_spends g go t declines fit e s d is fitting = rw (is, fitting) refl
 
@@ -89,7 +89,7 @@ pub again_restarts : (g : Story) (old new : Turn) (line : List ℕ) → 0 < leng
     → new.situation.world ≡ restarted (with_timeout (is_timeout line) old.situation.world) → new.situation.pending.bytes ≡ []
     → new.situation.pending.earlier ≡ 255
     → new.machine.turning ≡ None → ReadsNone old.machine new.machine → new.situation.piece ≡ old.situation.piece
-    → PlaysAs g (from_prompt g prompt.Again old line) old (next.Go stage.Describe) new
+    → PlaysAs g (from_prompt g prompt.Again old line) old (next.Go phase.Describe) new
 again_restarts g old new line some hears declines world bytes earlier turning none piece past has = (
   past.read,
   (

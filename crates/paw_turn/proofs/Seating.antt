@@ -23,18 +23,19 @@ use Rattle.paw_reading.specs.inner.Places.{ArePlaces, IsLoopOf}
 use Rattle.paw_phrase.specs.Pending.{PendingLine}
 use Rattle.paw_process.specs.OpenTables.{OpenTables}
 use Rattle.paw_process.specs.inner.OpenTables.{IsWaiting, IsClosed, new_machine, refilled}
-use Rattle.paw_process.specs.Kept.{kept, rows_fault, table_of, is_that_table, loop_stands, loop_fault}
+use Rattle.paw_process.specs.Kept.{kept, rows_fault, is_that_table, loop_stands, loop_fault}
 use Rattle.paw_process.specs.Kept.{count_fits, fault_at, frames_fault, waiting_code}
 use Rattle.paw_process.specs.inner.Kept.{restored, waiting_at}
 use Rattle.paw_process.specs.inner.Kept.{StandsAt as MachineStandsAt}
 use Rattle.paw_process.specs.declared.kept.Frames.{Frames}
 use Rattle.paw_process.proofs.Restored.{first_of, second, no_first}
+use Rattle.paw_process.proofs.Rows.{table_of}
 use Rattle.paw_process.proofs.Again.{restored_again}
 use Rattle.paw_process.proofs.Fitting.{places_fit, kept_places}
 use Rattle.paw_turn.specs.declared.Step.{Step}
 use Rattle.paw_turn.specs.declared.Step.TheVariants as step
 use Rattle.paw_turn.specs.inner.Player.{Seat, WaitsIn, StandsClosed, StandRightly, IsSeated, IsNew}
-use Rattle.paw_turn.specs.inner.Stages.{MayGoOn, HasReadSome, seat_of}
+use Rattle.paw_turn.specs.inner.Phases.{MayGoOn, HasReadSome, seat_of}
 use Rattle.paw_turn.specs.declared.turn.Turn.{Turn}
 use Rattle.paw_turn.proofs.Standing.{unreversed}
 use Rattle.paw_turn.proofs.Falling.{none_yet}

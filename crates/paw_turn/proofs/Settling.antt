@@ -1,4 +1,4 @@
--- From some stages to the whole reading.
+-- From some phases to the whole reading.
 use Rattle.std.proofs.Common.{◌≡◌, ◌≢◌, ℕ, List, [], ◌∷◌, Option, None, reverse, refl, sym, ap, ◌∙◌}
 use Rattle.paw_effects.specs.Story.{Story}
 use Rattle.paw_world.specs.World.{World}
@@ -9,25 +9,25 @@ use Rattle.paw_effects.specs.inner.Opening.{opening_world}
 use Rattle.paw_reading.specs.declared.places.OpenLoop.{OpenLoop}
 use Rattle.paw_reading.specs.Run.{Run, Step as Read, closed}
 use Rattle.paw_reading.specs.Reading.{Halt, RunsOut, CallsTooDeep}
-use Rattle.paw_reading.specs.Turn.{Ending, Unended, AtDescribe, turns_from, stages_left, opening, reading, on}
+use Rattle.paw_reading.specs.Turn.{Ending, Unended, AtDescribe, turns_from, phases_left, opening, reading, on}
 use Rattle.paw_reading.proofs.Ends.{ends_once, going_on_ends, goes_on_once}
 use Rattle.paw_process.specs.OpenTables.{OpenTables}
 use Rattle.paw_process.specs.inner.OpenTables.{HasRead}
 use Rattle.paw_turn.specs.declared.Step.{Step}
 use Rattle.paw_turn.specs.declared.Step.TheVariants as step
-use Rattle.paw_turn.specs.declared.stage.Stage.TheVariants as stage
-use Rattle.paw_turn.specs.declared.stage.Next.TheVariants as next
+use Rattle.paw_turn.specs.declared.phase.Phase.TheVariants as phase
+use Rattle.paw_turn.specs.declared.phase.Next.TheVariants as next
 use Rattle.paw_turn.specs.declared.turn.Turn.{Turn}
 use Rattle.paw_turn.proofs.Falling.{none_yet}
 use Rattle.paw_turn.specs.inner.Player.{Seat, PlaysTo, PlayHalts, IsNew, run_at}
-use Rattle.paw_turn.specs.inner.Stages.{Past, run_from, run_now, having_read, TurnHalts, StopsAs, PlaysAs}
-use Rattle.paw_turn.specs.inner.Stages.{Plays, from_stage, from_prompt, seat_of, turn_settled, opened_piece}
+use Rattle.paw_turn.specs.inner.Phases.{Past, run_from, run_now, having_read, TurnHalts, StopsAs, PlaysAs}
+use Rattle.paw_turn.specs.inner.Phases.{Plays, from_phase, from_prompt, seat_of, turn_settled, opened_piece}
 
 -- an ending that comes once is the whole's
 abbrev Once : (ℕ → List (List ℕ) → Ending) → (List (List ℕ) → Ending) → Type 0
 Once whole total = (m : ℕ) (lines : List (List ℕ)) → whole m lines ≢ Unended → whole m lines ≡ total lines
 
--- where some stages of the whole end it for good, with no piece to show, it ends so
+-- where some phases of the whole end it for good, with no piece to show, it ends so
 halts : {F : Type 0} (whole : ℕ → List (List ℕ) → Ending) (total : List (List ℕ) → Ending) → Once whole total
     → (halt : Halt) (p : Seat F) (new : Turn) (past : Past) → p.piece ≡ []
     → ((n : ℕ) (lines : List (List ℕ)) → (m : ℕ) × TurnHalts halt (run_now new past lines) (whole m lines))
@@ -40,7 +40,7 @@ halts whole total once halt p new past none stops = (
       (k.1.0, sym (once k.0 lines (λ u. cc (e, u))) ∙ e, k.1.2.pieces, k.1.2.traces, k.1.2.events),
 )
 
--- where some stages of the whole stop, it stops
+-- where some phases of the whole stop, it stops
 settles : {F : Type 0} (g : Story) (routines : Routines F) (whole : ℕ → List (List ℕ) → Ending) (total : List (List ℕ) → Ending) → Once whole total
     → (s last : Step) (new : Turn) (past : Past) → HasRead past.read new.machine
     → ((n : ℕ) (lines : List (List ℕ)) → (m : ℕ) × StopsAs g n s new.machine.frames (run_now new past lines) (whole m lines))
@@ -51,7 +51,7 @@ settles g routines whole total once (step.Waits p) last new past has stops = (
     has.steps,
     λ lines.
         let r : Run = closed (run_now new past lines) in
-        let k = stops (stages_left r) lines in
+        let k = stops (phases_left r) lines in
         sym (once k.0 lines (λ e. going_on_ends g p (reverse new.machine.frames) r (sym k.1 ∙ e))) ∙ k.1,
   ),
 )
@@ -75,7 +75,7 @@ abbrev before : List (List ℕ) → List (List Read) → Past
 before pieces traces = record { read = []; pieces = pieces; traces = traces }
 
 -- a new player's first piece is that of the reading
-pub start_plays : {F : Type 0} (g : Story) (routines : Routines F) (old new : Turn) (s last : Step) → Plays g stage.Describe old (next.Stop s) new
+pub start_plays : {F : Type 0} (g : Story) (routines : Routines F) (old new : Turn) (s last : Step) → Plays g phase.Describe old (next.Stop s) new
     → IsNew (seat_of g.game routines old last) old.situation.world.seed
     → PlaysTo g (reading g old.situation.world.seed) s (seat_of g.game routines (turn_settled s new) s) [] []
 start_plays g routines old new s last plays fresh =
@@ -83,7 +83,7 @@ start_plays g routines old new s last plays fresh =
     let earlier = ap (λ (q : PendingLine). q.earlier) fresh.pending in
     let turning = ap (λ (m : OpenTables). m.turning) fresh.machine in
     let t = plays (before [] []) (none_yet old.machine fresh.machine) in
-    settles g routines (λ m lines. from_stage g stage.Describe old m (before [] []) lines) (reading g old.situation.world.seed)
+    settles g routines (λ m lines. from_phase g phase.Describe old m (before [] []) lines) (reading g old.situation.world.seed)
     (λ m lines differs.
     let h = old.situation in
     let same : run_now old (before [] []) lines ≡ opening g h.world.seed lines =

@@ -27,7 +27,7 @@ use Rattle.paw_process.specs.inner.OpenTables.{IsClosed}
 use Rattle.paw_turn.specs.declared.Step.{Step}
 use Rattle.paw_turn.specs.declared.Step.TheVariants as step
 use Rattle.paw_turn.specs.declared.turn.Turn.{Turn}
-use Rattle.paw_turn.specs.inner.Stages.{seat_of, turn_settled}
+use Rattle.paw_turn.specs.inner.Phases.{seat_of, turn_settled}
 use Rattle.paw_turn.specs.inner.Player.{Seat, PlaysTo, StandsClosed, StandsAt, WaitsIn, StandRightly, IsSeated, IsStanding, prompt_at, run_at, run_with}
 
 -- rows that stand for routines make a story of a valid game

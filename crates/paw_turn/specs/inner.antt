@@ -1,4 +1,4 @@
 -- Words of contracts between crates, and of proofs. What a reader must believe doesn't reach them.
 pub mod Player
-pub mod Stages
+pub mod Phases
 pub mod Parts

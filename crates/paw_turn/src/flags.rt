@@ -3,8 +3,8 @@
 ghost use Rattle.std.specs.Prelude.{◌≡◌};
 ghost use Rattle.paw_world.specs.World.{fallen, fallen_if, is_dark, is_unlit};
 ghost use Rattle.paw_reading.specs.Run.{with_timeout};
-ghost use Rattle.paw_reading.specs.Turn.{described, framed, counted};
-ghost use Rattle.paw_turn.specs.inner.Stages.{ChangesFlags};
+ghost use Rattle.paw_reading.specs.Turn.{described, time_frame_passed, counted};
+ghost use Rattle.paw_turn.specs.inner.Phases.{ChangesFlags};
 
 use paw_base::flags::{
     DARK_FLAG, DARK_FRAME_FLAG, DARK_VIEW_FLAG, FIRST_FRAME_FLAG, HIGH_TURNS_FLAG, LAST_FRAME_FLAG,
@@ -61,9 +61,9 @@ pub(crate) fn describe(world: &mut World)
     fall_in_dark(world, DARK_VIEW_FLAG, UNLIT_VIEW_FLAG);
 }
 
-/// The flags that fall in each frame.
-pub(crate) fn frame(world: &mut World)
-    ensures value { world.new ≡ framed world.old }
+/// The flags that fall in each time frame, behind table 2.
+pub(crate) fn pass_time_frame(world: &mut World)
+    ensures value { world.new ≡ time_frame_passed world.old }
     ensures only { ChangesFlags world.old world.new }
 {
     fall(world, FIRST_FRAME_FLAG);

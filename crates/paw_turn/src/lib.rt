@@ -5,8 +5,8 @@ mod flags;
 pub mod laws;
 mod lines;
 mod parts;
+mod phase;
 mod player;
-mod stage;
 mod turn;
 
 pub use parts::Parts;

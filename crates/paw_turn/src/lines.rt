@@ -9,12 +9,12 @@ ghost use Rattle.paw_reading.specs.Run.{is_timeout, is_ignored, reply, begins_wi
 ghost use Rattle.paw_reading.specs.Turn.{first_table};
 ghost use Rattle.paw_process.specs.inner.OpenTables.{IsClosed};
 ghost use Rattle.paw_process.specs.inner.Meaning.{InStories};
-ghost use Rattle.paw_turn.specs.declared.stage.Next.TheVariants as next;
+ghost use Rattle.paw_turn.specs.declared.phase.Next.TheVariants as next;
 ghost use Rattle.paw_turn.specs.inner.Player.{WaitsIn};
-ghost use Rattle.paw_turn.specs.inner.Stages.{PlaysAs, RunsAs, from_prompt, from_path, IsPlayable};
-ghost use Rattle.paw_turn.specs.inner.Stages.{MayHear, MayAnswer, Stays, KeepsGame, StopsInTable};
+ghost use Rattle.paw_turn.specs.inner.Phases.{PlaysAs, RunsAs, from_prompt, from_path, IsPlayable};
+ghost use Rattle.paw_turn.specs.inner.Phases.{MayHear, MayAnswer, Stays, KeepsGame, StopsInTable};
 
-use crate::stage::{Next, Stage};
+use crate::phase::{Next, Phase};
 use crate::turn::{Rulebook, Turn, or_spent};
 use crate::{Step, flags};
 use paw_base::flags::TIMEOUT_FLAG;
@@ -60,8 +60,8 @@ fn begins_with(capital: u8, line: &[u8]) -> bool
 }
 
 impl Turn {
-    /// Takes a line that isn't ignored at the main prompt: at a timeout message 35 is said, and the frame comes; any
-    /// other line is pending now.
+    /// Takes a line that isn't ignored at the main prompt: at a timeout message 35 is said, and the time frame comes;
+    /// any other line is pending now.
     fn hear_line<T: Tables>(&mut self, tables: &T, line: &[u8]) -> Next
         requires line { length line.now ≤ LINE_LIMIT }
         requires heard { is_ignored self.old.situation.world line.now ≡ false }
@@ -73,11 +73,11 @@ impl Turn {
     {
         if is_timeout(line) {
             flags::tell_timeout(&mut self.situation.world, true);
-            self.say(tables, TIMEOUT_MESSAGE, Stage::Frame)
+            self.say(tables, TIMEOUT_MESSAGE, Phase::TimeFrame)
         } else {
             flags::tell_timeout(&mut self.situation.world, false);
             self.situation.pending.set(line);
-            Next::Go(Stage::Phrase)
+            Next::Go(Phase::Phrase)
         }
     }
 
@@ -95,7 +95,7 @@ impl Turn {
         if !begins_with(b'N', reply(line)) {
             self.situation.world.restart();
             self.situation.pending.set(&[]);
-            return Next::Go(Stage::Describe);
+            return Next::Go(Phase::Describe);
         }
         self.situation.pending.drop_line();
         let said = say(
@@ -119,7 +119,7 @@ impl<T: Tables, F: Fn(u8, u8) -> u8> Rulebook<'_, T, F> {
         ensures keeps { KeepsGame (T.game self.now.tables.now) held.old (next.Stop result) held.new }
     {
         match self.hear(held, prompt, line) {
-            Next::Go(stage) => self.play(held, stage),
+            Next::Go(phase) => self.play(held, phase),
             Next::Stop(step) => step,
         }
     }

@@ -15,7 +15,7 @@ ghost use Rattle.paw_turn.specs.inner.Player.{IsNew, IsSeated, IsFinished, Plays
 
 use crate::Step;
 use crate::parts::{Parts, prompt_at, step_at};
-use crate::stage::Stage;
+use crate::phase::Phase;
 use crate::turn::{Rulebook, Turn};
 use paw_base::fault::NoRoom;
 use paw_base::piece::Piece;
@@ -156,7 +156,7 @@ impl<'a, T: Tables, F: Fn(u8, u8) -> u8> Player<'a, T, F> {
         ensures seated { IsSeated self.new }
         ensures draws { self.new.world.draws ≤ self.old.world.draws + READ_LIMIT }
     {
-        let step = self.rulebook.play(&mut self.turn, Stage::Describe);
+        let step = self.rulebook.play(&mut self.turn, Phase::Describe);
         self.turn.settle(step);
         self.last = step;
         step

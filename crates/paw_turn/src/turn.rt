@@ -1,4 +1,4 @@
-// A turn in work, and its stages.
+// A turn in work, and its phases.
 
 ghost use Rattle.std.specs.Prelude.{◌≡◌, suc, ◌+◌, ◌*◌, ◌<◌, ◌≤◌, ℕ, List, [], length, None};
 ghost use Rattle.std.specs.Prelude.{false};
@@ -12,20 +12,20 @@ ghost use Rattle.paw_effects.specs.inner.Opening.{opening_world};
 ghost use Rattle.paw_effects.specs.Texts.{say_text};
 ghost use Rattle.paw_reading.specs.Run.{line_dropped};
 ghost use Rattle.paw_reading.specs.Reading.{table_read};
-ghost use Rattle.paw_reading.specs.Turn.{saying, view_text, prompt_text, refusal_text, AtDescribe, AtFrame, AtPhrase};
-ghost use Rattle.paw_reading.specs.Turn.{after_phrase, after_left, table_done, turn};
+ghost use Rattle.paw_reading.specs.Turn.{saying, view_text, prompt_text, refusal_text};
+ghost use Rattle.paw_reading.specs.Turn.{AtDescribe, AtTimeFrame, AtPhrase, after_phrase, after_left, table_done, turn};
 ghost use Rattle.paw_process.specs.inner.OpenTables.{ReadsNone, new_machine};
 ghost use Rattle.paw_process.specs.inner.Meaning.{InStories};
-ghost use Rattle.paw_turn.specs.declared.stage.Stage.TheVariants as stage;
-ghost use Rattle.paw_turn.specs.declared.stage.Next.TheVariants as next;
-ghost use Rattle.paw_turn.specs.inner.Stages.{at_stage, turn_settled, opened_piece, Moves};
-ghost use Rattle.paw_turn.specs.inner.Stages.{ReadsTurn, Plays, MovesAfter};
-ghost use Rattle.paw_turn.specs.inner.Stages.{IsPlayable, MayGoOn, MayRead, Stays, KeepsGame};
-ghost use Rattle.paw_turn.specs.inner.Stages.{StopsInTable};
-ghost use Rattle.paw_turn.specs.inner.Stages.{with_piece, left_of, work, Falls};
-ghost use Rattle.paw_turn.specs.inner.Stages.{or_spent, table_rank, FallsAfter, RunsAs, from_table, Uses};
+ghost use Rattle.paw_turn.specs.declared.phase.Phase.TheVariants as phase;
+ghost use Rattle.paw_turn.specs.declared.phase.Next.TheVariants as next;
+ghost use Rattle.paw_turn.specs.inner.Phases.{at_phase, turn_settled, opened_piece, Moves};
+ghost use Rattle.paw_turn.specs.inner.Phases.{ReadsTurn, Plays, MovesAfter};
+ghost use Rattle.paw_turn.specs.inner.Phases.{IsPlayable, MayGoOn, MayRead, Stays, KeepsGame};
+ghost use Rattle.paw_turn.specs.inner.Phases.{StopsInTable};
+ghost use Rattle.paw_turn.specs.inner.Phases.{with_piece, left_of, work, Falls};
+ghost use Rattle.paw_turn.specs.inner.Phases.{or_spent, table_rank, FallsAfter, RunsAs, from_table, Uses};
 
-use crate::stage::{Next, Stage};
+use crate::phase::{Next, Phase};
 use crate::{Step, flags};
 use paw_base::fault::SpentKind;
 use paw_base::flags::{LOCATION_FLAG, PROMPT_FLAG, VERB_FLAG};
@@ -49,8 +49,8 @@ const RESPONSE_TABLE: u8 = 0;
 /// The table that is read when a location was described.
 const DESCRIBED_TABLE: u8 = 1;
 
-/// The table that is read in each frame.
-const FRAME_TABLE: u8 = 2;
+/// The table that is read in each time frame.
+const TIME_FRAME_TABLE: u8 = 2;
 
 /// A turn in work: the situation that it changes, and the machine.
 #[derive(Drop)]
@@ -167,19 +167,19 @@ impl Turn {
         )
     }
 
-    /// Says a system message, and goes on with a stage.
-    pub(crate) fn say<T: Tables>(&mut self, tables: &T, message: u8, stage: Stage) -> Next
+    /// Says a system message, and goes on with a phase.
+    pub(crate) fn say<T: Tables>(&mut self, tables: &T, message: u8, phase: Phase) -> Next
         requires ready { MayGoOn (T.game tables.now) self.old }
         ensures meaning { (X : List (List ℕ)) → let g = story_of (T.game tables.now) X in
             Moves g
             (λ n r. saying (say_text (T.game tables.now) self.old.situation.world message)
-            (turn g n (at_stage stage)) r)
+            (turn g n (at_phase phase)) r)
             self.old result self.new }
         ensures same { self.new ≡ with_piece self.new.situation.piece self.old }
-        ensures falls { Falls (work stage self.old + 1) result self.new }
+        ensures falls { Falls (work phase self.old + 1) result self.new }
         ensures keeps { KeepsGame (T.game tables.now) self.old result self.new }
     {
-        or_spent(self.put_message(tables, message), Next::Go(stage))
+        or_spent(self.put_message(tables, message), Next::Go(phase))
     }
 
     /// Shows where the game is: in the dark without light that it is dark, else the location's text.
@@ -236,14 +236,15 @@ impl Turn {
         }
     }
 
-    /// No entry answered and no exit leads on: says so, drops the rest of the line, and goes on with the frame.
+    /// No entry answered and no exit leads on: says so, drops the rest of the line, and goes on with the time
+    /// frame.
     fn refuse<T: Tables>(&mut self, tables: &T) -> Next
         requires ready { MayGoOn (T.game tables.now) self.old }
         ensures meaning { (X : List (List ℕ)) → let g = story_of (T.game tables.now) X in
-            Moves g (λ n r. saying (refusal_text (T.game tables.now) r.world) (turn g n AtFrame) (line_dropped r))
+            Moves g (λ n r. saying (refusal_text (T.game tables.now) r.world) (turn g n AtTimeFrame) (line_dropped r))
             self.old result self.new }
         ensures keeps { KeepsGame (T.game tables.now) self.old result self.new }
-        ensures falls { Falls (work stage.Response self.old) result self.new }
+        ensures falls { Falls (work phase.Response self.old) result self.new }
         ensures machine { self.new.machine ≡ self.old.machine }
     {
         self.situation.pending.drop_line();
@@ -252,7 +253,7 @@ impl Turn {
         } else {
             IMPOSSIBLE_MESSAGE
         };
-        self.say(tables, message, Stage::Frame)
+        self.say(tables, message, Phase::TimeFrame)
     }
 
     /// Takes the exit for the verb, where the location has one.
@@ -261,14 +262,14 @@ impl Turn {
         ensures meaning { (X : List (List ℕ)) → let g = story_of (T.game tables.now) X in
             Moves g (λ n r. after_left g (turn g n) 0 false r) self.old result self.new }
         ensures keeps { KeepsGame (T.game tables.now) self.old result self.new }
-        ensures falls { Falls (work stage.Response self.old) result self.new }
+        ensures falls { Falls (work phase.Response self.old) result self.new }
         ensures machine { self.new.machine ≡ self.old.machine }
     {
         let here = self.situation.world.flag(LOCATION_FLAG);
         match tables.exit(here, self.situation.world.flag(VERB_FLAG)) {
             Some(to) => {
                 self.situation.world.set_flag(LOCATION_FLAG, to);
-                Next::Go(Stage::Describe)
+                Next::Go(Phase::Describe)
             }
             None => self.refuse(tables),
         }
@@ -284,12 +285,12 @@ impl Turn {
         ensures machine { self.new.machine ≡ self.old.machine }
     {
         match table {
-            0 if acted => Next::Go(Stage::Frame),
+            0 if acted => Next::Go(Phase::TimeFrame),
             0 => self.connect(tables),
-            1 => Next::Go(Stage::Frame),
+            1 => Next::Go(Phase::TimeFrame),
             _ => {
-                flags::frame(&mut self.situation.world);
-                Next::Go(Stage::Phrase)
+                flags::pass_time_frame(&mut self.situation.world);
+                Next::Go(Phase::Phrase)
             }
         }
     }
@@ -306,7 +307,7 @@ impl Turn {
     {
         match turned {
             Turned::Left(acted) => self.after_left(tables, table, acted),
-            Turned::Redescribe => Next::Go(Stage::Describe),
+            Turned::Redescribe => Next::Go(Phase::Describe),
             Turned::Waits(prompt) => Next::Stop(Step::Waits(prompt)),
             Turned::Spent(kind) => Next::Stop(Step::Spent(kind)),
             Turned::TooDeep { table } => Next::Stop(Step::TooDeep { table }),
@@ -320,7 +321,7 @@ impl Turn {
         ensures meaning { (X : List (List ℕ)) → let g = story_of (T.game tables.now) X in
             Moves g (λ n r. turn g (suc n) AtPhrase r) self.old result self.new }
         ensures keeps { KeepsGame (T.game tables.now) self.old result self.new }
-        ensures falls { Falls (work stage.Phrase self.old) result self.new }
+        ensures falls { Falls (work phase.Phrase self.old) result self.new }
         ensures machine { self.new.machine ≡ self.old.machine }
     {
         match take_phrase(
@@ -330,11 +331,11 @@ impl Turn {
         ) {
             Found::Sentence => {
                 flags::count_turn(&mut self.situation.world);
-                Next::Go(Stage::Response)
+                Next::Go(Phase::Response)
             }
             Found::Nothing => {
                 self.situation.pending.drop_line();
-                self.say(tables, UNKNOWN_MESSAGE, Stage::Frame)
+                self.say(tables, UNKNOWN_MESSAGE, Phase::TimeFrame)
             }
             Found::Empty => self.prompt(tables),
         }
@@ -374,7 +375,7 @@ impl<T: Tables, F: Fn(u8, u8) -> u8> Rulebook<'_, T, F> {
         ensures meaning { InStories F.Fn self.now.routines.now (T.game self.now.tables.now) (λ g.
             ReadsTurn g (λ n r. turn g (suc n) AtDescribe r) held.old result held.new) }
         ensures keeps { KeepsGame (T.game self.now.tables.now) held.old result held.new }
-        ensures falls { Falls (work stage.Describe held.old) result held.new }
+        ensures falls { Falls (work phase.Describe held.old) result held.new }
     {
         flags::describe(&mut held.situation.world);
         if held.show_view(self.tables) {
@@ -384,33 +385,33 @@ impl<T: Tables, F: Fn(u8, u8) -> u8> Rulebook<'_, T, F> {
         }
     }
 
-    /// Goes through one stage.
-    fn stage(&self, held: &mut Turn, stage: Stage) -> Next
+    /// Goes through one phase.
+    fn phase(&self, held: &mut Turn, phase: Phase) -> Next
         requires { MayRead F.Fn self.now.routines.now (T.game self.now.tables.now) held.old }
         ensures meaning { InStories F.Fn self.now.routines.now (T.game self.now.tables.now) (λ g.
-            ReadsTurn g (λ n r. turn g (suc n) (at_stage stage) r) held.old result held.new) }
+            ReadsTurn g (λ n r. turn g (suc n) (at_phase phase) r) held.old result held.new) }
         ensures keeps { KeepsGame (T.game self.now.tables.now) held.old result held.new }
-        ensures falls { Falls (work stage held.old) result held.new }
+        ensures falls { Falls (work phase held.old) result held.new }
     {
-        match stage {
-            Stage::Describe => self.describe(held),
-            Stage::Frame => self.read_table(held, FRAME_TABLE),
-            Stage::Phrase => held.phrase(self.tables),
-            Stage::Response => self.read_table(held, RESPONSE_TABLE),
+        match phase {
+            Phase::Describe => self.describe(held),
+            Phase::TimeFrame => self.read_table(held, TIME_FRAME_TABLE),
+            Phase::Phrase => held.phrase(self.tables),
+            Phase::Response => self.read_table(held, RESPONSE_TABLE),
         }
     }
 
-    /// Plays on from a stage to the next prompt, or to the end.
-    pub(crate) fn play(&self, held: &mut Turn, first: Stage) -> Step
+    /// Plays on from a phase to the next prompt, or to the end.
+    pub(crate) fn play(&self, held: &mut Turn, first: Phase) -> Step
         requires { MayRead F.Fn self.now.routines.now (T.game self.now.tables.now) held.old }
         ensures meaning { InStories F.Fn self.now.routines.now (T.game self.now.tables.now) (λ g.
             Plays g first held.old (next.Stop result) held.new) }
         ensures keeps { KeepsGame (T.game self.now.tables.now) held.old (next.Stop result) held.new }
     {
-        let mut stage = first;
+        let mut phase = first;
         loop {
-            match self.stage(held, stage) {
-                Next::Go(next) => stage = next,
+            match self.phase(held, phase) {
+                Next::Go(next) => phase = next,
                 Next::Stop(step) => return step,
             }
         }

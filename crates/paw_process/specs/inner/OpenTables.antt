@@ -53,7 +53,7 @@ pub record IsLoopWithin (levels : ℕ) (l : OpenLoop) : Type 0 where
 abbrev pub LoopFits : ℕ → Option OpenLoop → Type 0
 LoopFits levels o = IfSome o (IsLoopWithin levels)
 
--- tables are open, and not too many, and each but the innermost stands at a condact
+-- tables are open, at most eleven, and each but the innermost stands at a condact
 pub record AreOpen (frames : List Frame) (turning : Option OpenLoop) : Type 0 where
   pub some : 0 < length frames
   pub depth : length frames ≤ MOST_FRAMES

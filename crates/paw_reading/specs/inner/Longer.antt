@@ -7,7 +7,7 @@ use Rattle.paw_reading.specs.Run.{Run, Step}
 use Rattle.paw_reading.specs.Reading.{rest}
 use Rattle.paw_reading.specs.GoingOn.{on_path}
 use Rattle.paw_reading.specs.inner.GoingOn.{with_lines, extended}
-use Rattle.paw_reading.specs.Turn.{TurnStage, Ending, WaitsAt, Halted, Unended, turns_from, reading, text_of, on}
+use Rattle.paw_reading.specs.Turn.{TurnPhase, Ending, WaitsAt, Halted, Unended, turns_from, reading, text_of, on}
 use Rattle.paw_reading.specs.inner.Turn.{followed}
 
 -- Reading on with more lines is reading on, and then: a reading that waits has closed the same pieces, and goes on with
@@ -21,9 +21,9 @@ abbrev pub PathsGoOn : Type 0
 PathsGoOn = (g : Story) (lines : List (List ℕ)) (p : Prompt) (lv : ℕ) (path : List Frame) (r : Run) →
     on_path g p lv path (with_lines lines r) ≡ extended g lines lv (on_path g p lv path r)
 
--- So are the turns from a stage on, where no loop is open
+-- So are the turns from a phase on, where no loop is open
 abbrev pub TurnsGoOn : Type 0
-TurnsGoOn = (g : Story) (lines : List (List ℕ)) (s : TurnStage) (r : Run) → r.turning ≡ None →
+TurnsGoOn = (g : Story) (lines : List (List ℕ)) (s : TurnPhase) (r : Run) → r.turning ≡ None →
     turns_from g s (with_lines lines r) ≡ followed g lines (turns_from g s r)
 
 -- ---- what was closed before ----

@@ -44,6 +44,6 @@ line_set line r = record r { world = with_timeout false r.world; pending = line;
 abbrev pub unknown_text : GameLists → World → List ℕ
 unknown_text g w = say_text g w UNKNOWN_MESSAGE
 
--- going on from a prompt inside tables, in at most n stages more
+-- going on from a prompt inside tables, in at most n phases more
 abbrev pub in_table : Story → ℕ → Prompt → List Frame → Run → Ending
 in_table g n p path r = table_done g (turn g n) (first_table path) (on_path g p 0 path r)

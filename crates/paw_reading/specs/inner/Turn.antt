@@ -7,7 +7,7 @@ use Rattle.paw_effects.specs.declared.act.Prompt.TheVariants as prompt
 use Rattle.paw_reading.specs.declared.places.Frame.{Frame}
 use Rattle.paw_reading.specs.Run.{Run}
 use Rattle.paw_reading.specs.inner.GoingOn.{with_lines}
-use Rattle.paw_reading.specs.Turn.{TurnStage, Ending, WaitsAt, Halted, Unended, turn, turns_from, reading, goes_on, on}
+use Rattle.paw_reading.specs.Turn.{TurnPhase, Ending, WaitsAt, Halted, Unended, turn, turns_from, reading, goes_on, on}
 
 -- ---- going on ----
 
@@ -19,20 +19,20 @@ followed g lines Unended = Unended
 
 -- ---- the laws ----
 
--- a reading ends: the stages that are granted are enough
+-- a reading ends: the phases that are granted are enough
 abbrev pub TurnsEnd : Type 0
-TurnsEnd = (g : Story) (s : TurnStage) (r : Run) → turns_from g s r ≢ Unended
+TurnsEnd = (g : Story) (s : TurnPhase) (r : Run) → turns_from g s r ≢ Unended
 
--- more stages, or fewer that are enough, change nothing
+-- more phases, or fewer that are enough, change nothing
 abbrev pub EndsOnce : Type 0
-EndsOnce = (g : Story) (n : ℕ) (s : TurnStage) (r : Run) →
+EndsOnce = (g : Story) (n : ℕ) (s : TurnPhase) (r : Run) →
     turn g n s r ≢ Unended → turn g n s r ≡ turns_from g s r
 
 -- so is it with going on from a prompt
 abbrev pub GoingOnEnds : Type 0
 GoingOnEnds = (g : Story) (p : Prompt) (path : List Frame) (r : Run) → on g p path r ≢ Unended
 
--- more stages, or fewer that are enough, change nothing of it
+-- more phases, or fewer that are enough, change nothing of it
 abbrev pub GoesOnOnce : Type 0
 GoesOnOnce = (g : Story) (n : ℕ) (p : Prompt) (path : List Frame) (r : Run) →
     goes_on g n p path r ≢ Unended → goes_on g n p path r ≡ on g p path r

@@ -1,7 +1,7 @@
 use Rattle.std.proofs.Common.{refl}
 use Rattle.paw_effects.specs.declared.act.Prompt.TheVariants as prompt
 use Rattle.paw_turn.specs.declared.Step.TheVariants as step
-use Rattle.paw_turn.specs.inner.Stages.{seat_of}
+use Rattle.paw_turn.specs.inner.Phases.{seat_of}
 use Rattle.paw_turn.proofs.Seating.{begun}
 use Rattle.paw_turn.proofs.player.Player.new.Goals as goal
 

@@ -4,7 +4,7 @@ use Rattle.paw_effects.specs.Story.{story_of}
 use Rattle.paw_reading.specs.Turn.{reading}
 use Rattle.paw_turn.specs.declared.turn.Turn.{Turn}
 use Rattle.paw_turn.specs.inner.Player.{Seat, IsNew, PlaysTo}
-use Rattle.paw_turn.specs.inner.Stages.{seat_of, turn_settled}
+use Rattle.paw_turn.specs.inner.Phases.{seat_of, turn_settled}
 use Rattle.paw_turn.proofs.Settling.{start_plays}
 use Rattle.paw_game.specs.Valid.{Valid}
 use Rattle.paw_turn.proofs.Seating.{new_ready, new_read}

@@ -6,10 +6,10 @@ use Rattle.paw_reading.specs.Bounds.{IsLine}
 use Rattle.paw_reading.specs.Turn.{on}
 use Rattle.paw_turn.specs.declared.Step.{Step}
 use Rattle.paw_turn.specs.declared.Step.TheVariants as step
-use Rattle.paw_turn.specs.declared.stage.Next.TheVariants as next
+use Rattle.paw_turn.specs.declared.phase.Next.TheVariants as next
 use Rattle.paw_turn.specs.declared.turn.Turn.{Turn}
 use Rattle.paw_turn.specs.inner.Player.{Seat, PlaysTo, run_at}
-use Rattle.paw_turn.specs.inner.Stages.{PlaysAs, from_prompt, seat_of, turn_settled}
+use Rattle.paw_turn.specs.inner.Phases.{PlaysAs, from_prompt, seat_of, turn_settled}
 use Rattle.paw_turn.proofs.Settling.{take_plays}
 use Rattle.paw_turn.proofs.Standing.{bytes_each, take_seated}
 use Rattle.paw_turn.proofs.player.Player.take.Goals as goal

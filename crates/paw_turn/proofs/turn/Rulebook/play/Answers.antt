@@ -1,14 +1,14 @@
 use Rattle.std.proofs.Common.{arith, suc}
 use Rattle.paw_reading.specs.Turn.{turn}
-use Rattle.paw_turn.specs.inner.Stages.{at_stage}
+use Rattle.paw_turn.specs.inner.Phases.{at_phase}
 use Rattle.paw_effects.specs.Story.{Story, story_of}
-use Rattle.paw_turn.specs.declared.stage.Next.TheVariants as next
+use Rattle.paw_turn.specs.declared.phase.Next.TheVariants as next
 use Rattle.paw_turn.proofs.Playing.{plays_none, plays_on}
 use Rattle.paw_turn.proofs.Falling.{reads_read}
 use Rattle.paw_turn.proofs.turn.Rulebook.play.Goals as goal
 
-pub loop-stage-init : goal.loop-stage-init
-loop-stage-init g c = record {
+pub loop-phase-init : goal.loop-phase-init
+loop-phase-init g c = record {
   playable = c.requires.ready.playable;
   read = c.requires.read;
   plays = λ X rows. plays_none (story_of (g.T.Tables.game c.args.self.now.tables.now) X) c.args.first c.args.held.now;
@@ -18,20 +18,20 @@ loop-stage-init g c = record {
   };
 }
 
-pub loop-stage-preserved : goal.loop-stage-preserved
-loop-stage-preserved g c =
-    let v = c.loop-stage.invariant in
+pub loop-phase-preserved : goal.loop-phase-preserved
+loop-phase-preserved g c =
+    let v = c.loop-phase.invariant in
     let e = c.in-Go.ensures in
-    let stage = c.loop-stage.stage in
-    let before = c.loop-stage.held in
-    let after = c.stage.new.held in
+    let phase = c.loop-phase.phase in
+    let before = c.loop-phase.held in
+    let after = c.phase.new.held in
     let own : Story = story_of (g.T.Tables.game c.args.self.now.tables.now) c.requires.rows.0 in
     record {
       playable = record { world = e.keeps.stays.world; budget = omega arith; draws = omega arith };
-      read = reads_read own (λ n r. turn own (suc n) (at_stage stage) r) before (next.Go c.in-Go.next) after
+      read = reads_read own (λ n r. turn own (suc n) (at_phase phase) r) before (next.Go c.in-Go.next) after
           (e.meaning c.requires.rows.0 c.requires.rows.1) v.read;
       plays = λ X rows.
-          plays_on (story_of (g.T.Tables.game c.args.self.now.tables.now) X) c.args.first stage c.args.held.now before after
+          plays_on (story_of (g.T.Tables.game c.args.self.now.tables.now) X) c.args.first phase c.args.held.now before after
           (next.Go c.in-Go.next) (v.plays X rows) (e.meaning X rows);
       keeps = record {
         stays = record { world = e.keeps.stays.world; left = omega arith; draws = omega arith };
@@ -41,5 +41,5 @@ loop-stage-preserved g c =
 
 pub returns-in-Stop-clause-meaning : goal.returns-in-Stop-clause-meaning
 returns-in-Stop-clause-meaning g c X rows =
-    plays_on (story_of (g.T.Tables.game c.args.self.now.tables.now) X) c.args.first c.loop-stage.stage c.args.held.now c.loop-stage.held c.stage.new.held
-    (next.Stop c.in-Stop.step) (c.loop-stage.invariant.plays X rows) (c.in-Stop.ensures.meaning X rows)
+    plays_on (story_of (g.T.Tables.game c.args.self.now.tables.now) X) c.args.first c.loop-phase.phase c.args.held.now c.loop-phase.held c.phase.new.held
+    (next.Stop c.in-Stop.step) (c.loop-phase.invariant.plays X rows) (c.in-Stop.ensures.meaning X rows)

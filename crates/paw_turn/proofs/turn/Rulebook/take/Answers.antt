@@ -2,13 +2,13 @@ use Rattle.std.proofs.Common.{arith}
 use Rattle.paw_effects.specs.Story.{story_of}
 use Rattle.paw_turn.proofs.Playing.{plays_then}
 use Rattle.paw_turn.proofs.Falling.{plays_read}
-use Rattle.paw_turn.specs.declared.stage.Next.TheVariants as next
-use Rattle.paw_turn.specs.inner.Stages.{from_prompt}
+use Rattle.paw_turn.specs.declared.phase.Next.TheVariants as next
+use Rattle.paw_turn.specs.inner.Phases.{from_prompt}
 use Rattle.paw_turn.proofs.turn.Rulebook.take.Goals as goal
 
 pub returns-in-Go-clause-meaning : goal.returns-in-Go-clause-meaning
 returns-in-Go-clause-meaning g c X rows =
-    plays_then (story_of (g.T.Tables.game c.args.self.now.tables.now) X) _ c.in-Go.stage c.args.held.now c.hear.new.held c.play.new.held
+    plays_then (story_of (g.T.Tables.game c.args.self.now.tables.now) X) _ c.in-Go.phase c.args.held.now c.hear.new.held c.play.new.held
     (next.Stop c.play.result) (c.in-Go.ensures.meaning X rows) (c.play.ensures.meaning X rows)
 
 pub play-requires : goal.play-requires
@@ -19,7 +19,7 @@ play-requires g c =
     record {
       rows = c.requires.rows;
       read = plays_read own (from_prompt own c.args.prompt c.args.held.now c.args.line.now) c.args.held.now
-          (next.Go c.in-Go.stage) c.hear.new.held (c.in-Go.ensures.meaning c.requires.rows.0 c.requires.rows.1) c.requires.ready.read;
+          (next.Go c.in-Go.phase) c.hear.new.held (c.in-Go.ensures.meaning c.requires.rows.0 c.requires.rows.1) c.requires.ready.read;
       ready = record {
         playable = record {
           world = keeps.stays.world;

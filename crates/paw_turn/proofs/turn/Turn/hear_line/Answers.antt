@@ -1,7 +1,7 @@
 use Rattle.std.proofs.Common.{sym}
 use Rattle.paw_effects.specs.Story.{story_of}
 use Rattle.paw_turn.proofs.Hearing.{timeout_heard, line_heard}
-use Rattle.paw_turn.specs.inner.Stages.{with_line}
+use Rattle.paw_turn.specs.inner.Phases.{with_line}
 use Rattle.paw_turn.proofs.turn.Turn.hear_line.Goals as goal
 
 pub returns-then-is_timeout-clause-meaning : goal.returns-then-is_timeout-clause-meaning

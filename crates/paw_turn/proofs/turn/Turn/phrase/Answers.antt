@@ -3,7 +3,7 @@ use Rattle.paw_effects.specs.Story.{story_of}
 use Rattle.paw_phrase.specs.Pending.{PendingLine}
 use Rattle.paw_turn.proofs.Phrasing.{sentence_moves, unknown_moves, none_moves, sentence_shorter, unknown_shorter}
 use Rattle.paw_turn.proofs.Falling.{falls_up}
-use Rattle.paw_turn.specs.inner.Stages.{with_line}
+use Rattle.paw_turn.specs.inner.Phases.{with_line}
 use Rattle.paw_turn.proofs.turn.Turn.phrase.Goals as goal
 
 pub returns-in-Sentence-clause-meaning : goal.returns-in-Sentence-clause-meaning

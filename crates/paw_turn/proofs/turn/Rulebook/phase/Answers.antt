@@ -1,12 +1,12 @@
 use Rattle.paw_effects.specs.Story.{story_of}
 use Rattle.std.proofs.Common.{suc}
 use Rattle.paw_reading.specs.Turn.{AtPhrase, turn}
-use Rattle.paw_turn.proofs.Reading.{frame_reads, response_reads, moves_read}
-use Rattle.paw_turn.proofs.turn.Rulebook.stage.Goals as goal
+use Rattle.paw_turn.proofs.Reading.{time_frame_reads, response_reads, moves_read}
+use Rattle.paw_turn.proofs.turn.Rulebook.phase.Goals as goal
 
-pub returns-in-Frame-clause-meaning : goal.returns-in-Frame-clause-meaning
-returns-in-Frame-clause-meaning g c X rows =
-    rw c.in-Frame.is (frame_reads (story_of (g.T.Tables.game c.args.self.now.tables.now) X) c.args.held.now c.read_table.new.held c.read_table.result
+pub returns-in-TimeFrame-clause-meaning : goal.returns-in-TimeFrame-clause-meaning
+returns-in-TimeFrame-clause-meaning g c X rows =
+    rw c.in-TimeFrame.is (time_frame_reads (story_of (g.T.Tables.game c.args.self.now.tables.now) X) c.args.held.now c.read_table.new.held c.read_table.result
     (c.read_table.ensures.meaning X rows))
 
 pub returns-in-Response-clause-meaning : goal.returns-in-Response-clause-meaning

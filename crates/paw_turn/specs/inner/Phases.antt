@@ -1,4 +1,4 @@
--- What the stages of a turn come to in the reading. The contracts of private functions alone speak of this.
+-- What the phases of a turn come to in the reading. The contracts of private functions alone speak of this.
 use Rattle.std.specs.Prelude.{◌≡◌, ℕ, zero, suc, ◌+◌, ◌*◌, ◌<◌, ◌≤◌, ◌^◌, Bool, false, List, Option}
 use Rattle.std.specs.Prelude.{[], ◌∷◌, ◌++◌, length, reverse, if◌then◌else◌}
 use Rattle.std.specs.Fn.{Shared}
@@ -19,8 +19,8 @@ use Rattle.paw_reading.specs.declared.places.OpenLoop.{OpenLoop}
 use Rattle.paw_reading.specs.Run.{Run, Step as Read, closed, is_ignored}
 use Rattle.paw_reading.specs.Reading.{Halt, IsOver, RunsOut, CallsTooDeep, Out, table_read}
 use Rattle.paw_reading.specs.GoingOn.{on_path}
-use Rattle.paw_reading.specs.Turn.{Ending, Halted, AtDescribe, AtFrame, AtPhrase, AtResponse}
-use Rattle.paw_reading.specs.Turn.{table_done, turn, first_table, goes_on, TurnStage}
+use Rattle.paw_reading.specs.Turn.{Ending, Halted, AtDescribe, AtTimeFrame, AtPhrase, AtResponse}
+use Rattle.paw_reading.specs.Turn.{table_done, turn, first_table, goes_on, TurnPhase}
 use Rattle.paw_process.specs.OpenTables.{OpenTables}
 use Rattle.paw_process.specs.inner.OpenTables.{HasRead, IsClosed, refilled}
 use Rattle.paw_process.specs.inner.Meaning.{SamePast, ComesTo}
@@ -28,10 +28,10 @@ use Rattle.paw_process.specs.declared.Turned.{Turned}
 use Rattle.paw_process.specs.declared.Turned.TheVariants as turned
 use Rattle.paw_turn.specs.declared.Step.{Step}
 use Rattle.paw_turn.specs.declared.Step.TheVariants as step
-use Rattle.paw_turn.specs.declared.stage.Stage.{Stage}
-use Rattle.paw_turn.specs.declared.stage.Stage.TheVariants as stage
-use Rattle.paw_turn.specs.declared.stage.Next.{Next}
-use Rattle.paw_turn.specs.declared.stage.Next.TheVariants as next
+use Rattle.paw_turn.specs.declared.phase.Phase.{Phase}
+use Rattle.paw_turn.specs.declared.phase.Phase.TheVariants as phase
+use Rattle.paw_turn.specs.declared.phase.Next.{Next}
+use Rattle.paw_turn.specs.declared.phase.Next.TheVariants as next
 use Rattle.paw_turn.specs.declared.turn.Turn.{Turn}
 use Rattle.paw_turn.specs.inner.Player.{Seat, WaitsIn, StandsAt, StandsClosed}
 
@@ -71,13 +71,13 @@ HasReadSome m = (read : List Read) × HasRead read m
 abbrev pub having_read : List Read → Past → Past
 having_read read past = record past { read = read }
 
--- ---- stages ----
+-- ---- phases ----
 
-abbrev pub at_stage : Stage → TurnStage
-at_stage stage.Describe = AtDescribe
-at_stage stage.Frame = AtFrame
-at_stage stage.Phrase = AtPhrase
-at_stage stage.Response = AtResponse
+abbrev pub at_phase : Phase → TurnPhase
+at_phase phase.Describe = AtDescribe
+at_phase phase.TimeFrame = AtTimeFrame
+at_phase phase.Phrase = AtPhrase
+at_phase phase.Response = AtResponse
 
 -- a turn ends so for good, in a run with the same past
 abbrev pub TurnHalts : Halt → Run → Ending → Type 0
@@ -91,9 +91,9 @@ StopsAs g n step.Ended fs r x = x ≡ Halted IsOver (closed r)
 StopsAs g n (step.Spent kind) fs r x = TurnHalts (RunsOut kind) r x
 StopsAs g n (step.TooDeep u) fs r x = TurnHalts (CallsTooDeep u) r x
 
--- what a turn comes to is going on with the next stage, or it stops here
+-- what a turn comes to is going on with the next phase, or it stops here
 abbrev pub GoesOnAs : Story → ℕ → Next → List Frame → Run → Ending → Type 0
-GoesOnAs g n (next.Go s) fs r x = x ≡ turn g n (at_stage s) r
+GoesOnAs g n (next.Go s) fs r x = x ≡ turn g n (at_phase s) r
 GoesOnAs g n (next.Stop step) fs r x = StopsAs g n step fs r x
 
 -- what x says leads from what was held to what is held now, and no condact is read
@@ -116,17 +116,17 @@ PlaysAs g whole old next new =
     × ((n : ℕ) (lines : List (List ℕ)) →
     (m : ℕ) × GoesOnAs g n next new.machine.frames (run_now new (having_read read past) lines) (whole m past lines)))
 
--- the turn from a stage on
-abbrev pub from_stage : Story → Stage → Turn → ℕ → Past → List (List ℕ) → Ending
-from_stage g s h m past lines = turn g m (at_stage s) (run_now h past lines)
+-- the turn from a phase on
+abbrev pub from_phase : Story → Phase → Turn → ℕ → Past → List (List ℕ) → Ending
+from_phase g s h m past lines = turn g m (at_phase s) (run_now h past lines)
 
 -- going on from a prompt with a line
 abbrev pub from_prompt : Story → Prompt → Turn → List ℕ → ℕ → Past → List (List ℕ) → Ending
 from_prompt g p h line m past lines = goes_on g m p (reverse h.machine.frames) (run_now h past (line ∷ lines))
 
--- some stages from the first on lead from what was held to what is held now
-abbrev pub Plays : Story → Stage → Turn → Next → Turn → Type 0
-Plays g first old next new = PlaysAs g (from_stage g first old) old next new
+-- some phases from the first on lead from what was held to what is held now
+abbrev pub Plays : Story → Phase → Turn → Next → Turn → Type 0
+Plays g first old next new = PlaysAs g (from_phase g first old) old next new
 
 -- the machine has read what x says, from what was held to a stop
 abbrev pub RunsAs : Story → (Past → List (List ℕ) → Out) → Turn → Turned → Turn → Type 0
@@ -150,7 +150,7 @@ MovesAfter g t turned old next new =
     ComesTo g turned old.machine.frames (run_now old past lines) x →
     GoesOnAs g n next new.machine.frames (run_now new past lines) (table_done g (turn g n) t x)
 
--- ---- what stands between two stages ----
+-- ---- what stands between two phases ----
 
 -- the world is the game's, and it can make all draws that the piece may still ask for
 pub record IsPlayable (g : GameLists) (h : Turn) : Type 0 where
@@ -158,12 +158,12 @@ pub record IsPlayable (g : GameLists) (h : Turn) : Type 0 where
   pub budget : h.machine.left ≤ READ_LIMIT
   pub draws : h.situation.world.draws + h.machine.left < 2 ^ 64
 
--- a stage may begin: no table is open
+-- a phase may begin: no table is open
 pub record MayGoOn (g : GameLists) (h : Turn) : Type 0 where
   pub playable : IsPlayable g h
   pub closed : IsClosed h.machine
 
--- tables may be read in a stage
+-- tables may be read in a phase
 pub record MayRead {F : Type 0} (calls : Shared F (ℕ × (ℕ × Unit {0})) ℕ) (routines : Routines F)
     (g : GameLists) (h : Turn) : Type 0 where
   pub rows : HaveRows calls routines
@@ -177,7 +177,7 @@ pub record MayHear (g : GameLists) (p : Prompt) (h : Turn) : Type 0 where
   pub playable : IsPlayable g h
   pub stands : StandsAt p h.machine
 
--- before the next stage no table is open, and after a stop the machine stands as it does there
+-- before the next phase no table is open, and after a stop the machine stands as it does there
 abbrev pub StandsBefore : Next → OpenTables → Type 0
 StandsBefore (next.Go s) m = IsClosed m
 StandsBefore (next.Stop step) m = StandsClosed step m
@@ -188,7 +188,7 @@ pub record Stays (g : GameLists) (old new : Turn) : Type 0 where
   pub left : new.machine.left ≤ old.machine.left
   pub draws : new.situation.world.draws + new.machine.left ≤ old.situation.world.draws + old.machine.left
 
--- so it is after a stage, and the machine stands as what comes next wants it
+-- so it is after a phase, and the machine stands as what comes next wants it
 pub record KeepsGame (g : GameLists) (old : Turn) (next : Next) (new : Turn) : Type 0 where
   pub stays : Stays g old new
   pub machine : StandsBefore next new.machine
@@ -215,16 +215,16 @@ StopsInTable t (turned.TooDeep u) m = IsClosed m
 abbrev pub left_of : Turn → ℕ
 left_of h = length h.situation.pending.bytes + h.machine.left
 
-abbrev pub rank : Stage → ℕ
-rank stage.Phrase = 1
-rank stage.Frame = 2
-rank stage.Describe = 3
-rank stage.Response = 4
+abbrev pub rank : Phase → ℕ
+rank phase.Phrase = 1
+rank phase.TimeFrame = 2
+rank phase.Describe = 3
+rank phase.Response = 4
 
-abbrev pub work : Stage → Turn → ℕ
+abbrev pub work : Phase → Turn → ℕ
 work s h = 4 * left_of h + rank s
 
--- with the next stage there is less to do
+-- with the next phase there is less to do
 abbrev pub Falls : ℕ → Next → Turn → Type 0
 Falls most (next.Go s) new = work s new < most
 Falls most (next.Stop step) new = Unit {0}
@@ -260,17 +260,17 @@ or_spent shown n = if shown then n else next.Stop (step.Spent spent.Text)
 
 -- ---- tables ----
 
--- the stage in which table 0, 1 or 2 is read, by its rank
+-- the phase in which table 0, 1 or 2 is read, by its rank
 abbrev pub table_rank : ℕ → ℕ
 table_rank zero = 4
 table_rank (suc zero) = 3
 table_rank (suc (suc t)) = 2
 
--- once a table is left there is less to do than in its stage; where the location is described again, nothing was done
+-- once a table is left there is less to do than in its phase; where the location is described again, nothing was done
 -- yet
 abbrev pub FallsAfter : ℕ → Turned → Turn → Next → Turn → Type 0
 FallsAfter t (turned.Left acted) old next new = Falls (4 * left_of old + table_rank t) next new
-FallsAfter t turned.Redescribe old n new = (n ≡ next.Go stage.Describe) × (new ≡ old)
+FallsAfter t turned.Redescribe old n new = (n ≡ next.Go phase.Describe) × (new ≡ old)
 FallsAfter t (turned.Waits p) old next new = (m : ℕ) → Falls m next new
 FallsAfter t (turned.Spent kind) old next new = (m : ℕ) → Falls m next new
 FallsAfter t (turned.TooDeep u) old next new = (m : ℕ) → Falls m next new
