@@ -10,6 +10,7 @@ use Rattle.paw_base.specs.declared.limits.TheConstants.{READ_LIMIT}
 use Rattle.paw_base.specs.declared.messages.TheConstants.{DARK_MESSAGE, PROMPT_MESSAGE, UNKNOWN_MESSAGE}
 use Rattle.paw_base.specs.declared.messages.TheConstants.{NO_WAY_MESSAGE, IMPOSSIBLE_MESSAGE, LINE_MESSAGE}
 use Rattle.paw_base.specs.declared.messages.TheConstants.{TIMEOUT_MESSAGE}
+use Rattle.paw_base.specs.declared.tables.TheConstants.{RESPONSE_TABLE, DESCRIBED_TABLE, FRAME_TABLE}
 use Rattle.paw_base.specs.declared.words.TheConstants.{NO_WORD, FIRST_PLAIN_VERB}
 use Rattle.paw_base.specs.declared.fault.SpentKind.TheVariants as spent
 use Rattle.paw_game.specs.Game.{GameLists}
@@ -112,8 +113,9 @@ abbrev pub connected : Story → (TurnPhase → Sequel) → Run → Option ℕ �
 connected g go r None = saying (refusal_text g.game r.world) (go AtTimeFrame) (line_dropped r)
 connected g go r (Some to) = go AtDescribe (with_world (with_flag r.world LOCATION_FLAG to) r)
 
--- after table 0 comes the time frame where an action was carried out, and else the exit of the location for the verb is
--- looked for; after table 1 comes the time frame, after table 2 the fall of flags and the next phrase
+-- after RESPONSE_TABLE, 0, comes the time frame where an action was carried out, and else the exit of the location for
+-- the verb is looked for; after DESCRIBED_TABLE, 1, comes the time frame, after FRAME_TABLE, 2, the fall of flags and
+-- the next phrase
 abbrev pub after_left : Story → (TurnPhase → Sequel) → ℕ → Bool → Run → Ending
 after_left g go zero false r = connected g go r (exit_at g.game (flag r.world LOCATION_FLAG) (flag r.world VERB_FLAG))
 after_left g go (suc (suc t)) acted r = go AtPhrase (with_world (time_frame_passed r.world) r)
@@ -133,10 +135,11 @@ unfoldable pub turn : Story → ℕ → TurnPhase → Run → Ending
 turn g zero s r = Unended
 turn g (suc n) AtDescribe r =
     let view = view_text g.game (described r.world) in
-    saying view (λ s. table_done g (turn g n) 1 (table_read g 1 s)) (with_world (described r.world) r)
-turn g (suc n) AtTimeFrame r = table_done g (turn g n) 2 (table_read g 2 r)
+    saying view (λ s. table_done g (turn g n) DESCRIBED_TABLE (table_read g DESCRIBED_TABLE s))
+    (with_world (described r.world) r)
+turn g (suc n) AtTimeFrame r = table_done g (turn g n) FRAME_TABLE (table_read g FRAME_TABLE r)
 turn g (suc n) AtPhrase r = after_phrase g (turn g n) r (coming_phrase g r)
-turn g (suc n) AtResponse r = table_done g (turn g n) 0 (table_read g 0 r)
+turn g (suc n) AtResponse r = table_done g (turn g n) RESPONSE_TABLE (table_read g RESPONSE_TABLE r)
 
 -- how much a run may still read: what is left of the line, what the open piece may still read, and what each line
 -- brings

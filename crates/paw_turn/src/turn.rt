@@ -33,6 +33,7 @@ use paw_base::messages::{
     DARK_MESSAGE, IMPOSSIBLE_MESSAGE, LINE_MESSAGE, NO_WAY_MESSAGE, PROMPT_MESSAGE, UNKNOWN_MESSAGE,
 };
 use paw_base::piece::Piece;
+use paw_base::tables::{DESCRIBED_TABLE, FRAME_TABLE, RESPONSE_TABLE};
 use paw_base::words::FIRST_PLAIN_VERB;
 use paw_effects::act::Prompt;
 use paw_effects::opening::opening_world;
@@ -42,15 +43,6 @@ use paw_phrase::{Found, Pending};
 use paw_process::{Machine, Situation, Turned, take_phrase};
 use paw_routines::routines::Routines;
 use paw_world::world::World;
-
-/// The table that answers a sentence.
-const RESPONSE_TABLE: u8 = 0;
-
-/// The table that is read when a location was described.
-const DESCRIBED_TABLE: u8 = 1;
-
-/// The table that is read in each time frame.
-const TIME_FRAME_TABLE: u8 = 2;
 
 /// A turn in work: the situation that it changes, and the machine.
 #[derive(Drop)]
@@ -285,9 +277,9 @@ impl Turn {
         ensures machine { self.new.machine ≡ self.old.machine }
     {
         match table {
-            0 if acted => Next::Go(Phase::TimeFrame),
-            0 => self.connect(tables),
-            1 => Next::Go(Phase::TimeFrame),
+            RESPONSE_TABLE if acted => Next::Go(Phase::TimeFrame),
+            RESPONSE_TABLE => self.connect(tables),
+            DESCRIBED_TABLE => Next::Go(Phase::TimeFrame),
             _ => {
                 flags::pass_time_frame(&mut self.situation.world);
                 Next::Go(Phase::Phrase)
@@ -395,7 +387,7 @@ impl<T: Tables, F: Fn(u8, u8) -> u8> Rulebook<'_, T, F> {
     {
         match phase {
             Phase::Describe => self.describe(held),
-            Phase::TimeFrame => self.read_table(held, TIME_FRAME_TABLE),
+            Phase::TimeFrame => self.read_table(held, FRAME_TABLE),
             Phase::Phrase => held.phrase(self.tables),
             Phase::Response => self.read_table(held, RESPONSE_TABLE),
         }
