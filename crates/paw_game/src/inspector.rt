@@ -1,97 +1,56 @@
-// The rules that name words, locations or other rows of the game.
+// The rules of objects, exits and tables.
 
 ghost use Rattle.std.specs.Prelude.{◌≡◌, ◌&&◌, ◌==◌, ◌<◌, ◌^◌, IfSome, length, nat_lt};
 ghost use Rattle.std.specs.List.{list_all, list_any};
-ghost use Rattle.paw_game.specs.Game.{counts_of};
 ghost use Rattle.paw_game.specs.inner.Fault.{exits_fault, first_bad, objects_fault, tables_fault};
 ghost use Rattle.paw_game.specs.Valid.{are_exits, are_facts, is_condact, is_entry, is_exits, is_object};
-ghost use Rattle.paw_game.specs.Valid.{is_parameter, is_place, is_table, is_verb_value};
-ghost use Rattle.paw_game.specs.inner.Values.{Tells};
+ghost use Rattle.paw_game.specs.Valid.{is_table, is_verb_value};
 
 use crate::parts::{Entry, Exit, Exits, GameParts, ObjectRow, Table};
 use crate::rows::row_fault;
+use crate::rules::{Lengths, Rules};
 use crate::texts::is_text;
-use crate::values::{is_any, is_in_or_none, values_of};
+use crate::values::is_any;
 use paw_base::limits::{
     CONDACT_LIMIT, ENTRY_LIMIT, EXIT_LIMIT, OBJECT_LIMIT, TABLE_LEAST, TABLE_LIMIT, WEIGHT_LIMIT,
 };
 use paw_base::parts::{Condact, ObjectFacts};
-use paw_base::places::{CARRIED_PLACE, NOT_CREATED_PLACE};
-use paw_base::rows::{ParamKind, condact_row};
-use paw_base::words::{
-    ADJECTIVE_CLASS, ADVERB_CLASS, FIRST_PLAIN_NOUN, NOUN_CLASS, PREPOSITION_CLASS, VERB_CLASS,
-};
+use paw_base::rows::condact_row;
 use std::marker::Model;
 
-/// A game's lists, and which values its words have, by class. Contracts see the lists.
+/// A game's lists, and the rules of bytes that name their rows. Contracts see the lists.
 #[derive(Drop)]
 pub(crate) struct Inspector<'a> {
     parts: &'a GameParts,
-    verbs: [bool; 256],
-    adverbs: [bool; 256],
-    nouns: [bool; 256],
-    adjectives: [bool; 256],
-    prepositions: [bool; 256],
+    rules: Rules<'a>,
 }
 
 impl<'a> Model for Inspector<'a> {
-    ghost use Rattle.paw_base.specs.declared.words.TheConstants.{VERB_CLASS, ADVERB_CLASS, NOUN_CLASS};
-    ghost use Rattle.paw_base.specs.declared.words.TheConstants.{ADJECTIVE_CLASS, PREPOSITION_CLASS};
-    ghost use Rattle.paw_game.specs.Game.{GameLists};
-    ghost use Rattle.paw_game.specs.inner.Values.{Tells};
+    ghost use Rattle.std.specs.Prelude.{◌≡◌};
+    ghost use Rattle.paw_game.specs.Game.{GameLists, counts_of};
 
     ghost Value = { GameLists };
 
     ghost view = { λ i. i.parts.now };
 
-    ghost invariant = { λ i. Tells i.verbs i.parts.now.words VERB_CLASS
-        × Tells i.adverbs i.parts.now.words ADVERB_CLASS
-        × Tells i.nouns i.parts.now.words NOUN_CLASS
-        × Tells i.adjectives i.parts.now.words ADJECTIVE_CLASS
-        × Tells i.prepositions i.parts.now.words PREPOSITION_CLASS };
+    ghost invariant = { λ i. i.rules ≡ record { counts = counts_of i.parts.now; words = i.parts.now.words } };
 }
 
 impl<'a> Inspector<'a> {
     pub(crate) fn new(parts: &'a GameParts) -> Inspector<'a>
         ensures value { result ≡ parts.now }
     {
-        let words = parts.words.as_slice();
-        Inspector {
-            parts,
-            verbs: values_of(words, VERB_CLASS),
-            adverbs: values_of(words, ADVERB_CLASS),
-            nouns: values_of(words, NOUN_CLASS),
-            adjectives: values_of(words, ADJECTIVE_CLASS),
-            prepositions: values_of(words, PREPOSITION_CLASS),
-        }
-    }
-
-    fn is_verb_value(&self, value: u8) -> bool
-        ensures value { result ≡ is_verb_value self.now.words value }
-    {
-        self.verbs[value as usize] || value < FIRST_PLAIN_NOUN && self.nouns[value as usize]
+        let rules = Rules::new(Lengths::of(parts), parts.words.as_slice());
+        Inspector { parts, rules }
     }
 
     fn are_facts(&self, facts: &ObjectFacts) -> bool
         ensures value { result ≡ are_facts self.now.words (length self.now.locations) facts.now }
     {
-        is_in_or_none(&self.nouns, facts.noun)
-            && is_in_or_none(&self.adjectives, facts.adjective)
-            && self.is_place(facts.start)
+        self.rules.is_noun_or_none(facts.noun)
+            && self.rules.is_adjective_or_none(facts.adjective)
+            && self.rules.is_place(facts.start)
             && facts.weight <= WEIGHT_LIMIT
-    }
-
-    fn is_place(&self, place: u8) -> bool
-        ensures value { result ≡ is_place (length self.now.locations) place }
-    {
-        self.is_location(place) || matches!(place, NOT_CREATED_PLACE..=CARRIED_PLACE)
-    }
-
-    fn is_location(&self, place: u8) -> bool
-        ensures value { result ≡ nat_lt place (length self.now.locations) }
-    {
-        let parts = self.parts;
-        (place as usize) < parts.locations.len()
     }
 
     /// The row to name of the objects, where one breaks a rule or there are too many.
@@ -163,7 +122,7 @@ impl<'a> Inspector<'a> {
         ensures value { result ≡
             (is_verb_value self.now.words exit.now.verb && nat_lt exit.now.to (length self.now.locations)) }
     {
-        self.is_verb_value(exit.verb) && self.is_location(exit.to)
+        self.rules.is_verb_value(exit.verb) && self.rules.is_location(exit.to)
     }
 
     /// The row to name of the tables, where one breaks a rule or there are too many or too few.
@@ -205,8 +164,8 @@ impl<'a> Inspector<'a> {
         ensures value { result ≡ is_entry self.now entry.now }
     {
         let condacts = &entry.condacts;
-        (is_any(entry.verb) || self.is_verb_value(entry.verb))
-            && (is_any(entry.noun) || self.nouns[entry.noun as usize])
+        (is_any(entry.verb) || self.rules.is_verb_value(entry.verb))
+            && (is_any(entry.noun) || self.rules.is_noun(entry.noun))
             && condacts.rows.len() <= CONDACT_LIMIT
             && self.are_condacts(condacts.rows.as_slice())
     }
@@ -221,29 +180,9 @@ impl<'a> Inspector<'a> {
         ensures value { result ≡ is_condact self.now condact }
     {
         match condact_row(condact.code) {
-            Some(row) => self.is_parameter(row.first, condact.a)
-                && self.is_parameter(row.second, condact.b),
+            Some(row) => self.rules.is_parameter(row.first, condact.a)
+                && self.rules.is_parameter(row.second, condact.b),
             None => false,
-        }
-    }
-
-    fn is_parameter(&self, kind: ParamKind, value: u8) -> bool
-        ensures value { result ≡ is_parameter (counts_of self.now) self.now.words kind value }
-    {
-        let parts = self.parts;
-        match kind {
-            ParamKind::Absent => value == 0,
-            ParamKind::Location => self.is_location(value),
-            ParamKind::Place => self.is_location(value) || value >= NOT_CREATED_PLACE,
-            ParamKind::Object => (value as usize) < parts.objects.len(),
-            ParamKind::Flag | ParamKind::Number => true,
-            ParamKind::Message => (value as usize) < parts.messages.len(),
-            ParamKind::System => (value as usize) < parts.system.len(),
-            ParamKind::Table => (value as usize) < parts.tables.len(),
-            ParamKind::Adverb => is_in_or_none(&self.adverbs, value),
-            ParamKind::Noun => is_in_or_none(&self.nouns, value),
-            ParamKind::Adjective => is_in_or_none(&self.adjectives, value),
-            ParamKind::Preposition => is_in_or_none(&self.prepositions, value),
         }
     }
 }

@@ -7,6 +7,7 @@ mod inspector;
 pub mod lookup;
 pub mod parts;
 mod rows;
+pub mod rules;
 pub mod tables;
 #[cfg(test)]
 mod tests;

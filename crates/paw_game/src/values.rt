@@ -17,14 +17,14 @@ pub fn is_any(value: u8) -> bool
 }
 
 /// Whether a table of values has this one, or it is 255, which stands for no word.
-pub fn is_in_or_none(values: &[bool; 256], value: u8) -> bool
+pub(crate) fn is_in_or_none(values: &[bool; 256], value: u8) -> bool
     ensures value { result ≡ ((value == NO_WORD) || slice_index_or values.now value false) }
 {
     value == NO_WORD || values[value as usize]
 }
 
 /// Which values the words of a class have.
-pub fn values_of(words: &[Word], class: u8) -> [bool; 256]
+pub(crate) fn values_of(words: &[Word], class: u8) -> [bool; 256]
     ensures value { Tells result words.now class }
 {
     let mut values = [false; 256];

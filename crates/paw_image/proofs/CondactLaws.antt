@@ -12,7 +12,8 @@ use Rattle.paw_base.specs.declared.rows.ParamKind.TheVariants as kind
 use Rattle.paw_base.specs.Condacts.{first_kind, second_kind}
 use Rattle.paw_game.specs.Image.{parameter_image, condact_image}
 use Rattle.paw_image.specs.inner.CondactMarks.{IsEnd, GoesOnAt, AreMarks, KeepsPlaces, MarkEntry, MarkEntries}
-use Rattle.paw_image.specs.Damage.{Declared, Passing, each, after_condact}
+use Rattle.paw_game.specs.Game.{Declared}
+use Rattle.paw_image.specs.Damage.{Passing, each, after_condact}
 use Rattle.paw_faults.specs.Bind.{◌>>=◌}
 use Rattle.paw_image.specs.Reading.{byte_at}
 use Rattle.paw_faults.specs.inner.Gives.{Fails}

@@ -6,7 +6,8 @@ use Rattle.std.proofs.lemmas.List.{append-nil, map-append}
 use Rattle.paw_faults.specs.declared.unread.Unread.{Unread}
 use Rattle.paw_faults.specs.declared.unread.Unread.TheVariants as fault
 use Rattle.paw_faults.specs.inner.Gives.{Fails}
-use Rattle.paw_image.specs.Damage.{Declared, Passing, each, exit_kept, after_exits_of, after_table}
+use Rattle.paw_game.specs.Game.{Declared}
+use Rattle.paw_image.specs.Damage.{Passing, each, exit_kept, after_exits_of, after_table}
 use Rattle.paw_image.specs.inner.Offsets.{begins, entries_begin, entries_of, tables_begin}
 use Rattle.paw_image.specs.declared.offsets.TableIndex.{TableIndex}
 

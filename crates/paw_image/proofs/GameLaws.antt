@@ -4,10 +4,10 @@ use Rattle.std.proofs.Common.{◌≡◌, ℕ, eqb, List, [], ◌++◌, length, O
 use Rattle.std.specs.List.{flat_map}
 use Rattle.std.proofs.lemmas.Bool.{eqb-true}
 use Rattle.std.proofs.lemmas.List.{append-nil, nil_from_length}
-use Rattle.paw_game.specs.Game.{GameLists}
+use Rattle.paw_game.specs.Game.{GameLists, Declared}
 use Rattle.paw_game.specs.Valid.{Valid}
 use Rattle.paw_game.specs.Image.{text_image, object_image, exits_image, table_image, image}
-use Rattle.paw_image.specs.Damage.{Declared, front}
+use Rattle.paw_image.specs.Damage.{front}
 use Rattle.paw_image.specs.inner.Reading.{leading_rows, text_at, object_at, exits_at, leading_table}
 use Rattle.paw_image.specs.inner.Reading.{game_with, lists_at, all_of}
 use Rattle.paw_image.specs.inner.Sizes.{FitsText, FitsObject, FitsExits, FitsTable, FitsGame}

@@ -12,13 +12,13 @@ use Rattle.std.proofs.lemmas.List.{length-append}
 use Rattle.std.proofs.lemmas.Slice.Eq.{bytes_eq-Decides}
 use Rattle.paw_base.specs.declared.parts.Counts.{Counts}
 use Rattle.paw_game.specs.declared.parts.Word.{Word}
-use Rattle.paw_game.specs.Game.{GameLists, counts_of}
+use Rattle.paw_game.specs.Game.{GameLists, counts_of, Declared}
 use Rattle.paw_game.specs.Valid.{is_within, are_letters, is_word}
 use Rattle.paw_game.specs.Image.{two_bytes, word_image}
 use Rattle.paw_game.proofs.Faults.{rise_after}
 use Rattle.paw_faults.specs.Bind.{◌>>=◌}
 use Rattle.paw_image.specs.Reading.{byte_at, bytes_at, number_at}
-use Rattle.paw_image.specs.Damage.{Declared, number_kept, after_version, counts_kept, word_kept, words_above, front}
+use Rattle.paw_image.specs.Damage.{number_kept, after_version, counts_kept, word_kept, words_above, front}
 use Rattle.paw_image.proofs.FieldLaws.{IsBytes, Takes, Takes-then, at_ok, bind_then, byte_takes, bytes_take, bytes_again}
 use Rattle.paw_image.proofs.FieldLaws.{number_takes}
 use Rattle.paw_image.proofs.PassRows.{within_passes}

@@ -14,7 +14,8 @@ use Rattle.paw_game.specs.Valid.{is_within, is_printed, is_text, is_word_or_none
 use Rattle.paw_game.specs.Valid.{is_object, is_verb_value, are_exits, is_exits, is_any, is_parameter, has_word}
 use Rattle.paw_faults.specs.Bind.{◌>>=◌}
 use Rattle.paw_image.specs.Reading.{byte_at}
-use Rattle.paw_image.specs.Damage.{Declared, field_kept, number_kept, after_text, after_facts, after_object}
+use Rattle.paw_game.specs.Game.{Declared}
+use Rattle.paw_image.specs.Damage.{field_kept, number_kept, after_text, after_facts, after_object}
 use Rattle.paw_image.specs.Damage.{exit_kept, after_exits_of, after_exits, after_parameter}
 use Rattle.paw_image.specs.Damage.{after_condact, after_entry, after_table}
 use Rattle.paw_image.proofs.FieldLaws.{bytes_again, number_again}

@@ -12,7 +12,7 @@ use Rattle.paw_base.specs.declared.rows.ParamKind.TheVariants as kind
 use Rattle.paw_base.specs.Condacts.{first_kind, second_kind}
 use Rattle.paw_game.specs.declared.parts.Exit.{Exit}
 use Rattle.paw_game.specs.declared.parts.Entry.{Entry}
-use Rattle.paw_game.specs.Game.{GameLists, counts_of}
+use Rattle.paw_game.specs.Game.{GameLists, counts_of, Declared}
 use Rattle.paw_game.specs.Image.{two_bytes, text_image, exit_image, parameter_image, condact_image, entry_image, table_image}
 use Rattle.paw_game.specs.Valid.{is_within, is_printed, is_text, is_word_or_none, is_place, are_facts}
 use Rattle.paw_game.specs.Valid.{is_object, is_verb_value, are_exits, is_exits, is_parameter}
@@ -21,7 +21,7 @@ use Rattle.paw_faults.specs.Bind.{◌>>=◌}
 use Rattle.paw_image.specs.Reading.{byte_at, bytes_at, number_at}
 use Rattle.paw_image.specs.inner.Reading.{few_at, pair_at, leading_rows, text_at, facts_with, leading_facts, object_at, leading_exit, exits_at}
 use Rattle.paw_image.specs.inner.Reading.{code_at, parameter_at, leading_condact, leading_entry, leading_table}
-use Rattle.paw_image.specs.Damage.{Declared, field_kept, each, after_text, after_facts, after_object}
+use Rattle.paw_image.specs.Damage.{field_kept, each, after_text, after_facts, after_object}
 use Rattle.paw_image.specs.Damage.{exit_kept, after_exits_of, after_exits, after_parameter}
 use Rattle.paw_image.specs.Damage.{after_condact, after_entry, after_table}
 use Rattle.paw_image.specs.inner.Offsets.{offsets, entry_offsets, entries_begin, tables_begin}

@@ -9,11 +9,11 @@ use Rattle.paw_base.specs.declared.parts.Counts.{Counts}
 use Rattle.paw_game.specs.declared.parts.Word.{Word}
 use Rattle.paw_game.specs.declared.parts.Entry.{Entry}
 use Rattle.paw_game.specs.declared.parts.GamePart.{GamePart}
-use Rattle.paw_game.specs.Game.{GameLists}
+use Rattle.paw_game.specs.Game.{GameLists, Declared}
 use Rattle.paw_game.specs.Image.{entry_image}
 use Rattle.paw_game.specs.Tables.{head_at, condact_at, entry_at}
 use Rattle.paw_game.specs.inner.Tables.{text_at, match_at}
-use Rattle.paw_image.specs.Damage.{Declared, after_all, bad}
+use Rattle.paw_image.specs.Damage.{after_all, bad}
 use Rattle.paw_image.specs.inner.CondactMarks.{IsMarked, MarkEntry}
 use Rattle.paw_image.specs.Images.{IsImage}
 use Rattle.paw_image.specs.inner.Images.{AtDamage}

@@ -4,7 +4,7 @@ use Rattle.std.proofs.Common.{refl, sym, ap, subst, ◌∙◌, inl, inr, arith}
 use Rattle.std.specs.List.{flat_map, list_all}
 use Rattle.std.proofs.lemmas.Bool.{and_parts, cases_lt, lt-ltb, le-ltb, eq-eqb}
 use Rattle.std.proofs.lemmas.Option.{none-some}
-use Rattle.paw_game.specs.Game.{GameLists}
+use Rattle.paw_game.specs.Game.{GameLists, Declared}
 use Rattle.paw_game.specs.Valid.{Valid, is_within, is_word, words_rise, is_text, is_object, is_exits}
 use Rattle.paw_game.specs.Image.{word_image, text_image, object_image, exits_image, table_image, image}
 use Rattle.paw_game.proofs.Faults.{rise_after, rise_after-none}
@@ -12,7 +12,7 @@ use Rattle.paw_base.specs.declared.limits.TheConstants.{IMAGE_LIMIT}
 use Rattle.paw_image.specs.inner.CondactMarks.{IsEnd}
 use Rattle.paw_image.specs.Images.{IsImage}
 use Rattle.paw_image.specs.inner.Reading.{text_at, object_at, exits_at, lists_at, all_of}
-use Rattle.paw_image.specs.Damage.{Declared, Passing, each, after_text, after_object, after_exits, after_table}
+use Rattle.paw_image.specs.Damage.{Passing, each, after_text, after_object, after_exits, after_table}
 use Rattle.paw_image.specs.Damage.{after_lists, front, after_all, place_in, bad}
 use Rattle.paw_image.specs.inner.Offsets.{offsets, entry_offsets, entries_of, AreGoneOver}
 use Rattle.paw_image.specs.inner.Views.{system_begins}

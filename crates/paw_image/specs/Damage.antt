@@ -19,7 +19,7 @@ use Rattle.paw_base.specs.declared.rows.ParamKind.{ParamKind}
 use Rattle.paw_base.specs.declared.rows.ParamKind.TheVariants as kind
 use Rattle.paw_base.specs.Condacts.{first_kind, second_kind}
 use Rattle.paw_game.specs.declared.parts.Word.{Word}
-use Rattle.paw_game.specs.Game.{counts_with}
+use Rattle.paw_game.specs.Game.{Declared, counts_with}
 use Rattle.paw_game.specs.Valid.{is_within, are_letters, has_word, is_verb_value}
 use Rattle.paw_game.specs.Valid.{is_word_or_none, is_printed, is_place, is_any, is_parameter}
 use Rattle.paw_faults.specs.Bind.{◌>>=◌}
@@ -79,11 +79,6 @@ words_above before (suc n) bytes = do
   first ← word_kept before bytes
   others ← words_above first.0.letters n first.1
   Ok (first.0 ∷ others.0, others.1)
-
--- what the fields so far say that later rules name: how many rows there are, and the words
-pub record Declared : Type 0 where
-  pub counts : Counts
-  pub words : List Word
 
 -- ---- texts, objects, exits ----
 

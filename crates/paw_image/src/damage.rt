@@ -13,10 +13,10 @@ use crate::fault::ReadFault;
 use crate::head::read_front;
 use crate::offsets::{Offsets, pass_lists};
 use crate::refusal::ImageRefusal;
-use crate::rules::Rules;
 use paw_base::parts::Counts;
 use paw_faults::unread::Unread;
 use paw_game::parts::Word;
+use paw_game::rules::{Lengths, Rules};
 use std::alloc::Global;
 
 /// The counts and the words of an image, and where its other rows begin.
@@ -35,9 +35,8 @@ fn pass_all(alloc: Global, bytes: &[u8]) -> Result<(Passed, &[u8]), ReadFault>
     ensures passed { IfOk result (λ x. IsPassed bytes.now x.0.counts x.0.words.items x.0.offsets) }
 {
     let ((counts, words), rest) = read_front(alloc, bytes)?;
-    let rules = Rules::new(counts, words);
+    let rules = Rules::new(Lengths::from_counts(counts), &words);
     let (offsets, rest) = pass_lists(alloc, &rules, bytes, rest)?;
-    let (counts, words) = rules.into_parts();
     let passed = Passed {
         counts,
         words,

@@ -12,8 +12,8 @@ use crate::fault::ReadFault;
 use crate::fields::{fault_at, read_byte, read_pair};
 use crate::in_place::InPlace;
 use crate::rows::{ReadRow, Row, length_of_few, read_few, write_few};
-use crate::rules::Rules;
 use paw_game::parts::{Exit, Exits};
+use paw_game::rules::Rules;
 use std::alloc::{AllocError, Global};
 
 impl ReadRow for Exit {

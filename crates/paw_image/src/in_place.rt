@@ -6,13 +6,14 @@ ghost use Rattle.paw_image.specs.inner.Offsets.{begins};
 ghost use Rattle.paw_faults.specs.inner.Gives.{Gives};
 
 use crate::fault::ReadFault;
-use crate::rules::Rules;
+use paw_game::rules::Rules;
 use std::alloc::Global;
 
 /// What an image has a list of, gone over in place.
 pub trait InPlace {
     ghost use Rattle.std.specs.Prelude.{List, ℕ};
-    ghost use Rattle.paw_image.specs.Damage.{Declared, Passing};
+    ghost use Rattle.paw_game.specs.Game.{Declared};
+    ghost use Rattle.paw_image.specs.Damage.{Passing};
     ghost use Rattle.paw_faults.specs.inner.Gives.{Gives};
 
     /// The bytes after the row at the front, or its first fault.

@@ -18,7 +18,6 @@ mod order;
 mod parts;
 pub mod refusal;
 mod rows;
-mod rules;
 mod tables;
 #[cfg(test)]
 mod tests;

@@ -9,9 +9,9 @@ ghost use Rattle.paw_faults.specs.inner.Gives.{Gives};
 use crate::fault::ReadFault;
 use crate::fields::{fault_at, read_byte};
 use crate::in_place::pass_each;
-use crate::rules::Rules;
 use paw_base::limits::ENTRY_LIMIT;
 use paw_base::parts::Condact;
+use paw_game::rules::Rules;
 use paw_game::values::is_any;
 use std::alloc::Global;
 

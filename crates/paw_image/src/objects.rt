@@ -12,10 +12,10 @@ use crate::fault::ReadFault;
 use crate::fields::{fault_at, read_byte};
 use crate::in_place::InPlace;
 use crate::rows::{ReadRow, Row};
-use crate::rules::Rules;
 use crate::texts::read_text;
 use paw_base::parts::ObjectFacts;
 use paw_game::parts::{ObjectRow, Text};
+use paw_game::rules::Rules;
 use std::alloc::{AllocError, Global};
 
 /// The bits of an object's last byte that are its weight.

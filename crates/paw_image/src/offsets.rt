@@ -14,9 +14,9 @@ use crate::fields::read_within;
 use crate::in_place::pass_rows;
 use crate::marks::{CondactMarks, pass_entries};
 use crate::order::{Order, order_of};
-use crate::rules::Rules;
 use paw_base::limits::ENTRY_LIMIT;
 use paw_game::parts::{Exits, ObjectRow, Text};
+use paw_game::rules::Rules;
 use std::alloc::Global;
 
 /// Where the rows of each list begin.
@@ -101,26 +101,14 @@ pub fn pass_lists<'a>(
     ensures order { IfOk result (λ x. AreOrdered all.now x.0) }
     ensures marked { IsEnd all.now bytes.now → IfOk result (λ x. AreMarked all.now x.0) }
 {
-    let counts = rules.counts();
+    let lengths = rules.lengths();
     let total = all.len();
-    let (system, rest) = pass_rows::<Text>(alloc, rules, counts.system as usize, total, bytes)?;
-    let (messages, rest) = pass_rows::<Text>(alloc, rules, counts.messages as usize, total, rest)?;
-    let (objects, rest) = pass_rows::<ObjectRow>(
-        alloc,
-        rules,
-        counts.objects as usize,
-        total,
-        rest,
-    )?;
-    let (locations, rest) = pass_rows::<Text>(
-        alloc,
-        rules,
-        counts.locations as usize,
-        total,
-        rest,
-    )?;
-    let (exits, rest) = pass_rows::<Exits>(alloc, rules, counts.locations as usize, total, rest)?;
-    let (tables, rest) = pass_tables(alloc, rules, counts.tables as usize, all, rest)?;
+    let (system, rest) = pass_rows::<Text>(alloc, rules, lengths.system, total, bytes)?;
+    let (messages, rest) = pass_rows::<Text>(alloc, rules, lengths.messages, total, rest)?;
+    let (objects, rest) = pass_rows::<ObjectRow>(alloc, rules, lengths.objects, total, rest)?;
+    let (locations, rest) = pass_rows::<Text>(alloc, rules, lengths.locations, total, rest)?;
+    let (exits, rest) = pass_rows::<Exits>(alloc, rules, lengths.locations, total, rest)?;
+    let (tables, rest) = pass_tables(alloc, rules, lengths.tables, all, rest)?;
     let offsets = Offsets {
         system,
         messages,

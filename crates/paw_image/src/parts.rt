@@ -3,7 +3,7 @@
 ghost use Rattle.std.specs.Prelude.{◌≡◌, ◌<◌, ◌^◌, ◌++◌, length, OnOk};
 ghost use Rattle.paw_game.specs.Image.{head_image, image};
 ghost use Rattle.paw_image.specs.inner.Sizes.{FitsCounts, FitsGame};
-ghost use Rattle.paw_image.specs.Damage.{Declared};
+ghost use Rattle.paw_game.specs.Game.{Declared};
 ghost use Rattle.paw_faults.specs.inner.Gives.{Gives};
 ghost use Rattle.paw_image.specs.inner.Reading.{lists_at, all_of};
 

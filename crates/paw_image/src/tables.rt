@@ -15,11 +15,11 @@ use crate::in_place::InPlace;
 use crate::rows::{
     ReadRow, Row, length_of_few, length_of_rows, read_few, read_rows, write_few, write_rows,
 };
-use crate::rules::Rules;
 use paw_base::parts::Condact;
 use paw_base::rows::{CondactRow, ParamKind, condact_row};
 use paw_faults::unread::Unread;
 use paw_game::parts::{Condacts, Entry, Table};
+use paw_game::rules::Rules;
 use std::alloc::{AllocError, Global};
 
 /// A code of a condact, and what the table of condacts says of it.

@@ -11,9 +11,9 @@ use crate::fault::ReadFault;
 use crate::fields::{fault_at, read_bytes, read_number, read_within, write_number};
 use crate::in_place::InPlace;
 use crate::rows::{ReadRow, Row};
-use crate::rules::Rules;
 use paw_base::limits::TEXT_LIMIT;
 use paw_game::parts::Text;
+use paw_game::rules::Rules;
 use paw_game::texts::is_printed;
 use std::alloc::{AllocError, Global};
 

@@ -9,7 +9,8 @@ use Rattle.paw_game.specs.Image.{entry_image, table_image}
 use Rattle.paw_image.specs.declared.offsets.Offsets.{Offsets}
 use Rattle.paw_image.specs.declared.offsets.TableIndex.{TableIndex}
 use Rattle.paw_image.specs.inner.CondactMarks.{IsEnd, IsMarked}
-use Rattle.paw_image.specs.Damage.{Declared, Passing, front, each, number_kept, after_text}
+use Rattle.paw_game.specs.Game.{Declared}
+use Rattle.paw_image.specs.Damage.{Passing, front, each, number_kept, after_text}
 use Rattle.paw_image.specs.Damage.{after_object, after_exits, after_entry, after_table}
 use Rattle.paw_image.specs.inner.Orders.{IsOrder}
 use Rattle.paw_faults.specs.Bind.{◌>>=◌}

@@ -12,8 +12,8 @@ use Rattle.paw_game.specs.declared.parts.Word.{Word}
 use Rattle.paw_game.specs.declared.parts.ObjectRow.{ObjectRow}
 use Rattle.paw_game.specs.declared.parts.Exit.{Exit}
 use Rattle.paw_game.specs.declared.parts.Entry.{Entry}
-use Rattle.paw_game.specs.Game.{GameLists}
-use Rattle.paw_image.specs.Damage.{Declared, front}
+use Rattle.paw_game.specs.Game.{GameLists, Declared}
+use Rattle.paw_image.specs.Damage.{front}
 use Rattle.paw_faults.specs.Bind.{◌>>=◌}
 use Rattle.paw_image.specs.Reading.{Reading, byte_at, bytes_at, number_at}
 
