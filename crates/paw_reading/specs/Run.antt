@@ -69,7 +69,9 @@ is_ignored w line = is_timeout line && (flag w TIMEOUT_FLAG == 0)
 
 -- bit 7 of a flag tells whether the last line was a timeout; its other bits stay
 abbrev pub with_timeout : Bool → World → World
-with_timeout b w = with_flag w TIMED_OUT_FLAG ((if b then TIMED_OUT_BIT else 0) + flag w TIMED_OUT_FLAG % TIMED_OUT_BIT)
+with_timeout b w =
+    let rest = flag w TIMED_OUT_FLAG % TIMED_OUT_BIT in
+    with_flag w TIMED_OUT_FLAG (if b then TIMED_OUT_BIT + rest else rest)
 
 -- the line is heard: a flag tells whether it is a timeout
 abbrev pub heard : List ℕ → Run → Run
