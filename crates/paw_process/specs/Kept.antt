@@ -1,5 +1,5 @@
 -- What is kept of a machine that waits, and the rules that it keeps.
-use Rattle.std.specs.Prelude.{ℕ, suc, ◌-◌, ◌==◌, ◌&&◌, Bool, false, not, List, [], ◌∷◌, ◌++◌, Option, Some}
+use Rattle.std.specs.Prelude.{ℕ, suc, ◌-◌, ◌==◌, ◌&&◌, Bool, true, false, not, List, [], ◌∷◌, ◌++◌, Option, Some}
 use Rattle.std.specs.Prelude.{None, length, reverse, replicate, slice_get, nat_lt, nat_le, if◌then◌else◌}
 use Rattle.std.specs.Option.{option_map, option_map_or, option_or, unwrap_or}
 use Rattle.paw_base.specs.declared.codes.TheConstants.{PROCESS, DOALL}
