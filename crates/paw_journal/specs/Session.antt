@@ -1,5 +1,5 @@
 -- How a session lies in the bytes of a store, and what bytes of a store stand for.
-use Rattle.std.specs.Prelude.{◌==◌, ◌&&◌, ◌||◌, ℕ, ◌+◌, ◌-◌, ◌*◌, ◌%◌, Bool, not, nat_lt, nat_le, List}
+use Rattle.std.specs.Prelude.{◌==◌, ◌&&◌, ◌||◌, ℕ, ◌+◌, ◌*◌, ◌%◌, Bool, not, nat_lt, nat_le, List}
 use Rattle.std.specs.Prelude.{[]}
 use Rattle.std.specs.Prelude.{◌∷◌, ◌++◌, length, take, drop, slice_index, slice_set, position, Option, Some}
 use Rattle.std.specs.Prelude.{None, if◌then◌else◌}
@@ -133,8 +133,8 @@ pub data Recovered : Type 0 where
   Damaged : (part : SessionPart) (at : ℕ) → Recovered
   Shown : (digest state piece : List ℕ) → Recovered
 
--- What a slot shows where this is its first change that isn't sound: it is damaged there. With none it shows its state and
--- its piece.
+-- What a slot shows where this is its first change that isn't sound: it is damaged there. With none it shows its state
+-- and its piece.
 abbrev pub shown_unless : List ℕ → List ℕ → Option ℕ → Recovered
 shown_unless digest bytes (Some n) = Damaged part.Slot (69696 + 4 * n)
 shown_unless digest bytes None = Shown digest (shown_state bytes) (slot_piece bytes)

@@ -1,10 +1,10 @@
 -- How a session lies in the bytes of a store, and what bytes of a store stand for: words that contracts between crates
 -- and proofs use beside those of specs/Session.antt.
-use Rattle.std.specs.Prelude.{◌≡◌, ◌&&◌, ℕ, ◌+◌, ◌-◌, Bool, is_none, nat_le, List}
+use Rattle.std.specs.Prelude.{◌≡◌, ◌&&◌, ℕ, ◌-◌, Bool, is_none, nat_le, List}
 use Rattle.std.specs.Prelude.{◌∷◌, ◌++◌, length, take, drop}
 use Rattle.paw_base.specs.Bytes.{zeros}
 use Rattle.paw_journal.specs.declared.refusal.SessionPart.TheVariants as part
-use Rattle.paw_journal.specs.Session.{two_byte_number, made_mark, mark, slot, most_changes, base, slot_changes}
+use Rattle.paw_journal.specs.Session.{two_byte_number, made_mark, mark, most_changes, slot_changes}
 use Rattle.paw_journal.specs.Session.{first_unsound, state_length, Recovered, Damaged, Shown, slot_shows}
 
 -- A slot's state is its base with its change records applied. It has one where these are few enough, and each is sound.
