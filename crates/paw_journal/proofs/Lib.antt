@@ -1,3 +1,4 @@
+pub mod Serving
 pub mod Parts
 pub mod Puts
 pub mod Recovers

@@ -1,11 +1,11 @@
 // The steps of a commit: the slot that isn't in use, and then the selector.
 
-ghost use Rattle.std.specs.Prelude.{◌≡◌, ◌+◌, ◌-◌, ◌≤◌, ◌↔◌, length, IsSome, OnOk, IfErr};
+ghost use Rattle.std.specs.Prelude.{◌≡◌, ◌+◌, ◌-◌, ◌≤◌, length, IsSome, OnOk};
 ghost use Rattle.paw_base.specs.declared.limits.TheConstants.{PIECE_LIMIT};
 ghost use Rattle.paw_stage.specs.Disk.{put};
-ghost use Rattle.paw_stage.specs.Stage.{Standing, Faulted};
+ghost use Rattle.paw_stage.specs.Stage.{Standing};
 ghost use Rattle.paw_stage.specs.inner.Stage.{WritesAtMost};
-ghost use Rattle.paw_stage.specs.Across.{Across, EachMoment};
+ghost use Rattle.paw_stage.specs.Across.{Across, EachMoment, Serves};
 ghost use Rattle.paw_stage.specs.inner.Across.{Once, Throughout};
 ghost use Rattle.paw_journal.specs.Session.{chosen, session_length, slot_length};
 ghost use Rattle.paw_journal.specs.inner.Room.{slot_number};
@@ -13,7 +13,7 @@ ghost use Rattle.paw_journal.specs.inner.Store.{IsBeside, LeavesSame, LeavesSlot
 ghost use Rattle.paw_journal.specs.inner.Steps.{IsMade, IsFilling, KeepsFilling, Fills};
 ghost use Rattle.paw_journal.specs.inner.Steps.{SameSlots, SameDigest, ChoosesSlot};
 ghost use Rattle.paw_journal.specs.inner.Steps.{slot_head, written_slot};
-ghost use Rattle.paw_journal.specs.Journal.{IsWriting};
+ghost use Rattle.paw_journal.specs.Journal.{writing_calls};
 ghost use Rattle.paw_journal.specs.inner.Journal.{IsAtRest, failed_stage_call};
 
 use crate::drafting::Draft;
@@ -35,9 +35,7 @@ pub(crate) fn write_slot<S: Stage>(
     requires beside { S.Tells stage.old → chosen (S.standing stage.old).disk.bytes ≡ 1 - slot_number which }
     requires inside { draft.at + length bytes.now ≤ slot_length }
     requires short { length piece.now ≤ PIECE_LIMIT }
-    ensures tells { S.Tells stage.old ↔ S.Tells stage.new }
-    ensures cause { IfErr result IsWriting }
-    ensures faulted { Faulted (failed_stage_call result) (S.faults stage.old) (S.faults stage.new) }
+    ensures serves { Serves S.Stage writing_calls (failed_stage_call result) stage.old stage.new }
     ensures few { Across S.Stage stage.old stage.new (WritesAtMost (length bytes.now + length piece.now + 3)) }
     ensures rests { S.Tells stage.old → OnOk result (IsAtRest (S.standing stage.new)) }
     ensures filled { Once S.Stage stage.old stage.new result (IsFilling (slot_number which)) }
@@ -68,9 +66,7 @@ fn write_part<S: Stage>(
     requires attached { S.Tells stage.old → IsSome (S.standing stage.old).attached }
     requires long { S.Tells stage.old → length (S.standing stage.old).disk.bytes ≡ session_length }
     requires inside { at + length bytes.now ≤ slot_length }
-    ensures tells { S.Tells stage.old ↔ S.Tells stage.new }
-    ensures cause { IfErr result IsWriting }
-    ensures faulted { Faulted (failed_stage_call result) (S.faults stage.old) (S.faults stage.new) }
+    ensures serves { Serves S.Stage writing_calls (failed_stage_call result) stage.old stage.new }
     ensures few { Across S.Stage stage.old stage.new (WritesAtMost (length bytes.now)) }
     ensures filling { Once S.Stage stage.old stage.new result (KeepsFilling (slot_number which)) }
     ensures written { Once S.Stage stage.old stage.new result (Fills which (put at bytes.now)) }
@@ -89,9 +85,7 @@ fn write_part<S: Stage>(
 pub(crate) fn choose<S: Stage>(stage: &mut S, which: Slot) -> Result<(), StageCall>
     requires rests { S.Tells stage.old → IsAtRest (S.standing stage.old) }
     requires long { S.Tells stage.old → length (S.standing stage.old).disk.bytes ≡ session_length }
-    ensures tells { S.Tells stage.old ↔ S.Tells stage.new }
-    ensures cause { IfErr result IsWriting }
-    ensures faulted { Faulted (failed_stage_call result) (S.faults stage.old) (S.faults stage.new) }
+    ensures serves { Serves S.Stage writing_calls (failed_stage_call result) stage.old stage.new }
     ensures few { Across S.Stage stage.old stage.new (WritesAtMost 1) }
     ensures rests { S.Tells stage.old → OnOk result (IsAtRest (S.standing stage.new)) }
     ensures slots { Once S.Stage stage.old stage.new result SameSlots }

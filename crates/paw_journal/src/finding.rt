@@ -1,12 +1,13 @@
 // What the header of a session tells.
 
-ghost use Rattle.std.specs.Prelude.{◌≡◌, ◌≢◌, ◌↔◌, ℕ, None, List, length, take, IfOk, IfErr, IsSome};
-ghost use Rattle.paw_stage.specs.Stage.{Faulted};
+ghost use Rattle.std.specs.Prelude.{◌≡◌, ◌≢◌, ℕ, None, List, [], ◌∷◌, length, take, IfOk, IfErr, IsSome};
+ghost use Rattle.paw_stage.specs.declared.StageCall.TheVariants as call;
 ghost use Rattle.paw_stage.specs.Moments.{Still};
+ghost use Rattle.paw_stage.specs.Across.{Serves};
 ghost use Rattle.paw_stage.specs.inner.Across.{Throughout};
 ghost use Rattle.paw_journal.specs.Session.{recover, is_version, header_length, session_length};
 ghost use Rattle.paw_journal.specs.inner.Steps.{IsHeaderOf};
-ghost use Rattle.paw_journal.specs.inner.Journal.{IsSessionRefused, IsCaused, refused_call, outside};
+ghost use Rattle.paw_journal.specs.inner.Journal.{IsSessionRefused, refused_call, outside};
 
 use crate::layout::{
     DIGEST_AT, DIGEST_LENGTH, FIRST_VERSION, HEADER_LENGTH, MADE, MARK_AT, SELECTOR_AT,
@@ -30,9 +31,7 @@ pub(crate) struct Header {
 pub(crate) fn read_header<S: Stage>(stage: &mut S, size: u64) -> Result<Header, JournalRefusal>
     requires attached { S.Tells stage.old → IsSome (S.standing stage.old).attached }
     requires size { S.Tells stage.old → size ≡ length (S.standing stage.old).disk.bytes }
-    ensures tells { S.Tells stage.old ↔ S.Tells stage.new }
-    ensures cause { IfErr result IsCaused }
-    ensures faulted { Faulted (refused_call result) (S.faults stage.old) (S.faults stage.new) }
+    ensures serves { Serves S.Stage (call.Read ∷ []) (refused_call result) stage.old stage.new }
     ensures still { S.Tells stage.old → S.standing stage.new ≡ S.standing stage.old }
     ensures introduced { S.Tells stage.old → IfOk result (IsHeaderOf (S.standing stage.old).disk.bytes) }
     ensures refused { S.Tells stage.old → (game : List ℕ) →
@@ -54,9 +53,7 @@ fn unmade<S: Stage>(stage: &mut S, size: u64) -> JournalRefusal
     requires attached { S.Tells stage.old → IsSome (S.standing stage.old).attached }
     requires size { S.Tells stage.old → size ≡ length (S.standing stage.old).disk.bytes }
     requires other { size ≢ session_length }
-    ensures tells { S.Tells stage.old ↔ S.Tells stage.new }
-    ensures cause { IsCaused result }
-    ensures faulted { Faulted (outside result) (S.faults stage.old) (S.faults stage.new) }
+    ensures serves { Serves S.Stage (call.Read ∷ []) (outside result) stage.old stage.new }
     ensures still { S.Tells stage.old → S.standing stage.new ≡ S.standing stage.old }
     ensures refused { S.Tells stage.old → (game : List ℕ) →
         IsSessionRefused (recover (S.standing stage.old).disk.bytes) game result }
@@ -81,7 +78,6 @@ fn header_in(bytes: &[u8; HEADER_LENGTH]) -> Result<Header, JournalRefusal>
         IfOk result (IsHeaderOf whole) }
     ensures refused { (whole game : List ℕ) → length whole ≡ session_length → bytes.now ≡ take header_length whole →
         IfErr result (IsSessionRefused (recover whole) game) }
-    ensures cause { IfErr result IsCaused }
     ensures inside { refused_call result ≡ None }
 {
     let mark = bytes[MARK_AT as usize];

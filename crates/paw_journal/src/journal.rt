@@ -1,16 +1,16 @@
 // A session: making one, finding one, and committing to it.
 
-ghost use Rattle.std.specs.Prelude.{◌≡◌, ◌↔◌, length, OnOk, IfOk, IfErr};
-ghost use Rattle.paw_stage.specs.Stage.{Faulted};
+ghost use Rattle.std.specs.Prelude.{◌≡◌, [], ◌∷◌, length, OnOk, IfOk};
+ghost use Rattle.paw_stage.specs.declared.StageCall.TheVariants as call;
 ghost use Rattle.paw_stage.specs.Moments.{Still};
-ghost use Rattle.paw_stage.specs.Across.{Across};
+ghost use Rattle.paw_stage.specs.Across.{Across, Serves};
 ghost use Rattle.paw_stage.specs.inner.Across.{Once, Throughout};
 ghost use Rattle.paw_journal.specs.Session.{recover, kept_digest, piece_length};
 ghost use Rattle.paw_journal.specs.inner.Written.{WritesLittle};
 ghost use Rattle.paw_journal.specs.inner.Store.{IsBeside, LeavesMade, LeavesOldOr};
 ghost use Rattle.paw_journal.specs.inner.Steps.{HoldsMade, ShowsIn, ShowsNext, SameDigest};
-ghost use Rattle.paw_journal.specs.Journal.{IsWriting};
-ghost use Rattle.paw_journal.specs.inner.Journal.{IsAtRest, KeptIn, Finds, IsCaused, failed_stage_call, refused_call};
+ghost use Rattle.paw_journal.specs.Journal.{writing_calls};
+ghost use Rattle.paw_journal.specs.inner.Journal.{IsAtRest, KeptIn, Finds, failed_stage_call, refused_call};
 
 use crate::committing::{choose, write_slot};
 use crate::drafting::SlotState;
@@ -48,9 +48,7 @@ impl Journal {
         requires attached { S.Tells stage.old → at.length ≡ length (S.standing stage.old).disk.bytes }
         requires empty { at.length ≡ 0 }
         requires piece_length { piece_length state.now ≡ length piece.now }
-        ensures tells { S.Tells stage.old ↔ S.Tells stage.new }
-        ensures cause { IfErr result IsWriting }
-        ensures faulted { Faulted (failed_stage_call result) (S.faults stage.old) (S.faults stage.new) }
+        ensures serves { Serves S.Stage writing_calls (failed_stage_call result) stage.old stage.new }
         ensures state { OnOk result (room.new.state ≡ state.now) }
         ensures piece { OnOk result (room.new.piece ≡ piece.now) }
         ensures made { S.Tells stage.old → OnOk result (HoldsMade game.now state.now piece.now (S.standing stage.new)) }
@@ -82,9 +80,7 @@ impl Journal {
     ) -> Result<Journal, JournalRefusal>
         requires rests { S.Tells stage.old → IsAtRest (S.standing stage.old) }
         requires attached { S.Tells stage.old → at.length ≡ length (S.standing stage.old).disk.bytes }
-        ensures tells { S.Tells stage.old ↔ S.Tells stage.new }
-        ensures cause { IfErr result IsCaused }
-        ensures faulted { Faulted (refused_call result) (S.faults stage.old) (S.faults stage.new) }
+        ensures serves { Serves S.Stage (call.Read ∷ []) (refused_call result) stage.old stage.new }
         ensures still { S.Tells stage.old → S.standing stage.new ≡ S.standing stage.old }
         ensures found { S.Tells stage.old → Finds (recover (S.standing stage.old).disk.bytes) game.now room.new result }
         ensures kept { S.Tells stage.old → IfOk result (λ journal. KeptIn journal room.new (S.standing stage.new)) }
@@ -135,9 +131,7 @@ impl Journal {
     ) -> Result<Journal, StageCall>
         requires kept { S.Tells stage.old → KeptIn self room.old (S.standing stage.old) }
         requires piece_length { piece_length state.now ≡ length piece.now }
-        ensures tells { S.Tells stage.old ↔ S.Tells stage.new }
-        ensures cause { IfErr result IsWriting }
-        ensures faulted { Faulted (failed_stage_call result) (S.faults stage.old) (S.faults stage.new) }
+        ensures serves { Serves S.Stage writing_calls (failed_stage_call result) stage.old stage.new }
         ensures few { Across S.Stage stage.old stage.new (WritesLittle self.slot state.now piece.now) }
         ensures state { OnOk result (room.new.state ≡ state.now) }
         ensures piece { OnOk result (room.new.piece ≡ piece.now) }

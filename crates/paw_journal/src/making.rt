@@ -1,15 +1,14 @@
 // The steps of making a session: a store with byte 0 as 0, the rest of it, and then its mark.
 
-ghost use Rattle.std.specs.Prelude.{◌≡◌, ◌↔◌, [], ◌∷◌, length, IsSome, OnOk, IfErr};
-ghost use Rattle.paw_stage.specs.Stage.{Faulted};
-ghost use Rattle.paw_stage.specs.Across.{Across};
+ghost use Rattle.std.specs.Prelude.{◌≡◌, [], ◌∷◌, length, IsSome, OnOk};
+ghost use Rattle.paw_stage.specs.Across.{Across, Serves};
 ghost use Rattle.paw_stage.specs.inner.Across.{Once, Throughout};
 ghost use Rattle.paw_journal.specs.Session.{session_length, header_length, slot_length};
 ghost use Rattle.paw_journal.specs.inner.Session.{made_header, laid_session};
 ghost use Rattle.paw_journal.specs.inner.Session.{marked};
 ghost use Rattle.paw_journal.specs.inner.Store.{IsBeside, HoldsStable, LaysSlots, LeavesUnmade, LeavesMarked};
 ghost use Rattle.paw_journal.specs.inner.Steps.{IsBlank};
-ghost use Rattle.paw_journal.specs.Journal.{IsWriting};
+ghost use Rattle.paw_journal.specs.Journal.{writing_calls};
 ghost use Rattle.paw_journal.specs.inner.Journal.{IsAtRest, failed_stage_call};
 
 use crate::layout::{
@@ -22,9 +21,7 @@ use paw_stage::{Stage, StageCall};
 fn begin<S: Stage>(stage: &mut S) -> Result<(), StageCall>
     requires rests { S.Tells stage.old → IsAtRest (S.standing stage.old) }
     requires empty { S.Tells stage.old → length (S.standing stage.old).disk.bytes ≡ 0 }
-    ensures tells { S.Tells stage.old ↔ S.Tells stage.new }
-    ensures cause { IfErr result IsWriting }
-    ensures faulted { Faulted (failed_stage_call result) (S.faults stage.old) (S.faults stage.new) }
+    ensures serves { Serves S.Stage writing_calls (failed_stage_call result) stage.old stage.new }
     ensures blank { S.Tells stage.old → OnOk result (IsBlank (0 ∷ []) (S.standing stage.new).disk) }
     ensures beside { Across S.Stage stage.old stage.new IsBeside }
     ensures any_moment { Throughout S.Stage stage.old stage.new LeavesUnmade }
@@ -37,9 +34,7 @@ fn begin<S: Stage>(stage: &mut S) -> Result<(), StageCall>
 fn write_header<S: Stage>(stage: &mut S, game: &[u8; 32]) -> Result<(), StageCall>
     requires attached { S.Tells stage.old → IsSome (S.standing stage.old).attached }
     requires blank { S.Tells stage.old → IsBlank (0 ∷ []) (S.standing stage.old).disk }
-    ensures tells { S.Tells stage.old ↔ S.Tells stage.new }
-    ensures cause { IfErr result IsWriting }
-    ensures faulted { Faulted (failed_stage_call result) (S.faults stage.old) (S.faults stage.new) }
+    ensures serves { Serves S.Stage writing_calls (failed_stage_call result) stage.old stage.new }
     ensures blank { S.Tells stage.old → OnOk result (IsBlank (made_header 0 game.now) (S.standing stage.new).disk) }
     ensures beside { Across S.Stage stage.old stage.new IsBeside }
     ensures any_moment { Throughout S.Stage stage.old stage.new LeavesUnmade }
@@ -65,9 +60,7 @@ fn write_slots<S: Stage>(stage: &mut S, bytes: &[u8]) -> Result<(), StageCall>
     requires blank { S.Tells stage.old → IsBlank (S.standing stage.old).disk.bytes (S.standing stage.old).disk }
     requires header { S.Tells stage.old → length (S.standing stage.old).disk.bytes ≡ header_length }
     requires slot { length bytes.now ≡ slot_length }
-    ensures tells { S.Tells stage.old ↔ S.Tells stage.new }
-    ensures cause { IfErr result IsWriting }
-    ensures faulted { Faulted (failed_stage_call result) (S.faults stage.old) (S.faults stage.new) }
+    ensures serves { Serves S.Stage writing_calls (failed_stage_call result) stage.old stage.new }
     ensures written { Once S.Stage stage.old stage.new result (LaysSlots bytes.now) }
     ensures beside { Across S.Stage stage.old stage.new IsBeside }
     ensures any_moment { Throughout S.Stage stage.old stage.new LeavesUnmade }
@@ -87,9 +80,7 @@ pub(crate) fn lay_out<S: Stage>(
     requires rests { S.Tells stage.old → IsAtRest (S.standing stage.old) }
     requires empty { S.Tells stage.old → length (S.standing stage.old).disk.bytes ≡ 0 }
     requires slot { length bytes.now ≡ slot_length }
-    ensures tells { S.Tells stage.old ↔ S.Tells stage.new }
-    ensures cause { IfErr result IsWriting }
-    ensures faulted { Faulted (failed_stage_call result) (S.faults stage.old) (S.faults stage.new) }
+    ensures serves { Serves S.Stage writing_calls (failed_stage_call result) stage.old stage.new }
     ensures laid { Once S.Stage stage.old stage.new result (λ old. HoldsStable (laid_session game.now bytes.now)) }
     ensures beside { Across S.Stage stage.old stage.new IsBeside }
     ensures any_moment { Throughout S.Stage stage.old stage.new LeavesUnmade }
@@ -103,9 +94,7 @@ pub(crate) fn lay_out<S: Stage>(
 pub(crate) fn mark<S: Stage>(stage: &mut S) -> Result<(), StageCall>
     requires rests { S.Tells stage.old → IsAtRest (S.standing stage.old) }
     requires long { S.Tells stage.old → length (S.standing stage.old).disk.bytes ≡ session_length }
-    ensures tells { S.Tells stage.old ↔ S.Tells stage.new }
-    ensures cause { IfErr result IsWriting }
-    ensures faulted { Faulted (failed_stage_call result) (S.faults stage.old) (S.faults stage.new) }
+    ensures serves { Serves S.Stage writing_calls (failed_stage_call result) stage.old stage.new }
     ensures marked { Once S.Stage stage.old stage.new result (λ old. HoldsStable (marked old.disk.bytes)) }
     ensures beside { Across S.Stage stage.old stage.new IsBeside }
     ensures any_moment { Throughout S.Stage stage.old stage.new LeavesMarked }

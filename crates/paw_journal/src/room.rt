@@ -1,10 +1,10 @@
 // The buffers of a journal.
 
-ghost use Rattle.std.specs.Prelude.{true, ◌≡◌, ◌+◌, ◌≤◌, ◌↔◌, [], ◌∷◌, ◌++◌, ℕ, List, length, IsSome, OnOk, IfErr};
+ghost use Rattle.std.specs.Prelude.{true, ◌≡◌, ◌+◌, ◌≤◌, [], ◌∷◌, ◌++◌, ℕ, List, length, IsSome, OnOk, IfErr};
 ghost use Rattle.paw_base.specs.declared.limits.TheConstants.{PIECE_LIMIT};
 ghost use Rattle.paw_stage.specs.declared.StageCall.TheVariants as call;
-ghost use Rattle.paw_stage.specs.Stage.{Faulted};
 ghost use Rattle.paw_stage.specs.Moments.{Still};
+ghost use Rattle.paw_stage.specs.Across.{Serves};
 ghost use Rattle.paw_stage.specs.inner.Across.{Throughout};
 ghost use Rattle.paw_journal.specs.Session.{slot_length, session_length, zeros};
 ghost use Rattle.paw_journal.specs.inner.Session.{has_state, made_slot, IsDamagedAt};
@@ -199,9 +199,7 @@ impl Room {
     ) -> Result<(), StageCall>
         requires attached { S.Tells stage.old → IsSome (S.standing stage.old).attached }
         requires whole { S.Tells stage.old → length (S.standing stage.old).disk.bytes ≡ session_length }
-        ensures tells { S.Tells stage.old ↔ S.Tells stage.new }
-        ensures cause { IfErr result (λ c. c ≡ call.Read) }
-        ensures faulted { Faulted (failed_stage_call result) (S.faults stage.old) (S.faults stage.new) }
+        ensures serves { Serves S.Stage (call.Read ∷ []) (failed_stage_call result) stage.old stage.new }
         ensures still { S.Tells stage.old → S.standing stage.new ≡ S.standing stage.old }
         ensures same { self.new ≡ record self.old { slot = self.new.slot } }
         ensures read { S.Tells stage.old → OnOk result (HasRead which (S.standing stage.old) self.new) }

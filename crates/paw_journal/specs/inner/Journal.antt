@@ -2,7 +2,6 @@
 -- those of specs/Journal.antt.
 use Rattle.std.specs.Prelude.{◌≡◌, ◌≢◌, ℕ, List, Option, Some, None, Result, Ok, Err, IsSome}
 use Rattle.paw_stage.specs.declared.StageCall.{StageCall}
-use Rattle.paw_stage.specs.declared.StageCall.TheVariants as call
 use Rattle.paw_stage.specs.Disk.{IsStable}
 use Rattle.paw_stage.specs.Stage.{Standing}
 use Rattle.paw_journal.specs.declared.journal.Journal.{Journal}
@@ -39,13 +38,6 @@ IsSessionRefused r game (refusal.Outside c) = Unit {0}
 abbrev pub Finds : Recovered → List ℕ → Room → Result Journal JournalRefusal → Type 0
 Finds r game room (Ok journal) = r ≡ session_shown game room.state room.piece
 Finds r game room (Err e) = IsSessionRefused r game e
-
--- A refusal that names a stage call names a read: a search makes no other call.
-abbrev pub IsCaused : JournalRefusal → Type 0
-IsCaused (refusal.Outside c) = c ≡ call.Read
-IsCaused (refusal.Unmade n mark) = Unit {0}
-IsCaused (refusal.Damaged part at) = Unit {0}
-IsCaused (refusal.WrongGame kept found) = Unit {0}
 
 -- The stage call that failed, by what a call answers.
 abbrev pub failed_stage_call : {A : Type 0} → Result A StageCall → Option StageCall

@@ -14,14 +14,14 @@ returns-clause-shown g c tells =
     on_ok_weaker c.sync.result (chosen_shown _ _ _ (g.S.Stage.standing c.args.stage.now)
     (g.S.Stage.standing c.write.new.stage) (g.S.Stage.standing c.sync.new.stage) (slot_small c.args.which)
     (c.requires.long tells) (c.requires.rests tells).stable c.selector.ensures (c.in_ok-write.ensures.written tells))
-    (c.sync.ensures.synced (c.write.ensures.tells.0 tells))
+    (c.sync.ensures.synced (c.write.ensures.serves.tells.0 tells))
 
 pub returns-clause-digest : goal.returns-clause-digest
 returns-clause-digest g c tells =
     on_ok_weaker c.sync.result (chosen_digest _ _ (g.S.Stage.standing c.args.stage.now)
     (g.S.Stage.standing c.write.new.stage) (g.S.Stage.standing c.sync.new.stage) (c.requires.long tells)
     (c.requires.rests tells).stable (c.in_ok-write.ensures.written tells))
-    (c.sync.ensures.synced (c.write.ensures.tells.0 tells))
+    (c.sync.ensures.synced (c.write.ensures.serves.tells.0 tells))
 
 pub returns-clause-any_moment : goal.returns-clause-any_moment
 returns-clause-any_moment g c tells =
@@ -30,7 +30,7 @@ returns-clause-any_moment g c tells =
     Passes_on _ _ _ _ _ _ _ _
     (Passes_map _ _ _ _ _ _ (c.write.ensures.time tells)
     (λ m. in_choosing _ s m (slot_small c.args.which) (c.requires.long tells) (c.requires.rests tells).stable))
-    (c.sync.ensures.time (c.write.ensures.tells.0 tells))
+    (c.sync.ensures.time (c.write.ensures.serves.tells.0 tells))
     (λ m. in_chosen _ s t m (slot_small c.args.which) (c.requires.long tells)
     (chose _ s t _ (c.requires.long tells) (c.requires.rests tells).stable (c.in_ok-write.ensures.written tells)))
 
@@ -39,4 +39,4 @@ returns-clause-slots g c tells =
     on_ok_weaker c.sync.result (λ q k low. chosen_slot _ _ _ (g.S.Stage.standing c.args.stage.now)
     (g.S.Stage.standing c.write.new.stage) (g.S.Stage.standing c.sync.new.stage) low (c.requires.long tells)
     (c.requires.rests tells).stable (c.in_ok-write.ensures.written tells) q)
-    (c.sync.ensures.synced (c.write.ensures.tells.0 tells))
+    (c.sync.ensures.synced (c.write.ensures.serves.tells.0 tells))

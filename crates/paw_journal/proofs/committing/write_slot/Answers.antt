@@ -20,53 +20,53 @@ begins w s rests made beside = filling_none (slot_number w) s (slot_small w) res
 pub returns-in_err-write_part-2-clause-any_moment : goal.returns-in_err-write_part-2-clause-any_moment
 returns-in_err-write_part-2-clause-any_moment g c tells =
     parts_on _ _ _ _ _ _ _ _ _ (c.in_ok-write_part.ensures.filling tells) (c.write_part.ensures.any_moment tells)
-    (c.write_part-2.ensures.any_moment (c.write_part.ensures.tells.0 tells)) (g.S.Stage.standing c.args.stage.now)
+    (c.write_part-2.ensures.any_moment (c.write_part.ensures.serves.tells.0 tells)) (g.S.Stage.standing c.args.stage.now)
     (begins c.args.which _ (c.requires.rests tells) (c.requires.made tells) (c.requires.beside tells))
 
 pub returns-in_err-write_part-3-clause-any_moment : goal.returns-in_err-write_part-3-clause-any_moment
 returns-in_err-write_part-3-clause-any_moment g c tells =
-    let later = c.write_part.ensures.tells.0 tells in
+    let later = c.write_part.ensures.serves.tells.0 tells in
     parts_on _ _ _ _ _ _ _ _ _ (c.in_ok-write_part.ensures.filling tells) (c.write_part.ensures.any_moment tells)
     (parts_on _ _ _ _ _ _ _ _ _ (c.in_ok-write_part-2.ensures.filling later) (c.write_part-2.ensures.any_moment later)
-    (c.write_part-3.ensures.any_moment (c.write_part-2.ensures.tells.0 later))) (g.S.Stage.standing c.args.stage.now)
+    (c.write_part-3.ensures.any_moment (c.write_part-2.ensures.serves.tells.0 later))) (g.S.Stage.standing c.args.stage.now)
     (begins c.args.which _ (c.requires.rests tells) (c.requires.made tells) (c.requires.beside tells))
 
 pub returns-clause-filled : goal.returns-clause-filled
 returns-clause-filled g c tells =
     let s = g.S.Stage.standing c.args.stage.now in
-    let later = c.write_part.ensures.tells.0 tells in
-    let last = c.write_part-2.ensures.tells.0 later in
+    let later = c.write_part.ensures.serves.tells.0 tells in
+    let last = c.write_part-2.ensures.serves.tells.0 later in
     on_ok_weaker c.sync.result (filling_sync _ s _ _ (c.in_ok-write_part-3.ensures.filling last s
     (c.in_ok-write_part-2.ensures.filling later s (c.in_ok-write_part.ensures.filling tells s
     (begins c.args.which s (c.requires.rests tells) (c.requires.made tells) (c.requires.beside tells))))))
-    (c.sync.ensures.synced (c.write_part-3.ensures.tells.0 last))
+    (c.sync.ensures.synced (c.write_part-3.ensures.serves.tells.0 last))
 
 pub returns-clause-written : goal.returns-clause-written
 returns-clause-written g c tells =
     let k = slot_number c.args.which in
-    let later = c.write_part.ensures.tells.0 tells in
-    let last = c.write_part-2.ensures.tells.0 later in
+    let later = c.write_part.ensures.serves.tells.0 tells in
+    let last = c.write_part-2.ensures.serves.tells.0 later in
     let one = c.in_ok-write_part.ensures.written tells in
     let two = c.in_ok-write_part-2.ensures.written later ∙ ap (put 4160 c.args.piece.now) one in
     let three = c.in_ok-write_part-3.ensures.written last
     ∙ (ap (λ h. put 0 h (slot k (g.S.Stage.standing c.write_part-2.new.stage).disk.bytes)) c.head_of.ensures
     ∙ ap (put 0 (slot_head c.args.draft.records)) two) in
-    on_ok_weaker c.sync.result (λ q. ap (λ x. slot k x.disk.bytes) q ∙ three) (c.sync.ensures.synced (c.write_part-3.ensures.tells.0 last))
+    on_ok_weaker c.sync.result (λ q. ap (λ x. slot k x.disk.bytes) q ∙ three) (c.sync.ensures.synced (c.write_part-3.ensures.serves.tells.0 last))
 
 pub returns-clause-beside : goal.returns-clause-beside
 returns-clause-beside g c tells =
-    let later = c.write_part.ensures.tells.0 tells in
-    let last = c.write_part-2.ensures.tells.0 later in
+    let later = c.write_part.ensures.serves.tells.0 tells in
+    let last = c.write_part-2.ensures.serves.tells.0 later in
     beside_on _ _ _ (beside_on _ _ _ (c.write_part.ensures.beside tells) (c.write_part-2.ensures.beside later))
-    (beside_on _ _ _ (c.write_part-3.ensures.beside last) (c.sync.ensures.beside (c.write_part-3.ensures.tells.0 last)))
+    (beside_on _ _ _ (c.write_part-3.ensures.beside last) (c.sync.ensures.beside (c.write_part-3.ensures.serves.tells.0 last)))
 
 pub returns-clause-any_moment : goal.returns-clause-any_moment
 returns-clause-any_moment g c tells =
-    let later = c.write_part.ensures.tells.0 tells in
-    let last = c.write_part-2.ensures.tells.0 later in
+    let later = c.write_part.ensures.serves.tells.0 tells in
+    let last = c.write_part-2.ensures.serves.tells.0 later in
     parts_on _ _ _ _ _ _ _ _ _ (c.in_ok-write_part.ensures.filling tells) (c.write_part.ensures.any_moment tells)
     (parts_on _ _ _ _ _ _ _ _ _ (c.in_ok-write_part-2.ensures.filling later) (c.write_part-2.ensures.any_moment later)
     (parts_on _ _ _ _ _ _ _ _ _ (c.in_ok-write_part-3.ensures.filling last) (c.write_part-3.ensures.any_moment last)
-    (λ first h. Passes_map _ _ _ _ _ _ (c.sync.ensures.time (c.write_part-3.ensures.tells.0 last))
+    (λ first h. Passes_map _ _ _ _ _ _ (c.sync.ensures.time (c.write_part-3.ensures.serves.tells.0 last))
     (λ m. in_filling_sync _ first _ m h)))) (g.S.Stage.standing c.args.stage.now)
     (begins c.args.which _ (c.requires.rests tells) (c.requires.made tells) (c.requires.beside tells))

@@ -12,5 +12,5 @@ returns-clause-any_moment g c tells =
     let short = empty_is_short _ (c.requires.rests tells).stable (c.requires.empty tells) in
     Passes_on _ _ _ _ _ _ _ _
     (Passes_map _ _ _ _ _ _ (c.write.ensures.time tells) (λ m. in_beginning (g.S.Stage.standing c.args.stage.now) m short))
-    (c.sync.ensures.time (c.write.ensures.tells.0 tells))
+    (c.sync.ensures.time (c.write.ensures.serves.tells.0 tells))
     (λ m. in_begun _ _ (g.S.Stage.standing c.args.stage.now) (g.S.Stage.standing c.write.new.stage) m short (c.in_ok-write.ensures.written tells))

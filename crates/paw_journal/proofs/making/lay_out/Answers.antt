@@ -4,5 +4,5 @@ use Rattle.paw_journal.proofs.making.lay_out.Goals as goal
 
 pub write_slots-requires-clause-header : goal.write_slots-requires-clause-header
 write_slots-requires-clause-header g c tells =
-    ap length (c.in_ok-write_header.ensures.blank (c.write_header.ensures.tells.1 tells)).bytes
+    ap length (c.in_ok-write_header.ensures.blank (c.write_header.ensures.serves.tells.1 tells)).bytes
     ∙ length_header 0 c.args.game.now c.told-game

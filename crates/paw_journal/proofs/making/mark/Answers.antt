@@ -12,6 +12,6 @@ returns-clause-any_moment g c tells =
     let old = g.S.Stage.standing c.args.stage.now in
     Passes_on _ _ _ _ _ _ _ _
     (Passes_map _ _ _ _ _ _ (c.write.ensures.time tells) (λ m. in_marking old m (c.requires.long tells) (c.requires.rests tells).stable))
-    (c.sync.ensures.time (c.write.ensures.tells.0 tells))
+    (c.sync.ensures.time (c.write.ensures.serves.tells.0 tells))
     (λ m. in_marked _ _ old (g.S.Stage.standing c.write.new.stage) m (c.requires.long tells)
     (c.requires.rests tells).stable (c.in_ok-write.ensures.written tells))

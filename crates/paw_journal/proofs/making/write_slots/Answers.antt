@@ -15,7 +15,7 @@ returns-in_err-write-clause-any_moment g c tells =
 pub returns-in_err-write-2-clause-beside : goal.returns-in_err-write-2-clause-beside
 returns-in_err-write-2-clause-beside g c tells =
     beside_on _ (g.S.Stage.standing c.write.new.stage) _ (beside_wrote _ _ _ _ (c.in_ok-write.ensures.written tells))
-    (beside_part _ _ _ _ (c.in_err-write-2.ensures.part (c.write.ensures.tells.0 tells)))
+    (beside_part _ _ _ _ (c.in_err-write-2.ensures.part (c.write.ensures.serves.tells.0 tells)))
 
 pub returns-in_err-write-2-clause-any_moment : goal.returns-in_err-write-2-clause-any_moment
 returns-in_err-write-2-clause-any_moment g c tells =
@@ -23,7 +23,7 @@ returns-in_err-write-2-clause-any_moment g c tells =
     (g.S.Stage.standing c.write.new.stage) (c.requires.blank tells) (omega (arith, c.start.ensures))
     (c.start.ensures ∙ sym (c.requires.header tells)) (c.in_ok-write.ensures.written tells)
     (omega (arith, c.start.ensures, c.start-2.ensures, c.requires.slot)) _ _ _ _ _ _ (c.write.ensures.time tells)
-    (c.write-2.ensures.time (c.write.ensures.tells.0 tells))
+    (c.write-2.ensures.time (c.write.ensures.serves.tells.0 tells))
 
 pub returns-clause-any_moment : goal.returns-clause-any_moment
 returns-clause-any_moment g c tells =
@@ -33,10 +33,10 @@ returns-clause-any_moment g c tells =
     let at : c.start.result ≡ length s.disk.bytes = c.start.ensures ∙ sym (c.requires.header tells) in
     let first = c.in_ok-write.ensures.written tells in
     let next : c.start-2.result ≡ c.start.result + length c.args.bytes.now = omega (arith, c.start.ensures, c.start-2.ensures, c.requires.slot) in
-    let later = c.write.ensures.tells.0 tells in
+    let later = c.write.ensures.serves.tells.0 tells in
     Passes_on _ _ _ _ _ _ _ _
     (in_both_writes c.start.result c.start-2.result c.args.bytes.now s t (c.requires.blank tells) low at first next
     _ _ _ _ _ _ (c.write.ensures.time tells) (c.write-2.ensures.time later))
-    (c.sync.ensures.time (c.write-2.ensures.tells.0 later))
+    (c.sync.ensures.time (c.write-2.ensures.serves.tells.0 later))
     (λ m. in_sync_behind c.start.result c.start-2.result c.args.bytes.now s t (c.requires.blank tells) low at first next
     (g.S.Stage.standing c.write-2.new.stage) m (c.in_ok-write-2.ensures.written later))

@@ -1,4 +1,5 @@
-use Rattle.std.proofs.Common.{◌≡◌, ◌-◌, ◌≤◌, ◌↔◌, ◌∙◌, length, arith}
+use Rattle.std.proofs.Common.{◌≡◌, ◌-◌, ◌≤◌, ◌∙◌, length, arith}
+use Rattle.std.proofs.lemmas.Result.{err_from_is_err_and}
 use Rattle.std.specs.Prelude.{Some}
 use Rattle.paw_stage.specs.Stage.{Standing}
 use Rattle.paw_stage.specs.Across.{EachMoment}
@@ -10,6 +11,7 @@ use Rattle.paw_journal.specs.inner.Written.{WritesLittle}
 use Rattle.paw_journal.specs.inner.Store.{LeavesOldOr}
 use Rattle.paw_journal.specs.inner.Steps.{Drafts, IsFilling}
 use Rattle.paw_journal.proofs.Recovers.{shown_made}
+use Rattle.paw_journal.proofs.Serving.{serves_then}
 use Rattle.paw_journal.proofs.Moved.{beside_none, beside_on}
 use Rattle.paw_journal.proofs.Chooses.{slot_small}
 use Rattle.paw_journal.proofs.Fills.{filled_made, filled_digest, filled_before, filled_other}
@@ -21,13 +23,6 @@ use Rattle.paw_journal.proofs.journal.Journal.commit.Goals.{After-choose}
 use Rattle.paw_journal.proofs.journal.Journal.commit.Goals as goal
 
 -- what stands once the slot that isn't in use was written, and was to be chosen
-module _ (g : Over) (c : After-choose g) where
-  told : g.S.Stage.Tells c.args.stage.now ↔ g.S.Stage.Tells c.choose.new.stage
-  told = (
-    λ t. c.choose.ensures.tells.0 (c.write_slot.ensures.tells.0 t),
-    λ t. c.write_slot.ensures.tells.1 (c.choose.ensures.tells.1 t),
-  )
-
 module _ (g : Over) (c : After-choose g) (tells : g.S.Stage.Tells c.args.stage.now) where
   abbrev old : Standing
   old = g.S.Stage.standing c.args.stage.now
@@ -63,14 +58,14 @@ module _ (g : Over) (c : After-choose g) (tells : g.S.Stage.Tells c.args.stage.n
 
   little : WritesLittle c.args.self.slot c.args.state.now c.args.piece.now old (g.S.Stage.standing c.choose.new.stage)
   little = committed_all _ _ _ _ _ _ (c.write_slot.ensures.few tells)
-      (c.choose.ensures.few (c.write_slot.ensures.tells.0 tells))
+      (c.choose.ensures.few (c.write_slot.ensures.serves.tells.0 tells))
       (committed_few c.other-slot.result (1 - slot_number c.args.self.slot) c.args.room.now old.disk.bytes c.slot.result.now
       c.args.state.now c.args.piece.now c.draft-draft.result (c.requires.kept tells).slots c.other-slot.ensures drafts)
 
   moments : EachMoment g.S.Stage c.args.stage.now c.choose.new.stage (LeavesOldOr c.args.state.now c.args.piece.now old)
   moments = Passes_on _ _ _ _ _ _ _ _
       (Passes_map _ _ _ _ _ _ (c.write_slot.ensures.any_moment tells) (λ m. in_first_of old _ _ m (beside_none old)))
-      (c.choose.ensures.any_moment (c.write_slot.ensures.tells.0 tells))
+      (c.choose.ensures.any_moment (c.write_slot.ensures.serves.tells.0 tells))
       (λ m. in_either old written _ _ _ _ m (c.in_ok-write_slot.ensures.beside tells)
       (filled_before (slot_number c.other-slot.result) old written filled) shows)
 
@@ -88,11 +83,11 @@ write_slot-requires-clause-beside g c tells =
 
 pub choose-requires-clause-rests : goal.choose-requires-clause-rests
 choose-requires-clause-rests g c later =
-    c.in_ok-write_slot.ensures.rests (c.write_slot.ensures.tells.1 later)
+    c.in_ok-write_slot.ensures.rests (c.write_slot.ensures.serves.tells.1 later)
 
 pub choose-requires-clause-long : goal.choose-requires-clause-long
 choose-requires-clause-long g c later =
-    (filled_made _ _ _ (c.in_ok-write_slot.ensures.filled (c.write_slot.ensures.tells.1 later))).long
+    (filled_made _ _ _ (c.in_ok-write_slot.ensures.filled (c.write_slot.ensures.serves.tells.1 later))).long
 
 pub returns-in_err-write_slot-clause-few : goal.returns-in_err-write_slot-clause-few
 returns-in_err-write_slot-clause-few g c tells =
@@ -107,41 +102,43 @@ returns-in_err-write_slot-clause-any_moment g c tells =
     let s = g.S.Stage.standing c.args.stage.now in
     Passes_map _ _ _ _ _ _ (c.write_slot.ensures.any_moment tells) (λ m. in_first_of s _ _ m (beside_none s))
 
-pub returns-in_err-choose-clause-tells : goal.returns-in_err-choose-clause-tells
-returns-in_err-choose-clause-tells g c = told g (goal.at.returns-in_err-choose-clause-tells g c).After-choose
+pub returns-in_err-choose-clause-serves : goal.returns-in_err-choose-clause-serves
+returns-in_err-choose-clause-serves g c =
+    let p = err_from_is_err_and c.from_residual-in_err-choose.result c.from_residual-in_err-choose.ensures.1 in
+    rw (p.1, p.2) (serves_then _ _ _ _ _ _ _ c.in_ok-write_slot.ensures.serves c.in_err-choose.ensures.serves)
 
 pub returns-in_err-choose-clause-few : goal.returns-in_err-choose-clause-few
 returns-in_err-choose-clause-few g c tells = little g (goal.at.returns-in_err-choose-clause-few g c).After-choose tells
 
 pub returns-in_err-choose-clause-beside : goal.returns-in_err-choose-clause-beside
 returns-in_err-choose-clause-beside g c tells =
-    beside_on _ _ _ (c.write_slot.ensures.beside tells) (c.choose.ensures.beside (c.write_slot.ensures.tells.0 tells))
+    beside_on _ _ _ (c.write_slot.ensures.beside tells) (c.choose.ensures.beside (c.write_slot.ensures.serves.tells.0 tells))
 
 pub returns-in_err-choose-clause-any_moment : goal.returns-in_err-choose-clause-any_moment
 returns-in_err-choose-clause-any_moment g c tells =
     moments g (goal.at.returns-in_err-choose-clause-any_moment g c).After-choose tells
 
-pub returns-clause-tells : goal.returns-clause-tells
-returns-clause-tells g c = told g (goal.at.returns-clause-tells g c).After-choose
+pub returns-clause-serves : goal.returns-clause-serves
+returns-clause-serves g c = serves_then _ _ _ _ _ _ _ c.in_ok-write_slot.ensures.serves c.in_ok-choose.ensures.serves
 
 pub returns-clause-few : goal.returns-clause-few
 returns-clause-few g c tells = little g (goal.at.returns-clause-few g c).After-choose tells
 
 pub returns-clause-beside : goal.returns-clause-beside
 returns-clause-beside g c tells =
-    beside_on _ _ _ (c.write_slot.ensures.beside tells) (c.choose.ensures.beside (c.write_slot.ensures.tells.0 tells))
+    beside_on _ _ _ (c.write_slot.ensures.beside tells) (c.choose.ensures.beside (c.write_slot.ensures.serves.tells.0 tells))
 
 pub returns-clause-any_moment : goal.returns-clause-any_moment
 returns-clause-any_moment g c tells = moments g (goal.at.returns-clause-any_moment g c).After-choose tells
 
 pub returns-clause-shown : goal.returns-clause-shown
 returns-clause-shown g c tells =
-    c.in_ok-choose.ensures.shown (c.write_slot.ensures.tells.0 tells)
+    c.in_ok-choose.ensures.shown (c.write_slot.ensures.serves.tells.0 tells)
     ∙ shows g (goal.at.returns-clause-shown g c).After-choose tells
 
 pub returns-clause-digest : goal.returns-clause-digest
 returns-clause-digest g c tells =
-    c.in_ok-choose.ensures.digest (c.write_slot.ensures.tells.0 tells) ∙ filled_digest _ _ _ (c.in_ok-write_slot.ensures.filled tells)
+    c.in_ok-choose.ensures.digest (c.write_slot.ensures.serves.tells.0 tells) ∙ filled_digest _ _ _ (c.in_ok-write_slot.ensures.filled tells)
 
 pub returns-clause-kept : goal.returns-clause-kept
 returns-clause-kept g c tells =
@@ -149,7 +146,7 @@ returns-clause-kept g c tells =
     let w = c.other-slot.result in
     let s = g.S.Stage.standing c.args.stage.now in
     let t = g.S.Stage.standing c.write_slot.new.stage in
-    let later = c.write_slot.ensures.tells.0 tells in
+    let later = c.write_slot.ensures.serves.tells.0 tells in
     let full = c.in_ok-write_slot.ensures.filled tells in
     committed_keeps w _ c.args.room.now c.draft-draft.new.self c.hold.new.self c.keep.new.self c.args.state.now
     c.args.piece.now s t (g.S.Stage.standing c.choose.new.stage) (c.requires.kept tells).slots

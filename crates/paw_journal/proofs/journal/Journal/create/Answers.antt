@@ -45,7 +45,7 @@ module _ (g : Over) (c : After-mark g) (few : length c.args.piece.now ≤ 65535)
       (LeavesMade c.args.game.now c.args.state.now c.args.piece.now old)
   moments = Passes_on _ _ _ _ _ _ _ _
       (Passes_map _ _ _ _ _ _ (c.lay_out.ensures.any_moment tells) (λ m. in_unmade old _ m (beside_none old)))
-      (c.mark.ensures.any_moment (c.lay_out.ensures.tells.0 tells))
+      (c.mark.ensures.any_moment (c.lay_out.ensures.serves.tells.0 tells))
       (λ m. in_unmade_or old laid _ _ m (c.in_ok-lay_out.ensures.beside tells) (ap recover made ∙ shows))
 
 pub lay_out-requires-clause-slot : goal.lay_out-requires-clause-slot
@@ -53,7 +53,7 @@ lay_out-requires-clause-slot g c = long g (goal.at.lay_out-requires-clause-slot 
 
 pub mark-requires-clause-long : goal.mark-requires-clause-long
 mark-requires-clause-long g c tells =
-    ap (λ d. length d.bytes) (c.in_ok-lay_out.ensures.laid (c.lay_out.ensures.tells.1 tells))
+    ap (λ d. length d.bytes) (c.in_ok-lay_out.ensures.laid (c.lay_out.ensures.serves.tells.1 tells))
     ∙ laid_long c.args.game.now c.slot.result.now c.told-game (long g (goal.at.mark-requires-clause-long g c).After-slot)
 
 pub returns-in_err-lay_out-clause-any_moment : goal.returns-in_err-lay_out-clause-any_moment
@@ -76,13 +76,13 @@ returns-clause-shown g c tells =
     let at = goal.at.returns-clause-shown g c in
     let few = short g at.After-slot in
     let are = slots g at.After-slot in
-    ap (λ d. recover d.bytes) (c.in_ok-mark.ensures.marked (c.lay_out.ensures.tells.0 tells))
+    ap (λ d. recover d.bytes) (c.in_ok-mark.ensures.marked (c.lay_out.ensures.serves.tells.0 tells))
     ∙ (ap recover (made g at.After-mark few are tells) ∙ shows g at.After-mark few are tells)
 
 pub returns-clause-digest : goal.returns-clause-digest
 returns-clause-digest g c tells =
     let at = goal.at.returns-clause-digest g c in
-    ap (λ d. kept_digest d.bytes) (c.in_ok-mark.ensures.marked (c.lay_out.ensures.tells.0 tells))
+    ap (λ d. kept_digest d.bytes) (c.in_ok-mark.ensures.marked (c.lay_out.ensures.serves.tells.0 tells))
     ∙ (ap kept_digest (made g at.After-mark (short g at.After-slot) (slots g at.After-slot) tells)
     ∙ session_digest c.args.game.now c.args.state.now c.args.piece.now c.told-game)
 
@@ -90,7 +90,7 @@ pub returns-clause-kept : goal.returns-clause-kept
 returns-clause-kept g c tells =
     let at = goal.at.returns-clause-kept g c in
     let few = short g at.After-slot in
-    let later = c.lay_out.ensures.tells.0 tells in
+    let later = c.lay_out.ensures.serves.tells.0 tells in
     made_keeps c.args.game.now _ _ _ _ _ _ (c.requires.rests tells)
     ((c.in_ok-mark.ensures.beside later).attached ∙ (c.in_ok-lay_out.ensures.beside tells).attached)
     (c.in_ok-mark.ensures.marked later) (made g at.After-mark few (slots g at.After-slot) tells)

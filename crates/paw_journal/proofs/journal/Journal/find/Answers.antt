@@ -15,7 +15,7 @@ use Rattle.paw_journal.proofs.journal.Journal.find.Goals as goal
 -- what was found once the slot in use was read
 module _ (g : Over) (c : After-unpack g) (tells : g.S.Stage.Tells c.args.stage.now) where
   held : HasRead c.in_ok-header.header.slot (g.S.Stage.standing c.args.stage.now) c.read_slot.new.self
-  held = c.in-Ok.ensures.read (c.read_header.ensures.tells.0 tells)
+  held = c.in-Ok.ensures.read (c.read_header.ensures.serves.tells.0 tells)
       ∙ ap (λ s. slot (slot_number c.in_ok-header.header.slot) s.disk.bytes) (c.read_header.ensures.still tells)
 
   shows : recover (g.S.Stage.standing c.args.stage.now).disk.bytes
@@ -24,15 +24,15 @@ module _ (g : Over) (c : After-unpack g) (tells : g.S.Stage.Tells c.args.stage.n
 
   moments : EachMoment g.S.Stage c.args.stage.now c.read_slot.new.stage (Still (g.S.Stage.standing c.args.stage.now))
   moments = still_on _ _ _ _ _ _ _ _ (c.read_header.ensures.still tells) (c.read_header.ensures.time tells)
-      (c.in-Ok.ensures.time (c.read_header.ensures.tells.0 tells))
+      (c.in-Ok.ensures.time (c.read_header.ensures.serves.tells.0 tells))
 
 -- and once both were
 module _ (g : Over) (c : After-look g) (tells : g.S.Stage.Tells c.args.stage.now) where
   first_still : g.S.Stage.standing c.read_slot.new.stage ≡ g.S.Stage.standing c.args.stage.now
-  first_still = c.in-Ok.ensures.still (c.read_header.ensures.tells.0 tells) ∙ c.read_header.ensures.still tells
+  first_still = c.in-Ok.ensures.still (c.read_header.ensures.serves.tells.0 tells) ∙ c.read_header.ensures.still tells
 
   still : g.S.Stage.standing c.read_slot-2.new.stage ≡ g.S.Stage.standing c.args.stage.now
-  still = c.in-Ok-read_slot.ensures.still (c.read_slot.ensures.tells.0 (c.read_header.ensures.tells.0 tells)) ∙ first_still
+  still = c.in-Ok-read_slot.ensures.still (c.read_slot.ensures.serves.tells.0 (c.read_header.ensures.serves.tells.0 tells)) ∙ first_still
 
   shown : recover (g.S.Stage.standing c.args.stage.now).disk.bytes
       ≡ slot_shows c.in_ok-header.header.digest c.read_slot.new.self.slot →
@@ -78,7 +78,7 @@ returns-clause-found g c tells =
 pub returns-clause-kept : goal.returns-clause-kept
 returns-clause-kept g c tells =
     let at = goal.at.returns-clause-kept g c in
-    let last = c.read_slot.ensures.tells.0 (c.read_header.ensures.tells.0 tells) in
+    let last = c.read_slot.ensures.serves.tells.0 (c.read_header.ensures.serves.tells.0 tells) in
     let other = c.in-Ok-read_slot.ensures.read last
     ∙ ap (λ s. slot (slot_number c.other-other.result) s.disk.bytes) (first_still g at.After-look tells) in
     let slots = found_slots c.in_ok-header.header.slot c.other-other.result _ _ _ c.read_slot.new.self c.unpack.new.self
@@ -95,6 +95,6 @@ returns-clause-digest g c tells =
 pub returns-clause-time : goal.returns-clause-time
 returns-clause-time g c tells =
     let at = goal.at.returns-clause-time g c in
-    let last = c.read_slot.ensures.tells.0 (c.read_header.ensures.tells.0 tells) in
+    let last = c.read_slot.ensures.serves.tells.0 (c.read_header.ensures.serves.tells.0 tells) in
     still_on _ _ _ _ _ _ _ _ (first_still g at.After-look tells) (moments g at.After-unpack tells)
     (c.in-Ok-read_slot.ensures.time last)

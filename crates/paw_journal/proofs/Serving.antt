@@ -1,0 +1,31 @@
+-- What calls leave of a stage, one after the other.
+use Rattle.std.proofs.Common.{◌≡◌, List, [], ◌∷◌, inl, inr}
+use Rattle.std.specs.Prelude.{Option, Some, None}
+use Rattle.paw_stage.specs.declared.StageCall.{StageCall}
+use Rattle.paw_stage.specs.declared.Stage.{Ghosts}
+use Rattle.paw_stage.specs.Across.{IsOneOf, Serves}
+use Rattle.paw_stage.proofs.Counted.{Faulted_same, Faulted_on}
+
+-- one of a list of one
+pub the_only_one : {A : Type 0} (x y : A) → IsOneOf (y ∷ []) x → x ≡ y
+the_only_one x y (inl e) = e
+the_only_one x y (inr h) = absurd h
+
+-- no call
+pub serves_none : {S : Type 0} (g : Ghosts S) (calls : List StageCall) (s : S) → Serves g calls None s s
+serves_none g calls s = record { tells = (λ t. t, λ t. t); faulted = Faulted_same (g.faults s); among = tt }
+
+-- calls that are among more
+pub serves_among : {S : Type 0} (g : Ghosts S) (few many : List StageCall) (failed : Option StageCall) (old new : S) →
+    ((c : StageCall) → IsOneOf few c → IsOneOf many c) → Serves g few failed old new → Serves g many failed old new
+serves_among g few many None old new h s = record { tells = s.tells; faulted = s.faulted; among = tt }
+serves_among g few many (Some c) old new h s = record { tells = s.tells; faulted = s.faulted; among = h c s.among }
+
+-- calls none of which failed, and then others
+pub serves_then : {S : Type 0} (g : Ghosts S) (first next : List StageCall) (failed : Option StageCall) (old mid new : S) →
+    Serves g first None old mid → Serves g next failed mid new → Serves g next failed old new
+serves_then g first next failed old mid new a b = record {
+  tells = (λ t. b.tells.0 (a.tells.0 t), λ t. a.tells.1 (b.tells.1 t));
+  faulted = Faulted_on failed (g.faults old) (g.faults mid) (g.faults new) a.faulted b.faulted;
+  among = b.among;
+}
